@@ -1,0 +1,2 @@
+//! What the program reads from and writes to.
+#![tactic(auto)]

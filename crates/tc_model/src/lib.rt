@@ -1,0 +1,2 @@
+//! Documents, schemas and stylesheets as plain data.
+#![tactic(auto)]

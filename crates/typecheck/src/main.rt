@@ -1,0 +1,4 @@
+//! Decides whether a stylesheet can emit an invalid document.
+#![tactic(auto)]
+
+fn main(_rt: HostRuntime) {}
