@@ -1,0 +1,14 @@
+pub mod Seen
+pub mod Names
+pub mod Trees
+pub mod Grammars
+pub mod Matching
+pub mod Validity
+pub mod Sheets
+pub mod Chains
+pub mod Paths
+pub mod Done
+pub mod Meaning
+pub mod WellFormed
+pub mod Safety
+pub mod Printed

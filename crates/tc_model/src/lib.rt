@@ -1,2 +1,13 @@
-//! Documents, schemas and stylesheets as plain data.
+//! Documents, schemas and stylesheets as plain data, and what they mean.
+//!
+//! The types lie in an arena by borrow. What they mean stands in `specs/`, over the same data without
+//! addresses; `specs/Seen.antt` leads from the one to the other.
 #![tactic(auto)]
+
+pub mod grammar;
+pub mod sheet;
+pub mod tree;
+
+pub use grammar::{ElemPat, Grammar, NameClass, Pat};
+pub use sheet::{Alt, Branch, Instr, NodeTest, Path, Pattern, Rule, Sheet, Step, Test};
+pub use tree::{Binding, Name, Node, Raw, RawAttr, RawElem};

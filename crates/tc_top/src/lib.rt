@@ -1,2 +1,4 @@
-//! The top call.
+//! The top call: it reads the files that its words name, decides, and writes the answer.
 #![tactic(auto)]
+
+mod first;

@@ -1,0 +1,29 @@
+-- The result of a stylesheet, and its safety between two schemas.
+use Rattle.std.specs.Prelude.{◌≡◌}
+use Rattle.tc_model.specs.Trees.{Trees, normal_form}
+use Rattle.tc_model.specs.Grammars.{Grammar}
+use Rattle.tc_model.specs.Validity.{IsValid, IsValidOutput}
+use Rattle.tc_model.specs.Sheets.{Sheet}
+use Rattle.tc_model.specs.Chains.{Chain, top}
+use Rattle.tc_model.specs.Done.{Done, counted}
+use Rattle.tc_model.specs.Meaning.{Job, by_mode, body_of, Does}
+
+-- what a stylesheet does on a node in a mode, or by the body of a for-each (XSLT, 5.1)
+abbrev pub Instantiates : Sheet → Job → Chain → Done → Type 0
+Instantiates s j c done = (inner : Done) × Does s.rules s.named (body_of s.rules j c) c inner × (done ≡ counted inner)
+
+-- on the root of a document, in the default mode
+abbrev pub Transforms : Sheet → Trees → Done → Type 0
+Transforms s doc done = Instantiates s (by_mode 0) (top doc) done
+
+-- the result of a document: the normal form of what is put out
+abbrev pub IsResultOf : Sheet → Trees → Trees → Type 0
+IsResultOf s doc result = (done : Done) × Transforms s doc done × (result ≡ normal_form done.out)
+
+-- every valid document has a valid result
+abbrev pub IsSafe : Grammar → Grammar → Sheet → Type 0
+IsSafe input output s = (doc result : Trees) → IsValid input doc → IsResultOf s doc result → IsValidOutput output result
+
+-- a valid document with a result that isn't valid
+abbrev pub IsCounterexample : Grammar → Grammar → Sheet → Trees → Trees → Type 0
+IsCounterexample input output s doc result = IsValid input doc × IsResultOf s doc result × ¬ (IsValidOutput output result)

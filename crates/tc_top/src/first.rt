@@ -1,0 +1,5 @@
+// The first form of schemas and sheets: read, decided and printed.
+pub mod decide;
+pub mod print;
+pub mod schema;
+pub mod sheet;

@@ -1,0 +1,1 @@
+// Whether what a constant sheet puts out is valid.
