@@ -8,7 +8,7 @@ pub data Tree : Type 0 where
   an_element : ExpandedName → Trees → Tree
   a_text : List ℕ → Tree
 
--- the root of a document, or a tree that is a child of a node
+-- the root of a document, or a tree under a node
 pub data Chain : Type 0 where
   top : Trees → Chain
   under : Chain → Tree → Chain
@@ -17,6 +17,7 @@ abbrev pub children_of : Tree → Trees
 children_of (an_element n kids) = kids
 children_of (a_text s) = none
 
+-- the root above a node
 abbrev pub root_of : Chain → Chain
 root_of (top doc) = top doc
 root_of (under c t) = root_of c
@@ -62,10 +63,11 @@ string_value (whole doc) = joined_texts doc
 string_value (one (an_element n kids)) = joined_texts kids
 string_value (one (a_text s)) = s
 
--- in document order, the nodes below a node, of which a test lets through the trees that lead there
+-- the nodes to which those of the given lists of trees lead that pass a test
 abbrev pub found : (List Tree → Bool) → Chain → List (List Tree) → List Chain
 found p c ds = map (λ d. onto c d) (filter p ds)
 
+-- in document order, the nodes below a node of which the trees that lead there pass a test
 abbrev pub nodes_where : (List Tree → Bool) → Chain → List Chain
 nodes_where p c = found p c (below (children (node_of c)))
 

@@ -1,12 +1,13 @@
--- Schemas: name classes, patterns and element patterns (RELAX NG, 4 and 6).
+-- Schemas: name classes, patterns and element patterns (RELAX NG Specification, OASIS 2001, 5 and 6, whose numbers are meant by "RELAX NG").
 use Rattle.std.specs.Prelude.{◌≢◌, ℕ, zero, suc, ◌≤◌, List, length, Bool, false, ◌&&◌, ◌||◌, not, IsTrue, bytes_eq, Option, None, slice_get, All}
 use Rattle.tc_model.specs.Names.{ExpandedName, same_name, IsName, IsNamespaceName}
 
 mutual
   pub data NameClass : Type 0 where
     of_name : ExpandedName → NameClass
-    -- the names of a namespace, and all names; but those of the excepted classes
+    -- the names of a namespace, except those of the excepted class
     of_namespace : List ℕ → NameClasses → NameClass
+    -- all names, except those of the excepted class
     any_name : NameClasses → NameClass
     one_of : NameClasses → NameClass
 
@@ -86,8 +87,10 @@ abbrev mutual
   ArePatterns count no_more = Unit {0}
   ArePatterns count (more p ps) = IsPattern count p × ArePatterns count ps
 
+-- a lawful name class, and a content
 abbrev pub IsElementPattern : ℕ → ElementPattern → Type 0
 IsElementPattern count e = IsNameClass e.names × IsPattern count e.content
 
+-- a well-formed schema
 abbrev pub IsGrammar : Grammar → Type 0
 IsGrammar g = IsPattern (length g.elements) g.start × All (IsElementPattern (length g.elements)) g.elements

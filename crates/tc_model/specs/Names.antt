@@ -8,6 +8,7 @@ pub record ExpandedName : Type 0 where
   pub uri : List ℕ
   pub local : List ℕ
 
+-- two names are equal where both parts are (Namespaces, 2.1)
 abbrev pub same_name : ExpandedName → ExpandedName → Bool
 same_name n m = bytes_eq n.uri m.uri && bytes_eq n.local m.local
 
@@ -30,9 +31,11 @@ IsNcName bytes = (c : ℕ) × (cs : List ℕ) × (encode_utf8_all (c ∷ cs) ≡
 abbrev pub xmlns_uri : List ℕ
 xmlns_uri = codes "http://www.w3.org/2000/xmlns/"
 
+-- what may stand for a namespace, the empty text for none
 abbrev pub IsNamespaceName : List ℕ → Type 0
 IsNamespaceName uri = IsChars uri × (uri ≢ xmlns_uri)
 
+-- a lawful expanded name
 abbrev pub IsName : ExpandedName → Type 0
 IsName n = IsNamespaceName n.uri × IsNcName n.local
 

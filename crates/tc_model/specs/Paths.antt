@@ -16,6 +16,7 @@ passes any_text (an_element m kids) = false
 passes any_text (a_text s) = true
 passes any_node t = true
 
+-- no tree is left
 abbrev pub is_end : List Tree → Bool
 is_end [] = true
 is_end (t ∷ ts) = false
@@ -36,7 +37,7 @@ abbrev mutual
   any_along no_way c ts = false
   any_along (way ss p) c ts = along ss c ts || any_along p c ts
 
-  -- a test holds on a node (XPath, 3.4, 4.3)
+  -- a test or a predicate holds on a node (XPath, 2.4, 3.4, 4.3)
   pub holds : Test → Chain → Bool
   holds always c = true
   holds never c = false

@@ -1,4 +1,4 @@
--- How trees are printed as XML (XML 1.0, 2.4, 3.1; Namespaces in XML 1.0, 6).
+-- How trees are printed as XML (XML 1.0, 2.4, 2.11, 3.1, 3.3.3; Namespaces in XML 1.0, 6.2).
 use Rattle.std.specs.Prelude.{ℕ, List, [], ◌∷◌, ◌++◌, Bool, true, false, ◌||◌, if◌then◌else◌, ◌==◌, bytes_eq, codes, flat_map}
 use Rattle.tc_model.specs.Names.{ExpandedName}
 use Rattle.tc_model.specs.Trees.{Trees, none, text, element}
@@ -26,19 +26,21 @@ escaped_in_value c =
 abbrev pub xml_uri : List ℕ
 xml_uri = codes "http://www.w3.org/XML/1998/namespace"
 
+-- the name in a tag: the local name, since the default namespace is declared where it is needed
 abbrev pub tag_name : ExpandedName → List ℕ
 tag_name n = if bytes_eq n.uri xml_uri then codes "xml:" ++ n.local else n.local
 
--- no declaration is needed where the name's namespace is the default one that is in force
-abbrev pub is_in_force : List ℕ → ExpandedName → Bool
-is_in_force default n = bytes_eq n.uri default || bytes_eq n.uri xml_uri
+-- where the name's namespace is the default one that is in force, or that of the prefix xml
+abbrev pub needs_no_declaration : List ℕ → ExpandedName → Bool
+needs_no_declaration default n = bytes_eq n.uri default || bytes_eq n.uri xml_uri
 
+-- the declaration in a start tag, with the space before it
 abbrev pub declaration : List ℕ → ExpandedName → List ℕ
-declaration default n = if is_in_force default n then [] else codes " xmlns=\"" ++ flat_map escaped_in_value n.uri ++ codes "\""
+declaration default n = if needs_no_declaration default n then [] else codes " xmlns=\"" ++ flat_map escaped_in_value n.uri ++ codes "\""
 
 -- the default namespace within the element
 abbrev pub default_within : List ℕ → ExpandedName → List ℕ
-default_within default n = if is_in_force default n then default else n.uri
+default_within default n = if needs_no_declaration default n then default else n.uri
 
 abbrev pub is_none : Trees → Bool
 is_none none = true

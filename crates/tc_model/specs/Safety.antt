@@ -20,9 +20,9 @@ Transforms s doc done = Instantiates s (by_mode 0) (top doc) done
 abbrev pub IsResultOf : Sheet → Trees → Trees → Type 0
 IsResultOf s doc result = (done : Done) × Transforms s doc done × (result ≡ normal_form done.out)
 
--- every valid document has a valid result
+-- every valid document has a result, and it is valid
 abbrev pub IsSafe : Grammar → Grammar → Sheet → Type 0
-IsSafe input output s = (doc result : Trees) → IsValid input doc → IsResultOf s doc result → IsValidOutput output result
+IsSafe input output s = (doc : Trees) → IsValid input doc → (result : Trees) × IsResultOf s doc result × IsValidOutput output result
 
 -- a valid document with a result that isn't valid
 abbrev pub IsCounterexample : Grammar → Grammar → Sheet → Trees → Trees → Type 0

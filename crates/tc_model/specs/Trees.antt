@@ -48,10 +48,11 @@ dropped none = none
 dropped (text s rest) = kept s (dropped rest)
 dropped (element n kids rest) = element n (dropped kids) (dropped rest)
 
--- adjacent texts joined, and then texts of white space alone dropped (XSLT, 3.4)
+-- adjacent texts joined (XPath 1.0, 5.7), and then texts of white space alone dropped (XSLT 1.0, 3.4)
 abbrev pub normal_form : Trees → Trees
 normal_form h = dropped (joined h)
 
+-- nothing is left to join or to drop
 abbrev pub IsNormal : Trees → Type 0
 IsNormal h = normal_form h ≡ h
 

@@ -33,6 +33,7 @@ abbrev mutual
   AreTests no_test = Unit {0}
   AreTests (test t ts) = IsTest t × AreTests ts
 
+-- not without a step
 abbrev pub IsMatchPattern : MatchPattern → Type 0
 IsMatchPattern root_pattern = Unit {0}
 IsMatchPattern (steps_pattern ss) = (ss ≢ no_step) × AreSteps ss

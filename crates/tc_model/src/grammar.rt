@@ -1,4 +1,4 @@
-// Schemas after simplification (RELAX NG, 4 and 6).
+// Schemas after simplification (RELAX NG Specification, OASIS 2001, 5 and 6).
 use crate::tree::Name;
 
 /// A set of names (RELAX NG, 6.1). The slice of `Ns` and of `Any` holds the one class that is excepted,
