@@ -9,6 +9,7 @@ pub mod Chains
 pub mod Paths
 pub mod Done
 pub mod Meaning
+pub mod Machine
 pub mod WellFormed
 pub mod Safety
 pub mod Printed
