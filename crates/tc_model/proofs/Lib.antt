@@ -5,3 +5,5 @@ pub mod TotalSelected
 pub mod TotalAbove
 pub mod TotalByStates
 pub mod TotalExact
+pub mod TotalUnfolds
+pub mod Total

@@ -13,3 +13,4 @@ pub mod Machine
 pub mod WellFormed
 pub mod Safety
 pub mod Printed
+pub mod Laws

@@ -5,6 +5,7 @@
 #![tactic(auto)]
 
 pub mod grammar;
+pub mod laws;
 pub mod sheet;
 pub mod tree;
 
