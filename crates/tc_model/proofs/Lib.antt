@@ -7,3 +7,4 @@ pub mod TotalByStates
 pub mod TotalExact
 pub mod TotalUnfolds
 pub mod Total
+pub mod CasesOfSheets
