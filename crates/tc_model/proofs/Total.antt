@@ -6,7 +6,7 @@ use Rattle.tc_model.specs.Sheets.{Path, Test, always, never, has, negated, every
 use Rattle.tc_model.specs.Done.{Done, counted}
 use Rattle.tc_model.specs.Paths.{any_along}
 use Rattle.tc_model.specs.Meaning.{Job, by_mode, by_body, built_in, body_or, rule_of, body_of, Does}
-use Rattle.tc_model.specs.Machine.{Task, in_mode, in_body, JobUnfolds, u_mode, u_body, known_test, known_tests, known, known_branches, known_task, Machine, picks, above, does_at, plain_at, IsMachineOf}
+use Rattle.tc_model.specs.Machine.{Task, in_mode, in_body, JobUnfolds, u_mode, u_body, known_test, known_tests, known, known_branches, known_task, Machine, move_picks, look_picks, above, does_at, plain_at, IsMachineOf, IsSteady}
 use Rattle.tc_model.specs.WellFormed.{IsBody, IsSheet}
 use Rattle.tc_model.specs.Safety.{Instantiates, IsResultOf}
 use Rattle.tc_model.specs.Laws.{IsJob}
@@ -14,11 +14,6 @@ use Rattle.tc_model.proofs.TotalAbove.{any_above}
 use Rattle.tc_model.proofs.TotalUnfolds.{body_unfolds, mode_unfolds, rule_above}
 use Rattle.tc_model.proofs.TotalExact.{does_complete}
 use Rattle.tc_model.proofs.Unique.{result_unique}
-
--- a state that is what is selected: it hits where it says so
-picks_so : (q : List Tree → Bool) (t : Tree) (ts : List Tree) → q (t ∷ ts) ≡ picks (λ u. u) (λ (r : List Tree → Bool) u us. r (u ∷ us)) (λ r u. r (u ∷ [])) q (t ∷ ts)
-picks_so q t [] = refl
-picks_so q t (u ∷ us) = picks_so (λ vs. q (t ∷ vs)) u us
 
 module _ (s : Sheet) (is : IsSheet s) where
   abbrev plain_on : Task → Chain → Plain
@@ -31,22 +26,34 @@ module _ (s : Sheet) (is : IsSheet s) where
       record {
         Letter = Tree;
         letter = λ t. t;
-        Move = List Tree → Bool;
+        Move = Task × (List Tree → Bool);
         KnownMove = λ j p. Unit {0};
-        move_first = λ j p ts. any_along p (top none) ts;
-        move_step = λ q t ts. q (t ∷ ts);
-        move_hits = λ q t. q (t ∷ []);
+        move_first = λ j p. (j, λ ts. any_along p (top none) ts);
+        move_step = λ q t. (q.0, λ ts. q.1 (t ∷ ts));
+        move_hits = λ q t. q.1 (t ∷ []);
+        task_of = λ q. q.0;
+        IsMove = λ q. Unit {0};
         Look = List Tree → Bool;
         KnownLook = λ p. Unit {0};
         look_first = λ p ts. any_along p (top none) ts;
         look_step = λ q t ts. q (t ∷ ts);
         look_hits = λ q t. q (t ∷ []);
+        IsLook = λ q. Unit {0};
         Above = Chain;
         start = top none;
         down_to = λ c t. under c t;
+        IsAbove = λ c. Unit {0};
         body_at = λ j c t. plain_on j (under c t);
         root_body = λ j. plain_on j (top none)
       }
+
+  move_so : (j : Task) (q : List Tree → Bool) (t : Tree) (ts : List Tree) → q (t ∷ ts) ≡ move_picks chains (j, q) (t ∷ ts)
+  move_so j q t [] = refl
+  move_so j q t (u ∷ us) = move_so j (λ vs. q (t ∷ vs)) u us
+
+  look_so : (q : List Tree → Bool) (t : Tree) (ts : List Tree) → q (t ∷ ts) ≡ look_picks chains q (t ∷ ts)
+  look_so q t [] = refl
+  look_so q t (u ∷ us) = look_so (λ vs. q (t ∷ vs)) u us
 
   down_above : (c : Chain) → down (above chains c) ≡ down c
   down_above (top doc) = refl
@@ -97,10 +104,24 @@ module _ (s : Sheet) (is : IsSheet s) where
   pub chains_tell : IsMachineOf chains s.rules s.named
   chains_tell =
       record {
-        moves_tell = λ j p k c t ts. any_above p c (top none) (t ∷ ts) ∙ picks_so (λ us. any_along p (top none) us) t ts;
-        looks_tell = λ p k c t ts. any_above p c (top none) (t ∷ ts) ∙ picks_so (λ us. any_along p (top none) us) t ts;
+        moves_tell = λ j p k c t ts. any_above p c (top none) (t ∷ ts) ∙ move_so j (λ us. any_along p (top none) us) t ts;
+        looks_tell = λ p k c t ts. any_above p c (top none) (t ∷ ts) ∙ look_so (λ us. any_along p (top none) us) t ts;
         ruled = ruled;
         knows = λ k c n. all_known (plain_at chains k c)
+      }
+
+  pub chains_steady : IsSteady chains
+  chains_steady =
+      record {
+        first_task = λ j p k. refl;
+        step_task = λ q l. refl;
+        move_from = λ j p k n. tt;
+        move_on = λ q t i. tt;
+        look_from = λ p k. tt;
+        look_on = λ q t i. tt;
+        above_from = tt;
+        above_on = λ q t i. tt;
+        bodies = λ q c t i k. all_known (chains.body_at (chains.task_of q) c t)
       }
 
   does_total : (j : Job) (k : Task) → JobUnfolds s.named j k → (c : Chain) → (done : Done) × Instantiates s j c done

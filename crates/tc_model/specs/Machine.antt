@@ -53,7 +53,7 @@ module _ (Move : Task → Path → Type 0) (Look : Path → Type 0) where
   known_task (in_mode m) = Unit {0}
   known_task (in_body b) = known b
 
--- States that the letters of trees lead on: those of moves, which select for a task, those of looks, for values and tests, and those of match patterns, which tell the body of a task.
+-- States that the letters of trees lead on: those of moves, which select for a task, those of looks, for values and tests, and those of match patterns, which tell the body of a task. Of each kind some are the machine's own.
 pub record Machine : Type 1 where
   pub Letter : Type 0
   pub letter : Tree → Letter
@@ -62,14 +62,18 @@ pub record Machine : Type 1 where
   pub move_first : Task → Path → Move
   pub move_step : Move → Letter → Move
   pub move_hits : Move → Letter → Bool
+  pub task_of : Move → Task
+  pub IsMove : Move → Type 0
   pub Look : Type 0
   pub KnownLook : Path → Type 0
   pub look_first : Path → Look
   pub look_step : Look → Letter → Look
   pub look_hits : Look → Letter → Bool
+  pub IsLook : Look → Type 0
   pub Above : Type 0
   pub start : Above
   pub down_to : Above → Letter → Above
+  pub IsAbove : Above → Type 0
   pub body_at : Task → Above → Letter → Plain
   pub root_body : Task → Plain
 
@@ -162,3 +166,15 @@ pub record IsMachineOf (m : Machine) (rules : List Rule) (named : List Body) : T
   pub looks_tell : (p : Path) → m.KnownLook p → (c : Chain) (t : Tree) (ts : List Tree) → any_along p c (t ∷ ts) ≡ look_picks m (m.look_first p) (t ∷ ts)
   pub ruled : (j : Job) (k : Task) (c : Chain) → JobUnfolds named j k → Unfolds named (body_of rules j c) (plain_at m k c)
   pub knows : (k : Task) (c : Chain) → known_task m.KnownMove m.KnownLook k → known m.KnownMove m.KnownLook (plain_at m k c)
+
+-- a move keeps its task; its own states lead to its own, and their bodies hold known paths alone
+pub record IsSteady (m : Machine) : Type 0 where
+  pub first_task : (j : Task) (p : Path) → m.KnownMove j p → m.task_of (m.move_first j p) ≡ j
+  pub step_task : (s : m.Move) (l : m.Letter) → m.task_of (m.move_step s l) ≡ m.task_of s
+  pub move_from : (j : Task) (p : Path) → m.KnownMove j p → known_task m.KnownMove m.KnownLook j → m.IsMove (m.move_first j p)
+  pub move_on : (s : m.Move) (t : Tree) → m.IsMove s → m.IsMove (m.move_step s (m.letter t))
+  pub look_from : (p : Path) → m.KnownLook p → m.IsLook (m.look_first p)
+  pub look_on : (s : m.Look) (t : Tree) → m.IsLook s → m.IsLook (m.look_step s (m.letter t))
+  pub above_from : m.IsAbove m.start
+  pub above_on : (q : m.Above) (t : Tree) → m.IsAbove q → m.IsAbove (m.down_to q (m.letter t))
+  pub bodies : (s : m.Move) (q : m.Above) (t : Tree) → m.IsMove s → m.IsAbove q → known m.KnownMove m.KnownLook (m.body_at (m.task_of s) q (m.letter t))
