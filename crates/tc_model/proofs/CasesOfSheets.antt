@@ -1,13 +1,16 @@
 -- Worked cases of what stylesheets mean.
-use Rattle.std.proofs.Common.{◌≡◌, ℕ, List, [], ◌∷◌, ◌++◌, refl, Bool, true, false, pos, codes, Some}
-use Rattle.tc_model.specs.Names.{ExpandedName}
+use Rattle.std.proofs.Common.{◌≡◌, ℕ, List, [], ◌∷◌, ◌++◌, refl, ap, sym, ◌∙◌, zero, suc, get_or, Bool, true, false, pos, codes, Some, All, Contains, arith, ◌<◌}
+use Rattle.std.proofs.lemmas.List.Elements.{All-nil, All-cons}
+use Rattle.std.proofs.lemmas.Str.{encode_ascii}
+use Rattle.tc_model.specs.Names.{ExpandedName, IsName}
 use Rattle.tc_model.specs.Trees.{Trees, none, text, element}
 use Rattle.tc_model.specs.Chains.{Tree, an_element, a_text, Chain, top, under, down}
-use Rattle.tc_model.specs.Sheets.{of_name, any_node, Steps, no_step, step, Path, no_way, way, Test, always, has, negated, root_pattern, steps_pattern, Body, done, put_text, put_element, apply, Rule, Sheet}
+use Rattle.tc_model.specs.Sheets.{of_name, any_node, Steps, no_step, step, Path, no_way, way, Test, always, has, negated, root_pattern, steps_pattern, Body, done, put_text, put_element, apply, call, for_each, Rule, Sheet, Plain, Unfolds, u_done, u_element, u_each}
 use Rattle.tc_model.specs.Done.{Done}
 use Rattle.tc_model.specs.Paths.{selected, fits, is_end}
-use Rattle.tc_model.specs.Meaning.{all_children, rule_of, Does, does_done, does_text, does_element, does_apply, does_self, on_none, on_one}
+use Rattle.tc_model.specs.Meaning.{all_children, rule_of, Does, does_done, does_text, does_element, does_apply, does_call, does_self, does_for_each, on_none, on_one}
 use Rattle.tc_model.specs.Safety.{Transforms, IsResultOf}
+use Rattle.tc_model.specs.WellFormed.{IsPath, IsBody, IsRule, IsSheet, ForEach, eaches_of}
 use Rattle.tc_model.proofs.Unique.{does_unique}
 
 -- a name in no namespace
@@ -165,3 +168,36 @@ doubled : Transforms twice (element a (element a none none) none) (record { out 
 doubled =
     let inner = does_element does_done (does_apply on_none (does_apply on_none does_done)) in
     (_, does_element (does_apply (on_one (does_element does_done (does_apply (on_one inner on_none) (does_apply (on_one inner on_none) does_done))) on_none) does_done) does_done, refl)
+
+-- a for-each in a named body: three bodies and an element
+abbrev called : Sheet
+called = record { modes = 1; eaches = 1; rules = root_rule (call 0 done) ∷ []; named = for_each 0 all_children (empty_element x) done ∷ [] }
+
+called_once : Transforms called (element a none none) (record { out = element x none none; work = 4; depth = 6 })
+called_once = (_, does_call _ refl (does_for_each (on_one (does_element does_done does_done) on_none) does_done) does_done, refl)
+
+-- it is well-formed
+x_is_name : IsName x
+x_is_name = ((([], refl, refl), λ e. cc), (120, [], ap (λ bs. bs ++ []) (encode_ascii 120 (omega arith)), refl, refl))
+
+children_is_path : IsPath all_children
+children_is_path = (λ e. cc, (tt, tt, tt), tt)
+
+all_of_one : {A : Type 0} (P : A → Type 0) (one : A) → P one → All P (one ∷ [])
+all_of_one P one i = All-cons P one [] i (All-nil P)
+
+at_one : (one other : ForEach) (k : ℕ) → k < 1 → get_or (one ∷ []) k other ≡ other → one ≡ other
+at_one one other zero h e = e
+at_one one other (suc k) h e = absurd (omega arith)
+
+called_is_sheet : IsSheet called
+called_is_sheet =
+    let one : ForEach = record { number = 0; path = all_children; body = empty_element x } in
+    record {
+      modes = omega arith;
+      rules = all_of_one (IsRule called) (root_rule (call 0 done)) (record { mode = omega arith; pattern = tt; body = (omega arith, tt) });
+      named = all_of_one (IsBody called) (for_each 0 all_children (empty_element x) done) (omega arith, children_is_path, (x_is_name, tt, tt), tt);
+      calls = all_of_one (λ i. (o : Plain) × Unfolds called.named i o) (for_each 0 all_children (empty_element x) done) (_, u_each (u_element u_done u_done) u_done);
+      same_eaches = λ f g i j e. sym (at_one one f i.0 i.1 i.2) ∙ at_one one g j.0 j.1 j.2;
+      each_number = λ i h. (one, (0, omega arith, refl), omega arith)
+    }
