@@ -1,16 +1,16 @@
 -- Worked cases of what stylesheets mean.
-use Rattle.std.proofs.Common.{◌≡◌, ℕ, List, [], ◌∷◌, ◌++◌, refl, ap, sym, ◌∙◌, zero, suc, get_or, Bool, true, false, pos, codes, Some, All, Contains, arith, ◌<◌}
+use Rattle.std.proofs.Common.{◌≡◌, ℕ, List, [], ◌∷◌, ◌++◌, refl, ap, sym, ◌∙◌, zero, suc, get_or, true, false, pos, codes, Some, All, arith, ◌<◌}
 use Rattle.std.proofs.lemmas.List.Elements.{All-nil, All-cons}
 use Rattle.std.proofs.lemmas.Str.{encode_ascii}
 use Rattle.tc_model.specs.Names.{ExpandedName, IsName}
 use Rattle.tc_model.specs.Trees.{Trees, none, text, element}
-use Rattle.tc_model.specs.Chains.{Tree, an_element, a_text, Chain, top, under, down}
-use Rattle.tc_model.specs.Sheets.{of_name, any_node, Steps, no_step, step, Path, no_way, way, Test, always, has, negated, root_pattern, steps_pattern, Body, done, put_text, put_element, apply, call, for_each, Rule, Sheet, Plain, Unfolds, u_done, u_element, u_each}
+use Rattle.tc_model.specs.Chains.{Tree, an_element, Chain, top, under, down}
+use Rattle.tc_model.specs.Sheets.{of_name, any_node, Steps, no_step, step, Path, no_way, way, always, has, negated, root_pattern, steps_pattern, Body, done, put_text, put_element, apply, call, for_each, Rule, Sheet, Plain, Unfolds, u_done, u_element, u_each}
 use Rattle.tc_model.specs.Done.{Done}
 use Rattle.tc_model.specs.Paths.{selected, fits, is_end}
 use Rattle.tc_model.specs.Meaning.{all_children, rule_of, Does, does_done, does_text, does_element, does_apply, does_call, does_self, does_for_each, on_none, on_one}
 use Rattle.tc_model.specs.Safety.{Transforms, IsResultOf}
-use Rattle.tc_model.specs.WellFormed.{IsPath, IsBody, IsRule, IsSheet, ForEach, eaches_of}
+use Rattle.tc_model.specs.WellFormed.{IsPath, IsBody, IsRule, IsSheet, ForEach}
 use Rattle.tc_model.proofs.Unique.{does_unique}
 
 -- a name in no namespace
@@ -199,5 +199,5 @@ called_is_sheet =
       named = all_of_one (IsBody called) (for_each 0 all_children (empty_element x) done) (omega arith, children_is_path, (x_is_name, tt, tt), tt);
       calls = all_of_one (λ i. (o : Plain) × Unfolds called.named i o) (for_each 0 all_children (empty_element x) done) (_, u_each (u_element u_done u_done) u_done);
       same_eaches = λ f g i j e. sym (at_one one f i.0 i.1 i.2) ∙ at_one one g j.0 j.1 j.2;
-      each_number = λ i h. (one, (0, omega arith, refl), omega arith)
+      each_number = λ i h. (one, (0, omega arith, refl), omega arith);
     }

@@ -2,12 +2,12 @@
 use Rattle.std.proofs.Common.{◌≡◌, ℕ, List, [], ◌∷◌, ◌++◌, refl, ap, ◌∙◌, subst, Bool}
 use Rattle.tc_model.specs.Trees.{Trees, none, normal_form}
 use Rattle.tc_model.specs.Chains.{Tree, Chain, top, under, node_of, down}
-use Rattle.tc_model.specs.Sheets.{Path, Test, always, never, has, negated, every, some, Tests, no_test, test, Body, Sheet, Rule, Plain, p_done, p_text, p_element, p_copy, p_apply, p_call, p_value, p_self, p_choose, p_each, PlainBranches, p_otherwise, p_branch, Unfolds}
+use Rattle.tc_model.specs.Sheets.{Test, always, never, has, negated, every, some, Tests, no_test, test, Sheet, Plain, p_done, p_text, p_element, p_copy, p_apply, p_call, p_value, p_self, p_choose, p_each, PlainBranches, p_otherwise, p_branch, Unfolds}
 use Rattle.tc_model.specs.Done.{Done, counted}
 use Rattle.tc_model.specs.Paths.{any_along}
-use Rattle.tc_model.specs.Meaning.{Job, by_mode, by_body, built_in, body_or, rule_of, body_of, Does}
-use Rattle.tc_model.specs.Machine.{Task, in_mode, in_body, JobUnfolds, u_mode, u_body, known_test, known_tests, known, known_branches, known_task, Machine, move_picks, look_picks, above, does_at, plain_at, IsMachineOf, IsSteady}
-use Rattle.tc_model.specs.WellFormed.{IsBody, IsSheet}
+use Rattle.tc_model.specs.Meaning.{Job, by_mode, by_body, built_in, body_or, body_of}
+use Rattle.tc_model.specs.Machine.{Task, in_mode, in_body, JobUnfolds, u_mode, u_body, known_test, known_tests, known, known_branches, Machine, move_picks, look_picks, above, does_at, plain_at, IsMachineOf, IsSteady}
+use Rattle.tc_model.specs.WellFormed.{IsSheet}
 use Rattle.tc_model.specs.Safety.{Instantiates, IsResultOf}
 use Rattle.tc_model.specs.Laws.{IsJob}
 use Rattle.tc_model.proofs.TotalAbove.{any_above}
@@ -44,7 +44,7 @@ module _ (s : Sheet) (is : IsSheet s) where
         down_to = λ c t. under c t;
         IsAbove = λ c. Unit {0};
         body_at = λ j c t. plain_on j (under c t);
-        root_body = λ j. plain_on j (top none)
+        root_body = λ j. plain_on j (top none);
       }
 
   move_so : (j : Task) (q : List Tree → Bool) (t : Tree) (ts : List Tree) → q (t ∷ ts) ≡ move_picks chains (j, q) (t ∷ ts)
@@ -107,7 +107,7 @@ module _ (s : Sheet) (is : IsSheet s) where
         moves_tell = λ j p k c t ts. any_above p c (top none) (t ∷ ts) ∙ move_so j (λ us. any_along p (top none) us) t ts;
         looks_tell = λ p k c t ts. any_above p c (top none) (t ∷ ts) ∙ look_so (λ us. any_along p (top none) us) t ts;
         ruled = ruled;
-        knows = λ k c n. all_known (plain_at chains k c)
+        knows = λ k c n. all_known (plain_at chains k c);
       }
 
   pub chains_steady : IsSteady chains
@@ -121,7 +121,7 @@ module _ (s : Sheet) (is : IsSheet s) where
         look_on = λ q t i. tt;
         above_from = tt;
         above_on = λ q t i. tt;
-        bodies = λ q c t i k. all_known (chains.body_at (chains.task_of q) c t)
+        bodies = λ q c t i k. all_known (chains.body_at (chains.task_of q) c t);
       }
 
   does_total : (j : Job) (k : Task) → JobUnfolds s.named j k → (c : Chain) → (done : Done) × Instantiates s j c done

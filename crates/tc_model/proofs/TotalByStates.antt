@@ -1,6 +1,5 @@
 -- What is selected below a node, and what a job puts out there, by states.
 use Rattle.std.proofs.Common.{◌≡◌, List, [], ◌∷◌, ◌++◌, refl, ap, ◌∙◌, sym, Bool, true, false, cond, not, ◌&&◌, ◌||◌, Option, Some, None, is_some}
-use Rattle.tc_model.specs.Names.{ExpandedName}
 use Rattle.tc_model.specs.Trees.{Trees, none, text, element}
 use Rattle.tc_model.specs.Chains.{Tree, an_element, a_text, Chain, under, below, found, first_node, Node, one, node_of, children}
 use Rattle.tc_model.specs.Sheets.{Path, Test, always, never, has, negated, every, some, Tests, no_test, test, Body, Rule}

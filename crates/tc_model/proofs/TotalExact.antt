@@ -1,6 +1,5 @@
 -- A body whose calls end puts out exactly what it puts out by states.
 use Rattle.std.proofs.Common.{◌≡◌, ℕ, List, [], ◌∷◌, ◌++◌, refl, ap, ◌∙◌, sym, subst, Bool, true, false, cond, Some, slice_get}
-use Rattle.tc_model.specs.Names.{ExpandedName}
 use Rattle.tc_model.specs.Trees.{Trees, none, text, element}
 use Rattle.tc_model.specs.Chains.{Tree, an_element, a_text, Chain, under, below, found, nodes_where, Node, whole, one, node_of, children, string_value}
 use Rattle.tc_model.specs.Sheets.{Test, Body, copy, apply, for_each, value, Branches, branch, Rule, Plain, p_copy, Unfolds, u_done, u_text, u_element, u_copy, u_apply, u_call, u_each, u_value, u_self, u_choose, PlainBranches, BranchesUnfold, u_otherwise, u_branch}

@@ -1,11 +1,11 @@
 -- Each body of a well-formed stylesheet, and what it does on each node in a mode, has its named bodies in place.
-use Rattle.std.proofs.Common.{◌≡◌, ◌<◌, ◌≤◌, ℕ, List, [], ◌∷◌, refl, ap, Bool, true, false, ◌&&◌, cond, nat_eq, int_lt, Option, Some, None, length, All, get_or, slice_get}
+use Rattle.std.proofs.Common.{◌≡◌, ◌<◌, ℕ, List, [], ◌∷◌, refl, Bool, true, false, ◌&&◌, cond, nat_eq, int_lt, Option, Some, None, length, All}
 use Rattle.std.proofs.lemmas.Option.{slice_get-get_or}
 use Rattle.std.proofs.lemmas.List.Elements.{All-get_or, All-head, All-tail}
 use Rattle.tc_model.specs.Chains.{an_element, a_text, Chain, Node, whole, one, node_of, down}
 use Rattle.tc_model.specs.Sheets.{Body, done, put_text, put_element, copy, apply, call, for_each, value, value_of_self, choose, Branches, otherwise, branch, Rule, Sheet, Plain, p_done, p_text, p_element, p_copy, p_apply, p_call, p_value, p_self, p_choose, p_each, PlainBranches, p_otherwise, p_branch, Unfolds, BranchesUnfold, u_done, u_text, u_element, u_copy, u_apply, u_call, u_value, u_self, u_choose, u_each, u_otherwise, u_branch}
 use Rattle.tc_model.specs.Paths.{fits}
-use Rattle.tc_model.specs.Meaning.{Job, by_mode, by_body, built_in, better, body_or, rule_of, body_of}
+use Rattle.tc_model.specs.Meaning.{by_mode, built_in, better, body_or, rule_of, body_of}
 use Rattle.tc_model.specs.WellFormed.{IsBody, AreBranches, IsRule, IsSheet}
 use Rattle.tc_model.proofs.TotalAbove.{fits_above}
 

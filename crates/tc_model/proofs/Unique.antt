@@ -1,10 +1,10 @@
 -- A body puts out one thing on a node.
-use Rattle.std.proofs.Common.{◌≡◌, ℕ, List, refl, ap, ◌∙◌, sym, subst, Bool, true, false, Option, Some}
+use Rattle.std.proofs.Common.{◌≡◌, ℕ, List, refl, ap, ◌∙◌, sym, subst}
 use Rattle.tc_model.specs.Trees.{Trees, normal_form}
 use Rattle.tc_model.specs.Chains.{Chain, top, one, a_text, node_of}
 use Rattle.tc_model.specs.Sheets.{Body, Branches, Rule, Sheet}
-use Rattle.tc_model.specs.Done.{Done, join, within, counted, put, put_around, copied}
-use Rattle.tc_model.specs.Meaning.{Job, by_mode, body_of, IsInner, Does, Takes, Each, does_done, does_text, does_element, does_copy, does_copy_text, does_apply, does_call, does_value, does_self, does_choose, does_for_each, takes_last, takes_this, takes_later, on_none, on_one}
+use Rattle.tc_model.specs.Done.{Done, counted}
+use Rattle.tc_model.specs.Meaning.{Job, by_mode, IsInner, Does, Takes, Each, does_done, does_text, does_element, does_copy, does_copy_text, does_apply, does_call, does_value, does_self, does_choose, does_for_each, takes_last, takes_this, takes_later, on_none, on_one}
 use Rattle.tc_model.specs.Safety.{Instantiates, IsResultOf}
 
 not_inner : (c : Chain) (x : List ℕ) → node_of c ≡ one (a_text x) → IsInner (node_of c) → ⊥

@@ -1,6 +1,5 @@
 -- What bodies put out, worked out by states: a function on the trees below a node, which sees nothing above them but a state.
 use Rattle.std.specs.Prelude.{◌≡◌, ℕ, List, [], ◌∷◌, Bool, true, false, ◌&&◌, ◌||◌, not, cond, Option, Some, None, is_some}
-use Rattle.tc_model.specs.Names.{ExpandedName}
 use Rattle.tc_model.specs.Trees.{Trees, none, text, element}
 use Rattle.tc_model.specs.Chains.{Tree, an_element, a_text, Chain, top, under, Node, one, node_of, children, string_value}
 use Rattle.tc_model.specs.Sheets.{Path, Test, always, never, has, negated, every, some, Tests, no_test, test, Body, Rule, Plain, p_done, p_text, p_element, p_copy, p_apply, p_call, p_value, p_self, p_choose, p_each, PlainBranches, p_otherwise, p_branch, Unfolds}
