@@ -1,5 +1,6 @@
 pub mod Views
 pub mod Unique
+pub mod UniqueRule
 pub mod TotalJoin
 pub mod TotalSelected
 pub mod TotalAbove

@@ -1,12 +1,30 @@
--- That stylesheets mean something: on each node a job puts out one thing.
-use Rattle.std.specs.Prelude.{◌≡◌}
+-- That the meaning of stylesheets is what it is to be: one rule for each node, and one thing put out on it.
+use Rattle.std.specs.Prelude.{◌≡◌, ◌<ℤ◌, ◌≤ℤ◌, ℕ, List, ◌∷◌, ◌++◌, true, Some, None, All}
 use Rattle.tc_model.specs.Trees.{Trees}
 use Rattle.tc_model.specs.Chains.{Chain}
-use Rattle.tc_model.specs.Sheets.{Sheet}
+use Rattle.tc_model.specs.Sheets.{Rule, Sheet}
 use Rattle.tc_model.specs.Done.{Done}
-use Rattle.tc_model.specs.Meaning.{Job, by_mode, by_body}
+use Rattle.tc_model.specs.Paths.{fits}
+use Rattle.tc_model.specs.Meaning.{Job, by_mode, by_body, rule_of}
 use Rattle.tc_model.specs.WellFormed.{IsBody, IsSheet}
 use Rattle.tc_model.specs.Safety.{Instantiates, IsResultOf}
+
+-- a rule of the mode that fits the node
+abbrev pub IsCandidate : ℕ → Chain → Rule → Type 0
+IsCandidate m c r = (r.mode ≡ m) × (fits r.pattern c ≡ true)
+
+-- the rule of a node is a candidate that no earlier candidate surpasses in priority, nor a later one equals (XSLT, 5.5)
+abbrev pub IsLastOfGreatest : Type 0
+IsLastOfGreatest =
+    (m : ℕ) (c : Chain) (earlier later : List Rule) (r : Rule)
+    → IsCandidate m c r
+    → All (λ q. IsCandidate m c q → q.priority ≤ℤ r.priority) earlier
+    → All (λ q. IsCandidate m c q → q.priority <ℤ r.priority) later
+    → rule_of (earlier ++ (r ∷ later)) m c ≡ Some r
+
+-- and without a candidate there is none
+abbrev pub IsNoneWithout : Type 0
+IsNoneWithout = (m : ℕ) (c : Chain) (rules : List Rule) → All (λ q. ¬ (IsCandidate m c q)) rules → rule_of rules m c ≡ None
 
 -- a mode, be there rules in it or not, or a body that is well-formed in the sheet
 abbrev pub IsJob : Sheet → Job → Type 0

@@ -1,5 +1,12 @@
-// That what a stylesheet puts out is determined.
-ghost use Rattle.tc_model.specs.Laws.{IsUnique, IsTotal, HasOneResult};
+// That the meaning of stylesheets is what it is to be.
+ghost use Rattle.tc_model.specs.Laws.{IsLastOfGreatest, IsNoneWithout, IsUnique, IsTotal, HasOneResult};
+
+/// Laws of the rule of a node (XSLT 1.0, 5.5): of the rules of a mode that fit it the last of greatest
+/// priority, and none where none fits.
+pub fn law_of_rules()
+    ensures last_of_greatest { IsLastOfGreatest }
+    ensures none_without { IsNoneWithout }
+{}
 
 /// Laws of what stylesheets put out (XSLT 1.0, 5 to 9). By any rules and named bodies, a job puts out one
 /// thing at most on a node. By a well-formed sheet it puts out something, on every node, in every mode and
