@@ -8,4 +8,5 @@ pub mod TotalByStates
 pub mod TotalExact
 pub mod TotalUnfolds
 pub mod Total
+pub mod TotalSafety
 pub mod CasesOfSheets

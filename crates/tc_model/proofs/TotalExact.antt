@@ -113,6 +113,3 @@ module _ (rules : List Rule) (named : List Body) (m : Machine) (of : IsMachineOf
 
   pub does_complete : (b : Body) (p : Plain) (c : Chain) → Unfolds named b p → known m.KnownMove m.KnownLook p → Does rules named b c (does_at m p c)
   does_complete b p c u n = does_total c (λ j k v o q. below_total (children (node_of c)) j k v o c q) u n
-
-  pub does_unique : {b : Body} {c : Chain} {h k : Done} (p : Plain) → Unfolds named b p → known m.KnownMove m.KnownLook p → Does rules named b c h → Does rules named b c k → h ≡ k
-  does_unique p u n d e = does_sound d u n ∙ sym (does_sound e u n)

@@ -1,13 +1,15 @@
 -- That the meaning of stylesheets is what it is to be: one rule for each node, and one thing put out on it.
 use Rattle.std.specs.Prelude.{◌≡◌, ◌<ℤ◌, ◌≤ℤ◌, ℕ, List, ◌∷◌, ◌++◌, true, Some, None, All}
 use Rattle.tc_model.specs.Trees.{Trees}
+use Rattle.tc_model.specs.Grammars.{Grammar}
+use Rattle.tc_model.specs.Validity.{IsValid, IsValidOutput}
 use Rattle.tc_model.specs.Chains.{Chain}
 use Rattle.tc_model.specs.Sheets.{Rule, Sheet}
 use Rattle.tc_model.specs.Done.{Done}
 use Rattle.tc_model.specs.Paths.{fits}
 use Rattle.tc_model.specs.Meaning.{Job, by_mode, by_body, rule_of}
 use Rattle.tc_model.specs.WellFormed.{IsBody, IsSheet}
-use Rattle.tc_model.specs.Safety.{Instantiates, IsResultOf}
+use Rattle.tc_model.specs.Safety.{Instantiates, IsResultOf, IsSafe, IsCounterexample}
 
 -- a rule of the mode that fits the node
 abbrev pub IsCandidate : ℕ → Chain → Rule → Type 0
@@ -42,3 +44,14 @@ IsTotal = (s : Sheet) → IsSheet s → (j : Job) → IsJob s j → (c : Chain) 
 -- each document has a result, and no other
 abbrev pub HasOneResult : Type 0
 HasOneResult = (s : Sheet) → IsSheet s → (doc : Trees) → (result : Trees) × IsResultOf s doc result × ((other : Trees) → IsResultOf s doc other → other ≡ result)
+
+-- a safe stylesheet has no counterexample
+abbrev pub HasNoCounterexample : Type 0
+HasNoCounterexample = (input output : Grammar) (s : Sheet) → IsSafe input output s → (doc result : Trees) → ¬ (IsCounterexample input output s doc result)
+
+-- and a well-formed one is safe where whatever a valid document results in is valid
+abbrev pub IsSafeByResults : Type 0
+IsSafeByResults =
+    (input output : Grammar) (s : Sheet) → IsSheet s
+    → ((doc result : Trees) → IsValid input doc → IsResultOf s doc result → IsValidOutput output result)
+    → IsSafe input output s

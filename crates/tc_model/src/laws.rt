@@ -1,5 +1,5 @@
 // That the meaning of stylesheets is what it is to be.
-ghost use Rattle.tc_model.specs.Laws.{IsLastOfGreatest, IsNoneWithout, IsUnique, IsTotal, HasOneResult};
+ghost use Rattle.tc_model.specs.Laws.{IsLastOfGreatest, IsNoneWithout, IsUnique, IsTotal, HasOneResult, HasNoCounterexample, IsSafeByResults};
 
 /// Laws of the rule of a node (XSLT 1.0, 5.5): of the rules of a mode that fit it the last of greatest
 /// priority, and none where none fits.
@@ -15,4 +15,11 @@ pub fn law_of_results()
     ensures unique { IsUnique }
     ensures total { IsTotal }
     ensures one_result { HasOneResult }
+{}
+
+/// Laws of safety. A safe sheet has no counterexample, and a well-formed one is safe where whatever a
+/// valid document results in is valid.
+pub fn law_of_safety()
+    ensures no_counterexample { HasNoCounterexample }
+    ensures by_results { IsSafeByResults }
 {}

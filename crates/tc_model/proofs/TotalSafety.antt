@@ -1,0 +1,19 @@
+-- Safe, and without a counterexample.
+use Rattle.std.proofs.Common.{subst}
+use Rattle.tc_model.specs.Trees.{Trees}
+use Rattle.tc_model.specs.Grammars.{Grammar}
+use Rattle.tc_model.specs.Validity.{IsValid, IsValidOutput}
+use Rattle.tc_model.specs.Sheets.{Sheet}
+use Rattle.tc_model.specs.WellFormed.{IsSheet}
+use Rattle.tc_model.specs.Safety.{IsResultOf, IsSafe, IsCounterexample}
+use Rattle.tc_model.proofs.Unique.{result_unique}
+use Rattle.tc_model.proofs.Total.{one_result}
+
+module _ (input output : Grammar) (s : Sheet) where
+  pub no_counterexample : IsSafe input output s → (doc result : Trees) → ¬ (IsCounterexample input output s doc result)
+  no_counterexample safe doc result c =
+      let good = safe doc c.0 in
+      c.2 (subst (IsValidOutput output) (result_unique s doc good.0 result good.1 c.1) good.2)
+
+  pub safe_by_results : IsSheet s → ((doc result : Trees) → IsValid input doc → IsResultOf s doc result → IsValidOutput output result) → IsSafe input output s
+  safe_by_results is valid doc v = let only = one_result s is doc in (only.0, only.1, valid doc only.0 v only.1)
