@@ -1,4 +1,4 @@
--- That the meaning of stylesheets is what it is to be: one rule for each node, and one thing put out on it.
+-- Laws of what stylesheets mean: one rule for each node, one thing put out on it, and what follows for safety.
 use Rattle.std.specs.Prelude.{◌≡◌, ◌<ℤ◌, ◌≤ℤ◌, ℕ, List, ◌∷◌, ◌++◌, true, Some, None, All}
 use Rattle.tc_model.specs.Trees.{Trees}
 use Rattle.tc_model.specs.Grammars.{Grammar}
@@ -15,7 +15,7 @@ use Rattle.tc_model.specs.Safety.{Instantiates, IsResultOf, IsSafe, IsCounterexa
 abbrev pub IsCandidate : ℕ → Chain → Rule → Type 0
 IsCandidate m c r = (r.mode ≡ m) × (fits r.pattern c ≡ true)
 
--- the rule of a node is a candidate that no earlier candidate surpasses in priority, nor a later one equals (XSLT, 5.5)
+-- the rule of a node is a candidate whose priority no earlier candidate surpasses and no later one reaches (XSLT, 5.5)
 abbrev pub IsLastOfGreatest : Type 0
 IsLastOfGreatest =
     (m : ℕ) (c : Chain) (earlier later : List Rule) (r : Rule)

@@ -1,4 +1,4 @@
-// That the meaning of stylesheets is what it is to be.
+// Laws of what stylesheets mean.
 ghost use Rattle.tc_model.specs.Laws.{IsLastOfGreatest, IsNoneWithout, IsUnique, IsTotal, HasOneResult, HasNoCounterexample, IsSafeByResults};
 
 /// Laws of the rule of a node (XSLT 1.0, 5.5): of the rules of a mode that fit it the last of greatest
