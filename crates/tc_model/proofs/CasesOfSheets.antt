@@ -5,10 +5,10 @@ use Rattle.std.proofs.lemmas.Str.{encode_ascii}
 use Rattle.tc_model.specs.Names.{ExpandedName, IsName}
 use Rattle.tc_model.specs.Trees.{Trees, none, text, element}
 use Rattle.tc_model.specs.Chains.{Tree, an_element, Chain, top, under, down}
-use Rattle.tc_model.specs.Sheets.{of_name, any_node, Steps, no_step, step, Path, no_way, way, always, has, negated, root_pattern, steps_pattern, Body, done, put_text, put_element, apply, call, for_each, Rule, Sheet, Plain, Unfolds, u_done, u_element, u_each}
-use Rattle.tc_model.specs.Done.{Done}
+use Rattle.tc_model.specs.Sheets.{of_name, any_node, Steps, no_step, step, Path, no_alternative, alternative, always, has, negated, root_pattern, steps_pattern, Body, no_instruction, put_text, put_element, apply, call, for_each, Rule, Sheet, Plain, Unfolds, u_done, u_element, u_each}
+use Rattle.tc_model.specs.Outcomes.{Outcome}
 use Rattle.tc_model.specs.Paths.{selected, fits, is_end}
-use Rattle.tc_model.specs.Meaning.{all_children, rule_of, Does, does_done, does_text, does_element, does_apply, does_call, does_self, does_for_each, on_none, on_one}
+use Rattle.tc_model.specs.Meaning.{all_children, rule_of, Does, does_no_instruction, does_text, does_element, does_apply, does_call, does_self, does_for_each, on_none, on_one}
 use Rattle.tc_model.specs.Safety.{Transforms, IsResultOf}
 use Rattle.tc_model.specs.WellFormed.{IsPath, IsBody, IsRule, IsSheet, ForEach}
 use Rattle.tc_model.proofs.Unique.{does_unique}
@@ -48,11 +48,11 @@ child n = step false (of_name n) always no_step
 abbrev deep : ExpandedName → Steps
 deep n = step true (of_name n) always no_step
 
-abbrev one_way : Steps → Path
-one_way ss = way ss no_way
+abbrev one_alternative : Steps → Path
+one_alternative ss = alternative ss no_alternative
 
 abbrev empty_element : ExpandedName → Body
-empty_element n = put_element n done done
+empty_element n = put_element n no_instruction no_instruction
 
 -- a rule that fits elements of a name wherever they stand, in the default mode
 abbrev rule : ExpandedName → ℕ → Body → Rule
@@ -72,27 +72,27 @@ module _ (doc : Trees) where
   last_of_equals : rule_of (rule b 0 (empty_element x) ∷ rule b 0 (empty_element y) ∷ []) 0 a_b ≡ Some (rule b 0 (empty_element y))
   last_of_equals = refl
 
-  greater_first : rule_of (rule b 1 (empty_element x) ∷ rule b 0 (empty_element y) ∷ rule b 0 done ∷ []) 0 a_b ≡ Some (rule b 1 (empty_element x))
+  greater_first : rule_of (rule b 1 (empty_element x) ∷ rule b 0 (empty_element y) ∷ rule b 0 no_instruction ∷ []) 0 a_b ≡ Some (rule b 1 (empty_element x))
   greater_first = refl
 
-  greater_between : rule_of (rule b 0 (empty_element y) ∷ rule b 1 (empty_element x) ∷ rule b 0 done ∷ []) 0 a_b ≡ Some (rule b 1 (empty_element x))
+  greater_between : rule_of (rule b 0 (empty_element y) ∷ rule b 1 (empty_element x) ∷ rule b 0 no_instruction ∷ []) 0 a_b ≡ Some (rule b 1 (empty_element x))
   greater_between = refl
 
-  greater_last : rule_of (rule b 0 (empty_element y) ∷ rule b 0 done ∷ rule b 1 (empty_element x) ∷ []) 0 a_b ≡ Some (rule b 1 (empty_element x))
+  greater_last : rule_of (rule b 0 (empty_element y) ∷ rule b 0 no_instruction ∷ rule b 1 (empty_element x) ∷ []) 0 a_b ≡ Some (rule b 1 (empty_element x))
   greater_last = refl
 
 -- a rule of mode 1 for `b`, one of the default mode, and from the root on mode 1: the built-in rule on `a` keeps the mode
 mode_is_kept :
-    IsResultOf (sheet 2 (record { mode = 1; pattern = steps_pattern (deep b); priority = pos 0; body = empty_element x } ∷ rule b 0 (empty_element y) ∷ root_rule (apply all_children 1 done) ∷ []))
+    IsResultOf (sheet 2 (record { mode = 1; pattern = steps_pattern (deep b); priority = pos 0; body = empty_element x } ∷ rule b 0 (empty_element y) ∷ root_rule (apply all_children 1 no_instruction) ∷ []))
     (element a (element b none none) none) (element x none none)
-mode_is_kept = (_, (_, does_apply (on_one (does_apply (on_one (does_element does_done does_done) on_none) does_done) on_none) does_done, refl), refl)
+mode_is_kept = (_, (_, does_apply (on_one (does_apply (on_one (does_element does_no_instruction does_no_instruction) on_none) does_no_instruction) on_none) does_no_instruction, refl), refl)
 
 -- `c|b|.//c` on `a` selects its children once, in document order
 module _ (doc : Trees) where
   abbrev with_b_and_c : Chain
   with_b_and_c = under (top doc) (an_element a (element b none (element c none none)))
 
-  each_once_in_order : selected (way (child c) (way (child b) (one_way (deep c)))) with_b_and_c ≡ under with_b_and_c (an_element b none) ∷ under with_b_and_c (an_element c none) ∷ []
+  each_once_in_order : selected (alternative (child c) (alternative (child b) (one_alternative (deep c)))) with_b_and_c ≡ under with_b_and_c (an_element b none) ∷ under with_b_and_c (an_element c none) ∷ []
   each_once_in_order = refl
 
 -- `.//b[not(c)]`
@@ -103,15 +103,15 @@ module _ (doc : Trees) where
   abbrev with_two_bs : Chain
   with_two_bs = under (top doc) (an_element a (element b (element c none none) (element b (element b none none) none)))
 
-  without_c : selected (one_way (step true (of_name b) (negated (has (one_way (child c)))) no_step)) with_two_bs ≡ under with_two_bs second_b ∷ under (under with_two_bs second_b) (an_element b none) ∷ []
+  without_c : selected (one_alternative (step true (of_name b) (negated (has (one_alternative (child c)))) no_step)) with_two_bs ≡ under with_two_bs second_b ∷ under (under with_two_bs second_b) (an_element b none) ∷ []
   without_c = refl
 
 -- the built-in rules go through elements and copy texts: two texts, and five bodies for them and the root and the elements
 built_in_rules :
     Transforms (sheet 1 []) (element a (text (codes "t") (element b (text (codes "u") none) none)) none)
-    (record { out = text (codes "t") (text (codes "u") none); work = 7; depth = 8 })
+    (record { out = text (codes "t") (text (codes "u") none); work = 7; nesting = 8 })
 built_in_rules =
-    (_, does_apply (on_one (does_apply (on_one (does_self does_done) (on_one (does_apply (on_one (does_self does_done) on_none) does_done) on_none)) does_done) on_none) does_done, refl)
+    (_, does_apply (on_one (does_apply (on_one (does_self does_no_instruction) (on_one (does_apply (on_one (does_self does_no_instruction) on_none) does_no_instruction) on_none)) does_no_instruction) on_none) does_no_instruction, refl)
 
 built_in_result : IsResultOf (sheet 1 []) (element a (text (codes "t") (element b (text (codes "u") none) none)) none) (text (codes "tu") none)
 built_in_result = (_, built_in_rules, refl)
@@ -150,31 +150,31 @@ by_priority :
     IsResultOf (sheet 1 (record { mode = 0; pattern = steps_pattern (step true (of_name a) always (child b)); priority = pos 5000; body = empty_element p } ∷ rule b 0 (empty_element r) ∷ rule b 0 (empty_element s) ∷ []))
     (element a (element b none (element c (element b none none) none)) none) (element p none (element s none none))
 by_priority =
-    (_, (_, does_apply (on_one (does_apply (on_one (does_element does_done does_done) (on_one (does_apply (on_one (does_element does_done does_done) on_none) does_done) on_none)) does_done) on_none) does_done, refl), refl)
+    (_, (_, does_apply (on_one (does_apply (on_one (does_element does_no_instruction does_no_instruction) (on_one (does_apply (on_one (does_element does_no_instruction does_no_instruction) on_none) does_no_instruction) on_none)) does_no_instruction) on_none) does_no_instruction, refl), refl)
 
 -- an empty text puts out nothing and costs nothing; adjacent texts are one in the result
-empty_text : (rules : List Rule) (named : List Body) (d : Chain) (h : Done) → Does rules named (put_text [] done) d h → h ≡ record { out = none; work = 0; depth = 1 }
-empty_text rules named d h e = does_unique e (does_text does_done)
+empty_text : (rules : List Rule) (named : List Body) (d : Chain) (h : Outcome) → Does rules named (put_text [] no_instruction) d h → h ≡ record { out = none; work = 0; nesting = 1 }
+empty_text rules named d h e = does_unique e (does_text does_no_instruction)
 
 adjacent_texts :
-    IsResultOf (sheet 1 (root_rule (put_element x (put_text (codes "u") (put_text [] (put_text (codes "v") done))) done) ∷ [])) (element a none none) (element x (text (codes "uv") none) none)
-adjacent_texts = (_, (_, does_element (does_text (does_text (does_text does_done))) does_done, refl), refl)
+    IsResultOf (sheet 1 (root_rule (put_element x (put_text (codes "u") (put_text [] (put_text (codes "v") no_instruction))) no_instruction) ∷ [])) (element a none none) (element x (text (codes "uv") none) none)
+adjacent_texts = (_, (_, does_element (does_text (does_text (does_text does_no_instruction))) does_no_instruction, refl), refl)
 
 -- a rule that puts out an element and goes on twice, on `a` in `a`: the root's body and `r`, and three bodies and elements
 abbrev twice : Sheet
-twice = sheet 1 (root_rule (put_element r (apply all_children 0 done) done) ∷ rule a 0 (put_element x done (apply all_children 0 (apply all_children 0 done))) ∷ [])
+twice = sheet 1 (root_rule (put_element r (apply all_children 0 no_instruction) no_instruction) ∷ rule a 0 (put_element x no_instruction (apply all_children 0 (apply all_children 0 no_instruction))) ∷ [])
 
-doubled : Transforms twice (element a (element a none none) none) (record { out = element r (element x none (element x none (element x none none))) none; work = 8; depth = 7 })
+doubled : Transforms twice (element a (element a none none) none) (record { out = element r (element x none (element x none (element x none none))) none; work = 8; nesting = 7 })
 doubled =
-    let inner = does_element does_done (does_apply on_none (does_apply on_none does_done)) in
-    (_, does_element (does_apply (on_one (does_element does_done (does_apply (on_one inner on_none) (does_apply (on_one inner on_none) does_done))) on_none) does_done) does_done, refl)
+    let inner = does_element does_no_instruction (does_apply on_none (does_apply on_none does_no_instruction)) in
+    (_, does_element (does_apply (on_one (does_element does_no_instruction (does_apply (on_one inner on_none) (does_apply (on_one inner on_none) does_no_instruction))) on_none) does_no_instruction) does_no_instruction, refl)
 
 -- a for-each in a named body: three bodies and an element
 abbrev called : Sheet
-called = record { modes = 1; eaches = 1; rules = root_rule (call 0 done) ∷ []; named = for_each 0 all_children (empty_element x) done ∷ [] }
+called = record { modes = 1; eaches = 1; rules = root_rule (call 0 no_instruction) ∷ []; named = for_each 0 all_children (empty_element x) no_instruction ∷ [] }
 
-called_once : Transforms called (element a none none) (record { out = element x none none; work = 4; depth = 6 })
-called_once = (_, does_call _ refl (does_for_each (on_one (does_element does_done does_done) on_none) does_done) does_done, refl)
+called_once : Transforms called (element a none none) (record { out = element x none none; work = 4; nesting = 6 })
+called_once = (_, does_call _ refl (does_for_each (on_one (does_element does_no_instruction does_no_instruction) on_none) does_no_instruction) does_no_instruction, refl)
 
 -- it is well-formed
 x_is_name : IsName x
@@ -195,9 +195,9 @@ called_is_sheet =
     let one : ForEach = record { number = 0; path = all_children; body = empty_element x } in
     record {
       modes = omega arith;
-      rules = all_of_one (IsRule called) (root_rule (call 0 done)) (record { mode = omega arith; pattern = tt; body = (omega arith, tt) });
-      named = all_of_one (IsBody called) (for_each 0 all_children (empty_element x) done) (omega arith, children_is_path, (x_is_name, tt, tt), tt);
-      calls = all_of_one (λ i. (o : Plain) × Unfolds called.named i o) (for_each 0 all_children (empty_element x) done) (_, u_each (u_element u_done u_done) u_done);
+      rules = all_of_one (IsRule called) (root_rule (call 0 no_instruction)) (record { mode = omega arith; pattern = tt; body = (omega arith, tt) });
+      named = all_of_one (IsBody called) (for_each 0 all_children (empty_element x) no_instruction) (omega arith, children_is_path, (x_is_name, tt, tt), tt);
+      calls = all_of_one (λ i. (o : Plain) × Unfolds called.named i o) (for_each 0 all_children (empty_element x) no_instruction) (_, u_each (u_element u_done u_done) u_done);
       same_eaches = λ f g i j e. sym (at_one one f i.0 i.1 i.2) ∙ at_one one g j.0 j.1 j.2;
       each_number = λ i h. (one, (0, omega arith, refl), omega arith);
     }

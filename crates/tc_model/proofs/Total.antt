@@ -2,8 +2,8 @@
 use Rattle.std.proofs.Common.{◌≡◌, ℕ, List, [], ◌∷◌, ◌++◌, refl, ap, ◌∙◌, subst, Bool}
 use Rattle.tc_model.specs.Trees.{Trees, none, normal_form}
 use Rattle.tc_model.specs.Chains.{Tree, Chain, top, under, node_of, down}
-use Rattle.tc_model.specs.Sheets.{Test, always, never, has, negated, every, some, Tests, no_test, test, Sheet, Plain, p_done, p_text, p_element, p_copy, p_apply, p_call, p_value, p_self, p_choose, p_each, PlainBranches, p_otherwise, p_branch, Unfolds}
-use Rattle.tc_model.specs.Done.{Done, counted}
+use Rattle.tc_model.specs.Sheets.{Test, always, never, has, negated, all_of, any_of, Tests, no_test, test, Sheet, Plain, p_done, p_text, p_element, p_copy, p_apply, p_call, p_value, p_self, p_choose, p_each, PlainBranches, p_otherwise, p_branch, Unfolds}
+use Rattle.tc_model.specs.Outcomes.{Outcome, counted}
 use Rattle.tc_model.specs.Paths.{any_along}
 use Rattle.tc_model.specs.Meaning.{Job, by_mode, by_body, built_in, body_or, body_of}
 use Rattle.tc_model.specs.Machine.{Task, in_mode, in_body, JobUnfolds, u_mode, u_body, known_test, known_tests, known, known_branches, Machine, move_picks, look_picks, above, does_at, plain_at, IsMachineOf, IsSteady}
@@ -77,8 +77,8 @@ module _ (s : Sheet) (is : IsSheet s) where
     test_known never = tt
     test_known (has p) = tt
     test_known (negated t) = test_known t
-    test_known (every ts) = tests_known ts
-    test_known (some ts) = tests_known ts
+    test_known (all_of ts) = tests_known ts
+    test_known (any_of ts) = tests_known ts
 
     tests_known : (ts : Tests) → known_tests chains.KnownMove chains.KnownLook ts
     tests_known no_test = tt
@@ -124,12 +124,12 @@ module _ (s : Sheet) (is : IsSheet s) where
         bodies = λ q c t i k. all_known (chains.body_at (chains.task_of q) c t);
       }
 
-  does_total : (j : Job) (k : Task) → JobUnfolds s.named j k → (c : Chain) → (done : Done) × Instantiates s j c done
+  does_total : (j : Job) (k : Task) → JobUnfolds s.named j k → (c : Chain) → (outcome : Outcome) × Instantiates s j c outcome
   does_total j k u c =
       let p = plain_at chains k c in
       (counted (does_at chains p c), (does_at chains p c, does_complete s.rules s.named chains chains_tell (body_of s.rules j c) p c (chains_tell.ruled j k c u) (all_known p), refl))
 
-  pub instantiates_total : (j : Job) → IsJob s j → (c : Chain) → (done : Done) × Instantiates s j c done
+  pub instantiates_total : (j : Job) → IsJob s j → (c : Chain) → (outcome : Outcome) × Instantiates s j c outcome
   instantiates_total (by_mode m) i c = does_total (by_mode m) (in_mode m) u_mode c
   instantiates_total (by_body b) i c = let unfolded = body_unfolds s is b i in does_total (by_body b) (in_body unfolded.0) (u_body unfolded.1) c
 

@@ -1,7 +1,7 @@
 -- What stands above a node matters to no test and no path from it.
 use Rattle.std.proofs.Common.{◌≡◌, List, [], ◌∷◌, refl, ap, ◌∙◌, map, Bool, true, false, cond, filter, not, ◌&&◌, ◌||◌, is_some}
 use Rattle.tc_model.specs.Chains.{Tree, Chain, under, below, onto, node_of, children, found, first_node, root_of, down}
-use Rattle.tc_model.specs.Sheets.{Steps, no_step, step, Path, no_way, way, Test, always, never, has, negated, every, some, Tests, no_test, test, MatchPattern, root_pattern, steps_pattern}
+use Rattle.tc_model.specs.Sheets.{Steps, no_step, step, Path, no_alternative, alternative, Test, always, never, has, negated, all_of, any_of, Tests, no_test, test, MatchPattern, root_pattern, steps_pattern}
 use Rattle.tc_model.specs.Paths.{passes, stride, along, any_along, holds, all_hold, some_holds, fits, is_end}
 
 both_same : (a b c d : Bool) → a ≡ b → c ≡ d → (a && c) ≡ (b && d)
@@ -37,8 +37,8 @@ mutual
       (λ u e f. ap (λ w. passes t u && w) (holds_above when (under e u) (under f u) refl)) (λ e f us. along_above ss e f us) c d ts
 
   pub any_above : (p : Path) (c d : Chain) (ts : List Tree) → any_along p c ts ≡ any_along p d ts
-  any_above no_way c d ts = refl
-  any_above (way ss p) c d ts = one_same _ _ _ _ (along_above ss c d ts) (any_above p c d ts)
+  any_above no_alternative c d ts = refl
+  any_above (alternative ss p) c d ts = one_same _ _ _ _ (along_above ss c d ts) (any_above p c d ts)
 
   pub holds_above : (w : Test) (c d : Chain) → children (node_of c) ≡ children (node_of d) → holds w c ≡ holds w d
   holds_above always c d e = refl
@@ -47,8 +47,8 @@ mutual
       some_same (λ w. any_along p c w) (λ w. any_along p d w) c d (λ ts. any_above p c d ts) (below (children (node_of c)))
       ∙ ap (λ h. is_some (first_node (found (λ w. any_along p d w) d (below h)))) e
   holds_above (negated t) c d e = ap not (holds_above t c d e)
-  holds_above (every ts) c d e = all_above ts c d e
-  holds_above (some ts) c d e = some_above ts c d e
+  holds_above (all_of ts) c d e = all_above ts c d e
+  holds_above (any_of ts) c d e = some_above ts c d e
 
   all_above : (ts : Tests) (c d : Chain) → children (node_of c) ≡ children (node_of d) → all_hold ts c ≡ all_hold ts d
   all_above no_test c d e = refl

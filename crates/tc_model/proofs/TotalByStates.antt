@@ -2,9 +2,9 @@
 use Rattle.std.proofs.Common.{◌≡◌, List, [], ◌∷◌, ◌++◌, refl, ap, ◌∙◌, sym, Bool, true, false, cond, not, ◌&&◌, ◌||◌, Option, Some, None, is_some}
 use Rattle.tc_model.specs.Trees.{Trees, none, text, element}
 use Rattle.tc_model.specs.Chains.{Tree, an_element, a_text, Chain, under, below, found, first_node, Node, one, node_of, children}
-use Rattle.tc_model.specs.Sheets.{Path, Test, always, never, has, negated, every, some, Tests, no_test, test, Body, Rule}
+use Rattle.tc_model.specs.Sheets.{Path, Test, always, never, has, negated, all_of, any_of, Tests, no_test, test, Body, Rule}
 use Rattle.tc_model.specs.Paths.{any_along, holds, all_hold, some_holds, selected}
-use Rattle.tc_model.specs.Done.{Done, nothing, join, counted}
+use Rattle.tc_model.specs.Outcomes.{Outcome, nothing, join, counted}
 use Rattle.tc_model.specs.Machine.{Machine, or_else, move_picks, look_picks, known_test, known_tests, above, first_hit, holds_in, all_hold_in, some_holds_in, outputs, does_at, plain_at, Task, IsMachineOf}
 use Rattle.tc_model.proofs.TotalJoin.{none_join, join_assoc}
 use Rattle.tc_model.proofs.TotalSelected.{found_text, found_element}
@@ -53,8 +53,8 @@ module _ (rules : List Rule) (named : List Body) (m : Machine) (of : IsMachineOf
     test_holds never k c = refl
     test_holds (has p) k c = ap is_some (first_selected p k c)
     test_holds (negated t) k c = ap not (test_holds t k c)
-    test_holds (every ts) k c = tests_hold ts k c
-    test_holds (some ts) k c = some_test_holds ts k c
+    test_holds (all_of ts) k c = tests_hold ts k c
+    test_holds (any_of ts) k c = some_test_holds ts k c
 
     tests_hold : (ts : Tests) → known_tests m.KnownMove m.KnownLook ts → (c : Chain) → all_hold ts c ≡ all_hold_in m ts (children (node_of c))
     tests_hold no_test k c = refl
@@ -65,7 +65,7 @@ module _ (rules : List Rule) (named : List Body) (m : Machine) (of : IsMachineOf
     some_test_holds (test t ts) k c = ap (λ w. w || some_holds ts c) (test_holds t k.0 c) ∙ ap (λ w. holds_in m t (children (node_of c)) || w) (some_test_holds ts k.1 c)
 
   -- what a job puts out on several nodes, by states
-  abbrev pub all_at : Task → List Chain → Done
+  abbrev pub all_at : Task → List Chain → Outcome
   all_at j [] = nothing
   all_at j (c ∷ cs) = join (counted (does_at m (plain_at m j c) c)) (all_at j cs)
 
@@ -73,13 +73,13 @@ module _ (rules : List Rule) (named : List Body) (m : Machine) (of : IsMachineOf
   all_append j [] ds = sym (none_join (all_at j ds))
   all_append j (c ∷ cs) ds = ap (join (counted (does_at m (plain_at m j c) c))) (all_append j cs ds) ∙ sym (join_assoc (counted (does_at m (plain_at m j c) c)) (all_at j cs) (all_at j ds))
 
-  all_of : (p : Bool) (j : Task) (c : Chain) (cs : List Chain) → all_at j (cond p (c ∷ []) [] ++ cs) ≡ join (cond p (counted (does_at m (plain_at m j c) c)) nothing) (all_at j cs)
-  all_of true j c cs = refl
-  all_of false j c cs = sym (none_join (all_at j cs))
+  all_if : (p : Bool) (j : Task) (c : Chain) (cs : List Chain) → all_at j (cond p (c ∷ []) [] ++ cs) ≡ join (cond p (counted (does_at m (plain_at m j c) c)) nothing) (all_at j cs)
+  all_if true j c cs = refl
+  all_if false j c cs = sym (none_join (all_at j cs))
 
   hit_put_out : (p : Bool) (s : m.Move) (j : Task) (c : Chain) (t : Tree) (cs : List Chain) → p ≡ m.move_hits s (m.letter t)
       → all_at j (cond p (under c t ∷ []) [] ++ cs) ≡ join (cond (m.move_hits s (m.letter t)) (counted (does_at m (plain_at m j (under c t)) (under c t))) nothing) (all_at j cs)
-  hit_put_out p s j c t cs e = all_of p j (under c t) cs ∙ ap (λ b. join (cond b (counted (does_at m (plain_at m j (under c t)) (under c t))) nothing) (all_at j cs)) e
+  hit_put_out p s j c t cs e = all_if p j (under c t) cs ∙ ap (λ b. join (cond b (counted (does_at m (plain_at m j (under c t)) (under c t))) nothing) (all_at j cs)) e
 
   -- what is put out on all nodes that are selected is what is put out on the hits
   pub all_found : (h : Trees) (j : Task) (c : Chain) (s : m.Move) (p : List Tree → Bool) → ((t : Tree) (ts : List Tree) → p (t ∷ ts) ≡ move_picks m s (t ∷ ts))

@@ -3,9 +3,9 @@ use Rattle.std.proofs.Common.{◌≡◌, ℕ, List, [], ◌∷◌, ◌++◌, ref
 use Rattle.tc_model.specs.Trees.{Trees, none, text, element}
 use Rattle.tc_model.specs.Chains.{Tree, an_element, a_text, Chain, under, below, found, nodes_where, Node, whole, one, node_of, children, string_value}
 use Rattle.tc_model.specs.Sheets.{Test, Body, copy, apply, for_each, value, Branches, branch, Rule, Plain, p_copy, Unfolds, u_done, u_text, u_element, u_copy, u_apply, u_call, u_each, u_value, u_self, u_choose, PlainBranches, BranchesUnfold, u_otherwise, u_branch}
-use Rattle.tc_model.specs.Done.{Done, join, within, counted, put, put_around, copied}
+use Rattle.tc_model.specs.Outcomes.{Outcome, join, within, counted, put, put_around, copied}
 use Rattle.tc_model.specs.Paths.{holds, selected}
-use Rattle.tc_model.specs.Meaning.{value_of_first, Job, by_mode, by_body, body_of, Does, Each, does_done, does_text, does_element, does_copy, does_copy_text, IsInner, does_apply, does_call, does_for_each, does_value, does_self, does_choose, Takes, takes_last, takes_this, takes_later, on_none, on_one}
+use Rattle.tc_model.specs.Meaning.{value_of_first, Job, by_mode, by_body, body_of, Does, Each, does_no_instruction, does_text, does_element, does_copy, does_copy_text, IsInner, does_apply, does_call, does_for_each, does_value, does_self, does_choose, Takes, takes_last, takes_this, takes_later, on_none, on_one}
 use Rattle.tc_model.specs.Machine.{Machine, above, holds_in, outputs, does_at, plain_at, Task, in_mode, in_body, JobUnfolds, u_mode, u_body, takes_in, known, known_branches, known_task, IsMachineOf}
 use Rattle.tc_model.proofs.TotalSelected.{found_text, found_element}
 use Rattle.tc_model.proofs.TotalByStates.{first_selected, test_holds, all_at, all_selected}
@@ -14,15 +14,15 @@ module _ (rules : List Rule) (named : List Body) (m : Machine) (of : IsMachineOf
   same_body : (n : ℕ) (i j : Body) → slice_get named n ≡ Some i → slice_get named n ≡ Some j → j ≡ i
   same_body n i j e f = cc
 
-  abbrev takes_at : PlainBranches → Chain → Done
+  abbrev takes_at : PlainBranches → Chain → Outcome
   takes_at y c = takes_in m y (node_of c) (λ i u. outputs m (children (node_of c)) i (above m c) u)
 
-  joined : (a b c d : Done) → a ≡ b → c ≡ d → join (within a) c ≡ join (within b) d
+  joined : (a b c d : Outcome) → a ≡ b → c ≡ d → join (within a) c ≡ join (within b) d
   joined a b c d e f = λ i. join (within (e i)) (f i)
 
   mutual
-    pub does_sound : {b : Body} {c : Chain} {h : Done} {p : Plain} → Does rules named b c h → Unfolds named b p → known m.KnownMove m.KnownLook p → h ≡ does_at m p c
-    does_sound does_done u_done n = refl
+    pub does_sound : {b : Body} {c : Chain} {h : Outcome} {p : Plain} → Does rules named b c h → Unfolds named b p → known m.KnownMove m.KnownLook p → h ≡ does_at m p c
+    does_sound does_no_instruction u_done n = refl
     does_sound (does_text {x} d) (u_text u) n = ap (join (within (put x))) (does_sound d u n)
     does_sound (does_element {n = a} i d) (u_element v u) n = joined _ _ _ _ (ap (put_around a) (does_sound i v n.0)) (does_sound d u n.1)
     does_sound (does_copy {c} in_it i d) (u_copy v u) n = joined _ _ _ _ (ap (copied (node_of c)) (does_sound i v n.0)) (does_sound d u n.1)
@@ -34,12 +34,12 @@ module _ (rules : List Rule) (named : List Body) (m : Machine) (of : IsMachineOf
     does_sound (does_self {c} d) (u_self u) n = ap (join (within (put (string_value (node_of c))))) (does_sound d u n)
     does_sound (does_choose i d) (u_choose v u) n = joined _ _ _ _ (takes_sound i v n.0) (does_sound d u n.1)
 
-    takes_sound : {x : Branches} {c : Chain} {h : Done} {y : PlainBranches} → Takes rules named x c h → BranchesUnfold named x y → known_branches m.KnownMove m.KnownLook y → h ≡ takes_at y c
+    takes_sound : {x : Branches} {c : Chain} {h : Outcome} {y : PlainBranches} → Takes rules named x c h → BranchesUnfold named x y → known_branches m.KnownMove m.KnownLook y → h ≡ takes_at y c
     takes_sound (takes_last d) (u_otherwise u) n = does_sound d u n
     takes_sound (takes_this {t} {c} e d) (u_branch {p} {y} u v) n = does_sound d u n.1 ∙ ap (λ w. cond w (does_at m p c) (takes_at y c)) (sym e ∙ test_holds rules named m of t n.0 c)
     takes_sound (takes_later {t} {c} e d) (u_branch {p} {y} u v) n = takes_sound d v n.2 ∙ ap (λ w. cond w (does_at m p c) (takes_at y c)) (sym e ∙ test_holds rules named m of t n.0 c)
 
-    pub each_sound : {j : Job} {cs : List Chain} {h : Done} {k : Task} → Each rules named j cs h → JobUnfolds named j k → known_task m.KnownMove m.KnownLook k → h ≡ all_at rules named m of k cs
+    pub each_sound : {j : Job} {cs : List Chain} {h : Outcome} {k : Task} → Each rules named j cs h → JobUnfolds named j k → known_task m.KnownMove m.KnownLook k → h ≡ all_at rules named m of k cs
     each_sound on_none u n = refl
     each_sound {k = j} (on_one {c} {cs} {h} {k} d e) u n =
         ap (λ w. join (counted w) k) (does_sound d (of.ruled _ j c u) (of.knows j c n)) ∙ ap (join (counted (does_at m (plain_at m j c) c))) (each_sound e u n)
@@ -75,7 +75,7 @@ module _ (rules : List Rule) (named : List Body) (m : Machine) (of : IsMachineOf
   module _ (c : Chain) (a : (j : Job) (k : Task) → JobUnfolds named j k → known_task m.KnownMove m.KnownLook k → (p : List Tree → Bool) → AllDo j k (nodes_where p c)) where
     mutual
       does_total : {b : Body} {p : Plain} → Unfolds named b p → known m.KnownMove m.KnownLook p → Does rules named b c (does_at m p c)
-      does_total u_done n = does_done
+      does_total u_done n = does_no_instruction
       does_total (u_text u) n = does_text (does_total u n)
       does_total (u_element v u) n = does_element (does_total v n.0) (does_total u n.1)
       does_total (u_copy {i} {b} {o} {p} v u) n = copy_total i b o p c (node_of c) refl (does_total v n.0) (does_total u n.1)

@@ -1,7 +1,7 @@
 -- What is put out one after the other.
 use Rattle.std.proofs.Common.{◌≡◌, refl, ap, ℕ, ◌+◌, max, arith}
 use Rattle.tc_model.specs.Trees.{Trees, none, text, element, beside}
-use Rattle.tc_model.specs.Done.{Done, nothing, join}
+use Rattle.tc_model.specs.Outcomes.{Outcome, nothing, join}
 
 pub beside_none : (h : Trees) → beside h none ≡ h
 beside_none none = refl
@@ -31,11 +31,11 @@ none_add a = omega arith
 none_max : (a : ℕ) → max 0 a ≡ a
 none_max a = grind arith
 
-pub join_none : (a : Done) → join a nothing ≡ a
-join_none a = λ i. record { out = beside_none a.out i; work = add_none a.work i; depth = max_none a.depth i }
+pub join_none : (a : Outcome) → join a nothing ≡ a
+join_none a = λ i. record { out = beside_none a.out i; work = add_none a.work i; nesting = max_none a.nesting i }
 
-pub none_join : (a : Done) → join nothing a ≡ a
-none_join a = λ i. record { out = a.out; work = none_add a.work i; depth = none_max a.depth i }
+pub none_join : (a : Outcome) → join nothing a ≡ a
+none_join a = λ i. record { out = a.out; work = none_add a.work i; nesting = none_max a.nesting i }
 
-pub join_assoc : (a b c : Done) → join (join a b) c ≡ join a (join b c)
-join_assoc a b c = λ i. record { out = beside_assoc a.out b.out c.out i; work = add_assoc a.work b.work c.work i; depth = max_assoc a.depth b.depth c.depth i }
+pub join_assoc : (a b c : Outcome) → join (join a b) c ≡ join a (join b c)
+join_assoc a b c = λ i. record { out = beside_assoc a.out b.out c.out i; work = add_assoc a.work b.work c.work i; nesting = max_assoc a.nesting b.nesting c.nesting i }

@@ -3,7 +3,7 @@ use Rattle.std.proofs.Common.{◌≡◌, ◌<◌, ℕ, List, [], ◌∷◌, refl
 use Rattle.std.proofs.lemmas.Option.{slice_get-get_or}
 use Rattle.std.proofs.lemmas.List.Elements.{All-get_or, All-head, All-tail}
 use Rattle.tc_model.specs.Chains.{an_element, a_text, Chain, Node, whole, one, node_of, down}
-use Rattle.tc_model.specs.Sheets.{Body, done, put_text, put_element, copy, apply, call, for_each, value, value_of_self, choose, Branches, otherwise, branch, Rule, Sheet, Plain, p_done, p_text, p_element, p_copy, p_apply, p_call, p_value, p_self, p_choose, p_each, PlainBranches, p_otherwise, p_branch, Unfolds, BranchesUnfold, u_done, u_text, u_element, u_copy, u_apply, u_call, u_value, u_self, u_choose, u_each, u_otherwise, u_branch}
+use Rattle.tc_model.specs.Sheets.{Body, no_instruction, put_text, put_element, copy, apply, call, for_each, value, value_of_self, choose, Branches, otherwise, branch, Rule, Sheet, Plain, p_done, p_text, p_element, p_copy, p_apply, p_call, p_value, p_self, p_choose, p_each, PlainBranches, p_otherwise, p_branch, Unfolds, BranchesUnfold, u_done, u_text, u_element, u_copy, u_apply, u_call, u_value, u_self, u_choose, u_each, u_otherwise, u_branch}
 use Rattle.tc_model.specs.Paths.{fits}
 use Rattle.tc_model.specs.Meaning.{by_mode, built_in, better, body_or, rule_of, body_of}
 use Rattle.tc_model.specs.WellFormed.{IsBody, AreBranches, IsRule, IsSheet}
@@ -15,12 +15,12 @@ module _ (s : Sheet) (is : IsSheet s) where
 
   call_unfolds : (n : ℕ) (b : Body) → n < length s.named → BodyUnfolds b → BodyUnfolds (call n b)
   call_unfolds n b h rest =
-      let inner = All-get_or BodyUnfolds s.named n done h is.calls in
-      (p_call inner.0 rest.0, u_call (slice_get-get_or s.named n done h) inner.1 rest.1)
+      let inner = All-get_or BodyUnfolds s.named n no_instruction h is.calls in
+      (p_call inner.0 rest.0, u_call (slice_get-get_or s.named n no_instruction h) inner.1 rest.1)
 
   mutual
     pub body_unfolds : (b : Body) → IsBody s b → BodyUnfolds b
-    body_unfolds done i = (p_done, u_done)
+    body_unfolds no_instruction i = (p_done, u_done)
     body_unfolds (put_text x b) i = let rest = body_unfolds b i.1 in (p_text x rest.0, u_text rest.1)
     body_unfolds (put_element n inner b) i =
         let in_it = body_unfolds inner i.1 in let rest = body_unfolds b i.2 in (p_element n in_it.0 rest.0, u_element in_it.1 rest.1)

@@ -5,7 +5,7 @@ use Rattle.tc_model.specs.Grammars.{Grammar}
 use Rattle.tc_model.specs.Validity.{IsValid, IsValidOutput}
 use Rattle.tc_model.specs.Chains.{Chain}
 use Rattle.tc_model.specs.Sheets.{Rule, Sheet}
-use Rattle.tc_model.specs.Done.{Done}
+use Rattle.tc_model.specs.Outcomes.{Outcome}
 use Rattle.tc_model.specs.Paths.{fits}
 use Rattle.tc_model.specs.Meaning.{Job, by_mode, by_body, rule_of}
 use Rattle.tc_model.specs.WellFormed.{IsBody, IsSheet}
@@ -35,11 +35,11 @@ IsJob s (by_body b) = IsBody s b
 
 -- no two things are put out
 abbrev pub IsUnique : Type 0
-IsUnique = (s : Sheet) (j : Job) (c : Chain) (x y : Done) → Instantiates s j c x → Instantiates s j c y → x ≡ y
+IsUnique = (s : Sheet) (j : Job) (c : Chain) (x y : Outcome) → Instantiates s j c x → Instantiates s j c y → x ≡ y
 
 -- something is
 abbrev pub IsTotal : Type 0
-IsTotal = (s : Sheet) → IsSheet s → (j : Job) → IsJob s j → (c : Chain) → (done : Done) × Instantiates s j c done
+IsTotal = (s : Sheet) → IsSheet s → (j : Job) → IsJob s j → (c : Chain) → (outcome : Outcome) × Instantiates s j c outcome
 
 -- each document has a result, and no other
 abbrev pub HasOneResult : Type 0

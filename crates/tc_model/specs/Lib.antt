@@ -7,7 +7,7 @@ pub mod Validity
 pub mod Sheets
 pub mod Chains
 pub mod Paths
-pub mod Done
+pub mod Outcomes
 pub mod Meaning
 pub mod Machine
 pub mod WellFormed

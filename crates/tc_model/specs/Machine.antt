@@ -2,8 +2,8 @@
 use Rattle.std.specs.Prelude.{◌≡◌, ℕ, List, [], ◌∷◌, Bool, true, false, ◌&&◌, ◌||◌, not, cond, Option, Some, None, is_some}
 use Rattle.tc_model.specs.Trees.{Trees, none, text, element}
 use Rattle.tc_model.specs.Chains.{Tree, an_element, a_text, Chain, top, under, Node, one, node_of, children, string_value}
-use Rattle.tc_model.specs.Sheets.{Path, Test, always, never, has, negated, every, some, Tests, no_test, test, Body, Rule, Plain, p_done, p_text, p_element, p_copy, p_apply, p_call, p_value, p_self, p_choose, p_each, PlainBranches, p_otherwise, p_branch, Unfolds}
-use Rattle.tc_model.specs.Done.{Done, nothing, join, within, counted, put, put_around, copied}
+use Rattle.tc_model.specs.Sheets.{Path, Test, always, never, has, negated, all_of, any_of, Tests, no_test, test, Body, Rule, Plain, p_done, p_text, p_element, p_copy, p_apply, p_call, p_value, p_self, p_choose, p_each, PlainBranches, p_otherwise, p_branch, Unfolds}
+use Rattle.tc_model.specs.Outcomes.{Outcome, nothing, join, within, counted, put, put_around, copied}
 use Rattle.tc_model.specs.Paths.{any_along}
 use Rattle.tc_model.specs.Meaning.{value_of_first, Job, by_mode, by_body, body_of}
 
@@ -24,8 +24,8 @@ module _ (Move : Task → Path → Type 0) (Look : Path → Type 0) where
     known_test never = Unit {0}
     known_test (has p) = Look p
     known_test (negated t) = known_test t
-    known_test (every ts) = known_tests ts
-    known_test (some ts) = known_tests ts
+    known_test (all_of ts) = known_tests ts
+    known_test (any_of ts) = known_tests ts
 
     pub known_tests : Tests → Type 0
     known_tests no_test = Unit {0}
@@ -111,8 +111,8 @@ module _ (m : Machine) where
     holds_in never h = false
     holds_in (has p) h = is_some (first_hit h (m.look_first p))
     holds_in (negated t) h = not (holds_in t h)
-    holds_in (every ts) h = all_hold_in ts h
-    holds_in (some ts) h = some_holds_in ts h
+    holds_in (all_of ts) h = all_hold_in ts h
+    holds_in (any_of ts) h = some_holds_in ts h
 
     pub all_hold_in : Tests → Trees → Bool
     all_hold_in no_test h = true
@@ -124,7 +124,7 @@ module _ (m : Machine) where
 
   -- what a body puts out on a node, where `outs` is what tasks put out on what is selected below it
   abbrev mutual
-    pub does_in : Plain → Node → (Task → m.Move → Done) → Done
+    pub does_in : Plain → Node → (Task → m.Move → Outcome) → Outcome
     does_in p_done n outs = nothing
     does_in (p_text x b) n outs = join (within (put x)) (does_in b n outs)
     does_in (p_element a inner b) n outs = join (within (put_around a (does_in inner n outs))) (does_in b n outs)
@@ -136,12 +136,12 @@ module _ (m : Machine) where
     does_in (p_choose x b) n outs = join (within (takes_in x n outs)) (does_in b n outs)
     does_in (p_each e p inner b) n outs = join (within (outs (in_body inner) (m.move_first (in_body inner) p))) (does_in b n outs)
 
-    pub takes_in : PlainBranches → Node → (Task → m.Move → Done) → Done
+    pub takes_in : PlainBranches → Node → (Task → m.Move → Outcome) → Outcome
     takes_in (p_otherwise b) n outs = does_in b n outs
     takes_in (p_branch t b x) n outs = cond (holds_in t (children n)) (does_in b n outs) (takes_in x n outs)
 
   -- what a task puts out on the hits of a state in trees and below, from the state of the match patterns above them
-  abbrev pub outputs : Trees → Task → m.Above → m.Move → Done
+  abbrev pub outputs : Trees → Task → m.Above → m.Move → Outcome
   outputs none j q s = nothing
   outputs (text x rest) j q s =
       join (cond (m.move_hits s (m.letter (a_text x))) (counted (does_in (m.body_at j q (m.letter (a_text x))) (one (a_text x)) (λ i u. nothing))) nothing) (outputs rest j q s)
@@ -151,7 +151,7 @@ module _ (m : Machine) where
       (join (outputs kids j (m.down_to q (m.letter (an_element n kids))) (m.move_step s (m.letter (an_element n kids)))) (outputs rest j q s))
 
   -- what a body puts out on a node
-  abbrev pub does_at : Plain → Chain → Done
+  abbrev pub does_at : Plain → Chain → Outcome
   does_at b c = does_in b (node_of c) (λ i u. outputs (children (node_of c)) i (above c) u)
 
   -- the body of a task on a node

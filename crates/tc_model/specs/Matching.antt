@@ -30,7 +30,7 @@ mutual
     -- 6.2.4
     m_text : {h : Trees} → AreTexts h → Matches g h p.text
     -- 6.2.5
-    m_more : {h : Trees} {q : Pattern} → Repeated g h q → Matches g h (p.one_or_more q)
+    m_one_or_more : {h : Trees} {q : Pattern} → Repeated g h q → Matches g h (p.one_or_more q)
     -- 6.2.6
     m_interleave : {h : Trees} {ps : Patterns} → Shuffled g h ps → Matches g h (p.interleave ps)
     -- 6.2.7: one element, whose name is in the class and whose children match the content

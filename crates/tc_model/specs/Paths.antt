@@ -2,7 +2,7 @@
 use Rattle.std.specs.Prelude.{List, [], ◌∷◌, Bool, true, false, ◌&&◌, ◌||◌, not, bytes_eq, is_some}
 use Rattle.tc_model.specs.Names.{same_name}
 use Rattle.tc_model.specs.Chains.{Tree, an_element, a_text, Chain, under, root_of, down, nodes_where, first_node}
-use Rattle.tc_model.specs.Sheets.{NodeTest, of_name, of_namespace, any_element, any_text, any_node, Steps, no_step, step, Path, no_way, way, Test, always, never, has, negated, every, some, Tests, no_test, test, MatchPattern, root_pattern, steps_pattern}
+use Rattle.tc_model.specs.Sheets.{NodeTest, of_name, of_namespace, any_element, any_text, any_node, Steps, no_step, step, Path, no_alternative, alternative, Test, always, never, has, negated, all_of, any_of, Tests, no_test, test, MatchPattern, root_pattern, steps_pattern}
 
 -- a tree passes a node test (XPath, 2.3)
 abbrev pub passes : NodeTest → Tree → Bool
@@ -34,8 +34,8 @@ abbrev mutual
 
   -- some alternative does
   pub any_along : Path → Chain → List Tree → Bool
-  any_along no_way c ts = false
-  any_along (way ss p) c ts = along ss c ts || any_along p c ts
+  any_along no_alternative c ts = false
+  any_along (alternative ss p) c ts = along ss c ts || any_along p c ts
 
   -- a test or a predicate holds on a node (XPath, 2.4, 3.4, 4.3)
   pub holds : Test → Chain → Bool
@@ -43,8 +43,8 @@ abbrev mutual
   holds never c = false
   holds (has p) c = is_some (first_node (nodes_where (λ d. any_along p c d) c))
   holds (negated t) c = not (holds t c)
-  holds (every ts) c = all_hold ts c
-  holds (some ts) c = some_holds ts c
+  holds (all_of ts) c = all_hold ts c
+  holds (any_of ts) c = some_holds ts c
 
   pub all_hold : Tests → Chain → Bool
   all_hold no_test c = true

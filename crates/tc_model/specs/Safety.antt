@@ -5,20 +5,20 @@ use Rattle.tc_model.specs.Grammars.{Grammar}
 use Rattle.tc_model.specs.Validity.{IsValid, IsValidOutput}
 use Rattle.tc_model.specs.Sheets.{Sheet}
 use Rattle.tc_model.specs.Chains.{Chain, top}
-use Rattle.tc_model.specs.Done.{Done, counted}
+use Rattle.tc_model.specs.Outcomes.{Outcome, counted}
 use Rattle.tc_model.specs.Meaning.{Job, by_mode, body_of, Does}
 
 -- what a stylesheet does on a node in a mode, or by the body of a for-each (XSLT, 5.1)
-abbrev pub Instantiates : Sheet → Job → Chain → Done → Type 0
-Instantiates s j c done = (inner : Done) × Does s.rules s.named (body_of s.rules j c) c inner × (done ≡ counted inner)
+abbrev pub Instantiates : Sheet → Job → Chain → Outcome → Type 0
+Instantiates s j c outcome = (inner : Outcome) × Does s.rules s.named (body_of s.rules j c) c inner × (outcome ≡ counted inner)
 
 -- on the root of a document, in the default mode
-abbrev pub Transforms : Sheet → Trees → Done → Type 0
-Transforms s doc done = Instantiates s (by_mode 0) (top doc) done
+abbrev pub Transforms : Sheet → Trees → Outcome → Type 0
+Transforms s doc outcome = Instantiates s (by_mode 0) (top doc) outcome
 
 -- the result of a document: the normal form of what is put out
 abbrev pub IsResultOf : Sheet → Trees → Trees → Type 0
-IsResultOf s doc result = (done : Done) × Transforms s doc done × (result ≡ normal_form done.out)
+IsResultOf s doc result = (outcome : Outcome) × Transforms s doc outcome × (result ≡ normal_form outcome.out)
 
 -- every valid document has a result, and it is valid
 abbrev pub IsSafe : Grammar → Grammar → Sheet → Type 0

@@ -18,16 +18,16 @@ mutual
 
   -- alternatives
   pub data Path : Type 0 where
-    no_way : Path
-    way : Steps → Path → Path
+    no_alternative : Path
+    alternative : Steps → Path → Path
 
   pub data Test : Type 0 where
     always : Test
     never : Test
     has : Path → Test
     negated : Test → Test
-    every : Tests → Test
-    some : Tests → Test
+    all_of : Tests → Test
+    any_of : Tests → Test
 
   pub data Tests : Type 0 where
     no_test : Tests
@@ -36,7 +36,7 @@ mutual
 mutual
   -- each instruction, and those after it
   pub data Body : Type 0 where
-    done : Body
+    no_instruction : Body
     put_text : List ℕ → Body → Body
     put_element : ExpandedName → Body → Body → Body
     copy : Body → Body → Body
@@ -93,7 +93,7 @@ mutual
 mutual
   -- which one: a body has one exactly where each chain of calls from it ends
   pub data Unfolds (named : List Body) : Body → Plain → Type 0 where
-    u_done : Unfolds named done p_done
+    u_done : Unfolds named no_instruction p_done
     u_text : {x : List ℕ} {b : Body} {p : Plain} → Unfolds named b p → Unfolds named (put_text x b) (p_text x p)
     u_element : {n : ExpandedName} {i b : Body} {o p : Plain} → Unfolds named i o → Unfolds named b p → Unfolds named (put_element n i b) (p_element n o p)
     u_copy : {i b : Body} {o p : Plain} → Unfolds named i o → Unfolds named b p → Unfolds named (copy i b) (p_copy o p)

@@ -1,7 +1,7 @@
 -- Which stylesheets are well-formed.
 use Rattle.std.specs.Prelude.{◌≡◌, ◌≢◌, ◌<◌, ◌≤◌, ℕ, List, [], ◌∷◌, ◌++◌, length, All, Contains, flat_map}
 use Rattle.tc_model.specs.Names.{IsChars, IsName, IsNamespaceName}
-use Rattle.tc_model.specs.Sheets.{NodeTest, of_name, of_namespace, any_element, any_text, any_node, Steps, no_step, step, Path, no_way, way, Test, always, never, has, negated, every, some, Tests, no_test, test, MatchPattern, root_pattern, steps_pattern, Body, done, put_text, put_element, copy, apply, call, for_each, value, value_of_self, choose, Branches, otherwise, branch, Rule, Sheet, Plain, Unfolds}
+use Rattle.tc_model.specs.Sheets.{NodeTest, of_name, of_namespace, any_element, any_text, any_node, Steps, no_step, step, Path, no_alternative, alternative, Test, always, never, has, negated, all_of, any_of, Tests, no_test, test, MatchPattern, root_pattern, steps_pattern, Body, no_instruction, put_text, put_element, copy, apply, call, for_each, value, value_of_self, choose, Branches, otherwise, branch, Rule, Sheet, Plain, Unfolds}
 
 abbrev pub IsNodeTest : NodeTest → Type 0
 IsNodeTest (of_name n) = IsName n
@@ -18,16 +18,16 @@ abbrev mutual
 
   -- and no alternative is without a step
   pub IsPath : Path → Type 0
-  IsPath no_way = Unit {0}
-  IsPath (way ss p) = (ss ≢ no_step) × AreSteps ss × IsPath p
+  IsPath no_alternative = Unit {0}
+  IsPath (alternative ss p) = (ss ≢ no_step) × AreSteps ss × IsPath p
 
   pub IsTest : Test → Type 0
   IsTest always = Unit {0}
   IsTest never = Unit {0}
   IsTest (has p) = IsPath p
   IsTest (negated t) = IsTest t
-  IsTest (every ts) = AreTests ts
-  IsTest (some ts) = AreTests ts
+  IsTest (all_of ts) = AreTests ts
+  IsTest (any_of ts) = AreTests ts
 
   pub AreTests : Tests → Type 0
   AreTests no_test = Unit {0}
@@ -40,9 +40,9 @@ IsMatchPattern (steps_pattern ss) = (ss ≢ no_step) × AreSteps ss
 
 module _ (s : Sheet) where
   abbrev mutual
-    -- names and characters are lawful, and modes, named bodies and for-eaches are those of the sheet
+    -- names and characters are lawful, and modes, named bodies and for-each instructions are those of the sheet
     pub IsBody : Body → Type 0
-    IsBody done = Unit {0}
+    IsBody no_instruction = Unit {0}
     IsBody (put_text x b) = IsChars x × IsBody b
     IsBody (put_element n inner b) = IsName n × IsBody inner × IsBody b
     IsBody (copy inner b) = IsBody inner × IsBody b
@@ -68,9 +68,9 @@ pub record ForEach : Type 0 where
   pub body : Body
 
 abbrev mutual
-  -- the for-eaches of a body, at any depth
+  -- the for-each instructions of a body, at any depth
   pub eaches_in : Body → List ForEach
-  eaches_in done = []
+  eaches_in no_instruction = []
   eaches_in (put_text x b) = eaches_in b
   eaches_in (put_element n inner b) = eaches_in inner ++ eaches_in b
   eaches_in (copy inner b) = eaches_in inner ++ eaches_in b
@@ -85,7 +85,7 @@ abbrev mutual
   eaches_in_branches (otherwise b) = eaches_in b
   eaches_in_branches (branch t b x) = eaches_in b ++ eaches_in_branches x
 
--- all for-eaches of a sheet
+-- all for-each instructions of a sheet
 abbrev pub eaches_of : Sheet → List ForEach
 eaches_of s = flat_map (λ r. eaches_in r.body) s.rules ++ flat_map (λ b. eaches_in b) s.named
 

@@ -5,7 +5,7 @@ use Rattle.tc_model.specs.Names.{ExpandedName}
 use Rattle.tc_model.specs.Trees.{Trees, none, text, element}
 use Rattle.tc_model.specs.Grammars as p
 use Rattle.tc_model.specs.Grammars.{Pattern, ElementPattern, Grammar, no_more, more}
-use Rattle.tc_model.specs.Sheets.{Sheet, Body, done, put_text, put_element, root_pattern}
+use Rattle.tc_model.specs.Sheets.{Sheet, Body, no_instruction, put_text, put_element, root_pattern}
 
 -- the keywords of the compact syntax (ISO/IEC 19757-2)
 abbrev pub keywords : List (List ℕ)
@@ -66,7 +66,7 @@ grammar_of s = record { start = p.ref 1; elements = elements_from 1 s }
 
 -- the instructions that put out trees
 abbrev pub body_of : Trees → Body
-body_of none = done
+body_of none = no_instruction
 body_of (text s rest) = put_text s (body_of rest)
 body_of (element n kids rest) = put_element n (body_of kids) (body_of rest)
 

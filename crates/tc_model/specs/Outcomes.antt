@@ -5,36 +5,36 @@ use Rattle.tc_model.specs.Trees.{Trees, none, text, element, beside}
 use Rattle.tc_model.specs.Chains.{an_element, a_text, Node, whole, one}
 
 -- trees; how many bodies were instantiated and elements and texts put out; how many bodies and instructions stood within one another at most
-pub record Done : Type 0 where
+pub record Outcome : Type 0 where
   pub out : Trees
   pub work : ℕ
-  pub depth : ℕ
+  pub nesting : ℕ
 
-abbrev pub nothing : Done
-nothing = record { out = none; work = 0; depth = 0 }
+abbrev pub nothing : Outcome
+nothing = record { out = none; work = 0; nesting = 0 }
 
 -- one after the other
-abbrev pub join : Done → Done → Done
-join a b = record { out = beside a.out b.out; work = a.work + b.work; depth = max a.depth b.depth }
+abbrev pub join : Outcome → Outcome → Outcome
+join a b = record { out = beside a.out b.out; work = a.work + b.work; nesting = max a.nesting b.nesting }
 
 -- within an instruction
-abbrev pub within : Done → Done
-within a = record { out = a.out; work = a.work; depth = a.depth + 1 }
+abbrev pub within : Outcome → Outcome
+within a = record { out = a.out; work = a.work; nesting = a.nesting + 1 }
 
 -- within a body that counts: a rule's, a named one, a for-each's, a built-in rule's
-abbrev pub counted : Done → Done
-counted a = record { out = a.out; work = a.work + 1; depth = a.depth + 1 }
+abbrev pub counted : Outcome → Outcome
+counted a = record { out = a.out; work = a.work + 1; nesting = a.nesting + 1 }
 
 -- a text, where it has a character
-abbrev pub put : List ℕ → Done
+abbrev pub put : List ℕ → Outcome
 put [] = nothing
-put (b ∷ bs) = record { out = text (b ∷ bs) none; work = 1; depth = 0 }
+put (b ∷ bs) = record { out = text (b ∷ bs) none; work = 1; nesting = 0 }
 
-abbrev pub put_around : ExpandedName → Done → Done
-put_around n a = record { out = element n a.out none; work = a.work + 1; depth = a.depth }
+abbrev pub put_around : ExpandedName → Outcome → Outcome
+put_around n a = record { out = element n a.out none; work = a.work + 1; nesting = a.nesting }
 
 -- on an element an element of its name around it, on the root itself, on a text that text (XSLT, 7.5)
-abbrev pub copied : Node → Done → Done
+abbrev pub copied : Node → Outcome → Outcome
 copied (whole doc) a = a
 copied (one (an_element n kids)) a = put_around n a
 copied (one (a_text s)) a = put s
