@@ -9,4 +9,5 @@ pub mod TotalExact
 pub mod TotalUnfolds
 pub mod Total
 pub mod TotalSafety
+pub mod CasesOfSchemas
 pub mod CasesOfSheets
