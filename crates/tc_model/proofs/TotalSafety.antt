@@ -10,10 +10,13 @@ use Rattle.tc_model.proofs.Unique.{result_unique}
 use Rattle.tc_model.proofs.Total.{one_result}
 
 module _ (input output : Grammar) (s : Sheet) where
+  pub valid_results : IsSafe input output s → (doc result : Trees) → IsValid input doc → IsResultOf s doc result → IsValidOutput output result
+  valid_results safe doc result v r =
+      let good = safe doc v in
+      subst (IsValidOutput output) (result_unique s doc good.0 result good.1 r) good.2
+
   pub no_counterexample : IsSafe input output s → (doc result : Trees) → ¬ (IsCounterexample input output s doc result)
-  no_counterexample safe doc result c =
-      let good = safe doc c.0 in
-      c.2 (subst (IsValidOutput output) (result_unique s doc good.0 result good.1 c.1) good.2)
+  no_counterexample safe doc result c = c.2 (valid_results safe doc result c.0 c.1)
 
   pub safe_by_results : IsSheet s → ((doc result : Trees) → IsValid input doc → IsResultOf s doc result → IsValidOutput output result) → IsSafe input output s
   safe_by_results is valid doc v = let only = one_result s is doc in (only.0, only.1, valid doc only.0 v only.1)

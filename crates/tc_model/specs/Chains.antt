@@ -8,7 +8,7 @@ pub data Tree : Type 0 where
   an_element : ExpandedName → Trees → Tree
   a_text : List ℕ → Tree
 
--- the root of a document, or a tree under a node
+-- the root of a document, or a tree under a node, of which it is meant to be a child
 pub data Chain : Type 0 where
   top : Trees → Chain
   under : Chain → Tree → Chain

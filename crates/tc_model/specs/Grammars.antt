@@ -5,9 +5,9 @@ use Rattle.tc_model.specs.Names.{ExpandedName, same_name, IsName, IsNamespaceNam
 mutual
   pub data NameClass : Type 0 where
     of_name : ExpandedName → NameClass
-    -- the names of a namespace, except those of the excepted class
+    -- the names of a namespace, except those of the excepted classes
     of_namespace : List ℕ → NameClasses → NameClass
-    -- all names, except those of the excepted class
+    -- all names, except those of the excepted classes
     any_name : NameClasses → NameClass
     one_of : NameClasses → NameClass
 

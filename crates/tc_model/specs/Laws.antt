@@ -45,7 +45,11 @@ IsTotal = (s : Sheet) → IsSheet s → (j : Job) → IsJob s j → (c : Chain) 
 abbrev pub HasOneResult : Type 0
 HasOneResult = (s : Sheet) → IsSheet s → (doc : Trees) → (result : Trees) × IsResultOf s doc result × ((other : Trees) → IsResultOf s doc other → other ≡ result)
 
--- a safe stylesheet has no counterexample
+-- by a safe stylesheet, whatever a valid document results in is valid
+abbrev pub HasValidResults : Type 0
+HasValidResults = (input output : Grammar) (s : Sheet) → IsSafe input output s → (doc result : Trees) → IsValid input doc → IsResultOf s doc result → IsValidOutput output result
+
+-- so it has no counterexample
 abbrev pub HasNoCounterexample : Type 0
 HasNoCounterexample = (input output : Grammar) (s : Sheet) → IsSafe input output s → (doc result : Trees) → ¬ (IsCounterexample input output s doc result)
 

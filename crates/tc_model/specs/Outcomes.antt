@@ -4,7 +4,7 @@ use Rattle.tc_model.specs.Names.{ExpandedName}
 use Rattle.tc_model.specs.Trees.{Trees, none, text, element, beside}
 use Rattle.tc_model.specs.Chains.{an_element, a_text, Node, whole, one}
 
--- trees; how many bodies were instantiated and elements and texts put out; how many bodies and instructions stood within one another at most
+-- trees; the work: how many bodies were instantiated and elements and texts put out; the nesting: how many bodies and instructions stood within one another at most
 pub record Outcome : Type 0 where
   pub out : Trees
   pub work : ℕ

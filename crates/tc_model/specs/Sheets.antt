@@ -60,6 +60,7 @@ pub data MatchPattern : Type 0 where
   root_pattern : MatchPattern
   steps_pattern : Steps → MatchPattern
 
+-- a template rule; its priority in ten-thousandths (XSLT, 5.5)
 pub record Rule : Type 0 where
   pub mode : ℕ
   pub pattern : MatchPattern

@@ -22,7 +22,7 @@ node_count none = 0
 node_count (text s rest) = node_count rest + 1
 node_count (element n kids rest) = node_count kids + node_count rest + 1
 
--- white space alone (XML, 2.3, [3]); a byte of another character is none of these
+-- white space alone, or nothing (XML, 2.3, [3]); a byte of another character is none of these
 abbrev pub is_all_white : List ℕ → Bool
 is_all_white bytes = list_all is_white bytes
 

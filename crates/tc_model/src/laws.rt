@@ -1,5 +1,5 @@
 // Laws of what stylesheets mean.
-ghost use Rattle.tc_model.specs.Laws.{IsLastOfGreatest, IsNoneWithout, IsUnique, IsTotal, HasOneResult, HasNoCounterexample, IsSafeByResults};
+ghost use Rattle.tc_model.specs.Laws.{IsLastOfGreatest, IsNoneWithout, IsUnique, IsTotal, HasOneResult, HasValidResults, HasNoCounterexample, IsSafeByResults};
 
 /// Laws of the rule of a node (XSLT 1.0, 5.5): of the rules of a mode that fit it the last of greatest
 /// priority, and none where none fits.
@@ -17,9 +17,10 @@ pub fn law_of_results()
     ensures one_result { HasOneResult }
 {}
 
-/// Laws of safety. A safe sheet has no counterexample, and a well-formed one is safe where whatever a
-/// valid document results in is valid.
+/// Laws of safety. By a safe sheet, whatever a valid document results in is valid, so it has no
+/// counterexample; and a well-formed sheet is safe where whatever a valid document results in is valid.
 pub fn law_of_safety()
+    ensures valid_results { HasValidResults }
     ensures no_counterexample { HasNoCounterexample }
     ensures by_results { IsSafeByResults }
 {}
