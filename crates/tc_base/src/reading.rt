@@ -1,8 +1,8 @@
 //! A cursor that takes the characters of a text one by one.
 
-ghost use Rattle.std.specs.Prelude.{◌≡◌, ◌≢◌, ◌+◌, ◌<◌, ◌≤◌, ◌++◌, [], List, ℕ, length, IfOk, OnSome, MatchOption, MatchResult, Some, None, Ok, Err, encode_utf8};
+ghost use Rattle.std.specs.Prelude.{◌≡◌, ◌≢◌, ◌<◌, ◌≤◌, ◌++◌, [], List, ℕ, length, IfOk, IfErr, IsErr, IfSome, IfNone, OnSome, MatchOption, Some, None, Ok, Err, encode_utf8};
 ghost use Rattle.std.specs.Char.{IsScalar};
-ghost use Rattle.tc_base.specs.Reading.{Reading, rest_of, longest_text, BeginsWithCharacter};
+ghost use Rattle.tc_base.specs.Reading.{Reading, rest_of, longest_text, BeginsWithCharacter, IsAtEnd, IsBroken, Takes};
 
 use crate::Place;
 use std::marker::Model;
@@ -58,15 +58,11 @@ impl<'a> Cursor<'a> {
     /// Bytes that don't begin with a character in UTF-8 (RFC 3629, 4) give their place, and the cursor stays there.
     pub fn next_char(&mut self) -> Result<Option<char>, Place>
         ensures text { self.new.text ≡ self.old.text }
-        ensures cases { MatchResult result
-            (λ o. MatchOption o ((rest_of self.old ≡ []) × (self.new.place ≡ self.old.place))
-            (λ c. IsScalar c × (rest_of self.old ≡ encode_utf8 c ++ rest_of self.new)
-            × (self.new.place ≡ self.old.place + length (encode_utf8 c))))
-            (λ at. (at.0 ≡ self.old.place) × (self.new.place ≡ self.old.place)
-            × (rest_of self.old ≢ []) × ¬ BeginsWithCharacter (rest_of self.old)) }
-        ensures ends { rest_of self.old ≡ [] → result ≡ Ok None }
-        ensures refuses { rest_of self.old ≢ [] → ¬ BeginsWithCharacter (rest_of self.old)
-            → result ≡ Err (record { 0 = self.old.place }) }
+        ensures taken { IfOk result (λ o. IfSome o (λ c. Takes c self.old self.new)) }
+        ensures end { IfOk result (λ o. IfNone o (IsAtEnd self.old × (self.new ≡ self.old))) }
+        ensures broken { IfErr result (λ at. IsBroken self.old × (self.new ≡ self.old) × (at.0 ≡ self.old.place)) }
+        ensures only_end { IsAtEnd self.old → result ≡ Ok None }
+        ensures only_broken { IsBroken self.old → IsErr result }
         ensures advances { IfOk result (λ o. OnSome o (self.old.place < self.new.place)) }
         ensures within { self.new.place ≤ length self.new.text }
     {
