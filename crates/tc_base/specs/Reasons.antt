@@ -1,0 +1,114 @@
+-- The reasons for which a text is refused: the number and the word of each.
+use Rattle.std.specs.Prelude.{ℕ, List, codes}
+use Rattle.tc_base.specs.declared.reasons.Why.{Why}
+use Rattle.tc_base.specs.declared.reasons.Why.TheVariants.{N1, N2, N3, N4, N5, N6, N7, N8, N9, N10, N11, N12, N13, N14, N15, N16, N17, N18, N19, N20, N21, N22, N23, N24, N25, N26, N27, N28, N29, N30, N31, N32, N33, N34, N35, N36, N37, N38, N39, N40, N41, N42, N43, N44, N45, N46, N47, N48, N49, N50, N51, N52}
+
+-- the number of a reason
+abbrev pub number_of : Why → ℕ
+number_of N1 = 1
+number_of N2 = 2
+number_of N3 = 3
+number_of N4 = 4
+number_of N5 = 5
+number_of N6 = 6
+number_of N7 = 7
+number_of N8 = 8
+number_of N9 = 9
+number_of N10 = 10
+number_of N11 = 11
+number_of N12 = 12
+number_of N13 = 13
+number_of N14 = 14
+number_of N15 = 15
+number_of N16 = 16
+number_of N17 = 17
+number_of N18 = 18
+number_of N19 = 19
+number_of N20 = 20
+number_of N21 = 21
+number_of N22 = 22
+number_of N23 = 23
+number_of N24 = 24
+number_of N25 = 25
+number_of N26 = 26
+number_of N27 = 27
+number_of N28 = 28
+number_of N29 = 29
+number_of N30 = 30
+number_of N31 = 31
+number_of N32 = 32
+number_of N33 = 33
+number_of N34 = 34
+number_of N35 = 35
+number_of N36 = 36
+number_of N37 = 37
+number_of N38 = 38
+number_of N39 = 39
+number_of N40 = 40
+number_of N41 = 41
+number_of N42 = 42
+number_of N43 = 43
+number_of N44 = 44
+number_of N45 = 45
+number_of N46 = 46
+number_of N47 = 47
+number_of N48 = 48
+number_of N49 = 49
+number_of N50 = 50
+number_of N51 = 51
+number_of N52 = 52
+
+-- the word of a reason
+abbrev pub word_of : Why → List ℕ
+word_of N1 = codes "doctype-subset"
+word_of N2 = codes "entity"
+word_of N3 = codes "encoding"
+word_of N4 = codes "xml-space"
+word_of N5 = codes "xml-version"
+word_of N6 = codes "data"
+word_of N7 = codes "value"
+word_of N8 = codes "list"
+word_of N9 = codes "external"
+word_of N10 = codes "include"
+word_of N11 = codes "grammar"
+word_of N12 = codes "parent"
+word_of N13 = codes "inherit"
+word_of N14 = codes "annotation"
+word_of N15 = codes "escape"
+word_of N16 = codes "triple-quote"
+word_of N17 = codes "concatenation"
+word_of N18 = codes "variable"
+word_of N19 = codes "param"
+word_of N20 = codes "with-param"
+word_of N21 = codes "import"
+word_of N22 = codes "xsl-include"
+word_of N23 = codes "sort"
+word_of N24 = codes "number"
+word_of N25 = codes "key"
+word_of N26 = codes "message"
+word_of N27 = codes "comment"
+word_of N28 = codes "processing-instruction"
+word_of N29 = codes "apply-imports"
+word_of N30 = codes "attribute-set"
+word_of N31 = codes "namespace-alias"
+word_of N32 = codes "decimal-format"
+word_of N33 = codes "fallback"
+word_of N34 = codes "preserve-space"
+word_of N35 = codes "extension"
+word_of N36 = codes "simplified"
+word_of N37 = codes "disable-output-escaping"
+word_of N38 = codes "computed-name"
+word_of N39 = codes "copy-of"
+word_of N40 = codes "use-attribute-sets"
+word_of N41 = codes "version"
+word_of N42 = codes "unknown-xslt"
+word_of N43 = codes "axis"
+word_of N44 = codes "dot"
+word_of N45 = codes "absolute"
+word_of N46 = codes "function"
+word_of N47 = codes "comparison"
+word_of N48 = codes "arithmetic"
+word_of N49 = codes "predicate"
+word_of N50 = codes "attribute"
+word_of N51 = codes "variable-reference"
+word_of N52 = codes "string"
