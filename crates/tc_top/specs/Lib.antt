@@ -1,3 +1,4 @@
 pub mod FirstForm
 pub mod FirstSeen
 pub mod FirstText
+pub mod FirstFits
