@@ -28,7 +28,7 @@ fn allows(suffix: Suffix, count: usize) -> bool
 fn fits(name: &[u8], inner: &[Inner<'_>], found: Name<'_>, kids: &[Node<'_>]) -> bool
     ensures { result ≡ first_fits.fits (schema_from name.now inner.now) (seen.name found.entry) (trees kids.now) }
 {
-    if !found.uri.is_empty() || found.local.as_bytes() != name {
+    if !found.uri.is_empty() || name != found.local.as_bytes() {
         return false;
     }
     match inner.split_first() {
