@@ -3,8 +3,8 @@ use Rattle.std.proofs.Common.{◌≡◌, ℕ, ◌+◌, Bool, true, false, ◌&&�
 use Rattle.std.proofs.lemmas.Bool.{true≢false, not-true, not-false}
 use Rattle.std.specs.List.{IsFirstAndRest}
 use Rattle.tc_model.specs.Names.{ExpandedName, same_name}
-use Rattle.tc_model.specs.Trees.{Trees, none, text, element}
-use Rattle.tc_model.specs.Seen.{name, before, trees}
+use Rattle.tc_model.specs.Trees.{Trees, element}
+use Rattle.tc_model.specs.Seen.{before, trees}
 use Rattle.tc_model.specs.declared.tree.Node.{Node, Node-F}
 use Rattle.tc_model.specs.declared.tree.Node.TheOpen as parts
 use Rattle.tc_model.specs.declared.tree.Node.TheVariants.{rolls-Elem, rolls-Text}

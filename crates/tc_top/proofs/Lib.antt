@@ -1,1 +1,3 @@
 pub mod FirstLawsViews
+pub mod FirstLawsNormal
+pub mod FirstLawsMatch

@@ -1,9 +1,8 @@
-use Rattle.std.proofs.Common.{◌≡◌, ◌&&◌, ◌==◌, ◌+◌, Bool, true, false, length, drop, refl, sym, ap, ◌∙◌, rules, arith}
+use Rattle.std.proofs.Common.{◌≡◌, ◌&&◌, false, sym, ap, ◌∙◌, rules}
 use Rattle.tc_model.specs.Seen.{name, trees}
 use Rattle.tc_model.proofs.Views.{left_elem}
-use Rattle.tc_top.specs.FirstForm.{plain_name}
 use Rattle.tc_top.specs.FirstFits as first_fits
-use Rattle.tc_top.specs.FirstSeen.{schema_from, suffix}
+use Rattle.tc_top.specs.FirstSeen.{schema_from}
 use Rattle.tc_top.proofs.FirstLawsViews.{fits_other, fits_last, fits_next, other_uri, other_local, is_named, one_fails, one_passes}
 use Rattle.tc_top.proofs.first.decide.+fits.Goals as goal
 use Rattle.tc_top.proofs.first.decide.+fits.Goals.{fits-then-not-is_empty-via-then-not-is_empty, fits-then-not-is_empty-via-else-not-is_empty+then-ne}
