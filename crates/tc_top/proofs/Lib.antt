@@ -1,3 +1,6 @@
 pub mod FirstLawsViews
 pub mod FirstLawsNormal
 pub mod FirstLawsMatch
+pub mod FirstLawsNames
+pub mod FirstLawsSheet
+pub mod FirstLaws
