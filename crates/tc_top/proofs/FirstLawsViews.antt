@@ -81,5 +81,5 @@ is_named m local n empty differs is_empty e at is d = not-false _ (told m local 
 pub one_fails : (test : ExpandedName → Trees → Bool) (h : Trees) (n : ExpandedName) (kids rest : Trees) → h ≡ element n kids rest → test n kids ≡ false → all_pass test h ≡ false
 one_fails test h n kids rest e f = ap (all_pass test) e ∙ ap (λ b. b && all_pass test rest) f
 
-pub one_passes : (test : ExpandedName → Trees → Bool) (h : Trees) (n : ExpandedName) (kids rest : Trees) → h ≡ element n kids rest → test n kids ≡ true → all_pass test h ≡ all_pass test rest
-one_passes test h n kids rest e f = ap (all_pass test) e ∙ ap (λ b. b && all_pass test rest) f
+pub one_passes : (test : ExpandedName → Trees → Bool) (h : Trees) (n : ExpandedName) (kids rest : Trees) → h ≡ element n kids rest → test n kids ≡ true → all_pass test rest ≡ all_pass test h
+one_passes test h n kids rest e f = sym (ap (all_pass test) e ∙ ap (λ b. b && all_pass test rest) f)

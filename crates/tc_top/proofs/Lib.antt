@@ -4,3 +4,4 @@ pub mod FirstLawsMatch
 pub mod FirstLawsNames
 pub mod FirstLawsSheet
 pub mod FirstLaws
+pub mod FirstLawsPrint
