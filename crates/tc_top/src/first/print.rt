@@ -1,8 +1,8 @@
 // Trees as text.
 ghost use Rattle.std.specs.Prelude.{◌≡◌, ◌++◌, OnOk};
 ghost use Rattle.tc_model.specs.Printed.{printed};
-ghost use Rattle.tc_model.specs.Seen.{trees};
-ghost use Rattle.tc_model.specs.Trees.{none, element};
+ghost use Rattle.tc_model.specs.Seen.{before, trees};
+ghost use Rattle.tc_model.specs.Trees.{Trees, none, element};
 ghost use Rattle.tc_top.specs.FirstForm.{least_document, plain_name, ArePlainElements};
 ghost use Rattle.tc_top.specs.FirstSeen.{schema, schema_from};
 
@@ -71,4 +71,48 @@ pub fn print_trees(nodes: &[Node<'_>], out: &mut Vec<u8>) -> Result<(), NoMemory
         print_element(name.local.as_bytes(), kids, out)?;
     }
     Ok(())
+}
+
+#[cfg(test)]
+mod tests {
+    use super::*;
+    use std::test::Fail;
+    use tc_model::Name;
+
+    #[tactic(auto, using(tc_model::proofs::Views::before_elem))]
+    fn element<'b>(local: &'b str, kids: &'b [Node<'b>]) -> Node<'b>
+        ensures { (rest : Trees) → before result rest ≡ element (plain_name local.now) (trees kids.now) rest }
+    {
+        Node::Elem(Name { uri: "", local }, kids)
+    }
+
+    #[test]
+    fn an_element_without_children_is_one_tag(rt: HostRuntime) -> Result<(), Fail> {
+        let inner = [element("b", &[])];
+        let nodes = [element("a", &inner)];
+        let mut out = Vec::new(rt.alloc());
+        print_trees(&nodes, &mut out)?;
+        assert!(rt; out.as_slice() == b"<a><b/></a>".as_slice());
+        Ok(())
+    }
+
+    #[test]
+    fn what_may_be_left_out_is_left_out(rt: HostRuntime) -> Result<(), Fail> {
+        let mut pattern = Schema {
+            name: b"a",
+            inner: Vec::new(rt.alloc()),
+        };
+        pattern.inner.push(Inner {
+            name: b"b",
+            suffix: Suffix::OneOrMore,
+        })?;
+        pattern.inner.push(Inner {
+            name: b"c",
+            suffix: Suffix::Optional,
+        })?;
+        let mut out = Vec::new(rt.alloc());
+        print_least(&pattern, &mut out)?;
+        assert!(rt; out.as_slice() == b"<a><b/></a>".as_slice());
+        Ok(())
+    }
 }
