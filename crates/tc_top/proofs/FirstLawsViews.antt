@@ -78,8 +78,8 @@ pub is_named : (m local : List ℕ) (n : ExpandedName) (empty differs : Bool) �
 is_named m local n empty differs is_empty e at is d = not-false _ (told m local n empty differs is_empty e at is ∙ d)
 
 -- one step of a loop over trees
-pub one_fails : (test : ExpandedName → Trees → Bool) (h : Trees) (n : ExpandedName) (kids rest : Trees) → h ≡ element n kids rest → test n kids ≡ false → all_pass test h ≡ false
-one_fails test h n kids rest e f = ap (all_pass test) e ∙ ap (λ b. b && all_pass test rest) f
+pub one_fails : (test : ExpandedName → Trees → Bool) (h : Trees) (n : ExpandedName) (kids rest : Trees) (r : Bool) → h ≡ element n kids rest → r ≡ test n kids → r ≡ false → all_pass test h ≡ false
+one_fails test h n kids rest r e f g = ap (all_pass test) e ∙ ap (λ b. b && all_pass test rest) (sym f ∙ g)
 
-pub one_passes : (test : ExpandedName → Trees → Bool) (h : Trees) (n : ExpandedName) (kids rest : Trees) → h ≡ element n kids rest → test n kids ≡ true → all_pass test rest ≡ all_pass test h
-one_passes test h n kids rest e f = sym (ap (all_pass test) e ∙ ap (λ b. b && all_pass test rest) f)
+pub one_passes : (test : ExpandedName → Trees → Bool) (h : Trees) (n : ExpandedName) (kids rest : Trees) (r : Bool) → h ≡ element n kids rest → r ≡ test n kids → r ≡ true → all_pass test rest ≡ all_pass test h
+one_passes test h n kids rest r e f g = sym (ap (all_pass test) e ∙ ap (λ b. b && all_pass test rest) (sym f ∙ g))

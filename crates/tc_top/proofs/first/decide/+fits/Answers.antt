@@ -10,12 +10,12 @@ use Rattle.tc_top.proofs.first.decide.+fits.Goals.{fits-then-not-is_empty-via-th
 pub all_fit-returns-then-not-fits : goal.all_fit-returns-then-not-fits
 all_fit-returns-then-not-fits t c =
     let left = left_elem c.args.nodes.now c.loop-node.node-index c.node-item.result c.in-Elem.found c.in-Elem.kids c.loop-node-test.true c.node-item.is c.in-Elem.is in
-    sym (sym c.loop-node.invariant ∙ one_fails (first_fits.fits (schema_from c.args.name.now c.args.inner.now)) _ _ _ _ left (sym c.fits.ensures ∙ search rules))
+    sym (sym c.loop-node.invariant ∙ one_fails (first_fits.fits (schema_from c.args.name.now c.args.inner.now)) _ _ _ _ c.fits.result left c.fits.ensures (search rules))
 
 pub all_fit-loop-node-preserved : goal.all_fit-loop-node-preserved
 all_fit-loop-node-preserved t c =
     let left = left_elem c.args.nodes.now c.loop-node.node-index c.node-item.result c.in-Elem.found c.in-Elem.kids c.loop-node-test.true c.node-item.is c.in-Elem.is in
-    one_passes (first_fits.fits (schema_from c.args.name.now c.args.inner.now)) _ _ _ _ left (sym c.fits.ensures ∙ search rules) ∙ c.loop-node.invariant
+    one_passes (first_fits.fits (schema_from c.args.name.now c.args.inner.now)) _ _ _ _ c.fits.result left c.fits.ensures (search rules) ∙ c.loop-node.invariant
 
 pub fits-returns-then-not-is_empty : goal.fits-returns-then-not-is_empty
 fits-returns-then-not-is_empty t c =
