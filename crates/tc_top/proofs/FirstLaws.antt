@@ -157,8 +157,11 @@ result_is t doc result plain =
 
 pub safe : (i o : Schema) (t : Trees) → HasPlainNames i → ArePlainElements t → IsSafe (grammar_of i) (grammar_of o) (sheet_of t) ↔ IsValidOutput (grammar_of o) t
 safe i o t h plain = (
-  λ is_safe. is_safe (least_document i) t (least_is_valid i h) ((result_is t (least_document i) t plain).1 refl),
-  λ valid doc result is_valid is_result. subst (IsValidOutput (grammar_of o)) (sym ((result_is t doc result plain).0 is_result)) valid,
+  λ is_safe.
+      let d = least_document i in
+      let own = is_safe d (least_is_valid i h) in
+      subst (IsValidOutput (grammar_of o)) ((result_is t d own.0 plain).0 own.1) own.2,
+  λ valid doc is_valid. (t, (result_is t doc t plain).1 refl, valid),
 )
 
 pub counterexample : (i o : Schema) (t : Trees) → HasPlainNames i → ArePlainElements t → ¬ (IsValidOutput (grammar_of o) t)

@@ -5,7 +5,7 @@ use Rattle.tc_model.specs.Names.{ExpandedName, same_name}
 use Rattle.tc_model.specs.Trees.{Trees, none, text, element, beside, normal_form}
 use Rattle.tc_model.specs.Grammars as p
 use Rattle.tc_model.specs.Grammars.{Pattern, Patterns, ElementPattern, Grammar, no_more, more, element_at, InClass}
-use Rattle.tc_model.specs.Matching.{Matches, OneOf, Repeated, m_empty, m_text, m_ref, m_group, m_choice, m_interleave, m_more, here, there, once, again}
+use Rattle.tc_model.specs.Matching.{Matches, OneOf, Repeated, m_empty, m_text, m_ref, m_group, m_choice, m_interleave, m_one_or_more, here, there, once, again}
 use Rattle.tc_model.specs.Validity.{IsValidOutput}
 use Rattle.tc_top.specs.FirstForm.{Suffix, no_suffix, optional, zero_or_more, one_or_more, Schema, holding_nothing, holding, plain_name, suffixed, elements_from, grammar_of, ArePlainElements}
 use Rattle.tc_top.specs.FirstFits.{width, allows, all_pass, fits}
@@ -66,7 +66,7 @@ module _ {g : List ElementPattern} where
   choice_of (m_group i) ps e = absurd (cc)
   choice_of (m_choice {h} {ps = qs} i) ps e = let same : qs ≡ ps = cc in subst (λ rs. OneOf g h rs) same i
   choice_of (m_interleave i) ps e = absurd (cc)
-  choice_of (m_more i) ps e = absurd (cc)
+  choice_of (m_one_or_more i) ps e = absurd (cc)
 
   repeated_of : {h : Trees} {r : Pattern} → Matches g h r → (q : Pattern) → r ≡ p.one_or_more q → Repeated g h q
   repeated_of m_empty q e = absurd (cc)
@@ -75,7 +75,7 @@ module _ {g : List ElementPattern} where
   repeated_of (m_group i) q e = absurd (cc)
   repeated_of (m_choice i) q e = absurd (cc)
   repeated_of (m_interleave i) q e = absurd (cc)
-  repeated_of (m_more {h} {q = r} i) q e = let same : r ≡ q = cc in subst (λ rs. Repeated g h rs) same i
+  repeated_of (m_one_or_more {h} {q = r} i) q e = let same : r ≡ q = cc in subst (λ rs. Repeated g h rs) same i
 
   empty_of : {h : Trees} {r : Pattern} → Matches g h r → r ≡ p.empty → h ≡ none
   empty_of m_empty e = refl
@@ -84,7 +84,7 @@ module _ {g : List ElementPattern} where
   empty_of (m_group i) e = absurd (cc)
   empty_of (m_choice i) e = absurd (cc)
   empty_of (m_interleave i) e = absurd (cc)
-  empty_of (m_more i) e = absurd (cc)
+  empty_of (m_one_or_more i) e = absurd (cc)
 
   one_of : {h : Trees} {rs : Patterns} → OneOf g h rs → (q : Pattern) (qs : Patterns) → rs ≡ more q qs → Matches g h q ⊎ OneOf g h qs
   one_of (here {h} {q = r} m) q qs e = let same : r ≡ q = cc in inl (subst (λ w. Matches g h w) same m)
@@ -113,7 +113,7 @@ ref_of {g} (m_ref {k = j} {n} {c} d at inside m) k e =
 ref_of (m_group i) k e = absurd (cc)
 ref_of (m_choice i) k e = absurd (cc)
 ref_of (m_interleave i) k e = absurd (cc)
-ref_of (m_more i) k e = absurd (cc)
+ref_of (m_one_or_more i) k e = absurd (cc)
 
 module _ (g : List ElementPattern) (test : ExpandedName → Trees → Bool) (q : Pattern) (one : IsOne g test q) where
   repeated_passes : {h : Trees} {r : Pattern} → Repeated g h r → r ≡ q → (1 ≤ width h) × (all_pass test h ≡ true)
@@ -155,8 +155,8 @@ module _ (g : List ElementPattern) (test : ExpandedName → Trees → Bool) (q :
   suffix_sound optional (element n kids rest) w a = m_choice (here (single (element n kids rest) (let few = leb-true (width rest + 1) 1 w in omega (arith, few)) a))
   suffix_sound zero_or_more none w a = m_choice (there (here m_empty))
   suffix_sound zero_or_more (text s rest) w a = absurd (true≢false (sym a))
-  suffix_sound zero_or_more (element n kids rest) w a = m_choice (here (m_more (repeats (element n kids rest) (omega arith) a)))
-  suffix_sound one_or_more h w a = m_more (repeats h (leb-true 1 (width h) w) a)
+  suffix_sound zero_or_more (element n kids rest) w a = m_choice (here (m_one_or_more (repeats (element n kids rest) (omega arith) a)))
+  suffix_sound one_or_more h w a = m_one_or_more (repeats h (leb-true 1 (width h) w) a)
 
   suffix_complete : (x : Suffix) (h : Trees) → Matches g h (suffixed q x) → (allows x (width h) ≡ true) × (all_pass test h ≡ true)
   suffix_complete no_suffix h m = let o = one.0 h m in (eq-eqb (width h) 1 o.0, o.1)
