@@ -5,9 +5,11 @@
 #![tactic(auto)]
 
 pub mod grammar;
+pub mod normal;
 pub mod sheet;
 pub mod tree;
 
 pub use grammar::{ElemPat, Grammar, NameClass, Pat};
+pub use normal::{is_all_white, normalise};
 pub use sheet::{Alt, Branch, Instr, NodeTest, Path, Pattern, Rule, Sheet, Step, Test};
 pub use tree::{Binding, Name, Node, Raw, RawAttr, RawElem};
