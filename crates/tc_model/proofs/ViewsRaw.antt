@@ -4,8 +4,11 @@ use Rattle.std.proofs.lemmas.List.{drop_more}
 use Rattle.tc_base.specs.declared.Place.{Place}
 use Rattle.tc_model.specs.RawTrees.{RawTrees, none, text, element, beside}
 use Rattle.tc_model.specs.Seen.{name, place, attribute, bound, raw_layers, raw_layer, raw_element_layer, raw_before, raw_trees, raw_element}
+use Rattle.tc_model.specs.declared.tree.Name.{Name}
+use Rattle.tc_model.specs.declared.tree.Binding.{Binding}
+use Rattle.tc_model.specs.declared.tree.RawAttr.{RawAttr}
 use Rattle.tc_model.specs.declared.tree.Raw.{Raw, Raw-F, Elem, Text}
-use Rattle.tc_model.specs.declared.tree.RawElem.{RawElem}
+use Rattle.tc_model.specs.declared.tree.RawElem.{RawElem, roll-RawElem}
 use Rattle.tc_model.specs.declared.tree.Raw.TheOpen as parts
 use Rattle.tc_model.specs.declared.tree.Raw.TheVariants.{rolls-Elem, rolls-Text}
 use Rattle.tc_model.specs.declared.tree.Raw.TheViews.{roll-Raw, out-Raw, roll-out-Raw}
@@ -31,7 +34,13 @@ before_text s p rest =
     ap (λ (x : Raw). raw_before x rest) (sym (rolls-Text s p))
     ∙ ap (λ (f : RawTrees → RawTrees). f rest) (fold-roll-Raw (RawTrees → RawTrees) (RawTrees → RawTrees) raw_layer raw_element_layer (parts.Text s p))
 
-pub ruleset see = (before_elem, before_text)
+-- an element that is made of its parts
+pub made_elem : (n : Name) (attributes : Bor (List RawAttr)) (scope : Bor (List Binding)) (p : Place) (kids : Bor (List Raw)) (rest : RawTrees)
+    → raw_before (Elem (roll-RawElem (record { name = n; attrs = attributes; scope = scope; place = p; kids = kids }))) rest
+    ≡ element (name n) (map attribute attributes.now) (map bound scope.now) (place p) (raw_trees kids.now) rest
+made_elem n attributes scope p kids rest = before_elem (roll-RawElem (record { name = n; attrs = attributes; scope = scope; place = p; kids = kids })) rest
+
+pub ruleset see = (before_elem, before_text, made_elem)
 
 -- one step of a loop over a slice: what is left begins with the tree x
 pub left_one : (ts : List Raw) (i : ℕ) (x : Raw) → i < length ts → x ≡ get_or ts i x → raw_trees (drop i ts) ≡ raw_before x (raw_trees (drop (i + 1) ts))

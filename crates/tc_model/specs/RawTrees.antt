@@ -1,5 +1,5 @@
 -- Trees as they are read: each with the place of its first byte, elements with attributes and the prefixes in scope.
-use Rattle.std.specs.Prelude.{ℕ, List}
+use Rattle.std.specs.Prelude.{◌≡◌, ℕ, List}
 use Rattle.tc_model.specs.Names.{ExpandedName}
 
 -- an attribute that is no namespace declaration, with the place of its name
@@ -25,3 +25,8 @@ abbrev pub beside : RawTrees → RawTrees → RawTrees
 beside none k = k
 beside (text s p rest) k = text s p (beside rest k)
 beside (element n attributes scope p kids rest) k = element n attributes scope p kids (beside rest k)
+
+abbrev pub IsOneElement : RawTrees → Type 0
+IsOneElement none = ⊥
+IsOneElement (text s p rest) = ⊥
+IsOneElement (element n attributes scope p kids rest) = rest ≡ none
