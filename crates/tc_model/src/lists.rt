@@ -8,7 +8,7 @@ use tc_base::NoMemory;
 /// A list of numbers.
 #[derive(Drop)]
 pub struct Numbers {
-    items: Vec<u32>,
+    numbers: Vec<u32>,
 }
 
 impl Model for Numbers {
@@ -16,9 +16,9 @@ impl Model for Numbers {
 
     ghost Value = { List ℕ };
 
-    ghost view = { λ l. l.items.items };
+    ghost view = { λ l. l.numbers.items };
 
-    ghost invariant = { λ l. length l.items.items ≤ 4294967295 };
+    ghost invariant = { λ l. length l.numbers.items ≤ 4294967295 };
 }
 
 impl Numbers {
@@ -27,17 +27,17 @@ impl Numbers {
         ensures { result ≡ [] }
     {
         Numbers {
-            items: Vec::new(alloc),
+            numbers: Vec::new(alloc),
         }
     }
 
     /// Puts a number at the end. Where memory is refused, the list stays as it was.
-    pub fn push(&mut self, item: u32) -> Result<(), NoMemory>
+    pub fn push(&mut self, number: u32) -> Result<(), NoMemory>
         requires { length self.old < 4294967295 }
-        ensures ok { OnOk result (self.new ≡ self.old ++ item ∷ []) }
+        ensures ok { OnOk result (self.new ≡ self.old ++ number ∷ []) }
         ensures err { OnErr result (self.new ≡ self.old) }
     {
-        self.items.push(item)?;
+        self.numbers.push(number)?;
         Ok(())
     }
 
@@ -45,7 +45,7 @@ impl Numbers {
     pub fn len(&self) -> u32
         ensures { result ≡ length self.now }
     {
-        self.items.len() as u32
+        self.numbers.len() as u32
     }
 
     /// The number at a place, counted from 0.
@@ -53,14 +53,14 @@ impl Numbers {
         requires { i < length self.now }
         ensures { slice_get self.now i ≡ Some result.now }
     {
-        &self.items[i as usize]
+        &self.numbers[i as usize]
     }
 }
 
 /// A list of pairs of numbers.
 #[derive(Drop)]
 pub struct Pairs {
-    items: Vec<(u32, u32)>,
+    pairs: Vec<(u32, u32)>,
 }
 
 impl Model for Pairs {
@@ -68,9 +68,9 @@ impl Model for Pairs {
 
     ghost Value = { List (ℕ × ℕ) };
 
-    ghost view = { λ l. l.items.items };
+    ghost view = { λ l. l.pairs.items };
 
-    ghost invariant = { λ l. length l.items.items ≤ 4294967295 };
+    ghost invariant = { λ l. length l.pairs.items ≤ 4294967295 };
 }
 
 impl Pairs {
@@ -79,17 +79,17 @@ impl Pairs {
         ensures { result ≡ [] }
     {
         Pairs {
-            items: Vec::new(alloc),
+            pairs: Vec::new(alloc),
         }
     }
 
     /// Puts a pair at the end. Where memory is refused, the list stays as it was.
-    pub fn push(&mut self, item: (u32, u32)) -> Result<(), NoMemory>
+    pub fn push(&mut self, pair: (u32, u32)) -> Result<(), NoMemory>
         requires { length self.old < 4294967295 }
-        ensures ok { OnOk result (self.new ≡ self.old ++ item ∷ []) }
+        ensures ok { OnOk result (self.new ≡ self.old ++ pair ∷ []) }
         ensures err { OnErr result (self.new ≡ self.old) }
     {
-        self.items.push(item)?;
+        self.pairs.push(pair)?;
         Ok(())
     }
 
@@ -97,7 +97,7 @@ impl Pairs {
     pub fn len(&self) -> u32
         ensures { result ≡ length self.now }
     {
-        self.items.len() as u32
+        self.pairs.len() as u32
     }
 
     /// The pair at a place, counted from 0.
@@ -105,14 +105,14 @@ impl Pairs {
         requires { i < length self.now }
         ensures { slice_get self.now i ≡ Some result.now }
     {
-        &self.items[i as usize]
+        &self.pairs[i as usize]
     }
 }
 
 /// A list of lists of pairs.
 #[derive(Drop)]
 pub struct PairLists {
-    items: Vec<Pairs>,
+    lists: Vec<Pairs>,
 }
 
 impl Model for PairLists {
@@ -120,9 +120,9 @@ impl Model for PairLists {
 
     ghost Value = { List (List (ℕ × ℕ)) };
 
-    ghost view = { λ l. l.items.items };
+    ghost view = { λ l. l.lists.items };
 
-    ghost invariant = { λ l. length l.items.items ≤ 4294967295 };
+    ghost invariant = { λ l. length l.lists.items ≤ 4294967295 };
 }
 
 impl PairLists {
@@ -131,17 +131,17 @@ impl PairLists {
         ensures { result ≡ [] }
     {
         PairLists {
-            items: Vec::new(alloc),
+            lists: Vec::new(alloc),
         }
     }
 
     /// Puts a list of pairs at the end. Where memory is refused, the list stays as it was.
-    pub fn push(&mut self, item: Pairs) -> Result<(), NoMemory>
+    pub fn push(&mut self, list: Pairs) -> Result<(), NoMemory>
         requires { length self.old < 4294967295 }
-        ensures ok { OnOk result (self.new ≡ self.old ++ item ∷ []) }
+        ensures ok { OnOk result (self.new ≡ self.old ++ list ∷ []) }
         ensures err { OnErr result (self.new ≡ self.old) }
     {
-        self.items.push(item)?;
+        self.lists.push(list)?;
         Ok(())
     }
 
@@ -149,7 +149,7 @@ impl PairLists {
     pub fn len(&self) -> u32
         ensures { result ≡ length self.now }
     {
-        self.items.len() as u32
+        self.lists.len() as u32
     }
 
     /// The list of pairs at a place, counted from 0.
@@ -157,7 +157,7 @@ impl PairLists {
         requires { i < length self.now }
         ensures { slice_get self.now i ≡ Some result.now }
     {
-        &self.items[i as usize]
+        &self.lists[i as usize]
     }
 }
 
@@ -179,7 +179,7 @@ pub struct TreeLine {
 /// Rows of trees.
 #[derive(Drop)]
 pub struct TreeLines {
-    items: Vec<TreeLine>,
+    trees: Vec<TreeLine>,
 }
 
 impl Model for TreeLines {
@@ -188,9 +188,9 @@ impl Model for TreeLines {
 
     ghost Value = { List TreeLine };
 
-    ghost view = { λ l. l.items.items };
+    ghost view = { λ l. l.trees.items };
 
-    ghost invariant = { λ l. length l.items.items ≤ 4294967295 };
+    ghost invariant = { λ l. length l.trees.items ≤ 4294967295 };
 }
 
 impl TreeLines {
@@ -199,17 +199,17 @@ impl TreeLines {
         ensures { result ≡ [] }
     {
         TreeLines {
-            items: Vec::new(alloc),
+            trees: Vec::new(alloc),
         }
     }
 
     /// Puts a row at the end. Where memory is refused, the list stays as it was.
-    pub fn push(&mut self, item: TreeLine) -> Result<(), NoMemory>
+    pub fn push(&mut self, line: TreeLine) -> Result<(), NoMemory>
         requires { length self.old < 4294967295 }
-        ensures ok { OnOk result (self.new ≡ self.old ++ item ∷ []) }
+        ensures ok { OnOk result (self.new ≡ self.old ++ line ∷ []) }
         ensures err { OnErr result (self.new ≡ self.old) }
     {
-        self.items.push(item)?;
+        self.trees.push(line)?;
         Ok(())
     }
 
@@ -217,7 +217,7 @@ impl TreeLines {
     pub fn len(&self) -> u32
         ensures { result ≡ length self.now }
     {
-        self.items.len() as u32
+        self.trees.len() as u32
     }
 
     /// The row at a place, counted from 0.
@@ -225,7 +225,7 @@ impl TreeLines {
         requires { i < length self.now }
         ensures { slice_get self.now i ≡ Some result.now }
     {
-        &self.items[i as usize]
+        &self.trees[i as usize]
     }
 }
 
@@ -247,7 +247,7 @@ pub struct HedgeLine {
 /// Rows of lists of trees.
 #[derive(Drop)]
 pub struct HedgeLines {
-    items: Vec<HedgeLine>,
+    hedges: Vec<HedgeLine>,
 }
 
 impl Model for HedgeLines {
@@ -256,9 +256,9 @@ impl Model for HedgeLines {
 
     ghost Value = { List HedgeLine };
 
-    ghost view = { λ l. l.items.items };
+    ghost view = { λ l. l.hedges.items };
 
-    ghost invariant = { λ l. length l.items.items ≤ 4294967295 };
+    ghost invariant = { λ l. length l.hedges.items ≤ 4294967295 };
 }
 
 impl HedgeLines {
@@ -267,17 +267,17 @@ impl HedgeLines {
         ensures { result ≡ [] }
     {
         HedgeLines {
-            items: Vec::new(alloc),
+            hedges: Vec::new(alloc),
         }
     }
 
     /// Puts a row at the end. Where memory is refused, the list stays as it was.
-    pub fn push(&mut self, item: HedgeLine) -> Result<(), NoMemory>
+    pub fn push(&mut self, line: HedgeLine) -> Result<(), NoMemory>
         requires { length self.old < 4294967295 }
-        ensures ok { OnOk result (self.new ≡ self.old ++ item ∷ []) }
+        ensures ok { OnOk result (self.new ≡ self.old ++ line ∷ []) }
         ensures err { OnErr result (self.new ≡ self.old) }
     {
-        self.items.push(item)?;
+        self.hedges.push(line)?;
         Ok(())
     }
 
@@ -285,7 +285,7 @@ impl HedgeLines {
     pub fn len(&self) -> u32
         ensures { result ≡ length self.now }
     {
-        self.items.len() as u32
+        self.hedges.len() as u32
     }
 
     /// The row at a place, counted from 0.
@@ -293,7 +293,7 @@ impl HedgeLines {
         requires { i < length self.now }
         ensures { slice_get self.now i ≡ Some result.now }
     {
-        &self.items[i as usize]
+        &self.hedges[i as usize]
     }
 }
 
