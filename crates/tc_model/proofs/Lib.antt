@@ -4,3 +4,4 @@ pub mod ViewsGrammar
 pub mod ViewsRaw
 pub mod ViewsPath
 pub mod ViewsBody
+pub mod ViewsLists
