@@ -11,3 +11,9 @@ pub mod Total
 pub mod TotalSafety
 pub mod CasesOfSchemas
 pub mod CasesOfSheets
+pub mod NormalForm
+pub mod ViewsGrammar
+pub mod ViewsRaw
+pub mod ViewsPath
+pub mod ViewsBody
+pub mod ViewsLists

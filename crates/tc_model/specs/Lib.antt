@@ -1,6 +1,8 @@
 pub mod Seen
 pub mod Names
 pub mod Trees
+pub mod RawTrees
+pub mod Runs
 pub mod Grammars
 pub mod Matching
 pub mod Validity

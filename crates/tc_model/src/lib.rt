@@ -6,9 +6,13 @@
 
 pub mod grammar;
 pub mod laws;
+pub mod lists;
+pub mod normal;
 pub mod sheet;
 pub mod tree;
 
 pub use grammar::{ElemPat, Grammar, NameClass, Pat};
+pub use lists::{CertData, HedgeLine, HedgeLines, Numbers, PairLists, Pairs, TreeLine, TreeLines};
+pub use normal::{is_all_white, normalise};
 pub use sheet::{Alt, Branch, Instr, NodeTest, Path, Pattern, Rule, Sheet, Step, Test};
 pub use tree::{Binding, Name, Node, Raw, RawAttr, RawElem};
