@@ -107,13 +107,13 @@ alternatives_append (x ∷ vs) ws = ap (s.alternative (steps x.now)) (alternativ
 pub pushed_alternative : (ws : List (Bor (List Step))) (x : Bor (List Step)) → alternatives (ws ++ x ∷ []) ≡ alternatives_then (alternatives ws) (s.alternative (steps x.now) s.no_alternative)
 pushed_alternative ws x = alternatives_append ws (x ∷ [])
 
-pub ways_then_none : (p : s.Path) → alternatives_then p s.no_alternative ≡ p
-ways_then_none s.no_alternative = refl
-ways_then_none (s.alternative x p) = ap (s.alternative x) (ways_then_none p)
+pub alternatives_then_none : (p : s.Path) → alternatives_then p s.no_alternative ≡ p
+alternatives_then_none s.no_alternative = refl
+alternatives_then_none (s.alternative x p) = ap (s.alternative x) (alternatives_then_none p)
 
-pub ways_then_assoc : (a b d : s.Path) → alternatives_then (alternatives_then a b) d ≡ alternatives_then a (alternatives_then b d)
-ways_then_assoc s.no_alternative b d = refl
-ways_then_assoc (s.alternative x a) b d = ap (s.alternative x) (ways_then_assoc a b d)
+pub alternatives_then_assoc : (a b d : s.Path) → alternatives_then (alternatives_then a b) d ≡ alternatives_then a (alternatives_then b d)
+alternatives_then_assoc s.no_alternative b d = refl
+alternatives_then_assoc (s.alternative x a) b d = ap (s.alternative x) (alternatives_then_assoc a b d)
 
 -- the tests of the first, and then those of the second
 abbrev pub tests_then : s.Tests → s.Tests → s.Tests
