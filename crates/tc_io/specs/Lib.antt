@@ -1,0 +1,6 @@
+pub mod Faults
+pub mod HeldFile
+pub mod MemSink
+pub mod MemStore
+pub mod Sink
+pub mod Store

@@ -1,0 +1,155 @@
+// The files of the system and a writer, of which no content is told: the edge that is trusted.
+ghost use Rattle.std.specs.Prelude.{◌≡◌, ◌≤◌, ◌⊎◌, ℕ, List, Option, Some, None, length, IfOk, OnOk, OnErr, IsErrOf, IsOk};
+ghost use Rattle.tc_io.specs.Faults.{Rose, raised};
+ghost use Rattle.tc_io.specs.Store.{Files, Answers, IsTooLong, longest_file};
+ghost use Rattle.tc_io.specs.Sink.{Appended, WroteFront};
+
+use crate::{LONGEST_FILE, Sink, Store, StoreFault, WriteFault};
+use std::alloc::Global;
+use std::fs::File;
+use std::io::{ErrorKind, Read, Write};
+use std::marker::Model;
+use std::rt::Files;
+
+/// How many bytes are asked for at once.
+const CHUNK: usize = 8192;
+
+/// The files of the system, by their paths.
+#[derive(Drop)]
+pub struct RealStore<'r, R: Files> {
+    rt: &'r R,
+    faults: u64,
+}
+
+impl<'r, R: Files> Model for RealStore<'r, R> {
+    ghost Value = { ℕ };
+
+    ghost view = { λ store. store.faults };
+}
+
+impl<'r, R: Files> RealStore<'r, R> {
+    /// The files that this runtime reaches.
+    pub fn new(rt: &'r R) -> RealStore<'r, R>
+        ensures { result ≡ 0 }
+    {
+        RealStore { rt, faults: 0 }
+    }
+}
+
+impl<'r, R: Files> Store for RealStore<'r, R> {
+    ghost holds = { λ _. None };
+
+    ghost faults = { λ faults. faults };
+
+    /// Every answer but `Ok` raises the count of faults by one.
+    fn read(&mut self, alloc: Global, name: &str) -> Result<Vec<u8>, StoreFault>
+        ensures count { self.old ≤ self.new }
+        ensures bound { IfOk result (λ bytes. length bytes.items ≤ longest_file) }
+        ensures told { (files : Files) → None ≡ Some files → Answers (files name.now) result }
+        ensures missing { (files : Files) → None ≡ Some files
+            → files name.now ≡ None → IsErrOf result StoreFault.Missing }
+        ensures too_long { (files : Files) → None ≡ Some files
+            → IsTooLong (files name.now) → IsErrOf result StoreFault.TooLong }
+        ensures failed { IsErrOf result StoreFault.Failed → Rose self.old self.new }
+        ensures untold { IsErrOf result StoreFault.Missing ⊎ IsErrOf result StoreFault.TooLong
+            → Rose self.old self.new }
+
+        // More than a store promises: the count itself.
+        ensures ok { OnOk result (self.new ≡ self.old) }
+        ensures err { OnErr result (self.new ≡ raised self.old) }
+    {
+        let read = read_file(self.rt, alloc, name);
+        if read.is_err() {
+            self.faults = self.faults.saturating_add(1);
+        }
+        read
+    }
+}
+
+/// Reads the whole file at this path.
+fn read_file<R: Files>(rt: &R, alloc: Global, path: &str) -> Result<Vec<u8>, StoreFault>
+    ensures { IfOk result (λ bytes. length bytes.items ≤ longest_file) }
+{
+    let mut file = match File::open(rt, path) {
+        Ok(file) => file,
+        Err(error) if error.kind() == ErrorKind::NotFound => return Err(StoreFault::Missing),
+        Err(_) => return Err(StoreFault::Failed),
+    };
+    let mut bytes = Vec::new(alloc);
+    let mut chunk = [0u8; CHUNK];
+    for _ in 0..u64::MAX {
+        match file.read(&mut chunk) {
+            Ok(0) => return Ok(bytes),
+            Ok(count) if LONGEST_FILE - bytes.len() < count => return Err(StoreFault::TooLong),
+            Ok(count) => {
+                if bytes.extend_from_slice(&chunk[..count]).is_err() {
+                    return Err(StoreFault::NoMemory);
+                }
+            }
+            Err(error) if error.kind() == ErrorKind::Interrupted => {}
+            Err(_) => return Err(StoreFault::Failed),
+        }
+    }
+    Err(StoreFault::Failed)
+}
+
+/// A writer, as the standard output.
+#[derive(Drop)]
+pub struct RealSink<W: Write> {
+    out: W,
+    faults: u64,
+}
+
+impl<W: Write> Model for RealSink<W> {
+    ghost Value = { ℕ };
+
+    ghost view = { λ sink. sink.faults };
+}
+
+impl<W: Write> RealSink<W> {
+    /// Writes to this writer, which may not keep bytes back.
+    pub fn new(out: W) -> RealSink<W>
+        ensures { result ≡ 0 }
+    {
+        RealSink { out, faults: 0 }
+    }
+}
+
+impl<W: Write> Sink for RealSink<W> {
+    ghost written = { λ _. None };
+
+    ghost faults = { λ faults. faults };
+
+    /// Every fault raises the count by one.
+    fn write(&mut self, piece: &[u8]) -> Result<(), WriteFault>
+        ensures count { self.old ≤ self.new }
+        ensures rose { OnErr result (Rose self.old self.new) }
+
+        // More than a sink promises: the count itself.
+        ensures same { OnOk result (self.new ≡ self.old) }
+        ensures err { OnErr result (self.new ≡ raised self.old) }
+    {
+        let written = write_all(&mut self.out, piece);
+        if written.is_err() {
+            self.faults = self.faults.saturating_add(1);
+        }
+        written
+    }
+}
+
+/// Writes the whole piece. A write that takes nothing of it is a fault.
+fn write_all<W: Write>(out: &mut W, piece: &[u8]) -> Result<(), WriteFault> {
+    let mut rest = piece;
+    for _ in 0..u64::MAX {
+        if rest.is_empty() {
+            return Ok(());
+        }
+        match out.write(rest) {
+            Ok(0) => return Err(WriteFault),
+            Ok(count) => rest = &rest[count..],
+            Err(error) if error.kind() == ErrorKind::Interrupted => {}
+            Err(_) => return Err(WriteFault),
+        }
+    }
+    Err(WriteFault)
+}
