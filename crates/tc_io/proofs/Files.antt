@@ -1,5 +1,5 @@
 -- Files of a store in memory that are looked up, replaced and added.
-use Rattle.std.proofs.Common.{◌≡◌, ◌≢◌, ◌+◌, ◌<◌, ℕ, zero, suc, List, [], ◌∷◌, ◌++◌, map, append-nil, add-one, take, drop, sym, ap, ◌∙◌, refl, subst, Option, None, Some, Bool, true, false, cond, if◌then◌else◌, slice_get, string_bytes, arith}
+use Rattle.std.proofs.Common.{◌≡◌, ◌≢◌, ◌+◌, ℕ, zero, suc, List, [], ◌∷◌, ◌++◌, append-nil, add-one, take, drop, sym, ap, ◌∙◌, refl, Option, None, Some, Bool, true, false, if◌then◌else◌, slice_get, string_bytes}
 use Rattle.std.proofs.Math.ListN.{set}
 use Rattle.std.specs.Str.{bytes_eq}
 use Rattle.std.proofs.lemmas.Bool.{false_from_ne_true}
@@ -70,7 +70,7 @@ others_stay files name i new p same other differ =
     let after = entries (drop (suc i) files) in
     ap (λ x. file_of x other) (entries_set files i p.file new p.at_place)
     ∙ (file_of-before (entries (take i files)) (entry new ∷ after) (entry p.file ∷ after) other
-        (file_of-next other (string_bytes new.name) new.bytes.items after now ∙ sym (file_of-next other (string_bytes p.file.name) p.file.bytes.items after old))
+    (file_of-next other (string_bytes new.name) new.bytes.items after now ∙ sym (file_of-next other (string_bytes p.file.name) p.file.bytes.items after old))
     ∙ ap (λ x. file_of x other) (sym (entries_at files i p.file p.at_place)))
 
 -- a file is added under a name that wasn't held

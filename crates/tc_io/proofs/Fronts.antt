@@ -1,5 +1,5 @@
 -- What several writes wrote together, and when the counts of several calls rose.
-use Rattle.std.proofs.Common.{◌≡◌, ◌+◌, ◌<◌, ◌≤◌, ◌⊎◌, ℕ, List, [], ◌++◌, sym, ap, ◌∙◌, refl, subst, take, drop, take-append-drop, append_assoc, append-nil, Option, None, Some, Result, Ok, Err, OnErr, OnOk, arith, inl, inr}
+use Rattle.std.proofs.Common.{◌≤◌, ℕ, List, [], ◌++◌, sym, ap, ◌∙◌, refl, subst, take, drop, take-append-drop, append_assoc, append-nil, Option, None, Some, Result, Ok, Err, OnErr, OnOk, arith, inl, inr}
 use Rattle.std.proofs.lemmas.Bool.{cases_lt}
 use Rattle.tc_io.specs.Faults.{Rose}
 use Rattle.tc_io.specs.Sink.{Appended, WroteFront}

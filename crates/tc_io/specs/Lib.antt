@@ -2,5 +2,6 @@ pub mod Faults
 pub mod HeldFile
 pub mod MemSink
 pub mod MemStore
+pub mod RealSink
 pub mod Sink
 pub mod Store

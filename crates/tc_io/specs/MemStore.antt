@@ -1,5 +1,5 @@
 -- A store in memory: what clients see of it, and how it answers.
-use Rattle.std.specs.Prelude.{◌≡◌, ◌≢◌, ℕ, List, [], ◌∷◌, Vec, Contains, Option, Some, None, Result, Ok, Err, if◌then◌else◌}
+use Rattle.std.specs.Prelude.{◌≡◌, ◌≢◌, ℕ, List, [], ◌∷◌, Vec, Contains, Some, None, Result, Ok, Err, if◌then◌else◌}
 use Rattle.std.specs.Str.{bytes_eq}
 use Rattle.tc_io.specs.Faults.{raised}
 use Rattle.tc_io.specs.Store.{Files, IsTooLong, IsReadable}

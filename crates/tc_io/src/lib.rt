@@ -7,6 +7,8 @@
 mod calls;
 mod memory;
 mod real;
+#[cfg(test)]
+mod tests;
 
 ghost use Rattle.std.specs.Prelude.{◌≡◌, ◌≤◌, ◌⊎◌, ℕ, List, Option, Some, None, length, IfOk, OnOk, OnErr, IsErrOf};
 ghost use Rattle.tc_io.specs.Faults.{Rose};

@@ -1,7 +1,6 @@
 // A store and a sink in memory, whose reads and writes fail where they are told to.
 ghost use Rattle.std.specs.Prelude.{◌≡◌, ◌≤◌, ◌⊎◌, ◌+◌, ◌++◌, ◌∷◌, [], ℕ, List, Option, Some, None, Ok, Err, length, map, take, IfOk, IfSome, IfNone, OnOk, OnErr, IsErrOf, vec_len, vec_capacity};
 ghost use Rattle.std.specs.Option.{option_map};
-ghost use Rattle.std.specs.Option.{option_map};
 ghost use Rattle.tc_io.specs.Faults.{Rose, raised};
 ghost use Rattle.tc_io.specs.Store.{Files, Answers, IsTooLong, IsReadable, longest_file};
 ghost use Rattle.tc_io.specs.Sink.{Appended, WroteFront};
@@ -214,6 +213,7 @@ impl Sink for MemSink {
             self.faults = self.faults.saturating_add(1);
             return Err(WriteFault);
         }
+        // `new` took the room, so appending takes no memory and succeeds.
         let fits = piece.len().min(self.room - self.bytes.len());
         let appended = self.bytes.extend_from_slice(&piece[..fits]);
         if fits < piece.len() || appended.is_err() {

@@ -1,8 +1,10 @@
 // The files of the system and a writer, of which no content is told: the edge that is trusted.
-ghost use Rattle.std.specs.Prelude.{◌≡◌, ◌≤◌, ◌⊎◌, ℕ, List, Option, Some, None, length, IfOk, OnOk, OnErr, IsErrOf, IsOk};
+ghost use Rattle.std.specs.Prelude.{◌≡◌, ◌≤◌, ◌<◌, ◌⊎◌, ℕ, List, Option, Some, None, length, IfOk, IfSome, OnOk, OnErr, IsErrOf};
+ghost use Rattle.std.specs.Io.KnownBytes.{Appends};
 ghost use Rattle.tc_io.specs.Faults.{Rose, raised};
 ghost use Rattle.tc_io.specs.Store.{Files, Answers, IsTooLong, longest_file};
 ghost use Rattle.tc_io.specs.Sink.{Appended, WroteFront};
+ghost use Rattle.tc_io.specs.RealSink.{WriterState, AppendsFront};
 
 use crate::{LONGEST_FILE, Sink, Store, StoreFault, WriteFault};
 use std::alloc::Global;
@@ -70,11 +72,20 @@ impl<'r, R: Files> Store for RealStore<'r, R> {
 fn read_file<R: Files>(rt: &R, alloc: Global, path: &str) -> Result<Vec<u8>, StoreFault>
     ensures { IfOk result (λ bytes. length bytes.items ≤ longest_file) }
 {
-    let mut file = match File::open(rt, path) {
-        Ok(file) => file,
-        Err(error) if error.kind() == ErrorKind::NotFound => return Err(StoreFault::Missing),
-        Err(_) => return Err(StoreFault::Failed),
-    };
+    match File::open(rt, path) {
+        Ok(mut file) => read_to_end(&mut file, alloc),
+        Err(error) if error.kind() == ErrorKind::NotFound => Err(StoreFault::Missing),
+        Err(_) => Err(StoreFault::Failed),
+    }
+}
+
+/// Reads what is left. A read that was interrupted goes on.
+pub(crate) fn read_to_end<F: Read>(file: &mut F, alloc: Global) -> Result<Vec<u8>, StoreFault>
+    ensures bound { IfOk result (λ bytes. length bytes.items ≤ longest_file) }
+    ensures whole { IfOk result (λ bytes. IfSome (F.remaining file.old) (λ left. bytes.items ≡ left)) }
+    ensures too_long { IsErrOf result StoreFault.TooLong → IfSome (F.remaining file.old) (λ left. longest_file < length left) }
+    ensures not_missing { IsErrOf result StoreFault.Missing → ⊥ }
+{
     let mut bytes = Vec::new(alloc);
     let mut chunk = [0u8; CHUNK];
     for _ in 0..u64::MAX {
@@ -101,15 +112,15 @@ pub struct RealSink<W: Write> {
 }
 
 impl<W: Write> Model for RealSink<W> {
-    ghost Value = { ℕ };
+    ghost Value = { WriterState W };
 
-    ghost view = { λ sink. sink.faults };
+    ghost view = { λ sink. record { out = sink.out; faults = sink.faults } };
 }
 
 impl<W: Write> RealSink<W> {
     /// Writes to this writer, which may not keep bytes back.
     pub fn new(out: W) -> RealSink<W>
-        ensures { result ≡ 0 }
+        ensures { result ≡ record { out = out; faults = 0 } }
     {
         RealSink { out, faults: 0 }
     }
@@ -118,16 +129,18 @@ impl<W: Write> RealSink<W> {
 impl<W: Write> Sink for RealSink<W> {
     ghost written = { λ _. None };
 
-    ghost faults = { λ faults. faults };
+    ghost faults = { λ sink. sink.faults };
 
     /// Every fault raises the count by one.
     fn write(&mut self, piece: &[u8]) -> Result<(), WriteFault>
-        ensures count { self.old ≤ self.new }
-        ensures rose { OnErr result (Rose self.old self.new) }
+        ensures count { self.old.faults ≤ self.new.faults }
+        ensures rose { OnErr result (Rose self.old.faults self.new.faults) }
 
-        // More than a sink promises: the count itself.
-        ensures same { OnOk result (self.new ≡ self.old) }
-        ensures err { OnErr result (self.new ≡ raised self.old) }
+        // More than a sink promises: the count itself, and what reaches a writer that tells its bytes.
+        ensures same { OnOk result (self.new.faults ≡ self.old.faults) }
+        ensures err { OnErr result (self.new.faults ≡ raised self.old.faults) }
+        ensures reaches { OnOk result (Appends (W.contents self.old.out) (W.contents self.new.out) piece.now) }
+        ensures front { OnErr result (AppendsFront (W.contents self.old.out) (W.contents self.new.out) piece.now) }
     {
         let written = write_all(&mut self.out, piece);
         if written.is_err() {
@@ -137,8 +150,11 @@ impl<W: Write> Sink for RealSink<W> {
     }
 }
 
-/// Writes the whole piece. A write that takes nothing of it is a fault.
-fn write_all<W: Write>(out: &mut W, piece: &[u8]) -> Result<(), WriteFault> {
+/// Writes the whole piece. A write that takes nothing of it is a fault, and one that was interrupted goes on.
+fn write_all<W: Write>(out: &mut W, piece: &[u8]) -> Result<(), WriteFault>
+    ensures reaches { OnOk result (Appends (W.contents out.old) (W.contents out.new) piece.now) }
+    ensures front { OnErr result (AppendsFront (W.contents out.old) (W.contents out.new) piece.now) }
+{
     let mut rest = piece;
     for _ in 0..u64::MAX {
         if rest.is_empty() {

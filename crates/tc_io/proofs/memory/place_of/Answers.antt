@@ -1,7 +1,5 @@
-use Rattle.std.proofs.Common.{◌≡◌, ◌+◌, ◌∷◌, [], ◌++◌, ap, sym, refl, ◌∙◌, Some, take, string_bytes, bytes_eq}
+use Rattle.std.proofs.Common.{ap, sym, refl, ◌∙◌, bytes_eq}
 use Rattle.std.proofs.lemmas.Option.{slice_get_read}
-use Rattle.tc_io.specs.MemStore.{file_of}
-use Rattle.tc_io.specs.HeldFile.{entries}
 use Rattle.tc_io.proofs.Files.{one_more}
 use Rattle.tc_io.proofs.memory.place_of.Goals as goal
 

@@ -12,7 +12,7 @@ returns-in-Some-clause-ok c =
     let p : IsPlace files c.args.name.now c.in-Some.place = subst (λ x. IsPlace x c.args.name.now c.in-Some.place) c.as_slice.ensures.value c.in-Some.ensures.place in
     let new : HeldFile = record { name = c.index_mut.result.now.name; bytes = c.in_ok-copy.copy } in
     let same : string_bytes new.name ≡ string_bytes p.file.name =
-      ap (λ file. string_bytes file.name) (c.index_mut.ensures.value ∙ get_or_from_slice_get files c.in-Some.place p.file c.index_mut.result.now p.at_place) in
+    ap (λ file. string_bytes file.name) (c.index_mut.ensures.value ∙ get_or_from_slice_get files c.in-Some.place p.file c.index_mut.result.now p.at_place) in
     rw (← c.self.view_is) (record {
       put = replaced files c.args.name.now c.in-Some.place new p same ∙ ap Some c.in_ok-copy.ensures.items;
       others = others_stay files c.args.name.now c.in-Some.place new p same;
