@@ -1,9 +1,8 @@
 // The files of the system and a writer, of which no content is told: the edge that is trusted.
-ghost use Rattle.std.specs.Prelude.{◌≡◌, ◌≤◌, ◌<◌, ◌⊎◌, ℕ, List, Option, Some, None, length, IfOk, IfSome, OnOk, OnErr, IsErrOf};
+ghost use Rattle.std.specs.Prelude.{◌≡◌, ◌≤◌, ◌<◌, ◌⊎◌, ℕ, Some, None, length, IfOk, IfSome, OnOk, OnErr, IsErrOf};
 ghost use Rattle.std.specs.Io.KnownBytes.{Appends};
 ghost use Rattle.tc_io.specs.Faults.{Rose, raised};
 ghost use Rattle.tc_io.specs.Store.{Files, Answers, IsTooLong, longest_file};
-ghost use Rattle.tc_io.specs.Sink.{Appended, WroteFront};
 ghost use Rattle.tc_io.specs.RealSink.{WriterState, AppendsFront};
 
 use crate::{LONGEST_FILE, Sink, Store, StoreFault, WriteFault};
