@@ -5,3 +5,4 @@ pub mod FirstLawsNames
 pub mod FirstLawsSheet
 pub mod FirstLaws
 pub mod FirstLawsPrint
+pub mod FirstText
