@@ -138,25 +138,27 @@ mod tests {
 
     #[test]
     fn reads_nested_patterns(rt: HostRuntime) -> Result<(), Fail> {
-        for (text, patterns) in [
-            ("element a { empty }", Some(0)),
-            ("element r { element x { empty }* }", Some(1)),
-            ("element a{empty}", Some(0)),
-            (" element\na{element b{element c{empty}?}+ } \n", Some(2)),
+        for (text, innermost) in [
+            ("element a { empty }", Some(None)),
+            (
+                "element r { element x { empty }* }",
+                Some(Some(Suffix::ZeroOrMore)),
+            ),
+            (
+                " element\na{element b{element c{empty} ?}+ } \n",
+                Some(Some(Suffix::Optional)),
+            ),
+            ("element a{element b{element c{empty}?}+?}", None),
             ("element list{empty}", None),
             ("element a{empty}?", None),
             ("elementa{empty}", None),
             ("element a1{empty}", None),
-            ("element a{empty", None),
         ] {
             let found = read_schema(rt.alloc(), text.as_bytes());
             assert!(rt; found.is_ok());
             if let Ok(found) = found {
-                assert_eq!(rt;
-                    found.map(|schema| schema.inner.len()),
-                    patterns,
-                    "at {text}"
-                );
+                let suffix = found.map(|schema| schema.inner.last().map(|inner| inner.suffix));
+                assert_eq!(rt; suffix, innermost, "at {text}");
             }
         }
         Ok(())

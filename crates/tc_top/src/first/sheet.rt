@@ -142,7 +142,7 @@ mod tests {
             ("<r >", None),
         ] {
             let found = read_sheet(&arena, sheet(&arena, body)?);
-            assert_eq!(rt; found.is_ok(), true);
+            assert!(rt; found.is_ok());
             if let Ok(found) = found {
                 assert_eq!(rt; found.map(|nodes| nodes.len()), trees, "at {body}");
             }
