@@ -1,5 +1,5 @@
 -- What the texts of the first form give: names of the first form, and one reading.
-use Rattle.std.proofs.Common.{◌≡◌, ◌≢◌, ℕ, zero, suc, ◌+◌, ◌<◌, ◌≤◌, ◌⊎◌, inl, inr, ◌&&◌, ◌==◌, not, Bool, true, false, cond, List, [], ◌∷◌, ◌++◌, refl, ap, ◌∙◌, sym, subst, length, take, drop, nat_le, bytes_eq, codes, arith, length-drop, IsTrue, true≢false, length-append, append_assoc, reverse}
+use Rattle.std.proofs.Common.{Bor, Option, Some, None, MatchOption, ◌≡◌, ◌≢◌, ℕ, zero, suc, ◌+◌, ◌<◌, ◌≤◌, ◌⊎◌, inl, inr, ◌&&◌, ◌==◌, not, Bool, true, false, cond, List, [], ◌∷◌, ◌++◌, refl, ap, ◌∙◌, sym, subst, length, take, drop, nat_le, bytes_eq, codes, arith, length-drop, IsTrue, true≢false, length-append, append_assoc, reverse}
 use Rattle.std.specs.List.{prefix_len, list_all, list_any}
 use Rattle.std.specs.Str.{IsAscii, IsUtf8}
 use Rattle.std.proofs.lemmas.Bool.{and_parts}
@@ -279,8 +279,15 @@ mutual
 pub sheet_plain : {bs : List ℕ} {t : Trees} → SheetText bs t → ArePlainElements t
 sheet_plain a = body_plain a.body
 
-pub tag_named : {front bs b n r : List ℕ} → bs ≡ front ++ b → TagAt front bs n r → NameAt b n r
+tag_named : {front bs b n r : List ℕ} → bs ≡ front ++ b → TagAt front bs n r → NameAt b n r
 tag_named {front} {n = n} {r = r} e t = subst (λ w. NameAt w n r) (same_rest front (sym t.begins ∙ e)) t.named
+
+-- a name behind the front makes a tag
+pub tag_from_name : (front : List ℕ) {bs : List ℕ} (b : List ℕ) (r : Option (Bor (List ℕ) × Bor (List ℕ))) → bs ≡ front ++ b
+    → MatchOption r ((n : List ℕ) (rest : List ℕ) → NameAt b n rest → ⊥) (λ x. NameAt b x.0.now x.1.now)
+    → MatchOption r ((n : List ℕ) (rest : List ℕ) → TagAt front bs n rest → ⊥) (λ x. TagAt front bs x.0.now x.1.now)
+tag_from_name front b None e never = λ n rest t. never n rest (tag_named e t)
+tag_from_name front b (Some x) e at = record { behind_front = b; begins = e; named = at }
 
 pub element_tag : {bs n r : List ℕ} {k : Trees} → ElementAt bs n k r → (rest : List ℕ) × TagAt (codes "<") bs n rest
 element_tag (with_one_tag {rest = rest} t) = (codes "/>" ++ rest, t)

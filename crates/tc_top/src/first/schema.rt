@@ -37,9 +37,7 @@ fn opening(bytes: &[u8]) -> Option<(&[u8], &[u8])>
     ensures { MatchOption result ((n : List ℕ) (rest : List ℕ) → OpeningAt bytes.now n rest → ⊥) (λ r. OpeningAt bytes.now r.0.now r.1.now) }
 {
     let behind = after_keyword(bytes, b"element")?;
-    let Some((name, behind)) = name(skip_spaces(behind)) else {
-        return None;
-    };
+    let (name, behind) = name(skip_spaces(behind))?;
     let inside = after_token(behind, b"{")?;
     Some((name.as_bytes(), inside))
 }

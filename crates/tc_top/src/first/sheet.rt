@@ -22,27 +22,19 @@ fn tag<'t>(bytes: &'t [u8], front: &[u8]) -> Option<(&'t str, &'t [u8])>
     ensures found { MatchOption result ((n : List ℕ) (rest : List ℕ) → TagAt front.now bytes.now n rest → ⊥) (λ r. TagAt front.now bytes.now r.0.now r.1.now) }
     ensures shorter { IfSome result (λ r. length r.1.now + length front.now ≤ length bytes.now) }
 {
-    let behind = after(bytes, front)?;
-    let Some((name, rest)) = name(behind) else {
-        return None;
-    };
-    Some((name, rest))
+    name(after(bytes, front)?)
 }
 
 /// The end tag of this name at the front: what stands behind it.
 fn end_tag<'t>(bytes: &'t [u8], name: &str) -> Option<&'t [u8]>
     ensures { MatchOption result ((rest : List ℕ) → TagAt (codes "</") bytes.now name.now (codes ">" ++ rest) → ⊥) (λ rest. TagAt (codes "</") bytes.now name.now (codes ">" ++ rest.now)) }
 {
-    let Some((end, behind)) = tag(bytes, b"</") else {
-        return None;
-    };
-    if end != name {
-        return None;
+    let (end, behind) = tag(bytes, b"</")?;
+    if end == name {
+        after(behind, b">")
+    } else {
+        None
     }
-    let Some(rest) = after(behind, b">") else {
-        return None;
-    };
-    Some(rest)
 }
 
 /// An element at the front, and what stands behind it.

@@ -1,5 +1,6 @@
 use Rattle.std.proofs.Common.{[], ◌∷◌, rules}
 use Rattle.tc_top.specs.declared.first.schema.Inner.{Inner}
+use Rattle.tc_top.specs.FirstSeen.{schema_from}
 use Rattle.tc_top.specs.FirstText.{EmptyAt, of_nothing, of_pattern}
 use Rattle.tc_top.proofs.FirstText.{opening_shorter, pattern_opens, no_closing, pushed}
 use Rattle.tc_top.proofs.first.schema.+pattern.Goals as goal
@@ -19,7 +20,7 @@ pattern-requires t c = let shorter = opening_shorter c.in-Some.ensures in search
 pub returns-in_default-closing : goal.returns-in_default-closing
 returns-in_default-closing t c = λ s rest p.
     let inner = rw c.in-Some-2.is at c.in_ok-held.ensures in
-    no_closing c.in-Some.ensures c.in_default-after_keyword.ensures inner.2 c.in_default-closing.ensures p
+    no_closing {q = schema_from c.in-Some-2.held.now inner.0} c.in-Some.ensures c.in_default-after_keyword.ensures inner.2 c.in_default-closing.ensures p
 
 pub returns : goal.returns
 returns t c =
