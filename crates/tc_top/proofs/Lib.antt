@@ -6,3 +6,5 @@ pub mod FirstLawsSheet
 pub mod FirstLaws
 pub mod FirstLawsPrint
 pub mod FirstText
+pub mod Named
+pub mod Numerals

@@ -2,3 +2,5 @@ pub mod FirstForm
 pub mod FirstSeen
 pub mod FirstText
 pub mod FirstFits
+pub mod Words
+pub mod WordsSeen

@@ -1,4 +1,8 @@
 //! The top call: it reads the files that its words name, decides, and writes the answer.
 #![tactic(auto)]
 
+mod command;
 mod first;
+mod words;
+
+pub use words::WordList;
