@@ -8,3 +8,4 @@ pub mod FirstLawsPrint
 pub mod FirstText
 pub mod Named
 pub mod Numerals
+pub mod OneCommand

@@ -3,6 +3,7 @@
 
 mod command;
 mod first;
+pub mod laws;
 mod words;
 
 pub use words::WordList;
