@@ -9,3 +9,8 @@ pub mod FirstText
 pub mod Named
 pub mod Numerals
 pub mod OneCommand
+pub mod FirstRead
+pub mod FirstUnread
+pub mod Fronts
+pub mod Exact
+pub mod Headline

@@ -4,3 +4,8 @@ pub mod FirstText
 pub mod FirstFits
 pub mod Words
 pub mod WordsSeen
+pub mod Answers
+pub mod AnswersSeen
+pub mod Lines
+pub mod Reading
+pub mod StatusSeen
