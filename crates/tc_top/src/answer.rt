@@ -50,7 +50,9 @@ impl Answer {
     {
         Answer {
             status: Status::Usage,
-            text: Text::Fixed(b"usage: check|prove [--limit N] IN OUT SHEET; verify IN OUT SHEET CERT; run SHEET DOC; valid SCHEMA DOC; demo N\n"),
+            text: Text::Fixed(
+                b"usage: check|prove [--limit N] IN OUT SHEET; verify IN OUT SHEET CERT; run SHEET DOC; valid SCHEMA DOC; demo N\n",
+            ),
         }
     }
 
@@ -101,7 +103,11 @@ impl Answer {
     }
 
     /// The least document that is valid for the input schema has these trees as its result, and they aren't valid.
-    pub fn not_safe(alloc: Global, input: &Schema<'_>, body: &[Node<'_>]) -> Result<Answer, NoMemory>
+    pub fn not_safe(
+        alloc: Global,
+        input: &Schema<'_>,
+        body: &[Node<'_>],
+    ) -> Result<Answer, NoMemory>
         requires { ArePlainElements (trees body.now) }
         ensures { IfOk result (λ said. Says said (a.unsafe (least_document (schema input.now)) (trees body.now))) }
     {

@@ -109,7 +109,7 @@ fn read_limit(words: &[String]) -> Option<(Option<u32>, &[String])>
     ensures { MatchOption result
         ((limit : Option ℕ) (operands : List (List ℕ)) → Limits (texts words.now) limit operands → AreOperands operands → ⊥)
         (λ read. Limits (texts words.now) read.0 (texts read.1.now)
-            × ((limit : Option ℕ) (operands : List (List ℕ)) → Limits (texts words.now) limit operands → AreOperands operands → operands ≡ texts read.1.now)) }
+        × ((limit : Option ℕ) (operands : List (List ℕ)) → Limits (texts words.now) limit operands → AreOperands operands → operands ≡ texts read.1.now)) }
 {
     let Some((option, rest)) = words.split_first() else {
         return Some((None, words));

@@ -4,5 +4,4 @@ ghost use Rattle.tc_top.specs.Words.{WordsGiveOne};
 /// A list of words gives one command at most.
 pub fn words_give_one_command()
     ensures { WordsGiveOne }
-{
-}
+{}

@@ -67,7 +67,7 @@ pub fn typecheck<S: Store, K: Sink>(
     // The headline: a check of held files is yes exactly where every result is valid, and no exactly where one isn't.
     ensures headline { (files : Files) (i o : f.Schema) (t : Trees) → S.holds store.old ≡ Some files → ChecksFiles words.now files i o t
         → IsCutShort result (Rose (S.faults store.old) (S.faults store.new))
-            ⊎ DecidesSafety result (K.written sink.old) (K.written sink.new) (grammar_of i) (grammar_of o) (sheet_of t) }
+        ⊎ DecidesSafety result (K.written sink.old) (K.written sink.new) (grammar_of i) (grammar_of o) (sheet_of t) }
 
     // What is held stays as it is, and no count of faults falls.
     ensures held { S.holds store.new ≡ S.holds store.old }
@@ -84,7 +84,11 @@ pub fn typecheck<S: Store, K: Sink>(
 }
 
 /// The answer to the words, before it is written.
-fn answer_words<S: Store>(alloc: Global, words: &[String], store: &mut S) -> Result<Answer, NoMemory>
+fn answer_words<S: Store>(
+    alloc: Global,
+    words: &[String],
+    store: &mut S,
+) -> Result<Answer, NoMemory>
     ensures right { IfOk result (IsRight (texts words.now) (S.holds store.old) (Rose (S.faults store.old) (S.faults store.new))) }
     ensures no_memory { OnErr result ((command : w.Command) × Words (texts words.now) command) }
     ensures unread { ReadsNothing (texts words.now) → store.new ≡ store.old }

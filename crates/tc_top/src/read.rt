@@ -28,7 +28,11 @@ pub struct Texts {
 }
 
 /// Reads the operands of a check, in order.
-pub fn read_texts<'w, S: Store>(alloc: Global, triple: Triple<'w>, store: &mut S) -> Result<Texts, Unread<'w>>
+pub fn read_texts<'w, S: Store>(
+    alloc: Global,
+    triple: Triple<'w>,
+    store: &mut S,
+) -> Result<Texts, Unread<'w>>
     ensures same { S.holds store.new ≡ S.holds store.old }
     ensures count { S.faults store.old ≤ S.faults store.new }
     ensures input { IfOk result (λ texts. Reads (S.holds store.old) triple.entry.input.now texts.input.items) }
@@ -48,7 +52,11 @@ pub fn read_texts<'w, S: Store>(alloc: Global, triple: Triple<'w>, store: &mut S
 }
 
 /// Reads one operand.
-fn read_operand<'w, S: Store>(alloc: Global, name: &'w str, store: &mut S) -> Result<Vec<u8>, Unread<'w>>
+fn read_operand<'w, S: Store>(
+    alloc: Global,
+    name: &'w str,
+    store: &mut S,
+) -> Result<Vec<u8>, Unread<'w>>
     ensures same { S.holds store.new ≡ S.holds store.old }
     ensures count { S.faults store.old ≤ S.faults store.new }
     ensures ok { IfOk result (λ bytes. Reads (S.holds store.old) name.now bytes.items) }

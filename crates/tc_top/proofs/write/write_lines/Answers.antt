@@ -18,6 +18,9 @@ loop-rest-preserved g c =
     let behind = c.split_piece.result.1.now in
     record {
       count = omega (arith, c.loop-rest.invariant.count, c.in_ok-write_piece.ensures.count);
-      so_far = (so_far.0 ++ piece, append_assoc so_far.0 piece behind ∙ (ap (λ x. so_far.0 ++ x) c.split_piece.ensures.parts ∙ so_far.1),
-      appended_twice _ _ _ so_far.0 piece so_far.2 c.in_ok-write_piece.ensures.ok);
+      so_far = (
+        so_far.0 ++ piece,
+        append_assoc so_far.0 piece behind ∙ (ap (λ x. so_far.0 ++ x) c.split_piece.ensures.parts ∙ so_far.1),
+        appended_twice _ _ _ so_far.0 piece so_far.2 c.in_ok-write_piece.ensures.ok,
+      );
     }
