@@ -8,6 +8,8 @@ mod first;
 pub mod laws;
 mod read;
 mod status;
+#[cfg(test)]
+mod tests;
 mod words;
 mod write;
 
