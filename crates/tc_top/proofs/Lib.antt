@@ -5,3 +5,12 @@ pub mod FirstLawsNames
 pub mod FirstLawsSheet
 pub mod FirstLaws
 pub mod FirstLawsPrint
+pub mod FirstText
+pub mod Named
+pub mod Numerals
+pub mod OneCommand
+pub mod FirstRead
+pub mod FirstUnread
+pub mod Fronts
+pub mod Exact
+pub mod Headline

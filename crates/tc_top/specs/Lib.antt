@@ -2,3 +2,10 @@ pub mod FirstForm
 pub mod FirstSeen
 pub mod FirstText
 pub mod FirstFits
+pub mod Words
+pub mod WordsSeen
+pub mod Answers
+pub mod AnswersSeen
+pub mod Lines
+pub mod Reading
+pub mod StatusSeen

@@ -1,4 +1,107 @@
 //! The top call: it reads the files that its words name, decides, and writes the answer.
 #![tactic(auto)]
 
+mod answer;
+mod check;
+mod command;
 mod first;
+pub mod laws;
+mod read;
+mod status;
+#[cfg(test)]
+mod tests;
+mod words;
+mod write;
+
+ghost use Rattle.std.specs.Prelude.{◌≡◌, ◌≢◌, ◌≤◌, ◌⊎◌, ℕ, List, Some, IfOk, OnErr};
+ghost use Rattle.tc_io.specs.Faults.{Rose};
+ghost use Rattle.tc_io.specs.Store.{Files};
+ghost use Rattle.tc_model.specs.Trees.{Trees};
+ghost use Rattle.tc_top.specs.Answers as a;
+ghost use Rattle.tc_top.specs.Answers.{IsAnswer, IsBuilt, ReadsNothing, Answered, BrokenOff, Gives, IsCutShort, ChecksFiles, DecidesSafety};
+ghost use Rattle.tc_top.specs.AnswersSeen.{IsRight};
+ghost use Rattle.tc_top.specs.FirstForm as f;
+ghost use Rattle.tc_top.specs.FirstForm.{grammar_of, sheet_of};
+ghost use Rattle.tc_top.specs.Words as w;
+ghost use Rattle.tc_top.specs.Words.{Words, IsNoCommand, name_of};
+ghost use Rattle.tc_top.specs.WordsSeen.{texts};
+
+use answer::Answer;
+use check::check;
+use command::{built, read_words};
+pub use status::Status;
+use std::alloc::Global;
+use tc_base::NoMemory;
+use tc_io::{Sink, Store, WriteFault};
+pub use words::WordList;
+use write::write_lines;
+
+/// Carries out the command that the words give: reads the files that it names from the store, and writes the answer to
+/// the sink, each line by a write of its own. All memory is taken before the first write.
+pub fn typecheck<S: Store, K: Sink>(
+    alloc: Global,
+    words: &WordList,
+    store: &mut S,
+    sink: &mut K,
+) -> Status
+    // An answer is right by its cause, and it is all that was written.
+    ensures answered { result ≢ Status.WriteFault → result ≢ Status.NoMemory
+        → Answered words.now (S.holds store.old) (Rose (S.faults store.old) (S.faults store.new)) result (K.written sink.old) (K.written sink.new) }
+
+    // A write fault comes only where writes failed, and breaks off the answer that would have been given.
+    ensures write_fault { result ≡ Status.WriteFault → Rose (K.faults sink.old) (K.faults sink.new) }
+    ensures broken_off { result ≡ Status.WriteFault
+        → BrokenOff words.now (S.holds store.old) (Rose (S.faults store.old) (S.faults store.new)) (K.written sink.old) (K.written sink.new) }
+
+    // Want of memory comes only to a command, and before the first write.
+    ensures no_memory { result ≡ Status.NoMemory → (command : w.Command) × Words words.now command }
+    ensures unwritten { result ≡ Status.NoMemory → sink.new ≡ sink.old }
+
+    // Words alone decide that they are no command, and that a command isn't carried out.
+    ensures usage { IsNoCommand words.now → (result ≡ Status.Usage) ⊎ (result ≡ Status.WriteFault) }
+    ensures not_built { (command : w.Command) → Words words.now command → ¬ (IsBuilt command) → Gives result ⊥ (a.not_yet (name_of command)) }
+    ensures unread { ReadsNothing words.now → store.new ≡ store.old }
+
+    // Where the store tells what it holds, each cause has its answer.
+    ensures exactly { (files : Files) (answer : a.Answer) → S.holds store.old ≡ Some files → IsAnswer words.now (Some files) ⊥ answer
+        → Gives result (Rose (S.faults store.old) (S.faults store.new)) answer }
+
+    // The headline: a check of held files is yes exactly where every result is valid, and no exactly where one isn't.
+    ensures headline { (files : Files) (i o : f.Schema) (t : Trees) → S.holds store.old ≡ Some files → ChecksFiles words.now files i o t
+        → IsCutShort result (Rose (S.faults store.old) (S.faults store.new))
+        ⊎ DecidesSafety result (K.written sink.old) (K.written sink.new) (grammar_of i) (grammar_of o) (sheet_of t) }
+
+    // What is held stays as it is, and no count of faults falls.
+    ensures held { S.holds store.new ≡ S.holds store.old }
+    ensures store_count { S.faults store.old ≤ S.faults store.new }
+    ensures sink_count { K.faults sink.old ≤ K.faults sink.new }
+{
+    match answer_words(alloc, words.as_slice(), store) {
+        Ok(answer) => match write_lines(answer.text.as_bytes(), sink) {
+            Ok(()) => answer.status,
+            Err(WriteFault) => Status::WriteFault,
+        },
+        Err(NoMemory) => Status::NoMemory,
+    }
+}
+
+/// The answer to the words, before it is written.
+fn answer_words<S: Store>(
+    alloc: Global,
+    words: &[String],
+    store: &mut S,
+) -> Result<Answer, NoMemory>
+    ensures right { IfOk result (IsRight (texts words.now) (S.holds store.old) (Rose (S.faults store.old) (S.faults store.new))) }
+    ensures no_memory { OnErr result ((command : w.Command) × Words (texts words.now) command) }
+    ensures unread { ReadsNothing (texts words.now) → store.new ≡ store.old }
+    ensures held { S.holds store.new ≡ S.holds store.old }
+    ensures count { S.faults store.old ≤ S.faults store.new }
+{
+    let Some(command) = read_words(words) else {
+        return Ok(Answer::usage());
+    };
+    match built(command) {
+        Some(triple) => check(alloc, triple, store),
+        None => Answer::not_yet(alloc, command.name()),
+    }
+}

@@ -1,0 +1,79 @@
+-- A check of files of the first form is exact.
+use Rattle.std.proofs.Common.{◌≡◌, ◌≢◌, ◌≤◌, ◌<◌, ◌⊎◌, ◌↔◌, ◌∷◌, [], ◌∙◌, inl, inr, refl, sym, subst, ap, ℕ, List, length, Option, Some, None, arith}
+use Rattle.tc_io.specs.Store.{Files}
+use Rattle.tc_io.specs.Sink.{Appended}
+use Rattle.tc_model.specs.Trees.{Trees}
+use Rattle.tc_model.specs.Safety.{IsSafe, IsCounterexample}
+use Rattle.tc_top.specs.FirstForm.{Schema, grammar_of, sheet_of}
+use Rattle.tc_top.specs.FirstText.{SchemaText, SheetText}
+use Rattle.tc_top.specs.Reading.{Reads}
+use Rattle.tc_top.specs.Answers.{Answer, safe, unsafe, status_of, text_of, other_input, other_output, other_sheet, Checks, is_other_form, is_safe, is_unsafe, IsAnswer, IsCutShort, Gives, ChecksFiles, DecidesSafety}
+use Rattle.tc_top.specs.AnswersSeen.{IsRight}
+use Rattle.tc_top.specs.declared.answer.Answer.{Answer as Said}
+use Rattle.tc_top.specs.declared.status.Status.{Status}
+use Rattle.tc_top.specs.declared.status.Status.TheVariants.{Yes, No, ReadFault}
+use Rattle.tc_top.proofs.FirstText.{schema_unique, sheet_unique}
+use Rattle.tc_top.proofs.Exact.{Agrees, not_both, texts_decide}
+
+pub gives : {rose : Type 0} (status : Status) (one other : Answer) → status ≡ status_of other → Agrees rose one other → Gives status rose one
+gives status one other e (inl same) = inl (e ∙ same)
+gives status one other e (inr failed) = inr (inr (inr (e ∙ failed.0, failed.1)))
+
+-- an answer that is right for the same words
+pub at_words : {words other : List (List ℕ)} {told : Option Files} {rose : Type 0} {said : Said} → words ≡ other → IsRight words told rose said → IsRight other told rose said
+at_words {words} {other} {told} {rose} {said} same right = subst (λ w. IsRight w told rose said) same right
+
+-- where the store tells
+pub at_told : {words : List (List ℕ)} {told other : Option Files} {rose : Type 0} {answer : Answer} → told ≡ other → IsAnswer words told rose answer → IsAnswer words other rose answer
+at_told {words} {told} {other} {rose} {answer} same right = subst (λ t. IsAnswer words t rose answer) same right
+
+held_reads : (files : Files) (name bytes : List ℕ) → files name ≡ Some bytes → length bytes ≤ 4096 → Reads (Some files) name bytes
+held_reads files name bytes held short = record { held = λ other same. let h : files ≡ other = cc in subst (λ (f : Files). f name ≡ Some bytes) h held; short = omega (arith, short) }
+
+module _ (i o : Schema) (t : Trees) where
+  -- what the three texts decide
+  data Decided : Answer → Type 0 where
+    decided_safe : IsSafe (grammar_of i) (grammar_of o) (sheet_of t) → Decided safe
+    decided_unsafe : {document result : Trees} → IsCounterexample (grammar_of i) (grammar_of o) (sheet_of t) document result → Decided (unsafe document result)
+
+  decided : {input output sheet b c d : List ℕ} {answer : Answer} → SchemaText b i → SchemaText c o → SheetText d t → Checks input output sheet b c d answer → Decided answer
+  decided x y z (is_other_form (other_input n)) = absurd (n _ x)
+  decided x y z (is_other_form (other_output p n)) = absurd (n _ y)
+  decided x y z (is_other_form (other_sheet p q n)) = absurd (n _ z)
+  decided x y z (is_safe {i = j} {o = p} {t = u} k l m h) =
+      decided_safe (subst (λ v. IsSafe (grammar_of v) (grammar_of o) (sheet_of t)) (schema_unique k x)
+      (subst (λ v. IsSafe (grammar_of j) (grammar_of v) (sheet_of t)) (schema_unique l y)
+      (subst (λ v. IsSafe (grammar_of j) (grammar_of p) (sheet_of v)) (sheet_unique m z) h)))
+  decided x y z (is_unsafe {i = j} {o = p} {t = u} {document} {output_trees} k l m h) =
+      decided_unsafe (subst (λ v. IsCounterexample (grammar_of v) (grammar_of o) (sheet_of t) document output_trees) (schema_unique k x)
+      (subst (λ v. IsCounterexample (grammar_of j) (grammar_of v) (sheet_of t) document output_trees) (schema_unique l y)
+      (subst (λ v. IsCounterexample (grammar_of j) (grammar_of p) (sheet_of v) document output_trees) (sheet_unique m z) h)))
+
+  exact_decision : {b c d : List ℕ} (status : Status) (old new : Option (List ℕ)) (answer : Answer) → SchemaText b i → SchemaText c o → SheetText d t
+      → status ≡ status_of answer → Appended old new (text_of answer) → Decided answer → DecidesSafety status old new (grammar_of i) (grammar_of o) (sheet_of t)
+  exact_decision status old new answer x y z is written (decided_safe h) = record {
+    yes = (λ _. h, λ _. is);
+    no = (λ e. absurd (let k = sym is ∙ e in cc), λ n. absurd (n h));
+    yes_text = λ _. written;
+    no_text = λ e. absurd (let k = sym is ∙ e in cc);
+  }
+  exact_decision status old new answer x y z is written (decided_unsafe {document} {result} h) = record {
+    yes = (λ e. absurd (let k = sym is ∙ e in cc), λ s. absurd (not_both x y z s x y z h));
+    no = (λ _. λ s. not_both x y z s x y z h, λ _. is);
+    yes_text = λ e. absurd (let k = sym is ∙ e in cc);
+    no_text = λ _. (document, result, h, written);
+  }
+
+pub headline : {words : List (List ℕ)} {rose : Type 0} (files : Files) (i o : Schema) (t : Trees) (status : Status) (old new : Option (List ℕ)) (answer : Answer) → ChecksFiles words files i o t
+    → IsAnswer words (Some files) rose answer → status ≡ status_of answer → Appended old new (text_of answer)
+    → IsCutShort status rose ⊎ DecidesSafety status old new (grammar_of i) (grammar_of o) (sheet_of t)
+headline {words} {rose} files i o t status old new answer c right is written =
+    let input = held_reads files c.input c.input_text c.input_held c.input_spells.short in
+    let output = held_reads files c.output c.output_text c.output_held c.output_spells.short in
+    let sheet = held_reads files c.sheet c.sheet_text c.sheet_held c.sheet_spells.short in
+    by (texts_decide c.words_are input output sheet right)
+  where
+    by : ((status_of answer ≡ ReadFault) × rose) ⊎ Checks c.input c.output c.sheet c.input_text c.output_text c.sheet_text answer
+        → IsCutShort status rose ⊎ DecidesSafety status old new (grammar_of i) (grammar_of o) (sheet_of t)
+    by (inl failed) = inl (inr (inr (is ∙ failed.0, failed.1)))
+    by (inr checks) = inr (exact_decision i o t status old new answer c.input_spells c.output_spells c.sheet_spells is written (decided i o t c.input_spells c.output_spells c.sheet_spells checks))

@@ -1,0 +1,21 @@
+use Rattle.std.proofs.Common.{◌∙◌, inl, subst}
+use Rattle.tc_io.specs.Sink.{Appended}
+use Rattle.tc_top.proofs.Exact.{exact, refused_only}
+use Rattle.tc_top.proofs.Headline.{at_words, at_told, gives, headline}
+use Rattle.tc_top.proofs.typecheck.Goals as goal
+
+pub returns-in-Ok-write_lines-clause-not_built : goal.returns-in-Ok-write_lines-clause-not_built
+returns-in-Ok-write_lines-clause-not_built g c = λ command words other.
+    let right = at_words c.as_slice.ensures c.in-Ok.ensures.right in
+    inl (right.1.status ∙ refused_only words other right.2)
+
+pub returns-in-Ok-write_lines-clause-exactly : goal.returns-in-Ok-write_lines-clause-exactly
+returns-in-Ok-write_lines-clause-exactly g c = λ files answer told is.
+    let right = at_words c.as_slice.ensures c.in-Ok.ensures.right in
+    gives _ answer right.0 right.1.status (exact is (at_told told right.2))
+
+pub returns-in-Ok-write_lines-clause-headline : goal.returns-in-Ok-write_lines-clause-headline
+returns-in-Ok-write_lines-clause-headline g c = λ files i o t told checks.
+    let right = at_words c.as_slice.ensures c.in-Ok.ensures.right in
+    let written = subst (Appended (g.K.Sink.written c.args.sink.now) (g.K.Sink.written c.write_lines.new.sink)) (c.as_bytes.ensures ∙ right.1.written) c.in-Ok-write_lines.ensures.ok in
+    headline files i o t _ _ _ right.0 checks (at_told told right.2) right.1.status written

@@ -1,0 +1,128 @@
+-- What a call answers, and why: the lines, the status, and the cause of each answer.
+use Rattle.std.specs.Prelude.{◌≡◌, ◌⊎◌, ◌↔◌, ℕ, List, [], ◌∷◌, ◌++◌, Option, Some, None, codes}
+use Rattle.tc_io.specs.Store.{Files}
+use Rattle.tc_io.specs.Sink.{Appended, WroteFront}
+use Rattle.tc_model.specs.Trees.{Trees}
+use Rattle.tc_model.specs.Grammars.{Grammar}
+use Rattle.tc_model.specs.Sheets.{Sheet}
+use Rattle.tc_model.specs.Safety.{IsSafe, IsCounterexample}
+use Rattle.tc_model.specs.Printed.{printed}
+use Rattle.tc_top.specs.FirstForm.{Schema, grammar_of, sheet_of}
+use Rattle.tc_top.specs.FirstText.{SchemaText, SheetText}
+use Rattle.tc_top.specs.Words.{Command, check, prove, verify, run, valid, demo, Words, IsNoCommand, name_of, operands_of}
+use Rattle.tc_top.specs.Reading.{Reads, StopsAt, CannotRead, IsOverLong}
+use Rattle.tc_top.specs.declared.status.Status.{Status}
+use Rattle.tc_top.specs.declared.status.Status.TheVariants.{Yes, No, Usage, Refused, Limit, ReadFault, WriteFault, NoMemory}
+
+pub data Answer : Type 0 where
+  usage : Answer
+  -- a command that isn't carried out yet, or an operand of a form that isn't read yet
+  not_yet : (name : List ℕ) → Answer
+  cannot_read : (name : List ℕ) → Answer
+  file_limit : Answer
+  safe : Answer
+  unsafe : (document output : Trees) → Answer
+
+abbrev pub status_of : Answer → Status
+status_of usage = Usage
+status_of (not_yet name) = Refused
+status_of (cannot_read name) = ReadFault
+status_of file_limit = Limit
+status_of safe = Yes
+status_of (unsafe document output) = No
+
+-- a line ends with a line feed
+abbrev pub line : List ℕ → List ℕ
+line text = text ++ 10 ∷ []
+
+-- what an answer writes
+abbrev pub text_of : Answer → List ℕ
+text_of usage = line (codes "usage: check|prove [--limit N] IN OUT SHEET; verify IN OUT SHEET CERT; run SHEET DOC; valid SCHEMA DOC; demo N")
+text_of (not_yet name) = line (codes "refused " ++ name ++ codes " not-yet")
+text_of (cannot_read name) = line (codes "cannot read " ++ name)
+text_of file_limit = line (codes "limit file 67108864")
+text_of safe = line (codes "safe")
+text_of (unsafe document output) = line (codes "unsafe") ++ line (codes "document " ++ printed document) ++ line (codes "output " ++ printed output)
+
+-- a command that is carried out
+abbrev pub IsBuilt : Command → Type 0
+IsBuilt (check None input output sheet) = Unit {0}
+IsBuilt (check (Some limit) input output sheet) = ⊥
+IsBuilt (prove limit input output sheet) = ⊥
+IsBuilt (verify input output sheet certificate) = ⊥
+IsBuilt (run sheet document) = ⊥
+IsBuilt (valid schema document) = ⊥
+IsBuilt (demo size) = ⊥
+
+-- words of no command, and of a command that isn't carried out, for which nothing is read
+abbrev pub ReadsNothing : List (List ℕ) → Type 0
+ReadsNothing words = (command : Command) → Words words command → ¬ (IsBuilt command)
+
+-- the first of three operands whose text, a, b or c, is of another form
+pub data IsOtherForm (input output sheet a b c : List ℕ) : List ℕ → Type 0 where
+  other_input : ((i : Schema) → SchemaText a i → ⊥) → IsOtherForm input output sheet a b c input
+  other_output : {i : Schema} → SchemaText a i → ((o : Schema) → SchemaText b o → ⊥) → IsOtherForm input output sheet a b c output
+  other_sheet : {i o : Schema} → SchemaText a i → SchemaText b o → ((t : Trees) → SheetText c t → ⊥) → IsOtherForm input output sheet a b c sheet
+
+-- what `check` answers on the texts a, b and c of its operands
+pub data Checks (input output sheet a b c : List ℕ) : Answer → Type 0 where
+  is_other_form : {name : List ℕ} → IsOtherForm input output sheet a b c name → Checks input output sheet a b c (not_yet name)
+  is_safe : {i o : Schema} {t : Trees} → SchemaText a i → SchemaText b o → SheetText c t
+      → IsSafe (grammar_of i) (grammar_of o) (sheet_of t) → Checks input output sheet a b c safe
+  is_unsafe : {i o : Schema} {t : Trees} {document output_trees : Trees} → SchemaText a i → SchemaText b o → SheetText c t
+      → IsCounterexample (grammar_of i) (grammar_of o) (sheet_of t) document output_trees → Checks input output sheet a b c (unsafe document output_trees)
+
+-- an answer with its cause: the words, what the store tells, and whether its faults rose
+pub data IsAnswer (words : List (List ℕ)) (told : Option Files) (rose : Type 0) : Answer → Type 0 where
+  no_command : IsNoCommand words → IsAnswer words told rose usage
+  not_built : {command : Command} {name : List ℕ} → Words words command → ¬ (IsBuilt command) → name ≡ name_of command → IsAnswer words told rose (not_yet name)
+  not_read : {command : Command} {name : List ℕ} → Words words command → IsBuilt command
+      → StopsAt told (operands_of command) name → CannotRead told rose name → IsAnswer words told rose (cannot_read name)
+  over_long : {command : Command} {name : List ℕ} → Words words command → IsBuilt command
+      → StopsAt told (operands_of command) name → IsOverLong told rose name → IsAnswer words told rose file_limit
+  checked : {input output sheet a b c : List ℕ} {answer : Answer} → Words words (check None input output sheet)
+      → Reads told input a → Reads told output b → Reads told sheet c → Checks input output sheet a b c answer → IsAnswer words told rose answer
+
+-- the answer that a call gave: it is right, and all of it was written
+pub record Answered (words : List (List ℕ)) (told : Option Files) (rose : Type 0) (status : Status) (old new : Option (List ℕ)) : Type 0 where
+  pub answer : Answer
+  pub right : IsAnswer words told rose answer
+  pub status_is : status ≡ status_of answer
+  pub written : Appended old new (text_of answer)
+
+-- the answer that a call would have given: it is right, and a front of it was written
+pub record BrokenOff (words : List (List ℕ)) (told : Option Files) (rose : Type 0) (old new : Option (List ℕ)) : Type 0 where
+  pub answer : Answer
+  pub right : IsAnswer words told rose answer
+  pub front : WroteFront old new (text_of answer)
+
+-- the call was cut short: memory was refused, a write failed, or a read failed
+abbrev pub IsCutShort : Status → Type 0 → Type 0
+IsCutShort status rose = (status ≡ NoMemory) ⊎ ((status ≡ WriteFault) ⊎ ((status ≡ ReadFault) × rose))
+
+-- the status is that of the answer, unless the call was cut short
+abbrev pub Gives : Status → Type 0 → Answer → Type 0
+Gives status rose answer = (status ≡ status_of answer) ⊎ IsCutShort status rose
+
+-- the words are a check of held files whose texts spell two schemas and the trees that the stylesheet puts out
+pub record ChecksFiles (words : List (List ℕ)) (files : Files) (i o : Schema) (t : Trees) : Type 0 where
+  pub input : List ℕ
+  pub output : List ℕ
+  pub sheet : List ℕ
+  pub words_are : Words words (check None input output sheet)
+  pub input_text : List ℕ
+  pub output_text : List ℕ
+  pub sheet_text : List ℕ
+  pub input_held : files input ≡ Some input_text
+  pub output_held : files output ≡ Some output_text
+  pub sheet_held : files sheet ≡ Some sheet_text
+  pub input_spells : SchemaText input_text i
+  pub output_spells : SchemaText output_text o
+  pub sheet_spells : SheetText sheet_text t
+
+-- yes exactly where the stylesheet is safe, with the line of it; no exactly where it isn't, with a counterexample and its result
+pub record DecidesSafety (status : Status) (old new : Option (List ℕ)) (input output : Grammar) (sheet : Sheet) : Type 0 where
+  pub yes : (status ≡ Yes) ↔ IsSafe input output sheet
+  pub no : (status ≡ No) ↔ ¬ (IsSafe input output sheet)
+  pub yes_text : status ≡ Yes → Appended old new (text_of safe)
+  pub no_text : status ≡ No → (document : Trees) × (result : Trees) × IsCounterexample input output sheet document result × Appended old new (text_of (unsafe document result))

@@ -1,0 +1,56 @@
+// What `check` answers.
+ghost use Rattle.std.specs.Prelude.{◌≡◌, ◌≤◌, ℕ, List, IfOk};
+ghost use Rattle.tc_io.specs.Faults.{Rose};
+ghost use Rattle.tc_top.specs.Answers as a;
+ghost use Rattle.tc_top.specs.Answers.{Checks};
+ghost use Rattle.tc_top.specs.AnswersSeen.{Says, IsRight};
+ghost use Rattle.tc_top.specs.Words as w;
+ghost use Rattle.tc_top.specs.Words.{Words};
+
+use crate::answer::Answer;
+use crate::command::Triple;
+use crate::first::decide::is_valid_output;
+use crate::first::schema::read_schema;
+use crate::first::sheet::read_sheet;
+use crate::read::{Texts, Unread, read_texts};
+use bumpalo::Bump;
+use std::alloc::Global;
+use tc_base::NoMemory;
+use tc_io::Store;
+
+/// Reads the operands, and decides whether the stylesheet is safe.
+pub fn check<S: Store>(alloc: Global, triple: Triple<'_>, store: &mut S) -> Result<Answer, NoMemory>
+    ensures same { S.holds store.new ≡ S.holds store.old }
+    ensures count { S.faults store.old ≤ S.faults store.new }
+    ensures ok { IfOk result (λ said. (words : List (List ℕ))
+        → Words words (w.check None triple.entry.input.now triple.entry.output.now triple.entry.sheet.now)
+        → IsRight words (S.holds store.old) (Rose (S.faults store.old) (S.faults store.new)) said) }
+{
+    match read_texts(alloc, triple, store) {
+        Ok(texts) => check_texts(alloc, triple, &texts),
+        Err(Unread::Missing(name)) => Answer::cannot_read(alloc, name),
+        Err(Unread::TooLong) => Ok(Answer::file_limit()),
+        Err(Unread::NoMemory) => Err(NoMemory),
+    }
+}
+
+/// Decides by the texts of the operands whether the stylesheet is safe.
+fn check_texts(alloc: Global, triple: Triple<'_>, texts: &Texts) -> Result<Answer, NoMemory>
+    ensures { IfOk result (λ said. (answer : a.Answer) × Says said answer × Checks triple.entry.input.now triple.entry.output.now triple.entry.sheet.now
+        texts.now.input.items texts.now.output.items texts.now.sheet.items answer) }
+{
+    let Some(input) = read_schema(alloc, &texts.input)? else {
+        return Answer::not_yet(alloc, triple.input);
+    };
+    let Some(output) = read_schema(alloc, &texts.output)? else {
+        return Answer::not_yet(alloc, triple.output);
+    };
+    let arena = Bump::new(alloc);
+    let Some(body) = read_sheet(&arena, &texts.sheet)? else {
+        return Answer::not_yet(alloc, triple.sheet);
+    };
+    if is_valid_output(&output, body) {
+        return Ok(Answer::safe());
+    }
+    Answer::not_safe(alloc, &input, body)
+}
