@@ -1,15 +1,13 @@
 -- The answer to words and files is determined: what is right for them has one status.
-use Rattle.std.proofs.Common.{◌≡◌, ◌≤◌, ◌<◌, ◌⊎◌, ◌↔◌, ◌∷◌, [], ◌++◌, ◌∙◌, inl, inr, refl, sym, subst, ap, ℕ, List, length, Option, Some, None, arith}
+use Rattle.std.proofs.Common.{◌≡◌, ◌<◌, ◌⊎◌, ◌∷◌, [], ◌++◌, ◌∙◌, inl, inr, refl, sym, subst, ap, ℕ, List, length, Option, Some, None, arith}
 use Rattle.tc_io.specs.Store.{Files, IsTooLong, IsReadable}
 use Rattle.tc_model.specs.Trees.{Trees}
 use Rattle.tc_model.specs.Safety.{IsSafe, IsCounterexample}
 use Rattle.tc_top.specs.FirstForm.{Schema, grammar_of, sheet_of}
 use Rattle.tc_top.specs.FirstText.{SchemaText, SheetText}
-use Rattle.tc_top.specs.Words.{Command, check, Words, IsNoCommand, name_of, operands_of}
-use Rattle.tc_top.specs.Reading.{Reads, ReadsAll, StopsAt, CannotRead, IsOverLong}
-use Rattle.tc_top.specs.Answers as a
-use Rattle.tc_top.specs.Answers.{Answer, status_of, IsBuilt, IsOtherForm, other_input, other_output, other_sheet, Checks, is_other_form, is_safe, is_unsafe, IsAnswer, no_command, not_built, not_read, over_long, checked, IsCutShort, Gives}
-use Rattle.tc_top.specs.declared.status.Status.{Status}
+use Rattle.tc_top.specs.Words.{Command, check, Words, IsNoCommand, operands_of}
+use Rattle.tc_top.specs.Reading.{Reads, ReadsAll, StopsAt}
+use Rattle.tc_top.specs.Answers.{Answer, status_of, IsBuilt, other_input, other_output, other_sheet, Checks, is_other_form, is_safe, is_unsafe, IsAnswer, no_command, not_built, not_read, over_long, checked}
 use Rattle.tc_top.specs.declared.status.Status.TheVariants.{Usage, Refused, Limit, ReadFault}
 use Rattle.tc_top.proofs.OneCommand.{one_command}
 use Rattle.tc_top.proofs.FirstText.{schema_unique, sheet_unique, sheet_plain}
@@ -197,7 +195,7 @@ exact {words} {files} {rose} {one} {other} (not_read {name = name} w b s c) y = 
     by (inl m) = inl (missing_only w b s m y)
     by (inr f) = absurd f.1
 exact {words} {files} (over_long w b s l) y = long_only w b s (l.told_cause files refl) y
-exact {words} {files} {rose} {one} {other} (checked {input = i} {output = o} {sheet = s} {a = b} {b = c} {c = d} w p q r x) y = by (texts_decide w p q r y)
+exact {words} {files} {rose} {one} {other} (checked {input = i} {output = o} {sheet = s} {input_text = b} {output_text = c} {sheet_text = d} w p q r x) y = by (texts_decide w p q r y)
   where
     by : ((status_of other ≡ ReadFault) × rose) ⊎ Checks i o s b c d other → Agrees rose one other
     by (inl f) = inr f

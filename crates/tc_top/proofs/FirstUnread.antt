@@ -1,5 +1,5 @@
 -- The first operand of which the read isn't Ok.
-use Rattle.std.proofs.Common.{◌≡◌, ◌≤◌, ◌<◌, ◌⊎◌, ◌∷◌, [], ◌++◌, ◌∙◌, inl, inr, sym, subst, ap, ℕ, List, Option, Some, None, Result, Ok, Err, arith}
+use Rattle.std.proofs.Common.{◌≡◌, ◌≤◌, ◌⊎◌, ◌∷◌, ◌++◌, inl, inr, sym, subst, ℕ, List, Option, Result, Ok, Err, arith}
 use Rattle.std.specs.Result.{IfErr, IsErrAnd}
 use Rattle.tc_io.specs.Faults.{Rose}
 use Rattle.tc_io.specs.Store.{Files}

@@ -1,5 +1,5 @@
 -- What several writes wrote together.
-use Rattle.std.proofs.Common.{◌≡◌, ℕ, List, [], ◌++◌, refl, sym, ap, ◌∙◌, subst, append_assoc, append-nil, Option, None, Some, Result, Ok, Err, OnErr}
+use Rattle.std.proofs.Common.{ℕ, List, [], ◌++◌, refl, sym, ap, ◌∙◌, subst, append_assoc, append-nil, Option, None, Some, Result, Ok, Err, OnErr}
 use Rattle.tc_io.specs.Sink.{Appended, WroteFront}
 
 pub on_err : {T E : Type 0} {P : Type 0} (r : Result T E) → P → OnErr r P

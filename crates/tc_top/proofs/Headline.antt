@@ -1,5 +1,5 @@
 -- A check of files of the first form is exact.
-use Rattle.std.proofs.Common.{◌≡◌, ◌≢◌, ◌≤◌, ◌<◌, ◌⊎◌, ◌↔◌, ◌∷◌, [], ◌∙◌, inl, inr, refl, sym, subst, ap, ℕ, List, length, Option, Some, None, arith}
+use Rattle.std.proofs.Common.{◌≡◌, ◌≤◌, ◌⊎◌, ◌∙◌, inl, inr, sym, subst, ℕ, List, length, Option, Some, arith}
 use Rattle.tc_io.specs.Store.{Files}
 use Rattle.tc_io.specs.Sink.{Appended}
 use Rattle.tc_model.specs.Trees.{Trees}
@@ -11,7 +11,7 @@ use Rattle.tc_top.specs.Answers.{Answer, safe, unsafe, status_of, text_of, other
 use Rattle.tc_top.specs.AnswersSeen.{IsRight}
 use Rattle.tc_top.specs.declared.answer.Answer.{Answer as Said}
 use Rattle.tc_top.specs.declared.status.Status.{Status}
-use Rattle.tc_top.specs.declared.status.Status.TheVariants.{Yes, No, ReadFault}
+use Rattle.tc_top.specs.declared.status.Status.TheVariants.{ReadFault}
 use Rattle.tc_top.proofs.FirstText.{schema_unique, sheet_unique}
 use Rattle.tc_top.proofs.Exact.{Agrees, not_both, texts_decide}
 
@@ -44,10 +44,10 @@ module _ (i o : Schema) (t : Trees) where
       decided_safe (subst (λ v. IsSafe (grammar_of v) (grammar_of o) (sheet_of t)) (schema_unique k x)
       (subst (λ v. IsSafe (grammar_of j) (grammar_of v) (sheet_of t)) (schema_unique l y)
       (subst (λ v. IsSafe (grammar_of j) (grammar_of p) (sheet_of v)) (sheet_unique m z) h)))
-  decided x y z (is_unsafe {i = j} {o = p} {t = u} {document} {output_trees} k l m h) =
-      decided_unsafe (subst (λ v. IsCounterexample (grammar_of v) (grammar_of o) (sheet_of t) document output_trees) (schema_unique k x)
-      (subst (λ v. IsCounterexample (grammar_of j) (grammar_of v) (sheet_of t) document output_trees) (schema_unique l y)
-      (subst (λ v. IsCounterexample (grammar_of j) (grammar_of p) (sheet_of v) document output_trees) (sheet_unique m z) h)))
+  decided x y z (is_unsafe {i = j} {o = p} {t = u} {document} {result} k l m h) =
+      decided_unsafe (subst (λ v. IsCounterexample (grammar_of v) (grammar_of o) (sheet_of t) document result) (schema_unique k x)
+      (subst (λ v. IsCounterexample (grammar_of j) (grammar_of v) (sheet_of t) document result) (schema_unique l y)
+      (subst (λ v. IsCounterexample (grammar_of j) (grammar_of p) (sheet_of v) document result) (sheet_unique m z) h)))
 
   exact_decision : {b c d : List ℕ} (status : Status) (old new : Option (List ℕ)) (answer : Answer) → SchemaText b i → SchemaText c o → SheetText d t
       → status ≡ status_of answer → Appended old new (text_of answer) → Decided answer → DecidesSafety status old new (grammar_of i) (grammar_of o) (sheet_of t)

@@ -1,5 +1,5 @@
 -- The first word of a list.
-use Rattle.std.proofs.Common.{◌≡◌, ◌==◌, Bool, true, arith, ◌∷◌, [], ◌∙◌, sym, ap, ℕ, List, String, string_bytes, length, subst}
+use Rattle.std.proofs.Common.{◌≡◌, ◌==◌, Bool, true, arith, ◌∷◌, [], ◌∙◌, sym, ap, ℕ, List, String, string_bytes, length}
 use Rattle.tc_top.specs.WordsSeen.{texts}
 
 -- the first word is the one that was looked for

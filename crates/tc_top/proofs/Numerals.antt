@@ -1,5 +1,5 @@
 -- The value of digits.
-use Rattle.std.proofs.Common.{◌≡◌, ◌≤◌, ◌<◌, ◌+◌, ◌*◌, ◌-◌, ℕ, List, [], ◌∷◌, length, drop, take, get_or, arith, sym, ◌∙◌, ap}
+use Rattle.std.proofs.Common.{◌≡◌, ◌≤◌, ◌<◌, ◌+◌, ◌*◌, ◌-◌, ℕ, List, [], ◌∷◌, length, drop, get_or, arith, ap}
 use Rattle.std.proofs.lemmas.List.{drop_more}
 use Rattle.tc_top.specs.Words.{value_from}
 

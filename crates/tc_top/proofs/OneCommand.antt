@@ -1,5 +1,5 @@
 -- A list of words gives one command at most.
-use Rattle.std.proofs.Common.{◌≡◌, ◌∷◌, [], ◌∙◌, ◌+◌, sym, ap, subst, refl, arith, ℕ, List, Option, Some, None, IsTrue, Bool, true, false, if◌then◌else◌, codes}
+use Rattle.std.proofs.Common.{◌≡◌, ◌∷◌, [], ◌∙◌, sym, ap, subst, refl, arith, ℕ, List, Option, Some, None, if◌then◌else◌, codes}
 use Rattle.std.specs.Str.{bytes_eq}
 use Rattle.tc_top.specs.Words.{Command, check, prove, verify, run, valid, demo, Words, checks, proves, verifies, runs, validates, shows, Limits, Spells, AreOperands, WordsGiveOne, value_from}
 

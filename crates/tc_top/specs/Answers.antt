@@ -58,19 +58,19 @@ IsBuilt (demo size) = ⊥
 abbrev pub ReadsNothing : List (List ℕ) → Type 0
 ReadsNothing words = (command : Command) → Words words command → ¬ (IsBuilt command)
 
--- the first of three operands whose text, a, b or c, is of another form
-pub data IsOtherForm (input output sheet a b c : List ℕ) : List ℕ → Type 0 where
-  other_input : ((i : Schema) → SchemaText a i → ⊥) → IsOtherForm input output sheet a b c input
-  other_output : {i : Schema} → SchemaText a i → ((o : Schema) → SchemaText b o → ⊥) → IsOtherForm input output sheet a b c output
-  other_sheet : {i o : Schema} → SchemaText a i → SchemaText b o → ((t : Trees) → SheetText c t → ⊥) → IsOtherForm input output sheet a b c sheet
+-- the first of three operands whose text is of another form
+pub data IsOtherForm (input output sheet input_text output_text sheet_text : List ℕ) : List ℕ → Type 0 where
+  other_input : ((i : Schema) → SchemaText input_text i → ⊥) → IsOtherForm input output sheet input_text output_text sheet_text input
+  other_output : {i : Schema} → SchemaText input_text i → ((o : Schema) → SchemaText output_text o → ⊥) → IsOtherForm input output sheet input_text output_text sheet_text output
+  other_sheet : {i o : Schema} → SchemaText input_text i → SchemaText output_text o → ((t : Trees) → SheetText sheet_text t → ⊥) → IsOtherForm input output sheet input_text output_text sheet_text sheet
 
--- what `check` answers on the texts a, b and c of its operands
-pub data Checks (input output sheet a b c : List ℕ) : Answer → Type 0 where
-  is_other_form : {name : List ℕ} → IsOtherForm input output sheet a b c name → Checks input output sheet a b c (not_yet name)
-  is_safe : {i o : Schema} {t : Trees} → SchemaText a i → SchemaText b o → SheetText c t
-      → IsSafe (grammar_of i) (grammar_of o) (sheet_of t) → Checks input output sheet a b c safe
-  is_unsafe : {i o : Schema} {t : Trees} {document output_trees : Trees} → SchemaText a i → SchemaText b o → SheetText c t
-      → IsCounterexample (grammar_of i) (grammar_of o) (sheet_of t) document output_trees → Checks input output sheet a b c (unsafe document output_trees)
+-- what `check` answers on the texts of its operands
+pub data Checks (input output sheet input_text output_text sheet_text : List ℕ) : Answer → Type 0 where
+  is_other_form : {name : List ℕ} → IsOtherForm input output sheet input_text output_text sheet_text name → Checks input output sheet input_text output_text sheet_text (not_yet name)
+  is_safe : {i o : Schema} {t : Trees} → SchemaText input_text i → SchemaText output_text o → SheetText sheet_text t
+      → IsSafe (grammar_of i) (grammar_of o) (sheet_of t) → Checks input output sheet input_text output_text sheet_text safe
+  is_unsafe : {i o : Schema} {t : Trees} {document result : Trees} → SchemaText input_text i → SchemaText output_text o → SheetText sheet_text t
+      → IsCounterexample (grammar_of i) (grammar_of o) (sheet_of t) document result → Checks input output sheet input_text output_text sheet_text (unsafe document result)
 
 -- an answer with its cause: the words, what the store tells, and whether its faults rose
 pub data IsAnswer (words : List (List ℕ)) (told : Option Files) (rose : Type 0) : Answer → Type 0 where
@@ -80,8 +80,8 @@ pub data IsAnswer (words : List (List ℕ)) (told : Option Files) (rose : Type 0
       → StopsAt told (operands_of command) name → CannotRead told rose name → IsAnswer words told rose (cannot_read name)
   over_long : {command : Command} {name : List ℕ} → Words words command → IsBuilt command
       → StopsAt told (operands_of command) name → IsOverLong told rose name → IsAnswer words told rose file_limit
-  checked : {input output sheet a b c : List ℕ} {answer : Answer} → Words words (check None input output sheet)
-      → Reads told input a → Reads told output b → Reads told sheet c → Checks input output sheet a b c answer → IsAnswer words told rose answer
+  checked : {input output sheet input_text output_text sheet_text : List ℕ} {answer : Answer} → Words words (check None input output sheet)
+      → Reads told input input_text → Reads told output output_text → Reads told sheet sheet_text → Checks input output sheet input_text output_text sheet_text answer → IsAnswer words told rose answer
 
 -- the answer that a call gave: it is right, and all of it was written
 pub record Answered (words : List (List ℕ)) (told : Option Files) (rose : Type 0) (status : Status) (old new : Option (List ℕ)) : Type 0 where

@@ -2,9 +2,13 @@ use super::*;
 use std::test::Fail;
 use tc_io::{MemSink, MemStore};
 
-const START: &str = "<xsl:stylesheet version=\"1.0\" xmlns:xsl=\"http://www.w3.org/1999/XSL/Transform\"><xsl:template match=\"/\">";
+const START: &str =
+    "<xsl:stylesheet version=\"1.0\" xmlns:xsl=\"http://www.w3.org/1999/XSL/Transform\"><xsl:template match=\"/\">";
+
 const END: &str = "</xsl:template></xsl:stylesheet>";
-const USAGE: &[u8] = b"usage: check|prove [--limit N] IN OUT SHEET; verify IN OUT SHEET CERT; run SHEET DOC; valid SCHEMA DOC; demo N\n";
+
+const USAGE: &[u8] =
+    b"usage: check|prove [--limit N] IN OUT SHEET; verify IN OUT SHEET CERT; run SHEET DOC; valid SCHEMA DOC; demo N\n";
 
 fn word_list(alloc: Global, words: &[&str]) -> Result<WordList, NoMemory> {
     let mut list = WordList::new(alloc);
@@ -79,7 +83,11 @@ fn checks_files(rt: HostRuntime) -> Result<(), Fail> {
     ] {
         let mut store = store_with(rt.alloc(), input, output, body)?;
         let mut sink = MemSink::new(rt.alloc(), 200)?;
-        assert_eq!(rt; typecheck(rt.alloc(), &words, &mut store, &mut sink), status, "{text}");
+        assert_eq!(rt;
+            typecheck(rt.alloc(), &words, &mut store, &mut sink),
+            status,
+            "{text}"
+        );
         assert_eq!(rt; sink.bytes(), text.as_bytes());
     }
     Ok(())
@@ -91,10 +99,16 @@ fn stops_at_the_first_operand_that_cannot_be_read(rt: HostRuntime) -> Result<(),
     let mut sink = MemSink::new(rt.alloc(), 200)?;
     let mut missing = MemStore::new(rt.alloc());
     missing.put("I", b"of no form")?;
-    assert_eq!(rt; typecheck(rt.alloc(), &words, &mut missing, &mut sink), Status::ReadFault);
+    assert_eq!(rt;
+        typecheck(rt.alloc(), &words, &mut missing, &mut sink),
+        Status::ReadFault
+    );
     let mut failing = store_with(rt.alloc(), "of no form", "element r{empty}", "<r/>")?;
     failing.fail_at(2)?;
-    assert_eq!(rt; typecheck(rt.alloc(), &words, &mut failing, &mut sink), Status::ReadFault);
+    assert_eq!(rt;
+        typecheck(rt.alloc(), &words, &mut failing, &mut sink),
+        Status::ReadFault
+    );
     assert_eq!(rt; sink.bytes(), b"cannot read O\ncannot read O\n".as_slice());
     Ok(())
 }
@@ -110,7 +124,10 @@ fn breaks_off_where_a_write_fails(rt: HostRuntime) -> Result<(), Fail> {
     )?;
     let mut sink = MemSink::new(rt.alloc(), 200)?;
     sink.fail_at(2)?;
-    assert_eq!(rt; typecheck(rt.alloc(), &words, &mut store, &mut sink), Status::WriteFault);
+    assert_eq!(rt;
+        typecheck(rt.alloc(), &words, &mut store, &mut sink),
+        Status::WriteFault
+    );
     assert_eq!(rt; sink.bytes(), b"unsafe\n".as_slice());
     Ok(())
 }
@@ -137,7 +154,10 @@ fn tells_the_usage(rt: HostRuntime) -> Result<(), Fail> {
         let words = word_list(rt.alloc(), words)?;
         let mut store = MemStore::new(rt.alloc());
         let mut sink = MemSink::new(rt.alloc(), 200)?;
-        assert_eq!(rt; typecheck(rt.alloc(), &words, &mut store, &mut sink), Status::Usage);
+        assert_eq!(rt;
+            typecheck(rt.alloc(), &words, &mut store, &mut sink),
+            Status::Usage
+        );
         assert_eq!(rt; sink.bytes(), USAGE);
     }
     Ok(())
@@ -146,9 +166,15 @@ fn tells_the_usage(rt: HostRuntime) -> Result<(), Fail> {
 #[test]
 fn refuses_commands_that_are_not_built(rt: HostRuntime) -> Result<(), Fail> {
     let commands: [(&[&str], &str); 7] = [
-        (&["check", "--limit", "4000", "I", "O", "S"], "refused check not-yet\n"),
+        (
+            &["check", "--limit", "4000", "I", "O", "S"],
+            "refused check not-yet\n",
+        ),
         (&["prove", "I", "O", "S"], "refused prove not-yet\n"),
-        (&["prove", "--limit", "1", "I", "O", "S"], "refused prove not-yet\n"),
+        (
+            &["prove", "--limit", "1", "I", "O", "S"],
+            "refused prove not-yet\n",
+        ),
         (&["verify", "I", "O", "S", "C"], "refused verify not-yet\n"),
         (&["run", "S", "D"], "refused run not-yet\n"),
         (&["valid", "I", "D"], "refused valid not-yet\n"),
@@ -158,7 +184,10 @@ fn refuses_commands_that_are_not_built(rt: HostRuntime) -> Result<(), Fail> {
         let words = word_list(rt.alloc(), words)?;
         let mut store = MemStore::new(rt.alloc());
         let mut sink = MemSink::new(rt.alloc(), 200)?;
-        assert_eq!(rt; typecheck(rt.alloc(), &words, &mut store, &mut sink), Status::Refused);
+        assert_eq!(rt;
+            typecheck(rt.alloc(), &words, &mut store, &mut sink),
+            Status::Refused
+        );
         assert_eq!(rt; sink.bytes(), text.as_bytes());
     }
     Ok(())
@@ -198,10 +227,16 @@ fn writes_each_line_by_itself(rt: HostRuntime) -> Result<(), Fail> {
         "<r/><r/>",
     )?;
     let check = word_list(rt.alloc(), &["check", "I", "O", "S"])?;
-    assert_eq!(rt; typecheck(rt.alloc(), &check, &mut store, &mut sink), Status::No);
+    assert_eq!(rt;
+        typecheck(rt.alloc(), &check, &mut store, &mut sink),
+        Status::No
+    );
     assert_eq!(rt; sink.count, 3);
     let missing = word_list(rt.alloc(), &["check", "no\nfile", "O", "S"])?;
-    assert_eq!(rt; typecheck(rt.alloc(), &missing, &mut store, &mut sink), Status::ReadFault);
+    assert_eq!(rt;
+        typecheck(rt.alloc(), &missing, &mut store, &mut sink),
+        Status::ReadFault
+    );
     assert_eq!(rt; sink.past, 0);
     Ok(())
 }

@@ -1,4 +1,4 @@
-use Rattle.std.proofs.Common.{◌≡◌, ◌≤◌, ℕ, true, drop, take}
+use Rattle.std.proofs.Common.{◌≡◌, ◌≤◌, true, drop, take}
 use Rattle.std.specs.Char.{is_ascii_digit}
 use Rattle.std.specs.List.{list_all}
 use Rattle.tc_top.specs.Words.{value_from}

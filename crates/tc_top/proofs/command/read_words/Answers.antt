@@ -1,5 +1,5 @@
-use Rattle.std.proofs.Common.{◌≡◌, ◌∷◌, [], ◌∙◌, sym, ap, subst, rules, codes, List, ℕ}
-use Rattle.tc_top.specs.Words.{Words, AreOperands, Limits, Spells, checks, proves, verifies, runs, validates, shows}
+use Rattle.std.proofs.Common.{subst, codes, List, ℕ}
+use Rattle.tc_top.specs.Words.{AreOperands, Limits, Spells, checks, proves, verifies, runs, validates, shows}
 use Rattle.tc_top.proofs.Named.{texts-first, texts-parts, texts-only}
 use Rattle.tc_top.proofs.command.read_words.Goals as goal
 

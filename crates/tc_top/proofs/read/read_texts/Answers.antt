@@ -1,4 +1,4 @@
-use Rattle.std.proofs.Common.{◌≡◌, ◌∷◌, [], ◌∙◌, refl, sym, subst}
+use Rattle.std.proofs.Common.{◌∷◌, [], ◌∙◌, refl, subst}
 use Rattle.tc_io.specs.Faults.{Rose}
 use Rattle.tc_top.specs.Reading.{Reads}
 use Rattle.tc_top.specs.AnswersSeen.{IsUnread, IsFirstUnread}

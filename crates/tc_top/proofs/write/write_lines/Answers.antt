@@ -1,4 +1,4 @@
-use Rattle.std.proofs.Common.{◌≡◌, ◌++◌, ◌∙◌, sym, ap, subst, append_assoc, arith}
+use Rattle.std.proofs.Common.{◌≡◌, ◌++◌, ◌∙◌, ap, subst, append_assoc, arith}
 use Rattle.tc_io.specs.Sink.{WroteFront}
 use Rattle.tc_top.proofs.Fronts.{on_err, appended_twice, next_front, first_front}
 use Rattle.tc_top.proofs.write.write_lines.Goals as goal
