@@ -17,3 +17,9 @@ pub mod ViewsRaw
 pub mod ViewsPath
 pub mod ViewsBody
 pub mod ViewsLists
+pub mod XmlTextPhrases
+pub mod XmlTextUnique
+pub mod XmlTextChars
+pub mod XmlTextLawful
+pub mod XmlTextTrees
+pub mod XmlTextDocument
