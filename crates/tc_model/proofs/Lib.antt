@@ -11,3 +11,5 @@ pub mod Total
 pub mod TotalSafety
 pub mod CasesOfSchemas
 pub mod CasesOfSheets
+pub mod XmlTextPhrases
+pub mod XmlTextUnique

@@ -1,6 +1,7 @@
 pub mod Seen
 pub mod Names
 pub mod Trees
+pub mod RawTrees
 pub mod Grammars
 pub mod Matching
 pub mod Validity
@@ -14,3 +15,11 @@ pub mod WellFormed
 pub mod Safety
 pub mod Printed
 pub mod Laws
+pub mod XmlTextBytes
+pub mod XmlTextNames
+pub mod XmlTextReferences
+pub mod XmlTextMisc
+pub mod XmlTextScopes
+pub mod XmlTextContent
+pub mod XmlText
+pub mod Stripped
