@@ -19,3 +19,5 @@ pub mod ViewsBody
 pub mod ViewsLists
 pub mod XmlTextPhrases
 pub mod XmlTextUnique
+pub mod PathTextLexing
+pub mod PathTextUnique

@@ -24,3 +24,7 @@ pub mod XmlTextScopes
 pub mod XmlTextContent
 pub mod XmlText
 pub mod Stripped
+pub mod PathTextTokens
+pub mod PathTextPhrases
+pub mod PathText
+pub mod PathTextPriority

@@ -1,5 +1,5 @@
 -- The tokens of paths, patterns and tests (XPath 1.0, 3.7), in UTF-8.
-use Rattle.std.specs.Prelude.{◌≡◌, ℕ, Bool, false, ◌&&◌, ◌||◌, ◌==◌, List, [], ◌∷◌, Option, None, Some, IsTrue, IsFalse, drop, if◌then◌else◌}
+use Rattle.std.specs.Prelude.{◌≡◌, ℕ, ◌+◌, ◌-◌, ◌<◌, max, Bool, false, ◌&&◌, ◌||◌, ◌==◌, List, [], ◌∷◌, Option, None, Some, IsTrue, IsFalse, drop, if◌then◌else◌}
 use Rattle.std.specs.List.{prefix_len}
 use Rattle.tc_base.specs.Characters.{is_between}
 use Rattle.tc_model.specs.XmlTextBytes.{after_white, LiteralAt}
@@ -33,7 +33,7 @@ pub data Token : Type 0 where
   literal : Token
   variable : Token
 
--- a mark of one character, and one of two
+-- the spelling of a mark in one character, or in two
 pub record Single : Type 0 where
   pub first : ℕ
   pub mark : Mark
@@ -117,6 +117,40 @@ pub data Tokens : List ℕ → List Token → Type 0 where
   no_more : {bs : List ℕ} → after_white bs ≡ [] → Tokens bs []
   one_more : {bs rest : List ℕ} {t : Token} {ts : List Token} → TokenAt (after_white bs) t rest → Tokens rest ts → Tokens bs (t ∷ ts)
 
--- how deep parentheses and brackets stand within one another, where so many are open before
-abbrev pub depth_from : ℕ → List Token → ℕ
-depth_from = depth
+-- how many parentheses and brackets are open behind a token, where so many are open before it
+abbrev pub open_behind_mark : ℕ → Mark → ℕ
+open_behind_mark before star = before
+open_behind_mark before slash = before
+open_behind_mark before slashes = before
+open_behind_mark before bar = before
+open_behind_mark before open_parenthesis = before + 1
+open_behind_mark before close_parenthesis = before - 1
+open_behind_mark before open_bracket = before + 1
+open_behind_mark before close_bracket = before - 1
+open_behind_mark before at = before
+open_behind_mark before dot = before
+open_behind_mark before dots = before
+open_behind_mark before colons = before
+open_behind_mark before comma = before
+open_behind_mark before comparison = before
+open_behind_mark before arithmetic = before
+
+abbrev pub open_behind : ℕ → Token → ℕ
+open_behind before (mark m) = open_behind_mark before m
+open_behind before (name n) = before
+open_behind before (all_of_prefix p) = before
+open_behind before number = before
+open_behind before literal = before
+open_behind before variable = before
+
+-- the most parentheses and brackets that are open at once, where so many are open before
+abbrev pub most_open : ℕ → List Token → ℕ
+most_open before [] = before
+most_open before (t ∷ ts) = max before (most_open (open_behind before t) ts)
+
+-- how deep parentheses and brackets together may stand within one another
+abbrev pub deepest_nesting : ℕ
+deepest_nesting = 2000
+
+abbrev pub IsTooDeep : List Token → Type 0
+IsTooDeep ts = deepest_nesting < most_open 0 ts
