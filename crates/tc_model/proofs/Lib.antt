@@ -23,3 +23,5 @@ pub mod XmlTextChars
 pub mod XmlTextLawful
 pub mod XmlTextTrees
 pub mod XmlTextDocument
+pub mod PathTextLexing
+pub mod PathTextUnique

@@ -25,3 +25,7 @@ pub mod XmlTextContent
 pub mod XmlText
 pub mod Stripped
 pub mod XmlTextLaws
+pub mod PathTextTokens
+pub mod PathTextPhrases
+pub mod PathText
+pub mod PathTextPriority
