@@ -17,3 +17,5 @@ pub mod ViewsRaw
 pub mod ViewsPath
 pub mod ViewsBody
 pub mod ViewsLists
+pub mod XmlTextPhrases
+pub mod XmlTextUnique

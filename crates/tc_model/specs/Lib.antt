@@ -16,3 +16,11 @@ pub mod WellFormed
 pub mod Safety
 pub mod Printed
 pub mod Laws
+pub mod XmlTextBytes
+pub mod XmlTextNames
+pub mod XmlTextReferences
+pub mod XmlTextMisc
+pub mod XmlTextScopes
+pub mod XmlTextContent
+pub mod XmlText
+pub mod Stripped
