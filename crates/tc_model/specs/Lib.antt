@@ -24,3 +24,13 @@ pub mod XmlTextScopes
 pub mod XmlTextContent
 pub mod XmlText
 pub mod Stripped
+pub mod CompactSyntaxTrees
+pub mod CompactSyntaxTokens
+pub mod CompactSyntaxNames
+pub mod CompactSyntaxPatterns
+pub mod CompactSyntax
+pub mod SimplifiesParts
+pub mod SimplifiesFaults
+pub mod Simplifies
+pub mod SimplifiesCounts
+pub mod RncText
