@@ -29,3 +29,13 @@ pub mod PathTextTokens
 pub mod PathTextPhrases
 pub mod PathText
 pub mod PathTextPriority
+pub mod CompactSyntaxTrees
+pub mod CompactSyntaxTokens
+pub mod CompactSyntaxNames
+pub mod CompactSyntaxPatterns
+pub mod CompactSyntax
+pub mod SimplifiesParts
+pub mod SimplifiesFaults
+pub mod Simplifies
+pub mod SimplifiesCounts
+pub mod RncText

@@ -1,0 +1,62 @@
+-- The syntax tree of a schema in RELAX NG's compact syntax (ISO/IEC 19757-2, Annex C), of which the part is read that tells elements and
+-- text: `CompactSyntax bytes syntax`. The modules CompactSyntaxTokens, CompactSyntaxNames and CompactSyntaxPatterns have the phrases.
+use Rattle.std.specs.Prelude.{◌≡◌, ℕ, suc, ◌+◌, List, [], ◌∷◌, ◌++◌, length, Some, codes}
+use Rattle.tc_model.specs.Names.{IsChars}
+use Rattle.tc_model.specs.RawTrees.{Bound}
+use Rattle.tc_model.specs.XmlText.{after_mark}
+use Rattle.tc_model.specs.XmlTextScopes.{first_scope}
+use Rattle.tc_model.specs.CompactSyntaxTrees.{SyntaxPattern, Joins, plain, by_choice, by_interleave, Definition, Syntax}
+use Rattle.tc_model.specs.CompactSyntaxTokens.{Token, TokensAt}
+use Rattle.tc_model.specs.CompactSyntaxNames.{IsWord, IsMark, identifier, DeclarationAt}
+use Rattle.tc_model.specs.CompactSyntaxPatterns.{PatternAt}
+
+-- `=`, or `|=` or `&=` without anything between
+pub data OperatorAt : List Token → Joins → List Token → Type 0 where
+  equals : {t : Token} {after : List Token} → IsMark 0x3D t → OperatorAt (t ∷ after) plain after
+  bar_equals : {t u : Token} {after : List Token} → IsMark 0x7C t → IsMark 0x3D u → u.place ≡ t.place + 1 → OperatorAt (t ∷ u ∷ after) by_choice after
+  ampersand_equals : {t u : Token} {after : List Token} → IsMark 0x26 t → IsMark 0x3D u → u.place ≡ t.place + 1 → OperatorAt (t ∷ u ∷ after) by_interleave after
+
+abbrev pub one_definition : List ℕ → Joins → SyntaxPattern → ℕ → List Definition
+one_definition name joins body place = record { name = name; joins = joins; body = body; place = place } ∷ []
+
+mutual
+  -- a definition, or those within a `div`
+  pub data DefinitionAt (scope : List Bound) : ℕ → List Token → List Definition → List Token → Type 0 where
+    of_start : {deepest : ℕ} {t : Token} {tokens rest after : List Token} {j : Joins} {p : SyntaxPattern} → IsWord (codes "start") t → OperatorAt tokens j rest
+        → PatternAt scope deepest rest p after → DefinitionAt scope deepest (t ∷ tokens) (one_definition [] j p t.place) after
+    of_name : {deepest : ℕ} {t : Token} {tokens rest after : List Token} {n : List ℕ} {j : Joins} {p : SyntaxPattern} → identifier t.word ≡ Some n → OperatorAt tokens j rest
+        → PatternAt scope deepest rest p after → DefinitionAt scope deepest (t ∷ tokens) (one_definition n j p t.place) after
+    div : {deepest : ℕ} {t u v : Token} {inside after : List Token} {ds : List Definition} → IsWord (codes "div") t → IsMark 0x7B u
+        → DefinitionsAt scope deepest inside ds (v ∷ after) → IsMark 0x7D v → DefinitionAt scope (suc deepest) (t ∷ u ∷ inside) ds after
+
+  -- definitions up to the end or a brace
+  pub data DefinitionsAt (scope : List Bound) : ℕ → List Token → List Definition → List Token → Type 0 where
+    at_end : {deepest : ℕ} → DefinitionsAt scope deepest [] [] []
+    at_brace : {deepest : ℕ} {t : Token} {after : List Token} → IsMark 0x7D t → DefinitionsAt scope deepest (t ∷ after) [] (t ∷ after)
+    more : {deepest : ℕ} {tokens rest after : List Token} {ds es : List Definition} → DefinitionAt scope deepest tokens ds rest → DefinitionsAt scope deepest rest es after
+        → DefinitionsAt scope deepest tokens (ds ++ es) after
+
+-- Declarations, and then a pattern, which is the definition of `start`, or definitions, which may stand within `grammar { }`.
+pub data SchemaAt : List Bound → ℕ → List Token → List Definition → Type 0 where
+  declaration : {scope within : List Bound} {deepest : ℕ} {tokens rest : List Token} {ds : List Definition} → DeclarationAt scope tokens within rest
+      → SchemaAt within deepest rest ds → SchemaAt scope deepest tokens ds
+  one_pattern : {scope : List Bound} {deepest : ℕ} {tokens : List Token} {p : SyntaxPattern} → PatternAt scope deepest tokens p [] → SchemaAt scope deepest tokens (one_definition [] plain p 0)
+  definitions : {scope : List Bound} {deepest : ℕ} {tokens : List Token} {ds : List Definition} → DefinitionsAt scope deepest tokens ds [] → SchemaAt scope deepest tokens ds
+  grammar : {scope : List Bound} {deepest : ℕ} {t u v : Token} {inside : List Token} {ds : List Definition} → IsWord (codes "grammar") t → IsMark 0x7B u
+      → DefinitionsAt scope deepest inside ds (v ∷ []) → IsMark 0x7D v → SchemaAt scope (suc deepest) (t ∷ u ∷ inside) ds
+
+-- Characters of XML, perhaps behind a byte order mark, whose tokens are a schema. Braces and parentheses stand at most so deep. The prefix
+-- `xml` is bound before any declaration.
+pub record Spells (deepest : ℕ) (bytes : List ℕ) (syntax : Syntax) : Type 0 where
+  pub tokens : List Token
+  pub characters : IsChars bytes
+  pub words : TokensAt (length bytes) (after_mark bytes) tokens
+  pub schema : SchemaAt first_scope deepest tokens syntax.definitions
+  pub end : syntax.end ≡ length bytes
+
+-- how deep braces and parentheses may stand within one another
+abbrev pub deepest_nesting : ℕ
+deepest_nesting = 2000
+
+abbrev pub CompactSyntax : List ℕ → Syntax → Type 0
+CompactSyntax bytes syntax = Spells deepest_nesting bytes syntax
