@@ -11,3 +11,7 @@ pub mod Total
 pub mod TotalSafety
 pub mod CasesOfSchemas
 pub mod CasesOfSheets
+pub mod StatesJoins
+pub mod StatesRepeats
+pub mod StatesShuffles
+pub mod StatesExact

@@ -4,6 +4,7 @@ pub mod Trees
 pub mod Grammars
 pub mod Matching
 pub mod Validity
+pub mod States
 pub mod Sheets
 pub mod Chains
 pub mod Paths
