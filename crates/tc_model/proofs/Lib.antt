@@ -25,3 +25,8 @@ pub mod XmlTextTrees
 pub mod XmlTextDocument
 pub mod PathTextLexing
 pub mod PathTextUnique
+pub mod StatesJoins
+pub mod StatesRepeats
+pub mod StatesShuffles
+pub mod StatesExact
+pub mod StatesParts
