@@ -1,11 +1,10 @@
 -- The words of a composition as a set of pairs.
-use Rattle.std.proofs.Common.{◌≡◌, ◌≢◌, ◌⊎◌, inl, inr, ℕ, ◌+◌, ◌*◌, ◌/◌, ◌%◌, ◌<◌, ◌≤◌, List, refl, sym, ap, subst, ◌∙◌, length, get_or, arith, take, drop, ◌++◌}
-use Rattle.std.specs.Prelude.{◌↔◌}
+use Rattle.std.proofs.Common.{◌≡◌, ◌≢◌, ◌⊎◌, inl, inr, ℕ, ◌+◌, ◌*◌, ◌/◌, ◌%◌, ◌<◌, ◌≤◌, List, sym, ap, subst, ◌∙◌, length, get_or, arith, take, drop, ◌++◌}
 use Rattle.std.specs.Int.{bit_at}
 use Rattle.std.proofs.lemmas.Bool.{cases_eq, cases_lt}
 use Rattle.std.proofs.lemmas.Nat.Bits.{bit_at-lt}
 use Rattle.tc_mat.specs.Matrix.{Matrix, words_a_row, bit_of, HasPair, IsMatrix, IsComposition}
-use Rattle.tc_mat.specs.Product.{IsSet, HasBits, Leads, IsPadded}
+use Rattle.tc_mat.specs.Product.{HasBits, Leads, IsPadded}
 use Rattle.tc_mat.proofs.Sets.{matrix, column_fits, written_back}
 
 pub is_padded : (n : ℕ) (words : List ℕ) → IsMatrix (matrix n words) → IsPadded n words

@@ -1,5 +1,5 @@
 -- The composition of two sets of pairs, by the words of their rows.
-use Rattle.std.specs.Prelude.{◌≡◌, ℕ, ◌+◌, ◌*◌, ◌/◌, ◌%◌, ◌<◌, ◌≤◌, ◌⊎◌, ◌↔◌, List, length, slice_index}
+use Rattle.std.specs.Prelude.{◌≡◌, ℕ, ◌+◌, ◌*◌, ◌<◌, ◌⊎◌, ◌↔◌, List, slice_index}
 use Rattle.std.specs.Int.{bit_at}
 use Rattle.tc_mat.specs.Matrix.{words_a_row}
 

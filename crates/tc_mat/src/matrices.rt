@@ -120,6 +120,15 @@ impl Mat {
         set_bit(self.rows.as_mut_slice(), word, j % 64);
     }
 
+    /// Takes all pairs out of the set.
+    pub fn clear(&mut self)
+        ensures size { self.new.size ≡ self.old.size }
+        ensures pairs { HasNone self.new }
+        ensures matrix { IsMatrix self.new }
+    {
+        self.rows.as_mut_slice().fill(0);
+    }
+
     /// Leaves the composition of two sets in `out`, whatever it held: the pairs (i, j) such that
     /// some (i, k) is in `a` and (k, j) in `b`. It takes no memory.
     pub fn mul_into(a: &Mat, b: &Mat, out: &mut Mat)

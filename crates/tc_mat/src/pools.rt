@@ -77,6 +77,13 @@ impl Pool {
         }
     }
 
+    /// The size of its matrices.
+    pub fn size(&self) -> u32
+        ensures { result ≡ self.now.size }
+    {
+        self.n
+    }
+
     /// How many matrices it holds.
     pub fn len(&self) -> u32
         ensures count { result ≡ length self.now.matrices }
@@ -117,8 +124,10 @@ impl Pool {
         requires { mat.now.size ≡ self.old.size }
         ensures id { IfOk result (λ id. slice_get self.new.matrices id.0 ≡ Some mat.now) }
         ensures held { IsHeld self.old mat.now → IsOk result × (self.new ≡ self.old) }
-        ensures absent { ¬ IsHeld self.old mat.now → OnOk result
-            (self.new ≡ record self.old { matrices = self.old.matrices ++ mat.now ∷ [] }) }
+        ensures absent { ¬ IsHeld self.old mat.now → IfOk result
+            (λ id. (id.0 ≡ length self.old.matrices)
+            × (self.new ≡ record self.old { matrices = self.old.matrices ++ mat.now ∷ [] })) }
+        ensures bound { length self.new.matrices ≤ 65536 }
         ensures err { OnErr result (self.new ≡ self.old) }
         ensures full { IsErrOf result PoolFault.PoolFull
             → (length self.old.matrices ≡ 65536) × ¬ IsHeld self.old mat.now }

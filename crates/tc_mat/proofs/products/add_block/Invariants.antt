@@ -1,4 +1,3 @@
-use Rattle.std.proofs.Common.{◌≡◌, ◌*◌, ◌+◌, ◌≤◌, min}
 use Rattle.tc_mat.specs.Product.{GainsBits}
 use Rattle.tc_mat.proofs.Rows.{LedBefore}
 use Rattle.tc_mat.proofs.products.add_block.Given as goal

@@ -1,4 +1,4 @@
-use Rattle.std.proofs.Common.{◌≡◌, ◌*◌, length}
+use Rattle.std.proofs.Common.{◌≡◌}
 use Rattle.tc_mat.specs.Matrix.{words_a_row}
 use Rattle.tc_mat.proofs.Rows.{IsAddedUpTo}
 use Rattle.tc_mat.proofs.products.add_row.Given as goal

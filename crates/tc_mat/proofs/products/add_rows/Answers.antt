@@ -1,4 +1,4 @@
-use Rattle.std.proofs.Common.{◌≡◌, ◌+◌, ◌*◌, ◌/◌, ◌<◌, ◌^◌, ℕ, ap, get_or, arith, refl}
+use Rattle.std.proofs.Common.{◌+◌, ◌*◌, ◌/◌, ◌<◌, ◌^◌, ℕ, ap, get_or, arith, refl}
 use Rattle.std.specs.Int.{trailing_zeros, w64}
 use Rattle.tc_mat.proofs.Rows.{told_all, told_more, none_left, next_place, rest_some, rest_fits}
 use Rattle.tc_mat.proofs.products.add_rows.Goals as goal

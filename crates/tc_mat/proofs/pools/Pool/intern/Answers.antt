@@ -1,4 +1,4 @@
-use Rattle.std.proofs.Common.{◌≡◌, ◌∙◌, ap, sym, subst, List, ℕ, ◌++◌, ◌∷◌, [], slice_get, Some, length, ◌+◌, arith}
+use Rattle.std.proofs.Common.{◌≡◌, ◌∙◌, ap, sym, subst, List, ◌++◌, ◌∷◌, [], slice_get, length, ◌+◌, arith}
 use Rattle.std.proofs.lemmas.List.{length_push}
 use Rattle.std.proofs.lemmas.List.Elements.{All-same, All-push}
 use Rattle.tc_mat.specs.Matrix.{Matrix, IsMatrix}
@@ -18,7 +18,7 @@ pub returns-clause-absent : goal.returns-clause-absent
 returns-clause-absent c = λ absent.
     let Grown : List Matrix → Held = λ keys. record { size = c.self.inside.n; matrices = keys } in
     let With : Held → Held = λ p. record { size = p.size; matrices = p.matrices ++ c.args.mat.now ∷ [] } in
-    ap Grown (last c) ∙ ap With c.self.view_is
+    (c.len-id.ensures.len ∙ ap (λ (p : Held). length p.matrices) c.self.view_is, ap Grown (last c) ∙ ap With c.self.view_is)
 
 pub returns-clause-id : goal.returns-clause-id
 returns-clause-id c =
