@@ -83,7 +83,7 @@ impl Mat {
         ensures same { IfOk result (λ m. m ≡ self.now) }
         ensures matrix { IfOk result (λ m. IsMatrix m) }
     {
-        let rows = Vec::from_slice(alloc, self.rows.as_slice())?;
+        let rows = Vec::from_slice(alloc, &self.rows)?;
         Ok(Mat { n: self.n, rows })
     }
 
@@ -102,7 +102,7 @@ impl Mat {
         ensures { IsTrue result ↔ HasPair self.now i j }
     {
         is_bit_set(
-            self.rows.as_slice(),
+            &self.rows,
             i as usize * words_in_row(self.n) + j as usize / 64,
             j % 64,
         )
