@@ -1,0 +1,5 @@
+pub mod Sets
+pub mod Rows
+pub mod Composed
+pub mod Keys
+pub mod CallerLemmas

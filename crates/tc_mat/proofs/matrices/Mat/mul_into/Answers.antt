@@ -1,0 +1,14 @@
+use Rattle.std.proofs.Common.{◌≡◌, ap, sym, ◌∙◌}
+use Rattle.tc_mat.specs.Matrix.{Matrix}
+use Rattle.tc_mat.proofs.Composed.{composed_back}
+use Rattle.tc_mat.proofs.matrices.Mat.mul_into.Goals as goal
+
+pub returns-clause-pairs : goal.returns-clause-pairs
+returns-clause-pairs c =
+    let size = λ (m : Matrix). m.size in
+    let out : c.args.out.now.size ≡ c.out.inside.n = sym (ap size c.out.view_is) in
+    composed_back c.out.inside.n c.a.inside.n c.b.inside.n c.out.inside.rows.len c.args.a.now c.args.b.now c.a.inside.rows.items c.b.inside.rows.items
+    c.as_slice.result.now c.as_slice-2.result.now c.out.inside.rows.items c.as_mut_slice.result.now c.multiply.new.out
+    c.a.view_is c.b.view_is (ap size c.a.view_is ∙ (c.requires.left ∙ out)) (ap size c.b.view_is ∙ (c.requires.right ∙ out))
+    c.as_slice.ensures.value c.as_slice-2.ensures.value c.a.invariant c.b.invariant
+    c.as_mut_slice.ensures.value c.as_mut_slice.ensures.len c.multiply.auto.out c.out.invariant.whole c.multiply.ensures
