@@ -1,4 +1,4 @@
-use Rattle.std.proofs.Common.{◌≡◌, ◌+◌, ◌∷◌, [], ◌++◌, get_or, take, length, subst, sym, ap, ◌∙◌, refl, arith}
+use Rattle.std.proofs.Common.{◌+◌, get_or, take, length, subst, sym, ap, ◌∙◌, arith}
 use Rattle.std.specs.List.{flat_map}
 use Rattle.tc_io.specs.Sink.{Appended, WroteFront}
 use Rattle.tc_io.proofs.Fronts.{on_err, on_err_map, on_ok_map, appended_twice, next_front}

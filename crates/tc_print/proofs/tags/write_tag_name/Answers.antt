@@ -1,4 +1,4 @@
-use Rattle.std.proofs.Common.{rules, ◌≡◌, ◌++◌, List, ℕ, codes, bytes_eq, true, false, subst, sym, ap, ◌∙◌}
+use Rattle.std.proofs.Common.{rules, ◌≡◌, List, ℕ, codes, bytes_eq, true, false, subst}
 use Rattle.tc_io.specs.Sink.{Appended, WroteFront}
 use Rattle.tc_io.proofs.Fronts.{on_err, on_err_map, on_ok_map, appended_twice, first_front, next_front}
 use Rattle.tc_model.specs.Printed.{xml_uri}
