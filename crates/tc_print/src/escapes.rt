@@ -38,8 +38,10 @@ impl Within {
 /// two references is one piece.
 pub fn write_escaped<K: Sink>(within: Within, bytes: &[u8], sink: &mut K) -> Result<(), WriteFault>
     ensures count { K.faults sink.old ≤ K.faults sink.new }
-    ensures ok { OnOk result (Appended (K.written sink.old) (K.written sink.new) (flat_map (escaped within) bytes.now)) }
-    ensures fault { OnErr result (WroteFront (K.written sink.old) (K.written sink.new) (flat_map (escaped within) bytes.now)) }
+    ensures ok { OnOk result
+        (Appended (K.written sink.old) (K.written sink.new) (flat_map (escaped within) bytes.now)) }
+    ensures fault { OnErr result
+        (WroteFront (K.written sink.old) (K.written sink.new) (flat_map (escaped within) bytes.now)) }
     ensures rose { OnErr result (Rose (K.faults sink.old) (K.faults sink.new)) }
 {
     let mut written = 0;

@@ -25,9 +25,14 @@ use tc_model::Node;
 ///
 /// It takes no memory. It fails only where a write fails, and then a front of the text was appended.
 pub fn print<K: Sink>(nodes: &[Node<'_>], sink: &mut K) -> Result<(), WriteFault>
+    // All of the text was appended, or only a front of it.
+    ensures ok { OnOk result
+        (Appended (K.written sink.old) (K.written sink.new) (printed (trees nodes.now))) }
+    ensures fault { OnErr result
+        (WroteFront (K.written sink.old) (K.written sink.new) (printed (trees nodes.now))) }
+
+    // The count of faults never falls, and an error comes only where it rose.
     ensures count { K.faults sink.old ≤ K.faults sink.new }
-    ensures ok { OnOk result (Appended (K.written sink.old) (K.written sink.new) (printed (trees nodes.now))) }
-    ensures fault { OnErr result (WroteFront (K.written sink.old) (K.written sink.new) (printed (trees nodes.now))) }
     ensures rose { OnErr result (Rose (K.faults sink.old) (K.faults sink.new)) }
 {
     print_within("", nodes, sink)
@@ -37,8 +42,10 @@ pub fn print<K: Sink>(nodes: &[Node<'_>], sink: &mut K) -> Result<(), WriteFault
 #[cycle(print)]
 fn print_within<K: Sink>(default: &str, nodes: &[Node<'_>], sink: &mut K) -> Result<(), WriteFault>
     ensures count { K.faults sink.old ≤ K.faults sink.new }
-    ensures ok { OnOk result (Appended (K.written sink.old) (K.written sink.new) (printed_in default.now (trees nodes.now))) }
-    ensures fault { OnErr result (WroteFront (K.written sink.old) (K.written sink.new) (printed_in default.now (trees nodes.now))) }
+    ensures ok { OnOk result
+        (Appended (K.written sink.old) (K.written sink.new) (printed_in default.now (trees nodes.now))) }
+    ensures fault { OnErr result
+        (WroteFront (K.written sink.old) (K.written sink.new) (printed_in default.now (trees nodes.now))) }
     ensures rose { OnErr result (Rose (K.faults sink.old) (K.faults sink.new)) }
 {
     for node in nodes {
@@ -51,8 +58,10 @@ fn print_within<K: Sink>(default: &str, nodes: &[Node<'_>], sink: &mut K) -> Res
 #[cycle(print)]
 fn print_one<K: Sink>(default: &str, node: &Node<'_>, sink: &mut K) -> Result<(), WriteFault>
     ensures count { K.faults sink.old ≤ K.faults sink.new }
-    ensures ok { OnOk result (Appended (K.written sink.old) (K.written sink.new) (printed_in default.now (before node.now none))) }
-    ensures fault { OnErr result (WroteFront (K.written sink.old) (K.written sink.new) (printed_in default.now (before node.now none))) }
+    ensures ok { OnOk result
+        (Appended (K.written sink.old) (K.written sink.new) (printed_in default.now (before node.now none))) }
+    ensures fault { OnErr result
+        (WroteFront (K.written sink.old) (K.written sink.new) (printed_in default.now (before node.now none))) }
     ensures rose { OnErr result (Rose (K.faults sink.old) (K.faults sink.new)) }
 {
     match node {

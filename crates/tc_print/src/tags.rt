@@ -34,8 +34,10 @@ pub fn default_within<'a>(default: &'a str, of: &Name<'a>) -> &'a str
 /// Writes a start tag, but for its end.
 pub fn begin_tag<K: Sink>(default: &str, of: &Name<'_>, sink: &mut K) -> Result<(), WriteFault>
     ensures count { K.faults sink.old ≤ K.faults sink.new }
-    ensures ok { OnOk result (Appended (K.written sink.old) (K.written sink.new) (begun_tag default.now (name of.now))) }
-    ensures fault { OnErr result (WroteFront (K.written sink.old) (K.written sink.new) (begun_tag default.now (name of.now))) }
+    ensures ok { OnOk result
+        (Appended (K.written sink.old) (K.written sink.new) (begun_tag default.now (name of.now))) }
+    ensures fault { OnErr result
+        (WroteFront (K.written sink.old) (K.written sink.new) (begun_tag default.now (name of.now))) }
     ensures rose { OnErr result (Rose (K.faults sink.old) (K.faults sink.new)) }
 {
     sink.write(b"<")?;
@@ -46,8 +48,10 @@ pub fn begin_tag<K: Sink>(default: &str, of: &Name<'_>, sink: &mut K) -> Result<
 /// Writes an end tag.
 pub fn write_end_tag<K: Sink>(of: &Name<'_>, sink: &mut K) -> Result<(), WriteFault>
     ensures count { K.faults sink.old ≤ K.faults sink.new }
-    ensures ok { OnOk result (Appended (K.written sink.old) (K.written sink.new) (end_tag (name of.now))) }
-    ensures fault { OnErr result (WroteFront (K.written sink.old) (K.written sink.new) (end_tag (name of.now))) }
+    ensures ok { OnOk result
+        (Appended (K.written sink.old) (K.written sink.new) (end_tag (name of.now))) }
+    ensures fault { OnErr result
+        (WroteFront (K.written sink.old) (K.written sink.new) (end_tag (name of.now))) }
     ensures rose { OnErr result (Rose (K.faults sink.old) (K.faults sink.new)) }
 {
     sink.write(b"</")?;
@@ -58,8 +62,10 @@ pub fn write_end_tag<K: Sink>(of: &Name<'_>, sink: &mut K) -> Result<(), WriteFa
 /// Writes the name in a tag.
 fn write_tag_name<K: Sink>(of: &Name<'_>, sink: &mut K) -> Result<(), WriteFault>
     ensures count { K.faults sink.old ≤ K.faults sink.new }
-    ensures ok { OnOk result (Appended (K.written sink.old) (K.written sink.new) (p.tag_name (name of.now))) }
-    ensures fault { OnErr result (WroteFront (K.written sink.old) (K.written sink.new) (p.tag_name (name of.now))) }
+    ensures ok { OnOk result
+        (Appended (K.written sink.old) (K.written sink.new) (p.tag_name (name of.now))) }
+    ensures fault { OnErr result
+        (WroteFront (K.written sink.old) (K.written sink.new) (p.tag_name (name of.now))) }
     ensures rose { OnErr result (Rose (K.faults sink.old) (K.faults sink.new)) }
 {
     if of.uri == XML_URI {
@@ -71,8 +77,10 @@ fn write_tag_name<K: Sink>(of: &Name<'_>, sink: &mut K) -> Result<(), WriteFault
 /// Writes the declaration in a start tag, where one is needed.
 fn write_declaration<K: Sink>(default: &str, of: &Name<'_>, sink: &mut K) -> Result<(), WriteFault>
     ensures count { K.faults sink.old ≤ K.faults sink.new }
-    ensures ok { OnOk result (Appended (K.written sink.old) (K.written sink.new) (p.declaration default.now (name of.now))) }
-    ensures fault { OnErr result (WroteFront (K.written sink.old) (K.written sink.new) (p.declaration default.now (name of.now))) }
+    ensures ok { OnOk result
+        (Appended (K.written sink.old) (K.written sink.new) (p.declaration default.now (name of.now))) }
+    ensures fault { OnErr result
+        (WroteFront (K.written sink.old) (K.written sink.new) (p.declaration default.now (name of.now))) }
     ensures rose { OnErr result (Rose (K.faults sink.old) (K.faults sink.new)) }
 {
     if needs_no_declaration(default, of) {
