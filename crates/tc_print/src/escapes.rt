@@ -1,0 +1,69 @@
+// Characters that are written as references (XML 1.0, 2.4, 2.11, 3.3.3).
+ghost use Rattle.std.specs.Prelude.{◌≡◌, ◌≤◌, [], ◌∷◌, OnOk, OnErr, IfSome, IfNone, flat_map};
+ghost use Rattle.tc_io.specs.Faults.{Rose};
+ghost use Rattle.tc_io.specs.Sink.{Appended, WroteFront};
+ghost use Rattle.tc_print.specs.Pieces.{escaped};
+
+use tc_io::{Sink, WriteFault};
+
+/// Where a character stands.
+#[derive(Clone, Copy)]
+pub enum Within {
+    /// In a text between tags.
+    Text,
+    /// In the value of an attribute, between double quotes.
+    Value,
+}
+
+impl Within {
+    /// The reference by which a character is written, where it may not stand for itself.
+    fn reference(self, byte: u8) -> Option<&'static [u8]>
+        ensures some { IfSome result (λ reference. escaped self byte ≡ reference.now) }
+        ensures none { IfNone result (escaped self byte ≡ byte ∷ []) }
+    {
+        match (byte, self) {
+            (b'&', _) => Some(b"&amp;"),
+            (b'<', _) => Some(b"&lt;"),
+            (b'>', Within::Text) => Some(b"&gt;"),
+            (b'"', Within::Value) => Some(b"&quot;"),
+            (b'\t', Within::Value) => Some(b"&#9;"),
+            (b'\n', _) => Some(b"&#10;"),
+            (b'\r', _) => Some(b"&#13;"),
+            _ => None,
+        }
+    }
+}
+
+/// Writes bytes, with references for those that may not stand for themselves. All that stands between
+/// two references is one piece.
+pub fn write_escaped<K: Sink>(within: Within, bytes: &[u8], sink: &mut K) -> Result<(), WriteFault>
+    ensures count { K.faults sink.old ≤ K.faults sink.new }
+    ensures ok { OnOk result
+        (Appended (K.written sink.old) (K.written sink.new) (flat_map (escaped within) bytes.now)) }
+    ensures fault { OnErr result
+        (WroteFront (K.written sink.old) (K.written sink.new) (flat_map (escaped within) bytes.now)) }
+    ensures rose { OnErr result (Rose (K.faults sink.old) (K.faults sink.new)) }
+{
+    let mut written = 0;
+    for (place, byte) in bytes.iter().enumerate() {
+        if let Some(reference) = within.reference(*byte) {
+            write_run(&bytes[written..place], sink)?;
+            sink.write(reference)?;
+            written = place + 1;
+        }
+    }
+    write_run(&bytes[written..], sink)
+}
+
+/// Writes a piece, unless it is empty.
+fn write_run<K: Sink>(run: &[u8], sink: &mut K) -> Result<(), WriteFault>
+    ensures count { K.faults sink.old ≤ K.faults sink.new }
+    ensures ok { OnOk result (Appended (K.written sink.old) (K.written sink.new) run.now) }
+    ensures fault { OnErr result (WroteFront (K.written sink.old) (K.written sink.new) run.now) }
+    ensures rose { OnErr result (Rose (K.faults sink.old) (K.faults sink.new)) }
+{
+    if run.is_empty() {
+        return Ok(());
+    }
+    sink.write(run)
+}

@@ -1,0 +1,79 @@
+//! Prints trees as XML 1.0 (Fifth Edition) with Namespaces in XML 1.0, so that they are read as the same trees.
+//!
+//! The default namespace is declared where an element's namespace is another than the one in force, and no
+//! prefix is declared. Line feeds are printed as references, so no piece that is written reaches past one.
+#![tactic(auto)]
+
+mod escapes;
+mod tags;
+#[cfg(test)]
+mod tests;
+
+ghost use Rattle.std.specs.Prelude.{◌≤◌, OnOk, OnErr};
+ghost use Rattle.tc_io.specs.Faults.{Rose};
+ghost use Rattle.tc_io.specs.Sink.{Appended, WroteFront};
+ghost use Rattle.tc_model.specs.Printed.{printed, printed_in};
+ghost use Rattle.tc_model.specs.Seen.{before, trees};
+ghost use Rattle.tc_model.specs.Trees.{none};
+
+use escapes::{Within, write_escaped};
+use tags::{begin_tag, default_within, write_end_tag};
+use tc_io::{Sink, WriteFault};
+use tc_model::Node;
+
+/// Appends trees as XML, one beside the other, without a declaration of the version or a line feed.
+///
+/// It takes no memory. It fails only where a write fails, and then a front of the text was appended.
+pub fn print<K: Sink>(nodes: &[Node<'_>], sink: &mut K) -> Result<(), WriteFault>
+    // All of the text was appended, or only a front of it.
+    ensures ok { OnOk result
+        (Appended (K.written sink.old) (K.written sink.new) (printed (trees nodes.now))) }
+    ensures fault { OnErr result
+        (WroteFront (K.written sink.old) (K.written sink.new) (printed (trees nodes.now))) }
+
+    // The count of faults never falls, and an error comes only where it rose.
+    ensures count { K.faults sink.old ≤ K.faults sink.new }
+    ensures rose { OnErr result (Rose (K.faults sink.old) (K.faults sink.new)) }
+{
+    print_within("", nodes, sink)
+}
+
+/// Prints trees where this default namespace is in force.
+#[cycle(print)]
+fn print_within<K: Sink>(default: &str, nodes: &[Node<'_>], sink: &mut K) -> Result<(), WriteFault>
+    ensures count { K.faults sink.old ≤ K.faults sink.new }
+    ensures ok { OnOk result
+        (Appended (K.written sink.old) (K.written sink.new) (printed_in default.now (trees nodes.now))) }
+    ensures fault { OnErr result
+        (WroteFront (K.written sink.old) (K.written sink.new) (printed_in default.now (trees nodes.now))) }
+    ensures rose { OnErr result (Rose (K.faults sink.old) (K.faults sink.new)) }
+{
+    for node in nodes {
+        print_one(default, node, sink)?;
+    }
+    Ok(())
+}
+
+/// Prints one tree where this default namespace is in force.
+#[cycle(print)]
+fn print_one<K: Sink>(default: &str, node: &Node<'_>, sink: &mut K) -> Result<(), WriteFault>
+    ensures count { K.faults sink.old ≤ K.faults sink.new }
+    ensures ok { OnOk result
+        (Appended (K.written sink.old) (K.written sink.new) (printed_in default.now (before node.now none))) }
+    ensures fault { OnErr result
+        (WroteFront (K.written sink.old) (K.written sink.new) (printed_in default.now (before node.now none))) }
+    ensures rose { OnErr result (Rose (K.faults sink.old) (K.faults sink.new)) }
+{
+    match node {
+        Node::Text(text) => write_escaped(Within::Text, text.as_bytes(), sink),
+        Node::Elem(name, kids) => {
+            begin_tag(default, name, sink)?;
+            if kids.is_empty() {
+                return sink.write(b"/>");
+            }
+            sink.write(b">")?;
+            print_within(default_within(default, name), kids, sink)?;
+            write_end_tag(name, sink)
+        }
+    }
+}

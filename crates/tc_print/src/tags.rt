@@ -1,0 +1,92 @@
+// Tags, and the default namespace that they declare (Namespaces in XML 1.0, 6.2).
+ghost use Rattle.std.specs.Prelude.{◌≡◌, ◌≤◌, ◌++◌, OnOk, OnErr};
+ghost use Rattle.tc_io.specs.Faults.{Rose};
+ghost use Rattle.tc_io.specs.Sink.{Appended, WroteFront};
+ghost use Rattle.tc_model.specs.Printed as p;
+ghost use Rattle.tc_model.specs.Seen.{name};
+ghost use Rattle.tc_print.specs.Pieces.{begun_tag, end_tag};
+
+use crate::escapes::{Within, write_escaped};
+use tc_io::{Sink, WriteFault};
+use tc_model::Name;
+
+/// The namespace of the prefix `xml`, which needs no declaration (Namespaces in XML 1.0, 3).
+const XML_URI: &str = "http://www.w3.org/XML/1998/namespace";
+
+/// Whether an element of this name declares no default namespace where this one is in force.
+fn needs_no_declaration(default: &str, of: &Name<'_>) -> bool
+    ensures { result ≡ p.needs_no_declaration default.now (name of.now) }
+{
+    of.uri == default || of.uri == XML_URI
+}
+
+/// The default namespace that is in force within an element of this name.
+pub fn default_within<'a>(default: &'a str, of: &Name<'a>) -> &'a str
+    ensures { result.now ≡ p.default_within default.now (name of.now) }
+{
+    if needs_no_declaration(default, of) {
+        default
+    } else {
+        of.uri
+    }
+}
+
+/// Writes a start tag, but for its end.
+pub fn begin_tag<K: Sink>(default: &str, of: &Name<'_>, sink: &mut K) -> Result<(), WriteFault>
+    ensures count { K.faults sink.old ≤ K.faults sink.new }
+    ensures ok { OnOk result
+        (Appended (K.written sink.old) (K.written sink.new) (begun_tag default.now (name of.now))) }
+    ensures fault { OnErr result
+        (WroteFront (K.written sink.old) (K.written sink.new) (begun_tag default.now (name of.now))) }
+    ensures rose { OnErr result (Rose (K.faults sink.old) (K.faults sink.new)) }
+{
+    sink.write(b"<")?;
+    write_tag_name(of, sink)?;
+    write_declaration(default, of, sink)
+}
+
+/// Writes an end tag.
+pub fn write_end_tag<K: Sink>(of: &Name<'_>, sink: &mut K) -> Result<(), WriteFault>
+    ensures count { K.faults sink.old ≤ K.faults sink.new }
+    ensures ok { OnOk result
+        (Appended (K.written sink.old) (K.written sink.new) (end_tag (name of.now))) }
+    ensures fault { OnErr result
+        (WroteFront (K.written sink.old) (K.written sink.new) (end_tag (name of.now))) }
+    ensures rose { OnErr result (Rose (K.faults sink.old) (K.faults sink.new)) }
+{
+    sink.write(b"</")?;
+    write_tag_name(of, sink)?;
+    sink.write(b">")
+}
+
+/// Writes the name in a tag.
+fn write_tag_name<K: Sink>(of: &Name<'_>, sink: &mut K) -> Result<(), WriteFault>
+    ensures count { K.faults sink.old ≤ K.faults sink.new }
+    ensures ok { OnOk result
+        (Appended (K.written sink.old) (K.written sink.new) (p.tag_name (name of.now))) }
+    ensures fault { OnErr result
+        (WroteFront (K.written sink.old) (K.written sink.new) (p.tag_name (name of.now))) }
+    ensures rose { OnErr result (Rose (K.faults sink.old) (K.faults sink.new)) }
+{
+    if of.uri == XML_URI {
+        sink.write(b"xml:")?;
+    }
+    sink.write(of.local.as_bytes())
+}
+
+/// Writes the declaration in a start tag, where one is needed.
+fn write_declaration<K: Sink>(default: &str, of: &Name<'_>, sink: &mut K) -> Result<(), WriteFault>
+    ensures count { K.faults sink.old ≤ K.faults sink.new }
+    ensures ok { OnOk result
+        (Appended (K.written sink.old) (K.written sink.new) (p.declaration default.now (name of.now))) }
+    ensures fault { OnErr result
+        (WroteFront (K.written sink.old) (K.written sink.new) (p.declaration default.now (name of.now))) }
+    ensures rose { OnErr result (Rose (K.faults sink.old) (K.faults sink.new)) }
+{
+    if needs_no_declaration(default, of) {
+        return Ok(());
+    }
+    sink.write(b" xmlns=\"")?;
+    write_escaped(Within::Value, of.uri.as_bytes(), sink)?;
+    sink.write(b"\"")
+}
