@@ -19,3 +19,7 @@ pub mod ViewsBody
 pub mod ViewsLists
 pub mod XmlTextPhrases
 pub mod XmlTextUnique
+pub mod CompactSyntaxTokensUnique
+pub mod CompactSyntaxClassesUnique
+pub mod CompactSyntaxUnique
+pub mod SimplifiesUnique

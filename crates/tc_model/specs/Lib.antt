@@ -34,3 +34,4 @@ pub mod SimplifiesFaults
 pub mod Simplifies
 pub mod SimplifiesCounts
 pub mod RncText
+pub mod SimplifiesLaws
