@@ -19,6 +19,10 @@ pub mod ViewsBody
 pub mod ViewsLists
 pub mod XmlTextPhrases
 pub mod XmlTextUnique
+pub mod XmlTextChars
+pub mod XmlTextLawful
+pub mod XmlTextTrees
+pub mod XmlTextDocument
 pub mod CompactSyntaxTokensUnique
 pub mod CompactSyntaxClassesUnique
 pub mod CompactSyntaxUnique

@@ -24,6 +24,7 @@ pub mod XmlTextScopes
 pub mod XmlTextContent
 pub mod XmlText
 pub mod Stripped
+pub mod XmlTextLaws
 pub mod CompactSyntaxTrees
 pub mod CompactSyntaxTokens
 pub mod CompactSyntaxNames

@@ -1,6 +1,6 @@
 -- The bytes of an XML text: white space, runs, what stands before a mark, literals. The text is in UTF-8 and every mark is ASCII,
 -- so no byte of a longer character is ever taken for a mark.
-use Rattle.std.specs.Prelude.{◌≡◌, ℕ, ◌+◌, ◌-◌, ◌<◌, Bool, true, false, ◌&&◌, ◌==◌, ◌⊎◌, List, [], ◌∷◌, ◌++◌, take, drop, length, if◌then◌else◌}
+use Rattle.std.specs.Prelude.{◌≡◌, ℕ, ◌+◌, ◌-◌, ◌<◌, Bool, ◌==◌, ◌⊎◌, List, [], ◌∷◌, ◌++◌, take, drop, length, bytes_eq, if◌then◌else◌}
 use Rattle.std.specs.List.{prefix_len}
 use Rattle.tc_base.specs.Characters.{is_white}
 
@@ -22,10 +22,9 @@ BeginsWithWhite bs = 0 < prefix_len is_white bs
 abbrev pub after_white : List ℕ → List ℕ
 after_white bs = drop (prefix_len is_white bs) bs
 
+-- this mark stands at the front
 abbrev pub begins_with : List ℕ → List ℕ → Bool
-begins_with [] bs = true
-begins_with (m ∷ mark) [] = false
-begins_with (m ∷ mark) (b ∷ bs) = b == m && begins_with mark bs
+begins_with mark bs = bytes_eq mark (take (length mark) bs)
 
 -- how many bytes stand before the first such mark; all, where there is none
 abbrev pub length_before : List ℕ → List ℕ → ℕ

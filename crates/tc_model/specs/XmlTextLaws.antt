@@ -1,0 +1,39 @@
+-- Laws of XML texts and their raw trees.
+use Rattle.std.specs.Prelude.{◌≡◌, ◌⊎◌, ◌≤◌, ℕ, List, [], length}
+use Rattle.std.specs.List.{AllByRecursion}
+use Rattle.tc_model.specs.Names.{IsChars, IsNcName, IsNamespaceName, IsName, IsText}
+use Rattle.tc_model.specs.Trees.{IsDocument}
+use Rattle.tc_model.specs.RawTrees.{Attribute, Bound, RawTrees, none, text, element}
+use Rattle.tc_model.specs.XmlText.{XmlText}
+use Rattle.tc_model.specs.Stripped.{stripped}
+
+-- a lawful attribute of a text of so many bytes
+pub record IsLawfulAttribute (total : ℕ) (a : Attribute) : Type 0 where
+  pub name : IsName a.name
+  pub value : IsChars a.value
+  pub within : a.place ≤ total
+
+-- what may be in scope: a prefix, or none, and a namespace name
+pub record IsLawfulBound (b : Bound) : Type 0 where
+  pub prefix : (b.prefix ≡ []) ⊎ IsNcName b.prefix
+  pub uri : IsNamespaceName b.uri
+
+-- all names, texts and namespace names are lawful, and no place is past so many bytes
+abbrev pub AreLawfulWithin : ℕ → RawTrees → Type 0
+AreLawfulWithin total none = Unit {0}
+AreLawfulWithin total (text s p rest) = IsText s × (p ≤ total) × AreLawfulWithin total rest
+AreLawfulWithin total (element n attributes scope p kids rest) =
+    IsName n × AllByRecursion (IsLawfulAttribute total) attributes × AllByRecursion IsLawfulBound scope
+    × (p ≤ total) × AreLawfulWithin total kids × AreLawfulWithin total rest
+
+-- a text has at most one raw tree
+abbrev pub HasOneRawTree : Type 0
+HasOneRawTree = (bytes : List ℕ) (h k : RawTrees) → XmlText bytes h → XmlText bytes k → h ≡ k
+
+-- which is lawful
+abbrev pub HasLawfulRawTree : Type 0
+HasLawfulRawTree = (bytes : List ℕ) (h : RawTrees) → XmlText bytes h → AreLawfulWithin (length bytes) h
+
+-- and stripped it is a document
+abbrev pub HasDocument : Type 0
+HasDocument = (bytes : List ℕ) (h : RawTrees) → XmlText bytes h → IsDocument (stripped h)
