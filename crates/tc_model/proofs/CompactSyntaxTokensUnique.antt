@@ -14,7 +14,7 @@ use Rattle.tc_model.proofs.XmlTextPhrases.{same_others, literal_unique, ncname_u
 other_kind : ℕ → ℕ
 other_kind c = cond (is_white c) 2 (cond (c == 0x22) 3 (cond (c == 0x27) 3 (cond (c == 0x23) 4 (cond (c == 0x5C) 5 6))))
 
-kind : ℕ → ℕ
+pub kind : ℕ → ℕ
 kind c = cond (is_ncname_start c) 1 (other_kind c)
 
 -- the bytes begin with a character of this kind
@@ -37,7 +37,7 @@ start_kind c h = ap (λ x. cond x 1 (other_kind c)) h
 byte_begins : {k : ℕ} {bs : List ℕ} (b : ℕ) → b < 128 → kind b ≡ k → BeginsAs k (b ∷ bs)
 byte_begins {bs = bs} b small e = record { first = b; after = bs; parts = sym (ap (λ w. w ++ bs) (encode_ascii b small)); is = e }
 
-white_is : (b : ℕ) → is_white b ≡ true → (b < 128) × (kind b ≡ 2)
+pub white_is : (b : ℕ) → is_white b ≡ true → (b < 128) × (kind b ≡ 2)
 unfolding kind other_kind
 white_is b h = by (b == 0x20) (b == 0x9) (b == 0xD) (b == 0xA) refl refl refl refl h
   where

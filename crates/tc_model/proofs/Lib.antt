@@ -27,3 +27,6 @@ pub mod CompactSyntaxTokensUnique
 pub mod CompactSyntaxClassesUnique
 pub mod CompactSyntaxUnique
 pub mod SimplifiesUnique
+pub mod CompactSyntaxTokensLawful
+pub mod CompactSyntaxLawful
+pub mod SimplifiesLawful

@@ -35,4 +35,5 @@ pub mod SimplifiesFaults
 pub mod Simplifies
 pub mod SimplifiesCounts
 pub mod RncText
+pub mod CompactSyntaxLawful
 pub mod SimplifiesLaws
