@@ -1,14 +1,13 @@
 -- The names and literals of a text's tokens are lawful.
-use Rattle.std.proofs.Common.{◌≡◌, ◌⊎◌, inl, inr, ℕ, zero, suc, ◌<◌, Bool, true, false, cond, not, ◌||◌, ◌&&◌, ◌==◌, List, [], ◌∷◌, ◌++◌, refl, ap, ◌∙◌, sym, subst, drop, arith}
-use Rattle.std.specs.Prelude.{encode_utf8, encode_utf8_all}
+use Rattle.std.proofs.Common.{◌≡◌, inl, inr, ℕ, zero, suc, ◌<◌, ◌≤◌, Bool, true, false, not, ◌||◌, ◌==◌, List, [], ◌∷◌, ◌++◌, refl, ap, ◌∙◌, sym, subst, drop, arith}
+use Rattle.std.specs.Prelude.{encode_utf8}
 use Rattle.std.specs.List.{AllByRecursion, prefix_len, list_all}
-use Rattle.std.proofs.lemmas.Bool.{and_parts, eqb-true, false≢true, true≢false}
+use Rattle.std.proofs.lemmas.Bool.{and_parts, eqb-true, true≢false}
 use Rattle.std.proofs.lemmas.Str.{cons_from_encodes}
-use Rattle.tc_base.specs.Characters.{is_white, is_char}
+use Rattle.tc_base.specs.Characters.{is_char}
 use Rattle.tc_model.specs.Names.{IsChars, IsNcName}
 use Rattle.tc_model.specs.XmlTextBytes.{IsQuote, UpTo, LiteralAt}
-use Rattle.tc_model.specs.XmlTextNames.{NcNameAt}
-use Rattle.tc_model.specs.CompactSyntaxTokens.{Word, a_name, escaped, prefixed, all_of, literal, mark, Token, is_line_end, after_line, EscapedAt, WordAt, plain_name, prefixed_name, namespace_name, escaped_name, quoted, backslash, other, TokensAt, at_end, white, comment, token}
+use Rattle.tc_model.specs.CompactSyntaxTokens.{Word, a_name, escaped, prefixed, all_of, literal, mark, Token, is_line_end, after_line, WordAt, plain_name, prefixed_name, namespace_name, escaped_name, quoted, backslash, other, TokensAt, at_end, white, comment, token}
 use Rattle.tc_model.proofs.XmlTextChars.{after_ascii, up_to_chars, run_chars, ncname_chars}
 use Rattle.tc_model.proofs.CompactSyntaxTokensUnique.{white_is}
 
@@ -20,8 +19,9 @@ IsLawfulWord (all_of p) = Unit {0}
 IsLawfulWord (literal s) = IsChars s
 IsLawfulWord (mark c) = Unit {0}
 
-abbrev pub AreLawful : List Token → Type 0
-AreLawful tokens = AllByRecursion (λ t. IsLawfulWord t.word) tokens
+-- in a text of so many bytes
+abbrev pub AreLawful : ℕ → List Token → Type 0
+AreLawful total tokens = AllByRecursion (λ t. (t.place ≤ total) × IsLawfulWord t.word) tokens
 
 behind_char : (c : ℕ) (bs after : List ℕ) → bs ≡ encode_utf8 c ++ after → IsChars bs → IsChars after
 behind_char c bs after e (cs, f, h) =
@@ -62,8 +62,8 @@ line_chars bs h = by (prefix_len (λ b. not (is_line_end b)) bs) refl
     by zero e = subst (λ n. IsChars (drop n bs)) (sym e) h
     by (suc k) e = (run_chars (λ b. not (is_line_end b)) bs _ (after_line bs) stops (record { some = omega (arith, e); front = refl; back = refl }) h).1
 
-pub tokens_lawful : {total : ℕ} {bs : List ℕ} {ts : List Token} → TokensAt total bs ts → IsChars bs → AreLawful ts
+pub tokens_lawful : {total : ℕ} {bs : List ℕ} {ts : List Token} → TokensAt total bs ts → IsChars bs → AreLawful total ts
 tokens_lawful at_end h = tt
 tokens_lawful (white {b = b} {rest = rest} k m) h = tokens_lawful m (after_ascii b rest (white_is b k).0 h)
 tokens_lawful (comment {rest = rest} m) h = tokens_lawful m (line_chars rest (after_ascii 0x23 rest (omega arith) h))
-tokens_lawful (token a m) h = let (w, rest) = word_lawful a h in (w, tokens_lawful m rest)
+tokens_lawful (token a m) h = let (w, rest) = word_lawful a h in ((omega arith, w), tokens_lawful m rest)

@@ -1,22 +1,20 @@
 -- The grammar of a text is well-formed.
-use Rattle.std.proofs.Common.{◌≡◌, ◌≢◌, ◌⊎◌, inl, inr, ℕ, zero, suc, ◌+◌, ◌<◌, ◌≤◌, Bool, true, false, cond, ◌==◌, List, [], ◌∷◌, refl, ap, ◌∙◌, sym, subst, arith, Option, None, Some, bytes_eq, length, filter, slice_index_or}
+use Rattle.std.proofs.Common.{◌≡◌, ◌≢◌, inl, inr, ℕ, zero, suc, ◌+◌, ◌≤◌, Bool, true, false, cond, ◌==◌, List, [], ◌∷◌, refl, ap, ◌∙◌, sym, subst, arith, Some, bytes_eq, length}
 use Rattle.std.specs.List.{All, AllByRecursion, list_any}
-use Rattle.std.proofs.lemmas.Bool.{eqb-true, eq-eqb, true≢false}
+use Rattle.std.proofs.lemmas.Bool.{eq-eqb, true≢false}
 use Rattle.tc_model.specs.Grammars as g
 use Rattle.tc_model.specs.Grammars.{NameClass, NameClasses, Pattern, Patterns, ElementPattern, Grammar, IsNameClass, AreNameClasses, IsPattern, ArePatterns, IsElementPattern, IsGrammar}
 use Rattle.tc_model.specs.CompactSyntaxTrees.{SyntaxClass, of_name, of_namespace, any_name, one_of, SyntaxClasses, no_class, class, SyntaxPattern, empty, not_allowed, text, attribute, ref, element, mixed, optional, zero_or_more, one_or_more, group, choice, interleave, SyntaxPatterns, no_more, more, Definition, Syntax}
 use Rattle.tc_model.specs.CompactSyntaxLawful.{IsLawfulClass, AreLawfulClasses, IsLawfulPattern, AreLawfulPatterns, IsLawfulSyntax}
-use Rattle.tc_model.specs.SimplifiesParts as s
 use Rattle.tc_model.specs.SimplifiesParts.{definitions_of, is_choice, bodies_of, joined_definitions, pattern_of, IsAmong, IsOpenPart, Reached, at_start, part, reference, content}
-use Rattle.tc_model.specs.Simplifies.{Element, name_class, name_classes, number_at, both, Becomes, an_empty, a_not_allowed, a_text, an_attribute, a_reference, an_element, a_mixed, an_optional, a_zero_or_more, a_one_or_more, a_group, a_choice, an_interleave, AllBecome, none_left, one_more, ElementsBecome, no_element, next, Simplifies}
-use Rattle.tc_model.specs.RncText.{RncText}
-use Rattle.tc_model.specs.SimplifiesLaws.{HasLawfulGrammar}
+use Rattle.tc_model.specs.Simplifies.{Element, name_class, name_classes, number_at, both, Becomes, an_empty, a_not_allowed, a_text, an_attribute, a_reference, an_element, a_mixed, an_optional, a_zero_or_more, a_one_or_more, a_group, a_choice, an_interleave, AllBecome, none_left, one_more, ElementsBecome, no_element, next}
+use Rattle.tc_model.specs.SimplifiesLaws.{HasLawfulSyntax, HasLawfulGrammar}
 use Rattle.tc_model.proofs.CompactSyntaxClassesUnique.{same_some, some_none}
 use Rattle.tc_model.proofs.CompactSyntaxLawful.{spells_lawful}
-use Rattle.tc_model.proofs.SimplifiesUnique.{Has, here, there, has_from_index, all_at}
+use Rattle.tc_model.proofs.SimplifiesUnique.{Has, here, there, has_from_index}
 
-abbrev AllDefined : List Definition → Type 0
-AllDefined ds = AllByRecursion (λ d. IsLawfulPattern d.body) ds
+abbrev AllDefined : ℕ → List Definition → Type 0
+AllDefined most ds = AllByRecursion (λ d. (d.place ≤ most) × IsLawfulPattern most d.body) ds
 
 -- an empty list of classes stays one, and no other becomes one
 some_classes : (cs : SyntaxClasses) → (cs ≡ no_class → ⊥) → name_classes cs ≡ g.no_class → ⊥
@@ -24,71 +22,71 @@ some_classes no_class h e = h refl
 some_classes (class c cs) h e = cc
 
 mutual
-  class_lawful : (c : SyntaxClass) → IsLawfulClass c → IsNameClass (name_class c)
-  class_lawful (of_name n) h = h
-  class_lawful (of_namespace place uri x) (a, b) = (a, classes_lawful x b)
-  class_lawful (any_name place x) h = classes_lawful x h
-  class_lawful (one_of cs) (a, b) = (some_classes cs a, classes_lawful cs b)
+  class_lawful : (most : ℕ) (c : SyntaxClass) → IsLawfulClass most c → IsNameClass (name_class c)
+  class_lawful most (of_name n) h = h
+  class_lawful most (of_namespace place uri x) (k, a, b) = (a, classes_lawful most x b)
+  class_lawful most (any_name place x) (k, h) = classes_lawful most x h
+  class_lawful most (one_of cs) (a, b) = (some_classes cs a, classes_lawful most cs b)
 
-  classes_lawful : (cs : SyntaxClasses) → AreLawfulClasses cs → AreNameClasses (name_classes cs)
-  classes_lawful no_class h = tt
-  classes_lawful (class c cs) (a, b) = (class_lawful c a, classes_lawful cs b)
+  classes_lawful : (most : ℕ) (cs : SyntaxClasses) → AreLawfulClasses most cs → AreNameClasses (name_classes cs)
+  classes_lawful most no_class h = tt
+  classes_lawful most (class c cs) (a, b) = (class_lawful most c a, classes_lawful most cs b)
 
-chosen_lawful : (n : List ℕ) (ds : List Definition) → AllDefined ds → AllDefined (definitions_of ds n)
-chosen_lawful n [] h = tt
-chosen_lawful n (d ∷ ds) (a, h) = by (bytes_eq d.name n) (chosen_lawful n ds h)
+chosen_lawful : (most : ℕ) (n : List ℕ) (ds : List Definition) → AllDefined most ds → AllDefined most (definitions_of ds n)
+chosen_lawful most n [] h = tt
+chosen_lawful most n (d ∷ ds) (a, h) = by (bytes_eq d.name n) (chosen_lawful most n ds h)
   where
-    by : (x : Bool) → AllDefined (definitions_of ds n) → AllDefined (cond x (d ∷ definitions_of ds n) (definitions_of ds n))
+    by : (x : Bool) → AllDefined most (definitions_of ds n) → AllDefined most (cond x (d ∷ definitions_of ds n) (definitions_of ds n))
     by true k = (a, k)
     by false k = k
 
-bodies_lawful : (ds : List Definition) → AllDefined ds → AreLawfulPatterns (bodies_of ds)
-bodies_lawful [] h = tt
-bodies_lawful (d ∷ ds) (a, h) = (a, bodies_lawful ds h)
+bodies_lawful : (most : ℕ) (ds : List Definition) → AllDefined most ds → AreLawfulPatterns most (bodies_of ds)
+bodies_lawful most [] h = tt
+bodies_lawful most (d ∷ ds) (a, h) = (a.1, bodies_lawful most ds h)
 
 no_empty : {q : SyntaxPattern} {qs : SyntaxPatterns} → more q qs ≡ no_more → ⊥
 no_empty e = cc
 
-joined_lawful : (ds : List Definition) (q : SyntaxPattern) → AllDefined ds → joined_definitions ds ≡ Some q → IsLawfulPattern q
-joined_lawful [] q h e = absurd (some_none e refl)
-joined_lawful (d ∷ []) q (a, h) e = subst IsLawfulPattern (same_some refl e) a
-joined_lawful (d ∷ f ∷ ds) q h e = by (list_any (λ z. is_choice z.joins) (d ∷ f ∷ ds)) e
+joined_lawful : (most : ℕ) (ds : List Definition) (q : SyntaxPattern) → AllDefined most ds → joined_definitions ds ≡ Some q → IsLawfulPattern most q
+joined_lawful most [] q h e = absurd (some_none e refl)
+joined_lawful most (d ∷ []) q (a, h) e = subst (IsLawfulPattern most) (same_some refl e) a.1
+joined_lawful most (d ∷ f ∷ ds) q h e = by (list_any (λ z. is_choice z.joins) (d ∷ f ∷ ds)) e
   where
-    bodies : AreLawfulPatterns (bodies_of (d ∷ f ∷ ds))
-    bodies = bodies_lawful (d ∷ f ∷ ds) h
+    bodies : AreLawfulPatterns most (bodies_of (d ∷ f ∷ ds))
+    bodies = bodies_lawful most (d ∷ f ∷ ds) h
 
-    by : (x : Bool) → Some (cond x (choice (bodies_of (d ∷ f ∷ ds))) (interleave (bodies_of (d ∷ f ∷ ds)))) ≡ Some q → IsLawfulPattern q
-    by true e = let lawful : IsLawfulPattern (choice (bodies_of (d ∷ f ∷ ds))) = (λ z. no_empty z, bodies) in subst IsLawfulPattern (same_some refl e) lawful
-    by false e = let lawful : IsLawfulPattern (interleave (bodies_of (d ∷ f ∷ ds))) = (λ z. no_empty z, bodies) in subst IsLawfulPattern (same_some refl e) lawful
+    by : (x : Bool) → Some (cond x (choice (bodies_of (d ∷ f ∷ ds))) (interleave (bodies_of (d ∷ f ∷ ds)))) ≡ Some q → IsLawfulPattern most q
+    by true e = let lawful : IsLawfulPattern most (choice (bodies_of (d ∷ f ∷ ds))) = (λ z. no_empty z, bodies) in subst (IsLawfulPattern most) (same_some refl e) lawful
+    by false e = let lawful : IsLawfulPattern most (interleave (bodies_of (d ∷ f ∷ ds))) = (λ z. no_empty z, bodies) in subst (IsLawfulPattern most) (same_some refl e) lawful
 
-pattern_lawful : (s : Syntax) (n : List ℕ) (q : SyntaxPattern) → IsLawfulSyntax s → pattern_of s n ≡ Some q → IsLawfulPattern q
-pattern_lawful s n q h e = joined_lawful (definitions_of s.definitions n) q (chosen_lawful n s.definitions h) e
+pattern_lawful : (s : Syntax) (n : List ℕ) (q : SyntaxPattern) → IsLawfulSyntax s → pattern_of s n ≡ Some q → IsLawfulPattern s.end q
+pattern_lawful s n q h e = joined_lawful s.end (definitions_of s.definitions n) q (chosen_lawful s.end n s.definitions h) e
 
-among_lawful : (qs : SyntaxPatterns) (q : SyntaxPattern) → AreLawfulPatterns qs → IsAmong qs q → IsLawfulPattern q
-among_lawful no_more q h m = absurd m
-among_lawful (more p ps) q (a, h) (inl e) = subst IsLawfulPattern (sym e) a
-among_lawful (more p ps) q (a, h) (inr m) = among_lawful ps q h m
+among_lawful : (most : ℕ) (qs : SyntaxPatterns) (q : SyntaxPattern) → AreLawfulPatterns most qs → IsAmong qs q → IsLawfulPattern most q
+among_lawful most no_more q h m = absurd m
+among_lawful most (more p ps) q (a, h) (inl e) = subst (IsLawfulPattern most) (sym e) a
+among_lawful most (more p ps) q (a, h) (inr m) = among_lawful most ps q h m
 
-part_lawful : (p q : SyntaxPattern) → IsLawfulPattern p → IsOpenPart p q → IsLawfulPattern q
-part_lawful empty q h m = absurd m
-part_lawful not_allowed q h m = absurd m
-part_lawful text q h m = absurd m
-part_lawful attribute q h m = absurd m
-part_lawful (ref n k) q h m = absurd m
-part_lawful (element k c p) q h m = absurd m
-part_lawful (mixed p) q h m = subst IsLawfulPattern (sym m) h
-part_lawful (optional p) q h m = subst IsLawfulPattern (sym m) h
-part_lawful (zero_or_more p) q h m = subst IsLawfulPattern (sym m) h
-part_lawful (one_or_more p) q h m = subst IsLawfulPattern (sym m) h
-part_lawful (group ps) q h m = among_lawful ps q h.1 m
-part_lawful (choice ps) q h m = among_lawful ps q h.1 m
-part_lawful (interleave ps) q h m = among_lawful ps q h.1 m
+part_lawful : (most : ℕ) (p q : SyntaxPattern) → IsLawfulPattern most p → IsOpenPart p q → IsLawfulPattern most q
+part_lawful most empty q h m = absurd m
+part_lawful most not_allowed q h m = absurd m
+part_lawful most text q h m = absurd m
+part_lawful most attribute q h m = absurd m
+part_lawful most (ref n k) q h m = absurd m
+part_lawful most (element k c p) q h m = absurd m
+part_lawful most (mixed p) q h m = subst (IsLawfulPattern most) (sym m) h
+part_lawful most (optional p) q h m = subst (IsLawfulPattern most) (sym m) h
+part_lawful most (zero_or_more p) q h m = subst (IsLawfulPattern most) (sym m) h
+part_lawful most (one_or_more p) q h m = subst (IsLawfulPattern most) (sym m) h
+part_lawful most (group ps) q h m = among_lawful most ps q h.1 m
+part_lawful most (choice ps) q h m = among_lawful most ps q h.1 m
+part_lawful most (interleave ps) q h m = among_lawful most ps q h.1 m
 
-reached_lawful : {s : Syntax} {q : SyntaxPattern} → IsLawfulSyntax s → Reached s q → IsLawfulPattern q
+reached_lawful : {s : Syntax} {q : SyntaxPattern} → IsLawfulSyntax s → Reached s q → IsLawfulPattern s.end q
 reached_lawful {s} {q} h (at_start e) = pattern_lawful s [] q h e
-reached_lawful {q = q} h (part {p = p} r m) = part_lawful p q (reached_lawful h r) m
+reached_lawful {s} {q} h (part {p = p} r m) = part_lawful s.end p q (reached_lawful h r) m
 reached_lawful {s} {q} h (reference {n = n} r e) = pattern_lawful s n q h e
-reached_lawful h (content r) = (reached_lawful h r).1
+reached_lawful h (content r) = (reached_lawful h r).2
 
 number_bounds : (es : List Element) (e : Element) → Has es e → (1 ≤ number_at es e.place) × (number_at es e.place ≤ length es)
 number_bounds es e m = by es e.place m refl
@@ -140,7 +138,7 @@ module _ (s : Syntax) (lawful : IsLawfulSyntax s) (es : List Element)
       → AllByRecursion (IsElementPattern (length es)) ps
   elements_lawful [] ps r no_element = tt
   elements_lawful (f ∷ fs) ps (r, rs) (next {ps = qs} a m) =
-      ((class_lawful f.names (reached_lawful lawful r).0, becomes_lawful (content r) a), elements_lawful fs qs rs m)
+      ((class_lawful s.end f.names (reached_lawful lawful r).1, becomes_lawful (content r) a), elements_lawful fs qs rs m)
 
 same_length : {s : Syntax} {es fs : List Element} {ps : List ElementPattern} → ElementsBecome s es fs ps → length ps ≡ length fs
 same_length no_element = refl
@@ -150,6 +148,9 @@ all_from_recursion : {X : Type 0} (P : X → Type 0) (xs : List X) → AllByRecu
 all_from_recursion P [] h k d small = absurd (omega (arith, small))
 all_from_recursion P (x ∷ xs) (a, h) zero d small = a
 all_from_recursion P (x ∷ xs) (a, h) (suc k) d small = all_from_recursion P xs h k d (omega (arith, small))
+
+pub lawful_syntax : HasLawfulSyntax
+lawful_syntax bytes s a = (spells_lawful a, a.end)
 
 pub lawful_grammar : HasLawfulGrammar
 lawful_grammar bytes h (s, spells, a) =

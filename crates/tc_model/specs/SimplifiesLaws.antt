@@ -1,8 +1,9 @@
 -- Laws of texts in compact syntax and their grammars.
-use Rattle.std.specs.Prelude.{◌≡◌, ℕ, List}
+use Rattle.std.specs.Prelude.{◌≡◌, ℕ, List, length}
 use Rattle.tc_model.specs.Grammars.{Pattern, not_allowed, ref, choice, Patterns, no_more, more, Grammar, IsGrammar}
 use Rattle.tc_model.specs.CompactSyntaxTrees.{Syntax}
 use Rattle.tc_model.specs.CompactSyntax.{CompactSyntax}
+use Rattle.tc_model.specs.CompactSyntaxLawful.{IsLawfulSyntax}
 use Rattle.tc_model.specs.Simplifies.{Simplifies}
 use Rattle.tc_model.specs.RncText.{RncText}
 
@@ -21,6 +22,10 @@ abbrev mutual
 -- a text has at most one syntax tree
 abbrev pub HasOneSyntax : Type 0
 HasOneSyntax = (bytes : List ℕ) (s t : Syntax) → CompactSyntax bytes s → CompactSyntax bytes t → s ≡ t
+
+-- which is lawful, and no place in it is behind the text's end
+abbrev pub HasLawfulSyntax : Type 0
+HasLawfulSyntax = (bytes : List ℕ) (s : Syntax) → CompactSyntax bytes s → IsLawfulSyntax s × (s.end ≡ length bytes)
 
 -- a syntax tree has at most one grammar
 abbrev pub HasOneGrammar : Type 0
