@@ -30,3 +30,10 @@ pub mod StatesRepeats
 pub mod StatesShuffles
 pub mod StatesExact
 pub mod StatesParts
+pub mod CompactSyntaxTokensUnique
+pub mod CompactSyntaxClassesUnique
+pub mod CompactSyntaxUnique
+pub mod SimplifiesUnique
+pub mod CompactSyntaxTokensLawful
+pub mod CompactSyntaxLawful
+pub mod SimplifiesLawful

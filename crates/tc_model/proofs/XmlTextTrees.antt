@@ -77,7 +77,7 @@ scope_lawful total scope outer (a ∷ written) (x ∷ expanded) (prefixed is p u
     subst (λ x. AllByRecursion IsLawfulBound (scope_within (if x then bound_in (binding_of a) outer else outer) written)) (sym is)
     (scope_lawful total scope outer written expanded e l h)
 
-no_uri : IsNamespaceName []
+pub no_uri : IsNamespaceName []
 no_uri = (no_chars, λ e. cc)
 
 uri_lawful : (scope : List Bound) (prefix uri : List ℕ) → AllByRecursion IsLawfulBound scope → uri_of scope prefix ≡ Some uri → IsNamespaceName uri
@@ -171,7 +171,7 @@ ascii_encodes (b ∷ bs) e =
     let (x, y) = and_parts (ltb b 128) (list_all (λ b. ltb b 128) bs) e in
     ap (λ w. w ++ encode_utf8_all bs) (encode_ascii b (ltb-true b 128 x)) ∙ ap (λ w. b ∷ w) (ascii_encodes bs y)
 
-first_lawful : AllByRecursion IsLawfulBound first_scope
+pub first_lawful : AllByRecursion IsLawfulBound first_scope
 first_lawful = (
   record {
     prefix = inr (0x78, 0x6D ∷ 0x6C ∷ [], ascii_encodes (codes "xml") refl, refl, refl);
@@ -184,7 +184,7 @@ mark_is_chars : IsChars (0xEF ∷ 0xBB ∷ 0xBF ∷ [])
 unfolding encode
 mark_is_chars = (0xFEFF ∷ [], refl, refl)
 
-mark_chars : (bytes : List ℕ) → IsChars bytes → IsChars (after_mark bytes)
+pub mark_chars : (bytes : List ℕ) → IsChars bytes → IsChars (after_mark bytes)
 mark_chars bytes h = by (begins_with (0xEF ∷ 0xBB ∷ 0xBF ∷ []) bytes) refl
   where
     by : (x : Bool) → begins_with (0xEF ∷ 0xBB ∷ 0xBF ∷ []) bytes ≡ x → IsChars (after_mark bytes)

@@ -40,3 +40,5 @@ pub mod SimplifiesFaults
 pub mod Simplifies
 pub mod SimplifiesCounts
 pub mod RncText
+pub mod CompactSyntaxLawful
+pub mod SimplifiesLaws
