@@ -17,3 +17,7 @@ pub mod ViewsRaw
 pub mod ViewsPath
 pub mod ViewsBody
 pub mod ViewsLists
+pub mod StatesJoins
+pub mod StatesRepeats
+pub mod StatesShuffles
+pub mod StatesExact

@@ -6,6 +6,7 @@ pub mod Runs
 pub mod Grammars
 pub mod Matching
 pub mod Validity
+pub mod States
 pub mod Sheets
 pub mod Chains
 pub mod Paths
