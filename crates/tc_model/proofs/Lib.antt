@@ -21,3 +21,4 @@ pub mod StatesJoins
 pub mod StatesRepeats
 pub mod StatesShuffles
 pub mod StatesExact
+pub mod StatesParts
