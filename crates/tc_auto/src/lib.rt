@@ -11,5 +11,7 @@ mod make;
 mod membership;
 mod part;
 mod rows;
+#[cfg(test)]
+mod tests;
 
 pub use auto::{Auto, AutoFault, Edge, Leaf};
