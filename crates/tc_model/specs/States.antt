@@ -1,5 +1,6 @@
 -- The states of patterns and of schemas: their numbers, the edges between them, those that accept, and what trees lead from one to another.
 use Rattle.std.specs.Prelude.{◌≡◌, ◌<◌, ◌≤◌, ◌⊎◌, ℕ, zero, suc, ◌+◌, ◌-◌, ◌*◌, List, [], ◌∷◌, length, false, Some, IsTrue}
+use Rattle.std.specs.Prelude.{◌≡◌, ◌<◌, ◌≤◌, ◌⊎◌, ℕ, zero, suc, ◌+◌, ◌-◌, ◌*◌, List, [], ◌∷◌, length, Bool, false, ◌==◌, ◌||◌, Some, IsTrue}
 use Rattle.tc_model.specs.Names.{ExpandedName}
 use Rattle.tc_model.specs.Trees.{Trees, none, text, element, is_all_white, normal_form}
 use Rattle.tc_model.specs.Grammars as p
@@ -160,6 +161,20 @@ IsAccepting g side j = (k : ℕ) × (q : Pattern) × (y : ℕ) × IsPart g side 
 abbrev pub IsAccepted : Grammar → Side → ℕ → Trees → Type 0
 IsAccepted g side k h = (j : ℕ) × Run (IsElementOf g.elements) (IsEdge g side) (first_state g side k) h j × IsAccepting g side j
 
+-- whether an element pattern is an alternative of a pattern, through nested choices
+abbrev mutual
+  pub is_alternative : ℕ → Pattern → Bool
+  is_alternative k (p.ref m) = k == m
+  is_alternative k (p.choice ps) = is_one_alternative k ps
+  is_alternative k p.empty = false
+  is_alternative k p.not_allowed = false
+  is_alternative k p.text = false
+  is_alternative k (p.group ps) = false
+  is_alternative k (p.interleave ps) = false
+  is_alternative k (p.one_or_more q) = false
+  pub is_one_alternative : ℕ → Patterns → Bool
+  is_one_alternative k no_more = false
+  is_one_alternative k (more q qs) = is_alternative k q || is_one_alternative k qs
 -- what trees lead from one state to another: a text of white space alone stays where it is, any other text takes an edge, and so does an element, by an element pattern that its normal form matches
 pub data Leads (g : Grammar) (side : Side) : ℕ → Trees → ℕ → Type 0 where
   at_end : {i : ℕ} → Leads g side i none i

@@ -1,0 +1,6 @@
+pub mod Lists
+pub mod Shown
+pub mod Loops
+pub mod Folds
+pub mod RowLists
+pub mod Totals

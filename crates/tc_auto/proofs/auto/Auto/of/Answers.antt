@@ -1,0 +1,7 @@
+use Rattle.tc_model.specs.Seen.{grammar}
+use Rattle.tc_model.specs.States.{output}
+use Rattle.tc_model.proofs.StatesParts.{accepted_exactly}
+use Rattle.tc_auto.proofs.auto.Auto.of.Goals as goal
+
+pub returns-clause-runs : goal.returns-clause-runs
+returns-clause-runs c = λ k q h part. accepted_exactly (grammar c.args.grammar.now) output h part

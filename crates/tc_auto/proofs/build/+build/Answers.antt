@@ -1,0 +1,66 @@
+use Rattle.std.proofs.Common.{◌≡◌, ◌<◌, ◌*◌, ap, ◌∙◌, sym, subst, take, arith, rules}
+use Rattle.tc_model.specs.Grammars as g
+use Rattle.tc_model.specs.Grammars.{Pattern}
+use Rattle.tc_model.specs.Seen.{pattern, patterns}
+use Rattle.tc_model.specs.States.{Automaton, automaton}
+use Rattle.tc_model.specs.declared.grammar.Pat.TheViews.{the_lemmas}
+use Rattle.tc_model.proofs.StatesExact.{sound}
+use Rattle.tc_model.proofs.ViewsGrammar.{see_group, see_choice, see_interleave}
+use Rattle.tc_auto.specs.Steps.{Shown}
+use Rattle.tc_auto.proofs.Folds.{group_more, choice_more, interleave_more, group_room, choice_room, interleave_room, some_before, some_before_choice, member_below}
+use Rattle.tc_auto.proofs.Shown.{within}
+use Rattle.tc_auto.proofs.build.+build.Goals as goal
+
+pub group_of-part_of-requires : goal.group_of-part_of-requires
+group_of-part_of-requires t c = (search (rules, the_lemmas), omega (arith, group_room c.args.members.now c.loop-member.member-index c.member-item.result c.loop-member-test.true c.member-item.is, some_before c.args.members.now c.loop-member.member-index, c.requires))
+
+pub group_of-group-requires-clause-within : goal.group_of-group-requires-clause-within
+group_of-group-requires-clause-within t c =
+    (within _ (sound (g.group (patterns (take c.loop-member.member-index c.args.members.now)))) _ c.loop-member.invariant, within _ (sound (pattern c.member-item.result)) _ c.in_ok-part_of.ensures)
+
+pub group_of-group-requires-clause-room : goal.group_of-group-requires-clause-room
+group_of-group-requires-clause-room t c = omega (arith, group_room c.args.members.now c.loop-member.member-index c.member-item.result c.loop-member-test.true c.member-item.is, c.requires, c.loop-member.invariant.counted, (c.in_ok-part_of.ensures).counted)
+
+pub group_of-loop-member-preserved : goal.group_of-loop-member-preserved
+group_of-loop-member-preserved t c =
+    subst (λ (a : Automaton). Shown c.in_ok-whole-2.whole.count c.in_ok-whole-2.whole.steps.items c.in_ok-whole-2.whole.ends.items a) (sym (group_more c.args.members.now c.loop-member.member-index c.member-item.result c.loop-member-test.true c.member-item.is)) (c.in_ok-whole-2.ensures (g.group (patterns (take c.loop-member.member-index c.args.members.now))) (pattern c.member-item.result) c.loop-member.invariant c.in_ok-part_of.ensures)
+
+pub part_of-group_of-requires : goal.part_of-group_of-requires
+part_of-group_of-requires t c = (search (rules, the_lemmas), subst (λ (w : Pattern). (automaton w).count < 4294967296) (ap pattern c.in-Group.is ∙ see_group c.in-Group.members) c.requires)
+
+pub choice_of-part_of-requires : goal.choice_of-part_of-requires
+choice_of-part_of-requires t c = (search (rules, the_lemmas), omega (arith, choice_room c.args.members.now c.loop-member.member-index c.member-item.result c.loop-member-test.true c.member-item.is, some_before_choice c.args.members.now c.loop-member.member-index, c.requires))
+
+pub choice_of-choice-requires-clause-within : goal.choice_of-choice-requires-clause-within
+choice_of-choice-requires-clause-within t c =
+    (within _ (sound (g.choice (patterns (take c.loop-member.member-index c.args.members.now)))) _ c.loop-member.invariant, within _ (sound (pattern c.member-item.result)) _ c.in_ok-part_of.ensures)
+
+pub choice_of-choice-requires-clause-room : goal.choice_of-choice-requires-clause-room
+choice_of-choice-requires-clause-room t c = omega (arith, choice_room c.args.members.now c.loop-member.member-index c.member-item.result c.loop-member-test.true c.member-item.is, c.requires, c.loop-member.invariant.counted, (c.in_ok-part_of.ensures).counted)
+
+pub choice_of-loop-member-preserved : goal.choice_of-loop-member-preserved
+choice_of-loop-member-preserved t c =
+    subst (λ (a : Automaton). Shown c.in_ok-whole.whole.count c.in_ok-whole.whole.steps.items c.in_ok-whole.whole.ends.items a) (sym (choice_more c.args.members.now c.loop-member.member-index c.member-item.result c.loop-member-test.true c.member-item.is)) (c.in_ok-whole.ensures (g.choice (patterns (take c.loop-member.member-index c.args.members.now))) (pattern c.member-item.result) c.loop-member.invariant c.in_ok-part_of.ensures)
+
+pub part_of-choice_of-requires : goal.part_of-choice_of-requires
+part_of-choice_of-requires t c = (search (rules, the_lemmas), subst (λ (w : Pattern). (automaton w).count < 4294967296) (ap pattern c.in-Choice.is ∙ see_choice c.in-Choice.members) c.requires)
+
+pub interleave_of-part_of-requires : goal.interleave_of-part_of-requires
+interleave_of-part_of-requires t c = (search (rules, the_lemmas), omega (arith, member_below c.args.members.now c.loop-member.member-index c.member-item.result c.loop-member-test.true c.member-item.is, c.requires))
+
+pub interleave_of-interleave-requires-clause-within : goal.interleave_of-interleave-requires-clause-within
+interleave_of-interleave-requires-clause-within t c =
+    (within _ (sound (g.interleave (patterns (take c.loop-member.member-index c.args.members.now)))) _ c.loop-member.invariant, within _ (sound (pattern c.member-item.result)) _ c.in_ok-part_of.ensures)
+
+pub interleave_of-interleave-requires-clause-room : goal.interleave_of-interleave-requires-clause-room
+interleave_of-interleave-requires-clause-room t c = subst (λ w. w < 4294967296) (sym (ap (λ w. w * c.in_ok-part_of.field-0.count) c.loop-member.invariant.counted ∙ ap (λ w. (automaton (g.interleave (patterns (take c.loop-member.member-index c.args.members.now)))).count * w) (c.in_ok-part_of.ensures).counted)) (omega (arith, interleave_room c.args.members.now c.loop-member.member-index c.member-item.result c.loop-member-test.true c.member-item.is, c.requires))
+
+pub interleave_of-loop-member-preserved : goal.interleave_of-loop-member-preserved
+interleave_of-loop-member-preserved t c =
+    subst (λ (a : Automaton). Shown c.in_ok-whole-2.whole.count c.in_ok-whole-2.whole.steps.items c.in_ok-whole-2.whole.ends.items a) (sym (interleave_more c.args.members.now c.loop-member.member-index c.member-item.result c.loop-member-test.true c.member-item.is)) (c.in_ok-whole-2.ensures (g.interleave (patterns (take c.loop-member.member-index c.args.members.now))) (pattern c.member-item.result) c.loop-member.invariant c.in_ok-part_of.ensures)
+
+pub part_of-interleave_of-requires : goal.part_of-interleave_of-requires
+part_of-interleave_of-requires t c = (search (rules, the_lemmas), subst (λ (w : Pattern). (automaton w).count < 4294967296) (ap pattern c.in-Interleave.is ∙ see_interleave c.in-Interleave.members) c.requires)
+
+pub part_of-repeat-requires : goal.part_of-repeat-requires
+part_of-repeat-requires t c = within _ (sound (pattern c.in-OneOrMore.member.now)) _ c.in_ok-part_of-in-OneOrMore.ensures

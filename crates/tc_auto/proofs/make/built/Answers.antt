@@ -1,0 +1,31 @@
+use Rattle.std.proofs.Common.{◌≡◌, ◌<◌, length, refl, arith, rules}
+use Rattle.tc_auto.specs.Stands.{side_of}
+use Rattle.tc_auto.proofs.Totals.{rows_within, elements_within, part_fits, built_step_as, built_all}
+use Rattle.tc_auto.proofs.make.built.Goals as goal
+
+pub overflow_cast-first : goal.overflow_cast-first
+overflow_cast-first c =
+    let low = rows_within c.args.grammar.now (side_of c.args.with_start) c.args.grammar.now.elements.now refl c.loop-element.element-index c.loop-element.firsts.items c.loop-element.rows.items c.loop-element.invariant in
+    let same : c.len-first.result ≡ length c.loop-element.rows.items = search rules in
+    let small : c.len-first.result < 4294967296 = omega (arith, c.requires) in
+    search rules
+
+pub push_part-requires : goal.push_part-requires
+push_part-requires c =
+    let same : c.len-first.result ≡ length c.loop-element.rows.items = search rules in
+    part_fits c.args.grammar.now (side_of c.args.with_start) c.args.grammar.now.elements.now refl c.loop-element.element-index c.len-first.result _ c.loop-element.firsts.items c.loop-element.rows.items c.loop-element-test.true same c.loop-element.invariant c.requires
+
+pub loop-element-preserved : goal.loop-element-preserved
+loop-element-preserved c =
+    let one = c.in_ok-push_part.ensures in
+    let same : c.len-first.result ≡ length c.loop-element.rows.items = search rules in
+    built_step_as c.args.grammar.now (side_of c.args.with_start) c.args.grammar.now.elements.now refl c.loop-element.element-index c.len-first.result _ c.loop-element.firsts.items _ c.loop-element.rows.items one.0 _ c.loop-element-test.true same c.loop-element.invariant one.2 c.in_ok-push-2.ensures.items one.1
+
+pub invariant_of-result : goal.invariant_of-result
+invariant_of-result c =
+    let low = rows_within c.args.grammar.now (side_of c.args.with_start) c.args.grammar.now.elements.now refl c.loop-element.element-index c.loop-element.firsts.items c.loop-element.rows.items c.loop-element.invariant in
+    let few = elements_within c.args.grammar.now (side_of c.args.with_start) c.args.grammar.now.elements.now refl in
+    record { counted = omega (arith, low, c.requires); parted = omega (arith, c.loop-element.invariant.begun, c.loop-element-test.false, c.loop-element.auto.element-index-end); numbered = omega (arith, few, c.requires) }
+
+pub returns : goal.returns
+returns c = record { start = refl; elements = refl; built = built_all c.args.grammar.now (side_of c.args.with_start) c.args.grammar.now.elements.now refl c.loop-element.element-index c.loop-element.firsts.items c.loop-element.rows.items c.loop-element-test.false c.loop-element.auto.element-index-end c.loop-element.invariant }

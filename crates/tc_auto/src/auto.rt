@@ -1,0 +1,131 @@
+// Automata of schemas.
+ghost use Rattle.std.specs.Prelude.{◌≡◌, ◌<◌, ◌+◌, ◌^◌, length};
+
+use crate::make::made;
+use crate::membership::{has_alternative, is_in_class};
+use crate::rows::Row;
+use std::alloc::Global;
+use tc_model::{ElemPat, Grammar, Name, Pat};
+
+/// What an edge takes: a text, or an element that matches the element pattern of a number, from 1.
+#[derive(Clone, Copy, Debug, PartialEq, Eq)]
+pub enum Leaf {
+    Text,
+    Ref(u32),
+}
+
+/// An edge to a state.
+#[derive(Clone, Copy, Debug, PartialEq, Eq)]
+pub struct Edge {
+    pub to: u32,
+    pub leaf: Leaf,
+}
+
+/// Why a schema has no automaton.
+#[derive(Clone, Copy, Debug, PartialEq, Eq)]
+pub enum AutoFault {
+    /// It would have more states than asked for.
+    TooManyStates,
+    /// Memory was refused.
+    NoMemory,
+}
+
+/// The states of a schema's parts, with their edges. Part 0 is the start, and part k is the content of
+/// element pattern k; their states are numbered from 0 through all parts, in this order.
+#[derive(Drop)]
+pub struct Auto<'b> {
+    pub(crate) start: Pat<'b>,
+    pub(crate) elements: &'b [ElemPat<'b>],
+    pub(crate) firsts: Vec<u32>,
+    pub(crate) rows: Vec<Row>,
+    ghost counted: { length rows.items < 2 ^ 32 },
+    ghost parted: { length firsts.items ≡ length elements.now + 1 },
+    ghost numbered: { length elements.now < 2 ^ 32 },
+}
+
+impl<'b> Auto<'b> {
+    ghost use Rattle.std.specs.Prelude.{◌≡◌, ◌<◌, ◌≤◌, ◌↔◌, ℕ, suc, Some, IfOk, IsTrue, Err, length};
+    ghost use Rattle.std.specs.List.{Contains};
+    ghost use Rattle.tc_model.specs.Grammars as g;
+    ghost use Rattle.tc_model.specs.Seen as see;
+    ghost use Rattle.tc_model.specs.States as s;
+    ghost use Rattle.tc_auto.specs.Stands.{Stands, RunsExactly};
+    ghost use Rattle.tc_auto.specs.Steps.{leaf};
+    ghost use Rattle.tc_auto.specs.declared.auto.Edge.{Edge};
+
+    /// The automaton of an output schema: its start and its contents, of at most `most` states.
+    pub fn of(alloc: Global, grammar: &Grammar<'b>, most: u32) -> Result<Auto<'b>, AutoFault>
+        ensures stands { IfOk result (λ a. Stands s.output (see.grammar grammar.now) a) }
+        ensures too_many { result ≡ Err AutoFault.TooManyStates → most < s.state_count (see.grammar grammar.now) s.output }
+        ensures told { most < s.state_count (see.grammar grammar.now) s.output → result ≡ Err AutoFault.TooManyStates }
+        ensures runs { RunsExactly (see.grammar grammar.now) s.output }
+    {
+        made(alloc, grammar, true, most)
+    }
+
+    /// The automaton of an input schema: its contents alone, of at most `most` states.
+    pub fn contents(alloc: Global, grammar: &Grammar<'b>, most: u32) -> Result<Auto<'b>, AutoFault>
+        ensures stands { IfOk result (λ a. Stands s.input (see.grammar grammar.now) a) }
+        ensures too_many { result ≡ Err AutoFault.TooManyStates → most < s.state_count (see.grammar grammar.now) s.input }
+        ensures told { most < s.state_count (see.grammar grammar.now) s.input → result ≡ Err AutoFault.TooManyStates }
+        ensures runs { RunsExactly (see.grammar grammar.now) s.input }
+    {
+        made(alloc, grammar, false, most)
+    }
+
+    /// The number of element patterns.
+    pub fn patterns(&self) -> u32
+        ensures here { result ≡ length self.now.elements.now }
+        ensures schema { (side : s.Side) (x : g.Grammar) → Stands side x self.now → result ≡ length x.elements }
+    {
+        self.elements.len() as u32
+    }
+
+    /// The number of states.
+    pub fn states(&self) -> u32
+        ensures here { result ≡ length self.now.rows.items }
+        ensures schema { (side : s.Side) (x : g.Grammar) → Stands side x self.now → result ≡ s.state_count x side }
+    {
+        self.rows.len() as u32
+    }
+
+    /// The first state of a part, from which its runs begin.
+    pub fn first(&self, part: u32) -> u32
+        requires { part ≤ length self.now.elements.now }
+        ensures { (side : s.Side) (x : g.Grammar) → Stands side x self.now → result ≡ s.first_state x side part }
+    {
+        self.firsts[part as usize]
+    }
+
+    /// The edges from a state.
+    pub fn follow(&self, state: u32) -> &[Edge]
+        requires { state < length self.now.rows.items }
+        ensures { (side : s.Side) (x : g.Grammar) → Stands side x self.now → (e : Edge) → Contains result.now e ↔ s.IsEdge x side state (leaf e.leaf) e.to }
+    {
+        self.rows[state as usize].edges.as_slice()
+    }
+
+    /// Whether a state accepts.
+    pub fn accepts(&self, state: u32) -> bool
+        requires { state < length self.now.rows.items }
+        ensures { (side : s.Side) (x : g.Grammar) → Stands side x self.now → IsTrue result ↔ s.IsAccepting x side state }
+    {
+        self.rows[state as usize].accepting
+    }
+
+    /// Whether a name is in the name class of an element pattern.
+    pub fn allows(&self, number: u32, name: &Name<'_>) -> bool
+        requires from_one { 1 ≤ number }
+        requires within { number ≤ length self.now.elements.now }
+        ensures { (side : s.Side) (x : g.Grammar) → Stands side x self.now → (e : g.ElementPattern) → g.element_at x.elements number ≡ Some e → result ≡ g.in_class e.names (see.name name.now) }
+    {
+        is_in_class(&self.elements[number as usize - 1].names, name)
+    }
+
+    /// Whether an element pattern is an alternative of the start, through nested choices.
+    pub fn starts(&self, number: u32) -> bool
+        ensures { (side : s.Side) (x : g.Grammar) → Stands side x self.now → result ≡ s.is_alternative number x.start }
+    {
+        has_alternative(&self.start, number)
+    }
+}

@@ -1,0 +1,17 @@
+//! Automata of schemas: states and edges that run along trees, with interleave as the product of states.
+//!
+//! `tc_model`'s `specs/States.antt` says which states a pattern has and which edges lead between them. A
+//! run from the first state of a part to an accepting one exists exactly where the trees match the part.
+#![tactic(auto)]
+
+pub mod auto;
+mod build;
+mod count;
+mod make;
+mod membership;
+mod part;
+mod rows;
+#[cfg(test)]
+mod tests;
+
+pub use auto::{Auto, AutoFault, Edge, Leaf};
