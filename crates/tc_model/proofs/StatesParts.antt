@@ -4,7 +4,6 @@ use Rattle.tc_model.specs.Names.{ExpandedName}
 use Rattle.tc_model.specs.Trees.{Trees}
 use Rattle.tc_model.specs.Grammars.{Pattern, ElementPattern, Grammar}
 use Rattle.tc_model.specs.Matching.{Matches}
-use Rattle.tc_model.specs.States.{Leaf, Run, stay, step, IsElementOf, automaton, Side, IsPart, the_start, a_content, states_of_contents, first_state, IsEdge, IsAccepting, IsAccepted}
 use Rattle.tc_model.specs.States.{Leaf, Run, stay, step, IsElementOf, automaton, Side, IsPart, the_start, a_content, states_of_contents, first_state, state_count, IsEdge, IsAccepting, IsAccepted}
 use Rattle.tc_model.proofs.StatesExact.{sound, what_is_accepted_matches, what_matches_is_accepted}
 
@@ -52,28 +51,35 @@ one_pattern g side (a_content {k = suc k} {e = e} at) (a_content {k = suc m} {e 
 none_yet : (es : List ElementPattern) → states_of_contents es 0 ≡ 0
 none_yet [] = refl
 none_yet (e ∷ es) = refl
+
 -- one content more
 next_content : (es : List ElementPattern) (k : ℕ) (e : ElementPattern) → slice_get es k ≡ Some e → states_of_contents es (suc k) ≡ states_of_contents es k + (automaton e.content).count
 next_content [] k e at = absurd (cc)
 next_content (d ∷ es) zero e at = let same : d ≡ e = cc in omega (arith, ap (λ (w : ElementPattern). (automaton w.content).count) same, none_yet es)
 next_content (d ∷ es) (suc k) e at = omega (arith, next_content es k e at)
+
 pub next_first : (g : Grammar) (side : Side) {k : ℕ} {q : Pattern} → IsPart g side k q → first_state g side (suc k) ≡ first_state g side k + (automaton q).count
 next_first g side the_start = omega (arith, none_yet g.elements)
 next_first g side (a_content {k = zero} at) = absurd (cc)
 next_first g side (a_content {k = suc k} {e = e} at) = omega (arith, next_content g.elements k e at)
+
 contents_within : (es : List ElementPattern) (k : ℕ) → states_of_contents es k ≤ states_of_contents es (length es)
 contents_within [] k = omega arith
 contents_within (e ∷ es) zero = omega arith
 contents_within (e ∷ es) (suc k) = let rest = contents_within es k in omega arith
+
 -- no part begins past the states
 pub first_within : (g : Grammar) (side : Side) (k : ℕ) → first_state g side (suc k) ≤ state_count g side
 first_within g side k = omega (arith, contents_within g.elements k)
+
 contents_some : (es : List ElementPattern) → length es ≤ states_of_contents es (length es)
 contents_some [] = omega arith
 contents_some (e ∷ es) = let rest = contents_some es in omega (arith, some_states e.content)
+
 -- there are no more element patterns than states
 pub patterns_within : (g : Grammar) (side : Side) → length g.elements ≤ state_count g side
 patterns_within g side = omega (arith, contents_some g.elements)
+
 in_order : (a b : ℕ) → (a < b) ⊎ (b ≤ a)
 in_order zero zero = inr (omega arith)
 in_order zero (suc b) = inl (omega arith)
@@ -88,7 +94,6 @@ same_part g side {k} {m} x y a b low high same = elim (in_order k m) [
 ]
 
 -- an edge from a state of a part is one of that part
-edge_of_part : (g : Grammar) (side : Side) {k : ℕ} {q : Pattern} (x : ℕ) (i j : ℕ) (l : Leaf) → IsPart g side k q → x < (automaton q).count → i ≡ first_state g side k + x → IsEdge g side i l j
 pub edge_of_part : (g : Grammar) (side : Side) {k : ℕ} {q : Pattern} (x : ℕ) (i j : ℕ) (l : Leaf) → IsPart g side k q → x < (automaton q).count → i ≡ first_state g side k + x → IsEdge g side i l j
     → (y : ℕ) × (j ≡ first_state g side k + y) × (automaton q).edge x l y
 edge_of_part g side {k} {q} x i j l part low at (m, r, u, v, other, is, goes, e) =
@@ -98,7 +103,6 @@ edge_of_part g side {k} {q} x i j l part low at (m, r, u, v, other, is, goes, e)
     let place : x ≡ u = omega (arith, ap (first_state g side) same) in
     (v, goes ∙ ap (λ w. first_state g side w + v) (sym same), subst (λ (w : Pattern). (automaton w).edge x l v) (sym equal) (subst (λ w. (automaton r).edge w l v) (sym place) e))
 
-accepting_of_part : (g : Grammar) (side : Side) {k : ℕ} {q : Pattern} (x : ℕ) (i : ℕ) → IsPart g side k q → x < (automaton q).count → i ≡ first_state g side k + x → IsAccepting g side i → (automaton q).accepting x
 pub accepting_of_part : (g : Grammar) (side : Side) {k : ℕ} {q : Pattern} (x : ℕ) (i : ℕ) → IsPart g side k q → x < (automaton q).count → i ≡ first_state g side k + x → IsAccepting g side i → (automaton q).accepting x
 accepting_of_part g side {k} {q} x i part low at (m, r, u, other, is, acc) =
     let s = sound r in

@@ -1,5 +1,4 @@
 -- The states of patterns and of schemas: their numbers, the edges between them, those that accept, and what trees lead from one to another.
-use Rattle.std.specs.Prelude.{◌≡◌, ◌<◌, ◌≤◌, ◌⊎◌, ℕ, zero, suc, ◌+◌, ◌-◌, ◌*◌, List, [], ◌∷◌, length, false, Some, IsTrue}
 use Rattle.std.specs.Prelude.{◌≡◌, ◌<◌, ◌≤◌, ◌⊎◌, ℕ, zero, suc, ◌+◌, ◌-◌, ◌*◌, List, [], ◌∷◌, length, Bool, false, ◌==◌, ◌||◌, Some, IsTrue}
 use Rattle.tc_model.specs.Names.{ExpandedName}
 use Rattle.tc_model.specs.Trees.{Trees, none, text, element, is_all_white, normal_form}
@@ -172,9 +171,11 @@ abbrev mutual
   is_alternative k (p.group ps) = false
   is_alternative k (p.interleave ps) = false
   is_alternative k (p.one_or_more q) = false
+
   pub is_one_alternative : ℕ → Patterns → Bool
   is_one_alternative k no_more = false
   is_one_alternative k (more q qs) = is_alternative k q || is_one_alternative k qs
+
 -- what trees lead from one state to another: a text of white space alone stays where it is, any other text takes an edge, and so does an element, by an element pattern that its normal form matches
 pub data Leads (g : Grammar) (side : Side) : ℕ → Trees → ℕ → Type 0 where
   at_end : {i : ℕ} → Leads g side i none i
