@@ -1,7 +1,8 @@
-//! Prints trees as XML 1.0 (Fifth Edition) with Namespaces in XML 1.0, so that they are read as the same trees.
+//! Prints trees as XML 1.0 (Fifth Edition) with Namespaces in XML 1.0.
 //!
-//! The default namespace is declared where an element's namespace is another than the one in force, and no
-//! prefix is declared. Line feeds are printed as references, so no piece that is written reaches past one.
+//! The default namespace is declared where an element's namespace is another than the one in force, and
+//! no prefix is declared. Texts and namespace names have references in place of line feeds, so no piece
+//! that is written of them holds one.
 #![tactic(auto)]
 
 mod escapes;
