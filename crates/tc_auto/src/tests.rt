@@ -103,21 +103,28 @@ fn takes_an_interleave_in_any_order(rt: HostRuntime) -> Result<(), Fail> {
     Ok(())
 }
 
+/// The contents of element patterns without a start.
+fn contents_alone<'b>(alloc: Global, elements: &'b [ElemPat<'b>]) -> Result<Auto<'b>, AutoFault> {
+    let start = Pat::NotAllowed;
+    Auto::contents(alloc, &Grammar { start, elements }, 3)
+}
+
+/// Whether `(b, b)*`, made of `(b, b)`, takes so many.
+fn takes<'b>(alloc: Global, pairs: &'b Pat<'b>, items: &[Leaf]) -> Result<bool, Fail> {
+    let members = [Pat::OneOrMore(pairs), Pat::Empty];
+    let elements = [one("b", Pat::Choice(&members))];
+    let auto = contents_alone(alloc, &elements)?;
+    runs(alloc, &auto, 1, items)
+}
+
 /// `(b, b)*`: an even number.
 #[test]
 fn takes_pairs_again_and_again(rt: HostRuntime) -> Result<(), Fail> {
     let pair = [Pat::Ref(1), Pat::Ref(1)];
     let pairs = Pat::Group(&pair);
-    let members = [Pat::OneOrMore(&pairs), Pat::Empty];
-    let elements = [one("b", Pat::Choice(&members))];
-    let grammar = Grammar {
-        start: Pat::NotAllowed,
-        elements: &elements,
-    };
-    let auto = Auto::contents(rt.alloc(), &grammar, 3)?;
     let b = [Leaf::Ref(1); 6];
     for count in 0..7usize {
-        assert_eq!(rt; runs(rt.alloc(), &auto, 1, &b[..count])?, count % 2 == 0);
+        assert_eq!(rt; takes(rt.alloc(), &pairs, &b[..count])?, count % 2 == 0);
     }
     Ok(())
 }
