@@ -1,11 +1,14 @@
 -- Declarations and name classes in compact syntax have one reading.
-use Rattle.std.proofs.Common.{◌≡◌, ℕ, ◌+◌, Bool, true, false, cond, ◌==◌, List, [], ◌∷◌, refl, ap, ◌∙◌, sym, subst, arith, Option, None, Some, bytes_eq}
+use Rattle.std.proofs.Common.{◌||◌, ◌≡◌, ℕ, ◌+◌, Bool, true, false, cond, ◌==◌, List, [], ◌∷◌, refl, ap, ◌∙◌, sym, subst, arith, Option, None, Some, bytes_eq}
 use Rattle.std.specs.Prelude.{codes}
 use Rattle.tc_model.specs.Names.{ExpandedName}
 use Rattle.tc_model.specs.RawTrees.{Bound}
 use Rattle.tc_model.specs.XmlTextScopes.{uri_of}
 use Rattle.tc_model.specs.CompactSyntaxTrees.{SyntaxClass, of_name, of_namespace, any_name, one_of, SyntaxClasses, no_class, class}
 use Rattle.tc_model.specs.CompactSyntaxTokens.{Word, a_name, escaped, prefixed, all_of, literal, mark, Token}
+use Rattle.tc_model.specs.CompactSyntaxPatterns.{is_datum}
+use Rattle.std.proofs.lemmas.Bool.{false≢true}
+use Rattle.std.proofs.lemmas.Slice.Eq.{bytes_eq-Decides}
 use Rattle.tc_model.specs.CompactSyntaxNames.{is_keyword, IsMark, identifier, identifier_or_keyword, IsLiteral, bound_to, DeclarationAt, namespace, default_namespace, both, datatypes, name_in, LacksMark, ClassAt, alone, several, ClassesAt, last, more, SimpleAt, name, whole_namespace, any, parentheses, ExceptAt, nothing, except}
 
 pub same_some : {X : Type 0} {c d : X} {o : Option X} → o ≡ Some c → o ≡ Some d → c ≡ d
@@ -31,20 +34,21 @@ pub same_tail : {t u : Token} {ts us : List Token} → t ∷ ts ≡ u ∷ us →
 unfolding tail
 same_tail e = ap tail e
 
--- What begins with a word: 1 to 8 patterns, 7 being a reference, and definitions 7, 9 and 10.
+-- What begins with a word: 1 to 9 patterns, 7 being a reference and 9 data, and definitions 7, 10 and 11.
 unfoldable pub keyword_kind : List ℕ → ℕ
 keyword_kind n =
     cond (bytes_eq n (codes "element")) 1 (cond (bytes_eq n (codes "attribute")) 2 (cond (bytes_eq n (codes "mixed")) 3
     (cond (bytes_eq n (codes "empty")) 4 (cond (bytes_eq n (codes "text")) 5 (cond (bytes_eq n (codes "notAllowed")) 6
-    (cond (bytes_eq n (codes "start")) 9 (cond (bytes_eq n (codes "div")) 10 (cond (bytes_eq n (codes "grammar")) 11
-    (cond (bytes_eq n (codes "namespace")) 12 (cond (bytes_eq n (codes "default")) 13 (cond (bytes_eq n (codes "datatypes")) 14 20)))))))))))
+    (cond (bytes_eq n (codes "start")) 10 (cond (bytes_eq n (codes "div")) 11 (cond (bytes_eq n (codes "grammar")) 12
+    (cond (bytes_eq n (codes "namespace")) 13 (cond (bytes_eq n (codes "default")) 14 (cond (bytes_eq n (codes "datatypes")) 15
+    (cond (bytes_eq n (codes "string")) 9 (cond (bytes_eq n (codes "token")) 9 20)))))))))))))
 
 unfoldable pub word_kind : Word → ℕ
 word_kind (a_name n) = cond (is_keyword n) (keyword_kind n) 7
 word_kind (escaped n) = 7
-word_kind (prefixed p n) = 20
+word_kind (prefixed p n) = 9
 word_kind (all_of p) = 20
-word_kind (literal s) = 20
+word_kind (literal s) = 9
 word_kind (mark c) = cond (c == 0x28) 8 (cond (c == 0x7D) 21 20)
 
 unfoldable pub kind_at : List Token → ℕ
@@ -76,27 +80,27 @@ pub not_allowed_kind : {w : Word} → w ≡ a_name (codes "notAllowed") → word
 unfolding word_kind keyword_kind
 not_allowed_kind e = ap word_kind e
 
-pub start_kind : {w : Word} → w ≡ a_name (codes "start") → word_kind w ≡ 9
+pub start_kind : {w : Word} → w ≡ a_name (codes "start") → word_kind w ≡ 10
 unfolding word_kind keyword_kind
 start_kind e = ap word_kind e
 
-pub div_kind : {w : Word} → w ≡ a_name (codes "div") → word_kind w ≡ 10
+pub div_kind : {w : Word} → w ≡ a_name (codes "div") → word_kind w ≡ 11
 unfolding word_kind keyword_kind
 div_kind e = ap word_kind e
 
-pub grammar_kind : {w : Word} → w ≡ a_name (codes "grammar") → word_kind w ≡ 11
+pub grammar_kind : {w : Word} → w ≡ a_name (codes "grammar") → word_kind w ≡ 12
 unfolding word_kind keyword_kind
 grammar_kind e = ap word_kind e
 
-pub namespace_kind : {w : Word} → w ≡ a_name (codes "namespace") → word_kind w ≡ 12
+pub namespace_kind : {w : Word} → w ≡ a_name (codes "namespace") → word_kind w ≡ 13
 unfolding word_kind keyword_kind
 namespace_kind e = ap word_kind e
 
-pub default_kind : {w : Word} → w ≡ a_name (codes "default") → word_kind w ≡ 13
+pub default_kind : {w : Word} → w ≡ a_name (codes "default") → word_kind w ≡ 14
 unfolding word_kind keyword_kind
 default_kind e = ap word_kind e
 
-pub datatypes_kind : {w : Word} → w ≡ a_name (codes "datatypes") → word_kind w ≡ 14
+pub datatypes_kind : {w : Word} → w ≡ a_name (codes "datatypes") → word_kind w ≡ 15
 unfolding word_kind keyword_kind
 datatypes_kind e = ap word_kind e
 
@@ -113,6 +117,22 @@ identifier_kind (all_of p) e = absurd (some_none e refl)
 identifier_kind (literal s) e = absurd (some_none e refl)
 identifier_kind (mark c) e = absurd (some_none e refl)
 
+pub datum_kind : (w : Word) → is_datum w ≡ true → word_kind w ≡ 9
+unfolding word_kind keyword_kind
+datum_kind (a_name n) e = by (bytes_eq n (codes "string")) refl e
+  where
+    named : (s : List ℕ) → word_kind (a_name s) ≡ 9 → bytes_eq n s ≡ true → word_kind (a_name n) ≡ 9
+    named s is e = subst (λ w. word_kind (a_name w) ≡ 9) (sym ((bytes_eq-Decides n s).0 e)) is
+
+    by : (x : Bool) → bytes_eq n (codes "string") ≡ x → (x || bytes_eq n (codes "token")) ≡ true → word_kind (a_name n) ≡ 9
+    by true f e = named (codes "string") refl f
+    by false f e = named (codes "token") refl e
+datum_kind (escaped m) e = absurd (false≢true e)
+datum_kind (prefixed p m) e = refl
+datum_kind (all_of p) e = absurd (false≢true e)
+datum_kind (literal s) e = refl
+datum_kind (mark c) e = absurd (false≢true e)
+
 quoted : Word → List ℕ
 quoted (literal s) = s
 quoted _ = []
@@ -126,10 +146,10 @@ no_equals e f = some_none f (ap identifier_or_keyword e)
 
 -- the kind of a declaration by its rule
 declares : {scope within : List Bound} {ts rest : List Token} → DeclarationAt scope ts within rest → ℕ
-declares (namespace a b c d e) = 12
-declares (default_namespace a b c d e) = 13
-declares (both a b c d e f g) = 13
-declares (datatypes a b c d) = 14
+declares (namespace a b c d e) = 13
+declares (default_namespace a b c d e) = 14
+declares (both a b c d e f g) = 14
+declares (datatypes a b c d) = 15
 
 declared_kind : {scope within : List Bound} {ts rest : List Token} (a : DeclarationAt scope ts within rest) → kind_at ts ≡ declares a
 unfolding declares kind_at
@@ -138,7 +158,7 @@ declared_kind (default_namespace a b c d e) = default_kind a
 declared_kind (both a b c d e f g) = default_kind a
 declared_kind (datatypes a b c d) = datatypes_kind a
 
-pub declaration_kind : {scope within : List Bound} {ts rest : List Token} → DeclarationAt scope ts within rest → (k : ℕ) × (kind_at ts ≡ 12 + k)
+pub declaration_kind : {scope within : List Bound} {ts rest : List Token} → DeclarationAt scope ts within rest → (k : ℕ) × (kind_at ts ≡ 13 + k)
 unfolding kind_at
 declaration_kind (namespace a b c d e) = (0, namespace_kind a)
 declaration_kind (default_namespace a b c d e) = (1, default_kind a)

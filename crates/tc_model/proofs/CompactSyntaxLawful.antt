@@ -9,7 +9,7 @@ use Rattle.tc_model.specs.CompactSyntaxTrees as tree
 use Rattle.tc_model.specs.CompactSyntaxTokens.{Word, a_name, escaped, prefixed, all_of, literal, mark, Token}
 use Rattle.tc_model.specs.CompactSyntaxNames.{IsLiteral, DeclarationAt, namespace, default_namespace, both, datatypes, or_none, named_in, name_in, ClassAt, alone, several, ClassesAt, last, more, SimpleAt, name, whole_namespace, any, parentheses, ExceptAt, nothing, except}
 use Rattle.tc_model.specs.CompactSyntaxPatterns as p
-use Rattle.tc_model.specs.CompactSyntaxPatterns.{Connector, comma, bar, ampersand, joined_by, Suffix, question_mark, asterisk, plus_sign, suffixed, BalancedAt, closed, nested, other, PatternAt, ItemsAt, and_more, ItemAt, bare, with_suffix, PrimaryAt, an_element, an_attribute, a_mixed, an_empty, a_text, a_not_allowed, reference}
+use Rattle.tc_model.specs.CompactSyntaxPatterns.{Connector, comma, bar, ampersand, joined_by, Suffix, question_mark, asterisk, plus_sign, suffixed, BalancedAt, closed, nested, other, PatternAt, ItemsAt, and_more, ItemAt, bare, with_suffix, PrimaryAt, an_element, an_attribute, a_mixed, an_empty, a_text, a_not_allowed, reference, a_datum}
 use Rattle.tc_model.specs.CompactSyntax as c
 use Rattle.tc_model.specs.CompactSyntax.{OperatorAt, equals, bar_equals, ampersand_equals, DefinitionAt, of_start, of_name, div, DefinitionsAt, at_end, at_brace, SchemaAt, declaration, one_pattern, definitions, grammar, Spells}
 use Rattle.tc_model.specs.CompactSyntaxLawful.{IsLawfulClass, AreLawfulClasses, IsLawfulPattern, AreLawfulPatterns, IsLawfulSyntax}
@@ -105,25 +105,25 @@ module _ (total : ℕ) where
   suffixed_lawful plus_sign q a = a
 
   mutual
-    pattern_lawful : {scope : List Bound} {d : ℕ} {ts r : List Token} {q : SyntaxPattern} → PatternAt scope d ts q r → AllBound scope → AreLawful total ts → IsLawfulPattern total q × AreLawful total r
+    pattern_lawful : {o : Bool} {scope : List Bound} {d : ℕ} {ts r : List Token} {q : SyntaxPattern} → PatternAt o scope d ts q r → AllBound scope → AreLawful total ts → IsLawfulPattern total q × AreLawful total r
     pattern_lawful (p.alone a h) k l = item_lawful a k l
     pattern_lawful (p.several {p = q} {ps = qs} {c = c} a e m) k l =
         let (one, rest) = item_lawful a k l in
         let (others, after) = items_lawful m k rest.1 in
         (joined_lawful c q qs one others, after)
 
-    items_lawful : {scope : List Bound} {c : Connector} {d : ℕ} {ts r : List Token} {qs : SyntaxPatterns} → ItemsAt scope c d ts qs r → AllBound scope → AreLawful total ts → AreLawfulPatterns total qs × AreLawful total r
+    items_lawful : {o : Bool} {scope : List Bound} {c : Connector} {d : ℕ} {ts r : List Token} {qs : SyntaxPatterns} → ItemsAt o scope c d ts qs r → AllBound scope → AreLawful total ts → AreLawfulPatterns total qs × AreLawful total r
     items_lawful (p.last a h) k l = let (one, rest) = item_lawful a k l in ((one, tt), rest)
     items_lawful (and_more a e m) k l =
         let (one, rest) = item_lawful a k l in
         let (others, after) = items_lawful m k rest.1 in
         ((one, others), after)
 
-    item_lawful : {scope : List Bound} {d : ℕ} {ts r : List Token} {q : SyntaxPattern} → ItemAt scope d ts q r → AllBound scope → AreLawful total ts → IsLawfulPattern total q × AreLawful total r
+    item_lawful : {o : Bool} {scope : List Bound} {d : ℕ} {ts r : List Token} {q : SyntaxPattern} → ItemAt o scope d ts q r → AllBound scope → AreLawful total ts → IsLawfulPattern total q × AreLawful total r
     item_lawful (bare a h) k l = primary_lawful a k l
     item_lawful (with_suffix {p = q} {s = s} a e) k l = let (one, rest) = primary_lawful a k l in (suffixed_lawful s q one, rest.1)
 
-    primary_lawful : {scope : List Bound} {d : ℕ} {ts r : List Token} {q : SyntaxPattern} → PrimaryAt scope d ts q r → AllBound scope → AreLawful total ts → IsLawfulPattern total q × AreLawful total r
+    primary_lawful : {o : Bool} {scope : List Bound} {d : ℕ} {ts r : List Token} {q : SyntaxPattern} → PrimaryAt o scope d ts q r → AllBound scope → AreLawful total ts → IsLawfulPattern total q × AreLawful total r
     primary_lawful (an_element a m b n c) k (l, rest) =
         let (names, inside) = class_lawful m k rest in
         let (inner, after) = pattern_lawful n k inside.1 in
@@ -136,6 +136,7 @@ module _ (total : ℕ) where
     primary_lawful (a_text a) k (l, rest) = (tt, rest)
     primary_lawful (a_not_allowed a) k (l, rest) = (tt, rest)
     primary_lawful (reference a) k (l, rest) = (l.0, rest)
+    primary_lawful (a_datum h a) k (l, rest) = ((λ e. no_empty_patterns e, (tt, (tt, tt))), rest)
     primary_lawful (p.parentheses a m b) k (l, rest) = let (inner, after) = pattern_lawful m k rest in (inner, after.1)
 
   operator_lawful : {ts r : List Token} {j : tree.Joins} → OperatorAt ts j r → AreLawful total ts → AreLawful total r
@@ -151,12 +152,12 @@ module _ (total : ℕ) where
   join_defined (d ∷ ds) es (a, h) k = (a, join_defined ds es h k)
 
   mutual
-    definition_lawful : {scope : List Bound} {d : ℕ} {ts r : List Token} {ds : List Definition} → DefinitionAt scope d ts ds r → AllBound scope → AreLawful total ts → AllDefined ds × AreLawful total r
+    definition_lawful : {o : Bool} {scope : List Bound} {d : ℕ} {ts r : List Token} {ds : List Definition} → DefinitionAt o scope d ts ds r → AllBound scope → AreLawful total ts → AllDefined ds × AreLawful total r
     definition_lawful (of_start a o m) k (l, rest) = let (body, after) = pattern_lawful m k (operator_lawful o rest) in (((l.0, body), tt), after)
     definition_lawful (of_name a o m) k (l, rest) = let (body, after) = pattern_lawful m k (operator_lawful o rest) in (((l.0, body), tt), after)
     definition_lawful (div a b m c) k (l, (u, rest)) = let (ds, after) = definitions_lawful m k rest in (ds, after.1)
 
-    definitions_lawful : {scope : List Bound} {d : ℕ} {ts r : List Token} {ds : List Definition} → DefinitionsAt scope d ts ds r → AllBound scope → AreLawful total ts → AllDefined ds × AreLawful total r
+    definitions_lawful : {o : Bool} {scope : List Bound} {d : ℕ} {ts r : List Token} {ds : List Definition} → DefinitionsAt o scope d ts ds r → AllBound scope → AreLawful total ts → AllDefined ds × AreLawful total r
     definitions_lawful at_end k l = (tt, l)
     definitions_lawful (at_brace e) k l = (tt, l)
     definitions_lawful (c.more {ds = ds} {es = es} a m) k l =
@@ -164,12 +165,12 @@ module _ (total : ℕ) where
         let (back, after) = definitions_lawful m k rest in
         (join_defined ds es front back, after)
 
-  schema_lawful : {scope : List Bound} {d : ℕ} {ts : List Token} {ds : List Definition} → SchemaAt scope d ts ds → AllBound scope → AreLawful total ts → AllDefined ds
+  schema_lawful : {o : Bool} {scope : List Bound} {d : ℕ} {ts : List Token} {ds : List Definition} → SchemaAt o scope d ts ds → AllBound scope → AreLawful total ts → AllDefined ds
   schema_lawful (declaration a m) k l = let (within, rest) = declaration_lawful a k l in schema_lawful m within rest
   schema_lawful (one_pattern a) k l = ((omega arith, (pattern_lawful a k l).0), tt)
   schema_lawful (definitions a) k l = (definitions_lawful a k l).0
   schema_lawful (grammar a b m c) k (l, (u, rest)) = (definitions_lawful m k rest).0
 
-pub spells_lawful : {d : ℕ} {bytes : List ℕ} {s : Syntax} → Spells d bytes s → IsLawfulSyntax s
+pub spells_lawful : {o : Bool} {d : ℕ} {bytes : List ℕ} {s : Syntax} → Spells o d bytes s → IsLawfulSyntax s
 spells_lawful {bytes = bytes} {s = s} a =
     subst (λ n. AllDefined n s.definitions) (sym a.end) (schema_lawful (length bytes) a.schema (first_lawful.0.uri, tt) (tokens_lawful a.words (mark_chars bytes a.characters)))

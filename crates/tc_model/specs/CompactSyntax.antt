@@ -1,6 +1,6 @@
 -- The syntax tree of a schema in RELAX NG's compact syntax (ISO/IEC 19757-2, Annex C), of which the part is read that tells elements and
 -- text: `CompactSyntax bytes syntax`. The modules CompactSyntaxTokens, CompactSyntaxNames and CompactSyntaxPatterns have the phrases.
-use Rattle.std.specs.Prelude.{◌≡◌, ℕ, suc, ◌+◌, List, [], ◌∷◌, ◌++◌, length, Some, codes}
+use Rattle.std.specs.Prelude.{Bool, false, ◌≡◌, ℕ, suc, ◌+◌, List, [], ◌∷◌, ◌++◌, length, Some, codes}
 use Rattle.tc_model.specs.Names.{IsChars}
 use Rattle.tc_model.specs.RawTrees.{Bound}
 use Rattle.tc_model.specs.XmlText.{after_mark}
@@ -21,37 +21,37 @@ one_definition name joins body place = record { name = name; joins = joins; body
 
 mutual
   -- a definition, or those within a `div`
-  pub data DefinitionAt (scope : List Bound) : ℕ → List Token → List Definition → List Token → Type 0 where
+  pub data DefinitionAt (others : Bool) (scope : List Bound) : ℕ → List Token → List Definition → List Token → Type 0 where
     of_start : {deepest : ℕ} {t : Token} {tokens rest after : List Token} {j : Joins} {p : SyntaxPattern} → IsWord (codes "start") t → OperatorAt tokens j rest
-        → PatternAt scope deepest rest p after → DefinitionAt scope deepest (t ∷ tokens) (one_definition [] j p t.place) after
+        → PatternAt others scope deepest rest p after → DefinitionAt others scope deepest (t ∷ tokens) (one_definition [] j p t.place) after
     of_name : {deepest : ℕ} {t : Token} {tokens rest after : List Token} {n : List ℕ} {j : Joins} {p : SyntaxPattern} → identifier t.word ≡ Some n → OperatorAt tokens j rest
-        → PatternAt scope deepest rest p after → DefinitionAt scope deepest (t ∷ tokens) (one_definition n j p t.place) after
+        → PatternAt others scope deepest rest p after → DefinitionAt others scope deepest (t ∷ tokens) (one_definition n j p t.place) after
     div : {deepest : ℕ} {t u v : Token} {inside after : List Token} {ds : List Definition} → IsWord (codes "div") t → IsMark 0x7B u
-        → DefinitionsAt scope deepest inside ds (v ∷ after) → IsMark 0x7D v → DefinitionAt scope (suc deepest) (t ∷ u ∷ inside) ds after
+        → DefinitionsAt others scope deepest inside ds (v ∷ after) → IsMark 0x7D v → DefinitionAt others scope (suc deepest) (t ∷ u ∷ inside) ds after
 
   -- definitions up to the end or a brace
-  pub data DefinitionsAt (scope : List Bound) : ℕ → List Token → List Definition → List Token → Type 0 where
-    at_end : {deepest : ℕ} → DefinitionsAt scope deepest [] [] []
-    at_brace : {deepest : ℕ} {t : Token} {after : List Token} → IsMark 0x7D t → DefinitionsAt scope deepest (t ∷ after) [] (t ∷ after)
-    more : {deepest : ℕ} {tokens rest after : List Token} {ds es : List Definition} → DefinitionAt scope deepest tokens ds rest → DefinitionsAt scope deepest rest es after
-        → DefinitionsAt scope deepest tokens (ds ++ es) after
+  pub data DefinitionsAt (others : Bool) (scope : List Bound) : ℕ → List Token → List Definition → List Token → Type 0 where
+    at_end : {deepest : ℕ} → DefinitionsAt others scope deepest [] [] []
+    at_brace : {deepest : ℕ} {t : Token} {after : List Token} → IsMark 0x7D t → DefinitionsAt others scope deepest (t ∷ after) [] (t ∷ after)
+    more : {deepest : ℕ} {tokens rest after : List Token} {ds es : List Definition} → DefinitionAt others scope deepest tokens ds rest → DefinitionsAt others scope deepest rest es after
+        → DefinitionsAt others scope deepest tokens (ds ++ es) after
 
 -- Declarations, and then a pattern, which is the definition of `start`, or definitions, which may stand within `grammar { }`.
-pub data SchemaAt : List Bound → ℕ → List Token → List Definition → Type 0 where
+pub data SchemaAt (others : Bool) : List Bound → ℕ → List Token → List Definition → Type 0 where
   declaration : {scope within : List Bound} {deepest : ℕ} {tokens rest : List Token} {ds : List Definition} → DeclarationAt scope tokens within rest
-      → SchemaAt within deepest rest ds → SchemaAt scope deepest tokens ds
-  one_pattern : {scope : List Bound} {deepest : ℕ} {tokens : List Token} {p : SyntaxPattern} → PatternAt scope deepest tokens p [] → SchemaAt scope deepest tokens (one_definition [] plain p 0)
-  definitions : {scope : List Bound} {deepest : ℕ} {tokens : List Token} {ds : List Definition} → DefinitionsAt scope deepest tokens ds [] → SchemaAt scope deepest tokens ds
+      → SchemaAt others within deepest rest ds → SchemaAt others scope deepest tokens ds
+  one_pattern : {scope : List Bound} {deepest : ℕ} {tokens : List Token} {p : SyntaxPattern} → PatternAt others scope deepest tokens p [] → SchemaAt others scope deepest tokens (one_definition [] plain p 0)
+  definitions : {scope : List Bound} {deepest : ℕ} {tokens : List Token} {ds : List Definition} → DefinitionsAt others scope deepest tokens ds [] → SchemaAt others scope deepest tokens ds
   grammar : {scope : List Bound} {deepest : ℕ} {t u v : Token} {inside : List Token} {ds : List Definition} → IsWord (codes "grammar") t → IsMark 0x7B u
-      → DefinitionsAt scope deepest inside ds (v ∷ []) → IsMark 0x7D v → SchemaAt scope (suc deepest) (t ∷ u ∷ inside) ds
+      → DefinitionsAt others scope deepest inside ds (v ∷ []) → IsMark 0x7D v → SchemaAt others scope (suc deepest) (t ∷ u ∷ inside) ds
 
 -- Characters of XML, perhaps behind a byte order mark, whose tokens are a schema. Braces and parentheses stand at most so deep. The prefix
--- `xml` is bound before any declaration.
-pub record Spells (deepest : ℕ) (bytes : List ℕ) (syntax : Syntax) : Type 0 where
+-- `xml` is bound before any declaration. Where `others` says so, data are read too.
+pub record Spells (others : Bool) (deepest : ℕ) (bytes : List ℕ) (syntax : Syntax) : Type 0 where
   pub tokens : List Token
   pub characters : IsChars bytes
   pub words : TokensAt (length bytes) (after_mark bytes) tokens
-  pub schema : SchemaAt first_scope deepest tokens syntax.definitions
+  pub schema : SchemaAt others first_scope deepest tokens syntax.definitions
   pub end : syntax.end ≡ length bytes
 
 -- how deep braces and parentheses may stand within one another
@@ -59,4 +59,4 @@ abbrev pub deepest_nesting : ℕ
 deepest_nesting = 2000
 
 abbrev pub CompactSyntax : List ℕ → Syntax → Type 0
-CompactSyntax bytes syntax = Spells deepest_nesting bytes syntax
+CompactSyntax bytes syntax = Spells false deepest_nesting bytes syntax

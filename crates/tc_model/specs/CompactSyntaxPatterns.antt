@@ -1,8 +1,9 @@
 -- Patterns in compact syntax (ISO/IEC 19757-2, Annex C). What each phrase leaves of the tokens stands last; braces and parentheses stand at most so deep.
-use Rattle.std.specs.Prelude.{◌≡◌, ◌≢◌, ℕ, suc, ◌==◌, List, [], ◌∷◌, Option, None, Some, codes, if◌then◌else◌}
+-- Where `others` says so, a datatype or a value as a pattern is read too, as `(empty, empty)` in its place would be.
+use Rattle.std.specs.Prelude.{◌≡◌, ◌≢◌, ℕ, suc, Bool, true, false, ◌||◌, ◌==◌, List, [], ◌∷◌, Option, None, Some, IsTrue, bytes_eq, codes, if◌then◌else◌}
 use Rattle.tc_model.specs.RawTrees.{Bound}
 use Rattle.tc_model.specs.CompactSyntaxTrees.{SyntaxClass, SyntaxPattern, empty, not_allowed, text, attribute, ref, element, mixed, optional, zero_or_more, one_or_more, group, choice, interleave, SyntaxPatterns, no_more, more}
-use Rattle.tc_model.specs.CompactSyntaxTokens.{Word, mark, Token}
+use Rattle.tc_model.specs.CompactSyntaxTokens.{Word, a_name, prefixed, literal, mark, Token}
 use Rattle.tc_model.specs.CompactSyntaxNames.{IsWord, IsMark, identifier, ClassAt}
 
 -- a comma, a bar or an ampersand between items
@@ -50,38 +51,47 @@ pub data BalancedAt : ℕ → List Token → List Token → Type 0 where
       → BalancedAt (suc deepest) (t ∷ tokens) after
   other : {deepest : ℕ} {t : Token} {tokens after : List Token} → t.word ≢ mark 0x7B → t.word ≢ mark 0x7D → BalancedAt deepest tokens after → BalancedAt deepest (t ∷ tokens) after
 
+-- a datatype's name, `string` or `token`, or a literal
+abbrev pub is_datum : Word → Bool
+is_datum (a_name n) = bytes_eq n (codes "string") || bytes_eq n (codes "token")
+is_datum (prefixed p n) = true
+is_datum (literal s) = true
+is_datum _ = false
+
 mutual
   -- one item, or several with one kind of connector between
-  pub data PatternAt (scope : List Bound) : ℕ → List Token → SyntaxPattern → List Token → Type 0 where
-    alone : {deepest : ℕ} {tokens after : List Token} {p : SyntaxPattern} → ItemAt scope deepest tokens p after → connector_at after ≡ None → PatternAt scope deepest tokens p after
+  pub data PatternAt (others : Bool) (scope : List Bound) : ℕ → List Token → SyntaxPattern → List Token → Type 0 where
+    alone : {deepest : ℕ} {tokens after : List Token} {p : SyntaxPattern} → ItemAt others scope deepest tokens p after → connector_at after ≡ None → PatternAt others scope deepest tokens p after
     several : {deepest : ℕ} {t : Token} {tokens rest after : List Token} {p : SyntaxPattern} {ps : SyntaxPatterns} {c : Connector}
-        → ItemAt scope deepest tokens p (t ∷ rest) → connector_of t.word ≡ Some c → ItemsAt scope c deepest rest ps after
-        → PatternAt scope deepest tokens (joined_by c (more p ps)) after
+        → ItemAt others scope deepest tokens p (t ∷ rest) → connector_of t.word ≡ Some c → ItemsAt others scope c deepest rest ps after
+        → PatternAt others scope deepest tokens (joined_by c (more p ps)) after
 
   -- items with this connector between, and with none behind them
-  pub data ItemsAt (scope : List Bound) : Connector → ℕ → List Token → SyntaxPatterns → List Token → Type 0 where
-    last : {c : Connector} {deepest : ℕ} {tokens after : List Token} {p : SyntaxPattern} → ItemAt scope deepest tokens p after → connector_at after ≡ None → ItemsAt scope c deepest tokens (more p no_more) after
+  pub data ItemsAt (others : Bool) (scope : List Bound) : Connector → ℕ → List Token → SyntaxPatterns → List Token → Type 0 where
+    last : {c : Connector} {deepest : ℕ} {tokens after : List Token} {p : SyntaxPattern} → ItemAt others scope deepest tokens p after → connector_at after ≡ None → ItemsAt others scope c deepest tokens (more p no_more) after
     and_more : {c : Connector} {deepest : ℕ} {t : Token} {tokens rest after : List Token} {p : SyntaxPattern} {ps : SyntaxPatterns}
-        → ItemAt scope deepest tokens p (t ∷ rest) → connector_of t.word ≡ Some c → ItemsAt scope c deepest rest ps after → ItemsAt scope c deepest tokens (more p ps) after
+        → ItemAt others scope deepest tokens p (t ∷ rest) → connector_of t.word ≡ Some c → ItemsAt others scope c deepest rest ps after → ItemsAt others scope c deepest tokens (more p ps) after
 
   -- a primary, with a suffix or none
-  pub data ItemAt (scope : List Bound) : ℕ → List Token → SyntaxPattern → List Token → Type 0 where
-    bare : {deepest : ℕ} {tokens after : List Token} {p : SyntaxPattern} → PrimaryAt scope deepest tokens p after → suffix_at after ≡ None → ItemAt scope deepest tokens p after
+  pub data ItemAt (others : Bool) (scope : List Bound) : ℕ → List Token → SyntaxPattern → List Token → Type 0 where
+    bare : {deepest : ℕ} {tokens after : List Token} {p : SyntaxPattern} → PrimaryAt others scope deepest tokens p after → suffix_at after ≡ None → ItemAt others scope deepest tokens p after
     with_suffix : {deepest : ℕ} {t : Token} {tokens after : List Token} {p : SyntaxPattern} {s : Suffix}
-        → PrimaryAt scope deepest tokens p (t ∷ after) → suffix_of t.word ≡ Some s → ItemAt scope deepest tokens (suffixed s p) after
+        → PrimaryAt others scope deepest tokens p (t ∷ after) → suffix_of t.word ≡ Some s → ItemAt others scope deepest tokens (suffixed s p) after
 
-  pub data PrimaryAt (scope : List Bound) : ℕ → List Token → SyntaxPattern → List Token → Type 0 where
+  pub data PrimaryAt (others : Bool) (scope : List Bound) : ℕ → List Token → SyntaxPattern → List Token → Type 0 where
     an_element : {deepest : ℕ} {t u v : Token} {tokens inside after : List Token} {c : SyntaxClass} {p : SyntaxPattern} → IsWord (codes "element") t
-        → ClassAt scope (suc deepest) tokens c (u ∷ inside) → IsMark 0x7B u → PatternAt scope deepest inside p (v ∷ after) → IsMark 0x7D v
-        → PrimaryAt scope (suc deepest) (t ∷ tokens) (element t.place c p) after
+        → ClassAt scope (suc deepest) tokens c (u ∷ inside) → IsMark 0x7B u → PatternAt others scope deepest inside p (v ∷ after) → IsMark 0x7D v
+        → PrimaryAt others scope (suc deepest) (t ∷ tokens) (element t.place c p) after
     an_attribute : {deepest : ℕ} {t u : Token} {tokens inside after : List Token} {c : SyntaxClass} → IsWord (codes "attribute") t
         → ClassAt scope (suc deepest) tokens c (u ∷ inside) → IsMark 0x7B u → BalancedAt deepest inside after
-        → PrimaryAt scope (suc deepest) (t ∷ tokens) attribute after
+        → PrimaryAt others scope (suc deepest) (t ∷ tokens) attribute after
     a_mixed : {deepest : ℕ} {t u v : Token} {inside after : List Token} {p : SyntaxPattern} → IsWord (codes "mixed") t → IsMark 0x7B u
-        → PatternAt scope deepest inside p (v ∷ after) → IsMark 0x7D v → PrimaryAt scope (suc deepest) (t ∷ u ∷ inside) (mixed p) after
-    an_empty : {deepest : ℕ} {t : Token} {after : List Token} → IsWord (codes "empty") t → PrimaryAt scope deepest (t ∷ after) empty after
-    a_text : {deepest : ℕ} {t : Token} {after : List Token} → IsWord (codes "text") t → PrimaryAt scope deepest (t ∷ after) text after
-    a_not_allowed : {deepest : ℕ} {t : Token} {after : List Token} → IsWord (codes "notAllowed") t → PrimaryAt scope deepest (t ∷ after) not_allowed after
-    reference : {deepest : ℕ} {t : Token} {after : List Token} {n : List ℕ} → identifier t.word ≡ Some n → PrimaryAt scope deepest (t ∷ after) (ref n t.place) after
+        → PatternAt others scope deepest inside p (v ∷ after) → IsMark 0x7D v → PrimaryAt others scope (suc deepest) (t ∷ u ∷ inside) (mixed p) after
+    an_empty : {deepest : ℕ} {t : Token} {after : List Token} → IsWord (codes "empty") t → PrimaryAt others scope deepest (t ∷ after) empty after
+    a_text : {deepest : ℕ} {t : Token} {after : List Token} → IsWord (codes "text") t → PrimaryAt others scope deepest (t ∷ after) text after
+    a_not_allowed : {deepest : ℕ} {t : Token} {after : List Token} → IsWord (codes "notAllowed") t → PrimaryAt others scope deepest (t ∷ after) not_allowed after
+    reference : {deepest : ℕ} {t : Token} {after : List Token} {n : List ℕ} → identifier t.word ≡ Some n → PrimaryAt others scope deepest (t ∷ after) (ref n t.place) after
     parentheses : {deepest : ℕ} {t v : Token} {inside after : List Token} {p : SyntaxPattern} → IsMark 0x28 t
-        → PatternAt scope deepest inside p (v ∷ after) → IsMark 0x29 v → PrimaryAt scope (suc deepest) (t ∷ inside) p after
+        → PatternAt others scope deepest inside p (v ∷ after) → IsMark 0x29 v → PrimaryAt others scope (suc deepest) (t ∷ inside) p after
+    a_datum : {deepest : ℕ} {t : Token} {after : List Token} → IsTrue others → IsTrue (is_datum t.word)
+        → PrimaryAt others scope deepest (t ∷ after) (group (more empty (more empty no_more))) after

@@ -4,6 +4,7 @@
 //! addresses; `specs/Seen.antt` leads from the one to the other.
 #![tactic(auto)]
 
+pub mod compact_syntax;
 pub mod grammar;
 pub mod laws;
 pub mod lists;
