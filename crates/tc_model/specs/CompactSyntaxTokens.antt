@@ -1,4 +1,4 @@
--- The tokens of a schema in compact syntax (ISO/IEC 19757-2, Annex C, lexical structure). All marks are ASCII, so no byte of a
+-- The tokens of a schema in compact syntax (ISO/IEC 19757-2, Annex C, lexical structure). Every character for which some phrase asks is ASCII, so no byte of a
 -- longer character is ever taken for one. A relation `PhraseAt bs value after` says that this phrase stands at the front of the
 -- bytes, what it means, and what follows it.
 use Rattle.std.specs.Prelude.{◌≡◌, ℕ, Bool, ◌||◌, not, ◌==◌, List, [], ◌∷◌, ◌++◌, drop, IsTrue, codes, encode_utf8}

@@ -30,6 +30,7 @@ pub mod PathTextTokens
 pub mod PathTextPhrases
 pub mod PathText
 pub mod PathTextPriority
+pub mod PathTextLaws
 pub mod CompactSyntaxTrees
 pub mod CompactSyntaxTokens
 pub mod CompactSyntaxNames

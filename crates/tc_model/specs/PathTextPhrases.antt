@@ -26,7 +26,7 @@ pub data NameMeans (scope : List Bound) : QualifiedName → ExpandedName → Typ
   with_prefix : {b : ℕ} {bs local uri : List ℕ} → uri_of scope (b ∷ bs) ≡ Some uri
       → NameMeans scope (record { prefix = b ∷ bs; local = local }) (record { uri = uri; local = local })
 
--- a node test (XPath, 2.3, [7] NodeTest, [37] NameTest, [38] NodeType)
+-- a node test (XPath, 2.3, [7] NodeTest; 3.7, [37] NameTest, [38] NodeType)
 pub data NodeTestAt (scope : List Bound) : List Token → NodeTest → List Token → Type 0 where
   a_name : {n : QualifiedName} {m : ExpandedName} {after : List Token} → NameMeans scope n m → EndsNameTest after → NodeTestAt scope (name n ∷ after) (of_name m) after
   a_namespace : {prefix uri : List ℕ} {after : List Token} → uri_of scope prefix ≡ Some uri → NodeTestAt scope (all_of_prefix prefix ∷ after) (of_namespace uri) after

@@ -101,7 +101,7 @@ pub data MarkAt : List ℕ → Mark → List ℕ → Type 0 where
 abbrev pub EndsName : List ℕ → Type 0
 EndsName bs = (r : List ℕ) → bs ≡ 0x3A ∷ r → (s : List ℕ) × (r ≡ 0x3A ∷ s)
 
--- a token at the front, the longest that stands there, and what follows it (XPath, 3.7, [28] ExprToken, [29] Literal, [36] VariableReference; 2.3, [37] NameTest)
+-- a token at the front, the longest that stands there, and what follows it (XPath, 3.7, [28] ExprToken, [29] Literal, [30] Number, [36] VariableReference, [37] NameTest)
 pub data TokenAt : List ℕ → Token → List ℕ → Type 0 where
   unprefixed : {bs local after : List ℕ} → NcNameAt bs local after → EndsName after → TokenAt bs (name (record { prefix = []; local = local })) after
   prefixed : {bs prefix rest local after : List ℕ} → NcNameAt bs prefix (0x3A ∷ rest) → NcNameAt rest local after

@@ -43,7 +43,7 @@ pub record UpTo (mark bs inside after : List ℕ) : Type 0 where
 abbrev pub IsQuote : ℕ → Type 0
 IsQuote q = (q ≡ 0x22) ⊎ (q ≡ 0x27)
 
--- a literal in quotes, which holds any character but its quote (XML, 2.3, [11]; 2.8, [24]; 4.2.2, [12])
+-- a literal in quotes, which holds any character but its quote (XML, 2.3, [11], and [12] without its restriction to PubidChar; the quotes of 2.8, [24]; 2.9, [32]; 4.3.3, [80])
 pub record LiteralAt (bs value after : List ℕ) : Type 0 where
   pub quote : ℕ
   pub rest : List ℕ
@@ -57,7 +57,7 @@ pub record EqualsAt (bs after : List ℕ) : Type 0 where
   pub sign : after_white bs ≡ 0x3D ∷ rest
   pub past : after ≡ after_white rest
 
--- each line end, which is CR LF, CR or LF, read as LF (XML, 2.11)
+-- each line end, which is CR LF, CR or LF, read as LF (XML, 2.11). XML reads them so before anything else, here what is kept of a text: the same, since no run ends between CR and LF, and `&#13;` stays
 abbrev pub line_ends : List ℕ → List ℕ
 line_ends [] = []
 line_ends (b ∷ bs) = if b == 0xD then (if begins_with (0xA ∷ []) bs then line_ends bs else 0xA ∷ line_ends bs) else b ∷ line_ends bs

@@ -76,7 +76,7 @@ pub data ExternalIdAt : List ℕ → List ℕ → Type 0 where
       → BeginsWithWhite rest → LiteralAt (after_white rest) value past_first
       → BeginsWithWhite past_first → LiteralAt (after_white past_first) second after → ExternalIdAt bs after
 
--- a doctype up to where its `>`, or the `[` of a subset, stands (XML, 2.8, [28])
+-- a doctype up to where its `>`, or the `[` of a subset, has to stand (XML, 2.8, [28]; Namespaces, 5, [16])
 pub record DoctypeFrontAt (bs after : List ℕ) : Type 0 where
   pub rest : List ℕ
   pub name : QualifiedName

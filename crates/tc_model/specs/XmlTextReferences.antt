@@ -19,13 +19,13 @@ predefined name =
 abbrev pub is_digit : ℕ → ℕ → Bool
 is_digit base b = nat_lt (digit_value b) base
 
--- an entity reference: its name, and what follows it (XML, 4.1, [68])
+-- an entity reference: its name, and what follows it (XML, 4.1, [68]; Namespaces, 7)
 pub record EntityAt (bs name after : List ℕ) : Type 0 where
   pub rest : List ℕ
   pub opens : bs ≡ 0x26 ∷ rest
   pub names : NcNameAt rest name (0x3B ∷ after)
 
--- A character reference ([66]) or a reference to a predefined entity ([68]) at the front, the text for which it stands, and what follows it.
+-- A character reference ([66]) or a reference to a predefined entity ([68]) at the front (XML, 4.1, [67]), the text for which it stands, and what follows it.
 -- Where `others` says so, a reference to any other entity is read too, and stands for `<`, as `&lt;` in its place would.
 pub data ReferenceAt (others : Bool) : List ℕ → List ℕ → List ℕ → Type 0 where
   decimal : {rest digits after : List ℕ} → RunAt (is_digit 10) rest digits (0x3B ∷ after) → IsTrue (is_char (digits_value 10 digits))
@@ -56,7 +56,7 @@ spaced bs = map (λ b. if b == 0x9 || b == 0xA then 0x20 else b) bs
 abbrev pub is_plain_within : ℕ → ℕ → Bool
 is_plain_within quote b = not (b == quote || b == 0x3C || b == 0x26)
 
--- what stands up to the quote that closes an attribute value, normalised, and what follows that quote (XML, 3.1, [10]; 3.3.3)
+-- what stands up to the quote that closes an attribute value, normalised, and what follows that quote (XML, 2.3, [10]; No < in Attribute Values, 3.1; normalised by 3.3.3)
 pub data ValueAt (others : Bool) (quote : ℕ) : List ℕ → List ℕ → List ℕ → Type 0 where
   closed : {bs after : List ℕ} → bs ≡ quote ∷ after → ValueAt others quote bs [] after
   plain : {bs run rest value after : List ℕ} → RunAt (is_plain_within quote) bs run rest → ValueAt others quote rest value after

@@ -45,7 +45,7 @@ pub record IsLawfulBinding (b : Bound) : Type 0 where
   pub xml_to_its_own : bytes_eq b.prefix (codes "xml") ≡ bytes_eq b.uri xml_uri
   pub not_undeclaring : IsTrue (is_empty b.prefix || not (is_empty b.uri))
 
--- an empty namespace name, which the default namespace alone may have, leaves its prefix unbound
+-- an empty namespace name, which the default namespace alone may have, leaves its prefix unbound and without a place: bound again, it comes last
 abbrev pub bound_before : Bound → List Bound → List Bound
 bound_before b scope = if is_empty b.uri then scope else b ∷ scope
 

@@ -9,8 +9,10 @@ pub mod grammar;
 pub mod laws;
 pub mod lists;
 pub mod normal;
+pub mod paths;
 pub mod sheet;
 pub mod tree;
+pub mod xml;
 
 pub use grammar::{ElemPat, Grammar, NameClass, Pat};
 pub use lists::{CertData, HedgeLine, HedgeLines, Numbers, PairLists, Pairs, TreeLine, TreeLines};

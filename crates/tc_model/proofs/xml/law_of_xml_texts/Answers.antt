@@ -1,0 +1,12 @@
+use Rattle.tc_model.proofs.XmlTextTrees.{one_raw_tree, lawful_raw_tree}
+use Rattle.tc_model.proofs.XmlTextDocument.{document}
+use Rattle.tc_model.proofs.xml.law_of_xml_texts.Goals as goal
+
+pub returns-clause-one : goal.returns-clause-one
+returns-clause-one c = one_raw_tree
+
+pub returns-clause-lawful : goal.returns-clause-lawful
+returns-clause-lawful c = lawful_raw_tree
+
+pub returns-clause-document : goal.returns-clause-document
+returns-clause-document c = document

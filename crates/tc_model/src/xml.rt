@@ -1,0 +1,11 @@
+// Laws of XML texts.
+ghost use Rattle.tc_model.specs.XmlTextLaws.{HasOneRawTree, HasLawfulRawTree, HasDocument};
+
+/// Laws of XML texts (XML 1.0, Fifth Edition; Namespaces in XML 1.0). A text has at most one raw tree. Its
+/// names, texts and namespace names are lawful, and no place in it is past the text's length. Stripped it
+/// is a document.
+pub fn law_of_xml_texts()
+    ensures one { HasOneRawTree }
+    ensures lawful { HasLawfulRawTree }
+    ensures document { HasDocument }
+{}
