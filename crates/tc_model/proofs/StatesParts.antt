@@ -140,3 +140,12 @@ matching_accepted g side {k} {q} h part m =
 
 pub accepted_exactly : (g : Grammar) (side : Side) {k : ℕ} {q : Pattern} (h : Trees) → IsPart g side k q → IsAccepted g side k h ↔ Matches g.elements h q
 accepted_exactly g side h part = (accepted_matches g side h part, matching_accepted g side h part)
+
+-- edges lead between the states that are counted, and accepting states are among them
+pub edge_within : (g : Grammar) (side : Side) (i j : ℕ) (l : Leaf) → IsEdge g side i l j → (i < state_count g side) × (j < state_count g side)
+edge_within g side i j l (k, q, x, y, part, is, goes, e) =
+    let s = sound q in
+    (omega (arith, next_first g side part, first_within g side k, s.from x y l e), omega (arith, next_first g side part, first_within g side k, s.below x y l e))
+
+pub accepting_within : (g : Grammar) (side : Side) (j : ℕ) → IsAccepting g side j → j < state_count g side
+accepting_within g side j (k, q, y, part, is, acc) = let s = sound q in omega (arith, next_first g side part, first_within g side k, s.accepted y acc)
