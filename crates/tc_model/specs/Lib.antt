@@ -16,3 +16,4 @@ pub mod WellFormed
 pub mod Safety
 pub mod Printed
 pub mod Laws
+pub mod Symbols
