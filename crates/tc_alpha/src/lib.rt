@@ -9,4 +9,4 @@ mod mentions;
 #[cfg(test)]
 mod tests;
 
-pub use alphabet::{AlphaFault, Alphabet, Sym};
+pub use alphabet::{AlphaFault, Alphabet, Sym, law_of_symbols};
