@@ -43,3 +43,4 @@ pub mod SimplifiesCounts
 pub mod RncText
 pub mod CompactSyntaxLawful
 pub mod SimplifiesLaws
+pub mod Symbols

@@ -1,0 +1,50 @@
+use Rattle.std.proofs.Common.{ap, sym, ◌∙◌, Some, refl}
+use Rattle.tc_alpha.specs.Seen.{mention as see_mention}
+use Rattle.tc_model.specs.Seen as see
+use Rattle.tc_alpha.proofs.Orders.{same_parts}
+use Rattle.tc_alpha.proofs.Fresh.{named, spaced, last, lawful_told, symbol_told}
+use Rattle.tc_alpha.proofs.alphabet.Alphabet.fresh.Goals as goal
+
+pub returns-in_ok-try_alloc_str-in-Some-Name-2-clause-lawful : goal.returns-in_ok-try_alloc_str-in-Some-Name-2-clause-lawful
+returns-in_ok-try_alloc_str-in-Some-Name-2-clause-lawful c =
+    let xs = c.args.self.now in
+    let k = c.args.sym.0 in
+    let m = see.name c.in-Some-Name.name in
+    let found = c.in-Some-Name.ensures.found ∙ ap (λ y. Some (see_mention y)) c.in-Some-Name.field-0-is in
+    lawful_told xs c.in-Some-Name.ensures.symbols k _ (named xs k m _ found (same_parts _ m c.in_ok-try_alloc_str-in-Some-Name.ensures c.in_ok-try_alloc_str-in-Some-Name-2.ensures))
+
+pub returns-in_ok-try_alloc_str-in-Some-Name-2-clause-symbol : goal.returns-in_ok-try_alloc_str-in-Some-Name-2-clause-symbol
+returns-in_ok-try_alloc_str-in-Some-Name-2-clause-symbol c =
+    let xs = c.args.self.now in
+    let k = c.args.sym.0 in
+    let m = see.name c.in-Some-Name.name in
+    let found = c.in-Some-Name.ensures.found ∙ ap (λ y. Some (see_mention y)) c.in-Some-Name.field-0-is in
+    symbol_told xs c.in-Some-Name.ensures.symbols k c.requires _ (named xs k m _ found (same_parts _ m c.in_ok-try_alloc_str-in-Some-Name.ensures c.in_ok-try_alloc_str-in-Some-Name-2.ensures))
+
+pub returns-in_ok-free_local-in-Some-Namespace-clause-lawful : goal.returns-in_ok-free_local-in-Some-Namespace-clause-lawful
+returns-in_ok-free_local-in-Some-Namespace-clause-lawful c =
+    let xs = c.args.self.now in
+    let k = c.args.sym.0 in
+    let u = c.in-Some-Namespace.uri.now in
+    let found = c.in-Some-Namespace.ensures.found ∙ ap (λ y. Some (see_mention y)) c.in-Some-Namespace.field-0-is in
+    lawful_told xs c.in-Some-Namespace.ensures.symbols k _ (spaced xs k u _ found c.in_ok-try_alloc_str-in-Some-Namespace.ensures c.in_ok-free_local-in-Some-Namespace.ensures)
+
+pub returns-in_ok-free_local-in-Some-Namespace-clause-symbol : goal.returns-in_ok-free_local-in-Some-Namespace-clause-symbol
+returns-in_ok-free_local-in-Some-Namespace-clause-symbol c =
+    let xs = c.args.self.now in
+    let k = c.args.sym.0 in
+    let u = c.in-Some-Namespace.uri.now in
+    let found = c.in-Some-Namespace.ensures.found ∙ ap (λ y. Some (see_mention y)) c.in-Some-Namespace.field-0-is in
+    symbol_told xs c.in-Some-Namespace.ensures.symbols k c.requires _ (spaced xs k u _ found c.in_ok-try_alloc_str-in-Some-Namespace.ensures c.in_ok-free_local-in-Some-Namespace.ensures)
+
+pub returns-in_ok-free_namespace-in-None-clause-lawful : goal.returns-in_ok-free_namespace-in-None-clause-lawful
+returns-in_ok-free_namespace-in-None-clause-lawful c =
+    let xs = c.args.self.now in
+    let k = c.args.sym.0 in
+    lawful_told xs c.in-None.ensures.symbols k _ (last xs k _ c.in-None.ensures.found c.in_ok-free_namespace-in-None.ensures refl)
+
+pub returns-in_ok-free_namespace-in-None-clause-symbol : goal.returns-in_ok-free_namespace-in-None-clause-symbol
+returns-in_ok-free_namespace-in-None-clause-symbol c =
+    let xs = c.args.self.now in
+    let k = c.args.sym.0 in
+    symbol_told xs c.in-None.ensures.symbols k c.requires _ (last xs k _ c.in-None.ensures.found c.in_ok-free_namespace-in-None.ensures refl)

@@ -1,0 +1,12 @@
+use Rattle.std.proofs.Common.{rules}
+use Rattle.tc_model.specs.Seen as see
+use Rattle.tc_alpha.proofs.Alike.{alike_told}
+use Rattle.tc_alpha.proofs.alphabet.Alphabet.sym_of.Goals as goal
+
+pub returns-then-own-clause-alike : goal.returns-then-own-clause-alike
+returns-then-own-clause-alike c =
+    λ input output sheet stands other one. alike_told c.args.self.now (see.name c.args.name.now) c.place-own.result (search rules) input output sheet stands other one
+
+pub returns-clause-alike : goal.returns-clause-alike
+returns-clause-alike c =
+    λ input output sheet stands other one. alike_told c.args.self.now (see.name c.args.name.now) c.place.result (search rules) input output sheet stands other one
