@@ -1,15 +1,14 @@
 -- The name that stands for a symbol.
-use Rattle.std.proofs.Common.{◌≡◌, ◌≢◌, ℕ, zero, suc, ◌+◌, ◌-◌, ◌<◌, ◌≤◌, List, [], ◌∷◌, ◌++◌, length, Some, None, Option, slice_get, refl, ap, sym, subst, ◌∙◌, ◌⊎◌, inl, inr, Bool, true, false, cond, arith, ltb, leb, codes, IsTrue, append_assoc, length-append}
+use Rattle.std.proofs.Common.{◌≡◌, ℕ, zero, suc, ◌+◌, ◌-◌, ◌<◌, ◌≤◌, List, [], ◌∷◌, ◌++◌, length, Some, None, Option, slice_get, refl, ap, sym, subst, ◌∙◌, inl, inr, Bool, true, false, cond, arith, leb, codes, IsTrue, append_assoc, length-append}
 use Rattle.std.proofs.lemmas.Bool.Decides.{nat_tests}
 use lib.Utf8.{encode, encodes}
 use Rattle.std.specs.List.{list_all}
-use Rattle.std.specs.Prelude.{encode_utf8_all}
 use Rattle.tc_base.specs.Characters.{is_char}
-use Rattle.tc_model.specs.Names.{ExpandedName, IsName, IsNamespaceName, IsNcName, IsChars, is_ncname_char, xmlns_uri}
-use Rattle.tc_model.specs.Symbols.{Mention, a_name, a_namespace, mention_cmp, place_of, is_mentioned, symbol_of, lengthened, free_local, free_namespace, fresh_for, fresh_name, IsLawful, AreSymbols}
+use Rattle.tc_model.specs.Names.{ExpandedName, IsName, IsNamespaceName, IsNcName, is_ncname_char}
+use Rattle.tc_model.specs.Symbols.{Mention, a_name, a_namespace, place_of, is_mentioned, symbol_of, lengthened, free_local, free_namespace, fresh_for, fresh_name, IsLawful, AreSymbols}
 use Rattle.tc_alpha.proofs.Orders.{same_parts}
 use Rattle.tc_alpha.proofs.Members.{Has, every_member, every_from_all, has_from_contains, contains_from_has}
-use Rattle.tc_alpha.proofs.Places.{place_le, place_has, place_at, place_absent, has_placed}
+use Rattle.tc_alpha.proofs.Places.{place_has, place_at, place_absent, has_placed}
 use Rattle.tc_alpha.proofs.Alike.{either, own_symbol, shared_symbol, is_taken, is_free}
 
 -- so many letters `n`

@@ -1,6 +1,5 @@
 -- What well-formed schemas and stylesheets mention is lawful.
-use Rattle.std.proofs.Common.{◌≡◌, ℕ, List, [], ◌∷◌, ◌++◌, length, refl, ap, sym, ◌⊎◌, inl, inr, flat_map, All}
-use Rattle.std.specs.List.{Contains}
+use Rattle.std.proofs.Common.{◌≡◌, ℕ, List, [], ◌∷◌, ◌++◌, length, ap, inl, inr, flat_map}
 use Rattle.tc_model.specs.Names.{ExpandedName}
 use Rattle.tc_model.specs.Grammars as g
 use Rattle.tc_model.specs.Grammars.{NameClass, NameClasses, no_class, class, Grammar, ElementPattern, IsNameClass, AreNameClasses, IsElementPattern, IsGrammar}

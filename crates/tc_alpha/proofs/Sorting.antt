@@ -1,6 +1,6 @@
 -- A list that was sorted, and of which repeated items were dropped, is in order.
-use Rattle.std.proofs.Common.{◌≡◌, ℕ, ◌+◌, ◌<◌, List, [], ◌∷◌, length, get_or, refl, ap, sym, subst, ◌∙◌, ◌⊎◌, inl, inr, Bool, true, map}
-use Rattle.std.specs.List.{Contains, Any, dedup, AllByRecursion}
+use Rattle.std.proofs.Common.{◌≡◌, ◌+◌, List, [], ◌∷◌, get_or, refl, ap, sym, subst, ◌∙◌, inl, inr, Bool, true, map}
+use Rattle.std.specs.List.{Any, dedup, AllByRecursion}
 use Rattle.std.specs.List.Retain.{IsFiltered, DiffersFromLast}
 use Rattle.std.specs.List.Sorted.{IsStrictlySortedBy, IsSorted, IsPermutation}
 use Rattle.std.specs.Cmp.{IsTotalOrder, IsEquivalence}

@@ -1,21 +1,17 @@
 -- What a loop over a part of a schema or a stylesheet has found, one step at a time.
-use Rattle.std.proofs.Common.{◌≡◌, ℕ, ◌+◌, ◌<◌, List, [], ◌∷◌, ◌++◌, refl, ap, ◌∙◌, sym, map, Bor, length, get_or, drop, append_assoc, flat_map, Result, Ok, Err, OnOk}
+use Rattle.std.proofs.Common.{◌≡◌, ℕ, ◌+◌, ◌<◌, List, ◌++◌, refl, ap, ◌∙◌, sym, map, Bor, length, get_or, drop, append_assoc, flat_map, Result, Ok, Err, OnOk}
 use Rattle.std.proofs.lemmas.List.{drop_more}
 use Rattle.tc_model.specs.Sheets as s
 use Rattle.tc_model.specs.Seen as see
-use Rattle.tc_model.specs.Symbols.{Mention, mentions_of_name, mentions_of_test, mentions_in_class, mentions_in_classes, in_steps, in_path, in_test, in_tests, in_pattern, in_body, in_branches, with_namespace}
+use Rattle.tc_model.specs.Symbols.{Mention, mentions_of_name, mentions_of_test, mentions_in_class, mentions_in_classes, in_steps, in_path, in_test, in_tests, in_body, in_branches}
 use Rattle.tc_model.specs.declared.grammar.NameClass.{NameClass}
-use Rattle.tc_model.specs.declared.grammar.ElemPat.{ElemPat}
 use Rattle.tc_model.specs.declared.sheet.Step.{Step}
 use Rattle.tc_model.specs.declared.sheet.Test.{Test}
 use Rattle.tc_model.specs.declared.sheet.Branch.{Branch}
 use Rattle.tc_model.specs.declared.sheet.Instr.{Instr}
-use Rattle.tc_model.specs.declared.sheet.Rule.{Rule}
 use Rattle.tc_model.proofs.ViewsGrammar.{left_class}
 use Rattle.tc_model.proofs.ViewsPath.{left_step, left_alternative, left_test}
 use Rattle.tc_model.proofs.ViewsBody.{left_instruction, left_branch}
-use Rattle.tc_alpha.specs.Seen as here
-use Rattle.tc_alpha.specs.declared.mentions.Mention as m
 
 -- what follows from a result that is `Ok`
 pub then_on_ok : {T E : Type 0} (r : Result T E) (P Q : Type 0) → (P → Q) → OnOk r P → OnOk r Q

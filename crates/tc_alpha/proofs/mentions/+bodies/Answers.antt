@@ -2,7 +2,7 @@ use Rattle.std.proofs.Common.{◌≡◌, ℕ, ◌++◌, ◌⊎◌, inl, inr, ap,
 use Rattle.tc_alpha.specs.Seen.{seen}
 use Rattle.tc_model.specs.Seen as see
 use Rattle.tc_model.specs.Sheets as s
-use Rattle.tc_model.specs.Symbols.{in_body, in_branches, in_path, mentions_of_name, mentions_of_test}
+use Rattle.tc_model.specs.Symbols.{mentions_of_name}
 use Rattle.tc_model.specs.declared.sheet.Instr.{Instr, Apply, ValueOf}
 use Rattle.tc_model.specs.declared.sheet.Path.{Path}
 use Rattle.tc_model.proofs.ViewsBody.{see_elem, see_copy, see_apply, see_value_of, see_choose, see_for_each}

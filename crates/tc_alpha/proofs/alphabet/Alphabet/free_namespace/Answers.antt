@@ -1,6 +1,6 @@
 use Rattle.std.proofs.Common.{◌≡◌, ◌<◌, ◌++◌, true, ap, ◌∙◌, length, subst, arith}
 use Rattle.std.specs.Prelude.{string_bytes}
-use Rattle.tc_model.specs.Symbols.{a_name, a_namespace, is_mentioned, place_of}
+use Rattle.tc_model.specs.Symbols.{a_namespace, is_mentioned}
 use Rattle.tc_alpha.proofs.Alike.{is_taken}
 use Rattle.tc_alpha.proofs.Fresh.{one_tried}
 use Rattle.tc_alpha.proofs.alphabet.Alphabet.free_namespace.Goals as goal

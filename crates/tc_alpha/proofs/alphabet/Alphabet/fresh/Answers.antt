@@ -1,4 +1,4 @@
-use Rattle.std.proofs.Common.{ap, sym, ◌∙◌, Some, refl}
+use Rattle.std.proofs.Common.{ap, ◌∙◌, Some, refl}
 use Rattle.tc_alpha.specs.Seen.{mention as see_mention}
 use Rattle.tc_model.specs.Seen as see
 use Rattle.tc_alpha.proofs.Orders.{same_parts}

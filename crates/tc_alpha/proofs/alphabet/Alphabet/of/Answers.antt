@@ -1,8 +1,7 @@
-use Rattle.std.proofs.Common.{◌≡◌, ap, sym, ◌∙◌, subst, length, map, List, [], ◌∷◌, refl, arith}
-use Rattle.tc_alpha.specs.Kept.{all_known}
-use Rattle.tc_alpha.specs.Seen.{seen, mention}
+use Rattle.std.proofs.Common.{◌≡◌, ap, sym, ◌∙◌, subst, length, List, [], ◌∷◌, refl, arith}
+use Rattle.tc_alpha.specs.Seen.{seen}
 use Rattle.tc_model.specs.Seen as see
-use Rattle.tc_model.specs.Symbols.{AreSymbols, symbols_of}
+use Rattle.tc_model.specs.Symbols.{AreSymbols}
 use Rattle.tc_alpha.specs.declared.mentions.Mention.{Mention}
 use Rattle.tc_alpha.proofs.Lawful.{are_symbols}
 use Rattle.tc_alpha.proofs.alphabet.Alphabet.of.Goals as goal
