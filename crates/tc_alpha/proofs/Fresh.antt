@@ -5,10 +5,14 @@ use lib.Utf8.{encode, encodes}
 use Rattle.std.specs.List.{list_all}
 use Rattle.tc_base.specs.Characters.{is_char}
 use Rattle.tc_model.specs.Names.{ExpandedName, IsName, IsNamespaceName, IsNcName, is_ncname_char}
-use Rattle.tc_model.specs.Symbols.{Mention, a_name, a_namespace, place_of, is_mentioned, symbol_of, lengthened, free_local, free_namespace, fresh_for, fresh_name, IsLawful, AreSymbols}
+use Rattle.tc_model.specs.Symbols.{Mention, a_name, a_namespace, place_of, is_mentioned, symbol_of, lengthened, free_local, free_namespace, fresh_for, fresh_name, symbols_of, AreSymbols}
 use Rattle.tc_alpha.proofs.Orders.{same_parts}
-use Rattle.tc_alpha.proofs.Members.{Has, every_member, every_from_all, has_from_contains, contains_from_has}
+use Rattle.tc_alpha.proofs.Members.{Has, has_from_contains, contains_from_has}
 use Rattle.tc_alpha.proofs.Places.{place_has, place_at, place_absent, has_placed}
+use Rattle.tc_model.specs.Grammars.{Grammar, IsGrammar}
+use Rattle.tc_model.specs.Sheets.{Sheet}
+use Rattle.tc_model.specs.WellFormed.{IsSheet}
+use Rattle.tc_alpha.proofs.Lawful.{IsLawful, are_lawful}
 use Rattle.tc_alpha.proofs.Alike.{either, own_symbol, shared_symbol, is_taken, is_free}
 
 -- so many letters `n`
@@ -177,15 +181,13 @@ module _ (xs : List Mention) (ok : AreSymbols xs) where
   pub symbol_of_fresh : (k : ℕ) → k < length xs + 1 → symbol_of xs (fresh_name xs k) ≡ k
   symbol_of_fresh k h = symbol_for k (slice_get xs k) refl h
 
+module _ (xs : List Mention) (lawful : (m : Mention) → Has xs m → IsLawful m) where
   lawful_for : (k : ℕ) (o : Option Mention) → slice_get xs k ≡ o → IsName (fresh_for xs o)
-  lawful_for k (Some (a_name n)) e = every_member IsLawful xs (a_name n) (every_from_all IsLawful xs (AreSymbols.lawful ok)) (get_has xs k (a_name n) e)
-  lawful_for k (Some (a_namespace u)) e = (
-    every_member IsLawful xs (a_namespace u) (every_from_all IsLawful xs (AreSymbols.lawful ok)) (get_has xs k (a_namespace u) e),
-    lawful_local (λ local. is_mentioned (a_name (record { uri = u; local = local })) xs) (length xs),
-  )
+  lawful_for k (Some (a_name n)) e = lawful (a_name n) (get_has xs k (a_name n) e)
+  lawful_for k (Some (a_namespace u)) e = (lawful (a_namespace u) (get_has xs k (a_namespace u) e), lawful_local (λ local. is_mentioned (a_name (record { uri = u; local = local })) xs) (length xs))
   lawful_for k None e = (lawful_uri (λ uri. is_mentioned (a_namespace uri) xs) (length xs), ncname 0)
 
-  pub lawful_fresh : (k : ℕ) → IsName (fresh_name xs k)
+  lawful_fresh : (k : ℕ) → IsName (fresh_name xs k)
   lawful_fresh k = lawful_for k (slice_get xs k) refl
 
 -- the name by what stands at the symbol's place
@@ -199,8 +201,11 @@ pub last : (xs : List Mention) (k : ℕ) (n : ExpandedName) → slice_get xs k �
 last xs k n found e f = same_parts n (record { uri = free_namespace xs; local = codes "n" }) e f ∙ ap (fresh_for xs) (sym found)
 
 -- what is told of that name
-pub lawful_told : (xs : List Mention) → AreSymbols xs → (k : ℕ) (n : ExpandedName) → n ≡ fresh_name xs k → IsName n
-lawful_told xs ok k n e = subst IsName (sym e) (lawful_fresh xs ok k)
+pub lawful_told : (xs : List Mention) (k : ℕ) (n : ExpandedName) → n ≡ fresh_name xs k
+    → (input output : Grammar) (sheet : Sheet) → IsGrammar input → IsGrammar output → IsSheet sheet → xs ≡ symbols_of input output sheet → IsName n
+lawful_told xs k n e input output sheet a b c stands =
+    let all : (m : Mention) → Has xs m → IsLawful m = subst (λ ys. (m : Mention) → Has ys m → IsLawful m) (sym stands) (are_lawful input output sheet a b c) in
+    subst IsName (sym e) (lawful_fresh xs all k)
 
 pub symbol_told : (xs : List Mention) → AreSymbols xs → (k : ℕ) → k < length xs + 1 → (n : ExpandedName) → n ≡ fresh_name xs k → symbol_of xs n ≡ k
 symbol_told xs ok k h n e = ap (symbol_of xs) e ∙ symbol_of_fresh xs ok k h

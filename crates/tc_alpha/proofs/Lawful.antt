@@ -1,13 +1,17 @@
 -- What well-formed schemas and stylesheets mention is lawful.
 use Rattle.std.proofs.Common.{◌≡◌, ℕ, List, [], ◌∷◌, ◌++◌, length, ap, inl, inr, flat_map}
-use Rattle.tc_model.specs.Names.{ExpandedName}
+use Rattle.tc_model.specs.Names.{ExpandedName, IsName, IsNamespaceName}
 use Rattle.tc_model.specs.Grammars as g
 use Rattle.tc_model.specs.Grammars.{NameClass, NameClasses, no_class, class, Grammar, ElementPattern, IsNameClass, AreNameClasses, IsElementPattern, IsGrammar}
 use Rattle.tc_model.specs.Sheets as s
 use Rattle.tc_model.specs.WellFormed.{IsNodeTest, AreSteps, IsPath, IsTest, AreTests, IsMatchPattern, IsBody, AreBranches, IsRule, IsSheet}
-use Rattle.tc_model.specs.Symbols.{Mention, a_name, a_namespace, mention_cmp, mentions_of_name, mentions_in_class, mentions_in_classes, mentions_in_grammar, mentions_of_test, in_steps, in_path, in_test, in_tests, in_pattern, in_body, in_branches, mentions_in_sheet, with_namespace, mentions_in, in_order, symbols_of, IsLawful, AreSymbols}
+use Rattle.tc_model.specs.Symbols.{Mention, a_name, a_namespace, mention_cmp, mentions_of_name, mentions_in_class, mentions_in_classes, mentions_in_grammar, mentions_of_test, in_steps, in_path, in_test, in_tests, in_pattern, in_body, in_branches, mentions_in_sheet, with_namespace, mentions_in, in_order, symbols_of, AreSymbols}
 use Rattle.tc_alpha.proofs.Orders.{total, same}
-use Rattle.tc_alpha.proofs.Members.{Has, Every, every_member, every_from_members, every_append, every_from_all, all_from_every, has_from_in_order, in_order_has, in_order_rises, has_from_contains, contains_from_has}
+use Rattle.tc_alpha.proofs.Members.{Has, Every, every_member, every_append, every_from_all, has_from_in_order, in_order_has, in_order_rises, has_from_contains, contains_from_has}
+
+abbrev pub IsLawful : Mention → Type 0
+IsLawful (a_name n) = IsName n
+IsLawful (a_namespace uri) = IsNamespaceName uri
 
 abbrev AreLawful : List Mention → Type 0
 AreLawful xs = Every IsLawful xs
@@ -136,15 +140,20 @@ closed (a_name k ∷ ms) n (inr (inr h)) = inr (inr (closed ms n h))
 closed (a_namespace u ∷ ms) n (inl e) = cc
 closed (a_namespace u ∷ ms) n (inr h) = inr (closed ms n h)
 
--- what the symbols of well-formed schemas and a well-formed stylesheet have in common
-pub are_symbols : (input output : Grammar) (x : s.Sheet) → IsGrammar input → IsGrammar output → IsSheet x → AreSymbols (symbols_of input output x)
-are_symbols input output x a b c =
+-- what all symbols have in common
+pub are_symbols : (input output : Grammar) (x : s.Sheet) → AreSymbols (symbols_of input output x)
+are_symbols input output x =
+    let ms = flat_map with_namespace (mentions_in input output x) in
+    record {
+      rise = in_order_rises total same ms;
+      closed = λ n h. contains_from_has (in_order mention_cmp ms) (a_namespace n.uri) (in_order_has total same ms (a_namespace n.uri) (closed (mentions_in input output x) n (has_from_in_order total same ms (a_name n) (has_from_contains (in_order mention_cmp ms) (a_name n) h))));
+    }
+
+-- those of well-formed schemas and a well-formed stylesheet are lawful
+pub are_lawful : (input output : Grammar) (x : s.Sheet) → IsGrammar input → IsGrammar output → IsSheet x → (m : Mention) → Has (symbols_of input output x) m → IsLawful m
+are_lawful input output x a b c m h =
     let ms = flat_map with_namespace (mentions_in input output x) in
     let all : AreLawful ms =
     with_namespaces (mentions_in input output x) (join (mentions_in_grammar input) (mentions_in_grammar output ++ mentions_in_sheet x) (lawful_grammar input a) (join (mentions_in_grammar output) (mentions_in_sheet x) (lawful_grammar output b) (lawful_sheet x c)))
     in
-    record {
-      rise = in_order_rises total same ms;
-      closed = λ n h. contains_from_has (in_order mention_cmp ms) (a_namespace n.uri) (in_order_has total same ms (a_namespace n.uri) (closed (mentions_in input output x) n (has_from_in_order total same ms (a_name n) (has_from_contains (in_order mention_cmp ms) (a_name n) h))));
-      lawful = all_from_every IsLawful (in_order mention_cmp ms) (every_from_members IsLawful (in_order mention_cmp ms) (λ y h. every_member IsLawful ms y all (has_from_in_order total same ms y h)));
-    }
+    every_member IsLawful ms m all (has_from_in_order total same ms m h)

@@ -133,9 +133,6 @@ impl Alphabet {
         output: &Grammar<'_>,
         sheet: &Sheet<'_>,
     ) -> Result<Alphabet, AlphaFault>
-        requires input { g.IsGrammar (see.grammar input.now) }
-        requires output { g.IsGrammar (see.grammar output.now) }
-        requires sheet { IsSheet (see.sheet sheet.now) }
         ensures stands { IfOk result (λ a. a ≡ symbols_of (see.grammar input.now) (see.grammar output.now) (see.sheet sheet.now)) }
         ensures few { OnOk result (symbol_count (symbols_of (see.grammar input.now) (see.grammar output.now) (see.sheet sheet.now)) ≤ 1024) }
         ensures many { IfErr result (λ e. e ≡ AlphaFault.TooManySymbols → 1024 < symbol_count (symbols_of (see.grammar input.now) (see.grammar output.now) (see.sheet sheet.now))) }
@@ -196,12 +193,12 @@ impl Alphabet {
         Sym(self.place(&Mention::Namespace(name.uri)) as u32)
     }
 
-    /// A lawful name of a symbol: the name itself, or a name of the namespace, or of a namespace, that is not
-    /// mentioned.
+    /// A name of a symbol: the name itself, or a name of the namespace, or of a namespace, that is not
+    /// mentioned. It is lawful where the schemas and the stylesheet are.
     pub fn fresh<'b>(&self, arena: &'b Bump, sym: Sym) -> Result<Name<'b>, NoMemory>
         requires { sym.0 < symbol_count self.now }
         ensures name { IfOk result (λ n. see.name n ≡ fresh_name self.now sym.0) }
-        ensures lawful { IfOk result (λ n. IsName (see.name n)) }
+        ensures lawful { IfOk result (λ n. (input output : g.Grammar) (sheet : s.Sheet) → g.IsGrammar input → g.IsGrammar output → IsSheet sheet → self.now ≡ symbols_of input output sheet → IsName (see.name n)) }
         ensures symbol { IfOk result (λ n. symbol_of self.now (see.name n) ≡ sym.0) }
     {
         match self.at(sym.0 as usize) {

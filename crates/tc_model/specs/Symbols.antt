@@ -5,7 +5,7 @@ use Rattle.std.specs.declared.cmp.Ordering.{Ordering}
 use Rattle.std.specs.declared.cmp.Ordering.TheVariants.{Less, Greater}
 use Rattle.std.specs.Ordering.{nat_cmp, ordering_then, match_ordering, is_eq}
 use Rattle.std.specs.Cmp.Lexicographic.{slice_cmp}
-use Rattle.tc_model.specs.Names.{ExpandedName, IsName, IsNamespaceName}
+use Rattle.tc_model.specs.Names.{ExpandedName}
 use Rattle.tc_model.specs.Trees.{Trees}
 use Rattle.tc_model.specs.Grammars as g
 use Rattle.tc_model.specs.Grammars.{NameClass, NameClasses, no_class, class, in_class, Grammar}
@@ -170,15 +170,10 @@ pub record AreAlike (input output : Grammar) (s : Sheet) (n m : ExpandedName) : 
   pub in_output : All (λ e. in_class e.names n ≡ in_class e.names m) output.elements
   pub pass : All (λ t. (kids : Trees) → passes t (an_element n kids) ≡ passes t (an_element m kids)) (node_tests s)
 
-abbrev pub IsLawful : Mention → Type 0
-IsLawful (a_name n) = IsName n
-IsLawful (a_namespace uri) = IsNamespaceName uri
-
--- what the symbols of well-formed schemas and stylesheets have in common: they are in order, the namespace of each name is among them, and they are lawful
+-- what all symbols have in common: they are in order, and the namespace of each name is among them
 pub record AreSymbols (symbols : List Mention) : Type 0 where
   pub rise : IsStrictlySortedBy mention_cmp symbols
   pub closed : (n : ExpandedName) → Contains symbols (a_name n) → Contains symbols (a_namespace n.uri)
-  pub lawful : All IsLawful symbols
 
 -- names of one symbol are alike
 abbrev pub IsAlikeBySymbol : Type 0

@@ -11,7 +11,7 @@ returns-in_ok-try_alloc_str-in-Some-Name-2-clause-lawful c =
     let k = c.args.sym.0 in
     let m = see.name c.in-Some-Name.name in
     let found = c.in-Some-Name.ensures.found ∙ ap (λ y. Some (see_mention y)) c.in-Some-Name.field-0-is in
-    lawful_told xs c.in-Some-Name.ensures.symbols k _ (named xs k m _ found (same_parts _ m c.in_ok-try_alloc_str-in-Some-Name.ensures c.in_ok-try_alloc_str-in-Some-Name-2.ensures))
+    lawful_told xs k _ (named xs k m _ found (same_parts _ m c.in_ok-try_alloc_str-in-Some-Name.ensures c.in_ok-try_alloc_str-in-Some-Name-2.ensures))
 
 pub returns-in_ok-try_alloc_str-in-Some-Name-2-clause-symbol : goal.returns-in_ok-try_alloc_str-in-Some-Name-2-clause-symbol
 returns-in_ok-try_alloc_str-in-Some-Name-2-clause-symbol c =
@@ -27,7 +27,7 @@ returns-in_ok-free_local-in-Some-Namespace-clause-lawful c =
     let k = c.args.sym.0 in
     let u = c.in-Some-Namespace.uri.now in
     let found = c.in-Some-Namespace.ensures.found ∙ ap (λ y. Some (see_mention y)) c.in-Some-Namespace.field-0-is in
-    lawful_told xs c.in-Some-Namespace.ensures.symbols k _ (spaced xs k u _ found c.in_ok-try_alloc_str-in-Some-Namespace.ensures c.in_ok-free_local-in-Some-Namespace.ensures)
+    lawful_told xs k _ (spaced xs k u _ found c.in_ok-try_alloc_str-in-Some-Namespace.ensures c.in_ok-free_local-in-Some-Namespace.ensures)
 
 pub returns-in_ok-free_local-in-Some-Namespace-clause-symbol : goal.returns-in_ok-free_local-in-Some-Namespace-clause-symbol
 returns-in_ok-free_local-in-Some-Namespace-clause-symbol c =
@@ -41,7 +41,7 @@ pub returns-in_ok-free_namespace-in-None-clause-lawful : goal.returns-in_ok-free
 returns-in_ok-free_namespace-in-None-clause-lawful c =
     let xs = c.args.self.now in
     let k = c.args.sym.0 in
-    lawful_told xs c.in-None.ensures.symbols k _ (last xs k _ c.in-None.ensures.found c.in_ok-free_namespace-in-None.ensures refl)
+    lawful_told xs k _ (last xs k _ c.in-None.ensures.found c.in_ok-free_namespace-in-None.ensures refl)
 
 pub returns-in_ok-free_namespace-in-None-clause-symbol : goal.returns-in_ok-free_namespace-in-None-clause-symbol
 returns-in_ok-free_namespace-in-None-clause-symbol c =

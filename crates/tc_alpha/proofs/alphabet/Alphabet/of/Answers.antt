@@ -18,4 +18,4 @@ invariant_of-result c =
     let output = see.grammar c.args.output.now in
     let sheet = see.sheet c.args.sheet.now in
     let long = ap length kept ∙ length_seen c.in_ok-mentions.mentions.items in
-    (subst AreSymbols (sym stands) (are_symbols input output sheet c.requires.input c.requires.output c.requires.sheet), omega arith)
+    (subst AreSymbols (sym stands) (are_symbols input output sheet), omega arith)
