@@ -141,17 +141,17 @@ pub literal_unique : {u v : List ℕ} {t : Token} → IsLiteral u t → IsLitera
 unfolding quoted
 literal_unique a b = ap quoted (sym a.word ∙ b.word)
 
-no_equals : {w : Word} {p : List ℕ} → w ≡ mark 0x3D → identifier_or_keyword w ≡ Some p → ⊥
+pub no_equals : {w : Word} {p : List ℕ} → w ≡ mark 0x3D → identifier_or_keyword w ≡ Some p → ⊥
 no_equals e f = some_none f (ap identifier_or_keyword e)
 
 -- the kind of a declaration by its rule
-declares : {scope within : List Bound} {ts rest : List Token} → DeclarationAt scope ts within rest → ℕ
+unfoldable pub declares : {scope within : List Bound} {ts rest : List Token} → DeclarationAt scope ts within rest → ℕ
 declares (namespace a b c d e) = 13
 declares (default_namespace a b c d e) = 14
 declares (both a b c d e f g) = 14
 declares (datatypes a b c d) = 15
 
-declared_kind : {scope within : List Bound} {ts rest : List Token} (a : DeclarationAt scope ts within rest) → kind_at ts ≡ declares a
+pub declared_kind : {scope within : List Bound} {ts rest : List Token} (a : DeclarationAt scope ts within rest) → kind_at ts ≡ declares a
 unfolding declares kind_at
 declared_kind (namespace a b c d e) = namespace_kind a
 declared_kind (default_namespace a b c d e) = default_kind a
@@ -178,7 +178,7 @@ declaration_unique (datatypes a b c d) (datatypes a' b' c' d') = (refl, refl)
 declaration_unique a b = absurd (omega (arith, declared_kind a, declared_kind b))
 
 -- what begins with a word in a name class: 1 a name, 2 a namespace, 40 a parenthesis, 42 an asterisk
-simple_word : Word → ℕ
+unfoldable pub simple_word : Word → ℕ
 simple_word (a_name n) = 1
 simple_word (escaped n) = 1
 simple_word (prefixed p n) = 1
@@ -186,7 +186,7 @@ simple_word (all_of p) = 2
 simple_word (literal s) = 3
 simple_word (mark c) = c
 
-simple_at : List Token → ℕ
+unfoldable pub simple_at : List Token → ℕ
 simple_at [] = 0
 simple_at (t ∷ ts) = simple_word t.word
 
@@ -199,13 +199,13 @@ name_is scope (all_of p) e = absurd (some_none e refl)
 name_is scope (literal s) e = absurd (some_none e refl)
 name_is scope (mark c) e = absurd (some_none e refl)
 
-simple_rule : {scope : List Bound} {d : ℕ} {ts r : List Token} {c : SyntaxClass} → SimpleAt scope d ts c r → ℕ
+unfoldable pub simple_rule : {scope : List Bound} {d : ℕ} {ts r : List Token} {c : SyntaxClass} → SimpleAt scope d ts c r → ℕ
 simple_rule (name e) = 1
 simple_rule (whole_namespace a e x) = 2
 simple_rule (any a x) = 0x2A
 simple_rule (parentheses a m b) = 0x28
 
-simple_is : {scope : List Bound} {d : ℕ} {ts r : List Token} {c : SyntaxClass} (a : SimpleAt scope d ts c r) → simple_at ts ≡ simple_rule a
+pub simple_is : {scope : List Bound} {d : ℕ} {ts r : List Token} {c : SyntaxClass} (a : SimpleAt scope d ts c r) → simple_at ts ≡ simple_rule a
 unfolding simple_rule simple_at simple_word
 simple_is {scope} (name {t = t} e) = name_is scope t.word e
 simple_is (whole_namespace a e x) = ap simple_word a
@@ -235,7 +235,7 @@ mutual
       let rest = classes_unique m (subst (λ z. ClassesAt scope d' z ks s) (sym (same_tail both.1)) n) in
       (ap (λ z. one_of (class z cs)) both.0 ∙ ap (λ z. one_of (class k z)) rest.0, rest.1)
 
-  classes_unique : {scope : List Bound} {d d' : ℕ} {ts r s : List Token} {c k : SyntaxClasses} → ClassesAt scope d ts c r → ClassesAt scope d' ts k s → (c ≡ k) × (r ≡ s)
+  pub classes_unique : {scope : List Bound} {d d' : ℕ} {ts r s : List Token} {c k : SyntaxClasses} → ClassesAt scope d ts c r → ClassesAt scope d' ts k s → (c ≡ k) × (r ≡ s)
   classes_unique (last a h) (last b k) = let both = simple_unique a b in (ap (λ z. class z no_class) both.0, both.1)
   classes_unique (last a h) (more b e m) = absurd (lacks_no h (simple_unique a b).1 e)
   classes_unique (more b e m) (last a h) = absurd (lacks_no h (sym (simple_unique b a).1) e)
@@ -244,7 +244,7 @@ mutual
       let rest = classes_unique m (subst (λ z. ClassesAt scope d' z ks s) (sym (same_tail both.1)) n) in
       (ap (λ z. class z cs) both.0 ∙ ap (class k) rest.0, rest.1)
 
-  simple_unique : {scope : List Bound} {d d' : ℕ} {ts r s : List Token} {c k : SyntaxClass} → SimpleAt scope d ts c r → SimpleAt scope d' ts k s → (c ≡ k) × (r ≡ s)
+  pub simple_unique : {scope : List Bound} {d d' : ℕ} {ts r s : List Token} {c k : SyntaxClass} → SimpleAt scope d ts c r → SimpleAt scope d' ts k s → (c ≡ k) × (r ≡ s)
   simple_unique (name e) (name f) = (ap of_name (same_some e f), refl)
   simple_unique {scope} (whole_namespace {t = t} {uri = u} {except = x} a e m) (whole_namespace {uri = v} b f n) =
       let same = same_some e (ap (uri_of scope) (same_all_of a b) ∙ f) in
@@ -254,7 +254,7 @@ mutual
   simple_unique (parentheses a m b) (parentheses a' n b') = let both = class_unique m n in (both.0, same_tail both.1)
   simple_unique a b = absurd (omega (arith, simple_is a, simple_is b))
 
-  except_unique : {scope : List Bound} {d d' : ℕ} {ts r s : List Token} {c k : SyntaxClasses} → ExceptAt scope d ts c r → ExceptAt scope d' ts k s → (c ≡ k) × (r ≡ s)
+  pub except_unique : {scope : List Bound} {d d' : ℕ} {ts r s : List Token} {c k : SyntaxClasses} → ExceptAt scope d ts c r → ExceptAt scope d' ts k s → (c ≡ k) × (r ≡ s)
   except_unique (nothing h) (nothing k) = (refl, refl)
   except_unique (nothing h) (except a m) = absurd (h a)
   except_unique (except a m) (nothing h) = absurd (h a)

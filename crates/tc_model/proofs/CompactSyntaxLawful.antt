@@ -1,13 +1,13 @@
 -- The syntax tree of a text is lawful.
 use Rattle.std.proofs.Common.{◌≡◌, ◌≤◌, ℕ, Bool, true, false, cond, List, [], ◌∷◌, ◌++◌, refl, sym, subst, arith, Option, None, Some, bytes_eq, length}
 use Rattle.std.specs.List.{AllByRecursion}
-use Rattle.tc_model.specs.Names.{ExpandedName, IsChars, IsName, IsNamespaceName}
+use Rattle.tc_model.specs.Names.{ExpandedName, IsChars, IsName, IsNamespaceName, IsNcName}
 use Rattle.tc_model.specs.RawTrees.{Bound}
 use Rattle.tc_model.specs.XmlTextScopes.{uri_of}
 use Rattle.tc_model.specs.CompactSyntaxTrees.{SyntaxClass, SyntaxClasses, no_class, class, SyntaxPattern, SyntaxPatterns, no_more, Definition, Syntax}
 use Rattle.tc_model.specs.CompactSyntaxTrees as tree
 use Rattle.tc_model.specs.CompactSyntaxTokens.{Word, a_name, escaped, prefixed, all_of, literal, mark, Token}
-use Rattle.tc_model.specs.CompactSyntaxNames.{IsLiteral, DeclarationAt, namespace, default_namespace, both, datatypes, or_none, named_in, name_in, ClassAt, alone, several, ClassesAt, last, more, SimpleAt, name, whole_namespace, any, parentheses, ExceptAt, nothing, except}
+use Rattle.tc_model.specs.CompactSyntaxNames.{identifier, is_keyword, IsLiteral, DeclarationAt, namespace, default_namespace, both, datatypes, or_none, named_in, name_in, ClassAt, alone, several, ClassesAt, last, more, SimpleAt, name, whole_namespace, any, parentheses, ExceptAt, nothing, except}
 use Rattle.tc_model.specs.CompactSyntaxPatterns as p
 use Rattle.tc_model.specs.CompactSyntaxPatterns.{Connector, comma, bar, ampersand, joined_by, Suffix, question_mark, asterisk, plus_sign, suffixed, BalancedAt, closed, nested, other, PatternAt, ItemsAt, and_more, ItemAt, bare, with_suffix, PrimaryAt, an_element, an_attribute, a_mixed, an_empty, a_text, a_not_allowed, reference, a_datum}
 use Rattle.tc_model.specs.CompactSyntax as c
@@ -16,6 +16,7 @@ use Rattle.tc_model.specs.CompactSyntaxLawful.{IsLawfulClass, AreLawfulClasses, 
 use Rattle.tc_model.proofs.XmlTextTrees.{no_uri, first_lawful, mark_chars}
 use Rattle.tc_model.proofs.CompactSyntaxTokensLawful.{IsLawfulWord, AreLawful, tokens_lawful}
 use Rattle.tc_model.proofs.CompactSyntaxClassesUnique.{same_some, some_none}
+use Rattle.tc_model.proofs.CompactSyntaxOrdered.{spells_ordered}
 
 abbrev AllBound : List Bound → Type 0
 AllBound scope = AllByRecursion (λ b. IsNamespaceName b.uri) scope
@@ -46,6 +47,18 @@ name_lawful scope (prefixed q m) n h k e = by (uri_of scope q) refl e
 name_lawful scope (all_of q) n h k e = absurd (some_none e refl)
 name_lawful scope (literal s) n h k e = absurd (some_none e refl)
 name_lawful scope (mark m) n h k e = absurd (some_none e refl)
+
+identifier_lawful : (w : Word) (n : List ℕ) → IsLawfulWord w → identifier w ≡ Some n → IsNcName n
+identifier_lawful (a_name m) n h e = by (is_keyword m) e
+  where
+    by : (x : Bool) → cond x None (Some m) ≡ Some n → IsNcName n
+    by true e = absurd (some_none e refl)
+    by false e = subst IsNcName (same_some refl e) h
+identifier_lawful (escaped m) n h e = subst IsNcName (same_some refl e) h
+identifier_lawful (prefixed p m) n h e = absurd (some_none e refl)
+identifier_lawful (all_of p) n h e = absurd (some_none e refl)
+identifier_lawful (literal s) n h e = absurd (some_none e refl)
+identifier_lawful (mark c) n h e = absurd (some_none e refl)
 
 literal_lawful : {uri : List ℕ} {t : Token} → IsLiteral uri t → IsLawfulWord t.word → IsChars uri
 literal_lawful a h = subst IsLawfulWord a.word h
@@ -135,7 +148,7 @@ module _ (total : ℕ) where
     primary_lawful (an_empty a) k (l, rest) = (tt, rest)
     primary_lawful (a_text a) k (l, rest) = (tt, rest)
     primary_lawful (a_not_allowed a) k (l, rest) = (tt, rest)
-    primary_lawful (reference a) k (l, rest) = (l.0, rest)
+    primary_lawful (reference {t = t} {n = n} a) k (l, rest) = ((l.0, identifier_lawful t.word n l.1 a), rest)
     primary_lawful (a_datum h a) k (l, rest) = ((λ e. no_empty_patterns e, (tt, (tt, tt))), rest)
     primary_lawful (p.parentheses a m b) k (l, rest) = let (inner, after) = pattern_lawful m k rest in (inner, after.1)
 
@@ -172,5 +185,7 @@ module _ (total : ℕ) where
   schema_lawful (grammar a b m c) k (l, (u, rest)) = (definitions_lawful m k rest).0
 
 pub spells_lawful : {o : Bool} {d : ℕ} {bytes : List ℕ} {s : Syntax} → Spells o d bytes s → IsLawfulSyntax s
-spells_lawful {bytes = bytes} {s = s} a =
-    subst (λ n. AllDefined n s.definitions) (sym a.end) (schema_lawful (length bytes) a.schema (first_lawful.0.uri, tt) (tokens_lawful a.words (mark_chars bytes a.characters)))
+spells_lawful {bytes = bytes} {s = s} a = record {
+  definitions = subst (λ n. AllDefined n s.definitions) (sym a.end) (schema_lawful (length bytes) a.schema (first_lawful.0.uri, tt) (tokens_lawful a.words (mark_chars bytes a.characters)));
+  in_order = spells_ordered a;
+}

@@ -7,7 +7,7 @@ use Rattle.tc_base.specs.Characters.{is_white}
 use Rattle.tc_model.specs.Names.{is_ncname_start}
 use Rattle.tc_model.specs.XmlTextBytes.{LiteralAt, place_of}
 use Rattle.tc_model.specs.XmlTextNames.{NcNameAt}
-use Rattle.tc_model.specs.CompactSyntaxTokens.{Word, a_name, escaped, prefixed, all_of, literal, mark, Token, EndsName, is_mark, WordAt, plain_name, prefixed_name, namespace_name, escaped_name, quoted, backslash, other, TokensAt, at_end, white, comment, token}
+use Rattle.tc_model.specs.CompactSyntaxTokens.{Word, a_name, escaped, prefixed, all_of, literal, mark, Token, EndsName, is_mark, WordAt, plain_name, prefixed_name, namespace_name, escaped_name, quoted, backslash, other, after_line, TokensAt, at_end, white, comment, token}
 use Rattle.tc_model.proofs.XmlTextPhrases.{same_others, literal_unique, ncname_unique, no_name}
 
 -- what begins with this character: 1 a name, 2 white space, 3 a literal, 4 a comment, 5 a backslash, 6 a mark
@@ -170,3 +170,31 @@ tokens_unique {total} {bs} {us = us} (token {word = w} {tokens = ts} a l) (token
     let rest = tokens_unique l (subst (λ z. TokensAt total z vs) (sym both.1) m) in
     let one : Word → Token = λ z. record { word = z; place = place_of total bs } in
     ap (λ z. one z ∷ ts) both.0 ∙ ap (λ z. one v ∷ z) rest
+
+-- the tokens of what follows white space, a comment or a word at the front
+pub behind_white : {total : ℕ} {b : ℕ} {bs : List ℕ} {ts : List Token} → is_white b ≡ true → TokensAt total (b ∷ bs) ts → TokensAt total bs ts
+unfolding kind other_kind
+behind_white h (white k m) = m
+behind_white h (comment m) = absurd (false≢true h)
+behind_white {b = b} h (token a m) = let is = white_is b h in absurd (no_word (inl refl) (byte_begins b is.0 is.1) a)
+
+pub behind_comment : {total : ℕ} {bs : List ℕ} {ts : List Token} → TokensAt total (0x23 ∷ bs) ts → TokensAt total (after_line bs) ts
+unfolding kind other_kind
+behind_comment (white k m) = absurd (false≢true k)
+behind_comment (comment m) = m
+behind_comment (token a m) = absurd (no_word (inr refl) (byte_begins 0x23 (omega arith) refl) a)
+
+pub record FirstToken (total : ℕ) (bs : List ℕ) (w : Word) (r : List ℕ) (ts : List Token) : Type 0 where
+  pub others : List Token
+  pub parts : ts ≡ record { word = w; place = place_of total bs } ∷ others
+  pub rest : TokensAt total r others
+
+pub behind_word : {total : ℕ} {bs r : List ℕ} {w : Word} {ts : List Token} → WordAt bs w r → TokensAt total bs ts → FirstToken total bs w r ts
+unfolding kind other_kind
+behind_word a at_end = absurd (nothing_begins (word_begins a))
+behind_word a (white {b = b} k m) = let is = white_is b k in absurd (no_word (inl refl) (byte_begins b is.0 is.1) a)
+behind_word a (comment m) = absurd (no_word (inr refl) (byte_begins 0x23 (omega arith) refl) a)
+behind_word {total} {bs} {w = w} a (token {word = v} {tokens = vs} b m) =
+    let both = word_unique a b in
+    let one : Word → Token = λ z. record { word = z; place = place_of total bs } in
+    record { others = vs; parts = ap (λ z. one z ∷ vs) (sym both.0); rest = subst (λ z. TokensAt total z vs) (sym both.1) m }

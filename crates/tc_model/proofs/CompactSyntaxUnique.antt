@@ -11,11 +11,11 @@ use Rattle.tc_model.specs.CompactSyntax.{OperatorAt, equals, bar_equals, ampersa
 use Rattle.tc_model.proofs.CompactSyntaxTokensUnique.{tokens_unique}
 use Rattle.tc_model.proofs.CompactSyntaxClassesUnique.{same_some, some_none, same_head, same_tail, word_kind, kind_at, element_kind, attribute_kind, mixed_kind, empty_kind, text_kind, not_allowed_kind, start_kind, div_kind, grammar_kind, identifier_kind, datum_kind, declaration_kind, declaration_unique, class_unique}
 
-mark_in : Word → ℕ
+unfoldable pub mark_in : Word → ℕ
 mark_in (mark c) = c
 mark_in _ = 0
 
-no_braces : {w : Word} → w ≡ mark 0x7D → w ≡ mark 0x7B → ⊥
+pub no_braces : {w : Word} → w ≡ mark 0x7D → w ≡ mark 0x7B → ⊥
 unfolding mark_in
 no_braces e f = omega (arith, ap mark_in (sym e ∙ f))
 
@@ -30,10 +30,10 @@ balanced_unique (other h k m) (closed e) = absurd (k e)
 balanced_unique (other h k m') (nested e m n) = absurd (h e)
 balanced_unique (other h k m) (other h' k' m') = balanced_unique m m'
 
-lacks_connector : {t : Token} {c : Connector} {ts rest : List Token} → connector_at ts ≡ None → ts ≡ t ∷ rest → connector_of t.word ≡ Some c → ⊥
+pub lacks_connector : {t : Token} {c : Connector} {ts rest : List Token} → connector_at ts ≡ None → ts ≡ t ∷ rest → connector_of t.word ≡ Some c → ⊥
 lacks_connector h e k = some_none k (sym (ap connector_at e) ∙ h)
 
-lacks_suffix : {t : Token} {c : Suffix} {ts rest : List Token} → suffix_at ts ≡ None → ts ≡ t ∷ rest → suffix_of t.word ≡ Some c → ⊥
+pub lacks_suffix : {t : Token} {c : Suffix} {ts rest : List Token} → suffix_at ts ≡ None → ts ≡ t ∷ rest → suffix_of t.word ≡ Some c → ⊥
 lacks_suffix h e k = some_none k (sym (ap suffix_at e) ∙ h)
 
 same_connector : {t u : Token} {c k : Connector} {ts us : List Token} → t ∷ ts ≡ u ∷ us → connector_of t.word ≡ Some c → connector_of u.word ≡ Some k → c ≡ k
@@ -43,7 +43,7 @@ same_suffix : {t u : Token} {c k : Suffix} {ts us : List Token} → t ∷ ts ≡
 same_suffix e a b = same_some (sym (ap (λ z. suffix_of z.word) (same_head e)) ∙ a) b
 
 -- the kind of a primary by its rule
-rule : {o : Bool} {scope : List Bound} {d : ℕ} {ts r : List Token} {p : SyntaxPattern} → PrimaryAt o scope d ts p r → ℕ
+unfoldable pub rule : {o : Bool} {scope : List Bound} {d : ℕ} {ts r : List Token} {p : SyntaxPattern} → PrimaryAt o scope d ts p r → ℕ
 rule (an_element a m b n c) = 1
 rule (an_attribute a m b n) = 2
 rule (a_mixed a b m c) = 3
@@ -54,7 +54,7 @@ rule (reference a) = 7
 rule (parentheses a m b) = 8
 rule (a_datum h a) = 9
 
-primary_kind : {o : Bool} {scope : List Bound} {d : ℕ} {ts r : List Token} {p : SyntaxPattern} (a : PrimaryAt o scope d ts p r) → kind_at ts ≡ rule a
+pub primary_kind : {o : Bool} {scope : List Bound} {d : ℕ} {ts r : List Token} {p : SyntaxPattern} (a : PrimaryAt o scope d ts p r) → kind_at ts ≡ rule a
 unfolding rule kind_at word_kind
 primary_kind (an_element a m b n c) = element_kind a
 primary_kind (an_attribute a m b n) = attribute_kind a
@@ -66,7 +66,7 @@ primary_kind (reference {t = t} a) = identifier_kind t.word a
 primary_kind (parentheses a m b) = ap word_kind a
 primary_kind (a_datum {t = t} h a) = datum_kind t.word a
 
-rule_bounds : {o : Bool} {scope : List Bound} {d : ℕ} {ts r : List Token} {p : SyntaxPattern} (a : PrimaryAt o scope d ts p r) → (1 ≤ rule a) × (rule a ≤ 9)
+pub rule_bounds : {o : Bool} {scope : List Bound} {d : ℕ} {ts r : List Token} {p : SyntaxPattern} (a : PrimaryAt o scope d ts p r) → (1 ≤ rule a) × (rule a ≤ 9)
 unfolding rule
 rule_bounds (an_element a m b n c) = (omega arith, omega arith)
 rule_bounds (an_attribute a m b n) = (omega arith, omega arith)
@@ -95,7 +95,7 @@ mutual
       let others = items_unique m (subst (λ z. ItemsAt o scope c d' z qs s) (sym (same_tail both.1)) moved) in
       (ap (λ z. joined_by c (tree.more z ps)) both.0 ∙ (ap (λ z. joined_by c (tree.more q z)) others.0 ∙ ap (λ z. joined_by z (tree.more q qs)) connector), others.1)
 
-  items_unique : {o : Bool} {scope : List Bound} {c : Connector} {d d' : ℕ} {ts r s : List Token} {p q : SyntaxPatterns} → ItemsAt o scope c d ts p r → ItemsAt o scope c d' ts q s → (p ≡ q) × (r ≡ s)
+  pub items_unique : {o : Bool} {scope : List Bound} {c : Connector} {d d' : ℕ} {ts r s : List Token} {p q : SyntaxPatterns} → ItemsAt o scope c d ts p r → ItemsAt o scope c d' ts q s → (p ≡ q) × (r ≡ s)
   items_unique (last a h) (last b k) = let both = item_unique a b in (ap (λ z. tree.more z no_more) both.0, both.1)
   items_unique (last a h) (and_more b e m) = absurd (lacks_connector h (item_unique a b).1 e)
   items_unique (and_more a e m) (last b h) = absurd (lacks_connector h (sym (item_unique a b).1) e)
@@ -104,7 +104,7 @@ mutual
       let others = items_unique m (subst (λ z. ItemsAt o scope c d' z qs s) (sym (same_tail both.1)) n) in
       (ap (λ z. tree.more z ps) both.0 ∙ ap (tree.more q) others.0, others.1)
 
-  item_unique : {o : Bool} {scope : List Bound} {d d' : ℕ} {ts r s : List Token} {p q : SyntaxPattern} → ItemAt o scope d ts p r → ItemAt o scope d' ts q s → (p ≡ q) × (r ≡ s)
+  pub item_unique : {o : Bool} {scope : List Bound} {d d' : ℕ} {ts r s : List Token} {p q : SyntaxPattern} → ItemAt o scope d ts p r → ItemAt o scope d' ts q s → (p ≡ q) × (r ≡ s)
   item_unique (bare a h) (bare b k) = primary_unique a b
   item_unique (bare a h) (with_suffix b e) = absurd (lacks_suffix h (primary_unique a b).1 e)
   item_unique (with_suffix a e) (bare b h) = absurd (lacks_suffix h (sym (primary_unique a b).1) e)
@@ -112,7 +112,7 @@ mutual
       let both = primary_unique a b in
       (ap (suffixed x) both.0 ∙ ap (λ z. suffixed z q) (same_suffix both.1 e f), same_tail both.1)
 
-  primary_unique : {o : Bool} {scope : List Bound} {d d' : ℕ} {ts r s : List Token} {p q : SyntaxPattern} → PrimaryAt o scope d ts p r → PrimaryAt o scope d' ts q s → (p ≡ q) × (r ≡ s)
+  pub primary_unique : {o : Bool} {scope : List Bound} {d d' : ℕ} {ts r s : List Token} {p q : SyntaxPattern} → PrimaryAt o scope d ts p r → PrimaryAt o scope d' ts q s → (p ≡ q) × (r ≡ s)
   primary_unique {o} {scope} {s = s} (an_element {t = t} a m b n c) (an_element {deepest = d'} {v = v} {p = q} a' m' b' n' c') =
       let classes = class_unique m m' in
       let inner = pattern_unique n (subst (λ z. PatternAt o scope d' z q (v ∷ s)) (sym (same_tail classes.1)) n') in
@@ -130,22 +130,22 @@ mutual
   primary_unique a b = absurd (omega (arith, primary_kind a, primary_kind b))
 
 -- how an operator begins
-operator_mark : {ts r : List Token} {j : Joins} → OperatorAt ts j r → ℕ
+unfoldable pub operator_mark : {ts r : List Token} {j : Joins} → OperatorAt ts j r → ℕ
 operator_mark (equals e) = 0x3D
 operator_mark (bar_equals e f g) = 0x7C
 operator_mark (ampersand_equals e f g) = 0x26
 
-mark_at : List Token → ℕ
+unfoldable pub mark_at : List Token → ℕ
 mark_at [] = 0
 mark_at (t ∷ ts) = mark_in t.word
 
-operator_is : {ts r : List Token} {j : Joins} (a : OperatorAt ts j r) → mark_at ts ≡ operator_mark a
+pub operator_is : {ts r : List Token} {j : Joins} (a : OperatorAt ts j r) → mark_at ts ≡ operator_mark a
 unfolding operator_mark mark_at mark_in
 operator_is (equals e) = ap mark_in e
 operator_is (bar_equals e f g) = ap mark_in e
 operator_is (ampersand_equals e f g) = ap mark_in e
 
-operator_unique : {ts r s : List Token} {j k : Joins} → OperatorAt ts j r → OperatorAt ts k s → (j ≡ k) × (r ≡ s)
+pub operator_unique : {ts r s : List Token} {j k : Joins} → OperatorAt ts j r → OperatorAt ts k s → (j ≡ k) × (r ≡ s)
 unfolding operator_mark
 operator_unique (equals e) (equals f) = (refl, refl)
 operator_unique (bar_equals a b c) (bar_equals e f g) = (refl, refl)
@@ -153,32 +153,32 @@ operator_unique (ampersand_equals a b c) (ampersand_equals e f g) = (refl, refl)
 operator_unique a b = absurd (omega (arith, operator_is a, operator_is b))
 
 -- the kind of a definition by its rule
-defines : {o : Bool} {scope : List Bound} {d : ℕ} {ts r : List Token} {ds : List Definition} → DefinitionAt o scope d ts ds r → ℕ
+unfoldable pub defines : {o : Bool} {scope : List Bound} {d : ℕ} {ts r : List Token} {ds : List Definition} → DefinitionAt o scope d ts ds r → ℕ
 defines (of_start a p m) = 10
 defines (of_name a p m) = 7
 defines (div a b m c) = 11
 
-definition_kind : {o : Bool} {scope : List Bound} {d : ℕ} {ts r : List Token} {ds : List Definition} (a : DefinitionAt o scope d ts ds r) → kind_at ts ≡ defines a
+pub definition_kind : {o : Bool} {scope : List Bound} {d : ℕ} {ts r : List Token} {ds : List Definition} (a : DefinitionAt o scope d ts ds r) → kind_at ts ≡ defines a
 unfolding defines kind_at
 definition_kind (of_start a p m) = start_kind a
 definition_kind (of_name {t = t} a p m) = identifier_kind t.word a
 definition_kind (div a b m c) = div_kind a
 
-defines_bounds : {o : Bool} {scope : List Bound} {d : ℕ} {ts r : List Token} {ds : List Definition} (a : DefinitionAt o scope d ts ds r) → (7 ≤ defines a) × (defines a ≤ 11)
+pub defines_bounds : {o : Bool} {scope : List Bound} {d : ℕ} {ts r : List Token} {ds : List Definition} (a : DefinitionAt o scope d ts ds r) → (7 ≤ defines a) × (defines a ≤ 11)
 unfolding defines
 defines_bounds (of_start a p m) = (omega arith, omega arith)
 defines_bounds (of_name a p m) = (omega arith, omega arith)
 defines_bounds (div a b m c) = (omega arith, omega arith)
 
-brace_kind : {w : Word} → w ≡ mark 0x7D → word_kind w ≡ 21
+pub brace_kind : {w : Word} → w ≡ mark 0x7D → word_kind w ≡ 21
 unfolding word_kind
 brace_kind e = ap word_kind e
 
-no_definition_at_brace : {o : Bool} {scope : List Bound} {d : ℕ} {t : Token} {ts r : List Token} {ds : List Definition} → IsMark 0x7D t → DefinitionAt o scope d (t ∷ ts) ds r → ⊥
+pub no_definition_at_brace : {o : Bool} {scope : List Bound} {d : ℕ} {t : Token} {ts r : List Token} {ds : List Definition} → IsMark 0x7D t → DefinitionAt o scope d (t ∷ ts) ds r → ⊥
 unfolding kind_at
 no_definition_at_brace e a = omega (arith, brace_kind e, definition_kind a, (defines_bounds a).1)
 
-no_definition_at_end : {o : Bool} {scope : List Bound} {d : ℕ} {r : List Token} {ds : List Definition} → DefinitionAt o scope d [] ds r → ⊥
+pub no_definition_at_end : {o : Bool} {scope : List Bound} {d : ℕ} {r : List Token} {ds : List Definition} → DefinitionAt o scope d [] ds r → ⊥
 unfolding kind_at
 no_definition_at_end a = omega (arith, definition_kind a, (defines_bounds a).0)
 
@@ -188,7 +188,7 @@ one_is {n} {m} {j} {k} {p} {q} place a b c = ap (λ z. one_definition z j p plac
 mutual
   unfolding defines
 
-  definition_unique : {o : Bool} {scope : List Bound} {d d' : ℕ} {ts r s : List Token} {ds es : List Definition} → DefinitionAt o scope d ts ds r → DefinitionAt o scope d' ts es s → (ds ≡ es) × (r ≡ s)
+  pub definition_unique : {o : Bool} {scope : List Bound} {d d' : ℕ} {ts r s : List Token} {ds es : List Definition} → DefinitionAt o scope d ts ds r → DefinitionAt o scope d' ts es s → (ds ≡ es) × (r ≡ s)
   definition_unique {o} {scope} {d' = d'} {s = s} (of_start {t = t} a p m) (of_start {p = q} b u n) =
       let operators = operator_unique p u in
       let both = pattern_unique m (subst (λ z. PatternAt o scope d' z q s) (sym operators.1) n) in
@@ -200,7 +200,7 @@ mutual
   definition_unique (div a b m c) (div a' b' m' c') = let inner = definitions_unique m m' in (inner.0, same_tail inner.1)
   definition_unique a b = absurd (omega (arith, definition_kind a, definition_kind b))
 
-  definitions_unique : {o : Bool} {scope : List Bound} {d d' : ℕ} {ts r s : List Token} {ds es : List Definition} → DefinitionsAt o scope d ts ds r → DefinitionsAt o scope d' ts es s → (ds ≡ es) × (r ≡ s)
+  pub definitions_unique : {o : Bool} {scope : List Bound} {d d' : ℕ} {ts r s : List Token} {ds es : List Definition} → DefinitionsAt o scope d ts ds r → DefinitionsAt o scope d' ts es s → (ds ≡ es) × (r ≡ s)
   definitions_unique at_end at_end = (refl, refl)
   definitions_unique at_end (more a m) = absurd (no_definition_at_end a)
   definitions_unique (at_brace e) (at_brace f) = (refl, refl)
@@ -216,7 +216,7 @@ item_kind : {o : Bool} {scope : List Bound} {d : ℕ} {ts r : List Token} {p : S
 item_kind (bare a h) = (omega (arith, primary_kind a, (rule_bounds a).0), omega (arith, primary_kind a, (rule_bounds a).1))
 item_kind (with_suffix a h) = (omega (arith, primary_kind a, (rule_bounds a).0), omega (arith, primary_kind a, (rule_bounds a).1))
 
-pattern_kind : {o : Bool} {scope : List Bound} {d : ℕ} {ts r : List Token} {p : SyntaxPattern} → PatternAt o scope d ts p r → (1 ≤ kind_at ts) × (kind_at ts ≤ 9)
+pub pattern_kind : {o : Bool} {scope : List Bound} {d : ℕ} {ts r : List Token} {p : SyntaxPattern} → PatternAt o scope d ts p r → (1 ≤ kind_at ts) × (kind_at ts ≤ 9)
 pattern_kind (alone a h) = item_kind a
 pattern_kind (several a e m) = item_kind a
 
@@ -225,20 +225,20 @@ items_kind (last a h) = item_kind a
 items_kind (and_more a e m) = item_kind a
 
 -- a reference is one token
-reference_rest : {o : Bool} {scope : List Bound} {d : ℕ} {t : Token} {ts r : List Token} {p : SyntaxPattern} {n : List ℕ} → identifier t.word ≡ Some n → PrimaryAt o scope d (t ∷ ts) p r → ts ≡ r
+pub reference_rest : {o : Bool} {scope : List Bound} {d : ℕ} {t : Token} {ts r : List Token} {p : SyntaxPattern} {n : List ℕ} → identifier t.word ≡ Some n → PrimaryAt o scope d (t ∷ ts) p r → ts ≡ r
 reference_rest {o} {scope} {d} {t} {ts} {n = n} e a = let one : PrimaryAt o scope d (t ∷ ts) (ref n t.place) ts = reference e in (primary_unique one a).1
 
-equals_kind : {w : Word} → w ≡ mark 0x3D → word_kind w ≡ 20
+pub equals_kind : {w : Word} → w ≡ mark 0x3D → word_kind w ≡ 20
 unfolding word_kind
 equals_kind e = ap word_kind e
 
 -- an operator is no suffix, and no pattern goes on with one
-no_suffix : {ts r : List Token} {j : Joins} → OperatorAt ts j r → suffix_at ts ≡ None
+pub no_suffix : {ts r : List Token} {j : Joins} → OperatorAt ts j r → suffix_at ts ≡ None
 no_suffix (equals e) = ap suffix_of e
 no_suffix (bar_equals e f g) = ap suffix_of e
 no_suffix (ampersand_equals e f g) = ap suffix_of e
 
-no_items : {o : Bool} {scope : List Bound} {c : Connector} {d : ℕ} {t : Token} {ts us r s : List Token} {j : Joins} {ps : SyntaxPatterns}
+pub no_items : {o : Bool} {scope : List Bound} {c : Connector} {d : ℕ} {t : Token} {ts us r s : List Token} {j : Joins} {ps : SyntaxPatterns}
     → OperatorAt us j r → us ≡ t ∷ ts → connector_of t.word ≡ Some c → ItemsAt o scope c d ts ps s → ⊥
 unfolding kind_at
 no_items (equals e) is k m = some_none k (ap (λ z. connector_of z.word) (sym (same_head is)) ∙ ap connector_of e)
@@ -256,21 +256,21 @@ no_operator_at_end a = by a (operator_is a)
     by (bar_equals e f g) h = omega (arith, h)
     by (ampersand_equals e f g) h = omega (arith, h)
 
-no_pattern_before_operator : {o : Bool} {scope : List Bound} {d : ℕ} {t : Token} {ts r : List Token} {p : SyntaxPattern} {n : List ℕ} {j : Joins}
+pub no_pattern_before_operator : {o : Bool} {scope : List Bound} {d : ℕ} {t : Token} {ts r : List Token} {p : SyntaxPattern} {n : List ℕ} {j : Joins}
     → identifier t.word ≡ Some n → OperatorAt ts j r → PatternAt o scope d (t ∷ ts) p [] → ⊥
 no_pattern_before_operator {r = r} {j = j} e o (alone (bare a h) k) = no_operator_at_end (subst (λ z. OperatorAt z j r) (reference_rest e a) o)
 no_pattern_before_operator e o (alone (with_suffix a h) k) = lacks_suffix (no_suffix o) (reference_rest e a) h
 no_pattern_before_operator e o (several (bare a h) k m) = no_items o (reference_rest e a) k m
 no_pattern_before_operator e o (several (with_suffix a h) k m) = lacks_suffix (no_suffix o) (reference_rest e a) h
 
-no_pattern_is_definitions : {o : Bool} {scope : List Bound} {d d' : ℕ} {ts : List Token} {p : SyntaxPattern} {ds : List Definition} → PatternAt o scope d ts p [] → DefinitionsAt o scope d' ts ds [] → ⊥
+pub no_pattern_is_definitions : {o : Bool} {scope : List Bound} {d d' : ℕ} {ts : List Token} {p : SyntaxPattern} {ds : List Definition} → PatternAt o scope d ts p [] → DefinitionsAt o scope d' ts ds [] → ⊥
 unfolding kind_at defines
 no_pattern_is_definitions a at_end = omega (arith, (pattern_kind a).0)
 no_pattern_is_definitions a (more (of_start e p m) n) = omega (arith, start_kind e, (pattern_kind a).1)
 no_pattern_is_definitions a (more (of_name e p m) n) = no_pattern_before_operator e p a
 no_pattern_is_definitions a (more (div e f m g) n) = omega (arith, div_kind e, (pattern_kind a).1)
 
-definitions_kind : {o : Bool} {scope : List Bound} {d : ℕ} {ts : List Token} {ds : List Definition} → DefinitionsAt o scope d ts ds [] → kind_at ts ≤ 11
+pub definitions_kind : {o : Bool} {scope : List Bound} {d : ℕ} {ts : List Token} {ds : List Definition} → DefinitionsAt o scope d ts ds [] → kind_at ts ≤ 11
 unfolding kind_at
 definitions_kind at_end = omega arith
 definitions_kind (more a m) = omega (arith, definition_kind a, (defines_bounds a).1)

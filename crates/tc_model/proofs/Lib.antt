@@ -25,6 +25,7 @@ pub mod XmlTextTrees
 pub mod XmlTextDocument
 pub mod PathTextLexing
 pub mod PathTextUnique
+pub mod SheetTextUnique
 pub mod StatesJoins
 pub mod StatesRepeats
 pub mod StatesShuffles
@@ -34,6 +35,8 @@ pub mod CompactSyntaxTokensUnique
 pub mod CompactSyntaxClassesUnique
 pub mod CompactSyntaxUnique
 pub mod SimplifiesUnique
+pub mod SimplifiesFaults
 pub mod CompactSyntaxTokensLawful
+pub mod CompactSyntaxOrdered
 pub mod CompactSyntaxLawful
 pub mod SimplifiesLawful

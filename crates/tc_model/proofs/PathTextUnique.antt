@@ -9,14 +9,14 @@ use Rattle.tc_model.specs.Sheets.{NodeTest, of_name, of_namespace, Steps, no_ste
 use Rattle.tc_model.specs.XmlTextBytes.{after_white}
 use Rattle.tc_model.specs.XmlTextNames.{QualifiedName}
 use Rattle.tc_model.specs.PathTextTokens.{Mark, star, slash, slashes, bar, open_parenthesis, close_parenthesis, dot, colons, Token, name, all_of_prefix, mark}
-use Rattle.tc_model.specs.PathTextPhrases.{word, Lacks, EndsNameTest, NameMeans, without_prefix, with_prefix, NodeTestAt, a_name, a_namespace, a_star, a_text, a_node, ChildAt, abbreviated, spelled, AttributeTestAt, AttributeAt, OtherNodeAt, a_comment, an_instruction, Form, lone, longer, dropped, lengthened, form_with, conjunction, disjunction, alternative_before, is_dropped, StepsAt, attribute_step, last_step, child_step, descendant_step, PredicatesAt, no_predicate, predicate, AlternativeAt, from_children, from_descendants, other_node, SelectAt, last_alternative, one_alternative, PrimaryAt, a_path, a_negation, a_truth, a_falsehood, in_parentheses, AndAt, last_primary, one_primary, OrAt, last_conjunction, one_conjunction, Alternative, priority_otherwise, default_priority, unless_dropped, EndsAlternative, at_end, at_bar, PatternAlternativeAt, root_alone, relative, from_root, below_root, PatternAt}
+use Rattle.tc_model.specs.PathTextPhrases.{word, Lacks, EndsNameTest, NameMeans, without_prefix, with_prefix, NodeTestAt, a_name, a_namespace, a_star, a_text, a_node, ChildAt, abbreviated, spelled, AttributeTestAt, AttributeAt, OtherNodeAt, a_comment, an_instruction, Form, lone, longer, dropped, lengthened, form_with, conjunction, disjunction, alternative_before, is_dropped, StepsAt, attribute_step, last_step, child_step, descendant_step, PredicatesAt, no_predicate, predicate, AlternativeAt, from_children, from_descendants, other_node, SelectAt, last_alternative, one_alternative, AttributesAlternativeAt, attributes_of_children, attributes_of_descendants, AttributesAt, last_attributes, one_attributes, PrimaryAt, a_path, a_negation, a_truth, a_falsehood, in_parentheses, AndAt, last_primary, one_primary, OrAt, last_conjunction, one_conjunction, Alternative, priority_otherwise, default_priority, unless_dropped, EndsAlternative, at_end, at_bar, PatternAlternativeAt, root_alone, relative, from_root, below_root, PatternAt}
 use Rattle.tc_model.specs.PathTextPhrases as p
-use Rattle.tc_model.specs.PathText.{IsValue, of_self, of_path, IsTest, of_tests, SelectText, ValueText, PatternText, TestText}
+use Rattle.tc_model.specs.PathText.{IsValue, of_self, of_path, IsTest, of_tests, SelectText, AttributesText, ValueText, PatternText, TestText}
 use Rattle.tc_model.specs.PathTextPriority.{digits_before, FractionAt, no_point, a_point, Unsigned, PriorityText, positive, negative}
 use Rattle.tc_model.proofs.XmlTextPhrases.{same_others as same_bytes}
 use Rattle.tc_model.proofs.PathTextLexing.{tokens_unique}
 
-same_some : {X : Type 0} {c d : X} {o : Option X} → o ≡ Some c → o ≡ Some d → c ≡ d
+pub same_some : {X : Type 0} {c d : X} {o : Option X} → o ≡ Some c → o ≡ Some d → c ≡ d
 same_some p q = cc
 
 -- the tokens behind the first
@@ -37,11 +37,11 @@ deep_first (mark slashes ∷ ts) = true
 deep_first (mark m ∷ ts) = false
 deep_first (t ∷ ts) = false
 
-slash_is_not_slashes : {ts us : List Token} → mark slash ∷ ts ≡ mark slashes ∷ us → ⊥
+pub slash_is_not_slashes : {ts us : List Token} → mark slash ∷ ts ≡ mark slashes ∷ us → ⊥
 unfolding deep_first
 slash_is_not_slashes e = false≢true (ap deep_first e)
 
-name_means_unique : {scope : List Bound} {n : QualifiedName} {m k : ExpandedName} → NameMeans scope n m → NameMeans scope n k → m ≡ k
+pub name_means_unique : {scope : List Bound} {n : QualifiedName} {m k : ExpandedName} → NameMeans scope n m → NameMeans scope n k → m ≡ k
 name_means_unique without_prefix without_prefix = refl
 name_means_unique (with_prefix {local = l} e) (with_prefix f) = let full : List ℕ → ExpandedName = λ u. record { uri = u; local = l } in ap full (same_some e f)
 
@@ -57,7 +57,7 @@ node_test_unique (a_node {after = r}) (a_name a e) = absurd (e.0 (mark close_par
 node_test_unique a_node a_node = (refl, refl)
 
 -- no node test begins with an axis
-no_axis : {scope : List Bound} {w : List ℕ} {ts r : List Token} {t : NodeTest} → NodeTestAt scope (word w ∷ mark colons ∷ ts) t r → ⊥
+pub no_axis : {scope : List Bound} {w : List ℕ} {ts r : List Token} {t : NodeTest} → NodeTestAt scope (word w ∷ mark colons ∷ ts) t r → ⊥
 no_axis {ts = ts} (a_name a e) = e.1 ts refl
 
 pub child_unique : {scope : List Bound} {ts r s : List Token} {t u : NodeTest} → ChildAt scope ts t r → ChildAt scope ts u s → (t ≡ u) × (r ≡ s)
@@ -66,52 +66,52 @@ child_unique (abbreviated a) (spelled b) = absurd (no_axis a)
 child_unique (spelled a) (abbreviated b) = absurd (no_axis b)
 child_unique (spelled a) (spelled b) = node_test_unique a b
 
-attribute_test_unique : {scope : List Bound} {ts r s : List Token} → AttributeTestAt scope ts r → AttributeTestAt scope ts s → r ≡ s
+pub attribute_test_unique : {scope : List Bound} {ts r s : List Token} → AttributeTestAt scope ts r → AttributeTestAt scope ts s → r ≡ s
 attribute_test_unique (p.AttributeTestAt.a_name a) (p.AttributeTestAt.a_name b) = refl
 attribute_test_unique (p.AttributeTestAt.a_namespace e) (p.AttributeTestAt.a_namespace f) = refl
 attribute_test_unique p.AttributeTestAt.a_star p.AttributeTestAt.a_star = refl
 
-attribute_unique : {scope : List Bound} {ts r s : List Token} → AttributeAt scope ts r → AttributeAt scope ts s → r ≡ s
+pub attribute_unique : {scope : List Bound} {ts r s : List Token} → AttributeAt scope ts r → AttributeAt scope ts s → r ≡ s
 attribute_unique (p.AttributeAt.abbreviated a) (p.AttributeAt.abbreviated b) = attribute_test_unique a b
 attribute_unique (p.AttributeAt.spelled a) (p.AttributeAt.spelled b) = attribute_test_unique a b
 
 -- an attribute step is no child step
-no_child_attribute : {scope : List Bound} {ts r s : List Token} {t : NodeTest} → AttributeAt scope ts r → ChildAt scope ts t s → ⊥
+pub no_child_attribute : {scope : List Bound} {ts r s : List Token} {t : NodeTest} → AttributeAt scope ts r → ChildAt scope ts t s → ⊥
 no_child_attribute (p.AttributeAt.abbreviated a) (abbreviated n) = elim n [ ]
 no_child_attribute (p.AttributeAt.spelled a) (abbreviated n) = no_axis n
 
-other_unique : {ts r s : List Token} → OtherNodeAt ts r → OtherNodeAt ts s → r ≡ s
+pub other_unique : {ts r s : List Token} → OtherNodeAt ts r → OtherNodeAt ts s → r ≡ s
 other_unique a_comment a_comment = refl
 other_unique an_instruction an_instruction = refl
 
 -- what a path begins with
-data Opens (scope : List Bound) : List Token → Type 0 where
+pub data Opens (scope : List Bound) : List Token → Type 0 where
   child_opens : {ts r : List Token} {t : NodeTest} → ChildAt scope ts t r → Opens scope ts
   attribute_opens : {ts r : List Token} → AttributeAt scope ts r → Opens scope ts
 
-steps_open : {scope : List Bound} {deep : Bool} {ts r : List Token} {ss : Steps} {f : Form} → StepsAt scope deep ts ss f r → Opens scope ts
+pub steps_open : {scope : List Bound} {deep : Bool} {ts r : List Token} {ss : Steps} {f : Form} → StepsAt scope deep ts ss f r → Opens scope ts
 steps_open (attribute_step a) = attribute_opens a
 steps_open (last_step a u h k) = child_opens a
 steps_open (child_step a u s) = child_opens a
 steps_open (descendant_step a u s) = child_opens a
 
-no_child_mark : {scope : List Bound} {m : Mark} {ts r : List Token} {t : NodeTest} → ChildAt scope (mark m ∷ ts) t r → m ≡ star
+pub no_child_mark : {scope : List Bound} {m : Mark} {ts r : List Token} {t : NodeTest} → ChildAt scope (mark m ∷ ts) t r → m ≡ star
 no_child_mark (abbreviated a_star) = refl
 
 -- a call is no step
-no_child_call : {scope : List Bound} {w : List ℕ} {ts r : List Token} {t : NodeTest} → ChildAt scope (word w ∷ mark open_parenthesis ∷ ts) t r → (w ≡ codes "text") ⊎ (w ≡ codes "node")
+pub no_child_call : {scope : List Bound} {w : List ℕ} {ts r : List Token} {t : NodeTest} → ChildAt scope (word w ∷ mark open_parenthesis ∷ ts) t r → (w ≡ codes "text") ⊎ (w ≡ codes "node")
 no_child_call {ts = ts} (abbreviated (a_name a e)) = absurd (e.0 ts refl)
 no_child_call (abbreviated a_text) = inl refl
 no_child_call (abbreviated a_node) = inr refl
 
-no_attribute_call : {scope : List Bound} {w : List ℕ} {ts r : List Token} → AttributeAt scope (word w ∷ mark open_parenthesis ∷ ts) r → ⊥
+pub no_attribute_call : {scope : List Bound} {w : List ℕ} {ts r : List Token} → AttributeAt scope (word w ∷ mark open_parenthesis ∷ ts) r → ⊥
 no_attribute_call a = elim a [ ]
 
 -- the words of the node tests that are spelled as calls
-abbrev is_type : List ℕ → Bool
+abbrev pub is_type : List ℕ → Bool
 is_type w = bytes_eq w (codes "text") || bytes_eq w (codes "node")
 
-no_path_call : {scope : List Bound} {w : List ℕ} {ts : List Token} → is_type w ≡ false → Opens scope (word w ∷ mark open_parenthesis ∷ ts) → ⊥
+pub no_path_call : {scope : List Bound} {w : List ℕ} {ts : List Token} → is_type w ≡ false → Opens scope (word w ∷ mark open_parenthesis ∷ ts) → ⊥
 no_path_call e (attribute_opens a) = no_attribute_call a
 no_path_call {w = w} e (child_opens a) = by (no_child_call a)
   where
@@ -119,27 +119,27 @@ no_path_call {w = w} e (child_opens a) = by (no_child_call a)
     by (inl f) = true≢false (sym (ap is_type f) ∙ e)
     by (inr f) = true≢false (sym (ap is_type f) ∙ e)
 
-no_path_dot : {scope : List Bound} {ts : List Token} → Opens scope (mark dot ∷ ts) → ⊥
+pub no_path_dot : {scope : List Bound} {ts : List Token} → Opens scope (mark dot ∷ ts) → ⊥
 no_path_dot (child_opens (abbreviated a)) = elim a [ ]
 no_path_dot (attribute_opens a) = elim a [ ]
 
-no_path_parenthesis : {scope : List Bound} {ts : List Token} → Opens scope (mark open_parenthesis ∷ ts) → ⊥
+pub no_path_parenthesis : {scope : List Bound} {ts : List Token} → Opens scope (mark open_parenthesis ∷ ts) → ⊥
 no_path_parenthesis (child_opens (abbreviated a)) = elim a [ ]
 no_path_parenthesis (attribute_opens a) = elim a [ ]
 
-no_path_slash : {scope : List Bound} {ts : List Token} → Opens scope (mark slash ∷ ts) → ⊥
+pub no_path_slash : {scope : List Bound} {ts : List Token} → Opens scope (mark slash ∷ ts) → ⊥
 no_path_slash (child_opens (abbreviated a)) = elim a [ ]
 no_path_slash (attribute_opens a) = elim a [ ]
 
-no_path_slashes : {scope : List Bound} {ts : List Token} → Opens scope (mark slashes ∷ ts) → ⊥
+pub no_path_slashes : {scope : List Bound} {ts : List Token} → Opens scope (mark slashes ∷ ts) → ⊥
 no_path_slashes (child_opens (abbreviated a)) = elim a [ ]
 no_path_slashes (attribute_opens a) = elim a [ ]
 
-no_other_path : {scope : List Bound} {ts r : List Token} → OtherNodeAt ts r → Opens scope ts → ⊥
+pub no_other_path : {scope : List Bound} {ts r : List Token} → OtherNodeAt ts r → Opens scope ts → ⊥
 no_other_path a_comment a = no_path_call refl a
 no_other_path an_instruction a = no_path_call refl a
 
-no_select_call : {scope : List Bound} {w : List ℕ} {ts r : List Token} {q : Path} → is_type w ≡ false → SelectAt scope (word w ∷ mark open_parenthesis ∷ ts) q false r → ⊥
+pub no_select_call : {scope : List Bound} {w : List ℕ} {ts r : List Token} {q : Path} → is_type w ≡ false → SelectAt scope (word w ∷ mark open_parenthesis ∷ ts) q false r → ⊥
 no_select_call e a = none e a refl
   where
     alternative_none : {scope : List Bound} {w : List ℕ} {ts r : List Token} {ss : Steps} {f : Form} → is_type w ≡ false
@@ -152,7 +152,7 @@ no_select_call e a = none e a refl
     none e (last_alternative a h) f = true≢false (sym (alternative_none e a) ∙ f)
     none e (one_alternative {drops = d} a b) f = true≢false (sym (ap (λ x. x || d) (alternative_none e a)) ∙ f)
 
-no_select_parenthesis : {scope : List Bound} {ts r : List Token} {q : Path} {d : Bool} → SelectAt scope (mark open_parenthesis ∷ ts) q d r → ⊥
+pub no_select_parenthesis : {scope : List Bound} {ts r : List Token} {q : Path} {d : Bool} → SelectAt scope (mark open_parenthesis ∷ ts) q d r → ⊥
 no_select_parenthesis (last_alternative a h) = none a
   where
     none : {scope : List Bound} {ts r : List Token} {ss : Steps} {f : Form} → AlternativeAt scope (mark open_parenthesis ∷ ts) ss f r → ⊥
@@ -164,13 +164,13 @@ no_select_parenthesis (one_alternative a b) = none a
     none (from_children a) = no_path_parenthesis (steps_open a)
     none (other_node a) = elim a [ ]
 
-no_path_end : {scope : List Bound} {ts : List Token} → EndsAlternative ts → Opens scope ts → ⊥
+pub no_path_end : {scope : List Bound} {ts : List Token} → EndsAlternative ts → Opens scope ts → ⊥
 no_path_end at_end (child_opens (abbreviated a)) = elim a [ ]
 no_path_end at_end (attribute_opens a) = elim a [ ]
 no_path_end at_bar (child_opens (abbreviated a)) = elim a [ ]
 no_path_end at_bar (attribute_opens a) = elim a [ ]
 
-no_select_dot : {scope : List Bound} {r : List Token} {q : Path} {d : Bool} → SelectAt scope (mark dot ∷ []) q d r → ⊥
+pub no_select_dot : {scope : List Bound} {r : List Token} {q : Path} {d : Bool} → SelectAt scope (mark dot ∷ []) q d r → ⊥
 no_select_dot (last_alternative a h) = none a
   where
     none : {scope : List Bound} {r : List Token} {ss : Steps} {f : Form} → AlternativeAt scope (mark dot ∷ []) ss f r → ⊥
@@ -312,7 +312,7 @@ module _ (scope : List Bound) where
         let two = or_unique c (subst (λ w. OrAt scope w vs' s) (sym (same_others one.1)) e) in
         (ap (λ w. test (conjunction w) vs) one.0 ∙ ap (test (conjunction us')) two.0, two.1)
 
-alternative_of_pattern_unique : {scope : List Bound} {ts r s : List Token} {xs ys : List Alternative}
+pub alternative_of_pattern_unique : {scope : List Bound} {ts r s : List Token} {xs ys : List Alternative}
     → PatternAlternativeAt scope ts xs r → PatternAlternativeAt scope ts ys s → (xs ≡ ys) × (r ≡ s)
 alternative_of_pattern_unique (root_alone e) (root_alone f) = (refl, refl)
 alternative_of_pattern_unique (root_alone e) (relative a) = absurd (no_path_slash (steps_open a))
@@ -342,7 +342,7 @@ alternative_of_pattern_unique (p.PatternAlternativeAt.other_node b) (from_root a
 alternative_of_pattern_unique (p.PatternAlternativeAt.other_node b) (below_root a) = elim b [ ]
 alternative_of_pattern_unique (p.PatternAlternativeAt.other_node a) (p.PatternAlternativeAt.other_node b) = (refl, other_unique a b)
 
-nothing_is_bar : {rest : List Token} → [] ≡ mark bar ∷ rest → ⊥
+pub nothing_is_bar : {rest : List Token} → [] ≡ mark bar ∷ rest → ⊥
 nothing_is_bar e = omega (arith, ap length e)
 
 pub pattern_unique : {scope : List Bound} {ts : List Token} {xs ys : List Alternative} → PatternAt scope ts xs → PatternAt scope ts ys → xs ≡ ys
@@ -360,7 +360,24 @@ select_text_unique {scope} {r = r} a b =
     let moved = subst (λ w. SelectAt scope w r b.phrase.drops []) (sym (tokens_unique a.are_tokens b.are_tokens)) b.phrase.select in
     (select_unique scope a.phrase.select moved).0
 
-is_value_unique : {scope : List Bound} {ts : List Token} {v w : Body} → IsValue scope v ts → IsValue scope w ts → v ≡ w
+attributes_alternative : {scope : List Bound} {ts r : List Token} → AttributesAlternativeAt scope ts r → (ss : Steps) × AlternativeAt scope ts ss dropped r
+attributes_alternative (attributes_of_children {ss = ss} a) = (ss, from_children a)
+attributes_alternative (attributes_of_descendants {ss = ss} a) = (ss, from_descendants a)
+
+-- attributes alone are a select of nothing
+pub attributes_select : {scope : List Bound} {ts r : List Token} → AttributesAt scope ts r → SelectAt scope ts no_alternative true r
+attributes_select (last_attributes a h) = last_alternative (attributes_alternative a).1 h
+attributes_select (one_attributes a b) = one_alternative (attributes_alternative a).1 (attributes_select b)
+
+pub attributes_text_select : {scope : List Bound} {text : List ℕ} → AttributesText scope text → SelectText scope text no_alternative
+attributes_text_select a = record {
+  tokens = a.tokens;
+  are_tokens = a.are_tokens;
+  not_too_deep = a.not_too_deep;
+  phrase = record { drops = true; select = attributes_select a.phrase };
+}
+
+pub is_value_unique : {scope : List Bound} {ts : List Token} {v w : Body} → IsValue scope v ts → IsValue scope w ts → v ≡ w
 is_value_unique of_self of_self = refl
 is_value_unique of_self (of_path a) = absurd (no_select_dot a)
 is_value_unique (of_path a) of_self = absurd (no_select_dot a)
@@ -374,20 +391,20 @@ value_text_unique {scope} {w = w} a b = is_value_unique a.phrase (subst (λ z. I
 pub pattern_text_unique : {scope : List Bound} {text : List ℕ} {xs ys : List Alternative} → PatternText scope text xs → PatternText scope text ys → xs ≡ ys
 pattern_text_unique {scope} {ys = ys} a b = pattern_unique a.phrase (subst (λ z. PatternAt scope z ys) (sym (tokens_unique a.are_tokens b.are_tokens)) b.phrase)
 
-is_test_unique : {scope : List Bound} {ts : List Token} {t u : Test} → IsTest scope t ts → IsTest scope u ts → t ≡ u
+pub is_test_unique : {scope : List Bound} {ts : List Token} {t u : Test} → IsTest scope t ts → IsTest scope u ts → t ≡ u
 is_test_unique {scope} (of_tests a) (of_tests b) = ap disjunction (or_unique scope a b).0
 
 -- a text has at most one test
 pub test_text_unique : {scope : List Bound} {text : List ℕ} {t u : Test} → TestText scope text t → TestText scope text u → t ≡ u
 test_text_unique {scope} {u = u} a b = is_test_unique a.phrase (subst (λ z. IsTest scope u z) (sym (tokens_unique a.are_tokens b.are_tokens)) b.phrase)
 
-point_unique : {bs f f' e e' : List ℕ} → FractionAt bs f e → FractionAt bs f' e' → f ≡ f'
+pub point_unique : {bs f f' e e' : List ℕ} → FractionAt bs f e → FractionAt bs f' e' → f ≡ f'
 point_unique (no_point h) (no_point k) = refl
 point_unique (no_point h) (a_point {r = r}) = absurd (h r refl)
 point_unique (a_point {r = r}) (no_point h) = absurd (h r refl)
 point_unique a_point a_point = refl
 
-unsigned_unique : {bs : List ℕ} {v w : ℕ} → Unsigned bs v → Unsigned bs w → v ≡ w
+pub unsigned_unique : {bs : List ℕ} {v w : ℕ} → Unsigned bs v → Unsigned bs w → v ≡ w
 unsigned_unique {bs} a b =
     a.is_value ∙ (ap (λ f. digits_value 10 (digits_before bs) * 10000 + digits_value 10 f * 10 ^ (4 - length f)) (point_unique a.fraction_at b.fraction_at) ∙ sym b.is_value)
 

@@ -60,7 +60,7 @@ joined_lawful most (d ∷ f ∷ ds) q h e = by (list_any (λ z. is_choice z.join
     by false e = let lawful : IsLawfulPattern most (interleave (bodies_of (d ∷ f ∷ ds))) = (λ z. no_empty z, bodies) in subst (IsLawfulPattern most) (same_some refl e) lawful
 
 pattern_lawful : (s : Syntax) (n : List ℕ) (q : SyntaxPattern) → IsLawfulSyntax s → pattern_of s n ≡ Some q → IsLawfulPattern s.end q
-pattern_lawful s n q h e = joined_lawful s.end (definitions_of s.definitions n) q (chosen_lawful s.end n s.definitions h) e
+pattern_lawful s n q h e = joined_lawful s.end (definitions_of s.definitions n) q (chosen_lawful s.end n s.definitions h.definitions) e
 
 among_lawful : (most : ℕ) (qs : SyntaxPatterns) (q : SyntaxPattern) → AreLawfulPatterns most qs → IsAmong qs q → IsLawfulPattern most q
 among_lawful most no_more q h m = absurd m

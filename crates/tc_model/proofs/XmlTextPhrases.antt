@@ -14,11 +14,11 @@ use Rattle.tc_model.specs.XmlTextReferences.{predefined, is_digit, EntityAt, Ref
 use Rattle.tc_model.specs.XmlTextMisc.{CommentAt, InstructionAt, SettingAt, EncodingAt, no_encoding, encoding, StandaloneAt, no_standalone, standalone, DeclarationAt, no_declaration, declaration, MiscAt, no_more, comment, instruction, ExternalIdAt, no_id, system, public, DoctypeFrontAt, DoctypeAt, no_doctype, doctype}
 
 -- the first byte and the others of equal bytes
-first : List ℕ → ℕ
+pub first : List ℕ → ℕ
 first [] = 0
 first (b ∷ bs) = b
 
-others : List ℕ → List ℕ
+pub others : List ℕ → List ℕ
 others [] = []
 others (b ∷ bs) = bs
 
@@ -106,22 +106,22 @@ qname_unique {s = s} (prefixed {prefix = p} {rest = rest} {local = k} a a') (pre
     let name : List ℕ → List ℕ → QualifiedName = λ v w. record { prefix = v; local = w } in
     (ap (λ v. name v k) both.0 ∙ ap (name q) local.0, local.1)
 
-entity_unique : {bs n r m s : List ℕ} → EntityAt bs n r → EntityAt bs m s → (n ≡ m) × (r ≡ s)
+pub entity_unique : {bs n r m s : List ℕ} → EntityAt bs n r → EntityAt bs m s → (n ≡ m) × (r ≡ s)
 entity_unique {m = m} {s = s} a b =
     let both = ncname_unique a.names (subst (λ w. NcNameAt w m (0x3B ∷ s)) (same_others (sym b.opens ∙ a.opens)) b.names) in
     (both.0, same_others both.1)
 
 -- a character reference is no reference to an entity
-entity_no_hash : {bs n r : List ℕ} → EntityAt (0x26 ∷ 0x23 ∷ bs) n r → ⊥
+pub entity_no_hash : {bs n r : List ℕ} → EntityAt (0x26 ∷ 0x23 ∷ bs) n r → ⊥
 entity_no_hash {bs} {n} {r} a = no_name 0x23 (omega arith) refl (subst (λ w. NcNameAt w n (0x3B ∷ r)) (sym (same_others a.opens)) a.names)
 
-no_x_digit : {bs n r : List ℕ} → RunAt (is_digit 10) (0x78 ∷ bs) n r → ⊥
+pub no_x_digit : {bs n r : List ℕ} → RunAt (is_digit 10) (0x78 ∷ bs) n r → ⊥
 no_x_digit a = omega (arith, a.some)
 
-some_none : {c : ℕ} {o : Option ℕ} → o ≡ Some c → o ≡ None → ⊥
+pub some_none : {c : ℕ} {o : Option ℕ} → o ≡ Some c → o ≡ None → ⊥
 some_none p q = cc
 
-same_some : {c d : ℕ} {o : Option ℕ} → o ≡ Some c → o ≡ Some d → c ≡ d
+pub same_some : {c d : ℕ} {o : Option ℕ} → o ≡ Some c → o ≡ Some d → c ≡ d
 same_some p q = cc
 
 pub reference_unique : {o : Bool} {bs n r m s : List ℕ} → ReferenceAt o bs n r → ReferenceAt o bs m s → (n ≡ m) × (r ≡ s)
@@ -165,17 +165,17 @@ run_unless {p} {bs} {n} {r} b e a =
     let (c, rest, is, h) = run_first p (b ∷ bs) n r a in
     true≢false (sym h ∙ (ap p (sym (same_first is)) ∙ e))
 
-reference_no_quote : {o : Bool} {q : ℕ} {bs n r rest : List ℕ} → (q ≡ 0x22) ⊎ (q ≡ 0x27) → bs ≡ q ∷ rest → ReferenceAt o bs n r → ⊥
+pub reference_no_quote : {o : Bool} {q : ℕ} {bs n r rest : List ℕ} → (q ≡ 0x22) ⊎ (q ≡ 0x27) → bs ≡ q ∷ rest → ReferenceAt o bs n r → ⊥
 reference_no_quote (inl e) at a = let (rest, is) = reference_first a in omega (arith, e, same_first (sym at ∙ is))
 reference_no_quote (inr e) at a = let (rest, is) = reference_first a in omega (arith, e, same_first (sym at ∙ is))
 
-fails_at : (q : ℕ) → is_plain_within q q ≡ false
+pub fails_at : (q : ℕ) → is_plain_within q q ≡ false
 fails_at q = ap (λ x. not (x || q == 0x3C || q == 0x26)) (eq-eqb q q refl)
 
-no_run_at_quote : (q : ℕ) {bs n r rest : List ℕ} → bs ≡ q ∷ rest → RunAt (is_plain_within q) bs n r → ⊥
+pub no_run_at_quote : (q : ℕ) {bs n r rest : List ℕ} → bs ≡ q ∷ rest → RunAt (is_plain_within q) bs n r → ⊥
 no_run_at_quote q {bs} {n} {r} is a = run_unless q (fails_at q) (subst (λ w. RunAt (is_plain_within q) w n r) is a)
 
-reference_no_run : {o : Bool} (q : ℕ) {bs n r m s : List ℕ} → RunAt (is_plain_within q) bs m s → ReferenceAt o bs n r → ⊥
+pub reference_no_run : {o : Bool} (q : ℕ) {bs n r m s : List ℕ} → RunAt (is_plain_within q) bs m s → ReferenceAt o bs n r → ⊥
 reference_no_run {o} q {bs} {n} {r} {m} {s} a b =
     let (rest, is) = reference_first b in
     run_unless 0x26 (amp (0x26 == q)) (subst (λ w. RunAt (is_plain_within q) w m s) is a)
@@ -225,19 +225,19 @@ instruction_unique {s = s} a b =
     let names = ncname_unique a.names (subst (λ w. NcNameAt w b.target b.behind) same b.names) in
     (up_to_unique a.closes (subst (λ w. UpTo (codes "?>") w b.inside s) (sym names.1) b.closes)).1
 
-setting_unique : {word bs n r m s : List ℕ} → SettingAt word bs n r → SettingAt word bs m s → (n ≡ m) × (r ≡ s)
+pub setting_unique : {word bs n r m s : List ℕ} → SettingAt word bs n r → SettingAt word bs m s → (n ≡ m) × (r ≡ s)
 setting_unique {word} {m = m} {s = s} a b =
     let behind = append_cancel_left word b.behind a.behind (sym b.names ∙ a.names) in
     let start = equals_unique (subst (λ w. EqualsAt w b.start) behind b.equals) a.equals in
     literal_unique a.literal (subst (λ w. LiteralAt w m s) start b.literal)
 
-encoding_unique : {bs r s : List ℕ} → EncodingAt bs r → EncodingAt bs s → r ≡ s
+pub encoding_unique : {bs r s : List ℕ} → EncodingAt bs r → EncodingAt bs s → r ≡ s
 encoding_unique (no_encoding h) (no_encoding k) = refl
 encoding_unique (no_encoding h) (encoding a k) = absurd (h a.behind a.names)
 encoding_unique (encoding a k) (no_encoding h) = absurd (h a.behind a.names)
 encoding_unique (encoding a h) (encoding b k) = (setting_unique a b).1
 
-standalone_unique : {bs r s : List ℕ} → StandaloneAt bs r → StandaloneAt bs s → r ≡ s
+pub standalone_unique : {bs r s : List ℕ} → StandaloneAt bs r → StandaloneAt bs s → r ≡ s
 standalone_unique (no_standalone h) (no_standalone k) = refl
 standalone_unique (no_standalone h) (standalone a k) = absurd (h a.behind a.names)
 standalone_unique (standalone a k) (no_standalone h) = absurd (h a.behind a.names)
@@ -254,7 +254,7 @@ declaration_unique {bs} {r} {s} (declaration {rest = rest} {past_version = n} is
     let standing = standalone_unique t (subst (λ w. StandaloneAt w k') (sym encodings) t') in
     append_cancel_left (codes "?>") r s (sym q ∙ (ap after_white standing ∙ q'))
 
-comment_no_instruction : {bs r s : List ℕ} → CommentAt bs r → InstructionAt bs s → ⊥
+pub comment_no_instruction : {bs r s : List ℕ} → CommentAt bs r → InstructionAt bs s → ⊥
 comment_no_instruction a b = omega (arith, same_first (same_others (sym a.opens ∙ b.opens)))
 
 pub misc_unique : {bs r s : List ℕ} → MiscAt bs r → MiscAt bs s → r ≡ s
@@ -268,11 +268,11 @@ misc_unique (instruction a m) (no_more h) = absurd (h.1 a.rest a.opens)
 misc_unique (instruction a m) (comment b n) = absurd (comment_no_instruction b a)
 misc_unique {s = s} (instruction a m) (instruction b n) = misc_unique m (subst (λ w. MiscAt w s) (sym (instruction_unique a b)) n)
 
-no_word_end : {bs r rest : List ℕ} (c : ℕ) → c ≢ 0x3E → c ≢ 0x5B → (bs ≡ 0x3E ∷ r) ⊎ (bs ≡ 0x5B ∷ r) → bs ≡ c ∷ rest → ⊥
+pub no_word_end : {bs r rest : List ℕ} (c : ℕ) → c ≢ 0x3E → c ≢ 0x5B → (bs ≡ 0x3E ∷ r) ⊎ (bs ≡ 0x5B ∷ r) → bs ≡ c ∷ rest → ⊥
 no_word_end c h k (inl e) is = h (same_first (sym is ∙ e))
 no_word_end c h k (inr e) is = k (same_first (sym is ∙ e))
 
-external_unique : {bs r s : List ℕ} → ExternalIdAt bs r → ExternalIdAt bs s → r ≡ s
+pub external_unique : {bs r s : List ℕ} → ExternalIdAt bs r → ExternalIdAt bs s → r ≡ s
 external_unique (no_id h) (no_id k) = refl
 external_unique (no_id h) (system w is w' l) = absurd (no_word_end 0x53 (omega arith) (omega arith) h is)
 external_unique (no_id h) (public w is w' l w'' l') = absurd (no_word_end 0x50 (omega arith) (omega arith) h is)

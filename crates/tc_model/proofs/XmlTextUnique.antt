@@ -16,24 +16,24 @@ use Rattle.tc_model.specs.XmlTextContent.{Piece, nothing, characters, whole, pie
 use Rattle.tc_model.specs.XmlText.{Reads}
 use Rattle.tc_model.proofs.XmlTextPhrases.{same_first, same_others, equals_unique, no_qname, qname_unique, reference_unique, reference_first, run_first, quoted_unique, character_data_unique, cdata_unique, comment_unique, instruction_unique, declaration_unique, misc_unique, doctype_unique}
 
-same_some : {X : Type 0} {c d : X} {o : Option X} → o ≡ Some c → o ≡ Some d → c ≡ d
+pub same_some : {X : Type 0} {c d : X} {o : Option X} → o ≡ Some c → o ≡ Some d → c ≡ d
 same_some p q = cc
 
-some_none : {X : Type 0} {c : X} {o : Option X} → o ≡ Some c → o ≡ None → ⊥
+pub some_none : {X : Type 0} {c : X} {o : Option X} → o ≡ Some c → o ≡ None → ⊥
 some_none p q = cc
 
 -- what an empty prefix is
-empty_is : (p : List ℕ) → is_empty p ≡ true → p ≡ []
+pub empty_is : (p : List ℕ) → is_empty p ≡ true → p ≡ []
 empty_is [] e = refl
 empty_is (b ∷ p) e = absurd (true≢false (sym e))
 
-element_name_unique : {scope : List Bound} {name : QualifiedName} {m n : ExpandedName} → ElementName scope name m → ElementName scope name n → m ≡ n
+pub element_name_unique : {scope : List Bound} {name : QualifiedName} {m n : ExpandedName} → ElementName scope name m → ElementName scope name n → m ≡ n
 element_name_unique {name = name} (bound e) (bound f) = let full : List ℕ → ExpandedName = λ u. record { uri = u; local = name.local } in ap full (same_some e f)
 element_name_unique {scope} {name} (bound e) (unbound h f) = absurd (some_none (ap (uri_of scope) (sym (empty_is name.prefix h)) ∙ e) f)
 element_name_unique {scope} {name} (unbound h f) (bound e) = absurd (some_none (ap (uri_of scope) (sym (empty_is name.prefix h)) ∙ e) f)
 element_name_unique (unbound h f) (unbound k g) = refl
 
-expands_unique : {scope : List Bound} {written : List WrittenAttribute} {m n : List Attribute} → Expands scope written m → Expands scope written n → m ≡ n
+pub expands_unique : {scope : List Bound} {written : List WrittenAttribute} {m n : List Attribute} → Expands scope written m → Expands scope written n → m ≡ n
 expands_unique no_more no_more = refl
 expands_unique (declaration h k e) (declaration h' k' f) = expands_unique e f
 expands_unique (declaration h k e) (plain h' k' f) = absurd (true≢false (sym h ∙ h'))
@@ -48,11 +48,11 @@ expands_unique (with_prefix {a = a} {attributes = m} h k u e) (with_prefix {uri 
     let one : List ℕ → Attribute = λ w. record { name = record { uri = w; local = a.name.local }; value = a.value; place = a.place } in
     ap (λ w. one w ∷ m) (same_some u u') ∙ ap (λ w. one v ∷ w) (expands_unique e f)
 
-no_tag_end : {bs r : List ℕ} {n : QualifiedName} → EndsTag bs → QNameAt bs n r → ⊥
+pub no_tag_end : {bs r : List ℕ} {n : QualifiedName} → EndsTag bs → QNameAt bs n r → ⊥
 no_tag_end {r = r} {n = n} (inl (s, e)) a = no_qname 0x3E (omega arith) refl (subst (λ w. QNameAt w n r) e a)
 no_tag_end {r = r} {n = n} (inr (s, e)) a = no_qname 0x2F (omega arith) refl (subst (λ w. QNameAt w n r) e a)
 
-attributes_unique : {o : Bool} {total : ℕ} {bs r s : List ℕ} {m n : List WrittenAttribute} → AttributesAt o total bs m r → AttributesAt o total bs n s → (m ≡ n) × (r ≡ s)
+pub attributes_unique : {o : Bool} {total : ℕ} {bs r s : List ℕ} {m n : List WrittenAttribute} → AttributesAt o total bs m r → AttributesAt o total bs n s → (m ≡ n) × (r ≡ s)
 attributes_unique (c.no_more h) (c.no_more k) = (refl, refl)
 attributes_unique (c.no_more h) (attribute w a e v l) = absurd (no_tag_end h a)
 attributes_unique (attribute w a e v l) (c.no_more h) = absurd (no_tag_end h a)
@@ -65,14 +65,14 @@ attributes_unique {o} {total} {bs} {s = s} (attribute {value = value} {name = na
     (ap (λ q. one q value ∷ m) names.0 ∙ (ap (λ u. one name' u ∷ m) values.0 ∙ ap (λ z. one name' value' ∷ z) lists.0), lists.1)
 
 -- what two readings of a tag agree on
-record SameTag (written written' : QualifiedName) (scope scope' : List Bound) (name name' : ExpandedName) (expanded expanded' : List Attribute) (r s : List ℕ) : Type 0 where
-  same_written : written ≡ written'
-  same_scope : scope ≡ scope'
-  same_name : name ≡ name'
-  same_expanded : expanded ≡ expanded'
-  same_after : r ≡ s
+pub record SameTag (written written' : QualifiedName) (scope scope' : List Bound) (name name' : ExpandedName) (expanded expanded' : List Attribute) (r s : List ℕ) : Type 0 where
+  pub same_written : written ≡ written'
+  pub same_scope : scope ≡ scope'
+  pub same_name : name ≡ name'
+  pub same_expanded : expanded ≡ expanded'
+  pub same_after : r ≡ s
 
-tag_unique : {o : Bool} {total : ℕ} {outer : List Bound} {bs r s : List ℕ} {w w' : QualifiedName} {scope scope' : List Bound} {n n' : ExpandedName} {e e' : List Attribute}
+pub tag_unique : {o : Bool} {total : ℕ} {outer : List Bound} {bs r s : List ℕ} {w w' : QualifiedName} {scope scope' : List Bound} {n n' : ExpandedName} {e e' : List Attribute}
     → TagAt o total outer bs w scope n e r → TagAt o total outer bs w' scope' n' e' s → SameTag w w' scope scope' n n' e e' r s
 tag_unique {o} {total} {outer} {bs} {r} {s} {w} {w'} {scope} {scope'} {n} {n'} {e} {e'} a b =
     let names = qname_unique a.names (subst (λ z. QNameAt z w' b.past_name) (same_others (sym b.opens ∙ a.opens)) b.names) in
@@ -87,19 +87,19 @@ tag_unique {o} {total} {outer} {bs} {r} {s} {w} {w'} {scope} {scope'} {n} {n'} {
     }
 
 -- which item the first bytes begin
-bang : List ℕ → ℕ
+unfoldable pub bang : List ℕ → ℕ
 bang [] = 6
 bang (b ∷ bs) = cond (b == 0x5B) 4 (cond (b == 0x2D) 5 6)
 
-markup : List ℕ → ℕ
+unfoldable pub markup : List ℕ → ℕ
 markup [] = 6
 markup (b ∷ bs) = cond (b == 0x3F) 2 (cond (b == 0x21) (bang bs) 3)
 
-kind : List ℕ → ℕ
+unfoldable pub kind : List ℕ → ℕ
 kind [] = 6
 kind (b ∷ bs) = cond (b == 0x26) 1 (cond (b == 0x3C) (markup bs) 0)
 
-character_data_kind : {bs n r : List ℕ} → CharacterDataAt bs n r → kind bs ≡ 0
+pub character_data_kind : {bs n r : List ℕ} → CharacterDataAt bs n r → kind bs ≡ 0
 unfolding kind
 character_data_kind {bs} {n} {r} a =
     let (b, rest, is, h) = run_first is_plain bs n r a.plain in
@@ -111,33 +111,33 @@ character_data_kind {bs} {n} {r} a =
     by false true rest h = absurd (true≢false (sym h))
     by false false rest h = refl
 
-reference_kind : {o : Bool} {bs n r : List ℕ} → ReferenceAt o bs n r → kind bs ≡ 1
+pub reference_kind : {o : Bool} {bs n r : List ℕ} → ReferenceAt o bs n r → kind bs ≡ 1
 unfolding kind
 reference_kind a = let (rest, is) = reference_first a in ap kind is
 
-cdata_kind : {bs n r : List ℕ} → CdataAt bs n r → kind bs ≡ 4
+pub cdata_kind : {bs n r : List ℕ} → CdataAt bs n r → kind bs ≡ 4
 unfolding kind markup bang
 cdata_kind a = ap kind a.opens
 
-comment_kind : {bs r : List ℕ} → CommentAt bs r → kind bs ≡ 5
+pub comment_kind : {bs r : List ℕ} → CommentAt bs r → kind bs ≡ 5
 unfolding kind markup bang
 comment_kind a = ap kind a.opens
 
-instruction_kind : {bs r : List ℕ} → InstructionAt bs r → kind bs ≡ 2
+pub instruction_kind : {bs r : List ℕ} → InstructionAt bs r → kind bs ≡ 2
 unfolding kind markup
 instruction_kind a = ap kind a.opens
 
-no_empty_name : {n r : List ℕ} → NcNameAt [] n r → ⊥
+pub no_empty_name : {n r : List ℕ} → NcNameAt [] n r → ⊥
 no_empty_name {n} {r} a =
     let (c, cs, is_n, c_start, cs_chars) = a.lawful in
     let e : [] ≡ encode_utf8 c ++ (encode_utf8_all cs ++ r) = a.parts ∙ (ap (λ w. w ++ r) (sym is_n) ∙ append_assoc (encode_utf8 c) (encode_utf8_all cs) r) in
     omega (arith, ap length e, length-append (encode_utf8 c) (encode_utf8_all cs ++ r), length-encode c, len_utf8_bounds c)
 
-no_empty_qname : {r : List ℕ} {n : QualifiedName} → QNameAt [] n r → ⊥
+pub no_empty_qname : {r : List ℕ} {n : QualifiedName} → QNameAt [] n r → ⊥
 no_empty_qname (unprefixed a ends) = no_empty_name a
 no_empty_qname (prefixed a rest) = no_empty_name a
 
-name_kind : (bs : List ℕ) {r : List ℕ} {n : QualifiedName} → QNameAt bs n r → markup bs ≡ 3
+pub name_kind : (bs : List ℕ) {r : List ℕ} {n : QualifiedName} → QNameAt bs n r → markup bs ≡ 3
 unfolding markup
 name_kind [] a = absurd (no_empty_qname a)
 name_kind (b ∷ bs) {r} {n} a = by (b == 0x3F) (b == 0x21) refl refl
@@ -150,12 +150,12 @@ name_kind (b ∷ bs) {r} {n} a = by (b == 0x3F) (b == 0x21) refl refl
     by false true e f = absurd (named 0x21 f (omega arith) refl)
     by false false e f = refl
 
-tag_kind : {o : Bool} {total : ℕ} {outer : List Bound} {bs r : List ℕ} {w : QualifiedName} {scope : List Bound} {n : ExpandedName} {e : List Attribute}
+pub tag_kind : {o : Bool} {total : ℕ} {outer : List Bound} {bs r : List ℕ} {w : QualifiedName} {scope : List Bound} {n : ExpandedName} {e : List Attribute}
     → TagAt o total outer bs w scope n e r → kind bs ≡ 3
 unfolding kind
 tag_kind a = ap kind a.opens ∙ name_kind a.rest a.names
 
-child_kind : {o : Bool} {total d : ℕ} {outer : List Bound} {bs r : List ℕ} {p : Piece} → ElementAt o total outer d bs p r → kind bs ≡ 3
+pub child_kind : {o : Bool} {total d : ℕ} {outer : List Bound} {bs r : List ℕ} {p : Piece} → ElementAt o total outer d bs p r → kind bs ≡ 3
 child_kind (empty_tag a) = tag_kind a
 child_kind (with_content a m b e) = tag_kind a
 
@@ -176,7 +176,7 @@ no_item_at_end_tag {bs = bs} (child a) = tagless a
     tagless (empty_tag a) = no_tag a
     tagless (with_content a m b e) = no_tag a
 
-same_whole : {n n' : ExpandedName} {e e' : List Attribute} {s s' : List Bound} {h k : RawTrees} (p : ℕ) → n ≡ n' → e ≡ e' → s ≡ s' → h ≡ k → whole n e s p h ≡ whole n' e' s' p k
+pub same_whole : {n n' : ExpandedName} {e e' : List Attribute} {s s' : List Bound} {h k : RawTrees} (p : ℕ) → n ≡ n' → e ≡ e' → s ≡ s' → h ≡ k → whole n e s p h ≡ whole n' e' s' p k
 same_whole p a b c d = cc
 
 mutual

@@ -1,5 +1,7 @@
--- The syntax tree of a schema in RELAX NG's compact syntax (ISO/IEC 19757-2, Annex C), of which the part is read that tells elements and
--- text: `CompactSyntax bytes syntax`. The modules CompactSyntaxTokens, CompactSyntaxNames and CompactSyntaxPatterns have the phrases.
+-- The syntax tree of a schema in RELAX NG's compact syntax: `CompactSyntax bytes syntax`. The modules CompactSyntaxTokens, CompactSyntaxNames and
+-- CompactSyntaxPatterns have the phrases. The productions are those of OASIS, RELAX NG Compact Syntax (2002), which ISO/IEC 19757-2, Annex C,
+-- has too: topLevel, grammarContent, start, define and assignMethod are here. Which of them are read, that is those that tell elements and text,
+-- is this project's choice.
 use Rattle.std.specs.Prelude.{Bool, false, ◌≡◌, ℕ, suc, ◌+◌, List, [], ◌∷◌, ◌++◌, length, Some, codes}
 use Rattle.tc_model.specs.Names.{IsChars}
 use Rattle.tc_model.specs.RawTrees.{Bound}
@@ -10,7 +12,7 @@ use Rattle.tc_model.specs.CompactSyntaxTokens.{Token, TokensAt}
 use Rattle.tc_model.specs.CompactSyntaxNames.{IsWord, IsMark, identifier, DeclarationAt}
 use Rattle.tc_model.specs.CompactSyntaxPatterns.{PatternAt}
 
--- `=`, or `|=` or `&=` without anything between
+-- assignMethod: `=`, or `|=` or `&=` without anything between
 pub data OperatorAt : List Token → Joins → List Token → Type 0 where
   equals : {t : Token} {after : List Token} → IsMark 0x3D t → OperatorAt (t ∷ after) plain after
   bar_equals : {t u : Token} {after : List Token} → IsMark 0x7C t → IsMark 0x3D u → u.place ≡ t.place + 1 → OperatorAt (t ∷ u ∷ after) by_choice after
@@ -20,7 +22,7 @@ abbrev pub one_definition : List ℕ → Joins → SyntaxPattern → ℕ → Lis
 one_definition name joins body place = record { name = name; joins = joins; body = body; place = place } ∷ []
 
 mutual
-  -- a definition, or those within a `div`
+  -- grammarContent: start, define, or what stands within a `div`
   pub data DefinitionAt (others : Bool) (scope : List Bound) : ℕ → List Token → List Definition → List Token → Type 0 where
     of_start : {deepest : ℕ} {t : Token} {tokens rest after : List Token} {j : Joins} {p : SyntaxPattern} → IsWord (codes "start") t → OperatorAt tokens j rest
         → PatternAt others scope deepest rest p after → DefinitionAt others scope deepest (t ∷ tokens) (one_definition [] j p t.place) after
@@ -36,7 +38,7 @@ mutual
     more : {deepest : ℕ} {tokens rest after : List Token} {ds es : List Definition} → DefinitionAt others scope deepest tokens ds rest → DefinitionsAt others scope deepest rest es after
         → DefinitionsAt others scope deepest tokens (ds ++ es) after
 
--- Declarations, and then a pattern, which is the definition of `start`, or definitions, which may stand within `grammar { }`.
+-- topLevel: declarations, and then a pattern, which is the definition of `start`, or definitions, which may stand within `grammar { }`.
 pub data SchemaAt (others : Bool) : List Bound → ℕ → List Token → List Definition → Type 0 where
   declaration : {scope within : List Bound} {deepest : ℕ} {tokens rest : List Token} {ds : List Definition} → DeclarationAt scope tokens within rest
       → SchemaAt others within deepest rest ds → SchemaAt others scope deepest tokens ds
@@ -45,7 +47,7 @@ pub data SchemaAt (others : Bool) : List Bound → ℕ → List Token → List D
   grammar : {scope : List Bound} {deepest : ℕ} {t u v : Token} {inside : List Token} {ds : List Definition} → IsWord (codes "grammar") t → IsMark 0x7B u
       → DefinitionsAt others scope deepest inside ds (v ∷ []) → IsMark 0x7D v → SchemaAt others scope (suc deepest) (t ∷ u ∷ inside) ds
 
--- Characters of XML, perhaps behind a byte order mark, whose tokens are a schema. Braces and parentheses stand at most so deep. The prefix
+-- Characters of XML, perhaps after a byte order mark, whose tokens are a schema. Braces and parentheses stand at most so deep. The prefix
 -- `xml` is bound before any declaration. Where `others` says so, data are read too.
 pub record Spells (others : Bool) (deepest : ℕ) (bytes : List ℕ) (syntax : Syntax) : Type 0 where
   pub tokens : List Token

@@ -1,4 +1,6 @@
--- Keywords, declarations and name classes in compact syntax (ISO/IEC 19757-2, Annex C). What each phrase leaves of the tokens stands last.
+-- Keywords, declarations and name classes in compact syntax (OASIS, RELAX NG Compact Syntax, 2002, and ISO/IEC 19757-2, Annex C: keyword, identifier,
+-- identifierOrKeyword, decl, nameClass, name and exceptNameClass). That a literal is one segment without the escape of a character, and that
+-- nothing is inherited, is this project's choice. What each phrase leaves of the tokens stands last.
 use Rattle.std.specs.Prelude.{◌≡◌, ◌≢◌, ℕ, suc, Bool, List, [], ◌∷◌, Option, None, Some, bytes_eq, codes, if◌then◌else◌}
 use Rattle.std.specs.List.{list_any}
 use Rattle.tc_model.specs.Names.{ExpandedName, xmlns_uri}
@@ -49,7 +51,7 @@ pub record MayBind (scope : List Bound) (prefix uri : List ℕ) : Type 0 where
 abbrev pub bound_to : List ℕ → List ℕ → Bound
 bound_to prefix uri = record { prefix = prefix; uri = uri }
 
--- a declaration, and what is bound behind it where `scope` is before
+-- decl: a declaration, and what is bound after it where `scope` is before
 pub data DeclarationAt (scope : List Bound) : List Token → List Bound → List Token → Type 0 where
   namespace : {t u v w : Token} {after : List Token} {prefix uri : List ℕ} → IsWord (codes "namespace") t → identifier_or_keyword u.word ≡ Some prefix → IsMark 0x3D v → IsLiteral uri w
       → MayBind scope prefix uri → DeclarationAt scope (t ∷ u ∷ v ∷ w ∷ after) (bound_to prefix uri ∷ scope) after

@@ -1,4 +1,5 @@
--- Patterns in compact syntax (ISO/IEC 19757-2, Annex C). What each phrase leaves of the tokens stands last; braces and parentheses stand at most so deep.
+-- Patterns in compact syntax (OASIS, RELAX NG Compact Syntax, 2002, and ISO/IEC 19757-2, Annex C: pattern). Which of them are read, and that of an
+-- attribute nothing but matching braces is asked, is this project's choice. What each phrase leaves of the tokens stands last; braces and parentheses stand at most so deep.
 -- Where `others` says so, a datatype or a value as a pattern is read too, as `(empty, empty)` in its place would be.
 use Rattle.std.specs.Prelude.{◌≡◌, ◌≢◌, ℕ, suc, Bool, true, false, ◌||◌, ◌==◌, List, [], ◌∷◌, Option, None, Some, IsTrue, bytes_eq, codes, if◌then◌else◌}
 use Rattle.tc_model.specs.RawTrees.{Bound}
@@ -25,7 +26,7 @@ abbrev pub connector_at : List Token → Option Connector
 connector_at [] = None
 connector_at (t ∷ tokens) = connector_of t.word
 
--- a question mark, an asterisk or a plus sign behind an item
+-- a question mark, an asterisk or a plus sign after an item
 pub data Suffix : Type 0 where
   question_mark : Suffix
   asterisk : Suffix
@@ -66,7 +67,7 @@ mutual
         → ItemAt others scope deepest tokens p (t ∷ rest) → connector_of t.word ≡ Some c → ItemsAt others scope c deepest rest ps after
         → PatternAt others scope deepest tokens (joined_by c (more p ps)) after
 
-  -- items with this connector between, and with none behind them
+  -- items with this connector between, and with none after them
   pub data ItemsAt (others : Bool) (scope : List Bound) : Connector → ℕ → List Token → SyntaxPatterns → List Token → Type 0 where
     last : {c : Connector} {deepest : ℕ} {tokens after : List Token} {p : SyntaxPattern} → ItemAt others scope deepest tokens p after → connector_at after ≡ None → ItemsAt others scope c deepest tokens (more p no_more) after
     and_more : {c : Connector} {deepest : ℕ} {t : Token} {tokens rest after : List Token} {p : SyntaxPattern} {ps : SyntaxPatterns}

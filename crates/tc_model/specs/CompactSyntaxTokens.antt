@@ -1,4 +1,5 @@
--- The tokens of a schema in compact syntax (ISO/IEC 19757-2, Annex C, lexical structure). Every character for which some phrase asks is ASCII, so no byte of a
+-- The tokens of a schema in compact syntax (OASIS, RELAX NG Compact Syntax, 2002, and ISO/IEC 19757-2, Annex C, lexical structure: identifier,
+-- CName, nsName, literal). Every character for which some phrase asks is ASCII, so no byte of a
 -- longer character is ever taken for one. A relation `PhraseAt bs value after` says that this phrase stands at the front of the
 -- bytes, what it means, and what follows it.
 use Rattle.std.specs.Prelude.{◌≡◌, ℕ, Bool, ◌||◌, not, ◌==◌, List, [], ◌∷◌, ◌++◌, drop, IsTrue, codes, encode_utf8}
@@ -54,7 +55,7 @@ pub data WordAt : List ℕ → Word → List ℕ → Type 0 where
   prefixed_name : {bs prefix rest name after : List ℕ} → NcNameAt bs prefix (0x3A ∷ rest) → NcNameAt rest name after → WordAt bs (prefixed prefix name) after
   namespace_name : {bs prefix after : List ℕ} → NcNameAt bs prefix (0x3A ∷ 0x2A ∷ after) → WordAt bs (all_of prefix) after
   escaped_name : {bs name after : List ℕ} → EscapedAt bs name after → WordAt bs (escaped name) after
-  -- on one line
+  -- on one line, between single quotes; three of them, which begin a longer literal, are this project's to refuse
   quoted : {bs value after : List ℕ} → LiteralAt bs value after → IsTrue (list_all (λ b. not (is_line_end b)) value) → WordAt bs (literal value) after
   backslash : {after : List ℕ} → ((n r : List ℕ) → EscapedAt (0x5C ∷ after) n r → ⊥) → WordAt (0x5C ∷ after) (mark 0x5C) after
   other : {c : ℕ} {bs after : List ℕ} → bs ≡ encode_utf8 c ++ after → IsTrue (is_mark c) → WordAt bs (mark c) after

@@ -24,6 +24,7 @@ pub mod XmlTextMisc
 pub mod XmlTextScopes
 pub mod XmlTextContent
 pub mod XmlText
+pub mod XmlTextRefusals
 pub mod Stripped
 pub mod XmlTextLaws
 pub mod PathTextTokens
@@ -36,6 +37,7 @@ pub mod CompactSyntaxTokens
 pub mod CompactSyntaxNames
 pub mod CompactSyntaxPatterns
 pub mod CompactSyntax
+pub mod CompactSyntaxRefused
 pub mod SimplifiesParts
 pub mod SimplifiesFaults
 pub mod Simplifies
@@ -44,3 +46,13 @@ pub mod RncText
 pub mod CompactSyntaxLawful
 pub mod SimplifiesLaws
 pub mod Symbols
+pub mod Numbered
+pub mod SameTests
+pub mod Letters
+pub mod PathStates
+pub mod Numberings
+pub mod RuleStates
+pub mod SheetTextTrees
+pub mod SheetTextPhrases
+pub mod SheetText
+pub mod SheetTextLaws

@@ -31,6 +31,10 @@ IsNcName bytes = (c : ℕ) × (cs : List ℕ) × (encode_utf8_all (c ∷ cs) ≡
 abbrev pub xmlns_uri : List ℕ
 xmlns_uri = codes "http://www.w3.org/2000/xmlns/"
 
+-- the namespace of the prefix xml, which needs no declaration (Namespaces, 3)
+abbrev pub xml_uri : List ℕ
+xml_uri = codes "http://www.w3.org/XML/1998/namespace"
+
 -- what may stand for a namespace, the empty text for none
 abbrev pub IsNamespaceName : List ℕ → Type 0
 IsNamespaceName uri = IsChars uri × (uri ≢ xmlns_uri)

@@ -148,6 +148,17 @@ module _ (scope : List Bound) where
       one_conjunction : {ts rest after : List Token} {us vs : Tests} → AndAt ts us (word (codes "or") ∷ rest) → OrAt rest vs after
           → OrAt ts (test (conjunction us) vs) after
 
+-- an alternative of a select that ends in an attribute step
+pub data AttributesAlternativeAt (scope : List Bound) : List Token → List Token → Type 0 where
+  attributes_of_children : {ts after : List Token} {ss : Steps} → StepsAt scope false ts ss dropped after → AttributesAlternativeAt scope ts after
+  attributes_of_descendants : {ts after : List Token} {ss : Steps} → StepsAt scope true ts ss dropped after
+      → AttributesAlternativeAt scope (mark dot ∷ mark slashes ∷ ts) after
+
+-- a select each alternative of which ends in an attribute step
+pub data AttributesAt (scope : List Bound) : List Token → List Token → Type 0 where
+  last_attributes : {ts after : List Token} → AttributesAlternativeAt scope ts after → Lacks (mark bar) after → AttributesAt scope ts after
+  one_attributes : {ts rest after : List Token} → AttributesAlternativeAt scope ts (mark bar ∷ rest) → AttributesAt scope rest after → AttributesAt scope ts after
+
 -- an alternative of a pattern, and its default priority in ten-thousandths
 pub record Alternative : Type 0 where
   pub pattern : MatchPattern

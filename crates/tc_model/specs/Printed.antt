@@ -1,6 +1,7 @@
 -- How trees are printed as XML (XML 1.0, 2.4, 2.11, 3.1, 3.3.3; Namespaces in XML 1.0, 6.2).
 use Rattle.std.specs.Prelude.{ℕ, List, [], ◌∷◌, ◌++◌, Bool, true, false, ◌||◌, if◌then◌else◌, ◌==◌, bytes_eq, codes, flat_map}
 use Rattle.tc_model.specs.Names.{ExpandedName}
+pub use Rattle.tc_model.specs.Names.{xml_uri}
 use Rattle.tc_model.specs.Trees.{Trees, none, text, element}
 
 -- a character of a text, in the bytes of UTF-8
@@ -21,10 +22,6 @@ escaped_in_value c =
     if c == 9 then codes "&#9;" else
     if c == 10 then codes "&#10;" else
     if c == 13 then codes "&#13;" else (c ∷ [])
-
--- the namespace of the prefix xml, which needs no declaration (Namespaces, 3)
-abbrev pub xml_uri : List ℕ
-xml_uri = codes "http://www.w3.org/XML/1998/namespace"
 
 -- the name in a tag: the local name, since the default namespace is declared where it is needed
 abbrev pub tag_name : ExpandedName → List ℕ

@@ -1,4 +1,5 @@
--- The grammar of a schema in RELAX NG's compact syntax: `RncText bytes grammar`.
+-- The grammar of a schema in RELAX NG's compact syntax: `RncText bytes grammar` (ISO/IEC 19757-2, Annex C, and the RELAX NG Specification,
+-- OASIS 2001, 4, as far as they tell elements and text).
 use Rattle.std.specs.Prelude.{ℕ, List}
 use Rattle.tc_model.specs.Grammars.{Grammar}
 use Rattle.tc_model.specs.CompactSyntaxTrees.{Syntax}

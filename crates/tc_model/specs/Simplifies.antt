@@ -1,4 +1,6 @@
--- The grammar of a schema that is written well: `Simplifies syntax grammar` (RELAX NG Specification, 4, as far as elements and text are told).
+-- The grammar of a schema that is written well: `Simplifies syntax grammar`, the simplification of the RELAX NG Specification (OASIS 2001), 4,
+-- of which what tells elements and text is kept. That an attribute becomes `empty`, that `notAllowed` and `empty` stay where 4.20 and 4.21
+-- would move them, and how element patterns are numbered are this project's choices.
 use Rattle.std.specs.Prelude.{◌≡◌, ◌<◌, ℕ, ◌+◌, ◌==◌, List, [], ◌∷◌, Some, if◌then◌else◌}
 use Rattle.std.specs.List.{AllByRecursion, Contains}
 use Rattle.tc_model.specs.Grammars as g

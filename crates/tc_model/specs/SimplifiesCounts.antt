@@ -1,5 +1,5 @@
--- How large a grammar is.
-use Rattle.std.specs.Prelude.{ℕ, ◌+◌, List, [], ◌∷◌, map, sum, max}
+-- How large a grammar is, and how large it may be: limits of this project's choice.
+use Rattle.std.specs.Prelude.{ℕ, ◌+◌, ◌≤◌, ◌<◌, length, List, [], ◌∷◌, map, sum, max}
 use Rattle.tc_model.specs.Grammars.{Pattern, group, choice, interleave, one_or_more, Patterns, no_more, more, Grammar}
 
 abbrev mutual
@@ -39,3 +39,30 @@ greatest (n ∷ ns) = max n (greatest ns)
 -- the greatest depth of the start and of all contents
 abbrev pub grammar_depth : Grammar → ℕ
 grammar_depth g = max (pattern_depth g.start) (greatest (map (λ e. pattern_depth e.content) g.elements))
+
+-- the most nodes, the greatest depth and the most element patterns
+abbrev pub most_nodes : ℕ
+most_nodes = 65536
+
+abbrev pub greatest_depth : ℕ
+greatest_depth = 2000
+
+abbrev pub most_elements : ℕ
+most_elements = 256
+
+pub record IsWithinCounts (g : Grammar) : Type 0 where
+  pub nodes : grammar_nodes g ≤ most_nodes
+  pub depth : grammar_depth g ≤ greatest_depth
+  pub elements : length g.elements ≤ most_elements
+
+-- which of these a grammar passes
+pub data Count : Type 0 where
+  nodes : Count
+  depth : Count
+  elements : Count
+
+-- The count that a grammar passes: the first of these, in this order.
+abbrev pub Passes : Grammar → Count → Type 0
+Passes g nodes = most_nodes < grammar_nodes g
+Passes g depth = (grammar_nodes g ≤ most_nodes) × (greatest_depth < grammar_depth g)
+Passes g elements = (grammar_nodes g ≤ most_nodes) × (grammar_depth g ≤ greatest_depth) × (most_elements < length g.elements)

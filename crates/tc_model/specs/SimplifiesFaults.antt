@@ -1,4 +1,6 @@
--- Why a schema that is written well has no grammar, and where (RELAX NG Specification, 4.16 to 4.19 and 7.1).
+-- Why a schema that is written well has no grammar, and where: the restrictions of the RELAX NG Specification (OASIS 2001), 4.16 to 4.19 and
+-- 7.1, on elements and text. That 4.18 is tried on all definitions, and 4.19 on those that are reached, is this project's choice, and so are
+-- the places and the order of the faults; those of attributes aren't looked at.
 use Rattle.std.specs.Prelude.{◌≡◌, ◌≤◌, ℕ, Bool, true, false, ◌&&◌, List, [], ◌∷◌, ◌++◌, Option, None, Some, ◌⊎◌, IsFalse, bytes_eq, if◌then◌else◌}
 use Rattle.std.specs.List.{list_any}
 use Rattle.tc_model.specs.CompactSyntaxTrees.{SyntaxClass, of_name, of_namespace, any_name, one_of, SyntaxClasses, no_class, class, SyntaxPattern, not_allowed, ref, element, choice, Joins, plain, by_choice, by_interleave, Definition, Syntax}
@@ -46,6 +48,10 @@ pub record IsCircular (s : Syntax) (place : ℕ) : Type 0 where
 abbrev pub IsLoop : Syntax → ℕ → Type 0
 IsLoop s place = IsCircular s place × ((other : ℕ) → IsCircular s other → place ≤ other)
 
+-- there is none
+abbrev pub IsAcyclic : Syntax → Type 0
+IsAcyclic s = (place : ℕ) → IsCircular s place → ⊥
+
 abbrev mutual
   -- The wildcards that stand where they may not: `*` within an except of `*` or `p:*`, and `p:*` within an except of `p:*` (RELAX NG, 4.16).
   -- The two truth values say that `*`, and that `p:*`, may not stand here.
@@ -92,10 +98,26 @@ pub record IsBadStart (s : Syntax) (place : ℕ) : Type 0 where
   pub bad : IsFalse (may_start other)
   pub first : first_definition (definitions_of s.definitions []) ≡ Some place
 
+-- a fault and its place
+pub data Fault : Type 0 where
+  twice : ℕ → Fault
+  undefined : ℕ → Fault
+  loop : ℕ → Fault
+  bad_except : ℕ → Fault
+  bad_start : ℕ → Fault
+
+-- The fault of a schema: the first of these that it has, in this order.
+abbrev pub Fails : Syntax → Fault → Type 0
+Fails s (twice place) = twice_at s ≡ Some place
+Fails s (undefined place) = (twice_at s ≡ None) × (undefined_at s ≡ Some place)
+Fails s (loop place) = (twice_at s ≡ None) × (undefined_at s ≡ None) × IsLoop s place
+Fails s (bad_except place) = (twice_at s ≡ None) × (undefined_at s ≡ None) × IsAcyclic s × (bad_except_at s ≡ Some place)
+Fails s (bad_start place) = (twice_at s ≡ None) × (undefined_at s ≡ None) × IsAcyclic s × (bad_except_at s ≡ None) × IsBadStart s place
+
 -- none of these
 pub record IsFaultless (s : Syntax) : Type 0 where
   pub once : twice_at s ≡ None
   pub defined : undefined_at s ≡ None
-  pub acyclic : (place : ℕ) → IsCircular s place → ⊥
+  pub acyclic : IsAcyclic s
   pub excepts : bad_except_at s ≡ None
   pub start : (place : ℕ) → IsBadStart s place → ⊥

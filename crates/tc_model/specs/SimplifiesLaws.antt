@@ -4,6 +4,7 @@ use Rattle.tc_model.specs.Grammars.{Pattern, not_allowed, ref, choice, Patterns,
 use Rattle.tc_model.specs.CompactSyntaxTrees.{Syntax}
 use Rattle.tc_model.specs.CompactSyntax.{CompactSyntax}
 use Rattle.tc_model.specs.CompactSyntaxLawful.{IsLawfulSyntax}
+use Rattle.tc_model.specs.SimplifiesFaults.{Fault, Fails}
 use Rattle.tc_model.specs.Simplifies.{Simplifies}
 use Rattle.tc_model.specs.RncText.{RncText}
 
@@ -23,7 +24,7 @@ abbrev mutual
 abbrev pub HasOneSyntax : Type 0
 HasOneSyntax = (bytes : List ℕ) (s t : Syntax) → CompactSyntax bytes s → CompactSyntax bytes t → s ≡ t
 
--- which is lawful, and no place in it is behind the text's end
+-- which is lawful, and no place in it is after the text's end
 abbrev pub HasLawfulSyntax : Type 0
 HasLawfulSyntax = (bytes : List ℕ) (s : Syntax) → CompactSyntax bytes s → IsLawfulSyntax s × (s.end ≡ length bytes)
 
@@ -34,6 +35,13 @@ HasOneGrammar = (s : Syntax) (g h : Grammar) → Simplifies s g → Simplifies s
 -- so a text has
 abbrev pub HasOneRncText : Type 0
 HasOneRncText = (bytes : List ℕ) (g h : Grammar) → RncText bytes g → RncText bytes h → g ≡ h
+
+-- a syntax tree has at most one fault, and then no grammar
+abbrev pub HasOneFault : Type 0
+HasOneFault = (s : Syntax) (f h : Fault) → Fails s f → Fails s h → f ≡ h
+
+abbrev pub HasNoGrammar : Type 0
+HasNoGrammar = (s : Syntax) (f : Fault) (g : Grammar) → Fails s f → Simplifies s g → ⊥
 
 abbrev pub HasLawfulStart : Type 0
 HasLawfulStart = (s : Syntax) (g : Grammar) → Simplifies s g → IsStart g.start

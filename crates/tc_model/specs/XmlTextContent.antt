@@ -8,7 +8,7 @@ use Rattle.tc_model.specs.XmlTextReferences.{ReferenceAt, CharacterDataAt, Cdata
 use Rattle.tc_model.specs.XmlTextMisc.{CommentAt, InstructionAt}
 use Rattle.tc_model.specs.XmlTextScopes.{WrittenAttribute, TagMeans}
 
--- what one item of a content adds to the trees behind it
+-- what one item of a content adds to the trees after it
 pub data Piece : Type 0 where
   nothing : Piece
   -- characters, perhaps none, and their place
@@ -33,7 +33,7 @@ piece_before (whole n attributes scope p kids) rest = element n attributes scope
 abbrev pub EndsTag : List ℕ → Type 0
 EndsTag bs = ((r : List ℕ) × (bs ≡ 0x3E ∷ r)) ⊎ ((r : List ℕ) × (bs ≡ 0x2F ∷ r))
 
--- the attributes of a tag, each behind white space, up to where the tag ends (XML, 3.1, [40], [41], [44])
+-- the attributes of a tag, each after white space, up to where the tag ends (XML, 3.1, [40], [41], [44])
 pub data AttributesAt (others : Bool) (total : ℕ) : List ℕ → List WrittenAttribute → List ℕ → Type 0 where
   no_more : {bs : List ℕ} → EndsTag (after_white bs) → AttributesAt others total bs [] (after_white bs)
   attribute : {bs past_name start value rest after : List ℕ} {name : QualifiedName} {attributes : List WrittenAttribute}

@@ -32,7 +32,7 @@ pub record SettingAt (word bs value after : List ℕ) : Type 0 where
   pub equals : EqualsAt behind start
   pub literal : LiteralAt start value after
 
--- a word doesn't stand here, behind white space or none
+-- a word doesn't stand here, after white space or none
 abbrev pub LacksWord : List ℕ → List ℕ → Type 0
 LacksWord word bs = (r : List ℕ) → after_white bs ≡ word ++ r → ⊥
 
@@ -88,7 +88,7 @@ pub record DoctypeFrontAt (bs after : List ℕ) : Type 0 where
   pub external : ExternalIdAt past_name past_id
   pub past : after ≡ after_white past_id
 
--- a doctype without a subset and misc behind it, or neither
+-- a doctype without a subset and misc after it, or neither
 pub data DoctypeAt : List ℕ → List ℕ → Type 0 where
   no_doctype : {bs : List ℕ} → ((r : List ℕ) → bs ≡ codes "<!DOCTYPE" ++ r → ⊥) → DoctypeAt bs bs
   doctype : {bs rest after : List ℕ} → DoctypeFrontAt bs (0x3E ∷ rest) → MiscAt rest after → DoctypeAt bs after

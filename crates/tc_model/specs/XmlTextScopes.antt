@@ -2,6 +2,7 @@
 use Rattle.std.specs.Prelude.{◌≡◌, ℕ, Bool, ◌||◌, ◌&&◌, not, List, [], ◌∷◌, map, Option, None, Some, IsTrue, IsFalse, bytes_eq, codes, if◌then◌else◌}
 use Rattle.std.specs.List.{IsDistinct, list_all}
 use Rattle.tc_model.specs.Names.{ExpandedName, same_name, xmlns_uri}
+pub use Rattle.tc_model.specs.Names.{xml_uri}
 use Rattle.tc_model.specs.RawTrees.{Attribute, Bound}
 use Rattle.tc_model.specs.XmlTextNames.{QualifiedName, same_written}
 
@@ -13,10 +14,6 @@ pub record WrittenAttribute : Type 0 where
 
 abbrev pub is_empty : List ℕ → Bool
 is_empty bs = bytes_eq bs []
-
--- the namespace of the prefix xml (Namespaces, 3)
-abbrev pub xml_uri : List ℕ
-xml_uri = codes "http://www.w3.org/XML/1998/namespace"
 
 -- what is bound before any declaration
 abbrev pub first_scope : List Bound
@@ -54,7 +51,7 @@ abbrev pub bound_in : Bound → List Bound → List Bound
 bound_in b [] = bound_before b []
 bound_in b (c ∷ scope) = if bytes_eq c.prefix b.prefix then bound_before b scope else c ∷ bound_in b scope
 
--- what is in scope behind the declarations among these attributes
+-- what is in scope after the declarations among these attributes
 abbrev pub scope_within : List Bound → List WrittenAttribute → List Bound
 scope_within scope [] = scope
 scope_within scope (a ∷ written) = scope_within (if is_declaration a then bound_in (binding_of a) scope else scope) written

@@ -1,18 +1,21 @@
 // Laws of schemas in RELAX NG's compact syntax (ISO/IEC 19757-2, Annex C).
-ghost use Rattle.tc_model.specs.SimplifiesLaws.{HasOneSyntax, HasLawfulSyntax, HasOneGrammar, HasOneRncText, HasLawfulStart, HasLawfulGrammar};
+ghost use Rattle.tc_model.specs.SimplifiesLaws.{HasOneSyntax, HasLawfulSyntax, HasOneGrammar, HasOneRncText, HasOneFault, HasNoGrammar, HasLawfulStart, HasLawfulGrammar};
 
 /// Laws of syntax trees. A text has at most one; its names and namespace names are lawful, none of its
-/// lists is empty, and no place is behind the text's end.
+/// lists is empty, no place is after the text's end, and the words `element` stand one after the other.
 pub fn law_of_syntax_trees()
     ensures one_syntax { HasOneSyntax }
     ensures lawful_syntax { HasLawfulSyntax }
 {}
 
-/// Laws of grammars. A syntax tree has at most one, and so has a text; the grammar of a text is well-formed,
-/// and its start is made of choices, references and `notAllowed` alone (RELAX NG Specification, 7.1.5).
+/// Laws of grammars. A syntax tree has at most one, or at most one fault and then none, and so has a text;
+/// the grammar of a text is well-formed, and its start is made of choices, references and `notAllowed` alone
+/// (RELAX NG Specification, 7.1.5).
 pub fn law_of_grammars()
     ensures one_grammar { HasOneGrammar }
     ensures one_rnc_text { HasOneRncText }
+    ensures one_fault { HasOneFault }
+    ensures no_grammar { HasNoGrammar }
     ensures lawful_start { HasLawfulStart }
     ensures lawful_grammar { HasLawfulGrammar }
 {}

@@ -11,6 +11,7 @@ pub mod lists;
 pub mod normal;
 pub mod paths;
 pub mod sheet;
+pub mod sheet_text;
 pub mod tree;
 pub mod xml;
 

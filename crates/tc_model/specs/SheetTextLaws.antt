@@ -1,0 +1,16 @@
+-- Laws of stylesheets as XML: a raw tree means one stylesheet at most, and has one fault at most.
+use Rattle.std.specs.Prelude.{◌≡◌, ℕ}
+use Rattle.tc_model.specs.RawTrees.{RawTrees}
+use Rattle.tc_model.specs.Sheets.{Sheet}
+use Rattle.tc_model.specs.SheetText.{SheetText, SheetFault, SheetFails}
+
+abbrev pub HasOneSheet : Type 0
+HasOneSheet = (raw : RawTrees) (s t : Sheet) → SheetText raw s → SheetText raw t → s ≡ t
+
+-- one fault at most of calls, at one place
+abbrev pub HasOneSheetFault : Type 0
+HasOneSheetFault = (raw : RawTrees) (f g : SheetFault) (m n : ℕ) → SheetFails raw f m → SheetFails raw g n → (f ≡ g) × (m ≡ n)
+
+-- and then no stylesheet
+abbrev pub HasNoSheet : Type 0
+HasNoSheet = (raw : RawTrees) (f : SheetFault) (m : ℕ) (s : Sheet) → SheetFails raw f m → SheetText raw s → ⊥
