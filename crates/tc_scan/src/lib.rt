@@ -1,0 +1,14 @@
+//! What stands at the front of a text: marks, white space, runs and names (XML 1.0, Fifth Edition, 2.3; Namespaces in
+//! XML 1.0, 3 and 4). The readers of XML and of paths stand on these steps.
+#![tactic(auto)]
+
+mod front;
+mod names;
+#[cfg(test)]
+mod tests;
+
+pub use front::{
+    after_byte, after_mark, after_some_white, after_white, begins, plain_len, plain_len_within,
+    up_to,
+};
+pub use names::{QualifiedName, ncname, qname};
