@@ -1,0 +1,15 @@
+pub mod MiscLaws
+pub mod LineLaws
+pub mod ReferenceLaws
+pub mod ValueLaws
+pub mod ScopeLaws
+pub mod TagLaws
+pub mod TwiceLaws
+pub mod GatherLaws
+pub mod ContentLaws
+pub mod ItemLaws
+pub mod ElementLaws
+pub mod RootLaws
+pub mod DocumentLaws
+pub mod FaultLaws
+pub mod StripLaws

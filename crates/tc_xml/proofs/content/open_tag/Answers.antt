@@ -1,0 +1,45 @@
+use Rattle.std.proofs.Common.{◌≡◌, List, ℕ, true, false, sym, map, subst, ap, ◌∙◌}
+use Rattle.tc_model.specs.Names.{ExpandedName}
+use Rattle.tc_model.specs.RawTrees.{Attribute, Bound}
+use Rattle.tc_model.specs.XmlTextNames.{QualifiedName}
+use Rattle.tc_model.specs.XmlTextContent.{AttributesAt, TagAt}
+use Rattle.tc_scan.specs.Seen.{written_name}
+use Rattle.tc_xml.specs.Refusals.{Refuses}
+use Rattle.tc_xml.specs.Tags.{written, in_scope}
+use Rattle.tc_xml.proofs.ContentLaws.{no_list, no_meaning, broken, failed, refuse_both}
+use Rattle.tc_xml.proofs.content.open_tag.Goals as goal
+
+pub returns-in_err-list-clause-no : goal.returns-in_err-list-clause-no
+returns-in_err-list-clause-no c =
+    let t = c.args.text.now in
+    let n = c.args.total in
+    let o = in_scope c.args.outer in
+    let e = c.in_err-list.field-0.0 in
+    let w = written_name c.in-Some-qname.written in
+    let A = (w : QualifiedName) (scope : List Bound) (m : ExpandedName) (x : List Attribute) (after : List ℕ) → TagAt true n o t w scope m x after → ⊥ in
+    let B = (w : QualifiedName) (scope : List Bound) (m : ExpandedName) (x : List Attribute) (after : List ℕ) → TagAt false n o t w scope m x after → ⊥ in
+    failed c.from_residual.result (λ e. Refuses e A B) e c.from_residual.ensures.1
+    (refuse_both e _ A _ B
+    (no_list true n o t c.in-Some.start.now c.in-Some-qname.behind.now w c.in-Some.ensures c.in-Some-qname.ensures)
+    (no_list false n o t c.in-Some.start.now c.in-Some-qname.behind.now w c.in-Some.ensures c.in-Some-qname.ensures)
+    c.in_err-list.ensures.no)
+
+pub returns-in_err-meaning-clause-no : goal.returns-in_err-meaning-clause-no
+returns-in_err-meaning-clause-no c =
+    let t = c.args.text.now in
+    let n = c.args.total in
+    let o = in_scope c.args.outer in
+    let e = c.in_err-meaning.field-0.0 in
+    let w = written_name c.in-Some-qname.written in
+    let start = c.in-Some.start.now in
+    let behind = c.in-Some-qname.behind.now in
+    let rest = c.in_ok-list.rest.now in
+    let list = map written c.as_slice.result.now in
+    let read : AttributesAt false n behind list rest = subst (λ l. AttributesAt false n behind (map written l) rest) (sym c.as_slice.ensures.value) c.in_ok-list.ensures.ok in
+    let A = (w : QualifiedName) (scope : List Bound) (m : ExpandedName) (x : List Attribute) (after : List ℕ) → TagAt true n o t w scope m x after → ⊥ in
+    let B = (w : QualifiedName) (scope : List Bound) (m : ExpandedName) (x : List Attribute) (after : List ℕ) → TagAt false n o t w scope m x after → ⊥ in
+    failed c.from_residual-in_err-meaning.result (λ e. Refuses e A B) e c.from_residual-in_err-meaning.ensures.1
+    (broken e _ A B
+    (no_meaning true n o t start behind rest w list c.in-Some.ensures c.in-Some-qname.ensures read)
+    (no_meaning false n o t start behind rest w list c.in-Some.ensures c.in-Some-qname.ensures read)
+    c.in_err-meaning.ensures.no)

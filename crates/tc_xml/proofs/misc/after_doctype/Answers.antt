@@ -1,0 +1,32 @@
+use Rattle.std.proofs.Common.{sym, subst, ◌∷◌, List, ℕ}
+use Rattle.tc_model.specs.XmlTextMisc.{no_doctype, doctype, DoctypeFrontAt, DoctypeAt}
+use Rattle.tc_xml.specs.Refusals.{Refuses}
+use Rattle.tc_xml.proofs.ContentLaws.{broken}
+use Rattle.tc_xml.proofs.MiscLaws.{map_ok, map_err, no_front, no_misc_behind, no_close}
+use Rattle.tc_xml.proofs.misc.after_doctype.Goals as goal
+use Rattle.tc_xml.proofs.misc.after_doctype.Goals.{then-begins, else-begins}
+
+pub returns-then-not-begins-clause-ok : goal.returns-then-not-begins-clause-ok
+returns-then-not-begins-clause-ok c = no_doctype c.if-not-begins.ensures
+
+pub returns-in_default-clause-no : goal.returns-in_default-clause-no
+returns-in_default-clause-no c = let (r, e) = c.if-not-begins.ensures in no_front c.args.text.now r e c.in_default.ensures
+
+pub returns-in-Some-after_byte-clause-ok : goal.returns-in-Some-after_byte-clause-ok
+returns-in-Some-after_byte-clause-ok c =
+    map_ok _ _ c.after_misc.result (λ r m. doctype (subst (λ w. DoctypeFrontAt c.args.text.now w) c.in-Some-after_byte.ensures c.in-Some.ensures) m) c.after_misc.ensures.ok
+
+pub returns-in-Some-after_byte-clause-no : goal.returns-in-Some-after_byte-clause-no
+returns-in-Some-after_byte-clause-no c =
+    let (r, q) = c.if-not-begins.ensures in
+    map_err _ _ c.after_misc.result
+    (λ e m. let k = no_misc_behind c.args.text.now r c.in-Some.end.now c.in-Some-after_byte.rest.now q c.in-Some.ensures c.in-Some-after_byte.ensures in broken e _ _ _ k k m) c.after_misc.ensures.no
+
+pub returns-after-begins-clause-no : goal.returns-after-begins-clause-no
+returns-after-begins-clause-no c =
+    let (r, q) = c.if-not-begins.ensures in
+    let none : (after : List ℕ) → DoctypeAt c.args.text.now after → ⊥ = no_close c.args.text.now r c.in-Some.end.now q c.in-Some.ensures c.in-None.ensures in
+    elim c.if-begins.branch [
+      | then-begins w ↦ subst (λ e. Refuses e ((after : List ℕ) → DoctypeAt c.args.text.now after → ⊥) ((after : List ℕ) → DoctypeAt c.args.text.now after → ⊥)) (sym w.result-is) none
+      | else-begins w ↦ subst (λ e. Refuses e ((after : List ℕ) → DoctypeAt c.args.text.now after → ⊥) ((after : List ℕ) → DoctypeAt c.args.text.now after → ⊥)) (sym w.result-is) none
+    ]

@@ -1,0 +1,10 @@
+use Rattle.std.proofs.Common.{◌∙◌, ap, map, take_all}
+use Rattle.tc_xml.specs.Tags.{written}
+use Rattle.tc_xml.proofs.TagLaws.{all_written_once, pair_name}
+use Rattle.tc_xml.proofs.tags.are_written_once.Goals as goal
+
+pub returns-clause-ok : goal.returns-clause-ok
+returns-clause-ok c =
+    all_written_once c.all_differ.result c.deref.result.now _
+    (ap (map pair_name) c.deref.ensures.value ∙ (c.loop-attribute.invariant ∙ ap (λ w. map (λ a. a.name) (map written w)) (take_all c.loop-attribute.attribute-index c.args.attributes.now c.loop-attribute-test.false)))
+    c.all_differ.ensures.ok

@@ -1,0 +1,11 @@
+use Rattle.std.proofs.Common.{sym}
+use Rattle.tc_scan.specs.Seen.{written_name}
+use Rattle.tc_xml.specs.Tags.{in_scope}
+use Rattle.tc_xml.proofs.TagLaws.{bound_name, unbound_name}
+use Rattle.tc_xml.proofs.tags.element_name.Goals as goal
+
+pub returns-in-Some-clause-ok : goal.returns-in-Some-clause-ok
+returns-in-Some-clause-ok c = bound_name (in_scope c.args.scope) (written_name c.args.name) c.in-Some.uri.now c.in_ok-local.local.now (sym c.in-Some.ensures) c.in_ok-local.ensures
+
+pub returns-then-eq-clause-ok : goal.returns-then-eq-clause-ok
+returns-then-eq-clause-ok c = unbound_name (in_scope c.args.scope) (written_name c.args.name) c.in_ok-local.local.now (sym c.if-eq.ensures) (sym c.in-None.ensures) c.in_ok-local.ensures

@@ -1,0 +1,9 @@
+pub mod Refusals
+pub mod Faults
+pub mod Values
+pub mod Bounds
+pub mod Pairs
+pub mod Tags
+pub mod Seen
+pub mod Reading
+pub mod Ascii

@@ -1,0 +1,13 @@
+-- Names of two parts.
+use Rattle.std.specs.Prelude.{◌≡◌, ℕ, List, Bool, false, ◌&&◌, bytes_eq}
+use Rattle.std.specs.Borrow.{Bor}
+
+abbrev pub Pair : Type 0
+Pair = Bor (List ℕ) × Bor (List ℕ)
+
+-- both parts are the same
+abbrev pub same_pair : Pair → Pair → Bool
+same_pair p q = bytes_eq p.0.now q.0.now && bytes_eq p.1.now q.1.now
+
+abbrev pub Differs : Pair → Pair → Type 0
+Differs p q = same_pair p q ≡ false

@@ -1,0 +1,28 @@
+-- What contracts see of the attributes of a tag, and of why a tag is refused.
+use Rattle.std.specs.Prelude.{Bool, not, List, map}
+use Rattle.std.specs.List.{list_all}
+use Rattle.tc_model.specs.RawTrees.{Bound}
+use Rattle.tc_model.specs.Seen.{place, bound}
+use Rattle.tc_model.specs.XmlTextScopes.{WrittenAttribute, is_xml_space}
+use Rattle.tc_scan.specs.Seen.{written_name}
+use Rattle.tc_xml.specs.declared.faults.Stop.{Stop}
+use Rattle.tc_xml.specs.declared.faults.Stop.TheVariants.{Malformed, Unsupported, TooDeep, NoMemory}
+use Rattle.tc_xml.specs.declared.scopes.Scope.{Scope}
+use Rattle.tc_xml.specs.declared.tags.Written.{Written}
+
+abbrev pub written : Written → WrittenAttribute
+written a = record { name = written_name a.name; value = a.value.now; place = place a.place }
+
+-- the prefixes in scope
+abbrev pub in_scope : Scope → List Bound
+in_scope s = map bound s.bindings.now
+
+abbrev pub lacks_space : List WrittenAttribute → Bool
+lacks_space attributes = list_all (λ a. not (is_xml_space a)) attributes
+
+-- Malformed is said only where `broken` holds, and nothing else is said but that memory was refused
+abbrev pub Breaks : Stop → Type 0 → Type 0
+Breaks (Malformed left) broken = broken
+Breaks (Unsupported left why) broken = ⊥
+Breaks (TooDeep left) broken = ⊥
+Breaks NoMemory broken = Unit {0}

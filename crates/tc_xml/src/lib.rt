@@ -1,0 +1,57 @@
+//! Reads XML documents, exactly (XML 1.0, Fifth Edition; Namespaces in XML 1.0).
+#![tactic(auto)]
+
+ghost use Rattle.std.specs.Prelude.{◌≤◌, length, IfOk, IfErr};
+ghost use Rattle.tc_model.specs.RawTrees.{IsOneElement};
+ghost use Rattle.tc_model.specs.Seen.{raw_tree};
+ghost use Rattle.tc_model.specs.Stripped.{stripped};
+ghost use Rattle.tc_model.specs.Trees.{IsDocument};
+ghost use Rattle.tc_model.specs.XmlText.{XmlText};
+ghost use Rattle.tc_model.specs.XmlTextLaws.{AreLawfulWithin};
+ghost use Rattle.tc_xml.specs.Faults.{IsFaultOf};
+
+mod content;
+mod document;
+mod faults;
+mod misc;
+mod references;
+mod scopes;
+mod stripping;
+mod tags;
+#[cfg(test)]
+mod tests;
+mod twice;
+
+use bumpalo::Bump;
+use document::document;
+pub use faults::XmlFault;
+use faults::place_of;
+use std::str;
+pub use stripping::strip;
+use tc_model::Raw;
+
+/// The raw tree of a text, which is always an element (XML 1.0, 2.1). Its names, texts and namespace names are
+/// lawful, no place in it is past the text's length, and stripped it is a document. Takes at most 64 MiB of text.
+///
+/// # Errors
+///
+/// Malformed where there is no tree, not even with elements of any depth and each reference to an entity that
+/// isn't predefined read as `&lt;` is. Otherwise Unsupported at the first construct that isn't read, where the
+/// text before it is well-formed, and TooDeep at the `<` of an element within 2,000 others. NoMemory where
+/// memory is refused.
+pub fn read_raw<'b>(arena: &'b Bump, text: &[u8]) -> Result<Raw<'b>, XmlFault>
+    requires { length text.now ≤ 67108864 }
+    ensures ok { IfOk result (λ r. XmlText text.now (raw_tree r)) }
+    ensures element { IfOk result (λ r. IsOneElement (raw_tree r)) }
+    ensures lawful { IfOk result (λ r. AreLawfulWithin (length text.now) (raw_tree r)) }
+    ensures document { IfOk result (λ r. IsDocument (stripped (raw_tree r))) }
+    ensures refused { IfErr result (IsFaultOf text.now) }
+{
+    match str::from_utf8(text) {
+        Ok(characters) => match document(arena, characters) {
+            Ok(tree) => Ok(tree),
+            Err(stop) => Err(stop.fault(text.len())),
+        },
+        Err(error) => Err(XmlFault::Malformed(place_of(error.valid_up_to(), 0))),
+    }
+}

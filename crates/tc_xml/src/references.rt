@@ -1,0 +1,214 @@
+// References, character data and attribute values (XML 1.0, 2.3, 2.4, 3.3.3, 4.1).
+ghost use Rattle.std.specs.Prelude.{◌≡◌, ◌<◌, ◌≤◌, ◌++◌, ◌∷◌, ◌⊎◌, [], ℕ, List, Some, None, true, false, length, slice_index, option_map, string_bytes, encode_utf8, drop, IfOk, IfErr, OnOk, IsTrue, MatchOption};
+ghost use Rattle.std.specs.List.{prefix_len};
+ghost use Rattle.std.specs.Str.Parse.{digits_value, AllDigits};
+ghost use Rattle.tc_base.specs.Characters as class;
+ghost use Rattle.tc_base.specs.declared.reasons.Why.TheVariants.{N2};
+ghost use Rattle.tc_model.specs.XmlTextBytes as xml_bytes;
+ghost use Rattle.tc_model.specs.XmlTextReferences as xml;
+ghost use Rattle.tc_xml.specs.Refusals.{Refuses, UnsupportedAt};
+ghost use Rattle.tc_model.specs.XmlTextRefusals as refusals;
+ghost use Rattle.tc_xml.specs.Values.{PieceAt, past_line_end};
+
+use crate::faults::Stop;
+use bumpalo::Bump;
+use bumpalo::collections::into_bump_str;
+use memchr::{memchr, memchr3};
+use tc_base::{NoMemory, Why, is_char};
+use tc_scan::{after_byte, after_mark, ncname, plain_len_within};
+
+/// The character of a predefined entity (XML 1.0, 4.6).
+fn predefined(name: &str) -> Option<char>
+    ensures { result ≡ xml.predefined name.now }
+{
+    match name {
+        "lt" => Some('<'),
+        "gt" => Some('>'),
+        "amp" => Some('&'),
+        "apos" => Some('\''),
+        "quot" => Some('"'),
+        _ => None,
+    }
+}
+
+/// The character with the number that the digits write, where XML has it.
+fn numbered(digits: &str, base: u32) -> Option<char>
+    requires base { (2 ≤ base) × (base ≤ 16) }
+    requires digits { AllDigits base digits.now }
+    ensures { MatchOption result (IsTrue (class.is_char (digits_value base digits.now)) → ⊥) (λ c. (c ≡ digits_value base digits.now) × IsTrue (class.is_char c)) }
+{
+    let mut number: u32 = 0;
+    for byte in digits.as_bytes() {
+        let digit = (*byte as char).to_digit(base)?;
+        number = number * base + digit;
+        if number > 0x10FFFF {
+            return None;
+        }
+    }
+    let c = char::from_u32(number)?;
+    if is_char(c) { Some(c) } else { None }
+}
+
+/// How many digits of this base the text begins with.
+fn digits_len(text: &str, base: u32) -> usize
+    requires { (2 ≤ base) × (base ≤ 16) }
+    ensures count { result ≡ prefix_len (xml.is_digit base) text.now }
+    ensures within { result ≤ length text.now }
+{
+    let mut count = 0;
+    for byte in text.as_bytes() {
+        if !(*byte as char).is_digit(base) {
+            return count;
+        }
+        count += 1;
+    }
+    count
+}
+
+/// The character to which digits and a `;` refer, and what follows.
+fn by_number(text: &str, base: u32) -> Option<(char, &str)>
+    requires { (2 ≤ base) × (base ≤ 16) }
+    ensures { MatchOption result
+        ((digits after : List ℕ) → xml_bytes.RunAt (xml.is_digit base) text.now digits (59 ∷ after) → IsTrue (class.is_char (digits_value base digits)) → ⊥)
+        (λ r. (digits : List ℕ) × xml_bytes.RunAt (xml.is_digit base) text.now digits (59 ∷ r.1.now) × (r.0 ≡ digits_value base digits) × IsTrue (class.is_char r.0)) }
+{
+    let count = digits_len(text, base);
+    if count == 0 {
+        return None;
+    }
+    let (digits, rest) = text.split_at(count);
+    let after = after_byte(rest, b';')?;
+    Some((numbered(digits, base)?, after))
+}
+
+/// The character for which the reference at the front stands, and what follows it.
+pub(crate) fn reference(text: &str) -> Result<(char, &str), Stop>
+    ensures ok { IfOk result (λ r. xml.ReferenceAt false text.now (encode_utf8 r.0) r.1.now) }
+    ensures no { IfErr result (λ e. Refuses e
+        ((s after : List ℕ) → xml.ReferenceAt true text.now s after → ⊥)
+        ((s after : List ℕ) → xml.ReferenceAt false text.now s after → ⊥)) }
+    ensures stands { IfErr result (λ e. UnsupportedAt e (λ why at. (why ≡ N2) × (at ≡ text.now) × refusals.OtherEntityAt at)) }
+{
+    let malformed = Stop::Malformed(text.len());
+    let Some(body) = after_byte(text, b'&') else {
+        return Err(malformed);
+    };
+    if let Some(digits) = after_mark(body, "#x") {
+        return match by_number(digits, 16) {
+            Some(found) => Ok(found),
+            None => Err(malformed),
+        };
+    }
+    if let Some(digits) = after_mark(body, "#") {
+        return match by_number(digits, 10) {
+            Some(found) => Ok(found),
+            None => Err(malformed),
+        };
+    }
+    let Some((name, rest)) = ncname(body) else {
+        return Err(malformed);
+    };
+    let Some(after) = after_byte(rest, b';') else {
+        return Err(malformed);
+    };
+    match predefined(name) {
+        Some(c) => Ok((c, after)),
+        None => Err(Stop::Unsupported(text.len(), Why::N2)),
+    }
+}
+
+/// What follows the CR LF, or the one byte, at the front.
+fn after_line_end(text: &str) -> &str
+    requires some { 0 < length text.now }
+    requires ascii { slice_index text.now 0 < 128 }
+    ensures { result.now ≡ past_line_end text.now }
+{
+    match after_mark(text, "\r\n") {
+        Some(rest) => rest,
+        None => &text[1..],
+    }
+}
+
+/// Appends characters, each line end as LF (XML 1.0, 2.11).
+pub(crate) fn push_lines(out: &mut String<&Bump>, run: &str) -> Result<(), NoMemory>
+    ensures { OnOk result (string_bytes out.new ≡ string_bytes out.old ++ xml_bytes.line_ends run.now) }
+{
+    let mut rest = run;
+    while let Some(at) = memchr(b'\r', rest.as_bytes()) {
+        let (front, behind) = rest.split_at(at);
+        out.push_str(front)?;
+        out.push('\n')?;
+        rest = after_line_end(behind);
+    }
+    out.push_str(rest)?;
+    Ok(())
+}
+
+/// Appends characters, each line end and each tab as a space (XML 1.0, 2.11 and 3.3.3).
+fn push_spaced(out: &mut String<&Bump>, run: &str) -> Result<(), NoMemory>
+    ensures { OnOk result (string_bytes out.new ≡ string_bytes out.old ++ xml.spaced (xml_bytes.line_ends run.now)) }
+{
+    let mut rest = run;
+    while let Some(at) = memchr3(b'\r', b'\n', b'\t', rest.as_bytes()) {
+        let (front, behind) = rest.split_at(at);
+        out.push_str(front)?;
+        out.push(' ')?;
+        rest = after_line_end(behind);
+    }
+    out.push_str(rest)?;
+    Ok(())
+}
+
+/// The quote at the front, and what follows it.
+fn quote(text: &str) -> Option<(u8, &str)>
+    ensures { MatchOption result
+        ((q : ℕ) (rest : List ℕ) → xml_bytes.IsQuote q → text.now ≡ q ∷ rest → ⊥)
+        (λ r. xml_bytes.IsQuote r.0 × (text.now ≡ r.0 ∷ r.1.now)) }
+{
+    if let Some(rest) = after_byte(text, b'"') {
+        return Some((b'"', rest));
+    }
+    Some((b'\'', after_byte(text, b'\'')?))
+}
+
+/// Appends the run of characters or the reference at the front of what is left of a value, normalised, and
+/// gives what follows it.
+fn push_piece<'t>(value: &mut String<&Bump>, text: &'t str, quote: u8) -> Result<&'t str, Stop>
+    requires is_quote { xml_bytes.IsQuote quote }
+    ensures ok { IfOk result (λ rest. (piece : List ℕ) × PieceAt false quote text.now piece rest.now × (string_bytes value.new ≡ string_bytes value.old ++ piece)) }
+    ensures no { IfErr result (λ e. Refuses e
+        ((piece rest : List ℕ) → PieceAt true quote text.now piece rest → ⊥)
+        ((piece rest : List ℕ) → PieceAt false quote text.now piece rest → ⊥)) }
+    ensures stands { IfErr result (λ e. UnsupportedAt e (λ why at. (why ≡ N2) × (at ≡ text.now) × refusals.OtherEntityAt at)) }
+{
+    let count = plain_len_within(text, quote);
+    if count == 0 {
+        let (c, rest) = reference(text)?;
+        value.push(c)?;
+        return Ok(rest);
+    }
+    let (run, rest) = text.split_at(count);
+    push_spaced(value, run)?;
+    Ok(rest)
+}
+
+/// The attribute value in quotes at the front, normalised, and what follows it.
+pub(crate) fn quoted<'b, 't>(arena: &'b Bump, text: &'t str) -> Result<(&'b str, &'t str), Stop>
+    ensures ok { IfOk result (λ r. xml.QuotedAt false text.now r.0.now r.1.now) }
+    ensures no { IfErr result (λ e. Refuses e
+        ((v after : List ℕ) → xml.QuotedAt true text.now v after → ⊥)
+        ((v after : List ℕ) → xml.QuotedAt false text.now v after → ⊥)) }
+    ensures stands { IfErr result (λ e. UnsupportedAt e (λ why at. (why ≡ N2) × refusals.QuotedRefuses text.now at)) }
+{
+    let Some((quote, inside)) = quote(text) else {
+        return Err(Stop::Malformed(text.len()));
+    };
+    let mut value = String::new(arena);
+    let mut rest = inside;
+    loop {
+        if let Some(after) = after_byte(rest, quote) {
+            return Ok((into_bump_str(value), after));
+        }
+        rest = push_piece(&mut value, rest, quote)?;
+    }
+}
