@@ -1,3 +1,7 @@
 pub mod Runs
 pub mod Names
 pub mod Trees
+mod ReadBackChars
+mod ReadBackText
+mod ReadBackTrees
+pub mod ReadBack

@@ -16,6 +16,7 @@ ghost use Rattle.tc_io.specs.Sink.{Appended, WroteFront};
 ghost use Rattle.tc_model.specs.Printed.{printed, printed_in};
 ghost use Rattle.tc_model.specs.Seen.{before, trees};
 ghost use Rattle.tc_model.specs.Trees.{none};
+ghost use Rattle.tc_print.specs.ReadBack.{IsShallowDocument, IsReadAs};
 
 use escapes::{Within, write_escaped};
 use tags::{begin_tag, default_within, write_end_tag};
@@ -24,7 +25,9 @@ use tc_model::Node;
 
 /// Appends trees as XML, one beside the other, without a declaration of the version or a line feed.
 ///
-/// It takes no memory. It fails only where a write fails, and then a front of the text was appended.
+/// It takes no memory. It fails only where a write fails, and then a front of the text was appended. A document
+/// is read back as itself, unless it is nested deeper than an XML text may be.
+#[tactic(auto, using(crate::proofs::ReadBack::read_back))]
 pub fn print<K: Sink>(nodes: &[Node<'_>], sink: &mut K) -> Result<(), WriteFault>
     // All of the text was appended, or only a front of it.
     ensures ok { OnOk result
@@ -35,6 +38,9 @@ pub fn print<K: Sink>(nodes: &[Node<'_>], sink: &mut K) -> Result<(), WriteFault
     // The count of faults never falls, and an error comes only where it rose.
     ensures count { K.faults sink.old ≤ K.faults sink.new }
     ensures rose { OnErr result (Rose (K.faults sink.old) (K.faults sink.new)) }
+
+    // The text of a document is read back as that document.
+    ensures read_back { IsShallowDocument (trees nodes.now) → IsReadAs (printed (trees nodes.now)) (trees nodes.now) }
 {
     print_within("", nodes, sink)
 }
