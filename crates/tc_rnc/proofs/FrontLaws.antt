@@ -1,0 +1,143 @@
+-- Where a text may be cut, and what stands at its front.
+use Rattle.std.proofs.Common.{◌≡◌, ℕ, suc, ◌+◌, ◌-◌, ◌<◌, ◌≤◌, Bool, true, false, cond, not, ◌⊎◌, inl, inr, ◌||◌, ◌==◌, List, [], ◌∷◌, ◌++◌, refl, ap, ◌∙◌, sym, subst, length, take, drop, get_or, arith, IsTrue, IsUtf8, IsCharBoundary, take-append-drop, length-drop, length-append, append_assoc, append-nil}
+use Rattle.std.specs.Prelude.{encode_utf8}
+use Rattle.std.specs.Str.{IsValidUpTo}
+use Rattle.std.specs.List.{prefix_len}
+use Rattle.std.proofs.Math.Seq.{take-append_seam, take-add}
+use Rattle.std.proofs.lemmas.Bool.{true≢false, eqb-true}
+use Rattle.std.proofs.Math.Nat.{eq-or-lt_of_le}
+use Rattle.std.proofs.lemmas.List.Sums.{prefix_len-le-length, prefix_len_stops}
+use Rattle.std.proofs.lemmas.Str.{encode_same, length-encode, len_utf8_bounds, IsUtf8-append, IsUtf8-encode, IsCharBoundary-at_seam, IsCharBoundary-before_ascii, IsCharBoundary-end}
+use Rattle.tc_base.specs.Characters.{is_char, is_white}
+use Rattle.tc_model.specs.Names.{IsChars}
+use Rattle.tc_model.specs.XmlTextBytes.{after_white}
+use Rattle.tc_model.specs.CompactSyntaxTokens.{is_line_end, after_line}
+use Rattle.tc_model.specs.CompactSyntaxRefused.{FrontOf}
+use Rattle.tc_model.proofs.XmlTextChars.{char_scalar, no_chars, one_char, join_chars}
+use Rattle.tc_model.proofs.XmlTextPhrases.{same_first}
+use Rattle.tc_rnc.specs.Fronts.{IsTextFront, IsNoChar, at_end, other, IsPastChars, is_in_line, Skips, nothing, white, comment, BeginsNoSpace}
+
+char_some : (c : ℕ) → 0 < length (encode_utf8 c)
+char_some c = omega (arith, length-encode c, len_utf8_bounds c)
+
+no_char_in_none : (c : ℕ) (r : List ℕ) → [] ≡ encode_utf8 c ++ r → ⊥
+no_char_in_none c r e = omega (arith, ap length e, length-append (encode_utf8 c) r, char_some c)
+
+pub whole_front : (bytes text : List ℕ) → text ≡ bytes → IsTextFront bytes text
+whole_front bytes text e = record { after = []; parts = sym e ∙ sym (append-nil text); longest = λ c r f s. no_char_in_none c r f }
+
+pub valid_front : (bytes text : List ℕ) (n : ℕ) → IsValidUpTo bytes n → text ≡ take n bytes → IsTextFront bytes text
+valid_front bytes text n up e = record {
+  after = drop n bytes;
+  parts = sym (take-append-drop n bytes) ∙ ap (λ w. w ++ drop n bytes) (sym e);
+  longest = λ c r f s.
+      let is : take (n + length (encode_utf8 c)) bytes ≡ take n bytes ++ encode_utf8 c =
+      take-add n (length (encode_utf8 c)) bytes
+      ∙ ap (λ w. take n bytes ++ w) (ap (take (length (encode_utf8 c))) f ∙ take-append_seam (encode_utf8 c) r) in
+      up.longest (n + length (encode_utf8 c)) (omega (arith, char_some c))
+      (subst IsUtf8 (sym is) (IsUtf8-append (take n bytes) (encode_utf8 c) up.front (IsUtf8-encode c s)));
+}
+
+-- one more character
+pub one_more_char : (text rest after : List ℕ) (c : ℕ) → ((front : List ℕ) × (text ≡ front ++ rest) × IsChars front) → rest ≡ encode_utf8 c ++ after → is_char c ≡ true
+    → (front : List ℕ) × (text ≡ front ++ after) × IsChars front
+one_more_char text rest after c (front, e, h) f k = (
+  front ++ encode_utf8 c,
+  e ∙ (ap (λ w. front ++ w) f ∙ sym (append_assoc front (encode_utf8 c) after)),
+  join_chars front (encode_utf8 c) h (one_char c k),
+)
+
+pub begun_chars : (text : List ℕ) → (front : List ℕ) × (text ≡ front ++ text) × IsChars front
+begun_chars text = ([], refl, no_chars)
+
+pub past_chars_at_end : (text rest : List ℕ) → ((front : List ℕ) × (text ≡ front ++ rest) × IsChars front) → rest ≡ [] → IsPastChars text rest
+past_chars_at_end text rest (front, e, h) f = record { front = front; parts = e; characters = h; stops = subst IsNoChar (sym f) at_end }
+
+pub past_chars_at_other : (text rest after : List ℕ) (c : ℕ) → ((front : List ℕ) × (text ≡ front ++ rest) × IsChars front) → rest ≡ encode_utf8 c ++ after → is_char c ≡ false → IsPastChars text rest
+past_chars_at_other text rest after c (front, e, h) f k = record { front = front; parts = e; characters = h; stops = other c after f k }
+
+pub shorter : (rest after : List ℕ) (c : ℕ) → rest ≡ encode_utf8 c ++ after → length after < length rest
+shorter rest after c e = omega (arith, ap length e, length-append (encode_utf8 c) after, char_some c)
+
+pub cut_at_rest : (text xs rest : List ℕ) (n : ℕ) → text ≡ xs ++ rest → IsUtf8 rest → n ≡ length text - length rest → IsCharBoundary text n
+cut_at_rest text xs rest n e u f =
+    subst (IsCharBoundary text) (omega (arith, f, ap length e, length-append xs rest)) (IsCharBoundary-at_seam text xs rest e u)
+
+-- the characters at the front of the text at the front
+pub front_of : (bytes text rest front : List ℕ) (n : ℕ) → IsTextFront bytes text → IsPastChars text rest → n ≡ length text - length rest → front ≡ take n text → FrontOf bytes front
+front_of bytes text rest front n a b f g =
+    let len : n ≡ length b.front = omega (arith, f, ap length b.parts, length-append b.front rest) in
+    let same : front ≡ b.front = g ∙ (ap (λ m. take m text) len ∙ (ap (take (length b.front)) b.parts ∙ take-append_seam b.front rest)) in
+    record {
+      after = rest ++ a.after;
+      parts = a.parts ∙ (ap (λ w. w ++ a.after) (b.parts ∙ ap (λ w. w ++ rest) (sym same)) ∙ append_assoc front rest a.after);
+      characters = subst IsChars (sym same) b.characters;
+      longest = by b.stops;
+    }
+  where
+    by : {rest : List ℕ} → IsNoChar rest → (c : ℕ) (r : List ℕ) → rest ++ a.after ≡ encode_utf8 c ++ r → IsTrue (is_char c) → ⊥
+    by at_end c r e h = a.longest c r e (char_scalar c h)
+    by (other d s i k) c r e h =
+        true≢false (sym h ∙ (ap is_char (encode_same c d r (s ++ a.after) (sym e ∙ (ap (λ w. w ++ a.after) i ∙ append_assoc (encode_utf8 d) s a.after))).0 ∙ k))
+
+-- a line ends before an ASCII byte, or with the text
+line_end_ascii : (b : ℕ) → not (is_line_end b) ≡ false → b < 128
+line_end_ascii b = by (b == 0xA) refl (b == 0xD) refl
+  where
+    by : (x : Bool) → (b == 0xA) ≡ x → (y : Bool) → (b == 0xD) ≡ y → not (x || y) ≡ false → b < 128
+    by true e y f k = omega (arith, eqb-true b 0xA e)
+    by false e true f k = omega (arith, eqb-true b 0xD f)
+    by false e false f k = absurd (true≢false k)
+
+pub cut_after_line : (bs : List ℕ) (n : ℕ) → IsUtf8 bs → n ≡ prefix_len is_in_line bs → IsCharBoundary bs n
+cut_after_line bs n u e = subst (IsCharBoundary bs) (sym e) (by (eq-or-lt_of_le (prefix_len-le-length is_in_line bs)))
+  where
+    by : (prefix_len is_in_line bs ≡ length bs) ⊎ (prefix_len is_in_line bs < length bs) → IsCharBoundary bs (prefix_len is_in_line bs)
+    by (inl f) = subst (IsCharBoundary bs) (sym f) (IsCharBoundary-end bs)
+    by (inr l) = IsCharBoundary-before_ascii bs (prefix_len is_in_line bs) l (line_end_ascii (get_or bs (prefix_len is_in_line bs) 0) (prefix_len_stops is_in_line bs 0 l))
+
+run_goes : (p : ℕ → Bool) (b : ℕ) (bs : List ℕ) → p b ≡ true → drop (prefix_len p (b ∷ bs)) (b ∷ bs) ≡ drop (prefix_len p bs) bs
+run_goes p b bs e =
+    let is : prefix_len p (b ∷ bs) ≡ suc (prefix_len p bs) = ap (λ x. cond x (1 + prefix_len p bs) 0) e ∙ omega arith in
+    ap (λ n. drop n (b ∷ bs)) is
+
+run_stops : (p : ℕ → Bool) (b : ℕ) (bs : List ℕ) → p b ≡ false → drop (prefix_len p (b ∷ bs)) (b ∷ bs) ≡ b ∷ bs
+run_stops p b bs e = ap (λ x. drop (cond x (1 + prefix_len p bs) 0) (b ∷ bs)) e
+
+pub skips_white : (bs : List ℕ) → Skips bs (after_white bs)
+skips_white [] = nothing
+skips_white (b ∷ bs) = by (is_white b) refl (skips_white bs)
+  where
+    by : (x : Bool) → is_white b ≡ x → Skips bs (after_white bs) → Skips (b ∷ bs) (after_white (b ∷ bs))
+    by true e h = subst (Skips (b ∷ bs)) (sym (run_goes is_white b bs e)) (white e h)
+    by false e h = subst (Skips (b ∷ bs)) (sym (run_stops is_white b bs e)) nothing
+
+pub no_white_behind : (bs : List ℕ) (c : ℕ) (r : List ℕ) → after_white bs ≡ c ∷ r → IsTrue (is_white c) → ⊥
+no_white_behind [] c r e h = omega (arith, ap length e)
+no_white_behind (b ∷ bs) c r e h = by (is_white b) refl (λ f. no_white_behind bs c r f h)
+  where
+    by : (x : Bool) → is_white b ≡ x → (after_white bs ≡ c ∷ r → ⊥) → ⊥
+    by true f k = k (sym (run_goes is_white b bs f) ∙ e)
+    by false f k =
+        let is : b ∷ bs ≡ c ∷ r = sym (run_stops is_white b bs f) ∙ e in
+        true≢false (sym h ∙ (ap is_white (sym (same_first is)) ∙ f))
+
+-- one more comment, and white space
+pub skips_skips : {xs ys zs : List ℕ} → Skips xs ys → Skips ys zs → Skips xs zs
+skips_skips nothing k = k
+skips_skips (white e h) k = white e (skips_skips h k)
+skips_skips (comment h) k = comment (skips_skips h k)
+
+pub skips_comment : (text rest behind line : List ℕ) → Skips text rest → rest ≡ 0x23 ∷ behind → line ≡ after_line behind → Skips text (after_white line)
+skips_comment text rest behind line h e f =
+    skips_skips h (subst (λ w. Skips w (after_white line)) (sym e) (comment (subst (λ w. Skips w (after_white line)) f (skips_white line))))
+
+pub after_run_len : (p : ℕ → Bool) (bs : List ℕ) → length (drop (prefix_len p bs) bs) ≤ length bs
+after_run_len p bs = omega (arith, length-drop (prefix_len p bs) bs)
+
+pub past_comment_shorter : (rest behind line after : List ℕ) → rest ≡ 0x23 ∷ behind → line ≡ after_line behind → after ≡ after_white line → length after < length rest
+past_comment_shorter rest behind line after e f g =
+    omega (arith, ap length e, ap length f, ap length g, after_run_len is_in_line behind, after_run_len is_white line)
+
+pub begins_no_space : (text line rest : List ℕ) → rest ≡ after_white line → ((r : List ℕ) → rest ≡ 0x23 ∷ r → ⊥) → BeginsNoSpace rest
+begins_no_space text line rest e h = record { no_white = λ c r f. no_white_behind line c r (sym e ∙ f); no_comment = h }

@@ -1,0 +1,16 @@
+pub mod Views
+pub mod Refusals
+pub mod FrontLaws
+pub mod WordLaws
+pub mod LexLaws
+pub mod AnswerLaws
+pub mod Escapes
+pub mod Constructs
+pub mod RefusalLaws
+pub mod ScopeLaws
+pub mod ClassLaws
+pub mod DefinitionLaws
+pub mod PatternLaws
+pub mod ItemLaws
+pub mod DeclarationLaws
+pub mod TopLaws

@@ -1,0 +1,12 @@
+pub mod Extents
+pub mod Seen
+pub mod Escapes
+pub mod Fronts
+pub mod Lexed
+pub mod Refusals
+pub mod Readings
+pub mod Blocks
+pub mod Scopes
+pub mod Connectors
+pub mod Answers
+pub mod Schemas

@@ -1,0 +1,37 @@
+// The mark that stands first among tokens.
+ghost use Rattle.std.specs.Prelude.{◌≡◌, [], ◌∷◌, ℕ, List, MatchOption, IfOk, IfErr};
+ghost use Rattle.tc_model.specs.CompactSyntaxNames.{LacksMark};
+ghost use Rattle.tc_rnc.specs.Readings.{BeginsWith};
+ghost use Rattle.tc_rnc.specs.Refusals.{FaultAt};
+ghost use Rattle.tc_rnc.specs.Seen as seen;
+
+use crate::faults::{RncFault, first_of, unexpected};
+use crate::tokens::{End, Token};
+
+/// What follows this mark, where it stands first.
+pub fn after_mark<'s, 't>(tokens: &'s [Token<'t>], mark: char) -> Option<&'s [Token<'t>]>
+    ensures { MatchOption result (LacksMark mark (seen.tokens tokens.now)) (λ rest. BeginsWith mark (seen.tokens tokens.now) (seen.tokens rest.now)) }
+{
+    let (first, rest) = first_of(tokens)?;
+    if first.is_mark(mark) {
+        Some(rest)
+    } else {
+        None
+    }
+}
+
+/// What follows this mark, which must stand first.
+pub fn expect_mark<'s, 't>(
+    tokens: &'s [Token<'t>],
+    mark: char,
+    end: End,
+) -> Result<&'s [Token<'t>], RncFault>
+    ensures ok { IfOk result (λ rest. BeginsWith mark (seen.tokens tokens.now) (seen.tokens rest.now)) }
+    ensures no { IfErr result (λ e. LacksMark mark (seen.tokens tokens.now)) }
+    ensures stands { IfErr result (λ e. FaultAt e end (seen.tokens tokens.now)) }
+{
+    match after_mark(tokens, mark) {
+        Some(rest) => Ok(rest),
+        None => Err(unexpected(tokens, end)),
+    }
+}

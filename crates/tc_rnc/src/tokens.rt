@@ -1,0 +1,130 @@
+// The tokens of a text.
+ghost use Rattle.std.specs.Prelude.{◌≡◌, ◌+◌, ◌≤◌, ℕ, List, None, Some, MatchBool, MatchOption};
+ghost use Rattle.tc_model.specs.CompactSyntaxNames as names;
+ghost use Rattle.tc_rnc.specs.Extents.{extent};
+
+use tc_base::Place;
+
+/// What a token says.
+#[derive(Clone, Copy)]
+pub enum Word<'t> {
+    /// An NCName, which may be a keyword.
+    Name(&'t str),
+    /// A backslash and an NCName, which then is no keyword.
+    Escaped(&'t str),
+    /// A prefix and a local name.
+    Prefixed(&'t str, &'t str),
+    /// A prefix, with `:*` after it.
+    AllOf(&'t str),
+    Literal(&'t str),
+    /// Any other character.
+    Mark(char),
+}
+
+/// A word with the place of its first byte.
+#[derive(Clone, Copy)]
+pub struct Token<'t> {
+    pub word: Word<'t>,
+    pub place: Place,
+    ghost within: { place.0 + extent word ≤ 67108864 },
+}
+
+/// Where the tokens end, and where the escape of a character stands in a literal that isn't closed there.
+#[derive(Clone, Copy)]
+pub struct End {
+    pub place: Place,
+    pub escape: Option<Place>,
+}
+
+const KEYWORDS: [&str; 19] = [
+    "attribute",
+    "default",
+    "datatypes",
+    "div",
+    "element",
+    "empty",
+    "external",
+    "grammar",
+    "include",
+    "inherit",
+    "list",
+    "mixed",
+    "namespace",
+    "notAllowed",
+    "parent",
+    "start",
+    "string",
+    "text",
+    "token",
+];
+
+/// Whether a name is a keyword where no backslash stands before it.
+fn is_keyword(name: &str) -> bool
+    ensures { result ≡ names.is_keyword name.now }
+{
+    KEYWORDS.contains(&name)
+}
+
+impl<'t> Token<'t> {
+    ghost use Rattle.tc_model.specs.CompactSyntaxTokens as model;
+    ghost use Rattle.tc_rnc.specs.Seen as seen;
+
+    pub fn is_mark(&self, mark: char) -> bool
+        ensures { MatchBool result (names.IsMark mark (seen.token self.now)) (names.IsMark mark (seen.token self.now) → ⊥) }
+    {
+        match self.word {
+            Word::Mark(c) => c == mark,
+            _ => false,
+        }
+    }
+
+    pub fn is_name(&self, name: &str) -> bool
+        ensures { MatchBool result (names.IsWord name.now (seen.token self.now)) (names.IsWord name.now (seen.token self.now) → ⊥) }
+    {
+        match self.word {
+            Word::Name(n) => n == name,
+            _ => false,
+        }
+    }
+
+    /// The text of a literal.
+    pub fn literal(&self) -> Option<&'t str>
+        ensures { MatchOption result ((s : List ℕ) → seen.word self.now.word ≡ model.literal s → ⊥) (λ s. seen.word self.now.word ≡ model.literal s.now) }
+    {
+        match self.word {
+            Word::Literal(value) => Some(value),
+            _ => None,
+        }
+    }
+
+    /// Whether this token begins so many bytes after that one.
+    pub fn follows(&self, token: &Token<'_>, bytes: u32) -> bool
+        ensures { MatchBool result (self.now.place.0 ≡ token.now.place.0 + bytes) (self.now.place.0 ≡ token.now.place.0 + bytes → ⊥) }
+    {
+        match self.place.0.checked_sub(token.place.0) {
+            Some(between) => between == bytes,
+            None => false,
+        }
+    }
+
+    /// The name that is an identifier.
+    pub fn identifier(&self) -> Option<&'t str>
+        ensures { MatchOption result (names.identifier (seen.word self.now.word) ≡ None) (λ n. names.identifier (seen.word self.now.word) ≡ Some n.now) }
+    {
+        match self.word {
+            Word::Name(n) if !is_keyword(n) => Some(n),
+            Word::Escaped(n) => Some(n),
+            _ => None,
+        }
+    }
+
+    /// The name that is an identifier or a keyword.
+    pub fn identifier_or_keyword(&self) -> Option<&'t str>
+        ensures { MatchOption result (names.identifier_or_keyword (seen.word self.now.word) ≡ None) (λ n. names.identifier_or_keyword (seen.word self.now.word) ≡ Some n.now) }
+    {
+        match self.word {
+            Word::Name(n) | Word::Escaped(n) => Some(n),
+            _ => None,
+        }
+    }
+}

@@ -1,0 +1,119 @@
+// The word at the front of a text.
+ghost use Rattle.std.specs.Prelude.{◌≡◌, ◌+◌, ◌≤◌, ℕ, List, length, IsTrue, MatchOption};
+ghost use Rattle.std.specs.List.{list_all};
+ghost use Rattle.tc_model.specs.CompactSyntaxTokens as model;
+ghost use Rattle.tc_model.specs.XmlTextBytes as xml;
+ghost use Rattle.tc_model.specs.XmlTextNames as xml_names;
+ghost use Rattle.tc_rnc.specs.Extents.{extent};
+ghost use Rattle.tc_rnc.specs.Fronts.{IsNoMark, is_in_line};
+ghost use Rattle.tc_rnc.specs.Seen as seen;
+
+use crate::front::first_char;
+use crate::tokens::Word;
+use tc_base::{is_name_start, is_white};
+use tc_scan::{after_byte, begins, ncname, up_to};
+
+/// A literal in quotes at the front, and what follows it.
+fn literal(text: &str) -> Option<(&str, &str)>
+    ensures { MatchOption result ((value after : List ℕ) → xml.LiteralAt text.now value after → ⊥) (λ r. xml.LiteralAt text.now r.0.now r.1.now) }
+{
+    if let Some(rest) = after_byte(text, b'"') {
+        return up_to(rest, "\"");
+    }
+    let rest = after_byte(text, b'\'')?;
+    up_to(rest, "'")
+}
+
+/// Whether no line ends in a text.
+fn is_on_one_line(text: &str) -> bool
+    ensures { result ≡ list_all is_in_line text.now }
+{
+    text.as_bytes().iter().all(|b| !matches!(*b, b'\n' | b'\r'))
+}
+
+/// A literal on one line at the front, and what follows it.
+fn quoted(text: &str) -> Option<(&str, &str)>
+    ensures { MatchOption result ((value after : List ℕ) → xml.LiteralAt text.now value after → IsTrue (list_all is_in_line value) → ⊥)
+        (λ r. xml.LiteralAt text.now r.0.now r.1.now × IsTrue (list_all is_in_line r.0.now)) }
+{
+    let (value, after) = literal(text)?;
+    if is_on_one_line(value) {
+        Some((value, after))
+    } else {
+        None
+    }
+}
+
+/// A backslash and a name at the front, and what follows them. Directly before a brace, a backslash and `x` are none.
+fn escaped(text: &str) -> Option<(&str, &str)>
+    ensures { MatchOption result ((name after : List ℕ) → model.EscapedAt text.now name after → ⊥) (λ r. model.EscapedAt text.now r.0.now r.1.now) }
+{
+    let rest = after_byte(text, b'\\')?;
+    let (name, after) = ncname(rest)?;
+    if name == "x" && begins(after, "{") {
+        None
+    } else {
+        Some((name, after))
+    }
+}
+
+/// The word that begins with this name, which this follows, and what follows the word.
+fn named<'t>(name: &'t str, rest: &'t str) -> (Word<'t>, &'t str)
+    ensures { (bs : List ℕ) → xml_names.NcNameAt bs name.now rest.now → model.WordAt bs (seen.word result.0) result.1.now }
+{
+    let Some(behind) = after_byte(rest, b':') else {
+        return (Word::Name(name), rest);
+    };
+    if let Some(after) = after_byte(behind, b'*') {
+        return (Word::AllOf(name), after);
+    }
+    match ncname(behind) {
+        Some((local, after)) => (Word::Prefixed(name, local), after),
+        None => (Word::Name(name), rest),
+    }
+}
+
+/// Whether neither a name, white space, a comment, a literal nor a backslash begins with this character.
+fn is_mark(c: char) -> bool
+    ensures { result ≡ model.is_mark c }
+{
+    !((is_name_start(c) && c != ':')
+        || is_white(c)
+        || c == '"'
+        || c == '#'
+        || c == '\''
+        || c == '\\')
+}
+
+/// A character that stands for itself at the front, and what follows it.
+fn marked(text: &str) -> Option<(Word<'_>, &str)>
+    requires { (name after : List ℕ) → model.EscapedAt text.now name after → ⊥ }
+    ensures { MatchOption result (IsNoMark text.now) (λ r. model.WordAt text.now (seen.word r.0) r.1.now) }
+{
+    if let Some(rest) = after_byte(text, b'\\') {
+        return Some((Word::Mark('\\'), rest));
+    }
+    let (first, rest) = first_char(text)?;
+    if is_mark(first) {
+        Some((Word::Mark(first), rest))
+    } else {
+        None
+    }
+}
+
+/// The word at the front, as long as it goes, and what follows it.
+pub fn word_at(text: &str) -> Option<(Word<'_>, &str)>
+    ensures { MatchOption result ((word : model.Word) (after : List ℕ) → model.WordAt text.now word after → ⊥) (λ r. model.WordAt text.now (seen.word r.0) r.1.now) }
+{
+    if let Some((name, rest)) = ncname(text) {
+        return Some(named(name, rest));
+    }
+    if let Some((value, after)) = quoted(text) {
+        return Some((Word::Literal(value), after));
+    }
+    if let Some((name, after)) = escaped(text) {
+        return Some((Word::Escaped(name), after));
+    }
+    let (word, after) = marked(text)?;
+    Some((word, after))
+}
