@@ -1,0 +1,12 @@
+pub mod Marks
+pub mod Walks
+pub mod Gathering
+pub mod Answered
+pub mod Made
+pub mod Standing
+pub mod Reaching
+pub mod Ordered
+pub mod Resolving
+pub mod Numbering
+pub mod Whole
+pub mod Checked

@@ -1,0 +1,75 @@
+use Rattle.std.proofs.Common.{◌∙◌, List, [], Bool, ap, sym, subst, length, true, false, Some}
+use Rattle.tc_model.specs.Seen.{place}
+use Rattle.tc_model.specs.SimplifiesFaults.{IsAcyclic}
+use Rattle.tc_rnc.specs.Seen.{syntax}
+use Rattle.tc_simple.specs.Nodes.{HasNumbersBelow, IsFirstLoop, StartsBadly, StartsWell}
+use Rattle.tc_simple.specs.Places.{maybe_place}
+use Rattle.tc_model.specs.SimplifiesParts.{definitions_of}
+use Rattle.tc_simple.proofs.Checked.{count_links, first_exists, numbers_below, start_within}
+use Rattle.tc_simple.proofs.Resolving.{badly_is, first_is_loop, none_is_loop, well_is}
+use Rattle.tc_simple.proofs.resolve.check.Goals as goal
+
+pub first_loop-requires-clause-marks : goal.first_loop-requires-clause-marks
+first_loop-requires-clause-marks c = c.requires.resolves.reach.size ∙ count_links c.args.table.now true
+
+pub first_loop-requires-clause-states : goal.first_loop-requires-clause-states
+first_loop-requires-clause-states c = c.requires.resolves.components.size ∙ count_links c.args.table.now false
+
+pub first_loop-requires-clause-numbers : goal.first_loop-requires-clause-numbers
+first_loop-requires-clause-numbers c =
+    subst (HasNumbersBelow c.args.table.now) (sym (c.requires.resolves.components.size ∙ count_links c.args.table.now false)) (numbers_below (syntax c.args.syntax.now) c.args.table.now c.requires.resolves.table)
+
+pub mark-requires-clause-start : goal.mark-requires-clause-start
+mark-requires-clause-start c = start_within (syntax c.args.syntax.now) c.args.table.now c.args.start c.requires.resolves.table c.requires.resolves.begins
+
+pub mark-requires-clause-table : goal.mark-requires-clause-table
+mark-requires-clause-table c = (syntax c.args.syntax.now, c.requires.resolves.table)
+
+pub returns-in-Some-clause-err : goal.returns-in-Some-clause-err
+returns-in-Some-clause-err c =
+    let t = c.args.table.now in
+    let w = c.args.walk.now in (
+      c.requires.once,
+      c.requires.defined,
+      first_is_loop (syntax c.args.syntax.now) t c.args.start c.args.marks.now w.states.items w.order.items c.requires.resolves (place c.in-Some.place)
+          (subst (IsFirstLoop t w.states.items c.args.marks.now) (ap maybe_place c.in-Some.is) c.in_ok-place.ensures),
+    )
+
+pub returns-in-Some-bad_except-clause-err : goal.returns-in-Some-bad_except-clause-err
+returns-in-Some-bad_except-clause-err c =
+    let t = c.args.table.now in
+    let w = c.args.walk.now in
+    let acyclic : IsAcyclic (syntax c.args.syntax.now) = none_is_loop (syntax c.args.syntax.now) t c.args.start c.args.marks.now w.states.items w.order.items c.requires.resolves
+    (subst (IsFirstLoop t w.states.items c.args.marks.now) (ap maybe_place c.in_default.is) c.in_ok-place.ensures) in
+    (c.requires.once, c.requires.defined, acyclic, sym c.in-Some-bad_except.ensures)
+
+pub returns-then-starts-clause-ok : goal.returns-then-starts-clause-ok
+returns-then-starts-clause-ok c =
+    let s = syntax c.args.syntax.now in
+    let t = c.args.table.now in
+    let w = c.args.walk.now in
+    record {
+      once = c.requires.once;
+      defined = c.requires.defined;
+      acyclic = none_is_loop s t c.args.start c.args.marks.now w.states.items w.order.items c.requires.resolves (subst (IsFirstLoop t w.states.items c.args.marks.now) (ap maybe_place c.in_default.is) c.in_ok-place.ensures);
+      excepts = sym c.in_default-bad_except.ensures;
+      start = well_is s t c.requires.resolves.table c.args.start c.requires.resolves.begins c.in_ok-below.below.items c.in_ok-below.ensures
+          (subst (λ (m : List Bool). StartsWell t m (length t.patterns.items)) c.deref.ensures.value c.if-starts.ensures);
+    }
+
+pub returns-clause-err : goal.returns-clause-err
+returns-clause-err c =
+    let s = syntax c.args.syntax.now in
+    let t = c.args.table.now in
+    let w = c.args.walk.now in
+    let acyclic : IsAcyclic s = none_is_loop s t c.args.start c.args.marks.now w.states.items w.order.items c.requires.resolves
+    (subst (IsFirstLoop t w.states.items c.args.marks.now) (ap maybe_place c.in_default.is) c.in_ok-place.ensures) in
+    let (p, got, is) = c.requires.resolves.table.present [] c.args.start c.requires.resolves.begins in
+    let (first, e) = first_exists (definitions_of s.definitions []) is in (
+      c.requires.once,
+      c.requires.defined,
+      acyclic,
+      sym c.in_default-bad_except.ensures,
+      badly_is s t c.requires.resolves.table c.args.start c.requires.resolves.begins c.in_ok-below.below.items c.in_ok-below.ensures (place c.start_place.result)
+          (subst (λ (m : List Bool). StartsBadly t m) c.deref.ensures.value c.if-starts.ensures) (e ∙ ap Some (sym (c.start_place.ensures first e))),
+    )

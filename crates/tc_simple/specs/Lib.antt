@@ -1,0 +1,14 @@
+pub mod Graph
+pub mod Marks
+pub mod Walks
+pub mod Groups
+pub mod Places
+pub mod Gathered
+pub mod Tables
+pub mod Nodes
+pub mod Sizes
+pub mod Becoming
+pub mod Orders
+pub mod Refused
+pub mod Totals
+pub mod Resolves

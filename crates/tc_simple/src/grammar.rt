@@ -1,0 +1,123 @@
+// The grammar of a syntax tree without faults.
+ghost use Rattle.std.specs.Prelude.{◌≡◌, ◌<◌, ◌≤◌, IfErr, IfOk, length, map};
+ghost use Rattle.std.specs.List.{All};
+ghost use Rattle.tc_model.specs.CompactSyntaxLawful.{IsLawfulSyntax};
+ghost use Rattle.tc_model.specs.CompactSyntaxTrees as t;
+ghost use Rattle.tc_model.specs.Grammars as g;
+ghost use Rattle.tc_model.specs.Simplifies.{Simplifies};
+ghost use Rattle.tc_model.specs.SimplifiesCounts.{IsWithinCounts};
+ghost use Rattle.tc_model.specs.SimplifiesFaults.{IsFaultless};
+ghost use Rattle.tc_rnc.specs.Seen as see;
+ghost use Rattle.tc_simple.specs.Refused.{Refuses};
+ghost use Rattle.tc_simple.specs.Resolves.{Resolves};
+ghost use Rattle.tc_model.specs.Seen as seen;
+ghost use Rattle.tc_simple.specs.Nodes.{elements_of, see_element, HasNumbersBelow};
+ghost use Rattle.tc_simple.specs.Totals.{element_patterns_of, total_of};
+
+use crate::becomes::{name_class, pattern};
+use crate::counts::{Size, measure};
+use crate::cycles::Walk;
+use crate::elements::{Elem, elements};
+use crate::faults::SimpleFault;
+use crate::groups::Table;
+use crate::order::{all_patterns, all_sizes};
+use bumpalo::Bump;
+use bumpalo::collections::into_bump_slice;
+use tc_base::NoMemory;
+use tc_model::{ElemPat, Grammar, Pat};
+use tc_rnc::Syntax;
+
+/// The most nodes of patterns, the greatest depth, and the most element patterns.
+const MOST_NODES: u64 = 65536;
+
+const GREATEST_DEPTH: u64 = 2000;
+
+const MOST_ELEMENTS: usize = 256;
+
+/// The size of the start and of the contents of elements, side by side.
+fn total<'b>(table: &Table<'b>, sizes: &[Size], start: Size, elements: &[Elem<'b>]) -> Size
+    requires { HasNumbersBelow table.now (length sizes.now) }
+    ensures { result ≡ total_of table.now sizes.now start (map see_element elements.now) }
+{
+    let mut all = start;
+    for element in elements {
+        all = all.beside(measure(table, sizes, &element.content));
+    }
+    all
+}
+
+/// The element patterns of elements.
+fn element_patterns<'b>(
+    arena: &'b Bump,
+    table: &Table<'b>,
+    made: &[Pat<'b>],
+    elements: &[Elem<'b>],
+) -> Result<&'b [ElemPat<'b>], NoMemory>
+    requires few { length elements.now ≤ 256 }
+    requires numbers { HasNumbersBelow table.now (length made.now) }
+    ensures { IfOk result (λ es. map seen.element_pattern es.now ≡ element_patterns_of table.now made.now (map see_element elements.now) (map see_element elements.now)) }
+{
+    let mut out = Vec::new(arena);
+    for element in elements {
+        let names = name_class(arena, &element.names)?;
+        let content = pattern(arena, table, &element.content, elements, made)?;
+        out.push(ElemPat { names, content })?;
+    }
+    Ok(into_bump_slice(out))
+}
+
+/// The elements that are reached, where the grammar isn't too large.
+pub fn counted<'b>(
+    arena: &'b Bump,
+    syntax: &Syntax<'b>,
+    table: &Table<'b>,
+    start: usize,
+    marks: &[bool],
+    walk: &Walk<'b>,
+) -> Result<Vec<Elem<'b>, &'b Bump>, SimpleFault>
+    requires lawful { IsLawfulSyntax (see.syntax syntax.now) }
+    requires faultless { IsFaultless (see.syntax syntax.now) }
+    requires resolves { Resolves (see.syntax syntax.now) table.now start marks.now walk.now.states.items walk.now.order.items }
+    ensures elements { IfOk result (λ v. map see_element v.items ≡ elements_of table.now marks.now (see.syntax syntax.now).definitions) }
+    ensures few { IfOk result (λ v. length v.items ≤ 256) }
+    ensures within { IfOk result (λ v. (grammar : g.Grammar) × Simplifies (see.syntax syntax.now) grammar × IsWithinCounts grammar) }
+    ensures err { IfErr result (λ e. Refuses (see.syntax syntax.now) e) }
+{
+    let found = elements(arena, table, marks, syntax)?;
+    let sizes = all_sizes(arena, table, walk, marks)?;
+    let size = total(table, &sizes, sizes[start], &found);
+    if size.nodes > MOST_NODES {
+        return Err(SimpleFault::TooManyNodes);
+    }
+    if size.depth > GREATEST_DEPTH {
+        return Err(SimpleFault::TooNested);
+    }
+    if found.len() > MOST_ELEMENTS {
+        return Err(SimpleFault::TooManyElements);
+    }
+    Ok(found)
+}
+
+/// Makes the grammar whose elements these are.
+pub fn built<'b>(
+    arena: &'b Bump,
+    table: &Table<'b>,
+    start: usize,
+    marks: &[bool],
+    walk: &Walk<'b>,
+    found: &[Elem<'b>],
+) -> Result<Grammar<'b>, NoMemory>
+    requires start { start < length table.now.patterns.items }
+    requires marks { length marks.now ≡ length table.now.patterns.items }
+    requires numbers { HasNumbersBelow table.now (length table.now.patterns.items) }
+    requires order { All (λ k. k < length table.now.patterns.items) walk.now.order.items }
+    requires few { length found.now ≤ 256 }
+    ensures { IfOk result (λ grammar. (s : t.Syntax) → IsLawfulSyntax s → IsFaultless s → Resolves s table.now start marks.now walk.now.states.items walk.now.order.items → map see_element found.now ≡ elements_of table.now marks.now s.definitions → Simplifies s (seen.grammar grammar)) }
+{
+    let patterns = all_patterns(arena, table, walk, marks, found)?;
+    let elements = element_patterns(arena, table, &patterns, found)?;
+    Ok(Grammar {
+        start: patterns[start],
+        elements,
+    })
+}

@@ -1,0 +1,56 @@
+//! Simplifies schemas of RELAX NG's compact syntax (RELAX NG Specification, OASIS 2001, 4, as far as elements
+//! and text are told).
+#![tactic(auto)]
+
+ghost use Rattle.std.specs.Prelude.{IfErr, IfOk};
+ghost use Rattle.tc_model.specs.CompactSyntaxLawful.{IsLawfulSyntax};
+ghost use Rattle.tc_model.specs.Seen as seen;
+ghost use Rattle.tc_model.specs.Simplifies.{Simplifies};
+ghost use Rattle.tc_model.specs.SimplifiesCounts.{IsWithinCounts};
+ghost use Rattle.tc_rnc.specs.Seen as see;
+ghost use Rattle.tc_simple.specs.Refused.{Refuses};
+
+mod becomes;
+mod checks;
+mod counts;
+mod cycles;
+mod elements;
+mod faults;
+mod grammar;
+mod graph;
+mod groups;
+mod links;
+mod loops;
+mod order;
+mod resolve;
+#[cfg(test)]
+mod tests;
+
+use bumpalo::Bump;
+pub use faults::SimpleFault;
+use grammar::{built, counted};
+use groups::Table;
+use resolve::{check, defined_start, mark, walk};
+use tc_model::Grammar;
+use tc_rnc::Syntax;
+
+/// The grammar of a syntax tree, which is that of some text (as `law_of_syntax_trees` of `tc_model` says).
+///
+/// # Errors
+///
+/// The faults are tried in the order of `SimpleFault`, and each comes exactly where it is the first.
+pub fn simplify<'b>(arena: &'b Bump, syntax: &Syntax<'b>) -> Result<Grammar<'b>, SimpleFault>
+    requires { IsLawfulSyntax (see.syntax syntax.now) }
+    ensures grammar { IfOk result (λ g. Simplifies (see.syntax syntax.now) (seen.grammar g)) }
+    ensures within { IfOk result (λ g. IsWithinCounts (seen.grammar g)) }
+    ensures err { IfErr result (λ e. Refuses (see.syntax syntax.now) e) }
+{
+    let table = Table::of(arena, syntax)?;
+    let start = defined_start(&table, syntax)?;
+    let marks = mark(arena, &table, start, true)?;
+    let walked = walk(arena, &table)?;
+    check(arena, syntax, &table, start, &marks, &walked)?;
+    let found = counted(arena, syntax, &table, start, &marks, &walked)?;
+    let grammar = built(arena, &table, start, &marks, &walked, &found)?;
+    Ok(grammar)
+}

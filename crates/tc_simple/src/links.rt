@@ -1,0 +1,78 @@
+// To which definitions the definitions refer, and their elements.
+ghost use Rattle.std.specs.Prelude.{◌≡◌, ◌++◌, IfOk, OnOk, map};
+ghost use Rattle.std.specs.List.{filter_map};
+ghost use Rattle.tc_rnc.specs.Seen as see;
+ghost use Rattle.tc_simple.specs.Graph.{rows_of};
+ghost use Rattle.tc_simple.specs.Nodes.{nodes, nodes_of_all, target};
+
+use crate::groups::Table;
+use bumpalo::Bump;
+use bumpalo::collections::into_bump_slice;
+use tc_base::NoMemory;
+use tc_rnc::SPat;
+
+/// Adds the numbers of the names to which a pattern refers; within its elements too, or not.
+#[cycle(links)]
+#[tactic(auto, using(tc_rnc::proofs::Views::see_pattern))]
+fn add_links<'b>(
+    table: &Table<'b>,
+    pattern: &SPat<'b>,
+    within: bool,
+    found: &mut Vec<usize, &'b Bump>,
+) -> Result<(), NoMemory>
+    ensures { OnOk result (found.new.items ≡ found.old.items ++ filter_map (target table.now) (nodes within (see.pattern pattern.now))) }
+{
+    match pattern {
+        SPat::Empty | SPat::NotAllowed | SPat::Text | SPat::Attribute => Ok(()),
+        SPat::Ref(name, _) => {
+            if let Some(number) = table.number(name) {
+                found.push(number)?;
+            }
+            Ok(())
+        }
+        SPat::Element(_, _, p) => {
+            if within {
+                add_links(table, p, within, found)?;
+            }
+            Ok(())
+        }
+        SPat::Mixed(p) | SPat::Optional(p) | SPat::ZeroOrMore(p) | SPat::OneOrMore(p) => {
+            add_links(table, p, within, found)
+        }
+        SPat::Group(ps) | SPat::Choice(ps) | SPat::Interleave(ps) => {
+            add_all_links(table, ps, within, found)
+        }
+    }
+}
+
+#[cycle(links)]
+fn add_all_links<'b>(
+    table: &Table<'b>,
+    patterns: &[SPat<'b>],
+    within: bool,
+    found: &mut Vec<usize, &'b Bump>,
+) -> Result<(), NoMemory>
+    ensures { OnOk result (found.new.items ≡ found.old.items ++ filter_map (target table.now) (nodes_of_all within (see.patterns patterns.now))) }
+{
+    for pattern in patterns {
+        add_links(table, pattern, within, found)?;
+    }
+    Ok(())
+}
+
+/// Of each definition those to which it refers; within its elements too, or not.
+pub fn links<'b>(
+    arena: &'b Bump,
+    table: &Table<'b>,
+    within: bool,
+) -> Result<Vec<&'b [usize], &'b Bump>, NoMemory>
+    ensures { IfOk result (λ v. rows_of v.items ≡ map (λ p. filter_map (target table.now) (nodes within (see.pattern p))) table.now.patterns.items) }
+{
+    let mut rows = Vec::new(arena);
+    for pattern in &table.patterns {
+        let mut found = Vec::new(arena);
+        add_links(table, pattern, within, &mut found)?;
+        rows.push(into_bump_slice(found))?;
+    }
+    Ok(rows)
+}

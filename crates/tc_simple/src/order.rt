@@ -1,0 +1,93 @@
+// The definitions one after the other, each after those to which it refers outside its elements.
+ghost use Rattle.std.specs.Prelude.{◌≡◌, ◌<◌, ◌≤◌, ℕ, List, length, map, IfOk, OnOk};
+ghost use Rattle.std.specs.List.{All};
+ghost use Rattle.tc_model.specs.CompactSyntaxTrees as t;
+ghost use Rattle.tc_model.specs.Simplifies.{Element};
+ghost use Rattle.tc_simple.specs.Nodes.{see_element, HasNumbersBelow};
+ghost use Rattle.tc_simple.specs.Orders.{AreMade, AreSized, IsOrderly, PutsPattern, PutsSize};
+
+use crate::becomes::pattern;
+use crate::counts::{Size, measure};
+use crate::cycles::Walk;
+use crate::elements::Elem;
+use crate::groups::Table;
+use bumpalo::Bump;
+use tc_base::NoMemory;
+use tc_model::Pat;
+
+/// Works out the size of a definition, if it is marked.
+fn put_size(table: &Table<'_>, marks: &[bool], number: usize, sizes: &mut Vec<Size, &Bump>)
+    requires within { number < length table.now.patterns.items }
+    requires marks { length marks.now ≡ length table.now.patterns.items }
+    requires sizes { length sizes.old.items ≡ length table.now.patterns.items }
+    requires numbers { HasNumbersBelow table.now (length table.now.patterns.items) }
+    ensures { PutsSize table.now marks.now number sizes.old.items sizes.new.items }
+{
+    if marks[number] {
+        let size = measure(table, sizes, &table.patterns[number]);
+        sizes[number] = size;
+    }
+}
+
+/// The sizes of the definitions that are marked.
+pub fn all_sizes<'b>(
+    arena: &'b Bump,
+    table: &Table<'b>,
+    walk: &Walk<'b>,
+    marks: &[bool],
+) -> Result<Vec<Size, &'b Bump>, NoMemory>
+    requires marks { length marks.now ≡ length table.now.patterns.items }
+    requires numbers { HasNumbersBelow table.now (length table.now.patterns.items) }
+    requires order { All (λ k. k < length table.now.patterns.items) walk.now.order.items }
+    ensures { IfOk result (λ v. (length v.items ≡ length table.now.patterns.items) × ((s : t.Syntax) (es : List Element) → IsOrderly s table.now marks.now walk.now.states.items walk.now.order.items → AreSized s es table.now marks.now walk.now.states.items (length walk.now.order.items) v.items)) }
+{
+    let mut sizes = vec![in arena; Size { nodes: 1, depth: 1 }; table.patterns.len()]?;
+    for number in &walk.order {
+        put_size(table, marks, *number, &mut sizes);
+    }
+    Ok(sizes)
+}
+
+/// Makes the pattern of a definition, if it is marked.
+fn put_pattern<'b>(
+    arena: &'b Bump,
+    table: &Table<'b>,
+    marks: &[bool],
+    number: usize,
+    elements: &[Elem<'b>],
+    made: &mut Vec<Pat<'b>, &'b Bump>,
+) -> Result<(), NoMemory>
+    requires within { number < length table.now.patterns.items }
+    requires marks { length marks.now ≡ length table.now.patterns.items }
+    requires made { length made.old.items ≡ length table.now.patterns.items }
+    requires numbers { HasNumbersBelow table.now (length table.now.patterns.items) }
+    requires few { length elements.now ≤ 256 }
+    ensures { OnOk result (PutsPattern table.now marks.now (map see_element elements.now) number made.old.items made.new.items) }
+{
+    if marks[number] {
+        let p = pattern(arena, table, &table.patterns[number], elements, made)?;
+        made[number] = p;
+    }
+    Ok(())
+}
+
+/// The patterns that the definitions become that are marked.
+pub fn all_patterns<'b>(
+    arena: &'b Bump,
+    table: &Table<'b>,
+    walk: &Walk<'b>,
+    marks: &[bool],
+    elements: &[Elem<'b>],
+) -> Result<Vec<Pat<'b>, &'b Bump>, NoMemory>
+    requires marks { length marks.now ≡ length table.now.patterns.items }
+    requires numbers { HasNumbersBelow table.now (length table.now.patterns.items) }
+    requires order { All (λ k. k < length table.now.patterns.items) walk.now.order.items }
+    requires few { length elements.now ≤ 256 }
+    ensures { IfOk result (λ v. (length v.items ≡ length table.now.patterns.items) × ((s : t.Syntax) → IsOrderly s table.now marks.now walk.now.states.items walk.now.order.items → AreMade s (map see_element elements.now) table.now marks.now walk.now.states.items (length walk.now.order.items) v.items)) }
+{
+    let mut made = vec![in arena; Pat::NotAllowed; table.patterns.len()]?;
+    for number in &walk.order {
+        put_pattern(arena, table, marks, *number, elements, &mut made)?;
+    }
+    Ok(made)
+}
