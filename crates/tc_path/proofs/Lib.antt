@@ -1,0 +1,11 @@
+pub mod Digits
+pub mod Conjunctions
+pub mod TokenLaws
+pub mod NodeTestLaws
+pub mod Loops
+pub mod StepLoops
+pub mod PatternLoops
+pub mod PhraseLaws
+pub mod Refusals
+pub mod PriorityLaws
+pub mod AttributeLoops

@@ -1,0 +1,5 @@
+pub mod Seen
+pub mod Reasons
+pub mod Faults
+pub mod NameTokens
+pub mod Phrases

@@ -1,0 +1,178 @@
+// Node tests and attribute steps (XPath 1.0, 2.1, 2.3, 2.5).
+ghost use Rattle.std.specs.Prelude.{◌≡◌, ◌<◌, [], ◌∷◌, IfOk, IfErr, None, Some, ℕ, List, length, map, codes, MatchOption, MatchBool};
+ghost use Rattle.tc_model.specs.Names.{ExpandedName};
+ghost use Rattle.tc_model.specs.PathTextTokens as path;
+ghost use Rattle.tc_model.specs.PathTextPhrases as p;
+ghost use Rattle.tc_model.specs.Sheets as sheets;
+ghost use Rattle.tc_model.specs.Seen as seen;
+ghost use Rattle.tc_model.specs.XmlTextScopes.{uri_of};
+ghost use Rattle.tc_path.specs.Seen.{tokens_of};
+ghost use Rattle.tc_scan.specs.Seen.{written_name};
+ghost use Rattle.tc_path.specs.Faults.{OrNoMemory};
+
+use crate::PathFault;
+use crate::token::{Mark, Token, after_mark, after_word, begins_with};
+use bumpalo::Bump;
+use tc_model::{Binding, Name, NodeTest};
+use tc_scan::QualifiedName;
+
+/// The namespace name to which a prefix is bound.
+fn namespace_of<'b>(scope: &[Binding<'b>], prefix: &str) -> Option<&'b str>
+    ensures { MatchOption result (uri_of (map seen.bound scope.now) prefix.now ≡ None) (λ uri. uri_of (map seen.bound scope.now) prefix.now ≡ Some uri.now) }
+{
+    for binding in scope {
+        if binding.prefix == prefix {
+            return Some(binding.uri);
+        }
+    }
+    None
+}
+
+/// The namespace name of a name test: none without a prefix.
+fn namespace_of_name<'b>(scope: &[Binding<'b>], name: &QualifiedName<'_>) -> Option<&'b str>
+    ensures { MatchOption result ((m : ExpandedName) → p.NameMeans (map seen.bound scope.now) (written_name name.now) m → ⊥) (λ uri. p.NameMeans (map seen.bound scope.now) (written_name name.now) (record { uri = uri.now; local = (written_name name.now).local })) }
+{
+    if name.prefix.is_empty() {
+        Some("")
+    } else {
+        namespace_of(scope, name.prefix)
+    }
+}
+
+/// What follows `WORD()`.
+pub(crate) fn after_call<'a, 't>(tokens: &'a [Token<'t>], word: &str) -> Option<&'a [Token<'t>]>
+    ensures { MatchOption result ((r : List path.Token) → (tokens_of tokens.now) ≡ p.word word.now ∷ path.mark path.open_parenthesis ∷ path.mark path.close_parenthesis ∷ r → ⊥) (λ rest. (tokens_of tokens.now) ≡ p.word word.now ∷ path.mark path.open_parenthesis ∷ path.mark path.close_parenthesis ∷ tokens_of rest.now) }
+{
+    let inside = after_mark(after_word(tokens, word)?, Mark::OpenParenthesis)?;
+    after_mark(inside, Mark::CloseParenthesis)
+}
+
+/// What follows `WORD::`.
+fn after_axis<'a, 't>(tokens: &'a [Token<'t>], word: &str) -> Option<&'a [Token<'t>]>
+    ensures { MatchOption result ((r : List path.Token) → (tokens_of tokens.now) ≡ p.word word.now ∷ path.mark path.colons ∷ r → ⊥) (λ rest. (tokens_of tokens.now) ≡ p.word word.now ∷ path.mark path.colons ∷ tokens_of rest.now) }
+{
+    after_mark(after_word(tokens, word)?, Mark::Colons)
+}
+
+/// Whether a name before these tokens is a name test.
+fn ends_name_test(tokens: &[Token<'_>]) -> bool
+    ensures { MatchBool result (p.EndsNameTest (tokens_of tokens.now)) (p.EndsNameTest (tokens_of tokens.now) → ⊥) }
+{
+    !begins_with(tokens, Mark::OpenParenthesis) && !begins_with(tokens, Mark::Colons)
+}
+
+/// The node test at the front that is a name, `p:*` or `*`, and what follows it.
+fn name_test<'a, 'b, 't>(
+    arena: &'b Bump,
+    scope: &[Binding<'b>],
+    tokens: &'a [Token<'t>],
+) -> Result<(NodeTest<'b>, &'a [Token<'t>]), PathFault>
+    requires no_text { (r : List path.Token) → (tokens_of tokens.now) ≡ p.word (codes "text") ∷ path.mark path.open_parenthesis ∷ path.mark path.close_parenthesis ∷ r → ⊥ }
+    requires no_node { (r : List path.Token) → (tokens_of tokens.now) ≡ p.word (codes "node") ∷ path.mark path.open_parenthesis ∷ path.mark path.close_parenthesis ∷ r → ⊥ }
+    ensures ok { IfOk result (λ r. p.NodeTestAt (map seen.bound scope.now) (tokens_of tokens.now) (seen.node_test r.0) (tokens_of r.1.now)) }
+    ensures no { IfErr result (λ e. OrNoMemory e ((t : sheets.NodeTest) (after : List path.Token) → p.NodeTestAt (map seen.bound scope.now) (tokens_of tokens.now) t after → ⊥)) }
+    ensures shorter { IfOk result (λ r. length r.1.now < length tokens.now) }
+{
+    if let Some(rest) = after_mark(tokens, Mark::Star) {
+        return Ok((NodeTest::Any, rest));
+    }
+    let Some((first, rest)) = tokens.split_first() else {
+        return Err(PathFault::Malformed);
+    };
+    match first {
+        Token::AllOfPrefix(prefix) => match namespace_of(scope, prefix) {
+            Some(uri) => Ok((NodeTest::Ns(uri), rest)),
+            None => Err(PathFault::Malformed),
+        },
+        Token::Name(name) if ends_name_test(rest) => match namespace_of_name(scope, name) {
+            Some(uri) => {
+                let local = arena.try_alloc_str(name.local)?;
+                Ok((NodeTest::Name(Name { uri, local }), rest))
+            }
+            None => Err(PathFault::Malformed),
+        },
+        _ => Err(PathFault::Malformed),
+    }
+}
+
+/// The node test at the front, and what follows it (XPath 1.0, 2.3).
+fn node_test_at<'a, 'b, 't>(
+    arena: &'b Bump,
+    scope: &[Binding<'b>],
+    tokens: &'a [Token<'t>],
+) -> Result<(NodeTest<'b>, &'a [Token<'t>]), PathFault>
+    ensures ok { IfOk result (λ r. p.NodeTestAt (map seen.bound scope.now) (tokens_of tokens.now) (seen.node_test r.0) (tokens_of r.1.now)) }
+    ensures no { IfErr result (λ e. OrNoMemory e ((t : sheets.NodeTest) (after : List path.Token) → p.NodeTestAt (map seen.bound scope.now) (tokens_of tokens.now) t after → ⊥)) }
+    ensures shorter { IfOk result (λ r. length r.1.now < length tokens.now) }
+{
+    if let Some(rest) = after_call(tokens, "text") {
+        return Ok((NodeTest::Text, rest));
+    }
+    if let Some(rest) = after_call(tokens, "node") {
+        return Ok((NodeTest::Node, rest));
+    }
+    name_test(arena, scope, tokens)
+}
+
+/// The node test of the child axis at the front, and what follows it.
+pub(crate) fn child_test<'a, 'b, 't>(
+    arena: &'b Bump,
+    scope: &[Binding<'b>],
+    tokens: &'a [Token<'t>],
+) -> Result<(NodeTest<'b>, &'a [Token<'t>]), PathFault>
+    ensures ok { IfOk result (λ r. p.ChildAt (map seen.bound scope.now) (tokens_of tokens.now) (seen.node_test r.0) (tokens_of r.1.now)) }
+    ensures no { IfErr result (λ e. OrNoMemory e ((t : sheets.NodeTest) (after : List path.Token) → p.ChildAt (map seen.bound scope.now) (tokens_of tokens.now) t after → ⊥)) }
+    ensures shorter { IfOk result (λ r. length r.1.now < length tokens.now) }
+{
+    match after_axis(tokens, "child") {
+        Some(rest) => node_test_at(arena, scope, rest),
+        None => node_test_at(arena, scope, tokens),
+    }
+}
+
+/// What follows the name, `p:*` or `*` of an attribute step.
+fn after_attribute_test<'a, 't>(
+    scope: &[Binding<'_>],
+    tokens: &'a [Token<'t>],
+) -> Option<&'a [Token<'t>]>
+    ensures { MatchOption result ((r : List path.Token) → p.AttributeTestAt (map seen.bound scope.now) (tokens_of tokens.now) r → ⊥) (λ rest. p.AttributeTestAt (map seen.bound scope.now) (tokens_of tokens.now) (tokens_of rest.now)) }
+{
+    if let Some(rest) = after_mark(tokens, Mark::Star) {
+        return Some(rest);
+    }
+    let (first, rest) = tokens.split_first()?;
+    match first {
+        Token::AllOfPrefix(prefix) => {
+            namespace_of(scope, prefix)?;
+            Some(rest)
+        }
+        Token::Name(name) => {
+            namespace_of_name(scope, name)?;
+            Some(rest)
+        }
+        Token::Mark(_) | Token::Number | Token::Literal | Token::Variable => None,
+    }
+}
+
+/// What follows the attribute step at the front.
+pub(crate) fn after_attribute<'a, 't>(
+    scope: &[Binding<'_>],
+    tokens: &'a [Token<'t>],
+) -> Option<&'a [Token<'t>]>
+    ensures { MatchOption result ((r : List path.Token) → p.AttributeAt (map seen.bound scope.now) (tokens_of tokens.now) r → ⊥) (λ rest. p.AttributeAt (map seen.bound scope.now) (tokens_of tokens.now) (tokens_of rest.now)) }
+{
+    if let Some(rest) = after_mark(tokens, Mark::At) {
+        return after_attribute_test(scope, rest);
+    }
+    after_attribute_test(scope, after_axis(tokens, "attribute")?)
+}
+
+/// What follows `comment()` or `processing-instruction()`.
+pub(crate) fn after_other_node<'a, 't>(tokens: &'a [Token<'t>]) -> Option<&'a [Token<'t>]>
+    ensures { MatchOption result ((r : List path.Token) → p.OtherNodeAt (tokens_of tokens.now) r → ⊥) (λ rest. p.OtherNodeAt (tokens_of tokens.now) (tokens_of rest.now)) }
+{
+    match after_call(tokens, "comment") {
+        Some(rest) => Some(rest),
+        None => after_call(tokens, "processing-instruction"),
+    }
+}

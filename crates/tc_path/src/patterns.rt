@@ -1,0 +1,146 @@
+// Patterns with their default priorities (XSLT 1.0, 5.2, 5.5).
+ghost use Rattle.std.specs.Prelude.{◌≡◌, ◌<◌, ◌++◌, [], ◌∷◌, IfOk, IfErr, None, Some, List, length, map, MatchBool};
+ghost use Rattle.tc_model.specs.PathTextTokens as path;
+ghost use Rattle.tc_model.specs.PathTextPhrases as p;
+ghost use Rattle.tc_model.specs.Seen as seen;
+ghost use Rattle.tc_path.specs.Seen as see;
+ghost use Rattle.tc_path.specs.Seen.{form, tokens_of, kept_alternative};
+ghost use Rattle.tc_path.specs.Faults.{OrNoMemory};
+
+use crate::PathFault;
+use crate::joined::Form;
+use crate::node_tests::after_other_node;
+use crate::phrases::steps;
+use crate::token::{Mark, Token, after_mark, begins_with};
+use bumpalo::Bump;
+use bumpalo::collections::into_bump_slice;
+use tc_model::{Alt, Binding, NodeTest, Pattern, Step};
+
+/// The default priority of a pattern that isn't a node test alone, in ten-thousandths.
+const OTHERWISE: i64 = 5000;
+
+/// The default priority of a node test alone, in ten-thousandths.
+fn priority_of_test(test: &NodeTest<'_>) -> i64
+    ensures { result ≡ p.priority_of_test (seen.node_test test.now) }
+{
+    match test {
+        NodeTest::Name(_) => 0,
+        NodeTest::Ns(_) => -2500,
+        NodeTest::Any | NodeTest::Text | NodeTest::Node => -5000,
+    }
+}
+
+/// The default priority of a relative pattern, in ten-thousandths.
+fn default_priority(steps: &[Step<'_>], written: Form) -> i64
+    ensures { result ≡ p.default_priority (form written) (seen.steps steps.now) }
+{
+    match (written, steps.first()) {
+        (Form::Lone, Some(step)) => priority_of_test(&step.test),
+        _ => OTHERWISE,
+    }
+}
+
+/// These steps as an alternative from the root, unless it is dropped.
+fn from_root<'b>(steps: &'b [Step<'b>], written: Form) -> Option<Alt<'b>>
+    ensures { kept_alternative result ≡ p.unless_dropped (form written) (seen.steps steps.now) p.priority_otherwise }
+{
+    match written {
+        Form::Dropped => None,
+        Form::Lone | Form::Longer => Some(Alt {
+            pattern: Pattern::Steps(steps),
+            priority: OTHERWISE,
+        }),
+    }
+}
+
+/// These steps as a relative alternative, unless it is dropped.
+fn relative<'b>(steps: &'b [Step<'b>], written: Form) -> Option<Alt<'b>>
+    ensures { kept_alternative result ≡ p.unless_dropped (form written) (seen.steps steps.now) (p.default_priority (form written) (seen.steps steps.now)) }
+{
+    match written {
+        Form::Dropped => None,
+        Form::Lone | Form::Longer => Some(Alt {
+            pattern: Pattern::Steps(steps),
+            priority: default_priority(steps, written),
+        }),
+    }
+}
+
+/// Whether an alternative may end here.
+fn ends_alternative(tokens: &[Token<'_>]) -> bool
+    ensures { MatchBool result (p.EndsAlternative (tokens_of tokens.now)) (p.EndsAlternative (tokens_of tokens.now) → ⊥) }
+{
+    tokens.is_empty() || begins_with(tokens, Mark::Bar)
+}
+
+/// The alternative of a pattern at the front, none where it is dropped, and what follows it.
+fn alternative<'a, 'b, 't>(
+    arena: &'b Bump,
+    scope: &[Binding<'b>],
+    tokens: &'a [Token<'t>],
+) -> Result<(Option<Alt<'b>>, &'a [Token<'t>]), PathFault>
+    ensures ok { IfOk result (λ r. p.PatternAlternativeAt (map seen.bound scope.now) (tokens_of tokens.now) (kept_alternative r.0) (tokens_of r.1.now)) }
+    ensures no { IfErr result (λ e. OrNoMemory e ((xs : List p.Alternative) (after : List path.Token) → p.PatternAlternativeAt (map seen.bound scope.now) (tokens_of tokens.now) xs after → ⊥)) }
+    ensures shorter { IfOk result (λ r. length r.1.now < length tokens.now) }
+{
+    if let Some(rest) = after_other_node(tokens) {
+        return Ok((None, rest));
+    }
+    if let Some(rest) = after_mark(tokens, Mark::Slash) {
+        if ends_alternative(rest) {
+            return Ok((
+                Some(Alt {
+                    pattern: Pattern::Root,
+                    priority: OTHERWISE,
+                }),
+                rest,
+            ));
+        }
+        let (steps, form, after) = steps(arena, scope, rest, false)?;
+        return Ok((from_root(steps, form), after));
+    }
+    if let Some(rest) = after_mark(tokens, Mark::Slashes) {
+        let (steps, form, after) = steps(arena, scope, rest, true)?;
+        return Ok((from_root(steps, form), after));
+    }
+    let (steps, form, after) = steps(arena, scope, tokens, true)?;
+    Ok((relative(steps, form), after))
+}
+
+/// Puts an alternative behind the others, if there is one.
+fn keep<'b>(
+    alternatives: &mut Vec<Alt<'b>, &'b Bump>,
+    alternative: Option<Alt<'b>>,
+) -> Result<(), PathFault>
+    ensures kept { IfOk result (λ _. map see.alternative alternatives.new.items ≡ map see.alternative alternatives.old.items ++ kept_alternative alternative.entry) }
+    ensures memory { IfErr result (λ e. e ≡ PathFault.NoMemory) }
+{
+    if let Some(alternative) = alternative {
+        alternatives.push(alternative)?;
+    }
+    Ok(())
+}
+
+/// The alternatives of a pattern, which takes all of the tokens.
+pub(crate) fn pattern<'b>(
+    arena: &'b Bump,
+    scope: &[Binding<'b>],
+    tokens: &[Token<'_>],
+) -> Result<&'b [Alt<'b>], PathFault>
+    ensures ok { IfOk result (λ r. p.PatternAt (map seen.bound scope.now) (tokens_of tokens.now) (map see.alternative r.now)) }
+    ensures no { IfErr result (λ e. OrNoMemory e ((xs : List p.Alternative) → p.PatternAt (map seen.bound scope.now) (tokens_of tokens.now) xs → ⊥)) }
+{
+    let mut found = Vec::new(arena);
+    let (first, mut rest) = alternative(arena, scope, tokens)?;
+    keep(&mut found, first)?;
+    while let Some(next) = after_mark(rest, Mark::Bar) {
+        let (more, after) = alternative(arena, scope, next)?;
+        keep(&mut found, more)?;
+        rest = after;
+    }
+    if rest.is_empty() {
+        Ok(into_bump_slice(found))
+    } else {
+        Err(PathFault::Malformed)
+    }
+}

@@ -1,0 +1,221 @@
+// Selects and tests (XPath 1.0, 2 and 3).
+#![tactic(none)]
+
+ghost use Rattle.std.specs.Prelude.{◌<◌, [], ◌∷◌, IfOk, IfErr, Bool, List, length, map};
+ghost use Rattle.tc_model.specs.PathTextTokens as path;
+ghost use Rattle.tc_model.specs.PathTextPhrases as p;
+ghost use Rattle.tc_model.specs.Sheets as sheets;
+ghost use Rattle.tc_model.specs.Seen as seen;
+ghost use Rattle.tc_path.specs.Seen.{mark, form, tokens_of};
+ghost use Rattle.tc_path.specs.Phrases.{IsStepAt, ClosedAt};
+ghost use Rattle.tc_path.specs.Faults.{OrNoMemory};
+
+use crate::PathFault;
+use crate::joined::{
+    Form, after_open_call, after_separator, conjunction, disjunction, form_of, keep,
+};
+use crate::node_tests::{after_attribute, after_call, after_other_node, child_test};
+use crate::token::{Mark, Token, after_mark, after_word};
+use bumpalo::Bump;
+use bumpalo::collections::into_bump_slice;
+use tc_model::{Binding, Path, Step, Test};
+
+/// The step at the front with its predicates, whether it is a node test alone, and what follows it (XPath
+/// 1.0, 2.1, 2.4).
+#[cycle(phrases)]
+fn step<'a, 'b, 't>(
+    arena: &'b Bump,
+    scope: &[Binding<'b>],
+    tokens: &'a [Token<'t>],
+    deep: bool,
+) -> Result<(Step<'b>, bool, &'a [Token<'t>]), PathFault>
+    ensures ok { IfOk result (λ r. IsStepAt (map seen.bound scope.now) deep (tokens_of tokens.now) (seen.steps (r.0 ∷ [])) r.1 (tokens_of r.2.now)) }
+    ensures no { IfErr result (λ e. OrNoMemory e ((ss : sheets.Steps) (lone : Bool) (after : List path.Token) → IsStepAt (map seen.bound scope.now) deep (tokens_of tokens.now) ss lone after → ⊥)) }
+    ensures shorter { IfOk result (λ r. length r.2.now < length tokens.now) }
+{
+    let (test, mut rest) = child_test(arena, scope, tokens)?;
+    let mut found = Vec::new(arena);
+    while let Some(inside) = after_mark(rest, Mark::OpenBracket) {
+        let (predicate, after) = closed_test(arena, scope, inside, Mark::CloseBracket)?;
+        found.push(predicate)?;
+        rest = after;
+    }
+    let predicates = into_bump_slice(found);
+    let step = Step {
+        deep,
+        test,
+        when: conjunction(predicates),
+    };
+    Ok((step, predicates.is_empty(), rest))
+}
+
+/// The steps at the front, the first of which is deep or not, their form, and what follows them.
+#[cycle(phrases)]
+pub(crate) fn steps<'a, 'b, 't>(
+    arena: &'b Bump,
+    scope: &[Binding<'b>],
+    tokens: &'a [Token<'t>],
+    is_deep: bool,
+) -> Result<(&'b [Step<'b>], Form, &'a [Token<'t>]), PathFault>
+    ensures ok { IfOk result (λ r. p.StepsAt (map seen.bound scope.now) is_deep (tokens_of tokens.now) (seen.steps r.0.now) (form r.1) (tokens_of r.2.now)) }
+    ensures no { IfErr result (λ e. OrNoMemory e ((ss : sheets.Steps) (f : p.Form) (after : List path.Token) → p.StepsAt (map seen.bound scope.now) is_deep (tokens_of tokens.now) ss f after → ⊥)) }
+    ensures shorter { IfOk result (λ r. length r.2.now < length tokens.now) }
+{
+    let mut found = Vec::new(arena);
+    if let Some(after) = after_attribute(scope, tokens) {
+        return Ok((into_bump_slice(found), Form::Dropped, after));
+    }
+    let (first, lone, mut rest) = step(arena, scope, tokens, is_deep)?;
+    found.push(first)?;
+    let mut form = form_of(lone);
+    while let Some((deep, next)) = after_separator(rest) {
+        if let Some(after) = after_attribute(scope, next) {
+            return Ok((into_bump_slice(found), Form::Dropped, after));
+        }
+        let (more, _, after) = step(arena, scope, next, deep)?;
+        found.push(more)?;
+        form = Form::Longer;
+        rest = after;
+    }
+    Ok((into_bump_slice(found), form, rest))
+}
+
+/// The alternative of a select at the front, its form, and what follows it.
+#[cycle(phrases)]
+pub(crate) fn alternative<'a, 'b, 't>(
+    arena: &'b Bump,
+    scope: &[Binding<'b>],
+    tokens: &'a [Token<'t>],
+) -> Result<(&'b [Step<'b>], Form, &'a [Token<'t>]), PathFault>
+    ensures ok { IfOk result (λ r. p.AlternativeAt (map seen.bound scope.now) (tokens_of tokens.now) (seen.steps r.0.now) (form r.1) (tokens_of r.2.now)) }
+    ensures no { IfErr result (λ e. OrNoMemory e ((ss : sheets.Steps) (f : p.Form) (after : List path.Token) → p.AlternativeAt (map seen.bound scope.now) (tokens_of tokens.now) ss f after → ⊥)) }
+    ensures shorter { IfOk result (λ r. length r.2.now < length tokens.now) }
+{
+    if let Some(rest) = after_other_node(tokens) {
+        return Ok((&[], Form::Dropped, rest));
+    }
+    let Some(behind) = after_mark(tokens, Mark::Dot) else {
+        return steps(arena, scope, tokens, false);
+    };
+    let Some(rest) = after_mark(behind, Mark::Slashes) else {
+        return Err(PathFault::Malformed);
+    };
+    steps(arena, scope, rest, true)
+}
+
+/// The select at the front, whether an alternative of it is dropped, and what follows it.
+#[cycle(phrases)]
+pub(crate) fn select<'a, 'b, 't>(
+    arena: &'b Bump,
+    scope: &[Binding<'b>],
+    tokens: &'a [Token<'t>],
+) -> Result<(Path<'b>, bool, &'a [Token<'t>]), PathFault>
+    ensures ok { IfOk result (λ r. p.SelectAt (map seen.bound scope.now) (tokens_of tokens.now) (seen.path r.0) r.1 (tokens_of r.2.now)) }
+    ensures no { IfErr result (λ e. OrNoMemory e ((q : sheets.Path) (drops : Bool) (after : List path.Token) → p.SelectAt (map seen.bound scope.now) (tokens_of tokens.now) q drops after → ⊥)) }
+    ensures shorter { IfOk result (λ r. length r.2.now < length tokens.now) }
+{
+    let mut found = Vec::new(arena);
+    let (steps, form, mut rest) = alternative(arena, scope, tokens)?;
+    let mut drops = keep(&mut found, steps, form, false)?;
+    while let Some(next) = after_mark(rest, Mark::Bar) {
+        let (steps, form, after) = alternative(arena, scope, next)?;
+        drops = keep(&mut found, steps, form, drops)?;
+        rest = after;
+    }
+    let alts = into_bump_slice(found);
+    Ok((Path { alts }, drops, rest))
+}
+
+/// What `and` joins, at the front, and what follows it.
+#[cycle(phrases)]
+fn primary<'a, 'b, 't>(
+    arena: &'b Bump,
+    scope: &[Binding<'b>],
+    tokens: &'a [Token<'t>],
+) -> Result<(Test<'b>, &'a [Token<'t>]), PathFault>
+    ensures ok { IfOk result (λ r. p.PrimaryAt (map seen.bound scope.now) (tokens_of tokens.now) (seen.test r.0) (tokens_of r.1.now)) }
+    ensures no { IfErr result (λ e. OrNoMemory e ((t : sheets.Test) (after : List path.Token) → p.PrimaryAt (map seen.bound scope.now) (tokens_of tokens.now) t after → ⊥)) }
+    ensures shorter { IfOk result (λ r. length r.1.now < length tokens.now) }
+{
+    if let Some(rest) = after_call(tokens, "true") {
+        return Ok((Test::True, rest));
+    }
+    if let Some(rest) = after_call(tokens, "false") {
+        return Ok((Test::False, rest));
+    }
+    if let Some(inside) = after_mark(tokens, Mark::OpenParenthesis) {
+        return closed_test(arena, scope, inside, Mark::CloseParenthesis);
+    }
+    if let Some(inside) = after_open_call(tokens, "not") {
+        let (test, rest) = closed_test(arena, scope, inside, Mark::CloseParenthesis)?;
+        return Ok((Test::Not(arena.try_alloc(test)?), rest));
+    }
+    let (path, drops, rest) = select(arena, scope, tokens)?;
+    if drops {
+        return Err(PathFault::Malformed);
+    }
+    Ok((Test::Has(path), rest))
+}
+
+/// A test up to this mark, and what follows that.
+#[cycle(phrases)]
+fn closed_test<'a, 'b, 't>(
+    arena: &'b Bump,
+    scope: &[Binding<'b>],
+    tokens: &'a [Token<'t>],
+    close: Mark,
+) -> Result<(Test<'b>, &'a [Token<'t>]), PathFault>
+    ensures ok { IfOk result (λ r. ClosedAt (map seen.bound scope.now) (tokens_of tokens.now) (mark close) (seen.test r.0) (tokens_of r.1.now)) }
+    ensures no { IfErr result (λ e. OrNoMemory e ((t : sheets.Test) (after : List path.Token) → ClosedAt (map seen.bound scope.now) (tokens_of tokens.now) (mark close) t after → ⊥)) }
+    ensures shorter { IfOk result (λ r. length r.1.now < length tokens.now) }
+{
+    let (tests, after) = any_tests(arena, scope, tokens)?;
+    let Some(rest) = after_mark(after, close) else {
+        return Err(PathFault::Malformed);
+    };
+    Ok((disjunction(tests), rest))
+}
+
+/// Primaries joined by `and`, at the front, and what follows them (XPath 1.0, 3.4).
+#[cycle(phrases)]
+fn all_tests<'a, 'b, 't>(
+    arena: &'b Bump,
+    scope: &[Binding<'b>],
+    tokens: &'a [Token<'t>],
+) -> Result<(&'b [Test<'b>], &'a [Token<'t>]), PathFault>
+    ensures ok { IfOk result (λ r. p.AndAt (map seen.bound scope.now) (tokens_of tokens.now) (seen.tests r.0.now) (tokens_of r.1.now)) }
+    ensures no { IfErr result (λ e. OrNoMemory e ((us : sheets.Tests) (after : List path.Token) → p.AndAt (map seen.bound scope.now) (tokens_of tokens.now) us after → ⊥)) }
+    ensures shorter { IfOk result (λ r. length r.1.now < length tokens.now) }
+{
+    let mut found = Vec::new(arena);
+    let (first, mut rest) = primary(arena, scope, tokens)?;
+    found.push(first)?;
+    while let Some(next) = after_word(rest, "and") {
+        let (test, after) = primary(arena, scope, next)?;
+        found.push(test)?;
+        rest = after;
+    }
+    Ok((into_bump_slice(found), rest))
+}
+
+/// Conjunctions joined by `or`, at the front, and what follows them (XPath 1.0, 3.4).
+#[cycle(phrases)]
+pub(crate) fn any_tests<'a, 'b, 't>(
+    arena: &'b Bump,
+    scope: &[Binding<'b>],
+    tokens: &'a [Token<'t>],
+) -> Result<(&'b [Test<'b>], &'a [Token<'t>]), PathFault>
+    ensures ok { IfOk result (λ r. p.OrAt (map seen.bound scope.now) (tokens_of tokens.now) (seen.tests r.0.now) (tokens_of r.1.now)) }
+    ensures no { IfErr result (λ e. OrNoMemory e ((us : sheets.Tests) (after : List path.Token) → p.OrAt (map seen.bound scope.now) (tokens_of tokens.now) us after → ⊥)) }
+    ensures shorter { IfOk result (λ r. length r.1.now < length tokens.now) }
+{
+    let mut found = Vec::new(arena);
+    let (first, mut rest) = all_tests(arena, scope, tokens)?;
+    found.push(conjunction(first))?;
+    while let Some(next) = after_word(rest, "or") {
+        let (tests, after) = all_tests(arena, scope, next)?;
+        found.push(conjunction(tests))?;
+        rest = after;
+    }
+    Ok((into_bump_slice(found), rest))
+}
