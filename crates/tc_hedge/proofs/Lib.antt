@@ -1,0 +1,10 @@
+pub mod Settled
+pub mod Gathers
+pub mod SetSteps
+pub mod SetsRuns
+pub mod Thinning
+pub mod Leading
+pub mod Bounds
+pub mod TableRows
+pub mod Puts
+pub mod Sides

@@ -1,0 +1,159 @@
+-- The pairs of trees, tree by tree.
+use Rattle.std.proofs.Common.{◌≡◌, ◌<◌, ◌≤◌, ◌↔◌, ◌⊎◌, inl, inr, ℕ, zero, suc, ◌+◌, ◌*◌, List, [], ◌∷◌, ◌++◌, length, take, drop, get_or, map, Bor, ◌-◌, Result, Ok, Err, IfOk, Bool, true, false, IsTrue, Some, slice_get, refl, sym, ap, ◌∙◌, subst, arith, add-one}
+use Rattle.std.specs.List.{slice_range}
+use Rattle.std.proofs.Math.Seq.{take-suc}
+use Rattle.std.proofs.lemmas.Option.{slice_get_within}
+use Rattle.std.proofs.lemmas.List.{take_all}
+use Rattle.tc_mat.specs.Matrix.{Matrix, HasPair, IsIdentity, IsComposition}
+use Rattle.tc_model.specs.Names.{ExpandedName}
+use Rattle.tc_model.specs.Trees.{Trees, none, text, element, beside, is_all_white}
+use Rattle.tc_model.specs.Seen as see
+use Rattle.tc_model.specs.declared.tree.Node.{Node}
+use Rattle.tc_model.specs.Grammars.{Grammar, ElementPattern, element_at, in_class, InClass}
+use Rattle.tc_model.specs.Validity.{IsValidOutput}
+use Rattle.tc_model.specs.States.{Side, output, Leaf, text_leaf, ref_leaf, automaton, first_state, state_count, IsEdge, Leads, at_end, past_white, by_text, the_start}
+use Rattle.tc_model.specs.Symbols.{Mention, symbol_of}
+use Rattle.tc_model.proofs.Views.{trees_append}
+use Rattle.tc_auto.specs.Stands as held
+use Rattle.tc_auto.specs.declared.auto.Auto.{Auto}
+use Rattle.tc_hedge.specs.Leading.{ArePairsOf, ArePairsOfText, ArePairsAround, IsTaken}
+use Rattle.tc_hedge.specs.declared.hedge.Hedge.{Hedge}
+use Rattle.tc_hedge.specs.Stands.{Stands}
+use Rattle.tc_hedge.specs.Items.{IsTakenAround, Takes, IsStep}
+use Rattle.tc_hedge.specs.declared.items.Item.{Item}
+use Rattle.tc_hedge.specs.declared.items.Item.TheVariants.{Text, Around}
+use Rattle.tc_model.proofs.StatesParts.{edge_within}
+use Rattle.tc_hedge.proofs.Bounds.{states_of, patterns_of}
+use Rattle.tc_hedge.proofs.TableRows.{get_map}
+use Rattle.tc_hedge.proofs.Leading.{pairs_compose, pairs_surround, run_of_leads, run_of_none, run_of_text, leads_of_run, outputs_lead_exactly, first_below, leads_within}
+
+-- the pairs of nothing are those of each state with itself
+pub nothing_led : (g : Grammar) (side : Side) (a : Auto) → held.Stands side g a → (m : Matrix) → m.size ≡ length a.rows.items → IsIdentity m → ArePairsOf g side none m
+nothing_led g side a st m size is i j = (to, of)
+  where
+    to : HasPair m i j → (i < state_count g side) × Leads g side i none j
+    to p = let (low, same) = (is i j).0 p in (omega (arith, size, states_of side g a st), subst (λ w. Leads g side i none w) same at_end)
+
+    of : (i < state_count g side) × Leads g side i none j → HasPair m i j
+    of (low, l) = (is i j).1 (omega (arith, size, states_of side g a st), run_of_none g side refl (run_of_leads g side l))
+
+-- a text of white space alone stays where it is
+pub white_led : (g : Grammar) (side : Side) (s : List ℕ) (m : Matrix) → is_all_white s ≡ true → ArePairsOf g side none m → ArePairsOf g side (text s none) m
+white_led g side s m white pairs i j = (to, of)
+  where
+    to : HasPair m i j → (i < state_count g side) × Leads g side i (text s none) j
+    to p = let (low, l) = (pairs i j).0 p in (low, past_white white l)
+
+    of : (i < state_count g side) × Leads g side i (text s none) j → HasPair m i j
+    of (low, past_white w l) = (pairs i j).1 (low, l)
+    of (low, by_text other e l) = absurd (cc)
+
+-- any other text takes an edge
+pub text_led : (g : Grammar) (side : Side) (s : List ℕ) (m : Matrix) → is_all_white s ≡ false → ArePairsOfText g side m → ArePairsOf g side (text s none) m
+text_led g side s m other pairs i j = (to, of)
+  where
+    to : HasPair m i j → (i < state_count g side) × Leads g side i (text s none) j
+    to p = let edge = (pairs i j).0 p in ((edge_within g side i j text_leaf edge).0, by_text other edge at_end)
+
+    of : (i < state_count g side) × Leads g side i (text s none) j → HasPair m i j
+    of (low, past_white w l) = absurd (cc)
+    of (low, by_text o edge l) = (pairs i j).1 (subst (λ w. IsEdge g side i text_leaf w) (run_of_none g side refl (run_of_leads g side l)) edge)
+
+pub text_pairs : (g : Grammar) (side : Side) (m : Matrix) → ((i j : ℕ) → HasPair m i j ↔ IsStep g side Text i j) → ArePairsOfText g side m
+text_pairs g side m steps i j = (λ p. to ((steps i j).0 p), λ edge. (steps i j).1 (text_leaf, refl, edge))
+  where
+    to : IsStep g side Text i j → IsEdge g side i text_leaf j
+    to (l, is, edge) = subst (λ w. IsEdge g side i w j) is edge
+
+-- one tree more
+pub tree_more : (g : Grammar) (side : Side) (ns : List Node) (i : ℕ) (x : Node) (old one new : Matrix) → i < length ns → x ≡ get_or ns i x
+    → ArePairsOf g side (see.trees (take i ns)) old → ArePairsOf g side (see.before x none) one → IsComposition old one new → ArePairsOf g side (see.trees (take (i + 1) ns)) new
+tree_more g side ns i x old one new low is before here both =
+    let more : take (i + 1) ns ≡ take i ns ++ x ∷ [] = ap (λ m. take m ns) (add-one i) ∙ (take-suc ns i x low ∙ ap (λ (w : Node). take i ns ++ w ∷ []) (sym is)) in
+    subst (λ h. ArePairsOf g side h new) (sym (ap see.trees more ∙ trees_append (take i ns) (x ∷ [])))
+    (pairs_compose g side (see.trees (take i ns)) (see.before x none) old one new before here both)
+
+pub all_trees : (g : Grammar) (side : Side) (ns : List Node) (i : ℕ) (m : Matrix) → length ns ≤ i → ArePairsOf g side (see.trees (take i ns)) m → ArePairsOf g side (see.trees ns) m
+all_trees g side ns i m all pairs = subst (λ w. ArePairsOf g side (see.trees w) m) (take_all i ns all) pairs
+
+-- valid outputs by the pairs
+pub outputs_told : (g : Grammar) (h : Trees) (m : Matrix) → ArePairsOf g output h m → IsValidOutput g h ↔ ((j : ℕ) × HasPair m 0 j × (automaton g.start).accepting j)
+outputs_told g h m pairs = (λ v. to ((outputs_lead_exactly g h).0 v), λ x. (outputs_lead_exactly g h).1 (of x))
+  where
+    to : (y : ℕ) × Leads g output 0 h y × (automaton g.start).accepting y → (j : ℕ) × HasPair m 0 j × (automaton g.start).accepting j
+    to (y, l, acc) = (y, (pairs 0 y).1 (first_below g output the_start, l), acc)
+
+    of : (j : ℕ) × HasPair m 0 j × (automaton g.start).accepting j → (y : ℕ) × Leads g output 0 h y × (automaton g.start).accepting y
+    of (j, p, acc) = (j, ((pairs 0 j).0 p).1, acc)
+
+-- flags that tell the classes of a name
+abbrev pub TellsClasses : Grammar → ExpandedName → List Bool → Type 0
+TellsClasses g n allowed = (k : ℕ) (e : ElementPattern) → slice_get g.elements k ≡ Some e → slice_get allowed k ≡ Some (in_class e.names n)
+
+-- an edge takes an element
+abbrev pub IsStepAround : Grammar → Side → List Bool → Matrix → ℕ → ℕ → Type 0
+IsStepAround g side allowed inner i j = (l : Leaf) × ((k : ℕ) × (l ≡ ref_leaf k) × IsTakenAround g side allowed inner k) × IsEdge g side i l j
+
+-- the pairs of an element by flags that tell the classes of its name
+pub around_told : (g : Grammar) (side : Side) (n : ExpandedName) (allowed : List Bool) (inner m : Matrix) → TellsClasses g n allowed
+    → ((i j : ℕ) → HasPair m i j ↔ IsStepAround g side allowed inner i j) → ArePairsAround g side n inner m
+around_told g side n allowed inner m tells steps i j = (λ p. to ((steps i j).0 p), λ x. (steps i j).1 (of x))
+  where
+    inside : (k : ℕ) (e : ElementPattern) → element_at g.elements k ≡ Some e → slice_get allowed (k - 1) ≡ Some true → InClass e.names n
+    inside zero e at told = absurd (cc)
+    inside (suc k) e at told =
+        let place : suc k - 1 ≡ k = omega arith in
+        let found = tells k e at in
+        let here : slice_get allowed k ≡ Some true = subst (λ w. slice_get allowed w ≡ Some true) place told in
+        cc
+
+    told : (k : ℕ) (e : ElementPattern) → element_at g.elements k ≡ Some e → InClass e.names n → slice_get allowed (k - 1) ≡ Some true
+    told zero e at within = absurd (cc)
+    told (suc k) e at within =
+        let place : k ≡ suc k - 1 = omega arith in
+        subst (λ w. slice_get allowed w ≡ Some true) place (tells k e at ∙ ap (λ w. Some w) within)
+
+    to : IsStepAround g side allowed inner i j → (k : ℕ) × (e : ElementPattern) × (element_at g.elements k ≡ Some e) × InClass e.names n × IsTaken g side inner k e × IsEdge g side i (ref_leaf k) j
+    to (l, (k, is, (e, at, set, taken)), edge) = (k, e, at, inside k e at set, taken, subst (λ w. IsEdge g side i w j) is edge)
+
+    of : (k : ℕ) × (e : ElementPattern) × (element_at g.elements k ≡ Some e) × InClass e.names n × IsTaken g side inner k e × IsEdge g side i (ref_leaf k) j → IsStepAround g side allowed inner i j
+    of (k, e, at, within, taken, edge) = (ref_leaf k, (k, refl, (e, at, told k e at within, taken)), edge)
+
+-- the row of a symbol tells the classes of its names
+pub row_tells : (g : Grammar) (n : ExpandedName) (items : List Bool) (row patterns : ℕ) → patterns ≡ length g.elements
+    → ((k : ℕ) (e : ElementPattern) → slice_get g.elements k ≡ Some e → slice_get items (row + k) ≡ Some (in_class e.names n)) → TellsClasses g n (slice_range items row (row + patterns))
+row_tells g n items row patterns count tells k e at =
+    let low : k < patterns = omega (arith, count, slice_get_within g.elements k e at) in
+    let size : row + patterns - row ≡ patterns = omega arith in
+    ap (λ w. slice_get (take w (drop row items)) k) size ∙ (get_take (drop row items) patterns k low ∙ (get_drop items row k ∙ tells k e at))
+  where
+    get_take : (xs : List Bool) (m i : ℕ) → i < m → slice_get (take m xs) i ≡ slice_get xs i
+    get_take xs zero i l = absurd (omega arith)
+    get_take [] (suc m) i l = refl
+    get_take (x ∷ xs) (suc m) zero l = refl
+    get_take (x ∷ xs) (suc m) (suc i) l = get_take xs m i (omega arith)
+
+    get_drop : (xs : List Bool) (m i : ℕ) → slice_get (drop m xs) i ≡ slice_get xs (m + i)
+    get_drop xs zero i = let e : i ≡ 0 + i = omega arith in ap (slice_get xs) e
+    get_drop [] (suc m) i = refl
+    get_drop (x ∷ xs) (suc m) i = let e : suc (m + i) ≡ suc m + i = omega arith in get_drop xs m i ∙ ap (slice_get (x ∷ xs)) e
+
+-- flags pushed for all element patterns tell the classes
+pub pushed_tell : (g : Grammar) (n : ExpandedName) (allowed : List Bool) → allowed ≡ map (λ (e : ElementPattern). in_class e.names n) g.elements → TellsClasses g n allowed
+pushed_tell g n allowed is k e at = ap (λ w. slice_get w k) is ∙ get_map g.elements (λ (d : ElementPattern). in_class d.names n) k e at
+
+-- two facts of a set that was made
+pub both_of : {E : Type 0} {P Q R : Matrix → Type 0} (r : Result Matrix E) → IfOk r P → IfOk r Q → ((m : Matrix) → P m → Q m → R m) → IfOk r R
+both_of (Ok m) p q f = f m p q
+both_of (Err e) p q f = tt
+
+-- the row of a symbol in the table of a hedge
+pub symbol_row_tells : (side : Side) (g : Grammar) (symbols : List Mention) (h : Hedge) → Stands side g symbols h → (n : ExpandedName) (symbol : ℕ) → symbol_of symbols n ≡ symbol
+    → (items : List Bool) → items ≡ h.allowed.items → (patterns : ℕ) → patterns ≡ length h.auto.elements.now → TellsClasses g n (slice_range items (symbol * patterns) (symbol * patterns + patterns))
+symbol_row_tells side g symbols h st n symbol is items same patterns count =
+    let all : patterns ≡ length g.elements = count ∙ patterns_of side g h.auto st.auto in
+    row_tells g n items (symbol * patterns) patterns all
+    (λ k e at.
+    ap (λ w. slice_get w (symbol * patterns + k)) same
+    ∙ (ap (λ w. slice_get h.allowed.items (w * patterns + k)) (sym is)
+    ∙ (ap (λ w. slice_get h.allowed.items (symbol_of symbols n * w + k)) all ∙ st.tells n k e at)))

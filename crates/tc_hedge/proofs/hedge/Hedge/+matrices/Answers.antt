@@ -1,0 +1,45 @@
+use Rattle.std.proofs.Common.{◌≡◌, ap, ◌∙◌, sym, subst}
+use Rattle.tc_model.specs.Trees.{Trees, none}
+use Rattle.tc_model.specs.Seen as see
+use Rattle.tc_model.specs.States.{output}
+use Rattle.tc_model.specs.declared.tree.Node.{Node}
+use Rattle.tc_model.proofs.Views.{before_text, before_elem}
+use Rattle.tc_hedge.specs.Leading.{ArePairsOf}
+use Rattle.tc_hedge.proofs.Gathers.{for_ok}
+use Rattle.tc_hedge.proofs.Leading.{pairs_surround}
+use Rattle.tc_hedge.proofs.Sides.{nothing_led, tree_more, all_trees, outputs_told}
+use Rattle.tc_hedge.proofs.hedge.Hedge.+matrices.Goals as goal
+
+pub matrix_of-loop-node-init : goal.matrix_of-loop-node-init
+matrix_of-loop-node-init t c =
+    let size = c.in_ok-led.ensures.size ∙ c.states.ensures.here in
+    (size, c.in_ok-led.ensures.matrix, λ side x st. nothing_led x side c.args.self.now.auto st c.in_ok-led.led size c.in_ok-led.ensures.pairs)
+
+pub matrix_of-loop-node-preserved : goal.matrix_of-loop-node-preserved
+matrix_of-loop-node-preserved t c = (
+  c.in_ok-led-2.ensures.size ∙ c.loop-node.invariant.0,
+  c.in_ok-led-2.ensures.matrix,
+  λ side x st.
+      tree_more x side c.args.nodes.now c.loop-node.node-index c.node-item.result c.loop-node.led c.in_ok-one.one c.in_ok-led-2.led c.loop-node-test.true c.node-item.is
+      (c.loop-node.invariant.2 side x st) (c.in_ok-one.ensures.pairs side x st) c.in_ok-led-2.ensures.pairs,
+)
+
+pub matrix_of-returns-clause-pairs : goal.matrix_of-returns-clause-pairs
+matrix_of-returns-clause-pairs t c = λ side x st. all_trees x side c.args.nodes.now c.loop-node.node-index c.loop-node.led c.loop-node-test.false (c.loop-node.invariant.2 side x st)
+
+pub matrix_of-returns-clause-output : goal.matrix_of-returns-clause-output
+matrix_of-returns-clause-output t c = λ x st.
+    outputs_told x (see.trees c.args.nodes.now) c.loop-node.led (all_trees x output c.args.nodes.now c.loop-node.node-index c.loop-node.led c.loop-node-test.false (c.loop-node.invariant.2 output x st))
+
+pub matrix_of_tree-returns-in-Text-clause-pairs : goal.matrix_of_tree-returns-in-Text-clause-pairs
+matrix_of_tree-returns-in-Text-clause-pairs t c =
+    let is = ap (λ (n : Node). see.before n none) c.in-Text.is ∙ before_text c.in-Text.text none in
+    for_ok c.matrix_of_text.result c.matrix_of_text.ensures.pairs (λ m pairs side x st. subst (λ h. ArePairsOf x side h m) (sym is) (pairs side x st))
+
+pub matrix_of_tree-returns-in_ok-inner-in-Elem-clause-pairs : goal.matrix_of_tree-returns-in_ok-inner-in-Elem-clause-pairs
+matrix_of_tree-returns-in_ok-inner-in-Elem-clause-pairs t c =
+    let is = ap (λ (n : Node). see.before n none) c.in-Elem.is ∙ before_elem c.in-Elem.name c.in-Elem.kids none in
+    for_ok c.matrix_around.result c.matrix_around.ensures.pairs
+    (λ m around side x st.
+    subst (λ h. ArePairsOf x side h m) (sym is)
+    (pairs_surround x side (see.name c.in-Elem.name) (see.trees c.in-Elem.kids.now) c.in_ok-inner-in-Elem.inner m (c.in_ok-inner-in-Elem.ensures.pairs side x st) (around side x st)))

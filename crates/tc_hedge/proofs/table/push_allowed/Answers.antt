@@ -1,0 +1,19 @@
+use Rattle.std.proofs.Common.{arith}
+use Rattle.tc_model.specs.Seen as see
+use Rattle.tc_model.specs.Grammars.{Grammar, ElementPattern, in_class}
+use Rattle.tc_model.specs.States.{Side}
+use Rattle.tc_auto.specs.Stands as a
+use Rattle.tc_hedge.proofs.Bounds.{patterns_of}
+use Rattle.tc_hedge.proofs.TableRows.{allowed_more}
+use Rattle.tc_hedge.proofs.table.push_allowed.Goals as goal
+
+pub loop-before-preserved : goal.loop-before-preserved
+loop-before-preserved c = (
+  omega (arith, c.in_ok-push.ensures.len, c.loop-before.invariant.0),
+  λ side x st.
+      allowed_more x (λ (e : ElementPattern). in_class e.names (see.name c.args.name.now)) c.loop-before.before c.allows-is_allowed.result c.args.allowed.now.items c.loop-before.allowed.items c.push.new.self.items
+      (omega (arith, c.loop-before-test.true, c.patterns-before-end.ensures.here, patterns_of side x c.args.automaton.now st))
+      (λ e at. c.allows-is_allowed.ensures side x st e at)
+      (c.loop-before.invariant.1 side x st)
+      c.in_ok-push.ensures.items,
+)

@@ -1,0 +1,5 @@
+pub mod Leading
+pub mod Stands
+pub mod Items
+pub mod Documents
+pub mod Sets

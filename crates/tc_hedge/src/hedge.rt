@@ -1,0 +1,326 @@
+// The pairs of states that trees lead, by the automaton of a schema.
+ghost use Rattle.std.specs.Prelude.{◌≡◌, ◌*◌, ◌↔◌, IfOk, IsTrue, length, slice_get, true};
+ghost use Rattle.tc_hedge.specs.Items.{IsOfSomeSchema};
+ghost use Rattle.tc_mat.specs.Matrix.{IsComposition, IsMatrix};
+
+use crate::documents::is_document;
+use crate::items::Item;
+use crate::table::{push_allowed, table_of};
+use crate::valid::is_element_valid;
+use std::alloc::Global;
+use tc_alpha::{Alphabet, Sym};
+use tc_auto::{Auto, Edge, Leaf};
+use tc_base::NoMemory;
+use tc_mat::Mat;
+use tc_model::{Name, Node, is_all_white};
+
+/// The automaton of a schema, and which symbols the classes of its element patterns hold.
+#[derive(Drop)]
+pub struct Hedge<'b> {
+    pub(crate) alloc: Global,
+    pub(crate) auto: Auto<'b>,
+    symbols: u32,
+    allowed: Vec<bool>,
+    ghost stands: { ∥ IsOfSomeSchema auto ∥₁ },
+    ghost tabled: { length allowed.items ≡ symbols * length auto.elements.now },
+}
+
+/// Whether a flag is set.
+fn is_set(flags: &[bool], place: usize) -> bool
+    ensures { IsTrue result ↔ (slice_get flags.now place ≡ Some true) }
+{
+    match flags.get(place) {
+        Some(flag) => *flag,
+        None => false,
+    }
+}
+
+/// The composition of two sets of pairs.
+fn composition(alloc: Global, first: &Mat, second: &Mat) -> Result<Mat, NoMemory>
+    requires { first.now.size ≡ second.now.size }
+    ensures size { IfOk result (λ m. m.size ≡ first.now.size) }
+    ensures matrix { IfOk result (λ m. IsMatrix m) }
+    ensures pairs { IfOk result (λ m. IsComposition first.now second.now m) }
+{
+    let mut both = Mat::zero(alloc, first.size())?;
+    Mat::mul_into(first, second, &mut both);
+    Ok(both)
+}
+
+impl<'b> Hedge<'b> {
+    ghost use Rattle.std.specs.Prelude.{◌≡◌, ◌<◌, ◌≤◌, ◌↔◌, ◌⊎◌, ℕ, suc, List, Some, IfOk, IsTrue, All, length};
+    ghost use Rattle.std.specs.List.{Contains};
+    ghost use Rattle.tc_auto.specs.Stands as a;
+    ghost use Rattle.tc_auto.specs.Steps.{leaf as see_leaf};
+    ghost use Rattle.tc_auto.specs.declared.auto.Edge.{Edge};
+    ghost use Rattle.tc_hedge.specs.Items.{IsSized, IsStep, IsTakenAround, Takes};
+    ghost use Rattle.tc_hedge.specs.Leading.{ArePairsAround, ArePairsOf, ArePairsOfText, IsTaken};
+    ghost use Rattle.tc_hedge.specs.Stands.{Stands};
+    ghost use Rattle.tc_mat.specs.Matrix.{HasPair, IsMatrix};
+    ghost use Rattle.tc_model.specs.Grammars as g;
+    ghost use Rattle.tc_model.specs.Names as n;
+    ghost use Rattle.tc_model.specs.Seen as see;
+    ghost use Rattle.tc_model.specs.Sheets as sh;
+    ghost use Rattle.tc_model.specs.States as s;
+    ghost use Rattle.tc_model.specs.Symbols.{Mention, symbol_count, symbol_of, symbols_of};
+    ghost use Rattle.tc_model.specs.Trees as t;
+    ghost use Rattle.tc_model.specs.SimplifiesLaws.{IsStart};
+    ghost use Rattle.tc_model.specs.Validity.{IsValid, IsValidOutput};
+
+    /// A hedge of an automaton, by the symbols of an alphabet.
+    pub fn of(alloc: Global, auto: Auto<'b>, alphabet: &Alphabet) -> Result<Hedge<'b>, NoMemory>
+        requires { IsOfSomeSchema auto }
+        ensures automaton { IfOk result (λ h. h.auto ≡ auto.entry) }
+        ensures symbols { IfOk result (λ h. h.symbols ≡ symbol_count alphabet.now) }
+        ensures stands { IfOk result (λ h. (side : s.Side) (x : g.Grammar) → a.Stands side x auto.entry → (input output : g.Grammar) (sheet : sh.Sheet) → alphabet.now ≡ symbols_of input output sheet → (x ≡ input) ⊎ (x ≡ output) → Stands side x alphabet.now h) }
+    {
+        let allowed = table_of(alloc, &auto, alphabet)?;
+        let symbols = alphabet.count();
+        Ok(Hedge {
+            alloc,
+            auto,
+            symbols,
+            allowed,
+        })
+    }
+
+    /// The automaton.
+    pub fn auto(&self) -> &Auto<'b>
+        ensures { result.now ≡ self.now.auto }
+    {
+        &self.auto
+    }
+
+    /// The number of symbols.
+    pub fn symbols(&self) -> u32
+        ensures { result ≡ self.now.symbols }
+    {
+        self.symbols
+    }
+
+    /// The first state of a part.
+    pub(crate) fn first(&self, part: u32) -> u32
+        requires { part ≤ length self.now.auto.elements.now }
+        ensures exact { (side : s.Side) (x : g.Grammar) → a.Stands side x self.now.auto → result ≡ s.first_state x side part }
+        ensures within { result ≤ length self.now.auto.rows.items }
+    {
+        self.auto.first(part)
+    }
+
+    /// The first state of the content of an element pattern.
+    pub(crate) fn first_of_content(&self, number: u32) -> u32
+        requires from_one { 1 ≤ number }
+        requires within { number ≤ length self.now.auto.elements.now }
+        ensures exact { (side : s.Side) (x : g.Grammar) → a.Stands side x self.now.auto → result ≡ s.first_state x side number }
+        ensures below { result < length self.now.auto.rows.items }
+    {
+        self.first(number)
+    }
+
+    /// The state behind the last one of a part.
+    pub(crate) fn end(&self, part: u32) -> u32
+        requires { part ≤ length self.now.auto.elements.now }
+        ensures exact { (side : s.Side) (x : g.Grammar) → a.Stands side x self.now.auto → result ≡ s.first_state x side (suc part) }
+        ensures within { result ≤ length self.now.auto.rows.items }
+    {
+        if part < self.auto.patterns() {
+            self.first(part + 1)
+        } else {
+            self.auto.states()
+        }
+    }
+
+    /// The edges from a state.
+    pub(crate) fn edges(&self, state: u32) -> &[Edge]
+        requires { state < length self.now.auto.rows.items }
+        ensures exact { (side : s.Side) (x : g.Grammar) → a.Stands side x self.now.auto → (e : Edge) → Contains result.now e ↔ s.IsEdge x side state (see_leaf e.leaf) e.to }
+        ensures within { All (λ (e : Edge). e.to < length self.now.auto.rows.items) result.now }
+    {
+        self.auto.follow(state)
+    }
+
+    /// Whether a set of pairs leads the first state of a content to an accepting state of that content.
+    fn is_taken(&self, inner: &Mat, number: u32) -> bool
+        requires within { number ≤ length self.now.auto.elements.now }
+        requires size { inner.now.size ≡ length self.now.auto.rows.items }
+        ensures { (side : s.Side) (x : g.Grammar) → a.Stands side x self.now.auto → (e : g.ElementPattern) → g.element_at x.elements number ≡ Some e → IsTrue result ↔ IsTaken x side inner.now number e }
+    {
+        let first = self.first(number);
+        let end = self.end(number);
+        for state in first..end {
+            if inner.has(first, state) && self.auto.accepts(state) {
+                return true;
+            }
+        }
+        false
+    }
+
+    /// Whether an element pattern takes an element.
+    fn is_taken_around(&self, allowed: &[bool], inner: &Mat, number: u32) -> bool
+        requires { inner.now.size ≡ length self.now.auto.rows.items }
+        ensures { (side : s.Side) (x : g.Grammar) → a.Stands side x self.now.auto → IsTrue result ↔ IsTakenAround x side allowed.now inner.now number }
+    {
+        if number == 0 || number > self.auto.patterns() {
+            return false;
+        }
+        is_set(allowed, number as usize - 1) && self.is_taken(inner, number)
+    }
+
+    /// Whether a leaf takes an item.
+    fn takes(&self, item: &Item<'_>, leaf: Leaf) -> bool
+        requires { IsSized (length self.now.auto.rows.items) item.now }
+        ensures { (side : s.Side) (x : g.Grammar) → a.Stands side x self.now.auto → IsTrue result ↔ Takes x side item.now (see_leaf leaf) }
+    {
+        match item {
+            Item::Text => leaf == Leaf::Text,
+            Item::Around(allowed, inner) => match leaf {
+                Leaf::Text => false,
+                Leaf::Ref(number) => self.is_taken_around(allowed, inner, number),
+            },
+        }
+    }
+
+    /// Puts the pairs of an item that begin at a state.
+    fn put_from(&self, item: &Item<'_>, state: u32, out: &mut Mat)
+        requires item { IsSized (length self.now.auto.rows.items) item.now }
+        requires state { state < length self.now.auto.rows.items }
+        requires out { out.old.size ≡ length self.now.auto.rows.items }
+        requires matrix { IsMatrix out.old }
+        ensures size { out.new.size ≡ out.old.size }
+        ensures matrix { IsMatrix out.new }
+        ensures pairs { (side : s.Side) (x : g.Grammar) → a.Stands side x self.now.auto → (i j : ℕ) → HasPair out.new i j ↔ (HasPair out.old i j ⊎ ((i ≡ state) × IsStep x side item.now i j)) }
+    {
+        for edge in self.edges(state) {
+            if self.takes(item, edge.leaf) {
+                out.set(state, edge.to);
+            }
+        }
+    }
+
+    /// Leaves the pairs of an item, whatever the set held.
+    fn put(&self, item: &Item<'_>, out: &mut Mat)
+        requires item { IsSized (length self.now.auto.rows.items) item.now }
+        requires out { out.old.size ≡ length self.now.auto.rows.items }
+        ensures size { out.new.size ≡ out.old.size }
+        ensures matrix { IsMatrix out.new }
+        ensures pairs { (side : s.Side) (x : g.Grammar) → a.Stands side x self.now.auto → (i j : ℕ) → HasPair out.new i j ↔ IsStep x side item.now i j }
+    {
+        out.clear();
+        for state in 0..self.auto.states() {
+            self.put_from(item, state, out);
+        }
+    }
+
+    /// Leaves the pairs of a text that isn't white space alone, whatever the set held. It takes no memory.
+    pub fn text_into(&self, out: &mut Mat)
+        requires { out.old.size ≡ length self.now.auto.rows.items }
+        ensures size { out.new.size ≡ out.old.size }
+        ensures matrix { IsMatrix out.new }
+        ensures pairs { (side : s.Side) (x : g.Grammar) → a.Stands side x self.now.auto → ArePairsOfText x side out.new }
+    {
+        self.put(&Item::Text, out);
+    }
+
+    /// Leaves the pairs of an element whose name has a symbol, around a set of pairs inside it, whatever the
+    /// set held. It takes no memory.
+    pub fn element_into(&self, sym: Sym, inner: &Mat, out: &mut Mat)
+        requires symbol { sym.0 < self.now.symbols }
+        requires inner { inner.now.size ≡ length self.now.auto.rows.items }
+        requires out { out.old.size ≡ length self.now.auto.rows.items }
+        ensures size { out.new.size ≡ out.old.size }
+        ensures matrix { IsMatrix out.new }
+        ensures pairs { (side : s.Side) (x : g.Grammar) (symbols : List Mention) → Stands side x symbols self.now → (name : n.ExpandedName) → symbol_of symbols name ≡ sym.0 → ArePairsAround x side name inner.now out.new }
+        ensures around { (side : s.Side) (x : g.Grammar) (symbols : List Mention) → Stands side x symbols self.now → (name : n.ExpandedName) → symbol_of symbols name ≡ sym.0 → (c : t.Trees) → ArePairsOf x side c inner.now → ArePairsOf x side (t.element name c t.none) out.new }
+    {
+        let patterns = self.auto.patterns() as usize;
+        let row = sym.0 as usize * patterns;
+        let allowed = &self.allowed[row..row + patterns];
+        self.put(&Item::Around(allowed, inner), out);
+    }
+
+    /// The pairs of an element of a name, around a set of pairs inside it.
+    fn matrix_around(&self, name: &Name<'_>, inner: &Mat) -> Result<Mat, NoMemory>
+        requires { inner.now.size ≡ length self.now.auto.rows.items }
+        ensures size { IfOk result (λ m. m.size ≡ length self.now.auto.rows.items) }
+        ensures matrix { IfOk result (λ m. IsMatrix m) }
+        ensures pairs { IfOk result (λ m. (side : s.Side) (x : g.Grammar) → a.Stands side x self.now.auto → ArePairsAround x side (see.name name.now) inner.now m) }
+    {
+        let mut allowed = Vec::new(self.alloc);
+        push_allowed(&mut allowed, &self.auto, name)?;
+        let mut led = Mat::zero(self.alloc, self.auto.states())?;
+        self.put(&Item::Around(&allowed, inner), &mut led);
+        Ok(led)
+    }
+
+    /// The pairs of a text.
+    fn matrix_of_text(&self, text: &str) -> Result<Mat, NoMemory>
+        ensures size { IfOk result (λ m. m.size ≡ length self.now.auto.rows.items) }
+        ensures matrix { IfOk result (λ m. IsMatrix m) }
+        ensures pairs { IfOk result (λ m. (side : s.Side) (x : g.Grammar) → a.Stands side x self.now.auto → ArePairsOf x side (t.text text.now t.none) m) }
+    {
+        let states = self.auto.states();
+        if is_all_white(text) {
+            return Mat::identity(self.alloc, states);
+        }
+        let mut led = Mat::zero(self.alloc, states)?;
+        self.text_into(&mut led);
+        Ok(led)
+    }
+
+    /// The pairs of one tree.
+    #[cycle(matrices)]
+    fn matrix_of_tree(&self, node: &Node<'_>) -> Result<Mat, NoMemory>
+        ensures size { IfOk result (λ m. m.size ≡ length self.now.auto.rows.items) }
+        ensures matrix { IfOk result (λ m. IsMatrix m) }
+        ensures pairs { IfOk result (λ m. (side : s.Side) (x : g.Grammar) → a.Stands side x self.now.auto → ArePairsOf x side (see.before node.now t.none) m) }
+    {
+        match node {
+            Node::Text(text) => self.matrix_of_text(text),
+            Node::Elem(name, kids) => {
+                let inner = self.matrix_of(kids)?;
+                self.matrix_around(name, &inner)
+            }
+        }
+    }
+
+    /// The set of pairs that trees lead: an element by an element pattern that its normal form matches, while
+    /// a text of white space alone stays where it is.
+    ///
+    /// # Errors
+    ///
+    /// There is no memory for the sets.
+    #[cycle(matrices)]
+    pub fn matrix_of(&self, nodes: &[Node<'_>]) -> Result<Mat, NoMemory>
+        ensures size { IfOk result (λ m. m.size ≡ length self.now.auto.rows.items) }
+        ensures matrix { IfOk result (λ m. IsMatrix m) }
+        ensures pairs { IfOk result (λ m. (side : s.Side) (x : g.Grammar) → a.Stands side x self.now.auto → ArePairsOf x side (see.trees nodes.now) m) }
+        ensures output { IfOk result (λ m. (x : g.Grammar) → a.Stands s.output x self.now.auto → IsValidOutput x (see.trees nodes.now) ↔ ((j : ℕ) × HasPair m 0 j × (s.automaton x.start).accepting j)) }
+    {
+        let mut led = Mat::identity(self.alloc, self.auto.states())?;
+        for node in nodes {
+            let one = self.matrix_of_tree(node)?;
+            led = composition(self.alloc, &led, &one)?;
+        }
+        Ok(led)
+    }
+
+    /// Whether a tree is a document that is valid for the schema, whose start is made of references and
+    /// choices alone.
+    ///
+    /// # Errors
+    ///
+    /// There is no memory for the sets of states.
+    pub fn valid(&self, doc: &Node<'_>) -> Result<bool, NoMemory>
+        ensures { IfOk result (λ b. (side : s.Side) (x : g.Grammar) → a.Stands side x self.now.auto → IsStart x.start → IsTrue b ↔ IsValid x (see.before doc.now t.none)) }
+    {
+        match doc {
+            Node::Text(_) => Ok(false),
+            Node::Elem(name, kids) => {
+                if !is_document(doc) {
+                    return Ok(false);
+                }
+                is_element_valid(self, name, kids)
+            }
+        }
+    }
+}

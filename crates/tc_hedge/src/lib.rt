@@ -1,0 +1,15 @@
+//! What trees lead from one state of a schema to another, as sets of pairs, and validity by states.
+#![tactic(auto)]
+
+mod documents;
+pub mod hedge;
+mod items;
+pub mod laws;
+mod passages;
+mod sets;
+mod table;
+#[cfg(test)]
+mod tests;
+mod valid;
+
+pub use hedge::Hedge;

@@ -1,0 +1,186 @@
+// Sets of states and of element patterns, as lists of their numbers.
+ghost use Rattle.std.specs.Prelude.{◌≡◌, ◌<◌, ◌≤◌, ◌↔◌, ◌⊎◌, ◌+◌, ℕ, suc, IfOk, IsTrue, OnOk, length};
+ghost use Rattle.std.specs.List.{Contains};
+ghost use Rattle.tc_auto.specs.Stands as a;
+ghost use Rattle.tc_auto.specs.Steps.{leaf as see_leaf};
+ghost use Rattle.tc_hedge.specs.Sets.{AreBelow, AreNumbers, Grows, IsMade, IsMatched, IsNamed, IsReached, Leaves, Makes, Passes, Runs, Steps};
+ghost use Rattle.tc_model.specs.Grammars as g;
+ghost use Rattle.tc_model.specs.Seen as see;
+ghost use Rattle.tc_model.specs.States as s;
+
+use crate::hedge::Hedge;
+use crate::passages::Passage;
+use tc_auto::Leaf;
+use tc_base::NoMemory;
+use tc_model::Name;
+
+/// Puts a number into a set.
+fn put_number(set: &mut Vec<u32>, number: u32) -> Result<(), NoMemory>
+    ensures { OnOk result (Grows set.old.items set.new.items (λ j. j ≡ number)) }
+{
+    if !set.contains(&number) {
+        set.push(number)?;
+    }
+    Ok(())
+}
+
+/// Whether a leaf takes a text, or an element by one of some element patterns.
+fn passes(passage: &Passage<'_>, leaf: Leaf) -> bool
+    ensures { IsTrue result ↔ Passes passage.now (see_leaf leaf) }
+{
+    match passage {
+        Passage::Text => leaf == Leaf::Text,
+        Passage::Element(numbers) => match leaf {
+            Leaf::Text => false,
+            Leaf::Ref(number) => numbers.contains(&number),
+        },
+    }
+}
+
+/// Puts the states to which edges from a state lead.
+fn put_steps(
+    hedge: &Hedge<'_>,
+    passage: &Passage<'_>,
+    state: u32,
+    next: &mut Vec<u32>,
+) -> Result<(), NoMemory>
+    requires state { state < length hedge.now.auto.rows.items }
+    ensures made { OnOk result ((side : s.Side) (x : g.Grammar) → a.Stands side x hedge.now.auto → Grows next.old.items next.new.items (Steps x side passage.now state)) }
+    ensures below { OnOk result (AreBelow (length hedge.now.auto.rows.items) next.old.items → AreBelow (length hedge.now.auto.rows.items) next.new.items) }
+{
+    for edge in hedge.edges(state) {
+        if passes(passage, edge.leaf) {
+            put_number(next, edge.to)?;
+        }
+    }
+    Ok(())
+}
+
+/// The states to which edges from some states lead.
+pub(crate) fn step(
+    hedge: &Hedge<'_>,
+    passage: &Passage<'_>,
+    states: &[u32],
+) -> Result<Vec<u32>, NoMemory>
+    requires { AreBelow (length hedge.now.auto.rows.items) states.now }
+    ensures made { IfOk result (λ v. (side : s.Side) (x : g.Grammar) → a.Stands side x hedge.now.auto → IsMade v.items (Makes (Steps x side passage.now) states.now)) }
+    ensures below { IfOk result (λ v. AreBelow (length hedge.now.auto.rows.items) v.items) }
+{
+    let mut next = Vec::new(hedge.alloc);
+    for state in states {
+        put_steps(hedge, passage, *state, &mut next)?;
+    }
+    Ok(next)
+}
+
+/// Puts the numbers of the element patterns that edges from a state take.
+fn put_leaving(hedge: &Hedge<'_>, state: u32, numbers: &mut Vec<u32>) -> Result<(), NoMemory>
+    requires state { state < length hedge.now.auto.rows.items }
+    ensures made { OnOk result ((side : s.Side) (x : g.Grammar) → a.Stands side x hedge.now.auto → Grows numbers.old.items numbers.new.items (Leaves x side state)) }
+{
+    for edge in hedge.edges(state) {
+        match edge.leaf {
+            Leaf::Text => {}
+            Leaf::Ref(number) => put_number(numbers, number)?,
+        }
+    }
+    Ok(())
+}
+
+/// The numbers of the element patterns that edges from some states take.
+pub(crate) fn leaving(hedge: &Hedge<'_>, states: &[u32]) -> Result<Vec<u32>, NoMemory>
+    requires { AreBelow (length hedge.now.auto.rows.items) states.now }
+    ensures { IfOk result (λ v. (side : s.Side) (x : g.Grammar) → a.Stands side x hedge.now.auto → IsMade v.items (Makes (Leaves x side) states.now)) }
+{
+    let mut numbers = Vec::new(hedge.alloc);
+    for state in states {
+        put_leaving(hedge, *state, &mut numbers)?;
+    }
+    Ok(numbers)
+}
+
+/// Whether a name is in the class of the element pattern of a number.
+fn is_named(hedge: &Hedge<'_>, name: &Name<'_>, number: u32) -> bool
+    ensures made { (side : s.Side) (x : g.Grammar) → a.Stands side x hedge.now.auto → IsTrue result ↔ IsNamed x (see.name name.now) number }
+    ensures within { IsTrue result → (1 ≤ number) × (number ≤ length hedge.now.auto.elements.now) }
+{
+    if number == 0 || number > hedge.auto.patterns() {
+        return false;
+    }
+    hedge.auto.allows(number, name)
+}
+
+/// Those of some numbers in the class of whose element pattern a name is.
+pub(crate) fn named(
+    hedge: &Hedge<'_>,
+    name: &Name<'_>,
+    numbers: &[u32],
+) -> Result<Vec<u32>, NoMemory>
+    ensures made { IfOk result (λ v. (side : s.Side) (x : g.Grammar) → a.Stands side x hedge.now.auto → IsMade v.items (λ k. Contains numbers.now k × IsNamed x (see.name name.now) k)) }
+    ensures within { IfOk result (λ v. AreNumbers (length hedge.now.auto.elements.now) v.items) }
+{
+    let mut found = Vec::new(hedge.alloc);
+    for number in numbers {
+        if is_named(hedge, name, *number) {
+            found.push(*number)?;
+        }
+    }
+    Ok(found)
+}
+
+/// The first states of the contents of some numbers.
+pub(crate) fn firsts(hedge: &Hedge<'_>, numbers: &[u32]) -> Result<Vec<u32>, NoMemory>
+    requires { AreNumbers (length hedge.now.auto.elements.now) numbers.now }
+    ensures made { IfOk result (λ v. (side : s.Side) (x : g.Grammar) → a.Stands side x hedge.now.auto → IsMade v.items (Makes (λ k i. i ≡ s.first_state x side k) numbers.now)) }
+    ensures below { IfOk result (λ v. AreBelow (length hedge.now.auto.rows.items) v.items) }
+{
+    let mut states = Vec::new(hedge.alloc);
+    for number in numbers {
+        let first = hedge.first_of_content(*number);
+        states.push(first)?;
+    }
+    Ok(states)
+}
+
+/// Whether a state is an accepting one from a first state on and before an end.
+fn is_end(hedge: &Hedge<'_>, state: u32, first: u32, end: u32) -> bool
+    requires { state < length hedge.now.auto.rows.items }
+    ensures { (side : s.Side) (x : g.Grammar) → a.Stands side x hedge.now.auto → IsTrue result ↔ ((first ≤ state) × (state < end) × s.IsAccepting x side state) }
+{
+    first <= state && state < end && hedge.auto.accepts(state)
+}
+
+/// Whether one of some states is an accepting one of the content of a number.
+fn is_reached(hedge: &Hedge<'_>, states: &[u32], number: u32) -> bool
+    requires below { AreBelow (length hedge.now.auto.rows.items) states.now }
+    requires within { number ≤ length hedge.now.auto.elements.now }
+    ensures { (side : s.Side) (x : g.Grammar) → a.Stands side x hedge.now.auto → IsTrue result ↔ IsReached x side states.now number }
+{
+    let first = hedge.first(number);
+    let end = hedge.end(number);
+    for state in states {
+        if is_end(hedge, *state, first, end) {
+            return true;
+        }
+    }
+    false
+}
+
+/// Those of some numbers of whose content an accepting state is among some states.
+pub(crate) fn reached(
+    hedge: &Hedge<'_>,
+    states: &[u32],
+    numbers: &[u32],
+) -> Result<Vec<u32>, NoMemory>
+    requires below { AreBelow (length hedge.now.auto.rows.items) states.now }
+    requires within { AreNumbers (length hedge.now.auto.elements.now) numbers.now }
+    ensures made { IfOk result (λ v. (side : s.Side) (x : g.Grammar) → a.Stands side x hedge.now.auto → IsMade v.items (λ k. Contains numbers.now k × IsReached x side states.now k)) }
+{
+    let mut found = Vec::new(hedge.alloc);
+    for number in numbers {
+        if is_reached(hedge, states, *number) {
+            found.push(*number)?;
+        }
+    }
+    Ok(found)
+}
