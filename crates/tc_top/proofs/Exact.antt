@@ -5,11 +5,12 @@ use Rattle.tc_model.specs.Trees.{Trees}
 use Rattle.tc_model.specs.Safety.{IsSafe, IsCounterexample}
 use Rattle.tc_top.specs.FirstForm.{Schema, grammar_of, sheet_of}
 use Rattle.tc_top.specs.FirstText.{SchemaText, SheetText}
-use Rattle.tc_top.specs.Words.{Command, check, Words, IsNoCommand, operands_of}
+use Rattle.tc_top.specs.Words.{Command, check, valid, Words, IsNoCommand, operands_of}
 use Rattle.tc_top.specs.Reading.{Reads, ReadsAll, StopsAt}
-use Rattle.tc_top.specs.Answers.{Answer, status_of, IsBuilt, other_input, other_output, other_sheet, Checks, is_other_form, is_safe, is_unsafe, IsAnswer, no_command, not_built, not_read, over_long, checked}
+use Rattle.tc_top.specs.Answers.{Answer, status_of, IsBuilt, other_input, other_output, other_sheet, Checks, is_other_form, is_safe, is_unsafe, Validates, IsAnswer, no_command, not_built, not_read, over_long, checked, validated}
 use Rattle.tc_top.specs.declared.status.Status.TheVariants.{Usage, Refused, Limit, ReadFault}
 use Rattle.tc_top.proofs.OneCommand.{one_command}
+use Rattle.tc_top.proofs.OneValidity.{validates_one}
 use Rattle.tc_top.proofs.FirstText.{schema_unique, sheet_unique, sheet_plain}
 use Rattle.tc_top.proofs.FirstLaws.{result_is}
 use Rattle.tc_model.specs.Validity.{IsValidOutput}
@@ -128,6 +129,7 @@ usage_only n (not_built w x e) = absurd (n _ w)
 usage_only n (not_read w b s c) = absurd (n _ w)
 usage_only n (over_long w b s l) = absurd (n _ w)
 usage_only n (checked w p q r x) = absurd (n _ w)
+usage_only n (validated w p q x) = absurd (n _ w)
 
 -- a command that isn't carried out is refused
 pub refused_only : {words : List (List ℕ)} {told : Option Files} {rose : Type 0} {answer : Answer} {command : Command} → Words words command → (IsBuilt command → ⊥)
@@ -137,6 +139,7 @@ refused_only w x (not_built v y e) = refl
 refused_only w x (not_read v b s c) = absurd (x (subst IsBuilt (one_command v w) b))
 refused_only w x (over_long v b s l) = absurd (x (subst IsBuilt (one_command v w) b))
 refused_only w x (checked v p q r y) = absurd (x (subst IsBuilt (one_command v w) tt))
+refused_only w x (validated v p q y) = absurd (x (subst IsBuilt (one_command v w) tt))
 
 -- a missing file is told
 missing_only : {words : List (List ℕ)} {files : Files} {rose : Type 0} {answer : Answer} {command : Command} {name : List ℕ} → Words words command → IsBuilt command
@@ -148,6 +151,7 @@ missing_only {words} {files} w b s m (over_long v b' s' l) =
     let long = l.told_cause files refl in
     absurd (missing_long files _ _ m long (same_stop s (of_command w v s') (missing_no m) (long_no long)))
 missing_only {words} {files} w b s m (checked v p q r x) = absurd (missing_no m (stop_readable (_ ∷ _ ∷ _ ∷ []) (p, (q, (r, tt))) (of_command v w s)))
+missing_only {words} {files} w b s m (validated v p q x) = absurd (missing_no m (stop_readable (_ ∷ _ ∷ []) (p, (q, tt)) (of_command v w s)))
 
 -- why a read failed, of a file that can be read
 failed : {file : Option (List ℕ)} {rose : Type 0} → IsReadable file → (file ≡ None) ⊎ (IsReadable file × rose) → rose
@@ -166,6 +170,7 @@ long_only {words} {files} {rose} {answer} {command} {name} w b s l (not_read {na
     by (inr f) = inr (refl, f.1)
 long_only w b s l (over_long v b' s' l') = inl refl
 long_only w b s l (checked v p q r x) = inl (absurd (long_no l (stop_readable (_ ∷ _ ∷ _ ∷ []) (p, (q, (r, tt))) (of_command v w s))))
+long_only w b s l (validated v p q x) = inl (absurd (long_no l (stop_readable (_ ∷ _ ∷ []) (p, (q, tt)) (of_command v w s))))
 
 -- where the operands can be read, the texts decide, unless a read failed
 pub texts_decide : {words : List (List ℕ)} {files : Files} {rose : Type 0} {answer : Answer} {input output sheet b c d : List ℕ} → Words words (check None input output sheet)
@@ -181,6 +186,30 @@ texts_decide {words} {files} {rose} {answer} {input} {output} {sheet} w p q r (c
     let two : output ≡ o = cc in
     let three : sheet ≡ s = cc in
     inr (checks_same one two three (renamed one p p') (renamed two q q') (renamed three r r') x)
+texts_decide w p q r (validated v p' q' x) = let other = one_command w v in absurd (cc)
+
+validates_same : {schema document b c schema' document' b' c' : List ℕ} {answer : Answer} → schema ≡ schema' → document ≡ document' → b ≡ b' → c ≡ c'
+    → Validates schema' document' b' c' answer → Validates schema document b c answer
+validates_same {schema} {document} {b} {c} {schema'} {document'} {b'} {c'} {answer} p q s t h =
+    subst (λ v. Validates v document b c answer) (sym p)
+    (subst (λ v. Validates schema' v b c answer) (sym q)
+    (subst (λ v. Validates schema' document' v c answer) (sym s)
+    (subst (λ v. Validates schema' document' b' v answer) (sym t) h)))
+
+-- the same of a validation
+pub texts_validate : {words : List (List ℕ)} {files : Files} {rose : Type 0} {answer : Answer} {schema document b c : List ℕ} → Words words (valid schema document)
+    → Reads (Some files) schema b → Reads (Some files) document c → IsAnswer words (Some files) rose answer
+    → ((status_of answer ≡ ReadFault) × rose) ⊎ Validates schema document b c answer
+texts_validate w p q (no_command n) = absurd (n _ w)
+texts_validate w p q (not_built v x e) = absurd (x (subst IsBuilt (one_command w v) tt))
+texts_validate {words} {files} w p q (not_read v e s c) = inl (refl, failed (stop_readable (_ ∷ _ ∷ []) (p, (q, tt)) (of_command w v s)) (c.told_cause files refl))
+texts_validate {words} {files} w p q (over_long v e s l) = absurd (long_no (l.told_cause files refl) (stop_readable (_ ∷ _ ∷ []) (p, (q, tt)) (of_command w v s)))
+texts_validate w p q (checked v p' q' r' x) = let other = one_command w v in absurd (cc)
+texts_validate {words} {files} {rose} {answer} {schema} {document} w p q (validated {schema = i} {document = o} v p' q' x) =
+    let same : valid schema document ≡ valid i o = one_command w v in
+    let one : schema ≡ i = cc in
+    let two : document ≡ o = cc in
+    inr (validates_same one two (renamed one p p') (renamed two q q') x)
 
 -- two answers of one status, or the second is a read that failed
 abbrev pub Agrees : Type 0 → Answer → Answer → Type 0
@@ -200,3 +229,8 @@ exact {words} {files} {rose} {one} {other} (checked {input = i} {output = o} {sh
     by : ((status_of other ≡ ReadFault) × rose) ⊎ Checks i o s b c d other → Agrees rose one other
     by (inl f) = inr f
     by (inr z) = inl (checks_one x z)
+exact {words} {files} {rose} {one} {other} (validated {schema = i} {document = o} {schema_text = b} {document_text = c} w p q x) y = by (texts_validate w p q y)
+  where
+    by : ((status_of other ≡ ReadFault) × rose) ⊎ Validates i o b c other → Agrees rose one other
+    by (inl f) = inr f
+    by (inr z) = inl (validates_one x z)

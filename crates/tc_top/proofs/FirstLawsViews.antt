@@ -1,18 +1,19 @@
 -- What the layers of an arena's trees and of a schema are, for the test whether trees fit.
-use Rattle.std.proofs.Common.{◌≡◌, ℕ, ◌+◌, Bool, true, false, ◌&&◌, ◌==◌, not, List, [], ◌∷◌, length, refl, ap, ◌∙◌, sym, subst, arith, bytes_eq, eqb-true}
+use Rattle.std.proofs.Common.{◌≡◌, ◌⊎◌, inl, inr, ℕ, ◌+◌, Bool, true, false, ◌&&◌, ◌==◌, not, List, [], ◌∷◌, length, refl, ap, ◌∙◌, sym, subst, arith, bytes_eq, eqb-true}
 use Rattle.std.proofs.lemmas.Bool.{true≢false, not-true, not-false}
 use Rattle.std.specs.List.{IsFirstAndRest}
 use Rattle.tc_model.specs.Names.{ExpandedName, same_name}
-use Rattle.tc_model.specs.Trees.{Trees, element}
+use Rattle.tc_model.specs.Trees.{Trees, none, element}
 use Rattle.tc_model.specs.Seen.{before, trees}
 use Rattle.tc_model.specs.declared.tree.Node.{Node, Node-F}
 use Rattle.tc_model.specs.declared.tree.Node.TheOpen as parts
 use Rattle.tc_model.specs.declared.tree.Node.TheVariants.{rolls-Elem, rolls-Text}
 use Rattle.tc_model.specs.declared.tree.Node.TheViews.{roll-Node, out-Node, roll-out-Node}
 use Rattle.tc_model.proofs.Views.{before_elem, before_text}
-use Rattle.tc_top.specs.FirstForm.{plain_name}
+use Rattle.tc_top.specs.FirstForm.{plain_name, holding, least_document}
 use Rattle.tc_top.specs.FirstSeen.{suffix, schema_from}
 use Rattle.tc_top.specs.declared.first.schema.Inner.{Inner}
+use Rattle.tc_top.specs.declared.first.schema.Suffix.TheVariants as v
 use Rattle.tc_top.specs.FirstFits.{width, allows, all_pass, fits}
 
 width_layer : (f : Node-F Node) (h : Trees) → width (before (roll-Node f) h) ≡ width h + 1
@@ -66,16 +67,16 @@ same_local m n e = go n.uri (bytes_eq m n.local) e where
   go (u ∷ us) b e = absurd (omega (arith, eqb-true (length (u ∷ us)) 0 e))
 
 -- without one its name is told by the local name
-told : (m local : List ℕ) (n : ExpandedName) (empty differs : Bool) → empty ≡ (length n.uri == 0) → empty ≡ true → local ≡ n.local → differs ≡ not (bytes_eq m local) → not (same_name (plain_name m) n) ≡ differs
-told m local n empty differs is_empty e at is = ap not (same_local m n (sym is_empty ∙ e)) ∙ (ap (λ l. not (bytes_eq m l)) (sym at) ∙ sym is)
+told : (m : List ℕ) (n : ExpandedName) (empty differs : Bool) → empty ≡ (length n.uri == 0) → empty ≡ true → differs ≡ not (bytes_eq m n.local) → not (same_name (plain_name m) n) ≡ differs
+told m n empty differs is_empty e is = ap not (same_local m n (sym is_empty ∙ e)) ∙ sym is
 
-pub other_local : (m local : List ℕ) (n : ExpandedName) (empty differs : Bool) → empty ≡ (length n.uri == 0) → empty ≡ true → local ≡ n.local → differs ≡ not (bytes_eq m local) → differs ≡ true
+pub other_local : (m : List ℕ) (n : ExpandedName) (empty differs : Bool) → empty ≡ (length n.uri == 0) → empty ≡ true → differs ≡ not (bytes_eq m n.local) → differs ≡ true
     → same_name (plain_name m) n ≡ false
-other_local m local n empty differs is_empty e at is d = not-true _ (told m local n empty differs is_empty e at is ∙ d)
+other_local m n empty differs is_empty e is d = not-true _ (told m n empty differs is_empty e is ∙ d)
 
-pub is_named : (m local : List ℕ) (n : ExpandedName) (empty differs : Bool) → empty ≡ (length n.uri == 0) → empty ≡ true → local ≡ n.local → differs ≡ not (bytes_eq m local) → differs ≡ false
+pub is_named : (m : List ℕ) (n : ExpandedName) (empty differs : Bool) → empty ≡ (length n.uri == 0) → empty ≡ true → differs ≡ not (bytes_eq m n.local) → differs ≡ false
     → same_name (plain_name m) n ≡ true
-is_named m local n empty differs is_empty e at is d = not-false _ (told m local n empty differs is_empty e at is ∙ d)
+is_named m n empty differs is_empty e is d = not-false _ (told m n empty differs is_empty e is ∙ d)
 
 -- one step of a loop over trees
 pub one_fails : (test : ExpandedName → Trees → Bool) (h : Trees) (n : ExpandedName) (kids rest : Trees) (r : Bool) → h ≡ element n kids rest → r ≡ test n kids → r ≡ false → all_pass test h ≡ false
@@ -83,3 +84,22 @@ one_fails test h n kids rest r e f g = ap (all_pass test) e ∙ ap (λ b. b && a
 
 pub one_passes : (test : ExpandedName → Trees → Bool) (h : Trees) (n : ExpandedName) (kids rest : Trees) (r : Bool) → h ≡ element n kids rest → r ≡ test n kids → r ≡ true → all_pass test rest ≡ all_pass test h
 one_passes test h n kids rest r e f g = sym (ap (all_pass test) e ∙ ap (λ b. b && all_pass test rest) (sym f ∙ g))
+
+-- the least document of an element pattern within which nothing stands
+pub least_of_nothing : (m : List ℕ) (is : List Inner) → length is ≡ 0 → least_document (schema_from m is) ≡ element (plain_name m) none none
+least_of_nothing m [] e = refl
+least_of_nothing m (i ∷ is) e = absurd (omega (arith, e))
+
+-- of one within which nothing need stand
+pub least_without : (m : List ℕ) (is : List Inner) (i : Inner) (rest : List Inner) → is ≡ i ∷ rest → (i.suffix ≡ v.Optional) ⊎ (i.suffix ≡ v.ZeroOrMore)
+    → least_document (schema_from m is) ≡ element (plain_name m) none none
+least_without m is i rest e s =
+    let within = schema_from i.name.now rest in
+    ap (λ js. least_document (schema_from m js)) e ∙ elim s [ inl may ↦ ap (λ x. least_document (holding m within (suffix x))) may | inr may ↦ ap (λ x. least_document (holding m within (suffix x))) may ]
+
+-- and of one within which an element must stand
+pub least_around : (m : List ℕ) (is : List Inner) (i : Inner) (rest : List Inner) → is ≡ i ∷ rest → (i.suffix ≡ v.None) ⊎ (i.suffix ≡ v.OneOrMore)
+    → least_document (schema_from m is) ≡ element (plain_name m) (least_document (schema_from i.name.now rest)) none
+least_around m is i rest e s =
+    let within = schema_from i.name.now rest in
+    ap (λ js. least_document (schema_from m js)) e ∙ elim s [ inl must ↦ ap (λ x. least_document (holding m within (suffix x))) must | inr must ↦ ap (λ x. least_document (holding m within (suffix x))) must ]

@@ -1,19 +1,21 @@
--- A check of files of the first form is exact.
+-- A check of files of the first form, and a validation, are exact.
 use Rattle.std.proofs.Common.{◌≡◌, ◌≤◌, ◌⊎◌, ◌∙◌, inl, inr, sym, subst, ℕ, List, length, Option, Some, arith}
-use Rattle.tc_io.specs.Store.{Files}
+use Rattle.tc_io.specs.Store.{Files, longest_file}
 use Rattle.tc_io.specs.Sink.{Appended}
 use Rattle.tc_model.specs.Trees.{Trees}
+use Rattle.tc_model.specs.Grammars.{Grammar}
 use Rattle.tc_model.specs.Safety.{IsSafe, IsCounterexample}
 use Rattle.tc_top.specs.FirstForm.{Schema, grammar_of, sheet_of}
 use Rattle.tc_top.specs.FirstText.{SchemaText, SheetText}
 use Rattle.tc_top.specs.Reading.{Reads}
-use Rattle.tc_top.specs.Answers.{Answer, safe, unsafe, status_of, text_of, other_input, other_output, other_sheet, Checks, is_other_form, is_safe, is_unsafe, IsAnswer, IsCutShort, Gives, ChecksFiles, DecidesSafety}
+use Rattle.tc_top.specs.Answers.{Answer, safe, unsafe, status_of, text_of, other_input, other_output, other_sheet, Checks, is_other_form, is_safe, is_unsafe, IsAnswer, IsCutShort, Gives, ChecksFiles, DecidesSafety, Validates, ValidatesFiles, DecidesValidity}
 use Rattle.tc_top.specs.AnswersSeen.{IsRight}
 use Rattle.tc_top.specs.declared.answer.Answer.{Answer as Said}
 use Rattle.tc_top.specs.declared.status.Status.{Status}
 use Rattle.tc_top.specs.declared.status.Status.TheVariants.{ReadFault}
 use Rattle.tc_top.proofs.FirstText.{schema_unique, sheet_unique}
-use Rattle.tc_top.proofs.Exact.{Agrees, not_both, texts_decide}
+use Rattle.tc_top.proofs.Exact.{Agrees, not_both, texts_decide, texts_validate}
+use Rattle.tc_top.proofs.OneValidity.{Settles, settles_valid, settles_invalid, settles}
 
 pub gives : {rose : Type 0} (status : Status) (one other : Answer) → status ≡ status_of other → Agrees rose one other → Gives status rose one
 gives status one other e (inl same) = inl (e ∙ same)
@@ -77,3 +79,31 @@ headline {words} {rose} files i o t status old new answer c right is written =
         → IsCutShort status rose ⊎ DecidesSafety status old new (grammar_of i) (grammar_of o) (sheet_of t)
     by (inl failed) = inl (inr (inr (is ∙ failed.0, failed.1)))
     by (inr checks) = inr (exact_decision i o t status old new answer c.input_spells c.output_spells c.sheet_spells is written (decided i o t c.input_spells c.output_spells c.sheet_spells checks))
+
+held_short : (files : Files) (name bytes : List ℕ) → files name ≡ Some bytes → length bytes ≤ longest_file → Reads (Some files) name bytes
+held_short files name bytes held short = record { held = λ other same. let h : files ≡ other = cc in subst (λ (f : Files). f name ≡ Some bytes) h held; short = short }
+
+settled : {g : Grammar} {d : Trees} {answer : Answer} (status : Status) (old new : Option (List ℕ)) → status ≡ status_of answer → Appended old new (text_of answer) → Settles g d answer
+    → DecidesValidity status old new g d
+settled status old new is written (settles_valid v) = record {
+  yes = (λ _. v, λ _. is);
+  no = (λ e. absurd (let k = sym is ∙ e in cc), λ n. absurd (n v));
+  yes_text = λ _. written;
+  no_text = λ e. absurd (let k = sym is ∙ e in cc);
+}
+settled status old new is written (settles_invalid n) = record {
+  yes = (λ e. absurd (let k = sym is ∙ e in cc), λ v. absurd (n v));
+  no = (λ _. n, λ _. is);
+  yes_text = λ e. absurd (let k = sym is ∙ e in cc);
+  no_text = λ _. written;
+}
+
+pub validity : {words : List (List ℕ)} {rose : Type 0} (files : Files) (g : Grammar) (d : Trees) (status : Status) (old new : Option (List ℕ)) (answer : Answer) → ValidatesFiles words files g d
+    → IsAnswer words (Some files) rose answer → status ≡ status_of answer → Appended old new (text_of answer)
+    → IsCutShort status rose ⊎ DecidesValidity status old new g d
+validity {words} {rose} files g d status old new answer c right is written =
+    by (texts_validate c.words_are (held_short files c.schema c.schema_text c.schema_held c.schema_short) (held_short files c.document c.document_text c.document_held c.document_short) right)
+  where
+    by : ((status_of answer ≡ ReadFault) × rose) ⊎ Validates c.schema c.document c.schema_text c.document_text answer → IsCutShort status rose ⊎ DecidesValidity status old new g d
+    by (inl failed) = inl (inr (inr (is ∙ failed.0, failed.1)))
+    by (inr validates) = inr (settled status old new is written (settles c.schema_spells c.document_spells c.within validates))

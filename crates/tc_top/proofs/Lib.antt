@@ -1,14 +1,15 @@
+pub mod OtherEntities
 pub mod FirstLawsViews
 pub mod FirstLawsNormal
 pub mod FirstLawsMatch
 pub mod FirstLawsNames
 pub mod FirstLawsSheet
 pub mod FirstLaws
-pub mod FirstLawsPrint
 pub mod FirstText
 pub mod Named
 pub mod Numerals
 pub mod OneCommand
+pub mod OneValidity
 pub mod FirstRead
 pub mod FirstUnread
 pub mod Fronts

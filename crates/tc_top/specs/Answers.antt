@@ -1,15 +1,21 @@
 -- What a call answers, and why: the lines, the status, and the cause of each answer.
-use Rattle.std.specs.Prelude.{◌≡◌, ◌⊎◌, ◌↔◌, ℕ, List, [], ◌∷◌, ◌++◌, Option, Some, None, codes}
-use Rattle.tc_io.specs.Store.{Files}
+use Rattle.std.specs.Prelude.{◌≡◌, ◌≤◌, ◌⊎◌, ◌↔◌, ℕ, List, length, [], ◌∷◌, ◌++◌, Option, Some, None, codes, decimal}
+use Rattle.tc_base.specs.declared.Limit as kinds
+use Rattle.tc_io.specs.Store.{Files, longest_file}
 use Rattle.tc_io.specs.Sink.{Appended, WroteFront}
 use Rattle.tc_model.specs.Trees.{Trees}
 use Rattle.tc_model.specs.Grammars.{Grammar}
 use Rattle.tc_model.specs.Sheets.{Sheet}
 use Rattle.tc_model.specs.Safety.{IsSafe, IsCounterexample}
 use Rattle.tc_model.specs.Printed.{printed}
+use Rattle.tc_model.specs.RncText.{RncText}
+use Rattle.tc_model.specs.Validity.{IsValid}
+use Rattle.tc_print.specs.ReadBack.{IsReadAs}
 use Rattle.tc_top.specs.FirstForm.{Schema, grammar_of, sheet_of}
 use Rattle.tc_top.specs.FirstText.{SchemaText, SheetText}
 use Rattle.tc_top.specs.Words.{Command, check, prove, verify, run, valid, demo, Words, IsNoCommand, name_of, operands_of}
+use Rattle.tc_top.specs.Refusals.{Reason, reason_text, IsRefusedSchema, IsRefusedDocument}
+use Rattle.tc_top.specs.Limits.{limit_word, PassesLimit, IsWithinLimits}
 use Rattle.tc_top.specs.Reading.{Reads, StopsAt, CannotRead, IsOverLong}
 use Rattle.tc_top.specs.declared.status.Status.{Status}
 use Rattle.tc_top.specs.declared.status.Status.TheVariants.{Yes, No, Usage, Refused, Limit, ReadFault, WriteFault, NoMemory}
@@ -22,6 +28,11 @@ pub data Answer : Type 0 where
   file_limit : Answer
   safe : Answer
   unsafe : (document output : Trees) → Answer
+  -- the text of an operand is refused at a place
+  refused : (name : List ℕ) (reason : Reason) (place : ℕ) → Answer
+  over_limit : (kind : kinds.Limit) (number : ℕ) → Answer
+  is_valid : Answer
+  is_invalid : Answer
 
 abbrev pub status_of : Answer → Status
 status_of usage = Usage
@@ -30,6 +41,10 @@ status_of (cannot_read name) = ReadFault
 status_of file_limit = Limit
 status_of safe = Yes
 status_of (unsafe document output) = No
+status_of (refused name reason place) = Refused
+status_of (over_limit kind number) = Limit
+status_of is_valid = Yes
+status_of is_invalid = No
 
 -- a line ends with a line feed
 abbrev pub line : List ℕ → List ℕ
@@ -43,6 +58,10 @@ text_of (cannot_read name) = line (codes "cannot read " ++ name)
 text_of file_limit = line (codes "limit file 67108864")
 text_of safe = line (codes "safe")
 text_of (unsafe document output) = line (codes "unsafe") ++ line (codes "document " ++ printed document) ++ line (codes "output " ++ printed output)
+text_of (refused name reason place) = line (codes "refused " ++ name ++ codes " " ++ reason_text reason ++ codes " at " ++ decimal place)
+text_of (over_limit kind number) = line (codes "limit " ++ limit_word kind ++ codes " " ++ decimal number)
+text_of is_valid = line (codes "valid")
+text_of is_invalid = line (codes "invalid")
 
 -- a command that is carried out
 abbrev pub IsBuilt : Command → Type 0
@@ -51,7 +70,7 @@ IsBuilt (check (Some limit) input output sheet) = ⊥
 IsBuilt (prove limit input output sheet) = ⊥
 IsBuilt (verify input output sheet certificate) = ⊥
 IsBuilt (run sheet document) = ⊥
-IsBuilt (valid schema document) = ⊥
+IsBuilt (valid schema document) = Unit {0}
 IsBuilt (demo size) = ⊥
 
 -- words of no command, and of a command that isn't carried out, for which nothing is read
@@ -72,6 +91,19 @@ pub data Checks (input output sheet input_text output_text sheet_text : List ℕ
   is_unsafe : {i o : Schema} {t : Trees} {document result : Trees} → SchemaText input_text i → SchemaText output_text o → SheetText sheet_text t
       → IsCounterexample (grammar_of i) (grammar_of o) (sheet_of t) document result → Checks input output sheet input_text output_text sheet_text (unsafe document result)
 
+-- what a schema and a document decide
+pub data Decides (g : Grammar) (d : Trees) : Answer → Type 0 where
+  passes : {kind : kinds.Limit} {number : ℕ} → PassesLimit g kind number → Decides g d (over_limit kind number)
+  decides_valid : IsWithinLimits g → IsValid g d → Decides g d is_valid
+  decides_invalid : IsWithinLimits g → ¬ (IsValid g d) → Decides g d is_invalid
+
+-- what `valid` answers on the texts of its operands
+pub data Validates (schema document schema_text document_text : List ℕ) : Answer → Type 0 where
+  schema_refused : {reason : Reason} {place : ℕ} → IsRefusedSchema schema_text reason place → Validates schema document schema_text document_text (refused schema reason place)
+  document_refused : {g : Grammar} {reason : Reason} {place : ℕ} → RncText schema_text g → IsRefusedDocument document_text reason place
+      → Validates schema document schema_text document_text (refused document reason place)
+  both_read : {g : Grammar} {d : Trees} {answer : Answer} → RncText schema_text g → IsReadAs document_text d → Decides g d answer → Validates schema document schema_text document_text answer
+
 -- an answer with its cause: the words, what the store tells, and whether its faults rose
 pub data IsAnswer (words : List (List ℕ)) (told : Option Files) (rose : Type 0) : Answer → Type 0 where
   no_command : IsNoCommand words → IsAnswer words told rose usage
@@ -82,6 +114,8 @@ pub data IsAnswer (words : List (List ℕ)) (told : Option Files) (rose : Type 0
       → StopsAt told (operands_of command) name → IsOverLong told rose name → IsAnswer words told rose file_limit
   checked : {input output sheet input_text output_text sheet_text : List ℕ} {answer : Answer} → Words words (check None input output sheet)
       → Reads told input input_text → Reads told output output_text → Reads told sheet sheet_text → Checks input output sheet input_text output_text sheet_text answer → IsAnswer words told rose answer
+  validated : {schema document schema_text document_text : List ℕ} {answer : Answer} → Words words (valid schema document)
+      → Reads told schema schema_text → Reads told document document_text → Validates schema document schema_text document_text answer → IsAnswer words told rose answer
 
 -- the answer that a call gave: it is right, and all of it was written
 pub record Answered (words : List (List ℕ)) (told : Option Files) (rose : Type 0) (status : Status) (old new : Option (List ℕ)) : Type 0 where
@@ -126,3 +160,25 @@ pub record DecidesSafety (status : Status) (old new : Option (List ℕ)) (input 
   pub no : (status ≡ No) ↔ ¬ (IsSafe input output sheet)
   pub yes_text : status ≡ Yes → Appended old new (text_of safe)
   pub no_text : status ≡ No → (document : Trees) × (result : Trees) × IsCounterexample input output sheet document result × Appended old new (text_of (unsafe document result))
+
+-- the words validate a held file by a held schema, whose texts spell this document and this grammar, which passes no limit
+pub record ValidatesFiles (words : List (List ℕ)) (files : Files) (g : Grammar) (d : Trees) : Type 0 where
+  pub schema : List ℕ
+  pub document : List ℕ
+  pub words_are : Words words (valid schema document)
+  pub schema_text : List ℕ
+  pub document_text : List ℕ
+  pub schema_held : files schema ≡ Some schema_text
+  pub document_held : files document ≡ Some document_text
+  pub schema_short : length schema_text ≤ longest_file
+  pub document_short : length document_text ≤ longest_file
+  pub schema_spells : RncText schema_text g
+  pub document_spells : IsReadAs document_text d
+  pub within : IsWithinLimits g
+
+-- yes exactly where the document is valid, and no exactly where it isn't, each with its line
+pub record DecidesValidity (status : Status) (old new : Option (List ℕ)) (g : Grammar) (d : Trees) : Type 0 where
+  pub yes : (status ≡ Yes) ↔ IsValid g d
+  pub no : (status ≡ No) ↔ ¬ (IsValid g d)
+  pub yes_text : status ≡ Yes → Appended old new (text_of is_valid)
+  pub no_text : status ≡ No → Appended old new (text_of is_invalid)

@@ -4,6 +4,10 @@ pub mod FirstText
 pub mod FirstFits
 pub mod Words
 pub mod WordsSeen
+pub mod Refusals
+pub mod Limits
+pub mod RefusalsSeen
+pub mod SchemasSeen
 pub mod Answers
 pub mod AnswersSeen
 pub mod Lines

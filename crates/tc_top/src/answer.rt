@@ -1,15 +1,16 @@
 // Answers, in memory.
 ghost use Rattle.std.specs.Prelude.{◌≡◌, IfOk};
+ghost use Rattle.tc_model.specs.Seen as see;
 ghost use Rattle.tc_model.specs.Seen.{trees};
 ghost use Rattle.tc_top.specs.Answers as a;
-ghost use Rattle.tc_top.specs.FirstForm.{least_document, ArePlainElements};
-ghost use Rattle.tc_top.specs.FirstSeen.{schema};
+ghost use Rattle.tc_top.specs.Limits.{limit_word};
+ghost use Rattle.tc_top.specs.RefusalsSeen as seen;
 
-use crate::first::print::{print_least, print_trees};
-use crate::first::schema::Schema;
+use crate::buffer::Buffer;
+use crate::refusal::Reason;
 use crate::status::Status;
 use std::alloc::Global;
-use tc_base::NoMemory;
+use tc_base::{Limit, NoMemory, Place};
 use tc_model::Node;
 
 /// The text of an answer.
@@ -39,6 +40,24 @@ impl Text {
 pub struct Answer {
     pub status: Status,
     pub text: Text,
+}
+
+/// The word of a limit.
+fn word_of(kind: Limit) -> &'static str
+    ensures { result.now ≡ limit_word kind }
+{
+    match kind {
+        Limit::Pattern => "pattern",
+        Limit::Depth => "depth",
+        Limit::Elements => "elements",
+        Limit::States => "states",
+        Limit::Symbols => "symbols",
+        Limit::Predicates => "predicates",
+        Limit::Ancestors => "ancestors",
+        Limit::Selects => "selects",
+        Limit::Calls => "calls",
+        Limit::Entries => "entries",
+    }
 }
 
 impl Answer {
@@ -102,23 +121,84 @@ impl Answer {
         }
     }
 
-    /// The least document that is valid for the input schema has these trees as its result, and they aren't valid.
-    pub fn not_safe(
+    /// The text of an operand is refused at a place.
+    pub fn refused(
         alloc: Global,
-        input: &Schema<'_>,
-        body: &[Node<'_>],
+        name: &str,
+        reason: Reason,
+        place: Place,
     ) -> Result<Answer, NoMemory>
-        requires { ArePlainElements (trees body.now) }
-        ensures { IfOk result (λ said. Says said (a.unsafe (least_document (schema input.now)) (trees body.now))) }
+        ensures { IfOk result (λ said. Says said (a.refused name.now (seen.reason reason) (see.place place))) }
     {
-        let mut text = Vec::from_slice(alloc, b"unsafe\ndocument ")?;
-        print_least(input, &mut text)?;
-        text.extend_from_slice(b"\noutput ")?;
-        print_trees(body, &mut text)?;
+        let (front, word) = reason.words();
+        let mut number = itoa::Buffer::new();
+        let mut text = Vec::from_slice(alloc, b"refused ")?;
+        text.extend_from_slice(name.as_bytes())?;
+        text.extend_from_slice(b" ")?;
+        text.extend_from_slice(front.as_bytes())?;
+        text.extend_from_slice(word.as_bytes())?;
+        text.extend_from_slice(b" at ")?;
+        text.extend_from_slice(number.format(place.0).as_bytes())?;
         text.extend_from_slice(b"\n")?;
         Ok(Answer {
-            status: Status::No,
+            status: Status::Refused,
             text: Text::Made(text),
+        })
+    }
+
+    /// A limit is passed, which has this number.
+    pub fn limit(alloc: Global, kind: Limit, number: u32) -> Result<Answer, NoMemory>
+        ensures { IfOk result (λ said. Says said (a.over_limit kind number)) }
+    {
+        let mut digits = itoa::Buffer::new();
+        let mut text = Vec::from_slice(alloc, b"limit ")?;
+        text.extend_from_slice(word_of(kind).as_bytes())?;
+        text.extend_from_slice(b" ")?;
+        text.extend_from_slice(digits.format(number).as_bytes())?;
+        text.extend_from_slice(b"\n")?;
+        Ok(Answer {
+            status: Status::Limit,
+            text: Text::Made(text),
+        })
+    }
+
+    /// The document is valid.
+    pub fn valid() -> Answer
+        ensures { Says result a.is_valid }
+    {
+        Answer {
+            status: Status::Yes,
+            text: Text::Fixed(b"valid\n"),
+        }
+    }
+
+    /// The document isn't valid.
+    pub fn invalid() -> Answer
+        ensures { Says result a.is_invalid }
+    {
+        Answer {
+            status: Status::No,
+            text: Text::Fixed(b"invalid\n"),
+        }
+    }
+
+    /// A valid document has these trees as its result, and they aren't valid.
+    pub fn not_safe(
+        alloc: Global,
+        document: &[Node<'_>],
+        output: &[Node<'_>],
+    ) -> Result<Answer, NoMemory>
+        ensures { IfOk result (λ said. Says said (a.unsafe (trees document.now) (trees output.now))) }
+    {
+        let mut text = Buffer::new(alloc);
+        text.put(b"unsafe\ndocument ")?;
+        text.put_trees(document)?;
+        text.put(b"\noutput ")?;
+        text.put_trees(output)?;
+        text.put(b"\n")?;
+        Ok(Answer {
+            status: Status::No,
+            text: Text::Made(text.into_bytes()),
         })
     }
 }

@@ -1,22 +1,27 @@
 // What `check` answers.
 ghost use Rattle.std.specs.Prelude.{◌≡◌, ◌≤◌, ℕ, List, IfOk};
 ghost use Rattle.tc_io.specs.Faults.{Rose};
+ghost use Rattle.tc_model.specs.Seen.{trees};
 ghost use Rattle.tc_top.specs.Answers as a;
 ghost use Rattle.tc_top.specs.Answers.{Checks};
 ghost use Rattle.tc_top.specs.AnswersSeen.{Says, IsRight};
+ghost use Rattle.tc_top.specs.FirstForm as first_form;
+ghost use Rattle.tc_top.specs.FirstSeen.{schema};
 ghost use Rattle.tc_top.specs.Words as w;
 ghost use Rattle.tc_top.specs.Words.{Words};
 
 use crate::answer::Answer;
 use crate::command::Triple;
 use crate::first::decide::is_valid_output;
-use crate::first::schema::read_schema;
+use crate::first::least::least_document;
+use crate::first::schema::{Schema, read_schema};
 use crate::first::sheet::read_sheet;
 use crate::read::{Texts, Unread, read_texts};
 use bumpalo::Bump;
 use std::alloc::Global;
 use tc_base::NoMemory;
 use tc_io::Store;
+use tc_model::Node;
 
 /// Reads the operands, and decides whether the stylesheet is safe.
 pub fn check<S: Store>(alloc: Global, triple: Triple<'_>, store: &mut S) -> Result<Answer, NoMemory>
@@ -52,5 +57,18 @@ fn check_texts(alloc: Global, triple: Triple<'_>, texts: &Texts) -> Result<Answe
     if is_valid_output(&output, body) {
         return Ok(Answer::safe());
     }
-    Answer::not_safe(alloc, &input, body)
+    not_safe(alloc, &arena, &input, body)
+}
+
+/// The answer that a stylesheet isn't safe, which puts out these trees for each document.
+fn not_safe(
+    alloc: Global,
+    arena: &Bump,
+    input: &Schema<'_>,
+    body: &[Node<'_>],
+) -> Result<Answer, NoMemory>
+    ensures { IfOk result (λ said. Says said (a.unsafe (first_form.least_document (schema input.now)) (trees body.now))) }
+{
+    let document = least_document(arena, input)?;
+    Answer::not_safe(alloc, &[document], body)
 }

@@ -2,10 +2,9 @@
 ghost use Rattle.std.specs.Prelude.{◌≡◌, ◌≤◌, ◌↔◌, ℕ, List, [], ◌∷◌, Option, length, IsTrue, MatchOption};
 ghost use Rattle.std.specs.List.{list_all};
 ghost use Rattle.tc_top.specs.Answers.{IsBuilt};
-ghost use Rattle.tc_top.specs.Words as w;
 ghost use Rattle.tc_top.specs.Words.{Limits, Spells, Words, AreOperands, IsNoCommand, is_operand, name_of};
 ghost use Rattle.tc_top.specs.WordsSeen as seen;
-ghost use Rattle.tc_top.specs.WordsSeen.{texts, command};
+ghost use Rattle.tc_top.specs.WordsSeen.{texts, command, task_command};
 
 /// The operands of a check: the names of two schemas and a stylesheet.
 #[derive(Clone, Copy)]
@@ -50,13 +49,22 @@ impl Command<'_> {
     }
 }
 
-/// The operands of the command, if it is one that is carried out: a check without a limit.
-pub fn built(command: Command<'_>) -> Option<Triple<'_>>
-    ensures { MatchOption result (¬ (IsBuilt (seen.command command.entry)))
-        (λ t. seen.command command.entry ≡ w.check None t.input.now t.output.now t.sheet.now) }
+/// A command that is carried out, with its operands.
+#[derive(Clone, Copy)]
+pub enum Task<'w> {
+    /// A check without a limit.
+    Check(Triple<'w>),
+    /// A validation, of a document by a schema: the schema and the document.
+    Valid(&'w str, &'w str),
+}
+
+/// The command, if it is one that is carried out.
+pub fn built(command: Command<'_>) -> Option<Task<'_>>
+    ensures { MatchOption result (¬ (IsBuilt (seen.command command.entry))) (λ b. seen.command command.entry ≡ task_command b) }
 {
     match command {
-        Command::Check(None, triple) => Some(triple),
+        Command::Check(None, triple) => Some(Task::Check(triple)),
+        Command::Valid(schema, document) => Some(Task::Valid(schema, document)),
         _ => None,
     }
 }

@@ -1,6 +1,6 @@
-// The first form of schemas and sheets: read, decided and printed.
+// The first form of schemas and sheets: read and decided.
 pub mod decide;
-pub mod print;
+pub mod least;
 mod scan;
 pub mod schema;
 pub mod sheet;

@@ -2,23 +2,31 @@
 #![tactic(auto)]
 
 mod answer;
+mod buffer;
 mod check;
 mod command;
+mod documents;
 mod first;
 pub mod laws;
 mod read;
+mod refusal;
+mod schemas;
 mod status;
 #[cfg(test)]
 mod tests;
+mod valid;
+#[cfg(test)]
+mod validations;
 mod words;
 mod write;
 
 ghost use Rattle.std.specs.Prelude.{◌≡◌, ◌≢◌, ◌≤◌, ◌⊎◌, ℕ, List, Some, IfOk, OnErr};
 ghost use Rattle.tc_io.specs.Faults.{Rose};
 ghost use Rattle.tc_io.specs.Store.{Files};
+ghost use Rattle.tc_model.specs.Grammars.{Grammar};
 ghost use Rattle.tc_model.specs.Trees.{Trees};
 ghost use Rattle.tc_top.specs.Answers as a;
-ghost use Rattle.tc_top.specs.Answers.{IsAnswer, IsBuilt, ReadsNothing, Answered, BrokenOff, Gives, IsCutShort, ChecksFiles, DecidesSafety};
+ghost use Rattle.tc_top.specs.Answers.{IsAnswer, IsBuilt, ReadsNothing, Answered, BrokenOff, Gives, IsCutShort, ChecksFiles, DecidesSafety, ValidatesFiles, DecidesValidity};
 ghost use Rattle.tc_top.specs.AnswersSeen.{IsRight};
 ghost use Rattle.tc_top.specs.FirstForm as f;
 ghost use Rattle.tc_top.specs.FirstForm.{grammar_of, sheet_of};
@@ -28,11 +36,12 @@ ghost use Rattle.tc_top.specs.WordsSeen.{texts};
 
 use answer::Answer;
 use check::check;
-use command::{built, read_words};
+use command::{Task, built, read_words};
 pub use status::Status;
 use std::alloc::Global;
 use tc_base::NoMemory;
 use tc_io::{Sink, Store, WriteFault};
+use valid::valid;
 pub use words::WordList;
 use write::write_lines;
 
@@ -71,6 +80,11 @@ pub fn typecheck<S: Store, K: Sink>(
         → IsCutShort result (Rose (S.faults store.old) (S.faults store.new))
         ⊎ DecidesSafety result (K.written sink.old) (K.written sink.new) (grammar_of i) (grammar_of o) (sheet_of t) }
 
+    // A validation of held files is yes exactly where the document is valid, and no exactly where it isn't.
+    ensures validity { (files : Files) (g : Grammar) (d : Trees) → S.holds store.old ≡ Some files → ValidatesFiles words.now files g d
+        → IsCutShort result (Rose (S.faults store.old) (S.faults store.new))
+        ⊎ DecidesValidity result (K.written sink.old) (K.written sink.new) g d }
+
     // What is held stays as it is, and no count of faults falls.
     ensures held { S.holds store.new ≡ S.holds store.old }
     ensures store_count { S.faults store.old ≤ S.faults store.new }
@@ -101,7 +115,8 @@ fn answer_words<S: Store>(
         return Ok(Answer::usage());
     };
     match built(command) {
-        Some(triple) => check(alloc, triple, store),
+        Some(Task::Check(triple)) => check(alloc, triple, store),
+        Some(Task::Valid(schema, document)) => valid(alloc, schema, document, store),
         None => Answer::not_yet(alloc, command.name()),
     }
 }

@@ -165,7 +165,7 @@ fn tells_the_usage(rt: HostRuntime) -> Result<(), Fail> {
 
 #[test]
 fn refuses_commands_that_are_not_built(rt: HostRuntime) -> Result<(), Fail> {
-    let commands: [(&[&str], &str); 7] = [
+    let commands: [(&[&str], &str); 6] = [
         (
             &["check", "--limit", "4000", "I", "O", "S"],
             "refused check not-yet\n",
@@ -177,7 +177,6 @@ fn refuses_commands_that_are_not_built(rt: HostRuntime) -> Result<(), Fail> {
         ),
         (&["verify", "I", "O", "S", "C"], "refused verify not-yet\n"),
         (&["run", "S", "D"], "refused run not-yet\n"),
-        (&["valid", "I", "D"], "refused valid not-yet\n"),
         (&["demo", "40"], "refused demo not-yet\n"),
     ];
     for (words, text) in commands {

@@ -1,8 +1,13 @@
 use Rattle.std.proofs.Common.{◌∙◌, inl, subst}
 use Rattle.tc_io.specs.Sink.{Appended}
-use Rattle.tc_top.proofs.Exact.{exact, refused_only}
-use Rattle.tc_top.proofs.Headline.{at_words, at_told, gives, headline}
+use Rattle.tc_top.proofs.Exact.{exact, usage_only, refused_only}
+use Rattle.tc_top.proofs.Headline.{at_words, at_told, gives, headline, validity}
 use Rattle.tc_top.proofs.typecheck.Goals as goal
+
+pub returns-in-Ok-write_lines-clause-usage : goal.returns-in-Ok-write_lines-clause-usage
+returns-in-Ok-write_lines-clause-usage g c = λ none.
+    let right = at_words c.as_slice.ensures c.in-Ok.ensures.right in
+    inl (right.1.status ∙ usage_only none right.2)
 
 pub returns-in-Ok-write_lines-clause-not_built : goal.returns-in-Ok-write_lines-clause-not_built
 returns-in-Ok-write_lines-clause-not_built g c = λ command words other.
@@ -19,3 +24,9 @@ returns-in-Ok-write_lines-clause-headline g c = λ files i o t told checks.
     let right = at_words c.as_slice.ensures c.in-Ok.ensures.right in
     let written = subst (Appended (g.K.Sink.written c.args.sink.now) (g.K.Sink.written c.write_lines.new.sink)) (c.as_bytes.ensures ∙ right.1.written) c.in-Ok-write_lines.ensures.ok in
     headline files i o t _ _ _ right.0 checks (at_told told right.2) right.1.status written
+
+pub returns-in-Ok-write_lines-clause-validity : goal.returns-in-Ok-write_lines-clause-validity
+returns-in-Ok-write_lines-clause-validity g c = λ files x d told validates.
+    let right = at_words c.as_slice.ensures c.in-Ok.ensures.right in
+    let written = subst (Appended (g.K.Sink.written c.args.sink.now) (g.K.Sink.written c.write_lines.new.sink)) (c.as_bytes.ensures ∙ right.1.written) c.in-Ok-write_lines.ensures.ok in
+    validity files x d _ _ _ right.0 validates (at_told told right.2) right.1.status written

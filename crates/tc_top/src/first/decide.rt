@@ -26,10 +26,10 @@ fn allows(suffix: Suffix, count: usize) -> bool
 
 /// Whether an element of this name and with these children is one of the schema of `name` and `inner`.
 #[cycle(fits)]
-fn fits(name: &[u8], inner: &[Inner<'_>], found: Name<'_>, kids: &[Node<'_>]) -> bool
+fn fits(name: &str, inner: &[Inner<'_>], found: Name<'_>, kids: &[Node<'_>]) -> bool
     ensures { result ≡ first_fits.fits (schema_from name.now inner.now) (seen.name found.entry) (trees kids.now) }
 {
-    if !found.uri.is_empty() || name != found.local.as_bytes() {
+    if !found.uri.is_empty() || name != found.local {
         return false;
     }
     match inner.split_first() {
@@ -40,7 +40,7 @@ fn fits(name: &[u8], inner: &[Inner<'_>], found: Name<'_>, kids: &[Node<'_>]) ->
 
 /// Whether each tree is an element that fits.
 #[cycle(fits)]
-fn all_fit(name: &[u8], inner: &[Inner<'_>], nodes: &[Node<'_>]) -> bool
+fn all_fit(name: &str, inner: &[Inner<'_>], nodes: &[Node<'_>]) -> bool
     ensures { result ≡ first_fits.all_pass (first_fits.fits (schema_from name.now inner.now)) (trees nodes.now) }
 {
     for node in nodes {
@@ -79,12 +79,12 @@ mod tests {
         let inner = [element("x", &[])];
         let body = [element("r", &inner)];
         let mut any = Schema {
-            name: b"r",
+            name: "r",
             inner: Vec::new(rt.alloc()),
         };
         assert!(rt; !is_valid_output(&any, &body));
         any.inner.push(Inner {
-            name: b"x",
+            name: "x",
             suffix: Suffix::ZeroOrMore,
         })?;
         assert!(rt; is_valid_output(&any, &body));
@@ -95,12 +95,12 @@ mod tests {
     fn children_are_counted(rt: HostRuntime) -> Result<(), Fail> {
         let one = [element("r", &[])];
         let mut some = Schema {
-            name: b"r",
+            name: "r",
             inner: Vec::new(rt.alloc()),
         };
         assert!(rt; is_valid_output(&some, &one));
         some.inner.push(Inner {
-            name: b"x",
+            name: "x",
             suffix: Suffix::OneOrMore,
         })?;
         assert!(rt; !is_valid_output(&some, &one));
@@ -111,7 +111,7 @@ mod tests {
     fn a_document_has_one_root(rt: HostRuntime) {
         let two = [element("r", &[]), element("r", &[])];
         let empty = Schema {
-            name: b"r",
+            name: "r",
             inner: Vec::new(rt.alloc()),
         };
         assert!(rt; !is_valid_output(&empty, &two));

@@ -21,25 +21,25 @@ pub enum Suffix {
 /// An element pattern within another: its name and its suffix.
 #[derive(Clone, Copy)]
 pub struct Inner<'t> {
-    pub name: &'t [u8],
+    pub name: &'t str,
     pub suffix: Suffix,
 }
 
 /// Element patterns, each of which holds the next one; the last one is empty.
 #[derive(Drop)]
 pub struct Schema<'t> {
-    pub name: &'t [u8],
+    pub name: &'t str,
     pub inner: Vec<Inner<'t>>,
 }
 
 /// `element`, a name and `{` at the front: the name, and what stands behind.
-fn opening(bytes: &[u8]) -> Option<(&[u8], &[u8])>
+fn opening(bytes: &[u8]) -> Option<(&str, &[u8])>
     ensures { MatchOption result ((n : List ℕ) (rest : List ℕ) → OpeningAt bytes.now n rest → ⊥) (λ r. OpeningAt bytes.now r.0.now r.1.now) }
 {
     let behind = after_keyword(bytes, b"element")?;
     let (name, behind) = name(skip_spaces(behind))?;
     let inside = after_token(behind, b"{")?;
-    Some((name.as_bytes(), inside))
+    Some((name, inside))
 }
 
 /// This word at the front, behind spaces and line feeds: what stands behind it.
@@ -87,7 +87,7 @@ fn closing(bytes: &[u8]) -> Option<(Suffix, &[u8])>
 fn pattern<'t>(
     bytes: &'t [u8],
     inner: &mut Vec<Inner<'t>>,
-) -> Result<Option<(&'t [u8], &'t [u8])>, NoMemory>
+) -> Result<Option<(&'t str, &'t [u8])>, NoMemory>
     ensures { IfOk result (λ found. MatchOption found
         ((s : first_form.Schema) (rest : List ℕ) → PatternAt bytes.now s rest → ⊥)
         (λ r. (within : List Inner) × (inner.new.items ≡ inner.old.items ++ reverse within) × PatternAt bytes.now (schema_from r.0.now within) r.1.now)) }

@@ -40,9 +40,6 @@ returns-then-is_valid_output c =
     let valid = c.is_valid_output.ensures.0 c.if-is_valid_output.true in
     (a.safe, c.safe.ensures, is_safe input output sheet ((safe _ _ _ (schema_plain input) (sheet_plain sheet)).1 valid))
 
-pub not_safe-requires : goal.not_safe-requires
-not_safe-requires c = sheet_plain (sheet_read _ _ _ _ c.deref-3.ensures.value c.in-Some-3.is c.in_ok-body.ensures)
-
 pub returns : goal.returns
 returns c =
     let input = schema_read _ _ _ _ c.deref.ensures.value c.in-Some.is c.in_ok-input.ensures in

@@ -24,23 +24,23 @@ fits-returns-then-not-is_empty t c =
           sym (fits_other c.args.name.now c.args.inner.now (name c.args.found) (trees c.args.kids.now) (other_uri c.args.name.now (name c.args.found) (sym c.is_empty.ensures ∙ search rules)))
       | fits-then-not-is_empty-via-else-not-is_empty+then-ne w ↦
           sym (fits_other c.args.name.now c.args.inner.now (name c.args.found) (trees c.args.kids.now)
-          (other_local c.args.name.now w.as_bytes.result.now (name c.args.found) c.is_empty.result w.ne.result c.is_empty.ensures w.if-not-is_empty.false w.as_bytes.ensures.value w.ne.ensures w.if-ne.true))
+          (other_local c.args.name.now (name c.args.found) c.is_empty.result w.ne.result c.is_empty.ensures w.if-not-is_empty.false w.ne.ensures w.if-ne.true))
     ]
 
 pub fits-returns-in-None : goal.fits-returns-in-None
 fits-returns-in-None t c =
-    let named = is_named c.args.name.now c.as_bytes.result.now (name c.args.found) c.is_empty.result c.ne.result c.is_empty.ensures c.if-not-is_empty.false c.as_bytes.ensures.value c.ne.ensures c.if-ne.false in
+    let named = is_named c.args.name.now (name c.args.found) c.is_empty.result c.ne.result c.is_empty.ensures c.if-not-is_empty.false c.ne.ensures c.if-ne.false in
     c.is_empty-in-None.ensures ∙ sym (fits_last c.args.name.now c.args.inner.now (name c.args.found) c.args.kids.now named c.in-None.ensures.cases)
 
 pub fits-returns-then-allows : goal.fits-returns-then-allows
 fits-returns-then-allows t c =
-    let named = is_named c.args.name.now c.as_bytes.result.now (name c.args.found) c.is_empty.result c.ne.result c.is_empty.ensures c.if-not-is_empty.false c.as_bytes.ensures.value c.ne.ensures c.if-ne.false in
+    let named = is_named c.args.name.now (name c.args.found) c.is_empty.result c.ne.result c.is_empty.ensures c.if-not-is_empty.false c.ne.ensures c.if-ne.false in
     let next = fits_next c.args.name.now c.args.inner.now c.in-Some.next.now c.in-Some.rest.now (name c.args.found) c.args.kids.now named c.in-Some.ensures.cases in
     sym (next ∙ (ap (λ b. b && first_fits.all_pass (first_fits.fits (schema_from c.in-Some.next.now.name.now c.in-Some.rest.now)) (trees c.args.kids.now)) (sym c.allows.ensures ∙ c.if-allows.true) ∙ sym c.all_fit.ensures))
 
 pub fits-returns-else-allows : goal.fits-returns-else-allows
 fits-returns-else-allows t c =
-    let named = is_named c.args.name.now c.as_bytes.result.now (name c.args.found) c.is_empty.result c.ne.result c.is_empty.ensures c.if-not-is_empty.false c.as_bytes.ensures.value c.ne.ensures c.if-ne.false in
+    let named = is_named c.args.name.now (name c.args.found) c.is_empty.result c.ne.result c.is_empty.ensures c.if-not-is_empty.false c.ne.ensures c.if-ne.false in
     let next = fits_next c.args.name.now c.args.inner.now c.in-Some.next.now c.in-Some.rest.now (name c.args.found) c.args.kids.now named c.in-Some.ensures.cases in
     let no : c.allows.result ≡ false = c.if-allows.false in
     no ∙ sym (next ∙ ap (λ b. b && first_fits.all_pass (first_fits.fits (schema_from c.in-Some.next.now.name.now c.in-Some.rest.now)) (trees c.args.kids.now)) (sym c.allows.ensures ∙ no))

@@ -1,0 +1,95 @@
+-- What the texts of a schema and of a document decide is one.
+use Rattle.std.proofs.Common.{◌≡◌, ℕ, List, refl, sym, ap, ◌∙◌, subst, arith}
+use Rattle.tc_base.specs.declared.Limit.{Limit}
+use Rattle.tc_model.specs.Trees.{Trees}
+use Rattle.tc_model.specs.Grammars.{Grammar}
+use Rattle.tc_model.specs.SimplifiesFaults.{Fault, Fails}
+use Rattle.tc_model.specs.SimplifiesFaults as faults
+use Rattle.tc_model.specs.RncText.{RncText}
+use Rattle.tc_model.specs.Stripped.{stripped}
+use Rattle.tc_model.specs.Validity.{IsValid}
+use Rattle.tc_model.proofs.SimplifiesUnique.{one_syntax, one_rnc_text}
+use Rattle.tc_model.proofs.SimplifiesFaults.{no_grammar}
+use Rattle.tc_model.proofs.XmlTextTrees.{one_raw_tree}
+use Rattle.tc_print.specs.ReadBack.{IsReadAs}
+use Rattle.tc_top.proofs.OtherEntities.{with_others}
+use Rattle.tc_top.specs.Refusals.{Reason, malformed, unsupported, too_deep, undefined, twice, loop, bad_start, bad_except, SpellsFault, IsRefusedSchema, IsRefusedDocument}
+use Rattle.tc_top.specs.Limits.{IsWithinLimits, PassesLimit, passes_pattern, passes_depth, passes_elements, passes_states, passes_symbols}
+use Rattle.tc_top.specs.Answers.{Answer, status_of, is_valid, is_invalid, Decides, passes, decides_valid, decides_invalid, Validates, schema_refused, document_refused, both_read}
+
+-- a schema with a fault has no grammar
+faulty : {bytes : List ℕ} {g : Grammar} (f : Fault) → SpellsFault bytes f → RncText bytes g → ⊥
+faulty {bytes} {g} f (s, spelled, fails) (t, spells, simple) =
+    no_grammar t f g (subst (λ x. Fails x f) (one_syntax bytes s t spelled spells) fails) simple
+
+pub no_schema : {bytes : List ℕ} {g : Grammar} (reason : Reason) (place : ℕ) → IsRefusedSchema bytes reason place → RncText bytes g → ⊥
+no_schema malformed place r (t, spells, simple) = r.1 _ _ t spells
+no_schema (unsupported why) place r (t, spells, simple) = r.1 _ t spells
+no_schema too_deep place r (t, spells, simple) = r.1 _ t spells
+no_schema undefined place r x = faulty (faults.undefined place) r x
+no_schema twice place r x = faulty (faults.twice place) r x
+no_schema loop place r x = faulty (faults.loop place) r x
+no_schema bad_start place r x = faulty (faults.bad_start place) r x
+no_schema bad_except place r x = faulty (faults.bad_except place) r x
+
+pub no_document : {bytes : List ℕ} {d : Trees} (reason : Reason) (place : ℕ) → IsRefusedDocument bytes reason place → IsReadAs bytes d → ⊥
+no_document malformed place r x = r.1 _ x.raw (with_others x.spells)
+no_document (unsupported why) place r x = r.1 _ x.raw x.spells
+no_document too_deep place r x = r.1 x.raw (with_others x.spells)
+no_document undefined place r x = r
+no_document twice place r x = r
+no_document loop place r x = r
+no_document bad_start place r x = r
+no_document bad_except place r x = r
+
+-- a text has one document
+pub one_document : {bytes : List ℕ} {c d : Trees} → IsReadAs bytes c → IsReadAs bytes d → c ≡ d
+one_document {bytes} x y = sym x.document ∙ (ap stripped (one_raw_tree bytes x.raw y.raw x.spells y.spells) ∙ y.document)
+
+over : {g : Grammar} {kind : Limit} {number : ℕ} → PassesLimit g kind number → IsWithinLimits g → ⊥
+over (passes_pattern p) w = omega (arith, p, w.counts.nodes)
+over (passes_depth p) w = omega (arith, p.1, w.counts.depth)
+over (passes_elements p) w = omega (arith, p.2, w.counts.elements)
+over (passes_states c p) w = omega (arith, p, w.states)
+over (passes_symbols c s p) w = omega (arith, p, w.symbols)
+
+decides_one : {g : Grammar} {d : Trees} {one other : Answer} → Decides g d one → Decides g d other → status_of other ≡ status_of one
+decides_one (passes p) (passes q) = refl
+decides_one (passes p) (decides_valid w v) = absurd (over p w)
+decides_one (passes p) (decides_invalid w v) = absurd (over p w)
+decides_one (decides_valid w v) (passes p) = absurd (over p w)
+decides_one (decides_valid w v) (decides_valid x u) = refl
+decides_one (decides_valid w v) (decides_invalid x u) = absurd (u v)
+decides_one (decides_invalid w v) (passes p) = absurd (over p w)
+decides_one (decides_invalid w v) (decides_valid x u) = absurd (v u)
+decides_one (decides_invalid w v) (decides_invalid x u) = refl
+
+decides_same : {g h : Grammar} {c d : Trees} {answer : Answer} → g ≡ h → c ≡ d → Decides g c answer → Decides h d answer
+decides_same {g} {h} {c} {d} {answer} p q x = subst (λ y. Decides h y answer) q (subst (λ y. Decides y c answer) p x)
+
+-- the status that the texts decide is one
+pub validates_one : {schema document b c : List ℕ} {one other : Answer} → Validates schema document b c one → Validates schema document b c other → status_of other ≡ status_of one
+validates_one (schema_refused r) (schema_refused s) = refl
+validates_one (schema_refused r) (document_refused g s) = refl
+validates_one (schema_refused {reason = w} {place = p} r) (both_read g d h) = absurd (no_schema w p r g)
+validates_one (document_refused g r) (schema_refused s) = refl
+validates_one (document_refused g r) (document_refused k s) = refl
+validates_one (document_refused {reason = w} {place = p} g r) (both_read k d h) = absurd (no_document w p r d)
+validates_one (both_read g d h) (schema_refused {reason = w} {place = p} s) = absurd (no_schema w p s g)
+validates_one (both_read g d h) (document_refused {reason = w} {place = p} k s) = absurd (no_document w p s d)
+validates_one {b = b} (both_read {g = g} x d h) (both_read {g = k} y e i) = decides_one h (decides_same (one_rnc_text b k g y x) (one_document e d) i)
+
+-- what a small enough schema and a document decide
+pub data Settles (g : Grammar) (d : Trees) : Answer → Type 0 where
+  settles_valid : IsValid g d → Settles g d is_valid
+  settles_invalid : ¬ (IsValid g d) → Settles g d is_invalid
+
+settled : {g : Grammar} {d : Trees} {answer : Answer} → IsWithinLimits g → Decides g d answer → Settles g d answer
+settled w (passes p) = absurd (over p w)
+settled w (decides_valid x v) = settles_valid v
+settled w (decides_invalid x v) = settles_invalid v
+
+pub settles : {schema document b c : List ℕ} {g : Grammar} {d : Trees} {answer : Answer} → RncText b g → IsReadAs c d → IsWithinLimits g → Validates schema document b c answer → Settles g d answer
+settles g d w (schema_refused {reason = why} {place = p} r) = absurd (no_schema why p r g)
+settles g d w (document_refused {reason = why} {place = p} h r) = absurd (no_document why p r d)
+settles {b = b} {g = g} x d w (both_read {g = h} y e i) = settled w (decides_same (one_rnc_text b h g y x) (one_document e d) i)

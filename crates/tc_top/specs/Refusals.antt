@@ -1,0 +1,58 @@
+-- Why the text of an operand is refused, and where.
+use Rattle.std.specs.Prelude.{◌≤◌, ℕ, Bool, true, false, List, ◌++◌, length, codes}
+use Rattle.tc_base.specs.Reasons.{word_of}
+use Rattle.tc_base.specs.declared.reasons.Why.{Why}
+use Rattle.tc_model.specs.RawTrees.{RawTrees}
+use Rattle.tc_model.specs.XmlText.{Reads, deepest_element}
+use Rattle.tc_model.specs.XmlTextRefusals as xml
+use Rattle.tc_model.specs.CompactSyntaxTrees.{Syntax}
+use Rattle.tc_model.specs.CompactSyntax.{Spells, CompactSyntax, deepest_nesting}
+use Rattle.tc_model.specs.SimplifiesFaults as fault
+use Rattle.tc_model.specs.SimplifiesFaults.{Fails}
+use Rattle.tc_model.specs.CompactSyntaxRefused.{MalformedAt, UnsupportedAt, TooDeepAt}
+
+pub data Reason : Type 0 where
+  malformed : Reason
+  -- a construct that isn't read
+  unsupported : Why → Reason
+  too_deep : Reason
+  undefined : Reason
+  twice : Reason
+  loop : Reason
+  bad_start : Reason
+  bad_except : Reason
+
+abbrev pub reason_text : Reason → List ℕ
+reason_text malformed = codes "malformed"
+reason_text (unsupported why) = codes "unsupported " ++ word_of why
+reason_text too_deep = codes "too-deep"
+reason_text undefined = codes "undefined"
+reason_text twice = codes "twice"
+reason_text loop = codes "loop"
+reason_text bad_start = codes "bad-start"
+reason_text bad_except = codes "bad-except"
+
+-- The bytes are no document's text. Malformed: not even where elements may stand deeper, and references to other entities are read.
+-- Unsupported: such a construct stands there, and they are none at any depth. Too deep: an element stands too deep there, and they are
+-- none even where references to other entities are read.
+abbrev pub IsRefusedDocument : List ℕ → Reason → ℕ → Type 0
+IsRefusedDocument bytes malformed place = (place ≤ length bytes) × ((deepest : ℕ) (h : RawTrees) → Reads true deepest bytes h → ⊥)
+IsRefusedDocument bytes (unsupported why) place = xml.XmlTextRefuses bytes (xml.unsupported why) place × ((deepest : ℕ) (h : RawTrees) → Reads false deepest bytes h → ⊥)
+IsRefusedDocument bytes too_deep place = xml.XmlTextRefuses bytes xml.too_deep place × ((h : RawTrees) → Reads true deepest_element bytes h → ⊥)
+IsRefusedDocument bytes _ place = ⊥
+
+-- the bytes spell a schema that has this fault
+abbrev pub SpellsFault : List ℕ → fault.Fault → Type 0
+SpellsFault bytes f = (s : Syntax) × CompactSyntax bytes s × Fails s f
+
+-- The bytes are no schema's text, or one with a fault. Malformed, unsupported and too deep are as of documents, data taking the place of
+-- references, and braces and parentheses that of elements.
+abbrev pub IsRefusedSchema : List ℕ → Reason → ℕ → Type 0
+IsRefusedSchema bytes malformed place = MalformedAt bytes place × ((others : Bool) (deepest : ℕ) (s : Syntax) → Spells others deepest bytes s → ⊥)
+IsRefusedSchema bytes (unsupported why) place = UnsupportedAt why bytes place × ((deepest : ℕ) (s : Syntax) → Spells false deepest bytes s → ⊥)
+IsRefusedSchema bytes too_deep place = TooDeepAt bytes place × ((others : Bool) (s : Syntax) → Spells others deepest_nesting bytes s → ⊥)
+IsRefusedSchema bytes undefined place = SpellsFault bytes (fault.undefined place)
+IsRefusedSchema bytes twice place = SpellsFault bytes (fault.twice place)
+IsRefusedSchema bytes loop place = SpellsFault bytes (fault.loop place)
+IsRefusedSchema bytes bad_start place = SpellsFault bytes (fault.bad_start place)
+IsRefusedSchema bytes bad_except place = SpellsFault bytes (fault.bad_except place)

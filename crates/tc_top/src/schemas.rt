@@ -1,0 +1,71 @@
+// Schemas, read and simplified.
+ghost use Rattle.std.specs.Prelude.{◌≤◌, length, IfOk, IfErr, List, ℕ};
+ghost use Rattle.tc_model.specs.CompactSyntax.{CompactSyntax};
+ghost use Rattle.tc_model.specs.CompactSyntaxTrees as t;
+ghost use Rattle.tc_rnc.specs.Answers.{Excluded, Stands};
+ghost use Rattle.tc_simple.specs.Refused as simple;
+ghost use Rattle.tc_top.specs.Refusals.{IsRefusedSchema};
+ghost use Rattle.tc_top.specs.RefusalsSeen.{IsUnaccepted};
+ghost use Rattle.tc_top.specs.SchemasSeen.{IsSchemaOf};
+
+use crate::refusal::{Reason, Unaccepted};
+use bumpalo::Bump;
+use tc_base::Limit;
+use tc_model::Grammar;
+use tc_rnc::{RncFault, read_rnc};
+use tc_simple::{SimpleFault, simplify};
+
+/// A schema without a fault.
+#[derive(Clone, Copy)]
+pub enum Schema<'b> {
+    /// Its grammar passes none of the limits on its size.
+    Small(Grammar<'b>),
+    /// Its grammar passes this limit, which has this number.
+    TooLarge(Limit, u32),
+}
+
+/// The schema of a text in compact syntax.
+pub fn read_schema<'b>(arena: &'b Bump, text: &[u8]) -> Result<Schema<'b>, Unaccepted>
+    requires { length text.now ≤ 67108864 }
+    ensures ok { IfOk result (IsSchemaOf text.now) }
+    ensures no { IfErr result (IsUnaccepted (IsRefusedSchema text.now)) }
+{
+    let syntax = match read_rnc(arena, text) {
+        Ok(syntax) => syntax,
+        Err(fault) => return Err(of_text(fault)),
+    };
+    match simplify(arena, &syntax) {
+        Ok(grammar) => Ok(Schema::Small(grammar)),
+        Err(fault) => of_syntax(fault),
+    }
+}
+
+/// Why a text isn't accepted that has no syntax tree.
+fn of_text(fault: RncFault) -> Unaccepted
+    ensures { (bytes : List ℕ) → Excluded fault bytes → Stands fault bytes → IsUnaccepted (IsRefusedSchema bytes) result }
+{
+    match fault {
+        RncFault::Malformed(place) => Unaccepted::Refused(Reason::Malformed, place),
+        RncFault::Unsupported(place, why) => Unaccepted::Refused(Reason::Unsupported(why), place),
+        RncFault::TooDeep(place) => Unaccepted::Refused(Reason::TooDeep, place),
+        RncFault::NoMemory => Unaccepted::NoMemory,
+    }
+}
+
+/// What a syntax tree is that has no grammar, or one that is too large.
+fn of_syntax<'b>(fault: SimpleFault) -> Result<Schema<'b>, Unaccepted>
+    ensures ok { IfOk result (λ schema. (bytes : List ℕ) (s : t.Syntax) → CompactSyntax bytes s → simple.Refuses s fault → IsSchemaOf bytes schema) }
+    ensures no { IfErr result (λ e. (bytes : List ℕ) (s : t.Syntax) → CompactSyntax bytes s → simple.Refuses s fault → IsUnaccepted (IsRefusedSchema bytes) e) }
+{
+    match fault {
+        SimpleFault::Twice(place) => Err(Unaccepted::Refused(Reason::Twice, place)),
+        SimpleFault::Undefined(place) => Err(Unaccepted::Refused(Reason::Undefined, place)),
+        SimpleFault::Loop(place) => Err(Unaccepted::Refused(Reason::Loop, place)),
+        SimpleFault::BadExcept(place) => Err(Unaccepted::Refused(Reason::BadExcept, place)),
+        SimpleFault::BadStart(place) => Err(Unaccepted::Refused(Reason::BadStart, place)),
+        SimpleFault::TooManyNodes => Ok(Schema::TooLarge(Limit::Pattern, 65_536)),
+        SimpleFault::TooNested => Ok(Schema::TooLarge(Limit::Depth, 2_000)),
+        SimpleFault::TooManyElements => Ok(Schema::TooLarge(Limit::Elements, 256)),
+        SimpleFault::NoMemory => Err(Unaccepted::NoMemory),
+    }
+}
