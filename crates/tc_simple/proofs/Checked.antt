@@ -3,16 +3,16 @@ use Rattle.std.proofs.Common.{◌≡◌, ℕ, zero, suc, get_or, ◌<◌, List, 
 use Rattle.std.proofs.lemmas.Option.{slice_get_within}
 use Rattle.std.proofs.lemmas.List.{length-map}
 use Rattle.std.specs.List.{All, filter_map}
-use Rattle.tc_simple.specs.Walks.{AreComponents, state_at}
-use Rattle.tc_simple.specs.declared.cycles.State.{State}
-use Rattle.tc_simple.specs.declared.cycles.State.TheVariants.{New, Done}
+use Rattle.tc_graph.specs.Walks.{AreComponents, state_at}
+use Rattle.tc_graph.specs.declared.cycles.State.{State}
+use Rattle.tc_graph.specs.declared.cycles.State.TheVariants.{New, Done}
 use Rattle.tc_model.specs.CompactSyntaxTrees.{SyntaxPattern, Definition, Syntax}
 use Rattle.tc_model.specs.SimplifiesParts.{joined_definitions, nodes_of}
 use Rattle.tc_model.specs.SimplifiesFaults.{first_answer, first_definition, undefined_at, undefined_reference, unless_defined}
 use Rattle.tc_model.proofs.CompactSyntaxClassesUnique.{some_none}
 use Rattle.tc_rnc.specs.Seen as see
 use Rattle.tc_rnc.specs.declared.syntax.SPat.{SPat}
-use Rattle.tc_simple.specs.Graph.{IsGraph}
+use Rattle.tc_graph.specs.Graph.{IsGraph}
 use Rattle.tc_simple.specs.Nodes.{nodes, target, link_rows, HasNumbersBelow}
 use Rattle.tc_simple.specs.Tables.{number_of, IsTable}
 use Rattle.tc_simple.specs.declared.groups.Table.{Table}

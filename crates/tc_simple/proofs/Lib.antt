@@ -1,5 +1,3 @@
-pub mod Marks
-pub mod Walks
 pub mod Gathering
 pub mod Answered
 pub mod Made

@@ -12,10 +12,10 @@ use Rattle.tc_model.specs.SimplifiesParts as m
 use Rattle.tc_model.proofs.SimplifiesUnique.{Has, here, there}
 use Rattle.tc_model.proofs.CompactSyntaxClassesUnique.{same_some, some_none}
 use Rattle.tc_rnc.specs.Seen as see
-use Rattle.tc_simple.specs.Graph.{Path, edge, further, Leads, is_marked}
+use Rattle.tc_graph.specs.Graph.{Path, edge, further, Leads, is_marked}
 use Rattle.tc_simple.specs.Nodes.{nodes, nodes_of_all, link_rows, element_of, elements_of, marked_elements, is_marked_name}
 use Rattle.tc_simple.specs.Tables.{number_of}
-use Rattle.tc_simple.specs.declared.cycles.State.{State}
+use Rattle.tc_graph.specs.declared.cycles.State.{State}
 use Rattle.tc_simple.specs.declared.groups.Table.{Table}
 use Rattle.tc_simple.proofs.Gathering.{bytes_are, same_bytes}
 use Rattle.tc_simple.proofs.Standing.{has_filter, filter_has, has_contains, has_left, has_right, has_cases, has_first, none_has, either, node_reached}

@@ -14,14 +14,14 @@ use Rattle.tc_model.proofs.CompactSyntaxClassesUnique.{same_some}
 use Rattle.tc_rnc.specs.Seen as see
 use Rattle.tc_rnc.specs.declared.syntax.SPat.{SPat}
 use Rattle.tc_simple.specs.Becoming.{becomes, all_become, made_in}
-use Rattle.tc_simple.specs.Graph.{is_marked}
+use Rattle.tc_graph.specs.Graph.{is_marked}
 use Rattle.tc_simple.specs.Nodes.{nodes, nodes_of_all, pattern_at}
 use Rattle.tc_simple.specs.Orders.{IsOrderly, PutsSize, PutsPattern, IsSize, Measures, AreSized, AreMade}
 use Rattle.tc_simple.specs.Sizes.{capped, leaf, above, two, size_of, sizes_of, size_in}
-use Rattle.tc_simple.specs.Walks.{state_at}
+use Rattle.tc_graph.specs.Walks.{state_at}
 use Rattle.tc_simple.specs.declared.counts.Size.{Size}
-use Rattle.tc_simple.specs.declared.cycles.State.{State}
-use Rattle.tc_simple.specs.declared.cycles.State.TheVariants.{Done}
+use Rattle.tc_graph.specs.declared.cycles.State.{State}
+use Rattle.tc_graph.specs.declared.cycles.State.TheVariants.{Done}
 use Rattle.tc_simple.specs.declared.groups.Table.{Table}
 use Rattle.tc_simple.proofs.Standing.{has_left, has_right, has_contains}
 

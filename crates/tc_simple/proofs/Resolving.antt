@@ -11,14 +11,14 @@ use Rattle.tc_model.proofs.SimplifiesUnique.{Has, here, there, has_from_index}
 use Rattle.tc_model.proofs.CompactSyntaxClassesUnique.{same_some, some_none}
 use Rattle.tc_rnc.specs.Seen as see
 use Rattle.tc_rnc.specs.declared.syntax.SPat.{SPat}
-use Rattle.tc_simple.specs.Graph.{Edge, Path, edge, further, Leads, IsReached, is_marked}
+use Rattle.tc_graph.specs.Graph.{Edge, Path, edge, further, Leads, IsReached, is_marked}
 use Rattle.tc_simple.specs.Tables.{number_of, IsTable}
 use Rattle.tc_simple.specs.Nodes.{nodes, target, pattern_at, link_rows, loop_at, loops_below, marked_loops, IsFirstLoop, StartsWell, StartsBadly}
 use Rattle.tc_simple.specs.Orders.{Refers, IsOrderly}
 use Rattle.tc_simple.specs.Resolves.{Resolves}
-use Rattle.tc_simple.specs.Walks.{same_component, state_at}
-use Rattle.tc_simple.specs.declared.cycles.State.{State}
-use Rattle.tc_simple.specs.declared.cycles.State.TheVariants.{New, Open, Done}
+use Rattle.tc_graph.specs.Walks.{same_component, state_at}
+use Rattle.tc_graph.specs.declared.cycles.State.{State}
+use Rattle.tc_graph.specs.declared.cycles.State.TheVariants.{New, Open, Done}
 use Rattle.tc_simple.specs.declared.groups.Table.{Table}
 use Rattle.tc_simple.proofs.Standing.{has_filter, filter_has, has_contains, has_left, has_right, has_cases, none_has, either, node_below}
 use Rattle.tc_simple.proofs.Reaching.{edge_in, edge_out, start_below, leads_below, refers_reached, circular, circular_at}

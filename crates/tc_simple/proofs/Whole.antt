@@ -18,14 +18,14 @@ use Rattle.tc_model.proofs.SimplifiesUnique.{Has, here, there}
 use Rattle.tc_model.proofs.CompactSyntaxClassesUnique.{some_none}
 use Rattle.tc_rnc.specs.Seen as see
 use Rattle.tc_simple.specs.Becoming.{becomes, made_in}
-use Rattle.tc_simple.specs.Graph.{Leads, is_marked}
+use Rattle.tc_graph.specs.Graph.{Leads, is_marked}
 use Rattle.tc_simple.specs.Nodes.{nodes, nodes_of_all, link_rows, elements_of}
 use Rattle.tc_simple.specs.Orders.{Refers, IsOrderly, IsSize, AreSized, AreMade}
 use Rattle.tc_simple.specs.Sizes.{capped, leaf, two, size_of, size_in}
 use Rattle.tc_simple.specs.Tables.{number_of}
 use Rattle.tc_simple.specs.Totals.{total_of, element_patterns_of}
 use Rattle.tc_simple.specs.declared.counts.Size.{Size}
-use Rattle.tc_simple.specs.declared.cycles.State.{State}
+use Rattle.tc_graph.specs.declared.cycles.State.{State}
 use Rattle.tc_simple.specs.declared.groups.Table.{Table}
 use Rattle.tc_simple.proofs.Standing.{has_left, has_right, node_below}
 use Rattle.tc_simple.proofs.Reaching.{reached_at, edge_in, number_is, below_reached}
@@ -99,9 +99,9 @@ module _ (s : Syntax) (t : Table) (start : ℕ) (marks : List Bool) (states : Li
       by (inl e) = subst (λ z. Reached s z) (sym e) reached
       by (inr b) = below_reached s t r.table b reached
 
-      on : {k j : ℕ} → Leads (link_rows t true) start k → Rattle.tc_simple.specs.Graph.Edge (link_rows t true) k j → Leads (link_rows t true) start j
-      on {k} {j} (inl e) a = inr (Rattle.tc_simple.specs.Graph.edge (subst (λ z. Rattle.tc_simple.specs.Graph.Edge (link_rows t true) z j) e a))
-      on (inr p) a = inr (Rattle.tc_simple.specs.Graph.further p a)
+      on : {k j : ℕ} → Leads (link_rows t true) start k → Rattle.tc_graph.specs.Graph.Edge (link_rows t true) k j → Leads (link_rows t true) start j
+      on {k} {j} (inl e) a = inr (Rattle.tc_graph.specs.Graph.edge (subst (λ z. Rattle.tc_graph.specs.Graph.Edge (link_rows t true) z j) e a))
+      on (inr p) a = inr (Rattle.tc_graph.specs.Graph.further p a)
 
   pub is_orderly : IsOrderly s t marks states order
   is_orderly = orderly s t start marks states order r faultless.acyclic (λ k n mark refers. by k n mark refers)

@@ -1,6 +1,3 @@
-pub mod Graph
-pub mod Marks
-pub mod Walks
 pub mod Groups
 pub mod Places
 pub mod Gathered

@@ -7,10 +7,10 @@ use Rattle.tc_model.specs.CompactSyntaxTrees.{SyntaxPattern, empty, not_allowed,
 use Rattle.tc_model.specs.Simplifies.{Element}
 use Rattle.tc_rnc.specs.Seen as seen
 use Rattle.tc_rnc.specs.declared.syntax.SPat.{SPat}
-use Rattle.tc_simple.specs.Graph.{is_marked}
+use Rattle.tc_graph.specs.Graph.{is_marked}
 use Rattle.tc_simple.specs.Tables.{number_of}
-use Rattle.tc_simple.specs.Walks.{same_component, state_at}
-use Rattle.tc_simple.specs.declared.cycles.State.{State}
+use Rattle.tc_graph.specs.Walks.{same_component, state_at}
+use Rattle.tc_graph.specs.declared.cycles.State.{State}
 use Rattle.tc_simple.specs.declared.elements.Elem.{Elem}
 use Rattle.tc_simple.specs.declared.groups.Table.{Table}
 

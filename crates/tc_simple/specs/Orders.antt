@@ -11,14 +11,14 @@ use Rattle.tc_model.specs.declared.grammar.Pat.TheVariants.{NotAllowed}
 use Rattle.tc_rnc.specs.Seen as see
 use Rattle.tc_rnc.specs.declared.syntax.SPat.{SPat}
 use Rattle.tc_simple.specs.Becoming.{becomes, made_in}
-use Rattle.tc_simple.specs.Graph.{is_marked}
+use Rattle.tc_graph.specs.Graph.{is_marked}
 use Rattle.tc_simple.specs.Nodes.{nodes, pattern_at}
 use Rattle.tc_simple.specs.Sizes.{capped, leaf, size_of, size_in}
 use Rattle.tc_simple.specs.Tables.{number_of, IsTable}
-use Rattle.tc_simple.specs.Walks.{state_at}
+use Rattle.tc_graph.specs.Walks.{state_at}
 use Rattle.tc_simple.specs.declared.counts.Size.{Size}
-use Rattle.tc_simple.specs.declared.cycles.State.{State}
-use Rattle.tc_simple.specs.declared.cycles.State.TheVariants.{Done}
+use Rattle.tc_graph.specs.declared.cycles.State.{State}
+use Rattle.tc_graph.specs.declared.cycles.State.TheVariants.{Done}
 use Rattle.tc_simple.specs.declared.groups.Table.{Table}
 
 -- a reference that stands in a definition, outside its elements

@@ -1,11 +1,11 @@
 -- What is known of the definitions of a syntax tree by their numbers.
 use Rattle.std.specs.Prelude.{◌≡◌, ℕ, Bool, true, false, List, [], Some}
 use Rattle.tc_model.specs.CompactSyntaxTrees.{Syntax}
-use Rattle.tc_simple.specs.Graph.{IsReached}
+use Rattle.tc_graph.specs.Graph.{IsReached}
 use Rattle.tc_simple.specs.Nodes.{link_rows}
 use Rattle.tc_simple.specs.Tables.{number_of, IsTable}
-use Rattle.tc_simple.specs.Walks.{AreComponents}
-use Rattle.tc_simple.specs.declared.cycles.State.{State}
+use Rattle.tc_graph.specs.Walks.{AreComponents}
+use Rattle.tc_graph.specs.declared.cycles.State.{State}
 use Rattle.tc_simple.specs.declared.groups.Table.{Table}
 
 -- what each name stands for, which definitions are reached from `start`, and their components

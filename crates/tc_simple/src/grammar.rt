@@ -16,7 +16,6 @@ ghost use Rattle.tc_simple.specs.Totals.{element_patterns_of, total_of};
 
 use crate::becomes::{name_class, pattern};
 use crate::counts::{Size, measure};
-use crate::cycles::Walk;
 use crate::elements::{Elem, elements};
 use crate::faults::SimpleFault;
 use crate::groups::Table;
@@ -24,6 +23,7 @@ use crate::order::{all_patterns, all_sizes};
 use bumpalo::Bump;
 use bumpalo::collections::into_bump_slice;
 use tc_base::NoMemory;
+use tc_graph::Walk;
 use tc_model::{ElemPat, Grammar, Pat};
 use tc_rnc::Syntax;
 

@@ -2,7 +2,7 @@
 ghost use Rattle.std.specs.Prelude.{◌≡◌, ◌++◌, IfOk, OnOk, map};
 ghost use Rattle.std.specs.List.{filter_map};
 ghost use Rattle.tc_rnc.specs.Seen as see;
-ghost use Rattle.tc_simple.specs.Graph.{rows_of};
+ghost use Rattle.tc_graph.specs.Graph.{rows_of};
 ghost use Rattle.tc_simple.specs.Nodes.{nodes, nodes_of_all, target};
 
 use crate::groups::Table;

@@ -7,10 +7,10 @@ ghost use Rattle.tc_rnc.specs.Seen as see;
 ghost use Rattle.tc_simple.specs.Nodes.{loop_at, loops_below, marked_loops, nodes, nodes_of_all, HasNumbersBelow, IsFirstLoop, IsLeast, IsLesser, StartsBadly, StartsWell};
 ghost use Rattle.tc_simple.specs.Places.{maybe_place};
 
-use crate::cycles::Walk;
 use crate::groups::Table;
 use bumpalo::Bump;
 use tc_base::{NoMemory, Place};
+use tc_graph::Walk;
 use tc_rnc::SPat;
 
 /// Adds the places of the references in a pattern, outside its elements, that lie on cycles. The pattern

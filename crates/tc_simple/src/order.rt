@@ -8,11 +8,11 @@ ghost use Rattle.tc_simple.specs.Orders.{AreMade, AreSized, IsOrderly, PutsPatte
 
 use crate::becomes::pattern;
 use crate::counts::{Size, measure};
-use crate::cycles::Walk;
 use crate::elements::Elem;
 use crate::groups::Table;
 use bumpalo::Bump;
 use tc_base::NoMemory;
+use tc_graph::Walk;
 use tc_model::Pat;
 
 /// Works out the size of a definition, if it is marked.

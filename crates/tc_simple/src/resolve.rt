@@ -5,22 +5,21 @@ ghost use Rattle.tc_model.specs.Seen.{place as see_place};
 ghost use Rattle.tc_model.specs.SimplifiesFaults.{first_definition, twice_at, undefined_at, IsFaultless};
 ghost use Rattle.tc_model.specs.SimplifiesParts.{definitions_of};
 ghost use Rattle.tc_rnc.specs.Seen as see;
-ghost use Rattle.tc_simple.specs.Graph.{IsReached};
+ghost use Rattle.tc_graph.specs.Graph.{IsReached};
 ghost use Rattle.tc_simple.specs.Nodes.{link_rows};
 ghost use Rattle.tc_simple.specs.Refused.{Refuses};
 ghost use Rattle.tc_simple.specs.Resolves.{Resolves};
 ghost use Rattle.tc_simple.specs.Tables.{IsTable, number_of};
-ghost use Rattle.tc_simple.specs.Walks.{AreComponents};
+ghost use Rattle.tc_graph.specs.Walks.{AreComponents};
 
 use crate::checks::{bad_except, undefined};
-use crate::cycles::{Walk, components};
 use crate::faults::SimpleFault;
-use crate::graph::reached;
 use crate::groups::Table;
 use crate::links::links;
 use crate::loops::{first_loop, starts_well};
 use bumpalo::Bump;
 use tc_base::{NoMemory, Place};
+use tc_graph::{Walk, components, reached};
 use tc_rnc::Syntax;
 
 /// The number of `start`, where each name is defined once and `start` and all references are.

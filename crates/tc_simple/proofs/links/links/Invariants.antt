@@ -1,7 +1,7 @@
 use Rattle.std.proofs.Common.{◌≡◌, take, map}
 use Rattle.std.specs.List.{filter_map}
 use Rattle.tc_rnc.specs.Seen as see
-use Rattle.tc_simple.specs.Graph.{rows_of}
+use Rattle.tc_graph.specs.Graph.{rows_of}
 use Rattle.tc_simple.specs.Nodes.{nodes, target}
 use Rattle.tc_simple.proofs.links.links.Given as goal
 

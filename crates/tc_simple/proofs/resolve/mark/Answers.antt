@@ -1,5 +1,5 @@
 use Rattle.std.proofs.Common.{◌∙◌, ap, sym, subst}
-use Rattle.tc_simple.specs.Graph.{IsGraph, rows_of}
+use Rattle.tc_graph.specs.Graph.{IsGraph, rows_of}
 use Rattle.tc_simple.proofs.Checked.{graph_links}
 use Rattle.tc_simple.proofs.resolve.mark.Goals as goal
 

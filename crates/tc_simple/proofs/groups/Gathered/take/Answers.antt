@@ -1,7 +1,7 @@
 use Rattle.std.proofs.Common.{sym}
 use Rattle.std.proofs.lemmas.Option.{slice_get_within}
 use Rattle.tc_simple.proofs.Gathering.{gathered_begin, gathered_grow}
-use Rattle.tc_simple.proofs.Walks.{on_ok}
+use Rattle.tc_graph.proofs.Tops.{on_ok}
 use Rattle.tc_simple.proofs.groups.Gathered.take.Goals as goal
 
 pub grow-requires : goal.grow-requires

@@ -1,0 +1,4 @@
+pub mod Marks
+pub mod Tops
+pub mod Walks
+pub mod Joined

@@ -1,0 +1,14 @@
+use Rattle.std.proofs.Common.{◌≡◌, ◌∙◌, ◌-◌, ◌∷◌, List, ap, sym, length, slice_get, take}
+use Rattle.tc_graph.specs.Walks.{Stacks}
+use Rattle.tc_graph.specs.declared.cycles.Start.{Start}
+use Rattle.tc_graph.proofs.Tops.{one_gone}
+use Rattle.tc_graph.proofs.cycles.Walk.join.Goals as goal
+
+pub loop-start-preserved : goal.loop-start-preserved
+loop-start-preserved c =
+    let now = c.loop-start.self.starts.items in
+    let last = ap (λ (z : List Start). slice_get z (length z - 1)) (sym c.deref.ensures.value) ∙ (sym c.last.ensures.value ∙ (sym c.copied.ensures ∙ c.in-Some.is)) in
+    let old = c.loop-start.invariant in
+    let rest : c.pop.new.self.items ≡ take (length now - 1) now = c.pop.ensures.rest ∙ ap (λ n. take (n - 1) now) c.loop-start.self.starts.ok.0 in
+    let more = one_gone c.args.place c.args.self.now.starts.items now c.pop.new.self.items old.0 c.in-Some.start old.1 old.2 last rest c.if-start-place.false in
+    (c.in-Some.start ∷ old.0, more.0, more.1, ap (λ (z : Stacks). record z { starts = c.pop.new.self.items }) old.3)

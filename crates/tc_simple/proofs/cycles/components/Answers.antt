@@ -1,7 +1,0 @@
-use Rattle.std.proofs.Common.{arith}
-use Rattle.tc_simple.proofs.Marks.{count_rows}
-use Rattle.tc_simple.proofs.Walks.{all_done}
-use Rattle.tc_simple.proofs.cycles.components.Goals as goal
-
-pub returns : goal.returns
-returns c = all_done c.loop-number.invariant.walk c.loop-number.invariant.empty (λ v h. c.loop-number.invariant.old v (omega (arith, h, count_rows c.args.rows.now)))

@@ -1,6 +1,0 @@
-use Rattle.std.proofs.Common.{take}
-use Rattle.tc_simple.specs.Marks.{Marks}
-use Rattle.tc_simple.proofs.graph.mark.Given as goal
-
-abbrev pub invariant-loop-to : goal.invariant-loop-to
-invariant-loop-to l = Marks (take l.to-index l.row) l.fn.marks.items l.marks.items l.fn.pending.items l.pending.items
