@@ -6,6 +6,7 @@ pub mod Lexed
 pub mod Refusals
 pub mod Readings
 pub mod Blocks
+pub mod Bindings
 pub mod Scopes
 pub mod Connectors
 pub mod Answers

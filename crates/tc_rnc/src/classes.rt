@@ -13,18 +13,18 @@ ghost use Rattle.tc_rnc.specs.declared.faults.RncFault.TheVariants.{NoMemory};
 
 use crate::faults::{RncFault, first_of, unexpected};
 use crate::marks::{after_mark, expect_mark};
-use crate::scopes::uri_of;
+use crate::scopes::Scope;
 use crate::syntax::SClass;
 use crate::tokens::{End, Token, Word};
 use bumpalo::Bump;
 use bumpalo::collections::into_bump_slice;
-use tc_model::{Binding, Name};
+use tc_model::Name;
 
 /// A name class, and what follows it; parentheses may stand so deep.
 #[cycle(class)]
 pub fn class<'b, 's, 't>(
     arena: &'b Bump,
-    scope: &[Binding<'b>],
+    scope: &Scope<'b>,
     tokens: &'s [Token<'t>],
     end: End,
     deepest: u32,
@@ -44,7 +44,7 @@ pub fn class<'b, 's, 't>(
 #[cycle(class)]
 fn classes<'b, 's, 't>(
     arena: &'b Bump,
-    scope: &[Binding<'b>],
+    scope: &Scope<'b>,
     first: SClass<'b>,
     tokens: &'s [Token<'t>],
     end: End,
@@ -67,22 +67,22 @@ fn classes<'b, 's, 't>(
 }
 
 /// The namespace and local part of the name for which a word stands, or nothing where it stands for none.
-fn parts_of<'b, 't>(scope: &[Binding<'b>], word: Word<'t>) -> Option<(&'b str, &'t str)>
+fn parts_of<'b, 't>(scope: &Scope<'b>, word: Word<'t>) -> Option<(&'b str, &'t str)>
     ensures { MatchOption result (names.name_in (scope_of scope.now) (seen.word word.entry) ≡ None)
         (λ r. names.name_in (scope_of scope.now) (seen.word word.entry) ≡ Some (record { uri = r.0.now; local = r.1.now })) }
 {
     match word {
         Word::Name(n) | Word::Escaped(n) => Some((default_of(scope), n)),
-        Word::Prefixed(p, n) => Some((uri_of(scope, p)?, n)),
+        Word::Prefixed(p, n) => Some((scope.uri_of(p)?, n)),
         _ => None,
     }
 }
 
 /// The default namespace, which is none where it isn't declared.
-fn default_of<'b>(scope: &[Binding<'b>]) -> &'b str
+fn default_of<'b>(scope: &Scope<'b>) -> &'b str
     ensures { result.now ≡ names.or_none (xml.uri_of (scope_of scope.now) []) }
 {
-    match uri_of(scope, "") {
+    match scope.uri_of("") {
         Some(uri) => uri,
         None => "",
     }
@@ -91,7 +91,7 @@ fn default_of<'b>(scope: &[Binding<'b>]) -> &'b str
 /// The name for which a word stands, or nothing where it stands for none.
 fn name<'b>(
     arena: &'b Bump,
-    scope: &[Binding<'b>],
+    scope: &Scope<'b>,
     word: Word<'_>,
 ) -> Result<Option<Name<'b>>, RncFault>
     ensures ok { IfOk result (λ o. MatchOption o (names.name_in (scope_of scope.now) (seen.word word.entry) ≡ None)
@@ -119,7 +119,7 @@ fn prefix_of_all<'t>(word: Word<'t>) -> Option<&'t str>
 #[cycle(class)]
 fn simple<'b, 's, 't>(
     arena: &'b Bump,
-    scope: &[Binding<'b>],
+    scope: &Scope<'b>,
     tokens: &'s [Token<'t>],
     end: End,
     deepest: u32,
@@ -141,7 +141,7 @@ fn simple<'b, 's, 't>(
         return Ok((SClass::Any(first.place, excepted), after));
     }
     if let Some(prefix) = prefix_of_all(first.word) {
-        let Some(uri) = uri_of(scope, prefix) else {
+        let Some(uri) = scope.uri_of(prefix) else {
             return Err(unexpected(tokens, end));
         };
         let (excepted, after) = except(arena, scope, rest, end, deepest)?;
@@ -157,7 +157,7 @@ fn simple<'b, 's, 't>(
 #[cycle(class)]
 fn closed_class<'b, 's, 't>(
     arena: &'b Bump,
-    scope: &[Binding<'b>],
+    scope: &Scope<'b>,
     tokens: &'s [Token<'t>],
     end: End,
     deepest: u32,
@@ -174,7 +174,7 @@ fn closed_class<'b, 's, 't>(
 #[cycle(class)]
 fn except<'b, 's, 't>(
     arena: &'b Bump,
-    scope: &[Binding<'b>],
+    scope: &Scope<'b>,
     tokens: &'s [Token<'t>],
     end: End,
     deepest: u32,

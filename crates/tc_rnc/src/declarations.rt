@@ -11,11 +11,10 @@ ghost use Rattle.tc_rnc.specs.declared.faults.RncFault.TheVariants.{NoMemory};
 
 use crate::faults::{RncFault, escape_at, first_of, third_literal, unexpected};
 use crate::marks::{after_mark, expect_mark};
-use crate::scopes::uri_of;
+use crate::scopes::Scope;
 use crate::tokens::{End, Token};
 use bumpalo::Bump;
 use tc_base::Why;
-use tc_model::Binding;
 
 /// The namespace of namespace declarations, to which nothing may be bound (Namespaces in XML 1.0, 3).
 const XMLNS: &str = "http://www.w3.org/2000/xmlns/";
@@ -105,48 +104,32 @@ fn prefix_uri<'s, 't>(
 }
 
 /// Whether a prefix may be bound to a namespace name: it isn't yet, and the namespace allows it.
-fn may_bind(scope: &[Binding<'_>], prefix: &str, uri: &str) -> bool
+fn may_bind(scope: &Scope<'_>, prefix: &str, uri: &str) -> bool
     ensures { MatchBool result (names.MayBind (scope_of scope.now) prefix.now uri.now) (names.MayBind (scope_of scope.now) prefix.now uri.now → ⊥) }
 {
-    match uri_of(scope, prefix) {
+    match scope.uri_of(prefix) {
         Some(_) => false,
         None => uri != XMLNS,
     }
 }
 
-/// Binds a prefix to a namespace name.
-fn bind<'b>(
-    arena: &'b Bump,
-    scope: &mut Vec<Binding<'b>, &'b Bump>,
-    prefix: &str,
-    uri: &str,
-) -> Result<(), RncFault>
-    ensures ok { OnOk result (scope_of scope.new.items ≡ names.bound_to prefix.now uri.now ∷ scope_of scope.old.items) }
-    ensures no { IfErr result (λ e. e ≡ NoMemory) }
-{
-    let prefix: &'b str = arena.try_alloc_str(prefix)?;
-    let uri: &'b str = arena.try_alloc_str(uri)?;
-    scope.push(Binding { prefix, uri })?;
-    Ok(())
-}
-
 /// Reads a declaration of a prefix, of which `rest` is what follows its word, and gives what follows it.
 fn namespace<'b, 's, 't>(
     arena: &'b Bump,
-    scope: &mut Vec<Binding<'b>, &'b Bump>,
+    scope: &mut Scope<'b>,
     tokens: &'s [Token<'t>],
     rest: &'s [Token<'t>],
     end: End,
 ) -> Result<&'s [Token<'t>], RncFault>
     requires { schemas.StartsWith (codes "namespace") (seen.tokens tokens.now) (seen.tokens rest.now) }
-    ensures ok { IfOk result (λ r. names.DeclarationAt (scope_of scope.old.items) (seen.tokens tokens.now) (scope_of scope.new.items) (seen.tokens r.now)) }
-    ensures no { IfErr result (λ e. Refuses e end 2000 (seen.tokens tokens.now) (λ o d. schemas.HasDeclared (scope_of scope.old.items) (seen.tokens tokens.now) o d → ⊥)) }
+    ensures ok { IfOk result (λ r. names.DeclarationAt (scope_of scope.old) (seen.tokens tokens.now) (scope_of scope.new) (seen.tokens r.now)) }
+    ensures no { IfErr result (λ e. Refuses e end 2000 (seen.tokens tokens.now) (λ o d. schemas.HasDeclared (scope_of scope.old) (seen.tokens tokens.now) o d → ⊥)) }
 {
     let (prefix, value, after) = prefix_uri(rest, end, true)?;
     if !may_bind(scope, prefix, value) {
         return Err(unexpected(tokens, end));
     }
-    bind(arena, scope, prefix, value)?;
+    scope.bind(arena, prefix, value)?;
     Ok(after)
 }
 
@@ -154,21 +137,21 @@ fn namespace<'b, 's, 't>(
 /// what follows it.
 fn default_alone<'b, 's, 't>(
     arena: &'b Bump,
-    scope: &mut Vec<Binding<'b>, &'b Bump>,
+    scope: &mut Scope<'b>,
     tokens: &'s [Token<'t>],
     rest: &'s [Token<'t>],
     end: End,
 ) -> Result<&'s [Token<'t>], RncFault>
     requires words { schemas.StartsWithBoth (codes "default") (codes "namespace") (seen.tokens tokens.now) (seen.tokens rest.now) }
     requires alone { schemas.BeginsEquals (seen.tokens rest.now) }
-    ensures ok { IfOk result (λ r. names.DeclarationAt (scope_of scope.old.items) (seen.tokens tokens.now) (scope_of scope.new.items) (seen.tokens r.now)) }
-    ensures no { IfErr result (λ e. Refuses e end 2000 (seen.tokens tokens.now) (λ o d. schemas.HasDeclared (scope_of scope.old.items) (seen.tokens tokens.now) o d → ⊥)) }
+    ensures ok { IfOk result (λ r. names.DeclarationAt (scope_of scope.old) (seen.tokens tokens.now) (scope_of scope.new) (seen.tokens r.now)) }
+    ensures no { IfErr result (λ e. Refuses e end 2000 (seen.tokens tokens.now) (λ o d. schemas.HasDeclared (scope_of scope.old) (seen.tokens tokens.now) o d → ⊥)) }
 {
     let (value, after) = uri(rest, end, true)?;
     if !may_bind(scope, "", value) {
         return Err(unexpected(tokens, end));
     }
-    bind(arena, scope, "", value)?;
+    scope.bind(arena, "", value)?;
     Ok(after)
 }
 
@@ -176,15 +159,15 @@ fn default_alone<'b, 's, 't>(
 /// words, and gives what follows it.
 fn default_and_prefix<'b, 's, 't>(
     arena: &'b Bump,
-    scope: &mut Vec<Binding<'b>, &'b Bump>,
+    scope: &mut Scope<'b>,
     tokens: &'s [Token<'t>],
     rest: &'s [Token<'t>],
     end: End,
 ) -> Result<&'s [Token<'t>], RncFault>
     requires words { schemas.StartsWithBoth (codes "default") (codes "namespace") (seen.tokens tokens.now) (seen.tokens rest.now) }
     requires both { names.LacksMark 61 (seen.tokens rest.now) }
-    ensures ok { IfOk result (λ r. names.DeclarationAt (scope_of scope.old.items) (seen.tokens tokens.now) (scope_of scope.new.items) (seen.tokens r.now)) }
-    ensures no { IfErr result (λ e. Refuses e end 2000 (seen.tokens tokens.now) (λ o d. schemas.HasDeclared (scope_of scope.old.items) (seen.tokens tokens.now) o d → ⊥)) }
+    ensures ok { IfOk result (λ r. names.DeclarationAt (scope_of scope.old) (seen.tokens tokens.now) (scope_of scope.new) (seen.tokens r.now)) }
+    ensures no { IfErr result (λ e. Refuses e end 2000 (seen.tokens tokens.now) (λ o d. schemas.HasDeclared (scope_of scope.old) (seen.tokens tokens.now) o d → ⊥)) }
 {
     let (prefix, value, after) = prefix_uri(rest, end, true)?;
     if !may_bind(scope, "", value) {
@@ -193,20 +176,20 @@ fn default_and_prefix<'b, 's, 't>(
     if !may_bind(scope, prefix, value) {
         return Err(unexpected(tokens, end));
     }
-    bind(arena, scope, prefix, value)?;
-    bind(arena, scope, "", value)?;
+    scope.bind(arena, prefix, value)?;
+    scope.bind(arena, "", value)?;
     Ok(after)
 }
 
 /// Reads a declaration, and gives what follows it.
 fn declaration<'b, 's, 't>(
     arena: &'b Bump,
-    scope: &mut Vec<Binding<'b>, &'b Bump>,
+    scope: &mut Scope<'b>,
     tokens: &'s [Token<'t>],
     end: End,
 ) -> Result<&'s [Token<'t>], RncFault>
-    ensures ok { IfOk result (λ r. names.DeclarationAt (scope_of scope.old.items) (seen.tokens tokens.now) (scope_of scope.new.items) (seen.tokens r.now)) }
-    ensures no { IfErr result (λ e. Refuses e end 2000 (seen.tokens tokens.now) (λ o d. schemas.HasDeclared (scope_of scope.old.items) (seen.tokens tokens.now) o d → ⊥)) }
+    ensures ok { IfOk result (λ r. names.DeclarationAt (scope_of scope.old) (seen.tokens tokens.now) (scope_of scope.new) (seen.tokens r.now)) }
+    ensures no { IfErr result (λ e. Refuses e end 2000 (seen.tokens tokens.now) (λ o d. schemas.HasDeclared (scope_of scope.old) (seen.tokens tokens.now) o d → ⊥)) }
 {
     if let Some(rest) = after_word(tokens, "namespace") {
         return namespace(arena, scope, tokens, rest, end);
@@ -246,13 +229,13 @@ fn begins_declaration(tokens: &[Token<'_>]) -> bool
 /// Reads the declarations at the front, and gives what follows them.
 pub fn declarations<'b, 's, 't>(
     arena: &'b Bump,
-    scope: &mut Vec<Binding<'b>, &'b Bump>,
+    scope: &mut Scope<'b>,
     tokens: &'s [Token<'t>],
     end: End,
 ) -> Result<&'s [Token<'t>], RncFault>
-    ensures ok { IfOk result (λ r. schemas.Declares (scope_of scope.old.items) (scope_of scope.new.items) (seen.tokens tokens.now) (seen.tokens r.now)) }
+    ensures ok { IfOk result (λ r. schemas.Declares (scope_of scope.old) (scope_of scope.new) (seen.tokens tokens.now) (seen.tokens r.now)) }
     ensures all { IfOk result (λ r. schemas.LacksDeclaration (seen.tokens r.now)) }
-    ensures no { IfErr result (λ e. Refuses e end 2000 (seen.tokens tokens.now) (λ o d. HasSchema (scope_of scope.old.items) (seen.tokens tokens.now) o d → ⊥)) }
+    ensures no { IfErr result (λ e. Refuses e end 2000 (seen.tokens tokens.now) (λ o d. HasSchema (scope_of scope.old) (seen.tokens tokens.now) o d → ⊥)) }
 {
     let mut rest = tokens.split_at(0).1;
     while begins_declaration(rest) {

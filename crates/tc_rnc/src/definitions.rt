@@ -15,11 +15,11 @@ ghost use Rattle.tc_rnc.specs.declared.faults.RncFault.TheVariants.{NoMemory};
 use crate::faults::{RncFault, first_of, unexpected};
 use crate::marks::expect_mark;
 use crate::patterns::{opened, pattern};
+use crate::scopes::Scope;
 use crate::syntax::{Def, Joins, SPat};
 use crate::tokens::{End, Token};
 use bumpalo::Bump;
 use tc_base::{Place, Why};
-use tc_model::Binding;
 
 /// What follows the two marks of an operator, if the second one stands directly after this first one.
 fn after_equals<'s, 't>(first: &Token<'t>, rest: &'s [Token<'t>]) -> Option<&'s [Token<'t>]>
@@ -82,7 +82,7 @@ fn no_definition(tokens: &[Token<'_>], end: End) -> RncFault
 /// An operator and a pattern, and what follows them.
 fn assigned<'b, 's, 't>(
     arena: &'b Bump,
-    scope: &[Binding<'b>],
+    scope: &Scope<'b>,
     tokens: &'s [Token<'t>],
     end: End,
     deepest: u32,
@@ -120,7 +120,7 @@ fn made<'b>(
 /// Reads a definition that is no `div`, and gives what follows it.
 fn definition<'b, 's, 't>(
     arena: &'b Bump,
-    scope: &[Binding<'b>],
+    scope: &Scope<'b>,
     defs: &mut Vec<Def<'b>, &'b Bump>,
     tokens: &'s [Token<'t>],
     end: End,
@@ -157,7 +157,7 @@ fn is_end(tokens: &[Token<'_>]) -> bool
 #[cycle(definitions)]
 pub fn definitions<'b, 's, 't>(
     arena: &'b Bump,
-    scope: &[Binding<'b>],
+    scope: &Scope<'b>,
     defs: &mut Vec<Def<'b>, &'b Bump>,
     tokens: &'s [Token<'t>],
     end: End,
@@ -181,7 +181,7 @@ pub fn definitions<'b, 's, 't>(
 #[cycle(definitions)]
 fn part<'b, 's, 't>(
     arena: &'b Bump,
-    scope: &[Binding<'b>],
+    scope: &Scope<'b>,
     defs: &mut Vec<Def<'b>, &'b Bump>,
     tokens: &'s [Token<'t>],
     end: End,
@@ -204,7 +204,7 @@ fn part<'b, 's, 't>(
 #[cycle(definitions)]
 pub fn block<'b, 's, 't>(
     arena: &'b Bump,
-    scope: &[Binding<'b>],
+    scope: &Scope<'b>,
     defs: &mut Vec<Def<'b>, &'b Bump>,
     tokens: &'s [Token<'t>],
     end: End,

@@ -14,12 +14,12 @@ ghost use Rattle.tc_rnc.specs.declared.faults.RncFault.TheVariants.{NoMemory};
 use crate::classes::class;
 use crate::faults::{RncFault, datum, first_of, no_pattern, unexpected};
 use crate::marks::{after_mark, expect_mark};
+use crate::scopes::Scope;
 use crate::syntax::SPat;
 use crate::tokens::{End, Token};
 use bumpalo::Bump;
 use bumpalo::collections::into_bump_slice;
 use tc_base::Place;
-use tc_model::Binding;
 
 /// What stands between items.
 #[derive(Clone, Copy, Debug, PartialEq, Eq)]
@@ -202,7 +202,7 @@ fn braced_text<'s, 't>(
 /// What follows the word of an attribute.
 fn attribute<'b, 's, 't>(
     arena: &'b Bump,
-    scope: &[Binding<'b>],
+    scope: &Scope<'b>,
     tokens: &'s [Token<'t>],
     end: End,
     deepest: u32,
@@ -275,7 +275,7 @@ fn begin_of<'t>(token: &Token<'t>) -> Begin<'t>
 #[cycle(pattern)]
 pub fn pattern<'b, 's, 't>(
     arena: &'b Bump,
-    scope: &[Binding<'b>],
+    scope: &Scope<'b>,
     tokens: &'s [Token<'t>],
     end: End,
     deepest: u32,
@@ -295,7 +295,7 @@ pub fn pattern<'b, 's, 't>(
 #[cycle(pattern)]
 fn items<'b, 's, 't>(
     arena: &'b Bump,
-    scope: &[Binding<'b>],
+    scope: &Scope<'b>,
     between: Connector,
     first: SPat<'b>,
     tokens: &'s [Token<'t>],
@@ -323,7 +323,7 @@ fn items<'b, 's, 't>(
 #[cycle(pattern)]
 fn item<'b, 's, 't>(
     arena: &'b Bump,
-    scope: &[Binding<'b>],
+    scope: &Scope<'b>,
     tokens: &'s [Token<'t>],
     end: End,
     deepest: u32,
@@ -343,7 +343,7 @@ fn item<'b, 's, 't>(
 #[cycle(pattern)]
 fn enclosed<'b, 's, 't>(
     arena: &'b Bump,
-    scope: &[Binding<'b>],
+    scope: &Scope<'b>,
     left: char,
     right: char,
     tokens: &'s [Token<'t>],
@@ -364,7 +364,7 @@ fn enclosed<'b, 's, 't>(
 #[cycle(pattern)]
 fn element<'b, 's, 't>(
     arena: &'b Bump,
-    scope: &[Binding<'b>],
+    scope: &Scope<'b>,
     place: Place,
     tokens: &'s [Token<'t>],
     end: End,
@@ -384,7 +384,7 @@ fn element<'b, 's, 't>(
 #[cycle(pattern)]
 fn mixed<'b, 's, 't>(
     arena: &'b Bump,
-    scope: &[Binding<'b>],
+    scope: &Scope<'b>,
     tokens: &'s [Token<'t>],
     end: End,
     deepest: u32,
@@ -422,7 +422,7 @@ fn reference<'b>(arena: &'b Bump, name: &str, place: Place) -> Result<SPat<'b>, 
 #[cycle(pattern)]
 fn primary<'b, 's, 't>(
     arena: &'b Bump,
-    scope: &[Binding<'b>],
+    scope: &Scope<'b>,
     tokens: &'s [Token<'t>],
     end: End,
     deepest: u32,

@@ -14,18 +14,15 @@ use crate::declarations::{after_word, declarations};
 use crate::definitions::{block, definitions, operator};
 use crate::faults::{RncFault, first_of, unexpected};
 use crate::patterns::{goes_on, pattern};
+use crate::scopes::Scope;
 use crate::syntax::{Def, Joins};
 use crate::tokens::{End, Token};
 use bumpalo::Bump;
 use bumpalo::collections::into_bump_slice;
 use tc_base::{Place, Why};
-use tc_model::Binding;
 
 /// How deep braces and parentheses may stand within one another.
 const DEEPEST: u32 = 2000;
-
-/// The namespace of the prefix `xml` (Namespaces in XML 1.0, 3).
-const XML: &str = "http://www.w3.org/XML/1998/namespace";
 
 /// Whether the tokens begin with definitions and not with a pattern, as far as one can tell.
 fn is_definitions(tokens: &[Token<'_>]) -> bool
@@ -67,7 +64,7 @@ fn expect_end(tokens: &[Token<'_>], end: End) -> Result<(), RncFault>
 /// Reads one pattern, which defines `start`.
 fn whole_pattern<'b, 's, 't>(
     arena: &'b Bump,
-    scope: &[Binding<'b>],
+    scope: &Scope<'b>,
     tokens: &'s [Token<'t>],
     end: End,
 ) -> Result<&'b [Def<'b>], RncFault>
@@ -92,7 +89,7 @@ fn whole_pattern<'b, 's, 't>(
 /// Reads definitions, up to the end.
 fn whole_definitions<'b, 's, 't>(
     arena: &'b Bump,
-    scope: &[Binding<'b>],
+    scope: &Scope<'b>,
     tokens: &'s [Token<'t>],
     end: End,
 ) -> Result<&'b [Def<'b>], RncFault>
@@ -111,7 +108,7 @@ fn whole_definitions<'b, 's, 't>(
 /// Reads a grammar within braces, of which `rest` is what follows its word, up to the end.
 fn whole_grammar<'b, 's, 't>(
     arena: &'b Bump,
-    scope: &[Binding<'b>],
+    scope: &Scope<'b>,
     tokens: &'s [Token<'t>],
     rest: &'s [Token<'t>],
     end: End,
@@ -144,7 +141,7 @@ fn inner_grammar(tokens: &[Token<'_>], end: End) -> RncFault
 /// Reads what follows the declarations.
 fn body<'b, 's, 't>(
     arena: &'b Bump,
-    scope: &[Binding<'b>],
+    scope: &Scope<'b>,
     tokens: &'s [Token<'t>],
     end: End,
 ) -> Result<&'b [Def<'b>], RncFault>
@@ -161,19 +158,6 @@ fn body<'b, 's, 't>(
     whole_pattern(arena, scope, tokens, end)
 }
 
-/// The prefixes that are bound before any declaration.
-fn first_bindings<'b>(arena: &'b Bump) -> Result<Vec<Binding<'b>, &'b Bump>, RncFault>
-    ensures ok { IfOk result (λ v. scope_of v.items ≡ first_scope) }
-    ensures no { IfErr result (λ e. e ≡ NoMemory) }
-{
-    let mut scope = Vec::new(arena);
-    scope.push(Binding {
-        prefix: "xml",
-        uri: XML,
-    })?;
-    Ok(scope)
-}
-
 /// The definitions of a schema, whose tokens these are.
 pub fn schema<'b, 's, 't>(
     arena: &'b Bump,
@@ -183,7 +167,7 @@ pub fn schema<'b, 's, 't>(
     ensures ok { IfOk result (λ r. model.SchemaAt false first_scope 2000 (seen.tokens tokens.now) (map seen.definition r.now)) }
     ensures no { IfErr result (λ e. Refuses e end 2000 (seen.tokens tokens.now) (λ o d. HasSchema first_scope (seen.tokens tokens.now) o d → ⊥)) }
 {
-    let mut scope = first_bindings(arena)?;
+    let mut scope = Scope::first(arena)?;
     let rest = declarations(arena, &mut scope, tokens, end)?;
     body(arena, &scope, rest, end)
 }

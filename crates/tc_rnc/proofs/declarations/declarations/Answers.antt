@@ -8,13 +8,13 @@ use Rattle.tc_rnc.proofs.declarations.declarations.Goals as goal
 
 pub loop-end-init : goal.loop-end-init
 loop-end-init c =
-    subst (λ z. Declares (scope_of c.args.scope.now.items) (scope_of c.args.scope.now.items) (seen.tokens c.args.tokens.now) (seen.tokens z)) (sym c.split_at.ensures.back)
-    (l.nothing_declared (scope_of c.args.scope.now.items) (seen.tokens c.args.tokens.now))
+    subst (λ z. Declares (scope_of c.args.scope.now) (scope_of c.args.scope.now) (seen.tokens c.args.tokens.now) (seen.tokens z)) (sym c.split_at.ensures.back)
+    (l.nothing_declared (scope_of c.args.scope.now) (seen.tokens c.args.tokens.now))
 
 pub returns-in_err-after-clause-no : goal.returns-in_err-after-clause-no
 returns-in_err-after-clause-no c =
     raised _ c.in_err-after.field-0.0 _ c.from_residual.ensures.1
-    (l.no_more_declared c.in_err-after.field-0.0 c.args.end (scope_of c.args.scope.now.items) (scope_of c.loop-end.scope.items) (seen.tokens c.args.tokens.now) (seen.tokens c.loop-end.rest.now) c.loop-end.invariant c.loop-end-test.ensures
+    (l.no_more_declared c.in_err-after.field-0.0 c.args.end (scope_of c.args.scope.now) (scope_of c.loop-end.scope) (seen.tokens c.args.tokens.now) (seen.tokens c.loop-end.rest.now) c.loop-end.invariant c.loop-end-test.ensures
     c.in_err-after.ensures.no)
 
 pub loop-end-smaller : goal.loop-end-smaller
@@ -22,5 +22,5 @@ loop-end-smaller c = l.declared_shorter c.in_ok-after.ensures.ok
 
 pub loop-end-preserved : goal.loop-end-preserved
 loop-end-preserved c =
-    l.one_declared (scope_of c.args.scope.now.items) (scope_of c.loop-end.scope.items) (scope_of c.declaration.new.scope.items) (seen.tokens c.args.tokens.now) (seen.tokens c.loop-end.rest.now) (seen.tokens c.in_ok-after.after.now) c.loop-end.invariant
+    l.one_declared (scope_of c.args.scope.now) (scope_of c.loop-end.scope) (scope_of c.declaration.new.scope) (seen.tokens c.args.tokens.now) (seen.tokens c.loop-end.rest.now) (seen.tokens c.in_ok-after.after.now) c.loop-end.invariant
     c.in_ok-after.ensures.ok c.loop-end-test.ensures

@@ -5,7 +5,7 @@ use Rattle.tc_rnc.specs.Seen as seen
 use Rattle.tc_rnc.proofs.declarations.declarations.Given as goal
 
 abbrev pub invariant-loop-end : goal.invariant-loop-end
-invariant-loop-end l = Declares (scope_of l.fn.scope.items) (scope_of l.scope.items) (seen.tokens l.tokens) (seen.tokens l.rest)
+invariant-loop-end l = Declares (scope_of l.fn.scope) (scope_of l.scope) (seen.tokens l.tokens) (seen.tokens l.rest)
 
 abbrev pub decreases-loop-end : goal.decreases-loop-end
 decreases-loop-end l = length (seen.tokens l.rest)

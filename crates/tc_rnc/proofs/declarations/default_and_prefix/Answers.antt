@@ -1,5 +1,5 @@
 use Rattle.std.proofs.Common.{◌∷◌, ◌∙◌, [], ap, sym, subst}
-use Rattle.tc_model.specs.CompactSyntaxNames.{MayBind, bound_to, DeclarationAt}
+use Rattle.tc_model.specs.CompactSyntaxNames.{bound_to, DeclarationAt}
 use Rattle.tc_model.specs.CompactSyntaxRefused.{here}
 use Rattle.tc_rnc.specs.Schemas.{HasDeclared}
 use Rattle.tc_rnc.specs.Scopes.{scope_of}
@@ -11,19 +11,19 @@ use Rattle.tc_rnc.proofs.declarations.default_and_prefix.Goals as goal
 pub returns-in_err-prefix-clause-no : goal.returns-in_err-prefix-clause-no
 returns-in_err-prefix-clause-no c =
     raised _ c.in_err-prefix.field-0.0 _ c.from_residual.ensures.1
-    (l.no_both_uri c.in_err-prefix.field-0.0 c.args.end (scope_of c.args.scope.now.items) (seen.tokens c.args.tokens.now) c.requires.words.0 (seen.tokens c.args.rest.now) c.requires.words.1 c.requires.words.2 c.requires.both c.in_err-prefix.ensures.no)
+    (l.no_both_uri c.in_err-prefix.field-0.0 c.args.end (scope_of c.args.scope.now) (seen.tokens c.args.tokens.now) c.requires.words.0 (seen.tokens c.args.rest.now) c.requires.words.1 c.requires.words.2 c.requires.both c.in_err-prefix.ensures.no)
 
 pub returns-then-not-may_bind-clause-no : goal.returns-then-not-may_bind-clause-no
 returns-then-not-may_bind-clause-no c =
-    refuses_all c.unexpected.result c.args.end 2000 (seen.tokens c.args.tokens.now) (seen.tokens c.args.tokens.now) (HasDeclared (scope_of c.args.scope.now.items) (seen.tokens c.args.tokens.now)) (0, here) c.unexpected.ensures
-    (l.no_both_bind (scope_of c.args.scope.now.items) (seen.tokens c.args.tokens.now) c.requires.words.0 (seen.tokens c.args.rest.now) (seen.tokens c.in_ok-prefix.after.now) c.in_ok-prefix.prefix.now c.in_ok-prefix.value.now c.requires.words.1 c.requires.words.2 c.requires.both c.in_ok-prefix.ensures.ok
-    (λ a b. c.if-not-may_bind.ensures (subst (λ z. MayBind (scope_of z) [] c.in_ok-prefix.value.now) (sym c.deref.ensures.value) a)))
+    refuses_all c.unexpected.result c.args.end 2000 (seen.tokens c.args.tokens.now) (seen.tokens c.args.tokens.now) (HasDeclared (scope_of c.args.scope.now) (seen.tokens c.args.tokens.now)) (0, here) c.unexpected.ensures
+    (l.no_both_bind (scope_of c.args.scope.now) (seen.tokens c.args.tokens.now) c.requires.words.0 (seen.tokens c.args.rest.now) (seen.tokens c.in_ok-prefix.after.now) c.in_ok-prefix.prefix.now c.in_ok-prefix.value.now c.requires.words.1 c.requires.words.2 c.requires.both c.in_ok-prefix.ensures.ok
+    (λ a b. c.if-not-may_bind.ensures a))
 
 pub returns-then-not-may_bind-2-clause-no : goal.returns-then-not-may_bind-2-clause-no
 returns-then-not-may_bind-2-clause-no c =
-    refuses_all c.unexpected-then-not-may_bind-2.result c.args.end 2000 (seen.tokens c.args.tokens.now) (seen.tokens c.args.tokens.now) (HasDeclared (scope_of c.args.scope.now.items) (seen.tokens c.args.tokens.now)) (0, here) c.unexpected-then-not-may_bind-2.ensures
-    (l.no_both_bind (scope_of c.args.scope.now.items) (seen.tokens c.args.tokens.now) c.requires.words.0 (seen.tokens c.args.rest.now) (seen.tokens c.in_ok-prefix.after.now) c.in_ok-prefix.prefix.now c.in_ok-prefix.value.now c.requires.words.1 c.requires.words.2 c.requires.both c.in_ok-prefix.ensures.ok
-    (λ a b. c.if-not-may_bind-2.ensures (subst (λ z. MayBind (scope_of z) c.in_ok-prefix.prefix.now c.in_ok-prefix.value.now) (sym c.deref-2.ensures.value) b)))
+    refuses_all c.unexpected-then-not-may_bind-2.result c.args.end 2000 (seen.tokens c.args.tokens.now) (seen.tokens c.args.tokens.now) (HasDeclared (scope_of c.args.scope.now) (seen.tokens c.args.tokens.now)) (0, here) c.unexpected-then-not-may_bind-2.ensures
+    (l.no_both_bind (scope_of c.args.scope.now) (seen.tokens c.args.tokens.now) c.requires.words.0 (seen.tokens c.args.rest.now) (seen.tokens c.in_ok-prefix.after.now) c.in_ok-prefix.prefix.now c.in_ok-prefix.value.now c.requires.words.1 c.requires.words.2 c.requires.both c.in_ok-prefix.ensures.ok
+    (λ a b. c.if-not-may_bind-2.ensures b))
 
 pub returns-in_err-bind-clause-no : goal.returns-in_err-bind-clause-no
 returns-in_err-bind-clause-no c =
@@ -35,6 +35,6 @@ returns-in_err-bind-2-clause-no c =
 
 pub returns-clause-ok : goal.returns-clause-ok
 returns-clause-ok c =
-    subst (λ z. DeclarationAt (scope_of c.args.scope.now.items) (seen.tokens c.args.tokens.now) z (seen.tokens c.in_ok-prefix.after.now)) (sym (c.in_ok-bind-2.ensures.ok ∙ ap (λ z. bound_to [] c.in_ok-prefix.value.now ∷ z) c.in_ok-bind.ensures.ok))
-    (l.declares_both (scope_of c.args.scope.now.items) (seen.tokens c.args.tokens.now) c.requires.words.0 (seen.tokens c.args.rest.now) (seen.tokens c.in_ok-prefix.after.now) c.in_ok-prefix.prefix.now c.in_ok-prefix.value.now c.requires.words.1 c.requires.words.2 c.in_ok-prefix.ensures.ok
-    (subst (λ z. MayBind (scope_of z) [] c.in_ok-prefix.value.now) c.deref.ensures.value c.if-not-may_bind.ensures) (subst (λ z. MayBind (scope_of z) c.in_ok-prefix.prefix.now c.in_ok-prefix.value.now) c.deref-2.ensures.value c.if-not-may_bind-2.ensures))
+    subst (λ z. DeclarationAt (scope_of c.args.scope.now) (seen.tokens c.args.tokens.now) z (seen.tokens c.in_ok-prefix.after.now)) (sym (c.in_ok-bind-2.ensures.ok ∙ ap (λ z. bound_to [] c.in_ok-prefix.value.now ∷ z) c.in_ok-bind.ensures.ok))
+    (l.declares_both (scope_of c.args.scope.now) (seen.tokens c.args.tokens.now) c.requires.words.0 (seen.tokens c.args.rest.now) (seen.tokens c.in_ok-prefix.after.now) c.in_ok-prefix.prefix.now c.in_ok-prefix.value.now c.requires.words.1 c.requires.words.2 c.in_ok-prefix.ensures.ok
+    c.if-not-may_bind.ensures c.if-not-may_bind-2.ensures)

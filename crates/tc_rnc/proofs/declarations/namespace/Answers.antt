@@ -1,5 +1,5 @@
 use Rattle.std.proofs.Common.{sym, subst}
-use Rattle.tc_model.specs.CompactSyntaxNames.{MayBind, DeclarationAt}
+use Rattle.tc_model.specs.CompactSyntaxNames.{DeclarationAt}
 use Rattle.tc_model.specs.CompactSyntaxRefused.{here}
 use Rattle.tc_rnc.specs.Schemas.{HasDeclared}
 use Rattle.tc_rnc.specs.Scopes.{scope_of}
@@ -11,13 +11,13 @@ use Rattle.tc_rnc.proofs.declarations.namespace.Goals as goal
 pub returns-in_err-prefix-clause-no : goal.returns-in_err-prefix-clause-no
 returns-in_err-prefix-clause-no c =
     raised _ c.in_err-prefix.field-0.0 _ c.from_residual.ensures.1
-    (l.no_namespace_uri c.in_err-prefix.field-0.0 c.args.end (scope_of c.args.scope.now.items) (seen.tokens c.args.tokens.now) (seen.tokens c.args.rest.now) c.requires c.in_err-prefix.ensures.no)
+    (l.no_namespace_uri c.in_err-prefix.field-0.0 c.args.end (scope_of c.args.scope.now) (seen.tokens c.args.tokens.now) (seen.tokens c.args.rest.now) c.requires c.in_err-prefix.ensures.no)
 
 pub returns-then-not-may_bind-clause-no : goal.returns-then-not-may_bind-clause-no
 returns-then-not-may_bind-clause-no c =
-    refuses_all c.unexpected.result c.args.end 2000 (seen.tokens c.args.tokens.now) (seen.tokens c.args.tokens.now) (HasDeclared (scope_of c.args.scope.now.items) (seen.tokens c.args.tokens.now)) (0, here) c.unexpected.ensures
-    (l.no_namespace_bind (scope_of c.args.scope.now.items) (seen.tokens c.args.tokens.now) (seen.tokens c.args.rest.now) (seen.tokens c.in_ok-prefix.after.now) c.in_ok-prefix.prefix.now c.in_ok-prefix.value.now c.requires c.in_ok-prefix.ensures.ok
-    (subst (λ z. MayBind (scope_of z) c.in_ok-prefix.prefix.now c.in_ok-prefix.value.now → ⊥) c.deref.ensures.value c.if-not-may_bind.ensures))
+    refuses_all c.unexpected.result c.args.end 2000 (seen.tokens c.args.tokens.now) (seen.tokens c.args.tokens.now) (HasDeclared (scope_of c.args.scope.now) (seen.tokens c.args.tokens.now)) (0, here) c.unexpected.ensures
+    (l.no_namespace_bind (scope_of c.args.scope.now) (seen.tokens c.args.tokens.now) (seen.tokens c.args.rest.now) (seen.tokens c.in_ok-prefix.after.now) c.in_ok-prefix.prefix.now c.in_ok-prefix.value.now c.requires c.in_ok-prefix.ensures.ok
+    c.if-not-may_bind.ensures)
 
 pub returns-in_err-bind-clause-no : goal.returns-in_err-bind-clause-no
 returns-in_err-bind-clause-no c =
@@ -25,6 +25,6 @@ returns-in_err-bind-clause-no c =
 
 pub returns-clause-ok : goal.returns-clause-ok
 returns-clause-ok c =
-    subst (λ z. DeclarationAt (scope_of c.args.scope.now.items) (seen.tokens c.args.tokens.now) z (seen.tokens c.in_ok-prefix.after.now)) (sym c.in_ok-bind.ensures.ok)
-    (l.declares_namespace (scope_of c.args.scope.now.items) (seen.tokens c.args.tokens.now) (seen.tokens c.args.rest.now) (seen.tokens c.in_ok-prefix.after.now) c.in_ok-prefix.prefix.now c.in_ok-prefix.value.now c.requires c.in_ok-prefix.ensures.ok
-    (subst (λ z. MayBind (scope_of z) c.in_ok-prefix.prefix.now c.in_ok-prefix.value.now) c.deref.ensures.value c.if-not-may_bind.ensures))
+    subst (λ z. DeclarationAt (scope_of c.args.scope.now) (seen.tokens c.args.tokens.now) z (seen.tokens c.in_ok-prefix.after.now)) (sym c.in_ok-bind.ensures.ok)
+    (l.declares_namespace (scope_of c.args.scope.now) (seen.tokens c.args.tokens.now) (seen.tokens c.args.rest.now) (seen.tokens c.in_ok-prefix.after.now) c.in_ok-prefix.prefix.now c.in_ok-prefix.value.now c.requires c.in_ok-prefix.ensures.ok
+    c.if-not-may_bind.ensures)

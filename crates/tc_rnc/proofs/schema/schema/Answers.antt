@@ -20,5 +20,5 @@ pub returns-clause-no : goal.returns-clause-no
 returns-clause-no c =
     map_err _ _ c.body.result
     (λ e h. subst (λ z. Refuses e c.args.end 2000 (seen.tokens c.args.tokens.now) (λ o d. HasSchema z (seen.tokens c.args.tokens.now) o d → ⊥)) c.in_ok-scope.ensures.ok
-    (l.no_body e c.args.end (scope_of c.in_ok-scope.scope.items) (scope_of c.declarations.new.scope.items) (seen.tokens c.args.tokens.now) (seen.tokens c.in_ok-rest.rest.now) c.in_ok-rest.ensures.ok
-    (subst (λ z. Refuses e c.args.end 2000 (seen.tokens c.in_ok-rest.rest.now) (λ o d. HasSchema (scope_of z) (seen.tokens c.in_ok-rest.rest.now) o d → ⊥)) c.deref.ensures.value h))) c.body.ensures.no
+    (l.no_body e c.args.end (scope_of c.in_ok-scope.scope) (scope_of c.declarations.new.scope) (seen.tokens c.args.tokens.now) (seen.tokens c.in_ok-rest.rest.now) c.in_ok-rest.ensures.ok
+    h)) c.body.ensures.no
