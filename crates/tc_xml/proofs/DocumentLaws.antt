@@ -1,13 +1,8 @@
 -- What the phrases of a document show of the whole.
-use Rattle.std.proofs.Common.{◌≡◌, ℕ, Bool, true, false, List, [], ◌∷◌, ◌++◌, ◌<◌, refl, ap, ◌∙◌, sym, subst, length, arith, MatchBool, IsUtf8}
-use Rattle.std.specs.Prelude.{encode_utf8_all}
+use Rattle.std.proofs.Common.{◌≡◌, ℕ, Bool, true, false, List, [], ◌∷◌, ◌<◌, sym, subst, length, arith}
 use Rattle.std.proofs.lemmas.Bool.Decides.{nat_tests}
-use Rattle.std.proofs.lemmas.Bool.{true≢false, and_parts, and_from}
 use Rattle.tc_model.specs.RawTrees.{RawTrees}
 use Rattle.tc_model.specs.XmlTextContent.{Piece, ElementAt}
-use Rattle.std.specs.List.{list_all}
-use Rattle.std.specs.Str.{chars}
-use Rattle.std.proofs.lemmas.Str.{encode_ascii, encodes-chars, chars_from_encodes}
 use Rattle.tc_base.specs.Characters.{is_char}
 use Rattle.tc_base.specs.declared.reasons.Why.{Why}
 use Rattle.tc_base.specs.declared.reasons.Why.TheVariants.{N1}
@@ -75,17 +70,6 @@ pub element_stands : (deep : ℕ) (text start past behind root : List ℕ) → I
     → (cause : Cause) (at : List ℕ) → ElementRefuses (length text) first_scope deep root cause at → DocumentRefuses deep text cause at
 element_stands deep text start past behind root lawful e a b c cause at k = refusals.element lawful (subst (λ w. DeclarationAt w past) e a) b c k
 
--- characters of XML are those of the text
-chars_of : (text : List ℕ) → IsUtf8 text → list_all is_char (chars text) ≡ true → IsChars text
-chars_of text u h = (chars text, encodes-chars text u, h)
-
-chars_are : (text : List ℕ) → IsUtf8 text → IsChars text → list_all is_char (chars text) ≡ true
-chars_are text u (cs, e, h) = subst (λ w. list_all is_char w ≡ true) (chars_from_encodes cs text u e) h
-
-pub are_chars_is : (r : Bool) (text : List ℕ) → IsUtf8 text → r ≡ list_all is_char (chars text) → MatchBool r (IsChars text) (IsChars text → ⊥)
-are_chars_is true text u e = chars_of text u (sym e)
-are_chars_is false text u e = λ k. true≢false (sym (chars_are text u k) ∙ sym e)
-
 pub breaks_within : (e : Stop) (P A B C : Type 0) → (P → A) → (P → B) → (P → C) → Breaks e P → RefusesWithin e A B C
 breaks_within (Malformed left) P A B C f g h k = f k
 breaks_within (Unsupported left why) P A B C f g h k = absurd k
@@ -93,19 +77,5 @@ breaks_within (TooDeep left) P A B C f g h k = absurd k
 breaks_within NoMemory P A B C f g h k = tt
 
 -- a character of XML in ASCII is one byte, which is a character of XML
-ascii_is : (b : ℕ) → is_ascii_char b ≡ true → (is_char b ≡ true) × (b < 128)
+pub ascii_is : (b : ℕ) → is_ascii_char b ≡ true → (is_char b ≡ true) × (b < 128)
 ascii_is b h = (grind (arith, nat_tests), grind (arith, nat_tests))
-
-pub ascii_are : (bs : List ℕ) → list_all is_ascii_char bs ≡ true → IsChars bs
-ascii_are bs h = (bs, encode bs h, are bs h)
-  where
-    encode : (bs : List ℕ) → list_all is_ascii_char bs ≡ true → encode_utf8_all bs ≡ bs
-    encode [] h = refl
-    encode (b ∷ bs) h =
-        let (x, y) = and_parts (is_ascii_char b) (list_all is_ascii_char bs) h in
-        ap (λ w. w ++ encode_utf8_all bs) (encode_ascii b (ascii_is b x).1) ∙ ap (λ w. b ∷ w) (encode bs y)
-
-    are : (bs : List ℕ) → list_all is_ascii_char bs ≡ true → list_all is_char bs ≡ true
-    are [] h = refl
-    are (b ∷ bs) h =
-        let (x, y) = and_parts (is_ascii_char b) (list_all is_ascii_char bs) h in and_from (is_char b) (list_all is_char bs) (ascii_is b x).0 (are bs y)

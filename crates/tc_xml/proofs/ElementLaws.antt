@@ -1,15 +1,14 @@
 -- What the steps of reading content and elements show of the whole.
-use Rattle.std.proofs.Common.{◌≡◌, ◌≢◌, ℕ, suc, ◌<◌, ◌-◌, Bool, true, false, List, [], ◌∷◌, ◌++◌, refl, ap, ◌∙◌, sym, subst, length, arith, codes}
-use Rattle.std.proofs.lemmas.List.{append_cancel_left}
+use Rattle.std.proofs.Common.{◌≡◌, ◌≢◌, ℕ, suc, ◌-◌, Bool, false, List, ◌∷◌, ◌++◌, refl, ◌∙◌, sym, subst, arith, codes}
 use Rattle.tc_base.specs.declared.reasons.Why.{Why}
 use Rattle.tc_base.specs.declared.reasons.Why.TheVariants.{N2}
 use Rattle.tc_model.specs.Names.{ExpandedName}
 use Rattle.tc_model.specs.RawTrees.{Attribute, Bound, RawTrees, none}
-use Rattle.tc_model.specs.XmlTextBytes.{after_white, place_of}
+use Rattle.tc_model.specs.XmlTextBytes.{place_of}
 use Rattle.tc_model.specs.XmlTextNames.{QualifiedName, QNameAt}
-use Rattle.tc_model.specs.XmlTextContent.{Piece, whole, piece_before, TagAt, ContentAt, at_end_tag, item, ItemAt, child, ElementAt, empty_tag, with_content}
+use Rattle.tc_model.specs.XmlTextContent.{Piece, whole, piece_before, TagAt, ContentAt, at_end_tag, item, ItemAt, ElementAt, empty_tag, with_content}
 use Rattle.tc_model.specs.XmlTextRefusals.{Cause, unsupported, too_deep, TagRefuses, OtherEntityAt, ContentRefuses, entity, past_item, ElementRefuses, tag, inside}
-use Rattle.tc_model.proofs.XmlTextPhrases.{same_first, same_others}
+use Rattle.tc_model.proofs.XmlTextPhrases.{same_others}
 use Rattle.tc_model.proofs.XmlTextUnique.{tag_unique, no_item_at_end_tag, item_unique, content_unique}
 use Rattle.tc_xml.specs.declared.content.Gathered.{Gathered}
 use Rattle.tc_xml.specs.declared.faults.Stop.{Stop}

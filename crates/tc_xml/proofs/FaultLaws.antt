@@ -1,7 +1,6 @@
 -- What a fault says, from why reading stops.
-use Rattle.std.proofs.Common.{◌≡◌, ℕ, ◌≤◌, ◌-◌, true, false, List, ap, sym, subst, length, arith, IsUtf8}
-use Rattle.tc_model.specs.Names.{IsChars}
-use Rattle.tc_model.specs.RawTrees.{RawTrees, none, IsOneElement}
+use Rattle.std.proofs.Common.{ℕ, ◌-◌, true, false, List, ap, sym, subst, length, arith, IsUtf8}
+use Rattle.tc_model.specs.RawTrees.{RawTrees, IsOneElement}
 use Rattle.tc_model.specs.XmlText.{Reads, deepest_element}
 use Rattle.tc_model.specs.XmlTextRefusals.{DocumentRefuses}
 use Rattle.tc_model.proofs.XmlTextChars.{chars_utf8}

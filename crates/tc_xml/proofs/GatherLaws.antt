@@ -1,8 +1,8 @@
 -- What runs of characters and trees add to what was gathered.
-use Rattle.std.proofs.Common.{◌≡◌, ◌≢◌, ℕ, List, [], ◌∷◌, ◌++◌, refl, ap, ◌∙◌, sym, Bor, append_assoc, append-nil, length}
+use Rattle.std.proofs.Common.{◌≡◌, ◌≢◌, ℕ, List, [], ◌∷◌, ◌++◌, refl, ap, ◌∙◌, sym, Bor, append_assoc, append-nil}
 use Rattle.tc_base.specs.declared.Place.{Place}
 use Rattle.tc_model.specs.RawTrees.{RawTrees, none, text, element, beside}
-use Rattle.tc_model.specs.Seen.{place, raw_trees, raw_before, raw_element}
+use Rattle.tc_model.specs.Seen.{place, raw_trees, raw_element}
 use Rattle.tc_model.specs.XmlTextContent.{characters_before}
 use Rattle.tc_model.specs.declared.tree.Raw.{Raw, Elem, Text}
 use Rattle.tc_model.specs.declared.tree.RawElem.{RawElem}

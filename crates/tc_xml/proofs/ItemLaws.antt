@@ -1,16 +1,18 @@
 -- Which items may stand at the front, by its first bytes.
-use Rattle.std.proofs.Common.{◌≡◌, ◌≢◌, ◌⊎◌, inl, inr, ℕ, ◌<◌, ◌≤◌, ◌+◌, Bool, true, false, cond, not, ◌||◌, ◌==◌, List, [], ◌∷◌, ◌++◌, refl, ap, ◌∙◌, sym, subst, length, take, drop, arith, codes, length-append, get_or, length-drop, ltb}
+use Rattle.std.proofs.Common.{◌≡◌, ◌≢◌, ◌⊎◌, inl, inr, ℕ, ◌<◌, ◌≤◌, ◌+◌, Bool, true, false, cond, not, ◌||◌, ◌==◌, List, [], ◌∷◌, refl, ap, ◌∙◌, sym, subst, length, take, drop, arith, codes, get_or, ltb, Option, None}
 use Rattle.std.specs.List.{prefix_len}
-use Rattle.std.proofs.lemmas.Bool.{true≢false, eqb-true, ltb-true, ltb-false}
+use Rattle.std.proofs.lemmas.Bool.{true≢false, eqb-true, ltb-true, ltb-false, false_from_ne_true}
+use Rattle.std.specs.Cmp.Lexicographic.{bytes_decides}
+use Rattle.memchr.specs.Find.{is_byte, IsFirstByte}
 use Rattle.std.proofs.lemmas.List.Sums.{prefix_len_stops, prefix_len-le-length}
 use Rattle.tc_model.specs.RawTrees.{Bound}
-use Rattle.tc_model.specs.XmlTextBytes.{begins_with, length_before, UpTo, RunAt, Lacks, line_ends, place_of}
+use Rattle.tc_model.specs.XmlTextBytes.{begins_with, length_before, UpTo, Lacks, line_ends, place_of}
 use Rattle.tc_model.specs.XmlTextReferences.{ReferenceAt, CharacterDataAt, CdataAt, is_plain}
 use Rattle.tc_model.specs.XmlTextMisc.{CommentAt, InstructionAt}
 use Rattle.tc_model.specs.XmlTextContent.{Piece, characters, ItemAt, character_data, reference, cdata, comment, instruction, child, ElementAt, empty_tag, with_content}
 use Rattle.tc_model.proofs.XmlTextPhrases.{reference_first}
 use Rattle.tc_model.proofs.XmlTextUnique.{bang, markup, kind, character_data_kind, reference_kind, cdata_kind, comment_kind, instruction_kind, child_kind}
-use Rattle.tc_scan.proofs.FrontLaws.{stands_at, found, not_found}
+use Rattle.tc_scan.proofs.FrontLaws.{stands_at, found, not_found, run_to_none}
 use Rattle.tc_xml.specs.Reading.{SmallItemAt, LacksItem}
 
 pub lacks_reference : (o : Bool) (total : ℕ) (text r : List ℕ) → text ≡ 0x26 ∷ r → ((s after : List ℕ) → ReferenceAt o text s after → ⊥) → LacksItem o total text
@@ -157,6 +159,46 @@ a_run text run after n e some f g h = record {
     back = g ∙ ap (λ m. drop m text) e;
   };
   lacks_end = lacks_mark (codes "]]>") run h;
+}
+
+-- a run in which no `]` stands
+abbrev no_bracket : ℕ → Bool
+no_bracket b = not (b == 93)
+
+abbrev head_of : List ℕ → ℕ
+head_of [] = 0
+head_of (b ∷ bs) = b
+
+not_here : (b : ℕ) (bs : List ℕ) → no_bracket b ≡ true → begins_with (codes "]]>") (b ∷ bs) ≡ false
+not_here b bs h = false_from_ne_true _ (λ e.
+    let is = (bytes_decides (codes "]]>") (take (length (codes "]]>")) (b ∷ bs))).0 e in
+    let same : 93 ≡ b = ap head_of is in
+    true≢false (sym h ∙ ap no_bracket (sym same)))
+
+lacks_without : (bs : List ℕ) → length bs ≡ prefix_len no_bracket bs → Lacks (codes "]]>") bs
+lacks_without [] e = refl
+lacks_without (b ∷ bs) e = by (no_bracket b) refl (λ f. lacks_without bs f)
+  where
+    by : (x : Bool) → no_bracket b ≡ x → (length bs ≡ prefix_len no_bracket bs → Lacks (codes "]]>") bs) → Lacks (codes "]]>") (b ∷ bs)
+    by true h later =
+        let more : prefix_len no_bracket (b ∷ bs) ≡ 1 + prefix_len no_bracket bs = ap (λ x. cond x (1 + prefix_len no_bracket bs) 0) h in
+        let rest = later (omega (arith, e, more)) in
+        ap (λ x. cond x 0 (1 + length_before (codes "]]>") bs)) (not_here b bs h) ∙ (ap (λ n. 1 + n) rest ∙ omega arith)
+    by false h later =
+        let none : prefix_len no_bracket (b ∷ bs) ≡ 0 = ap (λ x. cond x (1 + prefix_len no_bracket bs) 0) h in
+        absurd (omega (arith, e, none))
+
+pub no_bracket_lacks : (a bs : List ℕ) (r : Option ℕ) → a ≡ bs → IsFirstByte (is_byte 93) a r → r ≡ None → Lacks (codes "]]>") bs
+no_bracket_lacks a bs r e f is = lacks_without bs (run_to_none (is_byte 93) no_bracket a bs r (λ b. refl) e f is)
+
+pub a_clear_run : (text run after : List ℕ) (n : ℕ) → n ≡ prefix_len is_plain text → n ≢ 0 → run ≡ take n text → after ≡ drop n text → Lacks (codes "]]>") run → CharacterDataAt text run after
+a_clear_run text run after n e some f g h = record {
+  plain = record {
+    some = omega (arith, e, some);
+    front = f ∙ ap (λ m. take m text) e;
+    back = g ∙ ap (λ m. drop m text) e;
+  };
+  lacks_end = h;
 }
 
 pub no_run : (text : List ℕ) (n : ℕ) → n ≡ prefix_len is_plain text → n ≡ 0 → (run after : List ℕ) → CharacterDataAt text run after → ⊥

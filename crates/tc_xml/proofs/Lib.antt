@@ -11,5 +11,6 @@ pub mod ItemLaws
 pub mod ElementLaws
 pub mod RootLaws
 pub mod DocumentLaws
+pub mod CharLaws
 pub mod FaultLaws
 pub mod StripLaws

@@ -1,5 +1,5 @@
 -- Why a phrase around the root element is not at the front of a text, where one of its parts is missing.
-use Rattle.std.proofs.Common.{bytes_eq, ◌≡◌, ◌≢◌, ◌⊎◌, inl, inr, ℕ, ◌+◌, ◌<◌, Bool, true, false, not, ◌||◌, List, [], ◌∷◌, ◌++◌, refl, ap, ◌∙◌, sym, subst, length, arith, Option, None, Some, MatchOption, Result, Ok, Err, IfOk, IfErr, IsTrue, IsFalse, codes, ◌≤◌, length-append, length-drop}
+use Rattle.std.proofs.Common.{bytes_eq, ◌≡◌, ◌⊎◌, inl, inr, ℕ, ◌+◌, ◌<◌, true, false, not, List, [], ◌∷◌, ◌++◌, ap, ◌∙◌, sym, subst, length, arith, Option, None, Some, MatchOption, Result, Ok, Err, IfOk, IfErr, codes, ◌≤◌, length-append, length-drop}
 use Rattle.std.specs.Str.{str_eq_ignore_ascii_case, str_to_ascii_lowercase}
 use Rattle.std.specs.List.{prefix_len}
 use Rattle.std.specs.Cmp.Lexicographic.{bytes_decides}
@@ -13,10 +13,7 @@ use Rattle.tc_base.specs.declared.reasons.Why.{Why}
 use Rattle.tc_base.specs.declared.reasons.Why.TheVariants.{N3, N5}
 use Rattle.tc_model.specs.XmlTextRefusals.{DeclarationRefuses}
 use Rattle.tc_model.specs.XmlTextRefusals as refusals
-use Rattle.tc_xml.specs.declared.faults.Stop.{Stop}
-use Rattle.tc_xml.specs.declared.faults.Stop.TheVariants.{Malformed, Unsupported, TooDeep, NoMemory}
-use Rattle.tc_xml.specs.Refusals.{Refuses}
-use Rattle.tc_model.proofs.XmlTextPhrases.{same_first, same_others, ncname_unique, qname_unique, up_to_unique, literal_unique, equals_unique, setting_unique, encoding_unique, standalone_unique, comment_unique, instruction_unique, misc_unique, external_unique, doctype_front_unique}
+use Rattle.tc_model.proofs.XmlTextPhrases.{same_first, same_others, ncname_unique, qname_unique, up_to_unique, literal_unique, equals_unique, setting_unique, encoding_unique, standalone_unique, comment_unique, instruction_unique, doctype_front_unique}
 
 pub map_option : {X P P' : Type 0} (Q Q' : X → Type 0) (o : Option X) → (P → P') → ((x : X) → Q x → Q' x) → MatchOption o P Q → MatchOption o P' Q'
 map_option Q Q' None f g h = f h

@@ -1,10 +1,9 @@
 -- The root element alone, and what is read around it.
-use Rattle.std.proofs.Common.{◌≡◌, ◌≢◌, ℕ, Bool, true, false, List, [], ◌∷◌, refl, ap, ◌∙◌, sym, subst, Option, Some, None, slice_get, length, codes}
-use Rattle.std.proofs.lemmas.Bool.{true≢false}
-use Rattle.tc_model.specs.RawTrees.{RawTrees, none, text, element, Bound, IsOneElement}
-use Rattle.tc_model.specs.Seen.{raw_trees, raw_before, raw_element}
+use Rattle.std.proofs.Common.{◌≡◌, ℕ, Bool, List, [], ◌∷◌, refl, ap, ◌∙◌, sym, subst, Some, None, slice_get}
+use Rattle.tc_model.specs.RawTrees.{RawTrees, none, Bound, IsOneElement}
+use Rattle.tc_model.specs.Seen.{raw_trees, raw_before}
 use Rattle.tc_model.specs.XmlTextContent.{Piece, piece_before, ElementAt, empty_tag, with_content}
-use Rattle.tc_model.specs.declared.tree.Raw.{Raw, Raw-F, Elem, Text}
+use Rattle.tc_model.specs.declared.tree.Raw.{Raw, Raw-F}
 use Rattle.tc_model.specs.declared.tree.RawElem.{RawElem}
 use Rattle.tc_model.specs.declared.tree.Raw.TheOpen as parts
 use Rattle.tc_model.specs.declared.tree.Raw.TheVariants.{rolls-Elem, rolls-Text}

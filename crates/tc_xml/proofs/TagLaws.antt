@@ -1,5 +1,5 @@
 -- What start tags mean, part by part.
-use Rattle.std.proofs.Common.{◌≡◌, ℕ, ◌+◌, ◌<◌, Bool, true, false, cond, List, [], ◌∷◌, ◌++◌, refl, ap, ◌∙◌, sym, subst, map, length, take, drop, get_or, Option, None, Some, MatchBool, take-append-drop}
+use Rattle.std.proofs.Common.{◌≡◌, ℕ, ◌+◌, ◌<◌, Bool, true, false, List, [], ◌∷◌, ◌++◌, refl, ap, ◌∙◌, sym, subst, map, length, take, drop, get_or, Option, None, Some, MatchBool, take-append-drop}
 use Rattle.std.specs.List.{IsDistinct, AllByRecursion}
 use Rattle.std.specs.Option.{option_map, option_to_list}
 use Rattle.std.specs.Prelude.{Result, Ok, Err}
@@ -11,7 +11,7 @@ use Rattle.tc_model.specs.RawTrees.{Attribute, Bound}
 use Rattle.tc_model.specs.Seen.{attribute}
 use Rattle.tc_model.specs.declared.tree.RawAttr.{RawAttr}
 use Rattle.tc_model.specs.XmlTextNames.{QualifiedName, same_written}
-use Rattle.tc_model.specs.XmlTextScopes.{WrittenAttribute, is_empty, is_declaration, binding_of, bound_in, uri_of, scope_within, IsLawfulBinding, Expands, no_more, declaration, plain, prefixed, ElementName, bound, unbound, TagMeans}
+use Rattle.tc_model.specs.XmlTextScopes.{WrittenAttribute, is_empty, is_declaration, binding_of, uri_of, scope_within, IsLawfulBinding, Expands, no_more, declaration, plain, prefixed, ElementName, bound, unbound, TagMeans}
 use Rattle.tc_xml.specs.Bounds.{bound_to}
 use Rattle.tc_xml.specs.Pairs.{Pair, same_pair}
 use Rattle.tc_xml.specs.Tags.{written, Breaks}

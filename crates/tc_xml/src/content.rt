@@ -1,5 +1,5 @@
 // Elements and their content (XML 1.0, 3 and 3.1).
-ghost use Rattle.std.specs.Prelude.{◌≡◌, ◌<◌, ◌≤◌, ◌∷◌, ◌++◌, ℕ, List, true, false, map, IfOk, IfErr, OnOk, IsTrue, MatchBool, MatchOption, encode_utf8, codes, string_bytes};
+ghost use Rattle.std.specs.Prelude.{◌≡◌, ◌<◌, ◌≤◌, ◌∷◌, ◌++◌, [], ℕ, List, true, false, map, IfOk, IfErr, OnOk, IsTrue, MatchBool, MatchOption, encode_utf8, codes, string_bytes};
 ghost use Rattle.tc_base.specs.declared.reasons.Why.TheVariants.{N2};
 ghost use Rattle.tc_model.specs.Names.{ExpandedName};
 ghost use Rattle.tc_model.specs.RawTrees.{RawTrees, Attribute, Bound, none};
@@ -25,6 +25,7 @@ use crate::scopes::Scope;
 use crate::tags::{Meaning, Written, first_scope, meaning_of};
 use bumpalo::Bump;
 use bumpalo::collections::{into_bump_slice, into_bump_str};
+use memchr::memchr;
 use std::mem;
 use tc_base::{NoMemory, Place, Why};
 use tc_model::{Raw, RawElem};
@@ -239,6 +240,17 @@ fn gather_character(
     Ok(())
 }
 
+/// One more tree. The first takes room for itself alone, since most elements hold one tree.
+fn push_tree<'b>(trees: &mut Vec<Raw<'b>, &'b Bump>, tree: Raw<'b>) -> Result<(), NoMemory>
+    ensures { OnOk result (trees.new.items ≡ trees.old.items ++ tree.entry ∷ []) }
+{
+    if trees.is_empty() {
+        trees.reserve_exact(1)?;
+    }
+    trees.push(tree)?;
+    Ok(())
+}
+
 /// Ends the run, which makes a text unless it is empty.
 #[inline(never)]
 fn end_run(gathered: &mut Gathered<'_>) -> Result<(), NoMemory>
@@ -248,7 +260,7 @@ fn end_run(gathered: &mut Gathered<'_>) -> Result<(), NoMemory>
     if let Run::Begun(text, place) = mem::replace(&mut gathered.run, Run::Nothing) {
         let text = into_bump_str(text);
         if !text.is_empty() {
-            gathered.trees.push(Raw::Text(text, place))?;
+            push_tree(&mut gathered.trees, Raw::Text(text, place))?;
         }
     }
     Ok(())
@@ -276,13 +288,14 @@ fn gather_element<'b>(
 {
     let kids = all_gathered(kids)?;
     end_run(gathered)?;
-    gathered.trees.push(Raw::Elem(RawElem {
+    let element = RawElem {
         name: tag.meaning.name,
         attrs: tag.meaning.attrs,
         scope: tag.meaning.scope.bindings,
         place: first,
         kids,
-    }))?;
+    };
+    push_tree(&mut gathered.trees, Raw::Elem(element))?;
     Ok(())
 }
 
@@ -307,6 +320,16 @@ fn characters<'t>(gathered: &mut Gathered<'_>, total: usize, text: &'t str) -> R
     Ok(rest)
 }
 
+/// Whether no `]` stands here, and so no `]]>`.
+fn lacks_bracket(run: &str) -> bool
+    ensures { IsTrue result → bytes.Lacks (codes "]]>") run.now }
+{
+    match memchr(b']', run.as_bytes()) {
+        Some(_) => false,
+        None => true,
+    }
+}
+
 /// The character data at the front, and what follows it (XML 1.0, 2.4).
 fn character_data(text: &str) -> Option<(&str, &str)>
     ensures { MatchOption result
@@ -318,6 +341,9 @@ fn character_data(text: &str) -> Option<(&str, &str)>
         return None;
     }
     let (run, rest) = text.split_at(count);
+    if lacks_bracket(run) {
+        return Some((run, rest));
+    }
     match up_to(run, "]]>") {
         Some(_) => None,
         None => Some((run, rest)),

@@ -1,5 +1,6 @@
 // A whole document (XML 1.0, 2.1 and 2.8).
-ghost use Rattle.std.specs.Prelude.{◌≡◌, ◌≤◌, ℕ, true, false, length, IfOk, IfErr, IsTrue, MatchBool};
+ghost use Rattle.std.specs.Prelude.{◌≡◌, ◌≢◌, ◌<◌, ◌≤◌, ℕ, [], true, false, length, IfOk, IfErr, MatchBool, MatchOption};
+ghost use Rattle.std.specs.List.{prefix_len};
 ghost use Rattle.tc_model.specs.Names.{IsChars};
 ghost use Rattle.tc_model.specs.RawTrees.{RawTrees};
 ghost use Rattle.tc_model.specs.Seen.{raw_tree};
@@ -26,26 +27,53 @@ fn is_ascii_char(byte: u8) -> bool
     matches!(byte, b'\t' | b'\n' | b'\r' | 0x20..=0x7F)
 }
 
-/// Whether the text has characters of XML in ASCII alone, as most have.
-fn are_ascii_chars(text: &str) -> bool
-    ensures { IsTrue result → IsChars text.now }
+/// How many characters of XML in ASCII the text begins with.
+fn ascii_len(text: &str) -> usize
+    ensures count { result ≡ prefix_len ascii.is_ascii_char text.now }
+    ensures within { result ≤ length text.now }
 {
+    let mut count = 0;
     for byte in text.as_bytes() {
         if !is_ascii_char(*byte) {
-            return false;
+            return count;
         }
+        count += 1;
     }
-    true
+    count
 }
 
-/// Whether the text has characters of XML alone (XML 1.0, 2.2).
+/// What follows the characters of XML in ASCII at the front.
+fn after_ascii(text: &str) -> &str
+    ensures same { ascii.SameChars text.now result.now }
+    ensures within { length result.now ≤ length text.now }
+{
+    let count = ascii_len(text);
+    &text[count..]
+}
+
+/// What follows the character of XML at the front (XML 1.0, 2.2, [2]).
+fn after_char(text: &str) -> Option<&str>
+    ensures { MatchOption result (text.now ≢ [] → IsChars text.now → ⊥) (λ rest. ascii.SameChars text.now rest.now × (length rest.now < length text.now)) }
+{
+    let first = text.chars().next()?;
+    if !is_char(first) {
+        return None;
+    }
+    Some(&text[first.len_utf8()..])
+}
+
+/// Whether the text has characters of XML alone (XML 1.0, 2.2). Most are in ASCII.
 fn are_chars(text: &str) -> bool
     ensures { MatchBool result (IsChars text.now) (IsChars text.now → ⊥) }
 {
-    if are_ascii_chars(text) {
-        return true;
+    let mut rest = after_ascii(text);
+    while !rest.is_empty() {
+        let Some(after) = after_char(rest) else {
+            return false;
+        };
+        rest = after_ascii(after);
     }
-    text.chars().all(|c| is_char(c))
+    true
 }
 
 /// How many bytes are left where a character stands that XML doesn't have, or none.

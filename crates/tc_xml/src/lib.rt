@@ -26,7 +26,7 @@ use bumpalo::Bump;
 use document::document;
 pub use faults::XmlFault;
 use faults::place_of;
-use std::str;
+use simdutf8::compat::from_utf8;
 pub use stripping::strip;
 use tc_model::Raw;
 
@@ -47,7 +47,7 @@ pub fn read_raw<'b>(arena: &'b Bump, text: &[u8]) -> Result<Raw<'b>, XmlFault>
     ensures document { IfOk result (λ r. IsDocument (stripped (raw_tree r))) }
     ensures refused { IfErr result (IsFaultOf text.now) }
 {
-    match str::from_utf8(text) {
+    match from_utf8(text) {
         Ok(characters) => match document(arena, characters) {
             Ok(tree) => Ok(tree),
             Err(stop) => Err(stop.fault(text.len())),

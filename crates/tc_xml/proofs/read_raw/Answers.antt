@@ -1,4 +1,4 @@
-use Rattle.std.proofs.Common.{◌≡◌, ℕ, List, ◌≤◌, sym, subst, length, arith}
+use Rattle.std.proofs.Common.{◌≡◌, sym, subst, length, arith}
 use Rattle.std.proofs.lemmas.Str.{utf8_valid_len_le}
 use Rattle.tc_model.specs.Seen.{raw_tree}
 use Rattle.tc_model.specs.XmlTextLaws.{AreLawfulWithin}

@@ -1,4 +1,3 @@
-use Rattle.std.proofs.Common.{ap, ◌∙◌, sym, subst}
 use Rattle.tc_model.specs.RawTrees.{none}
 use Rattle.tc_xml.proofs.GatherLaws.{gathered_alone}
 use Rattle.tc_xml.proofs.content.all_gathered.Goals as goal

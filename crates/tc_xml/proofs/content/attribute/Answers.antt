@@ -1,7 +1,6 @@
-use Rattle.std.proofs.Common.{ap, ◌∙◌, sym, subst, ◌≡◌, true, false, List, ℕ}
-use Rattle.tc_base.specs.declared.reasons.Why.TheVariants.{N2}
+use Rattle.std.proofs.Common.{true, false, List, ℕ}
 use Rattle.tc_model.specs.XmlTextScopes.{WrittenAttribute}
-use Rattle.tc_model.specs.XmlTextRefusals.{QuotedRefuses, AttributesRefuse}
+use Rattle.tc_model.specs.XmlTextRefusals.{AttributesRefuse}
 use Rattle.tc_scan.specs.Seen.{written_name}
 use Rattle.tc_xml.specs.Refusals.{Refuses, UnsupportedAt}
 use Rattle.tc_xml.specs.Reading.{AttributeAt}

@@ -1,4 +1,4 @@
-use Rattle.std.proofs.Common.{◌≡◌, List, ℕ, true, false, sym, map, IsTrue, ◌++◌, ◌∷◌, [], subst, length, ap, ◌∙◌, rules}
+use Rattle.std.proofs.Common.{List, ℕ, true, false, sym, map, IsTrue, ◌∷◌, [], subst, ap, ◌∙◌, rules}
 use Rattle.std.proofs.lemmas.List.{map-append}
 use Rattle.tc_model.specs.XmlTextScopes.{WrittenAttribute}
 use Rattle.tc_model.specs.XmlTextContent.{AttributesAt, EndsTag}
@@ -6,7 +6,7 @@ use Rattle.tc_model.specs.XmlTextBytes.{after_white}
 use Rattle.tc_model.specs.XmlTextRefusals.{AttributesRefuse}
 use Rattle.tc_xml.specs.Refusals.{Refuses, UnsupportedAt}
 use Rattle.tc_xml.specs.Tags.{written, lacks_space}
-use Rattle.tc_xml.proofs.ContentLaws.{attributes_begin, attributes_more, no_attributes, all_attributes, attribute_within, failed, refuse_both, unsupported_map, Attributes}
+use Rattle.tc_xml.proofs.ContentLaws.{attributes_more, no_attributes, all_attributes, attribute_within, failed, refuse_both, unsupported_map, Attributes}
 use Rattle.tc_xml.proofs.content.attributes.Goals as goal
 
 pub returns-in_err-written-clause-no : goal.returns-in_err-written-clause-no

@@ -1,4 +1,4 @@
-use Rattle.std.proofs.Common.{List, ℕ, length, map, IsUtf8}
+use Rattle.std.proofs.Common.{length, map, IsUtf8}
 use Rattle.tc_xml.proofs.ContentLaws.{Attributes}
 use Rattle.tc_xml.specs.Tags.{written}
 use Rattle.tc_xml.proofs.content.attributes.Given as goal

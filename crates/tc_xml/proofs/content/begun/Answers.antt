@@ -1,5 +1,4 @@
-use Rattle.std.proofs.Common.{sym, subst, string_bytes, ◌≡◌, ℕ, List, ◌++◌}
-use Rattle.tc_model.specs.RawTrees.{RawTrees}
+use Rattle.std.proofs.Common.{sym, subst, string_bytes, ◌≡◌, ◌++◌}
 use Rattle.tc_model.specs.Seen.{place}
 use Rattle.tc_model.specs.XmlTextContent.{characters_before}
 use Rattle.tc_xml.specs.declared.content.Run.{Run}

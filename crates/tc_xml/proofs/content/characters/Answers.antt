@@ -1,10 +1,8 @@
-use Rattle.std.proofs.Common.{ap, ◌∙◌, sym, subst, ◌≡◌, true, false, refl, List, ℕ, encode_utf8, ◌∷◌}
-use Rattle.tc_base.specs.declared.reasons.Why.TheVariants.{N2}
+use Rattle.std.proofs.Common.{true, false, encode_utf8}
 use Rattle.tc_model.specs.Seen.{place}
 use Rattle.tc_model.specs.XmlTextBytes.{line_ends}
 use Rattle.tc_model.specs.XmlTextContent.{characters}
-use Rattle.tc_model.specs.XmlTextRefusals.{OtherEntityAt}
-use Rattle.tc_xml.specs.Refusals.{Refuses, UnsupportedAt}
+use Rattle.tc_xml.specs.Refusals.{Refuses}
 use Rattle.tc_xml.specs.Reading.{LacksItem}
 use Rattle.tc_xml.proofs.ContentLaws.{failed, refuse_both}
 use Rattle.tc_xml.proofs.ItemLaws.{lacks_reference, lacks_characters, reference_item, data_item}

@@ -2,9 +2,6 @@ use Rattle.std.proofs.Common.{refl, true}
 use Rattle.tc_model.specs.Seen.{place}
 use Rattle.tc_model.specs.XmlTextBytes.{line_ends}
 use Rattle.tc_model.specs.XmlTextContent.{nothing, characters, comment}
-use Rattle.tc_xml.specs.Tags.{Breaks}
-use Rattle.tc_xml.specs.Reading.{LacksItem}
-use Rattle.tc_xml.proofs.ContentLaws.{failed}
 use Rattle.tc_xml.proofs.ItemLaws.{lacks_bang, cdata_item}
 use Rattle.tc_xml.proofs.content.comment_or_cdata.Goals as goal
 

@@ -1,4 +1,4 @@
-use Rattle.std.proofs.Common.{◌≡◌, List, ℕ, true, false, sym, map, subst, ap, ◌∙◌}
+use Rattle.std.proofs.Common.{List, ℕ, true, false, sym, map, subst}
 use Rattle.tc_model.specs.Names.{ExpandedName}
 use Rattle.tc_model.specs.RawTrees.{Attribute, Bound}
 use Rattle.tc_model.specs.XmlTextNames.{QualifiedName}

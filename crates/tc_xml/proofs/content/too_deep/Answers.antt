@@ -1,4 +1,4 @@
-use Rattle.std.proofs.Common.{true, ap, ◌∙◌, sym, subst}
+use Rattle.std.proofs.Common.{true}
 use Rattle.tc_xml.proofs.ContentLaws.{none_so_deep, depth_stands}
 use Rattle.tc_xml.proofs.content.too_deep.Goals as goal
 

@@ -1,4 +1,4 @@
-use Rattle.std.proofs.Common.{◌≡◌, ℕ, true, false, List, [], sym, ap, ◌∙◌, ◌==◌, length}
+use Rattle.std.proofs.Common.{◌≡◌, ℕ, true, false, [], sym, ap, ◌∙◌, ◌==◌, length}
 use Rattle.std.proofs.lemmas.Bool.{true≢false}
 use Rattle.tc_model.specs.RawTrees.{RawTrees}
 use Rattle.tc_model.specs.XmlText as xml

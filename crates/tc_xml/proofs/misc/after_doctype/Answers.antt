@@ -1,4 +1,4 @@
-use Rattle.std.proofs.Common.{sym, subst, ◌∷◌, List, ℕ}
+use Rattle.std.proofs.Common.{sym, subst, List, ℕ}
 use Rattle.tc_model.specs.XmlTextMisc.{no_doctype, doctype, DoctypeFrontAt, DoctypeAt}
 use Rattle.tc_xml.specs.Refusals.{Refuses}
 use Rattle.tc_xml.proofs.ContentLaws.{broken}

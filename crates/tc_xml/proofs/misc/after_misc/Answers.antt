@@ -1,4 +1,4 @@
-use Rattle.std.proofs.Common.{◌≡◌, sym, subst, List, ℕ, ◌⊎◌, rules}
+use Rattle.std.proofs.Common.{sym, subst, ◌⊎◌, rules}
 use Rattle.tc_model.specs.XmlTextBytes.{after_white}
 use Rattle.tc_model.specs.XmlTextMisc.{MiscAt, CommentAt, InstructionAt}
 use Rattle.tc_xml.proofs.MiscLaws.{misc_more, misc_less, misc_shorter, misc_done, at_some, at_nothing}

@@ -1,4 +1,4 @@
-use Rattle.std.proofs.Common.{ap, ◌∙◌, arith, refl}
+use Rattle.std.proofs.Common.{refl}
 use Rattle.std.proofs.lemmas.List.{at_drop_all}
 use Rattle.tc_model.specs.Seen.{raw_trees}
 use Rattle.tc_model.specs.Stripped.{bare}
