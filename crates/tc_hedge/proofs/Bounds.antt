@@ -1,5 +1,5 @@
 -- Bounds that hold of the automaton of any schema.
-use Rattle.std.proofs.Common.{◌≡◌, ◌<◌, ◌≤◌, ◌↔◌, ℕ, zero, suc, ◌+◌, List, length, map, get_or, Some, All, refl, sym, ap, ◌∙◌, subst, arith}
+use Rattle.std.proofs.Common.{◌≡◌, ◌<◌, ◌≤◌, ◌↔◌, ℕ, zero, suc, List, length, get_or, All, sym, ap, ◌∙◌, arith}
 use Rattle.std.proofs.Math.Logic.{∥∥₁_elim}
 use Rattle.std.proofs.Math.Bridge.{le_prop}
 use Rattle.std.proofs.lemmas.List.{length-map}
@@ -7,7 +7,7 @@ use Rattle.std.specs.List.{Contains}
 use Rattle.std.proofs.lemmas.List.Elements.{Contains-get_or}
 use Rattle.tc_model.specs.Seen as see
 use Rattle.tc_model.specs.Grammars as g
-use Rattle.tc_model.specs.States.{Side, first_state, state_count, IsEdge, IsAccepting}
+use Rattle.tc_model.specs.States.{Side, first_state, state_count, IsEdge}
 use Rattle.tc_model.proofs.StatesParts.{first_within, edge_within}
 use Rattle.tc_auto.specs.Stands as held
 use Rattle.tc_auto.specs.Steps.{leaf}

@@ -1,5 +1,5 @@
 -- Loops that gather numbers.
-use Rattle.std.proofs.Common.{◌≡◌, ◌<◌, ◌≤◌, ◌↔◌, ◌⊎◌, inl, inr, ℕ, suc, ◌+◌, List, [], ◌∷◌, ◌++◌, length, take, get_or, Result, Ok, Err, IfOk, refl, sym, ap, ◌∙◌, subst, arith, add-one}
+use Rattle.std.proofs.Common.{◌≡◌, ◌<◌, ◌≤◌, ◌⊎◌, inl, inr, ℕ, ◌+◌, List, [], ◌∷◌, ◌++◌, length, take, get_or, Result, Ok, Err, IfOk, OnOk, refl, sym, ap, ◌∙◌, subst, arith, add-one}
 use Rattle.std.specs.List.{Contains}
 use Rattle.std.proofs.lemmas.List.Elements.{Contains-push, Contains-push_cases, Contains-append_left}
 use Rattle.std.proofs.Math.Seq.{take-suc}
@@ -105,3 +105,8 @@ made_from_none start new H empty grows j = (λ c. by ((grows j).0 c), λ h. (gro
 pub for_ok : {X E : Type 0} {P R : X → Type 0} (r : Result X E) → IfOk r P → ((x : X) → P x → R x) → IfOk r R
 for_ok (Ok x) p f = f x p
 for_ok (Err e) p f = tt
+
+-- what follows from two facts of a value that was made
+pub for_both : {X E G : Type 0} {P R : X → Type 0} (r : Result X E) → OnOk r G → IfOk r P → ((x : X) → G → P x → R x) → IfOk r R
+for_both (Ok x) g p f = f x g p
+for_both (Err e) g p f = tt

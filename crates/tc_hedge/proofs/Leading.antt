@@ -1,14 +1,14 @@
 -- What trees lead, and the laws of it.
-use Rattle.std.proofs.Common.{◌≡◌, ◌<◌, ◌≤◌, ◌↔◌, ◌⊎◌, inl, inr, ℕ, ◌+◌, List, Bool, true, false, cond, IsTrue, Some, refl, sym, ap, ◌∙◌, subst, arith}
-use Rattle.tc_mat.specs.Matrix.{Matrix, HasPair, IsComposition}
+use Rattle.std.proofs.Common.{◌≡◌, ◌<◌, ◌⊎◌, inl, inr, ℕ, ◌+◌, List, Bool, true, false, cond, Some, refl, sym, subst, arith}
+use Rattle.tc_mat.specs.Matrix.{Matrix, HasPair}
 use Rattle.tc_model.specs.Names.{ExpandedName}
 use Rattle.tc_model.specs.Trees.{Trees, none, text, element, beside, is_all_white, kept, normal_form}
 use Rattle.tc_model.specs.Grammars.{Grammar, Pattern, ElementPattern, element_at, InClass}
 use Rattle.tc_model.specs.Matching.{Matches}
-use Rattle.tc_model.specs.States.{Leaf, text_leaf, ref_leaf, Run, stay, step, front_text, front_element, IsElementOf, automaton, Side, output, IsPart, the_start, a_content, first_state, state_count, IsEdge, IsAccepting, Leads, at_end, past_white, by_text, by_element}
+use Rattle.tc_model.specs.States.{text_leaf, ref_leaf, Run, stay, step, front_text, front_element, IsElementOf, automaton, Side, output, IsPart, the_start, a_content, first_state, state_count, IsEdge, Leads, at_end, past_white, by_text, by_element}
 use Rattle.tc_model.proofs.StatesExact.{sound}
 use Rattle.tc_model.proofs.StatesParts.{edge_of_part, accepting_of_part, accepted_matches, matching_accepted, edge_within, next_first, first_within}
-use Rattle.tc_hedge.specs.Leading.{ArePairsOf, ArePairsAround, IsTaken, LeadsExactly, OutputsLeadExactly, PairsCompose, PairsSurround}
+use Rattle.tc_hedge.specs.Leading.{ArePairsOf, IsTaken, LeadsExactly, OutputsLeadExactly, PairsCompose, PairsSurround}
 use Rattle.tc_hedge.proofs.Thinning.{trimmed, thin_matches, to_normal, of_normal}
 
 true_or_false : (b : Bool) → (b ≡ true) ⊎ (b ≡ false)

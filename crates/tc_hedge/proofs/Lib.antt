@@ -1,4 +1,5 @@
 pub mod Settled
+pub mod Plain
 pub mod Gathers
 pub mod SetSteps
 pub mod SetsRuns
@@ -8,3 +9,5 @@ pub mod Bounds
 pub mod TableRows
 pub mod Puts
 pub mod Sides
+pub mod Remembered
+pub mod Passed

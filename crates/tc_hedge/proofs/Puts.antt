@@ -1,5 +1,5 @@
 -- Pairs put edge by edge and state by state.
-use Rattle.std.proofs.Common.{◌≡◌, ◌<◌, ◌≤◌, ◌↔◌, ◌⊎◌, inl, inr, ℕ, zero, suc, ◌+◌, ◌-◌, List, [], ◌∷◌, ◌++◌, length, take, get_or, Bool, true, false, IsTrue, Some, slice_get, refl, sym, ap, ◌∙◌, subst, arith, add-one}
+use Rattle.std.proofs.Common.{◌≡◌, ◌<◌, ◌≤◌, ◌↔◌, ◌⊎◌, inl, inr, ℕ, zero, suc, ◌+◌, ◌-◌, List, [], ◌∷◌, ◌++◌, length, take, get_or, Bool, true, IsTrue, Some, slice_get, refl, sym, ap, ◌∙◌, subst, arith, add-one}
 use Rattle.std.specs.List.{Contains}
 use Rattle.std.proofs.lemmas.Option.{slice_get_within}
 use Rattle.std.proofs.lemmas.List.Elements.{Contains-push, Contains-push_cases, Contains-append_left}
@@ -7,7 +7,7 @@ use Rattle.std.proofs.Math.Seq.{take-suc}
 use Rattle.std.proofs.lemmas.List.{take_all}
 use Rattle.std.proofs.lemmas.Bool.{cases_lt}
 use Rattle.tc_mat.specs.Matrix.{Matrix, HasPair, HasNone, Gains}
-use Rattle.tc_model.specs.Grammars.{Grammar, Pattern, ElementPattern, element_at}
+use Rattle.tc_model.specs.Grammars.{Grammar, ElementPattern, element_at}
 use Rattle.tc_model.specs.States as s
 use Rattle.tc_model.specs.States.{Side, automaton, IsPart, a_content, first_state, state_count, IsEdge, IsAccepting}
 use Rattle.tc_model.proofs.StatesExact.{sound}

@@ -1,5 +1,5 @@
 -- What loops over edges, states and numbers gather.
-use Rattle.std.proofs.Common.{◌≡◌, ◌<◌, ◌≤◌, ◌↔◌, ◌⊎◌, inl, inr, ℕ, zero, suc, ◌+◌, List, [], ◌∷◌, ◌++◌, length, take, get_or, Bool, true, Some, refl, sym, ap, ◌∙◌, subst, arith}
+use Rattle.std.proofs.Common.{◌≡◌, ◌<◌, ◌≤◌, ◌↔◌, ◌⊎◌, inl, inr, ℕ, suc, ◌+◌, List, [], ◌∷◌, ◌++◌, length, take, get_or, Bool, true, Some, refl, sym, ap, ◌∙◌, subst, arith}
 use Rattle.std.proofs.Math.Logic.{∥∥₁_elim}
 use Rattle.std.proofs.Math.Bridge.{le_prop}
 use Rattle.std.specs.List.{Contains}
@@ -7,7 +7,7 @@ use Rattle.std.proofs.lemmas.List.{take_all}
 use Rattle.std.proofs.lemmas.List.Elements.{Contains-push, Contains-push_cases, Contains-append_left, Contains-get_or}
 use Rattle.std.proofs.lemmas.Bool.{cases_lt}
 use Rattle.tc_model.specs.Names.{ExpandedName}
-use Rattle.tc_model.specs.Grammars.{Grammar, ElementPattern, element_at, in_class, InClass}
+use Rattle.tc_model.specs.Grammars.{Grammar, ElementPattern, element_at, in_class}
 use Rattle.tc_model.specs.States as s
 use Rattle.tc_model.specs.States.{Side, text_leaf, ref_leaf, a_content, first_state, state_count, IsEdge, IsAccepting}
 use Rattle.tc_auto.specs.Stands as held
@@ -17,12 +17,12 @@ use Rattle.tc_auto.specs.declared.auto.Edge.{Edge}
 use Rattle.tc_auto.specs.declared.auto.Leaf as leaves
 use Rattle.tc_auto.specs.declared.auto.Leaf.TheVariants.{Text, Ref}
 use Rattle.tc_hedge.specs.Items.{IsOfSomeSchema}
-use Rattle.tc_hedge.specs.Sets.{AreBelow, AreNumbers, Grows, IsMade, IsNamed, IsReached, Leaves, Makes, Passes, Steps}
+use Rattle.tc_hedge.specs.Sets.{Grows, IsMade, IsNamed, Leaves, Makes, Passes, Steps}
 use Rattle.tc_hedge.specs.declared.passages.Passage.{Passage}
-use Rattle.tc_hedge.proofs.Bounds.{patterns_of, states_of}
+use Rattle.tc_hedge.proofs.Bounds.{states_of}
 use Rattle.tc_hedge.proofs.Leading.{first_below}
 use Rattle.tc_hedge.proofs.Puts.{code_leaf, some_pattern}
-use Rattle.tc_hedge.proofs.Gathers.{contains_none, take_more, gather, gather_first, gather_last, grows_none, grows_as, grows_push, made_from_none}
+use Rattle.tc_hedge.proofs.Gathers.{contains_none, take_more, gather, gather_last, grows_none, grows_as, grows_push, made_from_none}
 
 -- what holds of all members holds of one more
 pub all_grown : (P : ℕ → Type 0) (old new : List ℕ) (n : ℕ) → ((j : ℕ) → Contains old j → P j) → Grows old new (λ j. j ≡ n) → P n → (j : ℕ) → Contains new j → P j

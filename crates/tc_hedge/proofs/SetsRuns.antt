@@ -1,5 +1,5 @@
 -- Runs of trees by sets of states, and validity by the alternatives of a start.
-use Rattle.std.proofs.Common.{◌≡◌, ◌<◌, ◌≤◌, ◌↔◌, ◌⊎◌, inl, inr, ℕ, zero, suc, ◌+◌, List, [], ◌∷◌, ◌++◌, length, take, get_or, Bool, true, false, ◌||◌, ◌==◌, IsTrue, Some, slice_get, not, eq-eqb, refl, sym, ap, ◌∙◌, subst, arith, add-one}
+use Rattle.std.proofs.Common.{◌≡◌, ◌<◌, ◌≤◌, ◌↔◌, ◌⊎◌, inl, inr, ℕ, zero, suc, ◌+◌, List, [], ◌∷◌, ◌++◌, length, take, get_or, Bool, true, false, ◌||◌, ◌==◌, IsTrue, Some, not, eq-eqb, refl, sym, ap, ◌∙◌, subst, arith, add-one}
 use Rattle.std.proofs.Math.Seq.{take-suc}
 use Rattle.std.proofs.lemmas.List.{take_all, nil_from_length}
 use Rattle.std.proofs.lemmas.Bool.{cases_lt, eqb-true, true≢false}
@@ -22,9 +22,8 @@ use Rattle.tc_model.proofs.StatesParts.{part_before, next_first, accepted_matche
 use Rattle.tc_auto.specs.Stands as held
 use Rattle.tc_auto.specs.declared.auto.Auto.{Auto}
 use Rattle.tc_model.specs.SimplifiesLaws.{IsStart, AreStarts}
-use Rattle.tc_hedge.specs.Sets.{AreBelow, AreNumbers, IsMade, IsMatched, IsNamed, IsReached, Leaves, Makes, Passes, Runs, Steps}
-use Rattle.tc_hedge.specs.declared.passages.Passage.{Passage}
-use Rattle.tc_hedge.specs.declared.passages.Passage.TheVariants.{Text, Element}
+use Rattle.tc_hedge.specs.Sets.{AreNumbers, IsMade, IsMatched, IsNamed, IsReached, Leaves, Makes, Runs, Steps}
+use Rattle.tc_hedge.specs.declared.passages.Passage.TheVariants.{Text}
 use Rattle.tc_hedge.proofs.Leading.{run_of_none, run_of_text, run_of_element, stays}
 use Rattle.tc_hedge.proofs.Gathers.{contains_none}
 use Rattle.tc_hedge.proofs.Puts.{some_pattern}
@@ -61,11 +60,11 @@ one_pattern : (g : Grammar) (k : ℕ) (d e : ElementPattern) → element_at g.el
 one_pattern g k d e a b = cc
 
 -- a step over an element, by the element patterns that take it
-pub element_stepped : (g : Grammar) (side : Side) (n : ExpandedName) (c : Trees) (states left named taken next : List ℕ)
-    → IsMade left (Makes (Leaves g side) states) → IsMade named (λ k. Contains left k × IsNamed g n k) → IsMade taken (λ k. Contains named k × IsMatched g c k)
+pub element_stepped : (g : Grammar) (side : Side) (n : ExpandedName) (c : Trees) (states named taken next : List ℕ)
+    → IsMade named (λ k. Makes (Leaves g side) states k × IsNamed g n k) → IsMade taken (λ k. Contains named k × IsMatched g c k)
     → IsMade next (λ j. Makes (λ i m. (l : s.Leaf) × ((k : ℕ) × (l ≡ ref_leaf k) × Contains taken k) × IsEdge g side i l m) states j)
     → IsMade next (Makes (Runs g side (element n c none)) states)
-element_stepped g side n c states left named taken next l m t made j = (λ x. to ((made j).0 x), λ x. (made j).1 (of x))
+element_stepped g side n c states named taken next m t made j = (λ x. to ((made j).0 x), λ x. (made j).1 (of x))
   where
     is_element : (k : ℕ) → Contains taken k → IsElementOf g.elements k n c
     is_element k x =
@@ -81,8 +80,7 @@ element_stepped g side n c states left named taken next l m t made j = (λ x. to
     of (i, among, r) =
         let (x, k, (e, at, inside, matches), edge, rest) = run_of_element g side refl r in
         let ends = run_of_none g side refl rest in
-        let in_left = (l k).1 (i, among, (x, edge)) in
-        let in_named = (m k).1 (in_left, (e, at, inside)) in
+        let in_named = (m k).1 ((i, among, (x, edge)), (e, at, inside)) in
         (i, among, (ref_leaf k, (k, refl, (t k).1 (in_named, (e, at, matches))), subst (λ w. IsEdge g side i (ref_leaf k) w) ends edge))
 
 -- no tree yet

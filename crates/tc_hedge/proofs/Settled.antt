@@ -1,12 +1,12 @@
 -- Lawful trees in normal form are those that are settled.
-use Rattle.std.proofs.Common.{◌≡◌, ◌≢◌, ◌↔◌, ◌⊎◌, inl, inr, ℕ, Bor, List, [], ◌∷◌, ◌++◌, Bool, true, false, cond, ◌&&◌, IsTrue, refl, sym, ap, ◌∙◌, subst, arith, length, length-append, IsUtf8, chars}
+use Rattle.std.proofs.Common.{◌≡◌, ◌≢◌, ◌↔◌, ◌⊎◌, inl, inr, ℕ, Bor, List, [], ◌∷◌, ◌++◌, Bool, true, false, cond, IsTrue, refl, sym, ap, ◌∙◌, subst, arith, length, length-append, IsUtf8, chars}
 use Rattle.std.specs.Prelude.{encode_utf8, encode_utf8_all}
 use Rattle.std.specs.List.{list_all}
-use Rattle.std.proofs.lemmas.Bool.{true≢false, and_parts, and_from}
+use Rattle.std.proofs.lemmas.Bool.{true≢false}
 use Rattle.std.proofs.lemmas.Str.{encodes-chars, encodes_same, length-encode, len_utf8_bounds}
 use Rattle.tc_base.specs.Characters.{is_char}
-use Rattle.tc_model.specs.Names.{ExpandedName, IsName, IsChars, IsText, IsNcName, is_ncname_start, is_ncname_char}
-use Rattle.tc_model.specs.Trees.{Trees, none, text, element, is_all_white, joined_to, joined, kept, dropped, normal_form, IsNormal, AreLawful, IsOneElement, IsDocument}
+use Rattle.tc_model.specs.Names.{ExpandedName, IsName, IsChars, IsNcName, is_ncname_start, is_ncname_char}
+use Rattle.tc_model.specs.Trees.{Trees, none, text, element, is_all_white, joined_to, joined, kept, dropped, normal_form, IsNormal, AreLawful, IsDocument}
 use Rattle.tc_model.specs.Seen as see
 use Rattle.tc_model.specs.declared.tree.Name.{Name}
 use Rattle.tc_model.specs.declared.tree.Node.{Node, Elem}

@@ -1,17 +1,17 @@
 -- The pairs of trees, tree by tree.
-use Rattle.std.proofs.Common.{◌≡◌, ◌<◌, ◌≤◌, ◌↔◌, ◌⊎◌, inl, inr, ℕ, zero, suc, ◌+◌, ◌*◌, List, [], ◌∷◌, ◌++◌, length, take, drop, get_or, map, Bor, ◌-◌, Result, Ok, Err, IfOk, Bool, true, false, IsTrue, Some, slice_get, refl, sym, ap, ◌∙◌, subst, arith, add-one}
+use Rattle.std.proofs.Common.{◌≡◌, ◌<◌, ◌≤◌, ◌↔◌, ℕ, zero, suc, ◌+◌, ◌*◌, List, [], ◌∷◌, ◌++◌, length, take, drop, get_or, map, ◌-◌, Result, Ok, Err, IfOk, Bool, true, false, Some, slice_get, refl, sym, ap, ◌∙◌, subst, arith, add-one}
 use Rattle.std.specs.List.{slice_range}
 use Rattle.std.proofs.Math.Seq.{take-suc}
 use Rattle.std.proofs.lemmas.Option.{slice_get_within}
 use Rattle.std.proofs.lemmas.List.{take_all}
 use Rattle.tc_mat.specs.Matrix.{Matrix, HasPair, IsIdentity, IsComposition}
 use Rattle.tc_model.specs.Names.{ExpandedName}
-use Rattle.tc_model.specs.Trees.{Trees, none, text, element, beside, is_all_white}
+use Rattle.tc_model.specs.Trees.{Trees, none, text, is_all_white}
 use Rattle.tc_model.specs.Seen as see
 use Rattle.tc_model.specs.declared.tree.Node.{Node}
 use Rattle.tc_model.specs.Grammars.{Grammar, ElementPattern, element_at, in_class, InClass}
 use Rattle.tc_model.specs.Validity.{IsValidOutput}
-use Rattle.tc_model.specs.States.{Side, output, Leaf, text_leaf, ref_leaf, automaton, first_state, state_count, IsEdge, Leads, at_end, past_white, by_text, the_start}
+use Rattle.tc_model.specs.States.{Side, output, Leaf, text_leaf, ref_leaf, automaton, state_count, IsEdge, Leads, at_end, past_white, by_text, the_start}
 use Rattle.tc_model.specs.Symbols.{Mention, symbol_of}
 use Rattle.tc_model.proofs.Views.{trees_append}
 use Rattle.tc_auto.specs.Stands as held
@@ -19,13 +19,12 @@ use Rattle.tc_auto.specs.declared.auto.Auto.{Auto}
 use Rattle.tc_hedge.specs.Leading.{ArePairsOf, ArePairsOfText, ArePairsAround, IsTaken}
 use Rattle.tc_hedge.specs.declared.hedge.Hedge.{Hedge}
 use Rattle.tc_hedge.specs.Stands.{Stands}
-use Rattle.tc_hedge.specs.Items.{IsTakenAround, Takes, IsStep}
-use Rattle.tc_hedge.specs.declared.items.Item.{Item}
-use Rattle.tc_hedge.specs.declared.items.Item.TheVariants.{Text, Around}
+use Rattle.tc_hedge.specs.Items.{IsTakenAround, IsStep}
+use Rattle.tc_hedge.specs.declared.items.Item.TheVariants.{Text}
 use Rattle.tc_model.proofs.StatesParts.{edge_within}
 use Rattle.tc_hedge.proofs.Bounds.{states_of, patterns_of}
 use Rattle.tc_hedge.proofs.TableRows.{get_map}
-use Rattle.tc_hedge.proofs.Leading.{pairs_compose, pairs_surround, run_of_leads, run_of_none, run_of_text, leads_of_run, outputs_lead_exactly, first_below, leads_within}
+use Rattle.tc_hedge.proofs.Leading.{pairs_compose, run_of_leads, run_of_none, outputs_lead_exactly, first_below}
 
 -- the pairs of nothing are those of each state with itself
 pub nothing_led : (g : Grammar) (side : Side) (a : Auto) → held.Stands side g a → (m : Matrix) → m.size ≡ length a.rows.items → IsIdentity m → ArePairsOf g side none m

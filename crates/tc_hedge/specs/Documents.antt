@@ -1,7 +1,25 @@
 -- Lawful trees in normal form, tree by tree.
-use Rattle.std.specs.Prelude.{◌≡◌, ℕ, List, Bool, true, false}
+use Rattle.std.specs.Prelude.{◌≡◌, ℕ, List, Bool, true, false, [], ◌∷◌, ◌||◌, ◌&&◌, ◌==◌, not, nat_le}
+use Rattle.std.specs.List.{list_all}
+use Rattle.tc_base.specs.Characters.{is_between}
 use Rattle.tc_model.specs.Names.{IsName, IsChars}
 use Rattle.tc_model.specs.Trees.{Trees, none, text, element, is_all_white}
+
+-- a byte of UTF-8 that stands in lawful characters alone: of the others, those of ASCII are one byte below 0x20, and U+FFFE and U+FFFF begin with 0xEF (XML 1.0, 2.2)
+abbrev pub is_plain_byte : ℕ → Bool
+is_plain_byte b = b == 0x9 || b == 0xA || b == 0xD || (nat_le 0x20 b && not (b == 0xEF))
+
+-- a character of ASCII with which an NCName may begin, and one that it may hold (Namespaces in XML 1.0, 3, [4])
+abbrev pub is_plain_start_char : ℕ → Bool
+is_plain_start_char b = is_between 0x41 0x5A b || is_between 0x61 0x7A b || b == 0x5F
+
+abbrev pub is_plain_name_char : ℕ → Bool
+is_plain_name_char b = is_plain_start_char b || is_between 0x30 0x39 b || b == 0x2D || b == 0x2E
+
+-- an NCName of ASCII
+abbrev pub is_plain_name : List ℕ → Bool
+is_plain_name [] = false
+is_plain_name (b ∷ bs) = is_plain_start_char b && list_all is_plain_name_char bs
 
 abbrev pub begins_with_text : Trees → Bool
 begins_with_text none = false

@@ -3,3 +3,5 @@ pub mod Stands
 pub mod Items
 pub mod Documents
 pub mod Sets
+pub mod Memos
+pub mod Known

@@ -5,7 +5,6 @@ use Rattle.tc_model.specs.Grammars.{Grammar, ElementPattern, in_class}
 use Rattle.tc_model.specs.States.{Side}
 use Rattle.tc_model.specs.Symbols.{Mention, symbol_of, symbol_count, fresh_name}
 use Rattle.tc_auto.specs.Stands as a
-use Rattle.tc_auto.specs.declared.auto.Auto.{Auto}
 use Rattle.tc_hedge.specs.declared.hedge.Hedge.{Hedge}
 
 -- for each of the first symbols, whether its names are in the class of each element pattern

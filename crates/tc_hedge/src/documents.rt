@@ -1,6 +1,7 @@
 // Documents: one element, of lawful names and texts, in normal form.
 ghost use Rattle.std.specs.Prelude.{◌≡◌, ◌↔◌, IsTrue, false};
-ghost use Rattle.tc_hedge.specs.Documents.{IsSettled, begins_with_text};
+ghost use Rattle.std.specs.List.{list_all};
+ghost use Rattle.tc_hedge.specs.Documents.{IsSettled, begins_with_text, is_plain_byte, is_plain_name, is_plain_name_char, is_plain_start_char};
 ghost use Rattle.tc_model.specs.Names as names;
 ghost use Rattle.tc_model.specs.Seen as see;
 ghost use Rattle.tc_model.specs.Trees as t;
@@ -25,15 +26,75 @@ fn is_ncname_char(c: char) -> bool
     c != ':' && is_name_char(c)
 }
 
-/// Whether a document may hold all characters of a text (XML 1.0, 2.2).
-fn are_chars(text: &str) -> bool
+/// Whether a byte stands in lawful characters alone (XML 1.0, 2.2).
+fn is_plain(byte: u8) -> bool
+    ensures { result ≡ is_plain_byte byte }
+{
+    byte == b'\t' || byte == b'\n' || byte == b'\r' || byte >= b' ' && byte != 0xEF
+}
+
+/// Whether all bytes stand in lawful characters alone.
+fn are_plain(bytes: &[u8]) -> bool
+    ensures { result ≡ list_all is_plain_byte bytes.now }
+{
+    let mut plain = true;
+    for byte in bytes {
+        plain &= is_plain(*byte);
+    }
+    plain
+}
+
+/// Whether a document may hold all characters of a text, each by itself (XML 1.0, 2.2).
+fn all_are_chars(text: &str) -> bool
     ensures { IsTrue result ↔ names.IsChars text.now }
 {
     text.chars().all(|c| is_char(c))
 }
 
-/// Whether a text is a name without a colon (Namespaces in XML 1.0, 3).
-fn is_ncname(text: &str) -> bool
+/// Whether a document may hold all characters of a text (XML 1.0, 2.2).
+fn are_chars(text: &str) -> bool
+    ensures { IsTrue result ↔ names.IsChars text.now }
+{
+    are_plain(text.as_bytes()) || all_are_chars(text)
+}
+
+/// Whether a byte is a character of ASCII with which an NCName may begin.
+fn is_plain_start(byte: u8) -> bool
+    ensures { result ≡ is_plain_start_char byte }
+{
+    matches!(byte, b'A'..=b'Z' | b'a'..=b'z' | b'_')
+}
+
+/// Whether a byte is a character of ASCII that an NCName may hold.
+fn is_plain_in_name(byte: u8) -> bool
+    ensures { result ≡ is_plain_name_char byte }
+{
+    is_plain_start(byte) || byte.is_ascii_digit() || byte == b'-' || byte == b'.'
+}
+
+/// Whether all bytes are characters of ASCII that an NCName may hold.
+fn are_plain_in_name(bytes: &[u8]) -> bool
+    ensures { result ≡ list_all is_plain_name_char bytes.now }
+{
+    let mut plain = true;
+    for byte in bytes {
+        plain &= is_plain_in_name(*byte);
+    }
+    plain
+}
+
+/// Whether these are the bytes of an NCName of ASCII.
+fn is_plain_ncname(bytes: &[u8]) -> bool
+    ensures { result ≡ is_plain_name bytes.now }
+{
+    match bytes {
+        [] => false,
+        [first, rest @ ..] => is_plain_start(*first) && are_plain_in_name(rest),
+    }
+}
+
+/// Whether a text is a name without a colon, each character by itself (Namespaces in XML 1.0, 3).
+fn is_ncname_by_chars(text: &str) -> bool
     ensures { IsTrue result ↔ names.IsNcName text.now }
 {
     let mut chars = text.chars();
@@ -41,6 +102,13 @@ fn is_ncname(text: &str) -> bool
         Some(first) => is_ncname_start(first) && chars.all(|c| is_ncname_char(c)),
         None => false,
     }
+}
+
+/// Whether a text is a name without a colon (Namespaces in XML 1.0, 3).
+fn is_ncname(text: &str) -> bool
+    ensures { IsTrue result ↔ names.IsNcName text.now }
+{
+    is_plain_ncname(text.as_bytes()) || is_ncname_by_chars(text)
 }
 
 /// Whether a text may stand for a namespace, the empty text for none.

@@ -4,9 +4,13 @@
 mod documents;
 pub mod hedge;
 mod items;
+mod keys;
 pub mod laws;
+mod memo;
+mod numbers;
 mod passages;
 mod sets;
+mod steps;
 mod table;
 #[cfg(test)]
 mod tests;

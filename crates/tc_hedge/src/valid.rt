@@ -1,8 +1,10 @@
 // Validity of documents by sets of states.
-ghost use Rattle.std.specs.Prelude.{◌≡◌, ◌<◌, ◌≤◌, ◌↔◌, ℕ, IfOk, IsTrue, length};
+ghost use Rattle.std.specs.Prelude.{◌≤◌, ◌↔◌, IfOk, IsTrue, OnOk, length};
 ghost use Rattle.std.specs.List.{Contains};
 ghost use Rattle.tc_auto.specs.Stands as a;
-ghost use Rattle.tc_hedge.specs.Sets.{AreBelow, AreNumbers, IsMade, IsMatched, IsNamed, Makes, Runs};
+ghost use Rattle.tc_hedge.specs.Known.{Knows};
+ghost use Rattle.tc_hedge.specs.Memos.{Grown, HasStates, PassesTrees};
+ghost use Rattle.tc_hedge.specs.Sets.{AreNumbers, IsMade, IsMatched, IsNamed};
 ghost use Rattle.tc_model.specs.Grammars as g;
 ghost use Rattle.tc_model.specs.Matching.{Matches};
 ghost use Rattle.tc_model.specs.Seen as see;
@@ -11,74 +13,92 @@ ghost use Rattle.tc_model.specs.States as s;
 ghost use Rattle.tc_model.specs.Trees as t;
 
 use crate::hedge::Hedge;
-use crate::passages::Passage;
-use crate::sets::{firsts, leaving, named, reached, step};
+use crate::keys::{Entry, Passing};
+use crate::memo::Memo;
+use crate::sets::{firsts, reached};
+use crate::steps::{after_passing, after_text, inside_of};
 use tc_base::NoMemory;
 use tc_model::{Name, Node};
 
-/// The states to which an element leads some states.
+/// The states to which an element leads some states, by their numbers.
 #[cycle(valid)]
-fn after_element(
+fn after_element<'n>(
     hedge: &Hedge<'_>,
-    states: &[u32],
-    name: &Name<'_>,
-    kids: &[Node<'_>],
-) -> Result<Vec<u32>, NoMemory>
-    requires below { AreBelow (length hedge.now.auto.rows.items) states.now }
-    ensures made { IfOk result (λ v. (side : s.Side) (x : g.Grammar) → a.Stands side x hedge.now.auto → IsMade v.items (Makes (Runs x side (t.element (see.name name.now) (see.trees kids.now) t.none)) states.now)) }
-    ensures below { IfOk result (λ v. AreBelow (length hedge.now.auto.rows.items) v.items) }
+    memo: &mut Memo<'n>,
+    entry: &Entry<'n>,
+    kids: &[Node<'n>],
+) -> Result<usize, NoMemory>
+    requires knows { Knows hedge.now.auto memo.old }
+    requires from { HasStates hedge.now.auto memo.old.sets.keys entry.now.from }
+    ensures knows { OnOk result (Knows hedge.now.auto memo.new) }
+    ensures grown { OnOk result (Grown memo.old.sets.keys memo.new.sets.keys) }
+    ensures steps { IfOk result (λ j. PassesTrees hedge.now.auto memo.new.sets.keys entry.now.from (t.element (see.name entry.now.name) (see.trees kids.now) t.none) j) }
 {
-    let left = leaving(hedge, states)?;
-    let numbers = named(hedge, name, &left)?;
-    let taken = matched(hedge, &numbers, kids)?;
-    step(hedge, &Passage::Element(&taken), states)
+    let inside = inside_of(hedge, memo, entry)?;
+    let ends = after_trees(hedge, memo, inside.first, kids)?;
+    let passing = Passing {
+        from: entry.from,
+        numbers: inside.numbers,
+        ends,
+    };
+    after_passing(hedge, memo, passing)
 }
 
-/// The states to which a tree leads some states.
+/// The states to which a tree leads some states, by their numbers.
 #[cycle(valid)]
-fn after_tree(hedge: &Hedge<'_>, states: &[u32], node: &Node<'_>) -> Result<Vec<u32>, NoMemory>
-    requires below { AreBelow (length hedge.now.auto.rows.items) states.now }
-    ensures made { IfOk result (λ v. (side : s.Side) (x : g.Grammar) → a.Stands side x hedge.now.auto → IsMade v.items (Makes (Runs x side (see.before node.now t.none)) states.now)) }
-    ensures below { IfOk result (λ v. AreBelow (length hedge.now.auto.rows.items) v.items) }
+fn after_tree<'n>(
+    hedge: &Hedge<'_>,
+    memo: &mut Memo<'n>,
+    from: usize,
+    node: &Node<'n>,
+) -> Result<usize, NoMemory>
+    requires knows { Knows hedge.now.auto memo.old }
+    requires from { HasStates hedge.now.auto memo.old.sets.keys from }
+    ensures knows { OnOk result (Knows hedge.now.auto memo.new) }
+    ensures grown { OnOk result (Grown memo.old.sets.keys memo.new.sets.keys) }
+    ensures steps { IfOk result (λ j. PassesTrees hedge.now.auto memo.new.sets.keys from (see.before node.now t.none) j) }
 {
     match node {
-        Node::Text(_) => step(hedge, &Passage::Text, states),
-        Node::Elem(name, kids) => after_element(hedge, states, name, kids),
+        Node::Text(_) => after_text(hedge, memo, from),
+        Node::Elem(name, kids) => {
+            let entry = Entry { from, name: *name };
+            after_element(hedge, memo, &entry, kids)
+        }
     }
 }
 
-/// The states to which trees lead some states.
+/// The states to which trees lead some states, by their numbers.
 #[cycle(valid)]
-fn after_trees(
+fn after_trees<'n>(
     hedge: &Hedge<'_>,
-    states: Vec<u32>,
-    nodes: &[Node<'_>],
-) -> Result<Vec<u32>, NoMemory>
-    requires below { AreBelow (length hedge.now.auto.rows.items) states.items }
-    ensures made { IfOk result (λ v. (side : s.Side) (x : g.Grammar) → a.Stands side x hedge.now.auto → IsMade v.items (Makes (Runs x side (see.trees nodes.now)) states.items)) }
-    ensures below { IfOk result (λ v. AreBelow (length hedge.now.auto.rows.items) v.items) }
+    memo: &mut Memo<'n>,
+    from: usize,
+    nodes: &[Node<'n>],
+) -> Result<usize, NoMemory>
+    requires knows { Knows hedge.now.auto memo.old }
+    requires from { HasStates hedge.now.auto memo.old.sets.keys from }
+    ensures knows { OnOk result (Knows hedge.now.auto memo.new) }
+    ensures grown { OnOk result (Grown memo.old.sets.keys memo.new.sets.keys) }
+    ensures steps { IfOk result (λ j. PassesTrees hedge.now.auto memo.new.sets.keys from (see.trees nodes.now) j) }
 {
-    let mut states = states;
+    let mut number = from;
     for node in nodes {
-        let next = after_tree(hedge, &states, node)?;
-        states = next;
+        let next = after_tree(hedge, memo, number, node)?;
+        number = next;
     }
-    Ok(states)
+    Ok(number)
 }
 
 /// Those of some element patterns whose content the children match.
-#[cycle(valid)]
-pub(crate) fn matched(
-    hedge: &Hedge<'_>,
-    numbers: &[u32],
-    kids: &[Node<'_>],
-) -> Result<Vec<u32>, NoMemory>
+fn matched(hedge: &Hedge<'_>, numbers: &[u32], kids: &[Node<'_>]) -> Result<Vec<u32>, NoMemory>
     requires numbers { AreNumbers (length hedge.now.auto.elements.now) numbers.now }
     ensures { IfOk result (λ v. (side : s.Side) (x : g.Grammar) → a.Stands side x hedge.now.auto → IsMade v.items (λ k. Contains numbers.now k × IsMatched x (see.trees kids.now) k)) }
 {
     let starts = firsts(hedge, numbers)?;
-    let ends = after_trees(hedge, starts, kids)?;
-    reached(hedge, &ends, numbers)
+    let mut memo = Memo::new(hedge.alloc);
+    let first = memo.put(starts)?;
+    let ends = after_trees(hedge, &mut memo, first, kids)?;
+    reached(hedge, memo.set(ends), numbers)
 }
 
 /// Whether an element pattern is an alternative of the start, and a name is in its class.

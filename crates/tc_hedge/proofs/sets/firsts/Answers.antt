@@ -1,6 +1,5 @@
 use Rattle.std.proofs.Common.{◌≡◌, ◌<◌, ◌≤◌, ℕ, length, get_or, refl}
 use Rattle.tc_model.specs.States.{first_state}
-use Rattle.tc_hedge.specs.Sets.{Makes}
 use Rattle.tc_hedge.proofs.Gathers.{grows_push}
 use Rattle.tc_hedge.proofs.SetSteps.{all_grown, map_put, member, states_made}
 use Rattle.tc_hedge.proofs.sets.firsts.Goals as goal

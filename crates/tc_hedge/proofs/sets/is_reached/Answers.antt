@@ -1,7 +1,6 @@
-use Rattle.std.proofs.Common.{◌≡◌, ◌<◌, ◌≤◌, ℕ, suc, length, get_or, refl, sym, ◌∙◌, subst, arith}
+use Rattle.std.proofs.Common.{◌<◌, ◌≤◌, length, get_or, refl, sym, ◌∙◌, arith}
 use Rattle.std.proofs.lemmas.Bool.{true≢false}
-use Rattle.std.proofs.lemmas.List.Elements.{Contains-get_or}
-use Rattle.tc_model.specs.States.{IsAccepting, first_state}
+use Rattle.tc_model.specs.States.{IsAccepting}
 use Rattle.tc_hedge.proofs.SetSteps.{member, no_end_more, no_end_at_all}
 use Rattle.tc_hedge.proofs.sets.is_reached.Goals as goal
 

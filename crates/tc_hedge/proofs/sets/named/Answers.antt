@@ -1,7 +1,7 @@
-use Rattle.std.proofs.Common.{◌≡◌, ◌<◌, ◌≤◌, ℕ, Vec, Global, length, get_or, ap, ◌∙◌, sym, refl}
+use Rattle.std.proofs.Common.{◌≤◌, ℕ, Vec, Global, length, get_or, ap, ◌∙◌, sym, refl}
 use Rattle.std.proofs.lemmas.Bool.{true≢false}
 use Rattle.tc_model.specs.Seen as see
-use Rattle.tc_hedge.specs.Sets.{IsNamed, AreNumbers}
+use Rattle.tc_hedge.specs.Sets.{IsNamed}
 use Rattle.tc_hedge.proofs.Gathers.{grows_push}
 use Rattle.tc_hedge.proofs.SetSteps.{all_grown, filter_put, filter_skip, filter_made, same_members}
 use Rattle.tc_hedge.proofs.sets.named.Goals.{then-is_named+in_ok-push, else-is_named}

@@ -1,5 +1,4 @@
-use Rattle.std.proofs.Common.{◌≡◌, ◌<◌, ℕ, Vec, Global, length, get_or, ap, ◌∙◌, sym, subst, refl}
-use Rattle.std.proofs.lemmas.Bool.{true≢false}
+use Rattle.std.proofs.Common.{◌≡◌, ℕ, Vec, Global, get_or, ap, refl}
 use Rattle.tc_auto.specs.declared.auto.Edge.{Edge}
 use Rattle.tc_auto.specs.declared.auto.Leaf.TheVariants.{Text}
 use Rattle.tc_hedge.proofs.SetSteps.{number_put, number_skip, numbers_put, grown_as}

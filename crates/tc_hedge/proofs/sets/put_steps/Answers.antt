@@ -1,8 +1,7 @@
-use Rattle.std.proofs.Common.{◌≡◌, ◌<◌, ℕ, Vec, Global, length, get_or, ap, ◌∙◌, sym, subst, refl}
+use Rattle.std.proofs.Common.{◌≡◌, ◌<◌, ℕ, Vec, Global, length, get_or, ap, ◌∙◌, sym, refl}
 use Rattle.std.proofs.lemmas.Bool.{true≢false}
 use Rattle.tc_auto.specs.declared.auto.Edge.{Edge}
 use Rattle.tc_auto.specs.declared.auto.Leaf.TheVariants.{Text}
-use Rattle.tc_hedge.specs.Sets.{Grows, AreBelow}
 use Rattle.tc_hedge.proofs.SetSteps.{all_grown, edge_put, edge_skip, edges_put, grown_as, same_members}
 use Rattle.tc_hedge.proofs.sets.put_steps.Goals.{then-passes+in_ok-put_number, else-passes}
 use Rattle.tc_hedge.proofs.sets.put_steps.Goals as goal

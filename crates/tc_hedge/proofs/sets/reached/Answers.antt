@@ -1,4 +1,4 @@
-use Rattle.std.proofs.Common.{◌≡◌, ◌<◌, ◌≤◌, ℕ, Vec, Global, length, get_or, ap, ◌∙◌, sym, refl}
+use Rattle.std.proofs.Common.{◌≤◌, ℕ, Vec, Global, length, get_or, ap, ◌∙◌, sym, refl}
 use Rattle.std.proofs.lemmas.Bool.{true≢false}
 use Rattle.tc_hedge.specs.Sets.{IsReached}
 use Rattle.tc_hedge.proofs.SetSteps.{member, filter_put, filter_skip, filter_made}

@@ -1,8 +1,6 @@
 use Rattle.std.proofs.Common.{arith}
 use Rattle.tc_model.specs.Seen as see
-use Rattle.tc_model.specs.Grammars.{Grammar, ElementPattern, in_class}
-use Rattle.tc_model.specs.States.{Side}
-use Rattle.tc_auto.specs.Stands as a
+use Rattle.tc_model.specs.Grammars.{ElementPattern, in_class}
 use Rattle.tc_hedge.proofs.Bounds.{patterns_of}
 use Rattle.tc_hedge.proofs.TableRows.{allowed_more}
 use Rattle.tc_hedge.proofs.table.push_allowed.Goals as goal

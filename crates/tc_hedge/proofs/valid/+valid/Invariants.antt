@@ -1,12 +1,9 @@
-use Rattle.std.proofs.Common.{length, take}
+use Rattle.std.proofs.Common.{take}
 use Rattle.tc_model.specs.Seen as see
-use Rattle.tc_model.specs.Grammars.{Grammar}
-use Rattle.tc_model.specs.States.{Side}
-use Rattle.tc_auto.specs.Stands as held
-use Rattle.tc_hedge.specs.Sets.{AreBelow, IsMade, Makes, Runs}
+use Rattle.tc_hedge.specs.Known.{Knows}
+use Rattle.tc_hedge.specs.Memos.{Grown, PassesTrees}
 use Rattle.tc_hedge.proofs.valid.+valid.Given as goal
 
 abbrev pub invariant-after_trees-loop-node : goal.invariant-after_trees-loop-node
 invariant-after_trees-loop-node l =
-    ((side : Side) (x : Grammar) → held.Stands side x l.hedge.auto → IsMade l.states.items (Makes (Runs x side (see.trees (take l.node-index l.nodes))) l.initial.states.items))
-    × AreBelow (length l.hedge.auto.rows.items) l.states.items
+    Knows l.hedge.auto l.memo × Grown l.initial.memo.sets.keys l.memo.sets.keys × PassesTrees l.hedge.auto l.memo.sets.keys l.initial.number (see.trees (take l.node-index l.nodes)) l.number

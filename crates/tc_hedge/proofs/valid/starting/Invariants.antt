@@ -1,4 +1,4 @@
-use Rattle.std.proofs.Common.{◌≡◌, ◌<◌, ◌≤◌, ℕ, length, IsTrue}
+use Rattle.std.proofs.Common.{◌≤◌, ℕ, length, IsTrue}
 use Rattle.tc_model.specs.Seen as see
 use Rattle.tc_model.specs.Grammars.{Grammar}
 use Rattle.tc_model.specs.States.{Side, is_alternative}

@@ -1,5 +1,5 @@
-use Rattle.std.proofs.Common.{◌≡◌, ap, ◌∙◌, sym, subst}
-use Rattle.tc_model.specs.Trees.{Trees, none}
+use Rattle.std.proofs.Common.{ap, ◌∙◌, sym, subst}
+use Rattle.tc_model.specs.Trees.{none}
 use Rattle.tc_model.specs.Seen as see
 use Rattle.tc_model.specs.States.{output}
 use Rattle.tc_model.specs.declared.tree.Node.{Node}

@@ -1,10 +1,3 @@
-use Rattle.std.proofs.Common.{◌≡◌, ℕ, ◌+◌, ◌*◌, ap, sym, ◌∙◌, subst, slice_get, Some, arith}
-use Rattle.tc_model.specs.Grammars.{Grammar, ElementPattern, in_class}
-use Rattle.tc_model.specs.States.{Side}
-use Rattle.tc_model.specs.Symbols.{Mention, symbol_of}
-use Rattle.tc_model.specs.Names.{ExpandedName}
-use Rattle.tc_hedge.specs.Leading.{ArePairsAround}
-use Rattle.tc_hedge.specs.Stands.{Stands}
 use Rattle.tc_hedge.proofs.Leading.{pairs_surround}
 use Rattle.tc_hedge.proofs.Sides.{around_told, symbol_row_tells}
 use Rattle.tc_hedge.proofs.hedge.Hedge.element_into.Goals as goal

@@ -1,4 +1,4 @@
-use Rattle.std.proofs.Common.{◌≡◌, ℕ, ◌+◌, ◌↔◌, ◌⊎◌, length, take, get_or, ap, ◌∙◌, sym, refl, arith, subst, rules}
+use Rattle.std.proofs.Common.{◌≡◌, ◌+◌, ◌↔◌, ◌⊎◌, take, get_or, ap, ◌∙◌, sym, refl, subst}
 use Rattle.std.proofs.lemmas.Bool.{true≢false}
 use Rattle.tc_mat.specs.Matrix.{IsMatrix, Matrix, HasPair}
 use Rattle.tc_auto.specs.declared.auto.Edge.{Edge}

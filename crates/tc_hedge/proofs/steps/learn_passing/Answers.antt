@@ -1,0 +1,35 @@
+use Rattle.std.proofs.Common.{refl}
+use Rattle.tc_hedge.proofs.Remembered.{knows_grown, knows_passing, number_held, numbers_within, states_below}
+use Rattle.tc_hedge.proofs.SetsRuns.{made_from}
+use Rattle.tc_hedge.proofs.steps.learn_passing.Goals as goal
+
+pub reached-requires-clause-below : goal.reached-requires-clause-below
+reached-requires-clause-below c = states_below c.args.hedge.now.auto c.args.memo.now.sets.keys c.args.passing.ends c.set.result.now c.requires.ends c.set.ensures
+
+pub reached-requires-clause-within : goal.reached-requires-clause-within
+reached-requires-clause-within c = numbers_within c.args.hedge.now.auto c.args.memo.now.sets.keys c.args.passing.numbers c.set-2.result.now c.requires.numbers c.set-2.ensures
+
+pub set-requires-3 : goal.set-requires-3
+set-requires-3 c = number_held c.args.hedge.now.auto c.args.memo.now.sets.keys c.args.passing.from c.requires.from
+
+pub step-requires : goal.step-requires
+step-requires c = states_below c.args.hedge.now.auto c.args.memo.now.sets.keys c.args.passing.from c.set-3.result.now c.requires.from c.set-3.ensures
+
+pub returns-clause-steps : goal.returns-clause-steps
+returns-clause-steps c = record {
+  from = c.set-3.result.now;
+  numbers = c.set-2.result.now;
+  ends = c.set.result.now;
+  to = c.in_ok-states.states.items;
+  from_at = c.in_ok-next.ensures.grown c.args.passing.from c.set-3.result.now c.set-3.ensures;
+  numbers_at = c.in_ok-next.ensures.grown c.args.passing.numbers c.set-2.result.now c.set-2.ensures;
+  ends_at = c.in_ok-next.ensures.grown c.args.passing.ends c.set.result.now c.set.ensures;
+  to_at = c.in_ok-next.ensures.set;
+  below = c.in_ok-states.ensures.below;
+  made = λ side x st. (c.deref.result.now, made_from _ _ _ c.deref.ensures.value (c.in_ok-taken.ensures.made side x st), c.in_ok-states.ensures.made side x st);
+}
+
+pub returns-clause-knows : goal.returns-clause-knows
+returns-clause-knows c =
+    let before = knows_grown c.args.hedge.now.auto c.args.memo.now c.put.new.self c.in_ok-next.ensures.grown c.requires.knows c.in_ok-next.ensures.texts c.in_ok-next.ensures.entries c.in_ok-next.ensures.passings in
+    knows_passing c.args.hedge.now.auto c.put.new.self (record c.put.new.self { passings = c.insert.new.self }) (λ i xs at. at) before c.args.passing c.in_ok-next.next c.in_ok-insert.ensures.updates refl refl (returns-clause-steps c)

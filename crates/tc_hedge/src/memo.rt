@@ -1,0 +1,77 @@
+// Sets that are known by numbers, and what was worked out from them, each once.
+ghost use Rattle.std.specs.Prelude.{◌≡◌, ◌<◌, nat_eq, IfOk, OnOk, None, Some, length, slice_get, ℕ, [], List};
+ghost use Rattle.indexmap.specs.IndexMap.{get, Updates};
+ghost use Rattle.tc_hedge.specs.Memos.{Grown, same_entry, same_passing};
+
+use crate::keys::{Entry, Inside, Passing};
+use crate::numbers::Numbers;
+use indexmap::{IndexMap, IndexSet};
+use std::alloc::Global;
+use tc_base::NoMemory;
+
+/// Sets by their numbers, and what follows from them.
+#[derive(Drop)]
+pub(crate) struct Memo<'n> {
+    pub sets: IndexSet<Numbers>,
+    pub texts: IndexMap<usize, usize>,
+    pub entries: IndexMap<Entry<'n>, Inside>,
+    pub passings: IndexMap<Passing, usize>,
+}
+
+impl<'n> Memo<'n> {
+    /// No set yet.
+    pub(crate) fn new(alloc: Global) -> Memo<'n>
+        ensures texts { (i : ℕ) → get nat_eq result.texts i ≡ None }
+        ensures entries { (e : Entry) → get same_entry result.entries e ≡ None }
+        ensures passings { (p : Passing) → get same_passing result.passings p ≡ None }
+    {
+        Memo {
+            sets: IndexSet::new(alloc),
+            texts: IndexMap::new(alloc),
+            entries: IndexMap::new(alloc),
+            passings: IndexMap::new(alloc),
+        }
+    }
+
+    /// The set of a number.
+    pub(crate) fn set(&self, number: usize) -> &[u32]
+        requires { number < length self.now.sets.keys }
+        ensures { slice_get self.now.sets.keys number ≡ Some result.now }
+    {
+        self.sets.as_slice()[number].lent()
+    }
+
+    /// The number of a set.
+    pub(crate) fn put(&mut self, numbers: Vec<u32>) -> Result<usize, NoMemory>
+        ensures set { IfOk result (λ i. slice_get self.new.sets.keys i ≡ Some numbers.items) }
+        ensures grown { OnOk result (Grown self.old.sets.keys self.new.sets.keys) }
+        ensures texts { self.new.texts ≡ self.old.texts }
+        ensures entries { self.new.entries ≡ self.old.entries }
+        ensures passings { self.new.passings ≡ self.old.passings }
+    {
+        let set = Numbers::of(numbers);
+        let (number, _) = self.sets.insert_full(set)?;
+        Ok(number)
+    }
+
+    /// What is known of a text behind the states of a number.
+    pub(crate) fn text(&self, from: usize) -> Option<usize>
+        ensures { result ≡ get nat_eq self.now.texts from }
+    {
+        self.texts.get(&from).copied()
+    }
+
+    /// What is known of a step into an element.
+    pub(crate) fn entry(&self, entry: &Entry<'n>) -> Option<Inside>
+        ensures { result ≡ get same_entry self.now.entries entry.now }
+    {
+        self.entries.get(entry).copied()
+    }
+
+    /// What is known of a step over an element.
+    pub(crate) fn passing(&self, passing: &Passing) -> Option<usize>
+        ensures { result ≡ get same_passing self.now.passings passing.now }
+    {
+        self.passings.get(passing).copied()
+    }
+}
