@@ -1,0 +1,167 @@
+-- Rows are written and read one by one.
+use Rattle.std.proofs.Common.{◌≡◌, ℕ, zero, suc, ◌+◌, ◌-◌, ◌<◌, ◌≤◌, List, [], ◌∷◌, ◌++◌, Bool, true, false, ◌&&◌, ◌||◌, not, refl, ap, sym, ◌∙◌, map, Bor, length, get_or, drop, append_assoc, add-one, Option, Some, None, slice_get, arith}
+use Rattle.std.specs.List.{list_any}
+use Rattle.std.specs.Global.{Vec}
+use Rattle.std.proofs.lemmas.List.{drop_more, get_or-drop}
+use Rattle.tc_model.specs.declared.sheet.Step.{Step}
+use Rattle.tc_model.specs.declared.sheet.Test.{Test}
+use Rattle.tc_model.specs.Seen as see
+use Rattle.tc_model.specs.Sheets as s
+use Rattle.tc_model.specs.Letters.{is_marked}
+use Rattle.tc_model.specs.PathStates as p
+use Rattle.tc_model.proofs.ViewsPath.{left_step, left_alternative}
+use Rattle.tc_rules.specs.Seen.{predicates}
+use Rattle.tc_rules.specs.Steps as v
+use Rattle.tc_rules.specs.declared.rows.Letter.{Letter}
+
+module _ {X : Type 0} where
+  -- one goes from what is left to what was written
+  pub one_more : (all old now left rest : List X) (x : X) → now ≡ old ++ x ∷ [] → left ≡ x ∷ rest → all ≡ old ++ left → all ≡ now ++ rest
+  one_more all old now left rest x put is k =
+      k ∙ (ap (λ w. old ++ w) is ∙ (sym (append_assoc old (x ∷ []) rest) ∙ ap (λ w. w ++ rest) (sym put)))
+
+  pub map_push : {Y : Type 0} (f : Y → X) (ys : List Y) (y : Y) → map f (ys ++ y ∷ []) ≡ map f ys ++ f y ∷ []
+  map_push f [] y = refl
+  map_push f (z ∷ ys) y = ap (λ w. f z ∷ w) (map_push f ys y)
+
+  drop_here : (xs : List X) (i : ℕ) (x : X) → slice_get xs i ≡ Some x → drop i xs ≡ x ∷ drop (suc i) xs
+  drop_here [] i x e = cc
+  drop_here (y ∷ xs) zero x e = cc
+  drop_here (y ∷ xs) (suc i) x e = drop_here xs i x e
+
+  pub drop_at : (xs : List X) (i : ℕ) (x : X) → slice_get xs i ≡ Some x → drop i xs ≡ x ∷ drop (i + 1) xs
+  drop_at xs i x e = rw add-one (drop_here xs i x e)
+
+  pub drop_past : (xs : List X) (i : ℕ) → slice_get xs i ≡ None → drop i xs ≡ []
+  drop_past [] zero e = refl
+  drop_past [] (suc i) e = refl
+  drop_past (y ∷ xs) zero e = cc
+  drop_past (y ∷ xs) (suc i) e = drop_past xs i e
+
+  nothing_after : (xs : List X) → xs ++ [] ≡ xs
+  nothing_after [] = refl
+  nothing_after (x ∷ xs) = ap (λ w. x ∷ w) (nothing_after xs)
+
+abbrev items_of : Vec Bool → List Bool
+items_of w = w.items
+
+pub fit_step : (numbered : List (Bor Test)) (letter : Letter) (all old now : List Bool) (xs : List Step) (i : ℕ) (x : Step) → i < length xs → x ≡ get_or xs i x
+    → now ≡ old ++ (v.passes_name (see.node_test x.test) letter.name && is_marked [] (predicates numbered) (see.test x.when) letter.marks) ∷ []
+    → all ≡ old ++ v.steps_fit numbered (see.steps (drop i xs)) letter → all ≡ now ++ v.steps_fit numbered (see.steps (drop (i + 1) xs)) letter
+fit_step numbered letter all old now xs i x h e put k =
+    one_more all old now _ _ _ put (ap (λ w. v.steps_fit numbered w letter) (left_step xs i x h e)) k
+
+pub fit_alternative : (numbered : List (Bor Test)) (letter : Letter) (all : List (List Bool)) (old : List (Vec Bool)) (w : Vec Bool) (xs : List (Bor (List Step))) (i : ℕ) (x : Bor (List Step)) → i < length xs → x ≡ get_or xs i x
+    → w.items ≡ v.steps_fit numbered (see.steps x.now) letter
+    → all ≡ map items_of old ++ v.path_fits numbered (see.alternatives (drop i xs)) letter → all ≡ map items_of (old ++ w ∷ []) ++ v.path_fits numbered (see.alternatives (drop (i + 1) xs)) letter
+fit_alternative numbered letter all old w xs i x h e is k =
+    one_more all (map items_of old) _ _ _ (w.items) (map_push items_of old w)
+    (ap (λ a. v.path_fits numbered a letter) (left_alternative xs i x h e) ∙ ap (λ r. r ∷ v.path_fits numbered (see.alternatives (drop (i + 1) xs)) letter) (sym is)) k
+
+pub first_step : (first : Bool) (all old now : List Bool) (xs : List Step) (i : ℕ) (x : Step) → i < length xs → x ≡ get_or xs i x → now ≡ old ++ first ∷ []
+    → all ≡ old ++ v.items_left first (see.steps (drop i xs)) → all ≡ now ++ v.items_left false (see.steps (drop (i + 1) xs))
+first_step true all old now xs i x h e put k = one_more all old now _ _ true put (ap p.first_items (left_step xs i x h e)) k
+first_step false all old now xs i x h e put k = one_more all old now _ _ false put (ap p.no_items (left_step xs i x h e)) k
+
+pub first_alternative : (all : List (List Bool)) (old : List (Vec Bool)) (w : Vec Bool) (xs : List (Bor (List Step))) (i : ℕ) (x : Bor (List Step)) → i < length xs → x ≡ get_or xs i x
+    → w.items ≡ p.first_items (see.steps x.now)
+    → all ≡ map items_of old ++ p.first_state (see.alternatives (drop i xs)) → all ≡ map items_of (old ++ w ∷ []) ++ p.first_state (see.alternatives (drop (i + 1) xs))
+first_alternative all old w xs i x h e is k =
+    one_more all (map items_of old) _ _ _ (w.items) (map_push items_of old w)
+    (ap p.first_state (left_alternative xs i x h e) ∙ ap (λ r. r ∷ p.first_state (see.alternatives (drop (i + 1) xs))) (sym is)) k
+
+first_at : (bs : List Bool) (i : ℕ) → v.first_or_false (drop i bs) ≡ get_or bs i false
+first_at [] zero = refl
+first_at [] (suc i) = refl
+first_at (b ∷ bs) zero = refl
+first_at (b ∷ bs) (suc i) = first_at bs i
+
+after_here : (bs : List Bool) (i : ℕ) → v.after_first (drop i bs) ≡ drop (suc i) bs
+after_here [] zero = refl
+after_here [] (suc i) = refl
+after_here (b ∷ bs) zero = refl
+after_here (b ∷ bs) (suc i) = after_here bs i
+
+after_at : (bs : List Bool) (i : ℕ) → v.after_first (drop i bs) ≡ drop (i + 1) bs
+after_at bs i = rw add-one (after_here bs i)
+
+pub further_step : (all old now fits items : List Bool) (comes : Bool) (xs : List Step) (i : ℕ) (x : Step) → i < length xs → x ≡ get_or xs i x
+    → now ≡ old ++ ((get_or items i false && x.deep) || comes) ∷ []
+    → all ≡ old ++ v.further (see.steps (drop i xs)) (drop i fits) comes (drop i items)
+    → all ≡ now ++ v.further (see.steps (drop (i + 1) xs)) (drop (i + 1) fits) (get_or items i false && get_or fits i false) (drop (i + 1) items)
+further_step all old now fits items comes xs i x h e put k =
+    one_more all old now _ _ _ put is k
+  where
+    is : v.further (see.steps (drop i xs)) (drop i fits) comes (drop i items)
+        ≡ ((get_or items i false && x.deep) || comes) ∷ v.further (see.steps (drop (i + 1) xs)) (drop (i + 1) fits) (get_or items i false && get_or fits i false) (drop (i + 1) items)
+    is =
+        ap (λ w. v.further w (drop i fits) comes (drop i items)) (left_step xs i x h e)
+        ∙ (ap (λ b. ((b && x.deep) || comes) ∷ v.further (see.steps (drop (i + 1) xs)) (v.after_first (drop i fits)) (b && v.first_or_false (drop i fits)) (v.after_first (drop i items))) (first_at items i)
+        ∙ (ap (λ f. ((get_or items i false && x.deep) || comes) ∷ v.further (see.steps (drop (i + 1) xs)) (v.after_first (drop i fits)) (get_or items i false && f) (v.after_first (drop i items))) (first_at fits i)
+        ∙ (ap (λ f. ((get_or items i false && x.deep) || comes) ∷ v.further (see.steps (drop (i + 1) xs)) f (get_or items i false && get_or fits i false) (v.after_first (drop i items))) (after_at fits i)
+        ∙ ap (λ b. ((get_or items i false && x.deep) || comes) ∷ v.further (see.steps (drop (i + 1) xs)) (drop (i + 1) fits) (get_or items i false && get_or fits i false) b) (after_at items i))))
+
+pub next_alternative : (all fits row : List (List Bool)) (f items : List Bool) (old : List (Vec Bool)) (w : Vec Bool) (xs : List (Bor (List Step))) (i : ℕ) (x : Bor (List Step)) → i < length xs → x ≡ get_or xs i x
+    → slice_get fits i ≡ Some f → slice_get row i ≡ Some items → w.items ≡ v.further (see.steps x.now) f false items
+    → all ≡ map items_of old ++ v.next_state (see.alternatives (drop i xs)) (drop i fits) (drop i row)
+    → all ≡ map items_of (old ++ w ∷ []) ++ v.next_state (see.alternatives (drop (i + 1) xs)) (drop (i + 1) fits) (drop (i + 1) row)
+next_alternative all fits row f items old w xs i x h e a b is k =
+    one_more all (map items_of old) _ _ _ (w.items) (map_push items_of old w)
+    (ap (λ t. v.next_state t (drop i fits) (drop i row)) (left_alternative xs i x h e)
+    ∙ (ap (λ t. v.next_state (s.alternative (see.steps x.now) (see.alternatives (drop (i + 1) xs))) t (drop i row)) (drop_at fits i f a)
+    ∙ (ap (λ t. v.next_state (s.alternative (see.steps x.now) (see.alternatives (drop (i + 1) xs))) (f ∷ drop (i + 1) fits) t) (drop_at row i items b)
+    ∙ ap (λ r. r ∷ v.next_state (see.alternatives (drop (i + 1) xs)) (drop (i + 1) fits) (drop (i + 1) row)) (sym is))))
+    k
+
+pub no_fits_left : (all old fits row : List (List Bool)) (xs : List (Bor (List Step))) (i : ℕ) (x : Bor (List Step)) → i < length xs → x ≡ get_or xs i x
+    → slice_get fits i ≡ None → all ≡ old ++ v.next_state (see.alternatives (drop i xs)) (drop i fits) (drop i row) → old ≡ all
+no_fits_left all old fits row xs i x h e a k =
+    sym (k ∙ (ap (λ w. old ++ w)
+    (ap (λ t. v.next_state t (drop i fits) (drop i row)) (left_alternative xs i x h e)
+    ∙ ap (λ t. v.next_state (s.alternative (see.steps x.now) (see.alternatives (drop (i + 1) xs))) t (drop i row)) (drop_past fits i a))
+    ∙ nothing_after old))
+
+pub no_items_left : (all old fits row : List (List Bool)) (f : List Bool) (xs : List (Bor (List Step))) (i : ℕ) (x : Bor (List Step)) → i < length xs → x ≡ get_or xs i x
+    → slice_get fits i ≡ Some f → slice_get row i ≡ None → all ≡ old ++ v.next_state (see.alternatives (drop i xs)) (drop i fits) (drop i row) → old ≡ all
+no_items_left all old fits row f xs i x h e a b k =
+    sym (k ∙ (ap (λ w. old ++ w)
+    (ap (λ t. v.next_state t (drop i fits) (drop i row)) (left_alternative xs i x h e)
+    ∙ (ap (λ t. v.next_state (s.alternative (see.steps x.now) (see.alternatives (drop (i + 1) xs))) t (drop i row)) (drop_at fits i f a)
+    ∙ ap (λ t. v.next_state (s.alternative (see.steps x.now) (see.alternatives (drop (i + 1) xs))) (f ∷ drop (i + 1) fits) t) (drop_past row i b)))
+    ∙ nothing_after old))
+
+state_here : (xs : List (Vec Bool)) (i : ℕ) (x : Vec Bool) → i < length xs → x ≡ get_or xs i x → drop i (map items_of xs) ≡ x.items ∷ drop (suc i) (map items_of xs)
+state_here [] i x h e = absurd (omega arith)
+state_here (y ∷ ys) zero x h e = ap (λ (w : Vec Bool). w.items ∷ map items_of ys) (sym e)
+state_here (y ∷ ys) (suc i) x h e = state_here ys i x (omega arith) e
+
+state_at : (xs : List (Vec Bool)) (i : ℕ) (x : Vec Bool) → i < length xs → x ≡ get_or xs i x → drop i (map items_of xs) ≡ x.items ∷ drop (i + 1) (map items_of xs)
+state_at xs i x h e = rw add-one (state_here xs i x h e)
+
+pub empty_alternative : (xs : List (Vec Bool)) (i : ℕ) (x : Vec Bool) → i < length xs → x ≡ get_or xs i x
+    → p.is_empty_state (drop i (map items_of xs)) ≡ (not (list_any (λ b. b) x.items) && p.is_empty_state (drop (i + 1) (map items_of xs)))
+empty_alternative xs i x h e = ap p.is_empty_state (state_at xs i x h e)
+
+no_end : (row : List (List Bool)) → v.some_ends row [] ≡ false
+no_end [] = refl
+no_end (items ∷ row) = refl
+
+and_no : (b : Bool) → (b && false) ≡ false
+and_no true = refl
+and_no false = refl
+
+no_end_here : (b : Bool) (row : List (List Bool)) → false ≡ ((b && false) || v.some_ends row [])
+no_end_here b row = sym (ap (λ c. c || v.some_ends row []) (and_no b) ∙ no_end row)
+
+some_here : (row fits : List (List Bool)) (i : ℕ) (x : List Bool) (rest : List (List Bool)) → drop i row ≡ x ∷ rest
+    → v.some_ends (drop i row) (drop i fits) ≡ (v.ends_at row fits i || v.some_ends (drop (suc i) row) (drop (suc i) fits))
+some_here [] fits zero x rest e = cc
+some_here [] fits (suc i) x rest e = cc
+some_here (y ∷ row) [] zero x rest e = no_end_here (v.ends_true y) row
+some_here (y ∷ row) (f ∷ fits) zero x rest e = refl
+some_here (y ∷ row) [] (suc i) x rest e = no_end (drop i row) ∙ no_end_here (v.ends_true (get_or row i [])) (drop (suc i) row)
+some_here (y ∷ row) (f ∷ fits) (suc i) x rest e = some_here row fits i x rest e
+
+pub some_alternative : (xs : List (Vec Bool)) (fits : List (List Bool)) (i : ℕ) (x : Vec Bool) → i < length xs → x ≡ get_or xs i x
+    → v.some_ends (drop i (map items_of xs)) (drop i fits) ≡ (v.ends_at (map items_of xs) fits i || v.some_ends (drop (i + 1) (map items_of xs)) (drop (i + 1) fits))
+some_alternative xs fits i x h e = rw add-one (some_here (map items_of xs) fits i x.items (drop (i + 1) (map items_of xs)) (state_at xs i x h e))

@@ -1,0 +1,22 @@
+use Rattle.std.proofs.Common.{arith, ap, ◌∙◌, length}
+use Rattle.std.proofs.lemmas.List.{length-map}
+use Rattle.tc_model.specs.Seen as see
+use Rattle.tc_rules.specs.Seen.{each, eaches}
+use Rattle.tc_rules.proofs.Collected.{each_fits, none_put, put_at, all_put}
+use Rattle.tc_rules.proofs.gather.all_eaches.Goals as goal
+
+pub loop-each-init : goal.loop-each-init
+loop-each-init c = (c.in_ok-bodies.ensures, none_put _ (eaches c.deref-each-items.result.now))
+
+pub put_body-requires : goal.put_body-requires
+put_body-requires c =
+    each_fits (see.sheet c.args.sheet.now) c.requires c.deref-each-items.result.now (ap eaches c.deref-each-items.ensures.value ∙ c.in_ok-found.ensures) c.loop-each.each-index _ _ (omega arith) c.loop-each.invariant.0
+
+pub loop-each-preserved : goal.loop-each-preserved
+loop-each-preserved c =
+    put_at (see.sheet c.args.sheet.now) c.requires c.deref-each-items.result.now (ap eaches c.deref-each-items.ensures.value ∙ c.in_ok-found.ensures) c.loop-each.bodies.items _ c.loop-each.each-index _ (omega arith) c.loop-each.invariant.0 c.put_body.ensures c.loop-each.invariant.1
+
+pub returns-clause-bodies : goal.returns-clause-bodies
+returns-clause-bodies c =
+    all_put (see.sheet c.args.sheet.now) (eaches c.deref-each-items.result.now) (ap eaches c.deref-each-items.ensures.value ∙ c.in_ok-found.ensures) _ c.loop-each.each-index
+    (omega (arith, length-map c.deref-each-items.result.now each)) c.loop-each.invariant.1

@@ -1,0 +1,9 @@
+use Rattle.std.proofs.Common.{◌≡◌, ◌++◌, drop, map, false, if◌then◌else◌}
+use Rattle.tc_model.specs.PathStates as p
+use Rattle.tc_model.specs.Seen as see
+use Rattle.tc_rules.specs.Rows.{state}
+use Rattle.tc_rules.specs.Steps as v
+use Rattle.tc_rules.proofs.rows.Row.hits.Given as goal
+
+abbrev pub invariant-loop-i : goal.invariant-loop-i
+invariant-loop-i l = v.some_ends (state l.self) (state l.fits) ≡ v.some_ends (drop l.i (state l.self)) (drop l.i (state l.fits))

@@ -1,0 +1,9 @@
+use Rattle.std.proofs.Common.{◌≡◌, ◌++◌, drop, map, false, if◌then◌else◌}
+use Rattle.tc_model.specs.PathStates as p
+use Rattle.tc_model.specs.Seen as see
+use Rattle.tc_rules.specs.Rows.{state}
+use Rattle.tc_rules.specs.Steps as v
+use Rattle.tc_rules.proofs.rows.steps_fit.Given as goal
+
+abbrev pub invariant-loop-step : goal.invariant-loop-step
+invariant-loop-step l = v.steps_fit l.numbered (see.steps l.steps) l.letter ≡ l.fits.items ++ v.steps_fit l.numbered (see.steps (drop l.step-index l.steps)) l.letter

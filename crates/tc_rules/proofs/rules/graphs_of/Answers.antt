@@ -1,0 +1,18 @@
+use Rattle.std.proofs.Common.{◌≡◌, ◌<◌, ◌≤◌, ◌^◌, length, arith}
+use Rattle.tc_rules.specs.Rows.{graph, graphs}
+use Rattle.tc_rules.proofs.Built.{graphs_at, left_at, cause_at, handed_on}
+use Rattle.tc_rules.proofs.rules.graphs_of.Goals as goal
+
+pub loop-path-preserved : goal.loop-path-preserved
+loop-path-preserved c =
+    let few : length (graph c.in_ok-graph.graph).states ≤ c.loop-path.left = c.in_ok-graph.ensures.few in
+    let so_far = c.loop-path.invariant.0 in
+    let size : c.len.result ≡ length (graph c.in_ok-graph.graph).states = c.len.ensures (omega (arith, few, so_far)) in (
+      left_at (graphs c.loop-path.graphs.items) (graphs c.keep_graph.new.graphs.items) (graph c.in_ok-graph.graph) c.loop-path.left c.len.result c.in_ok-keep_graph.ensures size (omega (arith, size, few)) so_far,
+      graphs_at c.args.source.now c.args.paths.now c.loop-path.path-index _ (graphs c.loop-path.graphs.items) (graphs c.keep_graph.new.graphs.items) (graph c.in_ok-graph.graph) (omega arith) c.in_ok-keep_graph.ensures c.loop-path.invariant.1 c.in_ok-graph.ensures.graph,
+    )
+
+pub returns-in_err-graph-clause-cause : goal.returns-in_err-graph-clause-cause
+returns-in_err-graph-clause-cause c =
+    handed_on c.from_residual.result c.in_err-graph.field-0.0 _ _ c.from_residual.ensures.1
+    (cause_at c.args.source.now c.args.paths.now c.loop-path.path-index _ (graphs c.loop-path.graphs.items) c.loop-path.left (omega arith) c.loop-path.invariant.0 c.loop-path.invariant.1) c.in_err-graph.ensures.cause

@@ -1,0 +1,338 @@
+// What a stylesheet has, each in its order: predicates, moves, looks, for-eaches, and the rules of each mode.
+ghost use Rattle.std.specs.Prelude.{◌≡◌, ◌≢◌, ◌<◌, ◌++◌, ◌∷◌, ℕ, [], Some, length, map, flat_map, get_or, slice_get, slice_set, Contains, IfOk, OnOk};
+ghost use Rattle.tc_model.specs.Meaning.{all_children};
+ghost use Rattle.tc_model.specs.Numbered.{numbers_below};
+ghost use Rattle.tc_model.specs.Numberings as n;
+ghost use Rattle.tc_model.specs.PathStates.{path_of_rules, steps_of};
+ghost use Rattle.tc_model.specs.Seen as see;
+ghost use Rattle.tc_model.specs.Symbols.{fresh_name, symbol_count};
+ghost use Rattle.tc_model.specs.WellFormed.{IsSheet, ForEach, eaches_of};
+ghost use Rattle.tc_rules.specs.Eaches.{bodies_in, bodies_of_eaches};
+ghost use Rattle.tc_rules.specs.Gathered.{built_in_moves, numbers, bodies as see_bodies};
+ghost use Rattle.tc_rules.specs.Jobs.{AreJobs, written_moves};
+ghost use Rattle.tc_rules.specs.Kept.{numbers_in_mode};
+ghost use Rattle.tc_rules.specs.Once.{predicates_of_rules};
+ghost use Rattle.tc_rules.specs.Seen.{eaches, predicates, looks, moves};
+
+use crate::once::{looks_once, moves_once, predicates_once};
+use crate::walk::{
+    Each, Job, Move, eaches_in_body, looks_in_body, looks_in_test, moves_in_body,
+    predicates_in_body, predicates_in_pattern,
+};
+use bumpalo::Bump;
+use std::alloc::Global;
+use tc_alpha::{Alphabet, Sym};
+use tc_base::NoMemory;
+use tc_model::{Instr, Name, NodeTest, Path, Pattern, Rule, Sheet, Step, Test};
+
+/// All children of a node.
+static ALL_CHILDREN: Path<'static> = Path {
+    alts: &[&[Step {
+        deep: false,
+        test: NodeTest::Node,
+        when: Test::True,
+    }]],
+};
+
+/// The path to all children: what a built-in rule selects (XSLT 1.0, 5.8).
+fn all_children<'b>() -> &'b Path<'b>
+    ensures { see.path result.now ≡ all_children }
+{
+    &ALL_CHILDREN
+}
+
+/// The predicates of a rule: those of its pattern, and then those of its body.
+fn predicates_of_rule<'b>(found: &mut Vec<&'b Test<'b>>, rule: &'b Rule<'b>) -> Result<(), NoMemory>
+    ensures { OnOk result (predicates found.new.items ≡ predicates found.old.items ++ (n.predicates_in_pattern (see.match_pattern rule.now.pattern) ++ n.predicates_in_body (see.body rule.now.body.now))) }
+{
+    predicates_in_pattern(found, &rule.pattern)?;
+    predicates_in_body(found, rule.body)
+}
+
+fn predicates_of_rules<'b>(
+    found: &mut Vec<&'b Test<'b>>,
+    rules: &'b [Rule<'b>],
+) -> Result<(), NoMemory>
+    ensures { OnOk result (predicates found.new.items ≡ predicates found.old.items ++ predicates_of_rules (map see.rule rules.now)) }
+{
+    for rule in rules {
+        predicates_of_rule(found, rule)?;
+    }
+    Ok(())
+}
+
+fn predicates_of_bodies<'b>(
+    found: &mut Vec<&'b Test<'b>>,
+    bodies: &'b [&'b [Instr<'b>]],
+) -> Result<(), NoMemory>
+    ensures { OnOk result (predicates found.new.items ≡ predicates found.old.items ++ flat_map n.predicates_in_body (map (λ b. see.body b.now) bodies.now)) }
+{
+    for body in bodies {
+        predicates_in_body(found, body)?;
+    }
+    Ok(())
+}
+
+/// The predicates, each once, in their order.
+pub(crate) fn all_predicates<'b>(
+    alloc: Global,
+    sheet: &Sheet<'b>,
+) -> Result<Vec<&'b Test<'b>>, NoMemory>
+    ensures { IfOk result (λ v. predicates v.items ≡ n.predicates_of (see.sheet sheet.now)) }
+{
+    let mut found = Vec::new(alloc);
+    predicates_of_rules(&mut found, sheet.rules)?;
+    predicates_of_bodies(&mut found, sheet.named)?;
+    predicates_once(alloc, &found)
+}
+
+/// The moves to all children, one in each mode.
+fn built_in_moves(found: &mut Vec<Move<'_>>, modes: u32) -> Result<(), NoMemory>
+    ensures { OnOk result ((k : ℕ) → moves k found.new.items ≡ moves k found.old.items ++ built_in_moves modes) }
+{
+    for mode in 0..modes {
+        let path = all_children();
+        let job = Job::Mode(mode);
+        found.push(Move { path, job })?;
+    }
+    Ok(())
+}
+
+fn moves_of_rules<'b>(found: &mut Vec<Move<'b>>, rules: &'b [Rule<'b>]) -> Result<(), NoMemory>
+    ensures { OnOk result ((modes : ℕ) → moves modes found.new.items ≡ moves modes found.old.items ++ flat_map (λ r. n.moves_in_body modes r.body) (map see.rule rules.now)) }
+{
+    for rule in rules {
+        moves_in_body(found, rule.body)?;
+    }
+    Ok(())
+}
+
+fn moves_of_bodies<'b>(
+    found: &mut Vec<Move<'b>>,
+    bodies: &'b [&'b [Instr<'b>]],
+) -> Result<(), NoMemory>
+    ensures { OnOk result ((modes : ℕ) → moves modes found.new.items ≡ moves modes found.old.items ++ flat_map (n.moves_in_body modes) (map (λ b. see.body b.now) bodies.now)) }
+{
+    for body in bodies {
+        moves_in_body(found, body)?;
+    }
+    Ok(())
+}
+
+/// The moves as they are written: those of the built-in rules, of all rules, and of the named bodies.
+fn written_moves<'b>(alloc: Global, sheet: &Sheet<'b>) -> Result<Vec<Move<'b>>, NoMemory>
+    ensures { IfOk result (λ v. (k : ℕ) → moves k v.items ≡ written_moves k (see.sheet sheet.now)) }
+{
+    let mut found = Vec::new(alloc);
+    built_in_moves(&mut found, sheet.modes)?;
+    moves_of_rules(&mut found, sheet.rules)?;
+    moves_of_bodies(&mut found, sheet.named)?;
+    Ok(found)
+}
+
+/// The moves, each once, in their order.
+pub(crate) fn all_moves<'b>(alloc: Global, sheet: &Sheet<'b>) -> Result<Vec<Move<'b>>, NoMemory>
+    requires { IsSheet (see.sheet sheet.now) }
+    ensures moves { IfOk result (λ v. moves sheet.now.modes v.items ≡ n.moves_of (see.sheet sheet.now)) }
+    ensures jobs { IfOk result (λ v. AreJobs (see.sheet sheet.now) v.items) }
+{
+    let found = written_moves(alloc, sheet)?;
+    moves_once(alloc, sheet.modes, &found)
+}
+
+fn looks_of_rules<'b>(found: &mut Vec<&'b Path<'b>>, rules: &'b [Rule<'b>]) -> Result<(), NoMemory>
+    ensures { OnOk result (looks found.new.items ≡ looks found.old.items ++ flat_map (λ r. n.looks_in_body r.body) (map see.rule rules.now)) }
+{
+    for rule in rules {
+        looks_in_body(found, rule.body)?;
+    }
+    Ok(())
+}
+
+fn looks_of_bodies<'b>(
+    found: &mut Vec<&'b Path<'b>>,
+    bodies: &'b [&'b [Instr<'b>]],
+) -> Result<(), NoMemory>
+    ensures { OnOk result (looks found.new.items ≡ looks found.old.items ++ flat_map n.looks_in_body (map (λ b. see.body b.now) bodies.now)) }
+{
+    for body in bodies {
+        looks_in_body(found, body)?;
+    }
+    Ok(())
+}
+
+fn looks_of_tests<'b>(
+    found: &mut Vec<&'b Path<'b>>,
+    numbered: &[&'b Test<'b>],
+) -> Result<(), NoMemory>
+    ensures { OnOk result (looks found.new.items ≡ looks found.old.items ++ flat_map n.looks_in_test (predicates numbered.now)) }
+{
+    for test in numbered {
+        looks_in_test(found, test)?;
+    }
+    Ok(())
+}
+
+/// The looks, each once, in their order, the predicates being given.
+pub(crate) fn all_looks<'b>(
+    alloc: Global,
+    sheet: &Sheet<'b>,
+    numbered: &[&'b Test<'b>],
+) -> Result<Vec<&'b Path<'b>>, NoMemory>
+    requires { predicates numbered.now ≡ n.predicates_of (see.sheet sheet.now) }
+    ensures { IfOk result (λ v. looks v.items ≡ n.looks_of (see.sheet sheet.now)) }
+{
+    let mut found = Vec::new(alloc);
+    looks_of_rules(&mut found, sheet.rules)?;
+    looks_of_bodies(&mut found, sheet.named)?;
+    looks_of_tests(&mut found, numbered)?;
+    looks_once(alloc, &found)
+}
+
+/// The steps of all rules' patterns; `/` has none.
+#[tactic(auto, using(crate::proofs::Gathered::rule_pushed))]
+pub(crate) fn paths_of_rules<'b>(
+    alloc: Global,
+    sheet: &Sheet<'b>,
+) -> Result<Vec<&'b [Step<'b>]>, NoMemory>
+    ensures { IfOk result (λ v. see.alternatives v.items ≡ path_of_rules (map see.rule sheet.now.rules.now)) }
+{
+    let mut path = Vec::new(alloc);
+    for rule in sheet.rules {
+        let steps = steps_of(&rule.pattern);
+        path.push(steps)?;
+    }
+    Ok(path)
+}
+
+/// The steps of a pattern; `/` has none.
+fn steps_of<'b>(pattern: &Pattern<'b>) -> &'b [Step<'b>]
+    ensures { see.steps result.now ≡ steps_of (see.match_pattern pattern.now) }
+{
+    match pattern {
+        Pattern::Root => &[],
+        Pattern::Steps(steps) => steps,
+    }
+}
+
+/// A name of each symbol.
+pub(crate) fn names_of<'a>(
+    alloc: Global,
+    arena: &'a Bump,
+    alphabet: &Alphabet,
+) -> Result<Vec<Name<'a>>, NoMemory>
+    ensures { IfOk result (λ v. map see.name v.items ≡ map (fresh_name alphabet.now) (numbers_below (symbol_count alphabet.now))) }
+{
+    let mut names = Vec::new(alloc);
+    for number in 0..alphabet.count() {
+        let name = alphabet.fresh(arena, Sym(number))?;
+        names.push(name)?;
+    }
+    Ok(names)
+}
+
+/// An empty list for each mode.
+fn no_numbers(alloc: Global, modes: u32) -> Result<Vec<Vec<u32>>, NoMemory>
+    ensures count { IfOk result (λ v. length v.items ≡ modes) }
+    ensures none { IfOk result (λ v. (m : ℕ) → get_or (numbers v.items) m [] ≡ []) }
+{
+    let mut lists = Vec::new(alloc);
+    for _mode in 0..modes {
+        lists.push(Vec::new(alloc))?;
+    }
+    Ok(lists)
+}
+
+/// One more rule of a mode. There is no memory for more of them than a number can count.
+fn add_number(lists: &mut Vec<Vec<u32>>, mode: u32, number: usize) -> Result<(), NoMemory>
+    requires { mode < length lists.old.items }
+    ensures count { OnOk result (length lists.new.items ≡ length lists.old.items) }
+    ensures added { OnOk result (get_or (numbers lists.new.items) mode [] ≡ get_or (numbers lists.old.items) mode [] ++ number ∷ []) }
+    ensures others { OnOk result ((m : ℕ) → m ≢ mode → get_or (numbers lists.new.items) m [] ≡ get_or (numbers lists.old.items) m []) }
+{
+    let Ok(number) = u32::try_from(number) else {
+        return Err(NoMemory);
+    };
+    lists[mode as usize].push(number)?;
+    Ok(())
+}
+
+/// The numbers of the rules of each mode, in order.
+pub(crate) fn modes_of_rules(alloc: Global, sheet: &Sheet<'_>) -> Result<Vec<Vec<u32>>, NoMemory>
+    requires { IsSheet (see.sheet sheet.now) }
+    ensures count { IfOk result (λ v. length v.items ≡ sheet.now.modes) }
+    ensures numbers { IfOk result (λ v. (m : ℕ) → m < sheet.now.modes → get_or (numbers v.items) m [] ≡ numbers_in_mode m 0 (map see.rule sheet.now.rules.now)) }
+{
+    let mut lists = no_numbers(alloc, sheet.modes)?;
+    for (number, rule) in sheet.rules.iter().enumerate() {
+        add_number(&mut lists, rule.mode, number)?;
+    }
+    Ok(lists)
+}
+
+/// The for-eaches of all rules and then of the named bodies.
+fn found_eaches<'b>(alloc: Global, sheet: &Sheet<'b>) -> Result<Vec<Each<'b>>, NoMemory>
+    ensures { IfOk result (λ v. eaches v.items ≡ bodies_of_eaches (see.sheet sheet.now)) }
+{
+    let mut found = Vec::new(alloc);
+    eaches_of_rules(&mut found, sheet.rules)?;
+    eaches_of_bodies(&mut found, sheet.named)?;
+    Ok(found)
+}
+
+fn eaches_of_rules<'b>(found: &mut Vec<Each<'b>>, rules: &'b [Rule<'b>]) -> Result<(), NoMemory>
+    ensures { OnOk result (eaches found.new.items ≡ eaches found.old.items ++ flat_map (λ r. bodies_in r.body) (map see.rule rules.now)) }
+{
+    for rule in rules {
+        eaches_in_body(found, rule.body)?;
+    }
+    Ok(())
+}
+
+fn eaches_of_bodies<'b>(
+    found: &mut Vec<Each<'b>>,
+    bodies: &'b [&'b [Instr<'b>]],
+) -> Result<(), NoMemory>
+    ensures { OnOk result (eaches found.new.items ≡ eaches found.old.items ++ flat_map bodies_in (map (λ b. see.body b.now) bodies.now)) }
+{
+    for body in bodies {
+        eaches_in_body(found, body)?;
+    }
+    Ok(())
+}
+
+/// So many empty bodies.
+fn no_bodies<'b>(alloc: Global, eaches: u32) -> Result<Vec<&'b [Instr<'b>]>, NoMemory>
+    ensures { IfOk result (λ v. length v.items ≡ eaches) }
+{
+    let mut bodies: Vec<&'b [Instr<'b>]> = Vec::new(alloc);
+    for _each in 0..eaches {
+        bodies.push(&[])?;
+    }
+    Ok(bodies)
+}
+
+/// A for-each's body goes to its number.
+fn put_body<'b>(bodies: &mut Vec<&'b [Instr<'b>]>, each: &Each<'b>)
+    requires { each.now.number < length bodies.old.items }
+    ensures { see_bodies bodies.new.items ≡ slice_set (see_bodies bodies.old.items) each.now.number (see.body each.now.body.now) }
+{
+    bodies[each.number as usize] = each.body;
+}
+
+/// The bodies of for-eaches, each at its number.
+pub(crate) fn all_eaches<'b>(
+    alloc: Global,
+    sheet: &Sheet<'b>,
+) -> Result<Vec<&'b [Instr<'b>]>, NoMemory>
+    requires { IsSheet (see.sheet sheet.now) }
+    ensures count { IfOk result (λ v. length v.items ≡ sheet.now.eaches) }
+    ensures bodies { IfOk result (λ v. (f : ForEach) → Contains (eaches_of (see.sheet sheet.now)) f → slice_get (see_bodies v.items) f.number ≡ Some f.body) }
+{
+    let found = found_eaches(alloc, sheet)?;
+    let mut bodies = no_bodies(alloc, sheet.eaches)?;
+    for each in &found {
+        put_body(&mut bodies, each);
+    }
+    Ok(bodies)
+}

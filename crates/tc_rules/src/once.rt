@@ -1,0 +1,184 @@
+// Predicates, looks and moves, each once.
+ghost use Rattle.std.specs.Prelude.{◌≡◌, ◌≤◌, ℕ, length, IfOk, OnOk};
+ghost use Rattle.std.specs.List.{list_any};
+ghost use Rattle.tc_model.specs.Numbered.{each_once, number_of};
+ghost use Rattle.tc_model.specs.Numberings.{same_move};
+ghost use Rattle.tc_model.specs.SameTests as same;
+ghost use Rattle.tc_model.specs.Seen as see;
+ghost use Rattle.tc_model.specs.Sheets as s;
+ghost use Rattle.tc_rules.specs.Jobs.{AreJobs, IsJob};
+ghost use Rattle.tc_rules.specs.Once.{put_once};
+ghost use Rattle.tc_rules.specs.Seen.{predicates, looks, moves, move as see_move, mode_of};
+
+use crate::same::{same_path, same_test};
+use crate::walk::{Job, Move};
+use std::alloc::Global;
+use tc_base::NoMemory;
+use tc_model::{Path, Test};
+
+fn has_test(kept: &[&Test<'_>], test: &Test<'_>) -> bool
+    ensures { result ≡ list_any (same.same_test (see.test test.now)) (predicates kept.now) }
+{
+    for other in kept {
+        if same_test(test, other) {
+            return true;
+        }
+    }
+    false
+}
+
+/// One more predicate, unless it is there.
+fn keep_test<'b>(kept: &mut Vec<&'b Test<'b>>, test: &'b Test<'b>) -> Result<(), NoMemory>
+    ensures { OnOk result (predicates kept.new.items ≡ put_once same.same_test (predicates kept.old.items) (see.test test.now)) }
+{
+    if !has_test(kept, test) {
+        kept.push(test)?;
+    }
+    Ok(())
+}
+
+/// The different predicates, in their order.
+pub(crate) fn predicates_once<'b>(
+    alloc: Global,
+    found: &[&'b Test<'b>],
+) -> Result<Vec<&'b Test<'b>>, NoMemory>
+    ensures { IfOk result (λ v. predicates v.items ≡ each_once same.same_test (predicates found.now)) }
+{
+    let mut kept = Vec::new(alloc);
+    for test in found {
+        keep_test(&mut kept, test)?;
+    }
+    Ok(kept)
+}
+
+/// How many predicates stand before the first that is the same.
+pub(crate) fn number_of_test(numbered: &[&Test<'_>], test: &Test<'_>) -> usize
+    ensures number { result ≡ number_of same.same_test (see.test test.now) (predicates numbered.now) }
+    ensures bound { result ≤ length numbered.now }
+{
+    for (i, other) in numbered.iter().enumerate() {
+        if same_test(test, other) {
+            return i;
+        }
+    }
+    numbered.len()
+}
+
+fn has_path(kept: &[&Path<'_>], path: &Path<'_>) -> bool
+    ensures { result ≡ list_any (same.same_path (see.path path.now)) (looks kept.now) }
+{
+    for other in kept {
+        if same_path(path, other) {
+            return true;
+        }
+    }
+    false
+}
+
+/// One more look, unless it is there.
+fn keep_path<'b>(kept: &mut Vec<&'b Path<'b>>, path: &'b Path<'b>) -> Result<(), NoMemory>
+    ensures { OnOk result (looks kept.new.items ≡ put_once same.same_path (looks kept.old.items) (see.path path.now)) }
+{
+    if !has_path(kept, path) {
+        kept.push(path)?;
+    }
+    Ok(())
+}
+
+/// The different looks, in their order.
+pub(crate) fn looks_once<'b>(
+    alloc: Global,
+    found: &[&'b Path<'b>],
+) -> Result<Vec<&'b Path<'b>>, NoMemory>
+    ensures { IfOk result (λ v. looks v.items ≡ each_once same.same_path (looks found.now)) }
+{
+    let mut kept = Vec::new(alloc);
+    for path in found {
+        keep_path(&mut kept, path)?;
+    }
+    Ok(kept)
+}
+
+/// How many looks stand before the first that is the same.
+pub(crate) fn number_of_path(numbered: &[&Path<'_>], path: &Path<'_>) -> usize
+    ensures number { result ≡ number_of same.same_path (see.path path.now) (looks numbered.now) }
+    ensures bound { result ≤ length numbered.now }
+{
+    for (i, other) in numbered.iter().enumerate() {
+        if same_path(path, other) {
+            return i;
+        }
+    }
+    numbered.len()
+}
+
+/// The mode of a job as a number: a for-each has one of its own, counted on from the modes.
+fn mode_number(modes: u32, job: Job) -> u64
+    ensures { result ≡ mode_of modes job }
+{
+    match job {
+        Job::Mode(mode) => u64::from(mode),
+        Job::Each(each) => u64::from(modes) + u64::from(each),
+    }
+}
+
+/// Whether two moves are the same, where there are so many modes.
+fn same_job(modes: u32, a: &Move<'_>, b: &Move<'_>) -> bool
+    ensures { result ≡ same_move (see_move modes a.now) (see_move modes b.now) }
+{
+    let mode = mode_number(modes, a.job);
+    let other = mode_number(modes, b.job);
+    mode == other && same_path(a.path, b.path)
+}
+
+fn has_move(modes: u32, kept: &[Move<'_>], other: &Move<'_>) -> bool
+    ensures { result ≡ list_any (same_move (see_move modes other.now)) (moves modes kept.now) }
+{
+    for known in kept {
+        if same_job(modes, other, known) {
+            return true;
+        }
+    }
+    false
+}
+
+/// One more move, unless it is there.
+#[tactic(auto, using(crate::proofs::JobsOf::one_more_job))]
+fn keep_move<'b>(modes: u32, kept: &mut Vec<Move<'b>>, other: &Move<'b>) -> Result<(), NoMemory>
+    ensures kept { OnOk result (moves modes kept.new.items ≡ put_once same_move (moves modes kept.old.items) (see_move modes other.now)) }
+    ensures jobs { OnOk result ((x : s.Sheet) → AreJobs x kept.old.items → IsJob x other.now.job → AreJobs x kept.new.items) }
+{
+    if !has_move(modes, kept, other) {
+        kept.push(*other)?;
+    }
+    Ok(())
+}
+
+/// The different moves, in their order.
+pub(crate) fn moves_once<'b>(
+    alloc: Global,
+    modes: u32,
+    found: &[Move<'b>],
+) -> Result<Vec<Move<'b>>, NoMemory>
+    ensures kept { IfOk result (λ v. moves modes v.items ≡ each_once same_move (moves modes found.now)) }
+    ensures jobs { IfOk result (λ v. (x : s.Sheet) → AreJobs x found.now → AreJobs x v.items) }
+{
+    let mut kept = Vec::new(alloc);
+    for other in found {
+        keep_move(modes, &mut kept, other)?;
+    }
+    Ok(kept)
+}
+
+/// How many moves stand before the first that is the same.
+pub(crate) fn number_of_move(modes: u32, numbered: &[Move<'_>], sought: &Move<'_>) -> usize
+    ensures number { result ≡ number_of same_move (see_move modes sought.now) (moves modes numbered.now) }
+    ensures bound { result ≤ length numbered.now }
+{
+    for (i, other) in numbered.iter().enumerate() {
+        if same_job(modes, sought, other) {
+            return i;
+        }
+    }
+    numbered.len()
+}

@@ -1,0 +1,571 @@
+// Which rule fits a node, and what paths select, by the numbers of states.
+ghost use Rattle.std.specs.Prelude.{◌≡◌, ◌<◌, ◌≤◌, ◌+◌, ◌^◌, ◌++◌, ◌∷◌, [], length, map, get_or, List, true, Some, None, slice_get, option_map, if◌then◌else◌, IfOk, OnOk, IfErr, MatchOption, Contains};
+ghost use Rattle.tc_model.specs.Numbered.{numbers_below};
+ghost use Rattle.tc_model.specs.Chains.{top};
+ghost use Rattle.tc_model.specs.Letters as l;
+ghost use Rattle.tc_model.specs.Numberings as n;
+ghost use Rattle.tc_model.specs.PathStates.{State, first_state, is_empty_state, path_of_rules};
+ghost use Rattle.tc_model.specs.Paths as paths;
+ghost use Rattle.tc_model.specs.RuleStates.{IsRuleOf, fits_below};
+ghost use Rattle.tc_model.specs.Seen as see;
+ghost use Rattle.tc_model.specs.Sheets as s;
+ghost use Rattle.tc_model.specs.Symbols.{Mention};
+ghost use Rattle.tc_model.specs.Trees.{none};
+ghost use Rattle.tc_model.specs.WellFormed.{ForEach, IsSheet, eaches_of};
+ghost use Rattle.tc_rules.specs.Asked.{found, kind as see_kind, letter};
+ghost use Rattle.tc_rules.specs.Classes.{IsSourceOf};
+ghost use Rattle.tc_rules.specs.Graphs.{kind_at, IsGraphOf};
+ghost use Rattle.tc_rules.specs.Picked.{better, is_root_at, outranks};
+ghost use Rattle.tc_rules.specs.Rows.{graph as see_graph, graphs as see_graphs};
+ghost use Rattle.tc_rules.specs.Selects.{AreGraphs, IsAncestorCause, IsNextCause, IsSelectCause, first_from, selects_from, starts_from};
+ghost use Rattle.tc_rules.specs.Faults.{IsCause, PassNone};
+ghost use Rattle.tc_rules.specs.Jobs.{IsJob};
+ghost use Rattle.tc_rules.specs.Kept.{IsRulesOf, told};
+ghost use Rattle.tc_rules.specs.Seen.{mode_of, predicates, looks as see_paths};
+ghost use Rattle.tc_rules.specs.Told.{AreSymbolsWith, all_count, count_states, some_item, Block, IsStateOf, ancestor, ancestor_below, is_hit_of, move_count, select_below, select_count};
+
+use crate::gather::{
+    all_eaches, all_looks, all_moves, all_predicates, modes_of_rules, names_of, paths_of_rules,
+};
+use crate::graph::{Counts, Graph, GraphFault, Source, small};
+use crate::once::{number_of_move, number_of_path};
+use crate::walk::{Job, Move};
+use bumpalo::Bump;
+use std::alloc::Global;
+use tc_alpha::{Alphabet, Sym};
+use tc_base::NoMemory;
+use tc_model::{Instr, Path, Pattern, Rule, Sheet, Test};
+
+/// The most predicates, ancestor states and select states.
+const MOST_PREDICATES: usize = 6;
+
+const MOST_ANCESTORS: usize = 64;
+
+const MOST_SELECTS: usize = 4096;
+
+/// A set of predicates, to which the predicate of number i adds 2 to the power i.
+#[derive(Clone, Copy, Debug, PartialEq, Eq, PartialOrd, Ord, Hash)]
+pub struct Marks(pub u32);
+
+/// What a node test sees of a node: the symbol of an element, or that it is a text.
+#[derive(Clone, Copy, Debug, PartialEq, Eq, Hash)]
+pub enum Kind {
+    Elem(Sym),
+    Text,
+}
+
+/// The rule of a node, by its number in the stylesheet, or that a built-in one is meant (XSLT 1.0, 5.8).
+#[derive(Clone, Copy, Debug, PartialEq, Eq, Hash)]
+pub enum Found {
+    Rule(u32),
+    BuiltIn,
+}
+
+/// Why there are no rules. Of the limits that are passed the first is told.
+#[derive(Clone, Copy, Debug, PartialEq, Eq)]
+pub enum RulesFault {
+    /// There are more than 6 predicates.
+    TooManyPredicates,
+    /// There are more than 64 ancestor states.
+    TooManyAncestorStates,
+    /// There are more than 4,096 states of moves and looks together.
+    TooManySelectStates,
+    /// Memory was refused.
+    NoMemory,
+}
+
+impl From<NoMemory> for RulesFault {
+    ghost use Rattle.std.specs.Prelude.{◌≡◌};
+    ghost use Rattle.tc_rules.specs.declared.rules.RulesFault.TheVariants.{NoMemory};
+
+    ghost from_gives = { λ _ e. e ≡ NoMemory };
+
+    fn from(_error: NoMemory) -> RulesFault {
+        RulesFault::NoMemory
+    }
+}
+
+/// A select state: the number of its graph, and its number there.
+#[derive(Clone, Copy)]
+struct Select {
+    graph: usize,
+    state: u32,
+}
+
+/// The rules of a stylesheet over the symbols of an alphabet. In contracts it is the stylesheet with the states of its paths by number.
+/// Select states are numbered through all moves and then through all looks.
+#[derive(Drop)]
+pub struct Rules<'b> {
+    sheet: Sheet<'b>,
+    predicates: Vec<&'b Test<'b>>,
+    moves: Vec<Move<'b>>,
+    looks: Vec<&'b Path<'b>>,
+    eaches: Vec<&'b [Instr<'b>]>,
+    /// The numbers of the rules of each mode.
+    modes: Vec<Vec<u32>>,
+    above: Graph,
+    graphs: Vec<Graph>,
+    selects: Vec<Select>,
+    /// The number of each graph's first state among the select states, and of those after the last.
+    starts: Vec<u32>,
+}
+
+impl<'b> Rules<'b> {
+    /// The rules of a stylesheet.
+    ///
+    /// # Errors
+    ///
+    /// Of the limits that are passed the first: more than 6 predicates, 64 ancestor states, or 4,096 select states.
+    pub fn of(
+        alloc: Global,
+        sheet: &Sheet<'b>,
+        alphabet: &Alphabet,
+    ) -> Result<Rules<'b>, RulesFault>
+        requires sheet { IsSheet (see.sheet sheet.now) }
+        requires symbols { AreSymbolsWith alphabet.now (see.sheet sheet.now) }
+        ensures sheet { IfOk result (λ r. (told r).sheet ≡ see.sheet sheet.now) }
+        ensures rules { IfOk result (λ r. IsRulesOf alphabet.now r) }
+        ensures within { OnOk result (PassNone alphabet.now (see.sheet sheet.now)) }
+        ensures cause { IfErr result (λ e. IsCause alphabet.now (see.sheet sheet.now) e) }
+    {
+        let predicates = all_predicates(alloc, sheet)?;
+        if predicates.len() > MOST_PREDICATES {
+            return Err(RulesFault::TooManyPredicates);
+        }
+        let arena = Bump::new(alloc);
+        let names = names_of(alloc, &arena, alphabet)?;
+        let sets = sets_of(predicates.len());
+        let looks = all_looks(alloc, sheet, &predicates)?;
+        let source = Source {
+            alloc,
+            names,
+            predicates,
+            sets,
+        };
+        let above = ancestors_of(&source, sheet)?;
+        let moves = all_moves(alloc, sheet)?;
+        let paths = select_paths(alloc, &moves, &looks)?;
+        let graphs = graphs_of(&source, &paths)?;
+        let selects = selects_of(alloc, &graphs)?;
+        let starts = starts_of(alloc, &graphs)?;
+        let eaches = all_eaches(alloc, sheet)?;
+        let modes = modes_of_rules(alloc, sheet)?;
+        Ok(Rules {
+            sheet: *sheet,
+            predicates: source.predicates,
+            moves,
+            looks,
+            eaches,
+            modes,
+            above,
+            graphs,
+            selects,
+            starts,
+        })
+    }
+
+    /// The stylesheet.
+    pub fn sheet(&self) -> &Sheet<'b>
+        ensures { see.sheet result.now ≡ (told self.now).sheet }
+    {
+        &self.sheet
+    }
+
+    /// How many ancestor states there are. State 0 is that above the document.
+    pub fn ancestors(&self) -> u32
+        ensures count { (symbols : List Mention) → IsRulesOf symbols self.now → result ≡ length (told self.now).ancestors.states }
+        ensures first { (symbols : List Mention) → IsRulesOf symbols self.now → slice_get (told self.now).ancestors.states 0 ≡ Some (first_state (path_of_rules (told self.now).sheet.rules)) }
+    {
+        self.above.len()
+    }
+
+    /// How many select states there are of moves.
+    pub fn moves(&self) -> u32
+        ensures { (symbols : List Mention) → IsRulesOf symbols self.now → result ≡ move_count (told self.now) }
+    {
+        self.start(self.moves.len())
+    }
+
+    /// How many select states there are of looks.
+    pub fn looks(&self) -> u32
+        ensures { (symbols : List Mention) → IsRulesOf symbols self.now → result + move_count (told self.now) ≡ select_count (told self.now) }
+    {
+        let all = self.start(self.graphs.len());
+        rest_of(all, self.moves())
+    }
+
+    /// How many predicates there are.
+    pub fn predicates(&self) -> u32
+        ensures { (symbols : List Mention) → IsRulesOf symbols self.now → result ≡ length (n.predicates_of (told self.now).sheet) }
+    {
+        small(self.predicates.len())
+    }
+
+    /// The predicate of a number.
+    pub fn predicate(&self, i: u32) -> &'b Test<'b>
+        requires { i < length (told self.now).predicates }
+        ensures { (symbols : List Mention) → IsRulesOf symbols self.now → slice_get (n.predicates_of (told self.now).sheet) i ≡ Some (see.test result.now) }
+    {
+        self.predicates[i as usize]
+    }
+
+    /// The rule of the root in a mode.
+    pub fn root_rule(&self, mode: u32) -> Found
+        requires { mode < (told self.now).sheet.modes }
+        ensures { (symbols : List Mention) → IsRulesOf symbols self.now → IsRuleOf (told self.now).sheet.rules mode (λ i r. paths.fits r.pattern (top none)) (found result) }
+    {
+        let mut best = Found::BuiltIn;
+        for number in self.rules_of(mode) {
+            let fits = self.is_root(*number);
+            best = self.better_if(fits, best, *number);
+        }
+        best
+    }
+
+    /// The rule in a mode of a node of a letter, the state of the element above it being given.
+    pub fn rule_for(&self, mode: u32, anc: u32, kind: Kind, marks: Marks) -> Found
+        requires mode { mode < (told self.now).sheet.modes }
+        requires state { anc < length (told self.now).ancestors.states }
+        ensures { (symbols : List Mention) → IsRulesOf symbols self.now → l.IsLetter symbols (n.predicates_of (told self.now).sheet) (letter kind marks) → IsRuleOf (told self.now).sheet.rules mode (fits_below symbols (n.predicates_of (told self.now).sheet) (ancestor (told self.now) anc) (letter kind marks)) (found result) }
+    {
+        let symbol = symbol_of(kind);
+        let mut best = Found::BuiltIn;
+        for number in self.rules_of(mode) {
+            let fits = self.above.ends(anc, symbol, marks.0, *number);
+            best = self.better_if(fits, best, *number);
+        }
+        best
+    }
+
+    /// The ancestor state one element further down.
+    pub fn anc_step(&self, anc: u32, sym: Sym, marks: Marks) -> u32
+        requires { anc < length (told self.now).ancestors.states }
+        ensures { (symbols : List Mention) → IsRulesOf symbols self.now → l.IsLetter symbols (n.predicates_of (told self.now).sheet) (letter (Kind.Elem sym) marks) → slice_get (told self.now).ancestors.states result ≡ Some (ancestor_below symbols (told self.now) anc (letter (Kind.Elem sym) marks)) }
+    {
+        match self.above.step(anc, sym.0, marks.0) {
+            Some(number) => number,
+            None => 0,
+        }
+    }
+
+    /// The select state one element further down, of the same path. There is none where no hit comes any more.
+    pub fn sel_step(&self, sel: u32, sym: Sym, marks: Marks) -> Option<u32>
+        requires { sel < select_count (told self.now) }
+        ensures { (symbols : List Mention) (b : Block) (x : State) → IsRulesOf symbols self.now → l.IsLetter symbols (n.predicates_of (told self.now).sheet) (letter (Kind.Elem sym) marks) → IsStateOf (told self.now) sel b x → MatchOption result (is_empty_state (select_below symbols (told self.now) b x (letter (Kind.Elem sym) marks)) ≡ true) (λ k. IsStateOf (told self.now) k b (select_below symbols (told self.now) b x (letter (Kind.Elem sym) marks))) }
+    {
+        let Some(select) = self.select(sel) else {
+            return None;
+        };
+        let Some(graph) = self.graph(select.graph) else {
+            return None;
+        };
+        let start = self.start(select.graph);
+        let lead = graph.step(select.state, sym.0, marks.0);
+        match lead {
+            Some(number) => Some(place_after(start, number)),
+            None => None,
+        }
+    }
+
+    /// Whether the path of a select state selects a node of a letter, the state of the element above it being given.
+    pub fn sel_hits(&self, sel: u32, kind: Kind, marks: Marks) -> bool
+        requires { sel < select_count (told self.now) }
+        ensures { (symbols : List Mention) (b : Block) (x : State) → IsRulesOf symbols self.now → l.IsLetter symbols (n.predicates_of (told self.now).sheet) (letter kind marks) → IsStateOf (told self.now) sel b x → result ≡ is_hit_of symbols (told self.now) b x (letter kind marks) }
+    {
+        let Some(select) = self.select(sel) else {
+            return false;
+        };
+        let Some(graph) = self.graph(select.graph) else {
+            return false;
+        };
+        let symbol = symbol_of(kind);
+        graph.hits(select.state, symbol, marks.0)
+    }
+
+    /// The first state of a move of the stylesheet. There is none where the path has no alternative.
+    pub fn move_first(&self, path: &Path<'_>, job: Job) -> Option<u32>
+        requires { Contains (n.moves_of (told self.now).sheet) (record { path = see.path path.now; mode = mode_of (told self.now).sheet.modes job }) }
+        ensures { (symbols : List Mention) → IsRulesOf symbols self.now → MatchOption result (see.path path.now ≡ s.no_alternative) (λ k. IsStateOf (told self.now) k (record { path = see.path path.now; mode = Some (mode_of (told self.now).sheet.modes job) }) (first_state (see.path path.now))) }
+    {
+        let number = number_of_move(self.sheet.modes, &self.moves, &Move { path, job });
+        self.first_of(number)
+    }
+
+    /// The first state of a look of the stylesheet. There is none where the path has no alternative.
+    pub fn look_first(&self, path: &Path<'_>) -> Option<u32>
+        requires { Contains (n.looks_of (told self.now).sheet) (see.path path.now) }
+        ensures { (symbols : List Mention) → IsRulesOf symbols self.now → MatchOption result (see.path path.now ≡ s.no_alternative) (λ k. IsStateOf (told self.now) k (record { path = see.path path.now; mode = None }) (first_state (see.path path.now))) }
+    {
+        let number = self.moves.len() + number_of_path(&self.looks, path);
+        self.first_of(number)
+    }
+
+    /// What is done on the nodes that a move selects, by a state of it.
+    pub fn mode_of(&self, sel: u32) -> Job
+        requires { sel < move_count (told self.now) }
+        ensures mode { (symbols : List Mention) (b : Block) (x : State) → IsRulesOf symbols self.now → IsStateOf (told self.now) sel b x → b.mode ≡ Some (mode_of (told self.now).sheet.modes result) }
+        ensures job { (symbols : List Mention) (b : Block) (x : State) → IsRulesOf symbols self.now → IsStateOf (told self.now) sel b x → IsJob (told self.now).sheet result }
+    {
+        let Some(select) = self.select(sel) else {
+            return Job::Mode(0);
+        };
+        let Some(found) = self.move_at(select.graph) else {
+            return Job::Mode(0);
+        };
+        found.job
+    }
+
+    /// The body of a for-each.
+    pub fn each_body(&self, each: u32) -> &'b [Instr<'b>]
+        requires { each < length (told self.now).eaches }
+        ensures { (symbols : List Mention) (f : ForEach) → IsRulesOf symbols self.now → Contains (eaches_of (told self.now).sheet) f → f.number ≡ each → f.body ≡ see.body result.now }
+    {
+        self.eaches[each as usize]
+    }
+
+    /// The numbers of the rules of a mode, in order.
+    fn rules_of(&self, mode: u32) -> &[u32]
+        ensures { result.now ≡ get_or (map (λ w. w.items) self.now.modes.items) mode [] }
+    {
+        match self.modes.get(mode as usize) {
+            Some(numbers) => numbers,
+            None => &[],
+        }
+    }
+
+    /// The rule of a number.
+    fn rule(&self, number: u32) -> Option<&Rule<'b>>
+        ensures { slice_get (told self.now).sheet.rules number ≡ option_map (λ r. see.rule r.now) result }
+    {
+        self.sheet.rules.get(number as usize)
+    }
+
+    /// Whether the pattern of a rule is `/`.
+    fn is_root(&self, number: u32) -> bool
+        ensures { result ≡ is_root_at (told self.now).sheet.rules number }
+    {
+        match self.rule(number) {
+            Some(rule) => matches!(rule.pattern, Pattern::Root),
+            None => false,
+        }
+    }
+
+    /// Whether the first of two rules has the greater priority.
+    fn outranks(&self, number: u32, other: u32) -> bool
+        ensures { result ≡ outranks (slice_get (told self.now).sheet.rules number) (slice_get (told self.now).sheet.rules other) }
+    {
+        let Some(rule) = self.rule(number) else {
+            return false;
+        };
+        let Some(other) = self.rule(other) else {
+            return false;
+        };
+        rule.priority > other.priority
+    }
+
+    /// Of the best rule so far and one after it that fits, the one of greater priority; of two equal ones the later.
+    fn better(&self, best: Found, number: u32) -> Found
+        ensures { found result ≡ better (told self.now).sheet.rules (found best) number }
+    {
+        let Found::Rule(other) = best else {
+            return Found::Rule(number);
+        };
+        if self.outranks(other, number) {
+            return best;
+        }
+        Found::Rule(number)
+    }
+
+    /// The best rule so far, once one more is looked at.
+    fn better_if(&self, fits: bool, best: Found, number: u32) -> Found
+        ensures { found result ≡ (if fits then better (told self.now).sheet.rules (found best) number else found best) }
+    {
+        if fits {
+            return self.better(best, number);
+        }
+        best
+    }
+
+    /// Where a select state stands.
+    fn select(&self, sel: u32) -> Option<Select>
+        ensures { result ≡ slice_get self.now.selects.items sel }
+    {
+        self.selects.get(sel as usize).copied()
+    }
+
+    /// How many select states the graphs before one of them have.
+    fn start(&self, graph: usize) -> u32
+        ensures { result ≡ get_or self.now.starts.items graph 0 }
+    {
+        match self.starts.get(graph) {
+            Some(start) => *start,
+            None => 0,
+        }
+    }
+
+    /// The graph of a place.
+    fn graph(&self, place: usize) -> Option<&Graph>
+        ensures { slice_get self.now.graphs.items place ≡ option_map (λ g. g.now) result }
+    {
+        self.graphs.get(place)
+    }
+
+    /// The move of a place.
+    fn move_at(&self, place: usize) -> Option<&Move<'b>>
+        ensures { slice_get self.now.moves.items place ≡ option_map (λ m. m.now) result }
+    {
+        self.moves.get(place)
+    }
+
+    /// The first state of a graph, if it has states.
+    fn first_of(&self, place: usize) -> Option<u32>
+        ensures { result ≡ first_from (told self.now).selects self.now.starts.items place }
+    {
+        let Some(graph) = self.graph(place) else {
+            return None;
+        };
+        if graph.is_empty() {
+            return None;
+        }
+        Some(self.start(place))
+    }
+}
+
+/// The number that comes so many after a start.
+fn place_after(start: u32, number: u32) -> u32
+    ensures { start + number < 2 ^ 32 → result ≡ start + number }
+{
+    start.saturating_add(number)
+}
+
+/// How many are left without a part of them.
+fn rest_of(all: u32, part: u32) -> u32
+    ensures { part ≤ all → result + part ≡ all }
+{
+    all.saturating_sub(part)
+}
+
+/// The symbol of a kind, or that it is a text.
+fn symbol_of(kind: Kind) -> Option<u32>
+    ensures { kind_at result ≡ see_kind kind }
+{
+    match kind {
+        Kind::Elem(sym) => Some(sym.0),
+        Kind::Text => None,
+    }
+}
+
+/// How many sets of so many predicates there are.
+fn sets_of(predicates: usize) -> u32
+    requires { predicates ≤ 6 }
+    ensures { result ≡ 2 ^ predicates }
+{
+    1 << predicates
+}
+
+/// The ancestor states: those of all rules' patterns together.
+fn ancestors_of(source: &Source<'_, '_>, sheet: &Sheet<'_>) -> Result<Graph, RulesFault>
+    requires { source.now.sets ≡ 2 ^ length source.now.predicates.items }
+    ensures graph { IfOk result (λ g. (symbols : List Mention) → IsSourceOf symbols source.now → IsGraphOf symbols (predicates source.now.predicates.items) all_count (path_of_rules (see.sheet sheet.now).rules) (see_graph g)) }
+    ensures few { IfOk result (λ g. length (see_graph g).states ≤ 64) }
+    ensures cause { IfErr result (λ e. IsAncestorCause source.now (path_of_rules (see.sheet sheet.now).rules) e) }
+{
+    let path = paths_of_rules(source.alloc, sheet)?;
+    match source.graph(&path, Counts::All, MOST_ANCESTORS) {
+        Ok(graph) => Ok(graph),
+        Err(GraphFault::TooManyStates) => Err(RulesFault::TooManyAncestorStates),
+        Err(GraphFault::NoMemory) => Err(RulesFault::NoMemory),
+    }
+}
+
+/// The paths of moves and then of looks.
+fn select_paths<'b>(
+    alloc: Global,
+    moves: &[Move<'b>],
+    looks: &[&'b Path<'b>],
+) -> Result<Vec<&'b Path<'b>>, NoMemory>
+    ensures { IfOk result (λ v. see_paths v.items ≡ map (λ m. see.path m.path.now) moves.now ++ see_paths looks.now) }
+{
+    let mut paths = Vec::new(alloc);
+    for found in moves {
+        paths.push(found.path)?;
+    }
+    paths.extend_from_slice(looks)?;
+    Ok(paths)
+}
+
+/// The graphs of the select states of paths.
+fn graphs_of(source: &Source<'_, '_>, paths: &[&Path<'_>]) -> Result<Vec<Graph>, RulesFault>
+    requires { source.now.sets ≡ 2 ^ length source.now.predicates.items }
+    ensures graphs { IfOk result (λ v. (symbols : List Mention) → IsSourceOf symbols source.now → AreGraphs symbols (predicates source.now.predicates.items) (see_paths paths.now) (see_graphs v.items)) }
+    ensures few { IfOk result (λ v. count_states (see_graphs v.items) ≤ 4096) }
+    ensures cause { IfErr result (λ e. IsSelectCause source.now (see_paths paths.now) e) }
+{
+    let mut graphs = Vec::new(source.alloc);
+    let mut left = MOST_SELECTS;
+    for path in paths {
+        let graph = next_graph(source, path, left)?;
+        left -= graph.len() as usize;
+        keep_graph(&mut graphs, graph)?;
+    }
+    Ok(graphs)
+}
+
+fn keep_graph(graphs: &mut Vec<Graph>, graph: Graph) -> Result<(), NoMemory>
+    ensures { OnOk result (see_graphs graphs.new.items ≡ see_graphs graphs.old.items ++ see_graph graph ∷ []) }
+{
+    graphs.push(graph)?;
+    Ok(())
+}
+
+/// The graph of one more path, of at most so many states.
+fn next_graph(source: &Source<'_, '_>, path: &Path<'_>, left: usize) -> Result<Graph, RulesFault>
+    requires sets { source.now.sets ≡ 2 ^ length source.now.predicates.items }
+    requires few { left ≤ 4096 }
+    ensures graph { IfOk result (λ g. (symbols : List Mention) → IsSourceOf symbols source.now → IsGraphOf symbols (predicates source.now.predicates.items) some_item (see.path path.now) (see_graph g)) }
+    ensures few { IfOk result (λ g. length (see_graph g).states ≤ left) }
+    ensures cause { IfErr result (λ e. IsNextCause source.now (see.path path.now) left e) }
+{
+    match source.graph(path.alts, Counts::SomeItem, left) {
+        Ok(graph) => Ok(graph),
+        Err(GraphFault::TooManyStates) => Err(RulesFault::TooManySelectStates),
+        Err(GraphFault::NoMemory) => Err(RulesFault::NoMemory),
+    }
+}
+
+/// Adds so many states of a graph.
+fn add_selects(selects: &mut Vec<Select>, graph: usize, count: u32) -> Result<(), NoMemory>
+    ensures { OnOk result (selects.new.items ≡ selects.old.items ++ map (λ j. record { graph = graph; state = j }) (numbers_below count)) }
+{
+    for state in 0..count {
+        selects.push(Select { graph, state })?;
+    }
+    Ok(())
+}
+
+/// Where each select state stands.
+fn selects_of(alloc: Global, graphs: &[Graph]) -> Result<Vec<Select>, NoMemory>
+    requires { count_states (see_graphs graphs.now) ≤ 4096 }
+    ensures { IfOk result (λ v. v.items ≡ selects_from 0 (see_graphs graphs.now)) }
+{
+    let mut selects = Vec::new(alloc);
+    for (i, graph) in graphs.iter().enumerate() {
+        add_selects(&mut selects, i, graph.len())?;
+    }
+    Ok(selects)
+}
+
+/// How many select states stand before those of each graph, and in all.
+fn starts_of(alloc: Global, graphs: &[Graph]) -> Result<Vec<u32>, NoMemory>
+    requires { count_states (see_graphs graphs.now) ≤ 4096 }
+    ensures { IfOk result (λ v. v.items ≡ starts_from 0 (see_graphs graphs.now)) }
+{
+    let mut starts = Vec::new(alloc);
+    let mut before = 0;
+    for graph in graphs {
+        starts.push(before)?;
+        before += graph.len();
+    }
+    starts.push(before)?;
+    Ok(starts)
+}
