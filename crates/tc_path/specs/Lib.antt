@@ -3,3 +3,4 @@ pub mod Reasons
 pub mod Faults
 pub mod NameTokens
 pub mod Phrases
+pub mod Contexts
