@@ -1,0 +1,7 @@
+use Rattle.std.proofs.Common.{◌≡◌, map, drop}
+use Rattle.tc_model.specs.Seen.{bound}
+use Rattle.tc_model.specs.XmlTextScopes.{uri_of}
+use Rattle.tc_sheet.proofs.attributes.namespace_of.Given as goal
+
+abbrev pub invariant-loop-binding : goal.invariant-loop-binding
+invariant-loop-binding l = uri_of (map bound (drop l.binding-index l.scope)) l.prefix ≡ uri_of (map bound l.scope) l.prefix

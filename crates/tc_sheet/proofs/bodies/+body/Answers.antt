@@ -1,0 +1,121 @@
+use Rattle.tc_model.specs.SheetTextPhrases.{IsBody, AreBranches}
+use Rattle.std.proofs.Common.{ap, ◌∙◌, sym, subst, ◌+◌, drop}
+use Rattle.std.proofs.lemmas.List.{at_drop_all}
+use Rattle.tc_model.specs.Seen.{name, place, raw_trees, raw_before, raw_element}
+use Rattle.tc_model.specs.SheetTextTrees.{w_nothing, w_otherwise}
+use Rattle.tc_model.specs.declared.tree.Raw.{Raw}
+use Rattle.tc_sheet.specs.Constructs as constructs
+use Rattle.tc_sheet.specs.Constructs.{of_when}
+use Rattle.tc_sheet.specs.Changes.{both}
+use Rattle.tc_sheet.specs.Begun.{IsBegun}
+use Rattle.tc_sheet.specs.Readings.{Refuses, HasNoBranches}
+use Rattle.std.proofs.Common.{rules}
+use Rattle.tc_model.specs.declared.tree.Raw.TheViews.{the_lemmas}
+use Rattle.tc_sheet.proofs.bodies.+body.Goals.{body-in-Some+in_ok-push-in-Some, body-in-None, read_branches-in-Text+else-not-is_all_white, read_branches-in-Elem+in_ok-ends-in-Elem+else-ends+in_ok-branch-in-Elem+in_ok-push-in-Elem}
+use Rattle.tc_sheet.specs.Seen.{body, branches, put}
+use Rattle.tc_sheet.specs.declared.written.Written.TheVariants as v
+use Rattle.tc_model.proofs.ViewsRaw.{left_one, left_elem, left_text, before_elem, before_text}
+use Rattle.tc_sheet.proofs.ViewsWritten.{see_text, see_choose}
+use Rattle.tc_sheet.proofs.Refused.{handed_on}
+use Rattle.tc_sheet.proofs.BodyLaws.{BodyLoop, body_begins, body_goes_on, body_pushed, body_stays, body_ends, item_of_body_refuses, item_white, item_text, item_ok, item_no, body_refuses}
+use Rattle.tc_sheet.proofs.BranchLaws.{BranchLoop, branches_begin, past_blank, past_when, when_refuses, all_read, otherwise_refuses, none_left, black_refuses, odd_refuses, is_when, is_last, rest_whole, choose_refuses, without_when, empty_branches, choose_item, otherwise_only_refuses, otherwise_body_refuses, otherwise_blank_refuses, otherwise_read, when_test_refuses, when_body_refuses}
+use Rattle.tc_sheet.proofs.bodies.+body.Goals as goal
+
+pub body-loop-kid-init : goal.body-loop-kid-init
+body-loop-kid-init t c = subst (BodyLoop (raw_trees c.args.kids.now) (raw_trees c.args.kids.now)) (sym c.new-found.ensures.items) (body_begins (raw_trees c.args.kids.now))
+
+pub body-returns-in_err-read-clause-no : goal.body-returns-in_err-read-clause-no
+body-returns-in_err-read-clause-no t c = handed_on _ c.from_residual.result c.in_err-read.field-0.0 c.from_residual.ensures.1 (item_of_body_refuses (raw_trees (drop (c.loop-kid.kid-index + 1) c.args.kids.now)) c.kid-item.result (subst (λ h. BodyLoop (raw_trees c.args.kids.now) h c.loop-kid.found.items) (left_one c.args.kids.now c.loop-kid.kid-index c.kid-item.result c.loop-kid-test.true c.kid-item.is) c.loop-kid.invariant) c.in_err-read.field-0.0 c.in_err-read.ensures.no)
+
+pub body-loop-kid-preserved : goal.body-loop-kid-preserved
+body-loop-kid-preserved t c =
+    body_goes_on c.kid-item.result (raw_trees (drop (c.loop-kid.kid-index + 1) c.args.kids.now)) (put c.in_ok-read.read) c.match-read.found.items c.in_ok-read.ensures.ok (subst (λ h. BodyLoop (raw_trees c.args.kids.now) h c.loop-kid.found.items) (left_one c.args.kids.now c.loop-kid.kid-index c.kid-item.result c.loop-kid-test.true c.kid-item.is) c.loop-kid.invariant)
+    (elim c.match-read.branch [
+      | body-in-Some+in_ok-push-in-Some w ↦ body_pushed c.loop-kid.found.items c.match-read.found.items w.in-Some.written c.in_ok-read.read (ap (λ v. v.items) w.found-is ∙ w.in_ok-push-in-Some.ensures.items) w.in-Some.is
+      | body-in-None w ↦ body_stays c.loop-kid.found.items c.match-read.found.items c.in_ok-read.read (ap (λ v. v.items) w.found-is) w.in-None.is
+    ])
+
+pub body-returns-clause-ok : goal.body-returns-clause-ok
+body-returns-clause-ok t c = body_ends c.loop-kid.invariant (at_drop_all raw_trees c.args.kids.now c.loop-kid.kid-index c.loop-kid-test.false) c.into_bump_slice.ensures
+
+pub choose-returns-in_err-branches-clause-no : goal.choose-returns-in_err-branches-clause-no
+choose-returns-in_err-branches-clause-no t c = handed_on _ c.from_residual.result c.in_err-branches.field-0.0 c.from_residual.ensures.1 (choose_refuses c.args.element.now c.requires.choose c.in_err-branches.field-0.0 c.in_err-branches.ensures.no)
+
+pub choose-returns-then-is_empty-clause-no : goal.choose-returns-then-is_empty-clause-no
+choose-returns-then-is_empty-clause-no t c = (constructs.at_element, without_when c.args.element.now c.requires.choose (body c.in_ok-branches.last.now) (empty_branches c.in_ok-branches.branches.now (sym c.if-is_empty.ensures) c.in_ok-branches.ensures.ok) both)
+
+pub choose-returns-clause-ok : goal.choose-returns-clause-ok
+choose-returns-clause-ok t c = λ rest b y. subst (IsBody (raw_element c.args.element.now rest)) (sym (see_choose c.in_ok-branches.branches c.in_ok-branches.last b)) (choose_item c.args.element.now c.requires.choose c.in_ok-branches.branches.now (body c.in_ok-branches.last.now) (sym c.if-is_empty.ensures) c.requires.only c.in_ok-branches.ensures.ok rest b y)
+
+pub element_of_body-returns-in_err-inner-in-Around-clause-no : goal.element_of_body-returns-in_err-inner-in-Around-clause-no
+element_of_body-returns-in_err-inner-in-Around-clause-no t c = handed_on _ c.from_residual-in_err-inner-in-Around.result c.in_err-inner-in-Around.field-0.0 c.from_residual-in_err-inner-in-Around.ensures.1 (body_refuses c.args.element.now c.in-Around.head (subst (IsBegun c.args.element.now) c.in-Around.is c.in_ok-begun.ensures.ok) c.in_err-inner-in-Around.field-0.0 c.in_err-inner-in-Around.ensures.no)
+
+pub item-returns-then-is_all_white-clause-ok : goal.item-returns-then-is_all_white-clause-ok
+item-returns-then-is_all_white-clause-ok t c = item_white c.args.kid.now c.in-Text.text.now (place c.in-Text.field-1) (λ rest. ap (λ (y : Raw). raw_before y rest) c.in-Text.is ∙ before_text c.in-Text.text c.in-Text.field-1 rest) (sym c.if-is_all_white.ensures)
+
+pub item-returns-else-is_all_white-clause-ok : goal.item-returns-else-is_all_white-clause-ok
+item-returns-else-is_all_white-clause-ok t c = item_text c.args.kid.now c.in-Text.text.now (place c.in-Text.field-1) (v.Text c.in-Text.text) (λ rest. ap (λ (y : Raw). raw_before y rest) c.in-Text.is ∙ before_text c.in-Text.text c.in-Text.field-1 rest) (sym c.if-is_all_white.ensures) (see_text c.in-Text.text)
+
+pub item-returns-in-Elem-clause-ok : goal.item-returns-in-Elem-clause-ok
+item-returns-in-Elem-clause-ok t c = item_ok c.args.kid.now c.in-Elem.element (λ rest. ap (λ (y : Raw). raw_before y rest) c.in-Elem.is ∙ before_elem c.in-Elem.element rest) c.element_of_body.result c.element_of_body.ensures.ok
+
+pub item-returns-in-Elem-clause-no : goal.item-returns-in-Elem-clause-no
+item-returns-in-Elem-clause-no t c = item_no c.args.kid.now c.in-Elem.element (λ rest. ap (λ (y : Raw). raw_before y rest) c.in-Elem.is ∙ before_elem c.in-Elem.element rest) c.element_of_body.result c.element_of_body.ensures.no
+
+pub otherwise-returns-in_err-only-clause-no : goal.otherwise-returns-in_err-only-clause-no
+otherwise-returns-in_err-only-clause-no t c = handed_on _ c.from_residual.result c.in_err-only.field-0.0 c.from_residual.ensures.1 (otherwise_only_refuses c.args.element.now (raw_trees c.args.after.now) c.requires c.in_err-only.field-0.0 c.in_err-only.ensures.no)
+
+pub otherwise-returns-in_err-inner-clause-no : goal.otherwise-returns-in_err-inner-clause-no
+otherwise-returns-in_err-inner-clause-no t c = handed_on _ c.from_residual-in_err-inner.result c.in_err-inner.field-0.0 c.from_residual-in_err-inner.ensures.1 (otherwise_body_refuses c.args.element.now (raw_trees c.args.after.now) c.requires c.in_err-inner.field-0.0 c.in_err-inner.ensures.no)
+
+pub otherwise-returns-in_err-blank-clause-no : goal.otherwise-returns-in_err-blank-clause-no
+otherwise-returns-in_err-blank-clause-no t c = handed_on _ c.from_residual-in_err-blank.result c.in_err-blank.field-0.0 c.from_residual-in_err-blank.ensures.1 (otherwise_blank_refuses c.args.element.now (raw_trees c.args.after.now) c.requires c.in_err-blank.field-0.0 c.in_err-blank.ensures.no)
+
+pub otherwise-returns-clause-ok : goal.otherwise-returns-clause-ok
+otherwise-returns-clause-ok t c = otherwise_read c.args.element.now (raw_trees c.args.after.now) c.requires (body c.in_ok-inner.inner.now) c.in_ok-only.ensures.ok c.in_ok-inner.ensures.ok c.in_ok-blank.ensures.ok
+
+pub read_branches-loop-at-init : goal.read_branches-loop-at-init
+read_branches-loop-at-init t c = subst (BranchLoop (raw_trees c.args.kids.now) (raw_trees c.args.kids.now)) (sym c.new-found.ensures.items) (branches_begin (raw_trees c.args.kids.now))
+
+pub read_branches-returns-then-not-is_all_white-clause-no : goal.read_branches-returns-then-not-is_all_white-clause-no
+read_branches-returns-then-not-is_all_white-clause-no t c = black_refuses c.loop-at.invariant c.in-Text.text.now (place c.in-Text.place) (raw_trees (drop (c.loop-at.at + 1) c.args.kids.now)) (left_text c.args.kids.now c.loop-at.at c.index-kids-at.result c.in-Text.text c.in-Text.place c.loop-at-test.true c.index-kids-at.is c.in-Text.is) (sym c.if-not-is_all_white.ensures)
+
+pub read_branches-returns-in_err-ends-in-Elem-clause-no : goal.read_branches-returns-in_err-ends-in-Elem-clause-no
+read_branches-returns-in_err-ends-in-Elem-clause-no t c = handed_on _ c.from_residual.result c.in_err-ends-in-Elem.field-0.0 c.from_residual.ensures.1 (odd_refuses c.loop-at.invariant c.in-Elem.element (raw_trees (drop (c.loop-at.at + 1) c.args.kids.now)) (left_elem c.args.kids.now c.loop-at.at c.index-kids-at.result c.in-Elem.element c.loop-at-test.true c.index-kids-at.is c.in-Elem.is) c.in_err-ends-in-Elem.field-0.0 c.in_err-ends-in-Elem.ensures.no)
+
+pub read_branches-otherwise-requires : goal.read_branches-otherwise-requires
+read_branches-otherwise-requires t c = (search (rules, the_lemmas), is_last c.in_ok-ends-in-Elem.ends (name c.in-Elem.element.name) c.if-ends.true c.in_ok-ends-in-Elem.ensures.ok)
+
+pub read_branches-returns-in_err-last-in-Elem-clause-no : goal.read_branches-returns-in_err-last-in-Elem-clause-no
+read_branches-returns-in_err-last-in-Elem-clause-no t c = handed_on _ c.from_residual-in_err-last-in-Elem.result c.in_err-last-in-Elem.field-0.0 c.from_residual-in_err-last-in-Elem.ensures.1 (otherwise_refuses c.loop-at.invariant c.in-Elem.element (left_elem c.args.kids.now c.loop-at.at c.index-kids-at.result c.in-Elem.element c.loop-at-test.true c.index-kids-at.is c.in-Elem.is) c.in_err-last-in-Elem.field-0.0 (subst (λ h. Refuses c.in_err-last-in-Elem.field-0.0 (raw_element c.in-Elem.element h) (HasNoBranches (raw_element c.in-Elem.element h))) (rest_whole c.args.kids.now (c.loop-at.at + 1)) c.in_err-last-in-Elem.ensures.no))
+
+pub read_branches-returns-then-ends-clause-ok : goal.read_branches-returns-then-ends-clause-ok
+read_branches-returns-then-ends-clause-ok t c = subst (λ bs. AreBranches (raw_trees c.args.kids.now) (branches bs (w_otherwise (body c.in_ok-last-in-Elem.last.now)))) (sym c.into_bump_slice.ensures) (all_read c.loop-at.invariant c.in-Elem.element (left_elem c.args.kids.now c.loop-at.at c.index-kids-at.result c.in-Elem.element c.loop-at-test.true c.index-kids-at.is c.in-Elem.is) (body c.in_ok-last-in-Elem.last.now) (subst (λ h. AreBranches (raw_element c.in-Elem.element h) (w_otherwise (body c.in_ok-last-in-Elem.last.now))) (rest_whole c.args.kids.now (c.loop-at.at + 1)) c.in_ok-last-in-Elem.ensures.ok))
+
+pub read_branches-when-requires : goal.read_branches-when-requires
+read_branches-when-requires t c = (search (rules, the_lemmas), is_when c.in_ok-ends-in-Elem.ends (name c.in-Elem.element.name) c.if-ends.false c.in_ok-ends-in-Elem.ensures.ok)
+
+pub read_branches-returns-in_err-branch-in-Elem-clause-no : goal.read_branches-returns-in_err-branch-in-Elem-clause-no
+read_branches-returns-in_err-branch-in-Elem-clause-no t c = handed_on _ c.from_residual-in_err-branch-in-Elem.result c.in_err-branch-in-Elem.field-0.0 c.from_residual-in_err-branch-in-Elem.ensures.1 (when_refuses c.loop-at.invariant c.in-Elem.element (left_elem c.args.kids.now c.loop-at.at c.index-kids-at.result c.in-Elem.element c.loop-at-test.true c.index-kids-at.is c.in-Elem.is) (is_when c.in_ok-ends-in-Elem.ends (name c.in-Elem.element.name) c.if-ends.false c.in_ok-ends-in-Elem.ensures.ok) c.in_err-branch-in-Elem.field-0.0 c.in_err-branch-in-Elem.ensures.no)
+
+pub read_branches-loop-at-preserved : goal.read_branches-loop-at-preserved
+read_branches-loop-at-preserved t c =
+    elim c.match-kid.branch [
+      | read_branches-in-Text+else-not-is_all_white w ↦
+          subst (BranchLoop (raw_trees c.args.kids.now) (raw_trees (drop (c.loop-at.at + 1) c.args.kids.now))) (sym (ap (λ v. v.items) w.found-is)) (past_blank c.loop-at.invariant w.in-Text.text.now (place w.in-Text.place) (left_text c.args.kids.now c.loop-at.at c.index-kids-at.result w.in-Text.text w.in-Text.place c.loop-at-test.true c.index-kids-at.is w.in-Text.is) (sym w.if-not-is_all_white.ensures))
+      | read_branches-in-Elem+in_ok-ends-in-Elem+else-ends+in_ok-branch-in-Elem+in_ok-push-in-Elem w ↦
+          past_when c.loop-at.invariant w.in-Elem.element (left_elem c.args.kids.now c.loop-at.at c.index-kids-at.result w.in-Elem.element c.loop-at-test.true c.index-kids-at.is w.in-Elem.is) w.in_ok-branch-in-Elem.branch c.match-kid.found.items
+          (is_when w.in_ok-ends-in-Elem.ends (name w.in-Elem.element.name) w.if-ends.false w.in_ok-ends-in-Elem.ensures.ok) w.in_ok-branch-in-Elem.ensures.ok (ap (λ v. v.items) w.found-is ∙ w.in_ok-push-in-Elem.ensures.items)
+    ]
+
+pub read_branches-returns-clause-ok : goal.read_branches-returns-clause-ok
+read_branches-returns-clause-ok t c = subst (λ bs. AreBranches (raw_trees c.args.kids.now) (branches bs (w_otherwise (body c.no_instruction.result.now)))) (sym c.into_bump_slice-2.ensures) (subst (λ is. AreBranches (raw_trees c.args.kids.now) (branches c.loop-at.found.items (w_otherwise (body is)))) (sym c.no_instruction.ensures) (none_left c.loop-at.invariant (at_drop_all raw_trees c.args.kids.now c.loop-at.at c.loop-at-test.false)))
+
+pub when-test_of-requires-clause-test : goal.when-test_of-requires-clause-test
+when-test_of-requires-clause-test t c = of_when c.requires
+
+pub when-returns-in_err-test-clause-no : goal.when-returns-in_err-test-clause-no
+when-returns-in_err-test-clause-no t c = handed_on _ c.from_residual.result c.in_err-test.field-0.0 c.from_residual.ensures.1 (when_test_refuses c.args.element.now c.in_err-test.field-0.0 c.in_err-test.ensures.no)
+
+pub when-returns-in_err-body-clause-no : goal.when-returns-in_err-body-clause-no
+when-returns-in_err-body-clause-no t c = handed_on _ c.from_residual-in_err-body.result c.in_err-body.field-0.0 c.from_residual-in_err-body.ensures.1 (when_body_refuses c.args.element.now c.in_err-body.field-0.0 c.in_err-body.ensures.no)

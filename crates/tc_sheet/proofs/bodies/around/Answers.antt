@@ -1,0 +1,19 @@
+use Rattle.std.proofs.Common.{ap, ◌∙◌, sym}
+use Rattle.tc_sheet.specs.Seen.{body}
+use Rattle.tc_sheet.specs.Begun.{around as around_seen}
+use Rattle.tc_sheet.specs.declared.bodies.Head.{Head}
+use Rattle.tc_sheet.proofs.ViewsWritten.{see_elem, see_copy, see_for_each}
+use Rattle.tc_sheet.proofs.ReadLaws.{if_made}
+use Rattle.tc_sheet.proofs.bodies.around.Goals as goal
+
+pub returns-in-Element-clause-ok : goal.returns-in-Element-clause-ok
+returns-in-Element-clause-ok c = λ rest. see_elem c.in-Element.name c.args.inner rest ∙ ap (λ (h : Head). around_seen h (body c.args.inner.now) rest) (sym c.in-Element.is)
+
+pub returns-in-Copy-clause-ok : goal.returns-in-Copy-clause-ok
+returns-in-Copy-clause-ok c = λ rest. see_copy c.args.inner rest ∙ ap (λ (h : Head). around_seen h (body c.args.inner.now) rest) (sym c.in-Copy.is)
+
+pub returns-in-ForEach-clause-ok : goal.returns-in-ForEach-clause-ok
+returns-in-ForEach-clause-ok c = λ rest. see_for_each c.in-ForEach.path c.args.inner rest ∙ ap (λ (h : Head). around_seen h (body c.args.inner.now) rest) (sym c.in-ForEach.is)
+
+pub returns-in_ok-push-in-If-clause-ok : goal.returns-in_ok-push-in-If-clause-ok
+returns-in_ok-push-in-If-clause-ok c = λ rest. if_made c.into_bump_slice.result c.no_instruction.result c.push.new.self.items c.new-branches.result.items _ c.into_bump_slice.ensures c.in_ok-push-in-If.ensures.items c.new-branches.ensures.items c.no_instruction.ensures rest ∙ ap (λ (h : Head). around_seen h (body c.args.inner.now) rest) (sym c.in-If.is)

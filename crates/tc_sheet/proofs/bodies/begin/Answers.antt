@@ -1,0 +1,20 @@
+use Rattle.tc_sheet.specs.Seen.{instruction}
+use Rattle.tc_sheet.proofs.Refused.{handed_on}
+use Rattle.tc_sheet.proofs.BodyLaws.{literal_refuses, literal_around, begun_ok, begun_no, misplaced_in_body}
+use Rattle.std.proofs.Common.{sym}
+use Rattle.tc_sheet.proofs.bodies.begin.Goals as goal
+
+pub returns-in_err-literal-clause-no : goal.returns-in_err-literal-clause-no
+returns-in_err-literal-clause-no c = handed_on _ c.from_residual.result c.in_err-literal.field-0.0 c.from_residual.ensures.1 (literal_refuses c.args.element.now c.if-not-is_xslt.ensures c.in_err-literal.field-0.0 c.in_err-literal.ensures.no)
+
+pub returns-then-not-is_xslt-clause-ok : goal.returns-then-not-is_xslt-clause-ok
+returns-then-not-is_xslt-clause-ok c = literal_around c.args.element.now c.if-not-is_xslt.ensures c.in_ok-literal.ensures.ok
+
+pub returns-in-Some-clause-ok : goal.returns-in-Some-clause-ok
+returns-in-Some-clause-ok c = begun_ok c.args.element.now (instruction c.in-Some.instruction) (sym c.in-Some.ensures) c.begin_instruction.result c.begin_instruction.ensures.ok
+
+pub returns-in-Some-clause-no : goal.returns-in-Some-clause-no
+returns-in-Some-clause-no c = begun_no c.args.element.now (instruction c.in-Some.instruction) (sym c.in-Some.ensures) c.begin_instruction.result c.begin_instruction.ensures.no
+
+pub returns-in-None-clause-no : goal.returns-in-None-clause-no
+returns-in-None-clause-no c = misplaced_in_body c.args.element.now c.if-not-is_xslt.ensures (sym c.in-None.ensures) c.misplaced.result c.misplaced.ensures

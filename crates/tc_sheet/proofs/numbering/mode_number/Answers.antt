@@ -1,0 +1,14 @@
+use Rattle.std.proofs.Common.{◌≡◌, ◌+◌, ◌∙◌, ap, length}
+use Rattle.tc_sheet.specs.SeenCalls.{names_seen}
+use Rattle.tc_sheet.proofs.NumberLaws.{if_ok, mode_found, mode_missing}
+use Rattle.tc_sheet.proofs.numbering.mode_number.Goals as goal
+
+pub returns-in-Some-get_index_of-clause-ok : goal.returns-in-Some-get_index_of-clause-ok
+returns-in-Some-get_index_of-clause-ok c =
+    if_ok c.after.result (λ n. n ≡ c.in-Some-get_index_of.index + 1) _
+    (λ n e. mode_found c.in-Some.name c.args.tables.now.modes.now.keys (names_seen c.args.tables.now.names.now) c.args.mode c.in-Some-get_index_of.index n c.in-Some.is c.in-Some-get_index_of.ensures.index e) c.after.ensures.ok
+
+pub returns-in-None-clause-ok : goal.returns-in-None-clause-ok
+returns-in-None-clause-ok c =
+    if_ok c.after-in-None.result (λ n. n ≡ c.len.result + 1) _
+    (λ n e. mode_missing c.in-Some.name c.args.tables.now.modes.now.keys (names_seen c.args.tables.now.names.now) c.args.mode n c.in-Some.is c.in-None.ensures.found (e ∙ ap (λ k. k + 1) c.len.ensures.len)) c.after-in-None.ensures.ok

@@ -1,0 +1,42 @@
+use Rattle.std.proofs.Common.{◌+◌, ◌++◌, ◌∙◌, ap, get_or, map, flat_map}
+use Rattle.tc_model.specs.Seen as see
+use Rattle.tc_model.specs.SheetText as model
+use Rattle.tc_sheet.specs.Numbers.{bodies, numbered_template}
+use Rattle.tc_sheet.specs.Seen.{template}
+use Rattle.tc_sheet.specs.SeenCalls.{names_seen}
+use Rattle.tc_sheet.proofs.NumberLaws.{all_counted, named_are, numbers_step, others_of, others_step, rules_are}
+use Rattle.tc_sheet.proofs.TableKeys.{blank}
+use Rattle.tc_sheet.proofs.numbering.sheet_of.Goals as goal
+
+pub loop-template-init : goal.loop-template-init
+loop-template-init c =
+    let ts = map template c.args.templates.now in
+    record {
+      rules =
+          ap (λ z. map see.rule z ++ flat_map (model.rules_of ts) (model.first_eaches 0 c.in_ok-others.others ts)) c.new.ensures.items
+          ∙ ap (λ n. flat_map (model.rules_of ts) (model.first_eaches 0 n ts)) c.in_ok-others.ensures.ok;
+      named =
+          ap (λ z. bodies z ++ flat_map (model.named_of ts) (model.first_eaches 0 c.in_ok-others.others ts)) c.new-2.ensures.items
+          ∙ ap (λ n. flat_map (model.named_of ts) (model.first_eaches 0 n ts)) c.in_ok-others.ensures.ok;
+      others = ap (λ n. n + others_of ts) c.in_ok-others.ensures.ok ∙ all_counted ts;
+    }
+
+pub loop-template-preserved : goal.loop-template-preserved
+loop-template-preserved c =
+    let ts = c.args.templates.now in
+    let all = map template ts in
+    let k = c.loop-template.template-index in
+    let old = c.loop-template.parts in
+    let new = c.put.new.self in
+    let modes = names_seen c.args.tables.now.modes.now in
+    let names = names_seen c.args.tables.now.names.now in
+    let put = c.in_ok-put.ensures in
+    record {
+      rules =
+          numbers_step ts k blank c.loop-template-test.true (model.rules_of all) old.in_rules old.others new.in_rules new.others (map see.rule old.rules.items) (map see.rule new.rules.items) _ put.counted_rules put.counted_others
+          (rules_are modes names (model.modes_of all) (model.names_of all) c.requires.modes c.requires.names (numbered_template old.in_rules old.others (template (get_or ts k blank))) (map see.rule old.rules.items) (map see.rule new.rules.items) put.rules) c.loop-template.invariant.rules;
+      named =
+          numbers_step ts k blank c.loop-template-test.true (model.named_of all) old.in_rules old.others new.in_rules new.others (bodies old.named.items) (bodies new.named.items) _ put.counted_rules put.counted_others
+          (named_are modes names (model.modes_of all) (model.names_of all) c.requires.modes c.requires.names (numbered_template old.in_rules old.others (template (get_or ts k blank))) (bodies old.named.items) (bodies new.named.items) put.named) c.loop-template.invariant.named;
+      others = others_step ts k blank c.loop-template-test.true old.others new.others _ put.counted_others c.loop-template.invariant.others;
+    }

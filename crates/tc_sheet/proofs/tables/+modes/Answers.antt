@@ -1,0 +1,21 @@
+use Rattle.tc_graph.proofs.Tops.{on_ok}
+use Rattle.tc_sheet.specs.SeenCalls.{names_seen}
+use Rattle.tc_sheet.proofs.WrittenParts.{choose_puts_modes, modes_step, modes_branch}
+use Rattle.tc_sheet.proofs.tables.+modes.Goals as goal
+
+pub put_modes_of_one-returns-in_ok-put_modes_of_branches-in-Choose-clause-ok : goal.put_modes_of_one-returns-in_ok-put_modes_of_branches-in-Choose-clause-ok
+put_modes_of_one-returns-in_ok-put_modes_of_branches-in-Choose-clause-ok t c =
+    on_ok c.put_modes.result
+    (choose_puts_modes c.in-Choose.branches c.in-Choose.last c.args.instruction.now (names_seen c.args.modes.now) (names_seen c.put_modes_of_branches.new.modes) (names_seen c.put_modes.new.modes)
+    c.in-Choose.is c.in_ok-put_modes_of_branches-in-Choose.ensures.ok)
+    c.put_modes.ensures.ok
+
+pub put_modes-loop-instruction-preserved : goal.put_modes-loop-instruction-preserved
+put_modes-loop-instruction-preserved t c =
+    modes_step c.args.body.now c.loop-instruction.instruction-index c.instruction-item.result c.loop-instruction-test.true c.instruction-item.is (names_seen c.loop-instruction.modes) (names_seen c.put_modes_of_one.new.modes) _
+    c.in_ok-put_modes_of_one.ensures.ok c.loop-instruction.invariant
+
+pub put_modes_of_branches-loop-branch-preserved : goal.put_modes_of_branches-loop-branch-preserved
+put_modes_of_branches-loop-branch-preserved t c =
+    modes_branch c.args.branches.now c.loop-branch.branch-index _ c.loop-branch-test.true (names_seen c.loop-branch.modes) (names_seen c.put_modes.new.modes) _
+    c.in_ok-put_modes.ensures.ok c.loop-branch.invariant

@@ -1,0 +1,151 @@
+-- Constructs of stylesheets that are refused by a reason of their own, and where they stand (XSLT 1.0).
+use Rattle.std.specs.Prelude.{◌≡◌, ◌≢◌, ◌⊎◌, ℕ, List, [], ◌∷◌, Option, None, Some, Contains, bytes_eq, codes, if◌then◌else◌, Bool, ◌||◌, IsTrue, IsFalse}
+use Rattle.std.specs.List.{list_any}
+use Rattle.tc_base.specs.declared.reasons.Why.{Why}
+use Rattle.tc_base.specs.declared.reasons.Why.TheVariants.{N18, N19, N20, N21, N22, N23, N24, N25, N26, N27, N28, N29, N30, N31, N32, N33, N34, N35, N36, N37, N38, N39, N40, N41, N42}
+use Rattle.tc_model.specs.Names.{ExpandedName}
+use Rattle.tc_model.specs.RawTrees.{Attribute, Bound, RawTrees, none, text, element}
+use Rattle.tc_model.specs.Sheets.{Path}
+use Rattle.tc_model.specs.PathText.{SelectText, AttributesText}
+use Rattle.tc_model.specs.SheetTextPhrases.{xsl_uri, IsXsl, instruction_of}
+use Rattle.tc_path.specs.Faults.{Shallow, Deep}
+use Rattle.tc_path.specs.Contexts.{Context}
+use Rattle.tc_path.specs.Contexts as contexts
+
+pub record Reason : Type 0 where
+  pub local : List ℕ
+  pub why : Why
+
+abbrev pub reason : List ℕ → Why → Reason
+reason local why = record { local = local; why = why }
+
+-- elements of XSLT that are not supported
+abbrev pub reasons : List Reason
+reasons =
+    reason (codes "variable") N18
+    ∷ reason (codes "param") N19
+    ∷ reason (codes "with-param") N20
+    ∷ reason (codes "import") N21
+    ∷ reason (codes "include") N22
+    ∷ reason (codes "sort") N23
+    ∷ reason (codes "number") N24
+    ∷ reason (codes "key") N25
+    ∷ reason (codes "message") N26
+    ∷ reason (codes "comment") N27
+    ∷ reason (codes "processing-instruction") N28
+    ∷ reason (codes "apply-imports") N29
+    ∷ reason (codes "attribute-set") N30
+    ∷ reason (codes "namespace-alias") N31
+    ∷ reason (codes "decimal-format") N32
+    ∷ reason (codes "fallback") N33
+    ∷ reason (codes "preserve-space") N34 ∷ []
+
+abbrev pub reason_in : List Reason → List ℕ → Option Why
+reason_in [] local = None
+reason_in (x ∷ xs) local = if bytes_eq local x.local then Some x.why else reason_in xs local
+
+-- the reason of an element that is not supported
+abbrev pub reason_of : ExpandedName → Option Why
+reason_of n = if bytes_eq n.uri xsl_uri then reason_in reasons n.local else None
+
+-- the elements of XSLT that are read but are no instructions
+abbrev pub parts : List (List ℕ)
+parts = codes "stylesheet" ∷ codes "transform" ∷ codes "template" ∷ codes "output" ∷ codes "strip-space" ∷ codes "when" ∷ codes "otherwise" ∷ []
+
+-- an element in the namespace of XSLT that XSLT 1.0 doesn't have
+pub record IsUnknown (n : ExpandedName) : Type 0 where
+  pub in_xslt : n.uri ≡ xsl_uri
+  pub no_reason : reason_of n ≡ None
+  pub no_instruction : instruction_of n ≡ None
+  pub no_part : IsFalse (list_any (bytes_eq n.local) parts)
+
+-- the root of a stylesheet (2.2)
+abbrev pub IsRoot : ExpandedName → Type 0
+IsRoot n = IsXsl (codes "stylesheet") n ⊎ IsXsl (codes "transform") n
+
+-- declarations that are passed over (2.2)
+abbrev pub IsDeclaration : ExpandedName → Type 0
+IsDeclaration n = IsXsl (codes "output") n ⊎ IsXsl (codes "strip-space") n
+
+-- a name without a namespace
+abbrev pub plain : List ℕ → ExpandedName
+plain local = record { uri = []; local = local }
+
+-- in which attribute of which element a text of this kind stands
+pub data IsOfContext : ExpandedName → ExpandedName → Context → Type 0 where
+  of_apply : {n : ExpandedName} → IsXsl (codes "apply-templates") n → IsOfContext n (plain (codes "select")) contexts.select
+  of_each : {n : ExpandedName} → IsXsl (codes "for-each") n → IsOfContext n (plain (codes "select")) contexts.select
+  of_copy : {n : ExpandedName} → IsXsl (codes "copy-of") n → IsOfContext n (plain (codes "select")) contexts.select
+  of_value : {n : ExpandedName} → IsXsl (codes "value-of") n → IsOfContext n (plain (codes "select")) contexts.value
+  of_match : {n : ExpandedName} → IsXsl (codes "template") n → IsOfContext n (plain (codes "match")) contexts.pattern
+  of_if : {n : ExpandedName} → IsXsl (codes "if") n → IsOfContext n (plain (codes "test")) contexts.test
+  of_when : {n : ExpandedName} → IsXsl (codes "when") n → IsOfContext n (plain (codes "test")) contexts.test
+
+-- an attribute of an element of this name, in this scope, that is refused by a reason of its own
+pub data IsRefusedAttribute (n : ExpandedName) (scope : List Bound) (a : Attribute) : Why → Type 0 where
+  -- 14.1
+  extension : IsRoot n → a.name ≡ plain (codes "extension-element-prefixes") → IsRefusedAttribute n scope a N35
+  -- 16.4
+  escaping : n.uri ≡ xsl_uri → a.name ≡ plain (codes "disable-output-escaping") → IsRefusedAttribute n scope a N37
+  -- 7.1.2
+  computed : IsXsl (codes "element") n → a.name ≡ plain (codes "name") → Contains a.value 0x7B → IsRefusedAttribute n scope a N38
+  of_namespace : IsXsl (codes "element") n → a.name ≡ plain (codes "namespace") → IsRefusedAttribute n scope a N38
+  -- 11.3
+  copied : {p : Path} → IsXsl (codes "copy-of") n → a.name ≡ plain (codes "select") → SelectText scope a.value p → (AttributesText scope a.value → ⊥)
+      → IsRefusedAttribute n scope a N39
+  -- 7.1.4
+  sets : n.uri ≡ xsl_uri → a.name ≡ plain (codes "use-attribute-sets") → IsRefusedAttribute n scope a N40
+  literal_sets : n.uri ≢ xsl_uri → IsXsl (codes "use-attribute-sets") a.name → IsRefusedAttribute n scope a N40
+  -- 2.2
+  version : IsRoot n → a.name ≡ plain (codes "version") → a.value ≢ codes "1.0" → IsRefusedAttribute n scope a N41
+  -- 2.1, 7.1.1
+  unknown : n.uri ≢ xsl_uri → a.name.uri ≡ xsl_uri → a.name.local ≢ codes "exclude-result-prefixes" → a.name.local ≢ codes "use-attribute-sets"
+      → IsRefusedAttribute n scope a N42
+  -- a construct of XPath
+  in_path : {c : Context} {why : Why} → IsOfContext n a.name c → Shallow c a.value (Some why) → IsRefusedAttribute n scope a why
+
+-- an element of this name that is refused by a reason of its own
+pub data IsRefusedElement (n : ExpandedName) : Why → Type 0 where
+  of_reason : {why : Why} → reason_of n ≡ Some why → IsRefusedElement n why
+  unknown : IsUnknown n → IsRefusedElement n N42
+
+-- the construct of this reason stands at this place
+pub data Stands : RawTrees → ℕ → Why → Type 0 where
+  beside_text : {s : List ℕ} {p q : ℕ} {rest : RawTrees} {why : Why} → Stands rest q why → Stands (text s p rest) q why
+  beside_element : {n : ExpandedName} {attributes : List Attribute} {scope : List Bound} {p q : ℕ} {kids rest : RawTrees} {why : Why}
+      → Stands rest q why → Stands (element n attributes scope p kids rest) q why
+  inside : {n : ExpandedName} {attributes : List Attribute} {scope : List Bound} {p q : ℕ} {kids rest : RawTrees} {why : Why}
+      → Stands kids q why → Stands (element n attributes scope p kids rest) q why
+  at_element : {n : ExpandedName} {attributes : List Attribute} {scope : List Bound} {p : ℕ} {kids rest : RawTrees} {why : Why}
+      → IsRefusedElement n why → Stands (element n attributes scope p kids rest) p why
+  at_attribute : {n : ExpandedName} {attributes : List Attribute} {scope : List Bound} {p : ℕ} {kids rest : RawTrees} {why : Why} {a : Attribute}
+      → Contains attributes a → IsRefusedAttribute n scope a why → Stands (element n attributes scope p kids rest) a.place why
+
+-- or the root is a literal element with a version (2.3)
+pub data StandsAt : RawTrees → ℕ → Why → Type 0 where
+  within : {raw : RawTrees} {q : ℕ} {why : Why} → Stands raw q why → StandsAt raw q why
+  simplified : {n : ExpandedName} {attributes : List Attribute} {scope : List Bound} {p : ℕ} {kids rest : RawTrees} {a : Attribute}
+      → n.uri ≢ xsl_uri → Contains attributes a → IsXsl (codes "version") a.name → StandsAt (element n attributes scope p kids rest) p N36
+
+-- a select, pattern or test that nests too deep is the attribute at this place
+pub data DeepAt : RawTrees → ℕ → Type 0 where
+  beside_text : {s : List ℕ} {p q : ℕ} {rest : RawTrees} → DeepAt rest q → DeepAt (text s p rest) q
+  beside_element : {n : ExpandedName} {attributes : List Attribute} {scope : List Bound} {p q : ℕ} {kids rest : RawTrees}
+      → DeepAt rest q → DeepAt (element n attributes scope p kids rest) q
+  inside : {n : ExpandedName} {attributes : List Attribute} {scope : List Bound} {p q : ℕ} {kids rest : RawTrees}
+      → DeepAt kids q → DeepAt (element n attributes scope p kids rest) q
+  at_attribute : {n : ExpandedName} {attributes : List Attribute} {scope : List Bound} {p : ℕ} {kids rest : RawTrees} {a : Attribute} {c : Context}
+      → Contains attributes a → IsOfContext n a.name c → Deep a.value → DeepAt (element n attributes scope p kids rest) a.place
+
+-- a text, an element or an attribute stands at this place
+pub data IsPlaceIn : RawTrees → ℕ → Type 0 where
+  at_text : {s : List ℕ} {p : ℕ} {rest : RawTrees} → IsPlaceIn (text s p rest) p
+  beside_text : {s : List ℕ} {p q : ℕ} {rest : RawTrees} → IsPlaceIn rest q → IsPlaceIn (text s p rest) q
+  at_element : {n : ExpandedName} {attributes : List Attribute} {scope : List Bound} {p : ℕ} {kids rest : RawTrees}
+      → IsPlaceIn (element n attributes scope p kids rest) p
+  at_attribute : {n : ExpandedName} {attributes : List Attribute} {scope : List Bound} {p : ℕ} {kids rest : RawTrees} {a : Attribute}
+      → Contains attributes a → IsPlaceIn (element n attributes scope p kids rest) a.place
+  inside : {n : ExpandedName} {attributes : List Attribute} {scope : List Bound} {p q : ℕ} {kids rest : RawTrees}
+      → IsPlaceIn kids q → IsPlaceIn (element n attributes scope p kids rest) q
+  beside_element : {n : ExpandedName} {attributes : List Attribute} {scope : List Bound} {p q : ℕ} {kids rest : RawTrees}
+      → IsPlaceIn rest q → IsPlaceIn (element n attributes scope p kids rest) q

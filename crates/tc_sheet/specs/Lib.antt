@@ -1,0 +1,13 @@
+pub mod Seen
+pub mod Constructs
+pub mod Changes
+pub mod Faults
+pub mod Readings
+pub mod Laws
+pub mod PathFaults
+pub mod Graphs
+pub mod SeenCalls
+pub mod Tables
+pub mod Numbers
+pub mod Begun
+pub mod Told
