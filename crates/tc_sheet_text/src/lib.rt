@@ -1,0 +1,46 @@
+//! Reads stylesheets from their texts, exactly (XML 1.0; XSLT 1.0, 2 to 9).
+#![tactic(auto)]
+
+ghost use Rattle.std.specs.Prelude.{◌≤◌, length, IfOk, IfErr};
+ghost use Rattle.tc_model.specs.Seen.{sheet as see_sheet};
+ghost use Rattle.tc_model.specs.WellFormed.{IsSheet};
+ghost use Rattle.tc_sheet_text.specs.Texts.{IsSheetOf};
+ghost use Rattle.tc_sheet_text.specs.Causes.{IsCauseIn};
+
+#[cfg(test)]
+mod tests;
+
+use bumpalo::Bump;
+use tc_model::Sheet;
+use tc_sheet::{SheetFault, read_sheet};
+use tc_xml::{XmlFault, read_raw};
+
+/// Why a text is no stylesheet that is read.
+#[derive(Clone, Copy, Debug, PartialEq, Eq)]
+pub enum SheetTextFault {
+    /// It is no XML document that is read.
+    Xml(XmlFault),
+    /// Its document is no stylesheet that is read.
+    Sheet(SheetFault),
+}
+
+/// The stylesheet of an XML text, which is well-formed. Takes at most 64 MiB of text.
+///
+/// # Errors
+///
+/// What is wrong with the text as XML comes first, then what is wrong with its tree as a stylesheet.
+pub fn read_sheet_text<'b>(arena: &'b Bump, text: &[u8]) -> Result<Sheet<'b>, SheetTextFault>
+    requires { length text.now ≤ 67108864 }
+    ensures ok { IfOk result (λ s. IsSheetOf text.now (see_sheet s)) }
+    ensures well_formed { IfOk result (λ s. IsSheet (see_sheet s)) }
+    ensures cause { IfErr result (IsCauseIn text.now) }
+{
+    let raw = match read_raw(arena, text) {
+        Ok(raw) => raw,
+        Err(fault) => return Err(SheetTextFault::Xml(fault)),
+    };
+    match read_sheet(arena, &raw) {
+        Ok(sheet) => Ok(sheet),
+        Err(fault) => Err(SheetTextFault::Sheet(fault)),
+    }
+}
