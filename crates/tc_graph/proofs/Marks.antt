@@ -60,12 +60,12 @@ marked_set (m ∷ ms) zero (suc j) h = h
 marked_set (m ∷ ms) (suc i) zero h = h
 marked_set (m ∷ ms) (suc i) (suc j) h = marked_set ms i j h
 
-marked_here : (marks : List Bool) (to : ℕ) → to < length marks → is_marked (set marks to true) to ≡ true
+pub marked_here : (marks : List Bool) (to : ℕ) → to < length marks → is_marked (set marks to true) to ≡ true
 marked_here [] to h = absurd (omega (arith, h))
 marked_here (m ∷ ms) zero h = refl
 marked_here (m ∷ ms) (suc i) h = marked_here ms i (omega (arith, h))
 
-marked_before : (marks : List Bool) (to j : ℕ) → is_marked (set marks to true) j ≡ true → (is_marked marks j ≡ true) ⊎ (to ≡ j)
+pub marked_before : (marks : List Bool) (to j : ℕ) → is_marked (set marks to true) j ≡ true → (is_marked marks j ≡ true) ⊎ (to ≡ j)
 marked_before [] to j h = inl h
 marked_before (m ∷ ms) zero zero h = inr refl
 marked_before (m ∷ ms) zero (suc j) h = inl h
@@ -76,7 +76,7 @@ marked_before (m ∷ ms) (suc i) (suc j) h = by (marked_before ms i j h)
     by (inl k) = inl k
     by (inr e) = inr (ap (λ n. suc n) e)
 
-one_less : (marks : List Bool) (to : ℕ) → to < length marks → is_marked marks to ≡ false → unmarked (set marks to true) + 1 ≡ unmarked marks
+pub one_less : (marks : List Bool) (to : ℕ) → to < length marks → is_marked marks to ≡ false → unmarked (set marks to true) + 1 ≡ unmarked marks
 one_less marks to h e =
     let cost : Bool → ℕ = λ m. if m then 0 else 1 in
     let all = sum_by-set cost marks to true false h in
@@ -127,7 +127,7 @@ leads_on : (rows : List (List ℕ)) (from j i : ℕ) → Leads rows from j → E
 leads_on rows from j i (inl e) a = inr (edge (subst (λ k. Edge rows k i) e a))
 leads_on rows from j i (inr p) a = inr (further p a)
 
-none_marked : (n j : ℕ) → is_marked (replicate n false) j ≡ true → ⊥
+pub none_marked : (n j : ℕ) → is_marked (replicate n false) j ≡ true → ⊥
 none_marked zero j h = false≢true h
 none_marked (suc n) zero h = false≢true h
 none_marked (suc n) (suc j) h = none_marked n j h

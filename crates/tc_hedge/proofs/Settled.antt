@@ -13,10 +13,6 @@ use Rattle.tc_model.specs.declared.tree.Node.{Node, Elem}
 use Rattle.tc_model.proofs.Views.{before_elem}
 use Rattle.tc_hedge.specs.Documents.{IsSettled, begins_with_text}
 
--- the characters of a text are lawful exactly where they all pass
-pub chars_told : (bs : List ℕ) → IsUtf8 bs → IsTrue (list_all is_char (chars bs)) ↔ IsChars bs
-chars_told bs u = (λ h. (chars bs, encodes-chars bs u, h), λ (cs, e, h). subst (λ w. list_all is_char w ≡ true) (encodes_same cs (chars bs) (e ∙ sym (encodes-chars bs u))) h)
-
 -- the first character of a text and the others
 pub ncname_told : (bs rest : List ℕ) (c : ℕ) → bs ≡ encode_utf8 c ++ rest → IsUtf8 rest → (is_ncname_start c ≡ true) × IsTrue (list_all is_ncname_char (chars rest)) ↔ IsNcName bs
 ncname_told bs rest c e u = (to, of)

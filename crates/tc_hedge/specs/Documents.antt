@@ -5,10 +5,6 @@ use Rattle.tc_base.specs.Characters.{is_between}
 use Rattle.tc_model.specs.Names.{IsName, IsChars}
 use Rattle.tc_model.specs.Trees.{Trees, none, text, element, is_all_white}
 
--- a byte of UTF-8 that stands in lawful characters alone: of the others, those of ASCII are one byte below 0x20, and U+FFFE and U+FFFF begin with 0xEF (XML 1.0, 2.2)
-abbrev pub is_plain_byte : ℕ → Bool
-is_plain_byte b = b == 0x9 || b == 0xA || b == 0xD || (nat_le 0x20 b && not (b == 0xEF))
-
 -- a character of ASCII with which an NCName may begin, and one that it may hold (Namespaces in XML 1.0, 3, [4])
 abbrev pub is_plain_start_char : ℕ → Bool
 is_plain_start_char b = is_between 0x41 0x5A b || is_between 0x61 0x7A b || b == 0x5F

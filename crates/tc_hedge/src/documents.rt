@@ -1,13 +1,14 @@
 // Documents: one element, of lawful names and texts, in normal form.
 ghost use Rattle.std.specs.Prelude.{◌≡◌, ◌↔◌, IsTrue, false};
 ghost use Rattle.std.specs.List.{list_all};
-ghost use Rattle.tc_hedge.specs.Documents.{IsSettled, begins_with_text, is_plain_byte, is_plain_name, is_plain_name_char, is_plain_start_char};
+ghost use Rattle.tc_hedge.specs.Documents.{IsSettled, begins_with_text, is_plain_name, is_plain_name_char, is_plain_start_char};
 ghost use Rattle.tc_model.specs.Names as names;
 ghost use Rattle.tc_model.specs.Seen as see;
 ghost use Rattle.tc_model.specs.Trees as t;
 
-use tc_base::{is_char, is_name_char, is_name_start};
+use tc_base::{is_name_char, is_name_start};
 use tc_model::{Name, Node, is_all_white};
+use tc_scan::are_chars;
 
 /// The namespace of namespace declarations, to which nothing may be bound (Namespaces in XML 1.0, 3).
 const XMLNS: &str = "http://www.w3.org/2000/xmlns/";
@@ -24,38 +25,6 @@ fn is_ncname_char(c: char) -> bool
     ensures { result ≡ names.is_ncname_char c }
 {
     c != ':' && is_name_char(c)
-}
-
-/// Whether a byte stands in lawful characters alone (XML 1.0, 2.2).
-fn is_plain(byte: u8) -> bool
-    ensures { result ≡ is_plain_byte byte }
-{
-    byte == b'\t' || byte == b'\n' || byte == b'\r' || byte >= b' ' && byte != 0xEF
-}
-
-/// Whether all bytes stand in lawful characters alone.
-fn are_plain(bytes: &[u8]) -> bool
-    ensures { result ≡ list_all is_plain_byte bytes.now }
-{
-    let mut plain = true;
-    for byte in bytes {
-        plain &= is_plain(*byte);
-    }
-    plain
-}
-
-/// Whether a document may hold all characters of a text, each by itself (XML 1.0, 2.2).
-fn all_are_chars(text: &str) -> bool
-    ensures { IsTrue result ↔ names.IsChars text.now }
-{
-    text.chars().all(|c| is_char(c))
-}
-
-/// Whether a document may hold all characters of a text (XML 1.0, 2.2).
-fn are_chars(text: &str) -> bool
-    ensures { IsTrue result ↔ names.IsChars text.now }
-{
-    are_plain(text.as_bytes()) || all_are_chars(text)
 }
 
 /// Whether a byte is a character of ASCII with which an NCName may begin.

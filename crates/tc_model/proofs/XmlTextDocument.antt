@@ -14,28 +14,28 @@ bare_lawful total r.none l = tt
 bare_lawful total (r.text s p rest) (t, w, l) = (t, bare_lawful total rest l)
 bare_lawful total (r.element n attributes scope p kids rest) (a, b, c, d, k, l) = (a, bare_lawful total kids k, bare_lawful total rest l)
 
-some_append : (s t : List ℕ) → s ≢ [] → s ++ t ≢ []
+pub some_append : (s t : List ℕ) → s ≢ [] → s ++ t ≢ []
 some_append [] t h e = absurd (h refl)
 some_append (b ∷ s) t h e = cc
 
-joined_to_lawful : (s : List ℕ) (h : Trees) → IsText s → AreLawful h → AreLawful (joined_to s h)
+pub joined_to_lawful : (s : List ℕ) (h : Trees) → IsText s → AreLawful h → AreLawful (joined_to s h)
 joined_to_lawful s none t l = (t, tt)
 joined_to_lawful s (text u rest) (some, t) ((other, k), l) = ((some_append s u some, join_chars s u t k), l)
 joined_to_lawful s (element n kids rest) t l = (t, l)
 
-joined_lawful : (h : Trees) → AreLawful h → AreLawful (joined h)
+pub joined_lawful : (h : Trees) → AreLawful h → AreLawful (joined h)
 joined_lawful none l = tt
 joined_lawful (text s rest) (t, l) = joined_to_lawful s (joined rest) t (joined_lawful rest l)
 joined_lawful (element n kids rest) (a, k, l) = (a, joined_lawful kids k, joined_lawful rest l)
 
-kept_lawful : (s : List ℕ) (h : Trees) → IsText s → AreLawful h → AreLawful (kept s h)
+pub kept_lawful : (s : List ℕ) (h : Trees) → IsText s → AreLawful h → AreLawful (kept s h)
 kept_lawful s h t l = by (is_all_white s)
   where
     by : (x : Bool) → AreLawful (cond x h (text s h))
     by true = l
     by false = (t, l)
 
-dropped_lawful : (h : Trees) → AreLawful h → AreLawful (dropped h)
+pub dropped_lawful : (h : Trees) → AreLawful h → AreLawful (dropped h)
 dropped_lawful none l = tt
 dropped_lawful (text s rest) (t, l) = kept_lawful s (dropped rest) t (dropped_lawful rest l)
 dropped_lawful (element n kids rest) (a, k, l) = (a, dropped_lawful kids k, dropped_lawful rest l)

@@ -2,11 +2,13 @@
 //! XML 1.0, 3 and 4). The readers of XML and of paths stand on these steps.
 #![tactic(auto)]
 
+mod chars;
 mod front;
 mod names;
 #[cfg(test)]
 mod tests;
 
+pub use chars::are_chars;
 pub use front::{
     after_byte, after_mark, after_some_white, after_white, begins, plain_len, plain_len_within,
     up_to,

@@ -8,7 +8,7 @@ use Rattle.std.specs.List.{AllByRecursion}
 use Rattle.tc_graph.specs.Graph.{Edge, Path, edge, further, is_marked}
 use Rattle.tc_graph.specs.Marks.{unmarked}
 use Rattle.tc_graph.proofs.Marks.{marked_within}
-use Rattle.tc_sheet.proofs.Marked.{marked_here, marked_before, one_less, none_marked}
+use Rattle.tc_graph.proofs.Marks.{marked_here, marked_before, one_less, none_marked}
 use Rattle.tc_model.specs.Names.{ExpandedName, same_name}
 use Rattle.tc_model.specs.Numbered.{number_of}
 use Rattle.tc_model.specs.Sheets.{Body, Plain, Unfolds}

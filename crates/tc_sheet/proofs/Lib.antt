@@ -15,7 +15,6 @@ pub mod TableLaws
 pub mod NumberLaws
 pub mod LawfulCalls
 pub mod LawfulEaches
-pub mod Marked
 pub mod LawfulEnds
 pub mod LawfulSheets
 pub mod Refused

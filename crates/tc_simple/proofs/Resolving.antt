@@ -16,6 +16,7 @@ use Rattle.tc_simple.specs.Tables.{number_of, IsTable}
 use Rattle.tc_simple.specs.Nodes.{nodes, target, pattern_at, link_rows, loop_at, loops_below, marked_loops, IsFirstLoop, StartsWell, StartsBadly}
 use Rattle.tc_simple.specs.Orders.{Refers, IsOrderly}
 use Rattle.tc_simple.specs.Resolves.{Resolves}
+use Rattle.tc_graph.proofs.Joined as joined
 use Rattle.tc_graph.specs.Walks.{same_component, state_at}
 use Rattle.tc_graph.specs.declared.cycles.State.{State}
 use Rattle.tc_graph.specs.declared.cycles.State.TheVariants.{New, Open, Done}
@@ -25,9 +26,6 @@ use Rattle.tc_simple.proofs.Reaching.{edge_in, edge_out, start_below, leads_belo
 
 no_value : {X Y : Type 0} {x : X} → None ≡ Some x → Y
 no_value e = absurd (some_none e refl)
-
-done_is : {c d : ℕ} → Done c ≡ Done d → c ≡ d
-done_is e = cc
 
 module _ (s : Syntax) (t : Table) (start : ℕ) (marks : List Bool) (states : List State) (order : List ℕ) (r : Resolves s t start marks states order) where
   abbrev open_rows : List (List ℕ)
@@ -46,44 +44,11 @@ module _ (s : Syntax) (t : Table) (start : ℕ) (marks : List Bool) (states : Li
   state_of k p e = r.components.done k (omega (arith, slice_get_within t.patterns.items k p e, count_rows))
 
   -- a step leads back where both are in one component
-  path_down : {k j : ℕ} → Path open_rows k j → (c : ℕ) → state_at states k ≡ Done c → (d : ℕ) × (state_at states j ≡ Done d) × (d ≤ c)
-  path_down (edge {k = k} {j = j} a) c e = r.components.closed k c j e a
-  path_down (further {k = k} {j = j} {i = i} q a) c e =
-      let (d, f, l) = path_down q c e in
-      let (b, g, m) = r.components.closed j d i f a in
-      (b, g, omega (arith, l, m))
-
   same_leads : (k j : ℕ) → same_component (state_at states k) (state_at states j) ≡ true → Leads open_rows j k
-  same_leads k j e = by (state_at states k) (state_at states j) refl refl e
-    where
-      back : (k ≡ j) ⊎ Path open_rows j k → Leads open_rows j k
-      back (inl e) = inl e
-      back (inr p) = inr p
+  same_leads = joined.same_leads open_rows states order r.components
 
-      flip : (j ≡ k) ⊎ Path open_rows j k → (k ≡ j) ⊎ Path open_rows j k
-      flip (inl e) = inl (sym e)
-      flip (inr p) = inr p
-
-      by : (x y : State) → state_at states k ≡ x → state_at states j ≡ y → same_component x y ≡ true → Leads open_rows j k
-      by New y e f h = absurd (true≢false (sym h))
-      by (Open i) y e f h = absurd (true≢false (sym h))
-      by (Done c) New e f h = absurd (true≢false (sym h))
-      by (Done c) (Open i) e f h = absurd (true≢false (sym h))
-      by (Done c) (Done d) e f h = back (flip (r.components.joined j k c (f ∙ ap Done (sym (eqb-true c d h))) e))
-
-  leads_same : (k j : ℕ) (p q : SPat) → pattern_at t k ≡ Some p → pattern_at t j ≡ Some q → Edge open_rows k j → Leads open_rows j k → same_component (state_at states k) (state_at states j) ≡ true
-  leads_same k j p q at to a back =
-      let (c, e, x) = state_of k p at in
-      let (d, f, y) = state_of j q to in
-      let (d', f', l) = r.components.closed k c j e a in
-      let same : d' ≡ d = done_is (sym f' ∙ f) in
-      let up : c ≤ d = high c d e f back in
-      let equal : c ≡ d = omega (arith, up, l, same) in
-      ap (λ z. same_component z (state_at states j)) e ∙ (ap (λ z. same_component (Done c) z) f ∙ eq-eqb c d equal)
-    where
-      high : (c d : ℕ) → state_at states k ≡ Done c → state_at states j ≡ Done d → Leads open_rows j k → c ≤ d
-      high c d e f (inl is) = omega (arith, done_is (sym e ∙ (ap (state_at states) is ∙ f)))
-      high c d e f (inr path) = let (b, g, l) = path_down path d f in omega (arith, l, done_is (sym g ∙ e))
+  leads_same : (k j : ℕ) (p : SPat) → pattern_at t k ≡ Some p → Edge open_rows k j → Leads open_rows j k → same_component (state_at states k) (state_at states j) ≡ true
+  leads_same k j p at = joined.leads_same open_rows states order r.components k j (omega (arith, slice_get_within t.patterns.items k p at, count_rows))
 
   -- references that lie on cycles
   loop_is : (k : ℕ) (q : SyntaxPattern) (place : ℕ) → loop_at t states k q ≡ Some place
@@ -142,7 +107,7 @@ module _ (s : Syntax) (t : Table) (start : ℕ) (marks : List Bool) (states : Li
       let (n, k, j, lead, (p, at, stands), e, back) = circular_at s t r.table start r.begins place c in
       let (q, got, is) = r.table.present n j e in
       let a = edge_in s t r.table false k j place n (p, at, stands) e in
-      let same = leads_same k j p q at got a back in
+      let same = leads_same k j p at a back in
       let gives : loop_at t states k (ref n place) ≡ Some place =
       ap (λ o. elim o as (λ _. Option ℕ) [ Some i ↦ cond (same_component (state_at states k) (state_at states i)) (Some place) None | None ↦ None ]) e ∙ ap (λ b. cond b (Some place) None) same in
       let inside = filter_has (loop_at t states k) stands gives in

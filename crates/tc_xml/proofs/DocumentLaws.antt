@@ -1,9 +1,7 @@
 -- What the phrases of a document show of the whole.
-use Rattle.std.proofs.Common.{◌≡◌, ℕ, Bool, true, false, List, [], ◌∷◌, ◌<◌, sym, subst, length, arith}
-use Rattle.std.proofs.lemmas.Bool.Decides.{nat_tests}
+use Rattle.std.proofs.Common.{◌≡◌, ℕ, Bool, false, List, [], ◌∷◌, sym, subst, length}
 use Rattle.tc_model.specs.RawTrees.{RawTrees}
 use Rattle.tc_model.specs.XmlTextContent.{Piece, ElementAt}
-use Rattle.tc_base.specs.Characters.{is_char}
 use Rattle.tc_base.specs.declared.reasons.Why.{Why}
 use Rattle.tc_base.specs.declared.reasons.Why.TheVariants.{N1}
 use Rattle.tc_model.specs.Names.{IsChars}
@@ -16,7 +14,6 @@ use Rattle.tc_model.proofs.XmlTextPhrases.{declaration_unique, misc_unique, doct
 use Rattle.tc_model.proofs.XmlTextUnique.{element_unique}
 use Rattle.tc_xml.specs.declared.faults.Stop.{Stop}
 use Rattle.tc_xml.specs.declared.faults.Stop.TheVariants.{Malformed, Unsupported, TooDeep, NoMemory}
-use Rattle.tc_xml.specs.Ascii.{is_ascii_char}
 use Rattle.tc_xml.specs.Refusals.{RefusesWithin}
 use Rattle.tc_xml.specs.Tags.{Breaks}
 use Rattle.tc_xml.proofs.ContentLaws.{element_loosened}
@@ -75,7 +72,3 @@ breaks_within (Malformed left) P A B C f g h k = f k
 breaks_within (Unsupported left why) P A B C f g h k = absurd k
 breaks_within (TooDeep left) P A B C f g h k = absurd k
 breaks_within NoMemory P A B C f g h k = tt
-
--- a character of XML in ASCII is one byte, which is a character of XML
-pub ascii_is : (b : ℕ) → is_ascii_char b ≡ true → (is_char b ≡ true) × (b < 128)
-ascii_is b h = (grind (arith, nat_tests), grind (arith, nat_tests))

@@ -11,6 +11,5 @@ pub mod ItemLaws
 pub mod ElementLaws
 pub mod RootLaws
 pub mod DocumentLaws
-pub mod CharLaws
 pub mod FaultLaws
 pub mod StripLaws

@@ -6,4 +6,3 @@ pub mod Pairs
 pub mod Tags
 pub mod Seen
 pub mod Reading
-pub mod Ascii

@@ -4,8 +4,8 @@ use Rattle.std.proofs.lemmas.Iterator.{YieldsList-from_chars}
 use Rattle.std.proofs.lemmas.Iterator.Search.{all_from_yields_List}
 use Rattle.tc_base.specs.Characters.{is_char}
 use Rattle.tc_model.specs.Names.{IsChars}
-use Rattle.tc_hedge.proofs.Settled.{chars_told}
-use Rattle.tc_hedge.proofs.documents.all_are_chars.Goals as goal
+use Rattle.tc_scan.proofs.CharsLaws.{chars_told}
+use Rattle.tc_scan.proofs.chars.all_are_chars.Goals as goal
 
 pub returns : goal.returns
 returns c =
