@@ -124,6 +124,14 @@ module _ (ts : List Template) (k : ℕ) (d : Template) (h : k < length ts) where
       ap (λ z. puts z (modes_left (drop (k + 1) ts))) f
       ∙ (sym (puts_append old (modes_in here) (modes_left (drop (k + 1) ts))) ∙ (ap (λ z. puts old (modes_left z)) (sym left_templates) ∙ g))
 
+  pub stands_here : Contains (map template ts) here
+  stands_here = placed ts k h
+    where
+      placed : (us : List Template) (j : ℕ) → j < length us → Contains (map template us) (template (get_or us j d))
+      placed [] j l = absurd (omega (arith, l))
+      placed (u ∷ us) zero l = (0, omega arith, refl)
+      placed (u ∷ us) (suc j) l = let (i, m, q) = placed us j (omega (arith, l)) in (suc i, omega (arith, m), q)
+
   abbrev seen : List s.Template
   seen = map template (take k ts)
 
