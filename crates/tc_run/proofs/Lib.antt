@@ -22,3 +22,9 @@ pub mod Instructions
 pub mod Taking
 pub mod Nodes
 pub mod Result
+pub mod Handing
+pub mod Measures
+pub mod BuiltIn
+pub mod MeantBy
+pub mod Hitting
+pub mod Ends

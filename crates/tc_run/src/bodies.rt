@@ -6,7 +6,7 @@ ghost use Rattle.std.specs.Prelude.{◌≡◌, ◌≤◌, ◌<◌, ℕ, List, le
 ghost use Rattle.tc_model.specs.Chains as c;
 ghost use Rattle.tc_model.specs.Letters as letters;
 ghost use Rattle.tc_model.specs.Machine.{Task, in_mode, first_hit as first_hit_of, does_in, does_at, takes_in};
-ghost use Rattle.tc_model.specs.Meaning.{value_of_first};
+ghost use Rattle.tc_model.specs.Meaning.{all_children as all_children_of, value_of_first};
 ghost use Rattle.tc_model.specs.Names.{ExpandedName};
 ghost use Rattle.tc_model.specs.Numberings.{looks_of, moves_of};
 ghost use Rattle.tc_model.specs.Outcomes.{Outcome, nothing, counted, put_around, copied};
@@ -41,6 +41,12 @@ static ALL_CHILDREN: Path<'static> = Path {
         when: Test::True,
     }]],
 };
+
+fn all_children<'b>() -> &'b Path<'b>
+    ensures { see.path result.now ≡ all_children_of }
+{
+    &ALL_CHILDREN
+}
 
 /// What a node is.
 #[derive(Clone, Copy)]
@@ -180,14 +186,10 @@ fn built_in<'b>(
     let nesting = deeper(nesting)?;
     match here.shape {
         Shape::Text => output.put(here.string),
-        _ => selected(
-            runner,
-            &ALL_CHILDREN,
-            Job::Mode(mode),
-            here,
-            nesting,
-            output,
-        ),
+        _ => {
+            let path = all_children();
+            selected(runner, path, Job::Mode(mode), here, nesting, output)
+        }
     }
 }
 
