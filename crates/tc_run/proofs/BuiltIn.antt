@@ -38,13 +38,13 @@ module _ (r : Runner) (bodies : List Plain) (mode : ℕ) where
   built_in_text h e = ap (λ s. by_built_in h.above (node_of s h.string.now (bare (trees h.kids.now)))) e ∙ join_none (within (put h.string.now))
 
   children_by : (s : Shape) (string : List ℕ) (kids : Trees) (above : ℕ) → (s ≡ shapes.Text → ⊥) → by_built_in above (node_of s string kids) ≡ within (of_children above (node_of s string kids))
-  children_by shapes.Root string kids above no = join_none (within (of_children above (whole kids)))
-  children_by (shapes.Elem n) string kids above no = join_none (within (of_children above (one (an_element (name n) kids))))
-  children_by shapes.Text string kids above no = absurd (no refl)
+  children_by shapes.Root string kids above other = join_none (within (of_children above (whole kids)))
+  children_by (shapes.Elem n) string kids above other = join_none (within (of_children above (one (an_element (name n) kids))))
+  children_by shapes.Text string kids above other = absurd (other refl)
 
   pub built_in_children : (h : Here) → (h.shape ≡ shapes.Text → ⊥)
       → does r bodies (built_in mode (node h)) h ≡ within (outputs_on r bodies (children (node h)) h.above (going_from (in_mode mode) all_children))
-  built_in_children h no = children_by h.shape h.string.now (bare (trees h.kids.now)) h.above no
+  built_in_children h other = children_by h.shape h.string.now (bare (trees h.kids.now)) h.above other
 
   deep_by : (above : ℕ) (n : Node) → 1 ≤ (by_built_in above n).nesting
   deep_by above (whole doc) = omega arith

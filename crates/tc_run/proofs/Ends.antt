@@ -31,8 +31,8 @@ no_instruction_left is k h = ap see.body (drop_all k is h)
 
 module _ (r : Runner) (bodies : List Plain) (h : Here) (nesting : ℕ) (p : Plain) where
   pub body_end : (old now : Output) (left : Body) → left ≡ no_instruction → BodySoFar r bodies h nesting old now p left → Spends nesting old now (does r bodies p h)
-  body_end old now left none s =
-      let e : s.rest ≡ p_done = done_is (sheet_by r).named s.rest (subst (λ b. Unfolds (sheet_by r).named b s.rest) none s.of_rest) in
+  body_end old now left empty s =
+      let e : s.rest ≡ p_done = done_is (sheet_by r).named s.rest (subst (λ b. Unfolds (sheet_by r).named b s.rest) empty s.of_rest) in
       subst (Spends nesting old now) (sym (s.whole ∙ (ap (λ w. join s.done (does r bodies w h)) e ∙ join_none s.done))) s.spent
 
 -- going inside an element, and back outside

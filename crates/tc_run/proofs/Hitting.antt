@@ -99,13 +99,16 @@ module _ (r : Runner) where
 
     pub text_missed : (s : List ℕ) (x : Letter) (b : Bool) → x ≡ letter_of (symbols_by r) (predicates_by r) (a_text s) → b ≡ (machine r bodies).move_hits g x → b ≡ false
         → outputs_on r bodies (t.text s t.none) above g ≡ nothing
-    text_missed s x b e h no = text_outs s x b e h ∙ ap (λ c. cond c _ nothing) no
+    text_missed s x b e h f =
+        let m = machine r bodies in
+        let hit : Outcome = counted (does_in m (m.body_at g.task (ancestor (told_by r) above) x) (one (a_text s)) (λ i u. nothing)) in
+        text_outs s x b e h ∙ ap (λ c. cond c hit nothing) f
 
     pub text_met : (s : Bor (List ℕ)) (kids : Bor (List Lettered)) (x : Letter) (b : Bool) → kids.now ≡ [] → x ≡ letter_of (symbols_by r) (predicates_by r) (a_text s.now)
         → b ≡ (machine r bodies).move_hits g x → b ≡ true
         → outputs_on r bodies (t.text s.now t.none) above g
         ≡ counted (does r bodies ((machine r bodies).body_at g.task (ancestor (told_by r) above) x) (here_text s kids above))
-    text_met s kids x b none e h yes = text_outs s.now x b e h ∙ ap (λ c. cond c (counted (does r bodies ((machine r bodies).body_at g.task (ancestor (told_by r) above) x) (here_text s kids above))) nothing) yes
+    text_met s kids x b empty e h f = text_outs s.now x b e h ∙ ap (λ c. cond c (counted (does r bodies ((machine r bodies).body_at g.task (ancestor (told_by r) above) x) (here_text s kids above))) nothing) f
 
     -- one text alone
     pub outs_of_text : (x : Lettered) (s : Bor (List ℕ)) (m : Marks) → x ≡ Text s m → outputs_on r bodies (bare (before x l.none)) above g ≡ outputs_on r bodies (t.text s.now t.none) above g
@@ -118,10 +121,10 @@ module _ (r : Runner) where
 
   -- on an element
   pub missed : (b : Bool) (o : Outcome) → b ≡ false → cond b o nothing ≡ nothing
-  missed b o no = ap (λ c. cond c o nothing) no
+  missed b o f = ap (λ c. cond c o nothing) f
 
   pub met : (b : Bool) (o : Outcome) → b ≡ true → cond b o nothing ≡ o
-  met b o yes = ap (λ c. cond c o nothing) yes
+  met b o f = ap (λ c. cond c o nothing) f
 
   pub element_built_in : (h : Here) (n : ExpandedName) (kids : t.Trees) (k : ℕ) → node h ≡ one (an_element n kids) → (i : ℕ) → built_in_at i (of_symbol k) ≡ built_in i (node h)
   element_built_in h n kids k e i = ap (built_in i) (sym e)

@@ -29,13 +29,13 @@ use Rattle.tc_run.proofs.OneTree.{ElementAt, element_at}
 use Rattle.tc_run.proofs.Views.{before_elem}
 use Rattle.tc_model.proofs.TotalJoin.{join_none}
 
-abbrev here_elem : Name → Bor (List ℕ) → Bor (List Lettered) → ℕ → Here
+abbrev pub here_elem : Name → Bor (List ℕ) → Bor (List Lettered) → ℕ → Here
 here_elem n s kids above = record { shape = shapes.Elem n; string = s; kids = kids; above = above }
 
-abbrev here_text : Bor (List ℕ) → Bor (List Lettered) → ℕ → Here
+abbrev pub here_text : Bor (List ℕ) → Bor (List Lettered) → ℕ → Here
 here_text s kids above = record { shape = shapes.Text; string = s; kids = kids; above = above }
 
-abbrev here_root : Bor (List ℕ) → Bor (List Lettered) → ℕ → Here
+abbrev pub here_root : Bor (List ℕ) → Bor (List Lettered) → ℕ → Here
 here_root s kids above = record { shape = shapes.Root; string = s; kids = kids; above = above }
 
 module _ (r : Runner) where

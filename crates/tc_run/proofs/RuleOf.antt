@@ -61,7 +61,7 @@ each_task s n each k e (of_each {f} {p} g c u) = record { found = f; plain = p; 
 
 -- a rule that fits is one of the rules
 pub rule_low : (rs : List Rule) (m : ℕ) (f : ℕ → Rule → Bool) {o : Option ℕ} → IsRuleOf rs m f o → IfSome o (λ i. i < length rs)
-rule_low rs m f (built_in no) = tt
+rule_low rs m f (built_in w) = tt
 rule_low rs m f (best {i} {r} k most) = slice_get_within rs i r k.at
 
 pub has_got : {X : Type 0} (xs : List X) (i : ℕ) (x : X) → slice_get xs i ≡ Some x → Has xs x
