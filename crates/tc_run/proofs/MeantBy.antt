@@ -1,17 +1,24 @@
 -- What is meant on a node, and that it is part of the stylesheet.
 use Rattle.std.proofs.Common.{◌≡◌, ℕ, ◌+◌, ◌<◌, List, refl, ap, ◌∙◌, sym, subst, length, map, Option, Some, None, option_map, slice_get, get_or, Bor, Contains, arith}
 use Rattle.std.proofs.lemmas.Option.{slice_get-map, slice_get-get_or}
+use Rattle.std.proofs.lemmas.List.{length-map}
+use Rattle.std.specs.Prelude.{IfSome, pos, []}
+use Rattle.tc_model.specs.declared.sheet.Pattern.TheVariants.{Root}
 use Rattle.tc_model.specs.Chains.{Node, an_element, a_text, one}
 use Rattle.tc_model.specs.Letters.{Letter, Kind, of_symbol, of_text}
 use Rattle.tc_model.specs.Machine.{Task, in_mode, in_body}
 use Rattle.tc_model.specs.PathStates.{State}
 use Rattle.tc_model.specs.RuleStates.{IsRuleOf, fits_below}
 use Rattle.tc_model.specs.Seen as see
-use Rattle.tc_model.specs.Sheets.{Body, Plain, Unfolds}
+use Rattle.tc_model.specs.Sheets.{Sheet, Body, Plain, Unfolds}
 use Rattle.tc_model.specs.Symbols.{Mention}
 use Rattle.tc_model.specs.WellFormed.{ForEach, eaches_of}
 use Rattle.tc_model.specs.declared.sheet.Instr.{Instr}
 use Rattle.tc_model.specs.declared.sheet.Rule.{Rule as RuleOf}
+use Rattle.tc_model.specs.declared.sheet.Sheet.{Sheet as SheetOf}
+use Rattle.tc_rules.specs.Asked.{found as found_of}
+use Rattle.tc_rules.specs.declared.rules.Found.{Found}
+use Rattle.tc_rules.specs.declared.rules.Found.TheVariants as founds
 use Rattle.tc_rules.specs.Kept.{IsRulesOf}
 use Rattle.tc_rules.specs.States.{Chosen, chosen, plain_of, built_in_at}
 use Rattle.tc_run.specs.Parts.{IsPart}
@@ -23,10 +30,27 @@ use Rattle.tc_run.specs.declared.runner.Runner.{Runner}
 use Rattle.tc_run.proofs.PartsOf.{rule_part, named_part, each_part}
 use Rattle.tc_run.proofs.RuleOf.{has_got, chosen_number, none_chosen, rule_chosen, mode_task, each_task}
 
+-- what stands past the end of a list of rules
+abbrev pub no_rule : RuleOf
+no_rule = record { mode = 0; pattern = Root; priority = pos 0; body = record { ref_ptr = (0, 0); now = [] } }
+
 -- an element of a list, by what is seen of it
-pub got_seen : {X Y : Type 0} (f : X → Y) (xs : List X) (ys : List Y) (i : ℕ) (x : X) → map f xs ≡ ys → i < length xs → x ≡ get_or xs i x → slice_get ys i ≡ Some (f x)
-got_seen f xs ys i x e h g =
-    ap (λ w. slice_get w i) (sym e) ∙ (slice_get-map f xs i ∙ ap (option_map f) (slice_get-get_or xs i x h ∙ ap Some (sym g)))
+got_seen : {X Y : Type 0} (f : X → Y) (xs : List X) (ys : List Y) (i : ℕ) (d : X) → map f xs ≡ ys → i < length ys → slice_get ys i ≡ Some (f (get_or xs i d))
+got_seen f xs ys i d e h =
+    let size : length xs ≡ length ys = sym (length-map xs f) ∙ ap length e in
+    ap (λ w. slice_get w i) (sym e) ∙ (slice_get-map f xs i ∙ ap (option_map f) (slice_get-get_or xs i d (omega (arith, size, h))))
+
+pub found_low : (f : Found) (i n : ℕ) → f ≡ founds.Rule i → IfSome (found_of f) (λ j. j < n) → i < n
+found_low f i n e h = subst (λ g. IfSome (found_of g) (λ j. j < n)) e h
+
+pub found_number : (f : Found) (i : ℕ) (o : Option ℕ) → f ≡ founds.Rule i → o ≡ found_of f → o ≡ Some i
+found_number f i o e h = h ∙ ap found_of e
+
+pub rule_got : (s : Sheet) (sh : SheetOf) (i : ℕ) (d : RuleOf) → see.sheet sh ≡ s → i < length s.rules → slice_get s.rules i ≡ Some (see.rule (get_or sh.rules.now i d))
+rule_got s sh i d e h = got_seen see.rule sh.rules.now s.rules i d (ap (λ (x : Sheet). x.rules) e) h
+
+pub named_got : (s : Sheet) (sh : SheetOf) (i : ℕ) (d : Bor (List Instr)) → see.sheet sh ≡ s → i < length s.named → slice_get s.named i ≡ Some (see.body (get_or sh.named.now i d).now)
+named_got s sh i d e h = got_seen (λ (b : Bor (List Instr)). see.body b.now) sh.named.now s.named i d (ap (λ (x : Sheet). x.named) e) h
 
 module _ (s : List Body) (n : Node) where
   pub meant_body : (w : Meant) (b : Bor (List Instr)) (p : Plain) → w ≡ m.Body b → IsMeant s n w p → Unfolds s (see.body b.now) p
