@@ -1,5 +1,6 @@
 -- What the built-in rules and single instructions do on a node.
-use Rattle.std.proofs.Common.{◌≡◌, ℕ, ◌+◌, ◌≤◌, max, List, refl, ap, ◌∙◌, sym, subst, Bor, arith}
+use Rattle.std.proofs.Common.{◌≡◌, ℕ, ◌+◌, ◌≤◌, max, List, [], refl, ap, ◌∙◌, sym, subst, Option, Some, None, Bor, arith}
+use Rattle.std.specs.Option.{unwrap_or}
 use Rattle.tc_model.specs.Chains.{an_element, a_text, Node, whole, one, children}
 use Rattle.tc_model.specs.Machine.{Task, in_mode, does_in, outputs, first_hit}
 use Rattle.tc_model.specs.Meaning.{all_children, value_of_first}
@@ -25,6 +26,7 @@ use Rattle.tc_run.specs.declared.bodies.Shape.{Shape}
 use Rattle.tc_run.specs.declared.bodies.Shape.TheVariants as shapes
 use Rattle.tc_run.specs.declared.runner.Runner.{Runner}
 use Rattle.tc_run.proofs.Instructions.{text_seen, self_seen, elem_seen, copy_seen, apply_seen, call_seen, value_of_seen, choose_seen, for_each_seen}
+use Rattle.tc_run.proofs.FirstHits.{Answered, answered_none, answered_value}
 use Rattle.tc_run.proofs.Looking.{first_alike}
 
 module _ (r : Runner) (bodies : List Plain) (mode : ℕ) where
@@ -117,3 +119,8 @@ copy_elem h n a e = ap (λ s. copied (node_of s h.string.now (bare (trees h.kids
 
 pub copy_text : (h : Here) (a : Outcome) → h.shape ≡ shapes.Text → copied (node h) a ≡ put h.string.now
 copy_text h a e = ap (λ s. copied (node_of s h.string.now (bare (trees h.kids.now))) a) e
+
+-- the value of what was found, or else none
+pub value_found : (found : Option (Bor (List ℕ))) (hit : Option Node) (x empty : Bor (List ℕ)) → Answered found hit → x ≡ unwrap_or found empty → empty.now ≡ [] → x.now ≡ value_of_first hit
+value_found None hit x n a e z = ap (λ (w : Bor (List ℕ)). w.now) e ∙ (z ∙ sym (answered_none hit a))
+value_found (Some y) hit x n a e z = ap (λ (w : Bor (List ℕ)). w.now) e ∙ answered_value y hit a

@@ -1,11 +1,13 @@
 -- Which branch is taken, and the parts of bodies and branches in loops.
-use Rattle.std.proofs.Common.{◌≡◌, ℕ, ◌+◌, ◌<◌, List, refl, ap, ◌∙◌, sym, subst, Bool, true, false, cond, length, get_or, drop}
+use Rattle.std.proofs.Common.{◌≡◌, ℕ, ◌+◌, ◌<◌, List, refl, ap, ◌∙◌, sym, subst, Bool, true, false, cond, length, get_or, drop, []}
+use Rattle.std.proofs.lemmas.Option.{get_or_from_slice_get, slice_get-get_or}
 use Rattle.tc_model.specs.Chains.{children}
 use Rattle.tc_model.specs.Machine.{Task, holds_in, does_in, takes_in}
 use Rattle.tc_model.specs.Outcomes.{Outcome}
 use Rattle.tc_model.specs.Seen as see
 use Rattle.tc_model.specs.Sheets.{Test, Body, Branches, otherwise, branch, no_instruction, Sheet, Plain, PlainBranches, Unfolds, BranchesUnfold, u_otherwise, u_branch}
-use Rattle.tc_model.specs.declared.sheet.Branch.{Branch}
+use Rattle.tc_model.specs.declared.sheet.Branch.{Branch, roll-Branch}
+use Rattle.tc_model.specs.declared.sheet.Test.{True}
 use Rattle.tc_model.specs.declared.sheet.Instr.{Instr}
 use Rattle.tc_model.proofs.ViewsBody.{left_instruction, left_branch}
 use Rattle.tc_rules.specs.States.{Going}
@@ -19,6 +21,13 @@ use Rattle.tc_run.specs.declared.runner.Runner.{Runner}
 use Rattle.tc_run.proofs.Looking.{holds_alike}
 use Rattle.tc_run.proofs.Plains.{part_first}
 use Rattle.tc_run.proofs.Progress.{BodySoFar}
+
+-- what stands past the end of branches
+abbrev pub no_branch : Branch
+no_branch = roll-Branch (record { test = True; body = record { ref_ptr = (0, 0); now = [] } })
+
+pub branch_is : (bs : List Branch) (k : ℕ) (d : Branch) → k < length bs → get_or bs k d ≡ get_or bs k (get_or bs k d)
+branch_is bs k d h = sym (get_or_from_slice_get bs k (get_or bs k d) (get_or bs k d) (slice_get-get_or bs k d h))
 
 module _ (r : Runner) (here : Here) (named : List Body) where
   -- a test holds in the machine as it does by looks
