@@ -1,5 +1,5 @@
 -- The letters that are kept are those of the trees.
-use Rattle.std.proofs.Common.{◌≡◌, ℕ, zero, suc, ◌+◌, ◌-◌, ◌*◌, ◌^◌, ◌<◌, ◌≤◌, List, [], ◌∷◌, refl, ap, ◌∙◌, sym, map, drop, length, Bool, true, false, Bor, Some, slice_get, if◌then◌else◌, arith}
+use Rattle.std.proofs.Common.{◌≡◌, ℕ, zero, suc, ◌+◌, ◌-◌, ◌*◌, ◌^◌, ◌<◌, ◌≤◌, List, [], ◌∷◌, refl, ap, ◌∙◌, sym, inl, inr, map, drop, length, Bool, true, false, Bor, Some, slice_get, if◌then◌else◌, arith}
 use Rattle.std.proofs.lemmas.List.{length-drop, length-map}
 use Rattle.std.proofs.Math.Pow.{pow_mono}
 use Rattle.tc_model.specs.Names.{ExpandedName}
@@ -13,13 +13,16 @@ use Rattle.tc_model.specs.Seen.{name}
 use Rattle.tc_model.specs.declared.tree.Name.{Name}
 use Rattle.tc_rules.specs.declared.rules.Marks.{Marks}
 use Rattle.tc_rules.proofs.RowSteps.{drop_at}
+use Rattle.tc_alpha.proofs.Members.{Has}
 use Rattle.tc_run.specs.Lettered as l
 use Rattle.tc_run.specs.Running.{IsRunner, symbols_by, predicates_by, sheet_by, lettered_by, looking}
 use Rattle.tc_run.specs.Seen.{before, trees}
 use Rattle.tc_run.specs.declared.letters.Letter.{Letter}
 use Rattle.tc_run.specs.declared.letters.Lettered.{Lettered, Elem, Text}
 use Rattle.tc_run.specs.declared.runner.Runner.{Runner}
+use Rattle.tc_run.specs.Parts.{IsPartTest}
 use Rattle.tc_run.proofs.Looking.{marks_by_looks}
+use Rattle.tc_run.proofs.PartsOf.{predicate_part}
 use Rattle.tc_run.proofs.Views.{before_elem, before_text}
 
 -- the marks of a node of these children, by looks
@@ -64,3 +67,24 @@ marks_small f ps i h =
     let count : length (map f (drop i ps)) ≡ length ps - i = length-map (drop i ps) f ∙ length-drop i ps in
     let most : 2 ^ length (map f (drop i ps)) ≤ 2 ^ 6 = pow_mono (omega (arith, count, h)) in
     omega (arith, few, most)
+
+-- the loop over the numbers goes down: the marks of one predicate more
+pub mark_more : (f : Test → Bool) (ps : List Test) (n : ℕ) (w : Test) (b : Bool) (m : ℕ) → 0 < n → slice_get ps (n - 1) ≡ Some w → b ≡ f w
+    → m ≡ marks_of (map f (drop n ps)) → 2 * m + (if b then 1 else 0) ≡ marks_of (map f (drop (n - 1) ps))
+mark_more f ps n w b m h e k g =
+    let up : n - 1 + 1 ≡ n = omega arith in
+    let step : marks_of (map f (drop (n - 1) ps)) ≡ (if f w then 1 else 0) + 2 * marks_of (map f (drop (n - 1 + 1) ps)) = marks_step f ps (n - 1) w e in
+    let here : marks_of (map f (drop (n - 1 + 1) ps)) ≡ marks_of (map f (drop n ps)) = ap (λ i. marks_of (map f (drop i ps))) up in
+    let one : (if b then 1 else 0) ≡ (if f w then 1 else 0) = ap (λ x. if x then 1 else 0) k in
+    omega (arith, step, here, one, g)
+
+some_is : {X : Type 0} {a b : X} → Some a ≡ Some b → a ≡ b
+some_is e = cc
+
+has_slice : {X : Type 0} (xs : List X) (i : ℕ) (y : X) → slice_get xs i ≡ Some y → Has xs y
+has_slice [] i y e = absurd (cc)
+has_slice (x ∷ xs) zero y e = inl (some_is e)
+has_slice (x ∷ xs) (suc i) y e = inr (has_slice xs i y e)
+
+pub predicate_is_part : (r : Runner) (i : ℕ) (w : Test) → slice_get (predicates_by r) i ≡ Some w → IsPartTest (sheet_by r) w
+predicate_is_part r i w e = predicate_part (sheet_by r) w (has_slice (predicates_by r) i w e)

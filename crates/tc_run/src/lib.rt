@@ -85,7 +85,7 @@ pub fn run<'b>(
     Ok(normalise(arena, &output.nodes)?)
 }
 
-#[tactic(auto, using(crate::proofs::Plains::does_then, crate::proofs::Alone::text_alone, crate::proofs::PartsOf::rule_part, crate::proofs::Looking::all_unfold, crate::proofs::Counts::state_counted, crate::proofs::Marking::marks_step, crate::proofs::LetterBounds::letter_is, crate::proofs::RuleOf::mode_task, crate::proofs::Empty::hit_none, crate::proofs::Heights::text_lower, crate::proofs::Loops::text_first, crate::proofs::OneTree::first_beside, crate::proofs::Taking::so_far_at, crate::proofs::Instructions::seen, crate::proofs::Nodes::down_is, crate::proofs::Texts::texts, crate::proofs::FirstHits::in_text, crate::proofs::Result::keeps_limits, crate::proofs::Putting::one_text, crate::proofs::Lawful::lawful_results))]
+#[tactic(auto, using(crate::proofs::Marking::marks_step, crate::proofs::LetterBounds::letter_is, crate::proofs::OneTree::first_beside, crate::proofs::Texts::texts, crate::proofs::FirstHits::in_text, crate::proofs::Result::keeps_limits, crate::proofs::Putting::one_text, crate::proofs::Spending::answers_then))]
 fn probe() -> u32
     ensures { result ≡ 0 }
 {
