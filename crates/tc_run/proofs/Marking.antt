@@ -65,17 +65,21 @@ pub marks_small : (f : Test → Bool) (ps : List Test) (i : ℕ) → length ps �
 marks_small f ps i h =
     let few : marks_of (map f (drop i ps)) < 2 ^ length (map f (drop i ps)) = marks_few (map f (drop i ps)) in
     let count : length (map f (drop i ps)) ≡ length ps - i = length-map (drop i ps) f ∙ length-drop i ps in
-    let most : 2 ^ length (map f (drop i ps)) ≤ 2 ^ 6 = pow_mono (omega (arith, count, h)) in
+    let six : length (map f (drop i ps)) ≤ 6 = omega (arith, count, h) in
+    let most : 2 ^ length (map f (drop i ps)) ≤ 2 ^ 6 = pow_mono six in
     omega (arith, few, most)
 
 -- the loop over the numbers goes down: the marks of one predicate more
+abbrev bit_of : Bool → ℕ
+bit_of b = if b then 1 else 0
+
 pub mark_more : (f : Test → Bool) (ps : List Test) (n : ℕ) (w : Test) (b : Bool) (m : ℕ) → 0 < n → slice_get ps (n - 1) ≡ Some w → b ≡ f w
     → m ≡ marks_of (map f (drop n ps)) → 2 * m + (if b then 1 else 0) ≡ marks_of (map f (drop (n - 1) ps))
 mark_more f ps n w b m h e k g =
     let up : n - 1 + 1 ≡ n = omega arith in
     let step : marks_of (map f (drop (n - 1) ps)) ≡ (if f w then 1 else 0) + 2 * marks_of (map f (drop (n - 1 + 1) ps)) = marks_step f ps (n - 1) w e in
     let here : marks_of (map f (drop (n - 1 + 1) ps)) ≡ marks_of (map f (drop n ps)) = ap (λ i. marks_of (map f (drop i ps))) up in
-    let one : (if b then 1 else 0) ≡ (if f w then 1 else 0) = ap (λ x. if x then 1 else 0) k in
+    let one : bit_of b ≡ bit_of (f w) = ap bit_of k in
     omega (arith, step, here, one, g)
 
 some_is : {X : Type 0} {a b : X} → Some a ≡ Some b → a ≡ b
