@@ -1,5 +1,5 @@
 -- What a look selects first in one tree, by its letter.
-use Rattle.std.proofs.Common.{◌≡◌, ℕ, List, refl, ap, ◌∙◌, sym, subst, [], Bool, true, false, cond, Option, Some, None, is_some, MatchOption, Bor}
+use Rattle.std.proofs.Common.{◌≡◌, ℕ, ◌+◌, ◌<◌, length, get_or, drop, List, refl, ap, ◌∙◌, sym, subst, [], Bool, true, false, cond, Option, Some, None, is_some, MatchOption, Bor}
 use Rattle.tc_model.specs.Chains.{Node, Tree, an_element, a_text, one, string_value}
 use Rattle.tc_model.specs.Letters.{letter_of, IsLetter}
 use Rattle.tc_model.specs.Machine.{or_else, first_hit}
@@ -23,8 +23,8 @@ use Rattle.tc_run.specs.declared.letters.Lettered.{Lettered, Elem, Text}
 use Rattle.tc_run.specs.declared.runner.Runner.{Runner}
 use Rattle.tc_run.proofs.Empty.{first_none}
 use Rattle.tc_run.proofs.LetterBounds.{letter_is}
-use Rattle.tc_run.proofs.OneTree.{none_last, text_at, element_at}
-use Rattle.tc_run.proofs.Views.{before_elem, before_text}
+use Rattle.tc_run.proofs.OneTree.{none_last, text_at, element_at, first_beside}
+use Rattle.tc_run.proofs.Views.{before_elem, before_text, left_one}
 
 module _ (r : Runner) (node : Lettered) (is_lettered : IsLetteredBy r (before node l.none)) where
   -- the letter of a tree is one
@@ -76,6 +76,11 @@ module _ (r : Runner) (look : Looking) (node : Lettered) (is_lettered : IsLetter
       in_element n x s kids is false h
       ∙ first_none (symbols_by r) (predicates_by r) (bare (trees kids.now)) ((looking r).look_step look (letter (kinds.Elem x.sym) x.marks)) e
 
+-- in trees: in the first of them, or else in what is left
+pub first_left : (r : Runner) (look : Looking) (ns : List Lettered) (i : ℕ) (x : Lettered) → i < length ns → x ≡ get_or ns i x
+    → first_hit (looking r) (bare (trees (drop i ns))) look ≡ or_else (first_hit (looking r) (bare (before x l.none)) look) (first_hit (looking r) (bare (trees (drop (i + 1) ns))) look)
+first_left r look ns i x h e = ap (λ y. first_hit (looking r) (bare y) look) (left_one ns i x h e) ∙ first_beside r look x (trees (drop (i + 1) ns))
+
 -- a path of no alternative selects nothing
 pub none_first : (r : Runner) (p : Path) (h : t.Trees) → p ≡ no_alternative → first_hit (looking r) h (looking_from p) ≡ None
 none_first r p h e = first_none (symbols_by r) (predicates_by r) h (looking_from p) (ap (λ q. is_empty_state (first_state q)) e)
@@ -107,3 +112,6 @@ answered_here (Some x) hit later all e f a = (a.0, f ∙ ap (λ h. or_else h lat
 pub answered_later : (found : Option (Bor (List ℕ))) (hit later all : Option Node) → is_some found ≡ false → all ≡ or_else hit later → Answered found hit → all ≡ later
 answered_later None hit later all e f a = f ∙ ap (λ h. or_else h later) a
 answered_later (Some x) hit later all e f a = absurd (cc)
+
+pub answered_absent : (found : Option (Bor (List ℕ))) (hit : Option Node) → found ≡ None → hit ≡ None → Answered found hit
+answered_absent found hit e f = subst (λ w. Answered w hit) (sym e) f

@@ -1,7 +1,8 @@
 -- The letters that are kept are those of the trees.
-use Rattle.std.proofs.Common.{◌≡◌, ℕ, zero, suc, ◌+◌, ◌-◌, ◌*◌, ◌^◌, ◌<◌, ◌≤◌, List, [], ◌∷◌, refl, ap, ◌∙◌, sym, inl, inr, map, drop, length, Bool, true, false, Bor, Some, slice_get, if◌then◌else◌, arith}
+use Rattle.std.proofs.Common.{◌≡◌, ℕ, zero, suc, ◌+◌, ◌-◌, ◌*◌, ◌^◌, ◌<◌, ◌≤◌, List, [], ◌∷◌, refl, ap, ◌∙◌, sym, subst, inl, inr, map, drop, length, Bool, true, false, Bor, Some, slice_get, if◌then◌else◌, arith}
 use Rattle.std.proofs.lemmas.List.{length-drop, length-map}
 use Rattle.std.proofs.Math.Pow.{pow_mono}
+use mir.Val.{bool_byte}
 use Rattle.tc_model.specs.Names.{ExpandedName}
 use Rattle.tc_model.specs.Trees as t
 use Rattle.tc_model.specs.Chains.{Tree, an_element, a_text, children_of, joined_texts}
@@ -44,6 +45,9 @@ module _ (r : Runner) (is : IsRunner r) where
       let m = f ∙ marks_are (an_element (name n) h) in
       before_elem n x s kids (lettered_by r rest) ∙ (λ i. l.element (name n) (e i) (m i) (g i) (k i) (lettered_by r rest))
 
+abbrev bit_of : Bool → ℕ
+bit_of b = if b then 1 else 0
+
 -- one predicate more
 pub marks_step : (f : Test → Bool) (ps : List Test) (i : ℕ) (w : Test) → slice_get ps i ≡ Some w
     → marks_of (map f (drop i ps)) ≡ (if f w then 1 else 0) + 2 * marks_of (map f (drop (i + 1) ps))
@@ -70,17 +74,27 @@ marks_small f ps i h =
     omega (arith, few, most)
 
 -- the loop over the numbers goes down: the marks of one predicate more
-abbrev bit_of : Bool → ℕ
-bit_of b = if b then 1 else 0
+bit_is : (b : Bool) → bool_byte b ≡ bit_of b
+bit_is true = refl
+bit_is false = refl
 
-pub mark_more : (f : Test → Bool) (ps : List Test) (n : ℕ) (w : Test) (b : Bool) (m : ℕ) → 0 < n → slice_get ps (n - 1) ≡ Some w → b ≡ f w
-    → m ≡ marks_of (map f (drop n ps)) → 2 * m + (if b then 1 else 0) ≡ marks_of (map f (drop (n - 1) ps))
-mark_more f ps n w b m h e k g =
+pub bit_low : (b : Bool) → bool_byte b ≤ 1
+bit_low true = omega arith
+bit_low false = omega arith
+
+pub mark_more : (f : Test → Bool) (ps : List Test) (n : ℕ) (w : Test) (b : Bool) (m k : ℕ) → 0 < n → slice_get ps (n - 1) ≡ Some w → b ≡ f w → k ≡ bool_byte b
+    → m ≡ marks_of (map f (drop n ps)) → 2 * m + k ≡ marks_of (map f (drop (n - 1) ps))
+mark_more f ps n w b m k h e same is g =
     let up : n - 1 + 1 ≡ n = omega arith in
-    let step : marks_of (map f (drop (n - 1) ps)) ≡ (if f w then 1 else 0) + 2 * marks_of (map f (drop (n - 1 + 1) ps)) = marks_step f ps (n - 1) w e in
+    let step : marks_of (map f (drop (n - 1) ps)) ≡ bit_of (f w) + 2 * marks_of (map f (drop (n - 1 + 1) ps)) = marks_step f ps (n - 1) w e in
     let here : marks_of (map f (drop (n - 1 + 1) ps)) ≡ marks_of (map f (drop n ps)) = ap (λ i. marks_of (map f (drop i ps))) up in
-    let one : bit_of b ≡ bit_of (f w) = ap bit_of k in
+    let one : k ≡ bit_of (f w) = is ∙ (bit_is b ∙ ap bit_of same) in
     omega (arith, step, here, one, g)
+
+pub marks_low : (r : Runner) → IsRunner r → (f : Test → Bool) (n m : ℕ) → m ≡ marks_of (map f (drop n (predicates_by r))) → m < 64
+marks_low r is f n m e =
+    let few : length (predicates_by r) ≤ 6 = subst (λ ps. length ps ≤ 6) is.tells.predicates_are is.tells.few_predicates in
+    omega (arith, e, marks_small f (predicates_by r) n few)
 
 some_is : {X : Type 0} {a b : X} → Some a ≡ Some b → a ≡ b
 some_is e = cc

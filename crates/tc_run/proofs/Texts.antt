@@ -37,18 +37,10 @@ front_cut text front u w (rest, e) =
     let low : length front ≤ length text = omega (arith, ap length e, length-append front rest) in
     IsCharBoundary-from_take text (length front) u low (subst IsUtf8 (sym taken) w)
 
-pub front_rest : (text front back : List ℕ) → (rest : List ℕ) × (text ≡ front ++ rest) → back ≡ drop (length front) text → text ≡ front ++ back
-front_rest text front back (rest, e) f = e ∙ ap (λ x. front ++ x) (sym (f ∙ (ap (λ x. drop (length front) x) e ∙ drop_at front rest (length front) refl)))
-
 pub end_cut : (text end : List ℕ) → IsUtf8 end → (front : List ℕ) × (text ≡ front ++ end) → IsCharBoundary text (length text - length end)
 end_cut text end u (front, e) =
     let n : length front ≡ length text - length end = omega (arith, ap length e, length-append front end) in
     subst (λ k. IsCharBoundary text k) n (IsCharBoundary-at_seam text front end e u)
-
-pub end_front : (text end kept : List ℕ) → (front : List ℕ) × (text ≡ front ++ end) → kept ≡ take (length text - length end) text → text ≡ kept ++ end
-end_front text end kept (front, e) f =
-    let n : length front ≡ length text - length end = omega (arith, ap length e, length-append front end) in
-    e ∙ ap (λ x. x ++ end) (sym (f ∙ (ap (λ x. take (length text - length end) x) e ∙ take_at front end (length text - length end) n)))
 
 -- one piece more: u is t and the piece s, and j is s and what is left
 pub joined_further : (t u s j k w : List ℕ) → j ≡ s ++ k → t ++ j ≡ w → u ≡ t ++ s → u ++ k ≡ w
