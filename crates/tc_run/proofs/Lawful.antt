@@ -12,12 +12,9 @@ use Rattle.tc_model.specs.WellFormed.{IsBody, AreBranches, IsRule, IsSheet}
 use Rattle.tc_model.specs.Safety.{IsResultOf}
 use Rattle.tc_model.specs.Laws.{IsJob}
 use Rattle.tc_model.proofs.XmlTextChars.{join_chars, no_chars}
+use Rattle.tc_model.proofs.XmlTextDocument.{joined_lawful, dropped_lawful}
 use Rattle.tc_alpha.proofs.Members.{Every, every_append, every_from_all}
 use Rattle.tc_run.specs.Lawful.{HasLawfulResults}
-
-some_append : (s t : List ℕ) → s ≢ [] → s ++ t ≢ []
-some_append [] t h e = absurd (h refl)
-some_append (b ∷ s) t h e = cc
 
 some_is : {X : Type 0} {a b : X} → Some a ≡ Some b → a ≡ b
 some_is e = cc
@@ -26,29 +23,6 @@ every_at : {X : Type 0} (P : X → Type 0) (xs : List X) (i : ℕ) (x : X) → E
 every_at P [] i x a e = absurd (cc)
 every_at P (y ∷ xs) zero x a e = subst P (some_is e) a.0
 every_at P (y ∷ xs) (suc i) x a e = every_at P xs i x a.1 e
-
--- the normal form
-joined_to_lawful : (s : List ℕ) (h : Trees) → IsText s → AreLawful h → AreLawful (joined_to s h)
-joined_to_lawful s none t l = (t, tt)
-joined_to_lawful s (text u rest) (some, t) ((other, k), l) = ((some_append s u some, join_chars s u t k), l)
-joined_to_lawful s (element n kids rest) t l = (t, l)
-
-joined_lawful : (h : Trees) → AreLawful h → AreLawful (joined h)
-joined_lawful none l = tt
-joined_lawful (text s rest) (t, l) = joined_to_lawful s (joined rest) t (joined_lawful rest l)
-joined_lawful (element n kids rest) (a, k, l) = (a, joined_lawful kids k, joined_lawful rest l)
-
-kept_lawful : (s : List ℕ) (h : Trees) → IsText s → AreLawful h → AreLawful (kept s h)
-kept_lawful s h t l = by (is_all_white s)
-  where
-    by : (x : Bool) → AreLawful (cond x h (text s h))
-    by true = l
-    by false = (t, l)
-
-dropped_lawful : (h : Trees) → AreLawful h → AreLawful (dropped h)
-dropped_lawful none l = tt
-dropped_lawful (text s rest) (t, l) = kept_lawful s (dropped rest) t (dropped_lawful rest l)
-dropped_lawful (element n kids rest) (a, k, l) = (a, dropped_lawful kids k, dropped_lawful rest l)
 
 beside_lawful : (h k : Trees) → AreLawful h → AreLawful k → AreLawful (beside h k)
 beside_lawful none k l m = m

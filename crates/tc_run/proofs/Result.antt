@@ -12,13 +12,16 @@ use Rattle.tc_model.specs.WellFormed.{IsSheet}
 use Rattle.tc_model.specs.Safety.{Transforms, IsResultOf}
 use Rattle.tc_model.specs.Seen.{trees}
 use Rattle.tc_model.proofs.TotalExact.{does_complete}
+use Rattle.tc_rules.specs.Kept.{IsRulesOf, told}
 use Rattle.tc_rules.specs.States.{AllUnfold, states}
 use Rattle.tc_rules.specs.Told.{AreSymbolsWith}
+use Rattle.tc_rules.specs.declared.rules.Rules.{Rules}
 use Rattle.tc_rules.proofs.States.{states_tell}
 use Rattle.tc_run.specs.Limits.{KeepsLimits, IsCause}
 use Rattle.tc_run.specs.Running.{IsRunner, HasBodies, sheet_by, symbols_by, machine}
-use Rattle.tc_run.specs.Spent.{Spends, Answers}
+use Rattle.tc_run.specs.Spent.{Spends, IsPassed, Answers}
 use Rattle.tc_run.specs.declared.RunFault.{RunFault}
+use Rattle.tc_run.specs.declared.RunFault.TheVariants.{NoMemory}
 use Rattle.tc_run.specs.declared.output.Output.{Output}
 use Rattle.tc_run.specs.declared.runner.Runner.{Runner}
 use Rattle.tc_run.proofs.Looking.{all_unfold}
@@ -36,6 +39,14 @@ transforms symbols s (input, output, e) bodies all doc =
     let p = m.root_body (in_mode 0) in
     subst (λ y. Transforms s doc (on_root y s bodies doc)) (sym e)
     (does_at m p (top doc), does_complete s.rules s.named m of (body_of s.rules (by_mode 0) (top doc)) p (top doc) (of.ruled (by_mode 0) (in_mode 0) (top doc) u_mode) (of.knows (in_mode 0) (top doc) tt), refl)
+
+-- memory may be refused at any time
+pub no_memory : (symbols : List Mention) (x : Rules) → IsRulesOf symbols x → (doc : Trees) (e : RunFault) → e ≡ NoMemory → IsCause (told x).sheet doc e
+no_memory symbols x is doc e f =
+    let s = (told x).sheet in
+    let (bodies, all) = all_unfold s is.tells.well_formed s.rules is.tells.well_formed.rules in
+    let o = on_root symbols s bodies doc in
+    (o, transforms symbols s is.tells.symbols_are bodies all doc, subst (λ w. IsPassed w o.work o.nesting) (sym f) tt)
 
 module _ (r : Runner) (is : IsRunner r) (doc : Trees) (x y : Output) (no_tree : trees x.nodes.items ≡ none) (no_work : x.work ≡ 0) where
   pub keeps_limits : ((bodies : List Plain) → HasBodies r bodies → Spends 0 x y (on_root (symbols_by r) (sheet_by r) bodies doc)) → KeepsLimits (sheet_by r) doc

@@ -1,6 +1,8 @@
 -- The text of trees, tree by tree: how it is joined, and how it is cut from the document's whole text.
-use Rattle.std.proofs.Common.{◌≡◌, ℕ, ◌+◌, ◌<◌, List, [], ◌∷◌, ◌++◌, refl, ap, ◌∙◌, sym, subst, drop, length, get_or, Bor, append_assoc}
-use Rattle.std.proofs.lemmas.List.{append_cancel_left, append_cancel_right}
+use Rattle.std.proofs.Common.{◌≡◌, ℕ, ◌+◌, ◌-◌, ◌<◌, ◌≤◌, List, [], ◌∷◌, ◌++◌, refl, ap, ◌∙◌, sym, subst, take, drop, length, get_or, Bor, append_assoc, length-append, arith}
+use Rattle.std.proofs.lemmas.List.{append_cancel_left, append_cancel_right, take_at, drop_at}
+use Rattle.std.proofs.lemmas.Str.{IsCharBoundary-from_take, IsCharBoundary-at_seam}
+use Rattle.std.specs.Str.{IsUtf8, IsCharBoundary}
 use Rattle.tc_model.specs.Chains.{joined_texts}
 use Rattle.tc_model.specs.Seen as see
 use Rattle.tc_model.specs.Trees as t
@@ -8,10 +10,11 @@ use Rattle.tc_model.specs.declared.tree.Name.{Name}
 use Rattle.tc_model.specs.declared.tree.Node.{Node, Elem, Text}
 use Rattle.tc_model.proofs.Views.{left_elem, left_text}
 use Rattle.tc_run.specs.Lettered as l
-use Rattle.tc_run.specs.Running.{lettered_by}
+use Rattle.tc_run.specs.Running.{symbols_by, predicates_by, lettered_by, IsLetteredBy}
 use Rattle.tc_run.specs.Seen.{before, trees}
 use Rattle.tc_run.specs.declared.letters.Lettered.{Lettered}
 use Rattle.tc_run.specs.declared.runner.Runner.{Runner}
+use Rattle.tc_run.proofs.LetteredSteps.{bare_lettered, is_lettered}
 use Rattle.tc_run.proofs.Views.{joined, before_joined}
 
 abbrev text_left : List Node → ℕ → List ℕ
@@ -26,6 +29,18 @@ pub elem_joined : (ns : List Node) (i : ℕ) (x : Node) (n : Name) (kids : Bor (
 elem_joined ns i x n kids h e is = ap joined_texts (left_elem ns i x n kids h e is)
 
 pub ruleset texts = (text_joined, elem_joined)
+
+-- where a text may be cut: after a text in front of it, and before one at its end
+pub front_cut : (text front : List ℕ) → IsUtf8 text → IsUtf8 front → (rest : List ℕ) × (text ≡ front ++ rest) → IsCharBoundary text (length front)
+front_cut text front u w (rest, e) =
+    let taken : take (length front) text ≡ front = ap (λ x. take (length front) x) e ∙ take_at front rest (length front) refl in
+    let low : length front ≤ length text = omega (arith, ap length e, length-append front rest) in
+    IsCharBoundary-from_take text (length front) u low (subst IsUtf8 (sym taken) w)
+
+pub end_cut : (text end : List ℕ) → IsUtf8 end → (front : List ℕ) × (text ≡ front ++ end) → IsCharBoundary text (length text - length end)
+end_cut text end u (front, e) =
+    let n : length front ≡ length text - length end = omega (arith, ap length e, length-append front end) in
+    subst (λ k. IsCharBoundary text k) n (IsCharBoundary-at_seam text front end e u)
 
 -- one piece more: u is t and the piece s, and j is s and what is left
 pub joined_further : (t u s j k w : List ℕ) → j ≡ s ++ k → t ++ j ≡ w → u ≡ t ++ s → u ++ k ≡ w
@@ -59,3 +74,10 @@ pub joined_none : (x : l.Lettered) → joined x l.none ≡ x
 joined_none l.none = refl
 joined_none (l.text s m rest) = ap (l.text s m) (joined_none rest)
 joined_none (l.element n y m s kids rest) = ap (l.element n y m s kids) (joined_none rest)
+
+-- what is found of a document is lettered, and nothing is lost
+pub document_lettered : (r : Runner) (x : l.Lettered) (h : t.Trees) → x ≡ lettered_by r h → IsLetteredBy r x
+document_lettered r x h e = subst (λ y. IsLetteredBy r y) (sym e) (is_lettered (symbols_by r) (predicates_by r) h)
+
+pub document_bare : (r : Runner) (x : l.Lettered) (h : t.Trees) → x ≡ lettered_by r h → l.bare x ≡ h
+document_bare r x h e = ap l.bare e ∙ bare_lettered (symbols_by r) (predicates_by r) h

@@ -154,7 +154,7 @@ fn instantiate<'b>(
     requires nesting { nesting ≤ 8000 }
     requires work { output.old.work ≤ 4000000 }
     ensures few { OnOk result (output.new.work ≤ 4000000) }
-    ensures outcome { (bodies : List Plain) (p : Plain) → HasBodies runner.now bodies → IsMeant (sheet_by runner.now).named (node here.now) meant p → Answers nesting output.old output.new result
+    ensures outcome { (bodies : List Plain) (p : Plain) → HasBodies runner.now bodies → IsMeant (sheet_by runner.now).named (node here.now) meant.entry p → Answers nesting output.old output.new result
         (counted (does runner.now bodies p here.now)) }
 {
     let nesting = deeper(nesting)?;
@@ -279,7 +279,7 @@ fn around<'b>(
     requires work { output.old.work ≤ 4000000 }
     ensures few { OnOk result (output.new.work ≤ 4000000) }
     ensures outcome { (bodies : List Plain) (p : Plain) → HasBodies runner.now bodies → Unfolds (sheet_by runner.now).named (see.body inner.now) p → Answers nesting output.old output.new result
-        (put_around (see.name name) (does runner.now bodies p here.now)) }
+        (put_around (see.name name.entry) (does runner.now bodies p here.now)) }
 {
     let before = output.enter()?;
     body(runner, inner, here, nesting, output)?;

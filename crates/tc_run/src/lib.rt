@@ -85,7 +85,7 @@ pub fn run<'b>(
     Ok(normalise(arena, &output.nodes)?)
 }
 
-#[tactic(auto, using(crate::proofs::Plains::does_then, crate::proofs::Alone::text_alone, crate::proofs::PartsOf::rule_part, crate::proofs::Counts::state_counted, crate::proofs::RuleOf::mode_task, crate::proofs::Empty::hit_none, crate::proofs::Heights::text_lower, crate::proofs::Loops::text_first, crate::proofs::Taking::so_far_at, crate::proofs::Instructions::seen, crate::proofs::Nodes::down_is, crate::proofs::Handing::handed, crate::proofs::Measures::deeper_less, crate::proofs::BuiltIn::one_deep, crate::proofs::MeantBy::got_seen, crate::proofs::Hitting::is_letter, crate::proofs::Ends::body_end))]
+#[tactic(auto, using(crate::proofs::Plains::does_then, crate::proofs::Alone::text_alone, crate::proofs::PartsOf::rule_part, crate::proofs::Counts::state_counted, crate::proofs::RuleOf::mode_task, crate::proofs::Empty::hit_none, crate::proofs::Heights::text_lower, crate::proofs::Loops::text_first, crate::proofs::Taking::so_far_at, crate::proofs::Instructions::seen, crate::proofs::Nodes::down_is, crate::proofs::Handing::handed, crate::proofs::Measures::deeper_less, crate::proofs::BuiltIn::one_deep, crate::proofs::MeantBy::found_low, crate::proofs::Hitting::is_letter, crate::proofs::Ends::body_end))]
 fn probe() -> u32
     ensures { result ≡ 0 }
 {

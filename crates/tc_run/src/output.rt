@@ -97,7 +97,7 @@ impl<'b> Output<'b> {
         name: Name<'b>,
         before: Vec<Node<'b>, &'b Bump>,
     ) -> Result<(), RunFault>
-        ensures nodes { OnOk result (trees self.new.nodes.items ≡ beside (trees before.entry.items) (element (see_name name) (trees self.old.nodes.items) none)) }
+        ensures nodes { OnOk result (trees self.new.nodes.items ≡ beside (trees before.entry.items) (element (see_name name.entry) (trees self.old.nodes.items) none)) }
         ensures work { OnOk result (self.new.work ≡ self.old.work) }
         ensures err { IfErr result (λ e. e ≡ RunFault.NoMemory) }
     {
@@ -108,7 +108,7 @@ impl<'b> Output<'b> {
 
     /// One more tree.
     fn push(&mut self, node: Node<'b>) -> Result<(), NoMemory>
-        ensures nodes { OnOk result (self.new.nodes.items ≡ self.old.nodes.items ++ node ∷ []) }
+        ensures nodes { OnOk result (self.new.nodes.items ≡ self.old.nodes.items ++ node.entry ∷ []) }
         ensures work { OnOk result (self.new.work ≡ self.old.work) }
     {
         self.nodes.push(node)?;
