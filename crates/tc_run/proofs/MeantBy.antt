@@ -52,6 +52,15 @@ rule_got s sh i d e h = got_seen see.rule sh.rules.now s.rules i d (ap (λ (x : 
 pub named_got : (s : Sheet) (sh : SheetOf) (i : ℕ) (d : Bor (List Instr)) → see.sheet sh ≡ s → i < length s.named → slice_get s.named i ≡ Some (see.body (get_or sh.named.now i d).now)
 named_got s sh i d e h = got_seen (λ (b : Bor (List Instr)). see.body b.now) sh.named.now s.named i d (ap (λ (x : Sheet). x.named) e) h
 
+-- what stands past the end of bodies
+abbrev pub no_body : Bor (List Instr)
+no_body = record { ref_ptr = (0, 0); now = [] }
+
+pub named_low : (s : Sheet) (sh : SheetOf) (i : ℕ) → see.sheet sh ≡ s → i < length s.named → i < length sh.named.now
+named_low s sh i e h =
+    let size : length s.named ≡ length sh.named.now = sym (ap (λ (x : Sheet). length x.named) e) ∙ length-map sh.named.now (λ (b : Bor (List Instr)). see.body b.now) in
+    omega (arith, size, h)
+
 module _ (s : List Body) (n : Node) where
   pub meant_body : (w : Meant) (b : Bor (List Instr)) (p : Plain) → w ≡ m.Body b → IsMeant s n w p → Unfolds s (see.body b.now) p
   meant_body w b p e h = subst (λ v. IsMeant s n v p) e h
