@@ -100,13 +100,7 @@ pub built_in-selected-requires : goal.built_in-selected-requires
 built_in-selected-requires t c =
     let r = c.args.runner.now in (
       omega (arith, c.decreases, deeper_less c.args.nesting c.in_ok-nesting.nesting (bare (trees c.args.here.now.kids.now)) 3 1 c.in_ok-nesting.ensures.ok (omega arith)),
-      record {
-        runner = c.requires.runner;
-        here = c.requires.here;
-        path = subst (λ p. Contains (moves_of (sheet_by r)) (record { path = p; mode = c.args.mode })) (sym c.all_children-path.ensures) (children_move (sheet_by r) c.args.mode c.requires.mode);
-        nesting = c.in_ok-nesting.ensures.ok.1;
-        work = c.requires.work;
-      },
+      (c.requires.runner, (c.requires.here, (subst (λ p. Contains (moves_of (sheet_by r)) (record { path = p; mode = c.args.mode })) (sym c.all_children-path.ensures) (children_move (sheet_by r) c.args.mode c.requires.mode), (c.in_ok-nesting.ensures.ok.1, c.requires.work)))),
     )
 
 pub built_in-returns-in_default : goal.built_in-returns-in_default
@@ -185,14 +179,7 @@ hits-tree_hits-requires t c =
     let k = c.loop-node.node-index in
     let x = c.node-item.result in (
       omega (arith, c.decreases, tree_less c.args.nesting ns k x c.loop-node-test.true c.node-item.is),
-      record {
-        runner = c.requires.runner;
-        node = (apart_at c.args.runner.now ns k x c.loop-node-test.true c.node-item.is c.loop-node.invariant.1).0;
-        above = c.requires.above;
-        state = c.requires.state;
-        nesting = c.requires.nesting;
-        work = c.loop-node.invariant.0;
-      },
+      (c.requires.runner, ((apart_at c.args.runner.now ns k x c.loop-node-test.true c.node-item.is c.loop-node.invariant.1).0, (c.requires.above, (c.requires.state, (c.requires.nesting, c.loop-node.invariant.0))))),
     )
 
 pub hits-loop-node-preserved : goal.hits-loop-node-preserved
@@ -260,25 +247,13 @@ instruction-returns-in_err-nesting-clause-outcome t c = λ bodies p hb u.
 pub instruction-around-requires : goal.instruction-around-requires
 instruction-around-requires t c = (
       omega (arith, c.decreases, deeper_less c.args.nesting c.in_ok-nesting.nesting (bare (trees c.args.here.now.kids.now)) 8 6 c.in_ok-nesting.ensures.ok (omega arith)),
-      record {
-        runner = c.requires.runner;
-        here = c.requires.here;
-        part = elem_part (sheet_by c.args.runner.now) c.args.instruction.now c.in-Elem.name c.in-Elem.inner c.in-Elem.is c.requires.part;
-        nesting = c.in_ok-nesting.ensures.ok.1;
-        work = c.requires.work;
-      },
+      (c.requires.runner, (c.requires.here, (elem_part (sheet_by c.args.runner.now) c.args.instruction.now c.in-Elem.name c.in-Elem.inner c.in-Elem.is c.requires.part, (c.in_ok-nesting.ensures.ok.1, c.requires.work)))),
     )
 
 pub instruction-copy-requires : goal.instruction-copy-requires
 instruction-copy-requires t c = (
       omega (arith, c.decreases, deeper_less c.args.nesting c.in_ok-nesting.nesting (bare (trees c.args.here.now.kids.now)) 9 6 c.in_ok-nesting.ensures.ok (omega arith)),
-      record {
-        runner = c.requires.runner;
-        here = c.requires.here;
-        part = copy_part (sheet_by c.args.runner.now) c.args.instruction.now c.in-Copy.inner c.in-Copy.is c.requires.part;
-        nesting = c.in_ok-nesting.ensures.ok.1;
-        work = c.requires.work;
-      },
+      (c.requires.runner, (c.requires.here, (copy_part (sheet_by c.args.runner.now) c.args.instruction.now c.in-Copy.inner c.in-Copy.is c.requires.part, (c.in_ok-nesting.ensures.ok.1, c.requires.work)))),
     )
 
 pub instruction-bounds-sheet-number : goal.instruction-bounds-sheet-number
@@ -291,13 +266,7 @@ instruction-instantiate-requires t c =
     let r = c.args.runner.now in
     let low = call_part (sheet_by r) c.args.instruction.now c.in-Call.number c.in-Call.is c.requires.part in (
       omega (arith, c.decreases, deeper_less c.args.nesting c.in_ok-nesting.nesting (bare (trees c.args.here.now.kids.now)) 1 6 c.in_ok-nesting.ensures.ok (omega arith)),
-      record {
-        runner = c.requires.runner;
-        here = c.requires.here;
-        meant = named_part_at r c.requires.runner c.in-Call.number (get_or c.sheet.result.now.named.now c.in-Call.number no_body) (named_got (sheet_by r) c.sheet.result.now c.in-Call.number no_body c.sheet.ensures low);
-        nesting = c.in_ok-nesting.ensures.ok.1;
-        work = c.requires.work;
-      },
+      (c.requires.runner, (c.requires.here, (named_part_at r c.requires.runner c.in-Call.number (get_or c.sheet.result.now.named.now c.in-Call.number no_body) (named_got (sheet_by r) c.sheet.result.now c.in-Call.number no_body c.sheet.ensures low), (c.in_ok-nesting.ensures.ok.1, c.requires.work)))),
     )
 
 pub instruction-taken-chosen-requires-clause-part : goal.instruction-taken-chosen-requires-clause-part
@@ -416,40 +385,40 @@ selected-returns-in-Some-clause-outcome t c = λ bodies k hb task.
     (c.hits.ensures.outcome bodies (going_from k p) hb going)
 
 pub text_hit-sel_hits-requires : goal.text_hit-sel_hits-requires
-text_hit-sel_hits-requires t c = some_move_counted (told_by c.args.runner.now) c.args.state c.requires.state
+text_hit-sel_hits-requires t c = some_move_counted (told_by c.args.runner.now) c.args.state c.requires.1.state
 
 pub text_hit-returns-then-not-sel_hits-clause-outcome : goal.text_hit-returns-then-not-sel_hits-clause-outcome
 text_hit-returns-then-not-sel_hits-clause-outcome w c = λ bodies g hb at.
     let r = c.args.runner.now in
     let s = c.args.text.now in
     let x = letter kinds.Text c.args.marks in
-    let hit = hit_is r c.args.state g x c.sel_hits.result at c.requires.runner (is_letter r x (a_text s) c.requires.marks) c.sel_hits.ensures bodies in
+    let hit = hit_is r c.args.state g x c.sel_hits.result at c.requires.1.runner (is_letter r x (a_text s) c.requires.1.marks) c.sel_hits.ensures bodies in
     spends_none c.args.nesting c.args.output.now (outputs_on r bodies (t.text s t.none) c.args.above g)
-    (text_missed r bodies c.args.above g s x c.sel_hits.result c.requires.marks hit c.if-not-sel_hits.true) c.requires.work c.requires.nesting
+    (text_missed r bodies c.args.above g s x c.sel_hits.result c.requires.1.marks hit c.if-not-sel_hits.true) c.requires.1.work c.requires.1.nesting
 
 pub text_hit-mode_of-job-requires : goal.text_hit-mode_of-job-requires
-text_hit-mode_of-job-requires t c = some_move_low (told_by c.args.runner.now) c.args.state c.requires.state
+text_hit-mode_of-job-requires t c = some_move_low (told_by c.args.runner.now) c.args.state c.requires.1.state
 
 pub text_hit-meant_by-rule-requires-clause-job : goal.text_hit-meant_by-rule-requires-clause-job
 text_hit-meant_by-rule-requires-clause-job t c =
-    let s = c.requires.state in
-    c.mode_of-job.ensures.job (symbols_by c.args.runner.now) (record { path = s.path; mode = Some s.mode }) s.state c.requires.runner s.at
+    let s = c.requires.1.state in
+    c.mode_of-job.ensures.job (symbols_by c.args.runner.now) (record { path = s.path; mode = Some s.mode }) s.state c.requires.1.runner s.at
 
 pub text_hit-meant_by-rule-requires-clause-letter : goal.text_hit-meant_by-rule-requires-clause-letter
-text_hit-meant_by-rule-requires-clause-letter t c = is_letter c.args.runner.now (letter kinds.Text c.args.marks) (a_text c.args.text.now) c.requires.marks
+text_hit-meant_by-rule-requires-clause-letter t c = is_letter c.args.runner.now (letter kinds.Text c.args.marks) (a_text c.args.text.now) c.requires.1.marks
 
 pub text_hit-returns-clause-outcome : goal.text_hit-returns-clause-outcome
 text_hit-returns-clause-outcome w c = λ bodies g hb at.
     let r = c.args.runner.now in
     let s = c.args.text in
     let x = letter kinds.Text c.args.marks in
-    let hit = hit_is r c.args.state g x c.sel_hits.result at c.requires.runner (is_letter r x (a_text s.now) c.requires.marks) c.sel_hits.ensures bodies in
+    let hit = hit_is r c.args.state g x c.sel_hits.result at c.requires.1.runner (is_letter r x (a_text s.now) c.requires.1.marks) c.sel_hits.ensures bodies in
     let p = (machine r bodies).body_at g.task (ancestor (told_by r) c.args.above) x in
-    let task = task_is r c.args.state g c.mode_of-job.result at c.mode_of-job.ensures.mode c.requires.runner in
+    let task = task_is r c.args.state g c.mode_of-job.result at c.mode_of-job.ensures.mode c.requires.1.runner in
     let meant = c.meant_by-rule.ensures.meant bodies (one (a_text s.now)) g.task hb task (λ i. refl) in
     let kids : Bor (List Lettered) = record { ref_ptr = (0, 0); now = [] } in
     subst (Answers c.args.nesting c.args.output.now c.instantiate.new.output c.instantiate.result)
-    (sym (text_met r bodies c.args.above g s kids x c.sel_hits.result refl c.requires.marks hit c.if-not-sel_hits.false))
+    (sym (text_met r bodies c.args.above g s kids x c.sel_hits.result refl c.requires.1.marks hit c.if-not-sel_hits.false))
     (c.instantiate.ensures.outcome bodies p hb meant)
 
 
@@ -461,15 +430,7 @@ tree_hits-element_hit-requires t c =
     let a = element_at r c.args.node.now c.in-Elem.name c.in-Elem.letter c.in-Elem.string c.in-Elem.kids none c.requires.node c.in-Elem.is in
     let d = c.anc_step.ensures (symbols_by r) c.requires.runner (is_letter r x (an_element (see.name c.in-Elem.name) kids) a.letter_is) in (
       omega (arith, c.decreases, below_less c.args.nesting c.args.node.now c.in-Elem.name c.in-Elem.letter c.in-Elem.string c.in-Elem.kids 4 c.in-Elem.is (omega arith)),
-      record {
-        runner = c.requires.runner;
-        here = is_here_elem r c.in-Elem.name c.in-Elem.letter c.in-Elem.string c.in-Elem.kids none c.anc_step.result a (down_low r c.anc_step.result _ d);
-        element = (see.name c.in-Elem.name, kids, refl, a.letter_is);
-        above = c.requires.above;
-        state = c.requires.state;
-        nesting = c.requires.nesting;
-        work = c.requires.work;
-      },
+      (c.requires.runner, (is_here_elem r c.in-Elem.name c.in-Elem.letter c.in-Elem.string c.in-Elem.kids none c.anc_step.result a (down_low r c.anc_step.result _ d), ((see.name c.in-Elem.name, kids, refl, a.letter_is), (c.requires.above, (c.requires.state, (c.requires.nesting, c.requires.work)))))),
     )
 
 pub tree_hits-returns-in_err-element_hit-in-Elem-clause-outcome : goal.tree_hits-returns-in_err-element_hit-in-Elem-clause-outcome
@@ -504,14 +465,7 @@ tree_hits-hits-requires t c =
     let lx = is_letter r x (an_element (see.name c.in-Elem.name) kids) a.letter_is in
     let d = c.anc_step.ensures (symbols_by r) c.requires.runner lx in (
       omega (arith, c.decreases, below_less c.args.nesting c.args.node.now c.in-Elem.name c.in-Elem.letter c.in-Elem.string c.in-Elem.kids 1 c.in-Elem.is (omega arith)),
-      record {
-        runner = c.requires.runner;
-        nodes = a.kids_are;
-        above = down_low r c.anc_step.result _ d;
-        state = move_below r c.args.state c.in-Some.below x c.requires.state c.requires.runner lx c.in-Some.ensures;
-        nesting = c.requires.nesting;
-        work = c.in_ok-element_hit-in-Elem.ensures.few;
-      },
+      (c.requires.runner, (a.kids_are, (down_low r c.anc_step.result _ d, (move_below r c.args.state c.in-Some.below x c.requires.state c.requires.runner lx c.in-Some.ensures, (c.requires.nesting, c.in_ok-element_hit-in-Elem.ensures.few))))),
     )
 
 pub tree_hits-returns-in-None-clause-outcome : goal.tree_hits-returns-in-None-clause-outcome
