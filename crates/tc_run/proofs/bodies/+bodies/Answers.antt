@@ -385,40 +385,40 @@ selected-returns-in-Some-clause-outcome t c = λ bodies k hb task.
     (c.hits.ensures.outcome bodies (going_from k p) hb going)
 
 pub text_hit-sel_hits-requires : goal.text_hit-sel_hits-requires
-text_hit-sel_hits-requires t c = some_move_counted (told_by c.args.runner.now) c.args.state c.requires.1.state
+text_hit-sel_hits-requires t c = some_move_counted (told_by c.args.runner.now) c.args.state c.requires.1.1.1.1.1.0
 
 pub text_hit-returns-then-not-sel_hits-clause-outcome : goal.text_hit-returns-then-not-sel_hits-clause-outcome
 text_hit-returns-then-not-sel_hits-clause-outcome w c = λ bodies g hb at.
     let r = c.args.runner.now in
     let s = c.args.text.now in
     let x = letter kinds.Text c.args.marks in
-    let hit = hit_is r c.args.state g x c.sel_hits.result at c.requires.1.runner (is_letter r x (a_text s) c.requires.1.marks) c.sel_hits.ensures bodies in
+    let hit = hit_is r c.args.state g x c.sel_hits.result at c.requires.1.1.0 (is_letter r x (a_text s) c.requires.1.1.1.0) c.sel_hits.ensures bodies in
     spends_none c.args.nesting c.args.output.now (outputs_on r bodies (t.text s t.none) c.args.above g)
-    (text_missed r bodies c.args.above g s x c.sel_hits.result c.requires.1.marks hit c.if-not-sel_hits.true) c.requires.1.work c.requires.1.nesting
+    (text_missed r bodies c.args.above g s x c.sel_hits.result c.requires.1.1.1.0 hit c.if-not-sel_hits.true) c.requires.1.1.1.1.1.1.1 c.requires.1.1.1.1.1.1.0
 
 pub text_hit-mode_of-job-requires : goal.text_hit-mode_of-job-requires
-text_hit-mode_of-job-requires t c = some_move_low (told_by c.args.runner.now) c.args.state c.requires.1.state
+text_hit-mode_of-job-requires t c = some_move_low (told_by c.args.runner.now) c.args.state c.requires.1.1.1.1.1.0
 
 pub text_hit-meant_by-rule-requires-clause-job : goal.text_hit-meant_by-rule-requires-clause-job
 text_hit-meant_by-rule-requires-clause-job t c =
-    let s = c.requires.1.state in
-    c.mode_of-job.ensures.job (symbols_by c.args.runner.now) (record { path = s.path; mode = Some s.mode }) s.state c.requires.1.runner s.at
+    let s = c.requires.1.1.1.1.1.0 in
+    c.mode_of-job.ensures.job (symbols_by c.args.runner.now) (record { path = s.path; mode = Some s.mode }) s.state c.requires.1.1.0 s.at
 
 pub text_hit-meant_by-rule-requires-clause-letter : goal.text_hit-meant_by-rule-requires-clause-letter
-text_hit-meant_by-rule-requires-clause-letter t c = is_letter c.args.runner.now (letter kinds.Text c.args.marks) (a_text c.args.text.now) c.requires.1.marks
+text_hit-meant_by-rule-requires-clause-letter t c = is_letter c.args.runner.now (letter kinds.Text c.args.marks) (a_text c.args.text.now) c.requires.1.1.1.0
 
 pub text_hit-returns-clause-outcome : goal.text_hit-returns-clause-outcome
 text_hit-returns-clause-outcome w c = λ bodies g hb at.
     let r = c.args.runner.now in
     let s = c.args.text in
     let x = letter kinds.Text c.args.marks in
-    let hit = hit_is r c.args.state g x c.sel_hits.result at c.requires.1.runner (is_letter r x (a_text s.now) c.requires.1.marks) c.sel_hits.ensures bodies in
+    let hit = hit_is r c.args.state g x c.sel_hits.result at c.requires.1.1.0 (is_letter r x (a_text s.now) c.requires.1.1.1.0) c.sel_hits.ensures bodies in
     let p = (machine r bodies).body_at g.task (ancestor (told_by r) c.args.above) x in
-    let task = task_is r c.args.state g c.mode_of-job.result at c.mode_of-job.ensures.mode c.requires.1.runner in
+    let task = task_is r c.args.state g c.mode_of-job.result at c.mode_of-job.ensures.mode c.requires.1.1.0 in
     let meant = c.meant_by-rule.ensures.meant bodies (one (a_text s.now)) g.task hb task (λ i. refl) in
     let kids : Bor (List Lettered) = record { ref_ptr = (0, 0); now = [] } in
     subst (Answers c.args.nesting c.args.output.now c.instantiate.new.output c.instantiate.result)
-    (sym (text_met r bodies c.args.above g s kids x c.sel_hits.result refl c.requires.1.marks hit c.if-not-sel_hits.false))
+    (sym (text_met r bodies c.args.above g s kids x c.sel_hits.result refl c.requires.1.1.1.0 hit c.if-not-sel_hits.false))
     (c.instantiate.ensures.outcome bodies p hb meant)
 
 
