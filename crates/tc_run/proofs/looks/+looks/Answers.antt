@@ -84,7 +84,7 @@ first_in-returns-in_err-below-in-Elem t c = λ s at.
     let b : Block = record { path = s.path; mode = None } in
     let is_letter = element_letter r c.args.node.now c.requires.node x.field-0 x.letter x.string x.kids x.is in
     let hits = sym c.if-sel_hits-2.false ∙ c.sel_hits-in-Elem.ensures (symbols_by r) b s.state c.requires.runner is_letter at in
-    answered_absent c.from_residual.result (machine.first_hit (looking r) (l.bare (before c.args.node.now l.none)) s) ?
+    answered_absent c.from_residual.result (machine.first_hit (looking r) (l.bare (before c.args.node.now l.none)) s) c.from_residual.ensures
     (none_in_element r s c.args.node.now c.requires.node x.field-0 x.letter x.string x.kids x.is hits (c.in_err-below-in-Elem.ensures (symbols_by r) b s.state c.requires.runner is_letter at))
 
 pub first_in-first_hit-requires : goal.first_in-first_hit-requires
