@@ -54,7 +54,6 @@ impl From<NoMemory> for RunFault {
 }
 
 /// The law of results: the result of a well-formed stylesheet on a document has lawful names and texts.
-#[tactic(auto, using(crate::proofs::Lawful::lawful_results))]
 pub fn law_of_lawful_results()
     ensures { HasLawfulResults }
 {}

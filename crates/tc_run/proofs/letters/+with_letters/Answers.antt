@@ -20,7 +20,7 @@ with_letters-requires t c =
     let rest = joined_texts (see.trees (drop (i + 1) ns)) in
     let cut = c.loop-node.invariant.cut in
     let first = has_front c.loop-node.rest.now (joined_texts (see.trees x.kids.now)) all rest cut.0 cut.1 (elem_joined ns i c.node-item.result x.name x.kids c.loop-node-test.true c.node-item.is x.is) in
-    (search (rules, the_lemmas), (c.requires.1.runner, (rest ++ cut.0, first)))
+    (search (rules, the_lemmas), (c.requires.1.1.0, (rest ++ cut.0, first)))
 
 pub lettered_element-requires-clause-kids : goal.lettered_element-requires-clause-kids
 lettered_element-requires-clause-kids t c =
