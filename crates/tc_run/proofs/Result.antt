@@ -1,5 +1,5 @@
 -- What is put out on the root by states is what the stylesheet puts out on the document.
-use Rattle.std.proofs.Common.{◌≡◌, ◌≤◌, ◌+◌, ℕ, List, refl, ap, ◌∙◌, sym, subst, Result, Ok, Err, IsErrAnd, IfErr, arith}
+use Rattle.std.proofs.Common.{◌≡◌, ◌+◌, List, refl, ap, ◌∙◌, sym, subst, Result, Ok, Err, IsErrAnd, IfErr, arith}
 use Rattle.tc_model.specs.Trees.{Trees, none, beside, normal_form}
 use Rattle.tc_model.specs.Chains.{top}
 use Rattle.tc_model.specs.Sheets.{Sheet, Plain}
@@ -8,7 +8,6 @@ use Rattle.tc_model.specs.Meaning.{by_mode, body_of}
 use Rattle.tc_model.specs.Machine.{in_mode, u_mode, does_at}
 use Rattle.tc_model.specs.Symbols.{Mention, symbols_of}
 use Rattle.tc_model.specs.Numberings.{predicates_of}
-use Rattle.tc_model.specs.WellFormed.{IsSheet}
 use Rattle.tc_model.specs.Safety.{Transforms, IsResultOf}
 use Rattle.tc_model.specs.Seen.{trees}
 use Rattle.tc_model.proofs.TotalExact.{does_complete}
@@ -18,8 +17,8 @@ use Rattle.tc_rules.specs.Told.{AreSymbolsWith}
 use Rattle.tc_rules.specs.declared.rules.Rules.{Rules}
 use Rattle.tc_rules.proofs.States.{states_tell}
 use Rattle.tc_run.specs.Limits.{KeepsLimits, IsCause}
-use Rattle.tc_run.specs.Running.{IsRunner, HasBodies, sheet_by, symbols_by, machine}
-use Rattle.tc_run.specs.Spent.{Spends, IsPassed, Answers}
+use Rattle.tc_run.specs.Running.{IsRunner, HasBodies, sheet_by, symbols_by}
+use Rattle.tc_run.specs.Spent.{Spends, IsPassed}
 use Rattle.tc_run.specs.declared.RunFault.{RunFault}
 use Rattle.tc_run.specs.declared.RunFault.TheVariants.{NoMemory}
 use Rattle.tc_run.specs.declared.output.Output.{Output}

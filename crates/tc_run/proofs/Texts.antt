@@ -17,9 +17,6 @@ use Rattle.tc_run.specs.declared.runner.Runner.{Runner}
 use Rattle.tc_run.proofs.LetteredSteps.{bare_lettered, is_lettered}
 use Rattle.tc_run.proofs.Views.{joined, before_joined}
 
-abbrev text_left : List Node → ℕ → List ℕ
-text_left ns i = joined_texts (see.trees (drop i ns))
-
 pub text_joined : (ns : List Node) (i : ℕ) (x : Node) (s : Bor (List ℕ)) → i < length ns → x ≡ get_or ns i x → x ≡ Text s
     → joined_texts (see.trees (drop i ns)) ≡ s.now ++ joined_texts (see.trees (drop (i + 1) ns))
 text_joined ns i x s h e is = ap joined_texts (left_text ns i x s h e is)
@@ -27,8 +24,6 @@ text_joined ns i x s h e is = ap joined_texts (left_text ns i x s h e is)
 pub elem_joined : (ns : List Node) (i : ℕ) (x : Node) (n : Name) (kids : Bor (List Node)) → i < length ns → x ≡ get_or ns i x → x ≡ Elem n kids
     → joined_texts (see.trees (drop i ns)) ≡ joined_texts (see.trees kids.now) ++ joined_texts (see.trees (drop (i + 1) ns))
 elem_joined ns i x n kids h e is = ap joined_texts (left_elem ns i x n kids h e is)
-
-pub ruleset texts = (text_joined, elem_joined)
 
 -- where a text may be cut: after a text in front of it, and before one at its end
 pub front_cut : (text front : List ℕ) → IsUtf8 text → IsUtf8 front → (rest : List ℕ) × (text ≡ front ++ rest) → IsCharBoundary text (length front)

@@ -4,7 +4,7 @@
 //! on it. After that, what is selected and which rule fits are read off the numbers of path states.
 #![tactic(auto)]
 
-ghost use Rattle.std.specs.Prelude.{◌≡◌, IfOk, OnOk, IfErr};
+ghost use Rattle.std.specs.Prelude.{IfOk, OnOk, IfErr};
 ghost use Rattle.tc_model.specs.Safety.{IsResultOf};
 ghost use Rattle.tc_model.specs.Seen.{before, trees};
 ghost use Rattle.tc_model.specs.Trees.{IsDocument, none};
@@ -82,11 +82,4 @@ pub fn run<'b>(
     let mut output = Output::new(arena);
     root(&runner, document.nodes, text, &mut output)?;
     Ok(normalise(arena, &output.nodes)?)
-}
-
-#[tactic(auto, using(crate::proofs::Marking::marks_step, crate::proofs::LetterBounds::letter_is, crate::proofs::OneTree::first_beside, crate::proofs::Texts::texts, crate::proofs::FirstHits::in_text, crate::proofs::Result::keeps_limits, crate::proofs::Putting::one_text, crate::proofs::Spending::answers_then))]
-fn probe() -> u32
-    ensures { result ≡ 0 }
-{
-    0
 }
