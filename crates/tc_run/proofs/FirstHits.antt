@@ -1,5 +1,5 @@
 -- What a look selects first in one tree, by its letter.
-use Rattle.std.proofs.Common.{◌≡◌, ℕ, ◌+◌, ◌<◌, length, get_or, drop, List, refl, ap, ◌∙◌, sym, subst, [], Bool, true, false, cond, Option, Some, None, is_some, MatchOption, Bor}
+use Rattle.std.proofs.Common.{◌≡◌, ℕ, ◌+◌, ◌<◌, length, get_or, drop, List, ap, ◌∙◌, sym, subst, [], Bool, true, false, cond, Option, Some, None, is_some, MatchOption, Bor}
 use Rattle.tc_model.specs.Chains.{Node, Tree, an_element, a_text, one, string_value}
 use Rattle.tc_model.specs.Letters.{letter_of, IsLetter}
 use Rattle.tc_model.specs.Machine.{or_else, first_hit}

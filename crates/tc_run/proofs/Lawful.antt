@@ -1,16 +1,15 @@
 -- The result of a well-formed stylesheet on a document has lawful names and texts.
-use Rattle.std.proofs.Common.{◌≡◌, ◌≢◌, ℕ, Bool, true, false, cond, ◌<◌, ◌≤◌, List, [], ◌∷◌, ◌++◌, refl, ap, sym, subst, map, filter, ◌&&◌, nat_eq, int_lt, Option, Some, None, All, slice_get, zero, suc}
+use Rattle.std.proofs.Common.{◌≡◌, ℕ, Bool, true, false, cond, ◌<◌, List, [], ◌∷◌, sym, subst, map, filter, ◌&&◌, nat_eq, int_lt, Option, Some, None, All, slice_get, zero, suc}
 use Rattle.std.proofs.lemmas.List.Elements.{All-head, All-tail}
-use Rattle.tc_model.specs.Names.{ExpandedName, IsChars, IsText, IsName}
-use Rattle.tc_model.specs.Trees.{Trees, none, text, element, beside, is_all_white, joined_to, joined, kept, dropped, normal_form, AreLawful, IsDocument}
-use Rattle.tc_model.specs.Chains.{Tree, an_element, a_text, Chain, top, under, children_of, below, joined_texts, onto, Node, whole, one, node_of, children, string_value, found, first_node}
+use Rattle.tc_model.specs.Names.{IsChars, IsText, IsName}
+use Rattle.tc_model.specs.Trees.{Trees, none, text, element, beside, joined, AreLawful}
+use Rattle.tc_model.specs.Chains.{Tree, an_element, a_text, Chain, top, under, below, joined_texts, onto, Node, whole, one, node_of, children, string_value, found, first_node}
 use Rattle.tc_model.specs.Sheets.{Path, Body, Branches, Rule, Sheet}
 use Rattle.tc_model.specs.Paths.{any_along, selected, fits}
 use Rattle.tc_model.specs.Outcomes.{Outcome, put, copied}
-use Rattle.tc_model.specs.Meaning.{value_of_first, Job, by_mode, by_body, built_in, better, body_or, rule_of, body_of, Does, Takes, Each, does_no_instruction, does_text, does_element, does_copy, does_copy_text, does_apply, does_call, does_value, does_self, does_choose, does_for_each, takes_last, takes_this, takes_later, on_none, on_one, all_children}
+use Rattle.tc_model.specs.Meaning.{value_of_first, Job, by_mode, by_body, built_in, better, body_or, rule_of, body_of, Does, Takes, Each, does_no_instruction, does_text, does_element, does_copy, does_copy_text, does_apply, does_call, does_value, does_self, does_choose, does_for_each, takes_last, takes_this, takes_later, on_none, on_one}
 use Rattle.tc_model.specs.WellFormed.{IsBody, AreBranches, IsRule, IsSheet}
 use Rattle.tc_model.specs.Safety.{IsResultOf}
-use Rattle.tc_model.specs.Laws.{IsJob}
 use Rattle.tc_model.proofs.XmlTextChars.{join_chars, no_chars}
 use Rattle.tc_model.proofs.XmlTextDocument.{joined_lawful, dropped_lawful}
 use Rattle.tc_alpha.proofs.Members.{Every, every_append, every_from_all}

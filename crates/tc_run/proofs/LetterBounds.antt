@@ -1,5 +1,5 @@
 -- The letter of a tree is one: its symbol and its marks are in range.
-use Rattle.std.proofs.Common.{◌≡◌, ℕ, ◌+◌, ◌<◌, ◌≤◌, ◌^◌, List, map, length, refl, ap, ◌∙◌, sym, subst, Bool, true, false, if◌then◌else◌, arith}
+use Rattle.std.proofs.Common.{◌≡◌, ℕ, ◌<◌, ◌^◌, List, map, subst, Bool, true, false, if◌then◌else◌, arith}
 use Rattle.std.proofs.lemmas.List.{length-map}
 use Rattle.tc_model.specs.Names.{ExpandedName}
 use Rattle.tc_model.specs.Chains.{Tree, an_element, a_text, top, under}
@@ -7,7 +7,7 @@ use Rattle.tc_model.specs.Trees.{none}
 use Rattle.tc_model.specs.Sheets.{Test}
 use Rattle.tc_model.specs.Paths.{holds}
 use Rattle.tc_model.specs.Symbols.{Mention, a_name, a_namespace, place_of, is_mentioned, symbol_of, symbol_count}
-use Rattle.tc_model.specs.Letters.{Kind, of_symbol, of_text, Letter, letter_of, kind_of, marks_of, IsLetter}
+use Rattle.tc_model.specs.Letters.{of_symbol, letter_of, kind_of, marks_of, IsLetter}
 use Rattle.tc_alpha.proofs.Places.{place_le}
 use Rattle.tc_run.proofs.Marking.{marks_few}
 

@@ -1,12 +1,12 @@
 -- The parts of lettered trees are lettered.
-use Rattle.std.proofs.Common.{◌≡◌, ℕ, List, [], ◌∷◌, ◌++◌, refl, ap, ◌∙◌, sym, append_assoc}
+use Rattle.std.proofs.Common.{◌≡◌, ℕ, List, refl, ap, sym}
 use Rattle.tc_model.specs.Names.{ExpandedName}
 use Rattle.tc_model.specs.Trees as t
 use Rattle.tc_model.specs.Chains.{an_element, a_text, joined_texts}
 use Rattle.tc_model.specs.Sheets.{Test}
 use Rattle.tc_model.specs.Symbols.{Mention, symbol_of}
 use Rattle.tc_model.specs.Letters.{letter_of}
-use Rattle.tc_run.specs.Lettered.{Lettered, none, text, element, bare, lettered, IsLettered}
+use Rattle.tc_run.specs.Lettered.{Lettered, text, element, bare, lettered, IsLettered}
 
 module _ (symbols : List Mention) (predicates : List Test) where
   pub bare_lettered : (h : t.Trees) → bare (lettered symbols predicates h) ≡ h

@@ -1,8 +1,8 @@
 -- Tests hold by the looks alone: the bodies of rules don't matter to them.
-use Rattle.std.proofs.Common.{◌≡◌, inl, inr, ℕ, List, [], ◌∷◌, refl, ap, ◌∙◌, sym, subst, map, Bool, true, false, cond, not, ◌&&◌, ◌||◌, Option, Some, None, is_some, All}
+use Rattle.std.proofs.Common.{◌≡◌, inl, inr, List, [], ◌∷◌, refl, ap, ◌∙◌, sym, subst, map, cond, not, ◌&&◌, ◌||◌, Some, is_some, All}
 use Rattle.std.proofs.lemmas.List.Elements.{All-head, All-tail}
 use Rattle.tc_model.specs.Trees.{Trees, none, text, element}
-use Rattle.tc_model.specs.Chains.{Tree, an_element, a_text, top, under, children_of, Node, one}
+use Rattle.tc_model.specs.Chains.{Tree, an_element, top, under, children_of, one}
 use Rattle.tc_model.specs.Sheets.{Path, Test, always, never, has, negated, all_of, any_of, Tests, no_test, test, Rule, Sheet, Plain}
 use Rattle.tc_model.specs.Paths.{holds}
 use Rattle.tc_model.specs.Machine.{known_test, known_tests, or_else, first_hit, holds_in, all_hold_in, some_holds_in}

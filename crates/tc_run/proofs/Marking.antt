@@ -3,7 +3,6 @@ use Rattle.std.proofs.Common.{◌≡◌, ℕ, zero, suc, ◌+◌, ◌-◌, ◌*�
 use Rattle.std.proofs.lemmas.List.{length-drop, length-map}
 use Rattle.std.proofs.Math.Pow.{pow_mono}
 use mir.Val.{bool_byte}
-use Rattle.tc_model.specs.Names.{ExpandedName}
 use Rattle.tc_model.specs.Trees as t
 use Rattle.tc_model.specs.Chains.{Tree, an_element, a_text, children_of, joined_texts}
 use Rattle.tc_model.specs.Sheets.{Test}

@@ -1,5 +1,5 @@
 -- Lettered trees one tree at a time: a tree, and what stands beside it.
-use Rattle.std.proofs.Common.{◌≡◌, ℕ, zero, suc, ◌+◌, ◌<◌, ◌≤◌, max, List, [], ◌∷◌, refl, ap, ◌∙◌, sym, subst, drop, length, get_or, cond, Option, Some, None, Bor, arith}
+use Rattle.std.proofs.Common.{◌≡◌, ℕ, suc, ◌+◌, ◌<◌, ◌≤◌, max, List, refl, ap, ◌∙◌, sym, subst, drop, length, get_or, cond, Option, Some, None, Bor, arith}
 use Rattle.tc_model.specs.Chains.{an_element, a_text, joined_texts, one, Node}
 use Rattle.tc_model.specs.Letters.{Letter, letter_of, of_symbol, of_text}
 use Rattle.tc_model.specs.Machine.{or_else, first_hit, outputs, does_in}
@@ -7,7 +7,6 @@ use Rattle.tc_model.specs.Outcomes.{Outcome, nothing, join, counted}
 use Rattle.tc_model.specs.PathStates.{State}
 use Rattle.tc_model.specs.Seen.{name}
 use Rattle.tc_model.specs.Sheets.{Plain}
-use Rattle.tc_model.specs.Trees as t
 use Rattle.tc_model.specs.declared.tree.Name.{Name}
 use Rattle.tc_model.proofs.TotalJoin.{join_assoc, join_none}
 use Rattle.tc_rules.specs.Asked.{letter}

@@ -1,27 +1,18 @@
 -- What texts and elements that are put out spend.
-use Rattle.std.proofs.Common.{◌≡◌, ℕ, ◌+◌, ◌<◌, ◌≤◌, List, [], ◌∷◌, refl, ap, ◌∙◌, sym, subst, length, Result, Ok, Err, arith}
+use Rattle.std.proofs.Common.{◌≡◌, ℕ, ◌+◌, ◌<◌, ◌≤◌, List, [], ◌∷◌, ap, ◌∙◌, length, arith}
 use Rattle.tc_model.specs.Names.{ExpandedName}
-use Rattle.tc_model.specs.Trees.{none, text, element, beside}
+use Rattle.tc_model.specs.Trees.{none, element, beside}
 use Rattle.tc_model.specs.Seen.{trees}
-use Rattle.tc_model.specs.Outcomes.{Outcome, nothing, put, put_around}
-use Rattle.tc_run.specs.Spent.{Spends, IsPassed, Answers}
+use Rattle.tc_model.specs.Outcomes.{Outcome, put, put_around}
+use Rattle.tc_run.specs.Spent.{Spends}
 use Rattle.tc_run.specs.declared.RunFault.{RunFault}
-use Rattle.tc_run.specs.declared.RunFault.TheVariants.{TooMuchWork, TooOpen, NoMemory}
+use Rattle.tc_run.specs.declared.RunFault.TheVariants.{TooMuchWork}
 use Rattle.tc_run.specs.declared.output.Output.{Output}
 use Rattle.tc_run.proofs.Spending.{Fails, passed_more, spends_nothing}
 
 pub no_text : (around : ℕ) (x : Output) (s : List ℕ) → length s ≡ 0 → x.work ≤ 4000000 → around ≤ 8000 → Spends around x x (put s)
 no_text around x [] e h k = spends_nothing around x h k
 no_text around x (b ∷ bs) e h k = absurd (omega (arith, e))
-
-pub one_text : (around : ℕ) (x y : Output) (s : List ℕ) → 0 < length s → trees y.nodes.items ≡ beside (trees x.nodes.items) (text s none) → y.work ≡ x.work + 1 → y.work ≤ 4000000
-    → around ≤ 8000 → Spends around x y (put s)
-one_text around x y [] l e f h k = absurd (omega (arith, l))
-one_text around x y (b ∷ bs) l e f h k = record { out = e; work = f; few = h; low = omega (arith, k) }
-
-pub text_fails : (around : ℕ) (x : Output) (s : List ℕ) → 0 < length s → 4000000 < x.work + 1 → Fails around x TooMuchWork (put s)
-text_fails around x [] l h = absurd (omega (arith, l))
-text_fails around x (b ∷ bs) l h = h
 
 -- an element around what was put out since nothing was
 pub spends_around : (around : ℕ) (x inside y z : Output) (n : ExpandedName) (o : Outcome)

@@ -1,7 +1,7 @@
 -- The text of trees, tree by tree: how it is joined, and how it is cut from the document's whole text.
 use Rattle.std.proofs.Common.{◌≡◌, ℕ, ◌+◌, ◌-◌, ◌<◌, ◌≤◌, List, [], ◌∷◌, ◌++◌, refl, ap, ◌∙◌, sym, subst, take, drop, length, get_or, Bor, append_assoc, length-append, arith}
 use Rattle.std.proofs.lemmas.List.{append_cancel_left, append_cancel_right, take_at, drop_at}
-use Rattle.std.proofs.lemmas.Str.{IsCharBoundary-from_take, IsCharBoundary-at_seam}
+use Rattle.std.proofs.lemmas.Str.{IsCharBoundary-from_take, IsCharBoundary-at_seam, IsUtf8-drop}
 use Rattle.std.specs.Str.{IsUtf8, IsCharBoundary}
 use Rattle.tc_model.specs.Chains.{joined_texts}
 use Rattle.tc_model.specs.Seen as see
@@ -17,9 +17,6 @@ use Rattle.tc_run.specs.declared.runner.Runner.{Runner}
 use Rattle.tc_run.proofs.LetteredSteps.{bare_lettered, is_lettered}
 use Rattle.tc_run.proofs.Views.{joined, before_joined}
 
-abbrev text_left : List Node → ℕ → List ℕ
-text_left ns i = joined_texts (see.trees (drop i ns))
-
 pub text_joined : (ns : List Node) (i : ℕ) (x : Node) (s : Bor (List ℕ)) → i < length ns → x ≡ get_or ns i x → x ≡ Text s
     → joined_texts (see.trees (drop i ns)) ≡ s.now ++ joined_texts (see.trees (drop (i + 1) ns))
 text_joined ns i x s h e is = ap joined_texts (left_text ns i x s h e is)
@@ -28,14 +25,16 @@ pub elem_joined : (ns : List Node) (i : ℕ) (x : Node) (n : Name) (kids : Bor (
     → joined_texts (see.trees (drop i ns)) ≡ joined_texts (see.trees kids.now) ++ joined_texts (see.trees (drop (i + 1) ns))
 elem_joined ns i x n kids h e is = ap joined_texts (left_elem ns i x n kids h e is)
 
-pub ruleset texts = (text_joined, elem_joined)
-
 -- where a text may be cut: after a text in front of it, and before one at its end
 pub front_cut : (text front : List ℕ) → IsUtf8 text → IsUtf8 front → (rest : List ℕ) × (text ≡ front ++ rest) → IsCharBoundary text (length front)
 front_cut text front u w (rest, e) =
     let taken : take (length front) text ≡ front = ap (λ x. take (length front) x) e ∙ take_at front rest (length front) refl in
     let low : length front ≤ length text = omega (arith, ap length e, length-append front rest) in
     IsCharBoundary-from_take text (length front) u low (subst IsUtf8 (sym taken) w)
+
+pub text_after : (text front rest : List ℕ) → IsUtf8 text → IsUtf8 front → text ≡ front ++ rest → IsUtf8 rest
+text_after text front rest u w e =
+    subst IsUtf8 (ap (λ x. drop (length front) x) e ∙ drop_at front rest (length front) refl) (IsUtf8-drop text (length front) u (front_cut text front u w (rest, e)))
 
 pub end_cut : (text end : List ℕ) → IsUtf8 end → (front : List ℕ) × (text ≡ front ++ end) → IsCharBoundary text (length text - length end)
 end_cut text end u (front, e) =
@@ -68,6 +67,19 @@ pushed_first (n ∷ ns) x k =
 pub found_further : (r : Runner) (ns : List Lettered) (x : Lettered) (h rest : t.Trees) (all : l.Lettered)
     → before x (lettered_by r rest) ≡ lettered_by r h → joined (trees ns) (lettered_by r h) ≡ all → joined (trees (ns ++ x ∷ [])) (lettered_by r rest) ≡ all
 found_further r ns x h rest all e f = pushed_first ns x (lettered_by r rest) ∙ (ap (joined (trees ns)) e ∙ f)
+
+-- the tree that was found is that of the loop
+pub text_found : (r : Runner) (ns : List Node) (i : ℕ) (x : Node) (s : Bor (List ℕ)) → i < length ns → x ≡ get_or ns i x → x ≡ Text s → (f : Lettered)
+    → ((rest : t.Trees) → before f (lettered_by r rest) ≡ lettered_by r (t.text s.now rest))
+    → before f (lettered_by r (see.trees (drop (i + 1) ns))) ≡ lettered_by r (see.trees (drop i ns))
+text_found r ns i x s h e is f found = found (see.trees (drop (i + 1) ns)) ∙ ap (lettered_by r) (sym (left_text ns i x s h e is))
+
+pub elem_found : (r : Runner) (ns : List Node) (i : ℕ) (x : Node) (n : Name) (kids : Bor (List Node)) → i < length ns → x ≡ get_or ns i x → x ≡ Elem n kids → (f : Lettered) (below : l.Lettered)
+    → l.bare below ≡ see.trees kids.now → ((rest : t.Trees) → before f (lettered_by r rest) ≡ lettered_by r (t.element (see.name n) (l.bare below) rest))
+    → before f (lettered_by r (see.trees (drop (i + 1) ns))) ≡ lettered_by r (see.trees (drop i ns))
+elem_found r ns i x n kids h e is f below same found =
+    found (see.trees (drop (i + 1) ns))
+    ∙ ap (lettered_by r) (ap (λ k. t.element (see.name n) k (see.trees (drop (i + 1) ns))) same ∙ sym (left_elem ns i x n kids h e is))
 
 -- all of them are found
 pub joined_none : (x : l.Lettered) → joined x l.none ≡ x

@@ -1,5 +1,5 @@
 -- What a layer of lettered trees is, seen as plain data.
-use Rattle.std.proofs.Common.{◌≡◌, ℕ, ◌+◌, ◌<◌, List, [], ◌∷◌, refl, ap, ◌∙◌, sym, map, Bor, length, get_or, drop, ◌++◌, subst}
+use Rattle.std.proofs.Common.{◌≡◌, ℕ, ◌+◌, ◌<◌, List, [], ◌∷◌, refl, ap, ◌∙◌, sym, map, Bor, length, get_or, drop, subst}
 use Rattle.std.proofs.lemmas.List.{drop_more}
 use Rattle.tc_model.specs.Seen.{name}
 use Rattle.tc_model.specs.declared.tree.Name.{Name}
@@ -33,17 +33,6 @@ before_text s m rest =
 pub left_one : (ns : List Lettered) (i : ℕ) (x : Lettered) → i < length ns → x ≡ get_or ns i x → trees (drop i ns) ≡ before x (trees (drop (i + 1) ns))
 left_one ns i x h e = ap trees (drop_more ns i x h) ∙ ap (λ y. before y (trees (drop (i + 1) ns))) (sym e)
 
-pub left_elem : (ns : List Lettered) (i : ℕ) (x : Lettered) (n : Name) (y : Letter) (s : Bor (List ℕ)) (kids : Bor (List Lettered))
-    → i < length ns → x ≡ get_or ns i x → x ≡ Elem n y s kids
-    → trees (drop i ns) ≡ l.element (name n) y.sym.0 y.marks.0 s.now (trees kids.now) (trees (drop (i + 1) ns))
-left_elem ns i x n y s kids h e is =
-    left_one ns i x h e ∙ (ap (λ w. before w (trees (drop (i + 1) ns))) is ∙ before_elem n y s kids _)
-
-pub left_text : (ns : List Lettered) (i : ℕ) (x : Lettered) (s : Bor (List ℕ)) (m : Marks) → i < length ns → x ≡ get_or ns i x → x ≡ Text s m
-    → trees (drop i ns) ≡ l.text s.now m.0 (trees (drop (i + 1) ns))
-left_text ns i x s m h e is =
-    left_one ns i x h e ∙ (ap (λ w. before w (trees (drop (i + 1) ns))) is ∙ before_text s m _)
-
 -- the trees of the first, and then those of the second
 abbrev pub joined : l.Lettered → l.Lettered → l.Lettered
 joined l.none k = k
@@ -63,9 +52,3 @@ pub before_joined : (x : Lettered) (g h : l.Lettered) → joined (before x g) h 
 before_joined x g h =
     let P : Lettered → Type 0 = λ y. joined (before y g) h ≡ before y (joined g h) in
     subst P (roll-out-Lettered x) (before_layer (out-Lettered x) g h)
-
-pub trees_append : (ns ms : List Lettered) → trees (ns ++ ms) ≡ joined (trees ns) (trees ms)
-trees_append [] ms = refl
-trees_append (n ∷ ns) ms = ap (before n) (trees_append ns ms) ∙ sym (before_joined n (trees ns) (trees ms))
-
-pub ruleset steps = (left_elem, left_text)

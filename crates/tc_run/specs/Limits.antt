@@ -1,5 +1,5 @@
 -- The limits of a run: the work that a stylesheet does on a document, and how many bodies and instructions stand within one another.
-use Rattle.std.specs.Prelude.{◌<◌, ◌≤◌}
+use Rattle.std.specs.Prelude.{◌≤◌}
 use Rattle.tc_model.specs.Trees.{Trees}
 use Rattle.tc_model.specs.Sheets.{Sheet}
 use Rattle.tc_model.specs.Outcomes.{Outcome}

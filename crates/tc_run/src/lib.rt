@@ -4,7 +4,7 @@
 //! on it. After that, what is selected and which rule fits are read off the numbers of path states.
 #![tactic(auto)]
 
-ghost use Rattle.std.specs.Prelude.{◌≡◌, IfOk, OnOk, IfErr};
+ghost use Rattle.std.specs.Prelude.{IfOk, OnOk, IfErr};
 ghost use Rattle.tc_model.specs.Safety.{IsResultOf};
 ghost use Rattle.tc_model.specs.Seen.{before, trees};
 ghost use Rattle.tc_model.specs.Trees.{IsDocument, none};
@@ -54,7 +54,6 @@ impl From<NoMemory> for RunFault {
 }
 
 /// The law of results: the result of a well-formed stylesheet on a document has lawful names and texts.
-#[tactic(auto, using(crate::proofs::Lawful::lawful_results))]
 pub fn law_of_lawful_results()
     ensures { HasLawfulResults }
 {}
@@ -83,11 +82,4 @@ pub fn run<'b>(
     let mut output = Output::new(arena);
     root(&runner, document.nodes, text, &mut output)?;
     Ok(normalise(arena, &output.nodes)?)
-}
-
-#[tactic(auto, using(crate::proofs::Plains::does_then, crate::proofs::Alone::text_alone, crate::proofs::PartsOf::rule_part, crate::proofs::Counts::state_counted, crate::proofs::RuleOf::mode_task, crate::proofs::Empty::hit_none, crate::proofs::Heights::text_lower, crate::proofs::Loops::text_first, crate::proofs::Taking::so_far_at, crate::proofs::Instructions::seen, crate::proofs::Nodes::down_is, crate::proofs::Handing::handed, crate::proofs::Measures::deeper_less, crate::proofs::BuiltIn::one_deep, crate::proofs::MeantBy::found_low, crate::proofs::Hitting::is_letter, crate::proofs::Ends::body_end))]
-fn probe() -> u32
-    ensures { result ≡ 0 }
-{
-    0
 }

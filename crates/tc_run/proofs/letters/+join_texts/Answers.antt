@@ -1,4 +1,4 @@
-use Rattle.std.proofs.Common.{◌+◌, drop}
+use Rattle.std.proofs.Common.{◌+◌, drop, ap, ◌∙◌}
 use Rattle.std.specs.String.{string_bytes}
 use Rattle.tc_model.specs.Chains.{joined_texts}
 use Rattle.tc_model.specs.Seen as see
@@ -14,10 +14,10 @@ loop-node-preserved t c =
     let all = joined_texts (see.trees (drop i ns)) in
     let rest = joined_texts (see.trees (drop (i + 1) ns)) in
     elim c.match-node.branch [
-      in-Text+in_ok-push_str-in-Text w ↦
-        joined_further (string_bytes c.loop-node.text) (string_bytes c.match-node.text) w.in-Text.piece.now all rest _
-        (text_joined ns i x w.in-Text.piece c.loop-node-test.true c.node-item.is w.in-Text.is) c.loop-node.invariant (cc)
-    | in-Elem+in_ok-join_texts-in-Elem w ↦
-        joined_further (string_bytes c.loop-node.text) (string_bytes c.match-node.text) (joined_texts (see.trees w.in-Elem.kids.now)) all rest _
-        (elem_joined ns i x w.in-Elem.field-0 w.in-Elem.kids c.loop-node-test.true c.node-item.is w.in-Elem.is) c.loop-node.invariant (cc)
+      | in-Text+in_ok-push_str-in-Text w ↦
+          joined_further (string_bytes c.loop-node.text) (string_bytes c.match-node.text) w.in-Text.piece.now all rest _
+          (text_joined ns i x w.in-Text.piece c.loop-node-test.true c.node-item.is w.in-Text.is) c.loop-node.invariant (ap string_bytes w.text-is ∙ w.in_ok-push_str-in-Text.ensures.bytes)
+      | in-Elem+in_ok-join_texts-in-Elem w ↦
+          joined_further (string_bytes c.loop-node.text) (string_bytes c.match-node.text) (joined_texts (see.trees w.in-Elem.kids.now)) all rest _
+          (elem_joined ns i x w.in-Elem.field-0 w.in-Elem.kids c.loop-node-test.true c.node-item.is w.in-Elem.is) c.loop-node.invariant (ap string_bytes w.text-is ∙ w.in_ok-join_texts-in-Elem.ensures)
     ]

@@ -1,8 +1,6 @@
-use Rattle.std.proofs.Common.{◌-◌, ◌<◌, ◌≤◌, Bool, arith}
-use mir.Val.{bool_byte}
+use Rattle.std.proofs.Common.{◌-◌, ◌<◌, arith}
 use Rattle.tc_model.specs.Machine.{holds_in}
 use Rattle.tc_model.specs.Seen as see
-use Rattle.tc_model.specs.Sheets.{Test}
 use Rattle.tc_run.specs.Lettered.{bare}
 use Rattle.tc_run.specs.Running.{looking, predicates_by, symbols_by}
 use Rattle.tc_run.specs.Seen.{trees}
@@ -31,5 +29,5 @@ loop-number-preserved c =
     let r = c.args.runner.now in (
       omega arith,
       mark_more (λ p. holds_in (looking r) p (bare (trees c.args.kids.now))) (predicates_by r) c.loop-number.number (see.test c.predicate-predicate.result.now) c.holds.result c.loop-number.marks c.from.result
-      c.loop-number-test.true (c.predicate-predicate.ensures (symbols_by r) c.requires.runner) c.holds.ensures c.from.ensures c.loop-number.invariant.1,
+          c.loop-number-test.true (c.predicate-predicate.ensures (symbols_by r) c.requires.runner) c.holds.ensures c.from.ensures c.loop-number.invariant.1,
     )

@@ -1,4 +1,4 @@
-use Rattle.std.proofs.Common.{◌≡◌, ◌+◌, Some, None, true, false, drop, ap, ◌∙◌, sym, refl, rules}
+use Rattle.std.proofs.Common.{◌+◌, None, true, false, drop, ap, ◌∙◌, sym, refl, rules}
 use Rattle.std.proofs.lemmas.List.{drop_all}
 use Rattle.tc_model.specs.Chains.{one, an_element, a_text}
 use Rattle.tc_model.specs.Machine as machine
@@ -34,9 +34,9 @@ first_hit-loop-node-preserved t c =
     let x = c.node-item.result in (
       (apart_at r ns i x c.loop-node-test.true c.node-item.is c.loop-node.invariant.0).1,
       λ s at.
-      c.loop-node.invariant.1 s at
-      ∙ answered_later c.first_in-found.result (machine.first_hit m (l.bare (before x l.none)) s) (machine.first_hit m (l.bare (trees (drop (i + 1) ns))) s) (machine.first_hit m (l.bare (trees (drop i ns))) s)
-      (sym c.is_some.ensures ∙ c.if-is_some.false) (first_left r s ns i x c.loop-node-test.true c.node-item.is) (c.first_in-found.ensures s at),
+          c.loop-node.invariant.1 s at
+          ∙ answered_later c.first_in-found.result (machine.first_hit m (l.bare (before x l.none)) s) (machine.first_hit m (l.bare (trees (drop (i + 1) ns))) s) (machine.first_hit m (l.bare (trees (drop i ns))) s)
+          (sym c.is_some.ensures ∙ c.if-is_some.false) (first_left r s ns i x c.loop-node-test.true c.node-item.is) (c.first_in-found.ensures s at),
     )
 
 pub first_hit-returns : goal.first_hit-returns
@@ -84,7 +84,7 @@ first_in-returns-in_err-below-in-Elem t c = λ s at.
     let b : Block = record { path = s.path; mode = None } in
     let is_letter = element_letter r c.args.node.now c.requires.node x.field-0 x.letter x.string x.kids x.is in
     let hits = sym c.if-sel_hits-2.false ∙ c.sel_hits-in-Elem.ensures (symbols_by r) b s.state c.requires.runner is_letter at in
-    answered_absent c.from_residual.result (machine.first_hit (looking r) (l.bare (before c.args.node.now l.none)) s) ?
+    answered_absent c.from_residual.result (machine.first_hit (looking r) (l.bare (before c.args.node.now l.none)) s) c.from_residual.ensures
     (none_in_element r s c.args.node.now c.requires.node x.field-0 x.letter x.string x.kids x.is hits (c.in_err-below-in-Elem.ensures (symbols_by r) b s.state c.requires.runner is_letter at))
 
 pub first_in-first_hit-requires : goal.first_in-first_hit-requires
@@ -94,13 +94,17 @@ first_in-first_hit-requires t c =
     let is_letter = element_letter r c.args.node.now c.requires.node x.field-0 x.letter x.string x.kids x.is in
     let b : Block = record { path = c.requires.state.path; mode = None } in (
       search (rules, the_lemmas),
-      (c.requires.runner,
-      ((element_at r c.args.node.now x.field-0 x.letter x.string x.kids l.none c.requires.node x.is).kids_are,
-      record {
-        path = c.requires.state.path;
-        state = select_below (symbols_by r) (told_by r) b c.requires.state.state (letter (kinds.Elem x.letter.sym) x.letter.marks);
-        at = c.in_ok-below-in-Elem.ensures (symbols_by r) b c.requires.state.state c.requires.runner is_letter c.requires.state.at;
-      })),
+      (
+        c.requires.runner,
+        (
+          (element_at r c.args.node.now x.field-0 x.letter x.string x.kids l.none c.requires.node x.is).kids_are,
+          record {
+            path = c.requires.state.path;
+            state = select_below (symbols_by r) (told_by r) b c.requires.state.state (letter (kinds.Elem x.letter.sym) x.letter.marks);
+            at = c.in_ok-below-in-Elem.ensures (symbols_by r) b c.requires.state.state c.requires.runner is_letter c.requires.state.at;
+          },
+        ),
+      ),
     )
 
 pub first_in-returns-in_ok-below-in-Elem : goal.first_in-returns-in_ok-below-in-Elem

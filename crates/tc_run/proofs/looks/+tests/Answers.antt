@@ -1,4 +1,4 @@
-use Rattle.std.proofs.Common.{◌≡◌, is_some, ap, ◌∙◌, sym, subst, rules}
+use Rattle.std.proofs.Common.{is_some, ap, ◌∙◌, sym, subst, rules}
 use Rattle.tc_model.specs.Machine as machine
 use Rattle.tc_model.specs.Seen as see
 use Rattle.tc_model.specs.declared.sheet.Test.TheViews.{the_lemmas}

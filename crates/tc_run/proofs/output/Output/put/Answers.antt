@@ -1,4 +1,4 @@
-use Rattle.std.proofs.Common.{◌≡◌, length, arith, rules}
+use Rattle.std.proofs.Common.{◌≡◌, length, rules}
 use Rattle.tc_run.proofs.Putting.{no_text}
 use Rattle.tc_run.proofs.output.Output.put.Goals as goal
 
