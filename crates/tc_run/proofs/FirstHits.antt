@@ -1,0 +1,117 @@
+-- What a look selects first in one tree, by its letter.
+use Rattle.std.proofs.Common.{◌≡◌, ℕ, ◌+◌, ◌<◌, length, get_or, drop, List, ap, ◌∙◌, sym, subst, [], Bool, true, false, cond, Option, Some, None, is_some, MatchOption, Bor}
+use Rattle.tc_model.specs.Chains.{Node, Tree, an_element, a_text, one, string_value}
+use Rattle.tc_model.specs.Letters.{letter_of, IsLetter}
+use Rattle.tc_model.specs.Machine.{or_else, first_hit}
+use Rattle.tc_model.specs.Meaning.{value_of_first}
+use Rattle.tc_model.specs.PathStates.{is_empty_state, first_state}
+use Rattle.tc_model.specs.Seen.{name}
+use Rattle.tc_model.specs.Sheets.{Path, no_alternative}
+use Rattle.tc_model.specs.Trees as t
+use Rattle.tc_model.specs.declared.tree.Name.{Name}
+use Rattle.tc_rules.specs.Asked.{letter}
+use Rattle.tc_rules.specs.declared.rules.Kind.TheVariants as kinds
+use Rattle.tc_rules.specs.declared.rules.Marks.{Marks}
+use Rattle.tc_rules.specs.States.{Looking}
+use Rattle.tc_run.specs.Lettered as l
+use Rattle.tc_run.specs.Lettered.{bare}
+use Rattle.tc_run.specs.Running.{IsLetteredBy, symbols_by, predicates_by, looking}
+use Rattle.tc_run.specs.Seen.{before, trees}
+use Rattle.tc_run.specs.Tasks.{looking_from}
+use Rattle.tc_run.specs.declared.letters.Letter.{Letter as LetterOf}
+use Rattle.tc_run.specs.declared.letters.Lettered.{Lettered, Elem, Text}
+use Rattle.tc_run.specs.declared.runner.Runner.{Runner}
+use Rattle.tc_run.proofs.Empty.{first_none}
+use Rattle.tc_run.proofs.LetterBounds.{letter_is}
+use Rattle.tc_run.proofs.OneTree.{none_last, text_at, element_at, first_beside}
+use Rattle.tc_run.proofs.Views.{before_elem, before_text, left_one}
+
+module _ (r : Runner) (node : Lettered) (is_lettered : IsLetteredBy r (before node l.none)) where
+  -- the letter of a tree is one
+  pub text_letter : (s : Bor (List ℕ)) (m : Marks) → node ≡ Text s m → IsLetter (symbols_by r) (predicates_by r) (letter kinds.Text m)
+  text_letter s m is =
+      subst (IsLetter (symbols_by r) (predicates_by r)) (sym (text_at r node s m l.none is_lettered is).letter_is) (letter_is (symbols_by r) (predicates_by r) (a_text s.now))
+
+  pub element_letter : (n : Name) (x : LetterOf) (s : Bor (List ℕ)) (kids : Bor (List Lettered)) → node ≡ Elem n x s kids
+      → IsLetter (symbols_by r) (predicates_by r) (letter (kinds.Elem x.sym) x.marks)
+  element_letter n x s kids is =
+      subst (IsLetter (symbols_by r) (predicates_by r)) (sym (element_at r node n x s kids l.none is_lettered is).letter_is)
+      (letter_is (symbols_by r) (predicates_by r) (an_element (name n) (bare (trees kids.now))))
+
+module _ (r : Runner) (look : Looking) (node : Lettered) (is_lettered : IsLetteredBy r (before node l.none)) where
+  -- in a text
+  pub in_text : (s : Bor (List ℕ)) (m : Marks) → node ≡ Text s m → (b : Bool) → b ≡ (looking r).look_hits look (letter kinds.Text m)
+      → first_hit (looking r) (bare (before node l.none)) look ≡ cond b (Some (one (a_text s.now))) None
+  in_text s m is b h =
+      let here = (text_at r node s m l.none is_lettered is).letter_is in
+      let hit : Option Node = Some (one (a_text s.now)) in
+      let told : (looking r).look_hits look (letter_of (symbols_by r) (predicates_by r) (a_text s.now)) ≡ b = ap ((looking r).look_hits look) (sym here) ∙ sym h in
+      ap (λ y. first_hit (looking r) (bare (before y l.none)) look) is
+      ∙ (ap (λ z. first_hit (looking r) (bare z) look) (before_text s m l.none)
+      ∙ (ap (λ x. or_else (cond x hit None) None) told ∙ none_last (cond b hit None)))
+
+  -- in an element, or else below it
+  pub in_element : (n : Name) (x : LetterOf) (s : Bor (List ℕ)) (kids : Bor (List Lettered)) → node ≡ Elem n x s kids
+      → (b : Bool) → b ≡ (looking r).look_hits look (letter (kinds.Elem x.sym) x.marks)
+      → first_hit (looking r) (bare (before node l.none)) look
+      ≡ cond b (Some (one (an_element (name n) (bare (trees kids.now))))) (first_hit (looking r) (bare (trees kids.now)) ((looking r).look_step look (letter (kinds.Elem x.sym) x.marks)))
+  in_element n x s kids is b h =
+      let m = looking r in
+      let here = (element_at r node n x s kids l.none is_lettered is).letter_is in
+      let tree : Tree = an_element (name n) (bare (trees kids.now)) in
+      let hit : Option Node = Some (one tree) in
+      let told : m.look_hits look (m.letter tree) ≡ b = ap (m.look_hits look) (sym here) ∙ sym h in
+      let below : Option Node = first_hit m (bare (trees kids.now)) (m.look_step look (letter (kinds.Elem x.sym) x.marks)) in
+      ap (λ y. first_hit m (bare (before y l.none)) look) is
+      ∙ (ap (λ z. first_hit m (bare z) look) (before_elem n x s kids l.none)
+      ∙ (ap (λ w. or_else (cond w hit (first_hit m (bare (trees kids.now)) (m.look_step look (m.letter tree)))) None) told
+      ∙ (ap (λ k. or_else (cond b hit (first_hit m (bare (trees kids.now)) (m.look_step look k))) None) (sym here) ∙ none_last (cond b hit below))))
+
+  -- nor is there any below, where no item is left
+  pub none_in_element : (n : Name) (x : LetterOf) (s : Bor (List ℕ)) (kids : Bor (List Lettered)) → node ≡ Elem n x s kids
+      → false ≡ (looking r).look_hits look (letter (kinds.Elem x.sym) x.marks)
+      → is_empty_state ((looking r).look_step look (letter (kinds.Elem x.sym) x.marks)).state ≡ true
+      → first_hit (looking r) (bare (before node l.none)) look ≡ None
+  none_in_element n x s kids is h e =
+      in_element n x s kids is false h
+      ∙ first_none (symbols_by r) (predicates_by r) (bare (trees kids.now)) ((looking r).look_step look (letter (kinds.Elem x.sym) x.marks)) e
+
+-- in trees: in the first of them, or else in what is left
+pub first_left : (r : Runner) (look : Looking) (ns : List Lettered) (i : ℕ) (x : Lettered) → i < length ns → x ≡ get_or ns i x
+    → first_hit (looking r) (bare (trees (drop i ns))) look ≡ or_else (first_hit (looking r) (bare (before x l.none)) look) (first_hit (looking r) (bare (trees (drop (i + 1) ns))) look)
+first_left r look ns i x h e = ap (λ y. first_hit (looking r) (bare y) look) (left_one ns i x h e) ∙ first_beside r look x (trees (drop (i + 1) ns))
+
+-- a path of no alternative selects nothing
+pub none_first : (r : Runner) (p : Path) (h : t.Trees) → p ≡ no_alternative → first_hit (looking r) h (looking_from p) ≡ None
+none_first r p h e = first_none (symbols_by r) (predicates_by r) h (looking_from p) (ap (λ q. is_empty_state (first_state q)) e)
+
+-- what is answered for a first hit
+abbrev pub Answered : Option (Bor (List ℕ)) → Option Node → Type 0
+Answered found hit = MatchOption found (hit ≡ None) (λ x. (n : Node) × (hit ≡ Some n) × (x.now ≡ string_value n))
+
+pub answered_some : (found : Option (Bor (List ℕ))) (hit : Option Node) → Answered found hit → is_some found ≡ is_some hit
+answered_some None hit e = sym (ap is_some e)
+answered_some (Some x) hit a = sym (ap is_some a.1)
+
+pub answered_none : (hit : Option Node) → Answered None hit → value_of_first hit ≡ []
+answered_none hit e = ap value_of_first e
+
+pub answered_value : (x : Bor (List ℕ)) (hit : Option Node) → Answered (Some x) hit → x.now ≡ value_of_first hit
+answered_value x hit a = a.2 ∙ sym (ap value_of_first a.1)
+
+-- the same is answered for the same hit
+pub answered_alike : (found : Option (Bor (List ℕ))) (hit other : Option Node) → other ≡ hit → Answered found hit → Answered found other
+answered_alike None hit other e a = e ∙ a
+answered_alike (Some x) hit other e a = (a.0, e ∙ a.1, a.2)
+
+-- a hit in a tree comes before all that come later
+pub answered_here : (found : Option (Bor (List ℕ))) (hit later all : Option Node) → is_some found ≡ true → all ≡ or_else hit later → Answered found hit → Answered found all
+answered_here None hit later all e f a = absurd (cc)
+answered_here (Some x) hit later all e f a = (a.0, f ∙ ap (λ h. or_else h later) a.1, a.2)
+
+pub answered_later : (found : Option (Bor (List ℕ))) (hit later all : Option Node) → is_some found ≡ false → all ≡ or_else hit later → Answered found hit → all ≡ later
+answered_later None hit later all e f a = f ∙ ap (λ h. or_else h later) a
+answered_later (Some x) hit later all e f a = absurd (cc)
+
+pub answered_absent : (found : Option (Bor (List ℕ))) (hit : Option Node) → found ≡ None → hit ≡ None → Answered found hit
+answered_absent found hit e f = subst (λ w. Answered w hit) (sym e) f

@@ -1,0 +1,95 @@
+-- The current node: what is kept of it is right, and what a body puts out on it.
+use Rattle.std.proofs.Common.{◌≡◌, ℕ, zero, suc, ◌+◌, ◌<◌, List, [], ◌∷◌, refl, ap, ◌∙◌, sym, subst, length, cond, Some, slice_get, get_or, Bor}
+use Rattle.std.proofs.lemmas.Option.{get_or_from_slice_get, slice_get_within}
+use Rattle.tc_model.specs.Chains as c
+use Rattle.tc_model.specs.Machine.{Task, does_in, does_at, outputs}
+use Rattle.tc_model.specs.Outcomes.{Outcome, nothing, join, counted}
+use Rattle.tc_model.specs.PathStates.{State, is_empty_state, first_state, path_of_rules}
+use Rattle.tc_model.specs.Seen.{name}
+use Rattle.tc_model.specs.Sheets.{Path, no_alternative, Plain}
+use Rattle.tc_model.specs.Trees as t
+use Rattle.tc_model.specs.declared.tree.Name.{Name}
+use Rattle.tc_rules.specs.Asked.{letter}
+use Rattle.tc_rules.specs.declared.rules.Kind.TheVariants as kinds
+use Rattle.tc_rules.specs.States.{Going}
+use Rattle.tc_rules.specs.Told.{ancestor, ancestor_below}
+use Rattle.tc_run.specs.Lettered as l
+use Rattle.tc_run.specs.Lettered.{bare}
+use Rattle.tc_run.specs.Running.{IsLetteredBy, told_by, sheet_by, symbols_by, predicates_by, machine}
+use Rattle.tc_run.specs.Seen.{before, trees, node, IsHere}
+use Rattle.tc_run.specs.Tasks.{does, outputs_on, going_from}
+use Rattle.tc_run.specs.declared.bodies.Here.{Here}
+use Rattle.tc_run.specs.declared.bodies.Shape.TheVariants as shapes
+use Rattle.tc_run.specs.declared.letters.Letter.{Letter as LetterOf}
+use Rattle.tc_run.specs.declared.letters.Lettered.{Lettered, Elem}
+use Rattle.tc_run.specs.declared.runner.Runner.{Runner}
+use Rattle.tc_run.proofs.Empty.{outputs_none}
+use Rattle.tc_run.proofs.Loops.{element_first}
+use Rattle.tc_run.proofs.OneTree.{ElementAt, element_at}
+use Rattle.tc_run.proofs.Views.{before_elem}
+use Rattle.tc_model.proofs.TotalJoin.{join_none}
+
+abbrev pub here_elem : Name → Bor (List ℕ) → Bor (List Lettered) → ℕ → Here
+here_elem n s kids above = record { shape = shapes.Elem n; string = s; kids = kids; above = above }
+
+abbrev pub here_text : Bor (List ℕ) → Bor (List Lettered) → ℕ → Here
+here_text s kids above = record { shape = shapes.Text; string = s; kids = kids; above = above }
+
+abbrev pub here_root : Bor (List ℕ) → Bor (List Lettered) → ℕ → Here
+here_root s kids above = record { shape = shapes.Root; string = s; kids = kids; above = above }
+
+module _ (r : Runner) where
+  pub is_here_elem : (n : Name) (x : LetterOf) (s : Bor (List ℕ)) (kids : Bor (List Lettered)) (rest : l.Lettered) (above : ℕ)
+      → ElementAt r n x s kids rest → above < length (told_by r).ancestors.states → IsHere r (here_elem n s kids above)
+  is_here_elem n x s kids rest above a h = record { kids = a.kids_are; children_are = refl; string = a.string_is; above = h }
+
+  -- a text has no children
+  pub is_here_text : (s : Bor (List ℕ)) (kids : Bor (List Lettered)) (above : ℕ) → kids.now ≡ [] → above < length (told_by r).ancestors.states → IsHere r (here_text s kids above)
+  is_here_text s kids above e h =
+      record {
+        kids = subst (λ ns. IsLetteredBy r (trees ns)) (sym e) refl;
+        children_are = ap (λ ns. bare (trees ns)) e;
+        string = refl;
+        above = h;
+      }
+
+  pub is_here_root : (s : Bor (List ℕ)) (kids : Bor (List Lettered)) (above : ℕ) → IsLetteredBy r (trees kids.now) → s.now ≡ c.joined_texts (bare (trees kids.now))
+      → above < length (told_by r).ancestors.states → IsHere r (here_root s kids above)
+  is_here_root s kids above k e h = record { kids = k; children_are = refl; string = e; above = h }
+
+  -- the ancestor state at an element
+  pub down_low : (k : ℕ) (u : State) → slice_get (told_by r).ancestors.states k ≡ Some u → k < length (told_by r).ancestors.states
+  down_low k u e = slice_get_within (told_by r).ancestors.states k u e
+
+  pub down_is : (k : ℕ) (u : State) → slice_get (told_by r).ancestors.states k ≡ Some u → ancestor (told_by r) k ≡ u
+  down_is k u e = get_or_from_slice_get (told_by r).ancestors.states k u [] e
+
+  module _ (bodies : List Plain) where
+    -- a path of no alternative selects nothing
+    pub none_selected : (h : t.Trees) (above : ℕ) (k : Task) (p : Path) → p ≡ no_alternative → outputs_on r bodies h above (going_from k p) ≡ nothing
+    none_selected h above k p e =
+        outputs_none (symbols_by r) (predicates_by r) (sheet_by r).rules bodies h k (ancestor (told_by r) above) (going_from k p) (ap (λ q. is_empty_state (first_state q)) e)
+
+    -- of the root
+    pub does_on_root : (p : Plain) (s : Bor (List ℕ)) (kids : Bor (List Lettered)) → ancestor (told_by r) 0 ≡ first_state (path_of_rules (sheet_by r).rules)
+        → does r bodies p (here_root s kids 0) ≡ does_at (machine r bodies) p (c.top (bare (trees kids.now)))
+    does_on_root p s kids e =
+        let m = machine r bodies in
+        let doc = bare (trees kids.now) in ap (λ (q : State). does_in m p (c.whole doc) (λ i u. outputs m doc i q u)) e
+
+    -- one element and what stands below it
+    pub outs_of_element : (above : ℕ) (g : Going) (h : Here) (x : Lettered) (n : Name) (y : LetterOf) (s : Bor (List ℕ)) (kids : Bor (List Lettered))
+        → IsLetteredBy r (before x l.none) → x ≡ Elem n y s kids → node h ≡ c.one (c.an_element (name n) (bare (trees kids.now)))
+        → ancestor (told_by r) h.above ≡ (machine r bodies).down_to (ancestor (told_by r) above) (letter (kinds.Elem y.sym) y.marks)
+        → outputs_on r bodies (bare (before x l.none)) above g
+        ≡ join
+        (cond ((machine r bodies).move_hits g (letter (kinds.Elem y.sym) y.marks)) (counted (does r bodies ((machine r bodies).body_at g.task (ancestor (told_by r) above) (letter (kinds.Elem y.sym) y.marks)) h)) nothing)
+        (outputs_on r bodies (bare (trees kids.now)) h.above ((machine r bodies).move_step g (letter (kinds.Elem y.sym) y.marks)))
+    outs_of_element above g h x n y s kids lettered is at down =
+        let a = element_at r x n y s kids l.none lettered is in
+        let k = letter (kinds.Elem y.sym) y.marks in
+        let first : Outcome = cond ((machine r bodies).move_hits g k) (counted (does r bodies ((machine r bodies).body_at g.task (ancestor (told_by r) above) k) h)) nothing in
+        let below : Outcome = outputs_on r bodies (bare (trees kids.now)) h.above ((machine r bodies).move_step g k) in
+        ap (λ z. outputs_on r bodies (bare (before z l.none)) above g) is
+        ∙ (ap (λ z. outputs_on r bodies (bare z) above g) (before_elem n y s kids l.none)
+        ∙ (element_first r bodies above g h (name n) (bare (trees kids.now)) t.none k at a.letter_is down ∙ ap (join first) (join_none below)))

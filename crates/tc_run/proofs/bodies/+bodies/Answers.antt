@@ -1,0 +1,513 @@
+use Rattle.std.proofs.Common.{◌≡◌, ◌+◌, ◌<◌, ◌≤◌, [], ap, ◌∙◌, sym, subst, refl, drop, length, get_or, Bor, List, ℕ, Some, true, false, cond, Contains, arith}
+use Rattle.std.proofs.lemmas.List.{length-map}
+use Rattle.tc_model.specs.Chains.{children, an_element, a_text, one}
+use Rattle.tc_model.specs.Letters.{Letter}
+use Rattle.tc_model.specs.Machine.{Task, in_mode, in_body, outputs}
+use Rattle.tc_model.specs.Meaning.{all_children}
+use Rattle.tc_model.specs.Numberings.{moves_of}
+use Rattle.tc_model.specs.Outcomes.{Outcome, nothing, join, within, counted, put, put_around, copied}
+use Rattle.tc_model.specs.Seen as see
+use Rattle.tc_model.specs.Sheets.{no_instruction, otherwise, Plain, Unfolds}
+use Rattle.tc_model.specs.Trees as t
+use Rattle.tc_model.specs.declared.sheet.Instr.{Instr}
+use Rattle.tc_rules.specs.Asked.{letter}
+use Rattle.tc_rules.specs.Seen.{mode_of}
+use Rattle.tc_rules.specs.States.{Going}
+use Rattle.tc_rules.specs.Told.{ancestor}
+use Rattle.tc_rules.specs.declared.rules.Kind.TheVariants as kinds
+use Rattle.tc_run.specs.Lettered.{bare, none}
+use Rattle.tc_run.specs.Parts.{IsPart}
+use Rattle.tc_run.specs.Running.{told_by, sheet_by, symbols_by, predicates_by, machine}
+use Rattle.tc_run.specs.Seen.{before, trees, node}
+use Rattle.tc_run.specs.Spent.{Spends, Answers}
+use Rattle.tc_run.specs.Tasks.{IsTaskOf, of_mode, of_each, built_in, does, outputs_on, going_from}
+use Rattle.tc_run.specs.declared.bodies.Here.{Here}
+use Rattle.tc_run.specs.declared.letters.Lettered.{Lettered}
+use Rattle.tc_run.proofs.Alone.{text_alone, element_alone, copy_alone, call_alone, apply_alone, value_alone, self_alone, choose_alone, each_alone}
+use Rattle.tc_run.proofs.BuiltIn.{built_in_children, one_deep, value_same, copy_root, copy_elem}
+use Rattle.tc_run.proofs.Counts.{some_move_low, some_move_counted}
+use Rattle.tc_run.proofs.Empty.{outputs_none}
+use Rattle.tc_run.proofs.Ends.{no_instruction_left, body_end, left_around}
+use Rattle.tc_run.proofs.Handing.{handed, open_deep, counted_within, instructed}
+use Rattle.tc_run.proofs.Hitting.{is_letter, task_is, hit_is, first_going, move_below, going_below, text_missed, text_met, outs_next, missed, met, element_built_in, no_tree_left, spends_none}
+use Rattle.tc_run.proofs.Instructions.{text_seen, self_seen, elem_seen, copy_seen, apply_seen, call_seen, value_of_seen, choose_seen, for_each_seen, elem_part, copy_part, apply_part, call_part, choose_part, for_each_part}
+use Rattle.tc_run.proofs.Loops.{body_begin, body_further, body_fail, hits_begin, hits_further, hits_end, hits_fail}
+use Rattle.tc_run.proofs.MeantBy.{no_body, meant_body, meant_built_in, named_got, named_low, named_part_at}
+use Rattle.tc_run.proofs.Measures.{deeper_less, rank_less, tree_less, below_less}
+use Rattle.tc_run.proofs.Nodes.{here_elem, is_here_elem, none_selected, down_low, down_is, outs_of_element}
+use Rattle.tc_run.proofs.OneTree.{apart_at, element_at}
+use Rattle.tc_run.proofs.PartsOf.{children_move}
+use Rattle.tc_run.proofs.Progress.{HitsSoFar}
+use Rattle.tc_run.proofs.Putting.{around_fails}
+use Rattle.tc_run.proofs.Spending.{Fails, spends_nothing, fails_first, answers_then, spends_last}
+use Rattle.tc_run.proofs.Taking.{part_at, so_far_at}
+use Rattle.tc_run.proofs.bodies.+bodies.Goals as goal
+
+
+pub around-returns-in_err-body-clause-outcome : goal.around-returns-in_err-body-clause-outcome
+around-returns-in_err-body-clause-outcome t c = λ bodies p hb u.
+    let n = c.args.nesting in
+    let name = see.name c.args.name in
+    let o = does c.args.runner.now bodies p c.args.here.now in
+    let e = c.in_err-body.field-0.0 in
+    handed n c.args.output.now c.body.new.output c.from_residual-in_err-body.result e (put_around name o) c.from_residual-in_err-body.ensures.1
+    (around_fails n c.args.output.now c.enter.new.self name o e c.in_ok-before.ensures.work.0 (c.in_err-body.ensures.outcome bodies p hb u))
+
+pub around-returns-clause-outcome : goal.around-returns-clause-outcome
+around-returns-clause-outcome t c = λ bodies p hb u.
+    left_around c.args.nesting c.args.output.now c.enter.new.self c.body.new.output c.leave.new.self (see.name c.args.name) (does c.args.runner.now bodies p c.args.here.now) c.in_ok-before.before.items c.leave.result
+    c.in_ok-before.ensures.before c.in_ok-before.ensures.nodes c.in_ok-before.ensures.work (c.in_ok-body.ensures.outcome bodies p hb u) c.leave.ensures.nodes c.leave.ensures.work c.leave.ensures.err
+
+pub body-loop-one-init : goal.body-loop-one-init
+body-loop-one-init t c =
+    (c.requires.work, c.requires.part, λ bodies p hb u. body_begin c.args.runner.now bodies c.args.here.now c.args.nesting p c.args.output.now (see.body c.args.body.now) (spends_nothing c.args.nesting c.args.output.now c.requires.work c.requires.nesting) u)
+
+pub body-loop-one-preserved : goal.body-loop-one-preserved
+body-loop-one-preserved t c =
+    let r = c.args.runner.now in
+    let is = c.args.body.now in
+    let k = c.loop-one.one-index in
+    let i = c.one-item.result in (
+      c.in_ok-instruction.ensures.few,
+      (part_at (sheet_by r) is k i c.loop-one-test.true c.one-item.is c.loop-one.invariant.1).1,
+      λ bodies p hb u.
+          body_further r bodies c.args.here.now c.args.nesting p i (see.body (drop (k + 1) is))
+          (so_far_at r bodies c.args.here.now c.args.nesting c.args.output.now c.loop-one.output p is k i c.loop-one-test.true c.one-item.is (c.loop-one.invariant.2 bodies p hb u))
+          (λ q v. c.in_ok-instruction.ensures.outcome bodies q hb v),
+    )
+
+pub body-returns-in_err-instruction-clause-outcome : goal.body-returns-in_err-instruction-clause-outcome
+body-returns-in_err-instruction-clause-outcome t c = λ bodies p hb u.
+    let r = c.args.runner.now in
+    let is = c.args.body.now in
+    let k = c.loop-one.one-index in
+    let i = c.one-item.result in
+    let h = c.args.here.now in
+    let n = c.args.nesting in
+    let e = c.in_err-instruction.field-0.0 in
+    handed n c.args.output.now c.instruction.new.output c.from_residual.result e (does r bodies p h) c.from_residual.ensures.1
+    (body_fail r bodies h n p c.args.output.now c.loop-one.output e i (see.body (drop (k + 1) is))
+    (so_far_at r bodies h n c.args.output.now c.loop-one.output p is k i c.loop-one-test.true c.one-item.is (c.loop-one.invariant.2 bodies p hb u))
+    (λ q v. c.in_err-instruction.ensures.outcome bodies q hb v))
+
+pub body-returns-clause-outcome : goal.body-returns-clause-outcome
+body-returns-clause-outcome t c = λ bodies p hb u.
+    let is = c.args.body.now in
+    let k = c.loop-one.one-index in
+    body_end c.args.runner.now bodies c.args.here.now c.args.nesting p c.args.output.now c.loop-one.output (see.body (drop k is)) (no_instruction_left is k c.loop-one-test.false) (c.loop-one.invariant.2 bodies p hb u)
+
+pub built_in-selected-requires : goal.built_in-selected-requires
+built_in-selected-requires t c =
+    let r = c.args.runner.now in (
+      omega (arith, c.decreases, deeper_less c.args.nesting c.in_ok-nesting.nesting (bare (trees c.args.here.now.kids.now)) 3 1 c.in_ok-nesting.ensures.ok (omega arith)),
+      (c.requires.runner, (c.requires.here, (subst (λ p. Contains (moves_of (sheet_by r)) (record { path = p; mode = c.args.mode })) (sym c.all_children-path.ensures) (children_move (sheet_by r) c.args.mode c.requires.mode), (c.in_ok-nesting.ensures.ok.1, c.requires.work)))),
+    )
+
+pub built_in-returns-in_default : goal.built_in-returns-in_default
+built_in-returns-in_default t c =
+    let r = c.args.runner.now in
+    let h = c.args.here.now in
+    let n = c.in_ok-nesting.nesting in
+    let x = c.args.output.now in
+    let y = c.selected.new.output in
+    record {
+      few = c.selected.ensures.few;
+      outcome = λ bodies hb.
+          instructed c.args.nesting n x y c.selected.result (outputs_on r bodies (children (node h)) h.above (going_from (in_mode c.args.mode) all_children)) (does r bodies (built_in c.args.mode (node h)) h)
+          c.in_ok-nesting.ensures.ok (built_in_children r bodies c.args.mode h c.in_default.not-Text)
+          (subst (λ p. Answers n x y c.selected.result (outputs_on r bodies (children (node h)) h.above (going_from (in_mode c.args.mode) p))) c.all_children-path.ensures
+          (c.selected.ensures.outcome bodies (in_mode c.args.mode) hb (of_mode c.requires.mode)));
+    }
+
+pub copy-returns-in-Root-clause-outcome : goal.copy-returns-in-Root-clause-outcome
+copy-returns-in-Root-clause-outcome t c = λ bodies p hb u.
+    let h = c.args.here.now in
+    subst (Answers c.args.nesting c.args.output.now c.body.new.output c.body.result) (sym (copy_root h (does c.args.runner.now bodies p h) c.in-Root.is)) (c.body.ensures.outcome bodies p hb u)
+
+pub copy-returns-in-Elem-clause-outcome : goal.copy-returns-in-Elem-clause-outcome
+copy-returns-in-Elem-clause-outcome t c = λ bodies p hb u.
+    let h = c.args.here.now in
+    subst (Answers c.args.nesting c.args.output.now c.around.new.output c.around.result) (sym (copy_elem h c.in-Elem.name (does c.args.runner.now bodies p h) c.in-Elem.is)) (c.around.ensures.outcome bodies p hb u)
+
+
+pub element_hit-sel_hits-requires : goal.element_hit-sel_hits-requires
+element_hit-sel_hits-requires t c = some_move_counted (told_by c.args.runner.now) c.args.state c.requires.state
+
+pub element_hit-returns-then-not-sel_hits-clause-outcome : goal.element_hit-returns-then-not-sel_hits-clause-outcome
+element_hit-returns-then-not-sel_hits-clause-outcome t c = λ bodies g hb at.
+    let r = c.args.runner.now in
+    let x = letter (kinds.Elem c.args.letter.sym) c.args.letter.marks in
+    let (n, kids, e, f) = c.requires.element in
+    let hit = hit_is r c.args.state g x c.sel_hits.result at c.requires.runner (is_letter r x (an_element n kids) f) c.sel_hits.ensures bodies in
+    let o = counted (does r bodies ((machine r bodies).body_at g.task (ancestor (told_by r) c.args.above) x) c.args.here.now) in
+    spends_none c.args.nesting c.args.output.now (cond ((machine r bodies).move_hits g x) o nothing) (missed r ((machine r bodies).move_hits g x) o (sym hit ∙ c.if-not-sel_hits.true)) c.requires.work c.requires.nesting
+
+pub element_hit-mode_of-job-requires : goal.element_hit-mode_of-job-requires
+element_hit-mode_of-job-requires t c = some_move_low (told_by c.args.runner.now) c.args.state c.requires.state
+
+pub element_hit-meant_by-rule-requires-clause-job : goal.element_hit-meant_by-rule-requires-clause-job
+element_hit-meant_by-rule-requires-clause-job t c =
+    let s = c.requires.state in
+    c.mode_of-job.ensures.job (symbols_by c.args.runner.now) (record { path = s.path; mode = Some s.mode }) s.state c.requires.runner s.at
+
+pub element_hit-meant_by-rule-requires-clause-letter : goal.element_hit-meant_by-rule-requires-clause-letter
+element_hit-meant_by-rule-requires-clause-letter t c =
+    let (n, kids, e, f) = c.requires.element in
+    is_letter c.args.runner.now (letter (kinds.Elem c.args.letter.sym) c.args.letter.marks) (an_element n kids) f
+
+pub element_hit-returns-clause-outcome : goal.element_hit-returns-clause-outcome
+element_hit-returns-clause-outcome t c = λ bodies g hb at.
+    let r = c.args.runner.now in
+    let h = c.args.here.now in
+    let x = letter (kinds.Elem c.args.letter.sym) c.args.letter.marks in
+    let (n, kids, e, f) = c.requires.element in
+    let hit = hit_is r c.args.state g x c.sel_hits.result at c.requires.runner (is_letter r x (an_element n kids) f) c.sel_hits.ensures bodies in
+    let p = (machine r bodies).body_at g.task (ancestor (told_by r) c.args.above) x in
+    let o = counted (does r bodies p h) in
+    let task = task_is r c.args.state g c.mode_of-job.result at c.mode_of-job.ensures.mode c.requires.runner in
+    let meant = c.meant_by-rule.ensures.meant bodies (node h) g.task hb task (λ i. element_built_in r h n kids c.args.letter.sym.0 e i) in
+    subst (Answers c.args.nesting c.args.output.now c.instantiate.new.output c.instantiate.result) (sym (met r ((machine r bodies).move_hits g x) o (sym hit ∙ c.if-not-sel_hits.false)))
+    (c.instantiate.ensures.outcome bodies p hb meant)
+
+pub hits-loop-node-init : goal.hits-loop-node-init
+hits-loop-node-init t c =
+    (c.requires.work, c.requires.nodes, λ bodies g hb at. hits_begin c.args.runner.now bodies c.args.above c.args.nesting g (bare (trees c.args.nodes.now)) c.args.output.now (spends_nothing c.args.nesting c.args.output.now c.requires.work c.requires.nesting))
+
+pub hits-tree_hits-requires : goal.hits-tree_hits-requires
+hits-tree_hits-requires t c =
+    let ns = c.args.nodes.now in
+    let k = c.loop-node.node-index in
+    let x = c.node-item.result in (
+      omega (arith, c.decreases, tree_less c.args.nesting ns k x c.loop-node-test.true c.node-item.is),
+      (c.requires.runner, ((apart_at c.args.runner.now ns k x c.loop-node-test.true c.node-item.is c.loop-node.invariant.1).0, (c.requires.above, (c.requires.state, (c.requires.nesting, c.loop-node.invariant.0))))),
+    )
+
+pub hits-loop-node-preserved : goal.hits-loop-node-preserved
+hits-loop-node-preserved t c =
+    let r = c.args.runner.now in
+    let ns = c.args.nodes.now in
+    let k = c.loop-node.node-index in
+    let x = c.node-item.result in (
+      c.in_ok-tree_hits.ensures.few,
+      (apart_at r ns k x c.loop-node-test.true c.node-item.is c.loop-node.invariant.1).1,
+      λ bodies g hb at.
+          hits_further r bodies c.args.above c.args.nesting g (bare (trees ns)) (c.loop-node.invariant.2 bodies g hb at) (c.in_ok-tree_hits.ensures.outcome bodies g hb at)
+          (outs_next r bodies c.args.above g ns k x c.loop-node-test.true c.node-item.is),
+    )
+
+pub hits-returns-in_err-tree_hits-clause-outcome : goal.hits-returns-in_err-tree_hits-clause-outcome
+hits-returns-in_err-tree_hits-clause-outcome t c = λ bodies g hb at.
+    let r = c.args.runner.now in
+    let ns = c.args.nodes.now in
+    let k = c.loop-node.node-index in
+    let x = c.node-item.result in
+    let n = c.args.nesting in
+    let above = c.args.above in
+    let e = c.in_err-tree_hits.field-0.0 in
+    let all = bare (trees ns) in
+    handed n c.args.output.now c.tree_hits.new.output c.from_residual.result e (outputs_on r bodies all above g) c.from_residual.ensures.1
+    (hits_fail r bodies above n g all c.args.output.now c.loop-node.output (bare (trees (drop k ns))) (bare (trees (drop (k + 1) ns))) (outputs_on r bodies (bare (before x none)) above g) e
+    (c.loop-node.invariant.2 bodies g hb at) (c.in_err-tree_hits.ensures.outcome bodies g hb at) (outs_next r bodies above g ns k x c.loop-node-test.true c.node-item.is))
+
+pub hits-returns-clause-outcome : goal.hits-returns-clause-outcome
+hits-returns-clause-outcome t c = λ bodies g hb at.
+    let r = c.args.runner.now in
+    let ns = c.args.nodes.now in
+    let n = c.args.nesting in
+    let all = bare (trees ns) in
+    hits_end r bodies c.args.above n g all
+    (subst (λ h. HitsSoFar r bodies c.args.above n c.args.output.now c.loop-node.output g all h) (no_tree_left ns c.loop-node.node-index c.loop-node-test.false) (c.loop-node.invariant.2 bodies g hb at))
+
+pub instantiate-returns-in-Body-clause-outcome : goal.instantiate-returns-in-Body-clause-outcome
+instantiate-returns-in-Body-clause-outcome t c = λ bodies p hb m.
+    let r = c.args.runner.now in
+    let h = c.args.here.now in
+    counted_within c.args.nesting c.in_ok-nesting.nesting c.args.output.now c.count.new.self c.body.new.output c.body.result (does r bodies p h) c.in_ok-nesting.ensures.ok c.in_ok-count.ensures.nodes c.in_ok-count.ensures.ok
+    (c.body.ensures.outcome bodies p hb (meant_body (sheet_by r).named (node h) c.args.meant c.in-Body.inner p c.in-Body.is m))
+
+pub instantiate-returns-in-BuiltIn-clause-outcome : goal.instantiate-returns-in-BuiltIn-clause-outcome
+instantiate-returns-in-BuiltIn-clause-outcome t c = λ bodies p hb m.
+    let r = c.args.runner.now in
+    let h = c.args.here.now in
+    let n = c.in_ok-nesting.nesting in
+    let e = meant_built_in (sheet_by r).named (node h) c.args.meant c.in-BuiltIn.mode p c.in-BuiltIn.is m in
+    counted_within c.args.nesting n c.args.output.now c.count.new.self c.built_in.new.output c.built_in.result (does r bodies p h) c.in_ok-nesting.ensures.ok c.in_ok-count.ensures.nodes c.in_ok-count.ensures.ok
+    (subst (λ q. Answers n c.count.new.self c.built_in.new.output c.built_in.result (does r bodies q h)) (sym e) (c.built_in.ensures.outcome bodies hb))
+
+
+pub instruction-returns-in_err-nesting-clause-outcome : goal.instruction-returns-in_err-nesting-clause-outcome
+instruction-returns-in_err-nesting-clause-outcome t c = λ bodies p hb u.
+    let r = c.args.runner.now in
+    let h = c.args.here.now in
+    let n = c.args.nesting in
+    let x = c.args.output.now in
+    let e = c.in_err-nesting.field-0.0 in
+    handed n x x c.from_residual.result e (does r bodies p h) c.from_residual.ensures.1 (open_deep n x e (does r bodies p h) (one_deep r bodies h (sheet_by r).named c.args.instruction.now p u) c.in_err-nesting.ensures.err)
+
+pub instruction-around-requires : goal.instruction-around-requires
+instruction-around-requires t c = (
+      omega (arith, c.decreases, deeper_less c.args.nesting c.in_ok-nesting.nesting (bare (trees c.args.here.now.kids.now)) 8 6 c.in_ok-nesting.ensures.ok (omega arith)),
+      (c.requires.runner, (c.requires.here, (elem_part (sheet_by c.args.runner.now) c.args.instruction.now c.in-Elem.name c.in-Elem.inner c.in-Elem.is c.requires.part, (c.in_ok-nesting.ensures.ok.1, c.requires.work)))),
+    )
+
+pub instruction-copy-requires : goal.instruction-copy-requires
+instruction-copy-requires t c = (
+      omega (arith, c.decreases, deeper_less c.args.nesting c.in_ok-nesting.nesting (bare (trees c.args.here.now.kids.now)) 9 6 c.in_ok-nesting.ensures.ok (omega arith)),
+      (c.requires.runner, (c.requires.here, (copy_part (sheet_by c.args.runner.now) c.args.instruction.now c.in-Copy.inner c.in-Copy.is c.requires.part, (c.in_ok-nesting.ensures.ok.1, c.requires.work)))),
+    )
+
+pub instruction-bounds-sheet-number : goal.instruction-bounds-sheet-number
+instruction-bounds-sheet-number t c =
+    let s = sheet_by c.args.runner.now in
+    named_low s c.sheet.result.now c.in-Call.number c.sheet.ensures (call_part s c.args.instruction.now c.in-Call.number c.in-Call.is c.requires.part)
+
+pub instruction-instantiate-requires : goal.instruction-instantiate-requires
+instruction-instantiate-requires t c =
+    let r = c.args.runner.now in
+    let low = call_part (sheet_by r) c.args.instruction.now c.in-Call.number c.in-Call.is c.requires.part in (
+      omega (arith, c.decreases, deeper_less c.args.nesting c.in_ok-nesting.nesting (bare (trees c.args.here.now.kids.now)) 1 6 c.in_ok-nesting.ensures.ok (omega arith)),
+      (c.requires.runner, (c.requires.here, (named_part_at r c.requires.runner c.in-Call.number (get_or c.sheet.result.now.named.now c.in-Call.number no_body) (named_got (sheet_by r) c.sheet.result.now c.in-Call.number no_body c.sheet.ensures low), (c.in_ok-nesting.ensures.ok.1, c.requires.work)))),
+    )
+
+pub instruction-taken-chosen-requires-clause-part : goal.instruction-taken-chosen-requires-clause-part
+instruction-taken-chosen-requires-clause-part t c = choose_part (sheet_by c.args.runner.now) c.args.instruction.now c.in-Choose.branches c.in-Choose.last c.in-Choose.is c.requires.part
+
+pub instruction-returns-in-Text-clause-outcome : goal.instruction-returns-in-Text-clause-outcome
+instruction-returns-in-Text-clause-outcome t c = λ bodies p hb u.
+    let r = c.args.runner.now in
+    let h = c.args.here.now in
+    let n = c.in_ok-nesting.nesting in
+    let named = (sheet_by r).named in
+    let does_it = text_alone r bodies h named (subst (λ b. Unfolds named b p) (text_seen c.args.instruction.now c.in-Text.text c.in-Text.is) u) in
+    instructed c.args.nesting n c.args.output.now c.put.new.self c.put.result (put c.in-Text.text.now) (does r bodies p h) c.in_ok-nesting.ensures.ok does_it (c.put.ensures.outcome n c.in_ok-nesting.ensures.ok.1)
+
+pub instruction-returns-in-Elem-clause-outcome : goal.instruction-returns-in-Elem-clause-outcome
+instruction-returns-in-Elem-clause-outcome t c = λ bodies p hb u.
+    let r = c.args.runner.now in
+    let h = c.args.here.now in
+    let named = (sheet_by r).named in
+    let k = element_alone r bodies h named (subst (λ b. Unfolds named b p) (elem_seen c.args.instruction.now c.in-Elem.name c.in-Elem.inner c.in-Elem.is) u) in
+    instructed c.args.nesting c.in_ok-nesting.nesting c.args.output.now c.around.new.output c.around.result (put_around (see.name c.in-Elem.name) (does r bodies k.plain h)) (does r bodies p h) c.in_ok-nesting.ensures.ok k.outcome
+    (c.around.ensures.outcome bodies k.plain hb k.unfolds)
+
+pub instruction-returns-in-Copy-clause-outcome : goal.instruction-returns-in-Copy-clause-outcome
+instruction-returns-in-Copy-clause-outcome t c = λ bodies p hb u.
+    let r = c.args.runner.now in
+    let h = c.args.here.now in
+    let named = (sheet_by r).named in
+    let k = copy_alone r bodies h named (subst (λ b. Unfolds named b p) (copy_seen c.args.instruction.now c.in-Copy.inner c.in-Copy.is) u) in
+    instructed c.args.nesting c.in_ok-nesting.nesting c.args.output.now c.copy.new.output c.copy.result (copied (node h) (does r bodies k.plain h)) (does r bodies p h) c.in_ok-nesting.ensures.ok k.outcome
+    (c.copy.ensures.outcome bodies k.plain hb k.unfolds)
+
+pub instruction-returns-in-Apply-clause-outcome : goal.instruction-returns-in-Apply-clause-outcome
+instruction-returns-in-Apply-clause-outcome t c = λ bodies p hb u.
+    let r = c.args.runner.now in
+    let h = c.args.here.now in
+    let named = (sheet_by r).named in
+    let w = see.path c.in-Apply.path in
+    let does_it = apply_alone r bodies h named (subst (λ b. Unfolds named b p) (apply_seen c.args.instruction.now c.in-Apply.path c.in-Apply.mode c.in-Apply.is) u) in
+    instructed c.args.nesting c.in_ok-nesting.nesting c.args.output.now c.selected.new.output c.selected.result (outputs_on r bodies (children (node h)) h.above (going_from (in_mode c.in-Apply.mode) w)) (does r bodies p h) c.in_ok-nesting.ensures.ok does_it
+    (c.selected.ensures.outcome bodies (in_mode c.in-Apply.mode) hb (of_mode (apply_part (sheet_by r) c.args.instruction.now c.in-Apply.path c.in-Apply.mode c.in-Apply.is c.requires.part).1))
+
+pub instruction-returns-in-Call-clause-outcome : goal.instruction-returns-in-Call-clause-outcome
+instruction-returns-in-Call-clause-outcome t c = λ bodies p hb u.
+    let r = c.args.runner.now in
+    let h = c.args.here.now in
+    let named = (sheet_by r).named in
+    let i = c.args.instruction.now in
+    let number = c.in-Call.number in
+    let at = named_got (sheet_by r) c.sheet.result.now number no_body c.sheet.ensures (call_part (sheet_by r) i number c.in-Call.is c.requires.part) in
+    let k = call_alone r bodies h named at (subst (λ b. Unfolds named b p) (call_seen i number c.in-Call.is) u) in
+    instructed c.args.nesting c.in_ok-nesting.nesting c.args.output.now c.instantiate.new.output c.instantiate.result (counted (does r bodies k.plain h)) (does r bodies p h) c.in_ok-nesting.ensures.ok k.outcome
+    (c.instantiate.ensures.outcome bodies k.plain hb k.unfolds)
+
+pub instruction-returns-in-ValueOf-clause-outcome : goal.instruction-returns-in-ValueOf-clause-outcome
+instruction-returns-in-ValueOf-clause-outcome t c = λ bodies p hb u.
+    let r = c.args.runner.now in
+    let h = c.args.here.now in
+    let n = c.in_ok-nesting.nesting in
+    let named = (sheet_by r).named in
+    let s = c.value-first.result.now in
+    let does_it = value_alone r bodies h named (subst (λ b. Unfolds named b p) (value_of_seen c.args.instruction.now c.in-ValueOf.path c.in-ValueOf.is) u) in
+    instructed c.args.nesting n c.args.output.now c.put-in-ValueOf.new.self c.put-in-ValueOf.result (put s) (does r bodies p h) c.in_ok-nesting.ensures.ok
+    (does_it ∙ ap within (value_same r bodies h named (see.path c.in-ValueOf.path) s c.requires.here.children_are c.value-first.ensures)) (c.put-in-ValueOf.ensures.outcome n c.in_ok-nesting.ensures.ok.1)
+
+pub instruction-returns-in-ValueOfSelf-clause-outcome : goal.instruction-returns-in-ValueOfSelf-clause-outcome
+instruction-returns-in-ValueOfSelf-clause-outcome t c = λ bodies p hb u.
+    let r = c.args.runner.now in
+    let h = c.args.here.now in
+    let n = c.in_ok-nesting.nesting in
+    let named = (sheet_by r).named in
+    let does_it = self_alone r bodies h named (subst (λ b. Unfolds named b p) (self_seen c.args.instruction.now c.in-ValueOfSelf.is) u) in
+    instructed c.args.nesting n c.args.output.now c.put-in-ValueOfSelf.new.self c.put-in-ValueOfSelf.result (put h.string.now) (does r bodies p h) c.in_ok-nesting.ensures.ok
+    (does_it ∙ ap (λ s. within (put s)) (sym c.requires.here.string)) (c.put-in-ValueOfSelf.ensures.outcome n c.in_ok-nesting.ensures.ok.1)
+
+pub instruction-returns-in-Choose-clause-outcome : goal.instruction-returns-in-Choose-clause-outcome
+instruction-returns-in-Choose-clause-outcome t c = λ bodies p hb u.
+    let r = c.args.runner.now in
+    let h = c.args.here.now in
+    let named = (sheet_by r).named in
+    let k = choose_alone r bodies h named (subst (λ b. Unfolds named b p) (choose_seen c.args.instruction.now c.in-Choose.branches c.in-Choose.last c.in-Choose.is) u) in
+    let (q, v, same) = c.taken-chosen.ensures.taken k.branches k.unfolds in
+    instructed c.args.nesting c.in_ok-nesting.nesting c.args.output.now c.body.new.output c.body.result (does r bodies q h) (does r bodies p h) c.in_ok-nesting.ensures.ok
+    (k.outcome ∙ ap within (same bodies (λ j w. outputs (machine r bodies) (children (node h)) j (ancestor (told_by r) h.above) w))) (c.body.ensures.outcome bodies q hb v)
+
+pub instruction-returns-in-ForEach-clause-outcome : goal.instruction-returns-in-ForEach-clause-outcome
+instruction-returns-in-ForEach-clause-outcome t c = λ bodies p hb u.
+    let r = c.args.runner.now in
+    let h = c.args.here.now in
+    let named = (sheet_by r).named in
+    let i = c.args.instruction.now in
+    let number = c.in-ForEach.number in
+    let path = c.in-ForEach.path in
+    let inner = c.in-ForEach.field-2 in
+    let k = each_alone r bodies h named (subst (λ b. Unfolds named b p) (for_each_seen i number path inner c.in-ForEach.is) u) in
+    let part = for_each_part (sheet_by r) i number path inner c.in-ForEach.is c.requires.part in
+    instructed c.args.nesting c.in_ok-nesting.nesting c.args.output.now c.selected-in-ForEach.new.output c.selected-in-ForEach.result (outputs_on r bodies (children (node h)) h.above (going_from (in_body k.plain) (see.path path))) (does r bodies p h) c.in_ok-nesting.ensures.ok k.outcome
+    (c.selected-in-ForEach.ensures.outcome bodies (in_body k.plain) hb (of_each refl part.1 k.unfolds))
+
+pub selected-returns-in-None-clause-outcome : goal.selected-returns-in-None-clause-outcome
+selected-returns-in-None-clause-outcome t c = λ bodies k hb task.
+    let r = c.args.runner.now in
+    let h = c.args.here.now in
+    let p = see.path c.args.path.now in
+    spends_none c.args.nesting c.args.output.now (outputs_on r bodies (children (node h)) h.above (going_from k p))
+    (none_selected r bodies (children (node h)) h.above k p (c.in-None.ensures (symbols_by r) c.requires.runner)) c.requires.work c.requires.nesting
+
+pub selected-returns-in-Some-clause-outcome : goal.selected-returns-in-Some-clause-outcome
+selected-returns-in-Some-clause-outcome t c = λ bodies k hb task.
+    let r = c.args.runner.now in
+    let h = c.args.here.now in
+    let p = see.path c.args.path.now in
+    let mode = mode_of (sheet_by r).modes c.args.job in
+    let going = first_going r c.in-Some.state p mode k (c.in-Some.ensures (symbols_by r) c.requires.runner) task in
+    subst (λ w. Answers c.args.nesting c.args.output.now c.hits.new.output c.hits.result (outputs_on r bodies w h.above (going_from k p))) c.requires.here.children_are
+    (c.hits.ensures.outcome bodies (going_from k p) hb going)
+
+pub text_hit-sel_hits-requires : goal.text_hit-sel_hits-requires
+text_hit-sel_hits-requires t c = some_move_counted (told_by c.args.runner.now) c.args.state c.requires.1.1.1.1.1.0
+
+pub text_hit-returns-then-not-sel_hits-clause-outcome : goal.text_hit-returns-then-not-sel_hits-clause-outcome
+text_hit-returns-then-not-sel_hits-clause-outcome w c = λ bodies g hb at.
+    let r = c.args.runner.now in
+    let s = c.args.text.now in
+    let x = letter kinds.Text c.args.marks in
+    let hit = hit_is r c.args.state g x c.sel_hits.result at c.requires.1.1.0 (is_letter r x (a_text s) c.requires.1.1.1.0) c.sel_hits.ensures bodies in
+    spends_none c.args.nesting c.args.output.now (outputs_on r bodies (t.text s t.none) c.args.above g)
+    (text_missed r bodies c.args.above g s x c.sel_hits.result c.requires.1.1.1.0 hit c.if-not-sel_hits.true) c.requires.1.1.1.1.1.1.1 c.requires.1.1.1.1.1.1.0
+
+pub text_hit-mode_of-job-requires : goal.text_hit-mode_of-job-requires
+text_hit-mode_of-job-requires t c = some_move_low (told_by c.args.runner.now) c.args.state c.requires.1.1.1.1.1.0
+
+pub text_hit-meant_by-rule-requires-clause-job : goal.text_hit-meant_by-rule-requires-clause-job
+text_hit-meant_by-rule-requires-clause-job t c =
+    let s = c.requires.1.1.1.1.1.0 in
+    c.mode_of-job.ensures.job (symbols_by c.args.runner.now) (record { path = s.path; mode = Some s.mode }) s.state c.requires.1.1.0 s.at
+
+pub text_hit-meant_by-rule-requires-clause-letter : goal.text_hit-meant_by-rule-requires-clause-letter
+text_hit-meant_by-rule-requires-clause-letter t c = is_letter c.args.runner.now (letter kinds.Text c.args.marks) (a_text c.args.text.now) c.requires.1.1.1.0
+
+pub text_hit-returns-clause-outcome : goal.text_hit-returns-clause-outcome
+text_hit-returns-clause-outcome w c = λ bodies g hb at.
+    let r = c.args.runner.now in
+    let s = c.args.text in
+    let x = letter kinds.Text c.args.marks in
+    let hit = hit_is r c.args.state g x c.sel_hits.result at c.requires.1.1.0 (is_letter r x (a_text s.now) c.requires.1.1.1.0) c.sel_hits.ensures bodies in
+    let p = (machine r bodies).body_at g.task (ancestor (told_by r) c.args.above) x in
+    let task = task_is r c.args.state g c.mode_of-job.result at c.mode_of-job.ensures.mode c.requires.1.1.0 in
+    let meant = c.meant_by-rule.ensures.meant bodies (one (a_text s.now)) g.task hb task (λ i. refl) in
+    let kids : Bor (List Lettered) = record { ref_ptr = (0, 0); now = [] } in
+    subst (Answers c.args.nesting c.args.output.now c.instantiate.new.output c.instantiate.result)
+    (sym (text_met r bodies c.args.above g s kids x c.sel_hits.result refl c.requires.1.1.1.0 hit c.if-not-sel_hits.false))
+    (c.instantiate.ensures.outcome bodies p hb meant)
+
+
+pub tree_hits-element_hit-requires : goal.tree_hits-element_hit-requires
+tree_hits-element_hit-requires t c =
+    let r = c.args.runner.now in
+    let x = letter (kinds.Elem c.in-Elem.letter.sym) c.in-Elem.letter.marks in
+    let kids = bare (trees c.in-Elem.kids.now) in
+    let a = element_at r c.args.node.now c.in-Elem.name c.in-Elem.letter c.in-Elem.string c.in-Elem.kids none c.requires.node c.in-Elem.is in
+    let d = c.anc_step.ensures (symbols_by r) c.requires.runner (is_letter r x (an_element (see.name c.in-Elem.name) kids) a.letter_is) in (
+      omega (arith, c.decreases, below_less c.args.nesting c.args.node.now c.in-Elem.name c.in-Elem.letter c.in-Elem.string c.in-Elem.kids 4 c.in-Elem.is (omega arith)),
+      (c.requires.runner, (is_here_elem r c.in-Elem.name c.in-Elem.letter c.in-Elem.string c.in-Elem.kids none c.anc_step.result a (down_low r c.anc_step.result _ d), ((see.name c.in-Elem.name, kids, refl, a.letter_is), (c.requires.above, (c.requires.state, (c.requires.nesting, c.requires.work)))))),
+    )
+
+pub tree_hits-returns-in_err-element_hit-in-Elem-clause-outcome : goal.tree_hits-returns-in_err-element_hit-in-Elem-clause-outcome
+tree_hits-returns-in_err-element_hit-in-Elem-clause-outcome t c = λ bodies g hb at.
+    let r = c.args.runner.now in
+    let n = c.args.nesting in
+    let e = c.in_err-element_hit-in-Elem.field-0.0 in
+    let s = c.in-Elem.string in
+    let kids = c.in-Elem.kids in
+    let name = c.in-Elem.name in
+    let y = c.in-Elem.letter in
+    let above = c.args.above in
+    let x = letter (kinds.Elem y.sym) y.marks in
+    let a = element_at r c.args.node.now name y s kids none c.requires.node c.in-Elem.is in
+    let d = c.anc_step.ensures (symbols_by r) c.requires.runner (is_letter r x (an_element (see.name name) (bare (trees kids.now))) a.letter_is) in
+    let h = here_elem name s kids c.anc_step.result in
+    let first = cond ((machine r bodies).move_hits g x) (counted (does r bodies ((machine r bodies).body_at g.task (ancestor (told_by r) above) x) h)) nothing in
+    let below = outputs_on r bodies (bare (trees kids.now)) h.above ((machine r bodies).move_step g x) in
+    let whole = outs_of_element r bodies above g h c.args.node.now name y s kids c.requires.node c.in-Elem.is refl (down_is r c.anc_step.result _ d) in
+    handed n c.args.output.now c.element_hit.new.output c.from_residual.result e (outputs_on r bodies (bare (before c.args.node.now none)) above g) c.from_residual.ensures.1
+    (subst (Fails n c.args.output.now e) (sym whole) (fails_first n c.args.output.now e first below (c.in_err-element_hit-in-Elem.ensures.outcome bodies g hb at)))
+
+pub tree_hits-sel_step-requires : goal.tree_hits-sel_step-requires
+tree_hits-sel_step-requires t c = some_move_counted (told_by c.args.runner.now) c.args.state c.requires.state
+
+pub tree_hits-hits-requires : goal.tree_hits-hits-requires
+tree_hits-hits-requires t c =
+    let r = c.args.runner.now in
+    let x = letter (kinds.Elem c.in-Elem.letter.sym) c.in-Elem.letter.marks in
+    let kids = bare (trees c.in-Elem.kids.now) in
+    let a = element_at r c.args.node.now c.in-Elem.name c.in-Elem.letter c.in-Elem.string c.in-Elem.kids none c.requires.node c.in-Elem.is in
+    let lx = is_letter r x (an_element (see.name c.in-Elem.name) kids) a.letter_is in
+    let d = c.anc_step.ensures (symbols_by r) c.requires.runner lx in (
+      omega (arith, c.decreases, below_less c.args.nesting c.args.node.now c.in-Elem.name c.in-Elem.letter c.in-Elem.string c.in-Elem.kids 1 c.in-Elem.is (omega arith)),
+      (c.requires.runner, (a.kids_are, (down_low r c.anc_step.result _ d, (move_below r c.args.state c.in-Some.below x c.requires.state c.requires.runner lx c.in-Some.ensures, (c.requires.nesting, c.in_ok-element_hit-in-Elem.ensures.few))))),
+    )
+
+pub tree_hits-returns-in-None-clause-outcome : goal.tree_hits-returns-in-None-clause-outcome
+tree_hits-returns-in-None-clause-outcome t c = λ bodies g hb at.
+    let r = c.args.runner.now in
+    let n = c.args.nesting in
+    let s = c.in-Elem.string in
+    let kids = c.in-Elem.kids in
+    let name = c.in-Elem.name in
+    let y = c.in-Elem.letter in
+    let above = c.args.above in
+    let x = letter (kinds.Elem y.sym) y.marks in
+    let a = element_at r c.args.node.now name y s kids none c.requires.node c.in-Elem.is in
+    let lx = is_letter r x (an_element (see.name name) (bare (trees kids.now))) a.letter_is in
+    let d = c.anc_step.ensures (symbols_by r) c.requires.runner lx in
+    let h = here_elem name s kids c.anc_step.result in
+    let first = cond ((machine r bodies).move_hits g x) (counted (does r bodies ((machine r bodies).body_at g.task (ancestor (told_by r) above) x) h)) nothing in
+    let below = outputs_on r bodies (bare (trees kids.now)) h.above ((machine r bodies).move_step g x) in
+    let whole = outs_of_element r bodies above g h c.args.node.now name y s kids c.requires.node c.in-Elem.is refl (down_is r c.anc_step.result _ d) in
+    let empty = c.in-None.ensures (symbols_by r) (record { path = g.path; mode = Some at.mode }) g.state c.requires.runner lx at.state in
+    subst (Spends n c.args.output.now c.element_hit.new.output) (sym whole)
+    (spends_last n c.args.output.now c.element_hit.new.output first below (c.in_ok-element_hit-in-Elem.ensures.outcome bodies g hb at)
+    (outputs_none (symbols_by r) (predicates_by r) (sheet_by r).rules bodies (bare (trees kids.now)) g.task (ancestor (told_by r) h.above) ((machine r bodies).move_step g x) empty))
+
+pub tree_hits-returns-in-Some-clause-outcome : goal.tree_hits-returns-in-Some-clause-outcome
+tree_hits-returns-in-Some-clause-outcome t c = λ bodies g hb at.
+    let r = c.args.runner.now in
+    let n = c.args.nesting in
+    let s = c.in-Elem.string in
+    let kids = c.in-Elem.kids in
+    let name = c.in-Elem.name in
+    let y = c.in-Elem.letter in
+    let above = c.args.above in
+    let x = letter (kinds.Elem y.sym) y.marks in
+    let a = element_at r c.args.node.now name y s kids none c.requires.node c.in-Elem.is in
+    let lx = is_letter r x (an_element (see.name name) (bare (trees kids.now))) a.letter_is in
+    let d = c.anc_step.ensures (symbols_by r) c.requires.runner lx in
+    let h = here_elem name s kids c.anc_step.result in
+    let first = cond ((machine r bodies).move_hits g x) (counted (does r bodies ((machine r bodies).body_at g.task (ancestor (told_by r) above) x) h)) nothing in
+    let next = (machine r bodies).move_step g x in
+    let below = outputs_on r bodies (bare (trees kids.now)) h.above next in
+    let whole = outs_of_element r bodies above g h c.args.node.now name y s kids c.requires.node c.in-Elem.is refl (down_is r c.anc_step.result _ d) in
+    subst (Answers n c.args.output.now c.hits.new.output c.hits.result) (sym whole)
+    (answers_then n c.args.output.now c.element_hit.new.output c.hits.new.output c.hits.result first below (c.in_ok-element_hit-in-Elem.ensures.outcome bodies g hb at)
+    (c.hits.ensures.outcome bodies next hb (going_below r bodies c.args.state c.in-Some.below g x at c.requires.runner lx c.in-Some.ensures)))

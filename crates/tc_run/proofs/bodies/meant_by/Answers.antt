@@ -1,0 +1,29 @@
+use Rattle.std.proofs.Common.{◌<◌, ◌+◌, ap, sym, subst}
+use Rattle.tc_rules.specs.Asked.{letter, found}
+use Rattle.tc_rules.specs.Jobs.{IsJob}
+use Rattle.tc_rules.specs.Seen.{mode_of}
+use Rattle.tc_rules.specs.Told.{ancestor}
+use Rattle.tc_run.specs.Running.{sheet_by, symbols_by, told_by}
+use Rattle.tc_run.specs.Tasks.{IsTaskOf}
+use Rattle.tc_run.proofs.MeantBy.{each_part_at, each_meant, mode_meant}
+use Rattle.tc_run.proofs.bodies.meant_by.Goals as goal
+
+pub returns-in-Each-clause-part : goal.returns-in-Each-clause-part
+returns-in-Each-clause-part c =
+    let r = c.args.runner.now in
+    let low : c.in-Each.number < (sheet_by r).eaches = subst (IsJob (sheet_by r)) c.in-Each.is c.requires.job in
+    each_part_at r c.requires.runner c.in-Each.number c.each_body.result low c.each_body.ensures
+
+pub returns-in-Each-clause-meant : goal.returns-in-Each-clause-meant
+returns-in-Each-clause-meant c = λ bodies n k u t b.
+    let r = c.args.runner.now in
+    let task : IsTaskOf (sheet_by r) ((sheet_by r).modes + c.in-Each.number) k = subst (λ j. IsTaskOf (sheet_by r) (mode_of (sheet_by r).modes j) k) c.in-Each.is t in
+    each_meant r c.requires.runner bodies c.in-Each.number c.each_body.result k (ancestor (told_by r) c.args.above) (letter c.args.kind c.args.marks) c.each_body.ensures task
+
+pub returns-in-Mode-clause-meant : goal.returns-in-Mode-clause-meant
+returns-in-Mode-clause-meant c = λ bodies n k u t b.
+    let r = c.args.runner.now in
+    let low : c.in-Mode.mode < (sheet_by r).modes = subst (IsJob (sheet_by r)) c.in-Mode.is c.requires.job in
+    let task : IsTaskOf (sheet_by r) c.in-Mode.mode k = subst (λ j. IsTaskOf (sheet_by r) (mode_of (sheet_by r).modes j) k) c.in-Mode.is t in
+    mode_meant r bodies c.in-Mode.mode (found c.rule_for-found.result) c.meaning.result n k (ancestor (told_by r) c.args.above) (letter c.args.kind c.args.marks) low task
+    (c.rule_for-found.ensures (symbols_by r) c.requires.runner c.requires.letter) b (λ o e. c.meaning.ensures.meant bodies n o u e)

@@ -1,0 +1,32 @@
+use Rattle.std.proofs.Common.{subst}
+use Rattle.tc_model.specs.Chains.{top, whole}
+use Rattle.tc_model.specs.Outcomes.{counted}
+use Rattle.tc_model.specs.Paths.{fits}
+use Rattle.tc_model.specs.Trees as t
+use Rattle.tc_rules.specs.Asked.{found}
+use Rattle.tc_rules.specs.States.{chosen, plain_of}
+use Rattle.tc_rules.proofs.Counted.{ancestors_begin}
+use Rattle.tc_run.specs.Lettered.{bare}
+use Rattle.tc_run.specs.Running.{sheet_by, symbols_by}
+use Rattle.tc_run.specs.Seen.{trees}
+use Rattle.tc_run.specs.Spent.{Answers}
+use Rattle.tc_run.specs.Tasks.{built_in}
+use Rattle.tc_run.proofs.Nodes.{is_here_root, down_low, down_is, does_on_root}
+use Rattle.tc_run.proofs.RuleOf.{chosen_number}
+use Rattle.tc_run.proofs.bodies.root.Goals as goal
+
+pub instantiate-requires-clause-here : goal.instantiate-requires-clause-here
+instantiate-requires-clause-here c =
+    let r = c.args.runner.now in
+    is_here_root r c.args.string c.args.nodes 0 c.requires.nodes c.requires.string (down_low r 0 _ (ancestors_begin (symbols_by r) r.rules.now c.requires.runner))
+
+pub returns-clause-outcome : goal.returns-clause-outcome
+returns-clause-outcome c = λ bodies hb.
+    let r = c.args.runner.now in
+    let rules = (sheet_by r).rules in
+    let doc = bare (trees c.args.nodes.now) in
+    let rule = chosen rules 0 (λ i q. fits q.pattern (top t.none)) in
+    let p = plain_of bodies (built_in 0 (whole doc)) rule in
+    let number = chosen_number rules 0 (λ i q. fits q.pattern (top t.none)) (found c.root_rule-found.result) (c.root_rule-found.ensures (symbols_by r) c.requires.runner) in
+    subst (λ o. Answers 0 c.args.output.now c.instantiate.new.output c.instantiate.result (counted o)) (does_on_root r bodies p c.args.string c.args.nodes (down_is r 0 _ (ancestors_begin (symbols_by r) r.rules.now c.requires.runner)))
+    (c.instantiate.ensures.outcome bodies p hb (c.meaning-rule.ensures.meant bodies (whole doc) rule hb number))

@@ -1,0 +1,23 @@
+use Rattle.std.proofs.Common.{sym, ap, ◌≡◌, refl}
+use Rattle.tc_model.specs.Meaning.{value_of_first}
+use Rattle.tc_model.specs.Seen as see
+use Rattle.tc_run.specs.Lettered.{bare}
+use Rattle.tc_run.specs.Seen.{trees}
+use Rattle.tc_model.specs.Machine.{first_hit}
+use Rattle.tc_run.specs.Running.{looking, symbols_by}
+use Rattle.tc_run.specs.Tasks.{looking_from}
+use Rattle.tc_run.proofs.BuiltIn.{value_found}
+use Rattle.tc_run.proofs.FirstHits.{none_first}
+use Rattle.tc_run.proofs.bodies.value.Goals as goal
+
+pub returns-in-None : goal.returns-in-None
+returns-in-None c =
+    let r = c.args.runner.now in
+    sym (ap value_of_first (none_first r (see.path c.args.path.now) (bare (trees c.args.here.now.kids.now)) (c.in-None.ensures _ c.requires.runner)))
+
+pub returns-in-Some : goal.returns-in-Some
+returns-in-Some c =
+    let r = c.args.runner.now in
+    let p = see.path c.args.path.now in
+    value_found c.first_hit.result (first_hit (looking r) (bare (trees c.args.here.now.kids.now)) (looking_from p)) c.unwrap_or.result _
+    (c.first_hit.ensures (looking_from p) (c.in-Some.ensures (symbols_by r) c.requires.runner)) c.unwrap_or.ensures refl

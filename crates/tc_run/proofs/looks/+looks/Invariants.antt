@@ -1,0 +1,15 @@
+use Rattle.std.proofs.Common.{◌≡◌, drop}
+use Rattle.tc_model.specs.Machine as machine
+use Rattle.tc_rules.specs.States.{Looking}
+use Rattle.tc_run.specs.Lettered.{bare}
+use Rattle.tc_run.specs.Running.{IsLetteredBy, looking, told_by}
+use Rattle.tc_run.specs.Seen.{trees}
+use Rattle.tc_run.specs.Tasks.{IsLookAt}
+use Rattle.tc_run.proofs.looks.+looks.Given as goal
+
+-- no hit so far
+abbrev pub invariant-first_hit-loop-node : goal.invariant-first_hit-loop-node
+invariant-first_hit-loop-node l =
+    IsLetteredBy l.runner (trees (drop l.node-index l.nodes))
+    × ((s : Looking) → IsLookAt (told_by l.runner) l.look s
+    → machine.first_hit (looking l.runner) (bare (trees l.nodes)) s ≡ machine.first_hit (looking l.runner) (bare (trees (drop l.node-index l.nodes))) s)

@@ -1,0 +1,158 @@
+// The letter of each node of a document, and its string-value.
+ghost use Rattle.std.specs.Prelude.{◌≡◌, ◌++◌, List, ℕ, map, IfOk, OnOk};
+ghost use Rattle.std.specs.String.{string_bytes};
+ghost use Rattle.tc_model.specs.Chains.{joined_texts};
+ghost use Rattle.tc_model.specs.Letters.{marks_of};
+ghost use Rattle.tc_model.specs.Machine.{holds_in};
+ghost use Rattle.tc_model.specs.Seen as see;
+ghost use Rattle.tc_model.specs.Trees as t;
+ghost use Rattle.tc_run.specs.Lettered as l;
+ghost use Rattle.tc_run.specs.Running.{IsRunner, IsLetteredBy, lettered_by, looking, predicates_by};
+ghost use Rattle.tc_run.specs.Seen.{trees, before};
+
+use crate::looks::holds;
+use crate::runner::Runner;
+use bumpalo::Bump;
+use bumpalo::collections::{into_bump_slice, into_bump_str};
+use tc_alpha::Sym;
+use tc_base::NoMemory;
+use tc_model::{Name, Node};
+use tc_rules::Marks;
+
+/// The letter of an element: its symbol, and which predicates hold on it.
+#[derive(Clone, Copy)]
+pub(crate) struct Letter {
+    pub(crate) sym: Sym,
+    pub(crate) marks: Marks,
+}
+
+/// A tree with the letters of its nodes: an element with its string-value and its children, or a text.
+#[derive(Clone, Copy)]
+pub(crate) enum Lettered<'b> {
+    Elem(Name<'b>, Letter, &'b str, &'b [Lettered<'b>]),
+    Text(&'b str, Marks),
+}
+
+/// Trees with their letters, and what text stands after theirs.
+#[derive(Clone, Copy)]
+pub(crate) struct Below<'b> {
+    pub(crate) nodes: &'b [Lettered<'b>],
+    rest: &'b str,
+}
+
+/// The texts in trees, joined.
+pub(crate) fn text_of<'b>(arena: &'b Bump, nodes: &[Node<'_>]) -> Result<&'b str, NoMemory>
+    ensures { IfOk result (λ text. text.now ≡ joined_texts (see.trees nodes.now)) }
+{
+    let mut text = String::new(arena);
+    join_texts(&mut text, nodes)?;
+    Ok(into_bump_str(text))
+}
+
+/// The texts in trees, after others.
+fn join_texts(text: &mut String<&Bump>, nodes: &[Node<'_>]) -> Result<(), NoMemory>
+    ensures { OnOk result (string_bytes text.new ≡ string_bytes text.old ++ joined_texts (see.trees nodes.now)) }
+{
+    for node in nodes {
+        match node {
+            Node::Text(piece) => text.push_str(piece)?,
+            Node::Elem(_, kids) => join_texts(text, kids)?,
+        }
+    }
+    Ok(())
+}
+
+/// What follows a text that stands in front.
+fn after<'b>(text: &'b str, front: &str) -> &'b str
+    requires { (rest : List ℕ) × (text.now ≡ front.now ++ rest) }
+    ensures { text.now ≡ front.now ++ result.now }
+{
+    let (_, rest) = text.split_at(front.len());
+    rest
+}
+
+/// What stands before a text at the end.
+fn before_end<'b>(text: &'b str, end: &str) -> &'b str
+    requires { (front : List ℕ) × (text.now ≡ front ++ end.now) }
+    ensures { text.now ≡ result.now ++ end.now }
+{
+    let (front, _) = text.split_at(text.len() - end.len());
+    front
+}
+
+/// Trees with their letters. Their text stands in front of the one given.
+pub(crate) fn with_letters<'b>(
+    arena: &'b Bump,
+    runner: &Runner<'_, '_>,
+    nodes: &[Node<'b>],
+    text: &'b str,
+) -> Result<Below<'b>, NoMemory>
+    requires runner { IsRunner runner.now }
+    requires text { (rest : List ℕ) × (text.now ≡ joined_texts (see.trees nodes.now) ++ rest) }
+    ensures nodes { IfOk result (λ b. trees b.nodes.now ≡ lettered_by runner.now (see.trees nodes.now)) }
+    ensures rest { IfOk result (λ b. text.now ≡ joined_texts (see.trees nodes.now) ++ b.rest.now) }
+{
+    let mut found = Vec::new(arena);
+    let mut rest = text;
+    for node in nodes {
+        match node {
+            Node::Text(piece) => {
+                rest = after(rest, piece);
+                found.push(lettered_text(runner, piece))?;
+            }
+            Node::Elem(name, kids) => {
+                let below = with_letters(arena, runner, kids, rest)?;
+                let string = before_end(rest, below.rest);
+                rest = below.rest;
+                found.push(lettered_element(runner, name, string, below.nodes))?;
+            }
+        }
+    }
+    Ok(Below {
+        nodes: into_bump_slice(found),
+        rest,
+    })
+}
+
+/// A text with its letter.
+fn lettered_text<'b>(runner: &Runner<'_, '_>, text: &'b str) -> Lettered<'b>
+    requires runner { IsRunner runner.now }
+    ensures { (rest : t.Trees) → before result (lettered_by runner.now rest) ≡ lettered_by runner.now (t.text text.now rest) }
+{
+    Lettered::Text(text, marks(runner, &[]))
+}
+
+/// An element with its letter.
+fn lettered_element<'b>(
+    runner: &Runner<'_, '_>,
+    name: &Name<'b>,
+    string: &'b str,
+    kids: &'b [Lettered<'b>],
+) -> Lettered<'b>
+    requires runner { IsRunner runner.now }
+    requires kids { IsLetteredBy runner.now (trees kids.now) }
+    requires string { string.now ≡ joined_texts (l.bare (trees kids.now)) }
+    ensures { (rest : t.Trees) → before result (lettered_by runner.now rest) ≡ lettered_by runner.now (t.element (see.name name.now) (l.bare (trees kids.now)) rest) }
+{
+    let letter = Letter {
+        sym: runner.alphabet.sym_of(name),
+        marks: marks(runner, kids),
+    };
+    Lettered::Elem(*name, letter, string, kids)
+}
+
+/// Which predicates hold on a node of these children.
+fn marks(runner: &Runner<'_, '_>, kids: &[Lettered<'_>]) -> Marks
+    requires runner { IsRunner runner.now }
+    requires kids { IsLetteredBy runner.now (trees kids.now) }
+    ensures { result.0 ≡ marks_of (map (λ p. holds_in (looking runner.now) p (l.bare (trees kids.now))) (predicates_by runner.now)) }
+{
+    let mut marks = 0;
+    let mut number = runner.rules.predicates();
+    while number > 0 {
+        number -= 1;
+        let predicate = runner.rules.predicate(number);
+        marks = 2 * marks + u32::from(holds(runner, predicate, kids));
+    }
+    Marks(marks)
+}

@@ -1,0 +1,85 @@
+//! Runs a stylesheet on a document (XSLT 1.0, 2 to 9).
+//!
+//! The document is gone through once from the leaves up, to work out the letter of each node: its symbol and which predicates hold
+//! on it. After that, what is selected and which rule fits are read off the numbers of path states.
+#![tactic(auto)]
+
+ghost use Rattle.std.specs.Prelude.{IfOk, OnOk, IfErr};
+ghost use Rattle.tc_model.specs.Safety.{IsResultOf};
+ghost use Rattle.tc_model.specs.Seen.{before, trees};
+ghost use Rattle.tc_model.specs.Trees.{IsDocument, none};
+ghost use Rattle.tc_rules.specs.Kept.{IsRulesOf, told};
+ghost use Rattle.tc_run.specs.Lawful.{HasLawfulResults};
+ghost use Rattle.tc_run.specs.Limits.{KeepsLimits, IsCause};
+
+mod bodies;
+mod letters;
+mod looks;
+mod output;
+mod runner;
+#[cfg(test)]
+mod tests;
+
+use bodies::root;
+use bumpalo::Bump;
+use letters::{text_of, with_letters};
+use output::Output;
+use runner::Runner;
+use std::slice::from_ref;
+use tc_alpha::Alphabet;
+use tc_base::NoMemory;
+use tc_model::{Node, normalise};
+use tc_rules::Rules;
+
+/// Why there is no result. Where both limits are passed, either may be told.
+#[derive(Clone, Copy, Debug, PartialEq, Eq)]
+pub enum RunFault {
+    /// More than 4,000,000 bodies are instantiated and elements and texts put out.
+    TooMuchWork,
+    /// More than 8,000 bodies and instructions stand within one another.
+    TooOpen,
+    /// Memory was refused.
+    NoMemory,
+}
+
+impl From<NoMemory> for RunFault {
+    ghost use Rattle.std.specs.Prelude.{◌≡◌};
+    ghost use Rattle.tc_run.specs.declared.RunFault.TheVariants.{NoMemory};
+
+    ghost from_gives = { λ _ e. e ≡ NoMemory };
+
+    fn from(_error: NoMemory) -> RunFault {
+        RunFault::NoMemory
+    }
+}
+
+/// The law of results: the result of a well-formed stylesheet on a document has lawful names and texts.
+pub fn law_of_lawful_results()
+    ensures { HasLawfulResults }
+{}
+
+/// The result of a document: the normal form of what is put out on its root in the default mode.
+///
+/// # Errors
+///
+/// Where the work passes 4,000,000 or the nesting 8,000.
+pub fn run<'b>(
+    arena: &'b Bump,
+    rules: &Rules<'b>,
+    alphabet: &Alphabet,
+    doc: &Node<'b>,
+) -> Result<&'b [Node<'b>], RunFault>
+    requires rules { IsRulesOf alphabet.now rules.now }
+    requires document { IsDocument (before doc.now none) }
+    ensures result { IfOk result (λ out. IsResultOf (told rules.now).sheet (before doc.now none) (trees out.now)) }
+    ensures within { OnOk result (KeepsLimits (told rules.now).sheet (before doc.now none)) }
+    ensures cause { IfErr result (λ e. IsCause (told rules.now).sheet (before doc.now none) e) }
+{
+    let nodes = from_ref(doc);
+    let text = text_of(arena, nodes)?;
+    let runner = Runner { rules, alphabet };
+    let document = with_letters(arena, &runner, nodes, text)?;
+    let mut output = Output::new(arena);
+    root(&runner, document.nodes, text, &mut output)?;
+    Ok(normalise(arena, &output.nodes)?)
+}

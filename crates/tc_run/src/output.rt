@@ -1,0 +1,117 @@
+// What is put out, and what it costs.
+ghost use Rattle.std.specs.Prelude.{◌≡◌, ◌+◌, ◌<◌, ◌≤◌, ◌++◌, ◌∷◌, [], ℕ, IfOk, OnOk, IfErr};
+ghost use Rattle.tc_model.specs.Outcomes.{put as put_text};
+ghost use Rattle.tc_model.specs.Seen.{name as see_name, trees};
+ghost use Rattle.tc_model.specs.Trees.{none, element, beside};
+ghost use Rattle.tc_run.specs.Spent.{Answers};
+
+use crate::RunFault;
+use bumpalo::Bump;
+use bumpalo::collections::into_bump_slice;
+use std::mem;
+use tc_base::NoMemory;
+use tc_model::{Name, Node};
+
+/// The most work and the most nesting.
+const MOST_WORK: u32 = 4_000_000;
+
+const MOST_OPEN: u32 = 8_000;
+
+/// What was put out so far beside one another, and all work that was done.
+#[derive(Drop)]
+pub(crate) struct Output<'b> {
+    arena: &'b Bump,
+    pub(crate) nodes: Vec<Node<'b>, &'b Bump>,
+    pub(crate) work: u32,
+}
+
+/// Within one more body or instruction.
+pub(crate) fn deeper(nesting: u32) -> Result<u32, RunFault>
+    ensures ok { IfOk result (λ n. (n ≡ nesting + 1) × (n ≤ 8000)) }
+    ensures err { IfErr result (λ e. (e ≡ RunFault.TooOpen) × (8000 < nesting + 1)) }
+{
+    if nesting < MOST_OPEN {
+        Ok(nesting + 1)
+    } else {
+        Err(RunFault::TooOpen)
+    }
+}
+
+impl<'b> Output<'b> {
+    /// Nothing yet.
+    pub(crate) fn new(arena: &'b Bump) -> Output<'b>
+        ensures nodes { trees result.nodes.items ≡ none }
+        ensures work { result.work ≡ 0 }
+    {
+        Output {
+            arena,
+            nodes: Vec::new(arena),
+            work: 0,
+        }
+    }
+
+    /// One more body, element or text.
+    pub(crate) fn count(&mut self) -> Result<(), RunFault>
+        ensures ok { OnOk result ((self.new.work ≡ self.old.work + 1) × (self.new.work ≤ 4000000)) }
+        ensures nodes { OnOk result (self.new.nodes.items ≡ self.old.nodes.items) }
+        ensures err { IfErr result (λ e. (e ≡ RunFault.TooMuchWork) × (4000000 < self.old.work + 1)) }
+    {
+        if self.work < MOST_WORK {
+            self.work += 1;
+            Ok(())
+        } else {
+            Err(RunFault::TooMuchWork)
+        }
+    }
+
+    /// One more text, where it has a character.
+    #[tactic(auto, using(tc_model::proofs::Views::pushed_text))]
+    pub(crate) fn put(&mut self, text: &'b str) -> Result<(), RunFault>
+        requires { self.old.work ≤ 4000000 }
+        ensures few { OnOk result (self.new.work ≤ 4000000) }
+        ensures outcome { (around : ℕ) → around ≤ 8000 → Answers around self.old self.new result (put_text text.now) }
+    {
+        if text.is_empty() {
+            return Ok(());
+        }
+        self.count()?;
+        self.push(Node::Text(text))?;
+        Ok(())
+    }
+
+    /// Goes inside an element: what was put out before it is handed back.
+    pub(crate) fn enter(&mut self) -> Result<Vec<Node<'b>, &'b Bump>, RunFault>
+        ensures before { IfOk result (λ v. v.items ≡ self.old.nodes.items) }
+        ensures nodes { OnOk result (trees self.new.nodes.items ≡ none) }
+        ensures work { OnOk result ((self.new.work ≡ self.old.work + 1) × (self.new.work ≤ 4000000)) }
+        ensures err { IfErr result (λ e. (e ≡ RunFault.TooMuchWork) × (4000000 < self.old.work + 1)) }
+    {
+        self.count()?;
+        Ok(mem::replace(&mut self.nodes, Vec::new(self.arena)))
+    }
+
+    /// Goes back outside: the element stands around what was put out inside it.
+    #[tactic(auto, using(tc_model::proofs::Views::pushed_elem))]
+    pub(crate) fn leave(
+        &mut self,
+        name: Name<'b>,
+        before: Vec<Node<'b>, &'b Bump>,
+    ) -> Result<(), RunFault>
+        ensures nodes { OnOk result (trees self.new.nodes.items ≡ beside (trees before.entry.items) (element (see_name name.entry) (trees self.old.nodes.items) none)) }
+        ensures work { OnOk result (self.new.work ≡ self.old.work) }
+        ensures err { IfErr result (λ e. e ≡ RunFault.NoMemory) }
+    {
+        let inside = into_bump_slice(mem::replace(&mut self.nodes, before));
+        self.push(Node::Elem(name, inside))?;
+        Ok(())
+    }
+
+    /// One more tree.
+    fn push(&mut self, node: Node<'b>) -> Result<(), NoMemory>
+        ensures nodes { OnOk result (self.new.nodes.items ≡ self.old.nodes.items ++ node.entry ∷ []) }
+        ensures work { OnOk result (self.new.work ≡ self.old.work) }
+    {
+        self.nodes.push(node)?;
+        Ok(())
+    }
+}
