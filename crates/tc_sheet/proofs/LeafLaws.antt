@@ -142,7 +142,6 @@ module _ (e : RawElem) (x : SheetFault) where
   abbrev pub OfKids : (Change → Type 0) → Type 0
   OfKids P = Refuses x (IsIn in_blank (raw_trees e.kids.now)) P
 
-
   pub of_apply_only : IsXsl (codes "apply-templates") (name e.name) → OfTag (HasNoAttributes e (HasOnly (codes "select" ∷ codes "mode" ∷ []))) → OfInstruction i_apply
   of_apply_only n r = tag_refuses e i_apply (opened i_apply refl n) (λ olds kids b d y. apply_only y) x r
 
