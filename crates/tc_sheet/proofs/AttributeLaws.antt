@@ -1,5 +1,5 @@
 -- What is found among attributes.
-use Rattle.std.proofs.Common.{◌≡◌, ◌≢◌, ℕ, ◌+◌, ◌<◌, Bool, true, false, not, ◌&&◌, ◌||◌, List, [], ◌∷◌, refl, ap, ◌∙◌, sym, subst, Option, None, Some, IsTrue, IsFalse, bytes_eq, if◌then◌else◌, All, Contains, length, get_or, drop, map}
+use Rattle.std.proofs.Common.{◌≡◌, ◌≢◌, ℕ, ◌+◌, ◌<◌, Bool, true, false, not, ◌&&◌, ◌||◌, List, [], ◌∷◌, refl, ap, ◌∙◌, sym, subst, Option, None, Some, IsTrue, bytes_eq, Contains, length, get_or, drop, map}
 use Rattle.std.specs.Prelude.{codes}
 use Rattle.std.specs.List.{list_any}
 use Rattle.std.proofs.lemmas.Bool.{true≢false, false≢true}
@@ -8,14 +8,14 @@ use Rattle.std.proofs.lemmas.List.Elements.{All-contains, Contains-get_or}
 use Rattle.std.proofs.lemmas.Slice.Eq.{bytes_eq-Decides}
 use Rattle.tc_model.specs.Names.{ExpandedName}
 use Rattle.tc_model.specs.RawTrees.{Attribute}
-use Rattle.tc_model.specs.Seen.{name, attribute}
+use Rattle.tc_model.specs.Seen.{attribute}
 use Rattle.tc_model.specs.XmlTextScopes.{is_empty}
 use Rattle.tc_model.specs.SheetTextPhrases.{xsl_uri, IsXsl, value_of, HasOnly, AreLiteral}
 use Rattle.tc_model.specs.declared.tree.RawAttr.{RawAttr}
 use Rattle.tc_model.specs.declared.tree.RawElem.{RawElem}
 use Rattle.tc_sheet.specs.Constructs.{plain}
-use Rattle.tc_sheet.specs.Changes.{Change, ChangedAttributes, exchanged}
-use Rattle.tc_sheet.specs.Readings.{attributes_of, HasNoAttributes, IsAttribute}
+use Rattle.tc_sheet.specs.Changes.{Change}
+use Rattle.tc_sheet.specs.Readings.{attributes_of, HasNoAttributes}
 use Rattle.tc_sheet.proofs.Changes.{kept_only, kept_literal, Becomes, value_becomes}
 
 abbrev pub is_plain : List ℕ → Attribute → Bool

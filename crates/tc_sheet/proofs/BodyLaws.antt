@@ -1,29 +1,25 @@
 -- What stands in a body, and what no change of it is.
 use Rattle.std.proofs.Common.{◌≡◌, ◌≢◌, ℕ, List, [], ◌∷◌, ◌++◌, refl, ap, ◌∙◌, sym, subst, Option, None, Some, IsTrue, IsFalse, Result, Ok, Err, IfOk, IfErr}
-use Rattle.std.specs.Prelude.{codes}
-use Rattle.tc_base.specs.declared.reasons.Why.{Why}
 use Rattle.tc_model.specs.Names.{ExpandedName}
 use Rattle.tc_model.specs.RawTrees.{Attribute, Bound, RawTrees, none, text, element}
 use Rattle.tc_model.specs.Trees.{is_all_white}
 use Rattle.tc_model.specs.Seen.{name, place, raw_trees, raw_before, raw_element}
-use Rattle.tc_model.specs.Sheets.{Path, Test, Body, no_instruction, value, value_of_self}
-use Rattle.tc_model.specs.PathText.{SelectText, ValueText, TestText}
-use Rattle.tc_model.specs.SheetTextTrees.{WrittenBody, w_nothing, w_text, WrittenBranches, w_otherwise, w_branch}
+use Rattle.tc_model.specs.SheetTextTrees.{WrittenBody, w_nothing, w_text}
 use Rattle.tc_model.specs.SheetTextPhrases as p
 use Rattle.tc_model.specs.SheetTextPhrases.{xsl_uri, IsXsl, value_of, HasOnly, AreLiteral, IsBlank, AreCharacters, NameText, ElementNameText, Optional, Required, Tag, tag, Instruction, i_apply, i_call, i_value, i_each, i_if, i_choose, i_text, i_copy, i_element, i_copy_of, instruction_of, IsInstruction, IsBody, AreBranches}
-use Rattle.tc_model.specs.declared.tree.Raw.{Raw, Raw-F, Elem, Text}
+use Rattle.tc_model.specs.declared.tree.Raw.{Raw, Raw-F}
 use Rattle.tc_model.specs.declared.tree.RawElem.{RawElem}
 use Rattle.tc_model.specs.declared.tree.Raw.TheOpen as parts
 use Rattle.tc_model.specs.declared.tree.Raw.TheVariants.{rolls-Elem, rolls-Text}
 use Rattle.tc_model.specs.declared.tree.Raw.TheViews.{roll-Raw, out-Raw, roll-out-Raw}
 use Rattle.tc_model.proofs.ViewsRaw.{before_elem, before_text}
-use Rattle.tc_sheet.specs.Constructs.{IsRefusedElement, reason_of}
+use Rattle.tc_sheet.specs.Constructs.{reason_of}
 use Rattle.tc_sheet.specs.LookedAt.{Where, in_body, IsOpened, IsIn, IsAt, IsAnything, IsRefused}
 use Rattle.tc_sheet.specs.LookedAt as looked
-use Rattle.tc_sheet.specs.Changes.{Change, mended, flattened, both, TakesAway, ChangedAttributes, Changed, no_tree, a_text, an_element, taken_away}
-use Rattle.tc_sheet.specs.Readings.{Refuses, IsMisplaced, alone, attributes_of, scope_of, tag_with, HasNoAttributes, HasAttributesText, HasTest, HasNoTest, IsNotBlank, IsRead, HasNoInstruction, HasNoBody, IsItem, HasNoItem, IsElementItem, HasNoElementItem}
+use Rattle.tc_sheet.specs.Changes.{Change, flattened, both, TakesAway, ChangedAttributes, Changed, a_text, an_element, taken_away}
+use Rattle.tc_sheet.specs.Readings.{Refuses, IsMisplaced, alone, attributes_of, tag_with, HasNoAttributes, IsRead, HasNoInstruction, HasNoBody, IsItem, HasNoItem, IsElementItem, HasNoElementItem}
 use Rattle.tc_sheet.specs.Begun.{around, IsHead, IsBegunBy, IsAround, IsBegun}
-use Rattle.tc_sheet.specs.Seen.{tag_of, put, written, written_before}
+use Rattle.tc_sheet.specs.Seen.{put, written, written_before}
 use Rattle.tc_sheet.specs.declared.written.Written.{Written}
 use Rattle.tc_sheet.specs.declared.bodies.Head.TheVariants as heads
 use Rattle.tc_sheet.specs.declared.bodies.Begun.{Begun}

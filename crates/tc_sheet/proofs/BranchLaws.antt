@@ -1,5 +1,5 @@
 -- What stands in an `xsl:choose`, and what no change of it is.
-use Rattle.std.proofs.Common.{◌≡◌, ◌≢◌, ◌==◌, ℕ, zero, suc, length, arith, Bool, MatchBool, true, false, List, [], ◌∷◌, ◌++◌, refl, ap, ◌∙◌, sym, subst, Option, None, Some, IsTrue, IsFalse}
+use Rattle.std.proofs.Common.{◌≡◌, ◌==◌, ℕ, suc, length, arith, Bool, MatchBool, true, false, List, [], ◌∷◌, ◌++◌, refl, ap, sym, subst, Some, IsTrue, IsFalse}
 use Rattle.std.specs.Prelude.{codes}
 use Rattle.std.proofs.lemmas.Bool.{true≢false, eqb-true}
 use Rattle.std.proofs.Common.{◌-◌, take, drop, length-drop}
@@ -7,23 +7,20 @@ use Rattle.std.proofs.lemmas.List.{take_all}
 use Rattle.tc_model.specs.Names.{ExpandedName}
 use Rattle.tc_model.specs.RawTrees.{Attribute, Bound, RawTrees, none, text, element}
 use Rattle.tc_model.specs.Trees.{is_all_white}
-use Rattle.tc_model.specs.Seen.{name, place, test, raw_trees, raw_before, raw_element}
+use Rattle.tc_model.specs.Seen.{name, test, raw_trees, raw_element}
 use Rattle.tc_model.specs.Sheets.{Test}
-use Rattle.tc_model.specs.PathText.{TestText}
 use Rattle.tc_model.specs.SheetTextTrees.{WrittenBody, w_nothing, w_choose, WrittenBranches, w_otherwise, w_branch}
 use Rattle.tc_model.specs.SheetTextPhrases as p
 use Rattle.tc_model.specs.SheetTextPhrases.{IsXsl, value_of, HasOnly, IsBlank, Required, Tag, tag, IsTag, i_choose, instruction_of, IsInstruction, IsBody, AreBranches}
 use Rattle.tc_model.specs.declared.tree.Raw.{Raw}
 use Rattle.tc_model.specs.declared.tree.RawElem.{RawElem}
-use Rattle.tc_sheet.specs.Constructs.{reason_of}
 use Rattle.tc_sheet.specs.LookedAt.{in_body, in_choose, in_blank, IsIn, IsAt, IsAnything}
 use Rattle.tc_sheet.specs.LookedAt as looked
-use Rattle.tc_sheet.specs.Changes.{Change, both, TakesAway, ChangedAttributes, Changed, no_tree, a_text, an_element, taken_away}
-use Rattle.tc_sheet.specs.Readings.{Refuses, IsMisplaced, alone, attributes_of, scope_of, tag_with, HasTest, HasNoTest, IsTested, HasNoTested, HasNoAttributes, HasNoBody, IsNotBlank, HasNoBranches, HasNoInstruction, IsElementItem, HasNoElementItem}
+use Rattle.tc_sheet.specs.Changes.{Change, both, TakesAway, ChangedAttributes, Changed, a_text}
+use Rattle.tc_sheet.specs.Readings.{Refuses, IsMisplaced, alone, attributes_of, scope_of, HasTest, HasNoTest, IsTested, HasNoTested, HasNoAttributes, HasNoBody, IsNotBlank, HasNoBranches, IsElementItem, HasNoElementItem}
 use Rattle.tc_sheet.specs.Seen.{tag_of, body, branches}
 use Rattle.tc_sheet.specs.declared.written.WrittenBranch.{WrittenBranch}
 use Rattle.tc_sheet.specs.declared.faults.SheetFault.{SheetFault}
-use Rattle.tc_sheet.specs.declared.faults.SheetFault.TheVariants.{Malformed}
 use Rattle.tc_sheet.proofs.SameBodies.{xsl_reason, not_taken, when_or_otherwise, branches_same}
 use Rattle.tc_sheet.proofs.Refusals.{Covers, lifted, moved, covers_itself, both_cover, covers_tag, covers_kids, covers_rest, covers_one, covers_beside_text, text_at}
 use Rattle.tc_sheet.proofs.ViewsWritten.{pushed_branch}

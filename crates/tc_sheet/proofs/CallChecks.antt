@@ -1,5 +1,5 @@
 -- What the calls of templates that were read say of their names.
-use Rattle.std.proofs.Common.{◌≡◌, ℕ, ◌+◌, ◌<◌, ◌≤◌, List, [], ◌∷◌, ◌++◌, refl, ap, ◌∙◌, sym, subst, Option, None, Some, length, All, map, drop, get_or}
+use Rattle.std.proofs.Common.{◌≡◌, ℕ, ◌+◌, ◌<◌, ◌≤◌, List, ap, ◌∙◌, sym, subst, Option, None, Some, length, All, map, drop, get_or}
 use Rattle.std.proofs.lemmas.List.{drop_all}
 use Rattle.std.specs.List.{AllByRecursion, IsDistinct}
 use Rattle.tc_graph.specs.Graph.{IsGraph}

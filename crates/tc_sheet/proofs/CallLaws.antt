@@ -1,18 +1,18 @@
 -- What calls by numbers say of calls by names.
-use Rattle.std.proofs.Common.{◌≡◌, ◌⊎◌, inl, inr, ℕ, zero, suc, ◌+◌, ◌<◌, Bool, true, false, not, List, [], ◌∷◌, ◌++◌, refl, ap, ◌∙◌, sym, subst, arith, Option, None, Some, option_map, IfSome, length, All, Contains, flat_map, map, slice_get, slice_index_or, if◌then◌else◌, true≢false, unwrap_or}
+use Rattle.std.proofs.Common.{◌≡◌, ◌⊎◌, inl, inr, ℕ, zero, suc, ◌<◌, Bool, true, false, not, List, [], ◌∷◌, ◌++◌, refl, ap, ◌∙◌, sym, subst, arith, Option, None, Some, option_map, IfSome, length, All, Contains, map, slice_get, slice_index_or, if◌then◌else◌, true≢false, unwrap_or}
 use Rattle.std.proofs.lemmas.List.{map-append}
 use Rattle.std.proofs.lemmas.List.Elements.{All-cons, All-nil, All-from_recursion, recursion_from_All, Contains-append_left, Contains-append_right, Contains-append_cases}
 use Rattle.std.proofs.lemmas.Option.{unwrap_or-slice_get, slice_get_within, get_or_from_slice_get}
 use Rattle.std.specs.List.{AllByRecursion, IsDistinct, list_any}
 use Rattle.tc_graph.specs.Graph.{Edge, IsGraph, Path, edge, further, Leads}
-use Rattle.tc_graph.specs.Walks.{AreComponents, same_component, state_at}
+use Rattle.tc_graph.specs.Walks.{AreComponents}
 use Rattle.tc_graph.specs.declared.cycles.State.{State}
 use Rattle.tc_graph.proofs.Joined.{path_then, same_leads, leads_same}
 use Rattle.tc_model.specs.Names.{ExpandedName, same_name}
 use Rattle.tc_model.specs.Numbered.{number_of}
 use Rattle.tc_model.specs.SheetTextTrees.{Template}
 use Rattle.tc_model.specs.SheetText.{one_name, names_of, Call, calls_in_body, Reaches, calls, calls_by, StandingCall, calls_of, IsFirst, IsDefined, IsUndefined, IsLoop}
-use Rattle.tc_sheet.specs.Graphs.{first_at, NumberedCall, leads_back, first_back, IsWithin, callee_of, caller_of, numbered_from, row_of, callees, calls_from, numbered_calls, is_undefined, first_undefined, all_calls}
+use Rattle.tc_sheet.specs.Graphs.{first_at, NumberedCall, leads_back, first_back, IsWithin, callee_of, caller_of, numbered_from, callees, calls_from, numbered_calls, is_undefined, first_undefined, all_calls}
 use Rattle.tc_sheet.proofs.NameNumbers.{same_some, no_some, listed, contained, number_below, number_is, number_tells}
 
 some_none : {X : Type 0} {x : X} → Some x ≡ None → ⊥

@@ -1,22 +1,18 @@
 -- A tree that is read and one that is changed from it mean the same, if both mean something.
-use Rattle.std.proofs.Common.{◌≡◌, ◌≢◌, ◌⊎◌, inl, inr, ℕ, ℤ, Bool, true, false, not, ◌&&◌, ◌||◌, List, [], ◌∷◌, ◌++◌, refl, ap, ◌∙◌, sym, subst, Option, None, Some, IsTrue, IsFalse, bytes_eq, if◌then◌else◌, All}
+use Rattle.std.proofs.Common.{◌≡◌, ◌⊎◌, inl, inr, ℕ, Bool, true, false, not, ◌&&◌, ◌||◌, List, [], ◌∷◌, refl, ap, ◌∙◌, sym, subst, Option, None, Some, IsTrue, IsFalse, bytes_eq, if◌then◌else◌}
 use Rattle.std.specs.Prelude.{codes}
 use Rattle.std.specs.List.{list_any}
 use Rattle.std.proofs.lemmas.Bool.{true≢false, false≢true}
 use Rattle.std.proofs.lemmas.List.Elements.{All-cons, All-head, All-tail}
 use Rattle.std.proofs.lemmas.Slice.Eq.{bytes_eq-Decides}
-use Rattle.tc_base.specs.declared.reasons.Why.{Why}
-use Rattle.tc_model.specs.Names.{ExpandedName}
-use Rattle.tc_model.specs.RawTrees.{Attribute, Bound, RawTrees, none, text, element}
+use Rattle.tc_model.specs.RawTrees.{Attribute, RawTrees, none, text, element}
 use Rattle.tc_model.specs.XmlTextScopes.{is_empty}
-use Rattle.tc_model.specs.PathTextTokens.{Token, Tokens, IsTooDeep}
+use Rattle.tc_model.specs.PathTextTokens.{Token, IsTooDeep}
 use Rattle.tc_model.specs.PathText.{Forms}
-use Rattle.tc_model.specs.SheetTextPhrases as p
-use Rattle.tc_model.specs.SheetTextPhrases.{xsl_uri, value_of, HasOnly, AreLiteral, IsBlank, AreCharacters, no_characters, characters}
+use Rattle.tc_model.specs.SheetTextPhrases.{xsl_uri, value_of, HasOnly, AreLiteral}
 use Rattle.tc_model.proofs.PathTextLexing.{tokens_unique}
 use Rattle.tc_path.specs.Faults.{Deep}
-use Rattle.tc_sheet.specs.Constructs.{reason_of, reason_in, reasons}
-use Rattle.tc_sheet.specs.Changes.{Change, mended, flattened, both, TakesAway, Exchanges, IsRenamed, IsExchanged, exchanged, ChangedAttributes, no_attribute, as_it_is, an_exchange, Changed, no_tree, a_text, an_element, taken_away}
+use Rattle.tc_sheet.specs.Changes.{Change, mended, flattened, both, Exchanges, IsRenamed, exchanged, ChangedAttributes, no_attribute, as_it_is, an_exchange, Changed, no_tree, a_text, an_element}
 use Rattle.tc_sheet.proofs.Plain.{ArePlain, renamed_same}
 
 -- nothing changed is a change too

@@ -1,5 +1,5 @@
 -- Elements that must not stand where they stand.
-use Rattle.std.proofs.Common.{◌≡◌, ℕ, Bool, true, false, ◌||◌, List, refl, ap, ◌∙◌, sym, subst, Option, None, Some, bytes_eq, if◌then◌else◌}
+use Rattle.std.proofs.Common.{◌≡◌, Bool, false, refl, ap, ◌∙◌, Option, None, Some, bytes_eq, if◌then◌else◌}
 use Rattle.std.specs.Prelude.{is_some, option_map}
 use Rattle.std.specs.List.{list_any}
 use Rattle.std.proofs.lemmas.Bool.{true≢false}
@@ -7,7 +7,7 @@ use Rattle.std.proofs.lemmas.Slice.Eq.{bytes_eq-Decides}
 use Rattle.tc_base.specs.declared.reasons.Why.{Why}
 use Rattle.tc_model.specs.Names.{ExpandedName}
 use Rattle.tc_model.specs.SheetTextPhrases.{xsl_uri, Instruction, instruction_in, instructions, instruction_of}
-use Rattle.tc_sheet.specs.Constructs.{IsRefusedElement, of_reason, unknown, IsUnknown, reason_in, reasons, reason_of, parts}
+use Rattle.tc_sheet.specs.Constructs.{IsRefusedElement, of_reason, IsUnknown, reason_in, reasons, reason_of, parts}
 
 module _ (n : ExpandedName) (u : n.uri ≡ xsl_uri) where
   pub reason_is : {o : Option Why} → reason_in reasons n.local ≡ o → reason_of n ≡ o

@@ -1,10 +1,10 @@
 -- Texts alone, of white space or of any characters.
-use Rattle.std.proofs.Common.{◌≡◌, ℕ, Bool, true, false, List, [], ◌∷◌, ◌++◌, refl, ap, ◌∙◌, sym, subst, append_assoc, IsTrue, IsFalse}
+use Rattle.std.proofs.Common.{◌≡◌, ℕ, List, [], ◌∷◌, ◌++◌, refl, ap, ◌∙◌, sym, subst, append_assoc, IsTrue, IsFalse}
 use Rattle.std.proofs.lemmas.Bool.{true≢false}
 use Rattle.tc_model.specs.RawTrees.{Attribute, Bound, RawTrees, none, text, element}
 use Rattle.tc_model.specs.Trees.{is_all_white}
 use Rattle.tc_model.specs.Names.{ExpandedName}
-use Rattle.tc_model.specs.Seen.{name, place, raw_trees, raw_element}
+use Rattle.tc_model.specs.Seen.{raw_element}
 use Rattle.tc_model.specs.SheetTextPhrases.{IsBlank, at_end, past_white, AreCharacters, no_characters, characters}
 use Rattle.tc_model.specs.declared.tree.RawElem.{RawElem}
 use Rattle.tc_sheet.specs.LookedAt.{in_blank, IsIn, IsAt, IsAnything}

@@ -1,17 +1,15 @@
 -- The names and texts of a stylesheet are lawful where those of its tree are.
-use Rattle.std.proofs.Common.{◌≡◌, ◌≢◌, ◌⊎◌, inl, inr, ℕ, ℤ, List, [], ◌∷◌, ◌++◌, refl, ap, ◌∙◌, sym, subst, Option, None, Some, map}
-use Rattle.std.specs.Prelude.{codes}
+use Rattle.std.proofs.Common.{◌≡◌, ℕ, ℤ, List, [], ◌∷◌, refl, sym, subst, Option, None, Some, map}
 use Rattle.std.specs.List.{AllByRecursion}
-use Rattle.tc_model.specs.Names.{ExpandedName, IsChars, IsNcName, IsNamespaceName, IsName, IsText}
-use Rattle.tc_model.specs.RawTrees.{Attribute, Bound, RawTrees, none, text, element}
+use Rattle.tc_model.specs.Names.{ExpandedName, IsChars, IsNcName, IsName}
+use Rattle.tc_model.specs.RawTrees.{Bound, RawTrees}
 use Rattle.tc_model.specs.Sheets.{Path, Test, Body, no_instruction, value}
-use Rattle.tc_model.specs.WellFormed.{IsPath, IsTest, IsMatchPattern}
-use Rattle.tc_model.specs.PathText.{SelectText, ValueText, PatternText, TestText, IsTest as IsTestOf, IsValue, of_self, of_path, of_tests}
+use Rattle.tc_model.specs.WellFormed.{IsPath, IsTest}
+use Rattle.tc_model.specs.PathText.{SelectText, ValueText, PatternText, TestText, IsTest as IsTestOf, IsValue, of_path, of_tests}
 use Rattle.tc_model.specs.PathTextPhrases.{Alternative}
 use Rattle.tc_model.specs.XmlTextNames.{QualifiedName, QNameAt, unprefixed, prefixed}
 use Rattle.tc_model.specs.XmlTextScopes.{ElementName, bound, unbound}
-use Rattle.tc_model.specs.XmlTextLaws.{IsLawfulAttribute, IsLawfulBound, AreLawfulWithin}
-use Rattle.tc_model.specs.Meaning.{all_children}
+use Rattle.tc_model.specs.XmlTextLaws.{IsLawfulBound, AreLawfulWithin}
 use Rattle.tc_model.specs.SheetTextTrees.{WrittenBody, w_nothing, w_text, w_element, w_copy, w_apply, w_call, w_value, w_self, w_choose, w_each, WrittenBranches, w_otherwise, w_branch, Template}
 use Rattle.tc_model.specs.SheetTextPhrases as p
 use Rattle.tc_model.specs.SheetTextPhrases.{AreCharacters, no_characters, characters, ElementNameText, Optional, left_out, given, Required, is_given, or_all_children, with_priority, or_none, Tag, tag, Instruction, IsBody, IsInstruction, AreBranches, IsTemplate, AreTemplates, IsStylesheet}

@@ -1,5 +1,5 @@
 -- Bodies whose calls end can be unfolded.
-use Rattle.std.proofs.Common.{◌≡◌, ℕ, List, [], ◌∷◌, ◌++◌, refl, ap, ◌∙◌, sym, subst, Some, slice_get}
+use Rattle.std.proofs.Common.{◌≡◌, ℕ, List, [], ◌∷◌, ◌++◌, Some, slice_get}
 use Rattle.std.specs.List.{AllByRecursion}
 use Rattle.tc_model.specs.Sheets as s
 use Rattle.tc_model.specs.Sheets.{Body, Branches, Plain, PlainBranches, Unfolds, BranchesUnfold}

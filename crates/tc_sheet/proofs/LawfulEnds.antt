@@ -1,17 +1,15 @@
 -- Where no template leads to itself, each chain of calls ends, and so each named body can be unfolded.
-use Rattle.std.proofs.Common.{◌≡◌, ◌⊎◌, inl, inr, ℕ, zero, suc, ◌+◌, ◌<◌, ◌≤◌, Bool, true, false, List, [], ◌∷◌, ◌++◌, refl, ap, ◌∙◌, sym, subst, arith, length, map, flat_map, Option, None, Some, get_or, slice_get, slice_index_or, Contains, set, replicate, option_map, unwrap_or, true≢false, if◌then◌else◌, append-nil}
+use Rattle.std.proofs.Common.{◌≡◌, ◌⊎◌, inl, inr, ℕ, zero, suc, ◌+◌, ◌<◌, ◌≤◌, Bool, true, false, List, [], ◌∷◌, ◌++◌, refl, ap, ◌∙◌, sym, subst, arith, length, map, flat_map, Some, get_or, slice_get, slice_index_or, Contains, set, replicate, option_map, unwrap_or, if◌then◌else◌}
 use Rattle.std.proofs.lemmas.List.{map-append, length-map, length-replicate}
 use Rattle.std.proofs.lemmas.List.Elements.{Contains-get_or, recursion_from_All}
 use Rattle.std.proofs.lemmas.Option.{slice_get-map, slice_get-get_or, unwrap_or-slice_get, slice_get_within}
 use Rattle.std.proofs.Common.{length-set}
-use Rattle.std.specs.List.{AllByRecursion}
 use Rattle.tc_graph.specs.Graph.{Edge, Path, edge, further, is_marked}
 use Rattle.tc_graph.specs.Marks.{unmarked}
-use Rattle.tc_graph.proofs.Marks.{marked_within}
-use Rattle.tc_graph.proofs.Marks.{marked_here, marked_before, one_less, none_marked}
+use Rattle.tc_graph.proofs.Marks.{marked_before, one_less, none_marked}
 use Rattle.tc_model.specs.Names.{ExpandedName, same_name}
 use Rattle.tc_model.specs.Numbered.{number_of}
-use Rattle.tc_model.specs.Sheets.{Body, Plain, Unfolds}
+use Rattle.tc_model.specs.Sheets.{Body}
 use Rattle.tc_model.specs.SheetTextTrees.{WrittenBody, w_nothing, w_text, w_element, w_copy, w_apply, w_call, w_value, w_self, w_choose, w_each, WrittenBranches, w_otherwise, w_branch, Template, makes_rules}
 use Rattle.tc_model.specs.SheetText.{one_name, Call, calls_in_body, calls_in_branches, eaches_in, eaches_in_branches, numbered, numbered_branches, NumberedTemplate, first_eaches}
 use Rattle.tc_sheet.specs.Graphs.{callee_of, row_of, callees}

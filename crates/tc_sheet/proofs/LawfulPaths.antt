@@ -1,16 +1,15 @@
 -- The names of paths, patterns and tests are lawful where those of the prefixes in scope are.
-use Rattle.std.proofs.Common.{◌≡◌, ◌≢◌, ◌⊎◌, inl, inr, ℕ, Bool, true, false, List, [], ◌∷◌, ◌++◌, refl, ap, ◌∙◌, sym, subst, Option, None, Some, bytes_eq, if◌then◌else◌}
+use Rattle.std.proofs.Common.{◌≡◌, ◌≢◌, ℕ, Bool, true, false, List, [], ◌∷◌, ◌++◌, refl, subst, Some, bytes_eq, if◌then◌else◌}
 use Rattle.std.specs.List.{AllByRecursion}
-use Rattle.tc_model.specs.Names.{ExpandedName, IsChars, IsNcName, IsNamespaceName, IsName, xmlns_uri}
+use Rattle.tc_model.specs.Names.{ExpandedName, IsNcName, IsNamespaceName, IsName}
 use Rattle.tc_model.specs.RawTrees.{Bound}
-use Rattle.tc_model.specs.Sheets.{NodeTest, Steps, no_step, step, Path, no_alternative, alternative, Test, always, never, has, negated, all_of, any_of, Tests, no_test, test, Body, no_instruction, value, MatchPattern, root_pattern, steps_pattern}
+use Rattle.tc_model.specs.Sheets.{NodeTest, Steps, no_step, step, Path, no_alternative, Test, Tests, no_test, test}
 use Rattle.tc_model.specs.WellFormed.{IsNodeTest, AreSteps, IsPath, IsTest, AreTests, IsMatchPattern}
 use Rattle.tc_model.specs.XmlTextScopes.{uri_of}
 use Rattle.tc_model.specs.XmlTextLaws.{IsLawfulBound}
 use Rattle.tc_model.specs.PathTextTokens.{Token, name, all_of_prefix, mark, number, literal, variable, TokenAt, Tokens}
 use Rattle.tc_model.specs.PathTextTokens as t
 use Rattle.tc_model.specs.PathTextPhrases as p
-use Rattle.tc_model.specs.PathText.{IsSelect, IsValue, of_self, of_path, IsTest as IsTestOf, of_tests, IsPattern}
 
 -- the local part of a name is an NCName
 abbrev pub IsLawful : Token → Type 0

@@ -1,5 +1,5 @@
 -- The stylesheet of a tree whose names and texts are lawful is well-formed.
-use Rattle.std.proofs.Common.{◌≡◌, ◌⊎◌, inl, inr, ℕ, zero, suc, ◌+◌, ◌<◌, ◌≤◌, Bool, true, false, cond, not, ◌||◌, List, [], ◌∷◌, ◌++◌, refl, ap, ◌∙◌, sym, subst, arith, Option, None, Some, is_some, length, map, flat_map, filter, get_or, All, Contains, if◌then◌else◌, true≢false}
+use Rattle.std.proofs.Common.{◌≡◌, ◌⊎◌, inl, inr, ℕ, zero, suc, ◌+◌, ◌≤◌, Bool, true, false, cond, not, ◌||◌, List, [], ◌∷◌, ◌++◌, refl, ap, ◌∙◌, sym, subst, arith, Option, None, Some, is_some, length, map, flat_map, filter, get_or, All, Contains, if◌then◌else◌, true≢false}
 use Rattle.std.proofs.lemmas.List.{length-map}
 use Rattle.std.proofs.lemmas.List.Folds.{list_any-append}
 use Rattle.std.proofs.lemmas.List.Elements.{All-contains, All-from_recursion, recursion_from_All, Contains-append_left, Contains-append_right, Contains-append_cases, filter_passes}
@@ -7,23 +7,21 @@ use Rattle.std.proofs.lemmas.Option.{slice_get-get_or}
 use Rattle.std.specs.List.{AllByRecursion, IsDistinct, list_any}
 use Rattle.tc_graph.specs.Graph.{Path}
 use Rattle.tc_model.specs.Names.{ExpandedName, same_name}
-use Rattle.tc_model.specs.Numbered.{each_once_after, number_of}
+use Rattle.tc_model.specs.Numbered.{each_once_after}
 use Rattle.tc_model.specs.PathTextPhrases.{Alternative}
-use Rattle.tc_model.specs.RawTrees.{RawTrees}
-use Rattle.tc_model.specs.Sheets.{Body, Rule, Sheet, Plain, Unfolds}
+use Rattle.tc_model.specs.Sheets.{Rule, Sheet, Plain, Unfolds}
 use Rattle.tc_model.specs.SheetTextTrees.{Template, makes_rules, is_used}
-use Rattle.tc_model.specs.SheetText.{one_name, modes_in_body, Call, calls_in_body, eaches_in, eaches_of, mode_number, modes_of, names_of, NumberedTemplate, first_eaches, numbered_templates, sheet_of, StandingCall, calls_of, IsDefined, IsLoop, SheetText}
+use Rattle.tc_model.specs.SheetText.{one_name, modes_in_body, calls_in_body, eaches_in, eaches_of, mode_number, modes_of, names_of, NumberedTemplate, first_eaches, numbered_templates, sheet_of, StandingCall, calls_of, IsDefined, IsLoop}
 use Rattle.tc_model.specs.WellFormed as w
 use Rattle.tc_model.specs.WellFormed.{ForEach, IsBody, IsRule, IsSheet}
-use Rattle.tc_model.specs.XmlTextLaws.{AreLawfulWithin}
 use Rattle.tc_sheet.specs.Graphs.{callees, first_at, is_undefined, first_undefined, all_calls}
 use Rattle.tc_sheet.specs.Laws.{HasLawfulSheet}
 use Rattle.tc_sheet.specs.Numbers.{body_with, rule_from, rules_with, named_with}
 use Rattle.tc_sheet.specs.Tables.{modes_in}
 use Rattle.tc_sheet.proofs.CallLaws.{first_map, stand, stands, names_from_calls, same_length, is_graph, no_cycle, contains_map, map_contains, beside}
 use Rattle.tc_sheet.proofs.LawfulBodies.{IsLawfulTemplate, AreTemplatesLawful, stylesheet_lawful}
-use Rattle.tc_sheet.proofs.LawfulCalls.{called_in, HasPlain}
-use Rattle.tc_sheet.proofs.LawfulEaches.{all_eaches, all_numbers, among_all, eaches_of_one, in_rules_of, in_others_of, IsOf, of_rules, of_others, same_number, of_number}
+use Rattle.tc_sheet.proofs.LawfulCalls.{called_in}
+use Rattle.tc_sheet.proofs.LawfulEaches.{all_eaches, all_numbers, among_all, eaches_of_one, in_rules_of, in_others_of, of_rules, of_others, same_number, of_number}
 use Rattle.tc_sheet.proofs.LawfulEnds.{named_rows, all_end}
 use Rattle.tc_sheet.proofs.LawfulNumbers.{split, append_all, HasMode, HasName, mode_below, numbered_is}
 use Rattle.tc_sheet.proofs.LawfulPaths.{AreAlternatives}

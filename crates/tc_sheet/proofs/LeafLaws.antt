@@ -1,21 +1,21 @@
 -- What each instruction has, and the faults of its attributes and of what it holds.
-use Rattle.std.proofs.Common.{◌≡◌, ◌≢◌, ℕ, List, [], ◌∷◌, refl, ap, ◌∙◌, sym, subst, Option, None, Some}
+use Rattle.std.proofs.Common.{◌≡◌, ℕ, List, [], ◌∷◌, refl, ap, ◌∙◌, Option, None, Some}
 use Rattle.std.specs.Prelude.{codes}
 use Rattle.tc_model.specs.Names.{ExpandedName}
-use Rattle.tc_model.specs.RawTrees.{Attribute, RawTrees, none}
-use Rattle.tc_model.specs.Seen.{name, path, test, raw_trees, raw_element}
+use Rattle.tc_model.specs.RawTrees.{RawTrees, none}
+use Rattle.tc_model.specs.Seen.{name, raw_trees, raw_element}
 use Rattle.tc_model.specs.Sheets.{Path, Test, Body, no_instruction, value, value_of_self}
-use Rattle.tc_model.specs.PathText.{SelectText, ValueText, TestText}
+use Rattle.tc_model.specs.PathText.{SelectText, ValueText}
 use Rattle.tc_model.specs.SheetTextTrees.{WrittenBody}
 use Rattle.tc_model.specs.SheetTextPhrases as p
 use Rattle.tc_model.specs.SheetTextPhrases.{xsl_uri, IsXsl, value_of, HasOnly, IsBlank, AreCharacters, NameText, ElementNameText, Optional, Required, Tag, tag, Instruction, i_apply, i_call, i_value, i_each, i_if, i_choose, i_text, i_copy, i_element, i_attribute, i_copy_of, instruction_of, instruction_in, instructions, IsInstruction, IsBody, named, NamedInstruction}
 use Rattle.std.proofs.Common.{Bool, true, false, bytes_eq, if◌then◌else◌}
 use Rattle.std.proofs.lemmas.Slice.Eq.{bytes_eq-Decides}
 use Rattle.tc_model.specs.declared.tree.RawElem.{RawElem}
-use Rattle.tc_sheet.specs.Changes.{Change, Changed, ChangedAttributes}
+use Rattle.tc_sheet.specs.Changes.{Change, Changed}
 use Rattle.tc_sheet.specs.LookedAt.{Where, in_body, in_blank, held, IsOpened, IsIn}
 use Rattle.tc_sheet.specs.LookedAt as looked
-use Rattle.tc_sheet.specs.Readings.{Refuses, alone, attributes_of, scope_of, tag_with, HasNoAttributes, HasNoRequired, HasNoOptional, HasAttributesText, HasTest, HasNoTest, IsNotBlank, HasNoCharacters, HasNoInstruction, HasNoBody}
+use Rattle.tc_sheet.specs.Readings.{Refuses, alone, scope_of, HasNoAttributes, HasNoRequired, HasNoOptional, HasAttributesText, HasTest, HasNoTest, IsNotBlank, HasNoCharacters, HasNoInstruction}
 use Rattle.tc_sheet.specs.declared.faults.SheetFault.{SheetFault}
 use Rattle.tc_sheet.proofs.Refused.{refused, by_required, by_optional}
 use Rattle.tc_sheet.proofs.BodyLaws.{tag_refuses, kids_refuse}
@@ -141,7 +141,6 @@ module _ (e : RawElem) (x : SheetFault) where
 
   abbrev pub OfKids : (Change → Type 0) → Type 0
   OfKids P = Refuses x (IsIn in_blank (raw_trees e.kids.now)) P
-
 
   pub of_apply_only : IsXsl (codes "apply-templates") (name e.name) → OfTag (HasNoAttributes e (HasOnly (codes "select" ∷ codes "mode" ∷ []))) → OfInstruction i_apply
   of_apply_only n r = tag_refuses e i_apply (opened i_apply refl n) (λ olds kids b d y. apply_only y) x r

@@ -1,38 +1,37 @@
 -- What the attributes of an element mean, and how they are refused.
-use Rattle.std.proofs.Common.{◌≡◌, ◌≢◌, ◌⊎◌, inl, inr, ℕ, ◌==◌, Bool, true, false, not, ◌&&◌, ◌||◌, List, [], ◌∷◌, refl, ap, ◌∙◌, sym, subst, Option, None, Some, IsTrue, IsFalse, bytes_eq, Contains, length}
+use Rattle.std.proofs.Common.{◌≡◌, ◌≢◌, inl, inr, ℕ, ◌==◌, Bool, true, false, ◌||◌, List, [], refl, ap, ◌∙◌, sym, subst, Option, None, Some, IsFalse, bytes_eq, Contains, length}
 use Rattle.std.specs.Prelude.{codes, is_some, MatchOption}
 use Rattle.std.specs.List.{list_any}
 use Rattle.std.proofs.lemmas.Bool.{true≢false, eqb-true}
 use Rattle.tc_base.specs.declared.reasons.Why.{Why}
 use Rattle.tc_base.specs.declared.reasons.Why.TheVariants.{N35, N37, N38, N39, N40, N41, N42}
 use Rattle.tc_model.specs.Names.{ExpandedName}
-use Rattle.tc_model.specs.RawTrees.{Attribute, Bound, RawTrees}
+use Rattle.tc_model.specs.RawTrees.{Attribute, Bound}
 use Rattle.tc_model.specs.Seen.{name, place, attribute}
 use Rattle.tc_model.specs.Sheets.{Path, no_alternative}
 use Rattle.tc_model.specs.XmlTextNames.{QualifiedName, QNameAt}
 use Rattle.tc_model.specs.XmlTextScopes.{uri_of, is_empty, ElementName, bound, unbound}
 use Rattle.tc_model.specs.PathTextTokens.{Token, IsTooDeep}
 use Rattle.tc_model.specs.PathTextPhrases as p
-use Rattle.tc_model.specs.PathText.{Forms, SelectText, AttributesText}
+use Rattle.tc_model.specs.PathText.{SelectText, AttributesText}
 use Rattle.tc_model.specs.SheetTextPhrases.{xsl_uri, IsXsl, value_of, NameText, ElementNameText, Optional, left_out, given, Required, is_given}
 use Rattle.tc_model.specs.declared.tree.RawAttr.{RawAttr}
 use Rattle.tc_model.specs.declared.tree.RawElem.{RawElem}
 use Rattle.tc_model.proofs.XmlTextPhrases.{qname_unique}
 use Rattle.tc_model.proofs.PathTextLexing.{tokens_unique}
-use Rattle.tc_path.specs.Faults.{Deep}
 use Rattle.tc_path.proofs.NodeTestLaws.{means_without, means_with, means_nothing}
 use Rattle.tc_path.proofs.TokenLaws.{no_length}
 use Rattle.tc_sheet.specs.Constructs.{IsRoot, plain}
 use Rattle.tc_sheet.specs.LookedAt.{IsAt, IsAnything, IsRefused}
 use Rattle.tc_sheet.specs.Constructs as constructs
-use Rattle.tc_sheet.specs.Changes.{Change, both, flattened, exchanged, ChangedAttributes}
+use Rattle.tc_sheet.specs.Changes.{Change, both, flattened, exchanged}
 use Rattle.tc_sheet.specs.Readings.{Refuses, alone, attributes_of, scope_of, IsAttribute, HasAttributesText, HasNoAttributes, HasNoRequired, HasNoOptional}
 use Rattle.tc_sheet.specs.declared.faults.SheetFault.{SheetFault}
 use Rattle.tc_sheet.proofs.Changes.{Becomes, value_becomes, kept_value}
 use Rattle.tc_sheet.proofs.SameBodies.{unpacked, optional_unpacked}
 use Rattle.tc_sheet.proofs.Refusals.{attribute_at}
 use Rattle.tc_sheet.proofs.Refused.{refused, no_required, by_required}
-use Rattle.tc_sheet.proofs.AttributeLaws.{plain_name, plain_name_is, xsl_name, bytes_same, differs}
+use Rattle.tc_sheet.proofs.AttributeLaws.{plain_name, xsl_name, bytes_same, differs}
 
 pub optional_none : {X : Type 0} (M : List ℕ → X → Type 0) (e : RawElem) (local : List ℕ) → value_of local (attributes_of e) ≡ None → Optional M (value_of local (attributes_of e)) None
 optional_none M e local f = subst (λ o. Optional M o None) (sym f) left_out

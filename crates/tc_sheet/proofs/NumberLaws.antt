@@ -1,8 +1,7 @@
 -- Instructions, branches and templates with their numbers.
-use Rattle.std.proofs.Common.{◌≡◌, ℕ, zero, suc, ◌+◌, ◌<◌, ◌≤◌, Bool, true, false, cond, not, List, [], ◌∷◌, ◌++◌, refl, ap, ◌∙◌, sym, subst, arith, Option, None, Some, option_map, is_some, length, map, flat_map, filter, get_or, drop, append-nil, append_assoc, if◌then◌else◌, position, Bor, Result, Ok, Err, IfOk}
+use Rattle.std.proofs.Common.{◌≡◌, ℕ, suc, ◌+◌, ◌<◌, ◌≤◌, Bool, true, false, cond, List, [], ◌∷◌, ◌++◌, refl, ap, ◌∙◌, sym, arith, Option, Some, option_map, length, map, flat_map, filter, get_or, drop, append-nil, append_assoc, if◌then◌else◌, position, Bor, Result, Ok, Err, IfOk}
 use Rattle.std.specs.List.{list_any}
 use Rattle.std.proofs.lemmas.List.{drop_more, drop_all}
-use Rattle.tc_base.specs.declared.Place.{Place}
 use Rattle.tc_model.specs.Names.{ExpandedName, same_name}
 use Rattle.tc_model.specs.Numbered.{number_of}
 use Rattle.tc_model.specs.Seen as see
@@ -11,24 +10,23 @@ use Rattle.tc_model.specs.Sheets as sheets
 use Rattle.tc_model.specs.Sheets.{Body, Branches}
 use Rattle.tc_model.specs.SheetTextTrees as s
 use Rattle.tc_model.specs.SheetTextTrees.{WrittenBody, WrittenBranches, makes_rules}
-use Rattle.tc_model.specs.SheetText.{eaches_in, eaches_in_branches, eaches_of, mode_number, numbered, numbered_branches, NumberedTemplate, first_eaches, one_name}
+use Rattle.tc_model.specs.SheetText.{eaches_in, eaches_in_branches, eaches_of, mode_number, numbered, numbered_branches, NumberedTemplate, first_eaches}
 use Rattle.tc_model.specs.declared.tree.Name.{Name}
-use Rattle.tc_model.specs.declared.sheet.Path.{Path}
 use Rattle.tc_model.specs.declared.sheet.Branch.{Branch}
 use Rattle.tc_model.specs.declared.sheet.Instr.{Instr}
 use Rattle.tc_model.specs.declared.sheet.Instr.TheVariants as i
 use Rattle.tc_model.proofs.ViewsBody as bodies
 use Rattle.tc_model.proofs.ViewsBody.{body_then, body_then_done, body_then_assoc, instruction_then, pushed_instruction, pushed_branch}
-use Rattle.tc_sheet.specs.Numbers.{eaches_with_rules, eaches_without, numbered_template, body_with, rules_with, named_with}
+use Rattle.tc_sheet.specs.Numbers.{eaches_with_rules, eaches_without, numbered_template, rules_with, named_with}
 use Rattle.tc_sheet.specs.Graphs.{alone}
 use Rattle.tc_sheet.specs.Seen.{written, body, branches, branches_of, template}
 use Rattle.tc_sheet.specs.declared.written.WrittenBranch.{WrittenBranch}
 use Rattle.tc_sheet.specs.declared.written.Written.{Written}
 use Rattle.tc_sheet.specs.declared.written.Written.TheVariants as v
 use Rattle.tc_sheet.specs.declared.written.Template.{Template}
-use Rattle.tc_sheet.proofs.ViewsWritten.{see_text, see_elem, see_copy, see_apply, see_call, see_value_of, see_value_of_self, see_choose, see_for_each, left_written}
+use Rattle.tc_sheet.proofs.ViewsWritten.{see_choose, left_written}
 use Rattle.tc_sheet.proofs.WrittenParts.{choose_eaches, next_branch, eaches_step, eaches_branch, no_body_left}
-use Rattle.tc_sheet.proofs.TableKeys.{same_key, found_at, place_of_key, any_seen, number_past, not_listed}
+use Rattle.tc_sheet.proofs.TableKeys.{same_key, found_at, any_seen, number_past}
 
 module _ (modes names : List ExpandedName) where
   abbrev put : ℕ → WrittenBody → Body

@@ -1,5 +1,5 @@
 -- Paths, patterns and tests have no variable references, literals and numbers, so that renaming changes none of them.
-use Rattle.std.proofs.Common.{◌≡◌, ◌⊎◌, inl, inr, ℕ, Bool, List, [], ◌∷◌, refl, ap, ◌∙◌, sym, subst}
+use Rattle.std.proofs.Common.{◌≡◌, Bool, List, [], ◌∷◌, refl, ap}
 use Rattle.tc_model.specs.RawTrees.{Bound}
 use Rattle.tc_model.specs.Sheets.{NodeTest, Steps, Path, Test, Tests, Body}
 use Rattle.tc_model.specs.PathTextTokens.{Token, name, all_of_prefix, mark, number, literal, variable}

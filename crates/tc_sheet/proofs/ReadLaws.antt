@@ -1,12 +1,11 @@
 -- Instructions that are read.
-use Rattle.std.proofs.Common.{◌≡◌, ◌≢◌, ◌⊎◌, inl, inr, ℕ, List, [], ◌∷◌, ◌++◌, refl, ap, ◌∙◌, sym, subst, Option, None, Some, option_map, Bor}
+use Rattle.std.proofs.Common.{◌≡◌, ◌⊎◌, inl, inr, ℕ, List, [], ◌∷◌, ◌++◌, refl, ap, ◌∙◌, sym, subst, Option, option_map, Bor}
 use Rattle.std.specs.Prelude.{codes}
-use Rattle.tc_model.specs.Names.{ExpandedName}
-use Rattle.tc_model.specs.RawTrees.{Attribute, Bound, RawTrees, none}
-use Rattle.tc_model.specs.Seen.{name, place, path, test, instruction, raw_trees, raw_element}
+use Rattle.tc_model.specs.RawTrees.{Bound}
+use Rattle.tc_model.specs.Seen.{name, path, test, instruction, raw_trees}
 use Rattle.tc_model.specs.Sheets as s
 use Rattle.tc_model.specs.PathTextTokens.{Token}
-use Rattle.tc_model.specs.PathText.{SelectText, ValueText, TestText, IsValue, of_self, of_path}
+use Rattle.tc_model.specs.PathText.{SelectText, ValueText, IsValue, of_self, of_path}
 use Rattle.tc_model.specs.SheetTextTrees as t
 use Rattle.tc_model.specs.SheetTextTrees.{WrittenBody}
 use Rattle.tc_model.specs.SheetTextPhrases as p

@@ -1,13 +1,12 @@
 -- What a fault of a part of a tree says of the whole.
-use Rattle.std.proofs.Common.{◌≡◌, ◌⊎◌, inl, inr, ℕ, List, ◌∷◌, refl, ap, ◌∙◌, sym, subst, Option, None, Some, IsTrue, bytes_eq, map, Contains}
-use Rattle.std.specs.List.{list_any}
+use Rattle.std.proofs.Common.{◌≡◌, ◌⊎◌, inl, inr, ℕ, List, refl, sym, subst, Option, Some, Contains}
 use Rattle.tc_base.specs.declared.reasons.Why.{Why}
 use Rattle.tc_model.specs.Names.{ExpandedName}
 use Rattle.tc_model.specs.RawTrees.{Attribute, Bound, RawTrees, none, text, element}
 use Rattle.tc_model.specs.Seen.{name, place, attribute, raw_element}
 use Rattle.tc_model.specs.PathTextTokens.{Token, IsTooDeep}
 use Rattle.tc_model.specs.PathText.{Forms}
-use Rattle.tc_model.specs.SheetTextPhrases.{tag, value_of, Optional, left_out, given, Required, is_given}
+use Rattle.tc_model.specs.SheetTextPhrases.{tag, value_of, Optional, Required}
 use Rattle.tc_model.specs.declared.tree.RawAttr.{RawAttr}
 use Rattle.tc_model.specs.declared.tree.RawElem.{RawElem}
 use Rattle.tc_model.proofs.PathTextLexing.{tokens_unique}
@@ -19,7 +18,7 @@ use Rattle.tc_sheet.specs.Constructs.{Form, context_of, HasForm, MustHave, plain
 use Rattle.tc_sheet.specs.LookedAt.{Where, Item, of_text, of_element, of_attribute, IsOpened, IsIn, IsAt, IsAnything, IsRefused, IsDeep}
 use Rattle.tc_sheet.specs.LookedAt as looked
 use Rattle.tc_sheet.specs.Seen.{tag_of}
-use Rattle.tc_sheet.specs.Changes.{Change, mended, flattened, both, Exchanges, IsRenamed, exchanged, ChangedAttributes}
+use Rattle.tc_sheet.specs.Changes.{Change, mended, flattened, both, Exchanges, IsRenamed}
 use Rattle.tc_sheet.specs.PathFaults.{path_fault_at}
 use Rattle.tc_sheet.specs.Readings.{Refuses, IsOfTag, itself, attribute_of, alone, attributes_of, scope_of, IsAttribute, HasNoRequired, HasNoOptional}
 use Rattle.tc_sheet.specs.declared.faults.SheetFault.{SheetFault}

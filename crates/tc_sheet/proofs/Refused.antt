@@ -1,14 +1,12 @@
 -- What stands in a tree, and what no change of it is.
 use Rattle.std.proofs.Common.{◌≡◌, ℕ, List, refl, subst, sym, Option, Some, Result, Ok, Err, IfErr}
 use Rattle.std.specs.Prelude.{IsErrAnd}
-use Rattle.tc_base.specs.declared.reasons.Why.{Why}
 use Rattle.tc_model.specs.RawTrees.{Attribute}
-use Rattle.tc_model.specs.Seen.{place}
 use Rattle.tc_model.specs.SheetTextPhrases.{value_of, Required, is_given, Optional}
 use Rattle.tc_model.specs.declared.tree.RawElem.{RawElem}
-use Rattle.tc_sheet.specs.Changes.{Change, both, flattened, ChangedAttributes}
+use Rattle.tc_sheet.specs.Changes.{Change, both, flattened}
 use Rattle.tc_sheet.specs.LookedAt.{Item}
-use Rattle.tc_sheet.specs.Readings.{Refuses, IsFaultOf, attributes_of, HasNoAttributes, HasNoRequired, HasNoOptional}
+use Rattle.tc_sheet.specs.Readings.{Refuses, IsFaultOf, HasNoAttributes, HasNoRequired, HasNoOptional}
 use Rattle.tc_sheet.specs.declared.faults.SheetFault.{SheetFault}
 use Rattle.tc_sheet.specs.declared.faults.SheetFault.TheVariants.{Malformed, Unsupported, TooDeep, Undefined, CallLoop, NoMemory}
 use Rattle.tc_sheet.proofs.Refusals.{covers_itself, lifted}

@@ -1,19 +1,18 @@
 -- A body that is read and one that is changed from it are the same, if both are bodies. So are templates.
-use Rattle.std.proofs.Common.{◌≡◌, ◌≢◌, ◌⊎◌, inl, inr, ℕ, ℤ, Bool, true, false, ◌&&◌, ◌||◌, List, [], ◌∷◌, ◌++◌, refl, ap, ◌∙◌, sym, subst, Option, None, Some, IsTrue, IsFalse, bytes_eq, if◌then◌else◌}
+use Rattle.std.proofs.Common.{◌≡◌, ◌≢◌, ◌⊎◌, inl, inr, ℕ, ℤ, Bool, true, false, List, [], ◌∷◌, ◌++◌, refl, ap, ◌∙◌, sym, subst, Option, None, Some, IsTrue, IsFalse, bytes_eq, if◌then◌else◌}
 use Rattle.std.specs.Prelude.{codes}
 use Rattle.std.specs.List.{list_any}
-use Rattle.std.proofs.lemmas.Bool.{true≢false, false≢true}
+use Rattle.std.proofs.lemmas.Bool.{true≢false}
 use Rattle.std.proofs.lemmas.Slice.Eq.{bytes_eq-Decides}
-use Rattle.tc_base.specs.declared.reasons.Why.{Why}
 use Rattle.tc_model.specs.Names.{ExpandedName}
-use Rattle.tc_model.specs.RawTrees.{Attribute, Bound, RawTrees, none, text, element, IsOneElement}
+use Rattle.tc_model.specs.RawTrees.{Attribute, Bound, RawTrees, IsOneElement}
 use Rattle.tc_model.specs.XmlTextScopes.{ElementName}
 use Rattle.tc_model.specs.Sheets.{Path, Test, Body, no_instruction, value, value_of_self}
 use Rattle.tc_model.specs.PathTextTokens.{Token}
 use Rattle.tc_model.specs.PathTextPhrases.{NameMeans, Alternative}
 use Rattle.tc_model.specs.PathTextPriority.{PriorityText}
-use Rattle.tc_model.specs.PathText.{Forms, IsSelect, IsValue, IsTest, IsPattern, SelectText, ValueText, TestText, PatternText}
-use Rattle.tc_model.specs.SheetTextTrees.{WrittenBody, w_nothing, w_text, w_element, w_copy, w_apply, w_call, w_value, w_self, w_choose, w_each, WrittenBranches, w_otherwise, w_branch, Template}
+use Rattle.tc_model.specs.PathText.{Forms, SelectText, ValueText, TestText, PatternText}
+use Rattle.tc_model.specs.SheetTextTrees.{WrittenBody, w_nothing, w_text, w_element, w_copy, w_apply, w_call, w_value, w_choose, w_each, WrittenBranches, w_otherwise, w_branch, Template}
 use Rattle.tc_model.specs.SheetTextPhrases as p
 use Rattle.tc_model.specs.SheetTextPhrases.{xsl_uri, IsXsl, value_of, IsBlank, AreCharacters, no_characters, characters, NameText, ElementNameText, Optional, left_out, given, Required, is_given, or_all_children, with_priority, or_none, Tag, tag, IsTag, Instruction, instruction_of, IsBody, IsInstruction, AreBranches, IsTemplate, AreTemplates, IsStylesheet}
 use Rattle.tc_model.proofs.XmlTextPhrases.{qname_unique}

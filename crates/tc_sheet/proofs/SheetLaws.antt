@@ -1,12 +1,10 @@
 -- What is said of a whole stylesheet and its faults.
-use Rattle.std.proofs.Common.{◌≡◌, ◌⊎◌, inl, inr, ℕ, Bool, true, false, ◌||◌, List, [], ◌∷◌, ◌++◌, refl, ap, ◌∙◌, sym, subst, Option, None, Some, All, Contains, if◌then◌else◌, arith}
-use Rattle.std.specs.Prelude.{filter, flat_map, is_some}
+use Rattle.std.proofs.Common.{◌≡◌, inl, inr, ℕ, Bool, true, false, ◌||◌, List, [], ◌∷◌, ◌++◌, refl, ap, ◌∙◌, sym, subst, Option, None, Some, All, Contains, if◌then◌else◌, arith}
+use Rattle.std.specs.Prelude.{filter, is_some}
 use Rattle.std.specs.List.{IsDistinct}
-use Rattle.std.proofs.lemmas.Bool.{true≢false}
 use Rattle.std.proofs.lemmas.List.Elements.{All-cons, All-contains, Contains-append_right}
-use Rattle.tc_base.specs.declared.reasons.Why.{Why}
 use Rattle.tc_model.specs.Names.{ExpandedName, same_name}
-use Rattle.tc_model.specs.RawTrees.{Attribute, Bound, RawTrees, none, text, element}
+use Rattle.tc_model.specs.RawTrees.{Attribute, RawTrees, element}
 use Rattle.tc_model.specs.Seen.{place}
 use Rattle.tc_model.specs.Sheets.{Sheet}
 use Rattle.tc_model.specs.SheetTextTrees.{Template, makes_rules, is_used}

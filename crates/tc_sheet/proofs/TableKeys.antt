@@ -1,14 +1,14 @@
 -- What a set of names holds, and which number it gives to each.
-use Rattle.std.proofs.Common.{◌≡◌, ℕ, zero, suc, ◌+◌, ◌<◌, ◌≤◌, Bool, true, false, cond, not, ◌||◌, ◌&&◌, List, [], ◌∷◌, ◌++◌, refl, ap, ◌∙◌, sym, subst, arith, Option, None, Some, option_map, is_some, length, map, get_or, take, drop, append-nil, append_assoc, if◌then◌else◌, true≢false, position, bytes_eq, Contains, Result, Ok, Err, flat_map, All, IfErr, IsErrAnd}
+use Rattle.std.proofs.Common.{◌≡◌, ℕ, zero, suc, ◌+◌, ◌<◌, ◌≤◌, Bool, true, false, cond, not, ◌||◌, List, [], ◌∷◌, ◌++◌, refl, ap, ◌∙◌, sym, subst, arith, Option, None, Some, option_map, is_some, length, map, get_or, take, drop, append-nil, append_assoc, if◌then◌else◌, true≢false, position, Contains, Result, Ok, Err, flat_map, All, IfErr, IsErrAnd}
 use Rattle.std.specs.Prelude.{nat_lt}
-use Rattle.std.specs.List.{AllByRecursion, IsDistinct, list_any, prefix_len, position_or_len}
+use Rattle.std.specs.List.{AllByRecursion, IsDistinct, list_any, position_or_len}
 use Rattle.std.proofs.lemmas.List.{map-append, drop_more, drop_all, take-append-drop, append_cancel_right}
 use Rattle.std.proofs.lemmas.Grind.{flat_map-append}
 use Rattle.indexmap.specs.IndexSet.{insert_key}
 use Rattle.tc_model.specs.Names.{ExpandedName, same_name}
-use Rattle.tc_model.specs.Numbered.{each_once_after, number_of}
-use Rattle.tc_model.specs.Seen.{name, place}
-use Rattle.tc_model.specs.SheetText.{one_name, names_of, modes_of}
+use Rattle.tc_model.specs.Numbered.{number_of}
+use Rattle.tc_model.specs.Seen.{name}
+use Rattle.tc_model.specs.SheetText.{one_name, names_of}
 use Rattle.tc_model.specs.SheetTextTrees as s
 use Rattle.tc_model.specs.declared.tree.Name.{Name}
 use Rattle.tc_sheet.specs.Seen.{template}

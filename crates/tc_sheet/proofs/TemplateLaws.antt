@@ -1,34 +1,33 @@
 -- What stands at the top of a stylesheet, and what no change of it is.
-use Rattle.std.proofs.Common.{◌≡◌, ◌≢◌, ◌⊎◌, inl, inr, ℕ, ℤ, Bool, true, false, not, ◌&&◌, ◌||◌, List, [], ◌∷◌, ◌++◌, refl, ap, ◌∙◌, sym, subst, Option, None, Some, IsTrue, IsFalse, option_map, map, Contains, Result, Ok, Err, IfOk, IfErr, Bor, bytes_eq}
+use Rattle.std.proofs.Common.{◌≡◌, ◌≢◌, ◌⊎◌, inl, inr, ℕ, Bool, true, false, not, ◌&&◌, ◌||◌, List, [], ◌∷◌, ◌++◌, refl, ap, ◌∙◌, sym, subst, Option, None, Some, IsTrue, IsFalse, option_map, map, Contains, Result, Ok, Err, IfOk, IfErr, Bor, bytes_eq}
 use Rattle.std.specs.Prelude.{codes, is_some}
 use Rattle.std.specs.List.{list_any}
 use Rattle.std.proofs.lemmas.Bool.{true≢false, false≢true}
 use Rattle.tc_base.specs.declared.reasons.Why.{Why}
 use Rattle.tc_base.specs.declared.reasons.Why.TheVariants.{N36}
-use Rattle.tc_model.specs.Names.{ExpandedName, same_name}
+use Rattle.tc_model.specs.Names.{ExpandedName}
 use Rattle.tc_model.specs.RawTrees.{Attribute, Bound, RawTrees, none, text, element}
 use Rattle.tc_model.specs.Trees.{is_all_white}
-use Rattle.tc_model.specs.Seen.{name, place, raw_trees, raw_before, raw_element}
+use Rattle.tc_model.specs.Seen.{name, raw_trees, raw_before, raw_element}
 use Rattle.tc_model.specs.PathTextPhrases.{Alternative}
 use Rattle.tc_model.specs.PathText.{PatternText}
 use Rattle.tc_model.specs.PathTextPriority.{PriorityText}
-use Rattle.tc_model.specs.SheetTextTrees.{WrittenBody, Template}
+use Rattle.tc_model.specs.SheetTextTrees.{Template}
 use Rattle.tc_model.specs.SheetTextPhrases as p
 use Rattle.tc_model.specs.SheetTextPhrases.{xsl_uri, IsXsl, value_of, HasOnly, NameText, Optional, Tag, tag, IsTag, IsBody, with_priority, or_none, IsTemplate, AreTemplates, IsStylesheet}
-use Rattle.tc_model.specs.SheetText.{names_of}
 use Rattle.tc_model.specs.declared.tree.Raw.{Raw}
 use Rattle.tc_model.specs.declared.tree.RawElem.{RawElem}
 use Rattle.tc_sheet.specs.Constructs.{IsRoot, IsDeclaration, IsRefusedElement, of_reason, unknown, reason_of, parts}
 use Rattle.tc_sheet.specs.LookedAt.{at_top, in_body, Item, of_root, of_element, of_attribute, place_of, IsIn, IsLookedAt, IsAt, IsAnything}
 use Rattle.tc_sheet.specs.LookedAt as looked
-use Rattle.tc_sheet.specs.Changes.{Change, mended, flattened, both, TakesAway, ChangedAttributes, Changed, no_tree, a_text, an_element, taken_away}
+use Rattle.tc_sheet.specs.Changes.{Change, mended, flattened, both, ChangedAttributes, Changed, no_tree, a_text, an_element, taken_away}
 use Rattle.tc_sheet.specs.Faults.{IsCause, IsNoneWith, IsNoFaultOfCalls}
-use Rattle.tc_sheet.specs.Readings.{Refuses, IsOfTag, itself, attribute_of, IsMisplaced, alone, attributes_of, scope_of, tag_with, HasNoAttributes, HasNoOptional, HasNoBody, HasNoTemplate, HasNoTemplates, IsTopItem, HasNoTopItem, IsTopElement, HasNoTopElement}
+use Rattle.tc_sheet.specs.Readings.{Refuses, IsOfTag, itself, attribute_of, IsMisplaced, alone, attributes_of, scope_of, HasNoAttributes, HasNoOptional, HasNoBody, HasNoTemplate, HasNoTemplates, IsTopItem, HasNoTopItem, IsTopElement, HasNoTopElement}
 use Rattle.tc_sheet.specs.Seen.{tag_of, put_template, template}
 use Rattle.tc_sheet.specs.declared.written.Template.{Template as Code}
 use Rattle.tc_sheet.specs.declared.faults.SheetFault.{SheetFault}
 use Rattle.tc_sheet.specs.declared.faults.SheetFault.TheVariants.{Malformed, Unsupported, TooDeep, Undefined, CallLoop, NoMemory}
-use Rattle.tc_sheet.proofs.SameBodies.{xsl_reason, literal_reason, not_taken, no_declaration, declared_uri, declared_reason, uri_is, pattern_same, names_same}
+use Rattle.tc_sheet.proofs.SameBodies.{xsl_reason, literal_reason, not_taken, no_declaration, declared_reason, uri_is, pattern_same, names_same}
 use Rattle.tc_sheet.proofs.Refusals.{Covers, lifted, covers_itself, both_cover, covers_tag, covers_kids, text_at}
 use Rattle.tc_sheet.proofs.BodyLaws.{by_element, misplaced_is, Shape, is_elem, is_text, shape, covers_behind, covers_first}
 

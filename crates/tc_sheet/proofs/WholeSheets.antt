@@ -8,14 +8,13 @@ use Rattle.tc_model.specs.Seen.{raw_tree, raw_element, sheet}
 use Rattle.tc_model.specs.Sheets.{Sheet}
 use Rattle.tc_model.specs.SheetTextTrees.{Template, is_used}
 use Rattle.tc_model.specs.SheetTextPhrases.{IsStylesheet}
-use Rattle.tc_model.specs.SheetText.{names_of, sheet_of, calls_of, IsDefined, IsLoop, SheetText, SheetFails, undefined, call_loop}
+use Rattle.tc_model.specs.SheetText.{names_of, sheet_of, calls_of, IsDefined, IsLoop, SheetText}
 use Rattle.tc_model.specs.declared.sheet.Sheet.{Sheet as Code}
 use Rattle.tc_model.specs.declared.tree.Raw.{Raw}
 use Rattle.tc_model.specs.declared.tree.Raw.TheVariants.{Elem, Text}
 use Rattle.tc_model.specs.declared.tree.RawElem.{RawElem}
 use Rattle.tc_model.proofs.ViewsRaw.{before_elem, before_text}
-use Rattle.tc_sheet.specs.Changes.{mended, flattened, Changed}
-use Rattle.tc_sheet.specs.Faults.{IsCause, IsUnsupported, IsTooDeep, IsUndefinedAt, IsLoopAt, IsNoFaultOfCalls}
+use Rattle.tc_sheet.specs.Faults.{IsCause, IsNoFaultOfCalls}
 use Rattle.tc_sheet.specs.Graphs.{IsCallFault}
 use Rattle.tc_sheet.specs.Tables.{IsTwice}
 use Rattle.tc_sheet.specs.declared.faults.SheetFault.{SheetFault}

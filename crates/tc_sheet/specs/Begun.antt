@@ -1,5 +1,5 @@
 -- What is known of an element of a body before what it holds is read.
-use Rattle.std.specs.Prelude.{◌≡◌, List, [], Some}
+use Rattle.std.specs.Prelude.{◌≡◌, [], Some}
 use Rattle.tc_model.specs.RawTrees.{RawTrees}
 use Rattle.tc_model.specs.Seen.{name, path, test, raw_trees, raw_element}
 use Rattle.tc_model.specs.SheetTextTrees.{WrittenBody, w_nothing, w_element, w_copy, w_each, w_choose, w_otherwise, w_branch}

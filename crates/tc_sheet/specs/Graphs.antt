@@ -1,5 +1,5 @@
 -- The calls of templates by numbers: where named templates lead, and which calls lead back to the template in which they stand.
-use Rattle.std.specs.Prelude.{◌≡◌, ℕ, ◌<◌, IfSome, List, [], ◌∷◌, map, flat_map, Bool, false, not, Option, None, Some, option_map, All, Contains, if◌then◌else◌}
+use Rattle.std.specs.Prelude.{◌≡◌, ℕ, ◌<◌, IfSome, List, [], ◌∷◌, map, flat_map, Bool, false, not, Option, None, Some, option_map, All, if◌then◌else◌}
 use Rattle.std.specs.List.{list_any}
 use Rattle.tc_graph.specs.Walks.{same_component, state_at}
 use Rattle.tc_graph.specs.declared.cycles.State.{State}

@@ -4,7 +4,7 @@ use Rattle.std.specs.Prelude.{◌≡◌, ◌≢◌, ◌&&◌, ℕ, List, Option,
 use Rattle.tc_base.specs.declared.reasons.Why.{Why}
 use Rattle.tc_base.specs.declared.reasons.Why.TheVariants.{N36}
 use Rattle.tc_model.specs.Names.{ExpandedName}
-use Rattle.tc_model.specs.RawTrees.{Attribute, Bound, RawTrees, none, text, element}
+use Rattle.tc_model.specs.RawTrees.{Attribute, Bound, RawTrees, text, element}
 use Rattle.tc_model.specs.SheetTextPhrases.{xsl_uri, IsXsl, Tag, tag, Instruction, i_apply, i_call, i_value, i_each, i_if, i_choose, i_text, i_copy, i_element, i_attribute, i_copy_of, instruction_of}
 use Rattle.tc_path.specs.Faults.{Deep}
 use Rattle.tc_sheet.specs.Constructs.{IsRoot, Form, MustHave, IsRefusedAttribute, IsRefusedElement}

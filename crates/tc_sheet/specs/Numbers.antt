@@ -1,13 +1,13 @@
 -- Templates with numbers for modes, named templates and for-eaches, by the lists of modes and names.
 use Rattle.std.specs.Borrow.{Bor}
-use Rattle.std.specs.Prelude.{ℕ, ◌+◌, List, [], ◌∷◌, map, if◌then◌else◌}
+use Rattle.std.specs.Prelude.{ℕ, List, map, if◌then◌else◌}
 use Rattle.tc_model.specs.Names.{ExpandedName}
 use Rattle.tc_model.specs.PathTextPhrases.{Alternative}
 use Rattle.tc_model.specs.Seen.{body}
 use Rattle.tc_model.specs.Sheets.{Body, Rule}
 use Rattle.tc_model.specs.declared.sheet.Instr.{Instr}
 use Rattle.tc_model.specs.SheetTextTrees.{Template, makes_rules}
-use Rattle.tc_model.specs.SheetText.{NumberedTemplate, eaches_in, eaches_of, mode_number, numbered, one_name}
+use Rattle.tc_model.specs.SheetText.{NumberedTemplate, eaches_in, mode_number, numbered, one_name}
 
 -- bodies in an arena
 abbrev pub bodies : List (Bor (List Instr)) → List Body

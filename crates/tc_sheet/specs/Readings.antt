@@ -1,6 +1,6 @@
 -- What the functions that read a stylesheet find in its tree.
 use Rattle.std.specs.Prelude.{◌≡◌, ℕ, List, [], ◌∷◌, map, Option, None, Some, Contains, codes}
-use Rattle.tc_model.specs.RawTrees.{Attribute, Bound, RawTrees, none, element}
+use Rattle.tc_model.specs.RawTrees.{Attribute, Bound, RawTrees, element}
 use Rattle.tc_model.specs.Seen.{name, place, attribute, bound, raw_trees, raw_before}
 use Rattle.tc_model.specs.Sheets.{Test}
 use Rattle.tc_model.specs.SheetTextTrees.{WrittenBody, WrittenBranches, Template}

@@ -1,4 +1,4 @@
-use Rattle.std.proofs.Common.{◌≡◌, map, drop}
+use Rattle.std.proofs.Common.{map, drop}
 use Rattle.tc_model.specs.Seen.{attribute}
 use Rattle.tc_model.specs.SheetTextPhrases.{AreLiteral}
 use Rattle.tc_sheet.proofs.attributes.literal.Given as goal

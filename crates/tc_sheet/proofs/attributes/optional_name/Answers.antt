@@ -1,5 +1,5 @@
 use Rattle.tc_model.specs.SheetTextPhrases.{NameText}
-use Rattle.tc_sheet.specs.Readings.{Refuses, alone, scope_of, attributes_of, HasNoRequired, HasNoOptional, HasNoAttributes}
+use Rattle.tc_sheet.specs.Readings.{scope_of}
 use Rattle.tc_sheet.proofs.NameLaws.{optional_none, optional_some, optional_malformed}
 use Rattle.tc_sheet.proofs.attributes.optional_name.Goals as goal
 

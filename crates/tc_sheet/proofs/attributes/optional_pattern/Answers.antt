@@ -1,8 +1,8 @@
-use Rattle.std.proofs.Common.{subst, sym, refl}
+use Rattle.std.proofs.Common.{subst, sym}
 use Rattle.std.specs.Prelude.{codes}
 use Rattle.tc_sheet.specs.Constructs as forms
 use Rattle.tc_model.specs.PathText.{PatternText, IsPattern}
-use Rattle.tc_sheet.specs.Readings.{Refuses, alone, scope_of, attributes_of, HasNoRequired, HasNoOptional, HasNoAttributes}
+use Rattle.tc_sheet.specs.Readings.{Refuses, alone, scope_of, HasNoOptional}
 use Rattle.tc_sheet.proofs.NameLaws.{optional_none, optional_some}
 use Rattle.tc_sheet.proofs.Refusals.{path_refused_optional}
 use Rattle.tc_sheet.specs.Constructs.{of_match}

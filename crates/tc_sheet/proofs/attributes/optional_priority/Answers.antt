@@ -1,5 +1,5 @@
 use Rattle.std.specs.Prelude.{codes}
-use Rattle.std.proofs.Common.{refl, sym}
+use Rattle.std.proofs.Common.{refl}
 use Rattle.tc_model.specs.PathTextPriority.{PriorityText}
 use Rattle.tc_sheet.proofs.NameLaws.{optional_none, optional_read, none_read, optional_malformed}
 use Rattle.tc_sheet.proofs.attributes.optional_priority.Goals as goal

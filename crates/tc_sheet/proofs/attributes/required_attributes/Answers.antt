@@ -1,13 +1,12 @@
 use Rattle.tc_sheet.specs.PathFaults.{path_fault_at}
-use Rattle.std.proofs.Common.{MatchBool, Bool}
+use Rattle.std.proofs.Common.{MatchBool}
 use Rattle.tc_model.specs.Seen.{attribute}
 use Rattle.tc_sheet.specs.Readings.{HasAttributesText}
-use Rattle.std.proofs.Common.{subst, sym, refl}
+use Rattle.std.proofs.Common.{subst, sym}
 use Rattle.std.specs.Prelude.{codes}
 use Rattle.tc_sheet.specs.Constructs as forms
-use Rattle.tc_model.specs.PathText.{SelectText, IsSelect, AttributesText}
-use Rattle.tc_sheet.proofs.Refused.{handed_on}
-use Rattle.tc_sheet.specs.Readings.{Refuses, alone, scope_of, attributes_of, HasNoRequired, HasNoOptional, HasNoAttributes}
+use Rattle.tc_model.specs.PathText.{IsSelect, AttributesText}
+use Rattle.tc_sheet.specs.Readings.{Refuses, alone, scope_of, HasNoAttributes}
 use Rattle.tc_sheet.proofs.NameLaws.{attributes_refused, not_attributes}
 use Rattle.tc_sheet.proofs.Refusals.{path_refused}
 use Rattle.tc_sheet.specs.Constructs.{of_copy}

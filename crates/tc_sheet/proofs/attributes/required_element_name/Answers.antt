@@ -1,8 +1,8 @@
-use Rattle.std.proofs.Common.{subst, sym, refl}
+use Rattle.std.proofs.Common.{refl}
 use Rattle.std.specs.Prelude.{codes}
 use Rattle.tc_model.specs.SheetTextPhrases.{ElementNameText}
 use Rattle.tc_sheet.proofs.Refused.{handed_on}
-use Rattle.tc_sheet.specs.Readings.{Refuses, alone, scope_of, attributes_of, HasNoRequired, HasNoOptional, HasNoAttributes}
+use Rattle.tc_sheet.specs.Readings.{scope_of}
 use Rattle.tc_sheet.proofs.NameLaws.{required_refuses, required_one, required_malformed, required_unsupported, computed_name}
 use Rattle.tc_sheet.proofs.attributes.required_element_name.Goals as goal
 

@@ -1,9 +1,9 @@
-use Rattle.std.proofs.Common.{subst, sym, refl}
+use Rattle.std.proofs.Common.{subst, sym}
 use Rattle.std.specs.Prelude.{codes}
 use Rattle.tc_sheet.specs.Constructs as forms
 use Rattle.tc_model.specs.PathText.{ValueText, IsValue}
 use Rattle.tc_sheet.proofs.Refused.{handed_on}
-use Rattle.tc_sheet.specs.Readings.{Refuses, alone, scope_of, attributes_of, HasNoRequired, HasNoOptional, HasNoAttributes}
+use Rattle.tc_sheet.specs.Readings.{Refuses, alone, scope_of, HasNoRequired}
 use Rattle.tc_sheet.proofs.NameLaws.{required_refuses, required_one}
 use Rattle.tc_sheet.proofs.Refusals.{path_refused}
 use Rattle.tc_sheet.proofs.attributes.required_value.Goals as goal

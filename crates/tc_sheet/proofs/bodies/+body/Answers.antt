@@ -2,7 +2,7 @@ use Rattle.tc_model.specs.SheetTextPhrases.{IsBody, AreBranches}
 use Rattle.std.proofs.Common.{ap, ◌∙◌, sym, subst, ◌+◌, drop}
 use Rattle.std.proofs.lemmas.List.{at_drop_all}
 use Rattle.tc_model.specs.Seen.{name, place, raw_trees, raw_before, raw_element}
-use Rattle.tc_model.specs.SheetTextTrees.{w_nothing, w_otherwise}
+use Rattle.tc_model.specs.SheetTextTrees.{w_otherwise}
 use Rattle.tc_model.specs.declared.tree.Raw.{Raw}
 use Rattle.tc_model.specs.RawTrees.{none}
 use Rattle.tc_sheet.specs.LookedAt.{in_body, in_choose, IsIn}

@@ -1,4 +1,4 @@
-use Rattle.std.proofs.Common.{◌≡◌, ◌++◌, drop, take, map}
+use Rattle.std.proofs.Common.{◌≡◌, ◌++◌, drop, map}
 use Rattle.tc_graph.specs.Graph.{rows_of}
 use Rattle.tc_sheet.specs.Graphs.{callees, numbered_calls, first_undefined, all_calls}
 use Rattle.tc_sheet.specs.Seen.{template}

@@ -1,8 +1,7 @@
-use Rattle.tc_model.specs.Seen.{name}
 use Rattle.tc_sheet.specs.Seen.{template}
 use Rattle.tc_sheet.specs.SeenCalls.{names_seen}
-use Rattle.tc_sheet.specs.Tables.{IsAgain, IsTwice}
-use Rattle.std.proofs.Common.{map, get_or, ◌++◌, ap}
+use Rattle.tc_sheet.specs.Tables.{IsTwice}
+use Rattle.std.proofs.Common.{map, ◌++◌, ap}
 use Rattle.tc_model.specs.SheetText as model
 use Rattle.tc_sheet.proofs.TableKeys.{again_twice, handed, distinct_nothing, no_keys}
 use Rattle.tc_sheet.proofs.tables.names_of.Goals as goal

@@ -1,6 +1,6 @@
 use Rattle.tc_sheet.proofs.Refused.{handed_on}
 use Rattle.tc_sheet.proofs.TemplateLaws.{root_only_refuses, root_version_refuses, no_call, stylesheet_ok, stylesheet_no, stylesheet_calls}
-use Rattle.tc_sheet.specs.Readings.{alone, HasNoAttributes}
+use Rattle.tc_sheet.specs.Readings.{alone}
 use Rattle.tc_sheet.proofs.templates.stylesheet.Goals as goal
 
 pub returns-in_err-only-clause-no : goal.returns-in_err-only-clause-no
