@@ -27,6 +27,9 @@ use Rattle.tc_simple.proofs.Reaching.{edge_in, edge_out, start_below, leads_belo
 no_value : {X Y : Type 0} {x : X} → None ≡ Some x → Y
 no_value e = absurd (some_none e refl)
 
+done_is : {c d : ℕ} → Done c ≡ Done d → c ≡ d
+done_is e = cc
+
 module _ (s : Syntax) (t : Table) (start : ℕ) (marks : List Bool) (states : List State) (order : List ℕ) (r : Resolves s t start marks states order) where
   abbrev open_rows : List (List ℕ)
   open_rows = link_rows t false
