@@ -1,12 +1,12 @@
 -- The numbers of states are in range.
-use Rattle.std.proofs.Common.{◌≡◌, ℕ, zero, suc, ◌+◌, ◌<◌, ◌≤◌, List, [], ◌∷◌, ◌++◌, refl, ap, ◌∙◌, sym, subst, map, take, length, Option, Some, None, slice_get, arith}
+use Rattle.std.proofs.Common.{◌≡◌, ℕ, zero, suc, ◌+◌, ◌<◌, ◌≤◌, List, [], ◌∷◌, ◌++◌, refl, ap, sym, map, take, length, Some, None, slice_get, arith}
 use Rattle.std.proofs.lemmas.Option.{slice_get_within}
-use Rattle.tc_model.specs.Sheets.{Path, Sheet}
+use Rattle.tc_model.specs.Sheets.{Path}
 use Rattle.tc_model.specs.Numberings.{Move, moves_of, looks_of}
 use Rattle.tc_model.specs.PathStates.{State}
 use Rattle.tc_rules.specs.Graphs.{Graph}
 use Rattle.tc_rules.proofs.SelectStates.{count_cons}
-use Rattle.tc_rules.specs.Told.{Told, Block, blocks_of, count_states, select_count, move_count, IsStateOf}
+use Rattle.tc_rules.specs.Told.{Told, Block, count_states, select_count, move_count, IsStateOf}
 use Rattle.tc_run.specs.Tasks.{IsSomeMove, IsSomeLook}
 
 some_is : {X : Type 0} {a b : X} → Some a ≡ Some b → a ≡ b

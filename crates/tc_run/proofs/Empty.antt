@@ -1,11 +1,11 @@
 -- Where no item is left, nothing is selected any more.
-use Rattle.std.proofs.Common.{◌≡◌, ℕ, List, [], ◌∷◌, refl, ap, ◌∙◌, sym, subst, Bool, true, false, cond, not, ◌&&◌, ◌||◌, Option, Some, None}
+use Rattle.std.proofs.Common.{◌≡◌, List, [], ◌∷◌, refl, ap, ◌∙◌, Bool, true, false, cond, not, ◌&&◌, ◌||◌, Option, Some, None}
 use Rattle.std.specs.List.{list_any}
 use Rattle.tc_model.specs.Trees.{Trees, none, text, element}
 use Rattle.tc_model.specs.Chains.{an_element, a_text, Node, one}
 use Rattle.tc_model.specs.Sheets.{Steps, no_step, step, Path, no_alternative, alternative, Test, Rule, Plain}
-use Rattle.tc_model.specs.Outcomes.{Outcome, nothing, join, counted}
-use Rattle.tc_model.specs.Machine.{Task, or_else, first_hit, outputs, does_in}
+use Rattle.tc_model.specs.Outcomes.{Outcome, nothing, join}
+use Rattle.tc_model.specs.Machine.{Task, or_else, first_hit, outputs}
 use Rattle.tc_model.specs.Symbols.{Mention}
 use Rattle.tc_model.specs.Letters.{Letter, fits_letter}
 use Rattle.tc_model.specs.PathStates.{Items, State, is_empty_state, further, ends, next_state, is_hit}
