@@ -53,9 +53,6 @@ answers_within around x y (Ok v) a s = record { out = s.out; work = s.work; few 
 answers_within around x y (Err e) a p = passed_more e (x.work + a.work) (x.work + a.work) (around + 1 + a.nesting) (around + (a.nesting + 1)) (omega arith) (omega arith) p
 
 -- there is no room for one more
-pub fails_within : (around : ℕ) (x : Output) (a : Outcome) → 8000 < around + 1 → Fails around x TooOpen (within a)
-fails_within around x a h = omega (arith, h)
-
 pub fails_counted : (around : ℕ) (x : Output) (a : Outcome) → 8000 < around + 1 → Fails around x TooOpen (counted a)
 fails_counted around x a h = omega (arith, h)
 
