@@ -23,6 +23,7 @@ pub mod OfGraph
 pub mod RowEnds
 pub mod RowLoops
 pub mod SelectStates
+pub mod EmptyStates
 pub mod PathTold
 pub mod Built
 pub mod BestOf

@@ -1,5 +1,5 @@
 -- What the states of paths tell, over the symbols of any two schemas and a stylesheet.
-use Rattle.std.specs.Prelude.{◌≡◌, ◌⊎◌, ℕ, List, ◌∷◌, Option, None, Some, slice_get, Contains}
+use Rattle.std.specs.Prelude.{◌≡◌, ◌⊎◌, ℕ, List, ◌∷◌, true, false, Option, None, Some, slice_get, Contains}
 use Rattle.tc_model.specs.Trees.{Trees, none}
 use Rattle.tc_model.specs.Chains.{Tree, Chain, top, under}
 use Rattle.tc_model.specs.Grammars.{Grammar}
@@ -9,7 +9,7 @@ use Rattle.tc_model.specs.Meaning.{rule_of}
 use Rattle.tc_model.specs.Machine.{picks, IsMachineOf, IsSteady}
 use Rattle.tc_model.specs.Symbols.{Mention, symbols_of}
 use Rattle.tc_model.specs.Letters.{IsLetter, letter_of}
-use Rattle.tc_model.specs.PathStates.{State, first_state, next_state, is_hit, path_of_rules}
+use Rattle.tc_model.specs.PathStates.{State, is_empty_state, first_state, next_state, is_hit, path_of_rules}
 use Rattle.tc_model.specs.RuleStates.{IsRuleOf, fits_below}
 use Rattle.tc_model.specs.Numberings.{Move, moves_of, looks_of, predicates_of}
 use Rattle.tc_rules.specs.States.{AllUnfold, states}
@@ -33,6 +33,12 @@ StatesSelect =
     (input output : Grammar) (x : Sheet) (p : Path) → IsPathOf x p → (c : Chain) (t : Tree) (ts : List Tree)
     → any_along p c (t ∷ ts)
     ≡ picks (letter_of (symbols_of input output x) (predicates_of x)) (next_state (symbols_of input output x) (predicates_of x) p) (is_hit (symbols_of input output x) (predicates_of x) p) (first_state p) (t ∷ ts)
+
+-- a state without items selects nothing further down
+abbrev pub EmptySelectsNone : Type 0
+EmptySelectsNone =
+    (symbols : List Mention) (predicates : List Test) (p : Path) (x : State) (ts : List Tree) → is_empty_state x ≡ true
+    → picks (letter_of symbols predicates) (next_state symbols predicates p) (is_hit symbols predicates p) x ts ≡ false
 
 -- the rule of a number
 abbrev pub rule_numbered : List Rule → Option ℕ → Option Rule

@@ -5,12 +5,13 @@ use Rattle.tc_model.specs.Trees.{Trees}
 use Rattle.tc_model.specs.Safety.{IsSafe, IsCounterexample}
 use Rattle.tc_top.specs.FirstForm.{Schema, grammar_of, sheet_of}
 use Rattle.tc_top.specs.FirstText.{SchemaText, SheetText}
-use Rattle.tc_top.specs.Words.{Command, check, valid, Words, IsNoCommand, operands_of}
+use Rattle.tc_top.specs.Words.{Command, check, run, valid, Words, IsNoCommand, operands_of}
 use Rattle.tc_top.specs.Reading.{Reads, ReadsAll, StopsAt}
-use Rattle.tc_top.specs.Answers.{Answer, status_of, IsBuilt, other_input, other_output, other_sheet, Checks, is_other_form, is_safe, is_unsafe, Validates, IsAnswer, no_command, not_built, not_read, over_long, checked, validated}
+use Rattle.tc_top.specs.Answers.{Answer, status_of, IsBuilt, other_input, other_output, other_sheet, Checks, is_other_form, is_safe, is_unsafe, Validates, RunsTexts, IsAnswer, no_command, not_built, not_read, over_long, checked, validated, ran}
 use Rattle.tc_top.specs.declared.status.Status.TheVariants.{Usage, Refused, Limit, ReadFault}
 use Rattle.tc_top.proofs.OneCommand.{one_command}
 use Rattle.tc_top.proofs.OneValidity.{validates_one}
+use Rattle.tc_top.proofs.OneRun.{runs_texts_one}
 use Rattle.tc_top.proofs.FirstText.{schema_unique, sheet_unique, sheet_plain}
 use Rattle.tc_top.proofs.FirstLaws.{result_is}
 use Rattle.tc_model.specs.Validity.{IsValidOutput}
@@ -130,6 +131,7 @@ usage_only n (not_read w b s c) = absurd (n _ w)
 usage_only n (over_long w b s l) = absurd (n _ w)
 usage_only n (checked w p q r x) = absurd (n _ w)
 usage_only n (validated w p q x) = absurd (n _ w)
+usage_only n (ran w p q x) = absurd (n _ w)
 
 -- a command that isn't carried out is refused
 pub refused_only : {words : List (List ℕ)} {told : Option Files} {rose : Type 0} {answer : Answer} {command : Command} → Words words command → (IsBuilt command → ⊥)
@@ -140,6 +142,7 @@ refused_only w x (not_read v b s c) = absurd (x (subst IsBuilt (one_command v w)
 refused_only w x (over_long v b s l) = absurd (x (subst IsBuilt (one_command v w) b))
 refused_only w x (checked v p q r y) = absurd (x (subst IsBuilt (one_command v w) tt))
 refused_only w x (validated v p q y) = absurd (x (subst IsBuilt (one_command v w) tt))
+refused_only w x (ran v p q y) = absurd (x (subst IsBuilt (one_command v w) tt))
 
 -- a missing file is told
 missing_only : {words : List (List ℕ)} {files : Files} {rose : Type 0} {answer : Answer} {command : Command} {name : List ℕ} → Words words command → IsBuilt command
@@ -152,6 +155,7 @@ missing_only {words} {files} w b s m (over_long v b' s' l) =
     absurd (missing_long files _ _ m long (same_stop s (of_command w v s') (missing_no m) (long_no long)))
 missing_only {words} {files} w b s m (checked v p q r x) = absurd (missing_no m (stop_readable (_ ∷ _ ∷ _ ∷ []) (p, (q, (r, tt))) (of_command v w s)))
 missing_only {words} {files} w b s m (validated v p q x) = absurd (missing_no m (stop_readable (_ ∷ _ ∷ []) (p, (q, tt)) (of_command v w s)))
+missing_only {words} {files} w b s m (ran v p q x) = absurd (missing_no m (stop_readable (_ ∷ _ ∷ []) (p, (q, tt)) (of_command v w s)))
 
 -- why a read failed, of a file that can be read
 failed : {file : Option (List ℕ)} {rose : Type 0} → IsReadable file → (file ≡ None) ⊎ (IsReadable file × rose) → rose
@@ -171,6 +175,7 @@ long_only {words} {files} {rose} {answer} {command} {name} w b s l (not_read {na
 long_only w b s l (over_long v b' s' l') = inl refl
 long_only w b s l (checked v p q r x) = inl (absurd (long_no l (stop_readable (_ ∷ _ ∷ _ ∷ []) (p, (q, (r, tt))) (of_command v w s))))
 long_only w b s l (validated v p q x) = inl (absurd (long_no l (stop_readable (_ ∷ _ ∷ []) (p, (q, tt)) (of_command v w s))))
+long_only w b s l (ran v p q x) = inl (absurd (long_no l (stop_readable (_ ∷ _ ∷ []) (p, (q, tt)) (of_command v w s))))
 
 -- where the operands can be read, the texts decide, unless a read failed
 pub texts_decide : {words : List (List ℕ)} {files : Files} {rose : Type 0} {answer : Answer} {input output sheet b c d : List ℕ} → Words words (check None input output sheet)
@@ -187,6 +192,7 @@ texts_decide {words} {files} {rose} {answer} {input} {output} {sheet} w p q r (c
     let three : sheet ≡ s = cc in
     inr (checks_same one two three (renamed one p p') (renamed two q q') (renamed three r r') x)
 texts_decide w p q r (validated v p' q' x) = let other = one_command w v in absurd (cc)
+texts_decide w p q r (ran v p' q' x) = let other = one_command w v in absurd (cc)
 
 validates_same : {schema document b c schema' document' b' c' : List ℕ} {answer : Answer} → schema ≡ schema' → document ≡ document' → b ≡ b' → c ≡ c'
     → Validates schema' document' b' c' answer → Validates schema document b c answer
@@ -205,11 +211,36 @@ texts_validate w p q (not_built v x e) = absurd (x (subst IsBuilt (one_command w
 texts_validate {words} {files} w p q (not_read v e s c) = inl (refl, failed (stop_readable (_ ∷ _ ∷ []) (p, (q, tt)) (of_command w v s)) (c.told_cause files refl))
 texts_validate {words} {files} w p q (over_long v e s l) = absurd (long_no (l.told_cause files refl) (stop_readable (_ ∷ _ ∷ []) (p, (q, tt)) (of_command w v s)))
 texts_validate w p q (checked v p' q' r' x) = let other = one_command w v in absurd (cc)
+texts_validate w p q (ran v p' q' x) = let other = one_command w v in absurd (cc)
 texts_validate {words} {files} {rose} {answer} {schema} {document} w p q (validated {schema = i} {document = o} v p' q' x) =
     let same : valid schema document ≡ valid i o = one_command w v in
     let one : schema ≡ i = cc in
     let two : document ≡ o = cc in
     inr (validates_same one two (renamed one p p') (renamed two q q') x)
+
+runs_texts_same : {sheet document b c sheet' document' b' c' : List ℕ} {answer : Answer} → sheet ≡ sheet' → document ≡ document' → b ≡ b' → c ≡ c'
+    → RunsTexts sheet' document' b' c' answer → RunsTexts sheet document b c answer
+runs_texts_same {sheet} {document} {b} {c} {sheet'} {document'} {b'} {c'} {answer} p q s t h =
+    subst (λ v. RunsTexts v document b c answer) (sym p)
+    (subst (λ v. RunsTexts sheet' v b c answer) (sym q)
+    (subst (λ v. RunsTexts sheet' document' v c answer) (sym s)
+    (subst (λ v. RunsTexts sheet' document' b' v answer) (sym t) h)))
+
+-- the same of a run
+pub texts_run : {words : List (List ℕ)} {files : Files} {rose : Type 0} {answer : Answer} {sheet document b c : List ℕ} → Words words (run sheet document)
+    → Reads (Some files) sheet b → Reads (Some files) document c → IsAnswer words (Some files) rose answer
+    → ((status_of answer ≡ ReadFault) × rose) ⊎ RunsTexts sheet document b c answer
+texts_run w p q (no_command n) = absurd (n _ w)
+texts_run w p q (not_built v x e) = absurd (x (subst IsBuilt (one_command w v) tt))
+texts_run {words} {files} w p q (not_read v e s c) = inl (refl, failed (stop_readable (_ ∷ _ ∷ []) (p, (q, tt)) (of_command w v s)) (c.told_cause files refl))
+texts_run {words} {files} w p q (over_long v e s l) = absurd (long_no (l.told_cause files refl) (stop_readable (_ ∷ _ ∷ []) (p, (q, tt)) (of_command w v s)))
+texts_run w p q (checked v p' q' r' x) = let other = one_command w v in absurd (cc)
+texts_run w p q (validated v p' q' x) = let other = one_command w v in absurd (cc)
+texts_run {words} {files} {rose} {answer} {sheet} {document} w p q (ran {sheet = i} {document = o} v p' q' x) =
+    let same : run sheet document ≡ run i o = one_command w v in
+    let one : sheet ≡ i = cc in
+    let two : document ≡ o = cc in
+    inr (runs_texts_same one two (renamed one p p') (renamed two q q') x)
 
 -- two answers of one status, or the second is a read that failed
 abbrev pub Agrees : Type 0 → Answer → Answer → Type 0
@@ -234,3 +265,8 @@ exact {words} {files} {rose} {one} {other} (validated {schema = i} {document = o
     by : ((status_of other ≡ ReadFault) × rose) ⊎ Validates i o b c other → Agrees rose one other
     by (inl f) = inr f
     by (inr z) = inl (validates_one x z)
+exact {words} {files} {rose} {one} {other} (ran {sheet = i} {document = o} {sheet_text = b} {document_text = c} w p q x) y = by (texts_run w p q y)
+  where
+    by : ((status_of other ≡ ReadFault) × rose) ⊎ RunsTexts i o b c other → Agrees rose one other
+    by (inl f) = inr f
+    by (inr z) = inl (runs_texts_one x z)

@@ -1,21 +1,24 @@
--- A check of files of the first form, and a validation, are exact.
-use Rattle.std.proofs.Common.{◌≡◌, ◌≤◌, ◌⊎◌, ◌∙◌, inl, inr, sym, subst, ℕ, List, length, Option, Some, arith}
+-- A check of files of the first form, a validation and a run are exact.
+use Rattle.std.proofs.Common.{◌≡◌, ◌≤◌, ◌⊎◌, ◌∙◌, inl, inr, refl, sym, subst, ℕ, List, length, Option, Some, arith}
 use Rattle.tc_io.specs.Store.{Files, longest_file}
 use Rattle.tc_io.specs.Sink.{Appended}
 use Rattle.tc_model.specs.Trees.{Trees}
 use Rattle.tc_model.specs.Grammars.{Grammar}
+use Rattle.tc_model.specs.Sheets.{Sheet}
 use Rattle.tc_model.specs.Safety.{IsSafe, IsCounterexample}
 use Rattle.tc_top.specs.FirstForm.{Schema, grammar_of, sheet_of}
 use Rattle.tc_top.specs.FirstText.{SchemaText, SheetText}
 use Rattle.tc_top.specs.Reading.{Reads}
-use Rattle.tc_top.specs.Answers.{Answer, safe, unsafe, status_of, text_of, other_input, other_output, other_sheet, Checks, is_other_form, is_safe, is_unsafe, IsAnswer, IsCutShort, Gives, ChecksFiles, DecidesSafety, Validates, ValidatesFiles, DecidesValidity}
+use Rattle.tc_top.specs.Answers.{Answer, safe, unsafe, over_limit, work_limit, open_limit, status_of, text_of, other_input, other_output, other_sheet, Checks, is_other_form, is_safe, is_unsafe, IsAnswer, IsCutShort, Gives, ChecksFiles, DecidesSafety, Validates, ValidatesFiles, DecidesValidity, Runs, sheet_passes, too_much_work, too_open, gives_result, RunsTexts, RunsFiles, GivesResult}
 use Rattle.tc_top.specs.AnswersSeen.{IsRight}
 use Rattle.tc_top.specs.declared.answer.Answer.{Answer as Said}
 use Rattle.tc_top.specs.declared.status.Status.{Status}
-use Rattle.tc_top.specs.declared.status.Status.TheVariants.{ReadFault}
+use Rattle.tc_top.specs.declared.status.Status.TheVariants.{ReadFault, Yes, Limit}
+use Rattle.tc_top.specs.Limits.{IsWithinRunLimits}
 use Rattle.tc_top.proofs.FirstText.{schema_unique, sheet_unique}
-use Rattle.tc_top.proofs.Exact.{Agrees, not_both, texts_decide, texts_validate}
+use Rattle.tc_top.proofs.Exact.{Agrees, not_both, texts_decide, texts_validate, texts_run}
 use Rattle.tc_top.proofs.OneValidity.{Settles, settles_valid, settles_invalid, settles}
+use Rattle.tc_top.proofs.OneRun.{runs_of, not_within, not_few, not_low}
 
 pub gives : {rose : Type 0} (status : Status) (one other : Answer) → status ≡ status_of other → Agrees rose one other → Gives status rose one
 gives status one other e (inl same) = inl (e ∙ same)
@@ -107,3 +110,34 @@ validity {words} {rose} files g d status old new answer c right is written =
     by : ((status_of answer ≡ ReadFault) × rose) ⊎ Validates c.schema c.document c.schema_text c.document_text answer → IsCutShort status rose ⊎ DecidesValidity status old new g d
     by (inl failed) = inl (inr (inr (is ∙ failed.0, failed.1)))
     by (inr validates) = inr (settled status old new is written (settles c.schema_spells c.document_spells c.within validates))
+
+at_limit : (s : Sheet) (d : Trees) (status : Status) (old new : Option (List ℕ)) (answer : Answer) → status_of answer ≡ Limit → status ≡ status_of answer → Appended old new (text_of answer)
+    → (IsWithinRunLimits s d → ⊥) → Runs s d answer → GivesResult status old new s d
+at_limit s d status old new answer limit is written no runs = record {
+  yes = (λ e. absurd (let k = sym (is ∙ limit) ∙ e in cc), λ w. absurd (no w));
+  limit = (λ _. no, λ _. is ∙ limit);
+  yes_text = λ e. absurd (let k = sym (is ∙ limit) ∙ e in cc);
+  limit_text = λ _. (answer, limit, runs, written);
+}
+
+given : (s : Sheet) (d : Trees) {answer : Answer} (status : Status) (old new : Option (List ℕ)) → status ≡ status_of answer → Appended old new (text_of answer) → Runs s d answer
+    → GivesResult status old new s d
+given s d status old new is written (sheet_passes {kind = k} {number = n} p) = at_limit s d status old new (over_limit k n) refl is written (not_within s d k n p) (sheet_passes p)
+given s d status old new is written (too_much_work {o = o} w t p) = at_limit s d status old new work_limit refl is written (not_few s d o t p) (too_much_work w t p)
+given s d status old new is written (too_open {o = o} w t p) = at_limit s d status old new open_limit refl is written (not_low s d o t p) (too_open w t p)
+given s d status old new is written (gives_result {result = result} w r) = record {
+  yes = (λ _. w, λ _. is);
+  limit = (λ e. absurd (let k = sym is ∙ e in cc), λ n. absurd (n w));
+  yes_text = λ _. (result, r, written);
+  limit_text = λ e. absurd (let k = sym is ∙ e in cc);
+}
+
+pub running : {words : List (List ℕ)} {rose : Type 0} (files : Files) (s : Sheet) (d : Trees) (status : Status) (old new : Option (List ℕ)) (answer : Answer) → RunsFiles words files s d
+    → IsAnswer words (Some files) rose answer → status ≡ status_of answer → Appended old new (text_of answer)
+    → IsCutShort status rose ⊎ GivesResult status old new s d
+running {words} {rose} files s d status old new answer c right is written =
+    by (texts_run c.words_are (held_short files c.sheet c.sheet_text c.sheet_held c.sheet_short) (held_short files c.document c.document_text c.document_held c.document_short) right)
+  where
+    by : ((status_of answer ≡ ReadFault) × rose) ⊎ RunsTexts c.sheet c.document c.sheet_text c.document_text answer → IsCutShort status rose ⊎ GivesResult status old new s d
+    by (inl failed) = inl (inr (inr (is ∙ failed.0, failed.1)))
+    by (inr runs) = inr (given s d status old new is written (runs_of c.sheet_spells c.document_spells runs))

@@ -10,6 +10,8 @@ pub mod Named
 pub mod Numerals
 pub mod OneCommand
 pub mod OneValidity
+pub mod OneRun
+pub mod RefusedSheets
 pub mod FirstRead
 pub mod FirstUnread
 pub mod Fronts

@@ -13,7 +13,7 @@ use Rattle.tc_model.proofs.SimplifiesFaults.{no_grammar}
 use Rattle.tc_model.proofs.XmlTextTrees.{one_raw_tree}
 use Rattle.tc_print.specs.ReadBack.{IsReadAs}
 use Rattle.tc_top.proofs.OtherEntities.{with_others}
-use Rattle.tc_top.specs.Refusals.{Reason, malformed, unsupported, too_deep, undefined, twice, loop, bad_start, bad_except, SpellsFault, IsRefusedSchema, IsRefusedDocument}
+use Rattle.tc_top.specs.Refusals.{Reason, malformed, unsupported, too_deep, undefined, twice, loop, bad_start, bad_except, call_loop, SpellsFault, IsRefusedSchema, IsRefusedDocument}
 use Rattle.tc_top.specs.Limits.{IsWithinLimits, PassesLimit, passes_pattern, passes_depth, passes_elements, passes_states, passes_symbols}
 use Rattle.tc_top.specs.Answers.{Answer, status_of, is_valid, is_invalid, Decides, passes, decides_valid, decides_invalid, Validates, schema_refused, document_refused, both_read}
 
@@ -31,6 +31,7 @@ no_schema twice place r x = faulty (faults.twice place) r x
 no_schema loop place r x = faulty (faults.loop place) r x
 no_schema bad_start place r x = faulty (faults.bad_start place) r x
 no_schema bad_except place r x = faulty (faults.bad_except place) r x
+no_schema call_loop place r x = r
 
 pub no_document : {bytes : List ℕ} {d : Trees} (reason : Reason) (place : ℕ) → IsRefusedDocument bytes reason place → IsReadAs bytes d → ⊥
 no_document malformed place r x = r.1 _ x.raw (with_others x.spells)
@@ -41,6 +42,7 @@ no_document twice place r x = r
 no_document loop place r x = r
 no_document bad_start place r x = r
 no_document bad_except place r x = r
+no_document call_loop place r x = r
 
 -- a text has one document
 pub one_document : {bytes : List ℕ} {c d : Trees} → IsReadAs bytes c → IsReadAs bytes d → c ≡ d

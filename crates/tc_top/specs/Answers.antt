@@ -1,21 +1,25 @@
 -- What a call answers, and why: the lines, the status, and the cause of each answer.
-use Rattle.std.specs.Prelude.{◌≡◌, ◌≤◌, ◌⊎◌, ◌↔◌, ℕ, List, length, [], ◌∷◌, ◌++◌, Option, Some, None, codes, decimal}
+use Rattle.std.specs.Prelude.{◌≡◌, ◌<◌, ◌≤◌, ◌⊎◌, ◌↔◌, ℕ, List, length, [], ◌∷◌, ◌++◌, Option, Some, None, codes, decimal}
 use Rattle.tc_base.specs.declared.Limit as kinds
 use Rattle.tc_io.specs.Store.{Files, longest_file}
 use Rattle.tc_io.specs.Sink.{Appended, WroteFront}
 use Rattle.tc_model.specs.Trees.{Trees}
 use Rattle.tc_model.specs.Grammars.{Grammar}
 use Rattle.tc_model.specs.Sheets.{Sheet}
-use Rattle.tc_model.specs.Safety.{IsSafe, IsCounterexample}
+use Rattle.tc_model.specs.Safety.{IsSafe, IsCounterexample, Transforms, IsResultOf}
+use Rattle.tc_model.specs.Outcomes.{Outcome}
 use Rattle.tc_model.specs.Printed.{printed}
 use Rattle.tc_model.specs.RncText.{RncText}
 use Rattle.tc_model.specs.Validity.{IsValid}
 use Rattle.tc_print.specs.ReadBack.{IsReadAs}
+use Rattle.tc_run.specs.Limits.{KeepsLimits}
+use Rattle.tc_run.specs.Spent.{most_work, most_open}
+use Rattle.tc_sheet_text.specs.Texts.{IsSheetOf}
 use Rattle.tc_top.specs.FirstForm.{Schema, grammar_of, sheet_of}
 use Rattle.tc_top.specs.FirstText.{SchemaText, SheetText}
 use Rattle.tc_top.specs.Words.{Command, check, prove, verify, run, valid, demo, Words, IsNoCommand, name_of, operands_of}
-use Rattle.tc_top.specs.Refusals.{Reason, reason_text, IsRefusedSchema, IsRefusedDocument}
-use Rattle.tc_top.specs.Limits.{limit_word, PassesLimit, IsWithinLimits}
+use Rattle.tc_top.specs.Refusals.{Reason, reason_text, IsRefusedSchema, IsRefusedDocument, IsRefusedSheet}
+use Rattle.tc_top.specs.Limits.{limit_word, PassesLimit, IsWithinLimits, SheetPasses, IsWithinSheetLimits, IsWithinRunLimits}
 use Rattle.tc_top.specs.Reading.{Reads, StopsAt, CannotRead, IsOverLong}
 use Rattle.tc_top.specs.declared.status.Status.{Status}
 use Rattle.tc_top.specs.declared.status.Status.TheVariants.{Yes, No, Usage, Refused, Limit, ReadFault, WriteFault, NoMemory}
@@ -33,6 +37,11 @@ pub data Answer : Type 0 where
   over_limit : (kind : kinds.Limit) (number : ℕ) → Answer
   is_valid : Answer
   is_invalid : Answer
+  has_result : (result : Trees) → Answer
+  -- a run instantiates and puts out too much
+  work_limit : Answer
+  -- too many bodies and instructions of it stand within one another
+  open_limit : Answer
 
 abbrev pub status_of : Answer → Status
 status_of usage = Usage
@@ -45,6 +54,9 @@ status_of (refused name reason place) = Refused
 status_of (over_limit kind number) = Limit
 status_of is_valid = Yes
 status_of is_invalid = No
+status_of (has_result result) = Yes
+status_of work_limit = Limit
+status_of open_limit = Limit
 
 -- a line ends with a line feed
 abbrev pub line : List ℕ → List ℕ
@@ -62,6 +74,9 @@ text_of (refused name reason place) = line (codes "refused " ++ name ++ codes " 
 text_of (over_limit kind number) = line (codes "limit " ++ limit_word kind ++ codes " " ++ decimal number)
 text_of is_valid = line (codes "valid")
 text_of is_invalid = line (codes "invalid")
+text_of (has_result result) = line (printed result)
+text_of work_limit = line (codes "limit work 4000000")
+text_of open_limit = line (codes "limit open 8000")
 
 -- a command that is carried out
 abbrev pub IsBuilt : Command → Type 0
@@ -69,7 +84,7 @@ IsBuilt (check None input output sheet) = Unit {0}
 IsBuilt (check (Some limit) input output sheet) = ⊥
 IsBuilt (prove limit input output sheet) = ⊥
 IsBuilt (verify input output sheet certificate) = ⊥
-IsBuilt (run sheet document) = ⊥
+IsBuilt (run sheet document) = Unit {0}
 IsBuilt (valid schema document) = Unit {0}
 IsBuilt (demo size) = ⊥
 
@@ -104,6 +119,20 @@ pub data Validates (schema document schema_text document_text : List ℕ) : Answ
       → Validates schema document schema_text document_text (refused document reason place)
   both_read : {g : Grammar} {d : Trees} {answer : Answer} → RncText schema_text g → IsReadAs document_text d → Decides g d answer → Validates schema document schema_text document_text answer
 
+-- what a stylesheet and a document give
+pub data Runs (s : Sheet) (d : Trees) : Answer → Type 0 where
+  sheet_passes : {kind : kinds.Limit} {number : ℕ} → SheetPasses s kind number → Runs s d (over_limit kind number)
+  too_much_work : {o : Outcome} → IsWithinSheetLimits s → Transforms s d o → most_work < o.work → Runs s d work_limit
+  too_open : {o : Outcome} → IsWithinSheetLimits s → Transforms s d o → most_open < o.nesting → Runs s d open_limit
+  gives_result : {result : Trees} → IsWithinRunLimits s d → IsResultOf s d result → Runs s d (has_result result)
+
+-- what `run` answers on the texts of its operands
+pub data RunsTexts (sheet document sheet_text document_text : List ℕ) : Answer → Type 0 where
+  sheet_refused : {reason : Reason} {place : ℕ} → IsRefusedSheet sheet_text reason place → RunsTexts sheet document sheet_text document_text (refused sheet reason place)
+  source_refused : {s : Sheet} {reason : Reason} {place : ℕ} → IsSheetOf sheet_text s → IsRefusedDocument document_text reason place
+      → RunsTexts sheet document sheet_text document_text (refused document reason place)
+  sheet_and_source : {s : Sheet} {d : Trees} {answer : Answer} → IsSheetOf sheet_text s → IsReadAs document_text d → Runs s d answer → RunsTexts sheet document sheet_text document_text answer
+
 -- an answer with its cause: the words, what the store tells, and whether its faults rose
 pub data IsAnswer (words : List (List ℕ)) (told : Option Files) (rose : Type 0) : Answer → Type 0 where
   no_command : IsNoCommand words → IsAnswer words told rose usage
@@ -116,6 +145,8 @@ pub data IsAnswer (words : List (List ℕ)) (told : Option Files) (rose : Type 0
       → Reads told input input_text → Reads told output output_text → Reads told sheet sheet_text → Checks input output sheet input_text output_text sheet_text answer → IsAnswer words told rose answer
   validated : {schema document schema_text document_text : List ℕ} {answer : Answer} → Words words (valid schema document)
       → Reads told schema schema_text → Reads told document document_text → Validates schema document schema_text document_text answer → IsAnswer words told rose answer
+  ran : {sheet document sheet_text document_text : List ℕ} {answer : Answer} → Words words (run sheet document)
+      → Reads told sheet sheet_text → Reads told document document_text → RunsTexts sheet document sheet_text document_text answer → IsAnswer words told rose answer
 
 -- the answer that a call gave: it is right, and all of it was written
 pub record Answered (words : List (List ℕ)) (told : Option Files) (rose : Type 0) (status : Status) (old new : Option (List ℕ)) : Type 0 where
@@ -182,3 +213,24 @@ pub record DecidesValidity (status : Status) (old new : Option (List ℕ)) (g : 
   pub no : (status ≡ No) ↔ ¬ (IsValid g d)
   pub yes_text : status ≡ Yes → Appended old new (text_of is_valid)
   pub no_text : status ≡ No → Appended old new (text_of is_invalid)
+
+-- the words run a held stylesheet on a held document
+pub record RunsFiles (words : List (List ℕ)) (files : Files) (s : Sheet) (d : Trees) : Type 0 where
+  pub sheet : List ℕ
+  pub document : List ℕ
+  pub words_are : Words words (run sheet document)
+  pub sheet_text : List ℕ
+  pub document_text : List ℕ
+  pub sheet_held : files sheet ≡ Some sheet_text
+  pub document_held : files document ≡ Some document_text
+  pub sheet_short : length sheet_text ≤ longest_file
+  pub document_short : length document_text ≤ longest_file
+  pub sheet_spells : IsSheetOf sheet_text s
+  pub document_spells : IsReadAs document_text d
+
+-- yes exactly within the limits, with the result of the document; and else a limit that is passed
+pub record GivesResult (status : Status) (old new : Option (List ℕ)) (s : Sheet) (d : Trees) : Type 0 where
+  pub yes : (status ≡ Yes) ↔ IsWithinRunLimits s d
+  pub limit : (status ≡ Limit) ↔ ¬ (IsWithinRunLimits s d)
+  pub yes_text : status ≡ Yes → (result : Trees) × IsResultOf s d result × Appended old new (text_of (has_result result))
+  pub limit_text : status ≡ Limit → (answer : Answer) × (status_of answer ≡ Limit) × Runs s d answer × Appended old new (text_of answer)

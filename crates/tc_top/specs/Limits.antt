@@ -1,12 +1,16 @@
--- The limits on the counts of a schema, in the order in which they are tried.
+-- The limits on the counts of a schema, and of a stylesheet and its runs, in the order in which they are tried.
 use Rattle.std.specs.Prelude.{◌<◌, ◌≤◌, ℕ, List, [], codes}
 use Rattle.tc_base.specs.declared.Limit.{Limit}
 use Rattle.tc_base.specs.declared.Limit.TheVariants.{Pattern, Depth, Elements, States, Symbols, Predicates, Ancestors, Selects, Calls, Entries}
-use Rattle.tc_model.specs.Grammars.{Grammar}
+use Rattle.tc_model.specs.Grammars.{Grammar, not_allowed}
 use Rattle.tc_model.specs.Sheets.{Sheet}
 use Rattle.tc_model.specs.SimplifiesCounts.{IsWithinCounts, Passes, nodes, depth, elements}
 use Rattle.tc_model.specs.States.{input, state_count}
-use Rattle.tc_model.specs.Symbols.{symbols_of, symbol_count}
+use Rattle.tc_model.specs.Symbols.{Mention, symbols_of, symbol_count}
+use Rattle.tc_model.specs.Trees.{Trees}
+use Rattle.tc_rules.specs.Faults.{PassNone}
+use Rattle.tc_rules.specs.Told.{PassPredicates, PassAncestors, PassSelects}
+use Rattle.tc_run.specs.Limits.{KeepsLimits}
 
 abbrev pub limit_word : Limit → List ℕ
 limit_word Pattern = codes "pattern"
@@ -46,3 +50,28 @@ pub data PassesLimit (g : Grammar) : Limit → ℕ → Type 0 where
   passes_elements : Passes g elements → PassesLimit g Elements 256
   passes_states : IsWithinCounts g → most_states < state_count g input → PassesLimit g States 512
   passes_symbols : IsWithinCounts g → state_count g input ≤ most_states → most_symbols < symbols_in g → PassesLimit g Symbols 1024
+
+-- the schema that mentions nothing
+abbrev pub no_schema : Grammar
+no_schema = record { start = not_allowed; elements = [] }
+
+-- the symbols of a stylesheet alone
+abbrev pub symbols_alone : Sheet → List Mention
+symbols_alone s = symbols_of no_schema no_schema s
+
+-- the stylesheet passes none of the limits that are tried before a run
+pub record IsWithinSheetLimits (s : Sheet) : Type 0 where
+  pub symbols : symbol_count (symbols_alone s) ≤ most_symbols
+  pub states : PassNone (symbols_alone s) s
+
+-- and neither does its run on a document pass one
+abbrev pub IsWithinRunLimits : Sheet → Trees → Type 0
+IsWithinRunLimits s doc = IsWithinSheetLimits s × KeepsLimits s doc
+
+-- the first limit that the stylesheet passes, and its number
+pub data SheetPasses (s : Sheet) : Limit → ℕ → Type 0 where
+  sheet_symbols : most_symbols < symbol_count (symbols_alone s) → SheetPasses s Symbols 1024
+  sheet_predicates : symbol_count (symbols_alone s) ≤ most_symbols → PassPredicates (symbols_alone s) s → SheetPasses s Predicates 6
+  sheet_ancestors : symbol_count (symbols_alone s) ≤ most_symbols → ¬ (PassPredicates (symbols_alone s) s) → PassAncestors (symbols_alone s) s → SheetPasses s Ancestors 64
+  sheet_selects : symbol_count (symbols_alone s) ≤ most_symbols → ¬ (PassPredicates (symbols_alone s) s) → ¬ (PassAncestors (symbols_alone s) s)
+      → PassSelects (symbols_alone s) s → SheetPasses s Selects 4096

@@ -1,15 +1,20 @@
 -- Why the text of an operand is refused, and where.
-use Rattle.std.specs.Prelude.{◌≤◌, ℕ, Bool, true, false, List, ◌++◌, length, codes}
+use Rattle.std.specs.Prelude.{◌≤◌, ◌⊎◌, ℕ, Bool, true, false, List, ◌++◌, length, codes}
 use Rattle.tc_base.specs.Reasons.{word_of}
 use Rattle.tc_base.specs.declared.reasons.Why.{Why}
 use Rattle.tc_model.specs.RawTrees.{RawTrees}
-use Rattle.tc_model.specs.XmlText.{Reads, deepest_element}
+use Rattle.tc_model.specs.XmlText.{XmlText, Reads, deepest_element}
 use Rattle.tc_model.specs.XmlTextRefusals as xml
 use Rattle.tc_model.specs.CompactSyntaxTrees.{Syntax}
 use Rattle.tc_model.specs.CompactSyntax.{Spells, CompactSyntax, deepest_nesting}
 use Rattle.tc_model.specs.SimplifiesFaults as fault
 use Rattle.tc_model.specs.SimplifiesFaults.{Fails}
 use Rattle.tc_model.specs.CompactSyntaxRefused.{MalformedAt, UnsupportedAt, TooDeepAt}
+use Rattle.tc_model.specs.SheetText.{SheetFails}
+use Rattle.tc_model.specs.SheetText as sheet
+use Rattle.tc_sheet.specs.Changes.{mended, flattened, both}
+use Rattle.tc_sheet.specs.Constructs.{StandsAt, DeepAt, IsPlaceIn}
+use Rattle.tc_sheet.specs.Faults.{IsNoneWith}
 
 pub data Reason : Type 0 where
   malformed : Reason
@@ -21,6 +26,7 @@ pub data Reason : Type 0 where
   loop : Reason
   bad_start : Reason
   bad_except : Reason
+  call_loop : Reason
 
 abbrev pub reason_text : Reason → List ℕ
 reason_text malformed = codes "malformed"
@@ -31,6 +37,7 @@ reason_text twice = codes "twice"
 reason_text loop = codes "loop"
 reason_text bad_start = codes "bad-start"
 reason_text bad_except = codes "bad-except"
+reason_text call_loop = codes "call-loop"
 
 -- The bytes are no document's text. Malformed: not even where elements may stand deeper, and references to other entities are read.
 -- Unsupported: such a construct stands there, and they are none at any depth. Too deep: an element stands too deep there, and they are
@@ -56,3 +63,20 @@ IsRefusedSchema bytes twice place = SpellsFault bytes (fault.twice place)
 IsRefusedSchema bytes loop place = SpellsFault bytes (fault.loop place)
 IsRefusedSchema bytes bad_start place = SpellsFault bytes (fault.bad_start place)
 IsRefusedSchema bytes bad_except place = SpellsFault bytes (fault.bad_except place)
+IsRefusedSchema bytes call_loop place = ⊥
+
+-- the bytes are an XML text, and this is so of its raw tree
+abbrev pub SpellsTree : List ℕ → (RawTrees → Type 0) → Type 0
+SpellsTree bytes P = (raw : RawTrees) × XmlText bytes raw × P raw
+
+-- The bytes are no stylesheet's text: no XML text, as of documents, or one whose tree isn't a stylesheet. Malformed: not even with what isn't
+-- supported taken away or exchanged, and with others in place of the selects, patterns and tests that nest too deep. Unsupported: such a construct
+-- stands there, and not even with such others. Too deep: one of these nests too deep there, and not even with what isn't supported taken away or
+-- exchanged. Undefined and call loop: the first call stands there that has no template, or that leads back to its own.
+abbrev pub IsRefusedSheet : List ℕ → Reason → ℕ → Type 0
+IsRefusedSheet bytes malformed place = IsRefusedDocument bytes malformed place ⊎ ((place ≤ length bytes) × SpellsTree bytes (λ raw. IsPlaceIn raw place × IsNoneWith both raw))
+IsRefusedSheet bytes (unsupported why) place = IsRefusedDocument bytes (unsupported why) place ⊎ SpellsTree bytes (λ raw. StandsAt raw place why × IsNoneWith flattened raw)
+IsRefusedSheet bytes too_deep place = IsRefusedDocument bytes too_deep place ⊎ SpellsTree bytes (λ raw. DeepAt raw place × IsNoneWith mended raw)
+IsRefusedSheet bytes undefined place = SpellsTree bytes (λ raw. SheetFails raw sheet.undefined place)
+IsRefusedSheet bytes call_loop place = SpellsTree bytes (λ raw. SheetFails raw sheet.call_loop place)
+IsRefusedSheet bytes _ place = ⊥

@@ -16,6 +16,7 @@ reason v.Twice = r.twice
 reason v.Loop = r.loop
 reason v.BadStart = r.bad_start
 reason v.BadExcept = r.bad_except
+reason v.CallLoop = r.call_loop
 
 -- a text is refused as this relation says, or memory was
 abbrev pub IsUnaccepted : (r.Reason → ℕ → Type 0) → Unaccepted → Type 0

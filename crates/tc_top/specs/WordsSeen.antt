@@ -19,4 +19,5 @@ command (Demo size) = w.demo size
 
 abbrev pub task_command : Task → w.Command
 task_command (task.Check triple) = w.check None triple.input.now triple.output.now triple.sheet.now
+task_command (task.Run sheet document) = w.run sheet.now document.now
 task_command (task.Valid schema document) = w.valid schema.now document.now

@@ -182,6 +182,39 @@ impl Answer {
         }
     }
 
+    /// The result of a run.
+    pub fn result(alloc: Global, nodes: &[Node<'_>]) -> Result<Answer, NoMemory>
+        ensures { IfOk result (λ said. Says said (a.has_result (trees nodes.now))) }
+    {
+        let mut text = Buffer::new(alloc);
+        text.put_trees(nodes)?;
+        text.put(b"\n")?;
+        Ok(Answer {
+            status: Status::Yes,
+            text: Text::Made(text.into_bytes()),
+        })
+    }
+
+    /// A run instantiates and puts out too much.
+    pub fn work_limit() -> Answer
+        ensures { Says result a.work_limit }
+    {
+        Answer {
+            status: Status::Limit,
+            text: Text::Fixed(b"limit work 4000000\n"),
+        }
+    }
+
+    /// Too many bodies and instructions of a run stand within one another.
+    pub fn open_limit() -> Answer
+        ensures { Says result a.open_limit }
+    {
+        Answer {
+            status: Status::Limit,
+            text: Text::Fixed(b"limit open 8000\n"),
+        }
+    }
+
     /// A valid document has these trees as its result, and they aren't valid.
     pub fn not_safe(
         alloc: Global,

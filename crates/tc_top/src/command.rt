@@ -54,6 +54,8 @@ impl Command<'_> {
 pub enum Task<'w> {
     /// A check without a limit.
     Check(Triple<'w>),
+    /// A run: the stylesheet and the document.
+    Run(&'w str, &'w str),
     /// A validation, of a document by a schema: the schema and the document.
     Valid(&'w str, &'w str),
 }
@@ -64,6 +66,7 @@ pub fn built(command: Command<'_>) -> Option<Task<'_>>
 {
     match command {
         Command::Check(None, triple) => Some(Task::Check(triple)),
+        Command::Run(sheet, document) => Some(Task::Run(sheet, document)),
         Command::Valid(schema, document) => Some(Task::Valid(schema, document)),
         _ => None,
     }

@@ -1,7 +1,7 @@
 // Documents, read.
 ghost use Rattle.std.specs.Prelude.{◌≤◌, length, IfOk, IfErr, List, ℕ};
 ghost use Rattle.tc_model.specs.Seen.{before};
-ghost use Rattle.tc_model.specs.Trees.{none};
+ghost use Rattle.tc_model.specs.Trees.{none, IsDocument};
 ghost use Rattle.tc_print.specs.ReadBack.{IsReadAs};
 ghost use Rattle.tc_top.specs.Refusals.{IsRefusedDocument};
 ghost use Rattle.tc_top.specs.RefusalsSeen.{IsUnaccepted};
@@ -17,6 +17,7 @@ use tc_xml::{XmlFault, read_raw, strip};
 pub fn read_document<'b>(arena: &'b Bump, text: &[u8]) -> Result<Node<'b>, Unaccepted>
     requires { length text.now ≤ 67108864 }
     ensures ok { IfOk result (λ document. IsReadAs text.now (before document none)) }
+    ensures document { IfOk result (λ document. IsDocument (before document none)) }
     ensures no { IfErr result (IsUnaccepted (IsRefusedDocument text.now)) }
 {
     let raw = match read_raw(arena, text) {
@@ -30,7 +31,7 @@ pub fn read_document<'b>(arena: &'b Bump, text: &[u8]) -> Result<Node<'b>, Unacc
 }
 
 /// Why a text isn't accepted that has no raw tree.
-fn of_text(fault: XmlFault) -> Unaccepted
+pub fn of_text(fault: XmlFault) -> Unaccepted
     ensures { (bytes : List ℕ) → xml.IsFaultOf bytes fault → IsUnaccepted (IsRefusedDocument bytes) result }
 {
     match fault {

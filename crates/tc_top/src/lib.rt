@@ -10,7 +10,11 @@ mod first;
 pub mod laws;
 mod read;
 mod refusal;
+mod run;
+#[cfg(test)]
+mod run_rows;
 mod schemas;
+mod sheets;
 mod status;
 #[cfg(test)]
 mod tests;
@@ -24,9 +28,10 @@ ghost use Rattle.std.specs.Prelude.{◌≡◌, ◌≢◌, ◌≤◌, ◌⊎◌, 
 ghost use Rattle.tc_io.specs.Faults.{Rose};
 ghost use Rattle.tc_io.specs.Store.{Files};
 ghost use Rattle.tc_model.specs.Grammars.{Grammar};
+ghost use Rattle.tc_model.specs.Sheets.{Sheet};
 ghost use Rattle.tc_model.specs.Trees.{Trees};
 ghost use Rattle.tc_top.specs.Answers as a;
-ghost use Rattle.tc_top.specs.Answers.{IsAnswer, IsBuilt, ReadsNothing, Answered, BrokenOff, Gives, IsCutShort, ChecksFiles, DecidesSafety, ValidatesFiles, DecidesValidity};
+ghost use Rattle.tc_top.specs.Answers.{IsAnswer, IsBuilt, ReadsNothing, Answered, BrokenOff, Gives, IsCutShort, ChecksFiles, DecidesSafety, ValidatesFiles, DecidesValidity, RunsFiles, GivesResult};
 ghost use Rattle.tc_top.specs.AnswersSeen.{IsRight};
 ghost use Rattle.tc_top.specs.FirstForm as f;
 ghost use Rattle.tc_top.specs.FirstForm.{grammar_of, sheet_of};
@@ -37,6 +42,7 @@ ghost use Rattle.tc_top.specs.WordsSeen.{texts};
 use answer::Answer;
 use check::check;
 use command::{Task, built, read_words};
+use run::run;
 pub use status::Status;
 use std::alloc::Global;
 use tc_base::NoMemory;
@@ -85,6 +91,11 @@ pub fn typecheck<S: Store, K: Sink>(
         → IsCutShort result (Rose (S.faults store.old) (S.faults store.new))
         ⊎ DecidesValidity result (K.written sink.old) (K.written sink.new) g d }
 
+    // A run of a held stylesheet on a held document is yes exactly within the limits, and then writes the document's result.
+    ensures running { (files : Files) (s : Sheet) (d : Trees) → S.holds store.old ≡ Some files → RunsFiles words.now files s d
+        → IsCutShort result (Rose (S.faults store.old) (S.faults store.new))
+        ⊎ GivesResult result (K.written sink.old) (K.written sink.new) s d }
+
     // What is held stays as it is, and no count of faults falls.
     ensures held { S.holds store.new ≡ S.holds store.old }
     ensures store_count { S.faults store.old ≤ S.faults store.new }
@@ -116,6 +127,7 @@ fn answer_words<S: Store>(
     };
     match built(command) {
         Some(Task::Check(triple)) => check(alloc, triple, store),
+        Some(Task::Run(sheet, document)) => run(alloc, sheet, document, store),
         Some(Task::Valid(schema, document)) => valid(alloc, schema, document, store),
         None => Answer::not_yet(alloc, command.name()),
     }

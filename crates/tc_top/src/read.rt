@@ -51,31 +51,31 @@ pub fn read_texts<'w, S: Store>(
     })
 }
 
-/// The texts of a schema and a document.
+/// The texts of two operands: of a schema or a stylesheet, and of a document.
 #[derive(Drop)]
 pub struct Pair {
-    pub schema: Vec<u8>,
+    pub first: Vec<u8>,
     pub document: Vec<u8>,
 }
 
-/// Reads the operands of a validation, in order.
+/// Reads the operands of a validation or of a run, in order.
 pub fn read_pair<'w, S: Store>(
     alloc: Global,
-    schema: &'w str,
+    first: &'w str,
     document: &'w str,
     store: &mut S,
 ) -> Result<Pair, Unread<'w>>
     ensures same { S.holds store.new ≡ S.holds store.old }
     ensures count { S.faults store.old ≤ S.faults store.new }
-    ensures schema { IfOk result (λ texts. Reads (S.holds store.old) schema.now texts.schema.items) }
+    ensures first { IfOk result (λ texts. Reads (S.holds store.old) first.now texts.first.items) }
     ensures document { IfOk result (λ texts. Reads (S.holds store.old) document.now texts.document.items) }
     ensures err { IfErr result (IsFirstUnread (S.holds store.old) (Rose (S.faults store.old) (S.faults store.new))
-        (schema.now ∷ document.now ∷ [])) }
+        (first.now ∷ document.now ∷ [])) }
 {
-    let schema_text = read_operand(alloc, schema, store)?;
+    let first_text = read_operand(alloc, first, store)?;
     let document_text = read_operand(alloc, document, store)?;
     Ok(Pair {
-        schema: schema_text,
+        first: first_text,
         document: document_text,
     })
 }

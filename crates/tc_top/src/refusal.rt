@@ -13,7 +13,7 @@ pub enum Reason {
     Unsupported(Why),
     /// Something stands in it too deep.
     TooDeep,
-    /// A reference of a schema has no definition.
+    /// A reference of a schema has no definition, or a call of a stylesheet no template.
     Undefined,
     /// A name of a schema is defined twice.
     Twice,
@@ -23,6 +23,8 @@ pub enum Reason {
     BadStart,
     /// A wildcard of a schema stands where it may not.
     BadExcept,
+    /// A call of a stylesheet leads back to its template.
+    CallLoop,
 }
 
 impl Reason {
@@ -41,6 +43,7 @@ impl Reason {
             Reason::Loop => ("loop", ""),
             Reason::BadStart => ("bad-start", ""),
             Reason::BadExcept => ("bad-except", ""),
+            Reason::CallLoop => ("call-loop", ""),
         }
     }
 }

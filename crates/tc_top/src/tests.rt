@@ -165,7 +165,7 @@ fn tells_the_usage(rt: HostRuntime) -> Result<(), Fail> {
 
 #[test]
 fn refuses_commands_that_are_not_built(rt: HostRuntime) -> Result<(), Fail> {
-    let commands: [(&[&str], &str); 6] = [
+    let commands: [(&[&str], &str); 5] = [
         (
             &["check", "--limit", "4000", "I", "O", "S"],
             "refused check not-yet\n",
@@ -176,7 +176,6 @@ fn refuses_commands_that_are_not_built(rt: HostRuntime) -> Result<(), Fail> {
             "refused prove not-yet\n",
         ),
         (&["verify", "I", "O", "S", "C"], "refused verify not-yet\n"),
-        (&["run", "S", "D"], "refused run not-yet\n"),
         (&["demo", "40"], "refused demo not-yet\n"),
     ];
     for (words, text) in commands {

@@ -56,13 +56,13 @@ fn valid_texts(
     document: &str,
     texts: &Pair,
 ) -> Result<Answer, NoMemory>
-    requires schema { length texts.now.schema.items ≤ 67108864 }
+    requires schema { length texts.now.first.items ≤ 67108864 }
     requires document { length texts.now.document.items ≤ 67108864 }
     ensures { IfOk result (λ said. (answer : a.Answer) × Says said answer × Validates schema.now document.now
-        texts.now.schema.items texts.now.document.items answer) }
+        texts.now.first.items texts.now.document.items answer) }
 {
     let arena = Bump::new(alloc);
-    match read_schema(&arena, &texts.schema) {
+    match read_schema(&arena, &texts.first) {
         Ok(read) => valid_document(alloc, &arena, &read, document, &texts.document),
         Err(Unaccepted::Refused(reason, place)) => Answer::refused(alloc, schema, reason, place),
         Err(Unaccepted::NoMemory) => Err(NoMemory),

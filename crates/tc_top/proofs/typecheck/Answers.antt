@@ -1,7 +1,7 @@
 use Rattle.std.proofs.Common.{◌∙◌, inl, subst}
 use Rattle.tc_io.specs.Sink.{Appended}
 use Rattle.tc_top.proofs.Exact.{exact, usage_only, refused_only}
-use Rattle.tc_top.proofs.Headline.{at_words, at_told, gives, headline, validity}
+use Rattle.tc_top.proofs.Headline.{at_words, at_told, gives, headline, validity, running}
 use Rattle.tc_top.proofs.typecheck.Goals as goal
 
 pub returns-in-Ok-write_lines-clause-usage : goal.returns-in-Ok-write_lines-clause-usage
@@ -30,3 +30,9 @@ returns-in-Ok-write_lines-clause-validity g c = λ files x d told validates.
     let right = at_words c.as_slice.ensures c.in-Ok.ensures.right in
     let written = subst (Appended (g.K.Sink.written c.args.sink.now) (g.K.Sink.written c.write_lines.new.sink)) (c.as_bytes.ensures ∙ right.1.written) c.in-Ok-write_lines.ensures.ok in
     validity files x d _ _ _ right.0 validates (at_told told right.2) right.1.status written
+
+pub returns-in-Ok-write_lines-clause-running : goal.returns-in-Ok-write_lines-clause-running
+returns-in-Ok-write_lines-clause-running g c = λ files s d told runs.
+    let right = at_words c.as_slice.ensures c.in-Ok.ensures.right in
+    let written = subst (Appended (g.K.Sink.written c.args.sink.now) (g.K.Sink.written c.write_lines.new.sink)) (c.as_bytes.ensures ∙ right.1.written) c.in-Ok-write_lines.ensures.ok in
+    running files s d _ _ _ right.0 runs (at_told told right.2) right.1.status written

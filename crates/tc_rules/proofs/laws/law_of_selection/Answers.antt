@@ -1,5 +1,9 @@
+use Rattle.tc_rules.proofs.EmptyStates.{empty_selects_none}
 use Rattle.tc_rules.proofs.PathTold.{states_select}
 use Rattle.tc_rules.proofs.laws.law_of_selection.Goals as goal
 
-pub returns : goal.returns
-returns c = states_select
+pub returns-clause-hits : goal.returns-clause-hits
+returns-clause-hits c = states_select
+
+pub returns-clause-nothing : goal.returns-clause-nothing
+returns-clause-nothing c = empty_selects_none

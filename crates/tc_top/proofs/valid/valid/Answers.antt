@@ -8,7 +8,7 @@ use Rattle.tc_top.proofs.valid.valid.Goals as goal
 pub returns-in-Ok-clause-ok : goal.returns-in-Ok-clause-ok
 returns-in-Ok-clause-ok g c =
     let read = c.in-Ok.ensures in
-    IfOk-weaker c.valid_texts.result _ _ (λ said h words are. (h.0, h.1, validated are read.schema read.document h.2)) c.valid_texts.ensures
+    IfOk-weaker c.valid_texts.result _ _ (λ said h words are. (h.0, h.1, validated are read.first read.document h.2)) c.valid_texts.ensures
 
 pub returns-in-Err-Missing-clause-ok : goal.returns-in-Err-Missing-clause-ok
 returns-in-Err-Missing-clause-ok g c =

@@ -10,5 +10,5 @@ use Rattle.tc_top.proofs.valid.valid_texts.Goals as goal
 pub returns-in-Err-Refused : goal.returns-in-Err-Refused
 returns-in-Err-Refused c =
     let why = subst (λ w. IsUnaccepted (IsRefusedSchema w) c.in-Err-Refused.field-0) c.deref.ensures.value c.in-Err-Refused.ensures.no in
-    let refused = subst (IsUnaccepted (IsRefusedSchema c.args.texts.now.schema.items)) c.in-Err-Refused.field-0-is why in
+    let refused = subst (IsUnaccepted (IsRefusedSchema c.args.texts.now.first.items)) c.in-Err-Refused.field-0-is why in
     IfOk-weaker c.refused.result _ _ (λ said says. (a.refused c.args.schema.now (reason c.in-Err-Refused.reason) (see.place c.in-Err-Refused.place), says, schema_refused refused)) c.refused.ensures

@@ -1,0 +1,121 @@
+-- What the texts of a stylesheet and of a document decide is one.
+use Rattle.std.proofs.Common.{◌≡◌, ◌<◌, ◌≤◌, ◌⊎◌, inl, inr, ℕ, List, refl, sym, subst, arith}
+use Rattle.tc_base.specs.declared.Limit.{Limit}
+use Rattle.tc_model.specs.Chains.{top}
+use Rattle.tc_model.specs.Meaning.{by_mode}
+use Rattle.tc_model.specs.Outcomes.{Outcome}
+use Rattle.tc_model.specs.RawTrees.{RawTrees}
+use Rattle.tc_model.specs.Safety.{Transforms}
+use Rattle.tc_model.specs.Sheets.{Sheet}
+use Rattle.tc_model.specs.SheetText.{SheetText}
+use Rattle.tc_model.specs.SheetText as calls
+use Rattle.tc_model.specs.Stripped.{stripped}
+use Rattle.tc_model.specs.Trees.{Trees}
+use Rattle.tc_model.specs.XmlText.{XmlText}
+use Rattle.tc_model.proofs.SheetTextUnique.{one_sheet}
+use Rattle.tc_model.proofs.SheetTextUnique as faults
+use Rattle.tc_model.proofs.Unique.{instantiates_unique}
+use Rattle.tc_model.proofs.XmlTextTrees.{one_raw_tree}
+use Rattle.tc_print.specs.ReadBack.{IsReadAs}
+use Rattle.tc_run.specs.Limits.{KeepsLimits}
+use Rattle.tc_run.specs.Spent.{most_work, most_open}
+use Rattle.tc_sheet.specs.Changes.{Change, mended, flattened, both}
+use Rattle.tc_sheet.specs.Faults.{IsNoneWith}
+use Rattle.tc_sheet.proofs.Changes.{as_they_are}
+use Rattle.tc_sheet_text.specs.Texts.{IsSheetOf}
+use Rattle.tc_top.specs.Refusals.{Reason, malformed, unsupported, too_deep, undefined, twice, loop, bad_start, bad_except, call_loop, IsRefusedSheet}
+use Rattle.tc_top.specs.Limits.{IsWithinSheetLimits, IsWithinRunLimits, SheetPasses, sheet_symbols, sheet_predicates, sheet_ancestors, sheet_selects}
+use Rattle.tc_top.specs.Answers.{Answer, status_of, Runs, sheet_passes, too_much_work, too_open, gives_result, RunsTexts, sheet_refused, source_refused, sheet_and_source}
+use Rattle.tc_top.proofs.OneValidity.{no_document, one_document}
+
+-- the one tree of a text means its stylesheet
+means_at : {bytes : List ℕ} {s : Sheet} → IsSheetOf bytes s → (raw : RawTrees) → XmlText bytes raw → SheetText raw s
+means_at {bytes} {s} x raw text = subst (λ (h : RawTrees). SheetText h s) (one_raw_tree bytes x.raw raw x.text text) x.means
+
+none_with : (c : Change) (raw : RawTrees) (s : Sheet) → IsNoneWith c raw → SheetText raw s → ⊥
+none_with c raw s none t = none raw t.templates (as_they_are c raw) t.written t.once
+
+as_document : {bytes : List ℕ} {s : Sheet} (x : IsSheetOf bytes s) → IsReadAs bytes (stripped x.raw)
+as_document x = record { raw = x.raw; spells = x.text; document = refl }
+
+pub no_sheet : {bytes : List ℕ} {s : Sheet} (reason : Reason) (place : ℕ) → IsRefusedSheet bytes reason place → IsSheetOf bytes s → ⊥
+no_sheet malformed place (inl r) x = no_document malformed place r (as_document x)
+no_sheet {s = s} malformed place (inr r) x = none_with both r.1.0 s r.1.2.1 (means_at x r.1.0 r.1.1)
+no_sheet (unsupported why) place (inl r) x = no_document (unsupported why) place r (as_document x)
+no_sheet {s = s} (unsupported why) place (inr r) x = none_with flattened r.0 s r.2.1 (means_at x r.0 r.1)
+no_sheet too_deep place (inl r) x = no_document too_deep place r (as_document x)
+no_sheet {s = s} too_deep place (inr r) x = none_with mended r.0 s r.2.1 (means_at x r.0 r.1)
+no_sheet {s = s} undefined place r x = faults.no_sheet r.0 calls.undefined place s r.2 (means_at x r.0 r.1)
+no_sheet {s = s} call_loop place r x = faults.no_sheet r.0 calls.call_loop place s r.2 (means_at x r.0 r.1)
+no_sheet twice place r x = r
+no_sheet loop place r x = r
+no_sheet bad_start place r x = r
+no_sheet bad_except place r x = r
+
+-- a text has one stylesheet
+pub one_sheet_of : {bytes : List ℕ} {s t : Sheet} → IsSheetOf bytes s → IsSheetOf bytes t → s ≡ t
+one_sheet_of {bytes} {s} {t} x y = one_sheet y.raw s t (means_at x y.raw y.text) y.means
+
+over : {s : Sheet} {kind : Limit} {number : ℕ} → SheetPasses s kind number → IsWithinSheetLimits s → ⊥
+over (sheet_symbols p) w = omega (arith, p, w.symbols)
+over (sheet_predicates q p) w = w.states.0 p
+over (sheet_ancestors q a p) w = w.states.1 p
+over (sheet_selects q a b p) w = w.states.2 p
+
+one_outcome : (s : Sheet) (d : Trees) (o p : Outcome) → Transforms s d o → Transforms s d p → o ≡ p
+one_outcome s d o p t u = instantiates_unique s (by_mode 0) (top d) o p t u
+
+over_work : (s : Sheet) (d : Trees) (o : Outcome) → Transforms s d o → most_work < o.work → KeepsLimits s d → ⊥
+over_work s d o t p k = let few = subst (λ (x : Outcome). x.work ≤ most_work) (one_outcome s d k.0 o k.1 t) k.2 in omega (arith, p, few)
+
+over_open : (s : Sheet) (d : Trees) (o : Outcome) → Transforms s d o → most_open < o.nesting → KeepsLimits s d → ⊥
+over_open s d o t p k = let low = subst (λ (x : Outcome). x.nesting ≤ most_open) (one_outcome s d k.0 o k.1 t) k.3 in omega (arith, p, low)
+
+runs_one : {s : Sheet} {d : Trees} {one other : Answer} → Runs s d one → Runs s d other → status_of other ≡ status_of one
+runs_one (sheet_passes p) (sheet_passes q) = refl
+runs_one (sheet_passes p) (too_much_work w t q) = refl
+runs_one (sheet_passes p) (too_open w t q) = refl
+runs_one (sheet_passes p) (gives_result w r) = absurd (over p w.0)
+runs_one (too_much_work w t p) (sheet_passes q) = refl
+runs_one (too_much_work w t p) (too_much_work v u q) = refl
+runs_one (too_much_work w t p) (too_open v u q) = refl
+runs_one {s = s} {d = d} (too_much_work {o = o} w t p) (gives_result v r) = absurd (over_work s d o t p v.1)
+runs_one (too_open w t p) (sheet_passes q) = refl
+runs_one (too_open w t p) (too_much_work v u q) = refl
+runs_one (too_open w t p) (too_open v u q) = refl
+runs_one {s = s} {d = d} (too_open {o = o} w t p) (gives_result v r) = absurd (over_open s d o t p v.1)
+runs_one (gives_result w r) (sheet_passes q) = absurd (over q w.0)
+runs_one {s = s} {d = d} (gives_result w r) (too_much_work {o = o} v u q) = absurd (over_work s d o u q w.1)
+runs_one {s = s} {d = d} (gives_result w r) (too_open {o = o} v u q) = absurd (over_open s d o u q w.1)
+runs_one (gives_result w r) (gives_result v q) = refl
+
+runs_same : {s t : Sheet} {c d : Trees} {answer : Answer} → s ≡ t → c ≡ d → Runs s c answer → Runs t d answer
+runs_same {s} {t} {c} {d} {answer} p q x = subst (λ (y : Trees). Runs t y answer) q (subst (λ (y : Sheet). Runs y c answer) p x)
+
+-- the status that the texts decide is one
+pub runs_texts_one : {sheet document b c : List ℕ} {one other : Answer} → RunsTexts sheet document b c one → RunsTexts sheet document b c other → status_of other ≡ status_of one
+runs_texts_one (sheet_refused r) (sheet_refused s) = refl
+runs_texts_one (sheet_refused r) (source_refused x s) = refl
+runs_texts_one (sheet_refused {reason = w} {place = p} r) (sheet_and_source x d h) = absurd (no_sheet w p r x)
+runs_texts_one (source_refused x r) (sheet_refused s) = refl
+runs_texts_one (source_refused x r) (source_refused y s) = refl
+runs_texts_one (source_refused {reason = w} {place = p} x r) (sheet_and_source y d h) = absurd (no_document w p r d)
+runs_texts_one (sheet_and_source x d h) (sheet_refused {reason = w} {place = p} s) = absurd (no_sheet w p s x)
+runs_texts_one (sheet_and_source x d h) (source_refused {reason = w} {place = p} y s) = absurd (no_document w p s d)
+runs_texts_one (sheet_and_source x d h) (sheet_and_source y e i) = runs_one h (runs_same (one_sheet_of y x) (one_document e d) i)
+
+-- what a stylesheet and a document give, their texts being read
+pub runs_of : {sheet document b c : List ℕ} {s : Sheet} {d : Trees} {answer : Answer} → IsSheetOf b s → IsReadAs c d → RunsTexts sheet document b c answer → Runs s d answer
+runs_of x d (sheet_refused {reason = why} {place = p} r) = absurd (no_sheet why p r x)
+runs_of x d (source_refused {reason = why} {place = p} y r) = absurd (no_document why p r d)
+runs_of x d (sheet_and_source y e i) = runs_same (one_sheet_of y x) (one_document e d) i
+
+-- a limit that is passed isn't kept
+pub not_within : (s : Sheet) (d : Trees) (kind : Limit) (number : ℕ) → SheetPasses s kind number → IsWithinRunLimits s d → ⊥
+not_within s d kind number p w = over p w.0
+
+pub not_few : (s : Sheet) (d : Trees) (o : Outcome) → Transforms s d o → most_work < o.work → IsWithinRunLimits s d → ⊥
+not_few s d o t p w = over_work s d o t p w.1
+
+pub not_low : (s : Sheet) (d : Trees) (o : Outcome) → Transforms s d o → most_open < o.nesting → IsWithinRunLimits s d → ⊥
+not_low s d o t p w = over_open s d o t p w.1

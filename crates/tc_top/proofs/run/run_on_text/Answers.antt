@@ -1,0 +1,20 @@
+use Rattle.std.proofs.Common.{subst}
+use Rattle.std.proofs.lemmas.Result.{IfOk-weaker}
+use Rattle.tc_model.specs.Seen as see
+use Rattle.tc_top.specs.Answers as a
+use Rattle.tc_top.specs.Answers.{source_refused, sheet_and_source}
+use Rattle.tc_top.specs.Refusals.{IsRefusedDocument}
+use Rattle.tc_top.specs.RefusalsSeen.{IsUnaccepted, reason}
+use Rattle.tc_top.proofs.run.run_on_text.Goals as goal
+
+pub returns-in-Ok : goal.returns-in-Ok
+returns-in-Ok c = IfOk-weaker c.run_on.result _ _ (λ said h. (h.0, h.1, λ other bytes is. sheet_and_source is c.in-Ok.ensures.ok h.2)) c.run_on.ensures
+
+pub returns-in-Err-Refused : goal.returns-in-Err-Refused
+returns-in-Err-Refused c =
+    let refused = subst (IsUnaccepted (IsRefusedDocument c.args.text.now)) c.in-Err-Refused.field-0-is c.in-Err-Refused.ensures.no in
+    IfOk-weaker c.refused.result _ _ (λ said says. (
+      a.refused c.args.name.now (reason c.in-Err-Refused.reason) (see.place c.in-Err-Refused.place),
+      says,
+      λ other bytes is. source_refused is refused,
+    )) c.refused.ensures
