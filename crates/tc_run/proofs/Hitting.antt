@@ -1,5 +1,6 @@
 -- What a move puts out where it selects a node, and where it does not.
 use Rattle.std.proofs.Common.{◌≡◌, ℕ, ◌+◌, ◌<◌, ◌≤◌, List, ap, ◌∙◌, sym, subst, Bool, true, false, cond, drop, length, get_or, Some, Bor}
+use Rattle.std.proofs.lemmas.Option.{same_Some}
 use Rattle.std.proofs.lemmas.List.{drop_all}
 use Rattle.tc_model.specs.Chains.{Tree, an_element, a_text, one}
 use Rattle.tc_model.specs.Letters.{Letter, letter_of, IsLetter, of_symbol}
@@ -16,6 +17,7 @@ use Rattle.tc_rules.specs.Seen.{mode_of}
 use Rattle.tc_rules.specs.States.{Going, built_in_at}
 use Rattle.tc_rules.specs.Told.{Block, IsStateOf, ancestor, is_hit_of, select_below}
 use Rattle.tc_rules.specs.declared.walk.Job.{Job}
+use Rattle.tc_rules.proofs.PathTold.{trees_have_letters}
 use Rattle.tc_run.specs.Lettered as l
 use Rattle.tc_run.specs.Lettered.{bare}
 use Rattle.tc_run.specs.Running.{IsRunner, told_by, sheet_by, symbols_by, predicates_by, machine}
@@ -26,26 +28,22 @@ use Rattle.tc_run.specs.declared.bodies.Here.{Here}
 use Rattle.tc_run.specs.declared.letters.Lettered.{Lettered}
 use Rattle.tc_run.specs.declared.output.Output.{Output}
 use Rattle.tc_run.specs.declared.runner.Runner.{Runner}
-use Rattle.tc_run.proofs.LetterBounds.{letter_is}
 use Rattle.tc_run.proofs.Nodes.{here_text}
 use Rattle.tc_run.proofs.OneTree.{outputs_beside}
 use Rattle.tc_run.proofs.Spending.{spends_nothing}
 use Rattle.tc_run.proofs.Views.{left_one}
 
-some_is : {X : Type 0} {a b : X} → Some a ≡ Some b → a ≡ b
-some_is e = cc
-
 module _ (r : Runner) where
   -- a letter of a tree is one
   pub is_letter : (x : Letter) (tree : Tree) → x ≡ letter_of (symbols_by r) (predicates_by r) tree → IsLetter (symbols_by r) (predicates_by r) x
-  is_letter x tree e = subst (IsLetter (symbols_by r) (predicates_by r)) (sym e) (letter_is (symbols_by r) (predicates_by r) tree)
+  is_letter x tree e = subst (IsLetter (symbols_by r) (predicates_by r)) (sym e) (trees_have_letters (symbols_by r) (predicates_by r) tree)
 
   -- the job and the task of a state of a move
   pub task_is : (k : ℕ) (g : Going) (job : Job) → (at : IsMoveAt (told_by r) k g)
       → ((symbols : List Mention) (b : Block) (x : State) → IsRulesOf symbols r.rules.now → IsStateOf (told_by r) k b x → b.mode ≡ Some (mode_of (sheet_by r).modes job))
       → IsRunner r → IsTaskOf (sheet_by r) (mode_of (sheet_by r).modes job) g.task
   task_is k g job at ens is =
-      subst (λ m. IsTaskOf (sheet_by r) m g.task) (some_is (ens (symbols_by r) (record { path = g.path; mode = Some at.mode }) g.state is at.state)) at.task
+      subst (λ m. IsTaskOf (sheet_by r) m g.task) (same_Some _ _ (ens (symbols_by r) (record { path = g.path; mode = Some at.mode }) g.state is at.state)) at.task
 
   -- whether it selects a node
   pub hit_is : (k : ℕ) (g : Going) (x : Letter) (b : Bool) → (at : IsMoveAt (told_by r) k g) → IsRunner r → IsLetter (symbols_by r) (predicates_by r) x

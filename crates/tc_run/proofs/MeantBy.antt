@@ -27,8 +27,9 @@ use Rattle.tc_run.specs.Tasks.{IsTaskOf, IsMeant, built_in}
 use Rattle.tc_run.specs.declared.bodies.Meant.{Meant}
 use Rattle.tc_run.specs.declared.bodies.Meant.TheVariants as m
 use Rattle.tc_run.specs.declared.runner.Runner.{Runner}
+use Rattle.tc_run.proofs.Members.{has_got}
 use Rattle.tc_run.proofs.PartsOf.{rule_part, named_part, each_part}
-use Rattle.tc_run.proofs.RuleOf.{has_got, chosen_number, rule_chosen, mode_task, each_task}
+use Rattle.tc_run.proofs.RuleOf.{chosen_number, rule_chosen, mode_task, each_task}
 
 -- what stands past the end of a list of rules
 abbrev pub no_rule : RuleOf
