@@ -17,8 +17,9 @@ use Rattle.tc_model.specs.declared.tree.Raw.TheOpen as parts
 use Rattle.tc_model.specs.declared.tree.Raw.TheVariants.{rolls-Elem, rolls-Text}
 use Rattle.tc_model.specs.declared.tree.Raw.TheViews.{roll-Raw, out-Raw, roll-out-Raw}
 use Rattle.tc_model.proofs.ViewsRaw.{before_elem, before_text}
-use Rattle.tc_sheet.specs.Constructs.{IsPlaceIn, Stands, IsRefusedElement, reason_of}
-use Rattle.tc_sheet.specs.Constructs as constructs
+use Rattle.tc_sheet.specs.Constructs.{IsRefusedElement, reason_of}
+use Rattle.tc_sheet.specs.LookedAt.{Where, in_body, IsOpened, IsIn, IsAt, IsAnything, IsRefused}
+use Rattle.tc_sheet.specs.LookedAt as looked
 use Rattle.tc_sheet.specs.Changes.{Change, mended, flattened, both, TakesAway, ChangedAttributes, Changed, no_tree, a_text, an_element, taken_away}
 use Rattle.tc_sheet.specs.Readings.{Refuses, IsMisplaced, alone, attributes_of, scope_of, tag_with, HasNoAttributes, HasAttributesText, HasTest, HasNoTest, IsNotBlank, IsRead, HasNoInstruction, HasNoBody, IsItem, HasNoItem, IsElementItem, HasNoElementItem}
 use Rattle.tc_sheet.specs.Begun.{around, IsHead, IsBegunBy, IsAround, IsBegun}
@@ -31,7 +32,7 @@ use Rattle.tc_sheet.specs.declared.faults.SheetFault.{SheetFault}
 use Rattle.tc_sheet.specs.declared.faults.SheetFault.TheVariants.{Malformed, Unsupported, TooDeep, Undefined, CallLoop, NoMemory}
 use Rattle.tc_sheet.proofs.ViewsWritten.{pushed_written}
 use Rattle.tc_sheet.proofs.SameBodies.{some_is, not_literal, instruction_reason, literal_reason, not_taken}
-use Rattle.tc_sheet.proofs.Refusals.{Covers, lifted, covers_tag, covers_kids, covers_rest, covers_one, covers_beside_text}
+use Rattle.tc_sheet.proofs.Refusals.{Covers, lifted, covers_itself, both_cover, covers_tag, covers_kids, covers_rest, covers_one, covers_beside_text, covers_text, element_at}
 
 -- what an element that isn't taken away becomes
 pub by_element : (c : Change) {n : ExpandedName} {olds : List Attribute} {scope : List Bound} {q : ℕ} {kids rest : RawTrees} → (TakesAway c n → ⊥) → (P : RawTrees → Type 0)
@@ -82,6 +83,7 @@ item_of e i f is r = λ rest b y. p.an_instruction is (r b) y
 
 around_of : (e : RawElem) (i : Instruction) (h : _) → instruction_of (name e.name) ≡ Some i → IsHead i e h → IsAround e h
 around_of e i h is k = record {
+  opened = looked.an_instruction is k.holds;
   makes = λ rest inner b j y. p.an_instruction is (k.makes inner b j) y;
   needs = λ c g. no_item c e i is (λ olds kids b d u v y. let (inner, j) = k.needs _ kids b d y in g kids inner v j);
 }
@@ -93,6 +95,7 @@ begun_of e i begun.Choose is r = (is ∙ ap Some r.0, r.1)
 
 pub literal_around : (e : RawElem) → (name e.name).uri ≢ xsl_uri → AreLiteral (attributes_of e) → IsAround e (heads.Element e.name)
 literal_around e u l = record {
+  opened = looked.a_literal u;
   makes = λ rest inner b j y. p.a_literal u l j y;
   needs = λ c g rest k b x. by_element c (not_taken c (name e.name) (literal_reason (name e.name) u)) (λ (k : RawTrees). IsBody k b → ⊥)
       (λ bs others behind v w z y. let (m, inner, j) = unpaired (literal_there u y) in g others inner w j) k x;
@@ -102,36 +105,36 @@ literal_around e u l = record {
     unpaired (a, (b, c)) = (a, b, c)
 
 -- faults of parts of an element
-pub item_refuses : (e : RawElem) (i : Instruction) → instruction_of (name e.name) ≡ Some i → (x : SheetFault) → Refuses x (raw_element e none) (HasNoInstruction i e) → Refuses x (raw_element e none) (HasNoElementItem e)
-item_refuses e i is x r = lifted (record { places = λ q a. a; constructs = λ q why a. a; deep = λ q a. a }) (λ c h. no_item c e i is h) x r
+pub item_refuses : (e : RawElem) (i : Instruction) → instruction_of (name e.name) ≡ Some i → (x : SheetFault) → Refuses x (IsIn in_body (raw_element e none)) (HasNoInstruction i e) → Refuses x (IsIn in_body (raw_element e none)) (HasNoElementItem e)
+item_refuses e i is x r = lifted (covers_itself (IsIn in_body (raw_element e none))) (λ c h. no_item c e i is h) x r
 
-pub tag_refuses : {Q : List Attribute → Type 0} (e : RawElem) (i : Instruction) → ((olds : List Attribute) (kids : RawTrees) (b d : WrittenBody) → IsInstruction i (tag_with e olds) kids b d → Q olds)
-    → (x : SheetFault) → Refuses x (alone e) (HasNoAttributes e Q) → Refuses x (raw_element e none) (HasNoInstruction i e)
-tag_refuses e i f x r = lifted covers_tag (λ c h olds kids b d u v y. h olds u (f olds kids b d y)) x r
+pub tag_refuses : {Q : List Attribute → Type 0} {v : Where} (e : RawElem) (i : Instruction) → IsOpened in_body (name e.name) v → ((olds : List Attribute) (kids : RawTrees) (b d : WrittenBody) → IsInstruction i (tag_with e olds) kids b d → Q olds)
+    → (x : SheetFault) → Refuses x (alone e) (HasNoAttributes e Q) → Refuses x (IsIn in_body (raw_element e none)) (HasNoInstruction i e)
+tag_refuses e i o f x r = lifted (covers_tag o) (λ c h olds kids b d u v y. h olds u (f olds kids b d y)) x r
 
-pub kids_refuse : {Q : RawTrees → Type 0} (e : RawElem) (i : Instruction) → ((t : Tag) (kids : RawTrees) (b d : WrittenBody) → IsInstruction i t kids b d → Q kids)
-    → (x : SheetFault) → Refuses x (raw_trees e.kids.now) (λ c. (k : RawTrees) → Changed c (raw_trees e.kids.now) k → Q k → ⊥) → Refuses x (raw_element e none) (HasNoInstruction i e)
-kids_refuse e i f x r = lifted covers_kids (λ c h olds kids b d u v y. h kids v (f (tag_with e olds) kids b d y)) x r
+pub kids_refuse : {Q : RawTrees → Type 0} {v : Where} (e : RawElem) (i : Instruction) → IsOpened in_body (name e.name) v → ((t : Tag) (kids : RawTrees) (b d : WrittenBody) → IsInstruction i t kids b d → Q kids)
+    → (x : SheetFault) → Refuses x (IsIn v (raw_trees e.kids.now)) (λ c. (k : RawTrees) → Changed c (raw_trees e.kids.now) k → Q k → ⊥) → Refuses x (IsIn in_body (raw_element e none)) (HasNoInstruction i e)
+kids_refuse e i o f x r = lifted (covers_kids o) (λ c h olds kids b d u v y. h kids v (f (tag_with e olds) kids b d y)) x r
 
-pub literal_refuses : (e : RawElem) → (name e.name).uri ≢ xsl_uri → (x : SheetFault) → Refuses x (alone e) (HasNoAttributes e AreLiteral) → Refuses x (raw_element e none) (HasNoElementItem e)
+pub literal_refuses : (e : RawElem) → (name e.name).uri ≢ xsl_uri → (x : SheetFault) → Refuses x (alone e) (HasNoAttributes e AreLiteral) → Refuses x (IsIn in_body (raw_element e none)) (HasNoElementItem e)
 literal_refuses e u x r =
-    lifted covers_tag (λ c h rest k b y. by_element c (not_taken c (name e.name) (literal_reason (name e.name) u)) (λ (k : RawTrees). IsBody k b → ⊥) (λ bs others behind v w z a. h bs v (literal_there u a).0) k y) x r
+    lifted (covers_tag (looked.a_literal u)) (λ c h rest k b y. by_element c (not_taken c (name e.name) (literal_reason (name e.name) u)) (λ (k : RawTrees). IsBody k b → ⊥) (λ bs others behind v w z a. h bs v (literal_there u a).0) k y) x r
 
-pub body_refuses : (e : RawElem) (h : _) → IsAround e h → (x : SheetFault) → Refuses x (raw_trees e.kids.now) (HasNoBody (raw_trees e.kids.now)) → Refuses x (raw_element e none) (HasNoElementItem e)
-body_refuses e h a x r = lifted covers_kids a.needs x r
+pub body_refuses : (e : RawElem) (h : _) → IsAround e h → (x : SheetFault) → Refuses x (IsIn in_body (raw_trees e.kids.now)) (HasNoBody (raw_trees e.kids.now)) → Refuses x (IsIn in_body (raw_element e none)) (HasNoElementItem e)
+body_refuses e h a x r = lifted (covers_kids a.opened) a.needs x r
 
 -- the fault of an element that must not stand where it stands
-pub misplaced_is : (e : RawElem) (rest : RawTrees) (Q : Change → Type 0) → ((c : Change) → (TakesAway c (name e.name) → ⊥) → Q c) → (x : SheetFault) → IsMisplaced e x → Refuses x (raw_element e rest) Q
-misplaced_is e rest Q f (Malformed q) r = (subst (IsPlaceIn (raw_element e rest)) (sym r.0) constructs.at_element, f both (not_taken both (name e.name) r.1))
-misplaced_is e rest Q f (Unsupported q why) r = (subst (λ w. Stands (raw_element e rest) w why) (sym r.0) (constructs.at_element r.1), f flattened (λ t. t))
-misplaced_is e rest Q f (TooDeep q) r = absurd r
-misplaced_is e rest Q f (Undefined q) r = absurd r
-misplaced_is e rest Q f (CallLoop q) r = absurd r
-misplaced_is e rest Q f NoMemory r = absurd r
+pub misplaced_is : (w : Where) (e : RawElem) (rest : RawTrees) (Q : Change → Type 0) → ((c : Change) → (TakesAway c (name e.name) → ⊥) → Q c) → (x : SheetFault) → IsMisplaced e x → Refuses x (IsIn w (raw_element e rest)) Q
+misplaced_is w e rest Q f (Malformed q) r = (subst (IsAt (IsIn w (raw_element e rest)) IsAnything) (sym r.0) (element_at w e rest tt), f both (not_taken both (name e.name) r.1))
+misplaced_is w e rest Q f (Unsupported q why) r = (subst (IsAt (IsIn w (raw_element e rest)) (IsRefused why)) (sym r.0) (element_at w e rest r.1), f flattened (λ t. t))
+misplaced_is w e rest Q f (TooDeep q) r = absurd r
+misplaced_is w e rest Q f (Undefined q) r = absurd r
+misplaced_is w e rest Q f (CallLoop q) r = absurd r
+misplaced_is w e rest Q f NoMemory r = absurd r
 
-pub misplaced_in_body : (e : RawElem) → (name e.name).uri ≡ xsl_uri → instruction_of (name e.name) ≡ None → (x : SheetFault) → IsMisplaced e x → Refuses x (raw_element e none) (HasNoElementItem e)
+pub misplaced_in_body : (e : RawElem) → (name e.name).uri ≡ xsl_uri → instruction_of (name e.name) ≡ None → (x : SheetFault) → IsMisplaced e x → Refuses x (IsIn in_body (raw_element e none)) (HasNoElementItem e)
 misplaced_in_body e u f x r =
-    misplaced_is e none (HasNoElementItem e) (λ c stays rest k b y. by_element c stays (λ (k : RawTrees). IsBody k b → ⊥) (λ bs others behind v w z a. neither_there u f a) k y) x r
+    misplaced_is in_body e none (HasNoElementItem e) (λ c stays rest k b y. by_element c stays (λ (k : RawTrees). IsBody k b → ⊥) (λ bs others behind v w z a. neither_there u f a) k y) x r
 
 -- a text or an element
 pub data Shape (t : Raw) : Type 0 where
@@ -145,15 +148,13 @@ shape_of_layer (parts.Text s q) = subst Shape (sym (rolls-Text s q)) (is_text s.
 pub shape : (t : Raw) → Shape t
 shape t = subst Shape (roll-out-Raw t) (shape_of_layer (out-Raw t))
 
-pub covers_behind : (t : Raw) (rest : RawTrees) → Covers rest (raw_before t rest)
-covers_behind t rest = by (shape t)
+-- what stands behind a tree where all that stands behind another stands in the same way
+pub covers_behind : (w : Where) → ((n : ExpandedName) → looked.behind n w ≡ w) → (t : Raw) (rest : RawTrees) → Covers (IsIn w rest) (IsIn w (raw_before t rest))
+covers_behind w steady t rest = by (shape t)
   where
-    by : Shape t → Covers rest (raw_before t rest)
-    by (is_elem e f) = subst (Covers rest) (sym (f rest)) covers_rest
-    by (is_text s q f) = subst (Covers rest) (sym (f rest)) covers_beside_text
-
-pub both_cover : {g h k : RawTrees} → Covers g h → Covers h k → Covers g k
-both_cover a b = record { places = λ q x. b.places q (a.places q x); constructs = λ q why x. b.constructs q why (a.constructs q why x); deep = λ q x. b.deep q (a.deep q x) }
+    by : Shape t → Covers (IsIn w rest) (IsIn w (raw_before t rest))
+    by (is_elem e f) = subst (λ h. Covers (IsIn w rest) (IsIn w h)) (sym (f rest)) (covers_rest (steady (name e.name)))
+    by (is_text s q f) = subst (λ h. Covers (IsIn w rest) (IsIn w h)) (sym (f rest)) covers_beside_text
 
 text_rest : {s : List ℕ} {q : ℕ} {rest : RawTrees} (c : Change) → HasNoBody rest c → (k : RawTrees) (b : WrittenBody) → Changed c (text s q rest) k → IsBody k b → ⊥
 text_rest c g k b (a_text {k = behind} h) y = let (d, z) = behind_text y in g behind d h z
@@ -173,42 +174,29 @@ rest_only c t f item rest g = by (shape t)
 pub record BodyLoop (whole rest : RawTrees) (found : List Written) : Type 0 where
   pub so_far : (b : WrittenBody) → IsBody rest b → IsBody whole (written_before found b)
   pub no_more : (c : Change) → HasNoBody rest c → HasNoBody whole c
-  pub covers : Covers rest whole
+  pub covers : Covers (IsIn in_body rest) (IsIn in_body whole)
 
 pub body_begins : (whole : RawTrees) → BodyLoop whole whole []
-body_begins whole = record { so_far = λ b y. y; no_more = λ c g. g; covers = record { places = λ q a. a; constructs = λ q why a. a; deep = λ q a. a } }
+body_begins whole = record { so_far = λ b y. y; no_more = λ c g. g; covers = covers_itself (IsIn in_body whole) }
 
 pub body_goes_on : {whole : RawTrees} {found : List Written} (t : Raw) (rest : RawTrees) (f : WrittenBody → WrittenBody) (now : List Written) → IsItem t f → BodyLoop whole (raw_before t rest) found
     → ((b : WrittenBody) → written_before now b ≡ written_before found (f b)) → BodyLoop whole rest now
 body_goes_on {whole} t rest f now item l e = record {
   so_far = λ b y. subst (IsBody whole) (sym (e b)) (l.so_far (f b) (item rest b y));
   no_more = λ c g. l.no_more c (rest_only c t f item rest g);
-  covers = both_cover (covers_behind t rest) l.covers;
+  covers = both_cover (covers_behind in_body (λ n. refl) t rest) l.covers;
 }
 
 -- the fault of a tree is one of all
-pub covers_first : (t : Raw) (rest : RawTrees) → Covers (raw_before t none) (raw_before t rest)
-covers_first t rest = by (shape t)
+pub covers_first : (w : Where) (t : Raw) (rest : RawTrees) → Covers (IsIn w (raw_before t none)) (IsIn w (raw_before t rest))
+covers_first w t rest = by (shape t)
   where
-    of_text : {s : List ℕ} {q : ℕ} → Covers (text s q none) (text s q rest)
-    of_text = record { places = text_place; constructs = text_construct; deep = text_deep }
-      where
-        text_place : {s : List ℕ} {q : ℕ} (r : ℕ) → IsPlaceIn (text s q none) r → IsPlaceIn (text s q rest) r
-        text_place r constructs.at_text = constructs.at_text
-        text_place r (constructs.beside_text a) = elim a [ ]
+    by : Shape t → Covers (IsIn w (raw_before t none)) (IsIn w (raw_before t rest))
+    by (is_elem e f) = subst (λ h. Covers (IsIn w (raw_before t none)) (IsIn w h)) (sym (f rest)) (subst (λ h. Covers (IsIn w h) (IsIn w (raw_element e rest))) (sym (f none)) covers_one)
+    by (is_text s q f) = subst (λ h. Covers (IsIn w (raw_before t none)) (IsIn w h)) (sym (f rest)) (subst (λ h. Covers (IsIn w h) (IsIn w (text s q rest))) (sym (f none)) covers_text)
 
-        text_construct : {s : List ℕ} {q : ℕ} (r : ℕ) (why : Why) → Stands (text s q none) r why → Stands (text s q rest) r why
-        text_construct r why (constructs.beside_text a) = elim a [ ]
-
-        text_deep : {s : List ℕ} {q : ℕ} (r : ℕ) → constructs.DeepAt (text s q none) r → constructs.DeepAt (text s q rest) r
-        text_deep r (constructs.beside_text a) = elim a [ ]
-
-    by : Shape t → Covers (raw_before t none) (raw_before t rest)
-    by (is_elem e f) = subst (Covers (raw_before t none)) (sym (f rest)) (subst (λ h. Covers h (raw_element e rest)) (sym (f none)) covers_one)
-    by (is_text s q f) = subst (Covers (raw_before t none)) (sym (f rest)) (subst (λ h. Covers h (text s q rest)) (sym (f none)) of_text)
-
-pub item_of_body_refuses : {whole : RawTrees} (rest : RawTrees) {found : List Written} (t : Raw) → BodyLoop whole (raw_before t rest) found → (x : SheetFault) → Refuses x (raw_before t none) (HasNoItem t) → Refuses x whole (HasNoBody whole)
-item_of_body_refuses rest t l x r = lifted (both_cover (covers_first t rest) l.covers) (λ c h. l.no_more c (h rest)) x r
+pub item_of_body_refuses : {whole : RawTrees} (rest : RawTrees) {found : List Written} (t : Raw) → BodyLoop whole (raw_before t rest) found → (x : SheetFault) → Refuses x (IsIn in_body (raw_before t none)) (HasNoItem t) → Refuses x (IsIn in_body whole) (HasNoBody whole)
+item_of_body_refuses rest t l x r = lifted (both_cover (covers_first in_body t rest) l.covers) (λ c h. l.no_more c (h rest)) x r
 
 -- what a tree in a body is
 pub item_white : (t : Raw) (s : List ℕ) (q : ℕ) → ((rest : RawTrees) → raw_before t rest ≡ text s q rest) → IsTrue (is_all_white s) → IsItem t (put None)
@@ -220,9 +208,9 @@ item_text t s q x f w g = λ rest b y. subst (λ h. IsBody h (written x b)) (sym
 pub item_elem : (t : Raw) (e : RawElem) (f : WrittenBody → WrittenBody) → ((rest : RawTrees) → raw_before t rest ≡ raw_element e rest) → IsElementItem e f → IsItem t f
 item_elem t e f is a = λ rest b y. subst (λ h. IsBody h (f b)) (sym (is rest)) (a rest b y)
 
-pub item_elem_refuses : (t : Raw) (e : RawElem) → ((rest : RawTrees) → raw_before t rest ≡ raw_element e rest) → (x : SheetFault) → Refuses x (raw_element e none) (HasNoElementItem e) → Refuses x (raw_before t none) (HasNoItem t)
+pub item_elem_refuses : (t : Raw) (e : RawElem) → ((rest : RawTrees) → raw_before t rest ≡ raw_element e rest) → (x : SheetFault) → Refuses x (IsIn in_body (raw_element e none)) (HasNoElementItem e) → Refuses x (IsIn in_body (raw_before t none)) (HasNoItem t)
 item_elem_refuses t e is x r =
-    lifted (subst (Covers (raw_element e none)) (sym (is none)) (record { places = λ q a. a; constructs = λ q why a. a; deep = λ q a. a }))
+    lifted (subst (λ h. Covers (IsIn in_body (raw_element e none)) (IsIn in_body h)) (sym (is none)) (covers_itself (IsIn in_body (raw_element e none))))
     (λ c h rest. subst (λ k. HasNoBody k c) (sym (is rest)) (h rest)) x r
 
 pub body_ends : {whole rest : RawTrees} {found now : List Written} → BodyLoop whole rest found → rest ≡ none → now ≡ found → IsBody whole (written_before now w_nothing)
@@ -242,8 +230,8 @@ pub item_ok : (t : Raw) (e : RawElem) → ((rest : RawTrees) → raw_before t re
 item_ok t e is (Ok w) a = item_elem t e (put w) is a
 item_ok t e is (Err x) a = tt
 
-pub item_no : (t : Raw) (e : RawElem) → ((rest : RawTrees) → raw_before t rest ≡ raw_element e rest) → (r : Result (Option Written) SheetFault) → IfErr r (λ x. Refuses x (raw_element e none) (HasNoElementItem e))
-    → IfErr r (λ x. Refuses x (raw_before t none) (HasNoItem t))
+pub item_no : (t : Raw) (e : RawElem) → ((rest : RawTrees) → raw_before t rest ≡ raw_element e rest) → (r : Result (Option Written) SheetFault) → IfErr r (λ x. Refuses x (IsIn in_body (raw_element e none)) (HasNoElementItem e))
+    → IfErr r (λ x. Refuses x (IsIn in_body (raw_before t none)) (HasNoItem t))
 item_no t e is (Ok w) a = tt
 item_no t e is (Err x) a = item_elem_refuses t e is x a
 
@@ -251,6 +239,6 @@ pub begun_ok : (e : RawElem) (i : Instruction) → instruction_of (name e.name) 
 begun_ok e i is (Ok w) a = begun_of e i w is a
 begun_ok e i is (Err x) a = tt
 
-pub begun_no : (e : RawElem) (i : Instruction) → instruction_of (name e.name) ≡ Some i → (r : Result Begun SheetFault) → IfErr r (λ x. Refuses x (raw_element e none) (HasNoInstruction i e)) → IfErr r (λ x. Refuses x (raw_element e none) (HasNoElementItem e))
+pub begun_no : (e : RawElem) (i : Instruction) → instruction_of (name e.name) ≡ Some i → (r : Result Begun SheetFault) → IfErr r (λ x. Refuses x (IsIn in_body (raw_element e none)) (HasNoInstruction i e)) → IfErr r (λ x. Refuses x (IsIn in_body (raw_element e none)) (HasNoElementItem e))
 begun_no e i is (Ok w) a = tt
 begun_no e i is (Err x) a = item_refuses e i is x a

@@ -15,8 +15,9 @@ use Rattle.tc_model.specs.SheetTextPhrases as p
 use Rattle.tc_model.specs.SheetTextPhrases.{IsXsl, value_of, HasOnly, IsBlank, Required, Tag, tag, IsTag, i_choose, instruction_of, IsInstruction, IsBody, AreBranches}
 use Rattle.tc_model.specs.declared.tree.Raw.{Raw}
 use Rattle.tc_model.specs.declared.tree.RawElem.{RawElem}
-use Rattle.tc_sheet.specs.Constructs.{reason_of, IsPlaceIn}
-use Rattle.tc_sheet.specs.Constructs as constructs
+use Rattle.tc_sheet.specs.Constructs.{reason_of}
+use Rattle.tc_sheet.specs.LookedAt.{in_body, in_choose, in_blank, IsIn, IsAt, IsAnything}
+use Rattle.tc_sheet.specs.LookedAt as looked
 use Rattle.tc_sheet.specs.Changes.{Change, both, TakesAway, ChangedAttributes, Changed, no_tree, a_text, an_element, taken_away}
 use Rattle.tc_sheet.specs.Readings.{Refuses, IsMisplaced, alone, attributes_of, scope_of, tag_with, HasTest, HasNoTest, IsTested, HasNoTested, HasNoAttributes, HasNoBody, IsNotBlank, HasNoBranches, HasNoInstruction, IsElementItem, HasNoElementItem}
 use Rattle.tc_sheet.specs.Seen.{tag_of, body, branches}
@@ -24,9 +25,9 @@ use Rattle.tc_sheet.specs.declared.written.WrittenBranch.{WrittenBranch}
 use Rattle.tc_sheet.specs.declared.faults.SheetFault.{SheetFault}
 use Rattle.tc_sheet.specs.declared.faults.SheetFault.TheVariants.{Malformed}
 use Rattle.tc_sheet.proofs.SameBodies.{xsl_reason, not_taken, when_or_otherwise, branches_same}
-use Rattle.tc_sheet.proofs.Refusals.{Covers, lifted, covers_tag, covers_kids, covers_rest, covers_one, covers_beside_text}
+use Rattle.tc_sheet.proofs.Refusals.{Covers, lifted, moved, covers_itself, both_cover, covers_tag, covers_kids, covers_rest, covers_one, covers_beside_text, text_at}
 use Rattle.tc_sheet.proofs.ViewsWritten.{pushed_branch}
-use Rattle.tc_sheet.proofs.BodyLaws.{by_element, both_cover, covers_first, no_item, item_of, misplaced_is}
+use Rattle.tc_sheet.proofs.BodyLaws.{by_element, no_item, item_of, misplaced_is}
 
 -- what an element of an `xsl:choose` is
 when_there : {n : ExpandedName} {bs : List Attribute} {scope : List Bound} {q : ℕ} {others behind : RawTrees} {x : WrittenBranches} → IsXsl (codes "when") n → AreBranches (element n bs scope q others behind) x → (u : Test) × (b : WrittenBody) × IsTested (tag n bs scope q) others u b
@@ -61,11 +62,11 @@ otherwise_stays c n e = not_taken c n (xsl_reason n (codes "otherwise") refl e)
 pub when_read : (e : RawElem) (u : Test) (b : WrittenBody) → HasTest (scope_of e) (attributes_of e) u → IsBody (raw_trees e.kids.now) b → IsTested (tag_of e) (raw_trees e.kids.now) u b
 when_read e u b h i = record { only = h.only; test = h.test; body = i }
 
-pub when_test_refuses : (e : RawElem) (x : SheetFault) → Refuses x (alone e) (HasNoTest e) → Refuses x (raw_element e none) (HasNoTested e)
-when_test_refuses e x r = lifted covers_tag (λ c h olds kids u b v w y. h olds u v (record { only = y.only; test = y.test })) x r
+pub when_test_refuses : (e : RawElem) → IsXsl (codes "when") (name e.name) → (x : SheetFault) → Refuses x (alone e) (HasNoTest e) → Refuses x (IsIn in_choose (raw_element e none)) (HasNoTested e)
+when_test_refuses e n x r = lifted (covers_tag (looked.a_when n)) (λ c h olds kids u b v w y. h olds u v (record { only = y.only; test = y.test })) x r
 
-pub when_body_refuses : (e : RawElem) (x : SheetFault) → Refuses x (raw_trees e.kids.now) (HasNoBody (raw_trees e.kids.now)) → Refuses x (raw_element e none) (HasNoTested e)
-when_body_refuses e x r = lifted covers_kids (λ c h olds kids u b v w y. h kids b w y.body) x r
+pub when_body_refuses : (e : RawElem) → IsXsl (codes "when") (name e.name) → (x : SheetFault) → Refuses x (IsIn in_body (raw_trees e.kids.now)) (HasNoBody (raw_trees e.kids.now)) → Refuses x (IsIn in_choose (raw_element e none)) (HasNoTested e)
+when_body_refuses e n x r = lifted (covers_kids (looked.a_when n)) (λ c h olds kids u b v w y. h kids b w y.body) x r
 
 -- an `xsl:otherwise`, and what stands behind it
 module _ (e : RawElem) (after : RawTrees) (is : IsXsl (codes "otherwise") (name e.name)) where
@@ -76,14 +77,14 @@ module _ (e : RawElem) (after : RawTrees) (is : IsXsl (codes "otherwise") (name 
       → HasOnly [] bs × ((b : WrittenBody) × IsBody others b) × IsBlank behind → ⊥) → HasNoBranches (raw_element e after) c
   otherwise_by c f = λ k x u. by_element c (otherwise_stays c (name e.name) is) (λ (k : RawTrees). AreBranches k x → ⊥) (λ bs others behind v w z y. f bs others behind v w z (otherwise_there is y)) k u
 
-  pub otherwise_only_refuses : (x : SheetFault) → Refuses x (alone e) (HasNoAttributes e (HasOnly [])) → Refuses x (raw_element e after) (HasNoBranches (raw_element e after))
-  otherwise_only_refuses x r = lifted covers_tag (λ c h. otherwise_by c (λ bs others behind v w z t. h bs v t.0)) x r
+  pub otherwise_only_refuses : (x : SheetFault) → Refuses x (alone e) (HasNoAttributes e (HasOnly [])) → Refuses x (IsIn in_choose (raw_element e after)) (HasNoBranches (raw_element e after))
+  otherwise_only_refuses x r = lifted (covers_tag (looked.an_otherwise is)) (λ c h. otherwise_by c (λ bs others behind v w z t. h bs v t.0)) x r
 
-  pub otherwise_body_refuses : (x : SheetFault) → Refuses x (raw_trees e.kids.now) (HasNoBody (raw_trees e.kids.now)) → Refuses x (raw_element e after) (HasNoBranches (raw_element e after))
-  otherwise_body_refuses x r = lifted covers_kids (λ c h. otherwise_by c (λ bs others behind v w z t. h others t.1.0 w t.1.1)) x r
+  pub otherwise_body_refuses : (x : SheetFault) → Refuses x (IsIn in_body (raw_trees e.kids.now)) (HasNoBody (raw_trees e.kids.now)) → Refuses x (IsIn in_choose (raw_element e after)) (HasNoBranches (raw_element e after))
+  otherwise_body_refuses x r = lifted (covers_kids (looked.an_otherwise is)) (λ c h. otherwise_by c (λ bs others behind v w z t. h others t.1.0 w t.1.1)) x r
 
-  pub otherwise_blank_refuses : (x : SheetFault) → Refuses x after (IsNotBlank after) → Refuses x (raw_element e after) (HasNoBranches (raw_element e after))
-  otherwise_blank_refuses x r = lifted covers_rest (λ c h. otherwise_by c (λ bs others behind v w z t. h behind z t.2)) x r
+  pub otherwise_blank_refuses : (x : SheetFault) → Refuses x (IsIn in_blank after) (IsNotBlank after) → Refuses x (IsIn in_choose (raw_element e after)) (HasNoBranches (raw_element e after))
+  otherwise_blank_refuses x r = lifted (covers_rest (ap (λ (m : ExpandedName). looked.behind m in_choose) is)) (λ c h. otherwise_by c (λ bs others behind v w z t. h behind z t.2)) x r
 
 -- a text that is no white space, or another element, stands in no `xsl:choose`
 pub text_no_branch : (s : List ℕ) (q : ℕ) → IsFalse (is_all_white s) → (c : Change) (rest : RawTrees) → HasNoBranches (text s q rest) c
@@ -93,19 +94,19 @@ text_no_branch s q f c rest k x (a_text h) y = differ (white_there y) f
     differ a b = cc
 
 pub element_no_branch : (e : RawElem) → (IsXsl (codes "when") (name e.name) → ⊥) → (IsXsl (codes "otherwise") (name e.name) → ⊥) → (x : SheetFault) → IsMisplaced e x
-    → Refuses x (raw_element e none) (λ c. (rest : RawTrees) → HasNoBranches (raw_element e rest) c)
+    → Refuses x (IsIn in_choose (raw_element e none)) (λ c. (rest : RawTrees) → HasNoBranches (raw_element e rest) c)
 element_no_branch e f g x r =
-    misplaced_is e none (λ c. (rest : RawTrees) → HasNoBranches (raw_element e rest) c)
+    misplaced_is in_choose e none (λ c. (rest : RawTrees) → HasNoBranches (raw_element e rest) c)
     (λ c stays rest k y u. by_element c stays (λ (k : RawTrees). AreBranches k y → ⊥) (λ bs others behind v w z a. no_branch f g a) k u) x r
 
 -- the branches that are read, and what is left
 pub record BranchLoop (whole rest : RawTrees) (found : List WrittenBranch) : Type 0 where
   pub so_far : (x : WrittenBranches) → AreBranches rest x → AreBranches whole (branches found x)
   pub no_more : (c : Change) → HasNoBranches rest c → HasNoBranches whole c
-  pub covers : Covers rest whole
+  pub covers : Covers (IsIn in_choose rest) (IsIn in_choose whole)
 
 pub branches_begin : (whole : RawTrees) → BranchLoop whole whole []
-branches_begin whole = record { so_far = λ b y. y; no_more = λ c g. g; covers = record { places = λ q a. a; constructs = λ q why a. a; deep = λ q a. a } }
+branches_begin whole = record { so_far = λ b y. y; no_more = λ c g. g; covers = covers_itself (IsIn in_choose whole) }
 
 white_rest : {s : List ℕ} {q : ℕ} {rest : RawTrees} (c : Change) → HasNoBranches rest c → (k : RawTrees) (x : WrittenBranches) → Changed c (text s q rest) k → AreBranches k x → ⊥
 white_rest c g k x (a_text {k = behind} h) y = g behind x h (behind_white y)
@@ -115,7 +116,7 @@ module _ {whole rest left : RawTrees} {found : List WrittenBranch} (l : BranchLo
   past_blank s q e w = record {
     so_far = λ x y. l.so_far x (subst (λ h. AreBranches h x) (sym e) (p.between w y));
     no_more = λ c g. l.no_more c (subst (λ h. HasNoBranches h c) (sym e) (white_rest c g));
-    covers = both_cover (subst (Covers rest) (sym e) covers_beside_text) l.covers;
+    covers = both_cover (subst (λ h. Covers (IsIn in_choose rest) (IsIn in_choose h)) (sym e) covers_beside_text) l.covers;
   }
 
   module _ (e : RawElem) (is : left ≡ raw_element e rest) where
@@ -128,18 +129,18 @@ module _ {whole rest left : RawTrees} {found : List WrittenBranch} (l : BranchLo
           (l.so_far (w_branch (test b.test) (body b.body.now) x) (subst (λ h. AreBranches h (w_branch (test b.test) (body b.body.now) x)) (sym is) (p.a_when (record { name = n; only = t.only }) t.test t.body y))));
       no_more = λ c g. l.no_more c (subst (λ h. HasNoBranches h c) (sym is)
           (λ k x u. by_element c (when_stays c (name e.name) n) (λ (k : RawTrees). AreBranches k x → ⊥) (λ bs others behind v w z y. let (d, a) = behind_when n y in g behind d z a) k u));
-      covers = both_cover (subst (Covers rest) (sym is) covers_rest) l.covers;
+      covers = both_cover (subst (λ h. Covers (IsIn in_choose rest) (IsIn in_choose h)) (sym is) (covers_rest (ap (λ (m : ExpandedName). looked.behind m in_choose) n))) l.covers;
     }
 
-    pub when_refuses : IsXsl (codes "when") (name e.name) → (x : SheetFault) → Refuses x (raw_element e none) (HasNoTested e) → Refuses x whole (HasNoBranches whole)
-    when_refuses n x r = lifted (both_cover (subst (Covers (raw_element e none)) (sym is) covers_one) l.covers) (λ c h. l.no_more c (subst (λ h. HasNoBranches h c) (sym is)
+    pub when_refuses : IsXsl (codes "when") (name e.name) → (x : SheetFault) → Refuses x (IsIn in_choose (raw_element e none)) (HasNoTested e) → Refuses x (IsIn in_choose whole) (HasNoBranches whole)
+    when_refuses n x r = lifted (both_cover (subst (λ h. Covers (IsIn in_choose (raw_element e none)) (IsIn in_choose h)) (sym is) covers_one) l.covers) (λ c h. l.no_more c (subst (λ h. HasNoBranches h c) (sym is)
         (λ k y u. by_element c (when_stays c (name e.name) n) (λ (k : RawTrees). AreBranches k y → ⊥) (λ bs others behind v w z a. let (t, b, j) = when_there n a in h bs others t b v w j) k u))) x r
 
     pub all_read : (inner : WrittenBody) → AreBranches (raw_element e rest) (w_otherwise inner) → AreBranches whole (branches found (w_otherwise inner))
     all_read inner a = l.so_far (w_otherwise inner) (subst (λ h. AreBranches h (w_otherwise inner)) (sym is) a)
 
-    pub otherwise_refuses : (x : SheetFault) → Refuses x (raw_element e rest) (HasNoBranches (raw_element e rest)) → Refuses x whole (HasNoBranches whole)
-    otherwise_refuses x r = lifted (both_cover (subst (Covers (raw_element e rest)) (sym is) (record { places = λ q a. a; constructs = λ q why a. a; deep = λ q a. a })) l.covers)
+    pub otherwise_refuses : (x : SheetFault) → Refuses x (IsIn in_choose (raw_element e rest)) (HasNoBranches (raw_element e rest)) → Refuses x (IsIn in_choose whole) (HasNoBranches whole)
+    otherwise_refuses x r = lifted (both_cover (subst (λ h. Covers (IsIn in_choose (raw_element e rest)) (IsIn in_choose h)) (sym is) (covers_itself (IsIn in_choose (raw_element e rest)))) l.covers)
         (λ c h. l.no_more c (subst (λ h. HasNoBranches h c) (sym is) h)) x r
 
 pub none_left : {whole left : RawTrees} {found : List WrittenBranch} → BranchLoop whole left found → left ≡ none → AreBranches whole (branches found (w_otherwise w_nothing))
@@ -153,8 +154,8 @@ no_when : {u : Test} {i b : WrittenBody} {x : WrittenBranches} → w_otherwise b
 no_when e = cc
 
 module _ (e : RawElem) (is : instruction_of (name e.name) ≡ Some i_choose) where
-  pub choose_refuses : (x : SheetFault) → Refuses x (raw_trees e.kids.now) (HasNoBranches (raw_trees e.kids.now)) → Refuses x (raw_element e none) (HasNoElementItem e)
-  choose_refuses x r = lifted covers_kids (λ c h. no_item c e i_choose is (λ olds kids b d v w y. let (u, i, z, s) = choose_branches y in h kids (w_branch u i z) w s)) x r
+  pub choose_refuses : (x : SheetFault) → Refuses x (IsIn in_choose (raw_trees e.kids.now)) (HasNoBranches (raw_trees e.kids.now)) → Refuses x (IsIn in_body (raw_element e none)) (HasNoElementItem e)
+  choose_refuses x r = lifted (covers_kids (looked.an_instruction is refl)) (λ c h. no_item c e i_choose is (λ olds kids b d v w y. let (u, i, z, s) = choose_branches y in h kids (w_branch u i z) w s)) x r
 
   pub without_when : (b : WrittenBody) → AreBranches (raw_trees e.kids.now) (w_otherwise b) → (c : Change) → HasNoElementItem e c
   without_when b a c = no_item c e i_choose is (λ olds kids y d v w j. let (u, i, z, s) = choose_branches j in no_when (branches_same c w a s))
@@ -165,12 +166,12 @@ module _ (e : RawElem) (is : instruction_of (name e.name) ≡ Some i_choose) whe
 
 -- faults of a tree in an `xsl:choose`
 module _ {whole left : RawTrees} {found : List WrittenBranch} (l : BranchLoop whole left found) where
-  pub black_refuses : (s : List ℕ) (q : ℕ) (rest : RawTrees) → left ≡ text s q rest → IsFalse (is_all_white s) → IsPlaceIn whole q × HasNoBranches whole both
-  black_refuses s q rest e f = (l.covers.places q (subst (λ h. IsPlaceIn h q) (sym e) constructs.at_text), l.no_more both (subst (λ h. HasNoBranches h both) (sym e) (text_no_branch s q f both rest)))
+  pub black_refuses : (s : List ℕ) (q : ℕ) (rest : RawTrees) → left ≡ text s q rest → IsFalse (is_all_white s) → IsAt (IsIn in_choose whole) IsAnything q × HasNoBranches whole both
+  black_refuses s q rest e f = (moved l.covers (subst (λ h. IsAt (IsIn in_choose h) IsAnything q) (sym e) (text_at in_choose s q rest)), l.no_more both (subst (λ h. HasNoBranches h both) (sym e) (text_no_branch s q f both rest)))
 
-  pub odd_refuses : (e : RawElem) (rest : RawTrees) → left ≡ raw_element e rest → (x : SheetFault) → Refuses x (raw_element e none) (λ c. (rest : RawTrees) → HasNoBranches (raw_element e rest) c) → Refuses x whole (HasNoBranches whole)
+  pub odd_refuses : (e : RawElem) (rest : RawTrees) → left ≡ raw_element e rest → (x : SheetFault) → Refuses x (IsIn in_choose (raw_element e none)) (λ c. (rest : RawTrees) → HasNoBranches (raw_element e rest) c) → Refuses x (IsIn in_choose whole) (HasNoBranches whole)
   odd_refuses e rest is x r =
-      lifted (both_cover (subst (Covers (raw_element e none)) (sym is) covers_one) l.covers) (λ c h. l.no_more c (subst (λ h. HasNoBranches h c) (sym is) (h rest))) x r
+      lifted (both_cover (subst (λ h. Covers (IsIn in_choose (raw_element e none)) (IsIn in_choose h)) (sym is) covers_one) l.covers) (λ c h. l.no_more c (subst (λ h. HasNoBranches h c) (sym is) (h rest))) x r
 
 pub is_when : (b : Bool) (n : ExpandedName) → b ≡ false → MatchBool b (IsXsl (codes "otherwise") n) (IsXsl (codes "when") n) → IsXsl (codes "when") n
 is_when false n e m = m

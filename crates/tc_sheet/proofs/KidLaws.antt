@@ -7,15 +7,12 @@ use Rattle.tc_model.specs.Names.{ExpandedName}
 use Rattle.tc_model.specs.Seen.{name, place, raw_trees, raw_element}
 use Rattle.tc_model.specs.SheetTextPhrases.{IsBlank, at_end, past_white, AreCharacters, no_characters, characters}
 use Rattle.tc_model.specs.declared.tree.RawElem.{RawElem}
-use Rattle.tc_sheet.specs.Constructs as constructs
+use Rattle.tc_sheet.specs.LookedAt.{in_blank, IsIn, IsAt, IsAnything}
 use Rattle.tc_sheet.specs.Changes.{Change, both, Changed, a_text}
 use Rattle.tc_sheet.specs.Readings.{Refuses, IsMisplaced, IsNotBlank, HasNoCharacters}
 use Rattle.tc_sheet.specs.declared.faults.SheetFault.{SheetFault}
-use Rattle.tc_sheet.proofs.Refusals.{Covers, lifted, covers_one, covers_rest, covers_beside_text}
-use Rattle.tc_sheet.proofs.BodyLaws.{by_element, both_cover, misplaced_is}
-
-covers_itself : (h : RawTrees) → Covers h h
-covers_itself h = record { places = λ q a. a; constructs = λ q why a. a; deep = λ q a. a }
+use Rattle.tc_sheet.proofs.Refusals.{Covers, lifted, moved, covers_itself, both_cover, covers_beside_text, text_at}
+use Rattle.tc_sheet.proofs.BodyLaws.{by_element, misplaced_is}
 
 no_blank_element : {n : ExpandedName} {bs : List Attribute} {scope : List Bound} {q : ℕ} {kids rest : RawTrees} → IsBlank (element n bs scope q kids rest) → ⊥
 no_blank_element b = elim b [ ]
@@ -33,10 +30,10 @@ rest_characters (characters {t = u} a) = (u, a)
 pub record BlankLoop (whole rest : RawTrees) : Type 0 where
   pub so_far : IsBlank rest → IsBlank whole
   pub no_more : (c : Change) → IsNotBlank rest c → IsNotBlank whole c
-  pub covers : Covers rest whole
+  pub covers : Covers (IsIn in_blank rest) (IsIn in_blank whole)
 
 pub blank_begins : (whole : RawTrees) → BlankLoop whole whole
-blank_begins whole = record { so_far = λ b. b; no_more = λ c g. g; covers = covers_itself whole }
+blank_begins whole = record { so_far = λ b. b; no_more = λ c g. g; covers = covers_itself (IsIn in_blank whole) }
 
 blank_rest : {s : List ℕ} {q : ℕ} {rest : RawTrees} (c : Change) → IsNotBlank rest c → (k : RawTrees) → Changed c (text s q rest) k → IsBlank k → ⊥
 blank_rest c g k (a_text {k = behind} h) b = g behind h (white_text b).1
@@ -49,25 +46,25 @@ module _ {whole left rest : RawTrees} (l : BlankLoop whole left) where
   past_blank_text s q e w = record {
     so_far = λ b. l.so_far (subst IsBlank (sym e) (past_white w b));
     no_more = λ c g. l.no_more c (subst (λ h. IsNotBlank h c) (sym e) (blank_rest c g));
-    covers = both_cover (subst (Covers rest) (sym e) covers_beside_text) l.covers;
+    covers = both_cover (subst (λ h. Covers (IsIn in_blank rest) (IsIn in_blank h)) (sym e) covers_beside_text) l.covers;
   }
 
-  pub text_not_blank : (s : List ℕ) (q : ℕ) → left ≡ text s q rest → IsFalse (is_all_white s) → constructs.IsPlaceIn whole q × IsNotBlank whole both
-  text_not_blank s q e f = (l.covers.places q (subst (λ h. constructs.IsPlaceIn h q) (sym e) constructs.at_text), l.no_more both (subst (λ h. IsNotBlank h both) (sym e) (black_text both f)))
+  pub text_not_blank : (s : List ℕ) (q : ℕ) → left ≡ text s q rest → IsFalse (is_all_white s) → IsAt (IsIn in_blank whole) IsAnything q × IsNotBlank whole both
+  text_not_blank s q e f = (moved l.covers (subst (λ h. IsAt (IsIn in_blank h) IsAnything q) (sym e) (text_at in_blank s q rest)), l.no_more both (subst (λ h. IsNotBlank h both) (sym e) (black_text both f)))
 
-  pub element_not_blank : (e : RawElem) → left ≡ raw_element e rest → (x : SheetFault) → IsMisplaced e x → Refuses x whole (IsNotBlank whole)
+  pub element_not_blank : (e : RawElem) → left ≡ raw_element e rest → (x : SheetFault) → IsMisplaced e x → Refuses x (IsIn in_blank whole) (IsNotBlank whole)
   element_not_blank e is x r =
-      lifted (both_cover (subst (Covers (raw_element e rest)) (sym is) (covers_itself (raw_element e rest))) l.covers) (λ c h. l.no_more c (subst (λ h. IsNotBlank h c) (sym is) h)) x
-      (misplaced_is e rest (IsNotBlank (raw_element e rest)) (λ c stays k u. by_element c stays (λ (k : RawTrees). IsBlank k → ⊥) (λ bs others behind v w z b. no_blank_element b) k u) x r)
+      lifted (both_cover (subst (λ h. Covers (IsIn in_blank (raw_element e rest)) (IsIn in_blank h)) (sym is) (covers_itself (IsIn in_blank (raw_element e rest)))) l.covers) (λ c h. l.no_more c (subst (λ h. IsNotBlank h c) (sym is) h)) x
+      (misplaced_is in_blank e rest (IsNotBlank (raw_element e rest)) (λ c stays k u. by_element c stays (λ (k : RawTrees). IsBlank k → ⊥) (λ bs others behind v w z b. no_blank_element b) k u) x r)
 
 -- the texts that are joined, and what is left
 pub record TextLoop (whole rest : RawTrees) (all : List ℕ) : Type 0 where
   pub so_far : (s : List ℕ) → AreCharacters rest s → AreCharacters whole (all ++ s)
   pub no_more : (c : Change) → HasNoCharacters rest c → HasNoCharacters whole c
-  pub covers : Covers rest whole
+  pub covers : Covers (IsIn in_blank rest) (IsIn in_blank whole)
 
 pub texts_begin : (whole : RawTrees) → TextLoop whole whole []
-texts_begin whole = record { so_far = λ s b. b; no_more = λ c g. g; covers = covers_itself whole }
+texts_begin whole = record { so_far = λ s b. b; no_more = λ c g. g; covers = covers_itself (IsIn in_blank whole) }
 
 text_rest : {s : List ℕ} {q : ℕ} {rest : RawTrees} (c : Change) → HasNoCharacters rest c → (k : RawTrees) (t : List ℕ) → Changed c (text s q rest) k → AreCharacters k t → ⊥
 text_rest c g k t (a_text {k = behind} h) b = let (u, a) = rest_characters b in g behind u h a
@@ -77,13 +74,13 @@ module _ {whole left rest : RawTrees} {all : List ℕ} (l : TextLoop whole left 
   one_more_text s now q e f = record {
     so_far = λ t b. subst (AreCharacters whole) (sym (append_assoc all s t) ∙ ap (λ w. w ++ t) (sym f)) (l.so_far (s ++ t) (subst (λ h. AreCharacters h (s ++ t)) (sym e) (characters b)));
     no_more = λ c g. l.no_more c (subst (λ h. HasNoCharacters h c) (sym e) (text_rest c g));
-    covers = both_cover (subst (Covers rest) (sym e) covers_beside_text) l.covers;
+    covers = both_cover (subst (λ h. Covers (IsIn in_blank rest) (IsIn in_blank h)) (sym e) covers_beside_text) l.covers;
   }
 
-  pub element_no_characters : (e : RawElem) → left ≡ raw_element e rest → (x : SheetFault) → IsMisplaced e x → Refuses x whole (HasNoCharacters whole)
+  pub element_no_characters : (e : RawElem) → left ≡ raw_element e rest → (x : SheetFault) → IsMisplaced e x → Refuses x (IsIn in_blank whole) (HasNoCharacters whole)
   element_no_characters e is x r =
-      lifted (both_cover (subst (Covers (raw_element e rest)) (sym is) (covers_itself (raw_element e rest))) l.covers) (λ c h. l.no_more c (subst (λ h. HasNoCharacters h c) (sym is) h)) x
-      (misplaced_is e rest (HasNoCharacters (raw_element e rest)) (λ c stays k s u. by_element c stays (λ (k : RawTrees). AreCharacters k s → ⊥) (λ bs others behind v w z b. no_character_element b) k u) x r)
+      lifted (both_cover (subst (λ h. Covers (IsIn in_blank (raw_element e rest)) (IsIn in_blank h)) (sym is) (covers_itself (IsIn in_blank (raw_element e rest)))) l.covers) (λ c h. l.no_more c (subst (λ h. HasNoCharacters h c) (sym is) h)) x
+      (misplaced_is in_blank e rest (HasNoCharacters (raw_element e rest)) (λ c stays k s u. by_element c stays (λ (k : RawTrees). AreCharacters k s → ⊥) (λ bs others behind v w z b. no_character_element b) k u) x r)
 
 append_nothing : (s : List ℕ) → s ++ [] ≡ s
 append_nothing [] = refl

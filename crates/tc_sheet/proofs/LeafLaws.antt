@@ -13,6 +13,8 @@ use Rattle.std.proofs.Common.{Bool, true, false, bytes_eq, if◌then◌else◌}
 use Rattle.std.proofs.lemmas.Slice.Eq.{bytes_eq-Decides}
 use Rattle.tc_model.specs.declared.tree.RawElem.{RawElem}
 use Rattle.tc_sheet.specs.Changes.{Change, Changed, ChangedAttributes}
+use Rattle.tc_sheet.specs.LookedAt.{Where, in_body, in_blank, held, IsOpened, IsIn}
+use Rattle.tc_sheet.specs.LookedAt as looked
 use Rattle.tc_sheet.specs.Readings.{Refuses, alone, attributes_of, scope_of, tag_with, HasNoAttributes, HasNoRequired, HasNoOptional, HasAttributesText, HasTest, HasNoTest, IsNotBlank, HasNoCharacters, HasNoInstruction, HasNoBody}
 use Rattle.tc_sheet.specs.declared.faults.SheetFault.{SheetFault}
 use Rattle.tc_sheet.proofs.Refused.{refused, by_required, by_optional}
@@ -99,89 +101,6 @@ copy_body (p.a_copy {inner = inner} o i) = (inner, i)
 pub element_body : {t : Tag} {kids : RawTrees} {b d : WrittenBody} → IsInstruction i_element t kids b d → (inner : WrittenBody) × IsBody kids inner
 element_body (p.an_element {inner = inner} o n i) = (inner, i)
 
--- the fault of an attribute or of what an instruction holds is one of the instruction
-module _ (e : RawElem) (x : SheetFault) where
-  abbrev pub OfTag : (Change → Type 0) → Type 0
-  OfTag P = Refuses x (alone e) P
-
-  abbrev pub OfInstruction : Instruction → Type 0
-  OfInstruction i = Refuses x (raw_element e none) (HasNoInstruction i e)
-
-  abbrev pub OfKids : (Change → Type 0) → Type 0
-  OfKids P = Refuses x (raw_trees e.kids.now) P
-
-  pub of_apply_only : OfTag (HasNoAttributes e (HasOnly (codes "select" ∷ codes "mode" ∷ []))) → OfInstruction i_apply
-  of_apply_only r = tag_refuses e i_apply (λ olds kids b d y. apply_only y) x r
-
-  pub of_apply_select : OfTag (HasNoOptional e (codes "select") (SelectText (scope_of e))) → OfInstruction i_apply
-  of_apply_select r = tag_refuses e i_apply (λ olds kids b d y. apply_select y) x (refused (alone e) (by_optional e (λ olds q. q)) x r)
-
-  pub of_apply_mode : OfTag (HasNoOptional e (codes "mode") (NameText (scope_of e))) → OfInstruction i_apply
-  of_apply_mode r = tag_refuses e i_apply (λ olds kids b d y. apply_mode y) x (refused (alone e) (by_optional e (λ olds q. q)) x r)
-
-  pub of_apply_blank : OfKids (IsNotBlank (raw_trees e.kids.now)) → OfInstruction i_apply
-  of_apply_blank r = kids_refuse e i_apply (λ t kids b d y. apply_blank y) x r
-
-  pub of_call_only : OfTag (HasNoAttributes e (HasOnly (codes "name" ∷ []))) → OfInstruction i_call
-  of_call_only r = tag_refuses e i_call (λ olds kids b d y. call_only y) x r
-
-  pub of_call_name : OfTag (HasNoRequired e (codes "name") (NameText (scope_of e))) → OfInstruction i_call
-  of_call_name r = tag_refuses e i_call (λ olds kids b d y. call_name y) x (refused (alone e) (by_required e (λ olds q. q)) x r)
-
-  pub of_call_blank : OfKids (IsNotBlank (raw_trees e.kids.now)) → OfInstruction i_call
-  of_call_blank r = kids_refuse e i_call (λ t kids b d y. call_blank y) x r
-
-  pub of_value_only : OfTag (HasNoAttributes e (HasOnly (codes "select" ∷ []))) → OfInstruction i_value
-  of_value_only r = tag_refuses e i_value (λ olds kids b d y. value_only y) x r
-
-  pub of_value_select : OfTag (HasNoRequired e (codes "select") (ValueText (scope_of e))) → OfInstruction i_value
-  of_value_select r = tag_refuses e i_value (λ olds kids b d y. value_select y) x (refused (alone e) (by_required e (λ olds q. q)) x r)
-
-  pub of_value_blank : OfKids (IsNotBlank (raw_trees e.kids.now)) → OfInstruction i_value
-  of_value_blank r = kids_refuse e i_value (λ t kids b d y. value_blank y) x r
-
-  pub of_each_only : OfTag (HasNoAttributes e (HasOnly (codes "select" ∷ []))) → OfInstruction i_each
-  of_each_only r = tag_refuses e i_each (λ olds kids b d y. each_only y) x r
-
-  pub of_each_select : OfTag (HasNoRequired e (codes "select") (SelectText (scope_of e))) → OfInstruction i_each
-  of_each_select r = tag_refuses e i_each (λ olds kids b d y. each_select y) x (refused (alone e) (by_required e (λ olds q. q)) x r)
-
-  pub of_if_test : OfTag (HasNoTest e) → OfInstruction i_if
-  of_if_test r = tag_refuses e i_if (λ olds kids b d y. if_test y) x (refused (alone e) (λ c h olds u q. let (v, a) = unpaired q in h olds v u a) x r)
-    where
-      unpaired : {P : Test → Type 0} → ((u : Test) × P u) → (u : Test) × P u
-      unpaired q = q
-
-  pub of_choose_only : OfTag (HasNoAttributes e (HasOnly [])) → OfInstruction i_choose
-  of_choose_only r = tag_refuses e i_choose (λ olds kids b d y. choose_only y) x r
-
-  pub of_text_only : OfTag (HasNoAttributes e (HasOnly [])) → OfInstruction i_text
-  of_text_only r = tag_refuses e i_text (λ olds kids b d y. text_only y) x r
-
-  pub of_text_characters : OfKids (HasNoCharacters (raw_trees e.kids.now)) → OfInstruction i_text
-  of_text_characters r = kids_refuse e i_text (λ t kids b d y. text_characters y) x (refused (raw_trees e.kids.now) uncurried x r)
-    where
-      uncurried : (c : Change) → HasNoCharacters (raw_trees e.kids.now) c → (k : RawTrees) → Changed c (raw_trees e.kids.now) k → (s : List ℕ) × AreCharacters k s → ⊥
-      uncurried c h k u (s, a) = h k s u a
-
-  pub of_copy_only : OfTag (HasNoAttributes e (HasOnly [])) → OfInstruction i_copy
-  of_copy_only r = tag_refuses e i_copy (λ olds kids b d y. copy_only y) x r
-
-  pub of_element_only : OfTag (HasNoAttributes e (HasOnly (codes "name" ∷ []))) → OfInstruction i_element
-  of_element_only r = tag_refuses e i_element (λ olds kids b d y. element_only y) x r
-
-  pub of_element_name : OfTag (HasNoRequired e (codes "name") (ElementNameText (scope_of e))) → OfInstruction i_element
-  of_element_name r = tag_refuses e i_element (λ olds kids b d y. element_name y) x (refused (alone e) (by_required e (λ olds q. q)) x r)
-
-  pub of_copy_of_only : OfTag (HasNoAttributes e (HasOnly (codes "select" ∷ []))) → OfInstruction i_copy_of
-  of_copy_of_only r = tag_refuses e i_copy_of (λ olds kids b d y. copy_of_only y) x r
-
-  pub of_copy_of_select : OfTag (HasNoAttributes e (HasAttributesText (scope_of e))) → OfInstruction i_copy_of
-  of_copy_of_select r = tag_refuses e i_copy_of (λ olds kids b d y. copy_of_select y) x r
-
-  pub of_copy_of_blank : OfKids (IsNotBlank (raw_trees e.kids.now)) → OfInstruction i_copy_of
-  of_copy_of_blank r = kids_refuse e i_copy_of (λ t kids b d y. copy_of_blank y) x r
-
 -- the name of an instruction
 abbrev pub local_of : Instruction → List ℕ
 local_of i_apply = codes "apply-templates"
@@ -195,6 +114,106 @@ local_of i_copy = codes "copy"
 local_of i_element = codes "element"
 local_of i_attribute = codes "attribute"
 local_of i_copy_of = codes "copy-of"
+
+named_back : (i : Instruction) → instruction_of (record { uri = xsl_uri; local = local_of i }) ≡ Some i
+named_back i_apply = refl
+named_back i_call = refl
+named_back i_value = refl
+named_back i_each = refl
+named_back i_if = refl
+named_back i_choose = refl
+named_back i_text = refl
+named_back i_copy = refl
+named_back i_element = refl
+named_back i_attribute = refl
+named_back i_copy_of = refl
+
+opened : {w : Where} {n : ExpandedName} (i : Instruction) → held i ≡ Some w → IsXsl (local_of i) n → IsOpened in_body n w
+opened i e is = looked.an_instruction (ap instruction_of is ∙ named_back i) e
+
+-- the fault of an attribute or of what an instruction holds is one of the instruction
+module _ (e : RawElem) (x : SheetFault) where
+  abbrev pub OfTag : (Change → Type 0) → Type 0
+  OfTag P = Refuses x (alone e) P
+
+  abbrev pub OfInstruction : Instruction → Type 0
+  OfInstruction i = Refuses x (IsIn in_body (raw_element e none)) (HasNoInstruction i e)
+
+  abbrev pub OfKids : (Change → Type 0) → Type 0
+  OfKids P = Refuses x (IsIn in_blank (raw_trees e.kids.now)) P
+
+
+  pub of_apply_only : IsXsl (codes "apply-templates") (name e.name) → OfTag (HasNoAttributes e (HasOnly (codes "select" ∷ codes "mode" ∷ []))) → OfInstruction i_apply
+  of_apply_only n r = tag_refuses e i_apply (opened i_apply refl n) (λ olds kids b d y. apply_only y) x r
+
+  pub of_apply_select : IsXsl (codes "apply-templates") (name e.name) → OfTag (HasNoOptional e (codes "select") (SelectText (scope_of e))) → OfInstruction i_apply
+  of_apply_select n r = tag_refuses e i_apply (opened i_apply refl n) (λ olds kids b d y. apply_select y) x (refused (alone e) (by_optional e (λ olds q. q)) x r)
+
+  pub of_apply_mode : IsXsl (codes "apply-templates") (name e.name) → OfTag (HasNoOptional e (codes "mode") (NameText (scope_of e))) → OfInstruction i_apply
+  of_apply_mode n r = tag_refuses e i_apply (opened i_apply refl n) (λ olds kids b d y. apply_mode y) x (refused (alone e) (by_optional e (λ olds q. q)) x r)
+
+  pub of_apply_blank : IsXsl (codes "apply-templates") (name e.name) → OfKids (IsNotBlank (raw_trees e.kids.now)) → OfInstruction i_apply
+  of_apply_blank n r = kids_refuse e i_apply (opened i_apply refl n) (λ t kids b d y. apply_blank y) x r
+
+  pub of_call_only : IsXsl (codes "call-template") (name e.name) → OfTag (HasNoAttributes e (HasOnly (codes "name" ∷ []))) → OfInstruction i_call
+  of_call_only n r = tag_refuses e i_call (opened i_call refl n) (λ olds kids b d y. call_only y) x r
+
+  pub of_call_name : IsXsl (codes "call-template") (name e.name) → OfTag (HasNoRequired e (codes "name") (NameText (scope_of e))) → OfInstruction i_call
+  of_call_name n r = tag_refuses e i_call (opened i_call refl n) (λ olds kids b d y. call_name y) x (refused (alone e) (by_required e (λ olds q. q)) x r)
+
+  pub of_call_blank : IsXsl (codes "call-template") (name e.name) → OfKids (IsNotBlank (raw_trees e.kids.now)) → OfInstruction i_call
+  of_call_blank n r = kids_refuse e i_call (opened i_call refl n) (λ t kids b d y. call_blank y) x r
+
+  pub of_value_only : IsXsl (codes "value-of") (name e.name) → OfTag (HasNoAttributes e (HasOnly (codes "select" ∷ []))) → OfInstruction i_value
+  of_value_only n r = tag_refuses e i_value (opened i_value refl n) (λ olds kids b d y. value_only y) x r
+
+  pub of_value_select : IsXsl (codes "value-of") (name e.name) → OfTag (HasNoRequired e (codes "select") (ValueText (scope_of e))) → OfInstruction i_value
+  of_value_select n r = tag_refuses e i_value (opened i_value refl n) (λ olds kids b d y. value_select y) x (refused (alone e) (by_required e (λ olds q. q)) x r)
+
+  pub of_value_blank : IsXsl (codes "value-of") (name e.name) → OfKids (IsNotBlank (raw_trees e.kids.now)) → OfInstruction i_value
+  of_value_blank n r = kids_refuse e i_value (opened i_value refl n) (λ t kids b d y. value_blank y) x r
+
+  pub of_each_only : IsXsl (codes "for-each") (name e.name) → OfTag (HasNoAttributes e (HasOnly (codes "select" ∷ []))) → OfInstruction i_each
+  of_each_only n r = tag_refuses e i_each (opened i_each refl n) (λ olds kids b d y. each_only y) x r
+
+  pub of_each_select : IsXsl (codes "for-each") (name e.name) → OfTag (HasNoRequired e (codes "select") (SelectText (scope_of e))) → OfInstruction i_each
+  of_each_select n r = tag_refuses e i_each (opened i_each refl n) (λ olds kids b d y. each_select y) x (refused (alone e) (by_required e (λ olds q. q)) x r)
+
+  pub of_if_test : IsXsl (codes "if") (name e.name) → OfTag (HasNoTest e) → OfInstruction i_if
+  of_if_test n r = tag_refuses e i_if (opened i_if refl n) (λ olds kids b d y. if_test y) x (refused (alone e) (λ c h olds u q. let (v, a) = unpaired q in h olds v u a) x r)
+    where
+      unpaired : {P : Test → Type 0} → ((u : Test) × P u) → (u : Test) × P u
+      unpaired q = q
+
+  pub of_choose_only : IsXsl (codes "choose") (name e.name) → OfTag (HasNoAttributes e (HasOnly [])) → OfInstruction i_choose
+  of_choose_only n r = tag_refuses e i_choose (opened i_choose refl n) (λ olds kids b d y. choose_only y) x r
+
+  pub of_text_only : IsXsl (codes "text") (name e.name) → OfTag (HasNoAttributes e (HasOnly [])) → OfInstruction i_text
+  of_text_only n r = tag_refuses e i_text (opened i_text refl n) (λ olds kids b d y. text_only y) x r
+
+  pub of_text_characters : IsXsl (codes "text") (name e.name) → OfKids (HasNoCharacters (raw_trees e.kids.now)) → OfInstruction i_text
+  of_text_characters n r = kids_refuse e i_text (opened i_text refl n) (λ t kids b d y. text_characters y) x (refused (IsIn in_blank (raw_trees e.kids.now)) uncurried x r)
+    where
+      uncurried : (c : Change) → HasNoCharacters (raw_trees e.kids.now) c → (k : RawTrees) → Changed c (raw_trees e.kids.now) k → (s : List ℕ) × AreCharacters k s → ⊥
+      uncurried c h k u (s, a) = h k s u a
+
+  pub of_copy_only : IsXsl (codes "copy") (name e.name) → OfTag (HasNoAttributes e (HasOnly [])) → OfInstruction i_copy
+  of_copy_only n r = tag_refuses e i_copy (opened i_copy refl n) (λ olds kids b d y. copy_only y) x r
+
+  pub of_element_only : IsXsl (codes "element") (name e.name) → OfTag (HasNoAttributes e (HasOnly (codes "name" ∷ []))) → OfInstruction i_element
+  of_element_only n r = tag_refuses e i_element (opened i_element refl n) (λ olds kids b d y. element_only y) x r
+
+  pub of_element_name : IsXsl (codes "element") (name e.name) → OfTag (HasNoRequired e (codes "name") (ElementNameText (scope_of e))) → OfInstruction i_element
+  of_element_name n r = tag_refuses e i_element (opened i_element refl n) (λ olds kids b d y. element_name y) x (refused (alone e) (by_required e (λ olds q. q)) x r)
+
+  pub of_copy_of_only : IsXsl (codes "copy-of") (name e.name) → OfTag (HasNoAttributes e (HasOnly (codes "select" ∷ []))) → OfInstruction i_copy_of
+  of_copy_of_only n r = tag_refuses e i_copy_of (opened i_copy_of refl n) (λ olds kids b d y. copy_of_only y) x r
+
+  pub of_copy_of_select : IsXsl (codes "copy-of") (name e.name) → OfTag (HasNoAttributes e (HasAttributesText (scope_of e))) → OfInstruction i_copy_of
+  of_copy_of_select n r = tag_refuses e i_copy_of (opened i_copy_of refl n) (λ olds kids b d y. copy_of_select y) x r
+
+  pub of_copy_of_blank : IsXsl (codes "copy-of") (name e.name) → OfKids (IsNotBlank (raw_trees e.kids.now)) → OfInstruction i_copy_of
+  of_copy_of_blank n r = kids_refuse e i_copy_of (opened i_copy_of refl n) (λ t kids b d y. copy_of_blank y) x r
 
 abbrev AreNamed : List NamedInstruction → Type 0
 AreNamed [] = Unit {0}

@@ -9,6 +9,7 @@ pub mod LawfulNumbers
 pub mod NameNumbers
 pub mod WrittenParts
 pub mod TableKeys
+pub mod NamedAgain
 pub mod CallLaws
 pub mod CallChecks
 pub mod TableLaws

@@ -22,13 +22,15 @@ use Rattle.tc_model.proofs.PathTextLexing.{tokens_unique}
 use Rattle.tc_path.specs.Faults.{Deep}
 use Rattle.tc_path.proofs.NodeTestLaws.{means_without, means_with, means_nothing}
 use Rattle.tc_path.proofs.TokenLaws.{no_length}
-use Rattle.tc_sheet.specs.Constructs.{IsRoot, IsOfContext, plain, Stands, IsPlaceIn}
+use Rattle.tc_sheet.specs.Constructs.{IsRoot, plain}
+use Rattle.tc_sheet.specs.LookedAt.{IsAt, IsAnything, IsRefused}
 use Rattle.tc_sheet.specs.Constructs as constructs
 use Rattle.tc_sheet.specs.Changes.{Change, both, flattened, exchanged, ChangedAttributes}
 use Rattle.tc_sheet.specs.Readings.{Refuses, alone, attributes_of, scope_of, IsAttribute, HasAttributesText, HasNoAttributes, HasNoRequired, HasNoOptional}
 use Rattle.tc_sheet.specs.declared.faults.SheetFault.{SheetFault}
 use Rattle.tc_sheet.proofs.Changes.{Becomes, value_becomes, kept_value}
 use Rattle.tc_sheet.proofs.SameBodies.{unpacked, optional_unpacked}
+use Rattle.tc_sheet.proofs.Refusals.{attribute_at}
 use Rattle.tc_sheet.proofs.Refused.{refused, no_required, by_required}
 use Rattle.tc_sheet.proofs.AttributeLaws.{plain_name, plain_name_is, xsl_name, bytes_same, differs}
 
@@ -60,16 +62,16 @@ module _ {X : Type 0} (M : List ℕ → X → Type 0) {e : RawElem} {local : Lis
   kept_optional f at h c olds o u r = let (x, g, m) = optional_unpacked (subst (λ w. Optional M w o) (kept_value c local f u ∙ at.value) r) in h x m
 
   pub required_malformed : {a : RawAttr} → IsFalse (list_any (bytes_eq local) exchanged) → IsAttribute e local a → ((x : X) → M (attribute a).value x → ⊥)
-      → IsPlaceIn (alone e) (place a.place) × HasNoRequired e local M both
-  required_malformed f at h = (constructs.at_attribute at.has, kept_required f at h both)
+      → IsAt (alone e) IsAnything (place a.place) × HasNoRequired e local M both
+  required_malformed {a = a} f at h = (attribute_at e a at.has tt, kept_required f at h both)
 
   pub optional_malformed : {a : RawAttr} → IsFalse (list_any (bytes_eq local) exchanged) → IsAttribute e local a → ((x : X) → M (attribute a).value x → ⊥)
-      → IsPlaceIn (alone e) (place a.place) × HasNoOptional e local M both
-  optional_malformed f at h = (constructs.at_attribute at.has, kept_optional f at h both)
+      → IsAt (alone e) IsAnything (place a.place) × HasNoOptional e local M both
+  optional_malformed {a = a} f at h = (attribute_at e a at.has tt, kept_optional f at h both)
 
   pub required_unsupported : {a : RawAttr} {why : Why} → IsFalse (list_any (bytes_eq local) exchanged) → IsAttribute e local a → ((x : X) → M (attribute a).value x → ⊥)
-      → constructs.IsRefusedAttribute (name e.name) (scope_of e) (attribute a) why → Stands (alone e) (place a.place) why × HasNoRequired e local M flattened
-  required_unsupported f at h r = (constructs.at_attribute at.has r, kept_required f at h flattened)
+      → constructs.IsRefusedAttribute (name e.name) (scope_of e) (attribute a) why → IsAt (alone e) (IsRefused why) (place a.place) × HasNoRequired e local M flattened
+  required_unsupported {a = a} f at h r = (attribute_at e a at.has r, kept_required f at h flattened)
 
 pub required_refuses : {X : Type 0} (e : RawElem) (local : List ℕ) (M : List ℕ → X → Type 0) (x : SheetFault) → Refuses x (alone e) (HasNoAttributes e (λ olds. (s : List ℕ) × (value_of local olds ≡ Some s))) → Refuses x (alone e) (HasNoRequired e local M)
 required_refuses e local M x r = refused (alone e) (λ c h. no_required e local M c h) x r
@@ -134,8 +136,8 @@ attributes_there e a at t = record { written = (attribute a).value; has = at.val
 
 -- a select with other nodes is exchanged for none of attributes alone, unless it nests too deep
 pub not_attributes : (e : RawElem) (a : RawAttr) → IsXsl (codes "copy-of") (name e.name) → IsAttribute e (codes "select") a → (q : Path) × SelectText (scope_of e) (attribute a).value q → (AttributesText (scope_of e) (attribute a).value → ⊥)
-    → Stands (alone e) (place a.place) N39 × HasNoAttributes e (HasAttributesText (scope_of e)) flattened
-not_attributes e a n at (q, s) refuses = (constructs.at_attribute at.has (constructs.copied n at.name s refuses), none_changed)
+    → IsAt (alone e) (IsRefused N39) (place a.place) × HasNoAttributes e (HasAttributesText (scope_of e)) flattened
+not_attributes e a n at (q, s) refuses = (attribute_at e a at.has (constructs.copied n at.name s refuses), none_changed)
   where
     by : (olds : List Attribute) → Becomes flattened (codes "select") (Some (attribute a).value) (value_of (codes "select") olds) → HasAttributesText (scope_of e) olds → ⊥
     by olds (t, f, inl g) h = refuses (subst (AttributesText (scope_of e)) (some_same h.has f ∙ g) h.text)
@@ -147,33 +149,33 @@ not_attributes e a n at (q, s) refuses = (constructs.at_attribute at.has (constr
 -- attributes that an element must not have
 module _ (e : RawElem) (a : RawAttr) (has : Contains (attributes_of e) (attribute a)) where
   module _ (xslt : (name e.name).uri ≡ xsl_uri) (no_uri : is_empty (attribute a).name.uri ≡ true) where
-    pub escaping_at : bytes_eq (attribute a).name.local (codes "disable-output-escaping") ≡ true → Stands (alone e) (place a.place) N37
-    escaping_at f = constructs.at_attribute has (constructs.escaping xslt (plain_name (attribute a).name (codes "disable-output-escaping") no_uri f))
+    pub escaping_at : bytes_eq (attribute a).name.local (codes "disable-output-escaping") ≡ true → IsAt (alone e) (IsRefused N37) (place a.place)
+    escaping_at f = attribute_at e a has (constructs.escaping xslt (plain_name (attribute a).name (codes "disable-output-escaping") no_uri f))
 
-    pub sets_at : bytes_eq (attribute a).name.local (codes "use-attribute-sets") ≡ true → Stands (alone e) (place a.place) N40
-    sets_at f = constructs.at_attribute has (constructs.sets xslt (plain_name (attribute a).name (codes "use-attribute-sets") no_uri f))
+    pub sets_at : bytes_eq (attribute a).name.local (codes "use-attribute-sets") ≡ true → IsAt (alone e) (IsRefused N40) (place a.place)
+    sets_at f = attribute_at e a has (constructs.sets xslt (plain_name (attribute a).name (codes "use-attribute-sets") no_uri f))
 
-    pub namespace_at : bytes_eq (attribute a).name.local (codes "namespace") ≡ true → IsXsl (codes "element") (name e.name) → Stands (alone e) (place a.place) N38
-    namespace_at f n = constructs.at_attribute has (constructs.of_namespace n (plain_name (attribute a).name (codes "namespace") no_uri f))
+    pub namespace_at : bytes_eq (attribute a).name.local (codes "namespace") ≡ true → IsXsl (codes "element") (name e.name) → IsAt (alone e) (IsRefused N38) (place a.place)
+    namespace_at f n = attribute_at e a has (constructs.of_namespace n (plain_name (attribute a).name (codes "namespace") no_uri f))
 
-    pub extension_at : bytes_eq (attribute a).name.local (codes "extension-element-prefixes") ≡ true → IsRoot (name e.name) → Stands (alone e) (place a.place) N35
-    extension_at f n = constructs.at_attribute has (constructs.extension n (plain_name (attribute a).name (codes "extension-element-prefixes") no_uri f))
+    pub extension_at : bytes_eq (attribute a).name.local (codes "extension-element-prefixes") ≡ true → IsRoot (name e.name) → IsAt (alone e) (IsRefused N35) (place a.place)
+    extension_at f n = attribute_at e a has (constructs.extension n (plain_name (attribute a).name (codes "extension-element-prefixes") no_uri f))
 
-  pub place_at : IsPlaceIn (alone e) (place a.place)
-  place_at = constructs.at_attribute has
+  pub place_at : IsAt (alone e) IsAnything (place a.place)
+  place_at = attribute_at e a has tt
 
-  pub literal_sets_at : (name e.name).uri ≢ xsl_uri → (attribute a).name.uri ≡ xsl_uri → bytes_eq (attribute a).name.local (codes "use-attribute-sets") ≡ true → Stands (alone e) (place a.place) N40
-  literal_sets_at u v f = constructs.at_attribute has (constructs.literal_sets u (xsl_name (attribute a).name (codes "use-attribute-sets") v (bytes_same (attribute a).name.local (codes "use-attribute-sets") f)))
+  pub literal_sets_at : (name e.name).uri ≢ xsl_uri → (attribute a).name.uri ≡ xsl_uri → bytes_eq (attribute a).name.local (codes "use-attribute-sets") ≡ true → IsAt (alone e) (IsRefused N40) (place a.place)
+  literal_sets_at u v f = attribute_at e a has (constructs.literal_sets u (xsl_name (attribute a).name (codes "use-attribute-sets") v (bytes_same (attribute a).name.local (codes "use-attribute-sets") f)))
 
   pub unknown_at : (name e.name).uri ≢ xsl_uri → (attribute a).name.uri ≡ xsl_uri → (attribute a).name.local ≢ codes "exclude-result-prefixes" → bytes_eq (attribute a).name.local (codes "use-attribute-sets") ≡ false
-      → Stands (alone e) (place a.place) N42
-  unknown_at u v f g = constructs.at_attribute has (constructs.unknown u v f (differs (attribute a).name.local (codes "use-attribute-sets") g))
+      → IsAt (alone e) (IsRefused N42) (place a.place)
+  unknown_at u v f g = attribute_at e a has (constructs.unknown u v f (differs (attribute a).name.local (codes "use-attribute-sets") g))
 
 -- the version
 pub version_refused : (e : RawElem) (a : RawAttr) → IsRoot (name e.name) → IsAttribute e (codes "version") a → bytes_eq (attribute a).value (codes "1.0") ≡ false
-    → Stands (alone e) (place a.place) N41 × HasNoAttributes e (λ olds. value_of (codes "version") olds ≡ Some (codes "1.0")) flattened
+    → IsAt (alone e) (IsRefused N41) (place a.place) × HasNoAttributes e (λ olds. value_of (codes "version") olds ≡ Some (codes "1.0")) flattened
 version_refused e a n at f = (
-  constructs.at_attribute at.has (constructs.version n at.name (differs (attribute a).value (codes "1.0") f)),
+  attribute_at e a at.has (constructs.version n at.name (differs (attribute a).value (codes "1.0") f)),
   λ olds u g. differs (attribute a).value (codes "1.0") f (some_same at.value (sym (kept_value flattened (codes "version") refl u) ∙ g)),
 )
 

@@ -94,16 +94,16 @@ module _ (e : RawElem) where
   copy_of_read o a k = λ rest. p.copy_of_attributes o a.has a.text k
 
   pub each_head : (w : Path) → HasOnly (codes "select" ∷ []) (attributes_of e) → Required (SelectText (scope_of e)) (value_of (codes "select") (attributes_of e)) (path w) → IsHead i_each e (heads.ForEach w)
-  each_head w o a = record { makes = λ inner b j. p.for_each o a j; needs = λ g kids b d y. each_body y }
+  each_head w o a = record { holds = refl; makes = λ inner b j. p.for_each o a j; needs = λ g kids b d y. each_body y }
 
   pub if_head : (u : Test) → HasTest (scope_of e) (attributes_of e) (test u) → IsHead i_if e (heads.If u)
-  if_head u a = record { makes = λ inner b j. p.an_if a.only a.test j; needs = λ g kids b d y. if_body y }
+  if_head u a = record { holds = refl; makes = λ inner b j. p.an_if a.only a.test j; needs = λ g kids b d y. if_body y }
 
   pub copy_head : HasOnly [] (attributes_of e) → IsHead i_copy e heads.Copy
-  copy_head o = record { makes = λ inner b j. p.a_copy o j; needs = λ g kids b d y. copy_body y }
+  copy_head o = record { holds = refl; makes = λ inner b j. p.a_copy o j; needs = λ g kids b d y. copy_body y }
 
   pub element_head : (n : Name) → HasOnly (codes "name" ∷ []) (attributes_of e) → Required (ElementNameText (scope_of e)) (value_of (codes "name") (attributes_of e)) (name n) → IsHead i_element e (heads.Element n)
-  element_head n o a = record { makes = λ inner b j. p.an_element o a j; needs = λ g kids b d y. element_body y }
+  element_head n o a = record { holds = refl; makes = λ inner b j. p.an_element o a j; needs = λ g kids b d y. element_body y }
 
   pub no_attribute_read : IsRead p.i_attribute e (λ b. b)
   no_attribute_read = λ rest. p.an_attribute

@@ -1,125 +1,102 @@
 -- What a fault of a part of a tree says of the whole.
-use Rattle.std.proofs.Common.{◌≡◌, ◌⊎◌, inl, inr, ℕ, List, ◌∷◌, refl, ap, ◌∙◌, sym, subst, Option, None, Some, IsTrue, bytes_eq, map}
+use Rattle.std.proofs.Common.{◌≡◌, ◌⊎◌, inl, inr, ℕ, List, ◌∷◌, refl, ap, ◌∙◌, sym, subst, Option, None, Some, IsTrue, bytes_eq, map, Contains}
 use Rattle.std.specs.List.{list_any}
 use Rattle.tc_base.specs.declared.reasons.Why.{Why}
 use Rattle.tc_model.specs.Names.{ExpandedName}
 use Rattle.tc_model.specs.RawTrees.{Attribute, Bound, RawTrees, none, text, element}
-use Rattle.tc_model.specs.Seen.{name, place, attribute}
+use Rattle.tc_model.specs.Seen.{name, place, attribute, raw_element}
 use Rattle.tc_model.specs.PathTextTokens.{Token, IsTooDeep}
 use Rattle.tc_model.specs.PathText.{Forms}
-use Rattle.tc_model.specs.SheetTextPhrases.{value_of, Optional, left_out, given, Required, is_given}
+use Rattle.tc_model.specs.SheetTextPhrases.{tag, value_of, Optional, left_out, given, Required, is_given}
 use Rattle.tc_model.specs.declared.tree.RawAttr.{RawAttr}
 use Rattle.tc_model.specs.declared.tree.RawElem.{RawElem}
 use Rattle.tc_model.proofs.PathTextLexing.{tokens_unique}
 use Rattle.tc_path.specs.declared.PathFault.{PathFault}
 use Rattle.tc_path.specs.declared.PathFault.TheVariants as path
-use Rattle.tc_path.specs.Contexts.{Context}
 use Rattle.tc_path.specs.Faults as paths
 use Rattle.tc_path.specs.Faults.{FormsOnceRenamed, Deep}
-use Rattle.tc_sheet.specs.Constructs.{IsOfContext, plain, Stands, DeepAt, IsPlaceIn, in_path}
-use Rattle.tc_sheet.specs.Constructs as constructs
+use Rattle.tc_sheet.specs.Constructs.{Form, context_of, HasForm, MustHave, plain, in_path}
+use Rattle.tc_sheet.specs.LookedAt.{Where, Item, of_text, of_element, of_attribute, IsOpened, IsIn, IsAt, IsAnything, IsRefused, IsDeep}
+use Rattle.tc_sheet.specs.LookedAt as looked
+use Rattle.tc_sheet.specs.Seen.{tag_of}
 use Rattle.tc_sheet.specs.Changes.{Change, mended, flattened, both, Exchanges, IsRenamed, exchanged, ChangedAttributes}
 use Rattle.tc_sheet.specs.PathFaults.{path_fault_at}
-use Rattle.tc_sheet.specs.Readings.{Refuses, alone, attributes_of, IsAttribute, HasNoRequired, HasNoOptional}
+use Rattle.tc_sheet.specs.Readings.{Refuses, IsOfTag, itself, attribute_of, alone, attributes_of, scope_of, IsAttribute, HasNoRequired, HasNoOptional}
 use Rattle.tc_sheet.specs.declared.faults.SheetFault.{SheetFault}
 use Rattle.tc_sheet.specs.declared.faults.SheetFault.TheVariants.{Malformed, Unsupported, TooDeep, Undefined, CallLoop, NoMemory}
 use Rattle.tc_sheet.proofs.Changes.{Becomes, value_becomes}
 use Rattle.tc_sheet.proofs.SameBodies.{unpacked, optional_unpacked}
 
--- what stands in the first stands in the second
-pub record Covers (h k : RawTrees) : Type 0 where
-  pub places : (q : ℕ) → IsPlaceIn h q → IsPlaceIn k q
-  pub constructs : (q : ℕ) (why : Why) → Stands h q why → Stands k q why
-  pub deep : (q : ℕ) → DeepAt h q → DeepAt k q
+-- what is of the first is of the second
+pub record Covers (Has Has' : Item → Type 0) : Type 0 where
+  pub moves : (x : Item) → Has x → Has' x
 
-pub lifted : {P Q : Change → Type 0} {h k : RawTrees} → Covers h k → ((c : Change) → P c → Q c) → (e : SheetFault) → Refuses e h P → Refuses e k Q
-lifted v f (Malformed p) r = (v.places (place p) r.0, f both r.1)
-lifted v f (Unsupported p why) r = (v.constructs (place p) why r.0, f flattened r.1)
-lifted v f (TooDeep p) r = (v.deep (place p) r.0, f mended r.1)
+pub moved : {Has Has' P : Item → Type 0} {q : ℕ} → Covers Has Has' → IsAt Has P q → IsAt Has' P q
+moved v a = record { item = a.item; has = v.moves a.item a.has; holds = a.holds; stands = a.stands }
+
+pub lifted : {P Q : Change → Type 0} {Has Has' : Item → Type 0} → Covers Has Has' → ((c : Change) → P c → Q c) → (e : SheetFault) → Refuses e Has P → Refuses e Has' Q
+lifted v f (Malformed p) r = (moved v r.0, f both r.1)
+lifted v f (Unsupported p why) r = (moved v r.0, f flattened r.1)
+lifted v f (TooDeep p) r = (moved v r.0, f mended r.1)
 lifted v f (Undefined p) r = r
 lifted v f (CallLoop p) r = r
 lifted v f NoMemory r = tt
 
--- nothing stands in no tree
-abbrev HasTree : RawTrees → Type 0
-HasTree none = ⊥
-HasTree (text s p rest) = Unit {0}
-HasTree (element n olds scope p kids rest) = Unit {0}
+pub covers_itself : (Has : Item → Type 0) → Covers Has Has
+covers_itself Has = record { moves = λ x a. a }
 
-place_in : {h : RawTrees} {q : ℕ} → IsPlaceIn h q → HasTree h
-place_in constructs.at_text = tt
-place_in (constructs.beside_text a) = tt
-place_in constructs.at_element = tt
-place_in (constructs.at_attribute a) = tt
-place_in (constructs.inside a) = tt
-place_in (constructs.beside_element a) = tt
+pub both_cover : {Has Has' Third : Item → Type 0} → Covers Has Has' → Covers Has' Third → Covers Has Third
+both_cover v w = record { moves = λ x a. w.moves x (v.moves x a) }
 
-stands_in : {h : RawTrees} {q : ℕ} {why : Why} → Stands h q why → HasTree h
-stands_in (constructs.beside_text a) = tt
-stands_in (constructs.beside_element a) = tt
-stands_in (constructs.inside a) = tt
-stands_in (constructs.at_element a) = tt
-stands_in (constructs.at_attribute a b) = tt
-
-deep_in : {h : RawTrees} {q : ℕ} → DeepAt h q → HasTree h
-deep_in (constructs.beside_text a) = tt
-deep_in (constructs.beside_element a) = tt
-deep_in (constructs.inside a) = tt
-deep_in (constructs.at_attribute a b d) = tt
-
-no_tree_there : HasTree none → ⊥
-no_tree_there h = h
+nothing_there : {w : Where} {x : Item} → IsIn w none x → ⊥
+nothing_there a = elim a [ ]
 
 module _ {n : ExpandedName} {olds : List Attribute} {scope : List Bound} {p : ℕ} {kids rest : RawTrees} where
-  tag_place : (q : ℕ) → IsPlaceIn (element n olds scope p none none) q → IsPlaceIn (element n olds scope p kids rest) q
-  tag_place q constructs.at_element = constructs.at_element
-  tag_place q (constructs.at_attribute a) = constructs.at_attribute a
-  tag_place q (constructs.inside a) = absurd (no_tree_there (place_in a))
-  tag_place q (constructs.beside_element a) = absurd (no_tree_there (place_in a))
+  in_tag : {w v : Where} → IsOpened w n v → (x : Item) → IsOfTag (tag n olds scope p) x → IsIn w (element n olds scope p kids rest) x
+  in_tag o x itself = looked.at_element
+  in_tag o x (attribute_of a) = looked.at_attribute o a
 
-  tag_construct : (q : ℕ) (why : Why) → Stands (element n olds scope p none none) q why → Stands (element n olds scope p kids rest) q why
-  tag_construct q why (constructs.beside_element a) = absurd (no_tree_there (stands_in a))
-  tag_construct q why (constructs.inside a) = absurd (no_tree_there (stands_in a))
-  tag_construct q why (constructs.at_element a) = constructs.at_element a
-  tag_construct q why (constructs.at_attribute a b) = constructs.at_attribute a b
+  pub covers_tag : {w v : Where} → IsOpened w n v → Covers (IsOfTag (tag n olds scope p)) (IsIn w (element n olds scope p kids rest))
+  covers_tag o = record { moves = λ x a. in_tag o x a }
 
-  tag_deep : (q : ℕ) → DeepAt (element n olds scope p none none) q → DeepAt (element n olds scope p kids rest) q
-  tag_deep q (constructs.beside_element a) = absurd (no_tree_there (deep_in a))
-  tag_deep q (constructs.inside a) = absurd (no_tree_there (deep_in a))
-  tag_deep q (constructs.at_attribute a b d) = constructs.at_attribute a b d
+  pub covers_kids : {w v : Where} → IsOpened w n v → Covers (IsIn v kids) (IsIn w (element n olds scope p kids rest))
+  covers_kids o = record { moves = λ x a. looked.inside o a }
 
-  pub covers_tag : Covers (element n olds scope p none none) (element n olds scope p kids rest)
-  covers_tag = record { places = tag_place; constructs = tag_construct; deep = tag_deep }
+  pub covers_rest : {w v : Where} → looked.behind n w ≡ v → Covers (IsIn v rest) (IsIn w (element n olds scope p kids rest))
+  covers_rest e = record { moves = λ x a. looked.beside_element (subst (λ u. IsIn u rest x) (sym e) a) }
 
-  pub covers_kids : Covers kids (element n olds scope p kids rest)
-  covers_kids = record { places = λ q a. constructs.inside a; constructs = λ q why a. constructs.inside a; deep = λ q a. constructs.inside a }
+  one_moves : {w : Where} (x : Item) → IsIn w (element n olds scope p kids none) x → IsIn w (element n olds scope p kids rest) x
+  one_moves x looked.at_element = looked.at_element
+  one_moves x (looked.at_attribute o a) = looked.at_attribute o a
+  one_moves x (looked.inside o a) = looked.inside o a
+  one_moves x (looked.beside_element a) = absurd (nothing_there a)
 
-  pub covers_rest : Covers rest (element n olds scope p kids rest)
-  covers_rest = record { places = λ q a. constructs.beside_element a; constructs = λ q why a. constructs.beside_element a; deep = λ q a. constructs.beside_element a }
-
-  one_place : (q : ℕ) → IsPlaceIn (element n olds scope p kids none) q → IsPlaceIn (element n olds scope p kids rest) q
-  one_place q constructs.at_element = constructs.at_element
-  one_place q (constructs.at_attribute a) = constructs.at_attribute a
-  one_place q (constructs.inside a) = constructs.inside a
-  one_place q (constructs.beside_element a) = absurd (no_tree_there (place_in a))
-
-  one_construct : (q : ℕ) (why : Why) → Stands (element n olds scope p kids none) q why → Stands (element n olds scope p kids rest) q why
-  one_construct q why (constructs.beside_element a) = absurd (no_tree_there (stands_in a))
-  one_construct q why (constructs.inside a) = constructs.inside a
-  one_construct q why (constructs.at_element a) = constructs.at_element a
-  one_construct q why (constructs.at_attribute a b) = constructs.at_attribute a b
-
-  one_deep : (q : ℕ) → DeepAt (element n olds scope p kids none) q → DeepAt (element n olds scope p kids rest) q
-  one_deep q (constructs.beside_element a) = absurd (no_tree_there (deep_in a))
-  one_deep q (constructs.inside a) = constructs.inside a
-  one_deep q (constructs.at_attribute a b d) = constructs.at_attribute a b d
-
-  pub covers_one : Covers (element n olds scope p kids none) (element n olds scope p kids rest)
-  covers_one = record { places = one_place; constructs = one_construct; deep = one_deep }
+  pub covers_one : {w : Where} → Covers (IsIn w (element n olds scope p kids none)) (IsIn w (element n olds scope p kids rest))
+  covers_one = record { moves = one_moves }
 
 module _ {s : List ℕ} {p : ℕ} {rest : RawTrees} where
-  pub covers_beside_text : Covers rest (text s p rest)
-  covers_beside_text = record { places = λ q a. constructs.beside_text a; constructs = λ q why a. constructs.beside_text a; deep = λ q a. constructs.beside_text a }
+  pub covers_beside_text : {w : Where} → Covers (IsIn w rest) (IsIn w (text s p rest))
+  covers_beside_text = record { moves = λ x a. looked.beside_text a }
+
+  text_moves : {w : Where} (x : Item) → IsIn w (text s p none) x → IsIn w (text s p rest) x
+  text_moves x looked.at_text = looked.at_text
+  text_moves x (looked.beside_text a) = absurd (nothing_there a)
+
+  pub covers_text : {w : Where} → Covers (IsIn w (text s p none)) (IsIn w (text s p rest))
+  covers_text = record { moves = text_moves }
+
+-- an element, and an attribute of it, at their places
+pub itself_at : (e : RawElem) → IsAt (alone e) IsAnything (place e.place)
+itself_at e = record { item = of_element (tag_of e); has = itself; holds = tt; stands = refl }
+
+pub attribute_at : (e : RawElem) (a : RawAttr) {P : Item → Type 0} → Contains (attributes_of e) (attribute a) → P (of_attribute (tag_of e) (attribute a)) → IsAt (alone e) P (place a.place)
+attribute_at e a has h = record { item = of_attribute (tag_of e) (attribute a); has = attribute_of has; holds = h; stands = refl }
+
+pub element_at : (w : Where) (e : RawElem) (rest : RawTrees) {P : Item → Type 0} → P (of_element (tag_of e)) → IsAt (IsIn w (raw_element e rest)) P (place e.place)
+element_at w e rest h = record { item = of_element (tag_of e); has = looked.at_element; holds = h; stands = refl }
+
+pub text_at : (w : Where) (s : List ℕ) (q : ℕ) (rest : RawTrees) → IsAt (IsIn w (text s q rest)) IsAnything q
+text_at w s q rest = record { item = of_text q; has = looked.at_text; holds = tt; stands = refl }
 
 -- an attribute whose text is exchanged for one of a form, once it is renamed
 once_renamed : {P : List Token → Type 0} {s t : List ℕ} → IsRenamed s t → Forms P t → FormsOnceRenamed P s
@@ -128,7 +105,8 @@ once_renamed {P} r f =
     record { tokens = r.tokens; are_tokens = r.before; renamed = r.renamed; is_renamed = r.renames; not_too_deep = λ d. f.not_too_deep (subst IsTooDeep (sym same) d); phrase = subst P same f.phrase }
 
 -- the fault of an attribute that is a path, a pattern or a test
-module _ {V : Type 0} (IsPhrase : V → List Token → Type 0) (ctx : Context) (e : RawElem) (local : List ℕ) (a : RawAttr) (fits : IsOfContext (name e.name) (plain local) ctx) (at : IsAttribute e local a) where
+module _ {V : Type 0} (IsPhrase : V → List Token → Type 0) (ctx : Form) (e : RawElem) (local : List ℕ) (a : RawAttr) (fits : MustHave (name e.name) (plain local) ctx) (at : IsAttribute e local a)
+    (formed : HasForm ctx (scope_of e) (attribute a).value → (v : V) × Forms (IsPhrase v) (attribute a).value) where
   abbrev Means : List ℕ → V → Type 0
   Means s v = Forms (IsPhrase v) s
 
@@ -159,12 +137,12 @@ module _ {V : Type 0} (IsPhrase : V → List Token → Type 0) (ctx : Context) (
   abbrev RenamedHas : PathFault → Type 0
   RenamedHas fault = (v : V) → FormsOnceRenamed (IsPhrase v) written_text → paths.IsUnsupported fault
 
-  malformed_formless : HasNone path.Malformed → paths.IsCause ctx written_text path.Malformed → RenamedHas path.Malformed → IsFormless both
+  malformed_formless : HasNone path.Malformed → paths.IsCause (context_of ctx) written_text path.Malformed → RenamedHas path.Malformed → IsFormless both
   malformed_formless refuted cause renamed t (inl f) v m = refuted v (subst (λ w. Means w v) f m)
   malformed_formless refuted cause renamed t (inr (inl r)) v m = renamed v (once_renamed r m)
   malformed_formless refuted cause renamed t (inr (inr d)) v m = cause.0 d
 
-  unsupported_formless : (why : Why) → HasNone (path.Unsupported why) → paths.IsCause ctx written_text (path.Unsupported why) → IsFormless flattened
+  unsupported_formless : (why : Why) → HasNone (path.Unsupported why) → paths.IsCause (context_of ctx) written_text (path.Unsupported why) → IsFormless flattened
   unsupported_formless why refuted cause t (inl f) v m = refuted v (subst (λ w. Means w v) f m)
   unsupported_formless why refuted cause t (inr d) v m = cause.not_too_deep (subst IsTooDeep (tokens_unique d.are_tokens cause.are_tokens) d.too_deep)
 
@@ -172,17 +150,20 @@ module _ {V : Type 0} (IsPhrase : V → List Token → Type 0) (ctx : Context) (
   deep_formless refuted renamed t (inl f) v m = refuted v (subst (λ w. Means w v) f m)
   deep_formless refuted renamed t (inr r) v m = renamed v (once_renamed r m)
 
-  of_attribute : IsOfContext (name e.name) (attribute a).name ctx
-  of_attribute = subst (λ n. IsOfContext (name e.name) n ctx) (sym at.name) fits
+  of_context : MustHave (name e.name) (attribute a).name ctx
+  of_context = subst (λ n. MustHave (name e.name) n ctx) (sym at.name) fits
 
-  pub path_refused : (fault : PathFault) → HasNone fault → paths.IsCause ctx written_text fault → RenamedHas fault → Refuses (path_fault_at a.place fault) (alone e) (HasNoRequired e local Means)
-  path_refused path.Malformed refuted cause renamed = (constructs.at_attribute at.has, formless both (malformed_formless refuted cause renamed))
-  path_refused (path.Unsupported why) refuted cause renamed = (constructs.at_attribute at.has (in_path of_attribute cause), formless flattened (unsupported_formless why refuted cause))
-  path_refused path.TooDeep refuted cause renamed = (constructs.at_attribute at.has of_attribute cause, formless mended (deep_formless refuted renamed))
+  formless_text : (why : Why) → HasNone (path.Unsupported why) → HasForm ctx (scope_of e) written_text → ⊥
+  formless_text why refuted f = let (v, m) = formed f in refuted v m
+
+  pub path_refused : (fault : PathFault) → HasNone fault → paths.IsCause (context_of ctx) written_text fault → RenamedHas fault → Refuses (path_fault_at a.place fault) (alone e) (HasNoRequired e local Means)
+  path_refused path.Malformed refuted cause renamed = (attribute_at e a at.has tt, formless both (malformed_formless refuted cause renamed))
+  path_refused (path.Unsupported why) refuted cause renamed = (attribute_at e a at.has (in_path of_context (formless_text why refuted) cause), formless flattened (unsupported_formless why refuted cause))
+  path_refused path.TooDeep refuted cause renamed = (attribute_at e a at.has (ctx, of_context, cause), formless mended (deep_formless refuted renamed))
   path_refused path.NoMemory refuted cause renamed = tt
 
-  pub path_refused_optional : (fault : PathFault) → HasNone fault → paths.IsCause ctx written_text fault → RenamedHas fault → Refuses (path_fault_at a.place fault) (alone e) (HasNoOptional e local Means)
-  path_refused_optional path.Malformed refuted cause renamed = (constructs.at_attribute at.has, formless_optional both (malformed_formless refuted cause renamed))
-  path_refused_optional (path.Unsupported why) refuted cause renamed = (constructs.at_attribute at.has (in_path of_attribute cause), formless_optional flattened (unsupported_formless why refuted cause))
-  path_refused_optional path.TooDeep refuted cause renamed = (constructs.at_attribute at.has of_attribute cause, formless_optional mended (deep_formless refuted renamed))
+  pub path_refused_optional : (fault : PathFault) → HasNone fault → paths.IsCause (context_of ctx) written_text fault → RenamedHas fault → Refuses (path_fault_at a.place fault) (alone e) (HasNoOptional e local Means)
+  path_refused_optional path.Malformed refuted cause renamed = (attribute_at e a at.has tt, formless_optional both (malformed_formless refuted cause renamed))
+  path_refused_optional (path.Unsupported why) refuted cause renamed = (attribute_at e a at.has (in_path of_context (formless_text why refuted) cause), formless_optional flattened (unsupported_formless why refuted cause))
+  path_refused_optional path.TooDeep refuted cause renamed = (attribute_at e a at.has (ctx, of_context, cause), formless_optional mended (deep_formless refuted renamed))
   path_refused_optional path.NoMemory refuted cause renamed = tt

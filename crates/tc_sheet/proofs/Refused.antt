@@ -2,23 +2,21 @@
 use Rattle.std.proofs.Common.{◌≡◌, ℕ, List, refl, subst, sym, Option, Some, Result, Ok, Err, IfErr}
 use Rattle.std.specs.Prelude.{IsErrAnd}
 use Rattle.tc_base.specs.declared.reasons.Why.{Why}
-use Rattle.tc_model.specs.RawTrees.{Attribute, RawTrees}
+use Rattle.tc_model.specs.RawTrees.{Attribute}
 use Rattle.tc_model.specs.Seen.{place}
 use Rattle.tc_model.specs.SheetTextPhrases.{value_of, Required, is_given, Optional}
 use Rattle.tc_model.specs.declared.tree.RawElem.{RawElem}
 use Rattle.tc_sheet.specs.Changes.{Change, both, flattened, ChangedAttributes}
+use Rattle.tc_sheet.specs.LookedAt.{Item}
 use Rattle.tc_sheet.specs.Readings.{Refuses, IsFaultOf, attributes_of, HasNoAttributes, HasNoRequired, HasNoOptional}
 use Rattle.tc_sheet.specs.declared.faults.SheetFault.{SheetFault}
 use Rattle.tc_sheet.specs.declared.faults.SheetFault.TheVariants.{Malformed, Unsupported, TooDeep, Undefined, CallLoop, NoMemory}
-use Rattle.tc_sheet.proofs.Refusals.{Covers, lifted}
+use Rattle.tc_sheet.proofs.Refusals.{covers_itself, lifted}
 
-covers_itself : (h : RawTrees) → Covers h h
-covers_itself h = record { places = λ q a. a; constructs = λ q why a. a; deep = λ q a. a }
-
-pub refused : {P Q : Change → Type 0} (h : RawTrees) → ((c : Change) → P c → Q c) → (e : SheetFault) → Refuses e h P → Refuses e h Q
+pub refused : {P Q : Change → Type 0} (h : Item → Type 0) → ((c : Change) → P c → Q c) → (e : SheetFault) → Refuses e h P → Refuses e h Q
 refused h f e r = lifted (covers_itself h) f e r
 
-pub fault_refuses : {P : Change → Type 0} (h : RawTrees) → ((c : Change) → P c) → (e : SheetFault) → IsFaultOf e h → Refuses e h P
+pub fault_refuses : {P : Change → Type 0} (h : Item → Type 0) → ((c : Change) → P c) → (e : SheetFault) → IsFaultOf e h → Refuses e h P
 fault_refuses h f (Malformed p) r = (r, f both)
 fault_refuses h f (Unsupported p why) r = (r, f flattened)
 fault_refuses h f (TooDeep p) r = absurd r
@@ -32,7 +30,7 @@ handed_on P (Ok v) x h a = tt
 handed_on P (Err e) x h a = subst P (sym h) a
 
 -- want of memory refuses nothing
-pub no_memory : {T : Type 0} (P : Change → Type 0) (h : RawTrees) (r : Result T SheetFault) → IfErr r (λ e. e ≡ NoMemory) → IfErr r (λ e. Refuses e h P)
+pub no_memory : {T : Type 0} (P : Change → Type 0) (h : Item → Type 0) (r : Result T SheetFault) → IfErr r (λ e. e ≡ NoMemory) → IfErr r (λ e. Refuses e h P)
 no_memory P h (Ok v) a = tt
 no_memory P h (Err e) a = subst (λ w. Refuses w h P) (sym a) tt
 

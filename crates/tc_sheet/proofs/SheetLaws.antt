@@ -11,19 +11,21 @@ use Rattle.tc_model.specs.Seen.{place}
 use Rattle.tc_model.specs.Sheets.{Sheet}
 use Rattle.tc_model.specs.SheetTextTrees.{Template, makes_rules, is_used}
 use Rattle.tc_model.specs.SheetTextPhrases as p
-use Rattle.tc_model.specs.SheetTextPhrases.{AreTemplates, IsStylesheet}
+use Rattle.tc_model.specs.SheetTextPhrases.{tag, AreTemplates, IsStylesheet}
 use Rattle.tc_model.specs.SheetText.{one_name, names_of, IsDefined, IsUndefined, IsLoop, StandingCall, calls_of, SheetText, IsFirst, SheetFault as Fails, undefined, call_loop, SheetFails, of_undefined, of_loop}
 use Rattle.tc_model.proofs.SheetTextUnique.{one_sheet_fault}
-use Rattle.tc_sheet.specs.Constructs.{IsPlaceIn}
-use Rattle.tc_sheet.specs.Constructs as constructs
+use Rattle.tc_sheet.specs.LookedAt.{at_top, of_element, IsIn, IsLookedAt, IsAt, IsAnything}
+use Rattle.tc_sheet.specs.LookedAt as looked
 use Rattle.tc_sheet.specs.Changes.{Change, mended, flattened, both, TakesAway, Exchanges, ChangedAttributes, no_attribute, as_it_is, an_exchange, Changed, no_tree, a_text, an_element, taken_away}
-use Rattle.tc_sheet.specs.Faults.{IsNoneWith, IsCause, IsUnsupported, IsTooDeep, IsUndefinedAt, IsLoopAt, IsNoFaultOfCalls}
+use Rattle.tc_sheet.specs.Faults.{OfAllWith, IsNoneWith, IsCause, NamesAgain, IsUnsupported, IsTooDeep, IsUndefinedAt, IsLoopAt, IsMalformedAt, IsNoFaultOfCalls}
 use Rattle.tc_sheet.specs.Graphs.{IsCallFault}
-use Rattle.tc_sheet.specs.Tables.{IsTwice}
+use Rattle.tc_sheet.specs.Tables.{IsNamedAgain, IsTwice}
 use Rattle.tc_sheet.specs.declared.faults.SheetFault.{SheetFault}
 use Rattle.tc_sheet.specs.declared.faults.SheetFault.TheVariants.{Malformed, Unsupported, TooDeep, Undefined, CallLoop, NoMemory}
 use Rattle.tc_sheet.proofs.Changes.{as_they_are}
 use Rattle.tc_sheet.proofs.SameBodies.{stylesheet_same}
+use Rattle.tc_sheet.proofs.Refusals.{moved, covers_beside_text, covers_rest}
+use Rattle.tc_sheet.proofs.NamedAgain.{not_once, named_there, one_place}
 
 -- a change of one kind is one of both
 takes_widened : (c : Change) (n : ExpandedName) → TakesAway c n → TakesAway both n
@@ -50,16 +52,16 @@ widened c (taken_away {n = n} t h) = taken_away (takes_widened c n t) (widened c
 -- the faults of a tree that is no stylesheet with different names
 module _ (raw : RawTrees) where
   pub always_unsupported : (x : SheetFault) → IsCause raw x → IsNoFaultOfCalls x → (changed : RawTrees) (s : Sheet) → Changed mended raw changed → SheetText changed s → IsUnsupported x
-  always_unsupported (Malformed q) a n changed s h t = a.1 changed t.templates (widened mended h) t.written t.once
+  always_unsupported (Malformed q) a n changed s h t = not_once (a.1 changed t.templates (widened mended h) t.written) t.once
   always_unsupported (Unsupported q why) a n changed s h t = tt
-  always_unsupported (TooDeep q) a n changed s h t = a.1 changed t.templates h t.written t.once
+  always_unsupported (TooDeep q) a n changed s h t = a.1 changed t.templates h t.written
   always_unsupported (Undefined q) a n changed s h t = n
   always_unsupported (CallLoop q) a n changed s h t = n
   always_unsupported NoMemory a n changed s h t = tt
 
   pub always_deep : (x : SheetFault) → IsCause raw x → IsNoFaultOfCalls x → (changed : RawTrees) (s : Sheet) → Changed flattened raw changed → SheetText changed s → IsTooDeep x
-  always_deep (Malformed q) a n changed s h t = a.1 changed t.templates (widened flattened h) t.written t.once
-  always_deep (Unsupported q why) a n changed s h t = a.1 changed t.templates h t.written t.once
+  always_deep (Malformed q) a n changed s h t = not_once (a.1 changed t.templates (widened flattened h) t.written) t.once
+  always_deep (Unsupported q why) a n changed s h t = a.1 changed t.templates h t.written
   always_deep (TooDeep q) a n changed s h t = tt
   always_deep (Undefined q) a n changed s h t = n
   always_deep (CallLoop q) a n changed s h t = n
@@ -71,10 +73,13 @@ module _ (raw : RawTrees) where
   read_with call_loop m (of_loop {templates = ts} w d a f) = (ts, w, d)
 
   never : (f : Fails) (m : ℕ) → SheetFails raw f m → (c : Change) → IsNoneWith c raw → ⊥
-  never f m a c h = let (ts, w, d) = read_with f m a in h raw ts (as_they_are c raw) w d
+  never f m a c h = let (ts, w, d) = read_with f m a in h raw ts (as_they_are c raw) w
+
+  never_again : (f : Fails) (m q : ℕ) → SheetFails raw f m → OfAllWith both raw (λ ts. IsNamedAgain ts q) → ⊥
+  never_again f m q a h = let (ts, w, d) = read_with f m a in not_once (h raw ts (as_they_are both raw) w) d
 
   pub no_undefined : (x : SheetFault) → IsCause raw x → IsNoFaultOfCalls x → (m : ℕ) → SheetFails raw undefined m → IsUndefinedAt m x
-  no_undefined (Malformed q) a n m f = never undefined m f both a.1
+  no_undefined (Malformed q) a n m f = never_again undefined m (place q) f a.1
   no_undefined (Unsupported q why) a n m f = never undefined m f flattened a.1
   no_undefined (TooDeep q) a n m f = never undefined m f mended a.1
   no_undefined (Undefined q) a n m f = absurd n
@@ -82,31 +87,44 @@ module _ (raw : RawTrees) where
   no_undefined NoMemory a n m f = tt
 
   pub no_loop : (x : SheetFault) → IsCause raw x → IsNoFaultOfCalls x → (m : ℕ) → SheetFails raw call_loop m → IsLoopAt m x
-  no_loop (Malformed q) a n m f = never call_loop m f both a.1
+  no_loop (Malformed q) a n m f = never_again call_loop m (place q) f a.1
   no_loop (Unsupported q why) a n m f = never call_loop m f flattened a.1
   no_loop (TooDeep q) a n m f = never call_loop m f mended a.1
   no_loop (Undefined q) a n m f = n
   no_loop (CallLoop q) a n m f = absurd n
   no_loop NoMemory a n m f = tt
 
--- each template stands in the tree
-templates_stand : {h : RawTrees} {ts : List Template} → AreTemplates h ts → All (λ t. IsPlaceIn h t.place) ts
-templates_stand p.at_end = λ k d l. absurd (omega arith)
-templates_stand (p.past_white w a) = λ k d l. constructs.beside_text (templates_stand a k d l)
-templates_stand (p.a_template {n = n} {attributes = bs} {scope = scope} {p = q} {kids = kids} {rest = rest} {t = t} {ts = ts} x a) =
-    All-cons (λ u. IsPlaceIn (element n bs scope q kids rest) u.place) t ts (subst (IsPlaceIn (element n bs scope q kids rest)) (sym x.place) constructs.at_element) (λ k d l. constructs.beside_element (templates_stand a k d l))
-templates_stand (p.past_declaration e a) = λ k d l. constructs.beside_element (templates_stand a k d l)
-templates_stand (p.past_other u v a) = λ k d l. constructs.beside_element (templates_stand a k d l)
+  -- a tree that names a template again is a stylesheet but for that
+  pub always_again : (x : SheetFault) → IsCause raw x → IsNoFaultOfCalls x → (m : ℕ) → NamesAgain raw m → IsMalformedAt m x
+  always_again (Malformed q) a n m f = one_place (a.1 raw f.templates (as_they_are both raw) f.written) f.again
+  always_again (Unsupported q why) a n m f = a.1 raw f.templates (as_they_are flattened raw) f.written
+  always_again (TooDeep q) a n m f = a.1 raw f.templates (as_they_are mended raw) f.written
+  always_again (Undefined q) a n m f = n
+  always_again (CallLoop q) a n m f = n
+  always_again NoMemory a n m f = tt
 
-stylesheet_stands : {h : RawTrees} {ts : List Template} → IsStylesheet h ts → (t : Template) → Contains ts t → IsPlaceIn h t.place
-stylesheet_stands {ts = ts} (p.a_stylesheet {kids = kids} n o v a) t has = constructs.inside (All-contains (λ u. IsPlaceIn kids u.place) ts t (templates_stand a) has)
+-- each template stands in the tree
+templates_stand : {h : RawTrees} {ts : List Template} → AreTemplates h ts → All (λ t. IsAt (IsIn at_top h) IsAnything t.place) ts
+templates_stand p.at_end = λ k d l. absurd (omega arith)
+templates_stand (p.past_white w a) = λ k d l. moved covers_beside_text (templates_stand a k d l)
+templates_stand (p.a_template {n = n} {attributes = bs} {scope = scope} {p = q} {kids = kids} {rest = rest} {t = t} {ts = ts} x a) =
+    All-cons (λ u. IsAt (IsIn at_top (element n bs scope q kids rest)) IsAnything u.place) t ts
+    (record { item = of_element (tag n bs scope q); has = looked.at_element; holds = tt; stands = sym x.place })
+    (λ k d l. moved (covers_rest refl) (templates_stand a k d l))
+templates_stand (p.past_declaration e a) = λ k d l. moved (covers_rest refl) (templates_stand a k d l)
+templates_stand (p.past_other u v a) = λ k d l. moved (covers_rest refl) (templates_stand a k d l)
+
+stylesheet_stands : {h : RawTrees} {ts : List Template} → IsStylesheet h ts → (t : Template) → Contains ts t → IsAt (IsLookedAt h) IsAnything t.place
+stylesheet_stands {ts = ts} (p.a_stylesheet {kids = kids} n o v a) t has =
+    moved (record { moves = λ i b. looked.within n b }) (All-contains (λ u. IsAt (IsIn at_top kids) IsAnything u.place) ts t (templates_stand a) has)
 
 -- two templates of one name
 module _ (raw : RawTrees) {ts : List Template} (read : IsStylesheet raw ts) where
   pub twice_cause : (x : SheetFault) → IsTwice ts x → IsCause raw x
-  twice_cause (Malformed q) a =
-      let (t, has, e) = a.0 in
-      (subst (IsPlaceIn raw) e (stylesheet_stands read t has), λ changed us h w d. a.1 (subst (λ vs. IsDistinct same_name (names_of vs)) (sym (stylesheet_same both h read w)) d))
+  twice_cause (Malformed q) a = (
+    subst (IsAt (IsLookedAt raw) IsAnything) a.stands (stylesheet_stands read a.template (named_there a)),
+    λ changed us h w. subst (λ vs. IsNamedAgain vs (place q)) (stylesheet_same both h read w) a,
+  )
   twice_cause (Unsupported q why) a = absurd a
   twice_cause (TooDeep q) a = absurd a
   twice_cause (Undefined q) a = absurd a
@@ -177,6 +195,18 @@ module _ (raw : RawTrees) {ts : List Template} (read : IsStylesheet raw ts) wher
   calls_loop d (Undefined q) a m f = absurd (undefined_or_loop (one_sheet_fault raw undefined call_loop (place q) m (calls_cause d (Undefined q) a) f).0)
   calls_loop d (CallLoop q) a m f = (one_sheet_fault raw call_loop call_loop (place q) m (calls_cause d (CallLoop q) a) f).1
   calls_loop d NoMemory a m f = tt
+
+  -- names that are different don't come again
+  no_again_there : IsDistinct same_name (names_of ts) → (m : ℕ) → NamesAgain raw m → ⊥
+  no_again_there d m f = not_once (subst (λ vs. IsNamedAgain vs m) (sym (stylesheet_same both (as_they_are both raw) read f.written)) f.again) d
+
+  pub calls_again : IsDistinct same_name (names_of ts) → (x : SheetFault) → IsCallFault (filter is_used ts) x → (m : ℕ) → NamesAgain raw m → IsMalformedAt m x
+  calls_again d (Malformed q) a m f = absurd a
+  calls_again d (Unsupported q why) a m f = a
+  calls_again d (TooDeep q) a m f = a
+  calls_again d (Undefined q) a m f = no_again_there d m f
+  calls_again d (CallLoop q) a m f = no_again_there d m f
+  calls_again d NoMemory a m f = tt
 
 -- a template that has a name can be used
 one_more : (b : Bool) (o : Option ExpandedName) (t : Template) (ts us : List Template) → t.name ≡ o → names_of ts ≡ names_of us

@@ -1,9 +1,9 @@
 -- What a set of names holds, and which number it gives to each.
-use Rattle.std.proofs.Common.{◌≡◌, ℕ, zero, suc, ◌+◌, ◌<◌, ◌≤◌, Bool, true, false, cond, not, ◌||◌, ◌&&◌, List, [], ◌∷◌, ◌++◌, refl, ap, ◌∙◌, sym, subst, arith, Option, None, Some, option_map, is_some, length, map, get_or, drop, append-nil, append_assoc, if◌then◌else◌, true≢false, position, bytes_eq, Contains, Result, Ok, Err, flat_map, All, IfErr, IsErrAnd}
+use Rattle.std.proofs.Common.{◌≡◌, ℕ, zero, suc, ◌+◌, ◌<◌, ◌≤◌, Bool, true, false, cond, not, ◌||◌, ◌&&◌, List, [], ◌∷◌, ◌++◌, refl, ap, ◌∙◌, sym, subst, arith, Option, None, Some, option_map, is_some, length, map, get_or, take, drop, append-nil, append_assoc, if◌then◌else◌, true≢false, position, bytes_eq, Contains, Result, Ok, Err, flat_map, All, IfErr, IsErrAnd}
 use Rattle.std.specs.Prelude.{nat_lt}
 use Rattle.std.specs.List.{AllByRecursion, IsDistinct, list_any, prefix_len, position_or_len}
-use Rattle.std.proofs.lemmas.List.{map-append, drop_more, drop_all}
-use Rattle.std.proofs.lemmas.List.Elements.{Contains-get_or}
+use Rattle.std.proofs.lemmas.List.{map-append, drop_more, drop_all, take-append-drop, append_cancel_right}
+use Rattle.std.proofs.lemmas.Grind.{flat_map-append}
 use Rattle.indexmap.specs.IndexSet.{insert_key}
 use Rattle.tc_model.specs.Names.{ExpandedName, same_name}
 use Rattle.tc_model.specs.Numbered.{each_once_after, number_of}
@@ -86,7 +86,7 @@ all_at : (P : ExpandedName → Type 0) (xs zs : List ExpandedName) (y : Expanded
 all_at P [] zs y h = h.0
 all_at P (x ∷ xs) zs y h = all_at P xs zs y h.1
 
-seen_twice : (xs zs : List ExpandedName) (y : ExpandedName) → list_any (same_name y) xs ≡ true → IsDistinct same_name (xs ++ y ∷ zs) → ⊥
+pub seen_twice : (xs zs : List ExpandedName) (y : ExpandedName) → list_any (same_name y) xs ≡ true → IsDistinct same_name (xs ++ y ∷ zs) → ⊥
 unfolding IsDistinct
 seen_twice [] zs y h d = true≢false (sym h)
 seen_twice (x ∷ xs) zs y h d = by (same_name y x) refl (seen_twice xs zs y)
@@ -132,17 +132,34 @@ module _ (ts : List Template) (k : ℕ) (d : Template) (h : k < length ts) where
       placed (u ∷ us) zero l = (0, omega arith, refl)
       placed (u ∷ us) (suc j) l = let (i, m, q) = placed us j (omega (arith, l)) in (suc i, omega (arith, m), q)
 
-  pub again_twice : (old : List ExpandedName) → old ++ names_in (drop k ts) ≡ names_in ts → (f : SheetFault) → IsAgain old here f → IsTwice (map template ts) f
-  again_twice old g (Malformed p) (at, (n, is, there)) = (
-    (here, stands_here, at),
-    λ once. seen_twice old (names_in (drop (k + 1) ts)) n there
-        (subst (IsDistinct same_name) (sym g ∙ (ap (λ z. old ++ names_in z) left_templates ∙ ap (λ o. old ++ (one_name o ++ names_in (drop (k + 1) ts))) is)) once),
-  )
-  again_twice old g (Unsupported p why) i = absurd i
-  again_twice old g (TooDeep p) i = absurd i
-  again_twice old g (Undefined p) i = absurd i
-  again_twice old g (CallLoop p) i = absurd i
-  again_twice old g NoMemory i = tt
+  abbrev seen : List s.Template
+  seen = map template (take k ts)
+
+  all_parts : map template ts ≡ seen ++ (here ∷ map template (drop (k + 1) ts))
+  all_parts = ap (map template) (sym (take-append-drop k ts)) ∙ (map-append template (take k ts) (drop k ts) ∙ ap (λ z. seen ++ map template z) left_templates)
+
+  seen_names : (old : List ExpandedName) → old ++ names_in (drop k ts) ≡ names_in ts → old ≡ names_of seen
+  seen_names old g =
+      append_cancel_right old (names_of seen) (names_in (drop k ts))
+      (g ∙ (ap names_in (sym (take-append-drop k ts)) ∙ (ap names_of (map-append template (take k ts) (drop k ts)) ∙ flat_map-append (λ t. one_name t.name) seen (map template (drop k ts)))))
+
+  pub again_twice : (old : List ExpandedName) → IsDistinct same_name old → old ++ names_in (drop k ts) ≡ names_in ts → (f : SheetFault) → IsAgain old here f → IsTwice (map template ts) f
+  again_twice old once g (Malformed p) (at, (n, is, there)) = record {
+    before = seen;
+    template = here;
+    after = map template (drop (k + 1) ts);
+    parts = all_parts;
+    once = subst (IsDistinct same_name) (seen_names old g) once;
+    name = n;
+    named = is;
+    again = subst (λ ns. list_any (same_name n) ns ≡ true) (seen_names old g) there;
+    stands = at;
+  }
+  again_twice old once g (Unsupported p why) i = absurd i
+  again_twice old once g (TooDeep p) i = absurd i
+  again_twice old once g (Undefined p) i = absurd i
+  again_twice old once g (CallLoop p) i = absurd i
+  again_twice old once g NoMemory i = tt
 
 pub flat_end : {X : Type 0} (f : s.Template → List X) (ts : List Template) (k : ℕ) (old all : List X) → length ts ≤ k → old ++ flat_map f (map template (drop k ts)) ≡ all → old ≡ all
 flat_end f ts k old all h e = sym (append-nil old) ∙ (ap (λ z. old ++ flat_map f (map template z)) (sym (drop_all k ts h)) ∙ e)

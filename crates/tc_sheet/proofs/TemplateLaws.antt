@@ -1,7 +1,7 @@
 -- What stands at the top of a stylesheet, and what no change of it is.
-use Rattle.std.proofs.Common.{◌≡◌, ◌≢◌, ◌⊎◌, inl, inr, ℕ, ℤ, Bool, true, false, not, ◌&&◌, ◌||◌, List, [], ◌∷◌, ◌++◌, refl, ap, ◌∙◌, sym, subst, Option, None, Some, IsTrue, IsFalse, option_map, map, Contains, Result, Ok, Err, IfOk, IfErr, Bor}
+use Rattle.std.proofs.Common.{◌≡◌, ◌≢◌, ◌⊎◌, inl, inr, ℕ, ℤ, Bool, true, false, not, ◌&&◌, ◌||◌, List, [], ◌∷◌, ◌++◌, refl, ap, ◌∙◌, sym, subst, Option, None, Some, IsTrue, IsFalse, option_map, map, Contains, Result, Ok, Err, IfOk, IfErr, Bor, bytes_eq}
 use Rattle.std.specs.Prelude.{codes, is_some}
-use Rattle.std.specs.List.{IsDistinct}
+use Rattle.std.specs.List.{list_any}
 use Rattle.std.proofs.lemmas.Bool.{true≢false, false≢true}
 use Rattle.tc_base.specs.declared.reasons.Why.{Why}
 use Rattle.tc_base.specs.declared.reasons.Why.TheVariants.{N36}
@@ -18,18 +18,19 @@ use Rattle.tc_model.specs.SheetTextPhrases.{xsl_uri, IsXsl, value_of, HasOnly, N
 use Rattle.tc_model.specs.SheetText.{names_of}
 use Rattle.tc_model.specs.declared.tree.Raw.{Raw}
 use Rattle.tc_model.specs.declared.tree.RawElem.{RawElem}
-use Rattle.tc_sheet.specs.Constructs.{IsRoot, IsDeclaration, IsPlaceIn, StandsAt, within, simplified, reason_of}
-use Rattle.tc_sheet.specs.Constructs as constructs
+use Rattle.tc_sheet.specs.Constructs.{IsRoot, IsDeclaration, IsRefusedElement, of_reason, unknown, reason_of, parts}
+use Rattle.tc_sheet.specs.LookedAt.{at_top, in_body, Item, of_root, of_element, of_attribute, place_of, IsIn, IsLookedAt, IsAt, IsAnything}
+use Rattle.tc_sheet.specs.LookedAt as looked
 use Rattle.tc_sheet.specs.Changes.{Change, mended, flattened, both, TakesAway, ChangedAttributes, Changed, no_tree, a_text, an_element, taken_away}
 use Rattle.tc_sheet.specs.Faults.{IsCause, IsNoneWith, IsNoFaultOfCalls}
-use Rattle.tc_sheet.specs.Readings.{Refuses, IsMisplaced, alone, attributes_of, scope_of, tag_with, HasNoAttributes, HasNoOptional, HasNoBody, HasNoTemplate, HasNoTemplates, IsTopItem, HasNoTopItem, IsTopElement, HasNoTopElement}
+use Rattle.tc_sheet.specs.Readings.{Refuses, IsOfTag, itself, attribute_of, IsMisplaced, alone, attributes_of, scope_of, tag_with, HasNoAttributes, HasNoOptional, HasNoBody, HasNoTemplate, HasNoTemplates, IsTopItem, HasNoTopItem, IsTopElement, HasNoTopElement}
 use Rattle.tc_sheet.specs.Seen.{tag_of, put_template, template}
 use Rattle.tc_sheet.specs.declared.written.Template.{Template as Code}
 use Rattle.tc_sheet.specs.declared.faults.SheetFault.{SheetFault}
 use Rattle.tc_sheet.specs.declared.faults.SheetFault.TheVariants.{Malformed, Unsupported, TooDeep, Undefined, CallLoop, NoMemory}
 use Rattle.tc_sheet.proofs.SameBodies.{xsl_reason, literal_reason, not_taken, no_declaration, declared_uri, declared_reason, uri_is, pattern_same, names_same}
-use Rattle.tc_sheet.proofs.Refusals.{Covers, lifted, covers_tag, covers_kids, covers_rest, covers_one, covers_beside_text}
-use Rattle.tc_sheet.proofs.BodyLaws.{by_element, both_cover, misplaced_is, Shape, is_elem, is_text, shape, covers_behind, covers_first}
+use Rattle.tc_sheet.proofs.Refusals.{Covers, lifted, covers_itself, both_cover, covers_tag, covers_kids, text_at}
+use Rattle.tc_sheet.proofs.BodyLaws.{by_element, misplaced_is, Shape, is_elem, is_text, shape, covers_behind, covers_first}
 
 mapped_some : {A B : Type 0} (f : A → B) {a : A} → option_map f (Some a) ≢ None
 mapped_some f e = cc
@@ -60,23 +61,23 @@ module _ {A B M N : Type 0} (f : A → M) (g : B → N) where
 
 -- faults of a template
 module _ (e : RawElem) (x : SheetFault) where
-  pub template_only_refuses : Refuses x (alone e) (HasNoAttributes e (HasOnly (codes "match" ∷ codes "name" ∷ codes "priority" ∷ codes "mode" ∷ []))) → Refuses x (raw_element e none) (HasNoTemplate e)
-  template_only_refuses r = lifted covers_tag (λ c h olds kids t u v y. h olds u y.is_template.only) x r
+  pub template_only_refuses : IsXsl (codes "template") (name e.name) → Refuses x (alone e) (HasNoAttributes e (HasOnly (codes "match" ∷ codes "name" ∷ codes "priority" ∷ codes "mode" ∷ []))) → Refuses x (IsIn at_top (raw_element e none)) (HasNoTemplate e)
+  template_only_refuses n r = lifted (covers_tag (looked.a_template n)) (λ c h olds kids t u v y. h olds u y.is_template.only) x r
 
-  pub template_pattern_refuses : Refuses x (alone e) (HasNoOptional e (codes "match") (PatternText (scope_of e))) → Refuses x (raw_element e none) (HasNoTemplate e)
-  template_pattern_refuses r = lifted covers_tag (λ c h olds kids t u v y. h olds y.alternatives u y.pattern) x r
+  pub template_pattern_refuses : IsXsl (codes "template") (name e.name) → Refuses x (alone e) (HasNoOptional e (codes "match") (PatternText (scope_of e))) → Refuses x (IsIn at_top (raw_element e none)) (HasNoTemplate e)
+  template_pattern_refuses n r = lifted (covers_tag (looked.a_template n)) (λ c h olds kids t u v y. h olds y.alternatives u y.pattern) x r
 
-  pub template_priority_refuses : Refuses x (alone e) (HasNoOptional e (codes "priority") PriorityText) → Refuses x (raw_element e none) (HasNoTemplate e)
-  template_priority_refuses r = lifted covers_tag (λ c h olds kids t u v y. h olds y.priority u y.priorities) x r
+  pub template_priority_refuses : IsXsl (codes "template") (name e.name) → Refuses x (alone e) (HasNoOptional e (codes "priority") PriorityText) → Refuses x (IsIn at_top (raw_element e none)) (HasNoTemplate e)
+  template_priority_refuses n r = lifted (covers_tag (looked.a_template n)) (λ c h olds kids t u v y. h olds y.priority u y.priorities) x r
 
-  pub template_name_refuses : Refuses x (alone e) (HasNoOptional e (codes "name") (NameText (scope_of e))) → Refuses x (raw_element e none) (HasNoTemplate e)
-  template_name_refuses r = lifted covers_tag (λ c h olds kids t u v y. h olds t.name u y.name) x r
+  pub template_name_refuses : IsXsl (codes "template") (name e.name) → Refuses x (alone e) (HasNoOptional e (codes "name") (NameText (scope_of e))) → Refuses x (IsIn at_top (raw_element e none)) (HasNoTemplate e)
+  template_name_refuses n r = lifted (covers_tag (looked.a_template n)) (λ c h olds kids t u v y. h olds t.name u y.name) x r
 
-  pub template_mode_refuses : Refuses x (alone e) (HasNoOptional e (codes "mode") (NameText (scope_of e))) → Refuses x (raw_element e none) (HasNoTemplate e)
-  template_mode_refuses r = lifted covers_tag (λ c h olds kids t u v y. h olds t.mode u y.mode) x r
+  pub template_mode_refuses : IsXsl (codes "template") (name e.name) → Refuses x (alone e) (HasNoOptional e (codes "mode") (NameText (scope_of e))) → Refuses x (IsIn at_top (raw_element e none)) (HasNoTemplate e)
+  template_mode_refuses n r = lifted (covers_tag (looked.a_template n)) (λ c h olds kids t u v y. h olds t.mode u y.mode) x r
 
-  pub template_body_refuses : Refuses x (raw_trees e.kids.now) (HasNoBody (raw_trees e.kids.now)) → Refuses x (raw_element e none) (HasNoTemplate e)
-  template_body_refuses r = lifted covers_kids (λ c h olds kids t u v y. h kids t.body v y.body) x r
+  pub template_body_refuses : IsXsl (codes "template") (name e.name) → Refuses x (IsIn in_body (raw_trees e.kids.now)) (HasNoBody (raw_trees e.kids.now)) → Refuses x (IsIn at_top (raw_element e none)) (HasNoTemplate e)
+  template_body_refuses n r = lifted (covers_kids (looked.a_template n)) (λ c h olds kids t u v y. h kids t.body v y.body) x r
 
 pub template_incomplete : {A B : Type 0} (f : A → List Alternative) (g : B → ExpandedName) (e : RawElem) (a : Option A) (n m : Option B) → (is_some a || (is_some n && not (is_some m))) ≡ false
     → Optional (PatternText (scope_of e)) (value_of (codes "match") (attributes_of e)) (option_map f a) → Optional (NameText (scope_of e)) (value_of (codes "name") (attributes_of e)) (option_map g n)
@@ -117,16 +118,16 @@ white_top (p.past_white {ts = us} w y) = (w, (us, y))
 pub top_template : (e : RawElem) (t : Code) → IsTemplate (tag_of e) (raw_trees e.kids.now) (template t) → IsTopElement e (put_template (Some t))
 top_template e t x = λ rest ts y. p.a_template x y
 
-pub top_template_refuses : (e : RawElem) → IsXsl (codes "template") (name e.name) → (x : SheetFault) → Refuses x (raw_element e none) (HasNoTemplate e) → Refuses x (raw_element e none) (HasNoTopElement e)
+pub top_template_refuses : (e : RawElem) → IsXsl (codes "template") (name e.name) → (x : SheetFault) → Refuses x (IsIn at_top (raw_element e none)) (HasNoTemplate e) → Refuses x (IsIn at_top (raw_element e none)) (HasNoTopElement e)
 top_template_refuses e n x r =
-    lifted (record { places = λ q a. a; constructs = λ q why a. a; deep = λ q a. a })
+    lifted (covers_itself (IsIn at_top (raw_element e none)))
     (λ c h rest k ts y. by_element c (not_taken c (name e.name) (xsl_reason (name e.name) (codes "template") refl n)) (λ (k : RawTrees). AreTemplates k ts → ⊥)
     (λ bs others behind u v w z. let (t, a) = template_there n z in h bs others t u v a) k y) x r
 
 pub top_misplaced : (e : RawElem) → (IsXsl (codes "template") (name e.name) → ⊥) → (IsDeclaration (name e.name) → ⊥) → ((name e.name).uri ≡ xsl_uri) ⊎ ((name e.name).uri ≡ [])
-    → (x : SheetFault) → IsMisplaced e x → Refuses x (raw_element e none) (HasNoTopElement e)
+    → (x : SheetFault) → IsMisplaced e x → Refuses x (IsIn at_top (raw_element e none)) (HasNoTopElement e)
 top_misplaced e f g i x r =
-    misplaced_is e none (HasNoTopElement e)
+    misplaced_is at_top e none (HasNoTopElement e)
     (λ c stays rest k ts y. by_element c stays (λ (k : RawTrees). AreTemplates k ts → ⊥) (λ bs others behind u v w z. no_top f (λ d. g (inl d)) (λ d. g (inr d)) i z) k y) x r
 
 pub top_declaration : (e : RawElem) → IsDeclaration (name e.name) → IsTopElement e (put_template None)
@@ -158,21 +159,21 @@ rest_only c t f item rest g = by (shape t)
 pub record TopLoop (whole rest : RawTrees) (found : List Code) : Type 0 where
   pub so_far : (ts : List Template) → AreTemplates rest ts → AreTemplates whole (map template found ++ ts)
   pub no_more : (c : Change) → HasNoTemplates rest c → HasNoTemplates whole c
-  pub covers : Covers rest whole
+  pub covers : Covers (IsIn at_top rest) (IsIn at_top whole)
 
 pub top_begins : (whole : RawTrees) → TopLoop whole whole []
-top_begins whole = record { so_far = λ b y. y; no_more = λ c g. g; covers = record { places = λ q a. a; constructs = λ q why a. a; deep = λ q a. a } }
+top_begins whole = record { so_far = λ b y. y; no_more = λ c g. g; covers = covers_itself (IsIn at_top whole) }
 
 pub top_goes_on : {whole : RawTrees} {found : List Code} (t : Raw) (rest : RawTrees) (f : List Template → List Template) (now : List Code) → IsTopItem t f → TopLoop whole (raw_before t rest) found
     → ((ts : List Template) → map template now ++ ts ≡ map template found ++ f ts) → TopLoop whole rest now
 top_goes_on {whole} t rest f now item l e = record {
   so_far = λ ts y. subst (AreTemplates whole) (sym (e ts)) (l.so_far (f ts) (item rest ts y));
   no_more = λ c g. l.no_more c (rest_only c t f item rest g);
-  covers = both_cover (covers_behind t rest) l.covers;
+  covers = both_cover (covers_behind at_top (λ n. refl) t rest) l.covers;
 }
 
-pub item_at_top_refuses : {whole : RawTrees} (rest : RawTrees) {found : List Code} (t : Raw) → TopLoop whole (raw_before t rest) found → (x : SheetFault) → Refuses x (raw_before t none) (HasNoTopItem t) → Refuses x whole (HasNoTemplates whole)
-item_at_top_refuses rest t l x r = lifted (both_cover (covers_first t rest) l.covers) (λ c h. l.no_more c (h rest)) x r
+pub item_at_top_refuses : {whole : RawTrees} (rest : RawTrees) {found : List Code} (t : Raw) → TopLoop whole (raw_before t rest) found → (x : SheetFault) → Refuses x (IsIn at_top (raw_before t none)) (HasNoTopItem t) → Refuses x (IsIn at_top whole) (HasNoTemplates whole)
+item_at_top_refuses rest t l x r = lifted (both_cover (covers_first at_top t rest) l.covers) (λ c h. l.no_more c (h rest)) x r
 
 append_nothing : (ts : List Template) → ts ++ [] ≡ ts
 append_nothing [] = refl
@@ -196,33 +197,69 @@ top_stays found now read e f ts = ap (λ us. map template us ++ ts) e ∙ ap (λ
 pub top_white : (t : Raw) (s : List ℕ) (q : ℕ) → ((rest : RawTrees) → raw_before t rest ≡ text s q rest) → IsTrue (is_all_white s) → IsTopItem t (put_template None)
 top_white t s q f w = λ rest ts y. subst (λ h. AreTemplates h ts) (sym (f rest)) (p.past_white w y)
 
-pub top_black : (t : Raw) (s : List ℕ) (q : ℕ) → ((rest : RawTrees) → raw_before t rest ≡ text s q rest) → IsFalse (is_all_white s) → IsPlaceIn (raw_before t none) q × HasNoTopItem t both
-top_black t s q f w = (subst (λ h. IsPlaceIn h q) (sym (f none)) constructs.at_text, λ rest. subst (λ h. HasNoTemplates h both) (sym (f rest)) (text_no_top s q w both rest))
+pub top_black : (t : Raw) (s : List ℕ) (q : ℕ) → ((rest : RawTrees) → raw_before t rest ≡ text s q rest) → IsFalse (is_all_white s) → IsAt (IsIn at_top (raw_before t none)) IsAnything q × HasNoTopItem t both
+top_black t s q f w = (subst (λ h. IsAt (IsIn at_top h) IsAnything q) (sym (f none)) (text_at at_top s q none), λ rest. subst (λ h. HasNoTemplates h both) (sym (f rest)) (text_no_top s q w both rest))
 
 pub top_elem : (t : Raw) (e : RawElem) (f : List Template → List Template) → ((rest : RawTrees) → raw_before t rest ≡ raw_element e rest) → IsTopElement e f → IsTopItem t f
 top_elem t e f is a = λ rest ts y. subst (λ h. AreTemplates h (f ts)) (sym (is rest)) (a rest ts y)
 
-pub top_elem_refuses : (t : Raw) (e : RawElem) → ((rest : RawTrees) → raw_before t rest ≡ raw_element e rest) → (x : SheetFault) → Refuses x (raw_element e none) (HasNoTopElement e) → Refuses x (raw_before t none) (HasNoTopItem t)
+pub top_elem_refuses : (t : Raw) (e : RawElem) → ((rest : RawTrees) → raw_before t rest ≡ raw_element e rest) → (x : SheetFault) → Refuses x (IsIn at_top (raw_element e none)) (HasNoTopElement e) → Refuses x (IsIn at_top (raw_before t none)) (HasNoTopItem t)
 top_elem_refuses t e is x r =
-    lifted (subst (Covers (raw_element e none)) (sym (is none)) (record { places = λ q a. a; constructs = λ q why a. a; deep = λ q a. a }))
+    lifted (subst (λ h. Covers (IsIn at_top (raw_element e none)) (IsIn at_top h)) (sym (is none)) (covers_itself (IsIn at_top (raw_element e none))))
     (λ c h rest. subst (λ k. HasNoTemplates k c) (sym (is rest)) (h rest)) x r
 
 -- faults of the root
-pub cause_of : {h raw : RawTrees} {P : Change → Type 0} → Covers h raw → ((c : Change) → P c → IsNoneWith c raw) → (x : SheetFault) → Refuses x h P → IsCause raw x
-cause_of v f (Malformed q) r = (v.places (place q) r.0, f both r.1)
-cause_of v f (Unsupported q why) r = (within (v.constructs (place q) why r.0), f flattened r.1)
-cause_of v f (TooDeep q) r = (v.deep (place q) r.0, f mended r.1)
-cause_of v f (Undefined q) r = absurd r
-cause_of v f (CallLoop q) r = absurd r
-cause_of v f NoMemory r = tt
+pub cause_of : {raw : RawTrees} {P : Change → Type 0} → ((c : Change) → P c → IsNoneWith c raw) → (x : SheetFault) → Refuses x (IsLookedAt raw) P → IsCause raw x
+cause_of f (Malformed q) r = (r.0, λ changed ts h s. absurd (f both r.1 changed ts h s))
+cause_of f (Unsupported q why) r = (r.0, f flattened r.1)
+cause_of f (TooDeep q) r = (r.0, f mended r.1)
+cause_of f (Undefined q) r = absurd r
+cause_of f (CallLoop q) r = absurd r
+cause_of f NoMemory r = tt
 
-pub no_call : (h : RawTrees) (P : Change → Type 0) (x : SheetFault) → Refuses x h P → IsNoFaultOfCalls x
+pub no_call : (h : Item → Type 0) (P : Change → Type 0) (x : SheetFault) → Refuses x h P → IsNoFaultOfCalls x
 no_call h P (Malformed q) r = tt
 no_call h P (Unsupported q why) r = tt
 no_call h P (TooDeep q) r = tt
 no_call h P (Undefined q) r = r
 no_call h P (CallLoop q) r = r
 no_call h P NoMemory r = tt
+
+-- no reason refuses the name of a root
+none_some : {X : Type 0} {o : Option X} {x : X} → o ≡ None → o ≡ Some x → ⊥
+none_some e f = cc
+
+root_part : (n : ExpandedName) → IsRoot n → list_any (bytes_eq n.local) parts ≡ true
+root_part n (inl e) = ap (λ (m : ExpandedName). list_any (bytes_eq m.local) parts) e
+root_part n (inr e) = ap (λ (m : ExpandedName). list_any (bytes_eq m.local) parts) e
+
+root_reason : (n : ExpandedName) → IsRoot n → reason_of n ≡ None
+root_reason n (inl e) = xsl_reason n (codes "stylesheet") refl e
+root_reason n (inr e) = xsl_reason n (codes "transform") refl e
+
+root_not_refused : (n : ExpandedName) → IsRoot n → {why : Why} → IsRefusedElement n why → ⊥
+root_not_refused n r (of_reason e) = none_some (root_reason n r) e
+root_not_refused n r (unknown u) = true≢false (sym (root_part n r) ∙ u.no_part)
+
+-- the tag of a root is looked at
+module _ (e : RawElem) (n : IsRoot (name e.name)) where
+  of_tag : {P : Item → Type 0} {q : ℕ} → (P (of_element (tag_of e)) → P (of_root (tag_of e))) → IsAt (alone e) P q → IsAt (IsLookedAt (raw_element e none)) P q
+  of_tag {P} {q} f a = by a.item a.has a.holds a.stands
+    where
+      by : (x : Item) → IsOfTag (tag_of e) x → P x → place_of x ≡ q → IsAt (IsLookedAt (raw_element e none)) P q
+      by x itself h s = record { item = of_root (tag_of e); has = looked.the_root; holds = f h; stands = s }
+      by x (attribute_of {a = b} has) h s = record { item = of_attribute (tag_of e) b; has = looked.has_root n has; holds = h; stands = s }
+
+  root_tag : (P : Change → Type 0) (x : SheetFault) → Refuses x (alone e) P → Refuses x (IsLookedAt (raw_element e none)) P
+  root_tag P (Malformed q) r = (of_tag (λ h. h) r.0, r.1)
+  root_tag P (Unsupported q why) r = (of_tag (λ h. absurd (root_not_refused (name e.name) n h)) r.0, r.1)
+  root_tag P (TooDeep q) r = (of_tag (λ h. h) r.0, r.1)
+  root_tag P (Undefined q) r = r
+  root_tag P (CallLoop q) r = r
+  root_tag P NoMemory r = tt
+
+  covers_root : Covers (IsIn at_top (raw_trees e.kids.now)) (IsLookedAt (raw_element e none))
+  covers_root = record { moves = λ x a. looked.within n a }
 
 no_stylesheet : {ts : List Template} → IsStylesheet none ts → ⊥
 no_stylesheet s = elim s [ ]
@@ -235,27 +272,35 @@ root_there (p.a_stylesheet n o v y) = (n, o, v, y)
 root_by : (e : RawElem) (c : Change) → ((bs : List Attribute) (others : RawTrees) (ts : List Template) → ChangedAttributes c (attributes_of e) bs → Changed c (raw_trees e.kids.now) others
     → IsRoot (name e.name) × HasOnly (codes "version" ∷ codes "exclude-result-prefixes" ∷ codes "id" ∷ []) bs × (value_of (codes "version") bs ≡ Some (codes "1.0")) × AreTemplates others ts → ⊥)
     → IsNoneWith c (raw_element e none)
-root_by e c f changed ts (an_element {bs = bs} {others = others} x i h) s d = f bs others ts x i (root_there s)
-root_by e c f changed ts (taken_away t no_tree) s d = no_stylesheet s
+root_by e c f changed ts (an_element {bs = bs} {others = others} x i h) s = f bs others ts x i (root_there s)
+root_by e c f changed ts (taken_away t no_tree) s = no_stylesheet s
 
 pub no_root_malformed : (e : RawElem) → (IsRoot (name e.name) → ⊥) → (c : Change) → IsNoneWith c (raw_element e none)
 no_root_malformed e f c = root_by e c (λ bs others ts u v t. f t.0)
 
-pub root_only_refuses : (e : RawElem) (x : SheetFault) → Refuses x (alone e) (HasNoAttributes e (HasOnly (codes "version" ∷ codes "exclude-result-prefixes" ∷ codes "id" ∷ []))) → IsCause (raw_element e none) x
-root_only_refuses e x r = cause_of covers_tag (λ c h. root_by e c (λ bs others ts u v t. h bs u t.1)) x r
+pub root_only_refuses : (e : RawElem) → IsRoot (name e.name) → (x : SheetFault) → Refuses x (alone e) (HasNoAttributes e (HasOnly (codes "version" ∷ codes "exclude-result-prefixes" ∷ codes "id" ∷ []))) → IsCause (raw_element e none) x
+root_only_refuses e n x r = cause_of (λ c h. root_by e c (λ bs others ts u v t. h bs u t.1)) x (root_tag e n (HasNoAttributes e (HasOnly (codes "version" ∷ codes "exclude-result-prefixes" ∷ codes "id" ∷ []))) x r)
 
-pub root_version_refuses : (e : RawElem) (x : SheetFault) → Refuses x (alone e) (HasNoAttributes e (λ olds. value_of (codes "version") olds ≡ Some (codes "1.0"))) → IsCause (raw_element e none) x
-root_version_refuses e x r = cause_of covers_tag (λ c h. root_by e c (λ bs others ts u v t. h bs u t.2)) x r
+pub root_version_refuses : (e : RawElem) → IsRoot (name e.name) → (x : SheetFault) → Refuses x (alone e) (HasNoAttributes e (λ olds. value_of (codes "version") olds ≡ Some (codes "1.0"))) → IsCause (raw_element e none) x
+root_version_refuses e n x r = cause_of (λ c h. root_by e c (λ bs others ts u v t. h bs u t.2)) x (root_tag e n (HasNoAttributes e (λ olds. value_of (codes "version") olds ≡ Some (codes "1.0"))) x r)
 
-pub root_templates_refuse : (e : RawElem) (x : SheetFault) → Refuses x (raw_trees e.kids.now) (HasNoTemplates (raw_trees e.kids.now)) → IsCause (raw_element e none) x
-root_templates_refuse e x r = cause_of covers_kids (λ c h. root_by e c (λ bs others ts u v t. h others ts v t.3)) x r
+pub root_templates_refuse : (e : RawElem) → IsRoot (name e.name) → (x : SheetFault) → Refuses x (IsIn at_top (raw_trees e.kids.now)) (HasNoTemplates (raw_trees e.kids.now)) → IsCause (raw_element e none) x
+root_templates_refuse e n x r =
+    let P : Change → Type 0 = HasNoTemplates (raw_trees e.kids.now) in
+    cause_of {P = P} (λ c h. root_by e c (λ bs others ts u v t. h others ts v t.3)) x (lifted {P = P} {Q = P} (covers_root e n) (λ c h. h) x r)
 
-pub no_root_cause : (e : RawElem) → (IsRoot (name e.name) → ⊥) → IsPlaceIn (raw_element e none) (place e.place) × IsNoneWith both (raw_element e none)
-no_root_cause e f = (constructs.at_element, no_root_malformed e f both)
+pub no_root_cause : (e : RawElem) → (IsRoot (name e.name) → ⊥) → IsCause (raw_element e none) (Malformed e.place)
+no_root_cause e f = (
+  record { item = of_root (tag_of e); has = looked.the_root; holds = tt; stands = refl },
+  λ changed ts h s. absurd (no_root_malformed e f both changed ts h s),
+)
 
 pub simplified_cause : (e : RawElem) (a : Attribute) → (IsRoot (name e.name) → ⊥) → (name e.name).uri ≢ xsl_uri → Contains (attributes_of e) a → IsXsl (codes "version") a.name
-    → StandsAt (raw_element e none) (place e.place) N36 × IsNoneWith flattened (raw_element e none)
-simplified_cause e a f u has n = (simplified u has n, no_root_malformed e f flattened)
+    → IsCause (raw_element e none) (Unsupported e.place N36)
+simplified_cause e a f u has n = (
+  record { item = of_root (tag_of e); has = looked.the_root; holds = (record { literal = u; version = a; has = has; is_version = n }, refl); stands = refl },
+  no_root_malformed e f flattened,
+)
 
 pub root_uri : {n : ExpandedName} → IsRoot n → n.uri ≡ xsl_uri
 root_uri (inl e) = ap (λ (m : ExpandedName). m.uri) e
@@ -269,8 +314,8 @@ pub top_ok : (t : Raw) (e : RawElem) → ((rest : RawTrees) → raw_before t res
 top_ok t e is (Ok w) a = top_elem t e (put_template w) is a
 top_ok t e is (Err x) a = tt
 
-pub top_no : (t : Raw) (e : RawElem) → ((rest : RawTrees) → raw_before t rest ≡ raw_element e rest) → (r : Result (Option Code) SheetFault) → IfErr r (λ x. Refuses x (raw_element e none) (HasNoTopElement e))
-    → IfErr r (λ x. Refuses x (raw_before t none) (HasNoTopItem t))
+pub top_no : (t : Raw) (e : RawElem) → ((rest : RawTrees) → raw_before t rest ≡ raw_element e rest) → (r : Result (Option Code) SheetFault) → IfErr r (λ x. Refuses x (IsIn at_top (raw_element e none)) (HasNoTopElement e))
+    → IfErr r (λ x. Refuses x (IsIn at_top (raw_before t none)) (HasNoTopItem t))
 top_no t e is (Ok w) a = tt
 top_no t e is (Err x) a = top_elem_refuses t e is x a
 
@@ -279,13 +324,13 @@ pub stylesheet_ok : (e : RawElem) (r : Result (Bor (List Code)) SheetFault) → 
 stylesheet_ok e (Ok ts) n o v a = stylesheet_read e (map template ts.now) n o v a
 stylesheet_ok e (Err x) n o v a = tt
 
-pub stylesheet_no : (e : RawElem) (r : Result (Bor (List Code)) SheetFault) → IfErr r (λ x. Refuses x (raw_trees e.kids.now) (HasNoTemplates (raw_trees e.kids.now))) → IfErr r (IsCause (raw_element e none))
-stylesheet_no e (Ok ts) a = tt
-stylesheet_no e (Err x) a = root_templates_refuse e x a
+pub stylesheet_no : (e : RawElem) → IsRoot (name e.name) → (r : Result (Bor (List Code)) SheetFault) → IfErr r (λ x. Refuses x (IsIn at_top (raw_trees e.kids.now)) (HasNoTemplates (raw_trees e.kids.now))) → IfErr r (IsCause (raw_element e none))
+stylesheet_no e n (Ok ts) a = tt
+stylesheet_no e n (Err x) a = root_templates_refuse e n x a
 
-pub stylesheet_calls : (e : RawElem) (r : Result (Bor (List Code)) SheetFault) → IfErr r (λ x. Refuses x (raw_trees e.kids.now) (HasNoTemplates (raw_trees e.kids.now))) → IfErr r IsNoFaultOfCalls
+pub stylesheet_calls : (e : RawElem) (r : Result (Bor (List Code)) SheetFault) → IfErr r (λ x. Refuses x (IsIn at_top (raw_trees e.kids.now)) (HasNoTemplates (raw_trees e.kids.now))) → IfErr r IsNoFaultOfCalls
 stylesheet_calls e (Ok ts) a = tt
-stylesheet_calls e (Err x) a = no_call (raw_trees e.kids.now) (HasNoTemplates (raw_trees e.kids.now)) x a
+stylesheet_calls e (Err x) a = no_call (IsIn at_top (raw_trees e.kids.now)) (HasNoTemplates (raw_trees e.kids.now)) x a
 
 pub lacks_by : {A B : Type 0} (p q r : Bool) (a : Option A) (n m : Option B) → p ≡ is_some a → q ≡ is_some n → r ≡ is_some m → (p || (q && not r)) ≡ false → (is_some a || (is_some n && not (is_some m))) ≡ false
 lacks_by p q r a n m e f g h =

@@ -21,7 +21,7 @@ use Rattle.tc_sheet.specs.Tables.{IsTwice}
 use Rattle.tc_sheet.specs.declared.faults.SheetFault.{SheetFault}
 use Rattle.tc_sheet.specs.declared.faults.SheetFault.TheVariants.{NoMemory}
 use Rattle.tc_sheet.specs.Told.{IsTold}
-use Rattle.tc_sheet.proofs.SheetLaws.{always_unsupported, always_deep, no_undefined, no_loop, twice_cause, twice_no_call, calls_cause, calls_unsupported, calls_deep, calls_undefined, calls_loop, used_names}
+use Rattle.tc_sheet.proofs.SheetLaws.{always_unsupported, always_deep, no_undefined, no_loop, always_again, twice_cause, twice_no_call, calls_cause, calls_unsupported, calls_deep, calls_undefined, calls_loop, calls_again, used_names}
 
 pub element_tree : (t : Raw) (e : RawElem) → t ≡ Elem e → raw_tree t ≡ raw_element e none
 element_tree t e is = ap raw_tree is ∙ before_elem e none
@@ -37,6 +37,7 @@ told raw x a n = record {
   deep = always_deep raw x a n;
   no_template = no_undefined raw x a n;
   loops = no_loop raw x a n;
+  again = always_again raw x a n;
 }
 
 pub told_memory : (raw : RawTrees) (x : SheetFault) → x ≡ NoMemory → IsTold raw x
@@ -55,6 +56,7 @@ module _ (root : RawTrees) (ts : List Template) (read : IsStylesheet root ts) wh
         deep = calls_deep root read x a;
         no_template = calls_undefined root read d x a;
         loops = calls_loop root read d x a;
+        again = calls_again root read d x a;
       }
 
   pub whole : IsDistinct same_name (names_of ts) → (used : List Template) → used ≡ filter is_used ts → All (λ c. IsDefined used c.call) (calls_of used) → All (λ c. IsLoop used c → ⊥) (calls_of used)

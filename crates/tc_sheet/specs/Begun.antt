@@ -6,6 +6,7 @@ use Rattle.tc_model.specs.SheetTextTrees.{WrittenBody, w_nothing, w_element, w_c
 use Rattle.tc_model.specs.SheetTextPhrases.{Tag, Instruction, i_choose, instruction_of, HasOnly, IsInstruction, IsBody}
 use Rattle.tc_model.specs.declared.tree.RawElem.{RawElem}
 use Rattle.tc_sheet.specs.Changes.{Change}
+use Rattle.tc_sheet.specs.LookedAt.{held, in_body, IsOpened}
 use Rattle.tc_sheet.specs.Readings.{attributes_of, IsRead, HasNoBody, IsElementItem, HasNoElementItem}
 use Rattle.tc_sheet.specs.Seen.{tag_of, put}
 use Rattle.tc_sheet.specs.declared.bodies.Head.{Head}
@@ -22,6 +23,7 @@ around (heads.If t) inner rest = w_choose (w_branch (test t) inner (w_otherwise 
 
 -- an instruction that makes this of the body that it holds
 pub record IsHead (i : Instruction) (e : RawElem) (h : Head) : Type 0 where
+  pub holds : held i ≡ Some in_body
   pub makes : (inner b : WrittenBody) → IsBody (raw_trees e.kids.now) inner → IsInstruction i (tag_of e) (raw_trees e.kids.now) b (around h inner b)
   pub needs : (t : Tag) (kids : RawTrees) (b d : WrittenBody) → IsInstruction i t kids b d → (inner : WrittenBody) × IsBody kids inner
 
@@ -33,6 +35,7 @@ IsBegunBy i e begun.Choose = (i ≡ i_choose) × HasOnly [] (attributes_of e)
 
 -- an element of a body that makes this of the body that it holds, which it must hold
 pub record IsAround (e : RawElem) (h : Head) : Type 0 where
+  pub opened : IsOpened in_body (name e.name) in_body
   pub makes : (rest : RawTrees) (inner b : WrittenBody) → IsBody (raw_trees e.kids.now) inner → IsBody rest b → IsBody (raw_element e rest) (around h inner b)
   pub needs : (c : Change) → HasNoBody (raw_trees e.kids.now) c → HasNoElementItem e c
 

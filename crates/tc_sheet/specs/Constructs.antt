@@ -1,14 +1,15 @@
--- Constructs of stylesheets that are refused by a reason of their own, and where they stand (XSLT 1.0).
-use Rattle.std.specs.Prelude.{◌≡◌, ◌≢◌, ◌⊎◌, ℕ, List, [], ◌∷◌, Option, None, Some, Contains, bytes_eq, codes, if◌then◌else◌, Bool, ◌||◌, IsTrue, IsFalse}
+-- Constructs of stylesheets that are refused by a reason of their own (XSLT 1.0). Where they are looked for says `LookedAt`.
+use Rattle.std.specs.Prelude.{◌≡◌, ◌≢◌, ◌⊎◌, ℕ, List, [], ◌∷◌, Option, None, Some, Contains, bytes_eq, codes, if◌then◌else◌, IsFalse}
 use Rattle.std.specs.List.{list_any}
 use Rattle.tc_base.specs.declared.reasons.Why.{Why}
 use Rattle.tc_base.specs.declared.reasons.Why.TheVariants.{N18, N19, N20, N21, N22, N23, N24, N25, N26, N27, N28, N29, N30, N31, N32, N33, N34, N35, N36, N37, N38, N39, N40, N41, N42}
 use Rattle.tc_model.specs.Names.{ExpandedName}
-use Rattle.tc_model.specs.RawTrees.{Attribute, Bound, RawTrees, none, text, element}
-use Rattle.tc_model.specs.Sheets.{Path}
-use Rattle.tc_model.specs.PathText.{SelectText, AttributesText}
+use Rattle.tc_model.specs.RawTrees.{Attribute, Bound}
+use Rattle.tc_model.specs.Sheets.{Path, Test, Body}
+use Rattle.tc_model.specs.PathTextPhrases.{Alternative}
+use Rattle.tc_model.specs.PathText.{SelectText, AttributesText, ValueText, PatternText, TestText}
 use Rattle.tc_model.specs.SheetTextPhrases.{xsl_uri, IsXsl, instruction_of}
-use Rattle.tc_path.specs.Faults.{Shallow, Deep}
+use Rattle.tc_path.specs.Faults.{Shallow}
 use Rattle.tc_path.specs.Contexts.{Context}
 use Rattle.tc_path.specs.Contexts as contexts
 
@@ -71,15 +72,36 @@ IsDeclaration n = IsXsl (codes "output") n ⊎ IsXsl (codes "strip-space") n
 abbrev pub plain : List ℕ → ExpandedName
 plain local = record { uri = []; local = local }
 
--- in which attribute of which element a text of this kind stands
-pub data IsOfContext : ExpandedName → ExpandedName → Context → Type 0 where
-  of_apply : {n : ExpandedName} → IsXsl (codes "apply-templates") n → IsOfContext n (plain (codes "select")) contexts.select
-  of_each : {n : ExpandedName} → IsXsl (codes "for-each") n → IsOfContext n (plain (codes "select")) contexts.select
-  of_copy : {n : ExpandedName} → IsXsl (codes "copy-of") n → IsOfContext n (plain (codes "select")) contexts.select
-  of_value : {n : ExpandedName} → IsXsl (codes "value-of") n → IsOfContext n (plain (codes "select")) contexts.value
-  of_match : {n : ExpandedName} → IsXsl (codes "template") n → IsOfContext n (plain (codes "match")) contexts.pattern
-  of_if : {n : ExpandedName} → IsXsl (codes "if") n → IsOfContext n (plain (codes "test")) contexts.test
-  of_when : {n : ExpandedName} → IsXsl (codes "when") n → IsOfContext n (plain (codes "test")) contexts.test
+-- the forms of texts of XPath
+pub data Form : Type 0 where
+  select : Form
+  value : Form
+  pattern : Form
+  test : Form
+
+-- by which a construct is refused or not
+abbrev pub context_of : Form → Context
+context_of select = contexts.select
+context_of value = contexts.value
+context_of pattern = contexts.pattern
+context_of test = contexts.test
+
+-- a text is of this form
+abbrev pub HasForm : Form → List Bound → List ℕ → Type 0
+HasForm select scope s = (p : Path) × SelectText scope s p
+HasForm value scope s = (b : Body) × ValueText scope s b
+HasForm pattern scope s = (alternatives : List Alternative) × PatternText scope s alternatives
+HasForm test scope s = (t : Test) × TestText scope s t
+
+-- in which attribute of which element a text of this form must stand
+pub data MustHave : ExpandedName → ExpandedName → Form → Type 0 where
+  of_apply : {n : ExpandedName} → IsXsl (codes "apply-templates") n → MustHave n (plain (codes "select")) select
+  of_each : {n : ExpandedName} → IsXsl (codes "for-each") n → MustHave n (plain (codes "select")) select
+  of_copy : {n : ExpandedName} → IsXsl (codes "copy-of") n → MustHave n (plain (codes "select")) select
+  of_value : {n : ExpandedName} → IsXsl (codes "value-of") n → MustHave n (plain (codes "select")) value
+  of_match : {n : ExpandedName} → IsXsl (codes "template") n → MustHave n (plain (codes "match")) pattern
+  of_if : {n : ExpandedName} → IsXsl (codes "if") n → MustHave n (plain (codes "test")) test
+  of_when : {n : ExpandedName} → IsXsl (codes "when") n → MustHave n (plain (codes "test")) test
 
 -- an attribute of an element of this name, in this scope, that is refused by a reason of its own
 pub data IsRefusedAttribute (n : ExpandedName) (scope : List Bound) (a : Attribute) : Why → Type 0 where
@@ -101,51 +123,10 @@ pub data IsRefusedAttribute (n : ExpandedName) (scope : List Bound) (a : Attribu
   -- 2.1, 7.1.1
   unknown : n.uri ≢ xsl_uri → a.name.uri ≡ xsl_uri → a.name.local ≢ codes "exclude-result-prefixes" → a.name.local ≢ codes "use-attribute-sets"
       → IsRefusedAttribute n scope a N42
-  -- a construct of XPath
-  in_path : {c : Context} {why : Why} → IsOfContext n a.name c → Shallow c a.value (Some why) → IsRefusedAttribute n scope a why
+  -- a construct of XPath, in a text that isn't of its form
+  in_path : {f : Form} {why : Why} → MustHave n a.name f → (HasForm f scope a.value → ⊥) → Shallow (context_of f) a.value (Some why) → IsRefusedAttribute n scope a why
 
 -- an element of this name that is refused by a reason of its own
 pub data IsRefusedElement (n : ExpandedName) : Why → Type 0 where
   of_reason : {why : Why} → reason_of n ≡ Some why → IsRefusedElement n why
   unknown : IsUnknown n → IsRefusedElement n N42
-
--- the construct of this reason stands at this place
-pub data Stands : RawTrees → ℕ → Why → Type 0 where
-  beside_text : {s : List ℕ} {p q : ℕ} {rest : RawTrees} {why : Why} → Stands rest q why → Stands (text s p rest) q why
-  beside_element : {n : ExpandedName} {attributes : List Attribute} {scope : List Bound} {p q : ℕ} {kids rest : RawTrees} {why : Why}
-      → Stands rest q why → Stands (element n attributes scope p kids rest) q why
-  inside : {n : ExpandedName} {attributes : List Attribute} {scope : List Bound} {p q : ℕ} {kids rest : RawTrees} {why : Why}
-      → Stands kids q why → Stands (element n attributes scope p kids rest) q why
-  at_element : {n : ExpandedName} {attributes : List Attribute} {scope : List Bound} {p : ℕ} {kids rest : RawTrees} {why : Why}
-      → IsRefusedElement n why → Stands (element n attributes scope p kids rest) p why
-  at_attribute : {n : ExpandedName} {attributes : List Attribute} {scope : List Bound} {p : ℕ} {kids rest : RawTrees} {why : Why} {a : Attribute}
-      → Contains attributes a → IsRefusedAttribute n scope a why → Stands (element n attributes scope p kids rest) a.place why
-
--- or the root is a literal element with a version (2.3)
-pub data StandsAt : RawTrees → ℕ → Why → Type 0 where
-  within : {raw : RawTrees} {q : ℕ} {why : Why} → Stands raw q why → StandsAt raw q why
-  simplified : {n : ExpandedName} {attributes : List Attribute} {scope : List Bound} {p : ℕ} {kids rest : RawTrees} {a : Attribute}
-      → n.uri ≢ xsl_uri → Contains attributes a → IsXsl (codes "version") a.name → StandsAt (element n attributes scope p kids rest) p N36
-
--- a select, pattern or test that nests too deep is the attribute at this place
-pub data DeepAt : RawTrees → ℕ → Type 0 where
-  beside_text : {s : List ℕ} {p q : ℕ} {rest : RawTrees} → DeepAt rest q → DeepAt (text s p rest) q
-  beside_element : {n : ExpandedName} {attributes : List Attribute} {scope : List Bound} {p q : ℕ} {kids rest : RawTrees}
-      → DeepAt rest q → DeepAt (element n attributes scope p kids rest) q
-  inside : {n : ExpandedName} {attributes : List Attribute} {scope : List Bound} {p q : ℕ} {kids rest : RawTrees}
-      → DeepAt kids q → DeepAt (element n attributes scope p kids rest) q
-  at_attribute : {n : ExpandedName} {attributes : List Attribute} {scope : List Bound} {p : ℕ} {kids rest : RawTrees} {a : Attribute} {c : Context}
-      → Contains attributes a → IsOfContext n a.name c → Deep a.value → DeepAt (element n attributes scope p kids rest) a.place
-
--- a text, an element or an attribute stands at this place
-pub data IsPlaceIn : RawTrees → ℕ → Type 0 where
-  at_text : {s : List ℕ} {p : ℕ} {rest : RawTrees} → IsPlaceIn (text s p rest) p
-  beside_text : {s : List ℕ} {p q : ℕ} {rest : RawTrees} → IsPlaceIn rest q → IsPlaceIn (text s p rest) q
-  at_element : {n : ExpandedName} {attributes : List Attribute} {scope : List Bound} {p : ℕ} {kids rest : RawTrees}
-      → IsPlaceIn (element n attributes scope p kids rest) p
-  at_attribute : {n : ExpandedName} {attributes : List Attribute} {scope : List Bound} {p : ℕ} {kids rest : RawTrees} {a : Attribute}
-      → Contains attributes a → IsPlaceIn (element n attributes scope p kids rest) a.place
-  inside : {n : ExpandedName} {attributes : List Attribute} {scope : List Bound} {p q : ℕ} {kids rest : RawTrees}
-      → IsPlaceIn kids q → IsPlaceIn (element n attributes scope p kids rest) q
-  beside_element : {n : ExpandedName} {attributes : List Attribute} {scope : List Bound} {p q : ℕ} {kids rest : RawTrees}
-      → IsPlaceIn rest q → IsPlaceIn (element n attributes scope p kids rest) q

@@ -1,28 +1,36 @@
 -- Why a raw tree isn't a stylesheet.
-use Rattle.std.specs.Prelude.{◌≡◌, ℕ, List, filter}
-use Rattle.std.specs.List.{IsDistinct}
-use Rattle.tc_model.specs.Names.{same_name}
+use Rattle.std.specs.Prelude.{◌≡◌, ℕ, List}
 use Rattle.tc_model.specs.RawTrees.{RawTrees}
 use Rattle.tc_model.specs.Seen.{place}
-use Rattle.tc_model.specs.Sheets.{Sheet}
 use Rattle.tc_model.specs.SheetTextTrees.{Template}
 use Rattle.tc_model.specs.SheetTextPhrases.{IsStylesheet}
-use Rattle.tc_model.specs.SheetText.{names_of, SheetFails, undefined, call_loop}
-use Rattle.tc_sheet.specs.Constructs.{StandsAt, DeepAt, IsPlaceIn}
+use Rattle.tc_model.specs.SheetText.{SheetFails, undefined, call_loop}
 use Rattle.tc_sheet.specs.Changes.{Change, mended, flattened, both, Changed}
+use Rattle.tc_sheet.specs.LookedAt.{IsLookedAt, IsAt, IsAnything, IsRefused, IsDeep}
+use Rattle.tc_sheet.specs.Tables.{IsNamedAgain}
 use Rattle.tc_sheet.specs.declared.faults.SheetFault.{SheetFault}
 use Rattle.tc_sheet.specs.declared.faults.SheetFault.TheVariants.{Malformed, Unsupported, TooDeep, Undefined, CallLoop, NoMemory}
 
--- even when some of this is changed, it is no stylesheet whose templates have different names
+-- the templates of whatever it becomes when some of this is changed
+abbrev pub OfAllWith : Change → RawTrees → (List Template → Type 0) → Type 0
+OfAllWith c raw P = (changed : RawTrees) (ts : List Template) → Changed c raw changed → IsStylesheet changed ts → P ts
+
+-- even when some of this is changed, it is no stylesheet, whatever the names of templates are
 abbrev pub IsNoneWith : Change → RawTrees → Type 0
-IsNoneWith c raw = (changed : RawTrees) (ts : List Template) → Changed c raw changed → IsStylesheet changed ts → IsDistinct same_name (names_of ts) → ⊥
+IsNoneWith c raw = OfAllWith c raw (λ ts. ⊥)
+
+-- the tree is a stylesheet but for the names of templates: the template at this place is the first whose name one before it has
+pub record NamesAgain (raw : RawTrees) (p : ℕ) : Type 0 where
+  pub templates : List Template
+  pub written : IsStylesheet raw templates
+  pub again : IsNamedAgain templates p
 
 -- The cause of a fault. A tree that is unsupported isn't a stylesheet even where its selects, patterns and tests didn't nest too deep; one that
--- nests too deep, even without what is unsupported; and one that is malformed, even without both.
+-- nests too deep, even without what is unsupported; and one that is malformed, even without both, unless a template is named again at that place.
 abbrev pub IsCause : RawTrees → SheetFault → Type 0
-IsCause raw (Malformed p) = IsPlaceIn raw (place p) × IsNoneWith both raw
-IsCause raw (Unsupported p why) = StandsAt raw (place p) why × IsNoneWith flattened raw
-IsCause raw (TooDeep p) = DeepAt raw (place p) × IsNoneWith mended raw
+IsCause raw (Malformed p) = IsAt (IsLookedAt raw) IsAnything (place p) × OfAllWith both raw (λ ts. IsNamedAgain ts (place p))
+IsCause raw (Unsupported p why) = IsAt (IsLookedAt raw) (IsRefused why) (place p) × IsNoneWith flattened raw
+IsCause raw (TooDeep p) = IsAt (IsLookedAt raw) IsDeep (place p) × IsNoneWith mended raw
 IsCause raw (Undefined p) = SheetFails raw undefined (place p)
 IsCause raw (CallLoop p) = SheetFails raw call_loop (place p)
 IsCause raw NoMemory = Unit {0}
@@ -71,3 +79,12 @@ IsNoFaultOfCalls (TooDeep p) = Unit {0}
 IsNoFaultOfCalls (Undefined p) = ⊥
 IsNoFaultOfCalls (CallLoop p) = ⊥
 IsNoFaultOfCalls NoMemory = Unit {0}
+
+-- the fault is that it is malformed, at this place, or want of memory
+abbrev pub IsMalformedAt : ℕ → SheetFault → Type 0
+IsMalformedAt q (Malformed p) = place p ≡ q
+IsMalformedAt q (Unsupported p why) = ⊥
+IsMalformedAt q (TooDeep p) = ⊥
+IsMalformedAt q (Undefined p) = ⊥
+IsMalformedAt q (CallLoop p) = ⊥
+IsMalformedAt q NoMemory = Unit {0}

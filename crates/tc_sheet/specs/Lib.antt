@@ -1,5 +1,6 @@
 pub mod Seen
 pub mod Constructs
+pub mod LookedAt
 pub mod Changes
 pub mod Faults
 pub mod Readings

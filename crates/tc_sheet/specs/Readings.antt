@@ -9,33 +9,39 @@ use Rattle.tc_model.specs.PathText.{AttributesText, TestText}
 use Rattle.tc_model.specs.declared.tree.Raw.{Raw}
 use Rattle.tc_model.specs.declared.tree.RawAttr.{RawAttr}
 use Rattle.tc_model.specs.declared.tree.RawElem.{RawElem}
-use Rattle.tc_sheet.specs.Constructs.{Stands, DeepAt, IsPlaceIn, IsRefusedElement, reason_of, plain}
+use Rattle.tc_sheet.specs.Constructs.{IsRefusedElement, reason_of, plain}
+use Rattle.tc_sheet.specs.LookedAt.{Item, of_element, of_attribute, IsAt, IsAnything, IsRefused, IsDeep}
 use Rattle.tc_sheet.specs.Changes.{Change, mended, flattened, both, ChangedAttributes, Changed}
 use Rattle.tc_sheet.specs.Seen.{tag_of}
 use Rattle.tc_sheet.specs.declared.faults.SheetFault.{SheetFault}
 use Rattle.tc_sheet.specs.declared.faults.SheetFault.TheVariants.{Malformed, Unsupported, TooDeep, Undefined, CallLoop, NoMemory}
 
--- A fault that stands in this tree, for which this is so whatever may be changed where it is the fault; or want of memory.
-abbrev pub Refuses : SheetFault → RawTrees → (Change → Type 0) → Type 0
-Refuses (Malformed p) h P = IsPlaceIn h (place p) × P both
-Refuses (Unsupported p why) h P = Stands h (place p) why × P flattened
-Refuses (TooDeep p) h P = DeepAt h (place p) × P mended
-Refuses (Undefined p) h P = ⊥
-Refuses (CallLoop p) h P = ⊥
-Refuses NoMemory h P = Unit {0}
+-- A fault of one of these that are looked at, for which this is so whatever may be changed where it is the fault; or want of memory.
+abbrev pub Refuses : SheetFault → (Item → Type 0) → (Change → Type 0) → Type 0
+Refuses (Malformed p) Has P = IsAt Has IsAnything (place p) × P both
+Refuses (Unsupported p why) Has P = IsAt Has (IsRefused why) (place p) × P flattened
+Refuses (TooDeep p) Has P = IsAt Has IsDeep (place p) × P mended
+Refuses (Undefined p) Has P = ⊥
+Refuses (CallLoop p) Has P = ⊥
+Refuses NoMemory Has P = Unit {0}
 
--- a fault that stands in this tree, of an element or an attribute that stands where none may
-abbrev pub IsFaultOf : SheetFault → RawTrees → Type 0
-IsFaultOf (Malformed p) h = IsPlaceIn h (place p)
-IsFaultOf (Unsupported p why) h = Stands h (place p) why
-IsFaultOf (TooDeep p) h = ⊥
-IsFaultOf (Undefined p) h = ⊥
-IsFaultOf (CallLoop p) h = ⊥
-IsFaultOf NoMemory h = ⊥
+-- a fault of one of these that stands where none may
+abbrev pub IsFaultOf : SheetFault → (Item → Type 0) → Type 0
+IsFaultOf (Malformed p) Has = IsAt Has IsAnything (place p)
+IsFaultOf (Unsupported p why) Has = IsAt Has (IsRefused why) (place p)
+IsFaultOf (TooDeep p) Has = ⊥
+IsFaultOf (Undefined p) Has = ⊥
+IsFaultOf (CallLoop p) Has = ⊥
+IsFaultOf NoMemory Has = ⊥
 
--- an element without its children
-abbrev pub alone : RawElem → RawTrees
-alone e = element (name e.name) (map attribute e.attrs.now) (map bound e.scope.now) (place e.place) none none
+-- an element, or an attribute of it
+pub data IsOfTag (t : Tag) : Item → Type 0 where
+  itself : IsOfTag t (of_element t)
+  attribute_of : {a : Attribute} → Contains t.attributes a → IsOfTag t (of_attribute t a)
+
+-- an element without what it holds
+abbrev pub alone : RawElem → Item → Type 0
+alone e = IsOfTag (tag_of e)
 
 abbrev pub attributes_of : RawElem → List Attribute
 attributes_of e = map attribute e.attrs.now

@@ -1,5 +1,5 @@
 -- Tables of names, each of which is kept once, and why the names of templates are none.
-use Rattle.std.specs.Prelude.{◌≡◌, ℕ, List, ◌++◌, Contains, Some, true}
+use Rattle.std.specs.Prelude.{◌≡◌, ℕ, List, ◌∷◌, ◌++◌, Some, true}
 use Rattle.std.specs.List.{IsDistinct, list_any}
 use Rattle.tc_model.specs.Names.{ExpandedName, same_name}
 use Rattle.tc_model.specs.Numbered.{each_once_after}
@@ -26,9 +26,21 @@ IsAgain names t (Undefined p) = ⊥
 IsAgain names t (CallLoop p) = ⊥
 IsAgain names t NoMemory = Unit {0}
 
--- two templates have one name, and one of them is at this place; or memory was refused
+-- the template at this place is the first whose name one before it has
+pub record IsNamedAgain (ts : List Template) (p : ℕ) : Type 0 where
+  pub before : List Template
+  pub template : Template
+  pub after : List Template
+  pub parts : ts ≡ before ++ (template ∷ after)
+  pub once : IsDistinct same_name (names_of before)
+  pub name : ExpandedName
+  pub named : template.name ≡ Some name
+  pub again : list_any (same_name name) (names_of before) ≡ true
+  pub stands : template.place ≡ p
+
+-- that is so of the place of the fault; or memory was refused
 abbrev pub IsTwice : List Template → SheetFault → Type 0
-IsTwice ts (Malformed p) = ((t : Template) × Contains ts t × (t.place ≡ place p)) × (IsDistinct same_name (names_of ts) → ⊥)
+IsTwice ts (Malformed p) = IsNamedAgain ts (place p)
 IsTwice ts (Unsupported p why) = ⊥
 IsTwice ts (TooDeep p) = ⊥
 IsTwice ts (Undefined p) = ⊥

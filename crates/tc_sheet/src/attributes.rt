@@ -12,10 +12,10 @@ ghost use Rattle.tc_model.specs.Sheets as sheets;
 ghost use Rattle.tc_model.specs.XmlTextNames as names;
 ghost use Rattle.tc_model.specs.XmlTextScopes.{is_empty, uri_of};
 ghost use Rattle.tc_path.specs.Seen.{alternative};
-ghost use Rattle.tc_path.specs.Contexts as contexts;
 ghost use Rattle.tc_scan.specs.Seen.{written_name};
 ghost use Rattle.tc_sheet.specs.Changes.{exchanged};
-ghost use Rattle.tc_sheet.specs.Constructs.{IsRoot, IsOfContext, plain};
+ghost use Rattle.tc_sheet.specs.Constructs.{IsRoot, MustHave, plain};
+ghost use Rattle.tc_sheet.specs.Constructs as forms;
 ghost use Rattle.tc_sheet.specs.Readings.{Refuses, IsFaultOf, IsAttribute, HasAttributesText, HasNoAttributes, HasNoOptional, HasNoRequired, alone, attributes_of, scope_of};
 
 use crate::elements::{XSL, is_xsl};
@@ -187,7 +187,7 @@ pub(crate) fn optional_select<'b>(
     arena: &'b Bump,
     element: &RawElem<'b>,
 ) -> Result<Option<Path<'b>>, SheetFault>
-    requires { IsOfContext (see.name element.now.name) (plain (codes "select")) contexts.select }
+    requires { MustHave (see.name element.now.name) (plain (codes "select")) forms.select }
     ensures ok { IfOk result (λ p. phrases.Optional (texts.SelectText (scope_of element.now)) (phrases.value_of (codes "select") (attributes_of element.now)) (option_map see.path p)) }
     ensures no { IfErr result (λ e. Refuses e (alone element.now) (HasNoOptional element.now (codes "select") (texts.SelectText (scope_of element.now)))) }
 {
@@ -205,7 +205,7 @@ pub(crate) fn required_select<'b>(
     arena: &'b Bump,
     element: &RawElem<'b>,
 ) -> Result<Path<'b>, SheetFault>
-    requires { IsOfContext (see.name element.now.name) (plain (codes "select")) contexts.select }
+    requires { MustHave (see.name element.now.name) (plain (codes "select")) forms.select }
     ensures ok { IfOk result (λ p. phrases.Required (texts.SelectText (scope_of element.now)) (phrases.value_of (codes "select") (attributes_of element.now)) (see.path p)) }
     ensures no { IfErr result (λ e. Refuses e (alone element.now) (HasNoRequired element.now (codes "select") (texts.SelectText (scope_of element.now)))) }
 {
@@ -221,7 +221,7 @@ pub(crate) fn required_value<'b>(
     arena: &'b Bump,
     element: &RawElem<'b>,
 ) -> Result<Instr<'b>, SheetFault>
-    requires { IsOfContext (see.name element.now.name) (plain (codes "select")) contexts.value }
+    requires { MustHave (see.name element.now.name) (plain (codes "select")) forms.value }
     ensures ok { IfOk result (λ i. phrases.Required (texts.ValueText (scope_of element.now)) (phrases.value_of (codes "select") (attributes_of element.now)) (see.instruction i sheets.no_instruction)) }
     ensures no { IfErr result (λ e. Refuses e (alone element.now) (HasNoRequired element.now (codes "select") (texts.ValueText (scope_of element.now)))) }
 {
@@ -237,7 +237,7 @@ pub(crate) fn required_test<'b>(
     arena: &'b Bump,
     element: &RawElem<'b>,
 ) -> Result<Test<'b>, SheetFault>
-    requires { IsOfContext (see.name element.now.name) (plain (codes "test")) contexts.test }
+    requires { MustHave (see.name element.now.name) (plain (codes "test")) forms.test }
     ensures ok { IfOk result (λ t. phrases.Required (texts.TestText (scope_of element.now)) (phrases.value_of (codes "test") (attributes_of element.now)) (see.test t)) }
     ensures no { IfErr result (λ e. Refuses e (alone element.now) (HasNoRequired element.now (codes "test") (texts.TestText (scope_of element.now)))) }
 {

@@ -6,9 +6,10 @@ ghost use Rattle.tc_model.specs.Seen as see;
 ghost use Rattle.tc_model.specs.SheetTextPhrases as phrases;
 ghost use Rattle.tc_model.specs.SheetTextPhrases.{xsl_uri, IsXsl};
 ghost use Rattle.tc_model.specs.SheetTextTrees as trees;
-ghost use Rattle.tc_path.specs.Contexts as contexts;
 ghost use Rattle.tc_sheet.specs.Begun.{IsBegunBy, IsBegun, around as around_seen};
-ghost use Rattle.tc_sheet.specs.Constructs.{IsOfContext, plain};
+ghost use Rattle.tc_sheet.specs.Constructs.{MustHave, plain};
+ghost use Rattle.tc_sheet.specs.Constructs as forms;
+ghost use Rattle.tc_sheet.specs.LookedAt.{IsIn, in_body, in_choose, in_blank};
 ghost use Rattle.tc_sheet.specs.Readings.{Refuses, IsNotBlank, HasNoCharacters, HasNoInstruction, HasTest, HasNoTest, IsTested, HasNoTested, HasNoBody, IsItem, HasNoItem, IsElementItem, HasNoElementItem, HasNoBranches, alone, attributes_of, scope_of};
 ghost use Rattle.tc_sheet.specs.Seen.{written, put, tag_of, body as body_of, branches as branches_before, instruction as instruction_seen};
 ghost use Rattle.tc_sheet.specs.declared.faults.SheetFault.TheVariants as faults;
@@ -27,7 +28,7 @@ use tc_model::{Instr, Name, NodeTest, Path, Raw, RawElem, Step, Test, is_all_whi
 /// Takes texts of white space alone (XSLT 1.0, 3.4).
 fn blank(kids: &[Raw<'_>]) -> Result<(), SheetFault>
     ensures ok { OnOk result (phrases.IsBlank (see.raw_trees kids.now)) }
-    ensures no { IfErr result (λ e. Refuses e (see.raw_trees kids.now) (IsNotBlank (see.raw_trees kids.now))) }
+    ensures no { IfErr result (λ e. Refuses e (IsIn in_blank (see.raw_trees kids.now)) (IsNotBlank (see.raw_trees kids.now))) }
 {
     for kid in kids {
         match kid {
@@ -45,7 +46,7 @@ fn blank(kids: &[Raw<'_>]) -> Result<(), SheetFault>
 /// The characters of an `xsl:text` (XSLT 1.0, 7.2).
 fn characters<'b>(arena: &'b Bump, kids: &[Raw<'b>]) -> Result<&'b str, SheetFault>
     ensures ok { IfOk result (λ s. phrases.AreCharacters (see.raw_trees kids.now) s.now) }
-    ensures no { IfErr result (λ e. Refuses e (see.raw_trees kids.now) (HasNoCharacters (see.raw_trees kids.now))) }
+    ensures no { IfErr result (λ e. Refuses e (IsIn in_blank (see.raw_trees kids.now)) (HasNoCharacters (see.raw_trees kids.now))) }
 {
     let mut all = String::new(arena);
     for kid in kids {
@@ -109,7 +110,7 @@ pub(crate) enum Begun<'b> {
 fn apply_templates<'b>(arena: &'b Bump, element: &RawElem<'b>) -> Result<Begun<'b>, SheetFault>
     requires { IsXsl (codes "apply-templates") (see.name element.now.name) }
     ensures ok { IfOk result (IsBegunBy phrases.i_apply element.now) }
-    ensures no { IfErr result (λ e. Refuses e (see.raw_element element.now raws.none) (HasNoInstruction phrases.i_apply element.now)) }
+    ensures no { IfErr result (λ e. Refuses e (IsIn in_body (see.raw_element element.now raws.none)) (HasNoInstruction phrases.i_apply element.now)) }
 {
     only(element, &["select", "mode"])?;
     let path = optional_select(arena, element)?;
@@ -123,7 +124,7 @@ fn apply_templates<'b>(arena: &'b Bump, element: &RawElem<'b>) -> Result<Begun<'
 fn call_template<'b>(element: &RawElem<'b>) -> Result<Begun<'b>, SheetFault>
     requires { IsXsl (codes "call-template") (see.name element.now.name) }
     ensures ok { IfOk result (IsBegunBy phrases.i_call element.now) }
-    ensures no { IfErr result (λ e. Refuses e (see.raw_element element.now raws.none) (HasNoInstruction phrases.i_call element.now)) }
+    ensures no { IfErr result (λ e. Refuses e (IsIn in_body (see.raw_element element.now raws.none)) (HasNoInstruction phrases.i_call element.now)) }
 {
     only(element, &["name"])?;
     let name = required_name(element)?;
@@ -135,7 +136,7 @@ fn call_template<'b>(element: &RawElem<'b>) -> Result<Begun<'b>, SheetFault>
 fn value_of<'b>(arena: &'b Bump, element: &RawElem<'b>) -> Result<Begun<'b>, SheetFault>
     requires { IsXsl (codes "value-of") (see.name element.now.name) }
     ensures ok { IfOk result (IsBegunBy phrases.i_value element.now) }
-    ensures no { IfErr result (λ e. Refuses e (see.raw_element element.now raws.none) (HasNoInstruction phrases.i_value element.now)) }
+    ensures no { IfErr result (λ e. Refuses e (IsIn in_body (see.raw_element element.now raws.none)) (HasNoInstruction phrases.i_value element.now)) }
 {
     only(element, &["select"])?;
     let value = required_value(arena, element)?;
@@ -150,7 +151,7 @@ fn value_of<'b>(arena: &'b Bump, element: &RawElem<'b>) -> Result<Begun<'b>, She
 fn text<'b>(arena: &'b Bump, element: &RawElem<'b>) -> Result<Begun<'b>, SheetFault>
     requires { IsXsl (codes "text") (see.name element.now.name) }
     ensures ok { IfOk result (IsBegunBy phrases.i_text element.now) }
-    ensures no { IfErr result (λ e. Refuses e (see.raw_element element.now raws.none) (HasNoInstruction phrases.i_text element.now)) }
+    ensures no { IfErr result (λ e. Refuses e (IsIn in_body (see.raw_element element.now raws.none)) (HasNoInstruction phrases.i_text element.now)) }
 {
     only(element, &[])?;
     let text = characters(arena, element.kids)?;
@@ -161,7 +162,7 @@ fn text<'b>(arena: &'b Bump, element: &RawElem<'b>) -> Result<Begun<'b>, SheetFa
 fn copy_of<'b>(arena: &'b Bump, element: &RawElem<'b>) -> Result<Begun<'b>, SheetFault>
     requires { IsXsl (codes "copy-of") (see.name element.now.name) }
     ensures ok { IfOk result (IsBegunBy phrases.i_copy_of element.now) }
-    ensures no { IfErr result (λ e. Refuses e (see.raw_element element.now raws.none) (HasNoInstruction phrases.i_copy_of element.now)) }
+    ensures no { IfErr result (λ e. Refuses e (IsIn in_body (see.raw_element element.now raws.none)) (HasNoInstruction phrases.i_copy_of element.now)) }
 {
     only(element, &["select"])?;
     required_attributes(arena, element)?;
@@ -173,7 +174,7 @@ fn copy_of<'b>(arena: &'b Bump, element: &RawElem<'b>) -> Result<Begun<'b>, Shee
 fn for_each<'b>(arena: &'b Bump, element: &RawElem<'b>) -> Result<Begun<'b>, SheetFault>
     requires { IsXsl (codes "for-each") (see.name element.now.name) }
     ensures ok { IfOk result (IsBegunBy phrases.i_each element.now) }
-    ensures no { IfErr result (λ e. Refuses e (see.raw_element element.now raws.none) (HasNoInstruction phrases.i_each element.now)) }
+    ensures no { IfErr result (λ e. Refuses e (IsIn in_body (see.raw_element element.now raws.none)) (HasNoInstruction phrases.i_each element.now)) }
 {
     only(element, &["select"])?;
     let path = required_select(arena, element)?;
@@ -183,7 +184,7 @@ fn for_each<'b>(arena: &'b Bump, element: &RawElem<'b>) -> Result<Begun<'b>, She
 /// The test of an `xsl:if` or an `xsl:when` (XSLT 1.0, 9.1, 9.2).
 fn test_of<'b>(arena: &'b Bump, element: &RawElem<'b>) -> Result<Test<'b>, SheetFault>
     requires xslt { (see.name element.now.name).uri ≡ xsl_uri }
-    requires test { IsOfContext (see.name element.now.name) (plain (codes "test")) contexts.test }
+    requires test { MustHave (see.name element.now.name) (plain (codes "test")) forms.test }
     ensures ok { IfOk result (λ t. HasTest (scope_of element.now) (attributes_of element.now) (see.test t)) }
     ensures no { IfErr result (λ e. Refuses e (alone element.now) (HasNoTest element.now)) }
 {
@@ -195,7 +196,7 @@ fn test_of<'b>(arena: &'b Bump, element: &RawElem<'b>) -> Result<Test<'b>, Sheet
 fn an_if<'b>(arena: &'b Bump, element: &RawElem<'b>) -> Result<Begun<'b>, SheetFault>
     requires { IsXsl (codes "if") (see.name element.now.name) }
     ensures ok { IfOk result (IsBegunBy phrases.i_if element.now) }
-    ensures no { IfErr result (λ e. Refuses e (see.raw_element element.now raws.none) (HasNoInstruction phrases.i_if element.now)) }
+    ensures no { IfErr result (λ e. Refuses e (IsIn in_body (see.raw_element element.now raws.none)) (HasNoInstruction phrases.i_if element.now)) }
 {
     let test = test_of(arena, element)?;
     Ok(Begun::Around(Head::If(test)))
@@ -205,7 +206,7 @@ fn an_if<'b>(arena: &'b Bump, element: &RawElem<'b>) -> Result<Begun<'b>, SheetF
 fn a_choose<'b>(element: &RawElem<'b>) -> Result<Begun<'b>, SheetFault>
     requires { IsXsl (codes "choose") (see.name element.now.name) }
     ensures ok { IfOk result (IsBegunBy phrases.i_choose element.now) }
-    ensures no { IfErr result (λ e. Refuses e (see.raw_element element.now raws.none) (HasNoInstruction phrases.i_choose element.now)) }
+    ensures no { IfErr result (λ e. Refuses e (IsIn in_body (see.raw_element element.now raws.none)) (HasNoInstruction phrases.i_choose element.now)) }
 {
     only(element, &[])?;
     Ok(Begun::Choose)
@@ -215,7 +216,7 @@ fn a_choose<'b>(element: &RawElem<'b>) -> Result<Begun<'b>, SheetFault>
 fn a_copy<'b>(element: &RawElem<'b>) -> Result<Begun<'b>, SheetFault>
     requires { IsXsl (codes "copy") (see.name element.now.name) }
     ensures ok { IfOk result (IsBegunBy phrases.i_copy element.now) }
-    ensures no { IfErr result (λ e. Refuses e (see.raw_element element.now raws.none) (HasNoInstruction phrases.i_copy element.now)) }
+    ensures no { IfErr result (λ e. Refuses e (IsIn in_body (see.raw_element element.now raws.none)) (HasNoInstruction phrases.i_copy element.now)) }
 {
     only(element, &[])?;
     Ok(Begun::Around(Head::Copy))
@@ -225,7 +226,7 @@ fn a_copy<'b>(element: &RawElem<'b>) -> Result<Begun<'b>, SheetFault>
 fn an_element<'b>(element: &RawElem<'b>) -> Result<Begun<'b>, SheetFault>
     requires { IsXsl (codes "element") (see.name element.now.name) }
     ensures ok { IfOk result (IsBegunBy phrases.i_element element.now) }
-    ensures no { IfErr result (λ e. Refuses e (see.raw_element element.now raws.none) (HasNoInstruction phrases.i_element element.now)) }
+    ensures no { IfErr result (λ e. Refuses e (IsIn in_body (see.raw_element element.now raws.none)) (HasNoInstruction phrases.i_element element.now)) }
 {
     only(element, &["name"])?;
     let name = required_element_name(element)?;
@@ -240,7 +241,7 @@ fn begin_instruction<'b>(
 ) -> Result<Begun<'b>, SheetFault>
     requires { phrases.instruction_of (see.name element.now.name) ≡ Some (instruction_seen instruction) }
     ensures ok { IfOk result (IsBegunBy (instruction_seen instruction) element.now) }
-    ensures no { IfErr result (λ e. Refuses e (see.raw_element element.now raws.none) (HasNoInstruction (instruction_seen instruction) element.now)) }
+    ensures no { IfErr result (λ e. Refuses e (IsIn in_body (see.raw_element element.now raws.none)) (HasNoInstruction (instruction_seen instruction) element.now)) }
 {
     match instruction {
         Instruction::ApplyTemplates => apply_templates(arena, element),
@@ -260,7 +261,7 @@ fn begin_instruction<'b>(
 /// Reads the start of an element of a body (XSLT 1.0, 7.1.1).
 fn begin<'b>(arena: &'b Bump, element: &RawElem<'b>) -> Result<Begun<'b>, SheetFault>
     ensures ok { IfOk result (IsBegun element.now) }
-    ensures no { IfErr result (λ e. Refuses e (see.raw_element element.now raws.none) (HasNoElementItem element.now)) }
+    ensures no { IfErr result (λ e. Refuses e (IsIn in_body (see.raw_element element.now raws.none)) (HasNoElementItem element.now)) }
 {
     if !is_xslt(&element.name) {
         literal(element)?;
@@ -305,7 +306,7 @@ fn around<'b>(
 fn when<'b>(arena: &'b Bump, element: &RawElem<'b>) -> Result<WrittenBranch<'b>, SheetFault>
     requires { IsXsl (codes "when") (see.name element.now.name) }
     ensures ok { IfOk result (λ b. IsTested (tag_of element.now) (see.raw_trees element.now.kids.now) (see.test b.test) (body_of b.body.now)) }
-    ensures no { IfErr result (λ e. Refuses e (see.raw_element element.now raws.none) (HasNoTested element.now)) }
+    ensures no { IfErr result (λ e. Refuses e (IsIn in_choose (see.raw_element element.now raws.none)) (HasNoTested element.now)) }
 {
     let test = test_of(arena, element)?;
     let body = body(arena, element.kids)?;
@@ -321,7 +322,7 @@ fn otherwise<'b>(
 ) -> Result<&'b [Written<'b>], SheetFault>
     requires { IsXsl (codes "otherwise") (see.name element.now.name) }
     ensures ok { IfOk result (λ b. phrases.AreBranches (see.raw_element element.now (see.raw_trees after.now)) (trees.w_otherwise (body_of b.now))) }
-    ensures no { IfErr result (λ e. Refuses e (see.raw_element element.now (see.raw_trees after.now)) (HasNoBranches (see.raw_element element.now (see.raw_trees after.now)))) }
+    ensures no { IfErr result (λ e. Refuses e (IsIn in_choose (see.raw_element element.now (see.raw_trees after.now))) (HasNoBranches (see.raw_element element.now (see.raw_trees after.now)))) }
 {
     only(element, &[])?;
     let inner = body(arena, element.kids)?;
@@ -332,7 +333,7 @@ fn otherwise<'b>(
 /// Whether an element of an `xsl:choose` is an `xsl:otherwise`, and not an `xsl:when`.
 fn is_otherwise(element: &RawElem<'_>) -> Result<bool, SheetFault>
     ensures ok { IfOk result (λ b. MatchBool b (IsXsl (codes "otherwise") (see.name element.now.name)) (IsXsl (codes "when") (see.name element.now.name))) }
-    ensures no { IfErr result (λ e. Refuses e (see.raw_element element.now raws.none) (λ c. (rest : raws.RawTrees) → HasNoBranches (see.raw_element element.now rest) c)) }
+    ensures no { IfErr result (λ e. Refuses e (IsIn in_choose (see.raw_element element.now raws.none)) (λ c. (rest : raws.RawTrees) → HasNoBranches (see.raw_element element.now rest) c)) }
 {
     if is_xsl(&element.name, "when") {
         Ok(false)
@@ -350,7 +351,7 @@ fn read_branches<'b>(
     kids: &[Raw<'b>],
 ) -> Result<(&'b [WrittenBranch<'b>], &'b [Written<'b>]), SheetFault>
     ensures ok { IfOk result (λ r. phrases.AreBranches (see.raw_trees kids.now) (branches_before r.0.now (trees.w_otherwise (body_of r.1.now)))) }
-    ensures no { IfErr result (λ e. Refuses e (see.raw_trees kids.now) (HasNoBranches (see.raw_trees kids.now))) }
+    ensures no { IfErr result (λ e. Refuses e (IsIn in_choose (see.raw_trees kids.now)) (HasNoBranches (see.raw_trees kids.now))) }
 {
     let mut found = Vec::new(arena);
     for at in 0..kids.len() {
@@ -381,7 +382,7 @@ fn choose<'b>(arena: &'b Bump, element: &RawElem<'b>) -> Result<Option<Written<'
     requires choose { phrases.instruction_of (see.name element.now.name) ≡ Some phrases.i_choose }
     requires only { phrases.HasOnly [] (attributes_of element.now) }
     ensures ok { IfOk result (λ w. IsElementItem element.now (put w)) }
-    ensures no { IfErr result (λ e. Refuses e (see.raw_element element.now raws.none) (HasNoElementItem element.now)) }
+    ensures no { IfErr result (λ e. Refuses e (IsIn in_body (see.raw_element element.now raws.none)) (HasNoElementItem element.now)) }
 {
     let (branches, last) = read_branches(arena, element.kids)?;
     if branches.is_empty() {
@@ -397,7 +398,7 @@ fn element_of_body<'b>(
     element: &RawElem<'b>,
 ) -> Result<Option<Written<'b>>, SheetFault>
     ensures ok { IfOk result (λ w. IsElementItem element.now (put w)) }
-    ensures no { IfErr result (λ e. Refuses e (see.raw_element element.now raws.none) (HasNoElementItem element.now)) }
+    ensures no { IfErr result (λ e. Refuses e (IsIn in_body (see.raw_element element.now raws.none)) (HasNoElementItem element.now)) }
 {
     let begun = begin(arena, element)?;
     match begun {
@@ -415,7 +416,7 @@ fn element_of_body<'b>(
 #[cycle(body)]
 fn item<'b>(arena: &'b Bump, kid: &Raw<'b>) -> Result<Option<Written<'b>>, SheetFault>
     ensures ok { IfOk result (λ w. IsItem kid.now (put w)) }
-    ensures no { IfErr result (λ e. Refuses e (see.raw_tree kid.now) (HasNoItem kid.now)) }
+    ensures no { IfErr result (λ e. Refuses e (IsIn in_body (see.raw_tree kid.now)) (HasNoItem kid.now)) }
 {
     match kid {
         Raw::Text(text, _) => {
@@ -433,7 +434,7 @@ fn item<'b>(arena: &'b Bump, kid: &Raw<'b>) -> Result<Option<Written<'b>>, Sheet
 #[cycle(body)]
 pub(crate) fn body<'b>(arena: &'b Bump, kids: &[Raw<'b>]) -> Result<&'b [Written<'b>], SheetFault>
     ensures ok { IfOk result (λ b. phrases.IsBody (see.raw_trees kids.now) (body_of b.now)) }
-    ensures no { IfErr result (λ e. Refuses e (see.raw_trees kids.now) (HasNoBody (see.raw_trees kids.now))) }
+    ensures no { IfErr result (λ e. Refuses e (IsIn in_body (see.raw_trees kids.now)) (HasNoBody (see.raw_trees kids.now))) }
 {
     let mut found = Vec::new(arena);
     for kid in kids {

@@ -8,7 +8,7 @@ ghost use Rattle.tc_model.specs.SheetText.{SheetText, SheetFails, undefined, cal
 ghost use Rattle.tc_model.specs.SheetTextTrees.{is_used};
 ghost use Rattle.tc_model.specs.Sheets as sheets;
 ghost use Rattle.tc_sheet.specs.Changes.{mended, flattened, Changed};
-ghost use Rattle.tc_sheet.specs.Faults.{IsCause, IsUnsupported, IsTooDeep, IsUndefinedAt, IsLoopAt};
+ghost use Rattle.tc_sheet.specs.Faults.{IsCause, IsUnsupported, IsTooDeep, IsUndefinedAt, IsLoopAt, NamesAgain, IsMalformedAt};
 ghost use Rattle.tc_sheet.specs.Laws.{HasLawfulSheet};
 ghost use Rattle.tc_sheet.specs.Seen.{template as template_seen};
 ghost use Rattle.tc_sheet.specs.Told.{IsTold};
@@ -72,13 +72,15 @@ fn sheet_in<'b>(arena: &'b Bump, element: &RawElem<'b>) -> Result<Sheet<'b>, She
 ///
 /// # Errors
 ///
-/// Unsupported at a construct that is not supported; always where the tree is a stylesheet once some elements
-/// that are not supported are taken away, and some variable references, literals and numbers of its selects,
-/// patterns and tests are taken as the name `a`. TooDeep at a select, pattern or test whose parentheses and
+/// Unsupported at a construct that is not supported, but not in what `xsl:attribute`, `xsl:output`,
+/// `xsl:strip-space` and foreign elements at the top have and hold; always where the tree is a stylesheet once some
+/// elements that are not supported are taken away, and some variable references, literals and numbers of its
+/// selects, patterns and tests are taken as the name `a`. TooDeep at a select, pattern or test whose parentheses and
 /// brackets stand more than 2,000 deep within one another; always where the tree is a stylesheet once others
 /// stand in place of some of these. Undefined at the first call of a template that does not exist, and CallLoop
 /// at the first call that leads back to the template in which it stands, all else being good. Malformed
-/// otherwise, at a text, an element or an attribute. NoMemory where memory is refused.
+/// otherwise, at a text, an element or an attribute; where all else is good, at the first template whose name one
+/// before it has. NoMemory where memory is refused.
 pub fn read_sheet<'b>(arena: &'b Bump, raw: &Raw<'b>) -> Result<Sheet<'b>, SheetFault>
     requires { IsOneElement (raw_tree raw.now) }
     ensures ok { IfOk result (λ r. SheetText (raw_tree raw.now) (sheet r)) }
@@ -87,6 +89,7 @@ pub fn read_sheet<'b>(arena: &'b Bump, raw: &Raw<'b>) -> Result<Sheet<'b>, Sheet
     ensures deep { (changed : RawTrees) (s : sheets.Sheet) → Changed flattened (raw_tree raw.now) changed → SheetText changed s → IfErr result IsTooDeep }
     ensures no_template { (p : ℕ) → SheetFails (raw_tree raw.now) undefined p → IfErr result (IsUndefinedAt p) }
     ensures loops { (p : ℕ) → SheetFails (raw_tree raw.now) call_loop p → IfErr result (IsLoopAt p) }
+    ensures again { (p : ℕ) → NamesAgain (raw_tree raw.now) p → IfErr result (IsMalformedAt p) }
 {
     let Raw::Elem(element) = raw else {
         unreachable!()

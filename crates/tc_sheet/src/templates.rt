@@ -7,6 +7,7 @@ ghost use Rattle.tc_model.specs.SheetTextPhrases.{IsXsl};
 ghost use Rattle.tc_path.specs.Seen.{alternative};
 ghost use Rattle.tc_sheet.specs.Constructs.{IsRoot, IsDeclaration};
 ghost use Rattle.tc_sheet.specs.Faults.{IsCause, IsNoFaultOfCalls};
+ghost use Rattle.tc_sheet.specs.LookedAt.{IsIn, at_top};
 ghost use Rattle.tc_sheet.specs.Readings.{Refuses, alone, attributes_of, HasNoAttributes, HasNoTemplate, HasNoTemplates, IsTopItem, HasNoTopItem, IsTopElement, HasNoTopElement};
 ghost use Rattle.tc_sheet.specs.Seen.{tag_of, put_template, template as template_seen};
 ghost use Rattle.tc_sheet.specs.declared.faults.SheetFault.TheVariants as faults;
@@ -71,7 +72,7 @@ fn is_complete(pattern: bool, name: bool, mode: bool) -> bool
 fn template<'b>(arena: &'b Bump, element: &RawElem<'b>) -> Result<Template<'b>, SheetFault>
     requires { IsXsl (codes "template") (see.name element.now.name) }
     ensures ok { IfOk result (λ t. phrases.IsTemplate (tag_of element.now) (see.raw_trees element.now.kids.now) (template_seen t)) }
-    ensures no { IfErr result (λ e. Refuses e (see.raw_element element.now raws.none) (HasNoTemplate element.now)) }
+    ensures no { IfErr result (λ e. Refuses e (IsIn at_top (see.raw_element element.now raws.none)) (HasNoTemplate element.now)) }
 {
     only(element, &["match", "name", "priority", "mode"])?;
     let pattern = optional_pattern(arena, element)?;
@@ -112,7 +113,7 @@ fn element_at_top<'b>(
     element: &RawElem<'b>,
 ) -> Result<Option<Template<'b>>, SheetFault>
     ensures ok { IfOk result (λ t. IsTopElement element.now (put_template t)) }
-    ensures no { IfErr result (λ e. Refuses e (see.raw_element element.now raws.none) (HasNoTopElement element.now)) }
+    ensures no { IfErr result (λ e. Refuses e (IsIn at_top (see.raw_element element.now raws.none)) (HasNoTopElement element.now)) }
 {
     if is_xsl(&element.name, "template") {
         let template = template(arena, element)?;
@@ -133,7 +134,7 @@ fn element_at_top<'b>(
 /// Reads what stands at the top, which may be passed over.
 fn at_top<'b>(arena: &'b Bump, kid: &Raw<'b>) -> Result<Option<Template<'b>>, SheetFault>
     ensures ok { IfOk result (λ t. IsTopItem kid.now (put_template t)) }
-    ensures no { IfErr result (λ e. Refuses e (see.raw_tree kid.now) (HasNoTopItem kid.now)) }
+    ensures no { IfErr result (λ e. Refuses e (IsIn at_top (see.raw_tree kid.now)) (HasNoTopItem kid.now)) }
 {
     match kid {
         Raw::Text(text, place) => {
@@ -150,7 +151,7 @@ fn at_top<'b>(arena: &'b Bump, kid: &Raw<'b>) -> Result<Option<Template<'b>>, Sh
 /// Reads the templates among what stands at the top.
 fn templates<'b>(arena: &'b Bump, kids: &[Raw<'b>]) -> Result<&'b [Template<'b>], SheetFault>
     ensures ok { IfOk result (λ ts. phrases.AreTemplates (see.raw_trees kids.now) (map template_seen ts.now)) }
-    ensures no { IfErr result (λ e. Refuses e (see.raw_trees kids.now) (HasNoTemplates (see.raw_trees kids.now))) }
+    ensures no { IfErr result (λ e. Refuses e (IsIn at_top (see.raw_trees kids.now)) (HasNoTemplates (see.raw_trees kids.now))) }
 {
     let mut found = Vec::new(arena);
     for kid in kids {

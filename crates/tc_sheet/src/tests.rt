@@ -3,6 +3,7 @@
 use crate::{SheetFault, read_sheet};
 use bumpalo::Bump;
 use bumpalo::collections::{into_bump_slice, into_bump_str};
+use std::process::Abort;
 use std::test::Fail;
 use tc_base::{Place, Why};
 use tc_model::{Binding, Instr, Name, Pattern, Raw, RawAttr, RawElem, Sheet};
@@ -263,30 +264,32 @@ fn numbers_modes_names_and_for_eaches(rt: HostRuntime) -> Result<(), Fail> {
     Ok(())
 }
 
+/// The elements that are not supported, with their reasons.
+const UNSUPPORTED: [(&str, Why); 18] = [
+    ("variable", Why::N18),
+    ("param", Why::N19),
+    ("with-param", Why::N20),
+    ("import", Why::N21),
+    ("include", Why::N22),
+    ("sort", Why::N23),
+    ("number", Why::N24),
+    ("key", Why::N25),
+    ("message", Why::N26),
+    ("comment", Why::N27),
+    ("processing-instruction", Why::N28),
+    ("apply-imports", Why::N29),
+    ("attribute-set", Why::N30),
+    ("namespace-alias", Why::N31),
+    ("decimal-format", Why::N32),
+    ("fallback", Why::N33),
+    ("preserve-space", Why::N34),
+    ("document", Why::N42),
+];
+
 #[test]
 fn unsupported_elements(rt: HostRuntime) -> Result<(), Fail> {
     let arena = Bump::new(rt.alloc());
-    let rows = [
-        ("variable", Why::N18),
-        ("param", Why::N19),
-        ("with-param", Why::N20),
-        ("import", Why::N21),
-        ("include", Why::N22),
-        ("sort", Why::N23),
-        ("number", Why::N24),
-        ("key", Why::N25),
-        ("message", Why::N26),
-        ("comment", Why::N27),
-        ("processing-instruction", Why::N28),
-        ("apply-imports", Why::N29),
-        ("attribute-set", Why::N30),
-        ("namespace-alias", Why::N31),
-        ("decimal-format", Why::N32),
-        ("fallback", Why::N33),
-        ("preserve-space", Why::N34),
-        ("document", Why::N42),
-    ];
-    for (local, why) in rows {
+    for (local, why) in UNSUPPORTED {
         let wanted = Some(SheetFault::Unsupported(Place(20), why));
         let inner = xsl(&arena, 20, local, &[], &[])?;
         assert_eq!(rt; fault_in_body(&arena, inner)?, wanted, "{local} in a body");
@@ -298,124 +301,105 @@ fn unsupported_elements(rt: HostRuntime) -> Result<(), Fail> {
             wanted,
             "{local} within apply-templates"
         );
-        let unseen = xsl(&arena, 15, "attribute", &[("name", "a")], &[inner])?;
+    }
+    Ok(())
+}
+
+#[test]
+fn elements_that_are_not_looked_at(rt: HostRuntime) -> Result<(), Fail> {
+    let arena = Bump::new(rt.alloc());
+    for (local, _) in UNSUPPORTED {
+        let inner = xsl(&arena, 20, local, &[], &[])?;
+        let unseen = xsl(&arena, 15, "attribute", &[("test", "a = b")], &[inner])?;
         assert_eq!(rt;
             fault_in_body(&arena, unseen)?,
             None,
             "{local} within an attribute"
         );
+        let output = xsl(&arena, 15, "output", &[("method", "a = b")], &[inner])?;
+        let passed = stylesheet(&arena, &[output])?;
+        assert_eq!(rt; fault(&arena, &passed), None, "{local} within an output");
         let plain = literal(&arena, 20, local, &[], &[])?;
         assert_eq!(rt; fault_in_body(&arena, plain)?, None, "a literal {local}");
     }
     Ok(())
 }
 
-#[test]
-fn attributes_of_instructions(rt: HostRuntime) -> Result<(), Fail> {
-    let arena = Bump::new(rt.alloc());
-    let at = Place(21);
-    let malformed = SheetFault::Malformed(at);
-    // an instruction, its one attribute, and the fault of it
-    let rows = [
-        ("value-of", "select", "a", None),
-        ("value-of", "select", ".", None),
-        (
-            "value-of",
-            "select",
-            "@a",
-            Some(SheetFault::Unsupported(at, Why::N50)),
-        ),
-        ("value-of", "version", "1.0", Some(malformed)),
-        (
-            "value-of",
-            "xsl:version",
-            "1.0",
-            Some(SheetFault::Malformed(Place(20))),
-        ),
-        (
-            "text",
-            "disable-output-escaping",
-            "yes",
-            Some(SheetFault::Unsupported(at, Why::N37)),
-        ),
-        (
-            "copy",
-            "use-attribute-sets",
-            "a",
-            Some(SheetFault::Unsupported(at, Why::N40)),
-        ),
-        ("copy", "select", "a", Some(malformed)),
-        ("element", "name", "a", None),
-        (
-            "element",
-            "name",
-            "a{b}",
-            Some(SheetFault::Unsupported(at, Why::N38)),
-        ),
-        ("element", "name", "q:a", Some(malformed)),
-        (
-            "element",
-            "namespace",
-            "a",
-            Some(SheetFault::Unsupported(at, Why::N38)),
-        ),
-        ("copy-of", "select", "a/@b|.//@*", None),
-        (
-            "copy-of",
-            "select",
-            "@a|comment()",
-            Some(SheetFault::Unsupported(at, Why::N39)),
-        ),
-        (
-            "copy-of",
-            "select",
-            "a",
-            Some(SheetFault::Unsupported(at, Why::N39)),
-        ),
-        ("copy-of", "select", "a)", Some(malformed)),
-        (
-            "copy-of",
-            "select",
-            "a(",
-            Some(SheetFault::Unsupported(at, Why::N46)),
-        ),
-        ("if", "test", "not(a)", None),
-        (
-            "if",
-            "test",
-            "a = b",
-            Some(SheetFault::Unsupported(at, Why::N47)),
-        ),
-        (
-            "for-each",
-            "select",
-            "a[1]",
-            Some(SheetFault::Unsupported(at, Why::N48)),
-        ),
-        ("apply-templates", "mode", "xsl:m", None),
-        ("apply-templates", "mode", "q:m", Some(malformed)),
-        (
-            "apply-templates",
-            "select",
-            ".",
-            Some(SheetFault::Unsupported(at, Why::N44)),
-        ),
-        (
-            "call-template",
-            "name",
-            "a",
-            Some(SheetFault::Undefined(Place(20))),
-        ),
-    ];
-    for (local, name, value, wanted) in rows {
-        let inner = xsl_with(&arena, local, name, value)?;
+/// The fault of an attribute at place 21 that is refused by this reason.
+fn refused(why: Why) -> Option<SheetFault> {
+    Some(SheetFault::Unsupported(Place(21), why))
+}
+
+/// The fault of an attribute at place 21 that is malformed.
+fn malformed() -> Option<SheetFault> {
+    Some(SheetFault::Malformed(Place(21)))
+}
+
+/// An instruction, its one attribute with its value, and the fault of it.
+type Row<'r> = (&'r str, &'r str, &'r str, Option<SheetFault>);
+
+/// Asserts that each instruction has its fault.
+fn assert_rows(rt: &impl Abort, arena: &Bump, rows: &[Row<'_>]) -> Result<(), Fail> {
+    for row in rows {
+        let (local, name, value, wanted) = *row;
+        let inner = xsl_with(arena, local, name, value)?;
         assert_eq!(rt;
-            fault_in_body(&arena, inner)?,
+            fault_in_body(arena, inner)?,
             wanted,
             "{local} {name} {value}"
         );
     }
     Ok(())
+}
+
+#[test]
+fn attributes_that_must_not_be_there(rt: HostRuntime) -> Result<(), Fail> {
+    let arena = Bump::new(rt.alloc());
+    let no_select = Some(SheetFault::Malformed(Place(20)));
+    let rows = [
+        ("value-of", "version", "1.0", malformed()),
+        ("value-of", "xsl:version", "1.0", no_select),
+        ("text", "disable-output-escaping", "yes", refused(Why::N37)),
+        ("copy", "use-attribute-sets", "a", refused(Why::N40)),
+        ("copy", "select", "a", malformed()),
+        ("element", "namespace", "a", refused(Why::N38)),
+    ];
+    assert_rows(&rt, &arena, &rows)
+}
+
+#[test]
+fn attributes_that_are_names(rt: HostRuntime) -> Result<(), Fail> {
+    let arena = Bump::new(rt.alloc());
+    let no_template = Some(SheetFault::Undefined(Place(20)));
+    let rows = [
+        ("element", "name", "a", None),
+        ("element", "name", "a{b}", refused(Why::N38)),
+        ("element", "name", "q:a", malformed()),
+        ("apply-templates", "mode", "xsl:m", None),
+        ("apply-templates", "mode", "q:m", malformed()),
+        ("call-template", "name", "a", no_template),
+    ];
+    assert_rows(&rt, &arena, &rows)
+}
+
+#[test]
+fn attributes_of_xpath(rt: HostRuntime) -> Result<(), Fail> {
+    let arena = Bump::new(rt.alloc());
+    let rows = [
+        ("value-of", "select", "a", None),
+        ("value-of", "select", ".", None),
+        ("value-of", "select", "@a", refused(Why::N50)),
+        ("if", "test", "not(a)", None),
+        ("if", "test", "a = b", refused(Why::N47)),
+        ("for-each", "select", "a[1]", refused(Why::N48)),
+        ("apply-templates", "select", ".", refused(Why::N44)),
+        ("copy-of", "select", "a/@b|.//@*", None),
+        ("copy-of", "select", "@a|comment()", refused(Why::N39)),
+        ("copy-of", "select", "a", refused(Why::N39)),
+        ("copy-of", "select", "a)", malformed()),
+        ("copy-of", "select", "a(", refused(Why::N46)),
+    ];
+    assert_rows(&rt, &arena, &rows)
 }
 
 #[test]
@@ -439,61 +423,61 @@ fn attributes_of_literal_elements(rt: HostRuntime) -> Result<(), Fail> {
     Ok(())
 }
 
+/// The fault of a root of XSLT with these attributes, which holds nothing.
+fn fault_of_root<'b>(
+    arena: &'b Bump,
+    local: &'b str,
+    attributes: &[(&'b str, &'b str)],
+) -> Result<Option<SheetFault>, Fail> {
+    let root = xsl(arena, 0, local, attributes, &[])?;
+    Ok(fault(arena, &root))
+}
+
 #[test]
 fn roots(rt: HostRuntime) -> Result<(), Fail> {
     let arena = Bump::new(rt.alloc());
-    let transform = xsl(
-        &arena,
-        0,
-        "transform",
-        &[("version", "1.0"), ("id", "a")],
-        &[],
-    )?;
-    assert_eq!(rt; fault(&arena, &transform), None);
-    let none = xsl(&arena, 0, "stylesheet", &[("id", "a")], &[])?;
-    assert_eq!(rt; fault(&arena, &none), Some(SheetFault::Malformed(Place(0))));
-    let other = xsl(
-        &arena,
-        0,
-        "stylesheet",
-        &[("id", "a"), ("version", "1.1")],
-        &[],
-    )?;
-    assert_eq!(rt;
-        fault(&arena, &other),
-        Some(SheetFault::Unsupported(Place(2), Why::N41))
-    );
-    let extension = xsl(
-        &arena,
-        0,
-        "stylesheet",
-        &[("version", "1.0"), ("extension-element-prefixes", "a")],
-        &[],
-    )?;
-    assert_eq!(rt;
-        fault(&arena, &extension),
-        Some(SheetFault::Unsupported(Place(2), Why::N35))
-    );
+    let here = Some(SheetFault::Malformed(Place(0)));
+    let version = Some(SheetFault::Unsupported(Place(2), Why::N41));
+    let extension = Some(SheetFault::Unsupported(Place(2), Why::N35));
+    // the name of a root, its attributes, and the fault of it
+    let rows: [(&str, &[(&str, &str)], Option<SheetFault>); 5] = [
+        ("transform", &[("version", "1.0"), ("id", "a")], None),
+        ("stylesheet", &[("id", "a")], here),
+        ("stylesheet", &[("id", "a"), ("version", "1.1")], version),
+        (
+            "stylesheet",
+            &[("version", "1.0"), ("extension-element-prefixes", "a")],
+            extension,
+        ),
+        ("variable", &[], here),
+    ];
+    for (local, attributes, wanted) in rows {
+        assert_eq!(rt; fault_of_root(&arena, local, attributes)?, wanted, "{local}");
+    }
+    Ok(())
+}
+
+#[test]
+fn literal_roots(rt: HostRuntime) -> Result<(), Fail> {
+    let arena = Bump::new(rt.alloc());
     let simplified = literal(&arena, 0, "html", &[("xsl:version", "1.0")], &[])?;
     assert_eq!(rt;
         fault(&arena, &simplified),
         Some(SheetFault::Unsupported(Place(0), Why::N36))
     );
-    let plain = literal(&arena, 0, "html", &[("version", "1.0")], &[])?;
-    assert_eq!(rt;
-        fault(&arena, &plain),
-        Some(SheetFault::Malformed(Place(0)))
-    );
-    let variable = xsl(&arena, 0, "variable", &[], &[])?;
-    assert_eq!(rt;
-        fault(&arena, &variable),
-        Some(SheetFault::Malformed(Place(0)))
-    );
+    for name in ["version", "xsl:use-attribute-sets", "xsl:other"] {
+        let plain = literal(&arena, 0, "html", &[(name, "1.0")], &[])?;
+        assert_eq!(rt;
+            fault(&arena, &plain),
+            Some(SheetFault::Malformed(Place(0))),
+            "{name}"
+        );
+    }
     Ok(())
 }
 
 #[test]
-fn templates_and_calls(rt: HostRuntime) -> Result<(), Fail> {
+fn heads_of_templates(rt: HostRuntime) -> Result<(), Fail> {
     let arena = Bump::new(rt.alloc());
     // the attributes of a template, and whether its head is good
     let heads: [(&[(&str, &str)], bool); 8] = [
@@ -511,6 +495,12 @@ fn templates_and_calls(rt: HostRuntime) -> Result<(), Fail> {
         let raw = stylesheet(&arena, &[template])?;
         assert_eq!(rt; fault(&arena, &raw).is_none(), good);
     }
+    Ok(())
+}
+
+#[test]
+fn templates_of_one_name(rt: HostRuntime) -> Result<(), Fail> {
+    let arena = Bump::new(rt.alloc());
     let first = xsl(&arena, 10, "template", &[("name", "a")], &[])?;
     let second = xsl(
         &arena,
@@ -519,12 +509,19 @@ fn templates_and_calls(rt: HostRuntime) -> Result<(), Fail> {
         &[("match", "b"), ("name", "a")],
         &[],
     )?;
-    let twice = stylesheet(&arena, &[first, second])?;
+    let other = xsl(&arena, 15, "template", &[("name", "b")], &[])?;
+    let third = xsl(&arena, 30, "template", &[("name", "a")], &[])?;
+    let again = stylesheet(&arena, &[other, first, second, third])?;
     assert_eq!(rt;
-        fault(&arena, &twice),
+        fault(&arena, &again),
         Some(SheetFault::Malformed(Place(20)))
     );
+    Ok(())
+}
 
+#[test]
+fn calls_of_templates(rt: HostRuntime) -> Result<(), Fail> {
+    let arena = Bump::new(rt.alloc());
     // b calls c and c calls itself: the first call on a cycle is the second one
     let call_c = xsl(&arena, 30, "call-template", &[("name", "c")], &[])?;
     let calls_c = xsl(&arena, 25, "template", &[("name", "b")], &[call_c])?;

@@ -3,7 +3,7 @@ use Rattle.tc_model.specs.RawTrees.{none}
 use Rattle.tc_model.specs.Seen.{raw_tree, raw_element, sheet}
 use Rattle.tc_model.specs.SheetText.{SheetText, SheetFails, undefined, call_loop}
 use Rattle.tc_sheet.specs.Changes.{mended, flattened, Changed}
-use Rattle.tc_sheet.specs.Faults.{IsCause, IsUnsupported, IsTooDeep, IsUndefinedAt, IsLoopAt}
+use Rattle.tc_sheet.specs.Faults.{IsCause, IsUnsupported, IsTooDeep, IsUndefinedAt, IsLoopAt, NamesAgain, IsMalformedAt}
 use Rattle.tc_sheet.proofs.WholeSheets.{element_tree, tell}
 use Rattle.tc_sheet.proofs.read_sheet.Goals as goal
 
@@ -24,3 +24,6 @@ returns-clause-no_template c = λ p f. tell (raw_element c.in-Elem.element none)
 
 pub returns-clause-loops : goal.returns-clause-loops
 returns-clause-loops c = λ p f. tell (raw_element c.in-Elem.element none) (IsLoopAt p) (λ x b. b.loops p (subst (λ h. SheetFails h call_loop p) (element_tree c.args.raw.now c.in-Elem.element c.in-Elem.is) f)) c.sheet_in.result c.sheet_in.ensures.no
+
+pub returns-clause-again : goal.returns-clause-again
+returns-clause-again c = λ p f. tell (raw_element c.in-Elem.element none) (IsMalformedAt p) (λ x b. b.again p (subst (λ h. NamesAgain h p) (element_tree c.args.raw.now c.in-Elem.element c.in-Elem.is) f)) c.sheet_in.result c.sheet_in.ensures.no

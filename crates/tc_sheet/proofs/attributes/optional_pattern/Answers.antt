@@ -1,6 +1,6 @@
 use Rattle.std.proofs.Common.{subst, sym, refl}
 use Rattle.std.specs.Prelude.{codes}
-use Rattle.tc_path.specs.Contexts as contexts
+use Rattle.tc_sheet.specs.Constructs as forms
 use Rattle.tc_model.specs.PathText.{PatternText, IsPattern}
 use Rattle.tc_sheet.specs.Readings.{Refuses, alone, scope_of, attributes_of, HasNoRequired, HasNoOptional, HasNoAttributes}
 use Rattle.tc_sheet.proofs.NameLaws.{optional_none, optional_some}
@@ -15,4 +15,4 @@ pub returns-in-Ok-clause-ok : goal.returns-in-Ok-clause-ok
 returns-in-Ok-clause-ok c = optional_some (PatternText (scope_of c.args.element.now)) c.in-Some.ensures c.in-Ok.ensures.ok
 
 pub returns-in-Err-clause-no : goal.returns-in-Err-clause-no
-returns-in-Err-clause-no c = subst (λ w. Refuses w (alone c.args.element.now) (HasNoOptional c.args.element.now (codes "match") (PatternText (scope_of c.args.element.now)))) (sym c.fault_at.ensures) (path_refused_optional (IsPattern (scope_of c.args.element.now)) contexts.pattern c.args.element.now (codes "match") c.in-Some.attribute.now (of_match c.requires) c.in-Some.ensures c.in-Err.fault c.in-Err.ensures.no c.in-Err.ensures.cause (λ v f. c.in-Err.ensures.renamed v f))
+returns-in-Err-clause-no c = subst (λ w. Refuses w (alone c.args.element.now) (HasNoOptional c.args.element.now (codes "match") (PatternText (scope_of c.args.element.now)))) (sym c.fault_at.ensures) (path_refused_optional (IsPattern (scope_of c.args.element.now)) forms.pattern c.args.element.now (codes "match") c.in-Some.attribute.now (of_match c.requires) c.in-Some.ensures (λ f. f) c.in-Err.fault c.in-Err.ensures.no c.in-Err.ensures.cause (λ v f. c.in-Err.ensures.renamed v f))

@@ -4,7 +4,7 @@ use Rattle.tc_model.specs.Seen.{attribute}
 use Rattle.tc_sheet.specs.Readings.{HasAttributesText}
 use Rattle.std.proofs.Common.{subst, sym, refl}
 use Rattle.std.specs.Prelude.{codes}
-use Rattle.tc_path.specs.Contexts as contexts
+use Rattle.tc_sheet.specs.Constructs as forms
 use Rattle.tc_model.specs.PathText.{SelectText, IsSelect, AttributesText}
 use Rattle.tc_sheet.proofs.Refused.{handed_on}
 use Rattle.tc_sheet.specs.Readings.{Refuses, alone, scope_of, attributes_of, HasNoRequired, HasNoOptional, HasNoAttributes}
@@ -17,4 +17,4 @@ pub returns-else-all-clause-no : goal.returns-else-all-clause-no
 returns-else-all-clause-no c = not_attributes c.args.element.now c.in_ok-attribute.attribute.now c.requires c.in_ok-attribute.ensures.ok c.in-Ok.ensures.select (subst (λ b. MatchBool b (AttributesText (scope_of c.args.element.now) (attribute c.in_ok-attribute.attribute.now).value) (AttributesText (scope_of c.args.element.now) (attribute c.in_ok-attribute.attribute.now).value → ⊥)) c.if-all.false c.in-Ok.ensures.ok)
 
 pub returns-in-Err-clause-no : goal.returns-in-Err-clause-no
-returns-in-Err-clause-no c = subst (λ w. Refuses w (alone c.args.element.now) (HasNoAttributes c.args.element.now (HasAttributesText (scope_of c.args.element.now)))) (sym c.fault_at.ensures) (attributes_refused c.args.element.now (path_fault_at c.in_ok-attribute.attribute.now.place c.in-Err.fault) (path_refused (IsSelect (scope_of c.args.element.now)) contexts.select c.args.element.now (codes "select") c.in_ok-attribute.attribute.now (of_copy c.requires) c.in_ok-attribute.ensures.ok c.in-Err.fault c.in-Err.ensures.no c.in-Err.ensures.cause (λ v f. c.in-Err.ensures.renamed v f)))
+returns-in-Err-clause-no c = subst (λ w. Refuses w (alone c.args.element.now) (HasNoAttributes c.args.element.now (HasAttributesText (scope_of c.args.element.now)))) (sym c.fault_at.ensures) (attributes_refused c.args.element.now (path_fault_at c.in_ok-attribute.attribute.now.place c.in-Err.fault) (path_refused (IsSelect (scope_of c.args.element.now)) forms.select c.args.element.now (codes "select") c.in_ok-attribute.attribute.now (of_copy c.requires) c.in_ok-attribute.ensures.ok (λ f. f) c.in-Err.fault c.in-Err.ensures.no c.in-Err.ensures.cause (λ v f. c.in-Err.ensures.renamed v f)))

@@ -1,6 +1,6 @@
 use Rattle.std.proofs.Common.{subst, sym, refl}
 use Rattle.std.specs.Prelude.{codes}
-use Rattle.tc_path.specs.Contexts as contexts
+use Rattle.tc_sheet.specs.Constructs as forms
 use Rattle.tc_model.specs.PathText.{SelectText, IsSelect}
 use Rattle.tc_sheet.proofs.Refused.{handed_on}
 use Rattle.tc_sheet.specs.Readings.{Refuses, alone, scope_of, attributes_of, HasNoRequired, HasNoOptional, HasNoAttributes}
@@ -15,4 +15,4 @@ pub returns-in-Ok-clause-ok : goal.returns-in-Ok-clause-ok
 returns-in-Ok-clause-ok c = required_one (SelectText (scope_of c.args.element.now)) c.in_ok-attribute.ensures.ok c.in-Ok.ensures.ok
 
 pub returns-in-Err-clause-no : goal.returns-in-Err-clause-no
-returns-in-Err-clause-no c = subst (λ w. Refuses w (alone c.args.element.now) (HasNoRequired c.args.element.now (codes "select") (SelectText (scope_of c.args.element.now)))) (sym c.fault_at.ensures) (path_refused (IsSelect (scope_of c.args.element.now)) contexts.select c.args.element.now (codes "select") c.in_ok-attribute.attribute.now c.requires c.in_ok-attribute.ensures.ok c.in-Err.fault c.in-Err.ensures.no c.in-Err.ensures.cause (λ v f. c.in-Err.ensures.renamed v f))
+returns-in-Err-clause-no c = subst (λ w. Refuses w (alone c.args.element.now) (HasNoRequired c.args.element.now (codes "select") (SelectText (scope_of c.args.element.now)))) (sym c.fault_at.ensures) (path_refused (IsSelect (scope_of c.args.element.now)) forms.select c.args.element.now (codes "select") c.in_ok-attribute.attribute.now c.requires c.in_ok-attribute.ensures.ok (λ f. f) c.in-Err.fault c.in-Err.ensures.no c.in-Err.ensures.cause (λ v f. c.in-Err.ensures.renamed v f))

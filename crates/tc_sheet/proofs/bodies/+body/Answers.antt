@@ -4,7 +4,8 @@ use Rattle.std.proofs.lemmas.List.{at_drop_all}
 use Rattle.tc_model.specs.Seen.{name, place, raw_trees, raw_before, raw_element}
 use Rattle.tc_model.specs.SheetTextTrees.{w_nothing, w_otherwise}
 use Rattle.tc_model.specs.declared.tree.Raw.{Raw}
-use Rattle.tc_sheet.specs.Constructs as constructs
+use Rattle.tc_model.specs.RawTrees.{none}
+use Rattle.tc_sheet.specs.LookedAt.{in_body, in_choose, IsIn}
 use Rattle.tc_sheet.specs.Constructs.{of_when}
 use Rattle.tc_sheet.specs.Changes.{both}
 use Rattle.tc_sheet.specs.Begun.{IsBegun}
@@ -16,6 +17,7 @@ use Rattle.tc_sheet.specs.Seen.{body, branches, put}
 use Rattle.tc_sheet.specs.declared.written.Written.TheVariants as v
 use Rattle.tc_model.proofs.ViewsRaw.{left_one, left_elem, left_text, before_elem, before_text}
 use Rattle.tc_sheet.proofs.ViewsWritten.{see_text, see_choose}
+use Rattle.tc_sheet.proofs.Refusals.{element_at}
 use Rattle.tc_sheet.proofs.Refused.{handed_on}
 use Rattle.tc_sheet.proofs.BodyLaws.{BodyLoop, body_begins, body_goes_on, body_pushed, body_stays, body_ends, item_of_body_refuses, item_white, item_text, item_ok, item_no, body_refuses}
 use Rattle.tc_sheet.proofs.BranchLaws.{BranchLoop, branches_begin, past_blank, past_when, when_refuses, all_read, otherwise_refuses, none_left, black_refuses, odd_refuses, is_when, is_last, rest_whole, choose_refuses, without_when, empty_branches, choose_item, otherwise_only_refuses, otherwise_body_refuses, otherwise_blank_refuses, otherwise_read, when_test_refuses, when_body_refuses}
@@ -42,7 +44,7 @@ pub choose-returns-in_err-branches-clause-no : goal.choose-returns-in_err-branch
 choose-returns-in_err-branches-clause-no t c = handed_on _ c.from_residual.result c.in_err-branches.field-0.0 c.from_residual.ensures.1 (choose_refuses c.args.element.now c.requires.choose c.in_err-branches.field-0.0 c.in_err-branches.ensures.no)
 
 pub choose-returns-then-is_empty-clause-no : goal.choose-returns-then-is_empty-clause-no
-choose-returns-then-is_empty-clause-no t c = (constructs.at_element, without_when c.args.element.now c.requires.choose (body c.in_ok-branches.last.now) (empty_branches c.in_ok-branches.branches.now (sym c.if-is_empty.ensures) c.in_ok-branches.ensures.ok) both)
+choose-returns-then-is_empty-clause-no t c = (element_at in_body c.args.element.now none tt, without_when c.args.element.now c.requires.choose (body c.in_ok-branches.last.now) (empty_branches c.in_ok-branches.branches.now (sym c.if-is_empty.ensures) c.in_ok-branches.ensures.ok) both)
 
 pub choose-returns-clause-ok : goal.choose-returns-clause-ok
 choose-returns-clause-ok t c = λ rest b y. subst (IsBody (raw_element c.args.element.now rest)) (sym (see_choose c.in_ok-branches.branches c.in_ok-branches.last b)) (choose_item c.args.element.now c.requires.choose c.in_ok-branches.branches.now (body c.in_ok-branches.last.now) (sym c.if-is_empty.ensures) c.requires.only c.in_ok-branches.ensures.ok rest b y)
@@ -87,7 +89,7 @@ pub read_branches-otherwise-requires : goal.read_branches-otherwise-requires
 read_branches-otherwise-requires t c = (search (rules, the_lemmas), is_last c.in_ok-ends-in-Elem.ends (name c.in-Elem.element.name) c.if-ends.true c.in_ok-ends-in-Elem.ensures.ok)
 
 pub read_branches-returns-in_err-last-in-Elem-clause-no : goal.read_branches-returns-in_err-last-in-Elem-clause-no
-read_branches-returns-in_err-last-in-Elem-clause-no t c = handed_on _ c.from_residual-in_err-last-in-Elem.result c.in_err-last-in-Elem.field-0.0 c.from_residual-in_err-last-in-Elem.ensures.1 (otherwise_refuses c.loop-at.invariant c.in-Elem.element (left_elem c.args.kids.now c.loop-at.at c.index-kids-at.result c.in-Elem.element c.loop-at-test.true c.index-kids-at.is c.in-Elem.is) c.in_err-last-in-Elem.field-0.0 (subst (λ h. Refuses c.in_err-last-in-Elem.field-0.0 (raw_element c.in-Elem.element h) (HasNoBranches (raw_element c.in-Elem.element h))) (rest_whole c.args.kids.now (c.loop-at.at + 1)) c.in_err-last-in-Elem.ensures.no))
+read_branches-returns-in_err-last-in-Elem-clause-no t c = handed_on _ c.from_residual-in_err-last-in-Elem.result c.in_err-last-in-Elem.field-0.0 c.from_residual-in_err-last-in-Elem.ensures.1 (otherwise_refuses c.loop-at.invariant c.in-Elem.element (left_elem c.args.kids.now c.loop-at.at c.index-kids-at.result c.in-Elem.element c.loop-at-test.true c.index-kids-at.is c.in-Elem.is) c.in_err-last-in-Elem.field-0.0 (subst (λ h. Refuses c.in_err-last-in-Elem.field-0.0 (IsIn in_choose (raw_element c.in-Elem.element h)) (HasNoBranches (raw_element c.in-Elem.element h))) (rest_whole c.args.kids.now (c.loop-at.at + 1)) c.in_err-last-in-Elem.ensures.no))
 
 pub read_branches-returns-then-ends-clause-ok : goal.read_branches-returns-then-ends-clause-ok
 read_branches-returns-then-ends-clause-ok t c = subst (λ bs. AreBranches (raw_trees c.args.kids.now) (branches bs (w_otherwise (body c.in_ok-last-in-Elem.last.now)))) (sym c.into_bump_slice.ensures) (all_read c.loop-at.invariant c.in-Elem.element (left_elem c.args.kids.now c.loop-at.at c.index-kids-at.result c.in-Elem.element c.loop-at-test.true c.index-kids-at.is c.in-Elem.is) (body c.in_ok-last-in-Elem.last.now) (subst (λ h. AreBranches (raw_element c.in-Elem.element h) (w_otherwise (body c.in_ok-last-in-Elem.last.now))) (rest_whole c.args.kids.now (c.loop-at.at + 1)) c.in_ok-last-in-Elem.ensures.ok))
@@ -115,7 +117,7 @@ pub when-test_of-requires-clause-test : goal.when-test_of-requires-clause-test
 when-test_of-requires-clause-test t c = of_when c.requires
 
 pub when-returns-in_err-test-clause-no : goal.when-returns-in_err-test-clause-no
-when-returns-in_err-test-clause-no t c = handed_on _ c.from_residual.result c.in_err-test.field-0.0 c.from_residual.ensures.1 (when_test_refuses c.args.element.now c.in_err-test.field-0.0 c.in_err-test.ensures.no)
+when-returns-in_err-test-clause-no t c = handed_on _ c.from_residual.result c.in_err-test.field-0.0 c.from_residual.ensures.1 (when_test_refuses c.args.element.now c.requires c.in_err-test.field-0.0 c.in_err-test.ensures.no)
 
 pub when-returns-in_err-body-clause-no : goal.when-returns-in_err-body-clause-no
-when-returns-in_err-body-clause-no t c = handed_on _ c.from_residual-in_err-body.result c.in_err-body.field-0.0 c.from_residual-in_err-body.ensures.1 (when_body_refuses c.args.element.now c.in_err-body.field-0.0 c.in_err-body.ensures.no)
+when-returns-in_err-body-clause-no t c = handed_on _ c.from_residual-in_err-body.result c.in_err-body.field-0.0 c.from_residual-in_err-body.ensures.1 (when_body_refuses c.args.element.now c.requires c.in_err-body.field-0.0 c.in_err-body.ensures.no)

@@ -3,4 +3,4 @@ use Rattle.tc_sheet.proofs.LeafLaws.{of_choose_only}
 use Rattle.tc_sheet.proofs.bodies.a_choose.Goals as goal
 
 pub returns-in_err-only-clause-no : goal.returns-in_err-only-clause-no
-returns-in_err-only-clause-no c = handed_on _ c.from_residual.result c.in_err-only.field-0.0 c.from_residual.ensures.1 (of_choose_only c.args.element.now c.in_err-only.field-0.0 c.in_err-only.ensures.no)
+returns-in_err-only-clause-no c = handed_on _ c.from_residual.result c.in_err-only.field-0.0 c.from_residual.ensures.1 (of_choose_only c.args.element.now c.in_err-only.field-0.0 c.requires c.in_err-only.ensures.no)

@@ -4,7 +4,7 @@ use Rattle.tc_sheet.proofs.ReadLaws.{copy_head}
 use Rattle.tc_sheet.proofs.bodies.a_copy.Goals as goal
 
 pub returns-in_err-only-clause-no : goal.returns-in_err-only-clause-no
-returns-in_err-only-clause-no c = handed_on _ c.from_residual.result c.in_err-only.field-0.0 c.from_residual.ensures.1 (of_copy_only c.args.element.now c.in_err-only.field-0.0 c.in_err-only.ensures.no)
+returns-in_err-only-clause-no c = handed_on _ c.from_residual.result c.in_err-only.field-0.0 c.from_residual.ensures.1 (of_copy_only c.args.element.now c.in_err-only.field-0.0 c.requires c.in_err-only.ensures.no)
 
 pub returns-clause-ok : goal.returns-clause-ok
 returns-clause-ok c = copy_head c.args.element.now c.in_ok-only.ensures.ok

@@ -4,10 +4,10 @@ use Rattle.tc_sheet.proofs.ReadLaws.{element_head}
 use Rattle.tc_sheet.proofs.bodies.an_element.Goals as goal
 
 pub returns-in_err-only-clause-no : goal.returns-in_err-only-clause-no
-returns-in_err-only-clause-no c = handed_on _ c.from_residual.result c.in_err-only.field-0.0 c.from_residual.ensures.1 (of_element_only c.args.element.now c.in_err-only.field-0.0 c.in_err-only.ensures.no)
+returns-in_err-only-clause-no c = handed_on _ c.from_residual.result c.in_err-only.field-0.0 c.from_residual.ensures.1 (of_element_only c.args.element.now c.in_err-only.field-0.0 c.requires c.in_err-only.ensures.no)
 
 pub returns-in_err-name-clause-no : goal.returns-in_err-name-clause-no
-returns-in_err-name-clause-no c = handed_on _ c.from_residual-in_err-name.result c.in_err-name.field-0.0 c.from_residual-in_err-name.ensures.1 (of_element_name c.args.element.now c.in_err-name.field-0.0 c.in_err-name.ensures.no)
+returns-in_err-name-clause-no c = handed_on _ c.from_residual-in_err-name.result c.in_err-name.field-0.0 c.from_residual-in_err-name.ensures.1 (of_element_name c.args.element.now c.in_err-name.field-0.0 c.requires c.in_err-name.ensures.no)
 
 pub returns-clause-ok : goal.returns-clause-ok
 returns-clause-ok c = element_head c.args.element.now c.in_ok-name.name c.in_ok-only.ensures.ok c.in_ok-name.ensures.ok

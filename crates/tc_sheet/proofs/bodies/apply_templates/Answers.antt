@@ -7,19 +7,19 @@ use Rattle.tc_model.specs.Seen.{path}
 use Rattle.tc_sheet.proofs.bodies.apply_templates.Goals as goal
 
 pub returns-in_err-only-clause-no : goal.returns-in_err-only-clause-no
-returns-in_err-only-clause-no c = handed_on _ c.from_residual.result c.in_err-only.field-0.0 c.from_residual.ensures.1 (of_apply_only c.args.element.now c.in_err-only.field-0.0 c.in_err-only.ensures.no)
+returns-in_err-only-clause-no c = handed_on _ c.from_residual.result c.in_err-only.field-0.0 c.from_residual.ensures.1 (of_apply_only c.args.element.now c.in_err-only.field-0.0 c.requires c.in_err-only.ensures.no)
 
 pub optional_select-requires : goal.optional_select-requires
 optional_select-requires c = of_apply c.requires
 
 pub returns-in_err-path-clause-no : goal.returns-in_err-path-clause-no
-returns-in_err-path-clause-no c = handed_on _ c.from_residual-in_err-path.result c.in_err-path.field-0.0 c.from_residual-in_err-path.ensures.1 (of_apply_select c.args.element.now c.in_err-path.field-0.0 c.in_err-path.ensures.no)
+returns-in_err-path-clause-no c = handed_on _ c.from_residual-in_err-path.result c.in_err-path.field-0.0 c.from_residual-in_err-path.ensures.1 (of_apply_select c.args.element.now c.in_err-path.field-0.0 c.requires c.in_err-path.ensures.no)
 
 pub returns-in_err-mode-clause-no : goal.returns-in_err-mode-clause-no
-returns-in_err-mode-clause-no c = handed_on _ c.from_residual-in_err-mode.result c.in_err-mode.field-0.0 c.from_residual-in_err-mode.ensures.1 (of_apply_mode c.args.element.now c.in_err-mode.field-0.0 c.in_err-mode.ensures.no)
+returns-in_err-mode-clause-no c = handed_on _ c.from_residual-in_err-mode.result c.in_err-mode.field-0.0 c.from_residual-in_err-mode.ensures.1 (of_apply_mode c.args.element.now c.in_err-mode.field-0.0 c.requires c.in_err-mode.ensures.no)
 
 pub returns-in_err-blank-clause-no : goal.returns-in_err-blank-clause-no
-returns-in_err-blank-clause-no c = handed_on _ c.from_residual-in_err-blank.result c.in_err-blank.field-0.0 c.from_residual-in_err-blank.ensures.1 (of_apply_blank c.args.element.now c.in_err-blank.field-0.0 c.in_err-blank.ensures.no)
+returns-in_err-blank-clause-no c = handed_on _ c.from_residual-in_err-blank.result c.in_err-blank.field-0.0 c.from_residual-in_err-blank.ensures.1 (of_apply_blank c.args.element.now c.in_err-blank.field-0.0 c.requires c.in_err-blank.ensures.no)
 
 pub returns-clause-ok : goal.returns-clause-ok
 returns-clause-ok c = apply_read c.args.element.now (option_map path c.in_ok-path.path) c.in_ok-path-2.path c.in_ok-mode.mode c.in_ok-only.ensures.ok c.in_ok-path.ensures.ok c.in_ok-mode.ensures.ok c.in_ok-blank.ensures.ok c.in_ok-path-2.ensures.ok

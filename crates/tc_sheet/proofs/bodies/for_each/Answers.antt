@@ -5,13 +5,13 @@ use Rattle.tc_sheet.specs.Constructs.{of_each}
 use Rattle.tc_sheet.proofs.bodies.for_each.Goals as goal
 
 pub returns-in_err-only-clause-no : goal.returns-in_err-only-clause-no
-returns-in_err-only-clause-no c = handed_on _ c.from_residual.result c.in_err-only.field-0.0 c.from_residual.ensures.1 (of_each_only c.args.element.now c.in_err-only.field-0.0 c.in_err-only.ensures.no)
+returns-in_err-only-clause-no c = handed_on _ c.from_residual.result c.in_err-only.field-0.0 c.from_residual.ensures.1 (of_each_only c.args.element.now c.in_err-only.field-0.0 c.requires c.in_err-only.ensures.no)
 
 pub required_select-requires : goal.required_select-requires
 required_select-requires c = of_each c.requires
 
 pub returns-in_err-path-clause-no : goal.returns-in_err-path-clause-no
-returns-in_err-path-clause-no c = handed_on _ c.from_residual-in_err-path.result c.in_err-path.field-0.0 c.from_residual-in_err-path.ensures.1 (of_each_select c.args.element.now c.in_err-path.field-0.0 c.in_err-path.ensures.no)
+returns-in_err-path-clause-no c = handed_on _ c.from_residual-in_err-path.result c.in_err-path.field-0.0 c.from_residual-in_err-path.ensures.1 (of_each_select c.args.element.now c.in_err-path.field-0.0 c.requires c.in_err-path.ensures.no)
 
 pub returns-clause-ok : goal.returns-clause-ok
 returns-clause-ok c = each_head c.args.element.now c.in_ok-path.path c.in_ok-only.ensures.ok c.in_ok-path.ensures.ok

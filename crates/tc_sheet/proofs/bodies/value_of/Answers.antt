@@ -5,16 +5,16 @@ use Rattle.tc_sheet.specs.Constructs.{of_value}
 use Rattle.tc_sheet.proofs.bodies.value_of.Goals as goal
 
 pub returns-in_err-only-clause-no : goal.returns-in_err-only-clause-no
-returns-in_err-only-clause-no c = handed_on _ c.from_residual.result c.in_err-only.field-0.0 c.from_residual.ensures.1 (of_value_only c.args.element.now c.in_err-only.field-0.0 c.in_err-only.ensures.no)
+returns-in_err-only-clause-no c = handed_on _ c.from_residual.result c.in_err-only.field-0.0 c.from_residual.ensures.1 (of_value_only c.args.element.now c.in_err-only.field-0.0 c.requires c.in_err-only.ensures.no)
 
 pub required_value-requires : goal.required_value-requires
 required_value-requires c = of_value c.requires
 
 pub returns-in_err-value-clause-no : goal.returns-in_err-value-clause-no
-returns-in_err-value-clause-no c = handed_on _ c.from_residual-in_err-value.result c.in_err-value.field-0.0 c.from_residual-in_err-value.ensures.1 (of_value_select c.args.element.now c.in_err-value.field-0.0 c.in_err-value.ensures.no)
+returns-in_err-value-clause-no c = handed_on _ c.from_residual-in_err-value.result c.in_err-value.field-0.0 c.from_residual-in_err-value.ensures.1 (of_value_select c.args.element.now c.in_err-value.field-0.0 c.requires c.in_err-value.ensures.no)
 
 pub returns-in_err-blank-clause-no : goal.returns-in_err-blank-clause-no
-returns-in_err-blank-clause-no c = handed_on _ c.from_residual-in_err-blank.result c.in_err-blank.field-0.0 c.from_residual-in_err-blank.ensures.1 (of_value_blank c.args.element.now c.in_err-blank.field-0.0 c.in_err-blank.ensures.no)
+returns-in_err-blank-clause-no c = handed_on _ c.from_residual-in_err-blank.result c.in_err-blank.field-0.0 c.from_residual-in_err-blank.ensures.1 (of_value_blank c.args.element.now c.in_err-blank.field-0.0 c.requires c.in_err-blank.ensures.no)
 
 pub returns-in-ValueOf-clause-ok : goal.returns-in-ValueOf-clause-ok
 returns-in-ValueOf-clause-ok c = path_read c.args.element.now c.in_ok-value.value c.in-ValueOf.path c.in-ValueOf.is c.in_ok-only.ensures.ok c.in_ok-value.ensures.ok c.in_ok-blank.ensures.ok

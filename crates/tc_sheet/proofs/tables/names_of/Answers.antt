@@ -18,4 +18,4 @@ returns-in_err-put_name-clause-no c =
     let ts = c.args.templates.now in
     let k = c.loop-template.template-index in
     handed c.from_residual.result c.in_err-put_name.field-0.0 _ (IsTwice (map template ts)) c.from_residual.ensures.1
-    (again_twice ts k _ c.loop-template-test.true (names_seen c.loop-template.names) c.loop-template.invariant.names) c.in_err-put_name.ensures.no
+    (again_twice ts k _ c.loop-template-test.true (names_seen c.loop-template.names) c.loop-template.invariant.once c.loop-template.invariant.names) c.in_err-put_name.ensures.no

@@ -1,4 +1,6 @@
-use Rattle.tc_sheet.specs.Constructs as constructs
+use Rattle.tc_model.specs.RawTrees.{none}
+use Rattle.tc_sheet.specs.LookedAt.{at_top}
+use Rattle.tc_sheet.proofs.Refusals.{element_at}
 use Rattle.tc_sheet.specs.Changes.{both}
 use Rattle.tc_sheet.proofs.Refused.{handed_on}
 use Rattle.tc_sheet.proofs.TemplateLaws.{template_only_refuses, template_pattern_refuses, template_priority_refuses, template_name_refuses, template_mode_refuses, template_body_refuses, template_incomplete, lacks_by}
@@ -8,22 +10,22 @@ use Rattle.tc_path.specs.Seen.{alternative}
 use Rattle.tc_sheet.proofs.templates.template.Goals as goal
 
 pub returns-in_err-only-clause-no : goal.returns-in_err-only-clause-no
-returns-in_err-only-clause-no c = handed_on _ c.from_residual.result c.in_err-only.field-0.0 c.from_residual.ensures.1 (template_only_refuses c.args.element.now c.in_err-only.field-0.0 c.in_err-only.ensures.no)
+returns-in_err-only-clause-no c = handed_on _ c.from_residual.result c.in_err-only.field-0.0 c.from_residual.ensures.1 (template_only_refuses c.args.element.now c.in_err-only.field-0.0 c.requires c.in_err-only.ensures.no)
 
 pub returns-in_err-pattern-clause-no : goal.returns-in_err-pattern-clause-no
-returns-in_err-pattern-clause-no c = handed_on _ c.from_residual-in_err-pattern.result c.in_err-pattern.field-0.0 c.from_residual-in_err-pattern.ensures.1 (template_pattern_refuses c.args.element.now c.in_err-pattern.field-0.0 c.in_err-pattern.ensures.no)
+returns-in_err-pattern-clause-no c = handed_on _ c.from_residual-in_err-pattern.result c.in_err-pattern.field-0.0 c.from_residual-in_err-pattern.ensures.1 (template_pattern_refuses c.args.element.now c.in_err-pattern.field-0.0 c.requires c.in_err-pattern.ensures.no)
 
 pub returns-in_err-priority-clause-no : goal.returns-in_err-priority-clause-no
-returns-in_err-priority-clause-no c = handed_on _ c.from_residual-in_err-priority.result c.in_err-priority.field-0.0 c.from_residual-in_err-priority.ensures.1 (template_priority_refuses c.args.element.now c.in_err-priority.field-0.0 c.in_err-priority.ensures.no)
+returns-in_err-priority-clause-no c = handed_on _ c.from_residual-in_err-priority.result c.in_err-priority.field-0.0 c.from_residual-in_err-priority.ensures.1 (template_priority_refuses c.args.element.now c.in_err-priority.field-0.0 c.requires c.in_err-priority.ensures.no)
 
 pub returns-in_err-name-clause-no : goal.returns-in_err-name-clause-no
-returns-in_err-name-clause-no c = handed_on _ c.from_residual-in_err-name.result c.in_err-name.field-0.0 c.from_residual-in_err-name.ensures.1 (template_name_refuses c.args.element.now c.in_err-name.field-0.0 c.in_err-name.ensures.no)
+returns-in_err-name-clause-no c = handed_on _ c.from_residual-in_err-name.result c.in_err-name.field-0.0 c.from_residual-in_err-name.ensures.1 (template_name_refuses c.args.element.now c.in_err-name.field-0.0 c.requires c.in_err-name.ensures.no)
 
 pub returns-in_err-mode-clause-no : goal.returns-in_err-mode-clause-no
-returns-in_err-mode-clause-no c = handed_on _ c.from_residual-in_err-mode.result c.in_err-mode.field-0.0 c.from_residual-in_err-mode.ensures.1 (template_mode_refuses c.args.element.now c.in_err-mode.field-0.0 c.in_err-mode.ensures.no)
+returns-in_err-mode-clause-no c = handed_on _ c.from_residual-in_err-mode.result c.in_err-mode.field-0.0 c.from_residual-in_err-mode.ensures.1 (template_mode_refuses c.args.element.now c.in_err-mode.field-0.0 c.requires c.in_err-mode.ensures.no)
 
 pub returns-then-not-is_complete-clause-no : goal.returns-then-not-is_complete-clause-no
-returns-then-not-is_complete-clause-no c = (constructs.at_element, template_incomplete (λ xs. map alternative xs.now) name c.args.element.now c.in_ok-pattern.pattern c.in_ok-name.name c.in_ok-mode.mode (lacks_by c.is_some.result c.is_some-2.result c.is_some-3.result c.in_ok-pattern.pattern c.in_ok-name.name c.in_ok-mode.mode c.is_some.ensures c.is_some-2.ensures c.is_some-3.ensures (sym c.if-not-is_complete.ensures)) c.in_ok-pattern.ensures.ok c.in_ok-name.ensures.ok c.in_ok-mode.ensures.ok both)
+returns-then-not-is_complete-clause-no c = (element_at at_top c.args.element.now none tt, template_incomplete (λ xs. map alternative xs.now) name c.args.element.now c.in_ok-pattern.pattern c.in_ok-name.name c.in_ok-mode.mode (lacks_by c.is_some.result c.is_some-2.result c.is_some-3.result c.in_ok-pattern.pattern c.in_ok-name.name c.in_ok-mode.mode c.is_some.ensures c.is_some-2.ensures c.is_some-3.ensures (sym c.if-not-is_complete.ensures)) c.in_ok-pattern.ensures.ok c.in_ok-name.ensures.ok c.in_ok-mode.ensures.ok both)
 
 pub returns-in_err-body-clause-no : goal.returns-in_err-body-clause-no
-returns-in_err-body-clause-no c = handed_on _ c.from_residual-in_err-body.result c.in_err-body.field-0.0 c.from_residual-in_err-body.ensures.1 (template_body_refuses c.args.element.now c.in_err-body.field-0.0 c.in_err-body.ensures.no)
+returns-in_err-body-clause-no c = handed_on _ c.from_residual-in_err-body.result c.in_err-body.field-0.0 c.from_residual-in_err-body.ensures.1 (template_body_refuses c.args.element.now c.in_err-body.field-0.0 c.requires c.in_err-body.ensures.no)
