@@ -1,5 +1,5 @@
 -- What the tables of rules answer is what they tell.
-use Rattle.std.proofs.Common.{◌≡◌, ℕ, zero, suc, ◌+◌, ◌^◌, ◌<◌, List, [], ◌∷◌, Bool, true, false, refl, ap, sym, ◌∙◌, subst, map, Option, Some, None, slice_get, length, take, arith}
+use Rattle.std.proofs.Common.{◌≡◌, ℕ, zero, suc, ◌+◌, ◌^◌, ◌<◌, List, [], ◌∷◌, Bool, ap, sym, ◌∙◌, subst, map, Option, Some, None, slice_get, length, take, arith}
 use Rattle.std.proofs.lemmas.List.{length-map}
 use Rattle.tc_model.specs.Symbols.{Mention, symbol_count}
 use Rattle.tc_model.specs.Letters.{Letter, of_symbol, IsLetter}
@@ -9,7 +9,7 @@ use Rattle.tc_rules.specs.Graphs as g
 use Rattle.tc_rules.specs.Graphs.{fits_at, next_at, path_fits, LeadsTo}
 use Rattle.tc_rules.specs.Steps as v
 use Rattle.tc_rules.specs.Rows.{graph, graphs}
-use Rattle.tc_rules.specs.Told.{Told, Block, IsStateOf, is_hit_of, select_below, some_item, all_count, count_states}
+use Rattle.tc_rules.specs.Told.{Block, IsStateOf, is_hit_of, select_below, some_item, all_count, count_states}
 use Rattle.tc_rules.specs.Kept.{told, IsRulesOf}
 use Rattle.tc_rules.specs.declared.graph.Graph.{Graph}
 use Rattle.tc_rules.specs.declared.rules.Rules.{Rules}

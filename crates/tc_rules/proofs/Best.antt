@@ -1,17 +1,16 @@
 -- The rule of a node by states is its rule by definition.
-use Rattle.std.proofs.Common.{◌≡◌, ◌⊎◌, inl, inr, ◌<ℤ◌, ◌≤ℤ◌, ℕ, ℤ, zero, suc, ◌+◌, ◌<◌, ◌≤◌, List, [], ◌∷◌, ◌++◌, refl, ap, ◌∙◌, sym, subst, Bool, true, false, ◌&&◌, ◌||◌, Option, Some, None, slice_get, get_or, int_lt, length, take, drop, All, arith, rules, append_assoc}
-use Rattle.std.proofs.lemmas.Bool.{true≢false}
+use Rattle.std.proofs.Common.{◌≡◌, ◌⊎◌, inl, inr, ◌<ℤ◌, ◌≤ℤ◌, ℕ, ℤ, zero, suc, ◌+◌, ◌<◌, ◌≤◌, List, [], ◌∷◌, ◌++◌, refl, ap, ◌∙◌, sym, subst, Bool, true, false, Option, Some, None, slice_get, get_or, int_lt, length, take, drop, All, arith, rules}
 use Rattle.std.proofs.lemmas.List.{drop_more, take-append-drop, get_or-take, get_or-drop, length-take, length-drop}
 use Rattle.std.proofs.lemmas.Option.{get_or_from_slice_get, slice_get-get_or, slice_get_within}
 use Rattle.tc_model.specs.Trees.{Trees, none}
-use Rattle.tc_model.specs.Chains.{Tree, Chain, top, under, root_of, down}
-use Rattle.tc_model.specs.Sheets.{Steps, no_step, step, Path, no_alternative, alternative, Test, MatchPattern, root_pattern, steps_pattern, Rule}
-use Rattle.tc_model.specs.Paths.{is_end, along, any_along, fits}
+use Rattle.tc_model.specs.Chains.{Tree, Chain, top, under}
+use Rattle.tc_model.specs.Sheets.{Test, Rule}
+use Rattle.tc_model.specs.Paths.{fits}
 use Rattle.tc_model.specs.Meaning.{rule_of}
 use Rattle.tc_model.specs.Laws.{IsCandidate}
 use Rattle.tc_model.specs.Symbols.{Mention}
 use Rattle.tc_model.specs.Letters.{letter_of}
-use Rattle.tc_model.specs.PathStates.{Items, State, first_items, first_state, further, next_state, ends, steps_of, path_of_rules}
+use Rattle.tc_model.specs.PathStates.{State, first_items, first_state, further, next_state, ends, steps_of, path_of_rules}
 use Rattle.tc_model.specs.RuleStates.{IsFitting, IsRuleOf, built_in, best, fits_below}
 use Rattle.tc_model.proofs.UniqueRule.{last_of_greatest, none_without}
 use Rattle.tc_model.proofs.TotalAbove.{fits_above}

@@ -1,22 +1,20 @@
 -- Looking at the rules of a mode one after another gives the rule of the mode.
-use Rattle.std.proofs.Common.{◌≡◌, ◌⊎◌, inl, inr, ◌≤ℤ◌, ℕ, ℤ, zero, suc, ◌+◌, ◌-◌, ◌<◌, ◌≤◌, List, [], ◌∷◌, ◌++◌, refl, ap, ◌∙◌, sym, subst, Bool, true, false, ◌&&◌, nat_eq, int_lt, if◌then◌else◌, Option, Some, None, slice_get, get_or, drop, length, arith, rules}
+use Rattle.std.proofs.Common.{◌≡◌, ◌⊎◌, inl, inr, ◌≤ℤ◌, ℕ, ℤ, zero, suc, ◌+◌, ◌-◌, ◌<◌, ◌≤◌, List, [], ◌∷◌, refl, ap, ◌∙◌, sym, subst, Bool, true, false, nat_eq, int_lt, if◌then◌else◌, Option, Some, None, slice_get, arith, rules}
 use Rattle.std.proofs.lemmas.Bool.{true≢false, eqb-true, eq-eqb}
-use Rattle.std.proofs.lemmas.List.{drop_more}
-use Rattle.std.proofs.lemmas.Option.{slice_get-get_or}
 use Rattle.tc_model.specs.Trees.{none}
 use Rattle.tc_model.specs.Chains.{top}
 use Rattle.tc_model.specs.Paths as paths
-use Rattle.tc_model.specs.Sheets.{Steps, no_step, step, Path, Test, MatchPattern, root_pattern, steps_pattern, Rule}
+use Rattle.tc_model.specs.Sheets.{no_step, step, Test, MatchPattern, root_pattern, steps_pattern, Rule}
 use Rattle.tc_model.specs.WellFormed.{IsMatchPattern}
 use Rattle.tc_model.specs.Symbols.{Mention}
 use Rattle.tc_model.specs.Letters.{Letter}
-use Rattle.tc_model.specs.PathStates.{Items, State, ends, steps_of, path_of_rules}
+use Rattle.tc_model.specs.PathStates.{State, ends, steps_of, path_of_rules}
 use Rattle.tc_model.specs.RuleStates.{IsFitting, IsRuleOf, built_in, best, fits_below}
-use Rattle.tc_rules.specs.Graphs.{path_fits, steps_fit}
+use Rattle.tc_rules.specs.Graphs.{path_fits}
 use Rattle.tc_rules.specs.Kept.{numbers_in_mode}
 use Rattle.tc_rules.specs.Picked.{better, best_of, outranks, is_root, is_root_at}
-use Rattle.tc_rules.specs.Steps.{ends_at, ends_true}
-use Rattle.tc_rules.proofs.Fits.{HasItems, HasShape, ends_is}
+use Rattle.tc_rules.specs.Steps.{ends_at}
+use Rattle.tc_rules.proofs.Fits.{HasShape, ends_is}
 
 some_is : {X : Type 0} {a b : X} → Some a ≡ Some b → a ≡ b
 some_is e = cc

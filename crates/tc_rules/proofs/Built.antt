@@ -3,7 +3,7 @@ use Rattle.std.proofs.Common.{◌≡◌, ℕ, zero, suc, ◌+◌, ◌-◌, ◌<�
 use Rattle.std.specs.Borrow.{Bor}
 use Rattle.std.proofs.Math.ListN.{get_or-map}
 use Rattle.std.proofs.lemmas.List.Sums.{sum_by-cons, sum_by_push}
-use Rattle.std.proofs.lemmas.List.{length-map, length-append, map-append, drop_more, take_more, take-append-drop, get_or_default}
+use Rattle.std.proofs.lemmas.List.{length-map, map-append, drop_more, take_more, take-append-drop, get_or_default}
 use Rattle.std.proofs.lemmas.Option.{slice_get-get_or}
 use Rattle.tc_model.specs.Sheets as s
 use Rattle.tc_model.specs.Sheets.{Path}
@@ -14,10 +14,10 @@ use Rattle.tc_model.specs.Numbered.{numbers_below}
 use Rattle.tc_model.specs.declared.sheet.Test.{Test as TestOf}
 use Rattle.tc_rules.specs.declared.graph.GraphFault.{GraphFault}
 use Rattle.tc_model.specs.Numberings.{Move, moves_of, looks_of, predicates_of, letters_of_elements}
-use Rattle.tc_model.specs.PathStates.{State, first_state, next_state, path_of_rules}
+use Rattle.tc_model.specs.PathStates.{first_state, next_state, path_of_rules}
 use Rattle.tc_model.specs.WellFormed.{IsSheet, ForEach, eaches_of}
 use Rattle.tc_rules.specs.Classes.{IsSourceOf}
-use Rattle.tc_rules.specs.Faults.{IsCause, PassNone}
+use Rattle.tc_rules.specs.Faults.{IsCause}
 use Rattle.tc_rules.specs.Gathered.{numbers}
 use Rattle.tc_rules.specs.Graphs.{Graph, IsGraphOf}
 use Rattle.tc_rules.specs.Jobs.{AreJobs}
@@ -25,7 +25,7 @@ use Rattle.tc_rules.specs.Kept.{told, IsRulesOf, numbers_in_mode}
 use Rattle.tc_rules.specs.Rows.{graph, graphs}
 use Rattle.tc_rules.specs.Seen as seen
 use Rattle.tc_rules.specs.Selects.{selects_from, starts_from, AreGraphs, states_by, count_by, all_states_by, IsAncestorCause, IsNextCause, IsSelectCause}
-use Rattle.tc_rules.specs.Told.{Told, Block, blocks_of, IsTold, AreSymbolsWith, PassPredicates, PassAncestors, PassSelects, count_states, some_item, all_count}
+use Rattle.tc_rules.specs.Told.{Block, blocks_of, AreSymbolsWith, PassPredicates, PassAncestors, PassSelects, count_states, some_item, all_count}
 use Rattle.tc_rules.specs.declared.graph.Source.{Source}
 use Rattle.tc_rules.specs.declared.rules.Rules.{Rules}
 use Rattle.tc_rules.specs.declared.rules.RulesFault.{RulesFault}

@@ -1,5 +1,5 @@
 -- The rule that is chosen is the one of greatest priority and number, and there is one answer.
-use Rattle.std.proofs.Common.{◌≡◌, ◌⊎◌, inl, inr, ◌<ℤ◌, ◌≤ℤ◌, ℕ, ℤ, zero, suc, ◌+◌, ◌<◌, ◌≤◌, List, [], ◌∷◌, refl, ap, ◌∙◌, sym, subst, Bool, true, false, ◌&&◌, nat_eq, int_lt, if◌then◌else◌, Option, Some, None, slice_get, arith, rules}
+use Rattle.std.proofs.Common.{◌≡◌, ◌⊎◌, inl, inr, ◌≤ℤ◌, ℕ, ℤ, zero, suc, ◌≤◌, List, [], ◌∷◌, refl, ap, ◌∙◌, sym, subst, Bool, true, false, ◌&&◌, nat_eq, int_lt, if◌then◌else◌, Option, Some, None, slice_get, arith, rules}
 use Rattle.std.proofs.lemmas.Bool.{true≢false, eqb-true, eq-eqb}
 use Rattle.tc_model.specs.Sheets.{Rule}
 use Rattle.tc_model.specs.RuleStates.{IsFitting, IsRuleOf, built_in, best}

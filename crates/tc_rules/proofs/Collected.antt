@@ -1,29 +1,24 @@
 -- The numbers of the rules of modes, and the bodies of for-eaches at their numbers.
-use Rattle.std.proofs.Common.{◌≡◌, ◌≢◌, ℕ, zero, suc, ◌+◌, ◌<◌, ◌≤◌, List, [], ◌∷◌, ◌++◌, refl, ap, sym, ◌∙◌, subst, Bool, true, false, nat_eq, map, flat_map, take, drop, get_or, length, set, slice_get, Some, Contains, All, ◌⊎◌, inl, inr, arith, if◌then◌else◌, append_assoc}
-use Rattle.std.proofs.Math.Numerals.{suc-eq-add-one, add-one}
+use Rattle.std.proofs.Common.{◌≡◌, ◌≢◌, ℕ, zero, suc, ◌+◌, ◌<◌, ◌≤◌, List, [], ◌∷◌, ◌++◌, refl, ap, sym, ◌∙◌, subst, Bool, true, false, nat_eq, map, flat_map, take, get_or, length, set, slice_get, Some, Contains, ◌⊎◌, inl, inr, arith}
 use Rattle.std.proofs.Math.ListN.{get_or-map}
 use Rattle.std.proofs.lemmas.List.{get_or-map as map_at}
 use Rattle.std.specs.Global.{Vec}
 use Rattle.std.specs.Borrow.{Bor}
 use Rattle.tc_model.specs.declared.sheet.Instr.{Instr}
 use Rattle.std.proofs.lemmas.Bool.{true≢false, eqb-true, eq-eqb}
-use Rattle.std.proofs.lemmas.List.{drop_more, take_more, map-append, map-set, get_or_default, length-map, length-set, get_or-set_same, get_or-set_other}
+use Rattle.std.proofs.lemmas.List.{take_more, map-append, map-set, get_or_default, length-map, length-set, get_or-set_same, get_or-set_other}
 use Rattle.std.proofs.lemmas.Option.{get_or_from_slice_get, slice_get-get_or, slice_get_within}
-use Rattle.std.proofs.lemmas.List.Elements.{Contains-append_cases}
 use Rattle.tc_alpha.proofs.Members.{Has, has_from_contains, contains_from_has, has_either, Every, every_append, every_member, every_from_all}
 use Rattle.tc_model.specs.Sheets as s
 use Rattle.tc_model.specs.Sheets.{no_instruction, put_text, put_element, copy, apply, call, for_each, value, value_of_self, choose, otherwise, branch}
 use Rattle.tc_model.specs.Seen as see
-use Rattle.tc_model.specs.Numbered.{numbers_below}
 use Rattle.tc_model.specs.WellFormed.{IsSheet, IsBody, AreBranches, IsRule, ForEach, eaches_in, eaches_in_branches, eaches_of}
 use Rattle.tc_model.specs.declared.sheet.Rule.{Rule}
 use Rattle.tc_model.specs.declared.sheet.Sheet.{Sheet}
 use Rattle.tc_rules.specs.Eaches.{Each, bodies_in, bodies_in_branches, bodies_of_eaches}
-use Rattle.tc_rules.specs.Kept.{numbers_in_mode}
 use Rattle.tc_rules.specs.Gathered.{numbers, bodies}
 use Rattle.tc_rules.specs.Seen.{each, eaches}
 use Rattle.tc_rules.specs.declared.walk.Each.{Each as EachOf}
-use Rattle.tc_rules.proofs.Steps.{moved}
 
 -- a rule's mode is one of the sheet
 pub rule_mode : (x : Sheet) (i : ℕ) (r : Rule) → IsSheet (see.sheet x) → i < length x.rules.now → r ≡ get_or x.rules.now i r → r.mode < x.modes

@@ -1,12 +1,12 @@
 -- Two lists side by side, up to where one of them ends.
-use Rattle.std.proofs.Common.{◌≡◌, ℕ, zero, suc, ◌+◌, ◌-◌, ◌<◌, ◌≤◌, ◌==◌, rules, List, [], ◌∷◌, refl, ap, ◌∙◌, sym, Bool, true, false, ◌&&◌, length, drop, get_or, arith, Bor}
-use Rattle.std.proofs.lemmas.List.{length-drop, drop_more}
+use Rattle.std.proofs.Common.{◌≡◌, ℕ, zero, suc, ◌+◌, ◌-◌, ◌<◌, ◌≤◌, ◌==◌, rules, List, [], ◌∷◌, refl, ap, ◌∙◌, sym, true, false, ◌&&◌, length, drop, get_or, arith, Bor}
+use Rattle.std.proofs.lemmas.List.{length-drop}
 use Rattle.tc_model.specs.declared.sheet.Step.{Step}
 use Rattle.tc_model.specs.declared.sheet.Test.{Test}
 use Rattle.tc_model.specs.Sheets as s
-use Rattle.tc_model.specs.Seen.{node_test, test, tests, steps, alternatives}
-use Rattle.tc_model.specs.SameTests.{same_truth, same_node_test, same_steps, same_path, same_test, same_tests}
-use Rattle.tc_model.proofs.ViewsPath.{left_step, left_alternative, left_test}
+use Rattle.tc_model.specs.Seen.{test, tests, steps, alternatives}
+use Rattle.tc_model.specs.SameTests.{same_steps, same_path, same_test, same_tests}
+use Rattle.tc_model.proofs.ViewsPath.{left_alternative, left_test}
 
 at_end : {X : Type 0} (xs : List X) (i : ℕ) → length xs ≤ i → drop i xs ≡ []
 at_end [] zero l = refl

@@ -3,7 +3,7 @@ use Rattle.std.proofs.Common.{◌≡◌, ◌⊎◌, inl, inr, ℕ, zero, suc, �
 use Rattle.std.proofs.lemmas.Bool.{true≢false}
 use Rattle.std.proofs.lemmas.List.{length-map, length-append}
 use Rattle.std.proofs.lemmas.Option.{get_or_from_slice_get, slice_get-get_or}
-use Rattle.tc_alpha.proofs.Members.{Has, has_from_contains, Every, every_member}
+use Rattle.tc_alpha.proofs.Members.{Has, has_from_contains, every_member}
 use Rattle.tc_model.specs.Sheets as s
 use Rattle.tc_model.specs.Sheets.{Steps, no_step, step, Path, no_alternative, alternative}
 use Rattle.tc_model.specs.Seen as see
@@ -22,16 +22,16 @@ use Rattle.tc_model.specs.Letters.{Letter, of_symbol, IsLetter}
 use Rattle.tc_model.specs.Numbered.{number_of}
 use Rattle.tc_model.specs.SameTests.{same_path}
 use Rattle.tc_model.specs.Numberings.{Move, same_move, moves_of, looks_of, predicates_of, one_round, rounds, AreReached, letters_of_elements}
-use Rattle.tc_model.specs.PathStates.{State, first_state, next_state, is_empty_state, first_items, same_state, path_of_rules}
-use Rattle.tc_model.specs.WellFormed.{IsSheet, IsPath, IsRule, IsMatchPattern, ForEach, eaches_of}
+use Rattle.tc_model.specs.PathStates.{State, first_state, next_state, is_empty_state, same_state, path_of_rules}
+use Rattle.tc_model.specs.WellFormed.{IsPath, IsRule, IsMatchPattern, ForEach, eaches_of}
 use Rattle.tc_rules.specs.Graphs.{Graph, IsGraphOf, fits_at, next_at, path_fits, LeadsTo}
 use Rattle.tc_rules.specs.Jobs.{IsJob}
 use Rattle.tc_rules.proofs.JobsOf.{job_at}
 use Rattle.tc_rules.specs.Kept.{told, IsRulesOf, numbers_in_mode}
-use Rattle.tc_rules.specs.Rows.{graph, graphs, state}
+use Rattle.tc_rules.specs.Rows.{graph, graphs}
 use Rattle.tc_rules.specs.Seen as seen
 use Rattle.tc_rules.specs.Selects.{first_from}
-use Rattle.tc_rules.specs.Told.{Told, Block, blocks_of, IsTold, IsStateOf, count_states, select_count, move_count, some_item, all_count, ancestor, ancestor_below, select_below}
+use Rattle.tc_rules.specs.Told.{Told, Block, blocks_of, IsStateOf, count_states, select_count, move_count, some_item, all_count, ancestor, ancestor_below, select_below}
 use Rattle.tc_rules.specs.declared.rules.Rules.{Rules}
 use Rattle.tc_rules.specs.declared.walk.Move.{Move as MoveOf}
 use Rattle.tc_rules.proofs.Answered.{mapped_at, above_answered, step_answered, start_answered, select_is}
@@ -39,7 +39,7 @@ use Rattle.tc_rules.proofs.Lawful.{MovesPath, moves_lawful, looks_lawful}
 use Rattle.tc_rules.proofs.Numbering.{IsOnce, put_is, round_puts, leads_of}
 use Rattle.tc_rules.proofs.Queries.{within, shaped, goes_on, in_range, no_item_left}
 use Rattle.tc_rules.proofs.Sameness.{move_same, move_self, path_same, path_self, found_by_number}
-use Rattle.tc_rules.proofs.SelectStates.{count_cons, round_once, start_once, later_more, settles}
+use Rattle.tc_rules.proofs.SelectStates.{count_cons, round_once, start_once}
 use Rattle.tc_rules.specs.declared.rules.Select.{Select}
 use Rattle.tc_model.specs.Numbered.{each_once_after}
 

@@ -1,18 +1,17 @@
 -- All paths of a stylesheet are covered: their predicates have numbers, and their node tests can't tell the names of one symbol apart.
-use Rattle.std.proofs.Common.{◌≡◌, ℕ, ◌+◌, ◌<◌, List, [], ◌∷◌, ◌++◌, refl, ap, ◌∙◌, sym, subst, length, map, flat_map, Bool, true, false, if◌then◌else◌, Option, Some, None, slice_get, All, arith}
+use Rattle.std.proofs.Common.{◌≡◌, ℕ, ◌+◌, ◌<◌, List, [], ◌∷◌, ◌++◌, refl, ◌∙◌, length, map, flat_map, Bool, true, false, if◌then◌else◌, Some, slice_get, All, arith}
 use Rattle.std.specs.Prelude.{codes}
 use Rattle.tc_model.specs.Names.{ExpandedName}
 use Rattle.tc_model.specs.Trees.{Trees, none}
-use Rattle.tc_model.specs.Chains.{Tree, an_element, a_text}
+use Rattle.tc_model.specs.Chains.{an_element, a_text}
 use Rattle.tc_model.specs.Grammars.{Grammar}
 use Rattle.tc_model.specs.Sheets as s
 use Rattle.tc_model.specs.Sheets.{NodeTest, Steps, Path, Test, Tests, MatchPattern, Body, Branches, Rule, Sheet}
 use Rattle.tc_model.specs.Paths.{passes}
 use Rattle.tc_model.specs.Meaning.{all_children}
-use Rattle.tc_model.specs.Symbols.{Mention, AreSymbols, in_steps, in_path, in_test, in_tests, in_pattern, in_body, in_branches, in_sheet, node_tests, a_name, a_namespace, place_of, is_mentioned, symbol_of, symbols_of, fresh_name, AreAlike}
-use Rattle.tc_model.specs.Numbered.{each_once, each_once_after, number_of, numbers_below}
+use Rattle.tc_model.specs.Symbols.{Mention, in_steps, in_path, in_test, in_tests, in_pattern, in_body, in_branches, node_tests, a_name, a_namespace, place_of, is_mentioned, symbol_of, symbols_of, fresh_name, AreAlike}
+use Rattle.tc_model.specs.Numbered.{number_of, numbers_below}
 use Rattle.tc_model.specs.SameTests.{same_test, same_path}
-use Rattle.tc_model.specs.Letters.{tree_of, kind_of}
 use Rattle.tc_model.specs.PathStates.{steps_of, path_of_rules}
 use Rattle.tc_model.specs.Numberings.{as_predicate, predicates_in_steps, predicates_in_path, predicates_in_test, predicates_in_tests, predicates_in_pattern, predicates_in_body, predicates_in_branches, predicates_of, Move, same_move, moves_in_body, moves_in_branches, moves_of, looks_in_test, looks_in_tests, looks_in_body, looks_in_branches, looks_of}
 use Rattle.tc_alpha.proofs.Members.{Has, Every, every_append, every_front, every_back, every_from_members, every_from_all, every_member}

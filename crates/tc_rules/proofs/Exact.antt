@@ -1,17 +1,16 @@
 -- Path states tell what paths and match patterns say.
-use Rattle.std.proofs.Common.{◌≡◌, ℕ, List, [], ◌∷◌, ◌++◌, refl, ap, ◌∙◌, sym, subst, Bool, true, false, cond, ◌&&◌, ◌||◌, not, zero, suc, map, append_assoc, length, slice_get, Option, Some, None, Contains, All, arith, if◌then◌else◌, ◌+◌, ◌*◌, ◌/◌, ◌%◌, ◌==◌, ◌<◌}
+use Rattle.std.proofs.Common.{◌≡◌, ℕ, List, [], ◌∷◌, ◌++◌, refl, ap, ◌∙◌, sym, Bool, true, false, ◌&&◌, ◌||◌, zero, suc, map, append_assoc, slice_get, Some, arith, if◌then◌else◌, ◌+◌, ◌*◌, ◌/◌, ◌==◌}
 use Rattle.std.specs.Int.{bit_at}
 use Rattle.std.proofs.lemmas.Nat.Bits.{bit_at-suc, bit_at_lowest}
 use Rattle.tc_model.specs.Trees.{none}
-use Rattle.tc_model.specs.Chains.{Tree, an_element, a_text, Chain, top, under, root_of, down}
-use Rattle.tc_model.specs.Sheets.{NodeTest, of_name, of_namespace, any_element, any_text, any_node, Steps, no_step, step, Path, no_alternative, alternative, Test, always, never, has, negated, all_of, any_of, Tests, MatchPattern, root_pattern, steps_pattern, Rule}
+use Rattle.tc_model.specs.Chains.{Tree, Chain, top, under, root_of, down}
+use Rattle.tc_model.specs.Sheets.{NodeTest, Steps, no_step, step, Path, no_alternative, alternative, Test, always, never, has, negated, all_of, any_of, MatchPattern, root_pattern, steps_pattern}
 use Rattle.tc_model.specs.Paths.{passes, is_end, along, any_along, holds, fits}
 use Rattle.tc_model.specs.Machine.{picks}
 use Rattle.tc_model.specs.Symbols.{Mention}
-use Rattle.tc_model.specs.SameTests.{same_test}
-use Rattle.tc_model.specs.Letters.{Letter, tree_of, kind_of, letter_of, is_marked, mark_at, marks_of, fits_letter}
-use Rattle.tc_model.specs.PathStates.{Items, State, no_items, first_items, first_state, further, ends, next_state, is_hit, steps_of, path_of_rules}
-use Rattle.tc_model.proofs.TotalAbove.{holds_above, along_above}
+use Rattle.tc_model.specs.Letters.{letter_of, is_marked, mark_at, marks_of, fits_letter}
+use Rattle.tc_model.specs.PathStates.{Items, State, no_items, first_items, first_state, further, ends, next_state, is_hit, steps_of}
+use Rattle.tc_model.proofs.TotalAbove.{holds_above}
 use Rattle.tc_rules.specs.Covered.{IsNumbered, IsBlind, AreCovered, IsCovered}
 
 -- laws of truth values

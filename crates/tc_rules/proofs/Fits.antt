@@ -1,5 +1,5 @@
 -- What path states see of a letter is which steps fit it.
-use Rattle.std.proofs.Common.{◌≡◌, ℕ, zero, suc, List, [], ◌∷◌, Bool, true, false, ◌&&◌, ◌||◌, refl, ap, sym, ◌∙◌, Option, Some, None, get_or, length, Bor}
+use Rattle.std.proofs.Common.{◌≡◌, ℕ, List, [], ◌∷◌, Bool, false, ◌&&◌, ◌||◌, refl, ap, ◌∙◌, Bor}
 use Rattle.tc_model.specs.Sheets.{Steps, no_step, step, Path, no_alternative, alternative, always, never, has, negated, all_of, any_of}
 use Rattle.tc_model.specs.Sheets as s
 use Rattle.tc_model.specs.Symbols.{Mention}

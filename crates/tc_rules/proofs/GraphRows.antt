@@ -1,14 +1,14 @@
 -- Tables of a graph are written row by row.
-use Rattle.std.proofs.Common.{◌≡◌, ℕ, zero, suc, ◌+◌, ◌<◌, List, [], ◌∷◌, ◌++◌, refl, ap, sym, ◌∙◌, map, flat_map, length, get_or, drop, append_assoc, add-one, Option, Bor}
+use Rattle.std.proofs.Common.{◌≡◌, ℕ, ◌+◌, ◌<◌, List, [], ◌∷◌, ◌++◌, ap, sym, ◌∙◌, map, length, get_or, drop, append_assoc, add-one, Option, Bor}
 use Rattle.std.specs.Global.{Vec}
-use Rattle.std.proofs.lemmas.List.{drop_more, map-append}
+use Rattle.std.proofs.lemmas.List.{drop_more}
 use Rattle.tc_model.specs.Sheets.{Path}
 use Rattle.tc_model.specs.Numbered.{numbers_below}
 use Rattle.tc_model.specs.PathStates.{State}
 use Rattle.tc_model.specs.declared.sheet.Test.{Test}
 use Rattle.tc_model.specs.declared.tree.Name.{Name}
 use Rattle.tc_rules.specs.Classes.{fits_of}
-use Rattle.tc_rules.specs.Reached.{leads_by, number_in, numbers_by, all_numbers_by}
+use Rattle.tc_rules.specs.Reached.{leads_by, number_in, numbers_by}
 use Rattle.tc_rules.specs.Rows.{state, states, rows_of_classes, leads_of_classes, leads_of_states}
 use Rattle.tc_rules.specs.Steps.{path_fits, next_state}
 use Rattle.tc_rules.specs.declared.rows.Row.{Row}

@@ -1,5 +1,5 @@
 -- The jobs of all moves are a stylesheet's own: a mode doesn't change with the number from which for-eaches are counted, and a for-each's mode does.
-use Rattle.std.proofs.Common.{◌≡◌, ◌⊎◌, inl, inr, ℕ, zero, suc, ◌+◌, ◌<◌, ◌≤◌, List, [], ◌∷◌, ◌++◌, refl, ap, sym, ◌∙◌, subst, map, flat_map, length, get_or, arith, Result, Ok, Err, IfOk}
+use Rattle.std.proofs.Common.{◌≡◌, ◌⊎◌, inl, inr, ℕ, zero, suc, ◌+◌, ◌<◌, ◌≤◌, List, [], ◌∷◌, ◌++◌, refl, sym, subst, map, flat_map, length, get_or, arith, Result, Ok, Err, IfOk}
 use Rattle.std.proofs.lemmas.List.{map-append}
 use Rattle.tc_alpha.proofs.Members.{Every, every_append, every_from_all, all_from_every}
 use Rattle.tc_model.specs.Sheets as s

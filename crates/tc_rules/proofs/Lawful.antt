@@ -1,6 +1,5 @@
 -- All moves and looks of a well-formed stylesheet are well-formed paths.
-use Rattle.std.proofs.Common.{◌≡◌, ℕ, List, [], ◌∷◌, ◌++◌, map, flat_map}
-use Rattle.tc_model.specs.Sheets as s
+use Rattle.std.proofs.Common.{ℕ, List, [], ◌∷◌, ◌++◌, map, flat_map}
 use Rattle.tc_model.specs.Sheets.{Steps, no_step, step, Path, no_alternative, alternative, Test, always, never, has, negated, all_of, any_of, Tests, no_test, test, MatchPattern, root_pattern, steps_pattern, Body, no_instruction, put_text, put_element, copy, apply, call, for_each, value, value_of_self, choose, Branches, otherwise, branch, Rule, Sheet}
 use Rattle.tc_model.specs.WellFormed.{IsSheet, IsBody, AreBranches, IsRule, IsPath, AreSteps, IsTest, AreTests, IsMatchPattern}
 use Rattle.tc_model.specs.Meaning.{all_children}

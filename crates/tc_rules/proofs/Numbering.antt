@@ -1,7 +1,7 @@
 -- States are numbered round by round: each of them is put at the end, unless it is there.
-use Rattle.std.proofs.Common.{◌≡◌, ℕ, zero, suc, List, [], ◌∷◌, ◌++◌, Bool, true, false, ◌||◌, refl, ap, sym, ◌∙◌, subst, filter, flat_map, map, append_assoc, if◌then◌else◌}
+use Rattle.std.proofs.Common.{◌≡◌, ℕ, zero, suc, List, [], ◌∷◌, ◌++◌, Bool, true, false, ◌||◌, refl, ap, sym, ◌∙◌, subst, filter, flat_map, map, if◌then◌else◌}
 use Rattle.std.specs.List.{list_any}
-use Rattle.tc_model.specs.Numbered.{each_once, each_once_after}
+use Rattle.tc_model.specs.Numbered.{each_once_after}
 use Rattle.tc_model.specs.Letters.{Letter}
 use Rattle.tc_model.specs.PathStates.{State, same_state}
 use Rattle.tc_model.specs.Numberings.{one_round, rounds}

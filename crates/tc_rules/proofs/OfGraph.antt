@@ -1,5 +1,5 @@
 -- The tables that were written are those of a path over the symbols.
-use Rattle.std.proofs.Common.{◌≡◌, ℕ, zero, suc, ◌+◌, ◌<◌, ◌≤◌, ◌^◌, List, [], ◌∷◌, ◌++◌, Bool, true, false, ◌||◌, refl, ap, sym, ◌∙◌, subst, map, filter, flat_map, length, get_or, nat_lt, cond, not, Option, Some, None, slice_get, Bor, arith}
+use Rattle.std.proofs.Common.{◌≡◌, ℕ, zero, suc, ◌+◌, ◌<◌, ◌^◌, List, [], ◌∷◌, ◌++◌, Bool, true, false, ◌||◌, refl, ap, sym, ◌∙◌, subst, map, filter, flat_map, length, get_or, nat_lt, cond, not, Option, Some, None, slice_get, Bor, arith}
 use Rattle.std.specs.List.{list_any, position, position_or_len}
 use Rattle.std.proofs.lemmas.Bool.{lt-ltb}
 use Rattle.std.proofs.lemmas.List.{length-map, map-append}
@@ -11,9 +11,8 @@ use Rattle.tc_model.specs.Trees.{none}
 use Rattle.tc_model.specs.Chains.{an_element}
 use Rattle.tc_model.specs.Seen as see
 use Rattle.tc_model.specs.Sheets.{Path}
-use Rattle.tc_model.specs.Sheets as s
 use Rattle.tc_model.specs.Symbols.{Mention, symbol_count, fresh_name}
-use Rattle.tc_model.specs.Letters.{Kind, of_symbol, of_text, Letter, IsLetter}
+use Rattle.tc_model.specs.Letters.{Kind, of_symbol, of_text, IsLetter}
 use Rattle.tc_model.specs.Numbered.{numbers_below}
 use Rattle.tc_model.specs.Numberings as n
 use Rattle.tc_model.specs.Numberings.{letters_of_elements}
@@ -25,13 +24,13 @@ use Rattle.tc_rules.specs.Classes.{fits_of, AreClasses, IsSourceOf}
 use Rattle.tc_rules.specs.Graphs as g
 use Rattle.tc_rules.specs.Graphs.{class_of, fits_at, next_at, LeadsTo, path_fits, IsGraphOf}
 use Rattle.tc_rules.specs.Once.{put_all}
-use Rattle.tc_rules.specs.Reached.{leads_by, leads_of, rounds, number_in, numbers_by, all_numbers_by, AreReached}
+use Rattle.tc_rules.specs.Reached.{leads_by, rounds, number_in, numbers_by, all_numbers_by, AreReached}
 use Rattle.tc_rules.specs.Seen.{predicates}
 use Rattle.tc_rules.specs.Steps as v
 use Rattle.tc_rules.specs.declared.graph.Source.{Source}
 use Rattle.tc_rules.proofs.Fits.{path_fits_is, next_is}
 use Rattle.tc_rules.proofs.Numbering.{AreThere}
-use Rattle.tc_rules.proofs.Pieces.{pieces_once, pieces_of, filter_pieces, pieces_alike, length_below, number_at, mapped_at, unmapped_at, get_or_mapped, value_at, there_piece, there_one}
+use Rattle.tc_rules.proofs.Pieces.{pieces_once, pieces_of, filter_pieces, pieces_alike, length_below, mapped_at, unmapped_at, get_or_mapped, value_at, there_piece, there_one}
 use Rattle.tc_rules.proofs.Rounds.{reached_counts, reached_there, reached_alike, many_alike}
 use Rattle.tc_rules.proofs.SameRows.{state_same, state_self}
 

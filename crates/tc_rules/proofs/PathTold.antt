@@ -1,5 +1,5 @@
 -- The laws of path states.
-use Rattle.std.proofs.Common.{◌≡◌, ◌⊎◌, inl, inr, ℕ, zero, suc, ◌+◌, ◌*◌, ◌<◌, ◌^◌, List, [], ◌∷◌, Bool, true, false, refl, ap, sym, ◌∙◌, subst, map, length, if◌then◌else◌, Option, None, Some, Contains, arith}
+use Rattle.std.proofs.Common.{◌≡◌, inl, inr, ℕ, suc, ◌+◌, ◌*◌, ◌<◌, ◌^◌, List, [], ◌∷◌, Bool, true, false, refl, ap, ◌∙◌, subst, map, length, if◌then◌else◌, Option, None, Some, arith}
 use Rattle.std.proofs.Math.Nat.{pow-suc}
 use Rattle.std.proofs.lemmas.List.{length-map}
 use Rattle.tc_model.specs.Trees.{none}
@@ -8,7 +8,7 @@ use Rattle.tc_model.specs.Grammars.{Grammar}
 use Rattle.tc_model.specs.Sheets.{Path, Test, Rule, Sheet}
 use Rattle.tc_model.specs.Paths.{holds}
 use Rattle.tc_model.specs.Symbols.{Mention, symbols_of, symbol_of, symbol_count}
-use Rattle.tc_model.specs.Letters.{Kind, of_symbol, of_text, IsLetter, kind_of, letter_of, marks_of}
+use Rattle.tc_model.specs.Letters.{of_symbol, kind_of, letter_of, marks_of}
 use Rattle.tc_model.specs.PathStates.{next_state, path_of_rules}
 use Rattle.tc_model.specs.RuleStates.{IsRuleOf, fits_below}
 use Rattle.tc_model.specs.Numberings.{Move, moves_of, looks_of, predicates_of}

@@ -1,15 +1,14 @@
 -- Lists that are put piece by piece: a piece that was met before adds nothing.
-use Rattle.std.proofs.Common.{◌≡◌, ℕ, zero, suc, ◌+◌, ◌<◌, ◌≤◌, List, [], ◌∷◌, ◌++◌, Bool, true, false, ◌||◌, refl, ap, sym, ◌∙◌, subst, map, filter, flat_map, length, take, get_or, nat_eq, append_assoc, Option, Some, None, slice_get, if◌then◌else◌, ◌⊎◌, inl, inr, arith}
+use Rattle.std.proofs.Common.{◌≡◌, ℕ, zero, suc, ◌+◌, ◌<◌, ◌≤◌, List, [], ◌∷◌, ◌++◌, Bool, true, false, ◌||◌, refl, ap, sym, ◌∙◌, subst, map, filter, flat_map, length, take, get_or, nat_eq, append_assoc, Some, slice_get, if◌then◌else◌, inl, inr, arith}
 use Rattle.std.specs.List.{list_any}
 use Rattle.std.proofs.Math.Seq.{take-suc}
 use Rattle.std.proofs.lemmas.Bool.{cases_lt, eqb-true}
-use Rattle.std.proofs.lemmas.List.{length_push, length-append, take_all}
+use Rattle.std.proofs.lemmas.List.{length_push, take_all}
 use Rattle.std.proofs.lemmas.List.Elements.{filter-append}
 use Rattle.std.proofs.lemmas.Grind.{flat_map-append}
 use Rattle.tc_model.specs.Numbered.{numbers_below}
 use Rattle.tc_rules.specs.Once.{put_once, put_all}
-use Rattle.tc_rules.proofs.Numbering.{put_joined, AreThere, put_absorbed, there_joined, there_kept, put_all_there}
-use Rattle.tc_rules.proofs.RowSteps.{map_push}
+use Rattle.tc_rules.proofs.Numbering.{put_joined, AreThere, put_absorbed, put_all_there}
 
 module _ {X : Type 0} (same : X → X → Bool) where
   pub there_left : (s xs ys : List X) → AreThere same s (xs ++ ys) → AreThere same s xs

@@ -1,5 +1,5 @@
 -- What tables tell of a stylesheet's states.
-use Rattle.std.proofs.Common.{◌≡◌, ℕ, zero, suc, ◌+◌, ◌^◌, ◌<◌, ◌≤◌, List, [], ◌∷◌, ◌++◌, Bool, true, false, not, refl, ap, sym, ◌∙◌, subst, map, Option, Some, None, slice_get, length, filter, flat_map, take, sum, get_or, arith, if◌then◌else◌}
+use Rattle.std.proofs.Common.{◌≡◌, ℕ, zero, suc, ◌+◌, ◌^◌, ◌<◌, List, [], ◌∷◌, ◌++◌, Bool, true, false, not, refl, ap, sym, ◌∙◌, subst, map, Option, Some, None, slice_get, length, filter, flat_map, take, arith, if◌then◌else◌}
 use Rattle.tc_model.specs.Sheets.{Path}
 use Rattle.tc_model.specs.Sheets as s
 use Rattle.tc_model.specs.Symbols.{Mention, symbol_count}
@@ -8,7 +8,7 @@ use Rattle.tc_model.specs.PathStates.{State, first_state, next_state, same_state
 use Rattle.tc_model.specs.Numberings.{predicates_of, one_round, rounds, AreReached, letters_of_elements}
 use Rattle.tc_rules.specs.Graphs.{Graph, IsGraphOf, fits_at, next_at, path_fits, LeadsTo}
 use Rattle.tc_rules.specs.Steps as v
-use Rattle.tc_rules.specs.Told.{Told, IsTold, Block, blocks_of, IsStateOf, some_item, all_count, count_states, is_hit_of, select_below, ancestor_below}
+use Rattle.tc_rules.specs.Told.{Told, IsTold, Block, blocks_of, IsStateOf, some_item, all_count, count_states, is_hit_of, select_below}
 use Rattle.tc_alpha.proofs.Members.{Every}
 use Rattle.std.proofs.lemmas.List.Sums.{sum_by-cons}
 use Rattle.tc_rules.proofs.Sameness.{every_kept}

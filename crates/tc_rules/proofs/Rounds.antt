@@ -1,5 +1,5 @@
 -- Rounds reach the states that are reached, and no round goes on where none leads further.
-use Rattle.std.proofs.Common.{◌≡◌, ℕ, zero, suc, ◌+◌, ◌<◌, ◌≤◌, List, [], ◌∷◌, ◌++◌, Bool, true, false, refl, ap, sym, ◌∙◌, subst, map, filter, flat_map, length, take, drop, append_assoc, Option, Some, None, slice_get, get_or, arith, if◌then◌else◌}
+use Rattle.std.proofs.Common.{◌≡◌, ℕ, zero, suc, ◌+◌, ◌<◌, ◌≤◌, List, [], ◌∷◌, ◌++◌, Bool, true, false, refl, ap, sym, ◌∙◌, subst, map, filter, flat_map, length, take, drop, append_assoc, Some, slice_get, get_or, arith, if◌then◌else◌}
 use Rattle.std.specs.List.{list_any}
 use Rattle.std.proofs.lemmas.List.{append-nil, length-append, take-append-drop, take_all, take_at, drop_more, drop_all}
 use Rattle.std.proofs.lemmas.List.Elements.{filter-append}

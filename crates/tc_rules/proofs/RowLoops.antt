@@ -1,12 +1,11 @@
 -- What loops over rows keep, where no name is given to what stands at a place.
-use Rattle.std.proofs.Common.{◌≡◌, ℕ, zero, suc, ◌+◌, ◌<◌, ◌≤◌, List, [], ◌∷◌, ◌++◌, Bool, true, false, ◌&&◌, refl, ap, sym, ◌∙◌, subst, map, Bor, length, get_or, take, drop, filter, Option, Some, None, slice_get, arith}
+use Rattle.std.proofs.Common.{◌≡◌, ℕ, zero, suc, ◌+◌, ◌<◌, List, [], ◌∷◌, ◌++◌, Bool, false, refl, ap, sym, ◌∙◌, subst, map, Bor, length, get_or, drop, filter, Option, Some, None, slice_get, arith}
 use Rattle.std.specs.Global.{Vec}
-use Rattle.std.proofs.lemmas.List.{get_or_default, take_all, map-append}
+use Rattle.std.proofs.lemmas.List.{get_or_default}
 use Rattle.std.proofs.lemmas.List.Elements.{filter-append}
 use Rattle.tc_model.specs.declared.sheet.Step.{Step}
 use Rattle.tc_model.specs.Seen as see
 use Rattle.tc_model.specs.Sheets.{Path}
-use Rattle.tc_model.specs.PathStates as p
 use Rattle.tc_model.specs.PathStates.{State, same_state}
 use Rattle.tc_rules.specs.Once.{put_all}
 use Rattle.tc_rules.specs.Reached.{number_in, numbers_by}

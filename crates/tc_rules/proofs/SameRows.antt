@@ -1,6 +1,6 @@
 -- Rows are the same where their truth values are, and a set of rows is a list of states of which each stands once.
-use Rattle.std.proofs.Common.{◌≡◌, ℕ, zero, suc, ◌<◌, ◌+◌, List, [], ◌∷◌, ◌++◌, Bool, true, false, ◌&&◌, ◌||◌, not, cond, refl, ap, sym, ◌∙◌, map, length, Option, Some, None, slice_get, nat_lt, if◌then◌else◌, arith, eqb, subst}
-use Rattle.std.specs.List.{list_any, position, position_or_len, prefix_len}
+use Rattle.std.proofs.Common.{◌≡◌, ℕ, zero, suc, ◌+◌, List, [], ◌∷◌, ◌++◌, Bool, true, false, ◌&&◌, ◌||◌, not, cond, refl, ap, sym, ◌∙◌, length, Some, None, slice_get, nat_lt, if◌then◌else◌, arith}
+use Rattle.std.specs.List.{list_any, position, position_or_len}
 use Rattle.std.specs.Global.{Vec}
 use Rattle.std.specs.Cmp.Lexicographic.{pointwise}
 use Rattle.std.specs.Cmp.Derive.Mapped.{pointwise-map}

@@ -1,5 +1,5 @@
 -- The tests of sameness tell what is equal, and what is numbered is found by its number.
-use Rattle.std.proofs.Common.{◌≡◌, ℕ, List, [], ◌∷◌, ◌++◌, refl, ap, ◌∙◌, sym, Bool, true, false, cond, ◌&&◌, ◌||◌, not, nat_eq, Option, Some, None, slice_get, bytes_eq, if◌then◌else◌, subst, ◌+◌, ◌<◌, suc, map, length, drop, get_or, append_assoc, ◌⊎◌, inl, inr, arith}
+use Rattle.std.proofs.Common.{◌≡◌, ℕ, List, [], ◌∷◌, ◌++◌, refl, ap, ◌∙◌, sym, Bool, true, false, ◌&&◌, ◌||◌, nat_eq, Some, slice_get, bytes_eq, if◌then◌else◌, subst, ◌+◌, ◌<◌, suc, map, length, drop, get_or, append_assoc, ◌⊎◌, inl, inr, arith}
 use Rattle.std.specs.List.{list_any}
 use Rattle.std.proofs.lemmas.Bool.{true≢false, eqb-true, eq-eqb}
 use Rattle.std.proofs.lemmas.Slice.Eq.{bytes_eq-Decides}

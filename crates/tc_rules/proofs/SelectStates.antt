@@ -1,10 +1,9 @@
 -- Where select states stand, and how many of them there are.
-use Rattle.std.proofs.Common.{◌≡◌, ℕ, zero, suc, ◌+◌, ◌^◌, ◌<◌, ◌≤◌, ◌==◌, List, [], ◌∷◌, ◌++◌, Bool, true, false, refl, ap, sym, ◌∙◌, subst, map, filter, flat_map, take, drop, get_or, length, sum, slice_get, Some, arith, if◌then◌else◌, append_assoc}
+use Rattle.std.proofs.Common.{◌≡◌, ℕ, zero, suc, ◌+◌, ◌^◌, ◌<◌, ◌≤◌, ◌==◌, List, [], ◌∷◌, ◌++◌, Bool, true, false, refl, ap, sym, ◌∙◌, subst, map, filter, take, drop, get_or, length, slice_get, Some, arith, if◌then◌else◌}
 use Rattle.std.proofs.Math.Dec.{eqb-suc-zero, eqb-zero-suc}
 use Rattle.std.proofs.Math.Numerals.{suc-eq-add-one}
-use Rattle.std.proofs.Math.ListN.{get_or-map}
 use Rattle.std.proofs.lemmas.List.Sums.{sum_by-cons}
-use Rattle.std.proofs.lemmas.List.{drop_more, length-map, length-append, get_or_default, map-append}
+use Rattle.std.proofs.lemmas.List.{drop_more, length-map, length-append}
 use Rattle.tc_model.specs.Sheets.{Path, Test}
 use Rattle.tc_model.specs.Symbols.{Mention}
 use Rattle.tc_model.specs.Letters.{Letter}
@@ -19,7 +18,7 @@ use Rattle.tc_rules.specs.Told.{count_states, some_item}
 use Rattle.tc_rules.specs.declared.graph.Graph.{Graph as GraphOf}
 use Rattle.tc_rules.specs.declared.rules.Select.{Select}
 use Rattle.tc_rules.proofs.Numbering.{IsOnce, put_is, once_put_all, leads_of, round_puts, settled}
-use Rattle.tc_rules.proofs.Pieces.{length_below, number_at, value_at}
+use Rattle.tc_rules.proofs.Pieces.{length_below, value_at}
 use Rattle.tc_rules.proofs.Steps.{moved}
 
 some_is : {X : Type 0} {a b : X} → Some a ≡ Some b → a ≡ b

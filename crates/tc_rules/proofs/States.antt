@@ -1,11 +1,11 @@
 -- The machine of path states tells what a stylesheet's paths select and what its rules say.
 use Rattle.std.proofs.Common.{◌≡◌, ℕ, zero, suc, List, [], ◌∷◌, ◌++◌, refl, ap, ◌∙◌, sym, subst, Bool, Option, Some, None, slice_get}
 use Rattle.tc_model.specs.Trees.{Trees, none}
-use Rattle.tc_model.specs.Chains.{Tree, an_element, a_text, Chain, top, under, one, whole, node_of}
+use Rattle.tc_model.specs.Chains.{Tree, an_element, a_text, Chain, top, under, one, whole}
 use Rattle.tc_model.specs.Grammars.{Grammar}
 use Rattle.tc_model.specs.Sheets as s
 use Rattle.tc_model.specs.Sheets.{NodeTest, Steps, Path, Test, Tests, Body, Branches, Rule, Sheet, Plain, p_done, p_text, p_element, p_copy, p_apply, p_call, p_value, p_self, p_choose, p_each, PlainBranches, p_otherwise, p_branch, Unfolds, u_done, u_text, u_element, u_copy, u_apply, u_call, u_value, u_self, u_choose, u_each, BranchesUnfold, u_otherwise, u_branch}
-use Rattle.tc_model.specs.Paths.{fits, any_along}
+use Rattle.tc_model.specs.Paths.{fits}
 use Rattle.tc_model.specs.Meaning as meaning
 use Rattle.tc_model.specs.Meaning.{Job, by_mode, by_body, all_children, body_or, rule_of, body_of}
 use Rattle.tc_model.specs.Machine.{Task, in_mode, in_body, JobUnfolds, u_mode, u_body, known_test, known_tests, known, known_branches, known_task, Machine, move_picks, look_picks, picks, above, plain_at, IsMachineOf, IsSteady}
@@ -14,12 +14,12 @@ use Rattle.tc_model.specs.Symbols as y
 use Rattle.tc_model.specs.Letters.{Kind, of_symbol, of_text, Letter, letter_of}
 use Rattle.tc_model.specs.PathStates.{State, first_state, next_state, is_hit, path_of_rules}
 use Rattle.tc_model.specs.Numberings.{predicates_in_path, predicates_in_test, predicates_in_tests, predicates_in_body, predicates_in_branches, predicates_of}
-use Rattle.tc_model.specs.RuleStates.{IsRuleOf, built_in, best, fits_below}
+use Rattle.tc_model.specs.RuleStates.{IsRuleOf, best, fits_below}
 use Rattle.tc_alpha.proofs.Members.{Every}
 use Rattle.tc_rules.specs.Covered.{IsNumbered, IsBlind, IsCovered}
 use Rattle.tc_rules.specs.States.{Chosen, chosen, AllUnfold, or_plain, plain_of, built_in_at, body_by, body_of_root, states}
 use Rattle.tc_rules.proofs.Exact.{selects, state_at}
-use Rattle.tc_rules.proofs.Covered.{OfPath, OfTest, OfTests, OfNamed, OfRule, OfSheet, itself, no_test_of, two, tests_parts, path_covered, fine, patterns_covered}
+use Rattle.tc_rules.proofs.Covered.{OfNamed, OfRule, two, path_covered, fine, patterns_covered}
 use Rattle.tc_rules.proofs.Best.{picked, rule_by_state, root_rule_is}
 use Rattle.tc_rules.proofs.Chosen.{number_of_chosen, rule_is_chosen}
 

@@ -1,6 +1,5 @@
 -- What a loop over a part of a stylesheet has found, one step at a time.
-use Rattle.std.proofs.Common.{◌≡◌, ℕ, ◌+◌, ◌<◌, List, ◌++◌, refl, ap, ◌∙◌, sym, map, Bor, length, get_or, drop, append_assoc, flat_map, Result, Ok, Err, OnOk}
-use Rattle.std.proofs.lemmas.List.{drop_more}
+use Rattle.std.proofs.Common.{◌≡◌, ℕ, ◌+◌, ◌<◌, List, ◌++◌, refl, ap, ◌∙◌, sym, Bor, length, get_or, drop, append_assoc, Result, Ok, Err, OnOk}
 use Rattle.tc_model.specs.Sheets as s
 use Rattle.tc_model.specs.Seen as see
 use Rattle.tc_model.specs.Numberings as n

@@ -1,6 +1,5 @@
 -- Symbols are told apart by which steps fit them where all predicates hold: what fits them for fewer predicates follows from it.
-use Rattle.std.proofs.Common.{◌≡◌, ℕ, zero, suc, ◌+◌, ◌-◌, ◌<◌, ◌≤◌, ◌^◌, ◌==◌, List, [], ◌∷◌, ◌++◌, Bool, true, false, ◌&&◌, ◌||◌, not, refl, ap, sym, ◌∙◌, subst, map, flat_map, length, take, get_or, add-one, append_assoc, nat_eq, Option, Some, None, slice_get, Bor, if◌then◌else◌, ◌⊎◌, inl, inr, arith}
-use Rattle.std.specs.Int.{bit_at}
+use Rattle.std.proofs.Common.{◌≡◌, ℕ, zero, suc, ◌+◌, ◌-◌, ◌<◌, ◌≤◌, ◌^◌, ◌==◌, List, [], ◌∷◌, ◌++◌, Bool, true, false, ◌&&◌, ◌||◌, not, refl, ap, sym, ◌∙◌, subst, map, length, take, get_or, add-one, nat_eq, Option, Some, slice_get, Bor, if◌then◌else◌, inl, inr, arith}
 use Rattle.std.specs.List.{list_any}
 use Rattle.std.proofs.lemmas.Bool.{cases_lt, eq-eqb, eqb-true}
 use Rattle.std.proofs.lemmas.List.{length-map, take_all, take_more, length_push, get_or_default}
@@ -9,8 +8,7 @@ use Rattle.std.proofs.lemmas.Option.{slice_get_within, get_or_from_slice_get}
 use Rattle.tc_model.specs.Sheets.{Steps, no_step, step, Path, no_alternative, alternative, always, never, has, negated, all_of, any_of}
 use Rattle.tc_model.specs.Sheets as s
 use Rattle.tc_model.specs.Letters.{is_marked, mark_at}
-use Rattle.tc_model.specs.Numbered.{numbers_below, number_of}
-use Rattle.tc_model.specs.SameTests.{same_test}
+use Rattle.tc_model.specs.Numbered.{numbers_below}
 use Rattle.tc_model.specs.PathStates.{Items, State, same_state}
 use Rattle.tc_model.specs.declared.sheet.Test.{Test}
 use Rattle.tc_model.specs.declared.tree.Name.{Name}

@@ -8,9 +8,8 @@ use Rattle.tc_rules.specs.Graphs.{Graph}
 use Rattle.tc_rules.specs.Rows.{graph, graphs}
 use Rattle.tc_rules.specs.Jobs.{AreJobs}
 use Rattle.tc_rules.specs.Seen as seen
-use Rattle.tc_rules.specs.Told.{Told, IsTold, count_states, select_count}
+use Rattle.tc_rules.specs.Told.{Told, IsTold, count_states}
 use Rattle.tc_rules.specs.declared.rules.Rules.{Rules}
-use Rattle.tc_rules.specs.declared.rules.Select.{Select}
 
 abbrev pub told : Rules → Told
 told r = record {

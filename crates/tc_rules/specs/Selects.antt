@@ -1,5 +1,5 @@
 -- The select states of several paths, one path after another: where each stands, and how many stand before those of each path.
-use Rattle.std.specs.Prelude.{◌≡◌, ℕ, suc, ◌+◌, ◌<◌, List, [], ◌∷◌, ◌++◌, length, map, sum, filter, get_or, Option, None, Some, ◌==◌, if◌then◌else◌}
+use Rattle.std.specs.Prelude.{ℕ, suc, ◌+◌, ◌<◌, List, [], ◌∷◌, ◌++◌, length, map, sum, filter, get_or, Option, None, Some, ◌==◌, if◌then◌else◌}
 use Rattle.tc_model.specs.Sheets.{Path, Test}
 use Rattle.tc_model.specs.Symbols.{Mention}
 use Rattle.tc_model.specs.Numbered.{numbers_below}

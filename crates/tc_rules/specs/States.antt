@@ -1,5 +1,5 @@
 -- The machine of path states: what the states of moves, of looks and of all rules' patterns tell of a stylesheet on the trees below a node.
-use Rattle.std.specs.Prelude.{◌≡◌, ℕ, suc, List, [], ◌∷◌, Bool, ◌&&◌, nat_eq, int_lt, Option, None, Some, slice_get, if◌then◌else◌}
+use Rattle.std.specs.Prelude.{ℕ, suc, List, [], ◌∷◌, Bool, ◌&&◌, nat_eq, int_lt, Option, None, Some, slice_get, if◌then◌else◌}
 use Rattle.tc_model.specs.Trees.{none}
 use Rattle.tc_model.specs.Chains.{top}
 use Rattle.tc_model.specs.Sheets.{Path, Test, Body, Rule, Plain, p_done, p_apply, p_self, Unfolds}

@@ -1,9 +1,8 @@
 -- Path states by which steps fit a letter: what a step sees of a letter is this alone.
-use Rattle.std.specs.Prelude.{◌≡◌, ℕ, zero, suc, List, [], ◌∷◌, Bool, true, false, ◌&&◌, ◌||◌, Option, Some, None, get_or, length, bytes_eq, codes}
+use Rattle.std.specs.Prelude.{ℕ, List, [], ◌∷◌, Bool, true, false, ◌&&◌, ◌||◌, Option, Some, None, get_or, codes}
 use Rattle.std.specs.Borrow.{Bor}
 use Rattle.tc_model.specs.Trees.{none}
 use Rattle.tc_model.specs.Chains.{an_element, a_text, Tree}
-use Rattle.tc_model.specs.Sheets as s
 use Rattle.tc_model.specs.Sheets.{NodeTest, Steps, no_step, step, Path, no_alternative, alternative}
 use Rattle.tc_model.specs.Paths.{passes}
 use Rattle.tc_model.specs.Seen as see

@@ -1,11 +1,11 @@
 -- What one instruction alone puts out.
-use Rattle.std.proofs.Common.{◌≡◌, ℕ, List, refl, ap, ◌∙◌, sym, subst, Some, slice_get}
+use Rattle.std.proofs.Common.{◌≡◌, ℕ, List, subst, Some, slice_get}
 use Rattle.tc_model.specs.Names.{ExpandedName}
-use Rattle.tc_model.specs.Chains.{Node, children, string_value}
-use Rattle.tc_model.specs.Sheets.{Path, Body, no_instruction, put_text, put_element, copy, apply, call, for_each, value, value_of_self, choose, Branches, Plain, PlainBranches, p_done, p_text, p_element, p_copy, p_apply, p_call, p_value, p_self, p_choose, p_each, Unfolds, u_done, u_text, u_element, u_copy, u_apply, u_call, u_value, u_self, u_choose, u_each, BranchesUnfold}
-use Rattle.tc_model.specs.Outcomes.{Outcome, nothing, join, within, counted, put, put_around, copied}
+use Rattle.tc_model.specs.Chains.{children, string_value}
+use Rattle.tc_model.specs.Sheets.{Path, Body, no_instruction, put_text, put_element, copy, apply, call, for_each, value, value_of_self, choose, Branches, Plain, PlainBranches, Unfolds, u_done, u_text, u_element, u_copy, u_apply, u_call, u_value, u_self, u_choose, u_each, BranchesUnfold}
+use Rattle.tc_model.specs.Outcomes.{Outcome, within, counted, put, put_around, copied}
 use Rattle.tc_model.specs.Meaning.{value_of_first}
-use Rattle.tc_model.specs.Machine.{Task, in_mode, in_body, first_hit, takes_in, outputs}
+use Rattle.tc_model.specs.Machine.{in_mode, in_body, first_hit, takes_in, outputs}
 use Rattle.tc_model.proofs.TotalJoin.{join_none}
 use Rattle.tc_rules.specs.Told.{ancestor}
 use Rattle.tc_run.specs.Running.{told_by, machine}

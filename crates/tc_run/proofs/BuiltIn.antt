@@ -1,8 +1,8 @@
 -- What the built-in rules and single instructions do on a node.
-use Rattle.std.proofs.Common.{◌≡◌, ℕ, ◌+◌, ◌≤◌, max, List, [], refl, ap, ◌∙◌, sym, subst, Option, Some, None, Bor, arith}
+use Rattle.std.proofs.Common.{◌≡◌, ℕ, ◌≤◌, List, [], refl, ap, ◌∙◌, sym, subst, Option, Some, None, Bor, arith}
 use Rattle.std.specs.Option.{unwrap_or}
-use Rattle.tc_model.specs.Chains.{an_element, a_text, Node, whole, one, children}
-use Rattle.tc_model.specs.Machine.{Task, in_mode, does_in, outputs, first_hit}
+use Rattle.tc_model.specs.Chains.{an_element, Node, whole, one, children}
+use Rattle.tc_model.specs.Machine.{in_mode, does_in, outputs, first_hit}
 use Rattle.tc_model.specs.Meaning.{all_children, value_of_first}
 use Rattle.tc_model.specs.Outcomes.{Outcome, within, put, put_around, copied}
 use Rattle.tc_model.specs.Seen as see
@@ -19,7 +19,7 @@ use Rattle.tc_model.proofs.TotalJoin.{join_none}
 use Rattle.tc_rules.specs.Told.{ancestor}
 use Rattle.tc_run.specs.Lettered.{bare}
 use Rattle.tc_run.specs.Running.{told_by, symbols_by, predicates_by, sheet_by, machine, looking}
-use Rattle.tc_run.specs.Seen.{trees, node, node_of, IsHere}
+use Rattle.tc_run.specs.Seen.{trees, node, node_of}
 use Rattle.tc_run.specs.Tasks.{built_in, does, outputs_on, going_from, looking_from}
 use Rattle.tc_run.specs.declared.bodies.Here.{Here}
 use Rattle.tc_run.specs.declared.bodies.Shape.{Shape}
@@ -36,9 +36,6 @@ module _ (r : Runner) (bodies : List Plain) (mode : ℕ) where
   abbrev of_children : ℕ → Node → Outcome
   of_children above n = outputs_on r bodies (children n) above (going_from (in_mode mode) all_children)
 
-  pub built_in_text : (h : Here) → h.shape ≡ shapes.Text → does r bodies (built_in mode (node h)) h ≡ within (put h.string.now)
-  built_in_text h e = ap (λ s. by_built_in h.above (node_of s h.string.now (bare (trees h.kids.now)))) e ∙ join_none (within (put h.string.now))
-
   children_by : (s : Shape) (string : List ℕ) (kids : Trees) (above : ℕ) → (s ≡ shapes.Text → ⊥) → by_built_in above (node_of s string kids) ≡ within (of_children above (node_of s string kids))
   children_by shapes.Root string kids above other = join_none (within (of_children above (whole kids)))
   children_by (shapes.Elem n) string kids above other = join_none (within (of_children above (one (an_element (name n) kids))))
@@ -47,14 +44,6 @@ module _ (r : Runner) (bodies : List Plain) (mode : ℕ) where
   pub built_in_children : (h : Here) → (h.shape ≡ shapes.Text → ⊥)
       → does r bodies (built_in mode (node h)) h ≡ within (outputs_on r bodies (children (node h)) h.above (going_from (in_mode mode) all_children))
   built_in_children h other = children_by h.shape h.string.now (bare (trees h.kids.now)) h.above other
-
-  deep_by : (above : ℕ) (n : Node) → 1 ≤ (by_built_in above n).nesting
-  deep_by above (whole doc) = omega arith
-  deep_by above (one (an_element n kids)) = omega arith
-  deep_by above (one (a_text s)) = omega arith
-
-  pub built_in_deep : (h : Here) → 1 ≤ (does r bodies (built_in mode (node h)) h).nesting
-  built_in_deep h = deep_by h.above (node h)
 
 -- some instruction
 abbrev HasOne : Body → Type 0
@@ -116,9 +105,6 @@ copy_root h a e = ap (λ s. copied (node_of s h.string.now (bare (trees h.kids.n
 
 pub copy_elem : (h : Here) (n : Name) (a : Outcome) → h.shape ≡ shapes.Elem n → copied (node h) a ≡ put_around (name n) a
 copy_elem h n a e = ap (λ s. copied (node_of s h.string.now (bare (trees h.kids.now))) a) e
-
-pub copy_text : (h : Here) (a : Outcome) → h.shape ≡ shapes.Text → copied (node h) a ≡ put h.string.now
-copy_text h a e = ap (λ s. copied (node_of s h.string.now (bare (trees h.kids.now))) a) e
 
 -- the value of what was found, or else none
 pub value_found : (found : Option (Bor (List ℕ))) (hit : Option Node) (x empty : Bor (List ℕ)) → Answered found hit → x ≡ unwrap_or found empty → empty.now ≡ [] → x.now ≡ value_of_first hit

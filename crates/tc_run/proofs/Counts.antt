@@ -1,22 +1,19 @@
 -- The numbers of states are in range.
-use Rattle.std.proofs.Common.{◌≡◌, ℕ, zero, suc, ◌+◌, ◌<◌, ◌≤◌, List, [], ◌∷◌, ◌++◌, refl, ap, ◌∙◌, sym, subst, map, take, length, Option, Some, None, slice_get, arith}
-use Rattle.std.proofs.lemmas.Option.{slice_get_within}
-use Rattle.tc_model.specs.Sheets.{Path, Sheet}
+use Rattle.std.proofs.Common.{◌≡◌, ℕ, zero, suc, ◌+◌, ◌<◌, ◌≤◌, List, [], ◌∷◌, ◌++◌, refl, ap, sym, map, take, length, Some, None, slice_get, arith}
+use Rattle.std.proofs.lemmas.Option.{same_Some, slice_get_within}
+use Rattle.tc_model.specs.Sheets.{Path}
 use Rattle.tc_model.specs.Numberings.{Move, moves_of, looks_of}
 use Rattle.tc_model.specs.PathStates.{State}
 use Rattle.tc_rules.specs.Graphs.{Graph}
 use Rattle.tc_rules.proofs.SelectStates.{count_cons}
-use Rattle.tc_rules.specs.Told.{Told, Block, blocks_of, count_states, select_count, move_count, IsStateOf}
+use Rattle.tc_rules.specs.Told.{Told, Block, count_states, select_count, move_count, IsStateOf}
 use Rattle.tc_run.specs.Tasks.{IsSomeMove, IsSomeLook}
-
-some_is : {X : Type 0} {a b : X} → Some a ≡ Some b → a ≡ b
-some_is e = cc
 
 -- the states of a graph are among all
 counted_all : (gs : List Graph) (i : ℕ) (g : Graph) → slice_get gs i ≡ Some g → count_states (take i gs) + length g.states ≤ count_states gs
 counted_all [] i g e = absurd (cc)
 counted_all (h ∷ gs) zero g e =
-    let same : length g.states ≡ length h.states = ap (λ (x : Graph). length x.states) (sym (some_is e)) in
+    let same : length g.states ≡ length h.states = ap (λ (x : Graph). length x.states) (sym (same_Some _ _ e)) in
     let all : count_states (h ∷ gs) ≡ length h.states + count_states gs = count_cons h gs in
     omega (arith, same, all)
 counted_all (h ∷ gs) (suc i) g e = omega (arith, counted_all gs i g e, count_cons h gs, count_cons h (take i gs))
@@ -26,7 +23,7 @@ counted_first : (gs : List Graph) (n i : ℕ) (g : Graph) → i < n → slice_ge
 counted_first [] n i g l e = absurd (cc)
 counted_first (h ∷ gs) zero i g l e = absurd (omega (arith, l))
 counted_first (h ∷ gs) (suc n) zero g l e =
-    let same : length g.states ≡ length h.states = ap (λ (x : Graph). length x.states) (sym (some_is e)) in
+    let same : length g.states ≡ length h.states = ap (λ (x : Graph). length x.states) (sym (same_Some _ _ e)) in
     let all : count_states (take (suc n) (h ∷ gs)) ≡ length h.states + count_states (take n gs) = count_cons h (take n gs) in
     omega (arith, same, all)
 counted_first (h ∷ gs) (suc n) (suc i) g l e = omega (arith, counted_first gs n i g (omega (arith, l)) e, count_cons h (take i gs), count_cons h (take n gs))
@@ -39,7 +36,7 @@ of_look p = record { path = p; mode = None }
 
 look_has_none : (ps : List Path) (i : ℕ) (b : Block) → slice_get (map of_look ps) i ≡ Some b → b.mode ≡ None
 look_has_none [] i b e = absurd (cc)
-look_has_none (p ∷ ps) zero b e = ap (λ (x : Block). x.mode) (sym (some_is e))
+look_has_none (p ∷ ps) zero b e = ap (λ (x : Block). x.mode) (sym (same_Some _ _ e))
 look_has_none (p ∷ ps) (suc i) b e = look_has_none ps i b e
 
 -- moves come first

@@ -1,10 +1,9 @@
 -- Where loops begin and end, and what stands around.
-use Rattle.std.proofs.Common.{◌≡◌, ℕ, ◌+◌, ◌<◌, ◌≤◌, List, refl, ap, ◌∙◌, sym, subst, drop, length, Result, Ok, Err, Bool, true, false, cond, arith}
+use Rattle.std.proofs.Common.{◌≡◌, ℕ, ◌+◌, ◌≤◌, List, refl, ap, ◌∙◌, sym, subst, drop, length, Result, Ok, Err}
 use Rattle.std.proofs.lemmas.List.{drop_all}
 use Rattle.std.specs.Prelude.{OnOk, IfErr}
-use Rattle.tc_model.specs.Machine.{Task, holds_in, does_in, takes_in}
 use Rattle.tc_model.specs.Names.{ExpandedName}
-use Rattle.tc_model.specs.Outcomes.{Outcome, nothing, join, put_around}
+use Rattle.tc_model.specs.Outcomes.{Outcome, join, put_around}
 use Rattle.tc_model.specs.Seen as see
 use Rattle.tc_model.specs.Sheets.{Body, no_instruction, Plain, p_done, Unfolds, u_done}
 use Rattle.tc_model.specs.Trees.{none, element, beside}
@@ -15,13 +14,12 @@ use Rattle.tc_run.specs.Running.{sheet_by}
 use Rattle.tc_run.specs.Spent.{Spends, IsPassed, Answers}
 use Rattle.tc_run.specs.Tasks.{does}
 use Rattle.tc_run.specs.declared.RunFault.{RunFault}
-use Rattle.tc_run.specs.declared.RunFault.TheVariants.{TooMuchWork, TooOpen, NoMemory}
+use Rattle.tc_run.specs.declared.RunFault.TheVariants.{NoMemory}
 use Rattle.tc_run.specs.declared.bodies.Here.{Here}
 use Rattle.tc_run.specs.declared.output.Output.{Output}
 use Rattle.tc_run.specs.declared.runner.Runner.{Runner}
 use Rattle.tc_run.proofs.Progress.{BodySoFar}
-use Rattle.tc_run.proofs.Putting.{spends_around, around_fails, enter_fails}
-use Rattle.tc_run.proofs.Spending.{Fails}
+use Rattle.tc_run.proofs.Putting.{spends_around}
 
 done_is : (named : List Body) (p : Plain) → Unfolds named no_instruction p → p ≡ p_done
 done_is named p u_done = refl
@@ -35,10 +33,7 @@ module _ (r : Runner) (bodies : List Plain) (h : Here) (nesting : ℕ) (p : Plai
       let e : s.rest ≡ p_done = done_is (sheet_by r).named s.rest (subst (λ b. Unfolds (sheet_by r).named b s.rest) empty s.of_rest) in
       subst (Spends nesting old now) (sym (s.whole ∙ (ap (λ w. join s.done (does r bodies w h)) e ∙ join_none s.done))) s.spent
 
--- going inside an element, and back outside
-pub not_entered : (around : ℕ) (x : Output) (e : RunFault) (n : ExpandedName) (o : Outcome) → (e ≡ TooMuchWork) × (4000000 < x.work + 1) → Fails around x e (put_around n o)
-not_entered around x e n o h = subst (λ z. Fails around x z (put_around n o)) (sym h.0) (enter_fails around x n o h.1)
-
+-- going back outside an element
 pub left_around : {T : Type 0} (around : ℕ) (x inside y z : Output) (n : ExpandedName) (o : Outcome) (before : List Node) (r : Result T RunFault)
     → before ≡ x.nodes.items → see.trees inside.nodes.items ≡ none → (inside.work ≡ x.work + 1) × (inside.work ≤ 4000000) → Spends around inside y o
     → OnOk r (see.trees z.nodes.items ≡ beside (see.trees before) (element n (see.trees y.nodes.items) none)) → OnOk r (z.work ≡ y.work) → IfErr r (λ e. e ≡ NoMemory)

@@ -13,6 +13,7 @@ use Rattle.tc_rules.specs.Asked.{letter}
 use Rattle.tc_rules.specs.declared.rules.Kind.TheVariants as kinds
 use Rattle.tc_rules.specs.declared.rules.Marks.{Marks}
 use Rattle.tc_rules.specs.States.{Looking}
+use Rattle.tc_rules.proofs.PathTold.{trees_have_letters}
 use Rattle.tc_run.specs.Lettered as l
 use Rattle.tc_run.specs.Lettered.{bare}
 use Rattle.tc_run.specs.Running.{IsLetteredBy, symbols_by, predicates_by, looking}
@@ -22,7 +23,6 @@ use Rattle.tc_run.specs.declared.letters.Letter.{Letter as LetterOf}
 use Rattle.tc_run.specs.declared.letters.Lettered.{Lettered, Elem, Text}
 use Rattle.tc_run.specs.declared.runner.Runner.{Runner}
 use Rattle.tc_run.proofs.Empty.{first_none}
-use Rattle.tc_run.proofs.LetterBounds.{letter_is}
 use Rattle.tc_run.proofs.OneTree.{none_last, text_at, element_at, first_beside}
 use Rattle.tc_run.proofs.Views.{before_elem, before_text, left_one}
 
@@ -30,13 +30,13 @@ module _ (r : Runner) (node : Lettered) (is_lettered : IsLetteredBy r (before no
   -- the letter of a tree is one
   pub text_letter : (s : Bor (List ℕ)) (m : Marks) → node ≡ Text s m → IsLetter (symbols_by r) (predicates_by r) (letter kinds.Text m)
   text_letter s m is =
-      subst (IsLetter (symbols_by r) (predicates_by r)) (sym (text_at r node s m l.none is_lettered is).letter_is) (letter_is (symbols_by r) (predicates_by r) (a_text s.now))
+      subst (IsLetter (symbols_by r) (predicates_by r)) (sym (text_at r node s m l.none is_lettered is).letter_is) (trees_have_letters (symbols_by r) (predicates_by r) (a_text s.now))
 
   pub element_letter : (n : Name) (x : LetterOf) (s : Bor (List ℕ)) (kids : Bor (List Lettered)) → node ≡ Elem n x s kids
       → IsLetter (symbols_by r) (predicates_by r) (letter (kinds.Elem x.sym) x.marks)
   element_letter n x s kids is =
       subst (IsLetter (symbols_by r) (predicates_by r)) (sym (element_at r node n x s kids l.none is_lettered is).letter_is)
-      (letter_is (symbols_by r) (predicates_by r) (an_element (name n) (bare (trees kids.now))))
+      (trees_have_letters (symbols_by r) (predicates_by r) (an_element (name n) (bare (trees kids.now))))
 
 module _ (r : Runner) (look : Looking) (node : Lettered) (is_lettered : IsLetteredBy r (before node l.none)) where
   -- in a text

@@ -1,27 +1,20 @@
 -- What a call hands on of what the calls inside it answer.
-use Rattle.std.proofs.Common.{◌≡◌, ℕ, ◌+◌, ◌<◌, ◌≤◌, max, refl, ap, ◌∙◌, sym, subst, Result, Ok, Err, arith}
+use Rattle.std.proofs.Common.{◌≡◌, ℕ, ◌+◌, ◌<◌, ◌≤◌, ap, sym, subst, Result, Ok, Err, arith}
 use Rattle.std.specs.Prelude.{IsErrAnd}
 use Rattle.tc_model.specs.Seen.{trees}
-use Rattle.tc_model.specs.Outcomes.{Outcome, nothing, join, within, counted, put_around}
-use Rattle.tc_model.specs.Names.{ExpandedName}
-use Rattle.tc_run.specs.Spent.{Spends, IsPassed, Answers}
+use Rattle.tc_model.specs.Outcomes.{Outcome, within, counted}
+use Rattle.tc_run.specs.Spent.{Answers}
 use Rattle.tc_run.specs.declared.RunFault.{RunFault}
-use Rattle.tc_run.specs.declared.RunFault.TheVariants.{TooMuchWork, TooOpen, NoMemory}
+use Rattle.tc_run.specs.declared.RunFault.TheVariants.{TooOpen}
 use Rattle.tc_run.specs.declared.output.Output.{Output}
-use Rattle.tc_run.proofs.Spending.{Fails, passed_more, answers_within, answers_counted, fails_counted, fails_count}
+use Rattle.tc_run.proofs.Spending.{Fails, answers_within, answers_counted}
 
 -- an error inside is that of the call
 pub handed : {T : Type 0} (around : ℕ) (x y : Output) (r : Result T RunFault) (e : RunFault) (o : Outcome) → IsErrAnd r (λ f. f ≡ e) → Fails around x e o → Answers around x y r o
 handed around x y (Ok v) e o h p = absurd h
 handed around x y (Err f) e o h p = subst (λ z. Fails around x z o) (sym h) p
 
--- there is no room for one more, or no more work
-pub open_counted : (around : ℕ) (x : Output) (e : RunFault) (a : Outcome) → (e ≡ TooOpen) × (8000 < around + 1) → Fails around x e (counted a)
-open_counted around x e a h = subst (λ z. Fails around x z (counted a)) (sym h.0) (fails_counted around x a h.1)
-
-pub work_counted : (around : ℕ) (x : Output) (e : RunFault) (a : Outcome) → (e ≡ TooMuchWork) × (4000000 < x.work + 1) → Fails around x e (counted a)
-work_counted around x e a h = subst (λ z. Fails around x z (counted a)) (sym h.0) (fails_count around x a h.1)
-
+-- there is no room for one more
 pub open_deep : (around : ℕ) (x : Output) (e : RunFault) (o : Outcome) → 1 ≤ o.nesting → (e ≡ TooOpen) × (8000 < around + 1) → Fails around x e o
 open_deep around x e o l h =
     let p : Fails around x TooOpen o = omega (arith, l, h.1) in

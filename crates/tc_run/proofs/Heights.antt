@@ -1,7 +1,5 @@
 -- What is left of trees is no higher than all of them, and children are lower.
-use Rattle.std.proofs.Common.{◌≡◌, ℕ, zero, suc, ◌+◌, ◌<◌, ◌≤◌, max, List, [], ◌∷◌, refl, ap, sym, subst, drop, Bor, arith}
-use Rattle.tc_model.specs.Seen.{name}
-use Rattle.tc_model.specs.declared.tree.Name.{Name}
+use Rattle.std.proofs.Common.{ℕ, zero, suc, ◌≤◌, List, [], ◌∷◌, sym, subst, drop, arith}
 use Rattle.tc_run.specs.Lettered as l
 use Rattle.tc_run.specs.Lettered.{bare}
 use Rattle.tc_run.specs.Seen.{before, trees}
@@ -35,15 +33,3 @@ left_no_higher [] zero = omega arith
 left_no_higher [] (suc i) = omega arith
 left_no_higher (n ∷ ns) zero = omega arith
 left_no_higher (n ∷ ns) (suc i) = omega (arith, left_no_higher ns i, no_lower n (trees ns))
-
--- the children of an element that is left
-pub children_lower : (ns : List Lettered) (i : ℕ) (n : Name) (y m : ℕ) (s : List ℕ) (kids rest : l.Lettered)
-    → trees (drop i ns) ≡ l.element (name n) y m s kids rest → height_of kids < height_of (trees ns)
-children_lower ns i n y m s kids rest e =
-    let at : height_of (trees (drop i ns)) ≡ max (suc (height_of kids)) (height_of rest) = ap height_of e in
-    omega (arith, at, left_no_higher ns i)
-
-pub text_lower : (ns : List Lettered) (i : ℕ) (s : List ℕ) (m : ℕ) (rest : l.Lettered) → trees (drop i ns) ≡ l.text s m rest → 0 < height_of (trees ns)
-text_lower ns i s m rest e =
-    let at : height_of (trees (drop i ns)) ≡ max 1 (height_of rest) = ap height_of e in
-    omega (arith, at, left_no_higher ns i)

@@ -1,70 +1,55 @@
 -- What a move puts out where it selects a node, and where it does not.
-use Rattle.std.proofs.Common.{◌≡◌, ℕ, ◌+◌, ◌<◌, ◌≤◌, List, [], refl, ap, ◌∙◌, sym, subst, Bool, true, false, cond, drop, length, get_or, Option, Some, None, Bor, Result, Ok, Err, arith}
+use Rattle.std.proofs.Common.{◌≡◌, ℕ, ◌+◌, ◌<◌, ◌≤◌, List, ap, ◌∙◌, sym, subst, Bool, true, false, cond, drop, length, get_or, Some, Bor}
+use Rattle.std.proofs.lemmas.Option.{same_Some}
 use Rattle.std.proofs.lemmas.List.{drop_all}
-use Rattle.tc_model.specs.Chains.{Tree, an_element, a_text, Node, one, children}
-use Rattle.tc_model.specs.Letters.{Letter, letter_of, IsLetter, of_symbol, of_text}
-use Rattle.tc_model.specs.Machine.{Task, does_in, outputs}
+use Rattle.tc_model.specs.Chains.{Tree, an_element, a_text, one}
+use Rattle.tc_model.specs.Letters.{Letter, letter_of, IsLetter, of_symbol}
+use Rattle.tc_model.specs.Machine.{Task, does_in}
 use Rattle.tc_model.specs.Names.{ExpandedName}
 use Rattle.tc_model.specs.Outcomes.{Outcome, nothing, join, counted}
-use Rattle.tc_model.specs.PathStates.{State, is_empty_state, first_state}
-use Rattle.tc_model.specs.Seen.{name}
+use Rattle.tc_model.specs.PathStates.{State, first_state}
 use Rattle.tc_model.specs.Sheets.{Path, Plain}
 use Rattle.tc_model.specs.Symbols.{Mention}
 use Rattle.tc_model.specs.Trees as t
-use Rattle.tc_model.specs.declared.tree.Name.{Name}
 use Rattle.tc_model.proofs.TotalJoin.{join_none}
-use Rattle.tc_rules.specs.Asked.{letter}
-use Rattle.tc_rules.specs.Jobs.{IsJob}
 use Rattle.tc_rules.specs.Kept.{IsRulesOf}
 use Rattle.tc_rules.specs.Seen.{mode_of}
 use Rattle.tc_rules.specs.States.{Going, built_in_at}
 use Rattle.tc_rules.specs.Told.{Block, IsStateOf, ancestor, is_hit_of, select_below}
-use Rattle.tc_rules.specs.declared.rules.Kind.{Kind}
-use Rattle.tc_rules.specs.declared.rules.Kind.TheVariants as kinds
-use Rattle.tc_rules.specs.declared.rules.Marks.{Marks}
 use Rattle.tc_rules.specs.declared.walk.Job.{Job}
+use Rattle.tc_rules.proofs.PathTold.{trees_have_letters}
 use Rattle.tc_run.specs.Lettered as l
 use Rattle.tc_run.specs.Lettered.{bare}
-use Rattle.tc_run.specs.Running.{IsRunner, IsLetteredBy, told_by, sheet_by, symbols_by, predicates_by, machine}
+use Rattle.tc_run.specs.Running.{IsRunner, told_by, sheet_by, symbols_by, predicates_by, machine}
 use Rattle.tc_run.specs.Seen.{before, trees, node}
-use Rattle.tc_run.specs.Spent.{Spends, Answers}
+use Rattle.tc_run.specs.Spent.{Spends}
 use Rattle.tc_run.specs.Tasks.{IsTaskOf, IsMoveAt, IsSomeMove, built_in, does, outputs_on, going_from}
-use Rattle.tc_run.specs.declared.RunFault.{RunFault}
 use Rattle.tc_run.specs.declared.bodies.Here.{Here}
-use Rattle.tc_run.specs.declared.letters.Letter.{Letter as LetterOf}
-use Rattle.tc_run.specs.declared.letters.Lettered.{Lettered, Elem, Text}
+use Rattle.tc_run.specs.declared.letters.Lettered.{Lettered}
 use Rattle.tc_run.specs.declared.output.Output.{Output}
 use Rattle.tc_run.specs.declared.runner.Runner.{Runner}
-use Rattle.tc_run.proofs.LetterBounds.{letter_is}
 use Rattle.tc_run.proofs.Nodes.{here_text}
-use Rattle.tc_run.proofs.OneTree.{text_at, element_at, outputs_beside}
-use Rattle.tc_run.proofs.Spending.{Fails, spends_nothing}
-use Rattle.tc_run.proofs.Views.{before_elem, before_text, left_one}
-
-some_is : {X : Type 0} {a b : X} → Some a ≡ Some b → a ≡ b
-some_is e = cc
+use Rattle.tc_run.proofs.OneTree.{outputs_beside}
+use Rattle.tc_run.proofs.Spending.{spends_nothing}
+use Rattle.tc_run.proofs.Views.{left_one}
 
 module _ (r : Runner) where
   -- a letter of a tree is one
   pub is_letter : (x : Letter) (tree : Tree) → x ≡ letter_of (symbols_by r) (predicates_by r) tree → IsLetter (symbols_by r) (predicates_by r) x
-  is_letter x tree e = subst (IsLetter (symbols_by r) (predicates_by r)) (sym e) (letter_is (symbols_by r) (predicates_by r) tree)
+  is_letter x tree e = subst (IsLetter (symbols_by r) (predicates_by r)) (sym e) (trees_have_letters (symbols_by r) (predicates_by r) tree)
 
   -- the job and the task of a state of a move
   pub task_is : (k : ℕ) (g : Going) (job : Job) → (at : IsMoveAt (told_by r) k g)
       → ((symbols : List Mention) (b : Block) (x : State) → IsRulesOf symbols r.rules.now → IsStateOf (told_by r) k b x → b.mode ≡ Some (mode_of (sheet_by r).modes job))
       → IsRunner r → IsTaskOf (sheet_by r) (mode_of (sheet_by r).modes job) g.task
   task_is k g job at ens is =
-      subst (λ m. IsTaskOf (sheet_by r) m g.task) (some_is (ens (symbols_by r) (record { path = g.path; mode = Some at.mode }) g.state is at.state)) at.task
+      subst (λ m. IsTaskOf (sheet_by r) m g.task) (same_Some _ _ (ens (symbols_by r) (record { path = g.path; mode = Some at.mode }) g.state is at.state)) at.task
 
   -- whether it selects a node
   pub hit_is : (k : ℕ) (g : Going) (x : Letter) (b : Bool) → (at : IsMoveAt (told_by r) k g) → IsRunner r → IsLetter (symbols_by r) (predicates_by r) x
       → ((symbols : List Mention) (w : Block) (y : State) → IsRulesOf symbols r.rules.now → IsLetter symbols (predicates_by r) x → IsStateOf (told_by r) k w y → b ≡ is_hit_of symbols (told_by r) w y x)
       → (bodies : List Plain) → b ≡ (machine r bodies).move_hits g x
   hit_is k g x b at is lx ens bodies = ens (symbols_by r) (record { path = g.path; mode = Some at.mode }) g.state is lx at.state
-
-  -- the first state of a move
-  pub first_move : (k : ℕ) (p : Path) (mode : ℕ) → IsStateOf (told_by r) k (record { path = p; mode = Some mode }) (first_state p) → IsSomeMove (told_by r) k
-  first_move k p mode s = record { path = p; mode = mode; state = first_state p; at = s }
 
   pub first_going : (k : ℕ) (p : Path) (mode : ℕ) (j : Task) → IsStateOf (told_by r) k (record { path = p; mode = Some mode }) (first_state p) → IsTaskOf (sheet_by r) mode j
       → IsMoveAt (told_by r) k (going_from j p)
@@ -104,30 +89,26 @@ module _ (r : Runner) where
         let hit : Outcome = counted (does_in m (m.body_at g.task (ancestor (told_by r) above) x) (one (a_text s)) (λ i u. nothing)) in
         text_outs s x b e h ∙ ap (λ c. cond c hit nothing) f
 
-    pub text_met : (s : Bor (List ℕ)) (kids : Bor (List Lettered)) (x : Letter) (b : Bool) → kids.now ≡ [] → x ≡ letter_of (symbols_by r) (predicates_by r) (a_text s.now)
+    pub text_met : (s : Bor (List ℕ)) (kids : Bor (List Lettered)) (x : Letter) (b : Bool) → x ≡ letter_of (symbols_by r) (predicates_by r) (a_text s.now)
         → b ≡ (machine r bodies).move_hits g x → b ≡ true
         → outputs_on r bodies (t.text s.now t.none) above g
         ≡ counted (does r bodies ((machine r bodies).body_at g.task (ancestor (told_by r) above) x) (here_text s kids above))
-    text_met s kids x b empty e h f = text_outs s.now x b e h ∙ ap (λ c. cond c (counted (does r bodies ((machine r bodies).body_at g.task (ancestor (told_by r) above) x) (here_text s kids above))) nothing) f
-
-    -- one text alone
-    pub outs_of_text : (x : Lettered) (s : Bor (List ℕ)) (m : Marks) → x ≡ Text s m → outputs_on r bodies (bare (before x l.none)) above g ≡ outputs_on r bodies (t.text s.now t.none) above g
-    outs_of_text x s m is = ap (λ z. outputs_on r bodies (bare (before z l.none)) above g) is ∙ ap (λ z. outputs_on r bodies (bare z) above g) (before_text s m l.none)
+    text_met s kids x b e h f = text_outs s.now x b e h ∙ ap (λ c. cond c (counted (does r bodies ((machine r bodies).body_at g.task (ancestor (told_by r) above) x) (here_text s kids above))) nothing) f
 
     -- the tree that comes next in a loop
     pub outs_next : (ns : List Lettered) (i : ℕ) (x : Lettered) → i < length ns → x ≡ get_or ns i x
         → outputs_on r bodies (bare (trees (drop i ns))) above g ≡ join (outputs_on r bodies (bare (before x l.none)) above g) (outputs_on r bodies (bare (trees (drop (i + 1) ns))) above g)
     outs_next ns i x h e = ap (λ z. outputs_on r bodies (bare z) above g) (left_one ns i x h e) ∙ outputs_beside r bodies above g x (trees (drop (i + 1) ns))
 
-  -- on an element
-  pub missed : (b : Bool) (o : Outcome) → b ≡ false → cond b o nothing ≡ nothing
-  missed b o f = ap (λ c. cond c o nothing) f
+-- on an element
+pub missed : (b : Bool) (o : Outcome) → b ≡ false → cond b o nothing ≡ nothing
+missed b o f = ap (λ c. cond c o nothing) f
 
-  pub met : (b : Bool) (o : Outcome) → b ≡ true → cond b o nothing ≡ o
-  met b o f = ap (λ c. cond c o nothing) f
+pub met : (b : Bool) (o : Outcome) → b ≡ true → cond b o nothing ≡ o
+met b o f = ap (λ c. cond c o nothing) f
 
-  pub element_built_in : (h : Here) (n : ExpandedName) (kids : t.Trees) (k : ℕ) → node h ≡ one (an_element n kids) → (i : ℕ) → built_in_at i (of_symbol k) ≡ built_in i (node h)
-  element_built_in h n kids k e i = ap (built_in i) (sym e)
+pub element_built_in : (h : Here) (n : ExpandedName) (kids : t.Trees) (k : ℕ) → node h ≡ one (an_element n kids) → (i : ℕ) → built_in_at i (of_symbol k) ≡ built_in i (node h)
+element_built_in h n kids k e i = ap (built_in i) (sym e)
 
 -- none is left
 pub no_tree_left : (ns : List Lettered) (i : ℕ) → length ns ≤ i → bare (trees (drop i ns)) ≡ t.none

@@ -1,7 +1,7 @@
 -- One instruction by its form: what it is as plain data, and its parts.
-use Rattle.std.proofs.Common.{◌≡◌, ℕ, ◌+◌, ◌<◌, List, refl, ap, ◌∙◌, sym, subst, length, Bor}
+use Rattle.std.proofs.Common.{◌≡◌, ℕ, ◌+◌, ◌<◌, List, ap, ◌∙◌, subst, length, Bor}
 use Rattle.std.specs.List.{Contains}
-use Rattle.tc_model.specs.Numberings.{moves_of, looks_of}
+use Rattle.tc_model.specs.Numberings.{moves_of}
 use Rattle.tc_model.specs.Seen as see
 use Rattle.tc_model.specs.Sheets.{Sheet, Body, no_instruction, put_text, put_element, copy, apply, call, for_each, value, value_of_self, choose, otherwise}
 use Rattle.tc_model.specs.WellFormed.{eaches_of}
@@ -43,8 +43,6 @@ choose_seen i bs b is = ap alone is ∙ see_choose bs b no_instruction
 pub for_each_seen : (i : Instr) (n : ℕ) (p : Path) (b : Bor (List Instr)) → i ≡ v.ForEach n p b → see.instruction i no_instruction ≡ for_each n (see.path p) (see.body b.now) no_instruction
 for_each_seen i n p b is = ap alone is ∙ see_for_each n p b no_instruction
 
-pub ruleset seen = (text_seen, self_seen, elem_seen, copy_seen, apply_seen, call_seen, value_of_seen, choose_seen, for_each_seen)
-
 module _ (x : Sheet) where
   pub elem_part : (i : Instr) (n : Name) (b : Bor (List Instr)) → i ≡ v.Elem n b → IsPart x (see.instruction i no_instruction) → IsPart x (see.body b.now)
   elem_part i n b is h = (subst (IsPart x) (elem_seen i n b is) h).0
@@ -58,15 +56,8 @@ module _ (x : Sheet) where
   pub call_part : (i : Instr) (n : ℕ) → i ≡ v.Call n → IsPart x (see.instruction i no_instruction) → n < length x.named
   call_part i n is h = (subst (IsPart x) (call_seen i n is) h).0
 
-  pub value_of_part : (i : Instr) (p : Path) → i ≡ v.ValueOf p → IsPart x (see.instruction i no_instruction) → Contains (looks_of x) (see.path p)
-  value_of_part i p is h = (subst (IsPart x) (value_of_seen i p is) h).0
-
   pub choose_part : (i : Instr) (bs : Bor (List Branch)) (b : Bor (List Instr)) → i ≡ v.Choose bs b → IsPart x (see.instruction i no_instruction) → ArePartBranches x (see.branches bs.now (otherwise (see.body b.now)))
   choose_part i bs b is h = (subst (IsPart x) (choose_seen i bs b is) h).0
 
   pub for_each_part : (i : Instr) (n : ℕ) (p : Path) (b : Bor (List Instr)) → i ≡ v.ForEach n p b → IsPart x (see.instruction i no_instruction) → Contains (moves_of x) (record { path = see.path p; mode = x.modes + n }) × Contains (eaches_of x) (record { number = n; path = see.path p; body = see.body b.now })
   for_each_part i n p b is h = let k = subst (IsPart x) (for_each_seen i n p b is) h in (k.0, k.1)
-
-  -- the body of a for-each too
-  pub each_part_body : (i : Instr) (n : ℕ) (p : Path) (b : Bor (List Instr)) → i ≡ v.ForEach n p b → IsPart x (see.instruction i no_instruction) → IsPart x (see.body b.now)
-  each_part_body i n p b is h = (subst (IsPart x) (for_each_seen i n p b is) h).2

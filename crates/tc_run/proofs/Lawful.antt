@@ -12,16 +12,9 @@ use Rattle.tc_model.specs.WellFormed.{IsBody, AreBranches, IsRule, IsSheet}
 use Rattle.tc_model.specs.Safety.{IsResultOf}
 use Rattle.tc_model.proofs.XmlTextChars.{join_chars, no_chars}
 use Rattle.tc_model.proofs.XmlTextDocument.{joined_lawful, dropped_lawful}
-use Rattle.tc_alpha.proofs.Members.{Every, every_append, every_from_all}
+use Rattle.tc_alpha.proofs.Members.{Every, every_append, every_from_all, every_member}
 use Rattle.tc_run.specs.Lawful.{HasLawfulResults}
-
-some_is : {X : Type 0} {a b : X} → Some a ≡ Some b → a ≡ b
-some_is e = cc
-
-every_at : {X : Type 0} (P : X → Type 0) (xs : List X) (i : ℕ) (x : X) → Every P xs → slice_get xs i ≡ Some x → P x
-every_at P [] i x a e = absurd (cc)
-every_at P (y ∷ xs) zero x a e = subst P (some_is e) a.0
-every_at P (y ∷ xs) (suc i) x a e = every_at P xs i x a.1 e
+use Rattle.tc_run.proofs.Members.{has_got}
 
 beside_lawful : (h k : Trees) → AreLawful h → AreLawful k → AreLawful (beside h k)
 beside_lawful none k l m = m
@@ -138,7 +131,7 @@ module _ (s : Sheet) (is : IsSheet s) where
     does_lawful (does_copy {c} {k} {h} o e d) i l = beside_lawful (copied (node_of c) k).out h.out (copied_lawful (node_of c) k l (does_lawful e i.0 l)) (does_lawful d i.1 l)
     does_lawful (does_copy_text {c} {x} {h} e d) i l = beside_lawful (put x).out h.out (put_lawful x (subst IsLawfulNode e l).1) (does_lawful d i.1 l)
     does_lawful (does_apply {p} {c} {k} {h} e d) i l = beside_lawful k.out h.out (each_lawful e i.1 (selected_lawful p c l)) (does_lawful d i.2 l)
-    does_lawful (does_call {k} {h} b at e d) i l = beside_lawful k.out h.out (does_lawful e (every_at (IsBody s) s.named _ b (every_from_all (IsBody s) s.named is.named) at) l) (does_lawful d i.1 l)
+    does_lawful (does_call {k} {h} b at e d) i l = beside_lawful k.out h.out (does_lawful e (every_member (IsBody s) s.named b (every_from_all (IsBody s) s.named is.named) (has_got s.named _ b at)) l) (does_lawful d i.1 l)
     does_lawful (does_value {p} {c} {h} d) i l = beside_lawful _ h.out (put_lawful _ (first_lawful (selected p c) (selected_lawful p c l))) (does_lawful d i.1 l)
     does_lawful (does_self {c} {h} d) i l = beside_lawful _ h.out (put_lawful _ (string_lawful (node_of c) l)) (does_lawful d i l)
     does_lawful (does_for_each {p} {c} {k} {h} e d) i l = beside_lawful k.out h.out (each_lawful e i.2 (selected_lawful p c l)) (does_lawful d i.3 l)

@@ -8,7 +8,7 @@ pub mod PartsOf
 pub mod Looking
 pub mod Counts
 pub mod Marking
-pub mod LetterBounds
+pub mod Members
 pub mod RuleOf
 pub mod Empty
 pub mod Lawful

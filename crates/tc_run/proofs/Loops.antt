@@ -1,11 +1,11 @@
 -- One step further in the loops over instructions and over nodes.
-use Rattle.std.proofs.Common.{◌≡◌, ℕ, ◌+◌, List, refl, ap, ◌∙◌, sym, subst, cond, Result, Ok, Err}
+use Rattle.std.proofs.Common.{◌≡◌, ℕ, List, ap, ◌∙◌, sym, subst, cond}
 use Rattle.tc_model.specs.Names.{ExpandedName}
-use Rattle.tc_model.specs.Trees.{Trees, none, text, element}
+use Rattle.tc_model.specs.Trees.{Trees, none, element}
 use Rattle.tc_model.specs.Chains.{an_element, Node, one, children}
 use Rattle.tc_model.specs.Sheets.{Body, Plain, Unfolds, no_instruction}
 use Rattle.tc_model.specs.Outcomes.{Outcome, nothing, join, counted}
-use Rattle.tc_model.specs.Machine.{Task, does_in, outputs}
+use Rattle.tc_model.specs.Machine.{does_in, outputs}
 use Rattle.tc_model.specs.Letters.{Letter, letter_of}
 use Rattle.tc_model.specs.PathStates.{State}
 use Rattle.tc_model.specs.Seen as see
@@ -15,24 +15,17 @@ use Rattle.tc_rules.specs.States.{Going}
 use Rattle.tc_rules.specs.Told.{ancestor}
 use Rattle.tc_run.specs.Running.{told_by, sheet_by, symbols_by, predicates_by, machine}
 use Rattle.tc_run.specs.Seen.{node}
-use Rattle.tc_run.specs.Spent.{Spends, IsPassed, Answers}
+use Rattle.tc_run.specs.Spent.{Spends}
 use Rattle.tc_run.specs.Tasks.{does, outputs_on}
 use Rattle.tc_run.specs.declared.RunFault.{RunFault}
 use Rattle.tc_run.specs.declared.bodies.Here.{Here}
 use Rattle.tc_run.specs.declared.output.Output.{Output}
 use Rattle.tc_run.specs.declared.runner.Runner.{Runner}
-use Rattle.tc_run.proofs.Plains.{Halves, first_instruction, plain_then, does_then}
+use Rattle.tc_run.proofs.Plains.{Halves, first_instruction, does_then}
 use Rattle.tc_run.proofs.Progress.{BodySoFar, HitsSoFar}
-use Rattle.tc_run.proofs.Spending.{Fails, spends_nothing, spends_both, fails_first, fails_then}
+use Rattle.tc_run.proofs.Spending.{Fails, spends_both, fails_first, fails_then}
 
 module _ (r : Runner) (bodies : List Plain) where
-  -- a text, and what stands beside it
-  pub text_first : (above : ℕ) (g : Going) (x : List ℕ) (rest : Trees)
-      → outputs_on r bodies (text x rest) above g ≡ join (outputs_on r bodies (text x none) above g) (outputs_on r bodies rest above g)
-  text_first above g x rest =
-      let after = outputs_on r bodies rest above g in
-      sym (join_assoc _ nothing after ∙ ap (join _) (none_join after))
-
   -- an element, its children, and what stands beside it
   pub element_first : (above : ℕ) (g : Going) (h : Here) (n : ExpandedName) (kids rest : Trees) (l : Letter)
       → node h ≡ one (an_element n kids) → l ≡ letter_of (symbols_by r) (predicates_by r) (an_element n kids)

@@ -22,6 +22,7 @@ use Rattle.tc_run.specs.declared.letters.Lettered.{Lettered, Elem, Text}
 use Rattle.tc_run.specs.declared.runner.Runner.{Runner}
 use Rattle.tc_run.specs.Parts.{IsPartTest}
 use Rattle.tc_run.proofs.Looking.{marks_by_looks}
+use Rattle.tc_run.proofs.Members.{has_got}
 use Rattle.tc_run.proofs.PartsOf.{predicate_part}
 use Rattle.tc_run.proofs.Views.{before_elem, before_text}
 
@@ -52,7 +53,7 @@ pub marks_step : (f : Test → Bool) (ps : List Test) (i : ℕ) (w : Test) → s
     → marks_of (map f (drop i ps)) ≡ (if f w then 1 else 0) + 2 * marks_of (map f (drop (i + 1) ps))
 marks_step f ps i w e = ap (λ xs. marks_of (map f xs)) (drop_at ps i w e)
 
-pub marks_few : (bs : List Bool) → marks_of bs < 2 ^ length bs
+marks_few : (bs : List Bool) → marks_of bs < 2 ^ length bs
 marks_few [] = omega arith
 marks_few (true ∷ bs) = by (length bs) (marks_of bs) (marks_few bs)
   where
@@ -95,13 +96,5 @@ marks_low r is f n m e =
     let few : length (predicates_by r) ≤ 6 = subst (λ ps. length ps ≤ 6) is.tells.predicates_are is.tells.few_predicates in
     omega (arith, e, marks_small f (predicates_by r) n few)
 
-some_is : {X : Type 0} {a b : X} → Some a ≡ Some b → a ≡ b
-some_is e = cc
-
-has_slice : {X : Type 0} (xs : List X) (i : ℕ) (y : X) → slice_get xs i ≡ Some y → Has xs y
-has_slice [] i y e = absurd (cc)
-has_slice (x ∷ xs) zero y e = inl (some_is e)
-has_slice (x ∷ xs) (suc i) y e = inr (has_slice xs i y e)
-
 pub predicate_is_part : (r : Runner) (i : ℕ) (w : Test) → slice_get (predicates_by r) i ≡ Some w → IsPartTest (sheet_by r) w
-predicate_is_part r i w e = predicate_part (sheet_by r) w (has_slice (predicates_by r) i w e)
+predicate_is_part r i w e = predicate_part (sheet_by r) w (has_got (predicates_by r) i w e)

@@ -1,12 +1,12 @@
 -- What is meant on a node, and that it is part of the stylesheet.
-use Rattle.std.proofs.Common.{◌≡◌, ℕ, ◌+◌, ◌<◌, List, refl, ap, ◌∙◌, sym, subst, length, map, Option, Some, None, option_map, slice_get, get_or, Bor, Contains, arith}
+use Rattle.std.proofs.Common.{◌≡◌, ℕ, ◌+◌, ◌<◌, List, refl, ap, ◌∙◌, sym, subst, length, map, Option, Some, option_map, slice_get, get_or, Bor, Contains, arith}
 use Rattle.std.proofs.lemmas.Option.{slice_get-map, slice_get-get_or}
 use Rattle.std.proofs.lemmas.List.{length-map}
 use Rattle.std.specs.Prelude.{IfSome, pos, []}
 use Rattle.tc_model.specs.declared.sheet.Pattern.TheVariants.{Root}
-use Rattle.tc_model.specs.Chains.{Node, an_element, a_text, one}
-use Rattle.tc_model.specs.Letters.{Letter, Kind, of_symbol, of_text}
-use Rattle.tc_model.specs.Machine.{Task, in_mode, in_body}
+use Rattle.tc_model.specs.Chains.{Node}
+use Rattle.tc_model.specs.Letters.{Letter}
+use Rattle.tc_model.specs.Machine.{Task}
 use Rattle.tc_model.specs.PathStates.{State}
 use Rattle.tc_model.specs.RuleStates.{IsRuleOf, fits_below}
 use Rattle.tc_model.specs.Seen as see
@@ -23,12 +23,13 @@ use Rattle.tc_rules.specs.Kept.{IsRulesOf}
 use Rattle.tc_rules.specs.States.{Chosen, chosen, plain_of, built_in_at}
 use Rattle.tc_run.specs.Parts.{IsPart}
 use Rattle.tc_run.specs.Running.{IsRunner, HasBodies, sheet_by, symbols_by, predicates_by, machine}
-use Rattle.tc_run.specs.Tasks.{IsTaskOf, IsMeant, IsPartMeant, built_in}
+use Rattle.tc_run.specs.Tasks.{IsTaskOf, IsMeant, built_in}
 use Rattle.tc_run.specs.declared.bodies.Meant.{Meant}
 use Rattle.tc_run.specs.declared.bodies.Meant.TheVariants as m
 use Rattle.tc_run.specs.declared.runner.Runner.{Runner}
+use Rattle.tc_run.proofs.Members.{has_got}
 use Rattle.tc_run.proofs.PartsOf.{rule_part, named_part, each_part}
-use Rattle.tc_run.proofs.RuleOf.{has_got, chosen_number, none_chosen, rule_chosen, mode_task, each_task}
+use Rattle.tc_run.proofs.RuleOf.{chosen_number, rule_chosen, mode_task, each_task}
 
 -- what stands past the end of a list of rules
 abbrev pub no_rule : RuleOf
@@ -69,12 +70,6 @@ module _ (s : List Body) (n : Node) where
   meant_built_in w mode p e h = subst (λ v. IsMeant s n v p) e h
 
 module _ (r : Runner) where
-  pub part_body : (w : Meant) (b : Bor (List Instr)) → w ≡ m.Body b → IsPartMeant (sheet_by r) w → IsPart (sheet_by r) (see.body b.now)
-  part_body w b e h = subst (IsPartMeant (sheet_by r)) e h
-
-  pub part_built_in : (w : Meant) (mode : ℕ) → w ≡ m.BuiltIn mode → IsPartMeant (sheet_by r) w → mode < (sheet_by r).modes
-  part_built_in w mode e h = subst (IsPartMeant (sheet_by r)) e h
-
   module _ (is : IsRunner r) where
     pub rule_part_at : (i : ℕ) (x : RuleOf) → slice_get (sheet_by r).rules i ≡ Some (see.rule x) → IsPart (sheet_by r) (see.body x.body.now)
     rule_part_at i x e = rule_part (sheet_by r) is.tells.well_formed (see.rule x) (has_got (sheet_by r).rules i (see.rule x) e)

@@ -1,25 +1,20 @@
 -- What is left to go deeper becomes less at each call.
-use Rattle.std.proofs.Common.{◌≡◌, ℕ, suc, ◌+◌, ◌*◌, ◌-◌, ◌<◌, ◌≤◌, max, List, [], refl, ap, ◌∙◌, sym, subst, drop, length, get_or, Bor, arith}
-use Rattle.tc_model.specs.Seen.{name}
+use Rattle.std.proofs.Common.{◌≡◌, ℕ, suc, ◌+◌, ◌<◌, ◌≤◌, max, List, ap, ◌∙◌, drop, length, get_or, Bor, arith}
 use Rattle.tc_model.specs.Trees as t
 use Rattle.tc_model.specs.declared.tree.Name.{Name}
-use Rattle.tc_rules.specs.declared.rules.Marks.{Marks}
 use Rattle.tc_run.specs.Lettered as l
 use Rattle.tc_run.specs.Lettered.{bare}
 use Rattle.tc_run.specs.Seen.{before, trees}
 use Rattle.tc_run.specs.declared.letters.Letter.{Letter as LetterOf}
-use Rattle.tc_run.specs.declared.letters.Lettered.{Lettered, Elem, Text}
+use Rattle.tc_run.specs.declared.letters.Lettered.{Lettered, Elem}
 use Rattle.tc_run.proofs.Heights.{height_of, left_no_higher}
 use Rattle.tc_run.proofs.OneTree.{one_no_higher}
-use Rattle.tc_run.proofs.Progress.{height, left_at}
-use Rattle.tc_run.proofs.Views.{before_elem, before_text, left_one}
+use Rattle.tc_run.proofs.Progress.{left_at}
+use Rattle.tc_run.proofs.Views.{before_elem, left_one}
 
 -- one body or instruction deeper
 pub deeper_less : (around n : ℕ) (h : t.Trees) (rank more : ℕ) → (n ≡ around + 1) × (n ≤ 8000) → rank < 16 + more → left_at n h rank < left_at around h more
 deeper_less around n h rank more d l = omega (arith, d.0, d.1, l)
-
-pub rank_less : (n : ℕ) (h : t.Trees) (rank more : ℕ) → rank < more → left_at n h rank < left_at n h more
-rank_less n h rank more l = omega (arith, l)
 
 -- in one tree of some
 pub tree_less : (n : ℕ) (ns : List Lettered) (i : ℕ) (x : Lettered) → i < length ns → x ≡ get_or ns i x → left_at n (bare (before x l.none)) 0 < left_at n (bare (trees ns)) 1
@@ -28,12 +23,7 @@ tree_less n ns i x h e =
     let low : height_of (before x l.none) ≤ height_of (trees ns) = omega (arith, at, left_no_higher ns i, one_no_higher x (trees (drop (i + 1) ns))) in
     omega (arith, low)
 
--- in a text, and below an element
-pub text_less : (n : ℕ) (x : Lettered) (s : Bor (List ℕ)) (m : Marks) (rank : ℕ) → x ≡ Text s m → rank < 16 → left_at n t.none rank < left_at n (bare (before x l.none)) 0
-text_less n x s m rank is h =
-    let at : height_of (before x l.none) ≡ max 1 0 = ap (λ y. height_of (before y l.none)) is ∙ ap height_of (before_text s m l.none) in
-    omega (arith, at, h)
-
+-- below an element
 pub below_less : (n : ℕ) (x : Lettered) (m : Name) (y : LetterOf) (s : Bor (List ℕ)) (kids : Bor (List Lettered)) (rank : ℕ) → x ≡ Elem m y s kids → rank < 16
     → left_at n (bare (trees kids.now)) rank < left_at n (bare (before x l.none)) 0
 below_less n x m y s kids rank is h =

@@ -1,5 +1,5 @@
 -- The current node: what is kept of it is right, and what a body puts out on it.
-use Rattle.std.proofs.Common.{◌≡◌, ℕ, zero, suc, ◌+◌, ◌<◌, List, [], ◌∷◌, refl, ap, ◌∙◌, sym, subst, length, cond, Some, slice_get, get_or, Bor}
+use Rattle.std.proofs.Common.{◌≡◌, ℕ, ◌<◌, List, [], refl, ap, ◌∙◌, length, cond, Some, slice_get, Bor}
 use Rattle.std.proofs.lemmas.Option.{get_or_from_slice_get, slice_get_within}
 use Rattle.tc_model.specs.Chains as c
 use Rattle.tc_model.specs.Machine.{Task, does_in, does_at, outputs}
@@ -12,7 +12,7 @@ use Rattle.tc_model.specs.declared.tree.Name.{Name}
 use Rattle.tc_rules.specs.Asked.{letter}
 use Rattle.tc_rules.specs.declared.rules.Kind.TheVariants as kinds
 use Rattle.tc_rules.specs.States.{Going}
-use Rattle.tc_rules.specs.Told.{ancestor, ancestor_below}
+use Rattle.tc_rules.specs.Told.{ancestor}
 use Rattle.tc_run.specs.Lettered as l
 use Rattle.tc_run.specs.Lettered.{bare}
 use Rattle.tc_run.specs.Running.{IsLetteredBy, told_by, sheet_by, symbols_by, predicates_by, machine}
@@ -42,16 +42,6 @@ module _ (r : Runner) where
   pub is_here_elem : (n : Name) (x : LetterOf) (s : Bor (List ℕ)) (kids : Bor (List Lettered)) (rest : l.Lettered) (above : ℕ)
       → ElementAt r n x s kids rest → above < length (told_by r).ancestors.states → IsHere r (here_elem n s kids above)
   is_here_elem n x s kids rest above a h = record { kids = a.kids_are; children_are = refl; string = a.string_is; above = h }
-
-  -- a text has no children
-  pub is_here_text : (s : Bor (List ℕ)) (kids : Bor (List Lettered)) (above : ℕ) → kids.now ≡ [] → above < length (told_by r).ancestors.states → IsHere r (here_text s kids above)
-  is_here_text s kids above e h =
-      record {
-        kids = subst (λ ns. IsLetteredBy r (trees ns)) (sym e) refl;
-        children_are = ap (λ ns. bare (trees ns)) e;
-        string = refl;
-        above = h;
-      }
 
   pub is_here_root : (s : Bor (List ℕ)) (kids : Bor (List Lettered)) (above : ℕ) → IsLetteredBy r (trees kids.now) → s.now ≡ c.joined_texts (bare (trees kids.now))
       → above < length (told_by r).ancestors.states → IsHere r (here_root s kids above)

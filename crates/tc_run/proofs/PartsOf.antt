@@ -1,5 +1,5 @@
 -- The bodies and the predicates of a stylesheet are parts of it: their paths are its moves and its looks.
-use Rattle.std.proofs.Common.{◌≡◌, ◌⊎◌, inl, inr, ℕ, zero, suc, ◌+◌, ◌<◌, Bool, true, false, nat_eq, arith, List, [], ◌∷◌, ◌++◌, refl, ap, sym, subst, map, flat_map, All}
+use Rattle.std.proofs.Common.{◌≡◌, ◌⊎◌, inl, inr, ℕ, zero, suc, ◌<◌, Bool, true, false, nat_eq, arith, List, [], ◌∷◌, ◌++◌, refl, ap, sym, subst, map, flat_map}
 use Rattle.std.specs.List.{Contains}
 use Rattle.std.proofs.lemmas.Bool.{eqb-true}
 use Rattle.std.proofs.lemmas.Bool.Decides.{nat_tests}
@@ -9,7 +9,7 @@ use Rattle.tc_model.specs.SameTests.{same_path}
 use Rattle.tc_model.specs.Numbered.{numbers_below}
 use Rattle.tc_model.specs.Numberings.{Move, same_move, moves_in_body, moves_in_branches, moves_of, looks_in_test, looks_in_tests, looks_in_body, looks_in_branches, looks_of, predicates_of}
 use Rattle.tc_model.specs.WellFormed.{IsBody, AreBranches, IsRule, ForEach, eaches_in, eaches_in_branches, eaches_of, IsSheet}
-use Rattle.tc_alpha.proofs.Members.{Has, Every, every_member, every_from_all, has_from_contains, contains_from_has, has_front, has_back, has_either}
+use Rattle.tc_alpha.proofs.Members.{Has, every_member, every_from_all, has_from_contains, contains_from_has, has_front, has_back, has_either}
 use Rattle.tc_rules.proofs.Sameness.{path_same, path_self, move_same, move_self, kept}
 use Rattle.tc_run.specs.Parts.{IsPartTest, ArePartTests, IsPart, ArePartBranches}
 

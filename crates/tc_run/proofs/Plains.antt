@@ -1,8 +1,8 @@
 -- Bodies one after the other: what they are with calls in place, and what they put out.
-use Rattle.std.proofs.Common.{◌≡◌, ℕ, List, refl, ap, ◌∙◌, sym, subst}
+use Rattle.std.proofs.Common.{◌≡◌, List, refl, ap, ◌∙◌, sym, subst}
 use Rattle.tc_model.specs.Chains.{Node, children, string_value}
 use Rattle.tc_model.specs.Sheets.{Body, no_instruction, put_text, put_element, copy, apply, call, for_each, value, value_of_self, choose, Plain, p_done, p_text, p_element, p_copy, p_apply, p_call, p_value, p_self, p_choose, p_each, Unfolds, u_done, u_text, u_element, u_copy, u_apply, u_call, u_value, u_self, u_choose, u_each}
-use Rattle.tc_model.specs.Outcomes.{Outcome, nothing, join, within, counted, put, put_around, copied}
+use Rattle.tc_model.specs.Outcomes.{Outcome, join, within, counted, put, put_around, copied}
 use Rattle.tc_model.specs.Meaning.{value_of_first}
 use Rattle.tc_model.specs.Machine.{Task, in_mode, in_body, Machine, first_hit, does_in, takes_in}
 use Rattle.tc_model.specs.Seen as see

@@ -1,5 +1,5 @@
 -- How far loops over instructions and over nodes have come: what was put out, and what is left.
-use Rattle.std.proofs.Common.{◌≡◌, ◌≤◌, ◌+◌, ◌*◌, ◌-◌, ℕ, List, max, suc}
+use Rattle.std.proofs.Common.{◌≡◌, ◌+◌, ◌*◌, ◌-◌, ℕ, List, max, suc}
 use Rattle.tc_model.specs.Trees.{Trees, none, text, element}
 use Rattle.tc_model.specs.Sheets.{Body, Plain, Unfolds}
 use Rattle.tc_model.specs.Outcomes.{Outcome, join}

@@ -1,19 +1,14 @@
 -- What is meant on a node: the body of the rule that was chosen, a built-in one, or that of a for-each.
-use Rattle.std.proofs.Common.{◌≡◌, inl, inr, length, ℕ, zero, suc, ◌+◌, ◌<◌, List, [], ◌∷◌, refl, ap, ◌∙◌, sym, subst, Bool, Option, Some, None, option_map, slice_get, arith, Contains}
-use Rattle.std.specs.Prelude.{IfSome}
-use Rattle.std.proofs.lemmas.Option.{slice_get_within}
-use Rattle.tc_model.specs.Chains.{Node}
+use Rattle.std.proofs.Common.{◌≡◌, inl, inr, ℕ, zero, suc, ◌+◌, ◌<◌, List, [], ◌∷◌, refl, ap, ◌∙◌, sym, subst, Bool, Option, Some, None, option_map, slice_get, arith, Contains}
+use Rattle.std.proofs.lemmas.Option.{same_Some}
 use Rattle.tc_model.specs.Sheets.{Body, Rule, Sheet, Plain, Unfolds}
 use Rattle.tc_model.specs.Machine.{Task, in_mode, in_body}
-use Rattle.tc_model.specs.RuleStates.{IsRuleOf, built_in, best}
+use Rattle.tc_model.specs.RuleStates.{IsRuleOf}
 use Rattle.tc_model.specs.WellFormed.{ForEach, eaches_of}
 use Rattle.tc_alpha.proofs.Members.{Has}
 use Rattle.tc_rules.specs.States.{AllUnfold, Chosen, chosen, or_plain, plain_of}
 use Rattle.tc_rules.proofs.Chosen.{number_of_chosen, rule_is_chosen, one_rule}
 use Rattle.tc_run.specs.Tasks.{IsTaskOf, of_mode, of_each}
-
-some_is : {X : Type 0} {a b : X} → Some a ≡ Some b → a ≡ b
-some_is e = cc
 
 -- the number of what was chosen is that of the rule
 number_is : (o : Option Chosen) → number_of_chosen o ≡ option_map (λ w. w.number) o
@@ -28,18 +23,14 @@ unfolded_at : (named : List Body) (rs : List Rule) (ps : List Plain) → AllUnfo
     → (p : Plain) × (slice_get ps i ≡ Some p) × Unfolds named r.body p
 unfolded_at named [] ps u i r e = absurd (cc)
 unfolded_at named (q ∷ rs) [] u i r e = absurd u
-unfolded_at named (q ∷ rs) (p ∷ ps) u zero r e = (p, refl, subst (λ (x : Rule). Unfolds named x.body p) (some_is e) u.0)
+unfolded_at named (q ∷ rs) (p ∷ ps) u zero r e = (p, refl, subst (λ (x : Rule). Unfolds named x.body p) (same_Some _ _ e) u.0)
 unfolded_at named (q ∷ rs) (p ∷ ps) u (suc i) r e = unfolded_at named rs ps u.1 i r e
-
-pub none_chosen : (bodies : List Plain) (b : Plain) (o : Option Chosen) → option_map (λ w. w.number) o ≡ None → plain_of bodies b o ≡ b
-none_chosen bodies b None e = refl
-none_chosen bodies b (Some x) e = cc
 
 pub rule_chosen : (named : List Body) (rs : List Rule) (bodies : List Plain) → AllUnfold named rs bodies → (b : Plain) (o : Option Chosen) (i : ℕ) (r : Rule)
     → option_map (λ w. w.number) o ≡ Some i → slice_get rs i ≡ Some r → Unfolds named r.body (plain_of bodies b o)
 rule_chosen named rs bodies u b None i r e at = absurd (cc)
 rule_chosen named rs bodies u b (Some x) i r e at =
-    let (p, there, k) = unfolded_at named rs bodies u x.number r (ap (slice_get rs) (some_is e) ∙ at) in
+    let (p, there, k) = unfolded_at named rs bodies u x.number r (ap (slice_get rs) (same_Some _ _ e) ∙ at) in
     subst (λ w. Unfolds named r.body (or_plain b w)) (sym there) k
 
 -- the task of a mode, and that of a for-each
@@ -58,13 +49,3 @@ pub record EachTask (s : Sheet) (each : ℕ) (k : Task) : Type 0 where
 pub each_task : (s : Sheet) (n each : ℕ) (k : Task) → n ≡ s.modes + each → IsTaskOf s n k → EachTask s each k
 each_task s n each k e (of_mode l) = absurd (omega (arith, l, e))
 each_task s n each k e (of_each {f} {p} g c u) = record { found = f; plain = p; task = refl; number = omega (arith, e, g); there = c; unfolds = u }
-
--- a rule that fits is one of the rules
-pub rule_low : (rs : List Rule) (m : ℕ) (f : ℕ → Rule → Bool) {o : Option ℕ} → IsRuleOf rs m f o → IfSome o (λ i. i < length rs)
-rule_low rs m f (built_in w) = tt
-rule_low rs m f (best {i} {r} k most) = slice_get_within rs i r k.at
-
-pub has_got : {X : Type 0} (xs : List X) (i : ℕ) (x : X) → slice_get xs i ≡ Some x → Has xs x
-has_got [] i x e = absurd (cc)
-has_got (y ∷ xs) zero x e = inl (some_is e)
-has_got (y ∷ xs) (suc i) x e = inr (has_got xs i x e)

@@ -42,6 +42,7 @@ static ALL_CHILDREN: Path<'static> = Path {
     }]],
 };
 
+/// The path to all children: what a built-in rule selects (XSLT 1.0, 5.8).
 fn all_children<'b>() -> &'b Path<'b>
     ensures { see.path result.now ≡ all_children_of }
 {

@@ -50,12 +50,7 @@ pub fn run<S: Store>(
 }
 
 /// Puts out the result by the texts of the operands.
-fn run_texts(
-    alloc: Global,
-    sheet: &str,
-    document: &str,
-    texts: &Pair,
-) -> Result<Answer, NoMemory>
+fn run_texts(alloc: Global, sheet: &str, document: &str, texts: &Pair) -> Result<Answer, NoMemory>
     requires sheet { length texts.now.first.items ≤ 67108864 }
     requires document { length texts.now.document.items ≤ 67108864 }
     ensures { IfOk result (λ said. (answer : a.Answer) × Says said answer × RunsTexts sheet.now document.now

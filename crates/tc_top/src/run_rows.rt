@@ -210,7 +210,10 @@ fn tests_nest_two_thousand_deep(rt: HostRuntime) -> Result<(), Fail> {
         let closed = repeated(rt.alloc(), ")", depth, "")?;
         let test = joined(rt.alloc(), opened.as_str(), "true()", closed.as_str())?;
         let rules = joined(rt.alloc(), front, test.as_str(), back)?;
-        assert!(rt; answers(rt.alloc(), rules.as_str(), "<a/>", status, line)?, "{depth}");
+        assert!(rt;
+            answers(rt.alloc(), rules.as_str(), "<a/>", status, line)?,
+            "{depth}"
+        );
     }
     Ok(())
 }
@@ -236,7 +239,10 @@ fn limits_are_tried_in_turn(rt: HostRuntime) -> Result<(), Fail> {
         let steps = repeated(alloc, "/a", more, "")?;
         let front = "<xsl:template match='a";
         let rules = joined(alloc, front, steps.as_str(), "'><x/></xsl:template>")?;
-        assert!(rt; answers(alloc, rules.as_str(), "<a/>", status, line)?, "{more}");
+        assert!(rt;
+            answers(alloc, rules.as_str(), "<a/>", status, line)?,
+            "{more}"
+        );
     }
     Ok(())
 }
@@ -269,7 +275,15 @@ fn work_is_limited(rt: HostRuntime) -> Result<(), Fail> {
     let document = repeated(alloc, "<a>", 20, "</a>")?;
     let elements = repeated(alloc, "<x/>", 1_048_575, "")?;
     let line = joined(alloc, "<r>", elements.as_str(), "</r>\n")?;
-    assert!(rt; answers(alloc, DOUBLING, document.as_str(), Status::Yes, line.as_str())?);
+    assert!(rt;
+        answers(
+            alloc,
+            DOUBLING,
+            document.as_str(),
+            Status::Yes,
+            line.as_str()
+        )?
+    );
     let document = repeated(alloc, "<a>", 21, "</a>")?;
     let line = "limit work 4000000\n";
     assert!(rt; answers(alloc, DOUBLING, document.as_str(), Status::Limit, line)?);
@@ -290,7 +304,10 @@ fn open_bodies_are_limited(rt: HostRuntime) -> Result<(), Fail> {
     assert!(rt; answers(alloc, rules, document.as_str(), Status::Yes, line.as_str())?);
     for depth in [1_600, 2_000] {
         let document = repeated(alloc, "<a>", depth, "</a>")?;
-        assert!(rt; answers(alloc, rules, document.as_str(), Status::Limit, limit)?, "{depth}");
+        assert!(rt;
+            answers(alloc, rules, document.as_str(), Status::Limit, limit)?,
+            "{depth}"
+        );
     }
 
     let opened = repeated(alloc, "<x>", 1_990, "")?;
@@ -304,8 +321,24 @@ fn open_bodies_are_limited(rt: HostRuntime) -> Result<(), Fail> {
     let inner = joined(alloc, opened.as_str(), "<x/>", closed.as_str())?;
     let line = joined(alloc, inner.as_str(), "\n", "")?;
     let document = repeated(alloc, "<a>", 4, "</a>")?;
-    assert!(rt; answers(alloc, rules.as_str(), document.as_str(), Status::Yes, line.as_str())?);
+    assert!(rt;
+        answers(
+            alloc,
+            rules.as_str(),
+            document.as_str(),
+            Status::Yes,
+            line.as_str()
+        )?
+    );
     let document = repeated(alloc, "<a>", 5, "</a>")?;
-    assert!(rt; answers(alloc, rules.as_str(), document.as_str(), Status::Limit, limit)?);
+    assert!(rt;
+        answers(
+            alloc,
+            rules.as_str(),
+            document.as_str(),
+            Status::Limit,
+            limit
+        )?
+    );
     Ok(())
 }

@@ -1,6 +1,5 @@
-use Rattle.std.proofs.Common.{◌≡◌, ◌++◌, ℕ, drop, map, flat_map}
+use Rattle.std.proofs.Common.{◌≡◌, ◌++◌, drop, flat_map}
 use Rattle.tc_model.specs.Numberings as n
-use Rattle.tc_model.specs.Seen as see
 use Rattle.tc_rules.specs.Seen.{looks, predicates}
 use Rattle.tc_rules.proofs.gather.looks_of_tests.Given as goal
 

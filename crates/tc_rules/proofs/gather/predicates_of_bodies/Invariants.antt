@@ -1,4 +1,4 @@
-use Rattle.std.proofs.Common.{◌≡◌, ◌++◌, ℕ, drop, map, flat_map}
+use Rattle.std.proofs.Common.{◌≡◌, ◌++◌, drop, map, flat_map}
 use Rattle.tc_model.specs.Numberings as n
 use Rattle.tc_model.specs.Seen as see
 use Rattle.tc_rules.specs.Seen.{predicates}

@@ -1,7 +1,5 @@
-use Rattle.std.proofs.Common.{◌≡◌, ◌++◌, drop, map, false, if◌then◌else◌}
-use Rattle.tc_model.specs.PathStates as p
+use Rattle.std.proofs.Common.{◌≡◌, ◌++◌, drop, map}
 use Rattle.tc_model.specs.Seen as see
-use Rattle.tc_rules.specs.Rows.{state}
 use Rattle.tc_rules.specs.Steps as v
 use Rattle.tc_rules.proofs.rows.letter_fits.Given as goal
 

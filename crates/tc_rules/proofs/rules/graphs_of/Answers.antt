@@ -1,4 +1,4 @@
-use Rattle.std.proofs.Common.{◌≡◌, ◌<◌, ◌≤◌, ◌^◌, length, arith}
+use Rattle.std.proofs.Common.{◌≡◌, ◌≤◌, length, arith}
 use Rattle.tc_rules.specs.Rows.{graph, graphs}
 use Rattle.tc_rules.proofs.Built.{graphs_at, left_at, cause_at, handed_on}
 use Rattle.tc_rules.proofs.rules.graphs_of.Goals as goal

@@ -1,4 +1,4 @@
-use Rattle.std.proofs.Common.{◌≡◌, ◌+◌, ◌++◌, ◌∷◌, [], ap, ◌∙◌}
+use Rattle.std.proofs.Common.{◌∷◌, [], ap, ◌∙◌}
 use Rattle.tc_rules.specs.Eaches.{bodies_in, bodies_in_branches}
 use Rattle.tc_model.specs.Seen as see
 use Rattle.tc_model.specs.Sheets as s

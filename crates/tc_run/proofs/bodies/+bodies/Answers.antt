@@ -1,27 +1,21 @@
-use Rattle.std.proofs.Common.{◌≡◌, ◌+◌, ◌<◌, ◌≤◌, [], ap, ◌∙◌, sym, subst, refl, drop, length, get_or, Bor, List, ℕ, Some, true, false, cond, Contains, arith}
-use Rattle.std.proofs.lemmas.List.{length-map}
+use Rattle.std.proofs.Common.{◌+◌, [], ap, ◌∙◌, sym, subst, refl, drop, get_or, Bor, List, Some, cond, Contains, arith}
 use Rattle.tc_model.specs.Chains.{children, an_element, a_text, one}
-use Rattle.tc_model.specs.Letters.{Letter}
-use Rattle.tc_model.specs.Machine.{Task, in_mode, in_body, outputs}
+use Rattle.tc_model.specs.Machine.{in_mode, in_body, outputs}
 use Rattle.tc_model.specs.Meaning.{all_children}
 use Rattle.tc_model.specs.Numberings.{moves_of}
-use Rattle.tc_model.specs.Outcomes.{Outcome, nothing, join, within, counted, put, put_around, copied}
+use Rattle.tc_model.specs.Outcomes.{nothing, within, counted, put, put_around, copied}
 use Rattle.tc_model.specs.Seen as see
-use Rattle.tc_model.specs.Sheets.{no_instruction, otherwise, Plain, Unfolds}
+use Rattle.tc_model.specs.Sheets.{Unfolds}
 use Rattle.tc_model.specs.Trees as t
-use Rattle.tc_model.specs.declared.sheet.Instr.{Instr}
 use Rattle.tc_rules.specs.Asked.{letter}
 use Rattle.tc_rules.specs.Seen.{mode_of}
-use Rattle.tc_rules.specs.States.{Going}
 use Rattle.tc_rules.specs.Told.{ancestor}
 use Rattle.tc_rules.specs.declared.rules.Kind.TheVariants as kinds
 use Rattle.tc_run.specs.Lettered.{bare, none}
-use Rattle.tc_run.specs.Parts.{IsPart}
 use Rattle.tc_run.specs.Running.{told_by, sheet_by, symbols_by, predicates_by, machine}
 use Rattle.tc_run.specs.Seen.{before, trees, node}
 use Rattle.tc_run.specs.Spent.{Spends, Answers}
-use Rattle.tc_run.specs.Tasks.{IsTaskOf, of_mode, of_each, built_in, does, outputs_on, going_from}
-use Rattle.tc_run.specs.declared.bodies.Here.{Here}
+use Rattle.tc_run.specs.Tasks.{of_mode, of_each, built_in, does, outputs_on, going_from}
 use Rattle.tc_run.specs.declared.letters.Lettered.{Lettered}
 use Rattle.tc_run.proofs.Alone.{text_alone, element_alone, copy_alone, call_alone, apply_alone, value_alone, self_alone, choose_alone, each_alone}
 use Rattle.tc_run.proofs.BuiltIn.{built_in_children, one_deep, value_same, copy_root, copy_elem}
@@ -33,7 +27,7 @@ use Rattle.tc_run.proofs.Hitting.{is_letter, task_is, hit_is, first_going, move_
 use Rattle.tc_run.proofs.Instructions.{text_seen, self_seen, elem_seen, copy_seen, apply_seen, call_seen, value_of_seen, choose_seen, for_each_seen, elem_part, copy_part, apply_part, call_part, choose_part, for_each_part}
 use Rattle.tc_run.proofs.Loops.{body_begin, body_further, body_fail, hits_begin, hits_further, hits_end, hits_fail}
 use Rattle.tc_run.proofs.MeantBy.{no_body, meant_body, meant_built_in, named_got, named_low, named_part_at}
-use Rattle.tc_run.proofs.Measures.{deeper_less, rank_less, tree_less, below_less}
+use Rattle.tc_run.proofs.Measures.{deeper_less, tree_less, below_less}
 use Rattle.tc_run.proofs.Nodes.{here_elem, is_here_elem, none_selected, down_low, down_is, outs_of_element}
 use Rattle.tc_run.proofs.OneTree.{apart_at, element_at}
 use Rattle.tc_run.proofs.PartsOf.{children_move}
@@ -42,7 +36,6 @@ use Rattle.tc_run.proofs.Putting.{around_fails}
 use Rattle.tc_run.proofs.Spending.{Fails, spends_nothing, fails_first, answers_then, spends_last}
 use Rattle.tc_run.proofs.Taking.{part_at, so_far_at}
 use Rattle.tc_run.proofs.bodies.+bodies.Goals as goal
-
 
 pub around-returns-in_err-body-clause-outcome : goal.around-returns-in_err-body-clause-outcome
 around-returns-in_err-body-clause-outcome t c = λ bodies p hb u.
@@ -129,7 +122,6 @@ copy-returns-in-Elem-clause-outcome t c = λ bodies p hb u.
     let h = c.args.here.now in
     subst (Answers c.args.nesting c.args.output.now c.around.new.output c.around.result) (sym (copy_elem h c.in-Elem.name (does c.args.runner.now bodies p h) c.in-Elem.is)) (c.around.ensures.outcome bodies p hb u)
 
-
 pub element_hit-sel_hits-requires : goal.element_hit-sel_hits-requires
 element_hit-sel_hits-requires t c = some_move_counted (told_by c.args.runner.now) c.args.state c.requires.state
 
@@ -140,7 +132,7 @@ element_hit-returns-then-not-sel_hits-clause-outcome t c = λ bodies g hb at.
     let (n, kids, e, f) = c.requires.element in
     let hit = hit_is r c.args.state g x c.sel_hits.result at c.requires.runner (is_letter r x (an_element n kids) f) c.sel_hits.ensures bodies in
     let o = counted (does r bodies ((machine r bodies).body_at g.task (ancestor (told_by r) c.args.above) x) c.args.here.now) in
-    spends_none c.args.nesting c.args.output.now (cond ((machine r bodies).move_hits g x) o nothing) (missed r ((machine r bodies).move_hits g x) o (sym hit ∙ c.if-not-sel_hits.true)) c.requires.work c.requires.nesting
+    spends_none c.args.nesting c.args.output.now (cond ((machine r bodies).move_hits g x) o nothing) (missed ((machine r bodies).move_hits g x) o (sym hit ∙ c.if-not-sel_hits.true)) c.requires.work c.requires.nesting
 
 pub element_hit-mode_of-job-requires : goal.element_hit-mode_of-job-requires
 element_hit-mode_of-job-requires t c = some_move_low (told_by c.args.runner.now) c.args.state c.requires.state
@@ -165,8 +157,8 @@ element_hit-returns-clause-outcome t c = λ bodies g hb at.
     let p = (machine r bodies).body_at g.task (ancestor (told_by r) c.args.above) x in
     let o = counted (does r bodies p h) in
     let task = task_is r c.args.state g c.mode_of-job.result at c.mode_of-job.ensures.mode c.requires.runner in
-    let meant = c.meant_by-rule.ensures.meant bodies (node h) g.task hb task (λ i. element_built_in r h n kids c.args.letter.sym.0 e i) in
-    subst (Answers c.args.nesting c.args.output.now c.instantiate.new.output c.instantiate.result) (sym (met r ((machine r bodies).move_hits g x) o (sym hit ∙ c.if-not-sel_hits.false)))
+    let meant = c.meant_by-rule.ensures.meant bodies (node h) g.task hb task (λ i. element_built_in h n kids c.args.letter.sym.0 e i) in
+    subst (Answers c.args.nesting c.args.output.now c.instantiate.new.output c.instantiate.result) (sym (met ((machine r bodies).move_hits g x) o (sym hit ∙ c.if-not-sel_hits.false)))
     (c.instantiate.ensures.outcome bodies p hb meant)
 
 pub hits-loop-node-init : goal.hits-loop-node-init
@@ -234,7 +226,6 @@ instantiate-returns-in-BuiltIn-clause-outcome t c = λ bodies p hb m.
     counted_within c.args.nesting n c.args.output.now c.count.new.self c.built_in.new.output c.built_in.result (does r bodies p h) c.in_ok-nesting.ensures.ok c.in_ok-count.ensures.nodes c.in_ok-count.ensures.ok
     (subst (λ q. Answers n c.count.new.self c.built_in.new.output c.built_in.result (does r bodies q h)) (sym e) (c.built_in.ensures.outcome bodies hb))
 
-
 pub instruction-returns-in_err-nesting-clause-outcome : goal.instruction-returns-in_err-nesting-clause-outcome
 instruction-returns-in_err-nesting-clause-outcome t c = λ bodies p hb u.
     let r = c.args.runner.now in
@@ -246,15 +237,15 @@ instruction-returns-in_err-nesting-clause-outcome t c = λ bodies p hb u.
 
 pub instruction-around-requires : goal.instruction-around-requires
 instruction-around-requires t c = (
-      omega (arith, c.decreases, deeper_less c.args.nesting c.in_ok-nesting.nesting (bare (trees c.args.here.now.kids.now)) 8 6 c.in_ok-nesting.ensures.ok (omega arith)),
-      (c.requires.runner, (c.requires.here, (elem_part (sheet_by c.args.runner.now) c.args.instruction.now c.in-Elem.name c.in-Elem.inner c.in-Elem.is c.requires.part, (c.in_ok-nesting.ensures.ok.1, c.requires.work)))),
-    )
+  omega (arith, c.decreases, deeper_less c.args.nesting c.in_ok-nesting.nesting (bare (trees c.args.here.now.kids.now)) 8 6 c.in_ok-nesting.ensures.ok (omega arith)),
+  (c.requires.runner, (c.requires.here, (elem_part (sheet_by c.args.runner.now) c.args.instruction.now c.in-Elem.name c.in-Elem.inner c.in-Elem.is c.requires.part, (c.in_ok-nesting.ensures.ok.1, c.requires.work)))),
+)
 
 pub instruction-copy-requires : goal.instruction-copy-requires
 instruction-copy-requires t c = (
-      omega (arith, c.decreases, deeper_less c.args.nesting c.in_ok-nesting.nesting (bare (trees c.args.here.now.kids.now)) 9 6 c.in_ok-nesting.ensures.ok (omega arith)),
-      (c.requires.runner, (c.requires.here, (copy_part (sheet_by c.args.runner.now) c.args.instruction.now c.in-Copy.inner c.in-Copy.is c.requires.part, (c.in_ok-nesting.ensures.ok.1, c.requires.work)))),
-    )
+  omega (arith, c.decreases, deeper_less c.args.nesting c.in_ok-nesting.nesting (bare (trees c.args.here.now.kids.now)) 9 6 c.in_ok-nesting.ensures.ok (omega arith)),
+  (c.requires.runner, (c.requires.here, (copy_part (sheet_by c.args.runner.now) c.args.instruction.now c.in-Copy.inner c.in-Copy.is c.requires.part, (c.in_ok-nesting.ensures.ok.1, c.requires.work)))),
+)
 
 pub instruction-bounds-sheet-number : goal.instruction-bounds-sheet-number
 instruction-bounds-sheet-number t c =
@@ -418,9 +409,8 @@ text_hit-returns-clause-outcome w c = λ bodies g hb at.
     let meant = c.meant_by-rule.ensures.meant bodies (one (a_text s.now)) g.task hb task (λ i. refl) in
     let kids : Bor (List Lettered) = record { ref_ptr = (0, 0); now = [] } in
     subst (Answers c.args.nesting c.args.output.now c.instantiate.new.output c.instantiate.result)
-    (sym (text_met r bodies c.args.above g s kids x c.sel_hits.result refl c.requires.1.1.1.0 hit c.if-not-sel_hits.false))
+    (sym (text_met r bodies c.args.above g s kids x c.sel_hits.result c.requires.1.1.1.0 hit c.if-not-sel_hits.false))
     (c.instantiate.ensures.outcome bodies p hb meant)
-
 
 pub tree_hits-element_hit-requires : goal.tree_hits-element_hit-requires
 tree_hits-element_hit-requires t c =

@@ -1,4 +1,4 @@
-use Rattle.std.proofs.Common.{◌≡◌, ◌≤◌, List, drop}
+use Rattle.std.proofs.Common.{◌≤◌, List, drop}
 use Rattle.tc_model.specs.Seen as see
 use Rattle.tc_model.specs.Sheets.{Plain, Unfolds}
 use Rattle.tc_rules.specs.States.{Going}

@@ -1,4 +1,4 @@
-use Rattle.std.proofs.Common.{◌<◌, ◌+◌, ap, sym, subst}
+use Rattle.std.proofs.Common.{◌<◌, ◌+◌, subst}
 use Rattle.tc_rules.specs.Asked.{letter, found}
 use Rattle.tc_rules.specs.Jobs.{IsJob}
 use Rattle.tc_rules.specs.Seen.{mode_of}

@@ -1,9 +1,9 @@
-use Rattle.std.proofs.Common.{◌≡◌, ◌+◌, ◌∙◌, List, subst, true, false, length, get_or, drop}
+use Rattle.std.proofs.Common.{◌≡◌, ◌+◌, ◌∙◌, List, subst, true, false, get_or, drop}
 use Rattle.std.proofs.lemmas.List.{drop_all}
 use Rattle.tc_model.specs.Machine.{holds_in}
 use Rattle.tc_model.specs.Chains.{children}
 use Rattle.tc_model.specs.Seen as see
-use Rattle.tc_model.specs.Sheets.{Plain, PlainBranches, BranchesUnfold, Branches, otherwise}
+use Rattle.tc_model.specs.Sheets.{Plain, BranchesUnfold, Branches, otherwise}
 use Rattle.tc_model.proofs.ViewsBody.{left_branch}
 use Rattle.tc_run.specs.Running.{machine, sheet_by}
 use Rattle.tc_run.specs.Seen.{node}

@@ -1,4 +1,4 @@
-use Rattle.std.proofs.Common.{sym, ap, ◌≡◌, refl}
+use Rattle.std.proofs.Common.{sym, ap, refl}
 use Rattle.tc_model.specs.Meaning.{value_of_first}
 use Rattle.tc_model.specs.Seen as see
 use Rattle.tc_run.specs.Lettered.{bare}

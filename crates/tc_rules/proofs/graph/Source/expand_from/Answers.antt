@@ -3,7 +3,7 @@ use Rattle.std.proofs.lemmas.List.{length-map}
 use Rattle.tc_model.specs.Seen as see
 use Rattle.tc_rules.specs.Reached.{counted, leads_by}
 use Rattle.tc_rules.specs.Rows.{state, states, rows_of_classes}
-use Rattle.tc_rules.proofs.Rounds.{expanding_next, expanding_all}
+use Rattle.tc_rules.proofs.Rounds.{expanding_next}
 use Rattle.tc_rules.proofs.graph.Source.expand_from.Goals as goal
 
 pub loop-number-preserved : goal.loop-number-preserved

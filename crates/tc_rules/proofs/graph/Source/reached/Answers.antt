@@ -4,7 +4,7 @@ use Rattle.tc_model.specs.Seen as see
 use Rattle.tc_model.specs.PathStates.{first_state}
 use Rattle.tc_rules.specs.Reached.{counted, leads_by, leads_of}
 use Rattle.tc_rules.specs.Rows.{state, states, rows_of_classes}
-use Rattle.tc_rules.proofs.Rounds.{IsSoFar, so_far_first, so_far_next, so_far_all, so_far_many, put_grows}
+use Rattle.tc_rules.proofs.Rounds.{IsSoFar, so_far_next, so_far_all, put_grows}
 use Rattle.tc_rules.proofs.graph.Source.reached.Goals as goal
 
 pub loop-from-preserved : goal.loop-from-preserved

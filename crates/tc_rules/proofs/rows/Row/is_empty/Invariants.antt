@@ -1,8 +1,6 @@
-use Rattle.std.proofs.Common.{◌≡◌, ◌++◌, drop, map, false, if◌then◌else◌}
+use Rattle.std.proofs.Common.{◌≡◌, drop}
 use Rattle.tc_model.specs.PathStates as p
-use Rattle.tc_model.specs.Seen as see
 use Rattle.tc_rules.specs.Rows.{state}
-use Rattle.tc_rules.specs.Steps as v
 use Rattle.tc_rules.proofs.rows.Row.is_empty.Given as goal
 
 abbrev pub invariant-loop-items : goal.invariant-loop-items

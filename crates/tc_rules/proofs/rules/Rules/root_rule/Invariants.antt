@@ -1,5 +1,4 @@
 use Rattle.std.proofs.Common.{◌≡◌, None, drop}
-use Rattle.tc_model.specs.Seen as see
 use Rattle.tc_rules.specs.Asked.{found}
 use Rattle.tc_rules.specs.Kept.{told}
 use Rattle.tc_rules.specs.Picked.{best_of, is_root_at}

@@ -1,4 +1,3 @@
-use Rattle.std.proofs.Common.{sym, ap, ◌∙◌}
 use Rattle.tc_rules.specs.Asked.{found}
 use Rattle.tc_rules.proofs.Counted.{below_told}
 use Rattle.tc_rules.proofs.rules.Rules.rule_for.Goals as goal

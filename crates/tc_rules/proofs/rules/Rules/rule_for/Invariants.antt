@@ -1,6 +1,6 @@
 use Rattle.std.proofs.Common.{◌≡◌, None, Some, drop, slice_get}
 use Rattle.tc_model.specs.PathStates.{State}
-use Rattle.tc_rules.specs.Asked.{found, kind, letter}
+use Rattle.tc_rules.specs.Asked.{found, letter}
 use Rattle.tc_rules.specs.Graphs.{fits_at}
 use Rattle.tc_rules.specs.Kept.{told}
 use Rattle.tc_rules.specs.Picked.{best_of}
