@@ -1,5 +1,5 @@
 -- The result of a well-formed stylesheet on a document has lawful names and texts.
-use Rattle.std.proofs.Common.{◌≡◌, ℕ, Bool, true, false, cond, ◌<◌, List, [], ◌∷◌, sym, subst, map, filter, ◌&&◌, nat_eq, int_lt, Option, Some, None, All, slice_get, zero, suc}
+use Rattle.std.proofs.Common.{ℕ, Bool, true, false, cond, ◌<◌, List, [], ◌∷◌, sym, subst, map, filter, ◌&&◌, nat_eq, int_lt, Option, Some, None, All}
 use Rattle.std.proofs.lemmas.List.Elements.{All-head, All-tail}
 use Rattle.tc_model.specs.Names.{IsChars, IsText, IsName}
 use Rattle.tc_model.specs.Trees.{Trees, none, text, element, beside, joined, AreLawful}

@@ -1,5 +1,5 @@
 -- The letters that are kept are those of the trees.
-use Rattle.std.proofs.Common.{◌≡◌, ℕ, zero, suc, ◌+◌, ◌-◌, ◌*◌, ◌^◌, ◌<◌, ◌≤◌, List, [], ◌∷◌, refl, ap, ◌∙◌, sym, subst, inl, inr, map, drop, length, Bool, true, false, Bor, Some, slice_get, if◌then◌else◌, arith}
+use Rattle.std.proofs.Common.{◌≡◌, ℕ, suc, ◌+◌, ◌-◌, ◌*◌, ◌^◌, ◌<◌, ◌≤◌, List, [], ◌∷◌, refl, ap, ◌∙◌, sym, subst, map, drop, length, Bool, true, false, Bor, Some, slice_get, if◌then◌else◌, arith}
 use Rattle.std.proofs.lemmas.List.{length-drop, length-map}
 use Rattle.std.proofs.Math.Pow.{pow_mono}
 use mir.Val.{bool_byte}
@@ -13,7 +13,6 @@ use Rattle.tc_model.specs.Seen.{name}
 use Rattle.tc_model.specs.declared.tree.Name.{Name}
 use Rattle.tc_rules.specs.declared.rules.Marks.{Marks}
 use Rattle.tc_rules.proofs.RowSteps.{drop_at}
-use Rattle.tc_alpha.proofs.Members.{Has}
 use Rattle.tc_run.specs.Lettered as l
 use Rattle.tc_run.specs.Running.{IsRunner, symbols_by, predicates_by, sheet_by, lettered_by, looking}
 use Rattle.tc_run.specs.Seen.{before, trees}

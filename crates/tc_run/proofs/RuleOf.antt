@@ -1,11 +1,10 @@
 -- What is meant on a node: the body of the rule that was chosen, a built-in one, or that of a for-each.
-use Rattle.std.proofs.Common.{◌≡◌, inl, inr, ℕ, zero, suc, ◌+◌, ◌<◌, List, [], ◌∷◌, refl, ap, ◌∙◌, sym, subst, Bool, Option, Some, None, option_map, slice_get, arith, Contains}
+use Rattle.std.proofs.Common.{◌≡◌, ℕ, zero, suc, ◌+◌, ◌<◌, List, [], ◌∷◌, refl, ap, ◌∙◌, sym, subst, Bool, Option, Some, None, option_map, slice_get, arith, Contains}
 use Rattle.std.proofs.lemmas.Option.{same_Some}
 use Rattle.tc_model.specs.Sheets.{Body, Rule, Sheet, Plain, Unfolds}
 use Rattle.tc_model.specs.Machine.{Task, in_mode, in_body}
 use Rattle.tc_model.specs.RuleStates.{IsRuleOf}
 use Rattle.tc_model.specs.WellFormed.{ForEach, eaches_of}
-use Rattle.tc_alpha.proofs.Members.{Has}
 use Rattle.tc_rules.specs.States.{AllUnfold, Chosen, chosen, or_plain, plain_of}
 use Rattle.tc_rules.proofs.Chosen.{number_of_chosen, rule_is_chosen, one_rule}
 use Rattle.tc_run.specs.Tasks.{IsTaskOf, of_mode, of_each}
