@@ -22,6 +22,7 @@ use Rattle.tc_run.specs.Spent.{most_work, most_open}
 use Rattle.tc_sheet.specs.Changes.{Change, mended, flattened, both}
 use Rattle.tc_sheet.specs.Faults.{IsNoneWith}
 use Rattle.tc_sheet.proofs.Changes.{as_they_are}
+use Rattle.tc_sheet.proofs.NamedAgain.{not_once}
 use Rattle.tc_sheet_text.specs.Texts.{IsSheetOf}
 use Rattle.tc_top.specs.Refusals.{Reason, malformed, unsupported, too_deep, undefined, twice, loop, bad_start, bad_except, call_loop, IsRefusedSheet}
 use Rattle.tc_top.specs.Limits.{IsWithinSheetLimits, IsWithinRunLimits, SheetPasses, sheet_symbols, sheet_predicates, sheet_ancestors, sheet_selects}
@@ -33,14 +34,14 @@ means_at : {bytes : List ℕ} {s : Sheet} → IsSheetOf bytes s → (raw : RawTr
 means_at {bytes} {s} x raw text = subst (λ (h : RawTrees). SheetText h s) (one_raw_tree bytes x.raw raw x.text text) x.means
 
 none_with : (c : Change) (raw : RawTrees) (s : Sheet) → IsNoneWith c raw → SheetText raw s → ⊥
-none_with c raw s none t = none raw t.templates (as_they_are c raw) t.written t.once
+none_with c raw s none t = none raw t.templates (as_they_are c raw) t.written
 
 as_document : {bytes : List ℕ} {s : Sheet} (x : IsSheetOf bytes s) → IsReadAs bytes (stripped x.raw)
 as_document x = record { raw = x.raw; spells = x.text; document = refl }
 
 pub no_sheet : {bytes : List ℕ} {s : Sheet} (reason : Reason) (place : ℕ) → IsRefusedSheet bytes reason place → IsSheetOf bytes s → ⊥
 no_sheet malformed place (inl r) x = no_document malformed place r (as_document x)
-no_sheet {s = s} malformed place (inr r) x = none_with both r.1.0 s r.1.2.1 (means_at x r.1.0 r.1.1)
+no_sheet malformed place (inr r) x = let t = means_at x r.1.0 r.1.1 in not_once (r.1.2.1 r.1.0 t.templates (as_they_are both r.1.0) t.written) t.once
 no_sheet (unsupported why) place (inl r) x = no_document (unsupported why) place r (as_document x)
 no_sheet {s = s} (unsupported why) place (inr r) x = none_with flattened r.0 s r.2.1 (means_at x r.0 r.1)
 no_sheet too_deep place (inl r) x = no_document too_deep place r (as_document x)
