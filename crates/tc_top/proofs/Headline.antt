@@ -113,9 +113,9 @@ validity {words} {rose} files g d status old new answer c right is written =
 
 at_limit : (s : Sheet) (d : Trees) (status : Status) (old new : Option (List ℕ)) (answer : Answer) → status_of answer ≡ Limit → status ≡ status_of answer → Appended old new (text_of answer)
     → (IsWithinRunLimits s d → ⊥) → Runs s d answer → GivesResult status old new s d
-at_limit s d status old new answer limit is written no runs = record {
-  yes = (λ e. absurd (let k = sym (is ∙ limit) ∙ e in cc), λ w. absurd (no w));
-  limit = (λ _. no, λ _. is ∙ limit);
+at_limit s d status old new answer limit is written beyond runs = record {
+  yes = (λ e. absurd (let k = sym (is ∙ limit) ∙ e in cc), λ w. absurd (beyond w));
+  limit = (λ _. beyond, λ _. is ∙ limit);
   yes_text = λ e. absurd (let k = sym (is ∙ limit) ∙ e in cc);
   limit_text = λ _. (answer, limit, runs, written);
 }
