@@ -69,16 +69,16 @@ struct Gathered<'b> {
     run: Run<'b>,
 }
 
-/// No tree yet.
+/// No tree yet, and room for this many.
 #[inline(never)]
-fn gathered_nothing<'b>(arena: &'b Bump) -> Gathered<'b>
-    ensures { (trees result.nodes.items ≡ none) × (run_text result.run ≡ []) }
+fn gathered_nothing<'b>(arena: &'b Bump, room: usize) -> Result<Gathered<'b>, NoMemory>
+    ensures { IfOk result (λ g. (trees g.nodes.items ≡ none) × (run_text g.run ≡ [])) }
 {
-    Gathered {
+    Ok(Gathered {
         arena,
-        nodes: Vec::new(arena),
+        nodes: Vec::with_capacity(arena, room)?,
         run: Run::Nothing,
-    }
+    })
 }
 
 /// One more text.
@@ -133,7 +133,7 @@ fn all_gathered<'b>(mut gathered: Gathered<'b>) -> Result<&'b [Node<'b>], NoMemo
 pub fn normalise<'b>(arena: &'b Bump, nodes: &[Node<'b>]) -> Result<&'b [Node<'b>], NoMemory>
     ensures { IfOk result (λ out. trees out.now ≡ normal_form (trees nodes.now)) }
 {
-    let mut gathered = gathered_nothing(arena);
+    let mut gathered = gathered_nothing(arena, nodes.len())?;
     for node in nodes {
         match node {
             Node::Text(text) => gather_text(&mut gathered, text)?,
