@@ -14,7 +14,7 @@ use tc_model::{Node, Raw, normalise};
 fn bare<'b>(arena: &'b Bump, raw: &[Raw<'b>]) -> Result<&'b [Node<'b>], NoMemory>
     ensures { IfOk result (λ out. trees out.now ≡ stripped.bare (raw_trees raw.now)) }
 {
-    let mut out = Vec::new(arena);
+    let mut out = Vec::with_capacity(arena, raw.len())?;
     for tree in raw {
         let node = match tree {
             Raw::Text(text, _) => Node::Text(text),
