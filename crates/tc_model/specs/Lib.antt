@@ -51,6 +51,7 @@ pub mod SameTests
 pub mod Letters
 pub mod PathStates
 pub mod Numberings
+pub mod StateCounts
 pub mod RuleStates
 pub mod SheetTextTrees
 pub mod SheetTextPhrases

@@ -1,6 +1,6 @@
--- The numbers of a stylesheet's predicates, moves and looks, and of the path states on which they go. All of them are in the order of the
--- stylesheet: its rules, each with its pattern and then its body, and then the named bodies; in a body the instructions as they stand, each before
--- those inside it, and in a branch the test before the body.
+-- The numbers of a stylesheet's predicates, moves and looks, and of the path states on which they go. They are in the order of the stylesheet, but for
+-- the moves of built-in rules, which come first, and the looks of predicates, which come last: its rules, each with its pattern and then its body, and
+-- then the named bodies; in a body the instructions as they stand, each before those inside it, and in a branch the test before the body.
 use Rattle.std.specs.Prelude.{◌≡◌, ℕ, zero, suc, ◌+◌, ◌^◌, List, [], ◌∷◌, ◌++◌, length, map, filter, flat_map, Bool, true, ◌&&◌, not, nat_eq}
 use Rattle.tc_model.specs.Sheets.{Steps, no_step, step, Path, no_alternative, alternative, Test, always, never, has, negated, all_of, any_of, Tests, no_test, test, MatchPattern, root_pattern, steps_pattern, Body, no_instruction, put_text, put_element, copy, apply, call, for_each, value, value_of_self, choose, Branches, otherwise, branch, Sheet}
 use Rattle.tc_model.specs.Meaning.{all_children}
@@ -149,19 +149,3 @@ module _ (counts : State → Bool) (next : State → Letter → State) (letters 
   pub record AreReached (first : State) (states : List State) : Type 0 where
     pub found : (n : ℕ) × (states ≡ rounds n (filter counts (first ∷ [])))
     pub all : one_round states ≡ states
-
-module _ (symbols : List Mention) (s : Sheet) where
-  -- the ancestor states: the states of all rules' patterns together, the empty one too
-  abbrev pub AreAncestorStates : List State → Type 0
-  AreAncestorStates states =
-      AreReached (λ state. true) (next_state symbols (predicates_of s) (path_of_rules s.rules)) (letters_of_elements symbols (predicates_of s)) (first_state (path_of_rules s.rules)) states
-
-  -- the states of a path that are not empty
-  abbrev pub AreSelectStates : Path → List State → Type 0
-  AreSelectStates p states =
-      AreReached (λ state. not (is_empty_state state)) (next_state symbols (predicates_of s) p) (letters_of_elements symbols (predicates_of s)) (first_state p) states
-
-  -- those of several paths, path by path
-  pub data AreStatesOf : List Path → List (List State) → Type 0 where
-    of_none : AreStatesOf [] []
-    of_one : {p : Path} {ps : List Path} {states : List State} {others : List (List State)} → AreSelectStates p states → AreStatesOf ps others → AreStatesOf (p ∷ ps) (states ∷ others)

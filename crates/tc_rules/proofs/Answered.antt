@@ -9,7 +9,8 @@ use Rattle.tc_rules.specs.Graphs as g
 use Rattle.tc_rules.specs.Graphs.{fits_at, next_at, path_fits, LeadsTo}
 use Rattle.tc_rules.specs.Steps as v
 use Rattle.tc_rules.specs.Rows.{graph, graphs}
-use Rattle.tc_rules.specs.Told.{Block, IsStateOf, is_hit_of, select_below, some_item, all_count, count_states}
+use Rattle.tc_rules.specs.Told.{IsStateOf, is_hit_of, select_below, count_states}
+use Rattle.tc_model.specs.StateCounts.{Block, some_item, all_count}
 use Rattle.tc_rules.specs.Kept.{told, IsRulesOf}
 use Rattle.tc_rules.specs.declared.graph.Graph.{Graph}
 use Rattle.tc_rules.specs.declared.rules.Rules.{Rules}

@@ -25,7 +25,8 @@ use Rattle.tc_rules.specs.Kept.{told, IsRulesOf, numbers_in_mode}
 use Rattle.tc_rules.specs.Rows.{graph, graphs}
 use Rattle.tc_rules.specs.Seen as seen
 use Rattle.tc_rules.specs.Selects.{selects_from, starts_from, AreGraphs, states_by, count_by, all_states_by, IsAncestorCause, IsNextCause, IsSelectCause}
-use Rattle.tc_rules.specs.Told.{Block, blocks_of, AreSymbolsWith, PassPredicates, PassAncestors, PassSelects, count_states, some_item, all_count}
+use Rattle.tc_rules.specs.Told.{AreSymbolsWith, count_states}
+use Rattle.tc_model.specs.StateCounts.{Block, blocks_of, PassPredicates, PassAncestors, PassSelects, some_item, all_count}
 use Rattle.tc_rules.specs.declared.graph.Source.{Source}
 use Rattle.tc_rules.specs.declared.rules.Rules.{Rules}
 use Rattle.tc_rules.specs.declared.rules.RulesFault.{RulesFault}

@@ -31,7 +31,8 @@ use Rattle.tc_rules.specs.Kept.{told, IsRulesOf, numbers_in_mode}
 use Rattle.tc_rules.specs.Rows.{graph, graphs}
 use Rattle.tc_rules.specs.Seen as seen
 use Rattle.tc_rules.specs.Selects.{first_from}
-use Rattle.tc_rules.specs.Told.{Told, Block, blocks_of, IsStateOf, count_states, select_count, move_count, some_item, all_count, ancestor, ancestor_below, select_below}
+use Rattle.tc_rules.specs.Told.{Told, IsStateOf, count_states, select_count, move_count, ancestor, ancestor_below, select_below}
+use Rattle.tc_model.specs.StateCounts.{Block, blocks_of, some_item, all_count}
 use Rattle.tc_rules.specs.declared.rules.Rules.{Rules}
 use Rattle.tc_rules.specs.declared.walk.Move.{Move as MoveOf}
 use Rattle.tc_rules.proofs.Answered.{mapped_at, above_answered, step_answered, start_answered, select_is}

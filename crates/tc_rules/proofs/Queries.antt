@@ -8,7 +8,8 @@ use Rattle.tc_model.specs.PathStates.{State, first_state, next_state, same_state
 use Rattle.tc_model.specs.Numberings.{predicates_of, one_round, rounds, AreReached, letters_of_elements}
 use Rattle.tc_rules.specs.Graphs.{Graph, IsGraphOf, fits_at, next_at, path_fits, LeadsTo}
 use Rattle.tc_rules.specs.Steps as v
-use Rattle.tc_rules.specs.Told.{Told, IsTold, Block, blocks_of, IsStateOf, some_item, all_count, count_states, is_hit_of, select_below}
+use Rattle.tc_rules.specs.Told.{Told, IsTold, IsStateOf, count_states, is_hit_of, select_below}
+use Rattle.tc_model.specs.StateCounts.{Block, blocks_of, some_item, all_count}
 use Rattle.tc_alpha.proofs.Members.{Every}
 use Rattle.std.proofs.lemmas.List.Sums.{sum_by-cons}
 use Rattle.tc_rules.proofs.Sameness.{every_kept}

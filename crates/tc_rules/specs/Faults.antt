@@ -2,7 +2,7 @@
 use Rattle.std.specs.Prelude.{List}
 use Rattle.tc_model.specs.Sheets.{Sheet}
 use Rattle.tc_model.specs.Symbols.{Mention}
-use Rattle.tc_rules.specs.Told.{PassPredicates, PassAncestors, PassSelects}
+use Rattle.tc_model.specs.StateCounts.{PassPredicates, PassAncestors, PassSelects}
 use Rattle.tc_rules.specs.declared.rules.RulesFault.{RulesFault}
 use Rattle.tc_rules.specs.declared.rules.RulesFault.TheVariants.{TooManyPredicates, TooManyAncestorStates, TooManySelectStates, NoMemory}
 
@@ -11,7 +11,3 @@ IsCause symbols s TooManyPredicates = PassPredicates symbols s
 IsCause symbols s TooManyAncestorStates = ¬ PassPredicates symbols s × PassAncestors symbols s
 IsCause symbols s TooManySelectStates = ¬ PassPredicates symbols s × ¬ PassAncestors symbols s × PassSelects symbols s
 IsCause symbols s NoMemory = Unit {0}
-
--- none is passed
-abbrev pub PassNone : List Mention → Sheet → Type 0
-PassNone symbols s = ¬ PassPredicates symbols s × ¬ PassAncestors symbols s × ¬ PassSelects symbols s

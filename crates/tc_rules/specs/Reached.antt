@@ -5,7 +5,7 @@ use Rattle.tc_model.specs.Sheets.{Path}
 use Rattle.tc_model.specs.PathStates.{State, same_state}
 use Rattle.tc_rules.specs.Once.{put_all}
 use Rattle.tc_rules.specs.Steps.{next_state}
-use Rattle.tc_rules.specs.Told.{all_count, some_item}
+use Rattle.tc_model.specs.StateCounts.{all_count, some_item}
 use Rattle.tc_rules.specs.declared.graph.Counts.{Counts}
 use Rattle.tc_rules.specs.declared.graph.Counts.TheVariants.{All, SomeItem}
 

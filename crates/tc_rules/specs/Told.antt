@@ -18,20 +18,6 @@ pub record Told : Type 0 where
   -- of each move, and then of each look
   pub selects : List Graph
 
--- a path of a move, with its mode, or one of a look
-pub record Block : Type 0 where
-  pub path : Path
-  pub mode : Option ℕ
-
-abbrev pub blocks_of : Sheet → List Block
-blocks_of s = map (λ m. record { path = m.path; mode = Some m.mode }) (moves_of s) ++ map (λ p. record { path = p; mode = None }) (looks_of s)
-
-abbrev pub all_count : State → Bool
-all_count x = true
-
-abbrev pub some_item : State → Bool
-some_item x = not (is_empty_state x)
-
 -- the symbols are those of some two schemas and the stylesheet
 abbrev pub AreSymbolsWith : List Mention → Sheet → Type 0
 AreSymbolsWith symbols s = (input : Grammar) × (output : Grammar) × (symbols ≡ symbols_of input output s)
@@ -86,17 +72,3 @@ module _ (symbols : List Mention) (t : Told) where
 
   abbrev pub is_hit_of : Block → State → Letter → Bool
   is_hit_of b x l = is_hit symbols (predicates_of t.sheet) b.path x l
-
--- what passes the limits
-module _ (symbols : List Mention) (s : Sheet) where
-  abbrev pub reached : (State → Bool) → Path → ℕ → List State
-  reached counts p n = rounds counts (next_state symbols (predicates_of s) p) (letters_of_elements symbols (predicates_of s)) n (filter counts (first_state p ∷ []))
-
-  abbrev pub PassPredicates : Type 0
-  PassPredicates = 6 < length (predicates_of s)
-
-  abbrev pub PassAncestors : Type 0
-  PassAncestors = (n : ℕ) × (64 < length (reached all_count (path_of_rules s.rules) n))
-
-  abbrev pub PassSelects : Type 0
-  PassSelects = (n : ℕ) × (4096 < sum (map (λ b. length (reached some_item b.path n)) (blocks_of s)))

@@ -18,11 +18,13 @@ ghost use Rattle.tc_rules.specs.Graphs.{kind_at, IsGraphOf};
 ghost use Rattle.tc_rules.specs.Picked.{better, is_root_at, outranks};
 ghost use Rattle.tc_rules.specs.Rows.{graph as see_graph, graphs as see_graphs};
 ghost use Rattle.tc_rules.specs.Selects.{AreGraphs, IsAncestorCause, IsNextCause, IsSelectCause, first_from, selects_from, starts_from};
-ghost use Rattle.tc_rules.specs.Faults.{IsCause, PassNone};
+ghost use Rattle.tc_rules.specs.Faults.{IsCause};
+ghost use Rattle.tc_model.specs.StateCounts.{PassNone};
 ghost use Rattle.tc_rules.specs.Jobs.{IsJob};
 ghost use Rattle.tc_rules.specs.Kept.{IsRulesOf, told};
 ghost use Rattle.tc_rules.specs.Seen.{mode_of, predicates, looks as see_paths};
-ghost use Rattle.tc_rules.specs.Told.{AreSymbolsWith, all_count, count_states, some_item, Block, IsStateOf, ancestor, ancestor_below, is_hit_of, move_count, select_below, select_count};
+ghost use Rattle.tc_rules.specs.Told.{AreSymbolsWith, count_states, IsStateOf, ancestor, ancestor_below, is_hit_of, move_count, select_below, select_count};
+ghost use Rattle.tc_model.specs.StateCounts.{all_count, some_item, Block};
 
 use crate::gather::{
     all_eaches, all_looks, all_moves, all_predicates, modes_of_rules, names_of, paths_of_rules,

@@ -6,7 +6,8 @@ use Rattle.tc_model.specs.Numberings.{Move, moves_of, looks_of}
 use Rattle.tc_model.specs.PathStates.{State}
 use Rattle.tc_rules.specs.Graphs.{Graph}
 use Rattle.tc_rules.proofs.SelectStates.{count_cons}
-use Rattle.tc_rules.specs.Told.{Told, Block, count_states, select_count, move_count, IsStateOf}
+use Rattle.tc_rules.specs.Told.{Told, count_states, select_count, move_count, IsStateOf}
+use Rattle.tc_model.specs.StateCounts.{Block}
 use Rattle.tc_run.specs.Tasks.{IsSomeMove, IsSomeLook}
 
 -- the states of a graph are among all

@@ -15,7 +15,8 @@ use Rattle.tc_model.proofs.TotalJoin.{join_none}
 use Rattle.tc_rules.specs.Kept.{IsRulesOf}
 use Rattle.tc_rules.specs.Seen.{mode_of}
 use Rattle.tc_rules.specs.States.{Going, built_in_at}
-use Rattle.tc_rules.specs.Told.{Block, IsStateOf, ancestor, is_hit_of, select_below}
+use Rattle.tc_rules.specs.Told.{IsStateOf, ancestor, is_hit_of, select_below}
+use Rattle.tc_model.specs.StateCounts.{Block}
 use Rattle.tc_rules.specs.declared.walk.Job.{Job}
 use Rattle.tc_rules.proofs.PathTold.{trees_have_letters}
 use Rattle.tc_run.specs.Lettered as l

@@ -92,7 +92,7 @@ pub(crate) fn with_letters<'b>(
     ensures nodes { IfOk result (λ b. trees b.nodes.now ≡ lettered_by runner.now (see.trees nodes.now)) }
     ensures rest { IfOk result (λ b. text.now ≡ joined_texts (see.trees nodes.now) ++ b.rest.now) }
 {
-    let mut found = Vec::new(arena);
+    let mut found = Vec::with_capacity(arena, nodes.len())?;
     let mut rest = text;
     for node in nodes {
         match node {

@@ -106,11 +106,14 @@ impl<'b> Output<'b> {
         Ok(())
     }
 
-    /// One more tree.
+    /// One more tree. The first takes room for itself alone, since most elements hold one tree.
     fn push(&mut self, node: Node<'b>) -> Result<(), NoMemory>
         ensures nodes { OnOk result (self.new.nodes.items ≡ self.old.nodes.items ++ node.entry ∷ []) }
         ensures work { OnOk result (self.new.work ≡ self.old.work) }
     {
+        if self.nodes.is_empty() {
+            self.nodes.reserve_exact(1)?;
+        }
         self.nodes.push(node)?;
         Ok(())
     }

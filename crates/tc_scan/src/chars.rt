@@ -6,14 +6,14 @@ ghost use Rattle.tc_scan.specs.Chars.{is_plain_byte};
 
 use tc_base::is_char;
 
-/// Whether a byte stands in lawful characters alone.
+/// Whether no character that XML lacks begins with this byte.
 fn is_plain(byte: u8) -> bool
     ensures { result ≡ is_plain_byte byte }
 {
     byte == b'\t' || byte == b'\n' || byte == b'\r' || byte >= b' ' && byte != 0xEF
 }
 
-/// Whether all bytes stand in lawful characters alone.
+/// Whether none begins with any of these bytes.
 fn are_plain(bytes: &[u8]) -> bool
     ensures { result ≡ list_all is_plain_byte bytes.now }
 {

@@ -75,7 +75,7 @@ pub fn after_some_white(text: &str) -> Option<&str>
     Some(&text[count..])
 }
 
-/// How many bytes stand before the first `<` or `&`, or before the end.
+/// How many bytes stand before the first `<` or `&`, or before the end (XML 1.0, 2.4, [14]).
 pub fn plain_len(text: &str) -> usize
     ensures count { result ≡ prefix_len xml_references.is_plain text.now }
     ensures within { result ≤ length text.now }
@@ -86,7 +86,7 @@ pub fn plain_len(text: &str) -> usize
     }
 }
 
-/// How many bytes stand before the first such quote, `<` or `&`, or before the end.
+/// How many bytes stand before the first such quote, `<` or `&`, or before the end (XML 1.0, 2.3, [10]).
 pub fn plain_len_within(text: &str, quote: u8) -> usize
     ensures count { result ≡ prefix_len (xml_references.is_plain_within quote) text.now }
     ensures within { result ≤ length text.now }

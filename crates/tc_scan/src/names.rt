@@ -10,7 +10,7 @@ ghost use Rattle.tc_scan.specs.Seen.{written_name};
 use crate::front::after_byte;
 use tc_base::{is_name_char, is_name_start};
 
-/// A name as it is written: its prefix, empty where it has none, and its local part.
+/// A name as it is written: its prefix, empty where it has none, and its local part (Namespaces in XML 1.0, 4, [7]).
 #[derive(Clone, Copy)]
 pub struct QualifiedName<'t> {
     pub prefix: &'t str,
@@ -91,7 +91,7 @@ fn after_ascii(text: &str) -> &str
     &text[count..]
 }
 
-/// An NCName at the front, as long as it goes, and what follows it.
+/// An NCName at the front, as long as it goes, and what follows it (Namespaces in XML 1.0, 3, [4]).
 pub fn ncname(text: &str) -> Option<(&str, &str)>
     ensures { MatchOption result ((name after : List ℕ) → xml.NcNameAt text.now name after → ⊥) (λ r. xml.NcNameAt text.now r.0.now r.1.now) }
 {
@@ -109,7 +109,7 @@ pub fn ncname(text: &str) -> Option<(&str, &str)>
     Some((&text[..text.len() - rest.len()], rest))
 }
 
-/// A QName at the front, and what follows it.
+/// A QName at the front, and what follows it (Namespaces in XML 1.0, 4, [7] to [11]).
 pub fn qname(text: &str) -> Option<(QualifiedName<'_>, &str)>
     ensures { MatchOption result ((name : xml.QualifiedName) (after : List ℕ) → xml.QNameAt text.now name after → ⊥) (λ r. xml.QNameAt text.now (written_name r.0) r.1.now) }
 {

@@ -8,8 +8,8 @@ use Rattle.tc_model.specs.SimplifiesCounts.{IsWithinCounts, Passes, nodes, depth
 use Rattle.tc_model.specs.States.{input, state_count}
 use Rattle.tc_model.specs.Symbols.{Mention, symbols_of, symbol_count}
 use Rattle.tc_model.specs.Trees.{Trees}
-use Rattle.tc_rules.specs.Faults.{PassNone}
-use Rattle.tc_rules.specs.Told.{PassPredicates, PassAncestors, PassSelects}
+use Rattle.tc_model.specs.StateCounts.{PassNone}
+use Rattle.tc_model.specs.StateCounts.{PassPredicates, PassAncestors, PassSelects}
 use Rattle.tc_run.specs.Limits.{KeepsLimits}
 
 abbrev pub limit_word : Limit → List ℕ

@@ -4,7 +4,8 @@ use Rattle.tc_model.specs.Chains.{one, an_element, a_text}
 use Rattle.tc_model.specs.Machine as machine
 use Rattle.tc_model.specs.Seen.{name}
 use Rattle.tc_rules.specs.Asked.{letter}
-use Rattle.tc_rules.specs.Told.{Block, select_below}
+use Rattle.tc_rules.specs.Told.{select_below}
+use Rattle.tc_model.specs.StateCounts.{Block}
 use Rattle.tc_rules.specs.States.{Looking}
 use Rattle.tc_rules.specs.declared.rules.Kind.TheVariants as kinds
 use Rattle.tc_run.specs.Lettered as l

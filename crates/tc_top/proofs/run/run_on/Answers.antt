@@ -5,7 +5,8 @@ use Rattle.tc_model.specs.Seen as see
 use Rattle.tc_model.specs.Sheets.{Sheet}
 use Rattle.tc_model.specs.Symbols.{Mention}
 use Rattle.tc_model.specs.Trees.{none}
-use Rattle.tc_rules.specs.Faults.{IsCause, PassNone}
+use Rattle.tc_rules.specs.Faults.{IsCause}
+use Rattle.tc_model.specs.StateCounts.{PassNone}
 use Rattle.tc_rules.specs.Kept.{told}
 use Rattle.tc_top.specs.Answers as a
 use Rattle.tc_top.specs.Answers.{Runs, sheet_passes}
