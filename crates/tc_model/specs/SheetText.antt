@@ -163,12 +163,12 @@ calls_of templates = flat_map (λ t. map (λ c. record { template = t; call = c 
 abbrev pub IsUndefined : List Template → StandingCall → Type 0
 IsUndefined templates c = IsDefined templates c.call → ⊥
 
--- a call in a named template, which is called or leads back to it
+-- a call in a named template: of that template, or of one that leads back to it
 abbrev pub IsLoop : List Template → StandingCall → Type 0
 IsLoop templates c = (n : ExpandedName) × (c.template.name ≡ Some n) × ((c.call.name ≡ n) ⊎ Reaches templates c.call.name n)
 
 -- The templates of the whole text. No two have one name (6); all calls in those that can be used are to a template of that name (6), and none
--- leads to itself (this project's choice: without parameters such a call has no end).
+-- leads back to the template in which it stands (this project's choice: recursive named templates aren't read, also where they would end).
 pub record SheetText (raw : RawTrees) (sheet : Sheet) : Type 0 where
   pub templates : List Template
   pub written : IsStylesheet raw templates

@@ -1,8 +1,14 @@
 -- Laws of stylesheets as XML: a raw tree means one stylesheet at most, and has one fault at most.
-use Rattle.std.specs.Prelude.{◌≡◌, ℕ}
+use Rattle.std.specs.Prelude.{◌≡◌, ℕ, List}
 use Rattle.tc_model.specs.RawTrees.{RawTrees}
 use Rattle.tc_model.specs.Sheets.{Sheet}
+use Rattle.tc_model.specs.SheetTextTrees.{Template}
+use Rattle.tc_model.specs.SheetTextPhrases.{IsStylesheet}
 use Rattle.tc_model.specs.SheetText.{SheetText, SheetFault, SheetFails}
+
+-- as it is written, too: one list of templates
+abbrev pub HasOneListOfTemplates : Type 0
+HasOneListOfTemplates = (raw : RawTrees) (ts us : List Template) → IsStylesheet raw ts → IsStylesheet raw us → ts ≡ us
 
 abbrev pub HasOneSheet : Type 0
 HasOneSheet = (raw : RawTrees) (s t : Sheet) → SheetText raw s → SheetText raw t → s ≡ t

@@ -1,4 +1,4 @@
--- Stylesheets as XML (XSLT 1.0, 2 to 9): what the elements of the part of XSLT mean that is read.
+-- Stylesheets as XML (XSLT 1.0, 2 to 9 and 11.3): what the elements of the part of XSLT mean that is read.
 use Rattle.std.specs.Prelude.{◌≡◌, ◌≢◌, ◌⊎◌, ℕ, not, ◌&&◌, ◌||◌, List, [], ◌∷◌, ◌++◌, map, Option, None, Some, All, IsTrue, IsFalse, bytes_eq, codes, ℤ, if◌then◌else◌}
 use Rattle.std.specs.List.{list_any}
 use Rattle.tc_model.specs.Names.{ExpandedName}
