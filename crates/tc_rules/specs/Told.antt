@@ -1,12 +1,13 @@
 -- What a value of rules tells: its stylesheet, and the states of its paths by number.
-use Rattle.std.specs.Prelude.{◌≡◌, ◌<◌, ◌≤◌, ◌+◌, ℕ, List, [], ◌∷◌, ◌++◌, length, map, sum, take, filter, Bool, true, not, Option, None, Some, slice_get, get_or, Contains}
+use Rattle.std.specs.Prelude.{◌≡◌, ◌≤◌, ◌+◌, ℕ, List, [], length, map, sum, take, Bool, Some, slice_get, get_or, Contains}
 use Rattle.tc_model.specs.Grammars.{Grammar}
-use Rattle.tc_model.specs.Sheets.{Path, Test, Body, Sheet}
+use Rattle.tc_model.specs.Sheets.{Test, Body, Sheet}
 use Rattle.tc_model.specs.WellFormed.{IsSheet, ForEach, eaches_of}
 use Rattle.tc_model.specs.Symbols.{Mention, symbols_of}
 use Rattle.tc_model.specs.Letters.{Letter}
-use Rattle.tc_model.specs.PathStates.{State, is_empty_state, first_state, next_state, is_hit, path_of_rules}
-use Rattle.tc_model.specs.Numberings.{predicates_of, moves_of, looks_of, letters_of_elements, rounds}
+use Rattle.tc_model.specs.PathStates.{State, next_state, is_hit, path_of_rules}
+use Rattle.tc_model.specs.Numberings.{predicates_of, moves_of}
+use Rattle.tc_model.specs.StateCounts.{Block, blocks_of, all_count, some_item}
 use Rattle.tc_rules.specs.Graphs.{Graph, IsGraphOf}
 
 pub record Told : Type 0 where

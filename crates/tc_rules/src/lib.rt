@@ -2,7 +2,7 @@
 //!
 //! A path state holds how far the steps of a path have come, going down from a node; it goes on by letters, which are the symbol
 //! of an element with the set of predicates that hold there. What the numbers are stands in `tc_model/specs/Numberings.antt`, and
-//! that states tell what a stylesheet means in `specs/States.antt`.
+//! that states tell what a stylesheet means in `specs/PathLaws.antt`.
 #![tactic(auto)]
 
 mod gather;

@@ -49,7 +49,7 @@ const MOST_SELECTS: usize = 4096;
 #[derive(Clone, Copy, Debug, PartialEq, Eq, PartialOrd, Ord, Hash)]
 pub struct Marks(pub u32);
 
-/// What a node test sees of a node: the symbol of an element, or that it is a text.
+/// What a node test sees of a node: the symbol of an element, or that it is a text (XPath 1.0, 2.3).
 #[derive(Clone, Copy, Debug, PartialEq, Eq, Hash)]
 pub enum Kind {
     Elem(Sym),
@@ -211,7 +211,7 @@ impl<'b> Rules<'b> {
         self.predicates[i as usize]
     }
 
-    /// The rule of the root in a mode.
+    /// The rule of the root in a mode (XSLT 1.0, 5.5).
     pub fn root_rule(&self, mode: u32) -> Found
         requires { mode < (told self.now).sheet.modes }
         ensures { (symbols : List Mention) → IsRulesOf symbols self.now → IsRuleOf (told self.now).sheet.rules mode (λ i r. paths.fits r.pattern (top none)) (found result) }
@@ -224,7 +224,7 @@ impl<'b> Rules<'b> {
         best
     }
 
-    /// The rule in a mode of a node of a letter, the state of the element above it being given.
+    /// The rule in a mode of a node of a letter, the ancestor state of the node above it being given (XSLT 1.0, 5.5).
     pub fn rule_for(&self, mode: u32, anc: u32, kind: Kind, marks: Marks) -> Found
         requires mode { mode < (told self.now).sheet.modes }
         requires state { anc < length (told self.now).ancestors.states }
@@ -269,7 +269,7 @@ impl<'b> Rules<'b> {
         }
     }
 
-    /// Whether the path of a select state selects a node of a letter, the state of the element above it being given.
+    /// Whether a node of a letter is a hit of a select state, which is that of the node above it.
     pub fn sel_hits(&self, sel: u32, kind: Kind, marks: Marks) -> bool
         requires { sel < select_count (told self.now) }
         ensures { (symbols : List Mention) (b : Block) (x : State) → IsRulesOf symbols self.now → l.IsLetter symbols (n.predicates_of (told self.now).sheet) (letter kind marks) → IsStateOf (told self.now) sel b x → result ≡ is_hit_of symbols (told self.now) b x (letter kind marks) }

@@ -1,4 +1,4 @@
--- The law of results: names and texts are lawful in them.
+-- The law of lawful results: names and texts are lawful in them.
 use Rattle.tc_model.specs.Trees.{Trees, IsDocument, AreLawful}
 use Rattle.tc_model.specs.Sheets.{Sheet}
 use Rattle.tc_model.specs.WellFormed.{IsSheet}

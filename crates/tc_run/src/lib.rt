@@ -53,7 +53,7 @@ impl From<NoMemory> for RunFault {
     }
 }
 
-/// The law of results: the result of a well-formed stylesheet on a document has lawful names and texts.
+/// The law of lawful results: the result of a well-formed stylesheet on a document has lawful names and texts.
 pub fn law_of_lawful_results()
     ensures { HasLawfulResults }
 {}
