@@ -14,7 +14,7 @@ use Rattle.tc_model.specs.declared.tree.Raw.TheVariants.{rolls-Elem, rolls-Text}
 use Rattle.tc_model.specs.declared.tree.Raw.TheViews.{roll-Raw, out-Raw, roll-out-Raw}
 use Rattle.tc_model.proofs.ViewsRaw.{before_elem, before_text}
 use Rattle.tc_sheet.specs.Constructs.{reason_of}
-use Rattle.tc_sheet.specs.LookedAt.{Where, in_body, IsOpened, IsIn, IsAt, IsAnything, IsRefused}
+use Rattle.tc_sheet.specs.LookedAt.{Where, in_body, IsOpened, IsIn, IsAt, IsUnrefused, IsRefused}
 use Rattle.tc_sheet.specs.LookedAt as looked
 use Rattle.tc_sheet.specs.Changes.{Change, flattened, both, TakesAway, ChangedAttributes, Changed, a_text, an_element, taken_away}
 use Rattle.tc_sheet.specs.Readings.{Refuses, IsMisplaced, alone, attributes_of, tag_with, HasNoAttributes, IsRead, HasNoInstruction, HasNoBody, IsItem, HasNoItem, IsElementItem, HasNoElementItem}
@@ -28,6 +28,7 @@ use Rattle.tc_sheet.specs.declared.faults.SheetFault.{SheetFault}
 use Rattle.tc_sheet.specs.declared.faults.SheetFault.TheVariants.{Malformed, Unsupported, TooDeep, Undefined, CallLoop, NoMemory}
 use Rattle.tc_sheet.proofs.ViewsWritten.{pushed_written}
 use Rattle.tc_sheet.proofs.SameBodies.{some_is, not_literal, instruction_reason, literal_reason, not_taken}
+use Rattle.tc_sheet.proofs.Unrefused.{unrefused_stays}
 use Rattle.tc_sheet.proofs.Refusals.{Covers, lifted, covers_itself, both_cover, covers_tag, covers_kids, covers_rest, covers_one, covers_beside_text, covers_text, element_at}
 
 -- what an element that isn't taken away becomes
@@ -121,7 +122,7 @@ body_refuses e h a x r = lifted (covers_kids a.opened) a.needs x r
 
 -- the fault of an element that must not stand where it stands
 pub misplaced_is : (w : Where) (e : RawElem) (rest : RawTrees) (Q : Change → Type 0) → ((c : Change) → (TakesAway c (name e.name) → ⊥) → Q c) → (x : SheetFault) → IsMisplaced e x → Refuses x (IsIn w (raw_element e rest)) Q
-misplaced_is w e rest Q f (Malformed q) r = (subst (IsAt (IsIn w (raw_element e rest)) IsAnything) (sym r.0) (element_at w e rest tt), f both (not_taken both (name e.name) r.1))
+misplaced_is w e rest Q f (Malformed q) r = (subst (IsAt (IsIn w (raw_element e rest)) IsUnrefused) (sym r.0) (element_at w e rest r.1), f both (unrefused_stays both (name e.name) r.1))
 misplaced_is w e rest Q f (Unsupported q why) r = (subst (IsAt (IsIn w (raw_element e rest)) (IsRefused why)) (sym r.0) (element_at w e rest r.1), f flattened (λ t. t))
 misplaced_is w e rest Q f (TooDeep q) r = absurd r
 misplaced_is w e rest Q f (Undefined q) r = absurd r

@@ -14,7 +14,7 @@ use Rattle.tc_model.specs.SheetTextPhrases as p
 use Rattle.tc_model.specs.SheetTextPhrases.{IsXsl, value_of, HasOnly, IsBlank, Required, Tag, tag, IsTag, i_choose, instruction_of, IsInstruction, IsBody, AreBranches}
 use Rattle.tc_model.specs.declared.tree.Raw.{Raw}
 use Rattle.tc_model.specs.declared.tree.RawElem.{RawElem}
-use Rattle.tc_sheet.specs.LookedAt.{in_body, in_choose, in_blank, IsIn, IsAt, IsAnything}
+use Rattle.tc_sheet.specs.LookedAt.{in_body, in_choose, in_blank, IsIn, IsAt, IsUnrefused}
 use Rattle.tc_sheet.specs.LookedAt as looked
 use Rattle.tc_sheet.specs.Changes.{Change, both, TakesAway, ChangedAttributes, Changed, a_text}
 use Rattle.tc_sheet.specs.Readings.{Refuses, IsMisplaced, alone, attributes_of, scope_of, HasTest, HasNoTest, IsTested, HasNoTested, HasNoAttributes, HasNoBody, IsNotBlank, HasNoBranches, IsElementItem, HasNoElementItem}
@@ -163,8 +163,8 @@ module _ (e : RawElem) (is : instruction_of (name e.name) ≡ Some i_choose) whe
 
 -- faults of a tree in an `xsl:choose`
 module _ {whole left : RawTrees} {found : List WrittenBranch} (l : BranchLoop whole left found) where
-  pub black_refuses : (s : List ℕ) (q : ℕ) (rest : RawTrees) → left ≡ text s q rest → IsFalse (is_all_white s) → IsAt (IsIn in_choose whole) IsAnything q × HasNoBranches whole both
-  black_refuses s q rest e f = (moved l.covers (subst (λ h. IsAt (IsIn in_choose h) IsAnything q) (sym e) (text_at in_choose s q rest)), l.no_more both (subst (λ h. HasNoBranches h both) (sym e) (text_no_branch s q f both rest)))
+  pub black_refuses : (s : List ℕ) (q : ℕ) (rest : RawTrees) → left ≡ text s q rest → IsFalse (is_all_white s) → IsAt (IsIn in_choose whole) IsUnrefused q × HasNoBranches whole both
+  black_refuses s q rest e f = (moved l.covers (subst (λ h. IsAt (IsIn in_choose h) IsUnrefused q) (sym e) (text_at in_choose s q rest)), l.no_more both (subst (λ h. HasNoBranches h both) (sym e) (text_no_branch s q f both rest)))
 
   pub odd_refuses : (e : RawElem) (rest : RawTrees) → left ≡ raw_element e rest → (x : SheetFault) → Refuses x (IsIn in_choose (raw_element e none)) (λ c. (rest : RawTrees) → HasNoBranches (raw_element e rest) c) → Refuses x (IsIn in_choose whole) (HasNoBranches whole)
   odd_refuses e rest is x r =

@@ -1,8 +1,8 @@
 -- Elements that must not stand where they stand.
-use Rattle.std.proofs.Common.{◌≡◌, Bool, false, refl, ap, ◌∙◌, Option, None, Some, bytes_eq, if◌then◌else◌}
+use Rattle.std.proofs.Common.{◌≡◌, Bool, true, false, refl, ap, ◌∙◌, Option, None, Some, bytes_eq, if◌then◌else◌}
 use Rattle.std.specs.Prelude.{is_some, option_map}
 use Rattle.std.specs.List.{list_any}
-use Rattle.std.proofs.lemmas.Bool.{true≢false}
+use Rattle.std.proofs.lemmas.Bool.{true≢false, false≢true}
 use Rattle.std.proofs.lemmas.Slice.Eq.{bytes_eq-Decides}
 use Rattle.tc_base.specs.declared.reasons.Why.{Why}
 use Rattle.tc_model.specs.Names.{ExpandedName}
@@ -25,3 +25,7 @@ module _ (n : ExpandedName) (u : n.uri ≡ xsl_uri) where
 pub mapped_none : {A B : Type 0} (f : A → B) (o : Option A) → is_some o ≡ false → option_map f o ≡ None
 mapped_none f None e = refl
 mapped_none f (Some x) e = absurd (true≢false e)
+
+pub mapped_some : {A B : Type 0} (f : A → B) (o : Option A) → is_some o ≡ true → option_map f o ≡ None → ⊥
+mapped_some f None e g = false≢true e
+mapped_some f (Some x) e g = cc

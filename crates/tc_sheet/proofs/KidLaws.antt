@@ -7,7 +7,7 @@ use Rattle.tc_model.specs.Names.{ExpandedName}
 use Rattle.tc_model.specs.Seen.{raw_element}
 use Rattle.tc_model.specs.SheetTextPhrases.{IsBlank, at_end, past_white, AreCharacters, no_characters, characters}
 use Rattle.tc_model.specs.declared.tree.RawElem.{RawElem}
-use Rattle.tc_sheet.specs.LookedAt.{in_blank, IsIn, IsAt, IsAnything}
+use Rattle.tc_sheet.specs.LookedAt.{in_blank, IsIn, IsAt, IsUnrefused}
 use Rattle.tc_sheet.specs.Changes.{Change, both, Changed, a_text}
 use Rattle.tc_sheet.specs.Readings.{Refuses, IsMisplaced, IsNotBlank, HasNoCharacters}
 use Rattle.tc_sheet.specs.declared.faults.SheetFault.{SheetFault}
@@ -49,8 +49,8 @@ module _ {whole left rest : RawTrees} (l : BlankLoop whole left) where
     covers = both_cover (subst (λ h. Covers (IsIn in_blank rest) (IsIn in_blank h)) (sym e) covers_beside_text) l.covers;
   }
 
-  pub text_not_blank : (s : List ℕ) (q : ℕ) → left ≡ text s q rest → IsFalse (is_all_white s) → IsAt (IsIn in_blank whole) IsAnything q × IsNotBlank whole both
-  text_not_blank s q e f = (moved l.covers (subst (λ h. IsAt (IsIn in_blank h) IsAnything q) (sym e) (text_at in_blank s q rest)), l.no_more both (subst (λ h. IsNotBlank h both) (sym e) (black_text both f)))
+  pub text_not_blank : (s : List ℕ) (q : ℕ) → left ≡ text s q rest → IsFalse (is_all_white s) → IsAt (IsIn in_blank whole) IsUnrefused q × IsNotBlank whole both
+  text_not_blank s q e f = (moved l.covers (subst (λ h. IsAt (IsIn in_blank h) IsUnrefused q) (sym e) (text_at in_blank s q rest)), l.no_more both (subst (λ h. IsNotBlank h both) (sym e) (black_text both f)))
 
   pub element_not_blank : (e : RawElem) → left ≡ raw_element e rest → (x : SheetFault) → IsMisplaced e x → Refuses x (IsIn in_blank whole) (IsNotBlank whole)
   element_not_blank e is x r =

@@ -2,6 +2,7 @@ pub mod Plain
 pub mod Changes
 pub mod SameBodies
 pub mod ViewsWritten
+pub mod Unrefused
 pub mod Refusals
 pub mod LawfulPaths
 pub mod LawfulBodies

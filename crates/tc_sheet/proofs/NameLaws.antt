@@ -1,8 +1,9 @@
 -- What the attributes of an element mean, and how they are refused.
 use Rattle.std.proofs.Common.{◌≡◌, ◌≢◌, inl, inr, ℕ, ◌==◌, Bool, true, false, ◌||◌, List, [], refl, ap, ◌∙◌, sym, subst, Option, None, Some, IsFalse, bytes_eq, Contains, length}
-use Rattle.std.specs.Prelude.{codes, is_some, MatchOption}
+use Rattle.std.specs.Prelude.{codes, is_some, MatchOption, All}
 use Rattle.std.specs.List.{list_any}
 use Rattle.std.proofs.lemmas.Bool.{true≢false, eqb-true}
+use Rattle.std.proofs.lemmas.List.Elements.{All-contains}
 use Rattle.tc_base.specs.declared.reasons.Why.{Why}
 use Rattle.tc_base.specs.declared.reasons.Why.TheVariants.{N35, N37, N38, N39, N40, N41, N42}
 use Rattle.tc_model.specs.Names.{ExpandedName}
@@ -22,10 +23,11 @@ use Rattle.tc_model.proofs.PathTextLexing.{tokens_unique}
 use Rattle.tc_path.proofs.NodeTestLaws.{means_without, means_with, means_nothing}
 use Rattle.tc_path.proofs.TokenLaws.{no_length}
 use Rattle.tc_sheet.specs.Constructs.{IsRoot, plain}
-use Rattle.tc_sheet.specs.LookedAt.{IsAt, IsAnything, IsRefused}
+use Rattle.tc_sheet.specs.LookedAt.{IsAt, of_attribute, IsUnrefused, IsRefused}
 use Rattle.tc_sheet.specs.Constructs as constructs
 use Rattle.tc_sheet.specs.Changes.{Change, both, flattened, exchanged}
 use Rattle.tc_sheet.specs.Readings.{Refuses, alone, attributes_of, scope_of, IsAttribute, HasAttributesText, HasNoAttributes, HasNoRequired, HasNoOptional}
+use Rattle.tc_sheet.specs.Seen.{tag_of}
 use Rattle.tc_sheet.specs.declared.faults.SheetFault.{SheetFault}
 use Rattle.tc_sheet.proofs.Changes.{Becomes, value_becomes, kept_value}
 use Rattle.tc_sheet.proofs.SameBodies.{unpacked, optional_unpacked}
@@ -61,12 +63,12 @@ module _ {X : Type 0} (M : List ℕ → X → Type 0) {e : RawElem} {local : Lis
   kept_optional f at h c olds o u r = let (x, g, m) = optional_unpacked (subst (λ w. Optional M w o) (kept_value c local f u ∙ at.value) r) in h x m
 
   pub required_malformed : {a : RawAttr} → IsFalse (list_any (bytes_eq local) exchanged) → IsAttribute e local a → ((x : X) → M (attribute a).value x → ⊥)
-      → IsAt (alone e) IsAnything (place a.place) × HasNoRequired e local M both
-  required_malformed {a = a} f at h = (attribute_at e a at.has tt, kept_required f at h both)
+      → IsUnrefused (of_attribute (tag_of e) (attribute a)) → IsAt (alone e) IsUnrefused (place a.place) × HasNoRequired e local M both
+  required_malformed {a = a} f at h r = (attribute_at e a at.has r, kept_required f at h both)
 
   pub optional_malformed : {a : RawAttr} → IsFalse (list_any (bytes_eq local) exchanged) → IsAttribute e local a → ((x : X) → M (attribute a).value x → ⊥)
-      → IsAt (alone e) IsAnything (place a.place) × HasNoOptional e local M both
-  optional_malformed {a = a} f at h = (attribute_at e a at.has tt, kept_optional f at h both)
+      → IsUnrefused (of_attribute (tag_of e) (attribute a)) → IsAt (alone e) IsUnrefused (place a.place) × HasNoOptional e local M both
+  optional_malformed {a = a} f at h r = (attribute_at e a at.has r, kept_optional f at h both)
 
   pub required_unsupported : {a : RawAttr} {why : Why} → IsFalse (list_any (bytes_eq local) exchanged) → IsAttribute e local a → ((x : X) → M (attribute a).value x → ⊥)
       → constructs.IsRefusedAttribute (name e.name) (scope_of e) (attribute a) why → IsAt (alone e) (IsRefused why) (place a.place) × HasNoRequired e local M flattened
@@ -77,6 +79,9 @@ required_refuses e local M x r = refused (alone e) (λ c h. no_required e local 
 
 pub computed_name : (e : RawElem) (a : RawAttr) → IsXsl (codes "element") (name e.name) → IsAttribute e (codes "name") a → Contains (attribute a).value 0x7B → constructs.IsRefusedAttribute (name e.name) (scope_of e) (attribute a) N38
 computed_name e a n at h = constructs.computed n at.name h
+
+pub no_brace : (s : List ℕ) → All (λ x. x ≢ 0x7B) s → Contains s 0x7B → ⊥
+no_brace s h has = All-contains (λ (x : ℕ). x ≢ 0x7B) s 0x7B h has refl
 
 -- the names of modes, templates and elements
 pub no_whole : {text rest : List ℕ} {m : QualifiedName} → QNameAt text m rest → (length rest == 0) ≡ false → (n : QualifiedName) → QNameAt text n [] → ⊥
@@ -160,8 +165,8 @@ module _ (e : RawElem) (a : RawAttr) (has : Contains (attributes_of e) (attribut
     pub extension_at : bytes_eq (attribute a).name.local (codes "extension-element-prefixes") ≡ true → IsRoot (name e.name) → IsAt (alone e) (IsRefused N35) (place a.place)
     extension_at f n = attribute_at e a has (constructs.extension n (plain_name (attribute a).name (codes "extension-element-prefixes") no_uri f))
 
-  pub place_at : IsAt (alone e) IsAnything (place a.place)
-  place_at = attribute_at e a has tt
+  pub place_at : IsUnrefused (of_attribute (tag_of e) (attribute a)) → IsAt (alone e) IsUnrefused (place a.place)
+  place_at r = attribute_at e a has r
 
   pub literal_sets_at : (name e.name).uri ≢ xsl_uri → (attribute a).name.uri ≡ xsl_uri → bytes_eq (attribute a).name.local (codes "use-attribute-sets") ≡ true → IsAt (alone e) (IsRefused N40) (place a.place)
   literal_sets_at u v f = attribute_at e a has (constructs.literal_sets u (xsl_name (attribute a).name (codes "use-attribute-sets") v (bytes_same (attribute a).name.local (codes "use-attribute-sets") f)))

@@ -14,8 +14,8 @@ use Rattle.tc_path.specs.declared.PathFault.{PathFault}
 use Rattle.tc_path.specs.declared.PathFault.TheVariants as path
 use Rattle.tc_path.specs.Faults as paths
 use Rattle.tc_path.specs.Faults.{FormsOnceRenamed, Deep}
-use Rattle.tc_sheet.specs.Constructs.{Form, context_of, HasForm, MustHave, plain, in_path}
-use Rattle.tc_sheet.specs.LookedAt.{Where, Item, of_text, of_element, of_attribute, IsOpened, IsIn, IsAt, IsAnything, IsRefused, IsDeep}
+use Rattle.tc_sheet.specs.Constructs.{Form, context_of, HasForm, MustHave, plain, in_path, IsUnrefusedElement}
+use Rattle.tc_sheet.specs.LookedAt.{Where, Item, of_text, of_element, of_attribute, IsOpened, IsIn, IsAt, IsUnrefused, IsDeep}
 use Rattle.tc_sheet.specs.LookedAt as looked
 use Rattle.tc_sheet.specs.Seen.{tag_of}
 use Rattle.tc_sheet.specs.Changes.{Change, mended, flattened, both, Exchanges, IsRenamed}
@@ -25,6 +25,7 @@ use Rattle.tc_sheet.specs.declared.faults.SheetFault.{SheetFault}
 use Rattle.tc_sheet.specs.declared.faults.SheetFault.TheVariants.{Malformed, Unsupported, TooDeep, Undefined, CallLoop, NoMemory}
 use Rattle.tc_sheet.proofs.Changes.{Becomes, value_becomes}
 use Rattle.tc_sheet.proofs.SameBodies.{unpacked, optional_unpacked}
+use Rattle.tc_sheet.proofs.Unrefused.{path_unrefused}
 
 -- what is of the first is of the second
 pub record Covers (Has Has' : Item → Type 0) : Type 0 where
@@ -85,8 +86,8 @@ module _ {s : List ℕ} {p : ℕ} {rest : RawTrees} where
   covers_text = record { moves = text_moves }
 
 -- an element, and an attribute of it, at their places
-pub itself_at : (e : RawElem) → IsAt (alone e) IsAnything (place e.place)
-itself_at e = record { item = of_element (tag_of e); has = itself; holds = tt; stands = refl }
+pub itself_at : (e : RawElem) → IsUnrefusedElement (name e.name) → IsAt (alone e) IsUnrefused (place e.place)
+itself_at e h = record { item = of_element (tag_of e); has = itself; holds = h; stands = refl }
 
 pub attribute_at : (e : RawElem) (a : RawAttr) {P : Item → Type 0} → Contains (attributes_of e) (attribute a) → P (of_attribute (tag_of e) (attribute a)) → IsAt (alone e) P (place a.place)
 attribute_at e a has h = record { item = of_attribute (tag_of e) (attribute a); has = attribute_of has; holds = h; stands = refl }
@@ -94,8 +95,8 @@ attribute_at e a has h = record { item = of_attribute (tag_of e) (attribute a); 
 pub element_at : (w : Where) (e : RawElem) (rest : RawTrees) {P : Item → Type 0} → P (of_element (tag_of e)) → IsAt (IsIn w (raw_element e rest)) P (place e.place)
 element_at w e rest h = record { item = of_element (tag_of e); has = looked.at_element; holds = h; stands = refl }
 
-pub text_at : (w : Where) (s : List ℕ) (q : ℕ) (rest : RawTrees) → IsAt (IsIn w (text s q rest)) IsAnything q
-text_at w s q rest = record { item = of_text q; has = looked.at_text; holds = tt; stands = refl }
+pub text_at : (w : Where) (s : List ℕ) (q : ℕ) (rest : RawTrees) → IsAt (IsIn w (text s q rest)) IsUnrefused q
+text_at w s q rest = record { item = of_text q; has = looked.at_text; holds = λ why r. r; stands = refl }
 
 -- an attribute whose text is exchanged for one of a form, once it is renamed
 once_renamed : {P : List Token → Type 0} {s t : List ℕ} → IsRenamed s t → Forms P t → FormsOnceRenamed P s
@@ -155,14 +156,17 @@ module _ {V : Type 0} (IsPhrase : V → List Token → Type 0) (ctx : Form) (e :
   formless_text : (why : Why) → HasNone (path.Unsupported why) → HasForm ctx (scope_of e) written_text → ⊥
   formless_text why refuted f = let (v, m) = formed f in refuted v m
 
+  not_refused : HasNone path.Malformed → paths.IsCause (context_of ctx) written_text path.Malformed → IsUnrefused (of_attribute (tag_of e) (attribute a))
+  not_refused refuted cause = path_unrefused (name e.name) (scope_of e) (attribute a) ctx of_context (λ f. let (v, m) = formed f in refuted v m) cause.1
+
   pub path_refused : (fault : PathFault) → HasNone fault → paths.IsCause (context_of ctx) written_text fault → RenamedHas fault → Refuses (path_fault_at a.place fault) (alone e) (HasNoRequired e local Means)
-  path_refused path.Malformed refuted cause renamed = (attribute_at e a at.has tt, formless both (malformed_formless refuted cause renamed))
+  path_refused path.Malformed refuted cause renamed = (attribute_at e a at.has (not_refused refuted cause), formless both (malformed_formless refuted cause renamed))
   path_refused (path.Unsupported why) refuted cause renamed = (attribute_at e a at.has (in_path of_context (formless_text why refuted) cause), formless flattened (unsupported_formless why refuted cause))
   path_refused path.TooDeep refuted cause renamed = (attribute_at e a at.has (ctx, of_context, cause), formless mended (deep_formless refuted renamed))
   path_refused path.NoMemory refuted cause renamed = tt
 
   pub path_refused_optional : (fault : PathFault) → HasNone fault → paths.IsCause (context_of ctx) written_text fault → RenamedHas fault → Refuses (path_fault_at a.place fault) (alone e) (HasNoOptional e local Means)
-  path_refused_optional path.Malformed refuted cause renamed = (attribute_at e a at.has tt, formless_optional both (malformed_formless refuted cause renamed))
+  path_refused_optional path.Malformed refuted cause renamed = (attribute_at e a at.has (not_refused refuted cause), formless_optional both (malformed_formless refuted cause renamed))
   path_refused_optional (path.Unsupported why) refuted cause renamed = (attribute_at e a at.has (in_path of_context (formless_text why refuted) cause), formless_optional flattened (unsupported_formless why refuted cause))
   path_refused_optional path.TooDeep refuted cause renamed = (attribute_at e a at.has (ctx, of_context, cause), formless_optional mended (deep_formless refuted renamed))
   path_refused_optional path.NoMemory refuted cause renamed = tt

@@ -12,7 +12,7 @@ use Rattle.tc_model.specs.SheetTextPhrases as p
 use Rattle.tc_model.specs.SheetTextPhrases.{tag, AreTemplates, IsStylesheet}
 use Rattle.tc_model.specs.SheetText.{one_name, names_of, IsDefined, IsUndefined, IsLoop, StandingCall, calls_of, SheetText, IsFirst, SheetFault as Fails, undefined, call_loop, SheetFails, of_undefined, of_loop}
 use Rattle.tc_model.proofs.SheetTextUnique.{one_sheet_fault}
-use Rattle.tc_sheet.specs.LookedAt.{at_top, of_element, IsIn, IsLookedAt, IsAt, IsAnything}
+use Rattle.tc_sheet.specs.LookedAt.{at_top, of_element, IsIn, IsLookedAt, IsAt, IsUnrefused}
 use Rattle.tc_sheet.specs.LookedAt as looked
 use Rattle.tc_sheet.specs.Changes.{Change, mended, flattened, both, TakesAway, Exchanges, ChangedAttributes, no_attribute, as_it_is, an_exchange, Changed, no_tree, a_text, an_element, taken_away}
 use Rattle.tc_sheet.specs.Faults.{OfAllWith, IsNoneWith, IsCause, NamesAgain, IsUnsupported, IsTooDeep, IsUndefinedAt, IsLoopAt, IsMalformedAt, IsNoFaultOfCalls}
@@ -22,6 +22,7 @@ use Rattle.tc_sheet.specs.declared.faults.SheetFault.{SheetFault}
 use Rattle.tc_sheet.specs.declared.faults.SheetFault.TheVariants.{Malformed, Unsupported, TooDeep, Undefined, CallLoop, NoMemory}
 use Rattle.tc_sheet.proofs.Changes.{as_they_are}
 use Rattle.tc_sheet.proofs.SameBodies.{stylesheet_same}
+use Rattle.tc_sheet.proofs.Unrefused.{template_unrefused}
 use Rattle.tc_sheet.proofs.Refusals.{moved, covers_beside_text, covers_rest}
 use Rattle.tc_sheet.proofs.NamedAgain.{not_once, named_there, one_place}
 
@@ -102,25 +103,25 @@ module _ (raw : RawTrees) where
   always_again NoMemory a n m f = tt
 
 -- each template stands in the tree
-templates_stand : {h : RawTrees} {ts : List Template} → AreTemplates h ts → All (λ t. IsAt (IsIn at_top h) IsAnything t.place) ts
+templates_stand : {h : RawTrees} {ts : List Template} → AreTemplates h ts → All (λ t. IsAt (IsIn at_top h) IsUnrefused t.place) ts
 templates_stand p.at_end = λ k d l. absurd (omega arith)
 templates_stand (p.past_white w a) = λ k d l. moved covers_beside_text (templates_stand a k d l)
 templates_stand (p.a_template {n = n} {attributes = bs} {scope = scope} {p = q} {kids = kids} {rest = rest} {t = t} {ts = ts} x a) =
-    All-cons (λ u. IsAt (IsIn at_top (element n bs scope q kids rest)) IsAnything u.place) t ts
-    (record { item = of_element (tag n bs scope q); has = looked.at_element; holds = tt; stands = sym x.place })
+    All-cons (λ u. IsAt (IsIn at_top (element n bs scope q kids rest)) IsUnrefused u.place) t ts
+    (record { item = of_element (tag n bs scope q); has = looked.at_element; holds = template_unrefused n x.is_template.name; stands = sym x.place })
     (λ k d l. moved (covers_rest refl) (templates_stand a k d l))
 templates_stand (p.past_declaration e a) = λ k d l. moved (covers_rest refl) (templates_stand a k d l)
 templates_stand (p.past_other u v a) = λ k d l. moved (covers_rest refl) (templates_stand a k d l)
 
-stylesheet_stands : {h : RawTrees} {ts : List Template} → IsStylesheet h ts → (t : Template) → Contains ts t → IsAt (IsLookedAt h) IsAnything t.place
+stylesheet_stands : {h : RawTrees} {ts : List Template} → IsStylesheet h ts → (t : Template) → Contains ts t → IsAt (IsLookedAt h) IsUnrefused t.place
 stylesheet_stands {ts = ts} (p.a_stylesheet {kids = kids} n o v a) t has =
-    moved (record { moves = λ i b. looked.within n b }) (All-contains (λ u. IsAt (IsIn at_top kids) IsAnything u.place) ts t (templates_stand a) has)
+    moved (record { moves = λ i b. looked.within n b }) (All-contains (λ u. IsAt (IsIn at_top kids) IsUnrefused u.place) ts t (templates_stand a) has)
 
 -- two templates of one name
 module _ (raw : RawTrees) {ts : List Template} (read : IsStylesheet raw ts) where
   pub twice_cause : (x : SheetFault) → IsTwice ts x → IsCause raw x
   twice_cause (Malformed q) a = (
-    subst (IsAt (IsLookedAt raw) IsAnything) a.stands (stylesheet_stands read a.template (named_there a)),
+    subst (IsAt (IsLookedAt raw) IsUnrefused) a.stands (stylesheet_stands read a.template (named_there a)),
     λ changed us h w. subst (λ vs. IsNamedAgain vs (place q)) (stylesheet_same both h read w) a,
   )
   twice_cause (Unsupported q why) a = absurd a

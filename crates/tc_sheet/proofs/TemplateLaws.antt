@@ -1,9 +1,8 @@
 -- What stands at the top of a stylesheet, and what no change of it is.
-use Rattle.std.proofs.Common.{◌≡◌, ◌≢◌, ◌⊎◌, inl, inr, ℕ, Bool, true, false, not, ◌&&◌, ◌||◌, List, [], ◌∷◌, ◌++◌, refl, ap, ◌∙◌, sym, subst, Option, None, Some, IsTrue, IsFalse, option_map, map, Contains, Result, Ok, Err, IfOk, IfErr, Bor, bytes_eq}
+use Rattle.std.proofs.Common.{◌≡◌, ◌≢◌, ◌⊎◌, inl, inr, ℕ, Bool, true, false, not, ◌&&◌, ◌||◌, List, [], ◌∷◌, ◌++◌, refl, ap, ◌∙◌, sym, subst, Option, None, Some, IsTrue, IsFalse, option_map, map, All, Contains, Result, Ok, Err, IfOk, IfErr, Bor}
 use Rattle.std.specs.Prelude.{codes, is_some}
-use Rattle.std.specs.List.{list_any}
+use Rattle.std.proofs.lemmas.List.Elements.{All-contains}
 use Rattle.std.proofs.lemmas.Bool.{true≢false, false≢true}
-use Rattle.tc_base.specs.declared.reasons.Why.{Why}
 use Rattle.tc_base.specs.declared.reasons.Why.TheVariants.{N36}
 use Rattle.tc_model.specs.Names.{ExpandedName}
 use Rattle.tc_model.specs.RawTrees.{Attribute, Bound, RawTrees, none, text, element}
@@ -17,8 +16,8 @@ use Rattle.tc_model.specs.SheetTextPhrases as p
 use Rattle.tc_model.specs.SheetTextPhrases.{xsl_uri, IsXsl, value_of, HasOnly, NameText, Optional, Tag, tag, IsTag, IsBody, with_priority, or_none, IsTemplate, AreTemplates, IsStylesheet}
 use Rattle.tc_model.specs.declared.tree.Raw.{Raw}
 use Rattle.tc_model.specs.declared.tree.RawElem.{RawElem}
-use Rattle.tc_sheet.specs.Constructs.{IsRoot, IsDeclaration, IsRefusedElement, of_reason, unknown, reason_of, parts}
-use Rattle.tc_sheet.specs.LookedAt.{at_top, in_body, Item, of_root, of_element, of_attribute, place_of, IsIn, IsLookedAt, IsAt, IsAnything}
+use Rattle.tc_sheet.specs.Constructs.{IsRoot, IsDeclaration, reason_of}
+use Rattle.tc_sheet.specs.LookedAt.{at_top, in_body, Item, of_root, of_element, of_attribute, place_of, IsIn, IsLookedAt, IsAt, IsUnrefused}
 use Rattle.tc_sheet.specs.LookedAt as looked
 use Rattle.tc_sheet.specs.Changes.{Change, mended, flattened, both, ChangedAttributes, Changed, no_tree, a_text, an_element, taken_away}
 use Rattle.tc_sheet.specs.Faults.{IsCause, IsNoneWith, IsNoFaultOfCalls}
@@ -28,6 +27,7 @@ use Rattle.tc_sheet.specs.declared.written.Template.{Template as Code}
 use Rattle.tc_sheet.specs.declared.faults.SheetFault.{SheetFault}
 use Rattle.tc_sheet.specs.declared.faults.SheetFault.TheVariants.{Malformed, Unsupported, TooDeep, Undefined, CallLoop, NoMemory}
 use Rattle.tc_sheet.proofs.SameBodies.{xsl_reason, literal_reason, not_taken, no_declaration, declared_reason, uri_is, pattern_same, names_same}
+use Rattle.tc_sheet.proofs.Unrefused.{root_unrefused}
 use Rattle.tc_sheet.proofs.Refusals.{Covers, lifted, covers_itself, both_cover, covers_tag, covers_kids, text_at}
 use Rattle.tc_sheet.proofs.BodyLaws.{by_element, misplaced_is, Shape, is_elem, is_text, shape, covers_behind, covers_first}
 
@@ -196,8 +196,8 @@ top_stays found now read e f ts = ap (λ us. map template us ++ ts) e ∙ ap (λ
 pub top_white : (t : Raw) (s : List ℕ) (q : ℕ) → ((rest : RawTrees) → raw_before t rest ≡ text s q rest) → IsTrue (is_all_white s) → IsTopItem t (put_template None)
 top_white t s q f w = λ rest ts y. subst (λ h. AreTemplates h ts) (sym (f rest)) (p.past_white w y)
 
-pub top_black : (t : Raw) (s : List ℕ) (q : ℕ) → ((rest : RawTrees) → raw_before t rest ≡ text s q rest) → IsFalse (is_all_white s) → IsAt (IsIn at_top (raw_before t none)) IsAnything q × HasNoTopItem t both
-top_black t s q f w = (subst (λ h. IsAt (IsIn at_top h) IsAnything q) (sym (f none)) (text_at at_top s q none), λ rest. subst (λ h. HasNoTemplates h both) (sym (f rest)) (text_no_top s q w both rest))
+pub top_black : (t : Raw) (s : List ℕ) (q : ℕ) → ((rest : RawTrees) → raw_before t rest ≡ text s q rest) → IsFalse (is_all_white s) → IsAt (IsIn at_top (raw_before t none)) IsUnrefused q × HasNoTopItem t both
+top_black t s q f w = (subst (λ h. IsAt (IsIn at_top h) IsUnrefused q) (sym (f none)) (text_at at_top s q none), λ rest. subst (λ h. HasNoTemplates h both) (sym (f rest)) (text_no_top s q w both rest))
 
 pub top_elem : (t : Raw) (e : RawElem) (f : List Template → List Template) → ((rest : RawTrees) → raw_before t rest ≡ raw_element e rest) → IsTopElement e f → IsTopItem t f
 top_elem t e f is a = λ rest ts y. subst (λ h. AreTemplates h (f ts)) (sym (is rest)) (a rest ts y)
@@ -224,21 +224,13 @@ no_call h P (Undefined q) r = r
 no_call h P (CallLoop q) r = r
 no_call h P NoMemory r = tt
 
--- no reason refuses the name of a root
-none_some : {X : Type 0} {o : Option X} {x : X} → o ≡ None → o ≡ Some x → ⊥
-none_some e f = cc
+pub root_uri : {n : ExpandedName} → IsRoot n → n.uri ≡ xsl_uri
+root_uri (inl e) = ap (λ (m : ExpandedName). m.uri) e
+root_uri (inr e) = ap (λ (m : ExpandedName). m.uri) e
 
-root_part : (n : ExpandedName) → IsRoot n → list_any (bytes_eq n.local) parts ≡ true
-root_part n (inl e) = ap (λ (m : ExpandedName). list_any (bytes_eq m.local) parts) e
-root_part n (inr e) = ap (λ (m : ExpandedName). list_any (bytes_eq m.local) parts) e
-
-root_reason : (n : ExpandedName) → IsRoot n → reason_of n ≡ None
-root_reason n (inl e) = xsl_reason n (codes "stylesheet") refl e
-root_reason n (inr e) = xsl_reason n (codes "transform") refl e
-
-root_not_refused : (n : ExpandedName) → IsRoot n → {why : Why} → IsRefusedElement n why → ⊥
-root_not_refused n r (of_reason e) = none_some (root_reason n r) e
-root_not_refused n r (unknown u) = true≢false (sym (root_part n r) ∙ u.no_part)
+-- a root that has no version of XSLT's is no stylesheet by itself
+pub no_simplified : (e : RawElem) → All (λ a. IsXsl (codes "version") a.name → ⊥) (attributes_of e) → looked.IsSimplified (tag_of e) → ⊥
+no_simplified e h s = All-contains (λ (a : Attribute). IsXsl (codes "version") a.name → ⊥) (attributes_of e) s.version h s.has s.is_version
 
 -- the tag of a root is looked at
 module _ (e : RawElem) (n : IsRoot (name e.name)) where
@@ -250,8 +242,8 @@ module _ (e : RawElem) (n : IsRoot (name e.name)) where
       by x (attribute_of {a = b} has) h s = record { item = of_attribute (tag_of e) b; has = looked.has_root n has; holds = h; stands = s }
 
   root_tag : (P : Change → Type 0) (x : SheetFault) → Refuses x (alone e) P → Refuses x (IsLookedAt (raw_element e none)) P
-  root_tag P (Malformed q) r = (of_tag (λ h. h) r.0, r.1)
-  root_tag P (Unsupported q why) r = (of_tag (λ h. absurd (root_not_refused (name e.name) n h)) r.0, r.1)
+  root_tag P (Malformed q) r = (of_tag {P = IsUnrefused} (λ h why s. s.0.literal (root_uri n)) r.0, r.1)
+  root_tag P (Unsupported q why) r = (of_tag (λ h. absurd (root_unrefused (name e.name) n why h)) r.0, r.1)
   root_tag P (TooDeep q) r = (of_tag (λ h. h) r.0, r.1)
   root_tag P (Undefined q) r = r
   root_tag P (CallLoop q) r = r
@@ -288,9 +280,9 @@ root_templates_refuse e n x r =
     let P : Change → Type 0 = HasNoTemplates (raw_trees e.kids.now) in
     cause_of {P = P} (λ c h. root_by e c (λ bs others ts u v t. h others ts v t.3)) x (lifted {P = P} {Q = P} (covers_root e n) (λ c h. h) x r)
 
-pub no_root_cause : (e : RawElem) → (IsRoot (name e.name) → ⊥) → IsCause (raw_element e none) (Malformed e.place)
-no_root_cause e f = (
-  record { item = of_root (tag_of e); has = looked.the_root; holds = tt; stands = refl },
+pub no_root_cause : (e : RawElem) → (IsRoot (name e.name) → ⊥) → (looked.IsSimplified (tag_of e) → ⊥) → IsCause (raw_element e none) (Malformed e.place)
+no_root_cause e f g = (
+  record { item = of_root (tag_of e); has = looked.the_root; holds = λ why r. g r.0; stands = refl },
   λ changed ts h s. absurd (no_root_malformed e f both changed ts h s),
 )
 
@@ -300,10 +292,6 @@ simplified_cause e a f u has n = (
   record { item = of_root (tag_of e); has = looked.the_root; holds = (record { literal = u; version = a; has = has; is_version = n }, refl); stands = refl },
   no_root_malformed e f flattened,
 )
-
-pub root_uri : {n : ExpandedName} → IsRoot n → n.uri ≡ xsl_uri
-root_uri (inl e) = ap (λ (m : ExpandedName). m.uri) e
-root_uri (inr e) = ap (λ (m : ExpandedName). m.uri) e
 
 pub stylesheet_read : (e : RawElem) (ts : List Template) → IsRoot (name e.name) → HasOnly (codes "version" ∷ codes "exclude-result-prefixes" ∷ codes "id" ∷ []) (attributes_of e)
     → value_of (codes "version") (attributes_of e) ≡ Some (codes "1.0") → AreTemplates (raw_trees e.kids.now) ts → IsStylesheet (raw_element e none) ts

@@ -1,5 +1,5 @@
 -- Constructs of stylesheets that are refused by a reason of their own (XSLT 1.0). Where they are looked for says `LookedAt`.
-use Rattle.std.specs.Prelude.{◌≡◌, ◌≢◌, ◌⊎◌, ℕ, List, [], ◌∷◌, Option, None, Some, Contains, bytes_eq, codes, if◌then◌else◌, IsFalse}
+use Rattle.std.specs.Prelude.{◌≡◌, ◌≢◌, ◌⊎◌, ℕ, List, [], ◌∷◌, Option, None, Some, Contains, bytes_eq, codes, if◌then◌else◌, IsTrue, IsFalse}
 use Rattle.std.specs.List.{list_any}
 use Rattle.tc_base.specs.declared.reasons.Why.{Why}
 use Rattle.tc_base.specs.declared.reasons.Why.TheVariants.{N18, N19, N20, N21, N22, N23, N24, N25, N26, N27, N28, N29, N30, N31, N32, N33, N34, N35, N37, N38, N39, N40, N41, N42}
@@ -126,7 +126,25 @@ pub data IsRefusedAttribute (n : ExpandedName) (scope : List Bound) (a : Attribu
   -- a construct of XPath, in a text that isn't of its form
   in_path : {f : Form} {why : Why} → MustHave n a.name f → (HasForm f scope a.value → ⊥) → Shallow (context_of f) a.value (Some why) → IsRefusedAttribute n scope a why
 
+-- of an element of the first name an attribute of the second is refused for its value alone
+pub data IsWeighed (n : ExpandedName) : ExpandedName → Type 0 where
+  a_form : {m : ExpandedName} {f : Form} → MustHave n m f → IsWeighed n m
+  a_name : IsXsl (codes "element") n → IsWeighed n (plain (codes "name"))
+  a_version : IsRoot n → IsWeighed n (plain (codes "version"))
+
+-- all attributes that are refused for their values alone are of these local names
+abbrev pub AreWeighedAmong : List (List ℕ) → ExpandedName → Type 0
+AreWeighedAmong locals n = (m : ExpandedName) → IsWeighed n m → IsTrue (list_any (bytes_eq m.local) locals)
+
+-- of an element of this name an attribute of this local name that has no namespace is refused by no reason
+abbrev pub IsNeverRefused : List ℕ → ExpandedName → Type 0
+IsNeverRefused local n = (scope : List Bound) (a : Attribute) (why : Why) → a.name ≡ plain local → IsRefusedAttribute n scope a why → ⊥
+
 -- an element of this name that is refused by a reason of its own
 pub data IsRefusedElement (n : ExpandedName) : Why → Type 0 where
   of_reason : {why : Why} → reason_of n ≡ Some why → IsRefusedElement n why
   unknown : IsUnknown n → IsRefusedElement n N42
+
+-- an element of this name is refused by no reason
+abbrev pub IsUnrefusedElement : ExpandedName → Type 0
+IsUnrefusedElement n = (why : Why) → IsRefusedElement n why → ⊥

@@ -6,12 +6,12 @@ use Rattle.tc_model.specs.SheetTextTrees.{Template}
 use Rattle.tc_model.specs.SheetTextPhrases.{IsStylesheet}
 use Rattle.tc_model.specs.SheetText.{SheetFails, undefined, call_loop}
 use Rattle.tc_sheet.specs.Changes.{Change, mended, flattened, both, Changed}
-use Rattle.tc_sheet.specs.LookedAt.{IsLookedAt, IsAt, IsAnything, IsRefused, IsDeep}
+use Rattle.tc_sheet.specs.LookedAt.{IsLookedAt, IsAt, IsUnrefused, IsRefused, IsDeep}
 use Rattle.tc_sheet.specs.Tables.{IsNamedAgain}
 use Rattle.tc_sheet.specs.declared.faults.SheetFault.{SheetFault}
 use Rattle.tc_sheet.specs.declared.faults.SheetFault.TheVariants.{Malformed, Unsupported, TooDeep, Undefined, CallLoop, NoMemory}
 
--- the templates of whatever it becomes when some of this is changed
+-- this holds of the templates of whatever it becomes when some of this is changed
 abbrev pub OfAllWith : Change → RawTrees → (List Template → Type 0) → Type 0
 OfAllWith c raw P = (changed : RawTrees) (ts : List Template) → Changed c raw changed → IsStylesheet changed ts → P ts
 
@@ -27,8 +27,9 @@ pub record NamesAgain (raw : RawTrees) (p : ℕ) : Type 0 where
 
 -- The cause of a fault. A tree that is unsupported isn't a stylesheet even where its selects, patterns and tests didn't nest too deep; one that
 -- nests too deep, even without what is unsupported; and one that is malformed, even without both, unless a template is named again at that place.
+-- Malformed is said of what no reason of its own refuses.
 abbrev pub IsCause : RawTrees → SheetFault → Type 0
-IsCause raw (Malformed p) = IsAt (IsLookedAt raw) IsAnything (place p) × OfAllWith both raw (λ ts. IsNamedAgain ts (place p))
+IsCause raw (Malformed p) = IsAt (IsLookedAt raw) IsUnrefused (place p) × OfAllWith both raw (λ ts. IsNamedAgain ts (place p))
 IsCause raw (Unsupported p why) = IsAt (IsLookedAt raw) (IsRefused why) (place p) × IsNoneWith flattened raw
 IsCause raw (TooDeep p) = IsAt (IsLookedAt raw) IsDeep (place p) × IsNoneWith mended raw
 IsCause raw (Undefined p) = SheetFails raw undefined (place p)

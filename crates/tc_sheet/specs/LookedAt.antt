@@ -1,5 +1,6 @@
--- What is looked at in the raw tree of a stylesheet (XSLT 1.0, 2 to 9): not what `xsl:output`, `xsl:strip-space` and `xsl:attribute` have and hold, nor
--- what elements of other namespaces at the top do.
+-- What is looked at in the raw tree of a stylesheet (XSLT 1.0, 2 to 9 and 11.3): not what `xsl:output`, `xsl:strip-space` and `xsl:attribute` have and
+-- hold, nor what elements of other namespaces at the top do; nor what an element has and holds that isn't supported, or that may not stand where it
+-- stands; and of a root that is no stylesheet's, its tag alone.
 use Rattle.std.specs.Prelude.{◌≡◌, ◌≢◌, ◌&&◌, ℕ, List, Option, None, Some, Contains, bytes_eq, codes, if◌then◌else◌}
 use Rattle.tc_base.specs.declared.reasons.Why.{Why}
 use Rattle.tc_base.specs.declared.reasons.Why.TheVariants.{N36}
@@ -101,8 +102,9 @@ IsDeep (of_root t) = ⊥
 IsDeep (of_element t) = ⊥
 IsDeep (of_attribute t a) = (f : Form) × MustHave t.name a.name f × Deep a.value
 
-abbrev pub IsAnything : Item → Type 0
-IsAnything x = Unit {0}
+-- this is refused by no reason of its own
+abbrev pub IsUnrefused : Item → Type 0
+IsUnrefused x = (why : Why) → IsRefused why x → ⊥
 
 -- one of these, of which this holds, stands at this place
 pub record IsAt (Has Holds : Item → Type 0) (q : ℕ) : Type 0 where

@@ -1,5 +1,5 @@
 -- What the functions that read a stylesheet find in its tree.
-use Rattle.std.specs.Prelude.{◌≡◌, ℕ, List, [], ◌∷◌, map, Option, None, Some, Contains, codes}
+use Rattle.std.specs.Prelude.{◌≡◌, ℕ, List, [], ◌∷◌, map, Option, Some, Contains, codes}
 use Rattle.tc_model.specs.RawTrees.{Attribute, Bound, RawTrees, element}
 use Rattle.tc_model.specs.Seen.{name, place, attribute, bound, raw_trees, raw_before}
 use Rattle.tc_model.specs.Sheets.{Test}
@@ -9,8 +9,8 @@ use Rattle.tc_model.specs.PathText.{AttributesText, TestText}
 use Rattle.tc_model.specs.declared.tree.Raw.{Raw}
 use Rattle.tc_model.specs.declared.tree.RawAttr.{RawAttr}
 use Rattle.tc_model.specs.declared.tree.RawElem.{RawElem}
-use Rattle.tc_sheet.specs.Constructs.{IsRefusedElement, reason_of, plain}
-use Rattle.tc_sheet.specs.LookedAt.{Item, of_element, of_attribute, IsAt, IsAnything, IsRefused, IsDeep}
+use Rattle.tc_sheet.specs.Constructs.{IsRefusedElement, IsUnrefusedElement, plain}
+use Rattle.tc_sheet.specs.LookedAt.{Item, of_element, of_attribute, IsAt, IsUnrefused, IsRefused, IsDeep}
 use Rattle.tc_sheet.specs.Changes.{Change, mended, flattened, both, ChangedAttributes, Changed}
 use Rattle.tc_sheet.specs.Seen.{tag_of}
 use Rattle.tc_sheet.specs.declared.faults.SheetFault.{SheetFault}
@@ -18,7 +18,7 @@ use Rattle.tc_sheet.specs.declared.faults.SheetFault.TheVariants.{Malformed, Uns
 
 -- A fault of one of these that are looked at, for which this is so whatever may be changed where it is the fault; or want of memory.
 abbrev pub Refuses : SheetFault → (Item → Type 0) → (Change → Type 0) → Type 0
-Refuses (Malformed p) Has P = IsAt Has IsAnything (place p) × P both
+Refuses (Malformed p) Has P = IsAt Has IsUnrefused (place p) × P both
 Refuses (Unsupported p why) Has P = IsAt Has (IsRefused why) (place p) × P flattened
 Refuses (TooDeep p) Has P = IsAt Has IsDeep (place p) × P mended
 Refuses (Undefined p) Has P = ⊥
@@ -27,7 +27,7 @@ Refuses NoMemory Has P = Unit {0}
 
 -- a fault of one of these that stands where none may
 abbrev pub IsFaultOf : SheetFault → (Item → Type 0) → Type 0
-IsFaultOf (Malformed p) Has = IsAt Has IsAnything (place p)
+IsFaultOf (Malformed p) Has = IsAt Has IsUnrefused (place p)
 IsFaultOf (Unsupported p why) Has = IsAt Has (IsRefused why) (place p)
 IsFaultOf (TooDeep p) Has = ⊥
 IsFaultOf (Undefined p) Has = ⊥
@@ -53,9 +53,9 @@ scope_of e = map bound e.scope.now
 abbrev pub tag_with : RawElem → List Attribute → Tag
 tag_with e olds = tag (name e.name) olds (scope_of e) (place e.place)
 
--- the fault of an element that must not stand where it stands: it may be taken away only where it is malformed
+-- the fault of an element that must not stand where it stands: where it is malformed, no change takes it away
 abbrev pub IsMisplaced : RawElem → SheetFault → Type 0
-IsMisplaced e (Malformed p) = (place p ≡ place e.place) × (reason_of (name e.name) ≡ None)
+IsMisplaced e (Malformed p) = (place p ≡ place e.place) × IsUnrefusedElement (name e.name)
 IsMisplaced e (Unsupported p why) = (place p ≡ place e.place) × IsRefusedElement (name e.name) why
 IsMisplaced e (TooDeep p) = ⊥
 IsMisplaced e (Undefined p) = ⊥

@@ -1,4 +1,4 @@
--- Tables of names, each of which is kept once, and why the names of templates are none.
+-- Tables of names, each of which is kept once, and why names of templates are no such table.
 use Rattle.std.specs.Prelude.{◌≡◌, ℕ, List, ◌∷◌, ◌++◌, Some, true}
 use Rattle.std.specs.List.{IsDistinct, list_any}
 use Rattle.tc_model.specs.Names.{ExpandedName, same_name}

@@ -1,5 +1,5 @@
 // The attributes of XSLT elements and of literal ones (XSLT 1.0, 2.1, 7.1.1).
-ghost use Rattle.std.specs.Prelude.{◌≡◌, ◌≢◌, ◌&&◌, ◌||◌, not, ℕ, [], None, Some, List, Contains, IsTrue, IsFalse, MatchBool, MatchOption, IfSome, IfOk, IfErr, OnOk, bytes_eq, codes, map, option_map};
+ghost use Rattle.std.specs.Prelude.{◌≡◌, ◌≢◌, ◌&&◌, ◌||◌, not, ℕ, [], None, Some, List, All, Contains, IsTrue, IsFalse, MatchBool, MatchOption, IfSome, IfNone, IfOk, IfErr, OnOk, bytes_eq, codes, map, option_map};
 ghost use Rattle.std.specs.List.{list_any};
 ghost use Rattle.tc_model.specs.Names.{ExpandedName};
 ghost use Rattle.tc_model.specs.PathText as texts;
@@ -14,7 +14,7 @@ ghost use Rattle.tc_model.specs.XmlTextScopes.{is_empty, uri_of};
 ghost use Rattle.tc_path.specs.Seen.{alternative};
 ghost use Rattle.tc_scan.specs.Seen.{written_name};
 ghost use Rattle.tc_sheet.specs.Changes.{exchanged};
-ghost use Rattle.tc_sheet.specs.Constructs.{IsRoot, MustHave, plain};
+ghost use Rattle.tc_sheet.specs.Constructs.{IsRoot, MustHave, IsWeighed, AreWeighedAmong, IsNeverRefused, IsUnrefusedElement, plain};
 ghost use Rattle.tc_sheet.specs.Constructs as forms;
 ghost use Rattle.tc_sheet.specs.Readings.{Refuses, IsFaultOf, IsAttribute, HasAttributesText, HasNoAttributes, HasNoOptional, HasNoRequired, alone, attributes_of, scope_of};
 
@@ -64,6 +64,7 @@ fn unexpected(element: &RawElem<'_>, attribute: &RawAttr<'_>) -> SheetFault
     requires xslt { (see.name element.now.name).uri ≡ xsl_uri }
     requires has { Contains (attributes_of element.now) (see.attribute attribute.now) }
     requires plain { IsTrue (is_empty (see.attribute attribute.now).name.uri) }
+    requires unweighed { IsWeighed (see.name element.now.name) (see.attribute attribute.now).name → ⊥ }
     ensures { IsFaultOf result (alone element.now) }
 {
     let place = attribute.place;
@@ -99,6 +100,7 @@ fn is_expected(attribute: &RawAttr<'_>, locals: &[&str]) -> bool
 fn take(element: &RawElem<'_>, attribute: &RawAttr<'_>, locals: &[&str]) -> Result<(), SheetFault>
     requires xslt { (see.name element.now.name).uri ≡ xsl_uri }
     requires has { Contains (attributes_of element.now) (see.attribute attribute.now) }
+    requires weighed { AreWeighedAmong (map (λ w. w.now) locals.now) (see.name element.now.name) }
     ensures ok { OnOk result (IsTrue (not (is_empty (see.attribute attribute.now).name.uri) || list_any (bytes_eq (see.attribute attribute.now).name.local) (map (λ w. w.now) locals.now))) }
     ensures no { IfErr result (λ e. Refuses e (alone element.now) (HasNoAttributes element.now (phrases.HasOnly (map (λ w. w.now) locals.now)))) }
 {
@@ -111,7 +113,8 @@ fn take(element: &RawElem<'_>, attribute: &RawAttr<'_>, locals: &[&str]) -> Resu
 
 /// Takes the attributes without a namespace of an XSLT element, which are of these names.
 pub(crate) fn only(element: &RawElem<'_>, locals: &[&str]) -> Result<(), SheetFault>
-    requires { (see.name element.now.name).uri ≡ xsl_uri }
+    requires xslt { (see.name element.now.name).uri ≡ xsl_uri }
+    requires weighed { AreWeighedAmong (map (λ w. w.now) locals.now) (see.name element.now.name) }
     ensures ok { OnOk result (phrases.HasOnly (map (λ w. w.now) locals.now) (attributes_of element.now)) }
     ensures no { IfErr result (λ e. Refuses e (alone element.now) (HasNoAttributes element.now (phrases.HasOnly (map (λ w. w.now) locals.now)))) }
 {
@@ -173,6 +176,7 @@ pub(crate) fn literal(element: &RawElem<'_>) -> Result<(), SheetFault>
 
 /// The attribute of this local name that has no namespace, which must be there.
 fn required<'e, 'b>(element: &'e RawElem<'b>, local: &str) -> Result<&'e RawAttr<'b>, SheetFault>
+    requires { IsUnrefusedElement (see.name element.now.name) }
     ensures ok { IfOk result (λ a. IsAttribute element.now local.now a.now) }
     ensures no { IfErr result (λ e. Refuses e (alone element.now) (HasNoAttributes element.now (λ olds. (s : List ℕ) × (phrases.value_of local.now olds ≡ Some s)))) }
 {
@@ -287,6 +291,7 @@ pub(crate) fn optional_pattern<'b>(
 
 /// The `priority` in ten-thousandths, if there is one (XSLT 1.0, 5.5).
 pub(crate) fn optional_priority(element: &RawElem<'_>) -> Result<Option<i64>, SheetFault>
+    requires { IsXsl (codes "template") (see.name element.now.name) }
     ensures ok { IfOk result (phrases.Optional PriorityText (phrases.value_of (codes "priority") (attributes_of element.now))) }
     ensures no { IfErr result (λ e. Refuses e (alone element.now) (HasNoOptional element.now (codes "priority") PriorityText)) }
 {
@@ -349,7 +354,8 @@ pub(crate) fn optional_name<'b>(
     element: &RawElem<'b>,
     local: &str,
 ) -> Result<Option<Name<'b>>, SheetFault>
-    requires { IsFalse (list_any (bytes_eq local.now) exchanged) }
+    requires kept { IsFalse (list_any (bytes_eq local.now) exchanged) }
+    requires unrefused { IsNeverRefused local.now (see.name element.now.name) }
     ensures ok { IfOk result (λ n. phrases.Optional (phrases.NameText (scope_of element.now)) (phrases.value_of local.now (attributes_of element.now)) (option_map see.name n)) }
     ensures no { IfErr result (λ e. Refuses e (alone element.now) (HasNoOptional element.now local.now (phrases.NameText (scope_of element.now)))) }
 {
@@ -364,6 +370,7 @@ pub(crate) fn optional_name<'b>(
 
 /// The name of the template that is called (XSLT 1.0, 6).
 pub(crate) fn required_name<'b>(element: &RawElem<'b>) -> Result<Name<'b>, SheetFault>
+    requires { IsXsl (codes "call-template") (see.name element.now.name) }
     ensures ok { IfOk result (λ n. phrases.Required (phrases.NameText (scope_of element.now)) (phrases.value_of (codes "name") (attributes_of element.now)) (see.name n)) }
     ensures no { IfErr result (λ e. Refuses e (alone element.now) (HasNoRequired element.now (codes "name") (phrases.NameText (scope_of element.now)))) }
 {
@@ -376,7 +383,7 @@ pub(crate) fn required_name<'b>(element: &RawElem<'b>) -> Result<Name<'b>, Sheet
 
 /// Whether a text has a brace, as a name that is computed.
 fn has_brace(text: &str) -> bool
-    ensures { IsTrue result → Contains text.now 0x7B }
+    ensures { MatchBool result (Contains text.now 0x7B) (All (λ b. b ≢ 0x7B) text.now) }
 {
     for byte in text.as_bytes() {
         if *byte == b'{' {
@@ -409,6 +416,7 @@ pub(crate) fn xsl_attribute<'e, 'b>(
 ) -> Option<&'e RawAttr<'b>>
     ensures has { IfSome result (λ a. Contains (attributes_of element.now) (see.attribute a.now)) }
     ensures name { IfSome result (λ a. IsXsl local.now (see.attribute a.now).name) }
+    ensures none { IfNone result (All (λ a. IsXsl local.now a.name → ⊥) (attributes_of element.now)) }
 {
     for attribute in element.attrs {
         if is_xsl(&attribute.name, local) {

@@ -15,7 +15,7 @@ pub enum SheetFault {
     Unsupported(Place, Why),
     /// Parentheses and brackets of a select, a pattern or a test stand more than 2,000 deep within one another.
     TooDeep(Place),
-    /// A template of no name is called.
+    /// A template is called that does not exist.
     Undefined(Place),
     /// A named template calls itself, perhaps by way of others.
     CallLoop(Place),

@@ -1,3 +1,4 @@
+use Rattle.tc_model.specs.Seen.{attribute}
 use Rattle.tc_model.specs.SheetTextPhrases.{NameText}
 use Rattle.tc_sheet.specs.Readings.{scope_of}
 use Rattle.tc_sheet.proofs.NameLaws.{optional_none, optional_some, optional_malformed}
@@ -10,4 +11,6 @@ pub returns-in-Some-name_of-clause-ok : goal.returns-in-Some-name_of-clause-ok
 returns-in-Some-name_of-clause-ok c = optional_some (NameText (scope_of c.args.element.now)) c.in-Some.ensures c.in-Some-name_of.ensures
 
 pub returns-in-None-clause-no : goal.returns-in-None-clause-no
-returns-in-None-clause-no c = optional_malformed (NameText (scope_of c.args.element.now)) c.requires c.in-Some.ensures c.in-None.ensures
+returns-in-None-clause-no c =
+    optional_malformed (NameText (scope_of c.args.element.now)) c.requires.kept c.in-Some.ensures c.in-None.ensures
+    (λ why r. c.requires.unrefused (scope_of c.args.element.now) (attribute c.in-Some.attribute.now) why c.in-Some.ensures.name r)

@@ -1,6 +1,6 @@
 use Rattle.tc_sheet.specs.PathFaults.{path_fault_at}
 use Rattle.std.proofs.Common.{MatchBool}
-use Rattle.tc_model.specs.Seen.{attribute}
+use Rattle.tc_model.specs.Seen.{name, attribute}
 use Rattle.tc_sheet.specs.Readings.{HasAttributesText}
 use Rattle.std.proofs.Common.{subst, sym}
 use Rattle.std.specs.Prelude.{codes}
@@ -10,7 +10,11 @@ use Rattle.tc_sheet.specs.Readings.{Refuses, alone, scope_of, HasNoAttributes}
 use Rattle.tc_sheet.proofs.NameLaws.{attributes_refused, not_attributes}
 use Rattle.tc_sheet.proofs.Refusals.{path_refused}
 use Rattle.tc_sheet.specs.Constructs.{of_copy}
+use Rattle.tc_sheet.proofs.Unrefused.{must_be_unrefused}
 use Rattle.tc_sheet.proofs.attributes.required_attributes.Goals as goal
+
+pub required-requires : goal.required-requires
+required-requires c = must_be_unrefused (name c.args.element.now.name) (of_copy c.requires)
 
 pub returns-else-all-clause-no : goal.returns-else-all-clause-no
 returns-else-all-clause-no c = not_attributes c.args.element.now c.in_ok-attribute.attribute.now c.requires c.in_ok-attribute.ensures.ok c.in-Ok.ensures.select (subst (λ b. MatchBool b (AttributesText (scope_of c.args.element.now) (attribute c.in_ok-attribute.attribute.now).value) (AttributesText (scope_of c.args.element.now) (attribute c.in_ok-attribute.attribute.now).value → ⊥)) c.if-all.false c.in-Ok.ensures.ok)

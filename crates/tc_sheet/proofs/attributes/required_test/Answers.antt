@@ -1,12 +1,17 @@
 use Rattle.std.proofs.Common.{subst, sym}
 use Rattle.std.specs.Prelude.{codes}
 use Rattle.tc_sheet.specs.Constructs as forms
+use Rattle.tc_model.specs.Seen.{name}
 use Rattle.tc_model.specs.PathText.{TestText, IsTest}
 use Rattle.tc_sheet.proofs.Refused.{handed_on}
 use Rattle.tc_sheet.specs.Readings.{Refuses, alone, scope_of, HasNoRequired}
 use Rattle.tc_sheet.proofs.NameLaws.{required_refuses, required_one}
 use Rattle.tc_sheet.proofs.Refusals.{path_refused}
+use Rattle.tc_sheet.proofs.Unrefused.{must_be_unrefused}
 use Rattle.tc_sheet.proofs.attributes.required_test.Goals as goal
+
+pub required-requires : goal.required-requires
+required-requires c = must_be_unrefused (name c.args.element.now.name) c.requires
 
 pub returns-in_err-attribute-clause-no : goal.returns-in_err-attribute-clause-no
 returns-in_err-attribute-clause-no c = handed_on _ c.from_residual.result c.in_err-attribute.field-0.0 c.from_residual.ensures.1 (required_refuses c.args.element.now (codes "test") (TestText (scope_of c.args.element.now)) c.in_err-attribute.field-0.0 c.in_err-attribute.ensures.no)

@@ -1,4 +1,4 @@
-use Rattle.tc_model.specs.SheetTextPhrases.{IsBody, AreBranches}
+use Rattle.tc_model.specs.SheetTextPhrases.{i_choose, IsBody, AreBranches}
 use Rattle.std.proofs.Common.{ap, ◌∙◌, sym, subst, ◌+◌, drop}
 use Rattle.std.proofs.lemmas.List.{at_drop_all}
 use Rattle.tc_model.specs.Seen.{name, place, raw_trees, raw_before, raw_element}
@@ -18,6 +18,7 @@ use Rattle.tc_sheet.specs.declared.written.Written.TheVariants as v
 use Rattle.tc_model.proofs.ViewsRaw.{left_one, left_elem, left_text, before_elem, before_text}
 use Rattle.tc_sheet.proofs.ViewsWritten.{see_text, see_choose}
 use Rattle.tc_sheet.proofs.Refusals.{element_at}
+use Rattle.tc_sheet.proofs.Unrefused.{instruction_unrefused}
 use Rattle.tc_sheet.proofs.Refused.{handed_on}
 use Rattle.tc_sheet.proofs.BodyLaws.{BodyLoop, body_begins, body_goes_on, body_pushed, body_stays, body_ends, item_of_body_refuses, item_white, item_text, item_ok, item_no, body_refuses}
 use Rattle.tc_sheet.proofs.BranchLaws.{BranchLoop, branches_begin, past_blank, past_when, when_refuses, all_read, otherwise_refuses, none_left, black_refuses, odd_refuses, is_when, is_last, rest_whole, choose_refuses, without_when, empty_branches, choose_item, otherwise_only_refuses, otherwise_body_refuses, otherwise_blank_refuses, otherwise_read, when_test_refuses, when_body_refuses}
@@ -44,7 +45,7 @@ pub choose-returns-in_err-branches-clause-no : goal.choose-returns-in_err-branch
 choose-returns-in_err-branches-clause-no t c = handed_on _ c.from_residual.result c.in_err-branches.field-0.0 c.from_residual.ensures.1 (choose_refuses c.args.element.now c.requires.choose c.in_err-branches.field-0.0 c.in_err-branches.ensures.no)
 
 pub choose-returns-then-is_empty-clause-no : goal.choose-returns-then-is_empty-clause-no
-choose-returns-then-is_empty-clause-no t c = (element_at in_body c.args.element.now none tt, without_when c.args.element.now c.requires.choose (body c.in_ok-branches.last.now) (empty_branches c.in_ok-branches.branches.now (sym c.if-is_empty.ensures) c.in_ok-branches.ensures.ok) both)
+choose-returns-then-is_empty-clause-no t c = (element_at in_body c.args.element.now none (instruction_unrefused (name c.args.element.now.name) i_choose c.requires.choose), without_when c.args.element.now c.requires.choose (body c.in_ok-branches.last.now) (empty_branches c.in_ok-branches.branches.now (sym c.if-is_empty.ensures) c.in_ok-branches.ensures.ok) both)
 
 pub choose-returns-clause-ok : goal.choose-returns-clause-ok
 choose-returns-clause-ok t c = λ rest b y. subst (IsBody (raw_element c.args.element.now rest)) (sym (see_choose c.in_ok-branches.branches c.in_ok-branches.last b)) (choose_item c.args.element.now c.requires.choose c.in_ok-branches.branches.now (body c.in_ok-branches.last.now) (sym c.if-is_empty.ensures) c.requires.only c.in_ok-branches.ensures.ok rest b y)

@@ -1,10 +1,18 @@
+use Rattle.tc_sheet.proofs.Unrefused.{weighed_among, never_refused}
 use Rattle.tc_sheet.proofs.Refused.{handed_on}
 use Rattle.tc_sheet.proofs.LeafLaws.{of_apply_only, of_apply_select, of_apply_mode, of_apply_blank}
 use Rattle.tc_sheet.proofs.ReadLaws.{apply_read}
 use Rattle.tc_sheet.specs.Constructs.{of_apply}
-use Rattle.std.proofs.Common.{option_map}
-use Rattle.tc_model.specs.Seen.{path}
+use Rattle.std.proofs.Common.{[], ◌∷◌, refl, option_map}
+use Rattle.std.specs.Prelude.{codes}
+use Rattle.tc_model.specs.Seen.{name, path}
 use Rattle.tc_sheet.proofs.bodies.apply_templates.Goals as goal
+
+pub only-requires-clause-weighed : goal.only-requires-clause-weighed
+only-requires-clause-weighed c = weighed_among (name c.args.element.now.name) (codes "apply-templates") (codes "select" ∷ codes "mode" ∷ []) refl c.requires
+
+pub optional_name-requires-clause-unrefused : goal.optional_name-requires-clause-unrefused
+optional_name-requires-clause-unrefused c = never_refused (name c.args.element.now.name) (codes "apply-templates") (codes "mode") c.requires refl refl refl refl
 
 pub returns-in_err-only-clause-no : goal.returns-in_err-only-clause-no
 returns-in_err-only-clause-no c = handed_on _ c.from_residual.result c.in_err-only.field-0.0 c.from_residual.ensures.1 (of_apply_only c.args.element.now c.in_err-only.field-0.0 c.requires c.in_err-only.ensures.no)

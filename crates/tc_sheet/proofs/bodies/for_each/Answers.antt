@@ -1,8 +1,15 @@
+use Rattle.std.proofs.Common.{[], ◌∷◌, refl}
+use Rattle.std.specs.Prelude.{codes}
+use Rattle.tc_model.specs.Seen.{name}
+use Rattle.tc_sheet.proofs.Unrefused.{weighed_among}
 use Rattle.tc_sheet.proofs.Refused.{handed_on}
 use Rattle.tc_sheet.proofs.LeafLaws.{of_each_only, of_each_select}
 use Rattle.tc_sheet.proofs.ReadLaws.{each_head}
 use Rattle.tc_sheet.specs.Constructs.{of_each}
 use Rattle.tc_sheet.proofs.bodies.for_each.Goals as goal
+
+pub only-requires-clause-weighed : goal.only-requires-clause-weighed
+only-requires-clause-weighed c = weighed_among (name c.args.element.now.name) (codes "for-each") (codes "select" ∷ []) refl c.requires
 
 pub returns-in_err-only-clause-no : goal.returns-in_err-only-clause-no
 returns-in_err-only-clause-no c = handed_on _ c.from_residual.result c.in_err-only.field-0.0 c.from_residual.ensures.1 (of_each_only c.args.element.now c.in_err-only.field-0.0 c.requires c.in_err-only.ensures.no)

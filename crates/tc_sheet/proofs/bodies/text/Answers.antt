@@ -1,7 +1,14 @@
+use Rattle.std.proofs.Common.{[]}
+use Rattle.std.specs.Prelude.{codes}
+use Rattle.tc_model.specs.Seen.{name}
+use Rattle.tc_sheet.proofs.Unrefused.{weighed_among}
 use Rattle.tc_sheet.proofs.Refused.{handed_on}
 use Rattle.tc_sheet.proofs.LeafLaws.{of_text_only, of_text_characters}
 use Rattle.tc_sheet.proofs.ReadLaws.{text_read}
 use Rattle.tc_sheet.proofs.bodies.text.Goals as goal
+
+pub only-requires-clause-weighed : goal.only-requires-clause-weighed
+only-requires-clause-weighed c = weighed_among (name c.args.element.now.name) (codes "text") [] tt c.requires
 
 pub returns-in_err-only-clause-no : goal.returns-in_err-only-clause-no
 returns-in_err-only-clause-no c = handed_on _ c.from_residual.result c.in_err-only.field-0.0 c.from_residual.ensures.1 (of_text_only c.args.element.now c.in_err-only.field-0.0 c.requires c.in_err-only.ensures.no)

@@ -1,8 +1,15 @@
+use Rattle.std.proofs.Common.{[], ◌∷◌, refl}
+use Rattle.std.specs.Prelude.{codes}
+use Rattle.tc_model.specs.Seen.{name}
+use Rattle.tc_sheet.proofs.Unrefused.{weighed_among}
 use Rattle.tc_sheet.proofs.Refused.{handed_on}
 use Rattle.tc_sheet.proofs.LeafLaws.{of_value_only, of_value_select, of_value_blank}
 use Rattle.tc_sheet.proofs.ReadLaws.{path_read, self_read}
 use Rattle.tc_sheet.specs.Constructs.{of_value}
 use Rattle.tc_sheet.proofs.bodies.value_of.Goals as goal
+
+pub only-requires-clause-weighed : goal.only-requires-clause-weighed
+only-requires-clause-weighed c = weighed_among (name c.args.element.now.name) (codes "value-of") (codes "select" ∷ []) refl c.requires
 
 pub returns-in_err-only-clause-no : goal.returns-in_err-only-clause-no
 returns-in_err-only-clause-no c = handed_on _ c.from_residual.result c.in_err-only.field-0.0 c.from_residual.ensures.1 (of_value_only c.args.element.now c.in_err-only.field-0.0 c.requires c.in_err-only.ensures.no)

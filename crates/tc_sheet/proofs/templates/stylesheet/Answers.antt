@@ -1,7 +1,14 @@
+use Rattle.std.proofs.Common.{[], ◌∷◌, refl}
+use Rattle.std.specs.Prelude.{codes}
+use Rattle.tc_model.specs.Seen.{name}
 use Rattle.tc_sheet.proofs.Refused.{handed_on}
 use Rattle.tc_sheet.proofs.TemplateLaws.{root_only_refuses, root_version_refuses, no_call, stylesheet_ok, stylesheet_no, stylesheet_calls}
 use Rattle.tc_sheet.specs.Readings.{alone}
+use Rattle.tc_sheet.proofs.Unrefused.{root_weighed_among}
 use Rattle.tc_sheet.proofs.templates.stylesheet.Goals as goal
+
+pub only-requires-clause-weighed : goal.only-requires-clause-weighed
+only-requires-clause-weighed c = root_weighed_among (name c.args.element.now.name) (codes "version" ∷ codes "exclude-result-prefixes" ∷ codes "id" ∷ []) refl c.if-not-is_root.ensures
 
 pub returns-in_err-only-clause-no : goal.returns-in_err-only-clause-no
 returns-in_err-only-clause-no c = handed_on _ c.from_residual.result c.in_err-only.field-0.0 c.from_residual.ensures.1 (root_only_refuses c.args.element.now c.if-not-is_root.ensures c.in_err-only.field-0.0 c.in_err-only.ensures.no)

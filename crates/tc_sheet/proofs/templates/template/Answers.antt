@@ -1,13 +1,24 @@
 use Rattle.tc_model.specs.RawTrees.{none}
 use Rattle.tc_sheet.specs.LookedAt.{at_top}
+use Rattle.tc_sheet.proofs.Unrefused.{template_unrefused, weighed_among, never_refused}
 use Rattle.tc_sheet.proofs.Refusals.{element_at}
 use Rattle.tc_sheet.specs.Changes.{both}
 use Rattle.tc_sheet.proofs.Refused.{handed_on}
 use Rattle.tc_sheet.proofs.TemplateLaws.{template_only_refuses, template_pattern_refuses, template_priority_refuses, template_name_refuses, template_mode_refuses, template_body_refuses, template_incomplete, lacks_by}
-use Rattle.std.proofs.Common.{sym, map}
+use Rattle.std.proofs.Common.{[], ◌∷◌, sym, refl, map}
+use Rattle.std.specs.Prelude.{codes}
 use Rattle.tc_model.specs.Seen.{name}
 use Rattle.tc_path.specs.Seen.{alternative}
 use Rattle.tc_sheet.proofs.templates.template.Goals as goal
+
+pub only-requires-clause-weighed : goal.only-requires-clause-weighed
+only-requires-clause-weighed c = weighed_among (name c.args.element.now.name) (codes "template") (codes "match" ∷ codes "name" ∷ codes "priority" ∷ codes "mode" ∷ []) refl c.requires
+
+pub optional_name-requires-clause-unrefused : goal.optional_name-requires-clause-unrefused
+optional_name-requires-clause-unrefused c = never_refused (name c.args.element.now.name) (codes "template") (codes "name") c.requires refl refl refl refl
+
+pub optional_name-requires-2-clause-unrefused : goal.optional_name-requires-2-clause-unrefused
+optional_name-requires-2-clause-unrefused c = never_refused (name c.args.element.now.name) (codes "template") (codes "mode") c.requires refl refl refl refl
 
 pub returns-in_err-only-clause-no : goal.returns-in_err-only-clause-no
 returns-in_err-only-clause-no c = handed_on _ c.from_residual.result c.in_err-only.field-0.0 c.from_residual.ensures.1 (template_only_refuses c.args.element.now c.in_err-only.field-0.0 c.requires c.in_err-only.ensures.no)
@@ -25,7 +36,7 @@ pub returns-in_err-mode-clause-no : goal.returns-in_err-mode-clause-no
 returns-in_err-mode-clause-no c = handed_on _ c.from_residual-in_err-mode.result c.in_err-mode.field-0.0 c.from_residual-in_err-mode.ensures.1 (template_mode_refuses c.args.element.now c.in_err-mode.field-0.0 c.requires c.in_err-mode.ensures.no)
 
 pub returns-then-not-is_complete-clause-no : goal.returns-then-not-is_complete-clause-no
-returns-then-not-is_complete-clause-no c = (element_at at_top c.args.element.now none tt, template_incomplete (λ xs. map alternative xs.now) name c.args.element.now c.in_ok-pattern.pattern c.in_ok-name.name c.in_ok-mode.mode (lacks_by c.is_some.result c.is_some-2.result c.is_some-3.result c.in_ok-pattern.pattern c.in_ok-name.name c.in_ok-mode.mode c.is_some.ensures c.is_some-2.ensures c.is_some-3.ensures (sym c.if-not-is_complete.ensures)) c.in_ok-pattern.ensures.ok c.in_ok-name.ensures.ok c.in_ok-mode.ensures.ok both)
+returns-then-not-is_complete-clause-no c = (element_at at_top c.args.element.now none (template_unrefused (name c.args.element.now.name) c.requires), template_incomplete (λ xs. map alternative xs.now) name c.args.element.now c.in_ok-pattern.pattern c.in_ok-name.name c.in_ok-mode.mode (lacks_by c.is_some.result c.is_some-2.result c.is_some-3.result c.in_ok-pattern.pattern c.in_ok-name.name c.in_ok-mode.mode c.is_some.ensures c.is_some-2.ensures c.is_some-3.ensures (sym c.if-not-is_complete.ensures)) c.in_ok-pattern.ensures.ok c.in_ok-name.ensures.ok c.in_ok-mode.ensures.ok both)
 
 pub returns-in_err-body-clause-no : goal.returns-in_err-body-clause-no
 returns-in_err-body-clause-no c = handed_on _ c.from_residual-in_err-body.result c.in_err-body.field-0.0 c.from_residual-in_err-body.ensures.1 (template_body_refuses c.args.element.now c.in_err-body.field-0.0 c.requires c.in_err-body.ensures.no)

@@ -1,0 +1,2 @@
+pub mod OtherEntities
+pub mod TextFaults
