@@ -16,9 +16,11 @@ returns c = (refl, unknown (is_unknown (name c.args.element.now.name) c.if-not-i
 
 pub returns-then-is_part : goal.returns-then-is_part
 returns-then-is_part c =
-    let n = name c.args.element.now.name in
-    (refl, unrefused_by n (reason_is n c.if-not-is_xslt.ensures (sym c.in_default.ensures)) (elim c.then-is_part.branch [
-      | then-is_part-via-then-is_part w ↦ λ u. true≢false (w.if-is_part.ensures ∙ u.no_part)
-      | then-is_part-via-else-is_part+then-is_some w ↦ λ u.
-          mapped_some instruction w.instruction_in.result (sym w.if-is_some.ensures) (sym (instruction_is n c.if-not-is_xslt.ensures (sym w.instruction_in.ensures)) ∙ u.no_instruction)
-    ]))
+    let n = name c.args.element.now.name in (
+      refl,
+      unrefused_by n (reason_is n c.if-not-is_xslt.ensures (sym c.in_default.ensures)) (elim c.then-is_part.branch [
+        | then-is_part-via-then-is_part w ↦ λ u. true≢false (w.if-is_part.ensures ∙ u.no_part)
+        | then-is_part-via-else-is_part+then-is_some w ↦ λ u.
+            mapped_some instruction w.instruction_in.result (sym w.if-is_some.ensures) (sym (instruction_is n c.if-not-is_xslt.ensures (sym w.instruction_in.ensures)) ∙ u.no_instruction)
+      ]),
+    )
