@@ -9,11 +9,12 @@ use Rattle.std.proofs.lemmas.Slice.Eq.{bytes_eq-Decides}
 use Rattle.std.proofs.lemmas.Str.{IsUtf8-from_ascii}
 use Rattle.std.proofs.lemmas.List.{reverse-append}
 use Rattle.tc_model.specs.declared.tree.Node.{Node}
+use Rattle.tc_model.specs.CompactSyntaxNames.{keywords}
 use Rattle.tc_model.specs.Seen.{before, trees}
 use Rattle.tc_model.specs.Trees.{Trees, none, text, element, beside}
 use Rattle.tc_model.proofs.Views.{trees_append, before_beside}
-use Rattle.tc_top.specs.FirstForm.{is_letter, IsPlainName, keywords, plain_name, Suffix, no_suffix, optional, zero_or_more, one_or_more, Schema, holding_nothing, HasPlainNames, ArePlainElements}
-use Rattle.tc_top.specs.FirstText.{word_len, WordAt, NameAt, is_space, after_spaces, OpeningAt, mark, suffix_at, ClosingAt, EmptyAt, PatternAt, of_nothing, of_pattern, SchemaText, TagAt, BodyAt, ElementAt, at_end_tag, an_element, with_one_tag, with_two_tags, sheet_start, sheet_end, SheetText}
+use Rattle.tc_top.specs.FirstForm.{is_letter, IsPlainName, plain_name, Suffix, no_suffix, optional, zero_or_more, one_or_more, Schema, holding_nothing, HasPlainNames, ArePlainElements}
+use Rattle.tc_top.specs.FirstText.{word_len, WordAt, NameAt, is_space, after_spaces, OpeningAt, mark, suffix_at, ClosingAt, EmptyAt, PatternAt, of_nothing, of_pattern, FirstSchemaText, TagAt, BodyAt, ElementAt, at_end_tag, an_element, with_one_tag, with_two_tags, sheet_start, sheet_end, FirstSheetText}
 
 -- the elements that a list begins with, all of which pass, all pass
 pub front_passes : (p : ℕ → Bool) (bs : List ℕ) → list_all p (take (prefix_len p bs) bs) ≡ true
@@ -150,14 +151,14 @@ pattern_unique {s = s} (of_pattern o p c) (of_pattern {behind = behind} {s = q} 
     let last = closing_unique c (subst (λ w. ClosingAt w y s) (sym inner.1) c') in
     (cc, last.1)
 
-pub schema_unique : {bs : List ℕ} {p q : Schema} → SchemaText bs p → SchemaText bs q → p ≡ q
+pub schema_unique : {bs : List ℕ} {p q : Schema} → FirstSchemaText bs p → FirstSchemaText bs q → p ≡ q
 schema_unique a b = (pattern_unique a.pattern b.pattern).0
 
 pattern_plain : {bs r : List ℕ} {p : Schema} → PatternAt bs p r → HasPlainNames p
 pattern_plain (of_nothing o e) = o.named.plain
 pattern_plain (of_pattern o p c) = (o.named.plain, pattern_plain p)
 
-pub schema_plain : {bs : List ℕ} {p : Schema} → SchemaText bs p → HasPlainNames p
+pub schema_plain : {bs : List ℕ} {p : Schema} → FirstSchemaText bs p → HasPlainNames p
 schema_plain a = pattern_plain a.pattern
 
 pub opening_shorter : {bs n r : List ℕ} → OpeningAt bs n r → length r < length bs
@@ -207,7 +208,7 @@ pushed old within i m n =
     n ∙ (ap (λ l. l ++ i ∷ []) m ∙ (append_assoc old (reverse within) (i ∷ []) ∙ ap (λ l. old ++ l) (sym (reverse-append (i ∷ []) within))))
 
 -- where a schema is read up to here, it ends here
-pub schema_ends : {bs behind : List ℕ} {p q : Schema} → PatternAt bs p behind → SchemaText bs q → after_spaces behind ≡ []
+pub schema_ends : {bs behind : List ℕ} {p q : Schema} → PatternAt bs p behind → FirstSchemaText bs q → after_spaces behind ≡ []
 schema_ends p t = ap after_spaces (pattern_unique p t.pattern).1 ∙ t.end
 
 -- sheets
@@ -262,7 +263,7 @@ mutual
   element_unique (with_two_tags t b u) (with_one_tag t') = absurd (one_and_two t' t)
   element_unique (with_two_tags t b u) (with_two_tags t' b' u') = same_two t t' (body_unique b (same_inside t t' b')) u u'
 
-pub sheet_unique : {bs : List ℕ} {t u : Trees} → SheetText bs t → SheetText bs u → t ≡ u
+pub sheet_unique : {bs : List ℕ} {t u : Trees} → FirstSheetText bs t → FirstSheetText bs u → t ≡ u
 sheet_unique {u = u} a b =
     let same = same_rest sheet_start (sym a.start ∙ b.start) in
     (body_unique a.body (subst (λ w. BodyAt w u sheet_end) (sym same) b.body)).0
@@ -276,7 +277,7 @@ mutual
   element_plain (with_one_tag t) = (t.named.plain, tt)
   element_plain (with_two_tags t b u) = (t.named.plain, body_plain b)
 
-pub sheet_plain : {bs : List ℕ} {t : Trees} → SheetText bs t → ArePlainElements t
+pub sheet_plain : {bs : List ℕ} {t : Trees} → FirstSheetText bs t → ArePlainElements t
 sheet_plain a = body_plain a.body
 
 tag_named : {front bs b n r : List ℕ} → bs ≡ front ++ b → TagAt front bs n r → NameAt b n r
@@ -331,7 +332,7 @@ behind_element f (at_end_tag r e) = absurd (end_or_element e f)
 behind_element {r = r} f (an_element {t = t} f' b) = (t, subst (λ w. BodyAt w t r) (sym (element_unique f f').2) b)
 
 -- where a sheet is read up to here, its end stands here
-pub sheet_ends : {bs inside r : List ℕ} {t u : Trees} → bs ≡ sheet_start ++ inside → BodyAt inside t r → SheetText bs u → r ≡ sheet_end
+pub sheet_ends : {bs inside r : List ℕ} {t u : Trees} → bs ≡ sheet_start ++ inside → BodyAt inside t r → FirstSheetText bs u → r ≡ sheet_end
 sheet_ends {u = u} e b s = (body_unique b (subst (λ w. BodyAt w u sheet_end) (same_rest sheet_start (sym s.start ∙ e)) s.body)).1
 
 -- trees beside trees

@@ -3,10 +3,10 @@ use Rattle.std.proofs.Common.{◌≡◌, ◌≤◌, ◌⊎◌, ◌∷◌, ◌++�
 use Rattle.std.specs.Result.{IfErr, IsErrAnd}
 use Rattle.tc_io.specs.Faults.{Rose}
 use Rattle.tc_io.specs.Store.{Files}
-use Rattle.tc_top.specs.Reading.{ReadsAll, StopsAt, CannotRead, IsOverLong}
+use Rattle.tc_top.specs.Reading.{AreReadFrom, StopsAt, CannotRead, IsOverLong}
 use Rattle.tc_top.specs.AnswersSeen.{IsUnread, IsFirstUnread}
 use Rattle.tc_top.specs.declared.read.Unread.{Unread}
-use Rattle.tc_top.specs.declared.read.Unread.TheVariants.{Missing, TooLong, NoMemory}
+use Rattle.tc_top.specs.declared.read.Unread.TheVariants.{Unreadable, TooLong, NoMemory}
 
 -- the value that the exit of a `?` returns
 pub err_is : {T E : Type 0} (r : Result T E) (e : E) (P : E → Type 0) → IsErrAnd r (λ y. y ≡ e) → P e → IfErr r P
@@ -32,14 +32,14 @@ over_more told one other name f h = record { told_cause = h.told_cause; untold_c
 
 -- with a weaker reason that faults rose
 pub unread_more : (told : Option Files) (one other : Type 0) (name : List ℕ) (u : Unread) → (one → other) → IsUnread told one name u → IsUnread told other name u
-unread_more told one other name (Missing named) f h = (h.0, cannot_more told one other name f h.1)
+unread_more told one other name (Unreadable named) f h = (h.0, cannot_more told one other name f h.1)
 unread_more told one other name TooLong f h = over_more told one other name f h
 unread_more told one other name NoMemory f h = tt
 
 -- the operand behind those that were read is the first
-pub unread_first : (told : Option Files) (rose : Type 0) (names before behind texts : List (List ℕ)) (name : List ℕ) (u : Unread) → names ≡ before ++ name ∷ behind → ReadsAll told before texts
+pub unread_first : (told : Option Files) (rose : Type 0) (names before behind texts : List (List ℕ)) (name : List ℕ) (u : Unread) → names ≡ before ++ name ∷ behind → AreReadFrom told before texts
     → IsUnread told rose name u → IsFirstUnread told rose names u
-unread_first told rose names before behind texts name (Missing named) parts read h =
+unread_first told rose names before behind texts name (Unreadable named) parts read h =
     let stops : StopsAt told names name = record { before = before; behind = behind; parts = parts; texts = texts; read = read } in
     (subst (StopsAt told names) (sym h.0) stops, subst (CannotRead told rose) (sym h.0) h.1)
 unread_first told rose names before behind texts name TooLong parts read h =

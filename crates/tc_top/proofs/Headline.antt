@@ -7,22 +7,46 @@ use Rattle.tc_model.specs.Grammars.{Grammar}
 use Rattle.tc_model.specs.Sheets.{Sheet}
 use Rattle.tc_model.specs.Safety.{IsSafe, IsCounterexample}
 use Rattle.tc_top.specs.FirstForm.{Schema, grammar_of, sheet_of}
-use Rattle.tc_top.specs.FirstText.{SchemaText, SheetText}
-use Rattle.tc_top.specs.Reading.{Reads}
-use Rattle.tc_top.specs.Answers.{Answer, safe, unsafe, over_limit, work_limit, open_limit, status_of, text_of, other_input, other_output, other_sheet, Checks, is_other_form, is_safe, is_unsafe, IsAnswer, IsCutShort, Gives, ChecksFiles, DecidesSafety, Validates, ValidatesFiles, DecidesValidity, Runs, sheet_passes, too_much_work, too_open, gives_result, RunsTexts, RunsFiles, GivesResult}
+use Rattle.tc_top.specs.FirstText.{FirstSchemaText, FirstSheetText}
+use Rattle.tc_top.specs.Reading.{IsReadFrom}
+use Rattle.tc_top.specs.Answers.{Answer, usage, not_yet, cannot_read, file_limit, safe, unsafe, refused, over_limit, is_valid, is_invalid, has_result, work_limit, open_limit, status_of, text_of, other_input, other_output, other_sheet, Checks, is_other_form, is_safe, is_unsafe, IsAnswer, IsCutShort, Gives, ChecksFiles, DecidesSafety, Validates, ValidatesFiles, DecidesValidity, Runs, sheet_passes, too_much_work, too_open, gives_result, RunsTexts, RunsFiles, GivesResult}
 use Rattle.tc_top.specs.AnswersSeen.{IsRight}
+use Rattle.tc_top.specs.OneAnswer.{AreAlike, same_answer, counterexamples, work_or_open, open_or_work, open_reasons, IsOfFault}
 use Rattle.tc_top.specs.declared.answer.Answer.{Answer as Said}
 use Rattle.tc_top.specs.declared.status.Status.{Status}
-use Rattle.tc_top.specs.declared.status.Status.TheVariants.{ReadFault, Yes, Limit}
+use Rattle.tc_top.specs.declared.status.Status.TheVariants.{Limit}
 use Rattle.tc_top.specs.Limits.{IsWithinRunLimits}
 use Rattle.tc_top.proofs.FirstText.{schema_unique, sheet_unique}
 use Rattle.tc_top.proofs.Exact.{Agrees, not_both, texts_decide, texts_validate, texts_run}
 use Rattle.tc_top.proofs.OneValidity.{Settles, settles_valid, settles_invalid, settles}
 use Rattle.tc_top.proofs.OneRun.{runs_of, not_within, not_few, not_low}
 
+alike_status : {one other : Answer} → AreAlike one other → status_of other ≡ status_of one
+alike_status same_answer = refl
+alike_status counterexamples = refl
+alike_status work_or_open = refl
+alike_status open_or_work = refl
+alike_status (open_reasons o p) = refl
+
+-- a call that tells of a fault of reading is cut short
+cut_short : {rose : Type 0} (status : Status) (answer : Answer) → status ≡ status_of answer → IsOfFault rose answer → IsCutShort status rose
+cut_short status (cannot_read name) e h = inr (inr (e, h))
+cut_short status usage e h = absurd h
+cut_short status (not_yet name) e h = absurd h
+cut_short status file_limit e h = absurd h
+cut_short status safe e h = absurd h
+cut_short status (unsafe document output) e h = absurd h
+cut_short status (refused name reason place) e h = absurd h
+cut_short status (over_limit kind number) e h = absurd h
+cut_short status is_valid e h = absurd h
+cut_short status is_invalid e h = absurd h
+cut_short status (has_result result) e h = absurd h
+cut_short status work_limit e h = absurd h
+cut_short status open_limit e h = absurd h
+
 pub gives : {rose : Type 0} (status : Status) (one other : Answer) → status ≡ status_of other → Agrees rose one other → Gives status rose one
-gives status one other e (inl same) = inl (e ∙ same)
-gives status one other e (inr failed) = inr (inr (inr (e ∙ failed.0, failed.1)))
+gives status one other e (inl alike) = inl (e ∙ alike_status alike)
+gives status one other e (inr fault) = inr (cut_short status other e fault)
 
 -- an answer that is right for the same words
 pub at_words : {words other : List (List ℕ)} {told : Option Files} {rose : Type 0} {said : Said} → words ≡ other → IsRight words told rose said → IsRight other told rose said
@@ -32,7 +56,7 @@ at_words {words} {other} {told} {rose} {said} same right = subst (λ w. IsRight 
 pub at_told : {words : List (List ℕ)} {told other : Option Files} {rose : Type 0} {answer : Answer} → told ≡ other → IsAnswer words told rose answer → IsAnswer words other rose answer
 at_told {words} {told} {other} {rose} {answer} same right = subst (λ t. IsAnswer words t rose answer) same right
 
-held_reads : (files : Files) (name bytes : List ℕ) → files name ≡ Some bytes → length bytes ≤ 4096 → Reads (Some files) name bytes
+held_reads : (files : Files) (name bytes : List ℕ) → files name ≡ Some bytes → length bytes ≤ 4096 → IsReadFrom (Some files) name bytes
 held_reads files name bytes held short = record { held = λ other same. let h : files ≡ other = cc in subst (λ (f : Files). f name ≡ Some bytes) h held; short = omega (arith, short) }
 
 module _ (i o : Schema) (t : Trees) where
@@ -41,7 +65,7 @@ module _ (i o : Schema) (t : Trees) where
     decided_safe : IsSafe (grammar_of i) (grammar_of o) (sheet_of t) → Decided safe
     decided_unsafe : {document result : Trees} → IsCounterexample (grammar_of i) (grammar_of o) (sheet_of t) document result → Decided (unsafe document result)
 
-  decided : {input output sheet b c d : List ℕ} {answer : Answer} → SchemaText b i → SchemaText c o → SheetText d t → Checks input output sheet b c d answer → Decided answer
+  decided : {input output sheet b c d : List ℕ} {answer : Answer} → FirstSchemaText b i → FirstSchemaText c o → FirstSheetText d t → Checks input output sheet b c d answer → Decided answer
   decided x y z (is_other_form (other_input n)) = absurd (n _ x)
   decided x y z (is_other_form (other_output p n)) = absurd (n _ y)
   decided x y z (is_other_form (other_sheet p q n)) = absurd (n _ z)
@@ -54,7 +78,7 @@ module _ (i o : Schema) (t : Trees) where
       (subst (λ v. IsCounterexample (grammar_of j) (grammar_of v) (sheet_of t) document result) (schema_unique l y)
       (subst (λ v. IsCounterexample (grammar_of j) (grammar_of p) (sheet_of v) document result) (sheet_unique m z) h)))
 
-  exact_decision : {b c d : List ℕ} (status : Status) (old new : Option (List ℕ)) (answer : Answer) → SchemaText b i → SchemaText c o → SheetText d t
+  exact_decision : {b c d : List ℕ} (status : Status) (old new : Option (List ℕ)) (answer : Answer) → FirstSchemaText b i → FirstSchemaText c o → FirstSheetText d t
       → status ≡ status_of answer → Appended old new (text_of answer) → Decided answer → DecidesSafety status old new (grammar_of i) (grammar_of o) (sheet_of t)
   exact_decision status old new answer x y z is written (decided_safe h) = record {
     yes = (λ _. h, λ _. is);
@@ -78,12 +102,12 @@ headline {words} {rose} files i o t status old new answer c right is written =
     let sheet = held_reads files c.sheet c.sheet_text c.sheet_held c.sheet_spells.short in
     by (texts_decide c.words_are input output sheet right)
   where
-    by : ((status_of answer ≡ ReadFault) × rose) ⊎ Checks c.input c.output c.sheet c.input_text c.output_text c.sheet_text answer
+    by : IsOfFault rose answer ⊎ Checks c.input c.output c.sheet c.input_text c.output_text c.sheet_text answer
         → IsCutShort status rose ⊎ DecidesSafety status old new (grammar_of i) (grammar_of o) (sheet_of t)
-    by (inl failed) = inl (inr (inr (is ∙ failed.0, failed.1)))
+    by (inl fault) = inl (cut_short status answer is fault)
     by (inr checks) = inr (exact_decision i o t status old new answer c.input_spells c.output_spells c.sheet_spells is written (decided i o t c.input_spells c.output_spells c.sheet_spells checks))
 
-held_short : (files : Files) (name bytes : List ℕ) → files name ≡ Some bytes → length bytes ≤ longest_file → Reads (Some files) name bytes
+held_short : (files : Files) (name bytes : List ℕ) → files name ≡ Some bytes → length bytes ≤ longest_file → IsReadFrom (Some files) name bytes
 held_short files name bytes held short = record { held = λ other same. let h : files ≡ other = cc in subst (λ (f : Files). f name ≡ Some bytes) h held; short = short }
 
 settled : {g : Grammar} {d : Trees} {answer : Answer} (status : Status) (old new : Option (List ℕ)) → status ≡ status_of answer → Appended old new (text_of answer) → Settles g d answer
@@ -107,8 +131,8 @@ pub validity : {words : List (List ℕ)} {rose : Type 0} (files : Files) (g : Gr
 validity {words} {rose} files g d status old new answer c right is written =
     by (texts_validate c.words_are (held_short files c.schema c.schema_text c.schema_held c.schema_short) (held_short files c.document c.document_text c.document_held c.document_short) right)
   where
-    by : ((status_of answer ≡ ReadFault) × rose) ⊎ Validates c.schema c.document c.schema_text c.document_text answer → IsCutShort status rose ⊎ DecidesValidity status old new g d
-    by (inl failed) = inl (inr (inr (is ∙ failed.0, failed.1)))
+    by : IsOfFault rose answer ⊎ Validates c.schema c.document c.schema_text c.document_text answer → IsCutShort status rose ⊎ DecidesValidity status old new g d
+    by (inl fault) = inl (cut_short status answer is fault)
     by (inr validates) = inr (settled status old new is written (settles c.schema_spells c.document_spells c.within validates))
 
 at_limit : (s : Sheet) (d : Trees) (status : Status) (old new : Option (List ℕ)) (answer : Answer) → status_of answer ≡ Limit → status ≡ status_of answer → Appended old new (text_of answer)
@@ -138,6 +162,6 @@ pub running : {words : List (List ℕ)} {rose : Type 0} (files : Files) (s : She
 running {words} {rose} files s d status old new answer c right is written =
     by (texts_run c.words_are (held_short files c.sheet c.sheet_text c.sheet_held c.sheet_short) (held_short files c.document c.document_text c.document_held c.document_short) right)
   where
-    by : ((status_of answer ≡ ReadFault) × rose) ⊎ RunsTexts c.sheet c.document c.sheet_text c.document_text answer → IsCutShort status rose ⊎ GivesResult status old new s d
-    by (inl failed) = inl (inr (inr (is ∙ failed.0, failed.1)))
+    by : IsOfFault rose answer ⊎ RunsTexts c.sheet c.document c.sheet_text c.document_text answer → IsCutShort status rose ⊎ GivesResult status old new s d
+    by (inl fault) = inl (cut_short status answer is fault)
     by (inr runs) = inr (given s d status old new is written (runs_of c.sheet_spells c.document_spells runs))

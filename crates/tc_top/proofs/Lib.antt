@@ -9,6 +9,8 @@ pub mod FirstText
 pub mod Named
 pub mod Numerals
 pub mod OneCommand
+pub mod OneConstruct
+pub mod OneRefusal
 pub mod OneValidity
 pub mod OneRun
 pub mod RefusedSheets
@@ -16,4 +18,5 @@ pub mod FirstRead
 pub mod FirstUnread
 pub mod Fronts
 pub mod Exact
+pub mod OneAnswer
 pub mod Headline

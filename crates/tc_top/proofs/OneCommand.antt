@@ -1,7 +1,7 @@
 -- A list of words gives one command at most.
 use Rattle.std.proofs.Common.{◌≡◌, ◌∷◌, [], ◌∙◌, sym, ap, subst, refl, arith, ℕ, List, Option, Some, None, if◌then◌else◌, codes}
 use Rattle.std.specs.Str.{bytes_eq}
-use Rattle.tc_top.specs.Words.{Command, check, prove, verify, run, valid, demo, Words, checks, proves, verifies, runs, validates, shows, Limits, Spells, AreOperands, WordsGiveOne, value_from}
+use Rattle.tc_top.specs.Words.{Command, check, prove, verify, run, valid, demo, Words, checks, proves, verifies, runs, validates, shows, Limits, IsNumeral, AreOperands, WordsGiveOne, value_from}
 
 -- which of the commands the first word names
 abbrev kind : List (List ℕ) → ℕ
@@ -33,7 +33,7 @@ kind_is (shows parts spelled) = ap kind parts
 no_option : (operands rest : List (List ℕ)) → operands ≡ codes "--limit" ∷ rest → AreOperands operands → ⊥
 no_option operands rest parts are = let h : AreOperands (codes "--limit" ∷ rest) = subst AreOperands parts are in absurd cc
 
-same_number : {most : ℕ} (word other : List ℕ) {one two : ℕ} → word ≡ other → Spells most word one → Spells most other two → one ≡ two
+same_number : {most : ℕ} (word other : List ℕ) {one two : ℕ} → word ≡ other → IsNumeral most word one → IsNumeral most other two → one ≡ two
 same_number word other same p q = sym p.value ∙ (ap (value_from 0) same ∙ q.value)
 
 -- the words behind a name give one limit, and the same operands

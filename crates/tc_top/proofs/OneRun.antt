@@ -1,16 +1,16 @@
 -- What the texts of a stylesheet and of a document decide is one.
-use Rattle.std.proofs.Common.{◌≡◌, ◌<◌, ◌≤◌, ◌⊎◌, inl, inr, ℕ, List, refl, sym, subst, arith}
+use Rattle.std.proofs.Common.{◌≡◌, ◌<◌, ◌≤◌, inl, inr, ℕ, List, refl, ap, ◌∙◌, sym, subst, arith}
 use Rattle.tc_base.specs.declared.Limit.{Limit}
 use Rattle.tc_model.specs.Chains.{top}
 use Rattle.tc_model.specs.Meaning.{by_mode}
 use Rattle.tc_model.specs.Outcomes.{Outcome}
 use Rattle.tc_model.specs.RawTrees.{RawTrees}
-use Rattle.tc_model.specs.Safety.{Transforms}
+use Rattle.tc_model.specs.Safety.{Transforms, IsResultOf}
 use Rattle.tc_model.specs.Sheets.{Sheet}
 use Rattle.tc_model.specs.SheetText.{SheetText}
 use Rattle.tc_model.specs.SheetText as calls
 use Rattle.tc_model.specs.Stripped.{stripped}
-use Rattle.tc_model.specs.Trees.{Trees}
+use Rattle.tc_model.specs.Trees.{Trees, normal_form}
 use Rattle.tc_model.specs.XmlText.{XmlText}
 use Rattle.tc_model.proofs.SheetTextUnique.{one_sheet}
 use Rattle.tc_model.proofs.SheetTextUnique as faults
@@ -26,7 +26,9 @@ use Rattle.tc_sheet.proofs.NamedAgain.{not_once}
 use Rattle.tc_sheet_text.specs.Texts.{IsSheetOf}
 use Rattle.tc_top.specs.Refusals.{Reason, malformed, unsupported, too_deep, undefined, twice, loop, bad_start, bad_except, call_loop, IsRefusedSheet}
 use Rattle.tc_top.specs.Limits.{IsWithinSheetLimits, IsWithinRunLimits, SheetPasses, sheet_symbols, sheet_predicates, sheet_ancestors, sheet_selects}
-use Rattle.tc_top.specs.Answers.{Answer, status_of, Runs, sheet_passes, too_much_work, too_open, gives_result, RunsTexts, sheet_refused, source_refused, sheet_and_source}
+use Rattle.tc_top.specs.Answers.{Answer, over_limit, has_result, Runs, sheet_passes, too_much_work, too_open, gives_result, RunsTexts, sheet_refused, source_refused, sheet_and_source}
+use Rattle.tc_top.specs.OneAnswer.{AreAlike, same_answer, work_or_open, open_or_work}
+use Rattle.tc_top.proofs.OneRefusal.{document_refusals, sheet_refusals}
 use Rattle.tc_top.proofs.OneValidity.{no_document, one_document}
 
 -- the one tree of a text means its stylesheet
@@ -59,9 +61,9 @@ one_sheet_of {bytes} {s} {t} x y = one_sheet y.raw s t (means_at x y.raw y.text)
 
 over : {s : Sheet} {kind : Limit} {number : ℕ} → SheetPasses s kind number → IsWithinSheetLimits s → ⊥
 over (sheet_symbols p) w = omega (arith, p, w.symbols)
-over (sheet_predicates q p) w = w.states.0 p
-over (sheet_ancestors q a p) w = w.states.1 p
-over (sheet_selects q a b p) w = w.states.2 p
+over (sheet_predicates q p) w = w.numbers.0 p
+over (sheet_ancestors q a p) w = w.numbers.1 p
+over (sheet_selects q a b p) w = w.numbers.2 p
 
 one_outcome : (s : Sheet) (d : Trees) (o p : Outcome) → Transforms s d o → Transforms s d p → o ≡ p
 one_outcome s d o p t u = instantiates_unique s (by_mode 0) (top d) o p t u
@@ -72,34 +74,57 @@ over_work s d o t p k = let few = subst (λ (x : Outcome). x.work ≤ most_work)
 over_open : (s : Sheet) (d : Trees) (o : Outcome) → Transforms s d o → most_open < o.nesting → KeepsLimits s d → ⊥
 over_open s d o t p k = let low = subst (λ (x : Outcome). x.nesting ≤ most_open) (one_outcome s d k.0 o k.1 t) k.3 in omega (arith, p, low)
 
-runs_one : {s : Sheet} {d : Trees} {one other : Answer} → Runs s d one → Runs s d other → status_of other ≡ status_of one
-runs_one (sheet_passes p) (sheet_passes q) = refl
-runs_one (sheet_passes p) (too_much_work w t q) = refl
-runs_one (sheet_passes p) (too_open w t q) = refl
+-- the first limit that a stylesheet passes is one
+one_limit : {s : Sheet} {kind other : Limit} {number count : ℕ} → SheetPasses s kind number → SheetPasses s other count → AreAlike (over_limit kind number) (over_limit other count)
+one_limit (sheet_symbols p) (sheet_symbols q) = same_answer
+one_limit (sheet_symbols p) (sheet_predicates q x) = absurd (omega (arith, p, q))
+one_limit (sheet_symbols p) (sheet_ancestors q a x) = absurd (omega (arith, p, q))
+one_limit (sheet_symbols p) (sheet_selects q a b x) = absurd (omega (arith, p, q))
+one_limit (sheet_predicates p x) (sheet_symbols q) = absurd (omega (arith, p, q))
+one_limit (sheet_predicates p x) (sheet_predicates q y) = same_answer
+one_limit (sheet_predicates p x) (sheet_ancestors q a y) = absurd (a x)
+one_limit (sheet_predicates p x) (sheet_selects q a b y) = absurd (a x)
+one_limit (sheet_ancestors p a x) (sheet_symbols q) = absurd (omega (arith, p, q))
+one_limit (sheet_ancestors p a x) (sheet_predicates q y) = absurd (a y)
+one_limit (sheet_ancestors p a x) (sheet_ancestors q b y) = same_answer
+one_limit (sheet_ancestors p a x) (sheet_selects q b c y) = absurd (c x)
+one_limit (sheet_selects p a b x) (sheet_symbols q) = absurd (omega (arith, p, q))
+one_limit (sheet_selects p a b x) (sheet_predicates q y) = absurd (a y)
+one_limit (sheet_selects p a b x) (sheet_ancestors q c y) = absurd (b y)
+one_limit (sheet_selects p a b x) (sheet_selects q c d y) = same_answer
+
+one_result : (s : Sheet) (d r q : Trees) → IsResultOf s d r → IsResultOf s d q → r ≡ q
+one_result s d r q x y = x.2 ∙ (ap (λ (o : Outcome). normal_form o.out) (one_outcome s d x.0 y.0 x.1 y.1) ∙ sym y.2)
+
+runs_one : {s : Sheet} {d : Trees} {one other : Answer} → Runs s d one → Runs s d other → AreAlike one other
+runs_one (sheet_passes p) (sheet_passes q) = one_limit p q
+runs_one (sheet_passes p) (too_much_work w t q) = absurd (over p w)
+runs_one (sheet_passes p) (too_open w t q) = absurd (over p w)
 runs_one (sheet_passes p) (gives_result w r) = absurd (over p w.0)
-runs_one (too_much_work w t p) (sheet_passes q) = refl
-runs_one (too_much_work w t p) (too_much_work v u q) = refl
-runs_one (too_much_work w t p) (too_open v u q) = refl
+runs_one (too_much_work w t p) (sheet_passes q) = absurd (over q w)
+runs_one (too_much_work w t p) (too_much_work v u q) = same_answer
+runs_one (too_much_work w t p) (too_open v u q) = work_or_open
 runs_one {s = s} {d = d} (too_much_work {o = o} w t p) (gives_result v r) = absurd (over_work s d o t p v.1)
-runs_one (too_open w t p) (sheet_passes q) = refl
-runs_one (too_open w t p) (too_much_work v u q) = refl
-runs_one (too_open w t p) (too_open v u q) = refl
+runs_one (too_open w t p) (sheet_passes q) = absurd (over q w)
+runs_one (too_open w t p) (too_much_work v u q) = open_or_work
+runs_one (too_open w t p) (too_open v u q) = same_answer
 runs_one {s = s} {d = d} (too_open {o = o} w t p) (gives_result v r) = absurd (over_open s d o t p v.1)
 runs_one (gives_result w r) (sheet_passes q) = absurd (over q w.0)
 runs_one {s = s} {d = d} (gives_result w r) (too_much_work {o = o} v u q) = absurd (over_work s d o u q w.1)
 runs_one {s = s} {d = d} (gives_result w r) (too_open {o = o} v u q) = absurd (over_open s d o u q w.1)
-runs_one (gives_result w r) (gives_result v q) = refl
+runs_one {s = s} {d = d} (gives_result {result = x} w r) (gives_result {result = y} v q) =
+    subst (λ (t : Trees). AreAlike (has_result x) (has_result t)) (one_result s d x y r q) same_answer
 
 runs_same : {s t : Sheet} {c d : Trees} {answer : Answer} → s ≡ t → c ≡ d → Runs s c answer → Runs t d answer
 runs_same {s} {t} {c} {d} {answer} p q x = subst (λ (y : Trees). Runs t y answer) q (subst (λ (y : Sheet). Runs y c answer) p x)
 
--- the status that the texts decide is one
-pub runs_texts_one : {sheet document b c : List ℕ} {one other : Answer} → RunsTexts sheet document b c one → RunsTexts sheet document b c other → status_of other ≡ status_of one
-runs_texts_one (sheet_refused r) (sheet_refused s) = refl
-runs_texts_one (sheet_refused r) (source_refused x s) = refl
+-- the answer that the texts decide is one
+pub runs_texts_one : {sheet document b c : List ℕ} {one other : Answer} → RunsTexts sheet document b c one → RunsTexts sheet document b c other → AreAlike one other
+runs_texts_one {sheet = n} {b = b} (sheet_refused r) (sheet_refused s) = sheet_refusals b n r s
+runs_texts_one (sheet_refused {reason = w} {place = p} r) (source_refused x s) = absurd (no_sheet w p r x)
 runs_texts_one (sheet_refused {reason = w} {place = p} r) (sheet_and_source x d h) = absurd (no_sheet w p r x)
-runs_texts_one (source_refused x r) (sheet_refused s) = refl
-runs_texts_one (source_refused x r) (source_refused y s) = refl
+runs_texts_one (source_refused x r) (sheet_refused {reason = w} {place = p} s) = absurd (no_sheet w p s x)
+runs_texts_one {document = n} {c = c} (source_refused x r) (source_refused y s) = document_refusals c n r s
 runs_texts_one (source_refused {reason = w} {place = p} x r) (sheet_and_source y d h) = absurd (no_document w p r d)
 runs_texts_one (sheet_and_source x d h) (sheet_refused {reason = w} {place = p} s) = absurd (no_sheet w p s x)
 runs_texts_one (sheet_and_source x d h) (source_refused {reason = w} {place = p} y s) = absurd (no_document w p s d)

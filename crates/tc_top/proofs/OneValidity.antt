@@ -1,5 +1,5 @@
 -- What the texts of a schema and of a document decide is one.
-use Rattle.std.proofs.Common.{◌≡◌, ℕ, List, refl, sym, ap, ◌∙◌, subst, arith}
+use Rattle.std.proofs.Common.{◌≡◌, ℕ, List, sym, ap, ◌∙◌, subst, arith}
 use Rattle.tc_base.specs.declared.Limit.{Limit}
 use Rattle.tc_model.specs.Trees.{Trees}
 use Rattle.tc_model.specs.Grammars.{Grammar}
@@ -15,7 +15,9 @@ use Rattle.tc_print.specs.ReadBack.{IsReadAs}
 use Rattle.tc_top.proofs.OtherEntities.{with_others}
 use Rattle.tc_top.specs.Refusals.{Reason, malformed, unsupported, too_deep, undefined, twice, loop, bad_start, bad_except, call_loop, SpellsFault, IsRefusedSchema, IsRefusedDocument}
 use Rattle.tc_top.specs.Limits.{IsWithinLimits, PassesLimit, passes_pattern, passes_depth, passes_elements, passes_states, passes_symbols}
-use Rattle.tc_top.specs.Answers.{Answer, status_of, is_valid, is_invalid, Decides, passes, decides_valid, decides_invalid, Validates, schema_refused, document_refused, both_read}
+use Rattle.tc_top.specs.Answers.{Answer, over_limit, is_valid, is_invalid, Decides, passes, decides_valid, decides_invalid, Validates, schema_refused, document_refused, both_read}
+use Rattle.tc_top.specs.OneAnswer.{AreAlike, same_answer}
+use Rattle.tc_top.proofs.OneRefusal.{schema_refusals, document_refusals}
 
 -- a schema with a fault has no grammar
 faulty : {bytes : List ℕ} {g : Grammar} (f : Fault) → SpellsFault bytes f → RncText bytes g → ⊥
@@ -55,27 +57,55 @@ over (passes_elements p) w = omega (arith, p.2, w.counts.elements)
 over (passes_states c p) w = omega (arith, p, w.states)
 over (passes_symbols c s p) w = omega (arith, p, w.symbols)
 
-decides_one : {g : Grammar} {d : Trees} {one other : Answer} → Decides g d one → Decides g d other → status_of other ≡ status_of one
-decides_one (passes p) (passes q) = refl
+-- the first limit that a schema passes is one
+one_limit : {g : Grammar} {kind other : Limit} {number count : ℕ} → PassesLimit g kind number → PassesLimit g other count → AreAlike (over_limit kind number) (over_limit other count)
+one_limit (passes_pattern p) (passes_pattern q) = same_answer
+one_limit (passes_pattern p) (passes_depth q) = absurd (omega (arith, p, q.0))
+one_limit (passes_pattern p) (passes_elements q) = absurd (omega (arith, p, q.0))
+one_limit (passes_pattern p) (passes_states c q) = absurd (omega (arith, p, c.nodes))
+one_limit (passes_pattern p) (passes_symbols c s q) = absurd (omega (arith, p, c.nodes))
+one_limit (passes_depth p) (passes_pattern q) = absurd (omega (arith, q, p.0))
+one_limit (passes_depth p) (passes_depth q) = same_answer
+one_limit (passes_depth p) (passes_elements q) = absurd (omega (arith, p.1, q.1))
+one_limit (passes_depth p) (passes_states c q) = absurd (omega (arith, p.1, c.depth))
+one_limit (passes_depth p) (passes_symbols c s q) = absurd (omega (arith, p.1, c.depth))
+one_limit (passes_elements p) (passes_pattern q) = absurd (omega (arith, q, p.0))
+one_limit (passes_elements p) (passes_depth q) = absurd (omega (arith, q.1, p.1))
+one_limit (passes_elements p) (passes_elements q) = same_answer
+one_limit (passes_elements p) (passes_states c q) = absurd (omega (arith, p.2, c.elements))
+one_limit (passes_elements p) (passes_symbols c s q) = absurd (omega (arith, p.2, c.elements))
+one_limit (passes_states c p) (passes_pattern q) = absurd (omega (arith, q, c.nodes))
+one_limit (passes_states c p) (passes_depth q) = absurd (omega (arith, q.1, c.depth))
+one_limit (passes_states c p) (passes_elements q) = absurd (omega (arith, q.2, c.elements))
+one_limit (passes_states c p) (passes_states d q) = same_answer
+one_limit (passes_states c p) (passes_symbols d s q) = absurd (omega (arith, p, s))
+one_limit (passes_symbols c s p) (passes_pattern q) = absurd (omega (arith, q, c.nodes))
+one_limit (passes_symbols c s p) (passes_depth q) = absurd (omega (arith, q.1, c.depth))
+one_limit (passes_symbols c s p) (passes_elements q) = absurd (omega (arith, q.2, c.elements))
+one_limit (passes_symbols c s p) (passes_states d q) = absurd (omega (arith, q, s))
+one_limit (passes_symbols c s p) (passes_symbols d t q) = same_answer
+
+decides_one : {g : Grammar} {d : Trees} {one other : Answer} → Decides g d one → Decides g d other → AreAlike one other
+decides_one (passes p) (passes q) = one_limit p q
 decides_one (passes p) (decides_valid w v) = absurd (over p w)
 decides_one (passes p) (decides_invalid w v) = absurd (over p w)
 decides_one (decides_valid w v) (passes p) = absurd (over p w)
-decides_one (decides_valid w v) (decides_valid x u) = refl
+decides_one (decides_valid w v) (decides_valid x u) = same_answer
 decides_one (decides_valid w v) (decides_invalid x u) = absurd (u v)
 decides_one (decides_invalid w v) (passes p) = absurd (over p w)
 decides_one (decides_invalid w v) (decides_valid x u) = absurd (v u)
-decides_one (decides_invalid w v) (decides_invalid x u) = refl
+decides_one (decides_invalid w v) (decides_invalid x u) = same_answer
 
 decides_same : {g h : Grammar} {c d : Trees} {answer : Answer} → g ≡ h → c ≡ d → Decides g c answer → Decides h d answer
 decides_same {g} {h} {c} {d} {answer} p q x = subst (λ y. Decides h y answer) q (subst (λ y. Decides y c answer) p x)
 
--- the status that the texts decide is one
-pub validates_one : {schema document b c : List ℕ} {one other : Answer} → Validates schema document b c one → Validates schema document b c other → status_of other ≡ status_of one
-validates_one (schema_refused r) (schema_refused s) = refl
-validates_one (schema_refused r) (document_refused g s) = refl
+-- the answer that the texts decide is one
+pub validates_one : {schema document b c : List ℕ} {one other : Answer} → Validates schema document b c one → Validates schema document b c other → AreAlike one other
+validates_one {schema = n} {b = b} (schema_refused r) (schema_refused s) = schema_refusals b n r s
+validates_one (schema_refused {reason = w} {place = p} r) (document_refused g s) = absurd (no_schema w p r g)
 validates_one (schema_refused {reason = w} {place = p} r) (both_read g d h) = absurd (no_schema w p r g)
-validates_one (document_refused g r) (schema_refused s) = refl
-validates_one (document_refused g r) (document_refused k s) = refl
+validates_one (document_refused g r) (schema_refused {reason = w} {place = p} s) = absurd (no_schema w p s g)
+validates_one {document = n} {c = c} (document_refused g r) (document_refused k s) = document_refusals c n r s
 validates_one (document_refused {reason = w} {place = p} g r) (both_read k d h) = absurd (no_document w p r d)
 validates_one (both_read g d h) (schema_refused {reason = w} {place = p} s) = absurd (no_schema w p s g)
 validates_one (both_read g d h) (document_refused {reason = w} {place = p} k s) = absurd (no_document w p s d)

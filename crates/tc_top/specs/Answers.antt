@@ -12,15 +12,14 @@ use Rattle.tc_model.specs.Printed.{printed}
 use Rattle.tc_model.specs.RncText.{RncText}
 use Rattle.tc_model.specs.Validity.{IsValid}
 use Rattle.tc_print.specs.ReadBack.{IsReadAs}
-use Rattle.tc_run.specs.Limits.{KeepsLimits}
 use Rattle.tc_run.specs.Spent.{most_work, most_open}
 use Rattle.tc_sheet_text.specs.Texts.{IsSheetOf}
 use Rattle.tc_top.specs.FirstForm.{Schema, grammar_of, sheet_of}
-use Rattle.tc_top.specs.FirstText.{SchemaText, SheetText}
+use Rattle.tc_top.specs.FirstText.{FirstSchemaText, FirstSheetText}
 use Rattle.tc_top.specs.Words.{Command, check, prove, verify, run, valid, demo, Words, IsNoCommand, name_of, operands_of}
 use Rattle.tc_top.specs.Refusals.{Reason, reason_text, IsRefusedSchema, IsRefusedDocument, IsRefusedSheet}
 use Rattle.tc_top.specs.Limits.{limit_word, PassesLimit, IsWithinLimits, SheetPasses, IsWithinSheetLimits, IsWithinRunLimits}
-use Rattle.tc_top.specs.Reading.{Reads, StopsAt, CannotRead, IsOverLong}
+use Rattle.tc_top.specs.Reading.{IsReadFrom, StopsAt, CannotRead, IsOverLong}
 use Rattle.tc_top.specs.declared.status.Status.{Status}
 use Rattle.tc_top.specs.declared.status.Status.TheVariants.{Yes, No, Usage, Refused, Limit, ReadFault, WriteFault, NoMemory}
 
@@ -94,16 +93,16 @@ ReadsNothing words = (command : Command) → Words words command → ¬ (IsBuilt
 
 -- the first of three operands whose text is of another form
 pub data IsOtherForm (input output sheet input_text output_text sheet_text : List ℕ) : List ℕ → Type 0 where
-  other_input : ((i : Schema) → SchemaText input_text i → ⊥) → IsOtherForm input output sheet input_text output_text sheet_text input
-  other_output : {i : Schema} → SchemaText input_text i → ((o : Schema) → SchemaText output_text o → ⊥) → IsOtherForm input output sheet input_text output_text sheet_text output
-  other_sheet : {i o : Schema} → SchemaText input_text i → SchemaText output_text o → ((t : Trees) → SheetText sheet_text t → ⊥) → IsOtherForm input output sheet input_text output_text sheet_text sheet
+  other_input : ((i : Schema) → FirstSchemaText input_text i → ⊥) → IsOtherForm input output sheet input_text output_text sheet_text input
+  other_output : {i : Schema} → FirstSchemaText input_text i → ((o : Schema) → FirstSchemaText output_text o → ⊥) → IsOtherForm input output sheet input_text output_text sheet_text output
+  other_sheet : {i o : Schema} → FirstSchemaText input_text i → FirstSchemaText output_text o → ((t : Trees) → FirstSheetText sheet_text t → ⊥) → IsOtherForm input output sheet input_text output_text sheet_text sheet
 
 -- what `check` answers on the texts of its operands
 pub data Checks (input output sheet input_text output_text sheet_text : List ℕ) : Answer → Type 0 where
   is_other_form : {name : List ℕ} → IsOtherForm input output sheet input_text output_text sheet_text name → Checks input output sheet input_text output_text sheet_text (not_yet name)
-  is_safe : {i o : Schema} {t : Trees} → SchemaText input_text i → SchemaText output_text o → SheetText sheet_text t
+  is_safe : {i o : Schema} {t : Trees} → FirstSchemaText input_text i → FirstSchemaText output_text o → FirstSheetText sheet_text t
       → IsSafe (grammar_of i) (grammar_of o) (sheet_of t) → Checks input output sheet input_text output_text sheet_text safe
-  is_unsafe : {i o : Schema} {t : Trees} {document result : Trees} → SchemaText input_text i → SchemaText output_text o → SheetText sheet_text t
+  is_unsafe : {i o : Schema} {t : Trees} {document result : Trees} → FirstSchemaText input_text i → FirstSchemaText output_text o → FirstSheetText sheet_text t
       → IsCounterexample (grammar_of i) (grammar_of o) (sheet_of t) document result → Checks input output sheet input_text output_text sheet_text (unsafe document result)
 
 -- what a schema and a document decide
@@ -142,11 +141,11 @@ pub data IsAnswer (words : List (List ℕ)) (told : Option Files) (rose : Type 0
   over_long : {command : Command} {name : List ℕ} → Words words command → IsBuilt command
       → StopsAt told (operands_of command) name → IsOverLong told rose name → IsAnswer words told rose file_limit
   checked : {input output sheet input_text output_text sheet_text : List ℕ} {answer : Answer} → Words words (check None input output sheet)
-      → Reads told input input_text → Reads told output output_text → Reads told sheet sheet_text → Checks input output sheet input_text output_text sheet_text answer → IsAnswer words told rose answer
+      → IsReadFrom told input input_text → IsReadFrom told output output_text → IsReadFrom told sheet sheet_text → Checks input output sheet input_text output_text sheet_text answer → IsAnswer words told rose answer
   validated : {schema document schema_text document_text : List ℕ} {answer : Answer} → Words words (valid schema document)
-      → Reads told schema schema_text → Reads told document document_text → Validates schema document schema_text document_text answer → IsAnswer words told rose answer
+      → IsReadFrom told schema schema_text → IsReadFrom told document document_text → Validates schema document schema_text document_text answer → IsAnswer words told rose answer
   ran : {sheet document sheet_text document_text : List ℕ} {answer : Answer} → Words words (run sheet document)
-      → Reads told sheet sheet_text → Reads told document document_text → RunsTexts sheet document sheet_text document_text answer → IsAnswer words told rose answer
+      → IsReadFrom told sheet sheet_text → IsReadFrom told document document_text → RunsTexts sheet document sheet_text document_text answer → IsAnswer words told rose answer
 
 -- the answer that a call gave: it is right, and all of it was written
 pub record Answered (words : List (List ℕ)) (told : Option Files) (rose : Type 0) (status : Status) (old new : Option (List ℕ)) : Type 0 where
@@ -181,9 +180,9 @@ pub record ChecksFiles (words : List (List ℕ)) (files : Files) (i o : Schema) 
   pub input_held : files input ≡ Some input_text
   pub output_held : files output ≡ Some output_text
   pub sheet_held : files sheet ≡ Some sheet_text
-  pub input_spells : SchemaText input_text i
-  pub output_spells : SchemaText output_text o
-  pub sheet_spells : SheetText sheet_text t
+  pub input_spells : FirstSchemaText input_text i
+  pub output_spells : FirstSchemaText output_text o
+  pub sheet_spells : FirstSheetText sheet_text t
 
 -- yes exactly where the stylesheet is safe, with the line of it; no exactly where it isn't, with a counterexample and its result
 pub record DecidesSafety (status : Status) (old new : Option (List ℕ)) (input output : Grammar) (sheet : Sheet) : Type 0 where

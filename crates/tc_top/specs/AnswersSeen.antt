@@ -25,12 +25,12 @@ IsRight words told rose said = (answer : a.Answer) × Says said answer × a.IsAn
 
 -- why the read of this operand isn't Ok
 abbrev pub IsUnread : Option Files → Type 0 → List ℕ → Unread → Type 0
-IsUnread told rose name (u.Missing named) = (named.now ≡ name) × CannotRead told rose name
+IsUnread told rose name (u.Unreadable named) = (named.now ≡ name) × CannotRead told rose name
 IsUnread told rose name u.TooLong = IsOverLong told rose name
 IsUnread told rose name u.NoMemory = Unit {0}
 
 -- the first of the operands of which the read isn't Ok, and why
 abbrev pub IsFirstUnread : Option Files → Type 0 → List (List ℕ) → Unread → Type 0
-IsFirstUnread told rose names (u.Missing named) = StopsAt told names named.now × CannotRead told rose named.now
+IsFirstUnread told rose names (u.Unreadable named) = StopsAt told names named.now × CannotRead told rose named.now
 IsFirstUnread told rose names u.TooLong = (name : List ℕ) × StopsAt told names name × IsOverLong told rose name
 IsFirstUnread told rose names u.NoMemory = Unit {0}

@@ -1,18 +1,12 @@
 -- The first form of schemas and sheets: what their texts mean.
-use Rattle.std.specs.Prelude.{◌≡◌, ◌≢◌, ℕ, ◌+◌, pos, List, [], ◌∷◌, Bool, ◌&&◌, not, IsTrue, nat_le, bytes_eq, codes}
+use Rattle.std.specs.Prelude.{◌≡◌, ◌≢◌, ℕ, ◌+◌, pos, List, [], ◌∷◌, Bool, ◌&&◌, not, IsTrue, nat_le, bytes_eq}
 use Rattle.std.specs.List.{list_all, list_any}
 use Rattle.tc_model.specs.Names.{ExpandedName}
 use Rattle.tc_model.specs.Trees.{Trees, none, text, element}
 use Rattle.tc_model.specs.Grammars as p
 use Rattle.tc_model.specs.Grammars.{Pattern, ElementPattern, Grammar, no_more, more}
+use Rattle.tc_model.specs.CompactSyntaxNames.{keywords}
 use Rattle.tc_model.specs.Sheets.{Sheet, Body, no_instruction, put_text, put_element, root_pattern}
-
--- the keywords of the compact syntax (ISO/IEC 19757-2)
-abbrev pub keywords : List (List ℕ)
-keywords =
-    codes "attribute" ∷ codes "default" ∷ codes "datatypes" ∷ codes "div" ∷ codes "element" ∷ codes "empty" ∷ codes "external"
-    ∷ codes "grammar" ∷ codes "include" ∷ codes "inherit" ∷ codes "list" ∷ codes "mixed" ∷ codes "namespace" ∷ codes "notAllowed"
-    ∷ codes "parent" ∷ codes "start" ∷ codes "string" ∷ codes "text" ∷ codes "token" ∷ []
 
 -- a letter from a to z
 abbrev pub is_letter : ℕ → Bool
@@ -70,7 +64,7 @@ body_of none = no_instruction
 body_of (text s rest) = put_text s (body_of rest)
 body_of (element n kids rest) = put_element n (body_of kids) (body_of rest)
 
--- the sheet of one template, of the root, whose body is trees; the priority of `/` is 0.5
+-- the sheet of one template, of the root, whose body is trees; the priority of `/` is 0.5 (XSLT 1.0, 5.5)
 abbrev pub sheet_of : Trees → Sheet
 sheet_of t = record {
   modes = 1;

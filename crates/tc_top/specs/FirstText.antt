@@ -69,7 +69,7 @@ pub data PatternAt : List ℕ → Schema → List ℕ → Type 0 where
   of_pattern : {bytes name inside behind rest : List ℕ} {s : Schema} {x : Suffix} → OpeningAt bytes name inside → PatternAt inside s behind → ClosingAt behind x rest → PatternAt bytes (holding name s x) rest
 
 -- one element pattern
-pub record SchemaText (bytes : List ℕ) (s : Schema) : Type 0 where
+pub record FirstSchemaText (bytes : List ℕ) (s : Schema) : Type 0 where
   pub short : length bytes ≤ most_bytes
   pub behind : List ℕ
   pub pattern : PatternAt bytes s behind
@@ -99,7 +99,7 @@ abbrev pub sheet_end : List ℕ
 sheet_end = codes "</xsl:template></xsl:stylesheet>"
 
 -- the sheet of one template, of the root, with this body
-pub record SheetText (bytes : List ℕ) (t : Trees) : Type 0 where
+pub record FirstSheetText (bytes : List ℕ) (t : Trees) : Type 0 where
   pub short : length bytes ≤ most_bytes
   pub behind : List ℕ
   pub start : bytes ≡ sheet_start ++ behind

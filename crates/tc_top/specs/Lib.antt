@@ -9,6 +9,7 @@ pub mod Limits
 pub mod RefusalsSeen
 pub mod SchemasSeen
 pub mod Answers
+pub mod OneAnswer
 pub mod AnswersSeen
 pub mod Lines
 pub mod Reading

@@ -62,7 +62,7 @@ symbols_alone s = symbols_of no_schema no_schema s
 -- the stylesheet passes none of the limits that are tried before a run
 pub record IsWithinSheetLimits (s : Sheet) : Type 0 where
   pub symbols : symbol_count (symbols_alone s) ≤ most_symbols
-  pub states : PassNone (symbols_alone s) s
+  pub numbers : PassNone (symbols_alone s) s
 
 -- and neither does its run on a document pass one
 abbrev pub IsWithinRunLimits : Sheet → Trees → Type 0

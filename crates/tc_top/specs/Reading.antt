@@ -5,16 +5,16 @@ use Rattle.std.specs.Prelude.{◌≡◌, ◌≤◌, ◌⊎◌, ℕ, List, [], �
 use Rattle.tc_io.specs.Store.{Files, IsTooLong, IsReadable, longest_file}
 
 -- the bytes that were read under the name: those that are held
-pub record Reads (told : Option Files) (name bytes : List ℕ) : Type 0 where
+pub record IsReadFrom (told : Option Files) (name bytes : List ℕ) : Type 0 where
   pub held : (files : Files) → told ≡ Some files → files name ≡ Some bytes
   pub short : length bytes ≤ longest_file
 
 -- the texts are those of the names, in order
-abbrev pub ReadsAll : Option Files → List (List ℕ) → List (List ℕ) → Type 0
-ReadsAll told [] [] = Unit {0}
-ReadsAll told [] (text ∷ texts) = ⊥
-ReadsAll told (name ∷ names) [] = ⊥
-ReadsAll told (name ∷ names) (text ∷ texts) = Reads told name text × ReadsAll told names texts
+abbrev pub AreReadFrom : Option Files → List (List ℕ) → List (List ℕ) → Type 0
+AreReadFrom told [] [] = Unit {0}
+AreReadFrom told [] (text ∷ texts) = ⊥
+AreReadFrom told (name ∷ names) [] = ⊥
+AreReadFrom told (name ∷ names) (text ∷ texts) = IsReadFrom told name text × AreReadFrom told names texts
 
 -- all names before this one were read
 pub record StopsAt (told : Option Files) (names : List (List ℕ)) (name : List ℕ) : Type 0 where
@@ -22,7 +22,7 @@ pub record StopsAt (told : Option Files) (names : List (List ℕ)) (name : List 
   pub behind : List (List ℕ)
   pub parts : names ≡ before ++ name ∷ behind
   pub texts : List (List ℕ)
-  pub read : ReadsAll told before texts
+  pub read : AreReadFrom told before texts
 
 -- the file isn't held, or reading failed
 pub record CannotRead (told : Option Files) (rose : Type 0) (name : List ℕ) : Type 0 where

@@ -26,7 +26,7 @@ value_from value [] = value
 value_from value (digit ∷ digits) = value_from (value * 10 + (digit - 48)) digits
 
 -- decimal digits without a leading zero spell the number, which is from 1 to `most`
-pub record Spells (most : ℕ) (word : List ℕ) (number : ℕ) : Type 0 where
+pub record IsNumeral (most : ℕ) (word : List ℕ) (number : ℕ) : Type 0 where
   pub digits : IsTrue (list_all is_ascii_digit word)
   pub no_leading_zero : slice_get word 0 ≢ Some 48
   pub value : value_from 0 word ≡ number
@@ -36,7 +36,7 @@ pub record Spells (most : ℕ) (word : List ℕ) (number : ℕ) : Type 0 where
 -- what stands behind `check` and `prove`: `--limit` and a number, or nothing, and then the operands
 abbrev pub Limits : List (List ℕ) → Option ℕ → List (List ℕ) → Type 0
 Limits words None operands = words ≡ operands
-Limits words (Some limit) operands = (numeral : List ℕ) × (words ≡ codes "--limit" ∷ numeral ∷ operands) × Spells 4000 numeral limit
+Limits words (Some limit) operands = (numeral : List ℕ) × (words ≡ codes "--limit" ∷ numeral ∷ operands) × IsNumeral 4000 numeral limit
 
 -- the words give the command
 pub data Words : List (List ℕ) → Command → Type 0 where
@@ -50,7 +50,7 @@ pub data Words : List (List ℕ) → Command → Type 0 where
       → AreOperands (sheet ∷ document ∷ []) → Words words (run sheet document)
   validates : {words : List (List ℕ)} {schema document : List ℕ} → words ≡ codes "valid" ∷ schema ∷ document ∷ []
       → AreOperands (schema ∷ document ∷ []) → Words words (valid schema document)
-  shows : {words : List (List ℕ)} {numeral : List ℕ} {size : ℕ} → words ≡ codes "demo" ∷ numeral ∷ [] → Spells 40 numeral size → Words words (demo size)
+  shows : {words : List (List ℕ)} {numeral : List ℕ} {size : ℕ} → words ≡ codes "demo" ∷ numeral ∷ [] → IsNumeral 40 numeral size → Words words (demo size)
 
 -- no command has these words
 abbrev pub IsNoCommand : List (List ℕ) → Type 0

@@ -33,7 +33,7 @@ pub fn check<S: Store>(alloc: Global, triple: Triple<'_>, store: &mut S) -> Resu
 {
     match read_texts(alloc, triple, store) {
         Ok(texts) => check_texts(alloc, triple, &texts),
-        Err(Unread::Missing(name)) => Answer::cannot_read(alloc, name),
+        Err(Unread::Unreadable(name)) => Answer::cannot_read(alloc, name),
         Err(Unread::TooLong) => Ok(Answer::file_limit()),
         Err(Unread::NoMemory) => Err(NoMemory),
     }

@@ -2,7 +2,7 @@
 ghost use Rattle.std.specs.Prelude.{◌≡◌, ◌≤◌, ◌↔◌, ℕ, List, [], ◌∷◌, Option, length, IsTrue, MatchOption};
 ghost use Rattle.std.specs.List.{list_all};
 ghost use Rattle.tc_top.specs.Answers.{IsBuilt};
-ghost use Rattle.tc_top.specs.Words.{Limits, Spells, Words, AreOperands, IsNoCommand, is_operand, name_of};
+ghost use Rattle.tc_top.specs.Words.{Limits, IsNumeral, Words, AreOperands, IsNoCommand, is_operand, name_of};
 ghost use Rattle.tc_top.specs.WordsSeen as seen;
 ghost use Rattle.tc_top.specs.WordsSeen.{texts, command, task_command};
 
@@ -198,7 +198,7 @@ fn is_operand(word: &str) -> bool
 /// The number from 1 to `most` that the word spells, in decimal digits without a leading zero.
 fn read_number(word: &str, most: u32) -> Option<u32>
     requires { most ≤ 4000 }
-    ensures { MatchOption result ((number : ℕ) → Spells most word.now number → ⊥) (Spells most word.now) }
+    ensures { MatchOption result ((number : ℕ) → IsNumeral most word.now number → ⊥) (IsNumeral most word.now) }
 {
     let digits = word.as_bytes();
     if digits.first() == Some(&b'0') {

@@ -1,7 +1,20 @@
 //! Laws of the definitions, each the contract of a function that does nothing.
+ghost use Rattle.tc_top.specs.OneAnswer.{HasOneAnswer, HasAnswerOfCall, HasOneConstruct, HasOneFaultOfNames};
 ghost use Rattle.tc_top.specs.Words.{WordsGiveOne};
 
 /// A list of words gives one command at most.
-pub fn words_give_one_command()
+pub fn law_of_words()
     ensures { WordsGiveOne }
+{}
+
+/// Laws of answers. Where the store tells what it holds, words have one answer, but for what is left open: which
+/// counterexample there is, which limit is told of a run that passes both, and for which of the reasons malformed,
+/// unsupported and too deep, and where, a text is refused. A call gives that answer, unless a read of it fails. Of
+/// those reasons a document's text is unsupported or too deep at one place alone; and a stylesheet that is written
+/// well but for the names of its templates and its calls is refused for one reason, at one place.
+pub fn law_of_answers()
+    ensures one { HasOneAnswer }
+    ensures call { HasAnswerOfCall }
+    ensures construct { HasOneConstruct }
+    ensures names { HasOneFaultOfNames }
 {}

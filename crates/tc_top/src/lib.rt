@@ -77,11 +77,11 @@ pub fn typecheck<S: Store, K: Sink>(
     ensures not_built { (command : w.Command) → Words words.now command → ¬ (IsBuilt command) → Gives result ⊥ (a.not_yet (name_of command)) }
     ensures unread { ReadsNothing words.now → store.new ≡ store.old }
 
-    // Where the store tells what it holds, each cause has its answer.
+    // Where the store tells what it holds, each cause has its status, and by `answered` and `law_of_answers` its answer.
     ensures exactly { (files : Files) (answer : a.Answer) → S.holds store.old ≡ Some files → IsAnswer words.now (Some files) ⊥ answer
         → Gives result (Rose (S.faults store.old) (S.faults store.new)) answer }
 
-    // The headline: a check of held files is yes exactly where every result is valid, and no exactly where one isn't.
+    // The headline: a check of held files of the first form is yes exactly where every result is valid, and no exactly where one isn't.
     ensures headline { (files : Files) (i o : f.Schema) (t : Trees) → S.holds store.old ≡ Some files → ChecksFiles words.now files i o t
         → IsCutShort result (Rose (S.faults store.old) (S.faults store.new))
         ⊎ DecidesSafety result (K.written sink.old) (K.written sink.new) (grammar_of i) (grammar_of o) (sheet_of t) }

@@ -1,7 +1,7 @@
 // Reading the operands of a command.
 ghost use Rattle.std.specs.Prelude.{◌≡◌, ◌≤◌, [], ◌∷◌, IfOk, IfErr};
 ghost use Rattle.tc_io.specs.Faults.{Rose};
-ghost use Rattle.tc_top.specs.Reading.{Reads};
+ghost use Rattle.tc_top.specs.Reading.{IsReadFrom};
 ghost use Rattle.tc_top.specs.AnswersSeen.{IsUnread, IsFirstUnread};
 
 use crate::command::Triple;
@@ -12,7 +12,7 @@ use tc_io::{Store, StoreFault};
 #[derive(Clone, Copy)]
 pub enum Unread<'w> {
     /// No file of this name can be read.
-    Missing(&'w str),
+    Unreadable(&'w str),
     /// A file has more bytes than a file may have.
     TooLong,
     /// Memory was refused.
@@ -35,9 +35,9 @@ pub fn read_texts<'w, S: Store>(
 ) -> Result<Texts, Unread<'w>>
     ensures same { S.holds store.new ≡ S.holds store.old }
     ensures count { S.faults store.old ≤ S.faults store.new }
-    ensures input { IfOk result (λ texts. Reads (S.holds store.old) triple.entry.input.now texts.input.items) }
-    ensures output { IfOk result (λ texts. Reads (S.holds store.old) triple.entry.output.now texts.output.items) }
-    ensures sheet { IfOk result (λ texts. Reads (S.holds store.old) triple.entry.sheet.now texts.sheet.items) }
+    ensures input { IfOk result (λ texts. IsReadFrom (S.holds store.old) triple.entry.input.now texts.input.items) }
+    ensures output { IfOk result (λ texts. IsReadFrom (S.holds store.old) triple.entry.output.now texts.output.items) }
+    ensures sheet { IfOk result (λ texts. IsReadFrom (S.holds store.old) triple.entry.sheet.now texts.sheet.items) }
     ensures err { IfErr result (IsFirstUnread (S.holds store.old) (Rose (S.faults store.old) (S.faults store.new))
         (triple.entry.input.now ∷ triple.entry.output.now ∷ triple.entry.sheet.now ∷ [])) }
 {
@@ -67,8 +67,8 @@ pub fn read_pair<'w, S: Store>(
 ) -> Result<Pair, Unread<'w>>
     ensures same { S.holds store.new ≡ S.holds store.old }
     ensures count { S.faults store.old ≤ S.faults store.new }
-    ensures first { IfOk result (λ texts. Reads (S.holds store.old) first.now texts.first.items) }
-    ensures document { IfOk result (λ texts. Reads (S.holds store.old) document.now texts.document.items) }
+    ensures first { IfOk result (λ texts. IsReadFrom (S.holds store.old) first.now texts.first.items) }
+    ensures document { IfOk result (λ texts. IsReadFrom (S.holds store.old) document.now texts.document.items) }
     ensures err { IfErr result (IsFirstUnread (S.holds store.old) (Rose (S.faults store.old) (S.faults store.new))
         (first.now ∷ document.now ∷ [])) }
 {
@@ -88,12 +88,12 @@ fn read_operand<'w, S: Store>(
 ) -> Result<Vec<u8>, Unread<'w>>
     ensures same { S.holds store.new ≡ S.holds store.old }
     ensures count { S.faults store.old ≤ S.faults store.new }
-    ensures ok { IfOk result (λ bytes. Reads (S.holds store.old) name.now bytes.items) }
+    ensures ok { IfOk result (λ bytes. IsReadFrom (S.holds store.old) name.now bytes.items) }
     ensures err { IfErr result (IsUnread (S.holds store.old) (Rose (S.faults store.old) (S.faults store.new)) name.now) }
 {
     match store.read(alloc, name) {
         Ok(bytes) => Ok(bytes),
-        Err(StoreFault::Missing | StoreFault::Failed) => Err(Unread::Missing(name)),
+        Err(StoreFault::Missing | StoreFault::Failed) => Err(Unread::Unreadable(name)),
         Err(StoreFault::TooLong) => Err(Unread::TooLong),
         Err(StoreFault::NoMemory) => Err(Unread::NoMemory),
     }

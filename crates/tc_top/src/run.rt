@@ -43,7 +43,7 @@ pub fn run<S: Store>(
 {
     match read_pair(alloc, sheet, document, store) {
         Ok(texts) => run_texts(alloc, sheet, document, &texts),
-        Err(Unread::Missing(name)) => Answer::cannot_read(alloc, name),
+        Err(Unread::Unreadable(name)) => Answer::cannot_read(alloc, name),
         Err(Unread::TooLong) => Ok(Answer::file_limit()),
         Err(Unread::NoMemory) => Err(NoMemory),
     }

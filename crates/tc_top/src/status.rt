@@ -10,7 +10,7 @@ pub enum Status {
     No,
     /// The words are no command.
     Usage,
-    /// An operand was refused.
+    /// An operand was refused, or the command isn't built.
     Refused,
     /// A limit was passed.
     Limit,

@@ -43,7 +43,7 @@ pub fn valid<S: Store>(
 {
     match read_pair(alloc, schema, document, store) {
         Ok(texts) => valid_texts(alloc, schema, document, &texts),
-        Err(Unread::Missing(name)) => Answer::cannot_read(alloc, name),
+        Err(Unread::Unreadable(name)) => Answer::cannot_read(alloc, name),
         Err(Unread::TooLong) => Ok(Answer::file_limit()),
         Err(Unread::NoMemory) => Err(NoMemory),
     }

@@ -1,5 +1,6 @@
-use Rattle.std.proofs.Common.{◌∙◌, inl, subst}
+use Rattle.std.proofs.Common.{◌∙◌, inl, ap, subst}
 use Rattle.tc_io.specs.Sink.{Appended}
+use Rattle.tc_top.specs.Answers.{status_of}
 use Rattle.tc_top.proofs.Exact.{exact, usage_only, refused_only}
 use Rattle.tc_top.proofs.Headline.{at_words, at_told, gives, headline, validity, running}
 use Rattle.tc_top.proofs.typecheck.Goals as goal
@@ -7,12 +8,12 @@ use Rattle.tc_top.proofs.typecheck.Goals as goal
 pub returns-in-Ok-write_lines-clause-usage : goal.returns-in-Ok-write_lines-clause-usage
 returns-in-Ok-write_lines-clause-usage g c = λ none.
     let right = at_words c.as_slice.ensures c.in-Ok.ensures.right in
-    inl (right.1.status ∙ usage_only none right.2)
+    inl (right.1.status ∙ ap status_of (usage_only none right.2))
 
 pub returns-in-Ok-write_lines-clause-not_built : goal.returns-in-Ok-write_lines-clause-not_built
 returns-in-Ok-write_lines-clause-not_built g c = λ command words other.
     let right = at_words c.as_slice.ensures c.in-Ok.ensures.right in
-    inl (right.1.status ∙ refused_only words other right.2)
+    inl (right.1.status ∙ ap status_of (refused_only words other right.2))
 
 pub returns-in-Ok-write_lines-clause-exactly : goal.returns-in-Ok-write_lines-clause-exactly
 returns-in-Ok-write_lines-clause-exactly g c = λ files answer told is.

@@ -1,7 +1,8 @@
 // What stands at the front of a text: letters, names and fixed bytes.
 ghost use Rattle.std.specs.Prelude.{◌≡◌, ◌≤◌, ◌+◌, ◌++◌, ℕ, List, length, not, nat_le, ◌&&◌, bytes_eq, MatchOption, IfSome};
 ghost use Rattle.std.specs.List.{prefix_len, list_any};
-ghost use Rattle.tc_top.specs.FirstForm.{keywords, is_letter, IsWord};
+ghost use Rattle.tc_model.specs.CompactSyntaxNames as names;
+ghost use Rattle.tc_top.specs.FirstForm.{is_letter, IsWord};
 ghost use Rattle.tc_top.specs.FirstText.{WordAt, NameAt, word_len, after_spaces, is_space};
 
 use std::str::from_utf8;
@@ -39,7 +40,7 @@ fn is_among(word: &[u8], words: &[&[u8]]) -> bool
 }
 
 fn is_keyword(word: &[u8]) -> bool
-    ensures { result ≡ list_any (λ k. bytes_eq word.now k) keywords }
+    ensures { result ≡ list_any (λ k. bytes_eq word.now k) names.keywords }
 {
     is_among(word, &KEYWORDS)
 }

@@ -1,7 +1,7 @@
 // Schemas of the first form.
 ghost use Rattle.std.specs.Prelude.{◌≡◌, ◌++◌, ℕ, List, reverse, MatchOption, IfOk};
 ghost use Rattle.tc_top.specs.declared.first.schema.Inner.{Inner};
-ghost use Rattle.tc_top.specs.FirstText.{after_spaces, WordAt, OpeningAt, mark, suffix_at, ClosingAt, PatternAt, SchemaText};
+ghost use Rattle.tc_top.specs.FirstText.{after_spaces, WordAt, OpeningAt, mark, suffix_at, ClosingAt, PatternAt, FirstSchemaText};
 ghost use Rattle.tc_top.specs.FirstSeen.{suffix, schema_from, schema};
 ghost use Rattle.tc_top.specs.FirstForm as first_form;
 
@@ -113,7 +113,7 @@ fn pattern<'t>(
 
 /// The schema that a text of the first form spells; `None` where it is of another form.
 pub fn read_schema<'t>(alloc: Global, text: &'t [u8]) -> Result<Option<Schema<'t>>, NoMemory>
-    ensures { IfOk result (λ found. MatchOption found ((s : first_form.Schema) → SchemaText text.now s → ⊥) (λ s. SchemaText text.now (schema s))) }
+    ensures { IfOk result (λ found. MatchOption found ((s : first_form.Schema) → FirstSchemaText text.now s → ⊥) (λ s. FirstSchemaText text.now (schema s))) }
 {
     if text.len() > MOST_BYTES {
         return Ok(None);

@@ -4,7 +4,7 @@ ghost use Rattle.tc_model.specs.Trees as t;
 ghost use Rattle.tc_model.specs.Trees.{Trees};
 ghost use Rattle.tc_model.specs.Seen.{before, trees};
 ghost use Rattle.tc_top.specs.FirstForm.{plain_name};
-ghost use Rattle.tc_top.specs.FirstText.{TagAt, ElementAt, BodyAt, SheetText};
+ghost use Rattle.tc_top.specs.FirstText.{TagAt, ElementAt, BodyAt, FirstSheetText};
 
 use crate::first::scan::{MOST_BYTES, after, name};
 use bumpalo::Bump;
@@ -87,7 +87,7 @@ fn body<'b>(
 
 /// The body of the one template that a text of the first form spells; `None` where it is of another form.
 pub fn read_sheet<'b>(arena: &'b Bump, text: &'b [u8]) -> Result<Option<&'b [Node<'b>]>, NoMemory>
-    ensures { IfOk result (λ found. MatchOption found ((t : Trees) → SheetText text.now t → ⊥) (λ body. SheetText text.now (trees body.now))) }
+    ensures { IfOk result (λ found. MatchOption found ((t : Trees) → FirstSheetText text.now t → ⊥) (λ body. FirstSheetText text.now (trees body.now))) }
 {
     if text.len() > MOST_BYTES {
         return Ok(None);

@@ -10,10 +10,10 @@ returns-in-Ok-clause-ok g c =
     let read = c.in-Ok.ensures in
     IfOk-weaker c.check_texts.result _ _ (λ said h words are. (h.0, h.1, checked are read.input read.output read.sheet h.2)) c.check_texts.ensures
 
-pub returns-in-Err-Missing-clause-ok : goal.returns-in-Err-Missing-clause-ok
-returns-in-Err-Missing-clause-ok g c =
-    let unread = subst (IsFirstUnread _ _ _) c.in-Err-Missing.field-0-is c.in-Err-Missing.ensures.err in
-    IfOk-weaker c.cannot_read.result _ _ (λ said says words are. (a.cannot_read c.in-Err-Missing.name.now, says, not_read are tt unread.0 unread.1)) c.cannot_read.ensures
+pub returns-in-Err-Unreadable-clause-ok : goal.returns-in-Err-Unreadable-clause-ok
+returns-in-Err-Unreadable-clause-ok g c =
+    let unread = subst (IsFirstUnread _ _ _) c.in-Err-Unreadable.field-0-is c.in-Err-Unreadable.ensures.err in
+    IfOk-weaker c.cannot_read.result _ _ (λ said says words are. (a.cannot_read c.in-Err-Unreadable.name.now, says, not_read are tt unread.0 unread.1)) c.cannot_read.ensures
 
 pub returns-in-Err-TooLong-clause-ok : goal.returns-in-Err-TooLong-clause-ok
 returns-in-Err-TooLong-clause-ok g c =

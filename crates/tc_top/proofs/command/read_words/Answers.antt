@@ -1,5 +1,5 @@
 use Rattle.std.proofs.Common.{subst, codes, List, ℕ}
-use Rattle.tc_top.specs.Words.{AreOperands, Limits, Spells, checks, proves, verifies, runs, validates, shows}
+use Rattle.tc_top.specs.Words.{AreOperands, Limits, IsNumeral, checks, proves, verifies, runs, validates, shows}
 use Rattle.tc_top.proofs.Named.{texts-first, texts-parts, texts-only}
 use Rattle.tc_top.proofs.command.read_words.Goals as goal
 
@@ -34,4 +34,4 @@ pub returns-in_ok-read_number-in-demo : goal.returns-in_ok-read_number-in-demo
 returns-in_ok-read_number-in-demo c =
     let rest = texts-only _ _ _ _ c.in_ok-numeral-in-demo.ensures.cases.0 c.is_empty.ensures c.if-not-is_empty.false in
     shows (texts-parts _ _ _ _ (codes "demo") _ c.in_ok-name.ensures.cases.0 c.as_str.ensures.value c.in-demo.is rest)
-    (subst (λ (word : List ℕ). Spells 40 word c.in_ok-read_number-in-demo.field-0) c.as_str-in-demo.ensures.value c.in_ok-read_number-in-demo.ensures)
+    (subst (λ (word : List ℕ). IsNumeral 40 word c.in_ok-read_number-in-demo.field-0) c.as_str-in-demo.ensures.value c.in_ok-read_number-in-demo.ensures)

@@ -1,6 +1,6 @@
 use Rattle.std.proofs.Common.{◌∷◌, [], ◌∙◌, refl, subst}
 use Rattle.tc_io.specs.Faults.{Rose}
-use Rattle.tc_top.specs.Reading.{Reads}
+use Rattle.tc_top.specs.Reading.{IsReadFrom}
 use Rattle.tc_top.specs.AnswersSeen.{IsUnread, IsFirstUnread}
 use Rattle.tc_top.proofs.FirstUnread.{err_is, rose_later, unread_more, unread_first}
 use Rattle.tc_top.proofs.read.read_texts.Goals as goal
@@ -28,6 +28,6 @@ returns-in_err-sheet-clause-err g c =
     let unread = subst (λ o. IsUnread o (Rose (g.S.Store.faults c.read_operand-2.new.store) last) name c.in_err-sheet.field-0.0) same c.in_err-sheet.ensures.err in
     let count : Rose (g.S.Store.faults c.read_operand-2.new.store) last → Rose (g.S.Store.faults c.args.store.now) last = λ h. rose_later _ _ _ c.in_ok-input.ensures.count (rose_later _ _ _ c.in_ok-output.ensures.count h) in
     let rose = unread_more told _ (Rose (g.S.Store.faults c.args.store.now) last) name _ count unread in
-    let output = subst (λ o. Reads o c.args.triple.output.now c.in_ok-output.output.items) c.in_ok-input.ensures.same c.in_ok-output.ensures.ok in
+    let output = subst (λ o. IsReadFrom o c.args.triple.output.now c.in_ok-output.output.items) c.in_ok-input.ensures.same c.in_ok-output.ensures.ok in
     err_is c.from_residual-in_err-sheet.result _ (IsFirstUnread _ _ _) c.from_residual-in_err-sheet.ensures.1
     (unread_first told _ _ (c.args.triple.input.now ∷ c.args.triple.output.now ∷ []) [] (_ ∷ _ ∷ []) name _ refl (c.in_ok-input.ensures.ok, (output, tt)) rose)

@@ -7,7 +7,6 @@ use Rattle.tc_model.specs.Symbols.{Mention}
 use Rattle.tc_model.specs.Trees.{none}
 use Rattle.tc_rules.specs.Faults.{IsCause}
 use Rattle.tc_model.specs.StateCounts.{PassNone}
-use Rattle.tc_rules.specs.Kept.{told}
 use Rattle.tc_top.specs.Answers as a
 use Rattle.tc_top.specs.Answers.{Runs, sheet_passes}
 use Rattle.tc_top.specs.Limits.{no_schema, symbols_alone, IsWithinSheetLimits, sheet_symbols, sheet_predicates, sheet_ancestors, sheet_selects}
@@ -19,8 +18,8 @@ of-requires-clause-symbols c = (no_schema, no_schema, c.in-Ok.ensures.stands)
 pub run_rules-requires-clause-within : goal.run_rules-requires-clause-within
 run_rules-requires-clause-within c =
     let s = see.sheet c.args.sheet.now in
-    let states = subst (λ (symbols : List Mention). PassNone symbols s) c.in-Ok.ensures.stands c.in-Ok-of.ensures.within in
-    let within : IsWithinSheetLimits s = record { symbols = c.in-Ok.ensures.few; states = states } in
+    let numbers = subst (λ (symbols : List Mention). PassNone symbols s) c.in-Ok.ensures.stands c.in-Ok-of.ensures.within in
+    let within : IsWithinSheetLimits s = record { symbols = c.in-Ok.ensures.few; numbers = numbers } in
     subst IsWithinSheetLimits (sym c.in-Ok-of.ensures.sheet) within
 
 pub returns-in-Err-TooManySymbols : goal.returns-in-Err-TooManySymbols

@@ -1,0 +1,30 @@
+-- Words and files have one answer, but for what is left open.
+use Rattle.std.proofs.Common.{inl, inr}
+use Rattle.tc_top.specs.Answers.{Answer, usage, not_yet, cannot_read, file_limit, safe, unsafe, refused, over_limit, is_valid, is_invalid, has_result, work_limit, open_limit}
+use Rattle.tc_top.specs.OneAnswer.{AreAlike, IsOfFault, HasOneAnswer, HasAnswerOfCall}
+use Rattle.tc_top.proofs.Exact.{Agrees, exact}
+
+no_fault : (answer : Answer) → IsOfFault ⊥ answer → ⊥
+no_fault (cannot_read name) h = h
+no_fault usage h = h
+no_fault (not_yet name) h = h
+no_fault file_limit h = h
+no_fault safe h = h
+no_fault (unsafe document output) h = h
+no_fault (refused name reason place) h = h
+no_fault (over_limit kind number) h = h
+no_fault is_valid h = h
+no_fault is_invalid h = h
+no_fault (has_result result) h = h
+no_fault work_limit h = h
+no_fault open_limit h = h
+
+without_fault : (one other : Answer) → Agrees ⊥ one other → AreAlike one other
+without_fault one other (inl alike) = alike
+without_fault one other (inr fault) = absurd (no_fault other fault)
+
+pub one_answer : HasOneAnswer
+one_answer words files a b x y = without_fault a b (exact x y)
+
+pub answer_of_call : HasAnswerOfCall
+answer_of_call words files before after a b x y = exact x y

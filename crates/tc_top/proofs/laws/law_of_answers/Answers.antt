@@ -1,0 +1,15 @@
+use Rattle.tc_top.proofs.OneAnswer.{one_answer, answer_of_call}
+use Rattle.tc_top.proofs.OneRefusal.{one_construct, one_fault_of_names}
+use Rattle.tc_top.proofs.laws.law_of_answers.Goals as goal
+
+pub returns-clause-one : goal.returns-clause-one
+returns-clause-one c = one_answer
+
+pub returns-clause-call : goal.returns-clause-call
+returns-clause-call c = answer_of_call
+
+pub returns-clause-construct : goal.returns-clause-construct
+returns-clause-construct c = one_construct
+
+pub returns-clause-names : goal.returns-clause-names
+returns-clause-names c = one_fault_of_names

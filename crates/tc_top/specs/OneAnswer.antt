@@ -1,0 +1,57 @@
+-- That an answer is the only one: what the causes exclude, and what they leave open.
+use Rattle.std.specs.Prelude.{◌≡◌, ◌⊎◌, ℕ, List, Some}
+use Rattle.tc_io.specs.Faults.{Rose}
+use Rattle.tc_io.specs.Store.{Files}
+use Rattle.tc_model.specs.RawTrees.{RawTrees}
+use Rattle.tc_model.specs.SheetTextTrees.{Template}
+use Rattle.tc_model.specs.SheetTextPhrases.{IsStylesheet}
+use Rattle.tc_model.specs.Trees.{Trees}
+use Rattle.tc_model.specs.XmlText.{XmlText}
+use Rattle.tc_top.specs.Answers.{Answer, cannot_read, unsafe, refused, work_limit, open_limit, IsAnswer}
+use Rattle.tc_top.specs.Refusals.{Reason, malformed, unsupported, too_deep, IsRefusedDocument, IsRefusedSheet}
+
+-- a text may be refused for several of these, at several places, and which is told is left open
+abbrev pub IsOpen : Reason → Type 0
+IsOpen malformed = Unit {0}
+IsOpen (unsupported why) = Unit {0}
+IsOpen too_deep = Unit {0}
+IsOpen _ = ⊥
+
+-- One answer, but for what is left open: which counterexample there is, which limit is told of a run that passes both, and for which of the
+-- reasons above, and where, the text of an operand is refused.
+pub data AreAlike : Answer → Answer → Type 0 where
+  same_answer : {a : Answer} → AreAlike a a
+  counterexamples : {document result other_document other_result : Trees} → AreAlike (unsafe document result) (unsafe other_document other_result)
+  work_or_open : AreAlike work_limit open_limit
+  open_or_work : AreAlike open_limit work_limit
+  open_reasons : {name : List ℕ} {reason other_reason : Reason} {place other_place : ℕ} → IsOpen reason → IsOpen other_reason
+      → AreAlike (refused name reason place) (refused name other_reason other_place)
+
+-- where the store tells what it holds and no read fails, words have one answer
+abbrev pub HasOneAnswer : Type 0
+HasOneAnswer = (words : List (List ℕ)) (files : Files) (a b : Answer) → IsAnswer words (Some files) ⊥ a → IsAnswer words (Some files) ⊥ b → AreAlike a b
+
+-- it says that an operand can't be read, since a read failed
+abbrev pub IsOfFault : Type 0 → Answer → Type 0
+IsOfFault rose (cannot_read name) = rose
+IsOfFault rose _ = ⊥
+
+-- and a call whose count of faults went from one number to another has that answer, unless it tells of such a fault
+abbrev pub HasAnswerOfCall : Type 0
+HasAnswerOfCall = (words : List (List ℕ)) (files : Files) (before after : ℕ) (a b : Answer)
+    → IsAnswer words (Some files) ⊥ a → IsAnswer words (Some files) (Rose before after) b → AreAlike a b ⊎ IsOfFault (Rose before after) b
+
+-- this stands in a text, up to which it was read
+abbrev pub IsConstruct : Reason → Type 0
+IsConstruct (unsupported why) = Unit {0}
+IsConstruct too_deep = Unit {0}
+IsConstruct _ = ⊥
+
+-- a document's text comes to one construct that isn't read, or to one element that stands too deep
+abbrev pub HasOneConstruct : Type 0
+HasOneConstruct = (bytes : List ℕ) (r q : Reason) (k m : ℕ) → IsConstruct r → IsConstruct q → IsRefusedDocument bytes r k → IsRefusedDocument bytes q m → (r ≡ q) × (k ≡ m)
+
+-- where a text spells a stylesheet but for the names of its templates and its calls, it is refused for one reason, at one place
+abbrev pub HasOneFaultOfNames : Type 0
+HasOneFaultOfNames = (bytes : List ℕ) (raw : RawTrees) (templates : List Template) (r q : Reason) (k m : ℕ) → XmlText bytes raw → IsStylesheet raw templates
+    → IsRefusedSheet bytes r k → IsRefusedSheet bytes q m → (r ≡ q) × (k ≡ m)
