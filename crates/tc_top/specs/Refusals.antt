@@ -14,7 +14,7 @@ use Rattle.tc_model.specs.SheetText.{SheetFails}
 use Rattle.tc_model.specs.SheetText as sheet
 use Rattle.tc_sheet.specs.Changes.{mended, flattened, both}
 use Rattle.tc_sheet.specs.Faults.{OfAllWith, IsNoneWith}
-use Rattle.tc_sheet.specs.LookedAt.{IsLookedAt, IsAt, IsAnything, IsRefused, IsDeep}
+use Rattle.tc_sheet.specs.LookedAt.{IsLookedAt, IsAt, IsUnrefused, IsRefused, IsDeep}
 use Rattle.tc_sheet.specs.Tables.{IsNamedAgain}
 
 pub data Reason : Type 0 where
@@ -72,11 +72,11 @@ SpellsTree bytes P = (raw : RawTrees) × XmlText bytes raw × P raw
 
 -- The bytes are no stylesheet's text: no XML text, as of documents, or one whose tree isn't a stylesheet. Malformed: not even with what isn't
 -- supported taken away or exchanged, and with others in place of the selects, patterns and tests that nest too deep, unless the template there is
--- the first that is named again. Unsupported: such a construct stands there, and not even with such others. Too deep: one of these nests too deep
--- there, and not even with what isn't supported taken away or exchanged. Undefined and call loop: the first call stands there that has no
--- template, or that leads back to its own. All this stands where stylesheets are looked at.
+-- the first that is named again; and no reason of its own refuses what stands there. Unsupported: such a construct stands there, and not even with
+-- such others. Too deep: one of these nests too deep there, and not even with what isn't supported taken away or exchanged. Undefined and call loop:
+-- the first call stands there that has no template, or that leads back to its own. All this stands where stylesheets are looked at.
 abbrev pub IsRefusedSheet : List ℕ → Reason → ℕ → Type 0
-IsRefusedSheet bytes malformed place = IsRefusedDocument bytes malformed place ⊎ ((place ≤ length bytes) × SpellsTree bytes (λ raw. IsAt (IsLookedAt raw) IsAnything place × OfAllWith both raw (λ ts. IsNamedAgain ts place)))
+IsRefusedSheet bytes malformed place = IsRefusedDocument bytes malformed place ⊎ ((place ≤ length bytes) × SpellsTree bytes (λ raw. IsAt (IsLookedAt raw) IsUnrefused place × OfAllWith both raw (λ ts. IsNamedAgain ts place)))
 IsRefusedSheet bytes (unsupported why) place = IsRefusedDocument bytes (unsupported why) place ⊎ SpellsTree bytes (λ raw. IsAt (IsLookedAt raw) (IsRefused why) place × IsNoneWith flattened raw)
 IsRefusedSheet bytes too_deep place = IsRefusedDocument bytes too_deep place ⊎ SpellsTree bytes (λ raw. IsAt (IsLookedAt raw) IsDeep place × IsNoneWith mended raw)
 IsRefusedSheet bytes undefined place = SpellsTree bytes (λ raw. SheetFails raw sheet.undefined place)
