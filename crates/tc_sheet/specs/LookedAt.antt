@@ -1,6 +1,6 @@
 -- What is looked at in the raw tree of a stylesheet (XSLT 1.0, 2 to 9 and 11.3): not what `xsl:output`, `xsl:strip-space` and `xsl:attribute` have and
--- hold, nor what elements of other namespaces at the top do; nor what an element has and holds that isn't supported, or that may not stand where it
--- stands; and of a root that is no stylesheet's, its tag alone.
+-- hold, nor what elements of other namespaces at the top do; nor what elements have and hold that aren't supported, or may not stand where they
+-- stand; and of a root that is no stylesheet's, its tag alone.
 use Rattle.std.specs.Prelude.{◌≡◌, ◌≢◌, ◌&&◌, ℕ, List, Option, None, Some, Contains, bytes_eq, codes, if◌then◌else◌}
 use Rattle.tc_base.specs.declared.reasons.Why.{Why}
 use Rattle.tc_base.specs.declared.reasons.Why.TheVariants.{N36}

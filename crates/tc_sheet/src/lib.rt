@@ -73,15 +73,15 @@ fn sheet_in<'b>(arena: &'b Bump, element: &RawElem<'b>) -> Result<Sheet<'b>, She
 /// # Errors
 ///
 /// Unsupported at a construct that is not supported, but not in what `xsl:attribute`, `xsl:output`,
-/// `xsl:strip-space` and foreign elements at the top have and hold, nor in what an element has and holds that is
-/// not supported or may not stand where it stands, and of a root that is no stylesheet's at its tag alone; always
-/// where the tree is a stylesheet once some elements that are not supported are taken away, and some variable
-/// references, literals and numbers of its selects, patterns and tests are taken as the name `a`. TooDeep at a select, pattern or test whose parentheses and
-/// brackets stand more than 2,000 deep within one another; always where the tree is a stylesheet once others
-/// stand in place of some of these. Undefined at the first call of a template that does not exist, and CallLoop
-/// at the first call that leads back to the template in which it stands, all else being good. Malformed
-/// otherwise, at a text, an element or an attribute that is no such construct; where all else is good, at the
-/// first template whose name one before it has. NoMemory where memory is refused.
+/// `xsl:strip-space` and foreign elements at the top have and hold, nor in what elements have and hold that are not
+/// supported or may not stand where they stand, and of a root that is no stylesheet's at its tag alone; always where
+/// the tree is a stylesheet once some elements that are not supported are taken away, and some variable references,
+/// literals and numbers of its selects, patterns and tests are taken as the name `a`. TooDeep at a select, pattern
+/// or test whose parentheses and brackets stand more than 2,000 deep within one another; always where the tree is a
+/// stylesheet once others stand in place of some of these. Undefined at the first call of a template that does not
+/// exist, and CallLoop at the first call that leads back to the template in which it stands, all else being good.
+/// Malformed otherwise, at a text, an element or an attribute that is no such construct; where all else is good, at
+/// the first template whose name one before it has. NoMemory where memory is refused.
 pub fn read_sheet<'b>(arena: &'b Bump, raw: &Raw<'b>) -> Result<Sheet<'b>, SheetFault>
     requires { IsOneElement (raw_tree raw.now) }
     ensures ok { IfOk result (λ r. SheetText (raw_tree raw.now) (sheet r)) }
