@@ -1,4 +1,3 @@
-pub mod OtherEntities
 pub mod FirstLawsViews
 pub mod FirstLawsNormal
 pub mod FirstLawsMatch

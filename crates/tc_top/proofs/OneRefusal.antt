@@ -27,7 +27,7 @@ use Rattle.tc_top.specs.Answers.{refused}
 use Rattle.tc_top.specs.OneAnswer.{IsOpen, AreAlike, same_answer, open_reasons, IsConstruct, HasOneConstruct, HasOneFaultOfNames}
 use Rattle.tc_top.specs.Refusals.{Reason, malformed, unsupported, too_deep, undefined, twice, loop, bad_start, bad_except, call_loop, SpellsFault, IsRefusedSchema, IsRefusedDocument, SpellsTree, IsRefusedSheet}
 use Rattle.tc_top.proofs.OneConstruct.{document_one}
-use Rattle.tc_top.proofs.OtherEntities.{with_others}
+use Rattle.tc_sheet_text.proofs.OtherEntities.{with_others}
 
 -- schemas
 

@@ -12,7 +12,7 @@ use Rattle.tc_model.proofs.SimplifiesUnique.{one_syntax, one_rnc_text}
 use Rattle.tc_model.proofs.SimplifiesFaults.{no_grammar}
 use Rattle.tc_model.proofs.XmlTextTrees.{one_raw_tree}
 use Rattle.tc_print.specs.ReadBack.{IsReadAs}
-use Rattle.tc_top.proofs.OtherEntities.{with_others}
+use Rattle.tc_sheet_text.proofs.OtherEntities.{with_others}
 use Rattle.tc_top.specs.Refusals.{Reason, malformed, unsupported, too_deep, undefined, twice, loop, bad_start, bad_except, call_loop, SpellsFault, IsRefusedSchema, IsRefusedDocument}
 use Rattle.tc_top.specs.Limits.{IsWithinLimits, PassesLimit, passes_pattern, passes_depth, passes_elements, passes_states, passes_symbols}
 use Rattle.tc_top.specs.Answers.{Answer, over_limit, is_valid, is_invalid, Decides, passes, decides_valid, decides_invalid, Validates, schema_refused, document_refused, both_read}
