@@ -5,7 +5,7 @@ use Rattle.std.specs.declared.cmp.Ordering.{Ordering}
 use Rattle.std.specs.declared.cmp.Ordering.TheVariants.{Less, Equal, Greater}
 use Rattle.std.specs.Cmp.Lexicographic.{slice_cmp, texts_ties}
 use Rattle.tc_model.specs.Symbols.{mention_cmp}
-use Rattle.tc_alpha.specs.Seen.{mention}
+use Rattle.tc_alpha.specs.Views.{mention}
 use Rattle.tc_alpha.specs.declared.mentions.Mention.{Mention}
 use Rattle.tc_alpha.specs.declared.mentions.Mention.TheVariants.{Name, Namespace}
 use Rattle.tc_alpha.specs.contracts.mentions.MentionOrd.TheImpl.{cmp-value}

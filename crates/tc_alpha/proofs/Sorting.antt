@@ -13,7 +13,7 @@ use Rattle.std.proofs.lemmas.List.Kept.{IsStrictlySortedBy-dedup, Any-dedup, Con
 use Rattle.std.proofs.lemmas.List.Sorted.{Contains-permutation, IsPermutation-sym}
 use Rattle.tc_model.specs.Symbols.{mention_cmp, in_order}
 use Rattle.tc_model.specs.Symbols as m
-use Rattle.tc_alpha.specs.Seen.{mention, seen}
+use Rattle.tc_alpha.specs.Views.{mention, seen}
 use Rattle.tc_alpha.specs.declared.mentions.Mention.{Mention}
 use Rattle.tc_alpha.proofs.Orders.{total, same, same_mention}
 use Rattle.tc_alpha.proofs.Members.{Has, has_from_contains, contains_from_has, is_in_order}

@@ -2,7 +2,7 @@
 use Rattle.std.proofs.Common.{◌≡◌, ℕ, ◌+◌, ◌<◌, List, ◌++◌, refl, ap, ◌∙◌, sym, map, Bor, length, get_or, drop, append_assoc, flat_map, Result, Ok, Err, OnOk}
 use Rattle.std.proofs.lemmas.List.{drop_more}
 use Rattle.tc_model.specs.Sheets as s
-use Rattle.tc_model.specs.Seen as see
+use Rattle.tc_model.specs.Views as see
 use Rattle.tc_model.specs.Symbols.{Mention, mentions_of_name, mentions_of_test, mentions_in_class, mentions_in_classes, in_steps, in_path, in_test, in_tests, in_body, in_branches}
 use Rattle.tc_model.specs.declared.grammar.NameClass.{NameClass}
 use Rattle.tc_model.specs.declared.sheet.Step.{Step}

@@ -1,10 +1,10 @@
 // Symbols in order, by name and back.
 ghost use Rattle.std.specs.Prelude.{◌≡◌, ◌<◌, ◌≤◌, length, slice_get, IfOk, IfErr, OnOk, MatchOption};
 ghost use Rattle.tc_alpha.specs.Kept.{known, all_known};
-ghost use Rattle.tc_alpha.specs.Seen.{seen, mention as see_mention};
+ghost use Rattle.tc_alpha.specs.Views.{seen, mention as see_mention};
 ghost use Rattle.tc_model.specs.Grammars as g;
 ghost use Rattle.tc_model.specs.Names.{ExpandedName, IsName};
-ghost use Rattle.tc_model.specs.Seen as see;
+ghost use Rattle.tc_model.specs.Views as see;
 ghost use Rattle.tc_model.specs.Sheets as s;
 ghost use Rattle.tc_model.specs.Symbols.{AreAlike, AreSymbols, IsAlikeBySymbol, free_local, free_namespace, fresh_name, in_order, mention_cmp, place_of, symbol_count, symbol_of, symbols_of};
 ghost use Rattle.tc_model.specs.WellFormed.{IsSheet};

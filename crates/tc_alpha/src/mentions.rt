@@ -1,7 +1,7 @@
 // What schemas and stylesheets mention of names.
 ghost use Rattle.std.specs.Prelude.{◌≡◌, ◌++◌, ◌∷◌, [], OnOk, IfOk, flat_map};
-ghost use Rattle.tc_alpha.specs.Seen.{seen, mention as see_mention};
-ghost use Rattle.tc_model.specs.Seen as see;
+ghost use Rattle.tc_alpha.specs.Views.{seen, mention as see_mention};
+ghost use Rattle.tc_model.specs.Views as see;
 ghost use Rattle.tc_model.specs.Sheets as s;
 ghost use Rattle.tc_model.specs.Symbols.{mentions_of_name, mentions_of_test, mentions_in_class, mentions_in_classes, mentions_in_grammar, mentions_in_sheet, in_steps, in_path, in_test, in_tests, in_pattern, in_body, in_branches, with_namespace};
 

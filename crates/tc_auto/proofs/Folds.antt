@@ -5,7 +5,7 @@ use Rattle.std.proofs.lemmas.Nat.{mul-lt}
 use Rattle.std.proofs.Math.Nat.{min-eq_left, min-eq_right}
 use Rattle.tc_model.specs.Grammars as g
 use Rattle.tc_model.specs.Grammars.{Pattern, Patterns, no_more, more}
-use Rattle.tc_model.specs.Seen.{pattern, patterns}
+use Rattle.tc_model.specs.Views.{pattern, patterns}
 use Rattle.tc_model.specs.States.{Automaton, automaton, grouped, chosen, interleaved, group_of, choice_of, interleave_of, empty_automaton, nothing_automaton}
 use Rattle.tc_model.specs.declared.grammar.Pat.{Pat}
 use Rattle.tc_model.proofs.StatesExact.{sound}

@@ -4,7 +4,7 @@ use Rattle.std.specs.List.{Contains}
 use Rattle.std.proofs.lemmas.List.Elements.{Contains-append_left, Contains-append_right, Contains-append_cases}
 use Rattle.std.proofs.lemmas.Bool.Decides.{eqb_tells}
 use Rattle.tc_model.specs.Grammars.{Grammar, Pattern, ElementPattern, element_at}
-use Rattle.tc_model.specs.Seen.{element_pattern}
+use Rattle.tc_model.specs.Views.{element_pattern}
 use Rattle.tc_model.specs.declared.grammar.ElemPat.{ElemPat}
 use Rattle.tc_model.specs.States as s
 use Rattle.tc_model.specs.States.{Automaton, automaton, Side, IsPart, a_content, first_state, IsEdge, IsAccepting}

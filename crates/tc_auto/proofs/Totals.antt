@@ -4,7 +4,7 @@ use Rattle.std.specs.List.{Contains}
 use Rattle.std.proofs.lemmas.List.{length-map, get_or_default}
 use Rattle.std.proofs.Math.Nat.{min-eq_left, min-eq_right}
 use Rattle.tc_model.specs.Grammars as g
-use Rattle.tc_model.specs.Seen as see
+use Rattle.tc_model.specs.Views as see
 use Rattle.tc_model.specs.declared.grammar.ElemPat.{ElemPat}
 use Rattle.tc_model.specs.declared.grammar.Grammar.{Grammar}
 use Rattle.tc_model.specs.States as s

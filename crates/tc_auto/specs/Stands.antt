@@ -4,7 +4,7 @@ use Rattle.std.specs.List.{Contains}
 use Rattle.tc_model.specs.Trees.{Trees}
 use Rattle.tc_model.specs.Grammars.{Grammar, Pattern}
 use Rattle.tc_model.specs.Matching.{Matches}
-use Rattle.tc_model.specs.Seen as see
+use Rattle.tc_model.specs.Views as see
 use Rattle.tc_model.specs.States as s
 use Rattle.tc_model.specs.States.{Automaton, Side, input, output, IsPart, first_state, IsEdge, IsAccepting, IsAccepted}
 use Rattle.tc_auto.specs.Steps.{leaf}

@@ -47,7 +47,7 @@ impl<'b> Auto<'b> {
     ghost use Rattle.std.specs.Prelude.{◌≡◌, ◌<◌, ◌≤◌, ◌↔◌, ℕ, suc, Some, IfOk, IsTrue, Err, length};
     ghost use Rattle.std.specs.List.{Contains};
     ghost use Rattle.tc_model.specs.Grammars as g;
-    ghost use Rattle.tc_model.specs.Seen as see;
+    ghost use Rattle.tc_model.specs.Views as see;
     ghost use Rattle.tc_model.specs.States as s;
     ghost use Rattle.tc_auto.specs.Stands.{Stands, RunsExactly};
     ghost use Rattle.tc_auto.specs.Steps.{leaf};

@@ -1,7 +1,7 @@
 // The automaton of a pattern, by the automata of its members.
 ghost use Rattle.std.specs.Prelude.{◌<◌, ◌^◌, IfOk};
 ghost use Rattle.tc_model.specs.Grammars as g;
-ghost use Rattle.tc_model.specs.Seen.{pattern, patterns};
+ghost use Rattle.tc_model.specs.Views.{pattern, patterns};
 ghost use Rattle.tc_model.specs.States.{automaton};
 ghost use Rattle.tc_auto.specs.Steps.{Shows};
 

@@ -1,7 +1,7 @@
 // How many states patterns have, told before anything is built. The numbers saturate.
 ghost use Rattle.std.specs.Prelude.{◌≡◌, ◌-◌, ◌^◌, ◌≤◌, length, min};
 ghost use Rattle.tc_model.specs.Grammars as g;
-ghost use Rattle.tc_model.specs.Seen.{pattern, patterns};
+ghost use Rattle.tc_model.specs.Views.{pattern, patterns};
 ghost use Rattle.tc_model.specs.States.{automaton};
 
 use tc_model::Pat;

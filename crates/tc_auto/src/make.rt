@@ -1,7 +1,7 @@
 // The automaton of a schema.
 ghost use Rattle.std.specs.Prelude.{◌≡◌, ◌-◌, ◌<◌, ◌^◌, ◌∷◌, [], IfOk, Err, min, ℕ};
 ghost use Rattle.tc_model.specs.Grammars as g;
-ghost use Rattle.tc_model.specs.Seen as see;
+ghost use Rattle.tc_model.specs.Views as see;
 ghost use Rattle.tc_model.specs.States as states;
 ghost use Rattle.tc_auto.specs.Stands.{Built, Stands, side_of};
 

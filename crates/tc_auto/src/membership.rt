@@ -1,8 +1,8 @@
 // Names of name classes, and alternatives of patterns.
 ghost use Rattle.std.specs.Prelude.{◌≡◌};
 ghost use Rattle.tc_model.specs.Grammars.{in_class, in_some_class};
-ghost use Rattle.tc_model.specs.Seen as see;
-ghost use Rattle.tc_model.specs.Seen.{classes, pattern, patterns};
+ghost use Rattle.tc_model.specs.Views as see;
+ghost use Rattle.tc_model.specs.Views.{classes, pattern, patterns};
 ghost use Rattle.tc_model.specs.States.{is_alternative, is_one_alternative};
 
 use tc_model::{Name, NameClass, Pat};

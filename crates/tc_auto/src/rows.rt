@@ -1,7 +1,7 @@
 // The rows of a schema's states, part after part.
 ghost use Rattle.std.specs.Prelude.{◌≡◌, ◌<◌, ◌+◌, ◌^◌, ◌++◌, ◌∷◌, [], List, length, IfOk, IsTrue, ◌↔◌};
 ghost use Rattle.std.specs.List.{Contains};
-ghost use Rattle.tc_model.specs.Seen.{pattern};
+ghost use Rattle.tc_model.specs.Views.{pattern};
 ghost use Rattle.tc_model.specs.States.{automaton};
 ghost use Rattle.tc_auto.specs.Rows.{AreRowsFor, AreRowsOf, IsRowOf};
 ghost use Rattle.tc_auto.specs.Steps.{IsWithin, edges_from};

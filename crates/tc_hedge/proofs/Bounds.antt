@@ -5,7 +5,7 @@ use Rattle.std.proofs.Math.Bridge.{le_prop}
 use Rattle.std.proofs.lemmas.List.{length-map}
 use Rattle.std.specs.List.{Contains}
 use Rattle.std.proofs.lemmas.List.Elements.{Contains-get_or}
-use Rattle.tc_model.specs.Seen as see
+use Rattle.tc_model.specs.Views as see
 use Rattle.tc_model.specs.Grammars as g
 use Rattle.tc_model.specs.States.{Side, first_state, state_count, IsEdge}
 use Rattle.tc_model.proofs.StatesParts.{first_within, edge_within}

@@ -7,7 +7,7 @@ use Rattle.std.proofs.lemmas.Str.{encodes-chars, encodes_same, length-encode, le
 use Rattle.tc_base.specs.Characters.{is_char}
 use Rattle.tc_model.specs.Names.{ExpandedName, IsName, IsChars, IsNcName, is_ncname_start, is_ncname_char}
 use Rattle.tc_model.specs.Trees.{Trees, none, text, element, is_all_white, joined_to, joined, kept, dropped, normal_form, IsNormal, AreLawful, IsDocument}
-use Rattle.tc_model.specs.Seen as see
+use Rattle.tc_model.specs.Views as see
 use Rattle.tc_model.specs.declared.tree.Name.{Name}
 use Rattle.tc_model.specs.declared.tree.Node.{Node, Elem}
 use Rattle.tc_model.proofs.Views.{before_elem}

@@ -7,7 +7,7 @@ use Rattle.std.proofs.lemmas.List.{take_all}
 use Rattle.tc_mat.specs.Matrix.{Matrix, HasPair, IsIdentity, IsComposition}
 use Rattle.tc_model.specs.Names.{ExpandedName}
 use Rattle.tc_model.specs.Trees.{Trees, none, text, is_all_white}
-use Rattle.tc_model.specs.Seen as see
+use Rattle.tc_model.specs.Views as see
 use Rattle.tc_model.specs.declared.tree.Node.{Node}
 use Rattle.tc_model.specs.Grammars.{Grammar, ElementPattern, element_at, in_class, InClass}
 use Rattle.tc_model.specs.Validity.{IsValidOutput}

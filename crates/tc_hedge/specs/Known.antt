@@ -1,7 +1,7 @@
 -- What is kept is right.
 use Rattle.std.specs.Prelude.{◌≡◌, ℕ, Some, nat_eq}
 use Rattle.indexmap.specs.IndexMap.{get}
-use Rattle.tc_model.specs.Seen as see
+use Rattle.tc_model.specs.Views as see
 use Rattle.tc_auto.specs.declared.auto.Auto.{Auto}
 use Rattle.tc_hedge.specs.Memos.{Enters, PassesElement, PassesText, same_entry, same_passing}
 use Rattle.tc_hedge.specs.declared.memo.Memo.{Memo}

@@ -3,7 +3,7 @@ ghost use Rattle.std.specs.Prelude.{◌≡◌, ◌↔◌, IsTrue, false};
 ghost use Rattle.std.specs.List.{list_all};
 ghost use Rattle.tc_hedge.specs.Documents.{IsSettled, begins_with_text, is_plain_name, is_plain_name_char, is_plain_start_char};
 ghost use Rattle.tc_model.specs.Names as names;
-ghost use Rattle.tc_model.specs.Seen as see;
+ghost use Rattle.tc_model.specs.Views as see;
 ghost use Rattle.tc_model.specs.Trees as t;
 
 use tc_base::{is_name_char, is_name_start};

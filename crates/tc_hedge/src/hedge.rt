@@ -59,7 +59,7 @@ impl<'b> Hedge<'b> {
     ghost use Rattle.tc_mat.specs.Matrix.{HasPair, IsMatrix};
     ghost use Rattle.tc_model.specs.Grammars as g;
     ghost use Rattle.tc_model.specs.Names as n;
-    ghost use Rattle.tc_model.specs.Seen as see;
+    ghost use Rattle.tc_model.specs.Views as see;
     ghost use Rattle.tc_model.specs.Sheets as sh;
     ghost use Rattle.tc_model.specs.States as s;
     ghost use Rattle.tc_model.specs.Symbols.{Mention, symbol_count, symbol_of, symbols_of};

@@ -5,7 +5,7 @@ ghost use Rattle.tc_auto.specs.Stands as a;
 ghost use Rattle.tc_auto.specs.Steps.{leaf as see_leaf};
 ghost use Rattle.tc_hedge.specs.Sets.{AreBelow, AreNumbers, Grows, IsMade, IsMatched, IsNamed, IsReached, Leaves, Makes, Passes, Runs, Steps};
 ghost use Rattle.tc_model.specs.Grammars as g;
-ghost use Rattle.tc_model.specs.Seen as see;
+ghost use Rattle.tc_model.specs.Views as see;
 ghost use Rattle.tc_model.specs.States as s;
 
 use crate::hedge::Hedge;

@@ -2,7 +2,7 @@
 ghost use Rattle.std.specs.Prelude.{◌≡◌, IfOk, OnOk};
 ghost use Rattle.tc_hedge.specs.Known.{Knows};
 ghost use Rattle.tc_hedge.specs.Memos.{Enters, Grown, HasNumbers, HasStates, PassesElement, PassesText};
-ghost use Rattle.tc_model.specs.Seen as see;
+ghost use Rattle.tc_model.specs.Views as see;
 
 use crate::hedge::Hedge;
 use crate::keys::{Entry, Inside, Passing};

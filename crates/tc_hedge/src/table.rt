@@ -4,7 +4,7 @@ ghost use Rattle.tc_auto.specs.Stands as a;
 ghost use Rattle.tc_hedge.specs.Stands.{class_table};
 ghost use Rattle.tc_model.specs.Grammars as g;
 ghost use Rattle.tc_model.specs.Grammars.{in_class};
-ghost use Rattle.tc_model.specs.Seen as see;
+ghost use Rattle.tc_model.specs.Views as see;
 ghost use Rattle.tc_model.specs.States as s;
 ghost use Rattle.tc_model.specs.Symbols.{symbol_count};
 

@@ -7,7 +7,7 @@ ghost use Rattle.tc_hedge.specs.Memos.{Grown, HasStates, PassesTrees};
 ghost use Rattle.tc_hedge.specs.Sets.{AreNumbers, IsMade, IsMatched, IsNamed};
 ghost use Rattle.tc_model.specs.Grammars as g;
 ghost use Rattle.tc_model.specs.Matching.{Matches};
-ghost use Rattle.tc_model.specs.Seen as see;
+ghost use Rattle.tc_model.specs.Views as see;
 ghost use Rattle.tc_model.specs.SimplifiesLaws.{IsStart};
 ghost use Rattle.tc_model.specs.States as s;
 ghost use Rattle.tc_model.specs.Trees as t;

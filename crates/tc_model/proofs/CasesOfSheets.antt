@@ -5,7 +5,7 @@ use Rattle.std.proofs.lemmas.Str.{encode_ascii}
 use Rattle.tc_model.specs.Names.{ExpandedName, IsName}
 use Rattle.tc_model.specs.Trees.{Trees, none, text, element}
 use Rattle.tc_model.specs.Chains.{Tree, an_element, Chain, top, under, down}
-use Rattle.tc_model.specs.Sheets.{of_name, any_node, Steps, no_step, step, Path, no_alternative, alternative, always, has, negated, root_pattern, steps_pattern, Body, no_instruction, put_text, put_element, apply, call, for_each, Rule, Sheet, Plain, Unfolds, u_done, u_element, u_each}
+use Rattle.tc_model.specs.Sheets.{of_name, any_node, Steps, no_step, step, Path, no_alternative, alternative, always, has, negated, root_pattern, steps_pattern, Body, no_instruction, put_text, put_element, apply, call, for_each, Rule, Sheet, CallFreeBody, Inlines, u_done, u_element, u_each}
 use Rattle.tc_model.specs.Outcomes.{Outcome}
 use Rattle.tc_model.specs.Paths.{selected, fits, is_end}
 use Rattle.tc_model.specs.Meaning.{all_children, rule_of, Does, does_no_instruction, does_text, does_element, does_apply, does_call, does_self, does_for_each, on_none, on_one}
@@ -197,7 +197,7 @@ called_is_sheet =
       modes = omega arith;
       rules = all_of_one (IsRule called) (root_rule (call 0 no_instruction)) (record { mode = omega arith; pattern = tt; body = (omega arith, tt) });
       named = all_of_one (IsBody called) (for_each 0 all_children (empty_element x) no_instruction) (omega arith, children_is_path, (x_is_name, tt, tt), tt);
-      calls = all_of_one (λ i. (o : Plain) × Unfolds called.named i o) (for_each 0 all_children (empty_element x) no_instruction) (_, u_each (u_element u_done u_done) u_done);
+      calls = all_of_one (λ i. (o : CallFreeBody) × Inlines called.named i o) (for_each 0 all_children (empty_element x) no_instruction) (_, u_each (u_element u_done u_done) u_done);
       same_eaches = λ f g i j e. sym (at_one one f i.0 i.1 i.2) ∙ at_one one g j.0 j.1 j.2;
       each_number = λ i h. (one, (0, omega arith, refl), omega arith);
     }

@@ -2,11 +2,11 @@
 use Rattle.std.proofs.Common.{◌≡◌, ℕ, List, [], ◌∷◌, ◌++◌, refl, ap, ◌∙◌, subst, Bool}
 use Rattle.tc_model.specs.Trees.{Trees, none, normal_form}
 use Rattle.tc_model.specs.Chains.{Tree, Chain, top, under, node_of, down}
-use Rattle.tc_model.specs.Sheets.{Test, always, never, has, negated, all_of, any_of, Tests, no_test, test, Sheet, Plain, p_done, p_text, p_element, p_copy, p_apply, p_call, p_value, p_self, p_choose, p_each, PlainBranches, p_otherwise, p_branch, Unfolds}
+use Rattle.tc_model.specs.Sheets.{Test, always, never, has, negated, all_of, any_of, Tests, no_test, test, Sheet, CallFreeBody, p_done, p_text, p_element, p_copy, p_apply, p_call, p_value, p_self, p_choose, p_each, CallFreeBranches, p_otherwise, p_branch, Inlines}
 use Rattle.tc_model.specs.Outcomes.{Outcome, counted}
 use Rattle.tc_model.specs.Paths.{any_along}
 use Rattle.tc_model.specs.Meaning.{Job, by_mode, by_body, built_in, body_or, body_of}
-use Rattle.tc_model.specs.Machine.{Task, in_mode, in_body, JobUnfolds, u_mode, u_body, known_test, known_tests, known, known_branches, Machine, move_picks, look_picks, above, does_at, plain_at, IsMachineOf, IsSteady}
+use Rattle.tc_model.specs.Machine.{CallFreeJob, in_mode, in_body, JobInlines, u_mode, u_body, known_test, known_tests, known, known_branches, Machine, move_picks, look_picks, above, does_at, plain_at, IsMachineOf, IsSteady}
 use Rattle.tc_model.specs.WellFormed.{IsSheet}
 use Rattle.tc_model.specs.Safety.{Instantiates, IsResultOf}
 use Rattle.tc_model.specs.Laws.{IsJob}
@@ -16,7 +16,7 @@ use Rattle.tc_model.proofs.TotalExact.{does_complete}
 use Rattle.tc_model.proofs.Unique.{result_unique}
 
 module _ (s : Sheet) (is : IsSheet s) where
-  abbrev plain_on : Task → Chain → Plain
+  abbrev plain_on : CallFreeJob → Chain → CallFreeBody
   plain_on (in_mode m) c = (mode_unfolds s is m c).0
   plain_on (in_body p) c = p
 
@@ -26,7 +26,7 @@ module _ (s : Sheet) (is : IsSheet s) where
       record {
         Letter = Tree;
         letter = λ t. t;
-        Move = Task × (List Tree → Bool);
+        Move = CallFreeJob × (List Tree → Bool);
         KnownMove = λ j p. Unit {0};
         move_first = λ j p. (j, λ ts. any_along p (top none) ts);
         move_step = λ q t. (q.0, λ ts. q.1 (t ∷ ts));
@@ -47,7 +47,7 @@ module _ (s : Sheet) (is : IsSheet s) where
         root_body = λ j. plain_on j (top none);
       }
 
-  move_so : (j : Task) (q : List Tree → Bool) (t : Tree) (ts : List Tree) → q (t ∷ ts) ≡ move_picks chains (j, q) (t ∷ ts)
+  move_so : (j : CallFreeJob) (q : List Tree → Bool) (t : Tree) (ts : List Tree) → q (t ∷ ts) ≡ move_picks chains (j, q) (t ∷ ts)
   move_so j q t [] = refl
   move_so j q t (u ∷ us) = move_so j (λ vs. q (t ∷ vs)) u us
 
@@ -62,10 +62,10 @@ module _ (s : Sheet) (is : IsSheet s) where
   same_body : (m : ℕ) (c d : Chain) → down c ≡ down d → built_in m (node_of c) ≡ built_in m (node_of d) → body_of s.rules (by_mode m) c ≡ body_of s.rules (by_mode m) d
   same_body m c d e f = λ i. body_or (f i) (rule_above s.rules m c d e i)
 
-  mode_so : (m : ℕ) (c d : Chain) → down c ≡ down d → built_in m (node_of c) ≡ built_in m (node_of d) → Unfolds s.named (body_of s.rules (by_mode m) d) (mode_unfolds s is m c).0
-  mode_so m c d e f = subst (λ b. Unfolds s.named b (mode_unfolds s is m c).0) (same_body m c d e f) (mode_unfolds s is m c).1
+  mode_so : (m : ℕ) (c d : Chain) → down c ≡ down d → built_in m (node_of c) ≡ built_in m (node_of d) → Inlines s.named (body_of s.rules (by_mode m) d) (mode_unfolds s is m c).0
+  mode_so m c d e f = subst (λ b. Inlines s.named b (mode_unfolds s is m c).0) (same_body m c d e f) (mode_unfolds s is m c).1
 
-  ruled : (j : Job) (k : Task) (c : Chain) → JobUnfolds s.named j k → Unfolds s.named (body_of s.rules j c) (plain_at chains k c)
+  ruled : (j : Job) (k : CallFreeJob) (c : Chain) → JobInlines s.named j k → Inlines s.named (body_of s.rules j c) (plain_at chains k c)
   ruled j k (top doc) (u_mode {m}) = mode_so m (top none) (top doc) refl refl
   ruled j k (under c t) (u_mode {m}) = mode_so m (under (above chains c) t) (under c t) (ap (λ ts. ts ++ (t ∷ [])) (down_above c)) refl
   ruled j k (top doc) (u_body u) = u
@@ -85,7 +85,7 @@ module _ (s : Sheet) (is : IsSheet s) where
     tests_known (test t ts) = (test_known t, tests_known ts)
 
   mutual
-    all_known : (p : Plain) → known chains.KnownMove chains.KnownLook p
+    all_known : (p : CallFreeBody) → known chains.KnownMove chains.KnownLook p
     all_known p_done = tt
     all_known (p_text x b) = all_known b
     all_known (p_element n inner b) = (all_known inner, all_known b)
@@ -97,7 +97,7 @@ module _ (s : Sheet) (is : IsSheet s) where
     all_known (p_choose x b) = (branches_known x, all_known b)
     all_known (p_each e p inner b) = (tt, all_known inner, all_known b)
 
-    branches_known : (x : PlainBranches) → known_branches chains.KnownMove chains.KnownLook x
+    branches_known : (x : CallFreeBranches) → known_branches chains.KnownMove chains.KnownLook x
     branches_known (p_otherwise b) = all_known b
     branches_known (p_branch t b x) = (test_known t, all_known b, branches_known x)
 
@@ -124,7 +124,7 @@ module _ (s : Sheet) (is : IsSheet s) where
         bodies = λ q c t i k. all_known (chains.body_at (chains.task_of q) c t);
       }
 
-  does_total : (j : Job) (k : Task) → JobUnfolds s.named j k → (c : Chain) → (outcome : Outcome) × Instantiates s j c outcome
+  does_total : (j : Job) (k : CallFreeJob) → JobInlines s.named j k → (c : Chain) → (outcome : Outcome) × Instantiates s j c outcome
   does_total j k u c =
       let p = plain_at chains k c in
       (counted (does_at chains p c), (does_at chains p c, does_complete s.rules s.named chains chains_tell (body_of s.rules j c) p c (chains_tell.ruled j k c u) (all_known p), refl))

@@ -5,7 +5,7 @@ use Rattle.tc_model.specs.Chains.{Tree, an_element, a_text, Chain, under, below,
 use Rattle.tc_model.specs.Sheets.{Path, Test, always, never, has, negated, all_of, any_of, Tests, no_test, test, Body, Rule}
 use Rattle.tc_model.specs.Paths.{any_along, holds, all_hold, some_holds, selected}
 use Rattle.tc_model.specs.Outcomes.{Outcome, nothing, join, counted}
-use Rattle.tc_model.specs.Machine.{Machine, or_else, move_picks, look_picks, known_test, known_tests, above, first_hit, holds_in, all_hold_in, some_holds_in, outputs, does_at, plain_at, Task, IsMachineOf}
+use Rattle.tc_model.specs.Machine.{Machine, or_else, move_picks, look_picks, known_test, known_tests, above, first_hit, holds_in, all_hold_in, some_holds_in, outputs, does_at, plain_at, CallFreeJob, IsMachineOf}
 use Rattle.tc_model.proofs.TotalJoin.{none_join, join_assoc}
 use Rattle.tc_model.proofs.TotalSelected.{found_text, found_element}
 
@@ -65,24 +65,24 @@ module _ (rules : List Rule) (named : List Body) (m : Machine) (of : IsMachineOf
     some_test_holds (test t ts) k c = ap (λ w. w || some_holds ts c) (test_holds t k.0 c) ∙ ap (λ w. holds_in m t (children (node_of c)) || w) (some_test_holds ts k.1 c)
 
   -- what a job puts out on several nodes, by states
-  abbrev pub all_at : Task → List Chain → Outcome
+  abbrev pub all_at : CallFreeJob → List Chain → Outcome
   all_at j [] = nothing
   all_at j (c ∷ cs) = join (counted (does_at m (plain_at m j c) c)) (all_at j cs)
 
-  all_append : (j : Task) (cs ds : List Chain) → all_at j (cs ++ ds) ≡ join (all_at j cs) (all_at j ds)
+  all_append : (j : CallFreeJob) (cs ds : List Chain) → all_at j (cs ++ ds) ≡ join (all_at j cs) (all_at j ds)
   all_append j [] ds = sym (none_join (all_at j ds))
   all_append j (c ∷ cs) ds = ap (join (counted (does_at m (plain_at m j c) c))) (all_append j cs ds) ∙ sym (join_assoc (counted (does_at m (plain_at m j c) c)) (all_at j cs) (all_at j ds))
 
-  all_if : (p : Bool) (j : Task) (c : Chain) (cs : List Chain) → all_at j (cond p (c ∷ []) [] ++ cs) ≡ join (cond p (counted (does_at m (plain_at m j c) c)) nothing) (all_at j cs)
+  all_if : (p : Bool) (j : CallFreeJob) (c : Chain) (cs : List Chain) → all_at j (cond p (c ∷ []) [] ++ cs) ≡ join (cond p (counted (does_at m (plain_at m j c) c)) nothing) (all_at j cs)
   all_if true j c cs = refl
   all_if false j c cs = sym (none_join (all_at j cs))
 
-  hit_put_out : (p : Bool) (s : m.Move) (j : Task) (c : Chain) (t : Tree) (cs : List Chain) → p ≡ m.move_hits s (m.letter t)
+  hit_put_out : (p : Bool) (s : m.Move) (j : CallFreeJob) (c : Chain) (t : Tree) (cs : List Chain) → p ≡ m.move_hits s (m.letter t)
       → all_at j (cond p (under c t ∷ []) [] ++ cs) ≡ join (cond (m.move_hits s (m.letter t)) (counted (does_at m (plain_at m j (under c t)) (under c t))) nothing) (all_at j cs)
   hit_put_out p s j c t cs e = all_if p j (under c t) cs ∙ ap (λ b. join (cond b (counted (does_at m (plain_at m j (under c t)) (under c t))) nothing) (all_at j cs)) e
 
   -- what is put out on all nodes that are selected is what is put out on the hits
-  pub all_found : (h : Trees) (j : Task) (c : Chain) (s : m.Move) (p : List Tree → Bool) → ((t : Tree) (ts : List Tree) → p (t ∷ ts) ≡ move_picks m s (t ∷ ts))
+  pub all_found : (h : Trees) (j : CallFreeJob) (c : Chain) (s : m.Move) (p : List Tree → Bool) → ((t : Tree) (ts : List Tree) → p (t ∷ ts) ≡ move_picks m s (t ∷ ts))
       → all_at j (found p c (below h)) ≡ outputs m h j (above m c) s
   all_found none j c s p e = refl
   all_found (text x rest) j c s p e =
@@ -98,5 +98,5 @@ module _ (rules : List Rule) (named : List Body) (m : Machine) (of : IsMachineOf
       ∙ (hit_put_out (p (t ∷ [])) s j c t (inside ++ after) (e t [])
       ∙ ap (join _) (all_append j inside after ∙ (λ i. join (all_inside i) (all_after i))))
 
-  pub all_selected : (j : Task) (p : Path) → m.KnownMove j p → (c : Chain) → all_at j (selected p c) ≡ outputs m (children (node_of c)) j (above m c) (m.move_first j p)
+  pub all_selected : (j : CallFreeJob) (p : Path) → m.KnownMove j p → (c : Chain) → all_at j (selected p c) ≡ outputs m (children (node_of c)) j (above m c) (m.move_first j p)
   all_selected j p k c = all_found (children (node_of c)) j c (m.move_first j p) (λ d. any_along p c d) (λ t ts. of.moves_tell j p k c t ts)

@@ -3,7 +3,7 @@ use Rattle.std.proofs.Common.{◌≡◌, ◌<◌, ℕ, List, [], ◌∷◌, refl
 use Rattle.std.proofs.lemmas.Option.{slice_get-get_or}
 use Rattle.std.proofs.lemmas.List.Elements.{All-get_or, All-head, All-tail}
 use Rattle.tc_model.specs.Chains.{an_element, a_text, Chain, Node, whole, one, node_of, down}
-use Rattle.tc_model.specs.Sheets.{Body, no_instruction, put_text, put_element, copy, apply, call, for_each, value, value_of_self, choose, Branches, otherwise, branch, Rule, Sheet, Plain, p_done, p_text, p_element, p_copy, p_apply, p_call, p_value, p_self, p_choose, p_each, PlainBranches, p_otherwise, p_branch, Unfolds, BranchesUnfold, u_done, u_text, u_element, u_copy, u_apply, u_call, u_value, u_self, u_choose, u_each, u_otherwise, u_branch}
+use Rattle.tc_model.specs.Sheets.{Body, no_instruction, put_text, put_element, copy, apply, call, for_each, value, value_of_self, choose, Branches, otherwise, branch, Rule, Sheet, CallFreeBody, p_done, p_text, p_element, p_copy, p_apply, p_call, p_value, p_self, p_choose, p_each, CallFreeBranches, p_otherwise, p_branch, Inlines, BranchesInline, u_done, u_text, u_element, u_copy, u_apply, u_call, u_value, u_self, u_choose, u_each, u_otherwise, u_branch}
 use Rattle.tc_model.specs.Paths.{fits}
 use Rattle.tc_model.specs.Meaning.{by_mode, built_in, better, body_or, rule_of, body_of}
 use Rattle.tc_model.specs.WellFormed.{IsBody, AreBranches, IsRule, IsSheet}
@@ -11,7 +11,7 @@ use Rattle.tc_model.proofs.TotalAbove.{fits_above}
 
 module _ (s : Sheet) (is : IsSheet s) where
   abbrev pub BodyUnfolds : Body → Type 0
-  BodyUnfolds b = (p : Plain) × Unfolds s.named b p
+  BodyUnfolds b = (p : CallFreeBody) × Inlines s.named b p
 
   call_unfolds : (n : ℕ) (b : Body) → n < length s.named → BodyUnfolds b → BodyUnfolds (call n b)
   call_unfolds n b h rest =
@@ -33,7 +33,7 @@ module _ (s : Sheet) (is : IsSheet s) where
     body_unfolds (for_each e p inner b) i =
         let in_it = body_unfolds inner i.2 in let rest = body_unfolds b i.3 in (p_each e p in_it.0 rest.0, u_each in_it.1 rest.1)
 
-    branches_unfold : (x : Branches) → AreBranches s x → (p : PlainBranches) × BranchesUnfold s.named x p
+    branches_unfold : (x : Branches) → AreBranches s x → (p : CallFreeBranches) × BranchesInline s.named x p
     branches_unfold (otherwise b) i = let last = body_unfolds b i in (p_otherwise last.0, u_otherwise last.1)
     branches_unfold (branch t b x) i =
         let this = body_unfolds b i.1 in let later = branches_unfold x i.2 in (p_branch t this.0 later.0, u_branch this.1 later.1)

@@ -2,7 +2,7 @@
 use Rattle.std.proofs.Common.{◌≡◌, ℕ, ◌+◌, ◌<◌, List, [], ◌∷◌, refl, ap, ◌∙◌, sym, map, Bor, length, get_or, drop, ◌++◌, subst}
 use Rattle.std.proofs.lemmas.List.{drop_more}
 use Rattle.tc_model.specs.Trees.{Trees, none, text, element, beside}
-use Rattle.tc_model.specs.Seen.{name, layers, layer, before, trees}
+use Rattle.tc_model.specs.Views.{name, layers, layer, before, trees}
 use Rattle.tc_model.specs.declared.tree.Name.{Name}
 use Rattle.tc_model.specs.declared.tree.Node.{Node, Node-F, Elem, Text}
 use Rattle.tc_model.specs.declared.tree.Node.TheOpen as parts

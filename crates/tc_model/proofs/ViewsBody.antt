@@ -3,7 +3,7 @@ use Rattle.std.proofs.Common.{◌≡◌, ℕ, ◌+◌, ◌<◌, List, [], ◌∷
 use Rattle.std.proofs.lemmas.List.{drop_more}
 use Rattle.tc_model.specs.Sheets as s
 use Rattle.tc_model.specs.Sheets.{Body, Branches}
-use Rattle.tc_model.specs.Seen.{name, path, test, body_layers, branch_layers, instruction_layer, branch_layer, instruction, body, branches}
+use Rattle.tc_model.specs.Views.{name, path, test, body_layers, branch_layers, instruction_layer, branch_layer, instruction, body, branches}
 use Rattle.tc_model.specs.declared.tree.Name.{Name}
 use Rattle.tc_model.specs.declared.sheet.Path.{Path}
 use Rattle.tc_model.specs.declared.sheet.Branch.{Branch}

@@ -3,7 +3,7 @@ use Rattle.std.proofs.Common.{◌≡◌, ℕ, ◌+◌, ◌<◌, List, [], ◌∷
 use Rattle.std.proofs.lemmas.List.{drop_more}
 use Rattle.tc_model.specs.Grammars as g
 use Rattle.tc_model.specs.Grammars.{NameClass, NameClasses, no_class, Pattern, Patterns, no_more, more}
-use Rattle.tc_model.specs.Seen.{name, class_list, class_layer, class, classes, pattern_list, pattern_layer, pattern, patterns}
+use Rattle.tc_model.specs.Views.{name, class_list, class_layer, class, classes, pattern_list, pattern_layer, pattern, patterns}
 use Rattle.tc_model.specs.declared.tree.Name.{Name}
 use Rattle.tc_model.specs.declared.grammar.NameClass as c
 use Rattle.tc_model.specs.declared.grammar.NameClass.TheOpen as class_parts

@@ -2,7 +2,7 @@
 use Rattle.std.proofs.Common.{◌≡◌, ℕ, ◌+◌, ◌<◌, List, [], ◌∷◌, ◌++◌, refl, ap, ◌∙◌, sym, map, Bor, length, get_or, drop}
 use Rattle.std.proofs.lemmas.List.{drop_more}
 use Rattle.tc_model.specs.Sheets as s
-use Rattle.tc_model.specs.Seen.{node_test, step_layers, alternative_list, test_list, step_layer, path_layer, test_layer, test, tests, steps, alternatives, path}
+use Rattle.tc_model.specs.Views.{node_test, step_layers, alternative_list, test_list, step_layer, path_layer, test_layer, test, tests, steps, alternatives, path}
 use Rattle.tc_model.specs.declared.sheet.Step.{Step}
 use Rattle.tc_model.specs.declared.sheet.Path.{Path, out-Path, roll-Path, out-roll-Path}
 use Rattle.tc_model.specs.declared.sheet.Test.{Test}

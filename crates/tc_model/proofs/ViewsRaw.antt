@@ -3,7 +3,7 @@ use Rattle.std.proofs.Common.{◌≡◌, ℕ, ◌+◌, ◌<◌, List, [], ◌∷
 use Rattle.std.proofs.lemmas.List.{drop_more}
 use Rattle.tc_base.specs.declared.Place.{Place}
 use Rattle.tc_model.specs.RawTrees.{RawTrees, none, text, element, beside}
-use Rattle.tc_model.specs.Seen.{name, place, attribute, bound, raw_layers, raw_layer, raw_element_layer, raw_before, raw_trees, raw_element}
+use Rattle.tc_model.specs.Views.{name, place, attribute, bound, raw_layers, raw_layer, raw_element_layer, raw_before, raw_trees, raw_element}
 use Rattle.tc_model.specs.declared.tree.Name.{Name}
 use Rattle.tc_model.specs.declared.tree.Binding.{Binding}
 use Rattle.tc_model.specs.declared.tree.RawAttr.{RawAttr}

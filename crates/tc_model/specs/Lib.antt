@@ -1,4 +1,4 @@
-pub mod Seen
+pub mod Views
 pub mod Names
 pub mod Trees
 pub mod RawTrees

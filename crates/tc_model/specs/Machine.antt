@@ -2,22 +2,22 @@
 use Rattle.std.specs.Prelude.{◌≡◌, ℕ, List, [], ◌∷◌, Bool, true, false, ◌&&◌, ◌||◌, not, cond, Option, Some, None, is_some}
 use Rattle.tc_model.specs.Trees.{Trees, none, text, element}
 use Rattle.tc_model.specs.Chains.{Tree, an_element, a_text, Chain, top, under, Node, one, node_of, children, string_value}
-use Rattle.tc_model.specs.Sheets.{Path, Test, always, never, has, negated, all_of, any_of, Tests, no_test, test, Body, Rule, Plain, p_done, p_text, p_element, p_copy, p_apply, p_call, p_value, p_self, p_choose, p_each, PlainBranches, p_otherwise, p_branch, Unfolds}
+use Rattle.tc_model.specs.Sheets.{Path, Test, always, never, has, negated, all_of, any_of, Tests, no_test, test, Body, Rule, CallFreeBody, p_done, p_text, p_element, p_copy, p_apply, p_call, p_value, p_self, p_choose, p_each, CallFreeBranches, p_otherwise, p_branch, Inlines}
 use Rattle.tc_model.specs.Outcomes.{Outcome, nothing, join, within, counted, put, put_around, copied}
 use Rattle.tc_model.specs.Paths.{any_along}
 use Rattle.tc_model.specs.Meaning.{value_of_first, Job, by_mode, by_body, body_of}
 
 -- a job whose bodies call nothing
-pub data Task : Type 0 where
-  in_mode : ℕ → Task
-  in_body : Plain → Task
+pub data CallFreeJob : Type 0 where
+  in_mode : ℕ → CallFreeJob
+  in_body : CallFreeBody → CallFreeJob
 
-pub data JobUnfolds (named : List Body) : Job → Task → Type 0 where
-  u_mode : {m : ℕ} → JobUnfolds named (by_mode m) (in_mode m)
-  u_body : {b : Body} {p : Plain} → Unfolds named b p → JobUnfolds named (by_body b) (in_body p)
+pub data JobInlines (named : List Body) : Job → CallFreeJob → Type 0 where
+  u_mode : {m : ℕ} → JobInlines named (by_mode m) (in_mode m)
+  u_body : {b : Body} {p : CallFreeBody} → Inlines named b p → JobInlines named (by_body b) (in_body p)
 
 -- all paths in it are known: those that select for a task, and those of values and tests
-module _ (Move : Task → Path → Type 0) (Look : Path → Type 0) where
+module _ (Move : CallFreeJob → Path → Type 0) (Look : Path → Type 0) where
   abbrev mutual
     pub known_test : Test → Type 0
     known_test always = Unit {0}
@@ -32,7 +32,7 @@ module _ (Move : Task → Path → Type 0) (Look : Path → Type 0) where
     known_tests (test t ts) = known_test t × known_tests ts
 
   abbrev mutual
-    pub known : Plain → Type 0
+    pub known : CallFreeBody → Type 0
     known p_done = Unit {0}
     known (p_text x b) = known b
     known (p_element n inner b) = known inner × known b
@@ -44,11 +44,11 @@ module _ (Move : Task → Path → Type 0) (Look : Path → Type 0) where
     known (p_choose x b) = known_branches x × known b
     known (p_each e p inner b) = Move (in_body inner) p × known inner × known b
 
-    pub known_branches : PlainBranches → Type 0
+    pub known_branches : CallFreeBranches → Type 0
     known_branches (p_otherwise b) = known b
     known_branches (p_branch t b x) = known_test t × known b × known_branches x
 
-  abbrev pub known_task : Task → Type 0
+  abbrev pub known_task : CallFreeJob → Type 0
   known_task (in_mode m) = Unit {0}
   known_task (in_body b) = known b
 
@@ -57,11 +57,11 @@ pub record Machine : Type 1 where
   pub Letter : Type 0
   pub letter : Tree → Letter
   pub Move : Type 0
-  pub KnownMove : Task → Path → Type 0
-  pub move_first : Task → Path → Move
+  pub KnownMove : CallFreeJob → Path → Type 0
+  pub move_first : CallFreeJob → Path → Move
   pub move_step : Move → Letter → Move
   pub move_hits : Move → Letter → Bool
-  pub task_of : Move → Task
+  pub task_of : Move → CallFreeJob
   pub IsMove : Move → Type 0
   pub Look : Type 0
   pub KnownLook : Path → Type 0
@@ -73,8 +73,8 @@ pub record Machine : Type 1 where
   pub start : Above
   pub down_to : Above → Letter → Above
   pub IsAbove : Above → Type 0
-  pub body_at : Task → Above → Letter → Plain
-  pub root_body : Task → Plain
+  pub body_at : CallFreeJob → Above → Letter → CallFreeBody
+  pub root_body : CallFreeJob → CallFreeBody
 
 -- the first, or else the second
 abbrev pub or_else : Option Node → Option Node → Option Node
@@ -124,7 +124,7 @@ module _ (m : Machine) where
 
   -- what a body puts out on a node, where `outs` is what tasks put out on what is selected below it
   abbrev mutual
-    pub does_in : Plain → Node → (Task → m.Move → Outcome) → Outcome
+    pub does_in : CallFreeBody → Node → (CallFreeJob → m.Move → Outcome) → Outcome
     does_in p_done n outs = nothing
     does_in (p_text x b) n outs = join (within (put x)) (does_in b n outs)
     does_in (p_element a inner b) n outs = join (within (put_around a (does_in inner n outs))) (does_in b n outs)
@@ -136,12 +136,12 @@ module _ (m : Machine) where
     does_in (p_choose x b) n outs = join (within (takes_in x n outs)) (does_in b n outs)
     does_in (p_each e p inner b) n outs = join (within (outs (in_body inner) (m.move_first (in_body inner) p))) (does_in b n outs)
 
-    pub takes_in : PlainBranches → Node → (Task → m.Move → Outcome) → Outcome
+    pub takes_in : CallFreeBranches → Node → (CallFreeJob → m.Move → Outcome) → Outcome
     takes_in (p_otherwise b) n outs = does_in b n outs
     takes_in (p_branch t b x) n outs = cond (holds_in t (children n)) (does_in b n outs) (takes_in x n outs)
 
   -- what a task puts out on the hits of a state in trees and below, from the state of the match patterns above them
-  abbrev pub outputs : Trees → Task → m.Above → m.Move → Outcome
+  abbrev pub outputs : Trees → CallFreeJob → m.Above → m.Move → Outcome
   outputs none j q s = nothing
   outputs (text x rest) j q s =
       join (cond (m.move_hits s (m.letter (a_text x))) (counted (does_in (m.body_at j q (m.letter (a_text x))) (one (a_text x)) (λ i u. nothing))) nothing) (outputs rest j q s)
@@ -151,26 +151,26 @@ module _ (m : Machine) where
       (join (outputs kids j (m.down_to q (m.letter (an_element n kids))) (m.move_step s (m.letter (an_element n kids)))) (outputs rest j q s))
 
   -- what a body puts out on a node
-  abbrev pub does_at : Plain → Chain → Outcome
+  abbrev pub does_at : CallFreeBody → Chain → Outcome
   does_at b c = does_in b (node_of c) (λ i u. outputs (children (node_of c)) i (above c) u)
 
   -- the body of a task on a node
-  abbrev pub plain_at : Task → Chain → Plain
+  abbrev pub plain_at : CallFreeJob → Chain → CallFreeBody
   plain_at j (top doc) = m.root_body j
   plain_at j (under c t) = m.body_at j (above c) (m.letter t)
 
 -- the states tell what the paths they know select, and what the rules say
 pub record IsMachineOf (m : Machine) (rules : List Rule) (named : List Body) : Type 0 where
-  pub moves_tell : (j : Task) (p : Path) → m.KnownMove j p → (c : Chain) (t : Tree) (ts : List Tree) → any_along p c (t ∷ ts) ≡ move_picks m (m.move_first j p) (t ∷ ts)
+  pub moves_tell : (j : CallFreeJob) (p : Path) → m.KnownMove j p → (c : Chain) (t : Tree) (ts : List Tree) → any_along p c (t ∷ ts) ≡ move_picks m (m.move_first j p) (t ∷ ts)
   pub looks_tell : (p : Path) → m.KnownLook p → (c : Chain) (t : Tree) (ts : List Tree) → any_along p c (t ∷ ts) ≡ look_picks m (m.look_first p) (t ∷ ts)
-  pub ruled : (j : Job) (k : Task) (c : Chain) → JobUnfolds named j k → Unfolds named (body_of rules j c) (plain_at m k c)
-  pub knows : (k : Task) (c : Chain) → known_task m.KnownMove m.KnownLook k → known m.KnownMove m.KnownLook (plain_at m k c)
+  pub ruled : (j : Job) (k : CallFreeJob) (c : Chain) → JobInlines named j k → Inlines named (body_of rules j c) (plain_at m k c)
+  pub knows : (k : CallFreeJob) (c : Chain) → known_task m.KnownMove m.KnownLook k → known m.KnownMove m.KnownLook (plain_at m k c)
 
 -- a move keeps its task; its own states lead to its own, and their bodies hold known paths alone
 pub record IsSteady (m : Machine) : Type 0 where
-  pub first_task : (j : Task) (p : Path) → m.KnownMove j p → m.task_of (m.move_first j p) ≡ j
+  pub first_task : (j : CallFreeJob) (p : Path) → m.KnownMove j p → m.task_of (m.move_first j p) ≡ j
   pub step_task : (s : m.Move) (l : m.Letter) → m.task_of (m.move_step s l) ≡ m.task_of s
-  pub move_from : (j : Task) (p : Path) → m.KnownMove j p → known_task m.KnownMove m.KnownLook j → m.IsMove (m.move_first j p)
+  pub move_from : (j : CallFreeJob) (p : Path) → m.KnownMove j p → known_task m.KnownMove m.KnownLook j → m.IsMove (m.move_first j p)
   pub move_on : (s : m.Move) (t : Tree) → m.IsMove s → m.IsMove (m.move_step s (m.letter t))
   pub look_from : (p : Path) → m.KnownLook p → m.IsLook (m.look_first p)
   pub look_on : (s : m.Look) (t : Tree) → m.IsLook s → m.IsLook (m.look_step s (m.letter t))

@@ -75,36 +75,36 @@ pub record Sheet : Type 0 where
 
 mutual
   -- a body with the named bodies that it calls in place
-  pub data Plain : Type 0 where
-    p_done : Plain
-    p_text : List ℕ → Plain → Plain
-    p_element : ExpandedName → Plain → Plain → Plain
-    p_copy : Plain → Plain → Plain
-    p_apply : Path → ℕ → Plain → Plain
-    p_call : Plain → Plain → Plain
-    p_value : Path → Plain → Plain
-    p_self : Plain → Plain
-    p_choose : PlainBranches → Plain → Plain
-    p_each : ℕ → Path → Plain → Plain → Plain
+  pub data CallFreeBody : Type 0 where
+    p_done : CallFreeBody
+    p_text : List ℕ → CallFreeBody → CallFreeBody
+    p_element : ExpandedName → CallFreeBody → CallFreeBody → CallFreeBody
+    p_copy : CallFreeBody → CallFreeBody → CallFreeBody
+    p_apply : Path → ℕ → CallFreeBody → CallFreeBody
+    p_call : CallFreeBody → CallFreeBody → CallFreeBody
+    p_value : Path → CallFreeBody → CallFreeBody
+    p_self : CallFreeBody → CallFreeBody
+    p_choose : CallFreeBranches → CallFreeBody → CallFreeBody
+    p_each : ℕ → Path → CallFreeBody → CallFreeBody → CallFreeBody
 
-  pub data PlainBranches : Type 0 where
-    p_otherwise : Plain → PlainBranches
-    p_branch : Test → Plain → PlainBranches → PlainBranches
+  pub data CallFreeBranches : Type 0 where
+    p_otherwise : CallFreeBody → CallFreeBranches
+    p_branch : Test → CallFreeBody → CallFreeBranches → CallFreeBranches
 
 mutual
   -- which one: a body has one exactly where each chain of calls from it ends
-  pub data Unfolds (named : List Body) : Body → Plain → Type 0 where
-    u_done : Unfolds named no_instruction p_done
-    u_text : {x : List ℕ} {b : Body} {p : Plain} → Unfolds named b p → Unfolds named (put_text x b) (p_text x p)
-    u_element : {n : ExpandedName} {i b : Body} {o p : Plain} → Unfolds named i o → Unfolds named b p → Unfolds named (put_element n i b) (p_element n o p)
-    u_copy : {i b : Body} {o p : Plain} → Unfolds named i o → Unfolds named b p → Unfolds named (copy i b) (p_copy o p)
-    u_apply : {w : Path} {m : ℕ} {b : Body} {p : Plain} → Unfolds named b p → Unfolds named (apply w m b) (p_apply w m p)
-    u_call : {n : ℕ} {i b : Body} {o p : Plain} → slice_get named n ≡ Some i → Unfolds named i o → Unfolds named b p → Unfolds named (call n b) (p_call o p)
-    u_value : {w : Path} {b : Body} {p : Plain} → Unfolds named b p → Unfolds named (value w b) (p_value w p)
-    u_self : {b : Body} {p : Plain} → Unfolds named b p → Unfolds named (value_of_self b) (p_self p)
-    u_choose : {x : Branches} {b : Body} {y : PlainBranches} {p : Plain} → BranchesUnfold named x y → Unfolds named b p → Unfolds named (choose x b) (p_choose y p)
-    u_each : {e : ℕ} {w : Path} {i b : Body} {o p : Plain} → Unfolds named i o → Unfolds named b p → Unfolds named (for_each e w i b) (p_each e w o p)
+  pub data Inlines (named : List Body) : Body → CallFreeBody → Type 0 where
+    u_done : Inlines named no_instruction p_done
+    u_text : {x : List ℕ} {b : Body} {p : CallFreeBody} → Inlines named b p → Inlines named (put_text x b) (p_text x p)
+    u_element : {n : ExpandedName} {i b : Body} {o p : CallFreeBody} → Inlines named i o → Inlines named b p → Inlines named (put_element n i b) (p_element n o p)
+    u_copy : {i b : Body} {o p : CallFreeBody} → Inlines named i o → Inlines named b p → Inlines named (copy i b) (p_copy o p)
+    u_apply : {w : Path} {m : ℕ} {b : Body} {p : CallFreeBody} → Inlines named b p → Inlines named (apply w m b) (p_apply w m p)
+    u_call : {n : ℕ} {i b : Body} {o p : CallFreeBody} → slice_get named n ≡ Some i → Inlines named i o → Inlines named b p → Inlines named (call n b) (p_call o p)
+    u_value : {w : Path} {b : Body} {p : CallFreeBody} → Inlines named b p → Inlines named (value w b) (p_value w p)
+    u_self : {b : Body} {p : CallFreeBody} → Inlines named b p → Inlines named (value_of_self b) (p_self p)
+    u_choose : {x : Branches} {b : Body} {y : CallFreeBranches} {p : CallFreeBody} → BranchesInline named x y → Inlines named b p → Inlines named (choose x b) (p_choose y p)
+    u_each : {e : ℕ} {w : Path} {i b : Body} {o p : CallFreeBody} → Inlines named i o → Inlines named b p → Inlines named (for_each e w i b) (p_each e w o p)
 
-  pub data BranchesUnfold (named : List Body) : Branches → PlainBranches → Type 0 where
-    u_otherwise : {b : Body} {p : Plain} → Unfolds named b p → BranchesUnfold named (otherwise b) (p_otherwise p)
-    u_branch : {t : Test} {b : Body} {x : Branches} {p : Plain} {y : PlainBranches} → Unfolds named b p → BranchesUnfold named x y → BranchesUnfold named (branch t b x) (p_branch t p y)
+  pub data BranchesInline (named : List Body) : Branches → CallFreeBranches → Type 0 where
+    u_otherwise : {b : Body} {p : CallFreeBody} → Inlines named b p → BranchesInline named (otherwise b) (p_otherwise p)
+    u_branch : {t : Test} {b : Body} {x : Branches} {p : CallFreeBody} {y : CallFreeBranches} → Inlines named b p → BranchesInline named x y → BranchesInline named (branch t b x) (p_branch t p y)

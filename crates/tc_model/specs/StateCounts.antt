@@ -6,12 +6,12 @@ use Rattle.tc_model.specs.PathStates.{State, is_empty_state, first_state, next_s
 use Rattle.tc_model.specs.Numberings.{predicates_of, moves_of, looks_of, letters_of_elements, rounds}
 
 -- a path of a move, with its mode, or one of a look
-pub record Block : Type 0 where
+pub record PathUse : Type 0 where
   pub path : Path
   pub mode : Option ℕ
 
 -- those of the moves, and then those of the looks
-abbrev pub blocks_of : Sheet → List Block
+abbrev pub blocks_of : Sheet → List PathUse
 blocks_of s = map (λ m. record { path = m.path; mode = Some m.mode }) (moves_of s) ++ map (λ p. record { path = p; mode = None }) (looks_of s)
 
 -- of ancestor states the empty one counts too

@@ -1,7 +1,7 @@
 -- Which stylesheets are well-formed.
 use Rattle.std.specs.Prelude.{◌≡◌, ◌≢◌, ◌<◌, ◌≤◌, ℕ, List, [], ◌∷◌, ◌++◌, length, All, Contains, flat_map}
 use Rattle.tc_model.specs.Names.{IsChars, IsName, IsNamespaceName}
-use Rattle.tc_model.specs.Sheets.{NodeTest, of_name, of_namespace, any_element, any_text, any_node, Steps, no_step, step, Path, no_alternative, alternative, Test, always, never, has, negated, all_of, any_of, Tests, no_test, test, MatchPattern, root_pattern, steps_pattern, Body, no_instruction, put_text, put_element, copy, apply, call, for_each, value, value_of_self, choose, Branches, otherwise, branch, Rule, Sheet, Plain, Unfolds}
+use Rattle.tc_model.specs.Sheets.{NodeTest, of_name, of_namespace, any_element, any_text, any_node, Steps, no_step, step, Path, no_alternative, alternative, Test, always, never, has, negated, all_of, any_of, Tests, no_test, test, MatchPattern, root_pattern, steps_pattern, Body, no_instruction, put_text, put_element, copy, apply, call, for_each, value, value_of_self, choose, Branches, otherwise, branch, Rule, Sheet, CallFreeBody, Inlines}
 
 abbrev pub IsNodeTest : NodeTest → Type 0
 IsNodeTest (of_name n) = IsName n
@@ -95,7 +95,7 @@ pub record IsSheet (s : Sheet) : Type 0 where
   pub rules : All (IsRule s) s.rules
   pub named : All (IsBody s) s.named
   -- calls have no cycle: each chain of calls ends
-  pub calls : All (λ b. (p : Plain) × Unfolds s.named b p) s.named
+  pub calls : All (λ b. (p : CallFreeBody) × Inlines s.named b p) s.named
   -- those of one number are one, and there is one of each number
   pub same_eaches : (a b : ForEach) → Contains (eaches_of s) a → Contains (eaches_of s) b → a.number ≡ b.number → a ≡ b
   pub each_number : (i : ℕ) → i < s.eaches → (a : ForEach) × Contains (eaches_of s) a × (a.number ≡ i)

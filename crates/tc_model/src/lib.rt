@@ -1,7 +1,7 @@
 //! Documents, schemas and stylesheets as plain data, and what they mean.
 //!
 //! The types lie in an arena by borrow. What they mean stands in `specs/`, over the same data without
-//! addresses; `specs/Seen.antt` leads from the one to the other.
+//! addresses; `specs/Views.antt` leads from the one to the other.
 #![tactic(auto)]
 
 pub mod compact_syntax;

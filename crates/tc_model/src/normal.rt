@@ -1,8 +1,8 @@
 // The normal form of trees (XSLT 1.0, 3.4).
 ghost use Rattle.std.specs.Prelude.{◌≡◌, ◌++◌, [], IfOk, OnOk};
-ghost use Rattle.tc_model.specs.Seen as see;
+ghost use Rattle.tc_model.specs.Views as see;
 ghost use Rattle.tc_model.specs.Runs.{run_text};
-ghost use Rattle.tc_model.specs.Seen.{trees};
+ghost use Rattle.tc_model.specs.Views.{trees};
 ghost use Rattle.tc_model.specs.Trees as t;
 ghost use Rattle.tc_model.specs.Trees.{beside, element, kept, none, normal_form};
 

@@ -2,7 +2,7 @@
 use Rattle.std.proofs.lemmas.Bool.{true≢false}
 use Rattle.std.proofs.Common.{◌≡◌, ◌<◌, ◌==◌, false, List, [], ◌∷◌, refl, ap, ◌∙◌, sym, length, arith, Bor}
 use Rattle.tc_model.specs.Sheets as s
-use Rattle.tc_model.specs.Seen.{test, tests}
+use Rattle.tc_model.specs.Views.{test, tests}
 use Rattle.tc_model.specs.declared.sheet.Test.{Test}
 use Rattle.tc_model.specs.declared.sheet.Test.TheVariants as v
 use Rattle.tc_model.specs.PathTextPhrases.{conjunction, disjunction}

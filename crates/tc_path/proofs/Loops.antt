@@ -5,7 +5,7 @@ use Rattle.tc_model.specs.RawTrees.{Bound}
 use Rattle.tc_model.specs.Sheets.{Test, Tests, no_test, test}
 use Rattle.tc_model.specs.PathTextTokens.{close_bracket, open_bracket, Token, mark}
 use Rattle.tc_model.specs.PathTextPhrases.{word, Lacks, conjunction, disjunction, PredicatesAt, no_predicate, predicate, PrimaryAt, AndAt, last_primary, one_primary, OrAt, last_conjunction, one_conjunction}
-use Rattle.tc_model.specs.Seen as seen
+use Rattle.tc_model.specs.Views as seen
 use Rattle.tc_model.specs.declared.sheet.Test.{Test as CodeTest}
 use Rattle.tc_model.proofs.ViewsPath.{tests_then, tests_then_none, tests_then_assoc, pushed_test}
 use Rattle.tc_model.proofs.PathTextUnique.{same_others, primary_unique, and_unique, or_unique}

@@ -14,7 +14,7 @@ use Rattle.tc_model.specs.PathTextPhrases.{word, EndsNameTest, NameMeans, withou
 use Rattle.tc_path.specs.declared.token.Token.{Token as CodeToken}
 use Rattle.tc_path.specs.declared.PathFault.{PathFault}
 use Rattle.tc_path.specs.declared.PathFault.TheVariants as faults
-use Rattle.tc_path.specs.Seen.{token}
+use Rattle.tc_path.specs.Views.{token}
 use Rattle.tc_path.specs.Faults.{OrNoMemory}
 use Rattle.tc_model.proofs.PathTextUnique.{no_axis}
 use Rattle.tc_path.proofs.TokenLaws.{no_length}

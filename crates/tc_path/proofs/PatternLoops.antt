@@ -8,7 +8,7 @@ use Rattle.tc_model.specs.PathTextPhrases as p
 use Rattle.tc_model.specs.PathTextPhrases.{Lacks, OtherNodeAt, Form, StepsAt, EndsAlternative, at_end, at_bar, Alternative, PatternAlternativeAt, PatternAt}
 use Rattle.tc_model.proofs.PathTextUnique.{same_others, slash_is_not_slashes, steps_open, no_path_slash, no_path_slashes, alternative_of_pattern_unique}
 use Rattle.tc_path.specs.declared.token.Token.{Token as CodeToken}
-use Rattle.tc_path.specs.Seen.{token}
+use Rattle.tc_path.specs.Views.{token}
 use Rattle.tc_path.proofs.TokenLaws.{no_length}
 
 module _ (scope : List Bound) where

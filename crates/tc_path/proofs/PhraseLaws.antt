@@ -9,7 +9,7 @@ use Rattle.tc_model.specs.Sheets.{NodeTest, Steps, no_step, step, Path, Test, Te
 use Rattle.tc_model.specs.PathTextTokens.{Mark, dot, slashes, open_parenthesis, close_parenthesis, Token, mark}
 use Rattle.tc_model.specs.PathTextPhrases as p
 use Rattle.tc_model.specs.PathTextPhrases.{word, Lacks, ChildAt, AttributeAt, OtherNodeAt, Form, dropped, conjunction, disjunction, StepsAt, PredicatesAt, AlternativeAt, SelectAt, PrimaryAt, OrAt}
-use Rattle.tc_model.specs.Seen as seen
+use Rattle.tc_model.specs.Views as seen
 use Rattle.tc_model.specs.declared.sheet.Test.{Test as CodeTest}
 use Rattle.tc_model.specs.declared.sheet.Test.TheVariants as code_tests
 use Rattle.tc_model.specs.declared.sheet.Step.{Step as CodeStep}

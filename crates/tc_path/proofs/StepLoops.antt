@@ -6,7 +6,7 @@ use Rattle.tc_model.specs.Sheets.{NodeTest, Steps, no_step, step, Path, no_alter
 use Rattle.tc_model.specs.PathTextTokens.{Mark, slash, slashes, bar, Token, mark}
 use Rattle.tc_model.specs.PathTextPhrases as p
 use Rattle.tc_model.specs.PathTextPhrases.{Lacks, ChildAt, AttributeAt, Form, lone, longer, dropped, lengthened, form_with, conjunction, alternative_before, is_dropped, StepsAt, attribute_step, last_step, child_step, descendant_step, PredicatesAt, AlternativeAt, SelectAt}
-use Rattle.tc_model.specs.Seen as seen
+use Rattle.tc_model.specs.Views as seen
 use Rattle.tc_model.specs.declared.sheet.Step.{Step as CodeStep}
 use Rattle.tc_model.proofs.ViewsPath.{steps_then, steps_then_none, steps_then_assoc, steps_append, alternatives_then, alternatives_then_assoc, alternatives_append}
 use Rattle.tc_model.proofs.PathTextUnique.{same_others, child_unique, no_child_attribute, predicates_unique, alternative_unique, slash_is_not_slashes}

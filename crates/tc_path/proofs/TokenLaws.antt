@@ -16,7 +16,7 @@ use Rattle.tc_base.specs.Characters.{is_white}
 use Rattle.tc_path.specs.declared.token.Token.{Token as CodeToken}
 use Rattle.tc_path.specs.declared.token.Token.TheVariants as code_tokens
 use Rattle.tc_scan.specs.declared.names.QualifiedName.{QualifiedName as CodeName}
-use Rattle.tc_path.specs.Seen.{token}
+use Rattle.tc_path.specs.Views.{token}
 use Rattle.tc_path.specs.NameTokens.{NameTokenAt, unprefixed, prefixed, with_star, VariableAt}
 
 some_none : {X : Type 0} {c : X} {o : Option X} → o ≡ Some c → o ≡ None → ⊥

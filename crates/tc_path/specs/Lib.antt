@@ -1,4 +1,4 @@
-pub mod Seen
+pub mod Views
 pub mod Reasons
 pub mod Faults
 pub mod NameTokens

@@ -2,8 +2,8 @@
 ghost use Rattle.std.specs.Prelude.{◌≡◌, ◌||◌, ◌++◌, [], ◌∷◌, IfOk, IfErr, List, MatchOption, if◌then◌else◌};
 ghost use Rattle.tc_model.specs.PathTextTokens as path;
 ghost use Rattle.tc_model.specs.PathTextPhrases as p;
-ghost use Rattle.tc_model.specs.Seen as seen;
-ghost use Rattle.tc_path.specs.Seen.{form, tokens_of};
+ghost use Rattle.tc_model.specs.Views as seen;
+ghost use Rattle.tc_path.specs.Views.{form, tokens_of};
 ghost use Rattle.tc_path.specs.Phrases.{form_of_one};
 
 use crate::PathFault;

@@ -5,8 +5,8 @@ ghost use Rattle.std.specs.Prelude.{◌≡◌, ℕ, List, IfOk, IfErr, MatchBool
 ghost use Rattle.tc_model.specs.PathTextPhrases as p;
 ghost use Rattle.tc_model.specs.PathText as texts;
 ghost use Rattle.tc_model.specs.Sheets as sheets;
-ghost use Rattle.tc_model.specs.Seen as seen;
-ghost use Rattle.tc_path.specs.Seen as see;
+ghost use Rattle.tc_model.specs.Views as seen;
+ghost use Rattle.tc_path.specs.Views as see;
 ghost use Rattle.tc_path.specs.declared.reasons.Context.TheVariants as contexts;
 ghost use Rattle.tc_path.specs.Faults.{OrNoMemory, IsCause, FormsOnceRenamed, IsUnsupported};
 

@@ -1,7 +1,7 @@
 // Tokens in which parentheses and brackets don't stand too deep within one another.
 ghost use Rattle.std.specs.Prelude.{◌≡◌, ◌≤◌, IfOk, IfErr, MatchBool};
 ghost use Rattle.tc_model.specs.PathTextTokens as path;
-ghost use Rattle.tc_path.specs.Seen.{token, tokens_of};
+ghost use Rattle.tc_path.specs.Views.{token, tokens_of};
 ghost use Rattle.tc_path.specs.Faults.{IsUnread};
 
 use crate::PathFault;

@@ -4,10 +4,10 @@ ghost use Rattle.tc_model.specs.Names.{ExpandedName};
 ghost use Rattle.tc_model.specs.PathTextTokens as path;
 ghost use Rattle.tc_model.specs.PathTextPhrases as p;
 ghost use Rattle.tc_model.specs.Sheets as sheets;
-ghost use Rattle.tc_model.specs.Seen as seen;
+ghost use Rattle.tc_model.specs.Views as seen;
 ghost use Rattle.tc_model.specs.XmlTextScopes.{uri_of};
-ghost use Rattle.tc_path.specs.Seen.{tokens_of};
-ghost use Rattle.tc_scan.specs.Seen.{written_name};
+ghost use Rattle.tc_path.specs.Views.{tokens_of};
+ghost use Rattle.tc_scan.specs.Views.{written_name};
 ghost use Rattle.tc_path.specs.Faults.{OrNoMemory};
 
 use crate::PathFault;

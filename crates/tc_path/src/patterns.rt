@@ -2,9 +2,9 @@
 ghost use Rattle.std.specs.Prelude.{◌≡◌, ◌<◌, ◌++◌, [], ◌∷◌, IfOk, IfErr, None, Some, List, length, map, MatchBool};
 ghost use Rattle.tc_model.specs.PathTextTokens as path;
 ghost use Rattle.tc_model.specs.PathTextPhrases as p;
-ghost use Rattle.tc_model.specs.Seen as seen;
-ghost use Rattle.tc_path.specs.Seen as see;
-ghost use Rattle.tc_path.specs.Seen.{form, tokens_of, kept_alternative};
+ghost use Rattle.tc_model.specs.Views as seen;
+ghost use Rattle.tc_path.specs.Views as see;
+ghost use Rattle.tc_path.specs.Views.{form, tokens_of, kept_alternative};
 ghost use Rattle.tc_path.specs.Faults.{OrNoMemory};
 
 use crate::PathFault;

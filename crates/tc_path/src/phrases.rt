@@ -5,8 +5,8 @@ ghost use Rattle.std.specs.Prelude.{◌<◌, [], ◌∷◌, IfOk, IfErr, Bool, L
 ghost use Rattle.tc_model.specs.PathTextTokens as path;
 ghost use Rattle.tc_model.specs.PathTextPhrases as p;
 ghost use Rattle.tc_model.specs.Sheets as sheets;
-ghost use Rattle.tc_model.specs.Seen as seen;
-ghost use Rattle.tc_path.specs.Seen.{mark, form, tokens_of};
+ghost use Rattle.tc_model.specs.Views as seen;
+ghost use Rattle.tc_path.specs.Views.{mark, form, tokens_of};
 ghost use Rattle.tc_path.specs.Phrases.{IsStepAt, ClosedAt};
 ghost use Rattle.tc_path.specs.Faults.{OrNoMemory};
 

@@ -1,8 +1,8 @@
 // The constructs for which a text is refused by a reason of their own.
 ghost use Rattle.std.specs.Prelude.{◌≡◌, ◌<◌, List, [], ◌∷◌, codes, length};
 ghost use Rattle.tc_path.specs.Reasons as reasons;
-ghost use Rattle.tc_path.specs.Seen.{mark, token, tokens_of};
-ghost use Rattle.tc_scan.specs.Seen.{written_name};
+ghost use Rattle.tc_path.specs.Views.{mark, token, tokens_of};
+ghost use Rattle.tc_scan.specs.Views.{written_name};
 
 use crate::token::{Mark, Token, after_mark, begins_with};
 use tc_base::Why;

@@ -1,7 +1,7 @@
 // The tokens of paths, patterns and tests (XPath 1.0, 3.7).
 ghost use Rattle.std.specs.Prelude.{◌≡◌, ◌<◌, [], ◌∷◌, IfOk, IfErr, None, Some, ℕ, List, IsTrue, IsFalse, length, MatchOption, MatchBool};
 ghost use Rattle.tc_model.specs.PathTextTokens as path;
-ghost use Rattle.tc_path.specs.Seen.{mark, token, tokens_of};
+ghost use Rattle.tc_path.specs.Views.{mark, token, tokens_of};
 ghost use Rattle.tc_path.specs.Faults.{OrNoMemory};
 ghost use Rattle.tc_path.specs.NameTokens.{NameTokenAt, VariableAt};
 

@@ -4,8 +4,8 @@ ghost use Rattle.tc_model.specs.PathTextTokens as path;
 ghost use Rattle.tc_model.specs.PathTextPhrases as p;
 ghost use Rattle.tc_model.specs.PathText as texts;
 ghost use Rattle.tc_model.specs.Sheets as sheets;
-ghost use Rattle.tc_model.specs.Seen as seen;
-ghost use Rattle.tc_path.specs.Seen.{tokens_of};
+ghost use Rattle.tc_model.specs.Views as seen;
+ghost use Rattle.tc_path.specs.Views.{tokens_of};
 ghost use Rattle.tc_path.specs.Faults.{OrNoMemory, refused_as};
 
 use crate::PathFault;

@@ -3,7 +3,7 @@ use Rattle.std.proofs.Common.{◌≡◌, ◌<◌, ◌+◌, ℕ, List, [], ◌∷
 use Rattle.std.specs.List.{flat_map}
 use Rattle.tc_model.specs.Names.{ExpandedName}
 use Rattle.tc_model.specs.Trees.{Trees, none, text, element, beside}
-use Rattle.tc_model.specs.Seen.{name, trees, before}
+use Rattle.tc_model.specs.Views.{name, trees, before}
 use Rattle.tc_model.specs.Printed.{escaped_in_text, tag_name, default_within, is_none, printed_in}
 use Rattle.tc_model.specs.declared.tree.Node.{Node, Node-F, Elem, Text}
 use Rattle.tc_model.specs.declared.tree.Node.TheOpen as parts

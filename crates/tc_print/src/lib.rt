@@ -14,7 +14,7 @@ ghost use Rattle.std.specs.Prelude.{◌≤◌, OnOk, OnErr};
 ghost use Rattle.tc_io.specs.Faults.{Rose};
 ghost use Rattle.tc_io.specs.Sink.{Appended, WroteFront};
 ghost use Rattle.tc_model.specs.Printed.{printed, printed_in};
-ghost use Rattle.tc_model.specs.Seen.{before, trees};
+ghost use Rattle.tc_model.specs.Views.{before, trees};
 ghost use Rattle.tc_model.specs.Trees.{none};
 ghost use Rattle.tc_print.specs.ReadBack.{IsShallowDocument, IsReadAs};
 

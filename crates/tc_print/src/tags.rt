@@ -3,7 +3,7 @@ ghost use Rattle.std.specs.Prelude.{◌≡◌, ◌≤◌, ◌++◌, OnOk, OnErr}
 ghost use Rattle.tc_io.specs.Faults.{Rose};
 ghost use Rattle.tc_io.specs.Sink.{Appended, WroteFront};
 ghost use Rattle.tc_model.specs.Printed as p;
-ghost use Rattle.tc_model.specs.Seen.{name};
+ghost use Rattle.tc_model.specs.Views.{name};
 ghost use Rattle.tc_print.specs.Pieces.{begun_tag, end_tag};
 
 use crate::escapes::{Within, write_escaped};

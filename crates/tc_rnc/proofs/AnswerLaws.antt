@@ -5,7 +5,7 @@ use Rattle.std.specs.List.{AllByRecursion}
 use Rattle.tc_base.specs.declared.Place.{Place}
 use Rattle.tc_base.specs.declared.reasons.Why.TheVariants.{N15}
 use Rattle.tc_model.specs.XmlTextScopes.{first_scope}
-use Rattle.tc_model.specs.Seen.{place}
+use Rattle.tc_model.specs.Views.{place}
 use Rattle.tc_model.specs.CompactSyntaxTrees.{Definition, Syntax}
 use Rattle.tc_model.specs.CompactSyntaxTokens.{Token}
 use Rattle.tc_model.specs.CompactSyntax.{SchemaAt, Spells, deepest_nesting}

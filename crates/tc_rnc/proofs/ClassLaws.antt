@@ -8,11 +8,11 @@ use Rattle.tc_model.specs.CompactSyntaxTokens.{Word, all_of, mark, Token}
 use Rattle.tc_model.specs.CompactSyntaxNames.{IsMark, name_in, LacksMark, ClassAt, alone, several, ClassesAt, last, more, SimpleAt, name, whole_namespace, any, parentheses, ExceptAt, nothing, except}
 use Rattle.tc_model.specs.CompactSyntaxRefused.{Behind, none_yet, is_plain, here, OpensAt, parenthesis}
 use Rattle.tc_model.specs.CompactSyntaxRefused as r
-use Rattle.tc_model.specs.Seen.{place}
+use Rattle.tc_model.specs.Views.{place}
 use Rattle.tc_base.specs.declared.Place.{Place}
 use Rattle.tc_model.proofs.CompactSyntaxClassesUnique.{some_none, same_tail, lacks_no, class_unique, simple_unique, simple_word, simple_at, simple_rule, simple_is}
 use Rattle.tc_rnc.specs.Readings.{BeginsWith, HasClass, HasClasses, HasSimple, HasExcept, ClosedClassAt, closed_class, HasClosedClass}
-use Rattle.tc_rnc.specs.Seen as seen
+use Rattle.tc_rnc.specs.Views as seen
 use Rattle.tc_rnc.specs.declared.syntax.SClass.{SClass}
 use Rattle.tc_rnc.specs.declared.faults.RncFault.{RncFault}
 use Rattle.tc_rnc.specs.declared.faults.RncFault.TheVariants.{TooDeep}

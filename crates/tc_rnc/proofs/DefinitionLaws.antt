@@ -12,7 +12,7 @@ use Rattle.tc_model.proofs.CompactSyntaxUnique.{operator_unique, definition_uniq
 use Rattle.tc_rnc.specs.Blocks.{BlockAt, block, HasBlock, AssignedAt, assigned, HasAssigned, Defines, DefinesNothing, IsEndOfDefinitions, LacksDiv}
 use Rattle.tc_rnc.specs.Readings.{BeginsWith, HasOpen, HasPattern, HasDefinition, HasDefinitions}
 use Rattle.tc_rnc.specs.Refusals.{Refuses, RefusesFirst}
-use Rattle.tc_rnc.specs.Seen as seen
+use Rattle.tc_rnc.specs.Views as seen
 use Rattle.tc_rnc.specs.declared.syntax.Def.{Def}
 use Rattle.tc_rnc.specs.declared.faults.RncFault.{RncFault}
 use Rattle.tc_rnc.specs.declared.tokens.End.{End}

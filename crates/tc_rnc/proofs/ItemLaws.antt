@@ -15,7 +15,7 @@ use Rattle.tc_rnc.specs.Connectors.{BeginsNone, OnlyData}
 use Rattle.tc_rnc.specs.Readings.{GoesOn, GoesOnOtherwise, EndsWith, HasClass, EnclosedAt, enclosed, HasEnclosed, NamedAt, named, HasNamed, BracedTextAt, braced_text, HasBracedText, LabelledAt, labelled, HasLabelled, HasPattern, HasItems, HasItem, HasPrimary}
 use Rattle.tc_rnc.specs.Refusals as f
 use Rattle.tc_rnc.specs.Refusals.{LacksDatum, FaultAt, Excludes, Refuses, RefusesAttribute, RefusesBraced, OpenBraced}
-use Rattle.tc_rnc.specs.Seen as seen
+use Rattle.tc_rnc.specs.Views as seen
 use Rattle.tc_rnc.specs.declared.syntax.SPat.{SPat}
 use Rattle.tc_rnc.specs.declared.faults.RncFault.{RncFault}
 use Rattle.tc_rnc.specs.declared.faults.RncFault.TheVariants.{Malformed, Unsupported, TooDeep, NoMemory}

@@ -19,7 +19,7 @@ use Rattle.tc_rnc.specs.Fronts as f
 use Rattle.tc_rnc.specs.Fronts.{Skips, BeginsNoSpace}
 use Rattle.tc_rnc.specs.Lexed.{ReadsTokens, ReadsAllTokens, IsWhole, Lexed}
 use Rattle.tc_rnc.specs.declared.tokens.End.{End}
-use Rattle.tc_rnc.specs.Seen as seen
+use Rattle.tc_rnc.specs.Views as seen
 use Rattle.tc_rnc.specs.declared.tokens.Word as code
 use Rattle.tc_rnc.specs.declared.tokens.Word.TheVariants as words
 use Rattle.tc_rnc.proofs.FrontLaws.{after_run_len}

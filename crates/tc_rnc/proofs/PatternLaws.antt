@@ -1,7 +1,7 @@
 -- Why patterns are read, or not, where their parts are.
 use Rattle.std.proofs.Common.{◌≡◌, ◌≢◌, ℕ, zero, suc, ◌-◌, ◌<◌, ◌⊎◌, inl, inr, Bool, false, List, [], ◌∷◌, refl, ◌∙◌, sym, subst, length, arith}
 use Rattle.tc_base.specs.declared.Place.{Place}
-use Rattle.tc_model.specs.Seen.{place}
+use Rattle.tc_model.specs.Views.{place}
 use Rattle.tc_model.specs.RawTrees.{Bound}
 use Rattle.tc_model.specs.CompactSyntaxTrees.{SyntaxPattern}
 use Rattle.tc_model.specs.CompactSyntaxTokens.{Token}

@@ -4,7 +4,7 @@ use Rattle.std.specs.Borrow.{Bor}
 use Rattle.std.specs.BTreeMap.{BTreeMap}
 use Rattle.std.specs.Option.{option_map}
 use Rattle.tc_model.specs.RawTrees.{Bound}
-use Rattle.tc_model.specs.Seen.{bound}
+use Rattle.tc_model.specs.Views.{bound}
 use Rattle.tc_model.specs.XmlTextScopes.{uri_of}
 use Rattle.tc_model.specs.declared.tree.Binding.{Binding}
 use Rattle.tc_rnc.specs.Bindings.{scope_before, uri_in}

@@ -15,7 +15,7 @@ use Rattle.tc_rnc.specs.Readings.{HasSchema, HasPattern, HasDefinitions}
 use Rattle.tc_rnc.specs.Refusals.{Refuses}
 use Rattle.tc_rnc.specs.declared.faults.RncFault.{RncFault}
 use Rattle.tc_rnc.specs.declared.tokens.End.{End}
-use Rattle.tc_rnc.specs.Seen as seen
+use Rattle.tc_rnc.specs.Views as seen
 use Rattle.tc_rnc.specs.declared.syntax.Def.{Def}
 use Rattle.tc_model.specs.CompactSyntaxRefused as r
 use Rattle.tc_rnc.proofs.Refusals.{Along, along_open, along_word, plain_is, pattern_with, definitions_with, definitions_leave}

@@ -2,11 +2,11 @@
 use Rattle.std.proofs.Common.{◌≡◌, ℕ, ◌+◌, ◌<◌, List, [], ◌∷◌, ◌++◌, refl, ap, ◌∙◌, sym, map, Bor, length, get_or, drop}
 use Rattle.std.proofs.lemmas.List.{drop_more}
 use Rattle.tc_base.specs.declared.Place.{Place}
-use Rattle.tc_model.specs.Seen.{name, place}
+use Rattle.tc_model.specs.Views.{name, place}
 use Rattle.tc_model.specs.declared.tree.Name.{Name}
 use Rattle.tc_model.specs.CompactSyntaxTrees as t
 use Rattle.tc_model.specs.CompactSyntaxTrees.{SyntaxClass, SyntaxClasses, no_class, SyntaxPattern, SyntaxPatterns, no_more, more}
-use Rattle.tc_rnc.specs.Seen.{token, tokens, class_list, class_layer, class, classes, pattern_list, pattern_layer, pattern, patterns, definition}
+use Rattle.tc_rnc.specs.Views.{token, tokens, class_list, class_layer, class, classes, pattern_list, pattern_layer, pattern, patterns, definition}
 use Rattle.tc_rnc.specs.declared.tokens.Token.{Token}
 use Rattle.tc_rnc.specs.declared.syntax.SClass.{SClass}
 use Rattle.tc_rnc.specs.declared.syntax.SClass.TheOpen as class_parts

@@ -1,6 +1,6 @@
 -- What a refusal says of a text.
 use Rattle.std.specs.Prelude.{ℕ, Bool, false, List}
-use Rattle.tc_model.specs.Seen.{place}
+use Rattle.tc_model.specs.Views.{place}
 use Rattle.tc_model.specs.CompactSyntaxTrees.{Syntax}
 use Rattle.tc_model.specs.CompactSyntax.{Spells, deepest_nesting}
 use Rattle.tc_model.specs.CompactSyntaxRefused.{MalformedAt, UnsupportedAt, TooDeepAt}

@@ -1,5 +1,5 @@
 pub mod Extents
-pub mod Seen
+pub mod Views
 pub mod Escapes
 pub mod Fronts
 pub mod Lexed

@@ -1,7 +1,7 @@
 -- What a refusal says: where it stands, and that there is no reading.
 use Rattle.std.specs.Prelude.{◌≡◌, ℕ, suc, Bool, false, List, [], ◌∷◌, ◌⊎◌, Some, IsFalse}
 use Rattle.tc_base.specs.declared.reasons.Why.TheVariants.{N15}
-use Rattle.tc_model.specs.Seen.{place}
+use Rattle.tc_model.specs.Views.{place}
 use Rattle.tc_model.specs.CompactSyntaxTokens.{Token}
 use Rattle.tc_model.specs.CompactSyntaxNames.{IsMark}
 use Rattle.tc_model.specs.CompactSyntaxPatterns.{is_datum}

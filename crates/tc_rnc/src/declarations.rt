@@ -6,7 +6,7 @@ ghost use Rattle.tc_rnc.specs.Readings.{HasSchema};
 ghost use Rattle.tc_rnc.specs.Refusals.{FaultAt, Refuses};
 ghost use Rattle.tc_rnc.specs.Schemas as schemas;
 ghost use Rattle.tc_rnc.specs.Scopes.{scope_of};
-ghost use Rattle.tc_rnc.specs.Seen as seen;
+ghost use Rattle.tc_rnc.specs.Views as seen;
 ghost use Rattle.tc_rnc.specs.declared.faults.RncFault.TheVariants.{NoMemory};
 
 use crate::faults::{RncFault, escape_at, first_of, third_literal, unexpected};

@@ -4,12 +4,12 @@ ghost use Rattle.tc_model.specs.CompactSyntax as syntax;
 ghost use Rattle.tc_model.specs.CompactSyntaxNames as names;
 ghost use Rattle.tc_model.specs.CompactSyntaxTokens as model;
 ghost use Rattle.tc_model.specs.CompactSyntaxTrees as trees;
-ghost use Rattle.tc_model.specs.Seen.{place as seen_place};
+ghost use Rattle.tc_model.specs.Views.{place as seen_place};
 ghost use Rattle.tc_rnc.specs.Blocks as blocks;
 ghost use Rattle.tc_rnc.specs.Readings as reading;
 ghost use Rattle.tc_rnc.specs.Refusals.{FaultAt, Refuses};
 ghost use Rattle.tc_rnc.specs.Scopes.{scope_of};
-ghost use Rattle.tc_rnc.specs.Seen as seen;
+ghost use Rattle.tc_rnc.specs.Views as seen;
 ghost use Rattle.tc_rnc.specs.declared.faults.RncFault.TheVariants.{NoMemory};
 
 use crate::faults::{RncFault, first_of, unexpected};

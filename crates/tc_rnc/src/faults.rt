@@ -5,7 +5,7 @@ ghost use Rattle.tc_model.specs.CompactSyntaxTokens as model;
 ghost use Rattle.tc_model.specs.XmlTextBytes.{Lacks, length_before};
 ghost use Rattle.tc_rnc.specs.Escapes.{HasEscape, IsEscapeText, IsLiteral, IsTriple, IsTripleWith, IsTwoSigns, LacksEscape};
 ghost use Rattle.tc_rnc.specs.Refusals.{FaultAt, LacksDatum};
-ghost use Rattle.tc_rnc.specs.Seen as seen;
+ghost use Rattle.tc_rnc.specs.Views as seen;
 
 use crate::tokens::{End, Token, Word};
 use std::alloc::{AllocError, AllocFailed};

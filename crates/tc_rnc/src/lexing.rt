@@ -6,7 +6,7 @@ ghost use Rattle.tc_model.specs.XmlText as xml_text;
 ghost use Rattle.tc_model.specs.XmlTextBytes as xml;
 ghost use Rattle.tc_rnc.specs.Extents.{extent};
 ghost use Rattle.tc_rnc.specs.Lexed.{IsWhole, Lexed, ReadsAllTokens};
-ghost use Rattle.tc_rnc.specs.Seen as seen;
+ghost use Rattle.tc_rnc.specs.Views as seen;
 
 use crate::faults::escape_in;
 use crate::front::{after_space, characters, line};

@@ -3,7 +3,7 @@ ghost use Rattle.std.specs.Prelude.{◌≡◌, [], ◌∷◌, ℕ, List, MatchOp
 ghost use Rattle.tc_model.specs.CompactSyntaxNames.{LacksMark};
 ghost use Rattle.tc_rnc.specs.Readings.{BeginsWith};
 ghost use Rattle.tc_rnc.specs.Refusals.{FaultAt};
-ghost use Rattle.tc_rnc.specs.Seen as seen;
+ghost use Rattle.tc_rnc.specs.Views as seen;
 
 use crate::faults::{RncFault, first_of, unexpected};
 use crate::tokens::{End, Token};

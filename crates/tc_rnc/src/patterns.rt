@@ -7,8 +7,8 @@ ghost use Rattle.tc_rnc.specs.Connectors as view;
 ghost use Rattle.tc_rnc.specs.Readings as reading;
 ghost use Rattle.tc_rnc.specs.Refusals.{FaultAt, Refuses, RefusesAttribute, RefusesBraced, RefusesFirst, RefusesText};
 ghost use Rattle.tc_rnc.specs.Scopes.{scope_of};
-ghost use Rattle.tc_rnc.specs.Seen as seen;
-ghost use Rattle.tc_model.specs.Seen.{place as seen_place};
+ghost use Rattle.tc_rnc.specs.Views as seen;
+ghost use Rattle.tc_model.specs.Views.{place as seen_place};
 ghost use Rattle.tc_rnc.specs.declared.faults.RncFault.TheVariants.{NoMemory};
 
 use crate::classes::class;

@@ -67,7 +67,7 @@ fn is_keyword(name: &str) -> bool
 
 impl<'t> Token<'t> {
     ghost use Rattle.tc_model.specs.CompactSyntaxTokens as model;
-    ghost use Rattle.tc_rnc.specs.Seen as seen;
+    ghost use Rattle.tc_rnc.specs.Views as seen;
 
     pub fn is_mark(&self, mark: char) -> bool
         ensures { MatchBool result (names.IsMark mark (seen.token self.now)) (names.IsMark mark (seen.token self.now) → ⊥) }

@@ -6,7 +6,7 @@ ghost use Rattle.tc_model.specs.XmlTextBytes as xml;
 ghost use Rattle.tc_model.specs.XmlTextNames as xml_names;
 ghost use Rattle.tc_rnc.specs.Extents.{extent};
 ghost use Rattle.tc_rnc.specs.Fronts.{IsNoMark, is_in_line};
-ghost use Rattle.tc_rnc.specs.Seen as seen;
+ghost use Rattle.tc_rnc.specs.Views as seen;
 
 use crate::front::first_char;
 use crate::tokens::Word;

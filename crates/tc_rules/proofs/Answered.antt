@@ -9,8 +9,8 @@ use Rattle.tc_rules.specs.Graphs as g
 use Rattle.tc_rules.specs.Graphs.{fits_at, next_at, path_fits, LeadsTo}
 use Rattle.tc_rules.specs.Steps as v
 use Rattle.tc_rules.specs.Rows.{graph, graphs}
-use Rattle.tc_rules.specs.Told.{IsStateOf, is_hit_of, select_below, count_states}
-use Rattle.tc_model.specs.StateCounts.{Block, some_item, all_count}
+use Rattle.tc_rules.specs.RulesView.{IsStateOf, is_hit_of, select_below, count_states}
+use Rattle.tc_model.specs.StateCounts.{PathUse, some_item, all_count}
 use Rattle.tc_rules.specs.Kept.{told, IsRulesOf}
 use Rattle.tc_rules.specs.declared.graph.Graph.{Graph}
 use Rattle.tc_rules.specs.declared.rules.Rules.{Rules}
@@ -25,7 +25,7 @@ mapped_at f [] i x e = absurd (cc)
 mapped_at f (y ∷ xs) zero x e = ap (λ w. Some (f w)) (some_is e)
 mapped_at f (y ∷ xs) (suc i) x e = mapped_at f xs i x e
 
-module _ (symbols : List Mention) (r : Rules) (h : IsRulesOf symbols r) (k : ℕ) (b : Block) (x : State) (st : IsStateOf (told r) k b x) where
+module _ (symbols : List Mention) (r : Rules) (h : IsRulesOf symbols r) (k : ℕ) (b : PathUse) (x : State) (st : IsStateOf (told r) k b x) where
   -- where a select state stands
   pub stands_at : slice_get r.selects.items k ≡ Some (record { graph = st.place; state = st.number })
   stands_at = ap (slice_get r.selects.items) st.number_is ∙ h.places st.place st.graph st.number st.graph_is (within st.graph.states st.number x st.state)

@@ -7,7 +7,7 @@ use Rattle.std.proofs.lemmas.List.{length-map, map-append, drop_more, take_more,
 use Rattle.std.proofs.lemmas.Option.{slice_get-get_or}
 use Rattle.tc_model.specs.Sheets as s
 use Rattle.tc_model.specs.Sheets.{Path}
-use Rattle.tc_model.specs.Seen as see
+use Rattle.tc_model.specs.Views as see
 use Rattle.std.specs.Result.{IsErrAnd}
 use Rattle.tc_model.specs.Symbols.{Mention, symbol_count, fresh_name}
 use Rattle.tc_model.specs.Numbered.{numbers_below}
@@ -23,10 +23,10 @@ use Rattle.tc_rules.specs.Graphs.{Graph, IsGraphOf}
 use Rattle.tc_rules.specs.Jobs.{AreJobs}
 use Rattle.tc_rules.specs.Kept.{told, IsRulesOf, numbers_in_mode}
 use Rattle.tc_rules.specs.Rows.{graph, graphs}
-use Rattle.tc_rules.specs.Seen as seen
+use Rattle.tc_rules.specs.Views as seen
 use Rattle.tc_rules.specs.Selects.{selects_from, starts_from, AreGraphs, states_by, count_by, all_states_by, IsAncestorCause, IsNextCause, IsSelectCause}
-use Rattle.tc_rules.specs.Told.{AreSymbolsWith, count_states}
-use Rattle.tc_model.specs.StateCounts.{Block, blocks_of, PassPredicates, PassAncestors, PassSelects, some_item, all_count}
+use Rattle.tc_rules.specs.RulesView.{AreSymbolsWith, count_states}
+use Rattle.tc_model.specs.StateCounts.{PathUse, blocks_of, PassPredicates, PassAncestors, PassSelects, some_item, all_count}
 use Rattle.tc_rules.specs.declared.graph.Source.{Source}
 use Rattle.tc_rules.specs.declared.rules.Rules.{Rules}
 use Rattle.tc_rules.specs.declared.rules.RulesFault.{RulesFault}
@@ -43,23 +43,23 @@ some_same a b e = ap Some e
 abbrev pub paths_of : s.Sheet → List Path
 paths_of x = map (λ m. m.path) (moves_of x) ++ looks_of x
 
-move_paths : (ms : List Move) → map (λ (b : Block). b.path) (map (λ (m : Move). let b : Block = record { path = m.path; mode = Some m.mode } in b) ms) ≡ map (λ (m : Move). m.path) ms
+move_paths : (ms : List Move) → map (λ (b : PathUse). b.path) (map (λ (m : Move). let b : PathUse = record { path = m.path; mode = Some m.mode } in b) ms) ≡ map (λ (m : Move). m.path) ms
 move_paths [] = refl
 move_paths (m ∷ ms) = ap (λ w. m.path ∷ w) (move_paths ms)
 
-look_paths : (ps : List Path) → map (λ (b : Block). b.path) (map (λ (p : Path). let b : Block = record { path = p; mode = None } in b) ps) ≡ ps
+look_paths : (ps : List Path) → map (λ (b : PathUse). b.path) (map (λ (p : Path). let b : PathUse = record { path = p; mode = None } in b) ps) ≡ ps
 look_paths [] = refl
 look_paths (p ∷ ps) = ap (λ w. p ∷ w) (look_paths ps)
 
 two_parts : {X : Type 0} (a b c d : List X) → a ≡ c → b ≡ d → a ++ b ≡ c ++ d
 two_parts a b c d e f = cc
 
-block_paths : (x : s.Sheet) → map (λ (b : Block). b.path) (blocks_of x) ≡ paths_of x
+block_paths : (x : s.Sheet) → map (λ (b : PathUse). b.path) (blocks_of x) ≡ paths_of x
 block_paths x =
-    let ms = map (λ (m : Move). let b : Block = record { path = m.path; mode = Some m.mode } in b) (moves_of x) in
-    let ls = map (λ (p : Path). let b : Block = record { path = p; mode = None } in b) (looks_of x) in
-    map-append (λ (b : Block). b.path) ms ls
-    ∙ two_parts (map (λ (b : Block). b.path) ms) (map (λ (b : Block). b.path) ls) (map (λ (m : Move). m.path) (moves_of x)) (looks_of x) (move_paths (moves_of x)) (look_paths (looks_of x))
+    let ms = map (λ (m : Move). let b : PathUse = record { path = m.path; mode = Some m.mode } in b) (moves_of x) in
+    let ls = map (λ (p : Path). let b : PathUse = record { path = p; mode = None } in b) (looks_of x) in
+    map-append (λ (b : PathUse). b.path) ms ls
+    ∙ two_parts (map (λ (b : PathUse). b.path) ms) (map (λ (b : PathUse). b.path) ls) (map (λ (m : Move). m.path) (moves_of x)) (looks_of x) (move_paths (moves_of x)) (look_paths (looks_of x))
 
 seen_paths : (modes : ℕ) (ms : List MoveOf) → map (λ (m : MoveOf). see.path m.path.now) ms ≡ map (λ (m : Move). m.path) (seen.moves modes ms)
 seen_paths modes [] = refl
@@ -74,14 +74,14 @@ module _ (symbols : List Mention) (x : s.Sheet) where
   abbrev Tests : List s.Test
   Tests = predicates_of x
 
-  sum_blocks : (bs : List Block) (n : ℕ) → sum (map (λ (b : Block). length (states_by symbols Tests b.path n)) bs) ≡ count_by symbols Tests (map (λ (b : Block). b.path) bs) n
+  sum_blocks : (bs : List PathUse) (n : ℕ) → sum (map (λ (b : PathUse). length (states_by symbols Tests b.path n)) bs) ≡ count_by symbols Tests (map (λ (b : PathUse). b.path) bs) n
   sum_blocks [] n = refl
   sum_blocks (b ∷ bs) n =
-      sum_by-cons (λ x. x) (length (states_by symbols Tests b.path n)) (map (λ (b : Block). length (states_by symbols Tests b.path n)) bs)
+      sum_by-cons (λ x. x) (length (states_by symbols Tests b.path n)) (map (λ (b : PathUse). length (states_by symbols Tests b.path n)) bs)
       ∙ (ap (λ k. length (states_by symbols Tests b.path n) + k) (sum_blocks bs n)
-      ∙ sym (sum_by-cons (λ x. x) (length (states_by symbols Tests b.path n)) (map (λ p. length (states_by symbols Tests p n)) (map (λ (b : Block). b.path) bs))))
+      ∙ sym (sum_by-cons (λ x. x) (length (states_by symbols Tests b.path n)) (map (λ p. length (states_by symbols Tests p n)) (map (λ (b : PathUse). b.path) bs))))
 
-  count_blocks : (n : ℕ) → sum (map (λ (b : Block). length (states_by symbols Tests b.path n)) (blocks_of x)) ≡ count_by symbols Tests (paths_of x) n
+  count_blocks : (n : ℕ) → sum (map (λ (b : PathUse). length (states_by symbols Tests b.path n)) (blocks_of x)) ≡ count_by symbols Tests (paths_of x) n
   count_blocks n = sum_blocks (blocks_of x) n ∙ ap (λ ps. count_by symbols Tests ps n) (block_paths x)
 
   pub within_predicates : length Tests ≤ 6 → ¬ PassPredicates symbols x
@@ -209,7 +209,7 @@ module _ (symbols : List Mention) (r : Rules) where
       → length r.modes.items ≡ r.sheet.modes → ((m : ℕ) → m < r.sheet.modes → get_or (numbers r.modes.items) m [] ≡ numbers_in_mode m 0 X.rules)
       → IsRulesOf symbols r
   rules_built sheet alphabet tests few bodies all_bodies above few_above moves looks selected few_selected jobs selects starts all_modes modes =
-      let as_paths : map (λ (b : Block). b.path) (blocks_of X) ≡ paths_of X = block_paths X in
+      let as_paths : map (λ (b : PathUse). b.path) (blocks_of X) ≡ paths_of X = block_paths X in
       record {
         tells = record {
           well_formed = sheet;
@@ -220,8 +220,8 @@ module _ (symbols : List Mention) (r : Rules) where
           all_eaches = length-map r.eaches.items (λ b. see.body b.now) ∙ all_bodies;
           ancestors = above;
           few_ancestors = few_above;
-          selects = λ i b e. graph_at symbols (predicates_of X) (paths_of X) (graphs r.graphs.items) i b.path selected (ap (λ w. slice_get w i) (sym as_paths) ∙ mapped_at (λ (b : Block). b.path) (blocks_of X) i b e);
-          all_selects = as_many symbols (predicates_of X) (paths_of X) (graphs r.graphs.items) selected ∙ (sym (ap length as_paths) ∙ length-map (blocks_of X) (λ (b : Block). b.path));
+          selects = λ i b e. graph_at symbols (predicates_of X) (paths_of X) (graphs r.graphs.items) i b.path selected (ap (λ w. slice_get w i) (sym as_paths) ∙ mapped_at (λ (b : PathUse). b.path) (blocks_of X) i b e);
+          all_selects = as_many symbols (predicates_of X) (paths_of X) (graphs r.graphs.items) selected ∙ (sym (ap length as_paths) ∙ length-map (blocks_of X) (λ (b : PathUse). b.path));
           few_selects = few_selected;
         };
         moves = moves;

@@ -11,13 +11,13 @@ use Rattle.std.proofs.lemmas.Option.{get_or_from_slice_get, slice_get-get_or, sl
 use Rattle.tc_alpha.proofs.Members.{Has, has_from_contains, contains_from_has, has_either, Every, every_append, every_member, every_from_all}
 use Rattle.tc_model.specs.Sheets as s
 use Rattle.tc_model.specs.Sheets.{no_instruction, put_text, put_element, copy, apply, call, for_each, value, value_of_self, choose, otherwise, branch}
-use Rattle.tc_model.specs.Seen as see
+use Rattle.tc_model.specs.Views as see
 use Rattle.tc_model.specs.WellFormed.{IsSheet, IsBody, AreBranches, IsRule, ForEach, eaches_in, eaches_in_branches, eaches_of}
 use Rattle.tc_model.specs.declared.sheet.Rule.{Rule}
 use Rattle.tc_model.specs.declared.sheet.Sheet.{Sheet}
 use Rattle.tc_rules.specs.Eaches.{Each, bodies_in, bodies_in_branches, bodies_of_eaches}
 use Rattle.tc_rules.specs.Gathered.{numbers, bodies}
-use Rattle.tc_rules.specs.Seen.{each, eaches}
+use Rattle.tc_rules.specs.Views.{each, eaches}
 use Rattle.tc_rules.specs.declared.walk.Each.{Each as EachOf}
 
 -- a rule's mode is one of the sheet

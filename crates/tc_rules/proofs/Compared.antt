@@ -4,7 +4,7 @@ use Rattle.std.proofs.lemmas.List.{length-drop}
 use Rattle.tc_model.specs.declared.sheet.Step.{Step}
 use Rattle.tc_model.specs.declared.sheet.Test.{Test}
 use Rattle.tc_model.specs.Sheets as s
-use Rattle.tc_model.specs.Seen.{test, tests, steps, alternatives}
+use Rattle.tc_model.specs.Views.{test, tests, steps, alternatives}
 use Rattle.tc_model.specs.SameTests.{same_steps, same_path, same_test, same_tests}
 use Rattle.tc_model.proofs.ViewsPath.{left_alternative, left_test}
 

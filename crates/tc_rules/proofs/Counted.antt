@@ -6,7 +6,7 @@ use Rattle.std.proofs.lemmas.Option.{get_or_from_slice_get, slice_get-get_or}
 use Rattle.tc_alpha.proofs.Members.{Has, has_from_contains, every_member}
 use Rattle.tc_model.specs.Sheets as s
 use Rattle.tc_model.specs.Sheets.{Steps, no_step, step, Path, no_alternative, alternative}
-use Rattle.tc_model.specs.Seen as see
+use Rattle.tc_model.specs.Views as see
 use Rattle.tc_model.specs.Symbols.{Mention, symbol_count}
 use Rattle.tc_model.specs.Trees.{none}
 use Rattle.tc_model.specs.Chains.{top}
@@ -29,10 +29,10 @@ use Rattle.tc_rules.specs.Jobs.{IsJob}
 use Rattle.tc_rules.proofs.JobsOf.{job_at}
 use Rattle.tc_rules.specs.Kept.{told, IsRulesOf, numbers_in_mode}
 use Rattle.tc_rules.specs.Rows.{graph, graphs}
-use Rattle.tc_rules.specs.Seen as seen
+use Rattle.tc_rules.specs.Views as seen
 use Rattle.tc_rules.specs.Selects.{first_from}
-use Rattle.tc_rules.specs.Told.{Told, IsStateOf, count_states, select_count, move_count, ancestor, ancestor_below, select_below}
-use Rattle.tc_model.specs.StateCounts.{Block, blocks_of, some_item, all_count}
+use Rattle.tc_rules.specs.RulesView.{RulesView, IsStateOf, count_states, select_count, move_count, ancestor, ancestor_below, select_below}
+use Rattle.tc_model.specs.StateCounts.{PathUse, blocks_of, some_item, all_count}
 use Rattle.tc_rules.specs.declared.rules.Rules.{Rules}
 use Rattle.tc_rules.specs.declared.walk.Move.{Move as MoveOf}
 use Rattle.tc_rules.proofs.Answered.{mapped_at, above_answered, step_answered, start_answered, select_is}
@@ -99,10 +99,10 @@ at_place (x ∷ xs) (suc i) l = at_place xs i (omega arith)
 not_zero : (k : ℕ) → 0 < k → (0 == k) ≡ false
 not_zero k l = search (rules, arith)
 
-abbrev move_block : Move → Block
+abbrev move_block : Move → PathUse
 move_block m = record { path = m.path; mode = Some m.mode }
 
-abbrev look_block : Path → Block
+abbrev look_block : Path → PathUse
 look_block p = record { path = p; mode = None }
 
 -- the first of the states that are reached
@@ -160,7 +160,7 @@ not_false true e = absurd (true≢false (sym e))
 not_false false e = refl
 
 module _ (symbols : List Mention) (r : Rules) (h : IsRulesOf symbols r) where
-  abbrev T : Told
+  abbrev T : RulesView
   T = told r
 
   moves_length : length r.moves.items ≡ length (moves_of T.sheet)
@@ -185,7 +185,7 @@ module _ (symbols : List Mention) (r : Rules) (h : IsRulesOf symbols r) where
       first_there all_count (next_state symbols (predicates_of T.sheet) (path_of_rules T.sheet.rules)) (letters_of_elements symbols (predicates_of T.sheet)) (first_state (path_of_rules T.sheet.rules)) T.ancestors.states h.tells.ancestors.states refl
 
   -- the first state of a block
-  first_of_block : (i : ℕ) (b : Block) → IsPath b.path → slice_get (blocks_of T.sheet) i ≡ Some b → MatchOption (first_from T.selects r.starts.items i) (b.path ≡ no_alternative) (λ k. IsStateOf T k b (first_state b.path))
+  first_of_block : (i : ℕ) (b : PathUse) → IsPath b.path → slice_get (blocks_of T.sheet) i ≡ Some b → MatchOption (first_from T.selects r.starts.items i) (b.path ≡ no_alternative) (λ k. IsStateOf T k b (first_state b.path))
   first_of_block i b lawful e = by (some_item (first_state b.path)) refl
     where
       found : (g : Graph) × (slice_get T.selects i ≡ Some g) × IsGraphOf symbols (predicates_of T.sheet) some_item b.path g
@@ -255,12 +255,12 @@ module _ (symbols : List Mention) (r : Rules) (h : IsRulesOf symbols r) where
       subst (λ w. MatchOption w (p ≡ no_alternative) (λ k. IsStateOf T k (record { path = p; mode = None }) (first_state p))) (sym f) (look_begins p n i c l (e ∙ ap (number_of same_path p) h.looks))
 
   -- the mode of a move's state
-  block_of_move : (ms : List Move) (bs : List Block) (i : ℕ) (b : Block) → i < length ms → slice_get (map move_block ms ++ bs) i ≡ Some b → (m : Move) × (slice_get ms i ≡ Some m) × (b.mode ≡ Some m.mode)
+  block_of_move : (ms : List Move) (bs : List PathUse) (i : ℕ) (b : PathUse) → i < length ms → slice_get (map move_block ms ++ bs) i ≡ Some b → (m : Move) × (slice_get ms i ≡ Some m) × (b.mode ≡ Some m.mode)
   block_of_move [] bs i b l e = absurd (omega arith)
-  block_of_move (m ∷ ms) bs zero b l e = (m, refl, ap (λ (w : Block). w.mode) (some_is (sym e)))
+  block_of_move (m ∷ ms) bs zero b l e = (m, refl, ap (λ (w : PathUse). w.mode) (some_is (sym e)))
   block_of_move (m ∷ ms) bs (suc i) b l e = block_of_move ms bs i b (omega arith) e
 
-  module _ (k : ℕ) (b : Block) (x : State) (st : IsStateOf T k b x) (few : k < move_count T) where
+  module _ (k : ℕ) (b : PathUse) (x : State) (st : IsStateOf T k b x) (few : k < move_count T) where
     pub place_of_move : st.place < length (moves_of T.sheet)
     place_of_move = elim (below_or_not st.place (length (moves_of T.sheet))) [ inl a ↦ a | inr l ↦ absurd (omega (arith, few, st.number_is, count_rises T.selects (length (moves_of T.sheet)) st.place l)) ]
 
@@ -346,7 +346,7 @@ module _ (symbols : List Mention) (r : Rules) (h : IsRulesOf symbols r) where
       some_none : (n : ℕ) → Some n ≡ None → ⊥
       some_none n f = cc
 
-  module _ (k : ℕ) (b : Block) (x : State) (st : IsStateOf T k b x) (y : Select) (gr : GraphOf) (s marks : ℕ) (lead : Option ℕ) (e : slice_get r.selects.items k ≡ Some y) (f : slice_get r.graphs.items y.graph ≡ Some gr)
+  module _ (k : ℕ) (b : PathUse) (x : State) (st : IsStateOf T k b x) (y : Select) (gr : GraphOf) (s marks : ℕ) (lead : Option ℕ) (e : slice_get r.selects.items k ≡ Some y) (f : slice_get r.graphs.items y.graph ≡ Some gr)
       (a : s < symbol_count symbols) (c : marks < 2 ^ length (predicates_of T.sheet)) (says : (j : Option ℕ) → next_at (graph gr) y.state s marks ≡ Some j → lead ≡ j) where
     abbrev Below : State
     Below = select_below symbols T b x (record { kind = of_symbol s; marks = marks })

@@ -7,7 +7,7 @@ use Rattle.tc_model.specs.Paths.{passes}
 use Rattle.tc_model.specs.Letters.{Letter, tree_of, is_marked}
 use Rattle.tc_model.specs.PathStates.{Items, State, further, next_state, ends, is_hit, first_items, no_items, first_state}
 use Rattle.tc_model.specs.declared.sheet.Test.{Test}
-use Rattle.tc_rules.specs.Seen as seen
+use Rattle.tc_rules.specs.Views as seen
 use Rattle.tc_rules.specs.Graphs.{steps_fit, path_fits}
 use Rattle.tc_rules.specs.Steps as v
 use Rattle.tc_rules.specs.declared.rows.Letter as asked

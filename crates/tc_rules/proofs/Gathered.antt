@@ -3,7 +3,7 @@ use Rattle.std.proofs.Common.{◌≡◌, ℕ, zero, suc, ◌+◌, ◌<◌, List,
 use Rattle.std.proofs.lemmas.List.{get_or_default}
 use Rattle.tc_model.specs.Sheets.{Steps, Path, no_alternative, alternative}
 use Rattle.tc_model.specs.PathStates.{path_of_rules, steps_of}
-use Rattle.tc_model.specs.Seen as see
+use Rattle.tc_model.specs.Views as see
 use Rattle.tc_model.specs.declared.sheet.Rule.{Rule}
 use Rattle.tc_model.specs.declared.sheet.Step.{Step}
 

@@ -10,7 +10,7 @@ use Rattle.tc_model.specs.Numberings.{Move, moves_in_body, moves_in_branches}
 use Rattle.tc_model.specs.WellFormed.{IsSheet, IsBody, AreBranches, IsRule}
 use Rattle.tc_rules.specs.Gathered.{built_in_moves}
 use Rattle.tc_rules.specs.Jobs.{IsJob, AreJobs, written_moves}
-use Rattle.tc_rules.specs.Seen as seen
+use Rattle.tc_rules.specs.Views as seen
 use Rattle.tc_rules.specs.declared.walk.Job.{Job}
 use Rattle.tc_rules.specs.declared.walk.Job.TheVariants as jobs
 use Rattle.tc_rules.specs.declared.walk.Move.{Move as MoveOf}

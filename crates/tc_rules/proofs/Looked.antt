@@ -3,10 +3,10 @@ use Rattle.std.proofs.Common.{◌≡◌, ℕ, ◌+◌, ◌<◌, List, ◌++◌, 
 use Rattle.tc_model.specs.declared.sheet.Test.{Test}
 use Rattle.tc_model.specs.declared.sheet.Path.{Path}
 use Rattle.tc_model.specs.Sheets as s
-use Rattle.tc_model.specs.Seen as see
+use Rattle.tc_model.specs.Views as see
 use Rattle.tc_model.specs.Numbered.{each_once_after}
 use Rattle.tc_model.specs.SameTests.{same_test, same_path}
-use Rattle.tc_rules.specs.Seen.{predicates, looks, moves, move as see_move}
+use Rattle.tc_rules.specs.Views.{predicates, looks, moves, move as see_move}
 use Rattle.tc_rules.proofs.Sameness.{looked}
 use Rattle.std.proofs.lemmas.List.{get_or_default}
 use Rattle.tc_rules.specs.Once.{put_once}

@@ -9,7 +9,7 @@ use Rattle.std.proofs.lemmas.Option.{get_or_from_slice_get, slice_get-get_or}
 use Rattle.std.proofs.lemmas.Simd.{map-map}
 use Rattle.tc_model.specs.Trees.{none}
 use Rattle.tc_model.specs.Chains.{an_element}
-use Rattle.tc_model.specs.Seen as see
+use Rattle.tc_model.specs.Views as see
 use Rattle.tc_model.specs.Sheets.{Path}
 use Rattle.tc_model.specs.Symbols.{Mention, symbol_count, fresh_name}
 use Rattle.tc_model.specs.Letters.{Kind, of_symbol, of_text, IsLetter}
@@ -25,7 +25,7 @@ use Rattle.tc_rules.specs.Graphs as g
 use Rattle.tc_rules.specs.Graphs.{class_of, fits_at, next_at, LeadsTo, path_fits, IsGraphOf}
 use Rattle.tc_rules.specs.Once.{put_all}
 use Rattle.tc_rules.specs.Reached.{leads_by, rounds, number_in, numbers_by, all_numbers_by, AreReached}
-use Rattle.tc_rules.specs.Seen.{predicates}
+use Rattle.tc_rules.specs.Views.{predicates}
 use Rattle.tc_rules.specs.Steps as v
 use Rattle.tc_rules.specs.declared.graph.Source.{Source}
 use Rattle.tc_rules.proofs.Fits.{path_fits_is, next_is}

@@ -8,8 +8,8 @@ use Rattle.tc_model.specs.PathStates.{State, first_state, next_state, same_state
 use Rattle.tc_model.specs.Numberings.{predicates_of, one_round, rounds, AreReached, letters_of_elements}
 use Rattle.tc_rules.specs.Graphs.{Graph, IsGraphOf, fits_at, next_at, path_fits, LeadsTo}
 use Rattle.tc_rules.specs.Steps as v
-use Rattle.tc_rules.specs.Told.{Told, IsTold, IsStateOf, count_states, is_hit_of, select_below}
-use Rattle.tc_model.specs.StateCounts.{Block, blocks_of, some_item, all_count}
+use Rattle.tc_rules.specs.RulesView.{RulesView, IsTold, IsStateOf, count_states, is_hit_of, select_below}
+use Rattle.tc_model.specs.StateCounts.{PathUse, blocks_of, some_item, all_count}
 use Rattle.tc_alpha.proofs.Members.{Every}
 use Rattle.std.proofs.lemmas.List.Sums.{sum_by-cons}
 use Rattle.tc_rules.proofs.Sameness.{every_kept}
@@ -70,14 +70,14 @@ module _ (symbols : List Mention) (predicates : List s.Test) (counts : State →
       → v.some_ends x fit ≡ v.some_ends x (path_fits symbols predicates p l)
   hit_tells i x fit l e k f = ap (v.some_ends x) (some_is (sym f ∙ h.fits l k))
 
-module _ (symbols : List Mention) (t : Told) (h : IsTold symbols t) where
+module _ (symbols : List Mention) (t : RulesView) (h : IsTold symbols t) where
   -- the graph of a block
-  pub graph_of : (i : ℕ) (b : Block) (g : Graph) → slice_get (blocks_of t.sheet) i ≡ Some b → slice_get t.selects i ≡ Some g → IsGraphOf symbols (predicates_of t.sheet) some_item b.path g
+  pub graph_of : (i : ℕ) (b : PathUse) (g : Graph) → slice_get (blocks_of t.sheet) i ≡ Some b → slice_get t.selects i ≡ Some g → IsGraphOf symbols (predicates_of t.sheet) some_item b.path g
   graph_of i b g e f =
       let r = h.selects i b e in
       subst (λ (x : Graph). IsGraphOf symbols (predicates_of t.sheet) some_item b.path x) (some_is (sym r.1 ∙ f)) r.2
 
-  pub is_hit_told : (k : ℕ) (b : Block) (x fit : State) (l : Letter) (st : IsStateOf t k b x) → IsLetter symbols (predicates_of t.sheet) l → fits_at st.graph l ≡ Some fit
+  pub is_hit_told : (k : ℕ) (b : PathUse) (x fit : State) (l : Letter) (st : IsStateOf t k b x) → IsLetter symbols (predicates_of t.sheet) l → fits_at st.graph l ≡ Some fit
       → v.some_ends x fit ≡ is_hit_of symbols t b x l
   is_hit_told k b x fit l st is f =
       let g = graph_of st.place b st.graph st.block st.graph_is in
@@ -111,23 +111,23 @@ within [] i x e = absurd (cc)
 within (y ∷ xs) zero x e = omega arith
 within (y ∷ xs) (suc i) x e = let rest : i < length xs = within xs i x e in omega arith
 
-module _ (symbols : List Mention) (t : Told) (h : IsTold symbols t) where
-  pub in_range : (k : ℕ) (b : Block) (x : State) → IsStateOf t k b x → k < count_states t.selects
+module _ (symbols : List Mention) (t : RulesView) (h : IsTold symbols t) where
+  pub in_range : (k : ℕ) (b : PathUse) (x : State) → IsStateOf t k b x → k < count_states t.selects
   in_range k b x st =
       let below : count_states (take st.place t.selects) + st.number < count_states t.selects = below_all t.selects st.place st.graph st.number st.graph_is (within st.graph.states st.number x st.state) in
       subst (λ n. n < count_states t.selects) (sym st.number_is) below
 
   -- where a select state leads, as the tables have it
-  pub step_told : (k : ℕ) (b : Block) (x : State) (st : IsStateOf t k b x) (s marks : ℕ) → s < symbol_count symbols → marks < 2 ^ length (predicates_of t.sheet)
+  pub step_told : (k : ℕ) (b : PathUse) (x : State) (st : IsStateOf t k b x) (s marks : ℕ) → s < symbol_count symbols → marks < 2 ^ length (predicates_of t.sheet)
       → (j : Option ℕ) × (next_at st.graph st.number s marks ≡ Some j) × LeadsTo some_item st.graph j (select_below symbols t b x (record { kind = of_symbol s; marks = marks }))
   step_told k b x st s marks a c = (graph_of symbols t h st.place b st.graph st.block st.graph_is).next st.number x s marks st.state a c
 
   -- none is left
-  pub no_item_left : (k : ℕ) (b : Block) (x y : State) (st : IsStateOf t k b x) → LeadsTo some_item st.graph None y → is_empty_state y ≡ true
+  pub no_item_left : (k : ℕ) (b : PathUse) (x y : State) (st : IsStateOf t k b x) → LeadsTo some_item st.graph None y → is_empty_state y ≡ true
   no_item_left k b x y st e = not_false (is_empty_state y) e
 
   -- one of the same path
-  pub goes_on : (k n : ℕ) (b : Block) (x y : State) (st : IsStateOf t k b x) → LeadsTo some_item st.graph (Some n) y → IsStateOf t (count_states (take st.place t.selects) + n) b y
+  pub goes_on : (k n : ℕ) (b : PathUse) (x y : State) (st : IsStateOf t k b x) → LeadsTo some_item st.graph (Some n) y → IsStateOf t (count_states (take st.place t.selects) + n) b y
   goes_on k n b x y st e = record { place = st.place; block = st.block; graph = st.graph; graph_is = st.graph_is; number = n; state = e.1; number_is = refl }
 
   -- the ancestor state one element further down has a number

@@ -4,7 +4,7 @@ use Rattle.std.specs.Global.{Vec}
 use Rattle.std.proofs.lemmas.List.{get_or_default}
 use Rattle.std.proofs.lemmas.List.Elements.{filter-append}
 use Rattle.tc_model.specs.declared.sheet.Step.{Step}
-use Rattle.tc_model.specs.Seen as see
+use Rattle.tc_model.specs.Views as see
 use Rattle.tc_model.specs.Sheets.{Path}
 use Rattle.tc_model.specs.PathStates.{State, same_state}
 use Rattle.tc_rules.specs.Once.{put_all}

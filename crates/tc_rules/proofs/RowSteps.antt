@@ -4,12 +4,12 @@ use Rattle.std.specs.List.{list_any}
 use Rattle.std.specs.Global.{Vec}
 use Rattle.tc_model.specs.declared.sheet.Step.{Step}
 use Rattle.tc_model.specs.declared.sheet.Test.{Test}
-use Rattle.tc_model.specs.Seen as see
+use Rattle.tc_model.specs.Views as see
 use Rattle.tc_model.specs.Sheets as s
 use Rattle.tc_model.specs.Letters.{is_marked}
 use Rattle.tc_model.specs.PathStates as p
 use Rattle.tc_model.proofs.ViewsPath.{left_step, left_alternative}
-use Rattle.tc_rules.specs.Seen.{predicates}
+use Rattle.tc_rules.specs.Views.{predicates}
 use Rattle.tc_rules.specs.Steps as v
 use Rattle.tc_rules.specs.declared.rows.Letter.{Letter}
 

@@ -14,7 +14,7 @@ use Rattle.tc_rules.specs.Graphs.{Graph, IsGraphOf}
 use Rattle.tc_rules.specs.Once.{put_all}
 use Rattle.tc_rules.specs.Rows.{graph, graphs}
 use Rattle.tc_rules.specs.Selects.{selects_from, starts_from, AreGraphs, states_by, count_by}
-use Rattle.tc_rules.specs.Told.{count_states}
+use Rattle.tc_rules.specs.RulesView.{count_states}
 use Rattle.tc_model.specs.StateCounts.{some_item}
 use Rattle.tc_rules.specs.declared.graph.Graph.{Graph as GraphOf}
 use Rattle.tc_rules.specs.declared.rules.Select.{Select}

@@ -1,7 +1,7 @@
 -- What a loop over a part of a stylesheet has found, one step at a time.
 use Rattle.std.proofs.Common.{◌≡◌, ℕ, ◌+◌, ◌<◌, List, ◌++◌, refl, ap, ◌∙◌, sym, Bor, length, get_or, drop, append_assoc, Result, Ok, Err, OnOk}
 use Rattle.tc_model.specs.Sheets as s
-use Rattle.tc_model.specs.Seen as see
+use Rattle.tc_model.specs.Views as see
 use Rattle.tc_model.specs.Numberings as n
 use Rattle.tc_model.specs.declared.sheet.Step.{Step}
 use Rattle.tc_model.specs.declared.sheet.Test.{Test}

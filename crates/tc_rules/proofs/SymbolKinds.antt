@@ -14,7 +14,7 @@ use Rattle.tc_model.specs.declared.sheet.Test.{Test}
 use Rattle.tc_model.specs.declared.tree.Name.{Name}
 use Rattle.tc_rules.specs.Classes.{fits_of, AreClasses}
 use Rattle.tc_rules.specs.Once.{put_once, put_all}
-use Rattle.tc_rules.specs.Seen.{predicates}
+use Rattle.tc_rules.specs.Views.{predicates}
 use Rattle.tc_rules.specs.Steps.{passes_name, steps_fit, path_fits}
 use Rattle.tc_rules.proofs.Numbering.{put_joined}
 use Rattle.tc_rules.proofs.RowSteps.{map_push}

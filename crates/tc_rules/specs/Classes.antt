@@ -1,7 +1,7 @@
 -- The classes of symbols that the steps of a path can't tell apart.
 use Rattle.std.specs.Prelude.{◌≡◌, ℕ, ◌^◌, List, [], length, map, get_or, nat_eq, Option, Some}
 use Rattle.std.specs.Borrow.{Bor}
-use Rattle.tc_model.specs.Seen as see
+use Rattle.tc_model.specs.Views as see
 use Rattle.tc_model.specs.Sheets.{Path}
 use Rattle.tc_model.specs.Symbols.{Mention, symbol_count, fresh_name}
 use Rattle.tc_model.specs.Numbered.{numbers_below}

@@ -1,17 +1,17 @@
 -- What rules keep, and what they tell.
 use Rattle.std.specs.Prelude.{◌≡◌, ℕ, suc, ◌+◌, ◌<◌, List, [], ◌∷◌, length, map, take, Some, slice_get, nat_eq, if◌then◌else◌}
-use Rattle.tc_model.specs.Seen as see
+use Rattle.tc_model.specs.Views as see
 use Rattle.tc_model.specs.Symbols.{Mention}
 use Rattle.tc_model.specs.Numberings.{moves_of, looks_of}
 use Rattle.tc_model.specs.Sheets.{Rule}
 use Rattle.tc_rules.specs.Graphs.{Graph}
 use Rattle.tc_rules.specs.Rows.{graph, graphs}
 use Rattle.tc_rules.specs.Jobs.{AreJobs}
-use Rattle.tc_rules.specs.Seen as seen
-use Rattle.tc_rules.specs.Told.{Told, IsTold, count_states}
+use Rattle.tc_rules.specs.Views as seen
+use Rattle.tc_rules.specs.RulesView.{RulesView, IsTold, count_states}
 use Rattle.tc_rules.specs.declared.rules.Rules.{Rules}
 
-abbrev pub told : Rules → Told
+abbrev pub told : Rules → RulesView
 told r = record {
   sheet = see.sheet r.sheet;
   predicates = seen.predicates r.predicates.items;

@@ -1,7 +1,7 @@
 pub mod Covered
 pub mod States
-pub mod Seen
-pub mod Told
+pub mod Views
+pub mod RulesView
 pub mod Once
 pub mod Graphs
 pub mod Rows

@@ -3,7 +3,7 @@ use Rattle.std.specs.Prelude.{◌≡◌, ◌⊎◌, ℕ, List, ◌∷◌, true, 
 use Rattle.tc_model.specs.Trees.{Trees, none}
 use Rattle.tc_model.specs.Chains.{Tree, Chain, top, under}
 use Rattle.tc_model.specs.Grammars.{Grammar}
-use Rattle.tc_model.specs.Sheets.{Path, Test, Rule, Plain, Sheet}
+use Rattle.tc_model.specs.Sheets.{Path, Test, Rule, CallFreeBody, Sheet}
 use Rattle.tc_model.specs.Paths.{any_along, fits}
 use Rattle.tc_model.specs.Meaning.{rule_of}
 use Rattle.tc_model.specs.Machine.{picks, IsMachineOf, IsSteady}
@@ -12,7 +12,7 @@ use Rattle.tc_model.specs.Letters.{IsLetter, letter_of}
 use Rattle.tc_model.specs.PathStates.{State, is_empty_state, first_state, next_state, is_hit, path_of_rules}
 use Rattle.tc_model.specs.RuleStates.{IsRuleOf, fits_below}
 use Rattle.tc_model.specs.Numberings.{Move, moves_of, looks_of, predicates_of}
-use Rattle.tc_rules.specs.States.{AllUnfold, states}
+use Rattle.tc_rules.specs.States.{AllInline, states}
 
 -- each tree has a letter
 abbrev pub TreesHaveLetters : Type 0
@@ -58,5 +58,5 @@ RootsRule = (x : Sheet) (m : ℕ) (doc : Trees) (o : Option ℕ) → IsRuleOf x.
 -- the machine of path states tells what a stylesheet means, and keeps to its own states
 abbrev pub StatesTell : Type 0
 StatesTell =
-    (input output : Grammar) (x : Sheet) (bodies : List Plain) → AllUnfold x.named x.rules bodies
+    (input output : Grammar) (x : Sheet) (bodies : List CallFreeBody) → AllInline x.named x.rules bodies
     → IsMachineOf (states (symbols_of input output x) (predicates_of x) x.rules bodies) x.rules x.named × IsSteady (states (symbols_of input output x) (predicates_of x) x.rules bodies)

@@ -7,7 +7,7 @@ use Rattle.tc_model.specs.Numberings.{rounds, letters_of_elements}
 use Rattle.tc_model.specs.PathStates.{State, first_state, next_state}
 use Rattle.tc_rules.specs.Classes.{IsSourceOf}
 use Rattle.tc_rules.specs.Graphs.{Graph, IsGraphOf}
-use Rattle.tc_rules.specs.Seen.{predicates}
+use Rattle.tc_rules.specs.Views.{predicates}
 use Rattle.tc_model.specs.StateCounts.{all_count, some_item}
 use Rattle.tc_rules.specs.declared.graph.Source.{Source}
 use Rattle.tc_rules.specs.declared.rules.Select.{Select}

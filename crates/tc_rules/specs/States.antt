@@ -2,10 +2,10 @@
 use Rattle.std.specs.Prelude.{ℕ, suc, List, [], ◌∷◌, Bool, ◌&&◌, nat_eq, int_lt, Option, None, Some, slice_get, if◌then◌else◌}
 use Rattle.tc_model.specs.Trees.{none}
 use Rattle.tc_model.specs.Chains.{top}
-use Rattle.tc_model.specs.Sheets.{Path, Test, Body, Rule, Plain, p_done, p_apply, p_self, Unfolds}
+use Rattle.tc_model.specs.Sheets.{Path, Test, Body, Rule, CallFreeBody, p_done, p_apply, p_self, Inlines}
 use Rattle.tc_model.specs.Paths.{fits}
 use Rattle.tc_model.specs.Meaning.{all_children}
-use Rattle.tc_model.specs.Machine.{Task, in_mode, in_body, known_task, Machine}
+use Rattle.tc_model.specs.Machine.{CallFreeJob, in_mode, in_body, known_task, Machine}
 use Rattle.tc_model.specs.Symbols.{Mention}
 use Rattle.tc_model.specs.Letters.{Kind, of_symbol, of_text, Letter, letter_of}
 use Rattle.tc_model.specs.PathStates.{State, first_state, next_state, is_hit, path_of_rules}
@@ -27,28 +27,28 @@ chosen [] m f = None
 chosen (r ∷ rs) m f = before_chosen (nat_eq r.mode m && f 0 r) r (chosen rs m (λ i q. f (suc i) q))
 
 -- each body has the bodies that it calls in place
-abbrev pub AllUnfold : List Body → List Rule → List Plain → Type 0
-AllUnfold named [] [] = Unit {0}
-AllUnfold named [] (p ∷ ps) = ⊥
-AllUnfold named (r ∷ rs) [] = ⊥
-AllUnfold named (r ∷ rs) (p ∷ ps) = Unfolds named r.body p × AllUnfold named rs ps
+abbrev pub AllInline : List Body → List Rule → List CallFreeBody → Type 0
+AllInline named [] [] = Unit {0}
+AllInline named [] (p ∷ ps) = ⊥
+AllInline named (r ∷ rs) [] = ⊥
+AllInline named (r ∷ rs) (p ∷ ps) = Inlines named r.body p × AllInline named rs ps
 
-abbrev pub or_plain : Plain → Option Plain → Plain
+abbrev pub or_plain : CallFreeBody → Option CallFreeBody → CallFreeBody
 or_plain b None = b
 or_plain b (Some p) = p
 
 -- the body of a rule that was chosen, or else a built-in one
-abbrev pub plain_of : List Plain → Plain → Option Chosen → Plain
+abbrev pub plain_of : List CallFreeBody → CallFreeBody → Option Chosen → CallFreeBody
 plain_of bodies b None = b
 plain_of bodies b (Some x) = or_plain b (slice_get bodies x.number)
 
-abbrev pub built_in_at : ℕ → Kind → Plain
+abbrev pub built_in_at : ℕ → Kind → CallFreeBody
 built_in_at m (of_symbol k) = p_apply all_children m p_done
 built_in_at m of_text = p_self p_done
 
 -- a state of a move, and one of a look
 pub record Going : Type 0 where
-  pub task : Task
+  pub task : CallFreeJob
   pub path : Path
   pub state : State
 
@@ -56,12 +56,12 @@ pub record Looking : Type 0 where
   pub path : Path
   pub state : State
 
-module _ (symbols : List Mention) (predicates : List Test) (rules : List Rule) (bodies : List Plain) where
-  abbrev pub body_by : Task → State → Letter → Plain
+module _ (symbols : List Mention) (predicates : List Test) (rules : List Rule) (bodies : List CallFreeBody) where
+  abbrev pub body_by : CallFreeJob → State → Letter → CallFreeBody
   body_by (in_mode m) q l = plain_of bodies (built_in_at m l.kind) (chosen rules m (fits_below symbols predicates q l))
   body_by (in_body p) q l = p
 
-  abbrev pub body_of_root : Task → Plain
+  abbrev pub body_of_root : CallFreeJob → CallFreeBody
   body_of_root (in_mode m) = plain_of bodies (p_apply all_children m p_done) (chosen rules m (λ i r. fits r.pattern (top none)))
   body_of_root (in_body p) = p
 

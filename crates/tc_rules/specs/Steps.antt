@@ -5,12 +5,12 @@ use Rattle.tc_model.specs.Trees.{none}
 use Rattle.tc_model.specs.Chains.{an_element, a_text, Tree}
 use Rattle.tc_model.specs.Sheets.{NodeTest, Steps, no_step, step, Path, no_alternative, alternative}
 use Rattle.tc_model.specs.Paths.{passes}
-use Rattle.tc_model.specs.Seen as see
+use Rattle.tc_model.specs.Views as see
 use Rattle.tc_model.specs.Letters.{is_marked}
 use Rattle.tc_model.specs.PathStates.{Items, State, first_items, no_items}
 use Rattle.tc_model.specs.declared.tree.Name.{Name}
 use Rattle.tc_model.specs.declared.sheet.Test.{Test}
-use Rattle.tc_rules.specs.Seen.{predicates}
+use Rattle.tc_rules.specs.Views.{predicates}
 use Rattle.tc_rules.specs.declared.rows.Letter.{Letter}
 
 -- an element of this name, or a text

@@ -4,7 +4,7 @@ ghost use Rattle.tc_model.specs.Meaning.{all_children};
 ghost use Rattle.tc_model.specs.Numbered.{numbers_below};
 ghost use Rattle.tc_model.specs.Numberings as n;
 ghost use Rattle.tc_model.specs.PathStates.{path_of_rules, steps_of};
-ghost use Rattle.tc_model.specs.Seen as see;
+ghost use Rattle.tc_model.specs.Views as see;
 ghost use Rattle.tc_model.specs.Symbols.{fresh_name, symbol_count};
 ghost use Rattle.tc_model.specs.WellFormed.{IsSheet, ForEach, eaches_of};
 ghost use Rattle.tc_rules.specs.Eaches.{bodies_in, bodies_of_eaches};
@@ -12,7 +12,7 @@ ghost use Rattle.tc_rules.specs.Gathered.{built_in_moves, numbers, bodies as see
 ghost use Rattle.tc_rules.specs.Jobs.{AreJobs, written_moves};
 ghost use Rattle.tc_rules.specs.Kept.{numbers_in_mode};
 ghost use Rattle.tc_rules.specs.Once.{predicates_of_rules};
-ghost use Rattle.tc_rules.specs.Seen.{eaches, predicates, looks, moves};
+ghost use Rattle.tc_rules.specs.Views.{eaches, predicates, looks, moves};
 
 use crate::once::{looks_once, moves_once, predicates_once};
 use crate::walk::{

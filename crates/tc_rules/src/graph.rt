@@ -7,14 +7,14 @@ ghost use Rattle.tc_model.specs.Numberings as n;
 ghost use Rattle.tc_model.specs.Numbered.{numbers_below};
 ghost use Rattle.tc_model.specs.PathStates as p;
 ghost use Rattle.tc_model.specs.PathStates.{State, same_state, first_state};
-ghost use Rattle.tc_model.specs.Seen as see;
+ghost use Rattle.tc_model.specs.Views as see;
 ghost use Rattle.tc_model.specs.Symbols.{Mention};
 ghost use Rattle.tc_rules.specs.Classes.{fits_of, AreClasses, IsSourceOf};
 ghost use Rattle.tc_rules.specs.Graphs.{class_of, fits_at, kind_at, next_at, IsGraphOf};
 ghost use Rattle.tc_rules.specs.Once.{put_once, put_all};
 ghost use Rattle.tc_rules.specs.Reached.{counted, leads_by, leads_of, rounds, number_in, numbers_by, all_numbers_by, AreReached};
 ghost use Rattle.tc_rules.specs.Rows as seen;
-ghost use Rattle.tc_rules.specs.Seen.{predicates};
+ghost use Rattle.tc_rules.specs.Views.{predicates};
 ghost use Rattle.tc_rules.specs.Steps.{path_fits, next_state, some_ends, ends_at};
 
 use crate::rows::{Letter, Row, first_row, letter_fits, next_row};

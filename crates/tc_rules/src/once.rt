@@ -4,11 +4,11 @@ ghost use Rattle.std.specs.List.{list_any};
 ghost use Rattle.tc_model.specs.Numbered.{each_once, number_of};
 ghost use Rattle.tc_model.specs.Numberings.{same_move};
 ghost use Rattle.tc_model.specs.SameTests as same;
-ghost use Rattle.tc_model.specs.Seen as see;
+ghost use Rattle.tc_model.specs.Views as see;
 ghost use Rattle.tc_model.specs.Sheets as s;
 ghost use Rattle.tc_rules.specs.Jobs.{AreJobs, IsJob};
 ghost use Rattle.tc_rules.specs.Once.{put_once};
-ghost use Rattle.tc_rules.specs.Seen.{predicates, looks, moves, move as see_move, mode_of};
+ghost use Rattle.tc_rules.specs.Views.{predicates, looks, moves, move as see_move, mode_of};
 
 use crate::same::{same_path, same_test};
 use crate::walk::{Job, Move};

@@ -3,10 +3,10 @@ ghost use Rattle.std.specs.Prelude.{◌≡◌, ◌&&◌, ◌||◌, [], false, No
 ghost use Rattle.std.specs.List.{list_any};
 ghost use Rattle.tc_model.specs.Letters as l;
 ghost use Rattle.tc_model.specs.PathStates as p;
-ghost use Rattle.tc_model.specs.Seen as see;
+ghost use Rattle.tc_model.specs.Views as see;
 ghost use Rattle.tc_rules.specs.Rows.{state};
 ghost use Rattle.tc_rules.specs.Steps as v;
-ghost use Rattle.tc_rules.specs.Seen.{predicates};
+ghost use Rattle.tc_rules.specs.Views.{predicates};
 
 use crate::once::number_of_test;
 use std::alloc::Global;

@@ -7,7 +7,7 @@ ghost use Rattle.tc_model.specs.Numberings as n;
 ghost use Rattle.tc_model.specs.PathStates.{State, first_state, is_empty_state, path_of_rules};
 ghost use Rattle.tc_model.specs.Paths as paths;
 ghost use Rattle.tc_model.specs.RuleStates.{IsRuleOf, fits_below};
-ghost use Rattle.tc_model.specs.Seen as see;
+ghost use Rattle.tc_model.specs.Views as see;
 ghost use Rattle.tc_model.specs.Sheets as s;
 ghost use Rattle.tc_model.specs.Symbols.{Mention};
 ghost use Rattle.tc_model.specs.Trees.{none};
@@ -22,9 +22,9 @@ ghost use Rattle.tc_rules.specs.Faults.{IsCause};
 ghost use Rattle.tc_model.specs.StateCounts.{PassNone};
 ghost use Rattle.tc_rules.specs.Jobs.{IsJob};
 ghost use Rattle.tc_rules.specs.Kept.{IsRulesOf, told};
-ghost use Rattle.tc_rules.specs.Seen.{mode_of, predicates, looks as see_paths};
-ghost use Rattle.tc_rules.specs.Told.{AreSymbolsWith, count_states, IsStateOf, ancestor, ancestor_below, is_hit_of, move_count, select_below, select_count};
-ghost use Rattle.tc_model.specs.StateCounts.{all_count, some_item, Block};
+ghost use Rattle.tc_rules.specs.Views.{mode_of, predicates, looks as see_paths};
+ghost use Rattle.tc_rules.specs.RulesView.{AreSymbolsWith, count_states, IsStateOf, ancestor, ancestor_below, is_hit_of, move_count, select_below, select_count};
+ghost use Rattle.tc_model.specs.StateCounts.{all_count, some_item, PathUse};
 
 use crate::gather::{
     all_eaches, all_looks, all_moves, all_predicates, modes_of_rules, names_of, paths_of_rules,
@@ -253,7 +253,7 @@ impl<'b> Rules<'b> {
     /// The select state one element further down, of the same path. There is none where no hit comes any more.
     pub fn sel_step(&self, sel: u32, sym: Sym, marks: Marks) -> Option<u32>
         requires { sel < select_count (told self.now) }
-        ensures { (symbols : List Mention) (b : Block) (x : State) → IsRulesOf symbols self.now → l.IsLetter symbols (n.predicates_of (told self.now).sheet) (letter (Kind.Elem sym) marks) → IsStateOf (told self.now) sel b x → MatchOption result (is_empty_state (select_below symbols (told self.now) b x (letter (Kind.Elem sym) marks)) ≡ true) (λ k. IsStateOf (told self.now) k b (select_below symbols (told self.now) b x (letter (Kind.Elem sym) marks))) }
+        ensures { (symbols : List Mention) (b : PathUse) (x : State) → IsRulesOf symbols self.now → l.IsLetter symbols (n.predicates_of (told self.now).sheet) (letter (Kind.Elem sym) marks) → IsStateOf (told self.now) sel b x → MatchOption result (is_empty_state (select_below symbols (told self.now) b x (letter (Kind.Elem sym) marks)) ≡ true) (λ k. IsStateOf (told self.now) k b (select_below symbols (told self.now) b x (letter (Kind.Elem sym) marks))) }
     {
         let Some(select) = self.select(sel) else {
             return None;
@@ -272,7 +272,7 @@ impl<'b> Rules<'b> {
     /// Whether a node of a letter is a hit of a select state, which is that of the node above it.
     pub fn sel_hits(&self, sel: u32, kind: Kind, marks: Marks) -> bool
         requires { sel < select_count (told self.now) }
-        ensures { (symbols : List Mention) (b : Block) (x : State) → IsRulesOf symbols self.now → l.IsLetter symbols (n.predicates_of (told self.now).sheet) (letter kind marks) → IsStateOf (told self.now) sel b x → result ≡ is_hit_of symbols (told self.now) b x (letter kind marks) }
+        ensures { (symbols : List Mention) (b : PathUse) (x : State) → IsRulesOf symbols self.now → l.IsLetter symbols (n.predicates_of (told self.now).sheet) (letter kind marks) → IsStateOf (told self.now) sel b x → result ≡ is_hit_of symbols (told self.now) b x (letter kind marks) }
     {
         let Some(select) = self.select(sel) else {
             return false;
@@ -305,8 +305,8 @@ impl<'b> Rules<'b> {
     /// What is done on the nodes that a move selects, by a state of it.
     pub fn mode_of(&self, sel: u32) -> Job
         requires { sel < move_count (told self.now) }
-        ensures mode { (symbols : List Mention) (b : Block) (x : State) → IsRulesOf symbols self.now → IsStateOf (told self.now) sel b x → b.mode ≡ Some (mode_of (told self.now).sheet.modes result) }
-        ensures job { (symbols : List Mention) (b : Block) (x : State) → IsRulesOf symbols self.now → IsStateOf (told self.now) sel b x → IsJob (told self.now).sheet result }
+        ensures mode { (symbols : List Mention) (b : PathUse) (x : State) → IsRulesOf symbols self.now → IsStateOf (told self.now) sel b x → b.mode ≡ Some (mode_of (told self.now).sheet.modes result) }
+        ensures job { (symbols : List Mention) (b : PathUse) (x : State) → IsRulesOf symbols self.now → IsStateOf (told self.now) sel b x → IsJob (told self.now).sheet result }
     {
         let Some(select) = self.select(sel) else {
             return Job::Mode(0);

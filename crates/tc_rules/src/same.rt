@@ -1,6 +1,6 @@
 // Whether two paths, two tests or two node tests are the same.
 ghost use Rattle.std.specs.Prelude.{◌≡◌, ◌&&◌};
-ghost use Rattle.tc_model.specs.Seen as see;
+ghost use Rattle.tc_model.specs.Views as see;
 ghost use Rattle.tc_model.specs.SameTests as same;
 ghost use Rattle.tc_model.specs.Sheets as s;
 

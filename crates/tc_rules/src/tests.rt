@@ -1,5 +1,5 @@
 ghost use Rattle.std.specs.Prelude.{◌≡◌, List, IfOk};
-ghost use Rattle.tc_model.specs.Seen as see;
+ghost use Rattle.tc_model.specs.Views as see;
 ghost use Rattle.tc_model.specs.Symbols.{Mention};
 ghost use Rattle.tc_model.specs.WellFormed.{IsSheet};
 ghost use Rattle.tc_rules.specs.Kept.{IsRulesOf, told};

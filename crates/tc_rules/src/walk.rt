@@ -1,10 +1,10 @@
 // The predicates, the moves and the looks of a stylesheet, in its order.
 ghost use Rattle.std.specs.Prelude.{◌≡◌, ◌++◌, ◌∷◌, ℕ, [], OnOk};
 ghost use Rattle.tc_model.specs.Numberings as n;
-ghost use Rattle.tc_model.specs.Seen as see;
+ghost use Rattle.tc_model.specs.Views as see;
 ghost use Rattle.tc_model.specs.Sheets as s;
 ghost use Rattle.tc_rules.specs.Eaches.{bodies_in, bodies_in_branches};
-ghost use Rattle.tc_rules.specs.Seen.{eaches, predicates, looks, moves, mode_of};
+ghost use Rattle.tc_rules.specs.Views.{eaches, predicates, looks, moves, mode_of};
 
 use tc_base::NoMemory;
 use tc_model::{Branch, Instr, Path, Pattern, Step, Test};

@@ -5,9 +5,9 @@ use Rattle.tc_model.specs.Chains.{an_element, Node, whole, one, children}
 use Rattle.tc_model.specs.Machine.{in_mode, does_in, outputs, first_hit}
 use Rattle.tc_model.specs.Meaning.{all_children, value_of_first}
 use Rattle.tc_model.specs.Outcomes.{Outcome, within, put, put_around, copied}
-use Rattle.tc_model.specs.Seen as see
-use Rattle.tc_model.specs.Seen.{name}
-use Rattle.tc_model.specs.Sheets.{Path, Body, no_instruction, put_text, put_element, copy, apply, call, for_each, value, value_of_self, choose, Plain, Unfolds, u_text, u_element, u_copy, u_apply, u_call, u_value, u_self, u_choose, u_each}
+use Rattle.tc_model.specs.Views as see
+use Rattle.tc_model.specs.Views.{name}
+use Rattle.tc_model.specs.Sheets.{Path, Body, no_instruction, put_text, put_element, copy, apply, call, for_each, value, value_of_self, choose, CallFreeBody, Inlines, u_text, u_element, u_copy, u_apply, u_call, u_value, u_self, u_choose, u_each}
 use Rattle.tc_model.specs.Trees.{Trees}
 use Rattle.tc_model.specs.declared.tree.Name.{Name}
 use Rattle.tc_model.specs.declared.sheet.Branch.{Branch}
@@ -16,10 +16,10 @@ use Rattle.tc_model.specs.declared.sheet.Instr.TheOpen as parts
 use Rattle.tc_model.specs.declared.sheet.Instr.TheVariants as v
 use Rattle.tc_model.specs.declared.sheet.Instr.TheViews.{roll-Instr, out-Instr, roll-out-Instr}
 use Rattle.tc_model.proofs.TotalJoin.{join_none}
-use Rattle.tc_rules.specs.Told.{ancestor}
+use Rattle.tc_rules.specs.RulesView.{ancestor}
 use Rattle.tc_run.specs.Lettered.{bare}
 use Rattle.tc_run.specs.Running.{told_by, symbols_by, predicates_by, sheet_by, machine, looking}
-use Rattle.tc_run.specs.Seen.{trees, node, node_of}
+use Rattle.tc_run.specs.Views.{trees, node, node_of}
 use Rattle.tc_run.specs.Tasks.{built_in, does, outputs_on, going_from, looking_from}
 use Rattle.tc_run.specs.declared.bodies.Here.{Here}
 use Rattle.tc_run.specs.declared.bodies.Shape.{Shape}
@@ -29,7 +29,7 @@ use Rattle.tc_run.proofs.Instructions.{text_seen, self_seen, elem_seen, copy_see
 use Rattle.tc_run.proofs.FirstHits.{Answered, answered_none, answered_value}
 use Rattle.tc_run.proofs.Looking.{first_alike}
 
-module _ (r : Runner) (bodies : List Plain) (mode : ℕ) where
+module _ (r : Runner) (bodies : List CallFreeBody) (mode : ℕ) where
   abbrev by_built_in : ℕ → Node → Outcome
   by_built_in above n = does_in (machine r bodies) (built_in mode n) n (λ i u. outputs (machine r bodies) (children n) i (ancestor (told_by r) above) u)
 
@@ -75,8 +75,8 @@ seen_by (parts.ForEach n p b) = subst HasOne (sym (for_each_seen (roll-Instr (pa
 is_seen : (i : Instr) → IsSeen i
 is_seen i = subst IsSeen (roll-out-Instr i) (seen_by (out-Instr i))
 
-module _ (r : Runner) (bodies : List Plain) (h : Here) (named : List Body) where
-  deep : (b : Body) (p : Plain) → HasOne b → Unfolds named b p → 1 ≤ (does r bodies p h).nesting
+module _ (r : Runner) (bodies : List CallFreeBody) (h : Here) (named : List Body) where
+  deep : (b : Body) (p : CallFreeBody) → HasOne b → Inlines named b p → 1 ≤ (does r bodies p h).nesting
   deep no_instruction p k u = absurd k
   deep (put_text x b) p k (u_text u) = omega arith
   deep (put_element n i b) p k (u_element w u) = omega arith
@@ -89,7 +89,7 @@ module _ (r : Runner) (bodies : List Plain) (h : Here) (named : List Body) where
   deep (for_each e q i b) p k (u_each w u) = omega arith
 
   -- an instruction stands within a body
-  pub one_deep : (i : Instr) (p : Plain) → Unfolds named (see.instruction i no_instruction) p → 1 ≤ (does r bodies p h).nesting
+  pub one_deep : (i : Instr) (p : CallFreeBody) → Inlines named (see.instruction i no_instruction) p → 1 ≤ (does r bodies p h).nesting
   one_deep i p u = deep (see.instruction i no_instruction) p (is_seen i) u
 
   -- the value of the node that a look selects first

@@ -6,8 +6,8 @@ use Rattle.tc_model.specs.Numberings.{Move, moves_of, looks_of}
 use Rattle.tc_model.specs.PathStates.{State}
 use Rattle.tc_rules.specs.Graphs.{Graph}
 use Rattle.tc_rules.proofs.SelectStates.{count_cons}
-use Rattle.tc_rules.specs.Told.{Told, count_states, select_count, move_count, IsStateOf}
-use Rattle.tc_model.specs.StateCounts.{Block}
+use Rattle.tc_rules.specs.RulesView.{RulesView, count_states, select_count, move_count, IsStateOf}
+use Rattle.tc_model.specs.StateCounts.{PathUse}
 use Rattle.tc_run.specs.Tasks.{IsSomeMove, IsSomeLook}
 
 -- the states of a graph are among all
@@ -29,39 +29,39 @@ counted_first (h ∷ gs) (suc n) zero g l e =
     omega (arith, same, all)
 counted_first (h ∷ gs) (suc n) (suc i) g l e = omega (arith, counted_first gs n i g (omega (arith, l)) e, count_cons h (take i gs), count_cons h (take n gs))
 
-abbrev of_move : Move → Block
+abbrev of_move : Move → PathUse
 of_move m = record { path = m.path; mode = Some m.mode }
 
-abbrev of_look : Path → Block
+abbrev of_look : Path → PathUse
 of_look p = record { path = p; mode = None }
 
-look_has_none : (ps : List Path) (i : ℕ) (b : Block) → slice_get (map of_look ps) i ≡ Some b → b.mode ≡ None
+look_has_none : (ps : List Path) (i : ℕ) (b : PathUse) → slice_get (map of_look ps) i ≡ Some b → b.mode ≡ None
 look_has_none [] i b e = absurd (cc)
-look_has_none (p ∷ ps) zero b e = ap (λ (x : Block). x.mode) (sym (same_Some _ _ e))
+look_has_none (p ∷ ps) zero b e = ap (λ (x : PathUse). x.mode) (sym (same_Some _ _ e))
 look_has_none (p ∷ ps) (suc i) b e = look_has_none ps i b e
 
 -- moves come first
-move_before : (ms : List Move) (ps : List Path) (i m : ℕ) (b : Block) → slice_get (map of_move ms ++ map of_look ps) i ≡ Some b → b.mode ≡ Some m → i < length ms
+move_before : (ms : List Move) (ps : List Path) (i m : ℕ) (b : PathUse) → slice_get (map of_move ms ++ map of_look ps) i ≡ Some b → b.mode ≡ Some m → i < length ms
 move_before [] ps i m b e f = absurd (let g = look_has_none ps i b e in cc)
 move_before (x ∷ ms) ps zero m b e f = omega arith
 move_before (x ∷ ms) ps (suc i) m b e f = omega (arith, move_before ms ps i m b e f)
 
-pub state_counted : (t : Told) (k : ℕ) (b : Block) (x : State) → IsStateOf t k b x → k < select_count t
+pub state_counted : (t : RulesView) (k : ℕ) (b : PathUse) (x : State) → IsStateOf t k b x → k < select_count t
 state_counted t k b x h =
     let number_low : h.number < length h.graph.states = slice_get_within h.graph.states h.number x h.state in
     omega (arith, h.number_is, number_low, counted_all t.selects h.place h.graph h.graph_is)
 
-pub move_counted : (t : Told) (k m : ℕ) (p : Path) (x : State) → IsStateOf t k (record { path = p; mode = Some m }) x → k < move_count t
+pub move_counted : (t : RulesView) (k m : ℕ) (p : Path) (x : State) → IsStateOf t k (record { path = p; mode = Some m }) x → k < move_count t
 move_counted t k m p x h =
     let number_low : h.number < length h.graph.states = slice_get_within h.graph.states h.number x h.state in
     let first : h.place < length (moves_of t.sheet) = move_before (moves_of t.sheet) (looks_of t.sheet) h.place m (record { path = p; mode = Some m }) h.block refl in
     omega (arith, h.number_is, number_low, counted_first t.selects (length (moves_of t.sheet)) h.place h.graph first h.graph_is)
 
-pub some_move_low : (t : Told) (k : ℕ) → IsSomeMove t k → k < move_count t
+pub some_move_low : (t : RulesView) (k : ℕ) → IsSomeMove t k → k < move_count t
 some_move_low t k h = move_counted t k h.mode h.path h.state h.at
 
-pub some_move_counted : (t : Told) (k : ℕ) → IsSomeMove t k → k < select_count t
+pub some_move_counted : (t : RulesView) (k : ℕ) → IsSomeMove t k → k < select_count t
 some_move_counted t k h = state_counted t k (record { path = h.path; mode = Some h.mode }) h.state h.at
 
-pub some_look_counted : (t : Told) (k : ℕ) → IsSomeLook t k → k < select_count t
+pub some_look_counted : (t : RulesView) (k : ℕ) → IsSomeLook t k → k < select_count t
 some_look_counted t k h = state_counted t k (record { path = h.path; mode = None }) h.state h.at

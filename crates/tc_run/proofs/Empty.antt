@@ -2,9 +2,9 @@
 use Rattle.std.proofs.Common.{◌≡◌, List, [], refl, ap, ◌∙◌, Bool, true, false, cond, Option, Some, None}
 use Rattle.tc_model.specs.Trees.{Trees, none, text, element}
 use Rattle.tc_model.specs.Chains.{an_element, a_text, Node, one}
-use Rattle.tc_model.specs.Sheets.{Test, Rule, Plain}
+use Rattle.tc_model.specs.Sheets.{Test, Rule, CallFreeBody}
 use Rattle.tc_model.specs.Outcomes.{Outcome, nothing, join}
-use Rattle.tc_model.specs.Machine.{Task, or_else, first_hit, outputs}
+use Rattle.tc_model.specs.Machine.{CallFreeJob, or_else, first_hit, outputs}
 use Rattle.tc_model.specs.Symbols.{Mention}
 use Rattle.tc_model.specs.PathStates.{State, is_empty_state}
 use Rattle.tc_rules.specs.States.{Going, Looking, states}
@@ -34,8 +34,8 @@ module _ (symbols : List Mention) (predicates : List Test) where
   none_beside true x z e g = cc
   none_beside false x z e g = ap (join nothing) g
 
-  module _ (rules : List Rule) (bodies : List Plain) where
-    pub outputs_none : (h : Trees) (j : Task) (q : State) (g : Going) → is_empty_state g.state ≡ true → outputs (states symbols predicates rules bodies) h j q g ≡ nothing
+  module _ (rules : List Rule) (bodies : List CallFreeBody) where
+    pub outputs_none : (h : Trees) (j : CallFreeJob) (q : State) (g : Going) → is_empty_state g.state ≡ true → outputs (states symbols predicates rules bodies) h j q g ≡ nothing
     outputs_none none j q g e = refl
     outputs_none (text x rest) j q g e =
         let m = states symbols predicates rules bodies in

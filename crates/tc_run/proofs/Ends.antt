@@ -4,8 +4,8 @@ use Rattle.std.proofs.lemmas.List.{drop_all}
 use Rattle.std.specs.Prelude.{OnOk, IfErr}
 use Rattle.tc_model.specs.Names.{ExpandedName}
 use Rattle.tc_model.specs.Outcomes.{Outcome, join, put_around}
-use Rattle.tc_model.specs.Seen as see
-use Rattle.tc_model.specs.Sheets.{Body, no_instruction, Plain, p_done, Unfolds, u_done}
+use Rattle.tc_model.specs.Views as see
+use Rattle.tc_model.specs.Sheets.{Body, no_instruction, CallFreeBody, p_done, Inlines, u_done}
 use Rattle.tc_model.specs.Trees.{none, element, beside}
 use Rattle.tc_model.specs.declared.sheet.Instr.{Instr}
 use Rattle.tc_model.specs.declared.tree.Node.{Node}
@@ -21,16 +21,16 @@ use Rattle.tc_run.specs.declared.runner.Runner.{Runner}
 use Rattle.tc_run.proofs.Progress.{BodySoFar}
 use Rattle.tc_run.proofs.Putting.{spends_around}
 
-done_is : (named : List Body) (p : Plain) → Unfolds named no_instruction p → p ≡ p_done
+done_is : (named : List Body) (p : CallFreeBody) → Inlines named no_instruction p → p ≡ p_done
 done_is named p u_done = refl
 
 pub no_instruction_left : (is : List Instr) (k : ℕ) → length is ≤ k → see.body (drop k is) ≡ no_instruction
 no_instruction_left is k h = ap see.body (drop_all k is h)
 
-module _ (r : Runner) (bodies : List Plain) (h : Here) (nesting : ℕ) (p : Plain) where
+module _ (r : Runner) (bodies : List CallFreeBody) (h : Here) (nesting : ℕ) (p : CallFreeBody) where
   pub body_end : (old now : Output) (left : Body) → left ≡ no_instruction → BodySoFar r bodies h nesting old now p left → Spends nesting old now (does r bodies p h)
   body_end old now left empty s =
-      let e : s.rest ≡ p_done = done_is (sheet_by r).named s.rest (subst (λ b. Unfolds (sheet_by r).named b s.rest) empty s.of_rest) in
+      let e : s.rest ≡ p_done = done_is (sheet_by r).named s.rest (subst (λ b. Inlines (sheet_by r).named b s.rest) empty s.of_rest) in
       subst (Spends nesting old now) (sym (s.whole ∙ (ap (λ w. join s.done (does r bodies w h)) e ∙ join_none s.done))) s.spent
 
 -- going back outside an element

@@ -5,7 +5,7 @@ use Rattle.tc_model.specs.Letters.{letter_of, IsLetter}
 use Rattle.tc_model.specs.Machine.{or_else, first_hit}
 use Rattle.tc_model.specs.Meaning.{value_of_first}
 use Rattle.tc_model.specs.PathStates.{is_empty_state, first_state}
-use Rattle.tc_model.specs.Seen.{name}
+use Rattle.tc_model.specs.Views.{name}
 use Rattle.tc_model.specs.Sheets.{Path, no_alternative}
 use Rattle.tc_model.specs.Trees as t
 use Rattle.tc_model.specs.declared.tree.Name.{Name}
@@ -17,7 +17,7 @@ use Rattle.tc_rules.proofs.PathTold.{trees_have_letters}
 use Rattle.tc_run.specs.Lettered as l
 use Rattle.tc_run.specs.Lettered.{bare}
 use Rattle.tc_run.specs.Running.{IsLetteredBy, symbols_by, predicates_by, looking}
-use Rattle.tc_run.specs.Seen.{before, trees}
+use Rattle.tc_run.specs.Views.{before, trees}
 use Rattle.tc_run.specs.Tasks.{looking_from}
 use Rattle.tc_run.specs.declared.letters.Letter.{Letter as LetterOf}
 use Rattle.tc_run.specs.declared.letters.Lettered.{Lettered, Elem, Text}

@@ -1,7 +1,7 @@
 -- What a call hands on of what the calls inside it answer.
 use Rattle.std.proofs.Common.{◌≡◌, ℕ, ◌+◌, ◌<◌, ◌≤◌, ap, sym, subst, Result, Ok, Err, arith}
 use Rattle.std.specs.Prelude.{IsErrAnd}
-use Rattle.tc_model.specs.Seen.{trees}
+use Rattle.tc_model.specs.Views.{trees}
 use Rattle.tc_model.specs.Outcomes.{Outcome, within, counted}
 use Rattle.tc_run.specs.Spent.{Answers}
 use Rattle.tc_run.specs.declared.RunFault.{RunFault}

@@ -2,7 +2,7 @@
 use Rattle.std.proofs.Common.{ℕ, zero, suc, ◌≤◌, List, [], ◌∷◌, sym, subst, drop, arith}
 use Rattle.tc_run.specs.Lettered as l
 use Rattle.tc_run.specs.Lettered.{bare}
-use Rattle.tc_run.specs.Seen.{before, trees}
+use Rattle.tc_run.specs.Views.{before, trees}
 use Rattle.tc_run.specs.declared.letters.Lettered.{Lettered, Lettered-F}
 use Rattle.tc_run.specs.declared.letters.Lettered.TheOpen as parts
 use Rattle.tc_run.specs.declared.letters.Lettered.TheVariants.{rolls-Elem, rolls-Text}

@@ -4,25 +4,25 @@ use Rattle.std.proofs.lemmas.Option.{same_Some}
 use Rattle.std.proofs.lemmas.List.{drop_all}
 use Rattle.tc_model.specs.Chains.{Tree, an_element, a_text, one}
 use Rattle.tc_model.specs.Letters.{Letter, letter_of, IsLetter, of_symbol}
-use Rattle.tc_model.specs.Machine.{Task, does_in}
+use Rattle.tc_model.specs.Machine.{CallFreeJob, does_in}
 use Rattle.tc_model.specs.Names.{ExpandedName}
 use Rattle.tc_model.specs.Outcomes.{Outcome, nothing, join, counted}
 use Rattle.tc_model.specs.PathStates.{State, first_state}
-use Rattle.tc_model.specs.Sheets.{Path, Plain}
+use Rattle.tc_model.specs.Sheets.{Path, CallFreeBody}
 use Rattle.tc_model.specs.Symbols.{Mention}
 use Rattle.tc_model.specs.Trees as t
 use Rattle.tc_model.proofs.TotalJoin.{join_none}
 use Rattle.tc_rules.specs.Kept.{IsRulesOf}
-use Rattle.tc_rules.specs.Seen.{mode_of}
+use Rattle.tc_rules.specs.Views.{mode_of}
 use Rattle.tc_rules.specs.States.{Going, built_in_at}
-use Rattle.tc_rules.specs.Told.{IsStateOf, ancestor, is_hit_of, select_below}
-use Rattle.tc_model.specs.StateCounts.{Block}
+use Rattle.tc_rules.specs.RulesView.{IsStateOf, ancestor, is_hit_of, select_below}
+use Rattle.tc_model.specs.StateCounts.{PathUse}
 use Rattle.tc_rules.specs.declared.walk.Job.{Job}
 use Rattle.tc_rules.proofs.PathTold.{trees_have_letters}
 use Rattle.tc_run.specs.Lettered as l
 use Rattle.tc_run.specs.Lettered.{bare}
 use Rattle.tc_run.specs.Running.{IsRunner, told_by, sheet_by, symbols_by, predicates_by, machine}
-use Rattle.tc_run.specs.Seen.{before, trees, node}
+use Rattle.tc_run.specs.Views.{before, trees, node}
 use Rattle.tc_run.specs.Spent.{Spends}
 use Rattle.tc_run.specs.Tasks.{IsTaskOf, IsMoveAt, IsSomeMove, built_in, does, outputs_on, going_from}
 use Rattle.tc_run.specs.declared.bodies.Here.{Here}
@@ -41,37 +41,37 @@ module _ (r : Runner) where
 
   -- the job and the task of a state of a move
   pub task_is : (k : ℕ) (g : Going) (job : Job) → (at : IsMoveAt (told_by r) k g)
-      → ((symbols : List Mention) (b : Block) (x : State) → IsRulesOf symbols r.rules.now → IsStateOf (told_by r) k b x → b.mode ≡ Some (mode_of (sheet_by r).modes job))
+      → ((symbols : List Mention) (b : PathUse) (x : State) → IsRulesOf symbols r.rules.now → IsStateOf (told_by r) k b x → b.mode ≡ Some (mode_of (sheet_by r).modes job))
       → IsRunner r → IsTaskOf (sheet_by r) (mode_of (sheet_by r).modes job) g.task
   task_is k g job at ens is =
       subst (λ m. IsTaskOf (sheet_by r) m g.task) (same_Some _ _ (ens (symbols_by r) (record { path = g.path; mode = Some at.mode }) g.state is at.state)) at.task
 
   -- whether it selects a node
   pub hit_is : (k : ℕ) (g : Going) (x : Letter) (b : Bool) → (at : IsMoveAt (told_by r) k g) → IsRunner r → IsLetter (symbols_by r) (predicates_by r) x
-      → ((symbols : List Mention) (w : Block) (y : State) → IsRulesOf symbols r.rules.now → IsLetter symbols (predicates_by r) x → IsStateOf (told_by r) k w y → b ≡ is_hit_of symbols (told_by r) w y x)
-      → (bodies : List Plain) → b ≡ (machine r bodies).move_hits g x
+      → ((symbols : List Mention) (w : PathUse) (y : State) → IsRulesOf symbols r.rules.now → IsLetter symbols (predicates_by r) x → IsStateOf (told_by r) k w y → b ≡ is_hit_of symbols (told_by r) w y x)
+      → (bodies : List CallFreeBody) → b ≡ (machine r bodies).move_hits g x
   hit_is k g x b at is lx ens bodies = ens (symbols_by r) (record { path = g.path; mode = Some at.mode }) g.state is lx at.state
 
-  pub first_going : (k : ℕ) (p : Path) (mode : ℕ) (j : Task) → IsStateOf (told_by r) k (record { path = p; mode = Some mode }) (first_state p) → IsTaskOf (sheet_by r) mode j
+  pub first_going : (k : ℕ) (p : Path) (mode : ℕ) (j : CallFreeJob) → IsStateOf (told_by r) k (record { path = p; mode = Some mode }) (first_state p) → IsTaskOf (sheet_by r) mode j
       → IsMoveAt (told_by r) k (going_from j p)
   first_going k p mode j s t = record { mode = mode; state = s; task = t }
 
   -- the state below an element
   abbrev IsStep : ℕ → ℕ → Letter → Type 0
   IsStep k below x =
-      (symbols : List Mention) (w : Block) (y : State) → IsRulesOf symbols r.rules.now → IsLetter symbols (predicates_by r) x → IsStateOf (told_by r) k w y
+      (symbols : List Mention) (w : PathUse) (y : State) → IsRulesOf symbols r.rules.now → IsLetter symbols (predicates_by r) x → IsStateOf (told_by r) k w y
       → IsStateOf (told_by r) below w (select_below symbols (told_by r) w y x)
 
   pub move_below : (k below : ℕ) (x : Letter) → IsSomeMove (told_by r) k → IsRunner r → IsLetter (symbols_by r) (predicates_by r) x → IsStep k below x → IsSomeMove (told_by r) below
   move_below k below x s is lx ens =
       record { path = s.path; mode = s.mode; state = _; at = ens (symbols_by r) (record { path = s.path; mode = Some s.mode }) s.state is lx s.at }
 
-  pub going_below : (bodies : List Plain) (k below : ℕ) (g : Going) (x : Letter) → (at : IsMoveAt (told_by r) k g) → IsRunner r → IsLetter (symbols_by r) (predicates_by r) x → IsStep k below x
+  pub going_below : (bodies : List CallFreeBody) (k below : ℕ) (g : Going) (x : Letter) → (at : IsMoveAt (told_by r) k g) → IsRunner r → IsLetter (symbols_by r) (predicates_by r) x → IsStep k below x
       → IsMoveAt (told_by r) below ((machine r bodies).move_step g x)
   going_below bodies k below g x at is lx ens =
       record { mode = at.mode; state = ens (symbols_by r) (record { path = g.path; mode = Some at.mode }) g.state is lx at.state; task = at.task }
 
-  module _ (bodies : List Plain) (above : ℕ) (g : Going) where
+  module _ (bodies : List CallFreeBody) (above : ℕ) (g : Going) where
     -- on a text
     pub text_outs : (s : List ℕ) (x : Letter) (b : Bool) → x ≡ letter_of (symbols_by r) (predicates_by r) (a_text s) → b ≡ (machine r bodies).move_hits g x
         → outputs_on r bodies (t.text s t.none) above g

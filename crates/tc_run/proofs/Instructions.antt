@@ -2,7 +2,7 @@
 use Rattle.std.proofs.Common.{◌≡◌, ℕ, ◌+◌, ◌<◌, List, ap, ◌∙◌, subst, length, Bor}
 use Rattle.std.specs.List.{Contains}
 use Rattle.tc_model.specs.Numberings.{moves_of}
-use Rattle.tc_model.specs.Seen as see
+use Rattle.tc_model.specs.Views as see
 use Rattle.tc_model.specs.Sheets.{Sheet, Body, no_instruction, put_text, put_element, copy, apply, call, for_each, value, value_of_self, choose, otherwise}
 use Rattle.tc_model.specs.WellFormed.{eaches_of}
 use Rattle.tc_model.specs.declared.tree.Name.{Name}

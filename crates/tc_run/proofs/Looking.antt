@@ -3,7 +3,7 @@ use Rattle.std.proofs.Common.{◌≡◌, inl, inr, List, [], ◌∷◌, refl, ap
 use Rattle.std.proofs.lemmas.List.Elements.{All-head, All-tail}
 use Rattle.tc_model.specs.Trees.{Trees, none, text, element}
 use Rattle.tc_model.specs.Chains.{Tree, an_element, top, under, children_of, one}
-use Rattle.tc_model.specs.Sheets.{Path, Test, always, never, has, negated, all_of, any_of, Tests, no_test, test, Rule, Sheet, Plain}
+use Rattle.tc_model.specs.Sheets.{Path, Test, always, never, has, negated, all_of, any_of, Tests, no_test, test, Rule, Sheet, CallFreeBody}
 use Rattle.tc_model.specs.Paths.{holds}
 use Rattle.tc_model.specs.Machine.{known_test, known_tests, or_else, first_hit, holds_in, all_hold_in, some_holds_in}
 use Rattle.tc_model.specs.Symbols.{Mention, symbols_of}
@@ -13,14 +13,14 @@ use Rattle.tc_model.proofs.TotalByStates.{test_holds}
 use Rattle.tc_model.proofs.TotalUnfolds.{body_unfolds}
 use Rattle.tc_alpha.proofs.Members.{Has, every_member, has_from_contains}
 use Rattle.tc_rules.specs.Covered.{IsCovered}
-use Rattle.tc_rules.specs.States.{AllUnfold, Looking, states}
-use Rattle.tc_rules.specs.Told.{AreSymbolsWith}
+use Rattle.tc_rules.specs.States.{AllInline, Looking, states}
+use Rattle.tc_rules.specs.RulesView.{AreSymbolsWith}
 use Rattle.tc_rules.proofs.Covered.{looks_covered}
 use Rattle.tc_rules.proofs.States.{states_tell}
 use Rattle.tc_run.specs.Parts.{IsPartTest, ArePartTests}
 use Rattle.tc_run.proofs.PartsOf.{predicate_part}
 
-module _ (symbols : List Mention) (predicates : List Test) (rules : List Rule) (bodies : List Plain) where
+module _ (symbols : List Mention) (predicates : List Test) (rules : List Rule) (bodies : List CallFreeBody) where
   pub first_alike : (h : Trees) (s : Looking) → first_hit (states symbols predicates rules bodies) h s ≡ first_hit (states symbols predicates [] []) h s
   first_alike none s = refl
   first_alike (text x rest) s = ap (or_else _) (first_alike rest s)
@@ -48,7 +48,7 @@ module _ (symbols : List Mention) (predicates : List Test) (rules : List Rule) (
     some_alike (test w ts) h = λ i. holds_alike w h i || some_alike ts h i
 
 -- the bodies of a well-formed stylesheet's rules have calls in place
-pub all_unfold : (s : Sheet) → IsSheet s → (rs : List Rule) → All (IsRule s) rs → (ps : List Plain) × AllUnfold s.named rs ps
+pub all_unfold : (s : Sheet) → IsSheet s → (rs : List Rule) → All (IsRule s) rs → (ps : List CallFreeBody) × AllInline s.named rs ps
 all_unfold s is [] a = ([], tt)
 all_unfold s is (r ∷ rs) a =
     let (p, u) = body_unfolds s is r.body (All-head (IsRule s) r rs a).body in

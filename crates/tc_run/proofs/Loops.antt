@@ -3,18 +3,18 @@ use Rattle.std.proofs.Common.{◌≡◌, ℕ, List, ap, ◌∙◌, sym, subst, c
 use Rattle.tc_model.specs.Names.{ExpandedName}
 use Rattle.tc_model.specs.Trees.{Trees, none, element}
 use Rattle.tc_model.specs.Chains.{an_element, Node, one, children}
-use Rattle.tc_model.specs.Sheets.{Body, Plain, Unfolds, no_instruction}
+use Rattle.tc_model.specs.Sheets.{Body, CallFreeBody, Inlines, no_instruction}
 use Rattle.tc_model.specs.Outcomes.{Outcome, nothing, join, counted}
 use Rattle.tc_model.specs.Machine.{does_in, outputs}
 use Rattle.tc_model.specs.Letters.{Letter, letter_of}
 use Rattle.tc_model.specs.PathStates.{State}
-use Rattle.tc_model.specs.Seen as see
+use Rattle.tc_model.specs.Views as see
 use Rattle.tc_model.specs.declared.sheet.Instr.{Instr}
 use Rattle.tc_model.proofs.TotalJoin.{join_assoc, join_none, none_join}
 use Rattle.tc_rules.specs.States.{Going}
-use Rattle.tc_rules.specs.Told.{ancestor}
+use Rattle.tc_rules.specs.RulesView.{ancestor}
 use Rattle.tc_run.specs.Running.{told_by, sheet_by, symbols_by, predicates_by, machine}
-use Rattle.tc_run.specs.Seen.{node}
+use Rattle.tc_run.specs.Views.{node}
 use Rattle.tc_run.specs.Spent.{Spends}
 use Rattle.tc_run.specs.Tasks.{does, outputs_on}
 use Rattle.tc_run.specs.declared.RunFault.{RunFault}
@@ -25,7 +25,7 @@ use Rattle.tc_run.proofs.Plains.{Halves, first_instruction, does_then}
 use Rattle.tc_run.proofs.Progress.{BodySoFar, HitsSoFar}
 use Rattle.tc_run.proofs.Spending.{Fails, spends_both, fails_first, fails_then}
 
-module _ (r : Runner) (bodies : List Plain) where
+module _ (r : Runner) (bodies : List CallFreeBody) where
   -- an element, its children, and what stands beside it
   pub element_first : (above : ℕ) (g : Going) (h : Here) (n : ExpandedName) (kids rest : Trees) (l : Letter)
       → node h ≡ one (an_element n kids) → l ≡ letter_of (symbols_by r) (predicates_by r) (an_element n kids)
@@ -61,8 +61,8 @@ module _ (r : Runner) (bodies : List Plain) where
         let after = outputs_on r bodies rest above g in
         subst (Fails nesting old e) (sym (s.whole ∙ ap (join s.done) w)) (fails_then nesting old now e s.done (join o after) s.spent (fails_first nesting now e o after p))
 
-  module _ (h : Here) (nesting : ℕ) (p : Plain) where
-    pub body_begin : (x : Output) (b : Body) → Spends nesting x x nothing → Unfolds (sheet_by r).named b p → BodySoFar r bodies h nesting x x p b
+  module _ (h : Here) (nesting : ℕ) (p : CallFreeBody) where
+    pub body_begin : (x : Output) (b : Body) → Spends nesting x x nothing → Inlines (sheet_by r).named b p → BodySoFar r bodies h nesting x x p b
     body_begin x b s u = record { done = nothing; rest = p; spent = s; of_rest = u; whole = sym (none_join (does r bodies p h)) }
 
     -- the instruction that comes next
@@ -70,13 +70,13 @@ module _ (r : Runner) (bodies : List Plain) where
         → Halves (sheet_by r).named (see.instruction i no_instruction) b s.rest
     halves_next i b s = first_instruction (sheet_by r).named i b s.rest s.of_rest
 
-    halves_does : {b c : Body} {q : Plain} (k : Halves (sheet_by r).named b c q) → does r bodies q h ≡ join (does r bodies k.first h) (does r bodies k.second h)
+    halves_does : {b c : Body} {q : CallFreeBody} (k : Halves (sheet_by r).named b c q) → does r bodies q h ≡ join (does r bodies k.first h) (does r bodies k.second h)
     halves_does k =
         ap (λ w. does r bodies w h) k.whole
         ∙ does_then (machine r bodies) (node h) (λ i u. outputs (machine r bodies) (children (node h)) i (ancestor (told_by r) h.above) u) k.first k.second
 
     pub body_further : {old now new : Output} (i : Instr) (b : Body) (s : BodySoFar r bodies h nesting old now p (see.instruction i b))
-        → ((q : Plain) → Unfolds (sheet_by r).named (see.instruction i no_instruction) q → Spends nesting now new (does r bodies q h)) → BodySoFar r bodies h nesting old new p b
+        → ((q : CallFreeBody) → Inlines (sheet_by r).named (see.instruction i no_instruction) q → Spends nesting now new (does r bodies q h)) → BodySoFar r bodies h nesting old new p b
     body_further i b s a =
         let k = halves_next i b s in
         let first = does r bodies k.first h in
@@ -89,7 +89,7 @@ module _ (r : Runner) (bodies : List Plain) where
         }
 
     pub body_fail : (old now : Output) (e : RunFault) (i : Instr) (b : Body) (s : BodySoFar r bodies h nesting old now p (see.instruction i b))
-        → ((q : Plain) → Unfolds (sheet_by r).named (see.instruction i no_instruction) q → Fails nesting now e (does r bodies q h))
+        → ((q : CallFreeBody) → Inlines (sheet_by r).named (see.instruction i no_instruction) q → Fails nesting now e (does r bodies q h))
         → Fails nesting old e (does r bodies p h)
     body_fail old now e i b s a =
         let k = halves_next i b s in

@@ -9,13 +9,13 @@ use Rattle.tc_model.specs.Sheets.{Test}
 use Rattle.tc_model.specs.Symbols.{symbol_of}
 use Rattle.tc_model.specs.Letters.{letter_of, marks_of}
 use Rattle.tc_model.specs.Machine.{holds_in}
-use Rattle.tc_model.specs.Seen.{name}
+use Rattle.tc_model.specs.Views.{name}
 use Rattle.tc_model.specs.declared.tree.Name.{Name}
 use Rattle.tc_rules.specs.declared.rules.Marks.{Marks}
 use Rattle.tc_rules.proofs.RowSteps.{drop_at}
 use Rattle.tc_run.specs.Lettered as l
 use Rattle.tc_run.specs.Running.{IsRunner, symbols_by, predicates_by, sheet_by, lettered_by, looking}
-use Rattle.tc_run.specs.Seen.{before, trees}
+use Rattle.tc_run.specs.Views.{before, trees}
 use Rattle.tc_run.specs.declared.letters.Letter.{Letter}
 use Rattle.tc_run.specs.declared.letters.Lettered.{Lettered, Elem, Text}
 use Rattle.tc_run.specs.declared.runner.Runner.{Runner}

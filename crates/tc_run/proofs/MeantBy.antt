@@ -6,11 +6,11 @@ use Rattle.std.specs.Prelude.{IfSome, pos, []}
 use Rattle.tc_model.specs.declared.sheet.Pattern.TheVariants.{Root}
 use Rattle.tc_model.specs.Chains.{Node}
 use Rattle.tc_model.specs.Letters.{Letter}
-use Rattle.tc_model.specs.Machine.{Task}
+use Rattle.tc_model.specs.Machine.{CallFreeJob}
 use Rattle.tc_model.specs.PathStates.{State}
 use Rattle.tc_model.specs.RuleStates.{IsRuleOf, fits_below}
-use Rattle.tc_model.specs.Seen as see
-use Rattle.tc_model.specs.Sheets.{Sheet, Body, Plain, Unfolds}
+use Rattle.tc_model.specs.Views as see
+use Rattle.tc_model.specs.Sheets.{Sheet, Body, CallFreeBody, Inlines}
 use Rattle.tc_model.specs.Symbols.{Mention}
 use Rattle.tc_model.specs.WellFormed.{ForEach, eaches_of}
 use Rattle.tc_model.specs.declared.sheet.Instr.{Instr}
@@ -63,10 +63,10 @@ named_low s sh i e h =
     omega (arith, size, h)
 
 module _ (s : List Body) (n : Node) where
-  pub meant_body : (w : Meant) (b : Bor (List Instr)) (p : Plain) → w ≡ m.Body b → IsMeant s n w p → Unfolds s (see.body b.now) p
+  pub meant_body : (w : Meant) (b : Bor (List Instr)) (p : CallFreeBody) → w ≡ m.Body b → IsMeant s n w p → Inlines s (see.body b.now) p
   meant_body w b p e h = subst (λ v. IsMeant s n v p) e h
 
-  pub meant_built_in : (w : Meant) (mode : ℕ) (p : Plain) → w ≡ m.BuiltIn mode → IsMeant s n w p → p ≡ built_in mode n
+  pub meant_built_in : (w : Meant) (mode : ℕ) (p : CallFreeBody) → w ≡ m.BuiltIn mode → IsMeant s n w p → p ≡ built_in mode n
   meant_built_in w mode p e h = subst (λ v. IsMeant s n v p) e h
 
 module _ (r : Runner) where
@@ -85,19 +85,19 @@ module _ (r : Runner) where
         let (f, there, number) = is.tells.well_formed.each_number e h in
         subst (IsPart (sheet_by r)) (k (symbols_by r) f is there number) (each_part (sheet_by r) is.tells.well_formed f there)
 
-    pub each_meant : (bodies : List Plain) (e : ℕ) (b : Bor (List Instr)) (k : Task) (q : State) (l : Letter) → IsEachBody e b → IsTaskOf (sheet_by r) ((sheet_by r).modes + e) k
-        → Unfolds (sheet_by r).named (see.body b.now) ((machine r bodies).body_at k q l)
+    pub each_meant : (bodies : List CallFreeBody) (e : ℕ) (b : Bor (List Instr)) (k : CallFreeJob) (q : State) (l : Letter) → IsEachBody e b → IsTaskOf (sheet_by r) ((sheet_by r).modes + e) k
+        → Inlines (sheet_by r).named (see.body b.now) ((machine r bodies).body_at k q l)
     each_meant bodies e b k q l h t =
         let d = each_task (sheet_by r) ((sheet_by r).modes + e) e k refl t in
-        subst (λ j. Unfolds (sheet_by r).named (see.body b.now) ((machine r bodies).body_at j q l)) (sym d.task)
-        (subst (λ x. Unfolds (sheet_by r).named x d.plain) (h (symbols_by r) d.found is d.there d.number) d.unfolds)
+        subst (λ j. Inlines (sheet_by r).named (see.body b.now) ((machine r bodies).body_at j q l)) (sym d.task)
+        (subst (λ x. Inlines (sheet_by r).named x d.plain) (h (symbols_by r) d.found is d.there d.number) d.unfolds)
 
-  pub rule_meant : (bodies : List Plain) → HasBodies r bodies → (b : Plain) (o : Option Chosen) (i : ℕ) (x : RuleOf) → slice_get (sheet_by r).rules i ≡ Some (see.rule x)
-      → option_map (λ w. w.number) o ≡ Some i → Unfolds (sheet_by r).named (see.body x.body.now) (plain_of bodies b o)
+  pub rule_meant : (bodies : List CallFreeBody) → HasBodies r bodies → (b : CallFreeBody) (o : Option Chosen) (i : ℕ) (x : RuleOf) → slice_get (sheet_by r).rules i ≡ Some (see.rule x)
+      → option_map (λ w. w.number) o ≡ Some i → Inlines (sheet_by r).named (see.body x.body.now) (plain_of bodies b o)
   rule_meant bodies u b o i x e k = rule_chosen (sheet_by r).named (sheet_by r).rules bodies u b o i (see.rule x) k e
 
   -- the rule that was found for a letter
-  pub mode_meant : (bodies : List Plain) (mode : ℕ) (found : Option ℕ) (w : Meant) (n : Node) (k : Task) (q : State) (l : Letter) → mode < (sheet_by r).modes → IsTaskOf (sheet_by r) mode k
+  pub mode_meant : (bodies : List CallFreeBody) (mode : ℕ) (found : Option ℕ) (w : Meant) (n : Node) (k : CallFreeJob) (q : State) (l : Letter) → mode < (sheet_by r).modes → IsTaskOf (sheet_by r) mode k
       → IsRuleOf (sheet_by r).rules mode (fits_below (symbols_by r) (predicates_by r) q l) found
       → ((i : ℕ) → built_in_at i l.kind ≡ built_in i n)
       → ((o : Option Chosen) → option_map (λ y. y.number) o ≡ found → IsMeant (sheet_by r).named n w (plain_of bodies (built_in mode n) o))

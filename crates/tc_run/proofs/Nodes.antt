@@ -2,21 +2,21 @@
 use Rattle.std.proofs.Common.{◌≡◌, ℕ, ◌<◌, List, [], refl, ap, ◌∙◌, length, cond, Some, slice_get, Bor}
 use Rattle.std.proofs.lemmas.Option.{get_or_from_slice_get, slice_get_within}
 use Rattle.tc_model.specs.Chains as c
-use Rattle.tc_model.specs.Machine.{Task, does_in, does_at, outputs}
+use Rattle.tc_model.specs.Machine.{CallFreeJob, does_in, does_at, outputs}
 use Rattle.tc_model.specs.Outcomes.{Outcome, nothing, join, counted}
 use Rattle.tc_model.specs.PathStates.{State, is_empty_state, first_state, path_of_rules}
-use Rattle.tc_model.specs.Seen.{name}
-use Rattle.tc_model.specs.Sheets.{Path, no_alternative, Plain}
+use Rattle.tc_model.specs.Views.{name}
+use Rattle.tc_model.specs.Sheets.{Path, no_alternative, CallFreeBody}
 use Rattle.tc_model.specs.Trees as t
 use Rattle.tc_model.specs.declared.tree.Name.{Name}
 use Rattle.tc_rules.specs.Asked.{letter}
 use Rattle.tc_rules.specs.declared.rules.Kind.TheVariants as kinds
 use Rattle.tc_rules.specs.States.{Going}
-use Rattle.tc_rules.specs.Told.{ancestor}
+use Rattle.tc_rules.specs.RulesView.{ancestor}
 use Rattle.tc_run.specs.Lettered as l
 use Rattle.tc_run.specs.Lettered.{bare}
 use Rattle.tc_run.specs.Running.{IsLetteredBy, told_by, sheet_by, symbols_by, predicates_by, machine}
-use Rattle.tc_run.specs.Seen.{before, trees, node, IsHere}
+use Rattle.tc_run.specs.Views.{before, trees, node, IsHere}
 use Rattle.tc_run.specs.Tasks.{does, outputs_on, going_from}
 use Rattle.tc_run.specs.declared.bodies.Here.{Here}
 use Rattle.tc_run.specs.declared.bodies.Shape.TheVariants as shapes
@@ -54,14 +54,14 @@ module _ (r : Runner) where
   pub down_is : (k : ℕ) (u : State) → slice_get (told_by r).ancestors.states k ≡ Some u → ancestor (told_by r) k ≡ u
   down_is k u e = get_or_from_slice_get (told_by r).ancestors.states k u [] e
 
-  module _ (bodies : List Plain) where
+  module _ (bodies : List CallFreeBody) where
     -- a path of no alternative selects nothing
-    pub none_selected : (h : t.Trees) (above : ℕ) (k : Task) (p : Path) → p ≡ no_alternative → outputs_on r bodies h above (going_from k p) ≡ nothing
+    pub none_selected : (h : t.Trees) (above : ℕ) (k : CallFreeJob) (p : Path) → p ≡ no_alternative → outputs_on r bodies h above (going_from k p) ≡ nothing
     none_selected h above k p e =
         outputs_none (symbols_by r) (predicates_by r) (sheet_by r).rules bodies h k (ancestor (told_by r) above) (going_from k p) (ap (λ q. is_empty_state (first_state q)) e)
 
     -- of the root
-    pub does_on_root : (p : Plain) (s : Bor (List ℕ)) (kids : Bor (List Lettered)) → ancestor (told_by r) 0 ≡ first_state (path_of_rules (sheet_by r).rules)
+    pub does_on_root : (p : CallFreeBody) (s : Bor (List ℕ)) (kids : Bor (List Lettered)) → ancestor (told_by r) 0 ≡ first_state (path_of_rules (sheet_by r).rules)
         → does r bodies p (here_root s kids 0) ≡ does_at (machine r bodies) p (c.top (bare (trees kids.now)))
     does_on_root p s kids e =
         let m = machine r bodies in

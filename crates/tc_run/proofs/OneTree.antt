@@ -5,19 +5,19 @@ use Rattle.tc_model.specs.Letters.{Letter, letter_of, of_symbol, of_text}
 use Rattle.tc_model.specs.Machine.{or_else, first_hit, outputs, does_in}
 use Rattle.tc_model.specs.Outcomes.{Outcome, nothing, join, counted}
 use Rattle.tc_model.specs.PathStates.{State}
-use Rattle.tc_model.specs.Seen.{name}
-use Rattle.tc_model.specs.Sheets.{Plain}
+use Rattle.tc_model.specs.Views.{name}
+use Rattle.tc_model.specs.Sheets.{CallFreeBody}
 use Rattle.tc_model.specs.declared.tree.Name.{Name}
 use Rattle.tc_model.proofs.TotalJoin.{join_assoc, join_none}
 use Rattle.tc_rules.specs.Asked.{letter}
 use Rattle.tc_rules.specs.declared.rules.Kind.TheVariants as kinds
 use Rattle.tc_rules.specs.declared.rules.Marks.{Marks}
 use Rattle.tc_rules.specs.States.{Going, Looking}
-use Rattle.tc_rules.specs.Told.{ancestor}
+use Rattle.tc_rules.specs.RulesView.{ancestor}
 use Rattle.tc_run.specs.Lettered as l
 use Rattle.tc_run.specs.Lettered.{bare}
 use Rattle.tc_run.specs.Running.{IsLetteredBy, told_by, symbols_by, predicates_by, machine, looking}
-use Rattle.tc_run.specs.Seen.{before, trees}
+use Rattle.tc_run.specs.Views.{before, trees}
 use Rattle.tc_run.specs.Tasks.{outputs_on}
 use Rattle.tc_run.specs.declared.letters.Letter.{Letter as LetterOf}
 use Rattle.tc_run.specs.declared.letters.Lettered.{Lettered, Lettered-F, Elem, Text}
@@ -128,7 +128,7 @@ module _ (r : Runner) where
       → first_hit (looking r) (bare (before x rest)) s ≡ or_else (first_hit (looking r) (bare (before x l.none)) s) (first_hit (looking r) (bare rest) s)
   first_beside s x rest = subst (λ y. FirstBeside s y rest) (roll-out-Lettered x) (beside_layer s (out-Lettered x) rest)
 
-  module _ (bodies : List Plain) (above : ℕ) (g : Going) where
+  module _ (bodies : List CallFreeBody) (above : ℕ) (g : Going) where
     abbrev OutsBeside : Lettered → l.Lettered → Type 0
     OutsBeside y rest = outputs_on r bodies (bare (before y rest)) above g ≡ join (outputs_on r bodies (bare (before y l.none)) above g) (outputs_on r bodies (bare rest) above g)
 

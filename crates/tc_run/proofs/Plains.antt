@@ -1,18 +1,18 @@
 -- Bodies one after the other: what they are with calls in place, and what they put out.
 use Rattle.std.proofs.Common.{◌≡◌, List, refl, ap, ◌∙◌, sym, subst}
 use Rattle.tc_model.specs.Chains.{Node, children, string_value}
-use Rattle.tc_model.specs.Sheets.{Body, no_instruction, put_text, put_element, copy, apply, call, for_each, value, value_of_self, choose, Plain, p_done, p_text, p_element, p_copy, p_apply, p_call, p_value, p_self, p_choose, p_each, Unfolds, u_done, u_text, u_element, u_copy, u_apply, u_call, u_value, u_self, u_choose, u_each}
+use Rattle.tc_model.specs.Sheets.{Body, no_instruction, put_text, put_element, copy, apply, call, for_each, value, value_of_self, choose, CallFreeBody, p_done, p_text, p_element, p_copy, p_apply, p_call, p_value, p_self, p_choose, p_each, Inlines, u_done, u_text, u_element, u_copy, u_apply, u_call, u_value, u_self, u_choose, u_each}
 use Rattle.tc_model.specs.Outcomes.{Outcome, join, within, counted, put, put_around, copied}
 use Rattle.tc_model.specs.Meaning.{value_of_first}
-use Rattle.tc_model.specs.Machine.{Task, in_mode, in_body, Machine, first_hit, does_in, takes_in}
-use Rattle.tc_model.specs.Seen as see
+use Rattle.tc_model.specs.Machine.{CallFreeJob, in_mode, in_body, Machine, first_hit, does_in, takes_in}
+use Rattle.tc_model.specs.Views as see
 use Rattle.tc_model.specs.Sheets as s
 use Rattle.tc_model.specs.declared.sheet.Instr.{Instr}
 use Rattle.tc_model.proofs.TotalJoin.{join_assoc, none_join}
 use Rattle.tc_model.proofs.ViewsBody.{body_then, instruction_then}
 use Rattle.tc_run.specs.Parts.{IsPart}
 
-abbrev pub plain_then : Plain → Plain → Plain
+abbrev pub plain_then : CallFreeBody → CallFreeBody → CallFreeBody
 plain_then p_done q = q
 plain_then (p_text x p) q = p_text x (plain_then p q)
 plain_then (p_element n i p) q = p_element n i (plain_then p q)
@@ -25,15 +25,15 @@ plain_then (p_choose x p) q = p_choose x (plain_then p q)
 plain_then (p_each e w i p) q = p_each e w i (plain_then p q)
 
 -- two parts of what is unfolded
-pub record Halves (named : List Body) (a b : Body) (p : Plain) : Type 0 where
-  pub first : Plain
-  pub second : Plain
+pub record Halves (named : List Body) (a b : Body) (p : CallFreeBody) : Type 0 where
+  pub first : CallFreeBody
+  pub second : CallFreeBody
   pub whole : p ≡ plain_then first second
-  pub of_first : Unfolds named a first
-  pub of_second : Unfolds named b second
+  pub of_first : Inlines named a first
+  pub of_second : Inlines named b second
 
 module _ (named : List Body) where
-  pub halves : (a b : Body) {p : Plain} → Unfolds named (body_then a b) p → Halves named a b p
+  pub halves : (a b : Body) {p : CallFreeBody} → Inlines named (body_then a b) p → Halves named a b p
   halves no_instruction b {p} u = record { first = p_done; second = p; whole = refl; of_first = u_done; of_second = u }
   halves (put_text x a) b (u_text u) =
       let h = halves a b u in record { first = p_text x h.first; second = h.second; whole = ap (p_text x) h.whole; of_first = u_text h.of_first; of_second = h.of_second }
@@ -57,22 +57,22 @@ module _ (named : List Body) where
       record { first = p_each e w o h.first; second = h.second; whole = ap (p_each e w o) h.whole; of_first = u_each v h.of_first; of_second = h.of_second }
 
   -- an instruction, and those after it
-  pub first_instruction : (i : Instr) (rest : Body) (p : Plain) → Unfolds named (see.instruction i rest) p → Halves named (see.instruction i no_instruction) rest p
+  pub first_instruction : (i : Instr) (rest : Body) (p : CallFreeBody) → Inlines named (see.instruction i rest) p → Halves named (see.instruction i no_instruction) rest p
   first_instruction i rest p u =
       let e : body_then (see.instruction i no_instruction) rest ≡ see.instruction i rest = instruction_then i no_instruction rest in
-      halves (see.instruction i no_instruction) rest (subst (λ b. Unfolds named b p) (sym e) u)
+      halves (see.instruction i no_instruction) rest (subst (λ b. Inlines named b p) (sym e) u)
 
 -- what stands in front stays there
 after : (x a b c : Outcome) → a ≡ join b c → join x a ≡ join (join x b) c
 after x a b c e = ap (join x) e ∙ sym (join_assoc x b c)
 
-module _ (m : Machine) (n : Node) (outs : Task → m.Move → Outcome) where
+module _ (m : Machine) (n : Node) (outs : CallFreeJob → m.Move → Outcome) where
   -- of a first outcome, what comes after it, and what comes later
-  further : (x : Outcome) (p q pq : Plain) → does_in m pq n outs ≡ join (does_in m p n outs) (does_in m q n outs)
+  further : (x : Outcome) (p q pq : CallFreeBody) → does_in m pq n outs ≡ join (does_in m p n outs) (does_in m q n outs)
       → join x (does_in m pq n outs) ≡ join (join x (does_in m p n outs)) (does_in m q n outs)
   further x p q pq e = after x (does_in m pq n outs) (does_in m p n outs) (does_in m q n outs) e
 
-  pub does_then : (p q : Plain) → does_in m (plain_then p q) n outs ≡ join (does_in m p n outs) (does_in m q n outs)
+  pub does_then : (p q : CallFreeBody) → does_in m (plain_then p q) n outs ≡ join (does_in m p n outs) (does_in m q n outs)
   does_then p_done q = sym (none_join (does_in m q n outs))
   does_then (p_text x p) q = further (within (put x)) p q (plain_then p q) (does_then p q)
   does_then (p_element a i p) q = further (within (put_around a (does_in m i n outs))) p q (plain_then p q) (does_then p q)

@@ -1,7 +1,7 @@
 -- How far loops over instructions and over nodes have come: what was put out, and what is left.
 use Rattle.std.proofs.Common.{◌≡◌, ◌+◌, ◌*◌, ◌-◌, ℕ, List, max, suc}
 use Rattle.tc_model.specs.Trees.{Trees, none, text, element}
-use Rattle.tc_model.specs.Sheets.{Body, Plain, Unfolds}
+use Rattle.tc_model.specs.Sheets.{Body, CallFreeBody, Inlines}
 use Rattle.tc_model.specs.Outcomes.{Outcome, join}
 use Rattle.tc_rules.specs.States.{Going}
 use Rattle.tc_run.specs.Running.{sheet_by}
@@ -11,14 +11,14 @@ use Rattle.tc_run.specs.declared.bodies.Here.{Here}
 use Rattle.tc_run.specs.declared.output.Output.{Output}
 use Rattle.tc_run.specs.declared.runner.Runner.{Runner}
 
-pub record BodySoFar (r : Runner) (bodies : List Plain) (h : Here) (nesting : ℕ) (old now : Output) (p : Plain) (left : Body) : Type 0 where
+pub record BodySoFar (r : Runner) (bodies : List CallFreeBody) (h : Here) (nesting : ℕ) (old now : Output) (p : CallFreeBody) (left : Body) : Type 0 where
   pub done : Outcome
-  pub rest : Plain
+  pub rest : CallFreeBody
   pub spent : Spends nesting old now done
-  pub of_rest : Unfolds (sheet_by r).named left rest
+  pub of_rest : Inlines (sheet_by r).named left rest
   pub whole : does r bodies p h ≡ join done (does r bodies rest h)
 
-pub record HitsSoFar (r : Runner) (bodies : List Plain) (above nesting : ℕ) (old now : Output) (g : Going) (all left : Trees) : Type 0 where
+pub record HitsSoFar (r : Runner) (bodies : List CallFreeBody) (above nesting : ℕ) (old now : Output) (g : Going) (all left : Trees) : Type 0 where
   pub done : Outcome
   pub spent : Spends nesting old now done
   pub whole : outputs_on r bodies all above g ≡ join done (outputs_on r bodies left above g)

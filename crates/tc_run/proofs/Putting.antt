@@ -2,7 +2,7 @@
 use Rattle.std.proofs.Common.{◌≡◌, ℕ, ◌+◌, ◌<◌, ◌≤◌, List, [], ◌∷◌, ap, ◌∙◌, length, arith}
 use Rattle.tc_model.specs.Names.{ExpandedName}
 use Rattle.tc_model.specs.Trees.{none, element, beside}
-use Rattle.tc_model.specs.Seen.{trees}
+use Rattle.tc_model.specs.Views.{trees}
 use Rattle.tc_model.specs.Outcomes.{Outcome, put, put_around}
 use Rattle.tc_run.specs.Spent.{Spends}
 use Rattle.tc_run.specs.declared.RunFault.{RunFault}

@@ -2,18 +2,18 @@
 use Rattle.std.proofs.Common.{◌≡◌, ◌+◌, List, refl, ap, ◌∙◌, sym, subst, Result, Ok, Err, IsErrAnd, IfErr, arith}
 use Rattle.tc_model.specs.Trees.{Trees, none, beside, normal_form}
 use Rattle.tc_model.specs.Chains.{top}
-use Rattle.tc_model.specs.Sheets.{Sheet, Plain}
+use Rattle.tc_model.specs.Sheets.{Sheet, CallFreeBody}
 use Rattle.tc_model.specs.Outcomes.{Outcome, counted}
 use Rattle.tc_model.specs.Meaning.{by_mode, body_of}
 use Rattle.tc_model.specs.Machine.{in_mode, u_mode, does_at}
 use Rattle.tc_model.specs.Symbols.{Mention, symbols_of}
 use Rattle.tc_model.specs.Numberings.{predicates_of}
 use Rattle.tc_model.specs.Safety.{Transforms, IsResultOf}
-use Rattle.tc_model.specs.Seen.{trees}
+use Rattle.tc_model.specs.Views.{trees}
 use Rattle.tc_model.proofs.TotalExact.{does_complete}
 use Rattle.tc_rules.specs.Kept.{IsRulesOf, told}
-use Rattle.tc_rules.specs.States.{AllUnfold, states}
-use Rattle.tc_rules.specs.Told.{AreSymbolsWith}
+use Rattle.tc_rules.specs.States.{AllInline, states}
+use Rattle.tc_rules.specs.RulesView.{AreSymbolsWith}
 use Rattle.tc_rules.specs.declared.rules.Rules.{Rules}
 use Rattle.tc_rules.proofs.States.{states_tell}
 use Rattle.tc_run.specs.Limits.{KeepsLimits, IsCause}
@@ -26,11 +26,11 @@ use Rattle.tc_run.specs.declared.runner.Runner.{Runner}
 use Rattle.tc_run.proofs.Looking.{all_unfold}
 use Rattle.tc_run.proofs.Spending.{Fails, passed_more}
 
-abbrev on_root : List Mention → Sheet → List Plain → Trees → Outcome
+abbrev on_root : List Mention → Sheet → List CallFreeBody → Trees → Outcome
 on_root symbols s bodies doc =
     counted (does_at (states symbols (predicates_of s) s.rules bodies) ((states symbols (predicates_of s) s.rules bodies).root_body (in_mode 0)) (top doc))
 
-transforms : (symbols : List Mention) (s : Sheet) → AreSymbolsWith symbols s → (bodies : List Plain) → AllUnfold s.named s.rules bodies → (doc : Trees)
+transforms : (symbols : List Mention) (s : Sheet) → AreSymbolsWith symbols s → (bodies : List CallFreeBody) → AllInline s.named s.rules bodies → (doc : Trees)
     → Transforms s doc (on_root symbols s bodies doc)
 transforms symbols s (input, output, e) bodies all doc =
     let m = states (symbols_of input output s) (predicates_of s) s.rules bodies in
@@ -58,13 +58,13 @@ told_as (Ok v) e Q h q = absurd h
 told_as (Err d) e Q h q = subst Q (sym h) q
 
 module _ (r : Runner) (is : IsRunner r) (doc : Trees) (x y : Output) (no_tree : trees x.nodes.items ≡ none) (no_work : x.work ≡ 0) where
-  pub keeps_limits : ((bodies : List Plain) → HasBodies r bodies → Spends 0 x y (on_root (symbols_by r) (sheet_by r) bodies doc)) → KeepsLimits (sheet_by r) doc
+  pub keeps_limits : ((bodies : List CallFreeBody) → HasBodies r bodies → Spends 0 x y (on_root (symbols_by r) (sheet_by r) bodies doc)) → KeepsLimits (sheet_by r) doc
   keeps_limits h =
       let (bodies, all) = all_unfold (sheet_by r) is.tells.well_formed (sheet_by r).rules is.tells.well_formed.rules in
       let s = h bodies all in
       (on_root (symbols_by r) (sheet_by r) bodies doc, transforms (symbols_by r) (sheet_by r) is.tells.symbols_are bodies all doc, omega (arith, s.work, s.few, no_work), omega (arith, s.low))
 
-  pub result_is : ((bodies : List Plain) → HasBodies r bodies → Spends 0 x y (on_root (symbols_by r) (sheet_by r) bodies doc))
+  pub result_is : ((bodies : List CallFreeBody) → HasBodies r bodies → Spends 0 x y (on_root (symbols_by r) (sheet_by r) bodies doc))
       → (result : Trees) → result ≡ normal_form (trees y.nodes.items) → IsResultOf (sheet_by r) doc result
   result_is h result e =
       let (bodies, all) = all_unfold (sheet_by r) is.tells.well_formed (sheet_by r).rules is.tells.well_formed.rules in
@@ -72,7 +72,7 @@ module _ (r : Runner) (is : IsRunner r) (doc : Trees) (x y : Output) (no_tree : 
       let o = on_root (symbols_by r) (sheet_by r) bodies doc in
       (o, transforms (symbols_by r) (sheet_by r) is.tells.symbols_are bodies all doc, e ∙ ap normal_form (s.out ∙ ap (λ k. beside k o.out) no_tree))
 
-  pub passes : (e : RunFault) → ((bodies : List Plain) → HasBodies r bodies → Fails 0 x e (on_root (symbols_by r) (sheet_by r) bodies doc))
+  pub passes : (e : RunFault) → ((bodies : List CallFreeBody) → HasBodies r bodies → Fails 0 x e (on_root (symbols_by r) (sheet_by r) bodies doc))
       → IsCause (sheet_by r) doc e
   passes e h =
       let (bodies, all) = all_unfold (sheet_by r) is.tells.well_formed (sheet_by r).rules is.tells.well_formed.rules in

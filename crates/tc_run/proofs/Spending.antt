@@ -1,7 +1,7 @@
 -- How what calls put out is joined: one after the other, within an instruction, within a body, around.
 use Rattle.std.proofs.Common.{◌≡◌, ℕ, ◌+◌, ◌<◌, ◌≤◌, max, ap, ◌∙◌, sym, subst, Result, Ok, Err, arith}
 use Rattle.tc_model.specs.Trees.{beside}
-use Rattle.tc_model.specs.Seen.{trees}
+use Rattle.tc_model.specs.Views.{trees}
 use Rattle.tc_model.specs.Outcomes.{Outcome, nothing, join, within, counted}
 use Rattle.tc_model.proofs.TotalJoin.{beside_assoc, beside_none, join_none}
 use Rattle.tc_run.specs.Spent.{Spends, IsPassed, Answers}

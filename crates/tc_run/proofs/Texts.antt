@@ -4,14 +4,14 @@ use Rattle.std.proofs.lemmas.List.{append_cancel_left, append_cancel_right, take
 use Rattle.std.proofs.lemmas.Str.{IsCharBoundary-from_take, IsCharBoundary-at_seam, IsUtf8-drop}
 use Rattle.std.specs.Str.{IsUtf8, IsCharBoundary}
 use Rattle.tc_model.specs.Chains.{joined_texts}
-use Rattle.tc_model.specs.Seen as see
+use Rattle.tc_model.specs.Views as see
 use Rattle.tc_model.specs.Trees as t
 use Rattle.tc_model.specs.declared.tree.Name.{Name}
 use Rattle.tc_model.specs.declared.tree.Node.{Node, Elem, Text}
 use Rattle.tc_model.proofs.Views.{left_elem, left_text}
 use Rattle.tc_run.specs.Lettered as l
 use Rattle.tc_run.specs.Running.{symbols_by, predicates_by, lettered_by, IsLetteredBy}
-use Rattle.tc_run.specs.Seen.{before, trees}
+use Rattle.tc_run.specs.Views.{before, trees}
 use Rattle.tc_run.specs.declared.letters.Lettered.{Lettered}
 use Rattle.tc_run.specs.declared.runner.Runner.{Runner}
 use Rattle.tc_run.proofs.LetteredSteps.{bare_lettered, is_lettered}

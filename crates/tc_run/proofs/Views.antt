@@ -1,11 +1,11 @@
 -- What a layer of lettered trees is, seen as plain data.
 use Rattle.std.proofs.Common.{◌≡◌, ℕ, ◌+◌, ◌<◌, List, [], ◌∷◌, refl, ap, ◌∙◌, sym, map, Bor, length, get_or, drop, subst}
 use Rattle.std.proofs.lemmas.List.{drop_more}
-use Rattle.tc_model.specs.Seen.{name}
+use Rattle.tc_model.specs.Views.{name}
 use Rattle.tc_model.specs.declared.tree.Name.{Name}
 use Rattle.tc_rules.specs.declared.rules.Marks.{Marks}
 use Rattle.tc_run.specs.Lettered as l
-use Rattle.tc_run.specs.Seen.{layers, layer, before, trees}
+use Rattle.tc_run.specs.Views.{layers, layer, before, trees}
 use Rattle.tc_run.specs.declared.letters.Letter.{Letter}
 use Rattle.tc_run.specs.declared.letters.Lettered.{Lettered, Lettered-F, Elem, Text}
 use Rattle.tc_run.specs.declared.letters.Lettered.TheOpen as parts

@@ -1,5 +1,5 @@
 pub mod Lettered
-pub mod Seen
+pub mod Views
 pub mod Parts
 pub mod Running
 pub mod Tasks

@@ -1,17 +1,17 @@
 -- What a run goes by: the stylesheet that its rules tell of, and the machine of path states.
 use Rattle.std.specs.Prelude.{List, []}
 use Rattle.tc_model.specs.Trees.{Trees}
-use Rattle.tc_model.specs.Sheets.{Test, Sheet, Plain}
+use Rattle.tc_model.specs.Sheets.{Test, Sheet, CallFreeBody}
 use Rattle.tc_model.specs.Machine.{Machine}
 use Rattle.tc_model.specs.Symbols.{Mention}
 use Rattle.tc_model.specs.Numberings.{predicates_of}
 use Rattle.tc_rules.specs.Kept.{IsRulesOf, told}
-use Rattle.tc_rules.specs.States.{AllUnfold, states}
-use Rattle.tc_rules.specs.Told.{Told}
+use Rattle.tc_rules.specs.States.{AllInline, states}
+use Rattle.tc_rules.specs.RulesView.{RulesView}
 use Rattle.tc_run.specs.Lettered.{Lettered, lettered, IsLettered}
 use Rattle.tc_run.specs.declared.runner.Runner.{Runner}
 
-abbrev pub told_by : Runner → Told
+abbrev pub told_by : Runner → RulesView
 told_by r = told r.rules.now
 
 abbrev pub sheet_by : Runner → Sheet
@@ -34,11 +34,11 @@ abbrev pub IsLetteredBy : Runner → Lettered → Type 0
 IsLetteredBy r x = IsLettered (symbols_by r) (predicates_by r) x
 
 -- the bodies of the rules, with calls in place
-abbrev pub HasBodies : Runner → List Plain → Type 0
-HasBodies r bodies = AllUnfold (sheet_by r).named (sheet_by r).rules bodies
+abbrev pub HasBodies : Runner → List CallFreeBody → Type 0
+HasBodies r bodies = AllInline (sheet_by r).named (sheet_by r).rules bodies
 
 -- the machine of path states, and that of looks alone
-abbrev pub machine : Runner → List Plain → Machine
+abbrev pub machine : Runner → List CallFreeBody → Machine
 machine r bodies = states (symbols_by r) (predicates_by r) (sheet_by r).rules bodies
 
 abbrev pub looking : Runner → Machine

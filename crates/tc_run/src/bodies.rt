@@ -5,23 +5,23 @@
 ghost use Rattle.std.specs.Prelude.{◌≡◌, ◌≤◌, ◌<◌, ℕ, List, length, cond, Contains, Option, option_map, IfSome, OnOk};
 ghost use Rattle.tc_model.specs.Chains as c;
 ghost use Rattle.tc_model.specs.Letters as letters;
-ghost use Rattle.tc_model.specs.Machine.{Task, in_mode, first_hit as first_hit_of, does_in, does_at, takes_in};
+ghost use Rattle.tc_model.specs.Machine.{CallFreeJob, in_mode, first_hit as first_hit_of, does_in, does_at, takes_in};
 ghost use Rattle.tc_model.specs.Meaning.{all_children as all_children_of, value_of_first};
 ghost use Rattle.tc_model.specs.Names.{ExpandedName};
 ghost use Rattle.tc_model.specs.Numberings.{looks_of, moves_of};
 ghost use Rattle.tc_model.specs.Outcomes.{Outcome, nothing, counted, put_around, copied};
-ghost use Rattle.tc_model.specs.Seen as see;
-ghost use Rattle.tc_model.specs.Sheets.{no_instruction, otherwise, Plain, PlainBranches, Unfolds, BranchesUnfold};
+ghost use Rattle.tc_model.specs.Views as see;
+ghost use Rattle.tc_model.specs.Sheets.{no_instruction, otherwise, CallFreeBody, CallFreeBranches, Inlines, BranchesInline};
 ghost use Rattle.tc_model.specs.Trees as t;
 ghost use Rattle.tc_rules.specs.Asked.{letter as see_letter, found as found_of};
 ghost use Rattle.tc_rules.specs.Jobs.{IsJob};
-ghost use Rattle.tc_rules.specs.Seen.{mode_of};
+ghost use Rattle.tc_rules.specs.Views.{mode_of};
 ghost use Rattle.tc_rules.specs.States.{Chosen, Going, built_in_at, plain_of};
-ghost use Rattle.tc_rules.specs.Told.{ancestor};
+ghost use Rattle.tc_rules.specs.RulesView.{ancestor};
 ghost use Rattle.tc_run.specs.Lettered as l;
 ghost use Rattle.tc_run.specs.Parts.{IsPart, ArePartBranches};
 ghost use Rattle.tc_run.specs.Running.{IsRunner, IsLetteredBy, HasBodies, told_by, sheet_by, symbols_by, predicates_by, machine, looking};
-ghost use Rattle.tc_run.specs.Seen.{trees, before, node, IsHere};
+ghost use Rattle.tc_run.specs.Views.{trees, before, node, IsHere};
 ghost use Rattle.tc_run.specs.Spent.{Answers};
 ghost use Rattle.tc_run.specs.Tasks.{IsTaskOf, IsMoveAt, IsSomeMove, IsMeant, IsPartMeant, built_in as built_in_of, does, outputs_on, going_from, looking_from};
 
@@ -85,7 +85,7 @@ pub(crate) fn root<'b>(
     requires string { string.now ≡ c.joined_texts (l.bare (trees nodes.now)) }
     requires work { output.old.work ≤ 4000000 }
     ensures few { OnOk result (output.new.work ≤ 4000000) }
-    ensures outcome { (bodies : List Plain) → HasBodies runner.now bodies → Answers 0 output.old output.new result
+    ensures outcome { (bodies : List CallFreeBody) → HasBodies runner.now bodies → Answers 0 output.old output.new result
         (counted (does_at (machine runner.now bodies) ((machine runner.now bodies).root_body (in_mode 0)) (c.top (l.bare (trees nodes.now))))) }
 {
     let here = Here {
@@ -105,7 +105,7 @@ fn meaning<'b>(runner: &Runner<'_, 'b>, mode: u32, found: Found) -> Meant<'b>
     requires mode { mode < (sheet_by runner.now).modes }
     requires found { IfSome (found_of found) (λ i. i < length (sheet_by runner.now).rules) }
     ensures part { IsPartMeant (sheet_by runner.now) result }
-    ensures meant { (bodies : List Plain) (n : c.Node) (o : Option Chosen) → HasBodies runner.now bodies → option_map (λ w. w.number) o ≡ found_of found →
+    ensures meant { (bodies : List CallFreeBody) (n : c.Node) (o : Option Chosen) → HasBodies runner.now bodies → option_map (λ w. w.number) o ≡ found_of found →
         IsMeant (sheet_by runner.now).named n result (plain_of bodies (built_in_of mode n) o) }
 {
     match found {
@@ -127,7 +127,7 @@ fn meant_by<'b>(
     requires above { above < length (told_by runner.now).ancestors.states }
     requires letter { letters.IsLetter (symbols_by runner.now) (predicates_by runner.now) (see_letter kind marks) }
     ensures part { IsPartMeant (sheet_by runner.now) result }
-    ensures meant { (bodies : List Plain) (n : c.Node) (k : Task) → HasBodies runner.now bodies → IsTaskOf (sheet_by runner.now) (mode_of (sheet_by runner.now).modes job) k →
+    ensures meant { (bodies : List CallFreeBody) (n : c.Node) (k : CallFreeJob) → HasBodies runner.now bodies → IsTaskOf (sheet_by runner.now) (mode_of (sheet_by runner.now).modes job) k →
         ((m : ℕ) → built_in_at m (see_letter kind marks).kind ≡ built_in_of m n) →
         IsMeant (sheet_by runner.now).named n result ((machine runner.now bodies).body_at k (ancestor (told_by runner.now) above) (see_letter kind marks)) }
 {
@@ -155,7 +155,7 @@ fn instantiate<'b>(
     requires nesting { nesting ≤ 8000 }
     requires work { output.old.work ≤ 4000000 }
     ensures few { OnOk result (output.new.work ≤ 4000000) }
-    ensures outcome { (bodies : List Plain) (p : Plain) → HasBodies runner.now bodies → IsMeant (sheet_by runner.now).named (node here.now) meant.entry p → Answers nesting output.old output.new result
+    ensures outcome { (bodies : List CallFreeBody) (p : CallFreeBody) → HasBodies runner.now bodies → IsMeant (sheet_by runner.now).named (node here.now) meant.entry p → Answers nesting output.old output.new result
         (counted (does runner.now bodies p here.now)) }
 {
     let nesting = deeper(nesting)?;
@@ -181,7 +181,7 @@ fn built_in<'b>(
     requires nesting { nesting ≤ 8000 }
     requires work { output.old.work ≤ 4000000 }
     ensures few { OnOk result (output.new.work ≤ 4000000) }
-    ensures outcome { (bodies : List Plain) → HasBodies runner.now bodies → Answers nesting output.old output.new result
+    ensures outcome { (bodies : List CallFreeBody) → HasBodies runner.now bodies → Answers nesting output.old output.new result
         (does runner.now bodies (built_in_of mode (node here.now)) here.now) }
 {
     let nesting = deeper(nesting)?;
@@ -209,7 +209,7 @@ fn body<'b>(
     requires nesting { nesting ≤ 8000 }
     requires work { output.old.work ≤ 4000000 }
     ensures few { OnOk result (output.new.work ≤ 4000000) }
-    ensures outcome { (bodies : List Plain) (p : Plain) → HasBodies runner.now bodies → Unfolds (sheet_by runner.now).named (see.body body.now) p → Answers nesting output.old output.new result
+    ensures outcome { (bodies : List CallFreeBody) (p : CallFreeBody) → HasBodies runner.now bodies → Inlines (sheet_by runner.now).named (see.body body.now) p → Answers nesting output.old output.new result
         (does runner.now bodies p here.now) }
 {
     for one in body {
@@ -233,7 +233,7 @@ fn instruction<'b>(
     requires nesting { nesting ≤ 8000 }
     requires work { output.old.work ≤ 4000000 }
     ensures few { OnOk result (output.new.work ≤ 4000000) }
-    ensures outcome { (bodies : List Plain) (p : Plain) → HasBodies runner.now bodies → Unfolds (sheet_by runner.now).named (see.instruction instruction.now no_instruction) p → Answers nesting output.old output.new result
+    ensures outcome { (bodies : List CallFreeBody) (p : CallFreeBody) → HasBodies runner.now bodies → Inlines (sheet_by runner.now).named (see.instruction instruction.now no_instruction) p → Answers nesting output.old output.new result
         (does runner.now bodies p here.now) }
 {
     let nesting = deeper(nesting)?;
@@ -279,7 +279,7 @@ fn around<'b>(
     requires nesting { nesting ≤ 8000 }
     requires work { output.old.work ≤ 4000000 }
     ensures few { OnOk result (output.new.work ≤ 4000000) }
-    ensures outcome { (bodies : List Plain) (p : Plain) → HasBodies runner.now bodies → Unfolds (sheet_by runner.now).named (see.body inner.now) p → Answers nesting output.old output.new result
+    ensures outcome { (bodies : List CallFreeBody) (p : CallFreeBody) → HasBodies runner.now bodies → Inlines (sheet_by runner.now).named (see.body inner.now) p → Answers nesting output.old output.new result
         (put_around (see.name name.entry) (does runner.now bodies p here.now)) }
 {
     let before = output.enter()?;
@@ -302,7 +302,7 @@ fn copy<'b>(
     requires nesting { nesting ≤ 8000 }
     requires work { output.old.work ≤ 4000000 }
     ensures few { OnOk result (output.new.work ≤ 4000000) }
-    ensures outcome { (bodies : List Plain) (p : Plain) → HasBodies runner.now bodies → Unfolds (sheet_by runner.now).named (see.body inner.now) p → Answers nesting output.old output.new result
+    ensures outcome { (bodies : List CallFreeBody) (p : CallFreeBody) → HasBodies runner.now bodies → Inlines (sheet_by runner.now).named (see.body inner.now) p → Answers nesting output.old output.new result
         (copied (node here.now) (does runner.now bodies p here.now)) }
 {
     match here.shape {
@@ -336,9 +336,9 @@ fn taken<'b>(
     requires here { IsHere runner.now here.now }
     requires part { ArePartBranches (sheet_by runner.now) (see.branches branches.now (otherwise (see.body last.now))) }
     ensures part { IsPart (sheet_by runner.now) (see.body result.now) }
-    ensures taken { (x : PlainBranches) → BranchesUnfold (sheet_by runner.now).named (see.branches branches.now (otherwise (see.body last.now))) x →
-        (p : Plain) × Unfolds (sheet_by runner.now).named (see.body result.now) p
-        × ((bodies : List Plain) (outs : Task → Going → Outcome) → takes_in (machine runner.now bodies) x (node here.now) outs ≡ does_in (machine runner.now bodies) p (node here.now) outs) }
+    ensures taken { (x : CallFreeBranches) → BranchesInline (sheet_by runner.now).named (see.branches branches.now (otherwise (see.body last.now))) x →
+        (p : CallFreeBody) × Inlines (sheet_by runner.now).named (see.body result.now) p
+        × ((bodies : List CallFreeBody) (outs : CallFreeJob → Going → Outcome) → takes_in (machine runner.now bodies) x (node here.now) outs ≡ does_in (machine runner.now bodies) p (node here.now) outs) }
 {
     for branch in branches {
         if holds(runner, &branch.test, here.kids) {
@@ -364,7 +364,7 @@ fn selected<'b>(
     requires nesting { nesting ≤ 8000 }
     requires work { output.old.work ≤ 4000000 }
     ensures few { OnOk result (output.new.work ≤ 4000000) }
-    ensures outcome { (bodies : List Plain) (k : Task) → HasBodies runner.now bodies → IsTaskOf (sheet_by runner.now) (mode_of (sheet_by runner.now).modes job) k → Answers nesting output.old output.new result
+    ensures outcome { (bodies : List CallFreeBody) (k : CallFreeJob) → HasBodies runner.now bodies → IsTaskOf (sheet_by runner.now) (mode_of (sheet_by runner.now).modes job) k → Answers nesting output.old output.new result
         (outputs_on runner.now bodies (c.children (node here.now)) here.now.above (going_from k (see.path path.now))) }
 {
     match runner.rules.move_first(path, job) {
@@ -390,7 +390,7 @@ fn hits<'b>(
     requires nesting { nesting ≤ 8000 }
     requires work { output.old.work ≤ 4000000 }
     ensures few { OnOk result (output.new.work ≤ 4000000) }
-    ensures outcome { (bodies : List Plain) (g : Going) → HasBodies runner.now bodies → IsMoveAt (told_by runner.now) state g → Answers nesting output.old output.new result
+    ensures outcome { (bodies : List CallFreeBody) (g : Going) → HasBodies runner.now bodies → IsMoveAt (told_by runner.now) state g → Answers nesting output.old output.new result
         (outputs_on runner.now bodies (l.bare (trees nodes.now)) above g) }
 {
     for node in nodes {
@@ -416,7 +416,7 @@ fn tree_hits<'b>(
     requires nesting { nesting ≤ 8000 }
     requires work { output.old.work ≤ 4000000 }
     ensures few { OnOk result (output.new.work ≤ 4000000) }
-    ensures outcome { (bodies : List Plain) (g : Going) → HasBodies runner.now bodies → IsMoveAt (told_by runner.now) state g → Answers nesting output.old output.new result
+    ensures outcome { (bodies : List CallFreeBody) (g : Going) → HasBodies runner.now bodies → IsMoveAt (told_by runner.now) state g → Answers nesting output.old output.new result
         (outputs_on runner.now bodies (l.bare (before node.now l.none)) above g) }
 {
     match node {
@@ -457,7 +457,7 @@ fn text_hit<'b>(
     requires nesting { nesting ≤ 8000 }
     requires work { output.old.work ≤ 4000000 }
     ensures few { OnOk result (output.new.work ≤ 4000000) }
-    ensures outcome { (bodies : List Plain) (g : Going) → HasBodies runner.now bodies → IsMoveAt (told_by runner.now) state g → Answers nesting output.old output.new result
+    ensures outcome { (bodies : List CallFreeBody) (g : Going) → HasBodies runner.now bodies → IsMoveAt (told_by runner.now) state g → Answers nesting output.old output.new result
         (outputs_on runner.now bodies (t.text text.now t.none) above g) }
 {
     if !runner.rules.sel_hits(state, Kind::Text, marks) {
@@ -494,7 +494,7 @@ fn element_hit<'b>(
     requires nesting { nesting ≤ 8000 }
     requires work { output.old.work ≤ 4000000 }
     ensures few { OnOk result (output.new.work ≤ 4000000) }
-    ensures outcome { (bodies : List Plain) (g : Going) → HasBodies runner.now bodies → IsMoveAt (told_by runner.now) state g → Answers nesting output.old output.new result
+    ensures outcome { (bodies : List CallFreeBody) (g : Going) → HasBodies runner.now bodies → IsMoveAt (told_by runner.now) state g → Answers nesting output.old output.new result
         (cond ((machine runner.now bodies).move_hits g (see_letter (Kind.Elem letter.sym) letter.marks))
         (counted (does runner.now bodies ((machine runner.now bodies).body_at g.task (ancestor (told_by runner.now) above) (see_letter (Kind.Elem letter.sym) letter.marks)) here.now)) nothing) }
 {

@@ -4,11 +4,11 @@ ghost use Rattle.std.specs.String.{string_bytes};
 ghost use Rattle.tc_model.specs.Chains.{joined_texts};
 ghost use Rattle.tc_model.specs.Letters.{marks_of};
 ghost use Rattle.tc_model.specs.Machine.{holds_in};
-ghost use Rattle.tc_model.specs.Seen as see;
+ghost use Rattle.tc_model.specs.Views as see;
 ghost use Rattle.tc_model.specs.Trees as t;
 ghost use Rattle.tc_run.specs.Lettered as l;
 ghost use Rattle.tc_run.specs.Running.{IsRunner, IsLetteredBy, lettered_by, looking, predicates_by};
-ghost use Rattle.tc_run.specs.Seen.{trees, before};
+ghost use Rattle.tc_run.specs.Views.{trees, before};
 
 use crate::looks::holds;
 use crate::runner::Runner;

@@ -6,7 +6,7 @@
 
 ghost use Rattle.std.specs.Prelude.{IfOk, OnOk, IfErr};
 ghost use Rattle.tc_model.specs.Safety.{IsResultOf};
-ghost use Rattle.tc_model.specs.Seen.{before, trees};
+ghost use Rattle.tc_model.specs.Views.{before, trees};
 ghost use Rattle.tc_model.specs.Trees.{IsDocument, none};
 ghost use Rattle.tc_rules.specs.Kept.{IsRulesOf, told};
 ghost use Rattle.tc_run.specs.Lawful.{HasLawfulResults};

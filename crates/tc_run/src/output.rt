@@ -1,7 +1,7 @@
 // What is put out, and what it costs.
 ghost use Rattle.std.specs.Prelude.{◌≡◌, ◌+◌, ◌<◌, ◌≤◌, ◌++◌, ◌∷◌, [], ℕ, IfOk, OnOk, IfErr};
 ghost use Rattle.tc_model.specs.Outcomes.{put as put_text};
-ghost use Rattle.tc_model.specs.Seen.{name as see_name, trees};
+ghost use Rattle.tc_model.specs.Views.{name as see_name, trees};
 ghost use Rattle.tc_model.specs.Trees.{none, element, beside};
 ghost use Rattle.tc_run.specs.Spent.{Answers};
 

@@ -1,5 +1,5 @@
 ghost use Rattle.std.specs.Prelude.{List};
-ghost use Rattle.tc_model.specs.Seen.{before, sheet as see_sheet};
+ghost use Rattle.tc_model.specs.Views.{before, sheet as see_sheet};
 ghost use Rattle.tc_model.specs.Trees.{IsDocument, none};
 ghost use Rattle.tc_model.specs.WellFormed.{IsSheet};
 

@@ -5,7 +5,7 @@ ghost use Rattle.std.specs.List.{prefix_len};
 ghost use Rattle.tc_model.specs.Names as names;
 ghost use Rattle.tc_model.specs.XmlTextNames as xml;
 ghost use Rattle.tc_scan.specs.Names.{is_ascii_name_byte, GoesOn};
-ghost use Rattle.tc_scan.specs.Seen.{written_name};
+ghost use Rattle.tc_scan.specs.Views.{written_name};
 
 use crate::front::after_byte;
 use tc_base::{is_name_char, is_name_start};

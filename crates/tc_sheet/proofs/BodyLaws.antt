@@ -3,7 +3,7 @@ use Rattle.std.proofs.Common.{◌≡◌, ◌≢◌, ℕ, List, [], ◌∷◌, �
 use Rattle.tc_model.specs.Names.{ExpandedName}
 use Rattle.tc_model.specs.RawTrees.{Attribute, Bound, RawTrees, none, text, element}
 use Rattle.tc_model.specs.Trees.{is_all_white}
-use Rattle.tc_model.specs.Seen.{name, place, raw_trees, raw_before, raw_element}
+use Rattle.tc_model.specs.Views.{name, place, raw_trees, raw_before, raw_element}
 use Rattle.tc_model.specs.SheetTextTrees.{WrittenBody, w_nothing, w_text}
 use Rattle.tc_model.specs.SheetTextPhrases as p
 use Rattle.tc_model.specs.SheetTextPhrases.{xsl_uri, IsXsl, value_of, HasOnly, AreLiteral, IsBlank, AreCharacters, NameText, ElementNameText, Optional, Required, Tag, tag, Instruction, i_apply, i_call, i_value, i_each, i_if, i_choose, i_text, i_copy, i_element, i_copy_of, instruction_of, IsInstruction, IsBody, AreBranches}
@@ -19,7 +19,7 @@ use Rattle.tc_sheet.specs.LookedAt as looked
 use Rattle.tc_sheet.specs.Changes.{Change, flattened, both, TakesAway, ChangedAttributes, Changed, a_text, an_element, taken_away}
 use Rattle.tc_sheet.specs.Readings.{Refuses, IsMisplaced, alone, attributes_of, tag_with, HasNoAttributes, IsRead, HasNoInstruction, HasNoBody, IsItem, HasNoItem, IsElementItem, HasNoElementItem}
 use Rattle.tc_sheet.specs.Begun.{around, IsHead, IsBegunBy, IsAround, IsBegun}
-use Rattle.tc_sheet.specs.Seen.{put, written, written_before}
+use Rattle.tc_sheet.specs.Views.{put, written, written_before}
 use Rattle.tc_sheet.specs.declared.written.Written.{Written}
 use Rattle.tc_sheet.specs.declared.bodies.Head.TheVariants as heads
 use Rattle.tc_sheet.specs.declared.bodies.Begun.{Begun}

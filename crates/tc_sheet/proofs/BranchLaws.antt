@@ -7,7 +7,7 @@ use Rattle.std.proofs.lemmas.List.{take_all}
 use Rattle.tc_model.specs.Names.{ExpandedName}
 use Rattle.tc_model.specs.RawTrees.{Attribute, Bound, RawTrees, none, text, element}
 use Rattle.tc_model.specs.Trees.{is_all_white}
-use Rattle.tc_model.specs.Seen.{name, test, raw_trees, raw_element}
+use Rattle.tc_model.specs.Views.{name, test, raw_trees, raw_element}
 use Rattle.tc_model.specs.Sheets.{Test}
 use Rattle.tc_model.specs.SheetTextTrees.{WrittenBody, w_nothing, w_choose, WrittenBranches, w_otherwise, w_branch}
 use Rattle.tc_model.specs.SheetTextPhrases as p
@@ -18,7 +18,7 @@ use Rattle.tc_sheet.specs.LookedAt.{in_body, in_choose, in_blank, IsIn, IsAt, Is
 use Rattle.tc_sheet.specs.LookedAt as looked
 use Rattle.tc_sheet.specs.Changes.{Change, both, TakesAway, ChangedAttributes, Changed, a_text}
 use Rattle.tc_sheet.specs.Readings.{Refuses, IsMisplaced, alone, attributes_of, scope_of, HasTest, HasNoTest, IsTested, HasNoTested, HasNoAttributes, HasNoBody, IsNotBlank, HasNoBranches, IsElementItem, HasNoElementItem}
-use Rattle.tc_sheet.specs.Seen.{tag_of, body, branches}
+use Rattle.tc_sheet.specs.Views.{tag_of, body, branches}
 use Rattle.tc_sheet.specs.declared.written.WrittenBranch.{WrittenBranch}
 use Rattle.tc_sheet.specs.declared.faults.SheetFault.{SheetFault}
 use Rattle.tc_sheet.proofs.SameBodies.{xsl_reason, not_taken, when_or_otherwise, branches_same}

@@ -6,11 +6,11 @@ use Rattle.tc_graph.specs.Graph.{IsGraph}
 use Rattle.tc_graph.specs.Walks.{AreComponents}
 use Rattle.tc_graph.specs.declared.cycles.State.{State}
 use Rattle.tc_model.specs.Names.{ExpandedName, same_name}
-use Rattle.tc_model.specs.Seen.{place}
+use Rattle.tc_model.specs.Views.{place}
 use Rattle.tc_model.specs.SheetText.{names_of, calls_in_body, StandingCall, calls_of, IsFirst, IsDefined, IsLoop}
 use Rattle.tc_model.specs.SheetTextTrees as s
 use Rattle.tc_sheet.specs.Graphs.{first_back, IsWithin, callees, numbered_calls, is_undefined, first_undefined, IsFirstUndefined, all_calls, IsCallFault}
-use Rattle.tc_sheet.specs.Seen.{template}
+use Rattle.tc_sheet.specs.Views.{template}
 use Rattle.tc_sheet.specs.SeenCalls.{call}
 use Rattle.tc_sheet.specs.declared.calls.Call.{Call}
 use Rattle.tc_sheet.specs.declared.faults.SheetFault.{SheetFault}

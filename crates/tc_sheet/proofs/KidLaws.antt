@@ -4,7 +4,7 @@ use Rattle.std.proofs.lemmas.Bool.{true≢false}
 use Rattle.tc_model.specs.RawTrees.{Attribute, Bound, RawTrees, none, text, element}
 use Rattle.tc_model.specs.Trees.{is_all_white}
 use Rattle.tc_model.specs.Names.{ExpandedName}
-use Rattle.tc_model.specs.Seen.{raw_element}
+use Rattle.tc_model.specs.Views.{raw_element}
 use Rattle.tc_model.specs.SheetTextPhrases.{IsBlank, at_end, past_white, AreCharacters, no_characters, characters}
 use Rattle.tc_model.specs.declared.tree.RawElem.{RawElem}
 use Rattle.tc_sheet.specs.LookedAt.{in_blank, IsIn, IsAt, IsUnrefused}

@@ -2,7 +2,7 @@
 use Rattle.std.proofs.Common.{◌≡◌, ℕ, List, [], ◌∷◌, ◌++◌, Some, slice_get}
 use Rattle.std.specs.List.{AllByRecursion}
 use Rattle.tc_model.specs.Sheets as s
-use Rattle.tc_model.specs.Sheets.{Body, Branches, Plain, PlainBranches, Unfolds, BranchesUnfold}
+use Rattle.tc_model.specs.Sheets.{Body, Branches, CallFreeBody, CallFreeBranches, Inlines, BranchesInline}
 use Rattle.tc_sheet.proofs.LawfulNumbers.{split}
 
 abbrev mutual
@@ -25,7 +25,7 @@ abbrev mutual
 
 module _ (named : List Body) where
   abbrev pub HasPlain : Body → Type 0
-  HasPlain b = (p : Plain) × Unfolds named b p
+  HasPlain b = (p : CallFreeBody) × Inlines named b p
 
   abbrev pub CanCall : ℕ → Type 0
   CanCall n = (b : Body) × (slice_get named n ≡ Some b) × HasPlain b
@@ -63,7 +63,7 @@ module _ (named : List Body) where
         let (p, u) = unfolds b ab in
         (s.p_each e w o p, s.u_each v u)
 
-    branches_unfold : (x : Branches) → AllByRecursion CanCall (called_in_branches x) → (y : PlainBranches) × BranchesUnfold named x y
+    branches_unfold : (x : Branches) → AllByRecursion CanCall (called_in_branches x) → (y : CallFreeBranches) × BranchesInline named x y
     branches_unfold (s.otherwise b) a = let (p, u) = unfolds b a in (s.p_otherwise p, s.u_otherwise u)
     branches_unfold (s.branch t b x) a =
         let (ab, ax) = split CanCall (called_in b) (called_in_branches x) a in

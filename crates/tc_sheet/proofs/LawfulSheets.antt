@@ -9,7 +9,7 @@ use Rattle.tc_graph.specs.Graph.{Path}
 use Rattle.tc_model.specs.Names.{ExpandedName, same_name}
 use Rattle.tc_model.specs.Numbered.{each_once_after}
 use Rattle.tc_model.specs.PathTextPhrases.{Alternative}
-use Rattle.tc_model.specs.Sheets.{Rule, Sheet, Plain, Unfolds}
+use Rattle.tc_model.specs.Sheets.{Rule, Sheet, CallFreeBody, Inlines}
 use Rattle.tc_model.specs.SheetTextTrees.{Template, makes_rules, is_used}
 use Rattle.tc_model.specs.SheetText.{one_name, modes_in_body, calls_in_body, eaches_in, eaches_of, mode_number, modes_of, names_of, NumberedTemplate, first_eaches, numbered_templates, sheet_of, StandingCall, calls_of, IsDefined, IsLoop}
 use Rattle.tc_model.specs.WellFormed as w
@@ -190,7 +190,7 @@ module _ (total : ℕ) (ts : List Template) (used : All (λ t. is_used t ≡ tru
   acyclic : (k : ℕ) → Path (callees names ts) k k → ⊥
   acyclic k p = no_cycle ts once (λ t c h i l. All-contains (λ s. IsLoop ts s → ⊥) (calls_of ts) (stand t c) no_loop (stands ts t c h i) l) p refl
 
-  all_unfold : All (λ b. (p : Plain) × Unfolds sheet.named b p) sheet.named
+  all_unfold : All (λ b. (p : CallFreeBody) × Inlines sheet.named b p) sheet.named
   all_unfold k d l = all_end sheet.named (callees names ts) rows (is_graph ts once (none_undefined ts defined)) acyclic k (get_or sheet.named k d) (slice_get-get_or sheet.named k d l)
 
   -- for-eaches

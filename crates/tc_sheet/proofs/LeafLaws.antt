@@ -3,7 +3,7 @@ use Rattle.std.proofs.Common.{◌≡◌, ℕ, List, [], ◌∷◌, refl, ap, ◌
 use Rattle.std.specs.Prelude.{codes}
 use Rattle.tc_model.specs.Names.{ExpandedName}
 use Rattle.tc_model.specs.RawTrees.{RawTrees, none}
-use Rattle.tc_model.specs.Seen.{name, raw_trees, raw_element}
+use Rattle.tc_model.specs.Views.{name, raw_trees, raw_element}
 use Rattle.tc_model.specs.Sheets.{Path, Test, Body, no_instruction, value, value_of_self}
 use Rattle.tc_model.specs.PathText.{SelectText, ValueText}
 use Rattle.tc_model.specs.SheetTextTrees.{WrittenBody}

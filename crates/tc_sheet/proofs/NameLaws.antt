@@ -8,7 +8,7 @@ use Rattle.tc_base.specs.declared.reasons.Why.{Why}
 use Rattle.tc_base.specs.declared.reasons.Why.TheVariants.{N35, N37, N38, N39, N40, N41, N42}
 use Rattle.tc_model.specs.Names.{ExpandedName}
 use Rattle.tc_model.specs.RawTrees.{Attribute, Bound}
-use Rattle.tc_model.specs.Seen.{name, place, attribute}
+use Rattle.tc_model.specs.Views.{name, place, attribute}
 use Rattle.tc_model.specs.Sheets.{Path, no_alternative}
 use Rattle.tc_model.specs.XmlTextNames.{QualifiedName, QNameAt}
 use Rattle.tc_model.specs.XmlTextScopes.{uri_of, is_empty, ElementName, bound, unbound}
@@ -27,7 +27,7 @@ use Rattle.tc_sheet.specs.LookedAt.{IsAt, of_attribute, IsUnrefused, IsRefused}
 use Rattle.tc_sheet.specs.Constructs as constructs
 use Rattle.tc_sheet.specs.Changes.{Change, both, flattened, exchanged}
 use Rattle.tc_sheet.specs.Readings.{Refuses, alone, attributes_of, scope_of, IsAttribute, HasAttributesText, HasNoAttributes, HasNoRequired, HasNoOptional}
-use Rattle.tc_sheet.specs.Seen.{tag_of}
+use Rattle.tc_sheet.specs.Views.{tag_of}
 use Rattle.tc_sheet.specs.declared.faults.SheetFault.{SheetFault}
 use Rattle.tc_sheet.proofs.Changes.{Becomes, value_becomes, kept_value}
 use Rattle.tc_sheet.proofs.SameBodies.{unpacked, optional_unpacked}

@@ -4,8 +4,8 @@ use Rattle.std.specs.List.{list_any}
 use Rattle.std.proofs.lemmas.List.{drop_more, drop_all}
 use Rattle.tc_model.specs.Names.{ExpandedName, same_name}
 use Rattle.tc_model.specs.Numbered.{number_of}
-use Rattle.tc_model.specs.Seen as see
-use Rattle.tc_model.specs.Seen.{name, path, test}
+use Rattle.tc_model.specs.Views as see
+use Rattle.tc_model.specs.Views.{name, path, test}
 use Rattle.tc_model.specs.Sheets as sheets
 use Rattle.tc_model.specs.Sheets.{Body, Branches}
 use Rattle.tc_model.specs.SheetTextTrees as s
@@ -19,7 +19,7 @@ use Rattle.tc_model.proofs.ViewsBody as bodies
 use Rattle.tc_model.proofs.ViewsBody.{body_then, body_then_done, body_then_assoc, instruction_then, pushed_instruction, pushed_branch}
 use Rattle.tc_sheet.specs.Numbers.{eaches_with_rules, eaches_without, numbered_template, rules_with, named_with}
 use Rattle.tc_sheet.specs.Graphs.{alone}
-use Rattle.tc_sheet.specs.Seen.{written, body, branches, branches_of, template}
+use Rattle.tc_sheet.specs.Views.{written, body, branches, branches_of, template}
 use Rattle.tc_sheet.specs.declared.written.WrittenBranch.{WrittenBranch}
 use Rattle.tc_sheet.specs.declared.written.Written.{Written}
 use Rattle.tc_sheet.specs.declared.written.Written.TheVariants as v

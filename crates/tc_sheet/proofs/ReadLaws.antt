@@ -2,7 +2,7 @@
 use Rattle.std.proofs.Common.{◌≡◌, ◌⊎◌, inl, inr, ℕ, List, [], ◌∷◌, ◌++◌, refl, ap, ◌∙◌, sym, subst, Option, option_map, Bor}
 use Rattle.std.specs.Prelude.{codes}
 use Rattle.tc_model.specs.RawTrees.{Bound}
-use Rattle.tc_model.specs.Seen.{name, path, test, instruction, raw_trees}
+use Rattle.tc_model.specs.Views.{name, path, test, instruction, raw_trees}
 use Rattle.tc_model.specs.Sheets as s
 use Rattle.tc_model.specs.PathTextTokens.{Token}
 use Rattle.tc_model.specs.PathText.{SelectText, ValueText, IsValue, of_self, of_path}
@@ -22,7 +22,7 @@ use Rattle.tc_model.specs.declared.sheet.Instr.TheViews.{roll-Instr, out-Instr, 
 use Rattle.tc_model.proofs.ViewsBody as views
 use Rattle.tc_sheet.specs.Readings.{attributes_of, scope_of, IsRead, HasTest, HasAttributesText}
 use Rattle.tc_sheet.specs.Begun.{IsHead}
-use Rattle.tc_sheet.specs.Seen.{tag_of, written, body, branches}
+use Rattle.tc_sheet.specs.Views.{tag_of, written, body, branches}
 use Rattle.tc_sheet.specs.declared.written.Written.{Written}
 use Rattle.tc_sheet.specs.declared.written.WrittenBranch.{WrittenBranch}
 use Rattle.tc_sheet.specs.declared.written.Written.TheVariants as v

@@ -3,7 +3,7 @@ use Rattle.std.proofs.Common.{◌≡◌, ◌⊎◌, inl, inr, ℕ, List, refl, s
 use Rattle.tc_base.specs.declared.reasons.Why.{Why}
 use Rattle.tc_model.specs.Names.{ExpandedName}
 use Rattle.tc_model.specs.RawTrees.{Attribute, Bound, RawTrees, none, text, element}
-use Rattle.tc_model.specs.Seen.{name, place, attribute, raw_element}
+use Rattle.tc_model.specs.Views.{name, place, attribute, raw_element}
 use Rattle.tc_model.specs.PathTextTokens.{Token, IsTooDeep}
 use Rattle.tc_model.specs.PathText.{Forms}
 use Rattle.tc_model.specs.SheetTextPhrases.{tag, value_of, Optional, Required}
@@ -17,7 +17,7 @@ use Rattle.tc_path.specs.Faults.{FormsOnceRenamed, Deep}
 use Rattle.tc_sheet.specs.Constructs.{Form, context_of, HasForm, MustHave, plain, in_path, IsUnrefusedElement}
 use Rattle.tc_sheet.specs.LookedAt.{Where, Item, of_text, of_element, of_attribute, IsOpened, IsIn, IsAt, IsUnrefused, IsDeep}
 use Rattle.tc_sheet.specs.LookedAt as looked
-use Rattle.tc_sheet.specs.Seen.{tag_of}
+use Rattle.tc_sheet.specs.Views.{tag_of}
 use Rattle.tc_sheet.specs.Changes.{Change, mended, flattened, both, Exchanges, IsRenamed}
 use Rattle.tc_sheet.specs.PathFaults.{path_fault_at}
 use Rattle.tc_sheet.specs.Readings.{Refuses, IsOfTag, itself, attribute_of, alone, attributes_of, scope_of, IsAttribute, HasNoRequired, HasNoOptional}

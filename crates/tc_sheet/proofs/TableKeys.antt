@@ -7,11 +7,11 @@ use Rattle.std.proofs.lemmas.Grind.{flat_map-append}
 use Rattle.indexmap.specs.IndexSet.{insert_key}
 use Rattle.tc_model.specs.Names.{ExpandedName, same_name}
 use Rattle.tc_model.specs.Numbered.{number_of}
-use Rattle.tc_model.specs.Seen.{name}
+use Rattle.tc_model.specs.Views.{name}
 use Rattle.tc_model.specs.SheetText.{one_name, names_of}
 use Rattle.tc_model.specs.SheetTextTrees as s
 use Rattle.tc_model.specs.declared.tree.Name.{Name}
-use Rattle.tc_sheet.specs.Seen.{template}
+use Rattle.tc_sheet.specs.Views.{template}
 use Rattle.tc_sheet.specs.Tables.{puts, modes_in, IsAgain, IsTwice}
 use Rattle.tc_sheet.specs.declared.faults.SheetFault.{SheetFault}
 use Rattle.tc_sheet.specs.declared.faults.SheetFault.TheVariants.{Malformed, Unsupported, TooDeep, Undefined, CallLoop, NoMemory}

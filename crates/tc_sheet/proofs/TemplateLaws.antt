@@ -7,7 +7,7 @@ use Rattle.tc_base.specs.declared.reasons.Why.TheVariants.{N36}
 use Rattle.tc_model.specs.Names.{ExpandedName}
 use Rattle.tc_model.specs.RawTrees.{Attribute, Bound, RawTrees, none, text, element}
 use Rattle.tc_model.specs.Trees.{is_all_white}
-use Rattle.tc_model.specs.Seen.{name, raw_trees, raw_before, raw_element}
+use Rattle.tc_model.specs.Views.{name, raw_trees, raw_before, raw_element}
 use Rattle.tc_model.specs.PathTextPhrases.{Alternative}
 use Rattle.tc_model.specs.PathText.{PatternText}
 use Rattle.tc_model.specs.PathTextPriority.{PriorityText}
@@ -22,7 +22,7 @@ use Rattle.tc_sheet.specs.LookedAt as looked
 use Rattle.tc_sheet.specs.Changes.{Change, mended, flattened, both, ChangedAttributes, Changed, no_tree, a_text, an_element, taken_away}
 use Rattle.tc_sheet.specs.Faults.{IsCause, IsNoneWith, IsNoFaultOfCalls}
 use Rattle.tc_sheet.specs.Readings.{Refuses, IsOfTag, itself, attribute_of, IsMisplaced, alone, attributes_of, scope_of, HasNoAttributes, HasNoOptional, HasNoBody, HasNoTemplate, HasNoTemplates, IsTopItem, HasNoTopItem, IsTopElement, HasNoTopElement}
-use Rattle.tc_sheet.specs.Seen.{tag_of, put_template, template}
+use Rattle.tc_sheet.specs.Views.{tag_of, put_template, template}
 use Rattle.tc_sheet.specs.declared.written.Template.{Template as Code}
 use Rattle.tc_sheet.specs.declared.faults.SheetFault.{SheetFault}
 use Rattle.tc_sheet.specs.declared.faults.SheetFault.TheVariants.{Malformed, Unsupported, TooDeep, Undefined, CallLoop, NoMemory}

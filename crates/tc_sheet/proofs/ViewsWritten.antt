@@ -2,12 +2,12 @@
 use Rattle.std.proofs.Common.{◌≡◌, ℕ, ◌+◌, ◌<◌, List, [], ◌∷◌, ◌++◌, refl, ap, ◌∙◌, sym, map, Bor, length, get_or, drop, Option, option_map}
 use Rattle.std.proofs.lemmas.List.{drop_more}
 use Rattle.tc_base.specs.declared.Place.{Place}
-use Rattle.tc_model.specs.Seen.{name, place, path, test}
+use Rattle.tc_model.specs.Views.{name, place, path, test}
 use Rattle.tc_model.specs.SheetTextTrees as s
 use Rattle.tc_model.specs.SheetTextTrees.{WrittenBody, WrittenBranches}
 use Rattle.tc_model.specs.declared.tree.Name.{Name}
 use Rattle.tc_model.specs.declared.sheet.Path.{Path}
-use Rattle.tc_sheet.specs.Seen.{body_layers, branch_layers, layer, branch_layer, written, written_before, body, branches}
+use Rattle.tc_sheet.specs.Views.{body_layers, branch_layers, layer, branch_layer, written, written_before, body, branches}
 use Rattle.tc_sheet.specs.declared.written.WrittenBranch.{WrittenBranch}
 use Rattle.tc_sheet.specs.declared.written.Written.{Written}
 use Rattle.tc_sheet.specs.declared.written.Written.TheOpen as parts

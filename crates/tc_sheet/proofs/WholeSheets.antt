@@ -4,7 +4,7 @@ use Rattle.std.specs.List.{IsDistinct}
 use Rattle.tc_base.specs.declared.Place.{Place}
 use Rattle.tc_model.specs.Names.{ExpandedName, same_name}
 use Rattle.tc_model.specs.RawTrees.{RawTrees, none, IsOneElement}
-use Rattle.tc_model.specs.Seen.{raw_tree, raw_element, sheet}
+use Rattle.tc_model.specs.Views.{raw_tree, raw_element, sheet}
 use Rattle.tc_model.specs.Sheets.{Sheet}
 use Rattle.tc_model.specs.SheetTextTrees.{Template, is_used}
 use Rattle.tc_model.specs.SheetTextPhrases.{IsStylesheet}

@@ -5,14 +5,14 @@ use Rattle.tc_base.specs.declared.Place.{Place}
 use Rattle.tc_model.specs.Names.{ExpandedName, same_name}
 use Rattle.tc_model.specs.Numbered.{each_once_after}
 use Rattle.tc_model.specs.Sheets as sheets
-use Rattle.tc_model.specs.Seen.{name, place, path, test}
+use Rattle.tc_model.specs.Views.{name, place, path, test}
 use Rattle.tc_model.specs.declared.tree.Name.{Name}
 use Rattle.tc_model.specs.declared.sheet.Path.{Path}
 use Rattle.tc_model.specs.SheetTextTrees as s
 use Rattle.tc_model.specs.SheetTextTrees.{WrittenBody, WrittenBranches}
 use Rattle.tc_model.specs.SheetText.{one_name, modes_in_body, modes_in_branches, Call, calls_in_body, calls_in_branches, eaches_in, eaches_in_branches}
 use Rattle.tc_sheet.specs.Graphs.{alone}
-use Rattle.tc_sheet.specs.Seen.{written, body, branches, branches_of}
+use Rattle.tc_sheet.specs.Views.{written, body, branches, branches_of}
 use Rattle.tc_sheet.specs.Tables.{puts}
 use Rattle.tc_sheet.specs.declared.written.WrittenBranch.{WrittenBranch}
 use Rattle.tc_sheet.specs.declared.written.Written.{Written, Written-F}

@@ -1,14 +1,14 @@
 -- What is known of an element of a body before what it holds is read.
 use Rattle.std.specs.Prelude.{◌≡◌, [], Some}
 use Rattle.tc_model.specs.RawTrees.{RawTrees}
-use Rattle.tc_model.specs.Seen.{name, path, test, raw_trees, raw_element}
+use Rattle.tc_model.specs.Views.{name, path, test, raw_trees, raw_element}
 use Rattle.tc_model.specs.SheetTextTrees.{WrittenBody, w_nothing, w_element, w_copy, w_each, w_choose, w_otherwise, w_branch}
 use Rattle.tc_model.specs.SheetTextPhrases.{Tag, Instruction, i_choose, instruction_of, HasOnly, IsInstruction, IsBody}
 use Rattle.tc_model.specs.declared.tree.RawElem.{RawElem}
 use Rattle.tc_sheet.specs.Changes.{Change}
 use Rattle.tc_sheet.specs.LookedAt.{held, in_body, IsOpened}
 use Rattle.tc_sheet.specs.Readings.{attributes_of, IsRead, HasNoBody, IsElementItem, HasNoElementItem}
-use Rattle.tc_sheet.specs.Seen.{tag_of, put}
+use Rattle.tc_sheet.specs.Views.{tag_of, put}
 use Rattle.tc_sheet.specs.declared.bodies.Head.{Head}
 use Rattle.tc_sheet.specs.declared.bodies.Head.TheVariants as heads
 use Rattle.tc_sheet.specs.declared.bodies.Begun.{Begun}

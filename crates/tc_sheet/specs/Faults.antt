@@ -1,7 +1,7 @@
 -- Why a raw tree isn't a stylesheet.
 use Rattle.std.specs.Prelude.{◌≡◌, ℕ, List}
 use Rattle.tc_model.specs.RawTrees.{RawTrees}
-use Rattle.tc_model.specs.Seen.{place}
+use Rattle.tc_model.specs.Views.{place}
 use Rattle.tc_model.specs.SheetTextTrees.{Template}
 use Rattle.tc_model.specs.SheetTextPhrases.{IsStylesheet}
 use Rattle.tc_model.specs.SheetText.{SheetFails, undefined, call_loop}

@@ -5,7 +5,7 @@ use Rattle.tc_graph.specs.Walks.{same_component, state_at}
 use Rattle.tc_graph.specs.declared.cycles.State.{State}
 use Rattle.tc_model.specs.Names.{ExpandedName, same_name}
 use Rattle.tc_model.specs.Numbered.{number_of}
-use Rattle.tc_model.specs.Seen.{place}
+use Rattle.tc_model.specs.Views.{place}
 use Rattle.tc_model.specs.SheetTextTrees.{WrittenBody, w_nothing, Template}
 use Rattle.tc_model.specs.SheetText.{one_name, Call, calls_in_body, StandingCall, calls_of, IsFirst, IsDefined, IsUndefined, IsLoop}
 use Rattle.tc_sheet.specs.declared.faults.SheetFault.{SheetFault}

@@ -1,4 +1,4 @@
-pub mod Seen
+pub mod Views
 pub mod Constructs
 pub mod LookedAt
 pub mod Changes

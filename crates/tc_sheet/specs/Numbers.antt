@@ -3,7 +3,7 @@ use Rattle.std.specs.Borrow.{Bor}
 use Rattle.std.specs.Prelude.{ℕ, List, map, if◌then◌else◌}
 use Rattle.tc_model.specs.Names.{ExpandedName}
 use Rattle.tc_model.specs.PathTextPhrases.{Alternative}
-use Rattle.tc_model.specs.Seen.{body}
+use Rattle.tc_model.specs.Views.{body}
 use Rattle.tc_model.specs.Sheets.{Body, Rule}
 use Rattle.tc_model.specs.declared.sheet.Instr.{Instr}
 use Rattle.tc_model.specs.SheetTextTrees.{Template, makes_rules}

@@ -1,7 +1,7 @@
 -- What the functions that read a stylesheet find in its tree.
 use Rattle.std.specs.Prelude.{◌≡◌, ℕ, List, [], ◌∷◌, map, Option, Some, Contains, codes}
 use Rattle.tc_model.specs.RawTrees.{Attribute, Bound, RawTrees, element}
-use Rattle.tc_model.specs.Seen.{name, place, attribute, bound, raw_trees, raw_before}
+use Rattle.tc_model.specs.Views.{name, place, attribute, bound, raw_trees, raw_before}
 use Rattle.tc_model.specs.Sheets.{Test}
 use Rattle.tc_model.specs.SheetTextTrees.{WrittenBody, WrittenBranches, Template}
 use Rattle.tc_model.specs.SheetTextPhrases.{Tag, tag, HasOnly, Optional, Required, value_of, IsBlank, AreCharacters, Instruction, IsInstruction, IsBody, AreBranches, IsTemplate, AreTemplates}
@@ -12,7 +12,7 @@ use Rattle.tc_model.specs.declared.tree.RawElem.{RawElem}
 use Rattle.tc_sheet.specs.Constructs.{IsRefusedElement, IsUnrefusedElement, plain}
 use Rattle.tc_sheet.specs.LookedAt.{Item, of_element, of_attribute, IsAt, IsUnrefused, IsRefused, IsDeep}
 use Rattle.tc_sheet.specs.Changes.{Change, mended, flattened, both, ChangedAttributes, Changed}
-use Rattle.tc_sheet.specs.Seen.{tag_of}
+use Rattle.tc_sheet.specs.Views.{tag_of}
 use Rattle.tc_sheet.specs.declared.faults.SheetFault.{SheetFault}
 use Rattle.tc_sheet.specs.declared.faults.SheetFault.TheVariants.{Malformed, Unsupported, TooDeep, Undefined, CallLoop, NoMemory}
 

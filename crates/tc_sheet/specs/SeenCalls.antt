@@ -2,7 +2,7 @@
 use Rattle.std.specs.Prelude.{List, map}
 use Rattle.tc_model.specs.Names.{ExpandedName}
 use Rattle.indexmap.specs.IndexSet.{IndexSet}
-use Rattle.tc_model.specs.Seen.{name, place}
+use Rattle.tc_model.specs.Views.{name, place}
 use Rattle.tc_model.specs.declared.tree.Name.{Name}
 use Rattle.tc_model.specs.SheetText as s
 use Rattle.tc_sheet.specs.Graphs.{NumberedCall}

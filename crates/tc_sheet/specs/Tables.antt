@@ -3,7 +3,7 @@ use Rattle.std.specs.Prelude.{◌≡◌, ℕ, List, ◌∷◌, ◌++◌, Some, t
 use Rattle.std.specs.List.{IsDistinct, list_any}
 use Rattle.tc_model.specs.Names.{ExpandedName, same_name}
 use Rattle.tc_model.specs.Numbered.{each_once_after}
-use Rattle.tc_model.specs.Seen.{place}
+use Rattle.tc_model.specs.Views.{place}
 use Rattle.tc_model.specs.SheetTextTrees.{Template}
 use Rattle.tc_model.specs.SheetText.{names_of, one_name, modes_in_body}
 use Rattle.tc_sheet.specs.declared.faults.SheetFault.{SheetFault}

@@ -2,7 +2,7 @@
 ghost use Rattle.std.specs.Prelude.{◌≡◌, ◌≢◌, [], Some, IfOk, IfErr, OnOk, MatchBool, codes, option_map};
 ghost use Rattle.tc_model.specs.Meaning as meaning;
 ghost use Rattle.tc_model.specs.RawTrees as raws;
-ghost use Rattle.tc_model.specs.Seen as see;
+ghost use Rattle.tc_model.specs.Views as see;
 ghost use Rattle.tc_model.specs.SheetTextPhrases as phrases;
 ghost use Rattle.tc_model.specs.SheetTextPhrases.{xsl_uri, IsXsl};
 ghost use Rattle.tc_model.specs.SheetTextTrees as trees;
@@ -11,7 +11,7 @@ ghost use Rattle.tc_sheet.specs.Constructs.{MustHave, plain};
 ghost use Rattle.tc_sheet.specs.Constructs as forms;
 ghost use Rattle.tc_sheet.specs.LookedAt.{IsIn, in_body, in_choose, in_blank};
 ghost use Rattle.tc_sheet.specs.Readings.{Refuses, IsNotBlank, HasNoCharacters, HasNoInstruction, HasTest, HasNoTest, IsTested, HasNoTested, HasNoBody, IsItem, HasNoItem, IsElementItem, HasNoElementItem, HasNoBranches, alone, attributes_of, scope_of};
-ghost use Rattle.tc_sheet.specs.Seen.{written, put, tag_of, body as body_of, branches as branches_before, instruction as instruction_seen};
+ghost use Rattle.tc_sheet.specs.Views.{written, put, tag_of, body as body_of, branches as branches_before, instruction as instruction_seen};
 ghost use Rattle.tc_sheet.specs.declared.faults.SheetFault.TheVariants as faults;
 
 use crate::attributes::{

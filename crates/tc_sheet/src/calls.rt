@@ -4,10 +4,10 @@ ghost use Rattle.std.specs.Prelude.{◌≡◌, ◌++◌, ◌<◌, ◌∷◌, [],
 ghost use Rattle.std.specs.List.{IsDistinct, list_any};
 ghost use Rattle.tc_graph.specs.Graph.{rows_of};
 ghost use Rattle.tc_model.specs.Names.{same_name};
-ghost use Rattle.tc_model.specs.Seen as see;
+ghost use Rattle.tc_model.specs.Views as see;
 ghost use Rattle.tc_model.specs.SheetText as model;
 ghost use Rattle.tc_sheet.specs.Graphs.{IsCallFault, IsFirstUndefined, IsWithin, alone, callee_of, caller_of, calls_from, first_back, first_undefined, leads_back as back, numbered_from, row_of};
-ghost use Rattle.tc_sheet.specs.Seen.{body as body_seen, branches_of, written, template as template_seen};
+ghost use Rattle.tc_sheet.specs.Views.{body as body_seen, branches_of, written, template as template_seen};
 ghost use Rattle.tc_sheet.specs.SeenCalls.{call as seen_call, names_seen, site as seen_site};
 ghost use Rattle.tc_sheet.specs.declared.faults.SheetFault.TheVariants.{NoMemory};
 

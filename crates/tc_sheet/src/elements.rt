@@ -1,12 +1,12 @@
 // The elements of XSLT (XSLT 1.0, 2.1 and the element syntax summary).
 ghost use Rattle.std.specs.Prelude.{◌≡◌, ◌≢◌, MatchBool, option_map, bytes_eq};
 ghost use Rattle.std.specs.List.{list_any};
-ghost use Rattle.tc_model.specs.Seen as see;
+ghost use Rattle.tc_model.specs.Views as see;
 ghost use Rattle.tc_model.specs.SheetTextPhrases as phrases;
 ghost use Rattle.tc_model.specs.SheetTextPhrases.{xsl_uri, IsXsl};
 ghost use Rattle.tc_sheet.specs.Constructs as constructs;
 ghost use Rattle.tc_sheet.specs.Readings.{IsMisplaced};
-ghost use Rattle.tc_sheet.specs.Seen.{instruction};
+ghost use Rattle.tc_sheet.specs.Views.{instruction};
 
 use crate::faults::SheetFault;
 use tc_base::Why;

@@ -3,14 +3,14 @@
 
 ghost use Rattle.std.specs.Prelude.{◌≡◌, ℕ, filter, map, IfOk, IfErr};
 ghost use Rattle.tc_model.specs.RawTrees.{RawTrees, IsOneElement, none};
-ghost use Rattle.tc_model.specs.Seen.{raw_element, raw_tree, sheet};
+ghost use Rattle.tc_model.specs.Views.{raw_element, raw_tree, sheet};
 ghost use Rattle.tc_model.specs.SheetText.{SheetText, SheetFails, undefined, call_loop};
 ghost use Rattle.tc_model.specs.SheetTextTrees.{is_used};
 ghost use Rattle.tc_model.specs.Sheets as sheets;
 ghost use Rattle.tc_sheet.specs.Changes.{mended, flattened, Changed};
 ghost use Rattle.tc_sheet.specs.Faults.{IsCause, IsUnsupported, IsTooDeep, IsUndefinedAt, IsLoopAt, NamesAgain, IsMalformedAt};
 ghost use Rattle.tc_sheet.specs.Laws.{HasLawfulSheet};
-ghost use Rattle.tc_sheet.specs.Seen.{template as template_seen};
+ghost use Rattle.tc_sheet.specs.Views.{template as template_seen};
 ghost use Rattle.tc_sheet.specs.Told.{IsTold};
 
 mod attributes;

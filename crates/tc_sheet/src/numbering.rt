@@ -2,13 +2,13 @@
 ghost use Rattle.std.specs.Prelude.{◌≡◌, ◌+◌, ◌++◌, filter, map, option_map, IfOk, IfErr, OnOk};
 ghost use Rattle.tc_model.specs.Names.{same_name};
 ghost use Rattle.tc_model.specs.Numbered.{number_of};
-ghost use Rattle.tc_model.specs.Seen as see;
+ghost use Rattle.tc_model.specs.Views as see;
 ghost use Rattle.tc_model.specs.SheetText as model;
 ghost use Rattle.tc_model.specs.SheetTextTrees as trees;
-ghost use Rattle.tc_path.specs.Seen.{alternative};
+ghost use Rattle.tc_path.specs.Views.{alternative};
 ghost use Rattle.tc_sheet.specs.Graphs.{alone};
 ghost use Rattle.tc_sheet.specs.Numbers.{bodies, body_with, eaches_with_rules as with_rules, eaches_without, named_with, numbered_template, rule_from, rules_with};
-ghost use Rattle.tc_sheet.specs.Seen.{body as body_seen, branches as branches_before, branches_of, written, template as template_seen};
+ghost use Rattle.tc_sheet.specs.Views.{body as body_seen, branches as branches_before, branches_of, written, template as template_seen};
 ghost use Rattle.tc_sheet.specs.SeenCalls.{names_seen};
 ghost use Rattle.tc_sheet.specs.declared.faults.SheetFault.TheVariants.{NoMemory};
 

@@ -2,10 +2,10 @@
 ghost use Rattle.std.specs.Prelude.{◌≡◌, ◌++◌, map, option_map, IfOk, IfErr, OnOk};
 ghost use Rattle.std.specs.List.{IsDistinct};
 ghost use Rattle.tc_model.specs.Names.{same_name};
-ghost use Rattle.tc_model.specs.Seen as see;
+ghost use Rattle.tc_model.specs.Views as see;
 ghost use Rattle.tc_model.specs.SheetText as model;
 ghost use Rattle.tc_sheet.specs.Graphs.{alone};
-ghost use Rattle.tc_sheet.specs.Seen.{body as body_seen, branches_of, written, template as template_seen};
+ghost use Rattle.tc_sheet.specs.Views.{body as body_seen, branches_of, written, template as template_seen};
 ghost use Rattle.tc_sheet.specs.SeenCalls.{names_seen};
 ghost use Rattle.tc_sheet.specs.Tables.{IsAgain, IsTwice, modes_in, puts};
 ghost use Rattle.tc_sheet.specs.declared.faults.SheetFault.TheVariants.{NoMemory};

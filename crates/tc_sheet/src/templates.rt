@@ -1,15 +1,15 @@
 // Templates, and what stands beside them in a stylesheet (XSLT 1.0, 2.2, 5, 6).
 ghost use Rattle.std.specs.Prelude.{◌≡◌, ◌≢◌, ◌||◌, ◌&&◌, not, [], Some, IfOk, IfErr, OnOk, MatchBool, codes, map, option_map};
 ghost use Rattle.tc_model.specs.RawTrees as raws;
-ghost use Rattle.tc_model.specs.Seen as see;
+ghost use Rattle.tc_model.specs.Views as see;
 ghost use Rattle.tc_model.specs.SheetTextPhrases as phrases;
 ghost use Rattle.tc_model.specs.SheetTextPhrases.{IsXsl};
-ghost use Rattle.tc_path.specs.Seen.{alternative};
+ghost use Rattle.tc_path.specs.Views.{alternative};
 ghost use Rattle.tc_sheet.specs.Constructs.{IsRoot, IsDeclaration};
 ghost use Rattle.tc_sheet.specs.Faults.{IsCause, IsNoFaultOfCalls};
 ghost use Rattle.tc_sheet.specs.LookedAt.{IsIn, at_top};
 ghost use Rattle.tc_sheet.specs.Readings.{Refuses, alone, attributes_of, HasNoAttributes, HasNoTemplate, HasNoTemplates, IsTopItem, HasNoTopItem, IsTopElement, HasNoTopElement};
-ghost use Rattle.tc_sheet.specs.Seen.{tag_of, put_template, template as template_seen};
+ghost use Rattle.tc_sheet.specs.Views.{tag_of, put_template, template as template_seen};
 ghost use Rattle.tc_sheet.specs.declared.faults.SheetFault.TheVariants as faults;
 
 use crate::attributes::{

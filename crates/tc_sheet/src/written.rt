@@ -39,7 +39,7 @@ pub(crate) struct Template<'b> {
 impl Template<'_> {
     ghost use Rattle.std.specs.Prelude.{◌≡◌};
     ghost use Rattle.tc_model.specs.SheetTextTrees as s;
-    ghost use Rattle.tc_sheet.specs.Seen.{template};
+    ghost use Rattle.tc_sheet.specs.Views.{template};
 
     /// Whether it makes rules.
     pub(crate) fn makes_rules(&self) -> bool

@@ -3,7 +3,7 @@
 
 ghost use Rattle.std.specs.Prelude.{◌≤◌, ℕ, length, IfOk, IfErr};
 ghost use Rattle.tc_model.specs.RawTrees.{RawTrees};
-ghost use Rattle.tc_model.specs.Seen.{sheet as see_sheet};
+ghost use Rattle.tc_model.specs.Views.{sheet as see_sheet};
 ghost use Rattle.tc_model.specs.SheetText.{SheetText, SheetFails, undefined, call_loop};
 ghost use Rattle.tc_model.specs.Sheets as sheets;
 ghost use Rattle.tc_model.specs.WellFormed.{IsSheet};

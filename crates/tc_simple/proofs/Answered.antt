@@ -8,9 +8,9 @@ use Rattle.std.specs.List.{Contains}
 use Rattle.tc_model.specs.CompactSyntaxTrees.{SyntaxPattern, Definition}
 use Rattle.tc_model.specs.SimplifiesParts.{nodes_in, nodes_in_all}
 use Rattle.tc_model.specs.SimplifiesFaults.{first_answer, first_place, misplaced, misplaced_among}
-use Rattle.tc_rnc.specs.Seen as see
+use Rattle.tc_rnc.specs.Views as see
 use Rattle.tc_model.specs.Simplifies.{Element}
-use Rattle.tc_model.specs.Seen.{place}
+use Rattle.tc_model.specs.Views.{place}
 use Rattle.tc_base.specs.declared.Place.{Place}
 use Rattle.tc_simple.specs.Nodes.{nodes, nodes_of_all, elements_of, marked_elements, IsLeast, IsLesser}
 use Rattle.tc_simple.specs.declared.groups.Table.{Table}

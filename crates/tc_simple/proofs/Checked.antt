@@ -10,7 +10,7 @@ use Rattle.tc_model.specs.CompactSyntaxTrees.{SyntaxPattern, Definition, Syntax}
 use Rattle.tc_model.specs.SimplifiesParts.{joined_definitions, nodes_of}
 use Rattle.tc_model.specs.SimplifiesFaults.{first_answer, first_definition, undefined_at, undefined_reference, unless_defined}
 use Rattle.tc_model.proofs.CompactSyntaxClassesUnique.{some_none}
-use Rattle.tc_rnc.specs.Seen as see
+use Rattle.tc_rnc.specs.Views as see
 use Rattle.tc_rnc.specs.declared.syntax.SPat.{SPat}
 use Rattle.tc_graph.specs.Graph.{IsGraph}
 use Rattle.tc_simple.specs.Nodes.{nodes, target, link_rows, HasNumbersBelow}

@@ -8,7 +8,7 @@ use Rattle.std.specs.List.{list_any}
 use Rattle.tc_model.specs.CompactSyntaxTrees.{SyntaxPattern, choice, interleave, Joins, Definition, Syntax}
 use Rattle.tc_model.specs.SimplifiesParts.{definitions_of, is_choice, bodies_of, joined_definitions, pattern_of}
 use Rattle.tc_model.specs.SimplifiesFaults.{clash, first_clash}
-use Rattle.tc_rnc.specs.Seen.{definition, pattern, pattern_list, patterns}
+use Rattle.tc_rnc.specs.Views.{definition, pattern, pattern_list, patterns}
 use Rattle.tc_rnc.proofs.Views.{patterns_map, pushed_definition}
 use Rattle.tc_rnc.specs.declared.syntax.Def.{Def}
 use Rattle.tc_rnc.specs.declared.syntax.SPat.{SPat}

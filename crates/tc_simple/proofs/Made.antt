@@ -1,12 +1,12 @@
 -- How lists of classes and patterns are made.
 use Rattle.std.proofs.Common.{◌≡◌, ℕ, zero, suc, ◌+◌, ◌<◌, ◌≤◌, List, [], ◌∷◌, ◌++◌, refl, ap, ◌∙◌, sym, arith, length, get_or, drop}
 use Rattle.tc_model.specs.Grammars as g
-use Rattle.tc_model.specs.Seen as seen
+use Rattle.tc_model.specs.Views as seen
 use Rattle.tc_model.specs.Simplifies.{Element, name_class, name_classes}
 use Rattle.tc_model.specs.declared.grammar.NameClass.{NameClass}
 use Rattle.tc_model.specs.declared.grammar.Pat.{Pat}
 use Rattle.tc_model.proofs.ViewsGrammar.{classes_then, pushed_class, classes_then_assoc, classes_then_none, patterns_then, pushed_pattern, patterns_then_assoc, patterns_then_none}
-use Rattle.tc_rnc.specs.Seen as see
+use Rattle.tc_rnc.specs.Views as see
 use Rattle.tc_rnc.proofs.Views.{left_pattern, left_class}
 use Rattle.tc_rnc.specs.declared.syntax.SClass.{SClass}
 use Rattle.tc_rnc.specs.declared.syntax.SPat.{SPat}

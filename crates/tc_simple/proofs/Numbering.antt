@@ -11,7 +11,7 @@ use Rattle.tc_model.specs.SimplifiesParts.{definitions_of, is_choice, bodies_of,
 use Rattle.tc_model.specs.SimplifiesParts as m
 use Rattle.tc_model.proofs.SimplifiesUnique.{Has, here, there}
 use Rattle.tc_model.proofs.CompactSyntaxClassesUnique.{same_some, some_none}
-use Rattle.tc_rnc.specs.Seen as see
+use Rattle.tc_rnc.specs.Views as see
 use Rattle.tc_graph.specs.Graph.{Path, edge, further, Leads, is_marked}
 use Rattle.tc_simple.specs.Nodes.{nodes, nodes_of_all, link_rows, element_of, elements_of, marked_elements, is_marked_name}
 use Rattle.tc_simple.specs.Tables.{number_of}

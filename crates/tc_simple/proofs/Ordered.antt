@@ -3,7 +3,7 @@ use Rattle.std.proofs.Common.{◌≡◌, ◌≢◌, ◌⊎◌, inl, inr, ℕ, ze
 use Rattle.std.proofs.lemmas.Bool.{cases_lt, eqb-true, eqb-false, true≢false}
 use Rattle.tc_model.specs.CompactSyntaxTrees.{SyntaxPattern, empty, not_allowed, text, attribute, ref, element, mixed, optional, zero_or_more, one_or_more, group, choice, interleave, SyntaxPatterns, no_more, more, Syntax}
 use Rattle.tc_model.specs.Grammars as g
-use Rattle.tc_model.specs.Seen as seen
+use Rattle.tc_model.specs.Views as seen
 use Rattle.tc_model.specs.Simplifies.{Element, Becomes, AllBecome, an_empty, a_not_allowed, a_text, an_attribute, a_reference, an_element, a_mixed, an_optional, a_zero_or_more, a_one_or_more, a_group, a_choice, an_interleave, none_left, one_more, both, number_at}
 use Rattle.tc_model.specs.SimplifiesParts.{pattern_of}
 use Rattle.tc_model.specs.SimplifiesCounts.{pattern_nodes, pattern_depth, patterns_nodes, patterns_depth}
@@ -11,7 +11,7 @@ use Rattle.tc_model.specs.declared.grammar.Pat.{Pat}
 use Rattle.tc_model.specs.declared.grammar.Pat.TheVariants.{NotAllowed}
 use Rattle.tc_model.proofs.SimplifiesUnique.{Has, here, there}
 use Rattle.tc_model.proofs.CompactSyntaxClassesUnique.{same_some}
-use Rattle.tc_rnc.specs.Seen as see
+use Rattle.tc_rnc.specs.Views as see
 use Rattle.tc_rnc.specs.declared.syntax.SPat.{SPat}
 use Rattle.tc_simple.specs.Becoming.{becomes, all_become, made_in}
 use Rattle.tc_graph.specs.Graph.{is_marked}

@@ -7,7 +7,7 @@ use Rattle.tc_model.specs.SimplifiesParts as m
 use Rattle.tc_model.specs.SimplifiesFaults.{IsCircular}
 use Rattle.tc_model.proofs.SimplifiesUnique.{Has, has_from_index}
 use Rattle.tc_model.proofs.CompactSyntaxClassesUnique.{same_some, some_none}
-use Rattle.tc_rnc.specs.Seen as see
+use Rattle.tc_rnc.specs.Views as see
 use Rattle.tc_rnc.specs.declared.syntax.SPat.{SPat}
 use Rattle.tc_graph.specs.Graph.{Edge, Path, edge, further, Leads}
 use Rattle.tc_simple.specs.Tables.{number_of, IsTable}

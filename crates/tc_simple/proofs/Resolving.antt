@@ -9,7 +9,7 @@ use Rattle.tc_model.specs.SimplifiesParts.{definitions_of, pattern_of, Below, Re
 use Rattle.tc_model.specs.SimplifiesFaults.{may_start, first_definition, IsAcyclic, IsCircular, IsLoop, IsBadStart}
 use Rattle.tc_model.proofs.SimplifiesUnique.{Has, here, there, has_from_index}
 use Rattle.tc_model.proofs.CompactSyntaxClassesUnique.{same_some, some_none}
-use Rattle.tc_rnc.specs.Seen as see
+use Rattle.tc_rnc.specs.Views as see
 use Rattle.tc_rnc.specs.declared.syntax.SPat.{SPat}
 use Rattle.tc_graph.specs.Graph.{Edge, Path, edge, further, Leads, IsReached, is_marked}
 use Rattle.tc_simple.specs.Tables.{number_of, IsTable}

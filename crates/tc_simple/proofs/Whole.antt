@@ -6,7 +6,7 @@ use Rattle.tc_model.specs.CompactSyntaxTrees.{SyntaxPattern, SyntaxPatterns, emp
 use Rattle.tc_model.specs.CompactSyntaxLawful.{IsLawfulSyntax}
 use Rattle.tc_model.specs.Grammars as g
 use Rattle.tc_model.specs.Grammars.{ElementPattern, Grammar}
-use Rattle.tc_model.specs.Seen as seen
+use Rattle.tc_model.specs.Views as seen
 use Rattle.tc_model.specs.Simplifies.{Element, name_class, Becomes, ElementsBecome, no_element, next, Simplifies}
 use Rattle.tc_model.specs.SimplifiesParts.{pattern_of, nodes_in, nodes_in_all, nodes_of, Reached}
 use Rattle.tc_model.specs.SimplifiesParts as m
@@ -16,7 +16,7 @@ use Rattle.tc_model.specs.declared.grammar.Pat.{Pat}
 use Rattle.tc_model.specs.declared.grammar.Pat.TheVariants.{NotAllowed}
 use Rattle.tc_model.proofs.SimplifiesUnique.{Has, here, there}
 use Rattle.tc_model.proofs.CompactSyntaxClassesUnique.{some_none}
-use Rattle.tc_rnc.specs.Seen as see
+use Rattle.tc_rnc.specs.Views as see
 use Rattle.tc_simple.specs.Becoming.{becomes, made_in}
 use Rattle.tc_graph.specs.Graph.{Leads, is_marked}
 use Rattle.tc_simple.specs.Nodes.{nodes, nodes_of_all, link_rows, elements_of}

@@ -1,7 +1,7 @@
 -- What patterns become, where it is known for what names stand.
 use Rattle.std.specs.Prelude.{ℕ, List, None, Some, slice_index_or}
 use Rattle.tc_model.specs.Grammars as g
-use Rattle.tc_model.specs.Seen as seen
+use Rattle.tc_model.specs.Views as seen
 use Rattle.tc_model.specs.declared.grammar.Pat.{Pat}
 use Rattle.tc_model.specs.declared.grammar.Pat.TheVariants.{NotAllowed}
 use Rattle.tc_model.specs.CompactSyntaxTrees.{SyntaxPattern, empty, not_allowed, text, attribute, ref, element, mixed, optional, zero_or_more, one_or_more, group, choice, interleave, SyntaxPatterns, no_more, more}

@@ -3,7 +3,7 @@ use Rattle.std.specs.Prelude.{◌≡◌, ◌<◌, ℕ, Bool, true, false, ◌&&�
 use Rattle.std.specs.List.{list_any}
 use Rattle.tc_model.specs.CompactSyntaxTrees.{Joins, plain, by_choice, by_interleave, Definition}
 use Rattle.tc_model.specs.SimplifiesParts.{definitions_of, is_choice}
-use Rattle.tc_rnc.specs.Seen.{pattern}
+use Rattle.tc_rnc.specs.Views.{pattern}
 use Rattle.tc_simple.specs.declared.groups.Group.{Group}
 
 abbrev pub is_plain : Joins → Bool

@@ -2,10 +2,10 @@
 use Rattle.std.specs.Prelude.{◌≡◌, ◌<◌, ◌≤◌, ◌⊎◌, ℕ, zero, suc, length, Bool, true, false, List, [], ◌∷◌, ◌++◌, Option, None, Some, slice_get, map, if◌then◌else◌}
 use Rattle.std.specs.List.{Contains, filter_map, flat_map, list_all}
 use Rattle.tc_model.specs.SimplifiesFaults.{may_start}
-use Rattle.tc_model.specs.Seen as see
+use Rattle.tc_model.specs.Views as see
 use Rattle.tc_model.specs.CompactSyntaxTrees.{SyntaxPattern, empty, not_allowed, text, attribute, ref, element, mixed, optional, zero_or_more, one_or_more, group, choice, interleave, SyntaxPatterns, no_more, more, Definition}
 use Rattle.tc_model.specs.Simplifies.{Element}
-use Rattle.tc_rnc.specs.Seen as seen
+use Rattle.tc_rnc.specs.Views as seen
 use Rattle.tc_rnc.specs.declared.syntax.SPat.{SPat}
 use Rattle.tc_graph.specs.Graph.{is_marked}
 use Rattle.tc_simple.specs.Tables.{number_of}

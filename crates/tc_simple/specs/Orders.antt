@@ -3,12 +3,12 @@ use Rattle.std.specs.Prelude.{◌≡◌, ◌<◌, ℕ, Bool, true, false, List, 
 use Rattle.std.specs.List.{Contains}
 use Rattle.tc_model.specs.CompactSyntaxTrees.{SyntaxPattern, ref, Syntax}
 use Rattle.tc_model.specs.Grammars as g
-use Rattle.tc_model.specs.Seen as seen
+use Rattle.tc_model.specs.Views as seen
 use Rattle.tc_model.specs.Simplifies.{Element, Becomes}
 use Rattle.tc_model.specs.SimplifiesCounts.{pattern_nodes, pattern_depth}
 use Rattle.tc_model.specs.declared.grammar.Pat.{Pat}
 use Rattle.tc_model.specs.declared.grammar.Pat.TheVariants.{NotAllowed}
-use Rattle.tc_rnc.specs.Seen as see
+use Rattle.tc_rnc.specs.Views as see
 use Rattle.tc_rnc.specs.declared.syntax.SPat.{SPat}
 use Rattle.tc_simple.specs.Becoming.{becomes, made_in}
 use Rattle.tc_graph.specs.Graph.{is_marked}

@@ -1,6 +1,6 @@
 -- Why a syntax tree is refused.
 use Rattle.tc_model.specs.Grammars.{Grammar}
-use Rattle.tc_model.specs.Seen.{place}
+use Rattle.tc_model.specs.Views.{place}
 use Rattle.tc_model.specs.CompactSyntaxTrees.{Syntax}
 use Rattle.tc_model.specs.Simplifies.{Simplifies}
 use Rattle.tc_model.specs.SimplifiesFaults.{twice, undefined, loop, bad_except, bad_start, Fails}

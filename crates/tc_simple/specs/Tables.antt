@@ -3,7 +3,7 @@ use Rattle.std.specs.Prelude.{◌≡◌, ℕ, Bool, List, [], ◌∷◌, Option,
 use Rattle.tc_model.specs.CompactSyntaxTrees.{SyntaxPattern, choice, interleave, Syntax}
 use Rattle.tc_model.specs.SimplifiesParts.{pattern_of}
 use Rattle.tc_model.specs.SimplifiesFaults.{twice_at}
-use Rattle.tc_rnc.specs.Seen.{pattern, patterns}
+use Rattle.tc_rnc.specs.Views.{pattern, patterns}
 use Rattle.tc_rnc.specs.declared.syntax.SPat.{SPat}
 use Rattle.tc_simple.specs.Places.{maybe_place}
 use Rattle.tc_simple.specs.Gathered.{number_in}

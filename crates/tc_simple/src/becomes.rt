@@ -1,9 +1,9 @@
 // What patterns become in the grammar.
 ghost use Rattle.std.specs.Prelude.{◌≡◌, ◌≤◌, length, map, IfOk};
 ghost use Rattle.tc_model.specs.Grammars as g;
-ghost use Rattle.tc_model.specs.Seen as seen;
+ghost use Rattle.tc_model.specs.Views as seen;
 ghost use Rattle.tc_model.specs.Simplifies.{both, name_class as name_class_of, name_classes as name_classes_of, number_at as number_in};
-ghost use Rattle.tc_rnc.specs.Seen as see;
+ghost use Rattle.tc_rnc.specs.Views as see;
 ghost use Rattle.tc_simple.specs.Becoming.{all_become, becomes, made_in};
 ghost use Rattle.tc_simple.specs.Nodes.{see_element, HasNumbersBelow};
 

@@ -3,7 +3,7 @@ ghost use Rattle.std.specs.Prelude.{◌≡◌, None};
 ghost use Rattle.tc_model.specs.CompactSyntaxTrees as t;
 ghost use Rattle.tc_model.specs.SimplifiesFaults.{bad_except_at, first_answer, first_place, misplaced as misplaced_of, misplaced_among as misplaced_among_of, misplaced_in, undefined_reference};
 ghost use Rattle.tc_model.specs.SimplifiesParts.{nodes_in, nodes_in_all, nodes_of};
-ghost use Rattle.tc_rnc.specs.Seen as see;
+ghost use Rattle.tc_rnc.specs.Views as see;
 ghost use Rattle.tc_simple.specs.Places.{maybe_place};
 ghost use Rattle.tc_simple.specs.Tables.{IsTable};
 

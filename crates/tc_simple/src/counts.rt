@@ -1,6 +1,6 @@
 // How large the grammar will be, before it is made.
 ghost use Rattle.std.specs.Prelude.{◌≡◌, length, slice_set};
-ghost use Rattle.tc_rnc.specs.Seen as see;
+ghost use Rattle.tc_rnc.specs.Views as see;
 ghost use Rattle.tc_simple.specs.Nodes.{HasNumbersBelow};
 
 use crate::groups::Table;

@@ -1,7 +1,7 @@
 // The elements of a text.
 ghost use Rattle.std.specs.Prelude.{◌≡◌, ◌++◌, length, true, map, IfOk, OnOk};
 ghost use Rattle.std.specs.List.{filter_map};
-ghost use Rattle.tc_rnc.specs.Seen as see;
+ghost use Rattle.tc_rnc.specs.Views as see;
 ghost use Rattle.tc_simple.specs.Nodes.{element_of, elements_of, is_marked_name, marked_elements, nodes, nodes_of_all, see_element, HasNumbersBelow};
 
 use crate::groups::Table;

@@ -7,10 +7,10 @@ ghost use Rattle.tc_model.specs.Grammars as g;
 ghost use Rattle.tc_model.specs.Simplifies.{Simplifies};
 ghost use Rattle.tc_model.specs.SimplifiesCounts.{IsWithinCounts};
 ghost use Rattle.tc_model.specs.SimplifiesFaults.{IsFaultless};
-ghost use Rattle.tc_rnc.specs.Seen as see;
+ghost use Rattle.tc_rnc.specs.Views as see;
 ghost use Rattle.tc_simple.specs.Refused.{Refuses};
 ghost use Rattle.tc_simple.specs.Resolves.{Resolves};
-ghost use Rattle.tc_model.specs.Seen as seen;
+ghost use Rattle.tc_model.specs.Views as seen;
 ghost use Rattle.tc_simple.specs.Nodes.{elements_of, see_element, HasNumbersBelow};
 ghost use Rattle.tc_simple.specs.Totals.{element_patterns_of, total_of};
 

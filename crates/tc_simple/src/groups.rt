@@ -2,8 +2,8 @@
 ghost use Rattle.std.specs.Prelude.{◌≡◌, ◌∷◌, ◌++◌, [], List, IfOk, OnOk, map};
 ghost use Rattle.tc_model.specs.CompactSyntaxTrees as t;
 ghost use Rattle.tc_model.specs.SimplifiesFaults.{clash};
-ghost use Rattle.tc_model.specs.Seen.{place as see_place};
-ghost use Rattle.tc_rnc.specs.Seen.{definition, pattern, joins as see_joins, syntax as see_syntax};
+ghost use Rattle.tc_model.specs.Views.{place as see_place};
+ghost use Rattle.tc_rnc.specs.Views.{definition, pattern, joins as see_joins, syntax as see_syntax};
 ghost use Rattle.tc_simple.specs.Places.{or_clash, maybe_place};
 
 use bumpalo::Bump;

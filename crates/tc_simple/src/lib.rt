@@ -4,10 +4,10 @@
 
 ghost use Rattle.std.specs.Prelude.{IfErr, IfOk};
 ghost use Rattle.tc_model.specs.CompactSyntaxLawful.{IsLawfulSyntax};
-ghost use Rattle.tc_model.specs.Seen as seen;
+ghost use Rattle.tc_model.specs.Views as seen;
 ghost use Rattle.tc_model.specs.Simplifies.{Simplifies};
 ghost use Rattle.tc_model.specs.SimplifiesCounts.{IsWithinCounts};
-ghost use Rattle.tc_rnc.specs.Seen as see;
+ghost use Rattle.tc_rnc.specs.Views as see;
 ghost use Rattle.tc_simple.specs.Refused.{Refuses};
 
 mod becomes;

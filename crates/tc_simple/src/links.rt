@@ -1,7 +1,7 @@
 // To which definitions the definitions refer, and their elements.
 ghost use Rattle.std.specs.Prelude.{◌≡◌, ◌++◌, IfOk, OnOk, map};
 ghost use Rattle.std.specs.List.{filter_map};
-ghost use Rattle.tc_rnc.specs.Seen as see;
+ghost use Rattle.tc_rnc.specs.Views as see;
 ghost use Rattle.tc_graph.specs.Graph.{rows_of};
 ghost use Rattle.tc_simple.specs.Nodes.{nodes, nodes_of_all, target};
 

@@ -1,9 +1,9 @@
 // References that reach themselves without passing an element, and what may stand at the start.
 ghost use Rattle.std.specs.Prelude.{◌≡◌, ◌<◌, ◌++◌, false, length, map, IfOk, OnOk, MatchBool};
 ghost use Rattle.std.specs.List.{filter_map, list_all};
-ghost use Rattle.tc_model.specs.Seen.{place as see_place};
+ghost use Rattle.tc_model.specs.Views.{place as see_place};
 ghost use Rattle.tc_model.specs.SimplifiesFaults.{may_start as may_start_of};
-ghost use Rattle.tc_rnc.specs.Seen as see;
+ghost use Rattle.tc_rnc.specs.Views as see;
 ghost use Rattle.tc_simple.specs.Nodes.{loop_at, loops_below, marked_loops, nodes, nodes_of_all, HasNumbersBelow, IsFirstLoop, IsLeast, IsLesser, StartsBadly, StartsWell};
 ghost use Rattle.tc_simple.specs.Places.{maybe_place};
 

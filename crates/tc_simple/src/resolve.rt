@@ -1,10 +1,10 @@
 // The definitions of a syntax tree by their numbers, and what of them is reached.
 ghost use Rattle.std.specs.Prelude.{◌≡◌, ◌<◌, ℕ, [], None, Some, IfErr, IfOk, OnOk, length, true, false};
 ghost use Rattle.tc_model.specs.CompactSyntaxTrees as t;
-ghost use Rattle.tc_model.specs.Seen.{place as see_place};
+ghost use Rattle.tc_model.specs.Views.{place as see_place};
 ghost use Rattle.tc_model.specs.SimplifiesFaults.{first_definition, twice_at, undefined_at, IsFaultless};
 ghost use Rattle.tc_model.specs.SimplifiesParts.{definitions_of};
-ghost use Rattle.tc_rnc.specs.Seen as see;
+ghost use Rattle.tc_rnc.specs.Views as see;
 ghost use Rattle.tc_graph.specs.Graph.{IsReached};
 ghost use Rattle.tc_simple.specs.Nodes.{link_rows};
 ghost use Rattle.tc_simple.specs.Refused.{Refuses};

@@ -4,7 +4,7 @@ use Rattle.std.proofs.lemmas.Bool.{true≢false, not-true, not-false}
 use Rattle.std.specs.List.{IsFirstAndRest}
 use Rattle.tc_model.specs.Names.{ExpandedName, same_name}
 use Rattle.tc_model.specs.Trees.{Trees, none, element}
-use Rattle.tc_model.specs.Seen.{before, trees}
+use Rattle.tc_model.specs.Views.{before, trees}
 use Rattle.tc_model.specs.declared.tree.Node.{Node, Node-F}
 use Rattle.tc_model.specs.declared.tree.Node.TheOpen as parts
 use Rattle.tc_model.specs.declared.tree.Node.TheVariants.{rolls-Elem, rolls-Text}

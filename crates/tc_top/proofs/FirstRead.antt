@@ -3,7 +3,7 @@ use Rattle.std.proofs.Common.{◌≡◌, List, ℕ, Option, Some, None, subst, B
 use Rattle.std.specs.Option.{MatchOption}
 use Rattle.std.proofs.lemmas.Option.{MatchOption-at_none, MatchOption-at_some}
 use Rattle.tc_model.specs.Trees.{Trees}
-use Rattle.tc_model.specs.Seen.{trees}
+use Rattle.tc_model.specs.Views.{trees}
 use Rattle.tc_model.specs.declared.tree.Node.{Node}
 use Rattle.tc_top.specs.FirstForm as f
 use Rattle.tc_top.specs.FirstSeen.{schema}

@@ -10,7 +10,7 @@ use Rattle.std.proofs.lemmas.Str.{IsUtf8-from_ascii}
 use Rattle.std.proofs.lemmas.List.{reverse-append}
 use Rattle.tc_model.specs.declared.tree.Node.{Node}
 use Rattle.tc_model.specs.CompactSyntaxNames.{keywords}
-use Rattle.tc_model.specs.Seen.{before, trees}
+use Rattle.tc_model.specs.Views.{before, trees}
 use Rattle.tc_model.specs.Trees.{Trees, none, text, element, beside}
 use Rattle.tc_model.proofs.Views.{trees_append, before_beside}
 use Rattle.tc_top.specs.FirstForm.{is_letter, IsPlainName, plain_name, Suffix, no_suffix, optional, zero_or_more, one_or_more, Schema, holding_nothing, HasPlainNames, ArePlainElements}

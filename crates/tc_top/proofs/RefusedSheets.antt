@@ -5,7 +5,7 @@ use Rattle.std.proofs.lemmas.List.Elements.{All-contains, All-from_recursion}
 use Rattle.tc_base.specs.declared.Place.{Place}
 use Rattle.tc_base.specs.declared.reasons.Why.{Why}
 use Rattle.tc_model.specs.RawTrees.{Attribute, RawTrees, none, text, element}
-use Rattle.tc_model.specs.Seen.{place}
+use Rattle.tc_model.specs.Views.{place}
 use Rattle.tc_model.specs.XmlTextLaws.{IsLawfulAttribute, AreLawfulWithin}
 use Rattle.tc_model.proofs.XmlTextTrees.{lawful_raw_tree}
 use Rattle.tc_sheet.specs.LookedAt.{Where, at_top, behind, Item, place_of, IsIn, at_text, beside_text, at_element, at_attribute, inside, beside_element, IsLookedAt, the_root, has_root, within}

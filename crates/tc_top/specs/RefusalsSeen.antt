@@ -1,6 +1,6 @@
 -- What contracts see of why a text is refused.
 use Rattle.std.specs.Prelude.{ℕ}
-use Rattle.tc_model.specs.Seen.{place}
+use Rattle.tc_model.specs.Views.{place}
 use Rattle.tc_top.specs.Refusals as r
 use Rattle.tc_top.specs.declared.refusal.Reason.{Reason}
 use Rattle.tc_top.specs.declared.refusal.Reason.TheVariants as v

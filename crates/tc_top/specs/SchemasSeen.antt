@@ -2,7 +2,7 @@
 use Rattle.std.specs.Prelude.{ℕ, List}
 use Rattle.tc_model.specs.Grammars as g
 use Rattle.tc_model.specs.RncText.{RncText}
-use Rattle.tc_model.specs.Seen.{grammar}
+use Rattle.tc_model.specs.Views.{grammar}
 use Rattle.tc_model.specs.SimplifiesCounts.{IsWithinCounts}
 use Rattle.tc_top.specs.Limits.{PassesLimit}
 use Rattle.tc_top.specs.declared.schemas.Schema.{Schema}

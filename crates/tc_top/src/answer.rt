@@ -1,7 +1,7 @@
 // Answers, in memory.
 ghost use Rattle.std.specs.Prelude.{◌≡◌, IfOk};
-ghost use Rattle.tc_model.specs.Seen as see;
-ghost use Rattle.tc_model.specs.Seen.{trees};
+ghost use Rattle.tc_model.specs.Views as see;
+ghost use Rattle.tc_model.specs.Views.{trees};
 ghost use Rattle.tc_top.specs.Answers as a;
 ghost use Rattle.tc_top.specs.Limits.{limit_word};
 ghost use Rattle.tc_top.specs.RefusalsSeen as seen;

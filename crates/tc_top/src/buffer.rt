@@ -1,7 +1,7 @@
 // Bytes that are put together in memory.
 ghost use Rattle.std.specs.Prelude.{◌≡◌, ◌++◌, [], Some, OnOk};
 ghost use Rattle.tc_model.specs.Printed.{printed};
-ghost use Rattle.tc_model.specs.Seen.{trees};
+ghost use Rattle.tc_model.specs.Views.{trees};
 
 use std::alloc::Global;
 use tc_base::NoMemory;

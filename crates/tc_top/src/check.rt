@@ -1,7 +1,7 @@
 // What `check` answers.
 ghost use Rattle.std.specs.Prelude.{◌≡◌, ◌≤◌, ℕ, List, IfOk};
 ghost use Rattle.tc_io.specs.Faults.{Rose};
-ghost use Rattle.tc_model.specs.Seen.{trees};
+ghost use Rattle.tc_model.specs.Views.{trees};
 ghost use Rattle.tc_top.specs.Answers as a;
 ghost use Rattle.tc_top.specs.Answers.{Checks};
 ghost use Rattle.tc_top.specs.AnswersSeen.{Says, IsRight};

@@ -1,6 +1,6 @@
 // Documents, read.
 ghost use Rattle.std.specs.Prelude.{◌≤◌, length, IfOk, IfErr, List, ℕ};
-ghost use Rattle.tc_model.specs.Seen.{before};
+ghost use Rattle.tc_model.specs.Views.{before};
 ghost use Rattle.tc_model.specs.Trees.{none, IsDocument};
 ghost use Rattle.tc_print.specs.ReadBack.{IsReadAs};
 ghost use Rattle.tc_top.specs.Refusals.{IsRefusedDocument};

@@ -1,6 +1,6 @@
 // Stylesheets, read.
 ghost use Rattle.std.specs.Prelude.{◌≤◌, length, IfOk, IfErr, List, ℕ};
-ghost use Rattle.tc_model.specs.Seen as see;
+ghost use Rattle.tc_model.specs.Views as see;
 ghost use Rattle.tc_model.specs.WellFormed.{IsSheet};
 ghost use Rattle.tc_sheet_text.specs.Causes.{IsCauseIn};
 ghost use Rattle.tc_sheet_text.specs.Texts.{IsSheetOf};

@@ -1,7 +1,7 @@
 // What `valid` answers.
 ghost use Rattle.std.specs.Prelude.{◌≡◌, ◌≤◌, ◌<◌, ℕ, List, IfOk, IfErr, OnOk, length};
 ghost use Rattle.tc_io.specs.Faults.{Rose};
-ghost use Rattle.tc_model.specs.Seen as see;
+ghost use Rattle.tc_model.specs.Views as see;
 ghost use Rattle.tc_model.specs.SimplifiesCounts.{IsWithinCounts};
 ghost use Rattle.tc_model.specs.SimplifiesLaws.{IsStart};
 ghost use Rattle.tc_model.specs.Symbols.{symbols_of};

@@ -15,7 +15,7 @@ use Rattle.tc_xml.specs.declared.faults.Stop.{Stop}
 use Rattle.tc_xml.specs.declared.faults.Stop.TheVariants.{Malformed, Unsupported, TooDeep, NoMemory}
 use Rattle.tc_xml.specs.Reading.{EndTagAt, BodyAt, empty, filled, BodyRefuses, AddsPiece, AddsContent}
 use Rattle.tc_xml.specs.Refusals.{Refuses, RefusesWithin, UnsupportedAt, RefusedAt}
-use Rattle.tc_xml.specs.Seen.{gathered_before}
+use Rattle.tc_xml.specs.Views.{gathered_before}
 use Rattle.tc_xml.proofs.ContentLaws.{item_loosened, tag_loosened, content_loosened}
 
 -- the content so far, from the front of the text to what is left of it

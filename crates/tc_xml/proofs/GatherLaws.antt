@@ -2,7 +2,7 @@
 use Rattle.std.proofs.Common.{◌≡◌, ◌≢◌, ℕ, List, [], ◌∷◌, ◌++◌, refl, ap, ◌∙◌, sym, Bor, append_assoc, append-nil}
 use Rattle.tc_base.specs.declared.Place.{Place}
 use Rattle.tc_model.specs.RawTrees.{RawTrees, none, text, element, beside}
-use Rattle.tc_model.specs.Seen.{place, raw_trees, raw_element}
+use Rattle.tc_model.specs.Views.{place, raw_trees, raw_element}
 use Rattle.tc_model.specs.XmlTextContent.{characters_before}
 use Rattle.tc_model.specs.declared.tree.Raw.{Raw, Elem, Text}
 use Rattle.tc_model.specs.declared.tree.RawElem.{RawElem}
@@ -10,7 +10,7 @@ use Rattle.tc_model.proofs.ViewsRaw.{pushed_elem, pushed_text, beside_assoc, bes
 use Rattle.tc_xml.specs.declared.content.Run.TheVariants.{Nothing}
 use Rattle.tc_xml.specs.declared.content.Gathered.{Gathered}
 use Rattle.tc_xml.specs.Reading.{BeginsWithNoText}
-use Rattle.tc_xml.specs.Seen.{run_before, gathered_before}
+use Rattle.tc_xml.specs.Views.{run_before, gathered_before}
 
 pub characters_join : (a b : List ℕ) (p q : ℕ) (h : RawTrees) → characters_before (a ++ b) p h ≡ characters_before a p (characters_before b q h)
 characters_join a b p q (text t r rest) = ap (λ w. text w p rest) (append_assoc a b t)

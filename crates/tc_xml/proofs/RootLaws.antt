@@ -1,7 +1,7 @@
 -- The root element alone, and what is read around it.
 use Rattle.std.proofs.Common.{◌≡◌, ℕ, Bool, List, [], ◌∷◌, refl, ap, ◌∙◌, sym, subst, Some, None, slice_get}
 use Rattle.tc_model.specs.RawTrees.{RawTrees, none, Bound, IsOneElement}
-use Rattle.tc_model.specs.Seen.{raw_trees, raw_before}
+use Rattle.tc_model.specs.Views.{raw_trees, raw_before}
 use Rattle.tc_model.specs.XmlTextContent.{Piece, piece_before, ElementAt, empty_tag, with_content}
 use Rattle.tc_model.specs.declared.tree.Raw.{Raw, Raw-F}
 use Rattle.tc_model.specs.declared.tree.RawElem.{RawElem}

@@ -3,7 +3,7 @@ use Rattle.std.proofs.Common.{◌≡◌, ℕ, ◌+◌, ◌<◌, List, [], ◌∷
 use Rattle.tc_base.specs.declared.Place.{Place}
 use Rattle.tc_model.specs.Trees as t
 use Rattle.tc_model.specs.Trees.{Trees}
-use Rattle.tc_model.specs.Seen.{name, before, trees, raw_tree, raw_trees}
+use Rattle.tc_model.specs.Views.{name, before, trees, raw_tree, raw_trees}
 use Rattle.tc_model.specs.Stripped.{bare, stripped}
 use Rattle.tc_model.specs.declared.tree.Name.{Name}
 use Rattle.tc_model.specs.declared.tree.Node as n

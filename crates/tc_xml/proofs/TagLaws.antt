@@ -8,7 +8,7 @@ use Rattle.std.specs.Cmp.Lexicographic.{bytes_decides}
 use Rattle.std.proofs.lemmas.List.{drop_more, take_more, map-append}
 use Rattle.tc_model.specs.Names.{ExpandedName, same_name}
 use Rattle.tc_model.specs.RawTrees.{Attribute, Bound}
-use Rattle.tc_model.specs.Seen.{attribute}
+use Rattle.tc_model.specs.Views.{attribute}
 use Rattle.tc_model.specs.declared.tree.RawAttr.{RawAttr}
 use Rattle.tc_model.specs.XmlTextNames.{QualifiedName, same_written}
 use Rattle.tc_model.specs.XmlTextScopes.{WrittenAttribute, is_empty, is_declaration, binding_of, uri_of, scope_within, IsLawfulBinding, Expands, no_more, declaration, plain, prefixed, ElementName, bound, unbound, TagMeans}

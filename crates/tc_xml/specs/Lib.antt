@@ -4,5 +4,5 @@ pub mod Values
 pub mod Bounds
 pub mod Pairs
 pub mod Tags
-pub mod Seen
+pub mod Views
 pub mod Reading

@@ -8,7 +8,7 @@ use Rattle.tc_model.specs.XmlTextScopes.{WrittenAttribute, is_xml_space}
 use Rattle.tc_model.specs.XmlTextContent.{Piece, piece_before, ContentAt, ItemAt}
 use Rattle.tc_model.specs.XmlTextRefusals.{Cause, ContentRefuses}
 use Rattle.tc_xml.specs.declared.content.Gathered.{Gathered}
-use Rattle.tc_xml.specs.Seen.{gathered_before}
+use Rattle.tc_xml.specs.Views.{gathered_before}
 
 -- one attribute after white space, which is not `xml:space`
 pub record AttributeAt (others : Bool) (total : ℕ) (bs : List ℕ) (a : WrittenAttribute) (after : List ℕ) : Type 0 where

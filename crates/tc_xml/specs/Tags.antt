@@ -2,9 +2,9 @@
 use Rattle.std.specs.Prelude.{Bool, not, List, map}
 use Rattle.std.specs.List.{list_all}
 use Rattle.tc_model.specs.RawTrees.{Bound}
-use Rattle.tc_model.specs.Seen.{place, bound}
+use Rattle.tc_model.specs.Views.{place, bound}
 use Rattle.tc_model.specs.XmlTextScopes.{WrittenAttribute, is_xml_space}
-use Rattle.tc_scan.specs.Seen.{written_name}
+use Rattle.tc_scan.specs.Views.{written_name}
 use Rattle.tc_xml.specs.declared.faults.Stop.{Stop}
 use Rattle.tc_xml.specs.declared.faults.Stop.TheVariants.{Malformed, Unsupported, TooDeep, NoMemory}
 use Rattle.tc_xml.specs.declared.scopes.Scope.{Scope}

@@ -3,7 +3,7 @@ ghost use Rattle.std.specs.Prelude.{◌≡◌, ◌<◌, ◌≤◌, ◌∷◌, �
 ghost use Rattle.tc_base.specs.declared.reasons.Why.TheVariants.{N2};
 ghost use Rattle.tc_model.specs.Names.{ExpandedName};
 ghost use Rattle.tc_model.specs.RawTrees.{RawTrees, Attribute, Bound, none};
-ghost use Rattle.tc_model.specs.Seen.{name, raw_trees, raw_tree, attribute as seen_attribute, place as see_place};
+ghost use Rattle.tc_model.specs.Views.{name, raw_trees, raw_tree, attribute as seen_attribute, place as see_place};
 ghost use Rattle.tc_model.specs.XmlTextBytes as bytes;
 ghost use Rattle.tc_model.specs.XmlTextContent as xml;
 ghost use Rattle.tc_model.specs.XmlTextContent.{characters_before};
@@ -11,11 +11,11 @@ ghost use Rattle.tc_model.specs.XmlTextNames as xml_names;
 ghost use Rattle.tc_model.specs.XmlTextReferences as references;
 ghost use Rattle.tc_model.specs.XmlTextRefusals as refusals;
 ghost use Rattle.tc_model.specs.XmlTextScopes as xml_scopes;
-ghost use Rattle.tc_scan.specs.Seen.{written_name};
+ghost use Rattle.tc_scan.specs.Views.{written_name};
 ghost use Rattle.tc_xml.specs.declared.content.Run.TheVariants.{Nothing};
 ghost use Rattle.tc_xml.specs.Reading.{AttributeAt, OpensElement, EndTagAt, BodyAt, BodyRefuses, SmallItemAt, LacksItem, AddsPiece, AddsContent, BeginsWithNoText};
 ghost use Rattle.tc_xml.specs.Refusals.{Refuses, RefusesWithin, UnsupportedAt, RefusedAt};
-ghost use Rattle.tc_xml.specs.Seen.{run_before, gathered_before};
+ghost use Rattle.tc_xml.specs.Views.{run_before, gathered_before};
 ghost use Rattle.tc_xml.specs.Tags.{written, in_scope, lacks_space, Breaks};
 
 use crate::faults::{Stop, place_of};

@@ -2,7 +2,7 @@
 ghost use Rattle.std.specs.Prelude.{◌≡◌, ◌≢◌, ◌<◌, ◌≤◌, ℕ, [], true, false, length, IfOk, IfErr, MatchBool, MatchOption};
 ghost use Rattle.tc_model.specs.Names.{IsChars};
 ghost use Rattle.tc_model.specs.RawTrees.{RawTrees};
-ghost use Rattle.tc_model.specs.Seen.{raw_tree};
+ghost use Rattle.tc_model.specs.Views.{raw_tree};
 ghost use Rattle.tc_model.specs.XmlText as xml;
 ghost use Rattle.tc_model.specs.XmlTextRefusals.{DocumentRefuses};
 ghost use Rattle.tc_xml.specs.Refusals.{RefusesWithin, RefusedAt};

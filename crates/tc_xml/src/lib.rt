@@ -3,7 +3,7 @@
 
 ghost use Rattle.std.specs.Prelude.{◌≤◌, length, IfOk, IfErr};
 ghost use Rattle.tc_model.specs.RawTrees.{IsOneElement};
-ghost use Rattle.tc_model.specs.Seen.{raw_tree};
+ghost use Rattle.tc_model.specs.Views.{raw_tree};
 ghost use Rattle.tc_model.specs.Stripped.{stripped};
 ghost use Rattle.tc_model.specs.Trees.{IsDocument};
 ghost use Rattle.tc_model.specs.XmlText.{XmlText};

@@ -1,6 +1,6 @@
 // The prefixes in scope (Namespaces in XML 1.0, 3 and 6.1).
 ghost use Rattle.std.specs.Prelude.{◌≡◌, map};
-ghost use Rattle.tc_model.specs.Seen.{bound};
+ghost use Rattle.tc_model.specs.Views.{bound};
 ghost use Rattle.tc_xml.specs.Bounds.{named};
 
 use crate::faults::Stop;

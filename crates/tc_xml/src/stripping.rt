@@ -1,7 +1,7 @@
 // The document of a raw tree.
 ghost use Rattle.std.specs.Prelude.{◌≡◌, IfOk};
 ghost use Rattle.tc_model.specs.RawTrees.{IsOneElement};
-ghost use Rattle.tc_model.specs.Seen.{before, raw_tree, raw_trees, trees};
+ghost use Rattle.tc_model.specs.Views.{before, raw_tree, raw_trees, trees};
 ghost use Rattle.tc_model.specs.Stripped as stripped;
 ghost use Rattle.tc_model.specs.Trees.{none};
 

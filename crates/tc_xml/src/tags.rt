@@ -4,10 +4,10 @@ ghost use Rattle.std.specs.List.{IsDistinct};
 ghost use Rattle.std.specs.Option.{option_to_list};
 ghost use Rattle.tc_model.specs.Names.{ExpandedName, same_name};
 ghost use Rattle.tc_model.specs.RawTrees.{Attribute, Bound};
-ghost use Rattle.tc_model.specs.Seen as seen;
+ghost use Rattle.tc_model.specs.Views as seen;
 ghost use Rattle.tc_model.specs.XmlTextNames as xml_names;
 ghost use Rattle.tc_model.specs.XmlTextScopes as xml;
-ghost use Rattle.tc_scan.specs.Seen.{written_name};
+ghost use Rattle.tc_scan.specs.Views.{written_name};
 ghost use Rattle.tc_xml.specs.Bounds.{bound_to, named};
 ghost use Rattle.tc_xml.specs.Tags.{written, in_scope, lacks_space, Breaks};
 

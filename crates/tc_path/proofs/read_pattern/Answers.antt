@@ -1,9 +1,9 @@
 use Rattle.std.proofs.Common.{List, map, ap, ◌∙◌, sym, subst}
 use Rattle.tc_model.specs.PathTextPhrases as p
 use Rattle.tc_model.specs.PathText as texts
-use Rattle.tc_model.specs.Seen.{bound}
+use Rattle.tc_model.specs.Views.{bound}
 use Rattle.tc_path.specs.declared.reasons.Context.TheVariants as contexts
-use Rattle.tc_path.specs.Seen.{tokens_of}
+use Rattle.tc_path.specs.Views.{tokens_of}
 use Rattle.tc_path.specs.Faults.{refused_as}
 use Rattle.tc_path.proofs.NodeTestLaws.{or_memory}
 use Rattle.tc_path.proofs.Refusals.{unread_no, unread_cause, unread_renamed, refused_no, refused_cause, refused_renamed, same_error}

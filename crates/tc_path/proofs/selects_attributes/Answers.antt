@@ -2,9 +2,9 @@ use Rattle.std.proofs.Common.{[], map, ap, ◌∙◌, sym, subst, MatchBool}
 use Rattle.tc_model.specs.Sheets as sheets
 use Rattle.tc_model.specs.PathTextPhrases as p
 use Rattle.tc_model.specs.PathText as texts
-use Rattle.tc_model.specs.Seen.{bound}
+use Rattle.tc_model.specs.Views.{bound}
 use Rattle.tc_path.specs.declared.reasons.Context.TheVariants as contexts
-use Rattle.tc_path.specs.Seen.{tokens_of}
+use Rattle.tc_path.specs.Views.{tokens_of}
 use Rattle.tc_path.specs.Faults.{refused_as}
 use Rattle.tc_path.proofs.NodeTestLaws.{or_memory}
 use Rattle.tc_path.proofs.AttributeLoops.{attributes_text}

@@ -2,7 +2,7 @@ use Rattle.std.proofs.Common.{rules, ◌≡◌, ◌++◌, ◌+◌, ◌<◌, leng
 use Rattle.tc_io.specs.Sink.{Appended, WroteFront}
 use Rattle.tc_io.proofs.Fronts.{on_err, on_err_map, on_ok_map, appended_twice, first_front, next_front}
 use Rattle.tc_model.specs.Printed.{printed_in, default_within}
-use Rattle.tc_model.specs.Seen.{name, before, trees}
+use Rattle.tc_model.specs.Views.{name, before, trees}
 use Rattle.tc_model.specs.Trees.{none}
 use Rattle.tc_print.specs.Pieces.{begun_tag, end_tag}
 use Rattle.tc_print.proofs.Trees.{content, printed_left, element_alone, empty_alone, full_alone}

@@ -1,7 +1,7 @@
 use Rattle.std.proofs.Common.{◌≡◌, ◌≤◌, ◌++◌, List, ℕ, drop}
 use Rattle.tc_io.specs.Sink.{Appended}
 use Rattle.tc_model.specs.Printed.{printed_in}
-use Rattle.tc_model.specs.Seen.{trees}
+use Rattle.tc_model.specs.Views.{trees}
 use Rattle.tc_print.proofs.+print.Given as goal
 
 abbrev pub invariant-print_within-loop-node : goal.invariant-print_within-loop-node

@@ -1,12 +1,12 @@
 use Rattle.std.proofs.Common.{◌≡◌, [], ap, ◌∙◌, sym, subst, append-nil}
 use Rattle.tc_model.specs.Chains.{joined_texts}
 use Rattle.tc_model.specs.Safety.{IsResultOf}
-use Rattle.tc_model.specs.Seen as see
+use Rattle.tc_model.specs.Views as see
 use Rattle.tc_model.specs.Trees.{Trees, none, normal_form}
 use Rattle.tc_run.specs.Lettered.{bare}
 use Rattle.tc_run.specs.Limits.{KeepsLimits, IsCause}
 use Rattle.tc_run.specs.Running.{sheet_by}
-use Rattle.tc_run.specs.Seen.{trees}
+use Rattle.tc_run.specs.Views.{trees}
 use Rattle.tc_run.specs.declared.runner.Runner.{Runner}
 use Rattle.tc_run.proofs.Result.{refused, told_as, passes, result_is, keeps_limits}
 use Rattle.tc_run.proofs.Texts.{document_lettered, document_bare}

@@ -1,6 +1,6 @@
 use Rattle.std.proofs.Common.{sym, subst, IfOk}
 use Rattle.tc_model.specs.RawTrees.{none}
-use Rattle.tc_model.specs.Seen.{raw_tree, raw_element, sheet}
+use Rattle.tc_model.specs.Views.{raw_tree, raw_element, sheet}
 use Rattle.tc_model.specs.SheetText.{SheetText, SheetFails, undefined, call_loop}
 use Rattle.tc_sheet.specs.Changes.{mended, flattened, Changed}
 use Rattle.tc_sheet.specs.Faults.{IsCause, IsUnsupported, IsTooDeep, IsUndefinedAt, IsLoopAt, NamesAgain, IsMalformedAt}

@@ -1,7 +1,7 @@
 use Rattle.std.proofs.Common.{◌∙◌, ap, map}
 use Rattle.tc_model.specs.RawTrees.{none}
-use Rattle.tc_model.specs.Seen.{raw_element}
-use Rattle.tc_sheet.specs.Seen.{template}
+use Rattle.tc_model.specs.Views.{raw_element}
+use Rattle.tc_sheet.specs.Views.{template}
 use Rattle.tc_sheet.specs.SeenCalls.{names_seen}
 use Rattle.tc_sheet.proofs.Refused.{handed_on}
 use Rattle.tc_sheet.proofs.WholeSheets.{names_used, told, told_calls, told_memory, told_twice, whole_read}

@@ -1,6 +1,6 @@
 use Rattle.std.proofs.Common.{length}
 use Rattle.tc_model.specs.RawTrees.{RawTrees}
-use Rattle.tc_model.specs.Seen.{raw_tree, sheet}
+use Rattle.tc_model.specs.Views.{raw_tree, sheet}
 use Rattle.tc_model.specs.SheetText.{SheetFails, undefined, call_loop}
 use Rattle.tc_sheet.specs.Changes.{mended, flattened, Changed}
 use Rattle.tc_sheet.specs.Faults.{NamesAgain}

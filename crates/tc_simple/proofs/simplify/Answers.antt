@@ -1,7 +1,7 @@
 use Rattle.std.proofs.Common.{◌≡◌, ◌∙◌, List, Bool, ap, map, sym, subst, length, false}
 use Rattle.tc_model.specs.SimplifiesCounts.{IsWithinCounts}
 use Rattle.tc_model.proofs.SimplifiesUnique.{simplifies_unique}
-use Rattle.tc_rnc.specs.Seen.{syntax}
+use Rattle.tc_rnc.specs.Views.{syntax}
 use Rattle.tc_simple.specs.Nodes.{elements_of, see_element}
 use Rattle.tc_simple.specs.Resolves.{Resolves}
 use Rattle.tc_simple.proofs.Checked.{count_links, numbers_below, order_within, start_within}

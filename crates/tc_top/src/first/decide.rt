@@ -2,8 +2,8 @@
 ghost use Rattle.std.specs.Prelude.{◌≡◌, ◌↔◌, IsTrue};
 ghost use Rattle.tc_model.specs.Trees.{Trees, element as an_element};
 ghost use Rattle.tc_model.specs.Validity.{IsValidOutput};
-ghost use Rattle.tc_model.specs.Seen as seen;
-ghost use Rattle.tc_model.specs.Seen.{before, trees};
+ghost use Rattle.tc_model.specs.Views as seen;
+ghost use Rattle.tc_model.specs.Views.{before, trees};
 ghost use Rattle.tc_top.specs.FirstFits as first_fits;
 ghost use Rattle.tc_top.specs.FirstForm.{grammar_of, plain_name, ArePlainElements};
 ghost use Rattle.tc_top.specs.FirstSeen.{schema, schema_from};

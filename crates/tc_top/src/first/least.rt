@@ -1,6 +1,6 @@
 // The least document that is valid for a schema.
 ghost use Rattle.std.specs.Prelude.{◌≡◌, IfOk};
-ghost use Rattle.tc_model.specs.Seen.{before};
+ghost use Rattle.tc_model.specs.Views.{before};
 ghost use Rattle.tc_model.specs.Trees.{none};
 ghost use Rattle.tc_top.specs.FirstForm as first_form;
 ghost use Rattle.tc_top.specs.FirstSeen.{schema, schema_from};

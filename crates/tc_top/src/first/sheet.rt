@@ -2,7 +2,7 @@
 ghost use Rattle.std.specs.Prelude.{◌≡◌, ◌≤◌, ◌<◌, ◌+◌, ◌++◌, ℕ, List, length, codes, MatchOption, IfSome, IfOk};
 ghost use Rattle.tc_model.specs.Trees as t;
 ghost use Rattle.tc_model.specs.Trees.{Trees};
-ghost use Rattle.tc_model.specs.Seen.{before, trees};
+ghost use Rattle.tc_model.specs.Views.{before, trees};
 ghost use Rattle.tc_top.specs.FirstForm.{plain_name};
 ghost use Rattle.tc_top.specs.FirstText.{TagAt, ElementAt, BodyAt, FirstSheetText};
 

@@ -1,6 +1,6 @@
 use Rattle.std.proofs.Common.{◌≡◌, sym, subst, length, arith}
 use Rattle.std.proofs.lemmas.Str.{utf8_valid_len_le}
-use Rattle.tc_model.specs.Seen.{raw_tree}
+use Rattle.tc_model.specs.Views.{raw_tree}
 use Rattle.tc_model.specs.XmlTextLaws.{AreLawfulWithin}
 use Rattle.tc_model.proofs.XmlTextTrees.{lawful_raw_tree}
 use Rattle.tc_model.proofs.XmlTextDocument.{document}

@@ -1,6 +1,6 @@
 use Rattle.std.proofs.Common.{◌≡◌, ◌++◌, drop}
 use Rattle.tc_alpha.specs.Kept.{all_known}
-use Rattle.tc_alpha.specs.Seen.{seen}
+use Rattle.tc_alpha.specs.Views.{seen}
 use Rattle.tc_alpha.proofs.alphabet.all_kept.Given as goal
 
 abbrev pub invariant-loop-mention : goal.invariant-loop-mention

@@ -1,5 +1,5 @@
 use Rattle.std.proofs.Common.{◌≡◌, [], ◌++◌, List, ap, ◌∙◌, append_assoc, flat_map}
-use Rattle.tc_alpha.specs.Seen.{seen}
+use Rattle.tc_alpha.specs.Views.{seen}
 use Rattle.tc_model.specs.Symbols.{Mention, with_namespace, in_order, mention_cmp}
 use Rattle.tc_alpha.proofs.alphabet.mentions_of.Goals as goal
 

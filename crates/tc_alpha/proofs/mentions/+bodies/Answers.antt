@@ -1,6 +1,6 @@
 use Rattle.std.proofs.Common.{◌≡◌, ℕ, ◌++◌, ◌⊎◌, inl, inr, ap, ◌∙◌}
-use Rattle.tc_alpha.specs.Seen.{seen}
-use Rattle.tc_model.specs.Seen as see
+use Rattle.tc_alpha.specs.Views.{seen}
+use Rattle.tc_model.specs.Views as see
 use Rattle.tc_model.specs.Sheets as s
 use Rattle.tc_model.specs.Symbols.{mentions_of_name}
 use Rattle.tc_model.specs.declared.sheet.Instr.{Instr, Apply, ValueOf}

@@ -1,6 +1,6 @@
 use Rattle.std.proofs.Common.{ap, ◌∙◌, ◌∷◌, []}
-use Rattle.tc_alpha.specs.Seen.{seen}
-use Rattle.tc_model.specs.Seen as see
+use Rattle.tc_alpha.specs.Views.{seen}
+use Rattle.tc_model.specs.Views as see
 use Rattle.tc_model.specs.Symbols.{a_namespace, mentions_in_class, mentions_in_classes}
 use Rattle.tc_model.proofs.ViewsGrammar.{see_ns}
 use Rattle.tc_alpha.proofs.Steps.{then_on_ok, two_pieces}

@@ -1,6 +1,6 @@
 use Rattle.std.proofs.Common.{◌≡◌, ◌++◌, drop, map, flat_map}
-use Rattle.tc_alpha.specs.Seen.{seen}
-use Rattle.tc_model.specs.Seen as see
+use Rattle.tc_alpha.specs.Views.{seen}
+use Rattle.tc_model.specs.Views as see
 use Rattle.tc_model.specs.Symbols.{mentions_in_class, mentions_in_grammar}
 use Rattle.tc_alpha.proofs.mentions.mention_grammar.Given as goal
 

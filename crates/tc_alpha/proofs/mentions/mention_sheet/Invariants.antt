@@ -1,6 +1,6 @@
 use Rattle.std.proofs.Common.{◌≡◌, ◌++◌, drop, map, flat_map}
-use Rattle.tc_alpha.specs.Seen.{seen}
-use Rattle.tc_model.specs.Seen as see
+use Rattle.tc_alpha.specs.Views.{seen}
+use Rattle.tc_model.specs.Views as see
 use Rattle.tc_model.specs.Symbols.{in_body, in_pattern, mentions_of_name, mentions_of_test}
 use Rattle.tc_alpha.proofs.mentions.mention_sheet.Given as goal
 

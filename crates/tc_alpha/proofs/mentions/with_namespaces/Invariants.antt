@@ -1,5 +1,5 @@
 use Rattle.std.proofs.Common.{◌≡◌, ◌++◌, drop, flat_map}
-use Rattle.tc_alpha.specs.Seen.{seen}
+use Rattle.tc_alpha.specs.Views.{seen}
 use Rattle.tc_model.specs.Symbols.{with_namespace}
 use Rattle.tc_alpha.proofs.mentions.with_namespaces.Given as goal
 

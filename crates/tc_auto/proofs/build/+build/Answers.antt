@@ -1,7 +1,7 @@
 use Rattle.std.proofs.Common.{◌≡◌, ◌<◌, ◌*◌, ap, ◌∙◌, sym, subst, take, arith, rules}
 use Rattle.tc_model.specs.Grammars as g
 use Rattle.tc_model.specs.Grammars.{Pattern}
-use Rattle.tc_model.specs.Seen.{pattern, patterns}
+use Rattle.tc_model.specs.Views.{pattern, patterns}
 use Rattle.tc_model.specs.States.{Automaton, automaton}
 use Rattle.tc_model.specs.declared.grammar.Pat.TheViews.{the_lemmas}
 use Rattle.tc_model.proofs.StatesExact.{sound}

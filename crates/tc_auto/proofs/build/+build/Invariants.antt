@@ -1,6 +1,6 @@
 use Rattle.std.proofs.Common.{take}
 use Rattle.tc_model.specs.Grammars as g
-use Rattle.tc_model.specs.Seen.{patterns}
+use Rattle.tc_model.specs.Views.{patterns}
 use Rattle.tc_model.specs.States.{automaton}
 use Rattle.tc_auto.specs.Steps.{Shows}
 use Rattle.tc_auto.proofs.build.+build.Given as goal

@@ -1,5 +1,5 @@
 use Rattle.std.proofs.Common.{suc}
-use Rattle.tc_model.specs.Seen as see
+use Rattle.tc_model.specs.Views as see
 use Rattle.tc_auto.specs.Stands.{Built, side_of}
 use Rattle.tc_auto.proofs.make.built.Given as goal
 

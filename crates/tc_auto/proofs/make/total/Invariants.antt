@@ -1,5 +1,5 @@
 use Rattle.std.proofs.Common.{◌≡◌, suc, min}
-use Rattle.tc_model.specs.Seen as see
+use Rattle.tc_model.specs.Views as see
 use Rattle.tc_model.specs.States.{first_state}
 use Rattle.tc_auto.specs.Stands.{side_of}
 use Rattle.tc_auto.proofs.make.total.Given as goal

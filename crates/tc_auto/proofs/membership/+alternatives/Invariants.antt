@@ -1,6 +1,6 @@
 use Rattle.std.proofs.Common.{◌≡◌, drop}
 use Rattle.tc_model.specs.States.{is_one_alternative}
-use Rattle.tc_model.specs.Seen.{patterns}
+use Rattle.tc_model.specs.Views.{patterns}
 use Rattle.tc_auto.proofs.membership.+alternatives.Given as goal
 
 abbrev pub invariant-has_one_alternative-loop-member : goal.invariant-has_one_alternative-loop-member

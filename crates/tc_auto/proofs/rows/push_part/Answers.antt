@@ -1,5 +1,5 @@
 use Rattle.std.proofs.Common.{refl, rules}
-use Rattle.tc_model.specs.Seen.{pattern}
+use Rattle.tc_model.specs.Views.{pattern}
 use Rattle.tc_model.specs.States.{automaton}
 use Rattle.tc_model.proofs.StatesExact.{sound}
 use Rattle.tc_auto.proofs.Shown.{within}

@@ -1,5 +1,5 @@
 use Rattle.std.proofs.Common.{◌↔◌, false, drop}
-use Rattle.tc_model.specs.Seen as see
+use Rattle.tc_model.specs.Views as see
 use Rattle.tc_hedge.specs.Documents.{IsSettled}
 use Rattle.tc_hedge.proofs.documents.+settled.Given as goal
 

@@ -1,4 +1,4 @@
-use Rattle.tc_model.specs.Seen as see
+use Rattle.tc_model.specs.Views as see
 use Rattle.tc_hedge.proofs.SetSteps.{named_told}
 use Rattle.tc_hedge.proofs.sets.is_named.Goals as goal
 

@@ -1,6 +1,6 @@
 use Rattle.std.proofs.Common.{◌≤◌, ℕ, Vec, Global, length, get_or, ap, ◌∙◌, sym, refl}
 use Rattle.std.proofs.lemmas.Bool.{true≢false}
-use Rattle.tc_model.specs.Seen as see
+use Rattle.tc_model.specs.Views as see
 use Rattle.tc_hedge.specs.Sets.{IsNamed}
 use Rattle.tc_hedge.proofs.Gathers.{grows_push}
 use Rattle.tc_hedge.proofs.SetSteps.{all_grown, filter_put, filter_skip, filter_made, same_members}

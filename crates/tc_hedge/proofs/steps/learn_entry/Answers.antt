@@ -1,5 +1,5 @@
 use Rattle.std.proofs.Common.{◌≡◌, List, ℕ, length, refl, subst, sym}
-use Rattle.tc_model.specs.Seen as see
+use Rattle.tc_model.specs.Views as see
 use Rattle.tc_model.specs.States.{first_state}
 use Rattle.tc_hedge.specs.Sets.{AreNumbers, IsMade, IsNamed, Leaves, Makes}
 use Rattle.tc_hedge.proofs.Remembered.{both_made, knows_grown, knows_entry, states_below}

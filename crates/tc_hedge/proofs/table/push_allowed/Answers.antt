@@ -1,5 +1,5 @@
 use Rattle.std.proofs.Common.{arith}
-use Rattle.tc_model.specs.Seen as see
+use Rattle.tc_model.specs.Views as see
 use Rattle.tc_model.specs.Grammars.{ElementPattern, in_class}
 use Rattle.tc_hedge.proofs.Bounds.{patterns_of}
 use Rattle.tc_hedge.proofs.TableRows.{allowed_more}

@@ -1,6 +1,6 @@
 use Rattle.std.proofs.Common.{ap, ◌∙◌, sym, subst, refl}
 use Rattle.tc_model.specs.Trees.{Trees, none}
-use Rattle.tc_model.specs.Seen as see
+use Rattle.tc_model.specs.Views as see
 use Rattle.tc_model.specs.declared.tree.Node.{Node}
 use Rattle.tc_model.proofs.Views.{before_text, before_elem}
 use Rattle.tc_hedge.specs.Memos.{PassesTrees}

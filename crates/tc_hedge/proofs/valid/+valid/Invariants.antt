@@ -1,5 +1,5 @@
 use Rattle.std.proofs.Common.{take}
-use Rattle.tc_model.specs.Seen as see
+use Rattle.tc_model.specs.Views as see
 use Rattle.tc_hedge.specs.Known.{Knows}
 use Rattle.tc_hedge.specs.Memos.{Grown, PassesTrees}
 use Rattle.tc_hedge.proofs.valid.+valid.Given as goal

@@ -1,5 +1,5 @@
 use Rattle.std.proofs.Common.{◌≡◌, ◌==◌, ap, ◌∙◌, arith, length, sym, subst, vec_len}
-use Rattle.tc_model.specs.Seen as see
+use Rattle.tc_model.specs.Views as see
 use Rattle.tc_hedge.specs.Sets.{AreNumbers}
 use Rattle.tc_hedge.proofs.SetsRuns.{made_from, start_told}
 use Rattle.tc_hedge.proofs.valid.is_element_valid.Goals as goal

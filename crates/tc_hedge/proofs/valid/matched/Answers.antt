@@ -1,5 +1,5 @@
 use Rattle.std.proofs.Common.{◌≡◌, List, ℕ, subst}
-use Rattle.tc_model.specs.Seen as see
+use Rattle.tc_model.specs.Views as see
 use Rattle.tc_hedge.specs.Memos.{PassesTrees}
 use Rattle.tc_hedge.specs.Sets.{IsMade, Makes, Runs}
 use Rattle.tc_hedge.proofs.Gathers.{for_ok}

@@ -1,5 +1,5 @@
 use Rattle.std.proofs.Common.{length, refl, sym, ◌∙◌, arith}
-use Rattle.tc_model.specs.Seen as see
+use Rattle.tc_model.specs.Views as see
 use Rattle.tc_hedge.proofs.SetSteps.{named_told}
 use Rattle.tc_hedge.proofs.valid.may_start.Goals as goal
 

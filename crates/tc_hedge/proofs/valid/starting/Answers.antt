@@ -1,6 +1,6 @@
 use Rattle.std.proofs.Common.{◌≡◌, ◌≤◌, ◌+◌, ℕ, Vec, Global, IsTrue, length, ap, ◌∙◌, sym, subst, arith}
 use Rattle.std.proofs.lemmas.Bool.{true≢false}
-use Rattle.tc_model.specs.Seen as see
+use Rattle.tc_model.specs.Views as see
 use Rattle.tc_model.specs.States.{is_alternative}
 use Rattle.tc_hedge.specs.Sets.{IsMade, IsNamed}
 use Rattle.tc_hedge.proofs.Bounds.{patterns_of}

@@ -1,6 +1,6 @@
 use Rattle.std.proofs.Common.{ap, ◌∙◌, drop, ◌+◌}
 use Rattle.tc_model.specs.Runs.{run_text}
-use Rattle.tc_model.specs.Seen.{name, trees}
+use Rattle.tc_model.specs.Views.{name, trees}
 use Rattle.tc_model.proofs.Views.{left_elem, left_text}
 use Rattle.tc_model.proofs.NormalForm.{text_step, elem_step}
 use Rattle.tc_model.proofs.normal.+normalise.Goals as goal

@@ -1,7 +1,7 @@
 use Rattle.std.proofs.Common.{◌≡◌, drop}
 use Rattle.tc_model.specs.Trees.{beside, joined, joined_to, dropped, normal_form}
 use Rattle.tc_model.specs.Runs.{run_text}
-use Rattle.tc_model.specs.Seen.{trees}
+use Rattle.tc_model.specs.Views.{trees}
 use Rattle.tc_model.proofs.normal.+normalise.Given as goal
 
 -- what is gathered, and then the normal form of the run so far before what is left

@@ -1,6 +1,6 @@
 use Rattle.std.proofs.Common.{ap, rules, ◌∙◌}
 use Rattle.tc_model.specs.Runs.{run_text}
-use Rattle.tc_model.specs.Seen.{trees}
+use Rattle.tc_model.specs.Views.{trees}
 use Rattle.tc_model.proofs.Views.{pushed_text}
 use Rattle.tc_model.proofs.NormalForm.{put_white, put_text}
 use Rattle.tc_model.proofs.normal.end_run.Goals as goal

@@ -1,6 +1,6 @@
 use Rattle.std.proofs.Common.{ap, ◌∙◌}
-use Rattle.tc_model.specs.Seen as see
-use Rattle.tc_model.specs.Seen.{trees}
+use Rattle.tc_model.specs.Views as see
+use Rattle.tc_model.specs.Views.{trees}
 use Rattle.tc_model.specs.Trees.{beside, element, none}
 use Rattle.tc_model.proofs.Views.{pushed_elem}
 use Rattle.tc_model.proofs.normal.gather_element.Goals as goal

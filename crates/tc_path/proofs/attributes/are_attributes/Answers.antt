@@ -1,6 +1,6 @@
 use Rattle.std.proofs.Common.{map, subst, sym, ◌∙◌}
-use Rattle.tc_model.specs.Seen.{bound}
-use Rattle.tc_path.specs.Seen.{tokens_of}
+use Rattle.tc_model.specs.Views.{bound}
+use Rattle.tc_path.specs.Views.{tokens_of}
 use Rattle.tc_path.proofs.PhraseLaws.{handed_on}
 use Rattle.tc_path.proofs.PatternLoops.{no_tokens, some_tokens}
 use Rattle.tc_path.proofs.AttributeLoops.{AttributesRead, attributes_first, attributes_more, attributes_end, attributes_select_end, attributes_fail, attributes_go_on}

@@ -1,6 +1,6 @@
 use Rattle.std.proofs.Common.{length, map}
-use Rattle.tc_model.specs.Seen.{bound}
-use Rattle.tc_path.specs.Seen.{tokens_of}
+use Rattle.tc_model.specs.Views.{bound}
+use Rattle.tc_path.specs.Views.{tokens_of}
 use Rattle.tc_path.proofs.AttributeLoops.{AttributesRead}
 use Rattle.tc_path.proofs.attributes.are_attributes.Given as goal
 

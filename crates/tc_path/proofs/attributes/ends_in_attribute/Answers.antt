@@ -1,5 +1,5 @@
 use Rattle.std.proofs.Common.{map}
-use Rattle.tc_model.specs.Seen.{bound}
+use Rattle.tc_model.specs.Views.{bound}
 use Rattle.tc_path.proofs.AttributeLoops.{told_so}
 use Rattle.tc_path.proofs.attributes.ends_in_attribute.Goals as goal
 

@@ -2,7 +2,7 @@ use Rattle.std.proofs.Common.{◌≡◌, ◌<◌, ◌≤◌, ◌+◌, ℕ, List,
 use Rattle.std.proofs.lemmas.List.{drop_more}
 use Rattle.tc_model.specs.PathTextTokens.{Token, most_open, open_behind}
 use Rattle.tc_path.specs.declared.token.Token.{Token as CodeToken}
-use Rattle.tc_path.specs.Seen.{token}
+use Rattle.tc_path.specs.Views.{token}
 use Rattle.tc_path.proofs.nesting.is_too_deep.Goals as goal
 
 -- at least as many are open as before

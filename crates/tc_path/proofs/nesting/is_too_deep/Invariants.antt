@@ -1,6 +1,6 @@
 use Rattle.std.proofs.Common.{◌≤◌, ◌<◌, drop}
 use Rattle.tc_model.specs.PathTextTokens.{most_open, deepest_nesting}
-use Rattle.tc_path.specs.Seen.{tokens_of}
+use Rattle.tc_path.specs.Views.{tokens_of}
 use Rattle.tc_path.proofs.nesting.is_too_deep.Given as goal
 
 -- what is to come is too deep exactly where the whole is

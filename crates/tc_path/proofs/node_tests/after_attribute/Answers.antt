@@ -1,7 +1,7 @@
 use Rattle.std.proofs.Common.{map}
-use Rattle.tc_model.specs.Seen.{bound}
+use Rattle.tc_model.specs.Views.{bound}
 use Rattle.tc_scan.proofs.NamesLaws.{at_none}
-use Rattle.tc_path.specs.Seen.{tokens_of}
+use Rattle.tc_path.specs.Views.{tokens_of}
 use Rattle.tc_path.proofs.TokenLaws.{match_map}
 use Rattle.tc_path.proofs.NodeTestLaws.{no_attribute, no_at_test, no_spelled_test, an_attribute, a_spelled_attribute}
 use Rattle.tc_path.proofs.node_tests.after_attribute.Goals as goal

@@ -1,7 +1,7 @@
 use Rattle.std.proofs.Common.{map, ap}
-use Rattle.tc_model.specs.Seen.{bound}
-use Rattle.tc_scan.specs.Seen.{written_name}
-use Rattle.tc_path.specs.Seen.{token, tokens_of}
+use Rattle.tc_model.specs.Views.{bound}
+use Rattle.tc_scan.specs.Views.{written_name}
+use Rattle.tc_path.specs.Views.{token, tokens_of}
 use Rattle.tc_path.proofs.NodeTestLaws.{first_seen, attribute_star, attribute_namespace, attribute_name}
 use Rattle.tc_path.proofs.node_tests.after_attribute_test.Goals as goal
 

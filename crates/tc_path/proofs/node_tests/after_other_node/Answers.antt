@@ -2,7 +2,7 @@ use Rattle.std.proofs.Common.{◌≡◌, ◌∷◌, List, refl, subst, sym}
 use Rattle.std.specs.Prelude.{codes}
 use Rattle.tc_model.specs.PathTextTokens.{Token, mark, open_parenthesis, close_parenthesis}
 use Rattle.tc_model.specs.PathTextPhrases.{word, OtherNodeAt, a_comment, an_instruction}
-use Rattle.tc_path.specs.Seen.{tokens_of}
+use Rattle.tc_path.specs.Views.{tokens_of}
 use Rattle.tc_path.proofs.TokenLaws.{match_map}
 use Rattle.tc_path.proofs.node_tests.after_other_node.Goals as goal
 

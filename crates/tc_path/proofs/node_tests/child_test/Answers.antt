@@ -1,7 +1,7 @@
 use Rattle.std.proofs.Common.{map}
-use Rattle.tc_model.specs.Seen.{bound, node_test}
+use Rattle.tc_model.specs.Views.{bound, node_test}
 use Rattle.tc_model.specs.PathTextPhrases as p
-use Rattle.tc_path.specs.Seen.{tokens_of}
+use Rattle.tc_path.specs.Views.{tokens_of}
 use Rattle.tc_path.proofs.NodeTestLaws.{map_ok, map_no, a_spelled_child, no_child}
 use Rattle.tc_path.proofs.node_tests.child_test.Goals as goal
 

@@ -1,7 +1,7 @@
 use Rattle.std.proofs.Common.{map, ap}
-use Rattle.tc_model.specs.Seen.{bound}
-use Rattle.tc_scan.specs.Seen.{written_name}
-use Rattle.tc_path.specs.Seen.{token, tokens_of}
+use Rattle.tc_model.specs.Views.{bound}
+use Rattle.tc_scan.specs.Views.{written_name}
+use Rattle.tc_path.specs.Views.{token, tokens_of}
 use Rattle.tc_path.proofs.NodeTestLaws.{first_seen, a_star_test, a_namespace_test, a_name_test}
 use Rattle.tc_path.proofs.node_tests.name_test.Goals as goal
 

@@ -1,5 +1,5 @@
 use Rattle.std.proofs.Common.{map, sym, ◌∙◌}
-use Rattle.tc_model.specs.Seen.{bound}
+use Rattle.tc_model.specs.Views.{bound}
 use Rattle.tc_path.proofs.TokenLaws.{match_map}
 use Rattle.tc_path.proofs.NodeTestLaws.{means_without, means_with, means_nothing}
 use Rattle.tc_path.proofs.node_tests.namespace_of_name.Goals as goal

@@ -1,6 +1,6 @@
 use Rattle.std.proofs.Common.{map}
-use Rattle.tc_model.specs.Seen.{bound}
-use Rattle.tc_path.specs.Seen.{tokens_of}
+use Rattle.tc_model.specs.Views.{bound}
+use Rattle.tc_path.specs.Views.{tokens_of}
 use Rattle.tc_path.proofs.NodeTestLaws.{a_text_test, a_node_test}
 use Rattle.tc_path.proofs.node_tests.node_test_at.Goals as goal
 

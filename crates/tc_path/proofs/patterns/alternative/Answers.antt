@@ -1,7 +1,7 @@
 use Rattle.std.proofs.Common.{map, subst, sym}
-use Rattle.tc_model.specs.Seen.{bound}
+use Rattle.tc_model.specs.Views.{bound}
 use Rattle.tc_model.specs.PathTextPhrases as p
-use Rattle.tc_path.specs.Seen.{tokens_of}
+use Rattle.tc_path.specs.Views.{tokens_of}
 use Rattle.tc_path.proofs.PhraseLaws.{handed_on}
 use Rattle.tc_path.proofs.PatternLoops.{root_at, from_root_at, below_root_at, relative_at, no_steps_from_root, no_steps_below_root, no_relative_steps}
 use Rattle.tc_path.proofs.patterns.alternative.Goals as goal

@@ -1,5 +1,5 @@
 use Rattle.std.proofs.Common.{sym, ◌∙◌}
-use Rattle.tc_path.specs.Seen.{tokens_of}
+use Rattle.tc_path.specs.Views.{tokens_of}
 use Rattle.tc_path.proofs.PatternLoops.{ends_if_none, ends_if_bar, match_true, no_tokens, some_tokens}
 use Rattle.tc_path.proofs.patterns.ends_alternative.Goals as goal
 

@@ -1,7 +1,7 @@
 use Rattle.std.proofs.Common.{map, subst, sym, ap, ◌∙◌, ◌++◌}
-use Rattle.tc_model.specs.Seen.{bound}
+use Rattle.tc_model.specs.Views.{bound}
 use Rattle.tc_model.specs.PathTextPhrases as p
-use Rattle.tc_path.specs.Seen.{tokens_of, alternative, kept_alternative}
+use Rattle.tc_path.specs.Views.{tokens_of, alternative, kept_alternative}
 use Rattle.tc_path.proofs.PhraseLaws.{handed_on}
 use Rattle.tc_path.proofs.PatternLoops.{patterns_first, patterns_more, patterns_end, patterns_fail, patterns_go_on, no_tokens, some_tokens}
 use Rattle.tc_path.proofs.patterns.pattern.Goals as goal

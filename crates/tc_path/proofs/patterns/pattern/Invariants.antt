@@ -1,6 +1,6 @@
 use Rattle.std.proofs.Common.{length, map}
-use Rattle.tc_model.specs.Seen.{bound}
-use Rattle.tc_path.specs.Seen.{alternative, tokens_of}
+use Rattle.tc_model.specs.Views.{bound}
+use Rattle.tc_path.specs.Views.{alternative, tokens_of}
 use Rattle.tc_path.proofs.PatternLoops.{PatternsRead}
 use Rattle.tc_path.proofs.patterns.pattern.Given as goal
 

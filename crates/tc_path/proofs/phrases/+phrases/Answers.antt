@@ -1,9 +1,9 @@
 use Rattle.std.proofs.Common.{rules, arith, map, ap, ◌∙◌, sym, subst}
-use Rattle.tc_model.specs.Seen.{bound, tests, steps, alternatives, path}
+use Rattle.tc_model.specs.Views.{bound, tests, steps, alternatives, path}
 use Rattle.tc_model.specs.Sheets as s
 use Rattle.tc_model.specs.PathTextPhrases as p
 use Rattle.tc_model.proofs.ViewsPath.{see_has, see_true, see_false, see_path, tests_then}
-use Rattle.tc_path.specs.Seen.{mark, form, tokens_of}
+use Rattle.tc_path.specs.Views.{mark, form, tokens_of}
 use Rattle.tc_path.proofs.NodeTestLaws.{map_ok, map_no, shorter_by, shorter_by_two, shorter_by_three, attribute_shorter, other_shorter}
 use Rattle.tc_path.proofs.Loops.{tests_first, tests_pushed, ands_first, ands_more, ands_end, ands_fail, ors_first, ors_more, ors_end, ors_fail, predicates_start, predicates_next, predicates_end, predicates_fail}
 use Rattle.tc_path.proofs.StepLoops.{steps_first, steps_pushed, steps_read_first, steps_more, steps_attribute, steps_end, steps_none, steps_fail, alternatives_first, alternatives_kept, selects_first, selects_more, selects_end, selects_fail}

@@ -1,6 +1,6 @@
 use Rattle.std.proofs.Common.{◌*◌, ◌+◌, ◌<◌, length, map}
-use Rattle.tc_model.specs.Seen.{bound, steps, alternatives, tests}
-use Rattle.tc_path.specs.Seen.{form, tokens_of}
+use Rattle.tc_model.specs.Views.{bound, steps, alternatives, tests}
+use Rattle.tc_path.specs.Views.{form, tokens_of}
 use Rattle.tc_path.proofs.Loops.{AndsRead, OrsRead, PredicatesSoFar}
 use Rattle.tc_path.proofs.StepLoops.{StepsRead, SelectsRead}
 use Rattle.tc_path.proofs.phrases.+phrases.Given as goal

@@ -1,5 +1,5 @@
 use Rattle.std.proofs.Common.{◌≡◌, ◌≤◌, map, drop}
-use Rattle.tc_path.specs.Seen.{token}
+use Rattle.tc_path.specs.Views.{token}
 use Rattle.tc_path.specs.Reasons as reasons
 use Rattle.tc_path.proofs.reasons.first_reason.Given as goal
 

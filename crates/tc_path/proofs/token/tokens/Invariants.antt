@@ -1,7 +1,7 @@
 use Rattle.std.proofs.Common.{map, length}
 use denote.Text.{Utf8}
 use denote.Shadow.{shadow}
-use Rattle.tc_path.specs.Seen.{token}
+use Rattle.tc_path.specs.Views.{token}
 use Rattle.tc_path.proofs.TokenLaws.{TokensSoFar}
 use Rattle.tc_path.proofs.token.tokens.Given as goal
 

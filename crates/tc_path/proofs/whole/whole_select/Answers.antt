@@ -1,5 +1,5 @@
 use Rattle.std.proofs.Common.{map, sym, ◌∙◌}
-use Rattle.tc_model.specs.Seen.{bound}
+use Rattle.tc_model.specs.Views.{bound}
 use Rattle.tc_model.proofs.PathTextUnique.{select_unique}
 use Rattle.tc_path.proofs.PatternLoops.{some_tokens}
 use Rattle.tc_path.proofs.whole.whole_select.Goals as goal

@@ -1,7 +1,7 @@
 use Rattle.std.proofs.Common.{◌++◌, codes}
 use Rattle.tc_io.proofs.Fronts.{on_err, on_err_map, first_front, next_front}
 use Rattle.tc_model.specs.Printed.{tag_name, declaration}
-use Rattle.tc_model.specs.Seen.{name}
+use Rattle.tc_model.specs.Views.{name}
 use Rattle.tc_print.proofs.tags.begin_tag.Goals as goal
 
 pub returns-in_err-write-clause-fault : goal.returns-in_err-write-clause-fault

@@ -3,7 +3,7 @@ use Rattle.std.specs.List.{flat_map}
 use Rattle.tc_io.specs.Sink.{Appended, WroteFront}
 use Rattle.tc_io.proofs.Fronts.{on_err, on_err_map, first_front, next_front}
 use Rattle.tc_model.specs.Printed.{escaped_in_value}
-use Rattle.tc_model.specs.Seen.{name}
+use Rattle.tc_model.specs.Views.{name}
 use Rattle.tc_print.proofs.Names.{declared}
 use Rattle.tc_print.proofs.tags.write_declaration.Goals as goal
 

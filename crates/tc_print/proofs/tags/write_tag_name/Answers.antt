@@ -2,7 +2,7 @@ use Rattle.std.proofs.Common.{rules, ◌≡◌, List, ℕ, codes, bytes_eq, true
 use Rattle.tc_io.specs.Sink.{Appended, WroteFront}
 use Rattle.tc_io.proofs.Fronts.{on_err, on_err_map, on_ok_map, appended_twice, first_front, next_front}
 use Rattle.tc_model.specs.Printed.{xml_uri}
-use Rattle.tc_model.specs.Seen.{name}
+use Rattle.tc_model.specs.Views.{name}
 use Rattle.tc_print.proofs.Names.{with_prefix, without_prefix}
 use Rattle.tc_print.proofs.tags.write_tag_name.Goals as goal
 use Rattle.tc_print.proofs.tags.write_tag_name.Goals.{then-eq+in_ok-write, else-eq}

@@ -1,9 +1,9 @@
 use Rattle.std.proofs.Common.{[], ◌∷◌, ◌++◌, refl, ap, ◌∙◌, sym, subst, length, arith}
 use Rattle.tc_model.specs.CompactSyntaxNames.{alone, nothing, ClassAt, SimpleAt, ExceptAt}
-use Rattle.tc_model.specs.Seen.{name}
+use Rattle.tc_model.specs.Views.{name}
 use Rattle.tc_rnc.specs.Readings.{HasSimple, HasClosedClass}
 use Rattle.tc_rnc.specs.Scopes.{scope_of}
-use Rattle.tc_rnc.specs.Seen as seen
+use Rattle.tc_rnc.specs.Views as seen
 use Rattle.tc_rnc.proofs.Refusals.{open_behind, simple_leaves, class_leaves}
 use Rattle.tc_model.specs.CompactSyntaxTrees.{one_of}
 use Rattle.tc_model.specs.CompactSyntaxRefused.{here}

@@ -1,5 +1,5 @@
 use Rattle.std.proofs.Common.{◌*◌, ◌+◌, length}
-use Rattle.tc_rnc.specs.Seen as seen
+use Rattle.tc_rnc.specs.Views as seen
 use Rattle.tc_rnc.specs.Scopes.{scope_of}
 use Rattle.tc_rnc.proofs.ClassLaws.{ClassesSoFar}
 use Rattle.tc_rnc.proofs.classes.+class.Given as goal

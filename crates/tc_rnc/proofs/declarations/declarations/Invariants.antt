@@ -1,7 +1,7 @@
 use Rattle.std.proofs.Common.{length}
 use Rattle.tc_rnc.specs.Schemas.{Declares}
 use Rattle.tc_rnc.specs.Scopes.{scope_of}
-use Rattle.tc_rnc.specs.Seen as seen
+use Rattle.tc_rnc.specs.Views as seen
 use Rattle.tc_rnc.proofs.declarations.declarations.Given as goal
 
 abbrev pub invariant-loop-end : goal.invariant-loop-end

@@ -3,7 +3,7 @@ use Rattle.tc_model.specs.CompactSyntaxNames.{bound_to, DeclarationAt}
 use Rattle.tc_model.specs.CompactSyntaxRefused.{here}
 use Rattle.tc_rnc.specs.Schemas.{HasDeclared}
 use Rattle.tc_rnc.specs.Scopes.{scope_of}
-use Rattle.tc_rnc.specs.Seen as seen
+use Rattle.tc_rnc.specs.Views as seen
 use Rattle.tc_rnc.proofs.RefusalLaws.{refuses_all, raised, unmade_by}
 use Rattle.tc_rnc.proofs.DeclarationLaws as l
 use Rattle.tc_rnc.proofs.declarations.default_and_prefix.Goals as goal

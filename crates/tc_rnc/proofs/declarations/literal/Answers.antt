@@ -2,7 +2,7 @@ use Rattle.std.proofs.Common.{inl, subst, codes}
 use Rattle.tc_base.specs.declared.reasons.Why.TheVariants.{N13, N15, N16, N17}
 use Rattle.tc_model.specs.CompactSyntaxRefused.{here, NoEscape, escape, inherit, concatenation}
 use Rattle.tc_rnc.specs.Schemas.{HasLiteral}
-use Rattle.tc_rnc.specs.Seen as seen
+use Rattle.tc_rnc.specs.Views as seen
 use Rattle.tc_rnc.specs.declared.faults.RncFault.TheVariants.{Unsupported}
 use Rattle.tc_rnc.proofs.Constructs.{construct_first, three_of}
 use Rattle.tc_rnc.proofs.RefusalLaws.{refuses_all}

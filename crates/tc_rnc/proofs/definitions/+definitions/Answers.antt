@@ -3,7 +3,7 @@ use Rattle.tc_model.specs.CompactSyntaxRefused.{here}
 use Rattle.tc_rnc.specs.Blocks.{HasBlock}
 use Rattle.tc_rnc.specs.Readings.{HasDefinition}
 use Rattle.tc_rnc.specs.Scopes.{scope_of}
-use Rattle.tc_rnc.specs.Seen as seen
+use Rattle.tc_rnc.specs.Views as seen
 use Rattle.tc_rnc.proofs.RefusalLaws.{refuses_all, raised, map_ok, map_err}
 use Rattle.tc_rnc.proofs.DefinitionLaws as l
 use Rattle.tc_rnc.proofs.definitions.+definitions.Goals as goal

@@ -1,7 +1,7 @@
 use Rattle.tc_model.specs.CompactSyntaxRefused.{here}
 use Rattle.tc_rnc.specs.Blocks.{HasAssigned, assigned}
 use Rattle.tc_rnc.specs.Scopes.{scope_of}
-use Rattle.tc_rnc.specs.Seen as seen
+use Rattle.tc_rnc.specs.Views as seen
 use Rattle.tc_rnc.proofs.RefusalLaws.{refuses_all, raised}
 use Rattle.tc_rnc.proofs.DefinitionLaws.{no_operator, no_body}
 use Rattle.tc_rnc.proofs.definitions.assigned.Goals as goal

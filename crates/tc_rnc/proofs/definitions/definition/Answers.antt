@@ -1,9 +1,9 @@
 use Rattle.tc_model.specs.CompactSyntax.{one_definition}
 use Rattle.tc_model.specs.CompactSyntaxRefused.{here}
-use Rattle.tc_model.specs.Seen.{place}
+use Rattle.tc_model.specs.Views.{place}
 use Rattle.tc_rnc.specs.Readings.{HasDefinition}
 use Rattle.tc_rnc.specs.Scopes.{scope_of}
-use Rattle.tc_rnc.specs.Seen as seen
+use Rattle.tc_rnc.specs.Views as seen
 use Rattle.tc_rnc.proofs.RefusalLaws.{refuses_all, raised, unmade, unmade_by}
 use Rattle.tc_rnc.proofs.DefinitionLaws.{no_definition_none, nothing_defined, not_assigned, a_definition, pushed}
 use Rattle.tc_rnc.proofs.definitions.definition.Goals as goal

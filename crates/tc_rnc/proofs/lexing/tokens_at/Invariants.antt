@@ -1,6 +1,6 @@
 use Rattle.std.proofs.Common.{IsUtf8, length}
 use Rattle.tc_rnc.specs.Lexed.{ReadsTokens}
-use Rattle.tc_rnc.specs.Seen as seen
+use Rattle.tc_rnc.specs.Views as seen
 use Rattle.tc_rnc.proofs.lexing.tokens_at.Given as goal
 
 -- the tokens so far

@@ -1,5 +1,5 @@
 use Rattle.std.proofs.Common.{refl, sym, subst}
-use Rattle.tc_rnc.specs.Seen as seen
+use Rattle.tc_rnc.specs.Views as seen
 use Rattle.tc_rnc.proofs.RefusalLaws.{raised, map_ok, map_err}
 use Rattle.tc_rnc.proofs.PatternLaws as l
 use Rattle.tc_rnc.proofs.patterns.+balanced.Goals as goal

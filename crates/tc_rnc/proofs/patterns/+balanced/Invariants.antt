@@ -1,5 +1,5 @@
 use Rattle.std.proofs.Common.{◌*◌, ◌+◌, length}
-use Rattle.tc_rnc.specs.Seen as seen
+use Rattle.tc_rnc.specs.Views as seen
 use Rattle.tc_rnc.proofs.PatternLaws.{BalancedSoFar}
 use Rattle.tc_rnc.proofs.patterns.+balanced.Given as goal
 

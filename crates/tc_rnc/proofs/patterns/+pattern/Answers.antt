@@ -1,5 +1,5 @@
 use Rattle.std.proofs.Common.{[], ◌∷◌, ◌++◌, ◌∙◌, ap, sym, subst, arith, false, Bor}
-use Rattle.tc_model.specs.Seen.{place}
+use Rattle.tc_model.specs.Views.{place}
 use Rattle.tc_model.specs.CompactSyntaxTrees as tree
 use Rattle.tc_model.specs.CompactSyntaxPatterns as p
 use Rattle.tc_model.specs.CompactSyntaxPatterns.{PatternAt, ItemAt, PrimaryAt}
@@ -7,7 +7,7 @@ use Rattle.tc_model.specs.CompactSyntaxRefused.{here}
 use Rattle.tc_rnc.specs.Connectors as view
 use Rattle.tc_rnc.specs.Readings.{GoesOn, HasEnclosed, HasItems, HasPrimary, named}
 use Rattle.tc_rnc.specs.Scopes.{scope_of}
-use Rattle.tc_rnc.specs.Seen as seen
+use Rattle.tc_rnc.specs.Views as seen
 use Rattle.tc_rnc.specs.declared.syntax.SPat.{SPat}
 use Rattle.tc_rnc.proofs.Refusals.{along_open, open_behind, pattern_leaves, item_leaves}
 use Rattle.tc_rnc.proofs.RefusalLaws.{refuses_all, raised, unmade, unmade_by, at_some, at_none, map_ok, map_err}

@@ -1,6 +1,6 @@
 use Rattle.std.proofs.Common.{◌*◌, ◌+◌, length}
 use Rattle.tc_rnc.specs.Connectors as view
-use Rattle.tc_rnc.specs.Seen as seen
+use Rattle.tc_rnc.specs.Views as seen
 use Rattle.tc_rnc.specs.Scopes.{scope_of}
 use Rattle.tc_rnc.proofs.ItemLaws.{ItemsSoFar}
 use Rattle.tc_rnc.proofs.patterns.+pattern.Given as goal

@@ -1,6 +1,6 @@
 use Rattle.tc_rnc.specs.Readings.{labelled}
 use Rattle.tc_rnc.specs.Scopes.{scope_of}
-use Rattle.tc_rnc.specs.Seen as seen
+use Rattle.tc_rnc.specs.Views as seen
 use Rattle.tc_rnc.proofs.RefusalLaws.{raised, map_ok, map_err}
 use Rattle.tc_rnc.proofs.ItemLaws.{no_labelled_class, no_labelled_text}
 use Rattle.tc_rnc.proofs.patterns.attribute.Goals as goal

@@ -1,4 +1,4 @@
-use Rattle.tc_rnc.specs.Seen as seen
+use Rattle.tc_rnc.specs.Views as seen
 use Rattle.tc_rnc.proofs.RefusalLaws.{raised, map_ok, map_err}
 use Rattle.tc_rnc.proofs.PatternLaws.{a_braced_text, no_open_text, no_text_inside}
 use Rattle.tc_rnc.proofs.patterns.braced_text.Goals as goal

@@ -1,6 +1,6 @@
 use Rattle.std.proofs.Common.{refl}
 use Rattle.tc_rnc.specs.Readings.{HasOpen}
-use Rattle.tc_rnc.specs.Seen as seen
+use Rattle.tc_rnc.specs.Views as seen
 use Rattle.tc_rnc.proofs.RefusalLaws.{refuses_first}
 use Rattle.tc_rnc.proofs.PatternLaws.{not_open, lacks_at_end, lacks_first, too_deep}
 use Rattle.tc_rnc.proofs.patterns.opened.Goals as goal

@@ -2,7 +2,7 @@ use Rattle.std.proofs.Common.{◌∙◌, ap, sym, Bor}
 use Rattle.tc_model.specs.CompactSyntaxTrees as tree
 use Rattle.tc_model.specs.CompactSyntaxPatterns as p
 use Rattle.tc_rnc.specs.Connectors as view
-use Rattle.tc_rnc.specs.Seen as seen
+use Rattle.tc_rnc.specs.Views as seen
 use Rattle.tc_rnc.specs.declared.syntax.SPat.{SPat}
 use Rattle.tc_rnc.proofs.Views.{see_optional, see_zero_or_more, see_one_or_more}
 use Rattle.tc_rnc.proofs.patterns.suffixed.Goals as goal

@@ -1,5 +1,5 @@
 use Rattle.std.proofs.Common.{ap, map}
-use Rattle.tc_rnc.specs.Seen as seen
+use Rattle.tc_rnc.specs.Views as seen
 use Rattle.tc_rnc.proofs.RefusalLaws.{raised}
 use Rattle.tc_rnc.proofs.AnswerLaws.{stands_in_text, stands_at_end, excluded_in_text}
 use Rattle.tc_rnc.proofs.reading.read_rnc.Goals as goal

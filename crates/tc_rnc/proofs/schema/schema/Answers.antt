@@ -2,7 +2,7 @@ use Rattle.std.proofs.Common.{subst}
 use Rattle.tc_rnc.specs.Readings.{HasSchema}
 use Rattle.tc_rnc.specs.Refusals.{Refuses}
 use Rattle.tc_rnc.specs.Scopes.{scope_of}
-use Rattle.tc_rnc.specs.Seen as seen
+use Rattle.tc_rnc.specs.Views as seen
 use Rattle.tc_rnc.proofs.RefusalLaws.{raised, unmade_by, map_err}
 use Rattle.tc_rnc.proofs.TopLaws as l
 use Rattle.tc_rnc.proofs.schema.schema.Goals as goal

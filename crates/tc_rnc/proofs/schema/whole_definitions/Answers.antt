@@ -1,7 +1,7 @@
 use Rattle.std.proofs.Common.{◌++◌, ◌∙◌, map, ap}
 use Rattle.tc_rnc.specs.Readings.{HasSchema}
 use Rattle.tc_rnc.specs.Scopes.{scope_of}
-use Rattle.tc_rnc.specs.Seen as seen
+use Rattle.tc_rnc.specs.Views as seen
 use Rattle.tc_rnc.proofs.Refusals.{definitions_leave}
 use Rattle.tc_rnc.proofs.RefusalLaws.{refuses_all, raised}
 use Rattle.tc_rnc.proofs.TopLaws as l

@@ -2,7 +2,7 @@ use Rattle.std.proofs.Common.{◌++◌, ◌∙◌, map, ap}
 use Rattle.tc_model.specs.CompactSyntaxRefused.{here}
 use Rattle.tc_rnc.specs.Readings.{HasSchema}
 use Rattle.tc_rnc.specs.Scopes.{scope_of}
-use Rattle.tc_rnc.specs.Seen as seen
+use Rattle.tc_rnc.specs.Views as seen
 use Rattle.tc_rnc.proofs.RefusalLaws.{refuses_all, raised}
 use Rattle.tc_rnc.proofs.TopLaws as l
 use Rattle.tc_rnc.proofs.schema.whole_grammar.Goals as goal

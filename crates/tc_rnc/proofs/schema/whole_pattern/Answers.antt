@@ -2,7 +2,7 @@ use Rattle.std.proofs.Common.{◌∙◌, false, map, refl, ap, sym, subst}
 use Rattle.tc_model.specs.CompactSyntax.{SchemaAt}
 use Rattle.tc_rnc.specs.Readings.{HasSchema}
 use Rattle.tc_rnc.specs.Scopes.{scope_of}
-use Rattle.tc_rnc.specs.Seen as seen
+use Rattle.tc_rnc.specs.Views as seen
 use Rattle.tc_rnc.proofs.Refusals.{pattern_leaves}
 use Rattle.tc_rnc.proofs.RefusalLaws.{refuses_all, raised, unmade}
 use Rattle.tc_rnc.proofs.TopLaws as l

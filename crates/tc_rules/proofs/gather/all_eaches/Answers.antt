@@ -1,7 +1,7 @@
 use Rattle.std.proofs.Common.{arith, ap, ◌∙◌}
 use Rattle.std.proofs.lemmas.List.{length-map}
-use Rattle.tc_model.specs.Seen as see
-use Rattle.tc_rules.specs.Seen.{each, eaches}
+use Rattle.tc_model.specs.Views as see
+use Rattle.tc_rules.specs.Views.{each, eaches}
 use Rattle.tc_rules.proofs.Collected.{each_fits, none_put, put_at, all_put}
 use Rattle.tc_rules.proofs.gather.all_eaches.Goals as goal
 

@@ -1,6 +1,6 @@
 use Rattle.std.proofs.Common.{◌≡◌, length, take}
 use Rattle.tc_rules.specs.Gathered.{bodies}
-use Rattle.tc_rules.specs.Seen.{eaches}
+use Rattle.tc_rules.specs.Views.{eaches}
 use Rattle.tc_rules.proofs.Collected.{ArePut}
 use Rattle.tc_rules.proofs.gather.all_eaches.Given as goal
 

@@ -1,5 +1,5 @@
 use Rattle.std.proofs.Common.{List, subst, sym}
-use Rattle.tc_model.specs.Seen as see
+use Rattle.tc_model.specs.Views as see
 use Rattle.tc_rules.specs.Jobs.{AreJobs}
 use Rattle.tc_rules.specs.declared.walk.Move.{Move}
 use Rattle.tc_rules.proofs.JobsOf.{found_jobs, then_if_ok}

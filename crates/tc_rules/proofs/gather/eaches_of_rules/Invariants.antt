@@ -1,7 +1,7 @@
 use Rattle.std.proofs.Common.{◌≡◌, ◌++◌, drop, map, flat_map}
-use Rattle.tc_model.specs.Seen as see
+use Rattle.tc_model.specs.Views as see
 use Rattle.tc_rules.specs.Eaches.{bodies_in}
-use Rattle.tc_rules.specs.Seen.{eaches}
+use Rattle.tc_rules.specs.Views.{eaches}
 use Rattle.tc_rules.proofs.gather.eaches_of_rules.Given as goal
 
 abbrev pub invariant-loop-rule : goal.invariant-loop-rule

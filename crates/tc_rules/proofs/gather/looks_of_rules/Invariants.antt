@@ -1,7 +1,7 @@
 use Rattle.std.proofs.Common.{◌≡◌, ◌++◌, drop, map, flat_map}
 use Rattle.tc_model.specs.Numberings as n
-use Rattle.tc_model.specs.Seen as see
-use Rattle.tc_rules.specs.Seen.{looks}
+use Rattle.tc_model.specs.Views as see
+use Rattle.tc_rules.specs.Views.{looks}
 use Rattle.tc_rules.proofs.gather.looks_of_rules.Given as goal
 
 abbrev pub invariant-loop-rule : goal.invariant-loop-rule

@@ -1,6 +1,6 @@
 use Rattle.std.proofs.Common.{◌≡◌, ◌++◌, drop, flat_map}
 use Rattle.tc_model.specs.Numberings as n
-use Rattle.tc_rules.specs.Seen.{looks, predicates}
+use Rattle.tc_rules.specs.Views.{looks, predicates}
 use Rattle.tc_rules.proofs.gather.looks_of_tests.Given as goal
 
 abbrev pub invariant-loop-test : goal.invariant-loop-test

@@ -1,5 +1,5 @@
 use Rattle.std.proofs.Common.{◌≡◌, ◌<◌, ◌++◌, ℕ, [], length, get_or, map, drop}
-use Rattle.tc_model.specs.Seen as see
+use Rattle.tc_model.specs.Views as see
 use Rattle.tc_rules.specs.Gathered.{numbers}
 use Rattle.tc_rules.specs.Kept.{numbers_in_mode}
 use Rattle.tc_rules.proofs.gather.modes_of_rules.Given as goal

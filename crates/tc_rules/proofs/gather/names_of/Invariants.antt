@@ -1,6 +1,6 @@
 use Rattle.std.proofs.Common.{◌≡◌, map}
 use Rattle.tc_model.specs.Numbered.{numbers_below}
-use Rattle.tc_model.specs.Seen as see
+use Rattle.tc_model.specs.Views as see
 use Rattle.tc_model.specs.Symbols.{fresh_name}
 use Rattle.tc_rules.proofs.gather.names_of.Given as goal
 

@@ -1,6 +1,6 @@
 use Rattle.std.proofs.Common.{◌≡◌, take, map}
 use Rattle.tc_model.specs.PathStates.{path_of_rules}
-use Rattle.tc_model.specs.Seen as see
+use Rattle.tc_model.specs.Views as see
 use Rattle.tc_rules.proofs.gather.paths_of_rules.Given as goal
 
 abbrev pub invariant-loop-rule : goal.invariant-loop-rule

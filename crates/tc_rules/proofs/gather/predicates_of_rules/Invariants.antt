@@ -1,6 +1,6 @@
 use Rattle.std.proofs.Common.{◌≡◌, ◌++◌, drop, map}
-use Rattle.tc_model.specs.Seen as see
-use Rattle.tc_rules.specs.Seen.{predicates}
+use Rattle.tc_model.specs.Views as see
+use Rattle.tc_rules.specs.Views.{predicates}
 use Rattle.tc_rules.specs.Once.{predicates_of_rules}
 use Rattle.tc_rules.proofs.gather.predicates_of_rules.Given as goal
 

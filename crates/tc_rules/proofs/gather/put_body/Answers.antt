@@ -1,7 +1,7 @@
 use Rattle.std.proofs.lemmas.List.{map-set}
 use Rattle.std.specs.Borrow.{Bor}
 use Rattle.std.proofs.Common.{List}
-use Rattle.tc_model.specs.Seen as see
+use Rattle.tc_model.specs.Views as see
 use Rattle.tc_model.specs.declared.sheet.Instr.{Instr}
 use Rattle.tc_rules.proofs.gather.put_body.Goals as goal
 

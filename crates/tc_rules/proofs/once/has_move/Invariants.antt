@@ -1,7 +1,7 @@
 use Rattle.std.proofs.Common.{◌≡◌, drop}
 use Rattle.std.specs.List.{list_any}
 use Rattle.tc_model.specs.Numberings.{same_move}
-use Rattle.tc_rules.specs.Seen.{moves, move}
+use Rattle.tc_rules.specs.Views.{moves, move}
 use Rattle.tc_rules.proofs.once.has_move.Given as goal
 
 abbrev pub invariant-loop-known : goal.invariant-loop-known

@@ -1,8 +1,8 @@
 use Rattle.std.proofs.Common.{◌≡◌, drop}
 use Rattle.std.specs.List.{list_any}
 use Rattle.tc_model.specs.SameTests as same
-use Rattle.tc_model.specs.Seen as see
-use Rattle.tc_rules.specs.Seen.{predicates}
+use Rattle.tc_model.specs.Views as see
+use Rattle.tc_rules.specs.Views.{predicates}
 use Rattle.tc_rules.proofs.once.has_test.Given as goal
 
 abbrev pub invariant-loop-other : goal.invariant-loop-other

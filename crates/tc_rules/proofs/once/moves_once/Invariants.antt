@@ -3,7 +3,7 @@ use Rattle.tc_model.specs.Numbered.{each_once, each_once_after}
 use Rattle.tc_model.specs.Numberings.{same_move}
 use Rattle.tc_model.specs.Sheets as s
 use Rattle.tc_rules.specs.Jobs.{AreJobs}
-use Rattle.tc_rules.specs.Seen.{moves}
+use Rattle.tc_rules.specs.Views.{moves}
 use Rattle.tc_rules.proofs.once.moves_once.Given as goal
 
 abbrev pub invariant-loop-other : goal.invariant-loop-other

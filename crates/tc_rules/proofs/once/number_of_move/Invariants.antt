@@ -1,7 +1,7 @@
 use Rattle.std.proofs.Common.{◌≡◌, ◌+◌, drop}
 use Rattle.tc_model.specs.Numbered.{number_of}
 use Rattle.tc_model.specs.Numberings.{same_move}
-use Rattle.tc_rules.specs.Seen.{moves, move}
+use Rattle.tc_rules.specs.Views.{moves, move}
 use Rattle.tc_rules.proofs.once.number_of_move.Given as goal
 
 abbrev pub invariant-loop-i : goal.invariant-loop-i

@@ -1,8 +1,8 @@
 use Rattle.std.proofs.Common.{◌≡◌, ◌+◌, drop}
 use Rattle.tc_model.specs.Numbered.{number_of}
 use Rattle.tc_model.specs.SameTests.{same_path}
-use Rattle.tc_model.specs.Seen as see
-use Rattle.tc_rules.specs.Seen.{looks}
+use Rattle.tc_model.specs.Views as see
+use Rattle.tc_rules.specs.Views.{looks}
 use Rattle.tc_rules.proofs.once.number_of_path.Given as goal
 
 abbrev pub invariant-loop-i : goal.invariant-loop-i

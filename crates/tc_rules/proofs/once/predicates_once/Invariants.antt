@@ -1,7 +1,7 @@
 use Rattle.std.proofs.Common.{◌≡◌, ◌++◌, drop}
 use Rattle.tc_model.specs.Numbered.{each_once, each_once_after}
 use Rattle.tc_model.specs.SameTests as same
-use Rattle.tc_rules.specs.Seen.{predicates}
+use Rattle.tc_rules.specs.Views.{predicates}
 use Rattle.tc_rules.proofs.once.predicates_once.Given as goal
 
 abbrev pub invariant-loop-test : goal.invariant-loop-test

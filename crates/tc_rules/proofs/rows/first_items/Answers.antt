@@ -1,4 +1,4 @@
-use Rattle.tc_model.specs.Seen as see
+use Rattle.tc_model.specs.Views as see
 use Rattle.tc_model.specs.PathStates as p
 use Rattle.tc_rules.proofs.RowLoops.{first_goes}
 use Rattle.tc_rules.proofs.rows.first_items.Goals as goal

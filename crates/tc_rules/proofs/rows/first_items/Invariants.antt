@@ -1,6 +1,6 @@
 use Rattle.std.proofs.Common.{◌≡◌, ◌++◌, drop}
 use Rattle.tc_model.specs.PathStates as p
-use Rattle.tc_model.specs.Seen as see
+use Rattle.tc_model.specs.Views as see
 use Rattle.tc_rules.specs.Steps as v
 use Rattle.tc_rules.proofs.rows.first_items.Given as goal
 

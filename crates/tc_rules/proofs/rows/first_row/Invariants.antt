@@ -1,6 +1,6 @@
 use Rattle.std.proofs.Common.{◌≡◌, ◌++◌, drop, map}
 use Rattle.tc_model.specs.PathStates as p
-use Rattle.tc_model.specs.Seen as see
+use Rattle.tc_model.specs.Views as see
 use Rattle.tc_rules.proofs.rows.first_row.Given as goal
 
 abbrev pub invariant-loop-steps : goal.invariant-loop-steps

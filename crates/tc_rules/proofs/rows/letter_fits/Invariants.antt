@@ -1,5 +1,5 @@
 use Rattle.std.proofs.Common.{◌≡◌, ◌++◌, drop, map}
-use Rattle.tc_model.specs.Seen as see
+use Rattle.tc_model.specs.Views as see
 use Rattle.tc_rules.specs.Steps as v
 use Rattle.tc_rules.proofs.rows.letter_fits.Given as goal
 

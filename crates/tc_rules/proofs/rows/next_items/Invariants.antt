@@ -1,5 +1,5 @@
 use Rattle.std.proofs.Common.{◌≡◌, ◌++◌, drop, false}
-use Rattle.tc_model.specs.Seen as see
+use Rattle.tc_model.specs.Views as see
 use Rattle.tc_rules.specs.Steps as v
 use Rattle.tc_rules.proofs.rows.next_items.Given as goal
 

@@ -1,4 +1,4 @@
-use Rattle.tc_model.specs.Seen as see
+use Rattle.tc_model.specs.Views as see
 use Rattle.tc_rules.specs.Rows.{state}
 use Rattle.tc_rules.specs.Steps.{next_state}
 use Rattle.tc_rules.proofs.RowLoops.{next_left, next_left_items, next_goes}

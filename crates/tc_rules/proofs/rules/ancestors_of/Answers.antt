@@ -1,7 +1,7 @@
 use Rattle.std.proofs.Common.{ℕ, ◌<◌, subst, ap, ◌∙◌, length}
-use Rattle.tc_model.specs.Seen as see
+use Rattle.tc_model.specs.Views as see
 use Rattle.tc_model.specs.Sheets.{Path}
-use Rattle.tc_rules.specs.Seen.{predicates}
+use Rattle.tc_rules.specs.Views.{predicates}
 use Rattle.tc_rules.specs.Selects.{all_states_by}
 use Rattle.tc_rules.specs.declared.graph.Graph.{Graph}
 use Rattle.tc_rules.specs.declared.graph.GraphFault.TheVariants.{TooManyStates}

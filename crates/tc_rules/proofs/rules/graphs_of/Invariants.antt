@@ -2,9 +2,9 @@ use Rattle.std.proofs.Common.{◌≡◌, ◌+◌, List, take}
 use Rattle.tc_model.specs.Symbols.{Mention}
 use Rattle.tc_rules.specs.Classes.{IsSourceOf}
 use Rattle.tc_rules.specs.Rows.{graphs}
-use Rattle.tc_rules.specs.Seen.{predicates, looks}
+use Rattle.tc_rules.specs.Views.{predicates, looks}
 use Rattle.tc_rules.specs.Selects.{AreGraphs}
-use Rattle.tc_rules.specs.Told.{count_states}
+use Rattle.tc_rules.specs.RulesView.{count_states}
 use Rattle.tc_rules.proofs.rules.graphs_of.Given as goal
 
 abbrev pub invariant-loop-path : goal.invariant-loop-path

@@ -1,6 +1,6 @@
 use Rattle.std.proofs.Common.{◌≡◌, ◌++◌, map, drop}
-use Rattle.tc_model.specs.Seen as see
-use Rattle.tc_rules.specs.Seen.{looks}
+use Rattle.tc_model.specs.Views as see
+use Rattle.tc_rules.specs.Views.{looks}
 use Rattle.tc_rules.proofs.rules.select_paths.Given as goal
 
 abbrev pub invariant-loop-found : goal.invariant-loop-found

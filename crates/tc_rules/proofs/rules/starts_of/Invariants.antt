@@ -1,7 +1,7 @@
 use Rattle.std.proofs.Common.{◌≡◌, ◌+◌, ◌++◌, drop}
 use Rattle.tc_rules.specs.Rows.{graphs}
 use Rattle.tc_rules.specs.Selects.{starts_from}
-use Rattle.tc_rules.specs.Told.{count_states}
+use Rattle.tc_rules.specs.RulesView.{count_states}
 use Rattle.tc_rules.proofs.rules.starts_of.Given as goal
 
 abbrev pub invariant-loop-graph : goal.invariant-loop-graph

@@ -1,6 +1,6 @@
 use Rattle.std.proofs.Common.{◌≡◌, ◌≤◌, drop, length}
 use Rattle.tc_model.specs.declared.sheet.Path.{out-Path}
-use Rattle.tc_model.specs.Seen as see
+use Rattle.tc_model.specs.Views as see
 use Rattle.tc_model.specs.SameTests as same
 use Rattle.tc_rules.proofs.same.+paths.Given as goal
 

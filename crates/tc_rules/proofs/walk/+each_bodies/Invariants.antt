@@ -1,8 +1,8 @@
 use Rattle.std.proofs.Common.{◌≡◌, ◌++◌, drop}
 use Rattle.tc_rules.specs.Eaches.{bodies_in, bodies_in_branches}
-use Rattle.tc_model.specs.Seen as see
+use Rattle.tc_model.specs.Views as see
 use Rattle.tc_model.specs.Sheets as s
-use Rattle.tc_rules.specs.Seen.{eaches}
+use Rattle.tc_rules.specs.Views.{eaches}
 use Rattle.tc_rules.proofs.walk.+each_bodies.Given as goal
 
 abbrev pub invariant-eaches_in_body-loop-instruction : goal.invariant-eaches_in_body-loop-instruction

@@ -1,8 +1,8 @@
 use Rattle.std.proofs.Common.{◌∷◌, [], ap, ◌∙◌}
 use Rattle.tc_model.specs.Numberings as n
-use Rattle.tc_model.specs.Seen as see
+use Rattle.tc_model.specs.Views as see
 use Rattle.tc_model.specs.Sheets as s
-use Rattle.tc_rules.specs.Seen.{looks}
+use Rattle.tc_rules.specs.Views.{looks}
 use Rattle.tc_model.proofs.ViewsBody.{see_elem, see_copy, see_value_of, see_choose, see_for_each}
 use Rattle.tc_rules.proofs.Steps.{then_on_ok, after_one}
 use Rattle.tc_rules.proofs.walk.+look_bodies.Goals as goal

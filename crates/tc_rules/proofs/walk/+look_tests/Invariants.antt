@@ -1,7 +1,7 @@
 use Rattle.std.proofs.Common.{◌≡◌, ◌++◌, drop}
 use Rattle.tc_model.specs.Numberings as n
-use Rattle.tc_model.specs.Seen as see
-use Rattle.tc_rules.specs.Seen.{looks}
+use Rattle.tc_model.specs.Views as see
+use Rattle.tc_rules.specs.Views.{looks}
 use Rattle.tc_rules.proofs.walk.+look_tests.Given as goal
 
 abbrev pub invariant-looks_in_tests-loop-test : goal.invariant-looks_in_tests-loop-test

@@ -1,8 +1,8 @@
 use Rattle.std.proofs.Common.{◌+◌, ◌∷◌, [], ap, ◌∙◌}
 use Rattle.tc_model.specs.Numberings as n
-use Rattle.tc_model.specs.Seen as see
+use Rattle.tc_model.specs.Views as see
 use Rattle.tc_model.specs.Sheets as s
-use Rattle.tc_rules.specs.Seen.{moves}
+use Rattle.tc_rules.specs.Views.{moves}
 use Rattle.tc_model.proofs.ViewsBody.{see_elem, see_copy, see_apply, see_choose, see_for_each}
 use Rattle.tc_rules.proofs.Steps.{then_on_ok, after_one, after_two}
 use Rattle.tc_rules.proofs.walk.+move_bodies.Goals as goal

@@ -1,8 +1,8 @@
 use Rattle.std.proofs.Common.{◌≡◌, ◌++◌, ℕ, drop}
 use Rattle.tc_model.specs.Numberings as n
-use Rattle.tc_model.specs.Seen as see
+use Rattle.tc_model.specs.Views as see
 use Rattle.tc_model.specs.Sheets as s
-use Rattle.tc_rules.specs.Seen.{moves}
+use Rattle.tc_rules.specs.Views.{moves}
 use Rattle.tc_rules.proofs.walk.+move_bodies.Given as goal
 
 abbrev pub invariant-moves_in_body-loop-instruction : goal.invariant-moves_in_body-loop-instruction

@@ -1,7 +1,7 @@
 use Rattle.std.proofs.Common.{◌≡◌, ◌++◌, drop}
 use Rattle.tc_model.specs.Numberings as n
-use Rattle.tc_model.specs.Seen as see
-use Rattle.tc_rules.specs.Seen.{predicates}
+use Rattle.tc_model.specs.Views as see
+use Rattle.tc_rules.specs.Views.{predicates}
 use Rattle.tc_rules.proofs.walk.+paths.Given as goal
 
 abbrev pub invariant-predicates_in_path-loop-steps : goal.invariant-predicates_in_path-loop-steps

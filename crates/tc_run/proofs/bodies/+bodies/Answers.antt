@@ -4,16 +4,16 @@ use Rattle.tc_model.specs.Machine.{in_mode, in_body, outputs}
 use Rattle.tc_model.specs.Meaning.{all_children}
 use Rattle.tc_model.specs.Numberings.{moves_of}
 use Rattle.tc_model.specs.Outcomes.{nothing, within, counted, put, put_around, copied}
-use Rattle.tc_model.specs.Seen as see
-use Rattle.tc_model.specs.Sheets.{Unfolds}
+use Rattle.tc_model.specs.Views as see
+use Rattle.tc_model.specs.Sheets.{Inlines}
 use Rattle.tc_model.specs.Trees as t
 use Rattle.tc_rules.specs.Asked.{letter}
-use Rattle.tc_rules.specs.Seen.{mode_of}
-use Rattle.tc_rules.specs.Told.{ancestor}
+use Rattle.tc_rules.specs.Views.{mode_of}
+use Rattle.tc_rules.specs.RulesView.{ancestor}
 use Rattle.tc_rules.specs.declared.rules.Kind.TheVariants as kinds
 use Rattle.tc_run.specs.Lettered.{bare, none}
 use Rattle.tc_run.specs.Running.{told_by, sheet_by, symbols_by, predicates_by, machine}
-use Rattle.tc_run.specs.Seen.{before, trees, node}
+use Rattle.tc_run.specs.Views.{before, trees, node}
 use Rattle.tc_run.specs.Spent.{Spends, Answers}
 use Rattle.tc_run.specs.Tasks.{of_mode, of_each, built_in, does, outputs_on, going_from}
 use Rattle.tc_run.specs.declared.letters.Lettered.{Lettered}
@@ -269,7 +269,7 @@ instruction-returns-in-Text-clause-outcome t c = λ bodies p hb u.
     let h = c.args.here.now in
     let n = c.in_ok-nesting.nesting in
     let named = (sheet_by r).named in
-    let does_it = text_alone r bodies h named (subst (λ b. Unfolds named b p) (text_seen c.args.instruction.now c.in-Text.text c.in-Text.is) u) in
+    let does_it = text_alone r bodies h named (subst (λ b. Inlines named b p) (text_seen c.args.instruction.now c.in-Text.text c.in-Text.is) u) in
     instructed c.args.nesting n c.args.output.now c.put.new.self c.put.result (put c.in-Text.text.now) (does r bodies p h) c.in_ok-nesting.ensures.ok does_it (c.put.ensures.outcome n c.in_ok-nesting.ensures.ok.1)
 
 pub instruction-returns-in-Elem-clause-outcome : goal.instruction-returns-in-Elem-clause-outcome
@@ -277,7 +277,7 @@ instruction-returns-in-Elem-clause-outcome t c = λ bodies p hb u.
     let r = c.args.runner.now in
     let h = c.args.here.now in
     let named = (sheet_by r).named in
-    let k = element_alone r bodies h named (subst (λ b. Unfolds named b p) (elem_seen c.args.instruction.now c.in-Elem.name c.in-Elem.inner c.in-Elem.is) u) in
+    let k = element_alone r bodies h named (subst (λ b. Inlines named b p) (elem_seen c.args.instruction.now c.in-Elem.name c.in-Elem.inner c.in-Elem.is) u) in
     instructed c.args.nesting c.in_ok-nesting.nesting c.args.output.now c.around.new.output c.around.result (put_around (see.name c.in-Elem.name) (does r bodies k.plain h)) (does r bodies p h) c.in_ok-nesting.ensures.ok k.outcome
     (c.around.ensures.outcome bodies k.plain hb k.unfolds)
 
@@ -286,7 +286,7 @@ instruction-returns-in-Copy-clause-outcome t c = λ bodies p hb u.
     let r = c.args.runner.now in
     let h = c.args.here.now in
     let named = (sheet_by r).named in
-    let k = copy_alone r bodies h named (subst (λ b. Unfolds named b p) (copy_seen c.args.instruction.now c.in-Copy.inner c.in-Copy.is) u) in
+    let k = copy_alone r bodies h named (subst (λ b. Inlines named b p) (copy_seen c.args.instruction.now c.in-Copy.inner c.in-Copy.is) u) in
     instructed c.args.nesting c.in_ok-nesting.nesting c.args.output.now c.copy.new.output c.copy.result (copied (node h) (does r bodies k.plain h)) (does r bodies p h) c.in_ok-nesting.ensures.ok k.outcome
     (c.copy.ensures.outcome bodies k.plain hb k.unfolds)
 
@@ -296,7 +296,7 @@ instruction-returns-in-Apply-clause-outcome t c = λ bodies p hb u.
     let h = c.args.here.now in
     let named = (sheet_by r).named in
     let w = see.path c.in-Apply.path in
-    let does_it = apply_alone r bodies h named (subst (λ b. Unfolds named b p) (apply_seen c.args.instruction.now c.in-Apply.path c.in-Apply.mode c.in-Apply.is) u) in
+    let does_it = apply_alone r bodies h named (subst (λ b. Inlines named b p) (apply_seen c.args.instruction.now c.in-Apply.path c.in-Apply.mode c.in-Apply.is) u) in
     instructed c.args.nesting c.in_ok-nesting.nesting c.args.output.now c.selected.new.output c.selected.result (outputs_on r bodies (children (node h)) h.above (going_from (in_mode c.in-Apply.mode) w)) (does r bodies p h) c.in_ok-nesting.ensures.ok does_it
     (c.selected.ensures.outcome bodies (in_mode c.in-Apply.mode) hb (of_mode (apply_part (sheet_by r) c.args.instruction.now c.in-Apply.path c.in-Apply.mode c.in-Apply.is c.requires.part).1))
 
@@ -308,7 +308,7 @@ instruction-returns-in-Call-clause-outcome t c = λ bodies p hb u.
     let i = c.args.instruction.now in
     let number = c.in-Call.number in
     let at = named_got (sheet_by r) c.sheet.result.now number no_body c.sheet.ensures (call_part (sheet_by r) i number c.in-Call.is c.requires.part) in
-    let k = call_alone r bodies h named at (subst (λ b. Unfolds named b p) (call_seen i number c.in-Call.is) u) in
+    let k = call_alone r bodies h named at (subst (λ b. Inlines named b p) (call_seen i number c.in-Call.is) u) in
     instructed c.args.nesting c.in_ok-nesting.nesting c.args.output.now c.instantiate.new.output c.instantiate.result (counted (does r bodies k.plain h)) (does r bodies p h) c.in_ok-nesting.ensures.ok k.outcome
     (c.instantiate.ensures.outcome bodies k.plain hb k.unfolds)
 
@@ -319,7 +319,7 @@ instruction-returns-in-ValueOf-clause-outcome t c = λ bodies p hb u.
     let n = c.in_ok-nesting.nesting in
     let named = (sheet_by r).named in
     let s = c.value-first.result.now in
-    let does_it = value_alone r bodies h named (subst (λ b. Unfolds named b p) (value_of_seen c.args.instruction.now c.in-ValueOf.path c.in-ValueOf.is) u) in
+    let does_it = value_alone r bodies h named (subst (λ b. Inlines named b p) (value_of_seen c.args.instruction.now c.in-ValueOf.path c.in-ValueOf.is) u) in
     instructed c.args.nesting n c.args.output.now c.put-in-ValueOf.new.self c.put-in-ValueOf.result (put s) (does r bodies p h) c.in_ok-nesting.ensures.ok
     (does_it ∙ ap within (value_same r bodies h named (see.path c.in-ValueOf.path) s c.requires.here.children_are c.value-first.ensures)) (c.put-in-ValueOf.ensures.outcome n c.in_ok-nesting.ensures.ok.1)
 
@@ -329,7 +329,7 @@ instruction-returns-in-ValueOfSelf-clause-outcome t c = λ bodies p hb u.
     let h = c.args.here.now in
     let n = c.in_ok-nesting.nesting in
     let named = (sheet_by r).named in
-    let does_it = self_alone r bodies h named (subst (λ b. Unfolds named b p) (self_seen c.args.instruction.now c.in-ValueOfSelf.is) u) in
+    let does_it = self_alone r bodies h named (subst (λ b. Inlines named b p) (self_seen c.args.instruction.now c.in-ValueOfSelf.is) u) in
     instructed c.args.nesting n c.args.output.now c.put-in-ValueOfSelf.new.self c.put-in-ValueOfSelf.result (put h.string.now) (does r bodies p h) c.in_ok-nesting.ensures.ok
     (does_it ∙ ap (λ s. within (put s)) (sym c.requires.here.string)) (c.put-in-ValueOfSelf.ensures.outcome n c.in_ok-nesting.ensures.ok.1)
 
@@ -338,7 +338,7 @@ instruction-returns-in-Choose-clause-outcome t c = λ bodies p hb u.
     let r = c.args.runner.now in
     let h = c.args.here.now in
     let named = (sheet_by r).named in
-    let k = choose_alone r bodies h named (subst (λ b. Unfolds named b p) (choose_seen c.args.instruction.now c.in-Choose.branches c.in-Choose.last c.in-Choose.is) u) in
+    let k = choose_alone r bodies h named (subst (λ b. Inlines named b p) (choose_seen c.args.instruction.now c.in-Choose.branches c.in-Choose.last c.in-Choose.is) u) in
     let (q, v, same) = c.taken-chosen.ensures.taken k.branches k.unfolds in
     instructed c.args.nesting c.in_ok-nesting.nesting c.args.output.now c.body.new.output c.body.result (does r bodies q h) (does r bodies p h) c.in_ok-nesting.ensures.ok
     (k.outcome ∙ ap within (same bodies (λ j w. outputs (machine r bodies) (children (node h)) j (ancestor (told_by r) h.above) w))) (c.body.ensures.outcome bodies q hb v)
@@ -352,7 +352,7 @@ instruction-returns-in-ForEach-clause-outcome t c = λ bodies p hb u.
     let number = c.in-ForEach.number in
     let path = c.in-ForEach.path in
     let inner = c.in-ForEach.field-2 in
-    let k = each_alone r bodies h named (subst (λ b. Unfolds named b p) (for_each_seen i number path inner c.in-ForEach.is) u) in
+    let k = each_alone r bodies h named (subst (λ b. Inlines named b p) (for_each_seen i number path inner c.in-ForEach.is) u) in
     let part = for_each_part (sheet_by r) i number path inner c.in-ForEach.is c.requires.part in
     instructed c.args.nesting c.in_ok-nesting.nesting c.args.output.now c.selected-in-ForEach.new.output c.selected-in-ForEach.result (outputs_on r bodies (children (node h)) h.above (going_from (in_body k.plain) (see.path path))) (does r bodies p h) c.in_ok-nesting.ensures.ok k.outcome
     (c.selected-in-ForEach.ensures.outcome bodies (in_body k.plain) hb (of_each refl part.1 k.unfolds))

@@ -1,8 +1,8 @@
 use Rattle.std.proofs.Common.{◌<◌, ◌+◌, subst}
 use Rattle.tc_rules.specs.Asked.{letter, found}
 use Rattle.tc_rules.specs.Jobs.{IsJob}
-use Rattle.tc_rules.specs.Seen.{mode_of}
-use Rattle.tc_rules.specs.Told.{ancestor}
+use Rattle.tc_rules.specs.Views.{mode_of}
+use Rattle.tc_rules.specs.RulesView.{ancestor}
 use Rattle.tc_run.specs.Running.{sheet_by, symbols_by, told_by}
 use Rattle.tc_run.specs.Tasks.{IsTaskOf}
 use Rattle.tc_run.proofs.MeantBy.{each_part_at, each_meant, mode_meant}

@@ -8,7 +8,7 @@ use Rattle.tc_rules.specs.States.{chosen, plain_of}
 use Rattle.tc_rules.proofs.Counted.{ancestors_begin}
 use Rattle.tc_run.specs.Lettered.{bare}
 use Rattle.tc_run.specs.Running.{sheet_by, symbols_by}
-use Rattle.tc_run.specs.Seen.{trees}
+use Rattle.tc_run.specs.Views.{trees}
 use Rattle.tc_run.specs.Spent.{Answers}
 use Rattle.tc_run.specs.Tasks.{built_in}
 use Rattle.tc_run.proofs.Nodes.{is_here_root, down_low, down_is, does_on_root}

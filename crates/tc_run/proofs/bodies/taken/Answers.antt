@@ -2,11 +2,11 @@ use Rattle.std.proofs.Common.{◌≡◌, ◌+◌, ◌∙◌, List, subst, true, 
 use Rattle.std.proofs.lemmas.List.{drop_all}
 use Rattle.tc_model.specs.Machine.{holds_in}
 use Rattle.tc_model.specs.Chains.{children}
-use Rattle.tc_model.specs.Seen as see
-use Rattle.tc_model.specs.Sheets.{Plain, BranchesUnfold, Branches, otherwise}
+use Rattle.tc_model.specs.Views as see
+use Rattle.tc_model.specs.Sheets.{CallFreeBody, BranchesInline, Branches, otherwise}
 use Rattle.tc_model.proofs.ViewsBody.{left_branch}
 use Rattle.tc_run.specs.Running.{machine, sheet_by}
-use Rattle.tc_run.specs.Seen.{node}
+use Rattle.tc_run.specs.Views.{node}
 use Rattle.tc_run.proofs.Taking.{no_branch, branch_is, test_holds, branch_this, branch_not, branch_last, branch_part_at}
 use Rattle.tc_run.proofs.bodies.taken.Goals as goal
 
@@ -22,9 +22,9 @@ returns-then-holds-clause-taken c = λ x u.
     let last : Branches = otherwise (see.body c.args.last.now) in
     let rest : Branches = see.branches (drop (k + 1) bs) last in
     let (y, v, same) = c.loop-branch.invariant.1 x u in
-    let holds : (bodies : List Plain) → holds_in (machine r bodies) (see.test b.test) (children (node h)) ≡ true =
+    let holds : (bodies : List CallFreeBody) → holds_in (machine r bodies) (see.test b.test) (children (node h)) ≡ true =
     λ bodies. test_holds r h named (see.test b.test) c.holds.result c.requires.here.children_are c.holds.ensures bodies ∙ c.if-holds.true in
-    let (p, w, eq) = branch_this r h named (see.test b.test) (see.body b.body.now) rest (subst (λ z. BranchesUnfold named z y) (left_branch bs k b last c.loop-branch-test.true is) v) holds in
+    let (p, w, eq) = branch_this r h named (see.test b.test) (see.body b.body.now) rest (subst (λ z. BranchesInline named z y) (left_branch bs k b last c.loop-branch-test.true is) v) holds in
     (p, w, λ bodies outs. same bodies outs ∙ eq bodies outs)
 
 pub loop-branch-preserved : goal.loop-branch-preserved
@@ -38,12 +38,12 @@ loop-branch-preserved c =
     let named = (sheet_by r).named in
     let last : Branches = otherwise (see.body c.args.last.now) in
     let rest : Branches = see.branches (drop (k + 1) bs) last in
-    let fails : (bodies : List Plain) → holds_in (machine r bodies) (see.test b.test) (children (node h)) ≡ false =
+    let fails : (bodies : List CallFreeBody) → holds_in (machine r bodies) (see.test b.test) (children (node h)) ≡ false =
     λ bodies. test_holds r h named (see.test b.test) c.holds.result c.requires.here.children_are c.holds.ensures bodies ∙ c.if-holds.false in (
       (branch_part_at (sheet_by r) bs k b last c.loop-branch-test.true is c.loop-branch.invariant.0).2,
       λ x u.
           let (y, v, same) = c.loop-branch.invariant.1 x u in
-          let (z, w, eq) = branch_not r h named (see.test b.test) (see.body b.body.now) rest (subst (λ t. BranchesUnfold named t y) (left_branch bs k b last c.loop-branch-test.true is) v) fails in
+          let (z, w, eq) = branch_not r h named (see.test b.test) (see.body b.body.now) rest (subst (λ t. BranchesInline named t y) (left_branch bs k b last c.loop-branch-test.true is) v) fails in
           (z, w, λ bodies outs. same bodies outs ∙ eq bodies outs),
     )
 
@@ -56,5 +56,5 @@ returns-clause-taken c = λ x u.
     let named = (sheet_by r).named in
     let last : Branches = otherwise (see.body c.args.last.now) in
     let (y, v, same) = c.loop-branch.invariant.1 x u in
-    let (p, w, eq) = branch_last r h named (see.body c.args.last.now) (subst (λ z. BranchesUnfold named (see.branches z last) y) (drop_all k bs c.loop-branch-test.false) v) in
+    let (p, w, eq) = branch_last r h named (see.body c.args.last.now) (subst (λ z. BranchesInline named (see.branches z last) y) (drop_all k bs c.loop-branch-test.false) v) in
     (p, w, λ bodies outs. same bodies outs ∙ eq bodies outs)

@@ -1,8 +1,8 @@
 use Rattle.std.proofs.Common.{sym, ap, refl}
 use Rattle.tc_model.specs.Meaning.{value_of_first}
-use Rattle.tc_model.specs.Seen as see
+use Rattle.tc_model.specs.Views as see
 use Rattle.tc_run.specs.Lettered.{bare}
-use Rattle.tc_run.specs.Seen.{trees}
+use Rattle.tc_run.specs.Views.{trees}
 use Rattle.tc_model.specs.Machine.{first_hit}
 use Rattle.tc_run.specs.Running.{looking, symbols_by}
 use Rattle.tc_run.specs.Tasks.{looking_from}

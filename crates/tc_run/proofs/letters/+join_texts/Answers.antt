@@ -1,7 +1,7 @@
 use Rattle.std.proofs.Common.{◌+◌, drop, ap, ◌∙◌}
 use Rattle.std.specs.String.{string_bytes}
 use Rattle.tc_model.specs.Chains.{joined_texts}
-use Rattle.tc_model.specs.Seen as see
+use Rattle.tc_model.specs.Views as see
 use Rattle.tc_run.proofs.Texts.{text_joined, elem_joined, joined_further}
 use Rattle.tc_run.proofs.letters.+join_texts.Goals as goal
 use Rattle.tc_run.proofs.letters.+join_texts.Goals.{in-Text+in_ok-push_str-in-Text, in-Elem+in_ok-join_texts-in-Elem}

@@ -1,7 +1,7 @@
 use Rattle.std.proofs.Common.{◌≡◌, ◌++◌, drop}
 use Rattle.std.specs.String.{string_bytes}
 use Rattle.tc_model.specs.Chains.{joined_texts}
-use Rattle.tc_model.specs.Seen.{trees}
+use Rattle.tc_model.specs.Views.{trees}
 use Rattle.tc_run.proofs.letters.+join_texts.Given as goal
 
 abbrev pub invariant-loop-node : goal.invariant-loop-node

@@ -1,10 +1,10 @@
 use Rattle.std.proofs.Common.{◌≡◌, ◌+◌, ◌++◌, List, ℕ, Bor, drop, ap, ◌∙◌, sym, subst, IsUtf8, rules}
 use Rattle.std.proofs.lemmas.List.{drop_all}
 use Rattle.tc_model.specs.Chains.{joined_texts}
-use Rattle.tc_model.specs.Seen as see
+use Rattle.tc_model.specs.Views as see
 use Rattle.tc_model.specs.declared.tree.Node.TheViews.{the_lemmas}
 use Rattle.tc_run.specs.Running.{lettered_by}
-use Rattle.tc_run.specs.Seen.{trees}
+use Rattle.tc_run.specs.Views.{trees}
 use Rattle.tc_run.proofs.Texts.{text_joined, elem_joined, cut_front, has_front, cut_end, text_found, elem_found, found_further, joined_none, text_after, document_lettered, document_bare}
 use Rattle.tc_run.proofs.Views.{joined}
 use Rattle.tc_run.proofs.letters.+with_letters.Goals as goal

@@ -1,9 +1,9 @@
 use Rattle.std.proofs.Common.{◌≡◌, ◌++◌, List, ℕ, drop}
 use Rattle.std.specs.Str.{IsUtf8}
 use Rattle.tc_model.specs.Chains.{joined_texts}
-use Rattle.tc_model.specs.Seen as see
+use Rattle.tc_model.specs.Views as see
 use Rattle.tc_run.specs.Running.{lettered_by}
-use Rattle.tc_run.specs.Seen.{trees}
+use Rattle.tc_run.specs.Views.{trees}
 use Rattle.tc_run.proofs.Views.{joined}
 use Rattle.tc_run.proofs.letters.+with_letters.Given as goal
 

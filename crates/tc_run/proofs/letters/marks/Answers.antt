@@ -1,9 +1,9 @@
 use Rattle.std.proofs.Common.{◌-◌, ◌<◌, arith}
 use Rattle.tc_model.specs.Machine.{holds_in}
-use Rattle.tc_model.specs.Seen as see
+use Rattle.tc_model.specs.Views as see
 use Rattle.tc_run.specs.Lettered.{bare}
 use Rattle.tc_run.specs.Running.{looking, predicates_by, symbols_by}
-use Rattle.tc_run.specs.Seen.{trees}
+use Rattle.tc_run.specs.Views.{trees}
 use Rattle.tc_run.proofs.Marking.{bit_low, mark_more, marks_low, predicate_is_part}
 use Rattle.tc_run.proofs.letters.marks.Goals as goal
 

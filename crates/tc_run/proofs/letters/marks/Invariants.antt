@@ -3,7 +3,7 @@ use Rattle.tc_model.specs.Letters.{marks_of}
 use Rattle.tc_model.specs.Machine.{holds_in}
 use Rattle.tc_run.specs.Lettered.{bare}
 use Rattle.tc_run.specs.Running.{looking, predicates_by}
-use Rattle.tc_run.specs.Seen.{trees}
+use Rattle.tc_run.specs.Views.{trees}
 use Rattle.tc_run.proofs.letters.marks.Given as goal
 
 abbrev pub invariant-loop-number : goal.invariant-loop-number

@@ -2,15 +2,15 @@ use Rattle.std.proofs.Common.{◌+◌, None, true, false, drop, ap, ◌∙◌, s
 use Rattle.std.proofs.lemmas.List.{drop_all}
 use Rattle.tc_model.specs.Chains.{one, an_element, a_text}
 use Rattle.tc_model.specs.Machine as machine
-use Rattle.tc_model.specs.Seen.{name}
+use Rattle.tc_model.specs.Views.{name}
 use Rattle.tc_rules.specs.Asked.{letter}
-use Rattle.tc_rules.specs.Told.{select_below}
-use Rattle.tc_model.specs.StateCounts.{Block}
+use Rattle.tc_rules.specs.RulesView.{select_below}
+use Rattle.tc_model.specs.StateCounts.{PathUse}
 use Rattle.tc_rules.specs.States.{Looking}
 use Rattle.tc_rules.specs.declared.rules.Kind.TheVariants as kinds
 use Rattle.tc_run.specs.Lettered as l
 use Rattle.tc_run.specs.Running.{looking, told_by, symbols_by}
-use Rattle.tc_run.specs.Seen.{trees, before}
+use Rattle.tc_run.specs.Views.{trees, before}
 use Rattle.tc_run.specs.declared.letters.Lettered.TheViews.{the_lemmas}
 use Rattle.tc_run.proofs.Counts.{some_look_counted}
 use Rattle.tc_run.proofs.FirstHits.{first_left, in_text, in_element, none_in_element, text_letter, element_letter, answered_here, answered_later, answered_alike, answered_absent}
@@ -82,7 +82,7 @@ pub first_in-returns-in_err-below-in-Elem : goal.first_in-returns-in_err-below-i
 first_in-returns-in_err-below-in-Elem t c = λ s at.
     let r = c.args.runner.now in
     let x = c.in-Elem in
-    let b : Block = record { path = s.path; mode = None } in
+    let b : PathUse = record { path = s.path; mode = None } in
     let is_letter = element_letter r c.args.node.now c.requires.node x.field-0 x.letter x.string x.kids x.is in
     let hits = sym c.if-sel_hits-2.false ∙ c.sel_hits-in-Elem.ensures (symbols_by r) b s.state c.requires.runner is_letter at in
     answered_absent c.from_residual.result (machine.first_hit (looking r) (l.bare (before c.args.node.now l.none)) s) c.from_residual.ensures
@@ -93,7 +93,7 @@ first_in-first_hit-requires t c =
     let r = c.args.runner.now in
     let x = c.in-Elem in
     let is_letter = element_letter r c.args.node.now c.requires.node x.field-0 x.letter x.string x.kids x.is in
-    let b : Block = record { path = c.requires.state.path; mode = None } in (
+    let b : PathUse = record { path = c.requires.state.path; mode = None } in (
       search (rules, the_lemmas),
       (
         c.requires.runner,
@@ -112,7 +112,7 @@ pub first_in-returns-in_ok-below-in-Elem : goal.first_in-returns-in_ok-below-in-
 first_in-returns-in_ok-below-in-Elem t c = λ s at.
     let r = c.args.runner.now in
     let x = c.in-Elem in
-    let b : Block = record { path = s.path; mode = None } in
+    let b : PathUse = record { path = s.path; mode = None } in
     let is_letter = element_letter r c.args.node.now c.requires.node x.field-0 x.letter x.string x.kids x.is in
     let hits = sym c.if-sel_hits-2.false ∙ c.sel_hits-in-Elem.ensures (symbols_by r) b s.state c.requires.runner is_letter at in
     let further : Looking = (looking r).look_step s (letter (kinds.Elem x.letter.sym) x.letter.marks) in

@@ -1,5 +1,5 @@
 use Rattle.std.proofs.Common.{◌≡◌, [], ◌∷◌, List, ap, ◌∙◌, sym, subst, refl, Bor, ℕ}
-use Rattle.tc_model.specs.Seen.{name, before, trees}
+use Rattle.tc_model.specs.Views.{name, before, trees}
 use Rattle.tc_model.specs.Trees.{IsDocument, none, text, element}
 use Rattle.tc_model.specs.declared.tree.Name.{Name}
 use Rattle.tc_model.specs.declared.tree.Node.{Node, Elem, Text}

@@ -1,5 +1,5 @@
 use Rattle.std.proofs.Common.{◌≡◌, map, drop}
-use Rattle.tc_model.specs.Seen.{attribute}
+use Rattle.tc_model.specs.Views.{attribute}
 use Rattle.tc_model.specs.SheetTextPhrases.{value_of}
 use Rattle.tc_sheet.proofs.attributes.attribute_of.Given as goal
 

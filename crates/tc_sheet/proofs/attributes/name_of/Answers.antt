@@ -1,5 +1,5 @@
 use Rattle.std.proofs.Common.{sym, map}
-use Rattle.tc_model.specs.Seen.{bound}
+use Rattle.tc_model.specs.Views.{bound}
 use Rattle.tc_sheet.proofs.NameLaws.{name_without, name_with, name_nothing}
 use Rattle.tc_sheet.proofs.attributes.name_of.Goals as goal
 

@@ -1,5 +1,5 @@
 use Rattle.std.proofs.Common.{◌≡◌, map, drop}
-use Rattle.tc_model.specs.Seen.{bound}
+use Rattle.tc_model.specs.Views.{bound}
 use Rattle.tc_model.specs.XmlTextScopes.{uri_of}
 use Rattle.tc_sheet.proofs.attributes.namespace_of.Given as goal
 

@@ -1,5 +1,5 @@
 use Rattle.std.proofs.Common.{map, drop}
-use Rattle.tc_model.specs.Seen.{attribute}
+use Rattle.tc_model.specs.Views.{attribute}
 use Rattle.tc_model.specs.SheetTextPhrases.{HasOnly}
 use Rattle.tc_sheet.proofs.attributes.only.Given as goal
 

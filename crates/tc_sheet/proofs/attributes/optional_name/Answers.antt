@@ -1,4 +1,4 @@
-use Rattle.tc_model.specs.Seen.{attribute}
+use Rattle.tc_model.specs.Views.{attribute}
 use Rattle.tc_model.specs.SheetTextPhrases.{NameText}
 use Rattle.tc_sheet.specs.Readings.{scope_of}
 use Rattle.tc_sheet.proofs.NameLaws.{optional_none, optional_some, optional_malformed}

@@ -1,7 +1,7 @@
 use Rattle.std.specs.Prelude.{codes}
 use Rattle.std.proofs.Common.{refl}
 use Rattle.tc_model.specs.PathTextPriority.{PriorityText}
-use Rattle.tc_model.specs.Seen.{name, attribute}
+use Rattle.tc_model.specs.Views.{name, attribute}
 use Rattle.tc_sheet.specs.Readings.{scope_of}
 use Rattle.tc_sheet.proofs.Unrefused.{never_refused}
 use Rattle.tc_sheet.proofs.NameLaws.{optional_none, optional_read, none_read, optional_malformed}

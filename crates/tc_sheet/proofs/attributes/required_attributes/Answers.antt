@@ -1,6 +1,6 @@
 use Rattle.tc_sheet.specs.PathFaults.{path_fault_at}
 use Rattle.std.proofs.Common.{MatchBool}
-use Rattle.tc_model.specs.Seen.{name, attribute}
+use Rattle.tc_model.specs.Views.{name, attribute}
 use Rattle.tc_sheet.specs.Readings.{HasAttributesText}
 use Rattle.std.proofs.Common.{subst, sym}
 use Rattle.std.specs.Prelude.{codes}

@@ -1,6 +1,6 @@
 use Rattle.std.proofs.Common.{refl, ap}
 use Rattle.std.specs.Prelude.{codes}
-use Rattle.tc_model.specs.Seen.{name, attribute}
+use Rattle.tc_model.specs.Views.{name, attribute}
 use Rattle.tc_model.specs.SheetTextPhrases.{instruction_of, i_call, NameText}
 use Rattle.tc_sheet.proofs.Refused.{handed_on}
 use Rattle.tc_sheet.specs.Readings.{scope_of}

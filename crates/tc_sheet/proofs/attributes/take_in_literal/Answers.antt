@@ -1,5 +1,5 @@
 use Rattle.std.proofs.Common.{sym}
-use Rattle.tc_model.specs.Seen.{attribute}
+use Rattle.tc_model.specs.Views.{attribute}
 use Rattle.tc_sheet.specs.Readings.{alone}
 use Rattle.tc_sheet.proofs.Refused.{fault_refuses}
 use Rattle.tc_sheet.proofs.AttributeLaws.{not_literal}

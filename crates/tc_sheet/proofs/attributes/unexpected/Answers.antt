@@ -1,5 +1,5 @@
 use Rattle.std.proofs.Common.{sym}
-use Rattle.tc_model.specs.Seen.{name, attribute}
+use Rattle.tc_model.specs.Views.{name, attribute}
 use Rattle.tc_sheet.specs.Readings.{scope_of}
 use Rattle.tc_sheet.proofs.NameLaws.{escaping_at, sets_at, namespace_at, extension_at, place_at}
 use Rattle.tc_sheet.proofs.Unrefused.{not_always, not_plain, unexpected_unrefused}

@@ -1,5 +1,5 @@
 use Rattle.std.proofs.Common.{All, map, drop}
-use Rattle.tc_model.specs.Seen.{attribute}
+use Rattle.tc_model.specs.Views.{attribute}
 use Rattle.tc_model.specs.SheetTextPhrases.{IsXsl}
 use Rattle.tc_sheet.proofs.attributes.xsl_attribute.Given as goal
 

@@ -1,7 +1,7 @@
 use Rattle.tc_model.specs.SheetTextPhrases.{i_choose, IsBody, AreBranches}
 use Rattle.std.proofs.Common.{ap, ◌∙◌, sym, subst, ◌+◌, drop}
 use Rattle.std.proofs.lemmas.List.{at_drop_all}
-use Rattle.tc_model.specs.Seen.{name, place, raw_trees, raw_before, raw_element}
+use Rattle.tc_model.specs.Views.{name, place, raw_trees, raw_before, raw_element}
 use Rattle.tc_model.specs.SheetTextTrees.{w_otherwise}
 use Rattle.tc_model.specs.declared.tree.Raw.{Raw}
 use Rattle.tc_model.specs.RawTrees.{none}
@@ -13,7 +13,7 @@ use Rattle.tc_sheet.specs.Readings.{Refuses, HasNoBranches}
 use Rattle.std.proofs.Common.{rules}
 use Rattle.tc_model.specs.declared.tree.Raw.TheViews.{the_lemmas}
 use Rattle.tc_sheet.proofs.bodies.+body.Goals.{body-in-Some+in_ok-push-in-Some, body-in-None, read_branches-in-Text+else-not-is_all_white, read_branches-in-Elem+in_ok-ends-in-Elem+else-ends+in_ok-branch-in-Elem+in_ok-push-in-Elem}
-use Rattle.tc_sheet.specs.Seen.{body, branches, put}
+use Rattle.tc_sheet.specs.Views.{body, branches, put}
 use Rattle.tc_sheet.specs.declared.written.Written.TheVariants as v
 use Rattle.tc_model.proofs.ViewsRaw.{left_one, left_elem, left_text, before_elem, before_text}
 use Rattle.tc_sheet.proofs.ViewsWritten.{see_text, see_choose}

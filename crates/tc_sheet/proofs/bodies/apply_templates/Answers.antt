@@ -5,7 +5,7 @@ use Rattle.tc_sheet.proofs.ReadLaws.{apply_read}
 use Rattle.tc_sheet.specs.Constructs.{of_apply}
 use Rattle.std.proofs.Common.{[], ◌∷◌, refl, option_map}
 use Rattle.std.specs.Prelude.{codes}
-use Rattle.tc_model.specs.Seen.{name, path}
+use Rattle.tc_model.specs.Views.{name, path}
 use Rattle.tc_sheet.proofs.bodies.apply_templates.Goals as goal
 
 pub only-requires-clause-weighed : goal.only-requires-clause-weighed

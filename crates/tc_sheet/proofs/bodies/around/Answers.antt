@@ -1,5 +1,5 @@
 use Rattle.std.proofs.Common.{ap, ◌∙◌, sym}
-use Rattle.tc_sheet.specs.Seen.{body}
+use Rattle.tc_sheet.specs.Views.{body}
 use Rattle.tc_sheet.specs.Begun.{around as around_seen}
 use Rattle.tc_sheet.specs.declared.bodies.Head.{Head}
 use Rattle.tc_sheet.proofs.ViewsWritten.{see_elem, see_copy, see_for_each}

@@ -1,4 +1,4 @@
-use Rattle.tc_sheet.specs.Seen.{instruction}
+use Rattle.tc_sheet.specs.Views.{instruction}
 use Rattle.tc_sheet.proofs.Refused.{handed_on}
 use Rattle.tc_sheet.proofs.BodyLaws.{literal_refuses, literal_around, begun_ok, begun_no, misplaced_in_body}
 use Rattle.std.proofs.Common.{sym}

@@ -1,6 +1,6 @@
 use Rattle.std.proofs.Common.{subst, sym}
 use Rattle.tc_sheet.specs.Readings.{IsRead}
-use Rattle.tc_sheet.specs.Seen.{instruction}
+use Rattle.tc_sheet.specs.Views.{instruction}
 use Rattle.tc_sheet.specs.declared.elements.Instruction.{Instruction}
 use Rattle.tc_sheet.proofs.ReadLaws.{no_attribute_read}
 use Rattle.tc_sheet.proofs.bodies.begin_instruction.Goals as goal

@@ -1,6 +1,6 @@
 use Rattle.std.proofs.Common.{sym}
 use Rattle.std.proofs.lemmas.List.{at_drop_all}
-use Rattle.tc_model.specs.Seen.{place, raw_trees}
+use Rattle.tc_model.specs.Views.{place, raw_trees}
 use Rattle.tc_model.proofs.ViewsRaw.{left_elem, left_text}
 use Rattle.tc_sheet.proofs.KidLaws.{past_blank_text, text_not_blank, element_not_blank, blank_ends}
 use Rattle.tc_sheet.proofs.bodies.blank.Goals as goal

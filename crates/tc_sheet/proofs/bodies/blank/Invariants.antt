@@ -1,5 +1,5 @@
 use Rattle.std.proofs.Common.{drop}
-use Rattle.tc_model.specs.Seen.{raw_trees}
+use Rattle.tc_model.specs.Views.{raw_trees}
 use Rattle.tc_sheet.proofs.KidLaws.{BlankLoop}
 use Rattle.tc_sheet.proofs.bodies.blank.Given as goal
 

@@ -1,6 +1,6 @@
 use Rattle.std.proofs.lemmas.List.{at_drop_all}
 use Rattle.std.specs.String.{string_bytes}
-use Rattle.tc_model.specs.Seen.{place, raw_trees}
+use Rattle.tc_model.specs.Views.{place, raw_trees}
 use Rattle.tc_model.proofs.ViewsRaw.{left_elem, left_text}
 use Rattle.tc_sheet.proofs.KidLaws.{one_more_text, element_no_characters, texts_end}
 use Rattle.tc_sheet.proofs.bodies.characters.Goals as goal

@@ -1,6 +1,6 @@
 use Rattle.std.proofs.Common.{drop}
 use Rattle.std.specs.String.{string_bytes}
-use Rattle.tc_model.specs.Seen.{raw_trees}
+use Rattle.tc_model.specs.Views.{raw_trees}
 use Rattle.tc_sheet.proofs.KidLaws.{TextLoop}
 use Rattle.tc_sheet.proofs.bodies.characters.Given as goal
 

@@ -1,6 +1,6 @@
 use Rattle.std.proofs.Common.{◌≡◌, ◌++◌, drop, map}
 use Rattle.tc_model.specs.SheetText.{calls_in_body, calls_in_branches}
-use Rattle.tc_sheet.specs.Seen.{body, branches_of}
+use Rattle.tc_sheet.specs.Views.{body, branches_of}
 use Rattle.tc_sheet.specs.SeenCalls.{site}
 use Rattle.tc_sheet.proofs.calls.+calls.Given as goal
 

@@ -1,8 +1,8 @@
 use Rattle.std.proofs.Common.{◌∙◌, ap, map, refl, get_or}
 use Rattle.tc_graph.specs.Graph.{rows_of}
-use Rattle.tc_model.specs.Seen.{place}
+use Rattle.tc_model.specs.Views.{place}
 use Rattle.tc_sheet.specs.Graphs.{IsCallFault, calls_from, row_of}
-use Rattle.tc_sheet.specs.Seen.{template}
+use Rattle.tc_sheet.specs.Views.{template}
 use Rattle.tc_sheet.specs.SeenCalls.{call, names_seen}
 use Rattle.tc_sheet.proofs.CallChecks.{first_step, first_end, undefined_fault, graph_rows, within_calls, no_loops, has_loop, all_are_defined}
 use Rattle.tc_sheet.proofs.CallLaws.{all_listed}

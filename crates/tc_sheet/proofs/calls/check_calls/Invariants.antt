@@ -1,7 +1,7 @@
 use Rattle.std.proofs.Common.{◌≡◌, ◌++◌, drop, map}
 use Rattle.tc_graph.specs.Graph.{rows_of}
 use Rattle.tc_sheet.specs.Graphs.{callees, numbered_calls, first_undefined, all_calls}
-use Rattle.tc_sheet.specs.Seen.{template}
+use Rattle.tc_sheet.specs.Views.{template}
 use Rattle.tc_sheet.specs.SeenCalls.{call, names_seen}
 use Rattle.tc_sheet.proofs.calls.check_calls.Given as goal
 

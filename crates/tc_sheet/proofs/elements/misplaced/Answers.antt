@@ -1,8 +1,8 @@
 use Rattle.std.proofs.Common.{sym, refl, ◌∙◌}
 use Rattle.std.proofs.lemmas.Bool.{true≢false}
-use Rattle.tc_model.specs.Seen.{name}
+use Rattle.tc_model.specs.Views.{name}
 use Rattle.tc_sheet.specs.Constructs.{unknown}
-use Rattle.tc_sheet.specs.Seen.{instruction}
+use Rattle.tc_sheet.specs.Views.{instruction}
 use Rattle.tc_sheet.proofs.Unrefused.{unrefused_by}
 use Rattle.tc_sheet.proofs.ElementLaws.{reason_is, instruction_is, refused_by, is_unknown, mapped_none, mapped_some}
 use Rattle.tc_sheet.proofs.elements.misplaced.Goals.{then-is_part-via-then-is_part, then-is_part-via-else-is_part+then-is_some}

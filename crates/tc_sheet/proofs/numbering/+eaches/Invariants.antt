@@ -1,6 +1,6 @@
 use Rattle.std.proofs.Common.{◌≡◌, ◌+◌, drop}
 use Rattle.tc_model.specs.SheetText.{eaches_in, eaches_in_branches}
-use Rattle.tc_sheet.specs.Seen.{body, branches_of}
+use Rattle.tc_sheet.specs.Views.{body, branches_of}
 use Rattle.tc_sheet.proofs.numbering.+eaches.Given as goal
 
 abbrev pub invariant-eaches_in-loop-instruction : goal.invariant-eaches_in-loop-instruction

@@ -1,8 +1,8 @@
 use Rattle.std.proofs.Common.{◌+◌, ◌∙◌, ap, refl, drop}
-use Rattle.tc_model.specs.Seen as see
+use Rattle.tc_model.specs.Views as see
 use Rattle.tc_model.specs.SheetText.{numbered, numbered_branches}
 use Rattle.tc_model.proofs.ViewsBody.{body_then}
-use Rattle.tc_sheet.specs.Seen.{body, branches}
+use Rattle.tc_sheet.specs.Views.{body, branches}
 use Rattle.tc_sheet.specs.SeenCalls.{names_seen}
 use Rattle.tc_sheet.proofs.NumberLaws.{body_count, body_end, body_step, branches_count, branches_step, number_choose}
 use Rattle.tc_sheet.proofs.numbering.+number.Goals as goal

@@ -1,9 +1,9 @@
 use Rattle.std.proofs.Common.{◌≡◌, ◌+◌, drop}
-use Rattle.tc_model.specs.Seen as see
+use Rattle.tc_model.specs.Views as see
 use Rattle.tc_model.specs.SheetTextTrees.{WrittenBranches}
 use Rattle.tc_model.specs.SheetText.{eaches_in, eaches_in_branches, numbered, numbered_branches}
 use Rattle.tc_model.proofs.ViewsBody.{body_then}
-use Rattle.tc_sheet.specs.Seen.{body, branches, branches_of}
+use Rattle.tc_sheet.specs.Views.{body, branches, branches_of}
 use Rattle.tc_sheet.specs.SeenCalls.{names_seen}
 use Rattle.tc_sheet.proofs.numbering.+number.Given as goal
 

@@ -1,6 +1,6 @@
 use Rattle.std.proofs.Common.{◌≡◌, ◌++◌, take, map}
-use Rattle.tc_model.specs.Seen as see
-use Rattle.tc_path.specs.Seen.{alternative}
+use Rattle.tc_model.specs.Views as see
+use Rattle.tc_path.specs.Views.{alternative}
 use Rattle.tc_sheet.specs.Numbers.{rule_from}
 use Rattle.tc_sheet.proofs.numbering.put_rules.Given as goal
 

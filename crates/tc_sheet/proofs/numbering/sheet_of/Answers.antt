@@ -1,8 +1,8 @@
 use Rattle.std.proofs.Common.{◌+◌, ◌++◌, ◌∙◌, ap, get_or, map, flat_map}
-use Rattle.tc_model.specs.Seen as see
+use Rattle.tc_model.specs.Views as see
 use Rattle.tc_model.specs.SheetText as model
 use Rattle.tc_sheet.specs.Numbers.{bodies, numbered_template}
-use Rattle.tc_sheet.specs.Seen.{template}
+use Rattle.tc_sheet.specs.Views.{template}
 use Rattle.tc_sheet.specs.SeenCalls.{names_seen}
 use Rattle.tc_sheet.proofs.NumberLaws.{all_counted, named_are, numbers_step, others_of, others_step, rules_are}
 use Rattle.tc_sheet.proofs.TableKeys.{blank}

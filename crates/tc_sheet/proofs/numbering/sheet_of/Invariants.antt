@@ -1,8 +1,8 @@
 use Rattle.std.proofs.Common.{◌≡◌, ◌+◌, ◌++◌, drop, map, flat_map}
-use Rattle.tc_model.specs.Seen as see
+use Rattle.tc_model.specs.Views as see
 use Rattle.tc_model.specs.SheetText as model
 use Rattle.tc_sheet.specs.Numbers.{bodies}
-use Rattle.tc_sheet.specs.Seen.{template}
+use Rattle.tc_sheet.specs.Views.{template}
 use Rattle.tc_sheet.proofs.NumberLaws.{others_of}
 use Rattle.tc_sheet.proofs.numbering.sheet_of.Given as goal
 

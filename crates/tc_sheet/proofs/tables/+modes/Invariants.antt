@@ -1,6 +1,6 @@
 use Rattle.std.proofs.Common.{◌≡◌, drop}
 use Rattle.tc_model.specs.SheetText.{modes_in_body, modes_in_branches}
-use Rattle.tc_sheet.specs.Seen.{body, branches_of}
+use Rattle.tc_sheet.specs.Views.{body, branches_of}
 use Rattle.tc_sheet.specs.SeenCalls.{names_seen}
 use Rattle.tc_sheet.specs.Tables.{puts}
 use Rattle.tc_sheet.proofs.tables.+modes.Given as goal

@@ -1,6 +1,6 @@
 use Rattle.std.proofs.Common.{◌≡◌, drop, map, flat_map}
 use Rattle.tc_model.specs.SheetText as model
-use Rattle.tc_sheet.specs.Seen.{template}
+use Rattle.tc_sheet.specs.Views.{template}
 use Rattle.tc_sheet.specs.SeenCalls.{names_seen}
 use Rattle.tc_sheet.specs.Tables.{puts, modes_in}
 use Rattle.tc_sheet.proofs.tables.modes_of.Given as goal

@@ -1,4 +1,4 @@
-use Rattle.tc_sheet.specs.Seen.{template}
+use Rattle.tc_sheet.specs.Views.{template}
 use Rattle.tc_sheet.specs.SeenCalls.{names_seen}
 use Rattle.tc_sheet.specs.Tables.{IsTwice}
 use Rattle.std.proofs.Common.{map, ◌++◌, ap}

@@ -2,7 +2,7 @@ use Rattle.std.proofs.Common.{◌≡◌, ◌++◌, drop, map}
 use Rattle.std.specs.List.{IsDistinct}
 use Rattle.tc_model.specs.Names.{same_name}
 use Rattle.tc_model.specs.SheetText as model
-use Rattle.tc_sheet.specs.Seen.{template}
+use Rattle.tc_sheet.specs.Views.{template}
 use Rattle.tc_sheet.specs.SeenCalls.{names_seen}
 use Rattle.tc_sheet.proofs.tables.names_of.Given as goal
 

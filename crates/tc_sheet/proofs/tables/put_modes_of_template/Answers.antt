@@ -1,8 +1,8 @@
 use Rattle.std.proofs.Common.{option_map}
 use Rattle.tc_graph.proofs.Tops.{on_ok}
-use Rattle.tc_model.specs.Seen.{name}
+use Rattle.tc_model.specs.Views.{name}
 use Rattle.tc_model.specs.SheetText.{one_name, modes_in_body}
-use Rattle.tc_sheet.specs.Seen.{body}
+use Rattle.tc_sheet.specs.Views.{body}
 use Rattle.tc_sheet.specs.SeenCalls.{names_seen}
 use Rattle.tc_sheet.proofs.TableKeys.{modes_of_template}
 use Rattle.tc_sheet.proofs.tables.put_modes_of_template.Goals as goal

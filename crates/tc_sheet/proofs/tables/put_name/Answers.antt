@@ -1,5 +1,5 @@
 use Rattle.std.proofs.Common.{ap, option_map, refl}
-use Rattle.tc_model.specs.Seen.{name}
+use Rattle.tc_model.specs.Views.{name}
 use Rattle.tc_sheet.proofs.TableKeys.{is_there, keeps_distinct}
 use Rattle.tc_sheet.proofs.tables.put_name.Goals as goal
 

@@ -1,5 +1,5 @@
 use Rattle.std.proofs.Common.{ap, ◌∙◌, sym}
-use Rattle.tc_model.specs.Seen.{place, raw_before}
+use Rattle.tc_model.specs.Views.{place, raw_before}
 use Rattle.tc_model.specs.declared.tree.Raw.{Raw}
 use Rattle.tc_model.proofs.ViewsRaw.{before_elem, before_text}
 use Rattle.tc_sheet.proofs.TemplateLaws.{top_white, top_black, top_ok, top_no}

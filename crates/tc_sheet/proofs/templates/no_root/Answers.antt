@@ -1,4 +1,4 @@
-use Rattle.tc_model.specs.Seen.{attribute}
+use Rattle.tc_model.specs.Views.{attribute}
 use Rattle.tc_sheet.proofs.TemplateLaws.{no_root_cause, no_simplified, simplified_cause}
 use Rattle.tc_sheet.proofs.templates.no_root.Goals as goal
 

@@ -1,6 +1,6 @@
 use Rattle.std.proofs.Common.{[], ◌∷◌, refl}
 use Rattle.std.specs.Prelude.{codes}
-use Rattle.tc_model.specs.Seen.{name}
+use Rattle.tc_model.specs.Views.{name}
 use Rattle.tc_sheet.proofs.Refused.{handed_on}
 use Rattle.tc_sheet.proofs.TemplateLaws.{root_only_refuses, root_version_refuses, no_call, stylesheet_ok, stylesheet_no, stylesheet_calls}
 use Rattle.tc_sheet.specs.Readings.{alone}

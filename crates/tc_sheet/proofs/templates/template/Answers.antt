@@ -7,8 +7,8 @@ use Rattle.tc_sheet.proofs.Refused.{handed_on}
 use Rattle.tc_sheet.proofs.TemplateLaws.{template_only_refuses, template_pattern_refuses, template_priority_refuses, template_name_refuses, template_mode_refuses, template_body_refuses, template_incomplete, lacks_by}
 use Rattle.std.proofs.Common.{[], ◌∷◌, sym, refl, map}
 use Rattle.std.specs.Prelude.{codes}
-use Rattle.tc_model.specs.Seen.{name}
-use Rattle.tc_path.specs.Seen.{alternative}
+use Rattle.tc_model.specs.Views.{name}
+use Rattle.tc_path.specs.Views.{alternative}
 use Rattle.tc_sheet.proofs.templates.template.Goals as goal
 
 pub only-requires-clause-weighed : goal.only-requires-clause-weighed

@@ -1,7 +1,7 @@
 use Rattle.std.proofs.Common.{ap, ◌∙◌, subst, ◌+◌, drop}
 use Rattle.std.proofs.lemmas.List.{at_drop_all}
-use Rattle.tc_model.specs.Seen.{raw_trees}
-use Rattle.tc_sheet.specs.Seen.{put_template}
+use Rattle.tc_model.specs.Views.{raw_trees}
+use Rattle.tc_sheet.specs.Views.{put_template}
 use Rattle.tc_model.proofs.ViewsRaw.{left_one}
 use Rattle.tc_sheet.proofs.Refused.{handed_on}
 use Rattle.tc_sheet.proofs.TemplateLaws.{TopLoop, top_goes_on, top_pushed, top_stays, top_ends, item_at_top_refuses}

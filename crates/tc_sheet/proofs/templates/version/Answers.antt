@@ -1,6 +1,6 @@
 use Rattle.std.proofs.Common.{sym}
 use Rattle.std.specs.Prelude.{codes}
-use Rattle.tc_model.specs.Seen.{name}
+use Rattle.tc_model.specs.Views.{name}
 use Rattle.tc_sheet.proofs.Unrefused.{root_unrefused}
 use Rattle.tc_sheet.proofs.Refusals.{itself_at}
 use Rattle.tc_sheet.specs.Changes.{both}

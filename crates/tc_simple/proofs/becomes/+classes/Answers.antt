@@ -1,5 +1,5 @@
 use Rattle.std.proofs.Common.{◌∙◌, ap, arith}
-use Rattle.tc_model.specs.Seen as seen
+use Rattle.tc_model.specs.Views as seen
 use Rattle.tc_simple.proofs.Made.{classes_end, classes_more}
 use Rattle.tc_simple.proofs.becomes.+classes.Goals as goal
 

@@ -1,5 +1,5 @@
 use Rattle.std.proofs.Common.{◌∙◌, ap, arith, map}
-use Rattle.tc_model.specs.Seen as seen
+use Rattle.tc_model.specs.Views as seen
 use Rattle.tc_simple.specs.Becoming.{made_in}
 use Rattle.tc_simple.specs.Nodes.{see_element}
 use Rattle.tc_simple.proofs.Made.{patterns_end, patterns_more}

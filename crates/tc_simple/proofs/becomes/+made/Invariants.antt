@@ -1,7 +1,7 @@
 use Rattle.std.proofs.Common.{◌≡◌, drop, map}
-use Rattle.tc_model.specs.Seen as seen
+use Rattle.tc_model.specs.Views as seen
 use Rattle.tc_model.proofs.ViewsGrammar.{patterns_then}
-use Rattle.tc_rnc.specs.Seen as see
+use Rattle.tc_rnc.specs.Views as see
 use Rattle.tc_simple.specs.Becoming.{all_become, made_in}
 use Rattle.tc_simple.specs.Nodes.{see_element}
 use Rattle.tc_simple.proofs.becomes.+made.Given as goal

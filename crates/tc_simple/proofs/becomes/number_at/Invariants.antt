@@ -1,5 +1,5 @@
 use Rattle.std.proofs.Common.{◌≡◌, ◌+◌, drop, map}
-use Rattle.tc_model.specs.Seen as seen
+use Rattle.tc_model.specs.Views as seen
 use Rattle.tc_model.specs.Simplifies.{number_at}
 use Rattle.tc_simple.specs.Nodes.{see_element}
 use Rattle.tc_simple.proofs.becomes.number_at.Given as goal

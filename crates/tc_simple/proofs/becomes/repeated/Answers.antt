@@ -1,6 +1,6 @@
 use Rattle.std.proofs.Common.{◌∙◌, ap}
 use Rattle.tc_model.specs.Grammars as g
-use Rattle.tc_model.specs.Seen as seen
+use Rattle.tc_model.specs.Views as seen
 use Rattle.tc_model.specs.declared.grammar.Pat.{Pat}
 use Rattle.tc_model.proofs.ViewsGrammar.{see_one_or_more}
 use Rattle.tc_simple.proofs.becomes.repeated.Goals as goal

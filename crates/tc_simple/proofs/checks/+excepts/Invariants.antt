@@ -1,7 +1,7 @@
 use Rattle.std.proofs.Common.{◌≡◌, None, drop}
 use Rattle.tc_model.specs.SimplifiesFaults.{first_answer, misplaced_in}
 use Rattle.tc_model.specs.SimplifiesParts.{nodes_in_all}
-use Rattle.tc_rnc.specs.Seen as see
+use Rattle.tc_rnc.specs.Views as see
 use Rattle.tc_simple.proofs.checks.+excepts.Given as goal
 
 abbrev pub invariant-bad_except_among-loop-pattern : goal.invariant-bad_except_among-loop-pattern

@@ -1,5 +1,5 @@
 use Rattle.std.proofs.Common.{◌∙◌, sym}
-use Rattle.tc_model.specs.Seen.{place}
+use Rattle.tc_model.specs.Views.{place}
 use Rattle.tc_simple.proofs.Answered.{classes_here}
 use Rattle.tc_simple.proofs.checks.+misplaced.Goals as goal
 

@@ -1,6 +1,6 @@
 use Rattle.std.proofs.Common.{◌≡◌, drop}
 use Rattle.tc_model.specs.SimplifiesFaults.{first_place, misplaced_among}
-use Rattle.tc_rnc.specs.Seen as see
+use Rattle.tc_rnc.specs.Views as see
 use Rattle.tc_simple.proofs.checks.+misplaced.Given as goal
 
 abbrev pub invariant-misplaced_among-loop-class : goal.invariant-misplaced_among-loop-class

@@ -1,5 +1,5 @@
 use Rattle.std.proofs.Common.{◌∙◌, sym}
-use Rattle.tc_model.specs.Seen.{place}
+use Rattle.tc_model.specs.Views.{place}
 use Rattle.tc_model.specs.SimplifiesFaults.{undefined_reference}
 use Rattle.tc_simple.proofs.Answered.{patterns_here, patterns_next}
 use Rattle.tc_simple.proofs.checks.+undefined.Goals as goal

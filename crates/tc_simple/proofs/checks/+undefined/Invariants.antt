@@ -2,7 +2,7 @@ use Rattle.std.proofs.Common.{◌≡◌, None, drop}
 use Rattle.tc_model.specs.CompactSyntaxTrees.{Syntax}
 use Rattle.tc_model.specs.SimplifiesFaults.{first_answer, undefined_reference}
 use Rattle.tc_model.specs.SimplifiesParts.{nodes_in_all}
-use Rattle.tc_rnc.specs.Seen as see
+use Rattle.tc_rnc.specs.Views as see
 use Rattle.tc_simple.specs.Tables.{IsTable}
 use Rattle.tc_simple.proofs.checks.+undefined.Given as goal
 

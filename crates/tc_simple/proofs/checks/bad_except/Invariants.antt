@@ -2,7 +2,7 @@ use Rattle.std.proofs.Common.{◌≡◌, None, drop, map}
 use Rattle.std.specs.List.{flat_map}
 use Rattle.tc_model.specs.SimplifiesFaults.{first_answer, misplaced_in, bad_except_at}
 use Rattle.tc_model.specs.SimplifiesParts.{nodes_in}
-use Rattle.tc_rnc.specs.Seen as see
+use Rattle.tc_rnc.specs.Views as see
 use Rattle.tc_simple.proofs.checks.bad_except.Given as goal
 
 abbrev pub invariant-loop-def : goal.invariant-loop-def

@@ -1,7 +1,7 @@
 use Rattle.std.proofs.Common.{◌∙◌, sym}
-use Rattle.tc_model.specs.Seen.{place}
+use Rattle.tc_model.specs.Views.{place}
 use Rattle.tc_model.specs.SimplifiesFaults.{undefined_reference}
-use Rattle.tc_rnc.specs.Seen.{syntax}
+use Rattle.tc_rnc.specs.Views.{syntax}
 use Rattle.tc_simple.proofs.Answered.{definitions_here, definitions_next}
 use Rattle.tc_simple.proofs.checks.undefined.Goals as goal
 

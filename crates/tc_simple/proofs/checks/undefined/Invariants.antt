@@ -2,7 +2,7 @@ use Rattle.std.proofs.Common.{◌≡◌, None, drop, map}
 use Rattle.std.specs.List.{flat_map}
 use Rattle.tc_model.specs.SimplifiesFaults.{first_answer, undefined_reference}
 use Rattle.tc_model.specs.SimplifiesParts.{nodes_in, nodes_of}
-use Rattle.tc_rnc.specs.Seen as see
+use Rattle.tc_rnc.specs.Views as see
 use Rattle.tc_simple.specs.Tables.{IsTable}
 use Rattle.tc_simple.proofs.checks.undefined.Given as goal
 

@@ -1,5 +1,5 @@
 use Rattle.std.proofs.Common.{◌≡◌, drop}
-use Rattle.tc_rnc.specs.Seen as see
+use Rattle.tc_rnc.specs.Views as see
 use Rattle.tc_simple.specs.Sizes.{two, sizes_of, size_in}
 use Rattle.tc_simple.proofs.counts.+sizes.Given as goal
 

@@ -1,6 +1,6 @@
 use Rattle.std.proofs.Common.{◌≡◌, ◌++◌, drop, map, true}
 use Rattle.std.specs.List.{filter_map}
-use Rattle.tc_rnc.specs.Seen as see
+use Rattle.tc_rnc.specs.Views as see
 use Rattle.tc_simple.specs.Nodes.{nodes_of_all, element_of, see_element}
 use Rattle.tc_simple.proofs.elements.+elements.Given as goal
 

@@ -1,5 +1,5 @@
 use Rattle.std.proofs.Common.{◌≡◌, map, take}
-use Rattle.tc_rnc.specs.Seen as see
+use Rattle.tc_rnc.specs.Views as see
 use Rattle.tc_simple.specs.Nodes.{elements_of, see_element}
 use Rattle.tc_simple.proofs.elements.elements.Given as goal
 

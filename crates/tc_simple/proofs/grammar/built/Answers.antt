@@ -1,6 +1,6 @@
 use Rattle.std.proofs.Common.{◌∙◌, ◌<◌, List, ap, subst, arith, length, map}
 use Rattle.std.proofs.lemmas.List.{get_or_read}
-use Rattle.tc_model.specs.Seen as seen
+use Rattle.tc_model.specs.Views as seen
 use Rattle.tc_model.specs.Simplifies.{Element}
 use Rattle.tc_model.specs.declared.grammar.Pat.{Pat}
 use Rattle.tc_model.specs.declared.grammar.Pat.TheVariants.{NotAllowed}

@@ -1,6 +1,6 @@
 use Rattle.std.proofs.Common.{◌≡◌, ◌∙◌, ◌<◌, ap, sym, subst, arith, length, map, get_or, false}
 use Rattle.std.proofs.lemmas.List.{get_or_read, length-map}
-use Rattle.tc_rnc.specs.Seen.{syntax}
+use Rattle.tc_rnc.specs.Views.{syntax}
 use Rattle.tc_simple.specs.Nodes.{HasNumbersBelow, elements_of, see_element}
 use Rattle.tc_simple.specs.Sizes.{leaf}
 use Rattle.tc_simple.specs.Totals.{total_of}

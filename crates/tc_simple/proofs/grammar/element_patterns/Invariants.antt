@@ -1,5 +1,5 @@
 use Rattle.std.proofs.Common.{◌≡◌, map, take}
-use Rattle.tc_model.specs.Seen as seen
+use Rattle.tc_model.specs.Views as seen
 use Rattle.tc_simple.specs.Nodes.{see_element}
 use Rattle.tc_simple.specs.Totals.{element_patterns_of}
 use Rattle.tc_simple.proofs.grammar.element_patterns.Given as goal

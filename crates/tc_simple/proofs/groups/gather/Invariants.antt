@@ -1,5 +1,5 @@
 use Rattle.std.proofs.Common.{map, take}
-use Rattle.tc_rnc.specs.Seen.{definition}
+use Rattle.tc_rnc.specs.Views.{definition}
 use Rattle.tc_simple.specs.Gathered.{IsGathered}
 use Rattle.tc_simple.proofs.groups.gather.Given as goal
 

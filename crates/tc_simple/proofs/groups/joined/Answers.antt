@@ -1,6 +1,6 @@
 use Rattle.std.proofs.Common.{◌≡◌, ◌∙◌, List, ap, length}
 use Rattle.tc_model.specs.CompactSyntaxTrees.{choice, interleave}
-use Rattle.tc_rnc.specs.Seen.{patterns}
+use Rattle.tc_rnc.specs.Views.{patterns}
 use Rattle.tc_rnc.specs.declared.syntax.SPat.{SPat}
 use Rattle.tc_rnc.proofs.Views.{see_choice, see_interleave}
 use Rattle.tc_simple.proofs.Gathering.{joined_choice, joined_interleave}

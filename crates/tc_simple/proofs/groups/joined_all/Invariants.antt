@@ -1,5 +1,5 @@
 use Rattle.std.proofs.Common.{◌≡◌, map, take}
-use Rattle.tc_rnc.specs.Seen.{pattern}
+use Rattle.tc_rnc.specs.Views.{pattern}
 use Rattle.tc_simple.specs.Tables.{joined_of}
 use Rattle.tc_simple.proofs.groups.joined_all.Given as goal
 

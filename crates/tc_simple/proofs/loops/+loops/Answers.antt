@@ -1,5 +1,5 @@
 use Rattle.std.proofs.Common.{◌∙◌, map, false}
-use Rattle.tc_model.specs.Seen.{place}
+use Rattle.tc_model.specs.Views.{place}
 use Rattle.tc_simple.specs.Nodes.{loop_at}
 use Rattle.tc_simple.proofs.Answered.{found_next}
 use Rattle.tc_simple.proofs.loops.+loops.Goals as goal

@@ -1,7 +1,7 @@
 use Rattle.std.proofs.Common.{◌≡◌, ◌++◌, drop, map, false}
 use Rattle.std.specs.List.{filter_map}
-use Rattle.tc_model.specs.Seen.{place}
-use Rattle.tc_rnc.specs.Seen as see
+use Rattle.tc_model.specs.Views.{place}
+use Rattle.tc_rnc.specs.Views as see
 use Rattle.tc_simple.specs.Nodes.{nodes_of_all, loop_at}
 use Rattle.tc_simple.proofs.loops.+loops.Given as goal
 

@@ -1,7 +1,7 @@
 use Rattle.std.proofs.Common.{◌≡◌, drop, false}
 use Rattle.std.specs.List.{list_all}
 use Rattle.tc_model.specs.SimplifiesFaults.{may_start}
-use Rattle.tc_rnc.specs.Seen as see
+use Rattle.tc_rnc.specs.Views as see
 use Rattle.tc_simple.specs.Nodes.{nodes_of_all}
 use Rattle.tc_simple.proofs.loops.+starts.Given as goal
 

@@ -1,4 +1,4 @@
-use Rattle.tc_model.specs.Seen.{place}
+use Rattle.tc_model.specs.Views.{place}
 use Rattle.tc_simple.specs.Places.{maybe_place}
 use Rattle.tc_simple.proofs.Answered.{least_next}
 use Rattle.tc_simple.proofs.loops.least.Goals as goal

@@ -1,5 +1,5 @@
 use Rattle.std.proofs.Common.{map, take}
-use Rattle.tc_model.specs.Seen.{place}
+use Rattle.tc_model.specs.Views.{place}
 use Rattle.tc_simple.specs.Nodes.{IsLeast}
 use Rattle.tc_simple.specs.Places.{maybe_place}
 use Rattle.tc_simple.proofs.loops.least.Given as goal

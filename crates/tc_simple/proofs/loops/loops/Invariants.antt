@@ -1,5 +1,5 @@
 use Rattle.std.proofs.Common.{◌≡◌, map}
-use Rattle.tc_model.specs.Seen.{place}
+use Rattle.tc_model.specs.Views.{place}
 use Rattle.tc_simple.specs.Nodes.{loops_below}
 use Rattle.tc_simple.proofs.loops.loops.Given as goal
 

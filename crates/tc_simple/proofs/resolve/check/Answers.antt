@@ -1,7 +1,7 @@
 use Rattle.std.proofs.Common.{◌∙◌, List, [], Bool, ap, sym, subst, length, true, false, Some}
-use Rattle.tc_model.specs.Seen.{place}
+use Rattle.tc_model.specs.Views.{place}
 use Rattle.tc_model.specs.SimplifiesFaults.{IsAcyclic}
-use Rattle.tc_rnc.specs.Seen.{syntax}
+use Rattle.tc_rnc.specs.Views.{syntax}
 use Rattle.tc_simple.specs.Nodes.{HasNumbersBelow, IsFirstLoop, StartsBadly, StartsWell}
 use Rattle.tc_simple.specs.Places.{maybe_place}
 use Rattle.tc_model.specs.SimplifiesParts.{definitions_of}

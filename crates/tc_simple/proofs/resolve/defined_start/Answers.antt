@@ -1,6 +1,6 @@
 use Rattle.std.proofs.Common.{◌∙◌, sym, ap}
-use Rattle.tc_model.specs.Seen.{place}
-use Rattle.tc_rnc.specs.Seen.{syntax}
+use Rattle.tc_model.specs.Views.{place}
+use Rattle.tc_rnc.specs.Views.{syntax}
 use Rattle.tc_simple.specs.Places.{maybe_place}
 use Rattle.tc_simple.proofs.Checked.{undefined_here, undefined_end}
 use Rattle.tc_simple.proofs.resolve.defined_start.Goals as goal

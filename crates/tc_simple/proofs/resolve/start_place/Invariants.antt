@@ -1,7 +1,7 @@
 use Rattle.std.proofs.Common.{◌≡◌, [], drop, map}
 use Rattle.tc_model.specs.SimplifiesFaults.{first_definition}
 use Rattle.tc_model.specs.SimplifiesParts.{definitions_of}
-use Rattle.tc_rnc.specs.Seen as see
+use Rattle.tc_rnc.specs.Views as see
 use Rattle.tc_simple.proofs.resolve.start_place.Given as goal
 
 abbrev pub invariant-loop-def : goal.invariant-loop-def

@@ -1,5 +1,5 @@
 use Rattle.tc_model.proofs.SimplifiesLawful.{lawful_syntax}
-use Rattle.tc_rnc.specs.Seen.{syntax}
+use Rattle.tc_rnc.specs.Views.{syntax}
 use Rattle.tc_simple.proofs.tests.grammar_of.Goals as goal
 
 pub simplify-requires : goal.simplify-requires

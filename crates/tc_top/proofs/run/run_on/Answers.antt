@@ -1,7 +1,7 @@
 use Rattle.std.proofs.Common.{List, sym, subst}
 use Rattle.std.proofs.lemmas.Result.{IfOk-weaker}
 use Rattle.tc_base.specs.declared.Limit.TheVariants.{Symbols, Predicates, Ancestors, Selects}
-use Rattle.tc_model.specs.Seen as see
+use Rattle.tc_model.specs.Views as see
 use Rattle.tc_model.specs.Sheets.{Sheet}
 use Rattle.tc_model.specs.Symbols.{Mention}
 use Rattle.tc_model.specs.Trees.{none}

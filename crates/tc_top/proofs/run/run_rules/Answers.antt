@@ -1,6 +1,6 @@
 use Rattle.std.proofs.Common.{subst}
 use Rattle.std.proofs.lemmas.Result.{IfOk-weaker}
-use Rattle.tc_model.specs.Seen.{before, trees}
+use Rattle.tc_model.specs.Views.{before, trees}
 use Rattle.tc_model.specs.Trees.{none}
 use Rattle.tc_rules.specs.Kept.{told}
 use Rattle.tc_run.specs.Limits.{IsCause}

@@ -1,6 +1,6 @@
 use Rattle.std.proofs.Common.{subst}
 use Rattle.std.proofs.lemmas.Result.{IfOk-weaker}
-use Rattle.tc_model.specs.Seen as see
+use Rattle.tc_model.specs.Views as see
 use Rattle.tc_top.specs.Answers as a
 use Rattle.tc_top.specs.Answers.{sheet_refused}
 use Rattle.tc_top.specs.Refusals.{IsRefusedSheet}

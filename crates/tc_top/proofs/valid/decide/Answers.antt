@@ -2,7 +2,7 @@ use Rattle.std.proofs.Common.{◌≤◌, ◌<◌, ◌⊎◌, ◌∙◌, ℕ, Err
 use Rattle.std.proofs.lemmas.Bool.{cases_lt, true≢false}
 use Rattle.std.proofs.lemmas.Result.{IfOk-weaker}
 use Rattle.tc_base.specs.declared.Limit.TheVariants.{States, Symbols}
-use Rattle.tc_model.specs.Seen as see
+use Rattle.tc_model.specs.Views as see
 use Rattle.tc_model.specs.States.{input, state_count}
 use Rattle.tc_top.specs.Answers as a
 use Rattle.tc_top.specs.Answers.{passes, decides_valid, decides_invalid}

@@ -2,7 +2,7 @@ use Rattle.std.proofs.Common.{List, ℕ, subst}
 use Rattle.std.proofs.lemmas.Result.{IfOk-weaker}
 use Rattle.tc_model.specs.Grammars.{Grammar}
 use Rattle.tc_model.specs.RncText.{RncText}
-use Rattle.tc_model.specs.Seen as see
+use Rattle.tc_model.specs.Views as see
 use Rattle.tc_model.proofs.SimplifiesUnique.{lawful_start}
 use Rattle.tc_top.specs.Answers as a
 use Rattle.tc_top.specs.Answers.{document_refused, both_read, passes}

@@ -1,13 +1,13 @@
 use Rattle.std.proofs.Common.{◌≡◌, List, ℕ, Bool, true, false, ◌∷◌, refl, sym, ap, ◌∙◌, subst, map, arith, rules, suc, ◌-◌}
 use Rattle.std.proofs.lemmas.Result.{IfOk-weaker, IfErr-weaker}
 use Rattle.tc_model.specs.RawTrees.{RawTrees, none}
-use Rattle.tc_model.specs.Seen.{name, attribute, place}
+use Rattle.tc_model.specs.Views.{name, attribute, place}
 use Rattle.tc_model.specs.XmlTextContent.{Piece, nothing, whole, ContentAt, ItemAt, child, instruction, ElementAt}
 use Rattle.tc_model.specs.XmlTextRefusals as refusals
-use Rattle.tc_scan.specs.Seen.{written_name}
+use Rattle.tc_scan.specs.Views.{written_name}
 use Rattle.tc_xml.specs.Reading.{empty, filled, AddsPiece}
 use Rattle.tc_xml.specs.Refusals.{RefusesWithin, RefusedAt}
-use Rattle.tc_xml.specs.Seen.{gathered_before}
+use Rattle.tc_xml.specs.Views.{gathered_before}
 use Rattle.tc_xml.specs.Tags.{in_scope}
 use Rattle.tc_xml.proofs.ContentLaws.{failed, item_within}
 use Rattle.tc_xml.proofs.ItemLaws.{lacks_instruction, is_child}

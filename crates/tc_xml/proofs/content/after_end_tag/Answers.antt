@@ -1,4 +1,4 @@
-use Rattle.tc_scan.specs.Seen.{written_name}
+use Rattle.tc_scan.specs.Views.{written_name}
 use Rattle.tc_xml.specs.Reading.{EndTagAt}
 use Rattle.tc_xml.proofs.MiscLaws.{map_option}
 use Rattle.tc_xml.proofs.ContentLaws.{other_name, no_close, an_end_tag}

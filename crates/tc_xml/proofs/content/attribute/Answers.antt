@@ -1,7 +1,7 @@
 use Rattle.std.proofs.Common.{true, false, List, ℕ}
 use Rattle.tc_model.specs.XmlTextScopes.{WrittenAttribute}
 use Rattle.tc_model.specs.XmlTextRefusals.{AttributesRefuse}
-use Rattle.tc_scan.specs.Seen.{written_name}
+use Rattle.tc_scan.specs.Views.{written_name}
 use Rattle.tc_xml.specs.Refusals.{Refuses, UnsupportedAt}
 use Rattle.tc_xml.specs.Reading.{AttributeAt}
 use Rattle.tc_xml.proofs.ContentLaws.{not_xml_space, no_equals, no_value, space_stands, value_stands, failed, refuse_both, unsupported_map}

@@ -1,8 +1,8 @@
 use Rattle.std.proofs.Common.{sym, subst, string_bytes, ◌≡◌, ◌++◌}
-use Rattle.tc_model.specs.Seen.{place}
+use Rattle.tc_model.specs.Views.{place}
 use Rattle.tc_model.specs.XmlTextContent.{characters_before}
 use Rattle.tc_xml.specs.declared.content.Run.{Run}
-use Rattle.tc_xml.specs.Seen.{run_before}
+use Rattle.tc_xml.specs.Views.{run_before}
 use Rattle.tc_xml.proofs.GatherLaws.{characters_join}
 use Rattle.tc_xml.proofs.content.begun.Goals as goal
 

@@ -1,5 +1,5 @@
 use Rattle.std.proofs.Common.{true, false, encode_utf8}
-use Rattle.tc_model.specs.Seen.{place}
+use Rattle.tc_model.specs.Views.{place}
 use Rattle.tc_model.specs.XmlTextBytes.{line_ends}
 use Rattle.tc_model.specs.XmlTextContent.{characters}
 use Rattle.tc_xml.specs.Refusals.{Refuses}

@@ -1,5 +1,5 @@
 use Rattle.std.proofs.Common.{refl, true}
-use Rattle.tc_model.specs.Seen.{place}
+use Rattle.tc_model.specs.Views.{place}
 use Rattle.tc_model.specs.XmlTextBytes.{line_ends}
 use Rattle.tc_model.specs.XmlTextContent.{nothing, characters, comment}
 use Rattle.tc_xml.proofs.ItemLaws.{lacks_bang, cdata_item}

@@ -1,9 +1,9 @@
 use Rattle.std.proofs.Common.{◌≡◌, ap, ◌∙◌, sym, [], length, ◌==◌}
 use Rattle.std.proofs.lemmas.Bool.{true≢false}
 use Rattle.tc_model.specs.RawTrees.{RawTrees}
-use Rattle.tc_model.specs.Seen.{place}
+use Rattle.tc_model.specs.Views.{place}
 use Rattle.tc_model.specs.XmlTextContent.{characters_before}
-use Rattle.tc_xml.specs.Seen.{run_before}
+use Rattle.tc_xml.specs.Views.{run_before}
 use Rattle.tc_xml.proofs.GatherLaws.{run_kept}
 use Rattle.tc_xml.proofs.content.end_run.Goals as goal
 

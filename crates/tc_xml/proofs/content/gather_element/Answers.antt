@@ -1,9 +1,9 @@
 use Rattle.std.proofs.Common.{refl, ap, ◌∙◌}
 use Rattle.tc_model.specs.RawTrees.{RawTrees, element}
-use Rattle.tc_model.specs.Seen.{name, attribute, place}
+use Rattle.tc_model.specs.Views.{name, attribute, place}
 use Rattle.std.proofs.Common.{map}
 use Rattle.tc_model.specs.declared.tree.RawElem.{RawElem, roll-RawElem}
-use Rattle.tc_xml.specs.Seen.{gathered_before}
+use Rattle.tc_xml.specs.Views.{gathered_before}
 use Rattle.tc_xml.specs.Tags.{in_scope}
 use Rattle.tc_xml.proofs.GatherLaws.{element_gathered}
 use Rattle.tc_xml.proofs.content.gather_element.Goals as goal

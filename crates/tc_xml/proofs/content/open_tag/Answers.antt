@@ -3,7 +3,7 @@ use Rattle.tc_model.specs.Names.{ExpandedName}
 use Rattle.tc_model.specs.RawTrees.{Attribute, Bound}
 use Rattle.tc_model.specs.XmlTextNames.{QualifiedName}
 use Rattle.tc_model.specs.XmlTextContent.{AttributesAt, TagAt}
-use Rattle.tc_scan.specs.Seen.{written_name}
+use Rattle.tc_scan.specs.Views.{written_name}
 use Rattle.tc_xml.specs.Refusals.{Refuses}
 use Rattle.tc_xml.specs.Tags.{written, in_scope}
 use Rattle.tc_xml.proofs.ContentLaws.{no_list, no_meaning, broken, failed, refuse_both}

@@ -1,6 +1,6 @@
 use Rattle.std.proofs.Common.{◌≡◌, ◌∙◌, subst, false}
 use Rattle.tc_model.specs.RawTrees.{none}
-use Rattle.tc_model.specs.Seen.{raw_trees}
+use Rattle.tc_model.specs.Views.{raw_trees}
 use Rattle.tc_model.specs.XmlTextContent.{piece_before, ElementAt}
 use Rattle.tc_xml.proofs.RootLaws.{root_is, no_root, element_alone}
 use Rattle.tc_xml.proofs.content.root_element.Goals as goal

@@ -1,6 +1,6 @@
 use Rattle.std.proofs.Common.{refl}
 use Rattle.std.proofs.lemmas.List.{at_drop_all}
-use Rattle.tc_model.specs.Seen.{raw_trees}
+use Rattle.tc_model.specs.Views.{raw_trees}
 use Rattle.tc_model.specs.Stripped.{bare}
 use Rattle.tc_xml.proofs.StripLaws.{text_more, element_more, all_bare}
 use Rattle.tc_xml.proofs.stripping.+bare.Goals as goal

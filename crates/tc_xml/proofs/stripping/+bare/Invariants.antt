@@ -1,5 +1,5 @@
 use Rattle.std.proofs.Common.{◌≡◌, drop}
-use Rattle.tc_model.specs.Seen.{trees, raw_trees}
+use Rattle.tc_model.specs.Views.{trees, raw_trees}
 use Rattle.tc_model.specs.Stripped.{bare}
 use Rattle.tc_model.specs.Trees.{beside}
 use Rattle.tc_xml.proofs.stripping.+bare.Given as goal

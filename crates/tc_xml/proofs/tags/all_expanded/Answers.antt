@@ -1,6 +1,6 @@
 use Rattle.std.proofs.Common.{◌∙◌, ap, sym, subst, map, ◌++◌, append-nil}
 use Rattle.std.specs.Option.{option_to_list}
-use Rattle.tc_model.specs.Seen.{attribute}
+use Rattle.tc_model.specs.Views.{attribute}
 use Rattle.tc_model.specs.XmlTextScopes.{Expands, no_more}
 use Rattle.tc_xml.specs.Tags.{in_scope}
 use Rattle.tc_xml.proofs.TagLaws.{all_more, no_expansion, err_breaks, blank_written}

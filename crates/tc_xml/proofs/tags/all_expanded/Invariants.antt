@@ -1,5 +1,5 @@
 use Rattle.std.proofs.Common.{map, take}
-use Rattle.tc_model.specs.Seen.{attribute}
+use Rattle.tc_model.specs.Views.{attribute}
 use Rattle.tc_model.specs.XmlTextScopes.{Expands}
 use Rattle.tc_xml.specs.Tags.{in_scope}
 use Rattle.tc_xml.specs.Tags.{written}

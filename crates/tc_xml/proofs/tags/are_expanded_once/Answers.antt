@@ -1,5 +1,5 @@
 use Rattle.std.proofs.Common.{◌∙◌, ap, map, take_all}
-use Rattle.tc_model.specs.Seen.{attribute}
+use Rattle.tc_model.specs.Views.{attribute}
 use Rattle.tc_xml.proofs.TagLaws.{all_expanded_once, pair_expanded}
 use Rattle.tc_xml.proofs.tags.are_expanded_once.Goals as goal
 

@@ -1,5 +1,5 @@
 use Rattle.std.proofs.Common.{◌≡◌, map, take}
-use Rattle.tc_model.specs.Seen.{attribute}
+use Rattle.tc_model.specs.Views.{attribute}
 use Rattle.tc_xml.proofs.TagLaws.{pair_expanded}
 use Rattle.tc_xml.proofs.tags.are_expanded_once.Given as goal
 

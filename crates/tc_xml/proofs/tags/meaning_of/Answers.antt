@@ -1,5 +1,5 @@
 use Rattle.std.proofs.Common.{map}
-use Rattle.tc_model.specs.Seen.{attribute}
+use Rattle.tc_model.specs.Views.{attribute}
 use Rattle.tc_xml.proofs.TagLaws.{not_expanded_once}
 use Rattle.tc_xml.proofs.tags.meaning_of.Goals as goal
 

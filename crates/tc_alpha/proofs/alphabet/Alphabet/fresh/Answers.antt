@@ -1,6 +1,6 @@
 use Rattle.std.proofs.Common.{ap, ◌∙◌, Some, refl}
-use Rattle.tc_alpha.specs.Seen.{mention as see_mention}
-use Rattle.tc_model.specs.Seen as see
+use Rattle.tc_alpha.specs.Views.{mention as see_mention}
+use Rattle.tc_model.specs.Views as see
 use Rattle.tc_alpha.proofs.Orders.{same_parts}
 use Rattle.tc_alpha.proofs.Fresh.{named, spaced, last, lawful_told, symbol_told}
 use Rattle.tc_alpha.proofs.alphabet.Alphabet.fresh.Goals as goal

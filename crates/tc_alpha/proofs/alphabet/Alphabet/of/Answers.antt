@@ -1,6 +1,6 @@
 use Rattle.std.proofs.Common.{◌≡◌, ap, sym, ◌∙◌, subst, length, List, [], ◌∷◌, refl, arith}
-use Rattle.tc_alpha.specs.Seen.{seen}
-use Rattle.tc_model.specs.Seen as see
+use Rattle.tc_alpha.specs.Views.{seen}
+use Rattle.tc_model.specs.Views as see
 use Rattle.tc_model.specs.Symbols.{AreSymbols}
 use Rattle.tc_alpha.specs.declared.mentions.Mention.{Mention}
 use Rattle.tc_alpha.proofs.Lawful.{are_symbols}

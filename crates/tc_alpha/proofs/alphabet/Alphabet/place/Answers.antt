@@ -2,7 +2,7 @@ use Rattle.std.proofs.Common.{rules, ap, sym, subst, ◌∙◌, map, Ok, Err}
 use Rattle.std.specs.List.Sorted.{IsStrictlySortedBy}
 use Rattle.std.proofs.lemmas.Fn.{always_returns_same}
 use Rattle.tc_alpha.specs.Kept.{known}
-use Rattle.tc_alpha.specs.Seen.{mention as see_mention}
+use Rattle.tc_alpha.specs.Views.{mention as see_mention}
 use Rattle.tc_model.specs.Symbols.{mention_cmp, place_of, AreSymbols}
 use Rattle.tc_alpha.proofs.Places.{searched_by}
 use Rattle.tc_alpha.proofs.alphabet.Alphabet.place.Goals as goal

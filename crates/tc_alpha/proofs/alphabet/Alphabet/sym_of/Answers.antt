@@ -1,5 +1,5 @@
 use Rattle.std.proofs.Common.{rules}
-use Rattle.tc_model.specs.Seen as see
+use Rattle.tc_model.specs.Views as see
 use Rattle.tc_alpha.proofs.Alike.{alike_told}
 use Rattle.tc_alpha.proofs.alphabet.Alphabet.sym_of.Goals as goal
 

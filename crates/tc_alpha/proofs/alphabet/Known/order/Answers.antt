@@ -1,5 +1,5 @@
 use Rattle.std.proofs.Common.{ap, ◌∙◌}
-use Rattle.tc_alpha.specs.Seen.{mention as see_mention}
+use Rattle.tc_alpha.specs.Views.{mention as see_mention}
 use Rattle.tc_model.specs.Symbols.{mention_cmp}
 use Rattle.tc_alpha.proofs.Compared.{cmp_is}
 use Rattle.tc_alpha.proofs.alphabet.Known.order.Goals as goal

@@ -1,6 +1,6 @@
 use Rattle.std.proofs.Common.{ap, ◌∙◌}
 use Rattle.tc_model.specs.Grammars.{NameClass, in_class}
-use Rattle.tc_model.specs.Seen.{name}
+use Rattle.tc_model.specs.Views.{name}
 use Rattle.tc_auto.proofs.Totals.{allowed}
 use Rattle.tc_auto.proofs.auto.Auto.allows.Goals as goal
 

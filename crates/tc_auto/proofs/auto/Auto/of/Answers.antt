@@ -1,4 +1,4 @@
-use Rattle.tc_model.specs.Seen.{grammar}
+use Rattle.tc_model.specs.Views.{grammar}
 use Rattle.tc_model.specs.States.{output}
 use Rattle.tc_model.proofs.StatesParts.{accepted_exactly}
 use Rattle.tc_auto.proofs.auto.Auto.of.Goals as goal

@@ -1,6 +1,6 @@
 use Rattle.std.proofs.Common.{ap, ◌∙◌, sym, subst}
 use Rattle.tc_model.specs.Trees.{none}
-use Rattle.tc_model.specs.Seen as see
+use Rattle.tc_model.specs.Views as see
 use Rattle.tc_model.specs.States.{output}
 use Rattle.tc_model.specs.declared.tree.Node.{Node}
 use Rattle.tc_model.proofs.Views.{before_text, before_elem}

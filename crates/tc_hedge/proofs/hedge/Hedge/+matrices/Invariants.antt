@@ -1,6 +1,6 @@
 use Rattle.std.proofs.Common.{◌≡◌, length, take}
 use Rattle.tc_mat.specs.Matrix.{IsMatrix}
-use Rattle.tc_model.specs.Seen as see
+use Rattle.tc_model.specs.Views as see
 use Rattle.tc_model.specs.Grammars.{Grammar}
 use Rattle.tc_model.specs.States.{Side}
 use Rattle.tc_auto.specs.Stands as held

@@ -1,6 +1,6 @@
 use Rattle.std.proofs.Common.{ap, ◌∙◌, ◌++◌, map, Bool, List}
 use Rattle.tc_model.specs.Grammars.{ElementPattern, in_class}
-use Rattle.tc_model.specs.Seen as see
+use Rattle.tc_model.specs.Views as see
 use Rattle.tc_hedge.proofs.Sides.{around_told, pushed_tell}
 use Rattle.tc_hedge.proofs.hedge.Hedge.matrix_around.Goals as goal
 

@@ -1,7 +1,7 @@
 use Rattle.std.proofs.Common.{◌≡◌, ◌↔◌, IsTrue, true, ap, ◌∙◌, sym, subst, rules}
 use Rattle.tc_model.specs.Trees.{Trees, none}
 use Rattle.tc_model.specs.Matching.{Matches}
-use Rattle.tc_model.specs.Seen as see
+use Rattle.tc_model.specs.Views as see
 use Rattle.tc_model.specs.declared.tree.Node.{Node}
 use Rattle.tc_model.proofs.Views.{before_elem}
 use Rattle.tc_hedge.proofs.Gathers.{for_ok}

@@ -1,5 +1,5 @@
 use Rattle.std.proofs.Common.{◌≡◌, ◌++◌, map, drop}
-use Rattle.tc_model.specs.Seen as see
+use Rattle.tc_model.specs.Views as see
 use Rattle.tc_rules.specs.Rows.{state, states}
 use Rattle.tc_rules.specs.Steps.{next_state}
 use Rattle.tc_rules.proofs.graph.Source.add_leads.Given as goal

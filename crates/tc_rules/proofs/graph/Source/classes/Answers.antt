@@ -1,6 +1,6 @@
 use Rattle.std.proofs.Common.{◌∙◌, sym}
 use Rattle.std.proofs.lemmas.List.{length-map}
-use Rattle.tc_model.specs.Seen as see
+use Rattle.tc_model.specs.Views as see
 use Rattle.tc_rules.specs.Rows.{state, states, rows_of_classes}
 use Rattle.tc_rules.proofs.SymbolKinds.{kind_goes, kinds_done}
 use Rattle.tc_rules.proofs.graph.Source.classes.Goals as goal

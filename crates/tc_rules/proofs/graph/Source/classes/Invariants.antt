@@ -1,5 +1,5 @@
 use Rattle.std.proofs.Common.{take}
-use Rattle.tc_model.specs.Seen as see
+use Rattle.tc_model.specs.Views as see
 use Rattle.tc_rules.specs.Rows.{states, rows_of_classes}
 use Rattle.tc_rules.proofs.SymbolKinds.{AreKinds}
 use Rattle.tc_rules.proofs.graph.Source.classes.Given as goal

@@ -1,4 +1,4 @@
-use Rattle.tc_model.specs.Seen as see
+use Rattle.tc_model.specs.Views as see
 use Rattle.tc_rules.specs.Reached.{counted, leads_by}
 use Rattle.tc_rules.specs.Rows as seen
 use Rattle.tc_rules.proofs.Rounds.{IsExpanding}

@@ -1,5 +1,5 @@
 use Rattle.std.proofs.Common.{◌≡◌}
-use Rattle.tc_model.specs.Seen as see
+use Rattle.tc_model.specs.Views as see
 use Rattle.tc_rules.specs.Classes.{fits_of}
 use Rattle.tc_rules.specs.Rows.{states}
 use Rattle.tc_rules.proofs.graph.Source.fits_of.Given as goal

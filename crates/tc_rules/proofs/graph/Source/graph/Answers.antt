@@ -2,7 +2,7 @@ use Rattle.std.proofs.Common.{◌≡◌, ◌∙◌, ◌<◌, ◌∷◌, [], List
 use Rattle.std.specs.Global.{Vec}
 use Rattle.std.proofs.lemmas.Result.{err_from_is_err_and}
 use Rattle.tc_model.specs.PathStates.{first_state}
-use Rattle.tc_model.specs.Seen as see
+use Rattle.tc_model.specs.Views as see
 use Rattle.tc_rules.specs.Reached.{AreReached, all_numbers_by, counted, leads_by, rounds}
 use Rattle.tc_rules.specs.Rows.{states, rows_of_classes, leads_of_states}
 use Rattle.tc_rules.specs.declared.graph.GraphFault.TheVariants.{TooManyStates}

@@ -1,5 +1,5 @@
 use Rattle.std.proofs.Common.{◌≡◌, ◌++◌, drop}
-use Rattle.tc_model.specs.Seen as see
+use Rattle.tc_model.specs.Views as see
 use Rattle.tc_rules.specs.Reached.{leads_by}
 use Rattle.tc_rules.specs.Rows.{state, states, rows_of_classes}
 use Rattle.tc_rules.proofs.graph.Source.leads_of.Given as goal

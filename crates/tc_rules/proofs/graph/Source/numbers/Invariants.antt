@@ -1,5 +1,5 @@
 use Rattle.std.proofs.Common.{◌≡◌, ◌++◌, map, drop}
-use Rattle.tc_model.specs.Seen as see
+use Rattle.tc_model.specs.Views as see
 use Rattle.tc_rules.specs.Reached.{numbers_by}
 use Rattle.tc_rules.specs.Rows.{states, rows_of_classes, leads_of_states}
 use Rattle.tc_rules.proofs.graph.Source.numbers.Given as goal

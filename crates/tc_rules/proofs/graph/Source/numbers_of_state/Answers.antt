@@ -1,4 +1,4 @@
-use Rattle.tc_model.specs.Seen as see
+use Rattle.tc_model.specs.Views as see
 use Rattle.tc_rules.specs.Reached.{numbers_by}
 use Rattle.tc_rules.specs.Rows.{state, states, rows_of_classes}
 use Rattle.tc_rules.proofs.RowLoops.{class_goes}

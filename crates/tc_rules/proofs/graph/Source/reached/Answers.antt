@@ -1,6 +1,6 @@
 use Rattle.std.proofs.Common.{◌≡◌, ◌≤◌, ◌∙◌, sym, subst, length, drop, arith}
 use Rattle.std.proofs.lemmas.List.{length-map}
-use Rattle.tc_model.specs.Seen as see
+use Rattle.tc_model.specs.Views as see
 use Rattle.tc_model.specs.PathStates.{first_state}
 use Rattle.tc_rules.specs.Reached.{counted, leads_by, leads_of}
 use Rattle.tc_rules.specs.Rows.{state, states, rows_of_classes}

@@ -1,5 +1,5 @@
 use Rattle.std.proofs.Common.{◌≤◌, ◌-◌, length}
-use Rattle.tc_model.specs.Seen as see
+use Rattle.tc_model.specs.Views as see
 use Rattle.tc_model.specs.PathStates.{first_state}
 use Rattle.tc_rules.specs.Reached.{counted, leads_by}
 use Rattle.tc_rules.specs.Rows as seen

@@ -1,8 +1,8 @@
 use Rattle.tc_model.specs.Numbered.{number_of}
 use Rattle.tc_model.specs.SameTests.{same_path}
-use Rattle.tc_rules.specs.Seen.{looks}
+use Rattle.tc_rules.specs.Views.{looks}
 use Rattle.std.proofs.Common.{◌≡◌, ap, ◌∙◌, length, arith}
-use Rattle.tc_model.specs.Seen as see
+use Rattle.tc_model.specs.Views as see
 use Rattle.tc_rules.proofs.Counted.{look_first_told}
 use Rattle.tc_rules.proofs.rules.Rules.look_first.Goals as goal
 

@@ -1,8 +1,8 @@
 use Rattle.std.proofs.Common.{ap, ◌∙◌}
 use Rattle.tc_model.specs.Numbered.{number_of}
 use Rattle.tc_model.specs.Numberings.{same_move}
-use Rattle.tc_model.specs.Seen as see
-use Rattle.tc_rules.specs.Seen.{mode_of, moves}
+use Rattle.tc_model.specs.Views as see
+use Rattle.tc_rules.specs.Views.{mode_of, moves}
 use Rattle.tc_rules.proofs.Counted.{move_first_told}
 use Rattle.tc_rules.proofs.rules.Rules.move_first.Goals as goal
 

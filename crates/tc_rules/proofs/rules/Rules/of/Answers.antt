@@ -1,9 +1,9 @@
 use Rattle.std.proofs.Common.{◌≡◌, ◌≤◌, List, length, ap, ◌∙◌, arith}
 use Rattle.tc_model.specs.Numberings.{predicates_of}
-use Rattle.tc_model.specs.Seen as see
+use Rattle.tc_model.specs.Views as see
 use Rattle.tc_rules.specs.Classes.{IsSourceOf}
 use Rattle.tc_rules.specs.Rows.{graph, graphs}
-use Rattle.tc_rules.specs.Seen.{looks}
+use Rattle.tc_rules.specs.Views.{looks}
 use Rattle.tc_rules.specs.Selects.{selects_from, starts_from}
 use Rattle.tc_rules.specs.declared.graph.Graph.{Graph}
 use Rattle.tc_rules.specs.declared.graph.Source.{Source}

@@ -1,8 +1,8 @@
 use Rattle.std.proofs.Common.{◌∙◌, ap, refl}
 use Rattle.std.proofs.lemmas.Option.{slice_get_read}
-use Rattle.tc_model.specs.Seen.{place}
+use Rattle.tc_model.specs.Views.{place}
 use Rattle.tc_model.specs.SimplifiesFaults.{clash}
-use Rattle.tc_rnc.specs.Seen.{joins}
+use Rattle.tc_rnc.specs.Views.{joins}
 use Rattle.tc_simple.specs.Groups.{any_of}
 use Rattle.tc_simple.specs.Places.{or_clash, maybe_place}
 use Rattle.tc_simple.proofs.groups.Gathered.grow.Goals as goal

@@ -1,5 +1,5 @@
 use Rattle.std.proofs.Common.{◌∙◌, List, ap, map, refl}
-use Rattle.tc_rnc.specs.Seen.{syntax}
+use Rattle.tc_rnc.specs.Views.{syntax}
 use Rattle.tc_simple.specs.Tables.{joined_of}
 use Rattle.tc_simple.specs.declared.groups.Group.{Group}
 use Rattle.tc_simple.proofs.Gathering.{is_table}

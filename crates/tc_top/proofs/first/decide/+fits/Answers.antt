@@ -1,5 +1,5 @@
 use Rattle.std.proofs.Common.{◌≡◌, ◌&&◌, false, sym, ap, ◌∙◌, rules}
-use Rattle.tc_model.specs.Seen.{name, trees}
+use Rattle.tc_model.specs.Views.{name, trees}
 use Rattle.tc_model.proofs.Views.{left_elem}
 use Rattle.tc_top.specs.FirstFits as first_fits
 use Rattle.tc_top.specs.FirstSeen.{schema_from}

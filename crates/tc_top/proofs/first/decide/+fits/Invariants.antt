@@ -1,5 +1,5 @@
 use Rattle.std.proofs.Common.{◌≡◌, drop}
-use Rattle.tc_model.specs.Seen.{trees}
+use Rattle.tc_model.specs.Views.{trees}
 use Rattle.tc_top.specs.FirstFits as first_fits
 use Rattle.tc_top.specs.FirstSeen.{schema_from}
 use Rattle.tc_top.proofs.first.decide.+fits.Given as goal

@@ -1,6 +1,6 @@
 use Rattle.std.proofs.Common.{◌≡◌, ◌==◌, length, sym, ap, ◌∙◌, eq-eqb, eqb-true}
 use Rattle.std.proofs.lemmas.Bool.{and_parts, and_from}
-use Rattle.tc_model.specs.Seen.{trees}
+use Rattle.tc_model.specs.Views.{trees}
 use Rattle.tc_top.specs.FirstSeen.{schema, schema_from}
 use Rattle.tc_top.specs.FirstFits.{width, all_pass, fits}
 use Rattle.tc_top.proofs.FirstLawsViews.{width_trees}

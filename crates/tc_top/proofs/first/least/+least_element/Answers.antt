@@ -1,6 +1,6 @@
 use Rattle.std.proofs.Common.{ap, sym, ◌∙◌}
 use Rattle.tc_model.specs.Trees.{none, element}
-use Rattle.tc_model.specs.Seen.{trees}
+use Rattle.tc_model.specs.Views.{trees}
 use Rattle.tc_model.proofs.Views.{before_elem}
 use Rattle.tc_top.specs.FirstForm.{plain_name}
 use Rattle.tc_top.proofs.FirstLawsViews.{least_of_nothing, least_without, least_around}

@@ -3,7 +3,7 @@ use Rattle.std.proofs.lemmas.Bool.Decides.{Decides-eqb}
 use Rattle.std.proofs.lemmas.Slice.Eq.{starts_is}
 use Rattle.tc_model.specs.declared.tree.Node.{Node}
 use Rattle.tc_model.specs.Trees.{none, element, beside}
-use Rattle.tc_model.specs.Seen.{trees}
+use Rattle.tc_model.specs.Views.{trees}
 use Rattle.tc_model.proofs.Views.{before_elem}
 use Rattle.tc_top.specs.FirstForm.{plain_name}
 use Rattle.tc_top.specs.FirstText.{TagAt, BodyAt, at_end_tag, an_element, with_one_tag, with_two_tags}

@@ -1,6 +1,6 @@
 use Rattle.std.proofs.Common.{◌*◌, ◌+◌, ◌≤◌, List, ℕ, length}
 use Rattle.tc_model.specs.Trees.{Trees, beside}
-use Rattle.tc_model.specs.Seen.{trees}
+use Rattle.tc_model.specs.Views.{trees}
 use Rattle.tc_top.specs.FirstText.{BodyAt}
 use Rattle.tc_top.proofs.first.sheet.+body.Given as goal
 

@@ -1,5 +1,5 @@
 use Rattle.std.proofs.Common.{subst}
-use Rattle.tc_model.specs.Seen.{trees}
+use Rattle.tc_model.specs.Views.{trees}
 use Rattle.tc_top.specs.FirstText.{BodyAt, sheet_end}
 use Rattle.tc_top.proofs.FirstText.{sheet_ends, equal, unequal}
 use Rattle.tc_top.proofs.first.sheet.read_sheet.Goals as goal

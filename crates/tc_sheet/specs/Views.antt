@@ -1,10 +1,10 @@
 -- What contracts see of a stylesheet as it is written.
 use Rattle.std.specs.Prelude.{List, [], ◌∷◌, map, Option, None, Some, option_map}
-use Rattle.tc_model.specs.Seen.{name, place, path, test, attribute, bound}
+use Rattle.tc_model.specs.Views.{name, place, path, test, attribute, bound}
 use Rattle.tc_model.specs.SheetTextTrees as s
 use Rattle.tc_model.specs.SheetTextPhrases.{Tag, Instruction, i_apply, i_call, i_value, i_each, i_if, i_choose, i_text, i_copy, i_element, i_attribute, i_copy_of}
 use Rattle.tc_model.specs.declared.tree.RawElem.{RawElem}
-use Rattle.tc_path.specs.Seen.{alternative}
+use Rattle.tc_path.specs.Views.{alternative}
 use Rattle.tc_sheet.specs.declared.written.WrittenBranch.{WrittenBranch, WrittenBranch-F}
 use Rattle.tc_sheet.specs.declared.written.Written.{Written, Written-F}
 use Rattle.tc_sheet.specs.declared.written.Written.TheFolds.{fold-Written}

@@ -1,7 +1,7 @@
 -- What contracts see of predicates, moves and looks: the same data without addresses.
 use Rattle.std.specs.Prelude.{ℕ, ◌+◌, List, map}
 use Rattle.std.specs.Borrow.{Bor}
-use Rattle.tc_model.specs.Seen as see
+use Rattle.tc_model.specs.Views as see
 use Rattle.tc_model.specs.Sheets as s
 use Rattle.tc_model.specs.Numberings as n
 use Rattle.tc_model.specs.declared.sheet.Test.{Test}

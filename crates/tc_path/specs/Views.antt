@@ -1,10 +1,10 @@
 -- What contracts see of tokens and patterns.
 use Rattle.std.specs.Prelude.{List, [], ◌∷◌, map, Option, None, Some}
-use Rattle.tc_model.specs.Seen.{match_pattern}
+use Rattle.tc_model.specs.Views.{match_pattern}
 use Rattle.tc_model.specs.PathTextTokens as t
 use Rattle.tc_model.specs.PathTextPhrases as p
 use Rattle.tc_model.specs.declared.sheet.Alt.{Alt}
-use Rattle.tc_scan.specs.Seen.{written_name}
+use Rattle.tc_scan.specs.Views.{written_name}
 use Rattle.tc_path.specs.declared.token.Mark.{Mark}
 use Rattle.tc_path.specs.declared.token.Mark.TheVariants as marks
 use Rattle.tc_path.specs.declared.token.Token.{Token}

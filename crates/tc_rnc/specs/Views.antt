@@ -1,6 +1,6 @@
 -- What contracts see of tokens and of syntax trees in an arena: the same data without addresses.
 use Rattle.std.specs.Prelude.{List, [], ◌∷◌, map}
-use Rattle.tc_model.specs.Seen.{name, place}
+use Rattle.tc_model.specs.Views.{name, place}
 use Rattle.tc_model.specs.CompactSyntaxTokens as m
 use Rattle.tc_model.specs.CompactSyntaxTrees as t
 use Rattle.tc_rnc.specs.declared.tokens.Word.{Word}

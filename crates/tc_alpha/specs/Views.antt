@@ -1,6 +1,6 @@
 -- What contracts see of mentions: the same data without addresses.
 use Rattle.std.specs.Prelude.{List, map}
-use Rattle.tc_model.specs.Seen as see
+use Rattle.tc_model.specs.Views as see
 use Rattle.tc_model.specs.Symbols as m
 use Rattle.tc_alpha.specs.declared.mentions.Mention.{Mention}
 use Rattle.tc_alpha.specs.declared.mentions.Mention.TheVariants.{Name, Namespace}

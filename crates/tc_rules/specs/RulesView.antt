@@ -7,10 +7,10 @@ use Rattle.tc_model.specs.Symbols.{Mention, symbols_of}
 use Rattle.tc_model.specs.Letters.{Letter}
 use Rattle.tc_model.specs.PathStates.{State, next_state, is_hit, path_of_rules}
 use Rattle.tc_model.specs.Numberings.{predicates_of, moves_of}
-use Rattle.tc_model.specs.StateCounts.{Block, blocks_of, all_count, some_item}
+use Rattle.tc_model.specs.StateCounts.{PathUse, blocks_of, all_count, some_item}
 use Rattle.tc_rules.specs.Graphs.{Graph, IsGraphOf}
 
-pub record Told : Type 0 where
+pub record RulesView : Type 0 where
   pub sheet : Sheet
   pub predicates : List Test
   -- the bodies of for-each instructions, by their numbers
@@ -27,14 +27,14 @@ AreSymbolsWith symbols s = (input : Grammar) × (output : Grammar) × (symbols �
 abbrev pub count_states : List Graph → ℕ
 count_states gs = sum (map (λ g. length g.states) gs)
 
-abbrev pub select_count : Told → ℕ
+abbrev pub select_count : RulesView → ℕ
 select_count t = count_states t.selects
 
-abbrev pub move_count : Told → ℕ
+abbrev pub move_count : RulesView → ℕ
 move_count t = count_states (take (length (moves_of t.sheet)) t.selects)
 
 -- it tells the meaning of a well-formed stylesheet over these symbols, and keeps within the limits
-pub record IsTold (symbols : List Mention) (t : Told) : Type 0 where
+pub record IsTold (symbols : List Mention) (t : RulesView) : Type 0 where
   pub well_formed : IsSheet t.sheet
   pub symbols_are : AreSymbolsWith symbols t.sheet
   pub predicates_are : t.predicates ≡ predicates_of t.sheet
@@ -43,13 +43,13 @@ pub record IsTold (symbols : List Mention) (t : Told) : Type 0 where
   pub all_eaches : length t.eaches ≡ t.sheet.eaches
   pub ancestors : IsGraphOf symbols (predicates_of t.sheet) all_count (path_of_rules t.sheet.rules) t.ancestors
   pub few_ancestors : length t.ancestors.states ≤ 64
-  pub selects : (i : ℕ) (b : Block) → slice_get (blocks_of t.sheet) i ≡ Some b
+  pub selects : (i : ℕ) (b : PathUse) → slice_get (blocks_of t.sheet) i ≡ Some b
       → (g : Graph) × (slice_get t.selects i ≡ Some g) × IsGraphOf symbols (predicates_of t.sheet) some_item b.path g
   pub all_selects : length t.selects ≡ length (blocks_of t.sheet)
   pub few_selects : select_count t ≤ 4096
 
 -- a select state: its number goes on through all moves and then through all looks
-pub record IsStateOf (t : Told) (k : ℕ) (b : Block) (x : State) : Type 0 where
+pub record IsStateOf (t : RulesView) (k : ℕ) (b : PathUse) (x : State) : Type 0 where
   pub place : ℕ
   pub block : slice_get (blocks_of t.sheet) place ≡ Some b
   pub graph : Graph
@@ -59,17 +59,17 @@ pub record IsStateOf (t : Told) (k : ℕ) (b : Block) (x : State) : Type 0 where
   pub number_is : k ≡ count_states (take place t.selects) + number
 
 -- the ancestor state of a number
-abbrev pub ancestor : Told → ℕ → State
+abbrev pub ancestor : RulesView → ℕ → State
 ancestor t q = get_or t.ancestors.states q []
 
-module _ (symbols : List Mention) (t : Told) where
+module _ (symbols : List Mention) (t : RulesView) where
   -- the ancestor state one element further down
   abbrev pub ancestor_below : ℕ → Letter → State
   ancestor_below q l = next_state symbols (predicates_of t.sheet) (path_of_rules t.sheet.rules) (ancestor t q) l
 
   -- the select state one element further down, and whether a node is a hit
-  abbrev pub select_below : Block → State → Letter → State
+  abbrev pub select_below : PathUse → State → Letter → State
   select_below b x l = next_state symbols (predicates_of t.sheet) b.path x l
 
-  abbrev pub is_hit_of : Block → State → Letter → Bool
+  abbrev pub is_hit_of : PathUse → State → Letter → Bool
   is_hit_of b x l = is_hit symbols (predicates_of t.sheet) b.path x l

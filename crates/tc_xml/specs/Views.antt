@@ -1,7 +1,7 @@
 -- What contracts see of what is gathered.
 use Rattle.std.specs.Prelude.{string_bytes}
 use Rattle.tc_model.specs.RawTrees.{RawTrees, beside}
-use Rattle.tc_model.specs.Seen.{place, raw_trees}
+use Rattle.tc_model.specs.Views.{place, raw_trees}
 use Rattle.tc_model.specs.XmlTextContent.{characters_before}
 use Rattle.tc_xml.specs.declared.content.Run.{Run}
 use Rattle.tc_xml.specs.declared.content.Run.TheVariants.{Nothing, Begun}

@@ -2,7 +2,7 @@
 use Rattle.std.specs.Prelude.{◌≡◌, ◌<◌, ℕ, List, [], ◌∷◌, length}
 use Rattle.tc_model.specs.Trees.{Trees}
 use Rattle.tc_model.specs.Chains.{an_element, a_text, Node, whole, one, children, string_value}
-use Rattle.tc_model.specs.Seen.{name}
+use Rattle.tc_model.specs.Views.{name}
 use Rattle.tc_run.specs.Lettered as l
 use Rattle.tc_run.specs.Running.{told_by, IsLetteredBy}
 use Rattle.tc_run.specs.declared.runner.Runner.{Runner}
