@@ -6,7 +6,7 @@ ghost use Rattle.tc_model.specs.Grammars as g;
 ghost use Rattle.tc_model.specs.Names.{ExpandedName, IsName};
 ghost use Rattle.tc_model.specs.Views as see;
 ghost use Rattle.tc_model.specs.Sheets as s;
-ghost use Rattle.tc_model.specs.Symbols.{AreAlike, AreSymbols, IsAlikeBySymbol, free_local, free_namespace, fresh_name, in_order, mention_cmp, place_of, symbol_count, symbol_of, symbols_of};
+ghost use Rattle.tc_model.specs.Symbols.{AreAlike, AreSymbols, GiveSymbols, IsAlikeBySymbol, IsSymbolOfFresh, free_local, free_namespace, fresh_name, in_order, mention_cmp, place_of, symbol_count, symbol_of, symbols_of};
 ghost use Rattle.tc_model.specs.WellFormed.{IsSheet};
 
 use crate::mentions::{Mention, mention_grammar, mention_sheet, with_namespaces};
@@ -19,9 +19,11 @@ use tc_base::NoMemory;
 use tc_model::{Grammar, Name, Sheet};
 
 /// The law of symbols: names of one symbol are in the same name classes and pass the same node tests of the
-/// schemas and the stylesheet.
+/// schemas and the stylesheet, and the name that stands for a symbol has it.
 pub fn law_of_symbols()
-    ensures { IsAlikeBySymbol }
+    ensures alike { IsAlikeBySymbol }
+    ensures fresh { IsSymbolOfFresh }
+    ensures symbols { GiveSymbols }
 {}
 
 /// How many symbols there may be.

@@ -4,3 +4,4 @@ pub mod Loops
 pub mod Folds
 pub mod RowLists
 pub mod Totals
+pub mod Bounds

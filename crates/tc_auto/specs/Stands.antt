@@ -17,6 +17,13 @@ abbrev pub side_of : Bool → Side
 side_of true = output
 side_of false = input
 
+-- how many states an automaton has, and how many element patterns its schema
+abbrev pub states : Auto → ℕ
+states a = length a.rows.items
+
+abbrev pub patterns : Auto → ℕ
+patterns a = length a.elements.now
+
 -- the edges of a state, and whether it accepts
 pub record IsRow (g : Grammar) (side : Side) (i : ℕ) (row : Row) : Type 0 where
   pub edge : (e : Edge) → Contains row.edges.items e ↔ IsEdge g side i (leaf e.leaf) e.to

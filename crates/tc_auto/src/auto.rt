@@ -1,8 +1,8 @@
 // Automata of schemas.
-ghost use Rattle.std.specs.Prelude.{◌≡◌, ◌<◌, ◌+◌, ◌^◌, length};
+ghost use Rattle.std.specs.Prelude.{◌≡◌, ◌<◌, ◌≤◌, ◌+◌, ◌^◌, ℕ, All, length, slice_index};
 
 use crate::make::made;
-use crate::membership::{has_alternative, is_in_class};
+use crate::membership::{has_alternative, has_content_with_text, is_in_class};
 use crate::rows::Row;
 use std::alloc::Global;
 use tc_model::{ElemPat, Grammar, Name, Pat};
@@ -41,15 +41,18 @@ pub struct Auto<'b> {
     ghost counted: { length rows.items < 2 ^ 32 },
     ghost parted: { length firsts.items ≡ length elements.now + 1 },
     ghost numbered: { length elements.now < 2 ^ 32 },
+    ghost within: { All (λ row. All (λ edge. edge.to < length rows.items) row.edges.items) rows.items },
+    ghost begun: { (k : ℕ) → k < length firsts.items → slice_index firsts.items k ≤ length rows.items },
+    ghost begun_below: { (k : ℕ) → 1 ≤ k → k < length firsts.items → slice_index firsts.items k < length rows.items },
 }
 
 impl<'b> Auto<'b> {
-    ghost use Rattle.std.specs.Prelude.{◌≡◌, ◌<◌, ◌≤◌, ◌↔◌, ℕ, suc, Some, IfOk, IsTrue, Err, length};
+    ghost use Rattle.std.specs.Prelude.{◌≡◌, ◌<◌, ◌≤◌, ◌↔◌, ℕ, suc, All, Some, IfOk, IsTrue, Err};
     ghost use Rattle.std.specs.List.{Contains};
     ghost use Rattle.tc_model.specs.Grammars as g;
     ghost use Rattle.tc_model.specs.Views as see;
     ghost use Rattle.tc_model.specs.States as s;
-    ghost use Rattle.tc_auto.specs.Stands.{Stands, RunsExactly};
+    ghost use Rattle.tc_auto.specs.Stands.{Stands, RunsExactly, states, patterns};
     ghost use Rattle.tc_auto.specs.Steps.{leaf};
     ghost use Rattle.tc_auto.specs.declared.auto.Edge.{Edge};
 
@@ -75,7 +78,7 @@ impl<'b> Auto<'b> {
 
     /// The number of element patterns.
     pub fn patterns(&self) -> u32
-        ensures here { result ≡ length self.now.elements.now }
+        ensures here { result ≡ patterns self.now }
         ensures schema { (side : s.Side) (x : g.Grammar) → Stands side x self.now → result ≡ length x.elements }
     {
         self.elements.len() as u32
@@ -83,31 +86,47 @@ impl<'b> Auto<'b> {
 
     /// The number of states.
     pub fn states(&self) -> u32
-        ensures here { result ≡ length self.now.rows.items }
+        ensures here { result ≡ states self.now }
         ensures schema { (side : s.Side) (x : g.Grammar) → Stands side x self.now → result ≡ s.state_count x side }
     {
         self.rows.len() as u32
     }
 
-    /// The first state of a part, from which its runs begin.
+    /// The first state of a part, from which its runs begin. An input schema's part 0 has no state.
     pub fn first(&self, part: u32) -> u32
-        requires { part ≤ length self.now.elements.now }
-        ensures { (side : s.Side) (x : g.Grammar) → Stands side x self.now → result ≡ s.first_state x side part }
+        requires { part ≤ patterns self.now }
+        ensures within { result ≤ states self.now }
+        ensures below { 1 ≤ part → result < states self.now }
+        ensures exact { (side : s.Side) (x : g.Grammar) → Stands side x self.now → result ≡ s.first_state x side part }
     {
         self.firsts[part as usize]
     }
 
-    /// The edges from a state.
+    /// The state behind the last one of a part.
+    pub fn end(&self, part: u32) -> u32
+        requires { part ≤ patterns self.now }
+        ensures within { result ≤ states self.now }
+        ensures exact { (side : s.Side) (x : g.Grammar) → Stands side x self.now → result ≡ s.first_state x side (suc part) }
+    {
+        if part < self.patterns() {
+            self.first(part + 1)
+        } else {
+            self.states()
+        }
+    }
+
+    /// The edges from a state, which lead to states.
     pub fn follow(&self, state: u32) -> &[Edge]
-        requires { state < length self.now.rows.items }
-        ensures { (side : s.Side) (x : g.Grammar) → Stands side x self.now → (e : Edge) → Contains result.now e ↔ s.IsEdge x side state (leaf e.leaf) e.to }
+        requires { state < states self.now }
+        ensures within { All (λ (e : Edge). e.to < states self.now) result.now }
+        ensures exact { (side : s.Side) (x : g.Grammar) → Stands side x self.now → (e : Edge) → Contains result.now e ↔ s.IsEdge x side state (leaf e.leaf) e.to }
     {
         self.rows[state as usize].edges.as_slice()
     }
 
     /// Whether a state accepts.
     pub fn accepts(&self, state: u32) -> bool
-        requires { state < length self.now.rows.items }
+        requires { state < states self.now }
         ensures { (side : s.Side) (x : g.Grammar) → Stands side x self.now → IsTrue result ↔ s.IsAccepting x side state }
     {
         self.rows[state as usize].accepting
@@ -116,7 +135,7 @@ impl<'b> Auto<'b> {
     /// Whether a name is in the name class of an element pattern.
     pub fn allows(&self, number: u32, name: &Name<'_>) -> bool
         requires from_one { 1 ≤ number }
-        requires within { number ≤ length self.now.elements.now }
+        requires within { number ≤ patterns self.now }
         ensures { (side : s.Side) (x : g.Grammar) → Stands side x self.now → (e : g.ElementPattern) → g.element_at x.elements number ≡ Some e → result ≡ g.in_class e.names (see.name name.now) }
     {
         is_in_class(&self.elements[number as usize - 1].names, name)
@@ -127,5 +146,12 @@ impl<'b> Auto<'b> {
         ensures { (side : s.Side) (x : g.Grammar) → Stands side x self.now → result ≡ s.is_alternative number x.start }
     {
         has_alternative(&self.start, number)
+    }
+    /// Whether `text` is written in the content of some element pattern, also where nothing can match it
+    /// there, as beside `notAllowed`.
+    pub fn has_text(&self) -> bool
+        ensures { (side : s.Side) (x : g.Grammar) → Stands side x self.now → result ≡ g.some_content_has_text x.elements }
+    {
+        has_content_with_text(self.elements)
     }
 }

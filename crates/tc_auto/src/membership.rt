@@ -1,11 +1,12 @@
-// Names of name classes, and alternatives of patterns.
+// Names of name classes, alternatives of patterns, and texts in them.
 ghost use Rattle.std.specs.Prelude.{◌≡◌};
-ghost use Rattle.tc_model.specs.Grammars.{in_class, in_some_class};
+ghost use Rattle.std.specs.List.{list_any};
+ghost use Rattle.tc_model.specs.Grammars.{have_text, has_text, in_class, in_some_class};
 ghost use Rattle.tc_model.specs.Views as see;
 ghost use Rattle.tc_model.specs.Views.{classes, pattern, patterns};
 ghost use Rattle.tc_model.specs.States.{is_alternative, is_one_alternative};
 
-use tc_model::{Name, NameClass, Pat};
+use tc_model::{ElemPat, Name, NameClass, Pat};
 
 /// Whether a name is in a name class (RELAX NG Specification, 6.1).
 #[cycle(classes)]
@@ -63,4 +64,42 @@ fn has_one_alternative(members: &[Pat<'_>], number: u32) -> bool
         }
     }
     false
+}
+
+/// Whether `text` is written in a pattern, also where nothing can match it there.
+#[cycle(texts)]
+#[tactic(auto, using(tc_model::proofs::ViewsGrammar::see_pattern))]
+pub fn is_with_text(pat: &Pat<'_>) -> bool
+    ensures { result ≡ has_text (pattern pat.now) }
+{
+    match pat {
+        Pat::Text => true,
+        Pat::Empty | Pat::NotAllowed | Pat::Ref(_) => false,
+        Pat::Group(members) | Pat::Choice(members) | Pat::Interleave(members) => {
+            is_some_with_text(members)
+        }
+        Pat::OneOrMore(member) => is_with_text(member),
+    }
+}
+
+#[cycle(texts)]
+#[tactic(auto, using(tc_model::proofs::ViewsGrammar::left_pattern))]
+fn is_some_with_text(members: &[Pat<'_>]) -> bool
+    ensures { result ≡ have_text (patterns members.now) }
+{
+    for member in members {
+        if is_with_text(member) {
+            return true;
+        }
+    }
+    false
+}
+
+/// Whether `text` is written in the content of one of some element patterns.
+pub fn has_content_with_text(elements: &[ElemPat<'_>]) -> bool
+    ensures { result ≡ list_any (λ (e : ElemPat). has_text (pattern e.content)) elements.now }
+{
+    elements
+        .iter()
+        .any(|element| is_with_text(&element.content))
 }

@@ -98,11 +98,23 @@ impl<'b> Hedge<'b> {
         self.symbols
     }
 
+    /// Whether the names of a symbol are in the name class of an element pattern.
+    pub fn allows(&self, number: u32, sym: Sym) -> bool
+        requires from_one { 1 ≤ number }
+        requires within { number ≤ a.patterns self.now.auto }
+        requires symbol { sym.0 < self.now.symbols }
+        ensures { (side : s.Side) (x : g.Grammar) (symbols : List Mention) → Stands side x symbols self.now → (name : n.ExpandedName) → symbol_of symbols name ≡ sym.0 → (e : g.ElementPattern) → g.element_at x.elements number ≡ Some e → result ≡ g.in_class e.names name }
+    {
+        let patterns = self.auto.patterns() as usize;
+        let start = sym.0 as usize * patterns;
+        self.allowed[start + (number as usize - 1)]
+    }
+
     /// The first state of a part.
     pub(crate) fn first(&self, part: u32) -> u32
-        requires { part ≤ length self.now.auto.elements.now }
+        requires { part ≤ a.patterns self.now.auto }
         ensures exact { (side : s.Side) (x : g.Grammar) → a.Stands side x self.now.auto → result ≡ s.first_state x side part }
-        ensures within { result ≤ length self.now.auto.rows.items }
+        ensures within { result ≤ a.states self.now.auto }
     {
         self.auto.first(part)
     }
@@ -110,18 +122,18 @@ impl<'b> Hedge<'b> {
     /// The first state of the content of an element pattern.
     pub(crate) fn first_of_content(&self, number: u32) -> u32
         requires from_one { 1 ≤ number }
-        requires within { number ≤ length self.now.auto.elements.now }
+        requires within { number ≤ a.patterns self.now.auto }
         ensures exact { (side : s.Side) (x : g.Grammar) → a.Stands side x self.now.auto → result ≡ s.first_state x side number }
-        ensures below { result < length self.now.auto.rows.items }
+        ensures below { result < a.states self.now.auto }
     {
         self.first(number)
     }
 
     /// The state behind the last one of a part.
     pub(crate) fn end(&self, part: u32) -> u32
-        requires { part ≤ length self.now.auto.elements.now }
+        requires { part ≤ a.patterns self.now.auto }
         ensures exact { (side : s.Side) (x : g.Grammar) → a.Stands side x self.now.auto → result ≡ s.first_state x side (suc part) }
-        ensures within { result ≤ length self.now.auto.rows.items }
+        ensures within { result ≤ a.states self.now.auto }
     {
         if part < self.auto.patterns() {
             self.first(part + 1)
@@ -132,17 +144,17 @@ impl<'b> Hedge<'b> {
 
     /// The edges from a state.
     pub(crate) fn edges(&self, state: u32) -> &[Edge]
-        requires { state < length self.now.auto.rows.items }
+        requires { state < a.states self.now.auto }
         ensures exact { (side : s.Side) (x : g.Grammar) → a.Stands side x self.now.auto → (e : Edge) → Contains result.now e ↔ s.IsEdge x side state (see_leaf e.leaf) e.to }
-        ensures within { All (λ (e : Edge). e.to < length self.now.auto.rows.items) result.now }
+        ensures within { All (λ (e : Edge). e.to < a.states self.now.auto) result.now }
     {
         self.auto.follow(state)
     }
 
     /// Whether a set of pairs leads the first state of a content to an accepting state of that content.
     fn is_taken(&self, inner: &Mat, number: u32) -> bool
-        requires within { number ≤ length self.now.auto.elements.now }
-        requires size { inner.now.size ≡ length self.now.auto.rows.items }
+        requires within { number ≤ a.patterns self.now.auto }
+        requires size { inner.now.size ≡ a.states self.now.auto }
         ensures { (side : s.Side) (x : g.Grammar) → a.Stands side x self.now.auto → (e : g.ElementPattern) → g.element_at x.elements number ≡ Some e → IsTrue result ↔ IsTaken x side inner.now number e }
     {
         let first = self.first(number);
@@ -157,7 +169,7 @@ impl<'b> Hedge<'b> {
 
     /// Whether an element pattern takes an element.
     fn is_taken_around(&self, allowed: &[bool], inner: &Mat, number: u32) -> bool
-        requires { inner.now.size ≡ length self.now.auto.rows.items }
+        requires { inner.now.size ≡ a.states self.now.auto }
         ensures { (side : s.Side) (x : g.Grammar) → a.Stands side x self.now.auto → IsTrue result ↔ IsTakenAround x side allowed.now inner.now number }
     {
         if number == 0 || number > self.auto.patterns() {
@@ -168,7 +180,7 @@ impl<'b> Hedge<'b> {
 
     /// Whether a leaf takes an item.
     fn takes(&self, item: &Item<'_>, leaf: Leaf) -> bool
-        requires { IsSized (length self.now.auto.rows.items) item.now }
+        requires { IsSized (a.states self.now.auto) item.now }
         ensures { (side : s.Side) (x : g.Grammar) → a.Stands side x self.now.auto → IsTrue result ↔ Takes x side item.now (see_leaf leaf) }
     {
         match item {
@@ -182,9 +194,9 @@ impl<'b> Hedge<'b> {
 
     /// Puts the pairs of an item that begin at a state.
     fn put_from(&self, item: &Item<'_>, state: u32, out: &mut Mat)
-        requires item { IsSized (length self.now.auto.rows.items) item.now }
-        requires state { state < length self.now.auto.rows.items }
-        requires out { out.old.size ≡ length self.now.auto.rows.items }
+        requires item { IsSized (a.states self.now.auto) item.now }
+        requires state { state < a.states self.now.auto }
+        requires out { out.old.size ≡ a.states self.now.auto }
         requires matrix { IsMatrix out.old }
         ensures size { out.new.size ≡ out.old.size }
         ensures matrix { IsMatrix out.new }
@@ -199,8 +211,8 @@ impl<'b> Hedge<'b> {
 
     /// Leaves the pairs of an item, whatever the set held.
     fn put(&self, item: &Item<'_>, out: &mut Mat)
-        requires item { IsSized (length self.now.auto.rows.items) item.now }
-        requires out { out.old.size ≡ length self.now.auto.rows.items }
+        requires item { IsSized (a.states self.now.auto) item.now }
+        requires out { out.old.size ≡ a.states self.now.auto }
         ensures size { out.new.size ≡ out.old.size }
         ensures matrix { IsMatrix out.new }
         ensures pairs { (side : s.Side) (x : g.Grammar) → a.Stands side x self.now.auto → (i j : ℕ) → HasPair out.new i j ↔ IsStep x side item.now i j }
@@ -213,7 +225,7 @@ impl<'b> Hedge<'b> {
 
     /// Leaves the pairs of a text that isn't white space alone, whatever the set held. It takes no memory.
     pub fn text_into(&self, out: &mut Mat)
-        requires { out.old.size ≡ length self.now.auto.rows.items }
+        requires { out.old.size ≡ a.states self.now.auto }
         ensures size { out.new.size ≡ out.old.size }
         ensures matrix { IsMatrix out.new }
         ensures pairs { (side : s.Side) (x : g.Grammar) → a.Stands side x self.now.auto → ArePairsOfText x side out.new }
@@ -225,8 +237,8 @@ impl<'b> Hedge<'b> {
     /// set held. It takes no memory.
     pub fn element_into(&self, sym: Sym, inner: &Mat, out: &mut Mat)
         requires symbol { sym.0 < self.now.symbols }
-        requires inner { inner.now.size ≡ length self.now.auto.rows.items }
-        requires out { out.old.size ≡ length self.now.auto.rows.items }
+        requires inner { inner.now.size ≡ a.states self.now.auto }
+        requires out { out.old.size ≡ a.states self.now.auto }
         ensures size { out.new.size ≡ out.old.size }
         ensures matrix { IsMatrix out.new }
         ensures pairs { (side : s.Side) (x : g.Grammar) (symbols : List Mention) → Stands side x symbols self.now → (name : n.ExpandedName) → symbol_of symbols name ≡ sym.0 → ArePairsAround x side name inner.now out.new }
@@ -240,8 +252,8 @@ impl<'b> Hedge<'b> {
 
     /// The pairs of an element of a name, around a set of pairs inside it.
     fn matrix_around(&self, name: &Name<'_>, inner: &Mat) -> Result<Mat, NoMemory>
-        requires { inner.now.size ≡ length self.now.auto.rows.items }
-        ensures size { IfOk result (λ m. m.size ≡ length self.now.auto.rows.items) }
+        requires { inner.now.size ≡ a.states self.now.auto }
+        ensures size { IfOk result (λ m. m.size ≡ a.states self.now.auto) }
         ensures matrix { IfOk result (λ m. IsMatrix m) }
         ensures pairs { IfOk result (λ m. (side : s.Side) (x : g.Grammar) → a.Stands side x self.now.auto → ArePairsAround x side (see.name name.now) inner.now m) }
     {
@@ -254,7 +266,7 @@ impl<'b> Hedge<'b> {
 
     /// The pairs of a text.
     fn matrix_of_text(&self, text: &str) -> Result<Mat, NoMemory>
-        ensures size { IfOk result (λ m. m.size ≡ length self.now.auto.rows.items) }
+        ensures size { IfOk result (λ m. m.size ≡ a.states self.now.auto) }
         ensures matrix { IfOk result (λ m. IsMatrix m) }
         ensures pairs { IfOk result (λ m. (side : s.Side) (x : g.Grammar) → a.Stands side x self.now.auto → ArePairsOf x side (t.text text.now t.none) m) }
     {
@@ -270,7 +282,7 @@ impl<'b> Hedge<'b> {
     /// The pairs of one tree.
     #[cycle(matrices)]
     fn matrix_of_tree(&self, node: &Node<'_>) -> Result<Mat, NoMemory>
-        ensures size { IfOk result (λ m. m.size ≡ length self.now.auto.rows.items) }
+        ensures size { IfOk result (λ m. m.size ≡ a.states self.now.auto) }
         ensures matrix { IfOk result (λ m. IsMatrix m) }
         ensures pairs { IfOk result (λ m. (side : s.Side) (x : g.Grammar) → a.Stands side x self.now.auto → ArePairsOf x side (see.before node.now t.none) m) }
     {
@@ -291,7 +303,7 @@ impl<'b> Hedge<'b> {
     /// There is no memory for the sets.
     #[cycle(matrices)]
     pub fn matrix_of(&self, nodes: &[Node<'_>]) -> Result<Mat, NoMemory>
-        ensures size { IfOk result (λ m. m.size ≡ length self.now.auto.rows.items) }
+        ensures size { IfOk result (λ m. m.size ≡ a.states self.now.auto) }
         ensures matrix { IfOk result (λ m. IsMatrix m) }
         ensures pairs { IfOk result (λ m. (side : s.Side) (x : g.Grammar) → a.Stands side x self.now.auto → ArePairsOf x side (see.trees nodes.now) m) }
         ensures output { IfOk result (λ m. (x : g.Grammar) → a.Stands s.output x self.now.auto → IsValidOutput x (see.trees nodes.now) ↔ ((j : ℕ) × HasPair m 0 j × (s.automaton x.start).accepting j)) }

@@ -44,9 +44,9 @@ fn put_steps(
     state: u32,
     next: &mut Vec<u32>,
 ) -> Result<(), NoMemory>
-    requires state { state < length hedge.now.auto.rows.items }
+    requires state { state < a.states hedge.now.auto }
     ensures made { OnOk result ((side : s.Side) (x : g.Grammar) → a.Stands side x hedge.now.auto → Grows next.old.items next.new.items (Steps x side passage.now state)) }
-    ensures below { OnOk result (AreBelow (length hedge.now.auto.rows.items) next.old.items → AreBelow (length hedge.now.auto.rows.items) next.new.items) }
+    ensures below { OnOk result (AreBelow (a.states hedge.now.auto) next.old.items → AreBelow (a.states hedge.now.auto) next.new.items) }
 {
     for edge in hedge.edges(state) {
         if passes(passage, edge.leaf) {
@@ -62,9 +62,9 @@ pub(crate) fn step(
     passage: &Passage<'_>,
     states: &[u32],
 ) -> Result<Vec<u32>, NoMemory>
-    requires { AreBelow (length hedge.now.auto.rows.items) states.now }
+    requires { AreBelow (a.states hedge.now.auto) states.now }
     ensures made { IfOk result (λ v. (side : s.Side) (x : g.Grammar) → a.Stands side x hedge.now.auto → IsMade v.items (Makes (Steps x side passage.now) states.now)) }
-    ensures below { IfOk result (λ v. AreBelow (length hedge.now.auto.rows.items) v.items) }
+    ensures below { IfOk result (λ v. AreBelow (a.states hedge.now.auto) v.items) }
 {
     let mut next = Vec::new(hedge.alloc);
     for state in states {
@@ -75,7 +75,7 @@ pub(crate) fn step(
 
 /// Puts the numbers of the element patterns that edges from a state take.
 fn put_leaving(hedge: &Hedge<'_>, state: u32, numbers: &mut Vec<u32>) -> Result<(), NoMemory>
-    requires state { state < length hedge.now.auto.rows.items }
+    requires state { state < a.states hedge.now.auto }
     ensures made { OnOk result ((side : s.Side) (x : g.Grammar) → a.Stands side x hedge.now.auto → Grows numbers.old.items numbers.new.items (Leaves x side state)) }
 {
     for edge in hedge.edges(state) {
@@ -89,7 +89,7 @@ fn put_leaving(hedge: &Hedge<'_>, state: u32, numbers: &mut Vec<u32>) -> Result<
 
 /// The numbers of the element patterns that edges from some states take.
 pub(crate) fn leaving(hedge: &Hedge<'_>, states: &[u32]) -> Result<Vec<u32>, NoMemory>
-    requires { AreBelow (length hedge.now.auto.rows.items) states.now }
+    requires { AreBelow (a.states hedge.now.auto) states.now }
     ensures { IfOk result (λ v. (side : s.Side) (x : g.Grammar) → a.Stands side x hedge.now.auto → IsMade v.items (Makes (Leaves x side) states.now)) }
 {
     let mut numbers = Vec::new(hedge.alloc);
@@ -102,7 +102,7 @@ pub(crate) fn leaving(hedge: &Hedge<'_>, states: &[u32]) -> Result<Vec<u32>, NoM
 /// Whether a name is in the class of the element pattern of a number.
 fn is_named(hedge: &Hedge<'_>, name: &Name<'_>, number: u32) -> bool
     ensures made { (side : s.Side) (x : g.Grammar) → a.Stands side x hedge.now.auto → IsTrue result ↔ IsNamed x (see.name name.now) number }
-    ensures within { IsTrue result → (1 ≤ number) × (number ≤ length hedge.now.auto.elements.now) }
+    ensures within { IsTrue result → (1 ≤ number) × (number ≤ a.patterns hedge.now.auto) }
 {
     if number == 0 || number > hedge.auto.patterns() {
         return false;
@@ -117,7 +117,7 @@ pub(crate) fn named(
     numbers: &[u32],
 ) -> Result<Vec<u32>, NoMemory>
     ensures made { IfOk result (λ v. (side : s.Side) (x : g.Grammar) → a.Stands side x hedge.now.auto → IsMade v.items (λ k. Contains numbers.now k × IsNamed x (see.name name.now) k)) }
-    ensures within { IfOk result (λ v. AreNumbers (length hedge.now.auto.elements.now) v.items) }
+    ensures within { IfOk result (λ v. AreNumbers (a.patterns hedge.now.auto) v.items) }
 {
     let mut found = Vec::new(hedge.alloc);
     for number in numbers {
@@ -130,9 +130,9 @@ pub(crate) fn named(
 
 /// The first states of the contents of some numbers.
 pub(crate) fn firsts(hedge: &Hedge<'_>, numbers: &[u32]) -> Result<Vec<u32>, NoMemory>
-    requires { AreNumbers (length hedge.now.auto.elements.now) numbers.now }
+    requires { AreNumbers (a.patterns hedge.now.auto) numbers.now }
     ensures made { IfOk result (λ v. (side : s.Side) (x : g.Grammar) → a.Stands side x hedge.now.auto → IsMade v.items (Makes (λ k i. i ≡ s.first_state x side k) numbers.now)) }
-    ensures below { IfOk result (λ v. AreBelow (length hedge.now.auto.rows.items) v.items) }
+    ensures below { IfOk result (λ v. AreBelow (a.states hedge.now.auto) v.items) }
 {
     let mut states = Vec::new(hedge.alloc);
     for number in numbers {
@@ -144,7 +144,7 @@ pub(crate) fn firsts(hedge: &Hedge<'_>, numbers: &[u32]) -> Result<Vec<u32>, NoM
 
 /// Whether a state is an accepting one from a first state on and before an end.
 fn is_end(hedge: &Hedge<'_>, state: u32, first: u32, end: u32) -> bool
-    requires { state < length hedge.now.auto.rows.items }
+    requires { state < a.states hedge.now.auto }
     ensures { (side : s.Side) (x : g.Grammar) → a.Stands side x hedge.now.auto → IsTrue result ↔ ((first ≤ state) × (state < end) × s.IsAccepting x side state) }
 {
     first <= state && state < end && hedge.auto.accepts(state)
@@ -152,8 +152,8 @@ fn is_end(hedge: &Hedge<'_>, state: u32, first: u32, end: u32) -> bool
 
 /// Whether one of some states is an accepting one of the content of a number.
 fn is_reached(hedge: &Hedge<'_>, states: &[u32], number: u32) -> bool
-    requires below { AreBelow (length hedge.now.auto.rows.items) states.now }
-    requires within { number ≤ length hedge.now.auto.elements.now }
+    requires below { AreBelow (a.states hedge.now.auto) states.now }
+    requires within { number ≤ a.patterns hedge.now.auto }
     ensures { (side : s.Side) (x : g.Grammar) → a.Stands side x hedge.now.auto → IsTrue result ↔ IsReached x side states.now number }
 {
     let first = hedge.first(number);
@@ -172,8 +172,8 @@ pub(crate) fn reached(
     states: &[u32],
     numbers: &[u32],
 ) -> Result<Vec<u32>, NoMemory>
-    requires below { AreBelow (length hedge.now.auto.rows.items) states.now }
-    requires within { AreNumbers (length hedge.now.auto.elements.now) numbers.now }
+    requires below { AreBelow (a.states hedge.now.auto) states.now }
+    requires within { AreNumbers (a.patterns hedge.now.auto) numbers.now }
     ensures made { IfOk result (λ v. (side : s.Side) (x : g.Grammar) → a.Stands side x hedge.now.auto → IsMade v.items (λ k. Contains numbers.now k × IsReached x side states.now k)) }
 {
     let mut found = Vec::new(hedge.alloc);

@@ -91,7 +91,7 @@ fn after_trees<'n>(
 
 /// Those of some element patterns whose content the children match.
 fn matched(hedge: &Hedge<'_>, numbers: &[u32], kids: &[Node<'_>]) -> Result<Vec<u32>, NoMemory>
-    requires numbers { AreNumbers (length hedge.now.auto.elements.now) numbers.now }
+    requires numbers { AreNumbers (a.patterns hedge.now.auto) numbers.now }
     ensures { IfOk result (λ v. (side : s.Side) (x : g.Grammar) → a.Stands side x hedge.now.auto → IsMade v.items (λ k. Contains numbers.now k × IsMatched x (see.trees kids.now) k)) }
 {
     let starts = firsts(hedge, numbers)?;
@@ -104,7 +104,7 @@ fn matched(hedge: &Hedge<'_>, numbers: &[u32], kids: &[Node<'_>]) -> Result<Vec<
 /// Whether an element pattern is an alternative of the start, and a name is in its class.
 fn may_start(hedge: &Hedge<'_>, name: &Name<'_>, number: u32) -> bool
     requires from_one { 1 ≤ number }
-    requires within { number ≤ length hedge.now.auto.elements.now }
+    requires within { number ≤ a.patterns hedge.now.auto }
     ensures { (side : s.Side) (x : g.Grammar) → a.Stands side x hedge.now.auto → IsTrue result ↔ (IsTrue (s.is_alternative number x.start) × IsNamed x (see.name name.now) number) }
 {
     hedge.auto.starts(number) && hedge.auto.allows(number, name)
@@ -113,7 +113,7 @@ fn may_start(hedge: &Hedge<'_>, name: &Name<'_>, number: u32) -> bool
 /// The element patterns that are alternatives of the start and in whose classes a name is.
 fn starting(hedge: &Hedge<'_>, name: &Name<'_>) -> Result<Vec<u32>, NoMemory>
     ensures made { IfOk result (λ v. (side : s.Side) (x : g.Grammar) → a.Stands side x hedge.now.auto → IsMade v.items (λ k. (1 ≤ k) × (k ≤ length x.elements) × IsTrue (s.is_alternative k x.start) × IsNamed x (see.name name.now) k)) }
-    ensures within { IfOk result (λ v. AreNumbers (length hedge.now.auto.elements.now) v.items) }
+    ensures within { IfOk result (λ v. AreNumbers (a.patterns hedge.now.auto) v.items) }
 {
     let mut numbers = Vec::new(hedge.alloc);
     for before in 0..hedge.auto.patterns() {

@@ -1,5 +1,6 @@
 -- Schemas: name classes, patterns and element patterns (RELAX NG Specification, OASIS 2001, 5 and 6, whose numbers are meant by "RELAX NG").
-use Rattle.std.specs.Prelude.{◌≢◌, ℕ, zero, suc, ◌≤◌, List, length, Bool, false, ◌&&◌, ◌||◌, not, IsTrue, bytes_eq, Option, None, slice_get, All}
+use Rattle.std.specs.Prelude.{◌≢◌, ℕ, zero, suc, ◌≤◌, List, length, Bool, true, false, ◌&&◌, ◌||◌, not, IsTrue, bytes_eq, Option, None, slice_get, All}
+use Rattle.std.specs.List.{list_any}
 use Rattle.tc_model.specs.Names.{ExpandedName, same_name, IsName, IsNamespaceName}
 
 mutual
@@ -58,6 +59,26 @@ pub record Grammar : Type 0 where
 abbrev pub element_at : List ElementPattern → ℕ → Option ElementPattern
 element_at elements zero = None
 element_at elements (suc k) = slice_get elements k
+
+abbrev mutual
+  -- whether `text` is written in a pattern, also where nothing can match it there, as beside `notAllowed`
+  pub has_text : Pattern → Bool
+  has_text empty = false
+  has_text not_allowed = false
+  has_text text = true
+  has_text (ref k) = false
+  has_text (group ps) = have_text ps
+  has_text (choice ps) = have_text ps
+  has_text (interleave ps) = have_text ps
+  has_text (one_or_more p) = has_text p
+
+  pub have_text : Patterns → Bool
+  have_text no_more = false
+  have_text (more p ps) = has_text p || have_text ps
+
+-- whether `text` is written in the content of some element pattern
+abbrev pub some_content_has_text : List ElementPattern → Bool
+some_content_has_text elements = list_any (λ e. has_text e.content) elements
 
 abbrev mutual
   -- its names are lawful, and no choice is empty

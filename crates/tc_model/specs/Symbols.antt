@@ -1,5 +1,5 @@
 -- Symbols: the names of elements, by what two schemas and a stylesheet mention of them. The names of one symbol are alike for all three.
-use Rattle.std.specs.Prelude.{◌≡◌, ℕ, zero, suc, ◌+◌, nat_lt, List, [], ◌∷◌, ◌++◌, length, Bool, if◌then◌else◌, Option, Some, None, slice_get, All, Contains, flat_map, codes}
+use Rattle.std.specs.Prelude.{◌≡◌, ◌<◌, ℕ, zero, suc, ◌+◌, nat_lt, List, [], ◌∷◌, ◌++◌, length, Bool, if◌then◌else◌, Option, Some, None, slice_get, All, Contains, flat_map, codes}
 use Rattle.std.specs.List.Sorted.{IsStrictlySortedBy}
 use Rattle.std.specs.declared.cmp.Ordering.{Ordering}
 use Rattle.std.specs.declared.cmp.Ordering.TheVariants.{Less, Greater}
@@ -178,3 +178,11 @@ pub record AreSymbols (symbols : List Mention) : Type 0 where
 -- names of one symbol are alike
 abbrev pub IsAlikeBySymbol : Type 0
 IsAlikeBySymbol = (input output : Grammar) (s : Sheet) (n m : ExpandedName) → symbol_of (symbols_of input output s) n ≡ symbol_of (symbols_of input output s) m → AreAlike input output s n m
+
+-- the name that stands for a symbol has this symbol
+abbrev pub IsSymbolOfFresh : Type 0
+IsSymbolOfFresh = (symbols : List Mention) → AreSymbols symbols → (k : ℕ) → k < symbol_count symbols → symbol_of symbols (fresh_name symbols k) ≡ k
+
+-- what two schemas and a stylesheet give are symbols
+abbrev pub GiveSymbols : Type 0
+GiveSymbols = (input output : Grammar) (s : Sheet) → AreSymbols (symbols_of input output s)

@@ -1,5 +1,15 @@
+use Rattle.std.proofs.Common.{refl}
+use Rattle.tc_model.specs.Symbols.{fresh_name}
 use Rattle.tc_alpha.proofs.Alike.{alike}
+use Rattle.tc_alpha.proofs.Fresh.{symbol_told}
+use Rattle.tc_alpha.proofs.Lawful.{are_symbols}
 use Rattle.tc_alpha.proofs.alphabet.law_of_symbols.Goals as goal
 
-pub returns : goal.returns
-returns c = alike
+pub returns-clause-alike : goal.returns-clause-alike
+returns-clause-alike c = alike
+
+pub returns-clause-fresh : goal.returns-clause-fresh
+returns-clause-fresh c = λ symbols ok k low. symbol_told symbols ok k low (fresh_name symbols k) refl
+
+pub returns-clause-symbols : goal.returns-clause-symbols
+returns-clause-symbols c = are_symbols

@@ -1,5 +1,7 @@
 use Rattle.std.proofs.Common.{◌≡◌, ◌<◌, length, refl, arith, rules}
+use Rattle.tc_model.specs.Views.{grammar}
 use Rattle.tc_auto.specs.Stands.{side_of}
+use Rattle.tc_auto.proofs.Bounds.{edges_within, begun_within, begun_below}
 use Rattle.tc_auto.proofs.Totals.{rows_within, elements_within, part_fits, built_step_as, built_all}
 use Rattle.tc_auto.proofs.make.built.Goals as goal
 
@@ -25,7 +27,15 @@ pub invariant_of-result : goal.invariant_of-result
 invariant_of-result c =
     let low = rows_within c.args.grammar.now (side_of c.args.with_start) c.args.grammar.now.elements.now refl c.loop-element.element-index c.loop-element.firsts.items c.loop-element.rows.items c.loop-element.invariant in
     let few = elements_within c.args.grammar.now (side_of c.args.with_start) c.args.grammar.now.elements.now refl in
-    record { counted = omega (arith, low, c.requires); parted = omega (arith, c.loop-element.invariant.begun, c.loop-element-test.false, c.loop-element.auto.element-index-end); numbered = omega (arith, few, c.requires) }
+    let all = built_all c.args.grammar.now (side_of c.args.with_start) c.args.grammar.now.elements.now refl c.loop-element.element-index c.loop-element.firsts.items c.loop-element.rows.items c.loop-element-test.false c.loop-element.auto.element-index-end c.loop-element.invariant in
+    record {
+      counted = omega (arith, low, c.requires);
+      parted = omega (arith, c.loop-element.invariant.begun, c.loop-element-test.false, c.loop-element.auto.element-index-end);
+      numbered = omega (arith, few, c.requires);
+      within = edges_within (grammar c.args.grammar.now) (side_of c.args.with_start) c.loop-element.firsts.items c.loop-element.rows.items all;
+      begun = begun_within (grammar c.args.grammar.now) (side_of c.args.with_start) c.loop-element.firsts.items c.loop-element.rows.items all;
+      begun_below = begun_below (grammar c.args.grammar.now) (side_of c.args.with_start) c.loop-element.firsts.items c.loop-element.rows.items all;
+    }
 
 pub returns : goal.returns
 returns c = record { start = refl; elements = refl; built = built_all c.args.grammar.now (side_of c.args.with_start) c.args.grammar.now.elements.now refl c.loop-element.element-index c.loop-element.firsts.items c.loop-element.rows.items c.loop-element-test.false c.loop-element.auto.element-index-end c.loop-element.invariant }
