@@ -40,3 +40,5 @@ pub mod CompactSyntaxTokensLawful
 pub mod CompactSyntaxOrdered
 pub mod CompactSyntaxLawful
 pub mod SimplifiesLawful
+pub mod BodiesInTurn
+pub mod TreesInTurn

@@ -30,3 +30,8 @@ pub mod BestOf
 pub mod Lawful
 pub mod Counted
 pub mod JobsOf
+pub mod PartsOf
+pub mod Counts
+pub mod RuleOf
+pub mod Looking
+pub mod NothingBelow

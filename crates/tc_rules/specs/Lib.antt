@@ -17,3 +17,5 @@ pub mod Picked
 pub mod Selects
 pub mod PathLaws
 pub mod Jobs
+pub mod Parts
+pub mod Tasks

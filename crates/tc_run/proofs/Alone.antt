@@ -10,7 +10,8 @@ use Rattle.tc_model.proofs.TotalJoin.{join_none}
 use Rattle.tc_rules.specs.RulesView.{ancestor}
 use Rattle.tc_run.specs.Running.{told_by, machine}
 use Rattle.tc_run.specs.Views.{node}
-use Rattle.tc_run.specs.Tasks.{does, outputs_on, going_from, looking_from}
+use Rattle.tc_rules.specs.Tasks.{going_from, looking_from}
+use Rattle.tc_run.specs.Tasks.{does, outputs_on}
 use Rattle.tc_run.specs.declared.bodies.Here.{Here}
 use Rattle.tc_run.specs.declared.runner.Runner.{Runner}
 

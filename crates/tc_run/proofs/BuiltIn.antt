@@ -20,14 +20,15 @@ use Rattle.tc_rules.specs.RulesView.{ancestor}
 use Rattle.tc_run.specs.Lettered.{bare}
 use Rattle.tc_run.specs.Running.{told_by, symbols_by, predicates_by, sheet_by, machine, looking}
 use Rattle.tc_run.specs.Views.{trees, node, node_of}
-use Rattle.tc_run.specs.Tasks.{built_in, does, outputs_on, going_from, looking_from}
+use Rattle.tc_rules.specs.Tasks.{going_from, looking_from}
+use Rattle.tc_run.specs.Tasks.{built_in, does, outputs_on}
 use Rattle.tc_run.specs.declared.bodies.Here.{Here}
 use Rattle.tc_run.specs.declared.bodies.Shape.{Shape}
 use Rattle.tc_run.specs.declared.bodies.Shape.TheVariants as shapes
 use Rattle.tc_run.specs.declared.runner.Runner.{Runner}
 use Rattle.tc_run.proofs.Instructions.{text_seen, self_seen, elem_seen, copy_seen, apply_seen, call_seen, value_of_seen, choose_seen, for_each_seen}
 use Rattle.tc_run.proofs.FirstHits.{Answered, answered_none, answered_value}
-use Rattle.tc_run.proofs.Looking.{first_alike}
+use Rattle.tc_rules.proofs.Looking.{first_alike}
 
 module _ (r : Runner) (bodies : List CallFreeBody) (mode : ℕ) where
   abbrev by_built_in : ℕ → Node → Outcome

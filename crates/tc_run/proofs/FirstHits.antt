@@ -18,12 +18,13 @@ use Rattle.tc_run.specs.Lettered as l
 use Rattle.tc_run.specs.Lettered.{bare}
 use Rattle.tc_run.specs.Running.{IsLetteredBy, symbols_by, predicates_by, looking}
 use Rattle.tc_run.specs.Views.{before, trees}
-use Rattle.tc_run.specs.Tasks.{looking_from}
+use Rattle.tc_rules.specs.Tasks.{looking_from}
 use Rattle.tc_run.specs.declared.letters.Letter.{Letter as LetterOf}
 use Rattle.tc_run.specs.declared.letters.Lettered.{Lettered, Elem, Text}
 use Rattle.tc_run.specs.declared.runner.Runner.{Runner}
-use Rattle.tc_run.proofs.Empty.{first_none}
-use Rattle.tc_run.proofs.OneTree.{none_last, text_at, element_at, first_beside}
+use Rattle.tc_rules.proofs.NothingBelow.{first_none}
+use Rattle.tc_model.proofs.TreesInTurn.{none_last}
+use Rattle.tc_run.proofs.OneTree.{text_at, element_at, first_beside}
 use Rattle.tc_run.proofs.Views.{before_elem, before_text, left_one}
 
 module _ (r : Runner) (node : Lettered) (is_lettered : IsLetteredBy r (before node l.none)) where
@@ -74,7 +75,7 @@ module _ (r : Runner) (look : Looking) (node : Lettered) (is_lettered : IsLetter
       → first_hit (looking r) (bare (before node l.none)) look ≡ None
   none_in_element n x s kids is h e =
       in_element n x s kids is false h
-      ∙ first_none (symbols_by r) (predicates_by r) (bare (trees kids.now)) ((looking r).look_step look (letter (kinds.Elem x.sym) x.marks)) e
+      ∙ first_none (symbols_by r) (predicates_by r) [] [] (bare (trees kids.now)) ((looking r).look_step look (letter (kinds.Elem x.sym) x.marks)) e
 
 -- in trees: in the first of them, or else in what is left
 pub first_left : (r : Runner) (look : Looking) (ns : List Lettered) (i : ℕ) (x : Lettered) → i < length ns → x ≡ get_or ns i x
@@ -83,7 +84,7 @@ first_left r look ns i x h e = ap (λ y. first_hit (looking r) (bare y) look) (l
 
 -- a path of no alternative selects nothing
 pub none_first : (r : Runner) (p : Path) (h : t.Trees) → p ≡ no_alternative → first_hit (looking r) h (looking_from p) ≡ None
-none_first r p h e = first_none (symbols_by r) (predicates_by r) h (looking_from p) (ap (λ q. is_empty_state (first_state q)) e)
+none_first r p h e = first_none (symbols_by r) (predicates_by r) [] [] h (looking_from p) (ap (λ q. is_empty_state (first_state q)) e)
 
 -- what is answered for a first hit
 abbrev pub Answered : Option (Bor (List ℕ)) → Option Node → Type 0

@@ -24,7 +24,8 @@ use Rattle.tc_run.specs.Lettered.{bare}
 use Rattle.tc_run.specs.Running.{IsRunner, told_by, sheet_by, symbols_by, predicates_by, machine}
 use Rattle.tc_run.specs.Views.{before, trees, node}
 use Rattle.tc_run.specs.Spent.{Spends}
-use Rattle.tc_run.specs.Tasks.{IsTaskOf, IsMoveAt, IsSomeMove, built_in, does, outputs_on, going_from}
+use Rattle.tc_rules.specs.Tasks.{IsTaskOf, IsMoveAt, IsSomeMove, going_from}
+use Rattle.tc_run.specs.Tasks.{built_in, does, outputs_on}
 use Rattle.tc_run.specs.declared.bodies.Here.{Here}
 use Rattle.tc_run.specs.declared.letters.Lettered.{Lettered}
 use Rattle.tc_run.specs.declared.output.Output.{Output}

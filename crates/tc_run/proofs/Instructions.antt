@@ -11,7 +11,7 @@ use Rattle.tc_model.specs.declared.sheet.Instr.{Instr}
 use Rattle.tc_model.specs.declared.sheet.Instr.TheVariants as v
 use Rattle.tc_model.specs.declared.sheet.Path.{Path}
 use Rattle.tc_model.proofs.ViewsBody.{see_text, see_elem, see_copy, see_apply, see_call, see_value_of, see_value_of_self, see_choose, see_for_each}
-use Rattle.tc_run.specs.Parts.{IsPart, ArePartBranches}
+use Rattle.tc_rules.specs.Parts.{IsPart, ArePartBranches}
 
 abbrev alone : Instr → Body
 alone i = see.instruction i no_instruction

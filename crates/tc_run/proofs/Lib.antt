@@ -2,15 +2,9 @@ pub mod Views
 pub mod LetteredSteps
 pub mod Spending
 pub mod Putting
-pub mod Plains
 pub mod Alone
-pub mod PartsOf
-pub mod Looking
-pub mod Counts
 pub mod Marking
 pub mod Members
-pub mod RuleOf
-pub mod Empty
 pub mod Lawful
 pub mod Progress
 pub mod Heights

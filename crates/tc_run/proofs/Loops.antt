@@ -21,7 +21,7 @@ use Rattle.tc_run.specs.declared.RunFault.{RunFault}
 use Rattle.tc_run.specs.declared.bodies.Here.{Here}
 use Rattle.tc_run.specs.declared.output.Output.{Output}
 use Rattle.tc_run.specs.declared.runner.Runner.{Runner}
-use Rattle.tc_run.proofs.Plains.{Halves, first_instruction, does_then}
+use Rattle.tc_model.proofs.BodiesInTurn.{Halves, first_instruction, does_then}
 use Rattle.tc_run.proofs.Progress.{BodySoFar, HitsSoFar}
 use Rattle.tc_run.proofs.Spending.{Fails, spends_both, fails_first, fails_then}
 

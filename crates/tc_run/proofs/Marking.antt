@@ -19,10 +19,10 @@ use Rattle.tc_run.specs.Views.{before, trees}
 use Rattle.tc_run.specs.declared.letters.Letter.{Letter}
 use Rattle.tc_run.specs.declared.letters.Lettered.{Lettered, Elem, Text}
 use Rattle.tc_run.specs.declared.runner.Runner.{Runner}
-use Rattle.tc_run.specs.Parts.{IsPartTest}
-use Rattle.tc_run.proofs.Looking.{marks_by_looks}
+use Rattle.tc_rules.specs.Parts.{IsPartTest}
+use Rattle.tc_rules.proofs.Looking.{marks_by_looks}
 use Rattle.tc_run.proofs.Members.{has_got}
-use Rattle.tc_run.proofs.PartsOf.{predicate_part}
+use Rattle.tc_rules.proofs.PartsOf.{predicate_part}
 use Rattle.tc_run.proofs.Views.{before_elem, before_text}
 
 -- the marks of a node of these children, by looks

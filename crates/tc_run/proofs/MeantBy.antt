@@ -21,15 +21,16 @@ use Rattle.tc_rules.specs.declared.rules.Found.{Found}
 use Rattle.tc_rules.specs.declared.rules.Found.TheVariants as founds
 use Rattle.tc_rules.specs.Kept.{IsRulesOf}
 use Rattle.tc_rules.specs.States.{Chosen, chosen, plain_of, built_in_at}
-use Rattle.tc_run.specs.Parts.{IsPart}
+use Rattle.tc_rules.specs.Parts.{IsPart}
 use Rattle.tc_run.specs.Running.{IsRunner, HasBodies, sheet_by, symbols_by, predicates_by, machine}
-use Rattle.tc_run.specs.Tasks.{IsTaskOf, IsMeant, built_in}
+use Rattle.tc_rules.specs.Tasks.{IsTaskOf}
+use Rattle.tc_run.specs.Tasks.{IsMeant, built_in}
 use Rattle.tc_run.specs.declared.bodies.Meant.{Meant}
 use Rattle.tc_run.specs.declared.bodies.Meant.TheVariants as m
 use Rattle.tc_run.specs.declared.runner.Runner.{Runner}
 use Rattle.tc_run.proofs.Members.{has_got}
-use Rattle.tc_run.proofs.PartsOf.{rule_part, named_part, each_part}
-use Rattle.tc_run.proofs.RuleOf.{chosen_number, rule_chosen, mode_task, each_task}
+use Rattle.tc_rules.proofs.PartsOf.{rule_part, named_part, each_part}
+use Rattle.tc_rules.proofs.RuleOf.{chosen_number, rule_chosen, mode_task, each_task}
 
 -- what stands past the end of a list of rules
 abbrev pub no_rule : RuleOf

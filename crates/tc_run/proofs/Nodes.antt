@@ -17,13 +17,14 @@ use Rattle.tc_run.specs.Lettered as l
 use Rattle.tc_run.specs.Lettered.{bare}
 use Rattle.tc_run.specs.Running.{IsLetteredBy, told_by, sheet_by, symbols_by, predicates_by, machine}
 use Rattle.tc_run.specs.Views.{before, trees, node, IsHere}
-use Rattle.tc_run.specs.Tasks.{does, outputs_on, going_from}
+use Rattle.tc_rules.specs.Tasks.{going_from}
+use Rattle.tc_run.specs.Tasks.{does, outputs_on}
 use Rattle.tc_run.specs.declared.bodies.Here.{Here}
 use Rattle.tc_run.specs.declared.bodies.Shape.TheVariants as shapes
 use Rattle.tc_run.specs.declared.letters.Letter.{Letter as LetterOf}
 use Rattle.tc_run.specs.declared.letters.Lettered.{Lettered, Elem}
 use Rattle.tc_run.specs.declared.runner.Runner.{Runner}
-use Rattle.tc_run.proofs.Empty.{outputs_none}
+use Rattle.tc_rules.proofs.NothingBelow.{outputs_none}
 use Rattle.tc_run.proofs.Loops.{element_first}
 use Rattle.tc_run.proofs.OneTree.{ElementAt, element_at}
 use Rattle.tc_run.proofs.Views.{before_elem}

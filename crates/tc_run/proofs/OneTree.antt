@@ -1,14 +1,14 @@
 -- Lettered trees one tree at a time: a tree, and what stands beside it.
-use Rattle.std.proofs.Common.{◌≡◌, ℕ, suc, ◌+◌, ◌<◌, ◌≤◌, max, List, refl, ap, ◌∙◌, sym, subst, drop, length, get_or, cond, Option, Some, None, Bor, arith}
-use Rattle.tc_model.specs.Chains.{an_element, a_text, joined_texts, one, Node}
+use Rattle.std.proofs.Common.{◌≡◌, ℕ, suc, ◌+◌, ◌<◌, ◌≤◌, max, List, refl, ap, ◌∙◌, sym, subst, drop, length, get_or, Bor, arith}
+use Rattle.tc_model.specs.Chains.{an_element, a_text, joined_texts}
 use Rattle.tc_model.specs.Letters.{Letter, letter_of, of_symbol, of_text}
-use Rattle.tc_model.specs.Machine.{or_else, first_hit, outputs, does_in}
-use Rattle.tc_model.specs.Outcomes.{Outcome, nothing, join, counted}
-use Rattle.tc_model.specs.PathStates.{State}
+use Rattle.tc_model.specs.Machine.{or_else, first_hit}
+use Rattle.tc_model.specs.Outcomes.{join}
+use Rattle.tc_model.specs.Trees.{beside}
 use Rattle.tc_model.specs.Views.{name}
 use Rattle.tc_model.specs.Sheets.{CallFreeBody}
 use Rattle.tc_model.specs.declared.tree.Name.{Name}
-use Rattle.tc_model.proofs.TotalJoin.{join_assoc, join_none}
+use Rattle.tc_model.proofs.TreesInTurn.{first_beside as first_of_both, outputs_beside as outputs_of_both}
 use Rattle.tc_rules.specs.Asked.{letter}
 use Rattle.tc_rules.specs.declared.rules.Kind.TheVariants as kinds
 use Rattle.tc_rules.specs.declared.rules.Marks.{Marks}
@@ -29,17 +29,20 @@ use Rattle.tc_run.proofs.Heights.{height_of}
 use Rattle.tc_run.proofs.LetteredSteps.{text_parts, element_parts}
 use Rattle.tc_run.proofs.Views.{before_elem, before_text, left_one}
 
--- none comes later
-pub none_last : (o : Option Node) → or_else o None ≡ o
-none_last None = refl
-none_last (Some n) = refl
+-- without letters too, a tree stands before those beside it
+abbrev IsBeside : l.Lettered → Lettered → Type 0
+IsBeside rest y = bare (before y rest) ≡ beside (bare (before y l.none)) (bare rest)
 
--- what is put out here and inside, and later
-in_three : (a b c : Outcome) → join a (join b c) ≡ join (join a (join b nothing)) c
-in_three a b c = ap (λ y. join a (join y c)) (sym (join_none b)) ∙ sym (join_assoc a (join b nothing) c)
+beside_layer : (rest : l.Lettered) (f : Lettered-F Lettered) → IsBeside rest (roll-Lettered f)
+beside_layer rest (parts.Elem n x w kids) =
+    subst (λ y. IsBeside rest y) (sym (rolls-Elem n x w kids))
+    (ap bare (before_elem n x w kids rest) ∙ sym (ap (λ z. beside (bare z) (bare rest)) (before_elem n x w kids l.none)))
+beside_layer rest (parts.Text w k) =
+    subst (λ y. IsBeside rest y) (sym (rolls-Text w k))
+    (ap bare (before_text w k rest) ∙ sym (ap (λ z. beside (bare z) (bare rest)) (before_text w k l.none)))
 
-in_two : (a c : Outcome) → join a c ≡ join (join a nothing) c
-in_two a c = ap (λ y. join y c) (sym (join_none a))
+bare_beside : (x : Lettered) (rest : l.Lettered) → bare (before x rest) ≡ beside (bare (before x l.none)) (bare rest)
+bare_beside x rest = subst (λ y. IsBeside rest y) (roll-out-Lettered x) (beside_layer rest (out-Lettered x))
 
 module _ (r : Runner) where
   -- what is kept of a text, and of an element
@@ -104,60 +107,15 @@ module _ (r : Runner) where
   apart_at ns i x h e k = apart x (trees (drop (i + 1) ns)) (subst (IsLetteredBy r) (left_one ns i x h e) k)
 
   -- the first hit is in a tree, or else beside it
-  abbrev FirstBeside : Looking → Lettered → l.Lettered → Type 0
-  FirstBeside s y rest = first_hit (looking r) (bare (before y rest)) s ≡ or_else (first_hit (looking r) (bare (before y l.none)) s) (first_hit (looking r) (bare rest) s)
-
-  beside_layer : (s : Looking) (f : Lettered-F Lettered) (rest : l.Lettered) → FirstBeside s (roll-Lettered f) rest
-  beside_layer s (parts.Elem n x w kids) rest =
-      let tree = an_element (name n) (bare (trees kids.now)) in
-      let m = looking r in
-      let here : Option Node = cond (m.look_hits s (m.letter tree)) (Some (one tree)) (first_hit m (bare (trees kids.now)) (m.look_step s (m.letter tree))) in
-      let later : Option Node = first_hit m (bare rest) s in
-      subst (λ y. FirstBeside s y rest) (sym (rolls-Elem n x w kids))
-      (ap (λ z. first_hit m (bare z) s) (before_elem n x w kids rest)
-      ∙ sym (ap (λ z. or_else (first_hit m (bare z) s) later) (before_elem n x w kids l.none) ∙ ap (λ o. or_else o later) (none_last here)))
-  beside_layer s (parts.Text w k) rest =
-      let m = looking r in
-      let here : Option Node = cond (m.look_hits s (m.letter (a_text w.now))) (Some (one (a_text w.now))) None in
-      let later : Option Node = first_hit m (bare rest) s in
-      subst (λ y. FirstBeside s y rest) (sym (rolls-Text w k))
-      (ap (λ z. first_hit m (bare z) s) (before_text w k rest)
-      ∙ sym (ap (λ z. or_else (first_hit m (bare z) s) later) (before_text w k l.none) ∙ ap (λ o. or_else o later) (none_last here)))
-
   pub first_beside : (s : Looking) (x : Lettered) (rest : l.Lettered)
       → first_hit (looking r) (bare (before x rest)) s ≡ or_else (first_hit (looking r) (bare (before x l.none)) s) (first_hit (looking r) (bare rest) s)
-  first_beside s x rest = subst (λ y. FirstBeside s y rest) (roll-out-Lettered x) (beside_layer s (out-Lettered x) rest)
+  first_beside s x rest = ap (λ z. first_hit (looking r) z s) (bare_beside x rest) ∙ first_of_both (looking r) (bare (before x l.none)) (bare rest) s
 
-  module _ (bodies : List CallFreeBody) (above : ℕ) (g : Going) where
-    abbrev OutsBeside : Lettered → l.Lettered → Type 0
-    OutsBeside y rest = outputs_on r bodies (bare (before y rest)) above g ≡ join (outputs_on r bodies (bare (before y l.none)) above g) (outputs_on r bodies (bare rest) above g)
-
-    outs_layer : (f : Lettered-F Lettered) (rest : l.Lettered) → OutsBeside (roll-Lettered f) rest
-    outs_layer (parts.Elem n x w kids) rest =
-        let tree = an_element (name n) (bare (trees kids.now)) in
-        let m = machine r bodies in
-        let q : State = ancestor (told_by r) above in
-        let down : State = m.down_to q (m.letter tree) in
-        let inside : Outcome =
-        cond (m.move_hits g (m.letter tree)) (counted (does_in m (m.body_at g.task q (m.letter tree)) (one tree) (λ i u. outputs m (bare (trees kids.now)) i down u))) nothing in
-        let below : Outcome = outputs m (bare (trees kids.now)) g.task down (m.move_step g (m.letter tree)) in
-        let later : Outcome = outputs_on r bodies (bare rest) above g in
-        subst (λ y. OutsBeside y rest) (sym (rolls-Elem n x w kids))
-        (ap (λ z. outputs_on r bodies (bare z) above g) (before_elem n x w kids rest)
-        ∙ (in_three inside below later ∙ sym (ap (λ z. join (outputs_on r bodies (bare z) above g) later) (before_elem n x w kids l.none))))
-    outs_layer (parts.Text w k) rest =
-        let m = machine r bodies in
-        let q : State = ancestor (told_by r) above in
-        let inside : Outcome =
-        cond (m.move_hits g (m.letter (a_text w.now))) (counted (does_in m (m.body_at g.task q (m.letter (a_text w.now))) (one (a_text w.now)) (λ i u. nothing))) nothing in
-        let later : Outcome = outputs_on r bodies (bare rest) above g in
-        subst (λ y. OutsBeside y rest) (sym (rolls-Text w k))
-        (ap (λ z. outputs_on r bodies (bare z) above g) (before_text w k rest)
-        ∙ (in_two inside later ∙ sym (ap (λ z. join (outputs_on r bodies (bare z) above g) later) (before_text w k l.none))))
-
-    pub outputs_beside : (x : Lettered) (rest : l.Lettered)
-        → outputs_on r bodies (bare (before x rest)) above g ≡ join (outputs_on r bodies (bare (before x l.none)) above g) (outputs_on r bodies (bare rest) above g)
-    outputs_beside x rest = subst (λ y. OutsBeside y rest) (roll-out-Lettered x) (outs_layer (out-Lettered x) rest)
+  pub outputs_beside : (bodies : List CallFreeBody) (above : ℕ) (g : Going) (x : Lettered) (rest : l.Lettered)
+      → outputs_on r bodies (bare (before x rest)) above g ≡ join (outputs_on r bodies (bare (before x l.none)) above g) (outputs_on r bodies (bare rest) above g)
+  outputs_beside bodies above g x rest =
+      ap (λ z. outputs_on r bodies z above g) (bare_beside x rest)
+      ∙ outputs_of_both (machine r bodies) (bare (before x l.none)) (bare rest) g.task (ancestor (told_by r) above) g
 
 -- of one tree alone the height is no more
 abbrev IsNoHigher : l.Lettered → Lettered → Type 0

@@ -23,7 +23,7 @@ use Rattle.tc_run.specs.declared.RunFault.{RunFault}
 use Rattle.tc_run.specs.declared.RunFault.TheVariants.{NoMemory}
 use Rattle.tc_run.specs.declared.output.Output.{Output}
 use Rattle.tc_run.specs.declared.runner.Runner.{Runner}
-use Rattle.tc_run.proofs.Looking.{all_unfold}
+use Rattle.tc_rules.proofs.Looking.{all_unfold}
 use Rattle.tc_run.proofs.Spending.{Fails, passed_more}
 
 abbrev on_root : List Mention → Sheet → List CallFreeBody → Trees → Outcome

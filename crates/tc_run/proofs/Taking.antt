@@ -12,14 +12,14 @@ use Rattle.tc_model.specs.declared.sheet.Instr.{Instr}
 use Rattle.tc_model.proofs.ViewsBody.{left_instruction, left_branch}
 use Rattle.tc_rules.specs.States.{Going}
 use Rattle.tc_run.specs.Lettered.{bare}
-use Rattle.tc_run.specs.Parts.{IsPart, IsPartTest, ArePartBranches}
+use Rattle.tc_rules.specs.Parts.{IsPart, IsPartTest, ArePartBranches}
 use Rattle.tc_run.specs.Running.{sheet_by, symbols_by, predicates_by, machine, looking}
 use Rattle.tc_run.specs.Views.{trees, node}
 use Rattle.tc_run.specs.declared.bodies.Here.{Here}
 use Rattle.tc_run.specs.declared.output.Output.{Output}
 use Rattle.tc_run.specs.declared.runner.Runner.{Runner}
-use Rattle.tc_run.proofs.Looking.{holds_alike}
-use Rattle.tc_run.proofs.Plains.{part_first}
+use Rattle.tc_rules.proofs.Looking.{holds_alike}
+use Rattle.tc_rules.proofs.PartsOf.{part_first}
 use Rattle.tc_run.proofs.Progress.{BodySoFar}
 
 -- what stands past the end of branches

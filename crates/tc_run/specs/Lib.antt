@@ -1,6 +1,5 @@
 pub mod Lettered
 pub mod Views
-pub mod Parts
 pub mod Running
 pub mod Tasks
 pub mod Spent

@@ -19,11 +19,12 @@ ghost use Rattle.tc_rules.specs.Views.{mode_of};
 ghost use Rattle.tc_rules.specs.States.{Chosen, Going, built_in_at, plain_of};
 ghost use Rattle.tc_rules.specs.RulesView.{ancestor};
 ghost use Rattle.tc_run.specs.Lettered as l;
-ghost use Rattle.tc_run.specs.Parts.{IsPart, ArePartBranches};
+ghost use Rattle.tc_rules.specs.Parts.{IsPart, ArePartBranches};
 ghost use Rattle.tc_run.specs.Running.{IsRunner, IsLetteredBy, HasBodies, told_by, sheet_by, symbols_by, predicates_by, machine, looking};
 ghost use Rattle.tc_run.specs.Views.{trees, before, node, IsHere};
 ghost use Rattle.tc_run.specs.Spent.{Answers};
-ghost use Rattle.tc_run.specs.Tasks.{IsTaskOf, IsMoveAt, IsSomeMove, IsMeant, IsPartMeant, built_in as built_in_of, does, outputs_on, going_from, looking_from};
+ghost use Rattle.tc_rules.specs.Tasks.{IsTaskOf, IsMoveAt, IsSomeMove, going_from, looking_from};
+ghost use Rattle.tc_run.specs.Tasks.{IsMeant, IsPartMeant, built_in as built_in_of, does, outputs_on};
 
 use crate::RunFault;
 use crate::letters::{Letter, Lettered};

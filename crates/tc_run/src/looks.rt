@@ -5,10 +5,10 @@ ghost use Rattle.tc_model.specs.Machine as machine;
 ghost use Rattle.tc_model.specs.Views as see;
 ghost use Rattle.tc_rules.specs.States.{Looking};
 ghost use Rattle.tc_run.specs.Lettered as l;
-ghost use Rattle.tc_run.specs.Parts.{IsPartTest, ArePartTests};
+ghost use Rattle.tc_rules.specs.Parts.{IsPartTest, ArePartTests};
 ghost use Rattle.tc_run.specs.Running.{IsRunner, IsLetteredBy, looking, sheet_by, told_by};
 ghost use Rattle.tc_run.specs.Views.{trees, before};
-ghost use Rattle.tc_run.specs.Tasks.{IsLookAt, IsSomeLook};
+ghost use Rattle.tc_rules.specs.Tasks.{IsLookAt, IsSomeLook};
 
 use crate::letters::Lettered;
 use crate::runner::Runner;

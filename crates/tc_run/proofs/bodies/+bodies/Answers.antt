@@ -15,12 +15,13 @@ use Rattle.tc_run.specs.Lettered.{bare, none}
 use Rattle.tc_run.specs.Running.{told_by, sheet_by, symbols_by, predicates_by, machine}
 use Rattle.tc_run.specs.Views.{before, trees, node}
 use Rattle.tc_run.specs.Spent.{Spends, Answers}
-use Rattle.tc_run.specs.Tasks.{of_mode, of_each, built_in, does, outputs_on, going_from}
+use Rattle.tc_rules.specs.Tasks.{of_mode, of_each, going_from}
+use Rattle.tc_run.specs.Tasks.{built_in, does, outputs_on}
 use Rattle.tc_run.specs.declared.letters.Lettered.{Lettered}
 use Rattle.tc_run.proofs.Alone.{text_alone, element_alone, copy_alone, call_alone, apply_alone, value_alone, self_alone, choose_alone, each_alone}
 use Rattle.tc_run.proofs.BuiltIn.{built_in_children, one_deep, value_same, copy_root, copy_elem}
-use Rattle.tc_run.proofs.Counts.{some_move_low, some_move_counted}
-use Rattle.tc_run.proofs.Empty.{outputs_none}
+use Rattle.tc_rules.proofs.Counts.{some_move_low, some_move_counted}
+use Rattle.tc_rules.proofs.NothingBelow.{outputs_none}
 use Rattle.tc_run.proofs.Ends.{no_instruction_left, body_end, left_around}
 use Rattle.tc_run.proofs.Handing.{handed, open_deep, counted_within, instructed}
 use Rattle.tc_run.proofs.Hitting.{is_letter, task_is, hit_is, first_going, move_below, going_below, text_missed, text_met, outs_next, missed, met, element_built_in, no_tree_left, spends_none}
@@ -30,7 +31,7 @@ use Rattle.tc_run.proofs.MeantBy.{no_body, meant_body, meant_built_in, named_got
 use Rattle.tc_run.proofs.Measures.{deeper_less, tree_less, below_less}
 use Rattle.tc_run.proofs.Nodes.{here_elem, is_here_elem, none_selected, down_low, down_is, outs_of_element}
 use Rattle.tc_run.proofs.OneTree.{apart_at, element_at}
-use Rattle.tc_run.proofs.PartsOf.{children_move}
+use Rattle.tc_rules.proofs.PartsOf.{children_move}
 use Rattle.tc_run.proofs.Progress.{HitsSoFar}
 use Rattle.tc_run.proofs.Putting.{around_fails}
 use Rattle.tc_run.proofs.Spending.{Fails, spends_nothing, fails_first, answers_then, spends_last}

@@ -4,10 +4,10 @@ use Rattle.tc_model.specs.Sheets.{CallFreeBody, Inlines}
 use Rattle.tc_rules.specs.States.{Going}
 use Rattle.tc_model.specs.Trees.{none}
 use Rattle.tc_run.specs.Lettered.{bare, none as no_tree}
-use Rattle.tc_run.specs.Parts.{IsPart}
+use Rattle.tc_rules.specs.Parts.{IsPart}
 use Rattle.tc_run.specs.Running.{IsLetteredBy, HasBodies, sheet_by, told_by}
 use Rattle.tc_run.specs.Views.{before, trees}
-use Rattle.tc_run.specs.Tasks.{IsMoveAt}
+use Rattle.tc_rules.specs.Tasks.{IsMoveAt}
 use Rattle.tc_run.proofs.Progress.{BodySoFar, HitsSoFar, left_at}
 use Rattle.tc_run.proofs.bodies.+bodies.Given as goal
 

@@ -4,7 +4,7 @@ use Rattle.tc_rules.specs.Jobs.{IsJob}
 use Rattle.tc_rules.specs.Views.{mode_of}
 use Rattle.tc_rules.specs.RulesView.{ancestor}
 use Rattle.tc_run.specs.Running.{sheet_by, symbols_by, told_by}
-use Rattle.tc_run.specs.Tasks.{IsTaskOf}
+use Rattle.tc_rules.specs.Tasks.{IsTaskOf}
 use Rattle.tc_run.proofs.MeantBy.{each_part_at, each_meant, mode_meant}
 use Rattle.tc_run.proofs.bodies.meant_by.Goals as goal
 

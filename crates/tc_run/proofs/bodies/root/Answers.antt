@@ -12,7 +12,7 @@ use Rattle.tc_run.specs.Views.{trees}
 use Rattle.tc_run.specs.Spent.{Answers}
 use Rattle.tc_run.specs.Tasks.{built_in}
 use Rattle.tc_run.proofs.Nodes.{is_here_root, down_low, down_is, does_on_root}
-use Rattle.tc_run.proofs.RuleOf.{chosen_number}
+use Rattle.tc_rules.proofs.RuleOf.{chosen_number}
 use Rattle.tc_run.proofs.bodies.root.Goals as goal
 
 pub instantiate-requires-clause-here : goal.instantiate-requires-clause-here

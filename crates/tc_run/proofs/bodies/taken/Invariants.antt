@@ -4,7 +4,7 @@ use Rattle.tc_model.specs.Outcomes.{Outcome}
 use Rattle.tc_model.specs.Views as see
 use Rattle.tc_model.specs.Sheets.{CallFreeBody, CallFreeBranches, BranchesInline, otherwise}
 use Rattle.tc_rules.specs.States.{Going}
-use Rattle.tc_run.specs.Parts.{ArePartBranches}
+use Rattle.tc_rules.specs.Parts.{ArePartBranches}
 use Rattle.tc_run.specs.Running.{machine, sheet_by}
 use Rattle.tc_run.specs.Views.{node}
 use Rattle.tc_run.proofs.bodies.taken.Given as goal

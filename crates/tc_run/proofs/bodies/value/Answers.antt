@@ -5,7 +5,7 @@ use Rattle.tc_run.specs.Lettered.{bare}
 use Rattle.tc_run.specs.Views.{trees}
 use Rattle.tc_model.specs.Machine.{first_hit}
 use Rattle.tc_run.specs.Running.{looking, symbols_by}
-use Rattle.tc_run.specs.Tasks.{looking_from}
+use Rattle.tc_rules.specs.Tasks.{looking_from}
 use Rattle.tc_run.proofs.BuiltIn.{value_found}
 use Rattle.tc_run.proofs.FirstHits.{none_first}
 use Rattle.tc_run.proofs.bodies.value.Goals as goal

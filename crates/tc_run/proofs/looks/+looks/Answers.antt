@@ -12,7 +12,7 @@ use Rattle.tc_run.specs.Lettered as l
 use Rattle.tc_run.specs.Running.{looking, told_by, symbols_by}
 use Rattle.tc_run.specs.Views.{trees, before}
 use Rattle.tc_run.specs.declared.letters.Lettered.TheViews.{the_lemmas}
-use Rattle.tc_run.proofs.Counts.{some_look_counted}
+use Rattle.tc_rules.proofs.Counts.{some_look_counted}
 use Rattle.tc_run.proofs.FirstHits.{first_left, in_text, in_element, none_in_element, text_letter, element_letter, answered_here, answered_later, answered_alike, answered_absent}
 use Rattle.tc_run.proofs.OneTree.{apart_at, element_at}
 use Rattle.tc_run.proofs.looks.+looks.Goals as goal

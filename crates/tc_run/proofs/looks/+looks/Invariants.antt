@@ -4,7 +4,7 @@ use Rattle.tc_rules.specs.States.{Looking}
 use Rattle.tc_run.specs.Lettered.{bare}
 use Rattle.tc_run.specs.Running.{IsLetteredBy, looking, told_by}
 use Rattle.tc_run.specs.Views.{trees}
-use Rattle.tc_run.specs.Tasks.{IsLookAt}
+use Rattle.tc_rules.specs.Tasks.{IsLookAt}
 use Rattle.tc_run.proofs.looks.+looks.Given as goal
 
 -- no hit so far

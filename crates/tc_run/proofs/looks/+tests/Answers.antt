@@ -4,10 +4,10 @@ use Rattle.tc_model.specs.Views as see
 use Rattle.tc_model.specs.declared.sheet.Test.TheViews.{the_lemmas}
 use Rattle.tc_model.proofs.ViewsPath.{see_has, see_and, see_or}
 use Rattle.tc_run.specs.Lettered as l
-use Rattle.tc_run.specs.Parts.{IsPartTest}
+use Rattle.tc_rules.specs.Parts.{IsPartTest}
 use Rattle.tc_run.specs.Running.{looking, sheet_by, symbols_by}
 use Rattle.tc_run.specs.Views.{trees}
-use Rattle.tc_run.specs.Tasks.{looking_from}
+use Rattle.tc_rules.specs.Tasks.{looking_from}
 use Rattle.tc_run.proofs.FirstHits.{none_first, answered_some}
 use Rattle.tc_run.proofs.looks.+tests.Goals as goal
 

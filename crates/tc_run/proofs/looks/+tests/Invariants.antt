@@ -2,7 +2,7 @@ use Rattle.std.proofs.Common.{◌≡◌, drop}
 use Rattle.tc_model.specs.Machine as machine
 use Rattle.tc_model.specs.Views as see
 use Rattle.tc_run.specs.Lettered.{bare}
-use Rattle.tc_run.specs.Parts.{ArePartTests}
+use Rattle.tc_rules.specs.Parts.{ArePartTests}
 use Rattle.tc_run.specs.Running.{looking, sheet_by}
 use Rattle.tc_run.specs.Views.{trees}
 use Rattle.tc_run.proofs.looks.+tests.Given as goal

@@ -7,7 +7,7 @@ use Rattle.tc_model.specs.RuleStates.{IsRuleOf}
 use Rattle.tc_model.specs.WellFormed.{ForEach, eaches_of}
 use Rattle.tc_rules.specs.States.{AllInline, Chosen, chosen, or_plain, plain_of}
 use Rattle.tc_rules.proofs.Chosen.{number_of_chosen, rule_is_chosen, one_rule}
-use Rattle.tc_run.specs.Tasks.{IsTaskOf, of_mode, of_each}
+use Rattle.tc_rules.specs.Tasks.{IsTaskOf, of_mode, of_each}
 
 -- the number of what was chosen is that of the rule
 number_is : (o : Option Chosen) → number_of_chosen o ≡ option_map (λ w. w.number) o

@@ -8,7 +8,7 @@ use Rattle.tc_rules.specs.Graphs.{Graph}
 use Rattle.tc_rules.proofs.SelectStates.{count_cons}
 use Rattle.tc_rules.specs.RulesView.{RulesView, count_states, select_count, move_count, IsStateOf}
 use Rattle.tc_model.specs.StateCounts.{PathUse}
-use Rattle.tc_run.specs.Tasks.{IsSomeMove, IsSomeLook}
+use Rattle.tc_rules.specs.Tasks.{IsSomeMove, IsSomeLook}
 
 -- the states of a graph are among all
 counted_all : (gs : List Graph) (i : ℕ) (g : Graph) → slice_get gs i ≡ Some g → count_states (take i gs) + length g.states ≤ count_states gs

@@ -17,8 +17,8 @@ use Rattle.tc_rules.specs.States.{AllInline, Looking, states}
 use Rattle.tc_rules.specs.RulesView.{AreSymbolsWith}
 use Rattle.tc_rules.proofs.Covered.{looks_covered}
 use Rattle.tc_rules.proofs.States.{states_tell}
-use Rattle.tc_run.specs.Parts.{IsPartTest, ArePartTests}
-use Rattle.tc_run.proofs.PartsOf.{predicate_part}
+use Rattle.tc_rules.specs.Parts.{IsPartTest, ArePartTests}
+use Rattle.tc_rules.proofs.PartsOf.{predicate_part}
 
 module _ (symbols : List Mention) (predicates : List Test) (rules : List Rule) (bodies : List CallFreeBody) where
   pub first_alike : (h : Trees) (s : Looking) → first_hit (states symbols predicates rules bodies) h s ≡ first_hit (states symbols predicates [] []) h s

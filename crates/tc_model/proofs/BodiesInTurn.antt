@@ -6,11 +6,9 @@ use Rattle.tc_model.specs.Outcomes.{Outcome, join, within, counted, put, put_aro
 use Rattle.tc_model.specs.Meaning.{value_of_first}
 use Rattle.tc_model.specs.Machine.{CallFreeJob, in_mode, in_body, Machine, first_hit, does_in, takes_in}
 use Rattle.tc_model.specs.Views as see
-use Rattle.tc_model.specs.Sheets as s
 use Rattle.tc_model.specs.declared.sheet.Instr.{Instr}
 use Rattle.tc_model.proofs.TotalJoin.{join_assoc, none_join}
 use Rattle.tc_model.proofs.ViewsBody.{body_then, instruction_then}
-use Rattle.tc_run.specs.Parts.{IsPart}
 
 abbrev pub plain_then : CallFreeBody → CallFreeBody → CallFreeBody
 plain_then p_done q = q
@@ -83,20 +81,3 @@ module _ (m : Machine) (n : Node) (outs : CallFreeJob → m.Move → Outcome) wh
   does_then (p_self p) q = further (within (put (string_value n))) p q (plain_then p q) (does_then p q)
   does_then (p_choose x p) q = further (within (takes_in m x n outs)) p q (plain_then p q) (does_then p q)
   does_then (p_each e w i p) q = further (within (outs (in_body i) (m.move_first (in_body i) w))) p q (plain_then p q) (does_then p q)
-
-module _ (x : s.Sheet) where
-  pub part_then : (a b : Body) → IsPart x (body_then a b) → IsPart x a × IsPart x b
-  part_then no_instruction b h = (tt, h)
-  part_then (put_text t a) b h = part_then a b h
-  part_then (put_element n i a) b h = let (u, v) = part_then a b h.1 in ((h.0, u), v)
-  part_then (copy i a) b h = let (u, v) = part_then a b h.1 in ((h.0, u), v)
-  part_then (apply w m a) b h = let (u, v) = part_then a b h.2 in ((h.0, h.1, u), v)
-  part_then (call n a) b h = let (u, v) = part_then a b h.1 in ((h.0, u), v)
-  part_then (value w a) b h = let (u, v) = part_then a b h.1 in ((h.0, u), v)
-  part_then (value_of_self a) b h = part_then a b h
-  part_then (choose y a) b h = let (u, v) = part_then a b h.1 in ((h.0, u), v)
-  part_then (for_each e w i a) b h = let (u, v) = part_then a b h.3 in ((h.0, h.1, h.2, u), v)
-
-  pub part_first : (i : Instr) (rest : Body) → IsPart x (see.instruction i rest) → IsPart x (see.instruction i no_instruction) × IsPart x rest
-  part_first i rest h =
-      part_then (see.instruction i no_instruction) rest (subst (IsPart x) (sym (instruction_then i no_instruction rest)) h)

@@ -5,13 +5,16 @@ use Rattle.std.proofs.lemmas.Bool.{eqb-true}
 use Rattle.std.proofs.lemmas.Bool.Decides.{nat_tests}
 use Rattle.tc_model.specs.Sheets.{Path, Test, always, never, has, negated, all_of, any_of, Tests, no_test, test, Body, no_instruction, put_text, put_element, copy, apply, call, for_each, value, value_of_self, choose, Branches, otherwise, branch, Rule, Sheet}
 use Rattle.tc_model.specs.Meaning.{all_children}
+use Rattle.tc_model.specs.Views as see
+use Rattle.tc_model.specs.declared.sheet.Instr.{Instr}
+use Rattle.tc_model.proofs.ViewsBody.{body_then, instruction_then}
 use Rattle.tc_model.specs.SameTests.{same_path}
 use Rattle.tc_model.specs.Numbered.{numbers_below}
 use Rattle.tc_model.specs.Numberings.{Move, same_move, moves_in_body, moves_in_branches, moves_of, looks_in_test, looks_in_tests, looks_in_body, looks_in_branches, looks_of, predicates_of}
 use Rattle.tc_model.specs.WellFormed.{IsBody, AreBranches, IsRule, ForEach, eaches_in, eaches_in_branches, eaches_of, IsSheet}
 use Rattle.tc_alpha.proofs.Members.{Has, every_member, every_from_all, has_from_contains, contains_from_has, has_front, has_back, has_either}
 use Rattle.tc_rules.proofs.Sameness.{path_same, path_self, move_same, move_self, kept}
-use Rattle.tc_run.specs.Parts.{IsPartTest, ArePartTests, IsPart, ArePartBranches}
+use Rattle.tc_rules.specs.Parts.{IsPartTest, ArePartTests, IsPart, ArePartBranches}
 
 abbrev Within : {X : Type 0} → List X → List X → Type 0
 Within {X} xs all = (y : X) → Has xs y → Contains all y
@@ -191,3 +194,20 @@ module _ (x : Sheet) where
         | inl k ↦ each_in_list f (λ (r : Rule). r.body) x.rules (λ r h. rule_part i r h) k
         | inr k ↦ each_in_list f (λ (b : Body). b) x.named (λ b h. named_part i b h) k
       ]
+
+  -- bodies one after the other
+  pub part_then : (a b : Body) → IsPart x (body_then a b) → IsPart x a × IsPart x b
+  part_then no_instruction b h = (tt, h)
+  part_then (put_text t a) b h = part_then a b h
+  part_then (put_element n i a) b h = let (u, v) = part_then a b h.1 in ((h.0, u), v)
+  part_then (copy i a) b h = let (u, v) = part_then a b h.1 in ((h.0, u), v)
+  part_then (apply w m a) b h = let (u, v) = part_then a b h.2 in ((h.0, h.1, u), v)
+  part_then (call n a) b h = let (u, v) = part_then a b h.1 in ((h.0, u), v)
+  part_then (value w a) b h = let (u, v) = part_then a b h.1 in ((h.0, u), v)
+  part_then (value_of_self a) b h = part_then a b h
+  part_then (choose y a) b h = let (u, v) = part_then a b h.1 in ((h.0, u), v)
+  part_then (for_each e w i a) b h = let (u, v) = part_then a b h.3 in ((h.0, h.1, h.2, u), v)
+
+  pub part_first : (i : Instr) (rest : Body) → IsPart x (see.instruction i rest) → IsPart x (see.instruction i no_instruction) × IsPart x rest
+  part_first i rest h =
+      part_then (see.instruction i no_instruction) rest (subst (IsPart x) (sym (instruction_then i no_instruction rest)) h)
