@@ -19,6 +19,7 @@ pub mod ViewsBody
 pub mod ViewsLists
 pub mod XmlTextPhrases
 pub mod XmlTextUnique
+pub mod XmlTextRefused
 pub mod XmlTextChars
 pub mod XmlTextLawful
 pub mod XmlTextTrees

@@ -1,12 +1,12 @@
 -- What stands where a schema in compact syntax is refused. The grammar of the compact syntax is OASIS, RELAX NG Compact Syntax
 -- (2002), 4, and ISO/IEC 19757-2, Annex C; which of its constructs are read is this project's choice.
-use Rattle.std.specs.Prelude.{◌≡◌, ◌≢◌, ℕ, suc, ◌+◌, ◌<◌, ◌≤◌, ◌⊎◌, Bool, true, false, ◌||◌, ◌==◌, not, List, [], ◌∷◌, ◌++◌, IsTrue, length, take, bytes_eq, codes, encode_utf8}
+use Rattle.std.specs.Prelude.{◌≡◌, ◌≢◌, ℕ, suc, ◌+◌, ◌<◌, ◌≤◌, ◌⊎◌, Bool, true, false, ◌||◌, ◌==◌, not, List, [], ◌∷◌, ◌++◌, IsTrue, length, take, bytes_eq, codes}
 use Rattle.std.specs.List.{prefix_len}
-use Rattle.tc_base.specs.Characters.{is_char, is_white}
+use Rattle.tc_base.specs.Characters.{is_white}
 use Rattle.tc_base.specs.declared.reasons.Why.{Why}
 use Rattle.tc_base.specs.declared.reasons.Why.TheVariants.{N6, N7, N8, N9, N10, N11, N12, N13, N14, N15, N16, N17}
-use Rattle.tc_model.specs.Names.{IsChars}
 use Rattle.tc_model.specs.XmlTextBytes.{IsQuote, length_before, place_of}
+pub use Rattle.tc_model.specs.XmlTextBytes.{FrontOf}
 use Rattle.tc_model.specs.CompactSyntaxTokens.{Word, a_name, prefixed, literal, mark, Token, is_line_end, after_line, WordAt}
 use Rattle.tc_model.specs.CompactSyntaxNames.{IsWord, IsMark}
 use Rattle.tc_model.specs.CompactSyntaxPatterns.{BalancedAt}
@@ -106,13 +106,6 @@ pub data TokensUpTo (total : ℕ) : List ℕ → List Token → List ℕ → Typ
   comment : {bs rest : List ℕ} {tokens : List Token} → TokensUpTo total (after_line bs) tokens rest → TokensUpTo total (0x23 ∷ bs) tokens rest
   token : {bs after rest : List ℕ} {word : Word} {tokens : List Token} → WordAt bs word after → TokensUpTo total after tokens rest
       → TokensUpTo total bs (record { word = word; place = place_of total bs } ∷ tokens) rest
-
--- the characters at the front of the bytes, as many as there are
-pub record FrontOf (bytes front : List ℕ) : Type 0 where
-  pub after : List ℕ
-  pub parts : bytes ≡ front ++ after
-  pub characters : IsChars front
-  pub longest : (c : ℕ) (r : List ℕ) → after ≡ encode_utf8 c ++ r → IsTrue (is_char c) → ⊥
 
 -- what stands of a line at the front
 abbrev pub line : List ℕ → List ℕ

@@ -1,8 +1,16 @@
 -- The bytes of an XML text: white space, runs, what stands before a mark, literals. The text is in UTF-8 and every mark is ASCII,
 -- so no byte of a longer character is ever taken for a mark.
-use Rattle.std.specs.Prelude.{◌≡◌, ℕ, ◌+◌, ◌-◌, ◌<◌, Bool, ◌==◌, ◌⊎◌, List, [], ◌∷◌, ◌++◌, take, drop, length, bytes_eq, if◌then◌else◌}
+use Rattle.std.specs.Prelude.{◌≡◌, ℕ, ◌+◌, ◌-◌, ◌<◌, Bool, ◌==◌, ◌⊎◌, List, [], ◌∷◌, ◌++◌, take, drop, length, bytes_eq, encode_utf8, IsTrue, if◌then◌else◌}
 use Rattle.std.specs.List.{prefix_len}
-use Rattle.tc_base.specs.Characters.{is_white}
+use Rattle.tc_base.specs.Characters.{is_char, is_white}
+use Rattle.tc_model.specs.Names.{IsChars}
+
+-- the characters at the front of the bytes, as many as there are (XML, 2.2, [2] Char)
+pub record FrontOf (bytes front : List ℕ) : Type 0 where
+  pub after : List ℕ
+  pub parts : bytes ≡ front ++ after
+  pub characters : IsChars front
+  pub longest : (c : ℕ) (r : List ℕ) → after ≡ encode_utf8 c ++ r → IsTrue (is_char c) → ⊥
 
 -- where these bytes stand at the end of a text of so many bytes: how many bytes stand before them
 abbrev pub place_of : ℕ → List ℕ → ℕ

@@ -5,6 +5,7 @@ use Rattle.tc_model.specs.Names.{IsChars, IsNcName, IsNamespaceName, IsName, IsT
 use Rattle.tc_model.specs.Trees.{IsDocument}
 use Rattle.tc_model.specs.RawTrees.{Attribute, Bound, RawTrees, none, text, element}
 use Rattle.tc_model.specs.XmlText.{XmlText}
+use Rattle.tc_model.specs.XmlTextRefusals.{Cause, XmlTextRefuses}
 use Rattle.tc_model.specs.Stripped.{stripped}
 
 -- a lawful attribute of a text of so many bytes
@@ -37,3 +38,12 @@ HasLawfulRawTree = (bytes : List ℕ) (h : RawTrees) → XmlText bytes h → Are
 -- and stripped it is a document
 abbrev pub HasDocument : Type 0
 HasDocument = (bytes : List ℕ) (h : RawTrees) → XmlText bytes h → IsDocument (stripped h)
+
+-- a text is refused for one construct, at one place
+abbrev pub HasOneRefusal : Type 0
+HasOneRefusal = (bytes : List ℕ) (cause other : Cause) (place elsewhere : ℕ) → XmlTextRefuses bytes cause place → XmlTextRefuses bytes other elsewhere
+    → (cause ≡ other) × (place ≡ elsewhere)
+
+-- and then it has no raw tree
+abbrev pub HasNoTreeWhereRefused : Type 0
+HasNoTreeWhereRefused = (bytes : List ℕ) (cause : Cause) (place : ℕ) (h : RawTrees) → XmlTextRefuses bytes cause place → XmlText bytes h → ⊥

@@ -4,9 +4,9 @@
 use Rattle.std.specs.Prelude.{◌≡◌, ◌≢◌, ℕ, suc, false, List, ◌∷◌, ◌++◌, None, IsFalse, codes, length}
 use Rattle.tc_base.specs.declared.reasons.Why.{Why}
 use Rattle.tc_base.specs.declared.reasons.Why.TheVariants.{N1, N2, N3, N4, N5}
-use Rattle.tc_model.specs.Names.{ExpandedName, IsChars}
+use Rattle.tc_model.specs.Names.{ExpandedName}
 use Rattle.tc_model.specs.RawTrees.{Attribute, Bound}
-use Rattle.tc_model.specs.XmlTextBytes.{place_of, BeginsWithWhite, after_white, IsQuote, EqualsAt}
+use Rattle.tc_model.specs.XmlTextBytes.{place_of, BeginsWithWhite, after_white, IsQuote, EqualsAt, FrontOf}
 use Rattle.tc_model.specs.XmlTextBytes as bytes_of
 use Rattle.tc_model.specs.XmlTextNames.{QualifiedName, same_written, QNameAt}
 use Rattle.tc_model.specs.XmlTextReferences.{predefined, EntityAt, ReferenceAt, is_plain_within, QuotedAt}
@@ -91,15 +91,23 @@ pub data DeclarationRefuses : List ℕ → Why → List ℕ → Type 0 where
       → SettingAt (codes "encoding") past_version value after → (IsReadEncoding value → ⊥)
       → DeclarationRefuses bs N3 (after_white past_version)
 
--- a document of characters of XML, in which elements stand at most so deep (XML, 2.1, [1]; 2.8, [22], [28], [28b])
-pub data DocumentRefuses (deepest : ℕ) (bytes : List ℕ) : Cause → List ℕ → Type 0 where
-  declaration : {at : List ℕ} {why : Why} → IsChars bytes → DeclarationRefuses (after_mark bytes) why at → DocumentRefuses deepest bytes (unsupported why) at
-  subset : {past_declaration past_misc r : List ℕ} → IsChars bytes → DeclarationAt (after_mark bytes) past_declaration → MiscAt past_declaration past_misc
-      → DoctypeFrontAt past_misc (0x5B ∷ r) → DocumentRefuses deepest bytes (unsupported N1) (0x5B ∷ r)
-  element : {past_declaration past_misc root at : List ℕ} {cause : Cause} → IsChars bytes → DeclarationAt (after_mark bytes) past_declaration
-      → MiscAt past_declaration past_misc → DoctypeAt past_misc root → ElementRefuses (length bytes) first_scope deepest root cause at
-      → DocumentRefuses deepest bytes cause at
+-- a document in which elements stand at most so deep (XML, 2.1, [1]; 2.8, [22], [28], [28b])
+pub data DocumentRefuses (deepest : ℕ) (text : List ℕ) : Cause → List ℕ → Type 0 where
+  declaration : {at : List ℕ} {why : Why} → DeclarationRefuses (after_mark text) why at → DocumentRefuses deepest text (unsupported why) at
+  subset : {past_declaration past_misc r : List ℕ} → DeclarationAt (after_mark text) past_declaration → MiscAt past_declaration past_misc
+      → DoctypeFrontAt past_misc (0x5B ∷ r) → DocumentRefuses deepest text (unsupported N1) (0x5B ∷ r)
+  element : {past_declaration past_misc root at : List ℕ} {cause : Cause} → DeclarationAt (after_mark text) past_declaration
+      → MiscAt past_declaration past_misc → DoctypeAt past_misc root → ElementRefuses (length text) first_scope deepest root cause at
+      → DocumentRefuses deepest text cause at
 
--- such a construct stands at this place of the text
-abbrev pub XmlTextRefuses : List ℕ → Cause → ℕ → Type 0
-XmlTextRefuses bytes cause place = (at : List ℕ) × DocumentRefuses deepest_element bytes cause at × (place ≡ place_of (length bytes) at)
+-- such a construct stands at this place of the bytes, among the characters at their front: what stands behind these isn't looked at
+pub record XmlTextRefuses (bytes : List ℕ) (cause : Cause) (place : ℕ) : Type 0 where
+  pub front : List ℕ
+  pub at : List ℕ
+  pub is_front : FrontOf bytes front
+  pub refuses : DocumentRefuses deepest_element front cause at
+  pub stands : place ≡ place_of (length front) at
+
+-- reading comes to no such construct
+abbrev pub IsNotRefused : List ℕ → Type 0
+IsNotRefused bytes = (cause : Cause) (place : ℕ) → XmlTextRefuses bytes cause place → ⊥

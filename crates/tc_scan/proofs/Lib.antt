@@ -1,3 +1,4 @@
 pub mod FrontLaws
 pub mod NamesLaws
 pub mod CharsLaws
+pub mod CharsFront

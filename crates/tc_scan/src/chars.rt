@@ -2,8 +2,11 @@
 ghost use Rattle.std.specs.Prelude.{◌≡◌, ◌↔◌, IsTrue, MatchBool};
 ghost use Rattle.std.specs.List.{list_all};
 ghost use Rattle.tc_model.specs.Names.{IsChars};
-ghost use Rattle.tc_scan.specs.Chars.{is_plain_byte};
+ghost use Rattle.tc_model.specs.XmlTextBytes.{FrontOf};
+ghost use Rattle.tc_scan.specs.Chars.{IsPastChars, IsUtf8Front, is_plain_byte};
 
+use crate::names::first_char;
+use simdutf8::compat::from_utf8;
 use tc_base::is_char;
 
 /// Whether no character that XML lacks begins with this byte.
@@ -37,4 +40,50 @@ pub fn are_chars(text: &str) -> bool
     ensures { MatchBool result (IsChars text.now) (IsChars text.now → ⊥) }
 {
     are_plain(text.as_bytes()) || all_are_chars(text)
+}
+
+/// The front of the bytes that is text in UTF-8.
+fn utf8_front(bytes: &[u8]) -> &str
+    ensures { IsUtf8Front bytes.now result.now }
+{
+    match from_utf8(bytes) {
+        Ok(text) => text,
+        Err(error) => match from_utf8(&bytes[..error.valid_up_to()]) {
+            Ok(text) => text,
+            Err(_) => "",
+        },
+    }
+}
+
+/// What follows the characters at the front, each looked at.
+fn past_characters(text: &str) -> &str
+    ensures { IsPastChars text.now result.now }
+{
+    let mut rest = text;
+    while let Some((next, after)) = first_char(rest) {
+        if !is_char(next) {
+            break;
+        }
+        rest = after;
+    }
+    rest
+}
+
+/// What follows the characters at the front. Where the bytes show that nothing does, none is looked at.
+fn after_characters(text: &str) -> &str
+    ensures { IsPastChars text.now result.now }
+{
+    if are_plain(text.as_bytes()) {
+        return &text[text.len()..];
+    }
+    past_characters(text)
+}
+
+/// The characters at the front of the bytes, as many as there are (XML 1.0, 2.2).
+pub fn characters(bytes: &[u8]) -> &str
+    ensures { FrontOf bytes.now result.now }
+{
+    let text = utf8_front(bytes);
+    let rest = after_characters(text);
+    &text[..text.len() - rest.len()]
 }

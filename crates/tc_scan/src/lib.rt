@@ -8,7 +8,7 @@ mod names;
 #[cfg(test)]
 mod tests;
 
-pub use chars::are_chars;
+pub use chars::{are_chars, characters};
 pub use front::{
     after_byte, after_mark, after_some_white, after_white, begins, plain_len, plain_len_within,
     up_to,

@@ -18,7 +18,7 @@ pub struct QualifiedName<'t> {
 }
 
 /// The character at the front, and what follows it.
-fn first_char(text: &str) -> Option<(char, &str)>
+pub(crate) fn first_char(text: &str) -> Option<(char, &str)>
     ensures { MatchOption result (text.now ≡ []) (λ r. IsScalar r.0 × (text.now ≡ encode_utf8 r.0 ++ r.1.now)) }
 {
     let first = text.chars().next()?;

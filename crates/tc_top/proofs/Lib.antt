@@ -8,7 +8,6 @@ pub mod FirstText
 pub mod Named
 pub mod Numerals
 pub mod OneCommand
-pub mod OneConstruct
 pub mod OneRefusal
 pub mod OneValidity
 pub mod OneRun

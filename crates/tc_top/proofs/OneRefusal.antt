@@ -12,7 +12,6 @@ use Rattle.tc_model.specs.SheetTextPhrases.{IsStylesheet}
 use Rattle.tc_model.specs.SimplifiesFaults as schemas
 use Rattle.tc_model.specs.SimplifiesFaults.{Fault, Fails}
 use Rattle.tc_model.specs.XmlText.{XmlText}
-use Rattle.tc_model.specs.XmlTextBytes.{place_of}
 use Rattle.tc_model.specs.XmlTextRefusals as xml
 use Rattle.tc_model.proofs.SheetTextUnique.{stylesheet_unique, one_sheet_fault}
 use Rattle.tc_model.proofs.SimplifiesFaults.{one_fault}
@@ -26,7 +25,7 @@ use Rattle.tc_sheet.proofs.NamedAgain.{not_once, one_place}
 use Rattle.tc_top.specs.Answers.{refused}
 use Rattle.tc_top.specs.OneAnswer.{IsOpen, AreAlike, same_answer, open_reasons, IsConstruct, HasOneConstruct, HasOneFaultOfNames}
 use Rattle.tc_top.specs.Refusals.{Reason, malformed, unsupported, too_deep, undefined, twice, loop, bad_start, bad_except, call_loop, SpellsFault, IsRefusedSchema, IsRefusedDocument, SpellsTree, IsRefusedSheet}
-use Rattle.tc_top.proofs.OneConstruct.{document_one}
+use Rattle.tc_model.proofs.XmlTextRefused.{one_refusal}
 use Rattle.tc_sheet_text.proofs.OtherEntities.{with_others}
 
 -- schemas
@@ -114,10 +113,8 @@ comes bytes call_loop place c h = absurd c
 
 same_coming : {bytes : List ℕ} {r q : Reason} {k m : ℕ} → Comes bytes r k → Comes bytes q m → (r ≡ q) × (k ≡ m)
 same_coming {bytes} x y =
-    let two = document_one x.refuses.1 y.refuses.1 in
-    let reasons = ap reason_at two.0 in
-    let places = ap (place_of (length bytes)) two.1 in
-    (x.is_reason ∙ (reasons ∙ sym y.is_reason), x.refuses.2 ∙ (places ∙ sym y.refuses.2))
+    let two = one_refusal bytes x.cause y.cause _ _ x.refuses y.refuses in
+    (x.is_reason ∙ (ap reason_at two.0 ∙ sym y.is_reason), two.1)
 
 pub one_construct : HasOneConstruct
 one_construct bytes r q k m c d x y = same_coming (comes bytes r k c x) (comes bytes q m d y)

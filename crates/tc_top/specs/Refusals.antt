@@ -40,11 +40,12 @@ reason_text bad_start = codes "bad-start"
 reason_text bad_except = codes "bad-except"
 reason_text call_loop = codes "call-loop"
 
--- The bytes are no document's text. Malformed: not even where elements may stand deeper, and references to other entities are read.
+-- The bytes are no document's text. Malformed: not even where elements may stand deeper, and references to other entities are read, and
+-- reading comes to no construct that isn't read and to no element too deep; what stands behind the place of such a one isn't looked at.
 -- Unsupported: such a construct stands there, and they are none at any depth. Too deep: an element stands too deep there, and they are
 -- none even where references to other entities are read.
 abbrev pub IsRefusedDocument : List ℕ → Reason → ℕ → Type 0
-IsRefusedDocument bytes malformed place = (place ≤ length bytes) × ((deepest : ℕ) (h : RawTrees) → Reads true deepest bytes h → ⊥)
+IsRefusedDocument bytes malformed place = (place ≤ length bytes) × ((deepest : ℕ) (h : RawTrees) → Reads true deepest bytes h → ⊥) × xml.IsNotRefused bytes
 IsRefusedDocument bytes (unsupported why) place = xml.XmlTextRefuses bytes (xml.unsupported why) place × ((deepest : ℕ) (h : RawTrees) → Reads false deepest bytes h → ⊥)
 IsRefusedDocument bytes too_deep place = xml.XmlTextRefuses bytes xml.too_deep place × ((h : RawTrees) → Reads true deepest_element bytes h → ⊥)
 IsRefusedDocument bytes _ place = ⊥

@@ -26,6 +26,7 @@ use Rattle.tc_xml.specs.Reading.{AttributeAt, OpensElement, EndTagAt}
 use Rattle.tc_xml.specs.Refusals.{Refuses, UnsupportedAt}
 use Rattle.tc_xml.specs.Tags.{lacks_space, Breaks}
 use Rattle.tc_xml.proofs.MiscLaws.{up_to_shorter}
+use Rattle.tc_xml.proofs.PastLaws.{past_one}
 
 -- what is read without references to other entities is read so with them
 pub reference_loosened : {o : Bool} {bs s after : List ℕ} → ReferenceAt false bs s after → ReferenceAt o bs s after
@@ -74,6 +75,7 @@ pub record Attributes (total : ℕ) (text rest : List ℕ) (found : List Written
       → (more : List WrittenAttribute) × AttributesAt o total rest more after × IsTrue (lacks_space more)
   pub no_space : IsTrue (lacks_space found)
   pub stands : (why : Why) (at : List ℕ) → AttributesRefuse rest why at → AttributesRefuse text why at
+  pub comes : (why : Why) (at : List ℕ) → AttributesRefuse text why at → AttributesRefuse rest why at
 
 pub attributes_begin : (total : ℕ) (text : List ℕ) → Attributes total text text []
 attributes_begin total text = record {
@@ -81,6 +83,7 @@ attributes_begin total text = record {
   back = λ o list after a h. (list, a, h);
   no_space = refl;
   stands = λ why at a. a;
+  comes = λ why at a. a;
 }
 
 not_true : (x : Bool) → not x ≡ true → x ≡ false
@@ -108,6 +111,7 @@ attributes_more total text rest after found a s at = record {
   back = λ o list end l h. let (more, m, k) = s.back o list end l h in one_less total rest after a at o more end m k;
   no_space = all_append (λ a. not (is_xml_space a)) found a s.no_space (from_false (is_xml_space a) at.no_space);
   stands = λ why end l. s.stands why end (past_attribute at.white at.names at.no_space at.equals at.quoted l);
+  comes = λ why end k. past_one total rest after a at why end (s.comes why end k);
 }
   where
     one_less : (total : ℕ) (rest after : List ℕ) (a : WrittenAttribute) → AttributeAt false total rest a after → (o : Bool) (list : List WrittenAttribute) (end : List ℕ) → AttributesAt o total rest list end

@@ -4,7 +4,6 @@ use Rattle.tc_model.specs.RawTrees.{RawTrees}
 use Rattle.tc_model.specs.XmlTextContent.{Piece, ElementAt}
 use Rattle.tc_base.specs.declared.reasons.Why.{Why}
 use Rattle.tc_base.specs.declared.reasons.Why.TheVariants.{N1}
-use Rattle.tc_model.specs.Names.{IsChars}
 use Rattle.tc_model.specs.XmlText.{after_mark, Reads}
 use Rattle.tc_model.specs.XmlTextMisc.{DeclarationAt, MiscAt, DoctypeFrontAt, DoctypeAt}
 use Rattle.tc_model.specs.XmlTextScopes.{first_scope}
@@ -54,18 +53,18 @@ pub no_more_here : (rest end : List ℕ) → MiscAt rest end → (end ≡ [] →
 no_more_here rest end a some b = some (misc_unique a b)
 
 -- where a text is refused
-pub declaration_stands : (deep : ℕ) (text start : List ℕ) → IsChars text → start ≡ after_mark text → (why : Why) (at : List ℕ) → DeclarationRefuses start why at → DocumentRefuses deep text (unsupported why) at
-declaration_stands deep text start lawful e why at k = refusals.declaration lawful (subst (λ w. DeclarationRefuses w why at) e k)
+pub declaration_stands : (deep : ℕ) (text start : List ℕ) → start ≡ after_mark text → (why : Why) (at : List ℕ) → DeclarationRefuses start why at → DocumentRefuses deep text (unsupported why) at
+declaration_stands deep text start e why at k = refusals.declaration (subst (λ w. DeclarationRefuses w why at) e k)
 
-pub subset_stands : (deep : ℕ) (text start past behind : List ℕ) → IsChars text → start ≡ after_mark text → DeclarationAt start past → MiscAt past behind
+pub subset_stands : (deep : ℕ) (text start past behind : List ℕ) → start ≡ after_mark text → DeclarationAt start past → MiscAt past behind
     → (why : Why) (at : List ℕ) → (why ≡ N1) × ((r : List ℕ) × (at ≡ 0x5B ∷ r)) × DoctypeFrontAt behind at → DocumentRefuses deep text (unsupported why) at
-subset_stands deep text start past behind lawful e a b why at (is, (r, same), k) =
-    let whole : DocumentRefuses deep text (unsupported N1) (0x5B ∷ r) = refusals.subset lawful (subst (λ w. DeclarationAt w past) e a) b (subst (DoctypeFrontAt behind) same k) in
+subset_stands deep text start past behind e a b why at (is, (r, same), k) =
+    let whole : DocumentRefuses deep text (unsupported N1) (0x5B ∷ r) = refusals.subset (subst (λ w. DeclarationAt w past) e a) b (subst (DoctypeFrontAt behind) same k) in
     subst (λ w. DocumentRefuses deep text (unsupported w) at) (sym is) (subst (DocumentRefuses deep text (unsupported N1)) (sym same) whole)
 
-pub element_stands : (deep : ℕ) (text start past behind root : List ℕ) → IsChars text → start ≡ after_mark text → DeclarationAt start past → MiscAt past behind → DoctypeAt behind root
+pub element_stands : (deep : ℕ) (text start past behind root : List ℕ) → start ≡ after_mark text → DeclarationAt start past → MiscAt past behind → DoctypeAt behind root
     → (cause : Cause) (at : List ℕ) → ElementRefuses (length text) first_scope deep root cause at → DocumentRefuses deep text cause at
-element_stands deep text start past behind root lawful e a b c cause at k = refusals.element lawful (subst (λ w. DeclarationAt w past) e a) b c k
+element_stands deep text start past behind root e a b c cause at k = refusals.element (subst (λ w. DeclarationAt w past) e a) b c k
 
 pub breaks_within : (e : Stop) (P A B C : Type 0) → (P → A) → (P → B) → (P → C) → Breaks e P → RefusesWithin e A B C
 breaks_within (Malformed left) P A B C f g h k = f k

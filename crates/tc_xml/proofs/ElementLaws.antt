@@ -17,6 +17,7 @@ use Rattle.tc_xml.specs.Reading.{EndTagAt, BodyAt, empty, filled, BodyRefuses, A
 use Rattle.tc_xml.specs.Refusals.{Refuses, RefusesWithin, UnsupportedAt, RefusedAt}
 use Rattle.tc_xml.specs.Views.{gathered_before}
 use Rattle.tc_xml.proofs.ContentLaws.{item_loosened, tag_loosened, content_loosened}
+use Rattle.tc_xml.proofs.PastLaws.{past_one_item}
 
 -- the content so far, from the front of the text to what is left of it
 pub record Content (total : ℕ) (scope : List Bound) (depth : ℕ) (text rest : List ℕ) (old new : Gathered) : Type 0 where
@@ -25,6 +26,7 @@ pub record Content (total : ℕ) (scope : List Bound) (depth : ℕ) (text rest :
   pub adds : (h : RawTrees) → gathered_before new h ≡ gathered_before old (grows h)
   pub back : (o : Bool) (d : ℕ) (h : RawTrees) (after : List ℕ) → ContentAt o total scope d text h after → (k : RawTrees) × ContentAt o total scope d rest k after
   pub stands : (cause : Cause) (at : List ℕ) → ContentRefuses total scope depth rest cause at → ContentRefuses total scope depth text cause at
+  pub comes : (cause : Cause) (at : List ℕ) → ContentRefuses total scope depth text cause at → ContentRefuses total scope depth rest cause at
 
 pub content_begin : (total : ℕ) (scope : List Bound) (depth : ℕ) (text : List ℕ) (old : Gathered) → Content total scope depth text text old old
 content_begin total scope depth text old = record {
@@ -33,6 +35,7 @@ content_begin total scope depth text old = record {
   adds = λ h. refl;
   back = λ o d h after m. (h, m);
   stands = λ cause at k. k;
+  comes = λ cause at k. k;
 }
 
 -- one item more
@@ -44,6 +47,7 @@ content_more total scope depth text rest after old mid new s (p, a, adds) = reco
   adds = λ h. adds h ∙ s.adds (piece_before p h);
   back = λ o d h end m. let (k, n) = s.back o d h end m in one_less total scope depth rest after p a o d k end n;
   stands = λ cause at k. s.stands cause at (past_item a k);
+  comes = λ cause at k. past_one_item total scope depth rest after p a cause at (s.comes cause at k);
 }
   where
     one_less : (total : ℕ) (scope : List Bound) (depth : ℕ) (rest after : List ℕ) (p : Piece) → ItemAt false total scope depth rest p after

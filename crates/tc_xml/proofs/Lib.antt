@@ -1,6 +1,7 @@
 pub mod MiscLaws
 pub mod LineLaws
 pub mod ReferenceLaws
+pub mod PastLaws
 pub mod ValueLaws
 pub mod ScopeLaws
 pub mod TagLaws
@@ -12,4 +13,5 @@ pub mod ElementLaws
 pub mod RootLaws
 pub mod DocumentLaws
 pub mod FaultLaws
+pub mod MalformedLaws
 pub mod StripLaws

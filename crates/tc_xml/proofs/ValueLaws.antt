@@ -15,6 +15,7 @@ use Rattle.tc_base.specs.declared.reasons.Why.{Why}
 use Rattle.tc_xml.specs.Refusals.{Refuses, UnsupportedAt}
 use Rattle.tc_model.specs.XmlTextRefusals.{OtherEntityAt, ValueRefuses, past_run, past_reference, QuotedRefuses}
 use Rattle.tc_model.specs.XmlTextRefusals as refused
+use Rattle.tc_xml.proofs.PastLaws.{past_piece}
 use Rattle.tc_xml.specs.Values as pieces
 use Rattle.tc_xml.specs.Values.{PieceAt}
 use Rattle.tc_xml.specs.declared.faults.Stop.{Stop}
@@ -169,6 +170,7 @@ pub record Step (quote : ℕ) (inside read rest : List ℕ) : Type 0 where
   pub any : (v after : List ℕ) → ValueAt true quote inside v after → (w : List ℕ) × ValueAt true quote rest w after
   pub strict : (v after : List ℕ) → ValueAt false quote inside v after → (w : List ℕ) × ValueAt false quote rest w after
   pub stops : (at : List ℕ) → ValueRefuses quote rest at → ValueRefuses quote inside at
+  pub comes : (at : List ℕ) → ValueRefuses quote inside at → ValueRefuses quote rest at
 
 pub step_more : (q : ℕ) (inside read more rest next : List ℕ) → IsQuote q → Step q inside read rest → ((piece : List ℕ) × PieceAt false q rest piece next × (more ≡ read ++ piece)) → Step q inside more next
 step_more q inside read more rest next k s (piece, a, e) = record {
@@ -176,6 +178,7 @@ step_more q inside read more rest next k s (piece, a, e) = record {
   any = λ v after h. let (w, f) = s.any v after h in value_past k (lift_piece a) f;
   strict = λ v after h. let (w, f) = s.strict v after h in value_past k a f;
   stops = λ at h. s.stops at (refuses_before a h);
+  comes = λ at h. past_piece a at (s.comes at h);
 }
 
 pub no_quoted : {o : Bool} (q : ℕ) (text inside rest : List ℕ) → text ≡ q ∷ inside → ((v after : List ℕ) → ValueAt o q inside v after → (w : List ℕ) × ValueAt o q rest w after)

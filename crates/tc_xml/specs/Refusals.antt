@@ -34,3 +34,10 @@ RefusedAt (Malformed left) stands = Unit {0}
 RefusedAt (Unsupported left why) stands = (at : List ℕ) × (left ≡ length at) × stands (unsupported why) at
 RefusedAt (TooDeep left) stands = (at : List ℕ) × (left ≡ length at) × stands too_deep at
 RefusedAt NoMemory stands = Unit {0}
+
+-- This holds where Malformed is said.
+abbrev pub OnMalformed : Stop → Type 0 → Type 0
+OnMalformed (Malformed left) P = P
+OnMalformed (Unsupported left why) P = Unit {0}
+OnMalformed (TooDeep left) P = Unit {0}
+OnMalformed NoMemory P = Unit {0}

@@ -1,5 +1,6 @@
 // Elements and their content (XML 1.0, 3 and 3.1).
 ghost use Rattle.std.specs.Prelude.{◌≡◌, ◌<◌, ◌≤◌, ◌∷◌, ◌++◌, [], ℕ, List, true, false, map, IfOk, IfErr, OnOk, IsTrue, MatchBool, MatchOption, encode_utf8, codes, string_bytes};
+ghost use Rattle.tc_base.specs.declared.reasons.Why.{Why};
 ghost use Rattle.tc_base.specs.declared.reasons.Why.TheVariants.{N2};
 ghost use Rattle.tc_model.specs.Names.{ExpandedName};
 ghost use Rattle.tc_model.specs.RawTrees.{RawTrees, Attribute, Bound, none};
@@ -14,7 +15,7 @@ ghost use Rattle.tc_model.specs.XmlTextScopes as xml_scopes;
 ghost use Rattle.tc_scan.specs.Views.{written_name};
 ghost use Rattle.tc_xml.specs.declared.content.Run.TheVariants.{Nothing};
 ghost use Rattle.tc_xml.specs.Reading.{AttributeAt, OpensElement, EndTagAt, BodyAt, BodyRefuses, SmallItemAt, LacksItem, AddsPiece, AddsContent, BeginsWithNoText};
-ghost use Rattle.tc_xml.specs.Refusals.{Refuses, RefusesWithin, UnsupportedAt, RefusedAt};
+ghost use Rattle.tc_xml.specs.Refusals.{Refuses, RefusesWithin, UnsupportedAt, RefusedAt, OnMalformed};
 ghost use Rattle.tc_xml.specs.Views.{run_before, gathered_before};
 ghost use Rattle.tc_xml.specs.Tags.{written, in_scope, lacks_space, Breaks};
 
@@ -85,6 +86,7 @@ fn attribute<'b, 't>(
         ((a : xml_scopes.WrittenAttribute) (after : List ℕ) → AttributeAt true total text.now a after → ⊥)
         ((a : xml_scopes.WrittenAttribute) (after : List ℕ) → AttributeAt false total text.now a after → ⊥)) }
     ensures stands { IfErr result (λ e. UnsupportedAt e (refusals.AttributesRefuse text.now)) }
+    ensures malformed { IfErr result (λ e. OnMalformed e ((why : Why) (at : List ℕ) → refusals.AttributesRefuse text.now why at → ⊥)) }
 {
     let Some(start) = after_some_white(text) else {
         return Err(Stop::Malformed(text.len()));
@@ -116,6 +118,7 @@ fn attributes<'b, 't>(
         ((attributes : List xml_scopes.WrittenAttribute) (after : List ℕ) → xml.AttributesAt true total text.now attributes after → IsTrue (lacks_space attributes) → ⊥)
         ((attributes : List xml_scopes.WrittenAttribute) (after : List ℕ) → xml.AttributesAt false total text.now attributes after → IsTrue (lacks_space attributes) → ⊥)) }
     ensures stands { IfErr result (λ e. UnsupportedAt e (refusals.AttributesRefuse text.now)) }
+    ensures malformed { IfErr result (λ e. OnMalformed e ((why : Why) (at : List ℕ) → refusals.AttributesRefuse text.now why at → ⊥)) }
 {
     let mut found = Vec::new(arena);
     let mut rest = text;
@@ -155,6 +158,7 @@ fn open_tag<'b, 't>(
         ((w : xml_names.QualifiedName) (scope : List Bound) (n : ExpandedName) (attributes : List Attribute) (after : List ℕ) → xml.TagAt true total (in_scope outer.entry) text.now w scope n attributes after → ⊥)
         ((w : xml_names.QualifiedName) (scope : List Bound) (n : ExpandedName) (attributes : List Attribute) (after : List ℕ) → xml.TagAt false total (in_scope outer.entry) text.now w scope n attributes after → ⊥)) }
     ensures stands { IfErr result (λ e. UnsupportedAt e (refusals.TagRefuses text.now)) }
+    ensures malformed { IfErr result (λ e. OnMalformed e ((why : Why) (at : List ℕ) → refusals.TagRefuses text.now why at → ⊥)) }
 {
     let Some(start) = after_byte(text, b'<') else {
         return Err(Stop::Malformed(text.len()));
@@ -411,6 +415,7 @@ fn content<'b, 't>(
         ((d : ℕ) (h : RawTrees) (after : List ℕ) → xml.ContentAt false total (in_scope scope.entry) d text.now h after → ⊥)
         ((h : RawTrees) (after : List ℕ) → xml.ContentAt true total (in_scope scope.entry) depth text.now h after → ⊥)) }
     ensures stands { IfErr result (λ e. RefusedAt e (refusals.ContentRefuses total (in_scope scope.entry) depth text.now)) }
+    ensures malformed { IfErr result (λ e. OnMalformed e ((cause : refusals.Cause) (at : List ℕ) → refusals.ContentRefuses total (in_scope scope.entry) depth text.now cause at → ⊥)) }
 {
     let mut rest = text;
     while !begins_mark(rest, "</") {
@@ -435,6 +440,7 @@ fn item<'b, 't>(
         ((d : ℕ) (p : xml.Piece) (after : List ℕ) → xml.ItemAt false total (in_scope scope.entry) d text.now p after → ⊥)
         ((p : xml.Piece) (after : List ℕ) → xml.ItemAt true total (in_scope scope.entry) depth text.now p after → ⊥)) }
     ensures stands { IfErr result (λ e. RefusedAt e (refusals.ContentRefuses total (in_scope scope.entry) depth text.now)) }
+    ensures malformed { IfErr result (λ e. OnMalformed e ((cause : refusals.Cause) (at : List ℕ) → refusals.ContentRefuses total (in_scope scope.entry) depth text.now cause at → ⊥)) }
 {
     let Some(markup) = after_byte(text, b'<') else {
         return characters(gathered, total, text);
@@ -467,6 +473,7 @@ fn element<'b, 't>(
         ((d : ℕ) (p : xml.Piece) (after : List ℕ) → xml.ElementAt false total (in_scope outer.entry) d text.now p after → ⊥)
         ((p : xml.Piece) (after : List ℕ) → xml.ElementAt true total (in_scope outer.entry) depth text.now p after → ⊥)) }
     ensures stands { IfErr result (λ e. RefusedAt e (refusals.ElementRefuses total (in_scope outer.entry) depth text.now)) }
+    ensures malformed { IfErr result (λ e. OnMalformed e ((cause : refusals.Cause) (at : List ℕ) → refusals.ElementRefuses total (in_scope outer.entry) depth text.now cause at → ⊥)) }
 {
     if depth == 0 {
         return Err(too_deep(text));
@@ -493,6 +500,7 @@ fn body<'b, 't>(
         ((d : ℕ) (h : RawTrees) (after : List ℕ) → BodyAt false total (in_scope tag.now.meaning.scope) d (written_name tag.now.written) tag.now.rest.now h after → ⊥)
         ((h : RawTrees) (after : List ℕ) → BodyAt true total (in_scope tag.now.meaning.scope) depth (written_name tag.now.written) tag.now.rest.now h after → ⊥)) }
     ensures stands { IfErr result (λ e. RefusedAt e (BodyRefuses total (in_scope tag.now.meaning.scope) depth tag.now.rest.now)) }
+    ensures malformed { IfErr result (λ e. OnMalformed e ((cause : refusals.Cause) (at : List ℕ) → BodyRefuses total (in_scope tag.now.meaning.scope) depth tag.now.rest.now cause at → ⊥)) }
 {
     if let Some(rest) = after_mark(tag.rest, "/>") {
         return Ok(rest);
@@ -514,6 +522,7 @@ fn too_deep(text: &str) -> Stop
         ((d : ℕ) (p : xml.Piece) (after : List ℕ) → xml.ElementAt false total outer d text.now p after → ⊥)
         ((p : xml.Piece) (after : List ℕ) → xml.ElementAt true total outer 0 text.now p after → ⊥) }
     ensures stands { (total : ℕ) (outer : List Bound) → RefusedAt result (refusals.ElementRefuses total outer 0 text.now) }
+    ensures malformed { (total : ℕ) (outer : List Bound) → OnMalformed result ((cause : refusals.Cause) (at : List ℕ) → refusals.ElementRefuses total outer 0 text.now cause at → ⊥) }
 {
     if opens_element(text) {
         Stop::TooDeep(text.len())
@@ -536,6 +545,7 @@ pub(crate) fn root_element<'b, 't>(
         ((d : ℕ) (p : xml.Piece) (after : List ℕ) → xml.ElementAt false total xml_scopes.first_scope d text.now p after → ⊥)
         ((p : xml.Piece) (after : List ℕ) → xml.ElementAt true total xml_scopes.first_scope depth text.now p after → ⊥)) }
     ensures stands { IfErr result (λ e. RefusedAt e (refusals.ElementRefuses total xml_scopes.first_scope depth text.now)) }
+    ensures malformed { IfErr result (λ e. OnMalformed e ((cause : refusals.Cause) (at : List ℕ) → refusals.ElementRefuses total xml_scopes.first_scope depth text.now cause at → ⊥)) }
 {
     let mut gathered = gathered_nothing(arena);
     let scope = first_scope(arena)?;

@@ -26,19 +26,18 @@ use bumpalo::Bump;
 use document::document;
 pub use faults::XmlFault;
 use faults::place_of;
-use simdutf8::compat::from_utf8;
 pub use stripping::strip;
 use tc_model::Raw;
+use tc_scan::characters;
 
 /// The raw tree of a text, which is always an element (XML 1.0, 2.1). Its names, texts and namespace names are
 /// lawful, no place in it is past the text's length, and stripped it is a document. Takes at most 64 MiB of text.
 ///
 /// # Errors
 ///
-/// Malformed where there is no tree, not even with elements of any depth and each reference to an entity that
-/// isn't predefined read as `&lt;` is. Otherwise Unsupported at the first construct that isn't read, where the
-/// text before it is well-formed, and TooDeep at the `<` of an element within 2,000 others. NoMemory where
-/// memory is refused.
+/// The first place at which reading stops decides; what stands behind it isn't looked at, whatever bytes it is.
+/// Unsupported at a construct that isn't read, where the text before it is well-formed. TooDeep at the `<` of an
+/// element within 2,000 others. Otherwise Malformed. NoMemory where memory is refused.
 pub fn read_raw<'b>(arena: &'b Bump, text: &[u8]) -> Result<Raw<'b>, XmlFault>
     requires { length text.now ≤ 67108864 }
     ensures ok { IfOk result (λ r. XmlText text.now (raw_tree r)) }
@@ -47,11 +46,15 @@ pub fn read_raw<'b>(arena: &'b Bump, text: &[u8]) -> Result<Raw<'b>, XmlFault>
     ensures document { IfOk result (λ r. IsDocument (stripped (raw_tree r))) }
     ensures refused { IfErr result (IsFaultOf text.now) }
 {
-    match from_utf8(text) {
-        Ok(characters) => match document(arena, characters) {
-            Ok(tree) => Ok(tree),
-            Err(stop) => Err(stop.fault(text.len())),
-        },
-        Err(error) => Err(XmlFault::Malformed(place_of(error.valid_up_to(), 0))),
+    let front = characters(text);
+    match document(arena, front) {
+        Ok(tree) => {
+            if front.len() == text.len() {
+                Ok(tree)
+            } else {
+                Err(XmlFault::Malformed(place_of(front.len(), 0)))
+            }
+        }
+        Err(stop) => Err(stop.fault(front.len())),
     }
 }

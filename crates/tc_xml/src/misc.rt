@@ -5,9 +5,10 @@ ghost use Rattle.std.specs.Str.{str_eq_ignore_ascii_case};
 ghost use Rattle.tc_model.specs.XmlTextBytes as bytes;
 ghost use Rattle.tc_model.specs.XmlTextMisc as xml;
 ghost use Rattle.tc_model.specs.XmlTextReferences as references;
+ghost use Rattle.tc_base.specs.declared.reasons.Why.{Why};
 ghost use Rattle.tc_base.specs.declared.reasons.Why.TheVariants.{N1, N3};
 ghost use Rattle.tc_model.specs.XmlTextRefusals as refusals;
-ghost use Rattle.tc_xml.specs.Refusals.{Refuses, UnsupportedAt};
+ghost use Rattle.tc_xml.specs.Refusals.{Refuses, UnsupportedAt, OnMalformed};
 ghost use Rattle.tc_xml.specs.Tags.{Breaks};
 
 use crate::faults::Stop;
@@ -96,6 +97,7 @@ fn after_encoding(text: &str) -> Result<&str, Stop>
     ensures no { IfErr result (λ e. Refuses e ((after : List ℕ) → xml.EncodingAt text.now after → ⊥) ((after : List ℕ) → xml.EncodingAt text.now after → ⊥)) }
     ensures stands { IfErr result (λ e. UnsupportedAt e (λ why at. (why ≡ N3) × (at ≡ bytes.after_white text.now)
         × ((value : List ℕ) × (after : List ℕ) × xml.SettingAt (codes "encoding") text.now value after × (xml.IsReadEncoding value → ⊥)))) }
+    ensures malformed { IfErr result (λ e. OnMalformed e ((value after : List ℕ) → xml.SettingAt (codes "encoding") text.now value after → ⊥)) }
 {
     let start = after_white(text);
     if !begins(start, "encoding") {
@@ -149,6 +151,7 @@ pub(crate) fn after_declaration(text: &str) -> Result<&str, Stop>
     ensures ok { IfOk result (λ r. xml.DeclarationAt text.now r.now) }
     ensures no { IfErr result (λ e. Refuses e ((after : List ℕ) → xml.DeclarationAt text.now after → ⊥) ((after : List ℕ) → xml.DeclarationAt text.now after → ⊥)) }
     ensures stands { IfErr result (λ e. UnsupportedAt e (refusals.DeclarationRefuses text.now)) }
+    ensures malformed { IfErr result (λ e. OnMalformed e ((why : Why) (at : List ℕ) → refusals.DeclarationRefuses text.now why at → ⊥)) }
 {
     let Some(rest) = after_mark(text, "<?xml") else {
         return Ok(text);
@@ -261,6 +264,7 @@ pub(crate) fn after_doctype(text: &str) -> Result<&str, Stop>
     ensures ok { IfOk result (λ r. xml.DoctypeAt text.now r.now) }
     ensures no { IfErr result (λ e. Refuses e ((after : List ℕ) → xml.DoctypeAt text.now after → ⊥) ((after : List ℕ) → xml.DoctypeAt text.now after → ⊥)) }
     ensures stands { IfErr result (λ e. UnsupportedAt e (λ why at. (why ≡ N1) × ((r : List ℕ) × (at ≡ 0x5B ∷ r)) × xml.DoctypeFrontAt text.now at)) }
+    ensures malformed { IfErr result (λ e. OnMalformed e ((r : List ℕ) → xml.DoctypeFrontAt text.now (0x5B ∷ r) → ⊥)) }
 {
     if !begins(text, "<!DOCTYPE") {
         return Ok(text);

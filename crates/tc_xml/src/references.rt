@@ -6,7 +6,7 @@ ghost use Rattle.tc_base.specs.Characters as class;
 ghost use Rattle.tc_base.specs.declared.reasons.Why.TheVariants.{N2};
 ghost use Rattle.tc_model.specs.XmlTextBytes as xml_bytes;
 ghost use Rattle.tc_model.specs.XmlTextReferences as xml;
-ghost use Rattle.tc_xml.specs.Refusals.{Refuses, UnsupportedAt};
+ghost use Rattle.tc_xml.specs.Refusals.{Refuses, UnsupportedAt, OnMalformed};
 ghost use Rattle.tc_model.specs.XmlTextRefusals as refusals;
 ghost use Rattle.tc_xml.specs.Values.{PieceAt, past_line_end};
 
@@ -199,6 +199,7 @@ pub(crate) fn quoted<'b, 't>(arena: &'b Bump, text: &'t str) -> Result<(&'b str,
         ((v after : List ℕ) → xml.QuotedAt true text.now v after → ⊥)
         ((v after : List ℕ) → xml.QuotedAt false text.now v after → ⊥)) }
     ensures stands { IfErr result (λ e. UnsupportedAt e (λ why at. (why ≡ N2) × refusals.QuotedRefuses text.now at)) }
+    ensures malformed { IfErr result (λ e. OnMalformed e ((at : List ℕ) → refusals.QuotedRefuses text.now at → ⊥)) }
 {
     let Some((quote, inside)) = quote(text) else {
         return Err(Stop::Malformed(text.len()));

@@ -147,6 +147,48 @@ fn places_of_refusals(rt: HostRuntime) -> Result<(), Fail> {
     Ok(())
 }
 
+/// What follows the place of a refusal, be it no characters.
+#[test]
+fn what_stands_behind_is_not_looked_at(rt: HostRuntime) -> Result<(), Fail> {
+    let unsupported = [
+        ("<a>&nbsp;</a>", 3, Why::N2),
+        ("<a xml:space='", 3, Why::N4),
+        ("<!DOCTYPE a [", 12, Why::N1),
+        ("<?xml version='1.1'", 6, Why::N5),
+        (
+            "<?xml version='1.0' encoding='ISO-8859-1'?><a>",
+            20,
+            Why::N3,
+        ),
+        (
+            "<?xml version='1.0' encoding='ISO-2022-JP'?><a>",
+            20,
+            Why::N3,
+        ),
+    ];
+    let behind: [&[u8]; 4] = [b"\xFF", b"\xE9</a>", b"\x1B$B</a>", b"\xEF\xBF\xBE"];
+    for (front, place, why) in unsupported {
+        for bytes in behind {
+            let mut text = Vec::new(rt.alloc());
+            text.extend_from_slice(front.as_bytes())?;
+            text.extend_from_slice(bytes)?;
+            let answer = Some(XmlFault::Unsupported(Place(place), why));
+            assert_eq!(rt; outcome(&rt, text.as_slice()), answer, "{front}");
+        }
+    }
+    let malformed: [&[u8]; 5] = [
+        b"<a/>\xFF",
+        b"<a>\xFF&nbsp;</a>",
+        b"<a>\x01&nbsp;</a>",
+        b"<?xml version='1.0' encoding='x\xFF'?><a/>",
+        b"<a>\xEF\xBF\xBE<b xml:space=''/></a>",
+    ];
+    for text in malformed {
+        assert!(rt; matches!(outcome(&rt, text), Some(XmlFault::Malformed(_))));
+    }
+    Ok(())
+}
+
 #[test]
 fn prefixes_are_malformed(rt: HostRuntime) -> Result<(), Fail> {
     let text = b"<a><b/><c><b/></c></a>";

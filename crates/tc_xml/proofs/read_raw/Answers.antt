@@ -1,31 +1,27 @@
-use Rattle.std.proofs.Common.{◌≡◌, sym, subst, length, arith}
-use Rattle.std.proofs.lemmas.Str.{utf8_valid_len_le}
+use Rattle.std.proofs.Common.{sym, subst}
 use Rattle.tc_model.specs.Views.{raw_tree}
 use Rattle.tc_model.specs.XmlTextLaws.{AreLawfulWithin}
 use Rattle.tc_model.proofs.XmlTextTrees.{lawful_raw_tree}
 use Rattle.tc_model.proofs.XmlTextDocument.{document}
-use Rattle.tc_xml.specs.Faults.{IsFaultOf, fault_of}
-use Rattle.tc_xml.proofs.FaultLaws.{fault_is, no_utf8, reads_element}
+use Rattle.tc_xml.specs.Faults.{IsFaultOf}
+use Rattle.tc_xml.proofs.FaultLaws.{fault_is, others_behind, reads_element}
 use Rattle.tc_xml.proofs.read_raw.Goals as goal
 
-pub returns-in-Ok-document-clause-element : goal.returns-in-Ok-document-clause-element
-returns-in-Ok-document-clause-element c = reads_element c.in-Ok-document.ensures.ok
+pub returns-then-front-text-clause-element : goal.returns-then-front-text-clause-element
+returns-then-front-text-clause-element c = reads_element c.in-Ok.ensures.ok
 
-pub returns-in-Ok-document-clause-lawful : goal.returns-in-Ok-document-clause-lawful
-returns-in-Ok-document-clause-lawful c =
-    subst (λ b. AreLawfulWithin (length b) (raw_tree c.in-Ok-document.tree)) c.in-Ok.ensures.cases.0 (lawful_raw_tree c.in-Ok.characters.now (raw_tree c.in-Ok-document.tree) c.in-Ok-document.ensures.ok)
+pub returns-then-front-text-clause-lawful : goal.returns-then-front-text-clause-lawful
+returns-then-front-text-clause-lawful c =
+    subst (λ n. AreLawfulWithin n (raw_tree c.in-Ok.tree)) c.if-front-text.true (lawful_raw_tree c.characters-front.result.now (raw_tree c.in-Ok.tree) c.in-Ok.ensures.ok)
 
-pub returns-in-Ok-document-clause-document : goal.returns-in-Ok-document-clause-document
-returns-in-Ok-document-clause-document c = document c.in-Ok.characters.now (raw_tree c.in-Ok-document.tree) c.in-Ok-document.ensures.ok
+pub returns-then-front-text-clause-document : goal.returns-then-front-text-clause-document
+returns-then-front-text-clause-document c = document c.characters-front.result.now (raw_tree c.in-Ok.tree) c.in-Ok.ensures.ok
 
-pub returns-in-Err-document-clause-refused : goal.returns-in-Err-document-clause-refused
-returns-in-Err-document-clause-refused c =
-    let t = c.args.text.now in
-    let e = c.in-Err-document.stop in
-    let same : c.in-Ok.characters.now ≡ t = c.in-Ok.ensures.cases.0 in
-    subst (IsFaultOf t) (sym c.fault.ensures)
-    (subst (λ b. IsFaultOf b (fault_of (length b) e)) same (fault_is c.in-Ok.characters.now e c.in-Err-document.ensures.no c.in-Err-document.ensures.stands))
+pub returns-else-front-text-clause-refused : goal.returns-else-front-text-clause-refused
+returns-else-front-text-clause-refused c =
+    others_behind c.args.text.now c.characters-front.result.now (raw_tree c.in-Ok.tree) c.place_of.result c.characters-front.ensures c.in-Ok.ensures.ok c.if-front-text.false c.place_of.ensures
 
 pub returns-in-Err-clause-refused : goal.returns-in-Err-clause-refused
 returns-in-Err-clause-refused c =
-    (omega (arith, c.in-Err.ensures.valid_len, utf8_valid_len_le c.args.text.now, c.place_of.ensures), no_utf8 c.args.text.now c.in-Err.ensures.cases.0)
+    subst (IsFaultOf c.args.text.now) (sym c.fault.ensures)
+    (fault_is c.args.text.now c.characters-front.result.now c.in-Err.stop c.characters-front.ensures c.in-Err.ensures.no c.in-Err.ensures.stands c.in-Err.ensures.malformed)

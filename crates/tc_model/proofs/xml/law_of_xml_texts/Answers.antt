@@ -1,5 +1,6 @@
 use Rattle.tc_model.proofs.XmlTextTrees.{one_raw_tree, lawful_raw_tree}
 use Rattle.tc_model.proofs.XmlTextDocument.{document}
+use Rattle.tc_model.proofs.XmlTextRefused.{one_refusal, no_tree_where_refused}
 use Rattle.tc_model.proofs.xml.law_of_xml_texts.Goals as goal
 
 pub returns-clause-one : goal.returns-clause-one
@@ -10,3 +11,9 @@ returns-clause-lawful c = lawful_raw_tree
 
 pub returns-clause-document : goal.returns-clause-document
 returns-clause-document c = document
+
+pub returns-clause-refusal : goal.returns-clause-refusal
+returns-clause-refusal c = one_refusal
+
+pub returns-clause-no_tree : goal.returns-clause-no_tree
+returns-clause-no_tree c = no_tree_where_refused

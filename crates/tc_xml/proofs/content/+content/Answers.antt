@@ -6,10 +6,11 @@ use Rattle.tc_model.specs.XmlTextContent.{Piece, nothing, whole, ContentAt, Item
 use Rattle.tc_model.specs.XmlTextRefusals as refusals
 use Rattle.tc_scan.specs.Views.{written_name}
 use Rattle.tc_xml.specs.Reading.{empty, filled, AddsPiece}
-use Rattle.tc_xml.specs.Refusals.{RefusesWithin, RefusedAt}
+use Rattle.tc_xml.specs.Refusals.{RefusesWithin, RefusedAt, OnMalformed}
 use Rattle.tc_xml.specs.Views.{gathered_before}
 use Rattle.tc_xml.specs.Tags.{in_scope}
-use Rattle.tc_xml.proofs.ContentLaws.{failed, item_within}
+use Rattle.tc_xml.proofs.ContentLaws.{failed, item_within, item_loosened}
+use Rattle.tc_xml.proofs.MalformedLaws.{of_malformed, of_refuses, of_breaks, of_both, of_both_within, err_both, no_characters_refused, no_bang_refused, no_question_refused, no_child_refused, no_tag_refused, no_body_refused, no_closing_refused}
 use Rattle.tc_xml.proofs.ItemLaws.{lacks_instruction, is_child}
 use Rattle.tc_xml.proofs.ElementLaws.{content_begin, content_more, no_content, all_content, refuse_within, refused_map, refuse_shallow, refused_shallow, an_element, no_body, no_shallow_body, no_tag, tag_stands, body_stands, no_end_of_element, entity_stands}
 use Rattle.tc_xml.proofs.content.+content.Goals as goal
@@ -176,3 +177,66 @@ pub item-returns-clause-stands : goal.item-returns-clause-stands
 item-returns-clause-stands t c =
     let P = refusals.ContentRefuses c.args.total (in_scope c.args.scope) c.args.depth c.args.text.now in
     IfErr-weaker c.element.result _ (λ e. RefusedAt e P) (λ e. refused_map e _ P (λ cause at k. refusals.child k)) c.element.ensures.stands
+
+pub body-returns-in-None-clause-malformed : goal.body-returns-in-None-clause-malformed
+body-returns-in-None-clause-malformed t c =
+    let (h, m, adds) = c.in_ok-end.ensures.ok in
+    let tag = c.args.tag.now in
+    no_closing_refused c.args.total (in_scope tag.meaning.scope) c.args.depth tag.rest.now c.in-Some-after_byte.inside.now c.in_ok-end.end.now h c.in-Some-after_byte.ensures m
+
+pub element-returns-in_err-tag-clause-malformed : goal.element-returns-in_err-tag-clause-malformed
+element-returns-in_err-tag-clause-malformed t c =
+    let n = c.args.total in
+    let o = in_scope c.args.outer in
+    let text = c.args.text.now in
+    let e = c.in_err-tag.field-0.0 in
+    let Q = (cause : refusals.Cause) (at : List ℕ) → refusals.ElementRefuses n o c.args.depth text cause at → ⊥ in
+    failed c.from_residual.result (λ e. OnMalformed e Q) e c.from_residual.ensures.1
+    (of_both e _ _ _ Q (no_tag_refused n o c.args.depth text c.if-depth-eq0.false) c.in_err-tag.ensures.no c.in_err-tag.ensures.malformed)
+
+pub element-returns-in_err-rest-clause-malformed : goal.element-returns-in_err-rest-clause-malformed
+element-returns-in_err-rest-clause-malformed t c =
+    let n = c.args.total in
+    let o = in_scope c.args.outer in
+    let text = c.args.text.now in
+    let e = c.in_err-rest.field-0.0 in
+    let tag = c.in_ok-tag.tag in
+    let w = written_name tag.written in
+    let s = in_scope tag.meaning.scope in
+    let m = name tag.meaning.name in
+    let x = map attribute tag.meaning.attrs.now in
+    let Q = (cause : refusals.Cause) (at : List ℕ) → refusals.ElementRefuses n o c.args.depth text cause at → ⊥ in
+    failed c.from_residual-in_err-rest.result (λ e. OnMalformed e Q) e c.from_residual-in_err-rest.ensures.1
+    (of_malformed e _ Q (no_body_refused n o c.args.depth text tag.rest.now w s m x c.in_ok-tag.ensures.ok c.if-depth-eq0.false) c.in_err-rest.ensures.malformed)
+
+pub item-returns-in_default-clause-malformed : goal.item-returns-in_default-clause-malformed
+item-returns-in_default-clause-malformed t c =
+    let Q = (cause : refusals.Cause) (at : List ℕ) → refusals.ContentRefuses c.args.total (in_scope c.args.scope) c.args.depth c.args.text.now cause at → ⊥ in
+    IfErr-weaker c.characters.result _ (λ e. OnMalformed e Q)
+    (λ e. of_refuses e _ _ Q (no_characters_refused c.args.total (in_scope c.args.scope) c.args.depth c.args.text.now c.in_default.ensures)) c.characters.ensures.no
+
+pub item-returns-then-begins-clause-malformed : goal.item-returns-then-begins-clause-malformed
+item-returns-then-begins-clause-malformed t c =
+    let (r, e) = c.if-begins.ensures in
+    let Q = (cause : refusals.Cause) (at : List ℕ) → refusals.ContentRefuses c.args.total (in_scope c.args.scope) c.args.depth c.args.text.now cause at → ⊥ in
+    IfErr-weaker c.comment_or_cdata.result _ (λ e. OnMalformed e Q)
+    (λ f. of_breaks f _ Q (no_bang_refused c.args.total (in_scope c.args.scope) c.args.depth c.args.text.now r (c.in-Some.ensures ∙ ap (λ w. 0x3C ∷ w) e))) c.comment_or_cdata.ensures.no
+
+pub item-returns-in-None-clause-malformed : goal.item-returns-in-None-clause-malformed
+item-returns-in-None-clause-malformed t c =
+    let (r, e) = c.if-begins-2.ensures in
+    let whole = c.in-Some.ensures ∙ ap (λ w. 0x3C ∷ w) e in
+    no_question_refused c.args.total (in_scope c.args.scope) c.args.depth c.args.text.now r whole (λ outer. lacks_instruction true c.args.total c.args.text.now r whole c.in-None.ensures outer)
+
+pub item-returns-clause-malformed : goal.item-returns-clause-malformed
+item-returns-clause-malformed t c =
+    let n = c.args.total in
+    let s = in_scope c.args.scope in
+    let depth = c.args.depth in
+    let text = c.args.text.now in
+    let m = c.in-Some.markup.now in
+    let only : (p : Piece) (after : List ℕ) → ItemAt true n s depth text p after → ElementAt true n s depth text p after =
+    is_child true n depth s text m c.in-Some.ensures c.if-begins.ensures c.if-begins-2.ensures in
+    let Q = (cause : refusals.Cause) (at : List ℕ) → refusals.ContentRefuses n s depth text cause at → ⊥ in
+    err_both c.element.result _ _ (λ e. OnMalformed e Q)
+    (λ e. of_both_within e _ _ _ _ Q (λ k h. no_child_refused n s depth text m c.in-Some.ensures (λ p after a. k depth p after (only p after (item_loosened a))) h)) c.element.ensures.no c.element.ensures.malformed

@@ -2,8 +2,10 @@ use Rattle.std.proofs.Common.{true, false, List, ℕ}
 use Rattle.tc_model.specs.XmlTextScopes.{WrittenAttribute}
 use Rattle.tc_model.specs.XmlTextRefusals.{AttributesRefuse}
 use Rattle.tc_scan.specs.Views.{written_name}
-use Rattle.tc_xml.specs.Refusals.{Refuses, UnsupportedAt}
+use Rattle.tc_xml.specs.Refusals.{Refuses, UnsupportedAt, OnMalformed}
 use Rattle.tc_xml.specs.Reading.{AttributeAt}
+use Rattle.tc_base.specs.declared.reasons.Why.{Why}
+use Rattle.tc_xml.proofs.MalformedLaws.{of_both, no_equals_refused, no_value_refused}
 use Rattle.tc_xml.proofs.ContentLaws.{not_xml_space, no_equals, no_value, space_stands, value_stands, failed, refuse_both, unsupported_map}
 use Rattle.tc_xml.proofs.content.attribute.Goals as goal
 
@@ -39,3 +41,18 @@ returns-in_err-value-clause-stands c =
     (unsupported_map e _ (AttributesRefuse t)
     (value_stands t c.in-Some.start.now c.in-Some-qname.behind.now c.in-Some-after_equals.equals.now (written_name c.in-Some-qname.name) c.in-Some.ensures.0 c.in-Some.ensures.1 c.in-Some-qname.ensures c.if-is_xml_space.ensures c.in-Some-after_equals.ensures)
     c.in_err-value.ensures.stands)
+
+pub returns-in_default-after_equals-clause-malformed : goal.returns-in_default-after_equals-clause-malformed
+returns-in_default-after_equals-clause-malformed c =
+    no_equals_refused c.args.text.now c.in-Some.start.now c.in-Some-qname.behind.now (written_name c.in-Some-qname.name) c.in-Some.ensures.1 c.in-Some-qname.ensures c.if-is_xml_space.ensures
+    c.in_default-after_equals.ensures
+
+pub returns-in_err-value-clause-malformed : goal.returns-in_err-value-clause-malformed
+returns-in_err-value-clause-malformed c =
+    let e = c.in_err-value.field-0.0 in
+    let Q = (why : Why) (at : List ℕ) → AttributesRefuse c.args.text.now why at → ⊥ in
+    failed c.from_residual.result (λ e. OnMalformed e Q) e c.from_residual.ensures.1
+    (of_both e _ _ _ Q
+    (no_value_refused c.args.text.now c.in-Some.start.now c.in-Some-qname.behind.now c.in-Some-after_equals.equals.now (written_name c.in-Some-qname.name) c.in-Some.ensures.1 c.in-Some-qname.ensures
+    c.if-is_xml_space.ensures c.in-Some-after_equals.ensures)
+    c.in_err-value.ensures.no c.in_err-value.ensures.malformed)

@@ -4,8 +4,11 @@ use Rattle.tc_model.specs.RawTrees.{Attribute, Bound}
 use Rattle.tc_model.specs.XmlTextNames.{QualifiedName}
 use Rattle.tc_model.specs.XmlTextContent.{AttributesAt, TagAt}
 use Rattle.tc_scan.specs.Views.{written_name}
-use Rattle.tc_xml.specs.Refusals.{Refuses}
+use Rattle.tc_xml.specs.Refusals.{Refuses, OnMalformed}
 use Rattle.tc_xml.specs.Tags.{written, in_scope}
+use Rattle.tc_base.specs.declared.reasons.Why.{Why}
+use Rattle.tc_model.specs.XmlTextRefusals.{TagRefuses}
+use Rattle.tc_xml.proofs.MalformedLaws.{of_malformed, of_breaks, no_list_refused, read_list_not_refused}
 use Rattle.tc_xml.proofs.ContentLaws.{no_list, no_meaning, broken, failed, refuse_both}
 use Rattle.tc_xml.proofs.content.open_tag.Goals as goal
 
@@ -42,4 +45,22 @@ returns-in_err-meaning-clause-no c =
     (broken e _ A B
     (no_meaning true n o t start behind rest w list c.in-Some.ensures c.in-Some-qname.ensures read)
     (no_meaning false n o t start behind rest w list c.in-Some.ensures c.in-Some-qname.ensures read)
+    c.in_err-meaning.ensures.no)
+
+pub returns-in_err-list-clause-malformed : goal.returns-in_err-list-clause-malformed
+returns-in_err-list-clause-malformed c =
+    let e = c.in_err-list.field-0.0 in
+    let Q = (why : Why) (at : List ℕ) → TagRefuses c.args.text.now why at → ⊥ in
+    failed c.from_residual.result (λ e. OnMalformed e Q) e c.from_residual.ensures.1
+    (of_malformed e _ Q (no_list_refused c.args.text.now c.in-Some.start.now c.in-Some-qname.behind.now (written_name c.in-Some-qname.written) c.in-Some.ensures c.in-Some-qname.ensures)
+    c.in_err-list.ensures.malformed)
+
+pub returns-in_err-meaning-clause-malformed : goal.returns-in_err-meaning-clause-malformed
+returns-in_err-meaning-clause-malformed c =
+    let e = c.in_err-meaning.field-0.0 in
+    let Q = (why : Why) (at : List ℕ) → TagRefuses c.args.text.now why at → ⊥ in
+    failed c.from_residual-in_err-meaning.result (λ e. OnMalformed e Q) e c.from_residual-in_err-meaning.ensures.1
+    (of_breaks e _ Q
+    (λ k. read_list_not_refused c.args.total c.args.text.now c.in-Some.start.now c.in-Some-qname.behind.now c.in_ok-list.rest.now (written_name c.in-Some-qname.written) (map written c.in_ok-list.list.items)
+    c.in-Some.ensures c.in-Some-qname.ensures c.in_ok-list.ensures.ok c.in_ok-list.ensures.no_space)
     c.in_err-meaning.ensures.no)

@@ -19,3 +19,9 @@ returns-in-None-clause-no c =
     let (p, a, adds) = c.in_ok-rest.ensures.ok in
     let trees : raw_trees c.in_ok-trees.trees.now ≡ piece_before p none = c.in_ok-trees.ensures ∙ (adds none ∙ c.gathered_nothing-gathered.ensures (piece_before p none)) in
     absurd (no_root c.in_ok-trees.trees.now (piece_before p none) c.in-None.ensures.value trees (element_alone a))
+
+pub returns-in-None-clause-malformed : goal.returns-in-None-clause-malformed
+returns-in-None-clause-malformed c =
+    let (p, a, adds) = c.in_ok-rest.ensures.ok in
+    let trees : raw_trees c.in_ok-trees.trees.now ≡ piece_before p none = c.in_ok-trees.ensures ∙ (adds none ∙ c.gathered_nothing-gathered.ensures (piece_before p none)) in
+    absurd (no_root c.in_ok-trees.trees.now (piece_before p none) c.in-None.ensures.value trees (element_alone a))

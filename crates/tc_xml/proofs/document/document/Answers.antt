@@ -1,12 +1,13 @@
-use Rattle.std.proofs.Common.{◌≡◌, ℕ, true, false, [], sym, ap, ◌∙◌, ◌==◌, length}
+use Rattle.std.proofs.Common.{◌≡◌, ℕ, true, false, [], sym, ap, ◌∙◌, ◌==◌, length, List, ℕ}
 use Rattle.std.proofs.lemmas.Bool.{true≢false}
 use Rattle.tc_model.specs.RawTrees.{RawTrees}
 use Rattle.tc_model.specs.XmlText as xml
-use Rattle.tc_model.specs.XmlTextRefusals.{DocumentRefuses}
-use Rattle.tc_xml.specs.Refusals.{RefusesWithin, RefusedAt}
+use Rattle.tc_model.specs.XmlTextRefusals.{Cause, DocumentRefuses}
+use Rattle.tc_xml.specs.Refusals.{RefusesWithin, RefusedAt, OnMalformed}
 use Rattle.tc_xml.proofs.ContentLaws.{failed}
 use Rattle.tc_xml.proofs.ElementLaws.{refuse_within, refused_map, refuse_shallow, refused_shallow}
 use Rattle.tc_xml.proofs.DocumentLaws.{no_misc_here, no_doctype_here, no_element_here, no_end_here, no_more_here, declaration_stands, subset_stands, element_stands, breaks_within}
+use Rattle.tc_xml.proofs.MalformedLaws.{of_malformed, of_breaks, of_both, no_misc_refused, no_doctype_refused, no_root_refused, root_not_refused}
 use Rattle.tc_xml.proofs.document.document.Goals as goal
 
 pub returns-in_err-past_declaration-clause-stands : goal.returns-in_err-past_declaration-clause-stands
@@ -15,7 +16,7 @@ returns-in_err-past_declaration-clause-stands c =
     let e = c.in_err-past_declaration.field-0.0 in
     let P = DocumentRefuses xml.deepest_element t in
     failed c.from_residual.result (λ e. RefusedAt e P) e c.from_residual.ensures.1
-    (refused_shallow e _ P (declaration_stands xml.deepest_element t c.past_mark-start.result.now c.if-not-are_chars.ensures c.past_mark-start.ensures) c.in_err-past_declaration.ensures.stands)
+    (refused_shallow e _ P (declaration_stands xml.deepest_element t c.past_mark-start.result.now c.past_mark-start.ensures) c.in_err-past_declaration.ensures.stands)
 
 pub returns-in_err-past_misc-clause-no : goal.returns-in_err-past_misc-clause-no
 returns-in_err-past_misc-clause-no c =
@@ -51,8 +52,7 @@ returns-in_err-root-clause-stands c =
     let e = c.in_err-root.field-0.0 in
     let P = DocumentRefuses xml.deepest_element t in
     failed c.from_residual-in_err-root.result (λ e. RefusedAt e P) e c.from_residual-in_err-root.ensures.1
-    (refused_shallow e _ P (subset_stands xml.deepest_element t c.past_mark-start.result.now c.in_ok-past_declaration.past_declaration.now c.in_ok-past_misc.past_misc.now c.if-not-are_chars.ensures
-    c.past_mark-start.ensures c.in_ok-past_declaration.ensures.ok c.in_ok-past_misc.ensures.ok) c.in_err-root.ensures.stands)
+    (refused_shallow e _ P (subset_stands xml.deepest_element t c.past_mark-start.result.now c.in_ok-past_declaration.past_declaration.now c.in_ok-past_misc.past_misc.now c.past_mark-start.ensures c.in_ok-past_declaration.ensures.ok c.in_ok-past_misc.ensures.ok) c.in_err-root.ensures.stands)
 
 pub returns-in_err-tree-clause-no : goal.returns-in_err-tree-clause-no
 returns-in_err-tree-clause-no c =
@@ -78,8 +78,7 @@ returns-in_err-tree-clause-stands c =
     let e = c.in_err-tree.field-0.0 in
     let P = DocumentRefuses xml.deepest_element t in
     failed c.from_residual-in_err-tree.result (λ e. RefusedAt e P) e c.from_residual-in_err-tree.ensures.1
-    (refused_map e _ P (element_stands xml.deepest_element t c.past_mark-start.result.now c.in_ok-past_declaration.past_declaration.now c.in_ok-past_misc.past_misc.now c.in_ok-root.root.now c.if-not-are_chars.ensures
-    c.past_mark-start.ensures c.in_ok-past_declaration.ensures.ok c.in_ok-past_misc.ensures.ok c.in_ok-root.ensures.ok) c.in_err-tree.ensures.stands)
+    (refused_map e _ P (element_stands xml.deepest_element t c.past_mark-start.result.now c.in_ok-past_declaration.past_declaration.now c.in_ok-past_misc.past_misc.now c.in_ok-root.root.now c.past_mark-start.ensures c.in_ok-past_declaration.ensures.ok c.in_ok-past_misc.ensures.ok c.in_ok-root.ensures.ok) c.in_err-tree.ensures.stands)
 
 pub returns-in_err-end-clause-no : goal.returns-in_err-end-clause-no
 returns-in_err-end-clause-no c =
@@ -109,3 +108,38 @@ returns-else-is_empty-clause-no c = λ d.
     let some : end ≡ [] → ⊥ = λ q. true≢false (sym (ap (λ w. length w == 0) q) ∙ sym c.if-is_empty.ensures) in
     no_end_here true xml.deepest_element d c.args.text.now c.past_mark-start.result.now c.in_ok-past_declaration.past_declaration.now c.in_ok-past_misc.past_misc.now c.in_ok-root.root.now rest p
     c.past_mark-start.ensures c.in_ok-past_declaration.ensures.ok c.in_ok-past_misc.ensures.ok c.in_ok-root.ensures.ok a (no_more_here rest end c.in_ok-end.ensures.ok some)
+
+pub returns-in_err-past_misc-clause-malformed : goal.returns-in_err-past_misc-clause-malformed
+returns-in_err-past_misc-clause-malformed c =
+    let e = c.in_err-past_misc.field-0.0 in
+    let Q = (cause : Cause) (at : List ℕ) → DocumentRefuses xml.deepest_element c.args.text.now cause at → ⊥ in
+    failed c.from_residual-in_err-past_misc.result (λ e. OnMalformed e Q) e c.from_residual-in_err-past_misc.ensures.1
+    (of_breaks e _ Q (no_misc_refused xml.deepest_element c.args.text.now c.past_mark-start.result.now c.in_ok-past_declaration.past_declaration.now c.past_mark-start.ensures c.in_ok-past_declaration.ensures.ok) c.in_err-past_misc.ensures.no)
+
+pub returns-in_err-root-clause-malformed : goal.returns-in_err-root-clause-malformed
+returns-in_err-root-clause-malformed c =
+    let e = c.in_err-root.field-0.0 in
+    let Q = (cause : Cause) (at : List ℕ) → DocumentRefuses xml.deepest_element c.args.text.now cause at → ⊥ in
+    failed c.from_residual-in_err-root.result (λ e. OnMalformed e Q) e c.from_residual-in_err-root.ensures.1
+    (of_both e _ _ _ Q (no_doctype_refused xml.deepest_element c.args.text.now c.past_mark-start.result.now c.in_ok-past_declaration.past_declaration.now c.past_mark-start.ensures c.in_ok-past_declaration.ensures.ok c.in_ok-past_misc.past_misc.now c.in_ok-past_misc.ensures.ok)
+    c.in_err-root.ensures.no c.in_err-root.ensures.malformed)
+
+pub returns-in_err-tree-clause-malformed : goal.returns-in_err-tree-clause-malformed
+returns-in_err-tree-clause-malformed c =
+    let e = c.in_err-tree.field-0.0 in
+    let Q = (cause : Cause) (at : List ℕ) → DocumentRefuses xml.deepest_element c.args.text.now cause at → ⊥ in
+    failed c.from_residual-in_err-tree.result (λ e. OnMalformed e Q) e c.from_residual-in_err-tree.ensures.1
+    (of_malformed e _ Q (no_root_refused xml.deepest_element c.args.text.now c.past_mark-start.result.now c.in_ok-past_declaration.past_declaration.now c.past_mark-start.ensures c.in_ok-past_declaration.ensures.ok c.in_ok-past_misc.past_misc.now c.in_ok-root.root.now c.in_ok-past_misc.ensures.ok c.in_ok-root.ensures.ok) c.in_err-tree.ensures.malformed)
+
+pub returns-in_err-end-clause-malformed : goal.returns-in_err-end-clause-malformed
+returns-in_err-end-clause-malformed c =
+    let e = c.in_err-end.field-0.0 in
+    let (p, a, is) = c.in_ok-tree.ensures.ok in
+    let Q = (cause : Cause) (at : List ℕ) → DocumentRefuses xml.deepest_element c.args.text.now cause at → ⊥ in
+    failed c.from_residual-in_err-end.result (λ e. OnMalformed e Q) e c.from_residual-in_err-end.ensures.1
+    (of_breaks e _ Q (λ k. root_not_refused xml.deepest_element c.args.text.now c.past_mark-start.result.now c.in_ok-past_declaration.past_declaration.now c.past_mark-start.ensures c.in_ok-past_declaration.ensures.ok c.in_ok-past_misc.past_misc.now c.in_ok-root.root.now c.in_ok-tree.rest.now p c.in_ok-past_misc.ensures.ok c.in_ok-root.ensures.ok a) c.in_err-end.ensures.no)
+
+pub returns-else-is_empty-clause-malformed : goal.returns-else-is_empty-clause-malformed
+returns-else-is_empty-clause-malformed c =
+    let (p, a, is) = c.in_ok-tree.ensures.ok in
+    root_not_refused xml.deepest_element c.args.text.now c.past_mark-start.result.now c.in_ok-past_declaration.past_declaration.now c.past_mark-start.ensures c.in_ok-past_declaration.ensures.ok c.in_ok-past_misc.past_misc.now c.in_ok-root.root.now c.in_ok-tree.rest.now p c.in_ok-past_misc.ensures.ok c.in_ok-root.ensures.ok a

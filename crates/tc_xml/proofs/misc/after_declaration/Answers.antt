@@ -1,11 +1,13 @@
-use Rattle.std.proofs.Common.{sym}
+use Rattle.std.proofs.Common.{sym, List, ℕ}
 use Rattle.std.specs.Cmp.Lexicographic.{bytes_decides}
 use Rattle.std.proofs.lemmas.Bool.{not-false}
 use Rattle.tc_model.specs.XmlTextMisc.{no_declaration}
 use Rattle.tc_xml.proofs.MiscLaws.{not_declared, no_version, a_declaration, no_declaration_end, no_standing, version_stands, encoding_stands}
+use Rattle.tc_base.specs.declared.reasons.Why.{Why}
+use Rattle.tc_xml.proofs.MalformedLaws.{of_malformed, of_breaks, no_version_refused, no_encoding_refused, read_encoding_not_refused}
 use Rattle.tc_xml.proofs.ContentLaws.{broken, failed, unsupported_map}
 use Rattle.tc_model.specs.XmlTextRefusals.{DeclarationRefuses}
-use Rattle.tc_xml.specs.Refusals.{UnsupportedAt}
+use Rattle.tc_xml.specs.Refusals.{UnsupportedAt, OnMalformed}
 use Rattle.tc_xml.proofs.misc.after_declaration.Goals as goal
 
 pub returns-in_default-clause-ok : goal.returns-in_default-clause-ok
@@ -50,3 +52,28 @@ returns-in_err-past_encoding-clause-stands c =
     (encoding_stands c.args.text.now c.in-Some.rest.now c.in-Some-setting.version.now c.in-Some-setting.behind.now c.in-Some.ensures c.in-Some-setting.ensures
     ((bytes_decides c.in-Some-setting.version.now _).0 (not-false _ (sym c.if-ne.ensures))))
     c.in_err-past_encoding.ensures.stands)
+
+pub returns-in_default-setting-clause-malformed : goal.returns-in_default-setting-clause-malformed
+returns-in_default-setting-clause-malformed c = no_version_refused c.args.text.now c.in-Some.rest.now c.in-Some.ensures c.in_default-setting.ensures
+
+pub returns-in_err-past_encoding-clause-malformed : goal.returns-in_err-past_encoding-clause-malformed
+returns-in_err-past_encoding-clause-malformed c =
+    let e = c.in_err-past_encoding.field-0.0 in
+    let Q = (why : Why) (at : List ℕ) → DeclarationRefuses c.args.text.now why at → ⊥ in
+    failed c.from_residual.result (λ e. OnMalformed e Q) e c.from_residual.ensures.1
+    (of_malformed e _ Q
+    (λ k. no_encoding_refused c.args.text.now c.in-Some.rest.now c.in-Some-setting.version.now c.in-Some-setting.behind.now c.in-Some.ensures c.in-Some-setting.ensures
+    ((bytes_decides c.in-Some-setting.version.now _).0 (not-false _ (sym c.if-ne.ensures))) (λ value after t n. k value after t))
+    c.in_err-past_encoding.ensures.malformed)
+
+pub returns-in-Err-clause-malformed : goal.returns-in-Err-clause-malformed
+returns-in-Err-clause-malformed c =
+    of_breaks c.in-Err.stop _ _
+    (λ k. read_encoding_not_refused c.args.text.now c.in-Some.rest.now c.in-Some-setting.version.now c.in-Some-setting.behind.now c.in_ok-past_encoding.past_encoding.now c.in-Some.ensures c.in-Some-setting.ensures
+    ((bytes_decides c.in-Some-setting.version.now _).0 (not-false _ (sym c.if-ne.ensures))) c.in_ok-past_encoding.ensures.ok)
+    c.in-Err.ensures.no
+
+pub returns-in-None-clause-malformed : goal.returns-in-None-clause-malformed
+returns-in-None-clause-malformed c =
+    read_encoding_not_refused c.args.text.now c.in-Some.rest.now c.in-Some-setting.version.now c.in-Some-setting.behind.now c.in_ok-past_encoding.past_encoding.now c.in-Some.ensures c.in-Some-setting.ensures
+    ((bytes_decides c.in-Some-setting.version.now _).0 (not-false _ (sym c.if-ne.ensures))) c.in_ok-past_encoding.ensures.ok

@@ -1,7 +1,9 @@
-use Rattle.std.proofs.Common.{sym, subst, List, ℕ}
+use Rattle.std.proofs.Common.{sym, subst, List, ℕ, ◌∷◌, ◌∙◌, arith}
 use Rattle.tc_model.specs.XmlTextMisc.{no_doctype, doctype, DoctypeFrontAt, DoctypeAt}
-use Rattle.tc_xml.specs.Refusals.{Refuses}
+use Rattle.tc_xml.specs.Refusals.{Refuses, OnMalformed}
+use Rattle.tc_model.proofs.XmlTextPhrases.{same_first}
 use Rattle.tc_xml.proofs.ContentLaws.{broken}
+use Rattle.tc_xml.proofs.MalformedLaws.{of_breaks, no_subset_at}
 use Rattle.tc_xml.proofs.MiscLaws.{map_ok, map_err, no_front, no_misc_behind, no_close}
 use Rattle.tc_xml.proofs.misc.after_doctype.Goals as goal
 use Rattle.tc_xml.proofs.misc.after_doctype.Goals.{then-begins, else-begins}
@@ -29,4 +31,21 @@ returns-after-begins-clause-no c =
     elim c.if-begins.branch [
       | then-begins w ↦ subst (λ e. Refuses e ((after : List ℕ) → DoctypeAt c.args.text.now after → ⊥) ((after : List ℕ) → DoctypeAt c.args.text.now after → ⊥)) (sym w.result-is) none
       | else-begins w ↦ subst (λ e. Refuses e ((after : List ℕ) → DoctypeAt c.args.text.now after → ⊥) ((after : List ℕ) → DoctypeAt c.args.text.now after → ⊥)) (sym w.result-is) none
+    ]
+
+pub returns-in_default-clause-malformed : goal.returns-in_default-clause-malformed
+returns-in_default-clause-malformed c = λ r. c.in_default.ensures (0x5B ∷ r)
+
+pub returns-in-Some-after_byte-clause-malformed : goal.returns-in-Some-after_byte-clause-malformed
+returns-in-Some-after_byte-clause-malformed c =
+    let none : (r : List ℕ) → DoctypeFrontAt c.args.text.now (0x5B ∷ r) → ⊥ =
+    no_subset_at c.args.text.now c.in-Some.end.now c.in-Some.ensures (λ r e. omega (arith, same_first (sym c.in-Some-after_byte.ensures ∙ e))) in
+    map_err _ _ c.after_misc.result (λ e m. of_breaks e _ _ (λ k. none) m) c.after_misc.ensures.no
+
+pub returns-after-begins-clause-malformed : goal.returns-after-begins-clause-malformed
+returns-after-begins-clause-malformed c =
+    elim c.if-begins.branch [
+      | then-begins w ↦ subst (λ e. OnMalformed e ((r : List ℕ) → DoctypeFrontAt c.args.text.now (0x5B ∷ r) → ⊥)) (sym w.result-is) tt
+      | else-begins w ↦ subst (λ e. OnMalformed e ((r : List ℕ) → DoctypeFrontAt c.args.text.now (0x5B ∷ r) → ⊥)) (sym w.result-is)
+          (no_subset_at c.args.text.now c.in-Some.end.now c.in-Some.ensures w.if-begins.ensures)
     ]

@@ -1,4 +1,8 @@
-use Rattle.std.proofs.Common.{string_bytes}
+use Rattle.std.proofs.Common.{string_bytes, List, ℕ}
+use Rattle.tc_model.specs.XmlTextRefusals.{QuotedRefuses}
+use Rattle.tc_xml.specs.Refusals.{OnMalformed}
+use Rattle.tc_xml.proofs.ContentLaws.{failed}
+use Rattle.tc_xml.proofs.MalformedLaws.{of_refuses, no_quoted_refused}
 use Rattle.tc_xml.proofs.ValueLaws.{no_quoted, read_whole, step_more, piece_shorter, text_past_piece, err_refuses, err_stands, quoted_refuses}
 use Rattle.tc_xml.proofs.references.quoted.Goals as goal
 
@@ -26,3 +30,10 @@ loop-after-preserved c = record {
   step = step_more c.in-Some.quote c.in-Some.inside.now (string_bytes c.loop-after.value) (string_bytes c.push_piece.new.value) c.loop-after.rest.now c.in_ok-rest.rest.now c.in-Some.ensures.0 c.loop-after.invariant.step c.in_ok-rest.ensures.ok;
   text = text_past_piece c.in-Some.quote c.loop-after.rest.now c.in_ok-rest.ensures.ok.0 c.in_ok-rest.rest.now c.in-Some.ensures.0 c.in_ok-rest.ensures.ok.1 c.loop-after.invariant.text;
 }
+
+pub returns-in_err-rest-clause-malformed : goal.returns-in_err-rest-clause-malformed
+returns-in_err-rest-clause-malformed c =
+    let e = c.in_err-rest.field-0.0 in
+    let Q = (at : List ℕ) → QuotedRefuses c.args.text.now at → ⊥ in
+    failed c.from_residual.result (λ e. OnMalformed e Q) e c.from_residual.ensures.1
+    (of_refuses e _ _ Q (no_quoted_refused c.in-Some.quote c.args.text.now c.in-Some.inside.now c.loop-after.rest.now c.in-Some.ensures.1 c.loop-after.invariant.step.comes) c.in_err-rest.ensures.no)

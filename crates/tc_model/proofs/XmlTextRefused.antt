@@ -1,12 +1,15 @@
--- A document's text comes to one construct that isn't read, or to one element that stands too deep, at one place.
-use Rattle.std.proofs.Common.{◌≡◌, ℕ, true, false, not, List, [], ◌∷◌, ◌++◌, refl, ap, ◌∙◌, sym, subst, length, arith, codes, IsTrue, IsFalse}
+-- A document's text comes to one construct that isn't read, or to one element that stands too deep, at one place, and then it isn't read.
+use Rattle.std.proofs.Common.{◌≡◌, ℕ, true, false, not, List, [], ◌∷◌, ◌++◌, refl, ap, ◌∙◌, sym, subst, length, arith, codes, IsTrue, IsFalse, append_assoc, append-nil, length-append}
+use Rattle.std.specs.Prelude.{encode_utf8, encode_utf8_all}
 use Rattle.std.specs.List.{list_all}
 use Rattle.std.proofs.lemmas.Bool.{true≢false, and_parts}
 use Rattle.std.proofs.lemmas.List.{append_cancel_left}
+use Rattle.std.proofs.lemmas.Str.{encode_same, length-encode, len_utf8_bounds}
+use Rattle.tc_base.specs.Characters.{is_char}
 use Rattle.tc_base.specs.declared.reasons.Why.{Why}
-use Rattle.tc_model.specs.Names.{ExpandedName}
+use Rattle.tc_model.specs.Names.{ExpandedName, IsChars}
 use Rattle.tc_model.specs.RawTrees.{Attribute, Bound, RawTrees}
-use Rattle.tc_model.specs.XmlTextBytes.{after_white, EqualsAt, IsQuote, place_of}
+use Rattle.tc_model.specs.XmlTextBytes.{FrontOf, after_white, EqualsAt, IsQuote, place_of}
 use Rattle.tc_model.specs.XmlTextNames.{QualifiedName, same_written, QNameAt}
 use Rattle.tc_model.specs.XmlTextReferences.{predefined, ReferenceAt, decimal, hexadecimal, is_plain_within, ValueAt, closed, plain, QuotedAt}
 use Rattle.tc_model.specs.XmlTextReferences as r
@@ -16,14 +19,16 @@ use Rattle.tc_model.specs.XmlTextScopes.{WrittenAttribute, is_xml_space, first_s
 use Rattle.tc_model.specs.XmlTextContent.{Piece, AttributesAt, no_more, attribute, TagAt, ContentAt, at_end_tag, item, ItemAt, character_data, reference, cdata, comment, instruction, child, ElementAt, empty_tag, with_content}
 use Rattle.tc_model.specs.XmlTextRefusals.{Cause, unsupported, too_deep, OtherEntityAt, ValueRefuses, past_run, past_reference, QuotedRefuses, xml_space, AttributesRefuse, space, value, past_attribute, TagRefuses, ContentRefuses, past_item, ElementRefuses, depth, tag, inside, DeclarationRefuses, version, encoding, DocumentRefuses, subset, element}
 use Rattle.tc_model.specs.XmlTextRefusals as f
+use Rattle.tc_model.specs.XmlTextLaws.{HasOneRefusal, HasNoTreeWhereRefused}
+use Rattle.tc_model.specs.XmlText.{Reads, deepest_element}
 use Rattle.tc_model.proofs.XmlTextPhrases.{same_first, same_others, equals_unique, no_qname, qname_unique, entity_unique, entity_no_hash, some_none, run_unique, reference_unique, reference_no_quote, no_run_at_quote, reference_no_run, quoted_unique, setting_unique, declaration_unique, misc_unique, doctype_front_unique, doctype_unique}
 use Rattle.tc_model.proofs.XmlTextUnique.{no_tag_end, tag_unique, kind, character_data_kind, reference_kind, cdata_kind, comment_kind, instruction_kind, name_kind, child_kind, no_item_at_end_tag, item_unique}
 
 -- a reference to another entity is one that is read where these are
-as_reference : {bs : List ℕ} (o : OtherEntityAt bs) → ReferenceAt true bs (0x3C ∷ []) o.after
+pub as_reference : {bs : List ℕ} (o : OtherEntityAt bs) → ReferenceAt true bs (0x3C ∷ []) o.after
 as_reference o = r.other refl o.refers o.not_predefined
 
-other_no_reference : {bs s after : List ℕ} → OtherEntityAt bs → ReferenceAt false bs s after → ⊥
+pub other_no_reference : {bs s after : List ℕ} → OtherEntityAt bs → ReferenceAt false bs s after → ⊥
 other_no_reference o (decimal a h) = entity_no_hash o.refers
 other_no_reference o (hexadecimal a h) = entity_no_hash o.refers
 other_no_reference o (r.entity a h) = some_none h (ap predefined (entity_unique a o.refers).0 ∙ o.not_predefined)
@@ -42,7 +47,7 @@ value_no_value k (past_reference a h) (closed e) = reference_no_quote k e a
 value_no_value {q} k (past_reference a h) (plain b v) = reference_no_run q b a
 value_no_value {q} {after = after} k (past_reference a h) (r.reference {value = w} b v) = value_no_value k h (subst (λ z. ValueAt false q z w after) (reference_unique b a).1 v)
 
-value_one : {q : ℕ} {bs at at' : List ℕ} → IsQuote q → ValueRefuses q bs at → ValueRefuses q bs at' → at ≡ at'
+pub value_one : {q : ℕ} {bs at at' : List ℕ} → IsQuote q → ValueRefuses q bs at → ValueRefuses q bs at' → at ≡ at'
 value_one k (f.entity o) (f.entity p) = refl
 value_one {q} k (f.entity o) (past_run a h) = absurd (reference_no_run q a (as_reference o))
 value_one k (f.entity o) (past_reference a h) = absurd (other_no_reference o a)
@@ -53,7 +58,7 @@ value_one k (past_reference a h) (f.entity o) = absurd (other_no_reference o a)
 value_one {q} k (past_reference a h) (past_run b g) = absurd (reference_no_run q b a)
 value_one {q} {at' = at'} k (past_reference a h) (past_reference b g) = value_one k h (subst (λ z. ValueRefuses q z at') (reference_unique b a).1 g)
 
-quoted_no_quoted : {bs at v after : List ℕ} → QuotedRefuses bs at → QuotedAt false bs v after → ⊥
+pub quoted_no_quoted : {bs at v after : List ℕ} → QuotedRefuses bs at → QuotedAt false bs v after → ⊥
 quoted_no_quoted {v = v} {after = after} a b =
     let e = sym b.opens ∙ a.opens in
     let other : ValueAt false a.quote b.rest v after = subst (λ q. ValueAt false q b.rest v after) (same_first e) b.closes in
@@ -68,7 +73,7 @@ quoted_one {at' = at'} a b =
 -- tags
 
 -- what `xml:space` is isn't written otherwise
-not_space : {name : QualifiedName} → xml_space ≡ name → IsFalse (same_written name xml_space) → ⊥
+pub not_space : {name : QualifiedName} → xml_space ≡ name → IsFalse (same_written name xml_space) → ⊥
 not_space e h = true≢false (ap (λ n. same_written n xml_space) e ∙ h)
 
 attributes_one : {bs at at' : List ℕ} {why why' : Why} → AttributesRefuse bs why at → AttributesRefuse bs why' at' → (why ≡ why') × (at ≡ at')
@@ -91,7 +96,7 @@ attributes_one {at' = at'} {why' = why'} (past_attribute w n h e q l) (past_attr
     let behind = (quoted_unique (subst (λ z. QuotedAt false z v' rest') start q') q).1 in
     attributes_one l (subst (λ z. AttributesRefuse z why' at') behind l')
 
-attributes_no_list : {total : ℕ} {bs at after : List ℕ} {why : Why} {written : List WrittenAttribute} → AttributesRefuse bs why at → AttributesAt false total bs written after
+pub attributes_no_list : {total : ℕ} {bs at after : List ℕ} {why : Why} {written : List WrittenAttribute} → AttributesRefuse bs why at → AttributesAt false total bs written after
     → IsTrue (list_all (λ a. not (is_xml_space a)) written) → ⊥
 attributes_no_list (space w n) (no_more h) s = no_tag_end h n
 attributes_no_list {total} {bs} (space w n) (attribute {value = v} {name = name} {attributes = others} w' n' e q l) s =
@@ -114,7 +119,7 @@ tag_one {at' = at'} {why' = why'} a b =
     let names = qname_unique (subst (λ z. QNameAt z b.written b.past_name) (same_others (sym b.opens ∙ a.opens)) b.names) a.names in
     attributes_one a.attributes (subst (λ z. AttributesRefuse z why' at') names.1 b.attributes)
 
-tag_no_tag : {total : ℕ} {outer : List Bound} {bs at after : List ℕ} {why : Why} {w : QualifiedName} {scope : List Bound} {n : ExpandedName} {e : List Attribute}
+pub tag_no_tag : {total : ℕ} {outer : List Bound} {bs at after : List ℕ} {why : Why} {w : QualifiedName} {scope : List Bound} {n : ExpandedName} {e : List Attribute}
     → TagRefuses bs why at → TagAt false total outer bs w scope n e after → ⊥
 tag_no_tag {total} {after = after} {w = w} a b =
     let names = qname_unique (subst (λ z. QNameAt z w b.past_name) (same_others (sym b.opens ∙ a.opens)) b.names) a.names in
@@ -123,19 +128,19 @@ tag_no_tag {total} {after = after} {w = w} a b =
 -- content and elements
 
 -- what begins an element that isn't read whole: `<` and a name
-record Begins (bs : List ℕ) : Type 0 where
-  rest : List ℕ
-  name : QualifiedName
-  past_name : List ℕ
-  opens : bs ≡ 0x3C ∷ rest
-  names : QNameAt rest name past_name
+pub record Begins (bs : List ℕ) : Type 0 where
+  pub rest : List ℕ
+  pub name : QualifiedName
+  pub past_name : List ℕ
+  pub opens : bs ≡ 0x3C ∷ rest
+  pub names : QNameAt rest name past_name
 
-element_begins : {total d : ℕ} {outer : List Bound} {bs at : List ℕ} {c : Cause} → ElementRefuses total outer d bs c at → Begins bs
+pub element_begins : {total d : ℕ} {outer : List Bound} {bs at : List ℕ} {c : Cause} → ElementRefuses total outer d bs c at → Begins bs
 element_begins (depth {rest = rest} {past_name = p} {name = n} q) = record { rest = rest; name = n; past_name = p; opens = refl; names = q }
 element_begins (tag t) = record { rest = t.rest; name = t.written; past_name = t.past_name; opens = t.opens; names = t.names }
 element_begins (inside {written = w} a h) = record { rest = a.rest; name = w; past_name = a.past_name; opens = a.opens; names = a.names }
 
-begins_kind : {bs : List ℕ} → Begins bs → kind bs ≡ 3
+pub begins_kind : {bs : List ℕ} → Begins bs → kind bs ≡ 3
 unfolding kind
 begins_kind b = ap kind b.opens ∙ name_kind b.rest b.names
 
@@ -146,7 +151,7 @@ no_entity_at_end_tag : {bs : List ℕ} → OtherEntityAt (0x3C ∷ 0x2F ∷ bs) 
 no_entity_at_end_tag o = omega (arith, same_first o.refers.opens)
 
 -- a reference to another entity begins no item
-other_no_item : {total d : ℕ} {outer : List Bound} {bs after : List ℕ} {p : Piece} → OtherEntityAt bs → ItemAt false total outer d bs p after → ⊥
+pub other_no_item : {total d : ℕ} {outer : List Bound} {bs after : List ℕ} {p : Piece} → OtherEntityAt bs → ItemAt false total outer d bs p after → ⊥
 other_no_item o (character_data a) = omega (arith, reference_kind (as_reference o), character_data_kind a)
 other_no_item o (reference a) = other_no_reference o a
 other_no_item o (cdata a) = omega (arith, reference_kind (as_reference o), cdata_kind a)
@@ -155,7 +160,7 @@ other_no_item o (instruction a) = omega (arith, reference_kind (as_reference o),
 other_no_item o (child a) = omega (arith, reference_kind (as_reference o), child_kind a)
 
 mutual
-  content_no_content : {total d : ℕ} {outer : List Bound} {bs at after : List ℕ} {c : Cause} {h : RawTrees}
+  pub content_no_content : {total d : ℕ} {outer : List Bound} {bs at after : List ℕ} {c : Cause} {h : RawTrees}
       → ContentRefuses total outer d bs c at → ContentAt false total outer d bs h after → ⊥
   content_no_content (f.entity o) at_end_tag = no_entity_at_end_tag o
   content_no_content (f.entity o) (item a m) = other_no_item o a
@@ -170,7 +175,7 @@ mutual
   content_no_content {total} {d} {outer} {after = after} (past_item a k) (item {trees = h} b m) =
       content_no_content k (subst (λ z. ContentAt false total outer d z h after) (item_unique b a).1 m)
 
-  element_no_element : {total d : ℕ} {outer : List Bound} {bs at after : List ℕ} {c : Cause} {p : Piece}
+  pub element_no_element : {total d : ℕ} {outer : List Bound} {bs at after : List ℕ} {c : Cause} {p : Piece}
       → ElementRefuses total outer d bs c at → ElementAt false total outer d bs p after → ⊥
   element_no_element (depth q) a = elim a [ ]
   element_no_element (tag t) (empty_tag a) = tag_no_tag t a
@@ -181,7 +186,7 @@ mutual
       let moved = subst (λ z. ContentAt false total z d i' h (0x3C ∷ 0x2F ∷ end')) same.same_scope m in
       content_no_content k (subst (λ z. ContentAt false total scope d z h (0x3C ∷ 0x2F ∷ end')) (same_others same.same_after) moved)
 
-element_no_item : {total d : ℕ} {outer : List Bound} {bs at after : List ℕ} {c : Cause} {p : Piece}
+pub element_no_item : {total d : ℕ} {outer : List Bound} {bs at after : List ℕ} {c : Cause} {p : Piece}
     → ElementRefuses total outer d bs c at → ItemAt false total outer d bs p after → ⊥
 element_no_item k (character_data a) = omega (arith, begins_kind (element_begins k), character_data_kind a)
 element_no_item k (reference a) = omega (arith, begins_kind (element_begins k), reference_kind a)
@@ -217,7 +222,7 @@ mutual
 
 -- what stands before the root
 
-start_same : {bs rest rest' : List ℕ} → bs ≡ codes "<?xml" ++ rest → bs ≡ codes "<?xml" ++ rest' → rest ≡ rest'
+pub start_same : {bs rest rest' : List ℕ} → bs ≡ codes "<?xml" ++ rest → bs ≡ codes "<?xml" ++ rest' → rest ≡ rest'
 start_same {rest = rest} {rest' = rest'} e e' = append_cancel_left (codes "<?xml") rest rest' (sym e ∙ e')
 
 declaration_one : {bs at at' : List ℕ} {why why' : Why} → DeclarationRefuses bs why at → DeclarationRefuses bs why' at' → (why ≡ why') × (at ≡ at')
@@ -229,11 +234,11 @@ declaration_one (encoding e' v' s n') (version {value = w} {after = a} e v n) =
 declaration_one (encoding {past_version = p} e v s n) (encoding e' v' s' n') =
     (refl, ap after_white (setting_unique (subst (λ z. SettingAt (codes "version") z (codes "1.0") p) (start_same e e') v) v').1)
 
-encoding_no_encoding : {bs value after past : List ℕ} → SettingAt (codes "encoding") bs value after → (IsReadEncoding value → ⊥) → EncodingAt bs past → ⊥
+pub encoding_no_encoding : {bs value after past : List ℕ} → SettingAt (codes "encoding") bs value after → (IsReadEncoding value → ⊥) → EncodingAt bs past → ⊥
 encoding_no_encoding s n (no_encoding h) = h s.behind s.names
 encoding_no_encoding s n (misc.encoding t k) = n (subst IsReadEncoding (setting_unique t s).0 k)
 
-declaration_no_declaration : {bs at after : List ℕ} {why : Why} → DeclarationRefuses bs why at → DeclarationAt bs after → ⊥
+pub declaration_no_declaration : {bs at after : List ℕ} {why : Why} → DeclarationRefuses bs why at → DeclarationAt bs after → ⊥
 declaration_no_declaration (version {rest = rest} e v n) (no_declaration h) = h rest e v.white
 declaration_no_declaration (encoding {rest = rest} e v s n) (no_declaration h) = h rest e v.white
 declaration_no_declaration (version {value = w} {after = a} e v n) (misc.declaration e' v' k t q) =
@@ -243,10 +248,10 @@ declaration_no_declaration (encoding e v s n) (misc.declaration {past_version = 
     encoding_no_encoding s n (subst (λ z. EncodingAt z q') past k)
 
 -- the root, or the doctype before it, stands at one place
-front_same : {bs p p' m m' : List ℕ} → DeclarationAt bs p → DeclarationAt bs p' → MiscAt p m → MiscAt p' m' → m ≡ m'
+pub front_same : {bs p p' m m' : List ℕ} → DeclarationAt bs p → DeclarationAt bs p' → MiscAt p m → MiscAt p' m' → m ≡ m'
 front_same {p' = p'} {m = m} d d' a b = misc_unique (subst (λ z. MiscAt z m) (declaration_unique d d') a) b
 
-subset_no_doctype : {bs rest root : List ℕ} → DoctypeFrontAt bs (0x5B ∷ rest) → DoctypeAt bs root → ⊥
+pub subset_no_doctype : {bs rest root : List ℕ} → DoctypeFrontAt bs (0x5B ∷ rest) → DoctypeAt bs root → ⊥
 subset_no_doctype a (no_doctype h) = h a.rest a.opens
 subset_no_doctype a (doctype b m) = omega (arith, same_first (doctype_front_unique a b))
 
@@ -254,16 +259,66 @@ subset_no_root : {bs p p' m m' rest root : List ℕ} → DeclarationAt bs p → 
     → DoctypeFrontAt m (0x5B ∷ rest) → DoctypeAt m' root → ⊥
 subset_no_root {rest = rest} d d' a b x y = subset_no_doctype (subst (λ z. DoctypeFrontAt z (0x5B ∷ rest)) (front_same d d' a b) x) y
 
-pub document_one : {deepest : ℕ} {bytes at at' : List ℕ} {c c' : Cause} → DocumentRefuses deepest bytes c at → DocumentRefuses deepest bytes c' at' → (c ≡ c') × (at ≡ at')
-document_one (f.declaration h x) (f.declaration k y) = let same = declaration_one x y in (ap unsupported same.0, same.1)
-document_one (f.declaration h x) (subset k d a y) = absurd (declaration_no_declaration x d)
-document_one (f.declaration h x) (element k d a y e) = absurd (declaration_no_declaration x d)
-document_one (subset k d a y) (f.declaration h x) = absurd (declaration_no_declaration x d)
-document_one (element k d a y e) (f.declaration h x) = absurd (declaration_no_declaration x d)
-document_one (subset {r = s} k d a y) (subset k' d' a' y') =
+pub document_one : {deepest : ℕ} {text at at' : List ℕ} {c c' : Cause} → DocumentRefuses deepest text c at → DocumentRefuses deepest text c' at' → (c ≡ c') × (at ≡ at')
+document_one (f.declaration x) (f.declaration y) = let same = declaration_one x y in (ap unsupported same.0, same.1)
+document_one (f.declaration x) (subset d a y) = absurd (declaration_no_declaration x d)
+document_one (f.declaration x) (element d a y e) = absurd (declaration_no_declaration x d)
+document_one (subset d a y) (f.declaration x) = absurd (declaration_no_declaration x d)
+document_one (element d a y e) (f.declaration x) = absurd (declaration_no_declaration x d)
+document_one (subset {r = s} d a y) (subset d' a' y') =
     (refl, doctype_front_unique (subst (λ z. DoctypeFrontAt z (0x5B ∷ s)) (front_same d d' a a') y) y')
-document_one (subset k d a y) (element k' d' a' y' e') = absurd (subset_no_root d d' a a' y y')
-document_one (element k' d' a' y' e') (subset k d a y) = absurd (subset_no_root d d' a a' y y')
-document_one {deepest} {bytes} {at = at} {c = c} (element {root = root} k d a y e) (element {root = root'} k' d' a' y' e') =
+document_one (subset d a y) (element d' a' y' e') = absurd (subset_no_root d d' a a' y y')
+document_one (element d' a' y' e') (subset d a y) = absurd (subset_no_root d d' a a' y y')
+document_one {deepest} {text} {at = at} {c = c} (element {root = root} d a y e) (element {root = root'} d' a' y' e') =
     let same = doctype_unique (subst (λ z. DoctypeAt z root) (front_same d d' a a') y) y' in
-    element_one (subst (λ z. ElementRefuses (length bytes) first_scope deepest z c at) same e) e'
+    element_one (subst (λ z. ElementRefuses (length text) first_scope deepest z c at) same e) e'
+
+pub document_no_reading : {deepest : ℕ} {text at : List ℕ} {c : Cause} {h : RawTrees} → DocumentRefuses deepest text c at → Reads false deepest text h → ⊥
+document_no_reading (f.declaration x) m = declaration_no_declaration x m.declaration
+document_no_reading (subset d a y) m = subset_no_root d m.declaration a m.misc y m.doctype
+document_no_reading {deepest} {text} (element {root = root} d a y e) m =
+    let same = doctype_unique (subst (λ z. DoctypeAt z m.root) (front_same m.declaration d m.misc a) m.doctype) y in
+    element_no_element e (subst (λ z. ElementAt false (length text) first_scope deepest z m.piece m.past_root) same m.element)
+
+-- the characters at the front
+
+no_char_in_none : (c : ℕ) (r : List ℕ) → [] ≡ encode_utf8 c ++ r → ⊥
+no_char_in_none c r e = omega (arith, ap length e, length-append (encode_utf8 c) r, length-encode c, len_utf8_bounds c)
+
+same_front : (cs ds after behind : List ℕ) → list_all is_char cs ≡ true → list_all is_char ds ≡ true → encode_utf8_all cs ++ after ≡ encode_utf8_all ds ++ behind
+    → ((c : ℕ) (r : List ℕ) → after ≡ encode_utf8 c ++ r → IsTrue (is_char c) → ⊥) → ((c : ℕ) (r : List ℕ) → behind ≡ encode_utf8 c ++ r → IsTrue (is_char c) → ⊥) → cs ≡ ds
+same_front [] [] after behind h k e f g = refl
+same_front [] (d ∷ ds) after behind h k e f g =
+    absurd (f d (encode_utf8_all ds ++ behind) (e ∙ append_assoc (encode_utf8 d) (encode_utf8_all ds) behind) (and_parts (is_char d) (list_all is_char ds) k).0)
+same_front (c ∷ cs) [] after behind h k e f g =
+    absurd (g c (encode_utf8_all cs ++ after) (sym e ∙ append_assoc (encode_utf8 c) (encode_utf8_all cs) after) (and_parts (is_char c) (list_all is_char cs) h).0)
+same_front (c ∷ cs) (d ∷ ds) after behind h k e f g =
+    let first = encode_same c d (encode_utf8_all cs ++ after) (encode_utf8_all ds ++ behind)
+    (sym (append_assoc (encode_utf8 c) (encode_utf8_all cs) after) ∙ (e ∙ append_assoc (encode_utf8 d) (encode_utf8_all ds) behind)) in
+    let others = same_front cs ds after behind (and_parts (is_char c) (list_all is_char cs) h).1 (and_parts (is_char d) (list_all is_char ds) k).1 first.1 f g in
+    ap (λ x. x ∷ cs) first.0 ∙ ap (λ xs. d ∷ xs) others
+
+pub front_unique : {bytes front other : List ℕ} → FrontOf bytes front → FrontOf bytes other → front ≡ other
+front_unique {bytes} {front} {other} a b = by a.characters b.characters
+  where
+    by : IsChars front → IsChars other → front ≡ other
+    by (cs, e, h) (ds, g, k) =
+        let parts : encode_utf8_all cs ++ a.after ≡ encode_utf8_all ds ++ b.after =
+        ap (λ w. w ++ a.after) e ∙ (sym a.parts ∙ (b.parts ∙ ap (λ w. w ++ b.after) (sym g))) in
+        sym e ∙ (ap encode_utf8_all (same_front cs ds a.after b.after h k parts a.longest b.longest) ∙ g)
+
+pub whole_front : {bytes : List ℕ} → IsChars bytes → FrontOf bytes bytes
+whole_front {bytes} h = record { after = []; parts = sym (append-nil bytes); characters = h; longest = λ c r e k. no_char_in_none c r e }
+
+-- a text has one refusal, and then no tree
+
+pub one_refusal : HasOneRefusal
+one_refusal bytes cause other place elsewhere a b =
+    let fronts = front_unique b.is_front a.is_front in
+    let same = document_one a.refuses (subst (λ w. DocumentRefuses deepest_element w other b.at) fronts b.refuses) in
+    (same.0, a.stands ∙ ((ap (place_of (length a.front)) same.1 ∙ ap (λ w. place_of (length w) b.at) (sym fronts)) ∙ sym b.stands))
+
+pub no_tree_where_refused : HasNoTreeWhereRefused
+no_tree_where_refused bytes cause place h a x =
+    let fronts = front_unique (whole_front x.characters) a.is_front in
+    document_no_reading a.refuses (subst (λ w. Reads false deepest_element w h) fronts x)
