@@ -5,3 +5,4 @@ pub mod Folds
 pub mod RowLists
 pub mod Totals
 pub mod Bounds
+pub mod Gained

@@ -214,3 +214,16 @@ within a sa p shown = record {
   steps = steps_within a sa p.count p.steps.items p.ends.items shown;
   ends = ends_within a sa p.count p.steps.items p.ends.items shown;
 }
+
+-- one or more of one or more are one or more
+pub repeat_twice : (a : Automaton) (n : ℕ) (xs : List Step) (es : List ℕ) → Shown n xs es (repeat_of a) → Shown n xs es (repeat_of (repeat_of a))
+repeat_twice a n xs es one = record {
+  counted = one.counted;
+  edge = λ i j l. (λ h. inl ((one.edge i j l).0 h), λ e. (one.edge i j l).1 (once i j l e));
+  accepting = one.accepting;
+}
+  where
+    once : (i j : ℕ) (l : s.Leaf) → (repeat_of (repeat_of a)).edge i l j → (repeat_of a).edge i l j
+    once i j l (inl e) = e
+    once i j l (inr (acc, inl e)) = inr (acc, e)
+    once i j l (inr (acc, inr (start, e))) = inr (acc, e)

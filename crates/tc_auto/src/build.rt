@@ -2,15 +2,25 @@
 ghost use Rattle.std.specs.Prelude.{◌<◌, ◌^◌, IfOk};
 ghost use Rattle.tc_model.specs.Grammars as g;
 ghost use Rattle.tc_model.specs.Views.{pattern, patterns};
-ghost use Rattle.tc_model.specs.States.{automaton};
+ghost use Rattle.tc_model.specs.States.{automaton, repeat_of};
 ghost use Rattle.tc_auto.specs.Steps.{Shows};
 
-use crate::part::{
-    Part, choice, group, interleave, never, nothing_more, one_element, repeat, texts,
-};
+use crate::part::{Part, choice, group, interleave, never, nothing_more, one_element, texts};
+use crate::repeats::repeat;
 use std::alloc::Global;
 use tc_base::NoMemory;
 use tc_model::Pat;
+
+/// The automaton of one or more of a pattern from its own. One or more of one or more are one or more.
+fn again(alloc: Global, pat: &Pat<'_>, part: Part) -> Result<Part, NoMemory>
+    requires { Shows part (automaton (pattern pat.now)) }
+    ensures { IfOk result (λ r. Shows r (repeat_of (automaton (pattern pat.now)))) }
+{
+    match pat {
+        Pat::OneOrMore(_) => Ok(part),
+        _ => repeat(alloc, part),
+    }
+}
 
 /// The automaton of a pattern.
 #[cycle(build)]
@@ -27,7 +37,7 @@ pub fn part_of(alloc: Global, pat: &Pat<'_>) -> Result<Part, NoMemory>
         Pat::Group(members) => group_of(alloc, members),
         Pat::Choice(members) => choice_of(alloc, members),
         Pat::Interleave(members) => interleave_of(alloc, members),
-        Pat::OneOrMore(member) => repeat(alloc, part_of(alloc, member)?),
+        Pat::OneOrMore(member) => again(alloc, member, part_of(alloc, member)?),
     }
 }
 

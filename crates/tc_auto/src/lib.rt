@@ -10,6 +10,7 @@ mod count;
 mod make;
 mod membership;
 mod part;
+mod repeats;
 mod rows;
 #[cfg(test)]
 mod tests;

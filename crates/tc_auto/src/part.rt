@@ -2,7 +2,7 @@
 ghost use Rattle.std.specs.Prelude.{◌≡◌, ◌<◌, ◌≤◌, ◌*◌, ◌+◌, ◌^◌, ◌++◌, ◌↔◌, IfOk, IsTrue, false};
 ghost use Rattle.std.specs.List.{Contains};
 ghost use Rattle.tc_model.specs.Grammars.{Pattern};
-ghost use Rattle.tc_model.specs.States.{automaton, choice_of, empty_automaton, group_of, interleave_of, nothing_automaton, ref_automaton, repeat_of, text_automaton};
+ghost use Rattle.tc_model.specs.States.{automaton, choice_of, empty_automaton, group_of, interleave_of, nothing_automaton, ref_automaton, text_automaton};
 ghost use Rattle.tc_auto.specs.Steps.{IsWithin, Shows, all_beside_first, all_beside_second, all_pairs, beside_first, beside_second, carried, from_each, later, moved, pairs, unless_start};
 
 use crate::auto::Leaf;
@@ -236,23 +236,6 @@ pub fn choice(first: Part, second: Part) -> Result<Part, NoMemory>
         count: by + second.count,
         steps,
         ends,
-    })
-}
-
-/// One or more, one after the other.
-pub fn repeat(alloc: Global, part: Part) -> Result<Part, NoMemory>
-    requires { IsWithin part }
-    ensures { (p : Pattern) → Shows part (automaton p) → IfOk result (λ r. Shows r (repeat_of (automaton p))) }
-{
-    let mut starts = Vec::new(alloc);
-    starts.push(0)?;
-    push_later(&mut starts, &part, 0)?;
-    let mut steps = Vec::new(alloc);
-    push_all_moved(&mut steps, &part, 0, &starts)?;
-    Ok(Part {
-        count: part.count,
-        steps,
-        ends: part.ends,
     })
 }
 

@@ -61,6 +61,3 @@ interleave_of-loop-member-preserved t c =
 
 pub part_of-interleave_of-requires : goal.part_of-interleave_of-requires
 part_of-interleave_of-requires t c = (search (rules, the_lemmas), subst (λ (w : Pattern). (automaton w).count < 4294967296) (ap pattern c.in-Interleave.is ∙ see_interleave c.in-Interleave.members) c.requires)
-
-pub part_of-repeat-requires : goal.part_of-repeat-requires
-part_of-repeat-requires t c = within _ (sound (pattern c.in-OneOrMore.member.now)) _ c.in_ok-part_of-in-OneOrMore.ensures

@@ -1,0 +1,147 @@
+// Repetition: the first edges of a pattern again from where it accepts, each edge once.
+ghost use Rattle.std.specs.Prelude.{◌≡◌, ◌==◌, filter, IfOk, IsTrue, OnOk};
+ghost use Rattle.std.specs.List.{Contains};
+ghost use Rattle.tc_auto.specs.Repeats.{Gains, IsThis, LeadsFrom, LeadsFromSome};
+ghost use Rattle.tc_auto.specs.Steps.{Shows, leaf};
+ghost use Rattle.tc_auto.specs.declared.part.Step.{Step};
+ghost use Rattle.tc_model.specs.Grammars.{Pattern};
+ghost use Rattle.tc_model.specs.States.{automaton, repeat_of};
+
+use crate::part::{Part, Step};
+use std::alloc::Global;
+use tc_base::NoMemory;
+
+/// The edges from state 0.
+fn first_steps(alloc: Global, part: &Part) -> Result<Vec<Step>, NoMemory>
+    ensures { IfOk result (λ r. r.items ≡ filter (λ (x : Step). x.from == 0) part.now.steps.items) }
+{
+    let firsts = part
+        .steps
+        .iter()
+        .copied()
+        .filter(|step| step.from == 0)
+        .collect(alloc)?;
+    Ok(firsts)
+}
+
+/// For each state below a count its place among some states, or their number where it is none of them.
+fn places_of(alloc: Global, count: u32, states: &[u32]) -> Result<Vec<usize>, NoMemory> {
+    let mut places = vec![in alloc; states.len(); count as usize]?;
+    for (place, state) in states.iter().enumerate() {
+        let at = *state as usize;
+        if at < places.len() {
+            places[at] = place;
+        }
+    }
+    Ok(places)
+}
+
+/// Notes where an edge stands that leads from an accepting state and to where a first edge leads.
+fn note(hints: &mut [Vec<usize>], end: usize, first: usize, place: usize) {
+    if end < hints.len() && first < hints[end].len() {
+        hints[end][first] = place;
+    }
+}
+
+/// For each accepting state and each first edge a place at which the edge from the one to where the other
+/// leads may stand: whoever takes it looks whether it does.
+fn hints_of(alloc: Global, part: &Part, firsts: &[Step]) -> Result<Vec<Vec<usize>>, NoMemory> {
+    let mut targets = Vec::new(alloc);
+    for first in firsts {
+        targets.push(first.to)?;
+    }
+    let end_places = places_of(alloc, part.count, &part.ends)?;
+    let first_places = places_of(alloc, part.count, &targets)?;
+    let mut hints = Vec::new(alloc);
+    for _end in &part.ends {
+        hints.push(vec![in alloc; part.steps.len(); firsts.len()]?)?;
+    }
+    for (place, step) in part.steps.iter().enumerate() {
+        let end = end_places.get(step.from as usize);
+        let first = first_places.get(step.to as usize);
+        if let (Some(end), Some(first)) = (end, first) {
+            note(&mut hints, *end, *first, place);
+        }
+    }
+    Ok(hints)
+}
+
+/// Whether an edge stands at a place.
+fn is_at(steps: &[Step], place: usize, step: Step) -> bool
+    ensures { IsTrue result → Contains steps.now step }
+{
+    let Some(other) = steps.get(place) else {
+        return false;
+    };
+    if other.from != step.from {
+        return false;
+    }
+    if other.to != step.to {
+        return false;
+    }
+    other.leaf == step.leaf
+}
+
+/// Adds an edge unless it stands at a place.
+fn push_unless_at(steps: &mut Vec<Step>, step: Step, place: usize) -> Result<(), NoMemory>
+    ensures { OnOk result (Gains steps.old.items steps.new.items (IsThis step)) }
+{
+    if !is_at(steps, place, step) {
+        steps.push(step)?;
+    }
+    Ok(())
+}
+
+/// Adds the first edges from a state, but for those that stand where the hints say.
+fn push_from(
+    steps: &mut Vec<Step>,
+    from: u32,
+    firsts: &[Step],
+    hints: &[usize],
+) -> Result<(), NoMemory>
+    ensures { OnOk result (Gains steps.old.items steps.new.items (LeadsFrom from firsts.now)) }
+{
+    for (place, first) in firsts.iter().enumerate() {
+        let step = Step {
+            from,
+            leaf: first.leaf,
+            to: first.to,
+        };
+        let hint = hints.get(place).copied().unwrap_or(usize::MAX);
+        push_unless_at(steps, step, hint)?;
+    }
+    Ok(())
+}
+
+/// Adds the first edges from some states, but for those that stand where the hints say.
+fn push_from_all(
+    steps: &mut Vec<Step>,
+    states: &[u32],
+    firsts: &[Step],
+    hints: &[Vec<usize>],
+) -> Result<(), NoMemory>
+    ensures { OnOk result (Gains steps.old.items steps.new.items (LeadsFromSome states.now firsts.now)) }
+{
+    for (place, state) in states.iter().enumerate() {
+        match hints.get(place) {
+            Some(row) => push_from(steps, *state, firsts, row)?,
+            None => push_from(steps, *state, firsts, &[])?,
+        }
+    }
+    Ok(())
+}
+
+/// One or more, one after the other.
+pub fn repeat(alloc: Global, part: Part) -> Result<Part, NoMemory>
+    ensures { (p : Pattern) → Shows part (automaton p) → IfOk result (λ r. Shows r (repeat_of (automaton p))) }
+{
+    let firsts = first_steps(alloc, &part)?;
+    let hints = hints_of(alloc, &part, &firsts)?;
+    let mut steps = part.steps;
+    push_from_all(&mut steps, &part.ends, &firsts, &hints)?;
+    Ok(Part {
+        count: part.count,
+        steps,
+        ends: part.ends,
+    })
+}
