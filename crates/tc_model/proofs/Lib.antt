@@ -40,3 +40,4 @@ pub mod CompactSyntaxTokensLawful
 pub mod CompactSyntaxOrdered
 pub mod CompactSyntaxLawful
 pub mod SimplifiesLawful
+pub mod SchemaStates
