@@ -4,9 +4,11 @@
 //! run from the first state of a part to an accepting one exists exactly where the trees match the part.
 #![tactic(auto)]
 
+pub mod arrows;
 pub mod auto;
 mod build;
 mod count;
+pub mod laws;
 mod make;
 mod membership;
 mod part;
@@ -15,4 +17,5 @@ mod rows;
 #[cfg(test)]
 mod tests;
 
+pub use arrows::Arrow;
 pub use auto::{Auto, AutoFault, Edge, Leaf};

@@ -3,7 +3,6 @@
 
 mod documents;
 pub mod hedge;
-mod items;
 mod keys;
 pub mod laws;
 mod memo;

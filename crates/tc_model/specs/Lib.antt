@@ -7,6 +7,7 @@ pub mod Grammars
 pub mod Matching
 pub mod Validity
 pub mod States
+pub mod SchemaStates
 pub mod Sheets
 pub mod Chains
 pub mod Paths
