@@ -12,7 +12,5 @@ mod membership;
 mod part;
 mod repeats;
 mod rows;
-#[cfg(test)]
-mod tests;
 
 pub use auto::{Auto, AutoFault, Edge, Leaf};
