@@ -4,6 +4,8 @@
 #[cfg(test)]
 mod answers;
 #[cfg(test)]
+mod first_form;
+#[cfg(test)]
 mod runs;
 #[cfg(test)]
 mod validations;
