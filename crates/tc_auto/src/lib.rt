@@ -14,8 +14,6 @@ mod membership;
 mod part;
 mod repeats;
 mod rows;
-#[cfg(test)]
-mod tests;
 
 pub use arrows::Arrow;
 pub use auto::{Auto, AutoFault, Edge, Leaf};

@@ -4,8 +4,6 @@
 mod characters;
 mod reading;
 mod reasons;
-#[cfg(test)]
-mod tests;
 
 pub use characters::{is_char, is_name_char, is_name_start, is_white};
 pub use reading::Cursor;

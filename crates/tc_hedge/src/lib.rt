@@ -11,8 +11,6 @@ mod passages;
 mod sets;
 mod steps;
 mod table;
-#[cfg(test)]
-mod tests;
 mod valid;
 
 pub use hedge::Hedge;

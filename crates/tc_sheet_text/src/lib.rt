@@ -13,8 +13,6 @@ ghost use Rattle.tc_sheet.specs.Faults.{IsUnsupported, IsTooDeep, IsUndefinedAt,
 ghost use Rattle.tc_sheet_text.specs.Texts.{IsSheetOf};
 ghost use Rattle.tc_sheet_text.specs.Causes.{IsCauseIn, IsOfTree};
 
-#[cfg(test)]
-mod tests;
 
 use bumpalo::Bump;
 use tc_model::Sheet;

@@ -11,16 +11,10 @@ pub mod laws;
 mod read;
 mod refusal;
 mod run;
-#[cfg(test)]
-mod run_rows;
 mod schemas;
 mod sheets;
 mod status;
-#[cfg(test)]
-mod tests;
 mod valid;
-#[cfg(test)]
-mod validations;
 mod words;
 mod write;
 
