@@ -1,0 +1,11 @@
+pub mod TreesApart
+pub mod Ascending
+pub mod PairLaws
+pub mod Strings
+pub mod Counts
+pub mod TreesInTurn
+pub mod Numbers
+pub mod Splits
+pub mod Leading
+pub mod Plain
+pub mod Bodies

@@ -1,0 +1,11 @@
+pub mod TreesApart
+pub mod LiveTrees
+pub mod Parts
+pub mod Tasks
+pub mod Triples
+pub mod PairSets
+pub mod Rows
+pub mod Bodies
+pub mod Arithmetic
+pub mod Counts
+pub mod Laws
