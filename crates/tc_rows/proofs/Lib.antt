@@ -9,3 +9,5 @@ pub mod Splits
 pub mod Leading
 pub mod Plain
 pub mod Bodies
+pub mod States
+pub mod Reading
