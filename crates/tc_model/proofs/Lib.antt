@@ -43,3 +43,4 @@ pub mod CompactSyntaxLawful
 pub mod SimplifiesLawful
 pub mod BodiesInTurn
 pub mod TreesInTurn
+pub mod TreesApart

@@ -9,6 +9,8 @@ pub mod Validity
 pub mod States
 pub mod Sheets
 pub mod Chains
+pub mod TreesApart
+pub mod LiveTrees
 pub mod Paths
 pub mod Outcomes
 pub mod Meaning

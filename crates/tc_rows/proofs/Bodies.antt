@@ -10,9 +10,9 @@ use Rattle.tc_model.specs.Machine.{CallFreeJob, in_mode, in_body, first_hit, hol
 use Rattle.tc_model.specs.Numberings.{moves_of, looks_of}
 use Rattle.tc_model.specs.Symbols.{symbol_of}
 use Rattle.tc_rules.specs.States.{Going}
-use Rattle.tc_rows.specs.TreesApart.{bears_text, IsApart}
-use Rattle.tc_rows.specs.Parts.{IsPartTest, ArePartTests}
-use Rattle.tc_rows.specs.Tasks.{IsTaskOf, of_mode, going_from, looking_from}
+use Rattle.tc_model.specs.TreesApart.{bears_text, IsApart}
+use Rattle.tc_rules.specs.Parts.{IsPartTest, ArePartTests}
+use Rattle.tc_rules.specs.Tasks.{IsTaskOf, of_mode, going_from, looking_from}
 use Rattle.tc_rows.specs.Triples.{Triple, IsTriple, sheet, machine}
 use Rattle.tc_rows.specs.PairSets.{PairSet, HaveSamePairs, product, chosen}
 use Rattle.tc_rows.specs.Rows.{led, value_of, is_hit_value, bears_value, hit_value, node_bears}

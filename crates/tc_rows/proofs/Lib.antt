@@ -1,9 +1,6 @@
-pub mod TreesApart
 pub mod Ascending
 pub mod PairLaws
 pub mod Strings
-pub mod Counts
-pub mod TreesInTurn
 pub mod Numbers
 pub mod Splits
 pub mod Leading
@@ -11,3 +8,9 @@ pub mod Plain
 pub mod Bodies
 pub mod States
 pub mod Reading
+pub mod Placed
+pub mod Inside
+pub mod Append
+pub mod Wrap
+pub mod Decode
+pub mod One

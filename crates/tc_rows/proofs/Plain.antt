@@ -3,8 +3,8 @@ use Rattle.std.proofs.Common.{◌≡◌, ◌<◌, ◌+◌, ℕ, Some, refl, slic
 use Rattle.tc_model.specs.Sheets.{Body, Branches, Sheet, Inlines, u_done, u_text, u_element, u_copy, u_apply, u_call, u_value, u_self, u_choose, u_each, BranchesInline, u_otherwise, u_branch, CallFreeBody, p_done, p_text, p_element, p_copy, p_apply, p_call, p_value, p_self, p_choose, p_each, CallFreeBranches, p_otherwise, p_branch}
 use Rattle.tc_model.specs.Machine.{in_body}
 use Rattle.tc_model.specs.Numberings.{moves_of, looks_of}
-use Rattle.tc_rows.specs.Parts.{IsPartTest, IsPart, ArePartBranches}
-use Rattle.tc_rows.specs.Tasks.{IsTaskOf, of_each}
+use Rattle.tc_rules.specs.Parts.{IsPartTest, IsPart, ArePartBranches}
+use Rattle.tc_rules.specs.Tasks.{IsTaskOf, of_each}
 
 module _ (s : Sheet) where
   abbrev mutual

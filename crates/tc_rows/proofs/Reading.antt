@@ -19,15 +19,15 @@ use Rattle.tc_rules.proofs.SelectStates.{count_cons}
 use Rattle.tc_rules.specs.RulesView.{IsStateOf, select_count, move_count, count_states, ancestor}
 use Rattle.tc_rules.proofs.EmptyStates.{hit_none, next_none}
 use Rattle.tc_rules.proofs.Sameness.{path_same, path_self, move_same, move_self, found_by_number}
-use Rattle.tc_rows.specs.Tasks.{IsTaskOf, IsMoveAt, IsLookAt, going_from, looking_from}
+use Rattle.tc_rules.specs.Tasks.{IsTaskOf, IsMoveAt, IsLookAt, going_from, looking_from}
 use Rattle.tc_rows.specs.Triples.{Triple, IsTriple, Select, sheet, predicates, machine, ancestors, moves, number, moving, looking}
 use Rattle.tc_rows.specs.PairSets.{HaveSamePairs, listed, chosen}
 use Rattle.tc_rows.specs.Rows.{entry, look, value_of, led, AreEntriesOf, AreLooksOf}
 use Rattle.tc_rows.specs.Bodies.{stay}
 use Rattle.tc_rows.specs.Arithmetic.{look_from, pairs_from}
 use Rattle.tc_rows.proofs.PairLaws.{same_self, same_back, same_on, chosen_first, chosen_second}
-use Rattle.tc_rows.proofs.Counts.{state_counted, move_counted}
-use Rattle.tc_rows.proofs.TreesInTurn.{first_of_none, outputs_of_none}
+use Rattle.tc_rules.proofs.Counts.{state_counted, move_counted}
+use Rattle.tc_model.proofs.TreesInTurn.{first_of_none, outputs_of_none}
 use Rattle.tc_rows.proofs.Leading.{led_none}
 use Rattle.tc_rows.proofs.States.{state_number, empty_number, begun}
 
@@ -74,7 +74,7 @@ module _ (x : Triple) (is : IsTriple x) where
       (back_at (map of_move (moves_of (sheet x))) (map of_look (looks_of (sheet x))) (number_of same_path p (looks_of (sheet x)))
       ∙ map_at of_look (looks_of (sheet x)) (number_of same_path p (looks_of (sheet x))) p (found_by_number same_path path_same path_self (looks_of (sheet x)) p (has_from_contains (looks_of (sheet x)) p c)))
 
-  fewer_moves : moves x ≤ select_count x.rules
+  pub fewer_moves : moves x ≤ select_count x.rules
   fewer_moves = taken_few x.rules.selects (length (moves_of (sheet x)))
 
   -- what a look finds

@@ -20,7 +20,7 @@ use Rattle.tc_rules.proofs.Counted.{first_there}
 use Rattle.tc_rules.proofs.Queries.{graph_of, step_told, no_item_left, goes_on, above_told}
 use Rattle.tc_rows.specs.Triples.{Triple, IsTriple, Select, sheet, predicates, ancestors, moves, same_mode, same_use, same_select, states_by, selects, number, number_below}
 use Rattle.tc_rows.proofs.Numbers.{once_again, number_at, number_finds, number_most, use_number, number_by}
-use Rattle.tc_rows.proofs.Counts.{state_counted}
+use Rattle.tc_rules.proofs.Counts.{state_counted}
 use Rattle.tc_rows.proofs.Leading.{has_at}
 
 abbrev with_state : PathUse → State → Select
@@ -180,8 +180,10 @@ module _ (x : Triple) (is : IsTriple x) where
       by : (j : Option ℕ) × (next_at st.graph st.number a l.marks ≡ Some j) × LeadsTo some_item st.graph j (select_below x.symbols x.rules b s (record { kind = of_symbol a; marks = l.marks })) → (is_empty_state (Next b.path s l) ≡ true) ⊎ ((n : ℕ) × IsStateOf x.rules n b (Next b.path s l))
       by (None, at, leads) = inl (ap (λ w. is_empty_state (Next b.path s w)) letter ∙ no_item_left x.symbols x.rules is.rules k b s (select_below x.symbols x.rules b s (record { kind = of_symbol a; marks = l.marks })) st leads)
       by (Some j, at, leads) =
-          inr (count_states (take st.place x.rules.selects) + j,
-          subst (λ w. IsStateOf x.rules (count_states (take st.place x.rules.selects) + j) b (Next b.path s w)) (sym letter) (goes_on x.symbols x.rules is.rules k j b s (select_below x.symbols x.rules b s (record { kind = of_symbol a; marks = l.marks })) st leads))
+          inr (
+            count_states (take st.place x.rules.selects) + j,
+            subst (λ w. IsStateOf x.rules (count_states (take st.place x.rules.selects) + j) b (Next b.path s w)) (sym letter) (goes_on x.symbols x.rules is.rules k j b s (select_below x.symbols x.rules b s (record { kind = of_symbol a; marks = l.marks })) st leads),
+          )
 
   true_or_false : (b : Bool) → (b ≡ true) ⊎ (b ≡ false)
   true_or_false true = inl refl
@@ -195,16 +197,18 @@ module _ (x : Triple) (is : IsTriple x) where
       by (inl empty) = inl empty
       by (inr some) =
           let (g, at, graph) = is.rules.selects i b e in
-          inr (count_states (take i x.rules.selects) + 0,
-          record {
-            place = i;
-            block = e;
-            graph = g;
-            graph_is = at;
-            number = 0;
-            state = first_there some_item (Next b.path) (letters_of_elements x.symbols (predicates x)) (first_state b.path) g.states graph.states (ap not some);
-            number_is = refl;
-          })
+          inr (
+            count_states (take i x.rules.selects) + 0,
+            record {
+              place = i;
+              block = e;
+              graph = g;
+              graph_is = at;
+              number = 0;
+              state = first_there some_item (Next b.path) (letters_of_elements x.symbols (predicates x)) (first_state b.path) g.states graph.states (ap not some);
+              number_is = refl;
+            },
+          )
 
   ancestors_reached : AreReached all_count (Next (path_of_rules (sheet x).rules)) (letters_of_elements x.symbols (predicates x)) (first_state (path_of_rules (sheet x).rules)) x.rules.ancestors.states
   ancestors_reached = is.rules.ancestors.states

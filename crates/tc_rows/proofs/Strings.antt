@@ -3,7 +3,7 @@ use Rattle.std.proofs.Common.{◌≡◌, ℕ, List, [], ◌∷◌, ◌++◌, ref
 use Rattle.tc_base.specs.Characters.{is_white}
 use Rattle.tc_model.specs.Trees.{Trees, none, text, element, is_all_white}
 use Rattle.tc_model.specs.Chains.{an_element, a_text, Node, one, joined_texts, string_value}
-use Rattle.tc_rows.specs.TreesApart.{bears_text, IsApartAfter}
+use Rattle.tc_model.specs.TreesApart.{bears_text, IsApartAfter}
 use Rattle.tc_model.specs.Meaning.{value_of_first}
 use Rattle.tc_model.specs.Machine.{Machine, or_else, first_hit}
 use Rattle.tc_rows.specs.Rows.{hit_value, bears_value, node_bears, value_of}

@@ -11,7 +11,7 @@ use Rattle.tc_model.specs.PathStates as paths
 use Rattle.tc_model.specs.PathStates.{State, next_state, is_hit}
 use Rattle.tc_rules.specs.States.{Going, Looking, body_by, body_of_root}
 use Rattle.tc_rules.specs.RulesView.{select_count, ancestor}
-use Rattle.tc_rows.specs.Tasks.{IsMoveAt, IsLookAt}
+use Rattle.tc_rules.specs.Tasks.{IsMoveAt, IsLookAt}
 use Rattle.tc_rows.specs.Triples.{Triple, Select, sheet, predicates, ancestors, moves, looks, entries, number, number_below, moving, looking}
 use Rattle.tc_rows.specs.PairSets.{PairSet, product, chosen, listed}
 use Rattle.tc_rows.specs.Rows.{HedgeRow, TreeRow, IsHedgeRow, IsTreeRow, entry, look, hit_value, or_hit}

@@ -3,7 +3,7 @@ use Rattle.std.specs.Prelude.{◌≡◌, ◌<◌, ◌⊎◌, ◌+◌, ℕ, max, 
 use Rattle.std.specs.List.{Contains}
 use Rattle.tc_model.specs.Trees.{Trees}
 use Rattle.tc_model.specs.Chains.{Tree}
-use Rattle.tc_rows.specs.LiveTrees.{IsLiveTree, IsLiveHedge}
+use Rattle.tc_model.specs.LiveTrees.{IsLiveTree, IsLiveHedge}
 use Rattle.tc_model.specs.Sheets.{Rule, Body, Sheet, CallFreeBody, p_done, p_text, p_element, p_copy, p_apply, p_call, p_value, p_self, p_choose, p_each, CallFreeBranches, p_otherwise, p_branch, Inlines}
 use Rattle.tc_rows.specs.Triples.{Triple, entries, looks}
 use Rattle.tc_rows.specs.Rows.{HedgeRow, TreeRow, IsRowOfHedge, IsRowOfTree}

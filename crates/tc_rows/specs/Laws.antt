@@ -3,8 +3,8 @@ use Rattle.std.specs.Prelude.{◌≡◌, ◌<◌, ◌↔◌, ◌+◌, ℕ, List,
 use Rattle.tc_model.specs.Names.{ExpandedName, IsName, IsText}
 use Rattle.tc_model.specs.Trees.{Trees, none, is_all_white, node_count}
 use Rattle.tc_model.specs.Chains.{Tree, an_element, a_text}
-use Rattle.tc_rows.specs.TreesApart.{alone, followed_by, FromBack}
-use Rattle.tc_rows.specs.LiveTrees.{IsLiveTree, IsLiveHedge}
+use Rattle.tc_model.specs.TreesApart.{alone, followed_by, FromBack}
+use Rattle.tc_model.specs.LiveTrees.{IsLiveTree, IsLiveHedge}
 use Rattle.tc_model.specs.Validity.{IsValid, IsValidOutput}
 use Rattle.tc_model.specs.Safety.{IsResultOf}
 use Rattle.tc_model.specs.Symbols.{symbol_of, symbol_count, fresh_name}

@@ -1,7 +1,3 @@
-pub mod TreesApart
-pub mod LiveTrees
-pub mod Parts
-pub mod Tasks
 pub mod Triples
 pub mod PairSets
 pub mod Rows

@@ -5,13 +5,13 @@ use Rattle.std.specs.List.Sorted.{IsStrictlySortedBy}
 use Rattle.std.specs.Ordering.{nat_cmp}
 use Rattle.tc_model.specs.Trees.{Trees}
 use Rattle.tc_model.specs.Chains.{Tree, an_element, a_text, Node, whole, one}
-use Rattle.tc_rows.specs.TreesApart.{alone, is_text, ends_in_text, bears_text}
+use Rattle.tc_model.specs.TreesApart.{alone, is_text, ends_in_text, bears_text}
 use Rattle.tc_model.specs.States.{input, output, state_count, first_state, IsElementOf, Leads}
 use Rattle.tc_model.specs.Machine as m
 use Rattle.tc_model.specs.Machine.{first_hit}
 use Rattle.tc_rules.specs.States.{Going, Looking}
 use Rattle.tc_rules.specs.RulesView.{ancestor}
-use Rattle.tc_rows.specs.Tasks.{IsMoveAt, IsLookAt}
+use Rattle.tc_rules.specs.Tasks.{IsMoveAt, IsLookAt}
 use Rattle.tc_rows.specs.Triples.{Triple, machine, outputs, ancestors, moves, looks, entries}
 use Rattle.tc_rows.specs.PairSets.{PairSet, IsPairs, listed}
 

@@ -3,7 +3,7 @@ use Rattle.std.proofs.Common.{◌≡◌, ◌↔◌, ◌⊎◌, inl, inr, ℕ, �
 use Rattle.std.proofs.lemmas.Bool.{true≢false}
 use Rattle.tc_model.specs.Trees.{Trees, none, text, element, beside, node_count, is_all_white, joined_to, joined, kept, dropped, normal_form, IsNormal, AreLawful}
 use Rattle.tc_model.specs.Chains.{Tree, an_element, a_text}
-use Rattle.tc_rows.specs.TreesApart.{alone, followed_by, FromBack, is_none, is_followed, is_text, ends_in_text_after, ends_in_text, bears_text, IsApartAfter, IsApart}
+use Rattle.tc_model.specs.TreesApart.{alone, followed_by, FromBack, is_none, is_followed, is_text, ends_in_text_after, ends_in_text, bears_text, IsApartAfter, IsApart}
 use Rattle.tc_model.proofs.TotalJoin.{beside_none, beside_assoc}
 
 pub nodes_beside : (h k : Trees) → node_count (beside h k) ≡ node_count h + node_count k

@@ -2,7 +2,7 @@
 use Rattle.std.specs.Prelude.{◌≡◌, ℕ, ◌≤◌, length, true}
 use Rattle.tc_model.specs.Trees.{Trees, none, text, element, AreLawful, IsNormal}
 use Rattle.tc_model.specs.Chains.{Tree, an_element, a_text}
-use Rattle.tc_rows.specs.TreesApart.{alone}
+use Rattle.tc_model.specs.TreesApart.{alone}
 use Rattle.tc_model.specs.Grammars.{Grammar, some_content_has_text}
 use Rattle.tc_model.specs.States.{input, IsElementOf, first_state, Leads}
 
