@@ -133,3 +133,7 @@ normal_of b (element n kids rest) s = ap (λ k. element n k (normal_form rest)) 
 -- trees are in normal form exactly where they are apart
 pub normal_apart : (h : Trees) → IsNormal h ↔ IsApart h
 normal_apart h = (λ is. subst (IsApartAfter false) is (dropped_apart false (joined h) (joined_joins h)), normal_of false h)
+
+-- once is enough
+pub normal_twice : (h : Trees) → normal_form (normal_form h) ≡ normal_form h
+normal_twice h = normal_of false (normal_form h) (dropped_apart false (joined h) (joined_joins h))

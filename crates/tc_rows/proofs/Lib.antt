@@ -14,3 +14,6 @@ pub mod Append
 pub mod Wrap
 pub mod Decode
 pub mod One
+pub mod Starts
+pub mod Live
+pub mod Root
