@@ -1,32 +1,31 @@
 -- The row of trees with one more behind them.
-use Rattle.std.proofs.Common.{◌≡◌, ◌↔◌, ◌⊎◌, inl, inr, ℕ, ◌+◌, ◌-◌, ◌*◌, ◌<◌, ◌≤◌, zero, suc, List, [], ◌∷◌, ◌++◌, Bool, true, false, ◌&&◌, ◌||◌, refl, ap, ◌∙◌, sym, subst, length, map, take, get_or, Option, Some, None, slice_get, Contains, arith}
+use Rattle.std.proofs.Common.{◌≡◌, ◌↔◌, inl, inr, ℕ, ◌+◌, ◌-◌, ◌*◌, ◌<◌, ◌≤◌, zero, suc, List, [], ◌∷◌, ◌++◌, Bool, true, false, ◌||◌, refl, ap, ◌∙◌, sym, subst, length, map, take, Option, Some, None, slice_get, Contains, arith}
 use Rattle.std.proofs.lemmas.Bool.{true≢false}
 use Rattle.std.proofs.lemmas.Nat.{mul-add-lt}
 use Rattle.std.proofs.lemmas.Option.{same_Some}
-use Rattle.tc_model.specs.Trees.{Trees, none, text, element, beside, normal_form, is_all_white}
+use Rattle.tc_model.specs.Trees.{Trees, none, text, element, normal_form}
 use Rattle.tc_model.specs.Chains.{Tree, an_element, a_text, Node}
-use Rattle.tc_model.specs.TreesApart.{alone, followed_by, is_text, ends_in_text, bears_text, IsApart}
+use Rattle.tc_model.specs.TreesApart.{alone, followed_by, IsApart}
 use Rattle.tc_model.specs.Outcomes.{Outcome, join}
 use Rattle.tc_model.specs.Machine as m
 use Rattle.tc_model.specs.Machine.{or_else, first_hit}
-use Rattle.tc_model.specs.Numberings.{Move, moves_of, looks_of}
-use Rattle.tc_model.specs.Sheets.{Path}
-use Rattle.tc_model.specs.StateCounts.{PathUse, blocks_of}
-use Rattle.tc_model.specs.States.{input, text_leaf, ref_leaf, first_state, IsElementOf, IsEdge, Leads, at_end, past_white, by_text, by_element}
+use Rattle.tc_model.specs.Numberings.{Move, moves_of}
+use Rattle.tc_model.specs.StateCounts.{PathUse}
+use Rattle.tc_model.specs.States.{input, text_leaf, ref_leaf, IsElementOf, IsEdge, Leads, at_end, past_white, by_text, by_element}
 use Rattle.tc_model.proofs.TreesApart.{ends_followed, bears_beside, normal_apart}
 use Rattle.tc_model.proofs.TreesInTurn.{first_beside, outputs_beside}
 use Rattle.tc_rules.specs.Graphs.{Graph}
-use Rattle.tc_rules.specs.States.{Going, Looking}
-use Rattle.tc_rules.specs.Tasks.{IsMoveAt, IsLookAt}
-use Rattle.tc_rules.specs.RulesView.{RulesView, IsStateOf, count_states, select_count, move_count, ancestor}
+use Rattle.tc_rules.specs.States.{Looking}
+use Rattle.tc_rules.specs.Tasks.{IsLookAt}
+use Rattle.tc_rules.specs.RulesView.{count_states, select_count, ancestor}
 use Rattle.tc_rules.proofs.Counts.{state_counted, move_counted}
 use Rattle.tc_rules.proofs.SelectStates.{count_cons}
-use Rattle.tc_hedge.proofs.Leading.{run_of_leads, run_of_none, run_of_text, run_of_element, leads_beside}
+use Rattle.tc_hedge.proofs.Leading.{run_of_leads, run_of_none, run_of_element, leads_beside}
 use Rattle.tc_rows.specs.Triples.{Triple, IsTriple, sheet, machine, ancestors, moves, looks, entries}
 use Rattle.tc_rows.specs.PairSets.{HaveSamePairs, product, listed}
-use Rattle.tc_rows.specs.Rows.{HedgeRow, TreeRow, IsRowOfHedge, IsRowOfTree, IsLedTo, entry, look, or_hit, value_of, hit_value, node_bears, led, AreEntriesOf, AreLooksOf}
+use Rattle.tc_rows.specs.Rows.{HedgeRow, TreeRow, IsRowOfHedge, IsRowOfTree, IsLedTo, entry, or_hit, value_of, hit_value, node_bears, led, AreEntriesOf}
 use Rattle.tc_rows.specs.Arithmetic.{IsAppend, TreeLeads}
-use Rattle.tc_rows.proofs.PairLaws.{same_self, same_back, same_on, product_same}
+use Rattle.tc_rows.proofs.PairLaws.{same_back, same_on, product_same}
 use Rattle.tc_rows.proofs.Splits.{leads_split}
 use Rattle.tc_rows.proofs.Leading.{led_beside}
 

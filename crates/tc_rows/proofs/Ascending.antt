@@ -20,7 +20,7 @@ module _ {K : Type 0} (R : K → K → Ordering) (order : IsTotalOrder R) (exact
 pub one_set : (xs ys : List ℕ) → IsStrictlySortedBy nat_cmp xs → IsStrictlySortedBy nat_cmp ys → ((z : ℕ) → Contains xs z ↔ Contains ys z) → xs ≡ ys
 one_set = one_list nat_cmp nat_cmp_total nat_cmp-IsAntisymmetric
 
-pairs_total : IsTotalOrder pair_cmp
+pub pairs_total : IsTotalOrder pair_cmp
 pairs_total = then_total (on_total (λ (p : ℕ × ℕ). p.0) nat_cmp_total) (on_total (λ (p : ℕ × ℕ). p.1) nat_cmp_total)
 
 both_equal : (a b : Ordering) → ordering_then a b ≡ Equal → (a ≡ Equal) × (b ≡ Equal)
@@ -28,7 +28,7 @@ both_equal Less b e = cc
 both_equal Equal b e = (refl, e)
 both_equal Greater b e = cc
 
-pairs_apart : IsAntisymmetric pair_cmp
+pub pairs_apart : IsAntisymmetric pair_cmp
 pairs_apart p q e =
     let both = both_equal (nat_cmp p.0 q.0) (nat_cmp p.1 q.1) e in
     let first : p.0 ≡ q.0 = nat_cmp-IsAntisymmetric p.0 q.0 both.0 in

@@ -1,23 +1,22 @@
 -- Each number below that of the states stands for a state of a move or of a look of the stylesheet.
-use Rattle.std.proofs.Common.{◌≡◌, ◌⊎◌, inl, inr, ℕ, zero, suc, ◌+◌, ◌-◌, ◌<◌, ◌≤◌, List, [], ◌∷◌, ◌++◌, refl, ap, ◌∙◌, sym, subst, length, map, flat_map, take, Option, Some, None, slice_get, Contains, All, arith}
-use Rattle.std.proofs.lemmas.Option.{same_Some, slice_get_within}
+use Rattle.std.proofs.Common.{◌≡◌, ◌⊎◌, inl, inr, ℕ, zero, suc, ◌+◌, ◌-◌, ◌<◌, ◌≤◌, List, [], ◌∷◌, ◌++◌, refl, ap, ◌∙◌, sym, subst, length, map, flat_map, Some, None, slice_get, All, arith}
+use Rattle.std.proofs.lemmas.Option.{same_Some}
 use Rattle.std.proofs.lemmas.List.Elements.{All-head, All-tail}
-use Rattle.tc_model.specs.Sheets.{Path, Body, no_instruction, put_text, put_element, copy, apply, call, for_each, value, value_of_self, choose, Branches, otherwise, branch, Rule, Sheet, CallFreeBody, Inlines}
+use Rattle.tc_model.specs.Sheets.{Path, Body, no_instruction, put_text, put_element, copy, apply, call, for_each, value, value_of_self, choose, Branches, otherwise, branch, Rule, Sheet}
 use Rattle.tc_model.specs.Machine.{CallFreeJob, in_mode, in_body}
 use Rattle.tc_model.specs.Meaning.{all_children}
 use Rattle.tc_model.specs.Numbered.{numbers_below}
 use Rattle.tc_model.specs.Numberings.{Move, same_move, moves_in_body, moves_in_branches, moves_of, looks_of}
-use Rattle.tc_model.specs.StateCounts.{PathUse, blocks_of}
+use Rattle.tc_model.specs.StateCounts.{PathUse}
 use Rattle.tc_model.specs.WellFormed.{IsBody, AreBranches, IsRule, IsSheet, ForEach, eaches_in, eaches_in_branches, eaches_of}
 use Rattle.tc_model.proofs.TotalUnfolds.{body_unfolds}
-use Rattle.tc_alpha.proofs.Members.{Has, has_from_contains, contains_from_has, has_either, Every, every_member, every_append}
+use Rattle.tc_alpha.proofs.Members.{Has, has_from_contains, has_either, Every, every_member, every_append}
 use Rattle.tc_rules.specs.States.{Going, Looking}
 use Rattle.tc_rules.specs.Tasks.{IsTaskOf, of_mode, of_each, IsMoveAt, IsLookAt}
-use Rattle.tc_rules.specs.RulesView.{IsStateOf, count_states, select_count, move_count}
+use Rattle.tc_rules.specs.RulesView.{IsStateOf}
 use Rattle.tc_rules.proofs.Counts.{move_counted}
 use Rattle.tc_rules.proofs.Sameness.{move_same, move_self, every_kept}
 use Rattle.tc_rows.specs.Triples.{Triple, IsTriple, Select, sheet, selects, moves, looks}
-use Rattle.tc_rows.proofs.Leading.{has_at}
 use Rattle.tc_rows.proofs.States.{state_at, all_selects}
 use Rattle.tc_rows.proofs.Append.{count_rises}
 use Rattle.tc_rows.proofs.Inside.{some_at}

@@ -1,14 +1,13 @@
 -- Which part of a schema a state belongs to, and what contents take.
-use Rattle.std.proofs.Common.{◌≡◌, ◌⊎◌, inl, inr, ℕ, zero, suc, ◌+◌, ◌<◌, ◌≤◌, List, [], ◌∷◌, length, Bool, true, false, ◌||◌, Some, refl, ap, ◌∙◌, sym, subst, slice_get, Contains, arith}
+use Rattle.std.proofs.Common.{◌≡◌, ◌⊎◌, inl, inr, ℕ, zero, suc, ◌+◌, ◌<◌, ◌≤◌, List, [], ◌∷◌, length, Bool, true, false, ◌||◌, Some, refl, sym, subst, slice_get, arith}
 use Rattle.std.specs.List.{list_any}
-use Rattle.std.proofs.lemmas.Option.{same_Some, slice_get_within}
-use Rattle.tc_model.specs.Trees.{Trees, none, text, element, normal_form}
-use Rattle.tc_model.specs.Chains.{an_element, a_text}
+use Rattle.std.proofs.lemmas.Option.{slice_get_within}
+use Rattle.tc_model.specs.Trees.{Trees}
 use Rattle.tc_model.specs.Grammars as p
 use Rattle.tc_model.specs.Grammars.{Grammar, Pattern, Patterns, no_more, more, ElementPattern, element_at, has_text, have_text, some_content_has_text}
-use Rattle.tc_model.specs.LiveTrees.{HasPattern, HavePatterns}
-use Rattle.tc_model.specs.TreesApart.{IsApart, IsApartAfter}
-use Rattle.tc_model.specs.States.{Side, input, Leaf, text_leaf, ref_leaf, Automaton, automaton, grouped, chosen, interleaved, group_of, choice_of, interleave_of, empty_automaton, nothing_automaton, IsElementOf, IsPart, a_content, first_state, state_count, IsEdge, Leads, at_end, past_white, by_text, by_element}
+use Rattle.tc_model.specs.LiveTrees.{HavePatterns}
+use Rattle.tc_model.specs.TreesApart.{IsApartAfter}
+use Rattle.tc_model.specs.States.{input, text_leaf, Automaton, automaton, grouped, chosen, interleaved, group_of, choice_of, interleave_of, empty_automaton, nothing_automaton, IsElementOf, IsPart, a_content, first_state, IsEdge, Leads, at_end, past_white, by_text, by_element}
 use Rattle.tc_model.proofs.StatesExact.{sound}
 use Rattle.tc_model.proofs.StatesParts.{part_before}
 use Rattle.tc_model.proofs.TreesApart.{normal_apart}

@@ -17,3 +17,7 @@ pub mod One
 pub mod Starts
 pub mod Live
 pub mod Root
+pub mod AllLaws
+pub mod Alike
+pub mod Stood
+pub mod Deciding

@@ -1,27 +1,25 @@
 -- What is live, told by rows; and that all parts of what is live are live.
-use Rattle.std.proofs.Common.{◌≡◌, ◌≢◌, ◌↔◌, ◌⊎◌, inl, inr, ℕ, ◌+◌, ◌<◌, ◌≤◌, zero, suc, List, [], ◌∷◌, Bool, true, false, ◌&&◌, ◌||◌, IsTrue, refl, ap, ◌∙◌, sym, subst, length, Contains, codes, arith}
+use Rattle.std.proofs.Common.{◌≡◌, ◌↔◌, inl, inr, ℕ, ◌+◌, ◌<◌, List, [], ◌∷◌, Bool, true, false, ◌&&◌, ◌||◌, IsTrue, refl, ap, ◌∙◌, sym, subst, arith}
 use Rattle.std.specs.List.{list_any}
 use Rattle.std.proofs.lemmas.Bool.{true≢false}
 use Rattle.tc_model.specs.Names.{ExpandedName, IsName, IsText}
-use Rattle.tc_model.specs.Trees.{Trees, none, text, element, beside, node_count, normal_form, AreLawful, IsNormal, IsDocument, is_all_white}
+use Rattle.tc_model.specs.Trees.{Trees, none, text, element, beside, node_count, normal_form, AreLawful, IsNormal, is_all_white}
 use Rattle.tc_model.specs.Chains.{Tree, an_element, a_text}
 use Rattle.tc_model.specs.TreesApart.{alone, followed_by, is_text, ends_in_text, IsApart}
 use Rattle.tc_model.specs.LiveTrees.{AreOfDocuments, HasPattern, HavePatterns, LeadSomewhere, IsLiveTree, IsLiveHedge, empty_is_live, are_live}
-use Rattle.tc_model.specs.Grammars.{Grammar, ElementPattern, element_at}
+use Rattle.tc_model.specs.Grammars.{Grammar}
 use Rattle.tc_model.specs.Matching.{Matches}
 use Rattle.tc_model.specs.Validity.{IsValid}
-use Rattle.tc_model.specs.SimplifiesLaws.{IsStart}
-use Rattle.tc_model.specs.States.{input, first_state, a_content, IsElementOf, Leads, is_alternative}
+use Rattle.tc_model.specs.States.{input, first_state, a_content, is_alternative}
 use Rattle.tc_model.specs.Symbols.{symbol_of, symbol_count, fresh_name, symbols_of}
-use Rattle.tc_model.proofs.TreesApart.{from_back, nodes_beside, lawful_beside, apart_followed, apart_beside, apart_freed, normal_apart}
+use Rattle.tc_model.proofs.TreesApart.{nodes_beside, lawful_beside, apart_followed, normal_apart}
 use Rattle.tc_alpha.proofs.Members.{Has, has_from_contains, contains_from_has}
-use Rattle.tc_alpha.proofs.Lawful.{are_symbols, are_lawful}
+use Rattle.tc_alpha.proofs.Lawful.{are_symbols}
 use Rattle.tc_alpha.proofs.Fresh.{symbol_told}
-use Rattle.tc_rules.proofs.Covered.{symbol_below}
-use Rattle.tc_hedge.proofs.Leading.{leads_exactly, run_of_leads}
+use Rattle.tc_hedge.proofs.Leading.{leads_exactly}
 use Rattle.tc_rows.specs.Triples.{Triple, IsTriple, sheet}
-use Rattle.tc_rows.specs.Rows.{HedgeRow, TreeRow, IsRowOfHedge, IsRowOfTree, IsPatternOf}
-use Rattle.tc_rows.specs.Arithmetic.{IsTextLive, IsLiveAppend, IsLiveWrap, TreeLeads, is_admitted}
+use Rattle.tc_rows.specs.Rows.{HedgeRow, TreeRow, IsRowOfHedge, IsRowOfTree}
+use Rattle.tc_rows.specs.Arithmetic.{IsTextLive, IsLiveAppend, IsLiveWrap, is_admitted}
 use Rattle.tc_rows.proofs.Splits.{leads_split}
 use Rattle.tc_rows.proofs.Inside.{number_within, led_have}
 use Rattle.tc_rows.proofs.Append.{append_states}
@@ -77,7 +75,7 @@ module _ (g : Grammar) where
 
   -- the children of a live element
   pub live_inside : (n : ExpandedName) (h : Trees) → IsLiveTree g (an_element n h) → IsLiveHedge g h
-  live_inside n h ((lawful, normal), (k, e, at, inside, matches)) =
+  live_inside n h ((lawful, normal), (k, (e, at, inside, matches))) =
       let apart : IsApart h = ((normal_apart (element n h none)).0 normal).0 in
       let same : normal_form h ≡ h = (normal_apart h).1 apart in
       let (low, high) = number_within g.elements k e at in
@@ -105,9 +103,10 @@ module _ (x : Triple) (is : IsTriple x) where
       of : IsLiveAppend x r s → IsLiveHedge x.input (followed_by h t)
       of (meet, (i, j, there, on)) =
           let (k, low, high, leads) = (append_states x is h t r s (tree_apart x.input t tree) a b j).0 (i, there, on) in
-          are_live
-          ((lawful_beside h (alone t)).1 ((live_parts x.input live).0.0, tree.0.0),
-          (normal_apart (followed_by h t)).1 ((apart_followed h t).1 (live_apart x.input h live, tree_apart x.input t tree, sym ends ∙ meet)))
+          are_live (
+            (lawful_beside h (alone t)).1 ((live_parts x.input live).0.0, tree.0.0),
+            (normal_apart (followed_by h t)).1 ((apart_followed h t).1 (live_apart x.input h live, tree_apart x.input t tree, sym ends ∙ meet)),
+          )
           ((have_beside x.input h (alone t)).1 ((live_parts x.input live).1, (have_alone x.input t).1 tree.1)) (k, j, low, high, leads)
 
   pub wrap_live : (n : ExpandedName) (h : Trees) (r : HedgeRow) → IsName n → IsLiveHedge x.input h → IsRowOfHedge x h r → IsLiveTree x.input (an_element n h) ↔ IsLiveWrap x (symbol_of x.symbols n) r

@@ -1,17 +1,14 @@
 -- A tree has one row, and what is worked out from rows is one row.
-use Rattle.std.proofs.Common.{◌≡◌, ◌↔◌, ℕ, ◌+◌, ◌-◌, ◌*◌, ◌/◌, ◌%◌, ◌<◌, ◌≤◌, zero, suc, List, [], Bool, refl, ap, ◌∙◌, sym, subst, length, get_or, Contains, All, arith}
+use Rattle.std.proofs.Common.{◌≡◌, ◌↔◌, ℕ, ◌+◌, ◌-◌, ◌*◌, ◌/◌, ◌%◌, ◌<◌, zero, suc, List, [], ◌∙◌, sym, subst, get_or, arith}
 use Rattle.std.proofs.lemmas.List.{ext_get_or}
 use Rattle.std.proofs.lemmas.List.Elements.{All-get_or}
 use Rattle.std.proofs.lemmas.Nat.{div-add-mod', mod_below}
 use Rattle.std.proofs.Math.Nat.{div-lt_iff_lt-mul}
-use Rattle.tc_model.specs.Trees.{Trees}
-use Rattle.tc_model.specs.Chains.{Tree}
 use Rattle.tc_rules.specs.States.{Going, Looking}
 use Rattle.tc_rules.specs.Tasks.{IsMoveAt, IsLookAt}
 use Rattle.tc_rows.specs.Triples.{Triple, IsTriple, ancestors, moves, looks, entries, outputs}
-use Rattle.tc_rows.specs.PairSets.{PairSet, HaveSamePairs, IsPairs, listed}
-use Rattle.tc_rows.specs.Rows.{HedgeRow, TreeRow, IsRowOfHedge, IsRowOfTree, AreEntries, AreLooks, entry, look}
-use Rattle.tc_rows.specs.Arithmetic.{IsEmptyRow, IsTextRow, IsAppend, IsWrap}
+use Rattle.tc_rows.specs.PairSets.{HaveSamePairs, IsPairs, listed}
+use Rattle.tc_rows.specs.Rows.{HedgeRow, TreeRow, AreEntries, AreLooks, entry, look}
 use Rattle.tc_rows.specs.Laws.{AreOne}
 use Rattle.tc_rows.proofs.PairLaws.{same_back, same_on}
 use Rattle.tc_rows.proofs.Ascending.{one_set, one_pair_set}

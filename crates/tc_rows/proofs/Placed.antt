@@ -1,10 +1,10 @@
 -- Bodies that the machine tells hold paths of the stylesheet alone, and what stands below a node is told by its row.
-use Rattle.std.proofs.Common.{◌≡◌, ◌⊎◌, inl, inr, ℕ, zero, suc, ◌+◌, ◌<◌, ◌≤◌, List, [], ◌∷◌, Bool, refl, ap, ◌∙◌, sym, subst, map, Option, Some, None, slice_get, Contains, arith}
+use Rattle.std.proofs.Common.{◌≡◌, inl, inr, ℕ, zero, suc, ◌<◌, List, [], ◌∷◌, Bool, refl, ap, ◌∙◌, sym, subst, map, Option, Some, None, slice_get, Contains, arith}
 use Rattle.std.proofs.lemmas.Option.{same_Some}
 use Rattle.tc_model.specs.Trees.{Trees, none}
-use Rattle.tc_model.specs.Chains.{Tree, an_element, a_text, Node, whole, one, children, children_of, top, under}
+use Rattle.tc_model.specs.Chains.{Tree, an_element, a_text, Node, children, children_of, top, under}
 use Rattle.tc_model.specs.TreesApart.{bears_text}
-use Rattle.tc_model.specs.Sheets.{Path, Test, Body, Rule, Sheet, Inlines, CallFreeBody, p_done, p_apply, p_self}
+use Rattle.tc_model.specs.Sheets.{Path, Test, Body, Rule, CallFreeBody, p_done, p_apply}
 use Rattle.tc_model.specs.Paths.{holds}
 use Rattle.tc_model.specs.Outcomes.{nothing}
 use Rattle.tc_model.specs.Machine as m
@@ -13,20 +13,19 @@ use Rattle.tc_model.specs.Letters.{Kind, of_symbol, of_text, Letter, letter_of, 
 use Rattle.tc_model.specs.PathStates.{State, first_state}
 use Rattle.tc_model.specs.Names.{ExpandedName}
 use Rattle.tc_model.specs.Symbols.{symbol_of}
-use Rattle.tc_model.specs.Numberings.{moves_of, looks_of}
+use Rattle.tc_model.specs.Numberings.{looks_of}
 use Rattle.tc_model.specs.WellFormed.{IsSheet}
 use Rattle.tc_model.specs.Meaning.{all_children}
 use Rattle.tc_alpha.proofs.Members.{Has}
 use Rattle.tc_rules.specs.Parts.{IsPartTest, IsPart}
 use Rattle.tc_rules.specs.Tasks.{IsTaskOf, of_mode, of_each, going_from, looking_from}
-use Rattle.tc_rules.specs.States.{AllInline, Going, Chosen, chosen, or_plain, plain_of, built_in_at, body_by, body_of_root, states}
+use Rattle.tc_rules.specs.States.{AllInline, Chosen, or_plain, plain_of, built_in_at, body_by, body_of_root}
 use Rattle.tc_rules.specs.RulesView.{ancestor}
 use Rattle.tc_rules.proofs.PartsOf.{rule_part, named_part, predicate_part, each_part, children_move}
 use Rattle.tc_rules.proofs.Looking.{holds_alike, holds_by_looks}
 use Rattle.tc_rows.specs.Triples.{Triple, IsTriple, sheet, predicates, machine, ancestors, looking}
-use Rattle.tc_rows.specs.PairSets.{HaveSamePairs}
-use Rattle.tc_rows.specs.Rows.{led, value_of, AreEntriesOf, AreLooksOf}
-use Rattle.tc_rows.specs.Bodies.{holds_by, letter_by, stay}
+use Rattle.tc_rows.specs.Rows.{value_of, AreEntriesOf, AreLooksOf}
+use Rattle.tc_rows.specs.Bodies.{holds_by, letter_by}
 use Rattle.tc_rows.specs.Arithmetic.{look_from, below, nothing_below, letter_of_text, letter_around}
 use Rattle.tc_rows.proofs.Plain.{HasParts, parts_of}
 use Rattle.tc_rows.proofs.Bodies.{IsBelow, IsNodeApart, test_same}

@@ -1,31 +1,31 @@
 -- What is read from a row by states is what the states find and put out.
-use Rattle.std.proofs.Common.{◌≡◌, ◌⊎◌, inl, inr, ℕ, zero, suc, ◌+◌, ◌-◌, ◌*◌, ◌<◌, ◌≤◌, List, [], ◌∷◌, ◌++◌, Bool, true, false, cond, refl, ap, ◌∙◌, sym, subst, nat_lt, length, map, take, get_or, Option, Some, None, slice_get, Contains, arith}
+use Rattle.std.proofs.Common.{◌≡◌, ◌⊎◌, inl, inr, ℕ, zero, suc, ◌+◌, ◌<◌, ◌≤◌, List, [], ◌∷◌, ◌++◌, true, false, cond, ap, ◌∙◌, sym, subst, nat_lt, length, map, take, Some, None, slice_get, Contains, arith}
 use Rattle.std.proofs.lemmas.Bool.{lt-ltb, le-ltb}
 use Rattle.std.proofs.lemmas.Option.{same_Some}
-use Rattle.tc_model.specs.Trees.{Trees, none}
+use Rattle.tc_model.specs.Trees.{Trees}
 use Rattle.tc_model.specs.Sheets.{Path}
 use Rattle.tc_model.specs.Outcomes.{Outcome, nothing}
 use Rattle.tc_model.specs.Machine as m
 use Rattle.tc_model.specs.Machine.{CallFreeJob, first_hit}
-use Rattle.tc_model.specs.PathStates.{State, is_empty_state, first_state}
+use Rattle.tc_model.specs.PathStates.{is_empty_state, first_state}
 use Rattle.tc_model.specs.Numberings.{Move, same_move, moves_of, looks_of}
 use Rattle.tc_model.specs.SameTests.{same_path}
 use Rattle.tc_model.specs.Numbered.{number_of}
-use Rattle.tc_model.specs.StateCounts.{PathUse, blocks_of}
+use Rattle.tc_model.specs.StateCounts.{PathUse}
 use Rattle.tc_alpha.proofs.Members.{has_from_contains}
 use Rattle.tc_rules.specs.Graphs.{Graph}
 use Rattle.tc_rules.specs.States.{Going, Looking}
 use Rattle.tc_rules.proofs.SelectStates.{count_cons}
-use Rattle.tc_rules.specs.RulesView.{IsStateOf, select_count, move_count, count_states, ancestor}
+use Rattle.tc_rules.specs.RulesView.{IsStateOf, select_count, count_states, ancestor}
 use Rattle.tc_rules.proofs.EmptyStates.{hit_none, next_none}
 use Rattle.tc_rules.proofs.Sameness.{path_same, path_self, move_same, move_self, found_by_number}
-use Rattle.tc_rules.specs.Tasks.{IsTaskOf, IsMoveAt, IsLookAt, going_from, looking_from}
-use Rattle.tc_rows.specs.Triples.{Triple, IsTriple, Select, sheet, predicates, machine, ancestors, moves, number, moving, looking}
-use Rattle.tc_rows.specs.PairSets.{HaveSamePairs, listed, chosen}
+use Rattle.tc_rules.specs.Tasks.{IsTaskOf, IsLookAt}
+use Rattle.tc_rows.specs.Triples.{Triple, IsTriple, sheet, predicates, machine, ancestors, moves, number, moving, looking}
+use Rattle.tc_rows.specs.PairSets.{HaveSamePairs, listed}
 use Rattle.tc_rows.specs.Rows.{entry, look, value_of, led, AreEntriesOf, AreLooksOf}
 use Rattle.tc_rows.specs.Bodies.{stay}
 use Rattle.tc_rows.specs.Arithmetic.{look_from, pairs_from}
-use Rattle.tc_rows.proofs.PairLaws.{same_self, same_back, same_on, chosen_first, chosen_second}
+use Rattle.tc_rows.proofs.PairLaws.{same_back, same_on, chosen_first, chosen_second}
 use Rattle.tc_rules.proofs.Counts.{state_counted, move_counted}
 use Rattle.tc_model.proofs.TreesInTurn.{first_of_none, outputs_of_none}
 use Rattle.tc_rows.proofs.Leading.{led_none}

@@ -1,16 +1,16 @@
 -- The result of a document is valid exactly where its row passes at the root.
-use Rattle.std.proofs.Common.{◌≡◌, ◌↔◌, ℕ, ◌<◌, List, Bool, true, false, cond, refl, ap, ◌∙◌, sym, subst}
-use Rattle.tc_model.specs.Trees.{Trees, none, normal_form}
+use Rattle.std.proofs.Common.{◌≡◌, ◌↔◌, ap, ◌∙◌, sym, subst}
+use Rattle.tc_model.specs.Trees.{Trees, normal_form}
 use Rattle.tc_model.specs.Chains.{Tree, whole, top}
 use Rattle.tc_model.specs.TreesApart.{alone, IsApart}
-use Rattle.tc_model.specs.Outcomes.{Outcome, counted}
+use Rattle.tc_model.specs.Outcomes.{Outcome}
 use Rattle.tc_model.specs.Meaning.{by_mode, body_of, Does}
 use Rattle.tc_model.specs.Machine as m
 use Rattle.tc_model.specs.Machine.{in_mode, u_mode, does_in, does_at, plain_at, IsMachineOf}
 use Rattle.tc_model.specs.PathStates.{State, first_state, path_of_rules}
 use Rattle.tc_model.specs.Matching.{Matches}
 use Rattle.tc_model.specs.Safety.{IsResultOf}
-use Rattle.tc_model.specs.States.{output, automaton, the_start, Leads}
+use Rattle.tc_model.specs.States.{output, the_start}
 use Rattle.tc_model.specs.Validity.{IsValidOutput}
 use Rattle.tc_model.proofs.TotalExact.{does_sound}
 use Rattle.tc_model.proofs.TreesApart.{normal_twice}
@@ -18,7 +18,7 @@ use Rattle.tc_rules.specs.States.{body_of_root, states}
 use Rattle.tc_rules.specs.RulesView.{ancestor}
 use Rattle.tc_rules.proofs.PathTold.{machine_tells}
 use Rattle.tc_hedge.proofs.Leading.{outputs_lead_exactly, first_below}
-use Rattle.tc_rows.specs.Triples.{Triple, IsTriple, sheet, predicates, machine, outputs}
+use Rattle.tc_rows.specs.Triples.{Triple, IsTriple, sheet, predicates, machine}
 use Rattle.tc_rows.specs.PairSets.{HaveSamePairs}
 use Rattle.tc_rows.specs.Rows.{TreeRow, IsRowOfTree, led}
 use Rattle.tc_rows.specs.Bodies.{on_root, body_pairs}

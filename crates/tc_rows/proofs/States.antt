@@ -1,26 +1,24 @@
 -- States of a triple by their numbers: what a number stands for, and where letters lead.
-use Rattle.std.proofs.Common.{◌≡◌, ◌⊎◌, inl, inr, ℕ, zero, suc, ◌+◌, ◌<◌, ◌≤◌, ◌^◌, List, [], ◌∷◌, ◌++◌, Bool, true, false, ◌&&◌, not, refl, ap, ◌∙◌, sym, subst, map, filter, flat_map, take, length, get_or, Option, Some, None, slice_get, if◌then◌else◌, arith}
+use Rattle.std.proofs.Common.{◌≡◌, ◌⊎◌, inl, inr, ℕ, zero, suc, ◌+◌, ◌<◌, ◌≤◌, List, [], ◌∷◌, ◌++◌, Bool, true, false, ◌&&◌, not, refl, ap, ◌∙◌, sym, subst, map, filter, flat_map, take, length, get_or, Option, Some, None, slice_get, if◌then◌else◌, arith}
 use Rattle.std.proofs.lemmas.Bool.{true≢false}
 use Rattle.std.proofs.lemmas.Option.{same_Some, slice_get_within}
 use Rattle.std.proofs.lemmas.List.{length-map, length-append}
-use Rattle.tc_model.specs.Sheets.{Path, Sheet}
-use Rattle.tc_model.specs.Symbols.{symbol_count}
+use Rattle.tc_model.specs.Sheets.{Path}
 use Rattle.tc_model.specs.Numbered.{each_once_after, number_of}
 use Rattle.tc_model.specs.Letters.{Kind, Letter, of_symbol, IsLetter}
 use Rattle.tc_model.specs.PathStates.{State, same_state, is_empty_state, first_state, next_state, path_of_rules}
-use Rattle.tc_model.specs.Numberings.{one_round, rounds, AreReached, letters_of_elements, predicates_of}
+use Rattle.tc_model.specs.Numberings.{one_round, rounds, AreReached, letters_of_elements}
 use Rattle.tc_model.specs.StateCounts.{PathUse, blocks_of, all_count, some_item}
-use Rattle.tc_alpha.proofs.Members.{Has, Every, every_member}
-use Rattle.tc_rules.specs.Graphs.{Graph, IsGraphOf, LeadsTo, next_at}
-use Rattle.tc_rules.specs.RulesView.{RulesView, IsTold, IsStateOf, count_states, select_count, move_count, ancestor, ancestor_below, select_below}
+use Rattle.tc_alpha.proofs.Members.{Every, every_member}
+use Rattle.tc_rules.specs.Graphs.{Graph, LeadsTo, next_at}
+use Rattle.tc_rules.specs.RulesView.{IsStateOf, count_states, select_count, ancestor, ancestor_below, select_below}
 use Rattle.tc_rules.proofs.SameRows.{state_same, state_self}
 use Rattle.tc_rules.proofs.Sameness.{every_kept}
 use Rattle.tc_rules.proofs.SelectStates.{count_cons}
 use Rattle.tc_rules.proofs.Counted.{first_there}
 use Rattle.tc_rules.proofs.Queries.{graph_of, step_told, no_item_left, goes_on, above_told}
-use Rattle.tc_rows.specs.Triples.{Triple, IsTriple, Select, sheet, predicates, ancestors, moves, same_mode, same_use, same_select, states_by, selects, number, number_below}
+use Rattle.tc_rows.specs.Triples.{Triple, IsTriple, Select, sheet, predicates, ancestors, same_use, same_select, states_by, selects, number, number_below}
 use Rattle.tc_rows.proofs.Numbers.{once_again, number_at, number_finds, number_most, use_number, number_by}
-use Rattle.tc_rules.proofs.Counts.{state_counted}
 use Rattle.tc_rows.proofs.Leading.{has_at}
 
 abbrev with_state : PathUse → State → Select

@@ -1,19 +1,17 @@
 -- The row of an element around trees, of a text, and of no tree.
-use Rattle.std.proofs.Common.{◌≡◌, ◌↔◌, ◌⊎◌, inl, inr, ℕ, ◌+◌, ◌-◌, ◌*◌, ◌<◌, ◌≤◌, List, [], Bool, true, false, cond, ◌||◌, refl, ap, ◌∙◌, sym, subst, get_or, Option, Some, None, Contains, arith}
-use Rattle.std.proofs.lemmas.Bool.{true≢false}
+use Rattle.std.proofs.Common.{◌≡◌, ◌↔◌, ℕ, ◌+◌, ◌-◌, ◌*◌, ◌<◌, List, [], Bool, true, false, cond, ◌||◌, refl, ap, ◌∙◌, sym, subst, Option, Some, None, Contains}
 use Rattle.tc_model.specs.Names.{ExpandedName}
 use Rattle.tc_model.specs.Trees.{Trees, none, text, element, beside, normal_form, is_all_white}
-use Rattle.tc_model.specs.Chains.{Tree, an_element, a_text, Node, one}
-use Rattle.tc_model.specs.TreesApart.{alone, bears_text, IsApart}
-use Rattle.tc_model.specs.Grammars.{ElementPattern, element_at, InClass}
+use Rattle.tc_model.specs.Chains.{an_element, a_text, Node, one}
+use Rattle.tc_model.specs.TreesApart.{bears_text, IsApart}
 use Rattle.tc_model.specs.Matching.{Matches}
 use Rattle.tc_model.specs.Outcomes.{Outcome, nothing, join, counted}
 use Rattle.tc_model.specs.Machine as m
 use Rattle.tc_model.specs.Machine.{or_else, first_hit, does_in}
-use Rattle.tc_model.specs.Letters.{Letter, letter_of, of_symbol, IsLetter}
+use Rattle.tc_model.specs.Letters.{Letter, letter_of}
 use Rattle.tc_model.specs.Sheets.{CallFreeBody}
-use Rattle.tc_model.specs.PathStates.{State, is_empty_state}
-use Rattle.tc_model.specs.States.{input, automaton, first_state, a_content, IsElementOf, Leads, at_end}
+use Rattle.tc_model.specs.PathStates.{State}
+use Rattle.tc_model.specs.States.{input, first_state, a_content, IsElementOf, Leads, at_end}
 use Rattle.tc_model.specs.Symbols.{symbol_of}
 use Rattle.tc_model.proofs.TreesApart.{normal_apart}
 use Rattle.tc_model.proofs.TotalJoin.{beside_none}
@@ -21,18 +19,18 @@ use Rattle.tc_model.proofs.StatesExact.{sound}
 use Rattle.tc_alpha.proofs.Members.{has_from_contains}
 use Rattle.tc_rules.specs.States.{Going, Looking, body_by}
 use Rattle.tc_rules.specs.Tasks.{IsMoveAt, IsLookAt}
-use Rattle.tc_rules.specs.RulesView.{IsStateOf, ancestor, ancestor_below}
+use Rattle.tc_rules.specs.RulesView.{ancestor}
 use Rattle.tc_rules.proofs.PathTold.{trees_have_letters}
 use Rattle.tc_rules.proofs.Counts.{move_counted}
 use Rattle.tc_hedge.proofs.Leading.{run_of_leads, run_of_none, leads_exactly}
 use Rattle.tc_rows.specs.Triples.{Triple, IsTriple, sheet, predicates, machine, ancestors, moves, moving, looking, number_below}
 use Rattle.tc_rows.specs.PairSets.{PairSet, HaveSamePairs, product, chosen, listed}
-use Rattle.tc_rows.specs.Rows.{HedgeRow, TreeRow, IsRowOfHedge, IsRowOfTree, IsLedTo, IsPatternOf, entry, look, value_of, hit_value, led, AreEntriesOf, AreLooksOf}
-use Rattle.tc_rows.specs.Bodies.{NodeKind, on_element, on_text, Below, stay, body_pairs}
-use Rattle.tc_rows.specs.Arithmetic.{look_from, pairs_from, below, nothing_below, letter_of_text, letter_around, step, hits, hit_pairs, IsEmptyRow, IsTextRow, IsPatternAround, IsWrap}
-use Rattle.tc_rows.proofs.PairLaws.{same_self, same_back, same_on, product_same, chosen_same}
+use Rattle.tc_rows.specs.Rows.{HedgeRow, TreeRow, IsRowOfHedge, IsRowOfTree, IsPatternOf, entry, look, value_of, hit_value, led, AreEntriesOf, AreLooksOf}
+use Rattle.tc_rows.specs.Bodies.{on_element, on_text, stay}
+use Rattle.tc_rows.specs.Arithmetic.{look_from, pairs_from, below, nothing_below, step, hits, hit_pairs, IsEmptyRow, IsTextRow, IsPatternAround, IsWrap}
+use Rattle.tc_rows.proofs.PairLaws.{same_back, same_on, product_same}
 use Rattle.tc_rows.proofs.Leading.{led_none, led_beside, class_by_symbol}
-use Rattle.tc_rows.proofs.Bodies.{IsBelow, body_same}
+use Rattle.tc_rows.proofs.Bodies.{body_same}
 use Rattle.tc_rows.proofs.States.{IsNumberBelow, stepped, below_number}
 use Rattle.tc_rows.proofs.Reading.{look_read, pairs_read}
 use Rattle.tc_rows.proofs.Placed.{task_parts, is_below, nothing_is_below, text_letter, element_letter}

@@ -5,3 +5,4 @@ pub mod Bodies
 pub mod Arithmetic
 pub mod Counts
 pub mod Laws
+pub mod Alike
