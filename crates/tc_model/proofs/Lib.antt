@@ -44,3 +44,4 @@ pub mod SimplifiesLawful
 pub mod BodiesInTurn
 pub mod TreesInTurn
 pub mod SchemaStates
+pub mod TreesApart

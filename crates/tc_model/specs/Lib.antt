@@ -10,6 +10,8 @@ pub mod States
 pub mod SchemaStates
 pub mod Sheets
 pub mod Chains
+pub mod TreesApart
+pub mod LiveTrees
 pub mod Paths
 pub mod Outcomes
 pub mod Meaning

@@ -1,0 +1,17 @@
+// What is proved of rows.
+ghost use Rattle.tc_rows.specs.Alike.{AlikeWrapAlike};
+ghost use Rattle.tc_rows.specs.Laws.{RowsAreLawful};
+
+/// The laws of rows. A tree has one row, and what is worked out from rows is one row. Rows commute with putting trees
+/// together: what is live is told by rows, and its row is worked out from those of its parts. All live trees are made
+/// of live ones. A live document is valid exactly where its row is admitted, and its result exactly where its row
+/// passes at the root.
+pub fn law_of_rows()
+    ensures { RowsAreLawful }
+{}
+
+/// The law of symbols alike: elements of symbols that no class and no step tells apart have, around the same trees,
+/// the same row.
+pub fn law_of_symbols_alike()
+    ensures { AlikeWrapAlike }
+{}
