@@ -13,6 +13,7 @@ mod steps;
 mod table;
 #[cfg(test)]
 mod tests;
-mod valid;
+pub mod valid;
 
 pub use hedge::Hedge;
+pub use valid::is_valid;
