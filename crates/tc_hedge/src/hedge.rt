@@ -5,9 +5,8 @@ ghost use Rattle.tc_auto.specs.Arrows.{AreWithin};
 ghost use Rattle.tc_hedge.specs.Items.{IsOfSomeSchema};
 ghost use Rattle.tc_mat.specs.Matrix.{HasPair, IsComposition, IsMatrix};
 
-use crate::documents::is_document;
 use crate::table::{push_allowed, table_of};
-use crate::valid::is_element_valid;
+use crate::valid::is_valid;
 use std::alloc::Global;
 use tc_alpha::{Alphabet, Sym};
 use tc_auto::{Arrow, Auto, Edge};
@@ -124,55 +123,14 @@ impl<'b> Hedge<'b> {
         self.allowed[start + (number as usize - 1)]
     }
 
-    /// The first state of a part.
-    pub(crate) fn first(&self, part: u32) -> u32
-        requires { part ≤ a.patterns self.now.auto }
-        ensures exact { (side : s.Side) (x : g.Grammar) → a.Stands side x self.now.auto → result ≡ s.first_state x side part }
-        ensures within { result ≤ a.states self.now.auto }
-    {
-        self.auto.first(part)
-    }
-
-    /// The first state of the content of an element pattern.
-    pub(crate) fn first_of_content(&self, number: u32) -> u32
-        requires from_one { 1 ≤ number }
-        requires within { number ≤ a.patterns self.now.auto }
-        ensures exact { (side : s.Side) (x : g.Grammar) → a.Stands side x self.now.auto → result ≡ s.first_state x side number }
-        ensures below { result < a.states self.now.auto }
-    {
-        self.first(number)
-    }
-
-    /// The state behind the last one of a part.
-    pub(crate) fn end(&self, part: u32) -> u32
-        requires { part ≤ a.patterns self.now.auto }
-        ensures exact { (side : s.Side) (x : g.Grammar) → a.Stands side x self.now.auto → result ≡ s.first_state x side (suc part) }
-        ensures within { result ≤ a.states self.now.auto }
-    {
-        if part < self.auto.patterns() {
-            self.first(part + 1)
-        } else {
-            self.auto.states()
-        }
-    }
-
-    /// The edges from a state.
-    pub(crate) fn edges(&self, state: u32) -> &[Edge]
-        requires { state < a.states self.now.auto }
-        ensures exact { (side : s.Side) (x : g.Grammar) → a.Stands side x self.now.auto → (e : Edge) → Contains result.now e ↔ s.IsEdge x side state (see_leaf e.leaf) e.to }
-        ensures within { All (λ (e : Edge). e.to < a.states self.now.auto) result.now }
-    {
-        self.auto.follow(state)
-    }
-
     /// Whether a set of pairs leads the first state of a content to an accepting state of that content.
     fn is_taken(&self, inner: &Mat, number: u32) -> bool
         requires within { number ≤ a.patterns self.now.auto }
         requires size { inner.now.size ≡ a.states self.now.auto }
         ensures { (side : s.Side) (x : g.Grammar) → a.Stands side x self.now.auto → (e : g.ElementPattern) → g.element_at x.elements number ≡ Some e → IsTrue result ↔ IsTaken x side inner.now number e }
     {
-        let first = self.first(number);
-        let end = self.end(number);
+        let first = self.auto.first(number);
+        let end = self.auto.end(number);
         for state in first..end {
             if inner.has(first, state) && self.auto.accepts(state) {
                 return true;
@@ -313,14 +271,6 @@ impl<'b> Hedge<'b> {
     pub fn valid(&self, doc: &Node<'_>) -> Result<bool, NoMemory>
         ensures { IfOk result (λ b. (side : s.Side) (x : g.Grammar) → a.Stands side x self.now.auto → IsStart x.start → IsTrue b ↔ IsValid x (see.before doc.now t.none)) }
     {
-        match doc {
-            Node::Text(_) => Ok(false),
-            Node::Elem(name, kids) => {
-                if !is_document(doc) {
-                    return Ok(false);
-                }
-                is_element_valid(self, name, kids)
-            }
-        }
+        is_valid(self.alloc, &self.auto, doc)
     }
 }

@@ -11,6 +11,7 @@ mod passages;
 mod sets;
 mod steps;
 mod table;
-mod valid;
+pub mod valid;
 
 pub use hedge::Hedge;
+pub use valid::is_valid;

@@ -5,7 +5,7 @@ use Rattle.tc_model.specs.Views as see
 use Rattle.tc_model.specs.declared.tree.Node.{Node}
 use Rattle.tc_model.proofs.Views.{before_elem}
 use Rattle.tc_hedge.proofs.Gathers.{for_ok}
-use Rattle.tc_hedge.proofs.hedge.Hedge.valid.Goals as goal
+use Rattle.tc_hedge.proofs.valid.is_valid.Goals as goal
 
 pub returns-else-not-is_document : goal.returns-else-not-is_document
 returns-else-not-is_document c =
