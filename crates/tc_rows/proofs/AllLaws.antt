@@ -10,8 +10,9 @@ use Rattle.tc_model.proofs.Total.{one_result}
 use Rattle.tc_alpha.proofs.Fresh.{lawful_told}
 use Rattle.tc_rules.proofs.Covered.{symbol_below}
 use Rattle.tc_rows.specs.Triples.{Triple, IsTriple, sheet}
-use Rattle.tc_rows.specs.Laws.{Commute, AreMade, Tell, AreLawful, RowsAreLawful}
+use Rattle.tc_rows.specs.Laws.{Commute, AreMade, Tell, RowLaws, RowsAreLawful}
 use Rattle.tc_rows.proofs.One.{are_one}
+use Rattle.tc_rows.proofs.There.{are_there}
 use Rattle.tc_rows.proofs.Append.{append_row}
 use Rattle.tc_rows.proofs.Wrap.{wrap_row, text_row, empty_row}
 use Rattle.tc_rows.proofs.Live.{live_apart, tree_apart, live_last, live_front, live_inside, text_live, append_live, wrap_live, fresh_told, document_live, admitted_told}
@@ -57,8 +58,8 @@ module _ (x : Triple) (is : IsTriple x) where
     has_result = λ t. let (result, a, unique) = one_result (sheet x) is.rules.well_formed (alone t) in (result, a);
   }
 
-  are_lawful : AreLawful x
-  are_lawful = record { one = are_one x is; commute = commute; made = made; tell = tell }
+  are_lawful : RowLaws x
+  are_lawful = record { one = are_one x is; there = are_there x is; commute = commute; made = made; tell = tell }
 
 pub rows_are_lawful : RowsAreLawful
 rows_are_lawful = are_lawful

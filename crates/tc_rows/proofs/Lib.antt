@@ -17,7 +17,9 @@ pub mod One
 pub mod Starts
 pub mod Live
 pub mod Root
+pub mod There
 pub mod AllLaws
 pub mod Alike
 pub mod Stood
 pub mod Deciding
+pub mod Sets

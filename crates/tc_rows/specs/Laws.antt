@@ -1,7 +1,7 @@
 -- The laws of rows: all that is to be known of them where rows of all live trees are found, or where some are checked.
 use Rattle.std.specs.Prelude.{◌≡◌, ◌<◌, ◌↔◌, ◌+◌, ℕ, List, false, IsTrue, codes}
 use Rattle.tc_model.specs.Names.{ExpandedName, IsName, IsText}
-use Rattle.tc_model.specs.Trees.{Trees, none, is_all_white, node_count}
+use Rattle.tc_model.specs.Trees.{Trees, none, is_all_white, node_count, IsNormal}
 use Rattle.tc_model.specs.Chains.{Tree, an_element, a_text}
 use Rattle.tc_model.specs.TreesApart.{alone, followed_by, FromBack}
 use Rattle.tc_model.specs.LiveTrees.{IsLiveTree, IsLiveHedge}
@@ -9,7 +9,7 @@ use Rattle.tc_model.specs.Validity.{IsValid, IsValidOutput}
 use Rattle.tc_model.specs.Safety.{IsResultOf}
 use Rattle.tc_model.specs.Symbols.{symbol_of, symbol_count, fresh_name}
 use Rattle.tc_rows.specs.Triples.{Triple, IsTriple, sheet}
-use Rattle.tc_rows.specs.Rows.{HedgeRow, TreeRow, IsRowOfHedge, IsRowOfTree}
+use Rattle.tc_rows.specs.Rows.{HedgeRow, TreeRow, IsHedgeRow, IsTreeRow, IsRowOfHedge, IsRowOfTree}
 use Rattle.tc_rows.specs.Arithmetic.{IsEmptyRow, IsTextRow, IsTextLive, IsAppend, IsLiveAppend, IsWrap, IsLiveWrap, is_admitted, IsPassing}
 
 module _ (x : Triple) where
@@ -21,6 +21,15 @@ module _ (x : Triple) where
     pub text : (u v : TreeRow) → IsTextRow x u → IsTextRow x v → u ≡ v
     pub appended : (h : HedgeRow) (t : TreeRow) (u v : HedgeRow) → IsAppend x h t u → IsAppend x h t v → u ≡ v
     pub wrapped : (a : ℕ) (h : HedgeRow) (u v : TreeRow) → IsWrap x a h u → IsWrap x a h v → u ≡ v
+
+  -- there are rows: of all trees in normal form, and of what is worked out from rows
+  pub record AreThere : Type 0 where
+    pub empty : (u : HedgeRow) × IsEmptyRow x u
+    pub text : (u : TreeRow) × IsTextRow x u
+    pub appended : (h : HedgeRow) (t : TreeRow) → IsHedgeRow x h → IsTreeRow x t → (u : HedgeRow) × IsAppend x h t u
+    pub wrapped : (a : ℕ) (h : HedgeRow) → IsHedgeRow x h → (u : TreeRow) × IsWrap x a h u
+    pub trees : (t : Tree) → IsNormal (alone t) → (r : TreeRow) × IsRowOfTree x t r
+    pub hedges : (h : Trees) → IsNormal h → (r : HedgeRow) × IsRowOfHedge x h r
 
   -- rows commute with putting trees together: what is live is told by rows, and its row is worked out from them
   pub record Commute : Type 0 where
@@ -59,12 +68,13 @@ module _ (x : Triple) where
         → IsValidOutput x.output result ↔ IsPassing x r
     pub has_result : (t : Tree) → (result : Trees) × IsResultOf (sheet x) (alone t) result
 
-  pub record AreLawful : Type 0 where
+  pub record RowLaws : Type 0 where
     pub one : AreOne
+    pub there : AreThere
     pub commute : Commute
     pub made : AreMade
     pub tell : Tell
 
 -- rows keep all these laws
 abbrev pub RowsAreLawful : Type 0
-RowsAreLawful = (x : Triple) → IsTriple x → AreLawful x
+RowsAreLawful = (x : Triple) → IsTriple x → RowLaws x
