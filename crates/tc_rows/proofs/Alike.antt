@@ -23,7 +23,7 @@ use Rattle.tc_rows.specs.Arithmetic as r
 use Rattle.tc_rows.specs.Arithmetic.{below, look_from, pairs_from, letter_around, hits, hit_pairs, IsWrap, IsPatternAround}
 use Rattle.tc_rows.specs.Alike.{AreAlike, AlikeWrapAlike}
 use Rattle.tc_rows.proofs.PairLaws.{same_self, same_on, product_same, chosen_same}
-use Rattle.tc_rows.proofs.Leading.{has_at}
+use Rattle.tc_rows.proofs.Leading.{has_at, around_alike}
 
 first_same : {X : Type 0} {a b : X} {us vs : List X} → a ∷ us ≡ b ∷ vs → a ≡ b
 first_same e = cc
@@ -87,18 +87,12 @@ module _ (x : Triple) (a b : ℕ) (alike : AreAlike x a b) where
         (k, p, at, subst (λ w. w ≡ true) (sym (alike.output k p at)) inside, (y, (e (first_state x.output output k) (first_state x.output output k + y)).1 inner, acc), edge),
   )
 
-  around_itself : (c : ℕ) (s t : PairSet) → HaveSamePairs s t → HaveSamePairs (around x c s) (around x c t)
-  around_itself c s t e i j = (
-    λ (k, p, at, inside, (y, inner, acc), edge). (k, p, at, inside, (y, (e (first_state x.output output k) (first_state x.output output k + y)).0 inner, acc), edge),
-    λ (k, p, at, inside, (y, inner, acc), edge). (k, p, at, inside, (y, (e (first_state x.output output k) (first_state x.output output k + y)).1 inner, acc), edge),
-  )
-
   module _ (w : Below) where
     mutual
       body_alike : (d : CallFreeBody) → HaveSamePairs (body_pairs x d (on_element a) w) (body_pairs x d (on_element b) w)
       body_alike p_done = same_self (stay x)
       body_alike (p_text s d) = product_same _ _ _ _ (same_self (text_pairs x s)) (body_alike d)
-      body_alike (p_element n inner d) = product_same _ _ _ _ (around_itself (symbol_of x.symbols n) _ _ (body_alike inner)) (body_alike d)
+      body_alike (p_element n inner d) = product_same _ _ _ _ (around_alike x (symbol_of x.symbols n) _ _ (body_alike inner)) (body_alike d)
       body_alike (p_copy inner d) = product_same _ _ _ _ (around_same _ _ (body_alike inner)) (body_alike d)
       body_alike (p_apply p m d) = product_same _ _ _ _ (same_self (w.pairs m p)) (body_alike d)
       body_alike (p_call inner d) = product_same _ _ _ _ (body_alike inner) (body_alike d)

@@ -20,13 +20,13 @@ use Rattle.tc_rules.specs.Tasks.{IsLookAt}
 use Rattle.tc_rules.specs.RulesView.{count_states, select_count, ancestor}
 use Rattle.tc_rules.proofs.Counts.{state_counted, move_counted}
 use Rattle.tc_rules.proofs.SelectStates.{count_cons}
-use Rattle.tc_hedge.proofs.Leading.{run_of_leads, run_of_none, run_of_element, leads_beside}
+use Rattle.tc_hedge.proofs.Leading.{run_of_leads, run_of_none, run_of_element, leads_beside, leads_split}
+use Rattle.tc_rows.proofs.Numbers.{of_move}
 use Rattle.tc_rows.specs.Triples.{Triple, IsTriple, sheet, machine, ancestors, moves, looks, entries}
 use Rattle.tc_rows.specs.PairSets.{HaveSamePairs, product, listed}
 use Rattle.tc_rows.specs.Rows.{HedgeRow, TreeRow, IsRowOfHedge, IsRowOfTree, IsLedTo, entry, or_hit, value_of, hit_value, node_bears, led, AreEntriesOf}
 use Rattle.tc_rows.specs.Arithmetic.{IsAppend, TreeLeads}
 use Rattle.tc_rows.proofs.PairLaws.{same_back, same_on, product_same}
-use Rattle.tc_rows.proofs.Splits.{leads_split}
 use Rattle.tc_rows.proofs.Leading.{led_beside}
 
 seen_hit : (b : Bool) (v : ℕ) → hit_value b ≡ or_hit (hit_value b) v
@@ -44,9 +44,6 @@ count_rises [] (suc n) (suc k) l = omega arith
 count_rises (g ∷ gs) zero k l = omega arith
 count_rises (g ∷ gs) (suc n) zero l = absurd (omega (arith, l))
 count_rises (g ∷ gs) (suc n) (suc k) l = omega (arith, count_rises gs n k (omega (arith, l)), count_cons g (take n gs), count_cons g (take k gs))
-
-abbrev of_move : Move → PathUse
-of_move w = record { path = w.path; mode = Some w.mode }
 
 -- looks come after all moves
 look_place : (ms : List Move) (bs : List PathUse) (i : ℕ) (b : PathUse) → slice_get (map of_move ms ++ bs) i ≡ Some b → b.mode ≡ None → length ms ≤ i

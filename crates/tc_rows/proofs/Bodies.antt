@@ -70,7 +70,7 @@ module _ (x : Triple) (is : IsTriple x) where
   children_apart (one (an_element n kids)) a = a
   children_apart (one (a_text s)) a = tt
 
-  together : (h k : Trees) (r s : PairSet) → HaveSamePairs (led x h) r → HaveSamePairs (led x k) s → HaveSamePairs (led x (beside h k)) (product r s)
+  pub together : (h k : Trees) (r s : PairSet) → HaveSamePairs (led x h) r → HaveSamePairs (led x k) s → HaveSamePairs (led x (beside h k)) (product r s)
   together h k r s e f = same_on _ (product (led x h) (led x k)) _ (led_beside x is h k) (product_same (led x h) r (led x k) s e f)
 
   element_same : (n : ExpandedName) (h : Trees) (r : PairSet) → HaveSamePairs (led x h) r → HaveSamePairs (led x (element n h none)) (around x (symbol_of x.symbols n) r)
@@ -87,7 +87,7 @@ module _ (x : Triple) (is : IsTriple x) where
   fits_text true (c ∷ cs) f = led_text x is (c ∷ cs) f
   fits_text false s f = subst (λ w. Leads (put w) (stay x)) (sym f) (led_none x is)
 
-  cond_same : (b c : Bool) (o p : Outcome) (r s : PairSet) → b ≡ c → Leads o r → Leads p s → Leads (cond b o p) (chosen c r s)
+  pub cond_same : (b c : Bool) (o p : Outcome) (r s : PairSet) → b ≡ c → Leads o r → Leads p s → Leads (cond b o p) (chosen c r s)
   cond_same true true o p r s e f g = f
   cond_same true false o p r s e f g = cc
   cond_same false true o p r s e f g = cc

@@ -1,5 +1,5 @@
 -- Each number below that of the states stands for a state of a move or of a look of the stylesheet.
-use Rattle.std.proofs.Common.{◌≡◌, ◌⊎◌, inl, inr, ℕ, zero, suc, ◌+◌, ◌-◌, ◌<◌, ◌≤◌, List, [], ◌∷◌, ◌++◌, refl, ap, ◌∙◌, sym, subst, length, map, flat_map, Some, None, slice_get, All, arith}
+use Rattle.std.proofs.Common.{◌≡◌, ◌⊎◌, inl, inr, ℕ, zero, suc, ◌+◌, ◌-◌, ◌<◌, ◌≤◌, List, [], ◌∷◌, ◌++◌, refl, ap, ◌∙◌, sym, subst, length, map, flat_map, Some, slice_get, All, arith}
 use Rattle.std.proofs.lemmas.Option.{same_Some}
 use Rattle.std.proofs.lemmas.List.Elements.{All-head, All-tail}
 use Rattle.tc_model.specs.Sheets.{Path, Body, no_instruction, put_text, put_element, copy, apply, call, for_each, value, value_of_self, choose, Branches, otherwise, branch, Rule, Sheet}
@@ -16,6 +16,7 @@ use Rattle.tc_rules.specs.Tasks.{IsTaskOf, of_mode, of_each, IsMoveAt, IsLookAt}
 use Rattle.tc_rules.specs.RulesView.{IsStateOf}
 use Rattle.tc_rules.proofs.Counts.{move_counted}
 use Rattle.tc_rules.proofs.Sameness.{move_same, move_self, every_kept}
+use Rattle.tc_rows.proofs.Numbers.{of_move, of_look}
 use Rattle.tc_rows.specs.Triples.{Triple, IsTriple, Select, sheet, selects, moves, looks}
 use Rattle.tc_rows.proofs.States.{state_at, all_selects}
 use Rattle.tc_rows.proofs.Append.{count_rises}
@@ -126,12 +127,6 @@ module _ (s : Sheet) (is : IsSheet s) where
 
   pub task_of_move : (w : Move) → Has (moves_of s) w → (j : CallFreeJob) × IsTaskOf s w.mode j
   task_of_move w h = task_of_mode w.mode (every_member Low (moves_of s) w all_low h)
-
-abbrev of_move : Move → PathUse
-of_move w = record { path = w.path; mode = Some w.mode }
-
-abbrev of_look : Path → PathUse
-of_look p = record { path = p; mode = None }
 
 use_same : (w : Move) (b : PathUse) → of_move w ≡ b → b ≡ record { path = b.path; mode = Some w.mode }
 use_same w b e = sym e ∙ ap (λ (c : PathUse). let u : PathUse = record { path = c.path; mode = Some w.mode } in u) e

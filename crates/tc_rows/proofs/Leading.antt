@@ -13,12 +13,11 @@ use Rattle.tc_alpha.proofs.Lawful.{are_symbols}
 use Rattle.tc_alpha.proofs.Fresh.{symbol_told}
 use Rattle.tc_alpha.proofs.Members.{Has, contains_from_has}
 use Rattle.tc_rules.proofs.Covered.{symbol_below}
-use Rattle.tc_hedge.proofs.Leading.{run_of_leads, run_of_none, run_of_element, leads_beside, leads_within, leads_exactly, first_below}
+use Rattle.tc_hedge.proofs.Leading.{run_of_leads, run_of_none, run_of_element, leads_beside, leads_within, leads_exactly, first_below, leads_split}
 use Rattle.tc_rows.specs.Triples.{Triple, IsTriple, sheet}
 use Rattle.tc_rows.specs.PairSets.{PairSet, HaveSamePairs, product}
 use Rattle.tc_rows.specs.Rows.{led}
 use Rattle.tc_rows.specs.Bodies.{stay, text_edges, around}
-use Rattle.tc_rows.proofs.Splits.{leads_split}
 
 pub has_at : {X : Type 0} (xs : List X) (i : ℕ) (x : X) → slice_get xs i ≡ Some x → Has xs x
 has_at [] i x e = absurd (cc)

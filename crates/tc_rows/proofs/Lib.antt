@@ -2,7 +2,6 @@ pub mod Ascending
 pub mod PairLaws
 pub mod Strings
 pub mod Numbers
-pub mod Splits
 pub mod Leading
 pub mod Plain
 pub mod Bodies
@@ -14,7 +13,6 @@ pub mod Append
 pub mod Wrap
 pub mod Decode
 pub mod One
-pub mod Starts
 pub mod Live
 pub mod Root
 pub mod There
@@ -23,3 +21,4 @@ pub mod Alike
 pub mod Stood
 pub mod Deciding
 pub mod Sets
+pub mod Derived

@@ -16,15 +16,18 @@ use Rattle.tc_model.proofs.TreesApart.{nodes_beside, lawful_beside, apart_follow
 use Rattle.tc_alpha.proofs.Members.{Has, has_from_contains, contains_from_has}
 use Rattle.tc_alpha.proofs.Lawful.{are_symbols}
 use Rattle.tc_alpha.proofs.Fresh.{symbol_told}
-use Rattle.tc_hedge.proofs.Leading.{leads_exactly}
+use Rattle.tc_hedge.proofs.Leading.{leads_exactly, leads_split}
 use Rattle.tc_rows.specs.Triples.{Triple, IsTriple, sheet}
 use Rattle.tc_rows.specs.Rows.{HedgeRow, TreeRow, IsRowOfHedge, IsRowOfTree}
 use Rattle.tc_rows.specs.Arithmetic.{IsTextLive, IsLiveAppend, IsLiveWrap, is_admitted}
-use Rattle.tc_rows.proofs.Splits.{leads_split}
 use Rattle.tc_rows.proofs.Inside.{number_within, led_have}
 use Rattle.tc_rows.proofs.Append.{append_states}
 use Rattle.tc_rows.proofs.Wrap.{wrap_patterns}
-use Rattle.tc_rows.proofs.Starts.{alternative_of, matches_alternative}
+use Rattle.tc_hedge.proofs.SetsRuns.{alternative_of, matches_alternative}
+
+pub some_node : (t : Tree) → 0 < node_count (alone t)
+some_node (an_element n kids) = omega arith
+some_node (a_text s) = omega arith
 
 module _ (g : Grammar) where
   have_beside : (h k : Trees) → HavePatterns g (beside h k) ↔ (HavePatterns g h × HavePatterns g k)
@@ -46,10 +49,6 @@ module _ (g : Grammar) where
 
   pub tree_apart : (t : Tree) → IsLiveTree g t → IsApart (alone t)
   tree_apart t l = (normal_apart (alone t)).0 l.0.1
-
-  some_node : (t : Tree) → 0 < node_count (alone t)
-  some_node (an_element n kids) = omega arith
-  some_node (a_text s) = omega arith
 
   not_none : (h : Trees) (t : Tree) → none ≡ followed_by h t → ⊥
   not_none h t e = omega (arith, ap node_count e, nodes_beside h (alone t), some_node t)

@@ -107,13 +107,13 @@ module _ {X : Type 0} (same : X → X → Bool) where
       by true h = omega arith
       by false h = omega (arith, h)
 
-abbrev with_state : PathUse → State → Select
+abbrev pub with_state : PathUse → State → Select
 with_state b s = record { by = b; state = s }
 
-abbrev of_move : Move → PathUse
+abbrev pub of_move : Move → PathUse
 of_move m = record { path = m.path; mode = Some m.mode }
 
-abbrev of_look : Path → PathUse
+abbrev pub of_look : Path → PathUse
 of_look p = record { path = p; mode = None }
 
 mode_self : (m : Option ℕ) → same_mode m m ≡ true
@@ -141,12 +141,12 @@ no_move p [] = refl
 no_move p (m ∷ ms) = no_move p ms
 
 -- what stands in two lists at a place
-in_parts : {X : Type 0} (xs ys : List X) (i : ℕ) (y : X) → slice_get (xs ++ ys) i ≡ Some y → (slice_get xs i ≡ Some y) ⊎ ((j : ℕ) × (i ≡ length xs + j) × (slice_get ys j ≡ Some y))
+pub in_parts : {X : Type 0} (xs ys : List X) (i : ℕ) (y : X) → slice_get (xs ++ ys) i ≡ Some y → (slice_get xs i ≡ Some y) ⊎ ((j : ℕ) × (i ≡ length xs + j) × (slice_get ys j ≡ Some y))
 in_parts [] ys i y e = inr (i, omega arith, e)
 in_parts (x ∷ xs) ys zero y e = inl e
 in_parts (x ∷ xs) ys (suc i) y e = elim (in_parts xs ys i y e) [ inl a ↦ inl a | inr (j, is, a) ↦ inr (j, omega (arith, is), a) ]
 
-in_map : {X Y : Type 0} (f : X → Y) (xs : List X) (i : ℕ) (y : Y) → slice_get (map f xs) i ≡ Some y → (x : X) × (slice_get xs i ≡ Some x) × (f x ≡ y)
+pub in_map : {X Y : Type 0} (f : X → Y) (xs : List X) (i : ℕ) (y : Y) → slice_get (map f xs) i ≡ Some y → (x : X) × (slice_get xs i ≡ Some x) × (f x ≡ y)
 in_map f [] i y e = absurd (cc)
 in_map f (x ∷ xs) zero y e = (x, refl, same_Some (f x) y e)
 in_map f (x ∷ xs) (suc i) y e = in_map f xs i y e

@@ -11,7 +11,6 @@ use Rattle.tc_model.specs.PathStates.{is_empty_state, first_state}
 use Rattle.tc_model.specs.Numberings.{Move, same_move, moves_of, looks_of}
 use Rattle.tc_model.specs.SameTests.{same_path}
 use Rattle.tc_model.specs.Numbered.{number_of}
-use Rattle.tc_model.specs.StateCounts.{PathUse}
 use Rattle.tc_alpha.proofs.Members.{has_from_contains}
 use Rattle.tc_rules.specs.Graphs.{Graph}
 use Rattle.tc_rules.specs.States.{Going, Looking}
@@ -20,6 +19,7 @@ use Rattle.tc_rules.specs.RulesView.{IsStateOf, select_count, count_states, ance
 use Rattle.tc_rules.proofs.EmptyStates.{hit_none, next_none}
 use Rattle.tc_rules.proofs.Sameness.{path_same, path_self, move_same, move_self, found_by_number}
 use Rattle.tc_rules.specs.Tasks.{IsTaskOf, IsLookAt}
+use Rattle.tc_rows.proofs.Numbers.{of_move, of_look}
 use Rattle.tc_rows.specs.Triples.{Triple, IsTriple, sheet, predicates, machine, ancestors, moves, number, moving, looking}
 use Rattle.tc_rows.specs.PairSets.{HaveSamePairs, listed}
 use Rattle.tc_rows.specs.Rows.{entry, look, value_of, led, AreEntriesOf, AreLooksOf}
@@ -30,12 +30,6 @@ use Rattle.tc_rules.proofs.Counts.{state_counted, move_counted}
 use Rattle.tc_model.proofs.TreesInTurn.{first_of_none, outputs_of_none}
 use Rattle.tc_rows.proofs.Leading.{led_none}
 use Rattle.tc_rows.proofs.States.{state_number, empty_number, begun}
-
-abbrev of_move : Move → PathUse
-of_move w = record { path = w.path; mode = Some w.mode }
-
-abbrev of_look : Path → PathUse
-of_look p = record { path = p; mode = None }
 
 front_at : {X : Type 0} (xs ys : List X) (i : ℕ) (y : X) → slice_get xs i ≡ Some y → slice_get (xs ++ ys) i ≡ Some y
 front_at [] ys i y e = absurd (cc)

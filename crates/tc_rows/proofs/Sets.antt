@@ -22,10 +22,13 @@ abbrev at : ℕ → ℕ → ℕ × ℕ
 at i j = (i, j)
 
 -- behind the end of a list
-past : {X : Type 0} (xs : List X) (i : ℕ) (d : X) → length xs ≤ i → get_or xs i d ≡ d
+pub past : {X : Type 0} (xs : List X) (i : ℕ) (d : X) → length xs ≤ i → get_or xs i d ≡ d
 past [] i d l = refl
 past (y ∷ xs) zero d l = absurd (omega (arith, l))
 past (y ∷ xs) (suc i) d l = past xs i d (omega (arith, l))
+
+pub low_or_high : (i n : ℕ) → (i < n) ⊎ (n ≤ i)
+low_or_high i n = grind arith
 
 told_has : (xs : List (ℕ × ℕ)) (i j : ℕ) → Told (listed xs i j)
 told_has xs i j = told_as (contains_from_has xs (at i j)) (has_from_contains xs (at i j)) (by xs)
@@ -121,11 +124,8 @@ module _ (x : Triple) where
 
   -- an entry
   pub set_entry : (es : List (List (ℕ × ℕ))) → AreEntries x es → (i : ℕ) → IsSet (listed (get_or es i []))
-  set_entry es are i = record { told = told_has (get_or es i []); within = by (less i (length es)) }
+  set_entry es are i = record { told = told_has (get_or es i []); within = by (low_or_high i (length es)) }
     where
-      less : (i n : ℕ) → (i < n) ⊎ (n ≤ i)
-      less i n = grind arith
-
       by : (i < length es) ⊎ (length es ≤ i) → (a b : ℕ) → listed (get_or es i []) a b → (a < outputs x) × (b < outputs x)
       by (inl low) a b h = (All-get_or (IsPairs (outputs x)) es i [] low are.each).within a b h
       by (inr high) a b h = absurd (has_from_contains [] (at a b) (subst (λ w. listed w a b) (past es i [] high) h))

@@ -18,11 +18,8 @@ use Rattle.tc_rules.proofs.SelectStates.{count_cons}
 use Rattle.tc_rules.proofs.Counted.{first_there}
 use Rattle.tc_rules.proofs.Queries.{graph_of, step_told, no_item_left, goes_on, above_told}
 use Rattle.tc_rows.specs.Triples.{Triple, IsTriple, Select, sheet, predicates, ancestors, same_use, same_select, states_by, selects, number, number_below}
-use Rattle.tc_rows.proofs.Numbers.{once_again, number_at, number_finds, number_most, use_number, number_by}
+use Rattle.tc_rows.proofs.Numbers.{once_again, number_at, number_finds, number_most, use_number, number_by, with_state, in_parts}
 use Rattle.tc_rows.proofs.Leading.{has_at}
-
-abbrev with_state : PathUse → State → Select
-with_state b s = record { by = b; state = s }
 
 -- all states that are reached are among those that count, and each is there once
 module _ (counts : State → Bool) (next : State → Letter → State) (letters : List Letter) where
@@ -65,11 +62,6 @@ pub record IsPlaced (bs : List PathUse) (gs : List Graph) (k : ℕ) (y : Select)
   pub state : slice_get graph.states number ≡ Some y.state
   pub number_is : k ≡ count_states (take place gs) + number
 
-two_parts : {X : Type 0} (xs ys : List X) (i : ℕ) (y : X) → slice_get (xs ++ ys) i ≡ Some y → (slice_get xs i ≡ Some y) ⊎ ((j : ℕ) × (i ≡ length xs + j) × (slice_get ys j ≡ Some y))
-two_parts [] ys i y e = inr (i, omega arith, e)
-two_parts (x ∷ xs) ys zero y e = inl e
-two_parts (x ∷ xs) ys (suc i) y e = elim (two_parts xs ys i y e) [ inl a ↦ inl a | inr (j, is, a) ↦ inr (j, omega (arith, is), a) ]
-
 one_of_graph : (b : PathUse) (ss : List State) (i : ℕ) (y : Select) → slice_get (map (with_state b) ss) i ≡ Some y → (b ≡ y.by) × (slice_get ss i ≡ Some y.state)
 one_of_graph b [] i y e = absurd (cc)
 one_of_graph b (s ∷ ss) zero y e =
@@ -80,7 +72,7 @@ one_of_graph b (s ∷ ss) (suc i) y e = one_of_graph b ss i y e
 pub placed : (bs : List PathUse) (gs : List Graph) (k : ℕ) (y : Select) → slice_get (states_by bs gs) k ≡ Some y → IsPlaced bs gs k y
 placed [] gs k y e = absurd (cc)
 placed (b ∷ bs) [] k y e = absurd (cc)
-placed (b ∷ bs) (g ∷ gs) k y e = by (two_parts (map (with_state b) g.states) (states_by bs gs) k y e) (λ j a. placed bs gs j y a)
+placed (b ∷ bs) (g ∷ gs) k y e = by (in_parts (map (with_state b) g.states) (states_by bs gs) k y e) (λ j a. placed bs gs j y a)
   where
     by : (slice_get (map (with_state b) g.states) k ≡ Some y) ⊎ ((j : ℕ) × (k ≡ length (map (with_state b) g.states) + j) × (slice_get (states_by bs gs) j ≡ Some y))
         → ((j : ℕ) → slice_get (states_by bs gs) j ≡ Some y → IsPlaced bs gs j y) → IsPlaced (b ∷ bs) (g ∷ gs) k y

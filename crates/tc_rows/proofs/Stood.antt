@@ -15,7 +15,7 @@ use Rattle.tc_rules.proofs.Counts.{state_counted}
 use Rattle.tc_rules.proofs.Sameness.{path_same}
 use Rattle.tc_rules.proofs.SameRows.{state_same}
 use Rattle.tc_rows.specs.Triples.{Triple, IsTriple, Select, sheet, selects, number, same_mode, same_use, same_select}
-use Rattle.tc_rows.proofs.Numbers.{number_finds}
+use Rattle.tc_rows.proofs.Numbers.{number_finds, with_state}
 use Rattle.tc_rows.proofs.States.{state_number, all_selects}
 
 module _ {named : List Body} where
@@ -72,9 +72,6 @@ select_same a b e =
     let by = use_same a.by b.by u in
     let state = state_same a.state b.state s in
     λ i. record { by = by i; state = state i }
-
-abbrev with_state : PathUse → State → Select
-with_state b s = record { by = b; state = s }
 
 module _ (x : Triple) (is : IsTriple x) where
   -- it stands at its number

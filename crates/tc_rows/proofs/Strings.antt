@@ -47,7 +47,7 @@ cond_fits : (b : Bool) (n : Node) (x : Option Node) → Fits (node_bears n) (str
 cond_fits true n x f g = f
 cond_fits false n x f g = g
 
-or_false : (b : Bool) → b || false ≡ b
+pub or_false : (b : Bool) → b || false ≡ b
 or_false true = refl
 or_false false = refl
 

@@ -1,5 +1,5 @@
 -- There are rows: of all trees in normal form, and of what is worked out from rows.
-use Rattle.std.proofs.Common.{◌≡◌, ◌↔◌, ◌⊎◌, inl, inr, ℕ, zero, suc, ◌+◌, ◌-◌, ◌*◌, ◌/◌, ◌%◌, ◌<◌, ◌≤◌, ◌==◌, List, [], ◌∷◌, Bool, true, false, cond, ◌||◌, refl, ap, ◌∙◌, sym, subst, length, map, get_or, nat_lt, Option, Some, None, Contains, All, arith}
+use Rattle.std.proofs.Common.{◌≡◌, ◌↔◌, inl, inr, ℕ, zero, suc, ◌+◌, ◌-◌, ◌*◌, ◌/◌, ◌%◌, ◌<◌, ◌≤◌, ◌==◌, List, [], ◌∷◌, Bool, true, false, cond, ◌||◌, refl, ap, ◌∙◌, sym, subst, length, map, get_or, nat_lt, Option, Some, None, Contains, All, arith}
 use Rattle.std.specs.List.Sorted.{IsStrictlySortedBy}
 use Rattle.std.proofs.lemmas.Bool.{true≢false}
 use Rattle.std.proofs.lemmas.Option.{same_Some, get_or_from_slice_get}
@@ -36,7 +36,8 @@ use Rattle.tc_rows.proofs.Wrap.{wrap_row, text_row, empty_row}
 use Rattle.tc_rows.proofs.Decode.{move_at, look_at}
 use Rattle.tc_rows.proofs.Stood.{move_once, mode_once, look_once}
 use Rattle.tc_rows.proofs.Deciding.{Told, told_and, told_or, told_as, told_nat, told_less, told_bool, told_any, told_accepting, told_input_edge, set_of, IsSetOf, pair_set_of, IsPairSetOf}
-use Rattle.tc_rows.proofs.Sets.{IsSet, set_stay, set_entry, set_from, set_hit, set_both}
+use Rattle.tc_rows.proofs.Live.{some_node}
+use Rattle.tc_rows.proofs.Sets.{past, low_or_high, IsSet, set_stay, set_entry, set_from, set_hit, set_both}
 
 -- what a function gives for all numbers below one
 abbrev table : {X : Type 0} → ℕ → (ℕ → X) → List X
@@ -225,6 +226,9 @@ module _ (x : Triple) (is : IsTriple x) where
         },
       )
 
+  value_small : (vs : List ℕ) → AreLooks x vs → (i : ℕ) → get_or vs i 0 ≤ 2
+  value_small vs are i = elim (low_or_high i (length vs)) [ inl low ↦ All-get_or (λ v. v ≤ 2) vs i 0 low are.each | inr high ↦ omega (arith, past vs i 0 high) ]
+
   -- the row of trees with one more behind them
   module _ (h : HedgeRow) (t : TreeRow) (a : IsHedgeRow x h) (b : IsTreeRow x t) where
     abbrev Inner : ℕ → ℕ → Type 0
@@ -258,21 +262,6 @@ module _ (x : Triple) (is : IsTriple x) where
 
     both_sets : (i : ℕ) → IsSet x (Both i)
     both_sets i = set_both x _ _ (set_entry x h.entries a.entries i) (set_entry x t.entries b.entries i)
-
-    value_small : (vs : List ℕ) → AreLooks x vs → (i : ℕ) → get_or vs i 0 ≤ 2
-    value_small vs are i = by (less i (length vs))
-      where
-        less : (i n : ℕ) → (i < n) ⊎ (n ≤ i)
-        less i n = grind arith
-
-        past : (ys : List ℕ) (k : ℕ) → length ys ≤ k → get_or ys k 0 ≡ 0
-        past [] k l = refl
-        past (y ∷ ys) zero l = absurd (omega (arith, l))
-        past (y ∷ ys) (suc k) l = past ys k (omega (arith, l))
-
-        by : (i < length vs) ⊎ (length vs ≤ i) → get_or vs i 0 ≤ 2
-        by (inl low) = All-get_or (λ v. v ≤ 2) vs i 0 low are.each
-        by (inr high) = omega (arith, past vs i high)
 
     append_there : (u : HedgeRow) × IsAppend x h t u
     append_there =
@@ -339,18 +328,7 @@ module _ (x : Triple) (is : IsTriple x) where
     LookOf w = cond (hits x w.path w.state (letter_around x s h.looks)) (hit_value h.bears) (look_from x h.looks (looking w.path (step x w.path w.state (letter_around x s h.looks))))
 
     from_small : (y : Select) → look_from x h.looks y ≤ 2
-    from_small y = cond_small (nat_lt (number x y) (select_count x.rules)) (look x h.looks (number x y)) 0 (small (number x y - moves x)) (omega arith)
-      where
-        less : (i n : ℕ) → (i < n) ⊎ (n ≤ i)
-        less i n = grind arith
-
-        past : (ys : List ℕ) (k : ℕ) → length ys ≤ k → get_or ys k 0 ≡ 0
-        past [] k l = refl
-        past (z ∷ ys) zero l = absurd (omega (arith, l))
-        past (z ∷ ys) (suc k) l = past ys k (omega (arith, l))
-
-        small : (i : ℕ) → get_or h.looks i 0 ≤ 2
-        small i = elim (less i (length h.looks)) [ inl low ↦ All-get_or (λ v. v ≤ 2) h.looks i 0 low a.looks.each | inr high ↦ omega (arith, past h.looks i high) ]
+    from_small y = cond_small (nat_lt (number x y) (select_count x.rules)) (look x h.looks (number x y)) 0 (value_small h.looks a.looks (number x y - moves x)) (omega arith)
 
     look_small_of : (w : Looking) → LookOf w ≤ 2
     look_small_of w =
@@ -388,10 +366,6 @@ module _ (x : Triple) (is : IsTriple x) where
       let (r, a) = rows kids (omega arith) apart.0 in
       let (u, c) = wrap_there (symbol_of x.symbols n) r a.row in
       (u, wrap_row x is n kids r u apart.0 a c)
-
-  some_node : (t : Tree) → 0 < node_count (alone t)
-  some_node (an_element n kids) = omega arith
-  some_node (a_text s) = omega arith
 
   hedge_there : (n : ℕ) (h : Trees) → node_count h < n → IsApart h → HasHedgeRow h
   hedge_there zero h low apart = absurd (omega (arith, low))

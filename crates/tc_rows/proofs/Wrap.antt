@@ -1,5 +1,5 @@
 -- The row of an element around trees, of a text, and of no tree.
-use Rattle.std.proofs.Common.{◌≡◌, ◌↔◌, ℕ, ◌+◌, ◌-◌, ◌*◌, ◌<◌, List, [], Bool, true, false, cond, ◌||◌, refl, ap, ◌∙◌, sym, subst, Option, Some, None, Contains}
+use Rattle.std.proofs.Common.{◌≡◌, ◌↔◌, ℕ, ◌+◌, ◌-◌, ◌*◌, ◌<◌, List, [], Bool, true, false, cond, refl, ap, ◌∙◌, sym, subst, Option, Some, None, Contains}
 use Rattle.tc_model.specs.Names.{ExpandedName}
 use Rattle.tc_model.specs.Trees.{Trees, none, text, element, beside, normal_form, is_all_white}
 use Rattle.tc_model.specs.Chains.{an_element, a_text, Node, one}
@@ -28,18 +28,15 @@ use Rattle.tc_rows.specs.PairSets.{PairSet, HaveSamePairs, product, chosen, list
 use Rattle.tc_rows.specs.Rows.{HedgeRow, TreeRow, IsRowOfHedge, IsRowOfTree, IsPatternOf, entry, look, value_of, hit_value, led, AreEntriesOf, AreLooksOf}
 use Rattle.tc_rows.specs.Bodies.{on_element, on_text, stay}
 use Rattle.tc_rows.specs.Arithmetic.{look_from, pairs_from, below, nothing_below, step, hits, hit_pairs, IsEmptyRow, IsTextRow, IsPatternAround, IsWrap}
-use Rattle.tc_rows.proofs.PairLaws.{same_back, same_on, product_same}
-use Rattle.tc_rows.proofs.Leading.{led_none, led_beside, class_by_symbol}
-use Rattle.tc_rows.proofs.Bodies.{body_same}
+use Rattle.tc_rows.proofs.Strings.{or_false}
+use Rattle.tc_rows.proofs.PairLaws.{same_back, same_on}
+use Rattle.tc_rows.proofs.Leading.{led_none, class_by_symbol}
+use Rattle.tc_rows.proofs.Bodies.{body_same, together, cond_same}
 use Rattle.tc_rows.proofs.States.{IsNumberBelow, stepped, below_number}
 use Rattle.tc_rows.proofs.Reading.{look_read, pairs_read}
 use Rattle.tc_rows.proofs.Placed.{task_parts, is_below, nothing_is_below, text_letter, element_letter}
 use Rattle.tc_rows.proofs.Inside.{number_within, one_content}
 use Rattle.tc_rows.proofs.Append.{look_index, entry_index}
-
-or_false : (b : Bool) → b || false ≡ b
-or_false true = refl
-or_false false = refl
 
 value_cond : (b c : Bool) (n : Node) (o : Option Node) (v w : ℕ) → value_of (Some n) ≡ v → value_of o ≡ w → value_of (or_else (cond b (Some n) o) None) ≡ cond b v w
 value_cond true c n o v w e f = e
@@ -72,11 +69,7 @@ module _ (x : Triple) (is : IsTriple x) where
           (e, at, subst (λ w. w ≡ true) (class_by_symbol x is n k e at) inside, (y, (a.states (first_state x.input input k + y)).1 (k, low, high, l), acc))
 
   cond_led : (b : Bool) (o : Outcome) (r : PairSet) → HaveSamePairs (led x o.out) r → HaveSamePairs (led x (cond b o nothing).out) (chosen b r (stay x))
-  cond_led true o r e = e
-  cond_led false o r e = led_none x is
-
-  together : (h k : Trees) (r s : PairSet) → HaveSamePairs (led x h) r → HaveSamePairs (led x k) s → HaveSamePairs (led x (beside h k)) (product r s)
-  together h k r s e f = same_on _ (product (led x h) (led x k)) _ (led_beside x is h k) (product_same (led x h) r (led x k) s e f)
+  cond_led b o r e = cond_same x is b b o nothing r (stay x) refl e (led_none x is)
 
   alone_led : (h : Trees) (r : PairSet) → HaveSamePairs (led x h) r → HaveSamePairs (led x (beside h none)) r
   alone_led h r e = subst (λ w. HaveSamePairs (led x w) r) (sym (beside_none h)) e
@@ -113,7 +106,7 @@ module _ (x : Triple) (is : IsTriple x) where
 
     wrap_out : (q k : ℕ) (g : Going) (at : IsMoveAt x.rules k g) → q < ancestors x → IsNumberBelow x is q L → HaveSamePairs (led x (OutFrom q g (ancestor x.rules (number_below x q L))).out) (PairsAt q g at.mode)
     wrap_out q k g at low down =
-        together _ _ _ _
+        together x is _ _ _ _
         (cond_led (hits x g.path g.state L) _ _
         (body_same x is (one (an_element n h)) (below x r.bears r.entries r.looks (number_below x q L)) (λ i v. m.outputs (machine x) h i (ancestor x.rules (number_below x q L)) v)
         (is_below x is (one (an_element n h)) r.bears r.entries r.looks (number_below x q L) down.low apart (sym a.bears) a.entries a.looks) (BodyAt q g)

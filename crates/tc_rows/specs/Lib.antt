@@ -6,3 +6,5 @@ pub mod Arithmetic
 pub mod Counts
 pub mod Laws
 pub mod Alike
+pub mod Derivations
+pub mod Certificates

@@ -1,5 +1,7 @@
 // What is proved of rows.
 ghost use Rattle.tc_rows.specs.Alike.{AlikeWrapAlike};
+ghost use Rattle.tc_rows.specs.Certificates.{CertifiedIsSafe, ClosedHoldAll};
+ghost use Rattle.tc_rows.specs.Derivations.{DerivationsAreExact};
 ghost use Rattle.tc_rows.specs.Laws.{RowsAreLawful};
 
 /// The laws of rows. A tree has one row, and what is worked out from rows is one row. Rows commute with putting trees
@@ -14,4 +16,18 @@ pub fn law_of_rows()
 /// the same row.
 pub fn law_of_symbols_alike()
     ensures { AlikeWrapAlike }
+{}
+
+/// The law of derivations: the rows that come from rows are those of live trees and no others, with as many nodes. The
+/// stylesheet is safe exactly where all of them that are admitted pass; one that doesn't shows a counterexample, and
+/// each counterexample has such a row.
+pub fn law_of_derivations()
+    ensures { DerivationsAreExact }
+{}
+
+/// The law of closed lists of rows, whatever they were made by: they hold the rows of all live trees. Where all of
+/// them that are admitted pass, the stylesheet is safe.
+pub fn law_of_closed_rows()
+    ensures all { ClosedHoldAll }
+    ensures safe { CertifiedIsSafe }
 {}
