@@ -1,11 +1,12 @@
 #!/usr/bin/env python3
-"""Writes docs/TRUST.md: which definitions the main clauses of `typecheck` reach by `use` lines. Run it at the top."""
+"""Writes docs/TRUST.md, and its sum into README.md: which definitions the main clauses of `typecheck` reach by `use`
+lines. Run it at the top."""
 import re
 from functools import cache
 from pathlib import Path
 
 TOP = Path("crates/tc_top/src/lib.rt")
-CLAUSE = r"    ensures ((?:headline|validity|running)\w*) \{(.*?)(?=\n    ensures|\n\n|\n\{)"
+CLAUSE = r"    ensures (headline|validity|running|limited) \{(.*?)(?=\n    ensures|\n\n|\n\{)"
 WORD = re.compile(r"(?:\w+\.)*[\w-]+(?![\w-]| =)")
 ITEM = re.compile(r"\s*(?:abbrev )?(?:pub )?(data |record )?([\w-]+)(?: \(.*\)| \{.*\})* : ")
 
@@ -99,6 +100,9 @@ def main():
     table = ["| module | what it says | " + " | ".join(head[1:]) + " |", "|---" * 2 + "|---:" * len(clauses) + "|", *rows, "| **all** | | " + " | ".join(counts) + " |"]
     Path("docs/TRUST.md").write_text(TEXT.format(table="\n".join(table), code=", ".join(f"`{c}`" for c in code), std=", ".join(f"`{s}`" for s in std)))
 
+    readme = re.sub(r"(clause `headline`, read )\d+ modules, \d+ lines", rf"\g<1>{counts[clauses.index('headline')]}", Path("README.md").read_text())
+    Path("README.md").write_text(readme)
+
 
 TEXT = """# What a reader has to believe
 
@@ -114,7 +118,7 @@ The modules stand in reading order, each after those on which it stands. The num
 
 - **The words of the standard library** that these definitions use, as the toolchain defines them (`std/specs`): {std}.
 - **The types of the code** whose values the clauses name: {code}.
-- **`holds` and `written`**, the ghost functions of the traits `Store` and `Sink` (`crates/tc_io/src/lib.rt`): what a store holds and a sink was given, where it tells. The store and the sink of memory tell it, and it is proved of them. A file system and a terminal can't tell it: that `RealStore` reads what a file holds, and that the bytes given to `RealSink` come out, is tested, not proved.
+- **The ghost functions of the traits `Store` and `Sink`** (`crates/tc_io/src/lib.rt`), as `holds` and `written`: what a store holds and a sink was given, where it tells. The store and the sink of memory tell it, and it is proved of them. A file system and a terminal can't tell it: that `RealStore` reads what a file holds, and that the bytes given to `RealSink` come out, is tested, not proved.
 - **The toolchain**: that its check accepts no wrong proof, and that the program which it builds does what the checked code says.
 - **The C library and the operating system**, and the statements of the kit's crates that the program stands on (`std`, `bumpalo`, `indexmap`, `memchr`, `simdutf8`, `itoa`): their own proofs are the toolchain's.
 - **`main`** of `crates/typecheck`: that it hands the words of the command line to `typecheck` and its status to the system, and what no clause says: how long an answer takes, and that memory suffices.
