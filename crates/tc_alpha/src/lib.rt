@@ -7,4 +7,4 @@
 mod alphabet;
 mod mentions;
 
-pub use alphabet::{AlphaFault, Alphabet, Sym, law_of_symbols};
+pub use alphabet::{AlphaFault, Alphabet, Sym, count_of_schema, law_of_symbols};
