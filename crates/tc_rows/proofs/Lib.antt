@@ -22,3 +22,4 @@ pub mod Stood
 pub mod Deciding
 pub mod Sets
 pub mod Derived
+pub mod Counting

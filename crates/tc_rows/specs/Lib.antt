@@ -8,3 +8,4 @@ pub mod Laws
 pub mod Alike
 pub mod Derivations
 pub mod Certificates
+pub mod CountLaws

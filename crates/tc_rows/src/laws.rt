@@ -1,6 +1,7 @@
 // What is proved of rows.
 ghost use Rattle.tc_rows.specs.Alike.{AlikeWrapAlike};
 ghost use Rattle.tc_rows.specs.Certificates.{CertifiedIsSafe, ClosedHoldAll};
+ghost use Rattle.tc_rows.specs.CountLaws.{RowsAreCounted};
 ghost use Rattle.tc_rows.specs.Derivations.{DerivationsAreExact};
 ghost use Rattle.tc_rows.specs.Laws.{RowsAreLawful};
 
@@ -30,4 +31,10 @@ pub fn law_of_derivations()
 pub fn law_of_closed_rows()
     ensures all { ClosedHoldAll }
     ensures safe { CertifiedIsSafe }
+{}
+
+/// The law of counts: there are so many rows of live trees, of live lists of trees, and so many sets of pairs in them,
+/// and no other number. Closed lists without repeats of rows that come from rows are as long.
+pub fn law_of_counts()
+    ensures { RowsAreCounted }
 {}
