@@ -4,19 +4,19 @@ use Rattle.std.specs.List.{Contains}
 use Rattle.std.proofs.lemmas.Bool.Decides.{nat_tests}
 use Rattle.tc_model.specs.States as s
 use Rattle.tc_auto.specs.declared.auto.Leaf.{Leaf}
-use Rattle.tc_auto.specs.declared.part.Step.{Step}
+use Rattle.tc_auto.specs.declared.nfa.Transition.{Transition}
 use Rattle.tc_auto.specs.Steps.{leaf, HasStep, first_step, later_step, Has, has_first, has_later, from_each, moved, carried, unless_start, later, beside_first, beside_second, all_beside_first, all_beside_second, pairs, all_pairs}
 
-pub step_left : (xs ys : List Step) {i j : ℕ} {l : s.Leaf} → HasStep xs i l j → HasStep (xs ++ ys) i l j
+pub step_left : (xs ys : List Transition) {i j : ℕ} {l : s.Leaf} → HasStep xs i l j → HasStep (xs ++ ys) i l j
 step_left [] ys h = elim h [ ]
 step_left (x ∷ xs) ys (first_step a b c) = first_step a b c
 step_left (x ∷ xs) ys (later_step h) = later_step (step_left xs ys h)
 
-pub step_right : (xs ys : List Step) {i j : ℕ} {l : s.Leaf} → HasStep ys i l j → HasStep (xs ++ ys) i l j
+pub step_right : (xs ys : List Transition) {i j : ℕ} {l : s.Leaf} → HasStep ys i l j → HasStep (xs ++ ys) i l j
 step_right [] ys h = h
 step_right (x ∷ xs) ys h = later_step (step_right xs ys h)
 
-pub step_cases : (xs ys : List Step) {i j : ℕ} {l : s.Leaf} → HasStep (xs ++ ys) i l j → HasStep xs i l j ⊎ HasStep ys i l j
+pub step_cases : (xs ys : List Transition) {i j : ℕ} {l : s.Leaf} → HasStep (xs ++ ys) i l j → HasStep xs i l j ⊎ HasStep ys i l j
 step_cases [] ys h = inr h
 step_cases (x ∷ xs) ys (first_step a b c) = inl (first_step a b c)
 step_cases (x ∷ xs) ys (later_step h) = elim (step_cases xs ys h) [ inl a ↦ inl (later_step a) | inr b ↦ inr b ]
@@ -36,9 +36,9 @@ has_cases (x ∷ xs) ys (has_first e) = inl (has_first e)
 has_cases (x ∷ xs) ys (has_later h) = elim (has_cases xs ys h) [ inl a ↦ inl (has_later a) | inr b ↦ inr b ]
 
 -- by index
-pub step_of : (xs : List Step) (x : Step) → Contains xs x → HasStep xs x.from (leaf x.leaf) x.to
+pub step_of : (xs : List Transition) (x : Transition) → Contains xs x → HasStep xs x.from (leaf x.leaf) x.to
 step_of [] x (k, low, at) = absurd (omega arith)
-step_of (y ∷ ys) x (zero, low, at) = first_step (ap (λ (w : Step). w.from) at) (ap (λ (w : Step). leaf w.leaf) at) (ap (λ (w : Step). w.to) at)
+step_of (y ∷ ys) x (zero, low, at) = first_step (ap (λ (w : Transition). w.from) at) (ap (λ (w : Transition). leaf w.leaf) at) (ap (λ (w : Transition). w.to) at)
 step_of (y ∷ ys) x (suc k, low, at) = later_step (step_of ys x (k, omega arith, at))
 
 pub has_of : (xs : List ℕ) (x : ℕ) → Contains xs x → Has xs x
@@ -81,10 +81,10 @@ if_no (suc n) a b e = let no : (suc n == 0) ≡ false = grind (arith, nat_tests)
 abbrev pub Carried : ℕ → (ℕ → Type 0) → (ℕ → s.Leaf → ℕ → Type 0) → ℕ → s.Leaf → ℕ → Type 0
 Carried by From Edge i l j = ((x : ℕ) × (y : ℕ) × (i ≡ by + x) × (j ≡ by + y) × (0 < x) × Edge x l y) ⊎ ((y : ℕ) × From i × (j ≡ by + y) × Edge 0 l y)
 
-abbrev pub IsStep : Step → ℕ → s.Leaf → ℕ → Type 0
+abbrev pub IsStep : Transition → ℕ → s.Leaf → ℕ → Type 0
 IsStep x i l j = (x.from ≡ i) × (leaf x.leaf ≡ l) × (x.to ≡ j)
 
-one_carried : (by : ℕ) (starts : List ℕ) (x : Step) {i j : ℕ} {l : s.Leaf}
+one_carried : (by : ℕ) (starts : List ℕ) (x : Transition) {i j : ℕ} {l : s.Leaf}
     → HasStep (moved by starts x) i l j
     → Carried by (Has starts) (IsStep x) i l j
 one_carried by starts x {i} {j} {l} h = elim (zero_or x.from) [
@@ -99,14 +99,14 @@ carried_later : (by : ℕ) (From : ℕ → Type 0) (E F : ℕ → s.Leaf → ℕ
 carried_later by From E F f (inl (x, y, a, b, c, e)) = inl (x, y, a, b, c, f x y _ e)
 carried_later by From E F f (inr (y, a, b, e)) = inr (y, a, b, f 0 y _ e)
 
-pub carried_to : (by : ℕ) (starts : List ℕ) (xs : List Step) {i j : ℕ} {l : s.Leaf} → HasStep (carried by starts xs) i l j → Carried by (Has starts) (HasStep xs) i l j
+pub carried_to : (by : ℕ) (starts : List ℕ) (xs : List Transition) {i j : ℕ} {l : s.Leaf} → HasStep (carried by starts xs) i l j → Carried by (Has starts) (HasStep xs) i l j
 carried_to by starts [] h = elim h [ ]
 carried_to by starts (x ∷ xs) h = elim (step_cases _ (carried by starts xs) h) [
   | inl a ↦ carried_later by (Has starts) (IsStep x) (HasStep (x ∷ xs)) (λ p q m (a, b, c). first_step a b c) (one_carried by starts x a)
   | inr b ↦ carried_later by (Has starts) (HasStep xs) (HasStep (x ∷ xs)) (λ p q m e. later_step e) (carried_to by starts xs b)
 ]
 
-one_carried_of : (by : ℕ) (starts : List ℕ) (x : Step) {i j : ℕ} {l : s.Leaf}
+one_carried_of : (by : ℕ) (starts : List ℕ) (x : Transition) {i j : ℕ} {l : s.Leaf}
     → Carried by (Has starts) (IsStep x) i l j
     → HasStep (moved by starts x) i l j
 one_carried_of by starts x {i} {j} {l} (inl (a, b, is, goes, low, (p, q, r))) =
@@ -115,7 +115,7 @@ one_carried_of by starts x {i} {j} {l} (inl (a, b, is, goes, low, (p, q, r))) =
 one_carried_of by starts x {i} {j} {l} (inr (b, from, goes, (p, q, r))) =
     subst (λ w. HasStep w i l j) (sym (if_yes x.from _ _ p)) (each_of starts x.leaf (by + x.to) from q (omega arith))
 
-pub carried_of : (by : ℕ) (starts : List ℕ) (xs : List Step) {i j : ℕ} {l : s.Leaf} → Carried by (Has starts) (HasStep xs) i l j → HasStep (carried by starts xs) i l j
+pub carried_of : (by : ℕ) (starts : List ℕ) (xs : List Transition) {i j : ℕ} {l : s.Leaf} → Carried by (Has starts) (HasStep xs) i l j → HasStep (carried by starts xs) i l j
 carried_of by starts [] (inl (x, y, a, b, c, e)) = elim e [ ]
 carried_of by starts [] (inr (y, a, b, e)) = elim e [ ]
 carried_of by starts (x ∷ xs) (inl (p, q, a, b, c, first_step t u v)) = step_left _ (carried by starts xs) (one_carried_of by starts x (inl (p, q, a, b, c, (t, u, v))))
@@ -147,55 +147,55 @@ same_or (suc y) zero h = absurd (omega arith)
 same_or (suc y) (suc n) h = elim (same_or y n (omega arith)) [ inl e ↦ inl (ap suc e) | inr l ↦ inr (omega arith) ]
 
 -- an edge beside each state of the other automaton
-pub second_to : (x : Step) (count n : ℕ) {i j : ℕ} {l : s.Leaf} → HasStep (beside_second x count n) i l j → (y : ℕ) × (y < n) × (i ≡ x.from * count + y) × (leaf x.leaf ≡ l) × (j ≡ x.to * count + y)
+pub second_to : (x : Transition) (count n : ℕ) {i j : ℕ} {l : s.Leaf} → HasStep (beside_second x count n) i l j → (y : ℕ) × (y < n) × (i ≡ x.from * count + y) × (leaf x.leaf ≡ l) × (j ≡ x.to * count + y)
 second_to x count zero h = elim h [ ]
 second_to x count (suc n) h = elim (step_cases (beside_second x count n) _ h) [
   | inl a ↦ let r = second_to x count n a in (r.0, omega arith, r.2, r.3, r.4)
   | inr b ↦ elim b [ first_step is m goes ↦ (n, omega arith, sym is, m, sym goes) | later_step none ↦ elim none [ ] ]
 ]
 
-pub second_of : (x : Step) (count n : ℕ) {i j : ℕ} {l : s.Leaf} (y : ℕ) → y < n → i ≡ x.from * count + y → leaf x.leaf ≡ l → j ≡ x.to * count + y → HasStep (beside_second x count n) i l j
+pub second_of : (x : Transition) (count n : ℕ) {i j : ℕ} {l : s.Leaf} (y : ℕ) → y < n → i ≡ x.from * count + y → leaf x.leaf ≡ l → j ≡ x.to * count + y → HasStep (beside_second x count n) i l j
 second_of x count zero y low a b c = absurd (omega arith)
 second_of x count (suc n) {i} {j} {l} y low a b c = elim (same_or y n (omega arith)) [
   | inl e ↦ step_right (beside_second x count n) _ (first_step (ap (λ w. x.from * count + w) (sym e) ∙ sym a) b (ap (λ w. x.to * count + w) (sym e) ∙ sym c))
   | inr less ↦ step_left (beside_second x count n) _ (second_of x count n y less a b c)
 ]
 
-pub first_to : (x : Step) (count n : ℕ) {i j : ℕ} {l : s.Leaf} → HasStep (beside_first x count n) i l j → (y : ℕ) × (y < n) × (i ≡ y * count + x.from) × (leaf x.leaf ≡ l) × (j ≡ y * count + x.to)
+pub first_to : (x : Transition) (count n : ℕ) {i j : ℕ} {l : s.Leaf} → HasStep (beside_first x count n) i l j → (y : ℕ) × (y < n) × (i ≡ y * count + x.from) × (leaf x.leaf ≡ l) × (j ≡ y * count + x.to)
 first_to x count zero h = elim h [ ]
 first_to x count (suc n) h = elim (step_cases (beside_first x count n) _ h) [
   | inl a ↦ let r = first_to x count n a in (r.0, omega arith, r.2, r.3, r.4)
   | inr b ↦ elim b [ first_step is m goes ↦ (n, omega arith, sym is, m, sym goes) | later_step none ↦ elim none [ ] ]
 ]
 
-pub first_of : (x : Step) (count n : ℕ) {i j : ℕ} {l : s.Leaf} (y : ℕ) → y < n → i ≡ y * count + x.from → leaf x.leaf ≡ l → j ≡ y * count + x.to → HasStep (beside_first x count n) i l j
+pub first_of : (x : Transition) (count n : ℕ) {i j : ℕ} {l : s.Leaf} (y : ℕ) → y < n → i ≡ y * count + x.from → leaf x.leaf ≡ l → j ≡ y * count + x.to → HasStep (beside_first x count n) i l j
 first_of x count zero y low a b c = absurd (omega arith)
 first_of x count (suc n) {i} {j} {l} y low a b c = elim (same_or y n (omega arith)) [
   | inl e ↦ step_right (beside_first x count n) _ (first_step (ap (λ w. w * count + x.from) (sym e) ∙ sym a) b (ap (λ w. w * count + x.to) (sym e) ∙ sym c))
   | inr less ↦ step_left (beside_first x count n) _ (first_of x count n y less a b c)
 ]
 
-pub all_second_to : (xs : List Step) (count : ℕ) {i j : ℕ} {l : s.Leaf} → HasStep (all_beside_second xs count) i l j → (x : ℕ) × (z : ℕ) × (y : ℕ) × (i ≡ x * count + y) × (j ≡ z * count + y) × (y < count) × HasStep xs x l z
+pub all_second_to : (xs : List Transition) (count : ℕ) {i j : ℕ} {l : s.Leaf} → HasStep (all_beside_second xs count) i l j → (x : ℕ) × (z : ℕ) × (y : ℕ) × (i ≡ x * count + y) × (j ≡ z * count + y) × (y < count) × HasStep xs x l z
 all_second_to [] count h = elim h [ ]
 all_second_to (x ∷ xs) count h = elim (step_cases (beside_second x count count) _ h) [
   | inl a ↦ let r = second_to x count count a in (x.from, x.to, r.0, r.2, r.4, r.1, first_step refl r.3 refl)
   | inr b ↦ let r = all_second_to xs count b in (r.0, r.1, r.2, r.3, r.4, r.5, later_step r.6)
 ]
 
-pub all_second_of : (xs : List Step) (count : ℕ) {i j : ℕ} {l : s.Leaf} (x z y : ℕ) → i ≡ x * count + y → j ≡ z * count + y → y < count → HasStep xs x l z → HasStep (all_beside_second xs count) i l j
+pub all_second_of : (xs : List Transition) (count : ℕ) {i j : ℕ} {l : s.Leaf} (x z y : ℕ) → i ≡ x * count + y → j ≡ z * count + y → y < count → HasStep xs x l z → HasStep (all_beside_second xs count) i l j
 all_second_of [] count x z y a b c h = elim h [ ]
 all_second_of (e ∷ xs) count x z y a b c (first_step p q r) =
     step_left (beside_second e count count) _ (second_of e count count y c (a ∙ ap (λ w. w * count + y) (sym p)) q (b ∙ ap (λ w. w * count + y) (sym r)))
 all_second_of (e ∷ xs) count x z y a b c (later_step h) = step_right (beside_second e count count) _ (all_second_of xs count x z y a b c h)
 
-pub all_first_to : (xs : List Step) (count n : ℕ) {i j : ℕ} {l : s.Leaf} → HasStep (all_beside_first xs count n) i l j → (x : ℕ) × (y : ℕ) × (z : ℕ) × (i ≡ x * count + y) × (j ≡ x * count + z) × (x < n) × HasStep xs y l z
+pub all_first_to : (xs : List Transition) (count n : ℕ) {i j : ℕ} {l : s.Leaf} → HasStep (all_beside_first xs count n) i l j → (x : ℕ) × (y : ℕ) × (z : ℕ) × (i ≡ x * count + y) × (j ≡ x * count + z) × (x < n) × HasStep xs y l z
 all_first_to [] count n h = elim h [ ]
 all_first_to (x ∷ xs) count n h = elim (step_cases (beside_first x count n) _ h) [
   | inl a ↦ let r = first_to x count n a in (r.0, x.from, x.to, r.2, r.4, r.1, first_step refl r.3 refl)
   | inr b ↦ let r = all_first_to xs count n b in (r.0, r.1, r.2, r.3, r.4, r.5, later_step r.6)
 ]
 
-pub all_first_of : (xs : List Step) (count n : ℕ) {i j : ℕ} {l : s.Leaf} (x y z : ℕ) → i ≡ x * count + y → j ≡ x * count + z → x < n → HasStep xs y l z → HasStep (all_beside_first xs count n) i l j
+pub all_first_of : (xs : List Transition) (count n : ℕ) {i j : ℕ} {l : s.Leaf} (x y z : ℕ) → i ≡ x * count + y → j ≡ x * count + z → x < n → HasStep xs y l z → HasStep (all_beside_first xs count n) i l j
 all_first_of [] count n x y z a b c h = elim h [ ]
 all_first_of (e ∷ xs) count n x y z a b c (first_step p q r) =
     step_left (beside_first e count n) _ (first_of e count n x c (a ∙ ap (λ w. x * count + w) (sym p)) q (b ∙ ap (λ w. x * count + w) (sym r)))

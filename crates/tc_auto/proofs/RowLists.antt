@@ -14,8 +14,8 @@ use Rattle.tc_model.proofs.StatesParts.{next_first, edge_of_part, accepting_of_p
 use Rattle.tc_auto.specs.declared.auto.Leaf.{Leaf}
 use Rattle.tc_auto.specs.declared.auto.Leaf.TheVariants.{Text, Ref}
 use Rattle.tc_auto.specs.declared.auto.Edge.{Edge}
-use Rattle.tc_auto.specs.declared.part.Part.{Part}
-use Rattle.tc_auto.specs.declared.part.Step.{Step}
+use Rattle.tc_auto.specs.declared.nfa.Nfa.{Nfa}
+use Rattle.tc_auto.specs.declared.nfa.Transition.{Transition}
 use Rattle.tc_auto.specs.declared.rows.Row.{Row}
 use Rattle.tc_auto.specs.Steps.{leaf, HasStep, first_step, later_step, Shows, edges_from}
 use Rattle.tc_auto.specs.Rows.{IsRowOf, AreRowsOf, AreRowsFor}
@@ -35,13 +35,13 @@ in_one : (r e : Edge) → Contains (r ∷ []) e → r ≡ e
 in_one r e (zero, low, at) = at
 in_one r e (suc k, low, at) = absurd (omega arith)
 
-abbrev one_edge : ℕ → ℕ → Step → List Edge
+abbrev one_edge : ℕ → ℕ → Transition → List Edge
 one_edge base i x = if x.from == i then (record { to = base + x.to; leaf = x.leaf } ∷ []) else []
 
 in_none : {X : Type 0} (e : Edge) → Contains [] e → X
 in_none e (k, low, at) = absurd (omega arith)
 
-one_to : (base i : ℕ) (x : Step) (e : Edge) → Contains (one_edge base i x) e → (x.from ≡ i) × (base + x.to ≡ e.to) × (x.leaf ≡ e.leaf)
+one_to : (base i : ℕ) (x : Transition) (e : Edge) → Contains (one_edge base i x) e → (x.from ≡ i) × (base + x.to ≡ e.to) × (x.leaf ≡ e.leaf)
 one_to base i x e h = elim (eqb_tells x.from i) [
   | inl p ↦
       let is = ap (λ (w : Bool). if w then (let r : Edge = record { to = base + x.to; leaf = x.leaf } in r ∷ []) else []) p.0 in
@@ -52,7 +52,7 @@ one_to base i x e h = elim (eqb_tells x.from i) [
       in_none e (subst (λ (w : List Edge). Contains w e) is h)
 ]
 
-one_of : (base i : ℕ) (x : Step) (e : Edge) → x.from ≡ i → base + x.to ≡ e.to → x.leaf ≡ e.leaf → Contains (one_edge base i x) e
+one_of : (base i : ℕ) (x : Transition) (e : Edge) → x.from ≡ i → base + x.to ≡ e.to → x.leaf ≡ e.leaf → Contains (one_edge base i x) e
 one_of base i x e a b c = elim (eqb_tells x.from i) [
   | inl p ↦
       let is = ap (λ (w : Bool). if w then (let r : Edge = record { to = base + x.to; leaf = x.leaf } in r ∷ []) else []) p.0 in
@@ -60,14 +60,14 @@ one_of base i x e a b c = elim (eqb_tells x.from i) [
   | inr p ↦ absurd (p.1 a)
 ]
 
-edges_to : (base i : ℕ) (xs : List Step) (e : Edge) → Contains (edges_from base i xs) e → (y : ℕ) × (e.to ≡ base + y) × HasStep xs i (leaf e.leaf) y
+edges_to : (base i : ℕ) (xs : List Transition) (e : Edge) → Contains (edges_from base i xs) e → (y : ℕ) × (e.to ≡ base + y) × HasStep xs i (leaf e.leaf) y
 edges_to base i [] e h = in_none e h
 edges_to base i (x ∷ xs) e h = elim (Contains-append_cases (one_edge base i x) (edges_from base i xs) e h) [
   | inl a ↦ let r = one_to base i x e a in (x.to, sym r.1, first_step r.0 (ap leaf r.2) refl)
   | inr b ↦ let r = edges_to base i xs e b in (r.0, r.1, later_step r.2)
 ]
 
-edges_of : (base i : ℕ) (xs : List Step) (e : Edge) (y : ℕ) → e.to ≡ base + y → HasStep xs i (leaf e.leaf) y → Contains (edges_from base i xs) e
+edges_of : (base i : ℕ) (xs : List Transition) (e : Edge) (y : ℕ) → e.to ≡ base + y → HasStep xs i (leaf e.leaf) y → Contains (edges_from base i xs) e
 edges_of base i [] e y is h = elim h [ ]
 edges_of base i (x ∷ xs) e y is (first_step a b c) = Contains-append_left (one_edge base i x) (edges_from base i xs) e (one_of base i x e a (omega arith) (same_leaf x.leaf e.leaf b))
 edges_of base i (x ∷ xs) e y is (later_step h) = Contains-append_right (one_edge base i x) (edges_from base i xs) e (edges_of base i xs e y is h)
@@ -78,7 +78,7 @@ of_append [] ys i x at = inr (i, omega arith, at)
 of_append (w ∷ xs) ys zero x at = inl at
 of_append (w ∷ xs) ys (suc i) x at = elim (of_append xs ys i x at) [ inl a ↦ inl a | inr (k, is, b) ↦ inr (k, omega arith, b) ]
 
-pub rows_more : (part : Part) (base n m : ℕ) (rows : List Row) (r : Row) → m ≡ suc n → AreRowsOf part base n rows → IsRowOf part base n r → AreRowsOf part base m (rows ++ (r ∷ []))
+pub rows_more : (part : Nfa) (base n m : ℕ) (rows : List Row) (r : Row) → m ≡ suc n → AreRowsOf part base n rows → IsRowOf part base n r → AreRowsOf part base m (rows ++ (r ∷ []))
 rows_more part base n m rows r is old new = record {
   counted = omega (arith, length-append rows (r ∷ []), old.counted);
   row = λ i x at. row_at i x (of_append rows (r ∷ []) i x at);
@@ -89,7 +89,7 @@ rows_more part base n m rows r is old new = record {
     row_at i x (inr (zero, same, at)) = let place : n ≡ i = omega (arith, old.counted) in let one : r ≡ x = cc in subst (λ w. IsRowOf part base w x) place (subst (λ (w : Row). IsRowOf part base n w) one new)
     row_at i x (inr (suc k, same, at)) = absurd (cc)
 
-pub rows_for : (a : Automaton) (part : Part) (base n : ℕ) (rows : List Row) → Shows part a → n ≡ part.count → AreRowsOf part base n rows → AreRowsFor a base rows
+pub rows_for : (a : Automaton) (part : Nfa) (base n : ℕ) (rows : List Row) → Shows part a → n ≡ part.count → AreRowsOf part base n rows → AreRowsFor a base rows
 rows_for a part base n rows shown count are = record {
   counted = are.counted ∙ (count ∙ shown.counted);
   edge = λ i r at e. (
@@ -97,8 +97,8 @@ rows_for a part base n rows shown count are = record {
     λ (y, is, h). subst (λ (w : List Edge). Contains w e) (sym ((are.row i r at).edges)) (edges_of base i part.steps.items e y is ((shown.edge i y (leaf e.leaf)).1 h)),
   );
   accepting = λ i r at. (
-    λ h. (shown.accepting i).0 (has_of part.ends.items i (((are.row i r at).accepting).0 h)),
-    λ h. ((are.row i r at).accepting).1 (contains_of part.ends.items i ((shown.accepting i).1 h)),
+    λ h. (shown.accepting i).0 (has_of part.accepting.items i (((are.row i r at).accepting).0 h)),
+    λ h. ((are.row i r at).accepting).1 (contains_of part.accepting.items i ((shown.accepting i).1 h)),
   );
 }
 

@@ -5,22 +5,22 @@ use Rattle.tc_model.specs.States as s
 use Rattle.tc_model.specs.States.{Automaton, joined_edge, group_of, choice_of, repeat_of, interleave_of, empty_automaton, text_automaton, ref_automaton, text_leaf, ref_leaf}
 use Rattle.tc_model.proofs.StatesJoins.{IsSound}
 use Rattle.tc_auto.specs.declared.auto.Leaf.TheVariants.{Text, Ref}
-use Rattle.tc_auto.specs.declared.part.Part.{Part}
-use Rattle.tc_auto.specs.declared.part.Step.{Step}
+use Rattle.tc_auto.specs.declared.nfa.Nfa.{Nfa}
+use Rattle.tc_auto.specs.declared.nfa.Transition.{Transition}
 use Rattle.tc_auto.specs.Steps.{leaf, HasStep, first_step, later_step, Has, has_first, has_later, Shown, Shows, IsWithin, carried, later, all_beside_first, all_beside_second, all_pairs}
 use Rattle.tc_auto.proofs.Lists.{step_left, step_right, step_cases, has_left, has_right, has_cases, step_of, has_of, Carried, carried_to, carried_of, later_to, later_of, all_second_to, all_second_of, all_first_to, all_first_of, all_pairs_to, all_pairs_of}
 
 -- the edges, and the accepting states, of a part that shows an automaton stay within its states
-pub steps_within : (a : Automaton) → IsSound a → (n : ℕ) (xs : List Step) (es : List ℕ) → Shown n xs es a → (x : Step) → Contains xs x → (x.from < n) × (x.to < n)
+pub steps_within : (a : Automaton) → IsSound a → (n : ℕ) (xs : List Transition) (es : List ℕ) → Shown n xs es a → (x : Transition) → Contains xs x → (x.from < n) × (x.to < n)
 steps_within a sa n xs es shown x at =
     let edge = (shown.edge x.from x.to (leaf x.leaf)).0 (step_of xs x at) in
     let same = shown.counted in
     (omega (arith, sa.from _ _ _ edge), omega (arith, sa.below _ _ _ edge))
 
-pub ends_within : (a : Automaton) → IsSound a → (n : ℕ) (xs : List Step) (es : List ℕ) → Shown n xs es a → (j : ℕ) → Contains es j → j < n
+pub ends_within : (a : Automaton) → IsSound a → (n : ℕ) (xs : List Transition) (es : List ℕ) → Shown n xs es a → (j : ℕ) → Contains es j → j < n
 ends_within a sa n xs es shown j at = let same = shown.counted in omega (arith, sa.accepted j ((shown.accepting j).0 (has_of es j at)))
 
-module _ (a b : Automaton) (sa : IsSound a) (sb : IsSound b) (m n : ℕ) (xs ys : List Step) (es fs : List ℕ) (first : Shown m xs es a) (second : Shown n ys fs b) where
+module _ (a b : Automaton) (sa : IsSound a) (sb : IsSound b) (m n : ℕ) (xs ys : List Transition) (es fs : List ℕ) (first : Shown m xs es a) (second : Shown n ys fs b) where
   joined_to : (From : ℕ → Type 0) (starts : List ℕ) → ((i : ℕ) → Has starts i → From i) → (i j : ℕ) (l : s.Leaf) → HasStep (xs ++ carried (m - 1) starts ys) i l j → joined_edge a b From i l j
   joined_to From starts f i j l h = elim (step_cases xs _ h) [
     | inl x ↦ inl ((first.edge i j l).0 x)
@@ -128,7 +128,7 @@ module _ (a b : Automaton) (sa : IsSound a) (sb : IsSound b) (m n : ℕ) (xs ys 
     accepting = λ j. (pair_ends_to j, pair_ends_of j);
   }
 
-module _ (a : Automaton) (m : ℕ) (xs : List Step) (es : List ℕ) (one : Shown m xs es a) where
+module _ (a : Automaton) (m : ℕ) (xs : List Transition) (es : List ℕ) (one : Shown m xs es a) where
   again_from : (i : ℕ) → Has (0 ∷ later 0 es) i → (i ≡ 0) ⊎ a.accepting i
   again_from i (has_first e) = inl (sym e)
   again_from i (has_later h) = let r = later_to 0 es h in let same : r.0 ≡ i = omega (arith, r.1) in inr (subst a.accepting same ((one.accepting r.0).0 r.3))
@@ -160,8 +160,8 @@ module _ (a : Automaton) (m : ℕ) (xs : List Step) (es : List ℕ) (one : Shown
   pub repeat_shown : Shown m (carried 0 (0 ∷ later 0 es) xs) es (repeat_of a)
   repeat_shown = record { counted = one.counted; edge = λ i j l. (again_to i j l, again_of i j l); accepting = one.accepting }
 
-pub shown_as : (a : Automaton) (n : ℕ) (xs zs : List Step) (es fs : List ℕ) → Shown n xs es a → zs ≡ xs → fs ≡ es → Shown n zs fs a
-shown_as a n xs zs es fs s e f = subst (λ (ws : List Step). Shown n ws fs a) (sym e) (subst (λ (ws : List ℕ). Shown n xs ws a) (sym f) s)
+pub shown_as : (a : Automaton) (n : ℕ) (xs zs : List Transition) (es fs : List ℕ) → Shown n xs es a → zs ≡ xs → fs ≡ es → Shown n zs fs a
+shown_as a n xs zs es fs s e f = subst (λ (ws : List Transition). Shown n ws fs a) (sym e) (subst (λ (ws : List ℕ). Shown n xs ws a) (sym f) s)
 
 start_of_empty : (j : ℕ) → Has (0 ∷ []) j → j ≡ 0
 start_of_empty j (has_first e) = sym e
@@ -173,7 +173,7 @@ no_step h = elim h [ ]
 pub empty_shown : Shown 1 [] (0 ∷ []) empty_automaton
 empty_shown = record { counted = refl; edge = λ i j l. (λ h. no_step h, λ e. absurd e); accepting = λ j. (λ h. start_of_empty j h, λ e. has_first (sym e)) }
 
-abbrev text_steps : List Step
+abbrev text_steps : List Transition
 text_steps = record { from = 0; leaf = Text; to = 1 } ∷ (record { from = 1; leaf = Text; to = 1 } ∷ [])
 
 text_to : (i j : ℕ) (l : s.Leaf) → HasStep text_steps i l j → (l ≡ text_leaf) × (i ≤ 1) × (j ≡ 1)
@@ -208,15 +208,15 @@ one_end j (has_later h) = elim h [ ]
 pub ref_shown : (k : ℕ) → Shown 2 (record { from = 0; leaf = Ref k; to = 1 } ∷ []) (1 ∷ []) (ref_automaton k)
 ref_shown k = record { counted = refl; edge = λ i j l. (ref_to k i j l, λ (a, b, c). first_step (sym b) (sym a) (sym c)); accepting = λ j. (one_end j, λ e. has_first (sym e)) }
 
-pub within : (a : Automaton) → IsSound a → (p : Part) → Shows p a → IsWithin p
+pub within : (a : Automaton) → IsSound a → (p : Nfa) → Shows p a → IsWithin p
 within a sa p shown = record {
   some = let same = shown.counted in omega (arith, sa.some);
-  steps = steps_within a sa p.count p.steps.items p.ends.items shown;
-  ends = ends_within a sa p.count p.steps.items p.ends.items shown;
+  steps = steps_within a sa p.count p.steps.items p.accepting.items shown;
+  ends = ends_within a sa p.count p.steps.items p.accepting.items shown;
 }
 
 -- one or more of one or more are one or more
-pub repeat_twice : (a : Automaton) (n : ℕ) (xs : List Step) (es : List ℕ) → Shown n xs es (repeat_of a) → Shown n xs es (repeat_of (repeat_of a))
+pub repeat_twice : (a : Automaton) (n : ℕ) (xs : List Transition) (es : List ℕ) → Shown n xs es (repeat_of a) → Shown n xs es (repeat_of (repeat_of a))
 repeat_twice a n xs es one = record {
   counted = one.counted;
   edge = λ i j l. (λ h. inl ((one.edge i j l).0 h), λ e. (one.edge i j l).1 (once i j l e));

@@ -32,7 +32,7 @@ pub enum AutoFault {
     NoMemory,
 }
 
-/// The states of a schema's parts, with their edges. Part 0 is the start, and part k is the content of
+/// The states of a schema's parts, with their edges. Nfa 0 is the start, and part k is the content of
 /// element pattern k; their states are numbered from 0 through all parts, in this order.
 #[derive(Drop)]
 pub struct Auto<'b> {

@@ -5,14 +5,14 @@ ghost use Rattle.tc_model.specs.Views.{pattern, patterns};
 ghost use Rattle.tc_model.specs.States.{automaton, repeat_of};
 ghost use Rattle.tc_auto.specs.Steps.{Shows};
 
-use crate::part::{Part, choice, group, interleave, never, nothing_more, one_element, texts};
+use crate::nfa::{Nfa, choice, group, interleave, never, nothing_more, one_element, texts};
 use crate::repeats::repeat;
 use std::alloc::Global;
 use tc_base::NoMemory;
 use tc_model::Pat;
 
 /// The automaton of one or more of a pattern from its own. One or more of one or more are one or more.
-fn again(alloc: Global, pat: &Pat<'_>, part: Part) -> Result<Part, NoMemory>
+fn again(alloc: Global, pat: &Pat<'_>, part: Nfa) -> Result<Nfa, NoMemory>
     requires { Shows part (automaton (pattern pat.now)) }
     ensures { IfOk result (λ r. Shows r (repeat_of (automaton (pattern pat.now)))) }
 {
@@ -25,7 +25,7 @@ fn again(alloc: Global, pat: &Pat<'_>, part: Part) -> Result<Part, NoMemory>
 /// The automaton of a pattern.
 #[cycle(build)]
 #[tactic(auto, using(tc_model::proofs::ViewsGrammar::see_pattern))]
-pub fn part_of(alloc: Global, pat: &Pat<'_>) -> Result<Part, NoMemory>
+pub fn part_of(alloc: Global, pat: &Pat<'_>) -> Result<Nfa, NoMemory>
     requires { (automaton (pattern pat.now)).count < 2 ^ 32 }
     ensures { IfOk result (λ r. Shows r (automaton (pattern pat.now))) }
 {
@@ -42,7 +42,7 @@ pub fn part_of(alloc: Global, pat: &Pat<'_>) -> Result<Part, NoMemory>
 }
 
 #[cycle(build)]
-fn group_of(alloc: Global, members: &[Pat<'_>]) -> Result<Part, NoMemory>
+fn group_of(alloc: Global, members: &[Pat<'_>]) -> Result<Nfa, NoMemory>
     requires { (automaton (g.group (patterns members.now))).count < 2 ^ 32 }
     ensures { IfOk result (λ r. Shows r (automaton (g.group (patterns members.now)))) }
 {
@@ -54,7 +54,7 @@ fn group_of(alloc: Global, members: &[Pat<'_>]) -> Result<Part, NoMemory>
 }
 
 #[cycle(build)]
-fn choice_of(alloc: Global, members: &[Pat<'_>]) -> Result<Part, NoMemory>
+fn choice_of(alloc: Global, members: &[Pat<'_>]) -> Result<Nfa, NoMemory>
     requires { (automaton (g.choice (patterns members.now))).count < 2 ^ 32 }
     ensures { IfOk result (λ r. Shows r (automaton (g.choice (patterns members.now)))) }
 {
@@ -66,7 +66,7 @@ fn choice_of(alloc: Global, members: &[Pat<'_>]) -> Result<Part, NoMemory>
 }
 
 #[cycle(build)]
-fn interleave_of(alloc: Global, members: &[Pat<'_>]) -> Result<Part, NoMemory>
+fn interleave_of(alloc: Global, members: &[Pat<'_>]) -> Result<Nfa, NoMemory>
     requires { (automaton (g.interleave (patterns members.now))).count < 2 ^ 32 }
     ensures { IfOk result (λ r. Shows r (automaton (g.interleave (patterns members.now)))) }
 {

@@ -11,7 +11,7 @@ mod count;
 pub mod laws;
 mod make;
 mod membership;
-mod part;
+mod nfa;
 mod repeats;
 mod rows;
 

@@ -3,17 +3,17 @@ ghost use Rattle.std.specs.Prelude.{◌≡◌, ◌==◌, filter, IfOk, IsTrue, O
 ghost use Rattle.std.specs.List.{Contains};
 ghost use Rattle.tc_auto.specs.Repeats.{Gains, IsThis, LeadsFrom, LeadsFromSome};
 ghost use Rattle.tc_auto.specs.Steps.{Shows, leaf};
-ghost use Rattle.tc_auto.specs.declared.part.Step.{Step};
+ghost use Rattle.tc_auto.specs.declared.nfa.Transition.{Transition};
 ghost use Rattle.tc_model.specs.Grammars.{Pattern};
 ghost use Rattle.tc_model.specs.States.{automaton, repeat_of};
 
-use crate::part::{Part, Step};
+use crate::nfa::{Nfa, Transition};
 use std::alloc::Global;
 use tc_base::NoMemory;
 
 /// The edges from state 0.
-fn first_steps(alloc: Global, part: &Part) -> Result<Vec<Step>, NoMemory>
-    ensures { IfOk result (λ r. r.items ≡ filter (λ (x : Step). x.from == 0) part.now.steps.items) }
+fn first_steps(alloc: Global, part: &Nfa) -> Result<Vec<Transition>, NoMemory>
+    ensures { IfOk result (λ r. r.items ≡ filter (λ (x : Transition). x.from == 0) part.now.steps.items) }
 {
     let firsts = part
         .steps
@@ -45,15 +45,15 @@ fn note(hints: &mut [Vec<usize>], end: usize, first: usize, place: usize) {
 
 /// For each accepting state and each first edge a place at which the edge from the one to where the other
 /// leads may stand: whoever takes it looks whether it does.
-fn hints_of(alloc: Global, part: &Part, firsts: &[Step]) -> Result<Vec<Vec<usize>>, NoMemory> {
+fn hints_of(alloc: Global, part: &Nfa, firsts: &[Transition]) -> Result<Vec<Vec<usize>>, NoMemory> {
     let mut targets = Vec::new(alloc);
     for first in firsts {
         targets.push(first.to)?;
     }
-    let end_places = places_of(alloc, part.count, &part.ends)?;
+    let end_places = places_of(alloc, part.count, &part.accepting)?;
     let first_places = places_of(alloc, part.count, &targets)?;
     let mut hints = Vec::new(alloc);
-    for _end in &part.ends {
+    for _end in &part.accepting {
         hints.push(vec![in alloc; part.steps.len(); firsts.len()]?)?;
     }
     for (place, step) in part.steps.iter().enumerate() {
@@ -67,7 +67,7 @@ fn hints_of(alloc: Global, part: &Part, firsts: &[Step]) -> Result<Vec<Vec<usize
 }
 
 /// Whether an edge stands at a place.
-fn is_at(steps: &[Step], place: usize, step: Step) -> bool
+fn is_at(steps: &[Transition], place: usize, step: Transition) -> bool
     ensures { IsTrue result → Contains steps.now step }
 {
     let Some(other) = steps.get(place) else {
@@ -83,7 +83,11 @@ fn is_at(steps: &[Step], place: usize, step: Step) -> bool
 }
 
 /// Adds an edge unless it stands at a place.
-fn push_unless_at(steps: &mut Vec<Step>, step: Step, place: usize) -> Result<(), NoMemory>
+fn push_unless_at(
+    steps: &mut Vec<Transition>,
+    step: Transition,
+    place: usize,
+) -> Result<(), NoMemory>
     ensures { OnOk result (Gains steps.old.items steps.new.items (IsThis step)) }
 {
     if !is_at(steps, place, step) {
@@ -94,15 +98,15 @@ fn push_unless_at(steps: &mut Vec<Step>, step: Step, place: usize) -> Result<(),
 
 /// Adds the first edges from a state, but for those that stand where the hints say.
 fn push_from(
-    steps: &mut Vec<Step>,
+    steps: &mut Vec<Transition>,
     from: u32,
-    firsts: &[Step],
+    firsts: &[Transition],
     hints: &[usize],
 ) -> Result<(), NoMemory>
     ensures { OnOk result (Gains steps.old.items steps.new.items (LeadsFrom from firsts.now)) }
 {
     for (place, first) in firsts.iter().enumerate() {
-        let step = Step {
+        let step = Transition {
             from,
             leaf: first.leaf,
             to: first.to,
@@ -115,9 +119,9 @@ fn push_from(
 
 /// Adds the first edges from some states, but for those that stand where the hints say.
 fn push_from_all(
-    steps: &mut Vec<Step>,
+    steps: &mut Vec<Transition>,
     states: &[u32],
-    firsts: &[Step],
+    firsts: &[Transition],
     hints: &[Vec<usize>],
 ) -> Result<(), NoMemory>
     ensures { OnOk result (Gains steps.old.items steps.new.items (LeadsFromSome states.now firsts.now)) }
@@ -132,16 +136,16 @@ fn push_from_all(
 }
 
 /// One or more, one after the other.
-pub fn repeat(alloc: Global, part: Part) -> Result<Part, NoMemory>
+pub fn repeat(alloc: Global, part: Nfa) -> Result<Nfa, NoMemory>
     ensures { (p : Pattern) → Shows part (automaton p) → IfOk result (λ r. Shows r (repeat_of (automaton p))) }
 {
     let firsts = first_steps(alloc, &part)?;
     let hints = hints_of(alloc, &part, &firsts)?;
     let mut steps = part.steps;
-    push_from_all(&mut steps, &part.ends, &firsts, &hints)?;
-    Ok(Part {
+    push_from_all(&mut steps, &part.accepting, &firsts, &hints)?;
+    Ok(Nfa {
         count: part.count,
         steps,
-        ends: part.ends,
+        accepting: part.accepting,
     })
 }

@@ -9,7 +9,7 @@ ghost use Rattle.tc_auto.specs.declared.rows.Row.{Row};
 
 use crate::auto::Edge;
 use crate::build::part_of;
-use crate::part::{Part, Step};
+use crate::nfa::{Nfa, Transition};
 use std::alloc::Global;
 use tc_base::NoMemory;
 use tc_model::Pat;
@@ -22,7 +22,7 @@ pub struct Row {
 }
 
 /// Adds an edge if it begins at the state.
-fn push_edge(edges: &mut Vec<Edge>, step: Step, base: u32, state: u32) -> Result<(), NoMemory>
+fn push_edge(edges: &mut Vec<Edge>, step: Transition, base: u32, state: u32) -> Result<(), NoMemory>
     requires { step.to + base < 2 ^ 32 }
     ensures { IfOk result (λ _. edges.new.items ≡ edges.old.items ++ edges_from base state (step ∷ [])) }
 {
@@ -43,7 +43,7 @@ fn has_state(states: &[u32], state: u32) -> bool
 }
 
 /// The row of a state of a part whose first state has the number `base`.
-fn row_of(alloc: Global, part: &Part, base: u32, state: u32) -> Result<Row, NoMemory>
+fn row_of(alloc: Global, part: &Nfa, base: u32, state: u32) -> Result<Row, NoMemory>
     requires within { IsWithin part.now }
     requires room { part.now.count + base < 2 ^ 32 }
     ensures { IfOk result (λ r. IsRowOf part.now base state r) }
@@ -54,12 +54,12 @@ fn row_of(alloc: Global, part: &Part, base: u32, state: u32) -> Result<Row, NoMe
     }
     Ok(Row {
         edges,
-        accepting: has_state(&part.ends, state),
+        accepting: has_state(&part.accepting, state),
     })
 }
 
 /// Adds the rows of a part.
-fn push_rows(alloc: Global, rows: &mut Vec<Row>, part: &Part, base: u32) -> Result<(), NoMemory>
+fn push_rows(alloc: Global, rows: &mut Vec<Row>, part: &Nfa, base: u32) -> Result<(), NoMemory>
     requires within { IsWithin part.now }
     requires room { part.now.count + base < 2 ^ 32 }
     ensures { IfOk result (λ _. (added : List Row) × (rows.new.items ≡ rows.old.items ++ added) × AreRowsOf part.now base part.now.count added) }

@@ -23,7 +23,7 @@ group_of-group-requires-clause-room t c = omega (arith, group_room c.args.member
 
 pub group_of-loop-member-preserved : goal.group_of-loop-member-preserved
 group_of-loop-member-preserved t c =
-    subst (λ (a : Automaton). Shown c.in_ok-whole-2.whole.count c.in_ok-whole-2.whole.steps.items c.in_ok-whole-2.whole.ends.items a) (sym (group_more c.args.members.now c.loop-member.member-index c.member-item.result c.loop-member-test.true c.member-item.is)) (c.in_ok-whole-2.ensures (g.group (patterns (take c.loop-member.member-index c.args.members.now))) (pattern c.member-item.result) c.loop-member.invariant c.in_ok-part_of.ensures)
+    subst (λ (a : Automaton). Shown c.in_ok-whole-2.whole.count c.in_ok-whole-2.whole.steps.items c.in_ok-whole-2.whole.accepting.items a) (sym (group_more c.args.members.now c.loop-member.member-index c.member-item.result c.loop-member-test.true c.member-item.is)) (c.in_ok-whole-2.ensures (g.group (patterns (take c.loop-member.member-index c.args.members.now))) (pattern c.member-item.result) c.loop-member.invariant c.in_ok-part_of.ensures)
 
 pub part_of-group_of-requires : goal.part_of-group_of-requires
 part_of-group_of-requires t c = (search (rules, the_lemmas), subst (λ (w : Pattern). (automaton w).count < 4294967296) (ap pattern c.in-Group.is ∙ see_group c.in-Group.members) c.requires)
@@ -40,7 +40,7 @@ choice_of-choice-requires-clause-room t c = omega (arith, choice_room c.args.mem
 
 pub choice_of-loop-member-preserved : goal.choice_of-loop-member-preserved
 choice_of-loop-member-preserved t c =
-    subst (λ (a : Automaton). Shown c.in_ok-whole.whole.count c.in_ok-whole.whole.steps.items c.in_ok-whole.whole.ends.items a) (sym (choice_more c.args.members.now c.loop-member.member-index c.member-item.result c.loop-member-test.true c.member-item.is)) (c.in_ok-whole.ensures (g.choice (patterns (take c.loop-member.member-index c.args.members.now))) (pattern c.member-item.result) c.loop-member.invariant c.in_ok-part_of.ensures)
+    subst (λ (a : Automaton). Shown c.in_ok-whole.whole.count c.in_ok-whole.whole.steps.items c.in_ok-whole.whole.accepting.items a) (sym (choice_more c.args.members.now c.loop-member.member-index c.member-item.result c.loop-member-test.true c.member-item.is)) (c.in_ok-whole.ensures (g.choice (patterns (take c.loop-member.member-index c.args.members.now))) (pattern c.member-item.result) c.loop-member.invariant c.in_ok-part_of.ensures)
 
 pub part_of-choice_of-requires : goal.part_of-choice_of-requires
 part_of-choice_of-requires t c = (search (rules, the_lemmas), subst (λ (w : Pattern). (automaton w).count < 4294967296) (ap pattern c.in-Choice.is ∙ see_choice c.in-Choice.members) c.requires)
@@ -57,7 +57,7 @@ interleave_of-interleave-requires-clause-room t c = subst (λ w. w < 4294967296)
 
 pub interleave_of-loop-member-preserved : goal.interleave_of-loop-member-preserved
 interleave_of-loop-member-preserved t c =
-    subst (λ (a : Automaton). Shown c.in_ok-whole-2.whole.count c.in_ok-whole-2.whole.steps.items c.in_ok-whole-2.whole.ends.items a) (sym (interleave_more c.args.members.now c.loop-member.member-index c.member-item.result c.loop-member-test.true c.member-item.is)) (c.in_ok-whole-2.ensures (g.interleave (patterns (take c.loop-member.member-index c.args.members.now))) (pattern c.member-item.result) c.loop-member.invariant c.in_ok-part_of.ensures)
+    subst (λ (a : Automaton). Shown c.in_ok-whole-2.whole.count c.in_ok-whole-2.whole.steps.items c.in_ok-whole-2.whole.accepting.items a) (sym (interleave_more c.args.members.now c.loop-member.member-index c.member-item.result c.loop-member-test.true c.member-item.is)) (c.in_ok-whole-2.ensures (g.interleave (patterns (take c.loop-member.member-index c.args.members.now))) (pattern c.member-item.result) c.loop-member.invariant c.in_ok-part_of.ensures)
 
 pub part_of-interleave_of-requires : goal.part_of-interleave_of-requires
 part_of-interleave_of-requires t c = (search (rules, the_lemmas), subst (λ (w : Pattern). (automaton w).count < 4294967296) (ap pattern c.in-Interleave.is ∙ see_interleave c.in-Interleave.members) c.requires)

@@ -1,11 +1,11 @@
 use Rattle.std.proofs.Common.{get_or, refl}
 use Rattle.std.proofs.lemmas.List.{get_or_default}
 use Rattle.tc_auto.specs.declared.auto.Leaf.TheVariants.{Text}
-use Rattle.tc_auto.specs.declared.part.Step.{Step}
+use Rattle.tc_auto.specs.declared.nfa.Transition.{Transition}
 use Rattle.tc_auto.proofs.Gained.{gains_no_first, gains_first, all_firsts}
 use Rattle.tc_auto.proofs.repeats.push_from.Goals as goal
 
-any_step : Step
+any_step : Transition
 any_step = record { from = 0; leaf = Text; to = 0 }
 
 pub loop-place-init : goal.loop-place-init

@@ -1,6 +1,0 @@
-use Rattle.std.proofs.Common.{◌≡◌, ◌++◌, drop}
-use Rattle.tc_auto.specs.Steps.{all_pairs}
-use Rattle.tc_auto.proofs.part.pairs_of_ends.Given as goal
-
-abbrev pub invariant-loop-x : goal.invariant-loop-x
-invariant-loop-x l = l.ends.items ++ all_pairs l.second.count (drop l.x-index l.x-items) l.second.ends.items ≡ all_pairs l.second.count l.x-items l.second.ends.items
