@@ -24,7 +24,7 @@ use Rattle.tc_rules.specs.Jobs.{AreJobs}
 use Rattle.tc_rules.specs.Kept.{told, IsRulesOf, numbers_in_mode}
 use Rattle.tc_rules.specs.Rows.{graph, graphs}
 use Rattle.tc_rules.specs.Views as seen
-use Rattle.tc_rules.specs.Selects.{selects_from, starts_from, AreGraphs, states_by, count_by, all_states_by, IsAncestorCause, IsNextCause, IsSelectCause}
+use Rattle.tc_rules.specs.Selects.{paths_of, selects_from, starts_from, AreGraphs, states_by, count_by, all_states_by, IsAncestorCause, IsNextCause, IsSelectCause}
 use Rattle.tc_rules.specs.RulesView.{AreSymbolsWith, count_states}
 use Rattle.tc_model.specs.StateCounts.{PathUse, blocks_of, PassPredicates, PassAncestors, PassSelects, some_item, all_count}
 use Rattle.tc_rules.specs.declared.graph.Source.{Source}
@@ -38,10 +38,6 @@ use Rattle.tc_rules.proofs.SelectStates.{graph_at, as_many, count_within, count_
 
 some_same : {X : Type 0} (a b : X) → a ≡ b → Some a ≡ Some b
 some_same a b e = ap Some e
-
--- the paths of all blocks
-abbrev pub paths_of : s.Sheet → List Path
-paths_of x = map (λ m. m.path) (moves_of x) ++ looks_of x
 
 move_paths : (ms : List Move) → map (λ (b : PathUse). b.path) (map (λ (m : Move). let b : PathUse = record { path = m.path; mode = Some m.mode } in b) ms) ≡ map (λ (m : Move). m.path) ms
 move_paths [] = refl

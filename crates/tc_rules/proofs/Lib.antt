@@ -37,3 +37,4 @@ pub mod Counts
 pub mod RuleOf
 pub mod Looking
 pub mod NothingBelow
+pub mod UsagesOf

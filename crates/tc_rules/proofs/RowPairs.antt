@@ -14,7 +14,7 @@ use Rattle.tc_rules.specs.declared.graph.Graph.{Graph}
 use Rattle.tc_rules.specs.declared.graph.Leads.{Leads}
 use Rattle.tc_rules.specs.declared.rows.Row.{Row}
 use Rattle.tc_rules.proofs.Pieces.{mapped_at, unmapped_at}
-use Rattle.tc_rules.specs.Steps.{first_or_false, after_first, further, first_or_none, after_alternative, next_state, has_step, item_moves, some_item_moves, both_items, both_states, ends_true}
+use Rattle.tc_rules.specs.Steps.{first_or_false, after_first, further, first_or_none, after_alternative, next_state, has_step, item_moves, some_item_moves, item_waits, some_item_waits, both_items, both_states, ends_true}
 use Rattle.tc_rules.proofs.RowSteps.{element, one_more, map_push, first_at, after_at, first_alternative_at, after_alternative_at}
 
 -- the parts of what both have
@@ -162,6 +162,46 @@ moves_here fits items xs k h =
     ∙ (ap (λ w. (has_step rest && (get_or items k false && w)) || item_moves rest (after_first (drop k fits)) (after_first (drop k items))) (first_at fits k)
     ∙ (ap (λ w. (has_step rest && (get_or items k false && get_or fits k false)) || item_moves rest w (after_first (drop k items))) (after_at fits k)
     ∙ ap (λ w. (has_step rest && (get_or items k false && get_or fits k false)) || item_moves rest (drop (k + 1) fits) w) (after_at items k))))
+
+pub waits_here : (items : List Bool) (xs : List Step) (k : ℕ) → k < length xs
+    → item_waits (see.steps (drop k xs)) (drop k items) ≡ ((has_step (see.steps (drop (k + 1) xs)) && get_or items k false) || item_waits (see.steps (drop (k + 1) xs)) (drop (k + 1) items))
+waits_here items xs k h =
+    let rest = see.steps (drop (k + 1) xs) in
+    let x = element xs k h in
+    ap (λ w. item_waits w (drop k items)) (left_step xs k x.0 h x.1)
+    ∙ (ap (λ w. (has_step rest && w) || item_waits rest (after_first (drop k items))) (first_at items k)
+    ∙ ap (λ w. (has_step rest && get_or items k false) || item_waits rest w) (after_at items k))
+
+pub alternatives_wait : (row : State) (ws : List (Bor (List Step))) (i : ℕ) (w : Bor (List Step)) → i < length ws → w ≡ get_or ws i w
+    → some_item_waits (see.alternatives (drop i ws)) (drop i row) ≡ (item_waits (see.steps w.now) (get_or row i []) || some_item_waits (see.alternatives (drop (i + 1) ws)) (drop (i + 1) row))
+alternatives_wait row ws i w h e =
+    let rest = see.alternatives (drop (i + 1) ws) in
+    ap (λ p. some_item_waits p (drop i row)) (left_alternative ws i w h e)
+    ∙ (ap (λ x. item_waits (see.steps w.now) x || some_item_waits rest (after_alternative (drop i row))) (first_alternative_at row i)
+    ∙ ap (λ x. item_waits (see.steps w.now) (get_or row i []) || some_item_waits rest x) (after_alternative_at row i))
+
+-- none moves on where none may
+neither : (a b : Bool) → a ≡ false → b ≡ false → (a || b) ≡ false
+neither a b e f = cc
+
+not_here : (h x f : Bool) → (h && x) ≡ false → (h && (x && f)) ≡ false
+not_here true true f e = absurd (cc)
+not_here true false f e = refl
+not_here false x f e = refl
+
+items_wait : (ss : Steps) (f items : Items) → item_waits ss items ≡ false → item_moves ss f items ≡ false
+items_wait no_step f items e = refl
+items_wait (step d t w ss) f items e =
+    let parts = or_none (has_step ss && first_or_false items) (item_waits ss (after_first items)) e in
+    neither (has_step ss && (first_or_false items && first_or_false f)) (item_moves ss (after_first f) (after_first items))
+    (not_here (has_step ss) (first_or_false items) (first_or_false f) parts.0) (items_wait ss (after_first f) (after_first items) parts.1)
+
+pub none_waits : (p : Path) (f row : State) → some_item_waits p row ≡ false → some_item_moves p f row ≡ false
+none_waits no_alternative f row e = refl
+none_waits (alternative ss p) f row e =
+    let parts = or_none (item_waits ss (first_or_none row)) (some_item_waits p (after_alternative row)) e in
+    neither (item_moves ss (first_or_none f) (first_or_none row)) (some_item_moves p (after_alternative f) (after_alternative row))
+    (items_wait ss (first_or_none f) (first_or_none row) parts.0) (none_waits p (after_alternative f) (after_alternative row) parts.1)
 
 pub step_left : (xs : List Step) (k : ℕ) → k < length xs → has_step (see.steps (drop k xs)) ≡ true
 step_left xs k h = let x = element xs k h in ap has_step (left_step xs k x.0 h x.1)

@@ -10,6 +10,7 @@ pub mod Asked
 pub mod Steps
 pub mod Kept
 pub mod Eaches
+pub mod Usages
 pub mod Gathered
 pub mod Reached
 pub mod Classes

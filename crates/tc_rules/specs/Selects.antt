@@ -1,9 +1,9 @@
 -- The select states of several paths, one path after another: where each stands, and how many stand before those of each path.
 use Rattle.std.specs.Prelude.{ℕ, suc, ◌+◌, ◌<◌, List, [], ◌∷◌, ◌++◌, length, map, sum, filter, get_or, Option, None, Some, ◌==◌, if◌then◌else◌}
-use Rattle.tc_model.specs.Sheets.{Path, Test}
+use Rattle.tc_model.specs.Sheets.{Path, Test, Sheet}
 use Rattle.tc_model.specs.Symbols.{Mention}
 use Rattle.tc_model.specs.Numbered.{numbers_below}
-use Rattle.tc_model.specs.Numberings.{rounds, letters_of_elements}
+use Rattle.tc_model.specs.Numberings.{moves_of, looks_of, rounds, letters_of_elements}
 use Rattle.tc_model.specs.PathStates.{State, first_state, next_state}
 use Rattle.tc_rules.specs.Classes.{IsSourceOf}
 use Rattle.tc_rules.specs.Graphs.{Graph, IsGraphOf}
@@ -13,6 +13,10 @@ use Rattle.tc_rules.specs.declared.graph.Source.{Source}
 use Rattle.tc_rules.specs.declared.rules.Select.{Select}
 use Rattle.tc_rules.specs.declared.rules.RulesFault.{RulesFault}
 use Rattle.tc_rules.specs.declared.rules.RulesFault.TheVariants.{TooManyPredicates, TooManyAncestorStates, TooManySelectStates, NoMemory}
+
+-- the paths of the moves and then of the looks of a stylesheet
+abbrev pub paths_of : Sheet → List Path
+paths_of x = map (λ m. m.path) (moves_of x) ++ looks_of x
 
 abbrev pub selects_from : ℕ → List Graph → List Select
 selects_from i [] = []

@@ -91,6 +91,15 @@ abbrev pub some_item_moves : Path → State → State → Bool
 some_item_moves no_alternative fits row = false
 some_item_moves (alternative ss p) fits row = item_moves ss (first_or_none fits) (first_or_none row) || some_item_moves p (after_alternative fits) (after_alternative row)
 
+-- an item is there that may move on
+abbrev pub item_waits : Steps → Items → Bool
+item_waits no_step items = false
+item_waits (step deep test when ss) items = (has_step ss && first_or_false items) || item_waits ss (after_first items)
+
+abbrev pub some_item_waits : Path → State → Bool
+some_item_waits no_alternative row = false
+some_item_waits (alternative ss p) row = item_waits ss (first_or_none row) || some_item_waits p (after_alternative row)
+
 -- what both have
 abbrev pub both_items : Items → Items → Items
 both_items [] cs = []

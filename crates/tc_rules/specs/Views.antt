@@ -11,6 +11,9 @@ use Rattle.tc_rules.specs.declared.walk.Job.TheVariants as jobs
 use Rattle.tc_rules.specs.declared.walk.Move.{Move}
 use Rattle.tc_rules.specs.declared.walk.Each.{Each}
 use Rattle.tc_rules.specs.Eaches as e
+use Rattle.tc_rules.specs.Usages as u
+use Rattle.tc_rules.specs.declared.walk.Usage.{Usage}
+use Rattle.tc_rules.specs.declared.walk.Usage.TheVariants as of
 
 abbrev pub predicates : List (Bor Test) → List s.Test
 predicates xs = map (λ t. see.test t.now) xs
@@ -34,3 +37,13 @@ each x = record { number = x.number; body = see.body x.body.now }
 
 abbrev pub eaches : List Each → List e.Each
 eaches xs = map each xs
+
+abbrev pub usage : Usage → u.Usage
+usage (of.Pattern p) = u.of_pattern (see.match_pattern p.now)
+usage (of.Test t) = u.of_test (see.test t.now)
+usage (of.Value p) = u.of_value (see.path p.now)
+usage (of.Apply p m) = u.of_apply (see.path p.now) m
+usage (of.Each e p b) = u.of_each e (see.path p.now) (see.body b.now)
+
+abbrev pub usages : List Usage → List u.Usage
+usages xs = map usage xs

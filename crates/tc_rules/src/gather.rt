@@ -5,19 +5,19 @@ ghost use Rattle.tc_model.specs.Numbered.{numbers_below};
 ghost use Rattle.tc_model.specs.Numberings as n;
 ghost use Rattle.tc_model.specs.PathStates.{path_of_rules, steps_of};
 ghost use Rattle.tc_model.specs.Views as see;
+ghost use Rattle.tc_model.specs.Sheets as s;
 ghost use Rattle.tc_model.specs.Symbols.{fresh_name, symbol_count};
 ghost use Rattle.tc_model.specs.WellFormed.{IsSheet, ForEach, eaches_of};
-ghost use Rattle.tc_rules.specs.Eaches.{bodies_in, bodies_of_eaches};
 ghost use Rattle.tc_rules.specs.Gathered.{built_in_moves, numbers, bodies as see_bodies};
 ghost use Rattle.tc_rules.specs.Jobs.{AreJobs, written_moves};
 ghost use Rattle.tc_rules.specs.Kept.{numbers_in_mode};
-ghost use Rattle.tc_rules.specs.Once.{predicates_of_rules};
-ghost use Rattle.tc_rules.specs.Views.{eaches, predicates, looks, moves};
+ghost use Rattle.tc_rules.specs.Usages.{usages_in, usages_of, usages_of_rules, predicates_in_usage, looks_in_usage, moves_in_usage, eaches_in_usage};
+ghost use Rattle.tc_rules.specs.Views.{eaches, predicates, looks, moves, usage as see_usage, usages};
 
 use crate::once::{looks_once, moves_once, predicates_once};
 use crate::walk::{
-    Each, Job, Move, eaches_in_body, looks_in_body, looks_in_test, moves_in_body,
-    predicates_in_body, predicates_in_pattern,
+    Each, Job, Move, Usage, add_usage, eaches_in_usage, looks_in_test, looks_in_usage,
+    moves_in_usage, predicates_in_usage, usages_in_body,
 };
 use bumpalo::Bump;
 use std::alloc::Global;
@@ -41,48 +41,57 @@ fn all_children<'b>() -> &'b Path<'b>
     &ALL_CHILDREN
 }
 
-/// The predicates of a rule: those of its pattern, and then those of its body.
-fn predicates_of_rule<'b>(found: &mut Vec<&'b Test<'b>>, rule: &'b Rule<'b>) -> Result<(), NoMemory>
-    ensures { OnOk result (predicates found.new.items ≡ predicates found.old.items ++ (n.predicates_in_pattern (see.match_pattern rule.now.pattern) ++ n.predicates_in_body (see.body rule.now.body.now))) }
-{
-    predicates_in_pattern(found, &rule.pattern)?;
-    predicates_in_body(found, rule.body)
-}
-
-fn predicates_of_rules<'b>(
-    found: &mut Vec<&'b Test<'b>>,
-    rules: &'b [Rule<'b>],
-) -> Result<(), NoMemory>
-    ensures { OnOk result (predicates found.new.items ≡ predicates found.old.items ++ predicates_of_rules (map see.rule rules.now)) }
+fn usages_of_rules<'b>(found: &mut Vec<Usage<'b>>, rules: &'b [Rule<'b>]) -> Result<(), NoMemory>
+    ensures { OnOk result (usages found.new.items ≡ usages found.old.items ++ usages_of_rules (map see.rule rules.now)) }
 {
     for rule in rules {
-        predicates_of_rule(found, rule)?;
+        add_usage(found, Usage::Pattern(&rule.pattern))?;
+        usages_in_body(found, rule.body)?;
     }
     Ok(())
 }
 
-fn predicates_of_bodies<'b>(
-    found: &mut Vec<&'b Test<'b>>,
+fn usages_of_bodies<'b>(
+    found: &mut Vec<Usage<'b>>,
     bodies: &'b [&'b [Instr<'b>]],
 ) -> Result<(), NoMemory>
-    ensures { OnOk result (predicates found.new.items ≡ predicates found.old.items ++ flat_map n.predicates_in_body (map (λ b. see.body b.now) bodies.now)) }
+    ensures { OnOk result (usages found.new.items ≡ usages found.old.items ++ flat_map usages_in (map (λ b. see.body b.now) bodies.now)) }
 {
     for body in bodies {
-        predicates_in_body(found, body)?;
+        usages_in_body(found, body)?;
     }
     Ok(())
+}
+
+/// The usages of a stylesheet: those of all rules, each with its pattern first, and then those of the named bodies.
+pub(crate) fn all_usages<'b>(alloc: Global, sheet: &Sheet<'b>) -> Result<Vec<Usage<'b>>, NoMemory>
+    ensures { IfOk result (λ v. usages v.items ≡ usages_of (see.sheet sheet.now)) }
+{
+    let mut found = Vec::new(alloc);
+    usages_of_rules(&mut found, sheet.rules)?;
+    usages_of_bodies(&mut found, sheet.named)?;
+    Ok(found)
+}
+
+/// The predicates of usages, as they are written.
+fn written_predicates<'b>(alloc: Global, used: &[Usage<'b>]) -> Result<Vec<&'b Test<'b>>, NoMemory>
+    ensures { IfOk result (λ v. predicates v.items ≡ flat_map predicates_in_usage (usages used.now)) }
+{
+    let mut found = Vec::new(alloc);
+    for usage in used {
+        predicates_in_usage(&mut found, usage)?;
+    }
+    Ok(found)
 }
 
 /// The predicates, each once, in their order.
 pub(crate) fn all_predicates<'b>(
     alloc: Global,
-    sheet: &Sheet<'b>,
+    used: &[Usage<'b>],
 ) -> Result<Vec<&'b Test<'b>>, NoMemory>
-    ensures { IfOk result (λ v. predicates v.items ≡ n.predicates_of (see.sheet sheet.now)) }
+    ensures { IfOk result (λ v. (x : s.Sheet) → usages used.now ≡ usages_of x → predicates v.items ≡ n.predicates_of x) }
 {
-    let mut found = Vec::new(alloc);
-    predicates_of_rules(&mut found, sheet.rules)?;
-    predicates_of_bodies(&mut found, sheet.named)?;
+    let found = written_predicates(alloc, used)?;
     predicates_once(alloc, &found)
 }
 
@@ -98,65 +107,50 @@ fn built_in_moves(found: &mut Vec<Move<'_>>, modes: u32) -> Result<(), NoMemory>
     Ok(())
 }
 
-fn moves_of_rules<'b>(found: &mut Vec<Move<'b>>, rules: &'b [Rule<'b>]) -> Result<(), NoMemory>
-    ensures { OnOk result ((modes : ℕ) → moves modes found.new.items ≡ moves modes found.old.items ++ flat_map (λ r. n.moves_in_body modes r.body) (map see.rule rules.now)) }
+fn moves_of_usages<'b>(found: &mut Vec<Move<'b>>, used: &[Usage<'b>]) -> Result<(), NoMemory>
+    ensures { OnOk result ((k : ℕ) → moves k found.new.items ≡ moves k found.old.items ++ flat_map (moves_in_usage k) (usages used.now)) }
 {
-    for rule in rules {
-        moves_in_body(found, rule.body)?;
-    }
-    Ok(())
-}
-
-fn moves_of_bodies<'b>(
-    found: &mut Vec<Move<'b>>,
-    bodies: &'b [&'b [Instr<'b>]],
-) -> Result<(), NoMemory>
-    ensures { OnOk result ((modes : ℕ) → moves modes found.new.items ≡ moves modes found.old.items ++ flat_map (n.moves_in_body modes) (map (λ b. see.body b.now) bodies.now)) }
-{
-    for body in bodies {
-        moves_in_body(found, body)?;
+    for usage in used {
+        moves_in_usage(found, usage)?;
     }
     Ok(())
 }
 
 /// The moves as they are written: those of the built-in rules, of all rules, and of the named bodies.
-fn written_moves<'b>(alloc: Global, sheet: &Sheet<'b>) -> Result<Vec<Move<'b>>, NoMemory>
+fn written_moves<'b>(
+    alloc: Global,
+    sheet: &Sheet<'b>,
+    used: &[Usage<'b>],
+) -> Result<Vec<Move<'b>>, NoMemory>
+    requires { usages used.now ≡ usages_of (see.sheet sheet.now) }
     ensures { IfOk result (λ v. (k : ℕ) → moves k v.items ≡ written_moves k (see.sheet sheet.now)) }
 {
     let mut found = Vec::new(alloc);
     built_in_moves(&mut found, sheet.modes)?;
-    moves_of_rules(&mut found, sheet.rules)?;
-    moves_of_bodies(&mut found, sheet.named)?;
+    moves_of_usages(&mut found, used)?;
     Ok(found)
 }
 
 /// The moves, each once, in their order.
-pub(crate) fn all_moves<'b>(alloc: Global, sheet: &Sheet<'b>) -> Result<Vec<Move<'b>>, NoMemory>
-    requires { IsSheet (see.sheet sheet.now) }
+pub(crate) fn all_moves<'b>(
+    alloc: Global,
+    sheet: &Sheet<'b>,
+    used: &[Usage<'b>],
+) -> Result<Vec<Move<'b>>, NoMemory>
+    requires sheet { IsSheet (see.sheet sheet.now) }
+    requires used { usages used.now ≡ usages_of (see.sheet sheet.now) }
     ensures moves { IfOk result (λ v. moves sheet.now.modes v.items ≡ n.moves_of (see.sheet sheet.now)) }
     ensures jobs { IfOk result (λ v. AreJobs (see.sheet sheet.now) v.items) }
 {
-    let found = written_moves(alloc, sheet)?;
+    let found = written_moves(alloc, sheet, used)?;
     moves_once(alloc, sheet.modes, &found)
 }
 
-fn looks_of_rules<'b>(found: &mut Vec<&'b Path<'b>>, rules: &'b [Rule<'b>]) -> Result<(), NoMemory>
-    ensures { OnOk result (looks found.new.items ≡ looks found.old.items ++ flat_map (λ r. n.looks_in_body r.body) (map see.rule rules.now)) }
+fn looks_of_usages<'b>(found: &mut Vec<&'b Path<'b>>, used: &[Usage<'b>]) -> Result<(), NoMemory>
+    ensures { OnOk result (looks found.new.items ≡ looks found.old.items ++ flat_map looks_in_usage (usages used.now)) }
 {
-    for rule in rules {
-        looks_in_body(found, rule.body)?;
-    }
-    Ok(())
-}
-
-fn looks_of_bodies<'b>(
-    found: &mut Vec<&'b Path<'b>>,
-    bodies: &'b [&'b [Instr<'b>]],
-) -> Result<(), NoMemory>
-    ensures { OnOk result (looks found.new.items ≡ looks found.old.items ++ flat_map n.looks_in_body (map (λ b. see.body b.now) bodies.now)) }
-{
-    for body in bodies {
-        looks_in_body(found, body)?;
+    for usage in used {
+        looks_in_usage(found, usage)?;
     }
     Ok(())
 }
@@ -176,15 +170,13 @@ fn looks_of_tests<'b>(
 /// The looks, each once, in their order, the predicates being given.
 pub(crate) fn all_looks<'b>(
     alloc: Global,
-    sheet: &Sheet<'b>,
+    used: &[Usage<'b>],
     numbered: &[&'b Test<'b>],
 ) -> Result<Vec<&'b Path<'b>>, NoMemory>
-    requires { predicates numbered.now ≡ n.predicates_of (see.sheet sheet.now) }
-    ensures { IfOk result (λ v. looks v.items ≡ n.looks_of (see.sheet sheet.now)) }
+    ensures { IfOk result (λ v. (x : s.Sheet) → usages used.now ≡ usages_of x → predicates numbered.now ≡ n.predicates_of x → looks v.items ≡ n.looks_of x) }
 {
     let mut found = Vec::new(alloc);
-    looks_of_rules(&mut found, sheet.rules)?;
-    looks_of_bodies(&mut found, sheet.named)?;
+    looks_of_usages(&mut found, used)?;
     looks_of_tests(&mut found, numbered)?;
     looks_once(alloc, &found)
 }
@@ -270,35 +262,15 @@ pub(crate) fn modes_of_rules(alloc: Global, sheet: &Sheet<'_>) -> Result<Vec<Vec
     Ok(lists)
 }
 
-/// The for-eaches of all rules and then of the named bodies.
-fn found_eaches<'b>(alloc: Global, sheet: &Sheet<'b>) -> Result<Vec<Each<'b>>, NoMemory>
-    ensures { IfOk result (λ v. eaches v.items ≡ bodies_of_eaches (see.sheet sheet.now)) }
+/// The for-eaches of usages.
+fn found_eaches<'b>(alloc: Global, used: &[Usage<'b>]) -> Result<Vec<Each<'b>>, NoMemory>
+    ensures { IfOk result (λ v. eaches v.items ≡ flat_map eaches_in_usage (usages used.now)) }
 {
     let mut found = Vec::new(alloc);
-    eaches_of_rules(&mut found, sheet.rules)?;
-    eaches_of_bodies(&mut found, sheet.named)?;
+    for usage in used {
+        eaches_in_usage(&mut found, usage)?;
+    }
     Ok(found)
-}
-
-fn eaches_of_rules<'b>(found: &mut Vec<Each<'b>>, rules: &'b [Rule<'b>]) -> Result<(), NoMemory>
-    ensures { OnOk result (eaches found.new.items ≡ eaches found.old.items ++ flat_map (λ r. bodies_in r.body) (map see.rule rules.now)) }
-{
-    for rule in rules {
-        eaches_in_body(found, rule.body)?;
-    }
-    Ok(())
-}
-
-fn eaches_of_bodies<'b>(
-    found: &mut Vec<Each<'b>>,
-    bodies: &'b [&'b [Instr<'b>]],
-) -> Result<(), NoMemory>
-    ensures { OnOk result (eaches found.new.items ≡ eaches found.old.items ++ flat_map bodies_in (map (λ b. see.body b.now) bodies.now)) }
-{
-    for body in bodies {
-        eaches_in_body(found, body)?;
-    }
-    Ok(())
 }
 
 /// So many empty bodies.
@@ -324,12 +296,14 @@ fn put_body<'b>(bodies: &mut Vec<&'b [Instr<'b>]>, each: &Each<'b>)
 pub(crate) fn all_eaches<'b>(
     alloc: Global,
     sheet: &Sheet<'b>,
+    used: &[Usage<'b>],
 ) -> Result<Vec<&'b [Instr<'b>]>, NoMemory>
-    requires { IsSheet (see.sheet sheet.now) }
+    requires sheet { IsSheet (see.sheet sheet.now) }
+    requires used { usages used.now ≡ usages_of (see.sheet sheet.now) }
     ensures count { IfOk result (λ v. length v.items ≡ sheet.now.eaches) }
     ensures bodies { IfOk result (λ v. (f : ForEach) → Contains (eaches_of (see.sheet sheet.now)) f → slice_get (see_bodies v.items) f.number ≡ Some f.body) }
 {
-    let found = found_eaches(alloc, sheet)?;
+    let found = found_eaches(alloc, used)?;
     let mut bodies = no_bodies(alloc, sheet.eaches)?;
     for each in &found {
         put_body(&mut bodies, each);

@@ -15,9 +15,11 @@ ghost use Rattle.tc_rules.specs.Once.{put_once, put_all};
 ghost use Rattle.tc_rules.specs.Reached.{AreAlike, counted, leads_by, leads_by_class, leads_of, rounds, number_in, numbers_by, all_numbers_by, AreReached};
 ghost use Rattle.tc_rules.specs.Rows as seen;
 ghost use Rattle.tc_rules.specs.Views.{predicates};
-ghost use Rattle.tc_rules.specs.Steps.{both_states, path_having, next_state, some_ends, ends_at};
+ghost use Rattle.tc_rules.specs.Steps.{both_states, path_having, next_state, some_item_waits, some_ends, ends_at};
 
-use crate::rows::{Row, Sought, first_row, next_row, no_fits, row_having, some_item_moves};
+use crate::rows::{
+    Row, Sought, first_row, next_row, no_fits, row_having, some_item_waits, waiting_item_moves,
+};
 use indexmap::IndexSet;
 use std::alloc::Global;
 use std::slice::from_ref;
@@ -178,10 +180,11 @@ impl<'a, 'b> Source<'a, 'b> {
     ) -> Result<Vec<Row>, NoMemory>
         ensures { IfOk result (λ w. AreAlike (seen.states w.items) (leads_by (see.alternatives path.now) (seen.fits letters.now) (seen.state state.now))) }
     {
+        let waits = some_item_waits(path, state);
         let mut found = Vec::new(self.alloc);
         let mut stays = false;
         for kind in letters.kinds.as_slice() {
-            let moves = some_item_moves(path, kind, state);
+            let moves = waiting_item_moves(waits, path, kind, state);
             let marked = worth_looking_at(&letters.marked, moves, stays);
             self.add_leads(&mut found, path, kind, marked, state)?;
             stays = has_stayed(stays, moves);
@@ -273,7 +276,7 @@ impl<'a, 'b> Source<'a, 'b> {
         Ok(leads)
     }
 
-    /// The same, where the number is given of that to which it leads where no item moves on.
+    /// The same, where it is known what follows where no item moves on.
     fn numbers_of_class(
         &self,
         path: &[&[Step<'_>]],
@@ -281,32 +284,37 @@ impl<'a, 'b> Source<'a, 'b> {
         marked: &[Row],
         states: &IndexSet<Row>,
         state: &Row,
-        staying: Option<u32>,
+        staying: Staying,
     ) -> Result<Leads, NoMemory>
         requires few { length states.now.keys < 2 ^ 32 }
-        requires staying { staying ≡ number_in (seen.states states.now.keys) (next_state (see.alternatives path.now) [] (seen.state state.now)) }
+        requires waits { staying.waits ≡ some_item_waits (see.alternatives path.now) (seen.state state.now) }
+        requires number { staying.number ≡ number_in (seen.states states.now.keys) (next_state (see.alternatives path.now) [] (seen.state state.now)) }
         ensures { IfOk result (λ l. seen.leads (seen.states marked.now) l ≡ map (number_in (seen.states states.now.keys)) (leads_by_class (see.alternatives path.now) (seen.state kind.now) (seen.states marked.now) (seen.state state.now))) }
     {
-        if !some_item_moves(path, kind, state) {
-            return Ok(Leads::Alike(staying));
+        if !waiting_item_moves(staying.waits, path, kind, state) {
+            return Ok(Leads::Alike(staying.number));
         }
         let numbers = self.numbers_by_set(path, kind, marked, states, state)?;
         Ok(Leads::BySet(numbers))
     }
 
-    /// The number of the state to which a state leads where no item moves on.
+    /// Whether an item may move on, and the number of the state to which a state leads where none does.
     fn staying(
         &self,
         path: &[&[Step<'_>]],
         states: &IndexSet<Row>,
         state: &Row,
-    ) -> Result<Option<u32>, NoMemory>
+    ) -> Result<Staying, NoMemory>
         requires { length states.now.keys < 2 ^ 32 }
-        ensures { IfOk result (λ k. k ≡ number_in (seen.states states.now.keys) (next_state (see.alternatives path.now) [] (seen.state state.now))) }
+        ensures waits { IfOk result (λ k. k.waits ≡ some_item_waits (see.alternatives path.now) (seen.state state.now)) }
+        ensures number { IfOk result (λ k. k.number ≡ number_in (seen.states states.now.keys) (next_state (see.alternatives path.now) [] (seen.state state.now))) }
     {
         let fits = no_fits(self.alloc);
         let next = next_row(self.alloc, path, &fits, state)?;
-        Ok(number_of(states, &next))
+        Ok(Staying {
+            waits: some_item_waits(path, state),
+            number: number_of(states, &next),
+        })
     }
 
     /// The numbers of the states to which a state leads, class by class.
@@ -382,6 +390,13 @@ impl<'a, 'b> Source<'a, 'b> {
             next,
         })
     }
+}
+
+/// Whether an item of a state may move on, and the number of the state to which it leads where none does.
+#[derive(Clone, Copy)]
+struct Staying {
+    waits: bool,
+    number: Option<u32>,
 }
 
 /// The class of each symbol, and which steps fit each class by their node tests.

@@ -237,7 +237,7 @@ fn item_moves(steps: &[Step<'_>], fits: &[bool], items: &[bool]) -> bool
 
 /// Whether an item of some alternative moves on from a step to the next, where these steps fit.
 #[tactic(auto, using(crate::proofs::RowPairs::alternatives_move))]
-pub(crate) fn some_item_moves(path: &[&[Step<'_>]], fits: &Row, row: &Row) -> bool
+fn some_item_moves(path: &[&[Step<'_>]], fits: &Row, row: &Row) -> bool
     ensures { result ≡ v.some_item_moves (see.alternatives path.now) (state fits.now) (state row.now) }
 {
     for (i, steps) in path.iter().enumerate() {
@@ -246,6 +246,48 @@ pub(crate) fn some_item_moves(path: &[&[Step<'_>]], fits: &Row, row: &Row) -> bo
         }
     }
     false
+}
+
+/// Whether the item of a step is there that another step follows.
+fn waits_at(steps: &[Step<'_>], items: &[bool], step: usize) -> bool
+    requires { step < length steps.now }
+    ensures { result ≡ (v.has_step (see.steps (drop (step + 1) steps.now)) && get_or items.now step false) }
+{
+    step + 1 < steps.len() && bit(items, step)
+}
+
+/// Whether an item is there that may move on to a next step.
+#[tactic(auto, using(crate::proofs::RowPairs::waits_here))]
+fn item_waits(steps: &[Step<'_>], items: &[bool]) -> bool
+    ensures { result ≡ v.item_waits (see.steps steps.now) items.now }
+{
+    for (k, _step) in steps.iter().enumerate() {
+        if waits_at(steps, items, k) {
+            return true;
+        }
+    }
+    false
+}
+
+/// Whether an item of some alternative may move on.
+#[tactic(auto, using(crate::proofs::RowPairs::alternatives_wait))]
+pub(crate) fn some_item_waits(path: &[&[Step<'_>]], row: &Row) -> bool
+    ensures { result ≡ v.some_item_waits (see.alternatives path.now) (state row.now) }
+{
+    for (i, steps) in path.iter().enumerate() {
+        if item_waits(steps, row.items_or_none(i)) {
+            return true;
+        }
+    }
+    false
+}
+
+/// Whether an item of some alternative moves on, if it is known whether one may.
+pub(crate) fn waiting_item_moves(waits: bool, path: &[&[Step<'_>]], fits: &Row, row: &Row) -> bool
+    requires { waits ≡ v.some_item_waits (see.alternatives path.now) (state row.now) }
+    ensures { result ≡ v.some_item_moves (see.alternatives path.now) (state fits.now) (state row.now) }
+{
+    waits && some_item_moves(path, fits, row)
 }
 
 /// The truth values that both have.

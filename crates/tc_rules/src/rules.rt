@@ -1,5 +1,5 @@
 // Which rule fits a node, and what paths select, by the numbers of states.
-ghost use Rattle.std.specs.Prelude.{◌≡◌, ◌<◌, ◌≤◌, ◌+◌, ◌^◌, ◌++◌, ◌∷◌, [], length, map, get_or, List, true, Some, None, slice_get, option_map, if◌then◌else◌, IfOk, OnOk, IfErr, MatchOption, Contains};
+ghost use Rattle.std.specs.Prelude.{◌≡◌, ◌<◌, ◌≤◌, ◌+◌, ◌^◌, ◌++◌, ◌∷◌, ℕ, [], length, map, get_or, List, true, Some, None, slice_get, option_map, if◌then◌else◌, IfOk, OnOk, IfErr, MatchOption, Contains};
 ghost use Rattle.tc_model.specs.Numbered.{numbers_below};
 ghost use Rattle.tc_model.specs.Chains.{top};
 ghost use Rattle.tc_model.specs.Letters as l;
@@ -17,21 +17,24 @@ ghost use Rattle.tc_rules.specs.Classes.{IsSourceOf};
 ghost use Rattle.tc_rules.specs.Graphs.{kind_at, IsGraphOf};
 ghost use Rattle.tc_rules.specs.Picked.{better, is_root_at, outranks};
 ghost use Rattle.tc_rules.specs.Rows.{graph as see_graph, graphs as see_graphs};
-ghost use Rattle.tc_rules.specs.Selects.{AreGraphs, IsAncestorCause, IsNextCause, IsSelectCause, first_from, selects_from, starts_from};
+ghost use Rattle.tc_rules.specs.Selects.{AreGraphs, IsAncestorCause, IsNextCause, IsSelectCause, first_from, paths_of, selects_from, starts_from};
 ghost use Rattle.tc_rules.specs.Faults.{IsCause};
 ghost use Rattle.tc_model.specs.StateCounts.{PassNone};
-ghost use Rattle.tc_rules.specs.Jobs.{IsJob};
-ghost use Rattle.tc_rules.specs.Kept.{IsRulesOf, told};
-ghost use Rattle.tc_rules.specs.Views.{mode_of, predicates, looks as see_paths};
+ghost use Rattle.tc_rules.specs.Gathered.{bodies as see_bodies, numbers};
+ghost use Rattle.tc_rules.specs.Jobs.{AreJobs, IsJob};
+ghost use Rattle.tc_rules.specs.Kept.{IsRulesOf, numbers_in_mode, told};
+ghost use Rattle.tc_rules.specs.Usages.{usages_of};
+ghost use Rattle.tc_rules.specs.Views.{mode_of, predicates, looks as see_paths, moves as see_moves, usages};
 ghost use Rattle.tc_rules.specs.RulesView.{AreSymbolsWith, count_states, IsStateOf, ancestor, ancestor_below, is_hit_of, move_count, select_below, select_count};
 ghost use Rattle.tc_model.specs.StateCounts.{all_count, some_item, PathUse};
 
 use crate::gather::{
-    all_eaches, all_looks, all_moves, all_predicates, modes_of_rules, names_of, paths_of_rules,
+    all_eaches, all_looks, all_moves, all_predicates, all_usages, modes_of_rules, names_of,
+    paths_of_rules,
 };
 use crate::graph::{Counts, Graph, GraphFault, Source, small};
 use crate::once::{number_of_move, number_of_path};
-use crate::walk::{Job, Move};
+use crate::walk::{Job, Move, Usage};
 use bumpalo::Bump;
 use std::alloc::Global;
 use tc_alpha::{Alphabet, Sym};
@@ -130,39 +133,22 @@ impl<'b> Rules<'b> {
         ensures within { OnOk result (PassNone alphabet.now (see.sheet sheet.now)) }
         ensures cause { IfErr result (λ e. IsCause alphabet.now (see.sheet sheet.now) e) }
     {
-        let predicates = all_predicates(alloc, sheet)?;
-        if predicates.len() > MOST_PREDICATES {
-            return Err(RulesFault::TooManyPredicates);
-        }
+        let used = all_usages(alloc, sheet)?;
         let arena = Bump::new(alloc);
-        let names = names_of(alloc, &arena, alphabet)?;
-        let sets = sets_of(predicates.len());
-        let looks = all_looks(alloc, sheet, &predicates)?;
-        let source = Source {
-            alloc,
-            names,
-            predicates,
-            sets,
-        };
-        let above = ancestors_of(&source, sheet)?;
-        let moves = all_moves(alloc, sheet)?;
-        let paths = select_paths(alloc, &moves, &looks)?;
-        let graphs = graphs_of(&source, &paths)?;
-        let selects = selects_of(alloc, &graphs)?;
-        let starts = starts_of(alloc, &graphs)?;
-        let eaches = all_eaches(alloc, sheet)?;
-        let modes = modes_of_rules(alloc, sheet)?;
+        let source = source_of(alloc, &arena, alphabet, &used)?;
+        let asked = asked_of(alloc, sheet, &used, &source.predicates)?;
+        let states = states_of(&source, sheet, &asked.moves, &asked.looks)?;
         Ok(Rules {
             sheet: *sheet,
             predicates: source.predicates,
-            moves,
-            looks,
-            eaches,
-            modes,
-            above,
-            graphs,
-            selects,
-            starts,
+            moves: asked.moves,
+            looks: asked.looks,
+            eaches: asked.eaches,
+            modes: asked.modes,
+            above: states.above,
+            graphs: states.graphs,
+            selects: states.selects,
+            starts: states.starts,
         })
     }
 
@@ -455,6 +441,108 @@ fn symbol_of(kind: Kind) -> Option<u32>
         Kind::Elem(sym) => Some(sym.0),
         Kind::Text => None,
     }
+}
+
+/// The predicates of a stylesheet, and a name of each symbol.
+fn source_of<'a, 'b>(
+    alloc: Global,
+    arena: &'a Bump,
+    alphabet: &Alphabet,
+    used: &[Usage<'b>],
+) -> Result<Source<'a, 'b>, RulesFault>
+    ensures source { IfOk result (λ y. IsSourceOf alphabet.now y) }
+    ensures predicates { IfOk result (λ y. (x : s.Sheet) → usages used.now ≡ usages_of x → predicates y.predicates.items ≡ n.predicates_of x) }
+    ensures few { IfOk result (λ y. length y.predicates.items ≤ 6) }
+    ensures cause { IfErr result (λ e. (x : s.Sheet) → usages used.now ≡ usages_of x → IsCause alphabet.now x e) }
+{
+    let predicates = all_predicates(alloc, used)?;
+    if predicates.len() > MOST_PREDICATES {
+        return Err(RulesFault::TooManyPredicates);
+    }
+    let names = names_of(alloc, arena, alphabet)?;
+    let sets = sets_of(predicates.len());
+    Ok(Source {
+        alloc,
+        names,
+        predicates,
+        sets,
+    })
+}
+
+/// What is asked of a stylesheet but for its states: its moves, its looks, the bodies of its for-eaches, and the rules of its modes.
+#[derive(Drop)]
+struct Asked<'b> {
+    moves: Vec<Move<'b>>,
+    looks: Vec<&'b Path<'b>>,
+    eaches: Vec<&'b [Instr<'b>]>,
+    modes: Vec<Vec<u32>>,
+}
+
+fn asked_of<'b>(
+    alloc: Global,
+    sheet: &Sheet<'b>,
+    used: &[Usage<'b>],
+    numbered: &[&'b Test<'b>],
+) -> Result<Asked<'b>, NoMemory>
+    requires sheet { IsSheet (see.sheet sheet.now) }
+    requires used { usages used.now ≡ usages_of (see.sheet sheet.now) }
+    requires numbered { predicates numbered.now ≡ n.predicates_of (see.sheet sheet.now) }
+    ensures moves { IfOk result (λ a. see_moves sheet.now.modes a.moves.items ≡ n.moves_of (see.sheet sheet.now)) }
+    ensures jobs { IfOk result (λ a. AreJobs (see.sheet sheet.now) a.moves.items) }
+    ensures looks { IfOk result (λ a. see_paths a.looks.items ≡ n.looks_of (see.sheet sheet.now)) }
+    ensures eaches { IfOk result (λ a. length a.eaches.items ≡ sheet.now.eaches) }
+    ensures bodies { IfOk result (λ a. (f : ForEach) → Contains (eaches_of (see.sheet sheet.now)) f → slice_get (see_bodies a.eaches.items) f.number ≡ Some f.body) }
+    ensures modes { IfOk result (λ a. length a.modes.items ≡ sheet.now.modes) }
+    ensures numbers { IfOk result (λ a. (m : ℕ) → m < sheet.now.modes → get_or (numbers a.modes.items) m [] ≡ numbers_in_mode m 0 (map see.rule sheet.now.rules.now)) }
+{
+    let moves = all_moves(alloc, sheet, used)?;
+    let looks = all_looks(alloc, used, numbered)?;
+    let eaches = all_eaches(alloc, sheet, used)?;
+    let modes = modes_of_rules(alloc, sheet)?;
+    Ok(Asked {
+        moves,
+        looks,
+        eaches,
+        modes,
+    })
+}
+
+/// The ancestor states and the select states.
+#[derive(Drop)]
+struct States {
+    above: Graph,
+    graphs: Vec<Graph>,
+    selects: Vec<Select>,
+    starts: Vec<u32>,
+}
+
+fn states_of(
+    source: &Source<'_, '_>,
+    sheet: &Sheet<'_>,
+    moves: &[Move<'_>],
+    looks: &[&Path<'_>],
+) -> Result<States, RulesFault>
+    requires { source.now.sets ≡ 2 ^ length source.now.predicates.items }
+    ensures above { IfOk result (λ t. (symbols : List Mention) → IsSourceOf symbols source.now → IsGraphOf symbols (predicates source.now.predicates.items) all_count (path_of_rules (see.sheet sheet.now).rules) (see_graph t.above)) }
+    ensures few_above { IfOk result (λ t. length (see_graph t.above).states ≤ 64) }
+    ensures graphs { IfOk result (λ t. (symbols : List Mention) → IsSourceOf symbols source.now → AreGraphs symbols (predicates source.now.predicates.items) (map (λ m. see.path m.path.now) moves.now ++ see_paths looks.now) (see_graphs t.graphs.items)) }
+    ensures few { IfOk result (λ t. count_states (see_graphs t.graphs.items) ≤ 4096) }
+    ensures selects { IfOk result (λ t. t.selects.items ≡ selects_from 0 (see_graphs t.graphs.items)) }
+    ensures starts { IfOk result (λ t. t.starts.items ≡ starts_from 0 (see_graphs t.graphs.items)) }
+    ensures cause { IfErr result (λ e. (symbols : List Mention) → IsSourceOf symbols source.now → predicates source.now.predicates.items ≡ n.predicates_of (see.sheet sheet.now) → length (n.predicates_of (see.sheet sheet.now)) ≤ 6 →
+        map (λ m. see.path m.path.now) moves.now ++ see_paths looks.now ≡ paths_of (see.sheet sheet.now) → IsCause symbols (see.sheet sheet.now) e) }
+{
+    let above = ancestors_of(source, sheet)?;
+    let paths = select_paths(source.alloc, moves, looks)?;
+    let graphs = graphs_of(source, &paths)?;
+    let selects = selects_of(source.alloc, &graphs)?;
+    let starts = starts_of(source.alloc, &graphs)?;
+    Ok(States {
+        above,
+        graphs,
+        selects,
+        starts,
+    })
 }
 
 /// How many sets of so many predicates there are.

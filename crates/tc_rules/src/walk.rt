@@ -3,8 +3,8 @@ ghost use Rattle.std.specs.Prelude.{◌≡◌, ◌++◌, ◌∷◌, ℕ, [], OnO
 ghost use Rattle.tc_model.specs.Numberings as n;
 ghost use Rattle.tc_model.specs.Views as see;
 ghost use Rattle.tc_model.specs.Sheets as s;
-ghost use Rattle.tc_rules.specs.Eaches.{bodies_in, bodies_in_branches};
-ghost use Rattle.tc_rules.specs.Views.{eaches, predicates, looks, moves, mode_of};
+ghost use Rattle.tc_rules.specs.Usages.{usages_in, usages_in_branches, predicates_in_usage, looks_in_usage, moves_in_usage, eaches_in_usage};
+ghost use Rattle.tc_rules.specs.Views.{eaches, predicates, looks, moves, mode_of, usage as see_usage, usages};
 
 use tc_base::NoMemory;
 use tc_model::{Branch, Instr, Path, Pattern, Step, Test};
@@ -85,7 +85,7 @@ fn predicates_in_tests<'b>(
 }
 
 /// The predicates of a match pattern.
-pub(crate) fn predicates_in_pattern<'b>(
+fn predicates_in_pattern<'b>(
     found: &mut Vec<&'b Test<'b>>,
     pattern: &'b Pattern<'b>,
 ) -> Result<(), NoMemory>
@@ -97,57 +97,91 @@ pub(crate) fn predicates_in_pattern<'b>(
     }
 }
 
-/// The predicates of a body.
-#[cycle(predicate_bodies)]
-pub(crate) fn predicates_in_body<'b>(
-    found: &mut Vec<&'b Test<'b>>,
+/// What stands in a stylesheet that tells of predicates, looks, moves and for-eaches.
+#[derive(Clone, Copy)]
+pub(crate) enum Usage<'b> {
+    Pattern(&'b Pattern<'b>),
+    Test(&'b Test<'b>),
+    Value(&'b Path<'b>),
+    Apply(&'b Path<'b>, u32),
+    Each(u32, &'b Path<'b>, &'b [Instr<'b>]),
+}
+
+/// One usage more.
+pub(crate) fn add_usage<'b>(found: &mut Vec<Usage<'b>>, usage: Usage<'b>) -> Result<(), NoMemory>
+    ensures { OnOk result (usages found.new.items ≡ usages found.old.items ++ see_usage usage.entry ∷ []) }
+{
+    found.push(usage)?;
+    Ok(())
+}
+
+/// The usages of a body: each instruction's before those inside it, and in a branch that of the test before those of the body.
+#[cycle(bodies)]
+pub(crate) fn usages_in_body<'b>(
+    found: &mut Vec<Usage<'b>>,
     body: &'b [Instr<'b>],
 ) -> Result<(), NoMemory>
-    ensures { OnOk result (predicates found.new.items ≡ predicates found.old.items ++ n.predicates_in_body (see.body body.now)) }
+    ensures { OnOk result (usages found.new.items ≡ usages found.old.items ++ usages_in (see.body body.now)) }
 {
     for instruction in body {
-        predicates_in_instruction(found, instruction)?;
+        usages_in_instruction(found, instruction)?;
     }
     Ok(())
 }
 
-#[cycle(predicate_bodies)]
+#[cycle(bodies)]
 #[tactic(auto, using(tc_model::proofs::ViewsBody::see_instruction))]
-fn predicates_in_instruction<'b>(
-    found: &mut Vec<&'b Test<'b>>,
+fn usages_in_instruction<'b>(
+    found: &mut Vec<Usage<'b>>,
     instruction: &'b Instr<'b>,
 ) -> Result<(), NoMemory>
-    ensures { OnOk result ((rest : s.Body) → predicates found.new.items ++ n.predicates_in_body rest ≡ predicates found.old.items ++ n.predicates_in_body (see.instruction instruction.now rest)) }
+    ensures { OnOk result ((rest : s.Body) → usages found.new.items ++ usages_in rest ≡ usages found.old.items ++ usages_in (see.instruction instruction.now rest)) }
 {
     match instruction {
         Instr::Text(_) | Instr::Call(_) | Instr::ValueOfSelf => Ok(()),
-        Instr::Elem(_, body) => predicates_in_body(found, body),
-        Instr::Copy(body) => predicates_in_body(found, body),
-        Instr::Apply(path, _) => predicates_in_path(found, path),
-        Instr::ValueOf(path) => predicates_in_path(found, path),
+        Instr::Elem(_, body) => usages_in_body(found, body),
+        Instr::Copy(body) => usages_in_body(found, body),
+        Instr::Apply(path, mode) => add_usage(found, Usage::Apply(path, *mode)),
+        Instr::ValueOf(path) => add_usage(found, Usage::Value(path)),
         Instr::Choose(branches, otherwise) => {
-            predicates_in_branches(found, branches)?;
-            predicates_in_body(found, otherwise)
+            usages_in_branches(found, branches)?;
+            usages_in_body(found, otherwise)
         }
-        Instr::ForEach(_, path, body) => {
-            predicates_in_path(found, path)?;
-            predicates_in_body(found, body)
+        Instr::ForEach(each, path, body) => {
+            add_usage(found, Usage::Each(*each, path, body))?;
+            usages_in_body(found, body)
         }
     }
 }
 
-#[cycle(predicate_bodies)]
-fn predicates_in_branches<'b>(
-    found: &mut Vec<&'b Test<'b>>,
+#[cycle(bodies)]
+fn usages_in_branches<'b>(
+    found: &mut Vec<Usage<'b>>,
     branches: &'b [Branch<'b>],
 ) -> Result<(), NoMemory>
-    ensures { OnOk result ((rest : s.Branches) → predicates found.new.items ++ n.predicates_in_branches rest ≡ predicates found.old.items ++ n.predicates_in_branches (see.branches branches.now rest)) }
+    ensures { OnOk result ((rest : s.Branches) → usages found.new.items ++ usages_in_branches rest ≡ usages found.old.items ++ usages_in_branches (see.branches branches.now rest)) }
 {
     for branch in branches {
-        predicates_in_test(found, &branch.test)?;
-        predicates_in_body(found, branch.body)?;
+        add_usage(found, Usage::Test(&branch.test))?;
+        usages_in_body(found, branch.body)?;
     }
     Ok(())
+}
+
+/// The predicates of a usage.
+pub(crate) fn predicates_in_usage<'b>(
+    found: &mut Vec<&'b Test<'b>>,
+    usage: &Usage<'b>,
+) -> Result<(), NoMemory>
+    ensures { OnOk result (predicates found.new.items ≡ predicates found.old.items ++ predicates_in_usage (see_usage usage.now)) }
+{
+    match usage {
+        Usage::Pattern(pattern) => predicates_in_pattern(found, pattern),
+        Usage::Test(test) => predicates_in_test(found, test),
+        Usage::Value(path) | Usage::Apply(path, _) | Usage::Each(_, path, _) => {
+            predicates_in_path(found, path)
+        }
+    }
 }
 
 /// The looks of a test: its paths, but for those inside their predicates.
@@ -184,110 +218,38 @@ fn add_look<'b>(found: &mut Vec<&'b Path<'b>>, path: &'b Path<'b>) -> Result<(),
     Ok(())
 }
 
-/// The looks of a body.
-#[cycle(look_bodies)]
-pub(crate) fn looks_in_body<'b>(
+/// The looks of a usage.
+pub(crate) fn looks_in_usage<'b>(
     found: &mut Vec<&'b Path<'b>>,
-    body: &'b [Instr<'b>],
+    usage: &Usage<'b>,
 ) -> Result<(), NoMemory>
-    ensures { OnOk result (looks found.new.items ≡ looks found.old.items ++ n.looks_in_body (see.body body.now)) }
+    ensures { OnOk result (looks found.new.items ≡ looks found.old.items ++ looks_in_usage (see_usage usage.now)) }
 {
-    for instruction in body {
-        looks_in_instruction(found, instruction)?;
-    }
-    Ok(())
-}
-
-#[cycle(look_bodies)]
-#[tactic(auto, using(tc_model::proofs::ViewsBody::see_instruction))]
-fn looks_in_instruction<'b>(
-    found: &mut Vec<&'b Path<'b>>,
-    instruction: &'b Instr<'b>,
-) -> Result<(), NoMemory>
-    ensures { OnOk result ((rest : s.Body) → looks found.new.items ++ n.looks_in_body rest ≡ looks found.old.items ++ n.looks_in_body (see.instruction instruction.now rest)) }
-{
-    match instruction {
-        Instr::Text(_) | Instr::Call(_) | Instr::ValueOfSelf | Instr::Apply(_, _) => Ok(()),
-        Instr::Elem(_, body) => looks_in_body(found, body),
-        Instr::Copy(body) => looks_in_body(found, body),
-        Instr::ForEach(_, _, body) => looks_in_body(found, body),
-        Instr::ValueOf(path) => add_look(found, path),
-        Instr::Choose(branches, otherwise) => {
-            looks_in_branches(found, branches)?;
-            looks_in_body(found, otherwise)
-        }
+    match usage {
+        Usage::Test(test) => looks_in_test(found, test),
+        Usage::Value(path) => add_look(found, path),
+        Usage::Pattern(_) | Usage::Apply(_, _) | Usage::Each(_, _, _) => Ok(()),
     }
 }
 
-#[cycle(look_bodies)]
-fn looks_in_branches<'b>(
-    found: &mut Vec<&'b Path<'b>>,
-    branches: &'b [Branch<'b>],
+/// The move of a usage.
+pub(crate) fn moves_in_usage<'b>(
+    found: &mut Vec<Move<'b>>,
+    usage: &Usage<'b>,
 ) -> Result<(), NoMemory>
-    ensures { OnOk result ((rest : s.Branches) → looks found.new.items ++ n.looks_in_branches rest ≡ looks found.old.items ++ n.looks_in_branches (see.branches branches.now rest)) }
+    ensures { OnOk result ((modes : ℕ) → moves modes found.new.items ≡ moves modes found.old.items ++ moves_in_usage modes (see_usage usage.now)) }
 {
-    for branch in branches {
-        looks_in_test(found, &branch.test)?;
-        looks_in_body(found, branch.body)?;
+    match usage {
+        Usage::Apply(path, mode) => add_move(found, path, Job::Mode(*mode)),
+        Usage::Each(each, path, _) => add_move(found, path, Job::Each(*each)),
+        Usage::Pattern(_) | Usage::Test(_) | Usage::Value(_) => Ok(()),
     }
-    Ok(())
 }
 
 fn add_move<'b>(found: &mut Vec<Move<'b>>, path: &'b Path<'b>, job: Job) -> Result<(), NoMemory>
     ensures { OnOk result ((modes : ℕ) → moves modes found.new.items ≡ moves modes found.old.items ++ record { path = see.path path.now; mode = mode_of modes job } ∷ []) }
 {
     found.push(Move { path, job })?;
-    Ok(())
-}
-
-/// The moves of a body.
-#[cycle(move_bodies)]
-pub(crate) fn moves_in_body<'b>(
-    found: &mut Vec<Move<'b>>,
-    body: &'b [Instr<'b>],
-) -> Result<(), NoMemory>
-    ensures { OnOk result ((modes : ℕ) → moves modes found.new.items ≡ moves modes found.old.items ++ n.moves_in_body modes (see.body body.now)) }
-{
-    for instruction in body {
-        moves_in_instruction(found, instruction)?;
-    }
-    Ok(())
-}
-
-#[cycle(move_bodies)]
-#[tactic(auto, using(tc_model::proofs::ViewsBody::see_instruction))]
-fn moves_in_instruction<'b>(
-    found: &mut Vec<Move<'b>>,
-    instruction: &'b Instr<'b>,
-) -> Result<(), NoMemory>
-    ensures { OnOk result ((modes : ℕ) (rest : s.Body) → moves modes found.new.items ++ n.moves_in_body modes rest ≡ moves modes found.old.items ++ n.moves_in_body modes (see.instruction instruction.now rest)) }
-{
-    match instruction {
-        Instr::Text(_) | Instr::Call(_) | Instr::ValueOf(_) | Instr::ValueOfSelf => Ok(()),
-        Instr::Elem(_, body) => moves_in_body(found, body),
-        Instr::Copy(body) => moves_in_body(found, body),
-        Instr::Apply(path, mode) => add_move(found, path, Job::Mode(*mode)),
-        Instr::Choose(branches, otherwise) => {
-            moves_in_branches(found, branches)?;
-            moves_in_body(found, otherwise)
-        }
-        Instr::ForEach(each, path, body) => {
-            add_move(found, path, Job::Each(*each))?;
-            moves_in_body(found, body)
-        }
-    }
-}
-
-#[cycle(move_bodies)]
-fn moves_in_branches<'b>(
-    found: &mut Vec<Move<'b>>,
-    branches: &'b [Branch<'b>],
-) -> Result<(), NoMemory>
-    ensures { OnOk result ((modes : ℕ) (rest : s.Branches) → moves modes found.new.items ++ n.moves_in_branches modes rest ≡ moves modes found.old.items ++ n.moves_in_branches modes (see.branches branches.now rest)) }
-{
-    for branch in branches {
-        moves_in_body(found, branch.body)?;
-    }
     Ok(())
 }
 
@@ -309,56 +271,15 @@ fn add_each<'b>(
     Ok(())
 }
 
-/// The for-eaches of a body, at any depth.
-#[cycle(each_bodies)]
-pub(crate) fn eaches_in_body<'b>(
+/// The for-each of a usage.
+pub(crate) fn eaches_in_usage<'b>(
     found: &mut Vec<Each<'b>>,
-    body: &'b [Instr<'b>],
+    usage: &Usage<'b>,
 ) -> Result<(), NoMemory>
-    ensures { OnOk result (eaches found.new.items ≡ eaches found.old.items ++ bodies_in (see.body body.now)) }
+    ensures { OnOk result (eaches found.new.items ≡ eaches found.old.items ++ eaches_in_usage (see_usage usage.now)) }
 {
-    for instruction in body {
-        eaches_in_instruction(found, instruction)?;
+    match usage {
+        Usage::Each(each, _, body) => add_each(found, *each, body),
+        Usage::Pattern(_) | Usage::Test(_) | Usage::Value(_) | Usage::Apply(_, _) => Ok(()),
     }
-    Ok(())
-}
-
-#[cycle(each_bodies)]
-#[tactic(auto, using(tc_model::proofs::ViewsBody::see_instruction))]
-fn eaches_in_instruction<'b>(
-    found: &mut Vec<Each<'b>>,
-    instruction: &'b Instr<'b>,
-) -> Result<(), NoMemory>
-    ensures { OnOk result ((rest : s.Body) → eaches found.new.items ++ bodies_in rest ≡ eaches found.old.items ++ bodies_in (see.instruction instruction.now rest)) }
-{
-    match instruction {
-        Instr::Text(_)
-        | Instr::Call(_)
-        | Instr::ValueOf(_)
-        | Instr::ValueOfSelf
-        | Instr::Apply(_, _) => Ok(()),
-        Instr::Elem(_, body) => eaches_in_body(found, body),
-        Instr::Copy(body) => eaches_in_body(found, body),
-        Instr::Choose(branches, otherwise) => {
-            eaches_in_branches(found, branches)?;
-            eaches_in_body(found, otherwise)
-        }
-        Instr::ForEach(each, _, body) => {
-            add_each(found, *each, body)?;
-            eaches_in_body(found, body)
-        }
-    }
-}
-
-#[cycle(each_bodies)]
-fn eaches_in_branches<'b>(
-    found: &mut Vec<Each<'b>>,
-    branches: &'b [Branch<'b>],
-) -> Result<(), NoMemory>
-    ensures { OnOk result ((rest : s.Branches) → eaches found.new.items ++ bodies_in_branches rest ≡ eaches found.old.items ++ bodies_in_branches (see.branches branches.now rest)) }
-{
-    for branch in branches {
-        eaches_in_body(found, branch.body)?;
-    }
-    Ok(())
 }

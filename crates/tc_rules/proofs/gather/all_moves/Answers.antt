@@ -9,5 +9,5 @@ pub returns-clause-jobs : goal.returns-clause-jobs
 returns-clause-jobs c =
     then_if_ok c.moves_once.result _ _
     (λ v h. h (see.sheet c.args.sheet.now)
-    (subst (λ (ms : List Move). AreJobs (see.sheet c.args.sheet.now) ms) (sym c.deref.ensures.value) (found_jobs (see.sheet c.args.sheet.now) c.requires c.in_ok-found.found.items c.in_ok-found.ensures)))
+    (subst (λ (ms : List Move). AreJobs (see.sheet c.args.sheet.now) ms) (sym c.deref.ensures.value) (found_jobs (see.sheet c.args.sheet.now) c.requires.sheet c.in_ok-found.found.items c.in_ok-found.ensures)))
     c.moves_once.ensures.jobs

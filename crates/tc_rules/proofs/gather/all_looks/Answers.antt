@@ -1,0 +1,20 @@
+use Rattle.std.proofs.Common.{List, [], ◌∙◌, ◌++◌, ap, flat_map}
+use Rattle.std.specs.Borrow.{Bor}
+use Rattle.tc_model.specs.Numbered.{each_once}
+use Rattle.tc_model.specs.Numberings.{looks_in_test}
+use Rattle.tc_model.specs.SameTests.{same_path}
+use Rattle.tc_model.specs.declared.sheet.Path.{Path}
+use Rattle.tc_rules.specs.Usages.{looks_in_usage}
+use Rattle.tc_rules.specs.Views.{looks, predicates, usages}
+use Rattle.tc_rules.proofs.JobsOf.{then_if_ok}
+use Rattle.tc_rules.proofs.UsagesOf.{looks_are}
+use Rattle.tc_rules.proofs.gather.all_looks.Goals as goal
+
+pub returns : goal.returns
+returns c =
+    then_if_ok c.looks_once.result _ _
+    (λ v h x e f.
+    h ∙ (ap (λ (ps : List (Bor Path)). each_once same_path (looks ps)) c.deref.ensures.value
+    ∙ (ap (each_once same_path) (c.in_ok-looks_of_tests.ensures ∙ ap (λ w. w ++ flat_map looks_in_test (predicates c.args.numbered.now)) (c.in_ok-looks_of_usages.ensures ∙ ap (λ (ps : List (Bor Path)). looks ps ++ flat_map looks_in_usage (usages c.args.used.now)) c.new-found.ensures.items))
+    ∙ looks_are x (usages c.args.used.now) (predicates c.args.numbered.now) e f)))
+    c.looks_once.ensures
