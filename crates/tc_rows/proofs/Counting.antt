@@ -1,11 +1,12 @@
 -- Counts are one, and lists that hold each row once tell them.
-use Rattle.std.proofs.Common.{◌≡◌, ◌↔◌, ◌⊎◌, inl, inr, ℕ, zero, suc, ◌+◌, ◌<◌, ◌≤◌, List, [], ◌∷◌, refl, ap, ◌∙◌, sym, subst, length, Some, slice_get, Contains, All, arith}
-use Rattle.std.proofs.lemmas.Option.{same_Some}
+use Rattle.std.proofs.Common.{Contains, ◌≡◌, ◌↔◌, inl, inr, ℕ, suc, ◌<◌, ◌≤◌, List, [], ◌∷◌, refl, ap, ◌∙◌, sym, length, Some, slice_get, arith}
 use Rattle.std.proofs.lemmas.List.Elements.{All-contains}
 use Rattle.tc_alpha.proofs.Members.{Has, has_from_contains, contains_from_has, every_from_members, all_from_every}
 use Rattle.tc_rows.specs.Triples.{Triple, IsTriple}
 use Rattle.tc_rows.specs.Counts.{AreDifferent, Counts, Pass, IsRowOfLiveTree, IsRowOfLiveHedge, IsOutput}
-use Rattle.tc_rows.specs.CountLaws.{CountsTell, ListsTell, RowsAreCounted}
+use Rattle.tc_rows.specs.Rows.{HedgeRow, TreeRow}
+use Rattle.tc_rows.specs.Derivations.{HedgeFrom, TreeFrom}
+use Rattle.tc_rows.specs.CountLaws.{CountsTell, ListsTell, SetsTell, SomePass, RowsAreCounted}
 use Rattle.tc_rows.proofs.AllLaws.{rows_are_lawful}
 use Rattle.tc_rows.proofs.Derived.{all_listed, are_exact}
 
@@ -86,5 +87,44 @@ lists_tell x is trees hedges closed a b from_trees from_hedges =
       },
     )
 
+sets_tell : (x : Triple) → IsTriple x → SetsTell x
+sets_tell x is trees hedges sets closed from_trees from_hedges different are =
+    let laws = rows_are_lawful x is in
+    let (all_trees, all_hedges) = all_listed x laws trees hedges closed in
+    let exact = are_exact x laws in
+    record {
+      all = sets;
+      different = different;
+      each = λ pairs o. (are pairs).1 (elim o [ inl (r, (t, l, row), there) ↦ inl (r, all_trees t r l row, there) | inr (r, (h, l, row), there) ↦ inr (r, all_hedges h r l row, there) ]);
+      no_other = λ pairs c. elim ((are pairs).0 c) [
+        | inl (r, listed, there) ↦ let (n, d) = from_trees r listed in let (t, l, row, count) = (exact.trees r n).0 d in inl (r, (t, l, row), there)
+        | inr (r, listed, there) ↦ let (n, d) = from_hedges r listed in let (h, l, row, count) = (exact.hedges r n).0 d in inr (r, (h, l, row), there)
+      ];
+      count = refl;
+    }
+
+some_pass : (x : Triple) → IsTriple x → SomePass x
+some_pass x is = (trees, hedges)
+  where
+    trees : (rows : List TreeRow) (most : ℕ) → AreDifferent rows → ((r : TreeRow) → Contains rows r → (n : ℕ) × TreeFrom x r n) → most < length rows → Pass (IsRowOfLiveTree x) most
+    trees rows most different comes more = record {
+      some = rows;
+      different = different;
+      each = all_from_every (IsRowOfLiveTree x) rows
+          (every_from_members (IsRowOfLiveTree x) rows
+          (λ r h. let (n, d) = comes r (contains_from_has rows r h) in let (t, l, row, count) = ((are_exact x (rows_are_lawful x is)).trees r n).0 d in (t, l, row)));
+      more = more;
+    }
+
+    hedges : (rows : List HedgeRow) (most : ℕ) → AreDifferent rows → ((r : HedgeRow) → Contains rows r → (n : ℕ) × HedgeFrom x r n) → most < length rows → Pass (IsRowOfLiveHedge x) most
+    hedges rows most different comes more = record {
+      some = rows;
+      different = different;
+      each = all_from_every (IsRowOfLiveHedge x) rows
+          (every_from_members (IsRowOfLiveHedge x) rows
+          (λ r h. let (n, d) = comes r (contains_from_has rows r h) in let (k, l, row, count) = ((are_exact x (rows_are_lawful x is)).hedges r n).0 d in (k, l, row)));
+      more = more;
+    }
+
 pub rows_are_counted : RowsAreCounted
-rows_are_counted x is = (counts_tell (IsRowOfLiveTree x), counts_tell (IsRowOfLiveHedge x), counts_tell (IsOutput x), lists_tell x is)
+rows_are_counted x is = (counts_tell (IsRowOfLiveTree x), counts_tell (IsRowOfLiveHedge x), counts_tell (IsOutput x), lists_tell x is, sets_tell x is, some_pass x is)

@@ -1,5 +1,5 @@
 -- From the laws of rows alone: which rows come from rows, which lists of rows hold all, and what follows for safety.
-use Rattle.std.proofs.Common.{◌≡◌, ℕ, zero, suc, ◌+◌, ◌<◌, List, refl, ap, ◌∙◌, sym, subst, IsTrue, Contains, codes, arith}
+use Rattle.std.proofs.Common.{◌≡◌, ℕ, zero, suc, ◌+◌, ◌<◌, List, refl, ap, ◌∙◌, sym, subst, IsTrue, Contains, map, codes, arith}
 use Rattle.tc_model.specs.Trees.{Trees, none, text, element, beside, node_count, IsNormal}
 use Rattle.tc_model.specs.Chains.{Tree, an_element, a_text}
 use Rattle.tc_model.specs.TreesApart.{alone, followed_by, FromBack, is_none, is_followed}
@@ -12,7 +12,7 @@ use Rattle.tc_rows.specs.Rows.{HedgeRow, TreeRow, IsRowOfHedge, IsRowOfTree}
 use Rattle.tc_rows.specs.Arithmetic.{IsWrap, IsLiveWrap, is_admitted, IsPassing}
 use Rattle.tc_rows.specs.Laws.{RowLaws}
 use Rattle.tc_rows.specs.Derivations.{HedgeFrom, TreeFrom, from_none, from_append, from_text, from_wrap, ArePlain, IsRowOfPlain, IsFailing, AreExact, DerivationsAreExact}
-use Rattle.tc_rows.specs.Certificates.{AreClosed, AreCertified, ClosedHoldAll, CertifiedIsSafe}
+use Rattle.tc_rows.specs.Certificates.{AreClosed, AreCertified, tree_of, hedge_of, ClosedHoldAll, CertifiedIsSafe, CertificateIsSafe}
 use Rattle.tc_rows.proofs.Live.{some_node}
 use Rattle.tc_rows.proofs.AllLaws.{rows_are_lawful}
 
@@ -170,3 +170,6 @@ closed_hold_all x is trees hedges closed = all_listed x (rows_are_lawful x is) t
 
 pub certified_is_safe : CertifiedIsSafe
 certified_is_safe x is trees hedges c = certified_safe x (rows_are_lawful x is) trees hedges c
+
+pub certificate_is_safe : CertificateIsSafe
+certificate_is_safe x is outputs trees hedges c = certified_is_safe x is (map (tree_of outputs) trees) (map (hedge_of outputs) hedges) c.certified

@@ -1,5 +1,5 @@
 -- Counts are one, and lists that hold each row once tell them.
-use Rattle.std.specs.Prelude.{◌≡◌, ◌<◌, ◌↔◌, ℕ, List, length, Contains}
+use Rattle.std.specs.Prelude.{◌≡◌, ◌<◌, ◌↔◌, ◌⊎◌, ℕ, List, length, Contains}
 use Rattle.tc_rows.specs.Triples.{Triple, IsTriple}
 use Rattle.tc_rows.specs.Rows.{HedgeRow, TreeRow}
 use Rattle.tc_rows.specs.Counts.{AreDifferent, Counts, Pass, IsRowOfLiveTree, IsRowOfLiveHedge, IsOutput}
@@ -17,5 +17,23 @@ ListsTell x =
     → ((r : TreeRow) → Contains trees r → (n : ℕ) × TreeFrom x r n) → ((r : HedgeRow) → Contains hedges r → (n : ℕ) × HedgeFrom x r n)
     → Counts (IsRowOfLiveTree x) (length trees) × Counts (IsRowOfLiveHedge x) (length hedges)
 
+-- a set of pairs stands in a listed row
+abbrev pub IsSetIn : List TreeRow → List HedgeRow → List (ℕ × ℕ) → Type 0
+IsSetIn trees hedges pairs = ((r : TreeRow) × Contains trees r × Contains r.entries pairs) ⊎ ((r : HedgeRow) × Contains hedges r × Contains r.entries pairs)
+
+-- and a list without repeats of the sets in them is as long as there are sets
+abbrev pub SetsTell : Triple → Type 0
+SetsTell x =
+    (trees : List TreeRow) (hedges : List HedgeRow) (sets : List (List (ℕ × ℕ))) → AreClosed x trees hedges
+    → ((r : TreeRow) → Contains trees r → (n : ℕ) × TreeFrom x r n) → ((r : HedgeRow) → Contains hedges r → (n : ℕ) × HedgeFrom x r n)
+    → AreDifferent sets → ((pairs : List (ℕ × ℕ)) → Contains sets pairs ↔ IsSetIn trees hedges pairs)
+    → Counts (IsOutput x) (length sets)
+
+-- rows that come from rows pass a number where more than so many of them are different, be there further ones or not
+abbrev pub SomePass : Triple → Type 0
+SomePass x =
+    ((trees : List TreeRow) (most : ℕ) → AreDifferent trees → ((r : TreeRow) → Contains trees r → (n : ℕ) × TreeFrom x r n) → most < length trees → Pass (IsRowOfLiveTree x) most)
+    × ((hedges : List HedgeRow) (most : ℕ) → AreDifferent hedges → ((r : HedgeRow) → Contains hedges r → (n : ℕ) × HedgeFrom x r n) → most < length hedges → Pass (IsRowOfLiveHedge x) most)
+
 abbrev pub RowsAreCounted : Type 0
-RowsAreCounted = (x : Triple) → IsTriple x → CountsTell (IsRowOfLiveTree x) × CountsTell (IsRowOfLiveHedge x) × CountsTell (IsOutput x) × ListsTell x
+RowsAreCounted = (x : Triple) → IsTriple x → CountsTell (IsRowOfLiveTree x) × CountsTell (IsRowOfLiveHedge x) × CountsTell (IsOutput x) × ListsTell x × SetsTell x × SomePass x

@@ -1,6 +1,6 @@
 // What is proved of rows.
 ghost use Rattle.tc_rows.specs.Alike.{AlikeWrapAlike};
-ghost use Rattle.tc_rows.specs.Certificates.{CertifiedIsSafe, ClosedHoldAll};
+ghost use Rattle.tc_rows.specs.Certificates.{CertificateIsSafe, CertifiedIsSafe, ClosedHoldAll};
 ghost use Rattle.tc_rows.specs.CountLaws.{RowsAreCounted};
 ghost use Rattle.tc_rows.specs.Derivations.{DerivationsAreExact};
 ghost use Rattle.tc_rows.specs.Laws.{RowsAreLawful};
@@ -31,6 +31,7 @@ pub fn law_of_derivations()
 pub fn law_of_closed_rows()
     ensures all { ClosedHoldAll }
     ensures safe { CertifiedIsSafe }
+    ensures certificate { CertificateIsSafe }
 {}
 
 /// The law of counts: there are so many rows of live trees, of live lists of trees, and so many sets of pairs in them,

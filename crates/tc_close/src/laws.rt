@@ -1,0 +1,17 @@
+// What is proved of costs.
+ghost use Rattle.tc_close.specs.Least.{CostsAreLeast};
+ghost use Rattle.tc_close.specs.Settling.{CostByCost};
+
+/// The law of least costs: the least cost of a row is the least number of nodes of its live trees, and what costs
+/// least comes from what costs least. A row that fails at the least cost of all that fail shows a counterexample with
+/// the fewest nodes of all.
+pub fn law_of_least_costs()
+    ensures { CostsAreLeast }
+{}
+
+/// The law of settling cost by cost: where all that is to be tried at a cost is listed there or before, what comes at
+/// costs so far is listed, each row at its least cost; and where the greatest costs of what is listed can't make up a
+/// further one, all is listed.
+pub fn law_of_settling()
+    ensures { CostByCost }
+{}
