@@ -12,17 +12,17 @@ use Rattle.tc_auto.specs.Stands as held
 use Rattle.tc_auto.specs.declared.auto.Auto.{Auto}
 use Rattle.tc_hedge.specs.Memos.{Enters, HasNumbers, HasStates, PassesElement, PassesText, PassesTrees}
 use Rattle.tc_hedge.specs.Sets.{IsMade, IsReached, Makes, Runs}
-use Rattle.tc_hedge.specs.declared.keys.Inside.{Inside}
-use Rattle.tc_hedge.specs.declared.keys.Passing.{Passing}
+use Rattle.tc_hedge.specs.declared.keys.Entered.{Entered}
+use Rattle.tc_hedge.specs.declared.keys.LeaveKey.{LeaveKey}
 use Rattle.tc_hedge.proofs.Remembered.{one_set}
 use Rattle.tc_hedge.proofs.SetsRuns.{all_run, element_stepped, matched_told, no_tree_run, text_stepped, tree_run}
 
 module _ (a : Auto) (sets : List (List ℕ)) where
   -- the sets of numbers that were told
-  pub inside_numbers : (i : ℕ) (n : ExpandedName) (w : Inside) → Enters a sets i n w → HasNumbers a sets w.numbers
+  pub inside_numbers : (i : ℕ) (n : ExpandedName) (w : Entered) → Enters a sets i n w → HasNumbers a sets w.numbers
   inside_numbers i n w e = (e.numbers, e.numbers_at, e.within)
 
-  pub inside_states : (i : ℕ) (n : ExpandedName) (w : Inside) → Enters a sets i n w → HasStates a sets w.first
+  pub inside_states : (i : ℕ) (n : ExpandedName) (w : Entered) → Enters a sets i n w → HasStates a sets w.first
   inside_states i n w e = (e.first, e.first_at, e.below)
 
   pub trees_states : (i : ℕ) (h : Trees) (j : ℕ) → PassesTrees a sets i h j → HasStates a sets j
@@ -39,7 +39,7 @@ module _ (a : Auto) (sets : List (List ℕ)) where
   }
 
   -- an element, by the step into it, its children and the step over it
-  pub element_passed : (i : ℕ) (n : ExpandedName) (w : Inside) (c : Trees) (e : ℕ) (p : Passing) (j : ℕ) → p.from ≡ i → p.numbers ≡ w.numbers → p.ends ≡ e
+  pub element_passed : (i : ℕ) (n : ExpandedName) (w : Entered) (c : Trees) (e : ℕ) (p : LeaveKey) (j : ℕ) → p.from ≡ i → p.numbers ≡ w.numbers → p.ends ≡ e
       → Enters a sets i n w → PassesTrees a sets w.first c e → PassesElement a sets p j → PassesTrees a sets i (element n c none) j
   element_passed i n w c e p j at_from at_numbers at_ends enters kids over = record {
     from = enters.from;

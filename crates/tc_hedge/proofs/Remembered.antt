@@ -12,18 +12,18 @@ use Rattle.tc_model.specs.Views as see
 use Rattle.tc_model.specs.Trees.{Trees}
 use Rattle.tc_auto.specs.declared.auto.Auto.{Auto}
 use Rattle.tc_hedge.specs.Known.{Knows}
-use Rattle.tc_hedge.specs.Memos.{Enters, Grown, HasNumbers, HasStates, PassesElement, PassesText, PassesTrees, same_entry, same_passing}
+use Rattle.tc_hedge.specs.Memos.{Enters, Grown, HasNumbers, HasStates, PassesElement, PassesText, PassesTrees, same_enter_key, same_leave_key}
 use Rattle.tc_hedge.specs.Sets.{AreBelow, AreNumbers, IsMade}
-use Rattle.tc_hedge.specs.declared.keys.Entry.{Entry}
-use Rattle.tc_hedge.specs.declared.keys.Inside.{Inside}
-use Rattle.tc_hedge.specs.declared.keys.Passing.{Passing}
+use Rattle.tc_hedge.specs.declared.keys.EnterKey.{EnterKey}
+use Rattle.tc_hedge.specs.declared.keys.Entered.{Entered}
+use Rattle.tc_hedge.specs.declared.keys.LeaveKey.{LeaveKey}
 use Rattle.tc_hedge.specs.declared.memo.Memo.{Memo}
 
 -- keys that are equal as lists are one list
 pub same_numbers : (xs ys : List ℕ) → pointwise nat_eq xs ys ≡ true → xs ≡ ys
 same_numbers xs ys e = (bytes_decides xs ys).0 e
 
-pub same_passings : (p q : Passing) → same_passing p q ≡ true → p ≡ q
+pub same_passings : (p q : LeaveKey) → same_leave_key p q ≡ true → p ≡ q
 same_passings p q e =
     let (ab, c) = and_parts (nat_eq p.from q.from && nat_eq p.numbers q.numbers) (nat_eq p.ends q.ends) e in
     let (a, b) = and_parts (nat_eq p.from q.from) (nat_eq p.numbers q.numbers) ab in
@@ -32,11 +32,11 @@ same_passings p q e =
     let ends = eqb-true p.ends q.ends c in
     ap (λ w. passing w p.numbers p.ends) from ∙ (ap (λ w. passing q.from w p.ends) numbers ∙ ap (λ w. passing q.from q.numbers w) ends)
   where
-    passing : ℕ → ℕ → ℕ → Passing
+    passing : ℕ → ℕ → ℕ → LeaveKey
     passing f n e = record { from = f; numbers = n; ends = e }
 
 -- entries that are equal begin at one set, with one name
-pub same_entries : (e f : Entry) → same_entry e f ≡ true → (e.from ≡ f.from) × (see.name e.name ≡ see.name f.name)
+pub same_entries : (e f : EnterKey) → same_enter_key e f ≡ true → (e.from ≡ f.from) × (see.name e.name ≡ see.name f.name)
 same_entries e f is =
     let (ab, c) = and_parts (nat_eq e.from f.from && pointwise nat_eq e.name.uri.now f.name.uri.now) (pointwise nat_eq e.name.local.now f.name.local.now) is in
     let (a, b) = and_parts (nat_eq e.from f.from) (pointwise nat_eq e.name.uri.now f.name.uri.now) ab in
@@ -85,11 +85,11 @@ none_known : {V : Type 0} (o : Option V) (v : V) → o ≡ None → o ≡ Some v
 none_known o v none some = cc
 
 -- nothing is kept yet
-pub knows_nothing : (a : Auto) (m : Memo) → ((i : ℕ) → get nat_eq m.texts i ≡ None) → ((e : Entry) → get same_entry m.entries e ≡ None) → ((p : Passing) → get same_passing m.passings p ≡ None) → Knows a m
+pub knows_nothing : (a : Auto) (m : Memo) → ((i : ℕ) → get nat_eq m.texts i ≡ None) → ((e : EnterKey) → get same_enter_key m.entries e ≡ None) → ((p : LeaveKey) → get same_leave_key m.passings p ≡ None) → Knows a m
 knows_nothing a m f g h = record {
   texts = λ i j at. absurd (none_known (get nat_eq m.texts i) j (f i) at);
-  entries = λ e w at. absurd (none_known (get same_entry m.entries e) w (g e) at);
-  passings = λ p j at. absurd (none_known (get same_passing m.passings p) j (h p) at);
+  entries = λ e w at. absurd (none_known (get same_enter_key m.entries e) w (g e) at);
+  passings = λ p j at. absurd (none_known (get same_leave_key m.passings p) j (h p) at);
 }
 
 -- what was worked out stays true of more sets
@@ -104,7 +104,7 @@ module _ (a : Auto) (old new : List (List ℕ)) (grown : Grown old new) where
     made = p.made;
   }
 
-  pub entry_grown : (i : ℕ) (n : ExpandedName) (w : Inside) → Enters a old i n w → Enters a new i n w
+  pub entry_grown : (i : ℕ) (n : ExpandedName) (w : Entered) → Enters a old i n w → Enters a new i n w
   entry_grown i n w p = record {
     from = p.from;
     numbers = p.numbers;
@@ -118,7 +118,7 @@ module _ (a : Auto) (old new : List (List ℕ)) (grown : Grown old new) where
     begins = p.begins;
   }
 
-  pub passing_grown : (q : Passing) (j : ℕ) → PassesElement a old q j → PassesElement a new q j
+  pub passing_grown : (q : LeaveKey) (j : ℕ) → PassesElement a old q j → PassesElement a new q j
   passing_grown q j p = record {
     from = p.from;
     numbers = p.numbers;
@@ -148,49 +148,49 @@ module _ (a : Auto) (old new : List (List ℕ)) (grown : Grown old new) where
   pub numbers_grown : (i : ℕ) → HasNumbers a old i → HasNumbers a new i
   numbers_grown i (xs, at, within) = (xs, grown i xs at, within)
 
-entry_of : (a : Auto) (sets : List (List ℕ)) (e f : Entry) (w : Inside) → same_entry e f ≡ true → Enters a sets e.from (see.name e.name) w → Enters a sets f.from (see.name f.name) w
+entry_of : (a : Auto) (sets : List (List ℕ)) (e f : EnterKey) (w : Entered) → same_enter_key e f ≡ true → Enters a sets e.from (see.name e.name) w → Enters a sets f.from (see.name f.name) w
 entry_of a sets e f w is p = let (from, name) = same_entries e f is in subst (λ i. Enters a sets i (see.name f.name) w) from (subst (λ (n : ExpandedName). Enters a sets e.from n w) name p)
 
 module _ (a : Auto) (old new : Memo) (grown : Grown old.sets.keys new.sets.keys) (knows : Knows a old) where
   texts_kept : (i j : ℕ) → get nat_eq old.texts i ≡ Some j → PassesText a new.sets.keys i j
   texts_kept i j at = text_grown a old.sets.keys new.sets.keys grown i j (knows.texts i j at)
 
-  entries_kept : (e : Entry) (w : Inside) → get same_entry old.entries e ≡ Some w → Enters a new.sets.keys e.from (see.name e.name) w
+  entries_kept : (e : EnterKey) (w : Entered) → get same_enter_key old.entries e ≡ Some w → Enters a new.sets.keys e.from (see.name e.name) w
   entries_kept e w at = entry_grown a old.sets.keys new.sets.keys grown e.from (see.name e.name) w (knows.entries e w at)
 
-  passings_kept : (p : Passing) (j : ℕ) → get same_passing old.passings p ≡ Some j → PassesElement a new.sets.keys p j
+  passings_kept : (p : LeaveKey) (j : ℕ) → get same_leave_key old.passings p ≡ Some j → PassesElement a new.sets.keys p j
   passings_kept p j at = passing_grown a old.sets.keys new.sets.keys grown p j (knows.passings p j at)
 
   -- nothing more is kept
   pub knows_grown : new.texts ≡ old.texts → new.entries ≡ old.entries → new.passings ≡ old.passings → Knows a new
   knows_grown f g h = record {
     texts = λ i j at. texts_kept i j (sym (ap (λ m. get nat_eq m i) f) ∙ at);
-    entries = λ e w at. entries_kept e w (sym (ap (λ m. get same_entry m e) g) ∙ at);
-    passings = λ p j at. passings_kept p j (sym (ap (λ m. get same_passing m p) h) ∙ at);
+    entries = λ e w at. entries_kept e w (sym (ap (λ m. get same_enter_key m e) g) ∙ at);
+    passings = λ p j at. passings_kept p j (sym (ap (λ m. get same_leave_key m p) h) ∙ at);
   }
 
   -- a text more
   pub knows_text : (i j : ℕ) → Updates nat_eq old.texts new.texts i (Some j) → new.entries ≡ old.entries → new.passings ≡ old.passings → PassesText a new.sets.keys i j → Knows a new
   knows_text i j u g h here = record {
     texts = known_more nat_eq old.texts new.texts i j (λ i j. PassesText a new.sets.keys i j) (λ q w is p. subst (λ y. PassesText a new.sets.keys y w) (eqb-true i q is) p) texts_kept u here;
-    entries = λ e w at. entries_kept e w (sym (ap (λ m. get same_entry m e) g) ∙ at);
-    passings = λ p j at. passings_kept p j (sym (ap (λ m. get same_passing m p) h) ∙ at);
+    entries = λ e w at. entries_kept e w (sym (ap (λ m. get same_enter_key m e) g) ∙ at);
+    passings = λ p j at. passings_kept p j (sym (ap (λ m. get same_leave_key m p) h) ∙ at);
   }
 
   -- an entry more
-  pub knows_entry : (e : Entry) (w : Inside) → Updates same_entry old.entries new.entries e (Some w) → new.texts ≡ old.texts → new.passings ≡ old.passings → Enters a new.sets.keys e.from (see.name e.name) w → Knows a new
+  pub knows_entry : (e : EnterKey) (w : Entered) → Updates same_enter_key old.entries new.entries e (Some w) → new.texts ≡ old.texts → new.passings ≡ old.passings → Enters a new.sets.keys e.from (see.name e.name) w → Knows a new
   knows_entry e w u f h here = record {
     texts = λ i j at. texts_kept i j (sym (ap (λ m. get nat_eq m i) f) ∙ at);
-    entries = known_more same_entry old.entries new.entries e w (λ (d : Entry) (y : Inside). Enters a new.sets.keys d.from (see.name d.name) y) (λ d y is p. entry_of a new.sets.keys e d y is p) entries_kept u here;
-    passings = λ p j at. passings_kept p j (sym (ap (λ m. get same_passing m p) h) ∙ at);
+    entries = known_more same_enter_key old.entries new.entries e w (λ (d : EnterKey) (y : Entered). Enters a new.sets.keys d.from (see.name d.name) y) (λ d y is p. entry_of a new.sets.keys e d y is p) entries_kept u here;
+    passings = λ p j at. passings_kept p j (sym (ap (λ m. get same_leave_key m p) h) ∙ at);
   }
 
   -- a passing more
-  pub knows_passing : (p : Passing) (j : ℕ) → Updates same_passing old.passings new.passings p (Some j) → new.texts ≡ old.texts → new.entries ≡ old.entries → PassesElement a new.sets.keys p j → Knows a new
+  pub knows_passing : (p : LeaveKey) (j : ℕ) → Updates same_leave_key old.passings new.passings p (Some j) → new.texts ≡ old.texts → new.entries ≡ old.entries → PassesElement a new.sets.keys p j → Knows a new
   knows_passing p j u f g here = record {
     texts = λ i j at. texts_kept i j (sym (ap (λ m. get nat_eq m i) f) ∙ at);
-    entries = λ e w at. entries_kept e w (sym (ap (λ m. get same_entry m e) g) ∙ at);
-    passings = known_more same_passing old.passings new.passings p j (λ (d : Passing) (y : ℕ). PassesElement a new.sets.keys d y) (λ d y is q. subst (λ (w : Passing). PassesElement a new.sets.keys w y) (same_passings p d is) q) passings_kept u here;
+    entries = λ e w at. entries_kept e w (sym (ap (λ m. get same_enter_key m e) g) ∙ at);
+    passings = known_more same_leave_key old.passings new.passings p j (λ (d : LeaveKey) (y : ℕ). PassesElement a new.sets.keys d y) (λ d y is q. subst (λ (w : LeaveKey). PassesElement a new.sets.keys w y) (same_passings p d is) q) passings_kept u here;
   }
 
 -- the set of a number is the one that was lent

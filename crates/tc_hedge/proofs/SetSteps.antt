@@ -18,7 +18,7 @@ use Rattle.tc_auto.specs.declared.auto.Leaf as leaves
 use Rattle.tc_auto.specs.declared.auto.Leaf.TheVariants.{Text, Ref}
 use Rattle.tc_hedge.specs.Items.{IsOfSomeSchema}
 use Rattle.tc_hedge.specs.Sets.{Grows, IsMade, IsNamed, Leaves, Makes, Passes, Steps}
-use Rattle.tc_hedge.specs.declared.passages.Passage.{Passage}
+use Rattle.tc_hedge.specs.declared.children.Child.{Child}
 use Rattle.tc_hedge.proofs.Bounds.{states_of}
 use Rattle.tc_hedge.proofs.Leading.{first_below}
 use Rattle.tc_hedge.proofs.Puts.{code_leaf, some_pattern}
@@ -57,12 +57,12 @@ map_put f xs i n m low is start old new so_far pushed at =
     gather (λ k j. j ≡ f k) xs i 0 n low is start old new so_far (grows_as old new (λ j. j ≡ m) (λ j. j ≡ f n) (grows_push old new m pushed) (λ j same. same ∙ at) (λ j same. same ∙ sym at))
 
 module _ (xs : List Edge) (i : ℕ) (d e : Edge) (low : i < length xs) (is : e ≡ get_or xs i d) (start old new : List ℕ) where
-  pub edge_put : (passage : Passage) → Grows start old (Makes (λ (y : Edge) (j : ℕ). Passes passage (leaf y.leaf) × (j ≡ y.to)) (take i xs)) → Grows old new (λ j. j ≡ e.to) → Passes passage (leaf e.leaf)
+  pub edge_put : (passage : Child) → Grows start old (Makes (λ (y : Edge) (j : ℕ). Passes passage (leaf y.leaf) × (j ≡ y.to)) (take i xs)) → Grows old new (λ j. j ≡ e.to) → Passes passage (leaf e.leaf)
       → Grows start new (Makes (λ (y : Edge) (j : ℕ). Passes passage (leaf y.leaf) × (j ≡ y.to)) (take (i + 1) xs))
   edge_put passage so_far put p =
       gather (λ (y : Edge) (j : ℕ). Passes passage (leaf y.leaf) × (j ≡ y.to)) xs i d e low is start old new so_far (grows_as old new (λ j. j ≡ e.to) (λ j. Passes passage (leaf e.leaf) × (j ≡ e.to)) put (λ j same. (p, same)) (λ j h. h.1))
 
-  pub edge_skip : (passage : Passage) → Grows start old (Makes (λ (y : Edge) (j : ℕ). Passes passage (leaf y.leaf) × (j ≡ y.to)) (take i xs)) → new ≡ old → (Passes passage (leaf e.leaf) → ⊥)
+  pub edge_skip : (passage : Child) → Grows start old (Makes (λ (y : Edge) (j : ℕ). Passes passage (leaf y.leaf) × (j ≡ y.to)) (take i xs)) → new ≡ old → (Passes passage (leaf e.leaf) → ⊥)
       → Grows start new (Makes (λ (y : Edge) (j : ℕ). Passes passage (leaf y.leaf) × (j ≡ y.to)) (take (i + 1) xs))
   edge_skip passage so_far same none =
       gather (λ (y : Edge) (j : ℕ). Passes passage (leaf y.leaf) × (j ≡ y.to)) xs i d e low is start old new so_far (grows_none old new (λ j. Passes passage (leaf e.leaf) × (j ≡ e.to)) same (λ j h. none h.0))
@@ -84,7 +84,7 @@ module _ (xs : List Edge) (i : ℕ) (d e : Edge) (low : i < length xs) (is : e �
       no_number j h = cc
 
 -- all edges of a state
-pub edges_put : (g : Grammar) (side : Side) (passage : Passage) (es : List Edge) (state i : ℕ) (start new : List ℕ) → length es ≤ i → ((e : Edge) → Contains es e ↔ IsEdge g side state (leaf e.leaf) e.to)
+pub edges_put : (g : Grammar) (side : Side) (passage : Child) (es : List Edge) (state i : ℕ) (start new : List ℕ) → length es ≤ i → ((e : Edge) → Contains es e ↔ IsEdge g side state (leaf e.leaf) e.to)
     → Grows start new (Makes (λ (y : Edge) (j : ℕ). Passes passage (leaf y.leaf) × (j ≡ y.to)) (take i es)) → Grows start new (Steps g side passage state)
 edges_put g side passage es state i start new all exact grows =
     grows_as start new (Makes (λ (y : Edge) (j : ℕ). Passes passage (leaf y.leaf) × (j ≡ y.to)) es) (Steps g side passage state)

@@ -23,7 +23,7 @@ use Rattle.tc_auto.specs.Stands as held
 use Rattle.tc_auto.specs.declared.auto.Auto.{Auto}
 use Rattle.tc_model.specs.SimplifiesLaws.{IsStart, AreStarts}
 use Rattle.tc_hedge.specs.Sets.{AreNumbers, IsMade, IsMatched, IsNamed, IsReached, Leaves, Makes, Runs, Steps}
-use Rattle.tc_hedge.specs.declared.passages.Passage.TheVariants.{Text}
+use Rattle.tc_hedge.specs.declared.children.Child.TheVariants.{Text}
 use Rattle.tc_hedge.proofs.Leading.{run_of_none, run_of_text, run_of_element, stays}
 use Rattle.tc_hedge.proofs.Gathers.{contains_none}
 use Rattle.tc_hedge.proofs.Puts.{some_pattern}

@@ -10,10 +10,10 @@ use Rattle.tc_model.specs.States.{Side, Leaf, ref_leaf, IsEdge, first_state}
 use Rattle.tc_auto.specs.Stands as held
 use Rattle.tc_auto.specs.declared.auto.Auto.{Auto}
 use Rattle.tc_hedge.specs.Sets.{AreBelow, AreNumbers, IsMade, IsNamed, IsReached, Leaves, Makes, Runs, Steps}
-use Rattle.tc_hedge.specs.declared.passages.Passage.TheVariants.{Text}
-use Rattle.tc_hedge.specs.declared.keys.Entry.{Entry}
-use Rattle.tc_hedge.specs.declared.keys.Inside.{Inside}
-use Rattle.tc_hedge.specs.declared.keys.Passing.{Passing}
+use Rattle.tc_hedge.specs.declared.children.Child.TheVariants.{Text}
+use Rattle.tc_hedge.specs.declared.keys.EnterKey.{EnterKey}
+use Rattle.tc_hedge.specs.declared.keys.Entered.{Entered}
+use Rattle.tc_hedge.specs.declared.keys.LeaveKey.{LeaveKey}
 
 -- what stood at a number still does
 abbrev pub Grown : List (List ℕ) → List (List ℕ) → Type 0
@@ -21,11 +21,11 @@ Grown old new = (i : ℕ) (xs : List ℕ) → slice_get old i ≡ Some xs → sl
 
 -- the set of a number is one of states
 abbrev pub HasStates : Auto → List (List ℕ) → ℕ → Type 0
-HasStates a sets i = (xs : List ℕ) × (slice_get sets i ≡ Some xs) × AreBelow (length a.rows.items) xs
+HasStates a sets i = (xs : List ℕ) × (slice_get sets i ≡ Some xs) × AreBelow (held.states a) xs
 
 -- the set of a number is one of numbers of element patterns
 abbrev pub HasNumbers : Auto → List (List ℕ) → ℕ → Type 0
-HasNumbers a sets i = (xs : List ℕ) × (slice_get sets i ≡ Some xs) × AreNumbers (length a.elements.now) xs
+HasNumbers a sets i = (xs : List ℕ) × (slice_get sets i ≡ Some xs) × AreNumbers (held.patterns a) xs
 
 -- a text leads states to states
 pub record PassesText (a : Auto) (sets : List (List ℕ)) (i j : ℕ) : Type 0 where
@@ -33,20 +33,20 @@ pub record PassesText (a : Auto) (sets : List (List ℕ)) (i j : ℕ) : Type 0 w
   pub to : List ℕ
   pub from_at : slice_get sets i ≡ Some from
   pub to_at : slice_get sets j ≡ Some to
-  pub below : AreBelow (length a.rows.items) to
+  pub below : AreBelow (held.states a) to
   pub made : (side : Side) (x : Grammar) → held.Stands side x a → IsMade to (Makes (Steps x side Text) from)
 
 -- the element patterns that edges from states take and in whose classes a name is, and the first states of their contents
-pub record Enters (a : Auto) (sets : List (List ℕ)) (i : ℕ) (n : ExpandedName) (w : Inside) : Type 0 where
+pub record Enters (a : Auto) (sets : List (List ℕ)) (i : ℕ) (n : ExpandedName) (w : Entered) : Type 0 where
   pub from : List ℕ
   pub numbers : List ℕ
   pub first : List ℕ
   pub from_at : slice_get sets i ≡ Some from
   pub numbers_at : slice_get sets w.numbers ≡ Some numbers
   pub first_at : slice_get sets w.first ≡ Some first
-  pub within : AreNumbers (length a.elements.now) numbers
+  pub within : AreNumbers (held.patterns a) numbers
   pub named : (side : Side) (x : Grammar) → held.Stands side x a → IsMade numbers (λ k. Makes (Leaves x side) from k × IsNamed x n k)
-  pub below : AreBelow (length a.rows.items) first
+  pub below : AreBelow (held.states a) first
   pub begins : (side : Side) (x : Grammar) → held.Stands side x a → IsMade first (Makes (λ k m. m ≡ first_state x side k) numbers)
 
 -- edges lead states to states by those of some element patterns of whose content an accepting state is among some states
@@ -56,7 +56,7 @@ IsPassing x side from numbers ends to =
     × IsMade to (λ j. Makes (λ i m. (l : Leaf) × ((k : ℕ) × (l ≡ ref_leaf k) × Contains taken k) × IsEdge x side i l m) from j)
 
 -- an element leads states to states
-pub record PassesElement (a : Auto) (sets : List (List ℕ)) (p : Passing) (j : ℕ) : Type 0 where
+pub record PassesElement (a : Auto) (sets : List (List ℕ)) (p : LeaveKey) (j : ℕ) : Type 0 where
   pub from : List ℕ
   pub numbers : List ℕ
   pub ends : List ℕ
@@ -65,7 +65,7 @@ pub record PassesElement (a : Auto) (sets : List (List ℕ)) (p : Passing) (j : 
   pub numbers_at : slice_get sets p.numbers ≡ Some numbers
   pub ends_at : slice_get sets p.ends ≡ Some ends
   pub to_at : slice_get sets j ≡ Some to
-  pub below : AreBelow (length a.rows.items) to
+  pub below : AreBelow (held.states a) to
   pub made : (side : Side) (x : Grammar) → held.Stands side x a → IsPassing x side from numbers ends to
 
 -- trees lead states to states
@@ -74,11 +74,11 @@ pub record PassesTrees (a : Auto) (sets : List (List ℕ)) (i : ℕ) (h : Trees)
   pub to : List ℕ
   pub from_at : slice_get sets i ≡ Some from
   pub to_at : slice_get sets j ≡ Some to
-  pub below : AreBelow (length a.rows.items) to
+  pub below : AreBelow (held.states a) to
   pub made : (side : Side) (x : Grammar) → held.Stands side x a → IsMade to (Makes (Runs x side h) from)
 
-abbrev pub same_entry : Entry → Entry → Bool
-same_entry = eq_of_both (eq_of_both (on (λ (e : Entry). e.from) nat_eq) (on (λ (e : Entry). e.name.uri.now) (pointwise nat_eq))) (on (λ (e : Entry). e.name.local.now) (pointwise nat_eq))
+abbrev pub same_enter_key : EnterKey → EnterKey → Bool
+same_enter_key = eq_of_both (eq_of_both (on (λ (e : EnterKey). e.from) nat_eq) (on (λ (e : EnterKey). e.name.uri.now) (pointwise nat_eq))) (on (λ (e : EnterKey). e.name.local.now) (pointwise nat_eq))
 
-abbrev pub same_passing : Passing → Passing → Bool
-same_passing = eq_of_both (eq_of_both (on (λ (p : Passing). p.from) nat_eq) (on (λ (p : Passing). p.numbers) nat_eq)) (on (λ (p : Passing). p.ends) nat_eq)
+abbrev pub same_leave_key : LeaveKey → LeaveKey → Bool
+same_leave_key = eq_of_both (eq_of_both (on (λ (p : LeaveKey). p.from) nat_eq) (on (λ (p : LeaveKey). p.numbers) nat_eq)) (on (λ (p : LeaveKey). p.ends) nat_eq)

@@ -6,8 +6,8 @@ use Rattle.tc_model.specs.Trees.{Trees}
 use Rattle.tc_model.specs.Grammars.{Grammar, ElementPattern, element_at, InClass}
 use Rattle.tc_model.specs.Matching.{Matches}
 use Rattle.tc_model.specs.States.{Side, Leaf, text_leaf, ref_leaf, IsEdge, IsAccepting, IsElementOf, Run, first_state}
-use Rattle.tc_hedge.specs.declared.passages.Passage.{Passage}
-use Rattle.tc_hedge.specs.declared.passages.Passage.TheVariants.{Text, Element}
+use Rattle.tc_hedge.specs.declared.children.Child.{Child}
+use Rattle.tc_hedge.specs.declared.children.Child.TheVariants.{Text, Element}
 
 -- some member of a list makes a number
 abbrev pub Makes : {X : Type 0} → (X → ℕ → Type 0) → List X → ℕ → Type 0
@@ -30,12 +30,12 @@ abbrev pub AreNumbers : ℕ → List ℕ → Type 0
 AreNumbers n xs = (k : ℕ) → Contains xs k → (1 ≤ k) × (k ≤ n)
 
 -- a leaf takes a text, or an element that some element patterns take
-abbrev pub Passes : Passage → Leaf → Type 0
+abbrev pub Passes : Child → Leaf → Type 0
 Passes Text l = l ≡ text_leaf
 Passes (Element numbers) l = (k : ℕ) × (l ≡ ref_leaf k) × Contains numbers.now k
 
 -- an edge leads from one state to another and passes
-abbrev pub Steps : Grammar → Side → Passage → ℕ → ℕ → Type 0
+abbrev pub Steps : Grammar → Side → Child → ℕ → ℕ → Type 0
 Steps g side passage i j = (l : Leaf) × Passes passage l × IsEdge g side i l j
 
 -- an edge from a state takes an element by the element pattern of a number

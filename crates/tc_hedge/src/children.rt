@@ -1,8 +1,8 @@
-// What edges pass: texts, and elements that element patterns take.
+// Children, as edges take them.
 
 /// A text, or an element that the element patterns of some numbers take.
 #[derive(Clone, Copy)]
-pub(crate) enum Passage<'m> {
+pub(crate) enum Child<'m> {
     Text,
     Element(&'m [u32]),
 }

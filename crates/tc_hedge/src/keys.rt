@@ -11,14 +11,14 @@ use tc_model::Name;
 
 /// A step into an element of a name that stands behind some states.
 #[derive(Clone, Copy)]
-pub(crate) struct Entry<'n> {
+pub(crate) struct EnterKey<'n> {
     pub from: usize,
     pub name: Name<'n>,
 }
 
 /// The element patterns that may take an element, and the first states of their contents.
 #[derive(Clone, Copy)]
-pub(crate) struct Inside {
+pub(crate) struct Entered {
     pub numbers: usize,
     pub first: usize,
 }
@@ -26,13 +26,13 @@ pub(crate) struct Inside {
 /// A step over an element that stands behind some states, that some element patterns may take, and whose
 /// children lead the first states of their contents to some states.
 #[derive(Clone, Copy)]
-pub(crate) struct Passing {
+pub(crate) struct LeaveKey {
     pub from: usize,
     pub numbers: usize,
     pub ends: usize,
 }
 
-impl PartialEq for Entry<'_> {
+impl PartialEq for EnterKey<'_> {
     ghost eq = { eq_of_both (eq_of_both (on (λ e. e.from) nat_eq) (on (λ e. e.name.uri.now) (pointwise nat_eq))) (on (λ e. e.name.local.now) (pointwise nat_eq)) };
 
     ghost laws = { Prim.search (comparing, rules) depth 9 };
@@ -44,11 +44,11 @@ impl PartialEq for Entry<'_> {
     }
 }
 
-impl Eq for Entry<'_> {
+impl Eq for EnterKey<'_> {
     ghost laws = { Prim.search (comparing, rules) depth 9 };
 }
 
-impl Hash for Entry<'_> {
+impl Hash for EnterKey<'_> {
     ghost hash_input = { λ e. fed.usize e.from ++ fed.str e.name.uri.now ++ fed.str e.name.local.now };
 
     ghost respects_eq = { Prim.search (hashing, rules) depth 9 };
@@ -60,21 +60,21 @@ impl Hash for Entry<'_> {
     }
 }
 
-impl PartialEq for Passing {
+impl PartialEq for LeaveKey {
     ghost eq = { eq_of_both (eq_of_both (on (λ p. p.from) nat_eq) (on (λ p. p.numbers) nat_eq)) (on (λ p. p.ends) nat_eq) };
 
     ghost laws = { Prim.search (comparing, rules) depth 9 };
 
-    fn eq(&self, other: &Passing) -> bool {
+    fn eq(&self, other: &LeaveKey) -> bool {
         self.from == other.from && self.numbers == other.numbers && self.ends == other.ends
     }
 }
 
-impl Eq for Passing {
+impl Eq for LeaveKey {
     ghost laws = { Prim.search (comparing, rules) depth 9 };
 }
 
-impl Hash for Passing {
+impl Hash for LeaveKey {
     ghost hash_input = { λ p. fed.usize p.from ++ fed.usize p.numbers ++ fed.usize p.ends };
 
     ghost respects_eq = { Prim.search (hashing, rules) depth 9 };

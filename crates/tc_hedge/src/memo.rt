@@ -1,9 +1,9 @@
 // Sets that are known by numbers, and what was worked out from them, each once.
 ghost use Rattle.std.specs.Prelude.{◌≡◌, ◌<◌, nat_eq, IfOk, OnOk, None, Some, length, slice_get, ℕ, [], List};
 ghost use Rattle.indexmap.specs.IndexMap.{get, Updates};
-ghost use Rattle.tc_hedge.specs.Memos.{Grown, same_entry, same_passing};
+ghost use Rattle.tc_hedge.specs.Memos.{Grown, same_enter_key, same_leave_key};
 
-use crate::keys::{Entry, Inside, Passing};
+use crate::keys::{EnterKey, Entered, LeaveKey};
 use crate::numbers::Numbers;
 use indexmap::{IndexMap, IndexSet};
 use std::alloc::Global;
@@ -14,16 +14,16 @@ use tc_base::NoMemory;
 pub(crate) struct Memo<'n> {
     pub sets: IndexSet<Numbers>,
     pub texts: IndexMap<usize, usize>,
-    pub entries: IndexMap<Entry<'n>, Inside>,
-    pub passings: IndexMap<Passing, usize>,
+    pub entries: IndexMap<EnterKey<'n>, Entered>,
+    pub passings: IndexMap<LeaveKey, usize>,
 }
 
 impl<'n> Memo<'n> {
     /// No set yet.
     pub(crate) fn new(alloc: Global) -> Memo<'n>
         ensures texts { (i : ℕ) → get nat_eq result.texts i ≡ None }
-        ensures entries { (e : Entry) → get same_entry result.entries e ≡ None }
-        ensures passings { (p : Passing) → get same_passing result.passings p ≡ None }
+        ensures entries { (e : EnterKey) → get same_enter_key result.entries e ≡ None }
+        ensures passings { (p : LeaveKey) → get same_leave_key result.passings p ≡ None }
     {
         Memo {
             sets: IndexSet::new(alloc),
@@ -62,15 +62,15 @@ impl<'n> Memo<'n> {
     }
 
     /// What is known of a step into an element.
-    pub(crate) fn entry(&self, entry: &Entry<'n>) -> Option<Inside>
-        ensures { result ≡ get same_entry self.now.entries entry.now }
+    pub(crate) fn entry(&self, entry: &EnterKey<'n>) -> Option<Entered>
+        ensures { result ≡ get same_enter_key self.now.entries entry.now }
     {
         self.entries.get(entry).copied()
     }
 
     /// What is known of a step over an element.
-    pub(crate) fn passing(&self, passing: &Passing) -> Option<usize>
-        ensures { result ≡ get same_passing self.now.passings passing.now }
+    pub(crate) fn passing(&self, passing: &LeaveKey) -> Option<usize>
+        ensures { result ≡ get same_leave_key self.now.passings passing.now }
     {
         self.passings.get(passing).copied()
     }

@@ -8,7 +8,7 @@ ghost use Rattle.tc_model.specs.Grammars as g;
 ghost use Rattle.tc_model.specs.Views as see;
 ghost use Rattle.tc_model.specs.States as s;
 
-use crate::passages::Passage;
+use crate::children::Child;
 use std::alloc::Global;
 use tc_auto::{Auto, Leaf};
 use tc_base::NoMemory;
@@ -25,12 +25,12 @@ fn put_number(set: &mut Vec<u32>, number: u32) -> Result<(), NoMemory>
 }
 
 /// Whether a leaf takes a text, or an element by one of some element patterns.
-fn passes(passage: &Passage<'_>, leaf: Leaf) -> bool
+fn passes(passage: &Child<'_>, leaf: Leaf) -> bool
     ensures { IsTrue result ↔ Passes passage.now (see_leaf leaf) }
 {
     match passage {
-        Passage::Text => leaf == Leaf::Text,
-        Passage::Element(numbers) => match leaf {
+        Child::Text => leaf == Leaf::Text,
+        Child::Element(numbers) => match leaf {
             Leaf::Text => false,
             Leaf::Ref(number) => numbers.contains(&number),
         },
@@ -40,7 +40,7 @@ fn passes(passage: &Passage<'_>, leaf: Leaf) -> bool
 /// Puts the states to which edges from a state lead.
 fn put_steps(
     automaton: &Auto<'_>,
-    passage: &Passage<'_>,
+    passage: &Child<'_>,
     state: u32,
     next: &mut Vec<u32>,
 ) -> Result<(), NoMemory>
@@ -60,7 +60,7 @@ fn put_steps(
 pub(crate) fn step(
     alloc: Global,
     automaton: &Auto<'_>,
-    passage: &Passage<'_>,
+    passage: &Child<'_>,
     states: &[u32],
 ) -> Result<Vec<u32>, NoMemory>
     requires { AreBelow (a.states automaton.now) states.now }

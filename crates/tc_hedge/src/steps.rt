@@ -4,9 +4,9 @@ ghost use Rattle.tc_hedge.specs.Known.{Knows};
 ghost use Rattle.tc_hedge.specs.Memos.{Enters, Grown, HasNumbers, HasStates, PassesElement, PassesText};
 ghost use Rattle.tc_model.specs.Views as see;
 
-use crate::keys::{Entry, Inside, Passing};
+use crate::children::Child;
+use crate::keys::{EnterKey, Entered, LeaveKey};
 use crate::memo::Memo;
-use crate::passages::Passage;
 use crate::sets::{firsts, leaving, named, reached, step};
 use std::alloc::Global;
 use tc_auto::Auto;
@@ -25,7 +25,7 @@ fn learn_text(
     ensures grown { OnOk result (Grown memo.old.sets.keys memo.new.sets.keys) }
     ensures steps { IfOk result (λ j. PassesText automaton.now memo.new.sets.keys from j) }
 {
-    let states = step(alloc, automaton, &Passage::Text, memo.set(from))?;
+    let states = step(alloc, automaton, &Child::Text, memo.set(from))?;
     let next = memo.put(states)?;
     memo.texts.insert(from, next)?;
     Ok(next)
@@ -55,8 +55,8 @@ fn learn_entry<'n>(
     alloc: Global,
     automaton: &Auto<'_>,
     memo: &mut Memo<'n>,
-    entry: &Entry<'n>,
-) -> Result<Inside, NoMemory>
+    entry: &EnterKey<'n>,
+) -> Result<Entered, NoMemory>
     requires knows { Knows automaton.now memo.old }
     requires from { HasStates automaton.now memo.old.sets.keys entry.now.from }
     ensures knows { OnOk result (Knows automaton.now memo.new) }
@@ -68,7 +68,7 @@ fn learn_entry<'n>(
     let states = firsts(alloc, automaton, &taking)?;
     let numbers = memo.put(taking)?;
     let first = memo.put(states)?;
-    let inside = Inside { numbers, first };
+    let inside = Entered { numbers, first };
     memo.entries.insert(*entry, inside)?;
     Ok(inside)
 }
@@ -78,8 +78,8 @@ pub(crate) fn inside_of<'n>(
     alloc: Global,
     automaton: &Auto<'_>,
     memo: &mut Memo<'n>,
-    entry: &Entry<'n>,
-) -> Result<Inside, NoMemory>
+    entry: &EnterKey<'n>,
+) -> Result<Entered, NoMemory>
     requires knows { Knows automaton.now memo.old }
     requires from { HasStates automaton.now memo.old.sets.keys entry.now.from }
     ensures knows { OnOk result (Knows automaton.now memo.new) }
@@ -97,7 +97,7 @@ fn learn_passing(
     alloc: Global,
     automaton: &Auto<'_>,
     memo: &mut Memo<'_>,
-    passing: Passing,
+    passing: LeaveKey,
 ) -> Result<usize, NoMemory>
     requires knows { Knows automaton.now memo.old }
     requires from { HasStates automaton.now memo.old.sets.keys passing.from }
@@ -116,7 +116,7 @@ fn learn_passing(
     let states = step(
         alloc,
         automaton,
-        &Passage::Element(&taken),
+        &Child::Element(&taken),
         memo.set(passing.from),
     )?;
     let next = memo.put(states)?;
@@ -129,7 +129,7 @@ pub(crate) fn after_passing(
     alloc: Global,
     automaton: &Auto<'_>,
     memo: &mut Memo<'_>,
-    passing: Passing,
+    passing: LeaveKey,
 ) -> Result<usize, NoMemory>
     requires knows { Knows automaton.now memo.old }
     requires from { HasStates automaton.now memo.old.sets.keys passing.from }

@@ -14,7 +14,7 @@ ghost use Rattle.tc_model.specs.Trees as t;
 ghost use Rattle.tc_model.specs.Validity.{IsValid};
 
 use crate::documents::is_document;
-use crate::keys::{Entry, Passing};
+use crate::keys::{EnterKey, LeaveKey};
 use crate::memo::Memo;
 use crate::sets::{firsts, reached};
 use crate::steps::{after_passing, after_text, inside_of};
@@ -29,7 +29,7 @@ fn after_element<'n>(
     alloc: Global,
     automaton: &Auto<'_>,
     memo: &mut Memo<'n>,
-    entry: &Entry<'n>,
+    entry: &EnterKey<'n>,
     kids: &[Node<'n>],
 ) -> Result<usize, NoMemory>
     requires knows { Knows automaton.now memo.old }
@@ -40,7 +40,7 @@ fn after_element<'n>(
 {
     let inside = inside_of(alloc, automaton, memo, entry)?;
     let ends = after_trees(alloc, automaton, memo, inside.first, kids)?;
-    let passing = Passing {
+    let passing = LeaveKey {
         from: entry.from,
         numbers: inside.numbers,
         ends,
@@ -66,7 +66,7 @@ fn after_tree<'n>(
     match node {
         Node::Text(_) => after_text(alloc, automaton, memo, from),
         Node::Elem(name, kids) => {
-            let entry = Entry { from, name: *name };
+            let entry = EnterKey { from, name: *name };
             after_element(alloc, automaton, memo, &entry, kids)
         }
     }
