@@ -7,7 +7,7 @@ use Rattle.tc_close.specs.Least.{IsLeastTree, IsLeastHedge}
 use Rattle.tc_close.specs.Settling.{IsSettled, IsTried, IsTriedTree, IsTriedHedge, AreApart, CostByCost}
 use Rattle.tc_close.proofs.Least.{some_cost}
 
-low_or_high : (i n : ℕ) → (i < n) ⊎ (n ≤ i)
+pub low_or_high : (i n : ℕ) → (i < n) ⊎ (n ≤ i)
 low_or_high i n = grind arith
 
 low_or_last : (i n : ℕ) → i < suc n → (i < n) ⊎ (i ≡ n)

@@ -1,6 +1,7 @@
 // What is proved of costs.
 ghost use Rattle.tc_close.specs.Least.{CostsAreLeast};
 ghost use Rattle.tc_close.specs.Settling.{CostByCost};
+ghost use Rattle.tc_close.specs.Verdict.{ListsTell};
 
 /// The law of least costs: the least cost of a row is the least number of nodes of its live trees, and what costs
 /// least comes from what costs least. A row that fails at the least cost of all that fail shows a counterexample with
@@ -14,4 +15,11 @@ pub fn law_of_least_costs()
 /// further one, all is listed.
 pub fn law_of_settling()
     ensures { CostByCost }
+{}
+
+/// The law of the verdict: closed lists of rows that come from rows tell whether the stylesheet is safe. Of what is
+/// listed cost by cost the first row that fails does so at the least cost of all, and where none fails, all rows that
+/// fail cost more.
+pub fn law_of_the_verdict()
+    ensures { ListsTell }
 {}
