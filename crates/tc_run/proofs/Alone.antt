@@ -12,10 +12,10 @@ use Rattle.tc_run.specs.Running.{told_by, machine}
 use Rattle.tc_run.specs.Views.{node}
 use Rattle.tc_rules.specs.Tasks.{going_from, looking_from}
 use Rattle.tc_run.specs.Tasks.{does, outputs_on}
-use Rattle.tc_run.specs.declared.bodies.Here.{Here}
+use Rattle.tc_run.specs.declared.bodies.Context.{Context}
 use Rattle.tc_run.specs.declared.runner.Runner.{Runner}
 
-module _ (r : Runner) (bodies : List CallFreeBody) (h : Here) (named : List Body) where
+module _ (r : Runner) (bodies : List CallFreeBody) (h : Context) (named : List Body) where
   pub text_alone : {x : List ℕ} {p : CallFreeBody} → Inlines named (put_text x no_instruction) p → does r bodies p h ≡ within (put x)
   text_alone {x} (u_text u_done) = join_none (within (put x))
 

@@ -22,7 +22,7 @@ use Rattle.tc_run.specs.Running.{told_by, symbols_by, predicates_by, sheet_by, m
 use Rattle.tc_run.specs.Views.{trees, node, node_of}
 use Rattle.tc_rules.specs.Tasks.{going_from, looking_from}
 use Rattle.tc_run.specs.Tasks.{built_in, does, outputs_on}
-use Rattle.tc_run.specs.declared.bodies.Here.{Here}
+use Rattle.tc_run.specs.declared.bodies.Context.{Context}
 use Rattle.tc_run.specs.declared.bodies.Shape.{Shape}
 use Rattle.tc_run.specs.declared.bodies.Shape.TheVariants as shapes
 use Rattle.tc_run.specs.declared.runner.Runner.{Runner}
@@ -42,7 +42,7 @@ module _ (r : Runner) (bodies : List CallFreeBody) (mode : ℕ) where
   children_by (shapes.Elem n) string kids above other = join_none (within (of_children above (one (an_element (name n) kids))))
   children_by shapes.Text string kids above other = absurd (other refl)
 
-  pub built_in_children : (h : Here) → (h.shape ≡ shapes.Text → ⊥)
+  pub built_in_children : (h : Context) → (h.shape ≡ shapes.Text → ⊥)
       → does r bodies (built_in mode (node h)) h ≡ within (outputs_on r bodies (children (node h)) h.above (going_from (in_mode mode) all_children))
   built_in_children h other = children_by h.shape h.string.now (bare (trees h.kids.now)) h.above other
 
@@ -76,7 +76,7 @@ seen_by (parts.ForEach n p b) = subst HasOne (sym (for_each_seen (roll-Instr (pa
 is_seen : (i : Instr) → IsSeen i
 is_seen i = subst IsSeen (roll-out-Instr i) (seen_by (out-Instr i))
 
-module _ (r : Runner) (bodies : List CallFreeBody) (h : Here) (named : List Body) where
+module _ (r : Runner) (bodies : List CallFreeBody) (h : Context) (named : List Body) where
   deep : (b : Body) (p : CallFreeBody) → HasOne b → Inlines named b p → 1 ≤ (does r bodies p h).nesting
   deep no_instruction p k u = absurd k
   deep (put_text x b) p k (u_text u) = omega arith
@@ -101,10 +101,10 @@ module _ (r : Runner) (bodies : List CallFreeBody) (h : Here) (named : List Body
       ∙ (ap (λ w. put (value_of_first w)) (first_alike (symbols_by r) (predicates_by r) (sheet_by r).rules bodies (bare (trees h.kids.now)) (looking_from p)) ∙ ap put (sym e))
 
 -- a copy, by what the node is
-pub copy_root : (h : Here) (a : Outcome) → h.shape ≡ shapes.Root → copied (node h) a ≡ a
+pub copy_root : (h : Context) (a : Outcome) → h.shape ≡ shapes.Root → copied (node h) a ≡ a
 copy_root h a e = ap (λ s. copied (node_of s h.string.now (bare (trees h.kids.now))) a) e
 
-pub copy_elem : (h : Here) (n : Name) (a : Outcome) → h.shape ≡ shapes.Elem n → copied (node h) a ≡ put_around (name n) a
+pub copy_elem : (h : Context) (n : Name) (a : Outcome) → h.shape ≡ shapes.Elem n → copied (node h) a ≡ put_around (name n) a
 copy_elem h n a e = ap (λ s. copied (node_of s h.string.now (bare (trees h.kids.now))) a) e
 
 -- the value of what was found, or else none

@@ -15,7 +15,7 @@ use Rattle.tc_run.specs.Spent.{Spends, IsPassed, Answers}
 use Rattle.tc_run.specs.Tasks.{does}
 use Rattle.tc_run.specs.declared.RunFault.{RunFault}
 use Rattle.tc_run.specs.declared.RunFault.TheVariants.{NoMemory}
-use Rattle.tc_run.specs.declared.bodies.Here.{Here}
+use Rattle.tc_run.specs.declared.bodies.Context.{Context}
 use Rattle.tc_run.specs.declared.output.Output.{Output}
 use Rattle.tc_run.specs.declared.runner.Runner.{Runner}
 use Rattle.tc_run.proofs.Progress.{BodySoFar}
@@ -27,7 +27,7 @@ done_is named p u_done = refl
 pub no_instruction_left : (is : List Instr) (k : ℕ) → length is ≤ k → see.body (drop k is) ≡ no_instruction
 no_instruction_left is k h = ap see.body (drop_all k is h)
 
-module _ (r : Runner) (bodies : List CallFreeBody) (h : Here) (nesting : ℕ) (p : CallFreeBody) where
+module _ (r : Runner) (bodies : List CallFreeBody) (h : Context) (nesting : ℕ) (p : CallFreeBody) where
   pub body_end : (old now : Output) (left : Body) → left ≡ no_instruction → BodySoFar r bodies h nesting old now p left → Spends nesting old now (does r bodies p h)
   body_end old now left empty s =
       let e : s.rest ≡ p_done = done_is (sheet_by r).named s.rest (subst (λ b. Inlines (sheet_by r).named b s.rest) empty s.of_rest) in

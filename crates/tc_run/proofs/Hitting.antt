@@ -26,7 +26,7 @@ use Rattle.tc_run.specs.Views.{before, trees, node}
 use Rattle.tc_run.specs.Spent.{Spends}
 use Rattle.tc_rules.specs.Tasks.{IsTaskOf, IsMoveAt, IsSomeMove, going_from}
 use Rattle.tc_run.specs.Tasks.{built_in, does, outputs_on}
-use Rattle.tc_run.specs.declared.bodies.Here.{Here}
+use Rattle.tc_run.specs.declared.bodies.Context.{Context}
 use Rattle.tc_run.specs.declared.letters.Lettered.{Lettered}
 use Rattle.tc_run.specs.declared.output.Output.{Output}
 use Rattle.tc_run.specs.declared.runner.Runner.{Runner}
@@ -109,7 +109,7 @@ missed b o f = ap (λ c. cond c o nothing) f
 pub met : (b : Bool) (o : Outcome) → b ≡ true → cond b o nothing ≡ o
 met b o f = ap (λ c. cond c o nothing) f
 
-pub element_built_in : (h : Here) (n : ExpandedName) (kids : t.Trees) (k : ℕ) → node h ≡ one (an_element n kids) → (i : ℕ) → built_in_at i (of_symbol k) ≡ built_in i (node h)
+pub element_built_in : (h : Context) (n : ExpandedName) (kids : t.Trees) (k : ℕ) → node h ≡ one (an_element n kids) → (i : ℕ) → built_in_at i (of_symbol k) ≡ built_in i (node h)
 element_built_in h n kids k e i = ap (built_in i) (sym e)
 
 -- none is left

@@ -19,6 +19,6 @@ pub mod Result
 pub mod Handing
 pub mod Measures
 pub mod BuiltIn
-pub mod MeantBy
+pub mod Templates
 pub mod Hitting
 pub mod Ends

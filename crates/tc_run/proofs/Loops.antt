@@ -18,7 +18,7 @@ use Rattle.tc_run.specs.Views.{node}
 use Rattle.tc_run.specs.Spent.{Spends}
 use Rattle.tc_run.specs.Tasks.{does, outputs_on}
 use Rattle.tc_run.specs.declared.RunFault.{RunFault}
-use Rattle.tc_run.specs.declared.bodies.Here.{Here}
+use Rattle.tc_run.specs.declared.bodies.Context.{Context}
 use Rattle.tc_run.specs.declared.output.Output.{Output}
 use Rattle.tc_run.specs.declared.runner.Runner.{Runner}
 use Rattle.tc_model.proofs.BodiesInTurn.{Halves, first_instruction, does_then}
@@ -27,7 +27,7 @@ use Rattle.tc_run.proofs.Spending.{Fails, spends_both, fails_first, fails_then}
 
 module _ (r : Runner) (bodies : List CallFreeBody) where
   -- an element, its children, and what stands beside it
-  pub element_first : (above : ℕ) (g : Going) (h : Here) (n : ExpandedName) (kids rest : Trees) (l : Letter)
+  pub element_first : (above : ℕ) (g : Going) (h : Context) (n : ExpandedName) (kids rest : Trees) (l : Letter)
       → node h ≡ one (an_element n kids) → l ≡ letter_of (symbols_by r) (predicates_by r) (an_element n kids)
       → ancestor (told_by r) h.above ≡ (machine r bodies).down_to (ancestor (told_by r) above) l
       → outputs_on r bodies (element n kids rest) above g
@@ -61,7 +61,7 @@ module _ (r : Runner) (bodies : List CallFreeBody) where
         let after = outputs_on r bodies rest above g in
         subst (Fails nesting old e) (sym (s.whole ∙ ap (join s.done) w)) (fails_then nesting old now e s.done (join o after) s.spent (fails_first nesting now e o after p))
 
-  module _ (h : Here) (nesting : ℕ) (p : CallFreeBody) where
+  module _ (h : Context) (nesting : ℕ) (p : CallFreeBody) where
     pub body_begin : (x : Output) (b : Body) → Spends nesting x x nothing → Inlines (sheet_by r).named b p → BodySoFar r bodies h nesting x x p b
     body_begin x b s u = record { done = nothing; rest = p; spent = s; of_rest = u; whole = sym (none_join (does r bodies p h)) }
 

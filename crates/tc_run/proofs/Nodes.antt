@@ -16,10 +16,10 @@ use Rattle.tc_rules.specs.RulesView.{ancestor}
 use Rattle.tc_run.specs.Lettered as l
 use Rattle.tc_run.specs.Lettered.{bare}
 use Rattle.tc_run.specs.Running.{IsLetteredBy, told_by, sheet_by, symbols_by, predicates_by, machine}
-use Rattle.tc_run.specs.Views.{before, trees, node, IsHere}
+use Rattle.tc_run.specs.Views.{before, trees, node, IsContext}
 use Rattle.tc_rules.specs.Tasks.{going_from}
 use Rattle.tc_run.specs.Tasks.{does, outputs_on}
-use Rattle.tc_run.specs.declared.bodies.Here.{Here}
+use Rattle.tc_run.specs.declared.bodies.Context.{Context}
 use Rattle.tc_run.specs.declared.bodies.Shape.TheVariants as shapes
 use Rattle.tc_run.specs.declared.letters.Letter.{Letter as LetterOf}
 use Rattle.tc_run.specs.declared.letters.Lettered.{Lettered, Elem}
@@ -30,22 +30,22 @@ use Rattle.tc_run.proofs.OneTree.{ElementAt, element_at}
 use Rattle.tc_run.proofs.Views.{before_elem}
 use Rattle.tc_model.proofs.TotalJoin.{join_none}
 
-abbrev pub here_elem : Name → Bor (List ℕ) → Bor (List Lettered) → ℕ → Here
+abbrev pub here_elem : Name → Bor (List ℕ) → Bor (List Lettered) → ℕ → Context
 here_elem n s kids above = record { shape = shapes.Elem n; string = s; kids = kids; above = above }
 
-abbrev pub here_text : Bor (List ℕ) → Bor (List Lettered) → ℕ → Here
+abbrev pub here_text : Bor (List ℕ) → Bor (List Lettered) → ℕ → Context
 here_text s kids above = record { shape = shapes.Text; string = s; kids = kids; above = above }
 
-abbrev pub here_root : Bor (List ℕ) → Bor (List Lettered) → ℕ → Here
+abbrev pub here_root : Bor (List ℕ) → Bor (List Lettered) → ℕ → Context
 here_root s kids above = record { shape = shapes.Root; string = s; kids = kids; above = above }
 
 module _ (r : Runner) where
   pub is_here_elem : (n : Name) (x : LetterOf) (s : Bor (List ℕ)) (kids : Bor (List Lettered)) (rest : l.Lettered) (above : ℕ)
-      → ElementAt r n x s kids rest → above < length (told_by r).ancestors.states → IsHere r (here_elem n s kids above)
+      → ElementAt r n x s kids rest → above < length (told_by r).ancestors.states → IsContext r (here_elem n s kids above)
   is_here_elem n x s kids rest above a h = record { kids = a.kids_are; children_are = refl; string = a.string_is; above = h }
 
   pub is_here_root : (s : Bor (List ℕ)) (kids : Bor (List Lettered)) (above : ℕ) → IsLetteredBy r (trees kids.now) → s.now ≡ c.joined_texts (bare (trees kids.now))
-      → above < length (told_by r).ancestors.states → IsHere r (here_root s kids above)
+      → above < length (told_by r).ancestors.states → IsContext r (here_root s kids above)
   is_here_root s kids above k e h = record { kids = k; children_are = refl; string = e; above = h }
 
   -- the ancestor state at an element
@@ -69,7 +69,7 @@ module _ (r : Runner) where
         let doc = bare (trees kids.now) in ap (λ (q : State). does_in m p (c.whole doc) (λ i u. outputs m doc i q u)) e
 
     -- one element and what stands below it
-    pub outs_of_element : (above : ℕ) (g : Going) (h : Here) (x : Lettered) (n : Name) (y : LetterOf) (s : Bor (List ℕ)) (kids : Bor (List Lettered))
+    pub outs_of_element : (above : ℕ) (g : Going) (h : Context) (x : Lettered) (n : Name) (y : LetterOf) (s : Bor (List ℕ)) (kids : Bor (List Lettered))
         → IsLetteredBy r (before x l.none) → x ≡ Elem n y s kids → node h ≡ c.one (c.an_element (name n) (bare (trees kids.now)))
         → ancestor (told_by r) h.above ≡ (machine r bodies).down_to (ancestor (told_by r) above) (letter (kinds.Elem y.sym) y.marks)
         → outputs_on r bodies (bare (before x l.none)) above g

@@ -7,11 +7,11 @@ use Rattle.tc_rules.specs.States.{Going}
 use Rattle.tc_run.specs.Running.{sheet_by}
 use Rattle.tc_run.specs.Spent.{Spends}
 use Rattle.tc_run.specs.Tasks.{does, outputs_on}
-use Rattle.tc_run.specs.declared.bodies.Here.{Here}
+use Rattle.tc_run.specs.declared.bodies.Context.{Context}
 use Rattle.tc_run.specs.declared.output.Output.{Output}
 use Rattle.tc_run.specs.declared.runner.Runner.{Runner}
 
-pub record BodySoFar (r : Runner) (bodies : List CallFreeBody) (h : Here) (nesting : ℕ) (old now : Output) (p : CallFreeBody) (left : Body) : Type 0 where
+pub record BodySoFar (r : Runner) (bodies : List CallFreeBody) (h : Context) (nesting : ℕ) (old now : Output) (p : CallFreeBody) (left : Body) : Type 0 where
   pub done : Outcome
   pub rest : CallFreeBody
   pub spent : Spends nesting old now done

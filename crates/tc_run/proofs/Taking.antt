@@ -15,7 +15,7 @@ use Rattle.tc_run.specs.Lettered.{bare}
 use Rattle.tc_rules.specs.Parts.{IsPart, IsPartTest, ArePartBranches}
 use Rattle.tc_run.specs.Running.{sheet_by, symbols_by, predicates_by, machine, looking}
 use Rattle.tc_run.specs.Views.{trees, node}
-use Rattle.tc_run.specs.declared.bodies.Here.{Here}
+use Rattle.tc_run.specs.declared.bodies.Context.{Context}
 use Rattle.tc_run.specs.declared.output.Output.{Output}
 use Rattle.tc_run.specs.declared.runner.Runner.{Runner}
 use Rattle.tc_rules.proofs.Looking.{holds_alike}
@@ -29,7 +29,7 @@ no_branch = roll-Branch (record { test = True; body = record { ref_ptr = (0, 0);
 pub branch_is : (bs : List Branch) (k : ℕ) (d : Branch) → k < length bs → get_or bs k d ≡ get_or bs k (get_or bs k d)
 branch_is bs k d h = sym (get_or_from_slice_get bs k (get_or bs k d) (get_or bs k d) (slice_get-get_or bs k d h))
 
-module _ (r : Runner) (here : Here) (named : List Body) where
+module _ (r : Runner) (here : Context) (named : List Body) where
   -- a test holds in the machine as it does by looks
   pub test_holds : (w : Test) (b : Bool) → bare (trees here.kids.now) ≡ children (node here) → b ≡ holds_in (looking r) w (bare (trees here.kids.now))
       → (bodies : List CallFreeBody) → holds_in (machine r bodies) w (children (node here)) ≡ b
@@ -68,7 +68,7 @@ module _ (x : Sheet) where
   branch_part_at bs k b rest h e p = subst (ArePartBranches x) (left_branch bs k b rest h e) p
 
 -- what is left of a body begins with an instruction
-pub so_far_at : (r : Runner) (bodies : List CallFreeBody) (h : Here) (nesting : ℕ) (old now : Output) (p : CallFreeBody) (is : List Instr) (k : ℕ) (i : Instr)
+pub so_far_at : (r : Runner) (bodies : List CallFreeBody) (h : Context) (nesting : ℕ) (old now : Output) (p : CallFreeBody) (is : List Instr) (k : ℕ) (i : Instr)
     → k < length is → i ≡ get_or is k i → BodySoFar r bodies h nesting old now p (see.body (drop k is))
     → BodySoFar r bodies h nesting old now p (see.instruction i (see.body (drop (k + 1) is)))
 so_far_at r bodies h nesting old now p is k i l e s = subst (λ b. BodySoFar r bodies h nesting old now p b) (left_instruction is k i l e) s

@@ -12,9 +12,9 @@ use Rattle.tc_rules.specs.Parts.{IsPart}
 use Rattle.tc_rules.specs.RulesView.{ancestor}
 use Rattle.tc_run.specs.Running.{told_by, machine}
 use Rattle.tc_run.specs.Views.{node}
-use Rattle.tc_run.specs.declared.bodies.Here.{Here}
-use Rattle.tc_run.specs.declared.bodies.Meant.{Meant}
-use Rattle.tc_run.specs.declared.bodies.Meant.TheVariants as m
+use Rattle.tc_run.specs.declared.bodies.Context.{Context}
+use Rattle.tc_run.specs.declared.bodies.Template.{Template}
+use Rattle.tc_run.specs.declared.bodies.Template.TheVariants as m
 use Rattle.tc_run.specs.declared.runner.Runner.{Runner}
 
 -- what a task puts out on what a state selects in trees and below, the ancestor state above them being given by its number
@@ -22,7 +22,7 @@ abbrev pub outputs_on : Runner → List CallFreeBody → Trees → ℕ → Going
 outputs_on r bodies h above g = outputs (machine r bodies) h g.task (ancestor (told_by r) above) g
 
 -- what a body puts out on the current node
-abbrev pub does : Runner → List CallFreeBody → CallFreeBody → Here → Outcome
+abbrev pub does : Runner → List CallFreeBody → CallFreeBody → Context → Outcome
 does r bodies p h = does_in (machine r bodies) p (node h) (λ i u. outputs (machine r bodies) (children (node h)) i (ancestor (told_by r) h.above) u)
 
 -- the built-in rules
@@ -32,11 +32,11 @@ built_in m (one (an_element n kids)) = p_apply all_children m p_done
 built_in m (one (a_text s)) = p_self p_done
 
 -- a body with calls in place is what is meant on a node
-abbrev pub IsMeant : List Body → Node → Meant → CallFreeBody → Type 0
-IsMeant named n (m.Body b) p = Inlines named (see.body b.now) p
-IsMeant named n (m.BuiltIn mode) p = p ≡ built_in mode n
+abbrev pub IsMeantBy : List Body → Node → Template → CallFreeBody → Type 0
+IsMeantBy named n (m.Body b) p = Inlines named (see.body b.now) p
+IsMeantBy named n (m.BuiltIn mode) p = p ≡ built_in mode n
 
 -- it is part of the stylesheet
-abbrev pub IsPartMeant : Sheet → Meant → Type 0
-IsPartMeant s (m.Body b) = IsPart s (see.body b.now)
-IsPartMeant s (m.BuiltIn mode) = mode < s.modes
+abbrev pub IsPartTemplate : Sheet → Template → Type 0
+IsPartTemplate s (m.Body b) = IsPart s (see.body b.now)
+IsPartTemplate s (m.BuiltIn mode) = mode < s.modes

@@ -11,7 +11,7 @@ use Rattle.tc_run.specs.declared.letters.Lettered.TheFolds.{fold-Lettered}
 use Rattle.tc_run.specs.declared.letters.Lettered.TheOpen as layers_of
 use Rattle.tc_run.specs.declared.bodies.Shape.{Shape}
 use Rattle.tc_run.specs.declared.bodies.Shape.TheVariants.{Root, Elem, Text}
-use Rattle.tc_run.specs.declared.bodies.Here.{Here}
+use Rattle.tc_run.specs.declared.bodies.Context.{Context}
 
 -- puts trees, one after the other, before none
 abbrev pub layers : List (l.Lettered → l.Lettered) → l.Lettered
@@ -36,11 +36,11 @@ node_of Root string kids = whole kids
 node_of (Elem n) string kids = one (an_element (name n) kids)
 node_of Text string kids = one (a_text string)
 
-abbrev pub node : Here → Node
+abbrev pub node : Context → Node
 node h = node_of h.shape h.string.now (l.bare (trees h.kids.now))
 
 -- what is kept of the current node is right, and so is the number of its ancestor state
-pub record IsHere (r : Runner) (h : Here) : Type 0 where
+pub record IsContext (r : Runner) (h : Context) : Type 0 where
   pub kids : IsLetteredBy r (trees h.kids.now)
   pub children_are : l.bare (trees h.kids.now) ≡ children (node h)
   pub string : h.string.now ≡ string_value (node h)

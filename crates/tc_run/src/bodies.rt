@@ -21,10 +21,10 @@ ghost use Rattle.tc_rules.specs.RulesView.{ancestor};
 ghost use Rattle.tc_run.specs.Lettered as l;
 ghost use Rattle.tc_rules.specs.Parts.{IsPart, ArePartBranches};
 ghost use Rattle.tc_run.specs.Running.{IsRunner, IsLetteredBy, HasBodies, told_by, sheet_by, symbols_by, predicates_by, machine, looking};
-ghost use Rattle.tc_run.specs.Views.{trees, before, node, IsHere};
+ghost use Rattle.tc_run.specs.Views.{trees, before, node, IsContext};
 ghost use Rattle.tc_run.specs.Spent.{Answers};
 ghost use Rattle.tc_rules.specs.Tasks.{IsTaskOf, IsMoveAt, IsSomeMove, going_from, looking_from};
-ghost use Rattle.tc_run.specs.Tasks.{IsMeant, IsPartMeant, built_in as built_in_of, does, outputs_on};
+ghost use Rattle.tc_run.specs.Tasks.{IsMeantBy, IsPartTemplate, built_in as built_in_of, does, outputs_on};
 
 use crate::RunFault;
 use crate::letters::{Letter, Lettered};
@@ -60,7 +60,7 @@ pub(crate) enum Shape<'b> {
 
 /// The current node: what it is, its string-value, its children, and the ancestor state for them.
 #[derive(Clone, Copy)]
-pub(crate) struct Here<'b> {
+pub(crate) struct Context<'b> {
     pub(crate) shape: Shape<'b>,
     pub(crate) string: &'b str,
     pub(crate) kids: &'b [Lettered<'b>],
@@ -69,7 +69,7 @@ pub(crate) struct Here<'b> {
 
 /// What is to be instantiated on a node: a body, or what the built-in rules say in a mode.
 #[derive(Clone, Copy)]
-pub(crate) enum Meant<'b> {
+pub(crate) enum Template<'b> {
     Body(&'b [Instr<'b>]),
     BuiltIn(u32),
 }
@@ -89,54 +89,54 @@ pub(crate) fn root<'b>(
     ensures outcome { (bodies : List CallFreeBody) → HasBodies runner.now bodies → Answers 0 output.old output.new result
         (counted (does_at (machine runner.now bodies) ((machine runner.now bodies).root_body (in_mode 0)) (c.top (l.bare (trees nodes.now))))) }
 {
-    let here = Here {
+    let here = Context {
         shape: Shape::Root,
         string,
         kids: nodes,
         above: 0,
     };
     let found = runner.rules.root_rule(0);
-    let rule = meaning(runner, 0, found);
+    let rule = template_of(runner, 0, found);
     instantiate(runner, rule, &here, 0, output)
 }
 
 /// What a rule says, or the built-in ones in a mode.
-fn meaning<'b>(runner: &Runner<'_, 'b>, mode: u32, found: Found) -> Meant<'b>
+fn template_of<'b>(runner: &Runner<'_, 'b>, mode: u32, found: Found) -> Template<'b>
     requires runner { IsRunner runner.now }
     requires mode { mode < (sheet_by runner.now).modes }
     requires found { IfSome (found_of found) (λ i. i < length (sheet_by runner.now).rules) }
-    ensures part { IsPartMeant (sheet_by runner.now) result }
+    ensures part { IsPartTemplate (sheet_by runner.now) result }
     ensures meant { (bodies : List CallFreeBody) (n : c.Node) (o : Option Chosen) → HasBodies runner.now bodies → option_map (λ w. w.number) o ≡ found_of found →
-        IsMeant (sheet_by runner.now).named n result (plain_of bodies (built_in_of mode n) o) }
+        IsMeantBy (sheet_by runner.now).named n result (plain_of bodies (built_in_of mode n) o) }
 {
     match found {
-        Found::BuiltIn => Meant::BuiltIn(mode),
-        Found::Rule(number) => Meant::Body(runner.rules.sheet().rules[number as usize].body),
+        Found::BuiltIn => Template::BuiltIn(mode),
+        Found::Rule(number) => Template::Body(runner.rules.sheet().rules[number as usize].body),
     }
 }
 
 /// What is to be done on a node of a letter.
-fn meant_by<'b>(
+fn template_for<'b>(
     runner: &Runner<'_, 'b>,
     job: Job,
     above: u32,
     kind: Kind,
     marks: Marks,
-) -> Meant<'b>
+) -> Template<'b>
     requires runner { IsRunner runner.now }
     requires job { IsJob (sheet_by runner.now) job }
     requires above { above < length (told_by runner.now).ancestors.states }
     requires letter { letters.IsLetter (symbols_by runner.now) (predicates_by runner.now) (see_letter kind marks) }
-    ensures part { IsPartMeant (sheet_by runner.now) result }
+    ensures part { IsPartTemplate (sheet_by runner.now) result }
     ensures meant { (bodies : List CallFreeBody) (n : c.Node) (k : CallFreeJob) → HasBodies runner.now bodies → IsTaskOf (sheet_by runner.now) (mode_of (sheet_by runner.now).modes job) k →
         ((m : ℕ) → built_in_at m (see_letter kind marks).kind ≡ built_in_of m n) →
-        IsMeant (sheet_by runner.now).named n result ((machine runner.now bodies).body_at k (ancestor (told_by runner.now) above) (see_letter kind marks)) }
+        IsMeantBy (sheet_by runner.now).named n result ((machine runner.now bodies).body_at k (ancestor (told_by runner.now) above) (see_letter kind marks)) }
 {
     match job {
-        Job::Each(number) => Meant::Body(runner.rules.each_body(number)),
+        Job::Each(number) => Template::Body(runner.rules.each_body(number)),
         Job::Mode(mode) => {
             let found = runner.rules.rule_for(mode, above, kind, marks);
-            meaning(runner, mode, found)
+            template_of(runner, mode, found)
         }
     }
 }
@@ -145,25 +145,25 @@ fn meant_by<'b>(
 #[cycle(bodies)]
 fn instantiate<'b>(
     runner: &Runner<'_, 'b>,
-    meant: Meant<'b>,
-    here: &Here<'b>,
+    meant: Template<'b>,
+    here: &Context<'b>,
     nesting: u32,
     output: &mut Output<'b>,
 ) -> Result<(), RunFault>
     requires runner { IsRunner runner.now }
-    requires here { IsHere runner.now here.now }
-    requires meant { IsPartMeant (sheet_by runner.now) meant }
+    requires here { IsContext runner.now here.now }
+    requires meant { IsPartTemplate (sheet_by runner.now) meant }
     requires nesting { nesting ≤ 8000 }
     requires work { output.old.work ≤ 4000000 }
     ensures few { OnOk result (output.new.work ≤ 4000000) }
-    ensures outcome { (bodies : List CallFreeBody) (p : CallFreeBody) → HasBodies runner.now bodies → IsMeant (sheet_by runner.now).named (node here.now) meant.entry p → Answers nesting output.old output.new result
+    ensures outcome { (bodies : List CallFreeBody) (p : CallFreeBody) → HasBodies runner.now bodies → IsMeantBy (sheet_by runner.now).named (node here.now) meant.entry p → Answers nesting output.old output.new result
         (counted (does runner.now bodies p here.now)) }
 {
     let nesting = deeper(nesting)?;
     output.count()?;
     match meant {
-        Meant::Body(inner) => body(runner, inner, here, nesting, output),
-        Meant::BuiltIn(mode) => built_in(runner, mode, here, nesting, output),
+        Template::Body(inner) => body(runner, inner, here, nesting, output),
+        Template::BuiltIn(mode) => built_in(runner, mode, here, nesting, output),
     }
 }
 
@@ -172,12 +172,12 @@ fn instantiate<'b>(
 fn built_in<'b>(
     runner: &Runner<'_, 'b>,
     mode: u32,
-    here: &Here<'b>,
+    here: &Context<'b>,
     nesting: u32,
     output: &mut Output<'b>,
 ) -> Result<(), RunFault>
     requires runner { IsRunner runner.now }
-    requires here { IsHere runner.now here.now }
+    requires here { IsContext runner.now here.now }
     requires mode { mode < (sheet_by runner.now).modes }
     requires nesting { nesting ≤ 8000 }
     requires work { output.old.work ≤ 4000000 }
@@ -200,12 +200,12 @@ fn built_in<'b>(
 fn body<'b>(
     runner: &Runner<'_, 'b>,
     body: &'b [Instr<'b>],
-    here: &Here<'b>,
+    here: &Context<'b>,
     nesting: u32,
     output: &mut Output<'b>,
 ) -> Result<(), RunFault>
     requires runner { IsRunner runner.now }
-    requires here { IsHere runner.now here.now }
+    requires here { IsContext runner.now here.now }
     requires part { IsPart (sheet_by runner.now) (see.body body.now) }
     requires nesting { nesting ≤ 8000 }
     requires work { output.old.work ≤ 4000000 }
@@ -224,12 +224,12 @@ fn body<'b>(
 fn instruction<'b>(
     runner: &Runner<'_, 'b>,
     instruction: &'b Instr<'b>,
-    here: &Here<'b>,
+    here: &Context<'b>,
     nesting: u32,
     output: &mut Output<'b>,
 ) -> Result<(), RunFault>
     requires runner { IsRunner runner.now }
-    requires here { IsHere runner.now here.now }
+    requires here { IsContext runner.now here.now }
     requires part { IsPart (sheet_by runner.now) (see.instruction instruction.now no_instruction) }
     requires nesting { nesting ≤ 8000 }
     requires work { output.old.work ≤ 4000000 }
@@ -240,14 +240,14 @@ fn instruction<'b>(
     let nesting = deeper(nesting)?;
     match instruction {
         Instr::Text(text) => output.put(text),
-        Instr::Elem(name, inner) => around(runner, *name, inner, here, nesting, output),
+        Instr::Elem(name, inner) => put_element(runner, *name, inner, here, nesting, output),
         Instr::Copy(inner) => copy(runner, inner, here, nesting, output),
         Instr::Apply(path, mode) => {
             selected(runner, path, Job::Mode(*mode), here, nesting, output)
         }
         Instr::Call(number) => {
             let called = runner.rules.sheet().named[*number as usize];
-            instantiate(runner, Meant::Body(called), here, nesting, output)
+            instantiate(runner, Template::Body(called), here, nesting, output)
         }
         Instr::ValueOf(path) => {
             let first = value(runner, path, here);
@@ -255,7 +255,7 @@ fn instruction<'b>(
         }
         Instr::ValueOfSelf => output.put(here.string),
         Instr::Choose(branches, last) => {
-            let chosen = taken(runner, branches, last, here);
+            let chosen = chosen_branch(runner, branches, last, here);
             body(runner, chosen, here, nesting, output)
         }
         Instr::ForEach(number, path, _) => {
@@ -266,16 +266,16 @@ fn instruction<'b>(
 
 /// An element around what a body puts out.
 #[cycle(bodies)]
-fn around<'b>(
+fn put_element<'b>(
     runner: &Runner<'_, 'b>,
     name: Name<'b>,
     inner: &'b [Instr<'b>],
-    here: &Here<'b>,
+    here: &Context<'b>,
     nesting: u32,
     output: &mut Output<'b>,
 ) -> Result<(), RunFault>
     requires runner { IsRunner runner.now }
-    requires here { IsHere runner.now here.now }
+    requires here { IsContext runner.now here.now }
     requires part { IsPart (sheet_by runner.now) (see.body inner.now) }
     requires nesting { nesting ≤ 8000 }
     requires work { output.old.work ≤ 4000000 }
@@ -293,12 +293,12 @@ fn around<'b>(
 fn copy<'b>(
     runner: &Runner<'_, 'b>,
     inner: &'b [Instr<'b>],
-    here: &Here<'b>,
+    here: &Context<'b>,
     nesting: u32,
     output: &mut Output<'b>,
 ) -> Result<(), RunFault>
     requires runner { IsRunner runner.now }
-    requires here { IsHere runner.now here.now }
+    requires here { IsContext runner.now here.now }
     requires part { IsPart (sheet_by runner.now) (see.body inner.now) }
     requires nesting { nesting ≤ 8000 }
     requires work { output.old.work ≤ 4000000 }
@@ -308,15 +308,15 @@ fn copy<'b>(
 {
     match here.shape {
         Shape::Root => body(runner, inner, here, nesting, output),
-        Shape::Elem(name) => around(runner, name, inner, here, nesting, output),
+        Shape::Elem(name) => put_element(runner, name, inner, here, nesting, output),
         Shape::Text => output.put(here.string),
     }
 }
 
 /// The string-value of the node that a path selects first (XSLT 1.0, 7.6.1).
-fn value<'b>(runner: &Runner<'_, 'b>, path: &Path<'_>, here: &Here<'b>) -> &'b str
+fn value<'b>(runner: &Runner<'_, 'b>, path: &Path<'_>, here: &Context<'b>) -> &'b str
     requires runner { IsRunner runner.now }
-    requires here { IsHere runner.now here.now }
+    requires here { IsContext runner.now here.now }
     requires path { Contains (looks_of (sheet_by runner.now)) (see.path path.now) }
     ensures { result.now ≡ value_of_first (first_hit_of (looking runner.now) (l.bare (trees here.now.kids.now)) (looking_from (see.path path.now))) }
 {
@@ -327,17 +327,17 @@ fn value<'b>(runner: &Runner<'_, 'b>, path: &Path<'_>, here: &Here<'b>) -> &'b s
 }
 
 /// The body of the first branch whose test holds, or else the last (XSLT 1.0, 9).
-fn taken<'b>(
+fn chosen_branch<'b>(
     runner: &Runner<'_, 'b>,
     branches: &'b [Branch<'b>],
     last: &'b [Instr<'b>],
-    here: &Here<'b>,
+    here: &Context<'b>,
 ) -> &'b [Instr<'b>]
     requires runner { IsRunner runner.now }
-    requires here { IsHere runner.now here.now }
+    requires here { IsContext runner.now here.now }
     requires part { ArePartBranches (sheet_by runner.now) (see.branches branches.now (otherwise (see.body last.now))) }
     ensures part { IsPart (sheet_by runner.now) (see.body result.now) }
-    ensures taken { (x : CallFreeBranches) → BranchesInline (sheet_by runner.now).named (see.branches branches.now (otherwise (see.body last.now))) x →
+    ensures chosen { (x : CallFreeBranches) → BranchesInline (sheet_by runner.now).named (see.branches branches.now (otherwise (see.body last.now))) x →
         (p : CallFreeBody) × Inlines (sheet_by runner.now).named (see.body result.now) p
         × ((bodies : List CallFreeBody) (outs : CallFreeJob → Going → Outcome) → takes_in (machine runner.now bodies) x (node here.now) outs ≡ does_in (machine runner.now bodies) p (node here.now) outs) }
 {
@@ -355,12 +355,12 @@ fn selected<'b>(
     runner: &Runner<'_, 'b>,
     path: &Path<'_>,
     job: Job,
-    here: &Here<'b>,
+    here: &Context<'b>,
     nesting: u32,
     output: &mut Output<'b>,
 ) -> Result<(), RunFault>
     requires runner { IsRunner runner.now }
-    requires here { IsHere runner.now here.now }
+    requires here { IsContext runner.now here.now }
     requires path { Contains (moves_of (sheet_by runner.now)) (record { path = see.path path.now; mode = mode_of (sheet_by runner.now).modes job }) }
     requires nesting { nesting ≤ 8000 }
     requires work { output.old.work ≤ 4000000 }
@@ -370,13 +370,13 @@ fn selected<'b>(
 {
     match runner.rules.move_first(path, job) {
         None => Ok(()),
-        Some(state) => hits(runner, here.kids, here.above, state, nesting, output),
+        Some(state) => apply_to_trees(runner, here.kids, here.above, state, nesting, output),
     }
 }
 
 /// The job of a move on all nodes in trees and below that it selects, by the states above them.
 #[cycle(bodies)]
-fn hits<'b>(
+fn apply_to_trees<'b>(
     runner: &Runner<'_, 'b>,
     nodes: &'b [Lettered<'b>],
     above: u32,
@@ -395,14 +395,14 @@ fn hits<'b>(
         (outputs_on runner.now bodies (l.bare (trees nodes.now)) above g) }
 {
     for node in nodes {
-        tree_hits(runner, node, above, state, nesting, output)?;
+        apply_to_tree(runner, node, above, state, nesting, output)?;
     }
     Ok(())
 }
 
 /// The same in one tree.
 #[cycle(bodies)]
-fn tree_hits<'b>(
+fn apply_to_tree<'b>(
     runner: &Runner<'_, 'b>,
     node: &'b Lettered<'b>,
     above: u32,
@@ -422,19 +422,19 @@ fn tree_hits<'b>(
 {
     match node {
         Lettered::Text(text, marks) => {
-            text_hit(runner, text, *marks, above, state, nesting, output)
+            apply_to_text(runner, text, *marks, above, state, nesting, output)
         }
         Lettered::Elem(name, letter, string, kids) => {
-            let here = Here {
+            let here = Context {
                 shape: Shape::Elem(*name),
                 string: *string,
                 kids: *kids,
                 above: runner.rules.anc_step(above, letter.sym, letter.marks),
             };
-            element_hit(runner, &here, *letter, above, state, nesting, output)?;
+            apply_to_element(runner, &here, *letter, above, state, nesting, output)?;
             match runner.rules.sel_step(state, letter.sym, letter.marks) {
                 None => Ok(()),
-                Some(below) => hits(runner, kids, here.above, below, nesting, output),
+                Some(below) => apply_to_trees(runner, kids, here.above, below, nesting, output),
             }
         }
     }
@@ -442,7 +442,7 @@ fn tree_hits<'b>(
 
 /// The job of a move on a text, where it selects it.
 #[cycle(bodies)]
-fn text_hit<'b>(
+fn apply_to_text<'b>(
     runner: &Runner<'_, 'b>,
     text: &'b str,
     marks: Marks,
@@ -464,22 +464,22 @@ fn text_hit<'b>(
     if !runner.rules.sel_hits(state, Kind::Text, marks) {
         return Ok(());
     }
-    let here = Here {
+    let here = Context {
         shape: Shape::Text,
         string: text,
         kids: &[],
         above,
     };
     let job = runner.rules.mode_of(state);
-    let rule = meant_by(runner, job, above, Kind::Text, marks);
+    let rule = template_for(runner, job, above, Kind::Text, marks);
     instantiate(runner, rule, &here, nesting, output)
 }
 
 /// The job of a move on an element, where it selects it.
 #[cycle(bodies)]
-fn element_hit<'b>(
+fn apply_to_element<'b>(
     runner: &Runner<'_, 'b>,
-    here: &Here<'b>,
+    here: &Context<'b>,
     letter: Letter,
     above: u32,
     state: u32,
@@ -487,7 +487,7 @@ fn element_hit<'b>(
     output: &mut Output<'b>,
 ) -> Result<(), RunFault>
     requires runner { IsRunner runner.now }
-    requires here { IsHere runner.now here.now }
+    requires here { IsContext runner.now here.now }
     requires element { (n : ExpandedName) × (kids : t.Trees) × (node here.now ≡ c.one (c.an_element n kids))
         × (see_letter (Kind.Elem letter.sym) letter.marks ≡ letters.letter_of (symbols_by runner.now) (predicates_by runner.now) (c.an_element n kids)) }
     requires above { above < length (told_by runner.now).ancestors.states }
@@ -504,6 +504,6 @@ fn element_hit<'b>(
         return Ok(());
     }
     let job = runner.rules.mode_of(state);
-    let rule = meant_by(runner, job, above, kind, letter.marks);
+    let rule = template_for(runner, job, above, kind, letter.marks);
     instantiate(runner, rule, here, nesting, output)
 }

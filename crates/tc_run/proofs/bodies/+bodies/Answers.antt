@@ -27,7 +27,7 @@ use Rattle.tc_run.proofs.Handing.{handed, open_deep, counted_within, instructed}
 use Rattle.tc_run.proofs.Hitting.{is_letter, task_is, hit_is, first_going, move_below, going_below, text_missed, text_met, outs_next, missed, met, element_built_in, no_tree_left, spends_none}
 use Rattle.tc_run.proofs.Instructions.{text_seen, self_seen, elem_seen, copy_seen, apply_seen, call_seen, value_of_seen, choose_seen, for_each_seen, elem_part, copy_part, apply_part, call_part, choose_part, for_each_part}
 use Rattle.tc_run.proofs.Loops.{body_begin, body_further, body_fail, hits_begin, hits_further, hits_end, hits_fail}
-use Rattle.tc_run.proofs.MeantBy.{no_body, meant_body, meant_built_in, named_got, named_low, named_part_at}
+use Rattle.tc_run.proofs.Templates.{no_body, meant_body, meant_built_in, named_got, named_low, named_part_at}
 use Rattle.tc_run.proofs.Measures.{deeper_less, tree_less, below_less}
 use Rattle.tc_run.proofs.Nodes.{here_elem, is_here_elem, none_selected, down_low, down_is, outs_of_element}
 use Rattle.tc_run.proofs.OneTree.{apart_at, element_at}
@@ -38,8 +38,8 @@ use Rattle.tc_run.proofs.Spending.{Fails, spends_nothing, fails_first, answers_t
 use Rattle.tc_run.proofs.Taking.{part_at, so_far_at}
 use Rattle.tc_run.proofs.bodies.+bodies.Goals as goal
 
-pub around-returns-in_err-body-clause-outcome : goal.around-returns-in_err-body-clause-outcome
-around-returns-in_err-body-clause-outcome t c = λ bodies p hb u.
+pub put_element-returns-in_err-body-clause-outcome : goal.put_element-returns-in_err-body-clause-outcome
+put_element-returns-in_err-body-clause-outcome t c = λ bodies p hb u.
     let n = c.args.nesting in
     let name = see.name c.args.name in
     let o = does c.args.runner.now bodies p c.args.here.now in
@@ -47,8 +47,8 @@ around-returns-in_err-body-clause-outcome t c = λ bodies p hb u.
     handed n c.args.output.now c.body.new.output c.from_residual-in_err-body.result e (put_around name o) c.from_residual-in_err-body.ensures.1
     (around_fails n c.args.output.now c.enter.new.self name o e c.in_ok-before.ensures.work.0 (c.in_err-body.ensures.outcome bodies p hb u))
 
-pub around-returns-clause-outcome : goal.around-returns-clause-outcome
-around-returns-clause-outcome t c = λ bodies p hb u.
+pub put_element-returns-clause-outcome : goal.put_element-returns-clause-outcome
+put_element-returns-clause-outcome t c = λ bodies p hb u.
     left_around c.args.nesting c.args.output.now c.enter.new.self c.body.new.output c.leave.new.self (see.name c.args.name) (does c.args.runner.now bodies p c.args.here.now) c.in_ok-before.before.items c.leave.result
     c.in_ok-before.ensures.before c.in_ok-before.ensures.nodes c.in_ok-before.ensures.work (c.in_ok-body.ensures.outcome bodies p hb u) c.leave.ensures.nodes c.leave.ensures.work c.leave.ensures.err
 
@@ -121,13 +121,13 @@ copy-returns-in-Root-clause-outcome t c = λ bodies p hb u.
 pub copy-returns-in-Elem-clause-outcome : goal.copy-returns-in-Elem-clause-outcome
 copy-returns-in-Elem-clause-outcome t c = λ bodies p hb u.
     let h = c.args.here.now in
-    subst (Answers c.args.nesting c.args.output.now c.around.new.output c.around.result) (sym (copy_elem h c.in-Elem.name (does c.args.runner.now bodies p h) c.in-Elem.is)) (c.around.ensures.outcome bodies p hb u)
+    subst (Answers c.args.nesting c.args.output.now c.put_element.new.output c.put_element.result) (sym (copy_elem h c.in-Elem.name (does c.args.runner.now bodies p h) c.in-Elem.is)) (c.put_element.ensures.outcome bodies p hb u)
 
-pub element_hit-sel_hits-requires : goal.element_hit-sel_hits-requires
-element_hit-sel_hits-requires t c = some_move_counted (told_by c.args.runner.now) c.args.state c.requires.state
+pub apply_to_element-sel_hits-requires : goal.apply_to_element-sel_hits-requires
+apply_to_element-sel_hits-requires t c = some_move_counted (told_by c.args.runner.now) c.args.state c.requires.state
 
-pub element_hit-returns-then-not-sel_hits-clause-outcome : goal.element_hit-returns-then-not-sel_hits-clause-outcome
-element_hit-returns-then-not-sel_hits-clause-outcome t c = λ bodies g hb at.
+pub apply_to_element-returns-then-not-sel_hits-clause-outcome : goal.apply_to_element-returns-then-not-sel_hits-clause-outcome
+apply_to_element-returns-then-not-sel_hits-clause-outcome t c = λ bodies g hb at.
     let r = c.args.runner.now in
     let x = letter (kinds.Elem c.args.letter.sym) c.args.letter.marks in
     let (n, kids, e, f) = c.requires.element in
@@ -135,21 +135,21 @@ element_hit-returns-then-not-sel_hits-clause-outcome t c = λ bodies g hb at.
     let o = counted (does r bodies ((machine r bodies).body_at g.task (ancestor (told_by r) c.args.above) x) c.args.here.now) in
     spends_none c.args.nesting c.args.output.now (cond ((machine r bodies).move_hits g x) o nothing) (missed ((machine r bodies).move_hits g x) o (sym hit ∙ c.if-not-sel_hits.true)) c.requires.work c.requires.nesting
 
-pub element_hit-mode_of-job-requires : goal.element_hit-mode_of-job-requires
-element_hit-mode_of-job-requires t c = some_move_low (told_by c.args.runner.now) c.args.state c.requires.state
+pub apply_to_element-mode_of-job-requires : goal.apply_to_element-mode_of-job-requires
+apply_to_element-mode_of-job-requires t c = some_move_low (told_by c.args.runner.now) c.args.state c.requires.state
 
-pub element_hit-meant_by-rule-requires-clause-job : goal.element_hit-meant_by-rule-requires-clause-job
-element_hit-meant_by-rule-requires-clause-job t c =
+pub apply_to_element-template_for-rule-requires-clause-job : goal.apply_to_element-template_for-rule-requires-clause-job
+apply_to_element-template_for-rule-requires-clause-job t c =
     let s = c.requires.state in
     c.mode_of-job.ensures.job (symbols_by c.args.runner.now) (record { path = s.path; mode = Some s.mode }) s.state c.requires.runner s.at
 
-pub element_hit-meant_by-rule-requires-clause-letter : goal.element_hit-meant_by-rule-requires-clause-letter
-element_hit-meant_by-rule-requires-clause-letter t c =
+pub apply_to_element-template_for-rule-requires-clause-letter : goal.apply_to_element-template_for-rule-requires-clause-letter
+apply_to_element-template_for-rule-requires-clause-letter t c =
     let (n, kids, e, f) = c.requires.element in
     is_letter c.args.runner.now (letter (kinds.Elem c.args.letter.sym) c.args.letter.marks) (an_element n kids) f
 
-pub element_hit-returns-clause-outcome : goal.element_hit-returns-clause-outcome
-element_hit-returns-clause-outcome t c = λ bodies g hb at.
+pub apply_to_element-returns-clause-outcome : goal.apply_to_element-returns-clause-outcome
+apply_to_element-returns-clause-outcome t c = λ bodies g hb at.
     let r = c.args.runner.now in
     let h = c.args.here.now in
     let x = letter (kinds.Elem c.args.letter.sym) c.args.letter.marks in
@@ -158,16 +158,16 @@ element_hit-returns-clause-outcome t c = λ bodies g hb at.
     let p = (machine r bodies).body_at g.task (ancestor (told_by r) c.args.above) x in
     let o = counted (does r bodies p h) in
     let task = task_is r c.args.state g c.mode_of-job.result at c.mode_of-job.ensures.mode c.requires.runner in
-    let meant = c.meant_by-rule.ensures.meant bodies (node h) g.task hb task (λ i. element_built_in h n kids c.args.letter.sym.0 e i) in
+    let meant = c.template_for-rule.ensures.meant bodies (node h) g.task hb task (λ i. element_built_in h n kids c.args.letter.sym.0 e i) in
     subst (Answers c.args.nesting c.args.output.now c.instantiate.new.output c.instantiate.result) (sym (met ((machine r bodies).move_hits g x) o (sym hit ∙ c.if-not-sel_hits.false)))
     (c.instantiate.ensures.outcome bodies p hb meant)
 
-pub hits-loop-node-init : goal.hits-loop-node-init
-hits-loop-node-init t c =
+pub apply_to_trees-loop-node-init : goal.apply_to_trees-loop-node-init
+apply_to_trees-loop-node-init t c =
     (c.requires.work, c.requires.nodes, λ bodies g hb at. hits_begin c.args.runner.now bodies c.args.above c.args.nesting g (bare (trees c.args.nodes.now)) c.args.output.now (spends_nothing c.args.nesting c.args.output.now c.requires.work c.requires.nesting))
 
-pub hits-tree_hits-requires : goal.hits-tree_hits-requires
-hits-tree_hits-requires t c =
+pub apply_to_trees-apply_to_tree-requires : goal.apply_to_trees-apply_to_tree-requires
+apply_to_trees-apply_to_tree-requires t c =
     let ns = c.args.nodes.now in
     let k = c.loop-node.node-index in
     let x = c.node-item.result in (
@@ -175,35 +175,35 @@ hits-tree_hits-requires t c =
       (c.requires.runner, ((apart_at c.args.runner.now ns k x c.loop-node-test.true c.node-item.is c.loop-node.invariant.1).0, (c.requires.above, (c.requires.state, (c.requires.nesting, c.loop-node.invariant.0))))),
     )
 
-pub hits-loop-node-preserved : goal.hits-loop-node-preserved
-hits-loop-node-preserved t c =
+pub apply_to_trees-loop-node-preserved : goal.apply_to_trees-loop-node-preserved
+apply_to_trees-loop-node-preserved t c =
     let r = c.args.runner.now in
     let ns = c.args.nodes.now in
     let k = c.loop-node.node-index in
     let x = c.node-item.result in (
-      c.in_ok-tree_hits.ensures.few,
+      c.in_ok-apply_to_tree.ensures.few,
       (apart_at r ns k x c.loop-node-test.true c.node-item.is c.loop-node.invariant.1).1,
       λ bodies g hb at.
-          hits_further r bodies c.args.above c.args.nesting g (bare (trees ns)) (c.loop-node.invariant.2 bodies g hb at) (c.in_ok-tree_hits.ensures.outcome bodies g hb at)
+          hits_further r bodies c.args.above c.args.nesting g (bare (trees ns)) (c.loop-node.invariant.2 bodies g hb at) (c.in_ok-apply_to_tree.ensures.outcome bodies g hb at)
           (outs_next r bodies c.args.above g ns k x c.loop-node-test.true c.node-item.is),
     )
 
-pub hits-returns-in_err-tree_hits-clause-outcome : goal.hits-returns-in_err-tree_hits-clause-outcome
-hits-returns-in_err-tree_hits-clause-outcome t c = λ bodies g hb at.
+pub apply_to_trees-returns-in_err-apply_to_tree-clause-outcome : goal.apply_to_trees-returns-in_err-apply_to_tree-clause-outcome
+apply_to_trees-returns-in_err-apply_to_tree-clause-outcome t c = λ bodies g hb at.
     let r = c.args.runner.now in
     let ns = c.args.nodes.now in
     let k = c.loop-node.node-index in
     let x = c.node-item.result in
     let n = c.args.nesting in
     let above = c.args.above in
-    let e = c.in_err-tree_hits.field-0.0 in
+    let e = c.in_err-apply_to_tree.field-0.0 in
     let all = bare (trees ns) in
-    handed n c.args.output.now c.tree_hits.new.output c.from_residual.result e (outputs_on r bodies all above g) c.from_residual.ensures.1
+    handed n c.args.output.now c.apply_to_tree.new.output c.from_residual.result e (outputs_on r bodies all above g) c.from_residual.ensures.1
     (hits_fail r bodies above n g all c.args.output.now c.loop-node.output (bare (trees (drop k ns))) (bare (trees (drop (k + 1) ns))) (outputs_on r bodies (bare (before x none)) above g) e
-    (c.loop-node.invariant.2 bodies g hb at) (c.in_err-tree_hits.ensures.outcome bodies g hb at) (outs_next r bodies above g ns k x c.loop-node-test.true c.node-item.is))
+    (c.loop-node.invariant.2 bodies g hb at) (c.in_err-apply_to_tree.ensures.outcome bodies g hb at) (outs_next r bodies above g ns k x c.loop-node-test.true c.node-item.is))
 
-pub hits-returns-clause-outcome : goal.hits-returns-clause-outcome
-hits-returns-clause-outcome t c = λ bodies g hb at.
+pub apply_to_trees-returns-clause-outcome : goal.apply_to_trees-returns-clause-outcome
+apply_to_trees-returns-clause-outcome t c = λ bodies g hb at.
     let r = c.args.runner.now in
     let ns = c.args.nodes.now in
     let n = c.args.nesting in
@@ -236,8 +236,8 @@ instruction-returns-in_err-nesting-clause-outcome t c = λ bodies p hb u.
     let e = c.in_err-nesting.field-0.0 in
     handed n x x c.from_residual.result e (does r bodies p h) c.from_residual.ensures.1 (open_deep n x e (does r bodies p h) (one_deep r bodies h (sheet_by r).named c.args.instruction.now p u) c.in_err-nesting.ensures.err)
 
-pub instruction-around-requires : goal.instruction-around-requires
-instruction-around-requires t c = (
+pub instruction-put_element-requires : goal.instruction-put_element-requires
+instruction-put_element-requires t c = (
   omega (arith, c.decreases, deeper_less c.args.nesting c.in_ok-nesting.nesting (bare (trees c.args.here.now.kids.now)) 8 6 c.in_ok-nesting.ensures.ok (omega arith)),
   (c.requires.runner, (c.requires.here, (elem_part (sheet_by c.args.runner.now) c.args.instruction.now c.in-Elem.name c.in-Elem.inner c.in-Elem.is c.requires.part, (c.in_ok-nesting.ensures.ok.1, c.requires.work)))),
 )
@@ -261,8 +261,8 @@ instruction-instantiate-requires t c =
       (c.requires.runner, (c.requires.here, (named_part_at r c.requires.runner c.in-Call.number (get_or c.sheet.result.now.named.now c.in-Call.number no_body) (named_got (sheet_by r) c.sheet.result.now c.in-Call.number no_body c.sheet.ensures low), (c.in_ok-nesting.ensures.ok.1, c.requires.work)))),
     )
 
-pub instruction-taken-chosen-requires-clause-part : goal.instruction-taken-chosen-requires-clause-part
-instruction-taken-chosen-requires-clause-part t c = choose_part (sheet_by c.args.runner.now) c.args.instruction.now c.in-Choose.branches c.in-Choose.last c.in-Choose.is c.requires.part
+pub instruction-chosen_branch-chosen-requires-clause-part : goal.instruction-chosen_branch-chosen-requires-clause-part
+instruction-chosen_branch-chosen-requires-clause-part t c = choose_part (sheet_by c.args.runner.now) c.args.instruction.now c.in-Choose.branches c.in-Choose.last c.in-Choose.is c.requires.part
 
 pub instruction-returns-in-Text-clause-outcome : goal.instruction-returns-in-Text-clause-outcome
 instruction-returns-in-Text-clause-outcome t c = λ bodies p hb u.
@@ -279,8 +279,8 @@ instruction-returns-in-Elem-clause-outcome t c = λ bodies p hb u.
     let h = c.args.here.now in
     let named = (sheet_by r).named in
     let k = element_alone r bodies h named (subst (λ b. Inlines named b p) (elem_seen c.args.instruction.now c.in-Elem.name c.in-Elem.inner c.in-Elem.is) u) in
-    instructed c.args.nesting c.in_ok-nesting.nesting c.args.output.now c.around.new.output c.around.result (put_around (see.name c.in-Elem.name) (does r bodies k.plain h)) (does r bodies p h) c.in_ok-nesting.ensures.ok k.outcome
-    (c.around.ensures.outcome bodies k.plain hb k.unfolds)
+    instructed c.args.nesting c.in_ok-nesting.nesting c.args.output.now c.put_element.new.output c.put_element.result (put_around (see.name c.in-Elem.name) (does r bodies k.plain h)) (does r bodies p h) c.in_ok-nesting.ensures.ok k.outcome
+    (c.put_element.ensures.outcome bodies k.plain hb k.unfolds)
 
 pub instruction-returns-in-Copy-clause-outcome : goal.instruction-returns-in-Copy-clause-outcome
 instruction-returns-in-Copy-clause-outcome t c = λ bodies p hb u.
@@ -340,7 +340,7 @@ instruction-returns-in-Choose-clause-outcome t c = λ bodies p hb u.
     let h = c.args.here.now in
     let named = (sheet_by r).named in
     let k = choose_alone r bodies h named (subst (λ b. Inlines named b p) (choose_seen c.args.instruction.now c.in-Choose.branches c.in-Choose.last c.in-Choose.is) u) in
-    let (q, v, same) = c.taken-chosen.ensures.taken k.branches k.unfolds in
+    let (q, v, same) = c.chosen_branch-chosen.ensures.chosen k.branches k.unfolds in
     instructed c.args.nesting c.in_ok-nesting.nesting c.args.output.now c.body.new.output c.body.result (does r bodies q h) (does r bodies p h) c.in_ok-nesting.ensures.ok
     (k.outcome ∙ ap within (same bodies (λ j w. outputs (machine r bodies) (children (node h)) j (ancestor (told_by r) h.above) w))) (c.body.ensures.outcome bodies q hb v)
 
@@ -373,14 +373,14 @@ selected-returns-in-Some-clause-outcome t c = λ bodies k hb task.
     let p = see.path c.args.path.now in
     let mode = mode_of (sheet_by r).modes c.args.job in
     let going = first_going r c.in-Some.state p mode k (c.in-Some.ensures (symbols_by r) c.requires.runner) task in
-    subst (λ w. Answers c.args.nesting c.args.output.now c.hits.new.output c.hits.result (outputs_on r bodies w h.above (going_from k p))) c.requires.here.children_are
-    (c.hits.ensures.outcome bodies (going_from k p) hb going)
+    subst (λ w. Answers c.args.nesting c.args.output.now c.apply_to_trees.new.output c.apply_to_trees.result (outputs_on r bodies w h.above (going_from k p))) c.requires.here.children_are
+    (c.apply_to_trees.ensures.outcome bodies (going_from k p) hb going)
 
-pub text_hit-sel_hits-requires : goal.text_hit-sel_hits-requires
-text_hit-sel_hits-requires t c = some_move_counted (told_by c.args.runner.now) c.args.state c.requires.1.1.1.1.1.0
+pub apply_to_text-sel_hits-requires : goal.apply_to_text-sel_hits-requires
+apply_to_text-sel_hits-requires t c = some_move_counted (told_by c.args.runner.now) c.args.state c.requires.1.1.1.1.1.0
 
-pub text_hit-returns-then-not-sel_hits-clause-outcome : goal.text_hit-returns-then-not-sel_hits-clause-outcome
-text_hit-returns-then-not-sel_hits-clause-outcome w c = λ bodies g hb at.
+pub apply_to_text-returns-then-not-sel_hits-clause-outcome : goal.apply_to_text-returns-then-not-sel_hits-clause-outcome
+apply_to_text-returns-then-not-sel_hits-clause-outcome w c = λ bodies g hb at.
     let r = c.args.runner.now in
     let s = c.args.text.now in
     let x = letter kinds.Text c.args.marks in
@@ -388,33 +388,33 @@ text_hit-returns-then-not-sel_hits-clause-outcome w c = λ bodies g hb at.
     spends_none c.args.nesting c.args.output.now (outputs_on r bodies (t.text s t.none) c.args.above g)
     (text_missed r bodies c.args.above g s x c.sel_hits.result c.requires.1.1.1.0 hit c.if-not-sel_hits.true) c.requires.1.1.1.1.1.1.1 c.requires.1.1.1.1.1.1.0
 
-pub text_hit-mode_of-job-requires : goal.text_hit-mode_of-job-requires
-text_hit-mode_of-job-requires t c = some_move_low (told_by c.args.runner.now) c.args.state c.requires.1.1.1.1.1.0
+pub apply_to_text-mode_of-job-requires : goal.apply_to_text-mode_of-job-requires
+apply_to_text-mode_of-job-requires t c = some_move_low (told_by c.args.runner.now) c.args.state c.requires.1.1.1.1.1.0
 
-pub text_hit-meant_by-rule-requires-clause-job : goal.text_hit-meant_by-rule-requires-clause-job
-text_hit-meant_by-rule-requires-clause-job t c =
+pub apply_to_text-template_for-rule-requires-clause-job : goal.apply_to_text-template_for-rule-requires-clause-job
+apply_to_text-template_for-rule-requires-clause-job t c =
     let s = c.requires.1.1.1.1.1.0 in
     c.mode_of-job.ensures.job (symbols_by c.args.runner.now) (record { path = s.path; mode = Some s.mode }) s.state c.requires.1.1.0 s.at
 
-pub text_hit-meant_by-rule-requires-clause-letter : goal.text_hit-meant_by-rule-requires-clause-letter
-text_hit-meant_by-rule-requires-clause-letter t c = is_letter c.args.runner.now (letter kinds.Text c.args.marks) (a_text c.args.text.now) c.requires.1.1.1.0
+pub apply_to_text-template_for-rule-requires-clause-letter : goal.apply_to_text-template_for-rule-requires-clause-letter
+apply_to_text-template_for-rule-requires-clause-letter t c = is_letter c.args.runner.now (letter kinds.Text c.args.marks) (a_text c.args.text.now) c.requires.1.1.1.0
 
-pub text_hit-returns-clause-outcome : goal.text_hit-returns-clause-outcome
-text_hit-returns-clause-outcome w c = λ bodies g hb at.
+pub apply_to_text-returns-clause-outcome : goal.apply_to_text-returns-clause-outcome
+apply_to_text-returns-clause-outcome w c = λ bodies g hb at.
     let r = c.args.runner.now in
     let s = c.args.text in
     let x = letter kinds.Text c.args.marks in
     let hit = hit_is r c.args.state g x c.sel_hits.result at c.requires.1.1.0 (is_letter r x (a_text s.now) c.requires.1.1.1.0) c.sel_hits.ensures bodies in
     let p = (machine r bodies).body_at g.task (ancestor (told_by r) c.args.above) x in
     let task = task_is r c.args.state g c.mode_of-job.result at c.mode_of-job.ensures.mode c.requires.1.1.0 in
-    let meant = c.meant_by-rule.ensures.meant bodies (one (a_text s.now)) g.task hb task (λ i. refl) in
+    let meant = c.template_for-rule.ensures.meant bodies (one (a_text s.now)) g.task hb task (λ i. refl) in
     let kids : Bor (List Lettered) = record { ref_ptr = (0, 0); now = [] } in
     subst (Answers c.args.nesting c.args.output.now c.instantiate.new.output c.instantiate.result)
     (sym (text_met r bodies c.args.above g s kids x c.sel_hits.result c.requires.1.1.1.0 hit c.if-not-sel_hits.false))
     (c.instantiate.ensures.outcome bodies p hb meant)
 
-pub tree_hits-element_hit-requires : goal.tree_hits-element_hit-requires
-tree_hits-element_hit-requires t c =
+pub apply_to_tree-apply_to_element-requires : goal.apply_to_tree-apply_to_element-requires
+apply_to_tree-apply_to_element-requires t c =
     let r = c.args.runner.now in
     let x = letter (kinds.Elem c.in-Elem.letter.sym) c.in-Elem.letter.marks in
     let kids = bare (trees c.in-Elem.kids.now) in
@@ -424,11 +424,11 @@ tree_hits-element_hit-requires t c =
       (c.requires.runner, (is_here_elem r c.in-Elem.name c.in-Elem.letter c.in-Elem.string c.in-Elem.kids none c.anc_step.result a (down_low r c.anc_step.result _ d), ((see.name c.in-Elem.name, kids, refl, a.letter_is), (c.requires.above, (c.requires.state, (c.requires.nesting, c.requires.work)))))),
     )
 
-pub tree_hits-returns-in_err-element_hit-in-Elem-clause-outcome : goal.tree_hits-returns-in_err-element_hit-in-Elem-clause-outcome
-tree_hits-returns-in_err-element_hit-in-Elem-clause-outcome t c = λ bodies g hb at.
+pub apply_to_tree-returns-in_err-apply_to_element-in-Elem-clause-outcome : goal.apply_to_tree-returns-in_err-apply_to_element-in-Elem-clause-outcome
+apply_to_tree-returns-in_err-apply_to_element-in-Elem-clause-outcome t c = λ bodies g hb at.
     let r = c.args.runner.now in
     let n = c.args.nesting in
-    let e = c.in_err-element_hit-in-Elem.field-0.0 in
+    let e = c.in_err-apply_to_element-in-Elem.field-0.0 in
     let s = c.in-Elem.string in
     let kids = c.in-Elem.kids in
     let name = c.in-Elem.name in
@@ -441,14 +441,14 @@ tree_hits-returns-in_err-element_hit-in-Elem-clause-outcome t c = λ bodies g hb
     let first = cond ((machine r bodies).move_hits g x) (counted (does r bodies ((machine r bodies).body_at g.task (ancestor (told_by r) above) x) h)) nothing in
     let below = outputs_on r bodies (bare (trees kids.now)) h.above ((machine r bodies).move_step g x) in
     let whole = outs_of_element r bodies above g h c.args.node.now name y s kids c.requires.node c.in-Elem.is refl (down_is r c.anc_step.result _ d) in
-    handed n c.args.output.now c.element_hit.new.output c.from_residual.result e (outputs_on r bodies (bare (before c.args.node.now none)) above g) c.from_residual.ensures.1
-    (subst (Fails n c.args.output.now e) (sym whole) (fails_first n c.args.output.now e first below (c.in_err-element_hit-in-Elem.ensures.outcome bodies g hb at)))
+    handed n c.args.output.now c.apply_to_element.new.output c.from_residual.result e (outputs_on r bodies (bare (before c.args.node.now none)) above g) c.from_residual.ensures.1
+    (subst (Fails n c.args.output.now e) (sym whole) (fails_first n c.args.output.now e first below (c.in_err-apply_to_element-in-Elem.ensures.outcome bodies g hb at)))
 
-pub tree_hits-sel_step-requires : goal.tree_hits-sel_step-requires
-tree_hits-sel_step-requires t c = some_move_counted (told_by c.args.runner.now) c.args.state c.requires.state
+pub apply_to_tree-sel_step-requires : goal.apply_to_tree-sel_step-requires
+apply_to_tree-sel_step-requires t c = some_move_counted (told_by c.args.runner.now) c.args.state c.requires.state
 
-pub tree_hits-hits-requires : goal.tree_hits-hits-requires
-tree_hits-hits-requires t c =
+pub apply_to_tree-apply_to_trees-requires : goal.apply_to_tree-apply_to_trees-requires
+apply_to_tree-apply_to_trees-requires t c =
     let r = c.args.runner.now in
     let x = letter (kinds.Elem c.in-Elem.letter.sym) c.in-Elem.letter.marks in
     let kids = bare (trees c.in-Elem.kids.now) in
@@ -456,11 +456,11 @@ tree_hits-hits-requires t c =
     let lx = is_letter r x (an_element (see.name c.in-Elem.name) kids) a.letter_is in
     let d = c.anc_step.ensures (symbols_by r) c.requires.runner lx in (
       omega (arith, c.decreases, below_less c.args.nesting c.args.node.now c.in-Elem.name c.in-Elem.letter c.in-Elem.string c.in-Elem.kids 1 c.in-Elem.is (omega arith)),
-      (c.requires.runner, (a.kids_are, (down_low r c.anc_step.result _ d, (move_below r c.args.state c.in-Some.below x c.requires.state c.requires.runner lx c.in-Some.ensures, (c.requires.nesting, c.in_ok-element_hit-in-Elem.ensures.few))))),
+      (c.requires.runner, (a.kids_are, (down_low r c.anc_step.result _ d, (move_below r c.args.state c.in-Some.below x c.requires.state c.requires.runner lx c.in-Some.ensures, (c.requires.nesting, c.in_ok-apply_to_element-in-Elem.ensures.few))))),
     )
 
-pub tree_hits-returns-in-None-clause-outcome : goal.tree_hits-returns-in-None-clause-outcome
-tree_hits-returns-in-None-clause-outcome t c = λ bodies g hb at.
+pub apply_to_tree-returns-in-None-clause-outcome : goal.apply_to_tree-returns-in-None-clause-outcome
+apply_to_tree-returns-in-None-clause-outcome t c = λ bodies g hb at.
     let r = c.args.runner.now in
     let n = c.args.nesting in
     let s = c.in-Elem.string in
@@ -477,12 +477,12 @@ tree_hits-returns-in-None-clause-outcome t c = λ bodies g hb at.
     let below = outputs_on r bodies (bare (trees kids.now)) h.above ((machine r bodies).move_step g x) in
     let whole = outs_of_element r bodies above g h c.args.node.now name y s kids c.requires.node c.in-Elem.is refl (down_is r c.anc_step.result _ d) in
     let empty = c.in-None.ensures (symbols_by r) (record { path = g.path; mode = Some at.mode }) g.state c.requires.runner lx at.state in
-    subst (Spends n c.args.output.now c.element_hit.new.output) (sym whole)
-    (spends_last n c.args.output.now c.element_hit.new.output first below (c.in_ok-element_hit-in-Elem.ensures.outcome bodies g hb at)
+    subst (Spends n c.args.output.now c.apply_to_element.new.output) (sym whole)
+    (spends_last n c.args.output.now c.apply_to_element.new.output first below (c.in_ok-apply_to_element-in-Elem.ensures.outcome bodies g hb at)
     (outputs_none (symbols_by r) (predicates_by r) (sheet_by r).rules bodies (bare (trees kids.now)) g.task (ancestor (told_by r) h.above) ((machine r bodies).move_step g x) empty))
 
-pub tree_hits-returns-in-Some-clause-outcome : goal.tree_hits-returns-in-Some-clause-outcome
-tree_hits-returns-in-Some-clause-outcome t c = λ bodies g hb at.
+pub apply_to_tree-returns-in-Some-clause-outcome : goal.apply_to_tree-returns-in-Some-clause-outcome
+apply_to_tree-returns-in-Some-clause-outcome t c = λ bodies g hb at.
     let r = c.args.runner.now in
     let n = c.args.nesting in
     let s = c.in-Elem.string in
@@ -499,6 +499,6 @@ tree_hits-returns-in-Some-clause-outcome t c = λ bodies g hb at.
     let next = (machine r bodies).move_step g x in
     let below = outputs_on r bodies (bare (trees kids.now)) h.above next in
     let whole = outs_of_element r bodies above g h c.args.node.now name y s kids c.requires.node c.in-Elem.is refl (down_is r c.anc_step.result _ d) in
-    subst (Answers n c.args.output.now c.hits.new.output c.hits.result) (sym whole)
-    (answers_then n c.args.output.now c.element_hit.new.output c.hits.new.output c.hits.result first below (c.in_ok-element_hit-in-Elem.ensures.outcome bodies g hb at)
-    (c.hits.ensures.outcome bodies next hb (going_below r bodies c.args.state c.in-Some.below g x at c.requires.runner lx c.in-Some.ensures)))
+    subst (Answers n c.args.output.now c.apply_to_trees.new.output c.apply_to_trees.result) (sym whole)
+    (answers_then n c.args.output.now c.apply_to_element.new.output c.apply_to_trees.new.output c.apply_to_trees.result first below (c.in_ok-apply_to_element-in-Elem.ensures.outcome bodies g hb at)
+    (c.apply_to_trees.ensures.outcome bodies next hb (going_below r bodies c.args.state c.in-Some.below g x at c.requires.runner lx c.in-Some.ensures)))

@@ -17,24 +17,24 @@ invariant-body-loop-one l =
     × ((bodies : List CallFreeBody) (p : CallFreeBody) → HasBodies l.runner bodies → Inlines (sheet_by l.runner).named (see.body l.body) p
     → BodySoFar l.runner bodies l.here l.nesting l.initial.output l.output p (see.body (drop l.one-index l.body)))
 
-abbrev pub invariant-hits-loop-node : goal.invariant-hits-loop-node
-invariant-hits-loop-node l =
+abbrev pub invariant-apply_to_trees-loop-node : goal.invariant-apply_to_trees-loop-node
+invariant-apply_to_trees-loop-node l =
     (l.output.work ≤ 4000000) × IsLetteredBy l.runner (trees (drop l.node-index l.nodes))
     × ((bodies : List CallFreeBody) (g : Going) → HasBodies l.runner bodies → IsMoveAt (told_by l.runner) l.state g
     → HitsSoFar l.runner bodies l.above l.nesting l.initial.output l.output g (bare (trees l.nodes)) (bare (trees (drop l.node-index l.nodes))))
 
 -- each call is one body or instruction deeper, or goes to the children
-abbrev pub decreases-hits : goal.decreases-hits
-decreases-hits l = left_at l.nesting (bare (trees l.nodes.now)) 1
+abbrev pub decreases-apply_to_trees : goal.decreases-apply_to_trees
+decreases-apply_to_trees l = left_at l.nesting (bare (trees l.nodes.now)) 1
 
-abbrev pub decreases-tree_hits : goal.decreases-tree_hits
-decreases-tree_hits l = left_at l.nesting (bare (before l.node.now no_tree)) 0
+abbrev pub decreases-apply_to_tree : goal.decreases-apply_to_tree
+decreases-apply_to_tree l = left_at l.nesting (bare (before l.node.now no_tree)) 0
 
-abbrev pub decreases-text_hit : goal.decreases-text_hit
-decreases-text_hit l = left_at l.nesting none 2
+abbrev pub decreases-apply_to_text : goal.decreases-apply_to_text
+decreases-apply_to_text l = left_at l.nesting none 2
 
-abbrev pub decreases-element_hit : goal.decreases-element_hit
-decreases-element_hit l = left_at l.nesting (bare (trees l.here.now.kids.now)) 4
+abbrev pub decreases-apply_to_element : goal.decreases-apply_to_element
+decreases-apply_to_element l = left_at l.nesting (bare (trees l.here.now.kids.now)) 4
 
 abbrev pub decreases-selected : goal.decreases-selected
 decreases-selected l = left_at l.nesting (bare (trees l.here.now.kids.now)) 3
@@ -51,8 +51,8 @@ decreases-body l = left_at l.nesting (bare (trees l.here.now.kids.now)) 7
 abbrev pub decreases-instruction : goal.decreases-instruction
 decreases-instruction l = left_at l.nesting (bare (trees l.here.now.kids.now)) 6
 
-abbrev pub decreases-around : goal.decreases-around
-decreases-around l = left_at l.nesting (bare (trees l.here.now.kids.now)) 8
+abbrev pub decreases-put_element : goal.decreases-put_element
+decreases-put_element l = left_at l.nesting (bare (trees l.here.now.kids.now)) 8
 
 abbrev pub decreases-copy : goal.decreases-copy
 decreases-copy l = left_at l.nesting (bare (trees l.here.now.kids.now)) 9

@@ -29,4 +29,4 @@ returns-clause-outcome c = λ bodies hb.
     let p = plain_of bodies (built_in 0 (whole doc)) rule in
     let number = chosen_number rules 0 (λ i q. fits q.pattern (top t.none)) (found c.root_rule-found.result) (c.root_rule-found.ensures (symbols_by r) c.requires.runner) in
     subst (λ o. Answers 0 c.args.output.now c.instantiate.new.output c.instantiate.result (counted o)) (does_on_root r bodies p c.args.string c.args.nodes (down_is r 0 _ (ancestors_begin (symbols_by r) r.rules.now c.requires.runner)))
-    (c.instantiate.ensures.outcome bodies p hb (c.meaning-rule.ensures.meant bodies (whole doc) rule hb number))
+    (c.instantiate.ensures.outcome bodies p hb (c.template_of-rule.ensures.meant bodies (whole doc) rule hb number))

@@ -5,8 +5,8 @@ use Rattle.tc_rules.specs.Views.{mode_of}
 use Rattle.tc_rules.specs.RulesView.{ancestor}
 use Rattle.tc_run.specs.Running.{sheet_by, symbols_by, told_by}
 use Rattle.tc_rules.specs.Tasks.{IsTaskOf}
-use Rattle.tc_run.proofs.MeantBy.{each_part_at, each_meant, mode_meant}
-use Rattle.tc_run.proofs.bodies.meant_by.Goals as goal
+use Rattle.tc_run.proofs.Templates.{each_part_at, each_meant, mode_meant}
+use Rattle.tc_run.proofs.bodies.template_for.Goals as goal
 
 pub returns-in-Each-clause-part : goal.returns-in-Each-clause-part
 returns-in-Each-clause-part c =
@@ -25,5 +25,5 @@ returns-in-Mode-clause-meant c = λ bodies n k u t b.
     let r = c.args.runner.now in
     let low : c.in-Mode.mode < (sheet_by r).modes = subst (IsJob (sheet_by r)) c.in-Mode.is c.requires.job in
     let task : IsTaskOf (sheet_by r) c.in-Mode.mode k = subst (λ j. IsTaskOf (sheet_by r) (mode_of (sheet_by r).modes j) k) c.in-Mode.is t in
-    mode_meant r bodies c.in-Mode.mode (found c.rule_for-found.result) c.meaning.result n k (ancestor (told_by r) c.args.above) (letter c.args.kind c.args.marks) low task
-    (c.rule_for-found.ensures (symbols_by r) c.requires.runner c.requires.letter) b (λ o e. c.meaning.ensures.meant bodies n o u e)
+    mode_meant r bodies c.in-Mode.mode (found c.rule_for-found.result) c.template_of.result n k (ancestor (told_by r) c.args.above) (letter c.args.kind c.args.marks) low task
+    (c.rule_for-found.ensures (symbols_by r) c.requires.runner c.requires.letter) b (λ o e. c.template_of.ensures.meant bodies n o u e)

@@ -8,10 +8,10 @@ use Rattle.tc_model.proofs.ViewsBody.{left_branch}
 use Rattle.tc_run.specs.Running.{machine, sheet_by}
 use Rattle.tc_run.specs.Views.{node}
 use Rattle.tc_run.proofs.Taking.{no_branch, branch_is, test_holds, branch_this, branch_not, branch_last, branch_part_at}
-use Rattle.tc_run.proofs.bodies.taken.Goals as goal
+use Rattle.tc_run.proofs.bodies.chosen_branch.Goals as goal
 
-pub returns-then-holds-clause-taken : goal.returns-then-holds-clause-taken
-returns-then-holds-clause-taken c = λ x u.
+pub returns-then-holds-clause-chosen : goal.returns-then-holds-clause-chosen
+returns-then-holds-clause-chosen c = λ x u.
     let r = c.args.runner.now in
     let h = c.args.here.now in
     let bs = c.args.branches.now in
@@ -47,8 +47,8 @@ loop-branch-preserved c =
           (z, w, λ bodies outs. same bodies outs ∙ eq bodies outs),
     )
 
-pub returns-clause-taken : goal.returns-clause-taken
-returns-clause-taken c = λ x u.
+pub returns-clause-chosen : goal.returns-clause-chosen
+returns-clause-chosen c = λ x u.
     let r = c.args.runner.now in
     let h = c.args.here.now in
     let bs = c.args.branches.now in

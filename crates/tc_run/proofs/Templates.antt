@@ -24,9 +24,9 @@ use Rattle.tc_rules.specs.States.{Chosen, chosen, plain_of, built_in_at}
 use Rattle.tc_rules.specs.Parts.{IsPart}
 use Rattle.tc_run.specs.Running.{IsRunner, HasBodies, sheet_by, symbols_by, predicates_by, machine}
 use Rattle.tc_rules.specs.Tasks.{IsTaskOf}
-use Rattle.tc_run.specs.Tasks.{IsMeant, built_in}
-use Rattle.tc_run.specs.declared.bodies.Meant.{Meant}
-use Rattle.tc_run.specs.declared.bodies.Meant.TheVariants as m
+use Rattle.tc_run.specs.Tasks.{IsMeantBy, built_in}
+use Rattle.tc_run.specs.declared.bodies.Template.{Template}
+use Rattle.tc_run.specs.declared.bodies.Template.TheVariants as m
 use Rattle.tc_run.specs.declared.runner.Runner.{Runner}
 use Rattle.tc_run.proofs.Members.{has_got}
 use Rattle.tc_rules.proofs.PartsOf.{rule_part, named_part, each_part}
@@ -64,11 +64,11 @@ named_low s sh i e h =
     omega (arith, size, h)
 
 module _ (s : List Body) (n : Node) where
-  pub meant_body : (w : Meant) (b : Bor (List Instr)) (p : CallFreeBody) → w ≡ m.Body b → IsMeant s n w p → Inlines s (see.body b.now) p
-  meant_body w b p e h = subst (λ v. IsMeant s n v p) e h
+  pub meant_body : (w : Template) (b : Bor (List Instr)) (p : CallFreeBody) → w ≡ m.Body b → IsMeantBy s n w p → Inlines s (see.body b.now) p
+  meant_body w b p e h = subst (λ v. IsMeantBy s n v p) e h
 
-  pub meant_built_in : (w : Meant) (mode : ℕ) (p : CallFreeBody) → w ≡ m.BuiltIn mode → IsMeant s n w p → p ≡ built_in mode n
-  meant_built_in w mode p e h = subst (λ v. IsMeant s n v p) e h
+  pub meant_built_in : (w : Template) (mode : ℕ) (p : CallFreeBody) → w ≡ m.BuiltIn mode → IsMeantBy s n w p → p ≡ built_in mode n
+  meant_built_in w mode p e h = subst (λ v. IsMeantBy s n v p) e h
 
 module _ (r : Runner) where
   module _ (is : IsRunner r) where
@@ -98,13 +98,13 @@ module _ (r : Runner) where
   rule_meant bodies u b o i x e k = rule_chosen (sheet_by r).named (sheet_by r).rules bodies u b o i (see.rule x) k e
 
   -- the rule that was found for a letter
-  pub mode_meant : (bodies : List CallFreeBody) (mode : ℕ) (found : Option ℕ) (w : Meant) (n : Node) (k : CallFreeJob) (q : State) (l : Letter) → mode < (sheet_by r).modes → IsTaskOf (sheet_by r) mode k
+  pub mode_meant : (bodies : List CallFreeBody) (mode : ℕ) (found : Option ℕ) (w : Template) (n : Node) (k : CallFreeJob) (q : State) (l : Letter) → mode < (sheet_by r).modes → IsTaskOf (sheet_by r) mode k
       → IsRuleOf (sheet_by r).rules mode (fits_below (symbols_by r) (predicates_by r) q l) found
       → ((i : ℕ) → built_in_at i l.kind ≡ built_in i n)
-      → ((o : Option Chosen) → option_map (λ y. y.number) o ≡ found → IsMeant (sheet_by r).named n w (plain_of bodies (built_in mode n) o))
-      → IsMeant (sheet_by r).named n w ((machine r bodies).body_at k q l)
+      → ((o : Option Chosen) → option_map (λ y. y.number) o ≡ found → IsMeantBy (sheet_by r).named n w (plain_of bodies (built_in mode n) o))
+      → IsMeantBy (sheet_by r).named n w ((machine r bodies).body_at k q l)
   mode_meant bodies mode found w n k q l h t f b ens =
       let o : Option Chosen = chosen (sheet_by r).rules mode (fits_below (symbols_by r) (predicates_by r) q l) in
       let same : (machine r bodies).body_at k q l ≡ plain_of bodies (built_in mode n) o =
       ap (λ j. (machine r bodies).body_at j q l) (mode_task (sheet_by r) mode k h t) ∙ ap (λ y. plain_of bodies y o) (b mode) in
-      subst (IsMeant (sheet_by r).named n w) (sym same) (ens o (chosen_number (sheet_by r).rules mode (fits_below (symbols_by r) (predicates_by r) q l) found f))
+      subst (IsMeantBy (sheet_by r).named n w) (sym same) (ens o (chosen_number (sheet_by r).rules mode (fits_below (symbols_by r) (predicates_by r) q l) found f))

@@ -1,7 +1,7 @@
 use Rattle.std.proofs.Common.{get_or}
 use Rattle.tc_run.specs.Running.{sheet_by}
-use Rattle.tc_run.proofs.MeantBy.{no_rule, found_low, found_number, rule_got, rule_part_at, rule_meant}
-use Rattle.tc_run.proofs.bodies.meaning.Goals as goal
+use Rattle.tc_run.proofs.Templates.{no_rule, found_low, found_number, rule_got, rule_part_at, rule_meant}
+use Rattle.tc_run.proofs.bodies.template_of.Goals as goal
 
 pub returns-in-Rule-clause-part : goal.returns-in-Rule-clause-part
 returns-in-Rule-clause-part c =

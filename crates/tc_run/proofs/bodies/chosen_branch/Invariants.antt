@@ -7,7 +7,7 @@ use Rattle.tc_rules.specs.States.{Going}
 use Rattle.tc_rules.specs.Parts.{ArePartBranches}
 use Rattle.tc_run.specs.Running.{machine, sheet_by}
 use Rattle.tc_run.specs.Views.{node}
-use Rattle.tc_run.proofs.bodies.taken.Given as goal
+use Rattle.tc_run.proofs.bodies.chosen_branch.Given as goal
 
 -- no test so far holds
 abbrev pub invariant-loop-branch : goal.invariant-loop-branch
