@@ -1,0 +1,15 @@
+pub mod Steps
+pub mod Orders
+pub mod PutLaws
+pub mod Looking
+pub mod Marking
+pub mod Heights
+pub mod Acyclic
+pub mod Pairs
+pub mod Placed
+pub mod Depths
+pub mod Limits
+pub mod Instructed
+pub mod Called
+pub mod Meant
+pub mod Sizes

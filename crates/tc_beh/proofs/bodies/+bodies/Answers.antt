@@ -1,0 +1,265 @@
+use Rattle.std.proofs.Common.{◌≡◌, ◌+◌, ◌<◌, ◌≤◌, ℕ, List, drop, get_or, true, false, length, subst, sym, ap, ◌∙◌, refl, rules, arith, not, ◌==◌}
+use Rattle.std.proofs.lemmas.Grind.{common_steps}
+use Rattle.std.proofs.lemmas.List.{drop_all, get_or_default}
+use Rattle.tc_mat.specs.Matrix.{Matrix}
+use Rattle.tc_model.specs.Names.{ExpandedName}
+use Rattle.tc_model.specs.Sheets as s
+use Rattle.tc_model.specs.Symbols.{Mention, symbol_of, symbol_count, fresh_name}
+use Rattle.tc_model.specs.States.{output}
+use Rattle.tc_model.specs.Views as see
+use Rattle.tc_model.specs.declared.sheet.Instr.TheViews.{the_lemmas}
+use Rattle.tc_model.proofs.ViewsBody.{left_instruction, left_branch, see_text, see_elem, see_copy, see_apply, see_call, see_value_of, see_value_of_self, see_choose, see_for_each}
+use Rattle.tc_rules.specs.Kept.{told}
+use Rattle.tc_rules.specs.Parts.{IsPart}
+use Rattle.tc_rules.proofs.PartsOf.{part_first}
+use Rattle.tc_rows.specs.Triples.{outputs, sheet}
+use Rattle.tc_rows.specs.PairSets.{HaveSamePairs, product}
+use Rattle.tc_rows.specs.Rows.{bears_value}
+use Rattle.tc_rows.specs.Bodies.{around, copied_pairs, value_pairs, self_bears}
+use Rattle.tc_rows.proofs.PairLaws.{same_on, same_back, product_same, same_self}
+use Rattle.tc_beh.specs.Heights.{depth_in, depth_in_branches}
+use Rattle.tc_beh.specs.Putting.{has, Extends, put_pairs, put_branch_pairs}
+use Rattle.tc_rules.specs.RulesView.{RulesView}
+use Rattle.tc_beh.specs.Places.{AreSpare, kind_of, below_of, called_by, size_at, no_matrix}
+use Rattle.tc_beh.proofs.Depths.{depth_next, spare_less, inner_depth}
+use Rattle.tc_beh.proofs.Instructed.{P, Q, arm, put_end, no_branch, branch_is, branch_part_at, branch_depth_at, branches_part, branches_depth, branch_taken, branch_passed, taken, not_taken, first_taken, last_taken}
+use Rattle.tc_beh.proofs.Placed.{fresh_symbol, look_is, bears_is}
+use Rattle.tc_beh.proofs.PutLaws.{then_put, put_same, nothing_put, around_same, around_inside}
+use Rattle.tc_beh.proofs.bodies.+bodies.Goals as goal
+
+pub put_body-loop-instruction-preserved : goal.put_body-loop-instruction-preserved
+put_body-loop-instruction-preserved t c =
+    let p = c.args.place.now in
+    let is = c.args.body.now in
+    let k = c.loop-instruction.instruction-index in
+    let i = c.instruction-item.result in
+    let rest = see.body (drop (k + 1) is) in
+    let next = depth_next is k i c.loop-instruction-test.true c.instruction-item.is in
+    let enough = c.loop-instruction.invariant.spare.enough in
+    let count = c.put_instruction.auto.spare in
+    record {
+      size = c.put_instruction.ensures.size ∙ c.loop-instruction.invariant.size;
+      part = (part_first (told p.rules.now).sheet i rest (subst (IsPart (told p.rules.now).sheet) (left_instruction is k i c.loop-instruction-test.true c.instruction-item.is) c.loop-instruction.invariant.part)).1;
+      spare = record {
+        sizes = λ n d low. c.put_instruction.ensures.spare n d low ∙ c.loop-instruction.invariant.size;
+        enough = omega (arith, next.1, enough, count);
+      };
+      pairs = λ x ok.
+          same_on (product (has c.put_instruction.new.out) (P x p rest)) (product (has c.loop-instruction.out) (P x p (see.body (drop k is)))) (product (has c.args.out.now) (P x p (see.body is)))
+          (subst (λ b. HaveSamePairs (product (has c.put_instruction.new.out) (P x p rest)) (product (has c.loop-instruction.out) (P x p b))) (sym (left_instruction is k i c.loop-instruction-test.true c.instruction-item.is))
+          (c.put_instruction.ensures.pairs x rest ok))
+          (c.loop-instruction.invariant.pairs x ok);
+    }
+
+pub put_body-returns-clause-pairs : goal.put_body-returns-clause-pairs
+put_body-returns-clause-pairs t c = λ x ok.
+    let p = c.args.place.now in
+    let is = c.args.body.now in
+    let k = c.loop-instruction.instruction-index in
+    put_end x p ok is k c.loop-instruction.out c.args.out.now (c.loop-instruction.invariant.size ∙ c.requires.out) c.loop-instruction-test.false (c.loop-instruction.invariant.pairs x ok)
+
+pub put_element-returns-clause-pairs : goal.put_element-returns-clause-pairs
+put_element-returns-clause-pairs t c = λ x ok.
+    let p = c.args.place.now in
+    let a = c.args.sym.0 in
+    let b = see.body c.args.inner.now in
+    let inside = c.put_body.new.out in
+    let begun = c.put_identity.new.out in
+    let low = subst (λ (ms : List Mention). a < symbol_count ms) ok.symbols c.requires.symbol in
+    let led : HaveSamePairs (has c.element_into.new.out) (around x a (has inside)) =
+    c.element_into.ensures.pairs output x.output x.symbols ok.hedge (fresh_name x.symbols a) (fresh_symbol x ok.rules.triple.symbols a low)
+    in
+    let first : begun.size ≡ c.args.out.now.size = first_of (search rules, grind (arith, common_steps)) in
+    let size : begun.size ≡ outputs x = first ∙ (c.requires.out ∙ ok.size) in
+    put_same c.args.out.now c.put_behind.new.out (has c.element_into.new.out) (around x a (P x p b))
+    (same_on (has c.element_into.new.out) (around x a (has inside)) (around x a (P x p b)) led
+    (same_on (around x a (has inside)) (around x a (product (has begun) (P x p b))) (around x a (P x p b))
+    (around_same x a (has inside) (product (has begun) (P x p b)) (c.put_body.ensures.pairs x ok))
+    (around_inside x a begun (P x p b) size c.put_identity.ensures.pairs)))
+    c.put_behind.ensures.pairs
+
+pub put_instruction-put_element-requires : goal.put_instruction-put_element-requires
+put_instruction-put_element-requires t c =
+    let n = see.name c.in-Elem.name in
+    let e = ap (λ i. see.instruction i s.no_instruction) c.in-Elem.is ∙ see_elem c.in-Elem.name c.in-Elem.inner s.no_instruction in
+    let part = subst (IsPart (told c.args.place.now.rules.now).sheet) e c.requires.part in
+    let deep = subst (λ b. AreSpare c.args.out.now.size (depth_in b + 2) c.args.spare.now) e c.requires.spare in
+    let all = deep.enough in (
+      search (rules, the_lemmas),
+      (c.requires.place, (c.sym_of-sym.ensures.below, (part.0, (c.requires.out, (record { sizes = deep.sizes; enough = inner_depth (depth_in (see.body c.in-Elem.inner.now)) (length c.args.spare.now) (omega (arith, all)) c.requires.few }, c.requires.few))))),
+    )
+
+pub put_instruction-put_copy-requires : goal.put_instruction-put_copy-requires
+put_instruction-put_copy-requires t c =
+    let e = ap (λ i. see.instruction i s.no_instruction) c.in-Copy.is ∙ see_copy c.in-Copy.inner s.no_instruction in
+    let part = subst (IsPart (told c.args.place.now.rules.now).sheet) e c.requires.part in
+    let deep = subst (λ b. AreSpare c.args.out.now.size (depth_in b + 2) c.args.spare.now) e c.requires.spare in
+    let all = deep.enough in (
+      search (rules, the_lemmas),
+      (c.requires.place, (part.0, (c.requires.out, (record { sizes = deep.sizes; enough = inner_depth (depth_in (see.body c.in-Copy.inner.now)) (length c.args.spare.now) (omega (arith, all)) c.requires.few }, c.requires.few)))),
+    )
+
+pub put_instruction-put_selected-requires-clause-path : goal.put_instruction-put_selected-requires-clause-path
+put_instruction-put_selected-requires-clause-path t c =
+    let e = ap (λ i. see.instruction i s.no_instruction) c.in-Apply.is ∙ see_apply c.in-Apply.path c.in-Apply.mode s.no_instruction in
+    let part = subst (IsPart (told c.args.place.now.rules.now).sheet) e c.requires.part in
+    part.0
+
+pub put_instruction-put_selected-requires-in-ForEach-clause-path : goal.put_instruction-put_selected-requires-in-ForEach-clause-path
+put_instruction-put_selected-requires-in-ForEach-clause-path t c =
+    let e = ap (λ i. see.instruction i s.no_instruction) c.in-ForEach.is ∙ see_for_each c.in-ForEach.number c.in-ForEach.path c.in-ForEach.field-2 s.no_instruction in
+    let part = subst (IsPart (told c.args.place.now.rules.now).sheet) e c.requires.part in
+    part.0
+
+pub put_instruction-returns-in-Elem-clause-pairs : goal.put_instruction-returns-in-Elem-clause-pairs
+put_instruction-returns-in-Elem-clause-pairs t c = λ x rest ok.
+    let p = c.args.place.now in
+    let n = see.name c.in-Elem.name in
+    let b = see.body c.in-Elem.inner.now in
+    let sym_is = c.sym_of-sym.ensures.symbol ∙ ap (λ (ms : List Mention). symbol_of ms n) ok.symbols in
+    arm x p c.args.instruction.now rest (s.put_element n b rest) c.args.out.now c.put_element.new.out (ap (λ i. see.instruction i rest) c.in-Elem.is ∙ see_elem c.in-Elem.name c.in-Elem.inner rest)
+    (then_put c.put_element.new.out c.args.out.now (around x (symbol_of x.symbols n) (P x p b)) (P x p rest) (subst (λ a. Extends c.args.out.now c.put_element.new.out (around x a (P x p b))) sym_is (c.put_element.ensures.pairs x ok)))
+
+pub put_instruction-returns-in-Copy-clause-pairs : goal.put_instruction-returns-in-Copy-clause-pairs
+put_instruction-returns-in-Copy-clause-pairs t c = λ x rest ok.
+    let p = c.args.place.now in
+    let b = see.body c.in-Copy.inner.now in
+    arm x p c.args.instruction.now rest (s.copy b rest) c.args.out.now c.put_copy.new.out (ap (λ i. see.instruction i rest) c.in-Copy.is ∙ see_copy c.in-Copy.inner rest)
+    (then_put c.put_copy.new.out c.args.out.now (copied_pairs x (kind_of p.node) (P x p b)) (P x p rest) (c.put_copy.ensures.pairs x ok))
+
+pub put_instruction-returns-in-ValueOf-clause-pairs : goal.put_instruction-returns-in-ValueOf-clause-pairs
+put_instruction-returns-in-ValueOf-clause-pairs t c = λ x rest ok.
+    let p = c.args.place.now in
+    let w = see.path c.in-ValueOf.path in
+    let new = c.put_text_if-in-ValueOf.new.out in
+    let value = c.look-found.ensures x ok.rules ∙ look_is x p ok w in
+    arm x p c.args.instruction.now rest (s.value w rest) c.args.out.now new (ap (λ i. see.instruction i rest) c.in-ValueOf.is ∙ see_value_of c.in-ValueOf.path rest)
+    (then_put new c.args.out.now (value_pairs x (bears_value ((below_of x p).look w))) (P x p rest)
+    (subst (λ v. Extends c.args.out.now new (value_pairs x (bears_value v))) value (c.put_text_if-in-ValueOf.ensures.pairs x ok)))
+
+pub put_instruction-returns-in-ValueOfSelf-clause-pairs : goal.put_instruction-returns-in-ValueOfSelf-clause-pairs
+put_instruction-returns-in-ValueOfSelf-clause-pairs t c = λ x rest ok.
+    let p = c.args.place.now in
+    let new = c.put_text_if-in-ValueOfSelf.new.out in
+    arm x p c.args.instruction.now rest (s.value_of_self rest) c.args.out.now new (ap (λ i. see.instruction i rest) c.in-ValueOfSelf.is ∙ see_value_of_self rest)
+    (then_put new c.args.out.now (value_pairs x (self_bears x (kind_of p.node) (below_of x p).bears)) (P x p rest)
+    (subst (λ v. Extends c.args.out.now new (value_pairs x v)) (bears_is x p ok) (c.put_text_if-in-ValueOfSelf.ensures.pairs x ok)))
+
+pub put_instruction-put_first-requires : goal.put_instruction-put_first-requires
+put_instruction-put_first-requires t c =
+    let bs = c.in-Choose.branches.now in
+    let last = see.body c.in-Choose.last.now in
+    let e = ap (λ i. see.instruction i s.no_instruction) c.in-Choose.is ∙ see_choose c.in-Choose.branches c.in-Choose.last s.no_instruction in
+    let part = subst (IsPart (told c.args.place.now.rules.now).sheet) e c.requires.part in
+    let deep = subst (λ b. AreSpare c.args.out.now.size (depth_in b + 2) c.args.spare.now) e c.requires.spare in
+    let all = deep.enough in (
+      search (rules, the_lemmas),
+      (c.requires.place, ((branches_part (told c.args.place.now.rules.now).sheet bs last part.0).0, (c.requires.out, (record { sizes = deep.sizes; enough = omega (arith, all, branches_depth bs last) }, c.requires.few)))),
+    )
+
+pub put_instruction-put_body-requires : goal.put_instruction-put_body-requires
+put_instruction-put_body-requires t c =
+    let bs = c.in-Choose.branches.now in
+    let last = see.body c.in-Choose.last.now in
+    let e = ap (λ i. see.instruction i s.no_instruction) c.in-Choose.is ∙ see_choose c.in-Choose.branches c.in-Choose.last s.no_instruction in
+    let part = subst (IsPart (told c.args.place.now.rules.now).sheet) e c.requires.part in
+    let deep = subst (λ b. AreSpare c.args.out.now.size (depth_in b + 2) c.args.spare.now) e c.requires.spare in
+    let all = deep.enough in
+    let count = c.put_first.auto.spare in (
+      search (rules, the_lemmas),
+      (c.requires.place, ((branches_part (told c.args.place.now.rules.now).sheet bs last part.0).1, (c.put_first.ensures.size ∙ c.requires.out, (record { sizes = λ n d low. c.put_first.ensures.spare n d low ∙ sym c.put_first.ensures.size; enough = omega (arith, all, branches_depth bs last, count) }, omega (arith, c.requires.few, count))))),
+    )
+
+pub put_first-put_body-requires : goal.put_first-put_body-requires
+put_first-put_body-requires t c =
+    let bs = c.args.branches.now in
+    let k = c.loop-branch.branch-index in
+    let b = get_or bs k no_branch in
+    let is = branch_is bs k no_branch c.loop-branch-test.true in
+    let last = s.otherwise s.no_instruction in
+    let inv = c.loop-branch.invariant in
+    let part = branch_part_at (told c.args.place.now.rules.now).sheet bs k b last c.loop-branch-test.true is inv.part in
+    let deep = branch_depth_at bs k b last c.loop-branch-test.true is in
+    let enough = c.requires.spare.enough in
+    let room : AreSpare c.args.out.now.size (depth_in (see.body b.body.now) + 2) c.args.spare.now = record { sizes = c.requires.spare.sizes; enough = omega (arith, enough, inv.depth, deep) } in (
+      search (rules, the_lemmas),
+      (c.requires.place, (part.1, (ap (λ (m : Matrix). m.size) inv.out ∙ c.requires.out, (subst (λ (m : Matrix). AreSpare m.size (depth_in (see.body b.body.now) + 2) c.loop-branch.spare) (sym inv.out) (subst (λ (ms : List Matrix). AreSpare c.args.out.now.size (depth_in (see.body b.body.now) + 2) ms) (sym inv.spare) room), omega (arith, c.requires.few, ap length inv.spare))))),
+    )
+
+pub put_first-returns-then-holds-clause-pairs : goal.put_first-returns-then-holds-clause-pairs
+put_first-returns-then-holds-clause-pairs t c = λ x rest ok.
+    let p = c.args.place.now in
+    let bs = c.args.branches.now in
+    let k = c.loop-branch.branch-index in
+    let b = get_or bs k no_branch in
+    let is = branch_is bs k no_branch c.loop-branch-test.true in
+    let inv = c.loop-branch.invariant in
+    let here = branch_taken x p ok bs k b rest c.holds.result c.loop-branch-test.true is (c.holds.ensures x ok.rules) c.if-holds.true in
+    taken x c.put_body.new.out c.args.out.now (P x p (see.body b.body.now)) (Q x p (see.branches bs rest)) (Q x p rest) true refl (c.put_body.ensures.size ∙ (ap (λ (m : Matrix). m.size) inv.out ∙ (c.requires.out ∙ ok.size)))
+    (same_on (P x p (see.body b.body.now)) (Q x p (see.branches (drop k bs) rest)) (Q x p (see.branches bs rest)) here (inv.chosen x rest ok))
+    (subst (λ (m : Matrix). Extends m c.put_body.new.out (P x p (see.body b.body.now))) inv.out (c.put_body.ensures.pairs x ok))
+
+pub put_first-loop-branch-preserved : goal.put_first-loop-branch-preserved
+put_first-loop-branch-preserved t c =
+    let p = c.args.place.now in
+    let bs = c.args.branches.now in
+    let k = c.loop-branch.branch-index in
+    let b = get_or bs k no_branch in
+    let is = branch_is bs k no_branch c.loop-branch-test.true in
+    let last = s.otherwise s.no_instruction in
+    let inv = c.loop-branch.invariant in
+    let deep = branch_depth_at bs k b last c.loop-branch-test.true is in
+    record {
+      out = inv.out;
+      spare = inv.spare;
+      part = (branch_part_at (told p.rules.now).sheet bs k b last c.loop-branch-test.true is inv.part).2;
+      depth = omega (arith, inv.depth, deep);
+      chosen = λ x rest ok.
+          same_on (Q x p (see.branches (drop (k + 1) bs) rest)) (Q x p (see.branches (drop k bs) rest)) (Q x p (see.branches bs rest))
+          (branch_passed x p ok bs k b rest c.holds.result c.loop-branch-test.true is (c.holds.ensures x ok.rules) c.if-holds.false) (inv.chosen x rest ok);
+    }
+
+pub put_first-returns-clause-pairs : goal.put_first-returns-clause-pairs
+put_first-returns-clause-pairs t c = λ x rest ok.
+    let p = c.args.place.now in
+    let bs = c.args.branches.now in
+    let k = c.loop-branch.branch-index in
+    let inv = c.loop-branch.invariant in
+    let none : see.branches (drop k bs) rest ≡ rest = ap (λ l. see.branches l rest) (drop_all k bs c.loop-branch-test.false) in
+    let same : HaveSamePairs (Q x p rest) (Q x p (see.branches bs rest)) = subst (λ y. HaveSamePairs (Q x p y) (Q x p (see.branches bs rest))) none (inv.chosen x rest ok) in
+    subst (λ (m : Matrix). HaveSamePairs (product (has m) (Q x p rest)) (product (has c.args.out.now) (Q x p (see.branches bs rest)))) (sym inv.out)
+    (not_taken x c.args.out.now (Q x p rest) (Q x p (see.branches bs rest)) false refl same)
+
+pub put_instruction-returns-then-put_first-clause-pairs : goal.put_instruction-returns-then-put_first-clause-pairs
+put_instruction-returns-then-put_first-clause-pairs t c = λ x rest ok.
+    let p = c.args.place.now in
+    let last = s.otherwise (see.body c.in-Choose.last.now) in
+    let y = see.branches c.in-Choose.branches.now last in
+    let new = c.put_first.new.out in
+    let put = first_taken x new c.args.out.now (Q x p last) (Q x p y) c.put_first.result c.if-put_first.true (c.put_first.ensures.size ∙ (c.requires.out ∙ ok.size)) (c.put_first.ensures.pairs x last ok) in
+    arm x p c.args.instruction.now rest (s.choose y rest) c.args.out.now new (ap (λ i. see.instruction i rest) c.in-Choose.is ∙ see_choose c.in-Choose.branches c.in-Choose.last rest)
+    (then_put new c.args.out.now (Q x p y) (P x p rest) put)
+
+pub put_instruction-returns-else-put_first-clause-pairs : goal.put_instruction-returns-else-put_first-clause-pairs
+put_instruction-returns-else-put_first-clause-pairs t c = λ x rest ok.
+    let p = c.args.place.now in
+    let last = s.otherwise (see.body c.in-Choose.last.now) in
+    let y = see.branches c.in-Choose.branches.now last in
+    let new = c.put_body.new.out in
+    let put = last_taken x new c.put_first.new.out c.args.out.now (Q x p last) (Q x p y) c.put_first.result c.if-put_first.false (c.put_first.ensures.pairs x last ok) (c.put_body.ensures.pairs x ok) in
+    arm x p c.args.instruction.now rest (s.choose y rest) c.args.out.now new (ap (λ i. see.instruction i rest) c.in-Choose.is ∙ see_choose c.in-Choose.branches c.in-Choose.last rest)
+    (then_put new c.args.out.now (Q x p y) (P x p rest) put)
+
+pub put_instruction-returns-in-Call-clause-pairs : goal.put_instruction-returns-in-Call-clause-pairs
+put_instruction-returns-in-Call-clause-pairs t c = λ x rest ok.
+    let p = c.args.place.now in
+    let n = c.in-Call.number in
+    let m = c.index-place-number.result in
+    let new = c.put_set.new.out in
+    let e = ap (λ i. see.instruction i s.no_instruction) c.in-Call.is ∙ see_call n s.no_instruction in
+    let part = subst (IsPart (told p.rules.now).sheet) e c.requires.part in
+    let names : length (told p.rules.now).sheet.named ≡ length (sheet x).named = ap (λ (v : RulesView). length v.sheet.named) ok.rules.told in
+    let low : n < length p.named.now = let w = part.0 in omega (arith, w, names, ok.named_count) in
+    let set : get_or p.named.now n m ≡ get_or p.named.now n no_matrix = get_or_default p.named.now n m no_matrix low in
+    arm x p c.args.instruction.now rest (s.call n rest) c.args.out.now new (ap (λ i. see.instruction i rest) c.in-Call.is ∙ see_call n rest)
+    (then_put new c.args.out.now (called_by p n) (P x p rest) (subst (λ (w : Matrix). Extends c.args.out.now new (has w)) set c.put_set.ensures.pairs))

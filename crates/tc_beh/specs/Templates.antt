@@ -1,0 +1,38 @@
+-- What a template means on a node.
+use Rattle.std.specs.Prelude.{◌≡◌, ◌<◌, ℕ, List}
+use Rattle.tc_model.specs.Meaning.{all_children}
+use Rattle.tc_model.specs.Sheets.{Sheet, Body, CallFreeBody, p_done, p_apply, p_self, Inlines}
+use Rattle.tc_model.specs.Views as see
+use Rattle.tc_rules.specs.Parts.{IsPart}
+use Rattle.tc_rows.specs.Triples.{Triple, sheet}
+use Rattle.tc_rows.specs.Bodies.{NodeKind, on_root, on_element, on_text}
+use Rattle.tc_beh.specs.Heights.{depth_in}
+use Rattle.tc_beh.specs.Places.{kind_of, below_of, called_by}
+use Rattle.tc_beh.specs.Putting.{IsCalled}
+use Rattle.tc_beh.specs.declared.bodies.Place.{Place}
+use Rattle.tc_beh.specs.declared.templates.Template.{Template}
+use Rattle.tc_beh.specs.declared.templates.Template.TheVariants as t
+
+-- a body with calls in place is what is meant, where the built-in rules have bodies of their own
+abbrev pub IsTemplate : List Body → (ℕ → CallFreeBody) → Template → CallFreeBody → Type 0
+IsTemplate named own (t.Body b) p = Inlines named (see.body b.now) p
+IsTemplate named own (t.BuiltIn mode) p = p ≡ own mode
+
+-- it is part of the stylesheet
+abbrev pub IsPartTemplate : Sheet → Template → Type 0
+IsPartTemplate s (t.Body b) = IsPart s (see.body b.now)
+IsPartTemplate s (t.BuiltIn mode) = mode < s.modes
+
+abbrev pub depth_of : Template → ℕ
+depth_of (t.Body b) = depth_in (see.body b.now)
+depth_of (t.BuiltIn mode) = 0
+
+-- the built-in rules on a node
+abbrev pub built_in_on : NodeKind → ℕ → CallFreeBody
+built_in_on on_root m = p_apply all_children m p_done
+built_in_on (on_element a) m = p_apply all_children m p_done
+built_in_on on_text m = p_self p_done
+
+-- the sets of all named bodies are right here
+abbrev pub AreCalled : Triple → Place → Type 0
+AreCalled x p = (n : ℕ) → IsCalled x (kind_of p.node) (below_of x p) (called_by p) n

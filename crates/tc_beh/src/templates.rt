@@ -1,0 +1,113 @@
+// What is to be instantiated on a node (XSLT 1.0, 5), and what it puts out.
+ghost use Rattle.std.specs.Prelude.{◌≡◌, ◌≤◌, ◌<◌, ◌+◌, ℕ, List, length, All, option_map, Option, IfSome};
+ghost use Rattle.tc_mat.specs.Matrix.{Matrix};
+ghost use Rattle.tc_model.specs.Letters as letters;
+ghost use Rattle.tc_model.specs.Machine.{CallFreeJob};
+ghost use Rattle.tc_model.specs.Sheets.{CallFreeBody};
+ghost use Rattle.tc_rules.specs.Asked.{letter as see_letter, found as found_of};
+ghost use Rattle.tc_rules.specs.Jobs.{IsJob};
+ghost use Rattle.tc_rules.specs.Kept.{told};
+ghost use Rattle.tc_rules.specs.RulesView.{ancestor};
+ghost use Rattle.tc_rules.specs.States.{Chosen, built_in_at, plain_of, body_by};
+ghost use Rattle.tc_rules.specs.Tasks.{IsTaskOf};
+ghost use Rattle.tc_rules.specs.Views.{mode_of};
+ghost use Rattle.tc_rows.specs.Triples.{Triple, sheet, predicates};
+ghost use Rattle.tc_rows.specs.Bodies.{body_pairs};
+ghost use Rattle.tc_beh.specs.Heights.{depth_in};
+ghost use Rattle.tc_beh.specs.Putting.{Extends};
+ghost use Rattle.tc_beh.specs.Places.{IsPlace, IsPlaceIn, AreSpare, kind_of, below_of, called_by, size_at};
+ghost use Rattle.tc_beh.specs.Stands.{IsRulesIn, AreRules};
+ghost use Rattle.tc_beh.specs.Templates.{IsTemplate, IsPartTemplate, depth_of, built_in_on, AreCalled};
+
+use crate::bodies::{At, Place, all_children, put_body, put_selected, put_text_if};
+use tc_mat::Mat;
+use tc_model::Instr;
+use tc_rules::{Found, Job, Kind, Marks, Rules};
+
+/// What is to be instantiated on a node: a body, or what the built-in rules say in a mode.
+#[derive(Clone, Copy)]
+pub(crate) enum Template<'b> {
+    Body(&'b [Instr<'b>]),
+    BuiltIn(u32),
+}
+
+/// What a rule says, or the built-in ones in a mode.
+pub(crate) fn template_of<'b>(rules: &Rules<'b>, mode: u32, found: Found) -> Template<'b>
+    requires rules { AreRules rules.now }
+    requires mode { mode < (told rules.now).sheet.modes }
+    requires found { IfSome (found_of found) (λ i. i < length (told rules.now).sheet.rules) }
+    ensures part { IsPartTemplate (told rules.now).sheet result }
+    ensures meant { (x : Triple) (own : ℕ → CallFreeBody) (o : Option Chosen) → IsRulesIn x rules.now → option_map (λ w. w.number) o ≡ found_of found →
+        IsTemplate (sheet x).named own result (plain_of x.bodies (own mode) o) }
+{
+    match found {
+        Found::BuiltIn => Template::BuiltIn(mode),
+        Found::Rule(number) => Template::Body(rules.sheet().rules[number as usize].body),
+    }
+}
+
+/// What is to be done on a node of a letter.
+pub(crate) fn template_for<'b>(
+    rules: &Rules<'b>,
+    job: Job,
+    above: u32,
+    kind: Kind,
+    marks: Marks,
+) -> Template<'b>
+    requires rules { AreRules rules.now }
+    requires job { IsJob (told rules.now).sheet job }
+    requires above { above < length (told rules.now).ancestors.states }
+    requires letter { (x : Triple) → IsRulesIn x rules.now → letters.IsLetter x.symbols (predicates x) (see_letter kind marks) }
+    ensures part { IsPartTemplate (told rules.now).sheet result }
+    ensures meant { (x : Triple) (k : CallFreeJob) → IsRulesIn x rules.now → IsTaskOf (sheet x) (mode_of (sheet x).modes job) k →
+        IsTemplate (sheet x).named (λ m. built_in_at m (see_letter kind marks).kind) result (body_by x.symbols (predicates x) (sheet x).rules x.bodies k (ancestor x.rules above) (see_letter kind marks)) }
+{
+    match job {
+        Job::Each(number) => Template::Body(rules.each_body(number)),
+        Job::Mode(mode) => {
+            let found = rules.rule_for(mode, above, kind, marks);
+            template_of(rules, mode, found)
+        }
+    }
+}
+
+/// Puts the pairs of a template.
+pub(crate) fn put_template(
+    place: &Place<'_, '_>,
+    template: Template<'_>,
+    out: &mut Mat,
+    spare: &mut [Mat],
+)
+    requires place { IsPlace place.now }
+    requires part { IsPartTemplate (told place.now.rules.now).sheet template }
+    requires out { out.old.size ≡ size_at place.now }
+    requires spare { AreSpare out.old.size (depth_of template + 2) spare.old }
+    requires few { length spare.old ≤ 8002 }
+    ensures size { out.new.size ≡ out.old.size }
+    ensures spare { All (λ m. m.size ≡ out.old.size) spare.new }
+    ensures pairs { (x : Triple) (p : CallFreeBody) → IsPlaceIn x place.now → AreCalled x place.now → IsTemplate (sheet x).named (built_in_on (kind_of place.now.node)) template.entry p
+        → Extends out.old out.new (body_pairs x p (kind_of place.now.node) (below_of x place.now)) }
+{
+    match template {
+        Template::Body(inner) => put_body(place, inner, out, spare),
+        Template::BuiltIn(mode) => put_built_in(place, mode, out, spare),
+    }
+}
+
+/// Puts the pairs of the built-in rules: the children of the root and of elements in the same mode; a text is copied
+/// (XSLT 1.0, 5.8).
+fn put_built_in(place: &Place<'_, '_>, mode: u32, out: &mut Mat, spare: &mut [Mat])
+    requires place { IsPlace place.now }
+    requires mode { mode < (told place.now.rules.now).sheet.modes }
+    requires out { out.old.size ≡ size_at place.now }
+    requires spare { AreSpare out.old.size 1 spare.old }
+    ensures size { out.new.size ≡ out.old.size }
+    ensures spare { All (λ m. m.size ≡ out.old.size) spare.new }
+    ensures pairs { (x : Triple) → IsPlaceIn x place.now → Extends out.old out.new (body_pairs x (built_in_on (kind_of place.now.node) mode) (kind_of place.now.node) (below_of x place.now)) }
+{
+    match place.node {
+        At::Text => put_text_if(place, true, out, spare),
+        At::Root => put_selected(place, all_children(), Job::Mode(mode), out, spare),
+        At::Elem(_) => put_selected(place, all_children(), Job::Mode(mode), out, spare),
+    }
+}
