@@ -1,5 +1,6 @@
 -- What a store holds, and what its answers say of a file.
 use Rattle.std.specs.Prelude.{◌≡◌, ◌<◌, ◌≤◌, ℕ, List, [], ◌∷◌, Vec, length, Option, Some, None, Result, Ok, Err}
+use Rattle.tc_base.specs.declared.limits.TheConstants.{LONGEST_FILE}
 use Rattle.tc_io.specs.declared.StoreFault.{StoreFault}
 use Rattle.tc_io.specs.declared.StoreFault.TheVariants.{Missing, Failed, TooLong, NoMemory}
 
@@ -26,7 +27,7 @@ Files = List ℕ → Option (List ℕ)
 
 -- the most bytes that a read gives
 abbrev pub longest_file : ℕ
-longest_file = 67108864
+longest_file = LONGEST_FILE
 
 -- a file is held, and longer than a read gives
 abbrev pub IsTooLong : Option (List ℕ) → Type 0

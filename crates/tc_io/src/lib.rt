@@ -18,9 +18,7 @@ ghost use Rattle.tc_io.specs.Sink.{Appended, WroteFront};
 pub use memory::{MemSink, MemStore};
 pub use real::{RealSink, RealStore};
 use std::alloc::Global;
-
-/// The most bytes that a file may have: 64 MiB.
-pub const LONGEST_FILE: usize = 67_108_864;
+pub use tc_base::limits::LONGEST_FILE;
 
 /// Why a file could not be read.
 #[derive(Clone, Copy, Debug, PartialEq, Eq)]
