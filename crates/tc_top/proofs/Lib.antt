@@ -13,7 +13,6 @@ pub mod OneValidity
 pub mod OneRun
 pub mod RefusedSheets
 pub mod FirstRead
-pub mod FirstUnread
 pub mod Fronts
 pub mod Exact
 pub mod OneAnswer

@@ -5,6 +5,7 @@ pub mod FirstFits
 pub mod Words
 pub mod WordsSeen
 pub mod Refusals
+pub mod Headline
 pub mod Limits
 pub mod RefusalsSeen
 pub mod SchemasSeen

@@ -1,13 +1,14 @@
 -- That an answer is the only one: what the causes exclude, and what they leave open.
 use Rattle.std.specs.Prelude.{◌≡◌, ◌⊎◌, ℕ, List, Some}
 use Rattle.tc_io.specs.Faults.{Rose}
-use Rattle.tc_io.specs.Store.{Files}
+use Rattle.tc_io.specs.Store.{Files, Read}
+use Rattle.tc_io.specs.Reads.{AreTrue}
 use Rattle.tc_model.specs.RawTrees.{RawTrees}
 use Rattle.tc_model.specs.SheetTextTrees.{Template}
 use Rattle.tc_model.specs.SheetTextPhrases.{IsStylesheet}
 use Rattle.tc_model.specs.Trees.{Trees}
 use Rattle.tc_model.specs.XmlText.{XmlText}
-use Rattle.tc_top.specs.Answers.{Answer, cannot_read, unsafe, refused, work_limit, open_limit, IsAnswer}
+use Rattle.tc_top.specs.Answers.{Answer, cannot_read, unsafe, refused, work_limit, open_limit, IsAnswer, IsAnswerOn}
 use Rattle.tc_top.specs.Refusals.{Reason, malformed, unsupported, too_deep, IsRefusedDocument, IsRefusedSheet}
 
 -- a text may be refused for several of these, at several places, and which is told is left open
@@ -27,19 +28,23 @@ pub data AreAlike : Answer → Answer → Type 0 where
   open_reasons : {name : List ℕ} {reason other_reason : Reason} {place other_place : ℕ} → IsOpen reason → IsOpen other_reason
       → AreAlike (refused name reason place) (refused name other_reason other_place)
 
--- where the store tells what it holds and no read fails, words have one answer
+-- words and what was read have one answer
 abbrev pub HasOneAnswer : Type 0
-HasOneAnswer = (words : List (List ℕ)) (files : Files) (a b : Answer) → IsAnswer words (Some files) ⊥ a → IsAnswer words (Some files) ⊥ b → AreAlike a b
+HasOneAnswer = (words : List (List ℕ)) (reads : List Read) (a b : Answer) → IsAnswer words reads a → IsAnswer words reads b → AreAlike a b
+
+-- and so have words and held files, where no read fails
+abbrev pub HasOneAnswerOn : Type 0
+HasOneAnswerOn = (words : List (List ℕ)) (files : Files) (a b : Answer) → IsAnswerOn words files a → IsAnswerOn words files b → AreAlike a b
 
 -- it says that an operand can't be read, since a read failed
 abbrev pub IsOfFault : Type 0 → Answer → Type 0
 IsOfFault rose (cannot_read name) = rose
 IsOfFault rose _ = ⊥
 
--- and a call whose count of faults went from one number to another has that answer, unless it tells of such a fault
+-- a call that reads these files, whose count of faults went from one number to another, has that answer, unless it tells of such a fault
 abbrev pub HasAnswerOfCall : Type 0
-HasAnswerOfCall = (words : List (List ℕ)) (files : Files) (before after : ℕ) (a b : Answer)
-    → IsAnswer words (Some files) ⊥ a → IsAnswer words (Some files) (Rose before after) b → AreAlike a b ⊎ IsOfFault (Rose before after) b
+HasAnswerOfCall = (words : List (List ℕ)) (files : Files) (before after : ℕ) (reads : List Read) (a b : Answer)
+    → IsAnswerOn words files a → AreTrue (Some files) (Rose before after) reads → IsAnswer words reads b → AreAlike a b ⊎ IsOfFault (Rose before after) b
 
 -- this stands in a text, up to which it was read
 abbrev pub IsConstruct : Reason → Type 0

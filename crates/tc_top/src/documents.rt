@@ -1,5 +1,6 @@
 // Documents, read.
 ghost use Rattle.std.specs.Prelude.{◌≤◌, length, IfOk, IfErr, List, ℕ};
+ghost use Rattle.tc_base.specs.Reading.{longest_text};
 ghost use Rattle.tc_model.specs.Views.{before};
 ghost use Rattle.tc_model.specs.Trees.{none, IsDocument};
 ghost use Rattle.tc_print.specs.ReadBack.{IsReadAs};
@@ -15,7 +16,7 @@ use tc_xml::{XmlFault, read_raw, strip};
 
 /// The document of an XML text.
 pub fn read_document<'b>(arena: &'b Bump, text: &[u8]) -> Result<Node<'b>, Unaccepted>
-    requires { length text.now ≤ 67108864 }
+    requires { length text.now ≤ longest_text }
     ensures ok { IfOk result (λ document. IsReadAs text.now (before document none)) }
     ensures document { IfOk result (λ document. IsDocument (before document none)) }
     ensures no { IfErr result (IsUnaccepted (IsRefusedDocument text.now)) }

@@ -1,5 +1,6 @@
 // Schemas, read and simplified.
 ghost use Rattle.std.specs.Prelude.{◌≤◌, length, IfOk, IfErr, List, ℕ};
+ghost use Rattle.tc_base.specs.Reading.{longest_text};
 ghost use Rattle.tc_model.specs.CompactSyntax.{CompactSyntax};
 ghost use Rattle.tc_model.specs.CompactSyntaxTrees as t;
 ghost use Rattle.tc_rnc.specs.Answers.{Excluded, Stands};
@@ -11,6 +12,7 @@ ghost use Rattle.tc_top.specs.SchemasSeen.{IsSchemaOf};
 use crate::refusal::{Reason, Unaccepted};
 use bumpalo::Bump;
 use tc_base::Limit;
+use tc_base::limits::{GREATEST_PATTERN_DEPTH, MOST_ELEMENT_PATTERNS, MOST_PATTERN_NODES};
 use tc_model::Grammar;
 use tc_rnc::{RncFault, read_rnc};
 use tc_simple::{SimpleFault, simplify};
@@ -20,13 +22,13 @@ use tc_simple::{SimpleFault, simplify};
 pub enum Schema<'b> {
     /// Its grammar passes none of the limits on its size.
     Small(Grammar<'b>),
-    /// Its grammar passes this limit, which has this number.
+    /// Its grammar passes this limit on its size, which has this number.
     TooLarge(Limit, u32),
 }
 
 /// The schema of a text in compact syntax.
 pub fn read_schema<'b>(arena: &'b Bump, text: &[u8]) -> Result<Schema<'b>, Unaccepted>
-    requires { length text.now ≤ 67108864 }
+    requires { length text.now ≤ longest_text }
     ensures ok { IfOk result (IsSchemaOf text.now) }
     ensures no { IfErr result (IsUnaccepted (IsRefusedSchema text.now)) }
 {
@@ -63,9 +65,9 @@ fn of_syntax<'b>(fault: SimpleFault) -> Result<Schema<'b>, Unaccepted>
         SimpleFault::Loop(place) => Err(Unaccepted::Refused(Reason::Loop, place)),
         SimpleFault::BadExcept(place) => Err(Unaccepted::Refused(Reason::BadExcept, place)),
         SimpleFault::BadStart(place) => Err(Unaccepted::Refused(Reason::BadStart, place)),
-        SimpleFault::TooManyNodes => Ok(Schema::TooLarge(Limit::Pattern, 65_536)),
-        SimpleFault::TooNested => Ok(Schema::TooLarge(Limit::Depth, 2_000)),
-        SimpleFault::TooManyElements => Ok(Schema::TooLarge(Limit::Elements, 256)),
+        SimpleFault::TooManyNodes => Ok(Schema::TooLarge(Limit::Pattern, MOST_PATTERN_NODES)),
+        SimpleFault::TooNested => Ok(Schema::TooLarge(Limit::Depth, GREATEST_PATTERN_DEPTH)),
+        SimpleFault::TooManyElements => Ok(Schema::TooLarge(Limit::Elements, MOST_ELEMENT_PATTERNS)),
         SimpleFault::NoMemory => Err(Unaccepted::NoMemory),
     }
 }

@@ -1,5 +1,6 @@
 // Stylesheets, read.
 ghost use Rattle.std.specs.Prelude.{◌≤◌, length, IfOk, IfErr, List, ℕ};
+ghost use Rattle.tc_base.specs.Reading.{longest_text};
 ghost use Rattle.tc_model.specs.Views as see;
 ghost use Rattle.tc_model.specs.WellFormed.{IsSheet};
 ghost use Rattle.tc_sheet_text.specs.Causes.{IsCauseIn};
@@ -16,7 +17,7 @@ use tc_sheet_text::{SheetTextFault, read_sheet_text};
 
 /// The stylesheet of a text.
 pub fn read_sheet<'b>(arena: &'b Bump, text: &[u8]) -> Result<Sheet<'b>, Unaccepted>
-    requires { length text.now ≤ 67108864 }
+    requires { length text.now ≤ longest_text }
     ensures ok { IfOk result (λ s. IsSheetOf text.now (see.sheet s)) }
     ensures well_formed { IfOk result (λ s. IsSheet (see.sheet s)) }
     ensures no { IfErr result (IsUnaccepted (IsRefusedSheet text.now)) }
