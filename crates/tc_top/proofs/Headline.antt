@@ -11,7 +11,9 @@ use Rattle.tc_top.specs.FirstForm.{Schema, grammar_of, sheet_of}
 use Rattle.tc_top.specs.FirstText.{FirstSchemaText, FirstSheetText}
 use Rattle.tc_top.specs.Headline.{IsCutShort, ChecksFiles, DecidesSafety, ValidatesFiles, DecidesValidity, RunsFiles, GivesResult}
 use Rattle.tc_top.specs.Answers.{Answer, usage, not_yet, cannot_read, file_limit, safe, unsafe, refused, over_limit, is_valid, is_invalid, has_result, work_limit, open_limit, status_of, text_of, other_input, other_output, other_sheet, Checks, is_other_form, is_safe, is_unsafe, IsAnswer, Gives, KeepsToLimits, Runs, sheet_passes, too_much_work, too_open, gives_result}
+use Rattle.tc_top.specs.AnswersSeen.{IsRightFor}
 use Rattle.tc_top.specs.OneAnswer.{AreAlike, same_answer, counterexamples, work_or_open, open_or_work, open_reasons, IsOfFault}
+use Rattle.tc_top.specs.declared.answer.Answer.{Answer as Said}
 use Rattle.tc_top.specs.declared.status.Status.{Status}
 use Rattle.tc_top.specs.declared.status.Status.TheVariants.{Yes, Limit}
 use Rattle.tc_top.specs.Limits.{IsRunWithin}
@@ -46,6 +48,14 @@ cut_short status open_limit e h = absurd h
 pub gives : {rose : Type 0} (status : Status) (one other : Answer) → status ≡ status_of other → Agrees rose one other → Gives status rose one
 gives status one other e (inl alike) = inl (e ∙ alike_status alike)
 gives status one other e (inr fault) = inr (cut_short status other e fault)
+
+-- an answer that is right for the same words
+pub at_words : {words other : List (List ℕ)} {happened : List Read → Type 0} {said : Said} → words ≡ other → IsRightFor words happened said → IsRightFor other happened said
+at_words {words} {other} {happened} {said} same right = subst (λ w. IsRightFor w happened said) same right
+
+-- where the store tells
+pub at_told : {told other : Option Files} {rose : Type 0} {reads : List Read} → told ≡ other → AreTrue told rose reads → AreTrue other rose reads
+at_told {told} {other} {rose} {reads} same true = subst (λ t. AreTrue t rose reads) same true
 
 module _ (i o : Schema) (t : Trees) where
   -- what the three texts decide
@@ -86,15 +96,16 @@ pub headline : {words : List (List ℕ)} {rose : Type 0} {reads : List Read} (fi
     → IsCutShort status rose ⊎ DecidesSafety status old new (grammar_of i) (grammar_of o) (sheet_of t)
 headline {words} {rose} {reads} files i o t status old new answer c true right is written =
     by (read_three files c.input c.output c.sheet c.input_text c.output_text c.sheet_text c.words_are tt refl c.input_held (first_short c.input_spells.short) c.output_held (first_short c.output_spells.short)
-      c.sheet_held (first_short c.sheet_spells.short) true right)
+    c.sheet_held (first_short c.sheet_spells.short) true right)
   where
     first_short : {bytes : List ℕ} → length bytes ≤ 4096 → length bytes ≤ longest_file
     first_short h = omega (arith, h)
+
     by : IsOfFault rose answer ⊎ (reads ≡ (c.input, Ok c.input_text) ∷ (c.output, Ok c.output_text) ∷ (c.sheet, Ok c.sheet_text) ∷ [])
         → IsCutShort status rose ⊎ DecidesSafety status old new (grammar_of i) (grammar_of o) (sheet_of t)
     by (inl fault) = inl (cut_short status answer is fault)
     by (inr read) = inr (exact_decision i o t status old new answer c.input_spells c.output_spells c.sheet_spells is written
-      (decided i o t c.input_spells c.output_spells c.sheet_spells (checked_only c.words_are read right)))
+        (decided i o t c.input_spells c.output_spells c.sheet_spells (checked_only c.words_are read right)))
 
 settled : {g : Grammar} {d : Trees} {answer : Answer} (status : Status) (old new : Option (List ℕ)) → status ≡ status_of answer → Appended old new (text_of answer) → Settles g d answer
     → DecidesValidity status old new g d
@@ -123,22 +134,28 @@ validity {words} {rose} {reads} files g d status old new answer c true right is 
 
 at_limit : (s : Sheet) (d : Trees) (status : Status) (old new : Option (List ℕ)) (answer : Answer) → status_of answer ≡ Limit → status ≡ status_of answer → Appended old new (text_of answer)
     → (IsRunWithin s d → ⊥) → Runs s d answer → KeepsToLimits status old new s d × GivesResult status old new s d
-at_limit s d status old new answer limit is written beyond runs = (record {
-  yes = (λ e. absurd (let k = sym (is ∙ limit) ∙ e in cc), λ w. absurd (beyond w));
-  limit = (λ _. beyond, λ _. is ∙ limit);
-  limit_text = λ _. (answer, limit, runs, written);
-}, λ e. absurd (let k = sym (is ∙ limit) ∙ e in cc))
+at_limit s d status old new answer limit is written beyond runs = (
+  record {
+    yes = (λ e. absurd (let k = sym (is ∙ limit) ∙ e in cc), λ w. absurd (beyond w));
+    limit = (λ _. beyond, λ _. is ∙ limit);
+    limit_text = λ _. (answer, limit, runs, written);
+  },
+  λ e. absurd (let k = sym (is ∙ limit) ∙ e in cc),
+)
 
 given : (s : Sheet) (d : Trees) {answer : Answer} (status : Status) (old new : Option (List ℕ)) → status ≡ status_of answer → Appended old new (text_of answer) → Runs s d answer
     → KeepsToLimits status old new s d × GivesResult status old new s d
 given s d status old new is written (sheet_passes {kind = k} {number = n} p) = at_limit s d status old new (over_limit k n) refl is written (not_within s d k n p) (sheet_passes p)
 given s d status old new is written (too_much_work {o = o} w t p) = at_limit s d status old new work_limit refl is written (not_few s d o t p) (too_much_work w t p)
 given s d status old new is written (too_open {o = o} w t p) = at_limit s d status old new open_limit refl is written (not_low s d o t p) (too_open w t p)
-given s d status old new is written (gives_result {result = result} w r) = (record {
-  yes = (λ _. w, λ _. is);
-  limit = (λ e. absurd (let k = sym is ∙ e in cc), λ n. absurd (n w));
-  limit_text = λ e. absurd (let k = sym is ∙ e in cc);
-}, λ _. (result, r, written))
+given s d status old new is written (gives_result {result = result} w r) = (
+  record {
+    yes = (λ _. w, λ _. is);
+    limit = (λ e. absurd (let k = sym is ∙ e in cc), λ n. absurd (n w));
+    limit_text = λ e. absurd (let k = sym is ∙ e in cc);
+  },
+  λ _. (result, r, written),
+)
 
 -- a call that is cut short isn't yes
 not_yes : {rose : Type 0} {status : Status} → IsCutShort status rose → status ≡ Yes → ⊥

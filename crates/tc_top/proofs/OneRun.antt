@@ -24,8 +24,10 @@ use Rattle.tc_sheet.specs.Changes.{Change, mended, flattened, both}
 use Rattle.tc_sheet.specs.Faults.{IsNoneWith}
 use Rattle.tc_sheet.proofs.Changes.{as_they_are}
 use Rattle.tc_sheet.proofs.NamedAgain.{not_once}
-use Rattle.tc_sheet_text.specs.Texts.{IsSheetOf}
-use Rattle.tc_top.specs.Refusals.{Reason, malformed, unsupported, too_deep, undefined, twice, loop, bad_start, bad_except, call_loop, IsRefusedSheet}
+use Rattle.tc_read.specs.Sheets.{IsSheetOf}
+use Rattle.tc_read.specs.Refusals.{IsRefusedSheet}
+use Rattle.tc_read.specs.declared.faults.Reason.{Reason}
+use Rattle.tc_read.specs.declared.faults.Reason.TheVariants.{Malformed, Unsupported, TooDeep, Undefined, Twice, Loop, BadStart, BadExcept, CallLoop}
 use Rattle.tc_top.specs.Limits.{symbols_of_sheet, IsWithinSheetLimits, IsRunWithin, SheetPasses, sheet_symbols, sheet_predicates, sheet_ancestors, sheet_selects}
 use Rattle.tc_top.specs.Answers.{Answer, over_limit, has_result, Runs, sheet_passes, too_much_work, too_open, gives_result, RunsTexts, sheet_refused, source_refused, sheet_and_source}
 use Rattle.tc_top.specs.OneAnswer.{AreAlike, same_answer, work_or_open, open_or_work}
@@ -43,18 +45,18 @@ as_document : {bytes : List ℕ} {s : Sheet} (x : IsSheetOf bytes s) → IsReadA
 as_document x = record { raw = x.raw; spells = x.text; document = refl }
 
 pub no_sheet : {bytes : List ℕ} {s : Sheet} (reason : Reason) (place : ℕ) → IsRefusedSheet bytes reason place → IsSheetOf bytes s → ⊥
-no_sheet malformed place (inl r) x = no_document malformed place r (as_document x)
-no_sheet malformed place (inr r) x = let t = means_at x r.1.0 r.1.1 in not_once (r.1.2.1 r.1.0 t.templates (as_they_are both r.1.0) t.written) t.once
-no_sheet (unsupported why) place (inl r) x = no_document (unsupported why) place r (as_document x)
-no_sheet {s = s} (unsupported why) place (inr r) x = none_with flattened r.0 s r.2.1 (means_at x r.0 r.1)
-no_sheet too_deep place (inl r) x = no_document too_deep place r (as_document x)
-no_sheet {s = s} too_deep place (inr r) x = none_with mended r.0 s r.2.1 (means_at x r.0 r.1)
-no_sheet {s = s} undefined place r x = faults.no_sheet r.0 calls.undefined place s r.2 (means_at x r.0 r.1)
-no_sheet {s = s} call_loop place r x = faults.no_sheet r.0 calls.call_loop place s r.2 (means_at x r.0 r.1)
-no_sheet twice place r x = r
-no_sheet loop place r x = r
-no_sheet bad_start place r x = r
-no_sheet bad_except place r x = r
+no_sheet Malformed place (inl r) x = no_document Malformed place r (as_document x)
+no_sheet Malformed place (inr r) x = let t = means_at x r.1.0 r.1.1 in not_once (r.1.2.1 r.1.0 t.templates (as_they_are both r.1.0) t.written) t.once
+no_sheet (Unsupported why) place (inl r) x = no_document (Unsupported why) place r (as_document x)
+no_sheet {s = s} (Unsupported why) place (inr r) x = none_with flattened r.0 s r.2.1 (means_at x r.0 r.1)
+no_sheet TooDeep place (inl r) x = no_document TooDeep place r (as_document x)
+no_sheet {s = s} TooDeep place (inr r) x = none_with mended r.0 s r.2.1 (means_at x r.0 r.1)
+no_sheet {s = s} Undefined place r x = faults.no_sheet r.0 calls.undefined place s r.2 (means_at x r.0 r.1)
+no_sheet {s = s} CallLoop place r x = faults.no_sheet r.0 calls.call_loop place s r.2 (means_at x r.0 r.1)
+no_sheet Twice place r x = r
+no_sheet Loop place r x = r
+no_sheet BadStart place r x = r
+no_sheet BadExcept place r x = r
 
 -- a text has one stylesheet
 pub one_sheet_of : {bytes : List ℕ} {s t : Sheet} → IsSheetOf bytes s → IsSheetOf bytes t → s ≡ t

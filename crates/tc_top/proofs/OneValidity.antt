@@ -12,11 +12,14 @@ use Rattle.tc_model.proofs.SimplifiesUnique.{one_syntax, one_rnc_text}
 use Rattle.tc_model.proofs.SimplifiesFaults.{no_grammar}
 use Rattle.tc_model.proofs.XmlTextTrees.{one_raw_tree}
 use Rattle.tc_print.specs.ReadBack.{IsReadAs}
-use Rattle.tc_sheet_text.proofs.OtherEntities.{with_others}
-use Rattle.tc_top.specs.Refusals.{Reason, malformed, unsupported, too_deep, undefined, twice, loop, bad_start, bad_except, call_loop, SpellsFault, IsRefusedSchema, IsRefusedDocument}
+use Rattle.tc_read.proofs.OtherEntities.{with_others}
+use Rattle.tc_read.specs.Refusals.{SpellsFault, IsRefusedSchema, IsRefusedDocument}
+use Rattle.tc_read.specs.declared.faults.Reason.{Reason}
+use Rattle.tc_read.specs.declared.faults.Reason.TheVariants.{Malformed, Unsupported, TooDeep, Undefined, Twice, Loop, BadStart, BadExcept, CallLoop}
 use Rattle.tc_model.specs.SimplifiesCounts.{IsWithinCounts}
 use Rattle.tc_model.specs.States.{Side}
-use Rattle.tc_top.specs.Limits.{IsWithinLimits, PassesSize, passes_pattern, passes_depth, passes_elements, PassesLimit, passes_size, passes_states, IsValidityWithin}
+use Rattle.tc_read.specs.Schemas.{PassesSize, passes_pattern, passes_depth, passes_elements}
+use Rattle.tc_top.specs.Limits.{IsWithinLimits, PassesLimit, passes_size, passes_states, IsValidityWithin}
 use Rattle.tc_top.specs.Answers.{Answer, over_limit, is_valid, is_invalid, Decides, passes, too_many_symbols, decides_valid, decides_invalid, Validates, schema_refused, document_refused, both_read}
 use Rattle.tc_top.specs.OneAnswer.{AreAlike, same_answer}
 use Rattle.tc_top.proofs.OneRefusal.{schema_refusals, document_refusals}
@@ -27,26 +30,26 @@ faulty {bytes} {g} f (s, spelled, fails) (t, spells, simple) =
     no_grammar t f g (subst (λ x. Fails x f) (one_syntax bytes s t spelled spells) fails) simple
 
 pub no_schema : {bytes : List ℕ} {g : Grammar} (reason : Reason) (place : ℕ) → IsRefusedSchema bytes reason place → RncText bytes g → ⊥
-no_schema malformed place r (t, spells, simple) = r.1 _ _ t spells
-no_schema (unsupported why) place r (t, spells, simple) = r.1 _ t spells
-no_schema too_deep place r (t, spells, simple) = r.1 _ t spells
-no_schema undefined place r x = faulty (faults.undefined place) r x
-no_schema twice place r x = faulty (faults.twice place) r x
-no_schema loop place r x = faulty (faults.loop place) r x
-no_schema bad_start place r x = faulty (faults.bad_start place) r x
-no_schema bad_except place r x = faulty (faults.bad_except place) r x
-no_schema call_loop place r x = r
+no_schema Malformed place r (t, spells, simple) = r.1 _ _ t spells
+no_schema (Unsupported why) place r (t, spells, simple) = r.1 _ t spells
+no_schema TooDeep place r (t, spells, simple) = r.1 _ t spells
+no_schema Undefined place r x = faulty (faults.undefined place) r x
+no_schema Twice place r x = faulty (faults.twice place) r x
+no_schema Loop place r x = faulty (faults.loop place) r x
+no_schema BadStart place r x = faulty (faults.bad_start place) r x
+no_schema BadExcept place r x = faulty (faults.bad_except place) r x
+no_schema CallLoop place r x = r
 
 pub no_document : {bytes : List ℕ} {d : Trees} (reason : Reason) (place : ℕ) → IsRefusedDocument bytes reason place → IsReadAs bytes d → ⊥
-no_document malformed place r x = r.1 _ x.raw (with_others x.spells)
-no_document (unsupported why) place r x = r.1 _ x.raw x.spells
-no_document too_deep place r x = r.1 x.raw (with_others x.spells)
-no_document undefined place r x = r
-no_document twice place r x = r
-no_document loop place r x = r
-no_document bad_start place r x = r
-no_document bad_except place r x = r
-no_document call_loop place r x = r
+no_document Malformed place r x = r.1 _ x.raw (with_others x.spells)
+no_document (Unsupported why) place r x = r.1 _ x.raw x.spells
+no_document TooDeep place r x = r.1 x.raw (with_others x.spells)
+no_document Undefined place r x = r
+no_document Twice place r x = r
+no_document Loop place r x = r
+no_document BadStart place r x = r
+no_document BadExcept place r x = r
+no_document CallLoop place r x = r
 
 -- a text has one document
 pub one_document : {bytes : List ℕ} {c d : Trees} → IsReadAs bytes c → IsReadAs bytes d → c ≡ d

@@ -20,13 +20,14 @@ use Rattle.tc_model.specs.RncText.{RncText}
 use Rattle.tc_model.specs.Validity.{IsValid}
 use Rattle.tc_print.specs.ReadBack.{IsReadAs}
 use Rattle.tc_run.specs.Spent.{most_work, most_open}
-use Rattle.tc_sheet_text.specs.Texts.{IsSheetOf}
+use Rattle.tc_read.specs.Sheets.{IsSheetOf}
 use Rattle.tc_top.specs.FirstForm.{Schema, grammar_of, sheet_of}
 use Rattle.tc_top.specs.FirstText.{FirstSchemaText, FirstSheetText}
 use Rattle.tc_top.specs.Headline.{IsCutShort}
 use Rattle.tc_top.specs.Lines.{line, limit_line}
 use Rattle.tc_top.specs.Words.{Command, check, prove, verify, run, valid, demo, Words, IsNoCommand, name_of, operands_of}
-use Rattle.tc_top.specs.Refusals.{Reason, reason_text, IsRefusedSchema, IsRefusedDocument, IsRefusedSheet}
+use Rattle.tc_read.specs.Refusals.{reason_text, IsRefusedSchema, IsRefusedDocument, IsRefusedSheet}
+use Rattle.tc_read.specs.declared.faults.Reason.{Reason}
 use Rattle.tc_top.specs.Limits.{limit_word, symbols_of_schema, symbols_of_sheet, IsWithinLimits, PassesLimit, IsValidityWithin, IsWithinSheetLimits, SheetPasses, IsRunWithin}
 use Rattle.tc_top.specs.Reading.{StopsAt, IsUnreadable}
 use Rattle.tc_top.specs.declared.status.Status.{Status}

@@ -10,7 +10,7 @@ use Rattle.tc_model.specs.Printed.{printed}
 use Rattle.tc_model.specs.RncText.{RncText}
 use Rattle.tc_model.specs.Validity.{IsValid}
 use Rattle.tc_print.specs.ReadBack.{IsReadAs}
-use Rattle.tc_sheet_text.specs.Texts.{IsSheetOf}
+use Rattle.tc_read.specs.Sheets.{IsSheetOf}
 use Rattle.tc_top.specs.FirstForm.{Schema}
 use Rattle.tc_top.specs.FirstText.{FirstSchemaText, FirstSheetText}
 use Rattle.tc_top.specs.Limits.{IsValidityWithin}

@@ -2,14 +2,15 @@
 use Rattle.std.specs.Prelude.{◌<◌, ◌≤◌, ℕ, List, [], flat_map, codes}
 use Rattle.tc_base.specs.declared.Limit.{Limit}
 use Rattle.tc_base.specs.declared.Limit.TheVariants.{Pattern, Depth, Elements, States, Symbols, Predicates, Ancestors, Selects, Calls, Entries}
-use Rattle.tc_base.specs.declared.limits.TheConstants.{MOST_PATTERN_NODES, GREATEST_PATTERN_DEPTH, MOST_ELEMENT_PATTERNS, MOST_INPUT_STATES, MOST_SYMBOLS, MOST_PREDICATES, MOST_ANCESTORS, MOST_SELECTS}
+use Rattle.tc_base.specs.declared.limits.TheConstants.{MOST_INPUT_STATES, MOST_SYMBOLS, MOST_PREDICATES, MOST_ANCESTORS, MOST_SELECTS}
 use Rattle.tc_model.specs.Grammars.{Grammar}
 use Rattle.tc_model.specs.Sheets.{Sheet}
-use Rattle.tc_model.specs.SimplifiesCounts.{IsWithinCounts, Passes, nodes, depth, elements}
+use Rattle.tc_model.specs.SimplifiesCounts.{IsWithinCounts}
 use Rattle.tc_model.specs.States.{Side, input, state_count}
 use Rattle.tc_model.specs.Symbols.{Mention, mention_cmp, in_order, with_namespace, mentions_in_grammar, mentions_in_sheet, symbol_count}
 use Rattle.tc_model.specs.Trees.{Trees}
 use Rattle.tc_model.specs.StateCounts.{PassNone, PassPredicates, PassAncestors, PassSelects}
+use Rattle.tc_read.specs.Schemas.{PassesSize}
 use Rattle.tc_run.specs.Limits.{KeepsLimits}
 
 abbrev pub limit_word : Limit → List ℕ
@@ -41,12 +42,6 @@ AreFew symbols = symbol_count symbols ≤ MOST_SYMBOLS
 pub record IsWithinLimits (g : Grammar) (side : Side) (most : ℕ) : Type 0 where
   pub counts : IsWithinCounts g
   pub states : state_count g side ≤ most
-
--- the first limit on its size that the schema passes, and its number
-pub data PassesSize (g : Grammar) : Limit → ℕ → Type 0 where
-  passes_pattern : Passes g nodes → PassesSize g Pattern MOST_PATTERN_NODES
-  passes_depth : Passes g depth → PassesSize g Depth GREATEST_PATTERN_DEPTH
-  passes_elements : Passes g elements → PassesSize g Elements MOST_ELEMENT_PATTERNS
 
 -- the first of its own limits that the schema passes, and its number
 pub data PassesLimit (g : Grammar) (side : Side) (most : ℕ) : Limit → ℕ → Type 0 where

@@ -9,7 +9,9 @@ use Rattle.tc_model.specs.SheetTextPhrases.{IsStylesheet}
 use Rattle.tc_model.specs.Trees.{Trees}
 use Rattle.tc_model.specs.XmlText.{XmlText}
 use Rattle.tc_top.specs.Answers.{Answer, cannot_read, unsafe, refused, work_limit, open_limit, IsAnswer, IsAnswerOn}
-use Rattle.tc_top.specs.Refusals.{Reason, malformed, unsupported, too_deep, IsRefusedDocument, IsRefusedSheet}
+use Rattle.tc_read.specs.Refusals.{IsRefusedDocument, IsRefusedSheet}
+use Rattle.tc_read.specs.declared.faults.Reason.{Reason}
+use Rattle.tc_read.specs.declared.faults.Reason.TheVariants.{Malformed, Unsupported, TooDeep}
 
 -- a text may be refused for several of these, at several places, and which is told is left open
 abbrev pub IsOpen : Reason → Type 0
@@ -48,13 +50,13 @@ HasAnswerOfCall = (words : List (List ℕ)) (files : Files) (before after : ℕ)
 
 -- this stands in a text, up to which it was read
 abbrev pub IsConstruct : Reason → Type 0
-IsConstruct (unsupported why) = Unit {0}
-IsConstruct too_deep = Unit {0}
+IsConstruct (Unsupported why) = Unit {0}
+IsConstruct TooDeep = Unit {0}
 IsConstruct _ = ⊥
 
--- a document's text comes to one construct that isn't read, or to one element that stands too deep
+-- a document's text is refused for one reason, and at one place where that is a construct that isn't read, or an element that stands too deep
 abbrev pub HasOneConstruct : Type 0
-HasOneConstruct = (bytes : List ℕ) (r q : Reason) (k m : ℕ) → IsConstruct r → IsConstruct q → IsRefusedDocument bytes r k → IsRefusedDocument bytes q m → (r ≡ q) × (k ≡ m)
+HasOneConstruct = (bytes : List ℕ) (r q : Reason) (k m : ℕ) → IsRefusedDocument bytes r k → IsRefusedDocument bytes q m → (r ≡ q) × (IsConstruct r → k ≡ m)
 
 -- where a text spells a stylesheet but for the names of its templates and its calls, it is refused for one reason, at one place
 abbrev pub HasOneFaultOfNames : Type 0

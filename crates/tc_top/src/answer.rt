@@ -6,15 +6,14 @@ ghost use Rattle.tc_top.specs.Answers as a;
 ghost use Rattle.tc_top.specs.AnswersSeen.{text as see_text};
 ghost use Rattle.tc_top.specs.Limits.{limit_word};
 ghost use Rattle.tc_top.specs.Lines.{limit_line};
-ghost use Rattle.tc_top.specs.RefusalsSeen as seen;
 
 use crate::buffer::Buffer;
-use crate::refusal::Reason;
 use crate::status::Status;
 use std::alloc::Global;
 use tc_base::limits::{LONGEST_FILE, MOST_OPEN, MOST_WORK};
 use tc_base::{Limit, NoMemory, Place};
 use tc_model::Node;
+use tc_read::Reason;
 
 /// The text of an answer.
 #[derive(Drop)]
@@ -145,7 +144,7 @@ impl Answer {
         reason: Reason,
         place: Place,
     ) -> Result<Answer, NoMemory>
-        ensures { IfOk result (λ said. Says said (a.refused name.now (seen.reason reason) (see.place place))) }
+        ensures { IfOk result (λ said. Says said (a.refused name.now reason (see.place place))) }
     {
         let (front, word) = reason.words();
         let mut number = itoa::Buffer::new();

@@ -5,16 +5,13 @@ mod answer;
 mod buffer;
 mod check;
 mod command;
-mod documents;
 mod first;
 pub mod laws;
+mod program;
 mod read;
-mod refusal;
 mod run;
 #[cfg(test)]
 mod run_rows;
-mod schemas;
-mod sheets;
 mod status;
 #[cfg(test)]
 mod tests;
@@ -44,6 +41,7 @@ ghost use Rattle.tc_top.specs.WordsSeen.{texts};
 use answer::Answer;
 use check::check;
 use command::{Command, read_words};
+pub use program::run_program;
 use run::run;
 pub use status::Status;
 use std::alloc::Global;

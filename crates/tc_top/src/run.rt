@@ -8,7 +8,7 @@ ghost use Rattle.tc_model.specs.Symbols.{symbol_count};
 ghost use Rattle.tc_model.specs.Trees.{none, IsDocument};
 ghost use Rattle.tc_model.specs.WellFormed.{IsSheet};
 ghost use Rattle.tc_rules.specs.Kept.{IsRulesOf, told};
-ghost use Rattle.tc_sheet_text.specs.Texts.{IsSheetOf};
+ghost use Rattle.tc_read.specs.Sheets.{IsSheetOf};
 ghost use Rattle.tc_top.specs.Answers as a;
 ghost use Rattle.tc_top.specs.Answers.{Runs, RunsTexts};
 ghost use Rattle.tc_top.specs.AnswersSeen.{Says, IsRightFor};
@@ -17,10 +17,7 @@ ghost use Rattle.tc_top.specs.Words as w;
 ghost use Rattle.tc_top.specs.Words.{Words};
 
 use crate::answer::Answer;
-use crate::documents::read_document;
 use crate::read::{Operand, read_pair};
-use crate::refusal::Unaccepted;
-use crate::sheets::read_sheet;
 use bumpalo::Bump;
 use std::alloc::Global;
 use tc_alpha::{AlphaFault, Alphabet};
@@ -28,6 +25,7 @@ use tc_base::limits::{MOST_ANCESTORS, MOST_PREDICATES, MOST_SELECTS, MOST_SYMBOL
 use tc_base::{Limit, NoMemory};
 use tc_io::Store;
 use tc_model::{Grammar, Node, Pat, Sheet};
+use tc_read::{TextFault, read_document, read_sheet};
 use tc_rules::{Rules, RulesFault};
 use tc_run::RunFault;
 
@@ -50,11 +48,7 @@ pub fn run<S: Store>(
 }
 
 /// Puts out the result by the texts of the operands.
-fn run_texts(
-    alloc: Global,
-    sheet: &Operand<'_>,
-    document: &Operand<'_>,
-) -> Result<Answer, NoMemory>
+fn run_texts(alloc: Global, sheet: &Operand<'_>, document: &Operand<'_>) -> Result<Answer, NoMemory>
     requires sheet { length sheet.now.text.items ≤ longest_text }
     requires document { length document.now.text.items ≤ longest_text }
     ensures { IfOk result (λ said. (answer : a.Answer) × Says said answer
@@ -63,10 +57,10 @@ fn run_texts(
     let arena = Bump::new(alloc);
     match read_sheet(&arena, &sheet.text) {
         Ok(read) => run_on_text(alloc, &arena, &read, document),
-        Err(Unaccepted::Refused(reason, place)) => {
+        Err(TextFault::Refused(reason, place)) => {
             Answer::refused(alloc, sheet.name, reason, place)
         }
-        Err(Unaccepted::NoMemory) => Err(NoMemory),
+        Err(TextFault::NoMemory) => Err(NoMemory),
     }
 }
 
@@ -84,10 +78,10 @@ fn run_on_text<'b>(
 {
     match read_document(arena, &document.text) {
         Ok(root) => run_on(alloc, arena, sheet, &root),
-        Err(Unaccepted::Refused(reason, place)) => {
+        Err(TextFault::Refused(reason, place)) => {
             Answer::refused(alloc, document.name, reason, place)
         }
-        Err(Unaccepted::NoMemory) => Err(NoMemory),
+        Err(TextFault::NoMemory) => Err(NoMemory),
     }
 }
 

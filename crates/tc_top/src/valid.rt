@@ -8,19 +8,16 @@ ghost use Rattle.tc_model.specs.SimplifiesCounts.{IsWithinCounts};
 ghost use Rattle.tc_model.specs.SimplifiesLaws.{IsStart};
 ghost use Rattle.tc_model.specs.Symbols.{symbol_count};
 ghost use Rattle.tc_model.specs.Trees.{none};
+ghost use Rattle.tc_read.specs.Schemas.{IsSchemaOf};
 ghost use Rattle.tc_top.specs.Answers as a;
 ghost use Rattle.tc_top.specs.Answers.{Decides, Validates};
 ghost use Rattle.tc_top.specs.AnswersSeen.{Says, IsRightFor};
 ghost use Rattle.tc_top.specs.Limits.{AreFew, symbols_of_schema};
-ghost use Rattle.tc_top.specs.SchemasSeen.{IsSchemaOf};
 ghost use Rattle.tc_top.specs.Words as w;
 ghost use Rattle.tc_top.specs.Words.{Words};
 
 use crate::answer::Answer;
-use crate::documents::read_document;
 use crate::read::{Operand, read_pair};
-use crate::refusal::Unaccepted;
-use crate::schemas::{Schema, read_schema};
 use bumpalo::Bump;
 use std::alloc::Global;
 use tc_alpha::{AlphaFault, Alphabet};
@@ -30,6 +27,7 @@ use tc_base::{Limit, NoMemory};
 use tc_hedge::Hedge;
 use tc_io::Store;
 use tc_model::{Grammar, Node, Pat, Sheet};
+use tc_read::{Schema, TextFault, read_document, read_schema};
 
 /// Reads the operands, and tells whether the document is valid.
 pub fn valid<S: Store>(
@@ -63,10 +61,10 @@ fn valid_texts(
     let arena = Bump::new(alloc);
     match read_schema(&arena, &schema.text) {
         Ok(read) => valid_document(alloc, &arena, &read, document),
-        Err(Unaccepted::Refused(reason, place)) => {
+        Err(TextFault::Refused(reason, place)) => {
             Answer::refused(alloc, schema.name, reason, place)
         }
-        Err(Unaccepted::NoMemory) => Err(NoMemory),
+        Err(TextFault::NoMemory) => Err(NoMemory),
     }
 }
 
@@ -87,10 +85,10 @@ fn valid_document(
             Schema::Small(grammar) => decide(alloc, grammar, &root),
             Schema::TooLarge(kind, number) => Answer::limit(alloc, *kind, *number),
         },
-        Err(Unaccepted::Refused(reason, place)) => {
+        Err(TextFault::Refused(reason, place)) => {
             Answer::refused(alloc, document.name, reason, place)
         }
-        Err(Unaccepted::NoMemory) => Err(NoMemory),
+        Err(TextFault::NoMemory) => Err(NoMemory),
     }
 }
 

@@ -1,0 +1,3 @@
+pub mod OtherEntities
+mod TextFaults
+mod RefusedTexts
