@@ -1,6 +1,5 @@
 -- Why a text is none of a document, a schema or a stylesheet, by the cause that its reader tells.
-use Rattle.std.proofs.Common.{◌≡◌, ◌≤◌, inl, inr, sym, subst, ℕ, List, length, Contains, Result, Ok, Err, IfErr}
-use Rattle.std.specs.Result.{IsErrAnd}
+use Rattle.std.proofs.Common.{◌≤◌, inl, inr, subst, ℕ, List, length, Contains}
 use Rattle.std.specs.List.{AllByRecursion}
 use Rattle.std.proofs.lemmas.List.Elements.{All-contains, All-from_recursion}
 use Rattle.tc_model.specs.RawTrees.{Attribute, RawTrees, none, text, element}
@@ -19,11 +18,6 @@ use Rattle.tc_xml.specs.declared.faults.XmlFault.{XmlFault}
 use Rattle.tc_xml.specs.declared.faults.XmlFault.TheVariants as x
 use Rattle.tc_read.specs.Faults.{of_xml, of_rnc, of_sheet, IsUnaccepted}
 use Rattle.tc_read.specs.Refusals.{IsRefusedDocument, IsRefusedSchema, IsRefusedSheet}
-
--- the value that the exit of a `?` returns
-pub err_is : {T E : Type 0} (r : Result T E) (e : E) (P : E → Type 0) → IsErrAnd r (λ y. y ≡ e) → P e → IfErr r P
-err_is (Ok x) e P h p = absurd h
-err_is (Err y) e P h p = subst P (sym h) p
 
 attribute_within : (total : ℕ) (attributes : List Attribute) (a : Attribute) → AllByRecursion (IsLawfulAttribute total) attributes → Contains attributes a → a.place ≤ total
 attribute_within total attributes a all there =

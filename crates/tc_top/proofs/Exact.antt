@@ -19,31 +19,53 @@ use Rattle.tc_top.proofs.OneRun.{runs_texts_one}
 use Rattle.tc_top.proofs.FirstText.{schema_unique, sheet_unique, sheet_plain}
 use Rattle.tc_top.proofs.FirstLaws.{result_is}
 
+-- lists and reads that are the same
+
+cons_same : {X : Type 0} {x y : X} {xs ys : List X} → x ∷ xs ≡ y ∷ ys → (x ≡ y) × (xs ≡ ys)
+cons_same e = (cc, cc)
+
+read_same : {a c : List ℕ} {b d : Came} {xs ys : List Read} → (a, b) ∷ xs ≡ (c, d) ∷ ys → (a ≡ c) × (b ≡ d) × (xs ≡ ys)
+read_same e = let h = cons_same e in (ap (λ p. p.0) h.0, ap (λ p. p.1) h.0, h.1)
+
+ok_same : (x y : List ℕ) → ◌≡◌ {A = Came} (Ok x) (Ok y) → x ≡ y
+ok_same x y e = cc
+
+err_same : (x y : StoreFault) → ◌≡◌ {A = Came} (Err x) (Err y) → x ≡ y
+err_same x y e = cc
+
+ok_err : (x : List ℕ) (y : StoreFault) → ◌≡◌ {A = Came} (Ok x) (Err y) → ⊥
+ok_err x y e = absurd (cc)
+
 -- reads that stop at a name, and not at another
 
-one_stop : {names others : List (List ℕ)} {reads : List Read} {name found : List ℕ} {fault other : StoreFault} → names ≡ others → StopsAt names reads name fault → StopsAt others reads found other
-    → (name ≡ found) × (fault ≡ other)
-one_stop same (at_first p q) (at_first r s) = (cc, cc)
-one_stop same (at_first p q) (past_first r s x) = absurd (cc)
-one_stop same (past_first p q x) (at_first r s) = absurd (cc)
-one_stop {reads = reads} {found = found} {other = other} same (past_first {rest = rest} {more = more} p q x) (past_first {rest = behind} {more = others} r s y) =
-    let left : rest ≡ behind = cc in
-    let same_reads : others ≡ more = cc in
-    one_stop left x (subst (λ m. StopsAt behind m found other) same_reads y)
+one_stop : {names others : List (List ℕ)} {reads same : List Read} {name found : List ℕ} {fault other : StoreFault} → names ≡ others → reads ≡ same → StopsAt names reads name fault
+    → StopsAt others same found other → (name ≡ found) × (fault ≡ other)
+one_stop e f (at_first p q) (at_first r s) = let two = read_same (sym q ∙ (f ∙ s)) in (two.0, err_same _ _ two.1)
+one_stop e f (at_first p q) (past_first r s x) = absurd (ok_err _ _ (sym (read_same (sym q ∙ (f ∙ s))).1))
+one_stop e f (past_first p q x) (at_first r s) = absurd (ok_err _ _ (read_same (sym q ∙ (f ∙ s))).1)
+one_stop e f (past_first p q x) (past_first r s y) = one_stop (cons_same (sym p ∙ (e ∙ r))).1 (read_same (sym q ∙ (f ∙ s))).2 x y
 
 -- reads of which each is Ok
+
+abbrev IsWell : Came → Type 0
+IsWell (Ok text) = Unit {0}
+IsWell (Err fault) = ⊥
+
 abbrev AreWell : List Read → Type 0
 AreWell [] = Unit {0}
-AreWell ((name, Ok text) ∷ reads) = AreWell reads
-AreWell ((name, Err fault) ∷ reads) = ⊥
+AreWell (read ∷ reads) = IsWell read.1 × AreWell reads
 
-no_stop : {names : List (List ℕ)} {reads well : List Read} {name : List ℕ} {fault : StoreFault} → reads ≡ well → AreWell well → StopsAt names reads name fault → ⊥
-no_stop {well = []} same w (at_first p q) = absurd (cc)
-no_stop {well = (name, Ok text) ∷ well} same w (at_first p q) = absurd (cc)
-no_stop {well = (name, Err fault) ∷ well} same w (at_first p q) = w
-no_stop {well = []} same w (past_first p q x) = absurd (cc)
-no_stop {well = (name, Ok text) ∷ well} same w (past_first {more = more} p q x) = let rest : more ≡ well = cc in no_stop rest w x
-no_stop {well = (name, Err fault) ∷ well} same w (past_first p q x) = w
+no_stop : {names : List (List ℕ)} {reads : List Read} {name : List ℕ} {fault : StoreFault} (well : List Read) → reads ≡ well → AreWell well → StopsAt names reads name fault → ⊥
+no_stop [] same w (at_first p q) = absurd (cc)
+no_stop [] same w (past_first p q x) = absurd (cc)
+no_stop (read ∷ well) same w (at_first p q) = let h = cons_same (sym same ∙ q) in subst (λ x. IsWell x.1) h.0 w.0
+no_stop (read ∷ well) same w (past_first p q x) = let h = cons_same (sym same ∙ q) in no_stop well (sym h.1) w.1 x
+
+no_stop_two : {names : List (List ℕ)} {reads : List Read} {name a b c d : List ℕ} {fault : StoreFault} → reads ≡ (a, Ok c) ∷ (b, Ok d) ∷ [] → StopsAt names reads name fault → ⊥
+no_stop_two r s = no_stop _ r (tt, (tt, tt)) s
+
+no_stop_three : {names : List (List ℕ)} {reads : List Read} {name a b e c d f : List ℕ} {fault : StoreFault} → reads ≡ (a, Ok c) ∷ (b, Ok d) ∷ (e, Ok f) ∷ [] → StopsAt names reads name fault → ⊥
+no_stop_three r s = no_stop _ r (tt, (tt, (tt, tt))) s
 
 -- a safe stylesheet has no counterexample, also where the texts are read once more
 pub not_both : {b c d : List ℕ} {i j o p : Schema} {t u document result : Trees} → FirstSchemaText b i → FirstSchemaText c o → FirstSheetText d t → IsSafe (grammar_of i) (grammar_of o) (sheet_of t)
@@ -139,28 +161,24 @@ stopped_only : {words : List (List ℕ)} {reads : List Read} {answer : Answer} {
 stopped_only w b s (no_command n e) = absurd (n _ w)
 stopped_only w b s (not_built v x r e) = absurd (x (subst IsBuilt (one_command w v) b))
 stopped_only {name = name} {fault = fault} w b s (not_read {name = found} {fault = other} v x t u) =
-    sym (unreadable other found u) ∙ stopped_at other fault found name (one_stop (ap operands_of (one_command v w)) t s)
-stopped_only {name = name} {fault = fault} w b s (over_long {name = found} v x t) = stopped_at TooLong fault found name (one_stop (ap operands_of (one_command v w)) t s)
-stopped_only w b s (checked v r x) = absurd (no_stop r tt s)
-stopped_only w b s (validated v r x) = absurd (no_stop r tt s)
-stopped_only w b s (ran v r x) = absurd (no_stop r tt s)
+    sym (unreadable other found u) ∙ stopped_at other fault found name (one_stop (ap operands_of (one_command v w)) refl t s)
+stopped_only {name = name} {fault = fault} w b s (over_long {name = found} v x t) = stopped_at TooLong fault found name (one_stop (ap operands_of (one_command v w)) refl t s)
+stopped_only w b s (checked v r x) = absurd (no_stop_three r s)
+stopped_only w b s (validated v r x) = absurd (no_stop_two r s)
+stopped_only w b s (ran v r x) = absurd (no_stop_two r s)
 
 -- where all operands are read, the texts decide
 pub checked_only : {words : List (List ℕ)} {reads : List Read} {answer : Answer} {input output sheet b c d : List ℕ} → Words words (check None input output sheet)
     → reads ≡ (input, Ok b) ∷ (output, Ok c) ∷ (sheet, Ok d) ∷ [] → IsAnswer words reads answer → Checks input output sheet b c d answer
 checked_only w r (no_command n e) = absurd (n _ w)
 checked_only w r (not_built v x e f) = absurd (x (subst IsBuilt (one_command w v) tt))
-checked_only w r (not_read v b s u) = absurd (no_stop r tt s)
-checked_only w r (over_long v b s) = absurd (no_stop r tt s)
-checked_only {input = input} {output} {sheet} {b} {c} {d} w r (checked {input = i} {output = o} {sheet = s} {input_text = e} {output_text = f} {sheet_text = g} v q x) =
-    let same = sym r ∙ q in
-    let one : input ≡ i = cc in
-    let two : output ≡ o = cc in
-    let three : sheet ≡ s = cc in
-    let four : b ≡ e = cc in
-    let five : c ≡ f = cc in
-    let six : d ≡ g = cc in
-    checks_same one two three four five six x
+checked_only w r (not_read v b s u) = absurd (no_stop_three r s)
+checked_only w r (over_long v b s) = absurd (no_stop_three r s)
+checked_only w r (checked v q x) =
+    let one = read_same (sym r ∙ q) in
+    let two = read_same one.2 in
+    let three = read_same two.2 in
+    checks_same one.0 two.0 three.0 (ok_same _ _ one.1) (ok_same _ _ two.1) (ok_same _ _ three.1) x
 checked_only w r (validated v q x) = let other = one_command w v in absurd (cc)
 checked_only w r (ran v q x) = let other = one_command w v in absurd (cc)
 
@@ -176,17 +194,14 @@ pub validated_only : {words : List (List ℕ)} {reads : List Read} {answer : Ans
     → reads ≡ (schema, Ok b) ∷ (document, Ok c) ∷ [] → IsAnswer words reads answer → Validates schema document b c answer
 validated_only w r (no_command n e) = absurd (n _ w)
 validated_only w r (not_built v x e f) = absurd (x (subst IsBuilt (one_command w v) tt))
-validated_only w r (not_read v b s u) = absurd (no_stop r tt s)
-validated_only w r (over_long v b s) = absurd (no_stop r tt s)
+validated_only w r (not_read v b s u) = absurd (no_stop_two r s)
+validated_only w r (over_long v b s) = absurd (no_stop_two r s)
 validated_only w r (checked v q x) = let other = one_command w v in absurd (cc)
 validated_only w r (ran v q x) = let other = one_command w v in absurd (cc)
-validated_only {schema = schema} {document} {b} {c} w r (validated {schema = i} {document = o} {schema_text = e} {document_text = f} v q x) =
-    let same = sym r ∙ q in
-    let one : schema ≡ i = cc in
-    let two : document ≡ o = cc in
-    let three : b ≡ e = cc in
-    let four : c ≡ f = cc in
-    validates_same one two three four x
+validated_only w r (validated v q x) =
+    let one = read_same (sym r ∙ q) in
+    let two = read_same one.2 in
+    validates_same one.0 two.0 (ok_same _ _ one.1) (ok_same _ _ two.1) x
 
 runs_texts_same : {sheet document b c sheet' document' b' c' : List ℕ} {answer : Answer} → sheet ≡ sheet' → document ≡ document' → b ≡ b' → c ≡ c'
     → RunsTexts sheet' document' b' c' answer → RunsTexts sheet document b c answer
@@ -200,17 +215,14 @@ pub ran_only : {words : List (List ℕ)} {reads : List Read} {answer : Answer} {
     → reads ≡ (sheet, Ok b) ∷ (document, Ok c) ∷ [] → IsAnswer words reads answer → RunsTexts sheet document b c answer
 ran_only w r (no_command n e) = absurd (n _ w)
 ran_only w r (not_built v x e f) = absurd (x (subst IsBuilt (one_command w v) tt))
-ran_only w r (not_read v b s u) = absurd (no_stop r tt s)
-ran_only w r (over_long v b s) = absurd (no_stop r tt s)
+ran_only w r (not_read v b s u) = absurd (no_stop_two r s)
+ran_only w r (over_long v b s) = absurd (no_stop_two r s)
 ran_only w r (checked v q x) = let other = one_command w v in absurd (cc)
 ran_only w r (validated v q x) = let other = one_command w v in absurd (cc)
-ran_only {sheet = sheet} {document} {b} {c} w r (ran {sheet = i} {document = o} {sheet_text = e} {document_text = f} v q x) =
-    let same = sym r ∙ q in
-    let one : sheet ≡ i = cc in
-    let two : document ≡ o = cc in
-    let three : b ≡ e = cc in
-    let four : c ≡ f = cc in
-    runs_texts_same one two three four x
+ran_only w r (ran v q x) =
+    let one = read_same (sym r ∙ q) in
+    let two = read_same one.2 in
+    runs_texts_same one.0 two.0 (ok_same _ _ one.1) (ok_same _ _ two.1) x
 
 alike_at : {one other answer : Answer} → one ≡ answer → other ≡ answer → AreAlike one other
 alike_at {one} {other} {answer} p q = subst (λ a. AreAlike a other) (sym p) (subst (AreAlike answer) (sym q) same_answer)
@@ -236,10 +248,13 @@ stop_follows n (at_first p q) = stops p q n
 stop_follows n (past_first p q x) = goes_on p q (stop_follows n x)
 
 memory_no : (fault : StoreFault) → IsUnreadable fault → fault ≡ NoMemory → ⊥
-memory_no Missing u e = absurd (cc e)
-memory_no Failed u e = absurd (cc e)
+memory_no Missing u e = absurd (cc)
+memory_no Failed u e = absurd (cc)
 memory_no TooLong u e = absurd u
 memory_no NoMemory u e = absurd u
+
+long_memory : TooLong ≡ NoMemory → ⊥
+long_memory e = absurd (cc)
 
 two_follow : {reads : List Read} {a b c d : List ℕ} → reads ≡ (a, Ok c) ∷ (b, Ok d) ∷ [] → Follows (a ∷ b ∷ []) reads
 two_follow r = goes_on refl r (goes_on refl refl (no_name refl refl))
@@ -252,7 +267,7 @@ follows : {words : List (List ℕ)} {reads : List Read} {answer : Answer} {comma
 follows w b (no_command n e) = absurd (n _ w)
 follows w b (not_built v x r e) = absurd (x (subst IsBuilt (one_command w v) b))
 follows {reads = reads} w b (not_read {fault = fault} v x s u) = subst (λ c. Follows (operands_of c) reads) (one_command v w) (stop_follows (memory_no fault u) s)
-follows {reads = reads} w b (over_long v x s) = subst (λ c. Follows (operands_of c) reads) (one_command v w) (stop_follows (λ e. absurd (cc e)) s)
+follows {reads = reads} w b (over_long v x s) = subst (λ c. Follows (operands_of c) reads) (one_command v w) (stop_follows long_memory s)
 follows {reads = reads} w b (checked v r x) = subst (λ c. Follows (operands_of c) reads) (one_command v w) (three_follow r)
 follows {reads = reads} w b (validated v r x) = subst (λ c. Follows (operands_of c) reads) (one_command v w) (two_follow r)
 follows {reads = reads} w b (ran v r x) = subst (λ c. Follows (operands_of c) reads) (one_command v w) (two_follow r)
@@ -298,15 +313,14 @@ data Goes (name : List ℕ) (rest : List (List ℕ)) : List Read → Type 0 wher
   goes : {reads : List Read} (came : Came) (more : List Read) → reads ≡ (name, came) ∷ more → (came ≡ Err NoMemory → ⊥)
       → ((text : List ℕ) → came ≡ Ok text → Follows rest more) → ((fault : StoreFault) → came ≡ Err fault → more ≡ []) → Goes name rest reads
 
-first_read : {name : List ℕ} {rest : List (List ℕ)} {names : List (List ℕ)} {reads : List Read} → names ≡ name ∷ rest → Follows names reads → Goes name rest reads
+first_read : {name : List ℕ} {rest names : List (List ℕ)} {reads : List Read} → names ≡ name ∷ rest → Follows names reads → Goes name rest reads
 first_read same (no_name p q) = absurd (cc)
-first_read {name} {rest} {reads = reads} same (stops {name = found} {fault = fault} p q n) =
-    let first : found ≡ name = cc in
-    goes (Err fault) [] (q ∙ ap (λ x. (x, Err fault) ∷ []) first) (λ e. n (cc e)) (λ text e. absurd (cc e)) (λ other e. refl)
-first_read {name} {rest} {reads = reads} same (goes_on {rest = behind} {more = more} {name = found} {text = text} p q x) =
-    let first : found ≡ name = cc in
-    let left : behind ≡ rest = cc in
-    goes (Ok text) more (q ∙ ap (λ y. (y, Ok text) ∷ more) first) (λ e. absurd (cc e)) (λ other e. subst (λ y. Follows y more) left x) (λ fault e. absurd (cc e))
+first_read same (stops {fault = fault} p q n) =
+    let first = (cons_same (sym p ∙ same)).0 in
+    goes (Err fault) [] (q ∙ ap (λ x. (x, Err fault) ∷ []) first) (λ e. n (err_same _ _ e)) (λ text e. absurd (ok_err _ _ (sym e))) (λ other e. refl)
+first_read same (goes_on {more = more} {text = text} p q x) =
+    let both = cons_same (sym p ∙ same) in
+    goes (Ok text) more (q ∙ ap (λ y. (y, Ok text) ∷ more) both.0) (λ e. ok_err _ _ e) (λ other e. subst (λ y. Follows y more) both.1 x) (λ fault e. absurd (ok_err _ _ e))
 
 no_reads : {names : List (List ℕ)} {reads : List Read} → names ≡ [] → Follows names reads → reads ≡ []
 no_reads same (no_name p q) = q
@@ -316,37 +330,36 @@ no_reads same (goes_on p q x) = absurd (cc)
 true_at : {told : Option Files} {rose : Type 0} {reads others : List Read} → reads ≡ others → AreTrue told rose reads → AreTrue told rose others
 true_at {told} {rose} same t = subst (AreTrue told rose) same t
 
-pub same_reads : (files : Files) (rose : Type 0) (names : List (List ℕ)) (one other : List Read) → Follows names one → Follows names other → AreTrue (Some files) ⊥ one → AreTrue (Some files) rose other
+abbrev HasSameReads : Files → Type 0 → List (List ℕ) → Type 0
+HasSameReads files rose names = (one other : List Read) → Follows names one → Follows names other → AreTrue (Some files) ⊥ one → AreTrue (Some files) rose other
     → (one ≡ other) ⊎ FailsIn rose names other
-same_reads files rose [] one other a b t u = inl (no_reads refl a ∙ sym (no_reads refl b))
-same_reads files rose (name ∷ names) one other a b t u = by (first_read refl a) (first_read refl b)
+
+-- behind a first read that is the same
+same_behind : (files : Files) (rose : Type 0) (name : List ℕ) (names : List (List ℕ)) (one other : List Read) (came : Came) (more others : List Read) → one ≡ (name, came) ∷ more → other ≡ (name, came) ∷ others
+    → ((text : List ℕ) → came ≡ Ok text → Follows names more) → ((fault : StoreFault) → came ≡ Err fault → more ≡ [])
+    → ((text : List ℕ) → came ≡ Ok text → Follows names others) → ((fault : StoreFault) → came ≡ Err fault → others ≡ [])
+    → AreTrue (Some files) ⊥ more → AreTrue (Some files) rose others → HasSameReads files rose names → (one ≡ other) ⊎ FailsIn rose (name ∷ names) other
+same_behind files rose name names one other (Ok text) more others p q f g h i t u again = by (again more others (f text refl) (h text refl) t u)
   where
-    with_rest : (came : Came) (more others : List Read) → one ≡ (name, came) ∷ more → other ≡ (name, came) ∷ others → (more ≡ others) ⊎ ((text : List ℕ) × (came ≡ Ok text) × FailsIn rose names others)
-        → (one ≡ other) ⊎ FailsIn rose (name ∷ names) other
-    with_rest came more others p q (inl same) = inl (p ∙ (ap (λ x. (name, came) ∷ x) same ∙ sym q))
-    with_rest came more others p q (inr (text, is, f)) = inr (f.0, (f.1.0, past_first refl (q ∙ ap (λ x. (name, x) ∷ others) is) f.1.1))
+    by : (more ≡ others) ⊎ FailsIn rose names others → (one ≡ other) ⊎ FailsIn rose (name ∷ names) other
+    by (inl same) = inl (p ∙ (ap (λ x. (name, Ok text) ∷ x) same ∙ sym q))
+    by (inr fails) = inr (fails.0, (fails.1.0, past_first refl q fails.1.1))
+same_behind files rose name names one other (Err fault) more others p q f g h i t u again = inl (p ∙ (ap (λ x. (name, Err fault) ∷ x) (g fault refl ∙ sym (i fault refl)) ∙ sym q))
 
-    behind : (came : Came) (more others : List Read) → ((text : List ℕ) → came ≡ Ok text → Follows names more) → ((fault : StoreFault) → came ≡ Err fault → more ≡ [])
-        → ((text : List ℕ) → came ≡ Ok text → Follows names others) → ((fault : StoreFault) → came ≡ Err fault → others ≡ []) → AreTrue (Some files) ⊥ more → AreTrue (Some files) rose others
-        → ((x y : List Read) → Follows names x → Follows names y → AreTrue (Some files) ⊥ x → AreTrue (Some files) rose y → (x ≡ y) ⊎ FailsIn rose names y)
-        → (more ≡ others) ⊎ ((text : List ℕ) × (came ≡ Ok text) × FailsIn rose names others)
-    behind (Ok text) more others f g h i x y again = after (again more others (f text refl) (h text refl) x y)
-      where
-        after : (more ≡ others) ⊎ FailsIn rose names others → (more ≡ others) ⊎ ((other : List ℕ) × (Ok text ≡ Ok other) × FailsIn rose names others)
-        after (inl same) = inl same
-        after (inr fails) = inr (text, refl, fails)
-    behind (Err fault) more others f g h i x y again = inl (g fault refl ∙ sym (i fault refl))
+same_first : (files : Files) (rose : Type 0) (name : List ℕ) (names : List (List ℕ)) (one other : List Read) → Goes name names one → Goes name names other → AreTrue (Some files) ⊥ one
+    → AreTrue (Some files) rose other → HasSameReads files rose names → (one ≡ other) ⊎ FailsIn rose (name ∷ names) other
+same_first files rose name names one other (goes came more p n f g) (goes found others q m h i) t u again = by (same_came files rose name came found n m (true_at p t).0 (true_at q u).0)
+  where
+    by : (came ≡ found) ⊎ ((found ≡ Err Failed) × rose) → (one ≡ other) ⊎ FailsIn rose (name ∷ names) other
+    by (inl same) =
+        same_behind files rose name names one other found more others (p ∙ ap (λ x. (name, x) ∷ more) same) q (λ text e. f text (same ∙ e)) (λ fault e. g fault (same ∙ e)) h i
+        (true_at p t).1 (true_at q u).1 again
+    by (inr (failed, r)) =
+        inr (r, (name, at_first refl (q ∙ (ap (λ x. (name, x) ∷ others) failed ∙ ap (λ x. (name, Err Failed) ∷ x) (i Failed failed)))))
 
-    by : Goes name names one → Goes name names other → (one ≡ other) ⊎ FailsIn rose (name ∷ names) other
-    by (goes came more p n f g) (goes found others q m h i) = then (same_came files rose name came found n m (true_at p t).0 (true_at q u).0)
-      where
-        then : (came ≡ found) ⊎ ((found ≡ Err Failed) × rose) → (one ≡ other) ⊎ FailsIn rose (name ∷ names) other
-        then (inl same) =
-            let as_found = p ∙ ap (λ x. (name, x) ∷ more) same in
-            with_rest found more others as_found q
-              (behind found more others (λ text e. f text (same ∙ e)) (λ fault e. g fault (same ∙ e)) h i (true_at p t).1 (true_at q u).1
-                (λ x y c d v w. same_reads files rose names x y c d v w))
-        then (inr (failed, r)) = inr (r, (name, at_first refl (q ∙ (ap (λ x. (name, x) ∷ others) failed ∙ ap (λ x. (name, Err Failed) ∷ x) (i Failed failed)))))
+pub same_reads : (files : Files) (rose : Type 0) (names : List (List ℕ)) → HasSameReads files rose names
+same_reads files rose [] one other a b t u = inl (no_reads refl a ∙ sym (no_reads refl b))
+same_reads files rose (name ∷ names) one other a b t u = same_first files rose name names one other (first_read refl a) (first_read refl b) t u (same_reads files rose names)
 
 -- the answer of a call: an answer like this one, or a read that failed
 abbrev pub Agrees : Type 0 → Answer → Answer → Type 0
@@ -386,18 +399,18 @@ held_true : (files : Files) (name bytes : List ℕ) → files name ≡ Some byte
 held_true files name bytes held short = record {
   answers = λ other same. let h : files ≡ other = cc in subst (λ (f : Files). f name ≡ Some bytes) h held;
   short = short;
-  failed = λ e. absurd (cc e);
-  untold = λ e. absurd (cc e);
+  failed = λ e. ok_err _ _ e;
+  untold = λ e. absurd (let none = e in cc);
 }
 
 pub read_two : {words : List (List ℕ)} {rose : Type 0} {answer : Answer} {reads : List Read} {command : Command} (files : Files) (a b c d : List ℕ) → Words words command → IsBuilt command
     → operands_of command ≡ a ∷ b ∷ [] → files a ≡ Some c → length c ≤ longest_file → files b ≡ Some d → length d ≤ longest_file → AreTrue (Some files) rose reads → IsAnswer words reads answer
     → IsOfFault rose answer ⊎ (reads ≡ (a, Ok c) ∷ (b, Ok d) ∷ [])
 read_two {words} {rose} {answer} {reads} {command} files a b c d w built same ha la hb lb t x =
-    by (same_reads files rose (operands_of command) well reads (subst (λ n. Follows n well) (sym same) (two_follow refl)) (follows w built x) (held_true files a c ha la, (held_true files b d hb lb, tt)) t)
+    by (same_reads files rose (operands_of command) _ reads (subst (λ n. Follows n ((a, Ok c) ∷ (b, Ok d) ∷ [])) (sym same) (two_follow refl)) (follows w built x)
+    (held_true files a c ha la, (held_true files b d hb lb, tt)) t)
   where
-    well : List Read = (a, Ok c) ∷ (b, Ok d) ∷ []
-    by : (well ≡ reads) ⊎ FailsIn rose (operands_of command) reads → IsOfFault rose answer ⊎ (reads ≡ well)
+    by : ((a, Ok c) ∷ (b, Ok d) ∷ [] ≡ reads) ⊎ FailsIn rose (operands_of command) reads → IsOfFault rose answer ⊎ (reads ≡ (a, Ok c) ∷ (b, Ok d) ∷ [])
     by (inl e) = inr (sym e)
     by (inr f) = inl (fails_told w built f x)
 
@@ -405,10 +418,9 @@ pub read_three : {words : List (List ℕ)} {rose : Type 0} {answer : Answer} {re
     → operands_of command ≡ a ∷ b ∷ e ∷ [] → files a ≡ Some c → length c ≤ longest_file → files b ≡ Some d → length d ≤ longest_file → files e ≡ Some f → length f ≤ longest_file
     → AreTrue (Some files) rose reads → IsAnswer words reads answer → IsOfFault rose answer ⊎ (reads ≡ (a, Ok c) ∷ (b, Ok d) ∷ (e, Ok f) ∷ [])
 read_three {words} {rose} {answer} {reads} {command} files a b e c d f w built same ha la hb lb he le t x =
-    by (same_reads files rose (operands_of command) well reads (subst (λ n. Follows n well) (sym same) (three_follow refl)) (follows w built x)
-      (held_true files a c ha la, (held_true files b d hb lb, (held_true files e f he le, tt))) t)
+    by (same_reads files rose (operands_of command) _ reads (subst (λ n. Follows n ((a, Ok c) ∷ (b, Ok d) ∷ (e, Ok f) ∷ [])) (sym same) (three_follow refl)) (follows w built x)
+    (held_true files a c ha la, (held_true files b d hb lb, (held_true files e f he le, tt))) t)
   where
-    well : List Read = (a, Ok c) ∷ (b, Ok d) ∷ (e, Ok f) ∷ []
-    by : (well ≡ reads) ⊎ FailsIn rose (operands_of command) reads → IsOfFault rose answer ⊎ (reads ≡ well)
+    by : ((a, Ok c) ∷ (b, Ok d) ∷ (e, Ok f) ∷ [] ≡ reads) ⊎ FailsIn rose (operands_of command) reads → IsOfFault rose answer ⊎ (reads ≡ (a, Ok c) ∷ (b, Ok d) ∷ (e, Ok f) ∷ [])
     by (inl g) = inr (sym g)
     by (inr g) = inl (fails_told w built g x)

@@ -14,7 +14,6 @@ pub mod OneRefusal
 pub mod OneValidity
 pub mod OneRun
 pub mod FirstRead
-pub mod Fronts
 pub mod Exact
 pub mod OneAnswer
 pub mod Headline

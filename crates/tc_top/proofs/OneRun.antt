@@ -63,7 +63,7 @@ pub one_sheet_of : {bytes : List ℕ} {s t : Sheet} → IsSheetOf bytes s → Is
 one_sheet_of {bytes} {s} {t} x y = one_sheet y.raw s t (means_at x y.raw y.text) y.means
 
 over : {symbols : List Mention} {s : Sheet} {kind : Limit} {number : ℕ} → SheetPasses symbols s kind number → IsWithinSheetLimits symbols s → ⊥
-over (sheet_symbols p) w = omega (arith, p, w.symbols)
+over (sheet_symbols p) w = omega (arith, p, w.few)
 over (sheet_predicates q p) w = w.numbers.0 p
 over (sheet_ancestors q a p) w = w.numbers.1 p
 over (sheet_selects q a b p) w = w.numbers.2 p

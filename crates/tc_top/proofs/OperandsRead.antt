@@ -1,6 +1,5 @@
 -- Operands that are read one after the other, up to the first whose read isn't Ok.
-use Rattle.std.proofs.Common.{◌≡◌, ◌∷◌, [], refl, sym, ap, subst, ℕ, List, Result, Ok, Err, IfErr}
-use Rattle.std.specs.Result.{IsErrAnd}
+use Rattle.std.proofs.Common.{◌≡◌, ◌∷◌, [], refl, sym, ap, subst, ℕ, List, Ok, Err}
 use Rattle.tc_io.specs.Store.{Read}
 use Rattle.tc_io.specs.declared.StoreFault.{StoreFault}
 use Rattle.tc_io.specs.declared.StoreFault.TheVariants.{TooLong, NoMemory}
@@ -8,11 +7,6 @@ use Rattle.tc_top.specs.AnswersSeen.{IsUnread, IsFirstUnread}
 use Rattle.tc_top.specs.Reading.{StopsAt, at_first, past_first, IsUnreadable}
 use Rattle.tc_top.specs.declared.read.Unread.{Unread}
 use Rattle.tc_top.specs.declared.read.Unread.TheVariants as u
-
--- the value that the exit of a `?` returns
-pub err_is : {T E : Type 0} (r : Result T E) (e : E) (P : E → Type 0) → IsErrAnd r (λ y. y ≡ e) → P e → IfErr r P
-err_is (Ok x) e P h p = absurd h
-err_is (Err y) e P h p = subst P (sym h) p
 
 -- the first name is the one whose read isn't Ok
 pub unread_first : (name : List ℕ) (rest : List (List ℕ)) (fault : StoreFault) (unread : Unread) → IsUnread name fault unread → IsFirstUnread (name ∷ rest) ((name, Err fault) ∷ []) unread

@@ -55,7 +55,7 @@ pub record IsValidityWithin (g : Grammar) : Type 0 where
 
 -- by these symbols the stylesheet passes none of the limits that are tried before a run
 pub record IsWithinSheetLimits (symbols : List Mention) (s : Sheet) : Type 0 where
-  pub symbols : AreFew symbols
+  pub few : AreFew symbols
   pub numbers : PassNone symbols s
 
 -- the first limit that the stylesheet passes by these symbols, and its number

@@ -64,8 +64,7 @@ fn word_of(kind: Limit) -> &'static str
 
 /// The answer that a limit is passed, by its word and its number.
 fn over(alloc: Global, word: &str, number: u32) -> Result<Answer, NoMemory>
-    ensures status { IfOk result (λ said. said.status ≡ Status.Limit) }
-    ensures written { IfOk result (λ said. see_text said.text ≡ limit_line word.now number) }
+    ensures { IfOk result (λ said. (said.status ≡ Status.Limit) × (see_text said.text ≡ limit_line word.now number)) }
 {
     let mut digits = itoa::Buffer::new();
     let mut text = Vec::from_slice(alloc, b"limit ")?;

@@ -61,7 +61,8 @@ pub fn typecheck<S: Store, K: Sink>(
 ) -> Status
     // A call ends with an answer that is right for the words and for what was read, in order, up to the first read that
     // wasn't Ok; with such an answer broken off by a fault of writing; or, only for a command, for want of memory.
-    ensures ends { Ends words.now (Happened S.read_gives S.holds S.faults store.old store.new) (Rose (K.faults sink.old) (K.faults sink.new)) (K.written sink.old) (K.written sink.new) result }
+    ensures ends { Ends words.now (Happened S.read_gives S.holds S.faults store.old store.new)
+        (Rose (K.faults sink.old) (K.faults sink.new)) (K.written sink.old) (K.written sink.new) result }
     ensures unwritten { result ≡ Status.NoMemory → sink.new ≡ sink.old }
 
     // Words alone decide that they are no command, and that a command isn't carried out.

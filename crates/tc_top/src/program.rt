@@ -30,14 +30,21 @@ pub fn run_program<S: Store, K: Sink>(
 ) -> ExitCode
     // The words are carried out, unless memory was refused for them.
     ensures ends { (status : Status) × (exit_status result ≡ number_of status)
-        × (Ends (words_of arguments) (Happened S.read_gives S.holds S.faults store.old store.new) (Rose (K.faults sink.old) (K.faults sink.new)) (K.written sink.old) (K.written sink.new) status
+        × (Ends (words_of arguments) (Happened S.read_gives S.holds S.faults store.old store.new)
+        (Rose (K.faults sink.old) (K.faults sink.new)) (K.written sink.old) (K.written sink.new) status
         ⊎ ((status ≡ Status.NoMemory) × LackMemory arguments)) }
     ensures unwritten { exit_status result ≡ number_of Status.NoMemory → sink.new ≡ sink.old }
 {
-    let status = match word_list(alloc, arguments) {
-        Ok(words) => typecheck(alloc, &words, store, sink),
-        Err(NoMemory) => Status::NoMemory,
-    };
+    match word_list(alloc, arguments) {
+        Ok(words) => exit_code(typecheck(alloc, &words, store, sink)),
+        Err(NoMemory) => exit_code(Status::NoMemory),
+    }
+}
+
+/// The code with which a program exits: the number of the status.
+fn exit_code(status: Status) -> ExitCode
+    ensures { exit_status result ≡ number_of status }
+{
     ExitCode::from(status.number())
 }
 

@@ -115,8 +115,17 @@ fn read_operand<'w, S: Store>(
 {
     match store.read(alloc, name) {
         Ok(text) => Ok(Operand { name, text }),
-        Err(StoreFault::Missing | StoreFault::Failed) => Err(Unread::Unreadable(name)),
-        Err(StoreFault::TooLong) => Err(Unread::TooLong),
-        Err(StoreFault::NoMemory) => Err(Unread::NoMemory),
+        Err(fault) => Err(unread(name, fault)),
+    }
+}
+
+/// Why the operand of this name was not read, by the fault of its read.
+fn unread(name: &str, fault: StoreFault) -> Unread<'_>
+    ensures { IsUnread name.now fault result }
+{
+    match fault {
+        StoreFault::Missing | StoreFault::Failed => Unread::Unreadable(name),
+        StoreFault::TooLong => Unread::TooLong,
+        StoreFault::NoMemory => Unread::NoMemory,
     }
 }

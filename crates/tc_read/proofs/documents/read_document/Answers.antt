@@ -1,4 +1,5 @@
-use Rattle.tc_read.proofs.RefusedTexts.{err_is, refused_document}
+use Rattle.tc_read.proofs.Exits.{err_is}
+use Rattle.tc_read.proofs.RefusedTexts.{refused_document}
 use Rattle.tc_read.proofs.documents.read_document.Goals as goal
 
 pub returns-in_err-raw-clause-no : goal.returns-in_err-raw-clause-no

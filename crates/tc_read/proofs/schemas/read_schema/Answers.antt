@@ -1,5 +1,6 @@
 use Rattle.tc_model.proofs.SimplifiesLawful.{lawful_syntax}
-use Rattle.tc_read.proofs.RefusedTexts.{err_is, refused_schema}
+use Rattle.tc_read.proofs.Exits.{err_is}
+use Rattle.tc_read.proofs.RefusedTexts.{refused_schema}
 use Rattle.tc_read.proofs.schemas.read_schema.Goals as goal
 
 pub returns-in_err-syntax-clause-no : goal.returns-in_err-syntax-clause-no

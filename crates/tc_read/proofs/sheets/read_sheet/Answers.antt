@@ -5,7 +5,8 @@ use Rattle.tc_model.specs.SheetText.{SheetFails, undefined, call_loop}
 use Rattle.tc_sheet.specs.Changes.{mended, flattened, Changed}
 use Rattle.tc_sheet.specs.Faults.{IsUnsupported, IsTooDeep, IsUndefinedAt, IsLoopAt, NamesAgain, IsMalformedAt}
 use Rattle.tc_sheet.proofs.LawfulSheets.{lawful_sheet}
-use Rattle.tc_read.proofs.RefusedTexts.{err_is, refused_text, refused_tree}
+use Rattle.tc_read.proofs.Exits.{err_is}
+use Rattle.tc_read.proofs.RefusedTexts.{refused_text, refused_tree}
 use Rattle.tc_read.proofs.TextFaults.{only_memory, tree_fault, of_tree}
 use Rattle.tc_read.proofs.sheets.read_sheet.Goals as goal
 

@@ -2,7 +2,8 @@ use Rattle.std.proofs.Common.{◌≡◌, ◌∷◌, [], ◌∙◌, ap, sym, subs
 use Rattle.tc_io.specs.Reads.{Happened}
 use Rattle.tc_io.specs.Store.{Read}
 use Rattle.tc_io.proofs.ReadsInOrder.{happened_both}
-use Rattle.tc_top.proofs.OperandsRead.{err_is, unread_first, unread_later}
+use Rattle.tc_read.proofs.Exits.{err_is}
+use Rattle.tc_top.proofs.OperandsRead.{unread_first, unread_later}
 use Rattle.tc_top.proofs.read.read_triple.Goals as goal
 
 pub returns-in_err-input-clause-err : goal.returns-in_err-input-clause-err

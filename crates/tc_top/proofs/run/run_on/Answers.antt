@@ -21,7 +21,7 @@ pub run_rules-requires-clause-within : goal.run_rules-requires-clause-within
 run_rules-requires-clause-within c =
     let s = see.sheet c.args.sheet.now in
     let numbers = subst (λ (symbols : List Mention). PassNone symbols s) c.in-Ok.ensures.stands c.in-Ok-of.ensures.within in
-    let within : IsWithinSheetLimits (symbols_of_sheet s) s = record { symbols = c.in-Ok.ensures.few; numbers = numbers } in
+    let within : IsWithinSheetLimits (symbols_of_sheet s) s = record { few = c.in-Ok.ensures.few; numbers = numbers } in
     subst (λ (x : Sheet). IsWithinSheetLimits (symbols_of_sheet x) x) (sym c.in-Ok-of.ensures.sheet) within
 
 pub returns-in-Err-TooManySymbols : goal.returns-in-Err-TooManySymbols
