@@ -43,15 +43,15 @@ looked_within total (element n attributes scope p kids rest) x l (within r h) = 
 
 -- what a tree is refused for, its text is
 pub refused_tree : (bytes : List ℕ) (raw : RawTrees) (fault : SheetFault) → XmlText bytes raw → IsCause raw fault → IsUnaccepted (IsRefusedSheet bytes) (of_sheet fault)
-refused_tree bytes raw (f.Malformed p) text cause =
+refused_tree bytes raw (f.Malformed p) spelled cause =
     let at = cause.0 in
-    let within_text = looked_within (length bytes) raw at.item (lawful_raw_tree bytes raw text) at.has in
-    inr (subst (λ q. q ≤ length bytes) at.stands within_text, (raw, text, cause))
-refused_tree bytes raw (f.Unsupported p why) text cause = inr (raw, text, cause)
-refused_tree bytes raw (f.TooDeep p) text cause = inr (raw, text, cause)
-refused_tree bytes raw (f.Undefined p) text cause = (raw, text, cause)
-refused_tree bytes raw (f.CallLoop p) text cause = (raw, text, cause)
-refused_tree bytes raw f.NoMemory text cause = tt
+    let within_text = looked_within (length bytes) raw at.item (lawful_raw_tree bytes raw spelled) at.has in
+    inr (subst (λ q. q ≤ length bytes) at.stands within_text, (raw, spelled, cause))
+refused_tree bytes raw (f.Unsupported p why) spelled cause = inr (raw, spelled, cause)
+refused_tree bytes raw (f.TooDeep p) spelled cause = inr (raw, spelled, cause)
+refused_tree bytes raw (f.Undefined p) spelled cause = (raw, spelled, cause)
+refused_tree bytes raw (f.CallLoop p) spelled cause = (raw, spelled, cause)
+refused_tree bytes raw f.NoMemory spelled cause = tt
 
 -- what is no XML text is no document's, and no stylesheet's
 
