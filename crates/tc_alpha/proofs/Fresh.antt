@@ -1,11 +1,11 @@
 -- The name that stands for a symbol.
-use Rattle.std.proofs.Common.{◌≡◌, ℕ, zero, suc, ◌+◌, ◌-◌, ◌<◌, ◌≤◌, List, [], ◌∷◌, ◌++◌, length, Some, None, Option, slice_get, refl, ap, sym, subst, ◌∙◌, inl, inr, Bool, true, false, cond, arith, leb, codes, IsTrue, append_assoc, length-append}
+use Rattle.std.proofs.Common.{◌≡◌, ℕ, zero, suc, ◌+◌, ◌-◌, ◌<◌, ◌≤◌, List, [], ◌∷◌, ◌++◌, length, Some, None, Option, slice_get, refl, ap, sym, subst, ◌∙◌, ◌⊎◌, inl, inr, Bool, true, false, cond, arith, leb, codes, IsTrue, append_assoc, length-append}
 use Rattle.std.proofs.lemmas.Bool.Decides.{nat_tests}
 use lib.Utf8.{encode, encodes}
 use Rattle.std.specs.List.{list_all}
 use Rattle.tc_base.specs.Characters.{is_char}
 use Rattle.tc_model.specs.Names.{ExpandedName, IsName, IsNamespaceName, IsNcName, is_ncname_char}
-use Rattle.tc_model.specs.Symbols.{Mention, a_name, a_namespace, place_of, is_mentioned, symbol_of, lengthened, free_local, free_namespace, fresh_for, fresh_name, symbols_of, AreSymbols}
+use Rattle.tc_model.specs.Symbols.{Mention, a_name, a_namespace, place_of, is_mentioned, symbol_of, letters_n as ns, IsFirstFree, AreFirstFree, lengthened, free_local, free_namespace, fresh_for, fresh_name, symbols_of, AreSymbols}
 use Rattle.tc_alpha.proofs.Orders.{same_parts}
 use Rattle.tc_alpha.proofs.Members.{Has, has_from_contains, contains_from_has}
 use Rattle.tc_alpha.proofs.Places.{place_has, place_at, place_absent, has_placed}
@@ -14,11 +14,6 @@ use Rattle.tc_model.specs.Sheets.{Sheet}
 use Rattle.tc_model.specs.WellFormed.{IsSheet}
 use Rattle.tc_alpha.proofs.Lawful.{IsLawful, are_lawful}
 use Rattle.tc_alpha.proofs.Alike.{either, own_symbol, shared_symbol, is_taken, is_free}
-
--- so many letters `n`
-abbrev ns : ℕ → List ℕ
-ns zero = []
-ns (suc j) = 110 ∷ ns j
 
 nothing_more : (t : List ℕ) → t ≡ t ++ []
 nothing_more [] = refl
@@ -46,6 +41,26 @@ pub one_tried : (taken : List ℕ → Bool) (most tried : ℕ) (t longer whole :
 one_tried taken most tried t longer whole low e is so_far =
     let left : most - tried ≡ suc (most - (tried + 1)) = omega arith in
     ap (lengthened taken (most - (tried + 1))) is ∙ (sym (grows taken (most - (tried + 1)) t e) ∙ (ap (λ k. lengthened taken k t) (sym left) ∙ so_far))
+
+true_or_false : (b : Bool) → (b ≡ true) ⊎ (b ≡ false)
+true_or_false true = inl refl
+true_or_false false = inr refl
+
+-- what was tried before it was taken
+abbrev TriedBefore : (List ℕ → Bool) → List ℕ → ℕ → Type 0
+TriedBefore taken t j = (i : ℕ) → i < j → taken (t ++ ns i) ≡ true
+
+tried_more : (taken : List ℕ → Bool) (t : List ℕ) (j : ℕ) → taken t ≡ true → TriedBefore taken (t ++ 110 ∷ []) j → TriedBefore taken t (suc j)
+tried_more taken t j e before zero low = ap taken (sym (nothing_more t)) ∙ e
+tried_more taken t j e before (suc i) low = ap taken (sym (append_assoc t (110 ∷ []) (ns i))) ∙ before i (omega arith)
+
+lengthened_first : (taken : List ℕ → Bool) (more : ℕ) (t : List ℕ) → (j : ℕ) × (lengthened taken more t ≡ t ++ ns j) × TriedBefore taken t j
+lengthened_first taken zero t = (0, nothing_more t, λ i low. absurd (omega arith))
+lengthened_first taken (suc more) t = by (true_or_false (taken t)) (lengthened_first taken more (t ++ 110 ∷ []))
+  where
+    by : (taken t ≡ true) ⊎ (taken t ≡ false) → (j : ℕ) × (lengthened taken more (t ++ 110 ∷ []) ≡ (t ++ 110 ∷ []) ++ ns j) × TriedBefore taken (t ++ 110 ∷ []) j → (j : ℕ) × (lengthened taken (suc more) t ≡ t ++ ns j) × TriedBefore taken t j
+    by (inl e) (j, is, before) = (suc j, grows taken more t e ∙ (is ∙ append_assoc t (110 ∷ []) (ns j)), tried_more taken t j e before)
+    by (inr e) rest = (0, stays taken (suc more) t e ∙ nothing_more t, λ i low. absurd (omega arith))
 
 encodes_ns : (j : ℕ) → encodes (ns j) ≡ ns j
 unfolding encode
@@ -137,6 +152,12 @@ module _ (key : List ℕ → Mention) (reads : (t : List ℕ) → text_of (key t
 
   pub free_in_all : (t : List ℕ) → place_of (key (lengthened taken (length xs) t)) xs ≡ length xs
   free_in_all t = free (length xs) t (longer_most (length t) xs)
+
+  pub first_free : (t : List ℕ) → IsFirstFree taken t (lengthened taken (length xs) t)
+  first_free t = let (j, is, before) = lengthened_first taken (length xs) t in (j, is, is_free (place_of (key (lengthened taken (length xs) t)) xs) (length xs) (free_in_all t), before)
+
+pub are_first_free : AreFirstFree
+are_first_free xs = (λ u. first_free (λ local. a_name (record { uri = u; local = local })) (λ t. refl) xs (codes "n"), first_free a_namespace (λ t. refl) xs (codes "urn:n"))
 
 get_below : (xs : List Mention) (k : ℕ) (m : Mention) → slice_get xs k ≡ Some m → k < length xs
 get_below [] k m e = cc

@@ -7,3 +7,4 @@ pub mod Lawful
 pub mod Fresh
 pub mod Sorting
 pub mod Compared
+pub mod InOrder

@@ -6,7 +6,7 @@ ghost use Rattle.tc_model.specs.Grammars as g;
 ghost use Rattle.tc_model.specs.Names.{ExpandedName, IsName};
 ghost use Rattle.tc_model.specs.Views as see;
 ghost use Rattle.tc_model.specs.Sheets as s;
-ghost use Rattle.tc_model.specs.Symbols.{AreAlike, AreSymbols, GiveSymbols, IsAlikeBySymbol, IsSymbolOfFresh, free_local, free_namespace, fresh_name, in_order, mention_cmp, place_of, symbol_count, symbol_of, symbols_of};
+ghost use Rattle.tc_model.specs.Symbols.{AreAlike, AreFirstFree, AreSymbols, GiveSymbols, IsAlikeBySymbol, IsOnlyInOrder, IsSymbolOfFresh, SchemasHaveTheirSymbols, free_local, free_namespace, fresh_name, in_order, mention_cmp, place_of, symbol_count, symbol_of, symbols_of, symbols_of_schema};
 ghost use Rattle.tc_model.specs.WellFormed.{IsSheet};
 
 use crate::mentions::{Mention, mention_grammar, mention_sheet, with_namespaces};
@@ -19,11 +19,15 @@ use tc_base::NoMemory;
 use tc_model::{Grammar, Name, Sheet};
 
 /// The law of symbols: names of one symbol are in the same name classes and pass the same node tests of the
-/// schemas and the stylesheet, and the name that stands for a symbol has it.
+/// schemas and the stylesheet, and the name that stands for a symbol has it. Symbols are the only list in
+/// order of what is mentioned, and the names that stand for others are the first free ones.
 pub fn law_of_symbols()
     ensures alike { IsAlikeBySymbol }
     ensures fresh { IsSymbolOfFresh }
     ensures symbols { GiveSymbols }
+    ensures in_order { IsOnlyInOrder }
+    ensures first_free { AreFirstFree }
+    ensures schemas { SchemasHaveTheirSymbols }
 {}
 
 /// How many symbols there may be.
@@ -252,6 +256,21 @@ impl Alphabet {
         }
         Ok(into_bump_str(uri))
     }
+}
+
+/// How many symbols a schema has by itself.
+///
+/// # Errors
+///
+/// There is no memory for what it mentions.
+pub fn count_of_schema(alloc: Global, grammar: &Grammar<'_>) -> Result<usize, NoMemory>
+    ensures { IfOk result (λ n. n ≡ symbol_count (symbols_of_schema (see.grammar grammar.now))) }
+{
+    let mut found = Vec::new(alloc);
+    mention_grammar(&mut found, grammar)?;
+    let mut all = with_namespaces(alloc, &found)?;
+    put_in_order(&mut all);
+    Ok(all.len() + 1)
 }
 
 /// What is mentioned, in order, each once.

@@ -6,7 +6,5 @@
 
 mod alphabet;
 mod mentions;
-#[cfg(test)]
-mod tests;
 
-pub use alphabet::{AlphaFault, Alphabet, Sym, law_of_symbols};
+pub use alphabet::{AlphaFault, Alphabet, Sym, count_of_schema, law_of_symbols};

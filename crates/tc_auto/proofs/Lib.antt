@@ -6,3 +6,5 @@ pub mod RowLists
 pub mod Totals
 pub mod Bounds
 pub mod Gained
+pub mod ArrowLists
+pub mod ArrowsTold

@@ -2,3 +2,4 @@ pub mod Steps
 pub mod Stands
 pub mod Rows
 pub mod Repeats
+pub mod Arrows

@@ -8,6 +8,7 @@ use Rattle.tc_model.specs.Views as see
 use Rattle.tc_model.specs.States as s
 use Rattle.tc_model.specs.States.{Automaton, Side, input, output, IsPart, first_state, IsEdge, IsAccepting, IsAccepted}
 use Rattle.tc_auto.specs.Steps.{leaf}
+use Rattle.tc_auto.specs.Arrows.{AreArrows}
 use Rattle.tc_auto.specs.declared.auto.Edge.{Edge}
 use Rattle.tc_auto.specs.declared.rows.Row.{Row}
 use Rattle.tc_auto.specs.declared.auto.Auto.{Auto}
@@ -36,11 +37,12 @@ pub record Built (g : Grammar) (side : Side) (parts : ℕ) (firsts : List ℕ) (
   pub counted : length rows ≡ first_state g side parts
   pub row : (i : ℕ) (r : Row) → slice_get rows i ≡ Some r → IsRow g side i r
 
--- the automaton is that of this side of the schema
+-- the automaton is that of this side of the schema; its edges are told by their states and by what they take
 pub record Stands (side : Side) (g : Grammar) (a : Auto) : Type 0 where
   pub start : see.pattern a.start ≡ g.start
   pub elements : map see.element_pattern a.elements.now ≡ g.elements
   pub built : Built g side (suc (length g.elements)) a.firsts.items a.rows.items
+  pub arrows : AreArrows a.rows.items a.arrows.items
 
 -- a run from the first state of a part to an accepting one exists exactly where the trees match the part
 abbrev pub RunsExactly : Grammar → Side → Type 0

@@ -1,6 +1,8 @@
 // Automata of schemas.
 ghost use Rattle.std.specs.Prelude.{◌≡◌, ◌<◌, ◌≤◌, ◌+◌, ◌^◌, ℕ, All, length, slice_index};
+ghost use Rattle.tc_auto.specs.Arrows.{AreWithin};
 
+use crate::arrows::Arrow;
 use crate::make::made;
 use crate::membership::{has_alternative, has_content_with_text, is_in_class};
 use crate::rows::Row;
@@ -38,10 +40,13 @@ pub struct Auto<'b> {
     pub(crate) elements: &'b [ElemPat<'b>],
     pub(crate) firsts: Vec<u32>,
     pub(crate) rows: Vec<Row>,
+    pub(crate) arrows: Vec<Vec<Arrow>>,
     ghost counted: { length rows.items < 2 ^ 32 },
     ghost parted: { length firsts.items ≡ length elements.now + 1 },
     ghost numbered: { length elements.now < 2 ^ 32 },
     ghost within: { All (λ row. All (λ edge. edge.to < length rows.items) row.edges.items) rows.items },
+    ghost arrowed: { length arrows.items ≡ length elements.now + 1 },
+    ghost arrows_within: { All (λ leaf. AreWithin (length rows.items) leaf.items) arrows.items },
     ghost begun: { (k : ℕ) → k < length firsts.items → slice_index firsts.items k ≤ length rows.items },
     ghost begun_below: { (k : ℕ) → 1 ≤ k → k < length firsts.items → slice_index firsts.items k < length rows.items },
 }
@@ -55,6 +60,7 @@ impl<'b> Auto<'b> {
     ghost use Rattle.tc_auto.specs.Stands.{Stands, RunsExactly, states, patterns};
     ghost use Rattle.tc_auto.specs.Steps.{leaf};
     ghost use Rattle.tc_auto.specs.declared.auto.Edge.{Edge};
+    ghost use Rattle.tc_auto.specs.declared.arrows.Arrow.{Arrow};
 
     /// The automaton of an output schema: its start and its contents, of at most `most` states.
     pub fn of(alloc: Global, grammar: &Grammar<'b>, most: u32) -> Result<Auto<'b>, AutoFault>
@@ -122,6 +128,24 @@ impl<'b> Auto<'b> {
         ensures exact { (side : s.Side) (x : g.Grammar) → Stands side x self.now → (e : Edge) → Contains result.now e ↔ s.IsEdge x side state (leaf e.leaf) e.to }
     {
         self.rows[state as usize].edges.as_slice()
+    }
+
+    /// The edges that take a text.
+    pub fn text_arrows(&self) -> &[Arrow]
+        ensures within { AreWithin (states self.now) result.now }
+        ensures exact { (side : s.Side) (x : g.Grammar) → Stands side x self.now → (a : Arrow) → Contains result.now a ↔ s.IsEdge x side a.from s.text_leaf a.to }
+    {
+        self.arrows[0].as_slice()
+    }
+
+    /// The edges that take an element by an element pattern.
+    pub fn arrows(&self, number: u32) -> &[Arrow]
+        requires from_one { 1 ≤ number }
+        requires within { number ≤ patterns self.now }
+        ensures within { AreWithin (states self.now) result.now }
+        ensures exact { (side : s.Side) (x : g.Grammar) → Stands side x self.now → (a : Arrow) → Contains result.now a ↔ s.IsEdge x side a.from (s.ref_leaf number) a.to }
+    {
+        self.arrows[number as usize].as_slice()
     }
 
     /// Whether a state accepts.

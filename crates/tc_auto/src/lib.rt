@@ -4,15 +4,16 @@
 //! run from the first state of a part to an accepting one exists exactly where the trees match the part.
 #![tactic(auto)]
 
+pub mod arrows;
 pub mod auto;
 mod build;
 mod count;
+pub mod laws;
 mod make;
 mod membership;
 mod part;
 mod repeats;
 mod rows;
-#[cfg(test)]
-mod tests;
 
+pub use arrows::Arrow;
 pub use auto::{Auto, AutoFault, Edge, Leaf};

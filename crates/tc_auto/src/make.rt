@@ -5,6 +5,7 @@ ghost use Rattle.tc_model.specs.Views as see;
 ghost use Rattle.tc_model.specs.States as states;
 ghost use Rattle.tc_auto.specs.Stands.{Built, Stands, side_of};
 
+use crate::arrows::all_arrows;
 use crate::auto::{Auto, AutoFault};
 use crate::count::state_count;
 use crate::rows::{Row, push_part};
@@ -63,11 +64,13 @@ fn built<'b>(alloc: Global, grammar: &Grammar<'b>, with_start: bool) -> Result<A
         firsts.push(first)?;
         push_part(alloc, &mut rows, &element.content, first)?;
     }
+    let arrows = all_arrows(alloc, &rows, grammar.elements.len() as u32)?;
     Ok(Auto {
         start: grammar.start,
         elements: grammar.elements,
         firsts,
         rows,
+        arrows,
     })
 }
 

@@ -5,8 +5,6 @@ mod characters;
 pub mod limits;
 mod reading;
 mod reasons;
-#[cfg(test)]
-mod tests;
 
 pub use characters::{is_char, is_name_char, is_name_start, is_white};
 pub use reading::Cursor;

@@ -108,7 +108,7 @@ outputs_lead_exactly g h = (λ m. to (matching_leads g output h the_start m), λ
 
 module _ (g : Grammar) (side : Side) where
   -- trees side by side lead over a state between them
-  leads_split : (h : Trees) {k : Trees} {i j : ℕ} → Leads g side i (beside h k) j → (m : ℕ) × Leads g side i h m × Leads g side m k j
+  pub leads_split : (h : Trees) {k : Trees} {i j : ℕ} → Leads g side i (beside h k) j → (m : ℕ) × Leads g side i h m × Leads g side m k j
   leads_split none {i = i} l = (i, at_end, l)
   leads_split (text s h) {k} {i} {j} l = by (true_or_false (is_all_white s)) (run_of_leads g side l) (λ (a : ℕ) (x : Leads g side a (beside h k) j). leads_split h x)
     where

@@ -1,11 +1,10 @@
--- Pairs put edge by edge and state by state.
-use Rattle.std.proofs.Common.{◌≡◌, ◌<◌, ◌≤◌, ◌↔◌, ◌⊎◌, inl, inr, ℕ, zero, suc, ◌+◌, ◌-◌, List, [], ◌∷◌, ◌++◌, length, take, get_or, Bool, true, IsTrue, Some, slice_get, refl, sym, ap, ◌∙◌, subst, arith, add-one}
+-- Pairs put edge by edge and element pattern by element pattern.
+use Rattle.std.proofs.Common.{◌≡◌, ◌≢◌, ◌<◌, ◌≤◌, ◌↔◌, ◌⊎◌, inl, inr, ℕ, zero, suc, ◌+◌, ◌-◌, List, [], ◌∷◌, ◌++◌, length, take, get_or, Bool, true, IsTrue, Some, slice_get, refl, sym, ap, ◌∙◌, subst, arith, add-one}
 use Rattle.std.specs.List.{Contains}
 use Rattle.std.proofs.lemmas.Option.{slice_get_within}
 use Rattle.std.proofs.lemmas.List.Elements.{Contains-push, Contains-push_cases, Contains-append_left}
-use Rattle.std.proofs.Math.Seq.{take-suc}
-use Rattle.std.proofs.lemmas.List.{take_all}
-use Rattle.std.proofs.lemmas.Bool.{cases_lt}
+use Rattle.std.proofs.lemmas.List.{take_more, take_all}
+use Rattle.std.proofs.lemmas.Bool.{cases_eq}
 use Rattle.tc_mat.specs.Matrix.{Matrix, HasPair, HasNone, Gains}
 use Rattle.tc_model.specs.Grammars.{Grammar, ElementPattern, element_at}
 use Rattle.tc_model.specs.States as s
@@ -13,148 +12,114 @@ use Rattle.tc_model.specs.States.{Side, automaton, IsPart, a_content, first_stat
 use Rattle.tc_model.proofs.StatesExact.{sound}
 use Rattle.tc_model.proofs.StatesParts.{accepting_of_part, edge_within, next_first}
 use Rattle.tc_auto.specs.Stands as held
-use Rattle.tc_auto.specs.Steps.{leaf}
 use Rattle.tc_auto.specs.declared.auto.Auto.{Auto}
-use Rattle.tc_auto.specs.declared.auto.Edge.{Edge}
+use Rattle.tc_auto.specs.Steps.{leaf}
+use Rattle.tc_auto.specs.declared.arrows.Arrow.{Arrow}
 use Rattle.tc_auto.specs.declared.auto.Leaf as leaves
 use Rattle.tc_auto.specs.declared.auto.Leaf.TheVariants.{Text, Ref}
-use Rattle.tc_hedge.specs.Leading.{IsTaken}
-use Rattle.tc_hedge.specs.Items.{IsTakenAround, Takes, IsStep}
-use Rattle.tc_hedge.specs.declared.items.Item.{Item}
-use Rattle.tc_hedge.proofs.Bounds.{patterns_of, states_of}
-
--- an edge of a list takes the item and leads to a state
-pub record Goes (T : s.Leaf → Type 0) (es : List Edge) (j : ℕ) : Type 0 where
-  pub edge : Edge
-  pub among : Contains es edge
-  pub takes : T (leaf edge.leaf)
-  pub to : edge.to ≡ j
-
-taken_more : (es : List Edge) (i : ℕ) (d e : Edge) → i < length es → e ≡ get_or es i d → take (i + 1) es ≡ take i es ++ e ∷ []
-taken_more es i d e low is = ap (λ m. take m es) (add-one i) ∙ (take-suc es i d low ∙ ap (λ (w : Edge). take i es ++ w ∷ []) (sym is))
-
-module _ (T : s.Leaf → Type 0) (es : List Edge) (i : ℕ) (d e : Edge) (low : i < length es) (is : e ≡ get_or es i d) where
-  goes_later : (j : ℕ) → Goes T (take i es) j → Goes T (take (i + 1) es) j
-  goes_later j g = record {
-    edge = g.edge;
-    among = subst (λ w. Contains w g.edge) (sym (taken_more es i d e low is)) (Contains-append_left (take i es) (e ∷ []) g.edge g.among);
-    takes = g.takes;
-    to = g.to;
-  }
-
-  goes_now : T (leaf e.leaf) → Goes T (take (i + 1) es) e.to
-  goes_now t = record {
-    edge = e;
-    among = subst (λ w. Contains w e) (sym (taken_more es i d e low is)) (Contains-push (take i es) e);
-    takes = t;
-    to = refl;
-  }
-
-  goes_cases : (j : ℕ) → Goes T (take (i + 1) es) j → Goes T (take i es) j ⊎ (T (leaf e.leaf) × (j ≡ e.to))
-  goes_cases j g = by (Contains-push_cases (take i es) e g.edge (subst (λ w. Contains w g.edge) (taken_more es i d e low is) g.among))
-    where
-      by : Contains (take i es) g.edge ⊎ (e ≡ g.edge) → Goes T (take i es) j ⊎ (T (leaf e.leaf) × (j ≡ e.to))
-      by (inl h) = inl (record { edge = g.edge; among = h; takes = g.takes; to = g.to })
-      by (inr same) = inr (subst (λ (w : Edge). T (leaf w.leaf)) (sym same) g.takes, sym g.to ∙ ap (λ (w : Edge). w.to) (sym same))
-
-  module _ (state : ℕ) (start old : Matrix) (so_far : (x y : ℕ) → HasPair old x y ↔ (HasPair start x y ⊎ ((x ≡ state) × Goes T (take i es) y))) where
-    -- an edge that takes the item puts its pair
-    pub put_more : (new : Matrix) → T (leaf e.leaf) → Gains old state e.to new → (x y : ℕ) → HasPair new x y ↔ (HasPair start x y ⊎ ((x ≡ state) × Goes T (take (i + 1) es) y))
-    put_more new t gains x y = (λ p. to ((gains x y).0 p), of)
-      where
-        old_to : HasPair start x y ⊎ ((x ≡ state) × Goes T (take i es) y) → HasPair start x y ⊎ ((x ≡ state) × Goes T (take (i + 1) es) y)
-        old_to (inl h) = inl h
-        old_to (inr (same, g)) = inr (same, goes_later y g)
-
-        to : HasPair old x y ⊎ ((x ≡ state) × (y ≡ e.to)) → HasPair start x y ⊎ ((x ≡ state) × Goes T (take (i + 1) es) y)
-        to (inl h) = old_to ((so_far x y).0 h)
-        to (inr (same, at)) = inr (same, subst (λ w. Goes T (take (i + 1) es) w) (sym at) (goes_now t))
-
-        of_cases : (x ≡ state) → Goes T (take i es) y ⊎ (T (leaf e.leaf) × (y ≡ e.to)) → HasPair new x y
-        of_cases same (inl g) = (gains x y).1 (inl ((so_far x y).1 (inr (same, g))))
-        of_cases same (inr (u, at)) = (gains x y).1 (inr (same, at))
-
-        of : HasPair start x y ⊎ ((x ≡ state) × Goes T (take (i + 1) es) y) → HasPair new x y
-        of (inl h) = (gains x y).1 (inl ((so_far x y).1 (inl h)))
-        of (inr (same, g)) = of_cases same (goes_cases y g)
-
-    -- any other puts nothing
-    pub put_none : (T (leaf e.leaf) → ⊥) → (x y : ℕ) → HasPair old x y ↔ (HasPair start x y ⊎ ((x ≡ state) × Goes T (take (i + 1) es) y))
-    put_none none_taken x y = (λ p. to ((so_far x y).0 p), of)
-      where
-        to : HasPair start x y ⊎ ((x ≡ state) × Goes T (take i es) y) → HasPair start x y ⊎ ((x ≡ state) × Goes T (take (i + 1) es) y)
-        to (inl h) = inl h
-        to (inr (same, g)) = inr (same, goes_later y g)
-
-        of_cases : (x ≡ state) → Goes T (take i es) y ⊎ (T (leaf e.leaf) × (y ≡ e.to)) → HasPair old x y
-        of_cases same (inl g) = (so_far x y).1 (inr (same, g))
-        of_cases same (inr (u, at)) = absurd (none_taken u)
-
-        of : HasPair start x y ⊎ ((x ≡ state) × Goes T (take (i + 1) es) y) → HasPair old x y
-        of (inl h) = (so_far x y).1 (inl h)
-        of (inr (same, g)) = of_cases same (goes_cases y g)
-
--- at first nothing was put
-pub put_first : (T : s.Leaf → Type 0) (es : List Edge) (state : ℕ) (m : Matrix) (x y : ℕ) → HasPair m x y ↔ (HasPair m x y ⊎ ((x ≡ state) × Goes T (take 0 es) y))
-put_first T es state m x y = (λ p. inl p, of)
-  where
-    of : HasPair m x y ⊎ ((x ≡ state) × Goes T (take 0 es) y) → HasPair m x y
-    of (inl h) = h
-    of (inr (same, g)) = let (k, low, at) = g.among in absurd (omega (arith, low))
+use Rattle.tc_hedge.specs.Leading.{IsTaken, ArePairsOfText}
+use Rattle.tc_hedge.specs.Items.{IsTakenAround, IsAround}
+use Rattle.tc_hedge.proofs.Bounds.{patterns_of}
 
 pub code_leaf : (l : s.Leaf) → (m : leaves.Leaf) × (leaf m ≡ l)
 code_leaf s.text_leaf = (Text, refl)
 code_leaf (s.ref_leaf k) = (Ref k, refl)
 
--- at last all edges of a state were tried
-pub put_all : (g : Grammar) (side : Side) (item : Item) (es : List Edge) (state i : ℕ) (old new : Matrix) → length es ≤ i
-    → ((e : Edge) → Contains es e ↔ IsEdge g side state (leaf e.leaf) e.to)
-    → ((x y : ℕ) → HasPair new x y ↔ (HasPair old x y ⊎ ((x ≡ state) × Goes (Takes g side item) (take i es) y)))
-    → (x y : ℕ) → HasPair new x y ↔ (HasPair old x y ⊎ ((x ≡ state) × IsStep g side item x y))
-put_all g side item es state i old new all exact so_far x y = (λ p. to ((so_far x y).0 p), of)
+-- one edge more
+pub put_arrow : (arrows : List Arrow) (k : ℕ) (d : Arrow) → k < length arrows → (start old new : Matrix)
+    → ((i j : ℕ) → HasPair old i j ↔ (HasPair start i j ⊎ Contains (take k arrows) (record { from = i; to = j })))
+    → Gains old (get_or arrows k d).from (get_or arrows k d).to new
+    → (i j : ℕ) → HasPair new i j ↔ (HasPair start i j ⊎ Contains (take (k + 1) arrows) (record { from = i; to = j }))
+put_arrow arrows k d low start old new so_far gains i j = (λ p. to ((gains i j).0 p), of)
   where
-    whole : take i es ≡ es
-    whole = take_all i es all
+    taken : take (k + 1) arrows ≡ take k arrows ++ (get_or arrows k d ∷ [])
+    taken = take_more arrows k d low
 
-    to : HasPair old x y ⊎ ((x ≡ state) × Goes (Takes g side item) (take i es) y) → HasPair old x y ⊎ ((x ≡ state) × IsStep g side item x y)
-    to (inl h) = inl h
-    to (inr (same, go)) =
-        let edge = (exact go.edge).0 (subst (λ w. Contains w go.edge) whole go.among) in
-        inr (same, (leaf go.edge.leaf, go.takes, subst (λ w. IsEdge g side w (leaf go.edge.leaf) y) (sym same) (subst (λ w. IsEdge g side state (leaf go.edge.leaf) w) go.to edge)))
+    more : {a : Arrow} → Contains (take k arrows ++ (get_or arrows k d ∷ [])) a → Contains (take (k + 1) arrows) a
+    more {a} h = subst (λ w. Contains w a) (sym taken) h
 
-    goes : (l : s.Leaf) → Takes g side item l → IsEdge g side state l y → (m : leaves.Leaf) × (leaf m ≡ l) → Goes (Takes g side item) (take i es) y
-    goes l takes edge (m, is) = record {
-      edge = record { to = y; leaf = m };
-      among = subst (λ w. Contains w (record { to = y; leaf = m })) (sym whole) ((exact (record { to = y; leaf = m })).1 (subst (λ w. IsEdge g side state w y) (sym is) edge));
-      takes = subst (λ w. Takes g side item w) (sym is) takes;
-      to = refl;
-    }
+    to : HasPair old i j ⊎ ((i ≡ (get_or arrows k d).from) × (j ≡ (get_or arrows k d).to)) → HasPair start i j ⊎ Contains (take (k + 1) arrows) (record { from = i; to = j })
+    to (inl h) = elim ((so_far i j).0 h) [ inl p ↦ inl p | inr has ↦ inr (more (Contains-append_left (take k arrows) (get_or arrows k d ∷ []) _ has)) ]
+    to (inr (a, b)) =
+        let same : get_or arrows k d ≡ record { from = i; to = j } = ap (λ (w : ℕ). let r : Arrow = record { from = w; to = (get_or arrows k d).to } in r) (sym a) ∙ ap (λ (w : ℕ). let r : Arrow = record { from = i; to = w } in r) (sym b) in
+        inr (subst (λ (w : Arrow). Contains (take (k + 1) arrows) w) same (more (Contains-push (take k arrows) (get_or arrows k d))))
 
-    of : HasPair old x y ⊎ ((x ≡ state) × IsStep g side item x y) → HasPair new x y
-    of (inl h) = (so_far x y).1 (inl h)
-    of (inr (same, (l, takes, edge))) = (so_far x y).1 (inr (same, goes l takes (subst (λ w. IsEdge g side w l y) same edge) (code_leaf l)))
+    last : Contains (take k arrows) (record { from = i; to = j }) ⊎ (get_or arrows k d ≡ record { from = i; to = j }) → HasPair new i j
+    last (inl has) = (gains i j).1 (inl ((so_far i j).1 (inr has)))
+    last (inr same) = (gains i j).1 (inr (sym (ap (λ (w : Arrow). w.from) same), sym (ap (λ (w : Arrow). w.to) same)))
 
--- one state more
-pub put_state : (P : ℕ → ℕ → Type 0) (state : ℕ) (old new : Matrix) → ((x y : ℕ) → HasPair old x y ↔ ((x < state) × P x y)) → ((x y : ℕ) → HasPair new x y ↔ (HasPair old x y ⊎ ((x ≡ state) × P x y)))
-    → (x y : ℕ) → HasPair new x y ↔ ((x < state + 1) × P x y)
-put_state P state old new before step x y = (λ p. to ((step x y).0 p), λ h. of h.0 h.1 (cases_lt x state))
+    of : HasPair start i j ⊎ Contains (take (k + 1) arrows) (record { from = i; to = j }) → HasPair new i j
+    of (inl p) = (gains i j).1 (inl ((so_far i j).1 (inl p)))
+    of (inr has) = last (Contains-push_cases (take k arrows) (get_or arrows k d) _ (subst (λ w. Contains w (record { from = i; to = j })) taken has))
+
+pub put_no_arrow : (start : Matrix) (i j : ℕ) → HasPair start i j ↔ (HasPair start i j ⊎ Contains {X = Arrow} [] (record { from = i; to = j }))
+put_no_arrow start i j = (λ p. inl p, of)
   where
-    to : HasPair old x y ⊎ ((x ≡ state) × P x y) → (x < state + 1) × P x y
-    to (inl h) = let b = (before x y).0 h in (omega (arith, b.0), b.1)
-    to (inr (same, p)) = (omega (arith, same), p)
+    of : HasPair start i j ⊎ Contains {X = Arrow} [] (record { from = i; to = j }) → HasPair start i j
+    of (inl p) = p
+    of (inr (k, low, at)) = absurd (omega (arith, low))
 
-    of : x < state + 1 → P x y → (x < state) ⊎ (state ≤ x) → HasPair new x y
-    of low p (inl l) = (step x y).1 (inl ((before x y).1 (l, p)))
-    of low p (inr l) = let same : x ≡ state = omega arith in (step x y).1 (inr (same, p))
+pub put_all_arrows : (arrows : List Arrow) (k : ℕ) → length arrows ≤ k → (start new : Matrix) → ((i j : ℕ) → HasPair new i j ↔ (HasPair start i j ⊎ Contains (take k arrows) (record { from = i; to = j }))) → (i j : ℕ) → HasPair new i j ↔ (HasPair start i j ⊎ Contains arrows (record { from = i; to = j }))
+put_all_arrows arrows k high start new so_far i j = subst (λ (w : List Arrow). HasPair new i j ↔ (HasPair start i j ⊎ Contains w (record { from = i; to = j }))) (take_all k arrows high) (so_far i j)
 
-pub put_no_state : (P : ℕ → ℕ → Type 0) (m : Matrix) → HasNone m → (x y : ℕ) → HasPair m x y ↔ ((x < 0) × P x y)
-put_no_state P m empty x y = (λ p. absurd (empty x y p), λ h. absurd (omega (arith, h.0)))
+-- the pairs of texts are those of their edges
+pub text_put : (g : Grammar) (side : Side) (arrows : List Arrow) (old new : Matrix) → ((a : Arrow) → Contains arrows a ↔ IsEdge g side a.from s.text_leaf a.to) → HasNone old
+    → ((i j : ℕ) → HasPair new i j ↔ (HasPair old i j ⊎ Contains arrows (record { from = i; to = j }))) → ArePairsOfText g side new
+text_put g side arrows old new exact none pairs i j = (λ p. to ((pairs i j).0 p), λ edge. (pairs i j).1 (inr ((exact (record { from = i; to = j })).1 edge)))
+  where
+    to : HasPair old i j ⊎ Contains arrows (record { from = i; to = j }) → IsEdge g side i s.text_leaf j
+    to (inl p) = absurd (none i j p)
+    to (inr has) = (exact (record { from = i; to = j })).0 has
 
--- at last all states were tried
-pub put_all_states : (g : Grammar) (side : Side) (a : Auto) → held.Stands side g a → (item : Item) (state n : ℕ) (m : Matrix) → n ≤ state → n ≡ length a.rows.items
-    → ((x y : ℕ) → HasPair m x y ↔ ((x < state) × IsStep g side item x y)) → (x y : ℕ) → HasPair m x y ↔ IsStep g side item x y
-put_all_states g side a st item state n m all count so_far x y =
-    (λ p. ((so_far x y).0 p).1, λ (l, takes, edge). (so_far x y).1 (omega (arith, (edge_within g side x y l edge).0, states_of side g a st), (l, takes, edge)))
+-- the pairs around a set by the first so many element patterns
+abbrev pub IsAroundTo : Grammar → Side → List Bool → Matrix → ℕ → ℕ → ℕ → Type 0
+IsAroundTo g side allowed inner most i j = (k : ℕ) × (k ≤ most) × IsTakenAround g side allowed inner k × IsEdge g side i (s.ref_leaf k) j
+
+module _ (g : Grammar) (side : Side) (allowed : List Bool) (inner : Matrix) where
+  pub around_none : (m : Matrix) → HasNone m → (i j : ℕ) → HasPair m i j ↔ IsAroundTo g side allowed inner 0 i j
+  around_none m none i j = (λ p. absurd (none i j p), λ h. of h)
+    where
+      of : IsAroundTo g side allowed inner 0 i j → HasPair m i j
+      of (zero, low, (e, at, told, taken), edge) = absurd (cc)
+      of (suc k, low, taken, edge) = absurd (omega (arith, low))
+
+  -- an element pattern that takes it puts its edges
+  pub around_more : (n : ℕ) (old new : Matrix) (arrows : List Arrow) → ((i j : ℕ) → HasPair old i j ↔ IsAroundTo g side allowed inner n i j) → IsTakenAround g side allowed inner (n + 1)
+      → ((a : Arrow) → Contains arrows a ↔ IsEdge g side a.from (s.ref_leaf (n + 1)) a.to) → ((i j : ℕ) → HasPair new i j ↔ (HasPair old i j ⊎ Contains arrows (record { from = i; to = j })))
+      → (i j : ℕ) → HasPair new i j ↔ IsAroundTo g side allowed inner (n + 1) i j
+  around_more n old new arrows so_far takes exact pairs i j = (λ p. to ((pairs i j).0 p), λ (k, low, taken, edge). of k low taken edge (cases_eq k (n + 1)))
+    where
+      to : HasPair old i j ⊎ Contains arrows (record { from = i; to = j }) → IsAroundTo g side allowed inner (n + 1) i j
+      to (inl p) = let (k, low, taken, edge) = (so_far i j).0 p in (k, omega (arith, low), taken, edge)
+      to (inr has) = (n + 1, omega arith, takes, (exact (record { from = i; to = j })).0 has)
+
+      of : (k : ℕ) → k ≤ n + 1 → IsTakenAround g side allowed inner k → IsEdge g side i (s.ref_leaf k) j → (k ≡ n + 1) ⊎ (k ≡ n + 1 → ⊥) → HasPair new i j
+      of k low taken edge (inl is) = (pairs i j).1 (inr ((exact (record { from = i; to = j })).1 (subst (λ w. IsEdge g side i (s.ref_leaf w) j) is edge)))
+      of k low taken edge (inr not) = let apart : k ≢ n + 1 = not in (pairs i j).1 (inl ((so_far i j).1 (k, omega arith, taken, edge)))
+
+  -- any other puts nothing
+  pub around_same : (n : ℕ) (m : Matrix) → ((i j : ℕ) → HasPair m i j ↔ IsAroundTo g side allowed inner n i j) → (IsTakenAround g side allowed inner (n + 1) → ⊥) → (i j : ℕ) → HasPair m i j ↔ IsAroundTo g side allowed inner (n + 1) i j
+  around_same n m so_far none i j = (λ p. to ((so_far i j).0 p), λ (k, low, taken, edge). of k low taken edge (cases_eq k (n + 1)))
+    where
+      to : IsAroundTo g side allowed inner n i j → IsAroundTo g side allowed inner (n + 1) i j
+      to (k, low, taken, edge) = (k, omega (arith, low), taken, edge)
+
+      of : (k : ℕ) → k ≤ n + 1 → IsTakenAround g side allowed inner k → IsEdge g side i (s.ref_leaf k) j → (k ≡ n + 1) ⊎ (k ≡ n + 1 → ⊥) → HasPair m i j
+      of k low taken edge (inl is) = absurd (none (subst (λ w. IsTakenAround g side allowed inner w) is taken))
+      of k low taken edge (inr not) = let apart : k ≢ n + 1 = not in (so_far i j).1 (k, omega arith, taken, edge)
+
+  number_most : (k : ℕ) (e : ElementPattern) → element_at g.elements k ≡ Some e → k ≤ length g.elements
+  number_most zero e at = absurd (cc)
+  number_most (suc k) e at = omega (arith, slice_get_within g.elements k e at)
+
+  pub around_all : (n : ℕ) (m : Matrix) → length g.elements ≤ n → ((i j : ℕ) → HasPair m i j ↔ IsAroundTo g side allowed inner n i j) → (i j : ℕ) → HasPair m i j ↔ IsAround g side allowed inner i j
+  around_all n m high so_far i j = (λ p. to ((so_far i j).0 p), of)
+    where
+      to : IsAroundTo g side allowed inner n i j → IsAround g side allowed inner i j
+      to (k, low, taken, edge) = (k, taken, edge)
+
+      of : IsAround g side allowed inner i j → HasPair m i j
+      of (k, (e, at, told, taken), edge) = (so_far i j).1 (k, omega (arith, number_most k e at), (e, at, told, taken), edge)
 
 module _ (g : Grammar) (side : Side) (inner : Matrix) (number : ℕ) (e : ElementPattern) (at : element_at g.elements number ≡ Some e) (first end : ℕ) (begins : first ≡ first_state g side number) (ends : end ≡ first_state g side (suc number)) where
   -- an accepting state of a content to which its first state leads

@@ -202,7 +202,7 @@ module _ (g : Grammar) (n : ExpandedName) (c : Trees) where
   or_cases false y e = inr e
 
   mutual
-    alternative_of : (q : Pattern) → IsStart q → Matches g.elements (element n c none) q → Alternative q
+    pub alternative_of : (q : Pattern) → IsStart q → Matches g.elements (element n c none) q → Alternative q
     alternative_of p.empty start m = absurd start
     alternative_of p.not_allowed start m = absurd (nothing_matches refl m)
     alternative_of p.text start m = absurd start
@@ -212,7 +212,7 @@ module _ (g : Grammar) (n : ExpandedName) (c : Trees) where
     alternative_of (p.interleave ps) start m = absurd start
     alternative_of (p.one_or_more q) start m = absurd start
 
-    one_alternative_of : (qs : Patterns) → AreStarts qs → OneOf g.elements (element n c none) qs → OneAlternative qs
+    pub one_alternative_of : (qs : Patterns) → AreStarts qs → OneOf g.elements (element n c none) qs → OneAlternative qs
     one_alternative_of no_more start m = absurd (of_none refl m)
     one_alternative_of (more q qs) start m = elim (of_one q qs refl m) [
       | inl x ↦ let (k, a, e) = alternative_of q start.0 x in (k, or_left (is_alternative k q) (is_one_alternative k qs) a, e)
@@ -220,7 +220,7 @@ module _ (g : Grammar) (n : ExpandedName) (c : Trees) where
     ]
 
   mutual
-    matches_alternative : (q : Pattern) → IsStart q → (k : ℕ) → IsTrue (is_alternative k q) → IsElementOf g.elements k n c → Matches g.elements (element n c none) q
+    pub matches_alternative : (q : Pattern) → IsStart q → (k : ℕ) → IsTrue (is_alternative k q) → IsElementOf g.elements k n c → Matches g.elements (element n c none) q
     matches_alternative p.empty start k a e = absurd start
     matches_alternative p.not_allowed start k a e = absurd (cc)
     matches_alternative p.text start k a e = absurd start
@@ -230,14 +230,14 @@ module _ (g : Grammar) (n : ExpandedName) (c : Trees) where
     matches_alternative (p.interleave ps) start k a e = absurd start
     matches_alternative (p.one_or_more q) start k a e = absurd start
 
-    matches_one_alternative : (qs : Patterns) → AreStarts qs → (k : ℕ) → IsTrue (is_one_alternative k qs) → IsElementOf g.elements k n c → OneOf g.elements (element n c none) qs
+    pub matches_one_alternative : (qs : Patterns) → AreStarts qs → (k : ℕ) → IsTrue (is_one_alternative k qs) → IsElementOf g.elements k n c → OneOf g.elements (element n c none) qs
     matches_one_alternative no_more start k a e = absurd (cc)
     matches_one_alternative (more q qs) start k a e = elim (or_cases (is_alternative k q) (is_one_alternative k qs) a) [
       | inl x ↦ here (matches_alternative q start.0 k x e)
       | inr x ↦ there (matches_one_alternative qs start.1 k x e)
     ]
 
-  number_within : (k : ℕ) (e : ElementPattern) → element_at g.elements k ≡ Some e → (1 ≤ k) × (k ≤ length g.elements)
+  pub number_within : (k : ℕ) (e : ElementPattern) → element_at g.elements k ≡ Some e → (1 ≤ k) × (k ≤ length g.elements)
   number_within zero e at = absurd (cc)
   number_within (suc k) e at = (omega arith, omega (arith, slice_get_within g.elements k e at))
 

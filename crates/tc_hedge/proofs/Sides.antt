@@ -19,8 +19,7 @@ use Rattle.tc_auto.specs.declared.auto.Auto.{Auto}
 use Rattle.tc_hedge.specs.Leading.{ArePairsOf, ArePairsOfText, ArePairsAround, IsTaken}
 use Rattle.tc_hedge.specs.declared.hedge.Hedge.{Hedge}
 use Rattle.tc_hedge.specs.Stands.{Stands}
-use Rattle.tc_hedge.specs.Items.{IsTakenAround, IsStep}
-use Rattle.tc_hedge.specs.declared.items.Item.TheVariants.{Text}
+use Rattle.tc_hedge.specs.Items.{IsTakenAround, IsAround}
 use Rattle.tc_model.proofs.StatesParts.{edge_within}
 use Rattle.tc_hedge.proofs.Bounds.{states_of, patterns_of}
 use Rattle.tc_hedge.proofs.TableRows.{get_map}
@@ -58,12 +57,6 @@ text_led g side s m other pairs i j = (to, of)
     of (low, past_white w l) = absurd (cc)
     of (low, by_text o edge l) = (pairs i j).1 (subst (λ w. IsEdge g side i text_leaf w) (run_of_none g side refl (run_of_leads g side l)) edge)
 
-pub text_pairs : (g : Grammar) (side : Side) (m : Matrix) → ((i j : ℕ) → HasPair m i j ↔ IsStep g side Text i j) → ArePairsOfText g side m
-text_pairs g side m steps i j = (λ p. to ((steps i j).0 p), λ edge. (steps i j).1 (text_leaf, refl, edge))
-  where
-    to : IsStep g side Text i j → IsEdge g side i text_leaf j
-    to (l, is, edge) = subst (λ w. IsEdge g side i w j) is edge
-
 -- one tree more
 pub tree_more : (g : Grammar) (side : Side) (ns : List Node) (i : ℕ) (x : Node) (old one new : Matrix) → i < length ns → x ≡ get_or ns i x
     → ArePairsOf g side (see.trees (take i ns)) old → ArePairsOf g side (see.before x none) one → IsComposition old one new → ArePairsOf g side (see.trees (take (i + 1) ns)) new
@@ -89,13 +82,9 @@ outputs_told g h m pairs = (λ v. to ((outputs_lead_exactly g h).0 v), λ x. (ou
 abbrev pub TellsClasses : Grammar → ExpandedName → List Bool → Type 0
 TellsClasses g n allowed = (k : ℕ) (e : ElementPattern) → slice_get g.elements k ≡ Some e → slice_get allowed k ≡ Some (in_class e.names n)
 
--- an edge takes an element
-abbrev pub IsStepAround : Grammar → Side → List Bool → Matrix → ℕ → ℕ → Type 0
-IsStepAround g side allowed inner i j = (l : Leaf) × ((k : ℕ) × (l ≡ ref_leaf k) × IsTakenAround g side allowed inner k) × IsEdge g side i l j
-
 -- the pairs of an element by flags that tell the classes of its name
 pub around_told : (g : Grammar) (side : Side) (n : ExpandedName) (allowed : List Bool) (inner m : Matrix) → TellsClasses g n allowed
-    → ((i j : ℕ) → HasPair m i j ↔ IsStepAround g side allowed inner i j) → ArePairsAround g side n inner m
+    → ((i j : ℕ) → HasPair m i j ↔ IsAround g side allowed inner i j) → ArePairsAround g side n inner m
 around_told g side n allowed inner m tells steps i j = (λ p. to ((steps i j).0 p), λ x. (steps i j).1 (of x))
   where
     inside : (k : ℕ) (e : ElementPattern) → element_at g.elements k ≡ Some e → slice_get allowed (k - 1) ≡ Some true → InClass e.names n
@@ -112,11 +101,11 @@ around_told g side n allowed inner m tells steps i j = (λ p. to ((steps i j).0 
         let place : k ≡ suc k - 1 = omega arith in
         subst (λ w. slice_get allowed w ≡ Some true) place (tells k e at ∙ ap (λ w. Some w) within)
 
-    to : IsStepAround g side allowed inner i j → (k : ℕ) × (e : ElementPattern) × (element_at g.elements k ≡ Some e) × InClass e.names n × IsTaken g side inner k e × IsEdge g side i (ref_leaf k) j
-    to (l, (k, is, (e, at, set, taken)), edge) = (k, e, at, inside k e at set, taken, subst (λ w. IsEdge g side i w j) is edge)
+    to : IsAround g side allowed inner i j → (k : ℕ) × (e : ElementPattern) × (element_at g.elements k ≡ Some e) × InClass e.names n × IsTaken g side inner k e × IsEdge g side i (ref_leaf k) j
+    to (k, (e, at, set, taken), edge) = (k, e, at, inside k e at set, taken, edge)
 
-    of : (k : ℕ) × (e : ElementPattern) × (element_at g.elements k ≡ Some e) × InClass e.names n × IsTaken g side inner k e × IsEdge g side i (ref_leaf k) j → IsStepAround g side allowed inner i j
-    of (k, e, at, within, taken, edge) = (ref_leaf k, (k, refl, (e, at, told k e at within, taken)), edge)
+    of : (k : ℕ) × (e : ElementPattern) × (element_at g.elements k ≡ Some e) × InClass e.names n × IsTaken g side inner k e × IsEdge g side i (ref_leaf k) j → IsAround g side allowed inner i j
+    of (k, e, at, within, taken, edge) = (k, (e, at, told k e at within, taken), edge)
 
 -- the row of a symbol tells the classes of its names
 pub row_tells : (g : Grammar) (n : ExpandedName) (items : List Bool) (row patterns : ℕ) → patterns ≡ length g.elements

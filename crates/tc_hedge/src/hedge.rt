@@ -1,15 +1,15 @@
 // The pairs of states that trees lead, by the automaton of a schema.
-ghost use Rattle.std.specs.Prelude.{◌≡◌, ◌*◌, ◌↔◌, IfOk, IsTrue, length, slice_get, true};
+ghost use Rattle.std.specs.Prelude.{◌≡◌, ◌*◌, ◌↔◌, ◌⊎◌, ℕ, IfOk, IsTrue, length, slice_get, true};
+ghost use Rattle.std.specs.List.{Contains};
+ghost use Rattle.tc_auto.specs.Arrows.{AreWithin};
 ghost use Rattle.tc_hedge.specs.Items.{IsOfSomeSchema};
-ghost use Rattle.tc_mat.specs.Matrix.{IsComposition, IsMatrix};
+ghost use Rattle.tc_mat.specs.Matrix.{HasPair, IsComposition, IsMatrix};
 
-use crate::documents::is_document;
-use crate::items::Item;
 use crate::table::{push_allowed, table_of};
-use crate::valid::is_element_valid;
+use crate::valid::is_valid;
 use std::alloc::Global;
 use tc_alpha::{Alphabet, Sym};
-use tc_auto::{Auto, Edge, Leaf};
+use tc_auto::{Arrow, Auto, Edge};
 use tc_base::NoMemory;
 use tc_mat::Mat;
 use tc_model::{Name, Node, is_all_white};
@@ -47,13 +47,26 @@ fn composition(alloc: Global, first: &Mat, second: &Mat) -> Result<Mat, NoMemory
     Ok(both)
 }
 
+/// Puts the pairs of edges.
+fn put_arrows(arrows: &[Arrow], out: &mut Mat)
+    requires within { AreWithin out.old.size arrows.now }
+    requires matrix { IsMatrix out.old }
+    ensures size { out.new.size ≡ out.old.size }
+    ensures matrix { IsMatrix out.new }
+    ensures pairs { (i j : ℕ) → HasPair out.new i j ↔ (HasPair out.old i j ⊎ Contains arrows.now (record { from = i; to = j })) }
+{
+    for arrow in arrows {
+        out.set(arrow.from, arrow.to);
+    }
+}
+
 impl<'b> Hedge<'b> {
     ghost use Rattle.std.specs.Prelude.{◌≡◌, ◌<◌, ◌≤◌, ◌↔◌, ◌⊎◌, ℕ, suc, List, Some, IfOk, IsTrue, All, length};
     ghost use Rattle.std.specs.List.{Contains};
     ghost use Rattle.tc_auto.specs.Stands as a;
     ghost use Rattle.tc_auto.specs.Steps.{leaf as see_leaf};
     ghost use Rattle.tc_auto.specs.declared.auto.Edge.{Edge};
-    ghost use Rattle.tc_hedge.specs.Items.{IsSized, IsStep, IsTakenAround, Takes};
+    ghost use Rattle.tc_hedge.specs.Items.{IsAround, IsTakenAround};
     ghost use Rattle.tc_hedge.specs.Leading.{ArePairsAround, ArePairsOf, ArePairsOfText, IsTaken};
     ghost use Rattle.tc_hedge.specs.Stands.{Stands};
     ghost use Rattle.tc_mat.specs.Matrix.{HasPair, IsMatrix};
@@ -110,55 +123,14 @@ impl<'b> Hedge<'b> {
         self.allowed[start + (number as usize - 1)]
     }
 
-    /// The first state of a part.
-    pub(crate) fn first(&self, part: u32) -> u32
-        requires { part ≤ a.patterns self.now.auto }
-        ensures exact { (side : s.Side) (x : g.Grammar) → a.Stands side x self.now.auto → result ≡ s.first_state x side part }
-        ensures within { result ≤ a.states self.now.auto }
-    {
-        self.auto.first(part)
-    }
-
-    /// The first state of the content of an element pattern.
-    pub(crate) fn first_of_content(&self, number: u32) -> u32
-        requires from_one { 1 ≤ number }
-        requires within { number ≤ a.patterns self.now.auto }
-        ensures exact { (side : s.Side) (x : g.Grammar) → a.Stands side x self.now.auto → result ≡ s.first_state x side number }
-        ensures below { result < a.states self.now.auto }
-    {
-        self.first(number)
-    }
-
-    /// The state behind the last one of a part.
-    pub(crate) fn end(&self, part: u32) -> u32
-        requires { part ≤ a.patterns self.now.auto }
-        ensures exact { (side : s.Side) (x : g.Grammar) → a.Stands side x self.now.auto → result ≡ s.first_state x side (suc part) }
-        ensures within { result ≤ a.states self.now.auto }
-    {
-        if part < self.auto.patterns() {
-            self.first(part + 1)
-        } else {
-            self.auto.states()
-        }
-    }
-
-    /// The edges from a state.
-    pub(crate) fn edges(&self, state: u32) -> &[Edge]
-        requires { state < a.states self.now.auto }
-        ensures exact { (side : s.Side) (x : g.Grammar) → a.Stands side x self.now.auto → (e : Edge) → Contains result.now e ↔ s.IsEdge x side state (see_leaf e.leaf) e.to }
-        ensures within { All (λ (e : Edge). e.to < a.states self.now.auto) result.now }
-    {
-        self.auto.follow(state)
-    }
-
     /// Whether a set of pairs leads the first state of a content to an accepting state of that content.
     fn is_taken(&self, inner: &Mat, number: u32) -> bool
         requires within { number ≤ a.patterns self.now.auto }
         requires size { inner.now.size ≡ a.states self.now.auto }
         ensures { (side : s.Side) (x : g.Grammar) → a.Stands side x self.now.auto → (e : g.ElementPattern) → g.element_at x.elements number ≡ Some e → IsTrue result ↔ IsTaken x side inner.now number e }
     {
-        let first = self.first(number);
-        let end = self.end(number);
+        let first = self.auto.first(number);
+        let end = self.auto.end(number);
         for state in first..end {
             if inner.has(first, state) && self.auto.accepts(state) {
                 return true;
@@ -178,48 +150,21 @@ impl<'b> Hedge<'b> {
         is_set(allowed, number as usize - 1) && self.is_taken(inner, number)
     }
 
-    /// Whether a leaf takes an item.
-    fn takes(&self, item: &Item<'_>, leaf: Leaf) -> bool
-        requires { IsSized (a.states self.now.auto) item.now }
-        ensures { (side : s.Side) (x : g.Grammar) → a.Stands side x self.now.auto → IsTrue result ↔ Takes x side item.now (see_leaf leaf) }
-    {
-        match item {
-            Item::Text => leaf == Leaf::Text,
-            Item::Around(allowed, inner) => match leaf {
-                Leaf::Text => false,
-                Leaf::Ref(number) => self.is_taken_around(allowed, inner, number),
-            },
-        }
-    }
-
-    /// Puts the pairs of an item that begin at a state.
-    fn put_from(&self, item: &Item<'_>, state: u32, out: &mut Mat)
-        requires item { IsSized (a.states self.now.auto) item.now }
-        requires state { state < a.states self.now.auto }
-        requires out { out.old.size ≡ a.states self.now.auto }
-        requires matrix { IsMatrix out.old }
-        ensures size { out.new.size ≡ out.old.size }
-        ensures matrix { IsMatrix out.new }
-        ensures pairs { (side : s.Side) (x : g.Grammar) → a.Stands side x self.now.auto → (i j : ℕ) → HasPair out.new i j ↔ (HasPair out.old i j ⊎ ((i ≡ state) × IsStep x side item.now i j)) }
-    {
-        for edge in self.edges(state) {
-            if self.takes(item, edge.leaf) {
-                out.set(state, edge.to);
-            }
-        }
-    }
-
-    /// Leaves the pairs of an item, whatever the set held.
-    fn put(&self, item: &Item<'_>, out: &mut Mat)
-        requires item { IsSized (a.states self.now.auto) item.now }
+    /// Leaves the pairs of an element whose name is in the classes that are told, around a set of pairs
+    /// inside it, whatever the set held.
+    fn put_around(&self, allowed: &[bool], inner: &Mat, out: &mut Mat)
+        requires inner { inner.now.size ≡ a.states self.now.auto }
         requires out { out.old.size ≡ a.states self.now.auto }
         ensures size { out.new.size ≡ out.old.size }
         ensures matrix { IsMatrix out.new }
-        ensures pairs { (side : s.Side) (x : g.Grammar) → a.Stands side x self.now.auto → (i j : ℕ) → HasPair out.new i j ↔ IsStep x side item.now i j }
+        ensures pairs { (side : s.Side) (x : g.Grammar) → a.Stands side x self.now.auto → (i j : ℕ) → HasPair out.new i j ↔ IsAround x side allowed.now inner.now i j }
     {
         out.clear();
-        for state in 0..self.auto.states() {
-            self.put_from(item, state, out);
+        for before in 0..self.auto.patterns() {
+            let number = before + 1;
+            if self.is_taken_around(allowed, inner, number) {
+                put_arrows(self.auto.arrows(number), out);
+            }
         }
     }
 
@@ -230,7 +175,8 @@ impl<'b> Hedge<'b> {
         ensures matrix { IsMatrix out.new }
         ensures pairs { (side : s.Side) (x : g.Grammar) → a.Stands side x self.now.auto → ArePairsOfText x side out.new }
     {
-        self.put(&Item::Text, out);
+        out.clear();
+        put_arrows(self.auto.text_arrows(), out);
     }
 
     /// Leaves the pairs of an element whose name has a symbol, around a set of pairs inside it, whatever the
@@ -247,7 +193,7 @@ impl<'b> Hedge<'b> {
         let patterns = self.auto.patterns() as usize;
         let row = sym.0 as usize * patterns;
         let allowed = &self.allowed[row..row + patterns];
-        self.put(&Item::Around(allowed, inner), out);
+        self.put_around(allowed, inner, out);
     }
 
     /// The pairs of an element of a name, around a set of pairs inside it.
@@ -260,7 +206,7 @@ impl<'b> Hedge<'b> {
         let mut allowed = Vec::new(self.alloc);
         push_allowed(&mut allowed, &self.auto, name)?;
         let mut led = Mat::zero(self.alloc, self.auto.states())?;
-        self.put(&Item::Around(&allowed, inner), &mut led);
+        self.put_around(&allowed, inner, &mut led);
         Ok(led)
     }
 
@@ -325,14 +271,6 @@ impl<'b> Hedge<'b> {
     pub fn valid(&self, doc: &Node<'_>) -> Result<bool, NoMemory>
         ensures { IfOk result (λ b. (side : s.Side) (x : g.Grammar) → a.Stands side x self.now.auto → IsStart x.start → IsTrue b ↔ IsValid x (see.before doc.now t.none)) }
     {
-        match doc {
-            Node::Text(_) => Ok(false),
-            Node::Elem(name, kids) => {
-                if !is_document(doc) {
-                    return Ok(false);
-                }
-                is_element_valid(self, name, kids)
-            }
-        }
+        is_valid(self.alloc, &self.auto, doc)
     }
 }

@@ -3,7 +3,6 @@
 
 mod documents;
 pub mod hedge;
-mod items;
 mod keys;
 pub mod laws;
 mod memo;
@@ -12,8 +11,7 @@ mod passages;
 mod sets;
 mod steps;
 mod table;
-#[cfg(test)]
-mod tests;
-mod valid;
+pub mod valid;
 
 pub use hedge::Hedge;
+pub use valid::is_valid;

@@ -4,8 +4,6 @@
 mod matrices;
 mod pools;
 mod products;
-#[cfg(test)]
-mod tests;
 
 pub use matrices::{Mat, sets_have_one_form};
 pub use pools::{MatId, Pool, PoolFault};

@@ -43,3 +43,5 @@ pub mod CompactSyntaxLawful
 pub mod SimplifiesLawful
 pub mod BodiesInTurn
 pub mod TreesInTurn
+pub mod SchemaStates
+pub mod TreesApart

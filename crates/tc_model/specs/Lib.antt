@@ -7,8 +7,11 @@ pub mod Grammars
 pub mod Matching
 pub mod Validity
 pub mod States
+pub mod SchemaStates
 pub mod Sheets
 pub mod Chains
+pub mod TreesApart
+pub mod LiveTrees
 pub mod Paths
 pub mod Outcomes
 pub mod Meaning

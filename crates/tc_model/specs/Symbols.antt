@@ -1,5 +1,5 @@
 -- Symbols: the names of elements, by what two schemas and a stylesheet mention of them. The names of one symbol are alike for all three.
-use Rattle.std.specs.Prelude.{◌≡◌, ◌<◌, ℕ, zero, suc, ◌+◌, nat_lt, List, [], ◌∷◌, ◌++◌, length, Bool, if◌then◌else◌, Option, Some, None, slice_get, All, Contains, flat_map, codes}
+use Rattle.std.specs.Prelude.{◌≡◌, ◌<◌, ◌↔◌, ℕ, zero, suc, ◌+◌, nat_lt, List, [], ◌∷◌, ◌++◌, length, Bool, false, IsTrue, if◌then◌else◌, Option, Some, None, slice_get, All, Contains, flat_map, codes}
 use Rattle.std.specs.List.Sorted.{IsStrictlySortedBy}
 use Rattle.std.specs.declared.cmp.Ordering.{Ordering}
 use Rattle.std.specs.declared.cmp.Ordering.TheVariants.{Less, Greater}
@@ -104,7 +104,11 @@ mentions_in_sheet s = in_sheet mentions_of_test mentions_of_name s
 abbrev pub node_tests : Sheet → List NodeTest
 node_tests s = in_sheet (λ t. t ∷ []) (λ n. []) s
 
--- a list in order with one more, unless it is there
+-- the second list holds what the first does, in order and each once
+abbrev pub IsInOrder : {K : Type 0} → (K → K → Ordering) → List K → List K → Type 0
+IsInOrder {K} cmp xs ys = IsStrictlySortedBy cmp ys × ((k : K) → Contains ys k ↔ Contains xs k)
+
+-- the only such list of mentions, made one by one: a list in order with one more, unless it is there
 abbrev pub put_in_order : {K : Type 0} → (K → K → Ordering) → K → List K → List K
 put_in_order cmp k [] = k ∷ []
 put_in_order cmp k (x ∷ xs) = match_ordering (cmp k x) (k ∷ x ∷ xs) (x ∷ xs) (x ∷ put_in_order cmp k xs)
@@ -127,6 +131,10 @@ mentions_in input output s = mentions_in_grammar input ++ (mentions_in_grammar o
 abbrev pub symbols_of : Grammar → Grammar → Sheet → List Mention
 symbols_of input output s = in_order mention_cmp (flat_map with_namespace (mentions_in input output s))
 
+-- the symbols of a schema by itself
+abbrev pub symbols_of_schema : Grammar → List Mention
+symbols_of_schema x = in_order mention_cmp (flat_map with_namespace (mentions_in_grammar x))
+
 abbrev pub symbol_count : List Mention → ℕ
 symbol_count symbols = length symbols + 1
 
@@ -142,7 +150,17 @@ is_mentioned m symbols = nat_lt (place_of m symbols) (length symbols)
 abbrev pub symbol_of : List Mention → ExpandedName → ℕ
 symbol_of symbols n = if is_mentioned (a_name n) symbols then place_of (a_name n) symbols else place_of (a_namespace n.uri) symbols
 
--- the text, or the first that is not taken of the texts with one `n` more, two more, ..
+-- so many letters `n`
+abbrev pub letters_n : ℕ → List ℕ
+letters_n zero = []
+letters_n (suc j) = 110 ∷ letters_n j
+
+-- the first that is not taken of a text, the text with one `n` more, with two more, ..
+abbrev pub IsFirstFree : (List ℕ → Bool) → List ℕ → List ℕ → Type 0
+IsFirstFree taken text found =
+    (j : ℕ) × (found ≡ text ++ letters_n j) × (taken found ≡ false) × ((i : ℕ) → i < j → IsTrue (taken (text ++ letters_n i)))
+
+-- it, where one of so many is free
 abbrev pub lengthened : (List ℕ → Bool) → ℕ → List ℕ → List ℕ
 lengthened taken zero text = text
 lengthened taken (suc more) text = if taken text then lengthened taken more (text ++ 110 ∷ []) else text
@@ -186,3 +204,18 @@ IsSymbolOfFresh = (symbols : List Mention) → AreSymbols symbols → (k : ℕ) 
 -- what two schemas and a stylesheet give are symbols
 abbrev pub GiveSymbols : Type 0
 GiveSymbols = (input output : Grammar) (s : Sheet) → AreSymbols (symbols_of input output s)
+
+-- mentions in order are the only list in order of what they hold
+abbrev pub IsOnlyInOrder : Type 0
+IsOnlyInOrder = (xs ys : List Mention) → IsInOrder mention_cmp xs ys ↔ (ys ≡ in_order mention_cmp xs)
+
+-- the names and namespaces that stand for others are the first free ones
+abbrev pub AreFirstFree : Type 0
+AreFirstFree =
+    (symbols : List Mention)
+    → ((uri : List ℕ) → IsFirstFree (λ local. is_mentioned (a_name (record { uri = uri; local = local })) symbols) (codes "n") (free_local symbols uri))
+    × IsFirstFree (λ uri. is_mentioned (a_namespace uri) symbols) (codes "urn:n") (free_namespace symbols)
+
+-- a schema twice and a stylesheet that mentions nothing have the symbols of the schema
+abbrev pub SchemasHaveTheirSymbols : Type 0
+SchemasHaveTheirSymbols = (x : Grammar) (s : Sheet) → mentions_in_sheet s ≡ [] → symbols_of x x s ≡ symbols_of_schema x

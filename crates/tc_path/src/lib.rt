@@ -19,8 +19,6 @@ mod patterns;
 mod phrases;
 mod priority;
 mod reasons;
-#[cfg(test)]
-mod tests;
 mod token;
 mod whole;
 

@@ -7,8 +7,6 @@
 
 mod escapes;
 mod tags;
-#[cfg(test)]
-mod tests;
 
 ghost use Rattle.std.specs.Prelude.{◌≤◌, OnOk, OnErr};
 ghost use Rattle.tc_io.specs.Faults.{Rose};

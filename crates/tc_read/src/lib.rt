@@ -5,8 +5,6 @@ mod documents;
 mod faults;
 mod schemas;
 mod sheets;
-#[cfg(test)]
-mod tests;
 
 pub use documents::read_document;
 pub use faults::{Reason, TextFault};

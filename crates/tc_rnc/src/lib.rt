@@ -19,8 +19,6 @@ mod reading;
 mod schema;
 mod scopes;
 mod syntax;
-#[cfg(test)]
-mod tests;
 mod tokens;
 mod words;
 

@@ -10,7 +10,6 @@ use Rattle.tc_model.specs.declared.sheet.Test.{Test}
 use Rattle.tc_rules.specs.Views as seen
 use Rattle.tc_rules.specs.Graphs.{steps_fit, path_fits}
 use Rattle.tc_rules.specs.Steps as v
-use Rattle.tc_rules.specs.declared.rows.Letter as asked
 
 -- of a path's steps, one truth value each
 abbrev pub HasItems : Steps → Items → Type 0
@@ -34,7 +33,7 @@ module _ (symbols : List Mention) (predicates : List s.Test) where
   same_mark other (all_of ts) marks = refl
   same_mark other (any_of ts) marks = refl
 
-  module _ (numbered : List (Bor Test)) (a : asked.Letter) (l : Letter) (same_predicates : seen.predicates numbered ≡ predicates)
+  module _ (numbered : List (Bor Test)) (a : v.NamedLetter) (l : Letter) (same_predicates : seen.predicates numbered ≡ predicates)
       (same_tree : v.tree_named a.name ≡ tree_of symbols predicates l.kind) (same_marks : a.marks ≡ l.marks) where
     one_fits : (t : s.NodeTest) (when : s.Test)
         → (v.passes_name t a.name && is_marked [] (seen.predicates numbered) when a.marks) ≡ (passes t (tree_of symbols predicates l.kind) && is_marked symbols predicates when l.marks)

@@ -21,6 +21,8 @@ pub mod SymbolKinds
 pub mod Pieces
 pub mod OfGraph
 pub mod RowEnds
+pub mod RowPairs
+pub mod Staying
 pub mod RowLoops
 pub mod SelectStates
 pub mod EmptyStates

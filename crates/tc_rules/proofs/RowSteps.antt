@@ -6,12 +6,10 @@ use Rattle.tc_model.specs.declared.sheet.Step.{Step}
 use Rattle.tc_model.specs.declared.sheet.Test.{Test}
 use Rattle.tc_model.specs.Views as see
 use Rattle.tc_model.specs.Sheets as s
-use Rattle.tc_model.specs.Letters.{is_marked}
 use Rattle.tc_model.specs.PathStates as p
 use Rattle.tc_model.proofs.ViewsPath.{left_step, left_alternative}
-use Rattle.tc_rules.specs.Views.{predicates}
 use Rattle.tc_rules.specs.Steps as v
-use Rattle.tc_rules.specs.declared.rows.Letter.{Letter}
+use Rattle.tc_rules.specs.declared.rows.Sought.{Sought}
 
 module _ {X : Type 0} where
   -- one goes from what is left to what was written
@@ -41,21 +39,27 @@ module _ {X : Type 0} where
   nothing_after [] = refl
   nothing_after (x ∷ xs) = ap (λ w. x ∷ w) (nothing_after xs)
 
+-- what stands at a place
+pub element : {X : Type 0} (xs : List X) (i : ℕ) → i < length xs → (x : X) × (x ≡ get_or xs i x)
+element [] i h = absurd (omega arith)
+element (x ∷ xs) zero h = (x, refl)
+element (x ∷ xs) (suc i) h = element xs i (omega arith)
+
 abbrev items_of : Vec Bool → List Bool
 items_of w = w.items
 
-pub fit_step : (numbered : List (Bor Test)) (letter : Letter) (all old now : List Bool) (xs : List Step) (i : ℕ) (x : Step) → i < length xs → x ≡ get_or xs i x
-    → now ≡ old ++ (v.passes_name (see.node_test x.test) letter.name && is_marked [] (predicates numbered) (see.test x.when) letter.marks) ∷ []
-    → all ≡ old ++ v.steps_fit numbered (see.steps (drop i xs)) letter → all ≡ now ++ v.steps_fit numbered (see.steps (drop (i + 1) xs)) letter
-fit_step numbered letter all old now xs i x h e put k =
-    one_more all old now _ _ _ put (ap (λ w. v.steps_fit numbered w letter) (left_step xs i x h e)) k
+pub one_step_having : (numbered : List (Bor Test)) (sought : Sought) (all old now : List Bool) (xs : List Step) (i : ℕ) (x : Step) → i < length xs → x ≡ get_or xs i x
+    → now ≡ old ++ v.step_has numbered (see.node_test x.test) (see.test x.when) sought ∷ []
+    → all ≡ old ++ v.steps_having numbered (see.steps (drop i xs)) sought → all ≡ now ++ v.steps_having numbered (see.steps (drop (i + 1) xs)) sought
+one_step_having numbered sought all old now xs i x h e put k =
+    one_more all old now _ _ _ put (ap (λ w. v.steps_having numbered w sought) (left_step xs i x h e)) k
 
-pub fit_alternative : (numbered : List (Bor Test)) (letter : Letter) (all : List (List Bool)) (old : List (Vec Bool)) (w : Vec Bool) (xs : List (Bor (List Step))) (i : ℕ) (x : Bor (List Step)) → i < length xs → x ≡ get_or xs i x
-    → w.items ≡ v.steps_fit numbered (see.steps x.now) letter
-    → all ≡ map items_of old ++ v.path_fits numbered (see.alternatives (drop i xs)) letter → all ≡ map items_of (old ++ w ∷ []) ++ v.path_fits numbered (see.alternatives (drop (i + 1) xs)) letter
-fit_alternative numbered letter all old w xs i x h e is k =
+pub one_alternative_having : (numbered : List (Bor Test)) (sought : Sought) (all : List (List Bool)) (old : List (Vec Bool)) (w : Vec Bool) (xs : List (Bor (List Step))) (i : ℕ) (x : Bor (List Step)) → i < length xs → x ≡ get_or xs i x
+    → w.items ≡ v.steps_having numbered (see.steps x.now) sought
+    → all ≡ map items_of old ++ v.path_having numbered (see.alternatives (drop i xs)) sought → all ≡ map items_of (old ++ w ∷ []) ++ v.path_having numbered (see.alternatives (drop (i + 1) xs)) sought
+one_alternative_having numbered sought all old w xs i x h e is k =
     one_more all (map items_of old) _ _ _ (w.items) (map_push items_of old w)
-    (ap (λ a. v.path_fits numbered a letter) (left_alternative xs i x h e) ∙ ap (λ r. r ∷ v.path_fits numbered (see.alternatives (drop (i + 1) xs)) letter) (sym is)) k
+    (ap (λ a. v.path_having numbered a sought) (left_alternative xs i x h e) ∙ ap (λ r. r ∷ v.path_having numbered (see.alternatives (drop (i + 1) xs)) sought) (sym is)) k
 
 pub first_step : (first : Bool) (all old now : List Bool) (xs : List Step) (i : ℕ) (x : Step) → i < length xs → x ≡ get_or xs i x → now ≡ old ++ first ∷ []
     → all ≡ old ++ v.items_left first (see.steps (drop i xs)) → all ≡ now ++ v.items_left false (see.steps (drop (i + 1) xs))
@@ -69,7 +73,7 @@ first_alternative all old w xs i x h e is k =
     one_more all (map items_of old) _ _ _ (w.items) (map_push items_of old w)
     (ap p.first_state (left_alternative xs i x h e) ∙ ap (λ r. r ∷ p.first_state (see.alternatives (drop (i + 1) xs))) (sym is)) k
 
-first_at : (bs : List Bool) (i : ℕ) → v.first_or_false (drop i bs) ≡ get_or bs i false
+pub first_at : (bs : List Bool) (i : ℕ) → v.first_or_false (drop i bs) ≡ get_or bs i false
 first_at [] zero = refl
 first_at [] (suc i) = refl
 first_at (b ∷ bs) zero = refl
@@ -81,7 +85,7 @@ after_here [] (suc i) = refl
 after_here (b ∷ bs) zero = refl
 after_here (b ∷ bs) (suc i) = after_here bs i
 
-after_at : (bs : List Bool) (i : ℕ) → v.after_first (drop i bs) ≡ drop (i + 1) bs
+pub after_at : (bs : List Bool) (i : ℕ) → v.after_first (drop i bs) ≡ drop (i + 1) bs
 after_at bs i = rw add-one (after_here bs i)
 
 pub further_step : (all old now fits items : List Bool) (comes : Bool) (xs : List Step) (i : ℕ) (x : Step) → i < length xs → x ≡ get_or xs i x
@@ -100,33 +104,45 @@ further_step all old now fits items comes xs i x h e put k =
         ∙ (ap (λ f. ((get_or items i false && x.deep) || comes) ∷ v.further (see.steps (drop (i + 1) xs)) f (get_or items i false && get_or fits i false) (v.after_first (drop i items))) (after_at fits i)
         ∙ ap (λ b. ((get_or items i false && x.deep) || comes) ∷ v.further (see.steps (drop (i + 1) xs)) (drop (i + 1) fits) (get_or items i false && get_or fits i false) b) (after_at items i))))
 
-pub next_alternative : (all fits row : List (List Bool)) (f items : List Bool) (old : List (Vec Bool)) (w : Vec Bool) (xs : List (Bor (List Step))) (i : ℕ) (x : Bor (List Step)) → i < length xs → x ≡ get_or xs i x
-    → slice_get fits i ≡ Some f → slice_get row i ≡ Some items → w.items ≡ v.further (see.steps x.now) f false items
+-- the same of alternatives
+first_here : (x : List (List Bool)) (i : ℕ) → v.first_or_none (drop i x) ≡ get_or x i []
+first_here [] zero = refl
+first_here [] (suc i) = refl
+first_here (items ∷ x) zero = refl
+first_here (items ∷ x) (suc i) = first_here x i
+
+pub first_alternative_at : (x : List (List Bool)) (i : ℕ) → v.first_or_none (drop i x) ≡ get_or x i []
+first_alternative_at x i = first_here x i
+
+alternatives_here : (x : List (List Bool)) (i : ℕ) → v.after_alternative (drop i x) ≡ drop (suc i) x
+alternatives_here [] zero = refl
+alternatives_here [] (suc i) = refl
+alternatives_here (items ∷ x) zero = refl
+alternatives_here (items ∷ x) (suc i) = alternatives_here x i
+
+pub after_alternative_at : (x : List (List Bool)) (i : ℕ) → v.after_alternative (drop i x) ≡ drop (i + 1) x
+after_alternative_at x i = rw add-one (alternatives_here x i)
+
+pub next_alternative : (all fits row : List (List Bool)) (items : List Bool) (old : List (Vec Bool)) (w : Vec Bool) (xs : List (Bor (List Step))) (i : ℕ) (x : Bor (List Step)) → i < length xs → x ≡ get_or xs i x
+    → slice_get row i ≡ Some items → w.items ≡ v.further (see.steps x.now) (get_or fits i []) false items
     → all ≡ map items_of old ++ v.next_state (see.alternatives (drop i xs)) (drop i fits) (drop i row)
     → all ≡ map items_of (old ++ w ∷ []) ++ v.next_state (see.alternatives (drop (i + 1) xs)) (drop (i + 1) fits) (drop (i + 1) row)
-next_alternative all fits row f items old w xs i x h e a b is k =
+next_alternative all fits row items old w xs i x h e b is k =
+    let rest = see.alternatives (drop (i + 1) xs) in
     one_more all (map items_of old) _ _ _ (w.items) (map_push items_of old w)
     (ap (λ t. v.next_state t (drop i fits) (drop i row)) (left_alternative xs i x h e)
-    ∙ (ap (λ t. v.next_state (s.alternative (see.steps x.now) (see.alternatives (drop (i + 1) xs))) t (drop i row)) (drop_at fits i f a)
-    ∙ (ap (λ t. v.next_state (s.alternative (see.steps x.now) (see.alternatives (drop (i + 1) xs))) (f ∷ drop (i + 1) fits) t) (drop_at row i items b)
-    ∙ ap (λ r. r ∷ v.next_state (see.alternatives (drop (i + 1) xs)) (drop (i + 1) fits) (drop (i + 1) row)) (sym is))))
+    ∙ (ap (λ t. v.next_state (s.alternative (see.steps x.now) rest) (drop i fits) t) (drop_at row i items b)
+    ∙ (ap (λ f. v.further (see.steps x.now) f false items ∷ v.next_state rest (v.after_alternative (drop i fits)) (drop (i + 1) row)) (first_here fits i)
+    ∙ (ap (λ r. r ∷ v.next_state rest (v.after_alternative (drop i fits)) (drop (i + 1) row)) (sym is)
+    ∙ ap (λ t. w.items ∷ v.next_state rest t (drop (i + 1) row)) (after_alternative_at fits i)))))
     k
 
-pub no_fits_left : (all old fits row : List (List Bool)) (xs : List (Bor (List Step))) (i : ℕ) (x : Bor (List Step)) → i < length xs → x ≡ get_or xs i x
-    → slice_get fits i ≡ None → all ≡ old ++ v.next_state (see.alternatives (drop i xs)) (drop i fits) (drop i row) → old ≡ all
-no_fits_left all old fits row xs i x h e a k =
+pub no_items_left : (all old fits row : List (List Bool)) (xs : List (Bor (List Step))) (i : ℕ) (x : Bor (List Step)) → i < length xs → x ≡ get_or xs i x
+    → slice_get row i ≡ None → all ≡ old ++ v.next_state (see.alternatives (drop i xs)) (drop i fits) (drop i row) → old ≡ all
+no_items_left all old fits row xs i x h e b k =
     sym (k ∙ (ap (λ w. old ++ w)
     (ap (λ t. v.next_state t (drop i fits) (drop i row)) (left_alternative xs i x h e)
-    ∙ ap (λ t. v.next_state (s.alternative (see.steps x.now) (see.alternatives (drop (i + 1) xs))) t (drop i row)) (drop_past fits i a))
-    ∙ nothing_after old))
-
-pub no_items_left : (all old fits row : List (List Bool)) (f : List Bool) (xs : List (Bor (List Step))) (i : ℕ) (x : Bor (List Step)) → i < length xs → x ≡ get_or xs i x
-    → slice_get fits i ≡ Some f → slice_get row i ≡ None → all ≡ old ++ v.next_state (see.alternatives (drop i xs)) (drop i fits) (drop i row) → old ≡ all
-no_items_left all old fits row f xs i x h e a b k =
-    sym (k ∙ (ap (λ w. old ++ w)
-    (ap (λ t. v.next_state t (drop i fits) (drop i row)) (left_alternative xs i x h e)
-    ∙ (ap (λ t. v.next_state (s.alternative (see.steps x.now) (see.alternatives (drop (i + 1) xs))) t (drop i row)) (drop_at fits i f a)
-    ∙ ap (λ t. v.next_state (s.alternative (see.steps x.now) (see.alternatives (drop (i + 1) xs))) (f ∷ drop (i + 1) fits) t) (drop_past row i b)))
+    ∙ ap (λ t. v.next_state (s.alternative (see.steps x.now) (see.alternatives (drop (i + 1) xs))) (drop i fits) t) (drop_past row i b))
     ∙ nothing_after old))
 
 state_here : (xs : List (Vec Bool)) (i : ℕ) (x : Vec Bool) → i < length xs → x ≡ get_or xs i x → drop i (map items_of xs) ≡ x.items ∷ drop (suc i) (map items_of xs)

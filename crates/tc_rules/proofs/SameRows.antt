@@ -99,9 +99,6 @@ state_self = pointwise_self (pointwise same_truth) (pointwise_self same_truth tr
 pub put_found : (xs : List State) (x : State) → list_any (same_state x) xs ≡ false → put_once same_state xs x ≡ xs ++ x ∷ []
 put_found xs x e = ap (λ (b : Bool). if b then xs else (xs ++ x ∷ [])) e
 
-pub row_new : (r : Row) (xs : List Row) (b : Bool) → b ≡ not (list_any (same_row r) xs) → b ≡ not (list_any (same_state (state r)) (states xs))
-row_new r xs b e = e ∙ ap not (any_row r xs)
-
 row_at : (xs : List Row) (i : ℕ) (x : Row) → slice_get xs i ≡ Some x → slice_get (states xs) i ≡ Some (state x)
 row_at [] i x e = absurd (cc)
 row_at (y ∷ xs) zero x e = let f : y ≡ x = cc in ap (λ (w : Row). Some (state w)) f
@@ -121,10 +118,6 @@ absent_place r (x ∷ xs) e = by (same_row r x) e (absent_place r xs)
     by true f k = absurd (cc)
     by false f k = let l = k f in omega (arith, l)
 
-not_false : (b : Bool) → not b ≡ true → b ≡ false
-not_false true e = absurd (cc)
-not_false false e = refl
-
 -- and a new one stands last
-pub row_last : (r : Row) (xs : List Row) (b : Bool) (i : ℕ) → b ≡ not (list_any (same_row r) xs) → i ≡ position_or_len (same_row r) xs → b ≡ true → i ≡ length xs
-row_last r xs b i e f g = f ∙ absent_place r xs (not_false (list_any (same_row r) xs) (sym e ∙ g))
+pub row_last : (r : Row) (xs : List Row) (i : ℕ) → i ≡ position_or_len (same_row r) xs → list_any (same_state (state r)) (states xs) ≡ false → i ≡ length (states xs)
+row_last r xs i f g = f ∙ (absent_place r xs (any_row r xs ∙ g) ∙ sym (length-map xs state))

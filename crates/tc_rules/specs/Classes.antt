@@ -1,5 +1,5 @@
 -- The classes of symbols that the steps of a path can't tell apart.
-use Rattle.std.specs.Prelude.{◌≡◌, ℕ, ◌^◌, List, [], length, map, get_or, nat_eq, Option, Some}
+use Rattle.std.specs.Prelude.{◌≡◌, ℕ, ◌^◌, List, [], ◌∷◌, length, map, get_or, slice_get, nat_eq, Option, Some}
 use Rattle.std.specs.Borrow.{Bor}
 use Rattle.tc_model.specs.Views as see
 use Rattle.tc_model.specs.Sheets.{Path}
@@ -9,8 +9,25 @@ use Rattle.tc_model.specs.PathStates.{State}
 use Rattle.tc_model.specs.declared.sheet.Test.{Test}
 use Rattle.tc_model.specs.declared.tree.Name.{Name}
 use Rattle.tc_rules.specs.Once.{put_all}
-use Rattle.tc_rules.specs.Steps.{path_fits}
+use Rattle.tc_rules.specs.Steps.{path_fits, path_having}
+use Rattle.tc_rules.specs.declared.rows.Sought.TheVariants.{Passes, Marked}
 use Rattle.tc_rules.specs.declared.graph.Source.{Source}
+
+-- which steps have predicates in a set, set by set
+abbrev pub marked_by : List (Bor Test) → Path → ℕ → List State
+marked_by numbered p sets = map (λ m. path_having numbered p (Marked m)) (numbers_below sets)
+
+-- the classes of symbols stand where their kinds are
+abbrev pub AreAt : List State → List ℕ → List State → Type 0
+AreAt kinds [] [] = Unit {0}
+AreAt kinds [] (x ∷ xs) = ⊥
+AreAt kinds (c ∷ cs) [] = ⊥
+AreAt kinds (c ∷ cs) (x ∷ xs) = (slice_get kinds c ≡ Some x) × AreAt kinds cs xs
+
+-- each symbol has a class, in the order in which classes are first met, and the kind of the class is which node tests pass the symbol
+pub record AreKinds (numbered : List (Bor Test)) (p : Path) (names : List Name) (kinds : List State) (classes : List ℕ) : Type 0 where
+  pub at : AreAt kinds classes (map (λ n. path_having numbered p (Passes (Some n))) names)
+  pub order : put_all nat_eq [] classes ≡ numbers_below (length kinds)
 
 module _ (numbered : List (Bor Test)) (p : Path) (sets : ℕ) where
   -- which steps of a path fit an element of a name, or a text, set by set

@@ -4,7 +4,7 @@ use Rattle.std.specs.List.{position}
 use Rattle.tc_model.specs.Sheets.{Path}
 use Rattle.tc_model.specs.PathStates.{State, same_state}
 use Rattle.tc_rules.specs.Once.{put_all}
-use Rattle.tc_rules.specs.Steps.{next_state}
+use Rattle.tc_rules.specs.Steps.{next_state, both_states}
 use Rattle.tc_model.specs.StateCounts.{all_count, some_item}
 use Rattle.tc_rules.specs.declared.graph.Counts.{Counts}
 use Rattle.tc_rules.specs.declared.graph.Counts.TheVariants.{All, SomeItem}
@@ -17,6 +17,14 @@ counted SomeItem = some_item
 -- where a state leads, by which steps fit the letters, class by class
 abbrev pub leads_by : Path → List (List State) → State → List State
 leads_by p fits x = flat_map (λ class. map (λ f. next_state p f x) class) fits
+
+-- those of one class, by which steps fit it and which predicates hold
+abbrev pub leads_by_class : Path → State → List State → State → List State
+leads_by_class p kind marked x = map (λ f. next_state p f x) (map (both_states kind) marked)
+
+-- of two lists of states the same ones are put to others, in the same order
+abbrev pub AreAlike : List State → List State → Type 0
+AreAlike xs ys = (counts : State → Bool) (s : List State) → put_all same_state s (filter counts xs) ≡ put_all same_state s (filter counts ys)
 
 -- the number of a state
 abbrev pub number_in : List State → State → Option ℕ

@@ -3,8 +3,12 @@ use Rattle.std.specs.Prelude.{ℕ, List, map, Option}
 use Rattle.std.specs.Global.{Vec}
 use Rattle.tc_model.specs.PathStates.{State}
 use Rattle.tc_rules.specs.Graphs as g
+use Rattle.tc_rules.specs.Steps.{both_states}
 use Rattle.tc_rules.specs.declared.rows.Row.{Row}
 use Rattle.tc_rules.specs.declared.graph.Graph.{Graph}
+use Rattle.tc_rules.specs.declared.graph.Leads.{Leads}
+use Rattle.tc_rules.specs.declared.graph.Leads.TheVariants.{Alike, BySet}
+use Rattle.tc_rules.specs.declared.graph.Letters.{Letters}
 
 abbrev pub state : Row → State
 state r = map (λ v. v.items) r.alternatives.items
@@ -12,22 +16,34 @@ state r = map (λ v. v.items) r.alternatives.items
 abbrev pub states : List Row → List State
 states rs = map state rs
 
-abbrev pub rows_of_classes : List (Vec Row) → List (List State)
-rows_of_classes xs = map (λ v. states v.items) xs
+-- which steps fit each class with each set of predicates, and a text
+abbrev pub fits_by : List State → List State → List (List State)
+fits_by kinds marked = map (λ k. map (both_states k) marked) kinds
 
-abbrev pub leads_of_classes : List (Vec (Option ℕ)) → List (List (Option ℕ))
-leads_of_classes xs = map (λ v. v.items) xs
+abbrev pub fits : Letters → List (List State)
+fits l = fits_by (states l.kinds.keys) (states l.marked.items)
 
-abbrev pub leads_of_states : List (Vec (Vec (Option ℕ))) → List (List (List (Option ℕ)))
-leads_of_states xs = map (λ v. leads_of_classes v.items) xs
+abbrev pub texts : Letters → List State
+texts l = map (both_states (state l.text)) (states l.marked.items)
+
+-- where a state leads by the letters of a class, set by set
+abbrev pub leads : List State → Leads → List (Option ℕ)
+leads marked (Alike k) = map (λ m. k) marked
+leads marked (BySet ks) = ks.items
+
+abbrev pub leads_of_classes : List State → List Leads → List (List (Option ℕ))
+leads_of_classes marked xs = map (leads marked) xs
+
+abbrev pub leads_of_states : List State → List (Vec Leads) → List (List (List (Option ℕ)))
+leads_of_states marked xs = map (λ v. leads_of_classes marked v.items) xs
 
 abbrev pub graph : Graph → g.Graph
 graph x = record {
   states = states x.states.keys;
-  classes = x.classes.items;
-  fits = rows_of_classes x.fits.items;
-  texts = states x.texts.items;
-  next = leads_of_states x.next.items;
+  classes = x.letters.classes.items;
+  fits = fits x.letters;
+  texts = texts x.letters;
+  next = leads_of_states (states x.letters.marked.items) x.next.items;
 }
 
 abbrev pub graphs : List Graph → List g.Graph

@@ -3,6 +3,7 @@ use Rattle.std.specs.Prelude.{ℕ, List, [], ◌∷◌, Bool, true, false, ◌&&
 use Rattle.std.specs.Borrow.{Bor}
 use Rattle.tc_model.specs.Trees.{none}
 use Rattle.tc_model.specs.Chains.{an_element, a_text, Tree}
+use Rattle.tc_model.specs.Sheets as s
 use Rattle.tc_model.specs.Sheets.{NodeTest, Steps, no_step, step, Path, no_alternative, alternative}
 use Rattle.tc_model.specs.Paths.{passes}
 use Rattle.tc_model.specs.Views as see
@@ -11,7 +12,8 @@ use Rattle.tc_model.specs.PathStates.{Items, State, first_items, no_items}
 use Rattle.tc_model.specs.declared.tree.Name.{Name}
 use Rattle.tc_model.specs.declared.sheet.Test.{Test}
 use Rattle.tc_rules.specs.Views.{predicates}
-use Rattle.tc_rules.specs.declared.rows.Letter.{Letter}
+use Rattle.tc_rules.specs.declared.rows.Sought.{Sought}
+use Rattle.tc_rules.specs.declared.rows.Sought.TheVariants.{Passes, Marked}
 
 -- an element of this name, or a text
 abbrev pub tree_named : Option Name → Tree
@@ -21,14 +23,32 @@ tree_named None = a_text (codes "t")
 abbrev pub passes_name : NodeTest → Option Name → Bool
 passes_name t n = passes t (tree_named n)
 
+-- a letter by a name of its symbol, or none of a text
+pub record NamedLetter : Type 0 where
+  pub name : Option Name
+  pub marks : ℕ
+
 module _ (numbered : List (Bor Test)) where
-  abbrev pub steps_fit : Steps → Letter → Items
+  abbrev pub steps_fit : Steps → NamedLetter → Items
   steps_fit no_step l = []
   steps_fit (step deep test when ss) l = (passes_name test l.name && is_marked [] (predicates numbered) when l.marks) ∷ steps_fit ss l
 
-  abbrev pub path_fits : Path → Letter → State
+  abbrev pub path_fits : Path → NamedLetter → State
   path_fits no_alternative l = []
   path_fits (alternative ss p) l = steps_fit ss l ∷ path_fits p l
+
+  -- what is asked of a step
+  abbrev pub step_has : NodeTest → s.Test → Sought → Bool
+  step_has test when (Passes name) = passes_name test name
+  step_has test when (Marked marks) = is_marked [] (predicates numbered) when marks
+
+  abbrev pub steps_having : Steps → Sought → Items
+  steps_having no_step x = []
+  steps_having (step deep test when ss) x = step_has test when x ∷ steps_having ss x
+
+  abbrev pub path_having : Path → Sought → State
+  path_having no_alternative x = []
+  path_having (alternative ss p) x = steps_having ss x ∷ path_having p x
 
 abbrev pub first_or_false : Items → Bool
 first_or_false [] = false
@@ -44,11 +64,41 @@ further no_step fits comes items = []
 further (step deep test when ss) fits comes items =
     ((first_or_false items && deep) || comes) ∷ further ss (after_first fits) (first_or_false items && first_or_false fits) (after_first items)
 
+abbrev pub first_or_none : State → Items
+first_or_none [] = []
+first_or_none (items ∷ row) = items
+
+abbrev pub after_alternative : State → State
+after_alternative [] = []
+after_alternative (items ∷ row) = row
+
+-- no step of an alternative fits that is left out
 abbrev pub next_state : Path → State → State → State
 next_state no_alternative fits row = []
-next_state (alternative ss p) [] row = []
-next_state (alternative ss p) (f ∷ fits) [] = []
-next_state (alternative ss p) (f ∷ fits) (items ∷ row) = further ss f false items ∷ next_state p fits row
+next_state (alternative ss p) fits [] = []
+next_state (alternative ss p) fits (items ∷ row) = further ss (first_or_none fits) false items ∷ next_state p (after_alternative fits) row
+
+abbrev pub has_step : Steps → Bool
+has_step no_step = false
+has_step (step deep test when ss) = true
+
+-- an item moves on from a step to the next
+abbrev pub item_moves : Steps → Items → Items → Bool
+item_moves no_step fits items = false
+item_moves (step deep test when ss) fits items = (has_step ss && (first_or_false items && first_or_false fits)) || item_moves ss (after_first fits) (after_first items)
+
+abbrev pub some_item_moves : Path → State → State → Bool
+some_item_moves no_alternative fits row = false
+some_item_moves (alternative ss p) fits row = item_moves ss (first_or_none fits) (first_or_none row) || some_item_moves p (after_alternative fits) (after_alternative row)
+
+-- what both have
+abbrev pub both_items : Items → Items → Items
+both_items [] cs = []
+both_items (b ∷ bs) cs = (b && first_or_false cs) ∷ both_items bs (after_first cs)
+
+abbrev pub both_states : State → State → State
+both_states [] y = []
+both_states (items ∷ x) y = both_items items (first_or_none y) ∷ both_states x (after_alternative y)
 
 -- the last is true
 abbrev pub ends_true : Items → Bool

@@ -1,5 +1,5 @@
 // The states of a path by number, and how they lead to one another.
-ghost use Rattle.std.specs.Prelude.{◌≡◌, ◌<◌, ◌≤◌, ◌^◌, ◌++◌, ◌∷◌, ◌==◌, ℕ, List, [], Bool, true, not, Option, Some, length, map, drop, slice_get, get_or, filter, if◌then◌else◌, IfOk, OnOk};
+ghost use Rattle.std.specs.Prelude.{◌≡◌, ◌<◌, ◌≤◌, ◌^◌, ◌++◌, ◌∷◌, ◌==◌, ℕ, List, [], Bool, not, ◌||◌, false, None, Option, Some, length, map, take, drop, slice_get, option_map, filter, if◌then◌else◌, IfOk, OnOk};
 ghost use Rattle.std.specs.List.{list_any};
 ghost use Rattle.std.specs.Option.{IsSomeAnd};
 ghost use Rattle.std.specs.Result.{IsErrOf};
@@ -9,31 +9,48 @@ ghost use Rattle.tc_model.specs.PathStates as p;
 ghost use Rattle.tc_model.specs.PathStates.{State, same_state, first_state};
 ghost use Rattle.tc_model.specs.Views as see;
 ghost use Rattle.tc_model.specs.Symbols.{Mention};
-ghost use Rattle.tc_rules.specs.Classes.{fits_of, AreClasses, IsSourceOf};
+ghost use Rattle.tc_rules.specs.Classes.{fits_of, marked_by, AreKinds, AreClasses, IsSourceOf};
 ghost use Rattle.tc_rules.specs.Graphs.{class_of, fits_at, kind_at, next_at, IsGraphOf};
 ghost use Rattle.tc_rules.specs.Once.{put_once, put_all};
-ghost use Rattle.tc_rules.specs.Reached.{counted, leads_by, leads_of, rounds, number_in, numbers_by, all_numbers_by, AreReached};
+ghost use Rattle.tc_rules.specs.Reached.{AreAlike, counted, leads_by, leads_by_class, leads_of, rounds, number_in, numbers_by, all_numbers_by, AreReached};
 ghost use Rattle.tc_rules.specs.Rows as seen;
 ghost use Rattle.tc_rules.specs.Views.{predicates};
-ghost use Rattle.tc_rules.specs.Steps.{path_fits, next_state, some_ends, ends_at};
+ghost use Rattle.tc_rules.specs.Steps.{both_states, path_having, next_state, some_ends, ends_at};
 
-use crate::rows::{Letter, Row, first_row, letter_fits, next_row};
+use crate::rows::{Row, Sought, first_row, next_row, no_fits, row_having, some_item_moves};
 use indexmap::IndexSet;
 use std::alloc::Global;
+use std::slice::from_ref;
 use tc_base::NoMemory;
 use tc_model::{Name, Step, Test};
 
-/// The states of a path, each by its number, and tables of where they lead.
+/// What the states of a path see of letters: the steps that fit a letter are those that fit its symbol, or a text, and whose
+/// predicates are among its marks.
+#[derive(Drop)]
+pub(crate) struct Letters {
+    /// The class of each symbol: the node tests of the path can't tell symbols of one class apart.
+    pub(crate) classes: Vec<usize>,
+    /// The steps whose node tests fit each class, and a text.
+    pub(crate) kinds: IndexSet<Row>,
+    pub(crate) text: Row,
+    /// The steps whose predicates are in a set, for each set.
+    pub(crate) marked: Vec<Row>,
+}
+
+/// The numbers of the states to which a state leads by the letters of a class: the same one for all of them, or one for each set
+/// of predicates.
+#[derive(Drop)]
+pub(crate) enum Leads {
+    Alike(Option<u32>),
+    BySet(Vec<Option<u32>>),
+}
+
+/// The states of a path, each by its number, and where each of them leads, for each class.
 #[derive(Drop)]
 pub(crate) struct Graph {
     pub(crate) states: IndexSet<Row>,
-    /// The class of each symbol. The steps of the path can't tell symbols of one class apart.
-    pub(crate) classes: Vec<usize>,
-    /// Which steps fit an element, for each class and each set of predicates, and a text, for each set.
-    pub(crate) fits: Vec<Vec<Row>>,
-    pub(crate) texts: Vec<Row>,
-    /// Where each state leads, for each class and each set.
-    pub(crate) next: Vec<Vec<Vec<Option<u32>>>>,
+    pub(crate) letters: Letters,
+    pub(crate) next: Vec<Vec<Leads>>,
 }
 
 /// Why there is no graph.
@@ -68,98 +85,106 @@ pub(crate) struct Source<'a, 'b> {
 }
 
 impl<'a, 'b> Source<'a, 'b> {
-    /// Which steps fit an element of a name, or a text, for a set of predicates.
-    fn fits_letter(
-        &self,
-        path: &[&[Step<'_>]],
-        name: Option<Name<'_>>,
-        marks: u32,
-    ) -> Result<Row, NoMemory>
-        ensures { IfOk result (λ r. seen.state r ≡ path_fits self.now.predicates.items (see.alternatives path.now) (record { name = name.entry; marks = marks })) }
+    /// Which steps have what is asked.
+    fn row(&self, path: &[&[Step<'_>]], sought: Sought<'_>) -> Result<Row, NoMemory>
+        ensures { IfOk result (λ r. seen.state r ≡ path_having self.now.predicates.items (see.alternatives path.now) sought.entry) }
     {
-        let letter = Letter { name, marks };
-        letter_fits(self.alloc, &self.predicates, path, &letter)
+        row_having(self.alloc, &self.predicates, path, &sought)
     }
 
-    /// Which steps fit an element of a name, or a text, set by set.
-    #[tactic(auto, using(crate::proofs::GraphRows::fit_set))]
-    fn fits_of(&self, path: &[&[Step<'_>]], name: Option<Name<'_>>) -> Result<Vec<Row>, NoMemory>
-        ensures { IfOk result (λ w. seen.states w.items ≡ fits_of self.now.predicates.items (see.alternatives path.now) self.now.sets name.entry) }
+    /// Which steps have predicates in a set, set by set.
+    #[tactic(auto, using(crate::proofs::GraphRows::one_set))]
+    fn marked(&self, path: &[&[Step<'_>]]) -> Result<Vec<Row>, NoMemory>
+        ensures { IfOk result (λ w. seen.states w.items ≡ marked_by self.now.predicates.items (see.alternatives path.now) self.now.sets) }
     {
-        let mut fits = Vec::new(self.alloc);
+        let mut marked = Vec::new(self.alloc);
         for marks in 0..self.sets {
-            let row = self.fits_letter(path, name, marks)?;
-            fits.push(row)?;
+            let row = self.row(path, Sought::Marked(marks))?;
+            marked.push(row)?;
         }
-        Ok(fits)
+        Ok(marked)
     }
 
-    /// Which steps fit a class, set by set, if it is new.
-    fn keep_fits(
-        &self,
-        fits: &mut Vec<Vec<Row>>,
-        path: &[&[Step<'_>]],
-        name: Name<'_>,
-        new: bool,
-    ) -> Result<(), NoMemory>
-        ensures { OnOk result (seen.rows_of_classes fits.new.items ≡ (if new then (seen.rows_of_classes fits.old.items ++ fits_of self.now.predicates.items (see.alternatives path.now) self.now.sets (Some name.entry) ∷ []) else (seen.rows_of_classes fits.old.items))) }
+    /// The class of each symbol, and which node tests each class passes.
+    fn kinds(&self, path: &[&[Step<'_>]]) -> Result<Kinds, NoMemory>
+        ensures { IfOk result (λ k. AreKinds self.now.predicates.items (see.alternatives path.now) self.now.names.items (seen.states k.kinds.keys) k.classes.items) }
     {
-        if new {
-            let of_name = self.fits_of(path, Some(name))?;
-            fits.push(of_name)?;
-        }
-        Ok(())
-    }
-
-    /// The class of each symbol: which steps fit it where all predicates hold. And which steps fit each class, set by set.
-    fn classes(&self, path: &[&[Step<'_>]]) -> Result<Classes, NoMemory>
-        requires { self.now.sets ≡ 2 ^ length self.now.predicates.items }
-        ensures { IfOk result (λ c. AreClasses self.now.predicates.items (see.alternatives path.now) self.now.sets self.now.names.items c.classes.items (seen.rows_of_classes c.fits.items)) }
-    {
-        let marks = self.sets.saturating_sub(1);
         let mut kinds = IndexSet::new(self.alloc);
         let mut classes = Vec::new(self.alloc);
-        let mut fits = Vec::new(self.alloc);
         for name in &self.names {
-            let kind = self.fits_letter(path, Some(*name), marks)?;
-            let placed = insert_row(&mut kinds, kind)?;
-            self.keep_fits(&mut fits, path, *name, placed.is_new)?;
-            classes.push(placed.at)?;
+            let kind = self.row(path, Sought::Passes(Some(*name)))?;
+            let class = insert_row(&mut kinds, kind)?;
+            classes.push(class)?;
         }
-        Ok(Classes { classes, fits })
+        Ok(Kinds { classes, kinds })
     }
 
-    /// Adds the states to which a state leads by the letters of a class.
+    /// What the states of a path see of letters.
+    fn letters(&self, path: &[&[Step<'_>]]) -> Result<Letters, NoMemory>
+        ensures elements { IfOk result (λ l. AreClasses self.now.predicates.items (see.alternatives path.now) self.now.sets self.now.names.items l.classes.items (seen.fits l)) }
+        ensures texts { IfOk result (λ l. seen.texts l ≡ fits_of self.now.predicates.items (see.alternatives path.now) self.now.sets None) }
+    {
+        let text = self.row(path, Sought::Passes(None))?;
+        let marked = self.marked(path)?;
+        let Kinds { classes, kinds } = self.kinds(path)?;
+        Ok(Letters {
+            classes,
+            kinds,
+            text,
+            marked,
+        })
+    }
+
+    /// Adds the states to which a state leads by the letters of a class with these marks.
     #[tactic(auto, using(crate::proofs::GraphRows::led_by))]
     fn add_leads(
         &self,
         found: &mut Vec<Row>,
         path: &[&[Step<'_>]],
-        class: &[Row],
+        kind: &Row,
+        marked: &[Row],
         state: &Row,
     ) -> Result<(), NoMemory>
-        ensures { OnOk result (seen.states found.new.items ≡ seen.states found.old.items ++ map (λ f. next_state (see.alternatives path.now) f (seen.state state.now)) (seen.states class.now)) }
+        ensures { OnOk result (seen.states found.new.items ≡ seen.states found.old.items ++ leads_by_class (see.alternatives path.now) (seen.state kind.now) (seen.states marked.now) (seen.state state.now)) }
     {
-        for fits in class {
-            let next = next_row(self.alloc, path, fits, state)?;
+        for marks in marked {
+            let next = self.lead(path, kind, marks, state)?;
             found.push(next)?;
         }
         Ok(())
     }
 
-    /// The states to which a state leads, class by class and set by set.
-    #[tactic(auto, using(crate::proofs::GraphRows::led_by_class))]
+    /// The state to which a state leads by a letter.
+    fn lead(
+        &self,
+        path: &[&[Step<'_>]],
+        kind: &Row,
+        marks: &Row,
+        state: &Row,
+    ) -> Result<Row, NoMemory>
+        ensures { IfOk result (λ r. seen.state r ≡ next_state (see.alternatives path.now) (both_states (seen.state kind.now) (seen.state marks.now)) (seen.state state.now)) }
+    {
+        let fits = kind.both(self.alloc, marks)?;
+        next_row(self.alloc, path, &fits, state)
+    }
+
+    /// The states to which a state leads, class by class and set by set, but not again that to which it leads where no item moves
+    /// on.
     fn leads_of(
         &self,
         path: &[&[Step<'_>]],
-        letters: &[Vec<Row>],
+        letters: &Letters,
         state: &Row,
     ) -> Result<Vec<Row>, NoMemory>
-        ensures { IfOk result (λ w. seen.states w.items ≡ leads_by (see.alternatives path.now) (seen.rows_of_classes letters.now) (seen.state state.now)) }
+        ensures { IfOk result (λ w. AreAlike (seen.states w.items) (leads_by (see.alternatives path.now) (seen.fits letters.now) (seen.state state.now))) }
     {
         let mut found = Vec::new(self.alloc);
-        for class in letters {
-            self.add_leads(&mut found, path, class, state)?;
+        let mut stays = false;
+        for kind in letters.kinds.as_slice() {
+            let moves = some_item_moves(path, kind, state);
+            let marked = worth_looking_at(&letters.marked, moves, stays);
+            self.add_leads(&mut found, path, kind, marked, state)?;
+            stays = has_stayed(stays, moves);
         }
         Ok(found)
     }
@@ -169,12 +194,12 @@ impl<'a, 'b> Source<'a, 'b> {
         &self,
         states: &mut IndexSet<Row>,
         path: &[&[Step<'_>]],
-        letters: &[Vec<Row>],
+        letters: &Letters,
         counts: Counts,
         number: usize,
     ) -> Result<(), NoMemory>
         requires { number < length states.old.keys }
-        ensures { OnOk result ((x : State) → slice_get (seen.states states.old.keys) number ≡ Some x → seen.states states.new.keys ≡ put_all same_state (seen.states states.old.keys) (filter (counted counts) (leads_by (see.alternatives path.now) (seen.rows_of_classes letters.now) x))) }
+        ensures { OnOk result ((x : State) → slice_get (seen.states states.old.keys) number ≡ Some x → seen.states states.new.keys ≡ put_all same_state (seen.states states.old.keys) (filter (counted counts) (leads_by (see.alternatives path.now) (seen.fits letters.now) x))) }
     {
         let state = &states.as_slice()[number];
         let found = self.leads_of(path, letters, state)?;
@@ -186,12 +211,12 @@ impl<'a, 'b> Source<'a, 'b> {
         &self,
         states: &mut IndexSet<Row>,
         path: &[&[Step<'_>]],
-        letters: &[Vec<Row>],
+        letters: &Letters,
         counts: Counts,
         from: usize,
     ) -> Result<(), NoMemory>
         requires { from ≤ length states.old.keys }
-        ensures { OnOk result (seen.states states.new.keys ≡ put_all same_state (seen.states states.old.keys) (leads_of (counted counts) (leads_by (see.alternatives path.now) (seen.rows_of_classes letters.now)) (drop from (seen.states states.old.keys)))) }
+        ensures { OnOk result (seen.states states.new.keys ≡ put_all same_state (seen.states states.old.keys) (leads_of (counted counts) (leads_by (see.alternatives path.now) (seen.fits letters.now)) (drop from (seen.states states.old.keys)))) }
     {
         let end = states.len();
         for number in from..end {
@@ -204,13 +229,13 @@ impl<'a, 'b> Source<'a, 'b> {
     fn reached(
         &self,
         path: &[&[Step<'_>]],
-        letters: &[Vec<Row>],
+        letters: &Letters,
         counts: Counts,
         most: usize,
     ) -> Result<IndexSet<Row>, GraphFault>
-        ensures all { IfOk result (λ x. AreReached (counted counts) (leads_by (see.alternatives path.now) (seen.rows_of_classes letters.now)) (first_state (see.alternatives path.now)) (seen.states x.keys)) }
+        ensures all { IfOk result (λ x. AreReached (counted counts) (leads_by (see.alternatives path.now) (seen.fits letters.now)) (first_state (see.alternatives path.now)) (seen.states x.keys)) }
         ensures few { IfOk result (λ x. length x.keys ≤ most) }
-        ensures many { IsErrOf result GraphFault.TooManyStates → (m : ℕ) × (most < length (rounds (counted counts) (leads_by (see.alternatives path.now) (seen.rows_of_classes letters.now)) m (filter (counted counts) (first_state (see.alternatives path.now) ∷ [])))) }
+        ensures many { IsErrOf result GraphFault.TooManyStates → (m : ℕ) × (most < length (rounds (counted counts) (leads_by (see.alternatives path.now) (seen.fits letters.now)) m (filter (counted counts) (first_state (see.alternatives path.now) ∷ [])))) }
     {
         let mut states = IndexSet::new(self.alloc);
         let first = first_row(self.alloc, path)?;
@@ -227,41 +252,86 @@ impl<'a, 'b> Source<'a, 'b> {
         Ok(states)
     }
 
-    /// The numbers of the states to which a state leads, set by set.
+    /// The numbers of the states to which a state leads by the letters of a class, set by set.
     #[tactic(auto, using(crate::proofs::GraphRows::numbered_set))]
-    fn numbers_of_class(
+    fn numbers_by_set(
         &self,
         path: &[&[Step<'_>]],
-        class: &[Row],
+        kind: &Row,
+        marked: &[Row],
         states: &IndexSet<Row>,
         state: &Row,
     ) -> Result<Vec<Option<u32>>, NoMemory>
         requires { length states.now.keys < 2 ^ 32 }
-        ensures { IfOk result (λ w. w.items ≡ map (λ f. number_in (seen.states states.now.keys) (next_state (see.alternatives path.now) f (seen.state state.now))) (seen.states class.now)) }
+        ensures { IfOk result (λ w. w.items ≡ map (number_in (seen.states states.now.keys)) (leads_by_class (see.alternatives path.now) (seen.state kind.now) (seen.states marked.now) (seen.state state.now))) }
     {
         let mut leads = Vec::new(self.alloc);
-        for fits in class {
-            let next = next_row(self.alloc, path, fits, state)?;
+        for marks in marked {
+            let next = self.lead(path, kind, marks, state)?;
             leads.push(number_of(states, &next))?;
         }
         Ok(leads)
     }
 
-    /// The same class by class.
+    /// The same, where the number is given of that to which it leads where no item moves on.
+    fn numbers_of_class(
+        &self,
+        path: &[&[Step<'_>]],
+        kind: &Row,
+        marked: &[Row],
+        states: &IndexSet<Row>,
+        state: &Row,
+        staying: Option<u32>,
+    ) -> Result<Leads, NoMemory>
+        requires few { length states.now.keys < 2 ^ 32 }
+        requires staying { staying ≡ number_in (seen.states states.now.keys) (next_state (see.alternatives path.now) [] (seen.state state.now)) }
+        ensures { IfOk result (λ l. seen.leads (seen.states marked.now) l ≡ map (number_in (seen.states states.now.keys)) (leads_by_class (see.alternatives path.now) (seen.state kind.now) (seen.states marked.now) (seen.state state.now))) }
+    {
+        if !some_item_moves(path, kind, state) {
+            return Ok(Leads::Alike(staying));
+        }
+        let numbers = self.numbers_by_set(path, kind, marked, states, state)?;
+        Ok(Leads::BySet(numbers))
+    }
+
+    /// The number of the state to which a state leads where no item moves on.
+    fn staying(
+        &self,
+        path: &[&[Step<'_>]],
+        states: &IndexSet<Row>,
+        state: &Row,
+    ) -> Result<Option<u32>, NoMemory>
+        requires { length states.now.keys < 2 ^ 32 }
+        ensures { IfOk result (λ k. k ≡ number_in (seen.states states.now.keys) (next_state (see.alternatives path.now) [] (seen.state state.now))) }
+    {
+        let fits = no_fits(self.alloc);
+        let next = next_row(self.alloc, path, &fits, state)?;
+        Ok(number_of(states, &next))
+    }
+
+    /// The numbers of the states to which a state leads, class by class.
     #[tactic(auto, using(crate::proofs::GraphRows::numbered_class))]
     fn numbers_of_state(
         &self,
         path: &[&[Step<'_>]],
-        letters: &[Vec<Row>],
+        letters: &Letters,
         states: &IndexSet<Row>,
         state: &Row,
-    ) -> Result<Vec<Vec<Option<u32>>>, NoMemory>
+    ) -> Result<Vec<Leads>, NoMemory>
         requires { length states.now.keys < 2 ^ 32 }
-        ensures { IfOk result (λ w. seen.leads_of_classes w.items ≡ numbers_by (see.alternatives path.now) (seen.rows_of_classes letters.now) (seen.states states.now.keys) (seen.state state.now)) }
+        ensures { IfOk result (λ w. seen.leads_of_classes (seen.states letters.now.marked.items) w.items ≡ numbers_by (see.alternatives path.now) (seen.fits letters.now) (seen.states states.now.keys) (seen.state state.now)) }
     {
+        let staying = self.staying(path, states, state)?;
         let mut leads = Vec::new(self.alloc);
-        for class in letters {
-            let of_class = self.numbers_of_class(path, class, states, state)?;
+        for kind in letters.kinds.as_slice() {
+            let of_class = self.numbers_of_class(
+                path,
+                kind,
+                &letters.marked,
+                states,
+                state,
+                staying,
+            )?;
             leads.push(of_class)?;
         }
         Ok(leads)
@@ -272,11 +342,11 @@ impl<'a, 'b> Source<'a, 'b> {
     fn numbers(
         &self,
         path: &[&[Step<'_>]],
-        letters: &[Vec<Row>],
+        letters: &Letters,
         states: &IndexSet<Row>,
-    ) -> Result<Vec<Vec<Vec<Option<u32>>>>, NoMemory>
+    ) -> Result<Vec<Vec<Leads>>, NoMemory>
         requires { length states.now.keys < 2 ^ 32 }
-        ensures { IfOk result (λ w. seen.leads_of_states w.items ≡ all_numbers_by (see.alternatives path.now) (seen.rows_of_classes letters.now) (seen.states states.now.keys)) }
+        ensures { IfOk result (λ w. seen.leads_of_states (seen.states letters.now.marked.items) w.items ≡ all_numbers_by (see.alternatives path.now) (seen.fits letters.now) (seen.states states.now.keys)) }
     {
         let mut leads = Vec::new(self.alloc);
         for state in states.as_slice() {
@@ -303,25 +373,39 @@ impl<'a, 'b> Source<'a, 'b> {
         ensures few { IfOk result (λ g. length (seen.graph g).states ≤ most) }
         ensures many { IsErrOf result GraphFault.TooManyStates → (symbols : List Mention) → IsSourceOf symbols self.now → (m : ℕ) × (most < length (n.rounds (counted counts) (p.next_state symbols (predicates self.now.predicates.items) (see.alternatives path.now)) (n.letters_of_elements symbols (predicates self.now.predicates.items)) m (filter (counted counts) (first_state (see.alternatives path.now) ∷ [])))) }
     {
-        let Classes { classes, fits } = self.classes(path)?;
-        let texts = self.fits_of(path, None)?;
-        let states = self.reached(path, &fits, counts, most)?;
-        let next = self.numbers(path, &fits, &states)?;
+        let letters = self.letters(path)?;
+        let states = self.reached(path, &letters, counts, most)?;
+        let next = self.numbers(path, &letters, &states)?;
         Ok(Graph {
             states,
-            classes,
-            fits,
-            texts,
+            letters,
             next,
         })
     }
 }
 
-/// The class of each symbol, and which steps fit each class, set by set.
+/// The class of each symbol, and which steps fit each class by their node tests.
 #[derive(Drop)]
-struct Classes {
+struct Kinds {
     classes: Vec<usize>,
-    fits: Vec<Vec<Row>>,
+    kinds: IndexSet<Row>,
+}
+
+/// The sets of predicates that a class is looked at with: where no item of a state moves on, all lead to the same state, and one is
+/// enough, unless that state was found before.
+fn worth_looking_at(marked: &[Row], moves: bool, found: bool) -> &[Row]
+    ensures { result.now ≡ (if moves then marked.now else (if found then [] else take 1 marked.now)) }
+{
+    if moves {
+        return marked;
+    }
+    if found {
+        return &[];
+    }
+    match marked.first() {
+        Some(first) => from_ref(first),
+        None => &[],
+    }
 }
 
 /// Which states count: all, or those with an item.
@@ -343,25 +427,31 @@ impl Counts {
     }
 }
 
-/// The number of a row, and whether it is new.
-#[derive(Clone, Copy)]
-struct Placed {
-    at: usize,
-    is_new: bool,
+/// Whether no item moved on before or now.
+fn has_stayed(before: bool, moves: bool) -> bool
+    ensures { result ≡ (before || not moves) }
+{
+    before || !moves
 }
 
-/// Puts a row last, unless it is there.
-fn insert_row(rows: &mut IndexSet<Row>, row: Row) -> Result<Placed, NoMemory>
-    ensures keys { OnOk result (seen.states rows.new.keys ≡ put_once same_state (seen.states rows.old.keys) (seen.state row)) }
-    ensures is_new { IfOk result (λ r. r.is_new ≡ not (list_any (same_state (seen.state row)) (seen.states rows.old.keys))) }
-    ensures place { IfOk result (λ r. slice_get (seen.states rows.new.keys) r.at ≡ Some (seen.state row)) }
-    ensures last { IfOk result (λ r. r.is_new ≡ true → r.at ≡ length rows.old.keys) }
+/// What stands in a list for a set of predicates.
+fn lead_at(leads: &[Option<u32>], marks: u32) -> Option<u32>
+    ensures { (j : Option ℕ) → slice_get leads.now marks ≡ Some j → result ≡ j }
 {
-    let inserted = rows.insert_full(row)?;
-    Ok(Placed {
-        at: inserted.0,
-        is_new: inserted.1,
-    })
+    match leads.get(marks as usize) {
+        Some(lead) => *lead,
+        None => None,
+    }
+}
+
+/// Puts a row last, unless it is there, and gives its number.
+fn insert_row(rows: &mut IndexSet<Row>, row: Row) -> Result<usize, NoMemory>
+    ensures keys { OnOk result (seen.states rows.new.keys ≡ put_once same_state (seen.states rows.old.keys) (seen.state row)) }
+    ensures place { IfOk result (λ at. slice_get (seen.states rows.new.keys) at ≡ Some (seen.state row)) }
+    ensures last { IfOk result (λ at. list_any (same_state (seen.state row)) (seen.states rows.old.keys) ≡ false → at ≡ length (seen.states rows.old.keys)) }
+{
+    let (at, _is_new) = rows.insert_full(row)?;
+    Ok(at)
 }
 
 /// One more state, if it counts and isn't there.
@@ -422,30 +512,28 @@ impl Graph {
     fn class_of(&self, symbol: u32) -> usize
         ensures { result ≡ class_of (seen.graph self.now) symbol }
     {
-        match self.classes.get(symbol as usize) {
+        match self.letters.classes.get(symbol as usize) {
             Some(class) => *class,
             None => 0,
         }
     }
 
-    /// Which steps fit an element of a symbol, set by set.
-    fn fits_of_symbol(&self, symbol: u32) -> &[Row]
-        ensures { seen.states result.now ≡ get_or (seen.graph self.now).fits (class_of (seen.graph self.now) symbol) [] }
+    /// The steps whose node tests fit an element of a symbol, or a text.
+    fn kind(&self, symbol: Option<u32>) -> Option<&Row>
+        ensures element { (k : ℕ) → symbol ≡ Some k → option_map (λ r. seen.state r.now) result ≡ slice_get (seen.states self.now.letters.kinds.keys) (class_of (seen.graph self.now) k) }
+        ensures text { symbol ≡ None → option_map (λ r. seen.state r.now) result ≡ Some (seen.state self.now.letters.text) }
     {
-        match self.fits.get(self.class_of(symbol)) {
-            Some(rows) => rows,
-            None => &[],
+        match symbol {
+            Some(symbol) => self.letters.kinds.get_index(self.class_of(symbol)),
+            None => Some(&self.letters.text),
         }
     }
 
-    /// Which steps fit a letter.
-    fn fits(&self, symbol: Option<u32>, marks: u32) -> Option<&Row>
-        ensures { (x : State) → fits_at (seen.graph self.now) (record { kind = kind_at symbol; marks = marks }) ≡ Some x → IsSomeAnd result (λ r. seen.state r.now ≡ x) }
+    /// The steps whose predicates are in a set.
+    fn marked(&self, marks: u32) -> Option<&Row>
+        ensures { option_map (λ r. seen.state r.now) result ≡ slice_get (seen.states self.now.letters.marked.items) marks }
     {
-        match symbol {
-            Some(symbol) => self.fits_of_symbol(symbol).get(marks as usize),
-            None => self.texts.get(marks as usize),
-        }
+        self.letters.marked.get(marks as usize)
     }
 
     /// The number of the state to which a state leads, if it counts.
@@ -458,9 +546,9 @@ impl Graph {
         let Some(of_class) = of_state.get(self.class_of(symbol)) else {
             return None;
         };
-        match of_class.get(marks as usize) {
-            Some(lead) => *lead,
-            None => None,
+        match of_class {
+            Leads::Alike(lead) => *lead,
+            Leads::BySet(leads) => lead_at(leads, marks),
         }
     }
 
@@ -471,10 +559,13 @@ impl Graph {
         let Some(row) = self.states.get_index(number as usize) else {
             return false;
         };
-        let Some(fits) = self.fits(symbol, marks) else {
+        let Some(kind) = self.kind(symbol) else {
             return false;
         };
-        row.hits(fits)
+        let Some(marked) = self.marked(marks) else {
+            return false;
+        };
+        row.hits(kind, marked)
     }
 
     /// Whether it is one by the alternative of this number.
@@ -490,9 +581,12 @@ impl Graph {
         let Some(row) = self.states.get_index(number as usize) else {
             return false;
         };
-        let Some(fits) = self.fits(symbol, marks) else {
+        let Some(kind) = self.kind(symbol) else {
             return false;
         };
-        row.ends(fits, alternative as usize)
+        let Some(marked) = self.marked(marks) else {
+            return false;
+        };
+        row.ends(kind, marked, alternative as usize)
     }
 }

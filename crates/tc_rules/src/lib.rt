@@ -12,8 +12,6 @@ mod once;
 mod rows;
 mod rules;
 mod same;
-#[cfg(test)]
-mod tests;
 mod walk;
 
 pub use rules::{Found, Kind, Marks, Rules, RulesFault};

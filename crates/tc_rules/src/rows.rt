@@ -1,5 +1,5 @@
 // Rows of truth values: path states, and which steps fit a letter.
-ghost use Rattle.std.specs.Prelude.{◌≡◌, ◌&&◌, ◌||◌, [], false, None, Some, slice_get, get_or, IfOk, MatchOption};
+ghost use Rattle.std.specs.Prelude.{◌≡◌, ◌+◌, ◌<◌, ◌&&◌, ◌||◌, [], false, None, Some, drop, length, slice_get, get_or, IfOk, MatchOption};
 ghost use Rattle.std.specs.List.{list_any};
 ghost use Rattle.tc_model.specs.Letters as l;
 ghost use Rattle.tc_model.specs.PathStates as p;
@@ -19,11 +19,12 @@ pub(crate) struct Row {
     pub(crate) alternatives: Vec<Vec<bool>>,
 }
 
-/// A letter: a name of the symbol of an element, or that it is a text, and the predicates that hold.
+/// What is asked of each step: whether an element of this name, or a text, passes its node test, or whether its predicate is in
+/// this set.
 #[derive(Clone, Copy)]
-pub(crate) struct Letter<'a> {
-    pub(crate) name: Option<Name<'a>>,
-    pub(crate) marks: u32,
+pub(crate) enum Sought<'a> {
+    Passes(Option<Name<'a>>),
+    Marked(u32),
 }
 
 /// Whether an element of this name, or a text, passes a node test.
@@ -56,47 +57,59 @@ fn has_mark(marks: u32, number: usize) -> bool
     number < 32 && marks >> number & 1 == 1
 }
 
-/// Whether a step fits a letter.
-fn step_fits(numbered: &[&Test<'_>], step: &Step<'_>, letter: &Letter<'_>) -> bool
-    ensures { result ≡ (v.passes_name (see.node_test step.now.test) letter.now.name && l.is_marked [] (predicates numbered.now) (see.test step.now.when) letter.now.marks) }
+/// Whether a step has what is asked.
+fn step_has(numbered: &[&Test<'_>], step: &Step<'_>, sought: &Sought<'_>) -> bool
+    ensures { result ≡ v.step_has numbered.now (see.node_test step.now.test) (see.test step.now.when) sought.now }
 {
-    passes(&step.test, &letter.name) && is_marked(numbered, &step.when, letter.marks)
+    match sought {
+        Sought::Passes(name) => passes(&step.test, name),
+        Sought::Marked(marks) => is_marked(numbered, &step.when, *marks),
+    }
 }
 
-/// Which of the steps fit a letter.
-#[tactic(auto, using(crate::proofs::RowSteps::fit_step))]
-fn steps_fit(
+/// Which of the steps have what is asked.
+#[tactic(auto, using(crate::proofs::RowSteps::one_step_having))]
+fn steps_having(
     alloc: Global,
     numbered: &[&Test<'_>],
     steps: &[Step<'_>],
-    letter: &Letter<'_>,
+    sought: &Sought<'_>,
 ) -> Result<Vec<bool>, NoMemory>
-    ensures { IfOk result (λ w. w.items ≡ v.steps_fit numbered.now (see.steps steps.now) letter.now) }
+    ensures { IfOk result (λ w. w.items ≡ v.steps_having numbered.now (see.steps steps.now) sought.now) }
 {
-    let mut fits = Vec::new(alloc);
+    let mut found = Vec::new(alloc);
     for step in steps {
-        let fit = step_fits(numbered, step, letter);
-        fits.push(fit)?;
+        let has = step_has(numbered, step, sought);
+        found.push(has)?;
     }
-    Ok(fits)
+    Ok(found)
 }
 
-/// Which steps of all alternatives fit a letter.
-#[tactic(auto, using(crate::proofs::RowSteps::fit_alternative))]
-pub(crate) fn letter_fits(
+/// Which steps of all alternatives have what is asked.
+#[tactic(auto, using(crate::proofs::RowSteps::one_alternative_having))]
+pub(crate) fn row_having(
     alloc: Global,
     numbered: &[&Test<'_>],
     path: &[&[Step<'_>]],
-    letter: &Letter<'_>,
+    sought: &Sought<'_>,
 ) -> Result<Row, NoMemory>
-    ensures { IfOk result (λ r. state r ≡ v.path_fits numbered.now (see.alternatives path.now) letter.now) }
+    ensures { IfOk result (λ r. state r ≡ v.path_having numbered.now (see.alternatives path.now) sought.now) }
 {
     let mut alternatives = Vec::new(alloc);
     for steps in path {
-        let fits = steps_fit(alloc, numbered, steps, letter)?;
-        alternatives.push(fits)?;
+        let found = steps_having(alloc, numbered, steps, sought)?;
+        alternatives.push(found)?;
     }
     Ok(Row { alternatives })
+}
+
+/// A row of no alternative: no step fits.
+pub(crate) fn no_fits(alloc: Global) -> Row
+    ensures { state result ≡ [] }
+{
+    Row {
+        alternatives: Vec::new(alloc),
+    }
 }
 
 /// No step of an alternative is taken.
@@ -162,7 +175,7 @@ fn next_items(
         let here = bit(items, k);
         let fit = bit(fits, k);
         next.push(stays(here, step.deep, comes))?;
-        comes = moves_on(here, fit);
+        comes = are_both(here, fit);
     }
     Ok(next)
 }
@@ -174,15 +187,14 @@ fn stays(here: bool, deep: bool, comes: bool) -> bool
     here && deep || comes
 }
 
-/// Whether an item moves on: it was there, and its step fits.
-fn moves_on(here: bool, fit: bool) -> bool
-    ensures { result ≡ (here && fit) }
+/// Whether both are true.
+fn are_both(first: bool, second: bool) -> bool
+    ensures { result ≡ (first && second) }
 {
-    here && fit
+    first && second
 }
 
 /// The state of a path one element further down.
-#[tactic(auto, using(crate::proofs::RowSteps::next_alternative, crate::proofs::RowSteps::no_fits_left, crate::proofs::RowSteps::no_items_left))]
 pub(crate) fn next_row(
     alloc: Global,
     path: &[&[Step<'_>]],
@@ -193,16 +205,67 @@ pub(crate) fn next_row(
 {
     let mut alternatives = Vec::new(alloc);
     for (i, steps) in path.iter().enumerate() {
-        let Some(fit) = fits.items_at(i) else {
-            return Ok(Row { alternatives });
-        };
         let Some(items) = row.items_at(i) else {
             return Ok(Row { alternatives });
         };
-        let next = next_items(alloc, steps, fit, items)?;
+        let next = next_items(alloc, steps, fits.items_or_none(i), items)?;
         alternatives.push(next)?;
     }
     Ok(Row { alternatives })
+}
+
+/// Whether the item of a step moves on to the next one, where these steps fit.
+fn moves_from(steps: &[Step<'_>], fits: &[bool], items: &[bool], step: usize) -> bool
+    requires { step < length steps.now }
+    ensures { result ≡ (v.has_step (see.steps (drop (step + 1) steps.now)) && (get_or items.now step false && get_or fits.now step false)) }
+{
+    step + 1 < steps.len() && are_both(bit(items, step), bit(fits, step))
+}
+
+/// Whether an item moves on from one of the steps to the next, where these steps fit.
+#[tactic(auto, using(crate::proofs::RowPairs::moves_here))]
+fn item_moves(steps: &[Step<'_>], fits: &[bool], items: &[bool]) -> bool
+    ensures { result ≡ v.item_moves (see.steps steps.now) fits.now items.now }
+{
+    for (k, _step) in steps.iter().enumerate() {
+        if moves_from(steps, fits, items, k) {
+            return true;
+        }
+    }
+    false
+}
+
+/// Whether an item of some alternative moves on from a step to the next, where these steps fit.
+#[tactic(auto, using(crate::proofs::RowPairs::alternatives_move))]
+pub(crate) fn some_item_moves(path: &[&[Step<'_>]], fits: &Row, row: &Row) -> bool
+    ensures { result ≡ v.some_item_moves (see.alternatives path.now) (state fits.now) (state row.now) }
+{
+    for (i, steps) in path.iter().enumerate() {
+        if item_moves(steps, fits.items_or_none(i), row.items_or_none(i)) {
+            return true;
+        }
+    }
+    false
+}
+
+/// The truth values that both have.
+#[tactic(auto, using(crate::proofs::RowPairs::both_item))]
+fn both_items(alloc: Global, items: &[bool], others: &[bool]) -> Result<Vec<bool>, NoMemory>
+    ensures { IfOk result (λ w. w.items ≡ v.both_items items.now others.now) }
+{
+    let mut both = Vec::new(alloc);
+    for k in 0..items.len() {
+        let has = are_both(bit(items, k), bit(others, k));
+        both.push(has)?;
+    }
+    Ok(both)
+}
+
+/// Whether the last of what both have is true.
+fn is_last_of_both(items: &[bool], others: &[bool]) -> bool
+    ensures { result ≡ v.ends_true (v.both_items items.now others.now) }
+{
+    is_last(items) && bit(others, items.len().saturating_sub(1))
 }
 
 /// Whether some item is there.
@@ -223,6 +286,28 @@ impl Row {
         }
     }
 
+    /// The values of an alternative, and none where there is no such alternative.
+    fn items_or_none(&self, alternative: usize) -> &[bool]
+        ensures { result.now ≡ get_or (state self.now) alternative [] }
+    {
+        match self.alternatives.get(alternative) {
+            Some(items) => items.as_slice(),
+            None => &[],
+        }
+    }
+
+    /// The truth values that both have.
+    pub(crate) fn both(&self, alloc: Global, other: &Row) -> Result<Row, NoMemory>
+        ensures { IfOk result (λ r. state r ≡ v.both_states (state self.now) (state other.now)) }
+    {
+        let mut alternatives = Vec::new(alloc);
+        for (i, items) in self.alternatives.iter().enumerate() {
+            let both = both_items(alloc, items, other.items_or_none(i))?;
+            alternatives.push(both)?;
+        }
+        Ok(Row { alternatives })
+    }
+
     /// Whether no item is left.
     #[tactic(auto, using(crate::proofs::RowSteps::empty_alternative))]
     pub(crate) fn is_empty(&self) -> bool
@@ -236,9 +321,9 @@ impl Row {
         true
     }
 
-    /// Whether the last step of an alternative fits, and all before it may have been taken.
-    pub(crate) fn ends(&self, fits: &Row, alternative: usize) -> bool
-        ensures { result ≡ v.ends_at (state self.now) (state fits.now) alternative }
+    /// Whether the last step of an alternative fits, being in both of these rows, and all before it may have been taken.
+    pub(crate) fn ends(&self, fits: &Row, marked: &Row, alternative: usize) -> bool
+        ensures { result ≡ v.ends_at (state self.now) (v.both_states (state fits.now) (state marked.now)) alternative }
     {
         let Some(items) = self.items_at(alternative) else {
             return false;
@@ -246,16 +331,16 @@ impl Row {
         let Some(fit) = fits.items_at(alternative) else {
             return false;
         };
-        is_last(items) && is_last(fit)
+        is_last(items) && is_last_of_both(fit, marked.items_or_none(alternative))
     }
 
     /// Whether some alternative ends.
     #[tactic(auto, using(crate::proofs::RowSteps::some_alternative))]
-    pub(crate) fn hits(&self, fits: &Row) -> bool
-        ensures { result ≡ v.some_ends (state self.now) (state fits.now) }
+    pub(crate) fn hits(&self, fits: &Row, marked: &Row) -> bool
+        ensures { result ≡ v.some_ends (state self.now) (v.both_states (state fits.now) (state marked.now)) }
     {
         for (i, _items) in self.alternatives.iter().enumerate() {
-            if self.ends(fits, i) {
+            if self.ends(fits, marked, i) {
                 return true;
             }
         }

@@ -17,8 +17,6 @@ mod letters;
 mod looks;
 mod output;
 mod runner;
-#[cfg(test)]
-mod tests;
 
 use bodies::root;
 use bumpalo::Bump;

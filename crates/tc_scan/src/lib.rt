@@ -5,8 +5,6 @@
 mod chars;
 mod front;
 mod names;
-#[cfg(test)]
-mod tests;
 
 pub use chars::{are_chars, characters};
 pub use front::{

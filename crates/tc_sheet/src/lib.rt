@@ -21,8 +21,6 @@ mod faults;
 mod numbering;
 mod tables;
 mod templates;
-#[cfg(test)]
-mod tests;
 mod written;
 
 use bumpalo::Bump;

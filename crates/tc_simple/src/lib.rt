@@ -21,8 +21,6 @@ mod links;
 mod loops;
 mod order;
 mod resolve;
-#[cfg(test)]
-mod tests;
 
 use bumpalo::Bump;
 pub use faults::SimpleFault;

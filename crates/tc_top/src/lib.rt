@@ -10,14 +10,8 @@ pub mod laws;
 mod program;
 mod read;
 mod run;
-#[cfg(test)]
-mod run_rows;
 mod status;
-#[cfg(test)]
-mod tests;
 mod valid;
-#[cfg(test)]
-mod validations;
 mod words;
 mod write;
 

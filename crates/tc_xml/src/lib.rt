@@ -18,8 +18,6 @@ mod references;
 mod scopes;
 mod stripping;
 mod tags;
-#[cfg(test)]
-mod tests;
 mod twice;
 
 use bumpalo::Bump;

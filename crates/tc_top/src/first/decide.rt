@@ -1,11 +1,10 @@
 // Whether what a constant sheet puts out is valid.
 ghost use Rattle.std.specs.Prelude.{◌≡◌, ◌↔◌, IsTrue};
-ghost use Rattle.tc_model.specs.Trees.{Trees, element as an_element};
 ghost use Rattle.tc_model.specs.Validity.{IsValidOutput};
 ghost use Rattle.tc_model.specs.Views as seen;
-ghost use Rattle.tc_model.specs.Views.{before, trees};
+ghost use Rattle.tc_model.specs.Views.{trees};
 ghost use Rattle.tc_top.specs.FirstFits as first_fits;
-ghost use Rattle.tc_top.specs.FirstForm.{grammar_of, plain_name, ArePlainElements};
+ghost use Rattle.tc_top.specs.FirstForm.{grammar_of, ArePlainElements};
 ghost use Rattle.tc_top.specs.FirstSeen.{schema, schema_from};
 ghost use Rattle.tc_top.specs.FirstSeen as first_seen;
 
@@ -60,60 +59,4 @@ pub fn is_valid_output(pattern: &Schema<'_>, body: &[Node<'_>]) -> bool
     ensures { IsTrue result ↔ IsValidOutput (grammar_of (schema pattern.now)) (trees body.now) }
 {
     body.len() == 1 && all_fit(pattern.name, &pattern.inner, body)
-}
-
-#[cfg(test)]
-mod tests {
-    use super::*;
-    use std::test::Fail;
-
-    #[tactic(auto, using(tc_model::proofs::Views::before_elem))]
-    fn element<'b>(local: &'b str, kids: &'b [Node<'b>]) -> Node<'b>
-        ensures { (rest : Trees) → before result rest ≡ an_element (plain_name local.now) (trees kids.now) rest }
-    {
-        Node::Elem(Name { uri: "", local }, kids)
-    }
-
-    #[test]
-    fn children_are_told_apart(rt: HostRuntime) -> Result<(), Fail> {
-        let inner = [element("x", &[])];
-        let body = [element("r", &inner)];
-        let mut any = Schema {
-            name: "r",
-            inner: Vec::new(rt.alloc()),
-        };
-        assert!(rt; !is_valid_output(&any, &body));
-        any.inner.push(Inner {
-            name: "x",
-            suffix: Suffix::ZeroOrMore,
-        })?;
-        assert!(rt; is_valid_output(&any, &body));
-        Ok(())
-    }
-
-    #[test]
-    fn children_are_counted(rt: HostRuntime) -> Result<(), Fail> {
-        let one = [element("r", &[])];
-        let mut some = Schema {
-            name: "r",
-            inner: Vec::new(rt.alloc()),
-        };
-        assert!(rt; is_valid_output(&some, &one));
-        some.inner.push(Inner {
-            name: "x",
-            suffix: Suffix::OneOrMore,
-        })?;
-        assert!(rt; !is_valid_output(&some, &one));
-        Ok(())
-    }
-
-    #[test]
-    fn a_document_has_one_root(rt: HostRuntime) {
-        let two = [element("r", &[]), element("r", &[])];
-        let empty = Schema {
-            name: "r",
-            inner: Vec::new(rt.alloc()),
-        };
-        assert!(rt; !is_valid_output(&empty, &two));
-    }
 }

@@ -42,33 +42,3 @@ fn least_element<'b, 't: 'b>(
         }
     }
 }
-
-#[cfg(test)]
-mod tests {
-    use super::*;
-    use std::test::Fail;
-    use tc_io::MemSink;
-    use tc_print::print;
-
-    #[test]
-    fn what_may_be_left_out_is_left_out(rt: HostRuntime) -> Result<(), Fail> {
-        let arena = Bump::new(rt.alloc());
-        let mut pattern = Schema {
-            name: "a",
-            inner: Vec::new(rt.alloc()),
-        };
-        pattern.inner.push(Inner {
-            name: "b",
-            suffix: Suffix::OneOrMore,
-        })?;
-        pattern.inner.push(Inner {
-            name: "c",
-            suffix: Suffix::Optional,
-        })?;
-        let document = least_document(&arena, &pattern)?;
-        let mut sink = MemSink::new(rt.alloc(), 50)?;
-        assert!(rt; print(&[document], &mut sink).is_ok());
-        assert!(rt; sink.bytes() == b"<a><b/></a>".as_slice());
-        Ok(())
-    }
-}

@@ -128,37 +128,3 @@ pub fn read_schema<'t>(alloc: Global, text: &'t [u8]) -> Result<Option<Schema<'t
     inner.reverse();
     Ok(Some(Schema { name, inner }))
 }
-
-#[cfg(test)]
-mod tests {
-    use super::*;
-    use std::test::Fail;
-
-    #[test]
-    fn reads_nested_patterns(rt: HostRuntime) -> Result<(), Fail> {
-        for (text, innermost) in [
-            ("element a { empty }", Some(None)),
-            (
-                "element r { element x { empty }* }",
-                Some(Some(Suffix::ZeroOrMore)),
-            ),
-            (
-                " element\na{element b{element c{empty} ?}+ } \n",
-                Some(Some(Suffix::Optional)),
-            ),
-            ("element a{element b{element c{empty}?}+?}", None),
-            ("element list{empty}", None),
-            ("element a{empty}?", None),
-            ("elementa{empty}", None),
-            ("element a1{empty}", None),
-        ] {
-            let found = read_schema(rt.alloc(), text.as_bytes());
-            assert!(rt; found.is_ok());
-            if let Ok(found) = found {
-                let suffix = found.map(|schema| schema.inner.last().map(|inner| inner.suffix));
-                assert_eq!(rt; suffix, innermost, "at {text}");
-            }
-        }
-        Ok(())
-    }
-}

@@ -1,4 +1,8 @@
-use Rattle.std.proofs.Common.{◌≡◌, ◌<◌, length, refl, arith, rules}
+use Rattle.std.proofs.Common.{◌≡◌, ◌<◌, List, length, get_or, refl, subst, arith, rules}
+use Rattle.std.proofs.lemmas.Option.{slice_get-get_or}
+use Rattle.tc_auto.specs.declared.rows.Row.{Row}
+use Rattle.tc_auto.specs.Arrows.{AreArrows, leaf_at}
+use Rattle.tc_auto.proofs.ArrowLists.{arrows_within}
 use Rattle.tc_model.specs.Views.{grammar}
 use Rattle.tc_auto.specs.Stands.{side_of}
 use Rattle.tc_auto.proofs.Bounds.{edges_within, begun_within, begun_below}
@@ -10,6 +14,12 @@ overflow_cast-first c =
     let low = rows_within c.args.grammar.now (side_of c.args.with_start) c.args.grammar.now.elements.now refl c.loop-element.element-index c.loop-element.firsts.items c.loop-element.rows.items c.loop-element.invariant in
     let same : c.len-first.result ≡ length c.loop-element.rows.items = search rules in
     let small : c.len-first.result < 4294967296 = omega (arith, c.requires) in
+    search rules
+
+pub overflow_cast-grammar : goal.overflow_cast-grammar
+overflow_cast-grammar c =
+    let few = elements_within c.args.grammar.now (side_of c.args.with_start) c.args.grammar.now.elements.now refl in
+    let small : length c.args.grammar.now.elements.now < 4294967296 = omega (arith, few, c.requires) in
     search rules
 
 pub push_part-requires : goal.push_part-requires
@@ -34,8 +44,12 @@ invariant_of-result c =
       numbered = omega (arith, few, c.requires);
       within = edges_within (grammar c.args.grammar.now) (side_of c.args.with_start) c.loop-element.firsts.items c.loop-element.rows.items all;
       begun = begun_within (grammar c.args.grammar.now) (side_of c.args.with_start) c.loop-element.firsts.items c.loop-element.rows.items all;
+      arrowed = c.in_ok-arrows.ensures.counted;
+      arrows_within = λ k d low.
+          arrows_within (grammar c.args.grammar.now) (side_of c.args.with_start) c.loop-element.firsts.items c.loop-element.rows.items all (leaf_at k) (get_or c.in_ok-arrows.arrows.items k d).items
+          (subst (λ (w : List Row). AreArrows w c.in_ok-arrows.arrows.items) c.deref.ensures.value c.in_ok-arrows.ensures.arrows k (get_or c.in_ok-arrows.arrows.items k d) (slice_get-get_or c.in_ok-arrows.arrows.items k d low));
       begun_below = begun_below (grammar c.args.grammar.now) (side_of c.args.with_start) c.loop-element.firsts.items c.loop-element.rows.items all;
     }
 
 pub returns : goal.returns
-returns c = record { start = refl; elements = refl; built = built_all c.args.grammar.now (side_of c.args.with_start) c.args.grammar.now.elements.now refl c.loop-element.element-index c.loop-element.firsts.items c.loop-element.rows.items c.loop-element-test.false c.loop-element.auto.element-index-end c.loop-element.invariant }
+returns c = record { start = refl; elements = refl; built = built_all c.args.grammar.now (side_of c.args.with_start) c.args.grammar.now.elements.now refl c.loop-element.element-index c.loop-element.firsts.items c.loop-element.rows.items c.loop-element-test.false c.loop-element.auto.element-index-end c.loop-element.invariant; arrows = subst (λ (w : List Row). AreArrows w c.in_ok-arrows.arrows.items) c.deref.ensures.value c.in_ok-arrows.ensures.arrows }

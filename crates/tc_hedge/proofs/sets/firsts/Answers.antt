@@ -4,21 +4,17 @@ use Rattle.tc_hedge.proofs.Gathers.{grows_push}
 use Rattle.tc_hedge.proofs.SetSteps.{all_grown, map_put, member, states_made}
 use Rattle.tc_hedge.proofs.sets.firsts.Goals as goal
 
-pub first_of_content-first-requires-clause-from_one : goal.first_of_content-first-requires-clause-from_one
-first_of_content-first-requires-clause-from_one c =
-    (member (λ k. (1 ≤ k) × (k ≤ length c.args.hedge.now.auto.elements.now)) c.args.numbers.now c.loop-number.number-index c.requires c.loop-number-test.true).0
-
-pub first_of_content-first-requires-clause-within : goal.first_of_content-first-requires-clause-within
-first_of_content-first-requires-clause-within c =
-    (member (λ k. (1 ≤ k) × (k ≤ length c.args.hedge.now.auto.elements.now)) c.args.numbers.now c.loop-number.number-index c.requires c.loop-number-test.true).1
+pub first-first-requires : goal.first-first-requires
+first-first-requires c =
+    (member (λ k. (1 ≤ k) × (k ≤ length c.args.automaton.now.elements.now)) c.args.numbers.now c.loop-number.number-index c.requires c.loop-number-test.true).1
 
 pub loop-number-preserved : goal.loop-number-preserved
 loop-number-preserved c = (
   λ side x st.
-      map_put (first_state x side) c.args.numbers.now c.loop-number.number-index (get_or c.args.numbers.now c.loop-number.number-index 0) c.first_of_content-first.result c.loop-number-test.true refl
-      c.new-states.result.items c.loop-number.states.items c.push.new.self.items (c.loop-number.invariant.0 side x st) c.in_ok-push.ensures.items (c.first_of_content-first.ensures.exact side x st),
-  all_grown (λ j. j < length c.args.hedge.now.auto.rows.items) c.loop-number.states.items c.push.new.self.items c.first_of_content-first.result c.loop-number.invariant.1
-      (grows_push c.loop-number.states.items c.push.new.self.items c.first_of_content-first.result c.in_ok-push.ensures.items) c.first_of_content-first.ensures.below,
+      map_put (first_state x side) c.args.numbers.now c.loop-number.number-index (get_or c.args.numbers.now c.loop-number.number-index 0) c.first-first.result c.loop-number-test.true refl
+      c.new-states.result.items c.loop-number.states.items c.push.new.self.items (c.loop-number.invariant.0 side x st) c.in_ok-push.ensures.items (c.first-first.ensures.exact side x st),
+  all_grown (λ j. j < length c.args.automaton.now.rows.items) c.loop-number.states.items c.push.new.self.items c.first-first.result c.loop-number.invariant.1
+      (grows_push c.loop-number.states.items c.push.new.self.items c.first-first.result c.in_ok-push.ensures.items) (c.first-first.ensures.below (member (λ k. (1 ≤ k) × (k ≤ length c.args.automaton.now.elements.now)) c.args.numbers.now c.loop-number.number-index c.requires c.loop-number-test.true).0),
 )
 
 pub returns-clause-made : goal.returns-clause-made

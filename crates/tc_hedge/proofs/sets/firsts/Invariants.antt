@@ -7,5 +7,5 @@ use Rattle.tc_hedge.proofs.sets.firsts.Given as goal
 
 abbrev pub invariant-loop-number : goal.invariant-loop-number
 invariant-loop-number l =
-    ((side : Side) (x : Grammar) → held.Stands side x l.hedge.auto → Grows l.initial.states.items l.states.items (Makes (λ (k i : ℕ). i ≡ first_state x side k) (take l.number-index l.numbers)))
-    × AreBelow (length l.hedge.auto.rows.items) l.states.items
+    ((side : Side) (x : Grammar) → held.Stands side x l.automaton → Grows l.initial.states.items l.states.items (Makes (λ (k i : ℕ). i ≡ first_state x side k) (take l.number-index l.numbers)))
+    × AreBelow (length l.automaton.rows.items) l.states.items

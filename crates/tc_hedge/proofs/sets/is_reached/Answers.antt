@@ -5,7 +5,7 @@ use Rattle.tc_hedge.proofs.SetSteps.{member, no_end_more, no_end_at_all}
 use Rattle.tc_hedge.proofs.sets.is_reached.Goals as goal
 
 pub is_end-requires : goal.is_end-requires
-is_end-requires c = member (λ j. j < length c.args.hedge.now.auto.rows.items) c.args.states.now c.loop-state.state-index c.requires.below c.loop-state-test.true
+is_end-requires c = member (λ j. j < length c.args.automaton.now.rows.items) c.args.states.now c.loop-state.state-index c.requires.below c.loop-state-test.true
 
 pub loop-state-preserved : goal.loop-state-preserved
 loop-state-preserved c = λ side x st j among low high accepts.

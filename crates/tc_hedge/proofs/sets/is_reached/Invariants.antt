@@ -7,4 +7,4 @@ use Rattle.tc_hedge.proofs.sets.is_reached.Given as goal
 
 abbrev pub invariant-loop-state : goal.invariant-loop-state
 invariant-loop-state l =
-    (side : Side) (x : Grammar) → held.Stands side x l.hedge.auto → (j : ℕ) → Contains (take l.state-index l.states) j → l.first ≤ j → j < l.end → IsAccepting x side j → ⊥
+    (side : Side) (x : Grammar) → held.Stands side x l.automaton → (j : ℕ) → Contains (take l.state-index l.states) j → l.first ≤ j → j < l.end → IsAccepting x side j → ⊥

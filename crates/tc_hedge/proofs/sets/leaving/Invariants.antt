@@ -7,4 +7,4 @@ use Rattle.tc_hedge.proofs.sets.leaving.Given as goal
 
 abbrev pub invariant-loop-state : goal.invariant-loop-state
 invariant-loop-state l =
-    (side : Side) (x : Grammar) → held.Stands side x l.hedge.auto → Grows l.initial.numbers.items l.numbers.items (Makes (Leaves x side) (take l.state-index l.states))
+    (side : Side) (x : Grammar) → held.Stands side x l.automaton → Grows l.initial.numbers.items l.numbers.items (Makes (Leaves x side) (take l.state-index l.states))

@@ -16,14 +16,14 @@ loop-number-preserved c =
             λ side x st.
                 filter_put (IsNamed x (see.name c.args.name.now)) c.args.numbers.now c.loop-number.number-index n c.loop-number-test.true refl c.new-found.result.items c.loop-number.found.items c.if-is_named.found.items
                 (c.loop-number.invariant.0 side x st) put ((c.is_named.ensures.made side x st).0 w.if-is_named.true),
-            all_grown (λ k. (1 ≤ k) × (k ≤ length c.args.hedge.now.auto.elements.now)) c.loop-number.found.items c.if-is_named.found.items n c.loop-number.invariant.1 (grows_push c.loop-number.found.items c.if-is_named.found.items n put) (c.is_named.ensures.within w.if-is_named.true),
+            all_grown (λ k. (1 ≤ k) × (k ≤ length c.args.automaton.now.elements.now)) c.loop-number.found.items c.if-is_named.found.items n c.loop-number.invariant.1 (grows_push c.loop-number.found.items c.if-is_named.found.items n put) (c.is_named.ensures.within w.if-is_named.true),
           )
       | else-is_named w ↦
           let same = ap (λ (v : Vec ℕ Global). v.items) w.found-is in (
             λ side x st.
                 filter_skip (IsNamed x (see.name c.args.name.now)) c.args.numbers.now c.loop-number.number-index n c.loop-number-test.true refl c.new-found.result.items c.loop-number.found.items c.if-is_named.found.items
                 (c.loop-number.invariant.0 side x st) same (λ h. true≢false (sym ((c.is_named.ensures.made side x st).1 h) ∙ w.if-is_named.false)),
-            same_members (λ k. (1 ≤ k) × (k ≤ length c.args.hedge.now.auto.elements.now)) c.loop-number.found.items c.if-is_named.found.items same c.loop-number.invariant.1,
+            same_members (λ k. (1 ≤ k) × (k ≤ length c.args.automaton.now.elements.now)) c.loop-number.found.items c.if-is_named.found.items same c.loop-number.invariant.1,
           )
     ]
 

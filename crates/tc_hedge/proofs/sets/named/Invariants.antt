@@ -8,5 +8,5 @@ use Rattle.tc_hedge.proofs.sets.named.Given as goal
 
 abbrev pub invariant-loop-number : goal.invariant-loop-number
 invariant-loop-number l =
-    ((side : Side) (x : Grammar) → held.Stands side x l.hedge.auto → Grows l.initial.found.items l.found.items (Makes (λ (k j : ℕ). (j ≡ k) × IsNamed x (see.name l.name) k) (take l.number-index l.numbers)))
-    × AreNumbers (length l.hedge.auto.elements.now) l.found.items
+    ((side : Side) (x : Grammar) → held.Stands side x l.automaton → Grows l.initial.found.items l.found.items (Makes (λ (k j : ℕ). (j ≡ k) × IsNamed x (see.name l.name) k) (take l.number-index l.numbers)))
+    × AreNumbers (length l.automaton.elements.now) l.found.items

@@ -9,4 +9,4 @@ use Rattle.tc_hedge.proofs.sets.put_leaving.Given as goal
 
 abbrev pub invariant-loop-edge : goal.invariant-loop-edge
 invariant-loop-edge l =
-    (side : Side) (x : Grammar) → held.Stands side x l.hedge.auto → Grows l.initial.numbers.items l.numbers.items (Makes (λ (e : Edge) (j : ℕ). leaf e.leaf ≡ ref_leaf j) (take l.edge-index l.edge-items))
+    (side : Side) (x : Grammar) → held.Stands side x l.automaton → Grows l.initial.numbers.items l.numbers.items (Makes (λ (e : Edge) (j : ℕ). leaf e.leaf ≡ ref_leaf j) (take l.edge-index l.edge-items))

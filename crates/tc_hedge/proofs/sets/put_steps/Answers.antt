@@ -12,25 +12,25 @@ any_edge = record { to = 0; leaf = Text }
 pub loop-edge-preserved : goal.loop-edge-preserved
 unfolding any_edge
 loop-edge-preserved c =
-    let e = get_or c.edges-edge-items.result.now c.loop-edge.edge-index any_edge in
+    let e = get_or c.follow-edge-items.result.now c.loop-edge.edge-index any_edge in
     elim c.if-passes.branch [
       | then-passes+in_ok-put_number w ↦
           let put = grown_as c.loop-edge.next.items w.put_number.new.set.items c.if-passes.next.items (λ j. j ≡ e.to) (ap (λ (v : Vec ℕ Global). v.items) w.next-is) w.in_ok-put_number.ensures in (
             λ side x st.
-                edge_put c.edges-edge-items.result.now c.loop-edge.edge-index any_edge e c.loop-edge-test.true refl c.args.next.now.items c.loop-edge.next.items c.if-passes.next.items c.args.passage.now
+                edge_put c.follow-edge-items.result.now c.loop-edge.edge-index any_edge e c.loop-edge-test.true refl c.args.next.now.items c.loop-edge.next.items c.if-passes.next.items c.args.passage.now
                 (c.loop-edge.invariant.0 side x st) put (c.passes.ensures.0 w.if-passes.true),
-            λ below. all_grown (λ j. j < length c.args.hedge.now.auto.rows.items) c.loop-edge.next.items c.if-passes.next.items e.to (c.loop-edge.invariant.1 below) put
-                (c.edges-edge-items.ensures.within c.loop-edge.edge-index any_edge c.loop-edge-test.true),
+            λ below. all_grown (λ j. j < length c.args.automaton.now.rows.items) c.loop-edge.next.items c.if-passes.next.items e.to (c.loop-edge.invariant.1 below) put
+                (c.follow-edge-items.ensures.within c.loop-edge.edge-index any_edge c.loop-edge-test.true),
           )
       | else-passes w ↦
           let same = ap (λ (v : Vec ℕ Global). v.items) w.next-is in (
             λ side x st.
-                edge_skip c.edges-edge-items.result.now c.loop-edge.edge-index any_edge e c.loop-edge-test.true refl c.args.next.now.items c.loop-edge.next.items c.if-passes.next.items c.args.passage.now
+                edge_skip c.follow-edge-items.result.now c.loop-edge.edge-index any_edge e c.loop-edge-test.true refl c.args.next.now.items c.loop-edge.next.items c.if-passes.next.items c.args.passage.now
                 (c.loop-edge.invariant.0 side x st) same (λ p. true≢false (sym (c.passes.ensures.1 p) ∙ w.if-passes.false)),
-            λ below. same_members (λ j. j < length c.args.hedge.now.auto.rows.items) c.loop-edge.next.items c.if-passes.next.items same (c.loop-edge.invariant.1 below),
+            λ below. same_members (λ j. j < length c.args.automaton.now.rows.items) c.loop-edge.next.items c.if-passes.next.items same (c.loop-edge.invariant.1 below),
           )
     ]
 
 pub returns-clause-made : goal.returns-clause-made
 returns-clause-made c = λ side x st.
-    edges_put x side c.args.passage.now c.edges-edge-items.result.now c.args.state c.loop-edge.edge-index c.args.next.now.items c.loop-edge.next.items c.loop-edge-test.false (c.edges-edge-items.ensures.exact side x st) (c.loop-edge.invariant.0 side x st)
+    edges_put x side c.args.passage.now c.follow-edge-items.result.now c.args.state c.loop-edge.edge-index c.args.next.now.items c.loop-edge.next.items c.loop-edge-test.false (c.follow-edge-items.ensures.exact side x st) (c.loop-edge.invariant.0 side x st)

@@ -9,5 +9,5 @@ use Rattle.tc_hedge.proofs.sets.put_steps.Given as goal
 
 abbrev pub invariant-loop-edge : goal.invariant-loop-edge
 invariant-loop-edge l =
-    ((side : Side) (x : Grammar) → held.Stands side x l.hedge.auto → Grows l.initial.next.items l.next.items (Makes (λ (e : Edge) (j : ℕ). Passes l.passage (leaf e.leaf) × (j ≡ e.to)) (take l.edge-index l.edge-items)))
-    × (AreBelow (length l.hedge.auto.rows.items) l.initial.next.items → AreBelow (length l.hedge.auto.rows.items) l.next.items)
+    ((side : Side) (x : Grammar) → held.Stands side x l.automaton → Grows l.initial.next.items l.next.items (Makes (λ (e : Edge) (j : ℕ). Passes l.passage (leaf e.leaf) × (j ≡ e.to)) (take l.edge-index l.edge-items)))
+    × (AreBelow (length l.automaton.rows.items) l.initial.next.items → AreBelow (length l.automaton.rows.items) l.next.items)

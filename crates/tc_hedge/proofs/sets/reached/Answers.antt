@@ -7,7 +7,7 @@ use Rattle.tc_hedge.proofs.sets.reached.Goals as goal
 
 pub is_reached-requires-clause-within : goal.is_reached-requires-clause-within
 is_reached-requires-clause-within c =
-    (member (λ k. (1 ≤ k) × (k ≤ length c.args.hedge.now.auto.elements.now)) c.args.numbers.now c.loop-number.number-index c.requires.within c.loop-number-test.true).1
+    (member (λ k. (1 ≤ k) × (k ≤ length c.args.automaton.now.elements.now)) c.args.numbers.now c.loop-number.number-index c.requires.within c.loop-number-test.true).1
 
 pub loop-number-preserved : goal.loop-number-preserved
 loop-number-preserved c =

@@ -7,4 +7,4 @@ use Rattle.tc_hedge.proofs.sets.reached.Given as goal
 
 abbrev pub invariant-loop-number : goal.invariant-loop-number
 invariant-loop-number l =
-    (side : Side) (x : Grammar) → held.Stands side x l.hedge.auto → Grows l.initial.found.items l.found.items (Makes (λ (k j : ℕ). (j ≡ k) × IsReached x side l.states k) (take l.number-index l.numbers))
+    (side : Side) (x : Grammar) → held.Stands side x l.automaton → Grows l.initial.found.items l.found.items (Makes (λ (k j : ℕ). (j ≡ k) × IsReached x side l.states k) (take l.number-index l.numbers))

@@ -5,7 +5,7 @@ use Rattle.tc_hedge.proofs.SetSteps.{member, states_made}
 use Rattle.tc_hedge.proofs.sets.step.Goals as goal
 
 pub put_steps-requires : goal.put_steps-requires
-put_steps-requires c = record { state = member (λ j. j < length c.args.hedge.now.auto.rows.items) c.args.states.now c.loop-state.state-index c.requires c.loop-state-test.true }
+put_steps-requires c = record { state = member (λ j. j < length c.args.automaton.now.rows.items) c.args.states.now c.loop-state.state-index c.requires c.loop-state-test.true }
 
 pub loop-state-preserved : goal.loop-state-preserved
 loop-state-preserved c = (

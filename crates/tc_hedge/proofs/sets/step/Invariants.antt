@@ -7,5 +7,5 @@ use Rattle.tc_hedge.proofs.sets.step.Given as goal
 
 abbrev pub invariant-loop-state : goal.invariant-loop-state
 invariant-loop-state l =
-    ((side : Side) (x : Grammar) → held.Stands side x l.hedge.auto → Grows l.initial.next.items l.next.items (Makes (Steps x side l.passage) (take l.state-index l.states)))
-    × AreBelow (length l.hedge.auto.rows.items) l.next.items
+    ((side : Side) (x : Grammar) → held.Stands side x l.automaton → Grows l.initial.next.items l.next.items (Makes (Steps x side l.passage) (take l.state-index l.states)))
+    × AreBelow (length l.automaton.rows.items) l.next.items

@@ -6,10 +6,10 @@ use Rattle.tc_hedge.proofs.Remembered.{both_made, knows_grown, knows_entry, stat
 use Rattle.tc_hedge.proofs.steps.learn_entry.Goals as goal
 
 pub leaving-requires : goal.leaving-requires
-leaving-requires c = states_below c.args.hedge.now.auto c.args.memo.now.sets.keys c.args.entry.now.from c.set.result.now c.requires.from c.set.ensures
+leaving-requires c = states_below c.args.automaton.now c.args.memo.now.sets.keys c.args.entry.now.from c.set.result.now c.requires.from c.set.ensures
 
 pub firsts-requires : goal.firsts-requires
-firsts-requires c = subst (λ w. AreNumbers (length c.args.hedge.now.auto.elements.now) w) (sym c.deref-2.ensures.value) c.in_ok-taking.ensures.within
+firsts-requires c = subst (λ w. AreNumbers (length c.args.automaton.now.elements.now) w) (sym c.deref-2.ensures.value) c.in_ok-taking.ensures.within
 
 pub returns-clause-steps : goal.returns-clause-steps
 returns-clause-steps c = record {
@@ -27,6 +27,6 @@ returns-clause-steps c = record {
 
 pub returns-clause-knows : goal.returns-clause-knows
 returns-clause-knows c =
-    let once = knows_grown c.args.hedge.now.auto c.args.memo.now c.put.new.self c.in_ok-numbers.ensures.grown c.requires.knows c.in_ok-numbers.ensures.texts c.in_ok-numbers.ensures.entries c.in_ok-numbers.ensures.passings in
-    let twice = knows_grown c.args.hedge.now.auto c.put.new.self c.put-2.new.self c.in_ok-first.ensures.grown once c.in_ok-first.ensures.texts c.in_ok-first.ensures.entries c.in_ok-first.ensures.passings in
-    knows_entry c.args.hedge.now.auto c.put-2.new.self (record c.put-2.new.self { entries = c.insert.new.self }) (λ i xs at. at) twice c.args.entry.now _ c.in_ok-insert.ensures.updates refl refl (returns-clause-steps c)
+    let once = knows_grown c.args.automaton.now c.args.memo.now c.put.new.self c.in_ok-numbers.ensures.grown c.requires.knows c.in_ok-numbers.ensures.texts c.in_ok-numbers.ensures.entries c.in_ok-numbers.ensures.passings in
+    let twice = knows_grown c.args.automaton.now c.put.new.self c.put-2.new.self c.in_ok-first.ensures.grown once c.in_ok-first.ensures.texts c.in_ok-first.ensures.entries c.in_ok-first.ensures.passings in
+    knows_entry c.args.automaton.now c.put-2.new.self (record c.put-2.new.self { entries = c.insert.new.self }) (λ i xs at. at) twice c.args.entry.now _ c.in_ok-insert.ensures.updates refl refl (returns-clause-steps c)

@@ -4,16 +4,16 @@ use Rattle.tc_hedge.proofs.SetsRuns.{made_from}
 use Rattle.tc_hedge.proofs.steps.learn_passing.Goals as goal
 
 pub reached-requires-clause-below : goal.reached-requires-clause-below
-reached-requires-clause-below c = states_below c.args.hedge.now.auto c.args.memo.now.sets.keys c.args.passing.ends c.set.result.now c.requires.ends c.set.ensures
+reached-requires-clause-below c = states_below c.args.automaton.now c.args.memo.now.sets.keys c.args.passing.ends c.set.result.now c.requires.ends c.set.ensures
 
 pub reached-requires-clause-within : goal.reached-requires-clause-within
-reached-requires-clause-within c = numbers_within c.args.hedge.now.auto c.args.memo.now.sets.keys c.args.passing.numbers c.set-2.result.now c.requires.numbers c.set-2.ensures
+reached-requires-clause-within c = numbers_within c.args.automaton.now c.args.memo.now.sets.keys c.args.passing.numbers c.set-2.result.now c.requires.numbers c.set-2.ensures
 
 pub set-requires-3 : goal.set-requires-3
-set-requires-3 c = number_held c.args.hedge.now.auto c.args.memo.now.sets.keys c.args.passing.from c.requires.from
+set-requires-3 c = number_held c.args.automaton.now c.args.memo.now.sets.keys c.args.passing.from c.requires.from
 
 pub step-requires : goal.step-requires
-step-requires c = states_below c.args.hedge.now.auto c.args.memo.now.sets.keys c.args.passing.from c.set-3.result.now c.requires.from c.set-3.ensures
+step-requires c = states_below c.args.automaton.now c.args.memo.now.sets.keys c.args.passing.from c.set-3.result.now c.requires.from c.set-3.ensures
 
 pub returns-clause-steps : goal.returns-clause-steps
 returns-clause-steps c = record {
@@ -31,5 +31,5 @@ returns-clause-steps c = record {
 
 pub returns-clause-knows : goal.returns-clause-knows
 returns-clause-knows c =
-    let before = knows_grown c.args.hedge.now.auto c.args.memo.now c.put.new.self c.in_ok-next.ensures.grown c.requires.knows c.in_ok-next.ensures.texts c.in_ok-next.ensures.entries c.in_ok-next.ensures.passings in
-    knows_passing c.args.hedge.now.auto c.put.new.self (record c.put.new.self { passings = c.insert.new.self }) (λ i xs at. at) before c.args.passing c.in_ok-next.next c.in_ok-insert.ensures.updates refl refl (returns-clause-steps c)
+    let before = knows_grown c.args.automaton.now c.args.memo.now c.put.new.self c.in_ok-next.ensures.grown c.requires.knows c.in_ok-next.ensures.texts c.in_ok-next.ensures.entries c.in_ok-next.ensures.passings in
+    knows_passing c.args.automaton.now c.put.new.self (record c.put.new.self { passings = c.insert.new.self }) (λ i xs at. at) before c.args.passing c.in_ok-next.next c.in_ok-insert.ensures.updates refl refl (returns-clause-steps c)

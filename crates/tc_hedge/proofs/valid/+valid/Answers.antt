@@ -11,17 +11,17 @@ use Rattle.tc_hedge.proofs.valid.+valid.Goals as goal
 
 pub after_element-after_passing-requires-clause-from : goal.after_element-after_passing-requires-clause-from
 after_element-after_passing-requires-clause-from t c =
-    states_grown c.args.hedge.now.auto c.inside_of.new.memo.sets.keys c.after_trees.new.memo.sets.keys c.in_ok-ends.ensures.grown c.args.entry.now.from
-    (states_grown c.args.hedge.now.auto c.args.memo.now.sets.keys c.inside_of.new.memo.sets.keys c.in_ok-inside.ensures.grown c.args.entry.now.from c.requires.from)
+    states_grown c.args.automaton.now c.inside_of.new.memo.sets.keys c.after_trees.new.memo.sets.keys c.in_ok-ends.ensures.grown c.args.entry.now.from
+    (states_grown c.args.automaton.now c.args.memo.now.sets.keys c.inside_of.new.memo.sets.keys c.in_ok-inside.ensures.grown c.args.entry.now.from c.requires.from)
 
 pub after_element-after_passing-requires-clause-numbers : goal.after_element-after_passing-requires-clause-numbers
 after_element-after_passing-requires-clause-numbers t c =
-    numbers_grown c.args.hedge.now.auto c.inside_of.new.memo.sets.keys c.after_trees.new.memo.sets.keys c.in_ok-ends.ensures.grown c.in_ok-inside.inside.numbers
-    (inside_numbers c.args.hedge.now.auto c.inside_of.new.memo.sets.keys c.args.entry.now.from (see.name c.args.entry.now.name) c.in_ok-inside.inside c.in_ok-inside.ensures.steps)
+    numbers_grown c.args.automaton.now c.inside_of.new.memo.sets.keys c.after_trees.new.memo.sets.keys c.in_ok-ends.ensures.grown c.in_ok-inside.inside.numbers
+    (inside_numbers c.args.automaton.now c.inside_of.new.memo.sets.keys c.args.entry.now.from (see.name c.args.entry.now.name) c.in_ok-inside.inside c.in_ok-inside.ensures.steps)
 
 pub after_element-returns-clause-steps : goal.after_element-returns-clause-steps
 after_element-returns-clause-steps t c =
-    let a = c.args.hedge.now.auto in
+    let a = c.args.automaton.now in
     let entered = c.inside_of.new.memo.sets.keys in
     let inside = c.after_trees.new.memo.sets.keys in
     let over = c.after_passing.new.memo.sets.keys in
@@ -37,20 +37,20 @@ after_tree-returns-in-Text-clause-steps t c =
     let is = ap (λ (n : Node). see.before n none) c.in-Text.is ∙ before_text c.in-Text.field-0 none in
     for_ok c.after_text.result c.after_text.ensures.steps
     (λ j steps.
-    subst (λ (h : Trees). PassesTrees c.args.hedge.now.auto c.after_text.new.memo.sets.keys c.args.from h j) (sym is) (text_passed c.args.hedge.now.auto c.after_text.new.memo.sets.keys c.args.from c.in-Text.field-0.now j steps))
+    subst (λ (h : Trees). PassesTrees c.args.automaton.now c.after_text.new.memo.sets.keys c.args.from h j) (sym is) (text_passed c.args.automaton.now c.after_text.new.memo.sets.keys c.args.from c.in-Text.field-0.now j steps))
 
 pub after_tree-returns-in-Elem-clause-steps : goal.after_tree-returns-in-Elem-clause-steps
 after_tree-returns-in-Elem-clause-steps t c =
     let is = ap (λ (n : Node). see.before n none) c.in-Elem.is ∙ before_elem c.in-Elem.name c.in-Elem.kids none in
     for_ok c.after_element.result c.after_element.ensures.steps
-    (λ j steps. subst (λ (h : Trees). PassesTrees c.args.hedge.now.auto c.after_element.new.memo.sets.keys c.args.from h j) (sym is) steps)
+    (λ j steps. subst (λ (h : Trees). PassesTrees c.args.automaton.now c.after_element.new.memo.sets.keys c.args.from h j) (sym is) steps)
 
 pub after_trees-loop-node-init : goal.after_trees-loop-node-init
-after_trees-loop-node-init t c = (c.requires.knows, λ i xs at. at, none_passed c.args.hedge.now.auto c.args.memo.now.sets.keys c.args.from c.requires.from)
+after_trees-loop-node-init t c = (c.requires.knows, λ i xs at. at, none_passed c.args.automaton.now c.args.memo.now.sets.keys c.args.from c.requires.from)
 
 pub after_trees-loop-node-preserved : goal.after_trees-loop-node-preserved
 after_trees-loop-node-preserved t c =
-    let a = c.args.hedge.now.auto in
+    let a = c.args.automaton.now in
     let old = c.loop-node.memo.sets.keys in
     let new = c.after_tree.new.memo.sets.keys in (
       c.in_ok-next.ensures.knows,

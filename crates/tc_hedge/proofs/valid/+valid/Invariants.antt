@@ -6,4 +6,4 @@ use Rattle.tc_hedge.proofs.valid.+valid.Given as goal
 
 abbrev pub invariant-after_trees-loop-node : goal.invariant-after_trees-loop-node
 invariant-after_trees-loop-node l =
-    Knows l.hedge.auto l.memo × Grown l.initial.memo.sets.keys l.memo.sets.keys × PassesTrees l.hedge.auto l.memo.sets.keys l.initial.number (see.trees (take l.node-index l.nodes)) l.number
+    Knows l.automaton l.memo × Grown l.initial.memo.sets.keys l.memo.sets.keys × PassesTrees l.automaton l.memo.sets.keys l.initial.number (see.trees (take l.node-index l.nodes)) l.number

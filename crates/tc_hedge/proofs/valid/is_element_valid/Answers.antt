@@ -5,7 +5,7 @@ use Rattle.tc_hedge.proofs.SetsRuns.{made_from, start_told}
 use Rattle.tc_hedge.proofs.valid.is_element_valid.Goals as goal
 
 pub matched-requires : goal.matched-requires
-matched-requires c = record { numbers = subst (λ w. AreNumbers (length c.args.hedge.now.auto.elements.now) w) (sym c.deref.ensures.value) c.in_ok-numbers.ensures.within }
+matched-requires c = record { numbers = subst (λ w. AreNumbers (length c.args.automaton.now.elements.now) w) (sym c.deref.ensures.value) c.in_ok-numbers.ensures.within }
 
 pub returns : goal.returns
 returns c = λ side x st start.

@@ -17,7 +17,7 @@ loop-before-preserved c =
             λ side x st.
                 let told = (c.may_start.ensures side x st).0 w.if-may_start.true in
                 range_put (λ k. IsTrue (is_alternative k x.start)) (IsNamed x (see.name c.args.name.now)) c.loop-before.numbers.items c.if-may_start.numbers.items c.loop-before.before (c.loop-before.invariant.0 side x st) put told.0 told.1,
-            all_grown (λ k. (1 ≤ k) × (k ≤ length c.args.hedge.now.auto.elements.now)) c.loop-before.numbers.items c.if-may_start.numbers.items (c.loop-before.before + 1) c.loop-before.invariant.1
+            all_grown (λ k. (1 ≤ k) × (k ≤ length c.args.automaton.now.elements.now)) c.loop-before.numbers.items c.if-may_start.numbers.items (c.loop-before.before + 1) c.loop-before.invariant.1
                 (grows_push c.loop-before.numbers.items c.if-may_start.numbers.items (c.loop-before.before + 1) put) (omega arith, omega (arith, c.loop-before-test.true, c.patterns-before-end.ensures.here)),
           )
       | else-may_start w ↦
@@ -25,11 +25,11 @@ loop-before-preserved c =
             λ side x st.
                 range_skip (λ k. IsTrue (is_alternative k x.start)) (IsNamed x (see.name c.args.name.now)) c.loop-before.numbers.items c.if-may_start.numbers.items c.loop-before.before (c.loop-before.invariant.0 side x st) same
                 (λ a n. true≢false (sym ((c.may_start.ensures side x st).1 (a, n)) ∙ w.if-may_start.false)),
-            same_members (λ k. (1 ≤ k) × (k ≤ length c.args.hedge.now.auto.elements.now)) c.loop-before.numbers.items c.if-may_start.numbers.items same c.loop-before.invariant.1,
+            same_members (λ k. (1 ≤ k) × (k ≤ length c.args.automaton.now.elements.now)) c.loop-before.numbers.items c.if-may_start.numbers.items same c.loop-before.invariant.1,
           )
     ]
 
 pub returns-clause-made : goal.returns-clause-made
 returns-clause-made c = λ side x st.
-    let all : c.loop-before.before ≡ length x.elements = omega (arith, c.loop-before-test.false, c.loop-before.auto.before-end, c.patterns-before-end.ensures.here, patterns_of side x c.args.hedge.now.auto st) in
+    let all : c.loop-before.before ≡ length x.elements = omega (arith, c.loop-before-test.false, c.loop-before.auto.before-end, c.patterns-before-end.ensures.here, patterns_of side x c.args.automaton.now st) in
     subst (λ n. IsMade c.loop-before.numbers.items (λ (k : ℕ). (1 ≤ k) × (k ≤ n) × IsTrue (is_alternative k x.start) × IsNamed x (see.name c.args.name.now) k)) all (c.loop-before.invariant.0 side x st)

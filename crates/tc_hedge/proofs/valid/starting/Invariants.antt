@@ -8,5 +8,5 @@ use Rattle.tc_hedge.proofs.valid.starting.Given as goal
 
 abbrev pub invariant-loop-before : goal.invariant-loop-before
 invariant-loop-before l =
-    ((side : Side) (x : Grammar) → held.Stands side x l.hedge.auto → IsMade l.numbers.items (λ (k : ℕ). (1 ≤ k) × (k ≤ l.before) × IsTrue (is_alternative k x.start) × IsNamed x (see.name l.name) k))
-    × AreNumbers (length l.hedge.auto.elements.now) l.numbers.items
+    ((side : Side) (x : Grammar) → held.Stands side x l.automaton → IsMade l.numbers.items (λ (k : ℕ). (1 ≤ k) × (k ≤ l.before) × IsTrue (is_alternative k x.start) × IsNamed x (see.name l.name) k))
+    × AreNumbers (length l.automaton.elements.now) l.numbers.items

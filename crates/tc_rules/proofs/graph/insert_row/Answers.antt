@@ -1,16 +1,13 @@
 use Rattle.std.proofs.Common.{◌∙◌, ap}
 use Rattle.tc_rules.specs.Rows.{states}
-use Rattle.tc_rules.proofs.SameRows.{row_put, row_new, row_stored, row_last}
+use Rattle.tc_rules.proofs.SameRows.{row_put, row_stored, row_last}
 use Rattle.tc_rules.proofs.graph.insert_row.Goals as goal
 
 pub returns-clause-keys : goal.returns-clause-keys
-returns-clause-keys c = ap states c.in_ok-inserted.ensures.keys ∙ row_put c.args.rows.now.keys c.args.row
-
-pub returns-clause-is_new : goal.returns-clause-is_new
-returns-clause-is_new c = row_new c.args.row c.args.rows.now.keys _ c.in_ok-inserted.ensures.added
+returns-clause-keys c = ap states c.in_ok-at.ensures.keys ∙ row_put c.args.rows.now.keys c.args.row
 
 pub returns-clause-place : goal.returns-clause-place
-returns-clause-place c = row_stored c.args.row c.insert_full.new.self.keys _ c.in_ok-inserted.ensures.stored
+returns-clause-place c = row_stored c.args.row c.insert_full.new.self.keys _ c.in_ok-at.ensures.stored
 
 pub returns-clause-last : goal.returns-clause-last
-returns-clause-last c = row_last c.args.row c.args.rows.now.keys _ _ c.in_ok-inserted.ensures.added c.in_ok-inserted.ensures.index
+returns-clause-last c = row_last c.args.row c.args.rows.now.keys _ c.in_ok-at.ensures.index

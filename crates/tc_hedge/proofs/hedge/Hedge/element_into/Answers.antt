@@ -4,10 +4,10 @@ use Rattle.tc_hedge.proofs.hedge.Hedge.element_into.Goals as goal
 
 pub returns-clause-pairs : goal.returns-clause-pairs
 returns-clause-pairs c = λ side x symbols st name is.
-    around_told x side name _ c.args.inner.now c.put.new.out
+    around_told x side name _ c.args.inner.now c.put_around.new.out
     (symbol_row_tells side x symbols c.args.self.now st name c.args.sym.0 is c.deref.result.now c.deref.ensures.value c.patterns-patterns.result c.patterns-patterns.ensures.here)
-    (c.put.ensures.pairs side x st.auto)
+    (c.put_around.ensures.pairs side x st.auto)
 
 pub returns-clause-around : goal.returns-clause-around
 returns-clause-around c = λ side x symbols st name is kids pairs.
-    pairs_surround x side name kids c.args.inner.now c.put.new.out pairs (returns-clause-pairs c side x symbols st name is)
+    pairs_surround x side name kids c.args.inner.now c.put_around.new.out pairs (returns-clause-pairs c side x symbols st name is)

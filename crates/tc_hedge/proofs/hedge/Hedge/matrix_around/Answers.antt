@@ -6,7 +6,7 @@ use Rattle.tc_hedge.proofs.hedge.Hedge.matrix_around.Goals as goal
 
 pub returns-clause-pairs : goal.returns-clause-pairs
 returns-clause-pairs c = λ side x st.
-    around_told x side (see.name c.args.name.now) c.deref.result.now c.args.inner.now c.put.new.out
+    around_told x side (see.name c.args.name.now) c.deref.result.now c.args.inner.now c.put_around.new.out
     (pushed_tell x (see.name c.args.name.now) _
     (c.deref.ensures.value ∙ (c.in_ok-push_allowed.ensures.told side x st ∙ ap (λ (w : List Bool). w ++ map (λ (e : ElementPattern). in_class e.names (see.name c.args.name.now)) x.elements) c.new-allowed.ensures.items)))
-    (c.put.ensures.pairs side x st)
+    (c.put_around.ensures.pairs side x st)

@@ -1,10 +1,10 @@
-use Rattle.std.proofs.Common.{◌≡◌, ◌++◌, map, drop}
+use Rattle.std.proofs.Common.{◌≡◌, ◌++◌, drop}
 use Rattle.tc_model.specs.Views as see
+use Rattle.tc_rules.specs.Reached.{leads_by_class}
 use Rattle.tc_rules.specs.Rows.{state, states}
-use Rattle.tc_rules.specs.Steps.{next_state}
 use Rattle.tc_rules.proofs.graph.Source.add_leads.Given as goal
 
-abbrev pub invariant-loop-fits : goal.invariant-loop-fits
-invariant-loop-fits l =
-    states l.initial.found.items ++ map (λ f. next_state (see.alternatives l.path) f (state l.state)) (states l.class)
-    ≡ states l.found.items ++ map (λ f. next_state (see.alternatives l.path) f (state l.state)) (states (drop l.fits-index l.class))
+abbrev pub invariant-loop-marks : goal.invariant-loop-marks
+invariant-loop-marks l =
+    states l.initial.found.items ++ leads_by_class (see.alternatives l.path) (state l.kind) (states l.marked) (state l.state)
+    ≡ states l.found.items ++ leads_by_class (see.alternatives l.path) (state l.kind) (states (drop l.marks-index l.marked)) (state l.state)

@@ -2,12 +2,12 @@ use Rattle.std.proofs.Common.{◌<◌, length, arith}
 use Rattle.std.proofs.lemmas.List.{length-map}
 use Rattle.tc_model.specs.Views as see
 use Rattle.tc_rules.specs.Reached.{counted, leads_by}
-use Rattle.tc_rules.specs.Rows.{state, states, rows_of_classes}
+use Rattle.tc_rules.specs.Rows.{state, states, fits}
 use Rattle.tc_rules.proofs.Rounds.{expanding_next}
 use Rattle.tc_rules.proofs.graph.Source.expand_from.Goals as goal
 
 pub loop-number-preserved : goal.loop-number-preserved
 loop-number-preserved c =
     let inside : c.loop-number.number < length (states c.args.states.now.keys) = omega (arith, c.loop-number-test.true, c.len-end.ensures.len, length-map c.args.states.now.keys state) in
-    expanding_next (counted c.args.counts) (leads_by (see.alternatives c.args.path.now) (rows_of_classes c.args.letters.now)) (states c.args.states.now.keys) (states c.loop-number.states.keys)
+    expanding_next (counted c.args.counts) (leads_by (see.alternatives c.args.path.now) (fits c.args.letters.now)) (states c.args.states.now.keys) (states c.loop-number.states.keys)
     (states c.expand.new.states.keys) c.args.from c.loop-number.number inside c.in_ok-expand.ensures c.loop-number.invariant

@@ -6,4 +6,4 @@ use Rattle.tc_rules.proofs.graph.Source.expand_from.Given as goal
 
 abbrev pub invariant-loop-number : goal.invariant-loop-number
 invariant-loop-number l =
-    IsExpanding (counted l.counts) (leads_by (see.alternatives l.path) (seen.rows_of_classes l.letters)) (seen.states l.initial.states.keys) l.from l.number (seen.states l.states.keys)
+    IsExpanding (counted l.counts) (leads_by (see.alternatives l.path) (seen.fits l.letters)) (seen.states l.initial.states.keys) l.from l.number (seen.states l.states.keys)

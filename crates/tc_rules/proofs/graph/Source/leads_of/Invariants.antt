@@ -1,10 +1,9 @@
-use Rattle.std.proofs.Common.{◌≡◌, ◌++◌, drop}
+use Rattle.std.proofs.Common.{take}
 use Rattle.tc_model.specs.Views as see
-use Rattle.tc_rules.specs.Reached.{leads_by}
-use Rattle.tc_rules.specs.Rows.{state, states, rows_of_classes}
+use Rattle.tc_rules.specs.Rows.{state, states}
+use Rattle.tc_rules.proofs.Staying.{IsFound}
 use Rattle.tc_rules.proofs.graph.Source.leads_of.Given as goal
 
-abbrev pub invariant-loop-class : goal.invariant-loop-class
-invariant-loop-class l =
-    leads_by (see.alternatives l.path) (rows_of_classes l.letters) (state l.state)
-    ≡ states l.found.items ++ leads_by (see.alternatives l.path) (rows_of_classes (drop l.class-index l.letters)) (state l.state)
+abbrev pub invariant-loop-kind : goal.invariant-loop-kind
+invariant-loop-kind l =
+    IsFound (see.alternatives l.path) (state l.state) (states l.letters.marked.items) (states (take l.kind-index l.letters.kinds.keys)) (states l.found.items) l.stays

@@ -3,14 +3,14 @@ use Rattle.std.proofs.lemmas.List.{length-map}
 use Rattle.tc_model.specs.Views as see
 use Rattle.tc_model.specs.PathStates.{first_state}
 use Rattle.tc_rules.specs.Reached.{counted, leads_by, leads_of}
-use Rattle.tc_rules.specs.Rows.{state, states, rows_of_classes}
+use Rattle.tc_rules.specs.Rows.{state, states, fits}
 use Rattle.tc_rules.proofs.Rounds.{IsSoFar, so_far_next, so_far_all, put_grows}
 use Rattle.tc_rules.proofs.graph.Source.reached.Goals as goal
 
 pub loop-from-preserved : goal.loop-from-preserved
 loop-from-preserved c =
     let counts = counted c.args.counts in
-    let lead = leads_by (see.alternatives c.args.path.now) (rows_of_classes c.args.letters.now) in
+    let lead = leads_by (see.alternatives c.args.path.now) (fits c.args.letters.now) in
     let first = first_state (see.alternatives c.args.path.now) in
     let xs = states c.loop-from.states.keys in
     let ys = states c.expand_from.new.states.keys in
@@ -26,4 +26,4 @@ pub returns-clause-all : goal.returns-clause-all
 returns-clause-all c =
     let xs = states c.loop-from.states.keys in
     let past : length xs ≤ c.loop-from.from = omega (arith, c.loop-from-test.false, c.len.ensures.len, length-map c.loop-from.states.keys state) in
-    so_far_all (counted c.args.counts) (leads_by (see.alternatives c.args.path.now) (rows_of_classes c.args.letters.now)) (first_state (see.alternatives c.args.path.now)) xs c.loop-from.from past c.loop-from.invariant.so_far
+    so_far_all (counted c.args.counts) (leads_by (see.alternatives c.args.path.now) (fits c.args.letters.now)) (first_state (see.alternatives c.args.path.now)) xs c.loop-from.from past c.loop-from.invariant.so_far

@@ -1,0 +1,172 @@
+-- From the laws of rows alone: which rows come from rows, which lists of rows hold all, and what follows for safety.
+use Rattle.std.proofs.Common.{◌≡◌, ℕ, zero, suc, ◌+◌, ◌<◌, List, refl, ap, ◌∙◌, sym, subst, IsTrue, Contains, codes, arith}
+use Rattle.tc_model.specs.Trees.{Trees, none, text, element, beside, node_count, IsNormal}
+use Rattle.tc_model.specs.Chains.{Tree, an_element, a_text}
+use Rattle.tc_model.specs.TreesApart.{alone, followed_by, FromBack, is_none, is_followed}
+use Rattle.tc_model.specs.LiveTrees.{IsLiveTree, IsLiveHedge, empty_is_live, are_live}
+use Rattle.tc_model.specs.Safety.{IsResultOf, IsSafe, IsCounterexample}
+use Rattle.tc_model.specs.Validity.{IsValid}
+use Rattle.tc_model.specs.Symbols.{symbol_of, fresh_name}
+use Rattle.tc_rows.specs.Triples.{Triple, sheet}
+use Rattle.tc_rows.specs.Rows.{HedgeRow, TreeRow, IsRowOfHedge, IsRowOfTree}
+use Rattle.tc_rows.specs.Arithmetic.{IsWrap, IsLiveWrap, is_admitted, IsPassing}
+use Rattle.tc_rows.specs.Laws.{RowLaws}
+use Rattle.tc_rows.specs.Derivations.{HedgeFrom, TreeFrom, from_none, from_append, from_text, from_wrap, ArePlain, IsRowOfPlain, IsFailing, AreExact, DerivationsAreExact}
+use Rattle.tc_rows.specs.Certificates.{AreClosed, AreCertified, ClosedHoldAll, CertifiedIsSafe}
+use Rattle.tc_rows.proofs.Live.{some_node}
+use Rattle.tc_rows.proofs.AllLaws.{rows_are_lawful}
+
+module _ (x : Triple) (laws : RowLaws x) where
+  normal_tree : (t : Tree) → IsLiveTree x.input t → IsNormal (alone t)
+  normal_tree t l = l.0.1
+
+  normal_hedge : {h : Trees} → IsLiveHedge x.input h → IsNormal h
+  normal_hedge empty_is_live = refl
+  normal_hedge (are_live a p l) = a.1
+
+  -- rows of live trees come from rows
+  abbrev HedgeComes : Trees → Type 0
+  HedgeComes h = IsLiveHedge x.input h → (r : HedgeRow) × IsRowOfHedge x h r × HedgeFrom x r (node_count h)
+
+  abbrev TreeComes : Tree → Type 0
+  TreeComes t = IsLiveTree x.input t → (r : TreeRow) × IsRowOfTree x t r × TreeFrom x r (node_count (alone t))
+
+  tree_comes : (t : Tree) → ((h : Trees) → node_count h < node_count (alone t) → HedgeComes h) → TreeComes t
+  tree_comes (a_text s) rows l =
+      let (u, c) = laws.there.text in
+      let (lawful, ink) = laws.made.no_white_text s l in
+      let one : 1 ≡ node_count (text s none) = omega arith in
+      (u, laws.commute.text s u ink c, subst (TreeFrom x u) one (from_text ((laws.commute.text_live s lawful ink).0 l) c))
+  tree_comes (an_element n kids) rows l =
+      let inside = laws.made.inside n kids l in
+      let (r, a, d) = rows kids (omega arith) inside in
+      let (u, c) = laws.there.wrapped (symbol_of x.symbols n) r a.row in
+      let count : node_count kids + 1 ≡ node_count (element n kids none) = omega arith in (
+        u,
+        laws.commute.wrapped n kids r u inside a c,
+        subst (TreeFrom x u) count (from_wrap (laws.made.symbol n) d ((laws.commute.wrap_live n kids r (laws.made.name_inside n kids l) inside a).0 l) c),
+      )
+
+  hedge_comes : (n : ℕ) (h : Trees) → node_count h < n → HedgeComes h
+  hedge_comes zero h low l = absurd (omega (arith, low))
+  hedge_comes (suc n) h low l = by (laws.made.from_back h) low l (λ k less. hedge_comes n k less)
+    where
+      by : {k : Trees} → FromBack k → node_count k < suc n → IsLiveHedge x.input k → ((m : Trees) → node_count m < n → HedgeComes m) → (r : HedgeRow) × IsRowOfHedge x k r × HedgeFrom x r (node_count k)
+      by is_none low live rows = let (u, c) = laws.there.empty in (u, laws.commute.empty u c, from_none c)
+      by {k} (is_followed m t e b) low live rows =
+          let whole : IsLiveHedge x.input (followed_by m t) = subst (IsLiveHedge x.input) e live in
+          let front = laws.made.front m t whole in
+          let last = laws.made.last m t whole in
+          let count : node_count k ≡ node_count m + node_count (alone t) = ap node_count e ∙ laws.made.nodes m t in
+          let (r, a, d) = rows m (omega (arith, low, count, some_node t)) front in
+          let (s, c, f) = tree_comes t (λ w less. rows w (omega (arith, low, count, less))) last in
+          let (u, v) = laws.there.appended r s a.row c.row in
+          let row : IsRowOfHedge x (followed_by m t) u = laws.commute.appended m t r s u front last a c v in
+          (u, subst (λ w. IsRowOfHedge x w u) (sym e) row, subst (HedgeFrom x u) (sym count) (from_append {h = r} {u = u} {t = s} d f ((laws.commute.append_live m t r s front last a c).0 whole) v))
+
+  pub live_hedge_from : (h : Trees) (r : HedgeRow) → IsLiveHedge x.input h → IsRowOfHedge x h r → HedgeFrom x r (node_count h)
+  live_hedge_from h r l a = let (s, b, d) = hedge_comes (suc (node_count h)) h (omega arith) l in subst (λ w. HedgeFrom x w (node_count h)) (laws.one.hedges h s r b a) d
+
+  pub live_tree_from : (t : Tree) (r : TreeRow) → IsLiveTree x.input t → IsRowOfTree x t r → TreeFrom x r (node_count (alone t))
+  live_tree_from t r l a =
+      let (s, b, d) = tree_comes t (λ h less. hedge_comes (suc (node_count h)) h (omega arith)) l in
+      subst (λ w. TreeFrom x w (node_count (alone t))) (laws.one.trees t s r b a) d
+
+  -- and what comes from rows is the row of a live tree, a plain one
+  plain_beside : (h k : Trees) → ArePlain x h → ArePlain x k → ArePlain x (beside h k)
+  plain_beside none k a b = b
+  plain_beside (text s rest) k a b = (a.0, plain_beside rest k a.1 b)
+  plain_beside (element n kids rest) k a b = (a.0, a.1, plain_beside rest k a.2 b)
+
+  abbrev PlainHedge : HedgeRow → ℕ → Type 0
+  PlainHedge r n = (h : Trees) × ArePlain x h × IsLiveHedge x.input h × IsRowOfHedge x h r × (node_count h ≡ n)
+
+  mutual
+    pub hedge_made : {r : HedgeRow} {n : ℕ} → HedgeFrom x r n → PlainHedge r n
+    hedge_made (from_none {u} c) = (none, tt, laws.made.none_is_live, laws.commute.empty u c, refl)
+    hedge_made (from_append {h} {u} {t} {m} {n} d f live c) =
+        let (k, p, l, a, count) = hedge_made d in
+        let (s, q, last, b, size) = tree_made f in
+        (followed_by k s, plain_beside k (alone s) p q, (laws.commute.append_live k s h t l last a b).1 live, laws.commute.appended k s h t u l last a b c, omega (arith, laws.made.nodes k s, count, size))
+
+    pub tree_made : {r : TreeRow} {n : ℕ} → TreeFrom x r n → IsRowOfPlain x r n
+    tree_made (from_text {u} live c) =
+        let (lawful, ink) = laws.made.plain_text in
+        (a_text (codes "t"), (refl, tt), (laws.commute.text_live (codes "t") lawful ink).1 live, laws.commute.text (codes "t") u ink c, omega arith)
+    tree_made (from_wrap {a} {h} {u} {n} low d live c) =
+        let (k, p, l, row, count) = hedge_made d in
+        let (name, same) = laws.made.fresh a low in
+        let own : IsLiveWrap x (symbol_of x.symbols (fresh_name x.symbols a)) h = subst (λ w. IsLiveWrap x w h) (sym same) live in (
+          an_element (fresh_name x.symbols a) k,
+          (ap (fresh_name x.symbols) (sym same), p, tt),
+          (laws.commute.wrap_live (fresh_name x.symbols a) k h name l row).1 own,
+          laws.commute.wrapped (fresh_name x.symbols a) k h u l row (subst (λ w. IsWrap x w h u) (sym same) c),
+          omega (arith, count),
+        )
+
+  -- safety by rows
+  safe_passes : IsSafe x.input x.output (sheet x) → (r : TreeRow) (n : ℕ) → TreeFrom x r n → IsTrue (is_admitted x r) → IsPassing x r
+  safe_passes safe r n d admitted =
+      let (t, p, l, a, count) = tree_made d in
+      let (result, is_result, valid) = safe (alone t) ((laws.tell.admitted t r l a).1 admitted) in
+      (laws.tell.passing t r result l a is_result).0 valid
+
+  passes_safe : ((r : TreeRow) (n : ℕ) → TreeFrom x r n → IsTrue (is_admitted x r) → IsPassing x r) → IsSafe x.input x.output (sheet x)
+  passes_safe pass doc valid =
+      let (t, e, l) = laws.tell.documents doc valid in
+      let (r, a) = laws.there.trees t (normal_tree t l) in
+      let (result, is_result) = laws.tell.has_result t in
+      let admitted = (laws.tell.admitted t r l a).0 (subst (IsValid x.input) e valid) in
+      (result, subst (λ w. IsResultOf (sheet x) w result) (sym e) is_result, (laws.tell.passing t r result l a is_result).1 (pass r (node_count (alone t)) (live_tree_from t r l a) admitted))
+
+  fails_show : (r : TreeRow) (t : Tree) → IsLiveTree x.input t → IsRowOfTree x t r → IsFailing x r → (result : Trees) × IsCounterexample x.input x.output (sheet x) (alone t) result
+  fails_show r t l a (admitted, fails) =
+      let (result, is_result) = laws.tell.has_result t in
+      (result, ((laws.tell.admitted t r l a).1 admitted, is_result, λ valid. fails ((laws.tell.passing t r result l a is_result).0 valid)))
+
+  counters_fail : (doc result : Trees) → IsCounterexample x.input x.output (sheet x) doc result → (r : TreeRow) × TreeFrom x r (node_count doc) × IsFailing x r
+  counters_fail doc result (valid, is_result, bad) =
+      let (t, e, l) = laws.tell.documents doc valid in
+      let (r, a) = laws.there.trees t (normal_tree t l) in (
+        r,
+        subst (λ w. TreeFrom x r (node_count w)) (sym e) (live_tree_from t r l a),
+        ((laws.tell.admitted t r l a).0 (subst (IsValid x.input) e valid), λ pass. bad ((laws.tell.passing t r result l a (subst (λ w. IsResultOf (sheet x) w result) e is_result)).1 pass)),
+      )
+
+  pub are_exact : AreExact x
+  are_exact = record {
+    trees = λ r n.
+        (λ d. let (t, p, l, a, count) = tree_made d in (t, l, a, count), λ (t, l, a, count). subst (TreeFrom x r) count (live_tree_from t r l a));
+    hedges = λ r n.
+        (λ d. let (h, p, l, a, count) = hedge_made d in (h, l, a, count), λ (h, l, a, count). subst (HedgeFrom x r) count (live_hedge_from h r l a));
+    plain = λ r n d. tree_made d;
+    safe = (safe_passes, passes_safe);
+    shows = fails_show;
+    failing = counters_fail;
+  }
+
+  module _ (trees : List TreeRow) (hedges : List HedgeRow) (closed : AreClosed x trees hedges) where
+    -- what comes from rows is listed
+    mutual
+      hedge_listed : {r : HedgeRow} {n : ℕ} → HedgeFrom x r n → Contains hedges r
+      hedge_listed (from_none {u} c) = closed.empty u c
+      hedge_listed (from_append {h} {u} {t} d f live c) = closed.append h u t (hedge_listed d) (tree_listed f) live c
+
+      tree_listed : {r : TreeRow} {n : ℕ} → TreeFrom x r n → Contains trees r
+      tree_listed (from_text {u} live c) = closed.text live u c
+      tree_listed (from_wrap {a} {h} {u} low d live c) = closed.wrap a h u low (hedge_listed d) live c
+
+    pub all_listed : ((t : Tree) (r : TreeRow) → IsLiveTree x.input t → IsRowOfTree x t r → Contains trees r) × ((h : Trees) (r : HedgeRow) → IsLiveHedge x.input h → IsRowOfHedge x h r → Contains hedges r)
+    all_listed = (λ t r l a. tree_listed (live_tree_from t r l a), λ h r l a. hedge_listed (live_hedge_from h r l a))
+
+  pub certified_safe : (trees : List TreeRow) (hedges : List HedgeRow) → AreCertified x trees hedges → IsSafe x.input x.output (sheet x)
+  certified_safe trees hedges c = passes_safe (λ r n d admitted. c.root r (tree_listed trees hedges c.closed d) admitted)
+
+pub derivations_are_exact : DerivationsAreExact
+derivations_are_exact x is = are_exact x (rows_are_lawful x is)
+
+pub closed_hold_all : ClosedHoldAll
+closed_hold_all x is trees hedges closed = all_listed x (rows_are_lawful x is) trees hedges closed
+
+pub certified_is_safe : CertifiedIsSafe
+certified_is_safe x is trees hedges c = certified_safe x (rows_are_lawful x is) trees hedges c

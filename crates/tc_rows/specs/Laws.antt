@@ -1,0 +1,80 @@
+-- The laws of rows: all that is to be known of them where rows of all live trees are found, or where some are checked.
+use Rattle.std.specs.Prelude.{◌≡◌, ◌<◌, ◌↔◌, ◌+◌, ℕ, List, false, IsTrue, codes}
+use Rattle.tc_model.specs.Names.{ExpandedName, IsName, IsText}
+use Rattle.tc_model.specs.Trees.{Trees, none, is_all_white, node_count, IsNormal}
+use Rattle.tc_model.specs.Chains.{Tree, an_element, a_text}
+use Rattle.tc_model.specs.TreesApart.{alone, followed_by, FromBack}
+use Rattle.tc_model.specs.LiveTrees.{IsLiveTree, IsLiveHedge}
+use Rattle.tc_model.specs.Validity.{IsValid, IsValidOutput}
+use Rattle.tc_model.specs.Safety.{IsResultOf}
+use Rattle.tc_model.specs.Symbols.{symbol_of, symbol_count, fresh_name}
+use Rattle.tc_rows.specs.Triples.{Triple, IsTriple, sheet}
+use Rattle.tc_rows.specs.Rows.{HedgeRow, TreeRow, IsHedgeRow, IsTreeRow, IsRowOfHedge, IsRowOfTree}
+use Rattle.tc_rows.specs.Arithmetic.{IsEmptyRow, IsTextRow, IsTextLive, IsAppend, IsLiveAppend, IsWrap, IsLiveWrap, is_admitted, IsPassing}
+
+module _ (x : Triple) where
+  -- a tree has one row, and so has a list of trees; what is worked out from rows is one row
+  pub record AreOne : Type 0 where
+    pub trees : (t : Tree) (r s : TreeRow) → IsRowOfTree x t r → IsRowOfTree x t s → r ≡ s
+    pub hedges : (h : Trees) (r s : HedgeRow) → IsRowOfHedge x h r → IsRowOfHedge x h s → r ≡ s
+    pub empty : (u v : HedgeRow) → IsEmptyRow x u → IsEmptyRow x v → u ≡ v
+    pub text : (u v : TreeRow) → IsTextRow x u → IsTextRow x v → u ≡ v
+    pub appended : (h : HedgeRow) (t : TreeRow) (u v : HedgeRow) → IsAppend x h t u → IsAppend x h t v → u ≡ v
+    pub wrapped : (a : ℕ) (h : HedgeRow) (u v : TreeRow) → IsWrap x a h u → IsWrap x a h v → u ≡ v
+
+  -- there are rows: of all trees in normal form, and of what is worked out from rows
+  pub record AreThere : Type 0 where
+    pub empty : (u : HedgeRow) × IsEmptyRow x u
+    pub text : (u : TreeRow) × IsTextRow x u
+    pub appended : (h : HedgeRow) (t : TreeRow) → IsHedgeRow x h → IsTreeRow x t → (u : HedgeRow) × IsAppend x h t u
+    pub wrapped : (a : ℕ) (h : HedgeRow) → IsHedgeRow x h → (u : TreeRow) × IsWrap x a h u
+    pub trees : (t : Tree) → IsNormal (alone t) → (r : TreeRow) × IsRowOfTree x t r
+    pub hedges : (h : Trees) → IsNormal h → (r : HedgeRow) × IsRowOfHedge x h r
+
+  -- rows commute with putting trees together: what is live is told by rows, and its row is worked out from them
+  pub record Commute : Type 0 where
+    pub empty : (u : HedgeRow) → IsEmptyRow x u → IsRowOfHedge x none u
+    pub text : (s : List ℕ) (u : TreeRow) → is_all_white s ≡ false → IsTextRow x u → IsRowOfTree x (a_text s) u
+    pub text_live : (s : List ℕ) → IsText s → is_all_white s ≡ false → IsLiveTree x.input (a_text s) ↔ IsTextLive x
+    pub appended : (h : Trees) (t : Tree) (r : HedgeRow) (s : TreeRow) (u : HedgeRow)
+        → IsLiveHedge x.input h → IsLiveTree x.input t → IsRowOfHedge x h r → IsRowOfTree x t s → IsAppend x r s u → IsRowOfHedge x (followed_by h t) u
+    pub append_live : (h : Trees) (t : Tree) (r : HedgeRow) (s : TreeRow)
+        → IsLiveHedge x.input h → IsLiveTree x.input t → IsRowOfHedge x h r → IsRowOfTree x t s → IsLiveHedge x.input (followed_by h t) ↔ IsLiveAppend x r s
+    pub wrapped : (n : ExpandedName) (h : Trees) (r : HedgeRow) (u : TreeRow)
+        → IsLiveHedge x.input h → IsRowOfHedge x h r → IsWrap x (symbol_of x.symbols n) r u → IsRowOfTree x (an_element n h) u
+    pub wrap_live : (n : ExpandedName) (h : Trees) (r : HedgeRow)
+        → IsName n → IsLiveHedge x.input h → IsRowOfHedge x h r → IsLiveTree x.input (an_element n h) ↔ IsLiveWrap x (symbol_of x.symbols n) r
+
+  -- all live trees are made of live ones, from none: a text, an element around a live list, a live tree behind a live list
+  pub record AreMade : Type 0 where
+    pub from_back : (h : Trees) → FromBack h
+    pub none_is_live : IsLiveHedge x.input none
+    pub no_white_text : (s : List ℕ) → IsLiveTree x.input (a_text s) → IsText s × (is_all_white s ≡ false)
+    pub name_inside : (n : ExpandedName) (h : Trees) → IsLiveTree x.input (an_element n h) → IsName n
+    pub inside : (n : ExpandedName) (h : Trees) → IsLiveTree x.input (an_element n h) → IsLiveHedge x.input h
+    pub front : (h : Trees) (t : Tree) → IsLiveHedge x.input (followed_by h t) → IsLiveHedge x.input h
+    pub last : (h : Trees) (t : Tree) → IsLiveHedge x.input (followed_by h t) → IsLiveTree x.input t
+    pub nodes : (h : Trees) (t : Tree) → node_count (followed_by h t) ≡ node_count h + node_count (alone t)
+    -- each symbol has a name, and a text is at hand
+    pub symbol : (n : ExpandedName) → symbol_of x.symbols n < symbol_count x.symbols
+    pub fresh : (a : ℕ) → a < symbol_count x.symbols → IsName (fresh_name x.symbols a) × (symbol_of x.symbols (fresh_name x.symbols a) ≡ a)
+    pub plain_text : IsText (codes "t") × (is_all_white (codes "t") ≡ false)
+
+  -- a valid document is live; rows tell which live trees are valid, and of which of these the result is
+  pub record Tell : Type 0 where
+    pub documents : (doc : Trees) → IsValid x.input doc → (t : Tree) × (doc ≡ alone t) × IsLiveTree x.input t
+    pub admitted : (t : Tree) (r : TreeRow) → IsLiveTree x.input t → IsRowOfTree x t r → IsValid x.input (alone t) ↔ IsTrue (is_admitted x r)
+    pub passing : (t : Tree) (r : TreeRow) (result : Trees) → IsLiveTree x.input t → IsRowOfTree x t r → IsResultOf (sheet x) (alone t) result
+        → IsValidOutput x.output result ↔ IsPassing x r
+    pub has_result : (t : Tree) → (result : Trees) × IsResultOf (sheet x) (alone t) result
+
+  pub record RowLaws : Type 0 where
+    pub one : AreOne
+    pub there : AreThere
+    pub commute : Commute
+    pub made : AreMade
+    pub tell : Tell
+
+-- rows keep all these laws
+abbrev pub RowsAreLawful : Type 0
+RowsAreLawful = (x : Triple) → IsTriple x → RowLaws x

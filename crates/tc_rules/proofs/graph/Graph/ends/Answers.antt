@@ -1,0 +1,23 @@
+use Rattle.std.proofs.Common.{◌≡◌, ◌∙◌, ap, sym, None, Some}
+use Rattle.tc_rules.specs.Rows.{state}
+use Rattle.tc_rules.specs.Steps.{both_states, ends_at}
+use Rattle.tc_rules.proofs.RowPairs.{letter_parts, fit_is, state_is}
+use Rattle.tc_rules.proofs.graph.Graph.ends.Goals as goal
+
+pub returns-in_default-kind : goal.returns-in_default-kind
+returns-in_default-kind c = λ x fit e h.
+    let p = letter_parts c.args.self.now c.args.symbol c.args.marks fit None c.in_default-kind.ensures.element c.in_default-kind.ensures.text h in
+    absurd (let none = p.2 in cc)
+
+pub returns-in_default-marked : goal.returns-in_default-marked
+returns-in_default-marked c = λ x fit e h.
+    let p = letter_parts c.args.self.now c.args.symbol c.args.marks fit (Some c.in-Some-kind.kind) c.in-Some-kind.ensures.element c.in-Some-kind.ensures.text h in
+    absurd (let none = c.in_default-marked.ensures ∙ p.3 in cc)
+
+pub returns : goal.returns
+returns c = λ x fit e h.
+    let row = c.in-Some.row.now in
+    let at : state row ≡ x = state_is c.args.self.now.states.keys c.args.number row x (sym c.in-Some.ensures.key) e in
+    let fits : both_states (state c.in-Some-kind.kind.now) (state c.in-Some-marked.marked.now) ≡ fit =
+    fit_is c.args.self.now c.args.symbol c.args.marks fit c.in-Some-kind.kind c.in-Some-marked.marked c.in-Some-kind.ensures.element c.in-Some-kind.ensures.text c.in-Some-marked.ensures h in
+    c.ends.ensures ∙ (ap (λ w. ends_at w (both_states (state c.in-Some-kind.kind.now) (state c.in-Some-marked.marked.now)) c.args.alternative) at ∙ ap (λ w. ends_at x w c.args.alternative) fits)

@@ -1,8 +1,0 @@
-use Rattle.std.proofs.Common.{◌≡◌, ◌++◌, drop, map}
-use Rattle.tc_model.specs.Views as see
-use Rattle.tc_rules.specs.Steps as v
-use Rattle.tc_rules.proofs.rows.letter_fits.Given as goal
-
-abbrev pub invariant-loop-steps : goal.invariant-loop-steps
-invariant-loop-steps l =
-    v.path_fits l.numbered (see.alternatives l.path) l.letter ≡ map (λ w. w.items) l.alternatives.items ++ v.path_fits l.numbered (see.alternatives (drop l.steps-index l.path)) l.letter

@@ -1,0 +1,9 @@
+//! Sets of numbers below a size, kept as 64-bit words.
+#![tactic(auto)]
+
+mod sets;
+#[cfg(test)]
+mod tests;
+mod words;
+
+pub use sets::{Set, sets_have_one_form};

@@ -1,0 +1,31 @@
+//! Sets of numbers, each call once.
+
+use crate::Set;
+use std::test::Fail;
+
+/// Numbers at both ends of words, put and taken.
+#[test]
+fn puts_and_takes_numbers(rt: HostRuntime) -> Result<(), Fail> {
+    let mut set = Set::empty(rt.alloc(), 130)?;
+    let mut other = Set::empty(rt.alloc(), 130)?;
+    assert_eq!(rt; set.size(), 130);
+    assert_eq!(rt; other.size(), 130);
+    assert!(rt; set.is_empty());
+    set.add(0);
+    set.add(63);
+    set.add(129);
+    assert!(rt; set.has(63));
+    assert!(rt; !set.has(64));
+    assert!(rt; set.is_apart(&other));
+    other.add(64);
+    other.add(129);
+    assert!(rt; !set.is_apart(&other));
+    set.keep_all(&other);
+    assert!(rt; set.has(129));
+    assert!(rt; !set.has(0));
+    set.add_all(&other);
+    assert!(rt; set == other);
+    set.clear();
+    assert!(rt; set.is_empty());
+    Ok(())
+}

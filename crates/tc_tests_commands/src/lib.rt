@@ -1,0 +1,11 @@
+//! The tests of whole commands on files in memory, by public calls alone.
+#![tactic(auto)]
+
+#[cfg(test)]
+mod answers;
+#[cfg(test)]
+mod first_form;
+#[cfg(test)]
+mod runs;
+#[cfg(test)]
+mod validations;

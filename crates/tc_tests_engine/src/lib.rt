@@ -1,0 +1,15 @@
+//! The tests of symbols, automata, matrices, validity, path states and runs, by public calls alone.
+#![tactic(auto)]
+
+#[cfg(test)]
+mod automata;
+#[cfg(test)]
+mod matrices;
+#[cfg(test)]
+mod path_states;
+#[cfg(test)]
+mod runs;
+#[cfg(test)]
+mod symbols;
+#[cfg(test)]
+mod validity;

@@ -1,0 +1,158 @@
+//! The product beside a plain one over truth values, the places of bits, and the numbers of a pool.
+
+use std::alloc::{AllocError, Global};
+use std::test::Fail;
+use tc_mat::{Mat, MatId, Pool, PoolFault};
+
+/// Whether a rule has a pair. An odd seed has none whose numbers are of one block of 64.
+fn is_pair(seed: u32, i: u32, j: u32) -> bool {
+    (31 * u64::from(i) + 17 * u64::from(j) + u64::from(seed)) % 11 == 0
+        && (seed % 2 == 0 || i / 64 != j / 64)
+}
+
+/// The pairs of a rule, as a matrix.
+fn matrix_of(alloc: Global, seed: u32, n: u32) -> Result<Mat, Fail> {
+    let mut mat = Mat::zero(alloc, n)?;
+    for i in 0..n {
+        for j in 0..n {
+            if is_pair(seed, i, j) && i < mat.size() && j < mat.size() {
+                mat.set(i, j);
+            }
+        }
+    }
+    Ok(mat)
+}
+
+/// The pairs of a rule, as truth values.
+fn table_of(alloc: Global, seed: u32, n: u32) -> Result<Vec<Vec<bool>>, Fail> {
+    let mut table = Vec::new(alloc);
+    for i in 0..n {
+        let mut row = Vec::new(alloc);
+        for j in 0..n {
+            row.push(is_pair(seed, i, j))?;
+        }
+        table.push(row)?;
+    }
+    Ok(table)
+}
+
+fn holds(table: &[Vec<bool>], i: usize, j: usize) -> bool {
+    match table.get(i) {
+        Some(row) => row.get(j).copied() == Some(true),
+        None => false,
+    }
+}
+
+/// Whether two tables lead from i to j, by trying each number between.
+fn leads(a: &[Vec<bool>], b: &[Vec<bool>], i: usize, j: usize) -> bool {
+    for k in 0..a.len() {
+        if holds(a, i, k) && holds(b, k, j) {
+            return true;
+        }
+    }
+    false
+}
+
+fn has(mat: &Mat, i: u32, j: u32) -> bool {
+    i < mat.size() && j < mat.size() && mat.has(i, j)
+}
+
+fn multiply(a: &Mat, b: &Mat, out: &mut Mat) -> bool {
+    let fits = a.size() == out.size() && b.size() == out.size();
+    if fits {
+        Mat::mul_into(a, b, out);
+    }
+    fits
+}
+
+/// Sizes beside a word's border, a full left and one whose blocks on the diagonal are zero, over what `out` held.
+#[test]
+fn product_is_the_plain_one(rt: HostRuntime) -> Result<(), Fail> {
+    let alloc = rt.alloc();
+    for n in [1, 63, 64, 65, 130] {
+        for (left, right) in [(0, 2), (1, 4)] {
+            let a = matrix_of(alloc, left, n)?;
+            let b = matrix_of(alloc, right, n)?;
+            let mut out = matrix_of(alloc, 6, n)?;
+            assert!(rt; multiply(&a, &b, &mut out), "sizes");
+            let plain_a = table_of(alloc, left, n)?;
+            let plain_b = table_of(alloc, right, n)?;
+            for i in 0..n {
+                for j in 0..n {
+                    let plain = leads(
+                        plain_a.as_slice(),
+                        plain_b.as_slice(),
+                        i as usize,
+                        j as usize,
+                    );
+                    assert_eq!(rt; has(&out, i, j), plain, "size {n}, pair {i} {j}");
+                }
+            }
+        }
+    }
+    Ok(())
+}
+
+/// Two words a row at size 65: (0, 64) is in the second word of row 0, (64, 64) in the last word.
+#[test]
+fn bits_stand_at_their_places(rt: HostRuntime) -> Result<(), Fail> {
+    let mut mat = Mat::identity(rt.alloc(), 65)?;
+    for (i, j) in [(0, 64), (1, 63)] {
+        if i < mat.size() && j < mat.size() {
+            mat.set(i, j);
+        }
+    }
+    let words = mat.words();
+    assert_eq!(rt; words.len(), 130);
+    for (at, word) in [
+        (0, 1),
+        (1, 1),
+        (2, 2 + (1u64 << 63)),
+        (3, 0),
+        (4, 4),
+        (128, 0),
+        (129, 1),
+    ] {
+        assert_eq!(rt; words.get(at).copied(), Some(word), "word {at}");
+    }
+    let copy = mat.copied(rt.alloc())?;
+    assert!(rt; copy == mat);
+    mat.clear();
+    assert!(rt; mat == Mat::zero(rt.alloc(), 65)?);
+    assert!(rt; copy != mat);
+    Ok(())
+}
+
+fn number_of(pool: &mut Pool, mat: &Mat) -> Option<MatId> {
+    if mat.size() == pool.size() {
+        pool.intern(mat).ok()
+    } else {
+        None
+    }
+}
+
+/// Numbers count from 0, and a matrix that is held keeps its own.
+#[test]
+fn pool_numbers_in_order(rt: HostRuntime) -> Result<(), Fail> {
+    let alloc = rt.alloc();
+    let mut pool = Pool::new(alloc, 65);
+    let first = matrix_of(alloc, 0, 65)?;
+    let second = matrix_of(alloc, 1, 65)?;
+    let third = Mat::identity(alloc, 65)?;
+    for (mat, number) in [
+        (&first, 0),
+        (&second, 1),
+        (&first, 0),
+        (&third, 2),
+        (&second, 1),
+    ] {
+        assert_eq!(rt; number_of(&mut pool, mat), Some(MatId(number)));
+    }
+    assert_eq!(rt; pool.len(), 3);
+    assert_eq!(rt; pool.find(&second), Some(MatId(1)));
+    assert_eq!(rt; pool.find(&Mat::zero(alloc, 65)?), None);
+    if pool.len() == 3 {
+        assert!(rt; *pool.get(MatId(2)) == third);
+    }
+    Ok(())
+}

@@ -1,0 +1,72 @@
+ghost use Rattle.std.specs.Prelude.{◌≡◌, List, IfOk};
+ghost use Rattle.tc_model.specs.Views as see;
+ghost use Rattle.tc_model.specs.Symbols.{Mention};
+ghost use Rattle.tc_model.specs.WellFormed.{IsSheet};
+ghost use Rattle.tc_rules.specs.Kept.{IsRulesOf, told};
+
+use std::alloc::Global;
+use std::test::Fail;
+use tc_alpha::{Alphabet, Sym};
+use tc_base::NoMemory;
+use tc_model::{Grammar, Pat, Sheet};
+use tc_rules::{Found, Job, Kind, Marks, Rules};
+
+/// A stylesheet of one mode without rules.
+fn no_rules<'b>() -> Sheet<'b>
+    ensures sheet { IsSheet (see.sheet result) }
+    ensures modes { (see.sheet result).modes ≡ 1 }
+{
+    Sheet {
+        modes: 1,
+        eaches: 0,
+        rules: &[],
+        named: &[],
+    }
+}
+
+/// The rules of a stylesheet, over its symbols and those of a schema of texts.
+fn rules_of<'b>(alloc: Global, sheet: &Sheet<'b>) -> Result<Rules<'b>, NoMemory>
+    requires { IsSheet (see.sheet sheet.now) }
+    ensures sheet { IfOk result (λ r. (told r).sheet ≡ see.sheet sheet.now) }
+    ensures rules { IfOk result (λ r. (symbols : List Mention) × IsRulesOf symbols r) }
+{
+    let schema = Grammar {
+        start: Pat::Text,
+        elements: &[],
+    };
+    let Ok(alphabet) = Alphabet::of(alloc, &schema, &schema, sheet) else {
+        return Err(NoMemory);
+    };
+    let Ok(rules) = Rules::of(alloc, sheet, &alphabet) else {
+        return Err(NoMemory);
+    };
+    Ok(rules)
+}
+
+/// Built-in rules alone: one ancestor state, without items, and one select state, of the move to all children.
+#[test]
+fn built_in_rules(rt: HostRuntime) -> Result<(), Fail> {
+    let sheet = no_rules();
+    let rules = rules_of(rt.alloc(), &sheet)?;
+    assert_eq!(rt; rules.sheet().modes, 1);
+    assert_eq!(rt; rules.predicates(), 0);
+    let root = rules.root_rule(0);
+    assert_eq!(rt; root, Found::BuiltIn);
+    let ancestors = rules.ancestors();
+    assert_eq!(rt; ancestors, 1);
+    let rule = rules.rule_for(0, 0, Kind::Text, Marks(0));
+    assert_eq!(rt; rule, Found::BuiltIn);
+    let below = rules.anc_step(0, Sym(0), Marks(0));
+    assert_eq!(rt; below, 0);
+    let looks = rules.looks();
+    assert_eq!(rt; looks, 0);
+    let moves = rules.moves();
+    assert_eq!(rt; moves, 1);
+    let next = rules.sel_step(0, Sym(0), Marks(0));
+    assert_eq!(rt; next, None);
+    let hit = rules.sel_hits(0, Kind::Text, Marks(0));
+    assert!(rt; hit);
+    let job = rules.mode_of(0);
+    assert_eq!(rt; job, Job::Mode(0));
+    Ok(())
+}

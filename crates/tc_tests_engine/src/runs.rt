@@ -1,0 +1,91 @@
+ghost use Rattle.std.specs.Prelude.{List};
+ghost use Rattle.tc_model.specs.Views.{before, sheet as see_sheet};
+ghost use Rattle.tc_model.specs.Trees.{IsDocument, none};
+ghost use Rattle.tc_model.specs.WellFormed.{IsSheet};
+
+use bumpalo::Bump;
+use std::alloc::Global;
+use std::test::Fail;
+use tc_alpha::Alphabet;
+use tc_base::NoMemory;
+use tc_model::{Grammar, Name, Node, Pat, Sheet};
+use tc_rules::Rules;
+use tc_run::run;
+
+/// A text under two elements.
+static DOCUMENT: Node<'static> = Node::Elem(
+    Name {
+        uri: "",
+        local: "a",
+    },
+    &[Node::Elem(
+        Name {
+            uri: "",
+            local: "b",
+        },
+        &[Node::Text("x")],
+    )],
+);
+
+fn document<'b>() -> &'b Node<'b>
+    ensures { IsDocument (before result.now none) }
+{
+    &DOCUMENT
+}
+
+/// A stylesheet without rules.
+fn no_rules<'b>() -> Sheet<'b>
+    ensures { IsSheet (see_sheet result) }
+{
+    Sheet {
+        modes: 1,
+        eaches: 0,
+        rules: &[],
+        named: &[],
+    }
+}
+
+/// The result of a document by a stylesheet, if there is one.
+fn result_of<'b>(
+    alloc: Global,
+    arena: &'b Bump,
+    sheet: &Sheet<'b>,
+    document: &Node<'b>,
+) -> Result<&'b [Node<'b>], NoMemory>
+    requires sheet { IsSheet (see_sheet sheet.now) }
+    requires document { IsDocument (before document.now none) }
+{
+    let schema = Grammar {
+        start: Pat::Text,
+        elements: &[],
+    };
+    let Ok(alphabet) = Alphabet::of(alloc, &schema, &schema, sheet) else {
+        return Err(NoMemory);
+    };
+    let Ok(rules) = Rules::of(alloc, sheet, &alphabet) else {
+        return Err(NoMemory);
+    };
+    let Ok(result) = run(arena, &rules, &alphabet, document) else {
+        return Err(NoMemory);
+    };
+    Ok(result)
+}
+
+/// Where no rule fits, the built-in ones copy the texts (XSLT 1.0, 5.8).
+#[test]
+fn texts_are_copied_where_no_rule_fits(rt: HostRuntime) -> Result<(), Fail> {
+    let arena = Bump::new(rt.alloc());
+    let sheet = no_rules();
+    let document = document();
+    let result = result_of(rt.alloc(), &arena, &sheet, document)?;
+    assert_eq!(rt; result.len(), 1);
+    match result[0] {
+        Node::Text(text) => {
+            assert_eq!(rt; text, "x");
+        }
+        Node::Elem(_, _) => {
+            assert!(rt; false);
+        }
+    }
+    Ok(())
+}

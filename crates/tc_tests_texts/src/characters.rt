@@ -1,0 +1,115 @@
+//! Values from the standards, by hand.
+
+use std::alloc::Global;
+use std::test::Fail;
+use tc_base::{Cursor, NoMemory, Place, Why, is_char, is_name_char, is_name_start, is_white};
+
+/// Every end of every range, and the characters beside it, by what they may be.
+#[test]
+fn classes_at_the_ends_of_their_ranges(rt: HostRuntime) {
+    let outside = "\u{0}\u{8}\u{B}\u{C}\u{E}\u{1F}\u{FFFE}\u{FFFF}";
+    let white = "\u{9}\u{A}\u{D}\u{20}";
+    let others =
+        "!,/;@[^`{\u{7F}\u{B6}\u{B8}\u{BF}\u{D7}\u{F7}\u{37E}\u{2000}\u{200B}\u{200E}\u{203E}\u{2041}\u{206F}\
+        \u{2190}\u{2BFF}\u{2FF0}\u{3000}\u{E000}\u{F8FF}\u{FDD0}\u{FDEF}\u{F0000}\u{10FFFF}";
+    let starts =
+        ":AZ_az\u{C0}\u{D6}\u{D8}\u{F6}\u{F8}\u{2FF}\u{370}\u{37D}\u{37F}\u{1FFF}\u{200C}\u{200D}\u{2070}\u{218F}\
+        \u{2C00}\u{2FEF}\u{3001}\u{D7FF}\u{F900}\u{FDCF}\u{FDF0}\u{FFFD}\u{10000}\u{EFFFF}";
+    let inner = "-.09\u{B7}\u{300}\u{36F}\u{203F}\u{2040}";
+    let rows = [
+        (outside, [false, false, false, false]),
+        (white, [true, true, false, false]),
+        (others, [true, false, false, false]),
+        (starts, [true, false, true, true]),
+        (inner, [true, false, false, true]),
+    ];
+    for (characters, classes) in rows {
+        for c in characters.chars() {
+            let found = [is_char(c), is_white(c), is_name_start(c), is_name_char(c)];
+            assert_eq!(rt; found, classes, "{c:?}");
+        }
+    }
+}
+
+/// Characters of one to four bytes, the last before the end.
+#[test]
+fn takes_characters_of_each_length(rt: HostRuntime) {
+    let mut cursor = Cursor::new(b"a\xC3\xA9\xE2\x82\xAC\xF0\x9F\x98\x80");
+    let taken = [('a', 1, 9), ('é', 3, 7), ('€', 6, 4), ('😀', 10, 0)];
+    for (c, place, left) in taken {
+        assert_eq!(rt; cursor.next_char(), Ok(Some(c)));
+        assert_eq!(rt; cursor.place(), Place(place));
+        assert_eq!(rt; cursor.rest().len(), left);
+    }
+    assert_eq!(rt; cursor.next_char(), Ok(None));
+    assert_eq!(rt; cursor.place(), Place(10));
+}
+
+/// A character that ends where the bytes go wrong is taken; what is no character stays.
+#[test]
+fn stays_where_no_character_begins(rt: HostRuntime) {
+    let overlong = b"\xC0\x80";
+    let overlong_of_three = b"\xE0\x9F\xBF";
+    let surrogate = b"\xED\xA0\x80";
+    let too_large = b"\xF4\x90\x80\x80";
+    let alone = b"\x80a";
+    let truncated = b"\xE2\x82";
+    let broken = b"\xF0\x9F\x98a";
+    let bad: [&[u8]; 7] = [
+        overlong,
+        overlong_of_three,
+        surrogate,
+        too_large,
+        alone,
+        truncated,
+        broken,
+    ];
+    for bytes in bad {
+        let mut cursor = Cursor::new(bytes);
+        assert_eq!(rt; cursor.next_char(), Err(Place(0)), "{bytes:?}");
+        assert_eq!(rt; cursor.rest(), bytes);
+    }
+    let mut cursor = Cursor::new(b"\xC3\xA9\xFF");
+    assert_eq!(rt; cursor.next_char(), Ok(Some('é')));
+    assert_eq!(rt; cursor.next_char(), Err(Place(2)));
+    assert_eq!(rt; cursor.next_char(), Err(Place(2)));
+}
+
+/// The first and the last reason of each standard.
+#[test]
+fn reasons_have_their_numbers_and_words(rt: HostRuntime) {
+    let rows = [
+        (Why::N1, 1, "doctype-subset"),
+        (Why::N5, 5, "xml-version"),
+        (Why::N6, 6, "data"),
+        (Why::N17, 17, "concatenation"),
+        (Why::N18, 18, "variable"),
+        (Why::N34, 34, "preserve-space"),
+        (Why::N35, 35, "extension"),
+        (Why::N42, 42, "unknown-xslt"),
+        (Why::N43, 43, "axis"),
+        (Why::N52, 52, "string"),
+    ];
+    for (why, number, word) in rows {
+        assert_eq!(rt; why.number(), number);
+        assert_eq!(rt; why.word(), word);
+    }
+}
+
+/// Two bytes, in a box and in a list.
+fn bytes_twice(alloc: Global) -> Result<(Box<u8>, Vec<u8>), NoMemory> {
+    let boxed = Box::new(alloc, 7)?;
+    let mut list = Vec::new(alloc);
+    list.reserve(1)?;
+    list.push(7)?;
+    Ok((boxed, list))
+}
+
+/// With memory left, what may be refused for want of it is not.
+#[test]
+fn errors_of_the_allocator_become_want_of_memory(rt: HostRuntime) -> Result<(), Fail> {
+    let (boxed, list) = bytes_twice(rt.alloc())?;
+    assert_eq!(rt; *boxed, 7);
+    assert_eq!(rt; list.as_slice(), [7].as_slice());
+    Ok(())
+}

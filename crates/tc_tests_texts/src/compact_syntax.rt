@@ -1,0 +1,291 @@
+use bumpalo::Bump;
+use std::fmt::Write;
+use std::test::Fail;
+use tc_base::{Place, Why};
+use tc_rnc::{Def, Joins, RncFault, SClass, SPat, read_rnc};
+
+/// Why a text is refused, which is of a lawful length.
+fn fault(rt: HostRuntime, text: &[u8]) -> Option<RncFault> {
+    if text.len() > 67108864 {
+        return Some(RncFault::NoMemory);
+    }
+    let arena = Bump::new(rt.alloc());
+    match read_rnc(&arena, text) {
+        Ok(_) => None,
+        Err(fault) => Some(fault),
+    }
+}
+
+#[test]
+fn phrases_are_read(rt: HostRuntime) {
+    let texts: [&[u8]; 25] = [
+        b"",
+        b"start = b",
+        b"start = empty",
+        b"element * - (* - a) {empty}",
+        b"element element { text }",
+        b"element \\element { notAllowed }",
+        b"element \\x { empty }",
+        b"start = \\element",
+        b"a |= empty",
+        b"a &= empty a &= text",
+        b"\\start = \\grammar",
+        b"div { start = a div { } } b = text",
+        b"grammar { start = a }",
+        b"grammar { }",
+        b"element a|b { (a , b)+ , (c | d)? , (e & f)* }",
+        b"namespace p = 'u' default namespace q = \"\" datatypes p = \"v\" element p:* - (p:a | q:b) { empty }",
+        b"namespace element = \"u\" element element:text { mixed { text } }",
+        b"element xml:a { empty }",
+        b"\xEF\xBB\xBFempty # and no more",
+        b"a#\r= text",
+        b"# one\n# two\rstart=a # three\r\n",
+        b"# \\x{41}\nempty",
+        b"element a { attribute b { {x} \"}\" # }\n \\x{} } }",
+        b"attribute * { ( [ , \"\\x{41}\" ) \\ >> }?",
+        b"element a { attribute b { } }",
+    ];
+    for text in texts {
+        assert!(rt; fault(rt, text).is_none());
+    }
+}
+
+#[test]
+fn other_texts_are_malformed(rt: HostRuntime) {
+    let table: [(&[u8], u32); 27] = [
+        (b"element a { b , c | d }", 18),
+        (b"default namespace = \"ht", 23),
+        (b"\xFF", 0),
+        (b"a\xC0", 1),
+        (b"text\0", 4),
+        (b"element a {", 11),
+        (b"element a { }", 12),
+        (b"element a { empty } }", 20),
+        (b"element a - b { empty }", 10),
+        (b"element q:a { empty }", 8),
+        (b"element a { \"b }", 16),
+        (b"element a { \"b\n\" }", 14),
+        (b"element a { attribute b { \"\\x{41} } }", 37),
+        (b"start = element", 15),
+        (b"a | = empty", 4),
+        (b"a = ", 4),
+        (b"a = b }", 6),
+        (b"empty empty", 6),
+        (b"empty ? ?", 8),
+        (b"(empty", 6),
+        (b"mixed text", 6),
+        (b"div { start = a", 15),
+        (b"namespace xml = \"b\" empty", 0),
+        (b"namespace a = \"b\" namespace a = \"c\" empty", 18),
+        (
+            b"default namespace = \"b\" default namespace = \"c\" empty",
+            24,
+        ),
+        (b"default namespace a = \"u\" namespace a = \"v\" empty", 26),
+        (b"namespace a = \"http://www.w3.org/2000/xmlns/\" empty", 0),
+    ];
+    for (text, place) in table {
+        assert_eq!(rt; fault(rt, text), Some(RncFault::Malformed(Place(place))));
+    }
+}
+
+#[test]
+fn constructs_that_are_not_read_have_their_reasons(rt: HostRuntime) {
+    let table: [(&[u8], u32, Why); 26] = [
+        (b"p:a", 0, Why::N6),
+        (b"element a { string }", 12, Why::N6),
+        (b"element a { token, \"b\" }", 12, Why::N6),
+        (b"element a { p:n \"\\x{41}\" }", 12, Why::N6),
+        (b"element a { \"v\" }", 12, Why::N7),
+        (b"element a { list { text } }", 12, Why::N8),
+        (b"element a { external \"u\" }", 12, Why::N9),
+        (b"include \"u\"", 0, Why::N10),
+        (b"element a { grammar { start = empty } }", 12, Why::N11),
+        (b"grammar { start = empty } | empty", 0, Why::N11),
+        (b"element a { parent b }", 12, Why::N12),
+        (b"namespace a = inherit empty", 14, Why::N13),
+        (b"default namespace = inherit empty", 20, Why::N13),
+        (b"[ a ] empty", 0, Why::N14),
+        (b"empty >> a []", 6, Why::N14),
+        (b"element \\x{41} { empty }", 8, Why::N15),
+        (b"namespace a = \"b\\x{41}\" empty", 16, Why::N15),
+        (b"element a { \"\\x{41}\" }", 13, Why::N15),
+        (b"element a { empty \"\\x{41}\" }", 19, Why::N15),
+        (b"element \"\\x{41}\" { empty }", 9, Why::N15),
+        (b"namespace a = \"\"\"\\x{41}\"\"\" empty", 17, Why::N15),
+        (b"default namespace = \"\\x{41}", 21, Why::N15),
+        (b"a = \"\\x{41}", 5, Why::N15),
+        (b"namespace a = \"\"\"b\"\"\" empty", 14, Why::N16),
+        (b"a = '''b'''", 4, Why::N16),
+        (b"namespace a = \"b\" ~ \"c\" empty", 18, Why::N17),
+    ];
+    for (text, place, why) in table {
+        assert_eq!(rt;
+            fault(rt, text),
+            Some(RncFault::Unsupported(Place(place), why))
+        );
+    }
+}
+
+/// So many copies of the first text, then the middle, then as many copies of the last text.
+fn nested(
+    rt: HostRuntime,
+    depth: usize,
+    first: &str,
+    middle: &str,
+    last: &str,
+) -> Result<String, Fail> {
+    let mut text = String::new(rt.alloc());
+    for _ in 0..depth {
+        text.push_str(first)?;
+    }
+    text.push_str(middle)?;
+    for _ in 0..depth {
+        text.push_str(last)?;
+    }
+    Ok(text)
+}
+
+#[test]
+fn braces_and_parentheses_stand_2000_deep(rt: HostRuntime) -> Result<(), Fail> {
+    let table: [(&str, &str, &str, usize, u32); 5] = [
+        ("(", "a", ")", 2000, 2000),
+        ("element a {", "text", "}", 2000, 22010),
+        ("mixed{", "(text)", "}", 1999, 12000),
+        ("div {", "", "}", 2000, 10004),
+        ("(", "element (a) { attribute b { ( } }", ")", 1998, 2025),
+    ];
+    for (first, middle, last, deepest, place) in table {
+        let most = nested(rt, deepest, first, middle, last)?;
+        assert_eq!(rt; fault(rt, most.as_bytes()), None);
+        let more = nested(rt, deepest + 1, first, middle, last)?;
+        assert_eq!(rt;
+            fault(rt, more.as_bytes()),
+            Some(RncFault::TooDeep(Place(place)))
+        );
+    }
+    Ok(())
+}
+
+#[test]
+fn in_the_text_of_an_attribute_braces_alone_count(rt: HostRuntime) -> Result<(), Fail> {
+    let most = nested(rt, 1999, "{", "((((", "}")?;
+    let mut text = String::new(rt.alloc());
+    write!(text, "attribute a {{ {most} }}")?;
+    assert_eq!(rt; fault(rt, text.as_bytes()), None);
+    let more = nested(rt, 2000, "{", "((((", "}")?;
+    let mut text = String::new(rt.alloc());
+    write!(text, "attribute a {{ {more} }}")?;
+    assert_eq!(rt;
+        fault(rt, text.as_bytes()),
+        Some(RncFault::TooDeep(Place(2013)))
+    );
+    Ok(())
+}
+
+#[test]
+fn long_texts_are_read(rt: HostRuntime) -> Result<(), Fail> {
+    let mut chain = String::new(rt.alloc());
+    chain.push_str("start = a1\n")?;
+    for i in 1..100000u32 {
+        write!(chain, "a{i} = a{}\n", i + 1)?;
+    }
+    chain.push_str("a100000 = element x{empty}\n")?;
+    assert_eq!(rt; definitions(rt, chain.as_bytes()), Some(100001));
+    let mut shared = String::new(rt.alloc());
+    shared.push_str("a = text start = element b { a")?;
+    for _ in 1..10000u32 {
+        shared.push_str(" | a")?;
+    }
+    shared.push_str("}")?;
+    assert_eq!(rt; fault(rt, shared.as_bytes()), None);
+    Ok(())
+}
+
+const INPUT: &str = "start = article
+article = element article { title, section+ }
+title = element title { inline }
+section = element section {
+  attribute id { xsd:ID }?, title, (para | itemlist)* }
+para = element para { inline }
+itemlist = element itemlist { item* }
+item = element item { para+ }
+inline = mixed { emph* }
+emph = element emph { text }
+";
+
+const OUTPUT: &str = "default namespace = \"http://www.w3.org/1999/xhtml\"
+start = element html {
+  element head { element title { text } }, element body { block+ } }
+block = element h1 { inline } | element p { inline }
+  | element ul { element li { block+ }+ } | element div { block+ }
+inline = mixed { element em { text }* }
+";
+
+/// How many definitions a text has, if it is a schema.
+fn definitions(rt: HostRuntime, text: &[u8]) -> Option<usize> {
+    if text.len() > 67108864 {
+        return None;
+    }
+    let arena = Bump::new(rt.alloc());
+    match read_rnc(&arena, text) {
+        Ok(syntax) => Some(syntax.defs.len()),
+        Err(_) => None,
+    }
+}
+
+#[test]
+fn schemas_of_articles_are_read(rt: HostRuntime) {
+    assert_eq!(rt; definitions(rt, INPUT.as_bytes()), Some(9));
+    assert_eq!(rt; definitions(rt, OUTPUT.as_bytes()), Some(3));
+}
+
+/// The members of a choice.
+fn members(pattern: SPat<'_>) -> usize {
+    match pattern {
+        SPat::Choice(items) => items.len(),
+        _ => 0,
+    }
+}
+
+/// The place of an element and that of its name class, if all names of this namespace but one are in it.
+fn places_of_wildcard(pattern: SPat<'_>, namespace: &str) -> Option<(Place, Place)> {
+    match pattern {
+        SPat::Element(place, SClass::Ns(at, uri, except), _) => {
+            if uri == namespace && except.len() == 1 {
+                Some((place, at))
+            } else {
+                None
+            }
+        }
+        _ => None,
+    }
+}
+
+/// Whether the schema of the next test is read as it should be.
+fn is_read_well(defs: &[Def<'_>]) -> bool {
+    match defs {
+        [first, second] => {
+            first.name.is_empty()
+                && members(first.body) == 2
+                && second.name == "div"
+                && second.joins == Joins::Interleave
+                && second.place == Place(36)
+                && places_of_wildcard(second.body, "u") == Some((Place(44), Place(52)))
+        }
+        _ => false,
+    }
+}
+
+#[test]
+fn a_schema_is_read(rt: HostRuntime) {
+    let arena = Bump::new(rt.alloc());
+    let text = b"namespace p = \"u\"\nstart = a | p # c\n\\div &= element p:* - b { text, c* }";
+    match read_rnc(&arena, text) {
+        Ok(syntax) => {
+            assert_eq!(rt; syntax.end, Place(72));
+            assert!(rt; is_read_well(syntax.defs));
+        }
+        Err(_) => panic!(rt; "a schema"),
+    }
+}

@@ -1,0 +1,301 @@
+use bumpalo::Bump;
+use std::test::Fail;
+use tc_base::{Place, Why};
+use tc_model::{Node, Raw, RawElem};
+use tc_xml::{XmlFault, read_raw, strip};
+
+/// Whether the text is read, and how it is refused otherwise.
+fn outcome(rt: &HostRuntime, text: &[u8]) -> Option<XmlFault> {
+    let arena = Bump::new(rt.alloc());
+    if text.len() > 1000000 {
+        return None;
+    }
+    read_raw(&arena, text).err()
+}
+
+#[test]
+fn lines_of_the_grammar(rt: HostRuntime) -> Result<(), Fail> {
+    let good = [
+        "<a/>",
+        "<a></a>",
+        "<a ></a >",
+        "\u{FEFF}<a/>",
+        "<?xml version='1.0'?><a/>",
+        "<?xml version=\"1.0\" encoding=\"utf-8\" standalone = 'yes' ?>\n<!-- c --><?p?><a/> <?q x?>",
+        "<!DOCTYPE a><a/>",
+        "<!DOCTYPE p:a SYSTEM 'x'><a/>",
+        "<!DOCTYPE a PUBLIC 'x' \"y\" ><!----><a/>",
+        "<a b='1' c=\"'\"/>",
+        "<a xmlns='u'><b xmlns=''/></a>",
+        "<p:a xmlns:p='u' p:b='1' b='2'/>",
+        "<a xml:lang='en'/>",
+        "<a>&lt;&gt;&amp;&apos;&quot;&#9;&#x1F600;</a>",
+        "<a><![CDATA[<&]] >]]></a>",
+        "<a>]]&gt;</a>",
+        "<a>]] ></a>",
+        "<a><![CDATA[]]]]><![CDATA[>]]></a>",
+        "<a b='>&#x9;&#xD;&#x10FFFF;'/>",
+        "<a\r\n\tb = '1'\n/>",
+        "<a><?p?><?p ?><?xml-stylesheet href='x'?></a>",
+        "<a><!-- - -> --></a>",
+        "<?xml version='1.0' encoding='us-ascii'?><a/>",
+        "<?xml version='1.0' standalone='no'?><a/>",
+        "<a xmlns:xml='http://www.w3.org/XML/1998/namespace'/>",
+        "<xml:a/>",
+        "<a xmlns='' xmlns:p='u' xmlns:q='u' p:b='1' q:c='2'/>",
+        "<a xmlns='u' b='1'><p:a xmlns:p='u' p:b='1' b='2'/></a>",
+    ];
+    for text in good {
+        assert_eq!(rt; outcome(&rt, text.as_bytes()), None, "{text}");
+    }
+    let bad = [
+        "",
+        "a",
+        "<a>",
+        "<a></b>",
+        "<a/><b/>",
+        "<a/>x",
+        " <?xml version='1.0'?><a/>",
+        "<a b='1' b='2'/>",
+        "<p:a xmlns:p='u' xmlns:q='u' p:b='1' q:b='2'/>",
+        "<p:a/>",
+        "<a p:b=''/>",
+        "<xmlns:a/>",
+        "<a xmlns:p=''/>",
+        "<a xmlns:xml='u'/>",
+        "<a xmlns:p='http://www.w3.org/XML/1998/namespace'/>",
+        "<a xmlns='http://www.w3.org/2000/xmlns/'/>",
+        "<a b='<'/>",
+        "<a b='1'c='2'/>",
+        "<a b/>",
+        "<a>]]></a>",
+        "<a>&#0;</a>",
+        "<a>&#xFFFE;</a>",
+        "<a>&#;</a>",
+        "<a>& </a>",
+        "<a>&a:b;</a>",
+        "<a><!-- -- --></a>",
+        "<a><!-- ---></a>",
+        "<a><?xml?></a>",
+        "<a><?p:q?></a>",
+        "<a:b:c/>",
+        "<1/>",
+        "<a>\u{1}</a>",
+        "<a>\u{FFFE}</a>",
+        "<a>&#xD800;</a>",
+        "<a>&#x110000;</a>",
+        "<a>&#65</a>",
+        "<a>&#x;</a>",
+        "<a>&lt</a>",
+        "<a><![CDATA[x]]</a>",
+        "<a><![CDATA[x]></a>",
+        "<a><!x></a>",
+        "<a><!-></a>",
+        "<a></a ",
+        "<a></A>",
+        "</a>",
+        "<a b=1/>",
+        "<a b='1'",
+        "<a b='1\"/>",
+        "<a:/>",
+        "<:a/>",
+        "<-a/>",
+        "<p:a xmlns:p='u'></a>",
+        "<a><b xmlns:p='u'/><p:b/></a>",
+        "<a xmlns='http://www.w3.org/XML/1998/namespace'/>",
+        "<a xmlns:xmlns='http://www.w3.org/2000/xmlns/'/>",
+        "<a p:b='1' q:b='2' xmlns:p='u' xmlns:q='u'/>",
+        "<a/><!DOCTYPE a>",
+        "<!DOCTYPE a><!DOCTYPE a><a/>",
+        "<!DOCTYPE a 'x'><a/>",
+        "<!DOCTYPE a PUBLIC 'x'><a/>",
+        "<?xml version='1.0' standalone='maybe'?><a/>",
+        "<?xml encoding='UTF-8'?><a/>",
+        "<?xml version='1.0' encoding='UTF-8'standalone='yes'?><a/>",
+        "\u{FEFF}\u{FEFF}<a/>",
+    ];
+    for text in bad {
+        assert!(rt;
+            matches!(outcome(&rt, text.as_bytes()), Some(XmlFault::Malformed(_))),
+            "{text}"
+        );
+    }
+    Ok(())
+}
+
+#[test]
+fn places_of_refusals(rt: HostRuntime) -> Result<(), Fail> {
+    let unsupported = [
+        ("<a>&nbsp;</a>", 3, Why::N2),
+        ("<a>x<b/>&eacute;</a>", 8, Why::N2),
+        ("<a b='x&nbsp;'/>", 7, Why::N2),
+        ("\u{FEFF}<a>&x;</a>", 6, Why::N2),
+        ("<a xml:space='preserve'/>", 3, Why::N4),
+        ("<a><b c='' xml:space='&x;'/></a>", 11, Why::N4),
+        ("<!DOCTYPE a [<!ELEMENT a ANY>]><a/>", 12, Why::N1),
+        ("<!DOCTYPE a SYSTEM 'x'[]><a/>", 22, Why::N1),
+        ("<?xml version='1.1'?><a/>", 6, Why::N5),
+        ("<?xml  version='1.1' encoding='x'?><a/>", 7, Why::N5),
+        ("<?xml version='1.0' encoding='latin1'?><a/>", 20, Why::N3),
+        ("<?xml version='1.0' encoding='utf8'?><a/>", 20, Why::N3),
+    ];
+    for (text, place, why) in unsupported {
+        let answer = Some(XmlFault::Unsupported(Place(place), why));
+        assert_eq!(rt; outcome(&rt, text.as_bytes()), answer, "{text}");
+    }
+    assert_eq!(rt; outcome(&rt, b"\xFF"), Some(XmlFault::Malformed(Place(0))));
+    Ok(())
+}
+
+/// What follows the place of a refusal, be it no characters.
+#[test]
+fn what_stands_behind_is_not_looked_at(rt: HostRuntime) -> Result<(), Fail> {
+    let unsupported = [
+        ("<a>&nbsp;</a>", 3, Why::N2),
+        ("<a xml:space='", 3, Why::N4),
+        ("<!DOCTYPE a [", 12, Why::N1),
+        ("<?xml version='1.1'", 6, Why::N5),
+        (
+            "<?xml version='1.0' encoding='ISO-8859-1'?><a>",
+            20,
+            Why::N3,
+        ),
+        (
+            "<?xml version='1.0' encoding='ISO-2022-JP'?><a>",
+            20,
+            Why::N3,
+        ),
+    ];
+    let behind: [&[u8]; 4] = [b"\xFF", b"\xE9</a>", b"\x1B$B</a>", b"\xEF\xBF\xBE"];
+    for (front, place, why) in unsupported {
+        for bytes in behind {
+            let mut text = Vec::new(rt.alloc());
+            text.extend_from_slice(front.as_bytes())?;
+            text.extend_from_slice(bytes)?;
+            let answer = Some(XmlFault::Unsupported(Place(place), why));
+            assert_eq!(rt; outcome(&rt, text.as_slice()), answer, "{front}");
+        }
+    }
+    let malformed: [&[u8]; 5] = [
+        b"<a/>\xFF",
+        b"<a>\xFF&nbsp;</a>",
+        b"<a>\x01&nbsp;</a>",
+        b"<?xml version='1.0' encoding='x\xFF'?><a/>",
+        b"<a>\xEF\xBF\xBE<b xml:space=''/></a>",
+    ];
+    for text in malformed {
+        assert!(rt; matches!(outcome(&rt, text), Some(XmlFault::Malformed(_))));
+    }
+    Ok(())
+}
+
+#[test]
+fn prefixes_are_malformed(rt: HostRuntime) -> Result<(), Fail> {
+    let text = b"<a><b/><c><b/></c></a>";
+    for end in 0..text.len() {
+        match outcome(&rt, &text[..end]) {
+            Some(XmlFault::Malformed(place)) => assert!(rt; place.0 as usize <= end),
+            _ => panic!(rt; "a front is read"),
+        }
+    }
+    Ok(())
+}
+
+#[test]
+fn nesting_is_bounded(rt: HostRuntime) -> Result<(), Fail> {
+    for (depth, answer) in [(2000, None), (2001, Some(XmlFault::TooDeep(Place(6000))))] {
+        let mut text = Vec::new(rt.alloc());
+        for _ in 0..depth {
+            text.extend_from_slice(b"<a>")?;
+        }
+        for _ in 0..depth {
+            text.extend_from_slice(b"</a>")?;
+        }
+        assert_eq!(rt; outcome(&rt, text.as_slice()), answer);
+        let arena = Bump::new(rt.alloc());
+        if text.len() < 20000 && answer.is_none() {
+            let raw = read_raw(&arena, text.as_slice())?;
+            let Node::Elem(_, kids) = strip(&arena, &raw)? else {
+                panic!(rt; "an element");
+            };
+            assert_eq!(rt; kids.len(), 1);
+        }
+    }
+    Ok(())
+}
+
+/// What an element shows: its attributes, the prefixes in scope, and its children with their places.
+fn shown(rt: &HostRuntime, element: &RawElem<'_>) -> Result<String, Fail> {
+    let mut out = String::new(rt.alloc());
+    for attr in element.attrs {
+        out.push_str(format!(in rt.alloc();
+            "{}|{}={};",
+            attr.name.uri, attr.name.local, attr.value
+        )?.as_str())?;
+    }
+    for binding in element.scope {
+        out.push_str(format!(in rt.alloc(); "{}>{};", binding.prefix, binding.uri)?.as_str())?;
+    }
+    for kid in element.kids {
+        let one = match kid {
+            Raw::Text(text, place) => format!(in rt.alloc(); "{}@{};", text, place.0)?,
+            Raw::Elem(elem) => format!(in rt.alloc(); "<{}>@{};", elem.name.local, elem.place.0)?,
+        };
+        out.push_str(one.as_str())?;
+    }
+    Ok(out)
+}
+
+/// What a tree shows, where it is an element.
+fn shown_of(rt: &HostRuntime, tree: &Raw<'_>) -> Result<String, Fail> {
+    match tree {
+        Raw::Elem(element) => shown(rt, element),
+        Raw::Text(_, _) => Ok(String::new(rt.alloc())),
+    }
+}
+
+#[test]
+fn trees_as_they_are_read(rt: HostRuntime) -> Result<(), Fail> {
+    let rows = [
+        (
+            "<a b=' x\ty\r\nz&#10;&lt;'>q\r\nr<!--c-->s<b/><![CDATA[]]>t</a>",
+            "|b= x y z\n<;xml>http://www.w3.org/XML/1998/namespace;q\nrs@24;<b>@37;t@41;",
+        ),
+        (
+            "<a xmlns='u' xmlns:p='v' p:c='1'/>",
+            "v|c=1;xml>http://www.w3.org/XML/1998/namespace;>u;p>v;",
+        ),
+        (
+            "<a xmlns='u' xmlns:p='v'><b xmlns:p='w' xmlns='' p:c='' xmlns:q='u'>&#13;\r<c/><?p?></b></a>",
+            "w|c=;xml>http://www.w3.org/XML/1998/namespace;p>w;q>u;\r\n@68;<c>@74;",
+        ),
+    ];
+    for (text, answer) in rows {
+        let arena = Bump::new(rt.alloc());
+        let Raw::Elem(root) = read_raw(&arena, text.as_bytes())? else {
+            panic!(rt; "an element");
+        };
+        let shows = if root.kids.len() == 1 {
+            shown_of(&rt, &root.kids[0])?
+        } else {
+            shown(&rt, &root)?
+        };
+        assert_eq!(rt; shows.as_str(), answer);
+    }
+    Ok(())
+}
+
+#[test]
+fn documents_are_stripped(rt: HostRuntime) -> Result<(), Fail> {
+    let arena = Bump::new(rt.alloc());
+    let raw = read_raw(&arena, b"<a> <b/>x<!--c-->y </a>")?;
+    let Node::Elem(_, kids) = strip(&arena, &raw)? else {
+        panic!(rt; "an element");
+    };
+    assert_eq!(rt; kids.len(), 2);
+    let Node::Text(text) = kids[1] else {
+        panic!(rt; "a text");
+    };
+    assert_eq!(rt; text, "xy ");
+    Ok(())
+}

@@ -1,0 +1,127 @@
+#!/usr/bin/env python3
+"""Writes docs/TRUST.md, and its sum into README.md: which definitions the main clauses of `typecheck` reach by `use`
+lines. Run it at the top."""
+import re
+from functools import cache
+from pathlib import Path
+
+TOP = Path("crates/tc_top/src/lib.rt")
+CLAUSE = r"    ensures (headline|validity|running|limited) \{(.*?)(?=\n    ensures|\n\n|\n\{)"
+WORD = re.compile(r"(?:\w+\.)*[\w-]+(?![\w-]| =)")
+ITEM = re.compile(r"\s*(?:abbrev )?(?:pub )?(data |record )?([\w-]+)(?: \(.*\)| \{.*\})* : ")
+
+
+def file_of(module):
+    crate, _, name = module.partition(".specs.")
+    return Path("crates", crate, "specs", name.replace(".", "/") + ".antt")
+
+
+def uses(text):
+    """What each word of a file means, by its `use` lines: a module, or a module and a name of it."""
+    names = {}
+    for module, alias, listed in re.findall(r"^(?:ghost )?use Rattle\.([\w.]+?)(?: as (\w+)|\.\{(.*)\});?$", text, re.M):
+        for name in listed.split(", ") if listed else []:
+            names[name.split(" as ")[-1].strip()] = (module, name.split(" as ")[0].strip())
+        if alias:
+            names[alias] = (module, None)
+    return names
+
+
+@cache
+def parse(module):
+    """The `use` lines of a module, and of each block of definitions the names that it defines, its words and its lines."""
+    text = file_of(module).read_text()
+    plain = re.sub(r"^use .*\n", "", re.sub(r'--.*|"[^"]*"', "", text), flags=re.M)
+    blocks = []
+    for block in re.split(r"\n\s*\n(?=\S)", plain):
+        defined, in_record = set(), False
+        for line in block.split("\n"):
+            item = ITEM.match(line)
+            if item and (item[1] or not in_record):
+                defined.add(item[2])
+                in_record = item[1] == "record "
+        blocks.append((defined, WORD.findall(block), sum(map(bool, map(str.strip, block.split("\n"))))))
+    return uses(text), blocks
+
+
+def reach(module, words, names, seen):
+    """Marks the blocks that words reach."""
+    for word in words:
+        front, _, last = word.rpartition(".")
+        at, name = (names[front][0], last) if names.get(front, (0, 0))[1] is None and front in names else names.get(word, (module, word))
+        if not file_of(at).exists():
+            if name and at != module:
+                seen.setdefault("code" if ".declared." in at else "std", set()).add(f"{at}.{name}".replace(".TheVariants", ""))
+            continue
+        inner, blocks = parse(at)
+        for number, (defined, used, _) in enumerate(blocks):
+            if name in defined and number not in seen.setdefault(at, set()):
+                seen[at].add(number)
+                reach(at, used, inner, seen)
+
+
+def in_order(modules):
+    """Modules after those on which they stand."""
+    order = []
+
+    def visit(module):
+        for at, _ in parse(module)[0].values():
+            if at in modules and at not in order and at != module:
+                visit(at)
+        if module not in order:
+            order.append(module)
+
+    for module in sorted(modules):
+        visit(module)
+    return order
+
+
+def subject(module):
+    """The first sentence of a module."""
+    comment = re.match(r"(?:-- .*\n)*", file_of(module).read_text())[0]
+    whole = " ".join(line[3:] for line in comment.splitlines())
+    return re.split(r"(?<=[\w)\]`])\. (?=[A-Z])|: `", whole)[0].rstrip(".")
+
+
+def main():
+    text = TOP.read_text()
+    reached = {}
+    for clause, body in re.findall(CLAUSE, text, re.S):
+        reached[clause] = {}
+        reach("tc_top", WORD.findall(body), uses(text), reached[clause])
+    clauses = list(reached)
+    modules = in_order({m for seen in reached.values() for m in seen if m not in ("code", "std")})
+    lines = {m: [sum(parse(m)[1][i][2] for i in seen.get(m, ())) for seen in reached.values()] for m in modules}
+    rows = [f"| [`{m.replace('.specs.', '.')}`](../{file_of(m)}) | {subject(m)} | " + " | ".join(str(n or "") for n in lines[m]) + " |" for m in modules]
+    counts = [f"{sum(1 for m in modules if lines[m][c])} modules, {sum(lines[m][c] for m in modules)} lines" for c in range(len(clauses))]
+    code = sorted({name.replace(".specs.declared", "") for seen in reached.values() for name in seen.get("code", ()) if name.split(".")[-1] == name.split(".")[-2]})
+    std = sorted({name.split(".")[-1] for seen in reached.values() for name in seen.get("std", ())})
+    head = ["clause of `typecheck`", *(f"`{c}`" for c in clauses)]
+    table = ["| module | what it says | " + " | ".join(head[1:]) + " |", "|---" * 2 + "|---:" * len(clauses) + "|", *rows, "| **all** | | " + " | ".join(counts) + " |"]
+    Path("docs/TRUST.md").write_text(TEXT.format(table="\n".join(table), code=", ".join(f"`{c}`" for c in code), std=", ".join(f"`{s}`" for s in std)))
+
+    readme = re.sub(r"(clause `headline`, read )\d+ modules, \d+ lines", rf"\g<1>{counts[clauses.index('headline')]}", Path("README.md").read_text())
+    Path("README.md").write_text(readme)
+
+
+TEXT = """# What a reader has to believe
+
+This page is written by `docs/trust.py`; don't edit it.
+
+The theorem is the contract of `typecheck` in `crates/tc_top/src/lib.rt`. Each clause there is a statement in words of the modules below. Whoever has read these definitions, and finds that they say what the standards say, has read all of the project's own text on which the clause rests: code, proofs and the other clauses are checked against them by machine.
+
+The modules stand in reading order, each after those on which it stands. The numbers are lines of definitions that the clause reaches, blank lines and comments left out; what a module holds beside them the clause doesn't cite.
+
+{table}
+
+## What is trusted beside them
+
+- **The words of the standard library** that these definitions use, as the toolchain defines them (`std/specs`): {std}.
+- **The types of the code** whose values the clauses name: {code}.
+- **The ghost functions of the traits `Store` and `Sink`** (`crates/tc_io/src/lib.rt`), as `holds` and `written`: what a store holds and a sink was given, where it tells. The store and the sink of memory tell it, and it is proved of them. A file system and a terminal can't tell it: that `RealStore` reads what a file holds, and that the bytes given to `RealSink` come out, is tested, not proved.
+- **The toolchain**: that its check accepts no wrong proof, and that the program which it builds does what the checked code says.
+- **The C library and the operating system**, and the statements of the kit's crates that the program stands on (`std`, `bumpalo`, `indexmap`, `memchr`, `simdutf8`, `itoa`): their own proofs are the toolchain's.
+- **`main`** of `crates/typecheck`: that it hands the words of the command line to `typecheck` and its status to the system, and what no clause says: how long an answer takes, and that memory suffices.
+"""
+
+main()
