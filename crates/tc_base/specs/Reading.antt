@@ -1,6 +1,7 @@
 -- A place in a text, and the characters that stand there.
 use Rattle.std.specs.Prelude.{◌≡◌, ◌≢◌, ℕ, ◌+◌, List, [], ◌++◌, drop, length, encode_utf8}
 use Rattle.std.specs.Char.{IsScalar}
+use Rattle.tc_base.specs.declared.limits.TheConstants.{LONGEST_FILE}
 
 -- a text as its bytes, and how many of them stand before the place
 pub record Reading : Type 0 where
@@ -13,7 +14,7 @@ rest_of r = drop r.place r.text
 
 -- the most bytes of a text
 abbrev pub longest_text : ℕ
-longest_text = 67108864
+longest_text = LONGEST_FILE
 
 -- the UTF-8 form of a character stands at the front of these bytes
 abbrev pub BeginsWithCharacter : List ℕ → Type 0

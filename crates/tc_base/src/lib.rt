@@ -2,6 +2,7 @@
 #![tactic(auto)]
 
 mod characters;
+pub mod limits;
 mod reading;
 mod reasons;
 
@@ -30,27 +31,28 @@ impl<T: Drop> From<AllocFailed<T>> for NoMemory {
 #[derive(Clone, Copy, Debug, PartialEq, Eq, PartialOrd, Ord, Hash)]
 pub struct Place(pub u32);
 
-/// A bound on the sizes of what two schemas and a stylesheet lead to, in the order in which the bounds are tried.
+/// A bound on the sizes of what two schemas and a stylesheet lead to, in the order in which the bounds are tried. Their
+/// numbers stand in [`limits`].
 #[derive(Clone, Copy, Debug, PartialEq, Eq, Hash)]
 pub enum Limit {
-    /// More than 65,536 nodes of patterns in one schema.
+    /// Nodes of patterns in one schema.
     Pattern,
-    /// Patterns of a schema that are nested more than 2,000 deep.
+    /// How deep the patterns of a schema nest.
     Depth,
-    /// More than 256 element patterns in one schema.
+    /// Element patterns of one schema.
     Elements,
-    /// More than 512 states of the input schema, or 256 of the output schema.
+    /// States of the input schema, or of the output schema.
     States,
-    /// More than 1,024 symbols of the alphabet.
+    /// Symbols of the alphabet.
     Symbols,
-    /// More than 6 predicates of the stylesheet.
+    /// Predicates of the stylesheet.
     Predicates,
-    /// More than 64 ancestor states.
+    /// Ancestor states.
     Ancestors,
-    /// More than 4,096 move states and look states together.
+    /// Move states and look states together.
     Selects,
-    /// Instructions that stand within one another, called bodies within their calls, more than 8,000 deep.
+    /// How deep instructions stand within one another, called bodies within their calls.
     Calls,
-    /// More than 8,192 entries of a row: ancestor states times move states, plus look states.
+    /// Entries of a row: ancestor states times move states, plus look states.
     Entries,
 }

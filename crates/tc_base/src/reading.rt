@@ -8,7 +8,7 @@ use crate::Place;
 use std::marker::Model;
 use std::str;
 
-/// A text of at most 67,108,864 bytes, and a place in it.
+/// A text that isn't longer than a file may be, and a place in it.
 #[derive(Drop)]
 pub struct Cursor<'a> {
     text: &'a [u8],
@@ -27,7 +27,7 @@ impl<'a> Model for Cursor<'a> {
 }
 
 impl<'a> Cursor<'a> {
-    /// A cursor at the beginning of a text, which has at most 67,108,864 bytes.
+    /// A cursor at the beginning of a text.
     pub fn new(text: &'a [u8]) -> Cursor<'a>
         requires { length text.now ≤ longest_text }
         ensures { result ≡ record { text = text.now; place = 0 } }

@@ -1,3 +1,4 @@
 pub mod Files
 pub mod Fronts
 mod KnownBytes
+pub mod ReadsInOrder

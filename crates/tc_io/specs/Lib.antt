@@ -2,6 +2,8 @@ pub mod Faults
 pub mod HeldFile
 pub mod MemSink
 pub mod MemStore
+pub mod Reads
 pub mod RealSink
+pub mod RealStore
 pub mod Sink
 pub mod Store

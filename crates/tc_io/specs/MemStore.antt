@@ -1,9 +1,8 @@
 -- A store in memory: what clients see of it, and how it answers.
-use Rattle.std.specs.Prelude.{◌≡◌, ◌≢◌, ℕ, List, [], ◌∷◌, Vec, Contains, Some, None, Result, Ok, Err, if◌then◌else◌}
+use Rattle.std.specs.Prelude.{◌≡◌, ◌≢◌, ℕ, List, [], ◌∷◌, Contains, Some, None, Ok, Err, if◌then◌else◌}
 use Rattle.std.specs.Str.{bytes_eq}
 use Rattle.tc_io.specs.Faults.{raised}
-use Rattle.tc_io.specs.Store.{Files, IsTooLong, IsReadable}
-use Rattle.tc_io.specs.declared.StoreFault.{StoreFault}
+use Rattle.tc_io.specs.Store.{Files, Came, IsTooLong, IsReadable}
 use Rattle.tc_io.specs.declared.StoreFault.TheVariants.{Missing, Failed, TooLong, NoMemory}
 
 -- a name, and the bytes held under it
@@ -37,14 +36,19 @@ pub record Puts (old new : StoreState) (name bytes : List ℕ) : Type 0 where
   pub faults : new.faults ≡ old.faults
 
 -- why a read is answered so
-abbrev pub Serves : {Z : Type 0} → StoreState → List ℕ → Result (Vec ℕ Z) StoreFault → Type 0
-Serves store name (Ok bytes) = (file_of store.files name ≡ Some bytes.items) × ¬ NextFails store
+abbrev pub Serves : StoreState → List ℕ → Came → Type 0
+Serves store name (Ok bytes) = (file_of store.files name ≡ Some bytes) × ¬ NextFails store
 Serves store name (Err Missing) = file_of store.files name ≡ None
 Serves store name (Err TooLong) = IsTooLong (file_of store.files name)
 Serves store name (Err Failed) = IsReadable (file_of store.files name) × NextFails store
 Serves store name (Err NoMemory) = IsReadable (file_of store.files name) × ¬ NextFails store
 
 -- the store after a read with this answer
-abbrev pub after_read : {Z : Type 0} → StoreState → Result (Vec ℕ Z) StoreFault → StoreState
+abbrev pub after_read : StoreState → Came → StoreState
 after_read store (Err Failed) = record store { calls = raised store.calls; faults = raised store.faults }
 after_read store _ = record store { calls = raised store.calls }
+
+-- what a read of a store in memory does
+pub record Reads (old : StoreState) (name : List ℕ) (came : Came) (new : StoreState) : Type 0 where
+  pub served : Serves old name came
+  pub after : new ≡ after_read old came

@@ -12,15 +12,13 @@ mod tests;
 
 ghost use Rattle.std.specs.Prelude.{◌≡◌, ◌≤◌, ◌⊎◌, ℕ, List, Option, length, IfOk, OnOk, OnErr, IsErrOf};
 ghost use Rattle.tc_io.specs.Faults.{Rose};
-ghost use Rattle.tc_io.specs.Store.{Files, Answers, IsTooLong, longest_file};
+ghost use Rattle.tc_io.specs.Store.{Files, Came, came, Answers, IsTooLong, longest_file};
 ghost use Rattle.tc_io.specs.Sink.{Appended, WroteFront};
 
 pub use memory::{MemSink, MemStore};
 pub use real::{RealSink, RealStore};
 use std::alloc::Global;
-
-/// The most bytes that a file may have: 64 MiB.
-pub const LONGEST_FILE: usize = 67_108_864;
+pub use tc_base::limits::LONGEST_FILE;
 
 /// Why a file could not be read.
 #[derive(Clone, Copy, Debug, PartialEq, Eq)]
@@ -47,8 +45,14 @@ pub trait Store {
     /// How often a read failed.
     ghost faults: { Self → ℕ };
 
+    /// What a read does: the store before, the name, what came of it, and the store after. Who reads by a store that is
+    /// any store learns it of no reads but those that were made.
+    ghost read_gives: { Self → List ℕ → Came → Self → Type 0 };
+
     /// Reads the whole file of this name.
     fn read(&mut self, alloc: Global, name: &str) -> Result<Vec<u8>, StoreFault>
+        ensures gives { read_gives self.old name.now (came result) self.new }
+
         // No read changes what is held, and the count of faults never falls.
         ensures same { holds self.new ≡ holds self.old }
         ensures count { faults self.old ≤ faults self.new }
@@ -58,7 +62,7 @@ pub trait Store {
         // Where the files are told: what each answer says of the file, and the two answers that its absence and its
         // length have alone.
         ensures told { (files : Files) → holds self.old ≡ Some files
-            → Answers (files name.now) result }
+            → Answers (files name.now) (came result) }
         ensures missing { (files : Files) → holds self.old ≡ Some files
             → files name.now ≡ None → IsErrOf result StoreFault.Missing }
         ensures too_long { (files : Files) → holds self.old ≡ Some files

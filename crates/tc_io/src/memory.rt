@@ -2,9 +2,9 @@
 ghost use Rattle.std.specs.Prelude.{◌≡◌, ◌≤◌, ◌⊎◌, ◌+◌, ◌++◌, ◌∷◌, [], Some, None, length, IfOk, IfSome, IfNone, OnOk, OnErr, IsErrOf, vec_len, vec_capacity};
 ghost use Rattle.std.specs.Option.{option_map};
 ghost use Rattle.tc_io.specs.Faults.{Rose};
-ghost use Rattle.tc_io.specs.Store.{Files, Answers, IsTooLong, IsReadable, longest_file};
+ghost use Rattle.tc_io.specs.Store.{Files, came, Answers, IsTooLong, IsReadable, longest_file};
 ghost use Rattle.tc_io.specs.Sink.{Appended, WroteFront};
-ghost use Rattle.tc_io.specs.MemStore.{StoreState, Puts, NextFails, Serves, after_read, file_of};
+ghost use Rattle.tc_io.specs.MemStore.{StoreState, Puts, NextFails, Reads, file_of};
 ghost use Rattle.tc_io.specs.HeldFile.{entries, IsPlace};
 ghost use Rattle.tc_io.specs.MemSink.{SinkState, Writes};
 
@@ -82,14 +82,17 @@ impl Store for MemStore {
 
     ghost faults = { λ store. store.faults };
 
+    ghost read_gives = { Reads };
+
     /// Fails at the reads given to `fail_at`, and at no other. A read of a name that isn't held, or of a file that is
     /// too long, is answered by that cause, whatever its number.
     fn read(&mut self, alloc: Global, name: &str) -> Result<Vec<u8>, StoreFault>
+        ensures gives { Reads self.old name.now (came result) self.new }
         ensures same { Some (file_of self.new.files) ≡ Some (file_of self.old.files) }
         ensures count { self.old.faults ≤ self.new.faults }
         ensures bound { IfOk result (λ bytes. length bytes.items ≤ longest_file) }
         ensures told { (files : Files) → Some (file_of self.old.files) ≡ Some files
-            → Answers (files name.now) result }
+            → Answers (files name.now) (came result) }
         ensures missing { (files : Files) → Some (file_of self.old.files) ≡ Some files
             → files name.now ≡ None → IsErrOf result StoreFault.Missing }
         ensures too_long { (files : Files) → Some (file_of self.old.files) ≡ Some files
@@ -99,11 +102,9 @@ impl Store for MemStore {
             → IsErrOf result StoreFault.Missing ⊎ IsErrOf result StoreFault.TooLong
             → Rose self.old.faults self.new.faults }
 
-        // More than a store promises: the reads that fail are those given to `fail_at`, and what a read changes.
-        ensures served { Serves self.old name.now result }
+        // More than a store promises: the reads that fail are those given to `fail_at`.
         ensures fails { IsReadable (file_of self.old.files name.now) → NextFails self.old
             → IsErrOf result StoreFault.Failed }
-        ensures after { self.new ≡ after_read self.old result }
     {
         let fails = self.calls.next_fails();
         let Some(bytes) = bytes_of(self.files.as_slice(), name) else {

@@ -2,7 +2,8 @@
 ghost use Rattle.std.specs.Prelude.{◌≡◌, ◌≤◌, ◌<◌, ◌⊎◌, ℕ, Some, None, length, IfOk, IfSome, OnOk, OnErr, IsErrOf};
 ghost use Rattle.std.specs.Io.KnownBytes.{Appends};
 ghost use Rattle.tc_io.specs.Faults.{Rose, raised};
-ghost use Rattle.tc_io.specs.Store.{Files, Answers, IsTooLong, longest_file};
+ghost use Rattle.tc_io.specs.Store.{Files, came, Answers, IsTooLong, longest_file};
+ghost use Rattle.tc_io.specs.RealStore.{Counts};
 ghost use Rattle.tc_io.specs.RealSink.{WriterState, AppendsFront};
 
 use crate::{LONGEST_FILE, Sink, Store, StoreFault, WriteFault};
@@ -42,11 +43,14 @@ impl<'r, R: Files> Store for RealStore<'r, R> {
 
     ghost faults = { λ faults. faults };
 
+    ghost read_gives = { Counts };
+
     /// Every answer but `Ok` raises the count of faults by one.
     fn read(&mut self, alloc: Global, name: &str) -> Result<Vec<u8>, StoreFault>
+        ensures gives { Counts self.old name.now (came result) self.new }
         ensures count { self.old ≤ self.new }
         ensures bound { IfOk result (λ bytes. length bytes.items ≤ longest_file) }
-        ensures told { (files : Files) → None ≡ Some files → Answers (files name.now) result }
+        ensures told { (files : Files) → None ≡ Some files → Answers (files name.now) (came result) }
         ensures missing { (files : Files) → None ≡ Some files
             → files name.now ≡ None → IsErrOf result StoreFault.Missing }
         ensures too_long { (files : Files) → None ≡ Some files
@@ -54,10 +58,6 @@ impl<'r, R: Files> Store for RealStore<'r, R> {
         ensures failed { IsErrOf result StoreFault.Failed → Rose self.old self.new }
         ensures untold { IsErrOf result StoreFault.Missing ⊎ IsErrOf result StoreFault.TooLong
             → Rose self.old self.new }
-
-        // More than a store promises: the count itself.
-        ensures ok { OnOk result (self.new ≡ self.old) }
-        ensures err { OnErr result (self.new ≡ raised self.old) }
     {
         let read = read_file(self.rt, alloc, name);
         if read.is_err() {

@@ -116,6 +116,35 @@ fn stops_at_the_first_operand_that_cannot_be_read(rt: HostRuntime) -> Result<(),
 }
 
 #[test]
+fn names_the_first_operand_whose_read_fails(rt: HostRuntime) -> Result<(), Fail> {
+    for (words, failing, line) in [
+        (["run", "S", "D"], [1, 2], "cannot read S\n"),
+        (["run", "S", "D"], [2, 3], "cannot read D\n"),
+        (["valid", "I", "D"], [1, 2], "cannot read I\n"),
+        (["valid", "I", "D"], [2, 3], "cannot read D\n"),
+    ] {
+        let mut store = store_with(rt.alloc(), "element a{empty}", "", "<r/>")?;
+        store.put("D", b"<a/>")?;
+        for number in failing {
+            store.fail_at(number)?;
+        }
+        let mut sink = MemSink::new(rt.alloc(), 200)?;
+        assert_eq!(rt;
+            typecheck(
+                rt.alloc(),
+                &word_list(rt.alloc(), &words)?,
+                &mut store,
+                &mut sink
+            ),
+            Status::ReadFault,
+            "{line}"
+        );
+        assert_eq!(rt; sink.bytes(), line.as_bytes());
+    }
+    Ok(())
+}
+
+#[test]
 fn breaks_off_where_a_write_fails(rt: HostRuntime) -> Result<(), Fail> {
     let words = word_list(rt.alloc(), &["check", "I", "O", "S"])?;
     let mut store = store_with(

@@ -1,9 +1,7 @@
 use bumpalo::Bump;
 use std::test::Fail;
 use tc_base::{Place, Why};
-use tc_sheet::SheetFault;
-use tc_sheet_text::{SheetTextFault, read_sheet_text};
-use tc_xml::XmlFault;
+use tc_read::{Reason, TextFault, read_sheet};
 
 /// The stylesheet of an article that becomes XHTML, up to the body of its lists.
 const ARTICLE: &str = r#"<?xml version="1.0" encoding="UTF-8"?>
@@ -24,12 +22,12 @@ const ARTICLE: &str = r#"<?xml version="1.0" encoding="UTF-8"?>
 <xsl:template match="itemlist">"#;
 
 /// How many rules a text's stylesheet has, or why there is none.
-fn rules(rt: &HostRuntime, text: &str) -> Option<Result<usize, SheetTextFault>> {
+fn rules(rt: &HostRuntime, text: &str) -> Option<Result<usize, TextFault>> {
     let arena = Bump::new(rt.alloc());
     if text.len() > 1000000 {
         return None;
     }
-    match read_sheet_text(&arena, text.as_bytes()) {
+    match read_sheet(&arena, text.as_bytes()) {
         Ok(sheet) => Some(Ok(sheet.rules.len())),
         Err(fault) => Some(Err(fault)),
     }
@@ -56,7 +54,7 @@ fn article(rt: &HostRuntime, body: &str) -> Result<String, Fail> {
 }
 
 /// How many rules the stylesheet with this between its tags has, or why there is none.
-fn inside(rt: &HostRuntime, inner: &str) -> Result<Option<Result<usize, SheetTextFault>>, Fail> {
+fn inside(rt: &HostRuntime, inner: &str) -> Result<Option<Result<usize, TextFault>>, Fail> {
     let text = around(rt, inner)?;
     Ok(rules(rt, text.as_str()))
 }
@@ -109,15 +107,15 @@ fn articles_and_copies_are_read(rt: HostRuntime) -> Result<(), Fail> {
 #[test]
 fn what_is_not_read_is_told_at_its_place(rt: HostRuntime) -> Result<(), Fail> {
     let variable = "<xsl:template match=\"/\"><xsl:variable name=\"v\"/><r/></xsl:template>";
-    let refused = SheetTextFault::Sheet(SheetFault::Unsupported(Place(103), Why::N18));
+    let refused = TextFault::Refused(Reason::Unsupported(Why::N18), Place(103));
     assert_eq!(rt; inside(&rt, variable)?, Some(Err(refused)));
     let literal = "<xsl:template match=\"/\"><variable/></xsl:template>";
     assert_eq!(rt; inside(&rt, literal)?, Some(Ok(1)));
     let entity = "<xsl:template match=\"/\">&nbsp;</xsl:template>";
-    let refused = SheetTextFault::Xml(XmlFault::Unsupported(Place(103), Why::N2));
+    let refused = TextFault::Refused(Reason::Unsupported(Why::N2), Place(103));
     assert_eq!(rt; inside(&rt, entity)?, Some(Err(refused)));
     let unbound = "<xsl:template match=\"p:a\"/>";
-    let refused = SheetTextFault::Sheet(SheetFault::Malformed(Place(93)));
+    let refused = TextFault::Refused(Reason::Malformed, Place(93));
     assert_eq!(rt; inside(&rt, unbound)?, Some(Err(refused)));
     Ok(())
 }
@@ -127,12 +125,12 @@ fn nesting_is_read_two_thousand_deep(rt: HostRuntime) -> Result<(), Fail> {
     let read = nested(&rt, 1999, TEST)?;
     assert_eq!(rt; inside(&rt, read.as_str())?, Some(Ok(1)));
     let deep = nested(&rt, 2001, TEST)?;
-    let refused = SheetTextFault::Sheet(SheetFault::TooDeep(Place(111)));
+    let refused = TextFault::Refused(Reason::TooDeep, Place(111));
     assert_eq!(rt; inside(&rt, deep.as_str())?, Some(Err(refused)));
     let read = nested(&rt, 2000, SELECT)?;
     assert_eq!(rt; inside(&rt, read.as_str())?, Some(Ok(1)));
     let deep = nested(&rt, 2001, SELECT)?;
-    let refused = SheetTextFault::Sheet(SheetFault::TooDeep(Place(124)));
+    let refused = TextFault::Refused(Reason::TooDeep, Place(124));
     assert_eq!(rt; inside(&rt, deep.as_str())?, Some(Err(refused)));
     Ok(())
 }

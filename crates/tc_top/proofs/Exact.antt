@@ -1,71 +1,71 @@
--- The answer to words and files is determined, but for what is left open.
-use Rattle.std.proofs.Common.{◌≡◌, ◌<◌, ◌⊎◌, ◌∷◌, [], ◌++◌, ◌∙◌, inl, inr, refl, sym, subst, ap, ℕ, List, length, Option, Some, None, arith}
-use Rattle.tc_io.specs.Store.{Files, IsTooLong, IsReadable}
+-- The answer to words and to what was read is determined, but for what is left open; and where the store tells what it holds, what is read is.
+use Rattle.std.proofs.Common.{◌≡◌, ◌<◌, ◌≤◌, ◌⊎◌, ◌∷◌, [], ◌∙◌, inl, inr, refl, sym, subst, ap, ℕ, List, length, Option, Some, None, Result, Ok, Err, arith}
+use Rattle.tc_io.specs.Store.{Files, Came, Read, longest_file}
+use Rattle.tc_io.specs.Reads.{IsTrue, AreTrue}
+use Rattle.tc_io.specs.declared.StoreFault.{StoreFault}
+use Rattle.tc_io.specs.declared.StoreFault.TheVariants.{Missing, Failed, TooLong, NoMemory}
 use Rattle.tc_model.specs.Trees.{Trees}
 use Rattle.tc_model.specs.Safety.{IsSafe, IsCounterexample}
+use Rattle.tc_model.specs.Validity.{IsValidOutput}
 use Rattle.tc_top.specs.FirstForm.{Schema, grammar_of, sheet_of}
 use Rattle.tc_top.specs.FirstText.{FirstSchemaText, FirstSheetText}
 use Rattle.tc_top.specs.OneAnswer.{AreAlike, same_answer, counterexamples, IsOfFault}
 use Rattle.tc_top.specs.Words.{Command, check, run, valid, Words, IsNoCommand, name_of, operands_of}
-use Rattle.tc_top.specs.Reading.{IsReadFrom, AreReadFrom, StopsAt}
+use Rattle.tc_top.specs.Reading.{StopsAt, at_first, past_first, IsUnreadable}
 use Rattle.tc_top.specs.Answers.{Answer, usage, not_yet, cannot_read, file_limit, IsBuilt, IsOtherForm, other_input, other_output, other_sheet, Checks, is_other_form, is_safe, is_unsafe, Validates, RunsTexts, IsAnswer, no_command, not_built, not_read, over_long, checked, validated, ran}
 use Rattle.tc_top.proofs.OneCommand.{one_command}
 use Rattle.tc_top.proofs.OneValidity.{validates_one}
 use Rattle.tc_top.proofs.OneRun.{runs_texts_one}
 use Rattle.tc_top.proofs.FirstText.{schema_unique, sheet_unique, sheet_plain}
 use Rattle.tc_top.proofs.FirstLaws.{result_is}
-use Rattle.tc_model.specs.Validity.{IsValidOutput}
 
-some_is : {A : Type 0} (x y : A) → Some x ≡ Some y → x ≡ y
-some_is x y e = cc
+-- lists and reads that are the same
 
--- what was read is a file that can be read
-readable : {files : Files} {name bytes : List ℕ} → IsReadFrom (Some files) name bytes → IsReadable (files name)
-readable {files} {name} {bytes} h = (bytes, h.held files refl, h.short)
+cons_same : {X : Type 0} {x y : X} {xs ys : List X} → x ∷ xs ≡ y ∷ ys → (x ≡ y) × (xs ≡ ys)
+cons_same e = (cc, cc)
 
-same_bytes : {files : Files} {name one other : List ℕ} → IsReadFrom (Some files) name one → IsReadFrom (Some files) name other → one ≡ other
-same_bytes {files} h k = some_is _ _ (sym (h.held files refl) ∙ k.held files refl)
+read_same : {a c : List ℕ} {b d : Came} {xs ys : List Read} → (a, b) ∷ xs ≡ (c, d) ∷ ys → (a ≡ c) × (b ≡ d) × (xs ≡ ys)
+read_same e = let h = cons_same e in (ap (λ p. p.0) h.0, ap (λ p. p.1) h.0, h.1)
 
--- a file that can't be read stands at one place alone
-one_stop : (files : Files) (names one other texts others behind after : List (List ℕ)) (name found : List ℕ) → names ≡ one ++ name ∷ behind → names ≡ other ++ found ∷ after
-    → AreReadFrom (Some files) one texts → AreReadFrom (Some files) other others → (IsReadable (files name) → ⊥) → (IsReadable (files found) → ⊥) → name ≡ found
-one_stop files names [] [] texts others behind after name found p q r s x y = let same : name ∷ behind ≡ found ∷ after = sym p ∙ q in cc
-one_stop files names [] (n ∷ other) texts [] behind after name found p q r s x y = absurd s
-one_stop files names [] (n ∷ other) texts (t ∷ others) behind after name found p q r s x y =
-    let same : name ∷ behind ≡ n ∷ (other ++ found ∷ after) = sym p ∙ q in
-    let first : n ≡ name = cc in
-    absurd (x (subst (λ m. IsReadable (files m)) first (readable s.0)))
-one_stop files names (n ∷ one) [] [] others behind after name found p q r s x y = absurd r
-one_stop files names (n ∷ one) [] (t ∷ texts) others behind after name found p q r s x y =
-    let same : n ∷ (one ++ name ∷ behind) ≡ found ∷ after = sym p ∙ q in
-    let first : n ≡ found = cc in
-    absurd (y (subst (λ m. IsReadable (files m)) first (readable r.0)))
-one_stop files names (n ∷ one) (m ∷ other) [] others behind after name found p q r s x y = absurd r
-one_stop files names (n ∷ one) (m ∷ other) (t ∷ texts) [] behind after name found p q r s x y = absurd s
-one_stop files names (n ∷ one) (m ∷ other) (t ∷ texts) (u ∷ others) behind after name found p q r s x y =
-    let same : n ∷ (one ++ name ∷ behind) ≡ m ∷ (other ++ found ∷ after) = sym p ∙ q in
-    let rest : one ++ name ∷ behind ≡ other ++ found ∷ after = cc in
-    one_stop files (one ++ name ∷ behind) one other texts others behind after name found refl rest r.1 s.1 x y
+ok_same : (x y : List ℕ) → ◌≡◌ {A = Came} (Ok x) (Ok y) → x ≡ y
+ok_same x y e = cc
 
--- no name of those that were all read stops
-no_stop : (files : Files) (names before behind texts : List (List ℕ)) (name : List ℕ) → names ≡ before ++ name ∷ behind → AreReadFrom (Some files) names texts → IsReadable (files name)
-no_stop files [] [] behind texts name p r = absurd (cc)
-no_stop files [] (m ∷ before) behind texts name p r = absurd (cc)
-no_stop files (n ∷ names) before behind [] name p r = absurd r
-no_stop files (n ∷ names) [] behind (t ∷ texts) name p r = let first : n ≡ name = cc in subst (λ m. IsReadable (files m)) first (readable r.0)
-no_stop files (n ∷ names) (m ∷ before) behind (t ∷ texts) name p r = let rest : names ≡ before ++ name ∷ behind = cc in no_stop files names before behind texts name rest r.1
+err_same : (x y : StoreFault) → ◌≡◌ {A = Came} (Err x) (Err y) → x ≡ y
+err_same x y e = cc
 
-missing_no : {file : Option (List ℕ)} → file ≡ None → IsReadable file → ⊥
-missing_no m r = let h = sym m ∙ r.1 in absurd (cc)
+ok_err : (x : List ℕ) (y : StoreFault) → ◌≡◌ {A = Came} (Ok x) (Err y) → ⊥
+ok_err x y e = absurd (cc)
 
-long_no : {file : Option (List ℕ)} → IsTooLong file → IsReadable file → ⊥
-long_no l r =
-    let same : l.0 ≡ r.0 = some_is _ _ (sym l.1 ∙ r.1) in
-    let shorter = subst (λ (b : List ℕ). 67108864 < length b) same l.2 in
-    absurd (omega (arith, shorter, r.2))
+-- reads that stop at a name, and not at another
 
-missing_long : (files : Files) (name found : List ℕ) → files name ≡ None → IsTooLong (files found) → name ≡ found → ⊥
-missing_long files name found m l same = let h = sym (ap files same) ∙ m in let k = sym h ∙ l.1 in absurd (cc)
+one_stop : {names others : List (List ℕ)} {reads same : List Read} {name found : List ℕ} {fault other : StoreFault} → names ≡ others → reads ≡ same → StopsAt names reads name fault
+    → StopsAt others same found other → (name ≡ found) × (fault ≡ other)
+one_stop e f (at_first p q) (at_first r s) = let two = read_same (sym q ∙ (f ∙ s)) in (two.0, err_same _ _ two.1)
+one_stop e f (at_first p q) (past_first r s x) = absurd (ok_err _ _ (sym (read_same (sym q ∙ (f ∙ s))).1))
+one_stop e f (past_first p q x) (at_first r s) = absurd (ok_err _ _ (read_same (sym q ∙ (f ∙ s))).1)
+one_stop e f (past_first p q x) (past_first r s y) = one_stop (cons_same (sym p ∙ (e ∙ r))).1 (read_same (sym q ∙ (f ∙ s))).2 x y
+
+-- reads of which each is Ok
+
+abbrev IsWell : Came → Type 0
+IsWell (Ok text) = Unit {0}
+IsWell (Err fault) = ⊥
+
+abbrev AreWell : List Read → Type 0
+AreWell [] = Unit {0}
+AreWell (read ∷ reads) = IsWell read.1 × AreWell reads
+
+no_stop : {names : List (List ℕ)} {reads : List Read} {name : List ℕ} {fault : StoreFault} (well : List Read) → reads ≡ well → AreWell well → StopsAt names reads name fault → ⊥
+no_stop [] same w (at_first p q) = absurd (cc)
+no_stop [] same w (past_first p q x) = absurd (cc)
+no_stop (read ∷ well) same w (at_first p q) = let h = cons_same (sym same ∙ q) in subst (λ x. IsWell x.1) h.0 w.0
+no_stop (read ∷ well) same w (past_first p q x) = let h = cons_same (sym same ∙ q) in no_stop well (sym h.1) w.1 x
+
+no_stop_two : {names : List (List ℕ)} {reads : List Read} {name a b c d : List ℕ} {fault : StoreFault} → reads ≡ (a, Ok c) ∷ (b, Ok d) ∷ [] → StopsAt names reads name fault → ⊥
+no_stop_two r s = no_stop _ r (tt, (tt, tt)) s
+
+no_stop_three : {names : List (List ℕ)} {reads : List Read} {name a b e c d f : List ℕ} {fault : StoreFault} → reads ≡ (a, Ok c) ∷ (b, Ok d) ∷ (e, Ok f) ∷ [] → StopsAt names reads name fault → ⊥
+no_stop_three r s = no_stop _ r (tt, (tt, (tt, tt))) s
 
 -- a safe stylesheet has no counterexample, also where the texts are read once more
 pub not_both : {b c d : List ℕ} {i j o p : Schema} {t u document result : Trees} → FirstSchemaText b i → FirstSchemaText c o → FirstSheetText d t → IsSafe (grammar_of i) (grammar_of o) (sheet_of t)
@@ -119,101 +119,68 @@ checks_same {input} {output} {sheet} {b} {c} {d} {input'} {output'} {sheet'} {b'
     (subst (λ v. Checks input' output' sheet' b' v d answer) (sym t)
     (subst (λ v. Checks input' output' sheet' b' c' v answer) (sym u) h)))))
 
--- a read of another name that is the same
-renamed : {files : Files} {one other bytes more : List ℕ} → one ≡ other → IsReadFrom (Some files) one bytes → IsReadFrom (Some files) other more → bytes ≡ more
-renamed {files} {one} {other} {bytes} {more} same h k = same_bytes h (subst (λ n. IsReadFrom (Some files) n more) (sym same) k)
-
-same_stop : {files : Files} {names : List (List ℕ)} {name found : List ℕ} → StopsAt (Some files) names name → StopsAt (Some files) names found
-    → (IsReadable (files name) → ⊥) → (IsReadable (files found) → ⊥) → name ≡ found
-same_stop {files} {names} s t x y = one_stop files names s.before t.before s.texts t.texts s.behind t.behind _ _ s.parts t.parts s.read t.read x y
-
-stop_readable : {files : Files} {names : List (List ℕ)} {name : List ℕ} (texts : List (List ℕ)) → AreReadFrom (Some files) names texts → StopsAt (Some files) names name → IsReadable (files name)
-stop_readable {files} {names} texts r s = no_stop files names s.before s.behind texts _ s.parts r
-
-of_command : {words : List (List ℕ)} {one other : Command} {told : Option Files} {name : List ℕ} → Words words one → Words words other → StopsAt told (operands_of other) name → StopsAt told (operands_of one) name
-of_command {words} {one} {other} {told} {name} w v s = subst (λ c. StopsAt told (operands_of c) name) (one_command v w) s
-
 -- words of no command have the usage as their answer
-pub usage_only : {words : List (List ℕ)} {told : Option Files} {rose : Type 0} {answer : Answer} → IsNoCommand words → IsAnswer words told rose answer → answer ≡ usage
-usage_only n (no_command m) = refl
-usage_only n (not_built w x e) = absurd (n _ w)
-usage_only n (not_read w b s c) = absurd (n _ w)
-usage_only n (over_long w b s l) = absurd (n _ w)
-usage_only n (checked w p q r x) = absurd (n _ w)
-usage_only n (validated w p q x) = absurd (n _ w)
-usage_only n (ran w p q x) = absurd (n _ w)
+pub usage_only : {words : List (List ℕ)} {reads : List Read} {answer : Answer} → IsNoCommand words → IsAnswer words reads answer → answer ≡ usage
+usage_only n (no_command m e) = refl
+usage_only n (not_built w x r e) = absurd (n _ w)
+usage_only n (not_read w b s u) = absurd (n _ w)
+usage_only n (over_long w b s) = absurd (n _ w)
+usage_only n (checked w r x) = absurd (n _ w)
+usage_only n (validated w r x) = absurd (n _ w)
+usage_only n (ran w r x) = absurd (n _ w)
 
 -- a command that isn't carried out is refused by its name
-pub refused_only : {words : List (List ℕ)} {told : Option Files} {rose : Type 0} {answer : Answer} {command : Command} → Words words command → (IsBuilt command → ⊥)
-    → IsAnswer words told rose answer → answer ≡ not_yet (name_of command)
-refused_only w x (no_command n) = absurd (n _ w)
-refused_only w x (not_built v y e) = ap not_yet (e ∙ ap name_of (one_command v w))
-refused_only w x (not_read v b s c) = absurd (x (subst IsBuilt (one_command v w) b))
-refused_only w x (over_long v b s l) = absurd (x (subst IsBuilt (one_command v w) b))
-refused_only w x (checked v p q r y) = absurd (x (subst IsBuilt (one_command v w) tt))
-refused_only w x (validated v p q y) = absurd (x (subst IsBuilt (one_command v w) tt))
-refused_only w x (ran v p q y) = absurd (x (subst IsBuilt (one_command v w) tt))
+pub refused_only : {words : List (List ℕ)} {reads : List Read} {answer : Answer} {command : Command} → Words words command → (IsBuilt command → ⊥) → IsAnswer words reads answer
+    → answer ≡ not_yet (name_of command)
+refused_only w x (no_command n e) = absurd (n _ w)
+refused_only w x (not_built v y r e) = ap not_yet (e ∙ ap name_of (one_command v w))
+refused_only w x (not_read v b s u) = absurd (x (subst IsBuilt (one_command v w) b))
+refused_only w x (over_long v b s) = absurd (x (subst IsBuilt (one_command v w) b))
+refused_only w x (checked v r y) = absurd (x (subst IsBuilt (one_command v w) tt))
+refused_only w x (validated v r y) = absurd (x (subst IsBuilt (one_command v w) tt))
+refused_only w x (ran v r y) = absurd (x (subst IsBuilt (one_command v w) tt))
 
--- the answer of a call: an answer like this one, or a read that failed
-abbrev pub Agrees : Type 0 → Answer → Answer → Type 0
-Agrees rose one other = AreAlike one other ⊎ IsOfFault rose other
+-- what is answered where the reads stop
+abbrev stopped : StoreFault → List ℕ → Answer
+stopped Missing name = cannot_read name
+stopped Failed name = cannot_read name
+stopped TooLong name = file_limit
+stopped NoMemory name = file_limit
 
-alike_at : (rose : Type 0) {one other answer : Answer} → answer ≡ one → other ≡ one → Agrees rose answer other
-alike_at rose {one} {other} {answer} p q = inl (subst (λ a. AreAlike a other) (sym p) (subst (AreAlike one) (sym q) same_answer))
+stopped_at : (one other : StoreFault) (name found : List ℕ) → (name ≡ found) × (one ≡ other) → stopped one name ≡ stopped other found
+stopped_at one other name found (n, f) = ap (λ x. stopped x name) f ∙ ap (stopped other) n
 
--- why a read failed, of a file that can be read
-failed : {file : Option (List ℕ)} {rose : Type 0} → IsReadable file → (file ≡ None) ⊎ (IsReadable file × rose) → rose
-failed r (inl m) = absurd (missing_no m r)
-failed r (inr f) = f.1
+unreadable : (fault : StoreFault) (name : List ℕ) → IsUnreadable fault → stopped fault name ≡ cannot_read name
+unreadable Missing name u = refl
+unreadable Failed name u = refl
+unreadable TooLong name u = absurd u
+unreadable NoMemory name u = absurd u
 
--- a missing file is told, unless a read failed
-missing_only : {words : List (List ℕ)} {files : Files} {rose : Type 0} {answer : Answer} {command : Command} {name : List ℕ} → Words words command → IsBuilt command
-    → StopsAt (Some files) (operands_of command) name → files name ≡ None → IsAnswer words (Some files) rose answer → Agrees rose (cannot_read name) answer
-missing_only w b s m (no_command n) = absurd (n _ w)
-missing_only w b s m (not_built v x e) = absurd (x (subst IsBuilt (one_command w v) b))
-missing_only {words} {files} {rose} {answer} {command} {name} w b s m (not_read {name = found} v b' s' c) = by (c.told_cause files refl)
-  where
-    by : (files found ≡ None) ⊎ (IsReadable (files found) × rose) → Agrees rose (cannot_read name) (cannot_read found)
-    by (inl n) = inl (subst (λ x. AreAlike (cannot_read name) (cannot_read x)) (same_stop s (of_command w v s') (missing_no m) (missing_no n)) same_answer)
-    by (inr f) = inr f.1
-missing_only {words} {files} w b s m (over_long v b' s' l) =
-    let long = l.told_cause files refl in
-    absurd (missing_long files _ _ m long (same_stop s (of_command w v s') (missing_no m) (long_no long)))
-missing_only {words} {files} w b s m (checked v p q r x) = absurd (missing_no m (stop_readable (_ ∷ _ ∷ _ ∷ []) (p, (q, (r, tt))) (of_command v w s)))
-missing_only {words} {files} w b s m (validated v p q x) = absurd (missing_no m (stop_readable (_ ∷ _ ∷ []) (p, (q, tt)) (of_command v w s)))
-missing_only {words} {files} w b s m (ran v p q x) = absurd (missing_no m (stop_readable (_ ∷ _ ∷ []) (p, (q, tt)) (of_command v w s)))
+stopped_only : {words : List (List ℕ)} {reads : List Read} {answer : Answer} {command : Command} {name : List ℕ} {fault : StoreFault} → Words words command → IsBuilt command
+    → StopsAt (operands_of command) reads name fault → IsAnswer words reads answer → answer ≡ stopped fault name
+stopped_only w b s (no_command n e) = absurd (n _ w)
+stopped_only w b s (not_built v x r e) = absurd (x (subst IsBuilt (one_command w v) b))
+stopped_only {name = name} {fault = fault} w b s (not_read {name = found} {fault = other} v x t u) =
+    sym (unreadable other found u) ∙ stopped_at other fault found name (one_stop (ap operands_of (one_command v w)) refl t s)
+stopped_only {name = name} {fault = fault} w b s (over_long {name = found} v x t) = stopped_at TooLong fault found name (one_stop (ap operands_of (one_command v w)) refl t s)
+stopped_only w b s (checked v r x) = absurd (no_stop_three r s)
+stopped_only w b s (validated v r x) = absurd (no_stop_two r s)
+stopped_only w b s (ran v r x) = absurd (no_stop_two r s)
 
--- a file that is too long meets its limit, unless a read failed
-long_only : {words : List (List ℕ)} {files : Files} {rose : Type 0} {answer : Answer} {command : Command} {name : List ℕ} → Words words command → IsBuilt command
-    → StopsAt (Some files) (operands_of command) name → IsTooLong (files name) → IsAnswer words (Some files) rose answer → Agrees rose file_limit answer
-long_only w b s l (no_command n) = absurd (n _ w)
-long_only w b s l (not_built v x e) = absurd (x (subst IsBuilt (one_command w v) b))
-long_only {words} {files} {rose} {answer} {command} {name} w b s l (not_read {name = found} v b' s' c) = by (c.told_cause files refl)
-  where
-    by : (files found ≡ None) ⊎ (IsReadable (files found) × rose) → Agrees rose file_limit (cannot_read found)
-    by (inl m) = absurd (missing_long files _ _ m l (same_stop (of_command w v s') s (missing_no m) (long_no l)))
-    by (inr f) = inr f.1
-long_only w b s l (over_long v b' s' l') = inl same_answer
-long_only w b s l (checked v p q r x) = inl (absurd (long_no l (stop_readable (_ ∷ _ ∷ _ ∷ []) (p, (q, (r, tt))) (of_command v w s))))
-long_only w b s l (validated v p q x) = inl (absurd (long_no l (stop_readable (_ ∷ _ ∷ []) (p, (q, tt)) (of_command v w s))))
-long_only w b s l (ran v p q x) = inl (absurd (long_no l (stop_readable (_ ∷ _ ∷ []) (p, (q, tt)) (of_command v w s))))
-
--- where the operands can be read, the texts decide, unless a read failed
-pub texts_decide : {words : List (List ℕ)} {files : Files} {rose : Type 0} {answer : Answer} {input output sheet b c d : List ℕ} → Words words (check None input output sheet)
-    → IsReadFrom (Some files) input b → IsReadFrom (Some files) output c → IsReadFrom (Some files) sheet d → IsAnswer words (Some files) rose answer
-    → IsOfFault rose answer ⊎ Checks input output sheet b c d answer
-texts_decide w p q r (no_command n) = absurd (n _ w)
-texts_decide w p q r (not_built v x e) = absurd (x (subst IsBuilt (one_command w v) tt))
-texts_decide {words} {files} w p q r (not_read v e s c) = inl (failed (stop_readable (_ ∷ _ ∷ _ ∷ []) (p, (q, (r, tt))) (of_command w v s)) (c.told_cause files refl))
-texts_decide {words} {files} w p q r (over_long v e s l) = absurd (long_no (l.told_cause files refl) (stop_readable (_ ∷ _ ∷ _ ∷ []) (p, (q, (r, tt))) (of_command w v s)))
-texts_decide {words} {files} {rose} {answer} {input} {output} {sheet} w p q r (checked {input = i} {output = o} {sheet = s} v p' q' r' x) =
-    let same : check None input output sheet ≡ check None i o s = one_command w v in
-    let one : input ≡ i = cc in
-    let two : output ≡ o = cc in
-    let three : sheet ≡ s = cc in
-    inr (checks_same one two three (renamed one p p') (renamed two q q') (renamed three r r') x)
-texts_decide w p q r (validated v p' q' x) = let other = one_command w v in absurd (cc)
-texts_decide w p q r (ran v p' q' x) = let other = one_command w v in absurd (cc)
+-- where all operands are read, the texts decide
+pub checked_only : {words : List (List ℕ)} {reads : List Read} {answer : Answer} {input output sheet b c d : List ℕ} → Words words (check None input output sheet)
+    → reads ≡ (input, Ok b) ∷ (output, Ok c) ∷ (sheet, Ok d) ∷ [] → IsAnswer words reads answer → Checks input output sheet b c d answer
+checked_only w r (no_command n e) = absurd (n _ w)
+checked_only w r (not_built v x e f) = absurd (x (subst IsBuilt (one_command w v) tt))
+checked_only w r (not_read v b s u) = absurd (no_stop_three r s)
+checked_only w r (over_long v b s) = absurd (no_stop_three r s)
+checked_only w r (checked v q x) =
+    let one = read_same (sym r ∙ q) in
+    let two = read_same one.2 in
+    let three = read_same two.2 in
+    checks_same one.0 two.0 three.0 (ok_same _ _ one.1) (ok_same _ _ two.1) (ok_same _ _ three.1) x
+checked_only w r (validated v q x) = let other = one_command w v in absurd (cc)
+checked_only w r (ran v q x) = let other = one_command w v in absurd (cc)
 
 validates_same : {schema document b c schema' document' b' c' : List ℕ} {answer : Answer} → schema ≡ schema' → document ≡ document' → b ≡ b' → c ≡ c'
     → Validates schema' document' b' c' answer → Validates schema document b c answer
@@ -223,21 +190,18 @@ validates_same {schema} {document} {b} {c} {schema'} {document'} {b'} {c'} {answ
     (subst (λ v. Validates schema' document' v c answer) (sym s)
     (subst (λ v. Validates schema' document' b' v answer) (sym t) h)))
 
--- the same of a validation
-pub texts_validate : {words : List (List ℕ)} {files : Files} {rose : Type 0} {answer : Answer} {schema document b c : List ℕ} → Words words (valid schema document)
-    → IsReadFrom (Some files) schema b → IsReadFrom (Some files) document c → IsAnswer words (Some files) rose answer
-    → IsOfFault rose answer ⊎ Validates schema document b c answer
-texts_validate w p q (no_command n) = absurd (n _ w)
-texts_validate w p q (not_built v x e) = absurd (x (subst IsBuilt (one_command w v) tt))
-texts_validate {words} {files} w p q (not_read v e s c) = inl (failed (stop_readable (_ ∷ _ ∷ []) (p, (q, tt)) (of_command w v s)) (c.told_cause files refl))
-texts_validate {words} {files} w p q (over_long v e s l) = absurd (long_no (l.told_cause files refl) (stop_readable (_ ∷ _ ∷ []) (p, (q, tt)) (of_command w v s)))
-texts_validate w p q (checked v p' q' r' x) = let other = one_command w v in absurd (cc)
-texts_validate w p q (ran v p' q' x) = let other = one_command w v in absurd (cc)
-texts_validate {words} {files} {rose} {answer} {schema} {document} w p q (validated {schema = i} {document = o} v p' q' x) =
-    let same : valid schema document ≡ valid i o = one_command w v in
-    let one : schema ≡ i = cc in
-    let two : document ≡ o = cc in
-    inr (validates_same one two (renamed one p p') (renamed two q q') x)
+pub validated_only : {words : List (List ℕ)} {reads : List Read} {answer : Answer} {schema document b c : List ℕ} → Words words (valid schema document)
+    → reads ≡ (schema, Ok b) ∷ (document, Ok c) ∷ [] → IsAnswer words reads answer → Validates schema document b c answer
+validated_only w r (no_command n e) = absurd (n _ w)
+validated_only w r (not_built v x e f) = absurd (x (subst IsBuilt (one_command w v) tt))
+validated_only w r (not_read v b s u) = absurd (no_stop_two r s)
+validated_only w r (over_long v b s) = absurd (no_stop_two r s)
+validated_only w r (checked v q x) = let other = one_command w v in absurd (cc)
+validated_only w r (ran v q x) = let other = one_command w v in absurd (cc)
+validated_only w r (validated v q x) =
+    let one = read_same (sym r ∙ q) in
+    let two = read_same one.2 in
+    validates_same one.0 two.0 (ok_same _ _ one.1) (ok_same _ _ two.1) x
 
 runs_texts_same : {sheet document b c sheet' document' b' c' : List ℕ} {answer : Answer} → sheet ≡ sheet' → document ≡ document' → b ≡ b' → c ≡ c'
     → RunsTexts sheet' document' b' c' answer → RunsTexts sheet document b c answer
@@ -247,44 +211,216 @@ runs_texts_same {sheet} {document} {b} {c} {sheet'} {document'} {b'} {c'} {answe
     (subst (λ v. RunsTexts sheet' document' v c answer) (sym s)
     (subst (λ v. RunsTexts sheet' document' b' v answer) (sym t) h)))
 
--- the same of a run
-pub texts_run : {words : List (List ℕ)} {files : Files} {rose : Type 0} {answer : Answer} {sheet document b c : List ℕ} → Words words (run sheet document)
-    → IsReadFrom (Some files) sheet b → IsReadFrom (Some files) document c → IsAnswer words (Some files) rose answer
-    → IsOfFault rose answer ⊎ RunsTexts sheet document b c answer
-texts_run w p q (no_command n) = absurd (n _ w)
-texts_run w p q (not_built v x e) = absurd (x (subst IsBuilt (one_command w v) tt))
-texts_run {words} {files} w p q (not_read v e s c) = inl (failed (stop_readable (_ ∷ _ ∷ []) (p, (q, tt)) (of_command w v s)) (c.told_cause files refl))
-texts_run {words} {files} w p q (over_long v e s l) = absurd (long_no (l.told_cause files refl) (stop_readable (_ ∷ _ ∷ []) (p, (q, tt)) (of_command w v s)))
-texts_run w p q (checked v p' q' r' x) = let other = one_command w v in absurd (cc)
-texts_run w p q (validated v p' q' x) = let other = one_command w v in absurd (cc)
-texts_run {words} {files} {rose} {answer} {sheet} {document} w p q (ran {sheet = i} {document = o} v p' q' x) =
-    let same : run sheet document ≡ run i o = one_command w v in
-    let one : sheet ≡ i = cc in
-    let two : document ≡ o = cc in
-    inr (runs_texts_same one two (renamed one p p') (renamed two q q') x)
+pub ran_only : {words : List (List ℕ)} {reads : List Read} {answer : Answer} {sheet document b c : List ℕ} → Words words (run sheet document)
+    → reads ≡ (sheet, Ok b) ∷ (document, Ok c) ∷ [] → IsAnswer words reads answer → RunsTexts sheet document b c answer
+ran_only w r (no_command n e) = absurd (n _ w)
+ran_only w r (not_built v x e f) = absurd (x (subst IsBuilt (one_command w v) tt))
+ran_only w r (not_read v b s u) = absurd (no_stop_two r s)
+ran_only w r (over_long v b s) = absurd (no_stop_two r s)
+ran_only w r (checked v q x) = let other = one_command w v in absurd (cc)
+ran_only w r (validated v q x) = let other = one_command w v in absurd (cc)
+ran_only w r (ran v q x) =
+    let one = read_same (sym r ∙ q) in
+    let two = read_same one.2 in
+    runs_texts_same one.0 two.0 (ok_same _ _ one.1) (ok_same _ _ two.1) x
+
+alike_at : {one other answer : Answer} → one ≡ answer → other ≡ answer → AreAlike one other
+alike_at {one} {other} {answer} p q = subst (λ a. AreAlike a other) (sym p) (subst (AreAlike answer) (sym q) same_answer)
+
+-- the answer to words and to what was read is one
+pub by_reads : {words : List (List ℕ)} {reads : List Read} {one other : Answer} → IsAnswer words reads one → IsAnswer words reads other → AreAlike one other
+by_reads (no_command n e) y = alike_at refl (usage_only n y)
+by_reads (not_built w x r e) y = alike_at (ap not_yet e) (refused_only w x y)
+by_reads (not_read {name = name} {fault = fault} w b s u) y = alike_at (sym (unreadable fault name u)) (stopped_only w b s y)
+by_reads (over_long w b s) y = alike_at refl (stopped_only w b s y)
+by_reads (checked w r x) y = checks_one x (checked_only w r y)
+by_reads (validated w r x) y = validates_one x (validated_only w r y)
+by_reads (ran w r x) y = runs_texts_one x (ran_only w r y)
+
+-- The names are read in order up to the first read that isn't Ok, which isn't for want of memory.
+data Follows : List (List ℕ) → List Read → Type 0 where
+  no_name : {names : List (List ℕ)} {reads : List Read} → names ≡ [] → reads ≡ [] → Follows names reads
+  stops : {names rest : List (List ℕ)} {reads : List Read} {name : List ℕ} {fault : StoreFault} → names ≡ name ∷ rest → reads ≡ (name, Err fault) ∷ [] → (fault ≡ NoMemory → ⊥) → Follows names reads
+  goes_on : {names rest : List (List ℕ)} {reads more : List Read} {name text : List ℕ} → names ≡ name ∷ rest → reads ≡ (name, Ok text) ∷ more → Follows rest more → Follows names reads
+
+stop_follows : {names : List (List ℕ)} {reads : List Read} {name : List ℕ} {fault : StoreFault} → (fault ≡ NoMemory → ⊥) → StopsAt names reads name fault → Follows names reads
+stop_follows n (at_first p q) = stops p q n
+stop_follows n (past_first p q x) = goes_on p q (stop_follows n x)
+
+memory_no : (fault : StoreFault) → IsUnreadable fault → fault ≡ NoMemory → ⊥
+memory_no Missing u e = absurd (cc)
+memory_no Failed u e = absurd (cc)
+memory_no TooLong u e = absurd u
+memory_no NoMemory u e = absurd u
+
+long_memory : TooLong ≡ NoMemory → ⊥
+long_memory e = absurd (cc)
+
+two_follow : {reads : List Read} {a b c d : List ℕ} → reads ≡ (a, Ok c) ∷ (b, Ok d) ∷ [] → Follows (a ∷ b ∷ []) reads
+two_follow r = goes_on refl r (goes_on refl refl (no_name refl refl))
+
+three_follow : {reads : List Read} {a b e c d f : List ℕ} → reads ≡ (a, Ok c) ∷ (b, Ok d) ∷ (e, Ok f) ∷ [] → Follows (a ∷ b ∷ e ∷ []) reads
+three_follow r = goes_on refl r (goes_on refl refl (goes_on refl refl (no_name refl refl)))
+
+-- what a command reads to be answered
+follows : {words : List (List ℕ)} {reads : List Read} {answer : Answer} {command : Command} → Words words command → IsBuilt command → IsAnswer words reads answer → Follows (operands_of command) reads
+follows w b (no_command n e) = absurd (n _ w)
+follows w b (not_built v x r e) = absurd (x (subst IsBuilt (one_command w v) b))
+follows {reads = reads} w b (not_read {fault = fault} v x s u) = subst (λ c. Follows (operands_of c) reads) (one_command v w) (stop_follows (memory_no fault u) s)
+follows {reads = reads} w b (over_long v x s) = subst (λ c. Follows (operands_of c) reads) (one_command v w) (stop_follows long_memory s)
+follows {reads = reads} w b (checked v r x) = subst (λ c. Follows (operands_of c) reads) (one_command v w) (three_follow r)
+follows {reads = reads} w b (validated v r x) = subst (λ c. Follows (operands_of c) reads) (one_command v w) (two_follow r)
+follows {reads = reads} w b (ran v r x) = subst (λ c. Follows (operands_of c) reads) (one_command v w) (two_follow r)
+
+-- of one file, two outcomes that are true where no read fails, and where some did
+
+some_is : {A : Type 0} (x y : A) → Some x ≡ Some y → x ≡ y
+some_is x y e = cc
+
+same_bytes : {file : Option (List ℕ)} (one other : List ℕ) → file ≡ Some one → file ≡ Some other → one ≡ other
+same_bytes one other p q = some_is _ _ (sym p ∙ q)
+
+long_short : {file : Option (List ℕ)} (bytes long : List ℕ) → file ≡ Some bytes → length bytes ≤ longest_file → file ≡ Some long → longest_file < length long → ⊥
+long_short bytes long p q r s =
+    let same : length long ≡ length bytes = ap length (same_bytes long bytes r p) in
+    omega (arith, q, s, same)
+
+missing_some : {file : Option (List ℕ)} (bytes : List ℕ) → file ≡ None → file ≡ Some bytes → ⊥
+missing_some bytes p q = let h = sym p ∙ q in absurd (cc)
+
+same_came : (files : Files) (rose : Type 0) (name : List ℕ) (one other : Came) → (one ≡ Err NoMemory → ⊥) → (other ≡ Err NoMemory → ⊥) → IsTrue (Some files) ⊥ (name, one) → IsTrue (Some files) rose (name, other)
+    → (one ≡ other) ⊎ ((other ≡ Err Failed) × rose)
+same_came files rose name one (Err Failed) n m t u = inr (refl, u.failed refl)
+same_came files rose name one (Err NoMemory) n m t u = absurd (m refl)
+same_came files rose name (Err Failed) other n m t u = absurd (t.failed refl)
+same_came files rose name (Err NoMemory) other n m t u = absurd (n refl)
+same_came files rose name (Ok bytes) (Ok more) n m t u = inl (ap Ok (same_bytes bytes more (t.answers files refl) (u.answers files refl)))
+same_came files rose name (Ok bytes) (Err Missing) n m t u = absurd (missing_some bytes (u.answers files refl) (t.answers files refl))
+same_came files rose name (Ok bytes) (Err TooLong) n m t u = let l = u.answers files refl in absurd (long_short bytes l.0 (t.answers files refl) t.short l.1 l.2)
+same_came files rose name (Err Missing) (Ok bytes) n m t u = absurd (missing_some bytes (t.answers files refl) (u.answers files refl))
+same_came files rose name (Err Missing) (Err Missing) n m t u = inl refl
+same_came files rose name (Err Missing) (Err TooLong) n m t u = let l = u.answers files refl in absurd (missing_some l.0 (t.answers files refl) l.1)
+same_came files rose name (Err TooLong) (Ok bytes) n m t u = let l = t.answers files refl in absurd (long_short bytes l.0 (u.answers files refl) u.short l.1 l.2)
+same_came files rose name (Err TooLong) (Err Missing) n m t u = let l = t.answers files refl in absurd (missing_some l.0 (u.answers files refl) l.1)
+same_came files rose name (Err TooLong) (Err TooLong) n m t u = inl refl
+
+-- the reads of the same names in the same files are the same, or one of them failed
+abbrev FailsIn : Type 0 → List (List ℕ) → List Read → Type 0
+FailsIn rose names reads = rose × ((name : List ℕ) × StopsAt names reads name Failed)
+
+-- the first of the reads, and what follows it
+data Goes (name : List ℕ) (rest : List (List ℕ)) : List Read → Type 0 where
+  goes : {reads : List Read} (came : Came) (more : List Read) → reads ≡ (name, came) ∷ more → (came ≡ Err NoMemory → ⊥)
+      → ((text : List ℕ) → came ≡ Ok text → Follows rest more) → ((fault : StoreFault) → came ≡ Err fault → more ≡ []) → Goes name rest reads
+
+first_read : {name : List ℕ} {rest names : List (List ℕ)} {reads : List Read} → names ≡ name ∷ rest → Follows names reads → Goes name rest reads
+first_read same (no_name p q) = absurd (cc)
+first_read same (stops {fault = fault} p q n) =
+    let first = (cons_same (sym p ∙ same)).0 in
+    goes (Err fault) [] (q ∙ ap (λ x. (x, Err fault) ∷ []) first) (λ e. n (err_same _ _ e)) (λ text e. absurd (ok_err _ _ (sym e))) (λ other e. refl)
+first_read same (goes_on {more = more} {text = text} p q x) =
+    let both = cons_same (sym p ∙ same) in
+    goes (Ok text) more (q ∙ ap (λ y. (y, Ok text) ∷ more) both.0) (λ e. ok_err _ _ e) (λ other e. subst (λ y. Follows y more) both.1 x) (λ fault e. absurd (ok_err _ _ e))
+
+no_reads : {names : List (List ℕ)} {reads : List Read} → names ≡ [] → Follows names reads → reads ≡ []
+no_reads same (no_name p q) = q
+no_reads same (stops p q n) = absurd (cc)
+no_reads same (goes_on p q x) = absurd (cc)
+
+true_at : {told : Option Files} {rose : Type 0} {reads others : List Read} → reads ≡ others → AreTrue told rose reads → AreTrue told rose others
+true_at {told} {rose} same t = subst (AreTrue told rose) same t
+
+abbrev HasSameReads : Files → Type 0 → List (List ℕ) → Type 0
+HasSameReads files rose names = (one other : List Read) → Follows names one → Follows names other → AreTrue (Some files) ⊥ one → AreTrue (Some files) rose other
+    → (one ≡ other) ⊎ FailsIn rose names other
+
+-- behind a first read that is the same
+same_behind : (files : Files) (rose : Type 0) (name : List ℕ) (names : List (List ℕ)) (one other : List Read) (came : Came) (more others : List Read) → one ≡ (name, came) ∷ more → other ≡ (name, came) ∷ others
+    → ((text : List ℕ) → came ≡ Ok text → Follows names more) → ((fault : StoreFault) → came ≡ Err fault → more ≡ [])
+    → ((text : List ℕ) → came ≡ Ok text → Follows names others) → ((fault : StoreFault) → came ≡ Err fault → others ≡ [])
+    → AreTrue (Some files) ⊥ more → AreTrue (Some files) rose others → HasSameReads files rose names → (one ≡ other) ⊎ FailsIn rose (name ∷ names) other
+same_behind files rose name names one other (Ok text) more others p q f g h i t u again = by (again more others (f text refl) (h text refl) t u)
+  where
+    by : (more ≡ others) ⊎ FailsIn rose names others → (one ≡ other) ⊎ FailsIn rose (name ∷ names) other
+    by (inl same) = inl (p ∙ (ap (λ x. (name, Ok text) ∷ x) same ∙ sym q))
+    by (inr fails) = inr (fails.0, (fails.1.0, past_first refl q fails.1.1))
+same_behind files rose name names one other (Err fault) more others p q f g h i t u again = inl (p ∙ (ap (λ x. (name, Err fault) ∷ x) (g fault refl ∙ sym (i fault refl)) ∙ sym q))
+
+same_first : (files : Files) (rose : Type 0) (name : List ℕ) (names : List (List ℕ)) (one other : List Read) → Goes name names one → Goes name names other → AreTrue (Some files) ⊥ one
+    → AreTrue (Some files) rose other → HasSameReads files rose names → (one ≡ other) ⊎ FailsIn rose (name ∷ names) other
+same_first files rose name names one other (goes came more p n f g) (goes found others q m h i) t u again = by (same_came files rose name came found n m (true_at p t).0 (true_at q u).0)
+  where
+    by : (came ≡ found) ⊎ ((found ≡ Err Failed) × rose) → (one ≡ other) ⊎ FailsIn rose (name ∷ names) other
+    by (inl same) =
+        same_behind files rose name names one other found more others (p ∙ ap (λ x. (name, x) ∷ more) same) q (λ text e. f text (same ∙ e)) (λ fault e. g fault (same ∙ e)) h i
+        (true_at p t).1 (true_at q u).1 again
+    by (inr (failed, r)) =
+        inr (r, (name, at_first refl (q ∙ (ap (λ x. (name, x) ∷ others) failed ∙ ap (λ x. (name, Err Failed) ∷ x) (i Failed failed)))))
+
+pub same_reads : (files : Files) (rose : Type 0) (names : List (List ℕ)) → HasSameReads files rose names
+same_reads files rose [] one other a b t u = inl (no_reads refl a ∙ sym (no_reads refl b))
+same_reads files rose (name ∷ names) one other a b t u = same_first files rose name names one other (first_read refl a) (first_read refl b) t u (same_reads files rose names)
+
+-- the answer of a call: an answer like this one, or a read that failed
+abbrev pub Agrees : Type 0 → Answer → Answer → Type 0
+Agrees rose one other = AreAlike one other ⊎ IsOfFault rose other
+
+fault_at : {rose : Type 0} {answer : Answer} {name : List ℕ} → answer ≡ cannot_read name → rose → IsOfFault rose answer
+fault_at {rose} e r = subst (IsOfFault rose) (sym e) r
+
+-- a read that failed is told
+pub fails_told : {words : List (List ℕ)} {reads : List Read} {answer : Answer} {command : Command} {rose : Type 0} → Words words command → IsBuilt command → FailsIn rose (operands_of command) reads
+    → IsAnswer words reads answer → IsOfFault rose answer
+fails_told w b f x = fault_at (stopped_only w b f.1.1 x) f.0
+
+-- two answers of one command on the same files
+alike : {words : List (List ℕ)} {files : Files} {rose : Type 0} {one other : Answer} {reads others : List Read} {command : Command} → Words words command → IsBuilt command → AreTrue (Some files) ⊥ reads
+    → IsAnswer words reads one → AreTrue (Some files) rose others → IsAnswer words others other → Agrees rose one other
+alike {words} {files} {rose} {one} {other} {reads} {others} {command} w b t x u y = by (same_reads files rose (operands_of command) reads others (follows w b x) (follows w b y) t u)
+  where
+    by : (reads ≡ others) ⊎ FailsIn rose (operands_of command) others → Agrees rose one other
+    by (inl same) = inl (by_reads (subst (λ r. IsAnswer words r one) same x) y)
+    by (inr fails) = inr (fails_told w b fails y)
 
 -- the answer of a call is one
-pub exact : {words : List (List ℕ)} {files : Files} {rose : Type 0} {one other : Answer} → IsAnswer words (Some files) ⊥ one → IsAnswer words (Some files) rose other → Agrees rose one other
-exact {rose = rose} (no_command n) y = alike_at rose refl (usage_only n y)
-exact {rose = rose} (not_built w x e) y = alike_at rose (ap not_yet e) (refused_only w x y)
-exact {words} {files} {rose} {one} {other} (not_read {name = name} w b s c) y = by (c.told_cause files refl)
+pub exact : {words : List (List ℕ)} {files : Files} {rose : Type 0} {one other : Answer} {reads others : List Read} → AreTrue (Some files) ⊥ reads → IsAnswer words reads one
+    → AreTrue (Some files) rose others → IsAnswer words others other → Agrees rose one other
+exact t (no_command n e) u y = inl (alike_at refl (usage_only n y))
+exact t (not_built w x r e) u y = inl (alike_at (ap not_yet e) (refused_only w x y))
+exact t (not_read w b s v) u y = alike w b t (not_read w b s v) u y
+exact t (over_long w b s) u y = alike w b t (over_long w b s) u y
+exact t (checked w r x) u y = alike w tt t (checked w r x) u y
+exact t (validated w r x) u y = alike w tt t (validated w r x) u y
+exact t (ran w r x) u y = alike w tt t (ran w r x) u y
+
+-- held files that are short enough are read well, or a read failed
+
+held_true : (files : Files) (name bytes : List ℕ) → files name ≡ Some bytes → length bytes ≤ longest_file → IsTrue (Some files) ⊥ (name, Ok bytes)
+held_true files name bytes held short = record {
+  answers = λ other same. let h : files ≡ other = cc in subst (λ (f : Files). f name ≡ Some bytes) h held;
+  short = short;
+  failed = λ e. ok_err _ _ e;
+  untold = λ e. absurd (let none = e in cc);
+}
+
+pub read_two : {words : List (List ℕ)} {rose : Type 0} {answer : Answer} {reads : List Read} {command : Command} (files : Files) (a b c d : List ℕ) → Words words command → IsBuilt command
+    → operands_of command ≡ a ∷ b ∷ [] → files a ≡ Some c → length c ≤ longest_file → files b ≡ Some d → length d ≤ longest_file → AreTrue (Some files) rose reads → IsAnswer words reads answer
+    → IsOfFault rose answer ⊎ (reads ≡ (a, Ok c) ∷ (b, Ok d) ∷ [])
+read_two {words} {rose} {answer} {reads} {command} files a b c d w built same ha la hb lb t x =
+    by (same_reads files rose (operands_of command) _ reads (subst (λ n. Follows n ((a, Ok c) ∷ (b, Ok d) ∷ [])) (sym same) (two_follow refl)) (follows w built x)
+    (held_true files a c ha la, (held_true files b d hb lb, tt)) t)
   where
-    by : (files name ≡ None) ⊎ (IsReadable (files name) × ⊥) → Agrees rose (cannot_read name) other
-    by (inl m) = missing_only w b s m y
-    by (inr f) = absurd f.1
-exact {words} {files} (over_long w b s l) y = long_only w b s (l.told_cause files refl) y
-exact {words} {files} {rose} {one} {other} (checked {input = i} {output = o} {sheet = s} {input_text = b} {output_text = c} {sheet_text = d} w p q r x) y = by (texts_decide w p q r y)
+    by : ((a, Ok c) ∷ (b, Ok d) ∷ [] ≡ reads) ⊎ FailsIn rose (operands_of command) reads → IsOfFault rose answer ⊎ (reads ≡ (a, Ok c) ∷ (b, Ok d) ∷ [])
+    by (inl e) = inr (sym e)
+    by (inr f) = inl (fails_told w built f x)
+
+pub read_three : {words : List (List ℕ)} {rose : Type 0} {answer : Answer} {reads : List Read} {command : Command} (files : Files) (a b e c d f : List ℕ) → Words words command → IsBuilt command
+    → operands_of command ≡ a ∷ b ∷ e ∷ [] → files a ≡ Some c → length c ≤ longest_file → files b ≡ Some d → length d ≤ longest_file → files e ≡ Some f → length f ≤ longest_file
+    → AreTrue (Some files) rose reads → IsAnswer words reads answer → IsOfFault rose answer ⊎ (reads ≡ (a, Ok c) ∷ (b, Ok d) ∷ (e, Ok f) ∷ [])
+read_three {words} {rose} {answer} {reads} {command} files a b e c d f w built same ha la hb lb he le t x =
+    by (same_reads files rose (operands_of command) _ reads (subst (λ n. Follows n ((a, Ok c) ∷ (b, Ok d) ∷ (e, Ok f) ∷ [])) (sym same) (three_follow refl)) (follows w built x)
+    (held_true files a c ha la, (held_true files b d hb lb, (held_true files e f he le, tt))) t)
   where
-    by : IsOfFault rose other ⊎ Checks i o s b c d other → Agrees rose one other
-    by (inl f) = inr f
-    by (inr z) = inl (checks_one x z)
-exact {words} {files} {rose} {one} {other} (validated {schema = i} {document = o} {schema_text = b} {document_text = c} w p q x) y = by (texts_validate w p q y)
-  where
-    by : IsOfFault rose other ⊎ Validates i o b c other → Agrees rose one other
-    by (inl f) = inr f
-    by (inr z) = inl (validates_one x z)
-exact {words} {files} {rose} {one} {other} (ran {sheet = i} {document = o} {sheet_text = b} {document_text = c} w p q x) y = by (texts_run w p q y)
-  where
-    by : IsOfFault rose other ⊎ RunsTexts i o b c other → Agrees rose one other
-    by (inl f) = inr f
-    by (inr z) = inl (runs_texts_one x z)
+    by : ((a, Ok c) ∷ (b, Ok d) ∷ (e, Ok f) ∷ [] ≡ reads) ⊎ FailsIn rose (operands_of command) reads → IsOfFault rose answer ⊎ (reads ≡ (a, Ok c) ∷ (b, Ok d) ∷ (e, Ok f) ∷ [])
+    by (inl g) = inr (sym g)
+    by (inr g) = inl (fails_told w built g x)

@@ -1,6 +1,7 @@
 -- A check of files of the first form, a validation and a run are exact.
-use Rattle.std.proofs.Common.{◌≡◌, ◌≤◌, ◌⊎◌, ◌∙◌, inl, inr, refl, sym, subst, ℕ, List, length, Option, Some, arith}
-use Rattle.tc_io.specs.Store.{Files, longest_file}
+use Rattle.std.proofs.Common.{◌≡◌, ◌≤◌, ◌⊎◌, ◌∷◌, [], ◌∙◌, inl, inr, refl, sym, subst, ℕ, List, length, Option, Some, Ok, arith}
+use Rattle.tc_io.specs.Store.{Files, Read, longest_file}
+use Rattle.tc_io.specs.Reads.{AreTrue}
 use Rattle.tc_io.specs.Sink.{Appended}
 use Rattle.tc_model.specs.Trees.{Trees}
 use Rattle.tc_model.specs.Grammars.{Grammar}
@@ -8,16 +9,16 @@ use Rattle.tc_model.specs.Sheets.{Sheet}
 use Rattle.tc_model.specs.Safety.{IsSafe, IsCounterexample}
 use Rattle.tc_top.specs.FirstForm.{Schema, grammar_of, sheet_of}
 use Rattle.tc_top.specs.FirstText.{FirstSchemaText, FirstSheetText}
-use Rattle.tc_top.specs.Reading.{IsReadFrom}
-use Rattle.tc_top.specs.Answers.{Answer, usage, not_yet, cannot_read, file_limit, safe, unsafe, refused, over_limit, is_valid, is_invalid, has_result, work_limit, open_limit, status_of, text_of, other_input, other_output, other_sheet, Checks, is_other_form, is_safe, is_unsafe, IsAnswer, IsCutShort, Gives, ChecksFiles, DecidesSafety, Validates, ValidatesFiles, DecidesValidity, Runs, sheet_passes, too_much_work, too_open, gives_result, RunsTexts, RunsFiles, GivesResult}
-use Rattle.tc_top.specs.AnswersSeen.{IsRight}
+use Rattle.tc_top.specs.Headline.{IsCutShort, ChecksFiles, DecidesSafety, ValidatesFiles, DecidesValidity, RunsFiles, GivesResult}
+use Rattle.tc_top.specs.Answers.{Answer, usage, not_yet, cannot_read, file_limit, safe, unsafe, refused, over_limit, is_valid, is_invalid, has_result, work_limit, open_limit, status_of, text_of, other_input, other_output, other_sheet, Checks, is_other_form, is_safe, is_unsafe, IsAnswer, Gives, KeepsToLimits, Runs, sheet_passes, too_much_work, too_open, gives_result}
+use Rattle.tc_top.specs.AnswersSeen.{IsRightFor}
 use Rattle.tc_top.specs.OneAnswer.{AreAlike, same_answer, counterexamples, work_or_open, open_or_work, open_reasons, IsOfFault}
 use Rattle.tc_top.specs.declared.answer.Answer.{Answer as Said}
 use Rattle.tc_top.specs.declared.status.Status.{Status}
-use Rattle.tc_top.specs.declared.status.Status.TheVariants.{Limit}
-use Rattle.tc_top.specs.Limits.{IsWithinRunLimits}
+use Rattle.tc_top.specs.declared.status.Status.TheVariants.{Yes, Limit}
+use Rattle.tc_top.specs.Limits.{IsRunWithin}
 use Rattle.tc_top.proofs.FirstText.{schema_unique, sheet_unique}
-use Rattle.tc_top.proofs.Exact.{Agrees, not_both, texts_decide, texts_validate, texts_run}
+use Rattle.tc_top.proofs.Exact.{Agrees, not_both, checked_only, validated_only, ran_only, read_two, read_three}
 use Rattle.tc_top.proofs.OneValidity.{Settles, settles_valid, settles_invalid, settles}
 use Rattle.tc_top.proofs.OneRun.{runs_of, not_within, not_few, not_low}
 
@@ -49,15 +50,12 @@ gives status one other e (inl alike) = inl (e ∙ alike_status alike)
 gives status one other e (inr fault) = inr (cut_short status other e fault)
 
 -- an answer that is right for the same words
-pub at_words : {words other : List (List ℕ)} {told : Option Files} {rose : Type 0} {said : Said} → words ≡ other → IsRight words told rose said → IsRight other told rose said
-at_words {words} {other} {told} {rose} {said} same right = subst (λ w. IsRight w told rose said) same right
+pub at_words : {words other : List (List ℕ)} {happened : List Read → Type 0} {said : Said} → words ≡ other → IsRightFor words happened said → IsRightFor other happened said
+at_words {words} {other} {happened} {said} same right = subst (λ w. IsRightFor w happened said) same right
 
 -- where the store tells
-pub at_told : {words : List (List ℕ)} {told other : Option Files} {rose : Type 0} {answer : Answer} → told ≡ other → IsAnswer words told rose answer → IsAnswer words other rose answer
-at_told {words} {told} {other} {rose} {answer} same right = subst (λ t. IsAnswer words t rose answer) same right
-
-held_reads : (files : Files) (name bytes : List ℕ) → files name ≡ Some bytes → length bytes ≤ 4096 → IsReadFrom (Some files) name bytes
-held_reads files name bytes held short = record { held = λ other same. let h : files ≡ other = cc in subst (λ (f : Files). f name ≡ Some bytes) h held; short = omega (arith, short) }
+pub at_told : {told other : Option Files} {rose : Type 0} {reads : List Read} → told ≡ other → AreTrue told rose reads → AreTrue other rose reads
+at_told {told} {other} {rose} {reads} same true = subst (λ t. AreTrue t rose reads) same true
 
 module _ (i o : Schema) (t : Trees) where
   -- what the three texts decide
@@ -93,22 +91,21 @@ module _ (i o : Schema) (t : Trees) where
     no_text = λ _. (document, result, h, written);
   }
 
-pub headline : {words : List (List ℕ)} {rose : Type 0} (files : Files) (i o : Schema) (t : Trees) (status : Status) (old new : Option (List ℕ)) (answer : Answer) → ChecksFiles words files i o t
-    → IsAnswer words (Some files) rose answer → status ≡ status_of answer → Appended old new (text_of answer)
+pub headline : {words : List (List ℕ)} {rose : Type 0} {reads : List Read} (files : Files) (i o : Schema) (t : Trees) (status : Status) (old new : Option (List ℕ)) (answer : Answer) → ChecksFiles words files i o t
+    → AreTrue (Some files) rose reads → IsAnswer words reads answer → status ≡ status_of answer → Appended old new (text_of answer)
     → IsCutShort status rose ⊎ DecidesSafety status old new (grammar_of i) (grammar_of o) (sheet_of t)
-headline {words} {rose} files i o t status old new answer c right is written =
-    let input = held_reads files c.input c.input_text c.input_held c.input_spells.short in
-    let output = held_reads files c.output c.output_text c.output_held c.output_spells.short in
-    let sheet = held_reads files c.sheet c.sheet_text c.sheet_held c.sheet_spells.short in
-    by (texts_decide c.words_are input output sheet right)
+headline {words} {rose} {reads} files i o t status old new answer c true right is written =
+    by (read_three files c.input c.output c.sheet c.input_text c.output_text c.sheet_text c.words_are tt refl c.input_held (first_short c.input_spells.short) c.output_held (first_short c.output_spells.short)
+    c.sheet_held (first_short c.sheet_spells.short) true right)
   where
-    by : IsOfFault rose answer ⊎ Checks c.input c.output c.sheet c.input_text c.output_text c.sheet_text answer
+    first_short : {bytes : List ℕ} → length bytes ≤ 4096 → length bytes ≤ longest_file
+    first_short h = omega (arith, h)
+
+    by : IsOfFault rose answer ⊎ (reads ≡ (c.input, Ok c.input_text) ∷ (c.output, Ok c.output_text) ∷ (c.sheet, Ok c.sheet_text) ∷ [])
         → IsCutShort status rose ⊎ DecidesSafety status old new (grammar_of i) (grammar_of o) (sheet_of t)
     by (inl fault) = inl (cut_short status answer is fault)
-    by (inr checks) = inr (exact_decision i o t status old new answer c.input_spells c.output_spells c.sheet_spells is written (decided i o t c.input_spells c.output_spells c.sheet_spells checks))
-
-held_short : (files : Files) (name bytes : List ℕ) → files name ≡ Some bytes → length bytes ≤ longest_file → IsReadFrom (Some files) name bytes
-held_short files name bytes held short = record { held = λ other same. let h : files ≡ other = cc in subst (λ (f : Files). f name ≡ Some bytes) h held; short = short }
+    by (inr read) = inr (exact_decision i o t status old new answer c.input_spells c.output_spells c.sheet_spells is written
+        (decided i o t c.input_spells c.output_spells c.sheet_spells (checked_only c.words_are read right)))
 
 settled : {g : Grammar} {d : Trees} {answer : Answer} (status : Status) (old new : Option (List ℕ)) → status ≡ status_of answer → Appended old new (text_of answer) → Settles g d answer
     → DecidesValidity status old new g d
@@ -125,43 +122,70 @@ settled status old new is written (settles_invalid n) = record {
   no_text = λ _. written;
 }
 
-pub validity : {words : List (List ℕ)} {rose : Type 0} (files : Files) (g : Grammar) (d : Trees) (status : Status) (old new : Option (List ℕ)) (answer : Answer) → ValidatesFiles words files g d
-    → IsAnswer words (Some files) rose answer → status ≡ status_of answer → Appended old new (text_of answer)
+pub validity : {words : List (List ℕ)} {rose : Type 0} {reads : List Read} (files : Files) (g : Grammar) (d : Trees) (status : Status) (old new : Option (List ℕ)) (answer : Answer) → ValidatesFiles words files g d
+    → AreTrue (Some files) rose reads → IsAnswer words reads answer → status ≡ status_of answer → Appended old new (text_of answer)
     → IsCutShort status rose ⊎ DecidesValidity status old new g d
-validity {words} {rose} files g d status old new answer c right is written =
-    by (texts_validate c.words_are (held_short files c.schema c.schema_text c.schema_held c.schema_short) (held_short files c.document c.document_text c.document_held c.document_short) right)
+validity {words} {rose} {reads} files g d status old new answer c true right is written =
+    by (read_two files c.schema c.document c.schema_text c.document_text c.words_are tt refl c.schema_held c.schema_short c.document_held c.document_short true right)
   where
-    by : IsOfFault rose answer ⊎ Validates c.schema c.document c.schema_text c.document_text answer → IsCutShort status rose ⊎ DecidesValidity status old new g d
+    by : IsOfFault rose answer ⊎ (reads ≡ (c.schema, Ok c.schema_text) ∷ (c.document, Ok c.document_text) ∷ []) → IsCutShort status rose ⊎ DecidesValidity status old new g d
     by (inl fault) = inl (cut_short status answer is fault)
-    by (inr validates) = inr (settled status old new is written (settles c.schema_spells c.document_spells c.within validates))
+    by (inr read) = inr (settled status old new is written (settles c.schema_spells c.document_spells c.within (validated_only c.words_are read right)))
 
 at_limit : (s : Sheet) (d : Trees) (status : Status) (old new : Option (List ℕ)) (answer : Answer) → status_of answer ≡ Limit → status ≡ status_of answer → Appended old new (text_of answer)
-    → (IsWithinRunLimits s d → ⊥) → Runs s d answer → GivesResult status old new s d
-at_limit s d status old new answer limit is written beyond runs = record {
-  yes = (λ e. absurd (let k = sym (is ∙ limit) ∙ e in cc), λ w. absurd (beyond w));
-  limit = (λ _. beyond, λ _. is ∙ limit);
-  yes_text = λ e. absurd (let k = sym (is ∙ limit) ∙ e in cc);
-  limit_text = λ _. (answer, limit, runs, written);
-}
+    → (IsRunWithin s d → ⊥) → Runs s d answer → KeepsToLimits status old new s d × GivesResult status old new s d
+at_limit s d status old new answer limit is written beyond runs = (
+  record {
+    yes = (λ e. absurd (let k = sym (is ∙ limit) ∙ e in cc), λ w. absurd (beyond w));
+    limit = (λ _. beyond, λ _. is ∙ limit);
+    limit_text = λ _. (answer, limit, runs, written);
+  },
+  λ e. absurd (let k = sym (is ∙ limit) ∙ e in cc),
+)
 
 given : (s : Sheet) (d : Trees) {answer : Answer} (status : Status) (old new : Option (List ℕ)) → status ≡ status_of answer → Appended old new (text_of answer) → Runs s d answer
-    → GivesResult status old new s d
+    → KeepsToLimits status old new s d × GivesResult status old new s d
 given s d status old new is written (sheet_passes {kind = k} {number = n} p) = at_limit s d status old new (over_limit k n) refl is written (not_within s d k n p) (sheet_passes p)
 given s d status old new is written (too_much_work {o = o} w t p) = at_limit s d status old new work_limit refl is written (not_few s d o t p) (too_much_work w t p)
 given s d status old new is written (too_open {o = o} w t p) = at_limit s d status old new open_limit refl is written (not_low s d o t p) (too_open w t p)
-given s d status old new is written (gives_result {result = result} w r) = record {
-  yes = (λ _. w, λ _. is);
-  limit = (λ e. absurd (let k = sym is ∙ e in cc), λ n. absurd (n w));
-  yes_text = λ _. (result, r, written);
-  limit_text = λ e. absurd (let k = sym is ∙ e in cc);
-}
+given s d status old new is written (gives_result {result = result} w r) = (
+  record {
+    yes = (λ _. w, λ _. is);
+    limit = (λ e. absurd (let k = sym is ∙ e in cc), λ n. absurd (n w));
+    limit_text = λ e. absurd (let k = sym is ∙ e in cc);
+  },
+  λ _. (result, r, written),
+)
 
-pub running : {words : List (List ℕ)} {rose : Type 0} (files : Files) (s : Sheet) (d : Trees) (status : Status) (old new : Option (List ℕ)) (answer : Answer) → RunsFiles words files s d
-    → IsAnswer words (Some files) rose answer → status ≡ status_of answer → Appended old new (text_of answer)
-    → IsCutShort status rose ⊎ GivesResult status old new s d
-running {words} {rose} files s d status old new answer c right is written =
-    by (texts_run c.words_are (held_short files c.sheet c.sheet_text c.sheet_held c.sheet_short) (held_short files c.document c.document_text c.document_held c.document_short) right)
+-- a call that is cut short isn't yes
+not_yes : {rose : Type 0} {status : Status} → IsCutShort status rose → status ≡ Yes → ⊥
+not_yes (inl e) y = absurd (let k = sym e ∙ y in cc)
+not_yes (inr (inl e)) y = absurd (let k = sym e ∙ y in cc)
+not_yes (inr (inr e)) y = absurd (let k = sym e.0 ∙ y in cc)
+
+-- what a call that runs held files decides
+run_decides : {words : List (List ℕ)} {rose : Type 0} {reads : List Read} (files : Files) (s : Sheet) (d : Trees) (status : Status) (old new : Option (List ℕ)) (answer : Answer) → RunsFiles words files s d
+    → AreTrue (Some files) rose reads → IsAnswer words reads answer → status ≡ status_of answer → Appended old new (text_of answer)
+    → IsCutShort status rose ⊎ (KeepsToLimits status old new s d × GivesResult status old new s d)
+run_decides {words} {rose} {reads} files s d status old new answer c true right is written =
+    by (read_two files c.sheet c.document c.sheet_text c.document_text c.words_are tt refl c.sheet_held c.sheet_short c.document_held c.document_short true right)
   where
-    by : IsOfFault rose answer ⊎ RunsTexts c.sheet c.document c.sheet_text c.document_text answer → IsCutShort status rose ⊎ GivesResult status old new s d
+    by : IsOfFault rose answer ⊎ (reads ≡ (c.sheet, Ok c.sheet_text) ∷ (c.document, Ok c.document_text) ∷ []) → IsCutShort status rose ⊎ (KeepsToLimits status old new s d × GivesResult status old new s d)
     by (inl fault) = inl (cut_short status answer is fault)
-    by (inr runs) = inr (given s d status old new is written (runs_of c.sheet_spells c.document_spells runs))
+    by (inr read) = inr (given s d status old new is written (runs_of c.sheet_spells c.document_spells (ran_only c.words_are read right)))
+
+pub running : {words : List (List ℕ)} {rose : Type 0} {reads : List Read} (files : Files) (s : Sheet) (d : Trees) (status : Status) (old new : Option (List ℕ)) (answer : Answer) → RunsFiles words files s d
+    → AreTrue (Some files) rose reads → IsAnswer words reads answer → status ≡ status_of answer → Appended old new (text_of answer) → GivesResult status old new s d
+running {rose = rose} files s d status old new answer c true right is written = by (run_decides files s d status old new answer c true right is written)
+  where
+    by : IsCutShort status rose ⊎ (KeepsToLimits status old new s d × GivesResult status old new s d) → GivesResult status old new s d
+    by (inl cut) = λ e. absurd (not_yes cut e)
+    by (inr decides) = decides.1
+
+pub limited : {words : List (List ℕ)} {rose : Type 0} {reads : List Read} (files : Files) (s : Sheet) (d : Trees) (status : Status) (old new : Option (List ℕ)) (answer : Answer) → RunsFiles words files s d
+    → AreTrue (Some files) rose reads → IsAnswer words reads answer → status ≡ status_of answer → Appended old new (text_of answer) → IsCutShort status rose ⊎ KeepsToLimits status old new s d
+limited {rose = rose} files s d status old new answer c true right is written = by (run_decides files s d status old new answer c true right is written)
+  where
+    by : IsCutShort status rose ⊎ (KeepsToLimits status old new s d × GivesResult status old new s d) → IsCutShort status rose ⊎ KeepsToLimits status old new s d
+    by (inl cut) = inl cut
+    by (inr decides) = inr decides.0

@@ -6,15 +6,14 @@ pub mod FirstLawsSheet
 pub mod FirstLaws
 pub mod FirstText
 pub mod Named
+pub mod OperandsRead
+pub mod Nothing
 pub mod Numerals
 pub mod OneCommand
 pub mod OneRefusal
 pub mod OneValidity
 pub mod OneRun
-pub mod RefusedSheets
 pub mod FirstRead
-pub mod FirstUnread
-pub mod Fronts
 pub mod Exact
 pub mod OneAnswer
 pub mod Headline

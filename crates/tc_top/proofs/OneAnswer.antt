@@ -1,8 +1,8 @@
 -- Words and files have one answer, but for what is left open.
 use Rattle.std.proofs.Common.{inl, inr}
 use Rattle.tc_top.specs.Answers.{Answer, usage, not_yet, cannot_read, file_limit, safe, unsafe, refused, over_limit, is_valid, is_invalid, has_result, work_limit, open_limit}
-use Rattle.tc_top.specs.OneAnswer.{AreAlike, IsOfFault, HasOneAnswer, HasAnswerOfCall}
-use Rattle.tc_top.proofs.Exact.{Agrees, exact}
+use Rattle.tc_top.specs.OneAnswer.{AreAlike, IsOfFault, HasOneAnswer, HasOneAnswerOn, HasAnswerOfCall}
+use Rattle.tc_top.proofs.Exact.{Agrees, by_reads, exact}
 
 no_fault : (answer : Answer) → IsOfFault ⊥ answer → ⊥
 no_fault (cannot_read name) h = h
@@ -24,7 +24,10 @@ without_fault one other (inl alike) = alike
 without_fault one other (inr fault) = absurd (no_fault other fault)
 
 pub one_answer : HasOneAnswer
-one_answer words files a b x y = without_fault a b (exact x y)
+one_answer words reads a b x y = by_reads x y
+
+pub one_answer_on : HasOneAnswerOn
+one_answer_on words files a b x y = without_fault a b (exact x.1 x.2 y.1 y.2)
 
 pub answer_of_call : HasAnswerOfCall
-answer_of_call words files before after a b x y = exact x y
+answer_of_call words files before after reads a b x t y = exact x.1 x.2 t y

@@ -24,18 +24,20 @@ use Rattle.tc_sheet.proofs.Changes.{as_they_are}
 use Rattle.tc_sheet.proofs.NamedAgain.{not_once, one_place}
 use Rattle.tc_top.specs.Answers.{refused}
 use Rattle.tc_top.specs.OneAnswer.{IsOpen, AreAlike, same_answer, open_reasons, IsConstruct, HasOneConstruct, HasOneFaultOfNames}
-use Rattle.tc_top.specs.Refusals.{Reason, malformed, unsupported, too_deep, undefined, twice, loop, bad_start, bad_except, call_loop, SpellsFault, IsRefusedSchema, IsRefusedDocument, SpellsTree, IsRefusedSheet}
+use Rattle.tc_read.specs.Refusals.{SpellsFault, IsRefusedSchema, IsRefusedDocument, SpellsTree, IsRefusedSheet}
+use Rattle.tc_read.specs.declared.faults.Reason.{Reason}
+use Rattle.tc_read.specs.declared.faults.Reason.TheVariants.{Malformed, Unsupported, TooDeep, Undefined, Twice, Loop, BadStart, BadExcept, CallLoop}
 use Rattle.tc_model.proofs.XmlTextRefused.{one_refusal}
-use Rattle.tc_sheet_text.proofs.OtherEntities.{with_others}
+use Rattle.tc_read.proofs.OtherEntities.{with_others}
 
 -- schemas
 
 abbrev reason_of : Fault → Reason
-reason_of (schemas.twice place) = twice
-reason_of (schemas.undefined place) = undefined
-reason_of (schemas.loop place) = loop
-reason_of (schemas.bad_except place) = bad_except
-reason_of (schemas.bad_start place) = bad_start
+reason_of (schemas.twice place) = Twice
+reason_of (schemas.undefined place) = Undefined
+reason_of (schemas.loop place) = Loop
+reason_of (schemas.bad_except place) = BadExcept
+reason_of (schemas.bad_start place) = BadStart
 
 abbrev place_in : Fault → ℕ
 place_in (schemas.twice place) = place
@@ -50,15 +52,15 @@ data SchemaCause (bytes : List ℕ) : Reason → ℕ → Type 0 where
   has_fault : (f : Fault) → SpellsFault bytes f → SchemaCause bytes (reason_of f) (place_in f)
 
 schema_cause : (bytes : List ℕ) (reason : Reason) (place : ℕ) → IsRefusedSchema bytes reason place → SchemaCause bytes reason place
-schema_cause bytes malformed place h = no_tree tt (λ s spells. h.1 _ _ s spells)
-schema_cause bytes (unsupported why) place h = no_tree tt (λ s spells. h.1 _ s spells)
-schema_cause bytes too_deep place h = no_tree tt (λ s spells. h.1 _ s spells)
-schema_cause bytes undefined place h = has_fault (schemas.undefined place) h
-schema_cause bytes twice place h = has_fault (schemas.twice place) h
-schema_cause bytes loop place h = has_fault (schemas.loop place) h
-schema_cause bytes bad_start place h = has_fault (schemas.bad_start place) h
-schema_cause bytes bad_except place h = has_fault (schemas.bad_except place) h
-schema_cause bytes call_loop place h = absurd h
+schema_cause bytes Malformed place h = no_tree tt (λ s spells. h.1 _ _ s spells)
+schema_cause bytes (Unsupported why) place h = no_tree tt (λ s spells. h.1 _ s spells)
+schema_cause bytes TooDeep place h = no_tree tt (λ s spells. h.1 _ s spells)
+schema_cause bytes Undefined place h = has_fault (schemas.undefined place) h
+schema_cause bytes Twice place h = has_fault (schemas.twice place) h
+schema_cause bytes Loop place h = has_fault (schemas.loop place) h
+schema_cause bytes BadStart place h = has_fault (schemas.bad_start place) h
+schema_cause bytes BadExcept place h = has_fault (schemas.bad_except place) h
+schema_cause bytes CallLoop place h = absurd h
 
 same_fault : {bytes : List ℕ} (f g : Fault) → SpellsFault bytes f → SpellsFault bytes g → f ≡ g
 same_fault {bytes} f g (s, spelled, fails) (t, spells, other) = one_fault t f g (subst (λ (x : Syntax). Fails x f) (one_syntax bytes s t spelled spells) fails) other
@@ -76,48 +78,48 @@ schema_refusals bytes name {r} {q} {k} {m} x y = schema_causes name (schema_caus
 -- documents
 
 document_open : (bytes : List ℕ) (reason : Reason) (place : ℕ) → IsRefusedDocument bytes reason place → IsOpen reason
-document_open bytes malformed place h = tt
-document_open bytes (unsupported why) place h = tt
-document_open bytes too_deep place h = tt
-document_open bytes undefined place h = h
-document_open bytes twice place h = h
-document_open bytes loop place h = h
-document_open bytes bad_start place h = h
-document_open bytes bad_except place h = h
-document_open bytes call_loop place h = h
+document_open bytes Malformed place h = tt
+document_open bytes (Unsupported why) place h = tt
+document_open bytes TooDeep place h = tt
+document_open bytes Undefined place h = h
+document_open bytes Twice place h = h
+document_open bytes Loop place h = h
+document_open bytes BadStart place h = h
+document_open bytes BadExcept place h = h
+document_open bytes CallLoop place h = h
 
 pub document_refusals : (bytes name : List ℕ) {r q : Reason} {k m : ℕ} → IsRefusedDocument bytes r k → IsRefusedDocument bytes q m → AreAlike (refused name r k) (refused name q m)
 document_refusals bytes name {r} {q} {k} {m} x y = open_reasons (document_open bytes r k x) (document_open bytes q m y)
 
 -- the reason that is a construct's
 abbrev reason_at : xml.Cause → Reason
-reason_at (xml.unsupported why) = unsupported why
-reason_at xml.too_deep = too_deep
+reason_at (xml.unsupported why) = Unsupported why
+reason_at xml.too_deep = TooDeep
 
--- a document is refused at what its text comes to
-record Comes (bytes : List ℕ) (reason : Reason) (place : ℕ) : Type 0 where
-  cause : xml.Cause
-  refuses : xml.XmlTextRefuses bytes cause place
-  is_reason : reason ≡ reason_at cause
+-- a document is refused since it is malformed, or at the construct to which its text comes
+data Comes (bytes : List ℕ) : Reason → ℕ → Type 0 where
+  comes_to_none : {place : ℕ} → xml.IsNotRefused bytes → Comes bytes Malformed place
+  comes_to : {place : ℕ} (cause : xml.Cause) → xml.XmlTextRefuses bytes cause place → Comes bytes (reason_at cause) place
 
-comes : (bytes : List ℕ) (reason : Reason) (place : ℕ) → IsConstruct reason → IsRefusedDocument bytes reason place → Comes bytes reason place
-comes bytes malformed place c h = absurd c
-comes bytes (unsupported why) place c h = record { cause = xml.unsupported why; refuses = h.0; is_reason = refl }
-comes bytes too_deep place c h = record { cause = xml.too_deep; refuses = h.0; is_reason = refl }
-comes bytes undefined place c h = absurd c
-comes bytes twice place c h = absurd c
-comes bytes loop place c h = absurd c
-comes bytes bad_start place c h = absurd c
-comes bytes bad_except place c h = absurd c
-comes bytes call_loop place c h = absurd c
+comes : (bytes : List ℕ) (reason : Reason) (place : ℕ) → IsRefusedDocument bytes reason place → Comes bytes reason place
+comes bytes Malformed place h = comes_to_none h.2
+comes bytes (Unsupported why) place h = comes_to (xml.unsupported why) h.0
+comes bytes TooDeep place h = comes_to xml.too_deep h.0
+comes bytes Undefined place h = absurd h
+comes bytes Twice place h = absurd h
+comes bytes Loop place h = absurd h
+comes bytes BadStart place h = absurd h
+comes bytes BadExcept place h = absurd h
+comes bytes CallLoop place h = absurd h
 
-same_coming : {bytes : List ℕ} {r q : Reason} {k m : ℕ} → Comes bytes r k → Comes bytes q m → (r ≡ q) × (k ≡ m)
-same_coming {bytes} x y =
-    let two = one_refusal bytes x.cause y.cause _ _ x.refuses y.refuses in
-    (x.is_reason ∙ (ap reason_at two.0 ∙ sym y.is_reason), two.1)
+same_coming : {bytes : List ℕ} {r q : Reason} {k m : ℕ} → Comes bytes r k → Comes bytes q m → (r ≡ q) × (IsConstruct r → k ≡ m)
+same_coming (comes_to_none x) (comes_to_none y) = (refl, λ c. absurd c)
+same_coming {m = m} (comes_to_none x) (comes_to cause y) = absurd (x cause m y)
+same_coming {k = k} (comes_to cause x) (comes_to_none y) = absurd (y cause k x)
+same_coming {bytes} (comes_to cause x) (comes_to other y) = let two = one_refusal bytes cause other _ _ x y in (ap reason_at two.0, λ c. two.1)
 
 pub one_construct : HasOneConstruct
-one_construct bytes r q k m c d x y = same_coming (comes bytes r k c x) (comes bytes q m d y)
+one_construct bytes r q k m x y = same_coming (comes bytes r k x) (comes bytes q m y)
 
 -- stylesheets
 
@@ -126,15 +128,15 @@ abbrev IsWritten : List ℕ → RawTrees → List Template → Type 0
 IsWritten bytes raw templates = XmlText bytes raw × IsStylesheet raw templates
 
 no_xml : {bytes : List ℕ} {raw : RawTrees} (reason : Reason) (place : ℕ) → IsRefusedDocument bytes reason place → XmlText bytes raw → ⊥
-no_xml {raw = raw} malformed place h x = h.1 _ raw (with_others x)
-no_xml {raw = raw} (unsupported why) place h x = h.1 _ raw x
-no_xml {raw = raw} too_deep place h x = h.1 raw (with_others x)
-no_xml undefined place h x = h
-no_xml twice place h x = h
-no_xml loop place h x = h
-no_xml bad_start place h x = h
-no_xml bad_except place h x = h
-no_xml call_loop place h x = h
+no_xml {raw = raw} Malformed place h x = h.1 _ raw (with_others x)
+no_xml {raw = raw} (Unsupported why) place h x = h.1 _ raw x
+no_xml {raw = raw} TooDeep place h x = h.1 raw (with_others x)
+no_xml Undefined place h x = h
+no_xml Twice place h x = h
+no_xml Loop place h x = h
+no_xml BadStart place h x = h
+no_xml BadExcept place h x = h
+no_xml CallLoop place h x = h
 
 -- what is so of all that a text's tree becomes is so of the tree
 of_tree : {bytes : List ℕ} {raw tree : RawTrees} {templates : List Template} {P : List Template → Type 0} (c : Change) → IsWritten bytes raw templates → XmlText bytes tree
@@ -144,12 +146,12 @@ of_tree {bytes} {raw} {tree} {templates} {P} c w x h =
     there raw templates (as_they_are c raw) w.1
 
 abbrev reason_of_calls : SheetFault → Reason
-reason_of_calls calls.undefined = undefined
-reason_of_calls calls.call_loop = call_loop
+reason_of_calls calls.undefined = Undefined
+reason_of_calls calls.call_loop = CallLoop
 
 -- the fault of a stylesheet that is written so
 data WrittenCause (raw : RawTrees) (templates : List Template) : Reason → ℕ → Type 0 where
-  of_names : {place : ℕ} → IsNamedAgain templates place → WrittenCause raw templates malformed place
+  of_names : {place : ℕ} → IsNamedAgain templates place → WrittenCause raw templates Malformed place
   of_calls : {place : ℕ} (f : SheetFault) → SheetFails raw f place → WrittenCause raw templates (reason_of_calls f) place
 
 fails_in : {bytes : List ℕ} {raw : RawTrees} {place : ℕ} (f : SheetFault) → XmlText bytes raw → SpellsTree bytes (λ tree. SheetFails tree f place) → SheetFails raw f place
@@ -157,18 +159,18 @@ fails_in {bytes} {raw} {place} f x h = subst (λ (t : RawTrees). SheetFails t f 
 
 written_cause : {bytes : List ℕ} {raw : RawTrees} {templates : List Template} (reason : Reason) (place : ℕ) → IsWritten bytes raw templates → IsRefusedSheet bytes reason place
     → WrittenCause raw templates reason place
-written_cause malformed place w (inl h) = absurd (no_xml malformed place h w.0)
-written_cause malformed place w (inr h) = of_names (of_tree {P = λ ts. IsNamedAgain ts place} both w h.1.1 h.1.2.1)
-written_cause (unsupported why) place w (inl h) = absurd (no_xml (unsupported why) place h w.0)
-written_cause (unsupported why) place w (inr h) = absurd (of_tree {P = λ ts. ⊥} flattened w h.1 h.2.1)
-written_cause too_deep place w (inl h) = absurd (no_xml too_deep place h w.0)
-written_cause too_deep place w (inr h) = absurd (of_tree {P = λ ts. ⊥} mended w h.1 h.2.1)
-written_cause undefined place w h = of_calls calls.undefined (fails_in calls.undefined w.0 h)
-written_cause call_loop place w h = of_calls calls.call_loop (fails_in calls.call_loop w.0 h)
-written_cause twice place w h = absurd h
-written_cause loop place w h = absurd h
-written_cause bad_start place w h = absurd h
-written_cause bad_except place w h = absurd h
+written_cause Malformed place w (inl h) = absurd (no_xml Malformed place h w.0)
+written_cause Malformed place w (inr h) = of_names (of_tree {P = λ ts. IsNamedAgain ts place} both w h.1.1 h.1.2.1)
+written_cause (Unsupported why) place w (inl h) = absurd (no_xml (Unsupported why) place h w.0)
+written_cause (Unsupported why) place w (inr h) = absurd (of_tree {P = λ ts. ⊥} flattened w h.1 h.2.1)
+written_cause TooDeep place w (inl h) = absurd (no_xml TooDeep place h w.0)
+written_cause TooDeep place w (inr h) = absurd (of_tree {P = λ ts. ⊥} mended w h.1 h.2.1)
+written_cause Undefined place w h = of_calls calls.undefined (fails_in calls.undefined w.0 h)
+written_cause CallLoop place w h = of_calls calls.call_loop (fails_in calls.call_loop w.0 h)
+written_cause Twice place w h = absurd h
+written_cause Loop place w h = absurd h
+written_cause BadStart place w h = absurd h
+written_cause BadExcept place w h = absurd h
 
 -- faults of calls are those of a stylesheet whose templates have different names
 written_once : {raw : RawTrees} {f : SheetFault} {place : ℕ} → SheetFails raw f place → (templates : List Template) × IsStylesheet raw templates × IsDistinct same_name (names_of templates)
@@ -194,15 +196,15 @@ data SheetCause (bytes : List ℕ) : Reason → ℕ → Type 0 where
   of_a_call : {place : ℕ} (f : SheetFault) → SpellsTree bytes (λ raw. SheetFails raw f place) → SheetCause bytes (reason_of_calls f) place
 
 sheet_cause : (bytes : List ℕ) (reason : Reason) (place : ℕ) → IsRefusedSheet bytes reason place → SheetCause bytes reason place
-sheet_cause bytes malformed place h = not_written tt
-sheet_cause bytes (unsupported why) place h = not_written tt
-sheet_cause bytes too_deep place h = not_written tt
-sheet_cause bytes undefined place h = of_a_call calls.undefined h
-sheet_cause bytes call_loop place h = of_a_call calls.call_loop h
-sheet_cause bytes twice place h = absurd h
-sheet_cause bytes loop place h = absurd h
-sheet_cause bytes bad_start place h = absurd h
-sheet_cause bytes bad_except place h = absurd h
+sheet_cause bytes Malformed place h = not_written tt
+sheet_cause bytes (Unsupported why) place h = not_written tt
+sheet_cause bytes TooDeep place h = not_written tt
+sheet_cause bytes Undefined place h = of_a_call calls.undefined h
+sheet_cause bytes CallLoop place h = of_a_call calls.call_loop h
+sheet_cause bytes Twice place h = absurd h
+sheet_cause bytes Loop place h = absurd h
+sheet_cause bytes BadStart place h = absurd h
+sheet_cause bytes BadExcept place h = absurd h
 
 -- two causes of which one is a fault of calls are one
 alike_by_names : (bytes name : List ℕ) {r q : Reason} {k m : ℕ} {f : SheetFault} {place : ℕ} → SpellsTree bytes (λ raw. SheetFails raw f place)

@@ -10,6 +10,7 @@ use Rattle.tc_model.specs.Sheets.{Sheet}
 use Rattle.tc_model.specs.SheetText.{SheetText}
 use Rattle.tc_model.specs.SheetText as calls
 use Rattle.tc_model.specs.Stripped.{stripped}
+use Rattle.tc_model.specs.Symbols.{Mention}
 use Rattle.tc_model.specs.Trees.{Trees, normal_form}
 use Rattle.tc_model.specs.XmlText.{XmlText}
 use Rattle.tc_model.proofs.SheetTextUnique.{one_sheet}
@@ -23,9 +24,11 @@ use Rattle.tc_sheet.specs.Changes.{Change, mended, flattened, both}
 use Rattle.tc_sheet.specs.Faults.{IsNoneWith}
 use Rattle.tc_sheet.proofs.Changes.{as_they_are}
 use Rattle.tc_sheet.proofs.NamedAgain.{not_once}
-use Rattle.tc_sheet_text.specs.Texts.{IsSheetOf}
-use Rattle.tc_top.specs.Refusals.{Reason, malformed, unsupported, too_deep, undefined, twice, loop, bad_start, bad_except, call_loop, IsRefusedSheet}
-use Rattle.tc_top.specs.Limits.{IsWithinSheetLimits, IsWithinRunLimits, SheetPasses, sheet_symbols, sheet_predicates, sheet_ancestors, sheet_selects}
+use Rattle.tc_read.specs.Sheets.{IsSheetOf}
+use Rattle.tc_read.specs.Refusals.{IsRefusedSheet}
+use Rattle.tc_read.specs.declared.faults.Reason.{Reason}
+use Rattle.tc_read.specs.declared.faults.Reason.TheVariants.{Malformed, Unsupported, TooDeep, Undefined, Twice, Loop, BadStart, BadExcept, CallLoop}
+use Rattle.tc_top.specs.Limits.{symbols_of_sheet, IsWithinSheetLimits, IsRunWithin, SheetPasses, sheet_symbols, sheet_predicates, sheet_ancestors, sheet_selects}
 use Rattle.tc_top.specs.Answers.{Answer, over_limit, has_result, Runs, sheet_passes, too_much_work, too_open, gives_result, RunsTexts, sheet_refused, source_refused, sheet_and_source}
 use Rattle.tc_top.specs.OneAnswer.{AreAlike, same_answer, work_or_open, open_or_work}
 use Rattle.tc_top.proofs.OneRefusal.{document_refusals, sheet_refusals}
@@ -42,25 +45,25 @@ as_document : {bytes : List ℕ} {s : Sheet} (x : IsSheetOf bytes s) → IsReadA
 as_document x = record { raw = x.raw; spells = x.text; document = refl }
 
 pub no_sheet : {bytes : List ℕ} {s : Sheet} (reason : Reason) (place : ℕ) → IsRefusedSheet bytes reason place → IsSheetOf bytes s → ⊥
-no_sheet malformed place (inl r) x = no_document malformed place r (as_document x)
-no_sheet malformed place (inr r) x = let t = means_at x r.1.0 r.1.1 in not_once (r.1.2.1 r.1.0 t.templates (as_they_are both r.1.0) t.written) t.once
-no_sheet (unsupported why) place (inl r) x = no_document (unsupported why) place r (as_document x)
-no_sheet {s = s} (unsupported why) place (inr r) x = none_with flattened r.0 s r.2.1 (means_at x r.0 r.1)
-no_sheet too_deep place (inl r) x = no_document too_deep place r (as_document x)
-no_sheet {s = s} too_deep place (inr r) x = none_with mended r.0 s r.2.1 (means_at x r.0 r.1)
-no_sheet {s = s} undefined place r x = faults.no_sheet r.0 calls.undefined place s r.2 (means_at x r.0 r.1)
-no_sheet {s = s} call_loop place r x = faults.no_sheet r.0 calls.call_loop place s r.2 (means_at x r.0 r.1)
-no_sheet twice place r x = r
-no_sheet loop place r x = r
-no_sheet bad_start place r x = r
-no_sheet bad_except place r x = r
+no_sheet Malformed place (inl r) x = no_document Malformed place r (as_document x)
+no_sheet Malformed place (inr r) x = let t = means_at x r.1.0 r.1.1 in not_once (r.1.2.1 r.1.0 t.templates (as_they_are both r.1.0) t.written) t.once
+no_sheet (Unsupported why) place (inl r) x = no_document (Unsupported why) place r (as_document x)
+no_sheet {s = s} (Unsupported why) place (inr r) x = none_with flattened r.0 s r.2.1 (means_at x r.0 r.1)
+no_sheet TooDeep place (inl r) x = no_document TooDeep place r (as_document x)
+no_sheet {s = s} TooDeep place (inr r) x = none_with mended r.0 s r.2.1 (means_at x r.0 r.1)
+no_sheet {s = s} Undefined place r x = faults.no_sheet r.0 calls.undefined place s r.2 (means_at x r.0 r.1)
+no_sheet {s = s} CallLoop place r x = faults.no_sheet r.0 calls.call_loop place s r.2 (means_at x r.0 r.1)
+no_sheet Twice place r x = r
+no_sheet Loop place r x = r
+no_sheet BadStart place r x = r
+no_sheet BadExcept place r x = r
 
 -- a text has one stylesheet
 pub one_sheet_of : {bytes : List ℕ} {s t : Sheet} → IsSheetOf bytes s → IsSheetOf bytes t → s ≡ t
 one_sheet_of {bytes} {s} {t} x y = one_sheet y.raw s t (means_at x y.raw y.text) y.means
 
-over : {s : Sheet} {kind : Limit} {number : ℕ} → SheetPasses s kind number → IsWithinSheetLimits s → ⊥
-over (sheet_symbols p) w = omega (arith, p, w.symbols)
+over : {symbols : List Mention} {s : Sheet} {kind : Limit} {number : ℕ} → SheetPasses symbols s kind number → IsWithinSheetLimits symbols s → ⊥
+over (sheet_symbols p) w = omega (arith, p, w.few)
 over (sheet_predicates q p) w = w.numbers.0 p
 over (sheet_ancestors q a p) w = w.numbers.1 p
 over (sheet_selects q a b p) w = w.numbers.2 p
@@ -75,7 +78,7 @@ over_open : (s : Sheet) (d : Trees) (o : Outcome) → Transforms s d o → most_
 over_open s d o t p k = let low = subst (λ (x : Outcome). x.nesting ≤ most_open) (one_outcome s d k.0 o k.1 t) k.3 in omega (arith, p, low)
 
 -- the first limit that a stylesheet passes is one
-one_limit : {s : Sheet} {kind other : Limit} {number count : ℕ} → SheetPasses s kind number → SheetPasses s other count → AreAlike (over_limit kind number) (over_limit other count)
+one_limit : {symbols : List Mention} {s : Sheet} {kind other : Limit} {number count : ℕ} → SheetPasses symbols s kind number → SheetPasses symbols s other count → AreAlike (over_limit kind number) (over_limit other count)
 one_limit (sheet_symbols p) (sheet_symbols q) = same_answer
 one_limit (sheet_symbols p) (sheet_predicates q x) = absurd (omega (arith, p, q))
 one_limit (sheet_symbols p) (sheet_ancestors q a x) = absurd (omega (arith, p, q))
@@ -100,18 +103,18 @@ runs_one : {s : Sheet} {d : Trees} {one other : Answer} → Runs s d one → Run
 runs_one (sheet_passes p) (sheet_passes q) = one_limit p q
 runs_one (sheet_passes p) (too_much_work w t q) = absurd (over p w)
 runs_one (sheet_passes p) (too_open w t q) = absurd (over p w)
-runs_one (sheet_passes p) (gives_result w r) = absurd (over p w.0)
+runs_one (sheet_passes p) (gives_result w r) = absurd (over p w.sheet)
 runs_one (too_much_work w t p) (sheet_passes q) = absurd (over q w)
 runs_one (too_much_work w t p) (too_much_work v u q) = same_answer
 runs_one (too_much_work w t p) (too_open v u q) = work_or_open
-runs_one {s = s} {d = d} (too_much_work {o = o} w t p) (gives_result v r) = absurd (over_work s d o t p v.1)
+runs_one {s = s} {d = d} (too_much_work {o = o} w t p) (gives_result v r) = absurd (over_work s d o t p v.keeps)
 runs_one (too_open w t p) (sheet_passes q) = absurd (over q w)
 runs_one (too_open w t p) (too_much_work v u q) = open_or_work
 runs_one (too_open w t p) (too_open v u q) = same_answer
-runs_one {s = s} {d = d} (too_open {o = o} w t p) (gives_result v r) = absurd (over_open s d o t p v.1)
-runs_one (gives_result w r) (sheet_passes q) = absurd (over q w.0)
-runs_one {s = s} {d = d} (gives_result w r) (too_much_work {o = o} v u q) = absurd (over_work s d o u q w.1)
-runs_one {s = s} {d = d} (gives_result w r) (too_open {o = o} v u q) = absurd (over_open s d o u q w.1)
+runs_one {s = s} {d = d} (too_open {o = o} w t p) (gives_result v r) = absurd (over_open s d o t p v.keeps)
+runs_one (gives_result w r) (sheet_passes q) = absurd (over q w.sheet)
+runs_one {s = s} {d = d} (gives_result w r) (too_much_work {o = o} v u q) = absurd (over_work s d o u q w.keeps)
+runs_one {s = s} {d = d} (gives_result w r) (too_open {o = o} v u q) = absurd (over_open s d o u q w.keeps)
 runs_one {s = s} {d = d} (gives_result {result = x} w r) (gives_result {result = y} v q) =
     subst (λ (t : Trees). AreAlike (has_result x) (has_result t)) (one_result s d x y r q) same_answer
 
@@ -137,11 +140,11 @@ runs_of x d (source_refused {reason = why} {place = p} y r) = absurd (no_documen
 runs_of x d (sheet_and_source y e i) = runs_same (one_sheet_of y x) (one_document e d) i
 
 -- a limit that is passed isn't kept
-pub not_within : (s : Sheet) (d : Trees) (kind : Limit) (number : ℕ) → SheetPasses s kind number → IsWithinRunLimits s d → ⊥
-not_within s d kind number p w = over p w.0
+pub not_within : (s : Sheet) (d : Trees) (kind : Limit) (number : ℕ) → SheetPasses (symbols_of_sheet s) s kind number → IsRunWithin s d → ⊥
+not_within s d kind number p w = over p w.sheet
 
-pub not_few : (s : Sheet) (d : Trees) (o : Outcome) → Transforms s d o → most_work < o.work → IsWithinRunLimits s d → ⊥
-not_few s d o t p w = over_work s d o t p w.1
+pub not_few : (s : Sheet) (d : Trees) (o : Outcome) → Transforms s d o → most_work < o.work → IsRunWithin s d → ⊥
+not_few s d o t p w = over_work s d o t p w.keeps
 
-pub not_low : (s : Sheet) (d : Trees) (o : Outcome) → Transforms s d o → most_open < o.nesting → IsWithinRunLimits s d → ⊥
-not_low s d o t p w = over_open s d o t p w.1
+pub not_low : (s : Sheet) (d : Trees) (o : Outcome) → Transforms s d o → most_open < o.nesting → IsRunWithin s d → ⊥
+not_low s d o t p w = over_open s d o t p w.keeps

@@ -12,10 +12,15 @@ use Rattle.tc_model.proofs.SimplifiesUnique.{one_syntax, one_rnc_text}
 use Rattle.tc_model.proofs.SimplifiesFaults.{no_grammar}
 use Rattle.tc_model.proofs.XmlTextTrees.{one_raw_tree}
 use Rattle.tc_print.specs.ReadBack.{IsReadAs}
-use Rattle.tc_sheet_text.proofs.OtherEntities.{with_others}
-use Rattle.tc_top.specs.Refusals.{Reason, malformed, unsupported, too_deep, undefined, twice, loop, bad_start, bad_except, call_loop, SpellsFault, IsRefusedSchema, IsRefusedDocument}
-use Rattle.tc_top.specs.Limits.{IsWithinLimits, PassesLimit, passes_pattern, passes_depth, passes_elements, passes_states, passes_symbols}
-use Rattle.tc_top.specs.Answers.{Answer, over_limit, is_valid, is_invalid, Decides, passes, decides_valid, decides_invalid, Validates, schema_refused, document_refused, both_read}
+use Rattle.tc_read.proofs.OtherEntities.{with_others}
+use Rattle.tc_read.specs.Refusals.{SpellsFault, IsRefusedSchema, IsRefusedDocument}
+use Rattle.tc_read.specs.declared.faults.Reason.{Reason}
+use Rattle.tc_read.specs.declared.faults.Reason.TheVariants.{Malformed, Unsupported, TooDeep, Undefined, Twice, Loop, BadStart, BadExcept, CallLoop}
+use Rattle.tc_model.specs.SimplifiesCounts.{IsWithinCounts}
+use Rattle.tc_model.specs.States.{Side}
+use Rattle.tc_read.specs.Schemas.{PassesSize, passes_pattern, passes_depth, passes_elements}
+use Rattle.tc_top.specs.Limits.{IsWithinLimits, PassesLimit, passes_size, passes_states, IsValidityWithin}
+use Rattle.tc_top.specs.Answers.{Answer, over_limit, is_valid, is_invalid, Decides, passes, too_many_symbols, decides_valid, decides_invalid, Validates, schema_refused, document_refused, both_read}
 use Rattle.tc_top.specs.OneAnswer.{AreAlike, same_answer}
 use Rattle.tc_top.proofs.OneRefusal.{schema_refusals, document_refusals}
 
@@ -25,74 +30,74 @@ faulty {bytes} {g} f (s, spelled, fails) (t, spells, simple) =
     no_grammar t f g (subst (λ x. Fails x f) (one_syntax bytes s t spelled spells) fails) simple
 
 pub no_schema : {bytes : List ℕ} {g : Grammar} (reason : Reason) (place : ℕ) → IsRefusedSchema bytes reason place → RncText bytes g → ⊥
-no_schema malformed place r (t, spells, simple) = r.1 _ _ t spells
-no_schema (unsupported why) place r (t, spells, simple) = r.1 _ t spells
-no_schema too_deep place r (t, spells, simple) = r.1 _ t spells
-no_schema undefined place r x = faulty (faults.undefined place) r x
-no_schema twice place r x = faulty (faults.twice place) r x
-no_schema loop place r x = faulty (faults.loop place) r x
-no_schema bad_start place r x = faulty (faults.bad_start place) r x
-no_schema bad_except place r x = faulty (faults.bad_except place) r x
-no_schema call_loop place r x = r
+no_schema Malformed place r (t, spells, simple) = r.1 _ _ t spells
+no_schema (Unsupported why) place r (t, spells, simple) = r.1 _ t spells
+no_schema TooDeep place r (t, spells, simple) = r.1 _ t spells
+no_schema Undefined place r x = faulty (faults.undefined place) r x
+no_schema Twice place r x = faulty (faults.twice place) r x
+no_schema Loop place r x = faulty (faults.loop place) r x
+no_schema BadStart place r x = faulty (faults.bad_start place) r x
+no_schema BadExcept place r x = faulty (faults.bad_except place) r x
+no_schema CallLoop place r x = r
 
 pub no_document : {bytes : List ℕ} {d : Trees} (reason : Reason) (place : ℕ) → IsRefusedDocument bytes reason place → IsReadAs bytes d → ⊥
-no_document malformed place r x = r.1 _ x.raw (with_others x.spells)
-no_document (unsupported why) place r x = r.1 _ x.raw x.spells
-no_document too_deep place r x = r.1 x.raw (with_others x.spells)
-no_document undefined place r x = r
-no_document twice place r x = r
-no_document loop place r x = r
-no_document bad_start place r x = r
-no_document bad_except place r x = r
-no_document call_loop place r x = r
+no_document Malformed place r x = r.1 _ x.raw (with_others x.spells)
+no_document (Unsupported why) place r x = r.1 _ x.raw x.spells
+no_document TooDeep place r x = r.1 x.raw (with_others x.spells)
+no_document Undefined place r x = r
+no_document Twice place r x = r
+no_document Loop place r x = r
+no_document BadStart place r x = r
+no_document BadExcept place r x = r
+no_document CallLoop place r x = r
 
 -- a text has one document
 pub one_document : {bytes : List ℕ} {c d : Trees} → IsReadAs bytes c → IsReadAs bytes d → c ≡ d
 one_document {bytes} x y = sym x.document ∙ (ap stripped (one_raw_tree bytes x.raw y.raw x.spells y.spells) ∙ y.document)
 
-over : {g : Grammar} {kind : Limit} {number : ℕ} → PassesLimit g kind number → IsWithinLimits g → ⊥
-over (passes_pattern p) w = omega (arith, p, w.counts.nodes)
-over (passes_depth p) w = omega (arith, p.1, w.counts.depth)
-over (passes_elements p) w = omega (arith, p.2, w.counts.elements)
+too_large : {g : Grammar} {kind : Limit} {number : ℕ} → PassesSize g kind number → IsWithinCounts g → ⊥
+too_large (passes_pattern p) w = omega (arith, p, w.nodes)
+too_large (passes_depth p) w = omega (arith, p.1, w.depth)
+too_large (passes_elements p) w = omega (arith, p.2, w.elements)
+
+over : {g : Grammar} {side : Side} {most : ℕ} {kind : Limit} {number : ℕ} → PassesLimit g side most kind number → IsWithinLimits g side most → ⊥
+over (passes_size p) w = too_large p w.counts
 over (passes_states c p) w = omega (arith, p, w.states)
-over (passes_symbols c s p) w = omega (arith, p, w.symbols)
 
 -- the first limit that a schema passes is one
-one_limit : {g : Grammar} {kind other : Limit} {number count : ℕ} → PassesLimit g kind number → PassesLimit g other count → AreAlike (over_limit kind number) (over_limit other count)
-one_limit (passes_pattern p) (passes_pattern q) = same_answer
-one_limit (passes_pattern p) (passes_depth q) = absurd (omega (arith, p, q.0))
-one_limit (passes_pattern p) (passes_elements q) = absurd (omega (arith, p, q.0))
-one_limit (passes_pattern p) (passes_states c q) = absurd (omega (arith, p, c.nodes))
-one_limit (passes_pattern p) (passes_symbols c s q) = absurd (omega (arith, p, c.nodes))
-one_limit (passes_depth p) (passes_pattern q) = absurd (omega (arith, q, p.0))
-one_limit (passes_depth p) (passes_depth q) = same_answer
-one_limit (passes_depth p) (passes_elements q) = absurd (omega (arith, p.1, q.1))
-one_limit (passes_depth p) (passes_states c q) = absurd (omega (arith, p.1, c.depth))
-one_limit (passes_depth p) (passes_symbols c s q) = absurd (omega (arith, p.1, c.depth))
-one_limit (passes_elements p) (passes_pattern q) = absurd (omega (arith, q, p.0))
-one_limit (passes_elements p) (passes_depth q) = absurd (omega (arith, q.1, p.1))
-one_limit (passes_elements p) (passes_elements q) = same_answer
-one_limit (passes_elements p) (passes_states c q) = absurd (omega (arith, p.2, c.elements))
-one_limit (passes_elements p) (passes_symbols c s q) = absurd (omega (arith, p.2, c.elements))
-one_limit (passes_states c p) (passes_pattern q) = absurd (omega (arith, q, c.nodes))
-one_limit (passes_states c p) (passes_depth q) = absurd (omega (arith, q.1, c.depth))
-one_limit (passes_states c p) (passes_elements q) = absurd (omega (arith, q.2, c.elements))
+one_size : {g : Grammar} {kind other : Limit} {number count : ℕ} → PassesSize g kind number → PassesSize g other count → AreAlike (over_limit kind number) (over_limit other count)
+one_size (passes_pattern p) (passes_pattern q) = same_answer
+one_size (passes_pattern p) (passes_depth q) = absurd (omega (arith, p, q.0))
+one_size (passes_pattern p) (passes_elements q) = absurd (omega (arith, p, q.0))
+one_size (passes_depth p) (passes_pattern q) = absurd (omega (arith, q, p.0))
+one_size (passes_depth p) (passes_depth q) = same_answer
+one_size (passes_depth p) (passes_elements q) = absurd (omega (arith, p.1, q.1))
+one_size (passes_elements p) (passes_pattern q) = absurd (omega (arith, q, p.0))
+one_size (passes_elements p) (passes_depth q) = absurd (omega (arith, q.1, p.1))
+one_size (passes_elements p) (passes_elements q) = same_answer
+
+one_limit : {g : Grammar} {side : Side} {most : ℕ} {kind other : Limit} {number count : ℕ} → PassesLimit g side most kind number → PassesLimit g side most other count
+    → AreAlike (over_limit kind number) (over_limit other count)
+one_limit (passes_size p) (passes_size q) = one_size p q
+one_limit (passes_size p) (passes_states c q) = absurd (too_large p c)
+one_limit (passes_states c p) (passes_size q) = absurd (too_large q c)
 one_limit (passes_states c p) (passes_states d q) = same_answer
-one_limit (passes_states c p) (passes_symbols d s q) = absurd (omega (arith, p, s))
-one_limit (passes_symbols c s p) (passes_pattern q) = absurd (omega (arith, q, c.nodes))
-one_limit (passes_symbols c s p) (passes_depth q) = absurd (omega (arith, q.1, c.depth))
-one_limit (passes_symbols c s p) (passes_elements q) = absurd (omega (arith, q.2, c.elements))
-one_limit (passes_symbols c s p) (passes_states d q) = absurd (omega (arith, q, s))
-one_limit (passes_symbols c s p) (passes_symbols d t q) = same_answer
 
 decides_one : {g : Grammar} {d : Trees} {one other : Answer} → Decides g d one → Decides g d other → AreAlike one other
 decides_one (passes p) (passes q) = one_limit p q
-decides_one (passes p) (decides_valid w v) = absurd (over p w)
-decides_one (passes p) (decides_invalid w v) = absurd (over p w)
-decides_one (decides_valid w v) (passes p) = absurd (over p w)
+decides_one (passes p) (too_many_symbols w q) = absurd (over p w)
+decides_one (passes p) (decides_valid w v) = absurd (over p w.schema)
+decides_one (passes p) (decides_invalid w v) = absurd (over p w.schema)
+decides_one (too_many_symbols w q) (passes p) = absurd (over p w)
+decides_one (too_many_symbols w q) (too_many_symbols x r) = same_answer
+decides_one (too_many_symbols w q) (decides_valid x v) = absurd (omega (arith, q, x.symbols))
+decides_one (too_many_symbols w q) (decides_invalid x v) = absurd (omega (arith, q, x.symbols))
+decides_one (decides_valid w v) (passes p) = absurd (over p w.schema)
+decides_one (decides_valid w v) (too_many_symbols x q) = absurd (omega (arith, q, w.symbols))
 decides_one (decides_valid w v) (decides_valid x u) = same_answer
 decides_one (decides_valid w v) (decides_invalid x u) = absurd (u v)
-decides_one (decides_invalid w v) (passes p) = absurd (over p w)
+decides_one (decides_invalid w v) (passes p) = absurd (over p w.schema)
+decides_one (decides_invalid w v) (too_many_symbols x q) = absurd (omega (arith, q, w.symbols))
 decides_one (decides_invalid w v) (decides_valid x u) = absurd (v u)
 decides_one (decides_invalid w v) (decides_invalid x u) = same_answer
 
@@ -116,12 +121,13 @@ pub data Settles (g : Grammar) (d : Trees) : Answer → Type 0 where
   settles_valid : IsValid g d → Settles g d is_valid
   settles_invalid : ¬ (IsValid g d) → Settles g d is_invalid
 
-settled : {g : Grammar} {d : Trees} {answer : Answer} → IsWithinLimits g → Decides g d answer → Settles g d answer
-settled w (passes p) = absurd (over p w)
+settled : {g : Grammar} {d : Trees} {answer : Answer} → IsValidityWithin g → Decides g d answer → Settles g d answer
+settled w (passes p) = absurd (over p w.schema)
+settled w (too_many_symbols x q) = absurd (omega (arith, q, w.symbols))
 settled w (decides_valid x v) = settles_valid v
 settled w (decides_invalid x v) = settles_invalid v
 
-pub settles : {schema document b c : List ℕ} {g : Grammar} {d : Trees} {answer : Answer} → RncText b g → IsReadAs c d → IsWithinLimits g → Validates schema document b c answer → Settles g d answer
+pub settles : {schema document b c : List ℕ} {g : Grammar} {d : Trees} {answer : Answer} → RncText b g → IsReadAs c d → IsValidityWithin g → Validates schema document b c answer → Settles g d answer
 settles g d w (schema_refused {reason = why} {place = p} r) = absurd (no_schema why p r g)
 settles g d w (document_refused {reason = why} {place = p} h r) = absurd (no_document why p r d)
 settles {b = b} {g = g} x d w (both_read {g = h} y e i) = settled w (decides_same (one_rnc_text b h g y x) (one_document e d) i)

@@ -1,25 +1,35 @@
 -- What a call answers, and why: the lines, the status, and the cause of each answer.
-use Rattle.std.specs.Prelude.{◌≡◌, ◌<◌, ◌≤◌, ◌⊎◌, ◌↔◌, ℕ, List, length, [], ◌∷◌, ◌++◌, Option, Some, None, codes, decimal}
+use Rattle.std.specs.Prelude.{◌≡◌, ◌<◌, ◌⊎◌, ◌↔◌, ℕ, List, [], ◌∷◌, ◌++◌, Option, Some, None, Ok, codes, decimal}
 use Rattle.tc_base.specs.declared.Limit as kinds
-use Rattle.tc_io.specs.Store.{Files, longest_file}
+use Rattle.tc_base.specs.declared.Limit.TheVariants.{Symbols}
+use Rattle.tc_base.specs.declared.limits.TheConstants.{LONGEST_FILE, MOST_INPUT_STATES, MOST_SYMBOLS, MOST_WORK, MOST_OPEN}
+use Rattle.tc_io.specs.Store.{Files, Read}
+use Rattle.tc_io.specs.Reads.{AreTrue}
 use Rattle.tc_io.specs.Sink.{Appended, WroteFront}
+use Rattle.tc_io.specs.declared.StoreFault.{StoreFault}
+use Rattle.tc_io.specs.declared.StoreFault.TheVariants.{TooLong}
 use Rattle.tc_model.specs.Trees.{Trees}
 use Rattle.tc_model.specs.Grammars.{Grammar}
 use Rattle.tc_model.specs.Sheets.{Sheet}
 use Rattle.tc_model.specs.Safety.{IsSafe, IsCounterexample, Transforms, IsResultOf}
+use Rattle.tc_model.specs.States.{input}
+use Rattle.tc_model.specs.Symbols.{symbol_count}
 use Rattle.tc_model.specs.Outcomes.{Outcome}
 use Rattle.tc_model.specs.Printed.{printed}
 use Rattle.tc_model.specs.RncText.{RncText}
 use Rattle.tc_model.specs.Validity.{IsValid}
 use Rattle.tc_print.specs.ReadBack.{IsReadAs}
 use Rattle.tc_run.specs.Spent.{most_work, most_open}
-use Rattle.tc_sheet_text.specs.Texts.{IsSheetOf}
+use Rattle.tc_read.specs.Sheets.{IsSheetOf}
 use Rattle.tc_top.specs.FirstForm.{Schema, grammar_of, sheet_of}
 use Rattle.tc_top.specs.FirstText.{FirstSchemaText, FirstSheetText}
+use Rattle.tc_top.specs.Headline.{IsCutShort}
+use Rattle.tc_top.specs.Lines.{line, limit_line}
 use Rattle.tc_top.specs.Words.{Command, check, prove, verify, run, valid, demo, Words, IsNoCommand, name_of, operands_of}
-use Rattle.tc_top.specs.Refusals.{Reason, reason_text, IsRefusedSchema, IsRefusedDocument, IsRefusedSheet}
-use Rattle.tc_top.specs.Limits.{limit_word, PassesLimit, IsWithinLimits, SheetPasses, IsWithinSheetLimits, IsWithinRunLimits}
-use Rattle.tc_top.specs.Reading.{IsReadFrom, StopsAt, CannotRead, IsOverLong}
+use Rattle.tc_read.specs.Refusals.{reason_text, IsRefusedSchema, IsRefusedDocument, IsRefusedSheet}
+use Rattle.tc_read.specs.declared.faults.Reason.{Reason}
+use Rattle.tc_top.specs.Limits.{limit_word, symbols_of_schema, symbols_of_sheet, IsWithinLimits, PassesLimit, IsValidityWithin, IsWithinSheetLimits, SheetPasses, IsRunWithin}
+use Rattle.tc_top.specs.Reading.{StopsAt, IsUnreadable}
 use Rattle.tc_top.specs.declared.status.Status.{Status}
 use Rattle.tc_top.specs.declared.status.Status.TheVariants.{Yes, No, Usage, Refused, Limit, ReadFault, WriteFault, NoMemory}
 
@@ -57,25 +67,21 @@ status_of (has_result result) = Yes
 status_of work_limit = Limit
 status_of open_limit = Limit
 
--- a line ends with a line feed
-abbrev pub line : List ℕ → List ℕ
-line text = text ++ 10 ∷ []
-
 -- what an answer writes
 abbrev pub text_of : Answer → List ℕ
 text_of usage = line (codes "usage: check|prove [--limit N] IN OUT SHEET; verify IN OUT SHEET CERT; run SHEET DOC; valid SCHEMA DOC; demo N")
 text_of (not_yet name) = line (codes "refused " ++ name ++ codes " not-yet")
 text_of (cannot_read name) = line (codes "cannot read " ++ name)
-text_of file_limit = line (codes "limit file 67108864")
+text_of file_limit = limit_line (codes "file") LONGEST_FILE
 text_of safe = line (codes "safe")
 text_of (unsafe document output) = line (codes "unsafe") ++ line (codes "document " ++ printed document) ++ line (codes "output " ++ printed output)
 text_of (refused name reason place) = line (codes "refused " ++ name ++ codes " " ++ reason_text reason ++ codes " at " ++ decimal place)
-text_of (over_limit kind number) = line (codes "limit " ++ limit_word kind ++ codes " " ++ decimal number)
+text_of (over_limit kind number) = limit_line (limit_word kind) number
 text_of is_valid = line (codes "valid")
 text_of is_invalid = line (codes "invalid")
 text_of (has_result result) = line (printed result)
-text_of work_limit = line (codes "limit work 4000000")
-text_of open_limit = line (codes "limit open 8000")
+text_of work_limit = limit_line (codes "work") MOST_WORK
+text_of open_limit = limit_line (codes "open") MOST_OPEN
 
 -- a command that is carried out
 abbrev pub IsBuilt : Command → Type 0
@@ -107,9 +113,10 @@ pub data Checks (input output sheet input_text output_text sheet_text : List ℕ
 
 -- what a schema and a document decide
 pub data Decides (g : Grammar) (d : Trees) : Answer → Type 0 where
-  passes : {kind : kinds.Limit} {number : ℕ} → PassesLimit g kind number → Decides g d (over_limit kind number)
-  decides_valid : IsWithinLimits g → IsValid g d → Decides g d is_valid
-  decides_invalid : IsWithinLimits g → ¬ (IsValid g d) → Decides g d is_invalid
+  passes : {kind : kinds.Limit} {number : ℕ} → PassesLimit g input MOST_INPUT_STATES kind number → Decides g d (over_limit kind number)
+  too_many_symbols : IsWithinLimits g input MOST_INPUT_STATES → MOST_SYMBOLS < symbol_count (symbols_of_schema g) → Decides g d (over_limit Symbols MOST_SYMBOLS)
+  decides_valid : IsValidityWithin g → IsValid g d → Decides g d is_valid
+  decides_invalid : IsValidityWithin g → ¬ (IsValid g d) → Decides g d is_invalid
 
 -- what `valid` answers on the texts of its operands
 pub data Validates (schema document schema_text document_text : List ℕ) : Answer → Type 0 where
@@ -120,10 +127,10 @@ pub data Validates (schema document schema_text document_text : List ℕ) : Answ
 
 -- what a stylesheet and a document give
 pub data Runs (s : Sheet) (d : Trees) : Answer → Type 0 where
-  sheet_passes : {kind : kinds.Limit} {number : ℕ} → SheetPasses s kind number → Runs s d (over_limit kind number)
-  too_much_work : {o : Outcome} → IsWithinSheetLimits s → Transforms s d o → most_work < o.work → Runs s d work_limit
-  too_open : {o : Outcome} → IsWithinSheetLimits s → Transforms s d o → most_open < o.nesting → Runs s d open_limit
-  gives_result : {result : Trees} → IsWithinRunLimits s d → IsResultOf s d result → Runs s d (has_result result)
+  sheet_passes : {kind : kinds.Limit} {number : ℕ} → SheetPasses (symbols_of_sheet s) s kind number → Runs s d (over_limit kind number)
+  too_much_work : {o : Outcome} → IsWithinSheetLimits (symbols_of_sheet s) s → Transforms s d o → most_work < o.work → Runs s d work_limit
+  too_open : {o : Outcome} → IsWithinSheetLimits (symbols_of_sheet s) s → Transforms s d o → most_open < o.nesting → Runs s d open_limit
+  gives_result : {result : Trees} → IsRunWithin s d → IsResultOf s d result → Runs s d (has_result result)
 
 -- what `run` answers on the texts of its operands
 pub data RunsTexts (sheet document sheet_text document_text : List ℕ) : Answer → Type 0 where
@@ -132,104 +139,42 @@ pub data RunsTexts (sheet document sheet_text document_text : List ℕ) : Answer
       → RunsTexts sheet document sheet_text document_text (refused document reason place)
   sheet_and_source : {s : Sheet} {d : Trees} {answer : Answer} → IsSheetOf sheet_text s → IsReadAs document_text d → Runs s d answer → RunsTexts sheet document sheet_text document_text answer
 
--- an answer with its cause: the words, what the store tells, and whether its faults rose
-pub data IsAnswer (words : List (List ℕ)) (told : Option Files) (rose : Type 0) : Answer → Type 0 where
-  no_command : IsNoCommand words → IsAnswer words told rose usage
-  not_built : {command : Command} {name : List ℕ} → Words words command → ¬ (IsBuilt command) → name ≡ name_of command → IsAnswer words told rose (not_yet name)
-  not_read : {command : Command} {name : List ℕ} → Words words command → IsBuilt command
-      → StopsAt told (operands_of command) name → CannotRead told rose name → IsAnswer words told rose (cannot_read name)
-  over_long : {command : Command} {name : List ℕ} → Words words command → IsBuilt command
-      → StopsAt told (operands_of command) name → IsOverLong told rose name → IsAnswer words told rose file_limit
+-- an answer with its cause: the words, and what was read, in order
+pub data IsAnswer (words : List (List ℕ)) (reads : List Read) : Answer → Type 0 where
+  no_command : IsNoCommand words → reads ≡ [] → IsAnswer words reads usage
+  not_built : {command : Command} {name : List ℕ} → Words words command → ¬ (IsBuilt command) → reads ≡ [] → name ≡ name_of command → IsAnswer words reads (not_yet name)
+  not_read : {command : Command} {name : List ℕ} {fault : StoreFault} → Words words command → IsBuilt command → StopsAt (operands_of command) reads name fault → IsUnreadable fault
+      → IsAnswer words reads (cannot_read name)
+  over_long : {command : Command} {name : List ℕ} → Words words command → IsBuilt command → StopsAt (operands_of command) reads name TooLong → IsAnswer words reads file_limit
   checked : {input output sheet input_text output_text sheet_text : List ℕ} {answer : Answer} → Words words (check None input output sheet)
-      → IsReadFrom told input input_text → IsReadFrom told output output_text → IsReadFrom told sheet sheet_text → Checks input output sheet input_text output_text sheet_text answer → IsAnswer words told rose answer
+      → reads ≡ (input, Ok input_text) ∷ (output, Ok output_text) ∷ (sheet, Ok sheet_text) ∷ []
+      → Checks input output sheet input_text output_text sheet_text answer → IsAnswer words reads answer
   validated : {schema document schema_text document_text : List ℕ} {answer : Answer} → Words words (valid schema document)
-      → IsReadFrom told schema schema_text → IsReadFrom told document document_text → Validates schema document schema_text document_text answer → IsAnswer words told rose answer
+      → reads ≡ (schema, Ok schema_text) ∷ (document, Ok document_text) ∷ []
+      → Validates schema document schema_text document_text answer → IsAnswer words reads answer
   ran : {sheet document sheet_text document_text : List ℕ} {answer : Answer} → Words words (run sheet document)
-      → IsReadFrom told sheet sheet_text → IsReadFrom told document document_text → RunsTexts sheet document sheet_text document_text answer → IsAnswer words told rose answer
+      → reads ≡ (sheet, Ok sheet_text) ∷ (document, Ok document_text) ∷ []
+      → RunsTexts sheet document sheet_text document_text answer → IsAnswer words reads answer
 
--- the answer that a call gave: it is right, and all of it was written
-pub record Answered (words : List (List ℕ)) (told : Option Files) (rose : Type 0) (status : Status) (old new : Option (List ℕ)) : Type 0 where
-  pub answer : Answer
-  pub right : IsAnswer words told rose answer
-  pub status_is : status ≡ status_of answer
-  pub written : Appended old new (text_of answer)
+-- The answer of held files, where no read fails.
+abbrev pub IsAnswerOn : List (List ℕ) → Files → Answer → Type 0
+IsAnswerOn words files answer = (reads : List Read) × AreTrue (Some files) ⊥ reads × IsAnswer words reads answer
 
--- the answer that a call would have given: it is right, and a front of it was written
-pub record BrokenOff (words : List (List ℕ)) (told : Option Files) (rose : Type 0) (old new : Option (List ℕ)) : Type 0 where
-  pub answer : Answer
-  pub right : IsAnswer words told rose answer
-  pub front : WroteFront old new (text_of answer)
-
--- the call was cut short: memory was refused, a write failed, or a read failed
-abbrev pub IsCutShort : Status → Type 0 → Type 0
-IsCutShort status rose = (status ≡ NoMemory) ⊎ ((status ≡ WriteFault) ⊎ ((status ≡ ReadFault) × rose))
+-- How a call ends: with an answer that is right for what was read, and all of it written; with such an answer broken off where a write
+-- failed; or, only for a command, for want of memory.
+pub data Ends (words : List (List ℕ)) (happened : List Read → Type 0) (faulted : Type 0) (old new : Option (List ℕ)) : Status → Type 0 where
+  answered : {reads : List Read} {answer : Answer} {status : Status} → happened reads → IsAnswer words reads answer → status ≡ status_of answer → Appended old new (text_of answer)
+      → Ends words happened faulted old new status
+  broken_off : {reads : List Read} {answer : Answer} {status : Status} → happened reads → IsAnswer words reads answer → status ≡ WriteFault → WroteFront old new (text_of answer) → faulted
+      → Ends words happened faulted old new status
+  out_of_memory : {command : Command} {status : Status} → Words words command → status ≡ NoMemory → Ends words happened faulted old new status
 
 -- the status is that of the answer, unless the call was cut short
 abbrev pub Gives : Status → Type 0 → Answer → Type 0
 Gives status rose answer = (status ≡ status_of answer) ⊎ IsCutShort status rose
 
--- the words are a check of held files whose texts spell two schemas and the trees that the stylesheet puts out
-pub record ChecksFiles (words : List (List ℕ)) (files : Files) (i o : Schema) (t : Trees) : Type 0 where
-  pub input : List ℕ
-  pub output : List ℕ
-  pub sheet : List ℕ
-  pub words_are : Words words (check None input output sheet)
-  pub input_text : List ℕ
-  pub output_text : List ℕ
-  pub sheet_text : List ℕ
-  pub input_held : files input ≡ Some input_text
-  pub output_held : files output ≡ Some output_text
-  pub sheet_held : files sheet ≡ Some sheet_text
-  pub input_spells : FirstSchemaText input_text i
-  pub output_spells : FirstSchemaText output_text o
-  pub sheet_spells : FirstSheetText sheet_text t
-
--- yes exactly where the stylesheet is safe, with the line of it; no exactly where it isn't, with a counterexample and its result
-pub record DecidesSafety (status : Status) (old new : Option (List ℕ)) (input output : Grammar) (sheet : Sheet) : Type 0 where
-  pub yes : (status ≡ Yes) ↔ IsSafe input output sheet
-  pub no : (status ≡ No) ↔ ¬ (IsSafe input output sheet)
-  pub yes_text : status ≡ Yes → Appended old new (text_of safe)
-  pub no_text : status ≡ No → (document : Trees) × (result : Trees) × IsCounterexample input output sheet document result × Appended old new (text_of (unsafe document result))
-
--- the words validate a held file by a held schema, whose texts spell this document and this grammar, which passes no limit
-pub record ValidatesFiles (words : List (List ℕ)) (files : Files) (g : Grammar) (d : Trees) : Type 0 where
-  pub schema : List ℕ
-  pub document : List ℕ
-  pub words_are : Words words (valid schema document)
-  pub schema_text : List ℕ
-  pub document_text : List ℕ
-  pub schema_held : files schema ≡ Some schema_text
-  pub document_held : files document ≡ Some document_text
-  pub schema_short : length schema_text ≤ longest_file
-  pub document_short : length document_text ≤ longest_file
-  pub schema_spells : RncText schema_text g
-  pub document_spells : IsReadAs document_text d
-  pub within : IsWithinLimits g
-
--- yes exactly where the document is valid, and no exactly where it isn't, each with its line
-pub record DecidesValidity (status : Status) (old new : Option (List ℕ)) (g : Grammar) (d : Trees) : Type 0 where
-  pub yes : (status ≡ Yes) ↔ IsValid g d
-  pub no : (status ≡ No) ↔ ¬ (IsValid g d)
-  pub yes_text : status ≡ Yes → Appended old new (text_of is_valid)
-  pub no_text : status ≡ No → Appended old new (text_of is_invalid)
-
--- the words run a held stylesheet on a held document
-pub record RunsFiles (words : List (List ℕ)) (files : Files) (s : Sheet) (d : Trees) : Type 0 where
-  pub sheet : List ℕ
-  pub document : List ℕ
-  pub words_are : Words words (run sheet document)
-  pub sheet_text : List ℕ
-  pub document_text : List ℕ
-  pub sheet_held : files sheet ≡ Some sheet_text
-  pub document_held : files document ≡ Some document_text
-  pub sheet_short : length sheet_text ≤ longest_file
-  pub document_short : length document_text ≤ longest_file
-  pub sheet_spells : IsSheetOf sheet_text s
-  pub document_spells : IsReadAs document_text d
-
--- yes exactly within the limits, with the result of the document; and else a limit that is passed
-pub record GivesResult (status : Status) (old new : Option (List ℕ)) (s : Sheet) (d : Trees) : Type 0 where
-  pub yes : (status ≡ Yes) ↔ IsWithinRunLimits s d
-  pub limit : (status ≡ Limit) ↔ ¬ (IsWithinRunLimits s d)
-  pub yes_text : status ≡ Yes → (result : Trees) × IsResultOf s d result × Appended old new (text_of (has_result result))
+-- the answer is yes exactly within the limits of a run, and else a limit that is passed
+pub record KeepsToLimits (status : Status) (old new : Option (List ℕ)) (s : Sheet) (d : Trees) : Type 0 where
+  pub yes : (status ≡ Yes) ↔ IsRunWithin s d
+  pub limit : (status ≡ Limit) ↔ ¬ (IsRunWithin s d)
   pub limit_text : status ≡ Limit → (answer : Answer) × (status_of answer ≡ Limit) × Runs s d answer × Appended old new (text_of answer)

@@ -1,12 +1,15 @@
 -- What contracts see of an answer, and of why an operand isn't read.
-use Rattle.std.specs.Prelude.{◌≡◌, ℕ, List, Option}
-use Rattle.tc_io.specs.Store.{Files}
+use Rattle.std.specs.Prelude.{◌≡◌, ℕ, List, Ok}
+use Rattle.tc_io.specs.Store.{Read}
+use Rattle.tc_io.specs.declared.StoreFault.{StoreFault}
+use Rattle.tc_io.specs.declared.StoreFault.TheVariants.{TooLong, NoMemory}
 use Rattle.tc_top.specs.Answers as a
 use Rattle.tc_top.specs.Answers.{status_of, text_of}
-use Rattle.tc_top.specs.Reading.{StopsAt, CannotRead, IsOverLong}
+use Rattle.tc_top.specs.Reading.{StopsAt, IsUnreadable}
 use Rattle.tc_top.specs.declared.answer.Answer.{Answer}
 use Rattle.tc_top.specs.declared.answer.Text.{Text}
 use Rattle.tc_top.specs.declared.answer.Text.TheVariants.{Fixed, Made}
+use Rattle.tc_top.specs.declared.read.Operand.{Operand}
 use Rattle.tc_top.specs.declared.read.Unread.{Unread}
 use Rattle.tc_top.specs.declared.read.Unread.TheVariants as u
 
@@ -19,18 +22,26 @@ pub record Says (said : Answer) (answer : a.Answer) : Type 0 where
   pub status : said.status ≡ status_of answer
   pub written : text said.text ≡ text_of answer
 
--- an answer that is right for the words, by its cause
-abbrev pub IsRight : List (List ℕ) → Option Files → Type 0 → Answer → Type 0
-IsRight words told rose said = (answer : a.Answer) × Says said answer × a.IsAnswer words told rose answer
+-- an answer that is right for the words and for what was read, by its cause
+abbrev pub IsRight : List (List ℕ) → List Read → Answer → Type 0
+IsRight words reads said = (answer : a.Answer) × Says said answer × a.IsAnswer words reads answer
 
--- why the read of this operand isn't Ok
-abbrev pub IsUnread : Option Files → Type 0 → List ℕ → Unread → Type 0
-IsUnread told rose name (u.Unreadable named) = (named.now ≡ name) × CannotRead told rose name
-IsUnread told rose name u.TooLong = IsOverLong told rose name
-IsUnread told rose name u.NoMemory = Unit {0}
+-- the same for some reads that happened
+abbrev pub IsRightFor : List (List ℕ) → (List Read → Type 0) → Answer → Type 0
+IsRightFor words happened said = (reads : List Read) × happened reads × IsRight words reads said
+
+-- an operand that was read
+abbrev pub read_of : Operand → Read
+read_of operand = (operand.name.now, Ok operand.text.items)
+
+-- why the read of an operand isn't Ok
+abbrev pub IsUnread : List ℕ → StoreFault → Unread → Type 0
+IsUnread name fault (u.Unreadable named) = (named.now ≡ name) × IsUnreadable fault
+IsUnread name fault u.TooLong = fault ≡ TooLong
+IsUnread name fault u.NoMemory = fault ≡ NoMemory
 
 -- the first of the operands of which the read isn't Ok, and why
-abbrev pub IsFirstUnread : Option Files → Type 0 → List (List ℕ) → Unread → Type 0
-IsFirstUnread told rose names (u.Unreadable named) = StopsAt told names named.now × CannotRead told rose named.now
-IsFirstUnread told rose names u.TooLong = (name : List ℕ) × StopsAt told names name × IsOverLong told rose name
-IsFirstUnread told rose names u.NoMemory = Unit {0}
+abbrev pub IsFirstUnread : List (List ℕ) → List Read → Unread → Type 0
+IsFirstUnread names reads (u.Unreadable named) = (fault : StoreFault) × StopsAt names reads named.now fault × IsUnreadable fault
+IsFirstUnread names reads u.TooLong = (name : List ℕ) × StopsAt names reads name TooLong
+IsFirstUnread names reads u.NoMemory = (name : List ℕ) × StopsAt names reads name NoMemory

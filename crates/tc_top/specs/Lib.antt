@@ -4,13 +4,12 @@ pub mod FirstText
 pub mod FirstFits
 pub mod Words
 pub mod WordsSeen
-pub mod Refusals
+pub mod Headline
 pub mod Limits
-pub mod RefusalsSeen
-pub mod SchemasSeen
 pub mod Answers
 pub mod OneAnswer
 pub mod AnswersSeen
 pub mod Lines
+pub mod Program
 pub mod Reading
 pub mod StatusSeen

@@ -1,15 +1,16 @@
 -- The limits on the counts of a schema, and of a stylesheet and its runs, in the order in which they are tried.
-use Rattle.std.specs.Prelude.{◌<◌, ◌≤◌, ℕ, List, [], codes}
+use Rattle.std.specs.Prelude.{◌<◌, ◌≤◌, ℕ, List, [], flat_map, codes}
 use Rattle.tc_base.specs.declared.Limit.{Limit}
 use Rattle.tc_base.specs.declared.Limit.TheVariants.{Pattern, Depth, Elements, States, Symbols, Predicates, Ancestors, Selects, Calls, Entries}
-use Rattle.tc_model.specs.Grammars.{Grammar, not_allowed}
+use Rattle.tc_base.specs.declared.limits.TheConstants.{MOST_INPUT_STATES, MOST_SYMBOLS, MOST_PREDICATES, MOST_ANCESTORS, MOST_SELECTS}
+use Rattle.tc_model.specs.Grammars.{Grammar}
 use Rattle.tc_model.specs.Sheets.{Sheet}
-use Rattle.tc_model.specs.SimplifiesCounts.{IsWithinCounts, Passes, nodes, depth, elements}
-use Rattle.tc_model.specs.States.{input, state_count}
-use Rattle.tc_model.specs.Symbols.{Mention, symbols_of, symbol_count}
+use Rattle.tc_model.specs.SimplifiesCounts.{IsWithinCounts}
+use Rattle.tc_model.specs.States.{Side, input, state_count}
+use Rattle.tc_model.specs.Symbols.{Mention, mention_cmp, in_order, with_namespace, mentions_in_grammar, mentions_in_sheet, symbol_count}
 use Rattle.tc_model.specs.Trees.{Trees}
-use Rattle.tc_model.specs.StateCounts.{PassNone}
-use Rattle.tc_model.specs.StateCounts.{PassPredicates, PassAncestors, PassSelects}
+use Rattle.tc_model.specs.StateCounts.{PassNone, PassPredicates, PassAncestors, PassSelects}
+use Rattle.tc_read.specs.Schemas.{PassesSize}
 use Rattle.tc_run.specs.Limits.{KeepsLimits}
 
 abbrev pub limit_word : Limit → List ℕ
@@ -24,54 +25,47 @@ limit_word Selects = codes "selects"
 limit_word Calls = codes "calls"
 limit_word Entries = codes "entries"
 
--- the sheet that mentions nothing
-abbrev pub no_rules : Sheet
-no_rules = record { modes = 1; eaches = 0; rules = []; named = [] }
+-- the symbols of what is mentioned, but for the last, which is that of all other names
+abbrev pub symbols_of_mentions : List Mention → List Mention
+symbols_of_mentions mentions = in_order mention_cmp (flat_map with_namespace mentions)
 
-abbrev pub symbols_in : Grammar → ℕ
-symbols_in g = symbol_count (symbols_of g g no_rules)
+abbrev pub symbols_of_schema : Grammar → List Mention
+symbols_of_schema g = symbols_of_mentions (mentions_in_grammar g)
 
-abbrev pub most_states : ℕ
-most_states = 512
+abbrev pub symbols_of_sheet : Sheet → List Mention
+symbols_of_sheet s = symbols_of_mentions (mentions_in_sheet s)
 
-abbrev pub most_symbols : ℕ
-most_symbols = 1024
+abbrev pub AreFew : List Mention → Type 0
+AreFew symbols = symbol_count symbols ≤ MOST_SYMBOLS
+
+-- the schema passes none of its own limits: on its size, and on its states on this side, of which there may be so many
+pub record IsWithinLimits (g : Grammar) (side : Side) (most : ℕ) : Type 0 where
+  pub counts : IsWithinCounts g
+  pub states : state_count g side ≤ most
+
+-- the first of its own limits that the schema passes, and its number
+pub data PassesLimit (g : Grammar) (side : Side) (most : ℕ) : Limit → ℕ → Type 0 where
+  passes_size : {kind : Limit} {number : ℕ} → PassesSize g kind number → PassesLimit g side most kind number
+  passes_states : IsWithinCounts g → most < state_count g side → PassesLimit g side most States most
 
 -- the schema passes none of the limits of `valid`
-pub record IsWithinLimits (g : Grammar) : Type 0 where
-  pub counts : IsWithinCounts g
-  pub states : state_count g input ≤ most_states
-  pub symbols : symbols_in g ≤ most_symbols
+pub record IsValidityWithin (g : Grammar) : Type 0 where
+  pub schema : IsWithinLimits g input MOST_INPUT_STATES
+  pub symbols : AreFew (symbols_of_schema g)
 
--- the first limit that the schema passes, and its number
-pub data PassesLimit (g : Grammar) : Limit → ℕ → Type 0 where
-  passes_pattern : Passes g nodes → PassesLimit g Pattern 65536
-  passes_depth : Passes g depth → PassesLimit g Depth 2000
-  passes_elements : Passes g elements → PassesLimit g Elements 256
-  passes_states : IsWithinCounts g → most_states < state_count g input → PassesLimit g States 512
-  passes_symbols : IsWithinCounts g → state_count g input ≤ most_states → most_symbols < symbols_in g → PassesLimit g Symbols 1024
+-- by these symbols the stylesheet passes none of the limits that are tried before a run
+pub record IsWithinSheetLimits (symbols : List Mention) (s : Sheet) : Type 0 where
+  pub few : AreFew symbols
+  pub numbers : PassNone symbols s
 
--- the schema that mentions nothing
-abbrev pub no_schema : Grammar
-no_schema = record { start = not_allowed; elements = [] }
+-- the first limit that the stylesheet passes by these symbols, and its number
+pub data SheetPasses (symbols : List Mention) (s : Sheet) : Limit → ℕ → Type 0 where
+  sheet_symbols : MOST_SYMBOLS < symbol_count symbols → SheetPasses symbols s Symbols MOST_SYMBOLS
+  sheet_predicates : AreFew symbols → PassPredicates symbols s → SheetPasses symbols s Predicates MOST_PREDICATES
+  sheet_ancestors : AreFew symbols → ¬ (PassPredicates symbols s) → PassAncestors symbols s → SheetPasses symbols s Ancestors MOST_ANCESTORS
+  sheet_selects : AreFew symbols → ¬ (PassPredicates symbols s) → ¬ (PassAncestors symbols s) → PassSelects symbols s → SheetPasses symbols s Selects MOST_SELECTS
 
--- the symbols of a stylesheet alone
-abbrev pub symbols_alone : Sheet → List Mention
-symbols_alone s = symbols_of no_schema no_schema s
-
--- the stylesheet passes none of the limits that are tried before a run
-pub record IsWithinSheetLimits (s : Sheet) : Type 0 where
-  pub symbols : symbol_count (symbols_alone s) ≤ most_symbols
-  pub numbers : PassNone (symbols_alone s) s
-
--- and neither does its run on a document pass one
-abbrev pub IsWithinRunLimits : Sheet → Trees → Type 0
-IsWithinRunLimits s doc = IsWithinSheetLimits s × KeepsLimits s doc
-
--- the first limit that the stylesheet passes, and its number
-pub data SheetPasses (s : Sheet) : Limit → ℕ → Type 0 where
-  sheet_symbols : most_symbols < symbol_count (symbols_alone s) → SheetPasses s Symbols 1024
-  sheet_predicates : symbol_count (symbols_alone s) ≤ most_symbols → PassPredicates (symbols_alone s) s → SheetPasses s Predicates 6
-  sheet_ancestors : symbol_count (symbols_alone s) ≤ most_symbols → ¬ (PassPredicates (symbols_alone s) s) → PassAncestors (symbols_alone s) s → SheetPasses s Ancestors 64
-  sheet_selects : symbol_count (symbols_alone s) ≤ most_symbols → ¬ (PassPredicates (symbols_alone s) s) → ¬ (PassAncestors (symbols_alone s) s)
-      → PassSelects (symbols_alone s) s → SheetPasses s Selects 4096
+-- neither the stylesheet nor its run on a document passes a limit
+pub record IsRunWithin (s : Sheet) (doc : Trees) : Type 0 where
+  pub sheet : IsWithinSheetLimits (symbols_of_sheet s) s
+  pub keeps : KeepsLimits s doc

@@ -1,14 +1,17 @@
 -- That an answer is the only one: what the causes exclude, and what they leave open.
 use Rattle.std.specs.Prelude.{◌≡◌, ◌⊎◌, ℕ, List, Some}
 use Rattle.tc_io.specs.Faults.{Rose}
-use Rattle.tc_io.specs.Store.{Files}
+use Rattle.tc_io.specs.Store.{Files, Read}
+use Rattle.tc_io.specs.Reads.{AreTrue}
 use Rattle.tc_model.specs.RawTrees.{RawTrees}
 use Rattle.tc_model.specs.SheetTextTrees.{Template}
 use Rattle.tc_model.specs.SheetTextPhrases.{IsStylesheet}
 use Rattle.tc_model.specs.Trees.{Trees}
 use Rattle.tc_model.specs.XmlText.{XmlText}
-use Rattle.tc_top.specs.Answers.{Answer, cannot_read, unsafe, refused, work_limit, open_limit, IsAnswer}
-use Rattle.tc_top.specs.Refusals.{Reason, malformed, unsupported, too_deep, IsRefusedDocument, IsRefusedSheet}
+use Rattle.tc_top.specs.Answers.{Answer, cannot_read, unsafe, refused, work_limit, open_limit, IsAnswer, IsAnswerOn}
+use Rattle.tc_read.specs.Refusals.{IsRefusedDocument, IsRefusedSheet}
+use Rattle.tc_read.specs.declared.faults.Reason.{Reason}
+use Rattle.tc_read.specs.declared.faults.Reason.TheVariants.{Malformed, Unsupported, TooDeep}
 
 -- a text may be refused for several of these, at several places, and which is told is left open
 abbrev pub IsOpen : Reason → Type 0
@@ -27,29 +30,33 @@ pub data AreAlike : Answer → Answer → Type 0 where
   open_reasons : {name : List ℕ} {reason other_reason : Reason} {place other_place : ℕ} → IsOpen reason → IsOpen other_reason
       → AreAlike (refused name reason place) (refused name other_reason other_place)
 
--- where the store tells what it holds and no read fails, words have one answer
+-- words and what was read have one answer
 abbrev pub HasOneAnswer : Type 0
-HasOneAnswer = (words : List (List ℕ)) (files : Files) (a b : Answer) → IsAnswer words (Some files) ⊥ a → IsAnswer words (Some files) ⊥ b → AreAlike a b
+HasOneAnswer = (words : List (List ℕ)) (reads : List Read) (a b : Answer) → IsAnswer words reads a → IsAnswer words reads b → AreAlike a b
+
+-- and so have words and held files, where no read fails
+abbrev pub HasOneAnswerOn : Type 0
+HasOneAnswerOn = (words : List (List ℕ)) (files : Files) (a b : Answer) → IsAnswerOn words files a → IsAnswerOn words files b → AreAlike a b
 
 -- it says that an operand can't be read, since a read failed
 abbrev pub IsOfFault : Type 0 → Answer → Type 0
 IsOfFault rose (cannot_read name) = rose
 IsOfFault rose _ = ⊥
 
--- and a call whose count of faults went from one number to another has that answer, unless it tells of such a fault
+-- a call that reads these files, whose count of faults went from one number to another, has that answer, unless it tells of such a fault
 abbrev pub HasAnswerOfCall : Type 0
-HasAnswerOfCall = (words : List (List ℕ)) (files : Files) (before after : ℕ) (a b : Answer)
-    → IsAnswer words (Some files) ⊥ a → IsAnswer words (Some files) (Rose before after) b → AreAlike a b ⊎ IsOfFault (Rose before after) b
+HasAnswerOfCall = (words : List (List ℕ)) (files : Files) (before after : ℕ) (reads : List Read) (a b : Answer)
+    → IsAnswerOn words files a → AreTrue (Some files) (Rose before after) reads → IsAnswer words reads b → AreAlike a b ⊎ IsOfFault (Rose before after) b
 
 -- this stands in a text, up to which it was read
 abbrev pub IsConstruct : Reason → Type 0
-IsConstruct (unsupported why) = Unit {0}
-IsConstruct too_deep = Unit {0}
+IsConstruct (Unsupported why) = Unit {0}
+IsConstruct TooDeep = Unit {0}
 IsConstruct _ = ⊥
 
--- a document's text comes to one construct that isn't read, or to one element that stands too deep
+-- a document's text is refused for one reason, and at one place where that is a construct that isn't read, or an element that stands too deep
 abbrev pub HasOneConstruct : Type 0
-HasOneConstruct = (bytes : List ℕ) (r q : Reason) (k m : ℕ) → IsConstruct r → IsConstruct q → IsRefusedDocument bytes r k → IsRefusedDocument bytes q m → (r ≡ q) × (k ≡ m)
+HasOneConstruct = (bytes : List ℕ) (r q : Reason) (k m : ℕ) → IsRefusedDocument bytes r k → IsRefusedDocument bytes q m → (r ≡ q) × (IsConstruct r → k ≡ m)
 
 -- where a text spells a stylesheet but for the names of its templates and its calls, it is refused for one reason, at one place
 abbrev pub HasOneFaultOfNames : Type 0

@@ -1,9 +1,7 @@
 -- What contracts see of words and of a command.
-use Rattle.std.specs.Prelude.{ℕ, List, None, map, String, string_bytes}
+use Rattle.std.specs.Prelude.{ℕ, List, map, String, string_bytes}
 use Rattle.tc_top.specs.Words as w
 use Rattle.tc_top.specs.declared.command.Command.{Command}
-use Rattle.tc_top.specs.declared.command.Task.{Task}
-use Rattle.tc_top.specs.declared.command.Task.TheVariants as task
 use Rattle.tc_top.specs.declared.command.Command.TheVariants.{Check, Prove, Verify, Run, Valid, Demo}
 
 abbrev pub texts : {Z : Type 0} → List (String Z) → List (List ℕ)
@@ -16,8 +14,3 @@ command (Verify triple certificate) = w.verify triple.input.now triple.output.no
 command (Run sheet document) = w.run sheet.now document.now
 command (Valid schema document) = w.valid schema.now document.now
 command (Demo size) = w.demo size
-
-abbrev pub task_command : Task → w.Command
-task_command (task.Check triple) = w.check None triple.input.now triple.output.now triple.sheet.now
-task_command (task.Run sheet document) = w.run sheet.now document.now
-task_command (task.Valid schema document) = w.valid schema.now document.now

@@ -3,15 +3,17 @@ ghost use Rattle.std.specs.Prelude.{◌≡◌, IfOk};
 ghost use Rattle.tc_model.specs.Views as see;
 ghost use Rattle.tc_model.specs.Views.{trees};
 ghost use Rattle.tc_top.specs.Answers as a;
+ghost use Rattle.tc_top.specs.AnswersSeen.{text as see_text};
 ghost use Rattle.tc_top.specs.Limits.{limit_word};
-ghost use Rattle.tc_top.specs.RefusalsSeen as seen;
+ghost use Rattle.tc_top.specs.Lines.{limit_line};
 
 use crate::buffer::Buffer;
-use crate::refusal::Reason;
 use crate::status::Status;
 use std::alloc::Global;
+use tc_base::limits::{LONGEST_FILE, MOST_OPEN, MOST_WORK};
 use tc_base::{Limit, NoMemory, Place};
 use tc_model::Node;
+use tc_read::Reason;
 
 /// The text of an answer.
 #[derive(Drop)]
@@ -60,6 +62,22 @@ fn word_of(kind: Limit) -> &'static str
     }
 }
 
+/// The answer that a limit is passed, by its word and its number.
+fn over(alloc: Global, word: &str, number: u32) -> Result<Answer, NoMemory>
+    ensures { IfOk result (λ said. (said.status ≡ Status.Limit) × (see_text said.text ≡ limit_line word.now number)) }
+{
+    let mut digits = itoa::Buffer::new();
+    let mut text = Vec::from_slice(alloc, b"limit ")?;
+    text.extend_from_slice(word.as_bytes())?;
+    text.extend_from_slice(b" ")?;
+    text.extend_from_slice(digits.format(number).as_bytes())?;
+    text.extend_from_slice(b"\n")?;
+    Ok(Answer {
+        status: Status::Limit,
+        text: Text::Made(text),
+    })
+}
+
 impl Answer {
     ghost use Rattle.tc_top.specs.AnswersSeen.{Says};
 
@@ -102,13 +120,10 @@ impl Answer {
     }
 
     /// A file has more bytes than a file may have.
-    pub fn file_limit() -> Answer
-        ensures { Says result a.file_limit }
+    pub fn file_limit(alloc: Global) -> Result<Answer, NoMemory>
+        ensures { IfOk result (λ said. Says said a.file_limit) }
     {
-        Answer {
-            status: Status::Limit,
-            text: Text::Fixed(b"limit file 67108864\n"),
-        }
+        over(alloc, "file", LONGEST_FILE as u32)
     }
 
     /// Every result is valid.
@@ -128,7 +143,7 @@ impl Answer {
         reason: Reason,
         place: Place,
     ) -> Result<Answer, NoMemory>
-        ensures { IfOk result (λ said. Says said (a.refused name.now (seen.reason reason) (see.place place))) }
+        ensures { IfOk result (λ said. Says said (a.refused name.now reason (see.place place))) }
     {
         let (front, word) = reason.words();
         let mut number = itoa::Buffer::new();
@@ -150,16 +165,7 @@ impl Answer {
     pub fn limit(alloc: Global, kind: Limit, number: u32) -> Result<Answer, NoMemory>
         ensures { IfOk result (λ said. Says said (a.over_limit kind number)) }
     {
-        let mut digits = itoa::Buffer::new();
-        let mut text = Vec::from_slice(alloc, b"limit ")?;
-        text.extend_from_slice(word_of(kind).as_bytes())?;
-        text.extend_from_slice(b" ")?;
-        text.extend_from_slice(digits.format(number).as_bytes())?;
-        text.extend_from_slice(b"\n")?;
-        Ok(Answer {
-            status: Status::Limit,
-            text: Text::Made(text),
-        })
+        over(alloc, word_of(kind), number)
     }
 
     /// The document is valid.
@@ -196,23 +202,17 @@ impl Answer {
     }
 
     /// A run instantiates and puts out too much.
-    pub fn work_limit() -> Answer
-        ensures { Says result a.work_limit }
+    pub fn work_limit(alloc: Global) -> Result<Answer, NoMemory>
+        ensures { IfOk result (λ said. Says said a.work_limit) }
     {
-        Answer {
-            status: Status::Limit,
-            text: Text::Fixed(b"limit work 4000000\n"),
-        }
+        over(alloc, "work", MOST_WORK)
     }
 
     /// Too many bodies and instructions of a run stand within one another.
-    pub fn open_limit() -> Answer
-        ensures { Says result a.open_limit }
+    pub fn open_limit(alloc: Global) -> Result<Answer, NoMemory>
+        ensures { IfOk result (λ said. Says said a.open_limit) }
     {
-        Answer {
-            status: Status::Limit,
-            text: Text::Fixed(b"limit open 8000\n"),
-        }
+        over(alloc, "open", MOST_OPEN)
     }
 
     /// A valid document has these trees as its result, and they aren't valid.

@@ -1,10 +1,10 @@
 // What `check` answers.
 ghost use Rattle.std.specs.Prelude.{◌≡◌, ◌≤◌, ℕ, List, IfOk};
-ghost use Rattle.tc_io.specs.Faults.{Rose};
+ghost use Rattle.tc_io.specs.Reads.{Happened};
 ghost use Rattle.tc_model.specs.Views.{trees};
 ghost use Rattle.tc_top.specs.Answers as a;
 ghost use Rattle.tc_top.specs.Answers.{Checks};
-ghost use Rattle.tc_top.specs.AnswersSeen.{Says, IsRight};
+ghost use Rattle.tc_top.specs.AnswersSeen.{Says, IsRightFor};
 ghost use Rattle.tc_top.specs.FirstForm as first_form;
 ghost use Rattle.tc_top.specs.FirstSeen.{schema};
 ghost use Rattle.tc_top.specs.Words as w;
@@ -16,7 +16,7 @@ use crate::first::decide::is_valid_output;
 use crate::first::least::least_document;
 use crate::first::schema::{Schema, read_schema};
 use crate::first::sheet::read_sheet;
-use crate::read::{Texts, Unread, read_texts};
+use crate::read::{Operands, read_triple};
 use bumpalo::Bump;
 use std::alloc::Global;
 use tc_base::NoMemory;
@@ -29,30 +29,29 @@ pub fn check<S: Store>(alloc: Global, triple: Triple<'_>, store: &mut S) -> Resu
     ensures count { S.faults store.old ≤ S.faults store.new }
     ensures ok { IfOk result (λ said. (words : List (List ℕ))
         → Words words (w.check None triple.entry.input.now triple.entry.output.now triple.entry.sheet.now)
-        → IsRight words (S.holds store.old) (Rose (S.faults store.old) (S.faults store.new)) said) }
+        → IsRightFor words (Happened S.read_gives S.holds S.faults store.old store.new) said) }
 {
-    match read_texts(alloc, triple, store) {
-        Ok(texts) => check_texts(alloc, triple, &texts),
-        Err(Unread::Unreadable(name)) => Answer::cannot_read(alloc, name),
-        Err(Unread::TooLong) => Ok(Answer::file_limit()),
-        Err(Unread::NoMemory) => Err(NoMemory),
+    match read_triple(alloc, triple, store) {
+        Ok(operands) => check_texts(alloc, &operands),
+        Err(unread) => unread.answer(alloc),
     }
 }
 
 /// Decides by the texts of the operands whether the stylesheet is safe.
-fn check_texts(alloc: Global, triple: Triple<'_>, texts: &Texts) -> Result<Answer, NoMemory>
-    ensures { IfOk result (λ said. (answer : a.Answer) × Says said answer × Checks triple.entry.input.now triple.entry.output.now triple.entry.sheet.now
-        texts.now.input.items texts.now.output.items texts.now.sheet.items answer) }
+fn check_texts(alloc: Global, operands: &Operands<'_>) -> Result<Answer, NoMemory>
+    ensures { IfOk result (λ said. (answer : a.Answer) × Says said answer
+        × Checks operands.now.input.name.now operands.now.output.name.now operands.now.sheet.name.now
+        operands.now.input.text.items operands.now.output.text.items operands.now.sheet.text.items answer) }
 {
-    let Some(input) = read_schema(alloc, &texts.input)? else {
-        return Answer::not_yet(alloc, triple.input);
+    let Some(input) = read_schema(alloc, &operands.input.text)? else {
+        return Answer::not_yet(alloc, operands.input.name);
     };
-    let Some(output) = read_schema(alloc, &texts.output)? else {
-        return Answer::not_yet(alloc, triple.output);
+    let Some(output) = read_schema(alloc, &operands.output.text)? else {
+        return Answer::not_yet(alloc, operands.output.name);
     };
     let arena = Bump::new(alloc);
-    let Some(body) = read_sheet(&arena, &texts.sheet)? else {
-        return Answer::not_yet(alloc, triple.sheet);
+    let Some(body) = read_sheet(&arena, &operands.sheet.text)? else {
+        return Answer::not_yet(alloc, operands.sheet.name);
     };
     if is_valid_output(&output, body) {
         return Ok(Answer::safe());

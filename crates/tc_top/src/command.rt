@@ -1,10 +1,8 @@
 // The commands, and how the words of a command line give them.
 ghost use Rattle.std.specs.Prelude.{◌≡◌, ◌≤◌, ◌↔◌, ℕ, List, [], ◌∷◌, Option, length, IsTrue, MatchOption};
 ghost use Rattle.std.specs.List.{list_all};
-ghost use Rattle.tc_top.specs.Answers.{IsBuilt};
 ghost use Rattle.tc_top.specs.Words.{Limits, IsNumeral, Words, AreOperands, IsNoCommand, is_operand, name_of};
-ghost use Rattle.tc_top.specs.WordsSeen as seen;
-ghost use Rattle.tc_top.specs.WordsSeen.{texts, command, task_command};
+ghost use Rattle.tc_top.specs.WordsSeen.{texts, command};
 
 /// The operands of a check: the names of two schemas and a stylesheet.
 #[derive(Clone, Copy)]
@@ -46,29 +44,6 @@ impl Command<'_> {
             Command::Valid(..) => "valid",
             Command::Demo(_) => "demo",
         }
-    }
-}
-
-/// A command that is carried out, with its operands.
-#[derive(Clone, Copy)]
-pub enum Task<'w> {
-    /// A check without a limit.
-    Check(Triple<'w>),
-    /// A run: the stylesheet and the document.
-    Run(&'w str, &'w str),
-    /// A validation, of a document by a schema: the schema and the document.
-    Valid(&'w str, &'w str),
-}
-
-/// The command, if it is one that is carried out.
-pub fn built(command: Command<'_>) -> Option<Task<'_>>
-    ensures { MatchOption result (¬ (IsBuilt (seen.command command.entry))) (λ b. seen.command command.entry ≡ task_command b) }
-{
-    match command {
-        Command::Check(None, triple) => Some(Task::Check(triple)),
-        Command::Run(sheet, document) => Some(Task::Run(sheet, document)),
-        Command::Valid(schema, document) => Some(Task::Valid(schema, document)),
-        _ => None,
     }
 }
 

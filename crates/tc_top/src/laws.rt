@@ -1,5 +1,5 @@
 //! Laws of the definitions, each the contract of a function that does nothing.
-ghost use Rattle.tc_top.specs.OneAnswer.{HasOneAnswer, HasAnswerOfCall, HasOneConstruct, HasOneFaultOfNames};
+ghost use Rattle.tc_top.specs.OneAnswer.{HasOneAnswer, HasOneAnswerOn, HasAnswerOfCall, HasOneConstruct, HasOneFaultOfNames};
 ghost use Rattle.tc_top.specs.Words.{WordsGiveOne};
 
 /// A list of words gives one command at most.
@@ -7,13 +7,15 @@ pub fn law_of_words()
     ensures { WordsGiveOne }
 {}
 
-/// Laws of answers. Where the store tells what it holds, words have one answer, but for what is left open: which
-/// counterexample there is, which limit is told of a run that passes both, and for which of the reasons malformed,
-/// unsupported and too deep, and where, a text is refused. A call gives that answer, unless a read of it fails. Of
-/// those reasons a document's text is unsupported or too deep at one place alone; and a stylesheet that is written
-/// well but for the names of its templates and its calls is refused for one reason, at one place.
+/// Laws of answers. Words and what was read have one answer, but for what is left open: which counterexample there is,
+/// which limit is told of a run that passes both, and for which of the reasons malformed, unsupported and too deep, and
+/// where, a text is refused. So have words and held files, where no read fails; and a call gives that answer, unless a
+/// read of it fails. A document's text is refused for one reason, and but for malformed at one place alone; and a
+/// stylesheet that is written well but for the names of its templates and its calls is refused for one reason, at one
+/// place.
 pub fn law_of_answers()
     ensures one { HasOneAnswer }
+    ensures on_files { HasOneAnswerOn }
     ensures call { HasAnswerOfCall }
     ensures construct { HasOneConstruct }
     ensures names { HasOneFaultOfNames }

@@ -5,37 +5,37 @@ mod answer;
 mod buffer;
 mod check;
 mod command;
-mod documents;
 mod first;
 pub mod laws;
+mod program;
 mod read;
-mod refusal;
 mod run;
-mod schemas;
-mod sheets;
 mod status;
 mod valid;
 mod words;
 mod write;
 
-ghost use Rattle.std.specs.Prelude.{◌≡◌, ◌≢◌, ◌≤◌, ◌⊎◌, ℕ, List, Some, IfOk, OnErr};
+ghost use Rattle.std.specs.Prelude.{◌≡◌, ◌≤◌, ◌⊎◌, ℕ, List, Some, IfOk, OnErr};
 ghost use Rattle.tc_io.specs.Faults.{Rose};
+ghost use Rattle.tc_io.specs.Reads.{Happened};
 ghost use Rattle.tc_io.specs.Store.{Files};
 ghost use Rattle.tc_model.specs.Grammars.{Grammar};
 ghost use Rattle.tc_model.specs.Sheets.{Sheet};
 ghost use Rattle.tc_model.specs.Trees.{Trees};
 ghost use Rattle.tc_top.specs.Answers as a;
-ghost use Rattle.tc_top.specs.Answers.{IsAnswer, IsBuilt, ReadsNothing, Answered, BrokenOff, Gives, IsCutShort, ChecksFiles, DecidesSafety, ValidatesFiles, DecidesValidity, RunsFiles, GivesResult};
-ghost use Rattle.tc_top.specs.AnswersSeen.{IsRight};
+ghost use Rattle.tc_top.specs.Answers.{Ends, IsAnswerOn, IsBuilt, ReadsNothing, Gives, KeepsToLimits};
+ghost use Rattle.tc_top.specs.AnswersSeen.{IsRightFor};
 ghost use Rattle.tc_top.specs.FirstForm as f;
 ghost use Rattle.tc_top.specs.FirstForm.{grammar_of, sheet_of};
+ghost use Rattle.tc_top.specs.Headline.{IsCutShort, ChecksFiles, DecidesSafety, ValidatesFiles, DecidesValidity, RunsFiles, GivesResult};
 ghost use Rattle.tc_top.specs.Words as w;
 ghost use Rattle.tc_top.specs.Words.{Words, IsNoCommand, name_of};
 ghost use Rattle.tc_top.specs.WordsSeen.{texts};
 
 use answer::Answer;
 use check::check;
-use command::{Task, built, read_words};
+use command::{Command, read_words};
+pub use program::run_program;
 use run::run;
 pub use status::Status;
 use std::alloc::Global;
@@ -53,17 +53,10 @@ pub fn typecheck<S: Store, K: Sink>(
     store: &mut S,
     sink: &mut K,
 ) -> Status
-    // An answer is right by its cause, and it is all that was written.
-    ensures answered { result ≢ Status.WriteFault → result ≢ Status.NoMemory
-        → Answered words.now (S.holds store.old) (Rose (S.faults store.old) (S.faults store.new)) result (K.written sink.old) (K.written sink.new) }
-
-    // A write fault comes only where writes failed, and breaks off the answer that would have been given.
-    ensures write_fault { result ≡ Status.WriteFault → Rose (K.faults sink.old) (K.faults sink.new) }
-    ensures broken_off { result ≡ Status.WriteFault
-        → BrokenOff words.now (S.holds store.old) (Rose (S.faults store.old) (S.faults store.new)) (K.written sink.old) (K.written sink.new) }
-
-    // Want of memory comes only to a command, and before the first write.
-    ensures no_memory { result ≡ Status.NoMemory → (command : w.Command) × Words words.now command }
+    // A call ends with an answer that is right for the words and for what was read, in order, up to the first read that
+    // wasn't Ok; with such an answer broken off by a fault of writing; or, only for a command, for want of memory.
+    ensures ends { Ends words.now (Happened S.read_gives S.holds S.faults store.old store.new)
+        (Rose (K.faults sink.old) (K.faults sink.new)) (K.written sink.old) (K.written sink.new) result }
     ensures unwritten { result ≡ Status.NoMemory → sink.new ≡ sink.old }
 
     // Words alone decide that they are no command, and that a command isn't carried out.
@@ -71,8 +64,8 @@ pub fn typecheck<S: Store, K: Sink>(
     ensures not_built { (command : w.Command) → Words words.now command → ¬ (IsBuilt command) → Gives result ⊥ (a.not_yet (name_of command)) }
     ensures unread { ReadsNothing words.now → store.new ≡ store.old }
 
-    // Where the store tells what it holds, each cause has its status, and by `answered` and `law_of_answers` its answer.
-    ensures exactly { (files : Files) (answer : a.Answer) → S.holds store.old ≡ Some files → IsAnswer words.now (Some files) ⊥ answer
+    // Where the store tells what it holds, each cause has its status, and by `ends` and `law_of_answers` its answer.
+    ensures exactly { (files : Files) (answer : a.Answer) → S.holds store.old ≡ Some files → IsAnswerOn words.now files answer
         → Gives result (Rose (S.faults store.old) (S.faults store.new)) answer }
 
     // The headline: a check of held files of the first form is yes exactly where every result is valid, and no exactly where one isn't.
@@ -85,10 +78,14 @@ pub fn typecheck<S: Store, K: Sink>(
         → IsCutShort result (Rose (S.faults store.old) (S.faults store.new))
         ⊎ DecidesValidity result (K.written sink.old) (K.written sink.new) g d }
 
-    // A run of a held stylesheet on a held document is yes exactly within the limits, and then writes the document's result.
+    // A run of a held stylesheet on a held document that is yes writes the document's result.
     ensures running { (files : Files) (s : Sheet) (d : Trees) → S.holds store.old ≡ Some files → RunsFiles words.now files s d
+        → GivesResult result (K.written sink.old) (K.written sink.new) s d }
+
+    // It is yes exactly where the stylesheet and its run keep to their limits, and else tells of one that is passed.
+    ensures limited { (files : Files) (s : Sheet) (d : Trees) → S.holds store.old ≡ Some files → RunsFiles words.now files s d
         → IsCutShort result (Rose (S.faults store.old) (S.faults store.new))
-        ⊎ GivesResult result (K.written sink.old) (K.written sink.new) s d }
+        ⊎ KeepsToLimits result (K.written sink.old) (K.written sink.new) s d }
 
     // What is held stays as it is, and no count of faults falls.
     ensures held { S.holds store.new ≡ S.holds store.old }
@@ -110,7 +107,7 @@ fn answer_words<S: Store>(
     words: &[String],
     store: &mut S,
 ) -> Result<Answer, NoMemory>
-    ensures right { IfOk result (IsRight (texts words.now) (S.holds store.old) (Rose (S.faults store.old) (S.faults store.new))) }
+    ensures right { IfOk result (IsRightFor (texts words.now) (Happened S.read_gives S.holds S.faults store.old store.new)) }
     ensures no_memory { OnErr result ((command : w.Command) × Words (texts words.now) command) }
     ensures unread { ReadsNothing (texts words.now) → store.new ≡ store.old }
     ensures held { S.holds store.new ≡ S.holds store.old }
@@ -119,10 +116,10 @@ fn answer_words<S: Store>(
     let Some(command) = read_words(words) else {
         return Ok(Answer::usage());
     };
-    match built(command) {
-        Some(Task::Check(triple)) => check(alloc, triple, store),
-        Some(Task::Run(sheet, document)) => run(alloc, sheet, document, store),
-        Some(Task::Valid(schema, document)) => valid(alloc, schema, document, store),
-        None => Answer::not_yet(alloc, command.name()),
+    match command {
+        Command::Check(None, triple) => check(alloc, triple, store),
+        Command::Run(sheet, document) => run(alloc, sheet, document, store),
+        Command::Valid(schema, document) => valid(alloc, schema, document, store),
+        _ => Answer::not_yet(alloc, command.name()),
     }
 }

@@ -1,12 +1,25 @@
 // Reading the operands of a command.
-ghost use Rattle.std.specs.Prelude.{◌≡◌, ◌≤◌, [], ◌∷◌, IfOk, IfErr};
-ghost use Rattle.tc_io.specs.Faults.{Rose};
-ghost use Rattle.tc_top.specs.Reading.{IsReadFrom};
-ghost use Rattle.tc_top.specs.AnswersSeen.{IsUnread, IsFirstUnread};
+ghost use Rattle.std.specs.Prelude.{◌≡◌, ◌≤◌, ◌∷◌, [], ℕ, List, IfOk, IfErr, Ok, Err};
+ghost use Rattle.tc_io.specs.Reads.{Happened};
+ghost use Rattle.tc_io.specs.Store.{Read};
+ghost use Rattle.tc_io.specs.declared.StoreFault.{StoreFault};
+ghost use Rattle.tc_top.specs.Answers.{IsBuilt};
+ghost use Rattle.tc_top.specs.AnswersSeen.{IsUnread, IsFirstUnread, IsRight, read_of};
+ghost use Rattle.tc_top.specs.Words as w;
+ghost use Rattle.tc_top.specs.Words.{Words, operands_of};
 
+use crate::answer::Answer;
 use crate::command::Triple;
 use std::alloc::Global;
+use tc_base::NoMemory;
 use tc_io::{Store, StoreFault};
+
+/// An operand that was read: the name of its file, and its text.
+#[derive(Drop)]
+pub struct Operand<'w> {
+    pub name: &'w str,
+    pub text: Vec<u8>,
+}
 
 /// Why an operand was not read.
 #[derive(Clone, Copy)]
@@ -19,65 +32,72 @@ pub enum Unread<'w> {
     NoMemory,
 }
 
-/// The texts of two schemas and a stylesheet.
+impl Unread<'_> {
+    /// What is answered where an operand was not read.
+    pub fn answer(self, alloc: Global) -> Result<Answer, NoMemory>
+        ensures { IfOk result (λ said. (words : List (List ℕ)) (command : w.Command) (reads : List Read) → Words words command → IsBuilt command
+            → IsFirstUnread (operands_of command) reads self.entry → IsRight words reads said) }
+    {
+        match self {
+            Unread::Unreadable(name) => Answer::cannot_read(alloc, name),
+            Unread::TooLong => Answer::file_limit(alloc),
+            Unread::NoMemory => Err(NoMemory),
+        }
+    }
+}
+
+/// The operands of a check.
 #[derive(Drop)]
-pub struct Texts {
-    pub input: Vec<u8>,
-    pub output: Vec<u8>,
-    pub sheet: Vec<u8>,
+pub struct Operands<'w> {
+    pub input: Operand<'w>,
+    pub output: Operand<'w>,
+    pub sheet: Operand<'w>,
 }
 
 /// Reads the operands of a check, in order.
-pub fn read_texts<'w, S: Store>(
+pub fn read_triple<'w, S: Store>(
     alloc: Global,
     triple: Triple<'w>,
     store: &mut S,
-) -> Result<Texts, Unread<'w>>
+) -> Result<Operands<'w>, Unread<'w>>
     ensures same { S.holds store.new ≡ S.holds store.old }
     ensures count { S.faults store.old ≤ S.faults store.new }
-    ensures input { IfOk result (λ texts. IsReadFrom (S.holds store.old) triple.entry.input.now texts.input.items) }
-    ensures output { IfOk result (λ texts. IsReadFrom (S.holds store.old) triple.entry.output.now texts.output.items) }
-    ensures sheet { IfOk result (λ texts. IsReadFrom (S.holds store.old) triple.entry.sheet.now texts.sheet.items) }
-    ensures err { IfErr result (IsFirstUnread (S.holds store.old) (Rose (S.faults store.old) (S.faults store.new))
-        (triple.entry.input.now ∷ triple.entry.output.now ∷ triple.entry.sheet.now ∷ [])) }
+    ensures input { IfOk result (λ read. read.input.name.now ≡ triple.entry.input.now) }
+    ensures output { IfOk result (λ read. read.output.name.now ≡ triple.entry.output.now) }
+    ensures sheet { IfOk result (λ read. read.sheet.name.now ≡ triple.entry.sheet.now) }
+    ensures ok { IfOk result (λ read. Happened S.read_gives S.holds S.faults store.old store.new
+        (read_of read.input ∷ read_of read.output ∷ read_of read.sheet ∷ [])) }
+    ensures err { IfErr result (λ unread. (reads : List Read) × Happened S.read_gives S.holds S.faults store.old store.new reads
+        × IsFirstUnread (triple.entry.input.now ∷ triple.entry.output.now ∷ triple.entry.sheet.now ∷ []) reads unread) }
 {
     let input = read_operand(alloc, triple.input, store)?;
     let output = read_operand(alloc, triple.output, store)?;
     let sheet = read_operand(alloc, triple.sheet, store)?;
-    Ok(Texts {
+    Ok(Operands {
         input,
         output,
         sheet,
     })
 }
 
-/// The texts of two operands: of a schema or a stylesheet, and of a document.
-#[derive(Drop)]
-pub struct Pair {
-    pub first: Vec<u8>,
-    pub document: Vec<u8>,
-}
-
-/// Reads the operands of a validation or of a run, in order.
+/// Reads two operands, in order.
 pub fn read_pair<'w, S: Store>(
     alloc: Global,
     first: &'w str,
-    document: &'w str,
+    second: &'w str,
     store: &mut S,
-) -> Result<Pair, Unread<'w>>
+) -> Result<(Operand<'w>, Operand<'w>), Unread<'w>>
     ensures same { S.holds store.new ≡ S.holds store.old }
     ensures count { S.faults store.old ≤ S.faults store.new }
-    ensures first { IfOk result (λ texts. IsReadFrom (S.holds store.old) first.now texts.first.items) }
-    ensures document { IfOk result (λ texts. IsReadFrom (S.holds store.old) document.now texts.document.items) }
-    ensures err { IfErr result (IsFirstUnread (S.holds store.old) (Rose (S.faults store.old) (S.faults store.new))
-        (first.now ∷ document.now ∷ [])) }
+    ensures first { IfOk result (λ read. read.0.name.now ≡ first.now) }
+    ensures second { IfOk result (λ read. read.1.name.now ≡ second.now) }
+    ensures ok { IfOk result (λ read. Happened S.read_gives S.holds S.faults store.old store.new (read_of read.0 ∷ read_of read.1 ∷ [])) }
+    ensures err { IfErr result (λ unread. (reads : List Read) × Happened S.read_gives S.holds S.faults store.old store.new reads
+        × IsFirstUnread (first.now ∷ second.now ∷ []) reads unread) }
 {
-    let first_text = read_operand(alloc, first, store)?;
-    let document_text = read_operand(alloc, document, store)?;
-    Ok(Pair {
-        first: first_text,
-        document: document_text,
-    })
+    let one = read_operand(alloc, first, store)?;
+    let other = read_operand(alloc, second, store)?;
+    Ok((one, other))
 }
 
 /// Reads one operand.
@@ -85,16 +105,27 @@ fn read_operand<'w, S: Store>(
     alloc: Global,
     name: &'w str,
     store: &mut S,
-) -> Result<Vec<u8>, Unread<'w>>
+) -> Result<Operand<'w>, Unread<'w>>
     ensures same { S.holds store.new ≡ S.holds store.old }
     ensures count { S.faults store.old ≤ S.faults store.new }
-    ensures ok { IfOk result (λ bytes. IsReadFrom (S.holds store.old) name.now bytes.items) }
-    ensures err { IfErr result (IsUnread (S.holds store.old) (Rose (S.faults store.old) (S.faults store.new)) name.now) }
+    ensures named { IfOk result (λ operand. operand.name.now ≡ name.now) }
+    ensures ok { IfOk result (λ operand. Happened S.read_gives S.holds S.faults store.old store.new ((name.now, Ok operand.text.items) ∷ [])) }
+    ensures err { IfErr result (λ unread. (fault : StoreFault) × Happened S.read_gives S.holds S.faults store.old store.new ((name.now, Err fault) ∷ [])
+        × IsUnread name.now fault unread) }
 {
     match store.read(alloc, name) {
-        Ok(bytes) => Ok(bytes),
-        Err(StoreFault::Missing | StoreFault::Failed) => Err(Unread::Unreadable(name)),
-        Err(StoreFault::TooLong) => Err(Unread::TooLong),
-        Err(StoreFault::NoMemory) => Err(Unread::NoMemory),
+        Ok(text) => Ok(Operand { name, text }),
+        Err(fault) => Err(unread(name, fault)),
+    }
+}
+
+/// Why the operand of this name was not read, by the fault of its read.
+fn unread(name: &str, fault: StoreFault) -> Unread<'_>
+    ensures { IsUnread name.now fault result }
+{
+    match fault {
+        StoreFault::Missing | StoreFault::Failed => Unread::Unreadable(name),
+        StoreFault::TooLong => Unread::TooLong,
+        StoreFault::NoMemory => Unread::NoMemory,
     }
 }

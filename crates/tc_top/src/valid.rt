@@ -1,32 +1,33 @@
 // What `valid` answers.
 ghost use Rattle.std.specs.Prelude.{◌≡◌, ◌≤◌, ◌<◌, ℕ, List, IfOk, IfErr, OnOk, length};
-ghost use Rattle.tc_io.specs.Faults.{Rose};
+ghost use Rattle.tc_base.specs.Reading.{longest_text};
+ghost use Rattle.tc_base.specs.declared.limits.TheConstants.{MOST_SYMBOLS};
+ghost use Rattle.tc_io.specs.Reads.{Happened};
 ghost use Rattle.tc_model.specs.Views as see;
 ghost use Rattle.tc_model.specs.SimplifiesCounts.{IsWithinCounts};
 ghost use Rattle.tc_model.specs.SimplifiesLaws.{IsStart};
-ghost use Rattle.tc_model.specs.Symbols.{symbols_of};
+ghost use Rattle.tc_model.specs.Symbols.{symbol_count};
 ghost use Rattle.tc_model.specs.Trees.{none};
+ghost use Rattle.tc_read.specs.Schemas.{IsSchemaOf};
 ghost use Rattle.tc_top.specs.Answers as a;
 ghost use Rattle.tc_top.specs.Answers.{Decides, Validates};
-ghost use Rattle.tc_top.specs.AnswersSeen.{Says, IsRight};
-ghost use Rattle.tc_top.specs.Limits.{no_rules, symbols_in};
-ghost use Rattle.tc_top.specs.SchemasSeen.{IsSchemaOf};
+ghost use Rattle.tc_top.specs.AnswersSeen.{Says, IsRightFor};
+ghost use Rattle.tc_top.specs.Limits.{AreFew, symbols_of_schema};
 ghost use Rattle.tc_top.specs.Words as w;
 ghost use Rattle.tc_top.specs.Words.{Words};
 
 use crate::answer::Answer;
-use crate::documents::read_document;
-use crate::read::{Pair, Unread, read_pair};
-use crate::refusal::Unaccepted;
-use crate::schemas::{Schema, read_schema};
+use crate::read::{Operand, read_pair};
 use bumpalo::Bump;
 use std::alloc::Global;
 use tc_alpha::{AlphaFault, Alphabet};
 use tc_auto::{Auto, AutoFault};
+use tc_base::limits::{MOST_INPUT_STATES, MOST_SYMBOLS};
 use tc_base::{Limit, NoMemory};
 use tc_hedge::Hedge;
 use tc_io::Store;
-use tc_model::{Grammar, Node, Sheet};
+use tc_model::{Grammar, Node, Pat, Sheet};
+use tc_read::{Schema, TextFault, read_document, read_schema};
 
 /// Reads the operands, and tells whether the document is valid.
 pub fn valid<S: Store>(
@@ -37,35 +38,33 @@ pub fn valid<S: Store>(
 ) -> Result<Answer, NoMemory>
     ensures same { S.holds store.new ≡ S.holds store.old }
     ensures count { S.faults store.old ≤ S.faults store.new }
-    ensures ok { IfOk result (λ said. (words : List (List ℕ))
-        → Words words (w.valid schema.now document.now)
-        → IsRight words (S.holds store.old) (Rose (S.faults store.old) (S.faults store.new)) said) }
+    ensures ok { IfOk result (λ said. (words : List (List ℕ)) → Words words (w.valid schema.now document.now)
+        → IsRightFor words (Happened S.read_gives S.holds S.faults store.old store.new) said) }
 {
     match read_pair(alloc, schema, document, store) {
-        Ok(texts) => valid_texts(alloc, schema, document, &texts),
-        Err(Unread::Unreadable(name)) => Answer::cannot_read(alloc, name),
-        Err(Unread::TooLong) => Ok(Answer::file_limit()),
-        Err(Unread::NoMemory) => Err(NoMemory),
+        Ok((schema, document)) => valid_texts(alloc, &schema, &document),
+        Err(unread) => unread.answer(alloc),
     }
 }
 
 /// Tells by the texts of the operands whether the document is valid.
 fn valid_texts(
     alloc: Global,
-    schema: &str,
-    document: &str,
-    texts: &Pair,
+    schema: &Operand<'_>,
+    document: &Operand<'_>,
 ) -> Result<Answer, NoMemory>
-    requires schema { length texts.now.first.items ≤ 67108864 }
-    requires document { length texts.now.document.items ≤ 67108864 }
-    ensures { IfOk result (λ said. (answer : a.Answer) × Says said answer × Validates schema.now document.now
-        texts.now.first.items texts.now.document.items answer) }
+    requires schema { length schema.now.text.items ≤ longest_text }
+    requires document { length document.now.text.items ≤ longest_text }
+    ensures { IfOk result (λ said. (answer : a.Answer) × Says said answer
+        × Validates schema.now.name.now document.now.name.now schema.now.text.items document.now.text.items answer) }
 {
     let arena = Bump::new(alloc);
-    match read_schema(&arena, &texts.first) {
-        Ok(read) => valid_document(alloc, &arena, &read, document, &texts.document),
-        Err(Unaccepted::Refused(reason, place)) => Answer::refused(alloc, schema, reason, place),
-        Err(Unaccepted::NoMemory) => Err(NoMemory),
+    match read_schema(&arena, &schema.text) {
+        Ok(read) => valid_document(alloc, &arena, &read, document),
+        Err(TextFault::Refused(reason, place)) => {
+            Answer::refused(alloc, schema.name, reason, place)
+        }
+        Err(TextFault::NoMemory) => Err(NoMemory),
     }
 }
 
@@ -74,21 +73,22 @@ fn valid_document(
     alloc: Global,
     arena: &Bump,
     schema: &Schema<'_>,
-    name: &str,
-    text: &[u8],
+    document: &Operand<'_>,
 ) -> Result<Answer, NoMemory>
-    requires short { length text.now ≤ 67108864 }
+    requires short { length document.now.text.items ≤ longest_text }
     requires read { (bytes : List ℕ) × IsSchemaOf bytes schema.now }
-    ensures { IfOk result (λ said. (answer : a.Answer) × Says said answer
-        × ((schema_name bytes : List ℕ) → IsSchemaOf bytes schema.now → Validates schema_name name.now bytes text.now answer)) }
+    ensures { IfOk result (λ said. (answer : a.Answer) × Says said answer × ((name bytes : List ℕ) → IsSchemaOf bytes schema.now
+        → Validates name document.now.name.now bytes document.now.text.items answer)) }
 {
-    match read_document(arena, text) {
+    match read_document(arena, &document.text) {
         Ok(root) => match schema {
             Schema::Small(grammar) => decide(alloc, grammar, &root),
             Schema::TooLarge(kind, number) => Answer::limit(alloc, *kind, *number),
         },
-        Err(Unaccepted::Refused(reason, place)) => Answer::refused(alloc, name, reason, place),
-        Err(Unaccepted::NoMemory) => Err(NoMemory),
+        Err(TextFault::Refused(reason, place)) => {
+            Answer::refused(alloc, document.name, reason, place)
+        }
+        Err(TextFault::NoMemory) => Err(NoMemory),
     }
 }
 
@@ -98,14 +98,18 @@ fn decide(alloc: Global, grammar: &Grammar<'_>, document: &Node<'_>) -> Result<A
     requires start { IsStart (see.grammar grammar.now).start }
     ensures { IfOk result (λ said. (answer : a.Answer) × Says said answer × Decides (see.grammar grammar.now) (see.before document.now none) answer) }
 {
-    let auto = match Auto::contents(alloc, grammar, 512) {
+    let auto = match Auto::contents(alloc, grammar, MOST_INPUT_STATES) {
         Ok(auto) => auto,
-        Err(AutoFault::TooManyStates) => return Answer::limit(alloc, Limit::States, 512),
+        Err(AutoFault::TooManyStates) => {
+            return Answer::limit(alloc, Limit::States, MOST_INPUT_STATES);
+        }
         Err(AutoFault::NoMemory) => return Err(NoMemory),
     };
     let alphabet = match alphabet_of(alloc, grammar) {
         Ok(alphabet) => alphabet,
-        Err(AlphaFault::TooManySymbols) => return Answer::limit(alloc, Limit::Symbols, 1024),
+        Err(AlphaFault::TooManySymbols) => {
+            return Answer::limit(alloc, Limit::Symbols, MOST_SYMBOLS);
+        }
         Err(AlphaFault::NoMemory) => return Err(NoMemory),
     };
     let hedge = Hedge::of(alloc, auto, &alphabet)?;
@@ -118,16 +122,19 @@ fn decide(alloc: Global, grammar: &Grammar<'_>, document: &Node<'_>) -> Result<A
 
 /// The symbols of a schema alone.
 fn alphabet_of(alloc: Global, grammar: &Grammar<'_>) -> Result<Alphabet, AlphaFault>
-    ensures stands { IfOk result (λ a. a ≡ symbols_of (see.grammar grammar.now) (see.grammar grammar.now) no_rules) }
-    ensures few { OnOk result (symbols_in (see.grammar grammar.now) ≤ 1024) }
-    ensures many { IfErr result (λ e. e ≡ AlphaFault.TooManySymbols → 1024 < symbols_in (see.grammar grammar.now)) }
+    ensures stands { IfOk result (λ a. a ≡ symbols_of_schema (see.grammar grammar.now)) }
+    ensures few { OnOk result (AreFew (symbols_of_schema (see.grammar grammar.now))) }
+    ensures many { IfErr result (λ e. e ≡ AlphaFault.TooManySymbols → MOST_SYMBOLS < symbol_count (symbols_of_schema (see.grammar grammar.now))) }
 {
-    let twin = *grammar;
+    let nothing = Grammar {
+        start: Pat::NotAllowed,
+        elements: &[],
+    };
     let sheet = Sheet {
         modes: 1,
         eaches: 0,
         rules: &[],
         named: &[],
     };
-    Alphabet::of(alloc, grammar, &twin, &sheet)
+    Alphabet::of(alloc, grammar, &nothing, &sheet)
 }

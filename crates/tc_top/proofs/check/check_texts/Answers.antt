@@ -14,20 +14,20 @@ use Rattle.tc_top.proofs.check.check_texts.Goals as goal
 pub returns-in_default : goal.returns-in_default
 returns-in_default c =
     let other = schema_refused _ _ _ c.deref.ensures.value c.in_default.is c.in_ok-input.ensures in
-    IfOk-weaker c.not_yet.result _ _ (λ said says. (a.not_yet c.args.triple.input.now, says, is_other_form (other_input other))) c.not_yet.ensures
+    IfOk-weaker c.not_yet.result _ _ (λ said says. (a.not_yet c.args.operands.now.input.name.now, says, is_other_form (other_input other))) c.not_yet.ensures
 
 pub returns-in_default-2 : goal.returns-in_default-2
 returns-in_default-2 c =
     let input = schema_read _ _ _ _ c.deref.ensures.value c.in-Some.is c.in_ok-input.ensures in
     let other = schema_refused _ _ _ c.deref-2.ensures.value c.in_default-2.is c.in_ok-output.ensures in
-    IfOk-weaker c.not_yet-in_default-2.result _ _ (λ said says. (a.not_yet c.args.triple.output.now, says, is_other_form (other_output input other))) c.not_yet-in_default-2.ensures
+    IfOk-weaker c.not_yet-in_default-2.result _ _ (λ said says. (a.not_yet c.args.operands.now.output.name.now, says, is_other_form (other_output input other))) c.not_yet-in_default-2.ensures
 
 pub returns-in_default-3 : goal.returns-in_default-3
 returns-in_default-3 c =
     let input = schema_read _ _ _ _ c.deref.ensures.value c.in-Some.is c.in_ok-input.ensures in
     let output = schema_read _ _ _ _ c.deref-2.ensures.value c.in-Some-2.is c.in_ok-output.ensures in
     let other = sheet_refused _ _ _ c.deref-3.ensures.value c.in_default-3.is c.in_ok-body.ensures in
-    IfOk-weaker c.not_yet-in_default-3.result _ _ (λ said says. (a.not_yet c.args.triple.sheet.now, says, is_other_form (other_sheet input output other))) c.not_yet-in_default-3.ensures
+    IfOk-weaker c.not_yet-in_default-3.result _ _ (λ said says. (a.not_yet c.args.operands.now.sheet.name.now, says, is_other_form (other_sheet input output other))) c.not_yet-in_default-3.ensures
 
 pub is_valid_output-requires : goal.is_valid_output-requires
 is_valid_output-requires c = sheet_plain (sheet_read _ _ _ _ c.deref-3.ensures.value c.in-Some-3.is c.in_ok-body.ensures)

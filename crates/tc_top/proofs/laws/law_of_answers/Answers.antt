@@ -1,9 +1,12 @@
-use Rattle.tc_top.proofs.OneAnswer.{one_answer, answer_of_call}
+use Rattle.tc_top.proofs.OneAnswer.{one_answer, one_answer_on, answer_of_call}
 use Rattle.tc_top.proofs.OneRefusal.{one_construct, one_fault_of_names}
 use Rattle.tc_top.proofs.laws.law_of_answers.Goals as goal
 
 pub returns-clause-one : goal.returns-clause-one
 returns-clause-one c = one_answer
+
+pub returns-clause-on_files : goal.returns-clause-on_files
+returns-clause-on_files c = one_answer_on
 
 pub returns-clause-call : goal.returns-clause-call
 returns-clause-call c = answer_of_call

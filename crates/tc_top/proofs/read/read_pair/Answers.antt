@@ -1,19 +1,28 @@
-use Rattle.std.proofs.Common.{◌∷◌, [], refl, subst}
-use Rattle.tc_io.specs.Faults.{Rose}
-use Rattle.tc_top.specs.AnswersSeen.{IsUnread, IsFirstUnread}
-use Rattle.tc_top.proofs.FirstUnread.{err_is, rose_later, unread_more, unread_first}
+use Rattle.std.proofs.Common.{◌≡◌, ◌∷◌, [], ◌∙◌, ap, sym, subst, List, ℕ, Ok}
+use Rattle.tc_io.specs.Reads.{Happened}
+use Rattle.tc_io.specs.Store.{Read}
+use Rattle.tc_io.proofs.ReadsInOrder.{happened_both}
+use Rattle.tc_read.proofs.Exits.{err_is}
+use Rattle.tc_top.proofs.OperandsRead.{unread_first, unread_later}
 use Rattle.tc_top.proofs.read.read_pair.Goals as goal
 
-pub returns-in_err-first_text-clause-err : goal.returns-in_err-first_text-clause-err
-returns-in_err-first_text-clause-err g c =
-    err_is c.from_residual.result _ (IsFirstUnread _ _ _) c.from_residual.ensures.1 (unread_first _ _ _ [] _ [] _ _ refl tt c.in_err-first_text.ensures.err)
+pub returns-in_err-one-clause-err : goal.returns-in_err-one-clause-err
+returns-in_err-one-clause-err g c =
+    let first = c.in_err-one.ensures.err in
+    err_is c.from_residual.result _ _ c.from_residual.ensures.1 (_, first.1, unread_first c.args.first.now _ first.0 _ first.2)
 
-pub returns-in_err-document_text-clause-err : goal.returns-in_err-document_text-clause-err
-returns-in_err-document_text-clause-err g c =
-    let told = g.S.Store.holds c.args.store.now in
-    let last = g.S.Store.faults c.read_operand-2.new.store in
-    let name = c.args.document.now in
-    let unread = subst (λ o. IsUnread o (Rose (g.S.Store.faults c.read_operand.new.store) last) name c.in_err-document_text.field-0.0) c.in_ok-first_text.ensures.same c.in_err-document_text.ensures.err in
-    let rose = unread_more told _ (Rose (g.S.Store.faults c.args.store.now) last) name _ (rose_later _ _ _ c.in_ok-first_text.ensures.count) unread in
-    err_is c.from_residual-in_err-document_text.result _ (IsFirstUnread _ _ _) c.from_residual-in_err-document_text.ensures.1
-    (unread_first told _ _ (c.args.first.now ∷ []) [] (_ ∷ []) name _ refl (c.in_ok-first_text.ensures.ok, tt) rose)
+pub returns-in_err-other-clause-err : goal.returns-in_err-other-clause-err
+returns-in_err-other-clause-err g c =
+    let second = c.in_err-other.ensures.err in
+    err_is c.from_residual-in_err-other.result _ _ c.from_residual-in_err-other.ensures.1
+    (_, happened_both _ _ _ _ _ _ _ _ c.in_ok-one.ensures.ok second.1, unread_later c.args.first.now _ _ _ _ (unread_first c.args.second.now _ second.0 _ second.2))
+
+pub returns-clause-ok : goal.returns-clause-ok
+returns-clause-ok g c =
+    let one = c.in_ok-one.one in
+    let other = c.in_ok-other.other in
+    let both = happened_both _ _ _ _ _ _ _ _ c.in_ok-one.ensures.ok c.in_ok-other.ensures.ok in
+    let names : (c.args.first.now, Ok one.text.items) ∷ (c.args.second.now, Ok other.text.items) ∷ [] ≡ (one.name.now, Ok one.text.items) ∷ (other.name.now, Ok other.text.items) ∷ [] =
+    ap (λ n. (n, Ok one.text.items) ∷ (c.args.second.now, Ok other.text.items) ∷ []) (sym c.in_ok-one.ensures.named)
+    ∙ ap (λ n. (one.name.now, Ok one.text.items) ∷ (n, Ok other.text.items) ∷ []) (sym c.in_ok-other.ensures.named) in
+    subst (Happened _ _ _ _ _) names both

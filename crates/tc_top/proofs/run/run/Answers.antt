@@ -1,21 +1,16 @@
-use Rattle.std.proofs.Common.{subst}
+use Rattle.std.proofs.Common.{refl}
 use Rattle.std.proofs.lemmas.Result.{IfOk-weaker}
-use Rattle.tc_top.specs.Answers as a
-use Rattle.tc_top.specs.Answers.{not_read, over_long, ran}
-use Rattle.tc_top.specs.AnswersSeen.{IsFirstUnread}
+use Rattle.tc_top.specs.Answers.{ran}
+use Rattle.tc_top.specs.Words.{Words, run}
+use Rattle.tc_top.proofs.OperandsRead.{named}
 use Rattle.tc_top.proofs.run.run.Goals as goal
 
 pub returns-in-Ok-clause-ok : goal.returns-in-Ok-clause-ok
 returns-in-Ok-clause-ok g c =
     let read = c.in-Ok.ensures in
-    IfOk-weaker c.run_texts.result _ _ (λ said h words are. (h.0, h.1, ran are read.first read.document h.2)) c.run_texts.ensures
+    IfOk-weaker c.run_texts.result _ _ (λ said h words are. (_, read.ok, h.0, h.1, ran (named (λ x y. Words words (run x y)) read.first read.second are) refl h.2)) c.run_texts.ensures
 
-pub returns-in-Err-Unreadable-clause-ok : goal.returns-in-Err-Unreadable-clause-ok
-returns-in-Err-Unreadable-clause-ok g c =
-    let unread = subst (IsFirstUnread _ _ _) c.in-Err-Unreadable.field-0-is c.in-Err-Unreadable.ensures.err in
-    IfOk-weaker c.cannot_read.result _ _ (λ said says words are. (a.cannot_read c.in-Err-Unreadable.name.now, says, not_read are tt unread.0 unread.1)) c.cannot_read.ensures
-
-pub returns-in-Err-TooLong-clause-ok : goal.returns-in-Err-TooLong-clause-ok
-returns-in-Err-TooLong-clause-ok g c =
-    let unread = subst (IsFirstUnread _ _ _) c.in-Err-TooLong.field-0-is c.in-Err-TooLong.ensures.err in
-    λ words are. (a.file_limit, c.file_limit.ensures, over_long are tt unread.1 unread.2)
+pub returns-in-Err-clause-ok : goal.returns-in-Err-clause-ok
+returns-in-Err-clause-ok g c =
+    let unread = c.in-Err.ensures.err in
+    IfOk-weaker c.answer.result _ _ (λ said right words are. (unread.0, unread.1, right words _ unread.0 are tt unread.2)) c.answer.ensures

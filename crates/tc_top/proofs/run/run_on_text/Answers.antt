@@ -3,8 +3,8 @@ use Rattle.std.proofs.lemmas.Result.{IfOk-weaker}
 use Rattle.tc_model.specs.Views as see
 use Rattle.tc_top.specs.Answers as a
 use Rattle.tc_top.specs.Answers.{source_refused, sheet_and_source}
-use Rattle.tc_top.specs.Refusals.{IsRefusedDocument}
-use Rattle.tc_top.specs.RefusalsSeen.{IsUnaccepted, reason}
+use Rattle.tc_read.specs.Refusals.{IsRefusedDocument}
+use Rattle.tc_read.specs.Faults.{IsUnaccepted}
 use Rattle.tc_top.proofs.run.run_on_text.Goals as goal
 
 pub returns-in-Ok : goal.returns-in-Ok
@@ -12,9 +12,9 @@ returns-in-Ok c = IfOk-weaker c.run_on.result _ _ (λ said h. (h.0, h.1, λ othe
 
 pub returns-in-Err-Refused : goal.returns-in-Err-Refused
 returns-in-Err-Refused c =
-    let refused = subst (IsUnaccepted (IsRefusedDocument c.args.text.now)) c.in-Err-Refused.field-0-is c.in-Err-Refused.ensures.no in
+    let refused = subst (IsUnaccepted (IsRefusedDocument c.args.document.now.text.items)) c.in-Err-Refused.field-0-is c.in-Err-Refused.ensures.no in
     IfOk-weaker c.refused.result _ _ (λ said says. (
-      a.refused c.args.name.now (reason c.in-Err-Refused.reason) (see.place c.in-Err-Refused.place),
+      a.refused c.args.document.now.name.now c.in-Err-Refused.reason (see.place c.in-Err-Refused.place),
       says,
       λ other bytes is. source_refused is refused,
     )) c.refused.ensures

@@ -2,11 +2,13 @@ use Rattle.std.proofs.Common.{◌≤◌, ◌<◌, ◌⊎◌, ◌∙◌, ℕ, Err
 use Rattle.std.proofs.lemmas.Bool.{cases_lt, true≢false}
 use Rattle.std.proofs.lemmas.Result.{IfOk-weaker}
 use Rattle.tc_base.specs.declared.Limit.TheVariants.{States, Symbols}
+use Rattle.tc_base.specs.declared.limits.TheConstants.{MOST_INPUT_STATES, MOST_SYMBOLS}
 use Rattle.tc_model.specs.Views as see
 use Rattle.tc_model.specs.States.{input, state_count}
 use Rattle.tc_top.specs.Answers as a
-use Rattle.tc_top.specs.Answers.{passes, decides_valid, decides_invalid}
-use Rattle.tc_top.specs.Limits.{no_rules, IsWithinLimits, passes_states, passes_symbols}
+use Rattle.tc_top.specs.Answers.{passes, too_many_symbols, decides_valid, decides_invalid}
+use Rattle.tc_top.specs.Limits.{IsWithinLimits, IsValidityWithin, passes_states}
+use Rattle.tc_top.proofs.Nothing.{no_schema, no_rules, schema_alone}
 use Rattle.tc_top.proofs.valid.decide.Goals as goal
 
 -- what isn't over is within
@@ -20,28 +22,28 @@ within m n h = by (cases_lt m n)
 pub returns-in-Err-TooManyStates : goal.returns-in-Err-TooManyStates
 returns-in-Err-TooManyStates c =
     let over = c.in-Err-TooManyStates.ensures.too_many (ap Err c.in-Err-TooManyStates.field-0-is) in
-    IfOk-weaker c.limit.result _ _ (λ said says. (a.over_limit States 512, says, passes (passes_states c.requires.small over))) c.limit.ensures
+    IfOk-weaker c.limit.result _ _ (λ said says. (a.over_limit States MOST_INPUT_STATES, says, passes (passes_states c.requires.small over))) c.limit.ensures
 
 pub returns-in-Err-TooManySymbols : goal.returns-in-Err-TooManySymbols
 returns-in-Err-TooManySymbols c =
-    let states = within 512 (state_count (see.grammar c.args.grammar.now) input) (λ l. let e = c.in-Ok.ensures.told l in absurd (cc)) in
+    let states = within MOST_INPUT_STATES (state_count (see.grammar c.args.grammar.now) input) (λ l. let e = c.in-Ok.ensures.told l in absurd (cc)) in
     let over = c.in-Err-TooManySymbols.ensures.many c.in-Err-TooManySymbols.field-0-is in
-    IfOk-weaker c.limit-in-Err-TooManySymbols.result _ _ (λ said says. (a.over_limit Symbols 1024, says, passes (passes_symbols c.requires.small states over))) c.limit-in-Err-TooManySymbols.ensures
+    IfOk-weaker c.limit-in-Err-TooManySymbols.result _ _ (λ said says. (a.over_limit Symbols MOST_SYMBOLS, says, too_many_symbols (record { counts = c.requires.small; states = states }) over)) c.limit-in-Err-TooManySymbols.ensures
 
 pub returns-then-branch : goal.returns-then-branch
 returns-then-branch c =
     let g = see.grammar c.args.grammar.now in
-    let states = within 512 (state_count g input) (λ l. let e = c.in-Ok.ensures.told l in absurd (cc)) in
-    let small : IsWithinLimits g = record { counts = c.requires.small; states = states; symbols = c.in-Ok-alphabet_of.ensures.few } in
-    let stands = c.in_ok-hedge.ensures.stands input g c.in-Ok.ensures.stands g g no_rules c.in-Ok-alphabet_of.ensures.stands (inl refl) in
+    let states = within MOST_INPUT_STATES (state_count g input) (λ l. let e = c.in-Ok.ensures.told l in absurd (cc)) in
+    let small : IsValidityWithin g = record { schema = record { counts = c.requires.small; states = states }; symbols = c.in-Ok-alphabet_of.ensures.few } in
+    let stands = c.in_ok-hedge.ensures.stands input g c.in-Ok.ensures.stands g no_schema no_rules (c.in-Ok-alphabet_of.ensures.stands ∙ sym (schema_alone g)) (inl refl) in
     let exact = c.in_ok-valid.ensures input g stands.auto c.requires.start in
     (a.is_valid, c.valid-then-branch.ensures, decides_valid small (exact.0 c.if-branch.true))
 
 pub returns : goal.returns
 returns c =
     let g = see.grammar c.args.grammar.now in
-    let states = within 512 (state_count g input) (λ l. let e = c.in-Ok.ensures.told l in absurd (cc)) in
-    let small : IsWithinLimits g = record { counts = c.requires.small; states = states; symbols = c.in-Ok-alphabet_of.ensures.few } in
-    let stands = c.in_ok-hedge.ensures.stands input g c.in-Ok.ensures.stands g g no_rules c.in-Ok-alphabet_of.ensures.stands (inl refl) in
+    let states = within MOST_INPUT_STATES (state_count g input) (λ l. let e = c.in-Ok.ensures.told l in absurd (cc)) in
+    let small : IsValidityWithin g = record { schema = record { counts = c.requires.small; states = states }; symbols = c.in-Ok-alphabet_of.ensures.few } in
+    let stands = c.in_ok-hedge.ensures.stands input g c.in-Ok.ensures.stands g no_schema no_rules (c.in-Ok-alphabet_of.ensures.stands ∙ sym (schema_alone g)) (inl refl) in
     let exact = c.in_ok-valid.ensures input g stands.auto c.requires.start in
     (a.is_invalid, c.invalid.ensures, decides_invalid small (λ v. true≢false (sym (exact.1 v) ∙ c.if-branch.false)))

@@ -6,11 +6,12 @@ use Rattle.tc_model.specs.Views as see
 use Rattle.tc_model.proofs.SimplifiesUnique.{lawful_start}
 use Rattle.tc_top.specs.Answers as a
 use Rattle.tc_top.specs.Answers.{document_refused, both_read, passes}
-use Rattle.tc_top.specs.Refusals.{IsRefusedDocument}
-use Rattle.tc_top.specs.RefusalsSeen.{IsUnaccepted, reason}
-use Rattle.tc_top.specs.SchemasSeen.{IsSchemaOf}
-use Rattle.tc_top.specs.declared.schemas.Schema.{Schema}
-use Rattle.tc_top.specs.declared.schemas.Schema.TheVariants.{Small, TooLarge}
+use Rattle.tc_read.specs.Refusals.{IsRefusedDocument}
+use Rattle.tc_read.specs.Faults.{IsUnaccepted}
+use Rattle.tc_read.specs.Schemas.{IsSchemaOf}
+use Rattle.tc_read.specs.declared.schemas.Schema.{Schema}
+use Rattle.tc_read.specs.declared.schemas.Schema.TheVariants.{Small, TooLarge}
+use Rattle.tc_top.specs.Limits.{passes_size}
 use Rattle.tc_top.proofs.valid.valid_document.Goals as goal
 
 -- the schema has a grammar, whether it is small enough or not
@@ -32,14 +33,14 @@ returns-in-TooLarge c =
     IfOk-weaker c.limit.result _ _ (λ said says. (
       a.over_limit c.in-TooLarge.kind c.in-TooLarge.number,
       says,
-      λ other bytes is. let large = subst (IsSchemaOf bytes) c.in-TooLarge.is is in both_read large.1 c.in-Ok.ensures.ok (passes large.2),
+      λ other bytes is. let large = subst (IsSchemaOf bytes) c.in-TooLarge.is is in both_read large.1 c.in-Ok.ensures.ok (passes (passes_size large.2)),
     )) c.limit.ensures
 
 pub returns-in-Err-Refused : goal.returns-in-Err-Refused
 returns-in-Err-Refused c =
-    let refused = subst (IsUnaccepted (IsRefusedDocument c.args.text.now)) c.in-Err-Refused.field-0-is c.in-Err-Refused.ensures.no in
+    let refused = subst (IsUnaccepted (IsRefusedDocument c.args.document.now.text.items)) c.in-Err-Refused.field-0-is c.in-Err-Refused.ensures.no in
     IfOk-weaker c.refused.result _ _ (λ said says. (
-      a.refused c.args.name.now (reason c.in-Err-Refused.reason) (see.place c.in-Err-Refused.place),
+      a.refused c.args.document.now.name.now c.in-Err-Refused.reason (see.place c.in-Err-Refused.place),
       says,
       λ other bytes is. document_refused (has_grammar bytes c.args.schema.now is).1 refused,
     )) c.refused.ensures

@@ -3,12 +3,12 @@ use Rattle.std.proofs.lemmas.Result.{IfOk-weaker}
 use Rattle.tc_model.specs.Views as see
 use Rattle.tc_top.specs.Answers as a
 use Rattle.tc_top.specs.Answers.{schema_refused}
-use Rattle.tc_top.specs.Refusals.{IsRefusedSchema}
-use Rattle.tc_top.specs.RefusalsSeen.{IsUnaccepted, reason}
+use Rattle.tc_read.specs.Refusals.{IsRefusedSchema}
+use Rattle.tc_read.specs.Faults.{IsUnaccepted}
 use Rattle.tc_top.proofs.valid.valid_texts.Goals as goal
 
 pub returns-in-Err-Refused : goal.returns-in-Err-Refused
 returns-in-Err-Refused c =
     let why = subst (λ w. IsUnaccepted (IsRefusedSchema w) c.in-Err-Refused.field-0) c.deref.ensures.value c.in-Err-Refused.ensures.no in
-    let refused = subst (IsUnaccepted (IsRefusedSchema c.args.texts.now.first.items)) c.in-Err-Refused.field-0-is why in
-    IfOk-weaker c.refused.result _ _ (λ said says. (a.refused c.args.schema.now (reason c.in-Err-Refused.reason) (see.place c.in-Err-Refused.place), says, schema_refused refused)) c.refused.ensures
+    let refused = subst (IsUnaccepted (IsRefusedSchema c.args.schema.now.text.items)) c.in-Err-Refused.field-0-is why in
+    IfOk-weaker c.refused.result _ _ (λ said says. (a.refused c.args.schema.now.name.now c.in-Err-Refused.reason (see.place c.in-Err-Refused.place), says, schema_refused refused)) c.refused.ensures

@@ -1,6 +1,6 @@
 use Rattle.std.proofs.Common.{◌≡◌, ◌++◌, ◌∙◌, ap, subst, append_assoc, arith}
 use Rattle.tc_io.specs.Sink.{WroteFront}
-use Rattle.tc_top.proofs.Fronts.{on_err, appended_twice, next_front, first_front}
+use Rattle.tc_io.proofs.Fronts.{on_err, appended_twice, next_front, first_front}
 use Rattle.tc_top.proofs.write.write_lines.Goals as goal
 
 pub returns-in_err-write_piece-clause-fault : goal.returns-in_err-write_piece-clause-fault

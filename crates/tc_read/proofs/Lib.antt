@@ -1,0 +1,4 @@
+pub mod Exits
+pub mod OtherEntities
+mod TextFaults
+mod RefusedTexts

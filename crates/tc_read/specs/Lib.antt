@@ -1,0 +1,4 @@
+pub mod Faults
+pub mod Refusals
+pub mod Schemas
+pub mod Sheets

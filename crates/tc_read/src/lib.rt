@@ -1,0 +1,12 @@
+//! Reads the texts of operands: documents, schemas and stylesheets, each exactly, or why a text is none.
+#![tactic(auto)]
+
+mod documents;
+mod faults;
+mod schemas;
+mod sheets;
+
+pub use documents::read_document;
+pub use faults::{Reason, TextFault};
+pub use schemas::{Schema, read_schema};
+pub use sheets::read_sheet;

@@ -1,2 +1,0 @@
-pub mod OtherEntities
-pub mod TextFaults
