@@ -1,6 +1,7 @@
 pub mod Views
 pub mod Names
 pub mod Trees
+pub mod Events
 pub mod RawTrees
 pub mod Runs
 pub mod Grammars

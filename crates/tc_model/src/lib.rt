@@ -12,6 +12,7 @@ pub mod normal;
 pub mod paths;
 pub mod sheet;
 pub mod sheet_text;
+pub mod takers;
 pub mod tree;
 pub mod xml;
 
@@ -19,4 +20,5 @@ pub use grammar::{ElemPat, Grammar, NameClass, Pat};
 pub use lists::{CertData, HedgeLine, HedgeLines, Numbers, PairLists, Pairs, TreeLine, TreeLines};
 pub use normal::{is_all_white, normalise};
 pub use sheet::{Alt, Branch, Instr, NodeTest, Path, Pattern, Rule, Sheet, Step, Test};
+pub use takers::TakesTrees;
 pub use tree::{Binding, Name, Node, Raw, RawAttr, RawElem};

@@ -26,14 +26,14 @@ pub fn is_all_white(text: &str) -> bool
 
 /// Adjacent texts as one: none yet, one as it stands, or several that were copied.
 #[derive(Drop)]
-enum Run<'b> {
+pub enum Run<'b> {
     Nothing,
     One(&'b str),
     Many(String<&'b Bump>),
 }
 
 /// A run with one more text.
-fn extended<'b>(arena: &'b Bump, run: Run<'b>, text: &'b str) -> Result<Run<'b>, NoMemory>
+pub fn extended<'b>(arena: &'b Bump, run: Run<'b>, text: &'b str) -> Result<Run<'b>, NoMemory>
     ensures { IfOk result (λ r. run_text r ≡ run_text run.entry ++ text.now) }
 {
     match run {
@@ -51,7 +51,7 @@ fn extended<'b>(arena: &'b Bump, run: Run<'b>, text: &'b str) -> Result<Run<'b>,
 }
 
 /// The text of a run.
-fn text_of<'b>(run: Run<'b>) -> &'b str
+pub fn text_of<'b>(run: Run<'b>) -> &'b str
     ensures { result.now ≡ run_text run.entry }
 {
     match run {

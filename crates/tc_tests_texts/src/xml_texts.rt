@@ -2,7 +2,7 @@ use bumpalo::Bump;
 use std::test::Fail;
 use tc_base::{Place, Why};
 use tc_model::{Node, Raw, RawElem};
-use tc_xml::{XmlFault, read_raw, strip};
+use tc_xml::{XmlFault, read_document, read_raw, strip};
 
 /// Whether the text is read, and how it is refused otherwise.
 fn outcome(rt: &HostRuntime, text: &[u8]) -> Option<XmlFault> {
@@ -297,5 +297,57 @@ fn documents_are_stripped(rt: HostRuntime) -> Result<(), Fail> {
         panic!(rt; "a text");
     };
     assert_eq!(rt; text, "xy ");
+    Ok(())
+}
+
+/// A document as its names, each with what stands in it in parentheses, and its texts in brackets.
+fn written(rt: &HostRuntime, node: &Node<'_>, out: &mut String) -> Result<(), Fail> {
+    match node {
+        Node::Text(text) => out.push_str(format!(in rt.alloc(); "[{}]", text)?.as_str())?,
+        Node::Elem(name, kids) => {
+            out.push_str(format!(in rt.alloc(); "{}|{}(", name.uri, name.local)?.as_str())?;
+            for kid in *kids {
+                written(rt, kid, out)?;
+            }
+            out.push_str(")")?;
+        }
+    }
+    Ok(())
+}
+
+#[test]
+fn documents_are_read(rt: HostRuntime) -> Result<(), Fail> {
+    let rows = [
+        ("<a/>", "|a()"),
+        ("<a> <b/>x<!--c-->y </a>", "|a(|b()[xy ])"),
+        (
+            "<a>\r\nx&amp;\ry<?p?><![CDATA[]]>z&#10;</a>",
+            "|a([\nx&\nyz\n])",
+        ),
+        ("<a c='1'><b d='&lt;'>\t</b></a >", "|a(|b())"),
+        (
+            "<a xmlns='u'><b xmlns=''/><p:c xmlns:p='v'/>t</a>",
+            "u|a(|b()v|c()[t])",
+        ),
+        (
+            "<!DOCTYPE a><!--x--><a><b>1</b><b>2</b></a><?p?>\n",
+            "|a(|b([1])|b([2]))",
+        ),
+    ];
+    for (text, answer) in rows {
+        let arena = Bump::new(rt.alloc());
+        let document = read_document(&arena, text.as_bytes())?;
+        let mut out = String::new(rt.alloc());
+        written(&rt, &document, &mut out)?;
+        assert_eq!(rt; out.as_str(), answer);
+    }
+    let refused = [
+        ("<a>&nbsp;</a>", XmlFault::Unsupported(Place(3), Why::N2)),
+        ("<a><b></a>", XmlFault::Malformed(Place(6))),
+    ];
+    for (text, fault) in refused {
+        let arena = Bump::new(rt.alloc());
+        assert_eq!(rt; read_document(&arena, text.as_bytes()).err(), Some(fault));
+    }
     Ok(())
 }

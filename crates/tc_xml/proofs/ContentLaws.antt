@@ -227,7 +227,7 @@ broken (TooDeep left) P Q R f g h = h
 broken NoMemory P Q R f g h = tt
 
 -- what follows a phrase is no longer than it
-white_within : (bs : List ℕ) → length (after_white bs) ≤ length bs
+pub white_within : (bs : List ℕ) → length (after_white bs) ≤ length bs
 white_within bs = omega (arith, length-drop (prefix_len is_white bs) bs)
 
 name_within : {bs n r : List ℕ} → NcNameAt bs n r → length r ≤ length bs
@@ -265,7 +265,7 @@ attributes_within : {o : Bool} {total : ℕ} {bs r : List ℕ} {l : List Written
 attributes_within {bs = bs} (no_more e) = white_within bs
 attributes_within {bs = bs} (attribute w b e q l) = omega (arith, white_within bs, qname_within b, equals_within e, ap length q.opens, value_within q.closes, attributes_within l)
 
-tag_within : {o : Bool} {total : ℕ} {outer : List Bound} {bs after : List ℕ} {w : QualifiedName} {scope : List Bound} {n : ExpandedName} {e : List Attribute}
+pub tag_within : {o : Bool} {total : ℕ} {outer : List Bound} {bs after : List ℕ} {w : QualifiedName} {scope : List Bound} {n : ExpandedName} {e : List Attribute}
     → TagAt o total outer bs w scope n e after → length after < length bs
 tag_within a = omega (arith, ap length a.opens, qname_within a.names, attributes_within a.lists)
 

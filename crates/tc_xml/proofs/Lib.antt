@@ -15,3 +15,5 @@ pub mod DocumentLaws
 pub mod FaultLaws
 pub mod MalformedLaws
 pub mod StripLaws
+pub mod TakingLaws
+pub mod BuildingLaws

@@ -6,3 +6,5 @@ pub mod Pairs
 pub mod Tags
 pub mod Views
 pub mod Reading
+pub mod Taking
+pub mod Building

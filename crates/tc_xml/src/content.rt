@@ -37,14 +37,14 @@ use tc_scan::{
 
 /// A tag up to where it ends: its name as it is written, what it means, and what follows.
 #[derive(Clone, Copy)]
-struct OpenTag<'b, 't> {
-    written: QualifiedName<'t>,
-    meaning: Meaning<'b>,
-    rest: &'t str,
+pub(crate) struct OpenTag<'b, 't> {
+    pub(crate) written: QualifiedName<'t>,
+    pub(crate) meaning: Meaning<'b>,
+    pub(crate) rest: &'t str,
 }
 
 /// Whether this ASCII byte is at the front.
-fn begins(text: &str, byte: u8) -> bool
+pub(crate) fn begins(text: &str, byte: u8) -> bool
     requires { byte < 128 }
     ensures { MatchBool result ((r : List ℕ) × (text.now ≡ byte ∷ r)) ((r : List ℕ) → text.now ≡ byte ∷ r → ⊥) }
 {
@@ -55,7 +55,7 @@ fn begins(text: &str, byte: u8) -> bool
 }
 
 /// Whether a tag may end here.
-fn ends_tag(text: &str) -> bool
+pub(crate) fn ends_tag(text: &str) -> bool
     ensures { MatchBool result (xml.EndsTag text.now) (xml.EndsTag text.now → ⊥) }
 {
     if begins(text, b'>') {
@@ -145,7 +145,7 @@ fn opens_element(text: &str) -> bool
 
 /// The start tag or empty-element tag at the front, up to where it ends.
 #[inline(never)]
-fn open_tag<'b, 't>(
+pub(crate) fn open_tag<'b, 't>(
     arena: &'b Bump,
     total: usize,
     outer: Scope<'b>,
@@ -335,7 +335,7 @@ fn lacks_bracket(run: &str) -> bool
 }
 
 /// The character data at the front, and what follows it (XML 1.0, 2.4).
-fn character_data(text: &str) -> Option<(&str, &str)>
+pub(crate) fn character_data(text: &str) -> Option<(&str, &str)>
     ensures { MatchOption result
         ((run after : List ℕ) → references.CharacterDataAt text.now run after → ⊥)
         (λ r. references.CharacterDataAt text.now r.0.now r.1.now) }
@@ -385,7 +385,7 @@ fn is_same_name(name: &QualifiedName<'_>, other: &QualifiedName<'_>) -> bool
 
 /// What follows the end tag with this name, where one is at the front.
 #[inline(never)]
-fn after_end_tag<'t>(text: &'t str, name: &QualifiedName<'_>) -> Option<&'t str>
+pub(crate) fn after_end_tag<'t>(text: &'t str, name: &QualifiedName<'_>) -> Option<&'t str>
     ensures { MatchOption result
         ((after : List ℕ) → EndTagAt (written_name name.now) text.now after → ⊥)
         (λ r. EndTagAt (written_name name.now) text.now r.now) }

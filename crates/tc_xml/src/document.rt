@@ -15,10 +15,10 @@ use tc_model::Raw;
 use tc_scan::after_mark;
 
 /// How many elements may stand within one another.
-const DEEPEST: u32 = 2000;
+pub(crate) const DEEPEST: u32 = 2000;
 
 /// What follows a byte order mark, if there is one (XML 1.0, 4.3.3).
-fn past_mark(text: &str) -> &str
+pub(crate) fn past_mark(text: &str) -> &str
     ensures { result.now ≡ xml.after_mark text.now }
 {
     match after_mark(text, "\u{FEFF}") {

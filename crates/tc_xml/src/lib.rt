@@ -10,21 +10,26 @@ ghost use Rattle.tc_model.specs.XmlText.{XmlText};
 ghost use Rattle.tc_model.specs.XmlTextLaws.{AreLawfulWithin};
 ghost use Rattle.tc_xml.specs.Faults.{IsFaultOf};
 
+mod building;
 mod content;
 mod document;
+mod documents;
 mod faults;
 mod misc;
 mod references;
 mod scopes;
 mod stripping;
 mod tags;
+mod taking;
 mod twice;
 
 use bumpalo::Bump;
 use document::document;
+pub use documents::read_document;
 pub use faults::XmlFault;
 use faults::place_of;
 pub use stripping::strip;
+pub use taking::take_document;
 use tc_model::Raw;
 use tc_scan::characters;
 

@@ -1,0 +1,27 @@
+use Rattle.std.proofs.Common.{refl, encode_utf8}
+use Rattle.tc_model.specs.Runs.{run_text}
+use Rattle.tc_model.specs.XmlTextBytes.{line_ends, place_of}
+use Rattle.tc_model.specs.XmlTextContent.{characters}
+use Rattle.tc_xml.proofs.ItemLaws.{reference_item, data_item}
+use Rattle.tc_xml.proofs.TakingLaws.{took_characters}
+use Rattle.tc_xml.proofs.taking.text_item.Goals as goal
+
+pub returns-then-begins : goal.returns-then-begins
+returns-then-begins g c =
+    let text = c.args.text.now in
+    let s = encode_utf8 c.in-Ok.character in
+    let p = place_of c.args.total text in (
+      characters s p,
+      reference_item c.args.total text s c.in-Ok.rest.now p c.in-Ok.ensures.ok refl,
+      took_characters _ c.args.reader.now.taker _ (run_text c.args.reader.now.run) s _ p c.in_ok-add_character.ensures.taker c.in_ok-add_character.ensures.run,
+    )
+
+pub returns : goal.returns
+returns g c =
+    let text = c.args.text.now in
+    let run = c.in_ok-run.run'.now in
+    let p = place_of c.args.total text in (
+      characters (line_ends run) p,
+      data_item c.args.total text run c.in_ok-run.rest.now p c.in_ok-run.ensures refl,
+      took_characters _ c.args.reader.now.taker _ (run_text c.args.reader.now.run) (line_ends run) _ p c.in_ok-add_characters.ensures.taker c.in_ok-add_characters.ensures.run,
+    )
