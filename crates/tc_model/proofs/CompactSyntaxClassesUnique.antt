@@ -219,7 +219,7 @@ prefix_in : Word → List ℕ
 prefix_in (all_of p) = p
 prefix_in _ = []
 
-same_all_of : {w : Word} {p q : List ℕ} → w ≡ all_of p → w ≡ all_of q → p ≡ q
+pub same_all_of : {w : Word} {p q : List ℕ} → w ≡ all_of p → w ≡ all_of q → p ≡ q
 unfolding prefix_in
 same_all_of e f = ap prefix_in (sym e ∙ f)
 

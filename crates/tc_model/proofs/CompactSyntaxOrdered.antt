@@ -83,7 +83,7 @@ literal_shorter : {bs v r : List ℕ} → LiteralAt bs v r → length r < length
 literal_shorter {r = r} a =
     omega (arith, ap length a.opens, ap length a.closes.back, length-drop (length_before (a.quote ∷ []) a.rest) a.rest)
 
-word_shorter : {bs r : List ℕ} {v : Word} → WordAt bs v r → length r < length bs
+pub word_shorter : {bs r : List ℕ} {v : Word} → WordAt bs v r → length r < length bs
 word_shorter (plain_name a e) = name_shorter a
 word_shorter (prefixed_name a b) = omega (arith, name_shorter a, name_shorter b)
 word_shorter (namespace_name a) = omega (arith, name_shorter a)
@@ -199,7 +199,7 @@ schema_order (one_pattern a) low o = and_then (pattern_order a low o) (λ n k. h
 schema_order (definitions a) low o = definitions_order a low o
 schema_order (grammar {t = t} {u = u} {inside = ts} a b m c) low o = and_mark (and_then (and_mark (pass low t (u ∷ ts) o)) (λ n k. definitions_order m n k))
 
-mark_shorter : (bytes : List ℕ) → length (after_mark bytes) ≤ length bytes
+pub mark_shorter : (bytes : List ℕ) → length (after_mark bytes) ≤ length bytes
 mark_shorter bytes = by (begins_with (0xEF ∷ 0xBB ∷ 0xBF ∷ []) bytes)
   where
     by : (x : Bool) → length (cond x (drop 3 bytes) bytes) ≤ length bytes

@@ -11,14 +11,14 @@ use Rattle.tc_model.specs.CompactSyntaxTokens.{Word, a_name, escaped, prefixed, 
 use Rattle.tc_model.proofs.XmlTextPhrases.{same_others, literal_unique, ncname_unique, no_name}
 
 -- what begins with this character: 1 a name, 2 white space, 3 a literal, 4 a comment, 5 a backslash, 6 a mark
-other_kind : ℕ → ℕ
+unfoldable pub other_kind : ℕ → ℕ
 other_kind c = cond (is_white c) 2 (cond (c == 0x22) 3 (cond (c == 0x27) 3 (cond (c == 0x23) 4 (cond (c == 0x5C) 5 6))))
 
-pub kind : ℕ → ℕ
+unfoldable pub kind : ℕ → ℕ
 kind c = cond (is_ncname_start c) 1 (other_kind c)
 
 -- the bytes begin with a character of this kind
-record BeginsAs (k : ℕ) (bs : List ℕ) : Type 0 where
+pub record BeginsAs (k : ℕ) (bs : List ℕ) : Type 0 where
   first : ℕ
   after : List ℕ
   parts : bs ≡ encode_utf8 first ++ after
@@ -27,14 +27,14 @@ record BeginsAs (k : ℕ) (bs : List ℕ) : Type 0 where
 same_kind : {j k : ℕ} {bs : List ℕ} → BeginsAs j bs → BeginsAs k bs → j ≡ k
 same_kind a b = sym a.is ∙ (ap kind (encode_same a.first b.first a.after b.after (sym a.parts ∙ b.parts)).0 ∙ b.is)
 
-nothing_begins : {k : ℕ} → BeginsAs k [] → ⊥
+pub nothing_begins : {k : ℕ} → BeginsAs k [] → ⊥
 nothing_begins a = omega (arith, ap length a.parts, length-append (encode_utf8 a.first) a.after, length-encode a.first, len_utf8_bounds a.first)
 
 start_kind : (c : ℕ) → is_ncname_start c ≡ true → kind c ≡ 1
 unfolding kind
 start_kind c h = ap (λ x. cond x 1 (other_kind c)) h
 
-byte_begins : {k : ℕ} {bs : List ℕ} (b : ℕ) → b < 128 → kind b ≡ k → BeginsAs k (b ∷ bs)
+pub byte_begins : {k : ℕ} {bs : List ℕ} (b : ℕ) → b < 128 → kind b ≡ k → BeginsAs k (b ∷ bs)
 byte_begins {bs = bs} b small e = record { first = b; after = bs; parts = sym (ap (λ w. w ++ bs) (encode_ascii b small)); is = e }
 
 pub white_is : (b : ℕ) → is_white b ≡ true → (b < 128) × (kind b ≡ 2)
@@ -81,7 +81,7 @@ literal_begins {bs} a = by a.is_quote
     by (inr e) = at_byte 0x27 (omega arith) refl (a.opens ∙ ap (λ q. q ∷ a.rest) e)
 
 -- the kind of a word by its rule
-rule : {bs r : List ℕ} {w : Word} → WordAt bs w r → ℕ
+pub rule : {bs r : List ℕ} {w : Word} → WordAt bs w r → ℕ
 rule (plain_name a e) = 1
 rule (prefixed_name a b) = 1
 rule (namespace_name a) = 1
@@ -90,7 +90,7 @@ rule (quoted a e) = 3
 rule (backslash h) = 5
 rule (other e h) = 6
 
-word_begins : {bs r : List ℕ} {w : Word} (a : WordAt bs w r) → BeginsAs (rule a) bs
+pub word_begins : {bs r : List ℕ} {w : Word} (a : WordAt bs w r) → BeginsAs (rule a) bs
 unfolding rule kind other_kind
 word_begins (plain_name a e) = name_begins a
 word_begins (prefixed_name a b) = name_begins a
@@ -100,7 +100,7 @@ word_begins (quoted a e) = literal_begins a
 word_begins (backslash h) = byte_begins 0x5C (omega arith) refl
 word_begins (other {c = c} {after = r} e h) = record { first = c; after = r; parts = e; is = mark_is c h }
 
-no_word : {k : ℕ} {bs r : List ℕ} {w : Word} → (k ≡ 2) ⊎ (k ≡ 4) → BeginsAs k bs → WordAt bs w r → ⊥
+pub no_word : {k : ℕ} {bs r : List ℕ} {w : Word} → (k ≡ 2) ⊎ (k ≡ 4) → BeginsAs k bs → WordAt bs w r → ⊥
 unfolding rule
 no_word {k} is b a = by a (same_kind b (word_begins a)) is
   where

@@ -36,10 +36,10 @@ lacks_connector h e k = some_none k (sym (ap connector_at e) ∙ h)
 pub lacks_suffix : {t : Token} {c : Suffix} {ts rest : List Token} → suffix_at ts ≡ None → ts ≡ t ∷ rest → suffix_of t.word ≡ Some c → ⊥
 lacks_suffix h e k = some_none k (sym (ap suffix_at e) ∙ h)
 
-same_connector : {t u : Token} {c k : Connector} {ts us : List Token} → t ∷ ts ≡ u ∷ us → connector_of t.word ≡ Some c → connector_of u.word ≡ Some k → c ≡ k
+pub same_connector : {t u : Token} {c k : Connector} {ts us : List Token} → t ∷ ts ≡ u ∷ us → connector_of t.word ≡ Some c → connector_of u.word ≡ Some k → c ≡ k
 same_connector e a b = same_some (sym (ap (λ z. connector_of z.word) (same_head e)) ∙ a) b
 
-same_suffix : {t u : Token} {c k : Suffix} {ts us : List Token} → t ∷ ts ≡ u ∷ us → suffix_of t.word ≡ Some c → suffix_of u.word ≡ Some k → c ≡ k
+pub same_suffix : {t u : Token} {c k : Suffix} {ts us : List Token} → t ∷ ts ≡ u ∷ us → suffix_of t.word ≡ Some c → suffix_of u.word ≡ Some k → c ≡ k
 same_suffix e a b = same_some (sym (ap (λ z. suffix_of z.word) (same_head e)) ∙ a) b
 
 -- the kind of a primary by its rule
@@ -212,7 +212,7 @@ mutual
       let rest = definitions_unique m (subst (λ z. DefinitionsAt o scope d' z ys s) (sym both.1) n) in
       (ap (λ z. z ++ xs) both.0 ∙ ap (λ z. us ++ z) rest.0, rest.1)
 
-item_kind : {o : Bool} {scope : List Bound} {d : ℕ} {ts r : List Token} {p : SyntaxPattern} → ItemAt o scope d ts p r → (1 ≤ kind_at ts) × (kind_at ts ≤ 9)
+pub item_kind : {o : Bool} {scope : List Bound} {d : ℕ} {ts r : List Token} {p : SyntaxPattern} → ItemAt o scope d ts p r → (1 ≤ kind_at ts) × (kind_at ts ≤ 9)
 item_kind (bare a h) = (omega (arith, primary_kind a, (rule_bounds a).0), omega (arith, primary_kind a, (rule_bounds a).1))
 item_kind (with_suffix a h) = (omega (arith, primary_kind a, (rule_bounds a).0), omega (arith, primary_kind a, (rule_bounds a).1))
 
@@ -220,7 +220,7 @@ pub pattern_kind : {o : Bool} {scope : List Bound} {d : ℕ} {ts r : List Token}
 pattern_kind (alone a h) = item_kind a
 pattern_kind (several a e m) = item_kind a
 
-items_kind : {o : Bool} {scope : List Bound} {c : Connector} {d : ℕ} {ts r : List Token} {ps : SyntaxPatterns} → ItemsAt o scope c d ts ps r → (1 ≤ kind_at ts) × (kind_at ts ≤ 9)
+pub items_kind : {o : Bool} {scope : List Bound} {c : Connector} {d : ℕ} {ts r : List Token} {ps : SyntaxPatterns} → ItemsAt o scope c d ts ps r → (1 ≤ kind_at ts) × (kind_at ts ≤ 9)
 items_kind (last a h) = item_kind a
 items_kind (and_more a e m) = item_kind a
 
@@ -247,7 +247,7 @@ no_items {o} {scope} {c} {d} {s = s} {ps = ps} (bar_equals e f g) is k m =
 no_items {o} {scope} {c} {d} {s = s} {ps = ps} (ampersand_equals e f g) is k m =
     omega (arith, equals_kind f, (items_kind (subst (λ z. ItemsAt o scope c d z ps s) (sym (same_tail is)) m)).1)
 
-no_operator_at_end : {r : List Token} {j : Joins} → OperatorAt [] j r → ⊥
+pub no_operator_at_end : {r : List Token} {j : Joins} → OperatorAt [] j r → ⊥
 unfolding operator_mark mark_at
 no_operator_at_end a = by a (operator_is a)
   where

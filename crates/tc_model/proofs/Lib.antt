@@ -35,10 +35,17 @@ pub mod StatesParts
 pub mod CompactSyntaxTokensUnique
 pub mod CompactSyntaxClassesUnique
 pub mod CompactSyntaxUnique
+pub mod CompactSyntaxBehind
+pub mod CompactSyntaxUnread
+pub mod CompactSyntaxStopsExclude
+pub mod CompactSyntaxStopsSchemas
+pub mod CompactSyntaxStopsUnique
+pub mod CompactSyntaxStopsWithin
 pub mod SimplifiesUnique
 pub mod SimplifiesFaults
 pub mod CompactSyntaxTokensLawful
 pub mod CompactSyntaxOrdered
+pub mod CompactSyntaxRefused
 pub mod CompactSyntaxLawful
 pub mod SimplifiesLawful
 pub mod BodiesInTurn

@@ -41,7 +41,10 @@ pub mod CompactSyntaxTokens
 pub mod CompactSyntaxNames
 pub mod CompactSyntaxPatterns
 pub mod CompactSyntax
+pub mod CompactSyntaxUnread
+pub mod CompactSyntaxStops
 pub mod CompactSyntaxRefused
+pub mod CompactSyntaxRefusedLaws
 pub mod SimplifiesParts
 pub mod SimplifiesFaults
 pub mod Simplifies

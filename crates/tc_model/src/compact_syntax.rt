@@ -1,4 +1,5 @@
 // Laws of schemas in RELAX NG's compact syntax (ISO/IEC 19757-2, Annex C).
+ghost use Rattle.tc_model.specs.CompactSyntaxRefusedLaws.{HasOneRefusal, HasNoSyntax, IsMalformedWithin};
 ghost use Rattle.tc_model.specs.SimplifiesLaws.{HasOneSyntax, HasLawfulSyntax, HasOneGrammar, HasOneRncText, HasOneFault, HasNoGrammar, HasLawfulStart, HasLawfulGrammar};
 
 /// Laws of syntax trees. A text has at most one; its names and namespace names are lawful, none of its
@@ -18,4 +19,14 @@ pub fn law_of_grammars()
     ensures no_grammar { HasNoGrammar }
     ensures lawful_start { HasLawfulStart }
     ensures lawful_grammar { HasLawfulGrammar }
+{}
+
+/// Laws of texts that are refused as schemas. A text has at most one refusal, of one reason and at one place. What is
+/// malformed has no syntax tree, however deep its braces and parentheses stand, and not with data either; what isn't
+/// supported has none without data; what is too deep has none that is as deep as may be. What is malformed is so
+/// within the text.
+pub fn law_of_refusals()
+    ensures one { HasOneRefusal }
+    ensures no_syntax { HasNoSyntax }
+    ensures within { IsMalformedWithin }
 {}

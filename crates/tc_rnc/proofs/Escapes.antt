@@ -3,7 +3,7 @@ use Rattle.std.proofs.Common.{◌≡◌, ◌≢◌, ◌⊎◌, inl, inr, ℕ, �
 use Rattle.std.proofs.lemmas.Bool.Decides.{eqb_tells}
 use Rattle.tc_model.specs.XmlTextBytes.{begins_with, length_before, Lacks, UpTo}
 use Rattle.tc_model.specs.CompactSyntaxTokens.{Token}
-use Rattle.tc_model.specs.CompactSyntaxRefused.{EscapeAt, in_text, in_literal, in_triple, NoEscape}
+use Rattle.tc_model.specs.CompactSyntaxUnread.{EscapeAt, in_text, in_literal, in_triple, NoEscape}
 use Rattle.tc_scan.proofs.FrontLaws.{stands_at, found}
 use Rattle.tc_rnc.specs.Escapes.{HasEscape, LacksEscape, IsEscapeText, IsTripleWith, IsTriple}
 

@@ -1,22 +1,23 @@
--- The tokens of a text, one after the other.
-use Rattle.std.proofs.Common.{not, ◌≡◌, ℕ, ◌+◌, ◌-◌, ◌<◌, ◌≤◌, Bool, true, false, List, [], ◌∷◌, ◌++◌, refl, ap, ◌∙◌, sym, subst, length, arith, append_assoc, append-nil, length-append, length-take, length-drop, IsTrue}
-use Rattle.std.specs.Prelude.{encode_utf8, encode_utf8_all, IfSome, MatchBool}
-use Rattle.std.proofs.lemmas.Bool.{and_parts}
-use Rattle.std.specs.List.{prefix_len, list_all}
-use Rattle.std.proofs.lemmas.Str.{length-encode, len_utf8_bounds}
-use Rattle.tc_base.specs.Characters.{is_char}
-use Rattle.tc_model.specs.Names.{IsChars}
-use Rattle.tc_model.proofs.XmlTextChars.{behind_chars}
+-- What is read of a text as tokens.
+use Rattle.std.proofs.Common.{not, cond, ◌&&◌, ◌||◌, ◌==◌, ◌≡◌, ◌≢◌, ◌⊎◌, inl, inr, ℕ, ◌+◌, ◌-◌, ◌<◌, ◌≤◌, Bool, true, false, List, [], ◌∷◌, ◌++◌, refl, ap, ◌∙◌, sym, subst, length, arith, append-nil, length-append, length-take, length-drop, IsTrue, Option, None, Some, MatchOption}
+use Rattle.std.specs.Prelude.{encode_utf8, MatchBool}
+use Rattle.std.specs.Option.{option_map}
+use Rattle.std.proofs.lemmas.Bool.{eqb-true}
+use Rattle.std.proofs.lemmas.Bool.Decides.{eqb_tells}
+use Rattle.tc_base.specs.declared.Place.{Place}
+use Rattle.tc_model.specs.Views as view
 use Rattle.tc_model.specs.XmlText.{after_mark}
-use Rattle.tc_model.specs.XmlTextBytes.{place_of, length_before, LiteralAt}
+use Rattle.tc_model.specs.XmlTextBytes.{FrontOf, place_of, length_before, Lacks, LiteralAt, IsQuote}
 use Rattle.tc_model.specs.XmlTextNames.{NcNameAt}
 use Rattle.tc_model.specs.CompactSyntaxTokens as m
-use Rattle.tc_model.specs.CompactSyntaxTokens.{Word, a_name, escaped, prefixed, all_of, literal, mark, Token, EscapedAt, WordAt, plain_name, prefixed_name, namespace_name, escaped_name, quoted, backslash, other, TokensAt}
-use Rattle.tc_model.specs.CompactSyntaxRefused.{FrontOf, line, TokensUpTo, so_far, white, comment, token, UnclosedEscape}
-use Rattle.tc_model.proofs.CompactSyntaxTokensUnique.{behind_white, behind_comment, behind_word}
+use Rattle.tc_model.specs.CompactSyntaxTokens.{Word, a_name, escaped, prefixed, all_of, literal, mark, Token, WordAt, plain_name, prefixed_name, namespace_name, escaped_name, quoted, backslash, other, TokensAt}
+use Rattle.tc_model.specs.CompactSyntaxUnread.{escape_mark}
+use Rattle.tc_model.specs.CompactSyntaxUnread as u
+use Rattle.tc_model.specs.CompactSyntaxRefused.{line, is_quote, unclosed_escape, TokensUpTo, so_far, white, comment, token, BeginsNoSpace}
+use Rattle.tc_model.proofs.CompactSyntaxOrdered.{word_shorter}
 use Rattle.tc_rnc.specs.Extents.{extent}
 use Rattle.tc_rnc.specs.Fronts as f
-use Rattle.tc_rnc.specs.Fronts.{Skips, BeginsNoSpace}
+use Rattle.tc_rnc.specs.Fronts.{Skips}
 use Rattle.tc_rnc.specs.Lexed.{ReadsTokens, ReadsAllTokens, IsWhole, Lexed}
 use Rattle.tc_rnc.specs.declared.tokens.End.{End}
 use Rattle.tc_rnc.specs.Views as seen
@@ -40,11 +41,6 @@ pub skips_up_to : {total : ℕ} {xs ys : List ℕ} → Skips xs ys → TokensUpT
 skips_up_to f.nothing = so_far
 skips_up_to (f.white h a) = white h (skips_up_to a)
 skips_up_to (f.comment a) = comment (skips_up_to a)
-
-pub behind_space : {total : ℕ} {xs ys : List ℕ} {ts : List Token} → Skips xs ys → TokensAt total xs ts → TokensAt total ys ts
-behind_space f.nothing a = a
-behind_space (f.white h k) a = behind_space k (behind_white h a)
-behind_space (f.comment k) a = behind_space k (behind_comment a)
 
 pub skips_within : {xs ys : List ℕ} → Skips xs ys → length ys ≤ length xs
 skips_within f.nothing = omega arith
@@ -86,27 +82,8 @@ word_takes (other {c = c} {after = r} e h) = omega (arith, ap length e, length-a
 pub token_fits : (w : code.Word) {bs r : List ℕ} (total place : ℕ) → WordAt bs (seen.word w) r → length bs ≤ total → place ≡ total - length bs → place + extent w ≤ total
 token_fits w total place a l e = omega (arith, e, l, same_extent w, word_takes a)
 
-name_some : {bs n r : List ℕ} → NcNameAt bs n r → length r < length bs
-name_some {n = n} {r = r} a =
-    let (c, cs, is, s, k) = a.lawful in
-    omega (arith, ap length a.parts, length-append n r, ap length is, length-append (encode_utf8 c) (encode_utf8_all cs), length-encode c, len_utf8_bounds c)
-
-pub word_shorter : {bs r : List ℕ} {w : Word} → WordAt bs w r → length r < length bs
-word_shorter (plain_name a e) = name_some a
-word_shorter (prefixed_name a b) = omega (arith, name_some a, name_some b)
-word_shorter (namespace_name a) = omega (arith, name_some a)
-word_shorter (escaped_name a) = omega (arith, name_some a.names, ap length a.opens)
-word_shorter (quoted a h) = omega (arith, literal_takes a)
-word_shorter (backslash h) = omega arith
-word_shorter (other {c = c} {after = r} e h) = omega (arith, ap length e, length-append (encode_utf8 c) r, length-encode c, len_utf8_bounds c)
-
 pub none_yet_read : (total : ℕ) (text rest : List ℕ) → length text ≤ total → Skips text rest → BeginsNoSpace rest → ReadsTokens total text [] rest
-none_yet_read total text rest l s b = record {
-  words = skips_up_to s;
-  only = λ all a. record { others = all; parts = refl; behind = behind_space s a };
-  begins = b;
-  within = omega (arith, l, skips_within s);
-}
+none_yet_read total text rest l s b = record { words = skips_up_to s; begins = b; within = omega (arith, l, skips_within s) }
 
 pub one_more_read : (total : ℕ) (text rest after next : List ℕ) (tokens : List Token) (t : Token) → ReadsTokens total text tokens rest → WordAt rest t.word after
     → t.place ≡ place_of total rest → Skips after next → BeginsNoSpace next → ReadsTokens total text (tokens ++ t ∷ []) next
@@ -115,69 +92,92 @@ one_more_read total text rest after next tokens t k w e s b =
     let same : one ≡ t = ap (λ (p : ℕ). (let z : Token = record { word = t.word; place = p } in z)) (sym e) in
     record {
       words = up_to_up_to k.words (subst (λ z. TokensUpTo total rest (z ∷ []) next) same (token w (skips_up_to s)));
-      only = λ all a.
-          let g = k.only all a in
-          let h = behind_word w g.behind in
-          record {
-            others = h.others;
-            parts = g.parts ∙ (ap (λ z. tokens ++ z) (h.parts ∙ ap (λ z. z ∷ h.others) same) ∙ sym (append_assoc tokens (t ∷ []) h.others));
-            behind = behind_space s h.rest;
-          };
       begins = b;
       within = omega (arith, k.within, word_shorter w, skips_within s);
     }
 
-no_others : (after : List ℕ) → IsChars after → ((c : ℕ) (r : List ℕ) → after ≡ encode_utf8 c ++ r → IsTrue (is_char c) → ⊥) → after ≡ []
-no_others after ([], e, h) k = sym e
-no_others after (c ∷ cs, e, h) k = absurd (k c (encode_utf8_all cs) (sym e) (and_parts (is_char c) (list_all is_char cs) h).0)
-
--- bytes of characters are their own front
-all_front : (bytes front : List ℕ) → FrontOf bytes front → IsChars bytes → front ≡ bytes
-all_front bytes front f h =
-    let none = no_others f.after (behind_chars front f.after f.characters (subst IsChars f.parts h)) f.longest in
-    sym (f.parts ∙ (ap (λ w. front ++ w) none ∙ append-nil front))
-
-same_length_front : (bytes front : List ℕ) → FrontOf bytes front → length front ≡ length bytes → front ≡ bytes
+pub same_length_front : (bytes front : List ℕ) → FrontOf bytes front → length front ≡ length bytes → front ≡ bytes
 same_length_front bytes front f e = sym (f.parts ∙ (ap (λ w. front ++ w) (none f.after (omega (arith, ap length f.parts, length-append front f.after, e))) ∙ append-nil front))
   where
     none : (xs : List ℕ) → length xs ≡ 0 → xs ≡ []
     none [] e = refl
     none (x ∷ xs) e = absurd (omega (arith, e))
 
--- where something stands that begins with no token, the tokens don't go on
-no_more : {total : ℕ} {rest : List ℕ} {ts : List Token} → (rest ≡ [] → ⊥) → BeginsNoSpace rest → ((w : Word) (r : List ℕ) → WordAt rest w r → ⊥) → TokensAt total rest ts → ⊥
-no_more h b k m.at_end = h refl
-no_more h b k (m.white {b = c} {rest = r} w a) = b.no_white c r refl w
-no_more h b k (m.comment {rest = r} a) = b.no_comment r refl
-no_more h b k (m.token {rest = r} {word = w} a l) = k w r a
+abbrev end_of : ℕ → Option ℕ → u.End
+end_of p a = record { place = p; escape = a }
 
-pub lexed : (bytes front start rest : List ℕ) (tokens : List Token) (end : End) (whole : Bool) → FrontOf bytes front → start ≡ after_mark front
-    → ReadsAllTokens (length front) start tokens rest → end.place.0 ≤ length bytes → IfSome end.escape (λ p. UnclosedEscape (length front) rest p.0)
+eqb_same : {m n : ℕ} → m ≡ n → (m == n) ≡ true
+eqb_same {m} {n} e = by (eqb_tells m n)
+  where
+    by : (((m == n) ≡ true) × (m ≡ n)) ⊎ (((m == n) ≡ false) × (m ≢ n)) → (m == n) ≡ true
+    by (inl h) = h.0
+    by (inr h) = absurd (h.1 e)
+
+eqb_other : {m n : ℕ} → m < n → (m == n) ≡ false
+eqb_other {m} {n} l = by (eqb_tells m n)
+  where
+    by : (((m == n) ≡ true) × (m ≡ n)) ⊎ (((m == n) ≡ false) × (m ≢ n)) → (m == n) ≡ false
+    by (inl h) = absurd (omega (arith, h.1, l))
+    by (inr h) = h.0
+
+-- where tokens end
+end_is : (total : ℕ) (rest l : List ℕ) (place : Place) (escape : Option Place) → l ≡ line rest → place.0 ≡ total - length rest + length l → MatchOption escape (unclosed_escape total rest ≡ None) (λ p. unclosed_escape total rest ≡ Some p.0)
+    → option_map view.place escape ≡ unclosed_escape total rest
+end_is total rest l place None is e h = sym h
+end_is total rest l place (Some p) is e h = sym h
+
+pub lexed : (bytes front start rest l : List ℕ) (tokens : List Token) (end : End) (whole : Bool) → FrontOf bytes front → start ≡ after_mark front
+    → ReadsAllTokens (length front) start tokens rest → l ≡ line rest → end.place.0 ≡ length front - length rest + length l
+    → MatchOption end.escape (unclosed_escape (length front) rest ≡ None) (λ p. unclosed_escape (length front) rest ≡ Some p.0)
     → MatchBool whole (IsWhole rest front bytes) (IsWhole rest front bytes → ⊥) → Lexed bytes tokens end whole
-lexed bytes front start rest tokens end whole f e r l x w = record {
+lexed bytes front start rest l tokens end whole f e r is at x w = record {
   front = front;
   rest = rest;
-  is_front = f;
-  words = subst (λ z. TokensUpTo (length front) z tokens rest) e r.reads.words;
-  ends = r.ends;
-  place = l;
-  escape = x;
-  is_whole = by whole w;
+  are_tokens = record { is_front = f; words = subst (λ z. TokensUpTo (length front) z tokens rest) e r.reads.words; no_space = r.reads.begins; no_word = r.ends };
+  is_end = full (at ∙ ap (λ z. place_of (length front) rest + length z) is) (end_is (length front) rest l end.place end.escape is at x);
+  is_whole = w;
 }
   where
-    at_bytes : {ts : List Token} → front ≡ bytes → TokensAt (length front) (after_mark front) ts → TokensAt (length bytes) (after_mark bytes) ts
-    at_bytes {ts} g a = subst (λ z. TokensAt (length z) (after_mark z) ts) g a
+    full : {p q : ℕ} {a b : Option ℕ} → p ≡ q → a ≡ b → end_of p a ≡ end_of q b
+    full {q = q} {a = a} e g = ap (λ z. end_of z a) e ∙ ap (end_of q) g
 
-    by : (whole : Bool) → MatchBool whole (IsWhole rest front bytes) (IsWhole rest front bytes → ⊥)
-        → MatchBool whole (IsChars bytes × TokensAt (length bytes) (after_mark bytes) tokens) (IsChars bytes → (all : List Token) → TokensAt (length bytes) (after_mark bytes) all → ⊥)
-    by true h =
-        let g = same_length_front bytes front f h.1 in
-        (subst IsChars g f.characters, at_bytes g (subst (λ z. TokensAt (length front) z tokens) e (up_to_end h.0 r.reads.words)))
-    by false h = λ chars all a.
-        let g = all_front bytes front f chars in
-        let back : TokensAt (length front) start all = subst (λ z. TokensAt (length front) z all) (sym e) (subst (λ z. TokensAt (length z) (after_mark z) all) (sym g) a) in
-        no_more (λ i. h (i, ap length g)) r.reads.begins r.ends (r.reads.only all back).behind
+no_marks : (quote : ℕ) → (IsQuote quote → ⊥) → is_quote quote ≡ false
+no_marks quote h = by (quote == 0x22) refl (quote == 0x27) refl
+  where
+    by : (a : Bool) → (quote == 0x22) ≡ a → (b : Bool) → (quote == 0x27) ≡ b → (a || b) ≡ false
+    by true e b f = absurd (h (inl (eqb-true quote 0x22 e)))
+    by false e true f = absurd (h (inr (eqb-true quote 0x27 f)))
+    by false e false f = refl
 
-pub place_within : (bytes front rest l : List ℕ) → FrontOf bytes front → length rest ≤ length front → l ≡ line rest → length front - length rest + length l ≤ length bytes
-place_within bytes front rest l f h e =
-    omega (arith, h, ap length f.parts, length-append front f.after, ap length e, length-take (prefix_len (λ b. not (m.is_line_end b)) rest) rest)
+pub no_quote : (total : ℕ) (text : List ℕ) → ((quote : ℕ) (rest : List ℕ) → IsQuote quote → text ≡ quote ∷ rest → ⊥) → unclosed_escape total text ≡ None
+no_quote total [] h = refl
+no_quote total (quote ∷ rest) h =
+    ap (λ x. cond (x && not (length_before escape_mark (line rest) == length (line rest))) (Some (place_of total rest + length_before escape_mark (line rest))) None) (no_marks quote (λ q. h quote rest q refl))
+
+a_mark : (quote : ℕ) → IsQuote quote → is_quote quote ≡ true
+a_mark quote (inl e) = ap is_quote e
+a_mark quote (inr e) = ap is_quote e
+
+pub lacks_escape : (total : ℕ) (text inside l : List ℕ) → (quote : ℕ) × (IsQuote quote × (text ≡ quote ∷ inside)) → l ≡ line inside → Lacks escape_mark l → unclosed_escape total text ≡ None
+lacks_escape total text inside l (quote, (q, e)) is h =
+    ap (unclosed_escape total) e ∙ by (length_before escape_mark (line inside) == length (line inside)) (eqb_same (subst (λ z. length_before escape_mark z ≡ length z) is h))
+  where
+    by : (x : Bool) → x ≡ true → cond (is_quote quote && not x) (Some (place_of total inside + length_before escape_mark (line inside))) None ≡ None
+    by x e = ap (λ z. cond (is_quote quote && not z) (Some (place_of total inside + length_before escape_mark (line inside))) None) e ∙ none (is_quote quote)
+      where
+        none : (z : Bool) → cond (z && false) (Some (place_of total inside + length_before escape_mark (line inside))) None ≡ None
+        none true = refl
+        none false = refl
+
+pub has_escape : (total : ℕ) (text inside l : List ℕ) (n p : ℕ) → (quote : ℕ) × (IsQuote quote × (text ≡ quote ∷ inside)) → l ≡ line inside → (n ≡ length_before escape_mark l) × (n < length l) → p ≡ place_of total inside + n
+    → unclosed_escape total text ≡ Some p
+has_escape total text inside l n p (quote, (q, e)) is h at =
+    ap (unclosed_escape total) e
+    ∙ (ap (λ z. cond (z && not (length_before escape_mark (line inside) == length (line inside))) (Some (place_of total inside + length_before escape_mark (line inside))) None) (a_mark quote q)
+    ∙ (ap (λ z. cond (not z) (Some (place_of total inside + length_before escape_mark (line inside))) None) (eqb_other less) ∙ ap Some there))
+  where
+    less : length_before escape_mark (line inside) < length (line inside)
+    less = subst (λ z. length_before escape_mark z < length z) is (omega (arith, h.0, h.1))
+
+    there : place_of total inside + length_before escape_mark (line inside) ≡ p
+    there = ap (λ z. place_of total inside + length_before escape_mark z) (sym is) ∙ (ap (λ z. place_of total inside + z) (sym h.0) ∙ sym at)

@@ -1,5 +1,4 @@
 pub mod Views
-pub mod Refusals
 pub mod FrontLaws
 pub mod WordLaws
 pub mod LexLaws

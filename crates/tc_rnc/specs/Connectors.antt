@@ -1,11 +1,8 @@
 -- What contracts see of connectors, suffixes and of what begins a primary.
-use Rattle.std.specs.Prelude.{◌≡◌, List, None, Some, codes}
+use Rattle.std.specs.Prelude.{◌≡◌, List, [], ◌∷◌, None, Some, codes}
 use Rattle.tc_model.specs.CompactSyntaxTokens.{Word, a_name, mark, Token}
 use Rattle.tc_model.specs.CompactSyntaxNames.{identifier}
 use Rattle.tc_model.specs.CompactSyntaxPatterns as p
-use Rattle.tc_rnc.specs.Refusals.{LacksDatum}
-use Rattle.tc_rnc.specs.declared.faults.RncFault.{RncFault}
-use Rattle.tc_rnc.specs.declared.faults.RncFault.TheVariants.{Unsupported}
 use Rattle.tc_rnc.specs.declared.patterns.Connector.{Connector}
 use Rattle.tc_rnc.specs.declared.patterns.Connector.TheVariants as connectors
 use Rattle.tc_rnc.specs.declared.patterns.Suffix.{Suffix}
@@ -46,7 +43,7 @@ BeginsPrimary begins.Parenthesis w = w ≡ mark 0x28
 BeginsPrimary (begins.Reference n) w = identifier w ≡ Some n.now
 BeginsPrimary begins.Other w = BeginsNone w
 
--- data are first only where the fault is that they aren't read
-abbrev pub OnlyData : RncFault → List Token → Type 0
-OnlyData (Unsupported p why) tokens = Unit {0}
-OnlyData _ tokens = LacksDatum tokens
+-- no primary that is read begins here
+abbrev pub BeginsNoneRead : List Token → Type 0
+BeginsNoneRead [] = Unit {0}
+BeginsNoneRead (t ∷ tokens) = BeginsNone t.word

@@ -3,7 +3,7 @@ use Rattle.std.specs.Prelude.{◌≡◌, ℕ, ◌+◌, ◌<◌, List, [], ◌∷
 use Rattle.tc_model.specs.XmlTextBytes.{length_before, Lacks}
 use Rattle.tc_model.specs.CompactSyntaxTokens.{literal, Token}
 use Rattle.tc_model.specs.CompactSyntaxNames.{IsWord, IsMark}
-use Rattle.tc_model.specs.CompactSyntaxRefused.{escape_mark}
+use Rattle.tc_model.specs.CompactSyntaxUnread.{escape_mark}
 
 -- a literal that holds the escape of a character, which begins at this place
 pub record HasEscape (t : Token) (place : ℕ) : Type 0 where
@@ -38,9 +38,6 @@ pub record IsTripleWith (u t : Token) (ts : List Token) : Type 0 where
 
 abbrev pub IsTriple : Token → List Token → Type 0
 IsTriple t ts = (u : Token) × IsTripleWith u t ts
-
-abbrev pub IsLiteral : Token → Type 0
-IsLiteral t = (value : List ℕ) × (t.word ≡ literal value)
 
 -- `>>` without anything between
 pub record IsTwoSigns (t : Token) (ts : List Token) : Type 0 where

@@ -11,3 +11,4 @@ pub mod Scopes
 pub mod Connectors
 pub mod Answers
 pub mod Schemas
+pub mod Stops

@@ -3,6 +3,9 @@ use Rattle.std.specs.Prelude.{List, [], ◌∷◌, map}
 use Rattle.tc_model.specs.Views.{name, place}
 use Rattle.tc_model.specs.CompactSyntaxTokens as m
 use Rattle.tc_model.specs.CompactSyntaxTrees as t
+use Rattle.std.specs.Option.{option_map}
+use Rattle.tc_model.specs.CompactSyntaxUnread as u
+use Rattle.tc_rnc.specs.declared.tokens.End.{End}
 use Rattle.tc_rnc.specs.declared.tokens.Word.{Word}
 use Rattle.tc_rnc.specs.declared.tokens.Word.TheVariants as words
 use Rattle.tc_rnc.specs.declared.tokens.Token.{Token}
@@ -85,3 +88,6 @@ definition d = record { name = d.name.now; joins = joins d.joins; body = pattern
 
 abbrev pub syntax : Syntax → t.Syntax
 syntax s = record { definitions = map definition s.defs.now; end = place s.end }
+
+abbrev pub end : End → u.End
+end e = record { place = place e.place; escape = option_map place e.escape }

@@ -5,66 +5,22 @@ ghost use Rattle.tc_model.specs.CompactSyntaxTokens as model;
 ghost use Rattle.tc_model.specs.CompactSyntaxTrees as trees;
 ghost use Rattle.tc_model.specs.Views.{name};
 ghost use Rattle.tc_model.specs.XmlTextScopes as xml;
+ghost use Rattle.tc_model.specs.CompactSyntaxStops as stops;
 ghost use Rattle.tc_rnc.specs.Readings as reading;
 ghost use Rattle.tc_rnc.specs.Refusals.{Refuses};
+ghost use Rattle.tc_rnc.specs.Stops as parts;
 ghost use Rattle.tc_rnc.specs.Scopes.{scope_of};
 ghost use Rattle.tc_rnc.specs.Views as seen;
 ghost use Rattle.tc_rnc.specs.declared.faults.RncFault.TheVariants.{NoMemory};
 
 use crate::faults::{RncFault, first_of, unexpected};
 use crate::marks::{after_mark, expect_mark};
+use crate::parser::Parser;
 use crate::scopes::Scope;
 use crate::syntax::SClass;
-use crate::tokens::{End, Token, Word};
-use bumpalo::Bump;
+use crate::tokens::{Token, Word};
 use bumpalo::collections::into_bump_slice;
 use tc_model::Name;
-
-/// A name class, and what follows it; parentheses may stand so deep.
-#[cycle(class)]
-pub fn class<'b, 's, 't>(
-    arena: &'b Bump,
-    scope: &Scope<'b>,
-    tokens: &'s [Token<'t>],
-    end: End,
-    deepest: u32,
-) -> Result<(SClass<'b>, &'s [Token<'t>]), RncFault>
-    ensures ok { IfOk result (λ r. names.ClassAt (scope_of scope.now) deepest (seen.tokens tokens.now) (seen.class r.0) (seen.tokens r.1.now)) }
-    ensures no { IfErr result (λ e. Refuses e end deepest (seen.tokens tokens.now) (λ o d. reading.HasClass (scope_of scope.now) (seen.tokens tokens.now) o d → ⊥)) }
-{
-    let (first, rest) = simple(arena, scope, tokens, end, deepest)?;
-    let Some(behind) = after_mark(rest, '|') else {
-        return Ok((first, rest));
-    };
-    let (all, after) = classes(arena, scope, first, behind, end, deepest)?;
-    Ok((SClass::Choice(all), after))
-}
-
-/// This class and those after its bar, with bars between, and what follows them.
-#[cycle(class)]
-fn classes<'b, 's, 't>(
-    arena: &'b Bump,
-    scope: &Scope<'b>,
-    first: SClass<'b>,
-    tokens: &'s [Token<'t>],
-    end: End,
-    deepest: u32,
-) -> Result<(&'b [SClass<'b>], &'s [Token<'t>]), RncFault>
-    ensures ok { IfOk result (λ r. (cs : trees.SyntaxClasses) × (seen.classes r.0.now ≡ trees.class (seen.class first.entry) cs) × names.ClassesAt (scope_of scope.now) deepest (seen.tokens tokens.now) cs (seen.tokens r.1.now)) }
-    ensures no { IfErr result (λ e. Refuses e end deepest (seen.tokens tokens.now) (λ o d. reading.HasClasses (scope_of scope.now) (seen.tokens tokens.now) o d → ⊥)) }
-{
-    let mut all = Vec::new(arena);
-    all.push(first)?;
-    let mut rest = tokens.split_at(0).1;
-    loop {
-        let (next, after) = simple(arena, scope, rest, end, deepest)?;
-        all.push(next)?;
-        let Some(behind) = after_mark(after, '|') else {
-            return Ok((into_bump_slice(all), after));
-        };
-        rest = behind;
-    }
-}
 
 /// The namespace and local part of the name for which a word stands, or nothing where it stands for none.
 fn parts_of<'b, 't>(scope: &Scope<'b>, word: Word<'t>) -> Option<(&'b str, &'t str)>
@@ -88,23 +44,6 @@ fn default_of<'b>(scope: &Scope<'b>) -> &'b str
     }
 }
 
-/// The name for which a word stands, or nothing where it stands for none.
-fn name<'b>(
-    arena: &'b Bump,
-    scope: &Scope<'b>,
-    word: Word<'_>,
-) -> Result<Option<Name<'b>>, RncFault>
-    ensures ok { IfOk result (λ o. MatchOption o (names.name_in (scope_of scope.now) (seen.word word.entry) ≡ None)
-        (λ n. names.name_in (scope_of scope.now) (seen.word word.entry) ≡ Some (name n))) }
-    ensures no { IfErr result (λ e. e ≡ NoMemory) }
-{
-    let Some((uri, local)) = parts_of(scope, word) else {
-        return Ok(None);
-    };
-    let local: &'b str = arena.try_alloc_str(local)?;
-    Ok(Some(Name { uri, local }))
-}
-
 /// The prefix of all names of its namespace.
 fn prefix_of_all<'t>(word: Word<'t>) -> Option<&'t str>
     ensures { MatchOption result ((p : List ℕ) → seen.word word.entry ≡ model.all_of p → ⊥) (λ p. seen.word word.entry ≡ model.all_of p.now) }
@@ -115,78 +54,129 @@ fn prefix_of_all<'t>(word: Word<'t>) -> Option<&'t str>
     }
 }
 
-/// A simple name class, and what follows it.
-#[cycle(class)]
-fn simple<'b, 's, 't>(
-    arena: &'b Bump,
-    scope: &Scope<'b>,
-    tokens: &'s [Token<'t>],
-    end: End,
-    deepest: u32,
-) -> Result<(SClass<'b>, &'s [Token<'t>]), RncFault>
-    ensures ok { IfOk result (λ r. names.SimpleAt (scope_of scope.now) deepest (seen.tokens tokens.now) (seen.class r.0) (seen.tokens r.1.now)) }
-    ensures no { IfErr result (λ e. Refuses e end deepest (seen.tokens tokens.now) (λ o d. reading.HasSimple (scope_of scope.now) (seen.tokens tokens.now) o d → ⊥)) }
-{
-    let Some((first, rest)) = first_of(tokens) else {
-        return Err(unexpected(tokens, end));
-    };
-    if first.is_mark('(') {
-        if deepest == 0 {
-            return Err(RncFault::TooDeep(first.place));
-        }
-        return closed_class(arena, scope, rest, end, deepest - 1);
-    }
-    if first.is_mark('*') {
-        let (excepted, after) = except(arena, scope, rest, end, deepest)?;
-        return Ok((SClass::Any(first.place, excepted), after));
-    }
-    if let Some(prefix) = prefix_of_all(first.word) {
-        let Some(uri) = scope.uri_of(prefix) else {
-            return Err(unexpected(tokens, end));
+impl<'b> Parser<'b> {
+    /// A name class, and what follows it; parentheses may stand so deep.
+    #[cycle(name_class)]
+    pub fn name_class<'s, 't>(
+        &self,
+        tokens: &'s [Token<'t>],
+        deepest: u32,
+    ) -> Result<(SClass<'b>, &'s [Token<'t>]), RncFault>
+        ensures ok { IfOk result (λ r. names.ClassAt (scope_of self.now.scope) deepest (seen.tokens tokens.now) (seen.class r.0) (seen.tokens r.1.now)) }
+        ensures no { IfErr result (Refuses (stops.ClassStops (seen.end self.now.end) (scope_of self.now.scope) deepest (seen.tokens tokens.now))) }
+    {
+        let (first, rest) = self.simple_name_class(tokens, deepest)?;
+        let Some(behind) = after_mark(rest, '|') else {
+            return Ok((first, rest));
         };
-        let (excepted, after) = except(arena, scope, rest, end, deepest)?;
-        return Ok((SClass::Ns(first.place, uri, excepted), after));
+        let (all, after) = self.name_classes(first, behind, deepest)?;
+        Ok((SClass::Choice(all), after))
     }
-    match name(arena, scope, first.word)? {
-        Some(name) => Ok((SClass::Name(name), rest)),
-        None => Err(unexpected(tokens, end)),
+
+    /// This class and those after its bar, with bars between, and what follows them.
+    #[cycle(name_class)]
+    fn name_classes<'s, 't>(
+        &self,
+        first: SClass<'b>,
+        tokens: &'s [Token<'t>],
+        deepest: u32,
+    ) -> Result<(&'b [SClass<'b>], &'s [Token<'t>]), RncFault>
+        ensures ok { IfOk result (λ r. (cs : trees.SyntaxClasses) × (seen.classes r.0.now ≡ trees.class (seen.class first.entry) cs) × names.ClassesAt (scope_of self.now.scope) deepest (seen.tokens tokens.now) cs (seen.tokens r.1.now)) }
+        ensures no { IfErr result (Refuses (stops.ClassStops (seen.end self.now.end) (scope_of self.now.scope) deepest (seen.tokens tokens.now))) }
+    {
+        let mut all = Vec::new(self.arena);
+        all.push(first)?;
+        let mut rest = tokens.split_at(0).1;
+        loop {
+            let (next, after) = self.simple_name_class(rest, deepest)?;
+            all.push(next)?;
+            let Some(behind) = after_mark(after, '|') else {
+                return Ok((into_bump_slice(all), after));
+            };
+            rest = behind;
+        }
     }
-}
 
-/// A name class and the parenthesis that closes it, and what follows.
-#[cycle(class)]
-fn closed_class<'b, 's, 't>(
-    arena: &'b Bump,
-    scope: &Scope<'b>,
-    tokens: &'s [Token<'t>],
-    end: End,
-    deepest: u32,
-) -> Result<(SClass<'b>, &'s [Token<'t>]), RncFault>
-    ensures ok { IfOk result (λ r. reading.ClosedClassAt (scope_of scope.now) deepest (seen.tokens tokens.now) (seen.class r.0) (seen.tokens r.1.now)) }
-    ensures no { IfErr result (λ e. Refuses e end deepest (seen.tokens tokens.now) (λ o d. reading.HasClosedClass (scope_of scope.now) (seen.tokens tokens.now) o d → ⊥)) }
-{
-    let (inner, closing) = class(arena, scope, tokens, end, deepest)?;
-    let after = expect_mark(closing, ')', end)?;
-    Ok((inner, after))
-}
+    /// The name for which a word stands, or nothing where it stands for none.
+    fn name(&self, word: Word<'_>) -> Result<Option<Name<'b>>, RncFault>
+        ensures ok { IfOk result (λ o. MatchOption o (names.name_in (scope_of self.now.scope) (seen.word word.entry) ≡ None)
+            (λ n. names.name_in (scope_of self.now.scope) (seen.word word.entry) ≡ Some (name n))) }
+        ensures no { IfErr result (λ e. e ≡ NoMemory) }
+    {
+        let Some((uri, local)) = parts_of(&self.scope, word) else {
+            return Ok(None);
+        };
+        let local: &'b str = self.arena.try_alloc_str(local)?;
+        Ok(Some(Name { uri, local }))
+    }
 
-/// A minus sign and the one class that is excepted, or nothing, and what follows.
-#[cycle(class)]
-fn except<'b, 's, 't>(
-    arena: &'b Bump,
-    scope: &Scope<'b>,
-    tokens: &'s [Token<'t>],
-    end: End,
-    deepest: u32,
-) -> Result<(&'b [SClass<'b>], &'s [Token<'t>]), RncFault>
-    ensures ok { IfOk result (λ r. names.ExceptAt (scope_of scope.now) deepest (seen.tokens tokens.now) (seen.classes r.0.now) (seen.tokens r.1.now)) }
-    ensures no { IfErr result (λ e. Refuses e end deepest (seen.tokens tokens.now) (λ o d. reading.HasExcept (scope_of scope.now) (seen.tokens tokens.now) o d → ⊥)) }
-{
-    let mut classes = Vec::new(arena);
-    let Some(behind) = after_mark(tokens, '-') else {
-        return Ok((into_bump_slice(classes), tokens));
-    };
-    let (class, after) = simple(arena, scope, behind, end, deepest)?;
-    classes.push(class)?;
-    Ok((into_bump_slice(classes), after))
+    /// A name class without bars but in parentheses, and what follows it.
+    #[cycle(name_class)]
+    fn simple_name_class<'s, 't>(
+        &self,
+        tokens: &'s [Token<'t>],
+        deepest: u32,
+    ) -> Result<(SClass<'b>, &'s [Token<'t>]), RncFault>
+        ensures ok { IfOk result (λ r. names.SimpleAt (scope_of self.now.scope) deepest (seen.tokens tokens.now) (seen.class r.0) (seen.tokens r.1.now)) }
+        ensures no { IfErr result (Refuses (stops.SimpleStops (seen.end self.now.end) (scope_of self.now.scope) deepest (seen.tokens tokens.now))) }
+    {
+        let Some((first, rest)) = first_of(tokens) else {
+            return Err(unexpected(tokens, self.end));
+        };
+        if first.is_mark('(') {
+            if deepest == 0 {
+                return Err(RncFault::TooDeep(first.place));
+            }
+            return self.closed_name_class(rest, deepest - 1);
+        }
+        if first.is_mark('*') {
+            let (excepted, after) = self.except_name_class(rest, deepest)?;
+            return Ok((SClass::Any(first.place, excepted), after));
+        }
+        if let Some(prefix) = prefix_of_all(first.word) {
+            let Some(uri) = self.scope.uri_of(prefix) else {
+                return Err(unexpected(tokens, self.end));
+            };
+            let (excepted, after) = self.except_name_class(rest, deepest)?;
+            return Ok((SClass::Ns(first.place, uri, excepted), after));
+        }
+        match self.name(first.word)? {
+            Some(name) => Ok((SClass::Name(name), rest)),
+            None => Err(unexpected(tokens, self.end)),
+        }
+    }
+
+    /// A name class and the parenthesis that closes it, and what follows.
+    #[cycle(name_class)]
+    fn closed_name_class<'s, 't>(
+        &self,
+        tokens: &'s [Token<'t>],
+        deepest: u32,
+    ) -> Result<(SClass<'b>, &'s [Token<'t>]), RncFault>
+        ensures ok { IfOk result (λ r. reading.ClosedClassAt (scope_of self.now.scope) deepest (seen.tokens tokens.now) (seen.class r.0) (seen.tokens r.1.now)) }
+        ensures no { IfErr result (Refuses (parts.ClosedClassStops (seen.end self.now.end) (scope_of self.now.scope) deepest (seen.tokens tokens.now))) }
+    {
+        let (inner, closing) = self.name_class(tokens, deepest)?;
+        let after = expect_mark(closing, ')', self.end)?;
+        Ok((inner, after))
+    }
+
+    /// A minus sign and the one class that is excepted, or nothing, and what follows.
+    #[cycle(name_class)]
+    fn except_name_class<'s, 't>(
+        &self,
+        tokens: &'s [Token<'t>],
+        deepest: u32,
+    ) -> Result<(&'b [SClass<'b>], &'s [Token<'t>]), RncFault>
+        ensures ok { IfOk result (λ r. names.ExceptAt (scope_of self.now.scope) deepest (seen.tokens tokens.now) (seen.classes r.0.now) (seen.tokens r.1.now)) }
+        ensures no { IfErr result (Refuses (parts.ExceptStops (seen.end self.now.end) (scope_of self.now.scope) deepest (seen.tokens tokens.now))) }
+    {
+        let mut classes = Vec::new(self.arena);
+        let Some(behind) = after_mark(tokens, '-') else {
+            return Ok((into_bump_slice(classes), tokens));
+        };
+        let (class, after) = self.simple_name_class(behind, deepest)?;
+        classes.push(class)?;
+        Ok((into_bump_slice(classes), after))
+    }
 }

@@ -1,21 +1,23 @@
 // Definitions (OASIS, RELAX NG Compact Syntax, 2002: grammarContent, start, define, assignMethod).
-ghost use Rattle.std.specs.Prelude.{◌≡◌, ◌++◌, ◌+◌, ◌∷◌, List, false, map, IfOk, IfErr, MatchBool, MatchOption};
+ghost use Rattle.std.specs.Prelude.{◌≡◌, ◌++◌, ◌+◌, ◌∷◌, List, false, map, IfOk, IfErr, MatchBool, MatchOption, codes};
 ghost use Rattle.tc_model.specs.CompactSyntax as syntax;
 ghost use Rattle.tc_model.specs.CompactSyntaxNames as names;
 ghost use Rattle.tc_model.specs.CompactSyntaxTokens as model;
 ghost use Rattle.tc_model.specs.CompactSyntaxTrees as trees;
 ghost use Rattle.tc_model.specs.Views.{place as seen_place};
 ghost use Rattle.tc_rnc.specs.Blocks as blocks;
-ghost use Rattle.tc_rnc.specs.Readings as reading;
-ghost use Rattle.tc_rnc.specs.Refusals.{FaultAt, Refuses};
+ghost use Rattle.tc_model.specs.CompactSyntaxStops as stops;
+ghost use Rattle.tc_model.specs.CompactSyntaxUnread as unread;
+ghost use Rattle.tc_rnc.specs.Refusals.{Refuses};
+ghost use Rattle.tc_rnc.specs.Stops as parts;
 ghost use Rattle.tc_rnc.specs.Scopes.{scope_of};
 ghost use Rattle.tc_rnc.specs.Views as seen;
 ghost use Rattle.tc_rnc.specs.declared.faults.RncFault.TheVariants.{NoMemory};
 
 use crate::faults::{RncFault, first_of, unexpected};
-use crate::marks::expect_mark;
-use crate::patterns::{opened, pattern};
-use crate::scopes::Scope;
+use crate::marks::{after_word, expect_mark};
+use crate::parser::Parser;
+use crate::patterns::opened;
 use crate::syntax::{Def, Joins, SPat};
 use crate::tokens::{End, Token};
 use bumpalo::Bump;
@@ -67,34 +69,28 @@ fn defined_name<'t>(first: &Token<'t>) -> Option<&'t str>
     first.identifier()
 }
 
-/// The refusal of what stands where a definition should.
-fn no_definition(tokens: &[Token<'_>], end: End) -> RncFault
-    ensures { FaultAt result end (seen.tokens tokens.now) }
+/// Whether definitions end here.
+fn is_end(tokens: &[Token<'_>]) -> bool
+    ensures { MatchBool result (blocks.IsEndOfDefinitions (seen.tokens tokens.now)) (blocks.IsEndOfDefinitions (seen.tokens tokens.now) → ⊥) }
 {
     match first_of(tokens) {
-        Some((first, _)) if first.is_name("include") => {
-            RncFault::Unsupported(first.place, Why::N10)
-        }
-        _ => unexpected(tokens, end),
+        Some((first, _)) => first.is_mark('}'),
+        None => true,
     }
 }
 
-/// An operator and a pattern, and what follows them.
-fn assigned<'b, 's, 't>(
-    arena: &'b Bump,
-    scope: &Scope<'b>,
-    tokens: &'s [Token<'t>],
-    end: End,
-    deepest: u32,
-) -> Result<(Joins, SPat<'b>, &'s [Token<'t>]), RncFault>
-    ensures ok { IfOk result (λ r. blocks.AssignedAt false (scope_of scope.now) deepest (seen.tokens tokens.now) (seen.joins r.0) (seen.pattern r.1) (seen.tokens r.2.now)) }
-    ensures no { IfErr result (λ e. Refuses e end deepest (seen.tokens tokens.now) (λ o d. blocks.HasAssigned (scope_of scope.now) (seen.tokens tokens.now) o d → ⊥)) }
+/// The refusal of what stands where a definition should.
+fn no_definition(first: &Token<'_>, tokens: &[Token<'_>], end: End) -> RncFault
+    requires first { blocks.IsFirst (seen.token first.now) (seen.tokens tokens.now) }
+    requires more { blocks.IsEndOfDefinitions (seen.tokens tokens.now) → ⊥ }
+    requires no_div { names.IsWord (codes "div") (seen.token first.now) → ⊥ }
+    requires nothing { blocks.DefinesNothing (seen.token first.now) }
+    ensures { Refuses (unread.NoDefinition (seen.end end) (seen.tokens tokens.now)) result }
 {
-    let Some((joins, rest)) = operator(tokens) else {
-        return Err(unexpected(tokens, end));
-    };
-    let (body, after) = pattern(arena, scope, rest, end, deepest)?;
-    Ok((joins, body, after))
+    if first.is_name("include") {
+        return RncFault::Unsupported(first.place, Why::N10);
+    }
+    unexpected(tokens, end)
 }
 
 /// A definition of this name.
@@ -117,105 +113,104 @@ fn made<'b>(
     })
 }
 
-/// Reads a definition that is no `div`, and gives what follows it.
-fn definition<'b, 's, 't>(
-    arena: &'b Bump,
-    scope: &Scope<'b>,
-    defs: &mut Vec<Def<'b>, &'b Bump>,
-    tokens: &'s [Token<'t>],
-    end: End,
-    deepest: u32,
-) -> Result<&'s [Token<'t>], RncFault>
-    requires { blocks.LacksDiv (seen.tokens tokens.now) }
-    ensures ok { IfOk result (λ r. (ds : List trees.Definition) × (map seen.definition defs.new.items ≡ map seen.definition defs.old.items ++ ds)
-        × syntax.DefinitionAt false (scope_of scope.now) deepest (seen.tokens tokens.now) ds (seen.tokens r.now)) }
-    ensures no { IfErr result (λ e. Refuses e end deepest (seen.tokens tokens.now) (λ o d. reading.HasDefinition (scope_of scope.now) (seen.tokens tokens.now) o d → ⊥)) }
-{
-    let Some((first, rest)) = first_of(tokens) else {
-        return Err(unexpected(tokens, end));
-    };
-    let Some(name) = defined_name(first) else {
-        return Err(no_definition(tokens, end));
-    };
-    let (joins, body, after) = assigned(arena, scope, rest, end, deepest)?;
-    let def = made(arena, name, joins, body, first.place)?;
-    defs.push(def)?;
-    Ok(after)
-}
-
-/// Whether definitions end here.
-fn is_end(tokens: &[Token<'_>]) -> bool
-    ensures { MatchBool result (blocks.IsEndOfDefinitions (seen.tokens tokens.now)) (blocks.IsEndOfDefinitions (seen.tokens tokens.now) → ⊥) }
-{
-    match first_of(tokens) {
-        Some((first, _)) => first.is_mark('}'),
-        None => true,
+impl<'b> Parser<'b> {
+    /// An operator and a pattern, and what follows them.
+    fn assigned<'s, 't>(
+        &self,
+        tokens: &'s [Token<'t>],
+        deepest: u32,
+    ) -> Result<(Joins, SPat<'b>, &'s [Token<'t>]), RncFault>
+        ensures ok { IfOk result (λ r. blocks.AssignedAt false (scope_of self.now.scope) deepest (seen.tokens tokens.now) (seen.joins r.0) (seen.pattern r.1) (seen.tokens r.2.now)) }
+        ensures no { IfErr result (Refuses (parts.AssignedStops (seen.end self.now.end) (scope_of self.now.scope) deepest (seen.tokens tokens.now))) }
+    {
+        let Some((joins, rest)) = operator(tokens) else {
+            return Err(unexpected(tokens, self.end));
+        };
+        let (body, after) = self.pattern(rest, deepest)?;
+        Ok((joins, body, after))
     }
-}
 
-/// Reads definitions up to a brace or the end, and gives what follows them.
-#[cycle(definitions)]
-pub fn definitions<'b, 's, 't>(
-    arena: &'b Bump,
-    scope: &Scope<'b>,
-    defs: &mut Vec<Def<'b>, &'b Bump>,
-    tokens: &'s [Token<'t>],
-    end: End,
-    deepest: u32,
-) -> Result<&'s [Token<'t>], RncFault>
-    ensures ok { IfOk result (λ r. (ds : List trees.Definition) × (map seen.definition defs.new.items ≡ map seen.definition defs.old.items ++ ds)
-        × syntax.DefinitionsAt false (scope_of scope.now) deepest (seen.tokens tokens.now) ds (seen.tokens r.now)) }
-    ensures no { IfErr result (λ e. Refuses e end deepest (seen.tokens tokens.now) (λ o d. reading.HasDefinitions (scope_of scope.now) (seen.tokens tokens.now) o d → ⊥)) }
-{
-    let mut rest = tokens.split_at(0).1;
-    loop {
-        if is_end(rest) {
-            return Ok(rest);
+    /// Reads a definition of `start` or of a name, and gives what follows it.
+    fn definition<'s, 't>(
+        &self,
+        defs: &mut Vec<Def<'b>, &'b Bump>,
+        tokens: &'s [Token<'t>],
+        deepest: u32,
+    ) -> Result<&'s [Token<'t>], RncFault>
+        requires more { blocks.IsEndOfDefinitions (seen.tokens tokens.now) → ⊥ }
+        requires no_div { stops.LacksWord (codes "div") (seen.tokens tokens.now) }
+        ensures ok { IfOk result (λ r. (ds : List trees.Definition) × (map seen.definition defs.new.items ≡ map seen.definition defs.old.items ++ ds)
+            × syntax.DefinitionAt false (scope_of self.now.scope) deepest (seen.tokens tokens.now) ds (seen.tokens r.now)) }
+        ensures no { IfErr result (Refuses (stops.DefinitionStops (seen.end self.now.end) (scope_of self.now.scope) deepest (seen.tokens tokens.now))) }
+    {
+        let Some((first, rest)) = first_of(tokens) else {
+            return Err(unexpected(tokens, self.end));
+        };
+        let Some(name) = defined_name(first) else {
+            return Err(no_definition(first, tokens, self.end));
+        };
+        let (joins, body, after) = self.assigned(rest, deepest)?;
+        let def = made(self.arena, name, joins, body, first.place)?;
+        defs.push(def)?;
+        Ok(after)
+    }
+
+    /// Reads definitions up to a brace or the end, and gives what follows them.
+    #[cycle(grammar_content)]
+    pub fn definitions<'s, 't>(
+        &self,
+        defs: &mut Vec<Def<'b>, &'b Bump>,
+        tokens: &'s [Token<'t>],
+        deepest: u32,
+    ) -> Result<&'s [Token<'t>], RncFault>
+        ensures ok { IfOk result (λ r. (ds : List trees.Definition) × (map seen.definition defs.new.items ≡ map seen.definition defs.old.items ++ ds)
+            × syntax.DefinitionsAt false (scope_of self.now.scope) deepest (seen.tokens tokens.now) ds (seen.tokens r.now)) }
+        ensures no { IfErr result (Refuses (stops.DefinitionsStop (seen.end self.now.end) (scope_of self.now.scope) deepest (seen.tokens tokens.now))) }
+    {
+        let mut rest = tokens.split_at(0).1;
+        loop {
+            if is_end(rest) {
+                return Ok(rest);
+            }
+            let after = self.grammar_content(defs, rest, deepest)?;
+            rest = after;
         }
-        let after = part(arena, scope, defs, rest, end, deepest)?;
-        rest = after;
     }
-}
 
-/// Reads a definition or a `div`, and gives what follows it.
-#[cycle(definitions)]
-fn part<'b, 's, 't>(
-    arena: &'b Bump,
-    scope: &Scope<'b>,
-    defs: &mut Vec<Def<'b>, &'b Bump>,
-    tokens: &'s [Token<'t>],
-    end: End,
-    deepest: u32,
-) -> Result<&'s [Token<'t>], RncFault>
-    ensures ok { IfOk result (λ r. (ds : List trees.Definition) × (map seen.definition defs.new.items ≡ map seen.definition defs.old.items ++ ds)
-        × syntax.DefinitionAt false (scope_of scope.now) deepest (seen.tokens tokens.now) ds (seen.tokens r.now)) }
-    ensures no { IfErr result (λ e. Refuses e end deepest (seen.tokens tokens.now) (λ o d. reading.HasDefinition (scope_of scope.now) (seen.tokens tokens.now) o d → ⊥)) }
-{
-    let Some((first, rest)) = first_of(tokens) else {
-        return Err(unexpected(tokens, end));
-    };
-    if first.is_name("div") {
-        return block(arena, scope, defs, rest, end, deepest);
+    /// Reads a definition or a `div`, and gives what follows it.
+    #[cycle(grammar_content)]
+    fn grammar_content<'s, 't>(
+        &self,
+        defs: &mut Vec<Def<'b>, &'b Bump>,
+        tokens: &'s [Token<'t>],
+        deepest: u32,
+    ) -> Result<&'s [Token<'t>], RncFault>
+        requires { blocks.IsEndOfDefinitions (seen.tokens tokens.now) → ⊥ }
+        ensures ok { IfOk result (λ r. (ds : List trees.Definition) × (map seen.definition defs.new.items ≡ map seen.definition defs.old.items ++ ds)
+            × syntax.DefinitionAt false (scope_of self.now.scope) deepest (seen.tokens tokens.now) ds (seen.tokens r.now)) }
+        ensures no { IfErr result (Refuses (stops.DefinitionStops (seen.end self.now.end) (scope_of self.now.scope) deepest (seen.tokens tokens.now))) }
+    {
+        if let Some(rest) = after_word(tokens, "div") {
+            return self.braced_definitions(defs, rest, deepest);
+        }
+        self.definition(defs, tokens, deepest)
     }
-    definition(arena, scope, defs, tokens, end, deepest)
-}
 
-/// Reads definitions within braces, and gives what follows them.
-#[cycle(definitions)]
-pub fn block<'b, 's, 't>(
-    arena: &'b Bump,
-    scope: &Scope<'b>,
-    defs: &mut Vec<Def<'b>, &'b Bump>,
-    tokens: &'s [Token<'t>],
-    end: End,
-    deepest: u32,
-) -> Result<&'s [Token<'t>], RncFault>
-    ensures ok { IfOk result (λ r. (ds : List trees.Definition) × (map seen.definition defs.new.items ≡ map seen.definition defs.old.items ++ ds)
-        × blocks.BlockAt false (scope_of scope.now) deepest (seen.tokens tokens.now) ds (seen.tokens r.now)) }
-    ensures no { IfErr result (λ e. Refuses e end deepest (seen.tokens tokens.now) (λ o d. blocks.HasBlock (scope_of scope.now) (seen.tokens tokens.now) o d → ⊥)) }
-{
-    let (inside, deeper) = opened('{', tokens, end, deepest)?;
-    let closing = definitions(arena, scope, defs, inside, end, deeper)?;
-    let after = expect_mark(closing, '}', end)?;
-    Ok(after)
+    /// Reads definitions within braces, and gives what follows them.
+    #[cycle(grammar_content)]
+    pub fn braced_definitions<'s, 't>(
+        &self,
+        defs: &mut Vec<Def<'b>, &'b Bump>,
+        tokens: &'s [Token<'t>],
+        deepest: u32,
+    ) -> Result<&'s [Token<'t>], RncFault>
+        ensures ok { IfOk result (λ r. (ds : List trees.Definition) × (map seen.definition defs.new.items ≡ map seen.definition defs.old.items ++ ds)
+            × stops.BlockAt false (scope_of self.now.scope) deepest (seen.tokens tokens.now) ds (seen.tokens r.now)) }
+        ensures no { IfErr result (Refuses (stops.BlockStops (seen.end self.now.end) (scope_of self.now.scope) deepest (seen.tokens tokens.now))) }
+    {
+        let (inside, deeper) = opened('{', tokens, self.end, deepest)?;
+        let closing = self.definitions(defs, inside, deeper)?;
+        let after = expect_mark(closing, '}', self.end)?;
+        Ok(after)
+    }
 }

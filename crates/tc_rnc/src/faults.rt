@@ -1,10 +1,10 @@
-// Why a text is refused.
+// Why a text is unread.
 ghost use Rattle.std.specs.Prelude.{◌≡◌, ◌<◌, List, [], ◌∷◌, length, MatchBool, MatchOption};
-ghost use Rattle.tc_model.specs.CompactSyntaxRefused as refused;
-ghost use Rattle.tc_model.specs.CompactSyntaxTokens as model;
+ghost use Rattle.tc_model.specs.CompactSyntaxUnread as unread;
 ghost use Rattle.tc_model.specs.XmlTextBytes.{Lacks, length_before};
-ghost use Rattle.tc_rnc.specs.Escapes.{HasEscape, IsEscapeText, IsLiteral, IsTriple, IsTripleWith, IsTwoSigns, LacksEscape};
-ghost use Rattle.tc_rnc.specs.Refusals.{FaultAt, LacksDatum};
+ghost use Rattle.tc_rnc.specs.Connectors.{BeginsNoneRead};
+ghost use Rattle.tc_rnc.specs.Escapes.{HasEscape, IsEscapeText, IsTriple, IsTripleWith, IsTwoSigns, LacksEscape};
+ghost use Rattle.tc_rnc.specs.Refusals.{Refuses};
 ghost use Rattle.tc_rnc.specs.Views as seen;
 
 use crate::tokens::{End, Token, Word};
@@ -54,7 +54,7 @@ pub fn first_of<'s, 't>(tokens: &'s [Token<'t>]) -> Option<(&'s Token<'t>, &'s [
 /// Where the escape of a character begins in the text of a literal, in bytes.
 #[tactic(auto, using(crate::proofs::Escapes::lacks_mark))]
 pub fn escape_in(value: &str) -> Option<usize>
-    ensures { MatchOption result (Lacks refused.escape_mark value.now) (λ n. (n ≡ length_before refused.escape_mark value.now) × (n < length value.now)) }
+    ensures { MatchOption result (Lacks unread.escape_mark value.now) (λ n. (n ≡ length_before unread.escape_mark value.now) × (n < length value.now)) }
 {
     match up_to(value, "\\x{") {
         Some((inside, _)) => Some(inside.len()),
@@ -63,7 +63,7 @@ pub fn escape_in(value: &str) -> Option<usize>
 }
 
 /// Where the escape of a character begins in a literal.
-pub fn escape_in_literal(token: &Token<'_>) -> Option<Place>
+fn escape_in_literal(token: &Token<'_>) -> Option<Place>
     ensures { MatchOption result (LacksEscape (seen.token token.now)) (λ p. HasEscape (seen.token token.now) p.0) }
 {
     let Word::Literal(value) = token.word else {
@@ -109,7 +109,7 @@ pub fn third_literal<'s, 't>(first: &Token<'t>, rest: &'s [Token<'t>]) -> Option
 /// Where the escape of a character begins as the next tokens, or in the next literal.
 #[tactic(auto, using(crate::proofs::Escapes::escapes))]
 pub fn escape_at(tokens: &[Token<'_>]) -> Option<Place>
-    ensures { MatchOption result (refused.NoEscape (seen.tokens tokens.now)) (λ p. refused.EscapeAt (seen.tokens tokens.now) p.0) }
+    ensures { MatchOption result (unread.NoEscape (seen.tokens tokens.now)) (λ p. unread.EscapeAt (seen.tokens tokens.now) p.0) }
 {
     let (first, rest) = first_of(tokens)?;
     if is_escape(first, rest) {
@@ -131,23 +131,20 @@ fn is_two_signs(first: &Token<'_>, rest: &[Token<'_>]) -> bool
     first.is_mark('>') && second.is_mark('>') && second.follows(first, 1)
 }
 
-/// The reason why what begins here is not read, where it is an annotation, which begins with `[` or `>>`.
-fn annotation(first: &Token<'_>, rest: &[Token<'_>]) -> Option<Why>
-    ensures { MatchOption result (Unit {0}) (λ why. refused.ConstructAt why (seen.token first.now ∷ seen.tokens rest.now) first.now.place.0) }
+/// Whether an annotation begins here, with `[` or `>>`.
+#[tactic(auto, using(crate::proofs::Constructs::annotations))]
+fn is_annotation(first: &Token<'_>, rest: &[Token<'_>]) -> bool
+    ensures { MatchBool result (unread.AnnotationAt (seen.token first.now ∷ seen.tokens rest.now)) (unread.AnnotationAt (seen.token first.now ∷ seen.tokens rest.now) → ⊥) }
 {
     if first.is_mark('[') {
-        return Some(Why::N14);
+        return true;
     }
-    if is_two_signs(first, rest) {
-        return Some(Why::N14);
-    }
-    None
+    is_two_signs(first, rest)
 }
 
 /// The refusal where the tokens end.
-#[tactic(auto, using(crate::proofs::Constructs::constructs))]
 pub fn at_end(end: End) -> RncFault
-    ensures { FaultAt result end [] }
+    ensures { Refuses (unread.Unexpected (seen.end end) []) result }
 {
     match end.escape {
         Some(place) => RncFault::Unsupported(place, Why::N15),
@@ -156,9 +153,8 @@ pub fn at_end(end: End) -> RncFault
 }
 
 /// The refusal of what stands here, where nothing that is read may.
-#[tactic(auto, using(crate::proofs::Constructs::constructs))]
 pub fn unexpected(tokens: &[Token<'_>], end: End) -> RncFault
-    ensures { FaultAt result end (seen.tokens tokens.now) }
+    ensures { Refuses (unread.Unexpected (seen.end end) (seen.tokens tokens.now)) result }
 {
     if let Some(place) = escape_at(tokens) {
         return RncFault::Unsupported(place, Why::N15);
@@ -166,80 +162,74 @@ pub fn unexpected(tokens: &[Token<'_>], end: End) -> RncFault
     let Some((first, rest)) = first_of(tokens) else {
         return at_end(end);
     };
-    match annotation(first, rest) {
-        Some(why) => RncFault::Unsupported(first.place, why),
-        None => RncFault::Malformed(first.place),
+    if is_annotation(first, rest) {
+        return RncFault::Unsupported(first.place, Why::N14);
     }
+    RncFault::Malformed(first.place)
 }
 
-/// Whether this is a datatype's name, `string` or `token`.
-fn is_datatype(token: &Token<'_>) -> bool
-    ensures { result ≡ refused.is_datatype (seen.word token.now.word) }
+/// The reason why a pattern that begins with this keyword isn't read, if there is one.
+fn unread_keyword(name: &str) -> Option<Why>
+    ensures { result ≡ unread.unread_keyword name.now }
 {
-    match token.word {
-        Word::Name(name) => name == "string" || name == "token",
-        Word::Prefixed(_, _) => true,
-        _ => false,
-    }
-}
-
-/// The refusal of a datatype's name or of a literal, where one is first.
-#[tactic(auto, using(crate::proofs::Constructs::data_first))]
-pub fn datum(tokens: &[Token<'_>]) -> Option<(Place, Why)>
-    ensures { MatchOption result (LacksDatum (seen.tokens tokens.now)) (λ r. refused.ConstructAt r.1 (seen.tokens tokens.now) r.0.0) }
-{
-    let (first, rest) = first_of(tokens)?;
-    if is_datatype(first) {
-        return Some((first.place, Why::N6));
-    }
-    let _text = first.literal()?;
-    match escape_at(tokens) {
-        Some(place) => Some((place, Why::N15)),
-        None => Some((first.place, literal_as_pattern(first, rest))),
-    }
-}
-
-/// The reason why a literal without an escape is not read.
-#[tactic(auto, using(crate::proofs::Constructs::constructs))]
-fn literal_as_pattern(first: &Token<'_>, rest: &[Token<'_>]) -> Why
-    requires literal { IsLiteral (seen.token first.now) }
-    requires no_escape { refused.NoEscape (seen.token first.now ∷ seen.tokens rest.now) }
-    ensures { refused.ConstructAt result (seen.token first.now ∷ seen.tokens rest.now) first.now.place.0 }
-{
-    match third_literal(first, rest) {
-        Some(_) => Why::N16,
-        None => Why::N7,
-    }
-}
-
-/// The reason why a construct that its keyword tells is not read as a pattern.
-#[tactic(auto, using(crate::proofs::Constructs::constructs))]
-fn reason_of(first: &Token<'_>) -> Option<Why>
-    ensures { MatchOption result (Unit {0}) (λ why. (after : List model.Token) → refused.ConstructAt why (seen.token first.now ∷ after) first.now.place.0) }
-{
-    if first.is_name("list") {
+    if name == "string" {
+        Some(Why::N6)
+    } else if name == "token" {
+        Some(Why::N6)
+    } else if name == "list" {
         Some(Why::N8)
-    } else if first.is_name("external") {
+    } else if name == "external" {
         Some(Why::N9)
-    } else if first.is_name("grammar") {
+    } else if name == "grammar" {
         Some(Why::N11)
-    } else if first.is_name("parent") {
+    } else if name == "parent" {
         Some(Why::N12)
     } else {
         None
     }
 }
 
-/// The refusal of what stands where a pattern should, and is no datatype's name and no literal.
-#[tactic(auto, using(crate::proofs::Constructs::constructs))]
+/// The reason why a pattern that begins with this token isn't read, if there is one: a literal aside.
+fn unread_pattern(token: &Token<'_>) -> Option<Why>
+    ensures { result ≡ unread.unread_pattern (seen.word token.now.word) }
+{
+    match token.word {
+        Word::Name(name) => unread_keyword(name),
+        Word::Prefixed(_, _) => Some(Why::N6),
+        _ => None,
+    }
+}
+
+/// The refusal of the literal that stands first, where it isn't read wherever it stands.
+pub fn unread_literal(tokens: &[Token<'_>]) -> Option<RncFault>
+    ensures { MatchOption result (unread.LiteralGoesOn (seen.tokens tokens.now)) (λ e. Refuses (unread.LiteralStops (seen.tokens tokens.now)) e) }
+{
+    let (first, rest) = first_of(tokens)?;
+    if let Some(place) = escape_at(tokens) {
+        return Some(RncFault::Unsupported(place, Why::N15));
+    }
+    match third_literal(first, rest) {
+        Some(_) => Some(RncFault::Unsupported(first.place, Why::N16)),
+        None => None,
+    }
+}
+
+/// The refusal of what stands where a pattern should, where none that is read begins.
 pub fn no_pattern(tokens: &[Token<'_>], end: End) -> RncFault
-    ensures { FaultAt result end (seen.tokens tokens.now) }
+    requires { BeginsNoneRead (seen.tokens tokens.now) }
+    ensures { Refuses (unread.NoPattern (seen.end end) (seen.tokens tokens.now)) result }
 {
     let Some((first, _)) = first_of(tokens) else {
         return unexpected(tokens, end);
     };
-    match reason_of(first) {
-        Some(why) => RncFault::Unsupported(first.place, why),
-        None => unexpected(tokens, end),
+    if let Some(why) = unread_pattern(first) {
+        return RncFault::Unsupported(first.place, why);
+    }
+    let Some(_text) = first.literal() else {
+        return unexpected(tokens, end);
+    };
+    match unread_literal(tokens) {
+        Some(fault) => fault,
+        None => RncFault::Unsupported(first.place, Why::N7),
     }
 }

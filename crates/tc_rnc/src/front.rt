@@ -1,14 +1,12 @@
-// The front of a text: characters, lines, and what separates tokens.
+// The front of a text: a character, a line, and what separates tokens.
 ghost use Rattle.std.specs.Prelude.{◌≡◌, ◌≤◌, ◌++◌, [], length, MatchOption, encode_utf8};
 ghost use Rattle.std.specs.Char.{IsScalar};
 ghost use Rattle.std.specs.List.{prefix_len};
 ghost use Rattle.tc_model.specs.CompactSyntaxRefused as refused;
 ghost use Rattle.tc_model.specs.CompactSyntaxTokens as model;
-ghost use Rattle.tc_rnc.specs.Fronts.{BeginsNoSpace, IsPastChars, IsTextFront, Skips, is_in_line};
+ghost use Rattle.tc_rnc.specs.Fronts.{Skips, is_in_line};
 
 use memchr::memchr2;
-use std::str;
-use tc_base::is_char;
 use tc_scan::{after_byte, after_white};
 
 /// The character at the front, and what follows it.
@@ -17,42 +15,6 @@ pub fn first_char(text: &str) -> Option<(char, &str)>
 {
     let first = text.chars().next()?;
     Some((first, &text[first.len_utf8()..]))
-}
-
-/// The front of the bytes that is text in UTF-8.
-fn text_front(bytes: &[u8]) -> &str
-    ensures { IsTextFront bytes.now result.now }
-{
-    match str::from_utf8(bytes) {
-        Ok(text) => text,
-        Err(e) => match str::from_utf8(&bytes[..e.valid_up_to()]) {
-            Ok(text) => text,
-            Err(_) => "",
-        },
-    }
-}
-
-/// What follows the characters of XML at the front (XML 1.0, 2.2).
-fn past_characters(text: &str) -> &str
-    ensures { IsPastChars text.now result.now }
-{
-    let mut rest = text;
-    while let Some((next, after)) = first_char(rest) {
-        if !is_char(next) {
-            break;
-        }
-        rest = after;
-    }
-    rest
-}
-
-/// The front of the bytes that is characters of XML.
-pub fn characters(bytes: &[u8]) -> &str
-    ensures { refused.FrontOf bytes.now result.now }
-{
-    let text = text_front(bytes);
-    let rest = past_characters(text);
-    &text[..text.len() - rest.len()]
 }
 
 /// How many bytes of the line at the front there are.
@@ -85,7 +47,7 @@ fn after_line(text: &str) -> &str
 /// What follows white space and comments.
 pub fn after_space(text: &str) -> &str
     ensures skips { Skips text.now result.now }
-    ensures stops { BeginsNoSpace result.now }
+    ensures stops { refused.BeginsNoSpace result.now }
 {
     let mut rest = after_white(text);
     while let Some(comment) = after_byte(rest, b'#') {

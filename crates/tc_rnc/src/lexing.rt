@@ -1,5 +1,5 @@
 // All tokens of a text.
-ghost use Rattle.std.specs.Prelude.{◌≡◌, ◌+◌, ◌≤◌, ◌∷◌, ℕ, List, length, IfOk, IfSome, MatchBool, MatchOption};
+ghost use Rattle.std.specs.Prelude.{◌≡◌, ◌+◌, ◌≤◌, ◌∷◌, ℕ, List, None, Some, length, IfOk, MatchBool, MatchOption};
 ghost use Rattle.tc_model.specs.CompactSyntaxRefused as refused;
 ghost use Rattle.tc_model.specs.CompactSyntaxTokens as model;
 ghost use Rattle.tc_model.specs.XmlText as xml_text;
@@ -9,13 +9,13 @@ ghost use Rattle.tc_rnc.specs.Lexed.{IsWhole, Lexed, ReadsAllTokens};
 ghost use Rattle.tc_rnc.specs.Views as seen;
 
 use crate::faults::escape_in;
-use crate::front::{after_space, characters, line};
+use crate::front::{after_space, line};
 use crate::tokens::{End, Token, Word};
 use crate::words::word_at;
 use bumpalo::Bump;
 use std::alloc::AllocFailed;
 use tc_base::Place;
-use tc_scan::{after_byte, after_mark};
+use tc_scan::{after_byte, after_mark, characters};
 
 /// The tokens of a text up to its end, or up to where it goes on with none.
 #[derive(Drop)]
@@ -37,20 +37,20 @@ fn after_byte_order_mark(text: &str) -> &str
 
 /// What follows the quote at the front.
 fn after_quote(text: &str) -> Option<&str>
-    ensures { IfSome result (λ rest. (quote : ℕ) × (xml.IsQuote quote × (text.now ≡ quote ∷ rest.now))) }
+    ensures { MatchOption result ((quote : ℕ) (rest : List ℕ) → xml.IsQuote quote → text.now ≡ quote ∷ rest → ⊥) (λ rest. (quote : ℕ) × (xml.IsQuote quote × (text.now ≡ quote ∷ rest.now))) }
 {
-    match after_byte(text, b'"') {
-        Some(rest) => Some(rest),
-        None => after_byte(text, b'\''),
+    if let Some(rest) = after_byte(text, b'"') {
+        return Some(rest);
     }
+    let rest = after_byte(text, b'\'')?;
+    Some(rest)
 }
 
 /// Where the escape of a character begins in a literal that isn't closed on its line.
 fn unclosed_escape(total: usize, text: &str) -> Option<Place>
     requires within { length text.now ≤ total }
-    requires small { total ≤ 67108864 }
-    requires ends { (word : model.Word) (after : List ℕ) → model.WordAt text.now word after → ⊥ }
-    ensures { IfSome result (λ p. refused.UnclosedEscape total text.now p.0) }
+    requires bounded { total ≤ 67108864 }
+    ensures { MatchOption result (refused.unclosed_escape total text.now ≡ None) (λ p. refused.unclosed_escape total text.now ≡ Some p.0) }
 {
     let inside = after_quote(text)?;
     let line = line(inside);
@@ -61,7 +61,7 @@ fn unclosed_escape(total: usize, text: &str) -> Option<Place>
 /// The word at the front as a token of a text of so many bytes, and what follows it.
 fn token_at(total: usize, text: &str) -> Option<(Token<'_>, &str)>
     requires within { length text.now ≤ total }
-    requires small { total ≤ 67108864 }
+    requires bounded { total ≤ 67108864 }
     ensures { MatchOption result ((word : model.Word) (after : List ℕ) → model.WordAt text.now word after → ⊥)
         (λ r. model.WordAt text.now (seen.token r.0).word r.1.now × ((seen.token r.0).place ≡ xml.place_of total text.now)) }
 {
@@ -77,7 +77,7 @@ fn tokens_at<'t, 'b>(
     total: usize,
 ) -> Result<(Vec<Token<'t>, &'b Bump>, &'t str), AllocFailed<Token<'t>>>
     requires within { length text.now ≤ total }
-    requires small { total ≤ 67108864 }
+    requires bounded { total ≤ 67108864 }
     ensures { IfOk result (λ r. ReadsAllTokens total text.now (seen.tokens r.0.items) r.1.now) }
 {
     let mut list = Vec::new(arena);

@@ -14,6 +14,7 @@ mod faults;
 mod front;
 mod lexing;
 mod marks;
+mod parser;
 mod patterns;
 mod reading;
 mod schema;

@@ -1,8 +1,11 @@
-// The mark that stands first among tokens.
+// The mark or the keyword that stands first among tokens.
 ghost use Rattle.std.specs.Prelude.{◌≡◌, [], ◌∷◌, ℕ, List, MatchOption, IfOk, IfErr};
 ghost use Rattle.tc_model.specs.CompactSyntaxNames.{LacksMark};
 ghost use Rattle.tc_rnc.specs.Readings.{BeginsWith};
-ghost use Rattle.tc_rnc.specs.Refusals.{FaultAt};
+ghost use Rattle.tc_model.specs.CompactSyntaxUnread.{Unexpected};
+ghost use Rattle.tc_rnc.specs.Refusals.{Refuses};
+ghost use Rattle.tc_model.specs.CompactSyntaxStops.{LacksWord};
+ghost use Rattle.tc_rnc.specs.Schemas.{StartsWith};
 ghost use Rattle.tc_rnc.specs.Views as seen;
 
 use crate::faults::{RncFault, first_of, unexpected};
@@ -28,10 +31,22 @@ pub fn expect_mark<'s, 't>(
 ) -> Result<&'s [Token<'t>], RncFault>
     ensures ok { IfOk result (λ rest. BeginsWith mark (seen.tokens tokens.now) (seen.tokens rest.now)) }
     ensures no { IfErr result (λ e. LacksMark mark (seen.tokens tokens.now)) }
-    ensures stands { IfErr result (λ e. FaultAt e end (seen.tokens tokens.now)) }
+    ensures stands { IfErr result (Refuses (Unexpected (seen.end end) (seen.tokens tokens.now))) }
 {
     match after_mark(tokens, mark) {
         Some(rest) => Ok(rest),
         None => Err(unexpected(tokens, end)),
+    }
+}
+
+/// What follows this keyword, where it stands first.
+pub fn after_word<'s, 't>(tokens: &'s [Token<'t>], word: &str) -> Option<&'s [Token<'t>]>
+    ensures { MatchOption result (LacksWord word.now (seen.tokens tokens.now)) (λ rest. StartsWith word.now (seen.tokens tokens.now) (seen.tokens rest.now)) }
+{
+    let (first, rest) = first_of(tokens)?;
+    if first.is_name(word) {
+        Some(rest)
+    } else {
+        None
     }
 }

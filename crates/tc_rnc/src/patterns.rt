@@ -1,20 +1,22 @@
 // Patterns.
 ghost use Rattle.std.specs.Prelude.{◌≡◌, ◌⊎◌, ℕ, suc, false, List, [], None, Some, IfOk, IfErr, MatchBool, MatchOption};
 ghost use Rattle.tc_model.specs.CompactSyntaxNames.{LacksMark};
+ghost use Rattle.tc_model.specs.CompactSyntaxUnread.{Unexpected};
 ghost use Rattle.tc_model.specs.CompactSyntaxPatterns as model;
+ghost use Rattle.tc_model.specs.CompactSyntaxStops as stops;
 ghost use Rattle.tc_model.specs.CompactSyntaxTrees as trees;
 ghost use Rattle.tc_rnc.specs.Connectors as view;
 ghost use Rattle.tc_rnc.specs.Readings as reading;
-ghost use Rattle.tc_rnc.specs.Refusals.{FaultAt, Refuses, RefusesAttribute, RefusesBraced, RefusesFirst, RefusesText};
+ghost use Rattle.tc_rnc.specs.Refusals.{Refuses};
+ghost use Rattle.tc_rnc.specs.Stops as parts;
 ghost use Rattle.tc_rnc.specs.Scopes.{scope_of};
 ghost use Rattle.tc_rnc.specs.Views as seen;
 ghost use Rattle.tc_model.specs.Views.{place as seen_place};
 ghost use Rattle.tc_rnc.specs.declared.faults.RncFault.TheVariants.{NoMemory};
 
-use crate::classes::class;
-use crate::faults::{RncFault, datum, first_of, no_pattern, unexpected};
+use crate::faults::{RncFault, first_of, no_pattern, unexpected};
 use crate::marks::{after_mark, expect_mark};
-use crate::scopes::Scope;
+use crate::parser::Parser;
 use crate::syntax::SPat;
 use crate::tokens::{End, Token};
 use bumpalo::Bump;
@@ -107,7 +109,7 @@ fn next_item<'s, 't>(
 ) -> Result<Option<&'s [Token<'t>]>, RncFault>
     ensures ok { IfOk result (λ o. MatchOption o (model.connector_at (seen.tokens tokens.now) ≡ None) (λ rest. reading.GoesOn (view.connector between) (seen.tokens tokens.now) (seen.tokens rest.now))) }
     ensures no { IfErr result (λ e. reading.GoesOnOtherwise (view.connector between) (seen.tokens tokens.now)) }
-    ensures stands { IfErr result (λ e. FaultAt e end (seen.tokens tokens.now)) }
+    ensures stands { IfErr result (Refuses (Unexpected (seen.end end) (seen.tokens tokens.now))) }
 {
     let Some((connector, rest)) = connector_at(tokens) else {
         return Ok(None);
@@ -126,10 +128,9 @@ pub fn opened<'s, 't>(
     end: End,
     deepest: u32,
 ) -> Result<(&'s [Token<'t>], u32), RncFault>
-    requires { (mark ≡ 123) ⊎ (mark ≡ 40) }
     ensures ok { IfOk result (λ r. reading.BeginsWith mark (seen.tokens tokens.now) (seen.tokens r.0.now)) }
     ensures depth { IfOk result (λ r. deepest ≡ suc r.1) }
-    ensures no { IfErr result (λ e. RefusesFirst e end deepest (seen.tokens tokens.now) (λ o d. reading.HasOpen mark (seen.tokens tokens.now) o d → ⊥)) }
+    ensures no { IfErr result (Refuses (parts.OpeningStops (seen.end end) mark deepest (seen.tokens tokens.now))) }
 {
     let Some((first, rest)) = first_of(tokens) else {
         return Err(unexpected(tokens, end));
@@ -143,16 +144,16 @@ pub fn opened<'s, 't>(
     Ok((rest, deepest - 1))
 }
 
-/// A token that is no brace, or braces with balanced text between, and what follows.
+/// A token of balanced text that is no brace, or braces with balanced text between, and what follows.
 #[cycle(balanced)]
-fn piece<'s, 't>(
+fn balanced_part<'s, 't>(
     tokens: &'s [Token<'t>],
     end: End,
     deepest: u32,
 ) -> Result<&'s [Token<'t>], RncFault>
     requires { LacksMark 125 (seen.tokens tokens.now) }
-    ensures ok { IfOk result (λ r. reading.PieceAt deepest (seen.tokens tokens.now) (seen.tokens r.now)) }
-    ensures no { IfErr result (λ e. RefusesText e end deepest (seen.tokens tokens.now) (λ o d. reading.HasPiece (seen.tokens tokens.now) o d → ⊥)) }
+    ensures ok { IfOk result (λ r. reading.BalancedPartAt deepest (seen.tokens tokens.now) (seen.tokens r.now)) }
+    ensures no { IfErr result (Refuses (parts.BalancedPartStops (seen.end end) deepest (seen.tokens tokens.now))) }
 {
     let Some((first, rest)) = first_of(tokens) else {
         return Err(RncFault::Malformed(end.place));
@@ -174,14 +175,14 @@ fn balanced<'s, 't>(
     deepest: u32,
 ) -> Result<&'s [Token<'t>], RncFault>
     ensures ok { IfOk result (λ r. model.BalancedAt deepest (seen.tokens tokens.now) (seen.tokens r.now)) }
-    ensures no { IfErr result (λ e. RefusesText e end deepest (seen.tokens tokens.now) (λ o d. reading.HasBalanced (seen.tokens tokens.now) o d → ⊥)) }
+    ensures no { IfErr result (Refuses (stops.BalancedStops (seen.end end) deepest (seen.tokens tokens.now))) }
 {
     let mut rest = tokens.split_at(0).1;
     loop {
         if let Some(after) = after_mark(rest, '}') {
             return Ok(after);
         }
-        let after = piece(rest, end, deepest)?;
+        let after = balanced_part(rest, end, deepest)?;
         rest = after;
     }
 }
@@ -193,25 +194,10 @@ fn braced_text<'s, 't>(
     deepest: u32,
 ) -> Result<&'s [Token<'t>], RncFault>
     ensures ok { IfOk result (λ r. reading.BracedTextAt deepest (seen.tokens tokens.now) (seen.tokens r.now)) }
-    ensures no { IfErr result (λ e. RefusesBraced e end deepest (seen.tokens tokens.now) (λ o d. reading.HasBracedText (seen.tokens tokens.now) o d → ⊥)) }
+    ensures no { IfErr result (Refuses (stops.BracedTextStops (seen.end end) deepest (seen.tokens tokens.now))) }
 {
     let (inside, deeper) = opened('{', tokens, end, deepest)?;
     balanced(inside, end, deeper)
-}
-
-/// What follows the word of an attribute.
-fn attribute<'b, 's, 't>(
-    arena: &'b Bump,
-    scope: &Scope<'b>,
-    tokens: &'s [Token<'t>],
-    end: End,
-    deepest: u32,
-) -> Result<&'s [Token<'t>], RncFault>
-    ensures ok { IfOk result (λ r. reading.LabelledAt (scope_of scope.now) deepest (seen.tokens tokens.now) (seen.tokens r.now)) }
-    ensures no { IfErr result (λ e. RefusesAttribute e end deepest (seen.tokens tokens.now) (λ o d. reading.HasLabelled (scope_of scope.now) (seen.tokens tokens.now) o d → ⊥)) }
-{
-    let (_, rest) = class(arena, scope, tokens, end, deepest)?;
-    braced_text(rest, end, deepest)
 }
 
 /// The pattern with this suffix.
@@ -271,144 +257,6 @@ fn begin_of<'t>(token: &Token<'t>) -> Begin<'t>
     }
 }
 
-/// A pattern, and what follows it; braces and parentheses may stand so deep.
-#[cycle(pattern)]
-pub fn pattern<'b, 's, 't>(
-    arena: &'b Bump,
-    scope: &Scope<'b>,
-    tokens: &'s [Token<'t>],
-    end: End,
-    deepest: u32,
-) -> Result<(SPat<'b>, &'s [Token<'t>]), RncFault>
-    ensures ok { IfOk result (λ r. model.PatternAt false (scope_of scope.now) deepest (seen.tokens tokens.now) (seen.pattern r.0) (seen.tokens r.1.now)) }
-    ensures no { IfErr result (λ e. Refuses e end deepest (seen.tokens tokens.now) (λ o d. reading.HasPattern (scope_of scope.now) (seen.tokens tokens.now) o d → ⊥)) }
-{
-    let (first, rest) = item(arena, scope, tokens, end, deepest)?;
-    let Some((between, behind)) = connector_at(rest) else {
-        return Ok((first, rest));
-    };
-    let (all, after) = items(arena, scope, between, first, behind, end, deepest)?;
-    Ok((joined(between, all), after))
-}
-
-/// This item and those that follow its connector, and what follows them.
-#[cycle(pattern)]
-fn items<'b, 's, 't>(
-    arena: &'b Bump,
-    scope: &Scope<'b>,
-    between: Connector,
-    first: SPat<'b>,
-    tokens: &'s [Token<'t>],
-    end: End,
-    deepest: u32,
-) -> Result<(&'b [SPat<'b>], &'s [Token<'t>]), RncFault>
-    ensures ok { IfOk result (λ r. (ps : trees.SyntaxPatterns) × (seen.patterns r.0.now ≡ trees.more (seen.pattern first.entry) ps)
-        × model.ItemsAt false (scope_of scope.now) (view.connector between) deepest (seen.tokens tokens.now) ps (seen.tokens r.1.now)) }
-    ensures no { IfErr result (λ e. Refuses e end deepest (seen.tokens tokens.now) (λ o d. reading.HasItems (scope_of scope.now) (view.connector between) (seen.tokens tokens.now) o d → ⊥)) }
-{
-    let mut all = Vec::new(arena);
-    all.push(first)?;
-    let mut rest = tokens.split_at(0).1;
-    loop {
-        let (next, after) = item(arena, scope, rest, end, deepest)?;
-        all.push(next)?;
-        let Some(behind) = next_item(between, after, end)? else {
-            return Ok((into_bump_slice(all), after));
-        };
-        rest = behind;
-    }
-}
-
-/// A primary with its suffix, if it has one, and what follows.
-#[cycle(pattern)]
-fn item<'b, 's, 't>(
-    arena: &'b Bump,
-    scope: &Scope<'b>,
-    tokens: &'s [Token<'t>],
-    end: End,
-    deepest: u32,
-) -> Result<(SPat<'b>, &'s [Token<'t>]), RncFault>
-    ensures ok { IfOk result (λ r. model.ItemAt false (scope_of scope.now) deepest (seen.tokens tokens.now) (seen.pattern r.0) (seen.tokens r.1.now)) }
-    ensures no { IfErr result (λ e. Refuses e end deepest (seen.tokens tokens.now) (λ o d. reading.HasItem (scope_of scope.now) (seen.tokens tokens.now) o d → ⊥)) }
-{
-    let (inner, rest) = primary(arena, scope, tokens, end, deepest)?;
-    let Some((suffix, after)) = suffix_at(rest) else {
-        return Ok((inner, rest));
-    };
-    let whole = suffixed(arena, suffix, inner)?;
-    Ok((whole, after))
-}
-
-/// A pattern within these marks, and what follows.
-#[cycle(pattern)]
-fn enclosed<'b, 's, 't>(
-    arena: &'b Bump,
-    scope: &Scope<'b>,
-    left: char,
-    right: char,
-    tokens: &'s [Token<'t>],
-    end: End,
-    deepest: u32,
-) -> Result<(SPat<'b>, &'s [Token<'t>]), RncFault>
-    requires { (left ≡ 123) ⊎ (left ≡ 40) }
-    ensures ok { IfOk result (λ r. reading.EnclosedAt false (scope_of scope.now) left right deepest (seen.tokens tokens.now) (seen.pattern r.0) (seen.tokens r.1.now)) }
-    ensures no { IfErr result (λ e. Refuses e end deepest (seen.tokens tokens.now) (λ o d. reading.HasEnclosed (scope_of scope.now) left right (seen.tokens tokens.now) o d → ⊥)) }
-{
-    let (inside, deeper) = opened(left, tokens, end, deepest)?;
-    let (inner, closing) = pattern(arena, scope, inside, end, deeper)?;
-    let after = expect_mark(closing, right, end)?;
-    Ok((inner, after))
-}
-
-/// An element after its word, which stands at this place, and what follows it.
-#[cycle(pattern)]
-fn element<'b, 's, 't>(
-    arena: &'b Bump,
-    scope: &Scope<'b>,
-    place: Place,
-    tokens: &'s [Token<'t>],
-    end: End,
-    deepest: u32,
-) -> Result<(SPat<'b>, &'s [Token<'t>]), RncFault>
-    ensures ok { IfOk result (λ r. (c : trees.SyntaxClass) × (p : trees.SyntaxPattern) × (seen.pattern r.0 ≡ trees.element (seen_place place) c p)
-        × reading.NamedAt false (scope_of scope.now) deepest (seen.tokens tokens.now) c p (seen.tokens r.1.now)) }
-    ensures no { IfErr result (λ e. Refuses e end deepest (seen.tokens tokens.now) (λ o d. reading.HasNamed (scope_of scope.now) (seen.tokens tokens.now) o d → ⊥)) }
-{
-    let (names, brace) = class(arena, scope, tokens, end, deepest)?;
-    let (content, after) = enclosed(arena, scope, '{', '}', brace, end, deepest)?;
-    let content: &'b SPat<'b> = arena.try_alloc(content)?;
-    Ok((SPat::Element(place, names, content), after))
-}
-
-/// Mixed content after its word, and what follows it.
-#[cycle(pattern)]
-fn mixed<'b, 's, 't>(
-    arena: &'b Bump,
-    scope: &Scope<'b>,
-    tokens: &'s [Token<'t>],
-    end: End,
-    deepest: u32,
-) -> Result<(SPat<'b>, &'s [Token<'t>]), RncFault>
-    ensures ok { IfOk result (λ r. (p : trees.SyntaxPattern) × (seen.pattern r.0 ≡ trees.mixed p)
-        × reading.EnclosedAt false (scope_of scope.now) 123 125 deepest (seen.tokens tokens.now) p (seen.tokens r.1.now)) }
-    ensures no { IfErr result (λ e. Refuses e end deepest (seen.tokens tokens.now) (λ o d. reading.HasEnclosed (scope_of scope.now) 123 125 (seen.tokens tokens.now) o d → ⊥)) }
-{
-    let (content, after) = enclosed(arena, scope, '{', '}', tokens, end, deepest)?;
-    let content: &'b SPat<'b> = arena.try_alloc(content)?;
-    Ok((SPat::Mixed(content), after))
-}
-
-/// The refusal of what stands where a primary should, where no primary that is read begins.
-fn no_primary(tokens: &[Token<'_>], end: End) -> RncFault
-    ensures stands { FaultAt result end (seen.tokens tokens.now) }
-    ensures data_alone { view.OnlyData result (seen.tokens tokens.now) }
-{
-    match datum(tokens) {
-        Some((place, why)) => RncFault::Unsupported(place, why),
-        None => no_pattern(tokens, end),
-    }
-}
-
 /// A reference, with its place.
 fn reference<'b>(arena: &'b Bump, name: &str, place: Place) -> Result<SPat<'b>, RncFault>
     ensures ok { IfOk result (λ p. seen.pattern p ≡ trees.ref name.now (seen_place place)) }
@@ -418,43 +266,9 @@ fn reference<'b>(arena: &'b Bump, name: &str, place: Place) -> Result<SPat<'b>, 
     Ok(SPat::Ref(name, place))
 }
 
-/// A primary, and what follows it.
-#[cycle(pattern)]
-fn primary<'b, 's, 't>(
-    arena: &'b Bump,
-    scope: &Scope<'b>,
-    tokens: &'s [Token<'t>],
-    end: End,
-    deepest: u32,
-) -> Result<(SPat<'b>, &'s [Token<'t>]), RncFault>
-    ensures ok { IfOk result (λ r. model.PrimaryAt false (scope_of scope.now) deepest (seen.tokens tokens.now) (seen.pattern r.0) (seen.tokens r.1.now)) }
-    ensures no { IfErr result (λ e. Refuses e end deepest (seen.tokens tokens.now) (λ o d. reading.HasPrimary (scope_of scope.now) (seen.tokens tokens.now) o d → ⊥)) }
-{
-    let Some((first, rest)) = first_of(tokens) else {
-        return Err(unexpected(tokens, end));
-    };
-    match begin_of(first) {
-        Begin::Element => element(arena, scope, first.place, rest, end, deepest),
-        Begin::Attribute => {
-            let after = attribute(arena, scope, rest, end, deepest)?;
-            Ok((SPat::Attribute, after))
-        }
-        Begin::Mixed => mixed(arena, scope, rest, end, deepest),
-        Begin::Empty => Ok((SPat::Empty, rest)),
-        Begin::Text => Ok((SPat::Text, rest)),
-        Begin::NotAllowed => Ok((SPat::NotAllowed, rest)),
-        Begin::Parenthesis => enclosed(arena, scope, '(', ')', tokens, end, deepest),
-        Begin::Reference(name) => {
-            let found = reference(arena, name, first.place)?;
-            Ok((found, rest))
-        }
-        Begin::Other => Err(no_primary(tokens, end)),
-    }
-}
-
 /// Whether a pattern would go on here, with a connector or a suffix.
 pub fn goes_on(tokens: &[Token<'_>]) -> bool
-    ensures { MatchBool result (seen.tokens tokens.now ≡ [] → ⊥) (Unit {0}) }
+    ensures { MatchBool result (stops.GoesOnAsPattern (seen.tokens tokens.now)) (stops.GoesOnAsPattern (seen.tokens tokens.now) → ⊥) }
 {
     if let Some(_) = connector_at(tokens) {
         return true;
@@ -462,5 +276,166 @@ pub fn goes_on(tokens: &[Token<'_>]) -> bool
     match suffix_at(tokens) {
         Some(_) => true,
         None => false,
+    }
+}
+
+impl<'b> Parser<'b> {
+    /// What follows the word of an attribute.
+    fn attribute<'s, 't>(
+        &self,
+        tokens: &'s [Token<'t>],
+        deepest: u32,
+    ) -> Result<&'s [Token<'t>], RncFault>
+        ensures ok { IfOk result (λ r. reading.LabelledAt (scope_of self.now.scope) deepest (seen.tokens tokens.now) (seen.tokens r.now)) }
+        ensures no { IfErr result (Refuses (parts.LabelledStops (seen.end self.now.end) (scope_of self.now.scope) deepest (seen.tokens tokens.now))) }
+    {
+        let (_, rest) = self.name_class(tokens, deepest)?;
+        braced_text(rest, self.end, deepest)
+    }
+
+    /// A pattern, and what follows it; braces and parentheses may stand so deep.
+    #[cycle(pattern)]
+    pub fn pattern<'s, 't>(
+        &self,
+        tokens: &'s [Token<'t>],
+        deepest: u32,
+    ) -> Result<(SPat<'b>, &'s [Token<'t>]), RncFault>
+        ensures ok { IfOk result (λ r. model.PatternAt false (scope_of self.now.scope) deepest (seen.tokens tokens.now) (seen.pattern r.0) (seen.tokens r.1.now)) }
+        ensures no { IfErr result (Refuses (stops.PatternStops (seen.end self.now.end) (scope_of self.now.scope) deepest (seen.tokens tokens.now))) }
+    {
+        let (first, rest) = self.particle(tokens, deepest)?;
+        let Some((between, behind)) = connector_at(rest) else {
+            return Ok((first, rest));
+        };
+        let (all, after) = self.particles(between, first, behind, deepest)?;
+        Ok((joined(between, all), after))
+    }
+
+    /// This particle and those that follow its connector, and what follows them.
+    #[cycle(pattern)]
+    fn particles<'s, 't>(
+        &self,
+        between: Connector,
+        first: SPat<'b>,
+        tokens: &'s [Token<'t>],
+        deepest: u32,
+    ) -> Result<(&'b [SPat<'b>], &'s [Token<'t>]), RncFault>
+        ensures ok { IfOk result (λ r. (ps : trees.SyntaxPatterns) × (seen.patterns r.0.now ≡ trees.more (seen.pattern first.entry) ps)
+            × model.ItemsAt false (scope_of self.now.scope) (view.connector between) deepest (seen.tokens tokens.now) ps (seen.tokens r.1.now)) }
+        ensures no { IfErr result (Refuses (stops.ItemsStop (seen.end self.now.end) (scope_of self.now.scope) (view.connector between) deepest (seen.tokens tokens.now))) }
+    {
+        let mut all = Vec::new(self.arena);
+        all.push(first)?;
+        let mut rest = tokens.split_at(0).1;
+        loop {
+            let (next, after) = self.particle(rest, deepest)?;
+            all.push(next)?;
+            let Some(behind) = next_item(between, after, self.end)? else {
+                return Ok((into_bump_slice(all), after));
+            };
+            rest = behind;
+        }
+    }
+
+    /// A primary with its suffix, if it has one, and what follows.
+    #[cycle(pattern)]
+    fn particle<'s, 't>(
+        &self,
+        tokens: &'s [Token<'t>],
+        deepest: u32,
+    ) -> Result<(SPat<'b>, &'s [Token<'t>]), RncFault>
+        ensures ok { IfOk result (λ r. model.ItemAt false (scope_of self.now.scope) deepest (seen.tokens tokens.now) (seen.pattern r.0) (seen.tokens r.1.now)) }
+        ensures no { IfErr result (Refuses (stops.PrimaryStops (seen.end self.now.end) (scope_of self.now.scope) deepest (seen.tokens tokens.now))) }
+    {
+        let (inner, rest) = self.primary(tokens, deepest)?;
+        let Some((suffix, after)) = suffix_at(rest) else {
+            return Ok((inner, rest));
+        };
+        let whole = suffixed(self.arena, suffix, inner)?;
+        Ok((whole, after))
+    }
+
+    /// A pattern within these marks, and what follows.
+    #[cycle(pattern)]
+    fn enclosed<'s, 't>(
+        &self,
+        left: char,
+        right: char,
+        tokens: &'s [Token<'t>],
+        deepest: u32,
+    ) -> Result<(SPat<'b>, &'s [Token<'t>]), RncFault>
+        ensures ok { IfOk result (λ r. reading.EnclosedAt false (scope_of self.now.scope) left right deepest (seen.tokens tokens.now) (seen.pattern r.0) (seen.tokens r.1.now)) }
+        ensures no { IfErr result (Refuses (stops.EnclosedStops (seen.end self.now.end) (scope_of self.now.scope) left right deepest (seen.tokens tokens.now))) }
+    {
+        let (inside, deeper) = opened(left, tokens, self.end, deepest)?;
+        let (inner, closing) = self.pattern(inside, deeper)?;
+        let after = expect_mark(closing, right, self.end)?;
+        Ok((inner, after))
+    }
+
+    /// An element after its word, which stands at this place, and what follows it.
+    #[cycle(pattern)]
+    fn element<'s, 't>(
+        &self,
+        place: Place,
+        tokens: &'s [Token<'t>],
+        deepest: u32,
+    ) -> Result<(SPat<'b>, &'s [Token<'t>]), RncFault>
+        ensures ok { IfOk result (λ r. (c : trees.SyntaxClass) × (p : trees.SyntaxPattern) × (seen.pattern r.0 ≡ trees.element (seen_place place) c p)
+            × reading.NamedAt false (scope_of self.now.scope) deepest (seen.tokens tokens.now) c p (seen.tokens r.1.now)) }
+        ensures no { IfErr result (Refuses (parts.NamedStops (seen.end self.now.end) (scope_of self.now.scope) deepest (seen.tokens tokens.now))) }
+    {
+        let (names, brace) = self.name_class(tokens, deepest)?;
+        let (content, after) = self.enclosed('{', '}', brace, deepest)?;
+        let content: &'b SPat<'b> = self.arena.try_alloc(content)?;
+        Ok((SPat::Element(place, names, content), after))
+    }
+
+    /// Mixed content after its word, and what follows it.
+    #[cycle(pattern)]
+    fn mixed<'s, 't>(
+        &self,
+        tokens: &'s [Token<'t>],
+        deepest: u32,
+    ) -> Result<(SPat<'b>, &'s [Token<'t>]), RncFault>
+        ensures ok { IfOk result (λ r. (p : trees.SyntaxPattern) × (seen.pattern r.0 ≡ trees.mixed p)
+            × reading.EnclosedAt false (scope_of self.now.scope) 123 125 deepest (seen.tokens tokens.now) p (seen.tokens r.1.now)) }
+        ensures no { IfErr result (Refuses (stops.EnclosedStops (seen.end self.now.end) (scope_of self.now.scope) 123 125 deepest (seen.tokens tokens.now))) }
+    {
+        let (content, after) = self.enclosed('{', '}', tokens, deepest)?;
+        let content: &'b SPat<'b> = self.arena.try_alloc(content)?;
+        Ok((SPat::Mixed(content), after))
+    }
+
+    /// A primary, and what follows it.
+    #[cycle(pattern)]
+    fn primary<'s, 't>(
+        &self,
+        tokens: &'s [Token<'t>],
+        deepest: u32,
+    ) -> Result<(SPat<'b>, &'s [Token<'t>]), RncFault>
+        ensures ok { IfOk result (λ r. model.PrimaryAt false (scope_of self.now.scope) deepest (seen.tokens tokens.now) (seen.pattern r.0) (seen.tokens r.1.now)) }
+        ensures no { IfErr result (Refuses (stops.PrimaryStops (seen.end self.now.end) (scope_of self.now.scope) deepest (seen.tokens tokens.now))) }
+    {
+        let Some((first, rest)) = first_of(tokens) else {
+            return Err(unexpected(tokens, self.end));
+        };
+        match begin_of(first) {
+            Begin::Element => self.element(first.place, rest, deepest),
+            Begin::Attribute => {
+                let after = self.attribute(rest, deepest)?;
+                Ok((SPat::Attribute, after))
+            }
+            Begin::Mixed => self.mixed(rest, deepest),
+            Begin::Empty => Ok((SPat::Empty, rest)),
+            Begin::Text => Ok((SPat::Text, rest)),
+            Begin::NotAllowed => Ok((SPat::NotAllowed, rest)),
+            Begin::Parenthesis => self.enclosed('(', ')', tokens, deepest),
+            Begin::Reference(name) => {
+                let found = reference(self.arena, name, first.place)?;
+                Ok((found, rest))
+            }
+            Begin::Other => Err(no_pattern(tokens, self.end)),
+        }
     }
 }

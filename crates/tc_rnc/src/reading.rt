@@ -6,7 +6,7 @@ ghost use Rattle.tc_rnc.specs.Views as seen;
 
 use crate::faults::{RncFault, at_end};
 use crate::lexing::tokens_of;
-use crate::schema::schema;
+use crate::schema::top_level;
 use crate::syntax::Syntax;
 use bumpalo::Bump;
 use tc_base::Place;
@@ -25,7 +25,7 @@ pub fn read_rnc<'b>(arena: &'b Bump, text: &[u8]) -> Result<Syntax<'b>, RncFault
     ensures stands { IfErr result (λ e. Stands e text.now) }
 {
     let tokens = tokens_of(arena, text)?;
-    let defs = schema(arena, &tokens.list, tokens.end)?;
+    let defs = top_level(arena, &tokens.list, tokens.end)?;
     if !tokens.whole {
         return Err(at_end(tokens.end));
     }

@@ -1,21 +1,22 @@
 // Whole schemas, as tokens (OASIS, RELAX NG Compact Syntax, 2002: topLevel).
-ghost use Rattle.std.specs.Prelude.{◌≡◌, List, [], false, map, OnOk, OnErr, IfOk, IfErr, MatchBool, MatchOption, codes};
+ghost use Rattle.std.specs.Prelude.{◌≡◌, List, [], ◌∷◌, false, map, OnOk, OnErr, IfOk, IfErr, MatchBool, MatchOption, codes};
 ghost use Rattle.tc_model.specs.CompactSyntax as model;
-ghost use Rattle.tc_model.specs.CompactSyntaxPatterns as patterns;
+ghost use Rattle.tc_model.specs.CompactSyntaxNames as names;
+ghost use Rattle.tc_model.specs.CompactSyntaxStops as stops;
+ghost use Rattle.tc_model.specs.CompactSyntaxTrees as trees;
+ghost use Rattle.tc_model.specs.CompactSyntaxUnread.{Unexpected};
 ghost use Rattle.tc_model.specs.XmlTextScopes.{first_scope};
-ghost use Rattle.tc_rnc.specs.Readings.{HasSchema};
-ghost use Rattle.tc_rnc.specs.Refusals.{FaultAt, Refuses};
+ghost use Rattle.tc_rnc.specs.Refusals.{Refuses};
 ghost use Rattle.tc_rnc.specs.Schemas as schemas;
 ghost use Rattle.tc_rnc.specs.Scopes.{scope_of};
 ghost use Rattle.tc_rnc.specs.Views as seen;
 ghost use Rattle.tc_rnc.specs.declared.faults.RncFault.TheVariants.{NoMemory};
 
-use crate::declarations::{after_word, declarations};
-use crate::definitions::{block, definitions, operator};
+use crate::definitions::operator;
 use crate::faults::{RncFault, first_of, unexpected};
-use crate::patterns::{goes_on, pattern};
-use crate::scopes::Scope;
-use crate::syntax::{Def, Joins};
+use crate::parser::Parser;
+use crate::patterns::goes_on;
+use crate::syntax::{Def, Joins, SPat};
 use crate::tokens::{End, Token};
 use bumpalo::Bump;
 use bumpalo::collections::into_bump_slice;
@@ -26,7 +27,7 @@ const DEEPEST: u32 = 2000;
 
 /// Whether the tokens begin with definitions and not with a pattern, as far as one can tell.
 fn is_definitions(tokens: &[Token<'_>]) -> bool
-    ensures { MatchBool result (schemas.BeginsDefinitions (seen.tokens tokens.now)) (schemas.LacksDefinitions (seen.tokens tokens.now)) }
+    ensures { MatchBool result (stops.BeginsDefinitions (seen.tokens tokens.now)) (schemas.LacksDefinitions (seen.tokens tokens.now)) }
 {
     let Some((first, rest)) = first_of(tokens) else {
         return true;
@@ -49,11 +50,24 @@ fn is_definitions(tokens: &[Token<'_>]) -> bool
     }
 }
 
+/// The word `grammar` that stands first, and what follows it.
+fn grammar_at<'s, 't>(tokens: &'s [Token<'t>]) -> Option<(&'s Token<'t>, &'s [Token<'t>])>
+    ensures { MatchOption result (stops.LacksWord (codes "grammar") (seen.tokens tokens.now))
+        (λ r. (seen.tokens tokens.now ≡ seen.token r.0.now ∷ seen.tokens r.1.now) × names.IsWord (codes "grammar") (seen.token r.0.now)) }
+{
+    let (first, rest) = first_of(tokens)?;
+    if first.is_name("grammar") {
+        Some((first, rest))
+    } else {
+        None
+    }
+}
+
 /// Whether the tokens end here.
 fn expect_end(tokens: &[Token<'_>], end: End) -> Result<(), RncFault>
     ensures ok { OnOk result (seen.tokens tokens.now ≡ []) }
     ensures no { OnErr result (seen.tokens tokens.now ≡ [] → ⊥) }
-    ensures stands { IfErr result (λ e. FaultAt e end (seen.tokens tokens.now)) }
+    ensures stands { IfErr result (Refuses (Unexpected (seen.end end) (seen.tokens tokens.now))) }
 {
     match first_of(tokens) {
         None => Ok(()),
@@ -61,21 +75,11 @@ fn expect_end(tokens: &[Token<'_>], end: End) -> Result<(), RncFault>
     }
 }
 
-/// Reads one pattern, which defines `start`.
-fn whole_pattern<'b, 's, 't>(
-    arena: &'b Bump,
-    scope: &Scope<'b>,
-    tokens: &'s [Token<'t>],
-    end: End,
-) -> Result<&'b [Def<'b>], RncFault>
-    requires declared { schemas.LacksDeclaration (seen.tokens tokens.now) }
-    requires alone { schemas.LacksWord (codes "grammar") (seen.tokens tokens.now) }
-    requires undefined { schemas.LacksDefinitions (seen.tokens tokens.now) }
-    ensures ok { IfOk result (λ r. model.SchemaAt false (scope_of scope.now) 2000 (seen.tokens tokens.now) (map seen.definition r.now)) }
-    ensures no { IfErr result (λ e. Refuses e end 2000 (seen.tokens tokens.now) (λ o d. HasSchema (scope_of scope.now) (seen.tokens tokens.now) o d → ⊥)) }
+/// The definition of `start` by a pattern that is the whole schema.
+fn start_alone<'b>(arena: &'b Bump, body: SPat<'b>) -> Result<&'b [Def<'b>], RncFault>
+    ensures ok { IfOk result (λ r. map seen.definition r.now ≡ model.one_definition [] trees.plain (seen.pattern body.entry) 0) }
+    ensures no { IfErr result (λ e. e ≡ NoMemory) }
 {
-    let (body, rest) = pattern(arena, scope, tokens, end, DEEPEST)?;
-    expect_end(rest, end)?;
     let mut defs = Vec::new(arena);
     defs.push(Def {
         name: "",
@@ -86,88 +90,78 @@ fn whole_pattern<'b, 's, 't>(
     Ok(into_bump_slice(defs))
 }
 
-/// Reads definitions, up to the end.
-fn whole_definitions<'b, 's, 't>(
-    arena: &'b Bump,
-    scope: &Scope<'b>,
-    tokens: &'s [Token<'t>],
-    end: End,
-) -> Result<&'b [Def<'b>], RncFault>
-    requires declared { schemas.LacksDeclaration (seen.tokens tokens.now) }
-    requires alone { schemas.LacksWord (codes "grammar") (seen.tokens tokens.now) }
-    requires defined { schemas.BeginsDefinitions (seen.tokens tokens.now) }
-    ensures ok { IfOk result (λ r. model.SchemaAt false (scope_of scope.now) 2000 (seen.tokens tokens.now) (map seen.definition r.now)) }
-    ensures no { IfErr result (λ e. Refuses e end 2000 (seen.tokens tokens.now) (λ o d. HasSchema (scope_of scope.now) (seen.tokens tokens.now) o d → ⊥)) }
-{
-    let mut defs = Vec::new(arena);
-    let rest = definitions(arena, scope, &mut defs, tokens, end, DEEPEST)?;
-    expect_end(rest, end)?;
-    Ok(into_bump_slice(defs))
-}
-
-/// Reads a grammar within braces, of which `rest` is what follows its word, up to the end.
-fn whole_grammar<'b, 's, 't>(
-    arena: &'b Bump,
-    scope: &Scope<'b>,
-    tokens: &'s [Token<'t>],
-    rest: &'s [Token<'t>],
-    end: End,
-) -> Result<&'b [Def<'b>], RncFault>
-    requires { schemas.StartsWith (codes "grammar") (seen.tokens tokens.now) (seen.tokens rest.now) }
-    ensures ok { IfOk result (λ r. model.SchemaAt false (scope_of scope.now) 2000 (seen.tokens tokens.now) (map seen.definition r.now)) }
-    ensures no { IfErr result (λ e. Refuses e end 2000 (seen.tokens tokens.now) (λ o d. HasSchema (scope_of scope.now) (seen.tokens tokens.now) o d → ⊥)) }
-{
-    let mut defs = Vec::new(arena);
-    let after = block(arena, scope, &mut defs, rest, end, DEEPEST)?;
-    if goes_on(after) {
-        return Err(inner_grammar(tokens, end));
+impl<'b> Parser<'b> {
+    /// Reads one pattern, which defines `start`.
+    fn whole_pattern<'s, 't>(&self, tokens: &'s [Token<'t>]) -> Result<&'b [Def<'b>], RncFault>
+        requires declared { schemas.LacksDeclaration (seen.tokens tokens.now) }
+        requires alone { stops.LacksWord (codes "grammar") (seen.tokens tokens.now) }
+        requires undefined { schemas.LacksDefinitions (seen.tokens tokens.now) }
+        ensures ok { IfOk result (λ r. model.SchemaAt false (scope_of self.now.scope) 2000 (seen.tokens tokens.now) (map seen.definition r.now)) }
+        ensures no { IfErr result (Refuses (stops.SchemaStops (seen.end self.now.end) (scope_of self.now.scope) 2000 (seen.tokens tokens.now))) }
+    {
+        let (body, rest) = self.pattern(tokens, DEEPEST)?;
+        expect_end(rest, self.end)?;
+        let defs = start_alone(self.arena, body)?;
+        Ok(defs)
     }
-    expect_end(after, end)?;
-    Ok(into_bump_slice(defs))
-}
 
-/// The refusal of a grammar that is a part of a pattern.
-fn inner_grammar(tokens: &[Token<'_>], end: End) -> RncFault
-    ensures { FaultAt result end (seen.tokens tokens.now) }
-{
-    if let Some((first, _)) = first_of(tokens) {
-        if first.is_name("grammar") {
-            return RncFault::Unsupported(first.place, Why::N11);
+    /// Reads definitions, up to the end.
+    fn whole_definitions<'s, 't>(&self, tokens: &'s [Token<'t>]) -> Result<&'b [Def<'b>], RncFault>
+        requires { stops.BeginsDefinitions (seen.tokens tokens.now) }
+        ensures ok { IfOk result (λ r. model.SchemaAt false (scope_of self.now.scope) 2000 (seen.tokens tokens.now) (map seen.definition r.now)) }
+        ensures no { IfErr result (Refuses (stops.SchemaStops (seen.end self.now.end) (scope_of self.now.scope) 2000 (seen.tokens tokens.now))) }
+    {
+        let mut defs = Vec::new(self.arena);
+        let rest = self.definitions(&mut defs, tokens, DEEPEST)?;
+        expect_end(rest, self.end)?;
+        Ok(into_bump_slice(defs))
+    }
+
+    /// Reads a grammar within braces after its word, up to the end.
+    fn whole_grammar<'s, 't>(
+        &self,
+        word: &Token<'t>,
+        rest: &'s [Token<'t>],
+    ) -> Result<&'b [Def<'b>], RncFault>
+        requires { names.IsWord (codes "grammar") (seen.token word.now) }
+        ensures ok { IfOk result (λ r. model.SchemaAt false (scope_of self.now.scope) 2000 (seen.token word.now ∷ seen.tokens rest.now) (map seen.definition r.now)) }
+        ensures no { IfErr result (Refuses (stops.SchemaStops (seen.end self.now.end) (scope_of self.now.scope) 2000 (seen.token word.now ∷ seen.tokens rest.now))) }
+    {
+        let mut defs = Vec::new(self.arena);
+        let after = self.braced_definitions(&mut defs, rest, DEEPEST)?;
+        if goes_on(after) {
+            return Err(RncFault::Unsupported(word.place, Why::N11));
         }
+        expect_end(after, self.end)?;
+        Ok(into_bump_slice(defs))
     }
-    unexpected(tokens, end)
-}
 
-/// Reads what follows the declarations.
-fn body<'b, 's, 't>(
-    arena: &'b Bump,
-    scope: &Scope<'b>,
-    tokens: &'s [Token<'t>],
-    end: End,
-) -> Result<&'b [Def<'b>], RncFault>
-    requires { schemas.LacksDeclaration (seen.tokens tokens.now) }
-    ensures ok { IfOk result (λ r. model.SchemaAt false (scope_of scope.now) 2000 (seen.tokens tokens.now) (map seen.definition r.now)) }
-    ensures no { IfErr result (λ e. Refuses e end 2000 (seen.tokens tokens.now) (λ o d. HasSchema (scope_of scope.now) (seen.tokens tokens.now) o d → ⊥)) }
-{
-    if let Some(rest) = after_word(tokens, "grammar") {
-        return whole_grammar(arena, scope, tokens, rest, end);
+    /// Reads what follows the declarations.
+    fn top_level_body<'s, 't>(&self, tokens: &'s [Token<'t>]) -> Result<&'b [Def<'b>], RncFault>
+        requires { schemas.LacksDeclaration (seen.tokens tokens.now) }
+        ensures ok { IfOk result (λ r. model.SchemaAt false (scope_of self.now.scope) 2000 (seen.tokens tokens.now) (map seen.definition r.now)) }
+        ensures no { IfErr result (Refuses (stops.SchemaStops (seen.end self.now.end) (scope_of self.now.scope) 2000 (seen.tokens tokens.now))) }
+    {
+        if let Some((word, rest)) = grammar_at(tokens) {
+            return self.whole_grammar(word, rest);
+        }
+        if is_definitions(tokens) {
+            return self.whole_definitions(tokens);
+        }
+        self.whole_pattern(tokens)
     }
-    if is_definitions(tokens) {
-        return whole_definitions(arena, scope, tokens, end);
-    }
-    whole_pattern(arena, scope, tokens, end)
 }
 
 /// The definitions of a schema, whose tokens these are.
-pub fn schema<'b, 's, 't>(
+pub fn top_level<'b, 's, 't>(
     arena: &'b Bump,
     tokens: &'s [Token<'t>],
     end: End,
 ) -> Result<&'b [Def<'b>], RncFault>
     ensures ok { IfOk result (λ r. model.SchemaAt false first_scope 2000 (seen.tokens tokens.now) (map seen.definition r.now)) }
-    ensures no { IfErr result (λ e. Refuses e end 2000 (seen.tokens tokens.now) (λ o d. HasSchema first_scope (seen.tokens tokens.now) o d → ⊥)) }
+    ensures no { IfErr result (Refuses (stops.SchemaStops (seen.end end) first_scope 2000 (seen.tokens tokens.now))) }
 {
-    let mut scope = Scope::first(arena)?;
-    let rest = declarations(arena, &mut scope, tokens, end)?;
-    body(arena, &scope, rest, end)
+    let mut parser = Parser::new(arena, end)?;
+    let rest = parser.declarations(tokens)?;
+    parser.top_level_body(rest)
 }

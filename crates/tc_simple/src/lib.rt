@@ -2,13 +2,15 @@
 //! and text are told).
 #![tactic(auto)]
 
-ghost use Rattle.std.specs.Prelude.{IfErr, IfOk};
+ghost use Rattle.std.specs.Prelude.{◌≡◌, None, IfErr, IfOk};
 ghost use Rattle.tc_model.specs.CompactSyntaxLawful.{IsLawfulSyntax};
 ghost use Rattle.tc_model.specs.Views as seen;
 ghost use Rattle.tc_model.specs.Simplifies.{Simplifies};
 ghost use Rattle.tc_model.specs.SimplifiesCounts.{IsWithinCounts};
+ghost use Rattle.tc_model.specs.SimplifiesFaults.{twice_at, undefined_at};
 ghost use Rattle.tc_rnc.specs.Views as see;
 ghost use Rattle.tc_simple.specs.Refused.{Refuses};
+ghost use Rattle.tc_simple.specs.Resolves.{Resolves};
 
 mod becomes;
 mod checks;
@@ -27,6 +29,7 @@ pub use faults::SimpleFault;
 use grammar::{built, counted};
 use groups::Table;
 use resolve::{check, defined_start, mark, walk};
+use tc_graph::Walk;
 use tc_model::Grammar;
 use tc_rnc::Syntax;
 
@@ -45,8 +48,28 @@ pub fn simplify<'b>(arena: &'b Bump, syntax: &Syntax<'b>) -> Result<Grammar<'b>,
     let start = defined_start(&table, syntax)?;
     let marks = mark(arena, &table, start, true)?;
     let walked = walk(arena, &table)?;
-    check(arena, syntax, &table, start, &marks, &walked)?;
-    let found = counted(arena, syntax, &table, start, &marks, &walked)?;
-    let grammar = built(arena, &table, start, &marks, &walked, &found)?;
+    resolved(arena, syntax, &table, start, &marks, &walked)
+}
+
+/// The grammar of a syntax tree whose definitions are joined, and whose references are followed.
+fn resolved<'b>(
+    arena: &'b Bump,
+    syntax: &Syntax<'b>,
+    table: &Table<'b>,
+    start: usize,
+    marks: &[bool],
+    walked: &Walk<'b>,
+) -> Result<Grammar<'b>, SimpleFault>
+    requires lawful { IsLawfulSyntax (see.syntax syntax.now) }
+    requires once { twice_at (see.syntax syntax.now) ≡ None }
+    requires defined { undefined_at (see.syntax syntax.now) ≡ None }
+    requires resolves { Resolves (see.syntax syntax.now) table.now start marks.now walked.now.states.items walked.now.order.items }
+    ensures grammar { IfOk result (λ g. Simplifies (see.syntax syntax.now) (seen.grammar g)) }
+    ensures within { IfOk result (λ g. IsWithinCounts (seen.grammar g)) }
+    ensures err { IfErr result (λ e. Refuses (see.syntax syntax.now) e) }
+{
+    check(arena, syntax, table, start, marks, walked)?;
+    let found = counted(arena, syntax, table, start, marks, walked)?;
+    let grammar = built(arena, table, start, marks, walked, &found)?;
     Ok(grammar)
 }

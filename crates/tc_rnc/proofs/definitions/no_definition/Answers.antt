@@ -1,7 +1,10 @@
-use Rattle.std.proofs.Common.{inl}
-use Rattle.tc_model.specs.CompactSyntaxRefused.{include}
-use Rattle.tc_rnc.proofs.Constructs.{construct_first}
+use Rattle.tc_rnc.specs.Refusals.{unsupported}
+use Rattle.tc_rnc.proofs.Constructs.{include_first, none_defined}
+use Rattle.tc_rnc.proofs.RefusalLaws.{refuses_map}
 use Rattle.tc_rnc.proofs.definitions.no_definition.Goals as goal
 
-pub returns-in-Some : goal.returns-in-Some
-returns-in-Some c = inl (construct_first c.in-Some.ensures (include c.if-is_name.ensures))
+pub returns-then-is_name : goal.returns-then-is_name
+returns-then-is_name c = unsupported (include_first c.requires.first c.if-is_name.ensures)
+
+pub returns : goal.returns
+returns c = refuses_map c.unexpected.ensures (λ x y. none_defined c.requires.first c.requires.more c.requires.no_div c.requires.nothing c.if-is_name.ensures y)

@@ -1,7 +1,8 @@
 use Rattle.std.proofs.Common.{arith, ◌∷◌, [], ap, subst, sym, ◌∙◌}
 use Rattle.tc_rnc.specs.Lexed.{ReadsTokens}
 use Rattle.tc_rnc.specs.Views as seen
-use Rattle.tc_rnc.proofs.LexLaws.{none_yet_read, one_more_read, skips_within, word_shorter}
+use Rattle.tc_model.proofs.CompactSyntaxOrdered.{word_shorter}
+use Rattle.tc_rnc.proofs.LexLaws.{none_yet_read, one_more_read, skips_within}
 use Rattle.tc_rnc.proofs.Views.{tokens_append}
 use Rattle.tc_rnc.proofs.lexing.tokens_at.Goals as goal
 

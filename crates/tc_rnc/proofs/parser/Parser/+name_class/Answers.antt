@@ -1,0 +1,161 @@
+use Rattle.std.proofs.Common.{[], ◌∷◌, ◌++◌, refl, ap, ◌∙◌, sym, subst, length, arith}
+use Rattle.tc_model.specs.CompactSyntaxNames.{alone, nothing, ClassAt, SimpleAt, ExceptAt}
+use Rattle.tc_model.specs.CompactSyntaxStops as st
+use Rattle.tc_model.specs.CompactSyntaxTrees.{one_of}
+use Rattle.tc_model.specs.Views.{name}
+use Rattle.tc_model.proofs.CompactSyntaxBehind.{behind_shorter, simple_behind}
+use Rattle.tc_rnc.specs.Refusals.{too_deep}
+use Rattle.tc_rnc.specs.Stops.{within, unclosed}
+use Rattle.tc_rnc.specs.Scopes.{scope_of}
+use Rattle.tc_rnc.specs.Views as seen
+use Rattle.tc_rnc.proofs.RefusalLaws.{refuses_map, passed, passes, unmade, unmade_by, map_ok, at_some, at_none}
+use Rattle.tc_rnc.proofs.ClassLaws as l
+use Rattle.tc_rnc.proofs.Views.{see_name, see_ns, see_any, see_one_of}
+use Rattle.tc_rnc.proofs.parser.Parser.+name_class.Goals as goal
+
+pub name_class-returns-in_err-first-clause-no : goal.name_class-returns-in_err-first-clause-no
+name_class-returns-in_err-first-clause-no t c =
+    passed _ _ c.from_residual.ensures.1 c.in_err-first.ensures.no (λ v y. st.simple y)
+
+pub name_class-returns-in_default-clause-ok : goal.name_class-returns-in_default-clause-ok
+name_class-returns-in_default-clause-ok t c = alone c.in_ok-first.ensures.ok c.in_default.ensures
+
+pub name_class-name_classes-requires : goal.name_class-name_classes-requires
+name_class-name_classes-requires t c = (omega (arith, c.decreases, behind_shorter (simple_behind c.in_ok-first.ensures.ok), l.begins_shorter c.in-Some.ensures), tt)
+
+pub name_class-returns-in_err-all-clause-no : goal.name_class-returns-in_err-all-clause-no
+name_class-returns-in_err-all-clause-no t c =
+    passed _ _ c.from_residual-in_err-all.ensures.1 c.in_err-all.ensures.no (λ v y. l.past_bar c.in_ok-first.ensures.ok c.in-Some.ensures y)
+
+pub name_class-returns-clause-ok : goal.name_class-returns-clause-ok
+name_class-returns-clause-ok t c =
+    let (cs, is, m) = c.in_ok-all.ensures.ok in
+    subst (λ z. ClassAt (scope_of c.args.self.now.scope) c.args.deepest (seen.tokens c.args.tokens.now) z (seen.tokens c.in_ok-all.after.now)) (sym (see_one_of c.in_ok-all.all ∙ ap one_of is))
+    (l.several_classes (scope_of c.args.self.now.scope) c.args.deepest (seen.tokens c.args.tokens.now) (seen.tokens c.in_ok-first.rest.now) (seen.tokens c.in-Some.behind.now) (seen.tokens c.in_ok-all.after.now) (seen.class c.in_ok-first.first) cs c.in_ok-first.ensures.ok c.in-Some.ensures m)
+
+pub name_classes-returns-in_err-push-clause-no : goal.name_classes-returns-in_err-push-clause-no
+name_classes-returns-in_err-push-clause-no t c =
+    unmade _ _ c.from_residual.ensures.1
+
+pub name_classes-loop-all-init : goal.name_classes-loop-all-init
+name_classes-loop-all-init t c =
+    subst (λ z. l.ClassesSoFar (seen.end c.args.self.now.end) (scope_of c.args.self.now.scope) c.args.deepest (seen.tokens c.args.tokens.now) (seen.tokens z) c.args.first c.push.new.self.items) (sym c.split_at.ensures.back)
+    (l.no_classes_yet (seen.end c.args.self.now.end) (scope_of c.args.self.now.scope) c.args.deepest (seen.tokens c.args.tokens.now) c.args.first c.push.new.self.items (c.in_ok-push.ensures.items ∙ ap (λ z. z ++ c.args.first ∷ []) c.new-all.ensures.items))
+
+pub name_classes-simple_name_class-requires : goal.name_classes-simple_name_class-requires
+name_classes-simple_name_class-requires t c = (omega (arith, c.decreases, c.loop-all.invariant.shorter), tt)
+
+pub name_classes-returns-in_err-next-clause-no : goal.name_classes-returns-in_err-next-clause-no
+name_classes-returns-in_err-next-clause-no t c =
+    passed _ _ c.from_residual-in_err-next.ensures.1 c.in_err-next.ensures.no (λ v y. c.loop-all.invariant.stops v (st.simple y))
+
+pub name_classes-returns-in_default-clause-ok : goal.name_classes-returns-in_default-clause-ok
+name_classes-returns-in_default-clause-ok t c =
+    l.classes_done (seen.end c.args.self.now.end) (scope_of c.args.self.now.scope) c.args.deepest (seen.tokens c.args.tokens.now) (seen.tokens c.loop-all.rest.now) (seen.tokens c.in_ok-next.after.now) c.args.first c.in_ok-next.next c.loop-all.all.items
+    c.into_bump_slice.result.now c.loop-all.invariant c.in_ok-next.ensures.ok c.in_default.ensures (c.into_bump_slice.ensures ∙ c.in_ok-push-2.ensures.items)
+
+pub name_classes-loop-all-smaller : goal.name_classes-loop-all-smaller
+name_classes-loop-all-smaller t c = omega (arith, behind_shorter (simple_behind c.in_ok-next.ensures.ok), l.begins_shorter c.in-Some.ensures)
+
+pub name_classes-loop-all-preserved : goal.name_classes-loop-all-preserved
+name_classes-loop-all-preserved t c =
+    l.more_classes (seen.end c.args.self.now.end) (scope_of c.args.self.now.scope) c.args.deepest (seen.tokens c.args.tokens.now) (seen.tokens c.loop-all.rest.now) (seen.tokens c.in_ok-next.after.now) (seen.tokens c.in-Some.behind.now) c.args.first c.in_ok-next.next
+    c.loop-all.all.items c.push-in-loop-all.new.self.items c.loop-all.invariant c.in_ok-next.ensures.ok c.in-Some.ensures c.in_ok-push-2.ensures.items
+
+pub closed_name_class-returns-in_err-inner-clause-no : goal.closed_name_class-returns-in_err-inner-clause-no
+closed_name_class-returns-in_err-inner-clause-no t c =
+    passed _ _ c.from_residual.ensures.1 c.in_err-inner.ensures.no (λ v y. within y)
+
+pub closed_name_class-returns-in_err-after-clause-no : goal.closed_name_class-returns-in_err-after-clause-no
+closed_name_class-returns-in_err-after-clause-no t c =
+    passed _ _ c.from_residual-in_err-after.ensures.1 c.in_err-after.ensures.stands (λ v y. unclosed c.in_ok-inner.ensures.ok c.in_err-after.ensures.no y)
+
+pub closed_name_class-returns-clause-ok : goal.closed_name_class-returns-clause-ok
+closed_name_class-returns-clause-ok t c =
+    l.a_closed_class (scope_of c.args.self.now.scope) c.args.deepest (seen.tokens c.args.tokens.now) (seen.tokens c.in_ok-inner.closing.now) (seen.tokens c.in_ok-after.after.now) (seen.class c.in_ok-inner.inner) c.in_ok-inner.ensures.ok c.in_ok-after.ensures.ok
+
+pub except_name_class-returns-in_default-clause-ok : goal.except_name_class-returns-in_default-clause-ok
+except_name_class-returns-in_default-clause-ok t c =
+    subst (λ z. ExceptAt (scope_of c.args.self.now.scope) c.args.deepest (seen.tokens c.args.tokens.now) (seen.classes z) (seen.tokens c.args.tokens.now)) (sym (c.into_bump_slice.ensures ∙ c.new-classes.ensures.items)) (nothing c.in_default.ensures)
+
+pub except_name_class-simple_name_class-requires : goal.except_name_class-simple_name_class-requires
+except_name_class-simple_name_class-requires t c = (omega (arith, c.decreases, l.begins_shorter c.in-Some.ensures), tt)
+
+pub except_name_class-returns-in_err-class-clause-no : goal.except_name_class-returns-in_err-class-clause-no
+except_name_class-returns-in_err-class-clause-no t c =
+    passed _ _ c.from_residual.ensures.1 c.in_err-class.ensures.no (λ v y. l.except_stops c.in-Some.ensures y)
+
+pub except_name_class-returns-in_err-push-clause-no : goal.except_name_class-returns-in_err-push-clause-no
+except_name_class-returns-in_err-push-clause-no t c =
+    unmade _ _ c.from_residual-in_err-push.ensures.1
+
+pub except_name_class-returns-clause-ok : goal.except_name_class-returns-clause-ok
+except_name_class-returns-clause-ok t c =
+    subst (λ z. ExceptAt (scope_of c.args.self.now.scope) c.args.deepest (seen.tokens c.args.tokens.now) (seen.classes z) (seen.tokens c.in_ok-class.after.now))
+    (sym (c.into_bump_slice-2.ensures ∙ (c.in_ok-push.ensures.items ∙ ap (λ z. z ++ c.in_ok-class.class ∷ []) c.new-classes.ensures.items)))
+    (l.one_except (scope_of c.args.self.now.scope) c.args.deepest (seen.tokens c.args.tokens.now) (seen.tokens c.in-Some.behind.now) (seen.tokens c.in_ok-class.after.now) (seen.class c.in_ok-class.class) c.in-Some.ensures c.in_ok-class.ensures.ok)
+
+pub simple_name_class-returns-in_default-clause-no : goal.simple_name_class-returns-in_default-clause-no
+simple_name_class-returns-in_default-clause-no t c =
+    refuses_map c.unexpected.ensures (λ v y. l.no_token_stops c.in_default.ensures y)
+
+pub simple_name_class-returns-then-deepest-eq0-clause-no : goal.simple_name_class-returns-then-deepest-eq0-clause-no
+simple_name_class-returns-then-deepest-eq0-clause-no t c =
+    too_deep (l.deep_class c.in-Some.ensures c.if-is_mark.ensures c.if-deepest-eq0.true)
+
+pub simple_name_class-closed_name_class-requires : goal.simple_name_class-closed_name_class-requires
+simple_name_class-closed_name_class-requires t c = (omega (arith, c.decreases, ap length c.in-Some.ensures), tt)
+
+pub simple_name_class-returns-then-is_mark-clause-ok : goal.simple_name_class-returns-then-is_mark-clause-ok
+simple_name_class-returns-then-is_mark-clause-ok t c =
+    map_ok _ _ c.closed_name_class.result
+    (λ r m. l.simple_closed (scope_of c.args.self.now.scope) c.args.deepest (seen.tokens c.args.tokens.now) (seen.tokens c.in-Some.rest.now) (seen.tokens r.1.now) (seen.class r.0) c.if-deepest-eq0.false ((seen.token c.in-Some.first.now), c.in-Some.ensures, c.if-is_mark.ensures) m) c.closed_name_class.ensures.ok
+
+pub simple_name_class-returns-then-is_mark-clause-no : goal.simple_name_class-returns-then-is_mark-clause-no
+simple_name_class-returns-then-is_mark-clause-no t c =
+    passes c.closed_name_class.result c.closed_name_class.ensures.no (λ v y. l.closed_stops c.args.deepest c.if-deepest-eq0.false (seen.token c.in-Some.first.now, c.in-Some.ensures, c.if-is_mark.ensures) y)
+
+pub simple_name_class-except_name_class-requires : goal.simple_name_class-except_name_class-requires
+simple_name_class-except_name_class-requires t c = (omega (arith, c.decreases, ap length c.in-Some.ensures), tt)
+
+pub simple_name_class-returns-in_err-excepted-clause-no : goal.simple_name_class-returns-in_err-excepted-clause-no
+simple_name_class-returns-in_err-excepted-clause-no t c =
+    passed _ _ c.from_residual.ensures.1 c.in_err-excepted.ensures.no (λ v y. l.any_stops c.in-Some.ensures c.if-is_mark-2.ensures y)
+
+pub simple_name_class-returns-then-is_mark-2-clause-ok : goal.simple_name_class-returns-then-is_mark-2-clause-ok
+simple_name_class-returns-then-is_mark-2-clause-ok t c =
+    subst (λ z. SimpleAt (scope_of c.args.self.now.scope) c.args.deepest (seen.tokens c.args.tokens.now) z (seen.tokens c.in_ok-excepted.after.now)) (sym (see_any c.in-Some.first.now.place c.in_ok-excepted.excepted))
+    (l.simple_any (scope_of c.args.self.now.scope) c.args.deepest (seen.token c.in-Some.first.now) (seen.tokens c.args.tokens.now) (seen.tokens c.in-Some.rest.now) (seen.tokens c.in_ok-excepted.after.now) (seen.classes c.in_ok-excepted.excepted.now) c.in-Some.ensures c.if-is_mark-2.ensures c.in_ok-excepted.ensures.ok)
+
+pub simple_name_class-returns-in_default-uri_of-clause-no : goal.simple_name_class-returns-in_default-uri_of-clause-no
+simple_name_class-returns-in_default-uri_of-clause-no t c =
+    refuses_map c.unexpected-in_default-uri_of.ensures (λ v y. l.nothing_stops c.in-Some.ensures (l.unbound (scope_of c.args.self.now.scope) (seen.token c.in-Some.first.now) c.in-Some-prefix_of_all.prefix.now c.in-Some-prefix_of_all.ensures c.in_default-uri_of.ensures) y)
+
+pub simple_name_class-except_name_class-requires-in-Some-prefix_of_all : goal.simple_name_class-except_name_class-requires-in-Some-prefix_of_all
+simple_name_class-except_name_class-requires-in-Some-prefix_of_all t c = (omega (arith, c.decreases, ap length c.in-Some.ensures), tt)
+
+pub simple_name_class-returns-in_err-excepted-2-clause-no : goal.simple_name_class-returns-in_err-excepted-2-clause-no
+simple_name_class-returns-in_err-excepted-2-clause-no t c =
+    passed _ _ c.from_residual-in_err-excepted-2.ensures.1 c.in_err-excepted-2.ensures.no (λ v y. l.whole_stops c.in-Some.ensures c.in-Some-prefix_of_all.ensures c.in-Some-uri_of.ensures y)
+
+pub simple_name_class-returns-in-Some-prefix_of_all-clause-ok : goal.simple_name_class-returns-in-Some-prefix_of_all-clause-ok
+simple_name_class-returns-in-Some-prefix_of_all-clause-ok t c =
+    subst (λ z. SimpleAt (scope_of c.args.self.now.scope) c.args.deepest (seen.tokens c.args.tokens.now) z (seen.tokens c.in_ok-excepted-2.after.now)) (sym (see_ns c.in-Some.first.now.place c.in-Some-uri_of.uri c.in_ok-excepted-2.excepted))
+    (l.simple_whole (scope_of c.args.self.now.scope) c.args.deepest (seen.token c.in-Some.first.now) (seen.tokens c.args.tokens.now) (seen.tokens c.in-Some.rest.now) (seen.tokens c.in_ok-excepted-2.after.now) c.in-Some-prefix_of_all.prefix.now c.in-Some-uri_of.uri.now (seen.classes c.in_ok-excepted-2.excepted.now) c.in-Some.ensures c.in-Some-prefix_of_all.ensures c.in-Some-uri_of.ensures c.in_ok-excepted-2.ensures.ok)
+
+pub simple_name_class-returns-in_err-name-clause-no : goal.simple_name_class-returns-in_err-name-clause-no
+simple_name_class-returns-in_err-name-clause-no t c =
+    unmade_by _ _ _ c.from_residual-in_err-name.ensures.1 c.in_err-name.ensures.no
+
+pub simple_name_class-returns-in-Some-2-clause-ok : goal.simple_name_class-returns-in-Some-2-clause-ok
+simple_name_class-returns-in-Some-2-clause-ok t c =
+    subst (λ z. SimpleAt (scope_of c.args.self.now.scope) c.args.deepest (seen.tokens c.args.tokens.now) z (seen.tokens c.in-Some.rest.now)) (sym (see_name c.in-Some-2.name))
+    (l.simple_name (scope_of c.args.self.now.scope) c.args.deepest (seen.token c.in-Some.first.now) (seen.tokens c.args.tokens.now) (seen.tokens c.in-Some.rest.now) (name c.in-Some-2.name) c.in-Some.ensures (at_some _ _ c.in_ok-name.field-0 c.in-Some-2.name c.in-Some-2.is c.in_ok-name.ensures.ok))
+
+pub simple_name_class-returns-in-None-clause-no : goal.simple_name_class-returns-in-None-clause-no
+simple_name_class-returns-in-None-clause-no t c =
+    refuses_map c.unexpected-in-None.ensures (λ v y. l.nothing_stops c.in-Some.ensures (l.no_simple (scope_of c.args.self.now.scope) (seen.token c.in-Some.first.now) c.if-is_mark.ensures c.if-is_mark-2.ensures c.in_default-prefix_of_all.ensures (at_none _ _ c.in_ok-name.field-0 c.in-None.is c.in_ok-name.ensures.ok)) y)
+
+pub name_classes-returns-in_err-push-2-clause-no : goal.name_classes-returns-in_err-push-2-clause-no
+name_classes-returns-in_err-push-2-clause-no t c =
+    unmade _ _ c.from_residual-in_err-push-2.ensures.1

@@ -1,0 +1,27 @@
+use Rattle.std.proofs.Common.{◌≡◌, ◌∙◌, List, ap, map, sym, subst, length, true, false}
+use Rattle.tc_model.specs.SimplifiesCounts.{IsWithinCounts}
+use Rattle.tc_model.proofs.SimplifiesUnique.{simplifies_unique}
+use Rattle.tc_rnc.specs.Views.{syntax}
+use Rattle.tc_simple.specs.Nodes.{elements_of, see_element}
+use Rattle.tc_simple.proofs.Checked.{count_links, numbers_below, order_within, start_within}
+use Rattle.tc_simple.proofs.resolved.Goals as goal
+
+pub built-requires-clause-start : goal.built-requires-clause-start
+built-requires-clause-start c = start_within (syntax c.args.syntax.now) c.args.table.now c.args.start c.requires.resolves.table c.requires.resolves.begins
+
+pub built-requires-clause-marks : goal.built-requires-clause-marks
+built-requires-clause-marks c = c.requires.resolves.reach.size ∙ count_links c.args.table.now true
+
+pub built-requires-clause-numbers : goal.built-requires-clause-numbers
+built-requires-clause-numbers c = numbers_below (syntax c.args.syntax.now) c.args.table.now c.requires.resolves.table
+
+pub built-requires-clause-order : goal.built-requires-clause-order
+built-requires-clause-order c = order_within (length c.args.table.now.patterns.items) c.requires.resolves.components (count_links c.args.table.now false)
+
+pub returns-clause-within : goal.returns-clause-within
+returns-clause-within c =
+    let s = syntax c.args.syntax.now in
+    let elements : map see_element c.deref.result.now ≡ elements_of c.args.table.now c.args.marks.now s.definitions = ap (map see_element) c.deref.ensures.value ∙ c.in_ok-found.ensures.elements in
+    let simplifies = c.in_ok-grammar.ensures s c.requires.lawful c.in_ok-check.ensures.ok c.requires.resolves elements in
+    let (grammar, also, within) = c.in_ok-found.ensures.within in
+    subst IsWithinCounts (simplifies_unique also simplifies) within
