@@ -238,7 +238,7 @@ by_reads (validated w r x) y = validates_one x (validated_only w r y)
 by_reads (ran w r x) y = runs_texts_one x (ran_only w r y)
 
 -- The names are read in order up to the first read that isn't Ok, which isn't for want of memory.
-data Follows : List (List ℕ) → List Read → Type 0 where
+pub data Follows : List (List ℕ) → List Read → Type 0 where
   no_name : {names : List (List ℕ)} {reads : List Read} → names ≡ [] → reads ≡ [] → Follows names reads
   stops : {names rest : List (List ℕ)} {reads : List Read} {name : List ℕ} {fault : StoreFault} → names ≡ name ∷ rest → reads ≡ (name, Err fault) ∷ [] → (fault ≡ NoMemory → ⊥) → Follows names reads
   goes_on : {names rest : List (List ℕ)} {reads more : List Read} {name text : List ℕ} → names ≡ name ∷ rest → reads ≡ (name, Ok text) ∷ more → Follows rest more → Follows names reads
@@ -327,8 +327,8 @@ no_reads same (no_name p q) = q
 no_reads same (stops p q n) = absurd (cc)
 no_reads same (goes_on p q x) = absurd (cc)
 
-true_at : {told : Option Files} {rose : Type 0} {reads others : List Read} → reads ≡ others → AreTrue told rose reads → AreTrue told rose others
-true_at {told} {rose} same t = subst (AreTrue told rose) same t
+true_at : (told : Option Files) (rose : Type 0) {reads others : List Read} → reads ≡ others → AreTrue told rose reads → AreTrue told rose others
+true_at told rose same t = subst (AreTrue told rose) same t
 
 abbrev HasSameReads : Files → Type 0 → List (List ℕ) → Type 0
 HasSameReads files rose names = (one other : List Read) → Follows names one → Follows names other → AreTrue (Some files) ⊥ one → AreTrue (Some files) rose other
@@ -348,12 +348,12 @@ same_behind files rose name names one other (Err fault) more others p q f g h i 
 
 same_first : (files : Files) (rose : Type 0) (name : List ℕ) (names : List (List ℕ)) (one other : List Read) → Goes name names one → Goes name names other → AreTrue (Some files) ⊥ one
     → AreTrue (Some files) rose other → HasSameReads files rose names → (one ≡ other) ⊎ FailsIn rose (name ∷ names) other
-same_first files rose name names one other (goes came more p n f g) (goes found others q m h i) t u again = by (same_came files rose name came found n m (true_at p t).0 (true_at q u).0)
+same_first files rose name names one other (goes came more p n f g) (goes found others q m h i) t u again = by (same_came files rose name came found n m (true_at (Some files) ⊥ p t).0 (true_at (Some files) rose q u).0)
   where
     by : (came ≡ found) ⊎ ((found ≡ Err Failed) × rose) → (one ≡ other) ⊎ FailsIn rose (name ∷ names) other
     by (inl same) =
         same_behind files rose name names one other found more others (p ∙ ap (λ x. (name, x) ∷ more) same) q (λ text e. f text (same ∙ e)) (λ fault e. g fault (same ∙ e)) h i
-        (true_at p t).1 (true_at q u).1 again
+        (true_at (Some files) ⊥ p t).1 (true_at (Some files) rose q u).1 again
     by (inr (failed, r)) =
         inr (r, (name, at_first refl (q ∙ (ap (λ x. (name, x) ∷ others) failed ∙ ap (λ x. (name, Err Failed) ∷ x) (i Failed failed)))))
 
@@ -374,24 +374,24 @@ pub fails_told : {words : List (List ℕ)} {reads : List Read} {answer : Answer}
 fails_told w b f x = fault_at (stopped_only w b f.1.1 x) f.0
 
 -- two answers of one command on the same files
-alike : {words : List (List ℕ)} {files : Files} {rose : Type 0} {one other : Answer} {reads others : List Read} {command : Command} → Words words command → IsBuilt command → AreTrue (Some files) ⊥ reads
+alike : (files : Files) (rose : Type 0) {words : List (List ℕ)} {one other : Answer} {reads others : List Read} {command : Command} → Words words command → IsBuilt command → AreTrue (Some files) ⊥ reads
     → IsAnswer words reads one → AreTrue (Some files) rose others → IsAnswer words others other → Agrees rose one other
-alike {words} {files} {rose} {one} {other} {reads} {others} {command} w b t x u y = by (same_reads files rose (operands_of command) reads others (follows w b x) (follows w b y) t u)
+alike files rose {words} {one} {other} {reads} {others} {command} w b t x u y = by (same_reads files rose (operands_of command) reads others (follows w b x) (follows w b y) t u)
   where
     by : (reads ≡ others) ⊎ FailsIn rose (operands_of command) others → Agrees rose one other
     by (inl same) = inl (by_reads (subst (λ r. IsAnswer words r one) same x) y)
     by (inr fails) = inr (fails_told w b fails y)
 
 -- the answer of a call is one
-pub exact : {words : List (List ℕ)} {files : Files} {rose : Type 0} {one other : Answer} {reads others : List Read} → AreTrue (Some files) ⊥ reads → IsAnswer words reads one
+pub exact : (files : Files) (rose : Type 0) {words : List (List ℕ)} {one other : Answer} {reads others : List Read} → AreTrue (Some files) ⊥ reads → IsAnswer words reads one
     → AreTrue (Some files) rose others → IsAnswer words others other → Agrees rose one other
-exact t (no_command n e) u y = inl (alike_at refl (usage_only n y))
-exact t (not_built w x r e) u y = inl (alike_at (ap not_yet e) (refused_only w x y))
-exact t (not_read w b s v) u y = alike w b t (not_read w b s v) u y
-exact t (over_long w b s) u y = alike w b t (over_long w b s) u y
-exact t (checked w r x) u y = alike w tt t (checked w r x) u y
-exact t (validated w r x) u y = alike w tt t (validated w r x) u y
-exact t (ran w r x) u y = alike w tt t (ran w r x) u y
+exact files rose t (no_command n e) u y = inl (alike_at refl (usage_only n y))
+exact files rose t (not_built w x r e) u y = inl (alike_at (ap not_yet e) (refused_only w x y))
+exact files rose t (not_read w b s v) u y = alike files rose w b t (not_read w b s v) u y
+exact files rose t (over_long w b s) u y = alike files rose w b t (over_long w b s) u y
+exact files rose t (checked w r x) u y = alike files rose w tt t (checked w r x) u y
+exact files rose t (validated w r x) u y = alike files rose w tt t (validated w r x) u y
+exact files rose t (ran w r x) u y = alike files rose w tt t (ran w r x) u y
 
 -- held files that are short enough are read well, or a read failed
 
@@ -403,10 +403,10 @@ held_true files name bytes held short = record {
   untold = λ e. absurd (let none = e in cc);
 }
 
-pub read_two : {words : List (List ℕ)} {rose : Type 0} {answer : Answer} {reads : List Read} {command : Command} (files : Files) (a b c d : List ℕ) → Words words command → IsBuilt command
+pub read_two : (rose : Type 0) {words : List (List ℕ)} {answer : Answer} {reads : List Read} {command : Command} (files : Files) (a b c d : List ℕ) → Words words command → IsBuilt command
     → operands_of command ≡ a ∷ b ∷ [] → files a ≡ Some c → length c ≤ longest_file → files b ≡ Some d → length d ≤ longest_file → AreTrue (Some files) rose reads → IsAnswer words reads answer
     → IsOfFault rose answer ⊎ (reads ≡ (a, Ok c) ∷ (b, Ok d) ∷ [])
-read_two {words} {rose} {answer} {reads} {command} files a b c d w built same ha la hb lb t x =
+read_two rose {words} {answer} {reads} {command} files a b c d w built same ha la hb lb t x =
     by (same_reads files rose (operands_of command) _ reads (subst (λ n. Follows n ((a, Ok c) ∷ (b, Ok d) ∷ [])) (sym same) (two_follow refl)) (follows w built x)
     (held_true files a c ha la, (held_true files b d hb lb, tt)) t)
   where
@@ -414,10 +414,10 @@ read_two {words} {rose} {answer} {reads} {command} files a b c d w built same ha
     by (inl e) = inr (sym e)
     by (inr f) = inl (fails_told w built f x)
 
-pub read_three : {words : List (List ℕ)} {rose : Type 0} {answer : Answer} {reads : List Read} {command : Command} (files : Files) (a b e c d f : List ℕ) → Words words command → IsBuilt command
+pub read_three : (rose : Type 0) {words : List (List ℕ)} {answer : Answer} {reads : List Read} {command : Command} (files : Files) (a b e c d f : List ℕ) → Words words command → IsBuilt command
     → operands_of command ≡ a ∷ b ∷ e ∷ [] → files a ≡ Some c → length c ≤ longest_file → files b ≡ Some d → length d ≤ longest_file → files e ≡ Some f → length f ≤ longest_file
     → AreTrue (Some files) rose reads → IsAnswer words reads answer → IsOfFault rose answer ⊎ (reads ≡ (a, Ok c) ∷ (b, Ok d) ∷ (e, Ok f) ∷ [])
-read_three {words} {rose} {answer} {reads} {command} files a b e c d f w built same ha la hb lb he le t x =
+read_three rose {words} {answer} {reads} {command} files a b e c d f w built same ha la hb lb he le t x =
     by (same_reads files rose (operands_of command) _ reads (subst (λ n. Follows n ((a, Ok c) ∷ (b, Ok d) ∷ (e, Ok f) ∷ [])) (sym same) (three_follow refl)) (follows w built x)
     (held_true files a c ha la, (held_true files b d hb lb, (held_true files e f he le, tt))) t)
   where

@@ -95,7 +95,7 @@ pub headline : {words : List (List ℕ)} {rose : Type 0} {reads : List Read} (fi
     → AreTrue (Some files) rose reads → IsAnswer words reads answer → status ≡ status_of answer → Appended old new (text_of answer)
     → IsCutShort status rose ⊎ DecidesSafety status old new (grammar_of i) (grammar_of o) (sheet_of t)
 headline {words} {rose} {reads} files i o t status old new answer c true right is written =
-    by (read_three files c.input c.output c.sheet c.input_text c.output_text c.sheet_text c.words_are tt refl c.input_held (first_short c.input_spells.short) c.output_held (first_short c.output_spells.short)
+    by (read_three rose files c.input c.output c.sheet c.input_text c.output_text c.sheet_text c.words_are tt refl c.input_held (first_short c.input_spells.short) c.output_held (first_short c.output_spells.short)
     c.sheet_held (first_short c.sheet_spells.short) true right)
   where
     first_short : {bytes : List ℕ} → length bytes ≤ 4096 → length bytes ≤ longest_file
@@ -126,7 +126,7 @@ pub validity : {words : List (List ℕ)} {rose : Type 0} {reads : List Read} (fi
     → AreTrue (Some files) rose reads → IsAnswer words reads answer → status ≡ status_of answer → Appended old new (text_of answer)
     → IsCutShort status rose ⊎ DecidesValidity status old new g d
 validity {words} {rose} {reads} files g d status old new answer c true right is written =
-    by (read_two files c.schema c.document c.schema_text c.document_text c.words_are tt refl c.schema_held c.schema_short c.document_held c.document_short true right)
+    by (read_two rose files c.schema c.document c.schema_text c.document_text c.words_are tt refl c.schema_held c.schema_short c.document_held c.document_short true right)
   where
     by : IsOfFault rose answer ⊎ (reads ≡ (c.schema, Ok c.schema_text) ∷ (c.document, Ok c.document_text) ∷ []) → IsCutShort status rose ⊎ DecidesValidity status old new g d
     by (inl fault) = inl (cut_short status answer is fault)
@@ -168,7 +168,7 @@ run_decides : {words : List (List ℕ)} {rose : Type 0} {reads : List Read} (fil
     → AreTrue (Some files) rose reads → IsAnswer words reads answer → status ≡ status_of answer → Appended old new (text_of answer)
     → IsCutShort status rose ⊎ (KeepsToLimits status old new s d × GivesResult status old new s d)
 run_decides {words} {rose} {reads} files s d status old new answer c true right is written =
-    by (read_two files c.sheet c.document c.sheet_text c.document_text c.words_are tt refl c.sheet_held c.sheet_short c.document_held c.document_short true right)
+    by (read_two rose files c.sheet c.document c.sheet_text c.document_text c.words_are tt refl c.sheet_held c.sheet_short c.document_held c.document_short true right)
   where
     by : IsOfFault rose answer ⊎ (reads ≡ (c.sheet, Ok c.sheet_text) ∷ (c.document, Ok c.document_text) ∷ []) → IsCutShort status rose ⊎ (KeepsToLimits status old new s d × GivesResult status old new s d)
     by (inl fault) = inl (cut_short status answer is fault)

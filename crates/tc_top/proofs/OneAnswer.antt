@@ -1,5 +1,6 @@
 -- Words and files have one answer, but for what is left open.
 use Rattle.std.proofs.Common.{inl, inr}
+use Rattle.tc_io.specs.Faults.{Rose}
 use Rattle.tc_top.specs.Answers.{Answer, usage, not_yet, cannot_read, file_limit, safe, unsafe, refused, over_limit, is_valid, is_invalid, has_result, work_limit, open_limit}
 use Rattle.tc_top.specs.OneAnswer.{AreAlike, IsOfFault, HasOneAnswer, HasOneAnswerOn, HasAnswerOfCall}
 use Rattle.tc_top.proofs.Exact.{Agrees, by_reads, exact}
@@ -27,7 +28,7 @@ pub one_answer : HasOneAnswer
 one_answer words reads a b x y = by_reads x y
 
 pub one_answer_on : HasOneAnswerOn
-one_answer_on words files a b x y = without_fault a b (exact x.1 x.2 y.1 y.2)
+one_answer_on words files a b x y = without_fault a b (exact files ⊥ x.1 x.2 y.1 y.2)
 
 pub answer_of_call : HasAnswerOfCall
-answer_of_call words files before after reads a b x t y = exact x.1 x.2 t y
+answer_of_call words files before after reads a b x t y = exact files (Rose before after) x.1 x.2 t y

@@ -12,7 +12,7 @@ use Rattle.tc_model.specs.Trees.{Trees}
 use Rattle.tc_model.specs.Grammars.{Grammar}
 use Rattle.tc_model.specs.Sheets.{Sheet}
 use Rattle.tc_model.specs.Safety.{IsSafe, IsCounterexample, Transforms, IsResultOf}
-use Rattle.tc_model.specs.States.{input}
+use Rattle.tc_model.specs.States as side
 use Rattle.tc_model.specs.Symbols.{symbol_count}
 use Rattle.tc_model.specs.Outcomes.{Outcome}
 use Rattle.tc_model.specs.Printed.{printed}
@@ -113,8 +113,8 @@ pub data Checks (input output sheet input_text output_text sheet_text : List ℕ
 
 -- what a schema and a document decide
 pub data Decides (g : Grammar) (d : Trees) : Answer → Type 0 where
-  passes : {kind : kinds.Limit} {number : ℕ} → PassesLimit g input MOST_INPUT_STATES kind number → Decides g d (over_limit kind number)
-  too_many_symbols : IsWithinLimits g input MOST_INPUT_STATES → MOST_SYMBOLS < symbol_count (symbols_of_schema g) → Decides g d (over_limit Symbols MOST_SYMBOLS)
+  passes : {kind : kinds.Limit} {number : ℕ} → PassesLimit g side.input MOST_INPUT_STATES kind number → Decides g d (over_limit kind number)
+  too_many_symbols : IsWithinLimits g side.input MOST_INPUT_STATES → MOST_SYMBOLS < symbol_count (symbols_of_schema g) → Decides g d (over_limit Symbols MOST_SYMBOLS)
   decides_valid : IsValidityWithin g → IsValid g d → Decides g d is_valid
   decides_invalid : IsValidityWithin g → ¬ (IsValid g d) → Decides g d is_invalid
 

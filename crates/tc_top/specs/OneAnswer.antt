@@ -15,9 +15,9 @@ use Rattle.tc_read.specs.declared.faults.Reason.TheVariants.{Malformed, Unsuppor
 
 -- a text may be refused for several of these, at several places, and which is told is left open
 abbrev pub IsOpen : Reason → Type 0
-IsOpen malformed = Unit {0}
-IsOpen (unsupported why) = Unit {0}
-IsOpen too_deep = Unit {0}
+IsOpen Malformed = Unit {0}
+IsOpen (Unsupported why) = Unit {0}
+IsOpen TooDeep = Unit {0}
 IsOpen _ = ⊥
 
 -- One answer, but for what is left open: which counterexample there is, which limit is told of a run that passes both, and for which of the

@@ -1,6 +1,7 @@
 // What a program does with its arguments.
-ghost use Rattle.std.specs.Prelude.{◌≡◌, ◌⊎◌, ◌++◌, IfOk, OnErr};
+ghost use Rattle.std.specs.Prelude.{◌≡◌, ◌⊎◌, IfOk, OnErr, drop, map, string_bytes};
 ghost use Rattle.std.specs.Process.{exit_status};
+ghost use Rattle.std.specs.Vec.Iter.{into_iter_items};
 ghost use Rattle.tc_io.specs.Faults.{Rose};
 ghost use Rattle.tc_io.specs.Reads.{Happened};
 ghost use Rattle.tc_top.specs.Answers.{Ends};
@@ -53,16 +54,22 @@ fn word_list(alloc: Global, arguments: io::Result<Args>) -> Result<WordList, NoM
     ensures words { IfOk result (λ words. words ≡ words_of arguments) }
     ensures lack { OnErr result (LackMemory arguments) }
 {
-    let mut words = WordList::new(alloc);
     match arguments {
-        Ok(mut arguments) => {
-            let _name = arguments.next();
-            for word in arguments {
-                words.push(word.as_str())?;
-            }
-        }
-        Err(error) if error.kind() == ErrorKind::OutOfMemory => return Err(NoMemory),
-        Err(_) => {}
+        Ok(arguments) => words_behind_name(alloc, arguments),
+        Err(error) if error.kind() == ErrorKind::OutOfMemory => Err(NoMemory),
+        Err(_) => Ok(WordList::new(alloc)),
+    }
+}
+
+/// The words behind the first one.
+fn words_behind_name(alloc: Global, arguments: Args) -> Result<WordList, NoMemory>
+    ensures { IfOk result (λ words. words ≡ map string_bytes (drop 1 (into_iter_items arguments))) }
+{
+    let mut arguments = arguments;
+    let _name = arguments.next();
+    let mut words = WordList::new(alloc);
+    for word in arguments {
+        words.push(word.as_str())?;
     }
     Ok(words)
 }

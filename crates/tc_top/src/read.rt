@@ -115,12 +115,12 @@ fn read_operand<'w, S: Store>(
 {
     match store.read(alloc, name) {
         Ok(text) => Ok(Operand { name, text }),
-        Err(fault) => Err(unread(name, fault)),
+        Err(fault) => Err(why_unread(name, fault)),
     }
 }
 
 /// Why the operand of this name was not read, by the fault of its read.
-fn unread(name: &str, fault: StoreFault) -> Unread<'_>
+fn why_unread(name: &str, fault: StoreFault) -> Unread<'_>
     ensures { IsUnread name.now fault result }
 {
     match fault {

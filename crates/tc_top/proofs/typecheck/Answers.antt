@@ -24,7 +24,7 @@ returns-in-Ok-write_lines-clause-not_built g c = λ command words other.
 pub returns-in-Ok-write_lines-clause-exactly : goal.returns-in-Ok-write_lines-clause-exactly
 returns-in-Ok-write_lines-clause-exactly g c = λ files answer told is.
     let right = at_words c.as_slice.ensures c.in-Ok.ensures.right in
-    gives _ answer right.2.0 right.2.1.status (exact is.1 is.2 (at_told told right.1.true) right.2.2)
+    gives _ answer right.2.0 right.2.1.status (exact files _ is.1 is.2 (at_told told right.1.true) right.2.2)
 
 pub returns-in-Ok-write_lines-clause-headline : goal.returns-in-Ok-write_lines-clause-headline
 returns-in-Ok-write_lines-clause-headline g c = λ files i o t told checks.

@@ -8,7 +8,7 @@ use Rattle.tc_top.proofs.check.check.Goals as goal
 pub returns-in-Ok-clause-ok : goal.returns-in-Ok-clause-ok
 returns-in-Ok-clause-ok g c =
     let read = c.in-Ok.ensures in
-    IfOk-weaker c.check_texts.result _ _ (λ said h words are. (_, read.ok, h.0, h.1, checked (three_named (λ x y z. Words words (check None x y z)) read.input read.output read.sheet are) refl h.2)) c.check_texts.ensures
+    IfOk-weaker c.check_texts.result _ _ (λ said h words are. (_, read.ok, (h.0, h.1, checked (three_named (λ x y z. Words words (check None x y z)) read.input read.output read.sheet are) refl h.2))) c.check_texts.ensures
 
 pub returns-in-Err-clause-ok : goal.returns-in-Err-clause-ok
 returns-in-Err-clause-ok g c =

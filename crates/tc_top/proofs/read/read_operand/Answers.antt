@@ -15,5 +15,5 @@ returns-in-Err-clause-err g c =
       fault,
       happened_once g.S.Store.read_gives g.S.Store.holds g.S.Store.faults c.args.store.now c.read.new.self c.args.name.now _ read.gives read.same read.count
           (true_read _ _ c.args.name.now (Err fault) read.told read.bound read.failed read.untold),
-      c.unread.ensures,
+      c.why_unread.ensures,
     )

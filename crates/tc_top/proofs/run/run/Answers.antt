@@ -8,7 +8,7 @@ use Rattle.tc_top.proofs.run.run.Goals as goal
 pub returns-in-Ok-clause-ok : goal.returns-in-Ok-clause-ok
 returns-in-Ok-clause-ok g c =
     let read = c.in-Ok.ensures in
-    IfOk-weaker c.run_texts.result _ _ (λ said h words are. (_, read.ok, h.0, h.1, ran (named (λ x y. Words words (run x y)) read.first read.second are) refl h.2)) c.run_texts.ensures
+    IfOk-weaker c.run_texts.result _ _ (λ said h words are. (_, read.ok, (h.0, h.1, ran (named (λ x y. Words words (run x y)) read.first read.second are) refl h.2))) c.run_texts.ensures
 
 pub returns-in-Err-clause-ok : goal.returns-in-Err-clause-ok
 returns-in-Err-clause-ok g c =
