@@ -1,10 +1,10 @@
 -- Where each chain of calls ends, the components of the named bodies are single bodies.
-use Rattle.std.proofs.Common.{◌≡◌, ◌<◌, ◌≤◌, ◌⊎◌, inl, inr, ℕ, zero, suc, ◌+◌, List, [], ◌∷◌, ◌++◌, length, map, get_or, Some, slice_get, subst, sym, ap, ◌∙◌, refl, arith, Contains, All}
+use Rattle.std.proofs.Common.{◌≡◌, ◌<◌, ◌≤◌, ◌⊎◌, inl, inr, ℕ, zero, suc, ◌+◌, List, [], length, map, get_or, Some, slice_get, subst, sym, ap, ◌∙◌, arith, Contains, All}
 use Rattle.std.proofs.lemmas.Bool.{cases_order, cases_lt}
-use Rattle.std.proofs.lemmas.List.{length-map, get_or-map, get_or_past, get_or_default}
+use Rattle.std.proofs.lemmas.List.{length-map, get_or-map, get_or_past}
 use Rattle.std.proofs.lemmas.Option.{slice_get-get_or, slice_get_within, same_Some}
 use Rattle.std.proofs.lemmas.List.Elements.{All-get_or}
-use Rattle.tc_model.specs.Sheets.{Body, no_instruction, put_text, put_element, copy, apply, call, for_each, value, value_of_self, choose, Branches, otherwise, branch, CallFreeBody, p_done, p_text, p_element, p_copy, p_apply, p_call, p_value, p_self, p_choose, p_each, CallFreeBranches, p_otherwise, p_branch, Inlines, u_done, u_text, u_element, u_copy, u_apply, u_call, u_value, u_self, u_choose, u_each, BranchesInline, u_otherwise, u_branch}
+use Rattle.tc_model.specs.Sheets.{Body, no_instruction, Branches, CallFreeBody, p_done, p_text, p_element, p_copy, p_apply, p_call, p_value, p_self, p_choose, p_each, CallFreeBranches, p_otherwise, p_branch, Inlines, u_done, u_text, u_element, u_copy, u_apply, u_call, u_value, u_self, u_choose, u_each, BranchesInline, u_otherwise, u_branch}
 use Rattle.tc_alpha.proofs.Members.{Has, has_from_contains, has_either}
 use Rattle.tc_graph.specs.Graph.{Edge, Path, edge, further}
 use Rattle.tc_graph.specs.Walks.{AreComponents, state_at}

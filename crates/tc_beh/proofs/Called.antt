@@ -1,9 +1,9 @@
 -- What a body puts by the sets of the bodies that it calls is what it puts with calls in place.
-use Rattle.std.proofs.Common.{◌≡◌, ◌<◌, ◌+◌, ℕ, zero, suc, List, [], ◌∷◌, ◌++◌, Bool, true, false, Some, slice_get, refl, sym, subst, ap, ◌∙◌, arith, Contains}
-use Rattle.tc_model.specs.Sheets.{Body, no_instruction, put_text, put_element, copy, apply, call, for_each, value, value_of_self, choose, Branches, otherwise, branch, CallFreeBody, CallFreeBranches, Inlines, u_done, u_text, u_element, u_copy, u_apply, u_call, u_value, u_self, u_choose, u_each, BranchesInline, u_otherwise, u_branch}
+use Rattle.std.proofs.Common.{◌+◌, ℕ, List, [], ◌∷◌, refl, arith, Contains}
+use Rattle.tc_model.specs.Sheets.{Body, Branches, CallFreeBody, CallFreeBranches, Inlines, u_done, u_text, u_element, u_copy, u_apply, u_call, u_value, u_self, u_choose, u_each, BranchesInline, u_otherwise, u_branch}
 use Rattle.tc_model.specs.Symbols.{symbol_of}
 use Rattle.tc_rows.specs.Triples.{Triple, sheet}
-use Rattle.tc_rows.specs.PairSets.{PairSet, HaveSamePairs, product, chosen}
+use Rattle.tc_rows.specs.PairSets.{PairSet, HaveSamePairs}
 use Rattle.tc_rows.specs.Rows.{bears_value}
 use Rattle.tc_rows.specs.Bodies.{NodeKind, on_root, on_element, on_text, Below, body_pairs, branch_pairs, holds_by, stay, around, text_edges, text_pairs, value_pairs, copied_pairs, self_bears}
 use Rattle.tc_rows.proofs.PairLaws.{same_self, product_same, chosen_same}

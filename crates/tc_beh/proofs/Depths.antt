@@ -1,12 +1,11 @@
 -- How deep elements stand in a body, part by part.
-use Rattle.std.proofs.Common.{◌≡◌, ◌<◌, ◌≤◌, ◌+◌, ℕ, max, min, List, length, get_or, drop, subst, sym, ap, ◌∙◌, refl, arith}
-use Rattle.tc_model.specs.Sheets.{Body, no_instruction, put_text, put_element, copy, apply, call, for_each, value, value_of_self, choose, Branches, otherwise, branch}
+use Rattle.std.proofs.Common.{◌≡◌, ◌<◌, ◌≤◌, ◌+◌, ℕ, max, min, List, length, get_or, drop, sym, ap, ◌∙◌, arith}
+use Rattle.tc_model.specs.Sheets.{Body, no_instruction, put_text, put_element, copy, apply, call, for_each, value, value_of_self, choose}
 use Rattle.tc_model.specs.Views as see
 use Rattle.tc_model.specs.declared.sheet.Instr.{Instr}
-use Rattle.tc_model.specs.declared.sheet.Branch.{Branch}
-use Rattle.tc_model.proofs.ViewsBody.{body_then, instruction_then, left_instruction, left_branch}
+use Rattle.tc_model.proofs.ViewsBody.{body_then, instruction_then, left_instruction}
 use Rattle.tc_mat.specs.Matrix.{Matrix}
-use Rattle.tc_beh.specs.Heights.{depth_in, depth_in_branches}
+use Rattle.tc_beh.specs.Heights.{depth_in}
 use Rattle.tc_beh.specs.Places.{AreSpare}
 
 depth_then : (a b : Body) → depth_in (body_then a b) ≡ max (depth_in a) (depth_in b)

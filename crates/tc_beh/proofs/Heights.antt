@@ -1,15 +1,15 @@
 -- The heights of named bodies, worked out one after the other, are those of the bodies with calls in place.
-use Rattle.std.proofs.Common.{◌≡◌, ◌<◌, ◌≤◌, ◌⊎◌, ◌≢◌, inl, inr, ℕ, zero, suc, ◌+◌, max, min, List, [], ◌∷◌, ◌++◌, length, get_or, set, drop, Some, slice_get, subst, sym, ap, ◌∙◌, refl, arith, Contains, All}
+use Rattle.std.proofs.Common.{◌≡◌, ◌<◌, ◌≤◌, ◌⊎◌, ◌≢◌, inl, inr, ℕ, suc, min, List, [], ◌∷◌, ◌++◌, length, get_or, set, drop, Some, slice_get, subst, sym, ap, ◌∙◌, refl, arith, Contains}
 use Rattle.std.proofs.lemmas.Bool.{cases_order, cases_lt}
 use Rattle.std.proofs.Math.Seq.{drop-cons}
 use Rattle.std.proofs.lemmas.List.{get_or-set_same, get_or-set_other, length-drop, drop_all}
 use Rattle.std.proofs.Math.ListN.{length-set}
 use Rattle.std.proofs.lemmas.Option.{slice_get-get_or, slice_get_within, same_Some}
-use Rattle.tc_model.specs.Sheets.{Body, no_instruction, put_text, put_element, copy, apply, call, for_each, value, value_of_self, choose, Branches, otherwise, branch, Rule, CallFreeBody, CallFreeBranches, Inlines, u_done, u_text, u_element, u_copy, u_apply, u_call, u_value, u_self, u_choose, u_each, BranchesInline, u_otherwise, u_branch}
-use Rattle.tc_alpha.proofs.Members.{Has, has_from_contains, contains_from_has, has_front, has_back}
+use Rattle.tc_model.specs.Sheets.{Body, no_instruction, put_text, put_element, copy, apply, call, for_each, value, value_of_self, choose, Branches, otherwise, branch, CallFreeBody, CallFreeBranches, Inlines, u_done, u_text, u_element, u_copy, u_apply, u_call, u_value, u_self, u_choose, u_each, BranchesInline, u_otherwise, u_branch}
+use Rattle.tc_alpha.proofs.Members.{has_from_contains, contains_from_has, has_front, has_back}
 use Rattle.tc_rows.specs.Counts.{instructions_within, instructions_within_branches}
 use Rattle.tc_beh.specs.Callees.{callees_in, callees_in_branches, AreCalleesFirst}
-use Rattle.tc_beh.specs.Heights.{height_in, height_in_branches, heights_in, one_more, depth_in, depth_in_branches}
+use Rattle.tc_beh.specs.Heights.{height_in, height_in_branches, heights_in, depth_in, depth_in_branches}
 
 pub front_of : (xs ys : List ℕ) (n : ℕ) → Contains xs n → Contains (xs ++ ys) n
 front_of xs ys n c = contains_from_has (xs ++ ys) n (has_front xs ys n (has_from_contains xs n c))

@@ -13,3 +13,5 @@ pub mod Instructed
 pub mod Called
 pub mod Meant
 pub mod Sizes
+pub mod Starts
+pub mod Deepening

@@ -1,16 +1,16 @@
 -- Too many instructions stand within one another exactly where a height is too great.
-use Rattle.std.proofs.Common.{◌≡◌, ◌<◌, ◌≤◌, ◌+◌, ◌⊎◌, ◌↔◌, inl, inr, ℕ, zero, suc, max, min, List, [], ◌∷◌, length, get_or, set, map, drop, Some, slice_get, subst, sym, ap, ◌∙◌, refl, arith, Contains, All, Bor}
+use Rattle.std.proofs.Common.{◌≡◌, ◌<◌, ◌≤◌, ◌⊎◌, inl, inr, ℕ, zero, suc, max, min, List, [], ◌∷◌, length, get_or, set, map, Some, slice_get, subst, sym, ap, ◌∙◌, refl, arith}
 use Rattle.std.specs.Prelude.{replicate}
-use Rattle.std.proofs.lemmas.Bool.{cases_order, cases_lt}
+use Rattle.std.proofs.lemmas.Bool.{cases_lt}
 use Rattle.std.proofs.Math.ListN.{length-set}
 use Rattle.std.proofs.lemmas.List.{length-replicate}
-use Rattle.std.proofs.lemmas.Option.{slice_get-get_or, slice_get_within}
+use Rattle.std.proofs.lemmas.Option.{slice_get-get_or}
 use Rattle.std.proofs.lemmas.List.Elements.{All-get_or, Contains-get_or}
 use Rattle.tc_model.specs.Sheets.{Body, no_instruction, put_text, put_element, copy, apply, call, for_each, value, value_of_self, choose, Branches, otherwise, branch, Rule, Sheet, CallFreeBody, Inlines}
 use Rattle.tc_model.specs.WellFormed.{IsSheet, IsBody, AreBranches, IsRule}
 use Rattle.tc_model.proofs.TotalUnfolds.{body_unfolds}
 use Rattle.tc_alpha.proofs.Members.{Has, has_from_contains, contains_from_has, has_either, every_member, every_from_all}
-use Rattle.tc_rows.specs.Counts.{instructions_within, IsBodyOf, PassCalls}
+use Rattle.tc_rows.specs.Counts.{instructions_within, PassCalls}
 use Rattle.tc_beh.specs.Callees.{callees_in, callees_in_branches, AreCalleesFirst}
 use Rattle.tc_beh.specs.Orders.{AreComponentsInOrder}
 use Rattle.tc_beh.specs.Heights.{height_in, heights_in, highest, highest_rule, deepest, deepest_rule, depth_in}

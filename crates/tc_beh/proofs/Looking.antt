@@ -1,7 +1,7 @@
 -- What the looks of a row tell of a path.
-use Rattle.std.proofs.Common.{◌≡◌, ℕ, ◌<◌, ◌-◌, List, Bool, true, false, not, ◌==◌, cond, nat_lt, None, Some, refl, ap, ◌∙◌, sym, subst, get_or, Contains, arith}
+use Rattle.std.proofs.Common.{◌≡◌, ℕ, ◌<◌, ◌-◌, List, true, false, cond, nat_lt, None, refl, ap, ◌∙◌, sym, subst, get_or, arith}
 use Rattle.std.proofs.lemmas.Bool.Decides.{nat_tests}
-use Rattle.tc_model.specs.Sheets.{Path, Test, has, no_alternative}
+use Rattle.tc_model.specs.Sheets.{Path, no_alternative}
 use Rattle.tc_model.specs.PathStates.{first_state}
 use Rattle.tc_model.specs.StateCounts.{PathUse}
 use Rattle.tc_rules.specs.Kept.{told}
@@ -9,7 +9,7 @@ use Rattle.tc_rules.specs.RulesView.{RulesView, IsStateOf, select_count, move_co
 use Rattle.tc_rules.specs.declared.rules.Rules.{Rules}
 use Rattle.tc_rules.proofs.Counts.{state_counted}
 use Rattle.tc_rows.specs.Triples.{Triple, moves, number, looking}
-use Rattle.tc_rows.specs.Rows.{look, is_hit_value}
+use Rattle.tc_rows.specs.Rows.{look}
 use Rattle.tc_rows.specs.Arithmetic.{look_from}
 use Rattle.tc_rows.proofs.States.{state_number, empty_number}
 use Rattle.tc_beh.specs.Stands.{IsRulesIn}

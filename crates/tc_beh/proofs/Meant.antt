@@ -9,7 +9,7 @@ use Rattle.tc_model.specs.Machine.{CallFreeJob}
 use Rattle.tc_model.specs.PathStates.{State}
 use Rattle.tc_model.specs.RuleStates.{IsRuleOf, built_in, best, fits_below}
 use Rattle.tc_model.specs.Views as see
-use Rattle.tc_model.specs.Sheets.{Sheet, Rule, Body, CallFreeBody, Inlines}
+use Rattle.tc_model.specs.Sheets.{Sheet, Rule, CallFreeBody, Inlines}
 use Rattle.tc_model.specs.Symbols.{Mention}
 use Rattle.tc_model.specs.WellFormed.{ForEach, eaches_of}
 use Rattle.tc_model.specs.declared.sheet.Instr.{Instr}
@@ -30,7 +30,6 @@ use Rattle.tc_rows.specs.Triples.{Triple, sheet, predicates}
 use Rattle.tc_beh.specs.Stands.{IsRulesIn}
 use Rattle.tc_beh.specs.Templates.{IsTemplate}
 use Rattle.tc_beh.specs.declared.templates.Template.{Template}
-use Rattle.tc_beh.specs.declared.templates.Template.TheVariants as t
 use Rattle.tc_beh.proofs.Marking.{has_got}
 
 -- what stands past the end of a list of rules

@@ -1,5 +1,5 @@
 -- The named bodies and those that they call, as numbers that lead to numbers.
-use Rattle.std.proofs.Common.{◌≡◌, ◌<◌, ◌≤◌, ◌⊎◌, inl, inr, ℕ, zero, suc, List, [], ◌∷◌, length, map, get_or, Bor, subst, sym, ap, ◌∙◌, refl, arith, All, Contains}
+use Rattle.std.proofs.Common.{◌≡◌, ◌<◌, ◌≤◌, ◌⊎◌, inl, inr, ℕ, List, [], length, map, get_or, Bor, subst, ap, arith, All, Contains}
 use Rattle.std.proofs.lemmas.List.{length-map, get_or-map, get_or_past, get_or_default}
 use Rattle.std.proofs.lemmas.List.Elements.{All-contains}
 use Rattle.std.proofs.lemmas.Bool.{cases_lt}

@@ -1,9 +1,9 @@
 -- The pairs of a matrix as a list.
-use Rattle.std.proofs.Common.{◌≡◌, ◌<◌, ◌≤◌, ◌+◌, ◌⊎◌, inl, inr, ℕ, zero, suc, List, [], ◌∷◌, ◌++◌, map, filter, flat_map, Bool, true, false, ◌==◌, refl, sym, subst, ap, ◌∙◌, arith, Contains, eq-eqb, eqb-true, if◌then◌else◌}
+use Rattle.std.proofs.Common.{◌≡◌, ◌<◌, ◌⊎◌, inl, inr, ℕ, zero, suc, List, [], ◌∷◌, ◌++◌, map, filter, flat_map, Bool, true, false, refl, sym, subst, ap, ◌∙◌, arith, eq-eqb, eqb-true, if◌then◌else◌}
 use Rattle.std.proofs.lemmas.Bool.{cases_order}
 use Rattle.tc_model.specs.Numbered.{numbers_below}
 use Rattle.tc_alpha.proofs.Members.{Has, has_from_contains, contains_from_has, has_front, has_back, has_either}
-use Rattle.tc_mat.specs.Matrix.{Matrix, HasPair, bit_of}
+use Rattle.tc_mat.specs.Matrix.{Matrix, HasPair}
 use Rattle.tc_rows.specs.PairSets.{HaveSamePairs, listed}
 use Rattle.tc_beh.specs.Putting.{has}
 use Rattle.tc_beh.specs.Places.{pairs_of, all_pairs, is_pair}

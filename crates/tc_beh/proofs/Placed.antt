@@ -1,8 +1,7 @@
 -- What the parts of a place put, seen from the triple.
-use Rattle.std.proofs.Common.{◌≡◌, ◌<◌, ◌≤◌, ◌+◌, ◌*◌, ◌-◌, ◌⊎◌, ℕ, List, [], ◌∷◌, length, map, get_or, Bool, true, false, cond, nat_lt, ◌==◌, Some, None, subst, sym, ap, ◌∙◌, refl, arith, All, Contains}
-use Rattle.std.proofs.lemmas.List.{get_or-map, get_or_default, length-map}
+use Rattle.std.proofs.Common.{◌≡◌, ◌<◌, ◌≤◌, ◌+◌, ◌*◌, ℕ, List, [], length, get_or, Bool, true, false, cond, nat_lt, Some, subst, sym, ap, ◌∙◌, refl, arith}
+use Rattle.std.proofs.lemmas.List.{get_or-map, get_or_default}
 use Rattle.tc_model.specs.Sheets.{Path, no_alternative}
-use Rattle.tc_model.specs.Grammars.{Grammar}
 use Rattle.tc_model.specs.PathStates.{first_state}
 use Rattle.tc_model.specs.StateCounts.{PathUse}
 use Rattle.tc_model.specs.Symbols.{Mention, symbol_of, symbol_count, fresh_name, symbols_of}
@@ -11,20 +10,19 @@ use Rattle.tc_alpha.proofs.Lawful.{are_symbols}
 use Rattle.tc_rules.specs.Kept.{told}
 use Rattle.tc_rules.specs.RulesView.{RulesView, IsStateOf, select_count, move_count}
 use Rattle.tc_rules.proofs.Counts.{move_counted}
-use Rattle.tc_mat.specs.Matrix.{Matrix, HasPair}
-use Rattle.tc_rows.specs.Triples.{Triple, sheet, outputs, ancestors, moves, entries, number, moving, looking}
-use Rattle.tc_rows.specs.PairSets.{PairSet, HaveSamePairs, identity, product, chosen, listed}
-use Rattle.tc_rows.specs.Rows.{entry, look, bears_value}
-use Rattle.tc_rows.specs.Bodies.{NodeKind, on_root, on_element, on_text, Below, stay, value_pairs, self_bears}
-use Rattle.tc_rows.specs.Arithmetic.{look_from, pairs_from, below, nothing_below}
+use Rattle.tc_mat.specs.Matrix.{Matrix}
+use Rattle.tc_rows.specs.Triples.{Triple, sheet, ancestors, moves, entries, number, moving, looking}
+use Rattle.tc_rows.specs.PairSets.{PairSet, HaveSamePairs, chosen, listed}
+use Rattle.tc_rows.specs.Rows.{entry}
+use Rattle.tc_rows.specs.Bodies.{NodeKind, on_root, on_element, on_text, stay, self_bears}
+use Rattle.tc_rows.specs.Arithmetic.{pairs_from}
 use Rattle.tc_rows.proofs.PairLaws.{same_self, same_on}
 use Rattle.tc_rows.proofs.States.{state_number, empty_number}
 use Rattle.tc_rows.proofs.Reading.{fewer_moves}
-use Rattle.tc_beh.specs.Stands.{IsRulesIn}
 use Rattle.tc_beh.specs.Putting.{has}
-use Rattle.tc_beh.specs.Places.{IsPlaceIn, kind_of, below_at, below_of, entries_by, pairs_of, no_matrix, size_at}
+use Rattle.tc_beh.specs.Places.{IsPlaceIn, kind_of, below_at, below_of, entries_by, pairs_of, no_matrix}
 use Rattle.tc_beh.specs.declared.bodies.Place.{Place}
-use Rattle.tc_beh.proofs.Looking.{finds, not_low, is_low}
+use Rattle.tc_beh.proofs.Looking.{finds, is_low}
 use Rattle.std.proofs.lemmas.Bool.Decides.{nat_tests}
 use Rattle.tc_beh.proofs.Pairs.{listed_pairs}
 

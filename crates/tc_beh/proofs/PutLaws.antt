@@ -1,13 +1,11 @@
 -- Pairs that are put behind pairs.
-use Rattle.std.proofs.Common.{◌≡◌, ◌<◌, ℕ, ◌+◌, Bool, true, false, not, refl, sym, subst, ap, ◌∙◌, Some, arith}
-use Rattle.tc_model.specs.Grammars.{ElementPattern, element_at, InClass}
-use Rattle.tc_model.specs.States.{output, automaton, first_state, state_count, a_content}
-use Rattle.tc_model.specs.Symbols.{fresh_name}
+use Rattle.std.proofs.Common.{◌≡◌, ◌<◌, ℕ, ◌+◌, Bool, true, false, not, refl, sym, subst}
+use Rattle.tc_model.specs.States.{output, first_state, a_content}
 use Rattle.tc_hedge.proofs.Leading.{first_below}
 use Rattle.tc_mat.specs.Matrix.{Matrix, HasPair, IsIdentity}
 use Rattle.tc_rows.specs.Triples.{Triple, outputs}
 use Rattle.tc_rows.specs.PairSets.{PairSet, HaveSamePairs, identity, product, chosen}
-use Rattle.tc_rows.specs.Bodies.{stay, around, text_edges, text_pairs, value_pairs}
+use Rattle.tc_rows.specs.Bodies.{stay, around, text_edges}
 use Rattle.tc_rows.proofs.PairLaws.{same_self, same_back, same_on, product_same}
 use Rattle.tc_beh.specs.Putting.{has, Extends}
 

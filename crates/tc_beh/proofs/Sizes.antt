@@ -1,9 +1,8 @@
 -- How many entries and looks there are, and what the calls of a stylesheet's bodies are.
-use Rattle.std.proofs.Common.{◌≡◌, ◌<◌, ◌≤◌, ◌+◌, ◌*◌, ◌-◌, ℕ, max, List, [], ◌∷◌, length, map, get_or, Bor, subst, sym, ap, ◌∙◌, refl, arith, All, Contains, inl, inr}
+use Rattle.std.proofs.Common.{◌≡◌, ◌<◌, ◌≤◌, ◌+◌, ◌*◌, ℕ, max, List, [], ◌∷◌, length, map, get_or, Bor, subst, sym, ap, ◌∙◌, refl, arith, All, inl, inr}
 use Rattle.std.specs.Prelude.{replicate}
 use Rattle.std.proofs.lemmas.List.{length-map}
 use Rattle.std.proofs.lemmas.List.Elements.{Contains-get_or}
-use Rattle.tc_model.specs.Sheets.{Body, Sheet}
 use Rattle.tc_model.specs.Views as see
 use Rattle.tc_model.specs.WellFormed.{IsSheet, IsBody}
 use Rattle.tc_model.specs.declared.sheet.Instr.{Instr}

@@ -1,5 +1,5 @@
 -- One piece of a list, and one number of several.
-use Rattle.std.proofs.Common.{◌≡◌, ℕ, ◌+◌, ◌≤◌, List, ◌++◌, refl, ap, ◌∙◌, sym, max, append_assoc, Result, Ok, Err, OnOk, arith}
+use Rattle.std.proofs.Common.{◌≡◌, ℕ, List, ◌++◌, ap, ◌∙◌, sym, max, append_assoc, Result, Ok, Err, OnOk, arith}
 
 -- what follows from a result that is `Ok`
 pub then_on_ok : {T E : Type 0} (r : Result T E) (P Q : Type 0) → (P → Q) → OnOk r P → OnOk r Q

@@ -6,3 +6,4 @@ pub mod Putting
 pub mod Places
 pub mod Machines
 pub mod Templates
+pub mod Grounds

@@ -1,5 +1,5 @@
 -- What a machine stands for, and why there is none.
-use Rattle.std.specs.Prelude.{◌≡◌, ◌≤◌, ℕ, max, List, length}
+use Rattle.std.specs.Prelude.{◌≡◌, ◌≤◌, max, List, length}
 use Rattle.tc_model.specs.States.{input, output, state_count}
 use Rattle.tc_model.specs.Symbols.{Mention, symbol_count}
 use Rattle.tc_hedge.specs.Stands as h

@@ -1,9 +1,9 @@
 -- What is known of a node whose body is instantiated, and what its parts stand for.
-use Rattle.std.specs.Prelude.{◌≡◌, ◌<◌, ◌≤◌, ◌+◌, ◌/◌, ◌%◌, ◌==◌, ℕ, List, [], ◌∷◌, length, map, filter, flat_map, get_or, Bool, true, All}
+use Rattle.std.specs.Prelude.{◌≡◌, ◌<◌, ◌≤◌, ◌/◌, ◌%◌, ◌==◌, ℕ, List, [], length, map, filter, flat_map, get_or, Bool, true, All}
 use Rattle.tc_model.specs.Numbered.{numbers_below}
 use Rattle.tc_model.specs.States.{output}
 use Rattle.tc_model.specs.Symbols.{symbol_count}
-use Rattle.tc_mat.specs.Matrix.{Matrix, bit_of, IsMatrix}
+use Rattle.tc_mat.specs.Matrix.{Matrix, bit_of}
 use Rattle.tc_hedge.specs.Stands as h
 use Rattle.tc_rows.specs.Triples.{Triple, sheet, outputs, ancestors, entries}
 use Rattle.tc_rows.specs.PairSets.{PairSet, HaveSamePairs}
@@ -61,6 +61,7 @@ pub record IsPlaceIn (x : Triple) (p : Place) : Type 0 where
   pub size : size_at p ≡ outputs x
   pub text : HaveSamePairs (has p.text.now) (text_edges x)
   pub held : p.outputs.now.size ≡ outputs x
+  pub sizes : All (λ m. m.size ≡ outputs x) p.outputs.now.matrices
   pub named_count : length p.named.now ≡ length (sheet x).named
   pub named : All (λ m. m.size ≡ outputs x) p.named.now
   pub outs : All (λ k. k < length p.outputs.now.matrices) p.entries.now

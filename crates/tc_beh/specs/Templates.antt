@@ -4,7 +4,7 @@ use Rattle.tc_model.specs.Meaning.{all_children}
 use Rattle.tc_model.specs.Sheets.{Sheet, Body, CallFreeBody, p_done, p_apply, p_self, Inlines}
 use Rattle.tc_model.specs.Views as see
 use Rattle.tc_rules.specs.Parts.{IsPart}
-use Rattle.tc_rows.specs.Triples.{Triple, sheet}
+use Rattle.tc_rows.specs.Triples.{Triple}
 use Rattle.tc_rows.specs.Bodies.{NodeKind, on_root, on_element, on_text}
 use Rattle.tc_beh.specs.Heights.{depth_in}
 use Rattle.tc_beh.specs.Places.{kind_of, below_of, called_by}

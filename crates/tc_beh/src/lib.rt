@@ -8,6 +8,7 @@ mod bodies;
 mod calls;
 mod looks;
 mod machine;
+mod named;
 mod sets;
 mod templates;
 

@@ -2,8 +2,6 @@
 #![tactic(auto)]
 
 mod sets;
-#[cfg(test)]
-mod tests;
 mod words;
 
 pub use sets::{Set, sets_have_one_form};

@@ -1,4 +1,4 @@
-//! The tests of symbols, automata, matrices, validity, path states and runs, by public calls alone.
+//! The tests of symbols, automata, matrices and sets, validity, path states and runs, by public calls alone.
 #![tactic(auto)]
 
 #[cfg(test)]
@@ -9,6 +9,8 @@ mod matrices;
 mod path_states;
 #[cfg(test)]
 mod runs;
+#[cfg(test)]
+mod sets;
 #[cfg(test)]
 mod symbols;
 #[cfg(test)]

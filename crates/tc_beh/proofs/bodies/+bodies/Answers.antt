@@ -1,14 +1,13 @@
-use Rattle.std.proofs.Common.{◌≡◌, ◌+◌, ◌<◌, ◌≤◌, ℕ, List, drop, get_or, true, false, length, subst, sym, ap, ◌∙◌, refl, rules, arith, not, ◌==◌}
+use Rattle.std.proofs.Common.{◌≡◌, ◌+◌, ◌<◌, List, drop, get_or, true, false, length, subst, sym, ap, ◌∙◌, refl, rules, arith}
 use Rattle.std.proofs.lemmas.Grind.{common_steps}
 use Rattle.std.proofs.lemmas.List.{drop_all, get_or_default}
 use Rattle.tc_mat.specs.Matrix.{Matrix}
-use Rattle.tc_model.specs.Names.{ExpandedName}
 use Rattle.tc_model.specs.Sheets as s
 use Rattle.tc_model.specs.Symbols.{Mention, symbol_of, symbol_count, fresh_name}
 use Rattle.tc_model.specs.States.{output}
 use Rattle.tc_model.specs.Views as see
 use Rattle.tc_model.specs.declared.sheet.Instr.TheViews.{the_lemmas}
-use Rattle.tc_model.proofs.ViewsBody.{left_instruction, left_branch, see_text, see_elem, see_copy, see_apply, see_call, see_value_of, see_value_of_self, see_choose, see_for_each}
+use Rattle.tc_model.proofs.ViewsBody.{left_instruction, see_elem, see_copy, see_apply, see_call, see_value_of, see_value_of_self, see_choose, see_for_each}
 use Rattle.tc_rules.specs.Kept.{told}
 use Rattle.tc_rules.specs.Parts.{IsPart}
 use Rattle.tc_rules.proofs.PartsOf.{part_first}
@@ -16,15 +15,15 @@ use Rattle.tc_rows.specs.Triples.{outputs, sheet}
 use Rattle.tc_rows.specs.PairSets.{HaveSamePairs, product}
 use Rattle.tc_rows.specs.Rows.{bears_value}
 use Rattle.tc_rows.specs.Bodies.{around, copied_pairs, value_pairs, self_bears}
-use Rattle.tc_rows.proofs.PairLaws.{same_on, same_back, product_same, same_self}
-use Rattle.tc_beh.specs.Heights.{depth_in, depth_in_branches}
-use Rattle.tc_beh.specs.Putting.{has, Extends, put_pairs, put_branch_pairs}
+use Rattle.tc_rows.proofs.PairLaws.{same_on}
+use Rattle.tc_beh.specs.Heights.{depth_in}
+use Rattle.tc_beh.specs.Putting.{has, Extends}
 use Rattle.tc_rules.specs.RulesView.{RulesView}
-use Rattle.tc_beh.specs.Places.{AreSpare, kind_of, below_of, called_by, size_at, no_matrix}
-use Rattle.tc_beh.proofs.Depths.{depth_next, spare_less, inner_depth}
+use Rattle.tc_beh.specs.Places.{AreSpare, kind_of, below_of, called_by, no_matrix}
+use Rattle.tc_beh.proofs.Depths.{depth_next, inner_depth}
 use Rattle.tc_beh.proofs.Instructed.{P, Q, arm, put_end, no_branch, branch_is, branch_part_at, branch_depth_at, branches_part, branches_depth, branch_taken, branch_passed, taken, not_taken, first_taken, last_taken}
 use Rattle.tc_beh.proofs.Placed.{fresh_symbol, look_is, bears_is}
-use Rattle.tc_beh.proofs.PutLaws.{then_put, put_same, nothing_put, around_same, around_inside}
+use Rattle.tc_beh.proofs.PutLaws.{then_put, put_same, around_same, around_inside}
 use Rattle.tc_beh.proofs.bodies.+bodies.Goals as goal
 
 pub put_body-loop-instruction-preserved : goal.put_body-loop-instruction-preserved

@@ -1,4 +1,4 @@
-use Rattle.std.proofs.Common.{◌≡◌, ◌≤◌, ◌+◌, drop, length}
+use Rattle.std.proofs.Common.{◌≡◌, ◌≤◌, ◌+◌, drop}
 use Rattle.tc_model.specs.Views as see
 use Rattle.tc_model.specs.Sheets as s
 use Rattle.tc_rules.specs.Kept.{told}

@@ -1,4 +1,4 @@
-use Rattle.std.proofs.Common.{ap, ◌∙◌, sym}
+use Rattle.std.proofs.Common.{◌∙◌}
 use Rattle.tc_model.specs.Views as see
 use Rattle.tc_rules.specs.Kept.{told}
 use Rattle.tc_rules.specs.Views.{mode_of}
@@ -6,7 +6,7 @@ use Rattle.tc_rows.specs.Triples.{outputs}
 use Rattle.tc_rows.specs.PairSets.{listed}
 use Rattle.tc_rows.specs.Rows.{entry}
 use Rattle.tc_rows.specs.Bodies.{stay}
-use Rattle.tc_beh.specs.Places.{kind_of, below_of, entries_by}
+use Rattle.tc_beh.specs.Places.{below_of, entries_by}
 use Rattle.tc_beh.proofs.PutLaws.{put_nothing, put_same}
 use Rattle.tc_beh.proofs.Placed.{none_below, some_below, low_state}
 use Rattle.tc_beh.proofs.bodies.put_below.Goals as goal

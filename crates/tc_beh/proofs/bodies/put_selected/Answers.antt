@@ -1,4 +1,4 @@
-use Rattle.std.proofs.Common.{ap, ◌∙◌, sym}
+use Rattle.std.proofs.Common.{ap, ◌∙◌}
 use Rattle.tc_model.specs.Views as see
 use Rattle.tc_rules.specs.Kept.{told}
 use Rattle.tc_rules.specs.Views.{mode_of}

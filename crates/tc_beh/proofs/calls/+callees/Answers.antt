@@ -1,4 +1,4 @@
-use Rattle.std.proofs.Common.{◌++◌, ap, ◌∙◌}
+use Rattle.std.proofs.Common.{ap, ◌∙◌}
 use Rattle.tc_beh.specs.Callees.{callees_in, callees_in_branches}
 use Rattle.tc_beh.proofs.Steps.{then_on_ok, after_one}
 use Rattle.tc_model.specs.Sheets as s

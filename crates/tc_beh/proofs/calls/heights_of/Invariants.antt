@@ -1,4 +1,4 @@
-use Rattle.std.proofs.Common.{◌≡◌, ℕ, map, drop, length, Some}
+use Rattle.std.proofs.Common.{◌≡◌, map, drop, length}
 use Rattle.std.specs.Prelude.{replicate}
 use Rattle.tc_beh.specs.Heights.{heights_in}
 use Rattle.tc_model.specs.Views as see

@@ -1,5 +1,4 @@
-use Rattle.std.proofs.Common.{ap, ◌∙◌, sym, subst, rules, not, ◌==◌}
-use Rattle.tc_model.specs.PathStates.{first_state}
+use Rattle.std.proofs.Common.{ap, ◌∙◌, sym, subst, rules}
 use Rattle.tc_model.specs.Views as see
 use Rattle.tc_model.specs.declared.sheet.Test.TheViews.{the_lemmas}
 use Rattle.tc_model.proofs.ViewsPath.{see_has, see_and, see_or}

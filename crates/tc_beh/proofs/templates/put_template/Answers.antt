@@ -1,4 +1,4 @@
-use Rattle.std.proofs.Common.{sym, ap, ◌∙◌, subst}
+use Rattle.std.proofs.Common.{sym, subst}
 use Rattle.tc_model.specs.Views as see
 use Rattle.tc_rows.specs.Triples.{sheet}
 use Rattle.tc_rows.specs.Bodies.{body_pairs}

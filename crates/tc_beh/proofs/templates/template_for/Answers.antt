@@ -1,4 +1,4 @@
-use Rattle.std.proofs.Common.{◌<◌, ◌+◌, subst, ap, sym, ◌∙◌}
+use Rattle.std.proofs.Common.{◌<◌, ◌+◌, subst, sym}
 use Rattle.tc_model.specs.Sheets.{Sheet}
 use Rattle.tc_model.specs.RuleStates.{IsRuleOf, fits_below}
 use Rattle.tc_model.specs.Numberings.{predicates_of}
@@ -9,7 +9,7 @@ use Rattle.tc_rules.specs.Views.{mode_of}
 use Rattle.tc_rules.specs.RulesView.{RulesView, ancestor}
 use Rattle.tc_rules.specs.States.{built_in_at}
 use Rattle.tc_rules.specs.Tasks.{IsTaskOf}
-use Rattle.tc_rows.specs.Triples.{sheet, predicates}
+use Rattle.tc_rows.specs.Triples.{sheet}
 use Rattle.tc_beh.proofs.Meant.{each_part_at, each_meant, mode_meant, sheet_told, rule_low}
 use Rattle.tc_beh.proofs.Marking.{predicates_told}
 use Rattle.tc_model.specs.Letters.{IsLetter}

@@ -1,9 +1,8 @@
-use Rattle.std.proofs.Common.{◌≡◌, ◌≤◌, ◌+◌, ◌<◌, ℕ, List, max, length, sym, ap, ◌∙◌, subst, arith}
+use Rattle.std.proofs.Common.{◌≡◌, ℕ, List, max, length, sym, ap, ◌∙◌, subst, arith}
 use Rattle.std.specs.Prelude.{replicate}
 use Rattle.tc_model.specs.Sheets.{Sheet}
 use Rattle.tc_model.specs.Views as see
 use Rattle.tc_model.specs.WellFormed.{IsSheet}
-use Rattle.tc_rows.specs.Triples.{sheet, entries, looks}
 use Rattle.tc_rows.specs.Counts.{PassCalls}
 use Rattle.tc_beh.specs.Callees.{AreCalleesFirst}
 use Rattle.tc_beh.specs.Heights.{heights_in, highest, highest_rule, deepest, deepest_rule}

@@ -1,7 +1,7 @@
 //! Sets of numbers, each call once.
 
-use crate::Set;
 use std::test::Fail;
+use tc_sets::Set;
 
 /// Numbers at both ends of words, put and taken.
 #[test]

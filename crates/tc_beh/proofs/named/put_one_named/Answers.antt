@@ -1,0 +1,56 @@
+use Rattle.std.proofs.Common.{◌≡◌, ◌<◌, length, get_or, set, subst, sym, ap, ◌∙◌, arith}
+use Rattle.std.proofs.lemmas.List.{get_or-set_same}
+use Rattle.tc_mat.specs.Matrix.{Matrix}
+use Rattle.tc_model.specs.Sheets.{Body, no_instruction}
+use Rattle.tc_model.specs.Views as see
+use Rattle.tc_rules.specs.Kept.{told}
+use Rattle.tc_rows.specs.Triples.{outputs}
+use Rattle.tc_rows.specs.PairSets.{PairSet, HaveSamePairs, product}
+use Rattle.tc_rows.specs.Bodies.{stay}
+use Rattle.tc_rows.proofs.PairLaws.{same_on, same_self, product_same}
+use Rattle.tc_beh.specs.Heights.{depth_in}
+use Rattle.tc_beh.specs.Putting.{has, put_pairs}
+use Rattle.tc_beh.specs.Places.{kind_of, below_of, no_matrix}
+use Rattle.tc_beh.specs.Grounds.{called_from}
+use Rattle.tc_beh.proofs.Deepening.{no_body, named_got, named_is, named_part_at, deepest_at, with_named}
+use Rattle.tc_beh.proofs.Starts.{identity_begun}
+use Rattle.tc_beh.proofs.named.put_one_named.Goals as goal
+
+pub put_body-requires-clause-part : goal.put_body-requires-clause-part
+put_body-requires-clause-part c =
+    let r = c.args.place.now.rules.now in
+    let (x, is) = c.requires.place in
+    let sh = c.sheet.result.now in
+    named_part_at x r c.args.number (see.body (get_or sh.named.now c.args.number no_body).now) is.rules (named_got (told r).sheet sh c.args.number c.sheet.ensures c.requires.number)
+
+pub put_body-requires-clause-spare : goal.put_body-requires-clause-spare
+put_body-requires-clause-spare c =
+    let s = (told c.args.place.now.rules.now).sheet in
+    let sh = c.sheet.result.now in
+    let n = c.args.number in
+    let same : depth_in (get_or s.named n no_instruction) ≡ depth_in (see.body (get_or sh.named.now n no_body).now) = ap depth_in (named_is s sh n c.sheet.ensures c.requires.number) in
+    let low = deepest_at s.named n no_instruction c.requires.number in
+    let enough = c.requires.spare.enough in
+    record {
+      sizes = λ k d l. c.requires.spare.sizes k d l ∙ sym (c.put_identity.ensures.size ∙ c.requires.set);
+      enough = omega (arith, same, low, enough);
+    }
+
+pub returns-clause-called : goal.returns-clause-called
+returns-clause-called c = λ x ok.
+    let p = c.args.place.now in
+    let s = (told p.rules.now).sheet in
+    let sh = c.sheet.result.now in
+    let n = c.args.number in
+    let old = c.args.named.now in
+    let begun = c.put_identity.new.out in
+    let made = c.put_body.new.out in
+    let b = see.body (get_or sh.named.now n no_body).now in
+    let put : Body → PairSet = λ d. put_pairs x (kind_of p.node) (below_of x p) (called_from old) d in
+    let low : n < length old = let count = c.requires.named.count in let is = c.requires.number in omega (arith, count, is) in
+    let at : get_or (set old n c.swap.new.y) n no_matrix ≡ made = get_or-set_same old n c.swap.new.y no_matrix low ∙ c.swap.ensures.y_after in
+    let size : begun.size ≡ outputs x = c.put_identity.ensures.size ∙ (c.requires.set ∙ ok.size) in
+    subst (λ (m : Matrix). HaveSamePairs (has m) (product (stay x) (put (get_or s.named n no_instruction)))) (sym at)
+    (subst (λ d. HaveSamePairs (has made) (product (stay x) (put d))) (sym (named_is s sh n c.sheet.ensures c.requires.number))
+    (same_on (has made) (product (has begun) (put b)) (product (stay x) (put b)) (c.put_body.ensures.pairs x (with_named x p _ ok c.requires.named))
+    (product_same (has begun) (stay x) (put b) (put b) (identity_begun begun (outputs x) size c.put_identity.ensures.pairs) (same_self (put b)))))

@@ -1,0 +1,82 @@
+// The sets of the bodies of named templates, each after those of the bodies that it calls.
+ghost use Rattle.std.specs.Prelude.{◌≡◌, ◌≢◌, ◌≤◌, ◌<◌, ◌+◌, ℕ, List, length, All, get_or};
+ghost use Rattle.tc_mat.specs.Matrix.{Matrix};
+ghost use Rattle.tc_model.specs.Sheets.{no_instruction};
+ghost use Rattle.tc_rules.specs.Kept.{told};
+ghost use Rattle.tc_rows.specs.Triples.{Triple};
+ghost use Rattle.tc_rows.specs.PairSets.{HaveSamePairs, product};
+ghost use Rattle.tc_rows.specs.Bodies.{stay};
+ghost use Rattle.tc_beh.specs.Callees.{AreCalleesFirst};
+ghost use Rattle.tc_beh.specs.Heights.{deepest};
+ghost use Rattle.tc_beh.specs.Putting.{IsCalled, has, put_pairs};
+ghost use Rattle.tc_beh.specs.Places.{IsPlace, IsPlaceIn, AreSpare, kind_of, below_of, size_at, no_matrix};
+ghost use Rattle.tc_beh.specs.Grounds.{AreNamedSets, called_from};
+
+use crate::bodies::{Place, put_body};
+use crate::sets::put_identity;
+use std::mem;
+use tc_mat::Mat;
+
+/// Works out the sets of the bodies of named templates on a node. The place's own are not read.
+pub(crate) fn put_named(
+    place: &Place<'_, '_>,
+    order: &[usize],
+    named: &mut [Mat],
+    set: &mut Mat,
+    spare: &mut [Mat],
+)
+    requires place { IsPlace place.now }
+    requires order { AreCalleesFirst (told place.now.rules.now).sheet.named order.now }
+    requires named { AreNamedSets place.now named.old }
+    requires set { set.old.size ≡ size_at place.now }
+    requires spare { AreSpare (size_at place.now) (deepest (told place.now.rules.now).sheet.named + 2) spare.old }
+    requires few { length spare.old ≤ 8002 }
+    ensures named { AreNamedSets place.now named.new }
+    ensures set { set.new.size ≡ size_at place.now }
+    ensures spare { All (λ m. m.size ≡ size_at place.now) spare.new }
+    ensures called { (x : Triple) (n : ℕ) → IsPlaceIn x place.now → IsCalled x (kind_of place.now.node) (below_of x place.now) (called_from named.new) n }
+{
+    for number in order {
+        put_one_named(place, *number, named, set, spare);
+    }
+}
+
+/// The same of one of them, once those that it calls are worked out.
+fn put_one_named(
+    place: &Place<'_, '_>,
+    number: usize,
+    named: &mut [Mat],
+    set: &mut Mat,
+    spare: &mut [Mat],
+)
+    requires place { IsPlace place.now }
+    requires number { number < length (told place.now.rules.now).sheet.named }
+    requires named { AreNamedSets place.now named.old }
+    requires set { set.old.size ≡ size_at place.now }
+    requires spare { AreSpare (size_at place.now) (deepest (told place.now.rules.now).sheet.named + 2) spare.old }
+    requires few { length spare.old ≤ 8002 }
+    ensures named { AreNamedSets place.now named.new }
+    ensures set { set.new.size ≡ size_at place.now }
+    ensures spare { All (λ m. m.size ≡ size_at place.now) spare.new }
+    ensures others { (n : ℕ) → n ≢ number → get_or named.new n no_matrix ≡ get_or named.old n no_matrix }
+    ensures called { (x : Triple) → IsPlaceIn x place.now →
+        HaveSamePairs (has (get_or named.new number no_matrix)) (product (stay x) (put_pairs x (kind_of place.now.node) (below_of x place.now) (called_from named.old) (get_or (told place.now.rules.now).sheet.named number no_instruction))) }
+{
+    let body = place.rules.sheet().named[number];
+    put_identity(set);
+    let here = Place {
+        rules: place.rules,
+        output: place.output,
+        alphabet: place.alphabet,
+        outputs: place.outputs,
+        text: place.text,
+        named: &*named,
+        node: place.node,
+        bears: place.bears,
+        entries: place.entries,
+        looks: place.looks,
+        above: place.above,
+    };
+    put_body(&here, body, set, spare);
+    mem::swap(set, &mut named[number]);
+}
