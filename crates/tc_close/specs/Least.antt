@@ -1,4 +1,4 @@
--- The least costs of rows: the fewest nodes of their trees.
+-- The least costs of rows: the fewest nodes of their live trees.
 use Rattle.std.specs.Prelude.{◌≡◌, ◌<◌, ◌≤◌, ◌⊎◌, ◌↔◌, ◌+◌, ℕ}
 use Rattle.tc_model.specs.Trees.{Trees, node_count}
 use Rattle.tc_model.specs.Chains.{Tree}
@@ -34,7 +34,7 @@ module _ (x : Triple) where
   IsNone u c = (c ≡ 0) × IsEmptyRow x u
 
   pub record LeastCosts : Type 0 where
-    -- the least cost of a row is the least number of nodes of its live trees
+    -- the least cost of a row is the least number of nodes of its live trees. Of these alone: a tree that isn't in normal form, with two texts side by side, may have the same row and fewer nodes
     pub trees : (r : TreeRow) (c : ℕ) → IsLeastTree r c
         ↔ (((t : Tree) × IsLiveTree x.input t × IsRowOfTree x t r × (node_count (alone t) ≡ c)) × ((t : Tree) → IsLiveTree x.input t → IsRowOfTree x t r → c ≤ node_count (alone t)))
     pub hedges : (r : HedgeRow) (c : ℕ) → IsLeastHedge r c
@@ -50,9 +50,10 @@ module _ (x : Triple) where
   IsLeastFailing r c = IsFailing x r × TreeFrom x r c × ((s : TreeRow) (n : ℕ) → IsFailing x s → TreeFrom x s n → c ≤ n)
 
   pub record LeastCounterexamples : Type 0 where
-    -- any plain tree of such a row is a counterexample with the fewest nodes of all
+    -- such a row shows a counterexample with as many nodes as it costs: one plain tree of the row
     pub shown : (r : TreeRow) (c : ℕ) → IsLeastFailing r c
         → (t : Tree) × (result : Trees) × ArePlain x (alone t) × IsRowOfTree x t r × (node_count (alone t) ≡ c) × IsCounterexample x.input x.output (sheet x) (alone t) result
+    -- and no counterexample has fewer
     pub least : (r : TreeRow) (c : ℕ) → IsLeastFailing r c → (doc result : Trees) → IsCounterexample x.input x.output (sheet x) doc result → c ≤ node_count doc
     -- all counterexamples have more nodes than some number exactly where all rows that fail cost more
     pub far : (most : ℕ)

@@ -3,9 +3,9 @@ ghost use Rattle.tc_close.specs.Least.{CostsAreLeast};
 ghost use Rattle.tc_close.specs.Settling.{CostByCost};
 ghost use Rattle.tc_close.specs.Verdict.{ListsTell};
 
-/// The law of least costs: the least cost of a row is the least number of nodes of its live trees, and what costs
-/// least comes from what costs least. A row that fails at the least cost of all that fail shows a counterexample with
-/// the fewest nodes of all.
+/// The law of least costs: the least cost of a row is the least number of nodes of its live trees (others of the same
+/// row may have fewer), and what costs least comes from what costs least. A row that fails at the least cost of all
+/// that fail shows a plain counterexample with the fewest nodes of all.
 pub fn law_of_least_costs()
     ensures { CostsAreLeast }
 {}

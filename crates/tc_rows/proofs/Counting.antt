@@ -1,4 +1,4 @@
--- Counts are one, and lists that hold each row once tell them.
+-- What counts tell, and lists that hold each row once; and what passes a number.
 use Rattle.std.proofs.Common.{Contains, ◌≡◌, ◌↔◌, inl, inr, ℕ, suc, ◌<◌, ◌≤◌, List, [], ◌∷◌, refl, ap, ◌∙◌, sym, length, Some, slice_get, arith}
 use Rattle.std.proofs.lemmas.List.Elements.{All-contains}
 use Rattle.tc_alpha.proofs.Members.{Has, has_from_contains, contains_from_has, every_from_members, all_from_every}
@@ -6,7 +6,7 @@ use Rattle.tc_rows.specs.Triples.{Triple, IsTriple}
 use Rattle.tc_rows.specs.Counts.{AreDifferent, Counts, Pass, IsRowOfLiveTree, IsRowOfLiveHedge, IsOutput}
 use Rattle.tc_rows.specs.Rows.{HedgeRow, TreeRow}
 use Rattle.tc_rows.specs.Derivations.{HedgeFrom, TreeFrom}
-use Rattle.tc_rows.specs.CountLaws.{CountsTell, ListsTell, SetsTell, SomePass, RowsAreCounted}
+use Rattle.tc_rows.specs.CountLaws.{CountsTell, ListsTell, SetsTell, IsSetFrom, SomePass, RowsAreCounted}
 use Rattle.tc_rows.proofs.AllLaws.{rows_are_lawful}
 use Rattle.tc_rows.proofs.Derived.{all_listed, are_exact}
 
@@ -104,7 +104,7 @@ sets_tell x is trees hedges sets closed from_trees from_hedges different are =
     }
 
 some_pass : (x : Triple) → IsTriple x → SomePass x
-some_pass x is = (trees, hedges)
+some_pass x is = (trees, hedges, sets)
   where
     trees : (rows : List TreeRow) (most : ℕ) → AreDifferent rows → ((r : TreeRow) → Contains rows r → (n : ℕ) × TreeFrom x r n) → most < length rows → Pass (IsRowOfLiveTree x) most
     trees rows most different comes more = record {
@@ -123,6 +123,18 @@ some_pass x is = (trees, hedges)
       each = all_from_every (IsRowOfLiveHedge x) rows
           (every_from_members (IsRowOfLiveHedge x) rows
           (λ r h. let (n, d) = comes r (contains_from_has rows r h) in let (k, l, row, count) = ((are_exact x (rows_are_lawful x is)).hedges r n).0 d in (k, l, row)));
+      more = more;
+    }
+
+    set_from : (pairs : List (ℕ × ℕ)) → IsSetFrom x pairs → IsOutput x pairs
+    set_from pairs (inl (r, n, d, there)) = let (t, l, row, count) = ((are_exact x (rows_are_lawful x is)).trees r n).0 d in inl (r, (t, l, row), there)
+    set_from pairs (inr (r, n, d, there)) = let (h, l, row, count) = ((are_exact x (rows_are_lawful x is)).hedges r n).0 d in inr (r, (h, l, row), there)
+
+    sets : (all : List (List (ℕ × ℕ))) (most : ℕ) → AreDifferent all → ((pairs : List (ℕ × ℕ)) → Contains all pairs → IsSetFrom x pairs) → most < length all → Pass (IsOutput x) most
+    sets all most different come more = record {
+      some = all;
+      different = different;
+      each = all_from_every (IsOutput x) all (every_from_members (IsOutput x) all (λ pairs h. set_from pairs (come pairs (contains_from_has all pairs h))));
       more = more;
     }
 

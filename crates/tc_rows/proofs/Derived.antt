@@ -43,7 +43,7 @@ module _ (x : Triple) (laws : RowLaws x) where
       let (u, c) = laws.there.wrapped (symbol_of x.symbols n) r a.row in
       let count : node_count kids + 1 ≡ node_count (element n kids none) = omega arith in (
         u,
-        laws.commute.wrapped n kids r u inside a c,
+        laws.commute.wrapped n kids r u (normal_hedge inside) a c,
         subst (TreeFrom x u) count (from_wrap (laws.made.symbol n) d ((laws.commute.wrap_live n kids r (laws.made.name_inside n kids l) inside a).0 l) c),
       )
 
@@ -61,7 +61,7 @@ module _ (x : Triple) (laws : RowLaws x) where
           let (r, a, d) = rows m (omega (arith, low, count, some_node t)) front in
           let (s, c, f) = tree_comes t (λ w less. rows w (omega (arith, low, count, less))) last in
           let (u, v) = laws.there.appended r s a.row c.row in
-          let row : IsRowOfHedge x (followed_by m t) u = laws.commute.appended m t r s u front last a c v in
+          let row : IsRowOfHedge x (followed_by m t) u = laws.commute.appended m t r s u (normal_tree t last) a c v in
           (u, subst (λ w. IsRowOfHedge x w u) (sym e) row, subst (HedgeFrom x u) (sym count) (from_append {h = r} {u = u} {t = s} d f ((laws.commute.append_live m t r s front last a c).0 whole) v))
 
   pub live_hedge_from : (h : Trees) (r : HedgeRow) → IsLiveHedge x.input h → IsRowOfHedge x h r → HedgeFrom x r (node_count h)
@@ -87,7 +87,7 @@ module _ (x : Triple) (laws : RowLaws x) where
     hedge_made (from_append {h} {u} {t} {m} {n} d f live c) =
         let (k, p, l, a, count) = hedge_made d in
         let (s, q, last, b, size) = tree_made f in
-        (followed_by k s, plain_beside k (alone s) p q, (laws.commute.append_live k s h t l last a b).1 live, laws.commute.appended k s h t u l last a b c, omega (arith, laws.made.nodes k s, count, size))
+        (followed_by k s, plain_beside k (alone s) p q, (laws.commute.append_live k s h t l last a b).1 live, laws.commute.appended k s h t u (normal_tree s last) a b c, omega (arith, laws.made.nodes k s, count, size))
 
     pub tree_made : {r : TreeRow} {n : ℕ} → TreeFrom x r n → IsRowOfPlain x r n
     tree_made (from_text {u} live c) =
@@ -100,7 +100,7 @@ module _ (x : Triple) (laws : RowLaws x) where
           an_element (fresh_name x.symbols a) k,
           (ap (fresh_name x.symbols) (sym same), p, tt),
           (laws.commute.wrap_live (fresh_name x.symbols a) k h name l row).1 own,
-          laws.commute.wrapped (fresh_name x.symbols a) k h u l row (subst (λ w. IsWrap x w h u) (sym same) c),
+          laws.commute.wrapped (fresh_name x.symbols a) k h u (normal_hedge l) row (subst (λ w. IsWrap x w h u) (sym same) c),
           omega (arith, count),
         )
 
@@ -108,21 +108,21 @@ module _ (x : Triple) (laws : RowLaws x) where
   safe_passes : IsSafe x.input x.output (sheet x) → (r : TreeRow) (n : ℕ) → TreeFrom x r n → IsTrue (is_admitted x r) → IsPassing x r
   safe_passes safe r n d admitted =
       let (t, p, l, a, count) = tree_made d in
-      let (result, is_result, valid) = safe (alone t) ((laws.tell.admitted t r l a).1 admitted) in
-      (laws.tell.passing t r result l a is_result).0 valid
+      let (result, is_result, valid) = safe (alone t) ((laws.tell.admitted t r l.0 a).1 admitted) in
+      (laws.tell.passing t r result (normal_tree t l) a is_result).0 valid
 
   passes_safe : ((r : TreeRow) (n : ℕ) → TreeFrom x r n → IsTrue (is_admitted x r) → IsPassing x r) → IsSafe x.input x.output (sheet x)
   passes_safe pass doc valid =
       let (t, e, l) = laws.tell.documents doc valid in
       let (r, a) = laws.there.trees t (normal_tree t l) in
       let (result, is_result) = laws.tell.has_result t in
-      let admitted = (laws.tell.admitted t r l a).0 (subst (IsValid x.input) e valid) in
-      (result, subst (λ w. IsResultOf (sheet x) w result) (sym e) is_result, (laws.tell.passing t r result l a is_result).1 (pass r (node_count (alone t)) (live_tree_from t r l a) admitted))
+      let admitted = (laws.tell.admitted t r l.0 a).0 (subst (IsValid x.input) e valid) in
+      (result, subst (λ w. IsResultOf (sheet x) w result) (sym e) is_result, (laws.tell.passing t r result (normal_tree t l) a is_result).1 (pass r (node_count (alone t)) (live_tree_from t r l a) admitted))
 
   fails_show : (r : TreeRow) (t : Tree) → IsLiveTree x.input t → IsRowOfTree x t r → IsFailing x r → (result : Trees) × IsCounterexample x.input x.output (sheet x) (alone t) result
   fails_show r t l a (admitted, fails) =
       let (result, is_result) = laws.tell.has_result t in
-      (result, ((laws.tell.admitted t r l a).1 admitted, is_result, λ valid. fails ((laws.tell.passing t r result l a is_result).0 valid)))
+      (result, ((laws.tell.admitted t r l.0 a).1 admitted, is_result, λ valid. fails ((laws.tell.passing t r result (normal_tree t l) a is_result).0 valid)))
 
   counters_fail : (doc result : Trees) → IsCounterexample x.input x.output (sheet x) doc result → (r : TreeRow) × TreeFrom x r (node_count doc) × IsFailing x r
   counters_fail doc result (valid, is_result, bad) =
@@ -130,7 +130,7 @@ module _ (x : Triple) (laws : RowLaws x) where
       let (r, a) = laws.there.trees t (normal_tree t l) in (
         r,
         subst (λ w. TreeFrom x r (node_count w)) (sym e) (live_tree_from t r l a),
-        ((laws.tell.admitted t r l a).0 (subst (IsValid x.input) e valid), λ pass. bad ((laws.tell.passing t r result l a (subst (λ w. IsResultOf (sheet x) w result) e is_result)).1 pass)),
+        ((laws.tell.admitted t r l.0 a).0 (subst (IsValid x.input) e valid), λ pass. bad ((laws.tell.passing t r result (normal_tree t l) a (subst (λ w. IsResultOf (sheet x) w result) e is_result)).1 pass)),
       )
 
   pub are_exact : AreExact x

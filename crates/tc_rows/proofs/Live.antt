@@ -3,7 +3,7 @@ use Rattle.std.proofs.Common.{◌≡◌, ◌↔◌, inl, inr, ℕ, ◌+◌, ◌<
 use Rattle.std.specs.List.{list_any}
 use Rattle.std.proofs.lemmas.Bool.{true≢false}
 use Rattle.tc_model.specs.Names.{ExpandedName, IsName, IsText}
-use Rattle.tc_model.specs.Trees.{Trees, none, text, element, beside, node_count, normal_form, AreLawful, IsNormal, is_all_white}
+use Rattle.tc_model.specs.Trees.{Trees, none, text, element, beside, node_count, normal_form, AreLawful, IsNormal, IsDocument, is_all_white}
 use Rattle.tc_model.specs.Chains.{Tree, an_element, a_text}
 use Rattle.tc_model.specs.TreesApart.{alone, followed_by, is_text, ends_in_text, IsApart}
 use Rattle.tc_model.specs.LiveTrees.{AreOfDocuments, HasPattern, HavePatterns, LeadSomewhere, IsLiveTree, IsLiveHedge, empty_is_live, are_live}
@@ -126,6 +126,14 @@ module _ (x : Triple) (is : IsTriple x) where
       subst (λ w. a < symbol_count w → symbol_of w (fresh_name w a) ≡ a) (sym is.symbols)
       (λ l. symbol_told (symbols_of x.input x.output (sheet x)) (are_symbols x.input x.output (sheet x)) a l (fresh_name (symbols_of x.input x.output (sheet x)) a) refl) low
 
+  -- a document is one tree
+  pub document_alone : (doc : Trees) → IsDocument doc → (t : Tree) × (doc ≡ alone t) × AreOfDocuments (alone t)
+  document_alone none d = absurd d.0
+  document_alone (text s rest) d = absurd d.0
+  document_alone (element n kids rest) d =
+      let same : element n kids rest ≡ alone (an_element n kids) = ap (element n kids) d.0 in
+      (an_element n kids, same, (subst AreLawful same d.1, subst IsNormal same d.2))
+
   -- valid documents are live
   pub document_live : (doc : Trees) → IsValid x.input doc → (t : Tree) × (doc ≡ alone t) × IsLiveTree x.input t
   document_live none v = absurd v.0.0
@@ -153,12 +161,12 @@ module _ (x : Triple) (is : IsTriple x) where
       by true a b later = (j, inl refl, a)
       by false a b later = let (k, h, c) = later b in (k, inr h, c)
 
-  pub admitted_told : (t : Tree) (r : TreeRow) → IsLiveTree x.input t → IsRowOfTree x t r → IsValid x.input (alone t) ↔ IsTrue (is_admitted x r)
-  admitted_told (a_text s) r live a = (λ v. absurd v.0.0, of)
+  pub admitted_told : (t : Tree) (r : TreeRow) → AreOfDocuments (alone t) → IsRowOfTree x t r → IsValid x.input (alone t) ↔ IsTrue (is_admitted x r)
+  admitted_told (a_text s) r lawful a = (λ v. absurd v.0.0, of)
     where
       of : IsTrue (is_admitted x r) → IsValid x.input (text s none)
       of e = let (k, h, f) = one_of_any (λ k. is_alternative k x.input.start) r.patterns e in absurd ((a.patterns k).0 (contains_from_has r.patterns k h))
-  admitted_told (an_element n kids) r live a = (to, of)
+  admitted_told (an_element n kids) r lawful a = (to, of)
     where
       to : IsValid x.input (element n kids none) → IsTrue (is_admitted x r)
       to v =
@@ -168,4 +176,4 @@ module _ (x : Triple) (is : IsTriple x) where
       of : IsTrue (is_admitted x r) → IsValid x.input (element n kids none)
       of e =
           let (k, h, f) = one_of_any (λ k. is_alternative k x.input.start) r.patterns e in
-          ((refl, live.0.0, live.0.1), matches_alternative x.input n kids x.input.start is.start k f ((a.patterns k).0 (contains_from_has r.patterns k h)))
+          ((refl, lawful.0, lawful.1), matches_alternative x.input n kids x.input.start is.start k f ((a.patterns k).0 (contains_from_has r.patterns k h)))

@@ -1,10 +1,10 @@
 -- The laws of rows: all that is to be known of them where rows of all live trees are found, or where some are checked.
-use Rattle.std.specs.Prelude.{◌≡◌, ◌<◌, ◌↔◌, ◌+◌, ℕ, List, false, IsTrue, codes}
+use Rattle.std.specs.Prelude.{◌≡◌, ◌<◌, ◌↔◌, ◌+◌, ℕ, List, false, ◌&&◌, IsTrue, codes}
 use Rattle.tc_model.specs.Names.{ExpandedName, IsName, IsText}
-use Rattle.tc_model.specs.Trees.{Trees, none, is_all_white, node_count, IsNormal}
+use Rattle.tc_model.specs.Trees.{Trees, none, is_all_white, node_count, IsNormal, IsDocument}
 use Rattle.tc_model.specs.Chains.{Tree, an_element, a_text}
-use Rattle.tc_model.specs.TreesApart.{alone, followed_by, FromBack}
-use Rattle.tc_model.specs.LiveTrees.{IsLiveTree, IsLiveHedge}
+use Rattle.tc_model.specs.TreesApart.{alone, followed_by, FromBack, is_text, ends_in_text}
+use Rattle.tc_model.specs.LiveTrees.{AreOfDocuments, IsLiveTree, IsLiveHedge}
 use Rattle.tc_model.specs.Validity.{IsValid, IsValidOutput}
 use Rattle.tc_model.specs.Safety.{IsResultOf}
 use Rattle.tc_model.specs.Symbols.{symbol_of, symbol_count, fresh_name}
@@ -31,19 +31,26 @@ module _ (x : Triple) where
     pub trees : (t : Tree) → IsNormal (alone t) → (r : TreeRow) × IsRowOfTree x t r
     pub hedges : (h : Trees) → IsNormal h → (r : HedgeRow) × IsRowOfHedge x h r
 
-  -- rows commute with putting trees together: what is live is told by rows, and its row is worked out from them
+  -- rows commute with putting trees together: of all trees in normal form, live or not, rows are worked out from those of their parts; and what is live, made of live parts, is told by rows
   pub record Commute : Type 0 where
     pub empty : (u : HedgeRow) → IsEmptyRow x u → IsRowOfHedge x none u
     pub text : (s : List ℕ) (u : TreeRow) → is_all_white s ≡ false → IsTextRow x u → IsRowOfTree x (a_text s) u
     pub text_live : (s : List ℕ) → IsText s → is_all_white s ≡ false → IsLiveTree x.input (a_text s) ↔ IsTextLive x
+    -- where all of it is in normal form, so is the last tree
     pub appended : (h : Trees) (t : Tree) (r : HedgeRow) (s : TreeRow) (u : HedgeRow)
-        → IsLiveHedge x.input h → IsLiveTree x.input t → IsRowOfHedge x h r → IsRowOfTree x t s → IsAppend x r s u → IsRowOfHedge x (followed_by h t) u
+        → IsNormal (alone t) → IsRowOfHedge x h r → IsRowOfTree x t s → IsAppend x r s u → IsRowOfHedge x (followed_by h t) u
     pub append_live : (h : Trees) (t : Tree) (r : HedgeRow) (s : TreeRow)
         → IsLiveHedge x.input h → IsLiveTree x.input t → IsRowOfHedge x h r → IsRowOfTree x t s → IsLiveHedge x.input (followed_by h t) ↔ IsLiveAppend x r s
     pub wrapped : (n : ExpandedName) (h : Trees) (r : HedgeRow) (u : TreeRow)
-        → IsLiveHedge x.input h → IsRowOfHedge x h r → IsWrap x (symbol_of x.symbols n) r u → IsRowOfTree x (an_element n h) u
+        → IsNormal h → IsRowOfHedge x h r → IsWrap x (symbol_of x.symbols n) r u → IsRowOfTree x (an_element n h) u
     pub wrap_live : (n : ExpandedName) (h : Trees) (r : HedgeRow)
         → IsName n → IsLiveHedge x.input h → IsRowOfHedge x h r → IsLiveTree x.input (an_element n h) ↔ IsLiveWrap x (symbol_of x.symbols n) r
+
+  -- trees are in normal form exactly where their parts are and no two texts meet
+  pub record AreNormal : Type 0 where
+    pub text : (s : List ℕ) → IsNormal (alone (a_text s)) ↔ (is_all_white s ≡ false)
+    pub element : (n : ExpandedName) (h : Trees) → IsNormal (alone (an_element n h)) ↔ IsNormal h
+    pub followed : (h : Trees) (t : Tree) → IsNormal (followed_by h t) ↔ (IsNormal h × IsNormal (alone t) × ((ends_in_text h && is_text t) ≡ false))
 
   -- all live trees are made of live ones, from none: a text, an element around a live list, a live tree behind a live list
   pub record AreMade : Type 0 where
@@ -60,11 +67,12 @@ module _ (x : Triple) where
     pub fresh : (a : ℕ) → a < symbol_count x.symbols → IsName (fresh_name x.symbols a) × (symbol_of x.symbols (fresh_name x.symbols a) ≡ a)
     pub plain_text : IsText (codes "t") × (is_all_white (codes "t") ≡ false)
 
-  -- a valid document is live; rows tell which live trees are valid, and of which of these the result is
+  -- a document is one tree, and live where it is valid; rows tell which documents are valid, and the results of which, be they live or not
   pub record Tell : Type 0 where
+    pub one_tree : (doc : Trees) → IsDocument doc → (t : Tree) × (doc ≡ alone t) × AreOfDocuments (alone t)
     pub documents : (doc : Trees) → IsValid x.input doc → (t : Tree) × (doc ≡ alone t) × IsLiveTree x.input t
-    pub admitted : (t : Tree) (r : TreeRow) → IsLiveTree x.input t → IsRowOfTree x t r → IsValid x.input (alone t) ↔ IsTrue (is_admitted x r)
-    pub passing : (t : Tree) (r : TreeRow) (result : Trees) → IsLiveTree x.input t → IsRowOfTree x t r → IsResultOf (sheet x) (alone t) result
+    pub admitted : (t : Tree) (r : TreeRow) → AreOfDocuments (alone t) → IsRowOfTree x t r → IsValid x.input (alone t) ↔ IsTrue (is_admitted x r)
+    pub passing : (t : Tree) (r : TreeRow) (result : Trees) → IsNormal (alone t) → IsRowOfTree x t r → IsResultOf (sheet x) (alone t) result
         → IsValidOutput x.output result ↔ IsPassing x r
     pub has_result : (t : Tree) → (result : Trees) × IsResultOf (sheet x) (alone t) result
 
@@ -72,6 +80,7 @@ module _ (x : Triple) where
     pub one : AreOne
     pub there : AreThere
     pub commute : Commute
+    pub normal : AreNormal
     pub made : AreMade
     pub tell : Tell
 

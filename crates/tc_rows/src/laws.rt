@@ -6,9 +6,9 @@ ghost use Rattle.tc_rows.specs.Derivations.{DerivationsAreExact};
 ghost use Rattle.tc_rows.specs.Laws.{RowsAreLawful};
 
 /// The laws of rows. A tree has one row, and what is worked out from rows is one row. Rows commute with putting trees
-/// together: what is live is told by rows, and its row is worked out from those of its parts. All live trees are made
-/// of live ones. A live document is valid exactly where its row is admitted, and its result exactly where its row
-/// passes at the root.
+/// together: the rows of all trees in normal form are worked out from those of their parts, and what is made of live
+/// parts is told to be live by their rows. All live trees are made of live ones. A document, be it live or not, is
+/// valid exactly where its row is admitted, and its result exactly where its row passes at the root.
 pub fn law_of_rows()
     ensures { RowsAreLawful }
 {}
@@ -34,8 +34,10 @@ pub fn law_of_closed_rows()
     ensures certificate { CertificateIsSafe }
 {}
 
-/// The law of counts: there are so many rows of live trees, of live lists of trees, and so many sets of pairs in them,
-/// and no other number. Closed lists without repeats of rows that come from rows are as long.
+/// The law of counts: of the rows of live trees, of those of live lists of trees and of the sets of pairs in them, two
+/// counts are equal, and where there is a count it tells `Pass`, that there are more than some number. That there is a
+/// count isn't said, so limits are to be stated by `Pass`. Closed lists without repeats of rows that come from rows show
+/// one; and `Pass` is shown by more than so many different rows that come from rows, or sets of pairs in such rows.
 pub fn law_of_counts()
     ensures { RowsAreCounted }
 {}
