@@ -10,7 +10,7 @@ use Rattle.tc_model.specs.Safety.{IsSafe, IsCounterexample}
 use Rattle.tc_top.specs.FirstForm.{Schema, grammar_of, sheet_of}
 use Rattle.tc_top.specs.FirstText.{FirstSchemaText, FirstSheetText}
 use Rattle.tc_top.specs.Headline.{IsCutShort, ChecksFiles, DecidesSafety, ValidatesFiles, DecidesValidity, RunsFiles, GivesResult}
-use Rattle.tc_top.specs.Answers.{Answer, usage, not_yet, cannot_read, file_limit, safe, unsafe, refused, over_limit, is_valid, is_invalid, has_result, work_limit, open_limit, status_of, text_of, other_input, other_output, other_sheet, Checks, is_other_form, is_safe, is_unsafe, IsAnswer, Gives, KeepsToLimits, Runs, sheet_passes, too_much_work, too_open, gives_result}
+use Rattle.tc_top.specs.Answers.{Answer, usage, not_yet, cannot_read, file_limit, safe, unsafe, refused, over_limit, is_valid, is_invalid, has_result, work_limit, open_limit, status_of, text_of, other_input, other_output, other_sheet, Checks, is_other_form, is_safe, is_unsafe, IsAnswer, Ends, Gives, KeepsToLimits, Runs, sheet_passes, too_much_work, too_open, gives_result}
 use Rattle.tc_top.specs.AnswersSeen.{IsRightFor}
 use Rattle.tc_top.specs.OneAnswer.{AreAlike, same_answer, counterexamples, work_or_open, open_or_work, open_reasons, IsOfFault}
 use Rattle.tc_top.specs.declared.answer.Answer.{Answer as Said}
@@ -53,9 +53,14 @@ gives status one other e (inr fault) = inr (cut_short status other e fault)
 pub at_words : {words other : List (List ℕ)} {happened : List Read → Type 0} {said : Said} → words ≡ other → IsRightFor words happened said → IsRightFor other happened said
 at_words {words} {other} {happened} {said} same right = subst (λ w. IsRightFor w happened said) same right
 
+-- a call that ends so for the same words
+pub ends_at : {words other : List (List ℕ)} {happened : List Read → Type 0} {faulted : Type 0} {old new : Option (List ℕ)} {status : Status} → words ≡ other → Ends words happened faulted old new status
+    → Ends other happened faulted old new status
+ends_at {words} {other} {happened} {faulted} {old} {new} {status} same ends = subst (λ w. Ends w happened faulted old new status) same ends
+
 -- where the store tells
-pub at_told : {told other : Option Files} {rose : Type 0} {reads : List Read} → told ≡ other → AreTrue told rose reads → AreTrue other rose reads
-at_told {told} {other} {rose} {reads} same true = subst (λ t. AreTrue t rose reads) same true
+pub at_told : {told other : Option Files} (rose : Type 0) (reads : List Read) → told ≡ other → AreTrue told rose reads → AreTrue other rose reads
+at_told {told} {other} rose reads same true = subst (λ t. AreTrue t rose reads) same true
 
 module _ (i o : Schema) (t : Trees) where
   -- what the three texts decide
@@ -95,11 +100,11 @@ pub headline : {words : List (List ℕ)} {rose : Type 0} {reads : List Read} (fi
     → AreTrue (Some files) rose reads → IsAnswer words reads answer → status ≡ status_of answer → Appended old new (text_of answer)
     → IsCutShort status rose ⊎ DecidesSafety status old new (grammar_of i) (grammar_of o) (sheet_of t)
 headline {words} {rose} {reads} files i o t status old new answer c true right is written =
-    by (read_three rose files c.input c.output c.sheet c.input_text c.output_text c.sheet_text c.words_are tt refl c.input_held (first_short c.input_spells.short) c.output_held (first_short c.output_spells.short)
-    c.sheet_held (first_short c.sheet_spells.short) true right)
+    by (read_three rose files c.input c.output c.sheet c.input_text c.output_text c.sheet_text c.words_are tt refl c.input_held (first_short _ c.input_spells.short) c.output_held (first_short _ c.output_spells.short)
+    c.sheet_held (first_short _ c.sheet_spells.short) true right)
   where
-    first_short : {bytes : List ℕ} → length bytes ≤ 4096 → length bytes ≤ longest_file
-    first_short h = omega (arith, h)
+    first_short : (bytes : List ℕ) → length bytes ≤ 4096 → length bytes ≤ longest_file
+    first_short bytes h = omega (arith, h)
 
     by : IsOfFault rose answer ⊎ (reads ≡ (c.input, Ok c.input_text) ∷ (c.output, Ok c.output_text) ∷ (c.sheet, Ok c.sheet_text) ∷ [])
         → IsCutShort status rose ⊎ DecidesSafety status old new (grammar_of i) (grammar_of o) (sheet_of t)
@@ -174,9 +179,9 @@ run_decides {words} {rose} {reads} files s d status old new answer c true right 
     by (inl fault) = inl (cut_short status answer is fault)
     by (inr read) = inr (given s d status old new is written (runs_of c.sheet_spells c.document_spells (ran_only c.words_are read right)))
 
-pub running : {words : List (List ℕ)} {rose : Type 0} {reads : List Read} (files : Files) (s : Sheet) (d : Trees) (status : Status) (old new : Option (List ℕ)) (answer : Answer) → RunsFiles words files s d
+pub running : (rose : Type 0) {words : List (List ℕ)} {reads : List Read} (files : Files) (s : Sheet) (d : Trees) (status : Status) (old new : Option (List ℕ)) (answer : Answer) → RunsFiles words files s d
     → AreTrue (Some files) rose reads → IsAnswer words reads answer → status ≡ status_of answer → Appended old new (text_of answer) → GivesResult status old new s d
-running {rose = rose} files s d status old new answer c true right is written = by (run_decides files s d status old new answer c true right is written)
+running rose files s d status old new answer c true right is written = by (run_decides files s d status old new answer c true right is written)
   where
     by : IsCutShort status rose ⊎ (KeepsToLimits status old new s d × GivesResult status old new s d) → GivesResult status old new s d
     by (inl cut) = λ e. absurd (not_yes cut e)

@@ -1,7 +1,7 @@
 // The commands, and how the words of a command line give them.
 ghost use Rattle.std.specs.Prelude.{◌≡◌, ◌≤◌, ◌↔◌, ℕ, List, [], ◌∷◌, Option, length, IsTrue, MatchOption};
 ghost use Rattle.std.specs.List.{list_all};
-ghost use Rattle.tc_top.specs.Words.{Limits, IsNumeral, Words, AreOperands, IsNoCommand, is_operand, name_of};
+ghost use Rattle.tc_top.specs.Words.{Limits, IsNumeral, Words, AreOperands, IsNoCommand, is_operand};
 ghost use Rattle.tc_top.specs.WordsSeen.{texts, command};
 
 /// The operands of a check: the names of two schemas and a stylesheet.
@@ -27,24 +27,6 @@ pub enum Command<'w> {
     Valid(&'w str, &'w str),
     /// Check an example of this size.
     Demo(u32),
-}
-
-impl Command<'_> {
-    ghost use Rattle.tc_top.specs.WordsSeen.{command};
-
-    /// The first word.
-    pub fn name(&self) -> &'static str
-        ensures { result.now ≡ name_of (command self.now) }
-    {
-        match self {
-            Command::Check(..) => "check",
-            Command::Prove(..) => "prove",
-            Command::Verify(..) => "verify",
-            Command::Run(..) => "run",
-            Command::Valid(..) => "valid",
-            Command::Demo(_) => "demo",
-        }
-    }
 }
 
 /// The greatest number of `--limit`.

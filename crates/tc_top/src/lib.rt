@@ -120,6 +120,9 @@ fn answer_words<S: Store>(
         Command::Check(None, triple) => check(alloc, triple, store),
         Command::Run(sheet, document) => run(alloc, sheet, document, store),
         Command::Valid(schema, document) => valid(alloc, schema, document, store),
-        _ => Answer::not_yet(alloc, command.name()),
+        Command::Check(Some(_), _) => Answer::not_yet(alloc, "check"),
+        Command::Prove(..) => Answer::not_yet(alloc, "prove"),
+        Command::Verify(..) => Answer::not_yet(alloc, "verify"),
+        Command::Demo(_) => Answer::not_yet(alloc, "demo"),
     }
 }

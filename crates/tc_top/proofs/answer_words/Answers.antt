@@ -1,13 +1,44 @@
-use Rattle.std.proofs.Common.{refl, subst}
+use Rattle.std.proofs.Common.{◌≡◌, ◌∙◌, refl, sym, ap, subst, codes}
 use Rattle.std.proofs.lemmas.Result.{IfOk-weaker}
 use Rattle.std.proofs.lemmas.Option.{MatchOption-at_none, MatchOption-at_some}
 use Rattle.tc_io.proofs.ReadsInOrder.{happened_nothing}
 use Rattle.tc_top.specs.Answers as a
-use Rattle.tc_top.specs.Answers.{no_command, not_built}
-use Rattle.tc_top.specs.Words.{Words}
-use Rattle.tc_top.specs.WordsSeen.{texts, command}
+use Rattle.tc_top.specs.Answers.{no_command, not_built, IsBuilt}
+use Rattle.tc_top.specs.Words.{name_of}
+use Rattle.tc_top.specs.WordsSeen.{command}
+use Rattle.tc_top.specs.declared.command.Command.{Command}
+use Rattle.tc_top.specs.declared.command.Command.TheVariants.{Check}
 use Rattle.tc_top.proofs.answer_words.Goals as goal
 
 pub returns-in_default-clause-right : goal.returns-in_default-clause-right
 returns-in_default-clause-right g c =
     (_, happened_nothing _ _ _ _, (a.usage, c.usage.ensures, no_command (MatchOption-at_none _ _ c.in_default.is c.read_words.ensures) refl))
+
+-- a command that is this one isn't built
+unbuilt : (x y : Command) → x ≡ y → (IsBuilt (command y) → ⊥) → IsBuilt (command x) → ⊥
+unbuilt x y same other built = other (subst (λ z. IsBuilt (command z)) same built)
+
+pub returns-in-Check-Some-default-clause-right : goal.returns-in-Check-Some-default-clause-right
+returns-in-Check-Some-default-clause-right g c =
+    let words = MatchOption-at_some _ _ _ c.in-Some.is c.read_words.ensures in
+    let limit = rw c.in-Check-Some-default.is at c.in-Check-Some-default.field-0-is in
+    let is = c.in-Check-Some-default.is ∙ ap (λ l. Check l c.in-Check-Some-default.field-1) limit in
+    IfOk-weaker c.not_yet.result _ _ (λ said says. (_, happened_nothing _ _ _ _, (a.not_yet (codes "check"), says, not_built words (unbuilt _ _ is (λ b. b)) refl (ap (λ x. name_of (command x)) (sym is))))) c.not_yet.ensures
+
+pub returns-in-Prove-clause-right : goal.returns-in-Prove-clause-right
+returns-in-Prove-clause-right g c =
+    let words = MatchOption-at_some _ _ _ c.in-Some.is c.read_words.ensures in
+    let is = c.in-Prove.is in
+    IfOk-weaker c.not_yet-in-Prove.result _ _ (λ said says. (_, happened_nothing _ _ _ _, (a.not_yet (codes "prove"), says, not_built words (unbuilt _ _ is (λ b. b)) refl (ap (λ x. name_of (command x)) (sym is))))) c.not_yet-in-Prove.ensures
+
+pub returns-in-Verify-clause-right : goal.returns-in-Verify-clause-right
+returns-in-Verify-clause-right g c =
+    let words = MatchOption-at_some _ _ _ c.in-Some.is c.read_words.ensures in
+    let is = c.in-Verify.is in
+    IfOk-weaker c.not_yet-in-Verify.result _ _ (λ said says. (_, happened_nothing _ _ _ _, (a.not_yet (codes "verify"), says, not_built words (unbuilt _ _ is (λ b. b)) refl (ap (λ x. name_of (command x)) (sym is))))) c.not_yet-in-Verify.ensures
+
+pub returns-in-Demo-clause-right : goal.returns-in-Demo-clause-right
+returns-in-Demo-clause-right g c =
+    let words = MatchOption-at_some _ _ _ c.in-Some.is c.read_words.ensures in
+    let is = c.in-Demo.is in
+    IfOk-weaker c.not_yet-in-Demo.result _ _ (λ said says. (_, happened_nothing _ _ _ _, (a.not_yet (codes "demo"), says, not_built words (unbuilt _ _ is (λ b. b)) refl (ap (λ x. name_of (command x)) (sym is))))) c.not_yet-in-Demo.ensures

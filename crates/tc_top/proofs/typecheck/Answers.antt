@@ -1,9 +1,20 @@
 use Rattle.std.proofs.Common.{◌∙◌, inl, refl, ap, subst}
-use Rattle.tc_io.specs.Sink.{Appended}
+use Rattle.tc_io.specs.Sink.{Appended, WroteFront}
 use Rattle.tc_top.specs.Answers.{status_of, answered, broken_off, out_of_memory}
 use Rattle.tc_top.proofs.Exact.{exact, usage_only, refused_only}
 use Rattle.tc_top.proofs.Headline.{at_words, at_told, gives, headline, validity, running, limited}
+use Rattle.tc_top.specs.Words.{Words}
 use Rattle.tc_top.proofs.typecheck.Goals as goal
+
+pub returns-in-Ok-clause-ends : goal.returns-in-Ok-clause-ends
+returns-in-Ok-clause-ends g c =
+    let right = at_words c.as_slice.ensures c.in-Ok.ensures.right in
+    let fault = c.in-Err-write_lines.ensures in
+    let front = subst (WroteFront (g.K.Sink.written c.args.sink.now) (g.K.Sink.written c.write_lines.new.sink)) (c.as_bytes.ensures ∙ right.2.1.written) fault.fault in
+    broken_off right.1 right.2.2 refl front fault.rose
+
+pub returns-clause-ends : goal.returns-clause-ends
+returns-clause-ends g c = let command = c.in-Err.ensures.no_memory in out_of_memory (subst (λ w. Words w command.0) c.as_slice.ensures command.1) refl
 
 pub returns-in-Ok-write_lines-clause-ends : goal.returns-in-Ok-write_lines-clause-ends
 returns-in-Ok-write_lines-clause-ends g c =
@@ -24,28 +35,28 @@ returns-in-Ok-write_lines-clause-not_built g c = λ command words other.
 pub returns-in-Ok-write_lines-clause-exactly : goal.returns-in-Ok-write_lines-clause-exactly
 returns-in-Ok-write_lines-clause-exactly g c = λ files answer told is.
     let right = at_words c.as_slice.ensures c.in-Ok.ensures.right in
-    gives _ answer right.2.0 right.2.1.status (exact files _ is.1 is.2 (at_told told right.1.true) right.2.2)
+    gives _ answer right.2.0 right.2.1.status (exact files _ is.1 is.2 (at_told _ right.0 told right.1.true) right.2.2)
 
 pub returns-in-Ok-write_lines-clause-headline : goal.returns-in-Ok-write_lines-clause-headline
 returns-in-Ok-write_lines-clause-headline g c = λ files i o t told checks.
     let right = at_words c.as_slice.ensures c.in-Ok.ensures.right in
     let written = subst (Appended (g.K.Sink.written c.args.sink.now) (g.K.Sink.written c.write_lines.new.sink)) (c.as_bytes.ensures ∙ right.2.1.written) c.in-Ok-write_lines.ensures.ok in
-    headline files i o t _ _ _ right.2.0 checks (at_told told right.1.true) right.2.2 right.2.1.status written
+    headline files i o t _ _ _ right.2.0 checks (at_told _ right.0 told right.1.true) right.2.2 right.2.1.status written
 
 pub returns-in-Ok-write_lines-clause-validity : goal.returns-in-Ok-write_lines-clause-validity
 returns-in-Ok-write_lines-clause-validity g c = λ files x d told validates.
     let right = at_words c.as_slice.ensures c.in-Ok.ensures.right in
     let written = subst (Appended (g.K.Sink.written c.args.sink.now) (g.K.Sink.written c.write_lines.new.sink)) (c.as_bytes.ensures ∙ right.2.1.written) c.in-Ok-write_lines.ensures.ok in
-    validity files x d _ _ _ right.2.0 validates (at_told told right.1.true) right.2.2 right.2.1.status written
+    validity files x d _ _ _ right.2.0 validates (at_told _ right.0 told right.1.true) right.2.2 right.2.1.status written
 
 pub returns-in-Ok-write_lines-clause-running : goal.returns-in-Ok-write_lines-clause-running
 returns-in-Ok-write_lines-clause-running g c = λ files s d told runs.
     let right = at_words c.as_slice.ensures c.in-Ok.ensures.right in
     let written = subst (Appended (g.K.Sink.written c.args.sink.now) (g.K.Sink.written c.write_lines.new.sink)) (c.as_bytes.ensures ∙ right.2.1.written) c.in-Ok-write_lines.ensures.ok in
-    running files s d _ _ _ right.2.0 runs (at_told told right.1.true) right.2.2 right.2.1.status written
+    running _ files s d _ _ _ right.2.0 runs (at_told _ right.0 told right.1.true) right.2.2 right.2.1.status written
 
 pub returns-in-Ok-write_lines-clause-limited : goal.returns-in-Ok-write_lines-clause-limited
 returns-in-Ok-write_lines-clause-limited g c = λ files s d told runs.
     let right = at_words c.as_slice.ensures c.in-Ok.ensures.right in
     let written = subst (Appended (g.K.Sink.written c.args.sink.now) (g.K.Sink.written c.write_lines.new.sink)) (c.as_bytes.ensures ∙ right.2.1.written) c.in-Ok-write_lines.ensures.ok in
-    limited files s d _ _ _ right.2.0 runs (at_told told right.1.true) right.2.2 right.2.1.status written
+    limited files s d _ _ _ right.2.0 runs (at_told _ right.0 told right.1.true) right.2.2 right.2.1.status written

@@ -17,10 +17,24 @@ after_name old new (Some x) s = ap (drop 1) s.0
 after_name old new None s = ap (drop 1) (at_end old s.0) ∙ sym (at_end new s.1)
 
 pub loop-word-init : goal.loop-word-init
-loop-word-init c = ?
+loop-word-init c = (refl, c.new-words.ensures, c.into_iter-word-iterator.result.rest.ok.0)
 
 pub loop-word-preserved : goal.loop-word-preserved
-loop-word-preserved c = ?
+loop-word-preserved c =
+    let at = c.loop-word.invariant in
+    let yielded = c.loop-word.yielded in
+    let word = c.in-Some.word in (
+      append_assoc yielded (word ∷ []) _ ∙ (ap (λ l. yielded ++ l) (sym c.in-Some.ensures.steps.0) ∙ at.0),
+      c.in_ok-push.ensures.ok
+          ∙ (ap (λ w. w ++ c.as_str.result.now ∷ []) at.1 ∙ (ap (λ t. map string_bytes yielded ++ t ∷ []) c.as_str.ensures.value ∙ sym (map-append string_bytes yielded (word ∷ [])))),
+      c.next.new.self.rest.ok.0,
+    )
 
 pub returns : goal.returns
-returns c = ?
+returns c =
+    let at = c.loop-word.invariant in
+    let yielded = c.loop-word.yielded in
+    let rest = at_end c.loop-word.word-iterator c.in-None.ensures.steps.0 in
+    let all : yielded ≡ into_iter_items c.into_iter-word-iterator.result = sym (append-nil yielded) ∙ (ap (λ l. yielded ++ l) (sym rest) ∙ at.0) in
+    let behind = after_name c.args.arguments c.next-name.new.self c.next-name.result c.next-name.ensures.cases in
+    at.1 ∙ ap (map string_bytes) (all ∙ (ap into_iter_items c.into_iter-word-iterator.ensures.into_iter_gives ∙ sym behind))

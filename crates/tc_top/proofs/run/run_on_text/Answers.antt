@@ -1,6 +1,8 @@
 use Rattle.std.proofs.Common.{subst}
 use Rattle.std.proofs.lemmas.Result.{IfOk-weaker}
 use Rattle.tc_model.specs.Views as see
+use Rattle.tc_model.specs.Trees.{none}
+use Rattle.tc_print.specs.ReadBack.{IsReadAs}
 use Rattle.tc_top.specs.Answers as a
 use Rattle.tc_top.specs.Answers.{source_refused, sheet_and_source}
 use Rattle.tc_read.specs.Refusals.{IsRefusedDocument}
@@ -8,11 +10,14 @@ use Rattle.tc_read.specs.Faults.{IsUnaccepted}
 use Rattle.tc_top.proofs.run.run_on_text.Goals as goal
 
 pub returns-in-Ok : goal.returns-in-Ok
-returns-in-Ok c = IfOk-weaker c.run_on.result _ _ (λ said h. (h.0, h.1, λ other bytes is. sheet_and_source is c.in-Ok.ensures.ok h.2)) c.run_on.ensures
+returns-in-Ok c =
+    let read = subst (λ w. IsReadAs w (see.before c.in-Ok.root none)) c.deref.ensures.value c.in-Ok.ensures.ok in
+    IfOk-weaker c.run_on.result _ _ (λ said h. (h.0, h.1, λ other bytes is. sheet_and_source is read h.2)) c.run_on.ensures
 
 pub returns-in-Err-Refused : goal.returns-in-Err-Refused
 returns-in-Err-Refused c =
-    let refused = subst (IsUnaccepted (IsRefusedDocument c.args.document.now.text.items)) c.in-Err-Refused.field-0-is c.in-Err-Refused.ensures.no in
+    let why = subst (λ w. IsUnaccepted (IsRefusedDocument w) c.in-Err-Refused.field-0) c.deref.ensures.value c.in-Err-Refused.ensures.no in
+    let refused = subst (IsUnaccepted (IsRefusedDocument c.args.document.now.text.items)) c.in-Err-Refused.field-0-is why in
     IfOk-weaker c.refused.result _ _ (λ said says. (
       a.refused c.args.document.now.name.now c.in-Err-Refused.reason (see.place c.in-Err-Refused.place),
       says,

@@ -4,6 +4,8 @@ use Rattle.tc_model.specs.Grammars.{Grammar}
 use Rattle.tc_model.specs.RncText.{RncText}
 use Rattle.tc_model.specs.Views as see
 use Rattle.tc_model.proofs.SimplifiesUnique.{lawful_start}
+use Rattle.tc_model.specs.Trees.{none}
+use Rattle.tc_print.specs.ReadBack.{IsReadAs}
 use Rattle.tc_top.specs.Answers as a
 use Rattle.tc_top.specs.Answers.{document_refused, both_read, passes}
 use Rattle.tc_read.specs.Refusals.{IsRefusedDocument}
@@ -26,19 +28,22 @@ decide-requires-clause-start c =
 
 pub returns-in-Small : goal.returns-in-Small
 returns-in-Small c =
-    IfOk-weaker c.decide.result _ _ (λ said h. (h.0, h.1, λ other bytes is. both_read (subst (IsSchemaOf bytes) c.in-Small.is is).0 c.in-Ok.ensures.ok h.2)) c.decide.ensures
+    let read = subst (λ w. IsReadAs w (see.before c.in-Ok.root none)) c.deref.ensures.value c.in-Ok.ensures.ok in
+    IfOk-weaker c.decide.result _ _ (λ said h. (h.0, h.1, λ other bytes is. both_read (subst (IsSchemaOf bytes) c.in-Small.is is).0 read h.2)) c.decide.ensures
 
 pub returns-in-TooLarge : goal.returns-in-TooLarge
 returns-in-TooLarge c =
+    let read = subst (λ w. IsReadAs w (see.before c.in-Ok.root none)) c.deref.ensures.value c.in-Ok.ensures.ok in
     IfOk-weaker c.limit.result _ _ (λ said says. (
       a.over_limit c.in-TooLarge.kind c.in-TooLarge.number,
       says,
-      λ other bytes is. let large = subst (IsSchemaOf bytes) c.in-TooLarge.is is in both_read large.1 c.in-Ok.ensures.ok (passes (passes_size large.2)),
+      λ other bytes is. let large = subst (IsSchemaOf bytes) c.in-TooLarge.is is in both_read large.1 read (passes (passes_size large.2)),
     )) c.limit.ensures
 
 pub returns-in-Err-Refused : goal.returns-in-Err-Refused
 returns-in-Err-Refused c =
-    let refused = subst (IsUnaccepted (IsRefusedDocument c.args.document.now.text.items)) c.in-Err-Refused.field-0-is c.in-Err-Refused.ensures.no in
+    let why = subst (λ w. IsUnaccepted (IsRefusedDocument w) c.in-Err-Refused.field-0) c.deref.ensures.value c.in-Err-Refused.ensures.no in
+    let refused = subst (IsUnaccepted (IsRefusedDocument c.args.document.now.text.items)) c.in-Err-Refused.field-0-is why in
     IfOk-weaker c.refused.result _ _ (λ said says. (
       a.refused c.args.document.now.name.now c.in-Err-Refused.reason (see.place c.in-Err-Refused.place),
       says,
