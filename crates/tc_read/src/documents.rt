@@ -10,17 +10,15 @@ ghost use Rattle.tc_read.specs.Refusals.{IsRefusedDocument};
 use crate::faults::TextFault;
 use bumpalo::Bump;
 use tc_model::Node;
-use tc_xml::{read_raw, strip};
 
 /// The document of an XML text (XML 1.0; Namespaces in XML 1.0), without what stylesheets and schemas don't see. A text
-/// isn't longer than a file may be.
-pub fn read_document<'b>(arena: &'b Bump, text: &[u8]) -> Result<Node<'b>, TextFault>
+/// isn't longer than a file may be. Names and texts that need no change are lent from it.
+pub fn read_document<'b>(arena: &'b Bump, text: &'b [u8]) -> Result<Node<'b>, TextFault>
     requires { length text.now ≤ longest_text }
     ensures ok { IfOk result (λ document. IsReadAs text.now (before document none)) }
     ensures document { IfOk result (λ document. IsDocument (before document none)) }
     ensures no { IfErr result (IsUnaccepted (IsRefusedDocument text.now)) }
 {
-    let raw = read_raw(arena, text)?;
-    let document = strip(arena, &raw)?;
+    let document = tc_xml::read_document(arena, text)?;
     Ok(document)
 }
