@@ -1,5 +1,5 @@
 #!/usr/bin/env python3
-"""Writes docs/TRUST.md, and its sum into README.md: which definitions the main clauses of `typecheck` reach by `use`
+"""Writes docs/TRUST.md, and its sums into README.md: which definitions the main clauses of `typecheck` reach by `use`
 lines. Run it at the top."""
 import re
 from functools import cache
@@ -83,6 +83,19 @@ def subject(module):
     return re.split(r"(?<=[\w)\]`])\. (?=[A-Z])|: `", whole)[0].rstrip(".")
 
 
+def constants(reached):
+    """The constants that clauses reach, by the file of the code in which they stand."""
+    found = {}
+    for name in sorted({name for seen in reached.values() for name in seen.get("code", ()) if ".TheConstants." in name}):
+        crate, _, rest = name.partition(".specs.declared.")
+        found.setdefault(Path("crates", crate, "src", rest.split(".TheConstants.")[0].replace(".", "/") + ".rt"), []).append(name)
+    return found
+
+
+def cells(numbers):
+    return " | ".join(str(n or "") for n in numbers)
+
+
 def main():
     text = TOP.read_text()
     reached = {}
@@ -92,15 +105,21 @@ def main():
     clauses = list(reached)
     modules = in_order({m for seen in reached.values() for m in seen if m not in ("code", "std")})
     lines = {m: [sum(parse(m)[1][i][2] for i in seen.get(m, ())) for seen in reached.values()] for m in modules}
-    rows = [f"| [`{m.replace('.specs.', '.')}`](../{file_of(m)}) | {subject(m)} | " + " | ".join(str(n or "") for n in lines[m]) + " |" for m in modules]
-    counts = [f"{sum(1 for m in modules if lines[m][c])} modules, {sum(lines[m][c] for m in modules)} lines" for c in range(len(clauses))]
+    rows = [f"| [`{m.replace('.specs.', '.')}`](../{file_of(m)}) | {subject(m)} | {cells(lines[m])} |" for m in modules]
+    for source, names in constants(reached).items():
+        lines[source] = [sum(name in seen.get("code", ()) for name in names) for seen in reached.values()]
+        listed = ", ".join(f"`{name.split('.')[-1]}`" for name in names)
+        rows.insert(0, f"| [constants](../{source}) | The numbers that these definitions name: {listed} | {cells(lines[source])} |")
+    counts = [f"{sum(1 for each in lines.values() if each[c])} modules, {sum(each[c] for each in lines.values())} lines" for c in range(len(clauses))]
     code = sorted({name.replace(".specs.declared", "") for seen in reached.values() for name in seen.get("code", ()) if name.split(".")[-1] == name.split(".")[-2]})
     std = sorted({name.split(".")[-1] for seen in reached.values() for name in seen.get("std", ())})
     head = ["clause of `typecheck`", *(f"`{c}`" for c in clauses)]
     table = ["| module | what it says | " + " | ".join(head[1:]) + " |", "|---" * 2 + "|---:" * len(clauses) + "|", *rows, "| **all** | | " + " | ".join(counts) + " |"]
     Path("docs/TRUST.md").write_text(TEXT.format(table="\n".join(table), code=", ".join(f"`{c}`" for c in code), std=", ".join(f"`{s}`" for s in std)))
 
-    readme = re.sub(r"(clause `headline`, read )\d+ modules, \d+ lines", rf"\g<1>{counts[clauses.index('headline')]}", Path("README.md").read_text())
+    readme = Path("README.md").read_text()
+    for clause, count in zip(clauses, counts):
+        readme = re.sub(rf"(`{clause}` )\d+ modules, \d+ lines", rf"\g<1>{count}", readme)
     Path("README.md").write_text(readme)
 
 
@@ -121,7 +140,7 @@ The modules stand in reading order, each after those on which it stands. The num
 - **The ghost functions of the traits `Store` and `Sink`** (`crates/tc_io/src/lib.rt`), as `holds` and `written`: what a store holds and a sink was given, where it tells. The store and the sink of memory tell it, and it is proved of them. A file system and a terminal can't tell it: that `RealStore` reads what a file holds, and that the bytes given to `RealSink` come out, is tested, not proved.
 - **The toolchain**: that its check accepts no wrong proof, and that the program which it builds does what the checked code says.
 - **The C library and the operating system**, and the statements of the kit's crates that the program stands on (`std`, `bumpalo`, `indexmap`, `memchr`, `simdutf8`, `itoa`): their own proofs are the toolchain's.
-- **`main`** of `crates/typecheck`: that it hands the words of the command line to `typecheck` and its status to the system, and what no clause says: how long an answer takes, and that memory suffices.
+- **`main`** of `crates/typecheck`: that it hands the arguments, the files of the system and the standard output to `run_program` of `tc_top`, and the code that this gives to the system. By its clause `ends`, `run_program` carries out the words behind the program's name as `typecheck` does. What no clause says: how long an answer takes, and that memory suffices.
 """
 
 main()
