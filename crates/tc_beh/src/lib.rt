@@ -1,7 +1,8 @@
-//! Rows: what a tree contributes in any place, worked out from its parts.
+//! What rows are worked out by: a machine of two schemas and a stylesheet, and the pairs of states of the output schema that
+//! bodies put out on a node.
 //!
-//! The row of a tree or of a list of trees tells where it may stand in the input, and what a stylesheet makes of it in each place,
-//! as sets of pairs of states of the output schema.
+//! The row of a tree or of a list of trees tells where it may stand in the input, and what a stylesheet makes of it in each place
+//! (`tc_rows`). Finding rows is to come.
 #![tactic(auto)]
 
 mod bodies;
