@@ -12,13 +12,16 @@ use bumpalo::Bump;
 use tc_model::Node;
 
 /// The document of an XML text (XML 1.0; Namespaces in XML 1.0), without what stylesheets and schemas don't see. A text
-/// isn't longer than a file may be. Names and texts that need no change are lent from it.
-pub fn read_document<'b>(arena: &'b Bump, text: &'b [u8]) -> Result<Node<'b>, TextFault>
+/// isn't longer than a file may be. It is copied once, and names and texts that need no change are lent from the copy.
+pub fn read_document<'b>(arena: &'b Bump, text: &[u8]) -> Result<Node<'b>, TextFault>
     requires { length text.now ≤ longest_text }
     ensures ok { IfOk result (λ document. IsReadAs text.now (before document none)) }
     ensures document { IfOk result (λ document. IsDocument (before document none)) }
     ensures no { IfErr result (IsUnaccepted (IsRefusedDocument text.now)) }
 {
-    let document = tc_xml::read_document(arena, text)?;
+    let Ok(kept) = arena.try_alloc_slice_copy(text) else {
+        return Err(TextFault::NoMemory);
+    };
+    let document = tc_xml::read_document(arena, kept)?;
     Ok(document)
 }
