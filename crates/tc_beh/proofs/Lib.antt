@@ -15,3 +15,4 @@ pub mod Meant
 pub mod Sizes
 pub mod Starts
 pub mod Deepening
+pub mod Holding
