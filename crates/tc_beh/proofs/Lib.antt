@@ -16,3 +16,4 @@ pub mod Sizes
 pub mod Starts
 pub mod Deepening
 pub mod Holding
+pub mod Flagging

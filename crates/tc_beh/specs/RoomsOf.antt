@@ -16,7 +16,7 @@ pub record IsRoomBeside (old new : Room) : Type 0 where
   pub count : length new.numbers.items ≡ length old.numbers.items
 
 -- the two flags of the whole are put
-pub record ChangesHeads (old new : List ℕ) (is_text bears : Bool) : Type 0 where
+pub record ChangesHeads (old new : List ℕ) (is_text is_bearing : Bool) : Type 0 where
   pub head : get_or new 0 0 ≡ (if is_text then 1 else 0)
-  pub bears : get_or new 1 0 ≡ (if bears then 1 else 0)
+  pub bears : get_or new 1 0 ≡ (if is_bearing then 1 else 0)
   pub others : (k : ℕ) → 2 ≤ k → get_or new k 0 ≡ get_or old k 0

@@ -25,20 +25,18 @@ pub enum RowFault {
 pub(crate) fn keep(outputs: &mut Pool, is_fixed: bool, set: &Mat) -> Result<u32, RowFault>
     requires { set.now.size ≡ outputs.old.size }
     ensures number { IfOk result (λ k. slice_get outputs.new.matrices k ≡ Some set.now) }
-    ensures held { IsHeld outputs.old set.now → outputs.new ≡ outputs.old }
-    ensures absent { ¬ IsHeld outputs.old set.now → IfOk result (λ k. (k ≡ length outputs.old.matrices)
-        × (outputs.new ≡ record outputs.old { matrices = outputs.old.matrices ++ set.now ∷ [] })) }
+    ensures grows { IfOk result (λ k. (outputs.new ≡ outputs.old) ⊎ ((k ≡ length outputs.old.matrices) × (outputs.new ≡ record outputs.old { matrices = outputs.old.matrices ++ set.now ∷ [] }))) }
     ensures err { OnErr result ((outputs.new ≡ outputs.old) × ¬ IsHeld outputs.old set.now) }
     ensures fixed { is_fixed ≡ true → outputs.new ≡ outputs.old }
     ensures full { IsErrOf result RowFault.TooManyOutputs → (is_fixed ≡ false) × (length outputs.old.matrices ≡ 65536) }
     ensures fresh { IsErrOf result RowFault.NewOutput → is_fixed ≡ true }
     ensures memory { IsErrOf result RowFault.NoMemory → is_fixed ≡ false }
 {
+    if let Some(id) = outputs.find(set) {
+        return Ok(id.0);
+    }
     if is_fixed {
-        return match outputs.find(set) {
-            Some(id) => Ok(id.0),
-            None => Err(RowFault::NewOutput),
-        };
+        return Err(RowFault::NewOutput);
     }
     match outputs.intern(set) {
         Ok(id) => Ok(id.0),
