@@ -17,3 +17,4 @@ pub mod Starts
 pub mod Deepening
 pub mod Holding
 pub mod Flagging
+pub mod RoomRows

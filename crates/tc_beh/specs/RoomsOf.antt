@@ -20,3 +20,7 @@ pub record ChangesHeads (old new : List ℕ) (is_text is_bearing : Bool) : Type 
   pub head : get_or new 0 0 ≡ (if is_text then 1 else 0)
   pub bears : get_or new 1 0 ≡ (if is_bearing then 1 else 0)
   pub others : (k : ℕ) → 2 ≤ k → get_or new k 0 ≡ get_or old k 0
+
+-- both flags of texts are set
+abbrev pub AreTexts : Room → Room → Type 0
+AreTexts h t = (get_or h.numbers.items 0 0 ≡ 1) × (get_or t.numbers.items 0 0 ≡ 1)

@@ -4,8 +4,8 @@ ghost use Rattle.std.specs.List.{Contains};
 ghost use Rattle.tc_auto.specs.Stands.{states as states_of};
 ghost use Rattle.tc_auto.specs.declared.auto.Edge.{Edge};
 ghost use Rattle.tc_rows.specs.Rows.{or_hit};
-ghost use Rattle.tc_beh.specs.Rooms.{flag_at};
-ghost use Rattle.tc_beh.specs.RoomsOf.{IsRoomBeside};
+ghost use Rattle.tc_beh.specs.Rooms.{flag_at, flags_in};
+ghost use Rattle.tc_beh.specs.RoomsOf.{IsRoomBeside, AreTexts};
 ghost use Rattle.tc_beh.specs.Appending.{IsTaken, PutsFrom, Puts};
 
 use crate::rooms::Room;
@@ -81,4 +81,19 @@ fn put_first_looks(first: &[u32], second: &[u32], out: &mut Room)
         let value = if value == 0 { second[place] } else { value };
         out.set_look(place, value);
     }
+}
+
+/// Leaves where a list of trees may stand with a tree more behind it. Tells whether it may stand anywhere.
+pub(crate) fn put_kind(auto: &Auto<'_>, hedge: &Room, tree: &Room, out: &mut Room) -> bool
+    requires flags { out.old.flags ≡ states_of auto.now }
+    ensures beside { IsRoomBeside out.old out.new }
+    ensures others { (k : ℕ) → (k < 2) ⊎ (2 + out.old.flags ≤ k) → get_or out.new.numbers.items k 0 ≡ get_or out.old.numbers.items k 0 }
+    ensures live { IsTrue result ↔ (¬ AreTexts hedge.now tree.now × Contains (flags_in out.new.flags out.new.numbers.items) 1) }
+    ensures flags { ¬ AreTexts hedge.now tree.now → Puts auto.now (flags_in hedge.now.flags hedge.now.numbers.items) (get_or tree.now.numbers.items 0 0 == 1) (flags_in tree.now.flags tree.now.numbers.items) out.new.numbers.items }
+{
+    if hedge.is_text() && tree.is_text() {
+        return false;
+    }
+    put_states(auto, hedge.flags(), tree.is_text(), tree.flags(), out);
+    has_flag(out.flags())
 }

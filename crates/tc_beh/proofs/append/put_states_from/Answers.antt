@@ -36,13 +36,13 @@ loop-edge-preserved c =
                 (is_flagged items c.args.is_text c.args.patterns.now i (get_or items i no_edge) old.numbers.items mid.numbers.items new.numbers.items here (w.if-takes.ensures.0 refl) w.set_flag.ensures.flag w.set_flag.ensures.others so_far.flagged);
           }
       | else-takes w ↦ record {
-          beside = subst (λ (r : Room). IsRoomBeside old r) (sym w.out-is) so_far.beside;
-          others = λ k h. ap (λ (r : Room). get_or r.numbers.items k 0) w.out-is ∙ so_far.others k h;
-          within = so_far.within;
-          exact = so_far.exact;
-          flagged = subst (λ (r : Room). Flagged items (i + 1) c.args.is_text c.args.patterns.now old.numbers.items r.numbers.items) (sym w.out-is)
-              (not_flagged items c.args.is_text c.args.patterns.now i (get_or items i no_edge) old.numbers.items mid.numbers.items here (λ h. let f : false ≡ true = w.if-takes.ensures.1 h in absurd (cc)) so_far.flagged);
-        }
+        beside = subst (λ (r : Room). IsRoomBeside old r) (sym w.out-is) so_far.beside;
+        others = λ k h. ap (λ (r : Room). get_or r.numbers.items k 0) w.out-is ∙ so_far.others k h;
+        within = so_far.within;
+        exact = so_far.exact;
+        flagged = subst (λ (r : Room). Flagged items (i + 1) c.args.is_text c.args.patterns.now old.numbers.items r.numbers.items) (sym w.out-is)
+            (not_flagged items c.args.is_text c.args.patterns.now i (get_or items i no_edge) old.numbers.items mid.numbers.items here (λ h. let f : false ≡ true = w.if-takes.ensures.1 h in absurd (cc)) so_far.flagged);
+      }
     ]
 
 pub returns-clause-flags : goal.returns-clause-flags
