@@ -15,3 +15,6 @@ pub mod Meant
 pub mod Sizes
 pub mod Starts
 pub mod Deepening
+pub mod Holding
+pub mod Flagging
+pub mod RoomRows

@@ -5,12 +5,19 @@
 //! (`tc_rows`). Finding rows is to come.
 #![tactic(auto)]
 
+mod append;
 mod bodies;
 mod calls;
 mod looks;
 mod machine;
 mod named;
+mod outputs;
+mod rooms;
+mod rows;
 mod sets;
 mod templates;
 
 pub use machine::{Machine, MachineFault, Shape};
+pub use outputs::RowFault;
+pub use rooms::{HRow, TRow};
+pub use rows::Rows;
