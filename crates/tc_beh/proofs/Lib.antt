@@ -15,3 +15,9 @@ pub mod Meant
 pub mod Sizes
 pub mod Starts
 pub mod Deepening
+pub mod Holding
+pub mod Flagging
+pub mod RoomRows
+pub mod Appended
+pub mod RoomSets
+pub mod RoomIs

@@ -7,3 +7,8 @@ pub mod Places
 pub mod Machines
 pub mod Templates
 pub mod Grounds
+pub mod Rooms
+pub mod RoomsOf
+pub mod Held
+pub mod Appending
+pub mod RowsOf

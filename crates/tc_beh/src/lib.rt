@@ -4,12 +4,19 @@
 //! as sets of pairs of states of the output schema.
 #![tactic(auto)]
 
+mod append;
 mod bodies;
 mod calls;
 mod looks;
 mod machine;
 mod named;
+mod outputs;
+mod rooms;
+mod rows;
 mod sets;
 mod templates;
 
 pub use machine::{Machine, MachineFault, Shape};
+pub use outputs::RowFault;
+pub use rooms::{HRow, TRow};
+pub use rows::Rows;

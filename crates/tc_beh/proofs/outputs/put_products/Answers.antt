@@ -1,0 +1,50 @@
+use Rattle.std.proofs.Common.{◌≡◌, ◌≢◌, ◌<◌, ◌≤◌, ◌⊎◌, inl, inr, ◌+◌, ◌∙◌, ℕ, sym, get_or, subst, ap, arith, length, true}
+use Rattle.std.proofs.lemmas.Bool.{cases_lt}
+use Rattle.tc_mat.specs.Matrix.{IsComposition}
+use Rattle.tc_mat.specs.Held.{Held}
+use Rattle.tc_beh.specs.Rooms.{output_at}
+use Rattle.tc_beh.specs.Held.{set_at, IsNew}
+use Rattle.tc_beh.proofs.Holding.{extends_at, grows_step, on_err, new_before, pairs_step}
+use Rattle.tc_beh.proofs.outputs.put_products.Goals as goal
+
+pub returns-in_err-number-clause-err : goal.returns-in_err-number-clause-err
+returns-in_err-number-clause-err c =
+    let old = c.args.outputs.now in
+    let mid = c.loop-place.outputs in
+    let i = c.loop-place.place in
+    let here : i < length c.args.first.now = let t = c.loop-place-test.true in let n = c.requires.first_count in omega (arith, t, n) in
+    let there : i < length c.args.second.now = let n = c.requires.second_count in let m = c.requires.first_count in omega (arith, here, n, m) in
+    let a = get_or c.args.first.now i 0 in
+    let b = get_or c.args.second.now i 0 in
+    let err = c.in_err-number.ensures.err in
+    let is : IsNew mid (set_at old a) (set_at old b) = new_before old mid c.loop-place.invariant.grows.held a b (c.requires.first i here) (c.requires.second i there) err.1 in
+    on_err c.from_residual.result _ (i, c.loop-place-test.true, subst (λ (h : Held). IsNew h (set_at old a) (set_at old b)) (sym err.0) is)
+
+pub loop-place-preserved : goal.loop-place-preserved
+loop-place-preserved c =
+    let old = c.args.outputs.now in
+    let mid = c.loop-place.outputs in
+    let new = c.keep_product.new.outputs in
+    let i = c.loop-place.place in
+    let k = c.in_ok-number.number in
+    let before = output_at c.args.out.now.flags c.loop-place.out.numbers.items in
+    let after = output_at c.args.out.now.flags c.set_output.new.self.numbers.items in
+    let so_far = c.loop-place.invariant in
+    let now = c.in_ok-number.ensures in
+    let put = c.set_output.ensures in
+    let flags = so_far.beside.flags in
+    let low = c.loop-place-test.true in
+    let first_low : i < length c.args.first.now = let n = c.requires.first_count in omega (arith, low, n) in
+    let second_low : i < length c.args.second.now = let n = c.requires.second_count in omega (arith, low, n) in
+    let a = get_or c.args.first.now i 0 in
+    let b = get_or c.args.second.now i 0 in
+    let stays : (p : ℕ) → p < i → after p ≡ before p = λ p l. put.others (2 + c.args.out.now.flags + p) (λ e. absurd (omega (arith, e, l, flags))) in
+    let here : after i ≡ k = subst (λ n. get_or c.set_output.new.self.numbers.items (2 + n + i) 0 ≡ k) flags put.output in
+    record {
+      set = now.set ∙ so_far.set;
+      beside = record { flags = put.beside.flags ∙ flags; entries = put.beside.entries ∙ so_far.beside.entries; count = put.beside.count ∙ so_far.beside.count };
+      others = λ n h. put.others n (λ e. elim h [ inl l ↦ absurd (omega (arith, e, l, flags)) | inr l ↦ absurd (omega (arith, e, l, flags, low)) ]) ∙ so_far.others n h;
+      grows = grows_step old mid new before after i k so_far.grows stays here now.held now.pairs.0 now.grows;
+      pairs = pairs_step old mid new before after i k (λ n. get_or c.args.first.now n 0) (λ n. get_or c.args.second.now n 0) so_far.grows stays here now.held (c.requires.first i first_low) (c.requires.second i second_low) now.pairs.1 so_far.pairs;
+      fixed = λ e. now.fixed e ∙ so_far.fixed e;
+    }

@@ -1,0 +1,31 @@
+use Rattle.std.proofs.Common.{◌≡◌, ◌∙◌, sym, ap, subst, arith, length}
+use Rattle.std.proofs.lemmas.List.{length-map}
+use Rattle.tc_model.specs.States.{output}
+use Rattle.tc_model.specs.Sheets.{Sheet}
+use Rattle.tc_model.specs.Views as see
+use Rattle.tc_auto.specs.Stands as a
+use Rattle.tc_auto.specs.declared.auto.Auto.{Auto}
+use Rattle.tc_rows.specs.Triples.{outputs, sheet}
+use Rattle.tc_beh.proofs.Sizes.{sheet_is}
+use Rattle.tc_beh.proofs.rows.Work.new.Goals as goal
+
+pub returns : goal.returns
+returns c = λ x is.
+    let m = c.args.machine.now in
+    let automaton = c.auto.result.now in
+    let stands : a.Stands output x.output automaton = subst (λ (b : Auto). a.Stands output x.output b) (sym c.auto.ensures) is.parts.states.auto in
+    let size : c.states-size.result ≡ outputs x = c.states-size.ensures.schema output x.output stands in
+    let sh = c.sheet.result.now in
+    let same : see.sheet sh ≡ sheet x = sheet_is x m.rules sh is.parts.are_rules c.sheet.ensures in
+    let named : length sh.named.now ≡ length (sheet x).named = sym (length-map sh.named.now (λ b. see.body b.now)) ∙ ap (λ (s : Sheet). length s.named) same in
+    let depth = is.shallow in
+    let count = c.in_ok-spare.ensures.count in
+    record {
+      text = c.text_into.ensures.pairs output x.output is.parts.states.auto;
+      text_size = c.text_into.ensures.size ∙ (c.in_ok-text.ensures.size ∙ size);
+      set = c.in_ok-set.ensures.size ∙ size;
+      named_count = c.in_ok-named.ensures.count ∙ named;
+      named = λ k d l. c.in_ok-named.ensures.sizes k d l ∙ size;
+      spare = record { sizes = λ k d l. c.in_ok-spare.ensures.sizes k d l ∙ size; enough = omega (arith, count) };
+      few = omega (arith, count, depth);
+    }

@@ -1,0 +1,60 @@
+-- What rows over a machine hold, and the rooms that stand for rows over them.
+use Rattle.std.specs.Prelude.{◌≡◌, ◌<◌, ◌≤◌, ◌+◌, ℕ, length, All, true, false, Bool}
+use Rattle.tc_mat.specs.Matrix.{Matrix}
+use Rattle.tc_mat.specs.Held.{IsHeld}
+use Rattle.tc_rows.specs.Triples.{Triple, sheet, outputs, entries, looks}
+use Rattle.tc_rows.specs.PairSets.{HaveSamePairs}
+use Rattle.tc_rows.specs.Bodies.{text_edges}
+use Rattle.tc_rows.specs.Rows.{HedgeRow, TreeRow}
+use Rattle.tc_beh.specs.Putting.{has}
+use Rattle.tc_beh.specs.Places.{AreSpare}
+use Rattle.tc_beh.specs.Machines.{IsMachineOf}
+use Rattle.tc_beh.specs.Rooms.{hedge_layout, tree_layout, IsRoom, hedge_row, tree_row, output_at}
+use Rattle.tc_beh.specs.RoomsOf.{IsRoomOf}
+use Rattle.tc_beh.specs.Held.{Grows, IsNew, set_at}
+use Rattle.tc_beh.specs.declared.rows.Rows.{Rows}
+use Rattle.tc_beh.specs.declared.rows.Work.{Work}
+use Rattle.tc_beh.specs.declared.rooms.HRow.{HRow}
+use Rattle.tc_beh.specs.declared.rooms.TRow.{TRow}
+
+-- the room is that of a triple
+pub record IsWork (x : Triple) (depth : ℕ) (w : Work) : Type 0 where
+  pub text : HaveSamePairs (has w.text) (text_edges x)
+  pub text_size : w.text.size ≡ outputs x
+  pub set : w.set.size ≡ outputs x
+  pub named_count : length w.named.items ≡ length (sheet x).named
+  pub named : All (λ (m : Matrix). m.size ≡ outputs x) w.named.items
+  pub spare : AreSpare (outputs x) (depth + 2) w.spare.items
+  pub few : length w.spare.items ≤ 8002
+
+pub record AreRowsOf (x : Triple) (r : Rows) : Type 0 where
+  pub machine : IsMachineOf x r.machine.now
+  pub size : r.outputs.size ≡ outputs x
+  pub work : IsWork x r.machine.now.depth r.work
+
+abbrev pub AreRows : Rows → Type 0
+AreRows r = (x : Triple) × AreRowsOf x r
+
+-- a room of the machine, and one that stands for a row
+abbrev pub IsHedgeRoom : Rows → HRow → Type 0
+IsHedgeRoom r h = (x : Triple) → AreRowsOf x r → IsRoomOf (hedge_layout x) h.room
+
+pub record StandsForHedge (x : Triple) (r : Rows) (h : HRow) : Type 0 where
+  pub parted : IsRoomOf (hedge_layout x) h.room
+  pub numbers : IsRoom (hedge_layout x) r.outputs.matrices h.room.numbers.items
+
+pub record StandsForTree (x : Triple) (r : Rows) (t : TRow) : Type 0 where
+  pub parted : IsRoomOf (tree_layout x) t.room
+  pub numbers : IsRoom (tree_layout x) r.outputs.matrices t.room.numbers.items
+
+-- the row that a room stands for
+abbrev pub hedge_of : Triple → Rows → HRow → HedgeRow
+hedge_of x r h = hedge_row x r.outputs.matrices h.room.numbers.items
+
+abbrev pub tree_of : Triple → Rows → TRow → TreeRow
+tree_of x r t = tree_row x r.outputs.matrices t.room.numbers.items
+
+-- all but what is held and what is worked in stays
+pub record AreSameRows (old new : Rows) : Type 0 where
+  pub machine : new.machine ≡ old.machine
+  pub is_fixed : new.is_fixed ≡ old.is_fixed

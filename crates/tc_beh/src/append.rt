@@ -1,0 +1,99 @@
+// Rows of trees with one more behind them.
+ghost use Rattle.std.specs.Prelude.{◌≡◌, ◌≢◌, ◌<◌, ◌≤◌, ◌+◌, ◌⊎◌, ◌↔◌, ◌==◌, ◌-◌, ℕ, length, get_or, IsTrue, Bool, true, false, cond};
+ghost use Rattle.std.specs.List.{Contains};
+ghost use Rattle.tc_auto.specs.Stands.{states as states_of};
+ghost use Rattle.tc_auto.specs.declared.auto.Edge.{Edge};
+ghost use Rattle.tc_rows.specs.Rows.{or_hit};
+ghost use Rattle.tc_beh.specs.Rooms.{flag_at, flags_in};
+ghost use Rattle.tc_beh.specs.RoomsOf.{IsRoomBeside, AreTexts};
+ghost use Rattle.tc_beh.specs.Appending.{IsTaken, PutsFrom, Puts};
+
+use crate::rooms::Room;
+use tc_auto::{Auto, Leaf};
+
+/// Whether an edge takes a tree, of which it is told whether it is a text, and a flag for each element pattern that it matches.
+fn takes(is_text: bool, patterns: &[u32], leaf: Leaf) -> bool
+    ensures { IsTrue result ↔ IsTaken is_text patterns.now leaf }
+{
+    match leaf {
+        Leaf::Text => is_text,
+        Leaf::Ref(number) => !is_text && number > 0 && is_set(patterns, number as usize - 1),
+    }
+}
+
+/// Whether a flag is set.
+fn is_set(flags: &[u32], place: usize) -> bool
+    ensures { IsTrue result ↔ (get_or flags.now place 0 ≡ 1) }
+{
+    match flags.get(place) {
+        Some(flag) => *flag == 1,
+        None => false,
+    }
+}
+
+/// Sets the flags of the states to which a tree leads a state.
+fn put_states_from(auto: &Auto<'_>, state: u32, is_text: bool, patterns: &[u32], out: &mut Room)
+    requires state { state < states_of auto.now }
+    requires flags { out.old.flags ≡ states_of auto.now }
+    ensures beside { IsRoomBeside out.old out.new }
+    ensures others { (k : ℕ) → (k < 2) ⊎ (2 + out.old.flags ≤ k) → get_or out.new.numbers.items k 0 ≡ get_or out.old.numbers.items k 0 }
+    ensures flags { PutsFrom auto.now state is_text patterns.now out.old.numbers.items out.new.numbers.items }
+{
+    for edge in auto.follow(state) {
+        if takes(is_text, patterns, edge.leaf) {
+            out.set_flag(edge.to as usize);
+        }
+    }
+}
+
+/// Leaves the flags of the states to which a tree leads some.
+fn put_states(auto: &Auto<'_>, hedge: &[u32], is_text: bool, patterns: &[u32], out: &mut Room)
+    requires flags { out.old.flags ≡ states_of auto.now }
+    ensures beside { IsRoomBeside out.old out.new }
+    ensures others { (k : ℕ) → (k < 2) ⊎ (2 + out.old.flags ≤ k) → get_or out.new.numbers.items k 0 ≡ get_or out.old.numbers.items k 0 }
+    ensures flags { Puts auto.now hedge.now is_text patterns.now out.new.numbers.items }
+{
+    out.clear_flags();
+    for state in 0..auto.states() {
+        if is_set(hedge, state as usize) {
+            put_states_from(auto, state, is_text, patterns, out);
+        }
+    }
+}
+
+/// Whether some flag is set.
+fn has_flag(flags: &[u32]) -> bool
+    ensures { IsTrue result ↔ Contains flags.now 1 }
+{
+    flags.contains(&1)
+}
+
+/// Leaves for each look the first hit, or else the one behind it.
+fn put_first_looks(first: &[u32], second: &[u32], out: &mut Room)
+    requires first { length first.now + 2 + out.old.flags + out.old.entries ≡ length out.old.numbers.items }
+    requires second { length second.now ≡ length first.now }
+    ensures beside { IsRoomBeside out.old out.new }
+    ensures others { (k : ℕ) → k < 2 + out.old.flags + out.old.entries → get_or out.new.numbers.items k 0 ≡ get_or out.old.numbers.items k 0 }
+    ensures looks { (i : ℕ) → i < length first.now → get_or out.new.numbers.items (2 + out.old.flags + out.old.entries + i) 0 ≡ or_hit (get_or first.now i 0) (get_or second.now i 0) }
+{
+    for place in 0..first.len() {
+        let value = first[place];
+        let value = if value == 0 { second[place] } else { value };
+        out.set_look(place, value);
+    }
+}
+
+/// Leaves where a list of trees may stand with a tree more behind it. Tells whether it may stand anywhere.
+pub(crate) fn put_kind(auto: &Auto<'_>, hedge: &Room, tree: &Room, out: &mut Room) -> bool
+    requires flags { out.old.flags ≡ states_of auto.now }
+    ensures beside { IsRoomBeside out.old out.new }
+    ensures others { (k : ℕ) → (k < 2) ⊎ (2 + out.old.flags ≤ k) → get_or out.new.numbers.items k 0 ≡ get_or out.old.numbers.items k 0 }
+    ensures live { IsTrue result ↔ (¬ AreTexts hedge.now tree.now × Contains (flags_in out.new.flags out.new.numbers.items) 1) }
+    ensures flags { ¬ AreTexts hedge.now tree.now → Puts auto.now (flags_in hedge.now.flags hedge.now.numbers.items) (get_or tree.now.numbers.items 0 0 == 1) (flags_in tree.now.flags tree.now.numbers.items) out.new.numbers.items }
+{
+    if hedge.is_text() && tree.is_text() {
+        return false;
+    }
+    put_states(auto, hedge.flags(), tree.is_text(), tree.flags(), out);
+    has_flag(out.flags())
+}

@@ -1,0 +1,104 @@
+// The sets of pairs that stand in rows, each held once.
+ghost use Rattle.std.specs.Prelude.{◌≡◌, ◌<◌, ◌≤◌, ◌+◌, ◌++◌, ◌∷◌, ◌⊎◌, ℕ, [], length, slice_get, get_or, Some, IfOk, OnOk, OnErr, true, false, IsTrue};
+ghost use Rattle.std.specs.Result.{IsErrOf};
+ghost use Rattle.tc_mat.specs.Matrix.{IsComposition};
+ghost use Rattle.tc_mat.specs.Held.{IsHeld};
+ghost use Rattle.tc_beh.specs.Held.{Extends, Grows, set_at, IsNew};
+ghost use Rattle.tc_beh.specs.Rooms.{output_at};
+ghost use Rattle.tc_beh.specs.RoomsOf.{IsRoomBeside};
+
+use crate::rooms::Room;
+use tc_mat::{Mat, MatId, Pool, PoolFault};
+
+/// Why there is no row.
+#[derive(Clone, Copy, Debug, PartialEq, Eq)]
+pub enum RowFault {
+    /// A set of pairs of the row would be the 65,537th.
+    TooManyOutputs,
+    /// A set of pairs of the row isn't held, and the rows are fixed.
+    NewOutput,
+    /// Memory was refused.
+    NoMemory,
+}
+
+/// The number of a set, which is held from now on, or else is held already where the sets are fixed.
+pub(crate) fn keep(outputs: &mut Pool, is_fixed: bool, set: &Mat) -> Result<u32, RowFault>
+    requires { set.now.size ≡ outputs.old.size }
+    ensures number { IfOk result (λ k. slice_get outputs.new.matrices k ≡ Some set.now) }
+    ensures grows { IfOk result (λ k. (outputs.new ≡ outputs.old) ⊎ ((k ≡ length outputs.old.matrices) × (outputs.new ≡ record outputs.old { matrices = outputs.old.matrices ++ set.now ∷ [] }))) }
+    ensures err { OnErr result ((outputs.new ≡ outputs.old) × ¬ IsHeld outputs.old set.now) }
+    ensures fixed { is_fixed ≡ true → outputs.new ≡ outputs.old }
+    ensures full { IsErrOf result RowFault.TooManyOutputs → (is_fixed ≡ false) × (length outputs.old.matrices ≡ 65536) }
+    ensures fresh { IsErrOf result RowFault.NewOutput → is_fixed ≡ true }
+    ensures memory { IsErrOf result RowFault.NoMemory → is_fixed ≡ false }
+{
+    if let Some(id) = outputs.find(set) {
+        return Ok(id.0);
+    }
+    if is_fixed {
+        return Err(RowFault::NewOutput);
+    }
+    match outputs.intern(set) {
+        Ok(id) => Ok(id.0),
+        Err(PoolFault::PoolFull) => Err(RowFault::TooManyOutputs),
+        Err(PoolFault::NoMemory) => Err(RowFault::NoMemory),
+    }
+}
+
+/// The number of the set that leads by one and then by another.
+pub(crate) fn keep_product(
+    outputs: &mut Pool,
+    is_fixed: bool,
+    set: &mut Mat,
+    first: u32,
+    second: u32,
+) -> Result<u32, RowFault>
+    requires set { set.old.size ≡ outputs.old.size }
+    requires first { first < length outputs.old.matrices }
+    requires second { second < length outputs.old.matrices }
+    ensures set { set.new.size ≡ set.old.size }
+    ensures held { Extends outputs.old outputs.new }
+    ensures pairs { IfOk result (λ k. (k < length outputs.new.matrices) × IsComposition (set_at outputs.old first) (set_at outputs.old second) (set_at outputs.new k)) }
+    ensures grows { IfOk result (λ k. ((k < length outputs.old.matrices) × (outputs.new ≡ outputs.old)) ⊎ ((k ≡ length outputs.old.matrices) × (length outputs.new.matrices ≡ length outputs.old.matrices + 1))) }
+    ensures err { OnErr result ((outputs.new ≡ outputs.old) × IsNew outputs.old (set_at outputs.old first) (set_at outputs.old second)) }
+    ensures fixed { is_fixed ≡ true → outputs.new ≡ outputs.old }
+    ensures full { IsErrOf result RowFault.TooManyOutputs → (is_fixed ≡ false) × (length outputs.old.matrices ≡ 65536) }
+    ensures fresh { IsErrOf result RowFault.NewOutput → is_fixed ≡ true }
+    ensures memory { IsErrOf result RowFault.NoMemory → is_fixed ≡ false }
+{
+    Mat::mul_into(outputs.get(MatId(first)), outputs.get(MatId(second)), set);
+    keep(outputs, is_fixed, set)
+}
+
+/// Leaves the numbers of the products of entries.
+pub(crate) fn put_products(
+    outputs: &mut Pool,
+    is_fixed: bool,
+    set: &mut Mat,
+    first: &[u32],
+    second: &[u32],
+    out: &mut Room,
+) -> Result<(), RowFault>
+    requires set { set.old.size ≡ outputs.old.size }
+    requires first_count { length first.now ≡ out.old.entries }
+    requires second_count { length second.now ≡ out.old.entries }
+    requires first { (i : ℕ) → i < length first.now → get_or first.now i 0 < length outputs.old.matrices }
+    requires second { (i : ℕ) → i < length second.now → get_or second.now i 0 < length outputs.old.matrices }
+    ensures set { set.new.size ≡ set.old.size }
+    ensures beside { IsRoomBeside out.old out.new }
+    ensures others { (k : ℕ) → (k < 2 + out.old.flags) ⊎ (2 + out.old.flags + out.old.entries ≤ k) → get_or out.new.numbers.items k 0 ≡ get_or out.old.numbers.items k 0 }
+    ensures held { Extends outputs.old outputs.new }
+    ensures grows { OnOk result (Grows outputs.old outputs.new (output_at out.old.flags out.new.numbers.items) out.old.entries) }
+    ensures pairs { OnOk result ((i : ℕ) → i < out.old.entries → IsComposition (set_at outputs.old (get_or first.now i 0)) (set_at outputs.old (get_or second.now i 0)) (set_at outputs.new (output_at out.old.flags out.new.numbers.items i))) }
+    ensures err { OnErr result ((i : ℕ) × (i < out.old.entries) × IsNew outputs.new (set_at outputs.old (get_or first.now i 0)) (set_at outputs.old (get_or second.now i 0))) }
+    ensures fixed { is_fixed ≡ true → outputs.new ≡ outputs.old }
+    ensures full { IsErrOf result RowFault.TooManyOutputs → (is_fixed ≡ false) × (length outputs.new.matrices ≡ 65536) }
+    ensures fresh { IsErrOf result RowFault.NewOutput → is_fixed ≡ true }
+    ensures memory { IsErrOf result RowFault.NoMemory → is_fixed ≡ false }
+{
+    for place in 0..out.entries {
+        let number = keep_product(outputs, is_fixed, set, first[place], second[place])?;
+        out.set_output(place, number);
+    }
+    Ok(())
+}
