@@ -18,3 +18,6 @@ pub mod Deepening
 pub mod Holding
 pub mod Flagging
 pub mod RoomRows
+pub mod Appended
+pub mod RoomSets
+pub mod RoomIs
