@@ -1,6 +1,5 @@
 //! States, edges and runs of small schemas, by hand.
 
-use bumpalo::Bump;
 use std::alloc::Global;
 use std::test::Fail;
 use tc_auto::{Auto, AutoFault, Edge, Leaf};
@@ -213,34 +212,5 @@ fn tells_names_and_alternatives(rt: HostRuntime) -> Result<(), Fail> {
         }
     }
     assert!(rt; auto.starts(1) && !auto.starts(2) && auto.starts(3));
-    Ok(())
-}
-
-/// One or more, nested again and again, has each edge once.
-#[test]
-fn repeats_each_edge_once(rt: HostRuntime) -> Result<(), Fail> {
-    let arena = Bump::new(rt.alloc());
-    let mut members = Vec::new(rt.alloc());
-    for _member in 0..500 {
-        members.push(Pat::Ref(1))?;
-    }
-    let mut content = Pat::Choice(&members);
-    for _nesting in 0..1990 {
-        content = Pat::OneOrMore(arena.try_alloc(content)?);
-    }
-    for _nesting in 0..10 {
-        let both = [content, Pat::Ref(1)];
-        let either = Pat::Choice(arena.try_alloc_slice_copy(&both)?);
-        content = Pat::OneOrMore(arena.try_alloc(either)?);
-    }
-    let elements = [one("a", content)];
-    let grammar = Grammar {
-        start: Pat::Ref(1),
-        elements: &elements,
-    };
-    let auto = Auto::contents(rt.alloc(), &grammar, 511)?;
-    assert_eq!(rt; auto.states(), 511);
-    assert_eq!(rt; auto.follow(1).len(), 510);
-    assert_eq!(rt; auto.follow(510).len(), 510);
     Ok(())
 }
