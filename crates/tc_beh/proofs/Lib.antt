@@ -21,3 +21,6 @@ pub mod RoomRows
 pub mod Appended
 pub mod RoomSets
 pub mod RoomIs
+pub mod Admitting
+pub mod Surrounding
+pub mod Finding

@@ -12,3 +12,5 @@ pub mod RoomsOf
 pub mod Held
 pub mod Appending
 pub mod RowsOf
+pub mod Around
+pub mod LooksAbove
