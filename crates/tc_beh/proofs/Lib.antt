@@ -24,3 +24,5 @@ pub mod RoomIs
 pub mod Admitting
 pub mod Surrounding
 pub mod Finding
+pub mod Rooted
+pub mod Deepest

@@ -14,3 +14,4 @@ pub mod Appending
 pub mod RowsOf
 pub mod Around
 pub mod LooksAbove
+pub mod Roots
