@@ -6,7 +6,7 @@ use Rattle.std.proofs.lemmas.Bool.{cases_lt}
 use Rattle.tc_mat.specs.Matrix.{Matrix, IsMatrix, IsComposition}
 use Rattle.tc_mat.specs.Held.{Held, IsHeld}
 use Rattle.tc_beh.specs.Places.{no_matrix}
-use Rattle.tc_beh.specs.Held.{Extends, AreFirstFound, Grows, set_at, IsNew}
+use Rattle.tc_beh.specs.Held.{Extends, AreFirstFound, Grows, set_at, IsNew, AreProducts}
 use Rattle.tc_beh.specs.declared.outputs.RowFault.{RowFault}
 
 pub extends_self : (a : Held) → Extends a a
@@ -75,6 +75,13 @@ grows_step a b c f g i k grown same here more low how = record {
 
 pub new_before : (a b : Held) → Extends a b → (i j : ℕ) → i < length a.matrices → j < length a.matrices → IsNew b (set_at b i) (set_at b j) → IsNew b (set_at a i) (set_at a j)
 new_before a b e i j l m is = subst (λ n. IsNew b (set_at a i) n) (extends_at a b e j m) (subst (λ n. IsNew b n (set_at b j)) (extends_at a b e i l) is)
+
+-- what has come on so far are products
+pub products_found : (a b : Held) (f first second : ℕ → ℕ) (i n : ℕ) → i ≤ n → Grows a b f i → ((p : ℕ) → p < i → IsComposition (set_at a (first p)) (set_at a (second p)) (set_at b (f p))) → AreProducts a b first second n
+products_found a b f first second i n low grown pairs = λ k from to. (
+    let (p, m, e) = grown.found.each k from to in
+    (p, omega (arith, m, low), subst (λ j. IsComposition (set_at a (first p)) (set_at a (second p)) (set_at b j)) e (pairs p m))
+    )
 
 -- what is kept of a set
 module _ (old new : Held) (m : Matrix) where

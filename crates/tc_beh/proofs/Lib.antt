@@ -21,3 +21,9 @@ pub mod RoomRows
 pub mod Appended
 pub mod RoomSets
 pub mod RoomIs
+pub mod Held
+pub mod Behind
+pub mod Emptied
+pub mod RoomLaws
+pub mod Appends
+pub mod Together

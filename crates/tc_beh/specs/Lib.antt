@@ -12,3 +12,6 @@ pub mod RoomsOf
 pub mod Held
 pub mod Appending
 pub mod RowsOf
+pub mod Outs
+pub mod Emptying
+pub mod RoomLaws

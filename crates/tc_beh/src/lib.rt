@@ -8,6 +8,8 @@
 mod append;
 mod bodies;
 mod calls;
+mod empty;
+mod laws;
 mod looks;
 mod machine;
 mod named;
@@ -17,6 +19,7 @@ mod rows;
 mod sets;
 mod templates;
 
+pub use laws::law_of_rooms;
 pub use machine::{Machine, MachineFault, Shape};
 pub use outputs::RowFault;
 pub use rooms::{HRow, TRow};
