@@ -103,6 +103,23 @@ module _ (old new : Held) (m : Matrix) where
       by (inl h) = h.1
       by (inr h) = let n : Some m ≡ None = sym e ∙ h.1 in absurd (cc)
 
+  -- where one number stands at all of some places
+  pub one_kept : (k n : ℕ) (f : ℕ → ℕ) → slice_get new.matrices k ≡ Some m → Kept k → 0 < n → ((i : ℕ) → i < n → f i ≡ k) → Grows old new f n
+  one_kept k n f got kept some same = record {
+    held = extends_one k kept;
+    low = λ p l. (let e = same p l in omega (arith, e, inside));
+    found = record {
+      each = λ j from to. (0, some, same 0 some ∙ elim kept [ inl e ↦ (let s = ap (λ (x : Held). length x.matrices) e in absurd (omega (arith, from, to, s))) | inr h ↦ (let here = h.0 in let s = more h.1 in omega (arith, from, to, here, s)) ]);
+      order = λ j p from l above. (let e = same p l in elim kept [ inl h ↦ (let s = ap (λ (x : Held). length x.matrices) h in absurd (omega (arith, from, above, e, inside, s))) | inr h ↦ (let here = h.0 in absurd (omega (arith, from, above, e, here))) ]);
+    };
+  }
+    where
+      inside : k < length new.matrices
+      inside = low_got new.matrices k got
+
+      more : new ≡ record old { matrices = old.matrices ++ m ∷ [] } → length new.matrices ≡ length old.matrices + 1
+      more e = ap (λ (x : Held). length x.matrices) e ∙ length-append old.matrices (m ∷ [])
+
   pub set_kept : (r : Result ℕ RowFault) → IfOk r (λ k. slice_get new.matrices k ≡ Some m) → IfOk r (λ k. (k < length new.matrices) × (set_at new k ≡ m))
   set_kept (Ok k) e = (low_got new.matrices k e, get_or_from_slice_get new.matrices k m no_matrix e)
   set_kept (Err f) e = tt
