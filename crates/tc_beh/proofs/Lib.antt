@@ -27,3 +27,4 @@ pub mod Emptied
 pub mod RoomLaws
 pub mod Appends
 pub mod Together
+pub mod InOrder

@@ -15,3 +15,4 @@ pub mod RowsOf
 pub mod Outs
 pub mod Emptying
 pub mod RoomLaws
+pub mod Listing
