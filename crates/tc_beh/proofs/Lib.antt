@@ -26,3 +26,10 @@ pub mod Surrounding
 pub mod Finding
 pub mod Rooted
 pub mod Deepest
+pub mod Held
+pub mod Behind
+pub mod Emptied
+pub mod RoomLaws
+pub mod Appends
+pub mod Together
+pub mod InOrder

@@ -15,3 +15,7 @@ pub mod RowsOf
 pub mod Around
 pub mod LooksAbove
 pub mod Roots
+pub mod Outs
+pub mod Emptying
+pub mod RoomLaws
+pub mod Listing

@@ -8,6 +8,9 @@
 mod append;
 mod bodies;
 mod calls;
+mod empty;
+mod laws;
+mod lists;
 mod looks;
 mod looks_above;
 mod machine;
@@ -20,6 +23,7 @@ mod rows;
 mod sets;
 mod templates;
 
+pub use laws::law_of_rooms;
 pub use machine::{Machine, MachineFault, Shape};
 pub use outputs::RowFault;
 pub use rooms::{HRow, TRow};

@@ -1,0 +1,8 @@
+// What is proved of rooms.
+ghost use Rattle.tc_beh.specs.RoomLaws.{RoomsAreLawful};
+
+/// The law of rooms: over what rows hold at one time, in which no set of pairs has two numbers, two rooms stand for equal
+/// rows exactly where their numbers are equal; and a room goes on standing for its row where more is held.
+pub fn law_of_rooms()
+    ensures { RoomsAreLawful }
+{}
