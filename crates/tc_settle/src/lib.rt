@@ -1,0 +1,7 @@
+//! The closure of numbered rows, cost by cost: what can be made of texts, of elements around lists of trees and of
+//! lists with one more tree behind, each at its least cost.
+#![tactic(auto)]
+
+mod rows;
+
+pub use rows::{HoldFault, NumberedRows};
