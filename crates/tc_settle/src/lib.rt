@@ -2,6 +2,8 @@
 //! lists with one more tree behind, each at its least cost.
 #![tactic(auto)]
 
+mod closed;
 mod rows;
 
+pub use closed::{CloseFault, Closed, MadeHedge, MadeTree};
 pub use rows::{HoldFault, NumberedRows};

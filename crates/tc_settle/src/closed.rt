@@ -1,0 +1,88 @@
+// What is kept of rows: what each is made of, and its cost.
+ghost use Rattle.std.specs.Prelude.{◌≡◌, ◌<◌, ◌≤◌, ◌+◌, ℕ, OnOk, [], length};
+ghost use Rattle.tc_settle.specs.Closed.{hedge_cost, tree_cost};
+ghost use Rattle.tc_settle.specs.Settled.{IsWithHedge, IsWithTree};
+
+use crate::rows::HoldFault;
+use std::alloc::{AllocError, AllocFailed, Global};
+use tc_base::NoMemory;
+
+/// What a row of lists of trees is made of: no tree, or a list of trees with a tree behind.
+#[derive(Clone, Copy)]
+pub enum MadeHedge {
+    None,
+    Append(u32, u32),
+}
+
+/// What a row of trees is made of: a text, or an element of a symbol around a list of trees.
+#[derive(Clone, Copy)]
+pub enum MadeTree {
+    Text,
+    Wrap(u32, u32),
+}
+
+/// All rows that are derived: what each is made of, and its cost, which is the least number of nodes up to 2,000, and
+/// 2,001 for all greater ones. Rows of each kind come in order of cost.
+#[derive(Drop)]
+pub struct Closed {
+    pub hedges: Vec<MadeHedge>,
+    pub hedge_costs: Vec<u32>,
+    pub trees: Vec<MadeTree>,
+    pub tree_costs: Vec<u32>,
+}
+
+/// Why not all rows were found.
+#[derive(Clone, Copy, Debug, PartialEq, Eq)]
+pub enum CloseFault {
+    /// More trees than allowed.
+    TooManyTrees,
+    /// More lists of trees than allowed.
+    TooManyHedges,
+    /// A row can't be held.
+    Full,
+    /// Memory was refused.
+    NoMemory,
+}
+
+impl From<NoMemory> for CloseFault {
+    ghost use Rattle.tc_settle.specs.declared.closed.CloseFault.TheVariants.{NoMemory};
+
+    ghost from_gives = { λ _ e. e ≡ NoMemory };
+
+    fn from(_error: NoMemory) -> CloseFault {
+        CloseFault::NoMemory
+    }
+}
+
+impl Closed {
+    /// No row.
+    pub(crate) fn new(alloc: Global) -> Closed
+        ensures hedges { result.hedge_costs.items ≡ [] }
+        ensures trees { result.tree_costs.items ≡ [] }
+    {
+        Closed {
+            hedges: Vec::new(alloc),
+            hedge_costs: Vec::new(alloc),
+            trees: Vec::new(alloc),
+            tree_costs: Vec::new(alloc),
+        }
+    }
+
+    /// One more list of trees.
+    pub(crate) fn keep_hedge(&mut self, made: MadeHedge, cost: u32) -> Result<(), NoMemory>
+        ensures { OnOk result (IsWithHedge self.old made cost self.new) }
+    {
+        self.hedges.push(made)?;
+        self.hedge_costs.push(cost)?;
+        Ok(())
+    }
+
+    /// One more tree.
+    pub(crate) fn keep_tree(&mut self, made: MadeTree, cost: u32) -> Result<(), NoMemory>
+        ensures { OnOk result (IsWithTree self.old made cost self.new) }
+    {
+        self.trees.push(made)?;
+        self.tree_costs.push(cost)?;
+        Ok(())
+    }
+}
