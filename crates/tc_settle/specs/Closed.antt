@@ -34,6 +34,8 @@ module _ (s : Held) (c : Closed) where
   pub record IsKept : Type 0 where
     pub hedge_count : length c.hedge_costs.items ≡ s.hedges
     pub tree_count : length c.tree_costs.items ≡ s.trees
+    pub made_hedge_count : length c.hedges.items ≡ s.hedges
+    pub made_tree_count : length c.trees.items ≡ s.trees
     pub hedges_derive : (u : ℕ) → u < s.hedges → (n : ℕ) × HedgeFrom s u n × IsCapped n (hedge_cost c u)
     pub trees_derive : (u : ℕ) → u < s.trees → (n : ℕ) × TreeFrom s u n × IsCapped n (tree_cost c u)
     pub hedges_made : (u : ℕ) → u < s.hedges → (m : MadeHedge) × (slice_get c.hedges.items u ≡ Some m) × IsHedgeMade u m
