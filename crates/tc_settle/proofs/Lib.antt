@@ -1,3 +1,4 @@
 pub mod Derived
 pub mod Kept
 pub mod Lists
+pub mod Tried

@@ -4,7 +4,7 @@ ghost use Rattle.tc_settle.specs.Closed.{hedge_cost, tree_cost};
 ghost use Rattle.tc_settle.specs.Settled.{IsWithHedge, IsWithTree};
 
 use crate::rows::HoldFault;
-use std::alloc::{AllocError, AllocFailed, Global};
+use std::alloc::Global;
 use tc_base::NoMemory;
 
 /// What a row of lists of trees is made of: no tree, or a list of trees with a tree behind.
@@ -51,6 +51,19 @@ impl From<NoMemory> for CloseFault {
 
     fn from(_error: NoMemory) -> CloseFault {
         CloseFault::NoMemory
+    }
+}
+
+impl From<HoldFault> for CloseFault {
+    ghost use Rattle.tc_settle.specs.Faults.{close_fault};
+
+    ghost from_gives = { λ f e. e ≡ close_fault f };
+
+    fn from(fault: HoldFault) -> CloseFault {
+        match fault {
+            HoldFault::Full => CloseFault::Full,
+            HoldFault::NoMemory => CloseFault::NoMemory,
+        }
     }
 }
 

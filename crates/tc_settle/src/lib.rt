@@ -4,6 +4,7 @@
 
 mod closed;
 mod rows;
+mod trying;
 
 pub use closed::{CloseFault, Closed, MadeHedge, MadeTree};
 pub use rows::{HoldFault, NumberedRows};
