@@ -42,6 +42,10 @@ module _ (s : Held) (c : Closed) where
     pub wraps : (h : ℕ) → h < s.hedges → AreWrapsDone h
     pub appends : (h t : ℕ) → h < s.hedges → t < s.trees → IsAppendDone h t
 
+  -- each of the first lists of trees was tried with the trees that make up a cost with it
+  abbrev pub AreSumsDone : ℕ → ℕ → Type 0
+  AreSumsDone count cost = (h t : ℕ) → h < count → t < s.trees → hedge_cost c h + tree_cost c t ≡ cost → IsAppendDone h t
+
   -- no cost is greater
   pub record AreUpTo (cost : ℕ) : Type 0 where
     pub hedges : (u : ℕ) → u < s.hedges → hedge_cost c u ≤ cost

@@ -4,6 +4,7 @@
 
 mod closed;
 mod rows;
+mod runs;
 mod trying;
 
 pub use closed::{CloseFault, Closed, MadeHedge, MadeTree};
