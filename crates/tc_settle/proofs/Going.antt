@@ -3,7 +3,7 @@ use Rattle.std.proofs.Common.{◌≡◌, ◌⊎◌, inl, inr, ℕ, suc, ◌+◌,
 use Rattle.tc_settle.specs.declared.closed.Closed.{Closed}
 use Rattle.tc_settle.specs.Held.{Held, Grows, SameRows}
 use Rattle.tc_settle.specs.Closed.{hedge_cost, tree_cost, IsCapped, IsKept}
-use Rattle.tc_settle.specs.Settled.{Goes, Steps, AreFew, AreUpTo, AreStarts, AreDoneUpTo, IsNoneDone, IsAppendDone, IsWrapDone, AreWrapsDone, IsTextDone}
+use Rattle.tc_settle.specs.Settled.{Goes, Steps, AreFew, AreUpTo, AreStarts, AreDoneBelow, IsNoneDone, IsAppendDone, IsWrapDone, AreWrapsDone, IsTextDone}
 use Rattle.tc_settle.proofs.Derived.{none_stays, text_stays, append_stays, wrap_stays}
 
 pub grows_nothing : (s : Held) → Grows s s
@@ -84,8 +84,8 @@ module _ (cost : ℕ) (s r : Held) (c d : Closed) (goes : Goes cost s c r d) whe
     new_trees = λ u high low. elim (low_or_high u r.trees) [ inl few ↦ more.tree_costs u few ∙ goes.new_trees u high few | inr new ↦ more.new_trees u new low ];
   }
 
-  -- what was tried up to a lesser cost
-  pub done_stays : (n : ℕ) → n < cost → AreDoneUpTo s c n → AreDoneUpTo r d n
+  -- what was tried below a cost that isn't greater
+  pub done_stays : (n : ℕ) → n ≤ cost → AreDoneBelow s c n → AreDoneBelow r d n
   done_stays n less done = record {
     none = none_done_stays done.none;
     text = text_done_stays done.text;

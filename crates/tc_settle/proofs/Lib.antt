@@ -1,6 +1,6 @@
 pub mod Derived
 pub mod Going
 pub mod Kept
-pub mod Levels
+pub mod AtOneCost
 pub mod Lists
 pub mod Tried

@@ -6,6 +6,10 @@ use Rattle.tc_settle.specs.declared.closed.MadeTree.{MadeTree}
 use Rattle.tc_settle.specs.Held.{Held, Grows, IsNoneAt, IsTextAt, IsAppendAt, IsWrapAt}
 use Rattle.tc_settle.specs.Closed.{hedge_cost, tree_cost, IsKept}
 
+-- costs don't fall
+abbrev pub IsInOrder : List ℕ → Type 0
+IsInOrder costs = (i j : ℕ) → i ≤ j → j < length costs → slice_index costs i ≤ slice_index costs j
+
 module _ (s : Held) (c : Closed) where
   -- tried: it is dead, or held at no greater cost
   abbrev pub IsNoneDone : Type 0
@@ -23,14 +27,14 @@ module _ (s : Held) (c : Closed) where
   abbrev pub AreWrapsDone : ℕ → Type 0
   AreWrapsDone h = (a : ℕ) → a < s.symbols → IsWrapDone a h
 
-  -- all that is made at costs up to one was tried
-  pub record AreDoneUpTo (cost : ℕ) : Type 0 where
+  -- all that is made at costs below one was tried
+  pub record AreDoneBelow (cost : ℕ) : Type 0 where
     pub none : IsNoneDone
     pub text : IsTextDone
-    pub wraps : (h : ℕ) → h < s.hedges → hedge_cost c h + 1 ≤ cost → AreWrapsDone h
-    pub appends : (h t : ℕ) → h < s.hedges → t < s.trees → hedge_cost c h + tree_cost c t ≤ cost → IsAppendDone h t
+    pub wraps : (h : ℕ) → h < s.hedges → hedge_cost c h + 1 < cost → AreWrapsDone h
+    pub appends : (h t : ℕ) → h < s.hedges → t < s.trees → hedge_cost c h + tree_cost c t < cost → IsAppendDone h t
 
-  -- and all that is made of the first lists of trees
+  -- all that is made of the first lists of trees was tried
   pub record AreDoneBefore (count : ℕ) : Type 0 where
     pub wraps : (h : ℕ) → h < count → AreWrapsDone h
     pub appends : (h t : ℕ) → h < count → t < s.trees → IsAppendDone h t
@@ -45,6 +49,10 @@ module _ (s : Held) (c : Closed) where
   -- each of the first lists of trees was tried with the trees that make up a cost with it
   abbrev pub AreSumsDone : ℕ → ℕ → Type 0
   AreSumsDone count cost = (h t : ℕ) → h < count → t < s.trees → hedge_cost c h + tree_cost c t ≡ cost → IsAppendDone h t
+
+  -- each of the first lists of trees was tried with the trees of a range
+  abbrev pub AreRangesDone : ℕ → ℕ → ℕ → Type 0
+  AreRangesDone count from to = (h t : ℕ) → h < count → from ≤ t → t < to → IsAppendDone h t
 
   -- no cost is greater
   pub record AreUpTo (cost : ℕ) : Type 0 where
@@ -82,3 +90,32 @@ IsWithHedge c m cost d = (d.hedges.items ≡ c.hedges.items ++ m ∷ []) × (d.h
 
 abbrev pub IsWithTree : Closed → MadeTree → ℕ → Closed → Type 0
 IsWithTree c m cost d = (d.trees.items ≡ c.trees.items ++ m ∷ []) × (d.tree_costs.items ≡ c.tree_costs.items ++ cost ∷ []) × (d.hedges.items ≡ c.hedges.items) × (d.hedge_costs.items ≡ c.hedge_costs.items)
+
+-- before things are tried at a cost: all lists of trees cost less, and those from some number on cost one less
+pub record IsReady (most cost : ℕ) (s : Held) (c : Closed) (starts : List ℕ) (wrapped : ℕ) : Type 0 where
+  pub kept : IsKept s c
+  pub few : AreFew s c most
+  pub hedges : (h : ℕ) → h < s.hedges → hedge_cost c h + 1 ≤ cost
+  pub trees : (t : ℕ) → t < s.trees → (1 ≤ tree_cost c t) × (tree_cost c t ≤ cost)
+  pub done : AreDoneBelow s c cost
+  pub within : wrapped ≤ s.hedges
+  pub before : (h : ℕ) → h < wrapped → hedge_cost c h + 1 < cost
+  pub behind : (h : ℕ) → wrapped ≤ h → h < s.hedges → hedge_cost c h + 1 ≡ cost
+  pub count : length starts ≡ cost + 1
+  pub begun : AreStarts s c starts
+
+-- among costs past 2,000: all that costs less was tried, and all that is made of the first lists of trees
+pub record IsFar (most : ℕ) (s : Held) (c : Closed) (starts : List ℕ) (hedge : ℕ) : Type 0 where
+  pub kept : IsKept s c
+  pub few : AreFew s c most
+  pub up_to : AreUpTo s c 2001
+  pub done : AreDoneBelow s c 2001
+  pub before : AreDoneBefore s c hedge
+  pub count : length starts ≡ 2002
+  pub begun : AreStarts s c starts
+
+-- everything was tried, and no more than so many are kept
+pub record IsWhole (most : ℕ) (s : Held) (c : Closed) : Type 0 where
+  pub kept : IsKept s c
+  pub few : AreFew s c most
+  pub done : AreAllDone s c

@@ -1,7 +1,7 @@
 // What is kept of rows: what each is made of, and its cost.
-ghost use Rattle.std.specs.Prelude.{◌≡◌, ◌<◌, ◌≤◌, ◌+◌, ℕ, OnOk, [], length};
+ghost use Rattle.std.specs.Prelude.{◌≡◌, ◌<◌, ◌≤◌, ◌+◌, ℕ, OnOk, [], ◌∷◌, ◌++◌, length, slice_index};
 ghost use Rattle.tc_settle.specs.Closed.{hedge_cost, tree_cost};
-ghost use Rattle.tc_settle.specs.Settled.{IsWithHedge, IsWithTree};
+ghost use Rattle.tc_settle.specs.Settled.{IsInOrder, IsWithHedge, IsWithTree};
 
 use crate::rows::HoldFault;
 use std::alloc::Global;
@@ -70,8 +70,10 @@ impl From<HoldFault> for CloseFault {
 impl Closed {
     /// No row.
     pub(crate) fn new(alloc: Global) -> Closed
-        ensures hedges { result.hedge_costs.items ≡ [] }
-        ensures trees { result.tree_costs.items ≡ [] }
+        ensures hedges { result.hedges.items ≡ [] }
+        ensures hedge_costs { result.hedge_costs.items ≡ [] }
+        ensures trees { result.trees.items ≡ [] }
+        ensures tree_costs { result.tree_costs.items ≡ [] }
     {
         Closed {
             hedges: Vec::new(alloc),
@@ -98,4 +100,55 @@ impl Closed {
         self.tree_costs.push(cost)?;
         Ok(())
     }
+
+    /// How many lists of trees there are.
+    pub fn hedge_count(&self) -> u32
+        requires { length self.now.hedge_costs.items ≤ 4294967295 }
+        ensures { result ≡ length self.now.hedge_costs.items }
+    {
+        self.hedge_costs.len() as u32
+    }
+
+    /// How many trees there are.
+    pub fn tree_count(&self) -> u32
+        requires { length self.now.tree_costs.items ≤ 4294967295 }
+        ensures { result ≡ length self.now.tree_costs.items }
+    {
+        self.tree_costs.len() as u32
+    }
+
+    /// A cost that nothing passes that is made of what there is.
+    pub(crate) fn reach(&self) -> u32
+        requires hedges { IsInOrder self.now.hedge_costs.items }
+        requires trees { IsInOrder self.now.tree_costs.items }
+        requires hedges_most { (u : ℕ) → u < length self.now.hedge_costs.items → hedge_cost self.now u ≤ 2001 }
+        requires trees_most { (u : ℕ) → u < length self.now.tree_costs.items → tree_cost self.now u ≤ 2001 }
+        ensures wraps { (h : ℕ) → h < length self.now.hedge_costs.items → hedge_cost self.now h + 1 ≤ result }
+        ensures appends { (h t : ℕ) → h < length self.now.hedge_costs.items → t < length self.now.tree_costs.items → hedge_cost self.now h + tree_cost self.now t ≤ result }
+    {
+        let hedge = greatest(&self.hedge_costs);
+        let tree = greatest(&self.tree_costs);
+        hedge + tree.max(1)
+    }
+}
+
+/// The last of costs in order, and 0 where there is none.
+fn greatest(costs: &[u32]) -> u32
+    requires in_order { IsInOrder costs.now }
+    requires most { (u : ℕ) → u < length costs.now → slice_index costs.now u ≤ 2001 }
+    ensures greatest { (u : ℕ) → u < length costs.now → slice_index costs.now u ≤ result }
+    ensures few { result ≤ 2001 }
+{
+    match costs.last() {
+        Some(cost) => *cost,
+        None => 0,
+    }
+}
+
+/// One more number.
+pub(crate) fn push_start(starts: &mut Vec<u32>, start: u32) -> Result<(), NoMemory>
+    ensures { OnOk result (starts.new.items ≡ starts.old.items ++ start ∷ []) }
+{
+    starts.push(start)?;
+    Ok(())
 }

@@ -3,6 +3,7 @@
 #![tactic(auto)]
 
 mod closed;
+mod levels;
 mod rows;
 mod runs;
 mod trying;

@@ -2,7 +2,7 @@ use Rattle.std.proofs.Common.{◌≡◌, ◌<◌, ◌≤◌, ◌+◌, ◌-◌, �
 use Rattle.std.proofs.lemmas.List.{get_or_read}
 use Rattle.tc_settle.specs.Closed.{hedge_cost}
 use Rattle.tc_settle.proofs.Going.{steps_twice}
-use Rattle.tc_settle.proofs.Levels.{next_sums}
+use Rattle.tc_settle.proofs.AtOneCost.{next_sums}
 use Rattle.tc_settle.proofs.runs.append_level.Goals as goal
 
 pub loop-hedge-preserved : goal.loop-hedge-preserved
