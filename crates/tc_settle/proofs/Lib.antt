@@ -1,4 +1,5 @@
 pub mod Derived
+pub mod Far
 pub mod Going
 pub mod Kept
 pub mod AtOneCost

@@ -104,7 +104,8 @@ fn far_hedge<R: NumberedRows>(
     let trees = closed.tree_count();
     append_before(rows, closed, hedge, known, trees, most)?;
     let from = starts[(FAR - closed.hedge_costs[hedge as usize]) as usize];
-    append_trees(rows, closed, hedge, from, trees, FAR, most)
+    append_trees(rows, closed, hedge, from, trees, FAR, most)?;
+    Ok(())
 }
 
 /// Tries all that costs more than 2,000, list of trees by list of trees.

@@ -17,5 +17,5 @@ returns-clause-ready g c =
     let pushed = c.in_ok-push_start.ensures ∙ ap (λ t. c.args.starts.now.items ++ t ∷ []) trees in
     let sums = subst (λ k. AreSumsDone q f k c.args.cost) count second.done in
     let next = ready_next c.args.most c.args.cost c.args.wrapped s r c.args.closed.now d c.args.starts.now.items c.push_start.new.starts.items c.requires.ready c.requires.some first.steps first.hedges pushed q f second.steps second.trees
-        (λ h from low. first.done h from (omega (arith, low, count))) sums in
+    (λ h from low. first.done h from (omega (arith, low, count))) sums in
     subst (IsReady c.args.most (c.args.cost + 1) q f c.push_start.new.starts.items) (sym count) next
