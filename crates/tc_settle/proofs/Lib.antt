@@ -1,3 +1,4 @@
+pub mod Begun
 pub mod Derived
 pub mod Far
 pub mod Going
@@ -5,3 +6,4 @@ pub mod Kept
 pub mod AtOneCost
 pub mod Lists
 pub mod Tried
+pub mod Whole

@@ -119,3 +119,12 @@ pub record IsWhole (most : ℕ) (s : Held) (c : Closed) : Type 0 where
   pub kept : IsKept s c
   pub few : AreFew s c most
   pub done : AreAllDone s c
+
+-- the list of no tree and the text are kept, and no more
+pub record IsBegun (most : ℕ) (s : Held) (c : Closed) : Type 0 where
+  pub kept : IsKept s c
+  pub few : AreFew s c most
+  pub hedges : (h : ℕ) → h < s.hedges → hedge_cost c h ≡ 0
+  pub trees : (t : ℕ) → t < s.trees → tree_cost c t ≡ 1
+  pub none : IsNoneDone s c
+  pub text : IsTextDone s c

@@ -6,7 +6,9 @@ mod closed;
 mod levels;
 mod rows;
 mod runs;
+mod settling;
 mod trying;
 
 pub use closed::{CloseFault, Closed, MadeHedge, MadeTree};
 pub use rows::{HoldFault, NumberedRows};
+pub use settling::close;

@@ -17,6 +17,7 @@ pub(crate) fn try_text<R: NumberedRows>(
     requires few { AreFew (R.held rows.old) closed.old most }
     requires up_to { AreUpTo (R.held rows.old) closed.old 1 }
     ensures steps { OnOk result (Steps most 1 (R.held rows.old) closed.old (R.held rows.new) closed.new) }
+    ensures hedges { OnOk result ((R.held rows.new).hedges ≡ (R.held rows.old).hedges) }
     ensures done { OnOk result (IsTextDone (R.held rows.new) closed.new) }
     ensures cause { IfErr result (λ e. IsCause (R.is_full rows.new) most (R.held rows.new) e) }
 {
