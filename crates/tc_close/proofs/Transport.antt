@@ -1,5 +1,5 @@
 -- Rows don't depend on the tables in which states stand.
-use Rattle.std.proofs.Common.{◌≡◌, ℕ, zero, suc, ◌+◌, ◌-◌, ◌*◌, ◌↔◌, List, [], ◌∷◌, refl, ap, sym, ◌∙◌, subst, map, take, length, get_or, Option, Some, None, slice_get, arith}
+use Rattle.std.proofs.Common.{◌≡◌, ℕ, zero, suc, ◌+◌, ◌-◌, ◌*◌, ◌↔◌, List, [], ◌∷◌, refl, ap, sym, ◌∙◌, subst, map, take, length, get_or, Some, None, slice_get, arith}
 use Rattle.std.proofs.lemmas.Option.{same_Some}
 use Rattle.tc_model.specs.Chains.{Tree}
 use Rattle.tc_model.specs.Grammars.{Grammar}
@@ -12,15 +12,15 @@ use Rattle.tc_model.specs.Symbols.{Mention}
 use Rattle.tc_model.specs.Trees.{Trees}
 use Rattle.tc_model.specs.TreesApart.{alone}
 use Rattle.tc_rules.specs.Graphs.{Graph}
-use Rattle.tc_rules.specs.RulesView.{RulesView, IsStateOf, ancestor, count_states}
-use Rattle.tc_rules.specs.States.{Going, Looking}
-use Rattle.tc_rules.specs.Tasks.{IsMoveAt, IsLookAt}
+use Rattle.tc_rules.specs.RulesView.{IsStateOf, ancestor, count_states}
+use Rattle.tc_rules.specs.States.{Going}
+use Rattle.tc_rules.specs.Tasks.{IsMoveAt}
 use Rattle.tc_rules.proofs.SelectStates.{count_cons}
 use Rattle.tc_rows.specs.PairSets.{listed}
 use Rattle.tc_rows.specs.Rows.{HedgeRow, TreeRow, AreEntries, AreLooks, IsHedgeRow, IsTreeRow, AreEntriesOf, AreLooksOf, IsRowOfHedge, IsRowOfTree, led}
 use Rattle.tc_rows.specs.Triples.{Triple, machine, ancestors, moves, looks, entries}
 
-abbrev states_of : Graph → List State
+abbrev pub states_of : Graph → List State
 states_of g = g.states
 
 -- the states of graphs, one graph after another

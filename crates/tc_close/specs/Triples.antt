@@ -1,5 +1,5 @@
 -- Triples of two schemas and a stylesheet: there is one, and all of them have the same rows.
-use Rattle.std.specs.Prelude.{◌≡◌, ◌↔◌, ℕ, List}
+use Rattle.std.specs.Prelude.{◌≡◌, ◌↔◌, ℕ}
 use Rattle.tc_model.specs.Chains.{Tree}
 use Rattle.tc_model.specs.Grammars.{Grammar, IsGrammar}
 use Rattle.tc_model.specs.Sheets.{Sheet}
