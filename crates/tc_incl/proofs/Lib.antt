@@ -1,3 +1,8 @@
+pub mod Found
+pub mod Listed
+pub mod Taken
+pub mod Keys
+pub mod Made
 pub mod OneSchema
 pub mod SetsThere
 pub mod Lives

@@ -4,3 +4,6 @@ pub mod Arithmetic
 pub mod Derivations
 pub mod Counts
 pub mod Laws
+pub mod Sets
+pub mod Sides
+pub mod Held
