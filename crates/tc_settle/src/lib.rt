@@ -1,0 +1,14 @@
+//! The closure of numbered rows, cost by cost: what can be made of texts, of elements around lists of trees and of
+//! lists with one more tree behind, each at its least cost.
+#![tactic(auto)]
+
+mod closed;
+mod levels;
+mod rows;
+mod runs;
+mod settling;
+mod trying;
+
+pub use closed::{CloseFault, Closed, MadeHedge, MadeTree};
+pub use rows::{HoldFault, NumberedRows};
+pub use settling::close;
