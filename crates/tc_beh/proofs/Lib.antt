@@ -28,3 +28,4 @@ pub mod RoomLaws
 pub mod Appends
 pub mod Together
 pub mod InOrder
+pub mod Lining

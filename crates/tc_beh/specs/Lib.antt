@@ -16,3 +16,4 @@ pub mod Outs
 pub mod Emptying
 pub mod RoomLaws
 pub mod Listing
+pub mod Lines

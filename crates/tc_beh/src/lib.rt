@@ -10,6 +10,7 @@ mod bodies;
 mod calls;
 mod empty;
 mod laws;
+mod lines;
 mod lists;
 mod looks;
 mod machine;
