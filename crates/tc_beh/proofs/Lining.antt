@@ -10,12 +10,13 @@ use Rattle.std.proofs.Math.Seq.{take-suc}
 use Rattle.tc_alpha.proofs.Members.{has_from_contains, contains_from_has}
 use Rattle.tc_rows.proofs.Ascending.{one_set}
 use Rattle.tc_beh.specs.Rooms.{flagged, flag_at, output_at, flags_in, outputs_in, looks_in}
-use Rattle.tc_beh.specs.RoomsOf.{ChangesHeads}
-use Rattle.tc_beh.specs.Lines.{IsLine, FitsRoom, PutsPlaces}
+use Rattle.tc_beh.specs.RoomsOf.{IsRoomBeside, ChangesHeads}
+use Rattle.tc_beh.specs.Lines.{IsLine, FitsRoom, PutsPlaces, AreFlags, LinesAreOne}
 use Rattle.tc_beh.specs.declared.rooms.Room.{Room}
 use Rattle.tc_beh.proofs.Holding.{low_got}
 use Rattle.tc_beh.proofs.RoomRows.{flagged_at, at_flagged, flagged_ascend, flag_is, output_is, look_is}
-use Rattle.tc_beh.proofs.Behind.{head_is}
+use Rattle.tc_beh.proofs.Behind.{head_is, head_low}
+use Rattle.tc_beh.proofs.RoomLaws.{one_head, one_flag}
 
 -- the places of set flags, one flag after another
 flagged_end : (first : ℕ) (xs : List ℕ) (v : ℕ) → flagged first (xs ++ v ∷ []) ≡ flagged first xs ++ flagged (first + length xs) (v ∷ [])
@@ -178,9 +179,15 @@ module _ (first : ℕ) (old r : Room) (places outs looks : List ℕ) (same_flags
       → ChangesHeads start headed is_text is_bearing → ((k : ℕ) → (k < 2) ⊎ (2 + f0 ≤ k) → get_or placed k 0 ≡ get_or headed k 0) → PutsPlaces places first f0 placed
       → ((k : ℕ) → (k < 2 + f1) ⊎ (2 + f1 + e1 ≤ k) → get_or put k 0 ≡ get_or placed k 0) → ((i : ℕ) → i < e1 → output_at f1 put i ≡ get_or outs i 0)
       → ((k : ℕ) → k < 2 + f2 + e2 → get_or r.numbers.items k 0 ≡ get_or put k 0) → ((i : ℕ) → i < length looks → get_or r.numbers.items (2 + f2 + e2 + i) 0 ≡ get_or looks i 0)
-      → IsLine first r is_text is_bearing places outs looks
-  line_together is_text is_bearing start headed placed put f0 f1 e1 f2 e2 same0 same1 same_e1 same2 same_e2 heads keep_heads puts keep_places put_outs keep_outs put_looks =
-      is_line first r places outs looks fits_on is_text is_bearing (early 0 (omega arith) ∙ heads.head) (early 1 (omega arith) ∙ heads.bears) places_kept outs_kept looks_kept
+      → IsLine first r is_text is_bearing places outs looks × AreFlags r
+  line_together is_text is_bearing start headed placed put f0 f1 e1 f2 e2 same0 same1 same_e1 same2 same_e2 heads keep_heads puts keep_places put_outs keep_outs put_looks = (
+    is_line first r places outs looks fits_on is_text is_bearing (early 0 (omega arith) ∙ heads.head) (early 1 (omega arith) ∙ heads.bears) places_kept outs_kept looks_kept,
+    record {
+      head = head_low (get_or r.numbers.items 0 0) is_text (early 0 (omega arith) ∙ heads.head);
+      bears = head_low (get_or r.numbers.items 1 0) is_bearing (early 1 (omega arith) ∙ heads.bears);
+      flags = places_kept.each;
+    },
+  )
     where
       front : (k : ℕ) → k < 2 + r.flags → get_or r.numbers.items k 0 ≡ get_or placed k 0
       front k low = keep_outs k (omega (arith, low, same2)) ∙ keep_places k (inl (omega (arith, low, same1)))
@@ -206,3 +213,60 @@ module _ (first : ℕ) (old r : Room) (places outs looks : List ℕ) (same_flags
       looks_kept i l =
           let place : 2 + r.flags + r.entries + i ≡ 2 + f2 + e2 + i = omega (arith, same2, same_e2) in
           ap (λ k. get_or r.numbers.items k 0) place ∙ put_looks i l
+
+-- rooms of one line
+pub lines_are_one : LinesAreOne
+lines_are_one first r s is_text is_bearing places outs looks beside bits others line again = ext_get_or 0 ns ms (sym beside.count) at
+  where
+    ns : List ℕ
+    ns = r.numbers.items
+
+    ms : List ℕ
+    ms = s.numbers.items
+
+    count : length ms ≡ length ns
+    count = beside.count
+
+    set_there : places ≡ flagged first (flags_in r.flags ms)
+    set_there = subst (λ f. places ≡ flagged first (flags_in f ms)) beside.flags again.set
+
+    outs_there : outs ≡ outputs_in r.flags r.entries ms
+    outs_there = subst (λ f. outs ≡ outputs_in f r.entries ms) beside.flags (subst (λ e. outs ≡ outputs_in s.flags e ms) beside.entries again.outs)
+
+    looks_there : looks ≡ looks_in r.flags r.entries ms
+    looks_there = subst (λ f. looks ≡ looks_in f r.entries ms) beside.flags (subst (λ e. looks ≡ looks_in s.flags e ms) beside.entries again.looks)
+
+    flags_here : length (flags_in r.flags ns) ≡ r.flags
+    flags_here = length-take-le r.flags (drop 2 ns) (let n = length-drop 2 ns in let p = r.parted in omega (arith, n, p))
+
+    flags_there : length (flags_in r.flags ms) ≡ r.flags
+    flags_there = length-take-le r.flags (drop 2 ms) (let n = length-drop 2 ms in let p = r.parted in let c = count in omega (arith, n, p, c))
+
+    same_flag : (i : ℕ) → i < r.flags → flag_at ns i ≡ flag_at ms i
+    same_flag i low =
+        let here = flag_is r.flags ns i low in
+        let there = flag_is r.flags ms i low in
+        let a = flags_here in
+        let b = flags_there in
+        let p = bits.flags i low in
+        let f = beside.flags in
+        let q = others.flags i (omega (arith, low, f)) in
+        sym here
+        ∙ (one_flag first (flags_in r.flags ns) (flags_in r.flags ms) (sym line.set ∙ set_there) i (omega (arith, a, low)) (omega (arith, b, low)) (omega (arith, here, p)) (omega (arith, there, q)) ∙ there)
+
+    same_output : (i : ℕ) → i < r.entries → output_at r.flags ns i ≡ output_at r.flags ms i
+    same_output i low = sym (output_is r.flags r.entries ns i low) ∙ (ap (λ l. get_or l i 0) (sym line.outs ∙ outs_there) ∙ output_is r.flags r.entries ms i low)
+
+    same_look : (i : ℕ) → get_or ns (2 + r.flags + r.entries + i) 0 ≡ get_or ms (2 + r.flags + r.entries + i) 0
+    same_look i = sym (look_is r.flags r.entries ns i) ∙ (ap (λ l. get_or l i 0) (sym line.looks ∙ looks_there) ∙ look_is r.flags r.entries ms i)
+
+    at : (k : ℕ) → k < length ns → get_or ns k 0 ≡ get_or ms k 0
+    at zero l = one_head (get_or ns 0 0) (get_or ms 0 0) bits.head others.head (sym line.head ∙ again.head)
+    at (suc zero) l = one_head (get_or ns 1 0) (get_or ms 1 0) bits.bears others.bears (sym line.bears ∙ again.bears)
+    at (suc (suc i)) l = elim (cases_lt i r.flags) [
+      | inl low ↦ subst (λ k. get_or ns k 0 ≡ get_or ms k 0) (omega arith) (same_flag i low)
+      | inr past ↦ elim (cases_lt (i - r.flags) r.entries) [
+        | inl low ↦ subst (λ k. get_or ns k 0 ≡ get_or ms k 0) (omega (arith, past)) (same_output (i - r.flags) low)
+        | inr far ↦ subst (λ k. get_or ns k 0 ≡ get_or ms k 0) (omega (arith, past, far)) (same_look (i - r.flags - r.entries))
+      ]
+    ]

@@ -20,7 +20,7 @@ use Rattle.tc_beh.proofs.RoomRows.{flagged_at, at_flagged, flag_is, output_is, l
 use Rattle.tc_beh.proofs.RoomIs.{flags_count, outputs_count}
 
 -- flags of the whole that are tested alike
-one_head : (n m : ℕ) → n ≤ 1 → m ≤ 1 → (n == 1) ≡ (m == 1) → n ≡ m
+pub one_head : (n m : ℕ) → n ≤ 1 → m ≤ 1 → (n == 1) ≡ (m == 1) → n ≡ m
 one_head n m a b e = by (cases_eq n 1) (cases_eq m 1)
   where
     by : (n ≡ 1) ⊎ (n ≡ 1 → ⊥) → (m ≡ 1) ⊎ (m ≡ 1 → ⊥) → n ≡ m
@@ -35,7 +35,7 @@ set_too first fs gs e i low one =
     let (k, there, set, at) = flagged_at first gs (first + i) (subst (λ l. Has l (first + i)) e (at_flagged first fs i low one)) in
     subst (λ j. get_or gs j 0 ≡ 1) (omega (arith, at)) set
 
-one_flag : (first : ℕ) (fs gs : List ℕ) → flagged first fs ≡ flagged first gs → (i : ℕ) → i < length fs → i < length gs → get_or fs i 0 ≤ 1 → get_or gs i 0 ≤ 1 → get_or fs i 0 ≡ get_or gs i 0
+pub one_flag : (first : ℕ) (fs gs : List ℕ) → flagged first fs ≡ flagged first gs → (i : ℕ) → i < length fs → i < length gs → get_or fs i 0 ≤ 1 → get_or gs i 0 ≤ 1 → get_or fs i 0 ≡ get_or gs i 0
 one_flag first fs gs e i low there a b = by (cases_eq (get_or fs i 0) 1) (cases_eq (get_or gs i 0) 1)
   where
     by : (get_or fs i 0 ≡ 1) ⊎ (get_or fs i 0 ≡ 1 → ⊥) → (get_or gs i 0 ≡ 1) ⊎ (get_or gs i 0 ≡ 1 → ⊥) → get_or fs i 0 ≡ get_or gs i 0

@@ -21,7 +21,7 @@ mod rows;
 mod sets;
 mod templates;
 
-pub use laws::law_of_rooms;
+pub use laws::{law_of_lines, law_of_rooms};
 pub use machine::{Machine, MachineFault, Shape};
 pub use outputs::RowFault;
 pub use rooms::{HRow, TRow};

@@ -1,9 +1,9 @@
 // Rows as lines of a certificate.
 ghost use Rattle.std.specs.Prelude.{◌≡◌, ◌<◌, ◌≤◌, ◌+◌, ◌++◌, ◌∷◌, [], ◌⊎◌, ◌==◌, ℕ, length, get_or, All, IfOk, OnOk};
 ghost use Rattle.std.specs.List.{Contains};
-ghost use Rattle.tc_beh.specs.Rooms.{flagged, flag_at, flags_in, output_at};
+ghost use Rattle.tc_beh.specs.Rooms.{flagged, output_at};
 ghost use Rattle.tc_beh.specs.RoomsOf.{IsRoomBeside};
-ghost use Rattle.tc_beh.specs.Lines.{IsLine, FitsRoom, PutsPlaces};
+ghost use Rattle.tc_beh.specs.Lines.{IsLine, FitsRoom, PutsPlaces, AreFlags};
 
 use crate::rooms::{HRow, Room, TRow};
 use std::alloc::Global;
@@ -96,7 +96,7 @@ fn put_line(
     requires fits { FitsRoom first out.old places.now outputs.now looks.now }
     ensures beside { IsRoomBeside out.old out.new }
     ensures line { IsLine first out.new is_text bears places.now outputs.now looks.now }
-    ensures flags { (i : ℕ) → i < out.old.flags → flag_at out.new.numbers.items i ≤ 1 }
+    ensures flags { AreFlags out.new }
 {
     out.set_heads(is_text, bears);
     put_places(places, first, out);
@@ -105,10 +105,9 @@ fn put_line(
 }
 
 impl HRow {
-    ghost use Rattle.std.specs.Prelude.{◌≡◌, ◌<◌, ◌≤◌, ℕ, IfOk};
-    ghost use Rattle.tc_beh.specs.Rooms.{flag_at};
+    ghost use Rattle.std.specs.Prelude.{◌≤◌, IfOk};
     ghost use Rattle.tc_beh.specs.RoomsOf.{IsRoomBeside};
-    ghost use Rattle.tc_beh.specs.Lines.{IsLine, FitsRoom};
+    ghost use Rattle.tc_beh.specs.Lines.{IsLine, FitsRoom, AreFlags};
 
     /// The row as a line of a certificate.
     ///
@@ -136,7 +135,7 @@ impl HRow {
         requires { FitsRoom 0 self.old.room line.now.states line.now.outs line.now.looks }
         ensures beside { IsRoomBeside self.old.room self.new.room }
         ensures line { IsLine 0 self.new.room line.now.ends line.now.bears line.now.states line.now.outs line.now.looks }
-        ensures flags { (i : ℕ) → i < self.old.room.flags → flag_at self.new.room.numbers.items i ≤ 1 }
+        ensures flags { AreFlags self.new.room }
     {
         put_line(
             0,
@@ -151,10 +150,9 @@ impl HRow {
 }
 
 impl TRow {
-    ghost use Rattle.std.specs.Prelude.{◌≡◌, ◌<◌, ◌≤◌, ℕ, IfOk};
-    ghost use Rattle.tc_beh.specs.Rooms.{flag_at};
+    ghost use Rattle.std.specs.Prelude.{◌≤◌, IfOk};
     ghost use Rattle.tc_beh.specs.RoomsOf.{IsRoomBeside};
-    ghost use Rattle.tc_beh.specs.Lines.{IsLine, FitsRoom};
+    ghost use Rattle.tc_beh.specs.Lines.{IsLine, FitsRoom, AreFlags};
 
     /// The row as a line of a certificate.
     ///
@@ -182,7 +180,7 @@ impl TRow {
         requires { FitsRoom 1 self.old.room line.now.patterns line.now.outs line.now.looks }
         ensures beside { IsRoomBeside self.old.room self.new.room }
         ensures line { IsLine 1 self.new.room line.now.text line.now.bears line.now.patterns line.now.outs line.now.looks }
-        ensures flags { (i : ℕ) → i < self.old.room.flags → flag_at self.new.room.numbers.items i ≤ 1 }
+        ensures flags { AreFlags self.new.room }
     {
         put_line(
             1,
