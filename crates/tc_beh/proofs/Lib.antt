@@ -33,3 +33,4 @@ pub mod RoomLaws
 pub mod Appends
 pub mod Together
 pub mod InOrder
+pub mod SameParts
