@@ -27,3 +27,6 @@ pub mod Emptied
 pub mod RoomLaws
 pub mod Appends
 pub mod Together
+pub mod Admitting
+pub mod Surrounding
+pub mod Finding

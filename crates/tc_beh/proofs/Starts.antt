@@ -12,7 +12,8 @@ use Rattle.tc_rows.specs.PairSets.{PairSet, HaveSamePairs, identity, product, ch
 use Rattle.tc_rows.specs.Rows.{entry, bears_value}
 use Rattle.tc_rows.specs.Bodies.{NodeKind, on_root, on_element, on_text, Below, body_pairs, branch_pairs, holds_by, stay, around, text_edges, copied_pairs, self_bears}
 use Rattle.tc_beh.specs.Putting.{has}
-use Rattle.tc_beh.specs.Places.{IsPlaceIn, kind_of, below_at, below_of, entries_by, pairs_of, no_matrix}
+use Rattle.tc_beh.specs.Places.{kind_of, below_at, below_of, entries_by, pairs_of, no_matrix}
+use Rattle.tc_beh.specs.Grounds.{IsGroundIn}
 use Rattle.tc_beh.specs.declared.bodies.Place.{Place}
 use Rattle.tc_beh.proofs.Pairs.{listed_pairs}
 
@@ -73,7 +74,7 @@ module _ (x : Triple) where
       branches_start (p_branch t b y) i j h = chosen_starts (outputs x) (holds_by t w.look) (body_pairs x b k w) (branch_pairs x y k w) (starts b) (branches_start y) i j h
 
 -- what is put of what stands below a node
-pub below_starts : (x : Triple) (p : Place) → IsPlaceIn x p → (mode : ℕ) (w : Path) → StartsBelow (outputs x) ((below_of x p).pairs mode w)
+pub below_starts : (x : Triple) (p : Place) → IsGroundIn x p → (mode : ℕ) (w : Path) → StartsBelow (outputs x) ((below_of x p).pairs mode w)
 below_starts x p is mode w = by (kind_of p.node)
   where
     from : (y : ℕ) → StartsBelow (outputs x) (chosen (nat_lt y (moves x)) (listed (entry x (entries_by p.outputs.now.matrices p.entries.now) p.above y)) (stay x))

@@ -15,3 +15,5 @@ pub mod RowsOf
 pub mod Outs
 pub mod Emptying
 pub mod RoomLaws
+pub mod Around
+pub mod LooksAbove
