@@ -30,3 +30,7 @@ pub mod Together
 pub mod Admitting
 pub mod Surrounding
 pub mod Finding
+pub mod Deepest
+pub mod Hitting
+pub mod Nodes
+pub mod Coming

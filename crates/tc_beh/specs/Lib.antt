@@ -17,3 +17,5 @@ pub mod Emptying
 pub mod RoomLaws
 pub mod Around
 pub mod LooksAbove
+pub mod Above
+pub mod Entries

@@ -5,10 +5,12 @@
 //! (`tc_rows`). Finding rows is to come.
 #![tactic(auto)]
 
+mod above;
 mod append;
 mod bodies;
 mod calls;
 mod empty;
+mod entries;
 mod laws;
 mod looks;
 mod looks_above;
