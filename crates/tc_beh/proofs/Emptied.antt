@@ -1,5 +1,5 @@
 -- The numbers of no tree, seen as a row.
-use Rattle.std.proofs.Common.{◌≡◌, ◌<◌, ◌≤◌, ◌⊎◌, inl, inr, ◌+◌, ◌↔◌, ◌==◌, [], ℕ, suc, List, length, get_or, map, false, subst, sym, ap, ◌∙◌, refl, arith}
+use Rattle.std.proofs.Common.{◌≡◌, ◌<◌, ◌≤◌, ◌⊎◌, inl, inr, ◌+◌, ◌-◌, ◌↔◌, ◌==◌, [], ℕ, suc, List, length, get_or, map, false, subst, sym, ap, ◌∙◌, refl, arith}
 use Rattle.std.specs.List.{Contains}
 use Rattle.std.proofs.lemmas.List.{length-map}
 use Rattle.std.proofs.lemmas.Bool.{cases_eq, cases_lt}
@@ -17,6 +17,7 @@ use Rattle.tc_rows.specs.Rows.{HedgeRow}
 use Rattle.tc_rows.specs.Bodies.{stay}
 use Rattle.tc_rows.specs.Arithmetic.{IsEmptyRow}
 use Rattle.tc_rows.proofs.PairLaws.{same_back, same_on}
+use Rattle.tc_rows.proofs.Sets.{past}
 use Rattle.tc_beh.specs.Putting.{has}
 use Rattle.tc_beh.specs.Places.{pairs_of, no_matrix}
 use Rattle.tc_beh.specs.Held.{Extends, set_at}
@@ -59,6 +60,13 @@ one_first a count to old new first here others is = record {
       | inl b ↦ elim (at j) [ inl one ↦ one | inr same ↦ same ∙ (is.exact side x st j l).1 (k, from, omega (arith, b), e) ]
       | inr b ↦ ap (λ i. flag_at new i) (e ∙ (ap (λ i. first_state x side i) (omega (arith, low, b)) ∙ sym (first side x st))) ∙ here
     ]
+
+-- a value for each look, and none past these
+pub all_looks : (ns : List ℕ) (start place : ℕ) → length ns ≤ start + place → ((i : ℕ) → i < place → get_or ns (start + i) 0 ≡ 0) → (k : ℕ) → start ≤ k → get_or ns k 0 ≡ 0
+all_looks ns start place end none k from = elim (cases_lt (k - start) place) [
+  | inl l ↦ subst (λ i. get_or ns i 0 ≡ 0) (omega (arith, from)) (none (k - start) l)
+  | inr l ↦ past ns k 0 (omega (arith, l, end, from))
+]
 
 module _ (x : Triple) (a : Auto) (stands : Stands input x.input a) where
   abbrev n : ℕ

@@ -34,3 +34,4 @@ pub mod Deepest
 pub mod Hitting
 pub mod Nodes
 pub mod Coming
+pub mod InOrder

@@ -87,7 +87,7 @@ module _ (s : Layout) (h : Held) (ns ms : List ℕ) (different : AreDifferent h)
       at zero l = one_head (get_or ns 0 0) (get_or ms 0 0) one.head other.head head
       at (suc zero) l = one_head (get_or ns 1 0) (get_or ms 1 0) one.bears other.bears bears
       at (suc (suc i)) l = elim (cases_lt i s.flags) [
-        | inl low ↦ same_flags first flags i low
+        | inl low ↦ subst (λ k. get_or ns k 0 ≡ get_or ms k 0) (omega arith) (same_flags first flags i low)
         | inr past ↦ elim (cases_lt (i - s.flags) s.entries) [
           | inl low ↦ subst (λ k. get_or ns k 0 ≡ get_or ms k 0) (omega (arith, past)) (same_outputs outs (i - s.flags) low)
           | inr far ↦

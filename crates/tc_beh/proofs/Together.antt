@@ -17,6 +17,10 @@ pub on_err_map : {X E : Type 0} (r : Result X E) (P Q : Type 0) → (P → Q) �
 on_err_map (Ok x) P Q f p = tt
 on_err_map (Err e) P Q f p = f p
 
+pub on_ok_both : {X E : Type 0} (r : Result X E) (P Q R : Type 0) → OnOk r P → OnOk r Q → (P → Q → R) → OnOk r R
+on_ok_both (Ok x) P Q R p q f = f p q
+on_ok_both (Err e) P Q R p q f = tt
+
 pub or_true : (a b : Bool) → a ≡ true → (a || b) ≡ true
 or_true true b e = refl
 or_true false b e = absurd (cc)

@@ -19,3 +19,4 @@ pub mod Around
 pub mod LooksAbove
 pub mod Above
 pub mod Entries
+pub mod Listing

@@ -12,6 +12,7 @@ mod calls;
 mod empty;
 mod entries;
 mod laws;
+mod lists;
 mod looks;
 mod looks_above;
 mod machine;

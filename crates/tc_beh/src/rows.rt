@@ -7,12 +7,14 @@ ghost use Rattle.tc_rows.specs.Triples.{Triple};
 
 use crate::append::{put_append, put_kind};
 use crate::empty::put_empty;
+use crate::lists::{lists_of, pool_of};
 use crate::machine::Machine;
 use crate::outputs::RowFault;
 use crate::rooms::{HRow, TRow};
 use std::alloc::Global;
 use tc_base::NoMemory;
 use tc_mat::{Mat, Pool};
+use tc_model::PairLists;
 
 /// What rows over one machine are worked out in: the sets of pairs that stand in rows, each with a number, and room.
 #[derive(Drop)]
@@ -80,7 +82,11 @@ impl<'m, 'b> Rows<'m, 'b> {
     ghost use Rattle.tc_beh.specs.Rooms.{hedge_layout, output_at};
     ghost use Rattle.tc_beh.specs.RoomsOf.{IsRoomOf, IsRoomBeside};
     ghost use Rattle.tc_beh.specs.Held.{Extends, Grows};
-    ghost use Rattle.tc_beh.specs.Outs.{GrowsBy, IsLeftOut};
+    ghost use Rattle.tc_mat.specs.Held.{AreDifferent};
+    ghost use Rattle.tc_rows.specs.Triples.{outputs as output_states};
+    ghost use Rattle.tc_rows.specs.PairSets.{IsPairs};
+    ghost use Rattle.tc_beh.specs.Listing.{AreDistinct};
+    ghost use Rattle.tc_beh.specs.Outs.{sets_of, GrowsBy, IsLeftOut};
     ghost use Rattle.tc_rows.specs.Rows.{HedgeRow};
     ghost use Rattle.tc_beh.specs.RowsOf.{AreRows, AreRowsOf, AreSameRows, StandsForHedge, StandsForTree, hedge_of, tree_of};
 
@@ -104,6 +110,55 @@ impl<'m, 'b> Rows<'m, 'b> {
             outputs,
             work,
         })
+    }
+
+    /// Rows over these sets of pairs alone, each with its place as its number.
+    ///
+    /// # Errors
+    ///
+    /// There is no memory for the room or for the sets.
+    pub fn fixed(
+        alloc: Global,
+        machine: &'m Machine<'b>,
+        outputs: &PairLists,
+    ) -> Result<Rows<'m, 'b>, NoMemory>
+        requires machine { IsMachine machine.now }
+        requires few { length outputs.now ≤ 65536 }
+        requires distinct { AreDistinct outputs.now }
+        requires pairs { (x : Triple) → IsMachineOf x machine.now → All (IsPairs (output_states x)) outputs.now }
+        ensures stands { IfOk result (λ r. (x : Triple) → IsMachineOf x machine.now → AreRowsOf x r) }
+        ensures sets { IfOk result (λ r. sets_of r.outputs.matrices ≡ outputs.now) }
+        ensures fixed { IfOk result (λ r. r.is_fixed ≡ true) }
+        ensures machine { IfOk result (λ r. r.machine.now ≡ machine.now) }
+    {
+        let outputs = pool_of(alloc, machine.output.auto().states(), outputs)?;
+        let work = Work::new(alloc, machine)?;
+        Ok(Rows {
+            machine,
+            is_fixed: true,
+            outputs,
+            work,
+        })
+    }
+
+    /// How many sets of pairs are held, at most 65,536, none of them twice.
+    pub fn output_count(&self) -> u32
+        ensures count { result ≡ length self.now.outputs.matrices }
+        ensures few { result ≤ 65536 }
+        ensures different { AreDifferent self.now.outputs }
+    {
+        self.outputs.len()
+    }
+
+    /// The sets of pairs that are held, by their numbers, the pairs of each in order.
+    ///
+    /// # Errors
+    ///
+    /// There is no memory for the lists, or no room for the pairs of a set in one.
+    pub fn outputs(&self, alloc: Global) -> Result<PairLists, NoMemory>
+        ensures { IfOk result (λ l. l ≡ sets_of self.now.outputs.matrices) }
+    {
+        lists_of(alloc, &self.outputs)
     }
 
     /// The machine.
