@@ -35,3 +35,7 @@ pub mod Hitting
 pub mod Nodes
 pub mod Coming
 pub mod InOrder
+pub mod LeftOut
+pub mod TreeRows
+pub mod Wrapped
+pub mod WrapRows

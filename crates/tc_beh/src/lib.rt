@@ -24,6 +24,7 @@ mod root;
 mod rows;
 mod sets;
 mod templates;
+mod wrapping;
 
 pub use laws::law_of_rooms;
 pub use machine::{Machine, MachineFault, Shape};
