@@ -5,10 +5,12 @@
 //! (`tc_rows`). Finding rows is to come.
 #![tactic(auto)]
 
+mod above;
 mod append;
 mod bodies;
 mod calls;
 mod empty;
+mod entries;
 mod laws;
 mod lists;
 mod looks;
@@ -22,6 +24,7 @@ mod root;
 mod rows;
 mod sets;
 mod templates;
+mod wrapping;
 
 pub use laws::law_of_rooms;
 pub use machine::{Machine, MachineFault, Shape};
