@@ -45,3 +45,4 @@ pub mod LeftOut
 pub mod TreeRows
 pub mod Wrapped
 pub mod WrapRows
+pub mod Lining

@@ -1,20 +1,18 @@
 -- Rooms over one set of what is held: equal rows have equal numbers, and stand where more is held.
-use Rattle.std.proofs.Common.{◌≡◌, ◌<◌, ◌≤◌, ◌⊎◌, inl, inr, ◌+◌, ◌-◌, ◌↔◌, ◌==◌, [], ◌∷◌, ℕ, zero, suc, List, length, get_or, map, take, drop, Bool, true, false, Some, slice_get, subst, sym, ap, ◌∙◌, refl, arith, eq-eqb, eqb-true}
+use Rattle.std.proofs.Common.{◌≡◌, ◌<◌, ◌≤◌, ◌⊎◌, inl, inr, ◌+◌, ◌-◌, ◌==◌, [], ℕ, zero, suc, List, length, get_or, subst, sym, ap, ◌∙◌, arith, eq-eqb, eqb-true}
 use Rattle.std.proofs.lemmas.List.{ext_get_or, get_or-map, length-map}
 use Rattle.std.proofs.lemmas.Bool.{cases_eq, cases_lt}
 use Rattle.std.proofs.lemmas.Option.{slice_get-get_or}
 use Rattle.tc_alpha.proofs.Members.{Has}
-use Rattle.tc_model.specs.States.{input, state_count}
 use Rattle.tc_mat.specs.Matrix.{Matrix}
 use Rattle.tc_mat.specs.Held.{Held, AreDifferent}
-use Rattle.tc_rows.specs.Triples.{Triple, entries}
 use Rattle.tc_rows.specs.PairSets.{HaveSamePairs, listed}
 use Rattle.tc_rows.specs.Rows.{HedgeRow, TreeRow}
 use Rattle.tc_rows.proofs.PairLaws.{same_back, same_on}
 use Rattle.tc_beh.specs.Putting.{has}
 use Rattle.tc_beh.specs.Places.{pairs_of, entries_by, no_matrix}
 use Rattle.tc_beh.specs.Held.{Extends, set_at}
-use Rattle.tc_beh.specs.Rooms.{Layout, count_of, hedge_layout, tree_layout, flag_at, output_at, flagged, flags_in, outputs_in, looks_in, IsRoom, hedge_row, tree_row}
+use Rattle.tc_beh.specs.Rooms.{Layout, hedge_layout, tree_layout, flag_at, output_at, flagged, flags_in, outputs_in, looks_in, IsRoom, hedge_row, tree_row}
 use Rattle.tc_beh.specs.RoomLaws.{RoomsAreLawful}
 use Rattle.tc_beh.proofs.Holding.{extends_at, extends_count}
 use Rattle.tc_beh.proofs.Pairs.{listed_pairs}

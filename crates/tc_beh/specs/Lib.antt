@@ -23,3 +23,4 @@ pub mod LooksAbove
 pub mod Above
 pub mod Entries
 pub mod Listing
+pub mod Lines

@@ -2,7 +2,7 @@
 //! bodies put out on a node.
 //!
 //! The row of a tree or of a list of trees tells where it may stand in the input, and what a stylesheet makes of it in each place
-//! (`tc_rows`). Finding rows is to come.
+//! (`tc_rows`). Rows of texts and of elements are to come.
 #![tactic(auto)]
 
 mod above;
@@ -12,6 +12,7 @@ mod calls;
 mod empty;
 mod entries;
 mod laws;
+mod lines;
 mod lists;
 mod looks;
 mod looks_above;
