@@ -12,8 +12,15 @@ pub mod RoomsOf
 pub mod Held
 pub mod Appending
 pub mod RowsOf
+pub mod Around
+pub mod LooksAbove
+pub mod Roots
 pub mod Outs
 pub mod Emptying
 pub mod RoomLaws
+pub mod Around
+pub mod LooksAbove
+pub mod Above
+pub mod Entries
 pub mod Listing
 pub mod Lines

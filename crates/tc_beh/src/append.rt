@@ -27,7 +27,7 @@ fn takes(is_text: bool, patterns: &[u32], leaf: Leaf) -> bool
 }
 
 /// Whether a flag is set.
-fn is_set(flags: &[u32], place: usize) -> bool
+pub(crate) fn is_set(flags: &[u32], place: usize) -> bool
     ensures { IsTrue result ↔ (get_or flags.now place 0 ≡ 1) }
 {
     match flags.get(place) {
@@ -67,7 +67,7 @@ fn put_states(auto: &Auto<'_>, hedge: &[u32], is_text: bool, patterns: &[u32], o
 }
 
 /// Whether some flag is set.
-fn has_flag(flags: &[u32]) -> bool
+pub(crate) fn has_flag(flags: &[u32]) -> bool
     ensures { IsTrue result ↔ Contains flags.now 1 }
 {
     flags.contains(&1)

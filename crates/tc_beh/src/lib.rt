@@ -5,21 +5,27 @@
 //! (`tc_rows`). Rows of texts and of elements are to come.
 #![tactic(auto)]
 
+mod above;
 mod append;
 mod bodies;
 mod calls;
 mod empty;
+mod entries;
 mod laws;
 mod lines;
 mod lists;
 mod looks;
+mod looks_above;
 mod machine;
 mod named;
 mod outputs;
+mod patterns;
 mod rooms;
+mod root;
 mod rows;
 mod sets;
 mod templates;
+mod wrapping;
 
 pub use laws::{law_of_lines, law_of_rooms};
 pub use machine::{Machine, MachineFault, Shape};
