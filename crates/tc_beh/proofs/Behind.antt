@@ -1,25 +1,22 @@
 -- What an append leaves, seen as a row.
-use Rattle.std.proofs.Common.{◌≡◌, ◌<◌, ◌≤◌, ◌⊎◌, inl, inr, ◌+◌, ◌↔◌, ◌==◌, ◌||◌, [], ℕ, List, length, get_or, Bool, true, false, if◌then◌else◌, subst, sym, ap, ◌∙◌, refl, arith}
+use Rattle.std.proofs.Common.{◌≡◌, ◌<◌, ◌≤◌, ◌+◌, ◌==◌, ◌||◌, [], ℕ, List, length, get_or, Bool, true, false, if◌then◌else◌, subst, sym, ap, ◌∙◌, arith}
 use Rattle.tc_model.specs.States.{input, state_count}
 use Rattle.tc_auto.specs.Stands.{Stands, states}
 use Rattle.tc_auto.specs.declared.auto.Auto.{Auto}
-use Rattle.tc_mat.specs.Matrix.{Matrix}
 use Rattle.tc_mat.specs.Held.{Held, AreMatrices}
 use Rattle.tc_rows.specs.Triples.{Triple, outputs, entries, looks}
 use Rattle.tc_rows.specs.PairSets.{HaveSamePairs, product, listed}
 use Rattle.tc_rows.specs.Rows.{or_hit, HedgeRow}
 use Rattle.tc_rows.specs.Arithmetic.{IsAppend}
-use Rattle.tc_rows.proofs.PairLaws.{same_self, same_on}
-use Rattle.tc_beh.specs.Places.{pairs_of, entries_by, no_matrix}
+use Rattle.tc_beh.specs.Places.{pairs_of}
 use Rattle.tc_beh.specs.Held.{Extends, IsNew, AreProducts, set_at}
 use Rattle.tc_beh.specs.Outs.{IsLeftOut, GrowsBy}
-use Rattle.tc_beh.specs.Rooms.{Layout, count_of, hedge_layout, tree_layout, flag_at, output_at, flags_in, outputs_in, looks_in, IsRoom, hedge_row, tree_row}
+use Rattle.tc_beh.specs.Rooms.{count_of, hedge_layout, tree_layout, flag_at, output_at, flags_in, looks_in, IsRoom, hedge_row, tree_row}
 use Rattle.tc_beh.specs.Appending.{Puts, IsBehind}
-use Rattle.tc_beh.proofs.Holding.{extends_at}
-use Rattle.tc_beh.proofs.RoomRows.{output_is, look_is, flag_is}
+use Rattle.tc_beh.proofs.RoomRows.{look_is}
 use Rattle.tc_beh.proofs.RoomIs.{flags_count, outputs_count, entry_at, is_hedge_row, composed}
 use Rattle.tc_beh.proofs.Appended.{states_appended}
-use Rattle.tc_beh.proofs.Held.{sizes_of, matrices_before, grows_by_products, product_left_out}
+use Rattle.tc_beh.proofs.Held.{sizes_of, grows_by_products, product_left_out}
 
 -- flags of the whole
 pub head_is : (n : ℕ) (b : Bool) → n ≡ (if b then 1 else 0) → (n == 1) ≡ b

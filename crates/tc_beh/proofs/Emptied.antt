@@ -1,5 +1,5 @@
 -- The numbers of no tree, seen as a row.
-use Rattle.std.proofs.Common.{◌≡◌, ◌<◌, ◌≤◌, ◌⊎◌, inl, inr, ◌+◌, ◌-◌, ◌↔◌, ◌==◌, [], ℕ, suc, List, length, get_or, map, false, subst, sym, ap, ◌∙◌, refl, arith}
+use Rattle.std.proofs.Common.{◌≡◌, ◌<◌, ◌≤◌, ◌⊎◌, inl, inr, ◌+◌, ◌-◌, ◌↔◌, ◌==◌, [], ℕ, List, length, get_or, subst, sym, ap, ◌∙◌, arith}
 use Rattle.std.specs.List.{Contains}
 use Rattle.std.proofs.lemmas.List.{length-map}
 use Rattle.std.proofs.lemmas.Bool.{cases_eq, cases_lt}
@@ -9,20 +9,19 @@ use Rattle.tc_model.specs.States.{Side, input, state_count, first_state}
 use Rattle.tc_auto.specs.Stands.{Stands, states, patterns}
 use Rattle.tc_auto.specs.declared.auto.Auto.{Auto}
 use Rattle.tc_auto.proofs.Bounds.{begun_below}
-use Rattle.tc_mat.specs.Matrix.{Matrix, IsIdentity}
 use Rattle.tc_mat.specs.Held.{Held, AreMatrices}
-use Rattle.tc_rows.specs.Triples.{Triple, outputs, entries, looks}
-use Rattle.tc_rows.specs.PairSets.{HaveSamePairs, identity, listed}
+use Rattle.tc_rows.specs.Triples.{Triple, outputs, entries}
+use Rattle.tc_rows.specs.PairSets.{HaveSamePairs, listed}
 use Rattle.tc_rows.specs.Rows.{HedgeRow}
 use Rattle.tc_rows.specs.Bodies.{stay}
 use Rattle.tc_rows.specs.Arithmetic.{IsEmptyRow}
 use Rattle.tc_rows.proofs.PairLaws.{same_back, same_on}
 use Rattle.tc_rows.proofs.Sets.{past}
 use Rattle.tc_beh.specs.Putting.{has}
-use Rattle.tc_beh.specs.Places.{pairs_of, no_matrix}
-use Rattle.tc_beh.specs.Held.{Extends, set_at}
+use Rattle.tc_beh.specs.Places.{pairs_of}
+use Rattle.tc_beh.specs.Held.{set_at}
 use Rattle.tc_beh.specs.Outs.{IsLeftOut, GrowsBy}
-use Rattle.tc_beh.specs.Rooms.{count_of, hedge_layout, flag_at, output_at, flagged, flags_in, looks_in, IsRoom, hedge_row}
+use Rattle.tc_beh.specs.Rooms.{count_of, hedge_layout, flag_at, output_at, flagged, flags_in, IsRoom, hedge_row}
 use Rattle.tc_beh.specs.Emptying.{PutsFirst, IsOfNoTree, IsNewIdentity}
 use Rattle.tc_beh.proofs.Holding.{extends_self}
 use Rattle.tc_beh.proofs.Pairs.{listed_pairs}

@@ -1,5 +1,5 @@
 -- What is held: its sizes, and what a row adds or can't add to it.
-use Rattle.std.proofs.Common.{◌≡◌, ◌<◌, ◌≤◌, ◌+◌, ◌++◌, [], ℕ, List, length, get_or, map, Some, None, slice_get, subst, sym, ap, ◌∙◌, refl, arith}
+use Rattle.std.proofs.Common.{◌≡◌, ◌<◌, ◌+◌, [], ℕ, List, length, get_or, Some, subst, sym, ap, ◌∙◌, arith}
 use Rattle.std.specs.List.{Contains}
 use Rattle.std.proofs.lemmas.List.{get_or_append_left, get_or_default, get_or-map, length-append, length-map}
 use Rattle.std.proofs.lemmas.List.Elements.{Contains-get_or, All-get_or}

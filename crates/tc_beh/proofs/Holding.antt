@@ -1,5 +1,5 @@
 -- How what is held grows by one set more.
-use Rattle.std.proofs.Common.{◌∷◌, Result, Ok, Err, IfOk, OnErr, Some, None, slice_get, ◌≡◌, ◌≢◌, ◌<◌, ◌≤◌, ◌⊎◌, inl, inr, ◌+◌, ◌++◌, [], ℕ, suc, List, length, get_or, subst, sym, ap, ◌∙◌, refl, arith}
+use Rattle.std.proofs.Common.{◌∷◌, Result, Ok, Err, IfOk, OnErr, Some, None, slice_get, ◌≡◌, ◌<◌, ◌≤◌, ◌⊎◌, inl, inr, ◌+◌, ◌++◌, [], ℕ, List, length, get_or, subst, sym, ap, ◌∙◌, refl, arith}
 use Rattle.std.proofs.lemmas.List.{get_or_append_left, append-nil, append_assoc, length-append}
 use Rattle.std.proofs.lemmas.Option.{slice_get_cases, get_or_from_slice_get}
 use Rattle.std.proofs.lemmas.Bool.{cases_lt}

@@ -1,16 +1,16 @@
 -- Sets of pairs as lists, one pair and one set after another.
-use Rattle.std.proofs.Common.{◌≡◌, ◌<◌, ◌≤◌, ◌⊎◌, inl, inr, ◌+◌, ◌↔◌, ◌==◌, ◌++◌, ◌∷◌, [], ℕ, zero, suc, List, length, get_or, map, filter, flat_map, take, Bool, true, false, IsTrue, Some, slice_get, if◌then◌else◌, subst, sym, ap, ◌∙◌, refl, arith, eq-eqb, eqb-true, All}
+use Rattle.std.proofs.Common.{◌≡◌, ◌<◌, ◌≤◌, inl, inr, ◌+◌, ◌↔◌, ◌++◌, ◌∷◌, [], ℕ, suc, List, length, get_or, map, filter, flat_map, take, Bool, true, false, Some, slice_get, if◌then◌else◌, sym, ap, ◌∙◌, refl, arith, eq-eqb, eqb-true}
 use Rattle.std.specs.List.{Contains}
-use Rattle.std.proofs.lemmas.List.{append-nil, append_assoc, length-append, length-map, get_or-map, get_or-take, map-append, length-take-le}
-use Rattle.std.proofs.lemmas.List.Elements.{filter-append, All-get_or}
+use Rattle.std.proofs.lemmas.List.{append-nil, append_assoc, length-map, get_or-map, get_or-take, map-append, length-take-le}
+use Rattle.std.proofs.lemmas.List.Elements.{filter-append}
 use Rattle.std.proofs.lemmas.Grind.{flat_map-append}
 use Rattle.std.proofs.lemmas.Bool.{cases_lt}
-use Rattle.std.proofs.lemmas.Option.{slice_get_cases, get_or_from_slice_get}
+use Rattle.std.proofs.lemmas.Option.{get_or_from_slice_get}
 use Rattle.std.proofs.Math.Seq.{take-suc}
 use Rattle.tc_model.specs.Numbered.{numbers_below}
-use Rattle.tc_mat.specs.Matrix.{Matrix, HasPair, HasNone, Gains, bit_of}
+use Rattle.tc_mat.specs.Matrix.{Matrix, HasPair, HasNone, Gains}
 use Rattle.tc_mat.specs.Held.{Held, IsHeld}
-use Rattle.tc_rows.specs.PairSets.{HaveSamePairs, IsPairs, listed}
+use Rattle.tc_rows.specs.PairSets.{IsPairs, listed}
 use Rattle.tc_rows.proofs.PairLaws.{same_back, same_on}
 use Rattle.tc_rows.proofs.Ascending.{one_pair_set}
 use Rattle.tc_beh.specs.Putting.{has}

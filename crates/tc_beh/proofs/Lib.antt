@@ -32,4 +32,17 @@ pub mod Emptied
 pub mod RoomLaws
 pub mod Appends
 pub mod Together
+pub mod Admitting
+pub mod Surrounding
+pub mod Finding
+pub mod Deepest
+pub mod Hitting
+pub mod Nodes
+pub mod Coming
 pub mod InOrder
+pub mod SameParts
+pub mod LeftOut
+pub mod TreeRows
+pub mod Wrapped
+pub mod WrapRows
+pub mod Lining

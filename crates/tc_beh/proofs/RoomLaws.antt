@@ -1,20 +1,18 @@
 -- Rooms over one set of what is held: equal rows have equal numbers, and stand where more is held.
-use Rattle.std.proofs.Common.{◌≡◌, ◌<◌, ◌≤◌, ◌⊎◌, inl, inr, ◌+◌, ◌-◌, ◌↔◌, ◌==◌, [], ◌∷◌, ℕ, zero, suc, List, length, get_or, map, take, drop, Bool, true, false, Some, slice_get, subst, sym, ap, ◌∙◌, refl, arith, eq-eqb, eqb-true}
+use Rattle.std.proofs.Common.{◌≡◌, ◌<◌, ◌≤◌, ◌⊎◌, inl, inr, ◌+◌, ◌-◌, ◌==◌, [], ℕ, zero, suc, List, length, get_or, subst, sym, ap, ◌∙◌, arith, eq-eqb, eqb-true}
 use Rattle.std.proofs.lemmas.List.{ext_get_or, get_or-map, length-map}
 use Rattle.std.proofs.lemmas.Bool.{cases_eq, cases_lt}
 use Rattle.std.proofs.lemmas.Option.{slice_get-get_or}
 use Rattle.tc_alpha.proofs.Members.{Has}
-use Rattle.tc_model.specs.States.{input, state_count}
 use Rattle.tc_mat.specs.Matrix.{Matrix}
 use Rattle.tc_mat.specs.Held.{Held, AreDifferent}
-use Rattle.tc_rows.specs.Triples.{Triple, entries}
 use Rattle.tc_rows.specs.PairSets.{HaveSamePairs, listed}
 use Rattle.tc_rows.specs.Rows.{HedgeRow, TreeRow}
 use Rattle.tc_rows.proofs.PairLaws.{same_back, same_on}
 use Rattle.tc_beh.specs.Putting.{has}
 use Rattle.tc_beh.specs.Places.{pairs_of, entries_by, no_matrix}
 use Rattle.tc_beh.specs.Held.{Extends, set_at}
-use Rattle.tc_beh.specs.Rooms.{Layout, count_of, hedge_layout, tree_layout, flag_at, output_at, flagged, flags_in, outputs_in, looks_in, IsRoom, hedge_row, tree_row}
+use Rattle.tc_beh.specs.Rooms.{Layout, hedge_layout, tree_layout, flag_at, output_at, flagged, flags_in, outputs_in, looks_in, IsRoom, hedge_row, tree_row}
 use Rattle.tc_beh.specs.RoomLaws.{RoomsAreLawful}
 use Rattle.tc_beh.proofs.Holding.{extends_at, extends_count}
 use Rattle.tc_beh.proofs.Pairs.{listed_pairs}
@@ -22,7 +20,7 @@ use Rattle.tc_beh.proofs.RoomRows.{flagged_at, at_flagged, flag_is, output_is, l
 use Rattle.tc_beh.proofs.RoomIs.{flags_count, outputs_count}
 
 -- flags of the whole that are tested alike
-one_head : (n m : ℕ) → n ≤ 1 → m ≤ 1 → (n == 1) ≡ (m == 1) → n ≡ m
+pub one_head : (n m : ℕ) → n ≤ 1 → m ≤ 1 → (n == 1) ≡ (m == 1) → n ≡ m
 one_head n m a b e = by (cases_eq n 1) (cases_eq m 1)
   where
     by : (n ≡ 1) ⊎ (n ≡ 1 → ⊥) → (m ≡ 1) ⊎ (m ≡ 1 → ⊥) → n ≡ m
@@ -37,7 +35,7 @@ set_too first fs gs e i low one =
     let (k, there, set, at) = flagged_at first gs (first + i) (subst (λ l. Has l (first + i)) e (at_flagged first fs i low one)) in
     subst (λ j. get_or gs j 0 ≡ 1) (omega (arith, at)) set
 
-one_flag : (first : ℕ) (fs gs : List ℕ) → flagged first fs ≡ flagged first gs → (i : ℕ) → i < length fs → i < length gs → get_or fs i 0 ≤ 1 → get_or gs i 0 ≤ 1 → get_or fs i 0 ≡ get_or gs i 0
+pub one_flag : (first : ℕ) (fs gs : List ℕ) → flagged first fs ≡ flagged first gs → (i : ℕ) → i < length fs → i < length gs → get_or fs i 0 ≤ 1 → get_or gs i 0 ≤ 1 → get_or fs i 0 ≡ get_or gs i 0
 one_flag first fs gs e i low there a b = by (cases_eq (get_or fs i 0) 1) (cases_eq (get_or gs i 0) 1)
   where
     by : (get_or fs i 0 ≡ 1) ⊎ (get_or fs i 0 ≡ 1 → ⊥) → (get_or gs i 0 ≡ 1) ⊎ (get_or gs i 0 ≡ 1 → ⊥) → get_or fs i 0 ≡ get_or gs i 0

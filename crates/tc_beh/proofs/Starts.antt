@@ -27,7 +27,7 @@ stay_first n r h = λ i j. (λ (l, same, there). subst (λ k. r k j) (sym same.1
 pub identity_begun : (m : Matrix) (n : ℕ) → m.size ≡ n → IsIdentity m → HaveSamePairs (has m) (identity n)
 identity_begun m n e is = subst (λ k. HaveSamePairs (has m) (identity k)) e is
 
-chosen_starts : (n : ℕ) (b : Bool) (r s : PairSet) → StartsBelow n r → StartsBelow n s → StartsBelow n (chosen b r s)
+pub chosen_starts : (n : ℕ) (b : Bool) (r s : PairSet) → StartsBelow n r → StartsBelow n s → StartsBelow n (chosen b r s)
 chosen_starts n true r s h k = h
 chosen_starts n false r s h k = k
 
@@ -44,7 +44,7 @@ module _ (x : Triple) where
   edge_starts : (i j : ℕ) → text_edges x i j → i < outputs x
   edge_starts i j h = (edge_within x.output output i j text_leaf h).0
 
-  stay_starts : StartsBelow (outputs x) (stay x)
+  pub stay_starts : StartsBelow (outputs x) (stay x)
   stay_starts i j h = h.0
 
   around_starts : (a : ℕ) (r : PairSet) → StartsBelow (outputs x) (around x a r)

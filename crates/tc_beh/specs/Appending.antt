@@ -1,6 +1,5 @@
 -- The numbers of what has a tree more behind it: the states to which the tree leads, by flags, and all others.
 use Rattle.std.specs.Prelude.{◌≡◌, ◌<◌, ◌≤◌, ◌↔◌, ◌⊎◌, ◌+◌, ◌-◌, ◌==◌, ◌||◌, ℕ, List, length, get_or, Bool, true, false, if◌then◌else◌}
-use Rattle.std.specs.List.{Contains}
 use Rattle.tc_model.specs.States as s
 use Rattle.tc_model.specs.Grammars as g
 use Rattle.tc_auto.specs.Steps.{leaf}

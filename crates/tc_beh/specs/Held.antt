@@ -1,8 +1,7 @@
 -- How the sets of pairs that are held grow, and what stands in rows over them.
-use Rattle.std.specs.Prelude.{◌≡◌, ◌<◌, ◌≤◌, ◌++◌, ◌+◌, ◌⊎◌, ℕ, max, List, length, get_or, All, Bool, true}
+use Rattle.std.specs.Prelude.{◌≡◌, ◌<◌, ◌≤◌, ◌++◌, ℕ, List, length, get_or}
 use Rattle.tc_mat.specs.Matrix.{Matrix, IsComposition, IsMatrix}
 use Rattle.tc_mat.specs.Held.{Held, IsHeld}
-use Rattle.tc_rows.specs.Counts.{AreDifferent}
 use Rattle.tc_beh.specs.Places.{no_matrix}
 
 -- what is held is held on, under its number

@@ -1,4 +1,4 @@
-use Rattle.std.proofs.Common.{◌≡◌, ◌∙◌, ◌||◌, ◌==◌, get_or, sym, ap}
+use Rattle.std.proofs.Common.{◌≡◌, ◌∙◌, ◌||◌, ◌==◌, get_or, sym}
 use Rattle.tc_beh.proofs.Together.{on_ok_map, on_err_map, or_true, or_false, products_together, new_together, numbers_together}
 use Rattle.tc_beh.proofs.append.put_append.Goals.{then-bears, else-bears}
 use Rattle.tc_beh.proofs.append.put_append.Goals as goal

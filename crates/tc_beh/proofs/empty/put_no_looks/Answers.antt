@@ -1,4 +1,4 @@
-use Rattle.std.proofs.Common.{◌≤◌, ◌+◌, arith, length}
+use Rattle.std.proofs.Common.{◌+◌, arith}
 use Rattle.tc_beh.proofs.Emptied.{all_looks}
 use Rattle.tc_beh.proofs.empty.put_no_looks.Goals as goal
 

@@ -1,8 +1,7 @@
-use Rattle.std.proofs.Common.{◌≡◌, ◌<◌, ◌∙◌, ℕ, List, [], length, get_or, sym, subst, ap, arith}
+use Rattle.std.proofs.Common.{◌≡◌, ◌∙◌, [], get_or, sym, subst, ap, arith}
 use Rattle.std.proofs.lemmas.Option.{get_or_from_slice_get}
 use Rattle.tc_mat.specs.Held.{Held}
 use Rattle.tc_rows.specs.PairSets.{IsPairs}
-use Rattle.tc_beh.specs.Places.{pairs_of}
 use Rattle.tc_beh.proofs.Holding.{low_got}
 use Rattle.tc_beh.proofs.InOrder.{listed_as, not_yet_held, holds_one_more}
 use Rattle.tc_beh.proofs.lists.pool_of.Goals as goal

@@ -1,4 +1,4 @@
-use Rattle.std.proofs.Common.{◌<◌, ◌∙◌, arith}
+use Rattle.std.proofs.Common.{◌∙◌, arith}
 use Rattle.tc_beh.proofs.InOrder.{got_among, has_one_more}
 use Rattle.tc_beh.proofs.lists.put_pairs.Goals as goal
 

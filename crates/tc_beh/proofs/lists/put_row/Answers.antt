@@ -1,4 +1,4 @@
-use Rattle.std.proofs.Common.{◌≡◌, ◌<◌, ◌∙◌, sym, true, false, arith}
+use Rattle.std.proofs.Common.{◌≡◌, ◌∙◌, sym, true, false, arith}
 use Rattle.tc_beh.proofs.InOrder.{row_with, row_without}
 use Rattle.tc_beh.proofs.lists.put_row.Goals.{then-has+in_ok-push_pair, else-has}
 use Rattle.tc_beh.proofs.lists.put_row.Goals as goal

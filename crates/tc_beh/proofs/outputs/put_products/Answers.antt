@@ -1,6 +1,4 @@
-use Rattle.std.proofs.Common.{◌≡◌, ◌≢◌, ◌<◌, ◌≤◌, ◌⊎◌, inl, inr, ◌+◌, ◌∙◌, ℕ, sym, get_or, subst, ap, arith, length, true}
-use Rattle.std.proofs.lemmas.Bool.{cases_lt}
-use Rattle.tc_mat.specs.Matrix.{IsComposition}
+use Rattle.std.proofs.Common.{◌≡◌, ◌<◌, inl, inr, ◌+◌, ◌∙◌, ℕ, sym, get_or, subst, arith, length}
 use Rattle.tc_mat.specs.Held.{Held}
 use Rattle.tc_beh.specs.Rooms.{output_at}
 use Rattle.tc_beh.specs.Held.{set_at, IsNew, AreProducts}

@@ -1,9 +1,8 @@
-use Rattle.std.proofs.Common.{◌<◌, ◌∙◌, sym, subst, arith}
+use Rattle.std.proofs.Common.{◌∙◌, sym, subst, arith}
 use Rattle.tc_model.specs.States.{input}
 use Rattle.tc_auto.specs.Stands.{Stands}
 use Rattle.tc_auto.specs.declared.auto.Auto.{Auto}
-use Rattle.tc_mat.specs.Held.{Held, AreMatrices}
-use Rattle.tc_rows.specs.Triples.{entries, outputs}
+use Rattle.tc_mat.specs.Held.{Held}
 use Rattle.tc_beh.specs.Outs.{GrowsBy}
 use Rattle.tc_beh.proofs.Together.{on_ok_both, on_err_map}
 use Rattle.tc_beh.proofs.Emptied.{emptied, none_came, left_out_of_empty}
