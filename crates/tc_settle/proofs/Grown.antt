@@ -1,5 +1,5 @@
 -- Trees that are put together from the back.
-use Rattle.std.proofs.Common.{◌≡◌, ◌⊎◌, inl, inr, ℕ, ◌+◌, ◌<◌, ◌≤◌, List, [], ◌∷◌, ◌++◌, refl, ap, ◌∙◌, sym, subst, arith, rules, slice_get, reverse, Some}
+use Rattle.std.proofs.Common.{◌≡◌, ℕ, ◌+◌, ◌<◌, ◌≤◌, List, [], ◌∷◌, ◌++◌, ap, ◌∙◌, sym, subst, arith, rules, slice_get, reverse, Some}
 use Rattle.std.proofs.lemmas.List.{reverse-append}
 use Rattle.tc_model.specs.Trees.{Trees, none, beside, node_count}
 use Rattle.tc_model.specs.Chains.{Tree}
@@ -13,7 +13,7 @@ use Rattle.tc_settle.specs.declared.closed.Closed.{Closed}
 use Rattle.tc_settle.specs.declared.closed.MadeHedge.{MadeHedge}
 use Rattle.tc_settle.specs.declared.closed.MadeTree.{MadeTree}
 use Rattle.tc_settle.specs.Held.{Held, IsAppendAt}
-use Rattle.tc_settle.specs.Closed.{hedge_cost, tree_cost, IsCapped, IsKept, IsHedgeMade, IsTreeMade}
+use Rattle.tc_settle.specs.Closed.{tree_cost, IsCapped, IsKept, IsHedgeMade, IsTreeMade}
 use Rattle.tc_settle.proofs.Derived.{some_node}
 use Rattle.tc_settle.specs.Made.{IsMadeHedge, IsMadeTree, made_append}
 

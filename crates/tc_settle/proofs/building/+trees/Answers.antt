@@ -1,6 +1,6 @@
-use Rattle.std.proofs.Common.{◌≡◌, ◌<◌, ◌≤◌, ◌+◌, ◌*◌, ◌∷◌, ◌++◌, [], ℕ, refl, ap, ◌∙◌, sym, subst, arith, length, slice_get, reverse, Some, codes}
+use Rattle.std.proofs.Common.{◌≡◌, ◌+◌, ◌∷◌, ◌++◌, [], refl, ap, ◌∙◌, sym, subst, arith, length, reverse, Some, codes}
 use Rattle.std.proofs.lemmas.Option.{slice_get_read}
-use Rattle.tc_model.specs.Trees.{Trees, none, text, element, beside, node_count}
+use Rattle.tc_model.specs.Trees.{none, element, beside, node_count}
 use Rattle.tc_model.specs.Chains.{an_element, a_text}
 use Rattle.tc_model.specs.Views.{trees}
 use Rattle.tc_model.specs.Symbols.{fresh_name}
@@ -8,7 +8,7 @@ use Rattle.tc_model.proofs.Views.{before_text}
 use Rattle.tc_model.proofs.TotalJoin.{beside_none}
 use Rattle.tc_settle.specs.declared.closed.MadeHedge.TheVariants as hedge
 use Rattle.tc_settle.specs.declared.closed.MadeTree.TheVariants as tree
-use Rattle.tc_settle.specs.Closed.{hedge_cost, tree_cost, IsHedgeMade, IsTreeMade}
+use Rattle.tc_settle.specs.Closed.{hedge_cost, tree_cost}
 use Rattle.tc_settle.specs.Made.{IsMadeHedge, made_none, made_text, made_wrap}
 use Rattle.tc_settle.proofs.Derived.{capped_low}
 use Rattle.tc_settle.proofs.Grown.{hedge_part, tree_part, made_more, count_more, tree_costs_some}

@@ -1,4 +1,4 @@
-use Rattle.std.proofs.Common.{◌≡◌, ◌<◌, ◌≤◌, ◌+◌, ◌*◌, reverse}
+use Rattle.std.proofs.Common.{◌≡◌, ◌<◌, ◌+◌, ◌*◌, reverse}
 use Rattle.tc_model.specs.Trees.{Trees, beside, node_count}
 use Rattle.tc_model.specs.Views.{trees}
 use Rattle.tc_settle.specs.Closed.{hedge_cost, tree_cost}

@@ -1,4 +1,4 @@
-use Rattle.std.proofs.Common.{◌≡◌, ap, ◌∙◌}
+use Rattle.std.proofs.Common.{ap, ◌∙◌}
 use Rattle.tc_model.specs.Trees.{element, none}
 use Rattle.tc_model.specs.Views.{trees}
 use Rattle.tc_model.proofs.Views.{before_elem}
