@@ -1,5 +1,5 @@
 -- What is told of rows stays where the same rows are held.
-use Rattle.std.proofs.Common.{◌≡◌, ◌<◌, ◌≤◌, ◌⊎◌, inl, inr, ℕ, arith}
+use Rattle.std.proofs.Common.{◌<◌, inl, inr, ℕ, arith}
 use Rattle.tc_settle.specs.Held.{Held, Grows, SameRows, IsUnchanged, IsExact}
 use Rattle.tc_settle.specs.Derived.{HedgeFrom, TreeFrom, IsClosed, IsCost}
 use Rattle.tc_settle.specs.Closed.{IsClosure, hedge_cost, tree_cost}

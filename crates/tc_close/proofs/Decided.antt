@@ -1,12 +1,12 @@
 -- What rows that are held tell: how many there are, what passes its limit, whether it is safe, and where the least counterexamples are.
-use Rattle.std.proofs.Common.{◌≡◌, ◌<◌, ◌≤◌, ◌⊎◌, inl, inr, ◌+◌, ◌++◌, ◌∷◌, [], ℕ, zero, suc, List, length, get_or, map, true, slice_get, Some, IsTrue, subst, sym, ap, ◌∙◌, refl, arith, length-append}
+use Rattle.std.proofs.Common.{◌≡◌, ◌<◌, ◌≤◌, ◌⊎◌, inl, inr, ◌+◌, ◌++◌, ◌∷◌, [], ℕ, zero, suc, List, length, get_or, true, slice_get, Some, IsTrue, subst, sym, ap, ◌∙◌, refl, arith, length-append}
 use Rattle.std.specs.List.{Contains}
 use Rattle.std.proofs.lemmas.List.{length-map}
 use Rattle.std.proofs.lemmas.Option.{get_or_from_slice_get, slice_get_within, slice_get-get_or}
 use Rattle.tc_model.specs.Trees.{Trees, node_count}
 use Rattle.tc_model.specs.Chains.{Tree}
 use Rattle.tc_model.specs.TreesApart.{alone}
-use Rattle.tc_model.specs.Safety.{IsSafe, IsCounterexample}
+use Rattle.tc_model.specs.Safety.{IsSafe}
 use Rattle.tc_model.specs.LiveTrees.{IsLiveTree}
 use Rattle.tc_rows.specs.Triples.{Triple, IsTriple, sheet}
 use Rattle.tc_rows.specs.Rows.{HedgeRow, TreeRow, IsRowOfTree}
@@ -24,17 +24,16 @@ use Rattle.tc_rows.proofs.Counting.{rows_are_counted}
 use Rattle.tc_beh.specs.Places.{pairs_of, no_matrix}
 use Rattle.tc_beh.specs.Held.{set_at}
 use Rattle.tc_beh.specs.Outs.{sets_of}
-use Rattle.tc_settle.specs.Held.{Held}
 use Rattle.tc_settle.specs.Derived as number
 use Rattle.tc_settle.specs.Derived.{IsClosed, AllDerive, IsCost}
-use Rattle.tc_close.specs.Least.{IsLeastFailing, LeastCounterexamples}
+use Rattle.tc_close.specs.Least.{IsLeastFailing}
 use Rattle.tc_close.specs.RowState.{RowState, hedge_at, tree_at, StandsInRow, held_of, Known, IsMadeHedge, IsMadeTree, AreMadeEntries, IsFullBy}
 use Rattle.tc_close.specs.Decisions.{IsCounter, KeepsCounts, AreCounts}
 use Rattle.tc_close.specs.declared.decision.Counts.{Counts}
 use Rattle.tc_close.proofs.Least.{costs_are_least}
 use Rattle.tc_close.proofs.Settling.{low_or_high}
 use Rattle.tc_close.proofs.Verdict.{lists_tell}
-use Rattle.tc_close.proofs.Linked.{tree_rows, hedge_rows, tree_of_listed, hedge_of_listed, tree_from, hedge_from, tree_number, are_closed, trees_come, hedges_come, trees_different, hedges_different, sets_different, in_set, set_in, made_of}
+use Rattle.tc_close.proofs.Linked.{tree_rows, hedge_rows, tree_of_listed, tree_from, hedge_from, tree_number, are_closed, trees_come, hedges_come, trees_different, hedges_different, sets_different, in_set, set_in, made_of}
 
 at_push : {X : Type 0} (xs : List X) (y : X) (i : ℕ) (r : X) → slice_get (xs ++ y ∷ []) i ≡ Some r → (slice_get xs i ≡ Some r) ⊎ ((i ≡ length xs) × (r ≡ y))
 at_push [] y zero r e = inr (refl, cc)

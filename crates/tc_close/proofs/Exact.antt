@@ -1,5 +1,4 @@
 -- Rows of different numbers are different: what is made has one number.
-use Rattle.std.proofs.Common.{◌≡◌, ◌<◌, ℕ}
 use Rattle.tc_rows.specs.Triples.{Triple}
 use Rattle.tc_rows.specs.Laws.{RowLaws}
 use Rattle.tc_rows.proofs.AllLaws.{rows_are_lawful}

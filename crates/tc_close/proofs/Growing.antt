@@ -1,5 +1,5 @@
 -- Rows that are held go on standing for what they stood for where more comes on.
-use Rattle.std.proofs.Common.{◌≡◌, ◌<◌, ◌≤◌, ◌⊎◌, inl, inr, ◌+◌, ◌++◌, ◌∷◌, ◌==◌, [], ℕ, suc, List, length, get_or, map, Bool, true, false, slice_get, Some, IsTrue, subst, sym, ap, ◌∙◌, refl, arith, append-nil, length-append}
+use Rattle.std.proofs.Common.{◌≡◌, ◌<◌, ◌≤◌, ◌⊎◌, inl, inr, ◌++◌, ◌∷◌, ◌==◌, [], ℕ, suc, List, length, get_or, slice_get, Some, IsTrue, subst, sym, ap, ◌∙◌, refl, arith, append-nil, length-append}
 use Rattle.std.specs.List.{Contains}
 use Rattle.std.proofs.Math.ListN.{get_or-append}
 use Rattle.std.proofs.lemmas.Option.{get_or_from_slice_get, slice_get_within}
@@ -7,11 +7,11 @@ use Rattle.tc_model.specs.States.{input, state_count}
 use Rattle.tc_mat.specs.Matrix.{Matrix}
 use Rattle.tc_rows.specs.Triples.{Triple, entries}
 use Rattle.tc_rows.specs.Rows.{HedgeRow, TreeRow, IsHedgeRow, IsTreeRow}
-use Rattle.tc_rows.specs.Arithmetic.{IsEmptyRow, IsTextRow, IsTextLive, IsAppend, IsLiveAppend, IsWrap, IsLiveWrap, is_admitted, IsPassing}
+use Rattle.tc_rows.specs.Arithmetic.{IsEmptyRow, IsTextRow, IsAppend, IsLiveAppend, IsWrap, IsLiveWrap, is_admitted, IsPassing}
 use Rattle.tc_rows.specs.Derivations.{IsFailing}
 use Rattle.tc_beh.specs.Places.{pairs_of, entries_by, no_matrix}
-use Rattle.tc_beh.specs.Rooms.{Layout, hedge_layout, tree_layout, IsRoom, hedge_row, tree_row, flagged, flags_in, outputs_in, looks_in, output_at}
-use Rattle.tc_beh.specs.Held.{Extends, set_at}
+use Rattle.tc_beh.specs.Rooms.{Layout, hedge_layout, tree_layout, IsRoom, hedge_row, tree_row, flagged, flags_in, outputs_in, looks_in}
+use Rattle.tc_beh.specs.Held.{set_at}
 use Rattle.tc_beh.proofs.RoomRows.{output_is}
 use Rattle.tc_beh.proofs.RoomIs.{outputs_count}
 use Rattle.tc_settle.specs.Held.{Held, Grows, IsHeldAs}

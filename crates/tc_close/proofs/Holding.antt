@@ -1,12 +1,12 @@
 -- What holds of rows that are held goes on holding where a row is worked out, be it kept, dead or refused.
-use Rattle.std.proofs.Common.{◌≡◌, ◌<◌, ◌≤◌, ◌⊎◌, inl, inr, ◌+◌, ◌++◌, ◌∷◌, [], ℕ, suc, List, length, get_or, map, Bool, true, false, slice_get, Some, not, IsTrue, ◌↔◌, subst, sym, ap, ◌∙◌, refl, arith, append-nil}
+use Rattle.std.proofs.Common.{◌≡◌, ◌<◌, ◌≤◌, ◌⊎◌, inl, inr, [], ℕ, List, length, get_or, Bool, true, false, slice_get, Some, not, IsTrue, ◌↔◌, subst, sym, ap, ◌∙◌, refl, arith, append-nil}
 use Rattle.std.specs.List.{Contains}
 use Rattle.std.specs.Bool.{MatchBool}
 use Rattle.std.proofs.lemmas.Option.{get_or_from_slice_get}
 use Rattle.tc_model.specs.Symbols.{symbol_count}
 use Rattle.tc_mat.specs.Matrix.{Matrix}
 use Rattle.tc_mat.specs.Held as mat
-use Rattle.tc_rows.specs.Triples.{Triple, entries}
+use Rattle.tc_rows.specs.Triples.{Triple}
 use Rattle.tc_rows.specs.Rows.{HedgeRow, TreeRow, IsHedgeRow, IsTreeRow}
 use Rattle.tc_rows.specs.Arithmetic.{IsEmptyRow, IsTextRow, IsTextLive, IsAppend, IsLiveAppend, IsWrap, IsLiveWrap, is_admitted, IsPassing}
 use Rattle.tc_rows.specs.Derivations.{IsFailing}
@@ -24,11 +24,11 @@ use Rattle.tc_beh.specs.declared.rooms.TRow.{TRow}
 use Rattle.tc_settle.specs.Held as settle
 use Rattle.tc_settle.specs.Held.{IsHeldAs, IsUnchanged, IsNoneAt, IsTextAt, IsAppendAt, IsWrapAt}
 use Rattle.tc_close.specs.declared.rooms.Rooms.{Rooms}
-use Rattle.tc_close.specs.RowState.{RowState, hedge_at, tree_at, StandsInRow, IsHedgeHeld, IsTreeHeld, AreGood, Each, Extended, IsMadeHedge, IsMadeTree, AreMadeEntries, IsFullBy, IsFull, held_of}
+use Rattle.tc_close.specs.RowState.{RowState, hedge_at, tree_at, AreGood, Each, Extended, IsMadeHedge, IsMadeTree, AreMadeEntries, IsFullBy, IsFull, held_of}
 use Rattle.tc_close.specs.HeldRows.{AreRoomsOf, AreHeld, state_of}
 use Rattle.tc_rows.proofs.AllLaws.{rows_are_lawful}
 use Rattle.tc_close.proofs.Same.{entry_in}
-use Rattle.tc_close.proofs.Growing.{Keeps, hedge_on, tree_on, hedge_same, tree_same, stood_on, set_same, more_hedges, more_trees, grows, grows_self}
+use Rattle.tc_close.proofs.Growing.{Keeps, hedge_on, tree_on, hedge_same, tree_same, stood_on, grows, grows_self}
 
 room_on : (s : Layout) (a b : Room) → IsRoomOf s a → IsRoomBeside a b → IsRoomOf s b
 room_on s a b is beside = record { flags = beside.flags ∙ is.flags; entries = beside.entries ∙ is.entries; count = beside.count ∙ is.count }
@@ -154,14 +154,14 @@ module _ {IsOf : Triple → Type 0} {r q : Rows} {hedges trees : List (List ℕ)
           stood = λ v k low. elim (low_or_high k (length r.outputs.matrices)) [
             | inl l ↦ stood_on before (state_of q after trees true) (with_hedge keep) x (w.was.good x i) k l ((w.was.good x i).stood refl k l)
             | inr h ↦ let (p, few, at) = came.found.each k h low in
-              let parted = room_on (hedge_layout x) rooms.new_hedge.room room (w.was.rooms x i).new_hedge beside in
-              let is : output_at (hedge_layout x).flags ns p ≡ k = subst (λ v. output_at v ns p ≡ k) parted.flags at in
-              inl (
-                n,
-                keep.here,
-                subst (λ ms. Contains (hedge_row x q.outputs.matrices ms).entries (pairs_of (set_at q.outputs k))) (sym keep.is)
-                (entry_found (hedge_layout x) q.outputs.matrices ns k p (row x (w.was.stand x i)).0 (subst (λ v. p < v) parted.entries few) is),
-              )
+                let parted = room_on (hedge_layout x) rooms.new_hedge.room room (w.was.rooms x i).new_hedge beside in
+                let is : output_at (hedge_layout x).flags ns p ≡ k = subst (λ v. output_at v ns p ≡ k) parted.flags at in
+                inl (
+                  n,
+                  keep.here,
+                  subst (λ ms. Contains (hedge_row x q.outputs.matrices ms).entries (pairs_of (set_at q.outputs k))) (sym keep.is)
+                      (entry_found (hedge_layout x) q.outputs.matrices ns k p (row x (w.was.stand x i)).0 (subst (λ v. p < v) parted.entries few) is),
+                )
           ];
         }
 
@@ -184,14 +184,14 @@ module _ {IsOf : Triple → Type 0} {r q : Rows} {hedges trees : List (List ℕ)
           stood = λ v k low. elim (low_or_high k (length r.outputs.matrices)) [
             | inl l ↦ stood_on before (state_of q hedges after true) (with_tree keep) x (w.was.good x i) k l ((w.was.good x i).stood refl k l)
             | inr h ↦ let (p, few, at) = came.found.each k h low in
-              let parted = room_on (tree_layout x) rooms.new_tree.room room (w.was.rooms x i).new_tree beside in
-              let is : output_at (tree_layout x).flags ns p ≡ k = subst (λ v. output_at v ns p ≡ k) parted.flags at in
-              inr (
-                n,
-                keep.here,
-                subst (λ ms. Contains (tree_row x q.outputs.matrices ms).entries (pairs_of (set_at q.outputs k))) (sym keep.is)
-                (entry_found (tree_layout x) q.outputs.matrices ns k p (row x (w.was.stand x i)).0 (subst (λ v. p < v) parted.entries few) is),
-              )
+                let parted = room_on (tree_layout x) rooms.new_tree.room room (w.was.rooms x i).new_tree beside in
+                let is : output_at (tree_layout x).flags ns p ≡ k = subst (λ v. output_at v ns p ≡ k) parted.flags at in
+                inr (
+                  n,
+                  keep.here,
+                  subst (λ ms. Contains (tree_row x q.outputs.matrices ms).entries (pairs_of (set_at q.outputs k))) (sym keep.is)
+                      (entry_found (tree_layout x) q.outputs.matrices ns k p (row x (w.was.stand x i)).0 (subst (λ v. p < v) parted.entries few) is),
+                )
           ];
         }
 
@@ -208,7 +208,7 @@ module _ {IsOf : Triple → Type 0} {r q : Rows} {hedges trees : List (List ℕ)
     made_hedge_on u (inr (h, t, lh, lt, live, app)) =
         let App : HedgeRow → TreeRow → Type 0 = λ p v. IsLiveAppend x p v × IsAppend x p v u in
         let both : App (hedge_at x after_all h) (tree_at x after_all t) =
-              subst (λ p. App p (tree_at x after_all t)) (sym (hedge_same before after_all (as_it_was false) x good h lh)) (subst (λ v. App (hedge_at x before h) v) (sym (tree_same before after_all (as_it_was false) x good t lt)) (live, app)) in
+        subst (λ p. App p (tree_at x after_all t)) (sym (hedge_same before after_all (as_it_was false) x good h lh)) (subst (λ v. App (hedge_at x before h) v) (sym (tree_same before after_all (as_it_was false) x good t lt)) (live, app)) in
         inr (h, t, lh, lt, both.0, both.1)
 
     made_tree_on : (u : TreeRow) → IsMadeTree x before u → IsMadeTree x after_all u
@@ -392,8 +392,7 @@ module _ {IsOf : Triple → Type 0} {r : Rows} {hedges trees : List (List ℕ)} 
 
   pub same_rows : (a : RowState) → state_of r hedges trees v ≡ a → settle.SameRows (held_of IsOf a) (held_of IsOf (state_of q hedges trees v))
   same_rows a e =
-      let all : state_of q hedges trees v ≡ a = same_state ∙ e in
-      (
+      let all : state_of q hedges trees v ≡ a = same_state ∙ e in (
         subst (λ s. settle.Grows (held_of IsOf a) (held_of IsOf s)) (sym all) (grows_self (held_of IsOf a)),
         subst (λ s. settle.Grows (held_of IsOf s) (held_of IsOf a)) (sym all) (grows_self (held_of IsOf a)),
       )

@@ -1,8 +1,7 @@
 -- Lists of numbers as the keys of a set.
-use Rattle.std.proofs.Common.{◌≡◌, ◌<◌, ℕ, zero, suc, List, [], ◌∷◌, ◌++◌, refl, ap, ◌∙◌, sym, Bool, true, false, ◌||◌, Option, Some, None, slice_get, get_or, position, length, map, cond, nat_eq, subst, arith}
-use Rattle.std.specs.List.{list_any, IsDistinct, AllByRecursion, Contains, position_or_len}
+use Rattle.std.proofs.Common.{◌≡◌, ◌<◌, ℕ, zero, suc, List, [], ◌∷◌, ◌++◌, refl, ap, ◌∙◌, sym, Bool, true, false, ◌||◌, Some, slice_get, get_or, position, length, map, cond, nat_eq, subst, arith}
+use Rattle.std.specs.List.{list_any, IsDistinct, AllByRecursion, Contains}
 use Rattle.std.specs.Cmp.Lexicographic.{pointwise, bytes_decides}
-use Rattle.std.specs.Prelude.{is_some}
 use Rattle.std.proofs.lemmas.List.Quantifiers.{position-Some}
 use Rattle.std.proofs.lemmas.Option.{slice_get-get_or}
 use Rattle.std.proofs.lemmas.List.{length-map, get_or-map, map-append}

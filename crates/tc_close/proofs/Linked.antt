@@ -1,5 +1,5 @@
 -- Numbers come from numbers as the rows that they stand for come from rows, at the same costs.
-use Rattle.std.proofs.Common.{◌≡◌, ◌<◌, ◌≤◌, ◌⊎◌, inl, inr, ◌+◌, ◌++◌, ◌∷◌, [], ℕ, suc, List, length, get_or, map, true, slice_get, Some, subst, sym, ap, ◌∙◌, refl, arith, length-append}
+use Rattle.std.proofs.Common.{◌≡◌, ◌<◌, inl, inr, ◌+◌, [], ℕ, List, length, get_or, map, true, slice_get, Some, subst, sym, ap, ◌∙◌, arith}
 use Rattle.std.specs.List.{Contains}
 use Rattle.std.proofs.lemmas.List.{length-map, get_or-map}
 use Rattle.std.proofs.lemmas.List.Elements.{Contains-get_or}
@@ -9,7 +9,7 @@ use Rattle.tc_mat.specs.Matrix.{Matrix, HasPair}
 use Rattle.tc_mat.specs.Matrix as mat
 use Rattle.tc_rows.specs.Triples.{Triple}
 use Rattle.tc_rows.specs.Rows.{HedgeRow, TreeRow}
-use Rattle.tc_rows.specs.Arithmetic.{IsEmptyRow, IsTextRow, IsTextLive, IsAppend, IsLiveAppend, IsWrap, IsLiveWrap}
+use Rattle.tc_rows.specs.Arithmetic.{IsAppend, IsLiveAppend, IsWrap, IsLiveWrap}
 use Rattle.tc_rows.specs.Derivations as row
 use Rattle.tc_rows.specs.Derivations.{from_none, from_append, from_text, from_wrap}
 use Rattle.tc_rows.specs.Laws.{RowLaws}
@@ -23,7 +23,6 @@ use Rattle.tc_beh.specs.Rooms.{Layout, hedge_layout, tree_layout, IsRoom, hedge_
 use Rattle.tc_beh.proofs.Pairs.{listed_pairs}
 use Rattle.tc_beh.proofs.RoomRows.{output_is}
 use Rattle.tc_beh.proofs.RoomIs.{outputs_count}
-use Rattle.tc_settle.specs.Held.{Held}
 use Rattle.tc_settle.specs.Derived as number
 use Rattle.tc_settle.specs.Derived.{IsClosed, AllDerive}
 use Rattle.tc_close.specs.RowState.{RowState, hedge_at, tree_at, StandsInRow, AreGood, held_of, Known}

@@ -1,10 +1,10 @@
 -- The trees that rows are derived by are plain and live, and of these rows.
-use Rattle.std.proofs.Common.{◌≡◌, ◌<◌, ℕ, List, refl, ap, sym, subst, codes}
+use Rattle.std.proofs.Common.{◌<◌, ℕ, refl, ap, sym, subst, codes}
 use Rattle.tc_model.specs.Trees.{Trees, none, text, element, beside, IsNormal}
-use Rattle.tc_model.specs.Chains.{Tree, an_element, a_text}
-use Rattle.tc_model.specs.TreesApart.{alone, followed_by}
+use Rattle.tc_model.specs.Chains.{Tree}
+use Rattle.tc_model.specs.TreesApart.{alone}
 use Rattle.tc_model.specs.LiveTrees.{IsLiveTree, IsLiveHedge, empty_is_live, are_live}
-use Rattle.tc_model.specs.Symbols.{Mention, symbol_of, symbol_count, fresh_name}
+use Rattle.tc_model.specs.Symbols.{symbol_of, symbol_count, fresh_name}
 use Rattle.tc_rows.specs.Triples.{Triple}
 use Rattle.tc_rows.specs.Rows.{IsRowOfHedge, IsRowOfTree}
 use Rattle.tc_rows.specs.Arithmetic.{IsWrap, IsLiveWrap}

@@ -1,12 +1,11 @@
 -- Rooms that stand for one row have the same numbers.
-use Rattle.std.proofs.Common.{◌≡◌, ◌<◌, ◌≤◌, ◌⊎◌, inl, inr, ◌+◌, ◌==◌, [], ℕ, zero, suc, List, length, get_or, map, Bool, true, subst, sym, ap, ◌∙◌, refl, arith, eq-eqb, eqb-true}
+use Rattle.std.proofs.Common.{◌≡◌, ◌<◌, ◌≤◌, ◌⊎◌, inl, inr, ◌+◌, ◌==◌, [], ℕ, zero, suc, List, length, get_or, subst, sym, ap, ◌∙◌, refl, arith, eq-eqb, eqb-true}
 use Rattle.std.specs.List.{Contains}
 use Rattle.std.proofs.lemmas.List.{get_or-map, length-map}
 use Rattle.std.proofs.lemmas.Grind.{same_number_lists}
-use Rattle.tc_model.specs.States.{input, state_count}
 use Rattle.tc_alpha.proofs.Members.{Has}
 use Rattle.tc_mat.specs.Matrix.{Matrix}
-use Rattle.tc_rows.specs.Triples.{Triple, entries}
+use Rattle.tc_rows.specs.Triples.{Triple}
 use Rattle.tc_rows.specs.Rows.{HedgeRow, TreeRow}
 use Rattle.tc_beh.specs.Places.{pairs_of, entries_by, no_matrix}
 use Rattle.tc_beh.specs.Rooms.{Layout, hedge_layout, tree_layout, IsRoom, hedge_row, tree_row, flagged, flags_in, outputs_in, looks_in, flag_at, output_at}

@@ -1,8 +1,7 @@
 -- What is decided of rows that are all found.
 use Rattle.std.proofs.Common.{◌≡◌, ◌<◌, ◌≤◌, ℕ, length, true, subst, sym, arith}
-use Rattle.tc_model.specs.Trees.{Trees, node_count}
-use Rattle.tc_rows.specs.Triples.{Triple, IsTriple}
-use Rattle.tc_rows.specs.Laws.{RowLaws}
+use Rattle.tc_model.specs.Trees.{Trees}
+use Rattle.tc_rows.specs.Triples.{Triple}
 use Rattle.tc_rows.specs.Derivations.{ArePlain}
 use Rattle.tc_rows.proofs.AllLaws.{rows_are_lawful}
 use Rattle.tc_settle.specs.Derived.{AllDerive}
@@ -11,7 +10,7 @@ use Rattle.tc_settle.specs.Closed.{IsClosure, IsFirstFailing, tree_cost}
 use Rattle.tc_settle.specs.Made.{IsOneMade}
 use Rattle.tc_settle.specs.declared.closed.Closed.{Closed}
 use Rattle.tc_close.specs.RowState.{RowState, held_of, Known}
-use Rattle.tc_close.specs.Decisions.{IsCounter, KeepsCounts, AreCounts, IsSafeWith, IsUnsafeBy, IsFarUnsafe}
+use Rattle.tc_close.specs.Decisions.{IsCounter, KeepsCounts, IsSafeWith, IsUnsafeBy, IsFarUnsafe}
 use Rattle.tc_close.specs.declared.decision.Counts.{Counts}
 use Rattle.tc_close.proofs.Decided.{keeps_counts, are_counts, is_safe, shown, no_less, some_counter, all_far}
 use Rattle.tc_close.proofs.Made.{tree_is}

@@ -1,5 +1,5 @@
 -- What is told of a machine: that it is safe, with how many rows there are; or a least counterexample; and why nothing is told.
-use Rattle.std.specs.Prelude.{◌≡◌, ◌<◌, ◌≤◌, ℕ}
+use Rattle.std.specs.Prelude.{◌<◌, ◌≤◌, ℕ}
 use Rattle.tc_model.specs.Trees.{Trees, none, node_count}
 use Rattle.tc_model.specs.Views.{before}
 use Rattle.tc_model.specs.Safety.{IsSafe, IsCounterexample}

@@ -49,7 +49,10 @@ fn hold_fault(fault: RowFault) -> HoldFault
 
 impl<'m, 'b, K: Over> HeldRows<'m, 'b, K> {
     /// No rows.
-    pub(crate) fn new(alloc: Global, machine: &'m Machine<'b>) -> Result<HeldRows<'m, 'b, K>, NoMemory>
+    pub(crate) fn new(
+        alloc: Global,
+        machine: &'m Machine<'b>,
+    ) -> Result<HeldRows<'m, 'b, K>, NoMemory>
         requires some { (x : Triple) × K.is_of x }
         requires machine { (x : Triple) → K.is_of x → IsMachineOf x machine.now }
         ensures hedges { IfOk result (λ r. r.hedges ≡ []) }
@@ -153,7 +156,11 @@ impl<'m, 'b, K: Over> NumberedRows for HeldRows<'m, 'b, K> {
         self.is_whole = false;
         self.rooms.hedge.load(self.hedges.get(hedge));
         self.rooms.tree.load(self.trees.get(tree));
-        match self.rows.append(&self.rooms.hedge, &self.rooms.tree, &mut self.rooms.new_hedge) {
+        match self.rows.append(
+            &self.rooms.hedge,
+            &self.rooms.tree,
+            &mut self.rooms.new_hedge,
+        ) {
             Ok(true) => {}
             Ok(false) => {
                 self.is_whole = true;
@@ -174,7 +181,10 @@ impl<'m, 'b, K: Over> NumberedRows for HeldRows<'m, 'b, K> {
         }
         self.is_whole = false;
         self.rooms.hedge.load(self.hedges.get(hedge));
-        match self.rows.wrap(Sym(symbol), &self.rooms.hedge, &mut self.rooms.new_tree) {
+        match self
+            .rows
+            .wrap(Sym(symbol), &self.rooms.hedge, &mut self.rooms.new_tree)
+        {
             Ok(true) => {}
             Ok(false) => {
                 self.is_whole = true;

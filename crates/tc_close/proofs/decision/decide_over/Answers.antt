@@ -1,4 +1,4 @@
-use Rattle.std.proofs.Common.{◌≡◌, ◌∙◌, ap, length}
+use Rattle.std.proofs.Common.{◌∙◌}
 use Rattle.tc_close.proofs.decision.decide_over.Goals as goal
 
 pub verdict-requires-clause-alphabet : goal.verdict-requires-clause-alphabet

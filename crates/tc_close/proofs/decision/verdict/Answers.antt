@@ -1,16 +1,14 @@
-use Rattle.std.proofs.Common.{◌≡◌, ◌≤◌, ◌<◌, ℕ, List, length, true, Err, subst, sym, ap, arith}
+use Rattle.std.proofs.Common.{◌≡◌, List, Err, subst, sym, ap, arith}
 use Rattle.tc_model.specs.Symbols.{Mention, symbol_count}
 use Rattle.tc_model.specs.Trees.{none}
 use Rattle.tc_model.specs.Views.{before}
-use Rattle.tc_rows.specs.Triples.{Triple}
-use Rattle.tc_settle.specs.Held.{Held, SameRows}
-use Rattle.tc_settle.specs.Closed.{IsClosure, IsFirstFailing, tree_cost}
+use Rattle.tc_settle.specs.Closed.{tree_cost}
 use Rattle.tc_settle.specs.Made.{IsOneMade}
 use Rattle.tc_settle.specs.declared.building.BuildFault.TheVariants as build_fault
 use Rattle.tc_close.specs.Decisions.{KeepsCounts}
 use Rattle.tc_close.specs.RowState.{held_of}
 use Rattle.tc_close.proofs.Carried.{closure_on}
-use Rattle.tc_close.proofs.Verdicts.{keeps, safe_with, unsafe_by, far_unsafe, FirstFails, first_on}
+use Rattle.tc_close.proofs.Verdicts.{keeps, safe_with, unsafe_by, far_unsafe, first_on}
 use Rattle.tc_close.proofs.decision.verdict.Goals as goal
 
 pub build-requires-clause-closure : goal.build-requires-clause-closure

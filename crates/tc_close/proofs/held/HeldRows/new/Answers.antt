@@ -1,4 +1,4 @@
-use Rattle.std.proofs.Common.{◌≡◌, ◌<◌, length, sym, subst, ap, arith}
+use Rattle.std.proofs.Common.{◌≡◌, length, sym, subst, ap, arith}
 use Rattle.tc_rows.specs.Triples.{Triple}
 use Rattle.tc_beh.specs.Machines.{IsMachineOf}
 use Rattle.tc_close.proofs.held.HeldRows.new.Goals as goal

@@ -1,10 +1,8 @@
-use Rattle.std.proofs.Common.{◌≡◌, ◌<◌, ◌⊎◌, ◌++◌, ◌∷◌, [], ℕ, List, length, true, false, slice_get, Some, Ok, Err, not, subst, sym, ap, ◌∙◌, refl, rules, arith}
-use Rattle.tc_beh.specs.declared.outputs.RowFault.TheVariants as row_fault
+use Rattle.std.proofs.Common.{◌≡◌, ◌<◌, ◌⊎◌, ◌++◌, ◌∷◌, [], ℕ, List, length, true, false, slice_get, Some, Err, subst, sym, ap, ◌∙◌}
 use Rattle.tc_settle.specs.Held.{IsHeldAs, Grows}
-use Rattle.tc_close.specs.declared.rooms.Rooms.{Rooms}
-use Rattle.tc_close.specs.RowState.{RowState, held_of}
+use Rattle.tc_close.specs.RowState.{held_of}
 use Rattle.tc_close.specs.HeldRows.{state_of, AreHeld}
-use Rattle.tc_close.proofs.Growing.{Keeps, keeps, grows_self}
+use Rattle.tc_close.proofs.Growing.{Keeps, keeps}
 use Rattle.tc_close.proofs.Holding.{Worked, whole_held, whole_state, same_room, are_rows, refused, grows_as, grows_hedge, hedge_came, new_hedge_parted, full_append, made_append, taken, dead, dead_append, hedge_fits, hedge_stands, tree_fits, tree_stands}
 use Rattle.tc_close.proofs.held.HeldRowsNumberedRows.append.Goals as goal
 
@@ -39,7 +37,7 @@ pub invariant_of-self : goal.invariant_of-self
 invariant_of-self g c =
     let whole : c.self.inside.is_whole ≡ true = c.if-not-self.false in
     let w : Worked g.K.Over.is_of c.self.inside.rows c.append.new.self c.self.inside.hedges c.self.inside.trees c.self.inside.rooms (record { hedge = c.load.new.self; tree = c.load-2.new.self; new_hedge = c.append.new.out; new_tree = c.self.inside.rooms.new_tree }) =
-          record { was = whole_held g.K.Over.is_of c.self.inside.rows c.self.inside.hedges c.self.inside.trees c.self.inside.rooms c.self.inside.is_whole whole c.self.invariant; same = c.append.ensures.same; stand = c.append.ensures.rows; ext = c.append.ensures.held; beside = record { hedge = c.load.ensures.beside; tree = c.load-2.ensures.beside; new_hedge = c.append.ensures.room; new_tree = same_room c.self.inside.rooms.new_tree.room } } in
+    record { was = whole_held g.K.Over.is_of c.self.inside.rows c.self.inside.hedges c.self.inside.trees c.self.inside.rooms c.self.inside.is_whole whole c.self.invariant; same = c.append.ensures.same; stand = c.append.ensures.rows; ext = c.append.ensures.held; beside = record { hedge = c.load.ensures.beside; tree = c.load-2.ensures.beside; new_hedge = c.append.ensures.room; new_tree = same_room c.self.inside.rooms.new_tree.room } } in
     let old : state_of c.self.inside.rows c.self.inside.hedges c.self.inside.trees true ≡ c.args.self.now = whole_state c.self.inside.rows c.self.inside.hedges c.self.inside.trees c.self.inside.is_whole c.args.self.now whole c.self.view_is in
     dead w (c.in-Ok-false.ensures.dead c.in-Ok-false.field-0-test).0
 
@@ -47,7 +45,7 @@ pub returns-in-Ok-false-clause-grows : goal.returns-in-Ok-false-clause-grows
 returns-in-Ok-false-clause-grows g c =
     let whole : c.self.inside.is_whole ≡ true = c.if-not-self.false in
     let w : Worked g.K.Over.is_of c.self.inside.rows c.append.new.self c.self.inside.hedges c.self.inside.trees c.self.inside.rooms (record { hedge = c.load.new.self; tree = c.load-2.new.self; new_hedge = c.append.new.out; new_tree = c.self.inside.rooms.new_tree }) =
-          record { was = whole_held g.K.Over.is_of c.self.inside.rows c.self.inside.hedges c.self.inside.trees c.self.inside.rooms c.self.inside.is_whole whole c.self.invariant; same = c.append.ensures.same; stand = c.append.ensures.rows; ext = c.append.ensures.held; beside = record { hedge = c.load.ensures.beside; tree = c.load-2.ensures.beside; new_hedge = c.append.ensures.room; new_tree = same_room c.self.inside.rooms.new_tree.room } } in
+    record { was = whole_held g.K.Over.is_of c.self.inside.rows c.self.inside.hedges c.self.inside.trees c.self.inside.rooms c.self.inside.is_whole whole c.self.invariant; same = c.append.ensures.same; stand = c.append.ensures.rows; ext = c.append.ensures.held; beside = record { hedge = c.load.ensures.beside; tree = c.load-2.ensures.beside; new_hedge = c.append.ensures.room; new_tree = same_room c.self.inside.rooms.new_tree.room } } in
     let old : state_of c.self.inside.rows c.self.inside.hedges c.self.inside.trees true ≡ c.args.self.now = whole_state c.self.inside.rows c.self.inside.hedges c.self.inside.trees c.self.inside.is_whole c.args.self.now whole c.self.view_is in
     grows_as w true c.args.self.now old
 
@@ -55,7 +53,7 @@ pub returns-in-Ok-false-clause-made : goal.returns-in-Ok-false-clause-made
 returns-in-Ok-false-clause-made g c =
     let whole : c.self.inside.is_whole ≡ true = c.if-not-self.false in
     let w : Worked g.K.Over.is_of c.self.inside.rows c.append.new.self c.self.inside.hedges c.self.inside.trees c.self.inside.rooms (record { hedge = c.load.new.self; tree = c.load-2.new.self; new_hedge = c.append.new.out; new_tree = c.self.inside.rooms.new_tree }) =
-          record { was = whole_held g.K.Over.is_of c.self.inside.rows c.self.inside.hedges c.self.inside.trees c.self.inside.rooms c.self.inside.is_whole whole c.self.invariant; same = c.append.ensures.same; stand = c.append.ensures.rows; ext = c.append.ensures.held; beside = record { hedge = c.load.ensures.beside; tree = c.load-2.ensures.beside; new_hedge = c.append.ensures.room; new_tree = same_room c.self.inside.rooms.new_tree.room } } in
+    record { was = whole_held g.K.Over.is_of c.self.inside.rows c.self.inside.hedges c.self.inside.trees c.self.inside.rooms c.self.inside.is_whole whole c.self.invariant; same = c.append.ensures.same; stand = c.append.ensures.rows; ext = c.append.ensures.held; beside = record { hedge = c.load.ensures.beside; tree = c.load-2.ensures.beside; new_hedge = c.append.ensures.room; new_tree = same_room c.self.inside.rooms.new_tree.room } } in
     let old : state_of c.self.inside.rows c.self.inside.hedges c.self.inside.trees true ≡ c.args.self.now = whole_state c.self.inside.rows c.self.inside.hedges c.self.inside.trees c.self.inside.is_whole c.args.self.now whole c.self.view_is in
     let lh : c.args.hedge < length c.self.inside.hedges = subst (λ s. c.args.hedge < length s.hedges) (sym old) c.requires.hedge in
     let hn : List ℕ = c.load.new.self.room.numbers.items in
@@ -71,7 +69,7 @@ pub invariant_of-self-in-Err : goal.invariant_of-self-in-Err
 invariant_of-self-in-Err g c =
     let whole : c.self.inside.is_whole ≡ true = c.if-not-self.false in
     let w : Worked g.K.Over.is_of c.self.inside.rows c.append.new.self c.self.inside.hedges c.self.inside.trees c.self.inside.rooms (record { hedge = c.load.new.self; tree = c.load-2.new.self; new_hedge = c.append.new.out; new_tree = c.self.inside.rooms.new_tree }) =
-          record { was = whole_held g.K.Over.is_of c.self.inside.rows c.self.inside.hedges c.self.inside.trees c.self.inside.rooms c.self.inside.is_whole whole c.self.invariant; same = c.append.ensures.same; stand = c.append.ensures.rows; ext = c.append.ensures.held; beside = record { hedge = c.load.ensures.beside; tree = c.load-2.ensures.beside; new_hedge = c.append.ensures.room; new_tree = same_room c.self.inside.rooms.new_tree.room } } in
+    record { was = whole_held g.K.Over.is_of c.self.inside.rows c.self.inside.hedges c.self.inside.trees c.self.inside.rooms c.self.inside.is_whole whole c.self.invariant; same = c.append.ensures.same; stand = c.append.ensures.rows; ext = c.append.ensures.held; beside = record { hedge = c.load.ensures.beside; tree = c.load-2.ensures.beside; new_hedge = c.append.ensures.room; new_tree = same_room c.self.inside.rooms.new_tree.room } } in
     let old : state_of c.self.inside.rows c.self.inside.hedges c.self.inside.trees true ≡ c.args.self.now = whole_state c.self.inside.rows c.self.inside.hedges c.self.inside.trees c.self.inside.is_whole c.args.self.now whole c.self.view_is in
     refused w
 
@@ -79,7 +77,7 @@ pub returns-in-Err-clause-grows : goal.returns-in-Err-clause-grows
 returns-in-Err-clause-grows g c =
     let whole : c.self.inside.is_whole ≡ true = c.if-not-self.false in
     let w : Worked g.K.Over.is_of c.self.inside.rows c.append.new.self c.self.inside.hedges c.self.inside.trees c.self.inside.rooms (record { hedge = c.load.new.self; tree = c.load-2.new.self; new_hedge = c.append.new.out; new_tree = c.self.inside.rooms.new_tree }) =
-          record { was = whole_held g.K.Over.is_of c.self.inside.rows c.self.inside.hedges c.self.inside.trees c.self.inside.rooms c.self.inside.is_whole whole c.self.invariant; same = c.append.ensures.same; stand = c.append.ensures.rows; ext = c.append.ensures.held; beside = record { hedge = c.load.ensures.beside; tree = c.load-2.ensures.beside; new_hedge = c.append.ensures.room; new_tree = same_room c.self.inside.rooms.new_tree.room } } in
+    record { was = whole_held g.K.Over.is_of c.self.inside.rows c.self.inside.hedges c.self.inside.trees c.self.inside.rooms c.self.inside.is_whole whole c.self.invariant; same = c.append.ensures.same; stand = c.append.ensures.rows; ext = c.append.ensures.held; beside = record { hedge = c.load.ensures.beside; tree = c.load-2.ensures.beside; new_hedge = c.append.ensures.room; new_tree = same_room c.self.inside.rooms.new_tree.room } } in
     let old : state_of c.self.inside.rows c.self.inside.hedges c.self.inside.trees true ≡ c.args.self.now = whole_state c.self.inside.rows c.self.inside.hedges c.self.inside.trees c.self.inside.is_whole c.args.self.now whole c.self.view_is in
     grows_as w false c.args.self.now old
 
@@ -87,7 +85,7 @@ pub returns-in-Err-clause-full : goal.returns-in-Err-clause-full
 returns-in-Err-clause-full g c = λ f.
     let whole : c.self.inside.is_whole ≡ true = c.if-not-self.false in
     let w : Worked g.K.Over.is_of c.self.inside.rows c.append.new.self c.self.inside.hedges c.self.inside.trees c.self.inside.rooms (record { hedge = c.load.new.self; tree = c.load-2.new.self; new_hedge = c.append.new.out; new_tree = c.self.inside.rooms.new_tree }) =
-          record { was = whole_held g.K.Over.is_of c.self.inside.rows c.self.inside.hedges c.self.inside.trees c.self.inside.rooms c.self.inside.is_whole whole c.self.invariant; same = c.append.ensures.same; stand = c.append.ensures.rows; ext = c.append.ensures.held; beside = record { hedge = c.load.ensures.beside; tree = c.load-2.ensures.beside; new_hedge = c.append.ensures.room; new_tree = same_room c.self.inside.rooms.new_tree.room } } in
+    record { was = whole_held g.K.Over.is_of c.self.inside.rows c.self.inside.hedges c.self.inside.trees c.self.inside.rooms c.self.inside.is_whole whole c.self.invariant; same = c.append.ensures.same; stand = c.append.ensures.rows; ext = c.append.ensures.held; beside = record { hedge = c.load.ensures.beside; tree = c.load-2.ensures.beside; new_hedge = c.append.ensures.room; new_tree = same_room c.self.inside.rooms.new_tree.room } } in
     let old : state_of c.self.inside.rows c.self.inside.hedges c.self.inside.trees true ≡ c.args.self.now = whole_state c.self.inside.rows c.self.inside.hedges c.self.inside.trees c.self.inside.is_whole c.args.self.now whole c.self.view_is in
     let lh : c.args.hedge < length c.self.inside.hedges = subst (λ s. c.args.hedge < length s.hedges) (sym old) c.requires.hedge in
     let hn : List ℕ = c.load.new.self.room.numbers.items in
@@ -104,7 +102,7 @@ pub invariant_of-self-in_default : goal.invariant_of-self-in_default
 invariant_of-self-in_default g c =
     let whole : c.self.inside.is_whole ≡ true = c.if-not-self.false in
     let w : Worked g.K.Over.is_of c.self.inside.rows c.append.new.self c.self.inside.hedges c.self.inside.trees c.self.inside.rooms (record { hedge = c.load.new.self; tree = c.load-2.new.self; new_hedge = c.append.new.out; new_tree = c.self.inside.rooms.new_tree }) =
-          record { was = whole_held g.K.Over.is_of c.self.inside.rows c.self.inside.hedges c.self.inside.trees c.self.inside.rooms c.self.inside.is_whole whole c.self.invariant; same = c.append.ensures.same; stand = c.append.ensures.rows; ext = c.append.ensures.held; beside = record { hedge = c.load.ensures.beside; tree = c.load-2.ensures.beside; new_hedge = c.append.ensures.room; new_tree = same_room c.self.inside.rooms.new_tree.room } } in
+    record { was = whole_held g.K.Over.is_of c.self.inside.rows c.self.inside.hedges c.self.inside.trees c.self.inside.rooms c.self.inside.is_whole whole c.self.invariant; same = c.append.ensures.same; stand = c.append.ensures.rows; ext = c.append.ensures.held; beside = record { hedge = c.load.ensures.beside; tree = c.load-2.ensures.beside; new_hedge = c.append.ensures.room; new_tree = same_room c.self.inside.rooms.new_tree.room } } in
     let old : state_of c.self.inside.rows c.self.inside.hedges c.self.inside.trees true ≡ c.args.self.now = whole_state c.self.inside.rows c.self.inside.hedges c.self.inside.trees c.self.inside.is_whole c.args.self.now whole c.self.view_is in
     subst (λ (l : List (List ℕ)). AreHeld g.K.Over.is_of c.append.new.self (state_of c.append.new.self l c.self.inside.trees false) (record { hedge = c.load.new.self; tree = c.load-2.new.self; new_hedge = c.append.new.out; new_tree = c.self.inside.rooms.new_tree })) (sym c.in_default.ensures.err) (refused w)
 
@@ -112,7 +110,7 @@ pub returns-in_default-clause-grows : goal.returns-in_default-clause-grows
 returns-in_default-clause-grows g c =
     let whole : c.self.inside.is_whole ≡ true = c.if-not-self.false in
     let w : Worked g.K.Over.is_of c.self.inside.rows c.append.new.self c.self.inside.hedges c.self.inside.trees c.self.inside.rooms (record { hedge = c.load.new.self; tree = c.load-2.new.self; new_hedge = c.append.new.out; new_tree = c.self.inside.rooms.new_tree }) =
-          record { was = whole_held g.K.Over.is_of c.self.inside.rows c.self.inside.hedges c.self.inside.trees c.self.inside.rooms c.self.inside.is_whole whole c.self.invariant; same = c.append.ensures.same; stand = c.append.ensures.rows; ext = c.append.ensures.held; beside = record { hedge = c.load.ensures.beside; tree = c.load-2.ensures.beside; new_hedge = c.append.ensures.room; new_tree = same_room c.self.inside.rooms.new_tree.room } } in
+    record { was = whole_held g.K.Over.is_of c.self.inside.rows c.self.inside.hedges c.self.inside.trees c.self.inside.rooms c.self.inside.is_whole whole c.self.invariant; same = c.append.ensures.same; stand = c.append.ensures.rows; ext = c.append.ensures.held; beside = record { hedge = c.load.ensures.beside; tree = c.load-2.ensures.beside; new_hedge = c.append.ensures.room; new_tree = same_room c.self.inside.rooms.new_tree.room } } in
     let old : state_of c.self.inside.rows c.self.inside.hedges c.self.inside.trees true ≡ c.args.self.now = whole_state c.self.inside.rows c.self.inside.hedges c.self.inside.trees c.self.inside.is_whole c.args.self.now whole c.self.view_is in
     subst (λ (l : List (List ℕ)). Grows (held_of g.K.Over.is_of c.args.self.now) (held_of g.K.Over.is_of (state_of c.append.new.self l c.self.inside.trees false))) (sym c.in_default.ensures.err) (grows_as w false c.args.self.now old)
 
@@ -121,7 +119,7 @@ pub invariant_of-self-2 : goal.invariant_of-self-2
 invariant_of-self-2 g c =
     let whole : c.self.inside.is_whole ≡ true = c.if-not-self.false in
     let w : Worked g.K.Over.is_of c.self.inside.rows c.append.new.self c.self.inside.hedges c.self.inside.trees c.self.inside.rooms (record { hedge = c.load.new.self; tree = c.load-2.new.self; new_hedge = c.append.new.out; new_tree = c.self.inside.rooms.new_tree }) =
-          record { was = whole_held g.K.Over.is_of c.self.inside.rows c.self.inside.hedges c.self.inside.trees c.self.inside.rooms c.self.inside.is_whole whole c.self.invariant; same = c.append.ensures.same; stand = c.append.ensures.rows; ext = c.append.ensures.held; beside = record { hedge = c.load.ensures.beside; tree = c.load-2.ensures.beside; new_hedge = c.append.ensures.room; new_tree = same_room c.self.inside.rooms.new_tree.room } } in
+    record { was = whole_held g.K.Over.is_of c.self.inside.rows c.self.inside.hedges c.self.inside.trees c.self.inside.rooms c.self.inside.is_whole whole c.self.invariant; same = c.append.ensures.same; stand = c.append.ensures.rows; ext = c.append.ensures.held; beside = record { hedge = c.load.ensures.beside; tree = c.load-2.ensures.beside; new_hedge = c.append.ensures.room; new_tree = same_room c.self.inside.rooms.new_tree.room } } in
     let old : state_of c.self.inside.rows c.self.inside.hedges c.self.inside.trees true ≡ c.args.self.now = whole_state c.self.inside.rows c.self.inside.hedges c.self.inside.trees c.self.inside.is_whole c.args.self.now whole c.self.view_is in
     let row = c.in-Ok-true.ensures.row c.in-Ok-true.field-0-test in
     let out = c.append.new.out.room in
@@ -134,7 +132,7 @@ pub returns-clause-grows : goal.returns-clause-grows
 returns-clause-grows g c =
     let whole : c.self.inside.is_whole ≡ true = c.if-not-self.false in
     let w : Worked g.K.Over.is_of c.self.inside.rows c.append.new.self c.self.inside.hedges c.self.inside.trees c.self.inside.rooms (record { hedge = c.load.new.self; tree = c.load-2.new.self; new_hedge = c.append.new.out; new_tree = c.self.inside.rooms.new_tree }) =
-          record { was = whole_held g.K.Over.is_of c.self.inside.rows c.self.inside.hedges c.self.inside.trees c.self.inside.rooms c.self.inside.is_whole whole c.self.invariant; same = c.append.ensures.same; stand = c.append.ensures.rows; ext = c.append.ensures.held; beside = record { hedge = c.load.ensures.beside; tree = c.load-2.ensures.beside; new_hedge = c.append.ensures.room; new_tree = same_room c.self.inside.rooms.new_tree.room } } in
+    record { was = whole_held g.K.Over.is_of c.self.inside.rows c.self.inside.hedges c.self.inside.trees c.self.inside.rooms c.self.inside.is_whole whole c.self.invariant; same = c.append.ensures.same; stand = c.append.ensures.rows; ext = c.append.ensures.held; beside = record { hedge = c.load.ensures.beside; tree = c.load-2.ensures.beside; new_hedge = c.append.ensures.room; new_tree = same_room c.self.inside.rooms.new_tree.room } } in
     let old : state_of c.self.inside.rows c.self.inside.hedges c.self.inside.trees true ≡ c.args.self.now = whole_state c.self.inside.rows c.self.inside.hedges c.self.inside.trees c.self.inside.is_whole c.args.self.now whole c.self.view_is in
     let row = c.in-Ok-true.ensures.row c.in-Ok-true.field-0-test in
     let out = c.append.new.out.room in
@@ -147,7 +145,7 @@ pub returns-clause-made : goal.returns-clause-made
 returns-clause-made g c =
     let whole : c.self.inside.is_whole ≡ true = c.if-not-self.false in
     let w : Worked g.K.Over.is_of c.self.inside.rows c.append.new.self c.self.inside.hedges c.self.inside.trees c.self.inside.rooms (record { hedge = c.load.new.self; tree = c.load-2.new.self; new_hedge = c.append.new.out; new_tree = c.self.inside.rooms.new_tree }) =
-          record { was = whole_held g.K.Over.is_of c.self.inside.rows c.self.inside.hedges c.self.inside.trees c.self.inside.rooms c.self.inside.is_whole whole c.self.invariant; same = c.append.ensures.same; stand = c.append.ensures.rows; ext = c.append.ensures.held; beside = record { hedge = c.load.ensures.beside; tree = c.load-2.ensures.beside; new_hedge = c.append.ensures.room; new_tree = same_room c.self.inside.rooms.new_tree.room } } in
+    record { was = whole_held g.K.Over.is_of c.self.inside.rows c.self.inside.hedges c.self.inside.trees c.self.inside.rooms c.self.inside.is_whole whole c.self.invariant; same = c.append.ensures.same; stand = c.append.ensures.rows; ext = c.append.ensures.held; beside = record { hedge = c.load.ensures.beside; tree = c.load-2.ensures.beside; new_hedge = c.append.ensures.room; new_tree = same_room c.self.inside.rooms.new_tree.room } } in
     let old : state_of c.self.inside.rows c.self.inside.hedges c.self.inside.trees true ≡ c.args.self.now = whole_state c.self.inside.rows c.self.inside.hedges c.self.inside.trees c.self.inside.is_whole c.args.self.now whole c.self.view_is in
     let lh : c.args.hedge < length c.self.inside.hedges = subst (λ s. c.args.hedge < length s.hedges) (sym old) c.requires.hedge in
     let hn : List ℕ = c.load.new.self.room.numbers.items in

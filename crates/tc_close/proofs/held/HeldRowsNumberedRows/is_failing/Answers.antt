@@ -1,4 +1,4 @@
-use Rattle.std.proofs.Common.{◌≡◌, ◌<◌, ℕ, List, length, subst, sym, refl}
+use Rattle.std.proofs.Common.{◌<◌, length, subst, sym, refl}
 use Rattle.tc_close.proofs.Holding.{tree_fits, are_rows, tree_stands, taken, tested, same_rows, same_room, passes_or_fails, not_admitted}
 use Rattle.tc_close.proofs.held.HeldRowsNumberedRows.is_failing.Goals as goal
 

@@ -1,10 +1,8 @@
-use Rattle.std.proofs.Common.{◌≡◌, ◌<◌, ◌⊎◌, ◌++◌, ◌∷◌, [], ℕ, List, length, true, false, slice_get, Some, Ok, Err, not, subst, sym, ap, ◌∙◌, refl, rules, arith}
-use Rattle.tc_beh.specs.declared.outputs.RowFault.TheVariants as row_fault
+use Rattle.std.proofs.Common.{◌≡◌, ◌<◌, ◌⊎◌, ◌++◌, ◌∷◌, [], ℕ, List, length, true, false, slice_get, Some, Err, subst, sym, ap, ◌∙◌}
 use Rattle.tc_settle.specs.Held.{IsHeldAs, Grows}
-use Rattle.tc_close.specs.declared.rooms.Rooms.{Rooms}
-use Rattle.tc_close.specs.RowState.{RowState, held_of}
+use Rattle.tc_close.specs.RowState.{held_of}
 use Rattle.tc_close.specs.HeldRows.{state_of, AreHeld}
-use Rattle.tc_close.proofs.Growing.{Keeps, keeps, grows_self}
+use Rattle.tc_close.proofs.Growing.{Keeps, keeps}
 use Rattle.tc_close.proofs.Holding.{Worked, whole_held, whole_state, same_room, are_rows, refused, grows_as, grows_tree, tree_came, new_tree_parted, full_wrap, made_wrap, taken, dead, dead_wrap, hedge_fits, hedge_stands, low_symbol}
 use Rattle.tc_close.proofs.held.HeldRowsNumberedRows.wrap.Goals as goal
 
@@ -33,7 +31,7 @@ pub invariant_of-self : goal.invariant_of-self
 invariant_of-self g c =
     let whole : c.self.inside.is_whole ≡ true = c.if-not-self.false in
     let w : Worked g.K.Over.is_of c.self.inside.rows c.wrap.new.self c.self.inside.hedges c.self.inside.trees c.self.inside.rooms (record { hedge = c.load.new.self; tree = c.self.inside.rooms.tree; new_hedge = c.self.inside.rooms.new_hedge; new_tree = c.wrap.new.out }) =
-          record { was = whole_held g.K.Over.is_of c.self.inside.rows c.self.inside.hedges c.self.inside.trees c.self.inside.rooms c.self.inside.is_whole whole c.self.invariant; same = c.wrap.ensures.same; stand = c.wrap.ensures.rows; ext = c.wrap.ensures.held; beside = record { hedge = c.load.ensures.beside; tree = same_room c.self.inside.rooms.tree.room; new_hedge = same_room c.self.inside.rooms.new_hedge.room; new_tree = c.wrap.ensures.room } } in
+    record { was = whole_held g.K.Over.is_of c.self.inside.rows c.self.inside.hedges c.self.inside.trees c.self.inside.rooms c.self.inside.is_whole whole c.self.invariant; same = c.wrap.ensures.same; stand = c.wrap.ensures.rows; ext = c.wrap.ensures.held; beside = record { hedge = c.load.ensures.beside; tree = same_room c.self.inside.rooms.tree.room; new_hedge = same_room c.self.inside.rooms.new_hedge.room; new_tree = c.wrap.ensures.room } } in
     let old : state_of c.self.inside.rows c.self.inside.hedges c.self.inside.trees true ≡ c.args.self.now = whole_state c.self.inside.rows c.self.inside.hedges c.self.inside.trees c.self.inside.is_whole c.args.self.now whole c.self.view_is in
     dead w (c.in-Ok-false.ensures.dead c.in-Ok-false.field-0-test).0
 
@@ -41,7 +39,7 @@ pub returns-in-Ok-false-clause-grows : goal.returns-in-Ok-false-clause-grows
 returns-in-Ok-false-clause-grows g c =
     let whole : c.self.inside.is_whole ≡ true = c.if-not-self.false in
     let w : Worked g.K.Over.is_of c.self.inside.rows c.wrap.new.self c.self.inside.hedges c.self.inside.trees c.self.inside.rooms (record { hedge = c.load.new.self; tree = c.self.inside.rooms.tree; new_hedge = c.self.inside.rooms.new_hedge; new_tree = c.wrap.new.out }) =
-          record { was = whole_held g.K.Over.is_of c.self.inside.rows c.self.inside.hedges c.self.inside.trees c.self.inside.rooms c.self.inside.is_whole whole c.self.invariant; same = c.wrap.ensures.same; stand = c.wrap.ensures.rows; ext = c.wrap.ensures.held; beside = record { hedge = c.load.ensures.beside; tree = same_room c.self.inside.rooms.tree.room; new_hedge = same_room c.self.inside.rooms.new_hedge.room; new_tree = c.wrap.ensures.room } } in
+    record { was = whole_held g.K.Over.is_of c.self.inside.rows c.self.inside.hedges c.self.inside.trees c.self.inside.rooms c.self.inside.is_whole whole c.self.invariant; same = c.wrap.ensures.same; stand = c.wrap.ensures.rows; ext = c.wrap.ensures.held; beside = record { hedge = c.load.ensures.beside; tree = same_room c.self.inside.rooms.tree.room; new_hedge = same_room c.self.inside.rooms.new_hedge.room; new_tree = c.wrap.ensures.room } } in
     let old : state_of c.self.inside.rows c.self.inside.hedges c.self.inside.trees true ≡ c.args.self.now = whole_state c.self.inside.rows c.self.inside.hedges c.self.inside.trees c.self.inside.is_whole c.args.self.now whole c.self.view_is in
     grows_as w true c.args.self.now old
 
@@ -49,7 +47,7 @@ pub returns-in-Ok-false-clause-made : goal.returns-in-Ok-false-clause-made
 returns-in-Ok-false-clause-made g c =
     let whole : c.self.inside.is_whole ≡ true = c.if-not-self.false in
     let w : Worked g.K.Over.is_of c.self.inside.rows c.wrap.new.self c.self.inside.hedges c.self.inside.trees c.self.inside.rooms (record { hedge = c.load.new.self; tree = c.self.inside.rooms.tree; new_hedge = c.self.inside.rooms.new_hedge; new_tree = c.wrap.new.out }) =
-          record { was = whole_held g.K.Over.is_of c.self.inside.rows c.self.inside.hedges c.self.inside.trees c.self.inside.rooms c.self.inside.is_whole whole c.self.invariant; same = c.wrap.ensures.same; stand = c.wrap.ensures.rows; ext = c.wrap.ensures.held; beside = record { hedge = c.load.ensures.beside; tree = same_room c.self.inside.rooms.tree.room; new_hedge = same_room c.self.inside.rooms.new_hedge.room; new_tree = c.wrap.ensures.room } } in
+    record { was = whole_held g.K.Over.is_of c.self.inside.rows c.self.inside.hedges c.self.inside.trees c.self.inside.rooms c.self.inside.is_whole whole c.self.invariant; same = c.wrap.ensures.same; stand = c.wrap.ensures.rows; ext = c.wrap.ensures.held; beside = record { hedge = c.load.ensures.beside; tree = same_room c.self.inside.rooms.tree.room; new_hedge = same_room c.self.inside.rooms.new_hedge.room; new_tree = c.wrap.ensures.room } } in
     let old : state_of c.self.inside.rows c.self.inside.hedges c.self.inside.trees true ≡ c.args.self.now = whole_state c.self.inside.rows c.self.inside.hedges c.self.inside.trees c.self.inside.is_whole c.args.self.now whole c.self.view_is in
     let lh : c.args.hedge < length c.self.inside.hedges = subst (λ s. c.args.hedge < length s.hedges) (sym old) c.requires.hedge in
     let hn : List ℕ = c.load.new.self.room.numbers.items in
@@ -62,7 +60,7 @@ pub invariant_of-self-in-Err : goal.invariant_of-self-in-Err
 invariant_of-self-in-Err g c =
     let whole : c.self.inside.is_whole ≡ true = c.if-not-self.false in
     let w : Worked g.K.Over.is_of c.self.inside.rows c.wrap.new.self c.self.inside.hedges c.self.inside.trees c.self.inside.rooms (record { hedge = c.load.new.self; tree = c.self.inside.rooms.tree; new_hedge = c.self.inside.rooms.new_hedge; new_tree = c.wrap.new.out }) =
-          record { was = whole_held g.K.Over.is_of c.self.inside.rows c.self.inside.hedges c.self.inside.trees c.self.inside.rooms c.self.inside.is_whole whole c.self.invariant; same = c.wrap.ensures.same; stand = c.wrap.ensures.rows; ext = c.wrap.ensures.held; beside = record { hedge = c.load.ensures.beside; tree = same_room c.self.inside.rooms.tree.room; new_hedge = same_room c.self.inside.rooms.new_hedge.room; new_tree = c.wrap.ensures.room } } in
+    record { was = whole_held g.K.Over.is_of c.self.inside.rows c.self.inside.hedges c.self.inside.trees c.self.inside.rooms c.self.inside.is_whole whole c.self.invariant; same = c.wrap.ensures.same; stand = c.wrap.ensures.rows; ext = c.wrap.ensures.held; beside = record { hedge = c.load.ensures.beside; tree = same_room c.self.inside.rooms.tree.room; new_hedge = same_room c.self.inside.rooms.new_hedge.room; new_tree = c.wrap.ensures.room } } in
     let old : state_of c.self.inside.rows c.self.inside.hedges c.self.inside.trees true ≡ c.args.self.now = whole_state c.self.inside.rows c.self.inside.hedges c.self.inside.trees c.self.inside.is_whole c.args.self.now whole c.self.view_is in
     refused w
 
@@ -70,7 +68,7 @@ pub returns-in-Err-clause-grows : goal.returns-in-Err-clause-grows
 returns-in-Err-clause-grows g c =
     let whole : c.self.inside.is_whole ≡ true = c.if-not-self.false in
     let w : Worked g.K.Over.is_of c.self.inside.rows c.wrap.new.self c.self.inside.hedges c.self.inside.trees c.self.inside.rooms (record { hedge = c.load.new.self; tree = c.self.inside.rooms.tree; new_hedge = c.self.inside.rooms.new_hedge; new_tree = c.wrap.new.out }) =
-          record { was = whole_held g.K.Over.is_of c.self.inside.rows c.self.inside.hedges c.self.inside.trees c.self.inside.rooms c.self.inside.is_whole whole c.self.invariant; same = c.wrap.ensures.same; stand = c.wrap.ensures.rows; ext = c.wrap.ensures.held; beside = record { hedge = c.load.ensures.beside; tree = same_room c.self.inside.rooms.tree.room; new_hedge = same_room c.self.inside.rooms.new_hedge.room; new_tree = c.wrap.ensures.room } } in
+    record { was = whole_held g.K.Over.is_of c.self.inside.rows c.self.inside.hedges c.self.inside.trees c.self.inside.rooms c.self.inside.is_whole whole c.self.invariant; same = c.wrap.ensures.same; stand = c.wrap.ensures.rows; ext = c.wrap.ensures.held; beside = record { hedge = c.load.ensures.beside; tree = same_room c.self.inside.rooms.tree.room; new_hedge = same_room c.self.inside.rooms.new_hedge.room; new_tree = c.wrap.ensures.room } } in
     let old : state_of c.self.inside.rows c.self.inside.hedges c.self.inside.trees true ≡ c.args.self.now = whole_state c.self.inside.rows c.self.inside.hedges c.self.inside.trees c.self.inside.is_whole c.args.self.now whole c.self.view_is in
     grows_as w false c.args.self.now old
 
@@ -78,7 +76,7 @@ pub returns-in-Err-clause-full : goal.returns-in-Err-clause-full
 returns-in-Err-clause-full g c = λ f.
     let whole : c.self.inside.is_whole ≡ true = c.if-not-self.false in
     let w : Worked g.K.Over.is_of c.self.inside.rows c.wrap.new.self c.self.inside.hedges c.self.inside.trees c.self.inside.rooms (record { hedge = c.load.new.self; tree = c.self.inside.rooms.tree; new_hedge = c.self.inside.rooms.new_hedge; new_tree = c.wrap.new.out }) =
-          record { was = whole_held g.K.Over.is_of c.self.inside.rows c.self.inside.hedges c.self.inside.trees c.self.inside.rooms c.self.inside.is_whole whole c.self.invariant; same = c.wrap.ensures.same; stand = c.wrap.ensures.rows; ext = c.wrap.ensures.held; beside = record { hedge = c.load.ensures.beside; tree = same_room c.self.inside.rooms.tree.room; new_hedge = same_room c.self.inside.rooms.new_hedge.room; new_tree = c.wrap.ensures.room } } in
+    record { was = whole_held g.K.Over.is_of c.self.inside.rows c.self.inside.hedges c.self.inside.trees c.self.inside.rooms c.self.inside.is_whole whole c.self.invariant; same = c.wrap.ensures.same; stand = c.wrap.ensures.rows; ext = c.wrap.ensures.held; beside = record { hedge = c.load.ensures.beside; tree = same_room c.self.inside.rooms.tree.room; new_hedge = same_room c.self.inside.rooms.new_hedge.room; new_tree = c.wrap.ensures.room } } in
     let old : state_of c.self.inside.rows c.self.inside.hedges c.self.inside.trees true ≡ c.args.self.now = whole_state c.self.inside.rows c.self.inside.hedges c.self.inside.trees c.self.inside.is_whole c.args.self.now whole c.self.view_is in
     let lh : c.args.hedge < length c.self.inside.hedges = subst (λ s. c.args.hedge < length s.hedges) (sym old) c.requires.hedge in
     let hn : List ℕ = c.load.new.self.room.numbers.items in
@@ -93,7 +91,7 @@ pub invariant_of-self-in_default : goal.invariant_of-self-in_default
 invariant_of-self-in_default g c =
     let whole : c.self.inside.is_whole ≡ true = c.if-not-self.false in
     let w : Worked g.K.Over.is_of c.self.inside.rows c.wrap.new.self c.self.inside.hedges c.self.inside.trees c.self.inside.rooms (record { hedge = c.load.new.self; tree = c.self.inside.rooms.tree; new_hedge = c.self.inside.rooms.new_hedge; new_tree = c.wrap.new.out }) =
-          record { was = whole_held g.K.Over.is_of c.self.inside.rows c.self.inside.hedges c.self.inside.trees c.self.inside.rooms c.self.inside.is_whole whole c.self.invariant; same = c.wrap.ensures.same; stand = c.wrap.ensures.rows; ext = c.wrap.ensures.held; beside = record { hedge = c.load.ensures.beside; tree = same_room c.self.inside.rooms.tree.room; new_hedge = same_room c.self.inside.rooms.new_hedge.room; new_tree = c.wrap.ensures.room } } in
+    record { was = whole_held g.K.Over.is_of c.self.inside.rows c.self.inside.hedges c.self.inside.trees c.self.inside.rooms c.self.inside.is_whole whole c.self.invariant; same = c.wrap.ensures.same; stand = c.wrap.ensures.rows; ext = c.wrap.ensures.held; beside = record { hedge = c.load.ensures.beside; tree = same_room c.self.inside.rooms.tree.room; new_hedge = same_room c.self.inside.rooms.new_hedge.room; new_tree = c.wrap.ensures.room } } in
     let old : state_of c.self.inside.rows c.self.inside.hedges c.self.inside.trees true ≡ c.args.self.now = whole_state c.self.inside.rows c.self.inside.hedges c.self.inside.trees c.self.inside.is_whole c.args.self.now whole c.self.view_is in
     subst (λ (l : List (List ℕ)). AreHeld g.K.Over.is_of c.wrap.new.self (state_of c.wrap.new.self c.self.inside.hedges l false) (record { hedge = c.load.new.self; tree = c.self.inside.rooms.tree; new_hedge = c.self.inside.rooms.new_hedge; new_tree = c.wrap.new.out })) (sym c.in_default.ensures.err) (refused w)
 
@@ -101,7 +99,7 @@ pub returns-in_default-clause-grows : goal.returns-in_default-clause-grows
 returns-in_default-clause-grows g c =
     let whole : c.self.inside.is_whole ≡ true = c.if-not-self.false in
     let w : Worked g.K.Over.is_of c.self.inside.rows c.wrap.new.self c.self.inside.hedges c.self.inside.trees c.self.inside.rooms (record { hedge = c.load.new.self; tree = c.self.inside.rooms.tree; new_hedge = c.self.inside.rooms.new_hedge; new_tree = c.wrap.new.out }) =
-          record { was = whole_held g.K.Over.is_of c.self.inside.rows c.self.inside.hedges c.self.inside.trees c.self.inside.rooms c.self.inside.is_whole whole c.self.invariant; same = c.wrap.ensures.same; stand = c.wrap.ensures.rows; ext = c.wrap.ensures.held; beside = record { hedge = c.load.ensures.beside; tree = same_room c.self.inside.rooms.tree.room; new_hedge = same_room c.self.inside.rooms.new_hedge.room; new_tree = c.wrap.ensures.room } } in
+    record { was = whole_held g.K.Over.is_of c.self.inside.rows c.self.inside.hedges c.self.inside.trees c.self.inside.rooms c.self.inside.is_whole whole c.self.invariant; same = c.wrap.ensures.same; stand = c.wrap.ensures.rows; ext = c.wrap.ensures.held; beside = record { hedge = c.load.ensures.beside; tree = same_room c.self.inside.rooms.tree.room; new_hedge = same_room c.self.inside.rooms.new_hedge.room; new_tree = c.wrap.ensures.room } } in
     let old : state_of c.self.inside.rows c.self.inside.hedges c.self.inside.trees true ≡ c.args.self.now = whole_state c.self.inside.rows c.self.inside.hedges c.self.inside.trees c.self.inside.is_whole c.args.self.now whole c.self.view_is in
     subst (λ (l : List (List ℕ)). Grows (held_of g.K.Over.is_of c.args.self.now) (held_of g.K.Over.is_of (state_of c.wrap.new.self c.self.inside.hedges l false))) (sym c.in_default.ensures.err) (grows_as w false c.args.self.now old)
 
@@ -110,7 +108,7 @@ pub invariant_of-self-2 : goal.invariant_of-self-2
 invariant_of-self-2 g c =
     let whole : c.self.inside.is_whole ≡ true = c.if-not-self.false in
     let w : Worked g.K.Over.is_of c.self.inside.rows c.wrap.new.self c.self.inside.hedges c.self.inside.trees c.self.inside.rooms (record { hedge = c.load.new.self; tree = c.self.inside.rooms.tree; new_hedge = c.self.inside.rooms.new_hedge; new_tree = c.wrap.new.out }) =
-          record { was = whole_held g.K.Over.is_of c.self.inside.rows c.self.inside.hedges c.self.inside.trees c.self.inside.rooms c.self.inside.is_whole whole c.self.invariant; same = c.wrap.ensures.same; stand = c.wrap.ensures.rows; ext = c.wrap.ensures.held; beside = record { hedge = c.load.ensures.beside; tree = same_room c.self.inside.rooms.tree.room; new_hedge = same_room c.self.inside.rooms.new_hedge.room; new_tree = c.wrap.ensures.room } } in
+    record { was = whole_held g.K.Over.is_of c.self.inside.rows c.self.inside.hedges c.self.inside.trees c.self.inside.rooms c.self.inside.is_whole whole c.self.invariant; same = c.wrap.ensures.same; stand = c.wrap.ensures.rows; ext = c.wrap.ensures.held; beside = record { hedge = c.load.ensures.beside; tree = same_room c.self.inside.rooms.tree.room; new_hedge = same_room c.self.inside.rooms.new_hedge.room; new_tree = c.wrap.ensures.room } } in
     let old : state_of c.self.inside.rows c.self.inside.hedges c.self.inside.trees true ≡ c.args.self.now = whole_state c.self.inside.rows c.self.inside.hedges c.self.inside.trees c.self.inside.is_whole c.args.self.now whole c.self.view_is in
     let row = c.in-Ok-true.ensures.row c.in-Ok-true.field-0-test in
     let out = c.wrap.new.out.room in
@@ -123,7 +121,7 @@ pub returns-clause-grows : goal.returns-clause-grows
 returns-clause-grows g c =
     let whole : c.self.inside.is_whole ≡ true = c.if-not-self.false in
     let w : Worked g.K.Over.is_of c.self.inside.rows c.wrap.new.self c.self.inside.hedges c.self.inside.trees c.self.inside.rooms (record { hedge = c.load.new.self; tree = c.self.inside.rooms.tree; new_hedge = c.self.inside.rooms.new_hedge; new_tree = c.wrap.new.out }) =
-          record { was = whole_held g.K.Over.is_of c.self.inside.rows c.self.inside.hedges c.self.inside.trees c.self.inside.rooms c.self.inside.is_whole whole c.self.invariant; same = c.wrap.ensures.same; stand = c.wrap.ensures.rows; ext = c.wrap.ensures.held; beside = record { hedge = c.load.ensures.beside; tree = same_room c.self.inside.rooms.tree.room; new_hedge = same_room c.self.inside.rooms.new_hedge.room; new_tree = c.wrap.ensures.room } } in
+    record { was = whole_held g.K.Over.is_of c.self.inside.rows c.self.inside.hedges c.self.inside.trees c.self.inside.rooms c.self.inside.is_whole whole c.self.invariant; same = c.wrap.ensures.same; stand = c.wrap.ensures.rows; ext = c.wrap.ensures.held; beside = record { hedge = c.load.ensures.beside; tree = same_room c.self.inside.rooms.tree.room; new_hedge = same_room c.self.inside.rooms.new_hedge.room; new_tree = c.wrap.ensures.room } } in
     let old : state_of c.self.inside.rows c.self.inside.hedges c.self.inside.trees true ≡ c.args.self.now = whole_state c.self.inside.rows c.self.inside.hedges c.self.inside.trees c.self.inside.is_whole c.args.self.now whole c.self.view_is in
     let row = c.in-Ok-true.ensures.row c.in-Ok-true.field-0-test in
     let out = c.wrap.new.out.room in
@@ -136,7 +134,7 @@ pub returns-clause-made : goal.returns-clause-made
 returns-clause-made g c =
     let whole : c.self.inside.is_whole ≡ true = c.if-not-self.false in
     let w : Worked g.K.Over.is_of c.self.inside.rows c.wrap.new.self c.self.inside.hedges c.self.inside.trees c.self.inside.rooms (record { hedge = c.load.new.self; tree = c.self.inside.rooms.tree; new_hedge = c.self.inside.rooms.new_hedge; new_tree = c.wrap.new.out }) =
-          record { was = whole_held g.K.Over.is_of c.self.inside.rows c.self.inside.hedges c.self.inside.trees c.self.inside.rooms c.self.inside.is_whole whole c.self.invariant; same = c.wrap.ensures.same; stand = c.wrap.ensures.rows; ext = c.wrap.ensures.held; beside = record { hedge = c.load.ensures.beside; tree = same_room c.self.inside.rooms.tree.room; new_hedge = same_room c.self.inside.rooms.new_hedge.room; new_tree = c.wrap.ensures.room } } in
+    record { was = whole_held g.K.Over.is_of c.self.inside.rows c.self.inside.hedges c.self.inside.trees c.self.inside.rooms c.self.inside.is_whole whole c.self.invariant; same = c.wrap.ensures.same; stand = c.wrap.ensures.rows; ext = c.wrap.ensures.held; beside = record { hedge = c.load.ensures.beside; tree = same_room c.self.inside.rooms.tree.room; new_hedge = same_room c.self.inside.rooms.new_hedge.room; new_tree = c.wrap.ensures.room } } in
     let old : state_of c.self.inside.rows c.self.inside.hedges c.self.inside.trees true ≡ c.args.self.now = whole_state c.self.inside.rows c.self.inside.hedges c.self.inside.trees c.self.inside.is_whole c.args.self.now whole c.self.view_is in
     let lh : c.args.hedge < length c.self.inside.hedges = subst (λ s. c.args.hedge < length s.hedges) (sym old) c.requires.hedge in
     let hn : List ℕ = c.load.new.self.room.numbers.items in
