@@ -30,8 +30,7 @@ use Rattle.tc_close.specs.Least.{IsLeastFailing}
 use Rattle.tc_close.specs.RowState.{RowState, hedge_at, tree_at, StandsInRow, held_of, Known, IsMadeHedge, IsMadeTree, AreMadeEntries, IsFullBy}
 use Rattle.tc_close.specs.Decisions.{IsCounter, KeepsCounts, AreCounts}
 use Rattle.tc_close.specs.declared.decision.Counts.{Counts}
-use Rattle.tc_close.proofs.Least.{costs_are_least}
-use Rattle.tc_close.proofs.Settling.{low_or_high}
+use Rattle.tc_close.proofs.Least.{costs_are_least, low_or_high}
 use Rattle.tc_close.proofs.Verdict.{lists_tell}
 use Rattle.tc_close.proofs.Linked.{tree_rows, hedge_rows, tree_of_listed, tree_from, hedge_from, tree_number, are_closed, trees_come, hedges_come, trees_different, hedges_different, sets_different, in_set, set_in, made_of}
 
@@ -168,7 +167,7 @@ module _ (x : Triple) (s : RowState) (IsOf : Triple → Type 0) (is : IsOf x) (k
 
       pub is_safe : ((t : ℕ) → t < length s.trees → (held_of IsOf s).passes t) → IsSafe x.input x.output (sheet x)
       is_safe pass =
-          ((lists_tell x triple).0 (tree_rows x s) (hedge_rows x s) lists_closed (trees_come x s IsOf is known all)).1
+          (lists_tell x triple (tree_rows x s) (hedge_rows x s) lists_closed (trees_come x s IsOf is known all)).1
           (λ r ct admitted. let (u, low, e) = tree_of_listed x s r ct in subst (λ (q : TreeRow). IsTrue (is_admitted x q) → IsPassing x q) e (pass u low x is) admitted)
 
       -- a row that fails, before which none does, where rows stand in order of cost

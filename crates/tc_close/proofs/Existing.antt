@@ -22,7 +22,7 @@ use Rattle.tc_rules.proofs.SelectStates.{count_cons, settles}
 use Rattle.tc_rows.specs.Triples.{Triple, IsTriple}
 use Rattle.tc_close.specs.Triples.{IsTripleOf, TriplesAreThere}
 use Rattle.tc_close.proofs.Reaching.{has_graph}
-use Rattle.tc_close.proofs.Settling.{low_or_high}
+use Rattle.tc_close.proofs.Least.{low_or_high}
 
 -- a list of what there is for each number
 record Chosen {A : Type 0} (P : ℕ → A → Type 0) (n : ℕ) : Type 0 where

@@ -27,6 +27,7 @@ use Rattle.tc_close.specs.declared.rooms.Rooms.{Rooms}
 use Rattle.tc_close.specs.RowState.{RowState, hedge_at, tree_at, AreGood, Each, Extended, IsMadeHedge, IsMadeTree, AreMadeEntries, IsFullBy, IsFull, held_of}
 use Rattle.tc_close.specs.HeldRows.{AreRoomsOf, AreHeld, state_of}
 use Rattle.tc_rows.proofs.AllLaws.{rows_are_lawful}
+use Rattle.tc_close.proofs.Least.{low_or_high}
 use Rattle.tc_close.proofs.Same.{entry_in}
 use Rattle.tc_close.proofs.Growing.{Keeps, hedge_on, tree_on, hedge_same, tree_same, stood_on, grows, grows_self}
 
@@ -49,9 +50,6 @@ rooms_on x rooms moved m a = record {
   new_hedge = room_on (hedge_layout x) rooms.new_hedge.room moved.new_hedge.room a.new_hedge m.new_hedge;
   new_tree = room_on (tree_layout x) rooms.new_tree.room moved.new_tree.room a.new_tree m.new_tree;
 }
-
-low_or_high : (i n : ℕ) → (i < n) ⊎ (n ≤ i)
-low_or_high i n = grind arith
 
 -- a set that came on stands in the row
 entry_found : (l : Layout) (held : List Matrix) (ns : List ℕ) (k p : ℕ) → IsRoom l held ns → p < l.entries → output_at l.flags ns p ≡ k → Contains (entries_by held (outputs_in l.flags l.entries ns)) (pairs_of (get_or held k no_matrix))

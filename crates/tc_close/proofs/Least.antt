@@ -9,6 +9,9 @@ use Rattle.tc_rows.specs.Derivations.{HedgeFrom, TreeFrom, from_none, from_appen
 use Rattle.tc_rows.proofs.Derived.{derivations_are_exact}
 use Rattle.tc_close.specs.Least.{IsLeastTree, IsLeastHedge, IsText, IsWrapOf, IsNone, IsAppendOf, LeastCosts, LeastCounterexamples, CostsAreLeast}
 
+pub low_or_high : (i n : ℕ) → (i < n) ⊎ (n ≤ i)
+low_or_high i n = grind arith
+
 module _ (x : Triple) where
   pub some_cost : {r : TreeRow} {c : ℕ} → TreeFrom x r c → 1 ≤ c
   some_cost (from_text l t) = omega arith

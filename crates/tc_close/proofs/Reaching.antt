@@ -20,7 +20,7 @@ use Rattle.tc_rules.proofs.SelectStates.{round_once, start_once}
 use Rattle.tc_rows.proofs.Leading.{has_at}
 use Rattle.tc_rows.proofs.Numbers.{number_finds}
 use Rattle.tc_rows.proofs.States.{all_count_so, all_once}
-use Rattle.tc_close.proofs.Settling.{low_or_high}
+use Rattle.tc_close.proofs.Least.{low_or_high}
 
 none_of : {X : Type 0} (xs : List X) → length xs ≤ 0 → xs ≡ []
 none_of [] l = refl

@@ -1,5 +1,4 @@
 pub mod Least
-pub mod Settling
 pub mod Verdict
 pub mod Triples
 pub mod Decisions

@@ -1,5 +1,5 @@
 // Whether a stylesheet is safe between two schemas, and a least counterexample where it isn't.
-ghost use Rattle.std.specs.Prelude.{◌≡◌, ◌≤◌, IfOk, IfErr, OnOk};
+ghost use Rattle.std.specs.Prelude.{◌≡◌, ◌≤◌, IfOk, IfErr};
 ghost use Rattle.tc_beh.specs.Machines.{IsMachine, IsMachineOf};
 ghost use Rattle.tc_close.specs.Decisions.{IsDecided, IsCloseCause};
 ghost use Rattle.tc_close.specs.RowState.{held_of, IsFull};

@@ -1,6 +1,5 @@
 // What is proved of costs.
 ghost use Rattle.tc_close.specs.Least.{CostsAreLeast};
-ghost use Rattle.tc_close.specs.Settling.{CostByCost};
 ghost use Rattle.tc_close.specs.Triples.{TriplesAgree, TriplesAreThere};
 ghost use Rattle.tc_close.specs.Verdict.{ListsTell};
 
@@ -11,16 +10,7 @@ pub fn law_of_least_costs()
     ensures { CostsAreLeast }
 {}
 
-/// The law of settling cost by cost: where all that is to be tried at a cost is listed there or before, what comes at
-/// costs so far is listed, each row at its least cost; and where the greatest costs of what is listed can't make up a
-/// further one, all is listed.
-pub fn law_of_settling()
-    ensures { CostByCost }
-{}
-
-/// The law of the verdict: closed lists of rows that come from rows tell whether the stylesheet is safe. Of what is
-/// listed cost by cost the first row that fails does so at the least cost of all, and where none fails, all rows that
-/// fail cost more.
+/// The law of the verdict: closed lists of rows that come from rows tell whether the stylesheet is safe.
 pub fn law_of_the_verdict()
     ensures { ListsTell }
 {}
