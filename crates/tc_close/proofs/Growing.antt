@@ -1,57 +1,33 @@
 -- Rows that are held go on standing for what they stood for where more comes on.
-use Rattle.std.proofs.Common.{◌≡◌, ◌<◌, ◌≤◌, ◌⊎◌, inl, inr, ◌++◌, ◌∷◌, ◌==◌, [], ℕ, suc, List, length, get_or, slice_get, Some, IsTrue, subst, sym, ap, ◌∙◌, refl, arith, append-nil, length-append}
+use Rattle.std.proofs.Common.{◌≡◌, ◌<◌, ◌≤◌, ◌⊎◌, inl, inr, ◌++◌, ◌∷◌, [], ℕ, suc, List, length, get_or, slice_get, Some, IsTrue, subst, sym, ap, ◌∙◌, refl, arith, append-nil, length-append}
 use Rattle.std.specs.List.{Contains}
 use Rattle.std.proofs.Math.ListN.{get_or-append}
+use Rattle.std.proofs.lemmas.List.{get_or-map, length-map}
 use Rattle.std.proofs.lemmas.Option.{get_or_from_slice_get, slice_get_within}
-use Rattle.tc_model.specs.States.{input, state_count}
 use Rattle.tc_mat.specs.Matrix.{Matrix}
-use Rattle.tc_rows.specs.Triples.{Triple, entries}
+use Rattle.tc_rows.specs.Triples.{Triple}
 use Rattle.tc_rows.specs.Rows.{HedgeRow, TreeRow, IsHedgeRow, IsTreeRow}
 use Rattle.tc_rows.specs.Arithmetic.{IsEmptyRow, IsTextRow, IsAppend, IsLiveAppend, IsWrap, IsLiveWrap, is_admitted, IsPassing}
 use Rattle.tc_rows.specs.Derivations.{IsFailing}
 use Rattle.tc_beh.specs.Places.{pairs_of, entries_by, no_matrix}
-use Rattle.tc_beh.specs.Rooms.{Layout, hedge_layout, tree_layout, IsRoom, hedge_row, tree_row, flagged, flags_in, outputs_in, looks_in}
+use Rattle.tc_beh.specs.Rooms.{Layout, hedge_layout, tree_layout, IsRoom, hedge_row, tree_row, outputs_in, output_at}
 use Rattle.tc_beh.specs.Held.{set_at}
 use Rattle.tc_beh.proofs.RoomRows.{output_is}
 use Rattle.tc_beh.proofs.RoomIs.{outputs_count}
+use Rattle.tc_beh.proofs.RoomLaws.{rooms_lawful}
 use Rattle.tc_settle.specs.Held.{Held, Grows, IsHeldAs}
 use Rattle.tc_close.specs.RowState.{RowState, hedge_at, tree_at, StandsInRow, IsHedgeHeld, IsTreeHeld, AreGood, Each, held_of, Extended}
 
-module _ (held more : List Matrix) where
-  same_entries : (os : List ℕ) → ((i : ℕ) → i < length os → get_or os i 0 < length held) → entries_by (held ++ more) os ≡ entries_by held os
-  same_entries [] low = refl
-  same_entries (k ∷ os) low =
-      let here : pairs_of (get_or (held ++ more) k no_matrix) ≡ pairs_of (get_or held k no_matrix) = ap pairs_of (get_or-append held more no_matrix k (low 0 (omega arith))) in
-      let rest : entries_by (held ++ more) os ≡ entries_by held os = same_entries os (λ i l. low (suc i) (omega (arith, l))) in
-      cc
-
-  low_outputs : (s : Layout) (ns : List ℕ) → IsRoom s held ns → (i : ℕ) → i < length (outputs_in s.flags s.entries ns) → get_or (outputs_in s.flags s.entries ns) i 0 < length held
-  low_outputs s ns is i l =
-      let count = outputs_count s held ns is in
-      let inside : i < s.entries = omega (arith, l, count) in
-      subst (λ n. n < length held) (sym (output_is s.flags s.entries ns i inside)) (is.outs i inside)
-
-  pub keeps_room : (s : Layout) (ns : List ℕ) → IsRoom s held ns → IsRoom s (held ++ more) ns
-  keeps_room s ns is = record {
-    count = is.count;
-    head = is.head;
-    bears = is.bears;
-    flags = is.flags;
-    outs = λ i l. let low = is.outs i l in omega (arith, low, length-append held more);
-    looks = is.looks;
-  }
-
-  pub same_hedge : (x : Triple) (ns : List ℕ) → IsRoom (hedge_layout x) held ns → hedge_row x (held ++ more) ns ≡ hedge_row x held ns
-  same_hedge x ns is =
-      let n = state_count x.input input in
-      let With : List (List (ℕ × ℕ)) → HedgeRow = λ es. record { ends = get_or ns 0 0 == 1; bears = get_or ns 1 0 == 1; states = flagged 0 (flags_in n ns); entries = es; looks = looks_in n (entries x) ns } in
-      ap With (same_entries (outputs_in n (entries x) ns) (low_outputs (hedge_layout x) ns is))
-
-  pub same_tree : (x : Triple) (ns : List ℕ) → IsRoom (tree_layout x) held ns → tree_row x (held ++ more) ns ≡ tree_row x held ns
-  same_tree x ns is =
-      let n = length x.input.elements in
-      let With : List (List (ℕ × ℕ)) → TreeRow = λ es. record { is_text = get_or ns 0 0 == 1; bears = get_or ns 1 0 == 1; patterns = flagged 1 (flags_in n ns); entries = es; looks = looks_in n (entries x) ns } in
-      ap With (same_entries (outputs_in n (entries x) ns) (low_outputs (tree_layout x) ns is))
+-- an entry of a room, as a set
+pub entry_in : (l : Layout) (held : List Matrix) (ns : List ℕ) (p : ℕ) → IsRoom l held ns → p < l.entries → Contains (entries_by held (outputs_in l.flags l.entries ns)) (pairs_of (get_or held (output_at l.flags ns p) no_matrix))
+entry_in l held ns p is low =
+    let es : List (List (ℕ × ℕ)) = entries_by held (outputs_in l.flags l.entries ns) in
+    let count = outputs_count l held ns is in
+    let many = length-map (outputs_in l.flags l.entries ns) (λ k. pairs_of (get_or held k no_matrix)) in
+    let inside : p < length es = omega (arith, count, many, low) in
+    let set : List (ℕ × ℕ) = pairs_of (get_or held (output_at l.flags ns p) no_matrix) in
+    let e : get_or es p set ≡ set = get_or-map (λ k. pairs_of (get_or held k no_matrix)) (outputs_in l.flags l.entries ns) p 0 set (omega (arith, count, low)) ∙ ap (λ k. pairs_of (get_or held k no_matrix)) (output_is l.flags l.entries ns p low) in
+    (p, inside, e)
 
 module _ (a b : RowState) (e : Extended a b) where
   hedge_is : (u : ℕ) → u < length a.hedges → get_or b.hedges u [] ≡ get_or a.hedges u []
@@ -70,34 +46,30 @@ module _ (a b : RowState) (e : Extended a b) where
   set_same k low = ap (λ l. get_or l k no_matrix) e.outputs.all ∙ get_or-append a.outputs.matrices e.outputs.more no_matrix k low
 
   module _ (x : Triple) where
-    hedge_by : (u : ℕ) → u < length a.hedges → IsRoom (hedge_layout x) a.outputs.matrices (get_or a.hedges u []) → hedge_at x b u ≡ hedge_at x a u
-    hedge_by u low room =
-        ap (λ ns. hedge_row x b.outputs.matrices ns) (hedge_is u low)
-        ∙ (ap (λ m. hedge_row x m (get_or a.hedges u [])) e.outputs.all ∙ same_hedge a.outputs.matrices e.outputs.more x (get_or a.hedges u []) room)
+    hedge_stands : (u : ℕ) → IsRoom (hedge_layout x) a.outputs.matrices (get_or a.hedges u [])
+        → IsRoom (hedge_layout x) b.outputs.matrices (get_or a.hedges u []) × (hedge_row x b.outputs.matrices (get_or a.hedges u []) ≡ hedge_row x a.outputs.matrices (get_or a.hedges u []))
+    hedge_stands u room = rooms_lawful.hedges_stand x a.outputs b.outputs (get_or a.hedges u []) e.outputs room
 
-    tree_by : (u : ℕ) → u < length a.trees → IsRoom (tree_layout x) a.outputs.matrices (get_or a.trees u []) → tree_at x b u ≡ tree_at x a u
-    tree_by u low room =
-        ap (λ ns. tree_row x b.outputs.matrices ns) (tree_is u low)
-        ∙ (ap (λ m. tree_row x m (get_or a.trees u [])) e.outputs.all ∙ same_tree a.outputs.matrices e.outputs.more x (get_or a.trees u []) room)
+    tree_stands : (u : ℕ) → IsRoom (tree_layout x) a.outputs.matrices (get_or a.trees u [])
+        → IsRoom (tree_layout x) b.outputs.matrices (get_or a.trees u []) × (tree_row x b.outputs.matrices (get_or a.trees u []) ≡ tree_row x a.outputs.matrices (get_or a.trees u []))
+    tree_stands u room = rooms_lawful.trees_stand x a.outputs b.outputs (get_or a.trees u []) e.outputs room
 
     module _ (good : AreGood x a) where
       pub hedge_same : (u : ℕ) → u < length a.hedges → hedge_at x b u ≡ hedge_at x a u
-      hedge_same u low = hedge_by u low (good.hedges u low).room
+      hedge_same u low = ap (λ ns. hedge_row x b.outputs.matrices ns) (hedge_is u low) ∙ (hedge_stands u (good.hedges u low).room).1
 
       pub tree_same : (u : ℕ) → u < length a.trees → tree_at x b u ≡ tree_at x a u
-      tree_same u low = tree_by u low (good.trees u low).room
+      tree_same u low = ap (λ ns. tree_row x b.outputs.matrices ns) (tree_is u low) ∙ (tree_stands u (good.trees u low).room).1
 
       pub hedge_on : (u : ℕ) → u < length a.hedges → IsHedgeHeld x b u
       hedge_on u low = record {
-        room = subst (λ ns. IsRoom (hedge_layout x) b.outputs.matrices ns) (sym (hedge_is u low))
-            (subst (λ m. IsRoom (hedge_layout x) m (get_or a.hedges u [])) (sym e.outputs.all) (keeps_room a.outputs.matrices e.outputs.more (hedge_layout x) (get_or a.hedges u []) (good.hedges u low).room));
+        room = subst (λ ns. IsRoom (hedge_layout x) b.outputs.matrices ns) (sym (hedge_is u low)) (hedge_stands u (good.hedges u low).room).0;
         row = subst (IsHedgeRow x) (sym (hedge_same u low)) (good.hedges u low).row;
       }
 
       pub tree_on : (u : ℕ) → u < length a.trees → IsTreeHeld x b u
       tree_on u low = record {
-        room = subst (λ ns. IsRoom (tree_layout x) b.outputs.matrices ns) (sym (tree_is u low))
-            (subst (λ m. IsRoom (tree_layout x) m (get_or a.trees u [])) (sym e.outputs.all) (keeps_room a.outputs.matrices e.outputs.more (tree_layout x) (get_or a.trees u []) (good.trees u low).room));
+        room = subst (λ ns. IsRoom (tree_layout x) b.outputs.matrices ns) (sym (tree_is u low)) (tree_stands u (good.trees u low).room).0;
         row = subst (IsTreeRow x) (sym (tree_same u low)) (good.trees u low).row;
       }
 

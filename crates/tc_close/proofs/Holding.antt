@@ -28,8 +28,7 @@ use Rattle.tc_close.specs.RowState.{RowState, hedge_at, tree_at, AreGood, Each, 
 use Rattle.tc_close.specs.HeldRows.{AreRoomsOf, AreHeld, state_of}
 use Rattle.tc_rows.proofs.AllLaws.{rows_are_lawful}
 use Rattle.tc_close.proofs.Least.{low_or_high}
-use Rattle.tc_close.proofs.Same.{entry_in}
-use Rattle.tc_close.proofs.Growing.{Keeps, hedge_on, tree_on, hedge_same, tree_same, stood_on, grows, grows_self}
+use Rattle.tc_close.proofs.Growing.{Keeps, entry_in, hedge_on, tree_on, hedge_same, tree_same, stood_on, grows, grows_self}
 
 room_on : (s : Layout) (a b : Room) → IsRoomOf s a → IsRoomBeside a b → IsRoomOf s b
 room_on s a b is beside = record { flags = beside.flags ∙ is.flags; entries = beside.entries ∙ is.entries; count = beside.count ∙ is.count }

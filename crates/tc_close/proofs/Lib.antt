@@ -6,7 +6,6 @@ pub mod Reaching
 pub mod Existing
 pub mod Keys
 pub mod Growing
-pub mod Same
 pub mod Linked
 pub mod Decided
 pub mod Holding

@@ -23,10 +23,10 @@ use Rattle.tc_beh.specs.Rooms.{Layout, hedge_layout, tree_layout, IsRoom, hedge_
 use Rattle.tc_beh.proofs.Pairs.{listed_pairs}
 use Rattle.tc_beh.proofs.RoomRows.{output_is}
 use Rattle.tc_beh.proofs.RoomIs.{outputs_count}
+use Rattle.tc_beh.proofs.RoomLaws.{rooms_lawful}
 use Rattle.tc_settle.specs.Derived as number
 use Rattle.tc_settle.specs.Derived.{IsClosed, AllDerive}
 use Rattle.tc_close.specs.RowState.{RowState, hedge_at, tree_at, StandsInRow, AreGood, held_of, Known}
-use Rattle.tc_close.proofs.Same.{same_hedge_numbers, same_tree_numbers}
 
 -- what stands in a list of what is worked out of a list
 module _ {X Y : Type 0} (f : X → Y) where
@@ -174,12 +174,12 @@ module _ (x : Triple) (s : RowState) where
     -- rows of different numbers are different
     pub one_hedge : (u v : ℕ) → u < length s.hedges → v < length s.hedges → hedge_at x s u ≡ hedge_at x s v → u ≡ v
     one_hedge u v l m e =
-        let same : get_or s.hedges u [] ≡ get_or s.hedges v [] = same_hedge_numbers held apart x (get_or s.hedges u []) (get_or s.hedges v []) (good.hedges u l).room (good.hedges v m).room e in
+        let same : get_or s.hedges u [] ≡ get_or s.hedges v [] = (rooms_lawful.hedges x s.outputs (get_or s.hedges u []) (get_or s.hedges v []) known.outputs (good.hedges u l).room (good.hedges v m).room).0 e in
         known.hedges u v (get_or s.hedges u []) (slice_get-get_or s.hedges u [] l) (slice_get-get_or s.hedges v [] m ∙ ap Some (sym same))
 
     pub one_tree : (u v : ℕ) → u < length s.trees → v < length s.trees → tree_at x s u ≡ tree_at x s v → u ≡ v
     one_tree u v l m e =
-        let same : get_or s.trees u [] ≡ get_or s.trees v [] = same_tree_numbers held apart x (get_or s.trees u []) (get_or s.trees v []) (good.trees u l).room (good.trees v m).room e in
+        let same : get_or s.trees u [] ≡ get_or s.trees v [] = (rooms_lawful.trees x s.outputs (get_or s.trees u []) (get_or s.trees v []) known.outputs (good.trees u l).room (good.trees v m).room).0 e in
         known.trees u v (get_or s.trees u []) (slice_get-get_or s.trees u [] l) (slice_get-get_or s.trees v [] m ∙ ap Some (sym same))
 
     pub hedges_different : AreDifferent hedge_rows
