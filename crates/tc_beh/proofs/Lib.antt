@@ -32,10 +32,6 @@ pub mod Emptied
 pub mod RoomLaws
 pub mod Appends
 pub mod Together
-pub mod Admitting
-pub mod Surrounding
-pub mod Finding
-pub mod Deepest
 pub mod Hitting
 pub mod Nodes
 pub mod Coming

@@ -18,8 +18,6 @@ pub mod Roots
 pub mod Outs
 pub mod Emptying
 pub mod RoomLaws
-pub mod Around
-pub mod LooksAbove
 pub mod Above
 pub mod Entries
 pub mod Listing

@@ -2,7 +2,7 @@
 //! bodies put out on a node.
 //!
 //! The row of a tree or of a list of trees tells where it may stand in the input, and what a stylesheet makes of it in each place
-//! (`tc_rows`). Rows of texts and of elements are to come.
+//! (`tc_rows`).
 #![tactic(auto)]
 
 mod above;
