@@ -1,13 +1,10 @@
-use Rattle.std.proofs.Common.{◌≡◌, ◌≢◌, ◌<◌, ◌≤◌, ◌+◌, ◌*◌, ◌⊎◌, inl, inr, ℕ, List, length, get_or, Ok, subst, sym, ap, ◌∙◌, refl, arith}
+use Rattle.std.proofs.Common.{◌≡◌, ◌<◌, ◌+◌, ◌*◌, inl, inr, ℕ, List, length, get_or, Ok, subst, sym, ap, ◌∙◌, refl, arith}
 use Rattle.tc_mat.specs.Matrix.{Matrix}
-use Rattle.tc_mat.specs.Held.{Held}
 use Rattle.tc_rules.specs.Kept.{told}
 use Rattle.tc_rules.specs.RulesView.{RulesView, move_count}
-use Rattle.tc_rows.specs.Triples.{Triple, ancestors, moves, outputs}
+use Rattle.tc_rows.specs.Triples.{ancestors, moves}
 use Rattle.tc_rows.proofs.Append.{entry_index}
-use Rattle.tc_beh.specs.Above.{letter_of}
 use Rattle.tc_beh.specs.Entries.{AreCalledOn, IsEntryAt}
-use Rattle.tc_beh.specs.Places.{entries_by}
 use Rattle.tc_beh.specs.Rooms.{output_at}
 use Rattle.tc_beh.proofs.Looking.{moves_told}
 use Rattle.tc_beh.proofs.Holding.{extends_self, extends_then, extends_kept, set_kept, grows_kept, on_err}
