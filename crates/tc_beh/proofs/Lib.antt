@@ -42,3 +42,4 @@ pub mod TreeRows
 pub mod Wrapped
 pub mod WrapRows
 pub mod Lining
+pub mod Repeats
