@@ -43,3 +43,4 @@ pub mod Wrapped
 pub mod WrapRows
 pub mod Lining
 pub mod Repeats
+pub mod Passing
