@@ -55,6 +55,6 @@ module _ (x : Triple) (is : IsTriple x) (es : List (List (ℕ × ℕ))) (n : Nod
           let (i, low, at) = so.found k from to in
           among x rs are (set_at new k) i (sizes_of new (outputs x) held size k to) low (same_entry i (set_at new k) low at);
     },
-    let (i, m, low, at, of, matrix, isnt) = so.left in
+    let (i, low, (m, at, of, matrix, isnt)) = so.left in
         left_out x rs are new m i held size of matrix isnt low (same_entry i m low at),
   )
