@@ -5,3 +5,13 @@ pub mod Transport
 pub mod Agreeing
 pub mod Reaching
 pub mod Existing
+pub mod Keys
+pub mod Growing
+pub mod Same
+pub mod Linked
+pub mod Decided
+pub mod Holding
+pub mod Made
+pub mod Carried
+pub mod Verdicts
+pub mod Exact
