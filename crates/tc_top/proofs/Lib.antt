@@ -1,10 +1,3 @@
-pub mod FirstLawsViews
-pub mod FirstLawsNormal
-pub mod FirstLawsMatch
-pub mod FirstLawsNames
-pub mod FirstLawsSheet
-pub mod FirstLaws
-pub mod FirstText
 pub mod Named
 pub mod OperandsRead
 pub mod Nothing
@@ -13,7 +6,7 @@ pub mod OneCommand
 pub mod OneRefusal
 pub mod OneValidity
 pub mod OneRun
-pub mod FirstRead
+pub mod OneTriple
 pub mod Exact
 pub mod OneAnswer
 pub mod Headline

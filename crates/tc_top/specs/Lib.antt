@@ -1,9 +1,6 @@
-pub mod FirstForm
-pub mod FirstSeen
-pub mod FirstText
-pub mod FirstFits
 pub mod Words
 pub mod WordsSeen
+pub mod Checking
 pub mod Headline
 pub mod Limits
 pub mod Answers
@@ -13,3 +10,4 @@ pub mod Lines
 pub mod Program
 pub mod Reading
 pub mod StatusSeen
+pub mod Compiled
