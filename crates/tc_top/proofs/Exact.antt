@@ -4,20 +4,15 @@ use Rattle.tc_io.specs.Store.{Files, Came, Read, longest_file}
 use Rattle.tc_io.specs.Reads.{IsTrue, AreTrue}
 use Rattle.tc_io.specs.declared.StoreFault.{StoreFault}
 use Rattle.tc_io.specs.declared.StoreFault.TheVariants.{Missing, Failed, TooLong, NoMemory}
-use Rattle.tc_model.specs.Trees.{Trees}
-use Rattle.tc_model.specs.Safety.{IsSafe, IsCounterexample}
-use Rattle.tc_model.specs.Validity.{IsValidOutput}
-use Rattle.tc_top.specs.FirstForm.{Schema, grammar_of, sheet_of}
-use Rattle.tc_top.specs.FirstText.{FirstSchemaText, FirstSheetText}
-use Rattle.tc_top.specs.OneAnswer.{AreAlike, same_answer, counterexamples, IsOfFault}
+use Rattle.tc_top.specs.Checking.{most_rows}
+use Rattle.tc_top.specs.OneAnswer.{AreAlike, same_answer, IsOfFault}
 use Rattle.tc_top.specs.Words.{Command, check, run, valid, Words, IsNoCommand, name_of, operands_of}
 use Rattle.tc_top.specs.Reading.{StopsAt, at_first, past_first, IsUnreadable}
-use Rattle.tc_top.specs.Answers.{Answer, usage, not_yet, cannot_read, file_limit, IsBuilt, IsOtherForm, other_input, other_output, other_sheet, Checks, is_other_form, is_safe, is_unsafe, Validates, RunsTexts, IsAnswer, no_command, not_built, not_read, over_long, checked, validated, ran}
+use Rattle.tc_top.specs.Answers.{Answer, usage, not_yet, cannot_read, file_limit, IsBuilt, Checks, Validates, RunsTexts, IsAnswer, no_command, not_built, not_read, over_long, checked, validated, ran}
 use Rattle.tc_top.proofs.OneCommand.{one_command}
 use Rattle.tc_top.proofs.OneValidity.{validates_one}
 use Rattle.tc_top.proofs.OneRun.{runs_texts_one}
-use Rattle.tc_top.proofs.FirstText.{schema_unique, sheet_unique, sheet_plain}
-use Rattle.tc_top.proofs.FirstLaws.{result_is}
+use Rattle.tc_top.proofs.OneCheck.{checks_one}
 
 -- lists and reads that are the same
 
@@ -67,57 +62,16 @@ no_stop_two r s = no_stop _ r (tt, (tt, tt)) s
 no_stop_three : {names : List (List ℕ)} {reads : List Read} {name a b e c d f : List ℕ} {fault : StoreFault} → reads ≡ (a, Ok c) ∷ (b, Ok d) ∷ (e, Ok f) ∷ [] → StopsAt names reads name fault → ⊥
 no_stop_three r s = no_stop _ r (tt, (tt, (tt, tt))) s
 
--- a safe stylesheet has no counterexample, also where the texts are read once more
-pub not_both : {b c d : List ℕ} {i j o p : Schema} {t u document result : Trees} → FirstSchemaText b i → FirstSchemaText c o → FirstSheetText d t → IsSafe (grammar_of i) (grammar_of o) (sheet_of t)
-    → FirstSchemaText b j → FirstSchemaText c p → FirstSheetText d u → IsCounterexample (grammar_of j) (grammar_of p) (sheet_of u) document result → ⊥
-not_both {b} {c} {d} {i} {j} {o} {p} {t} {u} {document} {result} x y z safe k l m found =
-    let input = subst (λ v. IsSafe (grammar_of v) (grammar_of o) (sheet_of t)) (schema_unique x k) safe in
-    let output = subst (λ v. IsSafe (grammar_of j) (grammar_of v) (sheet_of t)) (schema_unique y l) input in
-    let sheet = subst (λ v. IsSafe (grammar_of j) (grammar_of p) (sheet_of v)) (sheet_unique z m) output in
-    let good = sheet document found.0 in
-    let plain = sheet_plain m in
-    let same = (result_is u document good.0 plain).0 good.1 ∙ sym ((result_is u document result plain).0 found.1) in
-    found.2 (subst (IsValidOutput (grammar_of p)) same good.2)
-
--- the first operand of another form is one
-one_other_form : {input output sheet b c d name found : List ℕ} → IsOtherForm input output sheet b c d name → IsOtherForm input output sheet b c d found → AreAlike (not_yet name) (not_yet found)
-one_other_form (other_input x) (other_input y) = same_answer
-one_other_form (other_input x) (other_output p y) = absurd (x _ p)
-one_other_form (other_input x) (other_sheet p q y) = absurd (x _ p)
-one_other_form (other_output p x) (other_input y) = absurd (y _ p)
-one_other_form (other_output p x) (other_output q y) = same_answer
-one_other_form (other_output p x) (other_sheet q r y) = absurd (x _ r)
-one_other_form (other_sheet p q x) (other_input y) = absurd (y _ p)
-one_other_form (other_sheet p q x) (other_output r y) = absurd (y _ q)
-one_other_form (other_sheet p q x) (other_sheet r s y) = same_answer
-
--- texts of the first form are none of another form
-no_other_form : {input output sheet b c d name : List ℕ} {i o : Schema} {t : Trees} → IsOtherForm input output sheet b c d name → FirstSchemaText b i → FirstSchemaText c o → FirstSheetText d t → ⊥
-no_other_form (other_input x) i o t = x _ i
-no_other_form (other_output p x) i o t = x _ o
-no_other_form (other_sheet p q x) i o t = x _ t
-
--- the answer that the texts decide is one
-checks_one : {input output sheet b c d : List ℕ} {one other : Answer} → Checks input output sheet b c d one → Checks input output sheet b c d other → AreAlike one other
-checks_one (is_other_form x) (is_other_form y) = one_other_form x y
-checks_one (is_other_form x) (is_safe i o t s) = absurd (no_other_form x i o t)
-checks_one (is_other_form x) (is_unsafe i o t s) = absurd (no_other_form x i o t)
-checks_one (is_safe i o t s) (is_other_form x) = absurd (no_other_form x i o t)
-checks_one (is_unsafe i o t s) (is_other_form x) = absurd (no_other_form x i o t)
-checks_one (is_safe i o t s) (is_safe j p u r) = same_answer
-checks_one (is_unsafe i o t s) (is_unsafe j p u r) = counterexamples
-checks_one (is_safe i o t s) (is_unsafe j p u r) = absurd (not_both i o t s j p u r)
-checks_one (is_unsafe j p u r) (is_safe i o t s) = absurd (not_both i o t s j p u r)
-
-checks_same : {input output sheet b c d input' output' sheet' b' c' d' : List ℕ} {answer : Answer} → input ≡ input' → output ≡ output' → sheet ≡ sheet' → b ≡ b' → c ≡ c' → d ≡ d'
-    → Checks input' output' sheet' b' c' d' answer → Checks input output sheet b c d answer
-checks_same {input} {output} {sheet} {b} {c} {d} {input'} {output'} {sheet'} {b'} {c'} {d'} {answer} p q r s t u h =
-    subst (λ v. Checks v output sheet b c d answer) (sym p)
-    (subst (λ v. Checks input' v sheet b c d answer) (sym q)
-    (subst (λ v. Checks input' output' v b c d answer) (sym r)
-    (subst (λ v. Checks input' output' sheet' v c d answer) (sym s)
-    (subst (λ v. Checks input' output' sheet' b' v d answer) (sym t)
-    (subst (λ v. Checks input' output' sheet' b' c' v answer) (sym u) h)))))
+checks_same : {most most' : ℕ} {input output sheet b c d input' output' sheet' b' c' d' : List ℕ} {answer : Answer} → most ≡ most' → input ≡ input' → output ≡ output' → sheet ≡ sheet' → b ≡ b' → c ≡ c' → d ≡ d'
+    → Checks most' input' output' sheet' b' c' d' answer → Checks most input output sheet b c d answer
+checks_same {most} {most'} {input} {output} {sheet} {b} {c} {d} {input'} {output'} {sheet'} {b'} {c'} {d'} {answer} m p q r s t u h =
+    subst (λ n. Checks n input output sheet b c d answer) (sym m)
+    (subst (λ v. Checks most' v output sheet b c d answer) (sym p)
+    (subst (λ v. Checks most' input' v sheet b c d answer) (sym q)
+    (subst (λ v. Checks most' input' output' v b c d answer) (sym r)
+    (subst (λ v. Checks most' input' output' sheet' v c d answer) (sym s)
+    (subst (λ v. Checks most' input' output' sheet' b' v d answer) (sym t)
+    (subst (λ v. Checks most' input' output' sheet' b' c' v answer) (sym u) h))))))
 
 -- words of no command have the usage as their answer
 pub usage_only : {words : List (List ℕ)} {reads : List Read} {answer : Answer} → IsNoCommand words → IsAnswer words reads answer → answer ≡ usage
@@ -168,17 +122,19 @@ stopped_only w b s (validated v r x) = absurd (no_stop_two r s)
 stopped_only w b s (ran v r x) = absurd (no_stop_two r s)
 
 -- where all operands are read, the texts decide
-pub checked_only : {words : List (List ℕ)} {reads : List Read} {answer : Answer} {input output sheet b c d : List ℕ} → Words words (check None input output sheet)
-    → reads ≡ (input, Ok b) ∷ (output, Ok c) ∷ (sheet, Ok d) ∷ [] → IsAnswer words reads answer → Checks input output sheet b c d answer
+pub checked_only : {words : List (List ℕ)} {reads : List Read} {answer : Answer} {limit : Option ℕ} {input output sheet b c d : List ℕ} → Words words (check limit input output sheet)
+    → reads ≡ (input, Ok b) ∷ (output, Ok c) ∷ (sheet, Ok d) ∷ [] → IsAnswer words reads answer → Checks (most_rows limit) input output sheet b c d answer
 checked_only w r (no_command n e) = absurd (n _ w)
 checked_only w r (not_built v x e f) = absurd (x (subst IsBuilt (one_command w v) tt))
 checked_only w r (not_read v b s u) = absurd (no_stop_three r s)
 checked_only w r (over_long v b s) = absurd (no_stop_three r s)
-checked_only w r (checked v q x) =
+checked_only {limit = limit} w r (checked {limit = other} v q x) =
     let one = read_same (sym r ∙ q) in
     let two = read_same one.2 in
     let three = read_same two.2 in
-    checks_same one.0 two.0 three.0 (ok_same _ _ one.1) (ok_same _ _ two.1) (ok_same _ _ three.1) x
+    let command = one_command w v in
+    let limits : limit ≡ other = cc in
+    checks_same (ap most_rows limits) one.0 two.0 three.0 (ok_same _ _ one.1) (ok_same _ _ two.1) (ok_same _ _ three.1) x
 checked_only w r (validated v q x) = let other = one_command w v in absurd (cc)
 checked_only w r (ran v q x) = let other = one_command w v in absurd (cc)
 
@@ -392,6 +348,23 @@ exact files rose t (over_long w b s) u y = alike files rose w b t (over_long w b
 exact files rose t (checked w r x) u y = alike files rose w tt t (checked w r x) u y
 exact files rose t (validated w r x) u y = alike files rose w tt t (validated w r x) u y
 exact files rose t (ran w r x) u y = alike files rose w tt t (ran w r x) u y
+
+-- the names and the texts of a check whose operands were read are those of the held files
+pub held_texts : (files : Files) (rose : Type 0) {words : List (List ℕ)} {reads : List Read} {limit other : Option ℕ} {input output sheet b c d input' output' sheet' b' c' d' : List ℕ} {answer : Answer}
+    → Words words (check limit input output sheet) → files input ≡ Some b → files output ≡ Some c → files sheet ≡ Some d
+    → Words words (check other input' output' sheet') → reads ≡ (input', Ok b') ∷ (output', Ok c') ∷ (sheet', Ok d') ∷ [] → AreTrue (Some files) rose reads
+    → Checks (most_rows other) input' output' sheet' b' c' d' answer → Checks (most_rows limit) input output sheet b c d answer
+held_texts files rose {limit = limit} {other} {input} {output} {sheet} {b} {c} {d} {input'} {output'} {sheet'} {b'} {c'} {d'} w p q r v same true x =
+    let command = one_command w v in
+    let limits : limit ≡ other = cc in
+    let inputs : input ≡ input' = cc in
+    let outputs : output ≡ output' = cc in
+    let sheets : sheet ≡ sheet' = cc in
+    let all = true_at (Some files) rose same true in
+    let first = some_is b b' (sym p ∙ (ap files inputs ∙ all.0.answers files refl)) in
+    let second = some_is c c' (sym q ∙ (ap files outputs ∙ all.1.0.answers files refl)) in
+    let third = some_is d d' (sym r ∙ (ap files sheets ∙ all.1.1.0.answers files refl)) in
+    checks_same (ap most_rows limits) inputs outputs sheets first second third x
 
 -- held files that are short enough are read well, or a read failed
 

@@ -7,6 +7,9 @@ pub mod OneRefusal
 pub mod OneValidity
 pub mod OneRun
 pub mod OneTriple
+pub mod Checked
+pub mod Compiling
+pub mod OneCheck
 pub mod Exact
 pub mod OneAnswer
 pub mod Headline

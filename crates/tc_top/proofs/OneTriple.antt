@@ -1,5 +1,5 @@
 -- Rows, their counts and their entries are the same by whichever triple of two schemas and a stylesheet they go.
-use Rattle.std.proofs.Common.{◌≡◌, ◌<◌, ◌+◌, ◌*◌, ◌-◌, ◌↔◌, ◌⊎◌, inl, inr, ◌∷◌, [], ◌∙◌, refl, sym, ap, subst, ℕ, zero, suc, List, length, take, Option, Some, None, Bool, Contains, All, slice_get, get_or, arith}
+use Rattle.std.proofs.Common.{◌≡◌, ◌<◌, ◌+◌, ◌*◌, ◌-◌, ◌↔◌, ◌⊎◌, inl, inr, ◌∷◌, [], ◌∙◌, refl, sym, ap, subst, ℕ, zero, suc, List, length, take, filter, Option, Some, None, Bool, Contains, All, slice_get, get_or, arith}
 use Rattle.std.proofs.lemmas.List.Elements.{All-contains}
 use Rattle.tc_alpha.proofs.Members.{Has, has_from_contains, contains_from_has, every_from_members, all_from_every}
 use Rattle.tc_model.specs.Chains.{Tree}
@@ -22,7 +22,7 @@ use Rattle.tc_rules.specs.Graphs.{Graph}
 use Rattle.tc_rules.specs.RulesView.{RulesView, IsStateOf, IsTold, count_states, select_count, ancestor}
 use Rattle.tc_rules.specs.States.{AllInline, Going, Looking}
 use Rattle.tc_rules.specs.Tasks.{IsMoveAt, IsLookAt}
-use Rattle.tc_rules.proofs.SelectStates.{settles}
+use Rattle.tc_rules.proofs.SelectStates.{count_cons, settles}
 use Rattle.tc_model.specs.Numberings.{moves_of}
 use Rattle.tc_top.specs.Checking.{IsTripleOf}
 
@@ -44,7 +44,9 @@ same_counts : (gs hs : List Graph) → SameStates gs hs → count_states gs ≡ 
 same_counts [] [] s = refl
 same_counts [] (h ∷ hs) s = absurd s
 same_counts (g ∷ gs) [] s = absurd s
-same_counts (g ∷ gs) (h ∷ hs) s = let first : length g.states ≡ length h.states = ap length s.0 in omega (arith, first, same_counts gs hs s.1)
+same_counts (g ∷ gs) (h ∷ hs) s =
+    let first : length g.states ≡ length h.states = ap length s.0 in
+    omega (arith, count_cons g gs, count_cons h hs, first, same_counts gs hs s.1)
 
 same_taken : (n : ℕ) (gs hs : List Graph) → SameStates gs hs → SameStates (take n gs) (take n hs)
 same_taken zero gs hs s = tt
@@ -76,9 +78,7 @@ module _ (counts : State → Bool) (next : State → Letter → State) (letters 
   reached_one : (xs ys : List State) → AreReached counts next letters first xs → AreReached counts next letters first ys → xs ≡ ys
   reached_one xs ys a b =
       let numbers : a.found.0 + b.found.0 ≡ b.found.0 + a.found.0 = omega arith in
-      sym (settles counts next letters first xs a b.found.0) ∙ (ap (λ n. rounds counts next letters n (Start counts next letters first xs a)) numbers ∙ settles counts next letters first ys b a.found.0)
-    where
-      use Rattle.tc_rules.proofs.SelectStates.{Start}
+      sym (settles counts next letters first xs a b.found.0) ∙ (ap (λ n. rounds counts next letters n (filter counts (first ∷ []))) numbers ∙ settles counts next letters first ys b a.found.0)
 
 -- two triples that differ in their tables alone
 
@@ -232,7 +232,12 @@ abbrev with_parts : Triple → Triple → Triple
 with_parts x y = built x.input x.output x.symbols x.rules.sheet y.rules.predicates y.rules.eaches y.rules.ancestors y.rules.selects x.bodies
 
 parts_same : (x y : Triple) → x.input ≡ y.input → x.output ≡ y.output → x.symbols ≡ y.symbols → x.rules.sheet ≡ y.rules.sheet → x.bodies ≡ y.bodies → with_parts x y ≡ y
-parts_same x y a b c d e = cc
+parts_same x y a b c d e =
+    ap (λ (w : Grammar). built w x.output x.symbols x.rules.sheet y.rules.predicates y.rules.eaches y.rules.ancestors y.rules.selects x.bodies) a
+    ∙ (ap (λ (w : Grammar). built y.input w x.symbols x.rules.sheet y.rules.predicates y.rules.eaches y.rules.ancestors y.rules.selects x.bodies) b
+    ∙ (ap (λ (w : List Mention). built y.input y.output w x.rules.sheet y.rules.predicates y.rules.eaches y.rules.ancestors y.rules.selects x.bodies) c
+    ∙ (ap (λ (w : Sheet). built y.input y.output y.symbols w y.rules.predicates y.rules.eaches y.rules.ancestors y.rules.selects x.bodies) d
+    ∙ ap (λ (w : List CallFreeBody). built y.input y.output y.symbols y.rules.sheet y.rules.predicates y.rules.eaches y.rules.ancestors y.rules.selects w) e)))
 
 module _ (i o : Grammar) (s : Sheet) where
   symbols_same : (x y : Triple) → IsTripleOf i o s x → IsTripleOf i o s y → x.symbols ≡ y.symbols

@@ -49,8 +49,18 @@ pub fn check<S: Store>(
         → IsRightFor words (Happened S.read_gives S.holds S.faults store.old store.new) said) }
 {
     match read_triple(alloc, triple, store) {
-        Ok(operands) => check_texts(alloc, limit.unwrap_or(MOST_ROWS), &operands),
+        Ok(operands) => check_texts(alloc, row_limit(limit), &operands),
         Err(unread) => unread.answer(alloc),
+    }
+}
+
+/// How many rows of trees, and of lists of trees, there may be.
+fn row_limit(limit: Option<u32>) -> u32
+    ensures { result ≡ most_rows limit }
+{
+    match limit {
+        Some(most) => most,
+        None => MOST_ROWS,
     }
 }
 
