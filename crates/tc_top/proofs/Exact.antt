@@ -5,10 +5,12 @@ use Rattle.tc_io.specs.Reads.{IsTrue, AreTrue}
 use Rattle.tc_io.specs.declared.StoreFault.{StoreFault}
 use Rattle.tc_io.specs.declared.StoreFault.TheVariants.{Missing, Failed, TooLong, NoMemory}
 use Rattle.tc_top.specs.Checking.{most_rows}
+use Rattle.tc_top.specs.Demo.{demo_schema, demo_sheet, input_name, output_name, sheet_name}
+use Rattle.tc_top.specs.declared.limits.TheConstants.{MOST_ROWS}
 use Rattle.tc_top.specs.OneAnswer.{AreAlike, same_answer, IsOfFault}
-use Rattle.tc_top.specs.Words.{Command, check, run, valid, Words, IsNoCommand, name_of, operands_of}
+use Rattle.tc_top.specs.Words.{Command, check, run, valid, demo, Words, IsNoCommand, name_of, operands_of}
 use Rattle.tc_top.specs.Reading.{StopsAt, at_first, past_first, IsUnreadable}
-use Rattle.tc_top.specs.Answers.{Answer, usage, not_yet, cannot_read, file_limit, IsBuilt, Checks, Validates, RunsTexts, IsAnswer, no_command, not_built, not_read, over_long, checked, validated, ran}
+use Rattle.tc_top.specs.Answers.{Answer, usage, not_yet, cannot_read, file_limit, IsBuilt, Checks, Validates, RunsTexts, IsAnswer, no_command, not_built, not_read, over_long, checked, validated, ran, shown}
 use Rattle.tc_top.proofs.OneCommand.{one_command}
 use Rattle.tc_top.proofs.OneValidity.{validates_one}
 use Rattle.tc_top.proofs.OneRun.{runs_texts_one}
@@ -82,6 +84,7 @@ usage_only n (over_long w b s) = absurd (n _ w)
 usage_only n (checked w r x) = absurd (n _ w)
 usage_only n (validated w r x) = absurd (n _ w)
 usage_only n (ran w r x) = absurd (n _ w)
+usage_only n (shown w r x) = absurd (n _ w)
 
 -- a command that isn't carried out is refused by its name
 pub refused_only : {words : List (List ℕ)} {reads : List Read} {answer : Answer} {command : Command} → Words words command → (IsBuilt command → ⊥) → IsAnswer words reads answer
@@ -93,6 +96,7 @@ refused_only w x (over_long v b s) = absurd (x (subst IsBuilt (one_command v w) 
 refused_only w x (checked v r y) = absurd (x (subst IsBuilt (one_command v w) tt))
 refused_only w x (validated v r y) = absurd (x (subst IsBuilt (one_command v w) tt))
 refused_only w x (ran v r y) = absurd (x (subst IsBuilt (one_command v w) tt))
+refused_only w x (shown v r y) = absurd (x (subst IsBuilt (one_command v w) tt))
 
 -- what is answered where the reads stop
 abbrev stopped : StoreFault → List ℕ → Answer
@@ -120,6 +124,7 @@ stopped_only {name = name} {fault = fault} w b s (over_long {name = found} v x t
 stopped_only w b s (checked v r x) = absurd (no_stop_three r s)
 stopped_only w b s (validated v r x) = absurd (no_stop_two r s)
 stopped_only w b s (ran v r x) = absurd (no_stop_two r s)
+stopped_only w b s (shown v r x) = absurd (no_stop _ r tt s)
 
 -- where all operands are read, the texts decide
 pub checked_only : {words : List (List ℕ)} {reads : List Read} {answer : Answer} {limit : Option ℕ} {input output sheet b c d : List ℕ} → Words words (check limit input output sheet)
@@ -137,6 +142,7 @@ checked_only {limit = limit} w r (checked {limit = other} v q x) =
     checks_same (ap most_rows limits) one.0 two.0 three.0 (ok_same _ _ one.1) (ok_same _ _ two.1) (ok_same _ _ three.1) x
 checked_only w r (validated v q x) = let other = one_command w v in absurd (cc)
 checked_only w r (ran v q x) = let other = one_command w v in absurd (cc)
+checked_only w r (shown v q x) = let other = one_command w v in absurd (cc)
 
 validates_same : {schema document b c schema' document' b' c' : List ℕ} {answer : Answer} → schema ≡ schema' → document ≡ document' → b ≡ b' → c ≡ c'
     → Validates schema' document' b' c' answer → Validates schema document b c answer
@@ -154,6 +160,7 @@ validated_only w r (not_read v b s u) = absurd (no_stop_two r s)
 validated_only w r (over_long v b s) = absurd (no_stop_two r s)
 validated_only w r (checked v q x) = let other = one_command w v in absurd (cc)
 validated_only w r (ran v q x) = let other = one_command w v in absurd (cc)
+validated_only w r (shown v q x) = let other = one_command w v in absurd (cc)
 validated_only w r (validated v q x) =
     let one = read_same (sym r ∙ q) in
     let two = read_same one.2 in
@@ -175,10 +182,26 @@ ran_only w r (not_read v b s u) = absurd (no_stop_two r s)
 ran_only w r (over_long v b s) = absurd (no_stop_two r s)
 ran_only w r (checked v q x) = let other = one_command w v in absurd (cc)
 ran_only w r (validated v q x) = let other = one_command w v in absurd (cc)
+ran_only w r (shown v q x) = let other = one_command w v in absurd (cc)
 ran_only w r (ran v q x) =
     let one = read_same (sym r ∙ q) in
     let two = read_same one.2 in
     runs_texts_same one.0 two.0 (ok_same _ _ one.1) (ok_same _ _ two.1) x
+
+-- the texts of a demonstration decide
+pub shown_only : {words : List (List ℕ)} {reads : List Read} {answer : Answer} {size : ℕ} → Words words (demo size) → reads ≡ [] → IsAnswer words reads answer
+    → Checks MOST_ROWS input_name output_name sheet_name (demo_schema size) (demo_schema size) demo_sheet answer
+shown_only w r (no_command n e) = absurd (n _ w)
+shown_only w r (not_built v x e f) = absurd (x (subst IsBuilt (one_command w v) tt))
+shown_only w r (not_read v b s u) = absurd (no_stop _ r tt s)
+shown_only w r (over_long v b s) = absurd (no_stop _ r tt s)
+shown_only w r (checked v q x) = let other = one_command w v in absurd (cc)
+shown_only w r (validated v q x) = let other = one_command w v in absurd (cc)
+shown_only w r (ran v q x) = let other = one_command w v in absurd (cc)
+shown_only {answer = answer} {size = size} w r (shown {size = other} v q x) =
+    let command = one_command w v in
+    let sizes : other ≡ size = cc in
+    subst (λ n. Checks MOST_ROWS input_name output_name sheet_name (demo_schema n) (demo_schema n) demo_sheet answer) sizes x
 
 alike_at : {one other answer : Answer} → one ≡ answer → other ≡ answer → AreAlike one other
 alike_at {one} {other} {answer} p q = subst (λ a. AreAlike a other) (sym p) (subst (AreAlike answer) (sym q) same_answer)
@@ -192,6 +215,7 @@ by_reads (over_long w b s) y = alike_at refl (stopped_only w b s y)
 by_reads (checked w r x) y = checks_one x (checked_only w r y)
 by_reads (validated w r x) y = validates_one x (validated_only w r y)
 by_reads (ran w r x) y = runs_texts_one x (ran_only w r y)
+by_reads (shown w r x) y = checks_one x (shown_only w r y)
 
 -- The names are read in order up to the first read that isn't Ok, which isn't for want of memory.
 pub data Follows : List (List ℕ) → List Read → Type 0 where
@@ -227,6 +251,7 @@ follows {reads = reads} w b (over_long v x s) = subst (λ c. Follows (operands_o
 follows {reads = reads} w b (checked v r x) = subst (λ c. Follows (operands_of c) reads) (one_command v w) (three_follow r)
 follows {reads = reads} w b (validated v r x) = subst (λ c. Follows (operands_of c) reads) (one_command v w) (two_follow r)
 follows {reads = reads} w b (ran v r x) = subst (λ c. Follows (operands_of c) reads) (one_command v w) (two_follow r)
+follows {reads = reads} w b (shown v r x) = subst (λ c. Follows (operands_of c) reads) (one_command v w) (no_name refl r)
 
 -- of one file, two outcomes that are true where no read fails, and where some did
 
@@ -282,6 +307,10 @@ no_reads : {names : List (List ℕ)} {reads : List Read} → names ≡ [] → Fo
 no_reads same (no_name p q) = q
 no_reads same (stops p q n) = absurd (cc)
 no_reads same (goes_on p q x) = absurd (cc)
+
+-- a demonstration reads nothing
+pub shown_reads : {words : List (List ℕ)} {reads : List Read} {answer : Answer} {size : ℕ} → Words words (demo size) → IsAnswer words reads answer → reads ≡ []
+shown_reads w x = no_reads refl (follows w tt x)
 
 true_at : (told : Option Files) (rose : Type 0) {reads others : List Read} → reads ≡ others → AreTrue told rose reads → AreTrue told rose others
 true_at told rose same t = subst (AreTrue told rose) same t
@@ -348,6 +377,7 @@ exact files rose t (over_long w b s) u y = alike files rose w b t (over_long w b
 exact files rose t (checked w r x) u y = alike files rose w tt t (checked w r x) u y
 exact files rose t (validated w r x) u y = alike files rose w tt t (validated w r x) u y
 exact files rose t (ran w r x) u y = alike files rose w tt t (ran w r x) u y
+exact files rose t (shown w r x) u y = alike files rose w tt t (shown w r x) u y
 
 -- the names and the texts of a check whose operands were read are those of the held files
 pub held_texts : (files : Files) (rose : Type 0) {words : List (List ℕ)} {reads : List Read} {limit other : Option ℕ} {input output sheet b c d input' output' sheet' b' c' d' : List ℕ} {answer : Answer}

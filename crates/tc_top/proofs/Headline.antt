@@ -14,15 +14,19 @@ use Rattle.tc_print.specs.ReadBack.{nesting, IsReadAs}
 use Rattle.tc_print.proofs.ReadBack.{read_back}
 use Rattle.tc_top.specs.Checking.{RowCount, most_rows, most_of, IsCompiled, PassesCompile, HasManyRows, HasFewRows, AreRowCounts, IsLeastCounter, HasSmallCounter, HasLargeCounters}
 use Rattle.tc_top.specs.Headline.{IsCutShort, ChecksFiles, ChecksShortFiles, ShowsCounterexample, shows_both, shows_document, ShowsRun, shows_result, shows_large, IsLimited, limited_before_rows, limited_in_rows, limited_in_nodes, DecidesSafety, ValidatesFiles, DecidesValidity, RunsFiles, GivesResult}
-use Rattle.tc_top.specs.Answers.{Answer, IsBuilt, usage, not_yet, cannot_read, file_limit, safe, unsafe, unsafe_large, rows_limit, counterexample_limit, refused, over_limit, is_valid, is_invalid, has_result, work_limit, open_limit, status_of, text_of, Finds, passes_compile, passes_rows, finds_safe, finds_unsafe, finds_large, finds_none_small, IsAnswer, no_command, not_built, not_read, over_long, checked, validated, ran, Ends, Gives, KeepsToLimits, Runs, sheet_passes, too_much_work, too_open, gives_result}
+use Rattle.tc_top.specs.Answers.{Answer, IsBuilt, usage, not_yet, cannot_read, file_limit, safe, unsafe, unsafe_large, rows_limit, counterexample_limit, refused, over_limit, is_valid, is_invalid, has_result, work_limit, open_limit, status_of, text_of, Finds, passes_compile, passes_rows, finds_safe, finds_unsafe, finds_large, finds_none_small, IsAnswer, no_command, not_built, not_read, over_long, checked, validated, ran, shown, Ends, Gives, KeepsToLimits, Runs, sheet_passes, too_much_work, too_open, gives_result}
 use Rattle.tc_top.specs.AnswersSeen.{IsRightFor}
 use Rattle.tc_top.specs.OneAnswer.{AreAlike, same_answer, counterexamples, large_counterexamples, large_or_not, not_large_or_large, row_limits, work_or_open, open_or_work, open_reasons, IsOfFault}
 use Rattle.tc_top.specs.declared.answer.Answer.{Answer as Said}
 use Rattle.tc_top.specs.declared.status.Status.{Status}
 use Rattle.tc_top.specs.declared.status.Status.TheVariants.{Yes, No, Limit}
 use Rattle.tc_top.specs.Limits.{IsRunWithin}
-use Rattle.tc_top.specs.Words.{Words, check}
-use Rattle.tc_top.proofs.Exact.{Agrees, checked_only, validated_only, ran_only, held_texts, read_two, read_three}
+use Rattle.tc_model.specs.RncText.{RncText}
+use Rattle.tc_read.specs.Sheets.{IsSheetOf}
+use Rattle.tc_top.specs.Demo.{demo_schema, demo_sheet}
+use Rattle.tc_top.specs.declared.limits.TheConstants.{MOST_ROWS}
+use Rattle.tc_top.specs.Words.{Words, check, demo}
+use Rattle.tc_top.proofs.Exact.{Agrees, checked_only, validated_only, ran_only, shown_only, shown_reads, held_texts, read_two, read_three}
 use Rattle.tc_top.proofs.OneCheck.{not_both, over_compile, one_compile, near_far, finds_of}
 use Rattle.tc_top.proofs.OneCommand.{one_command}
 use Rattle.tc_top.proofs.OneValidity.{Settles, settles_valid, settles_invalid, settles}
@@ -205,6 +209,7 @@ found {rose = rose} files limit i o s c true (checked v same x) which =
     finds_of c.input_spells c.output_spells c.sheet_spells (held_texts files rose c.words_are c.input_held c.output_held c.sheet_held v same true x)
 found files limit i o s c true (validated w r x) which = let same = one_command w c.words_are in absurd (cc)
 found files limit i o s c true (ran w r x) which = let same = one_command w c.words_are in absurd (cc)
+found files limit i o s c true (shown w r x) which = let same = one_command w c.words_are in absurd (cc)
 
 -- yes says that it is safe, and no shows that it isn't
 
@@ -235,6 +240,13 @@ pub unsafe_is_shown : {words : List (List ℕ)} {rose : Type 0} {reads : List Re
     → ChecksFiles words files limit i o s → AreTrue (Some files) rose reads → IsAnswer words reads answer → status ≡ status_of answer → Appended old new (text_of answer) → status ≡ No
     → ShowsCounterexample old new i o s
 unsafe_is_shown files limit i o s status old new answer c true right is written no = shows old new (found files limit i o s c true right (inr (sym is ∙ no))) (sym is ∙ no) written
+
+-- a demonstration is decided as a check of its texts is
+pub demonstrated : {words : List (List ℕ)} {reads : List Read} (size : ℕ) (g : Grammar) (s : Sheet) (status : Status) (old new : Option (List ℕ)) (answer : Answer) → Words words (demo size)
+    → RncText (demo_schema size) g → IsSheetOf demo_sheet s → IsAnswer words reads answer → status ≡ status_of answer → Appended old new (text_of answer)
+    → DecidesSafety status old new MOST_ROWS g g s
+demonstrated size g s status old new answer w spells means right is written =
+    decides MOST_ROWS g g s status old new is written (finds_of spells spells means (shown_only w (shown_reads w right) right))
 
 settled : {g : Grammar} {d : Trees} {answer : Answer} (status : Status) (old new : Option (List ℕ)) → status ≡ status_of answer → Appended old new (text_of answer) → Settles g d answer
     → DecidesValidity status old new g d

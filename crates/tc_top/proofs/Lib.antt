@@ -2,6 +2,7 @@ pub mod Named
 pub mod OperandsRead
 pub mod Nothing
 pub mod Numerals
+pub mod DemoSizes
 pub mod OneCommand
 pub mod OneRefusal
 pub mod OneValidity

@@ -23,7 +23,8 @@ use Rattle.tc_run.specs.Spent.{most_work, most_open}
 use Rattle.tc_read.specs.Sheets.{IsSheetOf}
 use Rattle.tc_run.specs.Limits.{KeepsLimits}
 use Rattle.tc_top.specs.Checking.{RowCount, most_rows, most_of, IsCompiled, PassesCompile, HasManyRows, HasFewRows, AreRowCounts, IsLeastCounter, HasLargeCounters, IsLargeRun}
-use Rattle.tc_top.specs.declared.limits.TheConstants.{MOST_SHOWN_NODES}
+use Rattle.tc_top.specs.declared.limits.TheConstants.{MOST_ROWS, MOST_SHOWN_NODES}
+use Rattle.tc_top.specs.Demo.{demo_schema, demo_sheet, input_name, output_name, sheet_name}
 use Rattle.tc_top.specs.Headline.{IsCutShort}
 use Rattle.tc_top.specs.Lines.{line, limit_line, count_word, safe_line, unsafe_lines, unsafe_large_lines}
 use Rattle.tc_top.specs.Words.{Command, check, prove, verify, run, valid, demo, Words, IsNoCommand, name_of, operands_of}
@@ -103,11 +104,18 @@ IsBuilt (prove limit input output sheet) = ⊥
 IsBuilt (verify input output sheet certificate) = ⊥
 IsBuilt (run sheet document) = Unit {0}
 IsBuilt (valid schema document) = Unit {0}
-IsBuilt (demo size) = ⊥
+IsBuilt (demo size) = Unit {0}
 
--- words of no command, and of a command that isn't carried out, for which nothing is read
+-- a command that is carried out on files
+abbrev pub ReadsFiles : Command → Type 0
+ReadsFiles (check limit input output sheet) = Unit {0}
+ReadsFiles (run sheet document) = Unit {0}
+ReadsFiles (valid schema document) = Unit {0}
+ReadsFiles _ = ⊥
+
+-- words of no command, of a command that isn't carried out, and of one that makes its texts, for which nothing is read
 abbrev pub ReadsNothing : List (List ℕ) → Type 0
-ReadsNothing words = (command : Command) → Words words command → ¬ (IsBuilt command)
+ReadsNothing words = (command : Command) → Words words command → ¬ (ReadsFiles command)
 
 -- what two schemas and a stylesheet decide, with so many rows of trees and of lists of trees at most
 pub data Finds (most : ℕ) (i o : Grammar) (s : Sheet) : Answer → Type 0 where
@@ -174,6 +182,9 @@ pub data IsAnswer (words : List (List ℕ)) (reads : List Read) : Answer → Typ
   ran : {sheet document sheet_text document_text : List ℕ} {answer : Answer} → Words words (run sheet document)
       → reads ≡ (sheet, Ok sheet_text) ∷ (document, Ok document_text) ∷ []
       → RunsTexts sheet document sheet_text document_text answer → IsAnswer words reads answer
+
+  shown : {size : ℕ} {answer : Answer} → Words words (demo size) → reads ≡ []
+      → Checks MOST_ROWS input_name output_name sheet_name (demo_schema size) (demo_schema size) demo_sheet answer → IsAnswer words reads answer
 
 -- The answer of held files, where no read fails.
 abbrev pub IsAnswerOn : List (List ℕ) → Files → Answer → Type 0

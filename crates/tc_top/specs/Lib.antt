@@ -7,6 +7,7 @@ pub mod Answers
 pub mod OneAnswer
 pub mod AnswersSeen
 pub mod Lines
+pub mod Demo
 pub mod Program
 pub mod Reading
 pub mod StatusSeen

@@ -287,12 +287,12 @@ impl Answer {
     }
 
     /// A valid document has a result that isn't valid, and that is too large to be shown.
-    pub fn not_safe_large(alloc: Global, document: &[Node<'_>]) -> Result<Answer, NoMemory>
-        ensures { IfOk result (λ said. Says said (a.unsafe_large (trees document.now))) }
+    pub fn not_safe_large(alloc: Global, shown: &[Node<'_>]) -> Result<Answer, NoMemory>
+        ensures { IfOk result (λ said. Says said (a.unsafe_large (trees shown.now))) }
     {
         let mut text = Buffer::new(alloc);
         text.put(b"unsafe\ndocument ")?;
-        text.put_trees(document)?;
+        text.put_trees(shown)?;
         text.put(b"\noutput-too-large\n")?;
         Ok(Answer {
             status: Status::No,

@@ -6,6 +6,7 @@ mod buffer;
 mod check;
 mod command;
 mod compile;
+mod demo;
 pub mod laws;
 pub mod limits;
 mod program;
@@ -27,7 +28,11 @@ ghost use Rattle.tc_top.specs.Answers as a;
 ghost use Rattle.tc_top.specs.Answers.{Ends, IsAnswerOn, IsBuilt, ReadsNothing, Gives, KeepsToLimits};
 ghost use Rattle.tc_top.specs.AnswersSeen.{IsRightFor};
 ghost use Rattle.tc_model.specs.Safety.{IsSafe};
+ghost use Rattle.tc_model.specs.RncText.{RncText};
+ghost use Rattle.tc_read.specs.Sheets.{IsSheetOf};
 ghost use Rattle.tc_top.specs.Checking.{most_rows};
+ghost use Rattle.tc_top.specs.Demo.{demo_schema, demo_sheet};
+ghost use Rattle.tc_top.specs.declared.limits.TheConstants.{MOST_ROWS};
 ghost use Rattle.tc_top.specs.Headline.{IsCutShort, ChecksFiles, ChecksShortFiles, ShowsCounterexample, DecidesSafety, ValidatesFiles, DecidesValidity, RunsFiles, GivesResult};
 ghost use Rattle.tc_top.specs.Words as w;
 ghost use Rattle.tc_top.specs.Words.{Words, IsNoCommand, name_of};
@@ -36,6 +41,7 @@ ghost use Rattle.tc_top.specs.WordsSeen.{texts};
 use answer::Answer;
 use check::check;
 use command::{Command, read_words};
+use demo::demo;
 pub use program::run_program;
 use run::run;
 pub use status::Status;
@@ -83,6 +89,10 @@ pub fn typecheck<S: Store, K: Sink>(
     ensures headline { (files : Files) (limit : Option ℕ) (i o : Grammar) (s : Sheet) → S.holds store.old ≡ Some files → ChecksShortFiles words.now files limit i o s
         → IsCutShort result (Rose (S.faults store.old) (S.faults store.new))
         ⊎ DecidesSafety result (K.written sink.old) (K.written sink.new) (most_rows limit) i o s }
+
+    // So is a demonstration on the texts that it makes, for which nothing is read.
+    ensures demonstrated { (size : ℕ) (g : Grammar) (s : Sheet) → Words words.now (w.demo size) → RncText (demo_schema size) g → IsSheetOf demo_sheet s
+        → IsCutShort result ⊥ ⊎ DecidesSafety result (K.written sink.old) (K.written sink.new) MOST_ROWS g g s }
 
     // A validation of held files is yes exactly where the document is valid, and no exactly where it isn't.
     ensures validity { (files : Files) (g : Grammar) (d : Trees) → S.holds store.old ≡ Some files → ValidatesFiles words.now files g d
@@ -133,6 +143,6 @@ fn answer_words<S: Store>(
         Command::Valid(schema, document) => valid(alloc, schema, document, store),
         Command::Prove(..) => Answer::not_yet(alloc, "prove"),
         Command::Verify(..) => Answer::not_yet(alloc, "verify"),
-        Command::Demo(_) => Answer::not_yet(alloc, "demo"),
+        Command::Demo(size) => demo(alloc, size),
     }
 }
