@@ -22,11 +22,13 @@ use Rattle.tc_rules.specs.Kept.{IsRulesOf, told}
 use Rattle.tc_rules.specs.declared.rules.Rules.{Rules}
 use Rattle.tc_run.specs.Limits.{IsCause}
 use Rattle.tc_run.specs.declared.RunFault.TheVariants.{TooMuchWork, TooOpen}
-use Rattle.tc_top.specs.Answers.{Answer, Finds, finds_safe, finds_unsafe, finds_large, finds_none_small, passes_rows, safe, counterexample_limit}
+use Rattle.tc_top.specs.Answers.{Answer, Finds, finds_safe, finds_unsafe, finds_large, finds_none_small, passes_rows, Checks, safe, counterexample_limit}
 use Rattle.tc_top.specs.AnswersSeen.{IsRunOf, run_within, run_large}
-use Rattle.tc_top.specs.Checking.{RowCount, trees, hedges, outputs, IsTripleOf, IsCompiled, HasManyRows, HasFewRows, AreRowCounts, IsLeastCounter, HasLargeCounters, IsLargeRun}
+use Rattle.tc_top.specs.Checking.{RowCount, trees, hedges, outputs, IsCompiled, HasManyRows, HasFewRows, AreRowCounts, IsLeastCounter, HasLargeCounters, IsLargeRun}
+use Rattle.tc_close.specs.Triples.{IsTripleOf}
 use Rattle.tc_top.specs.Compiled.{IsReadOf}
-use Rattle.tc_top.proofs.OneTriple.{triples_agree, pass_on}
+use Rattle.tc_top.specs.declared.limits.TheConstants.{MOST_OUTPUTS}
+use Rattle.tc_close.proofs.Agreeing.{triples_agree}
 
 -- the grammar that a text spells is that of its schema
 pub read_of : (bytes : List ℕ) (x : Schema) → IsSchemaOf bytes x → (g : Grammar) × RncText bytes g × IsReadOf g x
@@ -50,9 +52,9 @@ triple_is is = is.parts.are_rules.triple
 
 module _ (x : Triple) (is : IsTriple x) where
   pub few_rows : {most : ℕ} → KeepsCounts x most → HasFewRows x.input x.output (t.sheet x) most
-  few_rows keeps trees (y, of, many) = keeps.trees (pass_on (triples_agree x.input x.output (t.sheet x) y x of (itself x is)).trees many)
-  few_rows keeps hedges (y, of, many) = keeps.hedges (pass_on (triples_agree x.input x.output (t.sheet x) y x of (itself x is)).hedges many)
-  few_rows keeps outputs (y, of, many) = keeps.outputs (pass_on (triples_agree x.input x.output (t.sheet x) y x of (itself x is)).outputs many)
+  few_rows {most} keeps trees (y, of, many) = keeps.trees (((triples_agree x.input x.output (t.sheet x) y x of (itself x is)).live_trees.pass most).0 many)
+  few_rows {most} keeps hedges (y, of, many) = keeps.hedges (((triples_agree x.input x.output (t.sheet x) y x of (itself x is)).live_hedges.pass most).0 many)
+  few_rows {most} keeps outputs (y, of, many) = keeps.outputs (((triples_agree x.input x.output (t.sheet x) y x of (itself x is)).outputs.pass MOST_OUTPUTS).0 many)
 
   pub found_safe : {most : ℕ} {n : Counts} → IsCompiled x.input x.output (t.sheet x) → IsSafeWith x most n → Finds most x.input x.output (t.sheet x) (safe n.trees n.hedges n.outputs)
   found_safe w h =
@@ -81,3 +83,7 @@ much_work s document (o, t, p) = (o, t, inl p)
 
 pub too_open : (s : Sheet) (document : Trees) → IsCause s document TooOpen → IsLargeRun s document
 too_open s document (o, t, p) = (o, t, inr p)
+
+-- a check with an equal limit of rows
+pub checks_at : {most other : ℕ} {input output sheet b c d : List ℕ} {answer : Answer} → most ≡ other → Checks most input output sheet b c d answer → Checks other input output sheet b c d answer
+checks_at {most} {other} {input} {output} {sheet} {b} {c} {d} {answer} e x = subst (λ n. Checks n input output sheet b c d answer) e x

@@ -32,13 +32,14 @@ use Rattle.tc_rules.specs.Kept.{IsRulesOf, told}
 use Rattle.tc_rules.specs.States.{AllInline}
 use Rattle.tc_rules.specs.declared.rules.Rules.{Rules}
 use Rattle.tc_rules.proofs.Looking.{all_unfold}
-use Rattle.tc_top.specs.Checking.{IsTripleOf, IsCompiled, PassesCompile, by_sheet, by_calls, by_entries}
+use Rattle.tc_top.specs.Checking.{IsCompiled, PassesCompile, by_sheet, by_calls, by_entries}
+use Rattle.tc_close.specs.Triples.{IsTripleOf}
 use Rattle.tc_top.specs.Compiled.{IsSpelled, IsReadOf, IsCauseBy, AreAutomata, PassesMachine, many_calls, many_entries, IsMachineFor}
 use Rattle.tc_top.specs.Limits.{IsWithinLimits, PassesLimit, passes_size, passes_states, SheetPasses, IsWithinSheetLimits, AreFew}
 use Rattle.tc_top.specs.declared.compile.CompileFault.{CompileFault}
 use Rattle.tc_top.specs.declared.compile.CompileFault.TheVariants.{Passes, NoMemory}
 use Rattle.tc_top.proofs.Checked.{read_of}
-use Rattle.tc_top.proofs.OneTriple.{triples_agree}
+use Rattle.tc_close.proofs.Agreeing.{triples_agree}
 use Rattle.tc_top.proofs.OneValidity.{too_large}
 
 -- a fault of one kind is a fault of another
@@ -65,7 +66,7 @@ within m n h = by (cases_lt m n)
 -- the triple of schemas, of the rules of a stylesheet and of their symbols
 
 module _ (i o : Grammar) (symbols : List Mention) (r : Rules) (rules : IsRulesOf symbols r) where
-  bodies : (ps : List _) × AllInline (told r).sheet.named (told r).sheet.rules ps
+  pub bodies : (ps : List _) × AllInline (told r).sheet.named (told r).sheet.rules ps
   bodies = all_unfold (told r).sheet rules.tells.well_formed (told r).sheet.rules rules.tells.well_formed.rules
 
   abbrev pub triple_by : Triple
@@ -104,7 +105,7 @@ module _ (i o : Grammar) (s : Sheet) (contents states : Auto) (symbols : List Me
       output = a.output_within;
       sheet = sheet_within none;
       calls = λ p. keeps.0 (subst (λ (w : Sheet). PassCalls w 8000) (sym same) p);
-      entries = λ (y, of, many). keeps.1 ((triples_agree i o s y (triple_by i o symbols r rules) of triple_of).entries 8192 many);
+      entries = λ (y, of, many). keeps.1 (((triples_agree i o s y (triple_by i o symbols r rules) of triple_of).entries 8192).0 many);
     };
   }
 
@@ -124,8 +125,8 @@ ok_both (Ok m) both p q = both m p q
 ok_both (Err e) both p q = tt
 
 -- a schema that some text spells has a grammar
-pub some_grammar : {s : Schema} → IsSpelled s → (x : Grammar) × IsReadOf x s
-some_grammar {s} (bytes, h) = let found = read_of bytes s h in (found.0, found.2)
+pub some_grammar : (s : Schema) → IsSpelled s → (x : Grammar) × IsReadOf x s
+some_grammar s (bytes, h) = let found = read_of bytes s h in (found.0, found.2)
 
 -- a small one's is well-formed; one that is too large has no automaton, so that it need not be
 lawful : (x : Grammar) (s : Schema) → IsSpelled s → IsReadOf x s → IsWithinCounts x → IsGrammar x × IsStart x.start

@@ -114,7 +114,7 @@ module _ (most : ℕ) (i o : Grammar) (s : Sheet) (status : Status) (old new : O
   -- what isn't limited
   few_not_limited : IsCompiled i o s → HasFewRows i o s most → (HasLargeCounters i o s → ⊥) → IsLimited most i o s → ⊥
   few_not_limited w f n (limited_before_rows p) = over_compile p w
-  few_not_limited w f n (limited_in_rows {count} v p) = f count p
+  few_not_limited w f n (limited_in_rows count v p) = f count p
   few_not_limited w f n (limited_in_nodes v g l) = n l
 
   is_yes : {a b c : ℕ} → status ≡ Yes → Appended old new (text_of (safe a b c)) → IsCompiled i o s → HasFewRows i o s most → AreRowCounts i o s a b c → IsSafe i o s → Decides
@@ -159,7 +159,7 @@ module _ (most : ℕ) (i o : Grammar) (s : Sheet) (status : Status) (old new : O
   decides is written (passes_rows c w p) = record {
     yes = (λ e. absurd (not_limit e is), λ x. absurd (x.1.0 c p));
     no = (λ e. absurd (no_limit e is), λ x. absurd (x.1.0 c p));
-    limit = (λ _. limited_in_rows w p, λ _. is);
+    limit = (λ _. limited_in_rows c w p, λ _. is);
     one = inr (inr is);
     yes_text = λ e. absurd (not_limit e is);
     no_text = λ e. absurd (no_limit e is);

@@ -1,4 +1,5 @@
 pub mod Named
+pub mod Lined
 pub mod OperandsRead
 pub mod Nothing
 pub mod Numerals
@@ -7,7 +8,6 @@ pub mod OneCommand
 pub mod OneRefusal
 pub mod OneValidity
 pub mod OneRun
-pub mod OneTriple
 pub mod Checked
 pub mod Compiling
 pub mod OneCheck

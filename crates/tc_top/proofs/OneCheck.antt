@@ -17,13 +17,14 @@ use Rattle.tc_rows.specs.Counts.{Counts, IsRowOfLiveTree, IsRowOfLiveHedge, IsOu
 use Rattle.tc_rows.proofs.Counting.{counts_tell}
 use Rattle.tc_run.specs.Limits.{KeepsLimits}
 use Rattle.tc_top.specs.Answers.{Answer, safe, unsafe, over_limit, Finds, passes_compile, passes_rows, finds_safe, finds_unsafe, finds_large, finds_none_small, Checks, input_refused, output_refused, stylesheet_refused, all_read}
-use Rattle.tc_top.specs.Checking.{IsTripleOf, IsCompiled, PassesCompile, by_input, by_output, by_sheet, by_calls, by_entries, HasFewRows, AreRowCounts, IsCounter, IsLeastCounter, HasLargeCounters, IsLargeRun}
+use Rattle.tc_top.specs.Checking.{IsCompiled, PassesCompile, by_input, by_output, by_sheet, by_calls, by_entries, HasFewRows, AreRowCounts, IsCounter, IsLeastCounter, HasLargeCounters, IsLargeRun}
+use Rattle.tc_close.specs.Triples.{IsTripleOf}
 use Rattle.tc_top.specs.Limits.{IsWithinLimits, IsWithinSheetLimits}
 use Rattle.tc_top.specs.OneAnswer.{AreAlike, same_answer, counterexamples, large_counterexamples, large_or_not, not_large_or_large, row_limits}
 use Rattle.tc_top.proofs.OneRefusal.{schema_refusals, sheet_refusals}
 use Rattle.tc_top.proofs.OneRun as run
 use Rattle.tc_top.proofs.OneRun.{no_sheet, one_sheet_of, one_result, over_work, over_open}
-use Rattle.tc_top.proofs.OneTriple.{triples_agree, counts_on}
+use Rattle.tc_close.proofs.Agreeing.{triples_agree}
 use Rattle.tc_top.proofs.OneValidity as schema
 use Rattle.tc_top.proofs.OneValidity.{no_schema}
 
@@ -72,11 +73,10 @@ module _ {i o : Grammar} {s : Sheet} where
   -- the numbers of rows are one
   one_count : {a b c d e f : ℕ} → AreRowCounts i o s a b c → AreRowCounts i o s d e f → (a ≡ d) × (b ≡ e) × (c ≡ f)
   one_count {a} {b} {c} {d} {e} {f} x y =
-      let to = triples_agree i o s y.triple x.triple y.of x.of in
-      let of = triples_agree i o s x.triple y.triple x.of y.of in (
-        (counts_tell (IsRowOfLiveTree x.triple)).0 a d x.trees (counts_on to.trees of.trees y.trees),
-        (counts_tell (IsRowOfLiveHedge x.triple)).0 b e x.hedges (counts_on to.hedges of.hedges y.hedges),
-        (counts_tell (IsOutput x.triple)).0 c f x.outputs (counts_on to.outputs of.outputs y.outputs),
+      let agree = triples_agree i o s y.triple x.triple y.of x.of in (
+        (counts_tell (IsRowOfLiveTree x.triple)).0 a d x.trees ((agree.live_trees.counts d).0 y.trees),
+        (counts_tell (IsRowOfLiveHedge x.triple)).0 b e x.hedges ((agree.live_hedges.counts e).0 y.hedges),
+        (counts_tell (IsOutput x.triple)).0 c f x.outputs ((agree.outputs.counts f).0 y.outputs),
       )
 
   safe_alike : {a b c d e f : ℕ} → (a ≡ d) × (b ≡ e) × (c ≡ f) → AreAlike (safe a b c) (safe d e f)

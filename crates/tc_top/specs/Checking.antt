@@ -1,8 +1,9 @@
 -- The limits of a check, in the order in which they are tried, and what a check finds of two schemas and a stylesheet.
-use Rattle.std.specs.Prelude.{◌≡◌, ◌<◌, ◌≤◌, ◌⊎◌, ℕ, Option, Some, None}
+use Rattle.std.specs.Prelude.{◌<◌, ◌≤◌, ◌⊎◌, ℕ, Option, Some, None}
 use Rattle.tc_base.specs.declared.Limit.{Limit}
 use Rattle.tc_base.specs.declared.Limit.TheVariants.{Calls, Entries}
 use Rattle.tc_base.specs.declared.limits.TheConstants.{MOST_INPUT_STATES, MOST_OUTPUT_STATES, DEEPEST_CALLS, MOST_ENTRIES}
+use Rattle.tc_close.specs.Triples.{IsTripleOf}
 use Rattle.tc_model.specs.Grammars.{Grammar}
 use Rattle.tc_model.specs.Outcomes.{Outcome}
 use Rattle.tc_model.specs.Safety.{IsCounterexample, Transforms}
@@ -12,8 +13,7 @@ use Rattle.tc_model.specs.Symbols.{symbols_of}
 use Rattle.tc_model.specs.Trees.{Trees, node_count}
 use Rattle.tc_rows.specs.Counts.{Counts, Pass, IsRowOfLiveTree, IsRowOfLiveHedge, IsOutput, PassCalls, PassEntries}
 use Rattle.tc_rows.specs.Derivations.{ArePlain}
-use Rattle.tc_rows.specs.Triples as t
-use Rattle.tc_rows.specs.Triples.{Triple, IsTriple}
+use Rattle.tc_rows.specs.Triples.{Triple}
 use Rattle.tc_run.specs.Spent.{most_work, most_open}
 use Rattle.tc_top.specs.Limits.{IsWithinLimits, PassesLimit, IsWithinSheetLimits, SheetPasses}
 use Rattle.tc_top.specs.declared.limits.TheConstants.{MOST_ROWS, MOST_OUTPUTS, MOST_SHOWN_NODES}
@@ -36,16 +36,9 @@ most_of most hedges = most
 most_of most outputs = MOST_OUTPUTS
 
 module _ (i o : Grammar) (s : Sheet) where
-  -- rows go by this triple of them
-  pub record IsTripleOf (x : Triple) : Type 0 where
-    pub triple : IsTriple x
-    pub input : x.input ≡ i
-    pub output : x.output ≡ o
-    pub stylesheet : t.sheet x ≡ s
-
   -- rows have too many entries
   abbrev pub HasManyEntries : Type 0
-  HasManyEntries = (x : Triple) × IsTripleOf x × PassEntries x MOST_ENTRIES
+  HasManyEntries = (x : Triple) × IsTripleOf i o s x × PassEntries x MOST_ENTRIES
 
   -- none of the limits is passed that are tried before rows are
   pub record IsCompiled : Type 0 where
@@ -68,9 +61,9 @@ module _ (i o : Grammar) (s : Sheet) where
 
   -- there are more rows, or sets of pairs in them, than there may be
   abbrev pub HasManyRows : ℕ → RowCount → Type 0
-  HasManyRows most trees = (x : Triple) × IsTripleOf x × Pass (IsRowOfLiveTree x) most
-  HasManyRows most hedges = (x : Triple) × IsTripleOf x × Pass (IsRowOfLiveHedge x) most
-  HasManyRows most outputs = (x : Triple) × IsTripleOf x × Pass (IsOutput x) MOST_OUTPUTS
+  HasManyRows most trees = (x : Triple) × IsTripleOf i o s x × Pass (IsRowOfLiveTree x) most
+  HasManyRows most hedges = (x : Triple) × IsTripleOf i o s x × Pass (IsRowOfLiveHedge x) most
+  HasManyRows most outputs = (x : Triple) × IsTripleOf i o s x × Pass (IsOutput x) MOST_OUTPUTS
 
   abbrev pub HasFewRows : ℕ → Type 0
   HasFewRows most = (count : RowCount) → ¬ (HasManyRows most count)
@@ -78,7 +71,7 @@ module _ (i o : Grammar) (s : Sheet) where
   -- there are so many rows of live trees, so many of live lists of trees, and so many sets of pairs in them
   pub record AreRowCounts (tree_rows hedge_rows output_sets : ℕ) : Type 0 where
     pub triple : Triple
-    pub of : IsTripleOf triple
+    pub of : IsTripleOf i o s triple
     pub trees : Counts (IsRowOfLiveTree triple) tree_rows
     pub hedges : Counts (IsRowOfLiveHedge triple) hedge_rows
     pub outputs : Counts (IsOutput triple) output_sets
@@ -89,7 +82,7 @@ module _ (i o : Grammar) (s : Sheet) where
 
   -- its texts are `t`, and its names those that stand for their symbols
   abbrev pub IsPlain : Trees → Type 0
-  IsPlain document = (x : Triple) × IsTripleOf x × ArePlain x document
+  IsPlain document = (x : Triple) × IsTripleOf i o s x × ArePlain x document
 
   -- a counterexample that can be shown, with the fewest nodes of all
   pub record IsLeastCounter (document : Trees) : Type 0 where

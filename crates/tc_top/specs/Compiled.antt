@@ -20,7 +20,8 @@ use Rattle.tc_read.specs.declared.schemas.Schema.{Schema}
 use Rattle.tc_read.specs.declared.schemas.Schema.TheVariants.{Small, TooLarge}
 use Rattle.tc_rows.specs.Counts.{PassCalls, PassEntries}
 use Rattle.tc_rows.specs.Triples.{Triple, sheet}
-use Rattle.tc_top.specs.Checking.{IsTripleOf, IsCompiled}
+use Rattle.tc_top.specs.Checking.{IsCompiled}
+use Rattle.tc_close.specs.Triples.{IsTripleOf}
 use Rattle.tc_top.specs.Limits.{IsWithinLimits, AreFew}
 use Rattle.tc_top.specs.declared.compile.CompileFault.{CompileFault}
 use Rattle.tc_top.specs.declared.compile.CompileFault.TheVariants.{Passes, NoMemory}

@@ -61,7 +61,7 @@ pub data ShowsRun (old new : Option (List ℕ)) (s : Sheet) (document : Trees) :
 -- a limit is told, which is passed while none is that is tried before it
 pub data IsLimited (most : ℕ) (i o : Grammar) (s : Sheet) : Type 0 where
   limited_before_rows : {kind : kinds.Limit} {number : ℕ} → PassesCompile i o s kind number → IsLimited most i o s
-  limited_in_rows : {count : RowCount} → IsCompiled i o s → HasManyRows i o s most count → IsLimited most i o s
+  limited_in_rows : (count : RowCount) → IsCompiled i o s → HasManyRows i o s most count → IsLimited most i o s
   limited_in_nodes : IsCompiled i o s → HasFewRows i o s most → HasLargeCounters i o s → IsLimited most i o s
 
 -- yes exactly where no limit is passed and the stylesheet is safe, with the numbers of rows; no exactly where none is passed and there is a

@@ -9,7 +9,6 @@ ghost use Rattle.tc_model.specs.Views as see;
 ghost use Rattle.tc_model.specs.WellFormed.{IsSheet};
 ghost use Rattle.tc_read.specs.Schemas.{IsSchemaOf};
 ghost use Rattle.tc_rows.specs.Triples as t;
-ghost use Rattle.tc_rows.specs.Triples.{Triple};
 ghost use Rattle.tc_top.specs.Answers as a;
 ghost use Rattle.tc_top.specs.Answers.{Checks, Finds};
 ghost use Rattle.tc_top.specs.AnswersSeen.{Says, IsRightFor, IsRunOf};
@@ -171,7 +170,7 @@ fn decide<'b>(
 ) -> Result<Answer, NoMemory>
     requires few { most ≤ 4000 }
     requires machine { IsMachine machine.now }
-    ensures { IfOk result (λ said. (x : Triple) → IsMachineOf x machine.now → IsCompiled x.input x.output (t.sheet x)
+    ensures { IfOk result (λ said. (x : t.Triple) → IsMachineOf x machine.now → IsCompiled x.input x.output (t.sheet x)
         → (answer : a.Answer) × Says said answer × Finds most x.input x.output (t.sheet x) answer) }
 {
     match tc_close::decide(arena, alloc, machine, most) {
@@ -198,14 +197,13 @@ fn show<'b>(
 ) -> Result<Answer, NoMemory>
     requires machine { IsMachine machine.now }
     requires document { IsDocument (see.before document.now none) }
-    ensures { IfOk result (λ said. (x : Triple) → IsMachineOf x machine.now
+    ensures { IfOk result (λ said. (x : t.Triple) → IsMachineOf x machine.now
         → (answer : a.Answer) × Says said answer × IsRunOf (t.sheet x) (see.before document.now none) answer) }
 {
     match tc_run::run(arena, machine.rules(), machine.alphabet(), document) {
         Ok(nodes) => Answer::not_safe(alloc, &[*document], nodes),
-        Err(RunFault::TooMuchWork | RunFault::TooOpen) => {
-            Answer::not_safe_large(alloc, &[*document])
-        }
+        Err(RunFault::TooMuchWork) => Answer::not_safe_large(alloc, &[*document]),
+        Err(RunFault::TooOpen) => Answer::not_safe_large(alloc, &[*document]),
         Err(RunFault::NoMemory) => Err(NoMemory),
     }
 }

@@ -152,9 +152,9 @@ fn machine_over<'b>(
 ) -> Result<Machine<'b>, CompileFault>
     requires sheet { IsSheet (see.sheet sheet.now) }
     requires automata { (i : g.Grammar) × (o : g.Grammar) × AreAutomata i o (see.sheet sheet.now) contents states alphabet }
-    ensures ok { IfOk result (λ m. (i o : g.Grammar) → AreAutomata i o (see.sheet sheet.now) contents.entry states.entry alphabet.entry
+    ensures ok { IfOk result (λ m. (i o : g.Grammar) → AreAutomata i o (see.sheet sheet.now) contents.entry states.entry alphabet
         → IsMachineFor i o (see.sheet sheet.now) m) }
-    ensures err { IfErr result (λ e. (i o : g.Grammar) → AreAutomata i o (see.sheet sheet.now) contents.entry states.entry alphabet.entry
+    ensures err { IfErr result (λ e. (i o : g.Grammar) → AreAutomata i o (see.sheet sheet.now) contents.entry states.entry alphabet
         → IsCauseBy (PassesCompile i o (see.sheet sheet.now)) e) }
 {
     let inner = Hedge::of(alloc, contents, &alphabet)?;
@@ -200,9 +200,9 @@ fn machine_by<'b>(
     alphabet: Alphabet,
 ) -> Result<Machine<'b>, CompileFault>
     requires parts { AreSomeParts inner outer rules alphabet }
-    ensures stands { IfOk result (λ m. (x : Triple) → AreParts x inner.entry outer.entry rules.entry alphabet.entry → IsMachineOf x m) }
-    ensures within { OnOk result ((x : Triple) → AreParts x inner.entry outer.entry rules.entry alphabet.entry → KeepsLimits x) }
-    ensures err { IfErr result (λ e. (x : Triple) → AreParts x inner.entry outer.entry rules.entry alphabet.entry → IsCauseBy (PassesMachine x) e) }
+    ensures stands { IfOk result (λ m. (x : Triple) → AreParts x inner.entry outer.entry rules.entry alphabet → IsMachineOf x m) }
+    ensures within { OnOk result ((x : Triple) → AreParts x inner.entry outer.entry rules.entry alphabet → KeepsLimits x) }
+    ensures err { IfErr result (λ e. (x : Triple) → AreParts x inner.entry outer.entry rules.entry alphabet → IsCauseBy (PassesMachine x) e) }
 {
     match Machine::of(alloc, inner, outer, rules, alphabet) {
         Ok(machine) => Ok(machine),

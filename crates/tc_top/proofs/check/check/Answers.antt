@@ -1,7 +1,8 @@
-use Rattle.std.proofs.Common.{refl, subst}
+use Rattle.std.proofs.Common.{refl}
 use Rattle.std.proofs.lemmas.Result.{IfOk-weaker}
-use Rattle.tc_top.specs.Answers.{Checks, checked}
+use Rattle.tc_top.specs.Answers.{checked}
 use Rattle.tc_top.specs.Words.{Words, check}
+use Rattle.tc_top.proofs.Checked.{checks_at}
 use Rattle.tc_top.proofs.OperandsRead.{three_named}
 use Rattle.tc_top.proofs.check.check.Goals as goal
 
@@ -15,7 +16,7 @@ returns-in-Ok-clause-ok g c =
         h.0,
         h.1,
         checked (three_named (λ x y z. Words words (check c.args.limit x y z)) read.input read.output read.sheet are) refl
-            (subst (λ most. Checks most _ _ _ _ _ _ h.0) c.row_limit.ensures h.2),
+            (checks_at c.row_limit.ensures h.2),
       ),
     )) c.check_texts.ensures
 

@@ -22,8 +22,8 @@ returns-in_err-alphabet-clause-err c =
 
 pub machine_over-requires-clause-automata : goal.machine_over-requires-clause-automata
 machine_over-requires-clause-automata c =
-    let (i, read_in) = some_grammar c.requires.input in
-    let (o, read_out) = some_grammar c.requires.output in (
+    let (i, read_in) = some_grammar _ c.requires.input in
+    let (o, read_out) = some_grammar _ c.requires.output in (
       i,
       o,
       automata i o (see.sheet c.args.sheet.now) c.args.input.now c.args.output.now c.requires.input c.requires.output read_in read_out _ _ _ (c.in_ok-contents.ensures.stands i read_in)

@@ -7,18 +7,27 @@ use Rattle.tc_read.proofs.Exits.{err_is}
 use Rattle.tc_top.proofs.Compiling.{cause_on, triple_by, parts_of, machine_for, machine_passes, sheet_passes, ok_both}
 use Rattle.tc_top.proofs.compile.machine_over.Goals as goal
 
+pub of-requires : goal.of-requires
+of-requires c = let (i, o, a) = c.requires.automata in (input, i, a.input_stands)
+
+pub of-requires-2 : goal.of-requires-2
+of-requires-2 c = let (i, o, a) = c.requires.automata in (output, o, a.output_stands)
+
 pub rules_of-requires-clause-symbols : goal.rules_of-requires-clause-symbols
 rules_of-requires-clause-symbols c = let (i, o, a) = c.requires.automata in (i, o, a.symbols_are)
 
-pub machine_by-requires-clause-parts : goal.machine_by-requires-clause-parts
-machine_by-requires-clause-parts c =
+pub machine_by-requires : goal.machine_by-requires
+machine_by-requires c =
     let (i, o, a) = c.requires.automata in
     let s = see.sheet c.args.sheet.now in
     let inner = c.in_ok-inner.ensures.stands input i a.input_stands i o s a.symbols_are (inl refl) in
-    let outer = c.in_ok-outer.ensures.stands output o a.output_stands i o s a.symbols_are (inr refl) in (
-      triple_by i o c.args.alphabet c.in_ok-rules.rules c.in_ok-rules.ensures.rules,
-      parts_of i o s c.args.contents c.args.states c.args.alphabet a c.in_ok-rules.rules c.in_ok-rules.ensures.rules c.in_ok-rules.ensures.sheet c.in_ok-inner.inner c.in_ok-outer.outer inner outer,
-    )
+    let outer = c.in_ok-outer.ensures.stands output o a.output_stands i o s a.symbols_are (inr refl) in
+    record {
+      parts = (
+        triple_by i o c.args.alphabet c.in_ok-rules.rules c.in_ok-rules.ensures.rules,
+        parts_of i o s c.args.contents c.args.states c.args.alphabet a c.in_ok-rules.rules c.in_ok-rules.ensures.rules c.in_ok-rules.ensures.sheet c.in_ok-inner.inner c.in_ok-outer.outer inner outer,
+      );
+    }
 
 pub returns-in_err-rules-clause-err : goal.returns-in_err-rules-clause-err
 returns-in_err-rules-clause-err c =
