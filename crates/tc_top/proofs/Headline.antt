@@ -100,9 +100,9 @@ no_limit : {status : Status} → status ≡ No → status ≡ Limit → ⊥
 no_limit e f = absurd (let g = sym e ∙ f in cc)
 
 -- the line of the one limit that is told
-compile_lines : {old new : Option (List ℕ)} {kind other : kinds.Limit} {number count : ℕ} → AreAlike (over_limit kind number) (over_limit other count) → Appended old new (text_of (over_limit kind number))
+compile_lines : (old new : Option (List ℕ)) {kind other : kinds.Limit} {number count : ℕ} → AreAlike (over_limit kind number) (over_limit other count) → Appended old new (text_of (over_limit kind number))
     → Appended old new (text_of (over_limit other count))
-compile_lines same_answer written = written
+compile_lines old new same_answer written = written
 
 small_far : {i o : Grammar} {s : Sheet} → HasSmallCounter i o s → HasLargeCounters i o s → ⊥
 small_far (document, counter, few) large = let far = large.large document counter in omega (arith, few, far)
@@ -120,24 +120,24 @@ module _ (most : ℕ) (i o : Grammar) (s : Sheet) (status : Status) (old new : O
   is_yes : {a b c : ℕ} → status ≡ Yes → Appended old new (text_of (safe a b c)) → IsCompiled i o s → HasFewRows i o s most → AreRowCounts i o s a b c → IsSafe i o s → Decides
   is_yes {a} {b} {c} is written w f n h = record {
     yes = (λ _. (w, f, h), λ _. is);
-    no = (λ e. absurd (not_no is e), λ x. absurd (not_both h x.2.1));
-    limit = (λ e. absurd (not_limit is e), λ l. absurd (few_not_limited w f (λ x. not_both h x.some.1) l));
+    no = (λ e. absurd (not_no is e), λ x. absurd (not_both i o s h x.2.1));
+    limit = (λ e. absurd (not_limit is e), λ l. absurd (few_not_limited w f (λ x. not_both i o s h x.some.1) l));
     one = inl is;
     yes_text = λ _. (a, b, c, n, written);
     no_text = λ e. absurd (not_no is e);
     compile_text = λ kind number p. absurd (over_compile p w);
     rows_text = λ count v p. absurd (f count p);
-    nodes_text = λ v g l. absurd (not_both h l.some.1);
+    nodes_text = λ v g l. absurd (not_both i o s h l.some.1);
   }
 
   is_no : {document : Trees} → status ≡ No → IsCompiled i o s → HasFewRows i o s most → IsLeastCounter i o s document → ShowsRun old new s document → Decides
-  is_no {document} is w f l shown = record {
-    yes = (λ e. absurd (not_no e is), λ x. absurd (not_both x.2.1 l.counter));
+  is_no {document} is w f l display = record {
+    yes = (λ e. absurd (not_no e is), λ x. absurd (not_both i o s x.2.1 l.counter));
     no = (λ _. (w, f, (document, l.counter, l.few)), λ _. is);
     limit = (λ e. absurd (no_limit is e), λ x. absurd (few_not_limited w f (λ y. near_far l y) x));
     one = inr (inl is);
     yes_text = λ e. absurd (not_no e is);
-    no_text = λ _. (document, l, reads_back l, shown);
+    no_text = λ _. (document, l, reads_back l, display);
     compile_text = λ kind number p. absurd (over_compile p w);
     rows_text = λ count v p. absurd (f count p);
     nodes_text = λ v g x. absurd (near_far l x);
@@ -152,7 +152,7 @@ module _ (most : ℕ) (i o : Grammar) (s : Sheet) (status : Status) (old new : O
     one = inr (inr is);
     yes_text = λ e. absurd (not_limit e is);
     no_text = λ e. absurd (no_limit e is);
-    compile_text = λ kind number q. compile_lines (one_compile p q) written;
+    compile_text = λ kind number q. compile_lines old new (one_compile p q) written;
     rows_text = λ count w q. absurd (over_compile p w);
     nodes_text = λ w f l. absurd (over_compile p w);
   }
@@ -171,7 +171,7 @@ module _ (most : ℕ) (i o : Grammar) (s : Sheet) (status : Status) (old new : O
   decides is written (finds_unsafe w f l k r) = is_no is w f l (shows_result k r written)
   decides is written (finds_large w f l k) = is_no is w f l (shows_large k written)
   decides is written (finds_none_small w f l) = record {
-    yes = (λ e. absurd (not_limit e is), λ x. absurd (not_both x.2.1 l.some.1));
+    yes = (λ e. absurd (not_limit e is), λ x. absurd (not_both i o s x.2.1 l.some.1));
     no = (λ e. absurd (no_limit e is), λ x. absurd (small_far x.2.1 l));
     limit = (λ _. limited_in_nodes w f l, λ _. is);
     one = inr (inr is);
@@ -197,19 +197,19 @@ headline {words} {rose} {reads} files limit i o s status old new answer short tr
     by (inr read) = inr (decides (most_rows limit) i o s status old new is written (finds_of c.input_spells c.output_spells c.sheet_spells (checked_only c.words_are read right)))
 
 -- what a check found whose answer is such a one, its files being held
-found : {words : List (List ℕ)} {rose : Type 0} {reads : List Read} (files : Files) (limit : Option ℕ) (i o : Grammar) (s : Sheet) {answer : Answer} → ChecksFiles words files limit i o s
+found : (rose : Type 0) {words : List (List ℕ)} {reads : List Read} (files : Files) (limit : Option ℕ) (i o : Grammar) (s : Sheet) {answer : Answer} → ChecksFiles words files limit i o s
     → AreTrue (Some files) rose reads → IsAnswer words reads answer → (status_of answer ≡ Yes) ⊎ (status_of answer ≡ No) → Finds (most_rows limit) i o s answer
-found files limit i o s c true (no_command n e) which = absurd (n _ c.words_are)
-found files limit i o s c true (not_built w x r e) which = let same = one_command w c.words_are in absurd (x (subst IsBuilt (sym same) tt))
-found files limit i o s c true (not_read w b t u) (inl e) = absurd (cc)
-found files limit i o s c true (not_read w b t u) (inr e) = absurd (cc)
-found files limit i o s c true (over_long w b t) (inl e) = absurd (cc)
-found files limit i o s c true (over_long w b t) (inr e) = absurd (cc)
-found {rose = rose} files limit i o s c true (checked v same x) which =
+found rose files limit i o s c true (no_command n e) which = absurd (n _ c.words_are)
+found rose files limit i o s c true (not_built w x r e) which = let same = one_command w c.words_are in absurd (x (subst IsBuilt (sym same) tt))
+found rose files limit i o s c true (not_read w b t u) (inl e) = absurd (cc)
+found rose files limit i o s c true (not_read w b t u) (inr e) = absurd (cc)
+found rose files limit i o s c true (over_long w b t) (inl e) = absurd (cc)
+found rose files limit i o s c true (over_long w b t) (inr e) = absurd (cc)
+found rose files limit i o s c true (checked v same x) which =
     finds_of c.input_spells c.output_spells c.sheet_spells (held_texts files rose c.words_are c.input_held c.output_held c.sheet_held v same true x)
-found files limit i o s c true (validated w r x) which = let same = one_command w c.words_are in absurd (cc)
-found files limit i o s c true (ran w r x) which = let same = one_command w c.words_are in absurd (cc)
-found files limit i o s c true (shown w r x) which = let same = one_command w c.words_are in absurd (cc)
+found rose files limit i o s c true (validated w r x) which = let same = one_command w c.words_are in absurd (cc)
+found rose files limit i o s c true (ran w r x) which = let same = one_command w c.words_are in absurd (cc)
+found rose files limit i o s c true (shown w r x) which = let same = one_command w c.words_are in absurd (cc)
 
 -- yes says that it is safe, and no shows that it isn't
 
@@ -227,19 +227,18 @@ shows old new (passes_compile p) e written = absurd (cc)
 shows old new (passes_rows c w p) e written = absurd (cc)
 shows old new (finds_safe w f n h) e written = absurd (cc)
 shows {i = i} {o = o} {s = s} old new (finds_unsafe {document = d} {result = r} w f l k is) e written =
-    let (other, valid, given, bad) = l.counter in
-    shows_both (valid, is, subst (λ (t : Trees). IsValidOutput o t → ⊥) (one_result s d other r given is) bad) written
+    shows_both (l.counter.1.0, is, subst (λ (t : Trees). IsValidOutput o t → ⊥) (one_result s d l.counter.0 r l.counter.1.1 is) l.counter.1.2) written
 shows old new (finds_large w f l k) e written = shows_document l.counter.1 written
 shows old new (finds_none_small w f l) e written = absurd (cc)
 
-pub safe_is_so : {words : List (List ℕ)} {rose : Type 0} {reads : List Read} (files : Files) (limit : Option ℕ) (i o : Grammar) (s : Sheet) (status : Status) (answer : Answer)
+pub safe_is_so : (rose : Type 0) {words : List (List ℕ)} {reads : List Read} (files : Files) (limit : Option ℕ) (i o : Grammar) (s : Sheet) (status : Status) (answer : Answer)
     → ChecksFiles words files limit i o s → AreTrue (Some files) rose reads → IsAnswer words reads answer → status ≡ status_of answer → status ≡ Yes → IsSafe i o s
-safe_is_so files limit i o s status answer c true right is yes = says_safe (found files limit i o s c true right (inl (sym is ∙ yes))) (sym is ∙ yes)
+safe_is_so rose files limit i o s status answer c true right is e = says_safe (found rose files limit i o s c true right (inl (sym is ∙ e))) (sym is ∙ e)
 
-pub unsafe_is_shown : {words : List (List ℕ)} {rose : Type 0} {reads : List Read} (files : Files) (limit : Option ℕ) (i o : Grammar) (s : Sheet) (status : Status) (old new : Option (List ℕ)) (answer : Answer)
+pub unsafe_is_shown : (rose : Type 0) {words : List (List ℕ)} {reads : List Read} (files : Files) (limit : Option ℕ) (i o : Grammar) (s : Sheet) (status : Status) (old new : Option (List ℕ)) (answer : Answer)
     → ChecksFiles words files limit i o s → AreTrue (Some files) rose reads → IsAnswer words reads answer → status ≡ status_of answer → Appended old new (text_of answer) → status ≡ No
     → ShowsCounterexample old new i o s
-unsafe_is_shown files limit i o s status old new answer c true right is written no = shows old new (found files limit i o s c true right (inr (sym is ∙ no))) (sym is ∙ no) written
+unsafe_is_shown rose files limit i o s status old new answer c true right is written e = shows old new (found rose files limit i o s c true right (inr (sym is ∙ e))) (sym is ∙ e) written
 
 -- a demonstration is decided as a check of its texts is
 pub demonstrated : {words : List (List ℕ)} {reads : List Read} (size : ℕ) (g : Grammar) (s : Sheet) (status : Status) (old new : Option (List ℕ)) (answer : Answer) → Words words (demo size)

@@ -29,10 +29,14 @@ use Rattle.tc_top.proofs.OneValidity as schema
 use Rattle.tc_top.proofs.OneValidity.{no_schema}
 
 -- a safe stylesheet has no counterexample
-pub not_both : {i o : Grammar} {s : Sheet} {document : Trees} → IsSafe i o s → IsCounter i o s document → ⊥
-not_both {i} {o} {s} {document} safe (result, found) =
-    let good = safe document found.0 in
+pub not_both : (i o : Grammar) (s : Sheet) {document : Trees} → IsSafe i o s → IsCounter i o s document → ⊥
+not_both i o s {document} all (result, found) =
+    let good = all document found.0 in
     found.2 (subst (IsValidOutput o) (one_result s document good.0 result good.1 found.1) good.2)
+
+safe_alike : {a b c d e f : ℕ} → (a ≡ d) × (b ≡ e) × (c ≡ f) → AreAlike (safe a b c) (safe d e f)
+safe_alike {a} {b} {c} (p, q, r) =
+    subst (λ n. AreAlike (safe a b c) (safe n _ _)) p (subst (λ n. AreAlike (safe a b c) (safe a n _)) q (subst (λ n. AreAlike (safe a b c) (safe a b n)) r same_answer))
 
 module _ {i o : Grammar} {s : Sheet} where
   pub over_compile : {kind : Limit} {number : ℕ} → PassesCompile i o s kind number → IsCompiled i o s → ⊥
@@ -79,17 +83,9 @@ module _ {i o : Grammar} {s : Sheet} where
         (counts_tell (IsOutput x.triple)).0 c f x.outputs ((agree.outputs.counts f).0 y.outputs),
       )
 
-  safe_alike : {a b c d e f : ℕ} → (a ≡ d) × (b ≡ e) × (c ≡ f) → AreAlike (safe a b c) (safe d e f)
-  safe_alike {a} {b} {c} (p, q, r) =
-      subst (λ n. AreAlike (safe a b c) (safe n _ _)) p (subst (λ n. AreAlike (safe a b c) (safe a n _)) q (subst (λ n. AreAlike (safe a b c) (safe a b n)) r same_answer))
-
   -- one that can be shown, and none that can
   pub near_far : {document : Trees} → IsLeastCounter i o s document → HasLargeCounters i o s → ⊥
   near_far {document} x y = let far = y.large document x.counter in omega (arith, x.few, far)
-
-  pub run_both : {document : Trees} → KeepsLimits s document → IsLargeRun s document → ⊥
-  run_both {document} k (x, t, inl p) = over_work s document x t p k
-  run_both {document} k (x, t, inr p) = over_open s document x t p k
 
   -- what two schemas and a stylesheet decide is one
   pub finds_one : {most : ℕ} {one other : Answer} → Finds most i o s one → Finds most i o s other → AreAlike one other
@@ -108,24 +104,24 @@ module _ {i o : Grammar} {s : Sheet} where
   finds_one (finds_safe w f c h) (passes_compile q) = absurd (over_compile q w)
   finds_one (finds_safe w f n h) (passes_rows c v p) = absurd (f c p)
   finds_one (finds_safe w f n h) (finds_safe v g m j) = safe_alike (one_count n m)
-  finds_one (finds_safe w f n h) (finds_unsafe v g l k r) = absurd (not_both h l.counter)
-  finds_one (finds_safe w f n h) (finds_large v g l k) = absurd (not_both h l.counter)
-  finds_one (finds_safe w f n h) (finds_none_small v g l) = absurd (not_both h l.some.1)
+  finds_one (finds_safe w f n h) (finds_unsafe v g l k r) = absurd (not_both i o s h l.counter)
+  finds_one (finds_safe w f n h) (finds_large v g l k) = absurd (not_both i o s h l.counter)
+  finds_one (finds_safe w f n h) (finds_none_small v g l) = absurd (not_both i o s h l.some.1)
   finds_one (finds_unsafe w f l k r) (passes_compile q) = absurd (over_compile q w)
   finds_one (finds_unsafe w f l k r) (passes_rows c v p) = absurd (f c p)
-  finds_one (finds_unsafe w f l k r) (finds_safe v g n h) = absurd (not_both h l.counter)
+  finds_one (finds_unsafe w f l k r) (finds_safe v g n h) = absurd (not_both i o s h l.counter)
   finds_one (finds_unsafe w f l k r) (finds_unsafe v g m j q) = counterexamples
   finds_one (finds_unsafe w f l k r) (finds_large v g m j) = large_or_not
   finds_one (finds_unsafe w f l k r) (finds_none_small v g m) = absurd (near_far l m)
   finds_one (finds_large w f l k) (passes_compile q) = absurd (over_compile q w)
   finds_one (finds_large w f l k) (passes_rows c v p) = absurd (f c p)
-  finds_one (finds_large w f l k) (finds_safe v g n h) = absurd (not_both h l.counter)
+  finds_one (finds_large w f l k) (finds_safe v g n h) = absurd (not_both i o s h l.counter)
   finds_one (finds_large w f l k) (finds_unsafe v g m j q) = not_large_or_large
   finds_one (finds_large w f l k) (finds_large v g m j) = large_counterexamples
   finds_one (finds_large w f l k) (finds_none_small v g m) = absurd (near_far l m)
   finds_one (finds_none_small w f l) (passes_compile q) = absurd (over_compile q w)
   finds_one (finds_none_small w f l) (passes_rows c v p) = absurd (f c p)
-  finds_one (finds_none_small w f l) (finds_safe v g n h) = absurd (not_both h l.some.1)
+  finds_one (finds_none_small w f l) (finds_safe v g n h) = absurd (not_both i o s h l.some.1)
   finds_one (finds_none_small w f l) (finds_unsafe v g m j q) = absurd (near_far m l)
   finds_one (finds_none_small w f l) (finds_large v g m j) = absurd (near_far m l)
   finds_one (finds_none_small w f l) (finds_none_small v g m) = same_answer

@@ -38,15 +38,15 @@ returns-in-Ok-write_lines-clause-exactly g c = λ files answer told is.
     gives _ answer right.2.0 right.2.1.status (exact files _ is.1 is.2 (at_told _ right.0 told right.1.true) right.2.2)
 
 pub returns-in-Ok-write_lines-clause-safe : goal.returns-in-Ok-write_lines-clause-safe
-returns-in-Ok-write_lines-clause-safe g c = λ files limit i o s told checks yes.
+returns-in-Ok-write_lines-clause-safe g c = λ files limit i o s told checks e.
     let right = at_words c.as_slice.ensures c.in-Ok.ensures.right in
-    safe_is_so files limit i o s _ right.2.0 checks (at_told _ right.0 told right.1.true) right.2.2 right.2.1.status yes
+    safe_is_so _ files limit i o s _ right.2.0 checks (at_told _ right.0 told right.1.true) right.2.2 right.2.1.status e
 
 pub returns-in-Ok-write_lines-clause-shown : goal.returns-in-Ok-write_lines-clause-shown
-returns-in-Ok-write_lines-clause-shown g c = λ files limit i o s told checks no.
+returns-in-Ok-write_lines-clause-shown g c = λ files limit i o s told checks e.
     let right = at_words c.as_slice.ensures c.in-Ok.ensures.right in
     let written = subst (Appended (g.K.Sink.written c.args.sink.now) (g.K.Sink.written c.write_lines.new.sink)) (c.as_bytes.ensures ∙ right.2.1.written) c.in-Ok-write_lines.ensures.ok in
-    unsafe_is_shown files limit i o s _ _ _ right.2.0 checks (at_told _ right.0 told right.1.true) right.2.2 right.2.1.status written no
+    unsafe_is_shown _ files limit i o s _ _ _ right.2.0 checks (at_told _ right.0 told right.1.true) right.2.2 right.2.1.status written e
 
 pub returns-in-Ok-write_lines-clause-headline : goal.returns-in-Ok-write_lines-clause-headline
 returns-in-Ok-write_lines-clause-headline g c = λ files limit i o s told checks.

@@ -37,7 +37,7 @@ returns-in-Err-TooMuchWork c =
     let cause = subst (IsCause (told c.rules.result.now).sheet d) c.in-Err-TooMuchWork.field-0-is c.in-Err-TooMuchWork.ensures.cause in
     IfOk-weaker c.not_safe_large.result _ _ (λ said says x is.
     let same : (told c.rules.result.now).sheet ≡ sheet x = subst (λ (r : Rules). (told r).sheet ≡ sheet x) (sym c.rules.ensures) (rules_sheet is) in
-    (a.unsafe_large d, says, run_large (subst (λ (s : Sheet). IsLargeRun s d) same (much_work _ _ cause)))) c.not_safe_large.ensures
+    (a.unsafe_large d, says, run_large (subst (λ (s : Sheet). IsLargeRun s d) same (much_work (told c.rules.result.now).sheet d cause)))) c.not_safe_large.ensures
 
 pub returns-in-Err-TooOpen : goal.returns-in-Err-TooOpen
 returns-in-Err-TooOpen c =
@@ -45,4 +45,4 @@ returns-in-Err-TooOpen c =
     let cause = subst (IsCause (told c.rules.result.now).sheet d) c.in-Err-TooOpen.field-0-is c.in-Err-TooOpen.ensures.cause in
     IfOk-weaker c.not_safe_large-in-Err-TooOpen.result _ _ (λ said says x is.
     let same : (told c.rules.result.now).sheet ≡ sheet x = subst (λ (r : Rules). (told r).sheet ≡ sheet x) (sym c.rules.ensures) (rules_sheet is) in
-    (a.unsafe_large d, says, run_large (subst (λ (s : Sheet). IsLargeRun s d) same (too_open _ _ cause)))) c.not_safe_large-in-Err-TooOpen.ensures
+    (a.unsafe_large d, says, run_large (subst (λ (s : Sheet). IsLargeRun s d) same (too_open (told c.rules.result.now).sheet d cause)))) c.not_safe_large-in-Err-TooOpen.ensures
