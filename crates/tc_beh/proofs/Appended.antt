@@ -1,5 +1,5 @@
 -- What an append leaves of states, seen as rows.
-use Rattle.std.proofs.Common.{◌≡◌, ◌≢◌, ◌<◌, ◌≤◌, ◌⊎◌, inl, inr, ◌+◌, ◌-◌, ◌↔◌, ◌==◌, ◌&&◌, ◌∷◌, [], ℕ, zero, suc, List, length, get_or, Bool, true, false, subst, sym, ap, ◌∙◌, refl, arith, eq-eqb, eqb-true}
+use Rattle.std.proofs.Common.{◌≡◌, ◌<◌, inl, inr, ◌-◌, ◌↔◌, ◌==◌, ◌&&◌, ◌∷◌, [], ℕ, zero, suc, List, length, get_or, Bool, true, false, subst, sym, ◌∙◌, refl, arith, eq-eqb, eqb-true}
 use Rattle.std.specs.List.{Contains}
 use Rattle.std.proofs.lemmas.List.{get_or_default}
 use Rattle.tc_alpha.proofs.Members.{Has, has_from_contains, contains_from_has}
@@ -12,8 +12,8 @@ use Rattle.tc_auto.specs.declared.auto.Leaf.{Leaf}
 use Rattle.tc_auto.specs.declared.auto.Leaf.TheVariants as l
 use Rattle.tc_mat.specs.Matrix.{Matrix}
 use Rattle.tc_rows.specs.Triples.{Triple}
-use Rattle.tc_rows.specs.Arithmetic.{TreeLeads, IsLiveAppend}
-use Rattle.tc_beh.specs.Rooms.{flagged, flags_in, flag_at, hedge_row, tree_row}
+use Rattle.tc_rows.specs.Arithmetic.{TreeLeads}
+use Rattle.tc_beh.specs.Rooms.{flagged, flags_in, flag_at, tree_row}
 use Rattle.tc_beh.specs.Appending.{IsTaken, IsStep, Puts}
 use Rattle.tc_beh.proofs.RoomRows.{flagged_at, at_flagged, flag_is}
 

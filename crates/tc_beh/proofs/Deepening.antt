@@ -21,7 +21,7 @@ use Rattle.tc_beh.specs.Heights.{depth_in, deepest}
 use Rattle.tc_beh.specs.Putting.{has, put_pairs, IsCalled}
 use Rattle.tc_beh.specs.Places.{IsPlaceIn, no_matrix}
 use Rattle.tc_beh.specs.Stands.{IsRulesIn}
-use Rattle.tc_beh.specs.Grounds.{AreNamedSets, called_from}
+use Rattle.tc_beh.specs.Grounds.{IsGroundIn, AreNamedSets, called_from}
 use Rattle.tc_beh.specs.declared.bodies.Place.{Place}
 use Rattle.tc_beh.proofs.Called.{put_is}
 use Rattle.tc_beh.proofs.Marking.{has_got}
@@ -29,7 +29,7 @@ use Rattle.tc_beh.proofs.Meant.{got_seen}
 use Rattle.tc_beh.proofs.Starts.{StartsBelow, stay_first, starts}
 
 -- a place with other sets for the named bodies
-pub with_named : (x : Triple) (p : Place) (sets : Bor (List Matrix)) → IsPlaceIn x p → AreNamedSets p sets.now
+pub with_named : (x : Triple) (p : Place) (sets : Bor (List Matrix)) → IsGroundIn x p → AreNamedSets p sets.now
     → IsPlaceIn x (record { rules = p.rules; output = p.output; alphabet = p.alphabet; outputs = p.outputs; text = p.text; named = sets; node = p.node; bears = p.bears; entries = p.entries; looks = p.looks; above = p.above })
 with_named x p sets ok n = record {
   rules = ok.rules;

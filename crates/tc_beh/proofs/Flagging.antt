@@ -1,5 +1,5 @@
 -- The flags of the states to which a tree leads, edge by edge and state by state.
-use Rattle.std.proofs.Common.{◌≡◌, ◌≢◌, ◌<◌, ◌≤◌, ◌⊎◌, inl, inr, ◌+◌, ◌↔◌, ℕ, List, length, get_or, Bool, subst, sym, ap, ◌∙◌, refl, arith}
+use Rattle.std.proofs.Common.{◌≡◌, ◌≢◌, ◌<◌, ◌≤◌, ◌⊎◌, inl, inr, ◌+◌, ◌↔◌, ℕ, List, length, get_or, Bool, subst, sym, ◌∙◌, refl, arith}
 use Rattle.std.specs.List.{Contains}
 use Rattle.std.proofs.lemmas.Bool.{cases_lt, cases_eq}
 use Rattle.tc_model.specs.States as s
@@ -8,7 +8,6 @@ use Rattle.tc_auto.specs.Steps.{leaf}
 use Rattle.tc_auto.specs.Stands.{Stands, states}
 use Rattle.tc_auto.specs.declared.auto.Auto.{Auto}
 use Rattle.tc_auto.specs.declared.auto.Edge.{Edge}
-use Rattle.tc_auto.specs.declared.auto.Leaf.{Leaf}
 use Rattle.tc_beh.specs.Rooms.{flag_at}
 use Rattle.tc_beh.specs.Appending.{IsTaken, IsStep, PutsFrom, Puts}
 

@@ -139,7 +139,7 @@ mutual
   depths_most heights (otherwise b) = depth_most heights b
   depths_most heights (branch t b x) = omega (arith, depth_most heights b, depths_most heights x)
 
-  depth_few : (b : Body) → depth_in b ≤ 8001
+  pub depth_few : (b : Body) → depth_in b ≤ 8001
   depth_few no_instruction = omega arith
   depth_few (put_text x b) = depth_few b
   depth_few (put_element n inner b) = omega (arith, depth_few b)

@@ -1,12 +1,12 @@
 -- How what is held grows by one set more.
-use Rattle.std.proofs.Common.{◌∷◌, Result, Ok, Err, IfOk, OnErr, Some, None, slice_get, ◌≡◌, ◌≢◌, ◌<◌, ◌≤◌, ◌⊎◌, inl, inr, ◌+◌, ◌++◌, [], ℕ, suc, List, length, get_or, subst, sym, ap, ◌∙◌, refl, arith}
+use Rattle.std.proofs.Common.{◌∷◌, Result, Ok, Err, IfOk, OnErr, Some, None, slice_get, ◌≡◌, ◌<◌, ◌≤◌, ◌⊎◌, inl, inr, ◌+◌, ◌++◌, [], ℕ, List, length, get_or, subst, sym, ap, ◌∙◌, refl, arith}
 use Rattle.std.proofs.lemmas.List.{get_or_append_left, append-nil, append_assoc, length-append}
 use Rattle.std.proofs.lemmas.Option.{slice_get_cases, get_or_from_slice_get}
 use Rattle.std.proofs.lemmas.Bool.{cases_lt}
 use Rattle.tc_mat.specs.Matrix.{Matrix, IsMatrix, IsComposition}
 use Rattle.tc_mat.specs.Held.{Held, IsHeld}
 use Rattle.tc_beh.specs.Places.{no_matrix}
-use Rattle.tc_beh.specs.Held.{Extends, AreFirstFound, Grows, set_at, IsNew}
+use Rattle.tc_beh.specs.Held.{Extends, AreFirstFound, Grows, set_at, IsNew, AreProducts}
 use Rattle.tc_beh.specs.declared.outputs.RowFault.{RowFault}
 
 pub extends_self : (a : Held) → Extends a a
@@ -76,6 +76,21 @@ grows_step a b c f g i k grown same here more low how = record {
 pub new_before : (a b : Held) → Extends a b → (i j : ℕ) → i < length a.matrices → j < length a.matrices → IsNew b (set_at b i) (set_at b j) → IsNew b (set_at a i) (set_at a j)
 new_before a b e i j l m is = subst (λ n. IsNew b (set_at a i) n) (extends_at a b e j m) (subst (λ n. IsNew b n (set_at b j)) (extends_at a b e i l) is)
 
+-- what has come on so far are products
+pub products_found : (a b : Held) (f first second : ℕ → ℕ) (i n : ℕ) → i ≤ n → Grows a b f i → ((p : ℕ) → p < i → IsComposition (set_at a (first p)) (set_at a (second p)) (set_at b (f p))) → AreProducts a b first second n
+products_found a b f first second i n low grown pairs = λ k from to. (
+    let (p, m, e) = grown.found.each k from to in
+    (p, omega (arith, m, low), subst (λ j. IsComposition (set_at a (first p)) (set_at a (second p)) (set_at b j)) e (pairs p m))
+    )
+
+-- what is got stands there
+pub low_got : {X : Type 0} (xs : List X) (k : ℕ) (x : X) → slice_get xs k ≡ Some x → k < length xs
+low_got {X} xs k x e = by (slice_get_cases xs k).1
+  where
+    by : ((y : X) × (k < length xs) × (slice_get xs k ≡ Some y) × (get_or xs k y ≡ y)) ⊎ ((length xs ≤ k) × (slice_get xs k ≡ None)) → k < length xs
+    by (inl h) = h.1
+    by (inr h) = let n : Some x ≡ None = sym e ∙ h.1 in absurd (cc)
+
 -- what is kept of a set
 module _ (old new : Held) (m : Matrix) where
   abbrev Kept : ℕ → Type 0
@@ -89,20 +104,30 @@ module _ (old new : Held) (m : Matrix) where
   extends_kept (Ok k) a b = extends_one k a
   extends_kept (Err e) a b = subst (λ h. Extends old h) (sym b.0) (extends_self old)
 
-  low_got : (ms : List Matrix) (k : ℕ) → slice_get ms k ≡ Some m → k < length ms
-  low_got ms k e = by (slice_get_cases ms k).1
+  -- where one number stands at all of some places
+  pub one_kept : (k n : ℕ) (f : ℕ → ℕ) → slice_get new.matrices k ≡ Some m → Kept k → 0 < n → ((i : ℕ) → i < n → f i ≡ k) → Grows old new f n
+  one_kept k n f got kept some same = record {
+    held = extends_one k kept;
+    low = λ p l. (let e = same p l in omega (arith, e, inside));
+    found = record {
+      each = λ j from to. (0, some, same 0 some ∙ elim kept [ inl e ↦ (let s = ap (λ (x : Held). length x.matrices) e in absurd (omega (arith, from, to, s))) | inr h ↦ (let here = h.0 in let s = more h.1 in omega (arith, from, to, here, s)) ]);
+      order = λ j p from l above. (let e = same p l in elim kept [ inl h ↦ (let s = ap (λ (x : Held). length x.matrices) h in absurd (omega (arith, from, above, e, inside, s))) | inr h ↦ (let here = h.0 in absurd (omega (arith, from, above, e, here))) ]);
+    };
+  }
     where
-      by : ((x : Matrix) × (k < length ms) × (slice_get ms k ≡ Some x) × (get_or ms k x ≡ x)) ⊎ ((length ms ≤ k) × (slice_get ms k ≡ None)) → k < length ms
-      by (inl h) = h.1
-      by (inr h) = let n : Some m ≡ None = sym e ∙ h.1 in absurd (cc)
+      inside : k < length new.matrices
+      inside = low_got new.matrices k m got
+
+      more : new ≡ record old { matrices = old.matrices ++ m ∷ [] } → length new.matrices ≡ length old.matrices + 1
+      more e = ap (λ (x : Held). length x.matrices) e ∙ length-append old.matrices (m ∷ [])
 
   pub set_kept : (r : Result ℕ RowFault) → IfOk r (λ k. slice_get new.matrices k ≡ Some m) → IfOk r (λ k. (k < length new.matrices) × (set_at new k ≡ m))
-  set_kept (Ok k) e = (low_got new.matrices k e, get_or_from_slice_get new.matrices k m no_matrix e)
+  set_kept (Ok k) e = (low_got new.matrices k m e, get_or_from_slice_get new.matrices k m no_matrix e)
   set_kept (Err f) e = tt
 
   pub grows_kept : (r : Result ℕ RowFault) → IfOk r (λ k. slice_get new.matrices k ≡ Some m) → IfOk r Kept
       → IfOk r (λ k. ((k < length old.matrices) × (new ≡ old)) ⊎ ((k ≡ length old.matrices) × (length new.matrices ≡ length old.matrices + 1)))
-  grows_kept (Ok k) e (inl h) = inl (subst (λ (x : Held). k < length x.matrices) h (low_got new.matrices k e), h)
+  grows_kept (Ok k) e (inl h) = inl (subst (λ (x : Held). k < length x.matrices) h (low_got new.matrices k m e), h)
   grows_kept (Ok k) e (inr h) = inr (h.0, ap (λ (x : Held). length x.matrices) h.1 ∙ length-append old.matrices (m ∷ []))
   grows_kept (Err f) e h = tt
 

@@ -26,7 +26,7 @@ marks_step : (f : Test → Bool) (ps : List Test) (i : ℕ) (w : Test) → slice
     → marks_of (map f (drop i ps)) ≡ (if f w then 1 else 0) + 2 * marks_of (map f (drop (i + 1) ps))
 marks_step f ps i w e = ap (λ xs. marks_of (map f xs)) (drop_at ps i w e)
 
-marks_few : (bs : List Bool) → marks_of bs < 2 ^ length bs
+pub marks_few : (bs : List Bool) → marks_of bs < 2 ^ length bs
 marks_few [] = omega arith
 marks_few (true ∷ bs) = by (length bs) (marks_of bs) (marks_few bs)
   where

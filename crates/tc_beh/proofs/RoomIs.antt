@@ -1,6 +1,5 @@
 -- A room's numbers are those of a row, and the entries of an append are the products.
-use Rattle.std.proofs.Common.{◌≡◌, ◌<◌, ◌≤◌, ◌+◌, ◌-◌, ◌↔◌, [], ℕ, List, length, get_or, map, take, drop, All, subst, sym, ap, ◌∙◌, refl, arith}
-use Rattle.std.specs.List.{Contains}
+use Rattle.std.proofs.Common.{◌≡◌, ◌<◌, ◌+◌, [], ℕ, List, length, get_or, drop, subst, sym, ap, ◌∙◌, refl, arith}
 use Rattle.std.proofs.lemmas.List.{get_or-map, get_or_default, length-map, length-take-le, length-drop}
 use Rattle.std.proofs.lemmas.List.Elements.{Contains-get_or}
 use Rattle.tc_alpha.proofs.Members.{has_from_contains}
@@ -10,8 +9,7 @@ use Rattle.tc_rows.specs.Triples.{Triple, outputs, entries, looks}
 use Rattle.tc_rows.specs.PairSets.{IsPairs, HaveSamePairs, product, listed}
 use Rattle.tc_rows.specs.Rows.{AreEntries, AreLooks, IsHedgeRow}
 use Rattle.tc_beh.specs.Places.{pairs_of, entries_by, no_matrix}
-use Rattle.tc_beh.specs.Putting.{has}
-use Rattle.tc_beh.specs.Rooms.{Layout, hedge_layout, flagged, flags_in, outputs_in, looks_in, flag_at, output_at, IsRoom, hedge_row}
+use Rattle.tc_beh.specs.Rooms.{Layout, hedge_layout, flagged, flags_in, outputs_in, looks_in, output_at, IsRoom, hedge_row}
 use Rattle.tc_beh.proofs.Pairs.{listed_pairs}
 use Rattle.tc_beh.proofs.RoomRows.{flagged_at, flagged_ascend, output_is, look_is}
 use Rattle.tc_beh.proofs.RoomSets.{are_pairs}

@@ -1,11 +1,11 @@
 -- What flags tell, and rooms as rows.
-use Rattle.std.proofs.Common.{◌≡◌, ◌≢◌, ◌<◌, ◌≤◌, ◌⊎◌, inl, inr, ◌+◌, ◌*◌, ◌-◌, ◌↔◌, ◌==◌, ◌++◌, ◌∷◌, [], ℕ, zero, suc, List, length, get_or, take, drop, map, Bool, true, false, if◌then◌else◌, subst, sym, ap, ◌∙◌, refl, arith, eq-eqb, eqb-true, All}
-use Rattle.std.specs.List.{Contains, AllByRecursion}
+use Rattle.std.proofs.Common.{◌≡◌, ◌<◌, inl, inr, ◌+◌, ◌==◌, ◌∷◌, [], ℕ, zero, suc, List, length, get_or, drop, Bool, true, false, if◌then◌else◌, subst, ◌∙◌, refl, arith, eq-eqb, eqb-true}
+use Rattle.std.specs.List.{AllByRecursion}
 use Rattle.std.specs.List.Sorted.{IsStrictlySortedBy}
 use Rattle.std.specs.Ordering.{nat_cmp}
 use Rattle.std.specs.declared.cmp.Ordering.TheVariants.{Less}
-use Rattle.std.proofs.lemmas.List.{get_or-take, get_or-drop, get_or-map, get_or_default, length-map}
-use Rattle.tc_alpha.proofs.Members.{Has, has_from_contains, contains_from_has, every_from_members}
+use Rattle.std.proofs.lemmas.List.{get_or-take, get_or-drop}
+use Rattle.tc_alpha.proofs.Members.{Has, every_from_members}
 use Rattle.tc_beh.specs.Rooms.{flagged, flags_in, outputs_in, looks_in, flag_at, output_at}
 
 -- a flagged number is the place of a one

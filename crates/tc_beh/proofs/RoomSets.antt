@@ -1,14 +1,13 @@
 -- The pairs of a matrix, in order, and rooms as rows of the triple.
-use Rattle.std.proofs.Common.{◌≡◌, ◌<◌, ◌≤◌, ◌⊎◌, inl, inr, ◌+◌, ◌++◌, ◌∷◌, [], ℕ, zero, suc, List, length, get_or, map, flat_map, filter, Bool, subst, sym, ap, ◌∙◌, refl, arith}
-use Rattle.std.specs.List.{AllByRecursion}
+use Rattle.std.proofs.Common.{◌≡◌, ◌<◌, inl, inr, ◌++◌, ◌∷◌, [], ℕ, zero, suc, List, map, flat_map, subst, sym, ap, ◌∙◌, refl, arith}
 use Rattle.std.specs.List.Sorted.{IsStrictlySortedBy}
 use Rattle.std.specs.Ordering.{nat_cmp, ordering_then}
 use Rattle.std.specs.declared.cmp.Ordering.{Ordering}
-use Rattle.std.specs.declared.cmp.Ordering.TheVariants.{Less, Equal, Greater}
+use Rattle.std.specs.declared.cmp.Ordering.TheVariants.{Less, Equal}
 use Rattle.std.proofs.lemmas.List.Kept.{IsStrictlySortedBy-filter}
 use Rattle.tc_model.specs.Numbered.{numbers_below}
-use Rattle.tc_alpha.proofs.Members.{Has, has_from_contains, contains_from_has, has_either, every_from_members, every_member, every_append}
-use Rattle.tc_mat.specs.Matrix.{Matrix, HasPair}
+use Rattle.tc_alpha.proofs.Members.{Has, has_either, every_from_members, every_member, every_append}
+use Rattle.tc_mat.specs.Matrix.{Matrix}
 use Rattle.tc_mat.proofs.CallerLemmas.{HasPair-below}
 use Rattle.tc_rows.specs.PairSets.{pair_cmp, IsPairs}
 use Rattle.tc_beh.specs.Places.{pairs_of, all_pairs, is_pair}

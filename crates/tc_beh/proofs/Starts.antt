@@ -12,7 +12,8 @@ use Rattle.tc_rows.specs.PairSets.{PairSet, HaveSamePairs, identity, product, ch
 use Rattle.tc_rows.specs.Rows.{entry, bears_value}
 use Rattle.tc_rows.specs.Bodies.{NodeKind, on_root, on_element, on_text, Below, body_pairs, branch_pairs, holds_by, stay, around, text_edges, copied_pairs, self_bears}
 use Rattle.tc_beh.specs.Putting.{has}
-use Rattle.tc_beh.specs.Places.{IsPlaceIn, kind_of, below_at, below_of, entries_by, pairs_of, no_matrix}
+use Rattle.tc_beh.specs.Places.{kind_of, below_at, below_of, entries_by, pairs_of, no_matrix}
+use Rattle.tc_beh.specs.Grounds.{IsGroundIn}
 use Rattle.tc_beh.specs.declared.bodies.Place.{Place}
 use Rattle.tc_beh.proofs.Pairs.{listed_pairs}
 
@@ -26,7 +27,7 @@ stay_first n r h = λ i j. (λ (l, same, there). subst (λ k. r k j) (sym same.1
 pub identity_begun : (m : Matrix) (n : ℕ) → m.size ≡ n → IsIdentity m → HaveSamePairs (has m) (identity n)
 identity_begun m n e is = subst (λ k. HaveSamePairs (has m) (identity k)) e is
 
-chosen_starts : (n : ℕ) (b : Bool) (r s : PairSet) → StartsBelow n r → StartsBelow n s → StartsBelow n (chosen b r s)
+pub chosen_starts : (n : ℕ) (b : Bool) (r s : PairSet) → StartsBelow n r → StartsBelow n s → StartsBelow n (chosen b r s)
 chosen_starts n true r s h k = h
 chosen_starts n false r s h k = k
 
@@ -43,7 +44,7 @@ module _ (x : Triple) where
   edge_starts : (i j : ℕ) → text_edges x i j → i < outputs x
   edge_starts i j h = (edge_within x.output output i j text_leaf h).0
 
-  stay_starts : StartsBelow (outputs x) (stay x)
+  pub stay_starts : StartsBelow (outputs x) (stay x)
   stay_starts i j h = h.0
 
   around_starts : (a : ℕ) (r : PairSet) → StartsBelow (outputs x) (around x a r)
@@ -73,7 +74,7 @@ module _ (x : Triple) where
       branches_start (p_branch t b y) i j h = chosen_starts (outputs x) (holds_by t w.look) (body_pairs x b k w) (branch_pairs x y k w) (starts b) (branches_start y) i j h
 
 -- what is put of what stands below a node
-pub below_starts : (x : Triple) (p : Place) → IsPlaceIn x p → (mode : ℕ) (w : Path) → StartsBelow (outputs x) ((below_of x p).pairs mode w)
+pub below_starts : (x : Triple) (p : Place) → IsGroundIn x p → (mode : ℕ) (w : Path) → StartsBelow (outputs x) ((below_of x p).pairs mode w)
 below_starts x p is mode w = by (kind_of p.node)
   where
     from : (y : ℕ) → StartsBelow (outputs x) (chosen (nat_lt y (moves x)) (listed (entry x (entries_by p.outputs.now.matrices p.entries.now) p.above y)) (stay x))

@@ -1,8 +1,7 @@
 -- How the sets of pairs that are held grow, and what stands in rows over them.
-use Rattle.std.specs.Prelude.{◌≡◌, ◌<◌, ◌≤◌, ◌++◌, ◌+◌, ◌⊎◌, ℕ, max, List, length, get_or, All, Bool, true}
+use Rattle.std.specs.Prelude.{◌≡◌, ◌<◌, ◌≤◌, ◌++◌, ℕ, List, length, get_or}
 use Rattle.tc_mat.specs.Matrix.{Matrix, IsComposition, IsMatrix}
 use Rattle.tc_mat.specs.Held.{Held, IsHeld}
-use Rattle.tc_rows.specs.Counts.{AreDifferent}
 use Rattle.tc_beh.specs.Places.{no_matrix}
 
 -- what is held is held on, under its number
@@ -29,3 +28,8 @@ set_at h k = get_or h.matrices k no_matrix
 -- a set of the size that isn't held, and leads by the one and then by the other
 abbrev pub IsNew : Held → Matrix → Matrix → Type 0
 IsNew h a b = (m : Matrix) × (m.size ≡ h.size) × IsMatrix m × IsComposition a b m × ¬ IsHeld h m
+
+-- what comes on leads by the one and then by the other set of some place
+abbrev pub AreProducts : Held → Held → (ℕ → ℕ) → (ℕ → ℕ) → ℕ → Type 0
+AreProducts old new first second count =
+    (k : ℕ) → length old.matrices ≤ k → k < length new.matrices → (i : ℕ) × (i < count) × IsComposition (set_at old (first i)) (set_at old (second i)) (set_at new k)

@@ -12,3 +12,13 @@ pub mod RoomsOf
 pub mod Held
 pub mod Appending
 pub mod RowsOf
+pub mod Around
+pub mod LooksAbove
+pub mod Roots
+pub mod Outs
+pub mod Emptying
+pub mod RoomLaws
+pub mod Above
+pub mod Entries
+pub mod Listing
+pub mod Lines

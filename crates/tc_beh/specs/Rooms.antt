@@ -1,5 +1,5 @@
 -- What a room's numbers stand for: two flags of the whole, a flag for each state or element pattern, the numbers of the outputs, the looks.
-use Rattle.std.specs.Prelude.{◌≡◌, ◌<◌, ◌≤◌, ◌==◌, ◌+◌, ℕ, suc, List, [], ◌∷◌, length, take, drop, get_or, All, if◌then◌else◌}
+use Rattle.std.specs.Prelude.{◌≡◌, ◌<◌, ◌≤◌, ◌==◌, ◌+◌, ℕ, suc, List, [], ◌∷◌, length, take, drop, get_or, if◌then◌else◌}
 use Rattle.tc_model.specs.States.{input, state_count}
 use Rattle.tc_mat.specs.Matrix.{Matrix}
 use Rattle.tc_rows.specs.Triples.{Triple, entries, looks}

@@ -1,5 +1,5 @@
 -- Rooms: how their numbers are parted, and what a change leaves as it was.
-use Rattle.std.specs.Prelude.{◌≡◌, ◌≤◌, ◌+◌, ℕ, List, length, get_or, Bool, if◌then◌else◌}
+use Rattle.std.specs.Prelude.{◌≡◌, ◌≤◌, ℕ, List, length, get_or, Bool, if◌then◌else◌}
 use Rattle.tc_beh.specs.Rooms.{Layout, count_of}
 use Rattle.tc_beh.specs.declared.rooms.Room.{Room}
 

@@ -1,17 +1,15 @@
 -- What rows over a machine hold, and the rooms that stand for rows over them.
-use Rattle.std.specs.Prelude.{◌≡◌, ◌<◌, ◌≤◌, ◌+◌, ℕ, length, All, true, false, Bool}
+use Rattle.std.specs.Prelude.{◌≡◌, ◌≤◌, ◌+◌, ℕ, length, All}
 use Rattle.tc_mat.specs.Matrix.{Matrix}
-use Rattle.tc_mat.specs.Held.{IsHeld}
-use Rattle.tc_rows.specs.Triples.{Triple, sheet, outputs, entries, looks}
+use Rattle.tc_rows.specs.Triples.{Triple, sheet, outputs}
 use Rattle.tc_rows.specs.PairSets.{HaveSamePairs}
 use Rattle.tc_rows.specs.Bodies.{text_edges}
 use Rattle.tc_rows.specs.Rows.{HedgeRow, TreeRow}
 use Rattle.tc_beh.specs.Putting.{has}
 use Rattle.tc_beh.specs.Places.{AreSpare}
 use Rattle.tc_beh.specs.Machines.{IsMachineOf}
-use Rattle.tc_beh.specs.Rooms.{hedge_layout, tree_layout, IsRoom, hedge_row, tree_row, output_at}
+use Rattle.tc_beh.specs.Rooms.{hedge_layout, tree_layout, IsRoom, hedge_row, tree_row}
 use Rattle.tc_beh.specs.RoomsOf.{IsRoomOf}
-use Rattle.tc_beh.specs.Held.{Grows, IsNew, set_at}
 use Rattle.tc_beh.specs.declared.rows.Rows.{Rows}
 use Rattle.tc_beh.specs.declared.rows.Work.{Work}
 use Rattle.tc_beh.specs.declared.rooms.HRow.{HRow}

@@ -1,12 +1,12 @@
 -- What a template means on a node.
-use Rattle.std.specs.Prelude.{◌≡◌, ◌<◌, ℕ, List}
+use Rattle.std.specs.Prelude.{◌≡◌, ◌<◌, ℕ, max, List}
 use Rattle.tc_model.specs.Meaning.{all_children}
 use Rattle.tc_model.specs.Sheets.{Sheet, Body, CallFreeBody, p_done, p_apply, p_self, Inlines}
 use Rattle.tc_model.specs.Views as see
 use Rattle.tc_rules.specs.Parts.{IsPart}
 use Rattle.tc_rows.specs.Triples.{Triple}
 use Rattle.tc_rows.specs.Bodies.{NodeKind, on_root, on_element, on_text}
-use Rattle.tc_beh.specs.Heights.{depth_in}
+use Rattle.tc_beh.specs.Heights.{depth_in, deepest, deepest_rule}
 use Rattle.tc_beh.specs.Places.{kind_of, below_of, called_by}
 use Rattle.tc_beh.specs.Putting.{IsCalled}
 use Rattle.tc_beh.specs.declared.bodies.Place.{Place}
@@ -26,6 +26,10 @@ IsPartTemplate s (t.BuiltIn mode) = mode < s.modes
 abbrev pub depth_of : Template → ℕ
 depth_of (t.Body b) = depth_in (see.body b.now)
 depth_of (t.BuiltIn mode) = 0
+
+-- how many elements and copies stand within one another at most in the text of a rule or of a named body
+abbrev pub depth_of_sheet : Sheet → ℕ
+depth_of_sheet s = max (deepest_rule s.rules) (deepest s.named)
 
 -- the built-in rules on a node
 abbrev pub built_in_on : NodeKind → ℕ → CallFreeBody

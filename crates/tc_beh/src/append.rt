@@ -1,15 +1,20 @@
 // Rows of trees with one more behind them.
-ghost use Rattle.std.specs.Prelude.{◌≡◌, ◌≢◌, ◌<◌, ◌≤◌, ◌+◌, ◌⊎◌, ◌↔◌, ◌==◌, ◌-◌, ℕ, length, get_or, IsTrue, Bool, true, false, cond};
+ghost use Rattle.std.specs.Prelude.{◌≡◌, ◌≢◌, ◌<◌, ◌≤◌, ◌+◌, ◌⊎◌, ◌↔◌, ◌==◌, ◌-◌, ℕ, length, get_or, IsTrue, Bool, true, false, cond, OnOk, OnErr};
+ghost use Rattle.std.specs.Result.{IsErrOf};
 ghost use Rattle.std.specs.List.{Contains};
 ghost use Rattle.tc_auto.specs.Stands.{states as states_of};
 ghost use Rattle.tc_auto.specs.declared.auto.Edge.{Edge};
 ghost use Rattle.tc_rows.specs.Rows.{or_hit};
-ghost use Rattle.tc_beh.specs.Rooms.{flag_at, flags_in};
+ghost use Rattle.tc_mat.specs.Held.{AreMatrices};
+ghost use Rattle.tc_beh.specs.Held.{Extends, Grows, set_at, IsNew, AreProducts};
+ghost use Rattle.tc_beh.specs.Rooms.{flag_at, flags_in, output_at};
 ghost use Rattle.tc_beh.specs.RoomsOf.{IsRoomBeside, AreTexts};
-ghost use Rattle.tc_beh.specs.Appending.{IsTaken, PutsFrom, Puts};
+ghost use Rattle.tc_beh.specs.Appending.{IsTaken, PutsFrom, Puts, IsBehind};
 
+use crate::outputs::{RowFault, put_products};
 use crate::rooms::Room;
 use tc_auto::{Auto, Leaf};
+use tc_mat::{Mat, Pool};
 
 /// Whether an edge takes a tree, of which it is told whether it is a text, and a flag for each element pattern that it matches.
 fn takes(is_text: bool, patterns: &[u32], leaf: Leaf) -> bool
@@ -22,7 +27,7 @@ fn takes(is_text: bool, patterns: &[u32], leaf: Leaf) -> bool
 }
 
 /// Whether a flag is set.
-fn is_set(flags: &[u32], place: usize) -> bool
+pub(crate) fn is_set(flags: &[u32], place: usize) -> bool
     ensures { IsTrue result ↔ (get_or flags.now place 0 ≡ 1) }
 {
     match flags.get(place) {
@@ -62,7 +67,7 @@ fn put_states(auto: &Auto<'_>, hedge: &[u32], is_text: bool, patterns: &[u32], o
 }
 
 /// Whether some flag is set.
-fn has_flag(flags: &[u32]) -> bool
+pub(crate) fn has_flag(flags: &[u32]) -> bool
     ensures { IsTrue result ↔ Contains flags.now 1 }
 {
     flags.contains(&1)
@@ -96,4 +101,41 @@ pub(crate) fn put_kind(auto: &Auto<'_>, hedge: &Room, tree: &Room, out: &mut Roo
     }
     put_states(auto, hedge.flags(), tree.is_text(), tree.flags(), out);
     has_flag(out.flags())
+}
+
+/// Leaves all but the flags of a list of trees with a tree more behind it.
+pub(crate) fn put_append(
+    outputs: &mut Pool,
+    is_fixed: bool,
+    set: &mut Mat,
+    hedge: &Room,
+    tree: &Room,
+    out: &mut Room,
+) -> Result<(), RowFault>
+    requires set { set.old.size ≡ outputs.old.size }
+    requires hedge { hedge.now.entries ≡ out.old.entries }
+    requires tree { tree.now.entries ≡ out.old.entries }
+    requires first { (i : ℕ) → i < out.old.entries → output_at hedge.now.flags hedge.now.numbers.items i < length outputs.old.matrices }
+    requires second { (i : ℕ) → i < out.old.entries → output_at tree.now.flags tree.now.numbers.items i < length outputs.old.matrices }
+    requires looks { length hedge.now.numbers.items + out.old.flags ≡ length out.old.numbers.items + hedge.now.flags }
+    requires tree_looks { length tree.now.numbers.items + hedge.now.flags ≡ length hedge.now.numbers.items + tree.now.flags }
+    ensures set { set.new.size ≡ set.old.size }
+    ensures beside { IsRoomBeside out.old out.new }
+    ensures flags { (k : ℕ) → 2 ≤ k → k < 2 + out.old.flags → get_or out.new.numbers.items k 0 ≡ get_or out.old.numbers.items k 0 }
+    ensures numbers { OnOk result (IsBehind outputs.old outputs.new hedge.now.flags tree.now.flags out.old.flags out.old.entries hedge.now.numbers.items tree.now.numbers.items out.new.numbers.items) }
+    ensures held { Extends outputs.old outputs.new }
+    ensures matrices { AreMatrices outputs.new }
+    ensures grows { OnOk result (Grows outputs.old outputs.new (output_at out.old.flags out.new.numbers.items) out.old.entries) }
+    ensures partly { OnErr result (AreProducts outputs.old outputs.new (output_at hedge.now.flags hedge.now.numbers.items) (output_at tree.now.flags tree.now.numbers.items) out.old.entries) }
+    ensures err { OnErr result ((i : ℕ) × (i < out.old.entries) × IsNew outputs.new (set_at outputs.old (output_at hedge.now.flags hedge.now.numbers.items i)) (set_at outputs.old (output_at tree.now.flags tree.now.numbers.items i))) }
+    ensures fixed { is_fixed ≡ true → outputs.new ≡ outputs.old }
+    ensures full { IsErrOf result RowFault.TooManyOutputs → (is_fixed ≡ false) × (length outputs.new.matrices ≡ 65536) }
+    ensures fresh { IsErrOf result RowFault.NewOutput → is_fixed ≡ true }
+    ensures memory { IsErrOf result RowFault.NoMemory → is_fixed ≡ false }
+{
+    out.set_heads(tree.is_text(), hedge.bears() || tree.bears());
+    put_first_looks(hedge.looks(), tree.looks(), out);
+    let put = put_products(outputs, is_fixed, set, hedge.outputs(), tree.outputs(), out);
+    let _held = outputs.len();
+    put
 }

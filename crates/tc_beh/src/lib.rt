@@ -2,21 +2,32 @@
 //! bodies put out on a node.
 //!
 //! The row of a tree or of a list of trees tells where it may stand in the input, and what a stylesheet makes of it in each place
-//! (`tc_rows`). Finding rows is to come.
+//! (`tc_rows`).
 #![tactic(auto)]
 
+mod above;
 mod append;
 mod bodies;
 mod calls;
+mod empty;
+mod entries;
+mod laws;
+mod lines;
+mod lists;
 mod looks;
+mod looks_above;
 mod machine;
 mod named;
 mod outputs;
+mod patterns;
 mod rooms;
+mod root;
 mod rows;
 mod sets;
 mod templates;
+mod wrapping;
 
+pub use laws::{law_of_lines, law_of_rooms};
 pub use machine::{Machine, MachineFault, Shape};
 pub use outputs::RowFault;
 pub use rooms::{HRow, TRow};

@@ -9,8 +9,8 @@ ghost use Rattle.tc_rows.specs.Bodies.{stay};
 ghost use Rattle.tc_beh.specs.Callees.{AreCalleesFirst};
 ghost use Rattle.tc_beh.specs.Heights.{deepest};
 ghost use Rattle.tc_beh.specs.Putting.{IsCalled, has, put_pairs};
-ghost use Rattle.tc_beh.specs.Places.{IsPlace, IsPlaceIn, AreSpare, kind_of, below_of, size_at, no_matrix};
-ghost use Rattle.tc_beh.specs.Grounds.{AreNamedSets, called_from};
+ghost use Rattle.tc_beh.specs.Places.{AreSpare, kind_of, below_of, size_at, no_matrix};
+ghost use Rattle.tc_beh.specs.Grounds.{IsGround, IsGroundIn, AreNamedSets, called_from};
 
 use crate::bodies::{Place, put_body};
 use crate::sets::put_identity;
@@ -25,7 +25,7 @@ pub(crate) fn put_named(
     set: &mut Mat,
     spare: &mut [Mat],
 )
-    requires place { IsPlace place.now }
+    requires place { IsGround place.now }
     requires order { AreCalleesFirst (told place.now.rules.now).sheet.named order.now }
     requires named { AreNamedSets place.now named.old }
     requires set { set.old.size ≡ size_at place.now }
@@ -34,7 +34,7 @@ pub(crate) fn put_named(
     ensures named { AreNamedSets place.now named.new }
     ensures set { set.new.size ≡ size_at place.now }
     ensures spare { All (λ m. m.size ≡ size_at place.now) spare.new }
-    ensures called { (x : Triple) (n : ℕ) → IsPlaceIn x place.now → IsCalled x (kind_of place.now.node) (below_of x place.now) (called_from named.new) n }
+    ensures called { (x : Triple) (n : ℕ) → IsGroundIn x place.now → IsCalled x (kind_of place.now.node) (below_of x place.now) (called_from named.new) n }
 {
     for number in order {
         put_one_named(place, *number, named, set, spare);
@@ -49,7 +49,7 @@ fn put_one_named(
     set: &mut Mat,
     spare: &mut [Mat],
 )
-    requires place { IsPlace place.now }
+    requires place { IsGround place.now }
     requires number { number < length (told place.now.rules.now).sheet.named }
     requires named { AreNamedSets place.now named.old }
     requires set { set.old.size ≡ size_at place.now }
@@ -59,7 +59,7 @@ fn put_one_named(
     ensures set { set.new.size ≡ size_at place.now }
     ensures spare { All (λ m. m.size ≡ size_at place.now) spare.new }
     ensures others { (n : ℕ) → n ≢ number → get_or named.new n no_matrix ≡ get_or named.old n no_matrix }
-    ensures called { (x : Triple) → IsPlaceIn x place.now →
+    ensures called { (x : Triple) → IsGroundIn x place.now →
         HaveSamePairs (has (get_or named.new number no_matrix)) (product (stay x) (put_pairs x (kind_of place.now.node) (below_of x place.now) (called_from named.old) (get_or (told place.now.rules.now).sheet.named number no_instruction))) }
 {
     let body = place.rules.sheet().named[number];

@@ -3,7 +3,7 @@ ghost use Rattle.std.specs.Prelude.{◌≡◌, ◌<◌, ◌≤◌, ◌+◌, ◌+
 ghost use Rattle.std.specs.Result.{IsErrOf};
 ghost use Rattle.tc_mat.specs.Matrix.{IsComposition};
 ghost use Rattle.tc_mat.specs.Held.{IsHeld};
-ghost use Rattle.tc_beh.specs.Held.{Extends, Grows, set_at, IsNew};
+ghost use Rattle.tc_beh.specs.Held.{Extends, Grows, set_at, IsNew, AreProducts};
 ghost use Rattle.tc_beh.specs.Rooms.{output_at};
 ghost use Rattle.tc_beh.specs.RoomsOf.{IsRoomBeside};
 
@@ -90,6 +90,7 @@ pub(crate) fn put_products(
     ensures held { Extends outputs.old outputs.new }
     ensures grows { OnOk result (Grows outputs.old outputs.new (output_at out.old.flags out.new.numbers.items) out.old.entries) }
     ensures pairs { OnOk result ((i : ℕ) → i < out.old.entries → IsComposition (set_at outputs.old (get_or first.now i 0)) (set_at outputs.old (get_or second.now i 0)) (set_at outputs.new (output_at out.old.flags out.new.numbers.items i))) }
+    ensures partly { OnErr result (AreProducts outputs.old outputs.new (λ i. get_or first.now i 0) (λ i. get_or second.now i 0) out.old.entries) }
     ensures err { OnErr result ((i : ℕ) × (i < out.old.entries) × IsNew outputs.new (set_at outputs.old (get_or first.now i 0)) (set_at outputs.old (get_or second.now i 0))) }
     ensures fixed { is_fixed ≡ true → outputs.new ≡ outputs.old }
     ensures full { IsErrOf result RowFault.TooManyOutputs → (is_fixed ≡ false) × (length outputs.new.matrices ≡ 65536) }

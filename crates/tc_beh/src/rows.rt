@@ -5,10 +5,16 @@ ghost use Rattle.tc_mat.specs.Matrix.{Matrix, IsMatrix, HasPair};
 ghost use Rattle.tc_beh.specs.Machines.{IsMachine, IsMachineOf};
 ghost use Rattle.tc_rows.specs.Triples.{Triple};
 
+use crate::append::{put_append, put_kind};
+use crate::empty::put_empty;
+use crate::lists::{lists_of, pool_of};
 use crate::machine::Machine;
+use crate::outputs::RowFault;
+use crate::rooms::{HRow, TRow};
 use std::alloc::Global;
 use tc_base::NoMemory;
 use tc_mat::{Mat, Pool};
+use tc_model::PairLists;
 
 /// What rows over one machine are worked out in: the sets of pairs that stand in rows, each with a number, and room.
 #[derive(Drop)]
@@ -70,7 +76,19 @@ impl<'m, 'b> Rows<'m, 'b> {
     ghost use Rattle.std.specs.Prelude.{◌≡◌, ◌<◌, IfOk, true, false};
     ghost use Rattle.tc_beh.specs.Machines.{IsMachine, IsMachineOf};
     ghost use Rattle.tc_rows.specs.Triples.{Triple};
-    ghost use Rattle.tc_beh.specs.RowsOf.{AreRows, AreRowsOf};
+    ghost use Rattle.std.specs.Prelude.{OnOk, OnErr};
+    ghost use Rattle.std.specs.Result.{IsErrOf};
+    ghost use Rattle.tc_rows.specs.Arithmetic.{IsEmptyRow, IsAppend, IsLiveAppend};
+    ghost use Rattle.tc_beh.specs.Rooms.{hedge_layout, output_at};
+    ghost use Rattle.tc_beh.specs.RoomsOf.{IsRoomOf, IsRoomBeside};
+    ghost use Rattle.tc_beh.specs.Held.{Extends, Grows};
+    ghost use Rattle.tc_mat.specs.Held.{AreDifferent};
+    ghost use Rattle.tc_rows.specs.Triples.{outputs as output_states};
+    ghost use Rattle.tc_rows.specs.PairSets.{IsPairs};
+    ghost use Rattle.tc_beh.specs.Listing.{AreDistinct};
+    ghost use Rattle.tc_beh.specs.Outs.{sets_of, GrowsBy, IsLeftOut};
+    ghost use Rattle.tc_rows.specs.Rows.{HedgeRow};
+    ghost use Rattle.tc_beh.specs.RowsOf.{AreRows, AreRowsOf, AreSameRows, StandsForHedge, StandsForTree, hedge_of, tree_of};
 
     /// Rows without outputs.
     ///
@@ -94,10 +112,130 @@ impl<'m, 'b> Rows<'m, 'b> {
         })
     }
 
+    /// Rows over these sets of pairs alone, each with its place as its number.
+    ///
+    /// # Errors
+    ///
+    /// There is no memory for the room or for the sets.
+    pub fn fixed(
+        alloc: Global,
+        machine: &'m Machine<'b>,
+        outputs: &PairLists,
+    ) -> Result<Rows<'m, 'b>, NoMemory>
+        requires machine { IsMachine machine.now }
+        requires few { length outputs.now ≤ 65536 }
+        requires distinct { AreDistinct outputs.now }
+        requires pairs { (x : Triple) → IsMachineOf x machine.now → All (IsPairs (output_states x)) outputs.now }
+        ensures stands { IfOk result (λ r. (x : Triple) → IsMachineOf x machine.now → AreRowsOf x r) }
+        ensures sets { IfOk result (λ r. sets_of r.outputs.matrices ≡ outputs.now) }
+        ensures fixed { IfOk result (λ r. r.is_fixed ≡ true) }
+        ensures machine { IfOk result (λ r. r.machine.now ≡ machine.now) }
+    {
+        let outputs = pool_of(alloc, machine.output.auto().states(), outputs)?;
+        let work = Work::new(alloc, machine)?;
+        Ok(Rows {
+            machine,
+            is_fixed: true,
+            outputs,
+            work,
+        })
+    }
+
+    /// How many sets of pairs are held, at most 65,536, none of them twice.
+    pub fn output_count(&self) -> u32
+        ensures count { result ≡ length self.now.outputs.matrices }
+        ensures few { result ≤ 65536 }
+        ensures different { AreDifferent self.now.outputs }
+    {
+        self.outputs.len()
+    }
+
+    /// The sets of pairs that are held, by their numbers, the pairs of each in order.
+    ///
+    /// # Errors
+    ///
+    /// There is no memory for the lists, or no room for the pairs of a set in one.
+    pub fn outputs(&self, alloc: Global) -> Result<PairLists, NoMemory>
+        ensures { IfOk result (λ l. l ≡ sets_of self.now.outputs.matrices) }
+    {
+        lists_of(alloc, &self.outputs)
+    }
+
     /// The machine.
     pub fn machine(&self) -> &'m Machine<'b>
         ensures { result.now ≡ self.now.machine.now }
     {
         self.machine
+    }
+
+    /// The row of no tree. Over fixed rows it takes no memory.
+    ///
+    /// # Errors
+    ///
+    /// The set of its pairs would be the 65,537th (`TooManyOutputs`), isn't held over fixed rows (`NewOutput`), or finds no
+    /// memory (`NoMemory`).
+    pub fn empty_row(&mut self, out: &mut HRow) -> Result<(), RowFault>
+        requires rows { AreRows self.old }
+        requires room { (x : Triple) → AreRowsOf x self.old → IsRoomOf (hedge_layout x) out.old.room }
+        ensures rows { (x : Triple) → AreRowsOf x self.old → AreRowsOf x self.new }
+        ensures same { AreSameRows self.old self.new }
+        ensures room { IsRoomBeside out.old.room out.new.room }
+        ensures held { Extends self.old.outputs self.new.outputs }
+        ensures row { OnOk result ((x : Triple) → AreRowsOf x self.old → StandsForHedge x self.new out.new × IsEmptyRow x (hedge_of x self.new out.new)) }
+        ensures grows { OnOk result (Grows self.old.outputs self.new.outputs (output_at out.new.room.flags out.new.room.numbers.items) out.new.room.entries) }
+        ensures partly { OnErr result ((x : Triple) (r : HedgeRow) → AreRowsOf x self.old → IsEmptyRow x r → GrowsBy self.old.outputs self.new.outputs r.entries × IsLeftOut self.new.outputs r.entries) }
+        ensures fixed { self.old.is_fixed ≡ true → self.new.outputs ≡ self.old.outputs }
+        ensures full { IsErrOf result RowFault.TooManyOutputs → (self.old.is_fixed ≡ false) × (length self.new.outputs.matrices ≡ 65536) }
+        ensures fresh { IsErrOf result RowFault.NewOutput → self.old.is_fixed ≡ true }
+        ensures memory { IsErrOf result RowFault.NoMemory → self.old.is_fixed ≡ false }
+    {
+        put_empty(
+            self.machine.input.auto(),
+            &mut self.outputs,
+            self.is_fixed,
+            &mut self.work.set,
+            &mut out.room,
+        )
+    }
+
+    /// The row of a list of trees with one tree more behind it. Tells whether it may stand in the input; where not, nothing is
+    /// held that wasn't before. Over fixed rows it takes no memory.
+    ///
+    /// # Errors
+    ///
+    /// A set of its pairs would be the 65,537th (`TooManyOutputs`), isn't held over fixed rows (`NewOutput`), or finds no memory
+    /// (`NoMemory`).
+    pub fn append(&mut self, h: &HRow, t: &TRow, out: &mut HRow) -> Result<bool, RowFault>
+        requires rows { AreRows self.old }
+        requires hedge { (x : Triple) → AreRowsOf x self.old → StandsForHedge x self.old h.now }
+        requires tree { (x : Triple) → AreRowsOf x self.old → StandsForTree x self.old t.now }
+        requires room { (x : Triple) → AreRowsOf x self.old → IsRoomOf (hedge_layout x) out.old.room }
+        ensures rows { (x : Triple) → AreRowsOf x self.old → AreRowsOf x self.new }
+        ensures same { AreSameRows self.old self.new }
+        ensures room { IsRoomBeside out.old.room out.new.room }
+        ensures held { Extends self.old.outputs self.new.outputs }
+        ensures dead { IfOk result (λ b. b ≡ false → (self.new.outputs ≡ self.old.outputs) × ((x : Triple) → AreRowsOf x self.old → ¬ IsLiveAppend x (hedge_of x self.old h.now) (tree_of x self.old t.now))) }
+        ensures live { IfOk result (λ b. b ≡ true → (x : Triple) → AreRowsOf x self.old → IsLiveAppend x (hedge_of x self.old h.now) (tree_of x self.old t.now)) }
+        ensures row { IfOk result (λ b. b ≡ true → (x : Triple) → AreRowsOf x self.old → StandsForHedge x self.new out.new × IsAppend x (hedge_of x self.old h.now) (tree_of x self.old t.now) (hedge_of x self.new out.new)) }
+        ensures grows { IfOk result (λ b. b ≡ true → Grows self.old.outputs self.new.outputs (output_at out.new.room.flags out.new.room.numbers.items) out.new.room.entries) }
+        ensures err { OnErr result ((x : Triple) → AreRowsOf x self.old → IsLiveAppend x (hedge_of x self.old h.now) (tree_of x self.old t.now)) }
+        ensures partly { OnErr result ((x : Triple) (r : HedgeRow) → AreRowsOf x self.old → IsAppend x (hedge_of x self.old h.now) (tree_of x self.old t.now) r → GrowsBy self.old.outputs self.new.outputs r.entries × IsLeftOut self.new.outputs r.entries) }
+        ensures fixed { self.old.is_fixed ≡ true → self.new.outputs ≡ self.old.outputs }
+        ensures full { IsErrOf result RowFault.TooManyOutputs → (self.old.is_fixed ≡ false) × (length self.new.outputs.matrices ≡ 65536) }
+        ensures fresh { IsErrOf result RowFault.NewOutput → self.old.is_fixed ≡ true }
+        ensures memory { IsErrOf result RowFault.NoMemory → self.old.is_fixed ≡ false }
+    {
+        if !put_kind(self.machine.input.auto(), &h.room, &t.room, &mut out.room) {
+            return Ok(false);
+        }
+        put_append(
+            &mut self.outputs,
+            self.is_fixed,
+            &mut self.work.set,
+            &h.room,
+            &t.room,
+            &mut out.room,
+        )?;
+        Ok(true)
     }
 }

@@ -17,7 +17,7 @@ ghost use Rattle.tc_beh.specs.Heights.{depth_in};
 ghost use Rattle.tc_beh.specs.Putting.{Extends};
 ghost use Rattle.tc_beh.specs.Places.{IsPlace, IsPlaceIn, AreSpare, kind_of, below_of, called_by, size_at};
 ghost use Rattle.tc_beh.specs.Stands.{IsRulesIn, AreRules};
-ghost use Rattle.tc_beh.specs.Templates.{IsTemplate, IsPartTemplate, depth_of, built_in_on, AreCalled};
+ghost use Rattle.tc_beh.specs.Templates.{IsTemplate, IsPartTemplate, depth_of, depth_of_sheet, built_in_on, AreCalled};
 
 use crate::bodies::{At, Place, all_children, put_body, put_selected, put_text_if};
 use tc_mat::Mat;
@@ -37,6 +37,7 @@ pub(crate) fn template_of<'b>(rules: &Rules<'b>, mode: u32, found: Found) -> Tem
     requires mode { mode < (told rules.now).sheet.modes }
     requires found { IfSome (found_of found) (λ i. i < length (told rules.now).sheet.rules) }
     ensures part { IsPartTemplate (told rules.now).sheet result }
+    ensures depth { depth_of result ≤ depth_of_sheet (told rules.now).sheet }
     ensures meant { (x : Triple) (own : ℕ → CallFreeBody) (o : Option Chosen) → IsRulesIn x rules.now → option_map (λ w. w.number) o ≡ found_of found →
         IsTemplate (sheet x).named own result (plain_of x.bodies (own mode) o) }
 {
@@ -54,12 +55,12 @@ pub(crate) fn template_for<'b>(
     kind: Kind,
     marks: Marks,
 ) -> Template<'b>
-    requires rules { AreRules rules.now }
     requires job { IsJob (told rules.now).sheet job }
     requires above { above < length (told rules.now).ancestors.states }
-    requires letter { (x : Triple) → IsRulesIn x rules.now → letters.IsLetter x.symbols (predicates x) (see_letter kind marks) }
+    requires letter { (x : Triple) × IsRulesIn x rules.now × letters.IsLetter x.symbols (predicates x) (see_letter kind marks) }
     ensures part { IsPartTemplate (told rules.now).sheet result }
-    ensures meant { (x : Triple) (k : CallFreeJob) → IsRulesIn x rules.now → IsTaskOf (sheet x) (mode_of (sheet x).modes job) k →
+    ensures depth { depth_of result ≤ depth_of_sheet (told rules.now).sheet }
+    ensures meant { (x : Triple) (k : CallFreeJob) → IsRulesIn x rules.now → letters.IsLetter x.symbols (predicates x) (see_letter kind marks) → IsTaskOf (sheet x) (mode_of (sheet x).modes job) k →
         IsTemplate (sheet x).named (λ m. built_in_at m (see_letter kind marks).kind) result (body_by x.symbols (predicates x) (sheet x).rules x.bodies k (ancestor x.rules above) (see_letter kind marks)) }
 {
     match job {

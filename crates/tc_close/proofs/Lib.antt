@@ -1,3 +1,17 @@
 pub mod Least
 pub mod Settling
 pub mod Verdict
+pub mod Transport
+pub mod Agreeing
+pub mod Reaching
+pub mod Existing
+pub mod Keys
+pub mod Growing
+pub mod Same
+pub mod Linked
+pub mod Decided
+pub mod Holding
+pub mod Made
+pub mod Carried
+pub mod Verdicts
+pub mod Exact

@@ -1,3 +1,7 @@
 pub mod Least
 pub mod Settling
 pub mod Verdict
+pub mod Triples
+pub mod Decisions
+pub mod RowState
+pub mod HeldRows

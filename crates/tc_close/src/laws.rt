@@ -1,6 +1,7 @@
 // What is proved of costs.
 ghost use Rattle.tc_close.specs.Least.{CostsAreLeast};
 ghost use Rattle.tc_close.specs.Settling.{CostByCost};
+ghost use Rattle.tc_close.specs.Triples.{TriplesAgree, TriplesAreThere};
 ghost use Rattle.tc_close.specs.Verdict.{ListsTell};
 
 /// The law of least costs: the least cost of a row is the least number of nodes of its live trees (others of the same
@@ -22,4 +23,12 @@ pub fn law_of_settling()
 /// fail cost more.
 pub fn law_of_the_verdict()
     ensures { ListsTell }
+{}
+
+/// The law of triples: well-formed schemas and a well-formed stylesheet that keep the limits have rows to go by, and the
+/// rows are theirs. However the states of paths stand in tables, trees have the same rows, there are the same rows of
+/// live trees, and as many of them.
+pub fn law_of_triples()
+    ensures there { TriplesAreThere }
+    ensures agree { TriplesAgree }
 {}

@@ -1,4 +1,12 @@
-//! The rows of all live trees, found from rows, and their least costs.
+//! The rows of all live trees, found from rows, and what they tell: whether a stylesheet is safe between two schemas,
+//! and a least counterexample where it isn't.
 #![tactic(auto)]
 
+mod decision;
+mod held;
 pub mod laws;
+mod lists;
+mod over;
+mod rooms;
+
+pub use decision::{CloseFault, Counts, Decision, decide};

@@ -1,4 +1,4 @@
-use Rattle.std.proofs.Common.{◌≡◌, ◌<◌, ◌≤◌, ◌+◌, ℕ, get_or}
+use Rattle.std.proofs.Common.{◌≡◌, ◌<◌, ◌+◌, ℕ, get_or}
 use Rattle.tc_rows.specs.Rows.{or_hit}
 use Rattle.tc_beh.specs.RoomsOf.{IsRoomBeside}
 use Rattle.tc_beh.proofs.append.put_first_looks.Given as goal

@@ -1,4 +1,4 @@
-use Rattle.std.proofs.Common.{◌≡◌, ◌≢◌, ◌<◌, ◌≤◌, ◌⊎◌, inl, inr, ◌+◌, ◌∙◌, ℕ, sym, get_or, subst, ap, arith, length, refl, true, false}
+use Rattle.std.proofs.Common.{◌≡◌, ◌<◌, inl, inr, ◌+◌, ◌∙◌, sym, get_or, subst, ap, arith, length, refl, true, false}
 use Rattle.std.proofs.lemmas.List.{get_or_default}
 use Rattle.tc_auto.specs.declared.auto.Edge.{Edge}
 use Rattle.tc_auto.specs.declared.auto.Leaf.TheVariants as l

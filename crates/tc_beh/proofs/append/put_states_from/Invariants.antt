@@ -3,7 +3,7 @@ use Rattle.std.specs.List.{Contains}
 use Rattle.tc_model.specs.States as s
 use Rattle.tc_model.specs.Grammars as g
 use Rattle.tc_auto.specs.Steps.{leaf}
-use Rattle.tc_auto.specs.Stands.{Stands, states}
+use Rattle.tc_auto.specs.Stands.{Stands}
 use Rattle.tc_auto.specs.declared.auto.Edge.{Edge}
 use Rattle.tc_beh.specs.RoomsOf.{IsRoomBeside}
 use Rattle.tc_beh.proofs.Flagging.{Flagged}

@@ -1,10 +1,8 @@
-use Rattle.std.proofs.Common.{◌≡◌, ◌≢◌, ◌<◌, ◌≤◌, ◌⊎◌, inl, inr, ◌+◌, ◌∙◌, ℕ, sym, get_or, subst, ap, arith, length, true}
-use Rattle.std.proofs.lemmas.Bool.{cases_lt}
-use Rattle.tc_mat.specs.Matrix.{IsComposition}
+use Rattle.std.proofs.Common.{◌≡◌, ◌<◌, inl, inr, ◌+◌, ◌∙◌, ℕ, sym, get_or, subst, arith, length}
 use Rattle.tc_mat.specs.Held.{Held}
 use Rattle.tc_beh.specs.Rooms.{output_at}
-use Rattle.tc_beh.specs.Held.{set_at, IsNew}
-use Rattle.tc_beh.proofs.Holding.{extends_at, grows_step, on_err, new_before, pairs_step}
+use Rattle.tc_beh.specs.Held.{set_at, IsNew, AreProducts}
+use Rattle.tc_beh.proofs.Holding.{grows_step, on_err, new_before, pairs_step, products_found}
 use Rattle.tc_beh.proofs.outputs.put_products.Goals as goal
 
 pub returns-in_err-number-clause-err : goal.returns-in_err-number-clause-err
@@ -19,6 +17,20 @@ returns-in_err-number-clause-err c =
     let err = c.in_err-number.ensures.err in
     let is : IsNew mid (set_at old a) (set_at old b) = new_before old mid c.loop-place.invariant.grows.held a b (c.requires.first i here) (c.requires.second i there) err.1 in
     on_err c.from_residual.result _ (i, c.loop-place-test.true, subst (λ (h : Held). IsNew h (set_at old a) (set_at old b)) (sym err.0) is)
+
+pub returns-in_err-number-clause-partly : goal.returns-in_err-number-clause-partly
+returns-in_err-number-clause-partly c =
+    let old = c.args.outputs.now in
+    let mid = c.loop-place.outputs in
+    let i = c.loop-place.place in
+    let first : ℕ → ℕ = λ n. get_or c.args.first.now n 0 in
+    let second : ℕ → ℕ = λ n. get_or c.args.second.now n 0 in
+    let low = c.loop-place-test.true in
+    let so_far = c.loop-place.invariant in
+    let here : AreProducts old mid first second c.args.out.now.entries =
+    products_found old mid (output_at c.args.out.now.flags c.loop-place.out.numbers.items) first second i c.args.out.now.entries (omega (arith, low)) so_far.grows so_far.pairs
+    in
+    on_err c.from_residual.result _ (subst (λ (h : Held). AreProducts old h first second c.args.out.now.entries) (sym c.in_err-number.ensures.err.0) here)
 
 pub loop-place-preserved : goal.loop-place-preserved
 loop-place-preserved c =

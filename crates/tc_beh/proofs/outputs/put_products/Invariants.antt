@@ -2,7 +2,7 @@ use Rattle.std.proofs.Common.{◌≡◌, ◌<◌, ◌≤◌, ◌⊎◌, ◌+◌,
 use Rattle.tc_mat.specs.Matrix.{IsComposition}
 use Rattle.tc_beh.specs.Rooms.{output_at}
 use Rattle.tc_beh.specs.RoomsOf.{IsRoomBeside}
-use Rattle.tc_beh.specs.Held.{Extends, Grows, set_at}
+use Rattle.tc_beh.specs.Held.{Grows, set_at}
 use Rattle.tc_beh.proofs.outputs.put_products.Given as goal
 
 abbrev pub invariant-loop-place : goal.invariant-loop-place

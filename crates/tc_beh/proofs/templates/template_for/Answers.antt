@@ -10,6 +10,7 @@ use Rattle.tc_rules.specs.RulesView.{RulesView, ancestor}
 use Rattle.tc_rules.specs.States.{built_in_at}
 use Rattle.tc_rules.specs.Tasks.{IsTaskOf}
 use Rattle.tc_rows.specs.Triples.{sheet}
+use Rattle.tc_beh.proofs.Deepest.{each_body_low}
 use Rattle.tc_beh.proofs.Meant.{each_part_at, each_meant, mode_meant, sheet_told, rule_low}
 use Rattle.tc_beh.proofs.Marking.{predicates_told}
 use Rattle.tc_model.specs.Letters.{IsLetter}
@@ -18,12 +19,12 @@ use Rattle.tc_beh.proofs.templates.template_for.Goals as goal
 pub returns-in-Each-clause-part : goal.returns-in-Each-clause-part
 returns-in-Each-clause-part c =
     let r = c.args.rules.now in
-    let (x, is) = c.requires.rules in
+    let (x, is, lx) = c.requires.letter in
     let low : c.in-Each.number < (told r).sheet.eaches = subst (IsJob (told r).sheet) c.in-Each.is c.requires.job in
     each_part_at r x is c.in-Each.number c.each_body.result low c.each_body.ensures
 
 pub returns-in-Each-clause-meant : goal.returns-in-Each-clause-meant
-returns-in-Each-clause-meant c = λ x k is u.
+returns-in-Each-clause-meant c = λ x k is lx u.
     let r = c.args.rules.now in
     let task : IsTaskOf (sheet x) ((sheet x).modes + c.in-Each.number) k = subst (λ j. IsTaskOf (sheet x) (mode_of (sheet x).modes j) k) c.in-Each.is u in
     each_meant r x is c.in-Each.number c.each_body.result k (ancestor x.rules c.args.above) (letter c.args.kind c.args.marks) c.each_body.ensures task
@@ -31,18 +32,25 @@ returns-in-Each-clause-meant c = λ x k is u.
 pub template_of-requires-clause-found : goal.template_of-requires-clause-found
 template_of-requires-clause-found c =
     let r = c.args.rules.now in
-    let (x, is) = c.requires.rules in
+    let (x, is, lx) = c.requires.letter in
     let l = letter c.args.kind c.args.marks in
-    let is_letter = subst (λ ps. IsLetter x.symbols ps l) (sym (predicates_told x r is)) (c.requires.letter x is) in
+    let is_letter = subst (λ ps. IsLetter x.symbols ps l) (sym (predicates_told x r is)) lx in
     rule_low (told r).sheet.rules c.in-Mode.mode (fits_below x.symbols (predicates_of (told r).sheet) (ancestor (told r) c.args.above) l) (found c.rule_for-found.result) (c.rule_for-found.ensures x.symbols is.rules is_letter)
 
 pub returns-in-Mode-clause-meant : goal.returns-in-Mode-clause-meant
-returns-in-Mode-clause-meant c = λ x k is u.
+returns-in-Mode-clause-meant c = λ x k is lx u.
     let r = c.args.rules.now in
     let l = letter c.args.kind c.args.marks in
     let low : c.in-Mode.mode < (sheet x).modes = subst (λ (s : Sheet). c.in-Mode.mode < s.modes) (sheet_told r x is) (subst (IsJob (told r).sheet) c.in-Mode.is c.requires.job) in
     let task : IsTaskOf (sheet x) c.in-Mode.mode k = subst (λ j. IsTaskOf (sheet x) (mode_of (sheet x).modes j) k) c.in-Mode.is u in
-    let is_letter = subst (λ ps. IsLetter x.symbols ps l) (sym (predicates_told x r is)) (c.requires.letter x is) in
+    let is_letter = subst (λ ps. IsLetter x.symbols ps l) (sym (predicates_told x r is)) lx in
     let ruled = subst (λ (t : RulesView). IsRuleOf t.sheet.rules c.in-Mode.mode (fits_below x.symbols (predicates_of t.sheet) (ancestor t c.args.above) l) (found c.rule_for-found.result)) is.told (c.rule_for-found.ensures x.symbols is.rules is_letter) in
     mode_meant r x is c.in-Mode.mode (found c.rule_for-found.result) c.template_of.result (λ m. built_in_at m l.kind) k (ancestor x.rules c.args.above) l low task ruled
     (λ o e. c.template_of.ensures.meant x (λ m. built_in_at m l.kind) o is e)
+
+pub returns-in-Each-clause-depth : goal.returns-in-Each-clause-depth
+returns-in-Each-clause-depth c =
+    let r = c.args.rules.now in
+    let (x, is, lx) = c.requires.letter in
+    let low : c.in-Each.number < (told r).sheet.eaches = subst (IsJob (told r).sheet) c.in-Each.is c.requires.job in
+    each_body_low r x is c.in-Each.number c.each_body.result low c.each_body.ensures

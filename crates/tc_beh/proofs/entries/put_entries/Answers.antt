@@ -1,0 +1,85 @@
+use Rattle.std.proofs.Common.{◌≡◌, ◌<◌, ◌≤◌, ◌+◌, ◌*◌, inl, inr, ℕ, length, subst, sym, ap, ◌∙◌, refl, arith}
+use Rattle.tc_rules.specs.Kept.{told}
+use Rattle.tc_rules.specs.RulesView.{move_count}
+use Rattle.tc_rows.specs.Triples.{moves}
+use Rattle.tc_beh.specs.Entries.{Comes}
+use Rattle.tc_beh.specs.Places.{entries_by}
+use Rattle.tc_beh.specs.Rooms.{output_at}
+use Rattle.tc_beh.proofs.Holding.{extends_self, extends_then, on_err}
+use Rattle.tc_beh.proofs.Coming.{grounds_kept, read_kept, comes_none, comes_same, next_row}
+use Rattle.tc_beh.proofs.entries.put_entries.Goals as goal
+
+pub loop-ancestor-init : goal.loop-ancestor-init
+loop-ancestor-init c = record {
+  work = λ x ok. ok.work;
+  beside = record { flags = refl; entries = refl; count = refl };
+  others = λ k h. refl;
+  held = extends_self c.args.outputs.now;
+  comes = λ x ok.
+      let a = c.args.outputs.now in
+      let es = entries_by a.matrices c.args.node.entries.now in
+      let f = output_at c.args.out.now.flags c.args.out.now.numbers.items in
+      comes_same x es c.args.node a a f 0 (0 * moves x) (omega arith) (comes_none x es c.args.node a f);
+  fixed = λ e. refl;
+}
+
+pub put_row-requires-clause-grounds : goal.put_row-requires-clause-grounds
+put_row-requires-clause-grounds c =
+    let (x, ok) = c.requires.grounds in
+    let so_far = c.loop-ancestor.invariant in
+    (x, grounds_kept x c.args.machine.now c.args.outputs.now c.loop-ancestor.outputs so_far.held c.args.work.now c.args.node ok c.loop-ancestor.work (so_far.work x ok))
+
+pub returns-in_err-put_row-clause-work : goal.returns-in_err-put_row-clause-work
+returns-in_err-put_row-clause-work c = λ x ok.
+    let so_far = c.loop-ancestor.invariant in
+    c.put_row.ensures.work x (grounds_kept x c.args.machine.now c.args.outputs.now c.loop-ancestor.outputs so_far.held c.args.work.now c.args.node ok c.loop-ancestor.work (so_far.work x ok))
+
+pub returns-in_err-put_row-clause-partly : goal.returns-in_err-put_row-clause-partly
+returns-in_err-put_row-clause-partly c = on_err c.from_residual.result _ (λ x ok.
+    let m = c.args.machine.now in
+    let n = c.args.node in
+    let a = c.args.outputs.now in
+    let b = c.loop-ancestor.outputs in
+    let so_far = c.loop-ancestor.invariant in
+    let es = entries_by a.matrices n.entries.now in
+    let now = grounds_kept x m a b so_far.held c.args.work.now n ok c.loop-ancestor.work (so_far.work x ok) in
+    c.in_err-put_row.ensures.partly x es a now (sym (read_kept x m a b so_far.held c.args.work.now n ok))
+    (subst (λ f. Comes x es n a b (output_at f c.loop-ancestor.out.numbers.items) (c.loop-ancestor.ancestor * moves x)) (sym so_far.beside.flags) (so_far.comes x ok)))
+
+pub loop-ancestor-preserved : goal.loop-ancestor-preserved
+loop-ancestor-preserved c =
+    let m = c.args.machine.now in
+    let n = c.args.node in
+    let a = c.args.outputs.now in
+    let b = c.loop-ancestor.outputs in
+    let q = c.loop-ancestor.ancestor in
+    let so_far = c.loop-ancestor.invariant in
+    let put = c.put_row.ensures in
+    let flags = so_far.beside.flags in
+    let entries = so_far.beside.entries in
+    record {
+      work = λ x ok. put.work x (grounds_kept x m a b so_far.held c.args.work.now n ok c.loop-ancestor.work (so_far.work x ok));
+      beside = record { flags = put.beside.flags ∙ flags; entries = put.beside.entries ∙ entries; count = put.beside.count ∙ so_far.beside.count };
+      others = λ k h. put.others k (elim h [ inl l ↦ inl (omega (arith, l, flags)) | inr l ↦ inr (omega (arith, l, flags, entries)) ]) ∙ so_far.others k h;
+      held = extends_then a b c.put_row.new.outputs so_far.held put.held;
+      comes = λ x ok.
+          let es = entries_by a.matrices n.entries.now in
+          let now = grounds_kept x m a b so_far.held c.args.work.now n ok c.loop-ancestor.work (so_far.work x ok) in
+          let begun = subst (λ f. Comes x es n a b (output_at f c.loop-ancestor.out.numbers.items) (q * moves x)) (sym flags) (so_far.comes x ok) in
+          let more = c.in_ok-put_row.ensures.comes x es a now (sym (read_kept x m a b so_far.held c.args.work.now n ok)) begun in
+          comes_same x es n a c.put_row.new.outputs (output_at c.args.out.now.flags c.put_row.new.out.numbers.items) (q * moves x + moves x) ((q + 1) * moves x) (next_row q (moves x))
+          (subst (λ f. Comes x es n a c.put_row.new.outputs (output_at f c.put_row.new.out.numbers.items) (q * moves x + moves x)) flags more);
+      fixed = λ e. put.fixed e ∙ so_far.fixed e;
+    }
+
+pub returns-clause-comes : goal.returns-clause-comes
+returns-clause-comes c = λ x ok.
+    let r = c.args.machine.now.rules in
+    let rules = ok.machine.parts.are_rules in
+    let all = c.ancestors-ancestor-end.ensures.count x.symbols rules.rules in
+    let end : c.loop-ancestor.ancestor ≡ length (told r).ancestors.states = let t = c.loop-ancestor-test.false in let l = c.loop-ancestor.auto.ancestor-end in omega (arith, t, l, all) in
+    let same : c.loop-ancestor.ancestor * moves x ≡ c.args.out.now.entries =
+    ap (λ q. q * moves x) end ∙ (ap (λ k. length (told r).ancestors.states * k) (sym (ap move_count rules.told)) ∙ c.requires.room)
+    in
+    comes_same x (entries_by c.args.outputs.now.matrices c.args.node.entries.now) c.args.node c.args.outputs.now c.loop-ancestor.outputs (output_at c.args.out.now.flags c.loop-ancestor.out.numbers.items) (c.loop-ancestor.ancestor * moves x) c.args.out.now.entries same
+    (c.loop-ancestor.invariant.comes x ok)

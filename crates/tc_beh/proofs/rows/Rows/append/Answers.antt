@@ -1,0 +1,120 @@
+use Rattle.std.proofs.Common.{◌≡◌, ◌<◌, ◌∙◌, length, sym, subst, refl, arith, true, false}
+use Rattle.tc_model.specs.States.{input}
+use Rattle.tc_auto.specs.Stands.{Stands}
+use Rattle.tc_auto.specs.declared.auto.Auto.{Auto}
+use Rattle.tc_beh.specs.Rooms.{output_at}
+use Rattle.tc_beh.proofs.Holding.{on_err}
+use Rattle.tc_beh.proofs.Appends.{is_live, isnt_live, appended, refused}
+use Rattle.tc_beh.proofs.rows.Rows.append.Goals as goal
+
+pub put_append-requires-clause-first : goal.put_append-requires-clause-first
+put_append-requires-clause-first c = λ i low.
+    let (x, is) = c.requires.rows in
+    let hedge = c.requires.hedge x is in
+    let same = c.put_kind.ensures.beside.entries in
+    let out = (c.requires.room x is).entries in
+    subst (λ f. output_at f c.args.h.now.room.numbers.items i < length c.args.self.now.outputs.matrices) (sym hedge.parted.flags) (hedge.numbers.outs i (omega (arith, low, same, out)))
+
+pub put_append-requires-clause-second : goal.put_append-requires-clause-second
+put_append-requires-clause-second c = λ i low.
+    let (x, is) = c.requires.rows in
+    let tree = c.requires.tree x is in
+    let same = c.put_kind.ensures.beside.entries in
+    let out = (c.requires.room x is).entries in
+    subst (λ f. output_at f c.args.t.now.room.numbers.items i < length c.args.self.now.outputs.matrices) (sym tree.parted.flags) (tree.numbers.outs i (omega (arith, low, same, out)))
+
+pub put_append-requires-clause-hedge : goal.put_append-requires-clause-hedge
+put_append-requires-clause-hedge c =
+    let (x, is) = c.requires.rows in
+    (c.requires.hedge x is).parted.entries ∙ sym (c.put_kind.ensures.beside.entries ∙ (c.requires.room x is).entries)
+
+pub put_append-requires-clause-tree : goal.put_append-requires-clause-tree
+put_append-requires-clause-tree c =
+    let (x, is) = c.requires.rows in
+    (c.requires.tree x is).parted.entries ∙ sym (c.put_kind.ensures.beside.entries ∙ (c.requires.room x is).entries)
+
+pub put_append-requires-clause-looks : goal.put_append-requires-clause-looks
+put_append-requires-clause-looks c =
+    let (x, is) = c.requires.rows in
+    let hedge = (c.requires.hedge x is).parted in
+    let out = c.requires.room x is in
+    let same = c.put_kind.ensures.beside in
+    omega (arith, hedge.flags, hedge.count, out.flags, out.count, same.flags, same.count)
+
+pub put_append-requires-clause-tree_looks : goal.put_append-requires-clause-tree_looks
+put_append-requires-clause-tree_looks c =
+    let (x, is) = c.requires.rows in
+    let hedge = (c.requires.hedge x is).parted in
+    let tree = (c.requires.tree x is).parted in
+    omega (arith, hedge.flags, hedge.count, tree.flags, tree.count)
+
+pub returns-then-not-put_kind-clause-dead : goal.returns-then-not-put_kind-clause-dead
+returns-then-not-put_kind-clause-dead c = λ e. (
+  refl,
+  λ x is.
+      let hedge = c.requires.hedge x is in
+      let tree = c.requires.tree x is in
+      let out = c.requires.room x is in
+      let put = c.put_kind.ensures in
+      isnt_live x c.args.h.now.room.numbers.items c.args.t.now.room.numbers.items c.args.h.now.room.flags c.args.t.now.room.flags c.put_kind.new.out.flags hedge.parted.flags tree.parted.flags (put.beside.flags ∙ out.flags)
+      c.auto.result.now (subst (λ (a : Auto). Stands input x.input a) (sym c.auto.ensures) is.machine.parts.contents.auto) c.args.self.now.outputs.matrices hedge.numbers c.put_kind.new.out.numbers.items
+      (put.beside.count ∙ out.count) put.flags (λ some. let f : false ≡ true = sym c.if-not-put_kind.true ∙ put.live.1 some in absurd (cc)),
+)
+
+pub returns-clause-live : goal.returns-clause-live
+returns-clause-live c = λ e x is.
+    let hedge = c.requires.hedge x is in
+    let tree = c.requires.tree x is in
+    let out = c.requires.room x is in
+    let put = c.put_kind.ensures in
+    let (apart, some) = put.live.0 c.if-not-put_kind.false in
+    is_live x c.args.h.now.room.numbers.items c.args.t.now.room.numbers.items c.args.h.now.room.flags c.args.t.now.room.flags c.put_kind.new.out.flags hedge.parted.flags tree.parted.flags (put.beside.flags ∙ out.flags)
+    c.auto.result.now (subst (λ (a : Auto). Stands input x.input a) (sym c.auto.ensures) is.machine.parts.contents.auto) c.args.self.now.outputs.matrices hedge.numbers c.put_kind.new.out.numbers.items
+    (put.beside.count ∙ out.count) put.flags apart some
+
+pub returns-clause-row : goal.returns-clause-row
+returns-clause-row c = λ e x is.
+    let hedge = c.requires.hedge x is in
+    let tree = c.requires.tree x is in
+    let out = c.requires.room x is in
+    let kind = c.put_kind.ensures in
+    let put = c.in_ok-put_append.ensures in
+    let (apart, some) = kind.live.0 c.if-not-put_kind.false in
+    let (room, row) =
+    appended x c.args.h.now.room.numbers.items c.args.t.now.room.numbers.items c.args.h.now.room.flags c.args.t.now.room.flags c.put_kind.new.out.flags hedge.parted.flags tree.parted.flags (kind.beside.flags ∙ out.flags)
+    c.auto.result.now (subst (λ (a : Auto). Stands input x.input a) (sym c.auto.ensures) is.machine.parts.contents.auto) c.args.self.now.outputs c.put_append.new.outputs put.held put.matrices is.size
+    c.put_kind.new.out.entries (kind.beside.entries ∙ out.entries) hedge.numbers tree.numbers c.put_kind.new.out.numbers.items c.put_append.new.out.numbers.items (kind.beside.count ∙ out.count) put.beside.count kind.flags apart
+    put.flags put.numbers put.grows.low
+    in (
+      record {
+        parted = record { flags = put.beside.flags ∙ (kind.beside.flags ∙ out.flags); entries = put.beside.entries ∙ (kind.beside.entries ∙ out.entries); count = put.beside.count ∙ (kind.beside.count ∙ out.count) };
+        numbers = room;
+      },
+      row,
+    )
+
+pub returns-in_err-put_append-clause-err : goal.returns-in_err-put_append-clause-err
+returns-in_err-put_append-clause-err c =
+    on_err c.from_residual.result _
+    (λ x is.
+    let hedge = c.requires.hedge x is in
+    let tree = c.requires.tree x is in
+    let out = c.requires.room x is in
+    let put = c.put_kind.ensures in
+    let (apart, some) = put.live.0 c.if-not-put_kind.false in
+    is_live x c.args.h.now.room.numbers.items c.args.t.now.room.numbers.items c.args.h.now.room.flags c.args.t.now.room.flags c.put_kind.new.out.flags hedge.parted.flags tree.parted.flags (put.beside.flags ∙ out.flags)
+    c.auto.result.now (subst (λ (a : Auto). Stands input x.input a) (sym c.auto.ensures) is.machine.parts.contents.auto) c.args.self.now.outputs.matrices hedge.numbers c.put_kind.new.out.numbers.items
+    (put.beside.count ∙ out.count) put.flags apart some)
+
+pub returns-in_err-put_append-clause-partly : goal.returns-in_err-put_append-clause-partly
+returns-in_err-put_append-clause-partly c =
+    on_err c.from_residual.result _
+    (λ x r is row.
+    let hedge = c.requires.hedge x is in
+    let tree = c.requires.tree x is in
+    let out = c.requires.room x is in
+    let kind = c.put_kind.ensures in
+    let put = c.in_err-put_append.ensures in
+    refused x c.args.h.now.room.numbers.items c.args.t.now.room.numbers.items c.args.h.now.room.flags c.args.t.now.room.flags c.put_kind.new.out.flags hedge.parted.flags tree.parted.flags (kind.beside.flags ∙ out.flags)
+    c.auto.result.now (subst (λ (a : Auto). Stands input x.input a) (sym c.auto.ensures) is.machine.parts.contents.auto) c.args.self.now.outputs c.put_append.new.outputs put.held put.matrices is.size
+    c.put_kind.new.out.entries (kind.beside.entries ∙ out.entries) hedge.numbers tree.numbers r row put.partly put.err)

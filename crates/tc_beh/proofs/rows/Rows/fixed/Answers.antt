@@ -1,0 +1,24 @@
+use Rattle.std.proofs.Common.{◌≡◌, ◌∙◌, sym, subst, get_or}
+use Rattle.tc_model.specs.States.{output}
+use Rattle.tc_auto.specs.Stands as a
+use Rattle.tc_auto.specs.declared.auto.Auto.{Auto}
+use Rattle.tc_rows.specs.Triples.{outputs}
+use Rattle.tc_rows.specs.PairSets.{IsPairs}
+use Rattle.tc_beh.proofs.rows.Rows.fixed.Goals as goal
+
+pub pool_of-requires-clause-pairs : goal.pool_of-requires-clause-pairs
+pool_of-requires-clause-pairs c = λ k d low.
+    let (x, is) = c.requires.machine in
+    let stands : a.Stands output x.output c.auto.result.now = subst (λ (b : Auto). a.Stands output x.output b) (sym c.auto.ensures) is.parts.states.auto in
+    let size : c.states.result ≡ outputs x = c.states.ensures.schema output x.output stands in
+    subst (λ n. IsPairs n (get_or c.args.outputs.now k d)) (sym size) (c.requires.pairs x is k d low)
+
+pub returns-clause-stands : goal.returns-clause-stands
+returns-clause-stands c = λ x is.
+    let stands : a.Stands output x.output c.auto.result.now = subst (λ (b : Auto). a.Stands output x.output b) (sym c.auto.ensures) is.parts.states.auto in
+    let size : c.states.result ≡ outputs x = c.states.ensures.schema output x.output stands in
+    record {
+      machine = is;
+      size = c.in_ok-outputs.ensures.size ∙ size;
+      work = c.in_ok-work.ensures x is;
+    }

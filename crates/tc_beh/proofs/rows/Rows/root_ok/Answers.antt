@@ -1,0 +1,19 @@
+use Rattle.std.proofs.Common.{sym, subst}
+use Rattle.tc_auto.specs.Stands.{Stands}
+use Rattle.tc_auto.specs.declared.auto.Auto.{Auto}
+use Rattle.tc_model.specs.States.{output}
+use Rattle.tc_beh.proofs.Rooted.{is_root}
+use Rattle.tc_beh.proofs.rows.Rows.root_ok.Goals as goal
+
+pub returns-clause-rows : goal.returns-clause-rows
+returns-clause-rows c = λ x are.
+    record { machine = are.machine; size = are.size; work = c.put_root.ensures.work x (is_root x c.args.self.now c.args.t.now are (c.requires.tree x are)) }
+
+pub returns-clause-passing : goal.returns-clause-passing
+returns-clause-passing c = λ x are.
+    let stands : Stands output x.output c.auto.result.now = subst (λ (a : Auto). Stands output x.output a) (sym c.auto.ensures) are.machine.parts.states.auto in
+    let leads = c.leads_to_end.ensures x.output stands in
+    let same = c.put_root.ensures.pairs x (is_root x c.args.self.now c.args.t.now are (c.requires.tree x are)) in (
+      λ h. (let (j, pair, accepts) = leads.0 h in (j, (same 0 j).0 pair, accepts)),
+      λ (j, pair, accepts). leads.1 (j, (same 0 j).1 pair, accepts),
+    )

@@ -1,0 +1,88 @@
+use Rattle.std.proofs.Common.{◌≡◌, ◌<◌, ◌≤◌, ◌+◌, inl, ℕ, length, get_or, sym, subst, ◌∙◌, refl, arith, true, false}
+use Rattle.tc_model.specs.States.{input}
+use Rattle.tc_auto.specs.Stands.{Stands}
+use Rattle.tc_auto.specs.declared.auto.Auto.{Auto}
+use Rattle.tc_rows.specs.Arithmetic.{IsTextLive}
+use Rattle.tc_beh.specs.Rooms.{tree_layout, flag_at}
+use Rattle.tc_beh.proofs.Holding.{on_err}
+use Rattle.tc_beh.proofs.Together.{on_err_map}
+use Rattle.tc_beh.proofs.WrapRows.{text_grounds, text_left_out, text_room, is_text_row, room_after, beside_then, rows_after}
+use Rattle.tc_beh.proofs.rows.Rows.text_row.Goals as goal
+
+pub returns-then-not-has_text-clause-dead : goal.returns-then-not-has_text-clause-dead
+returns-then-not-has_text-clause-dead c = λ e. (
+  refl,
+  λ x rows live.
+      let stands = subst (λ (a : Auto). Stands input x.input a) (sym c.auto.ensures) rows.machine.parts.contents.auto in
+      let f : false ≡ true = sym c.if-not-has_text.true ∙ (c.has_text.ensures input x.input stands ∙ live) in
+      absurd (cc),
+)
+
+pub put_node-requires-clause-grounds : goal.put_node-requires-clause-grounds
+put_node-requires-clause-grounds c =
+    let (x, rows) = c.requires.rows in
+    let node = c.text_node-node.ensures in
+    (x, text_grounds x c.args.self.now rows c.text_node-node.result (node.letter x rows.machine.parts.are_rules) node.entries node.looks node.bears)
+
+pub put_node-requires-clause-room : goal.put_node-requires-clause-room
+put_node-requires-clause-room c =
+    let (x, rows) = c.requires.rows in
+    let node = c.text_node-node.ensures in
+    let heads = c.set_heads.ensures.beside in (
+      x,
+      text_grounds x c.args.self.now rows c.text_node-node.result (node.letter x rows.machine.parts.are_rules) node.entries node.looks node.bears,
+      room_after (tree_layout x) c.args.out.now.room c.clear_flags.new.self (c.requires.room x rows) (beside_then c.args.out.now.room c.set_heads.new.self c.clear_flags.new.self heads c.clear_flags.ensures.beside),
+    )
+
+pub returns-in_err-put_node-clause-rows : goal.returns-in_err-put_node-clause-rows
+returns-in_err-put_node-clause-rows c = λ x rows.
+    let node = c.text_node-node.ensures in
+    rows_after x c.args.self.now rows c.put_node.new.outputs c.put_node.ensures.held c.put_node.new.work (c.put_node.ensures.work x (text_grounds x c.args.self.now rows c.text_node-node.result (node.letter x rows.machine.parts.are_rules) node.entries node.looks node.bears))
+
+pub returns-in_err-put_node-clause-err : goal.returns-in_err-put_node-clause-err
+returns-in_err-put_node-clause-err c = on_err c.from_residual.result _ (λ x rows.
+    let stands = subst (λ (a : Auto). Stands input x.input a) (sym c.auto.ensures) rows.machine.parts.contents.auto in
+    sym (c.has_text.ensures input x.input stands) ∙ c.if-not-has_text.false)
+
+pub returns-in_err-put_node-clause-partly : goal.returns-in_err-put_node-clause-partly
+returns-in_err-put_node-clause-partly c = on_err c.from_residual.result _ (λ x u rows is.
+    let node = c.text_node-node.ensures in
+    let n = c.text_node-node.result in
+    let letter = node.letter x rows.machine.parts.are_rules in
+    let grounds = text_grounds x c.args.self.now rows n letter node.entries node.looks node.bears in
+    text_left_out x c.args.self.now rows n letter node.entries node.looks node.bears c.put_node.new.outputs c.put_node.ensures.sets c.put_node.ensures.held (c.in_err-put_node.ensures.partly x grounds) u is)
+
+pub returns-clause-rows : goal.returns-clause-rows
+returns-clause-rows c = λ x rows.
+    let node = c.text_node-node.ensures in
+    rows_after x c.args.self.now rows c.put_node.new.outputs c.put_node.ensures.held c.put_node.new.work (c.put_node.ensures.work x (text_grounds x c.args.self.now rows c.text_node-node.result (node.letter x rows.machine.parts.are_rules) node.entries node.looks node.bears))
+
+pub returns-clause-live : goal.returns-clause-live
+returns-clause-live c = λ e x rows.
+    let stands = subst (λ (a : Auto). Stands input x.input a) (sym c.auto.ensures) rows.machine.parts.contents.auto in
+    sym (c.has_text.ensures input x.input stands) ∙ c.if-not-has_text.false
+
+pub returns-clause-row : goal.returns-clause-row
+returns-clause-row c = λ e x rows.
+    let r = c.args.self.now in
+    let node = c.text_node-node.ensures in
+    let n = c.text_node-node.result in
+    let letter = node.letter x rows.machine.parts.are_rules in
+    let grounds = text_grounds x r rows n letter node.entries node.looks node.bears in
+    let room = c.requires.room x rows in
+    let heads = c.set_heads.ensures in
+    let clear = c.clear_flags.ensures in
+    let put = c.put_node.ensures in
+    let before = beside_then c.args.out.now.room c.set_heads.new.self c.clear_flags.new.self heads.beside clear.beside in
+    let mid = room_after (tree_layout x) c.args.out.now.room c.clear_flags.new.self room before in
+    let parted = room_after (tree_layout x) c.clear_flags.new.self c.put_node.new.out mid put.beside in
+    let us = c.put_node.new.out.numbers.items in
+    let so = c.in_ok-put_node.ensures.row x grounds mid in
+    let head : get_or us 0 0 ≡ 1 = put.others 0 (omega arith) ∙ (clear.others 0 (inl (omega arith)) ∙ heads.change.head) in
+    let bears : get_or us 1 0 ≡ 1 = put.others 1 (omega arith) ∙ (clear.others 1 (inl (omega arith)) ∙ heads.change.bears) in
+    let none : (i : ℕ) → i < length x.input.elements → flag_at us i ≡ 0 = λ i l.
+    put.others (2 + i) (let s = mid.flags in omega (arith, l, s)) ∙ clear.flags i (let s = mid.flags in let t = clear.beside.flags in omega (arith, l, s, t))
+    in (
+      record { parted = parted; numbers = text_room x r rows n letter node.entries node.looks node.bears c.put_node.new.outputs put.sets put.held us parted.count so head bears none },
+      is_text_row x r rows n letter node.entries node.looks node.bears c.put_node.new.outputs put.sets put.held us parted.count so head bears none,
+    )

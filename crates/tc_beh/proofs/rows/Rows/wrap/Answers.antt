@@ -1,0 +1,108 @@
+use Rattle.std.proofs.Common.{◌≡◌, ◌<◌, ◌≤◌, ◌+◌, inl, inr, ℕ, List, length, get_or, sym, subst, ap, ◌∙◌, refl, arith, true, false}
+use Rattle.tc_hedge.proofs.Bounds.{patterns_of}
+use Rattle.tc_model.specs.States.{input}
+use Rattle.tc_beh.specs.Around.{PutsPatterns}
+use Rattle.tc_beh.specs.Rooms.{tree_layout}
+use Rattle.tc_beh.proofs.Holding.{on_err}
+use Rattle.tc_beh.proofs.WrapRows.{wrap_grounds, wrap_few, wrap_left_out, wrap_room, is_wrap, live_wrap, dead_wrap, patterns_kept, room_after, beside_then, rows_after}
+use Rattle.tc_beh.proofs.rows.Rows.wrap.Goals as goal
+
+pub returns-then-not-put_patterns-clause-dead : goal.returns-then-not-put_patterns-clause-dead
+returns-then-not-put_patterns-clause-dead c = λ e. (
+  refl,
+  λ x rows.
+      let r = c.args.self.now in
+      let put = c.put_patterns.ensures in
+      let parted = room_after (tree_layout x) c.args.out.now.room c.put_patterns.new.out (c.requires.room x rows) put.beside in
+      dead_wrap x r rows c.args.h.now (c.requires.hedge x rows) c.args.sym.0 (c.requires.symbol x rows) c.put_patterns.new.out.numbers.items c.put_patterns.new.out.flags parted.flags parted.count
+      (subst (λ fs. PutsPatterns r.machine.now.input c.args.sym.0 fs c.put_patterns.new.out.numbers.items) c.flags.ensures.value put.flags)
+      (λ some. let f : false ≡ true = sym c.if-not-put_patterns.true ∙ put.some.1 some in absurd (cc)),
+)
+
+pub put_node-requires-clause-grounds : goal.put_node-requires-clause-grounds
+put_node-requires-clause-grounds c =
+    let (x, rows) = c.requires.rows in
+    let node = c.node_around-node.ensures in
+    (x, wrap_grounds x c.args.self.now rows c.args.h.now (c.requires.hedge x rows) c.args.sym.0 (c.requires.symbol x rows) c.node_around-node.result (node.letter x rows.machine.parts.are_rules) node.entries node.looks node.bears)
+
+pub put_node-requires-clause-few : goal.put_node-requires-clause-few
+put_node-requires-clause-few c =
+    let (x, rows) = c.requires.rows in
+    let node = c.node_around-node.ensures in
+    wrap_few x c.args.self.now rows c.args.h.now (c.requires.hedge x rows) c.args.sym.0 (c.requires.symbol x rows) c.node_around-node.result (node.letter x rows.machine.parts.are_rules) node.entries node.looks node.bears
+
+pub put_node-requires-clause-room : goal.put_node-requires-clause-room
+put_node-requires-clause-room c =
+    let (x, rows) = c.requires.rows in
+    let node = c.node_around-node.ensures in (
+      x,
+      wrap_grounds x c.args.self.now rows c.args.h.now (c.requires.hedge x rows) c.args.sym.0 (c.requires.symbol x rows) c.node_around-node.result (node.letter x rows.machine.parts.are_rules) node.entries node.looks node.bears,
+      room_after (tree_layout x) c.args.out.now.room c.set_heads.new.self (c.requires.room x rows) (beside_then c.args.out.now.room c.put_patterns.new.out c.set_heads.new.self c.put_patterns.ensures.beside c.set_heads.ensures.beside),
+    )
+
+pub returns-in_err-put_node-clause-rows : goal.returns-in_err-put_node-clause-rows
+returns-in_err-put_node-clause-rows c = λ x rows.
+    let node = c.node_around-node.ensures in
+    rows_after x c.args.self.now rows c.put_node.new.outputs c.put_node.ensures.held c.put_node.new.work
+    (c.put_node.ensures.work x (wrap_grounds x c.args.self.now rows c.args.h.now (c.requires.hedge x rows) c.args.sym.0 (c.requires.symbol x rows) c.node_around-node.result (node.letter x rows.machine.parts.are_rules) node.entries node.looks node.bears))
+
+pub returns-in_err-put_node-clause-err : goal.returns-in_err-put_node-clause-err
+returns-in_err-put_node-clause-err c = on_err c.from_residual.result _ (λ x rows.
+    let r = c.args.self.now in
+    let put = c.put_patterns.ensures in
+    let parted = room_after (tree_layout x) c.args.out.now.room c.put_patterns.new.out (c.requires.room x rows) put.beside in
+    live_wrap x r rows c.args.h.now (c.requires.hedge x rows) c.args.sym.0 (c.requires.symbol x rows) c.put_patterns.new.out.numbers.items c.put_patterns.new.out.flags parted.flags parted.count
+    (subst (λ fs. PutsPatterns r.machine.now.input c.args.sym.0 fs c.put_patterns.new.out.numbers.items) c.flags.ensures.value put.flags) (put.some.0 c.if-not-put_patterns.false))
+
+pub returns-in_err-put_node-clause-partly : goal.returns-in_err-put_node-clause-partly
+returns-in_err-put_node-clause-partly c = on_err c.from_residual.result _ (λ x u rows is.
+    let r = c.args.self.now in
+    let node = c.node_around-node.ensures in
+    let n = c.node_around-node.result in
+    let letter = node.letter x rows.machine.parts.are_rules in
+    let hedge = c.requires.hedge x rows in
+    let low = c.requires.symbol x rows in
+    let grounds = wrap_grounds x r rows c.args.h.now hedge c.args.sym.0 low n letter node.entries node.looks node.bears in
+    wrap_left_out x r rows c.args.h.now hedge c.args.sym.0 low n letter node.entries node.looks node.bears c.put_node.new.outputs c.put_node.ensures.sets c.put_node.ensures.held (c.in_err-put_node.ensures.partly x grounds) u is)
+
+pub returns-clause-rows : goal.returns-clause-rows
+returns-clause-rows c = λ x rows.
+    let node = c.node_around-node.ensures in
+    rows_after x c.args.self.now rows c.put_node.new.outputs c.put_node.ensures.held c.put_node.new.work
+    (c.put_node.ensures.work x (wrap_grounds x c.args.self.now rows c.args.h.now (c.requires.hedge x rows) c.args.sym.0 (c.requires.symbol x rows) c.node_around-node.result (node.letter x rows.machine.parts.are_rules) node.entries node.looks node.bears))
+
+pub returns-clause-live : goal.returns-clause-live
+returns-clause-live c = λ e x rows.
+    let r = c.args.self.now in
+    let put = c.put_patterns.ensures in
+    let parted = room_after (tree_layout x) c.args.out.now.room c.put_patterns.new.out (c.requires.room x rows) put.beside in
+    live_wrap x r rows c.args.h.now (c.requires.hedge x rows) c.args.sym.0 (c.requires.symbol x rows) c.put_patterns.new.out.numbers.items c.put_patterns.new.out.flags parted.flags parted.count
+    (subst (λ fs. PutsPatterns r.machine.now.input c.args.sym.0 fs c.put_patterns.new.out.numbers.items) c.flags.ensures.value put.flags) (put.some.0 c.if-not-put_patterns.false)
+
+pub returns-clause-row : goal.returns-clause-row
+returns-clause-row c = λ e x rows.
+    let r = c.args.self.now in
+    let a = c.args.sym.0 in
+    let node = c.node_around-node.ensures in
+    let n = c.node_around-node.result in
+    let letter = node.letter x rows.machine.parts.are_rules in
+    let hedge = c.requires.hedge x rows in
+    let low = c.requires.symbol x rows in
+    let grounds = wrap_grounds x r rows c.args.h.now hedge a low n letter node.entries node.looks node.bears in
+    let first = c.put_patterns.ensures in
+    let heads = c.set_heads.ensures in
+    let put = c.put_node.ensures in
+    let before = beside_then c.args.out.now.room c.put_patterns.new.out c.set_heads.new.self first.beside heads.beside in
+    let mid = room_after (tree_layout x) c.args.out.now.room c.set_heads.new.self (c.requires.room x rows) before in
+    let parted = room_after (tree_layout x) c.set_heads.new.self c.put_node.new.out mid put.beside in
+    let us = c.put_node.new.out.numbers.items in
+    let so = c.in_ok-put_node.ensures.row x grounds mid in
+    let head : get_or us 0 0 ≡ 0 = put.others 0 (omega arith) ∙ heads.change.head in
+    let bears = put.others 1 (omega arith) ∙ heads.change.bears in
+    let puts = subst (λ fs. PutsPatterns r.machine.now.input a fs c.put_patterns.new.out.numbers.items) c.flags.ensures.value first.flags in
+    let kept = patterns_kept r.machine.now.input a _ c.put_patterns.new.out.numbers.items us c.set_heads.new.self.flags (mid.flags ∙ sym (patterns_of input x.input r.machine.now.input.auto rows.machine.parts.contents.auto))
+    (λ k from to. put.others k to ∙ heads.change.others k from) puts
+    in (
+      record { parted = parted; numbers = wrap_room x r rows c.args.h.now hedge a low n letter node.entries node.looks node.bears c.put_node.new.outputs put.sets put.held us parted.count so head bears kept },
+      is_wrap x r rows c.args.h.now hedge a low n letter node.entries node.looks node.bears c.put_node.new.outputs put.sets put.held us parted.count so head bears kept,
+    )

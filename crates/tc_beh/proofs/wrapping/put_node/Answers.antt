@@ -1,0 +1,30 @@
+use Rattle.std.proofs.Common.{◌≡◌, ◌≤◌, ◌+◌, ◌-◌, ◌*◌, length, ap, ◌∙◌, sym, subst, arith}
+use Rattle.tc_rules.specs.Kept.{told}
+use Rattle.tc_rules.specs.RulesView.{RulesView, move_count, select_count}
+use Rattle.tc_rows.specs.Triples.{Triple, looks, moves, entries, ancestors}
+use Rattle.tc_beh.proofs.Together.{on_ok_map}
+use Rattle.tc_beh.proofs.Wrapped.{node_row}
+use Rattle.tc_beh.proofs.wrapping.put_node.Goals as goal
+
+pub returns-clause-row : goal.returns-clause-row
+returns-clause-row c = on_ok_map c.put_entries-put.result _ _ (λ comes x ok room.
+    let n = c.args.node in
+    let rules = ok.machine.parts.are_rules in
+    let found = c.put_looks.ensures in
+    node_row x c.args.outputs.now c.put_entries-put.new.outputs n c.put_looks.new.out.numbers.items c.put_entries-put.new.out.numbers.items c.args.out.now.flags c.args.out.now.entries c.put_looks.new.out.flags c.put_looks.new.out.entries
+    room.flags room.entries found.beside.flags found.beside.entries (comes x ok) c.put_entries-put.ensures.others
+    (λ k s st. found.looks x k s rules ok.node.letter st) (λ i l. found.few x i rules l)) c.put_entries-put.ensures.comes
+
+pub put_looks-requires-clause-room : goal.put_looks-requires-clause-room
+put_looks-requires-clause-room c = λ y rules.
+    let (x, ok, room) = c.requires.room in
+    let same : looks y ≡ looks x = ap (λ (t : RulesView). select_count t - move_count t) (sym rules.told ∙ ok.machine.parts.are_rules.told) in
+    omega (arith, same, room.flags, room.entries, room.count)
+
+pub put_entries-put-requires-clause-room : goal.put_entries-put-requires-clause-room
+put_entries-put-requires-clause-room c =
+    let (x, ok, room) = c.requires.room in
+    let r = c.args.machine.now.rules in
+    let same : length (told r).ancestors.states ≡ ancestors x = ap (λ (t : RulesView). length t.ancestors.states) ok.machine.parts.are_rules.told in
+    let count : move_count (told r) ≡ moves x = ap move_count ok.machine.parts.are_rules.told in
+    (λ i. same i * count i) ∙ sym (c.put_looks.ensures.beside.entries ∙ room.entries)

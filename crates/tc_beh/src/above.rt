@@ -1,0 +1,113 @@
+// What a state of a move above a node puts out on the node and below it.
+ghost use Rattle.std.specs.Prelude.{◌≡◌, ◌≤◌, ◌<◌, ◌+◌, ℕ, length, All};
+ghost use Rattle.tc_model.specs.Letters as letters;
+ghost use Rattle.tc_model.specs.Letters.{of_symbol};
+ghost use Rattle.tc_rules.specs.Asked as asked;
+ghost use Rattle.tc_rules.specs.Kept.{told};
+ghost use Rattle.tc_rules.specs.RulesView.{move_count};
+ghost use Rattle.tc_rules.specs.States.{Going};
+ghost use Rattle.tc_rules.specs.Tasks.{IsMoveAt};
+ghost use Rattle.tc_rows.specs.Triples.{Triple, predicates, number_below, moving};
+ghost use Rattle.tc_rows.specs.Arithmetic.{hit_pairs, pairs_from, step};
+ghost use Rattle.tc_beh.specs.Above.{letter_of, node_of, pairs_at};
+ghost use Rattle.tc_beh.specs.Places.{IsPlace, IsPlaceIn, AreSpare, kind_of, below_of, size_at, entries_by};
+ghost use Rattle.tc_beh.specs.Putting.{Extends};
+ghost use Rattle.tc_beh.specs.Templates.{depth_of_sheet, AreCalled};
+
+use crate::bodies::{Place, put_entry};
+use crate::templates::{put_template, template_for};
+use tc_alpha::Sym;
+use tc_mat::Mat;
+use tc_rules::{Kind, Marks};
+
+/// The letter of a node that isn't the root: what it is, and the predicates that hold on it.
+#[derive(Clone, Copy)]
+pub(crate) struct Letter {
+    pub(crate) kind: Kind,
+    pub(crate) marks: Marks,
+}
+
+/// Puts what a state of a move puts out on a node, if the state hits it. The ancestor state is that above the node.
+fn put_hit(
+    place: &Place<'_, '_>,
+    letter: Letter,
+    ancestor: u32,
+    state: u32,
+    out: &mut Mat,
+    spare: &mut [Mat],
+)
+    requires place { IsPlace place.now }
+    requires node { kind_of place.now.node ≡ node_of (letter_of letter).kind }
+    requires letter { (x : Triple) × IsPlaceIn x place.now × letters.IsLetter x.symbols (predicates x) (letter_of letter) }
+    requires ancestor { ancestor < length (told place.now.rules.now).ancestors.states }
+    requires state { state < move_count (told place.now.rules.now) }
+    requires out { out.old.size ≡ size_at place.now }
+    requires spare { AreSpare out.old.size (depth_of_sheet (told place.now.rules.now).sheet + 2) spare.old }
+    requires few { length spare.old ≤ 8002 }
+    ensures size { out.new.size ≡ out.old.size }
+    ensures spare { All (λ m. m.size ≡ out.old.size) spare.new }
+    ensures pairs { (x : Triple) (g : Going) → IsPlaceIn x place.now → AreCalled x place.now → letters.IsLetter x.symbols (predicates x) (letter_of letter) → IsMoveAt x.rules state g
+        → Extends out.old out.new (hit_pairs x g ancestor (letter_of letter) (kind_of place.now.node) (below_of x place.now)) }
+{
+    if !place.rules.sel_hits(state, letter.kind, letter.marks) {
+        return;
+    }
+    let job = place.rules.mode_of(state);
+    let template = template_for(place.rules, job, ancestor, letter.kind, letter.marks);
+    put_template(place, template, out, spare)
+}
+
+/// Puts what a state of a move above an element puts out below it.
+fn put_further(
+    place: &Place<'_, '_>,
+    sym: Sym,
+    marks: Marks,
+    state: u32,
+    out: &mut Mat,
+    spare: &mut [Mat],
+)
+    requires place { IsPlace place.now }
+    requires node { kind_of place.now.node ≡ node_of (of_symbol sym.0) }
+    requires letter { (x : Triple) × IsPlaceIn x place.now × letters.IsLetter x.symbols (predicates x) (asked.letter (Kind.Elem sym) marks) }
+    requires state { state < move_count (told place.now.rules.now) }
+    requires out { out.old.size ≡ size_at place.now }
+    requires spare { AreSpare out.old.size 1 spare.old }
+    ensures size { out.new.size ≡ out.old.size }
+    ensures spare { All (λ m. m.size ≡ out.old.size) spare.new }
+    ensures pairs { (x : Triple) (g : Going) (at : IsMoveAt x.rules state g) → IsPlaceIn x place.now → letters.IsLetter x.symbols (predicates x) (asked.letter (Kind.Elem sym) marks)
+        → Extends out.old out.new (pairs_from x (entries_by place.now.outputs.now.matrices place.now.entries.now) place.now.above (moving at.mode g.path (step x g.path g.state (asked.letter (Kind.Elem sym) marks)))) }
+{
+    match place.rules.sel_step(state, sym, marks) {
+        None => {}
+        Some(next) => put_entry(place, next, out, spare),
+    }
+}
+
+/// Puts what a state of a move above a node puts out on it and then below it. The ancestor state is that above the node.
+pub(crate) fn put_entry_above(
+    place: &Place<'_, '_>,
+    letter: Letter,
+    ancestor: u32,
+    state: u32,
+    out: &mut Mat,
+    spare: &mut [Mat],
+)
+    requires place { IsPlace place.now }
+    requires node { kind_of place.now.node ≡ node_of (letter_of letter).kind }
+    requires letter { (x : Triple) × IsPlaceIn x place.now × letters.IsLetter x.symbols (predicates x) (letter_of letter) }
+    requires ancestor { ancestor < length (told place.now.rules.now).ancestors.states }
+    requires state { state < move_count (told place.now.rules.now) }
+    requires out { out.old.size ≡ size_at place.now }
+    requires spare { AreSpare out.old.size (depth_of_sheet (told place.now.rules.now).sheet + 2) spare.old }
+    requires few { length spare.old ≤ 8002 }
+    ensures size { out.new.size ≡ out.old.size }
+    ensures spare { All (λ m. m.size ≡ out.old.size) spare.new }
+    ensures pairs { (x : Triple) (g : Going) (at : IsMoveAt x.rules state g) → IsPlaceIn x place.now → AreCalled x place.now → letters.IsLetter x.symbols (predicates x) (letter_of letter)
+        → Extends out.old out.new (pairs_at x place.now.bears (entries_by place.now.outputs.now.matrices place.now.entries.now) place.now.looks.now ancestor place.now.above at.mode g letter.marks.0 (letter_of letter).kind) }
+{
+    put_hit(place, letter, ancestor, state, out, spare);
+    match letter.kind {
+        Kind::Elem(sym) => put_further(place, sym, letter.marks, state, out, spare),
+        Kind::Text => {}
+    }
+}

@@ -1,0 +1,204 @@
+// The entries of a node, worked out from what stands below it: for each ancestor state above it, and in it for each state of a
+// move, where what is put out on the node and below it leads the output.
+ghost use Rattle.std.specs.Prelude.{◌≡◌, ◌<◌, ◌≤◌, ◌+◌, ◌*◌, ◌⊎◌, ℕ, List, length, get_or, OnOk, OnErr, true, false, All};
+ghost use Rattle.std.specs.Result.{IsErrOf};
+ghost use Rattle.tc_mat.specs.Matrix.{IsMatrix};
+ghost use Rattle.tc_mat.specs.Held.{Held};
+ghost use Rattle.tc_model.specs.Letters.{IsLetter};
+ghost use Rattle.tc_rules.specs.Asked as asked;
+ghost use Rattle.tc_rules.specs.Kept.{told};
+ghost use Rattle.tc_rules.specs.RulesView.{move_count};
+ghost use Rattle.tc_rows.specs.Triples.{Triple, predicates, moves as moves_of};
+ghost use Rattle.tc_beh.specs.Above.{letter_of, node_of};
+ghost use Rattle.tc_beh.specs.Entries.{AreGrounds, AreSomeGrounds, AreCalledOn, IsUnder, IsMadeOf, IsEntryAt, Comes, ComesPartly};
+ghost use Rattle.tc_beh.specs.Held.{Extends};
+ghost use Rattle.tc_beh.specs.Places.{kind_of, entries_by};
+ghost use Rattle.tc_beh.specs.Rooms.{output_at};
+ghost use Rattle.tc_beh.specs.RoomsOf.{IsRoomBeside};
+ghost use Rattle.tc_beh.specs.RowsOf.{IsWork};
+ghost use Rattle.tc_beh.specs.Stands.{IsRulesIn};
+
+use crate::above::{Letter, put_entry_above};
+use crate::bodies::{At, Place, entry_place};
+use crate::machine::Machine;
+use crate::named::put_named;
+use crate::outputs::{RowFault, keep};
+use crate::rooms::Room;
+use crate::rows::Work;
+use crate::sets::put_identity;
+use tc_mat::{Mat, Pool};
+use tc_rules::{Kind, Rules};
+
+/// A node that isn't the root: its letter, and what stands below it.
+#[derive(Clone, Copy)]
+pub(crate) struct Node<'a> {
+    pub(crate) letter: Letter,
+    /// Whether a text stands in it, at some depth.
+    pub(crate) bears: bool,
+    pub(crate) entries: &'a [u32],
+    pub(crate) looks: &'a [u32],
+}
+
+/// What a node of a letter is.
+fn node_at(kind: Kind) -> At
+    ensures { kind_of result ≡ node_of (asked.kind kind) }
+{
+    match kind {
+        Kind::Elem(sym) => At::Elem(sym),
+        Kind::Text => At::Text,
+    }
+}
+
+/// The node as bodies see it, for an ancestor state below it.
+fn place_of<'a, 'b>(
+    machine: &'a Machine<'b>,
+    outputs: &'a Pool,
+    text: &'a Mat,
+    named: &'a [Mat],
+    node: Node<'a>,
+    above: u32,
+) -> Place<'a, 'b>
+    ensures { IsMadeOf machine.now outputs.now text.now named.now node.entry above result }
+{
+    let _held = outputs.len();
+    Place {
+        rules: &machine.rules,
+        output: &machine.output,
+        alphabet: &machine.alphabet,
+        outputs,
+        text,
+        named,
+        node: node_at(node.letter.kind),
+        bears: node.bears,
+        entries: node.entries,
+        looks: node.looks,
+        above,
+    }
+}
+
+/// The ancestor state below a node of a letter.
+fn state_below(rules: &Rules<'_>, letter: Letter, ancestor: u32) -> u32
+    requires ancestor { ancestor < length (told rules.now).ancestors.states }
+    requires letter { (x : Triple) × IsRulesIn x rules.now × IsLetter x.symbols (predicates x) (letter_of letter) }
+    ensures low { result < length (told rules.now).ancestors.states }
+    ensures under { (x : Triple) → IsRulesIn x rules.now → IsLetter x.symbols (predicates x) (letter_of letter) → IsUnder x (letter_of letter) ancestor result }
+{
+    match letter.kind {
+        Kind::Elem(sym) => rules.anc_step(ancestor, sym, letter.marks),
+        Kind::Text => ancestor,
+    }
+}
+
+/// Works out the sets of the bodies of named templates on a node.
+fn put_named_on(machine: &Machine<'_>, outputs: &Pool, work: &mut Work, node: Node<'_>, above: u32)
+    requires grounds { AreSomeGrounds machine.now outputs.now work.old node }
+    requires above { above < length (told machine.now.rules).ancestors.states }
+    ensures work { (x : Triple) → AreGrounds x machine.now outputs.now work.old node.entry → IsWork x machine.now.depth work.new }
+    ensures called { (x : Triple) → AreGrounds x machine.now outputs.now work.old node.entry → AreCalledOn x outputs.now node.entry above work.new.named.items }
+{
+    let place = place_of(machine, outputs, &work.text, &[], node, above);
+    put_named(
+        &place,
+        machine.order.as_slice(),
+        work.named.as_mut_slice(),
+        &mut work.set,
+        work.spare.as_mut_slice(),
+    );
+}
+
+/// Works out what a state of a move above puts out on a node and then below it.
+fn put_entry_of(
+    machine: &Machine<'_>,
+    outputs: &Pool,
+    work: &mut Work,
+    node: Node<'_>,
+    ancestor: u32,
+    above: u32,
+    state: u32,
+)
+    requires grounds { AreSomeGrounds machine.now outputs.now work.old node }
+    requires ancestor { ancestor < length (told machine.now.rules).ancestors.states }
+    requires state { state < move_count (told machine.now.rules) }
+    requires above { above < length (told machine.now.rules).ancestors.states }
+    ensures work { (x : Triple) → AreGrounds x machine.now outputs.now work.old node.entry → IsWork x machine.now.depth work.new }
+    ensures named { work.new.named.items ≡ work.old.named.items }
+    ensures matrix { IsMatrix work.new.set }
+    ensures entry { (x : Triple) → AreGrounds x machine.now outputs.now work.old node.entry → IsUnder x (letter_of node.entry.letter) ancestor above → AreCalledOn x outputs.now node.entry above work.old.named.items
+        → IsEntryAt x (entries_by outputs.now.matrices node.entry.entries.now) node.entry (ancestor * moves_of x + state) work.new.set }
+{
+    put_identity(&mut work.set);
+    let named = work.named.as_slice();
+    let place = place_of(machine, outputs, &work.text, named, node, above);
+    let spare = work.spare.as_mut_slice();
+    put_entry_above(&place, node.letter, ancestor, state, &mut work.set, spare);
+    let _size = work.set.size();
+}
+
+/// Leaves the entries of a node for one ancestor state above it.
+fn put_row(
+    machine: &Machine<'_>,
+    outputs: &mut Pool,
+    is_fixed: bool,
+    work: &mut Work,
+    node: Node<'_>,
+    ancestor: u32,
+    out: &mut Room,
+) -> Result<(), RowFault>
+    requires grounds { AreSomeGrounds machine.now outputs.old work.old node }
+    requires ancestor { ancestor < length (told machine.now.rules).ancestors.states }
+    requires room { (ancestor + 1) * move_count (told machine.now.rules) ≤ out.old.entries }
+    ensures work { (x : Triple) → AreGrounds x machine.now outputs.old work.old node.entry → IsWork x machine.now.depth work.new }
+    ensures beside { IsRoomBeside out.old out.new }
+    ensures others { (k : ℕ) → (k < 2 + out.old.flags) ⊎ (2 + out.old.flags + out.old.entries ≤ k) → get_or out.new.numbers.items k 0 ≡ get_or out.old.numbers.items k 0 }
+    ensures held { Extends outputs.old outputs.new }
+    ensures comes { OnOk result ((x : Triple) (es : List (List (ℕ × ℕ))) (begun : Held) → AreGrounds x machine.now outputs.old work.old node.entry → es ≡ entries_by outputs.old.matrices node.entry.entries.now
+        → Comes x es node.entry begun outputs.old (output_at out.old.flags out.old.numbers.items) (ancestor * moves_of x)
+        → Comes x es node.entry begun outputs.new (output_at out.old.flags out.new.numbers.items) (ancestor * moves_of x + moves_of x)) }
+    ensures partly { OnErr result ((x : Triple) (es : List (List (ℕ × ℕ))) (begun : Held) → AreGrounds x machine.now outputs.old work.old node.entry → es ≡ entries_by outputs.old.matrices node.entry.entries.now
+        → Comes x es node.entry begun outputs.old (output_at out.old.flags out.old.numbers.items) (ancestor * moves_of x)
+        → ComesPartly x es node.entry begun outputs.new) }
+    ensures fixed { is_fixed ≡ true → outputs.new ≡ outputs.old }
+    ensures full { IsErrOf result RowFault.TooManyOutputs → (is_fixed ≡ false) × (length outputs.new.matrices ≡ 65536) }
+    ensures fresh { IsErrOf result RowFault.NewOutput → is_fixed ≡ true }
+    ensures memory { IsErrOf result RowFault.NoMemory → is_fixed ≡ false }
+{
+    let above = state_below(&machine.rules, node.letter, ancestor);
+    put_named_on(machine, outputs, work, node, above);
+    let moves = machine.rules.moves();
+    for state in 0..moves {
+        put_entry_of(machine, outputs, work, node, ancestor, above, state);
+        let number = keep(outputs, is_fixed, &work.set)?;
+        out.set_output(entry_place(ancestor, moves, state), number);
+    }
+    Ok(())
+}
+
+/// Leaves the numbers of the entries of a node.
+pub(crate) fn put_entries(
+    machine: &Machine<'_>,
+    outputs: &mut Pool,
+    is_fixed: bool,
+    work: &mut Work,
+    node: Node<'_>,
+    out: &mut Room,
+) -> Result<(), RowFault>
+    requires grounds { AreSomeGrounds machine.now outputs.old work.old node }
+    requires room { length (told machine.now.rules).ancestors.states * move_count (told machine.now.rules) ≡ out.old.entries }
+    ensures work { (x : Triple) → AreGrounds x machine.now outputs.old work.old node.entry → IsWork x machine.now.depth work.new }
+    ensures beside { IsRoomBeside out.old out.new }
+    ensures others { (k : ℕ) → (k < 2 + out.old.flags) ⊎ (2 + out.old.flags + out.old.entries ≤ k) → get_or out.new.numbers.items k 0 ≡ get_or out.old.numbers.items k 0 }
+    ensures held { Extends outputs.old outputs.new }
+    ensures comes { OnOk result ((x : Triple) → AreGrounds x machine.now outputs.old work.old node.entry
+        → Comes x (entries_by outputs.old.matrices node.entry.entries.now) node.entry outputs.old outputs.new (output_at out.old.flags out.new.numbers.items) out.old.entries) }
+    ensures partly { OnErr result ((x : Triple) → AreGrounds x machine.now outputs.old work.old node.entry
+        → ComesPartly x (entries_by outputs.old.matrices node.entry.entries.now) node.entry outputs.old outputs.new) }
+    ensures fixed { is_fixed ≡ true → outputs.new ≡ outputs.old }
+    ensures full { IsErrOf result RowFault.TooManyOutputs → (is_fixed ≡ false) × (length outputs.new.matrices ≡ 65536) }
+    ensures fresh { IsErrOf result RowFault.NewOutput → is_fixed ≡ true }
+    ensures memory { IsErrOf result RowFault.NoMemory → is_fixed ≡ false }
+{
+    for ancestor in 0..machine.rules.ancestors() {
+        put_row(machine, outputs, is_fixed, work, node, ancestor, out)?;
+    }
+    Ok(())
+}

@@ -1,0 +1,104 @@
+// What is held as lists of pairs, and lists of pairs as what is held.
+ghost use Rattle.std.specs.Prelude.{◌≡◌, ◌<◌, ◌≤◌, ◌++◌, ◌∷◌, [], ℕ, length, All, IfOk, OnOk};
+ghost use Rattle.std.specs.List.{Contains};
+ghost use Rattle.tc_mat.specs.Matrix.{IsMatrix};
+ghost use Rattle.tc_mat.specs.Held.{IsHeld};
+ghost use Rattle.tc_rows.specs.PairSets.{IsPairs};
+ghost use Rattle.tc_beh.specs.Places.{pairs_of as list_of};
+ghost use Rattle.tc_beh.specs.Outs.{sets_of};
+ghost use Rattle.tc_beh.specs.Listing.{row_pairs, AreDistinct, HasPairs};
+
+use std::alloc::Global;
+use tc_base::NoMemory;
+use tc_mat::{Mat, MatId, Pool};
+use tc_model::{PairLists, Pairs};
+
+/// Leaves these pairs.
+fn put_pairs(set: &mut Mat, pairs: &Pairs)
+    requires { (i j : ℕ) → Contains pairs.now (i, j) → (i < set.old.size) × (j < set.old.size) }
+    ensures size { set.new.size ≡ set.old.size }
+    ensures matrix { IsMatrix set.new }
+    ensures pairs { HasPairs set.new pairs.now }
+{
+    set.clear();
+    for place in 0..pairs.len() {
+        let (from, to) = *pairs.get(place);
+        set.set(from, to);
+    }
+}
+
+/// Holds one set more.
+fn hold(outputs: &mut Pool, set: &Mat) -> Result<(), NoMemory>
+    requires size { set.now.size ≡ outputs.old.size }
+    requires absent { ¬ IsHeld outputs.old set.now }
+    requires few { length outputs.old.matrices < 65536 }
+    ensures { OnOk result (outputs.new ≡ record outputs.old { matrices = outputs.old.matrices ++ set.now ∷ [] }) }
+{
+    match outputs.intern(set) {
+        Ok(_) => Ok(()),
+        Err(_) => Err(NoMemory),
+    }
+}
+
+/// Sets of these pairs, each with its place as its number.
+pub(crate) fn pool_of(alloc: Global, size: u32, lists: &PairLists) -> Result<Pool, NoMemory>
+    requires few { length lists.now ≤ 65536 }
+    requires distinct { AreDistinct lists.now }
+    requires pairs { All (IsPairs size) lists.now }
+    ensures size { IfOk result (λ p. p.size ≡ size) }
+    ensures sets { IfOk result (λ p. sets_of p.matrices ≡ lists.now) }
+{
+    let mut outputs = Pool::new(alloc, size);
+    let mut set = Mat::zero(alloc, size)?;
+    for number in 0..lists.len() {
+        put_pairs(&mut set, lists.get(number));
+        hold(&mut outputs, &set)?;
+    }
+    Ok(outputs)
+}
+
+/// Puts a pair at the end.
+fn push_pair(pairs: &mut Pairs, pair: (u32, u32)) -> Result<(), NoMemory>
+    ensures { OnOk result (pairs.new ≡ pairs.old ++ pair ∷ []) }
+{
+    if pairs.len() == u32::MAX {
+        return Err(NoMemory);
+    }
+    pairs.push(pair)
+}
+
+/// Puts the pairs of a set from one number at the end, in order.
+fn put_row(set: &Mat, from: u32, pairs: &mut Pairs) -> Result<(), NoMemory>
+    requires { from < set.now.size }
+    ensures { OnOk result (pairs.new ≡ pairs.old ++ row_pairs set.now from set.now.size) }
+{
+    for to in 0..set.size() {
+        if set.has(from, to) {
+            push_pair(pairs, (from, to))?;
+        }
+    }
+    Ok(())
+}
+
+/// The pairs of a set, in order.
+fn pairs_of(alloc: Global, set: &Mat) -> Result<Pairs, NoMemory>
+    ensures { IfOk result (λ l. l ≡ list_of set.now) }
+{
+    let mut pairs = Pairs::new(alloc);
+    for from in 0..set.size() {
+        put_row(set, from, &mut pairs)?;
+    }
+    Ok(pairs)
+}
+
+/// The pairs of the sets of a pool, by their numbers.
+pub(crate) fn lists_of(alloc: Global, outputs: &Pool) -> Result<PairLists, NoMemory>
+    ensures { IfOk result (λ l. l ≡ sets_of outputs.now.matrices) }
+{
+    let mut lists = PairLists::new(alloc);
+    for number in 0..outputs.len() {
+        let pairs = pairs_of(alloc, outputs.get(MatId(number)))?;
+        lists.push(pairs)?;
+    }
+    Ok(lists)
+}

@@ -1,0 +1,152 @@
+// Whether a stylesheet is safe between two schemas, and a least counterexample where it isn't.
+ghost use Rattle.std.specs.Prelude.{◌≡◌, ◌≤◌, IfOk, IfErr, OnOk};
+ghost use Rattle.tc_beh.specs.Machines.{IsMachine, IsMachineOf};
+ghost use Rattle.tc_close.specs.Decisions.{IsDecided, IsCloseCause};
+ghost use Rattle.tc_close.specs.RowState.{held_of, IsFull};
+ghost use Rattle.tc_rows.specs.Triples.{Triple};
+ghost use Rattle.tc_settle.specs.Closed.{IsClosure, IsCause};
+
+use crate::held::HeldRows;
+use crate::over::Over;
+use bumpalo::Bump;
+use std::alloc::Global;
+use std::marker::Brand;
+use tc_alpha::Alphabet;
+use tc_base::NoMemory;
+use tc_beh::Machine;
+use tc_model::Node;
+use tc_settle::{BuildFault, CloseFault as Unsettled, Closed, build, close, first_failing};
+
+/// How many rows there are.
+#[derive(Clone, Copy, Debug, PartialEq, Eq)]
+pub struct Counts {
+    /// Rows of live trees.
+    pub trees: u32,
+    /// Rows of live lists of trees, that of no tree included.
+    pub hedges: u32,
+    /// Sets of pairs of states of the output in these rows.
+    pub outputs: u32,
+}
+
+/// What is told of a stylesheet between two schemas.
+#[derive(Clone, Copy)]
+pub enum Decision<'b> {
+    /// Every valid document is made into a valid one.
+    Safe(Counts),
+    /// A valid document with a result that isn't valid, of the fewest nodes.
+    Unsafe(Node<'b>),
+    /// There are valid documents with results that aren't valid, and all have more than 2,000 nodes.
+    TooManyNodes,
+}
+
+/// Why nothing is told. Of limits that are passed any is named.
+#[derive(Clone, Copy, Debug, PartialEq, Eq)]
+pub enum CloseFault {
+    /// There are more rows of live trees than were allowed.
+    TooManyTrees,
+    /// There are more rows of live lists of trees than were allowed.
+    TooManyHedges,
+    /// There are more than 65,536 sets of pairs in these rows.
+    TooManyOutputs,
+    /// Memory was refused.
+    NoMemory,
+}
+
+impl From<NoMemory> for CloseFault {
+    ghost use Rattle.tc_close.specs.declared.decision.CloseFault.TheVariants.{NoMemory};
+
+    ghost from_gives = { λ _ e. e ≡ NoMemory };
+
+    fn from(_error: NoMemory) -> CloseFault {
+        CloseFault::NoMemory
+    }
+}
+
+/// Which count passes its limit, where rows came to no end.
+fn close_fault<K: Over>(rows: &HeldRows<'_, '_, K>, most: u32, fault: Unsettled) -> CloseFault
+    requires { IsCause (IsFull K.is_of rows.now) most (held_of K.is_of rows.now) fault }
+    ensures { (x : Triple) → K.is_of x → IsCloseCause x most result }
+{
+    let _outputs = rows.output_count();
+    match fault {
+        Unsettled::TooManyTrees => CloseFault::TooManyTrees,
+        Unsettled::TooManyHedges => CloseFault::TooManyHedges,
+        Unsettled::Full => CloseFault::TooManyOutputs,
+        Unsettled::NoMemory => CloseFault::NoMemory,
+    }
+}
+
+/// What all rows tell.
+fn verdict<'b, K: Over>(
+    arena: &'b Bump,
+    alphabet: &Alphabet,
+    rows: &mut HeldRows<'_, 'b, K>,
+    closed: &Closed,
+    most: u32,
+) -> Result<Decision<'b>, NoMemory>
+    requires alphabet { (x : Triple) → K.is_of x → alphabet.now ≡ x.symbols }
+    requires closure { IsClosure (held_of K.is_of rows.old) closed.now }
+    requires trees { (held_of K.is_of rows.old).trees ≤ most }
+    requires hedges { (held_of K.is_of rows.old).hedges ≤ most }
+    ensures { IfOk result (λ d. (x : Triple) → K.is_of x → IsDecided x most d) }
+{
+    let counts = Counts {
+        trees: rows.tree_count(),
+        hedges: rows.hedge_count(),
+        outputs: rows.output_count(),
+    };
+    if !rows.is_whole() {
+        return Err(NoMemory);
+    }
+    let Some(tree) = first_failing(rows, closed) else {
+        return Ok(Decision::Safe(counts));
+    };
+    let _outputs = rows.output_count();
+    match build(arena, alphabet, rows, closed, tree) {
+        Ok(node) => Ok(Decision::Unsafe(node)),
+        Err(BuildFault::TooManyNodes) => Ok(Decision::TooManyNodes),
+        Err(BuildFault::NoMemory) => Err(NoMemory),
+    }
+}
+
+/// The decision over some triples that a machine stands for.
+fn decide_over<'b, K: Over>(
+    arena: &'b Bump,
+    alloc: Global,
+    machine: &Machine<'b>,
+    most: u32,
+) -> Result<Decision<'b>, CloseFault>
+    requires some { (x : Triple) × K.is_of x }
+    requires machine { (x : Triple) → K.is_of x → IsMachineOf x machine.now }
+    requires most { most ≤ 4000 }
+    ensures decision { IfOk result (λ d. (x : Triple) → K.is_of x → IsDecided x most d) }
+    ensures cause { IfErr result (λ e. (x : Triple) → K.is_of x → IsCloseCause x most e) }
+{
+    let mut rows = HeldRows::<K>::new(alloc, machine)?;
+    match close(alloc, &mut rows, most) {
+        Ok(closed) => match verdict(arena, machine.alphabet(), &mut rows, &closed, most) {
+            Ok(decision) => Ok(decision),
+            Err(NoMemory) => Err(CloseFault::NoMemory),
+        },
+        Err(fault) => Err(close_fault(&rows, most, fault)),
+    }
+}
+
+/// Decides whether a stylesheet is safe between two schemas, with at most so many rows of trees, and of lists of trees.
+///
+/// # Errors
+///
+/// A count passes its limit, or memory is refused.
+pub fn decide<'b>(
+    arena: &'b Bump,
+    alloc: Global,
+    machine: &Machine<'b>,
+    most: u32,
+) -> Result<Decision<'b>, CloseFault>
+    requires machine { IsMachine machine.now }
+    requires most { most ≤ 4000 }
+    ensures decision { IfOk result (λ d. (x : Triple) → IsMachineOf x machine.now → IsDecided x most d) }
+    ensures cause { IfErr result (λ e. (x : Triple) → IsMachineOf x machine.now → IsCloseCause x most e) }
+{
+    decide_over::<Brand>(arena, alloc, machine, most)
+}

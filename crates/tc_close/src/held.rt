@@ -1,0 +1,196 @@
+// Rows over a machine, held by their numbers.
+ghost use Rattle.std.specs.Prelude.{◌≡◌, ◌≤◌, [], length, IfOk, true};
+ghost use Rattle.tc_beh.specs.Machines.{IsMachineOf};
+ghost use Rattle.tc_close.specs.RowState.{Known};
+ghost use Rattle.tc_rows.specs.Triples.{Triple};
+
+use crate::lists::Lists;
+use crate::over::Over;
+use crate::rooms::Rooms;
+use std::alloc::Global;
+use std::marker::{Model, PhantomData};
+use tc_alpha::Sym;
+use tc_base::NoMemory;
+use tc_beh::{Machine, RowFault, Rows};
+use tc_settle::{HoldFault, NumberedRows};
+
+/// Rows over a machine, each held once and known by its number. Once a row is refused, no further one is held.
+#[derive(Drop)]
+pub(crate) struct HeldRows<'m, 'b, K: Over> {
+    rows: Rows<'m, 'b>,
+    hedges: Lists,
+    trees: Lists,
+    rooms: Rooms,
+    /// No row was refused.
+    is_whole: bool,
+    over: PhantomData<K>,
+}
+
+impl<'m, 'b, K: Over> Model for HeldRows<'m, 'b, K> {
+    ghost use Rattle.tc_close.specs.RowState.{RowState};
+    ghost use Rattle.tc_close.specs.HeldRows.{AreHeld, state_of};
+
+    ghost Value = { RowState };
+
+    ghost view = { λ p. state_of p.rows p.hedges p.trees p.is_whole };
+
+    ghost invariant = { λ p. AreHeld K.is_of p.rows (state_of p.rows p.hedges p.trees p.is_whole) p.rooms };
+}
+
+/// Why a row can't be held.
+fn hold_fault(fault: RowFault) -> HoldFault
+    ensures { result ≡ HoldFault.Full → fault ≡ RowFault.TooManyOutputs }
+{
+    match fault {
+        RowFault::TooManyOutputs => HoldFault::Full,
+        RowFault::NewOutput | RowFault::NoMemory => HoldFault::NoMemory,
+    }
+}
+
+impl<'m, 'b, K: Over> HeldRows<'m, 'b, K> {
+    /// No rows.
+    pub(crate) fn new(alloc: Global, machine: &'m Machine<'b>) -> Result<HeldRows<'m, 'b, K>, NoMemory>
+        requires some { (x : Triple) × K.is_of x }
+        requires machine { (x : Triple) → K.is_of x → IsMachineOf x machine.now }
+        ensures hedges { IfOk result (λ r. r.hedges ≡ []) }
+        ensures trees { IfOk result (λ r. r.trees ≡ []) }
+    {
+        let rows = Rows::new(alloc, machine)?;
+        let rooms = Rooms::new(alloc, machine)?;
+        Ok(HeldRows {
+            rows,
+            hedges: Lists::new(alloc),
+            trees: Lists::new(alloc),
+            rooms,
+            is_whole: true,
+            over: PhantomData,
+        })
+    }
+
+    /// How many sets of pairs stand in rows.
+    pub(crate) fn output_count(&self) -> u32
+        ensures count { result ≡ length self.now.outputs.matrices }
+        ensures known { Known K.is_of self.now }
+    {
+        let _hedges = self.hedges.count();
+        let _trees = self.trees.count();
+        self.rows.output_count()
+    }
+
+    /// How many rows of lists of trees are held.
+    pub(crate) fn hedge_count(&self) -> u32
+        ensures { result ≡ length self.now.hedges }
+    {
+        self.hedges.count()
+    }
+
+    /// How many rows of trees are held.
+    pub(crate) fn tree_count(&self) -> u32
+        ensures { result ≡ length self.now.trees }
+    {
+        self.trees.count()
+    }
+
+    /// Whether no row was refused.
+    pub(crate) fn is_whole(&self) -> bool
+        ensures { result ≡ self.now.is_whole }
+    {
+        self.is_whole
+    }
+}
+
+impl<'m, 'b, K: Over> NumberedRows for HeldRows<'m, 'b, K> {
+    ghost use Rattle.tc_close.specs.RowState.{held_of, IsFull};
+
+    ghost held = { held_of K.is_of };
+
+    ghost is_full = { IsFull K.is_of };
+
+    fn symbols(&self) -> u32 {
+        let _outputs = self.output_count();
+        self.rows.machine().alphabet().count()
+    }
+
+    fn none(&mut self) -> Result<u32, HoldFault> {
+        if !self.is_whole {
+            return Err(HoldFault::NoMemory);
+        }
+        self.is_whole = false;
+        if let Err(fault) = self.rows.empty_row(&mut self.rooms.new_hedge) {
+            return Err(hold_fault(fault));
+        }
+        let Ok(number) = self.hedges.keep(self.rooms.new_hedge.numbers()) else {
+            return Err(HoldFault::NoMemory);
+        };
+        self.is_whole = true;
+        Ok(number)
+    }
+
+    fn text(&mut self) -> Result<Option<u32>, HoldFault> {
+        if !self.is_whole {
+            return Err(HoldFault::NoMemory);
+        }
+        self.is_whole = false;
+        match self.rows.text_row(&mut self.rooms.new_tree) {
+            Ok(true) => {}
+            Ok(false) => {
+                self.is_whole = true;
+                return Ok(None);
+            }
+            Err(fault) => return Err(hold_fault(fault)),
+        }
+        let Ok(number) = self.trees.keep(self.rooms.new_tree.numbers()) else {
+            return Err(HoldFault::NoMemory);
+        };
+        self.is_whole = true;
+        Ok(Some(number))
+    }
+
+    fn append(&mut self, hedge: u32, tree: u32) -> Result<Option<u32>, HoldFault> {
+        if !self.is_whole {
+            return Err(HoldFault::NoMemory);
+        }
+        self.is_whole = false;
+        self.rooms.hedge.load(self.hedges.get(hedge));
+        self.rooms.tree.load(self.trees.get(tree));
+        match self.rows.append(&self.rooms.hedge, &self.rooms.tree, &mut self.rooms.new_hedge) {
+            Ok(true) => {}
+            Ok(false) => {
+                self.is_whole = true;
+                return Ok(None);
+            }
+            Err(fault) => return Err(hold_fault(fault)),
+        }
+        let Ok(number) = self.hedges.keep(self.rooms.new_hedge.numbers()) else {
+            return Err(HoldFault::NoMemory);
+        };
+        self.is_whole = true;
+        Ok(Some(number))
+    }
+
+    fn wrap(&mut self, symbol: u32, hedge: u32) -> Result<Option<u32>, HoldFault> {
+        if !self.is_whole {
+            return Err(HoldFault::NoMemory);
+        }
+        self.is_whole = false;
+        self.rooms.hedge.load(self.hedges.get(hedge));
+        match self.rows.wrap(Sym(symbol), &self.rooms.hedge, &mut self.rooms.new_tree) {
+            Ok(true) => {}
+            Ok(false) => {
+                self.is_whole = true;
+                return Ok(None);
+            }
+            Err(fault) => return Err(hold_fault(fault)),
+        }
+        let Ok(number) = self.trees.keep(self.rooms.new_tree.numbers()) else {
+            return Err(HoldFault::NoMemory);
+        };
+        self.is_whole = true;
+        Ok(Some(number))
+    }
+
+    fn is_failing(&mut self, tree: u32) -> bool {
+        self.rooms.tree.load(self.trees.get(tree));
+        self.rows.admitted(&self.rooms.tree) && !self.rows.root_ok(&self.rooms.tree)
+    }
+}

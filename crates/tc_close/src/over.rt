@@ -1,0 +1,13 @@
+// Which triples rows stand for.
+use std::marker::Brand;
+
+/// Which triples rows stand for: a proof picks them where it knows the machine.
+pub(crate) trait Over: Drop {
+    ghost use Rattle.tc_rows.specs.Triples.{Triple};
+
+    ghost is_of: { Triple → Type 0 };
+}
+
+impl Over for Brand {
+    ghost is_of = { λ x. ⊥ };
+}

@@ -1,0 +1,13 @@
+pub mod Found
+pub mod Listed
+pub mod Taken
+pub mod Keys
+pub mod Made
+pub mod OneSchema
+pub mod SetsThere
+pub mod Lives
+pub mod One
+pub mod There
+pub mod AllLaws
+pub mod Derived
+pub mod Counting

@@ -1,0 +1,7 @@
+use Rattle.tc_model.specs.States.{input}
+use Rattle.tc_incl.proofs.Found.{text_led}
+use Rattle.tc_incl.proofs.sides.Side.after_text.Goals as goal
+
+pub returns-clause-numbers : goal.returns-clause-numbers
+returns-clause-numbers c = λ x st.
+    text_led x c.text_arrows.result.now c.args.states.now c.in_ok-next.next c.put_ends.new.ends (c.text_arrows.ensures.exact input x st) c.in_ok-next.ensures.numbers c.put_ends.ensures.numbers

@@ -1,0 +1,9 @@
+pub mod Schemas
+pub mod Rows
+pub mod Arithmetic
+pub mod Derivations
+pub mod Counts
+pub mod Laws
+pub mod Sets
+pub mod Sides
+pub mod Held

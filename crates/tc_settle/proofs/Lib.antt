@@ -1,0 +1,10 @@
+pub mod Begun
+pub mod Derived
+pub mod Far
+pub mod Going
+pub mod Grown
+pub mod Kept
+pub mod AtOneCost
+pub mod Lists
+pub mod Tried
+pub mod Whole

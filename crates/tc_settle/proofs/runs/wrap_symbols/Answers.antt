@@ -1,0 +1,22 @@
+use Rattle.std.proofs.Common.{◌+◌, inl, inr, ◌∙◌, sym, subst, arith}
+use Rattle.tc_settle.specs.Settled.{IsWrapDone}
+use Rattle.tc_settle.proofs.Kept.{below_or_last}
+use Rattle.tc_settle.proofs.Going.{steps_twice, wrap_done_stays}
+use Rattle.tc_settle.proofs.runs.wrap_symbols.Goals as goal
+
+pub loop-symbol-preserved : goal.loop-symbol-preserved
+loop-symbol-preserved g c =
+    let s = g.R.NumberedRows.held c.args.rows.now in
+    let r = g.R.NumberedRows.held c.loop-symbol.rows in
+    let q = g.R.NumberedRows.held c.try_wrap.new.rows in
+    let v = c.loop-symbol.invariant in
+    let e = c.in_ok-try_wrap.ensures in
+    record {
+      steps = steps_twice c.args.most c.args.cost s r q c.args.closed.now c.loop-symbol.closed c.try_wrap.new.closed v.steps e.steps;
+      hedges = e.hedges ∙ v.hedges;
+      done = λ a to. elim (below_or_last a c.loop-symbol.symbol (c.loop-symbol.symbol + 1) (omega arith) to) [
+        | inl low ↦ wrap_done_stays c.args.cost r q c.loop-symbol.closed c.try_wrap.new.closed e.steps.goes a c.args.hedge
+            (omega (arith, v.steps.goes.grows.symbols, c.loop-symbol-test.true, c.symbols-symbol-end.ensures.number, low)) (omega (arith, c.requires.hedge, v.steps.goes.grows.hedges)) (v.done a low)
+        | inr same ↦ subst (λ k. IsWrapDone q c.try_wrap.new.closed k c.args.hedge) (sym same) e.done
+      ];
+    }

@@ -1,0 +1,48 @@
+use Rattle.std.proofs.Common.{rules, ◌≡◌, subst, arith}
+use Rattle.tc_settle.specs.Held.{IsHeldAs, IsUnchanged, IsAppendAt}
+use Rattle.tc_settle.proofs.Tried.{all_derive, at_none, at_some, is_new, is_known, fault_cause, steps_unchanged, append_kept, append_steps}
+use Rattle.tc_settle.proofs.trying.try_append.Goals as goal
+
+pub returns-in_err-number-clause-cause : goal.returns-in_err-number-clause-cause
+returns-in_err-number-clause-cause g c =
+    let e = c.in_err-number.ensures in
+    let cause = fault_cause (g.R.NumberedRows.is_full c.append.new.self) c.args.most (g.R.NumberedRows.held c.args.rows.now) (g.R.NumberedRows.held c.append.new.self) c.args.closed.now c.in_err-number.field-0.0 c.requires.kept e.grows e.fault e.full in
+    let x = c.from_residual.ensures in
+    search (rules, cause, x)
+
+pub returns-in_default-clause-steps : goal.returns-in_default-clause-steps
+returns-in_default-clause-steps g c =
+    let s = g.R.NumberedRows.held c.args.rows.now in
+    let r = g.R.NumberedRows.held c.append.new.self in
+    let dead = at_none (r.no_append c.args.hedge c.args.tree × IsUnchanged s r) (λ u. IsAppendAt r c.args.hedge c.args.tree u × IsHeldAs s.hedges r.hedges u) c.in_ok-number.field-0 c.in_default.is c.in_ok-number.ensures.made in
+    steps_unchanged s r c.args.closed.now c.args.most c.args.cost c.in_ok-number.ensures.grows c.requires.kept c.requires.few c.requires.up_to dead.1
+
+pub returns-then-number-most-clause-cause : goal.returns-then-number-most-clause-cause
+returns-then-number-most-clause-cause g c =
+    let s = g.R.NumberedRows.held c.args.rows.now in
+    let r = g.R.NumberedRows.held c.append.new.self in
+    let found = at_some (r.no_append c.args.hedge c.args.tree × IsUnchanged s r) (λ u. IsAppendAt r c.args.hedge c.args.tree u × IsHeldAs s.hedges r.hedges u) c.in_ok-number.field-0 c.in-Some.number c.in-Some.is c.in_ok-number.ensures.made in
+    let last : c.in-Some.number ≡ s.hedges = omega (arith, c.if-number-len.true, c.len.ensures, c.requires.kept.hedge_count) in
+    let one = is_new s.hedges r.hedges c.in-Some.number found.1 last in
+    let kept = append_kept s r c.args.closed.now c.args.most c.args.cost c.in_ok-number.ensures.grows c.requires.kept c.requires.few c.requires.up_to c.keep_hedge.new.self c.args.hedge c.args.tree
+    c.requires.hedge c.requires.tree c.requires.cost c.in_ok-number.ensures.trees one c.in_ok-keep_hedge.ensures (subst (λ u. IsAppendAt r c.args.hedge c.args.tree u) last found.0) in
+    (omega (arith, one, last, c.if-number-most.true), all_derive r c.keep_hedge.new.self kept)
+
+pub returns-else-number-most-clause-steps : goal.returns-else-number-most-clause-steps
+returns-else-number-most-clause-steps g c =
+    let s = g.R.NumberedRows.held c.args.rows.now in
+    let r = g.R.NumberedRows.held c.append.new.self in
+    let found = at_some (r.no_append c.args.hedge c.args.tree × IsUnchanged s r) (λ u. IsAppendAt r c.args.hedge c.args.tree u × IsHeldAs s.hedges r.hedges u) c.in_ok-number.field-0 c.in-Some.number c.in-Some.is c.in_ok-number.ensures.made in
+    let last : c.in-Some.number ≡ s.hedges = omega (arith, c.if-number-len.true, c.len.ensures, c.requires.kept.hedge_count) in
+    let one = is_new s.hedges r.hedges c.in-Some.number found.1 last in
+    append_steps s r c.args.closed.now c.args.most c.args.cost c.in_ok-number.ensures.grows c.requires.kept c.requires.few c.requires.up_to c.keep_hedge.new.self c.args.hedge c.args.tree
+    c.requires.hedge c.requires.tree c.requires.cost c.in_ok-number.ensures.trees one c.in_ok-keep_hedge.ensures (subst (λ u. IsAppendAt r c.args.hedge c.args.tree u) last found.0)
+    (omega (arith, last, c.if-number-most.false))
+
+pub returns-else-number-len-clause-steps : goal.returns-else-number-len-clause-steps
+returns-else-number-len-clause-steps g c =
+    let s = g.R.NumberedRows.held c.args.rows.now in
+    let r = g.R.NumberedRows.held c.append.new.self in
+    let found = at_some (r.no_append c.args.hedge c.args.tree × IsUnchanged s r) (λ u. IsAppendAt r c.args.hedge c.args.tree u × IsHeldAs s.hedges r.hedges u) c.in_ok-number.field-0 c.in-Some.number c.in-Some.is c.in_ok-number.ensures.made in
+    let known = is_known s.hedges r.hedges c.in-Some.number found.1 (λ last. c.if-number-len.false (omega (arith, last, c.len.ensures, c.requires.kept.hedge_count))) in
+    steps_unchanged s r c.args.closed.now c.args.most c.args.cost c.in_ok-number.ensures.grows c.requires.kept c.requires.few c.requires.up_to (c.in_ok-number.ensures.trees, known.1)

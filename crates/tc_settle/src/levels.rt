@@ -1,0 +1,130 @@
+// All that is made of rows at one cost, and all that costs more than 2,000.
+ghost use Rattle.std.specs.Prelude.{◌≡◌, ◌<◌, ◌≤◌, ◌+◌, ℕ, IfErr, IfOk, OnOk, length};
+ghost use Rattle.tc_settle.specs.Closed.{IsCause, IsKept, hedge_cost, tree_cost};
+ghost use Rattle.tc_settle.specs.Settled.{AreDoneBelow, AreFew, AreRangesDone, AreUpTo, AreWrapsDone, IsFar, IsReady, IsWhole, Steps};
+
+use crate::closed::{CloseFault, Closed, push_start};
+use crate::rows::NumberedRows;
+use crate::runs::{append_level, append_trees, wrap_hedges, wrap_symbols};
+
+/// Costs from here on are one.
+pub(crate) const FAR: u32 = 2_001;
+
+/// Tries all that makes up a cost: elements around the lists of trees from a number on, which cost one less, and then
+/// lists of trees with a tree behind. Answers how many lists of trees were wrapped.
+pub(crate) fn level<R: NumberedRows>(
+    rows: &mut R,
+    closed: &mut Closed,
+    starts: &mut Vec<u32>,
+    wrapped: u32,
+    cost: u32,
+    most: u32,
+) -> Result<u32, CloseFault>
+    requires most { most < 4294967295 }
+    requires some { 1 ≤ cost }
+    requires near { cost ≤ 2000 }
+    requires ready { IsReady most cost (R.held rows.old) closed.old starts.old.items wrapped }
+    ensures ready { IfOk result (λ w. IsReady most (cost + 1) (R.held rows.new) closed.new starts.new.items w) }
+    ensures cause { IfErr result (λ e. IsCause (R.is_full rows.new) most (R.held rows.new) e) }
+{
+    let count = closed.hedge_count();
+    wrap_hedges(rows, closed, wrapped, count, cost, most)?;
+    push_start(starts, closed.tree_count())?;
+    append_level(rows, closed, starts.as_slice(), count, cost, most)?;
+    Ok(count)
+}
+
+/// Tries elements around a list of trees, where they cost more than 2,000.
+fn wrap_far<R: NumberedRows>(
+    rows: &mut R,
+    closed: &mut Closed,
+    hedge: u32,
+    most: u32,
+) -> Result<(), CloseFault>
+    requires most { most < 4294967295 }
+    requires kept { IsKept (R.held rows.old) closed.old }
+    requires few { AreFew (R.held rows.old) closed.old most }
+    requires up_to { AreUpTo (R.held rows.old) closed.old 2001 }
+    requires hedge { hedge < (R.held rows.old).hedges }
+    requires near { AreDoneBelow (R.held rows.old) closed.old 2001 }
+    ensures steps { OnOk result (Steps most 2001 (R.held rows.old) closed.old (R.held rows.new) closed.new) }
+    ensures hedges { OnOk result ((R.held rows.new).hedges ≡ (R.held rows.old).hedges) }
+    ensures done { OnOk result (AreWrapsDone (R.held rows.new) closed.new hedge) }
+    ensures cause { IfErr result (λ e. IsCause (R.is_full rows.new) most (R.held rows.new) e) }
+{
+    if closed.hedge_costs[hedge as usize] + 1 < FAR {
+        return Ok(());
+    }
+    wrap_symbols(rows, closed, hedge, FAR, most)
+}
+
+/// Tries the first lists of trees with the trees of a range behind, which cost more than 2,000.
+fn append_before<R: NumberedRows>(
+    rows: &mut R,
+    closed: &mut Closed,
+    hedge: u32,
+    from: u32,
+    to: u32,
+    most: u32,
+) -> Result<(), CloseFault>
+    requires most { most < 4294967295 }
+    requires kept { IsKept (R.held rows.old) closed.old }
+    requires few { AreFew (R.held rows.old) closed.old most }
+    requires up_to { AreUpTo (R.held rows.old) closed.old 2001 }
+    requires hedge { hedge ≤ (R.held rows.old).hedges }
+    requires to { to ≤ (R.held rows.old).trees }
+    requires cost { (t : ℕ) → from ≤ t → t < to → tree_cost closed.old t ≡ 2001 }
+    ensures steps { OnOk result (Steps most 2001 (R.held rows.old) closed.old (R.held rows.new) closed.new) }
+    ensures trees { OnOk result ((R.held rows.new).trees ≡ (R.held rows.old).trees) }
+    ensures done { OnOk result (AreRangesDone (R.held rows.new) closed.new hedge from to) }
+    ensures cause { IfErr result (λ e. IsCause (R.is_full rows.new) most (R.held rows.new) e) }
+{
+    for earlier in 0..hedge {
+        append_trees(rows, closed, earlier, from, to, FAR, most)?;
+    }
+    Ok(())
+}
+
+/// Tries all that is made of a list of trees and of those before it, where it costs more than 2,000.
+fn far_hedge<R: NumberedRows>(
+    rows: &mut R,
+    closed: &mut Closed,
+    starts: &[u32],
+    hedge: u32,
+    most: u32,
+) -> Result<(), CloseFault>
+    requires most { most < 4294967295 }
+    requires far { IsFar most (R.held rows.old) closed.old starts.now hedge }
+    requires hedge { hedge < (R.held rows.old).hedges }
+    ensures far { OnOk result (IsFar most (R.held rows.new) closed.new starts.now (hedge + 1)) }
+    ensures cause { IfErr result (λ e. IsCause (R.is_full rows.new) most (R.held rows.new) e) }
+{
+    let known = closed.tree_count();
+    wrap_far(rows, closed, hedge, most)?;
+    let trees = closed.tree_count();
+    append_before(rows, closed, hedge, known, trees, most)?;
+    let from = starts[(FAR - closed.hedge_costs[hedge as usize]) as usize];
+    append_trees(rows, closed, hedge, from, trees, FAR, most)?;
+    Ok(())
+}
+
+/// Tries all that costs more than 2,000, list of trees by list of trees.
+pub(crate) fn all_far<R: NumberedRows>(
+    rows: &mut R,
+    closed: &mut Closed,
+    starts: &[u32],
+    most: u32,
+) -> Result<(), CloseFault>
+    requires most { most < 4294967295 }
+    requires far { IsFar most (R.held rows.old) closed.old starts.now 0 }
+    ensures whole { OnOk result (IsWhole most (R.held rows.new) closed.new) }
+    ensures cause { IfErr result (λ e. IsCause (R.is_full rows.new) most (R.held rows.new) e) }
+{
+    for hedge in 0..most {
+        if hedge as usize >= closed.hedge_costs.len() {
+            return Ok(());
+        }
+        far_hedge(rows, closed, starts, hedge, most)?;
+    }
+    Ok(())
+}

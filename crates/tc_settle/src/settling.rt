@@ -1,0 +1,93 @@
+// All rows, found cost by cost.
+ghost use Rattle.std.specs.Prelude.{◌≡◌, ◌<◌, ◌≤◌, ◌∷◌, [], ℕ, IfErr, IfOk, OnOk};
+ghost use Rattle.tc_settle.specs.Closed.{IsCause, IsClosure, IsKept};
+ghost use Rattle.tc_settle.specs.Settled.{AreFew, AreUpTo, IsBegun, IsNoneDone, IsWhole};
+
+use crate::closed::{CloseFault, Closed, MadeHedge, push_start};
+use crate::levels::{FAR, all_far, level};
+use crate::rows::NumberedRows;
+use crate::trying::try_text;
+use std::alloc::Global;
+use tc_base::NoMemory;
+
+/// Finds all rows that are derived, each at its least cost, and at most so many of each kind.
+///
+/// # Errors
+///
+/// More trees or more lists of trees than that are derived; a row can't be held; there is no memory.
+pub fn close<R: NumberedRows>(alloc: Global, rows: &mut R, most: u32) -> Result<Closed, CloseFault>
+    requires trees { (R.held rows.old).trees ≡ 0 }
+    requires hedges { (R.held rows.old).hedges ≡ 0 }
+    requires most { most < 4294967295 }
+    ensures closure { IfOk result (λ c. IsClosure (R.held rows.new) c) }
+    ensures few { OnOk result (((R.held rows.new).trees ≤ most) × ((R.held rows.new).hedges ≤ most)) }
+    ensures cause { IfErr result (λ e. IsCause (R.is_full rows.new) most (R.held rows.new) e) }
+{
+    let closed = find(alloc, rows, most)?;
+    let _symbols = rows.symbols();
+    Ok(closed)
+}
+
+/// The list of no tree.
+fn find_none<R: NumberedRows>(alloc: Global, rows: &mut R, most: u32) -> Result<Closed, CloseFault>
+    requires trees { (R.held rows.old).trees ≡ 0 }
+    requires hedges { (R.held rows.old).hedges ≡ 0 }
+    ensures kept { IfOk result (λ c. IsKept (R.held rows.new) c) }
+    ensures few { IfOk result (λ c. AreFew (R.held rows.new) c most) }
+    ensures up_to { IfOk result (λ c. AreUpTo (R.held rows.new) c 0) }
+    ensures done { IfOk result (λ c. IsNoneDone (R.held rows.new) c) }
+    ensures trees { OnOk result ((R.held rows.new).trees ≡ 0) }
+    ensures cause { IfErr result (λ e. IsCause (R.is_full rows.new) most (R.held rows.new) e) }
+{
+    let mut closed = Closed::new(alloc);
+    let _number = rows.none()?;
+    closed.keep_hedge(MadeHedge::None, 0)?;
+    if most == 0 {
+        return Err(CloseFault::TooManyHedges);
+    }
+    Ok(closed)
+}
+
+/// The list of no tree, and the text.
+fn begin<R: NumberedRows>(alloc: Global, rows: &mut R, most: u32) -> Result<Closed, CloseFault>
+    requires trees { (R.held rows.old).trees ≡ 0 }
+    requires hedges { (R.held rows.old).hedges ≡ 0 }
+    requires most { most < 4294967295 }
+    ensures begun { IfOk result (λ c. IsBegun most (R.held rows.new) c) }
+    ensures cause { IfErr result (λ e. IsCause (R.is_full rows.new) most (R.held rows.new) e) }
+{
+    let mut closed = find_none(alloc, rows, most)?;
+    try_text(rows, &mut closed, most)?;
+    Ok(closed)
+}
+
+/// Where the trees of no cost and of cost 1 begin.
+fn first_starts(alloc: Global) -> Result<Vec<u32>, NoMemory>
+    ensures { IfOk result (λ v. v.items ≡ 0 ∷ 0 ∷ []) }
+{
+    let mut starts = Vec::new(alloc);
+    push_start(&mut starts, 0)?;
+    push_start(&mut starts, 0)?;
+    Ok(starts)
+}
+
+/// Finds all rows that are derived, each at its least cost, and at most so many of each kind.
+fn find<R: NumberedRows>(alloc: Global, rows: &mut R, most: u32) -> Result<Closed, CloseFault>
+    requires trees { (R.held rows.old).trees ≡ 0 }
+    requires hedges { (R.held rows.old).hedges ≡ 0 }
+    requires most { most < 4294967295 }
+    ensures whole { IfOk result (λ c. IsWhole most (R.held rows.new) c) }
+    ensures cause { IfErr result (λ e. IsCause (R.is_full rows.new) most (R.held rows.new) e) }
+{
+    let mut closed = begin(alloc, rows, most)?;
+    let mut starts = first_starts(alloc)?;
+    let mut wrapped = 0;
+    for cost in 1..FAR {
+        wrapped = level(rows, &mut closed, &mut starts, wrapped, cost, most)?;
+        if closed.reach() <= cost {
+            return Ok(closed);
+        }
+    }
+    all_far(rows, &mut closed, starts.as_slice(), most)?;
+    Ok(closed)
+}
