@@ -35,8 +35,8 @@ not_both i o s {document} all (result, found) =
     found.2 (subst (IsValidOutput o) (one_result s document good.0 result good.1 found.1) good.2)
 
 safe_alike : {a b c d e f : ℕ} → (a ≡ d) × (b ≡ e) × (c ≡ f) → AreAlike (safe a b c) (safe d e f)
-safe_alike {a} {b} {c} (p, q, r) =
-    subst (λ n. AreAlike (safe a b c) (safe n _ _)) p (subst (λ n. AreAlike (safe a b c) (safe a n _)) q (subst (λ n. AreAlike (safe a b c) (safe a b n)) r same_answer))
+safe_alike {a} {b} {c} {d} {e} {f} (p, q, r) =
+    subst (λ n. AreAlike (safe a b c) (safe n e f)) p (subst (λ n. AreAlike (safe a b c) (safe a n f)) q (subst (λ n. AreAlike (safe a b c) (safe a b n)) r same_answer))
 
 module _ {i o : Grammar} {s : Sheet} where
   pub over_compile : {kind : Limit} {number : ℕ} → PassesCompile i o s kind number → IsCompiled i o s → ⊥
