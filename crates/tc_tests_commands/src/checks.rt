@@ -17,7 +17,8 @@ const WITH_TWO: &[&str] = &["check", "--limit", "2", "I", "O", "S"];
 const WITH_THREE: &[&str] = &["check", "--limit", "3", "I", "O", "S"];
 
 /// The results of all `b` below an `a`, in an `r`.
-const PARTS: &str = "<xsl:template match=\"/\"><r><xsl:apply-templates select=\"a/b\"/></r></xsl:template>\
+const PARTS: &str =
+    "<xsl:template match=\"/\"><r><xsl:apply-templates select=\"a/b\"/></r></xsl:template>\
     <xsl:template match=\"b\"><x/></xsl:template>";
 
 /// An `x` for each text, in an `r`.
@@ -137,10 +138,7 @@ fn children_are_counted(rt: HostRuntime) -> Result<(), Fail> {
              output <r><x/><x/><x/><x/><x/><x/><x/></r>\n",
         ),
     ] {
-        assert!(rt;
-            answers(rt.alloc(), input, output, rules, text)?,
-            "{input}"
-        );
+        assert!(rt; answers(rt.alloc(), input, output, rules, text)?, "{input}");
     }
     Ok(())
 }
@@ -187,12 +185,15 @@ fn values_are_of_the_first_node(rt: HostRuntime) -> Result<(), Fail> {
 fn predicates_and_tests_are_followed(rt: HostRuntime) -> Result<(), Fail> {
     let input = "element a{element b{element c{empty}?}*}";
     let some_x = "element none{empty} | element r{element x{empty}+}";
-    let choice = "<xsl:template match=\"a\"><xsl:choose><xsl:when test=\"not(b/c)\"><none/></xsl:when>\
+    let choice =
+        "<xsl:template match=\"a\"><xsl:choose><xsl:when test=\"not(b/c)\"><none/></xsl:when>\
         <xsl:otherwise><r><xsl:apply-templates select=\"b/c\"/></r></xsl:otherwise></xsl:choose></xsl:template>\
         <xsl:template match=\"c\"><x/></xsl:template>";
-    let with = "<xsl:template match=\"/\"><r><xsl:apply-templates select=\"a/b[c]\"/></r></xsl:template>\
+    let with =
+        "<xsl:template match=\"/\"><r><xsl:apply-templates select=\"a/b[c]\"/></r></xsl:template>\
         <xsl:template match=\"b\"><y/></xsl:template><xsl:template match=\"b[c]\"><x/></xsl:template>";
-    let without = "<xsl:template match=\"/\"><r><xsl:apply-templates select=\"a/b\"/></r></xsl:template>\
+    let without =
+        "<xsl:template match=\"/\"><r><xsl:apply-templates select=\"a/b\"/></r></xsl:template>\
         <xsl:template match=\"b\"><y/></xsl:template><xsl:template match=\"b[c]\"><x/></xsl:template>";
     for (output, rules, text) in [
         (some_x, choice, "safe trees 5 hedges 4 outputs 4\n"),
@@ -203,10 +204,7 @@ fn predicates_and_tests_are_followed(rt: HostRuntime) -> Result<(), Fail> {
             "unsafe\ndocument <a><b/></a>\noutput <r><y/></r>\n",
         ),
     ] {
-        assert!(rt;
-            answers(rt.alloc(), input, output, rules, text)?,
-            "{text}"
-        );
+        assert!(rt; answers(rt.alloc(), input, output, rules, text)?, "{text}");
     }
     Ok(())
 }
@@ -219,10 +217,7 @@ fn roots_texts_and_namespaces_are_printed(rt: HostRuntime) -> Result<(), Fail> {
             "<xsl:text> </xsl:text><r/>",
             "safe trees 1 hedges 1 outputs 1\n",
         ),
-        (
-            "<xsl:text> </xsl:text>",
-            "unsafe\ndocument <a/>\noutput \n",
-        ),
+        ("<xsl:text> </xsl:text>", "unsafe\ndocument <a/>\noutput \n"),
         (
             "<r>x &amp; y</r>",
             "unsafe\ndocument <a/>\noutput <r>x &amp; y</r>\n",
@@ -236,7 +231,10 @@ fn roots_texts_and_namespaces_are_printed(rt: HostRuntime) -> Result<(), Fail> {
         let front = "<xsl:template match=\"/\">";
         let rules = repeated(alloc, front, body, 1, "</xsl:template>")?;
         let (input, output) = ("element a{empty}", "element r{empty}");
-        assert!(rt; answers(alloc, input, output, rules.as_str(), text)?, "{body}");
+        assert!(rt;
+            answers(alloc, input, output, rules.as_str(), text)?,
+            "{body}"
+        );
     }
     Ok(())
 }
@@ -258,7 +256,9 @@ fn stylesheets_have_limits(rt: HostRuntime) -> Result<(), Fail> {
     let mut doubling = repeated(alloc, front, call, 1, "</xsl:template>")?;
     for number in 1..=60 {
         let next = number + 1;
-        let rule = format!(in alloc; "<xsl:template name=\"n{number}\"><xsl:call-template name=\"n{next}\"/><xsl:call-template name=\"n{next}\"/></xsl:template>")?;
+        let rule = format!(in alloc;
+            "<xsl:template name=\"n{number}\"><xsl:call-template name=\"n{next}\"/><xsl:call-template name=\"n{next}\"/></xsl:template>"
+        )?;
         doubling.push_str(rule.as_str())?;
     }
     doubling.push_str("<xsl:template name=\"n61\"/>")?;
@@ -268,7 +268,9 @@ fn stylesheets_have_limits(rt: HostRuntime) -> Result<(), Fail> {
     let mut deep = repeated(alloc, front, call, 1, "</xsl:template>")?;
     for number in 1..=8_000 {
         let next = number + 1;
-        let rule = format!(in alloc; "<xsl:template name=\"n{number}\"><xsl:call-template name=\"n{next}\"/></xsl:template>")?;
+        let rule = format!(in alloc;
+            "<xsl:template name=\"n{number}\"><xsl:call-template name=\"n{next}\"/></xsl:template>"
+        )?;
         deep.push_str(rule.as_str())?;
     }
     deep.push_str("<xsl:template name=\"n8001\"><r/></xsl:template>")?;
@@ -308,9 +310,11 @@ fn interleaved_children_come_in_any_order(rt: HostRuntime) -> Result<(), Fail> {
 fn least_documents_are_shown(rt: HostRuntime) -> Result<(), Fail> {
     let input = "start = element a{(b,b,b,b,b,b)|c1} b = element b{empty} c1 = element c{c2} \
         c2 = element c{c3} c3 = element c{c4} c4 = element c{empty}";
-    let rules = "<xsl:template match=\"/\"><r><xsl:apply-templates select=\"a/b|.//c\"/></r></xsl:template>\
+    let rules =
+        "<xsl:template match=\"/\"><r><xsl:apply-templates select=\"a/b|.//c\"/></r></xsl:template>\
         <xsl:template match=\"b|c\"><x/></xsl:template>";
-    let text = "unsafe\ndocument <a><c><c><c><c/></c></c></c></a>\noutput <r><x/><x/><x/><x/></r>\n";
+    let text =
+        "unsafe\ndocument <a><c><c><c><c/></c></c></c></a>\noutput <r><x/><x/><x/><x/></r>\n";
     assert!(rt; answers(rt.alloc(), input, "element r{empty}", rules, text)?);
     Ok(())
 }

@@ -103,12 +103,21 @@ fn operands_are_refused_in_order(rt: HostRuntime) -> Result<(), Fail> {
     let words = ["check", "I", "O", "S"];
     let good = b"element a{empty}".as_slice();
     let many = b"element a{empty|empty}".as_slice();
-    let sheet = b"<xsl:stylesheet version=\"1.0\" xmlns:xsl=\"http://www.w3.org/1999/XSL/Transform\"/>";
+    let sheet =
+        b"<xsl:stylesheet version=\"1.0\" xmlns:xsl=\"http://www.w3.org/1999/XSL/Transform\"/>";
     for (input, output, text) in [
         (b"\xFF".as_slice(), good, "refused I malformed at 0\n"),
-        (b"\xFF".as_slice(), b"a b".as_slice(), "refused I malformed at 0\n"),
+        (
+            b"\xFF".as_slice(),
+            b"a b".as_slice(),
+            "refused I malformed at 0\n",
+        ),
         (good, b"start = b".as_slice(), "refused O undefined at 8\n"),
-        (many, b"start = empty".as_slice(), "refused O bad-start at 0\n"),
+        (
+            many,
+            b"start = empty".as_slice(),
+            "refused O bad-start at 0\n",
+        ),
     ] {
         let mut store = MemStore::new(alloc);
         store.put("I", input)?;
@@ -131,10 +140,15 @@ fn limits_wait_for_all_texts(rt: HostRuntime) -> Result<(), Fail> {
         large.push_str("|empty")?;
     }
     large.push_str("}")?;
-    let sheet = b"<xsl:stylesheet version=\"1.0\" xmlns:xsl=\"http://www.w3.org/1999/XSL/Transform\"/>";
+    let sheet =
+        b"<xsl:stylesheet version=\"1.0\" xmlns:xsl=\"http://www.w3.org/1999/XSL/Transform\"/>";
     for (text, status, line) in [
         (sheet.as_slice(), Status::Limit, "limit pattern 65536\n"),
-        (b"<r".as_slice(), Status::Refused, "refused S malformed at 2\n"),
+        (
+            b"<r".as_slice(),
+            Status::Refused,
+            "refused S malformed at 2\n",
+        ),
     ] {
         let mut store = MemStore::new(alloc);
         store.put("I", large.as_bytes())?;

@@ -13,12 +13,19 @@ line_short size i some few within =
     let one : length (decimal i) ≤ 2 = length-decimal-le 2 i (omega arith) (omega (arith, few, within)) (omega (arith, few, within)) in
     let rest : i % size < size = mod-lt i (omega (arith, some)) in
     let two : length (decimal (i % size + 1)) ≤ 2 = length-decimal-le 2 (i % size + 1) (omega arith) (omega (arith, few, rest)) (omega (arith, few, rest)) in
-    append_short (codes "e") _ 1 39 (omega arith)
-    (append_short (decimal i) _ 2 37 one
-    (append_short (codes " = element e") _ 12 25 (omega arith)
-    (append_short (decimal i) _ 2 23 one
-    (append_short (codes " { e") _ 4 19 (omega arith)
-    (append_short (decimal (i % size + 1)) (codes "* }\n") 2 17 two (omega arith))))))
+    let next = decimal (i % size + 1) in
+    let t6 = next ++ codes "* }\n" in
+    let t5 = codes " { e" ++ t6 in
+    let t4 = decimal i ++ t5 in
+    let t3 = codes " = element e" ++ t4 in
+    let t2 = decimal i ++ t3 in
+    let h6 : length t6 ≤ 6 = append_short next (codes "* }\n") 2 4 two (omega arith) in
+    let h5 : length t5 ≤ 10 = append_short (codes " { e") t6 4 6 (omega arith) h6 in
+    let h4 : length t4 ≤ 12 = append_short (decimal i) t5 2 10 one h5 in
+    let h3 : length t3 ≤ 24 = append_short (codes " = element e") t4 12 12 (omega arith) h4 in
+    let h2 : length t2 ≤ 26 = append_short (decimal i) t3 2 24 one h3 in
+    let whole : length (demo_line size i) ≤ 27 = append_short (codes "e") t2 1 26 (omega arith) h2 in
+    omega (arith, whole)
 
 lines_short : (size i : ℕ) → 1 ≤ size → size ≤ 40 → i ≤ size → length (demo_lines size i) ≤ i * 40
 lines_short size zero some few within = omega arith

@@ -132,7 +132,7 @@ module _ (most : ℕ) (i o : Grammar) (s : Sheet) (status : Status) (old new : O
 
   is_no : {document : Trees} → status ≡ No → IsCompiled i o s → HasFewRows i o s most → IsLeastCounter i o s document → ShowsRun old new s document → Decides
   is_no {document} is w f l display = record {
-    yes = (λ e. absurd (not_no e is), λ x. absurd (not_both i o s x.2.1 l.counter));
+    yes = (λ e. absurd (not_no e is), λ x. absurd (not_both i o s x.2 l.counter));
     no = (λ _. (w, f, (document, l.counter, l.few)), λ _. is);
     limit = (λ e. absurd (no_limit is e), λ x. absurd (few_not_limited w f (λ y. near_far l y) x));
     one = inr (inl is);
@@ -157,8 +157,8 @@ module _ (most : ℕ) (i o : Grammar) (s : Sheet) (status : Status) (old new : O
     nodes_text = λ w f l. absurd (over_compile p w);
   }
   decides is written (passes_rows c w p) = record {
-    yes = (λ e. absurd (not_limit e is), λ x. absurd (x.1.0 c p));
-    no = (λ e. absurd (no_limit e is), λ x. absurd (x.1.0 c p));
+    yes = (λ e. absurd (not_limit e is), λ x. absurd (x.1 c p));
+    no = (λ e. absurd (no_limit e is), λ x. absurd (x.1 c p));
     limit = (λ _. limited_in_rows c w p, λ _. is);
     one = inr (inr is);
     yes_text = λ e. absurd (not_limit e is);
@@ -171,8 +171,8 @@ module _ (most : ℕ) (i o : Grammar) (s : Sheet) (status : Status) (old new : O
   decides is written (finds_unsafe w f l k r) = is_no is w f l (shows_result k r written)
   decides is written (finds_large w f l k) = is_no is w f l (shows_large k written)
   decides is written (finds_none_small w f l) = record {
-    yes = (λ e. absurd (not_limit e is), λ x. absurd (not_both i o s x.2.1 l.some.1));
-    no = (λ e. absurd (no_limit e is), λ x. absurd (small_far x.2.1 l));
+    yes = (λ e. absurd (not_limit e is), λ x. absurd (not_both i o s x.2 l.some.1));
+    no = (λ e. absurd (no_limit e is), λ x. absurd (small_far x.2 l));
     limit = (λ _. limited_in_nodes w f l, λ _. is);
     one = inr (inr is);
     yes_text = λ e. absurd (not_limit e is);

@@ -155,4 +155,4 @@ checks_one (stylesheet_refused {reason = w} {place = p} g h r) (all_read k l z f
 checks_one (all_read g h z f) (input_refused {reason = w} {place = p} q) = absurd (no_schema w p q g)
 checks_one (all_read g h z f) (output_refused {reason = w} {place = p} k q) = absurd (no_schema w p q h)
 checks_one (all_read g h z f) (stylesheet_refused {reason = w} {place = p} k l q) = absurd (no_sheet w p q z)
-checks_one (all_read g h z f) (all_read k l y e) = finds_one f (finds_of g h z (all_read k l y e))
+checks_one {input = n} {output = m} {sheet = w} (all_read g h z f) (all_read k l y e) = finds_one f (finds_of {input = n} {output = m} {sheet = w} g h z (all_read k l y e))

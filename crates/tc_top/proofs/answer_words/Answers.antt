@@ -22,8 +22,8 @@ unbuilt x y same other built = other (subst (λ z. IsBuilt (command z)) same bui
 words_at : {words : List (List ℕ)} (x y : Command) → x ≡ y → Words words (command x) → Words words (command y)
 words_at {words} x y same are = subst (λ z. Words words (command z)) same are
 
-pub check-requires-clause-few : goal.check-requires-clause-few
-check-requires-clause-few g c = let words = MatchOption-at_some _ _ _ c.in-Some.is c.read_words.ensures in few_rows (words_at _ _ c.in-Check.is words)
+pub check-requires : goal.check-requires
+check-requires g c = let words = MatchOption-at_some _ _ _ c.in-Some.is c.read_words.ensures in record { few = few_rows (words_at _ _ c.in-Check.is words) }
 
 pub demo-requires-clause-some : goal.demo-requires-clause-some
 demo-requires-clause-some g c = let words = MatchOption-at_some _ _ _ c.in-Some.is c.read_words.ensures in (demo_size (words_at _ _ c.in-Demo.is words)).0
@@ -35,7 +35,7 @@ pub returns-in-Prove-clause-right : goal.returns-in-Prove-clause-right
 returns-in-Prove-clause-right g c =
     let words = MatchOption-at_some _ _ _ c.in-Some.is c.read_words.ensures in
     let is = c.in-Prove.is in
-    IfOk-weaker c.not_yet-in-Prove.result _ _ (λ said says. (_, happened_nothing _ _ _ _, (a.not_yet (codes "prove"), says, not_built words (unbuilt _ _ is (λ b. b)) refl (ap (λ x. name_of (command x)) (sym is))))) c.not_yet-in-Prove.ensures
+    IfOk-weaker c.not_yet.result _ _ (λ said says. (_, happened_nothing _ _ _ _, (a.not_yet (codes "prove"), says, not_built words (unbuilt _ _ is (λ b. b)) refl (ap (λ x. name_of (command x)) (sym is))))) c.not_yet.ensures
 
 pub returns-in-Verify-clause-right : goal.returns-in-Verify-clause-right
 returns-in-Verify-clause-right g c =
