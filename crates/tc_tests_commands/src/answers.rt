@@ -33,69 +33,6 @@ fn store_with(alloc: Global, input: &str, output: &str, body: &str) -> Result<Me
 }
 
 #[test]
-fn checks_files(rt: HostRuntime) -> Result<(), Fail> {
-    let words = word_list(rt.alloc(), &["check", "I", "O", "S"])?;
-    let mut long = String::from_str(rt.alloc(), "element a{empty}")?;
-    for _ in 0..4097 - 16 {
-        long.push(' ')?;
-    }
-    for (input, output, body, status, text) in [
-        (
-            "element a { empty }",
-            "element r { element x { empty }* }",
-            "<r><x/></r>",
-            Status::Yes,
-            "safe\n",
-        ),
-        (
-            "element a { empty }",
-            "element r { empty }",
-            "<r><x/></r>",
-            Status::No,
-            "unsafe\ndocument <a/>\noutput <r><x/></r>\n",
-        ),
-        (
-            "element a{empty}",
-            "element r{empty}",
-            "<r/><r/>",
-            Status::No,
-            "unsafe\ndocument <a/>\noutput <r/><r/>\n",
-        ),
-        (
-            long.as_str(),
-            "element r{empty}",
-            "<r/>",
-            Status::Refused,
-            "refused I not-yet\n",
-        ),
-        (
-            "element a{empty}",
-            "element r{text}",
-            "r",
-            Status::Refused,
-            "refused O not-yet\n",
-        ),
-        (
-            "element a{empty}",
-            "element r{empty}",
-            "r",
-            Status::Refused,
-            "refused S not-yet\n",
-        ),
-    ] {
-        let mut store = store_with(rt.alloc(), input, output, body)?;
-        let mut sink = MemSink::new(rt.alloc(), 200)?;
-        assert_eq!(rt;
-            typecheck(rt.alloc(), &words, &mut store, &mut sink),
-            status,
-            "{text}"
-        );
-        assert_eq!(rt; sink.bytes(), text.as_bytes());
-    }
-    Ok(())
-}
-
-#[test]
 fn stops_at_the_first_operand_that_cannot_be_read(rt: HostRuntime) -> Result<(), Fail> {
     let words = word_list(rt.alloc(), &["check", "I", "O", "S"])?;
     let mut sink = MemSink::new(rt.alloc(), 200)?;
@@ -196,18 +133,13 @@ fn tells_the_usage(rt: HostRuntime) -> Result<(), Fail> {
 
 #[test]
 fn refuses_commands_that_are_not_built(rt: HostRuntime) -> Result<(), Fail> {
-    let commands: [(&[&str], &str); 5] = [
-        (
-            &["check", "--limit", "4000", "I", "O", "S"],
-            "refused check not-yet\n",
-        ),
+    let commands: [(&[&str], &str); 3] = [
         (&["prove", "I", "O", "S"], "refused prove not-yet\n"),
         (
             &["prove", "--limit", "1", "I", "O", "S"],
             "refused prove not-yet\n",
         ),
         (&["verify", "I", "O", "S", "C"], "refused verify not-yet\n"),
-        (&["demo", "40"], "refused demo not-yet\n"),
     ];
     for (words, text) in commands {
         let words = word_list(rt.alloc(), words)?;

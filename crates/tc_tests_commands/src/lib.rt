@@ -4,7 +4,9 @@
 #[cfg(test)]
 mod answers;
 #[cfg(test)]
-mod first_form;
+mod checks;
+#[cfg(test)]
+mod demonstrations;
 #[cfg(test)]
 mod runs;
 #[cfg(test)]

@@ -4,20 +4,17 @@ use Rattle.tc_io.specs.Store.{Files, Came, Read, longest_file}
 use Rattle.tc_io.specs.Reads.{IsTrue, AreTrue}
 use Rattle.tc_io.specs.declared.StoreFault.{StoreFault}
 use Rattle.tc_io.specs.declared.StoreFault.TheVariants.{Missing, Failed, TooLong, NoMemory}
-use Rattle.tc_model.specs.Trees.{Trees}
-use Rattle.tc_model.specs.Safety.{IsSafe, IsCounterexample}
-use Rattle.tc_model.specs.Validity.{IsValidOutput}
-use Rattle.tc_top.specs.FirstForm.{Schema, grammar_of, sheet_of}
-use Rattle.tc_top.specs.FirstText.{FirstSchemaText, FirstSheetText}
-use Rattle.tc_top.specs.OneAnswer.{AreAlike, same_answer, counterexamples, IsOfFault}
-use Rattle.tc_top.specs.Words.{Command, check, run, valid, Words, IsNoCommand, name_of, operands_of}
+use Rattle.tc_top.specs.Checking.{most_rows}
+use Rattle.tc_top.specs.Demo.{demo_schema, demo_sheet, input_name, output_name, sheet_name}
+use Rattle.tc_top.specs.declared.limits.TheConstants.{MOST_ROWS}
+use Rattle.tc_top.specs.OneAnswer.{AreAlike, same_answer, IsOfFault}
+use Rattle.tc_top.specs.Words.{Command, check, run, valid, demo, Words, IsNoCommand, name_of, operands_of}
 use Rattle.tc_top.specs.Reading.{StopsAt, at_first, past_first, IsUnreadable}
-use Rattle.tc_top.specs.Answers.{Answer, usage, not_yet, cannot_read, file_limit, IsBuilt, IsOtherForm, other_input, other_output, other_sheet, Checks, is_other_form, is_safe, is_unsafe, Validates, RunsTexts, IsAnswer, no_command, not_built, not_read, over_long, checked, validated, ran}
+use Rattle.tc_top.specs.Answers.{Answer, usage, not_yet, cannot_read, file_limit, IsBuilt, Checks, Validates, RunsTexts, IsAnswer, no_command, not_built, not_read, over_long, checked, validated, ran, shown}
 use Rattle.tc_top.proofs.OneCommand.{one_command}
 use Rattle.tc_top.proofs.OneValidity.{validates_one}
 use Rattle.tc_top.proofs.OneRun.{runs_texts_one}
-use Rattle.tc_top.proofs.FirstText.{schema_unique, sheet_unique, sheet_plain}
-use Rattle.tc_top.proofs.FirstLaws.{result_is}
+use Rattle.tc_top.proofs.OneCheck.{checks_one}
 
 -- lists and reads that are the same
 
@@ -67,57 +64,16 @@ no_stop_two r s = no_stop _ r (tt, (tt, tt)) s
 no_stop_three : {names : List (List ℕ)} {reads : List Read} {name a b e c d f : List ℕ} {fault : StoreFault} → reads ≡ (a, Ok c) ∷ (b, Ok d) ∷ (e, Ok f) ∷ [] → StopsAt names reads name fault → ⊥
 no_stop_three r s = no_stop _ r (tt, (tt, (tt, tt))) s
 
--- a safe stylesheet has no counterexample, also where the texts are read once more
-pub not_both : {b c d : List ℕ} {i j o p : Schema} {t u document result : Trees} → FirstSchemaText b i → FirstSchemaText c o → FirstSheetText d t → IsSafe (grammar_of i) (grammar_of o) (sheet_of t)
-    → FirstSchemaText b j → FirstSchemaText c p → FirstSheetText d u → IsCounterexample (grammar_of j) (grammar_of p) (sheet_of u) document result → ⊥
-not_both {b} {c} {d} {i} {j} {o} {p} {t} {u} {document} {result} x y z safe k l m found =
-    let input = subst (λ v. IsSafe (grammar_of v) (grammar_of o) (sheet_of t)) (schema_unique x k) safe in
-    let output = subst (λ v. IsSafe (grammar_of j) (grammar_of v) (sheet_of t)) (schema_unique y l) input in
-    let sheet = subst (λ v. IsSafe (grammar_of j) (grammar_of p) (sheet_of v)) (sheet_unique z m) output in
-    let good = sheet document found.0 in
-    let plain = sheet_plain m in
-    let same = (result_is u document good.0 plain).0 good.1 ∙ sym ((result_is u document result plain).0 found.1) in
-    found.2 (subst (IsValidOutput (grammar_of p)) same good.2)
-
--- the first operand of another form is one
-one_other_form : {input output sheet b c d name found : List ℕ} → IsOtherForm input output sheet b c d name → IsOtherForm input output sheet b c d found → AreAlike (not_yet name) (not_yet found)
-one_other_form (other_input x) (other_input y) = same_answer
-one_other_form (other_input x) (other_output p y) = absurd (x _ p)
-one_other_form (other_input x) (other_sheet p q y) = absurd (x _ p)
-one_other_form (other_output p x) (other_input y) = absurd (y _ p)
-one_other_form (other_output p x) (other_output q y) = same_answer
-one_other_form (other_output p x) (other_sheet q r y) = absurd (x _ r)
-one_other_form (other_sheet p q x) (other_input y) = absurd (y _ p)
-one_other_form (other_sheet p q x) (other_output r y) = absurd (y _ q)
-one_other_form (other_sheet p q x) (other_sheet r s y) = same_answer
-
--- texts of the first form are none of another form
-no_other_form : {input output sheet b c d name : List ℕ} {i o : Schema} {t : Trees} → IsOtherForm input output sheet b c d name → FirstSchemaText b i → FirstSchemaText c o → FirstSheetText d t → ⊥
-no_other_form (other_input x) i o t = x _ i
-no_other_form (other_output p x) i o t = x _ o
-no_other_form (other_sheet p q x) i o t = x _ t
-
--- the answer that the texts decide is one
-checks_one : {input output sheet b c d : List ℕ} {one other : Answer} → Checks input output sheet b c d one → Checks input output sheet b c d other → AreAlike one other
-checks_one (is_other_form x) (is_other_form y) = one_other_form x y
-checks_one (is_other_form x) (is_safe i o t s) = absurd (no_other_form x i o t)
-checks_one (is_other_form x) (is_unsafe i o t s) = absurd (no_other_form x i o t)
-checks_one (is_safe i o t s) (is_other_form x) = absurd (no_other_form x i o t)
-checks_one (is_unsafe i o t s) (is_other_form x) = absurd (no_other_form x i o t)
-checks_one (is_safe i o t s) (is_safe j p u r) = same_answer
-checks_one (is_unsafe i o t s) (is_unsafe j p u r) = counterexamples
-checks_one (is_safe i o t s) (is_unsafe j p u r) = absurd (not_both i o t s j p u r)
-checks_one (is_unsafe j p u r) (is_safe i o t s) = absurd (not_both i o t s j p u r)
-
-checks_same : {input output sheet b c d input' output' sheet' b' c' d' : List ℕ} {answer : Answer} → input ≡ input' → output ≡ output' → sheet ≡ sheet' → b ≡ b' → c ≡ c' → d ≡ d'
-    → Checks input' output' sheet' b' c' d' answer → Checks input output sheet b c d answer
-checks_same {input} {output} {sheet} {b} {c} {d} {input'} {output'} {sheet'} {b'} {c'} {d'} {answer} p q r s t u h =
-    subst (λ v. Checks v output sheet b c d answer) (sym p)
-    (subst (λ v. Checks input' v sheet b c d answer) (sym q)
-    (subst (λ v. Checks input' output' v b c d answer) (sym r)
-    (subst (λ v. Checks input' output' sheet' v c d answer) (sym s)
-    (subst (λ v. Checks input' output' sheet' b' v d answer) (sym t)
-    (subst (λ v. Checks input' output' sheet' b' c' v answer) (sym u) h)))))
+checks_same : {most most' : ℕ} {input output sheet b c d input' output' sheet' b' c' d' : List ℕ} {answer : Answer} → most ≡ most' → input ≡ input' → output ≡ output' → sheet ≡ sheet' → b ≡ b' → c ≡ c' → d ≡ d'
+    → Checks most' input' output' sheet' b' c' d' answer → Checks most input output sheet b c d answer
+checks_same {most} {most'} {input} {output} {sheet} {b} {c} {d} {input'} {output'} {sheet'} {b'} {c'} {d'} {answer} m p q r s t u h =
+    subst (λ n. Checks n input output sheet b c d answer) (sym m)
+    (subst (λ v. Checks most' v output sheet b c d answer) (sym p)
+    (subst (λ v. Checks most' input' v sheet b c d answer) (sym q)
+    (subst (λ v. Checks most' input' output' v b c d answer) (sym r)
+    (subst (λ v. Checks most' input' output' sheet' v c d answer) (sym s)
+    (subst (λ v. Checks most' input' output' sheet' b' v d answer) (sym t)
+    (subst (λ v. Checks most' input' output' sheet' b' c' v answer) (sym u) h))))))
 
 -- words of no command have the usage as their answer
 pub usage_only : {words : List (List ℕ)} {reads : List Read} {answer : Answer} → IsNoCommand words → IsAnswer words reads answer → answer ≡ usage
@@ -128,6 +84,7 @@ usage_only n (over_long w b s) = absurd (n _ w)
 usage_only n (checked w r x) = absurd (n _ w)
 usage_only n (validated w r x) = absurd (n _ w)
 usage_only n (ran w r x) = absurd (n _ w)
+usage_only n (shown w r x) = absurd (n _ w)
 
 -- a command that isn't carried out is refused by its name
 pub refused_only : {words : List (List ℕ)} {reads : List Read} {answer : Answer} {command : Command} → Words words command → (IsBuilt command → ⊥) → IsAnswer words reads answer
@@ -139,6 +96,7 @@ refused_only w x (over_long v b s) = absurd (x (subst IsBuilt (one_command v w) 
 refused_only w x (checked v r y) = absurd (x (subst IsBuilt (one_command v w) tt))
 refused_only w x (validated v r y) = absurd (x (subst IsBuilt (one_command v w) tt))
 refused_only w x (ran v r y) = absurd (x (subst IsBuilt (one_command v w) tt))
+refused_only w x (shown v r y) = absurd (x (subst IsBuilt (one_command v w) tt))
 
 -- what is answered where the reads stop
 abbrev stopped : StoreFault → List ℕ → Answer
@@ -166,21 +124,25 @@ stopped_only {name = name} {fault = fault} w b s (over_long {name = found} v x t
 stopped_only w b s (checked v r x) = absurd (no_stop_three r s)
 stopped_only w b s (validated v r x) = absurd (no_stop_two r s)
 stopped_only w b s (ran v r x) = absurd (no_stop_two r s)
+stopped_only w b s (shown v r x) = absurd (no_stop _ r tt s)
 
 -- where all operands are read, the texts decide
-pub checked_only : {words : List (List ℕ)} {reads : List Read} {answer : Answer} {input output sheet b c d : List ℕ} → Words words (check None input output sheet)
-    → reads ≡ (input, Ok b) ∷ (output, Ok c) ∷ (sheet, Ok d) ∷ [] → IsAnswer words reads answer → Checks input output sheet b c d answer
+pub checked_only : {words : List (List ℕ)} {reads : List Read} {answer : Answer} {limit : Option ℕ} {input output sheet b c d : List ℕ} → Words words (check limit input output sheet)
+    → reads ≡ (input, Ok b) ∷ (output, Ok c) ∷ (sheet, Ok d) ∷ [] → IsAnswer words reads answer → Checks (most_rows limit) input output sheet b c d answer
 checked_only w r (no_command n e) = absurd (n _ w)
 checked_only w r (not_built v x e f) = absurd (x (subst IsBuilt (one_command w v) tt))
 checked_only w r (not_read v b s u) = absurd (no_stop_three r s)
 checked_only w r (over_long v b s) = absurd (no_stop_three r s)
-checked_only w r (checked v q x) =
+checked_only {limit = limit} w r (checked {limit = other} v q x) =
     let one = read_same (sym r ∙ q) in
     let two = read_same one.2 in
     let three = read_same two.2 in
-    checks_same one.0 two.0 three.0 (ok_same _ _ one.1) (ok_same _ _ two.1) (ok_same _ _ three.1) x
+    let command = one_command w v in
+    let limits : limit ≡ other = cc in
+    checks_same (ap most_rows limits) one.0 two.0 three.0 (ok_same _ _ one.1) (ok_same _ _ two.1) (ok_same _ _ three.1) x
 checked_only w r (validated v q x) = let other = one_command w v in absurd (cc)
 checked_only w r (ran v q x) = let other = one_command w v in absurd (cc)
+checked_only w r (shown v q x) = let other = one_command w v in absurd (cc)
 
 validates_same : {schema document b c schema' document' b' c' : List ℕ} {answer : Answer} → schema ≡ schema' → document ≡ document' → b ≡ b' → c ≡ c'
     → Validates schema' document' b' c' answer → Validates schema document b c answer
@@ -198,6 +160,7 @@ validated_only w r (not_read v b s u) = absurd (no_stop_two r s)
 validated_only w r (over_long v b s) = absurd (no_stop_two r s)
 validated_only w r (checked v q x) = let other = one_command w v in absurd (cc)
 validated_only w r (ran v q x) = let other = one_command w v in absurd (cc)
+validated_only w r (shown v q x) = let other = one_command w v in absurd (cc)
 validated_only w r (validated v q x) =
     let one = read_same (sym r ∙ q) in
     let two = read_same one.2 in
@@ -219,10 +182,26 @@ ran_only w r (not_read v b s u) = absurd (no_stop_two r s)
 ran_only w r (over_long v b s) = absurd (no_stop_two r s)
 ran_only w r (checked v q x) = let other = one_command w v in absurd (cc)
 ran_only w r (validated v q x) = let other = one_command w v in absurd (cc)
+ran_only w r (shown v q x) = let other = one_command w v in absurd (cc)
 ran_only w r (ran v q x) =
     let one = read_same (sym r ∙ q) in
     let two = read_same one.2 in
     runs_texts_same one.0 two.0 (ok_same _ _ one.1) (ok_same _ _ two.1) x
+
+-- the texts of a demonstration decide
+pub shown_only : {words : List (List ℕ)} {reads : List Read} {answer : Answer} {size : ℕ} → Words words (demo size) → reads ≡ [] → IsAnswer words reads answer
+    → Checks MOST_ROWS input_name output_name sheet_name (demo_schema size) (demo_schema size) demo_sheet answer
+shown_only w r (no_command n e) = absurd (n _ w)
+shown_only w r (not_built v x e f) = absurd (x (subst IsBuilt (one_command w v) tt))
+shown_only w r (not_read v b s u) = absurd (no_stop _ r tt s)
+shown_only w r (over_long v b s) = absurd (no_stop _ r tt s)
+shown_only w r (checked v q x) = let other = one_command w v in absurd (cc)
+shown_only w r (validated v q x) = let other = one_command w v in absurd (cc)
+shown_only w r (ran v q x) = let other = one_command w v in absurd (cc)
+shown_only {answer = answer} {size = size} w r (shown {size = other} v q x) =
+    let command = one_command w v in
+    let sizes : other ≡ size = cc in
+    subst (λ n. Checks MOST_ROWS input_name output_name sheet_name (demo_schema n) (demo_schema n) demo_sheet answer) sizes x
 
 alike_at : {one other answer : Answer} → one ≡ answer → other ≡ answer → AreAlike one other
 alike_at {one} {other} {answer} p q = subst (λ a. AreAlike a other) (sym p) (subst (AreAlike answer) (sym q) same_answer)
@@ -236,6 +215,7 @@ by_reads (over_long w b s) y = alike_at refl (stopped_only w b s y)
 by_reads (checked w r x) y = checks_one x (checked_only w r y)
 by_reads (validated w r x) y = validates_one x (validated_only w r y)
 by_reads (ran w r x) y = runs_texts_one x (ran_only w r y)
+by_reads (shown w r x) y = checks_one x (shown_only w r y)
 
 -- The names are read in order up to the first read that isn't Ok, which isn't for want of memory.
 pub data Follows : List (List ℕ) → List Read → Type 0 where
@@ -271,6 +251,7 @@ follows {reads = reads} w b (over_long v x s) = subst (λ c. Follows (operands_o
 follows {reads = reads} w b (checked v r x) = subst (λ c. Follows (operands_of c) reads) (one_command v w) (three_follow r)
 follows {reads = reads} w b (validated v r x) = subst (λ c. Follows (operands_of c) reads) (one_command v w) (two_follow r)
 follows {reads = reads} w b (ran v r x) = subst (λ c. Follows (operands_of c) reads) (one_command v w) (two_follow r)
+follows {reads = reads} w b (shown v r x) = subst (λ c. Follows (operands_of c) reads) (one_command v w) (no_name refl r)
 
 -- of one file, two outcomes that are true where no read fails, and where some did
 
@@ -326,6 +307,10 @@ no_reads : {names : List (List ℕ)} {reads : List Read} → names ≡ [] → Fo
 no_reads same (no_name p q) = q
 no_reads same (stops p q n) = absurd (cc)
 no_reads same (goes_on p q x) = absurd (cc)
+
+-- a demonstration reads nothing
+pub shown_reads : {words : List (List ℕ)} {reads : List Read} {answer : Answer} {size : ℕ} → Words words (demo size) → IsAnswer words reads answer → reads ≡ []
+shown_reads w x = no_reads refl (follows w tt x)
 
 true_at : (told : Option Files) (rose : Type 0) {reads others : List Read} → reads ≡ others → AreTrue told rose reads → AreTrue told rose others
 true_at told rose same t = subst (AreTrue told rose) same t
@@ -392,6 +377,24 @@ exact files rose t (over_long w b s) u y = alike files rose w b t (over_long w b
 exact files rose t (checked w r x) u y = alike files rose w tt t (checked w r x) u y
 exact files rose t (validated w r x) u y = alike files rose w tt t (validated w r x) u y
 exact files rose t (ran w r x) u y = alike files rose w tt t (ran w r x) u y
+exact files rose t (shown w r x) u y = alike files rose w tt t (shown w r x) u y
+
+-- the names and the texts of a check whose operands were read are those of the held files
+pub held_texts : (files : Files) (rose : Type 0) {words : List (List ℕ)} {reads : List Read} {limit other : Option ℕ} {input output sheet b c d input' output' sheet' b' c' d' : List ℕ} {answer : Answer}
+    → Words words (check limit input output sheet) → files input ≡ Some b → files output ≡ Some c → files sheet ≡ Some d
+    → Words words (check other input' output' sheet') → reads ≡ (input', Ok b') ∷ (output', Ok c') ∷ (sheet', Ok d') ∷ [] → AreTrue (Some files) rose reads
+    → Checks (most_rows other) input' output' sheet' b' c' d' answer → Checks (most_rows limit) input output sheet b c d answer
+held_texts files rose {limit = limit} {other} {input} {output} {sheet} {b} {c} {d} {input'} {output'} {sheet'} {b'} {c'} {d'} w p q r v same true x =
+    let command = one_command w v in
+    let limits : limit ≡ other = cc in
+    let inputs : input ≡ input' = cc in
+    let outputs : output ≡ output' = cc in
+    let sheets : sheet ≡ sheet' = cc in
+    let all = true_at (Some files) rose same true in
+    let first = some_is b b' (sym p ∙ (ap files inputs ∙ all.0.answers files refl)) in
+    let second = some_is c c' (sym q ∙ (ap files outputs ∙ all.1.0.answers files refl)) in
+    let third = some_is d d' (sym r ∙ (ap files sheets ∙ all.1.1.0.answers files refl)) in
+    checks_same (ap most_rows limits) inputs outputs sheets first second third x
 
 -- held files that are short enough are read well, or a read failed
 

@@ -1,30 +1,44 @@
--- A check of files of the first form, a validation and a run are exact.
+-- A check, a validation and a run of held files are exact.
 use Rattle.std.proofs.Common.{◌≡◌, ◌≤◌, ◌⊎◌, ◌∷◌, [], ◌∙◌, inl, inr, refl, sym, subst, ℕ, List, length, Option, Some, Ok, arith}
 use Rattle.tc_io.specs.Store.{Files, Read, longest_file}
 use Rattle.tc_io.specs.Reads.{AreTrue}
 use Rattle.tc_io.specs.Sink.{Appended}
-use Rattle.tc_model.specs.Trees.{Trees}
+use Rattle.tc_model.specs.Trees.{Trees, none, text, element, node_count}
+use Rattle.tc_model.specs.Validity.{IsValidOutput}
 use Rattle.tc_model.specs.Grammars.{Grammar}
 use Rattle.tc_model.specs.Sheets.{Sheet}
-use Rattle.tc_model.specs.Safety.{IsSafe, IsCounterexample}
-use Rattle.tc_top.specs.FirstForm.{Schema, grammar_of, sheet_of}
-use Rattle.tc_top.specs.FirstText.{FirstSchemaText, FirstSheetText}
-use Rattle.tc_top.specs.Headline.{IsCutShort, ChecksFiles, DecidesSafety, ValidatesFiles, DecidesValidity, RunsFiles, GivesResult}
-use Rattle.tc_top.specs.Answers.{Answer, usage, not_yet, cannot_read, file_limit, safe, unsafe, refused, over_limit, is_valid, is_invalid, has_result, work_limit, open_limit, status_of, text_of, other_input, other_output, other_sheet, Checks, is_other_form, is_safe, is_unsafe, IsAnswer, Ends, Gives, KeepsToLimits, Runs, sheet_passes, too_much_work, too_open, gives_result}
+use Rattle.tc_base.specs.declared.Limit as kinds
+use Rattle.tc_model.specs.Printed.{printed}
+use Rattle.tc_model.specs.Safety.{IsSafe}
+use Rattle.tc_print.specs.ReadBack.{nesting, IsReadAs}
+use Rattle.tc_print.proofs.ReadBack.{read_back}
+use Rattle.tc_top.specs.Checking.{RowCount, most_rows, most_of, IsCompiled, PassesCompile, HasManyRows, HasFewRows, AreRowCounts, IsLeastCounter, HasSmallCounter, HasLargeCounters}
+use Rattle.tc_top.specs.Headline.{IsCutShort, ChecksFiles, ChecksShortFiles, ShowsCounterexample, shows_both, shows_document, ShowsRun, shows_result, shows_large, IsLimited, limited_before_rows, limited_in_rows, limited_in_nodes, DecidesSafety, ValidatesFiles, DecidesValidity, RunsFiles, GivesResult}
+use Rattle.tc_top.specs.Answers.{Answer, IsBuilt, usage, not_yet, cannot_read, file_limit, safe, unsafe, unsafe_large, rows_limit, counterexample_limit, refused, over_limit, is_valid, is_invalid, has_result, work_limit, open_limit, status_of, text_of, Finds, passes_compile, passes_rows, finds_safe, finds_unsafe, finds_large, finds_none_small, IsAnswer, no_command, not_built, not_read, over_long, checked, validated, ran, shown, Ends, Gives, KeepsToLimits, Runs, sheet_passes, too_much_work, too_open, gives_result}
 use Rattle.tc_top.specs.AnswersSeen.{IsRightFor}
-use Rattle.tc_top.specs.OneAnswer.{AreAlike, same_answer, counterexamples, work_or_open, open_or_work, open_reasons, IsOfFault}
+use Rattle.tc_top.specs.OneAnswer.{AreAlike, same_answer, counterexamples, large_counterexamples, large_or_not, not_large_or_large, row_limits, work_or_open, open_or_work, open_reasons, IsOfFault}
 use Rattle.tc_top.specs.declared.answer.Answer.{Answer as Said}
 use Rattle.tc_top.specs.declared.status.Status.{Status}
-use Rattle.tc_top.specs.declared.status.Status.TheVariants.{Yes, Limit}
+use Rattle.tc_top.specs.declared.status.Status.TheVariants.{Yes, No, Limit}
 use Rattle.tc_top.specs.Limits.{IsRunWithin}
-use Rattle.tc_top.proofs.FirstText.{schema_unique, sheet_unique}
-use Rattle.tc_top.proofs.Exact.{Agrees, not_both, checked_only, validated_only, ran_only, read_two, read_three}
+use Rattle.tc_model.specs.RncText.{RncText}
+use Rattle.tc_read.specs.Sheets.{IsSheetOf}
+use Rattle.tc_top.specs.Demo.{demo_schema, demo_sheet}
+use Rattle.tc_top.specs.declared.limits.TheConstants.{MOST_ROWS}
+use Rattle.tc_top.specs.Words.{Words, check, demo}
+use Rattle.tc_top.proofs.Exact.{Agrees, checked_only, validated_only, ran_only, shown_only, shown_reads, held_texts, read_two, read_three}
+use Rattle.tc_top.proofs.OneCheck.{not_both, over_compile, one_compile, near_far, finds_of}
+use Rattle.tc_top.proofs.OneCommand.{one_command}
 use Rattle.tc_top.proofs.OneValidity.{Settles, settles_valid, settles_invalid, settles}
-use Rattle.tc_top.proofs.OneRun.{runs_of, not_within, not_few, not_low}
+use Rattle.tc_top.proofs.OneRun.{one_result, runs_of, not_within, not_few, not_low}
 
 alike_status : {one other : Answer} → AreAlike one other → status_of other ≡ status_of one
 alike_status same_answer = refl
 alike_status counterexamples = refl
+alike_status large_counterexamples = refl
+alike_status large_or_not = refl
+alike_status not_large_or_large = refl
+alike_status row_limits = refl
 alike_status work_or_open = refl
 alike_status open_or_work = refl
 alike_status (open_reasons o p) = refl
@@ -35,8 +49,11 @@ cut_short status (cannot_read name) e h = inr (inr (e, h))
 cut_short status usage e h = absurd h
 cut_short status (not_yet name) e h = absurd h
 cut_short status file_limit e h = absurd h
-cut_short status safe e h = absurd h
+cut_short status (safe tree_rows hedge_rows output_sets) e h = absurd h
 cut_short status (unsafe document output) e h = absurd h
+cut_short status (unsafe_large document) e h = absurd h
+cut_short status (rows_limit count number) e h = absurd h
+cut_short status counterexample_limit e h = absurd h
 cut_short status (refused name reason place) e h = absurd h
 cut_short status (over_limit kind number) e h = absurd h
 cut_short status is_valid e h = absurd h
@@ -62,55 +79,173 @@ ends_at {words} {other} {happened} {faulted} {old} {new} {status} same ends = su
 pub at_told : {told other : Option Files} (rose : Type 0) (reads : List Read) → told ≡ other → AreTrue told rose reads → AreTrue other rose reads
 at_told {told} {other} rose reads same true = subst (λ t. AreTrue t rose reads) same true
 
-module _ (i o : Schema) (t : Trees) where
-  -- what the three texts decide
-  data Decided : Answer → Type 0 where
-    decided_safe : IsSafe (grammar_of i) (grammar_of o) (sheet_of t) → Decided safe
-    decided_unsafe : {document result : Trees} → IsCounterexample (grammar_of i) (grammar_of o) (sheet_of t) document result → Decided (unsafe document result)
+-- one that can be shown isn't nested deeper than a text may be, so it is read back
+deep_within : (t : Trees) → nesting t ≤ node_count t
+deep_within none = omega arith
+deep_within (text s rest) = omega (arith, deep_within rest)
+deep_within (element n kids rest) = grind (arith, deep_within kids, deep_within rest)
 
-  decided : {input output sheet b c d : List ℕ} {answer : Answer} → FirstSchemaText b i → FirstSchemaText c o → FirstSheetText d t → Checks input output sheet b c d answer → Decided answer
-  decided x y z (is_other_form (other_input n)) = absurd (n _ x)
-  decided x y z (is_other_form (other_output p n)) = absurd (n _ y)
-  decided x y z (is_other_form (other_sheet p q n)) = absurd (n _ z)
-  decided x y z (is_safe {i = j} {o = p} {t = u} k l m h) =
-      decided_safe (subst (λ v. IsSafe (grammar_of v) (grammar_of o) (sheet_of t)) (schema_unique k x)
-      (subst (λ v. IsSafe (grammar_of j) (grammar_of v) (sheet_of t)) (schema_unique l y)
-      (subst (λ v. IsSafe (grammar_of j) (grammar_of p) (sheet_of v)) (sheet_unique m z) h)))
-  decided x y z (is_unsafe {i = j} {o = p} {t = u} {document} {result} k l m h) =
-      decided_unsafe (subst (λ v. IsCounterexample (grammar_of v) (grammar_of o) (sheet_of t) document result) (schema_unique k x)
-      (subst (λ v. IsCounterexample (grammar_of j) (grammar_of v) (sheet_of t) document result) (schema_unique l y)
-      (subst (λ v. IsCounterexample (grammar_of j) (grammar_of p) (sheet_of v) document result) (sheet_unique m z) h)))
+reads_back : {i o : Grammar} {s : Sheet} {document : Trees} → IsLeastCounter i o s document → IsReadAs (printed document) document
+reads_back {document = document} least = read_back document (record { document = least.counter.1.0.0; shallow = omega (arith, deep_within document, least.few) })
 
-  exact_decision : {b c d : List ℕ} (status : Status) (old new : Option (List ℕ)) (answer : Answer) → FirstSchemaText b i → FirstSchemaText c o → FirstSheetText d t
-      → status ≡ status_of answer → Appended old new (text_of answer) → Decided answer → DecidesSafety status old new (grammar_of i) (grammar_of o) (sheet_of t)
-  exact_decision status old new answer x y z is written (decided_safe h) = record {
-    yes = (λ _. h, λ _. is);
-    no = (λ e. absurd (let k = sym is ∙ e in cc), λ n. absurd (n h));
-    yes_text = λ _. written;
-    no_text = λ e. absurd (let k = sym is ∙ e in cc);
+-- what a status isn't
+
+not_no : {status : Status} → status ≡ Yes → status ≡ No → ⊥
+not_no e f = absurd (let g = sym e ∙ f in cc)
+
+not_limit : {status : Status} → status ≡ Yes → status ≡ Limit → ⊥
+not_limit e f = absurd (let g = sym e ∙ f in cc)
+
+no_limit : {status : Status} → status ≡ No → status ≡ Limit → ⊥
+no_limit e f = absurd (let g = sym e ∙ f in cc)
+
+-- the line of the one limit that is told
+compile_lines : (old new : Option (List ℕ)) {kind other : kinds.Limit} {number count : ℕ} → AreAlike (over_limit kind number) (over_limit other count) → Appended old new (text_of (over_limit kind number))
+    → Appended old new (text_of (over_limit other count))
+compile_lines old new same_answer written = written
+
+small_far : {i o : Grammar} {s : Sheet} → HasSmallCounter i o s → HasLargeCounters i o s → ⊥
+small_far (document, counter, few) large = let far = large.large document counter in omega (arith, few, far)
+
+module _ (most : ℕ) (i o : Grammar) (s : Sheet) (status : Status) (old new : Option (List ℕ)) where
+  abbrev Decides : Type 0
+  Decides = DecidesSafety status old new most i o s
+
+  -- what isn't limited
+  few_not_limited : IsCompiled i o s → HasFewRows i o s most → (HasLargeCounters i o s → ⊥) → IsLimited most i o s → ⊥
+  few_not_limited w f n (limited_before_rows p) = over_compile p w
+  few_not_limited w f n (limited_in_rows count v p) = f count p
+  few_not_limited w f n (limited_in_nodes v g l) = n l
+
+  is_yes : {a b c : ℕ} → status ≡ Yes → Appended old new (text_of (safe a b c)) → IsCompiled i o s → HasFewRows i o s most → AreRowCounts i o s a b c → IsSafe i o s → Decides
+  is_yes {a} {b} {c} is written w f n h = record {
+    yes = (λ _. (w, f, h), λ _. is);
+    no = (λ e. absurd (not_no is e), λ x. absurd (not_both i o s h x.2.1));
+    limit = (λ e. absurd (not_limit is e), λ l. absurd (few_not_limited w f (λ x. not_both i o s h x.some.1) l));
+    one = inl is;
+    yes_text = λ _. (a, b, c, n, written);
+    no_text = λ e. absurd (not_no is e);
+    compile_text = λ kind number p. absurd (over_compile p w);
+    rows_text = λ count v p. absurd (f count p);
+    nodes_text = λ v g l. absurd (not_both i o s h l.some.1);
   }
-  exact_decision status old new answer x y z is written (decided_unsafe {document} {result} h) = record {
-    yes = (λ e. absurd (let k = sym is ∙ e in cc), λ s. absurd (not_both x y z s x y z h));
-    no = (λ _. λ s. not_both x y z s x y z h, λ _. is);
-    yes_text = λ e. absurd (let k = sym is ∙ e in cc);
-    no_text = λ _. (document, result, h, written);
+
+  is_no : {document : Trees} → status ≡ No → IsCompiled i o s → HasFewRows i o s most → IsLeastCounter i o s document → ShowsRun old new s document → Decides
+  is_no {document} is w f l display = record {
+    yes = (λ e. absurd (not_no e is), λ x. absurd (not_both i o s x.2 l.counter));
+    no = (λ _. (w, f, (document, l.counter, l.few)), λ _. is);
+    limit = (λ e. absurd (no_limit is e), λ x. absurd (few_not_limited w f (λ y. near_far l y) x));
+    one = inr (inl is);
+    yes_text = λ e. absurd (not_no e is);
+    no_text = λ _. (document, l, reads_back l, display);
+    compile_text = λ kind number p. absurd (over_compile p w);
+    rows_text = λ count v p. absurd (f count p);
+    nodes_text = λ v g x. absurd (near_far l x);
   }
 
-pub headline : {words : List (List ℕ)} {rose : Type 0} {reads : List Read} (files : Files) (i o : Schema) (t : Trees) (status : Status) (old new : Option (List ℕ)) (answer : Answer) → ChecksFiles words files i o t
-    → AreTrue (Some files) rose reads → IsAnswer words reads answer → status ≡ status_of answer → Appended old new (text_of answer)
-    → IsCutShort status rose ⊎ DecidesSafety status old new (grammar_of i) (grammar_of o) (sheet_of t)
-headline {words} {rose} {reads} files i o t status old new answer c true right is written =
-    by (read_three rose files c.input c.output c.sheet c.input_text c.output_text c.sheet_text c.words_are tt refl c.input_held (first_short _ c.input_spells.short) c.output_held (first_short _ c.output_spells.short)
-    c.sheet_held (first_short _ c.sheet_spells.short) true right)
+  -- what is found decides all
+  decides : {answer : Answer} → status ≡ status_of answer → Appended old new (text_of answer) → Finds most i o s answer → Decides
+  decides is written (passes_compile {kind = k} {number = n} p) = record {
+    yes = (λ e. absurd (not_limit e is), λ x. absurd (over_compile p x.0));
+    no = (λ e. absurd (no_limit e is), λ x. absurd (over_compile p x.0));
+    limit = (λ _. limited_before_rows p, λ _. is);
+    one = inr (inr is);
+    yes_text = λ e. absurd (not_limit e is);
+    no_text = λ e. absurd (no_limit e is);
+    compile_text = λ kind number q. compile_lines old new (one_compile p q) written;
+    rows_text = λ count w q. absurd (over_compile p w);
+    nodes_text = λ w f l. absurd (over_compile p w);
+  }
+  decides is written (passes_rows c w p) = record {
+    yes = (λ e. absurd (not_limit e is), λ x. absurd (x.1 c p));
+    no = (λ e. absurd (no_limit e is), λ x. absurd (x.1 c p));
+    limit = (λ _. limited_in_rows c w p, λ _. is);
+    one = inr (inr is);
+    yes_text = λ e. absurd (not_limit e is);
+    no_text = λ e. absurd (no_limit e is);
+    compile_text = λ kind number q. absurd (over_compile q w);
+    rows_text = λ count v q. (c, p, written);
+    nodes_text = λ v f l. absurd (f c p);
+  }
+  decides is written (finds_safe w f n h) = is_yes is written w f n h
+  decides is written (finds_unsafe w f l k r) = is_no is w f l (shows_result k r written)
+  decides is written (finds_large w f l k) = is_no is w f l (shows_large k written)
+  decides is written (finds_none_small w f l) = record {
+    yes = (λ e. absurd (not_limit e is), λ x. absurd (not_both i o s x.2 l.some.1));
+    no = (λ e. absurd (no_limit e is), λ x. absurd (small_far x.2 l));
+    limit = (λ _. limited_in_nodes w f l, λ _. is);
+    one = inr (inr is);
+    yes_text = λ e. absurd (not_limit e is);
+    no_text = λ e. absurd (no_limit e is);
+    compile_text = λ kind number q. absurd (over_compile q w);
+    rows_text = λ count v q. absurd (f count q);
+    nodes_text = λ v g m. written;
+  }
+
+pub headline : {words : List (List ℕ)} {rose : Type 0} {reads : List Read} (files : Files) (limit : Option ℕ) (i o : Grammar) (s : Sheet) (status : Status) (old new : Option (List ℕ)) (answer : Answer)
+    → ChecksShortFiles words files limit i o s → AreTrue (Some files) rose reads → IsAnswer words reads answer → status ≡ status_of answer → Appended old new (text_of answer)
+    → IsCutShort status rose ⊎ DecidesSafety status old new (most_rows limit) i o s
+headline {words} {rose} {reads} files limit i o s status old new answer short true right is written =
+    by (read_three rose files c.input c.output c.sheet c.input_text c.output_text c.sheet_text c.words_are tt refl c.input_held short.input_short c.output_held short.output_short c.sheet_held short.sheet_short true right)
   where
-    first_short : (bytes : List ℕ) → length bytes ≤ 4096 → length bytes ≤ longest_file
-    first_short bytes h = omega (arith, h)
+    c : ChecksFiles words files limit i o s
+    c = short.checks
 
     by : IsOfFault rose answer ⊎ (reads ≡ (c.input, Ok c.input_text) ∷ (c.output, Ok c.output_text) ∷ (c.sheet, Ok c.sheet_text) ∷ [])
-        → IsCutShort status rose ⊎ DecidesSafety status old new (grammar_of i) (grammar_of o) (sheet_of t)
+        → IsCutShort status rose ⊎ DecidesSafety status old new (most_rows limit) i o s
     by (inl fault) = inl (cut_short status answer is fault)
-    by (inr read) = inr (exact_decision i o t status old new answer c.input_spells c.output_spells c.sheet_spells is written
-        (decided i o t c.input_spells c.output_spells c.sheet_spells (checked_only c.words_are read right)))
+    by (inr read) = inr (decides (most_rows limit) i o s status old new is written (finds_of c.input_spells c.output_spells c.sheet_spells (checked_only c.words_are read right)))
+
+-- what a check found whose answer is such a one, its files being held
+found : (rose : Type 0) {words : List (List ℕ)} {reads : List Read} (files : Files) (limit : Option ℕ) (i o : Grammar) (s : Sheet) {answer : Answer} → ChecksFiles words files limit i o s
+    → AreTrue (Some files) rose reads → IsAnswer words reads answer → (status_of answer ≡ Yes) ⊎ (status_of answer ≡ No) → Finds (most_rows limit) i o s answer
+found rose files limit i o s c true (no_command n e) which = absurd (n _ c.words_are)
+found rose files limit i o s c true (not_built w x r e) which = let same = one_command w c.words_are in absurd (x (subst IsBuilt (sym same) tt))
+found rose files limit i o s c true (not_read w b t u) (inl e) = absurd (cc)
+found rose files limit i o s c true (not_read w b t u) (inr e) = absurd (cc)
+found rose files limit i o s c true (over_long w b t) (inl e) = absurd (cc)
+found rose files limit i o s c true (over_long w b t) (inr e) = absurd (cc)
+found rose files limit i o s c true (checked v same x) which =
+    finds_of c.input_spells c.output_spells c.sheet_spells (held_texts files rose c.words_are c.input_held c.output_held c.sheet_held v same true x)
+found rose files limit i o s c true (validated w r x) which = let same = one_command w c.words_are in absurd (cc)
+found rose files limit i o s c true (ran w r x) which = let same = one_command w c.words_are in absurd (cc)
+found rose files limit i o s c true (shown w r x) which = let same = one_command w c.words_are in absurd (cc)
+
+-- yes says that it is safe, and no shows that it isn't
+
+says_safe : {most : ℕ} {i o : Grammar} {s : Sheet} {answer : Answer} → Finds most i o s answer → status_of answer ≡ Yes → IsSafe i o s
+says_safe (passes_compile p) e = absurd (cc)
+says_safe (passes_rows c w p) e = absurd (cc)
+says_safe (finds_safe w f n h) e = h
+says_safe (finds_unsafe w f l k r) e = absurd (cc)
+says_safe (finds_large w f l k) e = absurd (cc)
+says_safe (finds_none_small w f l) e = absurd (cc)
+
+shows : {most : ℕ} {i o : Grammar} {s : Sheet} {answer : Answer} (old new : Option (List ℕ)) → Finds most i o s answer → status_of answer ≡ No → Appended old new (text_of answer)
+    → ShowsCounterexample old new i o s
+shows old new (passes_compile p) e written = absurd (cc)
+shows old new (passes_rows c w p) e written = absurd (cc)
+shows old new (finds_safe w f n h) e written = absurd (cc)
+shows {i = i} {o = o} {s = s} old new (finds_unsafe {document = d} {result = r} w f l k is) e written =
+    shows_both (l.counter.1.0, is, subst (λ (t : Trees). IsValidOutput o t → ⊥) (one_result s d l.counter.0 r l.counter.1.1 is) l.counter.1.2) written
+shows old new (finds_large w f l k) e written = shows_document l.counter.1 written
+shows old new (finds_none_small w f l) e written = absurd (cc)
+
+pub safe_is_so : (rose : Type 0) {words : List (List ℕ)} {reads : List Read} (files : Files) (limit : Option ℕ) (i o : Grammar) (s : Sheet) (status : Status) (answer : Answer)
+    → ChecksFiles words files limit i o s → AreTrue (Some files) rose reads → IsAnswer words reads answer → status ≡ status_of answer → status ≡ Yes → IsSafe i o s
+safe_is_so rose files limit i o s status answer c true right is e = says_safe (found rose files limit i o s c true right (inl (sym is ∙ e))) (sym is ∙ e)
+
+pub unsafe_is_shown : (rose : Type 0) {words : List (List ℕ)} {reads : List Read} (files : Files) (limit : Option ℕ) (i o : Grammar) (s : Sheet) (status : Status) (old new : Option (List ℕ)) (answer : Answer)
+    → ChecksFiles words files limit i o s → AreTrue (Some files) rose reads → IsAnswer words reads answer → status ≡ status_of answer → Appended old new (text_of answer) → status ≡ No
+    → ShowsCounterexample old new i o s
+unsafe_is_shown rose files limit i o s status old new answer c true right is written e = shows old new (found rose files limit i o s c true right (inr (sym is ∙ e))) (sym is ∙ e) written
+
+-- a demonstration is decided as a check of its texts is
+pub demonstrated : {words : List (List ℕ)} {reads : List Read} (size : ℕ) (g : Grammar) (s : Sheet) (status : Status) (old new : Option (List ℕ)) (answer : Answer) → Words words (demo size)
+    → RncText (demo_schema size) g → IsSheetOf demo_sheet s → IsAnswer words reads answer → status ≡ status_of answer → Appended old new (text_of answer)
+    → DecidesSafety status old new MOST_ROWS g g s
+demonstrated size g s status old new answer w spells means right is written =
+    decides MOST_ROWS g g s status old new is written (finds_of spells spells means (shown_only w (shown_reads w right) right))
 
 settled : {g : Grammar} {d : Trees} {answer : Answer} (status : Status) (old new : Option (List ℕ)) → status ≡ status_of answer → Appended old new (text_of answer) → Settles g d answer
     → DecidesValidity status old new g d

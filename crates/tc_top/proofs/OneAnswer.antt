@@ -1,7 +1,7 @@
 -- Words and files have one answer, but for what is left open.
 use Rattle.std.proofs.Common.{inl, inr}
 use Rattle.tc_io.specs.Faults.{Rose}
-use Rattle.tc_top.specs.Answers.{Answer, usage, not_yet, cannot_read, file_limit, safe, unsafe, refused, over_limit, is_valid, is_invalid, has_result, work_limit, open_limit}
+use Rattle.tc_top.specs.Answers.{Answer, usage, not_yet, cannot_read, file_limit, safe, unsafe, unsafe_large, rows_limit, counterexample_limit, refused, over_limit, is_valid, is_invalid, has_result, work_limit, open_limit}
 use Rattle.tc_top.specs.OneAnswer.{AreAlike, IsOfFault, HasOneAnswer, HasOneAnswerOn, HasAnswerOfCall}
 use Rattle.tc_top.proofs.Exact.{Agrees, by_reads, exact}
 
@@ -10,8 +10,11 @@ no_fault (cannot_read name) h = h
 no_fault usage h = h
 no_fault (not_yet name) h = h
 no_fault file_limit h = h
-no_fault safe h = h
+no_fault (safe tree_rows hedge_rows output_sets) h = h
 no_fault (unsafe document output) h = h
+no_fault (unsafe_large document) h = h
+no_fault (rows_limit count number) h = h
+no_fault counterexample_limit h = h
 no_fault (refused name reason place) h = h
 no_fault (over_limit kind number) h = h
 no_fault is_valid h = h

@@ -62,7 +62,7 @@ no_sheet BadExcept place r x = r
 pub one_sheet_of : {bytes : List ℕ} {s t : Sheet} → IsSheetOf bytes s → IsSheetOf bytes t → s ≡ t
 one_sheet_of {bytes} {s} {t} x y = one_sheet y.raw s t (means_at x y.raw y.text) y.means
 
-over : {symbols : List Mention} {s : Sheet} {kind : Limit} {number : ℕ} → SheetPasses symbols s kind number → IsWithinSheetLimits symbols s → ⊥
+pub over : {symbols : List Mention} {s : Sheet} {kind : Limit} {number : ℕ} → SheetPasses symbols s kind number → IsWithinSheetLimits symbols s → ⊥
 over (sheet_symbols p) w = omega (arith, p, w.few)
 over (sheet_predicates q p) w = w.numbers.0 p
 over (sheet_ancestors q a p) w = w.numbers.1 p
@@ -71,14 +71,14 @@ over (sheet_selects q a b p) w = w.numbers.2 p
 one_outcome : (s : Sheet) (d : Trees) (o p : Outcome) → Transforms s d o → Transforms s d p → o ≡ p
 one_outcome s d o p t u = instantiates_unique s (by_mode 0) (top d) o p t u
 
-over_work : (s : Sheet) (d : Trees) (o : Outcome) → Transforms s d o → most_work < o.work → KeepsLimits s d → ⊥
+pub over_work : (s : Sheet) (d : Trees) (o : Outcome) → Transforms s d o → most_work < o.work → KeepsLimits s d → ⊥
 over_work s d o t p k = let few = subst (λ (x : Outcome). x.work ≤ most_work) (one_outcome s d k.0 o k.1 t) k.2 in omega (arith, p, few)
 
-over_open : (s : Sheet) (d : Trees) (o : Outcome) → Transforms s d o → most_open < o.nesting → KeepsLimits s d → ⊥
+pub over_open : (s : Sheet) (d : Trees) (o : Outcome) → Transforms s d o → most_open < o.nesting → KeepsLimits s d → ⊥
 over_open s d o t p k = let low = subst (λ (x : Outcome). x.nesting ≤ most_open) (one_outcome s d k.0 o k.1 t) k.3 in omega (arith, p, low)
 
 -- the first limit that a stylesheet passes is one
-one_limit : {symbols : List Mention} {s : Sheet} {kind other : Limit} {number count : ℕ} → SheetPasses symbols s kind number → SheetPasses symbols s other count → AreAlike (over_limit kind number) (over_limit other count)
+pub one_limit : {symbols : List Mention} {s : Sheet} {kind other : Limit} {number count : ℕ} → SheetPasses symbols s kind number → SheetPasses symbols s other count → AreAlike (over_limit kind number) (over_limit other count)
 one_limit (sheet_symbols p) (sheet_symbols q) = same_answer
 one_limit (sheet_symbols p) (sheet_predicates q x) = absurd (omega (arith, p, q))
 one_limit (sheet_symbols p) (sheet_ancestors q a x) = absurd (omega (arith, p, q))
@@ -96,7 +96,7 @@ one_limit (sheet_selects p a b x) (sheet_predicates q y) = absurd (a y)
 one_limit (sheet_selects p a b x) (sheet_ancestors q c y) = absurd (b y)
 one_limit (sheet_selects p a b x) (sheet_selects q c d y) = same_answer
 
-one_result : (s : Sheet) (d r q : Trees) → IsResultOf s d r → IsResultOf s d q → r ≡ q
+pub one_result : (s : Sheet) (d r q : Trees) → IsResultOf s d r → IsResultOf s d q → r ≡ q
 one_result s d r q x y = x.2 ∙ (ap (λ (o : Outcome). normal_form o.out) (one_outcome s d x.0 y.0 x.1 y.1) ∙ sym y.2)
 
 runs_one : {s : Sheet} {d : Trees} {one other : Answer} → Runs s d one → Runs s d other → AreAlike one other

@@ -55,12 +55,12 @@ no_document CallLoop place r x = r
 pub one_document : {bytes : List ℕ} {c d : Trees} → IsReadAs bytes c → IsReadAs bytes d → c ≡ d
 one_document {bytes} x y = sym x.document ∙ (ap stripped (one_raw_tree bytes x.raw y.raw x.spells y.spells) ∙ y.document)
 
-too_large : {g : Grammar} {kind : Limit} {number : ℕ} → PassesSize g kind number → IsWithinCounts g → ⊥
+pub too_large : {g : Grammar} {kind : Limit} {number : ℕ} → PassesSize g kind number → IsWithinCounts g → ⊥
 too_large (passes_pattern p) w = omega (arith, p, w.nodes)
 too_large (passes_depth p) w = omega (arith, p.1, w.depth)
 too_large (passes_elements p) w = omega (arith, p.2, w.elements)
 
-over : {g : Grammar} {side : Side} {most : ℕ} {kind : Limit} {number : ℕ} → PassesLimit g side most kind number → IsWithinLimits g side most → ⊥
+pub over : {g : Grammar} {side : Side} {most : ℕ} {kind : Limit} {number : ℕ} → PassesLimit g side most kind number → IsWithinLimits g side most → ⊥
 over (passes_size p) w = too_large p w.counts
 over (passes_states c p) w = omega (arith, p, w.states)
 
@@ -76,7 +76,7 @@ one_size (passes_elements p) (passes_pattern q) = absurd (omega (arith, q, p.0))
 one_size (passes_elements p) (passes_depth q) = absurd (omega (arith, q.1, p.1))
 one_size (passes_elements p) (passes_elements q) = same_answer
 
-one_limit : {g : Grammar} {side : Side} {most : ℕ} {kind other : Limit} {number count : ℕ} → PassesLimit g side most kind number → PassesLimit g side most other count
+pub one_limit : {g : Grammar} {side : Side} {most : ℕ} {kind other : Limit} {number count : ℕ} → PassesLimit g side most kind number → PassesLimit g side most other count
     → AreAlike (over_limit kind number) (over_limit other count)
 one_limit (passes_size p) (passes_size q) = one_size p q
 one_limit (passes_size p) (passes_states c q) = absurd (too_large p c)

@@ -11,7 +11,7 @@ use Rattle.tc_io.specs.declared.StoreFault.TheVariants.{TooLong}
 use Rattle.tc_model.specs.Trees.{Trees}
 use Rattle.tc_model.specs.Grammars.{Grammar}
 use Rattle.tc_model.specs.Sheets.{Sheet}
-use Rattle.tc_model.specs.Safety.{IsSafe, IsCounterexample, Transforms, IsResultOf}
+use Rattle.tc_model.specs.Safety.{IsSafe, Transforms, IsResultOf}
 use Rattle.tc_model.specs.States as side
 use Rattle.tc_model.specs.Symbols.{symbol_count}
 use Rattle.tc_model.specs.Outcomes.{Outcome}
@@ -21,10 +21,12 @@ use Rattle.tc_model.specs.Validity.{IsValid}
 use Rattle.tc_print.specs.ReadBack.{IsReadAs}
 use Rattle.tc_run.specs.Spent.{most_work, most_open}
 use Rattle.tc_read.specs.Sheets.{IsSheetOf}
-use Rattle.tc_top.specs.FirstForm.{Schema, grammar_of, sheet_of}
-use Rattle.tc_top.specs.FirstText.{FirstSchemaText, FirstSheetText}
+use Rattle.tc_run.specs.Limits.{KeepsLimits}
+use Rattle.tc_top.specs.Checking.{RowCount, most_rows, most_of, IsCompiled, PassesCompile, HasManyRows, HasFewRows, AreRowCounts, IsLeastCounter, HasLargeCounters, IsLargeRun}
+use Rattle.tc_top.specs.declared.limits.TheConstants.{MOST_ROWS, MOST_SHOWN_NODES}
+use Rattle.tc_top.specs.Demo.{demo_schema, demo_sheet, input_name, output_name, sheet_name}
 use Rattle.tc_top.specs.Headline.{IsCutShort}
-use Rattle.tc_top.specs.Lines.{line, limit_line}
+use Rattle.tc_top.specs.Lines.{line, limit_line, count_word, safe_line, unsafe_lines, unsafe_large_lines}
 use Rattle.tc_top.specs.Words.{Command, check, prove, verify, run, valid, demo, Words, IsNoCommand, name_of, operands_of}
 use Rattle.tc_read.specs.Refusals.{reason_text, IsRefusedSchema, IsRefusedDocument, IsRefusedSheet}
 use Rattle.tc_read.specs.declared.faults.Reason.{Reason}
@@ -35,12 +37,18 @@ use Rattle.tc_top.specs.declared.status.Status.TheVariants.{Yes, No, Usage, Refu
 
 pub data Answer : Type 0 where
   usage : Answer
-  -- a command that isn't carried out yet, or an operand of a form that isn't read yet
+  -- a command that isn't carried out yet
   not_yet : (name : List ℕ) → Answer
   cannot_read : (name : List ℕ) → Answer
   file_limit : Answer
-  safe : Answer
+  safe : (tree_rows hedge_rows output_sets : ℕ) → Answer
   unsafe : (document output : Trees) → Answer
+  -- its run on the document passes a limit
+  unsafe_large : (document : Trees) → Answer
+  -- there are more rows, or sets of pairs in them, than there may be
+  rows_limit : (count : RowCount) (number : ℕ) → Answer
+  -- all counterexamples are too large to be shown
+  counterexample_limit : Answer
   -- the text of an operand is refused at a place
   refused : (name : List ℕ) (reason : Reason) (place : ℕ) → Answer
   over_limit : (kind : kinds.Limit) (number : ℕ) → Answer
@@ -57,8 +65,11 @@ status_of usage = Usage
 status_of (not_yet name) = Refused
 status_of (cannot_read name) = ReadFault
 status_of file_limit = Limit
-status_of safe = Yes
+status_of (safe tree_rows hedge_rows output_sets) = Yes
 status_of (unsafe document output) = No
+status_of (unsafe_large document) = No
+status_of (rows_limit count number) = Limit
+status_of counterexample_limit = Limit
 status_of (refused name reason place) = Refused
 status_of (over_limit kind number) = Limit
 status_of is_valid = Yes
@@ -73,8 +84,11 @@ text_of usage = line (codes "usage: check|prove [--limit N] IN OUT SHEET; verify
 text_of (not_yet name) = line (codes "refused " ++ name ++ codes " not-yet")
 text_of (cannot_read name) = line (codes "cannot read " ++ name)
 text_of file_limit = limit_line (codes "file") LONGEST_FILE
-text_of safe = line (codes "safe")
-text_of (unsafe document output) = line (codes "unsafe") ++ line (codes "document " ++ printed document) ++ line (codes "output " ++ printed output)
+text_of (safe tree_rows hedge_rows output_sets) = safe_line tree_rows hedge_rows output_sets
+text_of (unsafe document output) = unsafe_lines document output
+text_of (unsafe_large document) = unsafe_large_lines document
+text_of (rows_limit count number) = limit_line (count_word count) number
+text_of counterexample_limit = limit_line (codes "counterexample") MOST_SHOWN_NODES
 text_of (refused name reason place) = line (codes "refused " ++ name ++ codes " " ++ reason_text reason ++ codes " at " ++ decimal place)
 text_of (over_limit kind number) = limit_line (limit_word kind) number
 text_of is_valid = line (codes "valid")
@@ -85,31 +99,44 @@ text_of open_limit = limit_line (codes "open") MOST_OPEN
 
 -- a command that is carried out
 abbrev pub IsBuilt : Command → Type 0
-IsBuilt (check None input output sheet) = Unit {0}
-IsBuilt (check (Some limit) input output sheet) = ⊥
+IsBuilt (check limit input output sheet) = Unit {0}
 IsBuilt (prove limit input output sheet) = ⊥
 IsBuilt (verify input output sheet certificate) = ⊥
 IsBuilt (run sheet document) = Unit {0}
 IsBuilt (valid schema document) = Unit {0}
-IsBuilt (demo size) = ⊥
+IsBuilt (demo size) = Unit {0}
 
--- words of no command, and of a command that isn't carried out, for which nothing is read
+-- a command that is carried out on files
+abbrev pub ReadsFiles : Command → Type 0
+ReadsFiles (check limit input output sheet) = Unit {0}
+ReadsFiles (run sheet document) = Unit {0}
+ReadsFiles (valid schema document) = Unit {0}
+ReadsFiles _ = ⊥
+
+-- words of no command, of a command that isn't carried out, and of one that makes its texts, for which nothing is read
 abbrev pub ReadsNothing : List (List ℕ) → Type 0
-ReadsNothing words = (command : Command) → Words words command → ¬ (IsBuilt command)
+ReadsNothing words = (command : Command) → Words words command → ¬ (ReadsFiles command)
 
--- the first of three operands whose text is of another form
-pub data IsOtherForm (input output sheet input_text output_text sheet_text : List ℕ) : List ℕ → Type 0 where
-  other_input : ((i : Schema) → FirstSchemaText input_text i → ⊥) → IsOtherForm input output sheet input_text output_text sheet_text input
-  other_output : {i : Schema} → FirstSchemaText input_text i → ((o : Schema) → FirstSchemaText output_text o → ⊥) → IsOtherForm input output sheet input_text output_text sheet_text output
-  other_sheet : {i o : Schema} → FirstSchemaText input_text i → FirstSchemaText output_text o → ((t : Trees) → FirstSheetText sheet_text t → ⊥) → IsOtherForm input output sheet input_text output_text sheet_text sheet
+-- what two schemas and a stylesheet decide, with so many rows of trees and of lists of trees at most
+pub data Finds (most : ℕ) (i o : Grammar) (s : Sheet) : Answer → Type 0 where
+  passes_compile : {kind : kinds.Limit} {number : ℕ} → PassesCompile i o s kind number → Finds most i o s (over_limit kind number)
+  passes_rows : (count : RowCount) → IsCompiled i o s → HasManyRows i o s most count → Finds most i o s (rows_limit count (most_of most count))
+  finds_safe : {tree_rows hedge_rows output_sets : ℕ} → IsCompiled i o s → HasFewRows i o s most → AreRowCounts i o s tree_rows hedge_rows output_sets → IsSafe i o s
+      → Finds most i o s (safe tree_rows hedge_rows output_sets)
+  finds_unsafe : {document result : Trees} → IsCompiled i o s → HasFewRows i o s most → IsLeastCounter i o s document → KeepsLimits s document → IsResultOf s document result
+      → Finds most i o s (unsafe document result)
+  finds_large : {document : Trees} → IsCompiled i o s → HasFewRows i o s most → IsLeastCounter i o s document → IsLargeRun s document → Finds most i o s (unsafe_large document)
+  finds_none_small : IsCompiled i o s → HasFewRows i o s most → HasLargeCounters i o s → Finds most i o s counterexample_limit
 
 -- what `check` answers on the texts of its operands
-pub data Checks (input output sheet input_text output_text sheet_text : List ℕ) : Answer → Type 0 where
-  is_other_form : {name : List ℕ} → IsOtherForm input output sheet input_text output_text sheet_text name → Checks input output sheet input_text output_text sheet_text (not_yet name)
-  is_safe : {i o : Schema} {t : Trees} → FirstSchemaText input_text i → FirstSchemaText output_text o → FirstSheetText sheet_text t
-      → IsSafe (grammar_of i) (grammar_of o) (sheet_of t) → Checks input output sheet input_text output_text sheet_text safe
-  is_unsafe : {i o : Schema} {t : Trees} {document result : Trees} → FirstSchemaText input_text i → FirstSchemaText output_text o → FirstSheetText sheet_text t
-      → IsCounterexample (grammar_of i) (grammar_of o) (sheet_of t) document result → Checks input output sheet input_text output_text sheet_text (unsafe document result)
+pub data Checks (most : ℕ) (input output sheet input_text output_text sheet_text : List ℕ) : Answer → Type 0 where
+  input_refused : {reason : Reason} {place : ℕ} → IsRefusedSchema input_text reason place → Checks most input output sheet input_text output_text sheet_text (refused input reason place)
+  output_refused : {i : Grammar} {reason : Reason} {place : ℕ} → RncText input_text i → IsRefusedSchema output_text reason place
+      → Checks most input output sheet input_text output_text sheet_text (refused output reason place)
+  stylesheet_refused : {i o : Grammar} {reason : Reason} {place : ℕ} → RncText input_text i → RncText output_text o → IsRefusedSheet sheet_text reason place
+      → Checks most input output sheet input_text output_text sheet_text (refused sheet reason place)
+  all_read : {i o : Grammar} {s : Sheet} {answer : Answer} → RncText input_text i → RncText output_text o → IsSheetOf sheet_text s → Finds most i o s answer
+      → Checks most input output sheet input_text output_text sheet_text answer
 
 -- what a schema and a document decide
 pub data Decides (g : Grammar) (d : Trees) : Answer → Type 0 where
@@ -146,15 +173,18 @@ pub data IsAnswer (words : List (List ℕ)) (reads : List Read) : Answer → Typ
   not_read : {command : Command} {name : List ℕ} {fault : StoreFault} → Words words command → IsBuilt command → StopsAt (operands_of command) reads name fault → IsUnreadable fault
       → IsAnswer words reads (cannot_read name)
   over_long : {command : Command} {name : List ℕ} → Words words command → IsBuilt command → StopsAt (operands_of command) reads name TooLong → IsAnswer words reads file_limit
-  checked : {input output sheet input_text output_text sheet_text : List ℕ} {answer : Answer} → Words words (check None input output sheet)
+  checked : {limit : Option ℕ} {input output sheet input_text output_text sheet_text : List ℕ} {answer : Answer} → Words words (check limit input output sheet)
       → reads ≡ (input, Ok input_text) ∷ (output, Ok output_text) ∷ (sheet, Ok sheet_text) ∷ []
-      → Checks input output sheet input_text output_text sheet_text answer → IsAnswer words reads answer
+      → Checks (most_rows limit) input output sheet input_text output_text sheet_text answer → IsAnswer words reads answer
   validated : {schema document schema_text document_text : List ℕ} {answer : Answer} → Words words (valid schema document)
       → reads ≡ (schema, Ok schema_text) ∷ (document, Ok document_text) ∷ []
       → Validates schema document schema_text document_text answer → IsAnswer words reads answer
   ran : {sheet document sheet_text document_text : List ℕ} {answer : Answer} → Words words (run sheet document)
       → reads ≡ (sheet, Ok sheet_text) ∷ (document, Ok document_text) ∷ []
       → RunsTexts sheet document sheet_text document_text answer → IsAnswer words reads answer
+
+  shown : {size : ℕ} {answer : Answer} → Words words (demo size) → reads ≡ []
+      → Checks MOST_ROWS input_name output_name sheet_name (demo_schema size) (demo_schema size) demo_sheet answer → IsAnswer words reads answer
 
 -- The answer of held files, where no read fails.
 abbrev pub IsAnswerOn : List (List ℕ) → Files → Answer → Type 0

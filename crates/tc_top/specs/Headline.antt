@@ -1,5 +1,6 @@
 -- What a call decides, where the store tells the texts.
 use Rattle.std.specs.Prelude.{◌≡◌, ◌≤◌, ◌⊎◌, ◌↔◌, ℕ, List, length, ◌++◌, Option, Some, None, codes}
+use Rattle.tc_base.specs.declared.Limit as kinds
 use Rattle.tc_io.specs.Store.{Files, longest_file}
 use Rattle.tc_io.specs.Sink.{Appended}
 use Rattle.tc_model.specs.Trees.{Trees}
@@ -11,40 +12,71 @@ use Rattle.tc_model.specs.RncText.{RncText}
 use Rattle.tc_model.specs.Validity.{IsValid}
 use Rattle.tc_print.specs.ReadBack.{IsReadAs}
 use Rattle.tc_read.specs.Sheets.{IsSheetOf}
-use Rattle.tc_top.specs.FirstForm.{Schema}
-use Rattle.tc_top.specs.FirstText.{FirstSchemaText, FirstSheetText}
-use Rattle.tc_top.specs.Limits.{IsValidityWithin}
-use Rattle.tc_top.specs.Lines.{line}
+use Rattle.tc_run.specs.Limits.{KeepsLimits}
+use Rattle.tc_top.specs.Checking.{RowCount, most_of, IsCompiled, PassesCompile, HasManyRows, HasFewRows, AreRowCounts, IsLeastCounter, HasSmallCounter, HasLargeCounters, IsLargeRun}
+use Rattle.tc_top.specs.Limits.{limit_word, IsValidityWithin}
+use Rattle.tc_top.specs.Lines.{line, limit_line, count_word, safe_line, unsafe_lines, unsafe_large_lines}
 use Rattle.tc_top.specs.Words.{check, run, valid, Words}
+use Rattle.tc_top.specs.declared.limits.TheConstants.{MOST_SHOWN_NODES}
 use Rattle.tc_top.specs.declared.status.Status.{Status}
-use Rattle.tc_top.specs.declared.status.Status.TheVariants.{Yes, No, ReadFault, WriteFault, NoMemory}
+use Rattle.tc_top.specs.declared.status.Status.TheVariants.{Yes, No, Limit, ReadFault, WriteFault, NoMemory}
 
 -- the call was cut short: memory was refused, a write failed, or a read failed
 abbrev pub IsCutShort : Status → Type 0 → Type 0
 IsCutShort status rose = (status ≡ NoMemory) ⊎ ((status ≡ WriteFault) ⊎ ((status ≡ ReadFault) × rose))
 
--- the words are a check of held files whose texts spell two schemas and the trees that the stylesheet puts out
-pub record ChecksFiles (words : List (List ℕ)) (files : Files) (i o : Schema) (t : Trees) : Type 0 where
+-- the words are a check of held files whose texts spell two schemas and a stylesheet
+pub record ChecksFiles (words : List (List ℕ)) (files : Files) (limit : Option ℕ) (i o : Grammar) (s : Sheet) : Type 0 where
   pub input : List ℕ
   pub output : List ℕ
   pub sheet : List ℕ
-  pub words_are : Words words (check None input output sheet)
+  pub words_are : Words words (check limit input output sheet)
   pub input_text : List ℕ
   pub output_text : List ℕ
   pub sheet_text : List ℕ
   pub input_held : files input ≡ Some input_text
   pub output_held : files output ≡ Some output_text
   pub sheet_held : files sheet ≡ Some sheet_text
-  pub input_spells : FirstSchemaText input_text i
-  pub output_spells : FirstSchemaText output_text o
-  pub sheet_spells : FirstSheetText sheet_text t
+  pub input_spells : RncText input_text i
+  pub output_spells : RncText output_text o
+  pub sheet_spells : IsSheetOf sheet_text s
 
--- yes exactly where the stylesheet is safe, with the line of it; no exactly where it isn't, with a counterexample and its result
-pub record DecidesSafety (status : Status) (old new : Option (List ℕ)) (input output : Grammar) (sheet : Sheet) : Type 0 where
-  pub yes : (status ≡ Yes) ↔ IsSafe input output sheet
-  pub no : (status ≡ No) ↔ ¬ (IsSafe input output sheet)
-  pub yes_text : status ≡ Yes → Appended old new (line (codes "safe"))
-  pub no_text : status ≡ No → (document : Trees) × (result : Trees) × IsCounterexample input output sheet document result × Appended old new (line (codes "unsafe") ++ line (codes "document " ++ printed document) ++ line (codes "output " ++ printed result))
+-- and none of the files is longer than a file may be
+pub record ChecksShortFiles (words : List (List ℕ)) (files : Files) (limit : Option ℕ) (i o : Grammar) (s : Sheet) : Type 0 where
+  pub checks : ChecksFiles words files limit i o s
+  pub input_short : length checks.input_text ≤ longest_file
+  pub output_short : length checks.output_text ≤ longest_file
+  pub sheet_short : length checks.sheet_text ≤ longest_file
+
+-- what is written is a counterexample, and its result, unless that is too large
+pub data ShowsCounterexample (old new : Option (List ℕ)) (i o : Grammar) (s : Sheet) : Type 0 where
+  shows_both : {document result : Trees} → IsCounterexample i o s document result → Appended old new (unsafe_lines document result) → ShowsCounterexample old new i o s
+  shows_document : {document result : Trees} → IsCounterexample i o s document result → Appended old new (unsafe_large_lines document) → ShowsCounterexample old new i o s
+
+-- what is written is the document, and its result exactly where its run keeps to the limits
+pub data ShowsRun (old new : Option (List ℕ)) (s : Sheet) (document : Trees) : Type 0 where
+  shows_result : {result : Trees} → KeepsLimits s document → IsResultOf s document result → Appended old new (unsafe_lines document result) → ShowsRun old new s document
+  shows_large : IsLargeRun s document → Appended old new (unsafe_large_lines document) → ShowsRun old new s document
+
+-- a limit is told, which is passed while none is that is tried before it
+pub data IsLimited (most : ℕ) (i o : Grammar) (s : Sheet) : Type 0 where
+  limited_before_rows : {kind : kinds.Limit} {number : ℕ} → PassesCompile i o s kind number → IsLimited most i o s
+  limited_in_rows : (count : RowCount) → IsCompiled i o s → HasManyRows i o s most count → IsLimited most i o s
+  limited_in_nodes : IsCompiled i o s → HasFewRows i o s most → HasLargeCounters i o s → IsLimited most i o s
+
+-- yes exactly where no limit is passed and the stylesheet is safe, with the numbers of rows; no exactly where none is passed and there is a
+-- counterexample that can be shown, with a least one and its result; and else a limit that is passed
+pub record DecidesSafety (status : Status) (old new : Option (List ℕ)) (most : ℕ) (i o : Grammar) (s : Sheet) : Type 0 where
+  pub yes : (status ≡ Yes) ↔ (IsCompiled i o s × HasFewRows i o s most × IsSafe i o s)
+  pub no : (status ≡ No) ↔ (IsCompiled i o s × HasFewRows i o s most × HasSmallCounter i o s)
+  pub limit : (status ≡ Limit) ↔ IsLimited most i o s
+  pub one : (status ≡ Yes) ⊎ ((status ≡ No) ⊎ (status ≡ Limit))
+  pub yes_text : status ≡ Yes → (trees : ℕ) × (hedges : ℕ) × (outputs : ℕ) × AreRowCounts i o s trees hedges outputs × Appended old new (safe_line trees hedges outputs)
+  pub no_text : status ≡ No → (document : Trees) × IsLeastCounter i o s document × IsReadAs (printed document) document × ShowsRun old new s document
+  pub compile_text : (kind : kinds.Limit) (number : ℕ) → PassesCompile i o s kind number → Appended old new (limit_line (limit_word kind) number)
+  pub rows_text : (count : RowCount) → IsCompiled i o s → HasManyRows i o s most count
+      → (named : RowCount) × HasManyRows i o s most named × Appended old new (limit_line (count_word named) (most_of most named))
+  pub nodes_text : IsCompiled i o s → HasFewRows i o s most → HasLargeCounters i o s → Appended old new (limit_line (codes "counterexample") MOST_SHOWN_NODES)
 
 -- the words validate a held file by a held schema, whose texts spell this document and this grammar, which passes no limit
 pub record ValidatesFiles (words : List (List ℕ)) (files : Files) (g : Grammar) (d : Trees) : Type 0 where

@@ -5,9 +5,11 @@ ghost use Rattle.tc_model.specs.Views.{trees};
 ghost use Rattle.tc_top.specs.Answers as a;
 ghost use Rattle.tc_top.specs.AnswersSeen.{text as see_text};
 ghost use Rattle.tc_top.specs.Limits.{limit_word};
-ghost use Rattle.tc_top.specs.Lines.{limit_line};
+ghost use Rattle.tc_top.specs.Lines.{limit_line, count_word};
+ghost use Rattle.tc_top.specs.AnswersSeen.{row_count};
 
 use crate::buffer::Buffer;
+use crate::limits::MOST_SHOWN_NODES;
 use crate::status::Status;
 use std::alloc::Global;
 use tc_base::limits::{LONGEST_FILE, MOST_OPEN, MOST_WORK};
@@ -42,6 +44,28 @@ impl Text {
 pub struct Answer {
     pub status: Status,
     pub text: Text,
+}
+
+/// What is counted of rows.
+#[derive(Clone, Copy, Debug, PartialEq, Eq)]
+pub enum RowCount {
+    /// Rows of live trees.
+    Trees,
+    /// Rows of live lists of trees.
+    Hedges,
+    /// Sets of pairs of states of the output in them.
+    Outputs,
+}
+
+/// The word of the limit on what is counted of rows.
+fn word_of_count(count: RowCount) -> &'static str
+    ensures { result.now ≡ count_word (row_count count) }
+{
+    match count {
+        RowCount::Trees => "trees",
+        RowCount::Hedges => "hedges",
+        RowCount::Outputs => "outputs",
+    }
 }
 
 /// The word of a limit.
@@ -93,7 +117,7 @@ impl Answer {
         }
     }
 
-    /// A command isn't carried out yet, or an operand's form isn't read yet.
+    /// A command isn't carried out yet.
     pub fn not_yet(alloc: Global, name: &str) -> Result<Answer, NoMemory>
         ensures { IfOk result (λ said. Says said (a.not_yet name.now)) }
     {
@@ -126,14 +150,41 @@ impl Answer {
         over(alloc, "file", LONGEST_FILE as u32)
     }
 
-    /// Every result is valid.
-    pub fn safe() -> Answer
-        ensures { Says result a.safe }
+    /// Every result is valid, and there are so many rows of trees, of lists of trees, and sets of pairs in them.
+    pub fn safe(
+        alloc: Global,
+        trees: u32,
+        hedges: u32,
+        outputs: u32,
+    ) -> Result<Answer, NoMemory>
+        ensures { IfOk result (λ said. Says said (a.safe trees hedges outputs)) }
     {
-        Answer {
+        let mut digits = itoa::Buffer::new();
+        let mut text = Vec::from_slice(alloc, b"safe trees ")?;
+        text.extend_from_slice(digits.format(trees).as_bytes())?;
+        text.extend_from_slice(b" hedges ")?;
+        text.extend_from_slice(digits.format(hedges).as_bytes())?;
+        text.extend_from_slice(b" outputs ")?;
+        text.extend_from_slice(digits.format(outputs).as_bytes())?;
+        text.extend_from_slice(b"\n")?;
+        Ok(Answer {
             status: Status::Yes,
-            text: Text::Fixed(b"safe\n"),
-        }
+            text: Text::Made(text),
+        })
+    }
+
+    /// There are more rows, or sets of pairs in them, than there may be.
+    pub fn rows_limit(alloc: Global, count: RowCount, number: u32) -> Result<Answer, NoMemory>
+        ensures { IfOk result (λ said. Says said (a.rows_limit (row_count count) number)) }
+    {
+        over(alloc, word_of_count(count), number)
+    }
+
+    /// All documents whose results aren't valid are too large to be shown.
+    pub fn counterexample_limit(alloc: Global) -> Result<Answer, NoMemory>
+        ensures { IfOk result (λ said. Says said a.counterexample_limit) }
+    {
+        over(alloc, "counterexample", MOST_SHOWN_NODES)
     }
 
     /// The text of an operand is refused at a place.
@@ -229,6 +280,20 @@ impl Answer {
         text.put(b"\noutput ")?;
         text.put_trees(output)?;
         text.put(b"\n")?;
+        Ok(Answer {
+            status: Status::No,
+            text: Text::Made(text.into_bytes()),
+        })
+    }
+
+    /// A valid document has a result that isn't valid, and that is too large to be shown.
+    pub fn not_safe_large(alloc: Global, shown: &[Node<'_>]) -> Result<Answer, NoMemory>
+        ensures { IfOk result (λ said. Says said (a.unsafe_large (trees shown.now))) }
+    {
+        let mut text = Buffer::new(alloc);
+        text.put(b"unsafe\ndocument ")?;
+        text.put_trees(shown)?;
+        text.put(b"\noutput-too-large\n")?;
         Ok(Answer {
             status: Status::No,
             text: Text::Made(text.into_bytes()),

@@ -1,73 +1,209 @@
 // What `check` answers.
-ghost use Rattle.std.specs.Prelude.{◌≡◌, ◌≤◌, ℕ, List, IfOk};
+ghost use Rattle.std.specs.Prelude.{◌≡◌, ◌≤◌, ℕ, List, IfOk, length};
+ghost use Rattle.tc_base.specs.Reading.{longest_text};
+ghost use Rattle.tc_beh.specs.Machines.{IsMachine, IsMachineOf};
 ghost use Rattle.tc_io.specs.Reads.{Happened};
-ghost use Rattle.tc_model.specs.Views.{trees};
+ghost use Rattle.tc_model.specs.Grammars as g;
+ghost use Rattle.tc_model.specs.Trees.{none, IsDocument};
+ghost use Rattle.tc_model.specs.Views as see;
+ghost use Rattle.tc_model.specs.WellFormed.{IsSheet};
+ghost use Rattle.tc_read.specs.Schemas.{IsSchemaOf};
+ghost use Rattle.tc_rows.specs.Triples as t;
 ghost use Rattle.tc_top.specs.Answers as a;
-ghost use Rattle.tc_top.specs.Answers.{Checks};
-ghost use Rattle.tc_top.specs.AnswersSeen.{Says, IsRightFor};
-ghost use Rattle.tc_top.specs.FirstForm as first_form;
-ghost use Rattle.tc_top.specs.FirstSeen.{schema};
+ghost use Rattle.tc_top.specs.Answers.{Checks, Finds};
+ghost use Rattle.tc_top.specs.AnswersSeen.{Says, IsRightFor, IsRunOf};
+ghost use Rattle.tc_top.specs.Checking.{IsCompiled, most_rows};
+ghost use Rattle.tc_top.specs.Compiled.{IsSpelled, IsReadOf};
 ghost use Rattle.tc_top.specs.Words as w;
 ghost use Rattle.tc_top.specs.Words.{Words};
 
-use crate::answer::Answer;
+use crate::answer::{Answer, RowCount};
 use crate::command::Triple;
-use crate::first::decide::is_valid_output;
-use crate::first::least::least_document;
-use crate::first::schema::{Schema, read_schema};
-use crate::first::sheet::read_sheet;
+use crate::compile::{CompileFault, machine_of};
+use crate::limits::{MOST_OUTPUTS, MOST_ROWS};
 use crate::read::{Operands, read_triple};
 use bumpalo::Bump;
 use std::alloc::Global;
 use tc_base::NoMemory;
+use tc_beh::Machine;
+use tc_close::{CloseFault, Decision};
 use tc_io::Store;
-use tc_model::Node;
+use tc_model::{Node, Sheet};
+use tc_read::{Schema, TextFault, read_schema, read_sheet};
+use tc_run::RunFault;
 
-/// Reads the operands, and decides whether the stylesheet is safe.
-pub fn check<S: Store>(alloc: Global, triple: Triple<'_>, store: &mut S) -> Result<Answer, NoMemory>
+/// Reads the operands, and decides whether the stylesheet is safe, with so many rows of trees and of lists of trees at
+/// most where that is said.
+pub fn check<S: Store>(
+    alloc: Global,
+    limit: Option<u32>,
+    triple: Triple<'_>,
+    store: &mut S,
+) -> Result<Answer, NoMemory>
+    requires few { most_rows limit ≤ 4000 }
     ensures same { S.holds store.new ≡ S.holds store.old }
     ensures count { S.faults store.old ≤ S.faults store.new }
     ensures ok { IfOk result (λ said. (words : List (List ℕ))
-        → Words words (w.check None triple.entry.input.now triple.entry.output.now triple.entry.sheet.now)
+        → Words words (w.check limit triple.entry.input.now triple.entry.output.now triple.entry.sheet.now)
         → IsRightFor words (Happened S.read_gives S.holds S.faults store.old store.new) said) }
 {
     match read_triple(alloc, triple, store) {
-        Ok(operands) => check_texts(alloc, &operands),
+        Ok(operands) => check_texts(alloc, row_limit(limit), &operands),
         Err(unread) => unread.answer(alloc),
     }
 }
 
-/// Decides by the texts of the operands whether the stylesheet is safe.
-fn check_texts(alloc: Global, operands: &Operands<'_>) -> Result<Answer, NoMemory>
-    ensures { IfOk result (λ said. (answer : a.Answer) × Says said answer
-        × Checks operands.now.input.name.now operands.now.output.name.now operands.now.sheet.name.now
-        operands.now.input.text.items operands.now.output.text.items operands.now.sheet.text.items answer) }
+/// How many rows of trees, and of lists of trees, there may be.
+fn row_limit(limit: Option<u32>) -> u32
+    ensures { result ≡ most_rows limit }
 {
-    let Some(input) = read_schema(alloc, &operands.input.text)? else {
-        return Answer::not_yet(alloc, operands.input.name);
-    };
-    let Some(output) = read_schema(alloc, &operands.output.text)? else {
-        return Answer::not_yet(alloc, operands.output.name);
-    };
-    let arena = Bump::new(alloc);
-    let Some(body) = read_sheet(&arena, &operands.sheet.text)? else {
-        return Answer::not_yet(alloc, operands.sheet.name);
-    };
-    if is_valid_output(&output, body) {
-        return Ok(Answer::safe());
+    match limit {
+        Some(most) => most,
+        None => MOST_ROWS,
     }
-    not_safe(alloc, &arena, &input, body)
 }
 
-/// The answer that a stylesheet isn't safe, which puts out these trees for each document.
-fn not_safe(
+/// Decides by the texts of the operands whether the stylesheet is safe.
+pub fn check_texts(
     alloc: Global,
-    arena: &Bump,
-    input: &Schema<'_>,
-    body: &[Node<'_>],
+    most: u32,
+    operands: &Operands<'_>,
 ) -> Result<Answer, NoMemory>
-    ensures { IfOk result (λ said. Says said (a.unsafe (first_form.least_document (schema input.now)) (trees body.now))) }
+    requires few { most ≤ 4000 }
+    requires input { length operands.now.input.text.items ≤ longest_text }
+    requires output { length operands.now.output.text.items ≤ longest_text }
+    requires sheet { length operands.now.sheet.text.items ≤ longest_text }
+    ensures { IfOk result (λ said. (answer : a.Answer) × Says said answer
+        × Checks most operands.now.input.name.now operands.now.output.name.now operands.now.sheet.name.now
+        operands.now.input.text.items operands.now.output.text.items operands.now.sheet.text.items answer) }
 {
-    let document = least_document(arena, input)?;
-    Answer::not_safe(alloc, &[document], body)
+    let arena = Bump::new(alloc);
+    match read_schema(&arena, &operands.input.text) {
+        Ok(input) => check_output(alloc, &arena, most, &input, operands),
+        Err(TextFault::Refused(reason, place)) => {
+            Answer::refused(alloc, operands.input.name, reason, place)
+        }
+        Err(TextFault::NoMemory) => Err(NoMemory),
+    }
+}
+
+/// Decides by the texts of the output schema and the stylesheet whether the stylesheet is safe.
+fn check_output<'b>(
+    alloc: Global,
+    arena: &'b Bump,
+    most: u32,
+    input: &Schema<'b>,
+    operands: &Operands<'_>,
+) -> Result<Answer, NoMemory>
+    requires few { most ≤ 4000 }
+    requires input { IsSchemaOf operands.now.input.text.items input.now }
+    requires output { length operands.now.output.text.items ≤ longest_text }
+    requires sheet { length operands.now.sheet.text.items ≤ longest_text }
+    ensures { IfOk result (λ said. (answer : a.Answer) × Says said answer
+        × Checks most operands.now.input.name.now operands.now.output.name.now operands.now.sheet.name.now
+        operands.now.input.text.items operands.now.output.text.items operands.now.sheet.text.items answer) }
+{
+    match read_schema(arena, &operands.output.text) {
+        Ok(output) => check_sheet(alloc, arena, most, input, &output, operands),
+        Err(TextFault::Refused(reason, place)) => {
+            Answer::refused(alloc, operands.output.name, reason, place)
+        }
+        Err(TextFault::NoMemory) => Err(NoMemory),
+    }
+}
+
+/// Decides by the text of the stylesheet whether it is safe.
+fn check_sheet<'b>(
+    alloc: Global,
+    arena: &'b Bump,
+    most: u32,
+    input: &Schema<'b>,
+    output: &Schema<'b>,
+    operands: &Operands<'_>,
+) -> Result<Answer, NoMemory>
+    requires few { most ≤ 4000 }
+    requires input { IsSchemaOf operands.now.input.text.items input.now }
+    requires output { IsSchemaOf operands.now.output.text.items output.now }
+    requires sheet { length operands.now.sheet.text.items ≤ longest_text }
+    ensures { IfOk result (λ said. (answer : a.Answer) × Says said answer
+        × Checks most operands.now.input.name.now operands.now.output.name.now operands.now.sheet.name.now
+        operands.now.input.text.items operands.now.output.text.items operands.now.sheet.text.items answer) }
+{
+    match read_sheet(arena, &operands.sheet.text) {
+        Ok(sheet) => check_read(alloc, arena, most, input, output, &sheet),
+        Err(TextFault::Refused(reason, place)) => {
+            Answer::refused(alloc, operands.sheet.name, reason, place)
+        }
+        Err(TextFault::NoMemory) => Err(NoMemory),
+    }
+}
+
+/// Decides whether a stylesheet is safe between two schemas, unless a limit is passed.
+fn check_read<'b>(
+    alloc: Global,
+    arena: &'b Bump,
+    most: u32,
+    input: &Schema<'b>,
+    output: &Schema<'b>,
+    sheet: &Sheet<'b>,
+) -> Result<Answer, NoMemory>
+    requires few { most ≤ 4000 }
+    requires input { IsSpelled input.now }
+    requires output { IsSpelled output.now }
+    requires sheet { IsSheet (see.sheet sheet.now) }
+    ensures { IfOk result (λ said. (i o : g.Grammar) → IsReadOf i input.now → IsReadOf o output.now
+        → (answer : a.Answer) × Says said answer × Finds most i o (see.sheet sheet.now) answer) }
+{
+    match machine_of(alloc, input, output, sheet) {
+        Ok(machine) => decide(alloc, arena, most, &machine),
+        Err(CompileFault::Passes(kind, number)) => Answer::limit(alloc, kind, number),
+        Err(CompileFault::NoMemory) => Err(NoMemory),
+    }
+}
+
+/// Decides whether a stylesheet is safe, by what rows are worked out by.
+fn decide<'b>(
+    alloc: Global,
+    arena: &'b Bump,
+    most: u32,
+    machine: &Machine<'b>,
+) -> Result<Answer, NoMemory>
+    requires few { most ≤ 4000 }
+    requires machine { IsMachine machine.now }
+    ensures { IfOk result (λ said. (x : t.Triple) → IsMachineOf x machine.now → IsCompiled x.input x.output (t.sheet x)
+        → (answer : a.Answer) × Says said answer × Finds most x.input x.output (t.sheet x) answer) }
+{
+    match tc_close::decide(arena, alloc, machine, most) {
+        Ok(Decision::Safe(counts)) => {
+            Answer::safe(alloc, counts.trees, counts.hedges, counts.outputs)
+        }
+        Ok(Decision::Unsafe(document)) => show(alloc, arena, machine, &document),
+        Ok(Decision::TooManyNodes) => Answer::counterexample_limit(alloc),
+        Err(CloseFault::TooManyTrees) => Answer::rows_limit(alloc, RowCount::Trees, most),
+        Err(CloseFault::TooManyHedges) => Answer::rows_limit(alloc, RowCount::Hedges, most),
+        Err(CloseFault::TooManyOutputs) => {
+            Answer::rows_limit(alloc, RowCount::Outputs, MOST_OUTPUTS)
+        }
+        Err(CloseFault::NoMemory) => Err(NoMemory),
+    }
+}
+
+/// The answer that a document is a counterexample, with its result, unless its run passes a limit.
+fn show<'b>(
+    alloc: Global,
+    arena: &'b Bump,
+    machine: &Machine<'b>,
+    document: &Node<'b>,
+) -> Result<Answer, NoMemory>
+    requires machine { IsMachine machine.now }
+    requires document { IsDocument (see.before document.now none) }
+    ensures { IfOk result (λ said. (x : t.Triple) → IsMachineOf x machine.now
+        → (answer : a.Answer) × Says said answer × IsRunOf (t.sheet x) (see.before document.now none) answer) }
+{
+    match tc_run::run(arena, machine.rules(), machine.alphabet(), document) {
+        Ok(nodes) => Answer::not_safe(alloc, &[*document], nodes),
+        Err(RunFault::TooMuchWork) => Answer::not_safe_large(alloc, &[*document]),
+        Err(RunFault::TooOpen) => Answer::not_safe_large(alloc, &[*document]),
+        Err(RunFault::NoMemory) => Err(NoMemory),
+    }
 }

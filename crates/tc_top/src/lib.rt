@@ -5,8 +5,10 @@ mod answer;
 mod buffer;
 mod check;
 mod command;
-mod first;
+mod compile;
+mod demo;
 pub mod laws;
+pub mod limits;
 mod program;
 mod read;
 mod run;
@@ -15,7 +17,7 @@ mod valid;
 mod words;
 mod write;
 
-ghost use Rattle.std.specs.Prelude.{◌≡◌, ◌≤◌, ◌⊎◌, ℕ, List, Some, IfOk, OnErr};
+ghost use Rattle.std.specs.Prelude.{◌≡◌, ◌≤◌, ◌⊎◌, ℕ, List, Option, Some, IfOk, OnErr};
 ghost use Rattle.tc_io.specs.Faults.{Rose};
 ghost use Rattle.tc_io.specs.Reads.{Happened};
 ghost use Rattle.tc_io.specs.Store.{Files};
@@ -25,9 +27,13 @@ ghost use Rattle.tc_model.specs.Trees.{Trees};
 ghost use Rattle.tc_top.specs.Answers as a;
 ghost use Rattle.tc_top.specs.Answers.{Ends, IsAnswerOn, IsBuilt, ReadsNothing, Gives, KeepsToLimits};
 ghost use Rattle.tc_top.specs.AnswersSeen.{IsRightFor};
-ghost use Rattle.tc_top.specs.FirstForm as f;
-ghost use Rattle.tc_top.specs.FirstForm.{grammar_of, sheet_of};
-ghost use Rattle.tc_top.specs.Headline.{IsCutShort, ChecksFiles, DecidesSafety, ValidatesFiles, DecidesValidity, RunsFiles, GivesResult};
+ghost use Rattle.tc_model.specs.Safety.{IsSafe};
+ghost use Rattle.tc_model.specs.RncText.{RncText};
+ghost use Rattle.tc_read.specs.Sheets.{IsSheetOf};
+ghost use Rattle.tc_top.specs.Checking.{most_rows};
+ghost use Rattle.tc_top.specs.Demo.{demo_schema, demo_sheet};
+ghost use Rattle.tc_top.specs.declared.limits.TheConstants.{MOST_ROWS};
+ghost use Rattle.tc_top.specs.Headline.{IsCutShort, ChecksFiles, ChecksShortFiles, ShowsCounterexample, DecidesSafety, ValidatesFiles, DecidesValidity, RunsFiles, GivesResult};
 ghost use Rattle.tc_top.specs.Words as w;
 ghost use Rattle.tc_top.specs.Words.{Words, IsNoCommand, name_of};
 ghost use Rattle.tc_top.specs.WordsSeen.{texts};
@@ -35,6 +41,7 @@ ghost use Rattle.tc_top.specs.WordsSeen.{texts};
 use answer::Answer;
 use check::check;
 use command::{Command, read_words};
+use demo::demo;
 pub use program::run_program;
 use run::run;
 pub use status::Status;
@@ -68,10 +75,24 @@ pub fn typecheck<S: Store, K: Sink>(
     ensures exactly { (files : Files) (answer : a.Answer) → S.holds store.old ≡ Some files → IsAnswerOn words.now files answer
         → Gives result (Rose (S.faults store.old) (S.faults store.new)) answer }
 
-    // The headline: a check of held files of the first form is yes exactly where every result is valid, and no exactly where one isn't.
-    ensures headline { (files : Files) (i o : f.Schema) (t : Trees) → S.holds store.old ≡ Some files → ChecksFiles words.now files i o t
+    // A check of held files that is yes: every document that is valid for the input is transformed to one that is valid for the output.
+    ensures safe { (files : Files) (limit : Option ℕ) (i o : Grammar) (s : Sheet) → S.holds store.old ≡ Some files → ChecksFiles words.now files limit i o s
+        → result ≡ Status.Yes → IsSafe i o s }
+
+    // A check of held files that is no: the document that is written is valid for the input, and its result, which is written too unless it
+    // is too large, isn't valid for the output.
+    ensures shown { (files : Files) (limit : Option ℕ) (i o : Grammar) (s : Sheet) → S.holds store.old ≡ Some files → ChecksFiles words.now files limit i o s
+        → result ≡ Status.No → ShowsCounterexample (K.written sink.old) (K.written sink.new) i o s }
+
+    // The headline: a check of held files is yes exactly where no limit is passed and every result is valid, no exactly where none is passed
+    // and one isn't, with a least document that shows it; and it tells of a limit exactly where one is passed.
+    ensures headline { (files : Files) (limit : Option ℕ) (i o : Grammar) (s : Sheet) → S.holds store.old ≡ Some files → ChecksShortFiles words.now files limit i o s
         → IsCutShort result (Rose (S.faults store.old) (S.faults store.new))
-        ⊎ DecidesSafety result (K.written sink.old) (K.written sink.new) (grammar_of i) (grammar_of o) (sheet_of t) }
+        ⊎ DecidesSafety result (K.written sink.old) (K.written sink.new) (most_rows limit) i o s }
+
+    // So is a demonstration on the texts that it makes, for which nothing is read.
+    ensures demonstrated { (size : ℕ) (g : Grammar) (s : Sheet) → Words words.now (w.demo size) → RncText (demo_schema size) g → IsSheetOf demo_sheet s
+        → IsCutShort result ⊥ ⊎ DecidesSafety result (K.written sink.old) (K.written sink.new) MOST_ROWS g g s }
 
     // A validation of held files is yes exactly where the document is valid, and no exactly where it isn't.
     ensures validity { (files : Files) (g : Grammar) (d : Trees) → S.holds store.old ≡ Some files → ValidatesFiles words.now files g d
@@ -117,12 +138,11 @@ fn answer_words<S: Store>(
         return Ok(Answer::usage());
     };
     match command {
-        Command::Check(None, triple) => check(alloc, triple, store),
+        Command::Check(limit, triple) => check(alloc, limit, triple, store),
         Command::Run(sheet, document) => run(alloc, sheet, document, store),
         Command::Valid(schema, document) => valid(alloc, schema, document, store),
-        Command::Check(Some(_), _) => Answer::not_yet(alloc, "check"),
         Command::Prove(..) => Answer::not_yet(alloc, "prove"),
         Command::Verify(..) => Answer::not_yet(alloc, "verify"),
-        Command::Demo(_) => Answer::not_yet(alloc, "demo"),
+        Command::Demo(size) => demo(alloc, size),
     }
 }

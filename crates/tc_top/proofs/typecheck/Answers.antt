@@ -1,8 +1,8 @@
-use Rattle.std.proofs.Common.{◌∙◌, inl, refl, ap, subst}
+use Rattle.std.proofs.Common.{◌∙◌, inl, inr, refl, ap, subst}
 use Rattle.tc_io.specs.Sink.{Appended, WroteFront}
 use Rattle.tc_top.specs.Answers.{status_of, answered, broken_off, out_of_memory}
 use Rattle.tc_top.proofs.Exact.{exact, usage_only, refused_only}
-use Rattle.tc_top.proofs.Headline.{at_words, at_told, gives, headline, validity, running, limited}
+use Rattle.tc_top.proofs.Headline.{at_words, at_told, gives, headline, safe_is_so, unsafe_is_shown, demonstrated, validity, running, limited}
 use Rattle.tc_top.specs.Words.{Words}
 use Rattle.tc_top.proofs.typecheck.Goals as goal
 
@@ -37,11 +37,28 @@ returns-in-Ok-write_lines-clause-exactly g c = λ files answer told is.
     let right = at_words c.as_slice.ensures c.in-Ok.ensures.right in
     gives _ answer right.2.0 right.2.1.status (exact files _ is.1 is.2 (at_told _ right.0 told right.1.true) right.2.2)
 
-pub returns-in-Ok-write_lines-clause-headline : goal.returns-in-Ok-write_lines-clause-headline
-returns-in-Ok-write_lines-clause-headline g c = λ files i o t told checks.
+pub returns-in-Ok-write_lines-clause-safe : goal.returns-in-Ok-write_lines-clause-safe
+returns-in-Ok-write_lines-clause-safe g c = λ files limit i o s told checks e.
+    let right = at_words c.as_slice.ensures c.in-Ok.ensures.right in
+    safe_is_so _ files limit i o s _ right.2.0 checks (at_told _ right.0 told right.1.true) right.2.2 right.2.1.status e
+
+pub returns-in-Ok-write_lines-clause-shown : goal.returns-in-Ok-write_lines-clause-shown
+returns-in-Ok-write_lines-clause-shown g c = λ files limit i o s told checks e.
     let right = at_words c.as_slice.ensures c.in-Ok.ensures.right in
     let written = subst (Appended (g.K.Sink.written c.args.sink.now) (g.K.Sink.written c.write_lines.new.sink)) (c.as_bytes.ensures ∙ right.2.1.written) c.in-Ok-write_lines.ensures.ok in
-    headline files i o t _ _ _ right.2.0 checks (at_told _ right.0 told right.1.true) right.2.2 right.2.1.status written
+    unsafe_is_shown _ files limit i o s _ _ _ right.2.0 checks (at_told _ right.0 told right.1.true) right.2.2 right.2.1.status written e
+
+pub returns-in-Ok-write_lines-clause-headline : goal.returns-in-Ok-write_lines-clause-headline
+returns-in-Ok-write_lines-clause-headline g c = λ files limit i o s told checks.
+    let right = at_words c.as_slice.ensures c.in-Ok.ensures.right in
+    let written = subst (Appended (g.K.Sink.written c.args.sink.now) (g.K.Sink.written c.write_lines.new.sink)) (c.as_bytes.ensures ∙ right.2.1.written) c.in-Ok-write_lines.ensures.ok in
+    headline files limit i o s _ _ _ right.2.0 checks (at_told _ right.0 told right.1.true) right.2.2 right.2.1.status written
+
+pub returns-in-Ok-write_lines-clause-demonstrated : goal.returns-in-Ok-write_lines-clause-demonstrated
+returns-in-Ok-write_lines-clause-demonstrated g c = λ size x s words spells means.
+    let right = at_words c.as_slice.ensures c.in-Ok.ensures.right in
+    let written = subst (Appended (g.K.Sink.written c.args.sink.now) (g.K.Sink.written c.write_lines.new.sink)) (c.as_bytes.ensures ∙ right.2.1.written) c.in-Ok-write_lines.ensures.ok in
+    inr (demonstrated size x s _ _ _ right.2.0 words spells means right.2.2 right.2.1.status written)
 
 pub returns-in-Ok-write_lines-clause-validity : goal.returns-in-Ok-write_lines-clause-validity
 returns-in-Ok-write_lines-clause-validity g c = λ files x d told validates.

@@ -1,14 +1,24 @@
-use Rattle.std.proofs.Common.{refl, None}
+use Rattle.std.proofs.Common.{refl}
 use Rattle.std.proofs.lemmas.Result.{IfOk-weaker}
 use Rattle.tc_top.specs.Answers.{checked}
 use Rattle.tc_top.specs.Words.{Words, check}
+use Rattle.tc_top.proofs.Checked.{checks_at}
 use Rattle.tc_top.proofs.OperandsRead.{three_named}
 use Rattle.tc_top.proofs.check.check.Goals as goal
 
 pub returns-in-Ok-clause-ok : goal.returns-in-Ok-clause-ok
 returns-in-Ok-clause-ok g c =
     let read = c.in-Ok.ensures in
-    IfOk-weaker c.check_texts.result _ _ (λ said h words are. (_, read.ok, (h.0, h.1, checked (three_named (λ x y z. Words words (check None x y z)) read.input read.output read.sheet are) refl h.2))) c.check_texts.ensures
+    IfOk-weaker c.check_texts.result _ _ (λ said h words are. (
+      _,
+      read.ok,
+      (
+        h.0,
+        h.1,
+        checked (three_named (λ x y z. Words words (check c.args.limit x y z)) read.input read.output read.sheet are) refl
+            (checks_at c.row_limit.ensures h.2),
+      ),
+    )) c.check_texts.ensures
 
 pub returns-in-Err-clause-ok : goal.returns-in-Err-clause-ok
 returns-in-Err-clause-ok g c =

@@ -1,0 +1,158 @@
+-- What the texts of two schemas and of a stylesheet decide is one.
+use Rattle.std.proofs.Common.{◌≡◌, ◌<◌, ◌≤◌, ◌⊎◌, inl, inr, ◌∙◌, refl, sym, ap, subst, ℕ, List, arith}
+use Rattle.tc_base.specs.declared.Limit.{Limit}
+use Rattle.tc_base.specs.declared.limits.TheConstants.{MOST_INPUT_STATES, MOST_OUTPUT_STATES}
+use Rattle.tc_model.specs.Grammars.{Grammar}
+use Rattle.tc_model.specs.Outcomes.{Outcome}
+use Rattle.tc_model.specs.RncText.{RncText}
+use Rattle.tc_model.specs.Safety.{IsSafe, IsCounterexample}
+use Rattle.tc_model.specs.Sheets.{Sheet}
+use Rattle.tc_model.specs.States.{input, output}
+use Rattle.tc_model.specs.Symbols.{symbols_of}
+use Rattle.tc_model.specs.Trees.{Trees, node_count}
+use Rattle.tc_model.specs.Validity.{IsValidOutput}
+use Rattle.tc_model.proofs.SimplifiesUnique.{one_rnc_text}
+use Rattle.tc_read.specs.Sheets.{IsSheetOf}
+use Rattle.tc_rows.specs.Counts.{Counts, IsRowOfLiveTree, IsRowOfLiveHedge, IsOutput}
+use Rattle.tc_rows.proofs.Counting.{counts_tell}
+use Rattle.tc_run.specs.Limits.{KeepsLimits}
+use Rattle.tc_top.specs.Answers.{Answer, safe, unsafe, over_limit, Finds, passes_compile, passes_rows, finds_safe, finds_unsafe, finds_large, finds_none_small, Checks, input_refused, output_refused, stylesheet_refused, all_read}
+use Rattle.tc_top.specs.Checking.{IsCompiled, PassesCompile, by_input, by_output, by_sheet, by_calls, by_entries, HasFewRows, AreRowCounts, IsCounter, IsLeastCounter, HasLargeCounters, IsLargeRun}
+use Rattle.tc_close.specs.Triples.{IsTripleOf}
+use Rattle.tc_top.specs.Limits.{IsWithinLimits, IsWithinSheetLimits}
+use Rattle.tc_top.specs.OneAnswer.{AreAlike, same_answer, counterexamples, large_counterexamples, large_or_not, not_large_or_large, row_limits}
+use Rattle.tc_top.proofs.OneRefusal.{schema_refusals, sheet_refusals}
+use Rattle.tc_top.proofs.OneRun as run
+use Rattle.tc_top.proofs.OneRun.{no_sheet, one_sheet_of, one_result, over_work, over_open}
+use Rattle.tc_close.proofs.Agreeing.{triples_agree}
+use Rattle.tc_top.proofs.OneValidity as schema
+use Rattle.tc_top.proofs.OneValidity.{no_schema}
+
+-- a safe stylesheet has no counterexample
+pub not_both : (i o : Grammar) (s : Sheet) {document : Trees} → IsSafe i o s → IsCounter i o s document → ⊥
+not_both i o s {document} all (result, found) =
+    let good = all document found.0 in
+    found.2 (subst (IsValidOutput o) (one_result s document good.0 result good.1 found.1) good.2)
+
+safe_alike : {a b c d e f : ℕ} → (a ≡ d) × (b ≡ e) × (c ≡ f) → AreAlike (safe a b c) (safe d e f)
+safe_alike {a} {b} {c} {d} {e} {f} (p, q, r) =
+    subst (λ n. AreAlike (safe a b c) (safe n e f)) p (subst (λ n. AreAlike (safe a b c) (safe a n f)) q (subst (λ n. AreAlike (safe a b c) (safe a b n)) r same_answer))
+
+module _ {i o : Grammar} {s : Sheet} where
+  pub over_compile : {kind : Limit} {number : ℕ} → PassesCompile i o s kind number → IsCompiled i o s → ⊥
+  over_compile (by_input p) w = schema.over p w.input
+  over_compile (by_output v p) w = schema.over p w.output
+  over_compile (by_sheet v x p) w = run.over p w.sheet
+  over_compile (by_calls v x y p) w = w.calls p
+  over_compile (by_entries v x y n p) w = w.entries p
+
+  -- the first limit that is passed is one
+  pub one_compile : {kind other : Limit} {number count : ℕ} → PassesCompile i o s kind number → PassesCompile i o s other count → AreAlike (over_limit kind number) (over_limit other count)
+  one_compile (by_input p) (by_input q) = schema.one_limit p q
+  one_compile (by_input p) (by_output v q) = absurd (schema.over p v)
+  one_compile (by_input p) (by_sheet v x q) = absurd (schema.over p v)
+  one_compile (by_input p) (by_calls v x y q) = absurd (schema.over p v)
+  one_compile (by_input p) (by_entries v x y n q) = absurd (schema.over p v)
+  one_compile (by_output v p) (by_input q) = absurd (schema.over q v)
+  one_compile (by_output v p) (by_output w q) = schema.one_limit p q
+  one_compile (by_output v p) (by_sheet w x q) = absurd (schema.over p x)
+  one_compile (by_output v p) (by_calls w x y q) = absurd (schema.over p x)
+  one_compile (by_output v p) (by_entries w x y n q) = absurd (schema.over p x)
+  one_compile (by_sheet v x p) (by_input q) = absurd (schema.over q v)
+  one_compile (by_sheet v x p) (by_output w q) = absurd (schema.over q x)
+  one_compile (by_sheet v x p) (by_sheet w y q) = run.one_limit p q
+  one_compile (by_sheet v x p) (by_calls w y z q) = absurd (run.over p z)
+  one_compile (by_sheet v x p) (by_entries w y z n q) = absurd (run.over p z)
+  one_compile (by_calls v x y p) (by_input q) = absurd (schema.over q v)
+  one_compile (by_calls v x y p) (by_output w q) = absurd (schema.over q x)
+  one_compile (by_calls v x y p) (by_sheet w z q) = absurd (run.over q y)
+  one_compile (by_calls v x y p) (by_calls w z u q) = same_answer
+  one_compile (by_calls v x y p) (by_entries w z u n q) = absurd (n p)
+  one_compile (by_entries v x y n p) (by_input q) = absurd (schema.over q v)
+  one_compile (by_entries v x y n p) (by_output w q) = absurd (schema.over q x)
+  one_compile (by_entries v x y n p) (by_sheet w z q) = absurd (run.over q y)
+  one_compile (by_entries v x y n p) (by_calls w z u q) = absurd (n q)
+  one_compile (by_entries v x y n p) (by_entries w z u m q) = same_answer
+
+  -- the numbers of rows are one
+  one_count : {a b c d e f : ℕ} → AreRowCounts i o s a b c → AreRowCounts i o s d e f → (a ≡ d) × (b ≡ e) × (c ≡ f)
+  one_count {a} {b} {c} {d} {e} {f} x y =
+      let agree = triples_agree i o s y.triple x.triple y.of x.of in (
+        (counts_tell (IsRowOfLiveTree x.triple)).0 a d x.trees ((agree.live_trees.counts d).0 y.trees),
+        (counts_tell (IsRowOfLiveHedge x.triple)).0 b e x.hedges ((agree.live_hedges.counts e).0 y.hedges),
+        (counts_tell (IsOutput x.triple)).0 c f x.outputs ((agree.outputs.counts f).0 y.outputs),
+      )
+
+  -- one that can be shown, and none that can
+  pub near_far : {document : Trees} → IsLeastCounter i o s document → HasLargeCounters i o s → ⊥
+  near_far {document} x y = let far = y.large document x.counter in omega (arith, x.few, far)
+
+  -- what two schemas and a stylesheet decide is one
+  pub finds_one : {most : ℕ} {one other : Answer} → Finds most i o s one → Finds most i o s other → AreAlike one other
+  finds_one (passes_compile p) (passes_compile q) = one_compile p q
+  finds_one (passes_compile p) (passes_rows c w q) = absurd (over_compile p w)
+  finds_one (passes_compile p) (finds_safe w f c h) = absurd (over_compile p w)
+  finds_one (passes_compile p) (finds_unsafe w f l k r) = absurd (over_compile p w)
+  finds_one (passes_compile p) (finds_large w f l k) = absurd (over_compile p w)
+  finds_one (passes_compile p) (finds_none_small w f l) = absurd (over_compile p w)
+  finds_one (passes_rows c w p) (passes_compile q) = absurd (over_compile q w)
+  finds_one (passes_rows c w p) (passes_rows d v q) = row_limits
+  finds_one (passes_rows c w p) (finds_safe v f n h) = absurd (f c p)
+  finds_one (passes_rows c w p) (finds_unsafe v f l k r) = absurd (f c p)
+  finds_one (passes_rows c w p) (finds_large v f l k) = absurd (f c p)
+  finds_one (passes_rows c w p) (finds_none_small v f l) = absurd (f c p)
+  finds_one (finds_safe w f c h) (passes_compile q) = absurd (over_compile q w)
+  finds_one (finds_safe w f n h) (passes_rows c v p) = absurd (f c p)
+  finds_one (finds_safe w f n h) (finds_safe v g m j) = safe_alike (one_count n m)
+  finds_one (finds_safe w f n h) (finds_unsafe v g l k r) = absurd (not_both i o s h l.counter)
+  finds_one (finds_safe w f n h) (finds_large v g l k) = absurd (not_both i o s h l.counter)
+  finds_one (finds_safe w f n h) (finds_none_small v g l) = absurd (not_both i o s h l.some.1)
+  finds_one (finds_unsafe w f l k r) (passes_compile q) = absurd (over_compile q w)
+  finds_one (finds_unsafe w f l k r) (passes_rows c v p) = absurd (f c p)
+  finds_one (finds_unsafe w f l k r) (finds_safe v g n h) = absurd (not_both i o s h l.counter)
+  finds_one (finds_unsafe w f l k r) (finds_unsafe v g m j q) = counterexamples
+  finds_one (finds_unsafe w f l k r) (finds_large v g m j) = large_or_not
+  finds_one (finds_unsafe w f l k r) (finds_none_small v g m) = absurd (near_far l m)
+  finds_one (finds_large w f l k) (passes_compile q) = absurd (over_compile q w)
+  finds_one (finds_large w f l k) (passes_rows c v p) = absurd (f c p)
+  finds_one (finds_large w f l k) (finds_safe v g n h) = absurd (not_both i o s h l.counter)
+  finds_one (finds_large w f l k) (finds_unsafe v g m j q) = not_large_or_large
+  finds_one (finds_large w f l k) (finds_large v g m j) = large_counterexamples
+  finds_one (finds_large w f l k) (finds_none_small v g m) = absurd (near_far l m)
+  finds_one (finds_none_small w f l) (passes_compile q) = absurd (over_compile q w)
+  finds_one (finds_none_small w f l) (passes_rows c v p) = absurd (f c p)
+  finds_one (finds_none_small w f l) (finds_safe v g n h) = absurd (not_both i o s h l.some.1)
+  finds_one (finds_none_small w f l) (finds_unsafe v g m j q) = absurd (near_far m l)
+  finds_one (finds_none_small w f l) (finds_large v g m j) = absurd (near_far m l)
+  finds_one (finds_none_small w f l) (finds_none_small v g m) = same_answer
+
+finds_same : {most : ℕ} {i j o p : Grammar} {s t : Sheet} {answer : Answer} → i ≡ j → o ≡ p → s ≡ t → Finds most i o s answer → Finds most j p t answer
+finds_same {most} {i} {j} {o} {p} {s} {t} {answer} a b c x =
+    subst (λ (w : Sheet). Finds most j p w answer) c (subst (λ (w : Grammar). Finds most j w s answer) b (subst (λ (w : Grammar). Finds most w o s answer) a x))
+
+-- what is decided, the texts being read
+pub finds_of : {most : ℕ} {input output sheet b c d : List ℕ} {i o : Grammar} {s : Sheet} {answer : Answer} → RncText b i → RncText c o → IsSheetOf d s
+    → Checks most input output sheet b c d answer → Finds most i o s answer
+finds_of x y z (input_refused {reason = w} {place = p} r) = absurd (no_schema w p r x)
+finds_of x y z (output_refused {reason = w} {place = p} g r) = absurd (no_schema w p r y)
+finds_of x y z (stylesheet_refused {reason = w} {place = p} g h r) = absurd (no_sheet w p r z)
+finds_of {b = b} {c = c} {i = i} {o = o} x y z (all_read {i = j} {o = p} k l m f) = finds_same (one_rnc_text b j i k x) (one_rnc_text c p o l y) (one_sheet_of m z) f
+
+-- the answer that the texts decide is one
+pub checks_one : {most : ℕ} {input output sheet b c d : List ℕ} {one other : Answer} → Checks most input output sheet b c d one → Checks most input output sheet b c d other → AreAlike one other
+checks_one {input = n} {b = b} (input_refused r) (input_refused q) = schema_refusals b n r q
+checks_one (input_refused {reason = w} {place = p} r) (output_refused g q) = absurd (no_schema w p r g)
+checks_one (input_refused {reason = w} {place = p} r) (stylesheet_refused g h q) = absurd (no_schema w p r g)
+checks_one (input_refused {reason = w} {place = p} r) (all_read g h z f) = absurd (no_schema w p r g)
+checks_one (output_refused g r) (input_refused {reason = w} {place = p} q) = absurd (no_schema w p q g)
+checks_one {output = n} {c = c} (output_refused g r) (output_refused h q) = schema_refusals c n r q
+checks_one (output_refused {reason = w} {place = p} g r) (stylesheet_refused h k q) = absurd (no_schema w p r k)
+checks_one (output_refused {reason = w} {place = p} g r) (all_read h k z f) = absurd (no_schema w p r k)
+checks_one (stylesheet_refused g h r) (input_refused {reason = w} {place = p} q) = absurd (no_schema w p q g)
+checks_one (stylesheet_refused g h r) (output_refused {reason = w} {place = p} k q) = absurd (no_schema w p q h)
+checks_one {sheet = n} {d = d} (stylesheet_refused g h r) (stylesheet_refused k l q) = sheet_refusals d n r q
+checks_one (stylesheet_refused {reason = w} {place = p} g h r) (all_read k l z f) = absurd (no_sheet w p r z)
+checks_one (all_read g h z f) (input_refused {reason = w} {place = p} q) = absurd (no_schema w p q g)
+checks_one (all_read g h z f) (output_refused {reason = w} {place = p} k q) = absurd (no_schema w p q h)
+checks_one (all_read g h z f) (stylesheet_refused {reason = w} {place = p} k l q) = absurd (no_sheet w p q z)
+checks_one {input = n} {output = m} {sheet = w} (all_read g h z f) (all_read k l y e) = finds_one f (finds_of {input = n} {output = m} {sheet = w} g h z (all_read k l y e))
