@@ -6,7 +6,7 @@ use Rattle.tc_mat.specs.Held.{Held, IsHeld}
 use Rattle.tc_rows.specs.Triples.{Triple, entries}
 use Rattle.tc_rows.specs.Bodies.{Below}
 use Rattle.tc_beh.specs.Above.{letter_of, node_of}
-use Rattle.tc_beh.specs.Entries.{IsNode, AreGrounds, below_node, AreCalledOn, IsEntryAt, Comes, ComesPartly}
+use Rattle.tc_beh.specs.Entries.{IsNode, AreGrounds, below_node, AreCalledOn, IsEntryAt, IsNewEntry, Comes, ComesPartly}
 use Rattle.tc_beh.specs.Grounds.{called_from}
 use Rattle.tc_beh.specs.Held.{Extends, Grows, AreFirstFound, set_at}
 use Rattle.tc_beh.specs.Places.{below_at, entries_by, pairs_of, no_matrix}
@@ -67,11 +67,11 @@ module _ (x : Triple) (es : List (List (ℕ × ℕ))) (n : Node) where
   }
 
   -- one that isn't held
-  pub comes_partly : (a b c : Held) (f : ℕ → ℕ) (i : ℕ) (m : Matrix) → Comes x es n a b f i → i < entries x → IsEntryAt x es n i m → m.size ≡ b.size → IsMatrix m → (c ≡ b) × ¬ IsHeld b m → ComesPartly x es n a c
-  comes_partly a b c f i m so low right size is err = subst (ComesPartly x es n a) (sym err.0) (record {
+  pub comes_partly : (a b c : Held) (f : ℕ → ℕ) (i : ℕ) → Comes x es n a b f i → i < entries x → c ≡ b → IsNewEntry x es n b i → ComesPartly x es n a c
+  comes_partly a b c f i so low same fresh = subst (ComesPartly x es n a) (sym same) (record {
     held = so.grows.held;
     found = λ k l h. let (p, d, e) = so.grows.found.each k l h in (p, omega (arith, d, low), subst (IsEntryAt x es n p) (ap (set_at b) e) (so.right p d));
-    left = (i, m, low, right, size, is, err.1);
+    left = (i, low, fresh);
   })
 
   -- the same of other numbers

@@ -1,5 +1,5 @@
 -- What a state of a look finds from above a node.
-use Rattle.std.proofs.Common.{◌≡◌, ◌<◌, ◌≤◌, ◌+◌, ◌-◌, ℕ, List, get_or, Bool, true, false, cond, nat_lt, None, Option, Some, MatchOption, if◌then◌else◌, refl, ap, ◌∙◌, sym, subst, arith}
+use Rattle.std.proofs.Common.{◌≡◌, ◌<◌, ◌≤◌, ◌+◌, ◌-◌, ℕ, List, get_or, Bool, true, false, cond, None, ap, ◌∙◌, sym, subst, arith}
 use mir.Val.{bool_byte}
 use Rattle.tc_model.specs.Letters.{Letter, IsLetter}
 use Rattle.tc_model.specs.Numberings.{predicates_of}

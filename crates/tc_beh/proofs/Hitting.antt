@@ -1,5 +1,5 @@
 -- What is put of a node, by the state of a move above it.
-use Rattle.std.proofs.Common.{◌≡◌, ◌<◌, ◌≤◌, ◌+◌, ℕ, List, Bool, true, false, Some, slice_get, length, nat_lt, subst, sym, ap, ◌∙◌, refl, arith}
+use Rattle.std.proofs.Common.{◌≡◌, ◌<◌, ℕ, List, true, false, Some, slice_get, nat_lt, subst, sym, ap, ◌∙◌, refl, arith}
 use Rattle.std.proofs.lemmas.Bool.{lt-ltb, le-ltb}
 use Rattle.std.proofs.lemmas.Option.{same_Some, slice_get_within}
 use Rattle.tc_mat.specs.Matrix.{Matrix}
@@ -7,7 +7,7 @@ use Rattle.tc_model.specs.Letters.{Kind, of_symbol, of_text, Letter, IsLetter}
 use Rattle.tc_model.specs.Machine.{CallFreeJob}
 use Rattle.tc_model.specs.Numberings.{predicates_of}
 use Rattle.tc_model.specs.PathStates.{State, is_empty_state, is_hit, next_state}
-use Rattle.tc_model.specs.Sheets.{Body, CallFreeBody, Path, Sheet, Test}
+use Rattle.tc_model.specs.Sheets.{Body, CallFreeBody, Path, Test}
 use Rattle.tc_model.specs.StateCounts.{PathUse}
 use Rattle.tc_rules.specs.Kept.{told}
 use Rattle.tc_rules.specs.RulesView.{RulesView, IsStateOf, is_hit_of, select_below, select_count, move_count, ancestor, ancestor_below}
@@ -16,13 +16,13 @@ use Rattle.tc_rules.specs.Tasks.{IsMoveAt, IsTaskOf}
 use Rattle.tc_rules.specs.Views.{mode_of}
 use Rattle.tc_rules.specs.declared.rules.Rules.{Rules}
 use Rattle.tc_rules.specs.declared.walk.Job.{Job}
-use Rattle.tc_rules.proofs.Counts.{move_counted, state_counted}
+use Rattle.tc_rules.proofs.Counts.{move_counted}
 use Rattle.tc_rows.specs.Triples.{Triple, sheet, predicates, moves, outputs, number, moving}
-use Rattle.tc_rows.specs.PairSets.{PairSet, HaveSamePairs, product, chosen, listed}
+use Rattle.tc_rows.specs.PairSets.{PairSet, HaveSamePairs, product, listed}
 use Rattle.tc_rows.specs.Rows.{entry}
 use Rattle.tc_rows.specs.Bodies.{NodeKind, on_element, on_text, Below, body_pairs, stay}
 use Rattle.tc_rows.specs.Arithmetic.{pairs_from, hits, hit_pairs, step}
-use Rattle.tc_rows.proofs.PairLaws.{same_self, same_back, same_on, product_same, chosen_first, chosen_second}
+use Rattle.tc_rows.proofs.PairLaws.{same_back, same_on, chosen_first, chosen_second}
 use Rattle.tc_rows.proofs.States.{state_number, empty_number, ancestor_number}
 use Rattle.tc_rows.proofs.Reading.{fewer_moves}
 use Rattle.tc_rows.proofs.Decode.{move_at}
@@ -35,7 +35,7 @@ use Rattle.tc_beh.specs.Templates.{built_in_on, IsTemplate}
 use Rattle.tc_beh.specs.declared.bodies.Place.{Place}
 use Rattle.tc_beh.specs.declared.templates.Template.{Template}
 use Rattle.tc_beh.proofs.Marking.{predicates_told}
-use Rattle.tc_beh.proofs.PutLaws.{put_same, put_nothing, then_put, product_assoc}
+use Rattle.tc_beh.proofs.PutLaws.{put_same, put_nothing, then_put}
 
 abbrev pub of_move : Path → ℕ → PathUse
 of_move p mode = record { path = p; mode = Some mode }

@@ -1,8 +1,7 @@
 -- What a refused row of a node leaves, and where its entries stand in a row.
-use Rattle.std.proofs.Common.{◌≡◌, ◌<◌, ◌≤◌, ◌+◌, ◌*◌, ◌/◌, ◌%◌, ℕ, zero, suc, List, [], length, get_or, subst, sym, ap, ◌∙◌, refl, arith}
+use Rattle.std.proofs.Common.{◌≡◌, ◌<◌, ◌+◌, ◌*◌, ◌/◌, ◌%◌, ℕ, zero, suc, List, [], get_or, subst, sym, arith}
 use Rattle.std.proofs.Math.Nat.{mod-lt, div-lt_iff_lt-mul}
 use Rattle.std.proofs.lemmas.Nat.{div-add-mod'}
-use Rattle.std.specs.List.{Contains}
 use Rattle.tc_mat.specs.Matrix.{Matrix}
 use Rattle.tc_mat.specs.Held.{Held, AreMatrices}
 use Rattle.tc_rules.specs.States.{Going}
@@ -14,7 +13,7 @@ use Rattle.tc_rows.proofs.PairLaws.{same_back, same_on}
 use Rattle.tc_rows.proofs.Decode.{move_at}
 use Rattle.tc_beh.specs.Above.{letter_of, pairs_at}
 use Rattle.tc_beh.specs.Entries.{IsEntryAt, ComesPartly}
-use Rattle.tc_beh.specs.Held.{Extends, set_at}
+use Rattle.tc_beh.specs.Held.{set_at}
 use Rattle.tc_beh.specs.Outs.{GrowsBy, IsLeftOut}
 use Rattle.tc_beh.specs.Putting.{has}
 use Rattle.tc_beh.specs.declared.entries.Node.{Node}
@@ -56,6 +55,6 @@ module _ (x : Triple) (is : IsTriple x) (es : List (List (ℕ × ℕ))) (n : Nod
           let (i, low, at) = so.found k from to in
           among x rs are (set_at new k) i (sizes_of new (outputs x) held size k to) low (same_entry i (set_at new k) low at);
     },
-    let (i, m, low, at, of, matrix, isnt) = so.left in
+    let (i, low, (m, at, of, matrix, isnt)) = so.left in
         left_out x rs are new m i held size of matrix isnt low (same_entry i m low at),
   )

@@ -10,7 +10,7 @@ use Rattle.std.proofs.Math.Seq.{take-suc}
 use Rattle.tc_alpha.proofs.Members.{has_from_contains, contains_from_has}
 use Rattle.tc_rows.proofs.Ascending.{one_set}
 use Rattle.tc_beh.specs.Rooms.{flagged, flag_at, output_at, flags_in, outputs_in, looks_in}
-use Rattle.tc_beh.specs.RoomsOf.{IsRoomBeside, ChangesHeads}
+use Rattle.tc_beh.specs.RoomsOf.{ChangesHeads}
 use Rattle.tc_beh.specs.Lines.{IsLine, FitsRoom, PutsPlaces, AreFlags, LinesAreOne}
 use Rattle.tc_beh.specs.declared.rooms.Room.{Room}
 use Rattle.tc_beh.proofs.Holding.{low_got}

@@ -1,33 +1,29 @@
 -- The place of a node, and what is put there from a state of a move above it.
-use Rattle.std.proofs.Common.{◌≡◌, ◌<◌, ◌≤◌, ◌+◌, ◌*◌, ◌⊎◌, inl, inr, ℕ, suc, max, List, [], length, get_or, Bool, true, false, Some, slice_get, subst, sym, ap, ◌∙◌, refl, arith, All}
+use Rattle.std.proofs.Common.{◌≡◌, ◌<◌, ◌≤◌, ◌+◌, ◌*◌, ◌⊎◌, inl, inr, ℕ, List, length, Bool, subst, sym, ap, ◌∙◌, refl, arith, All}
 use Rattle.std.proofs.lemmas.Bool.{cases_order}
 use Rattle.std.proofs.lemmas.List.{with_items_is}
 use Rattle.std.specs.Vec.{with_items}
 use Rattle.tc_mat.specs.Matrix.{Matrix, IsIdentity}
-use Rattle.tc_mat.specs.Held.{Held, AreMatrices}
+use Rattle.tc_mat.specs.Held.{Held}
 use Rattle.tc_model.specs.Letters as letters
 use Rattle.tc_model.specs.Letters.{Kind, of_symbol, of_text}
 use Rattle.tc_model.specs.States.{output}
 use Rattle.tc_model.specs.Sheets.{Path}
 use Rattle.tc_hedge.specs.Stands as h
 use Rattle.tc_hedge.specs.declared.hedge.Hedge.{Hedge}
-use Rattle.tc_rules.specs.Kept.{told}
-use Rattle.tc_rules.specs.RulesView.{RulesView, move_count, ancestor}
+use Rattle.tc_rules.specs.RulesView.{ancestor}
 use Rattle.tc_rules.specs.States.{Going, body_by}
 use Rattle.tc_rules.specs.Tasks.{IsMoveAt}
-use Rattle.tc_rules.specs.declared.rules.Rules.{Rules}
 use Rattle.tc_rules.proofs.Counts.{move_counted}
-use Rattle.tc_rows.specs.Triples.{Triple, sheet, predicates, outputs, ancestors, moves, entries, number_below, moving}
-use Rattle.tc_rows.specs.PairSets.{PairSet, HaveSamePairs, product, chosen}
-use Rattle.tc_rows.specs.Bodies.{NodeKind, on_root, on_element, on_text, Below, body_pairs, stay, text_edges}
-use Rattle.tc_rows.specs.Arithmetic.{below, nothing_below, hits, pairs_from, step}
+use Rattle.tc_rows.specs.Triples.{Triple, sheet, predicates, outputs, ancestors, moves, number_below}
+use Rattle.tc_rows.specs.PairSets.{PairSet, HaveSamePairs, product}
+use Rattle.tc_rows.specs.Bodies.{NodeKind, on_root, on_element, on_text, Below, stay, text_edges}
+use Rattle.tc_rows.specs.Arithmetic.{below, nothing_below, hits}
 use Rattle.tc_rows.proofs.PairLaws.{same_self, same_on, product_same}
 use Rattle.tc_beh.specs.Above.{letter_of, node_of, pairs_at}
-use Rattle.tc_beh.specs.Entries.{IsNode, AreGrounds, below_node, AreCalledOn, IsUnder, IsMadeOf, IsEntryAt}
+use Rattle.tc_beh.specs.Entries.{AreGrounds, below_node, AreCalledOn, IsUnder, IsMadeOf, IsEntryAt}
 use Rattle.tc_beh.specs.Grounds.{IsGroundIn, called_from}
-use Rattle.tc_beh.specs.Held.{Extends}
-use Rattle.tc_beh.specs.Machines.{IsMachineOf}
-use Rattle.tc_beh.specs.Places.{IsPlaceIn, AreSpare, kind_of, below_at, below_of, called_by, entries_by, pairs_of, no_matrix}
+use Rattle.tc_beh.specs.Places.{IsPlaceIn, AreSpare, kind_of, below_at, below_of, entries_by}
 use Rattle.tc_beh.specs.Putting.{has, Extends as Puts, IsCalled}
 use Rattle.tc_beh.specs.RowsOf.{IsWork}
 use Rattle.tc_beh.specs.Stands.{IsRulesIn}

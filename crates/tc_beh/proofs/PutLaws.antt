@@ -23,7 +23,7 @@ pub put_same : (old new : Matrix) (r s : PairSet) → HaveSamePairs r s → Exte
 put_same old new r s f e =
     same_on (has new) (product (has old) r) (product (has old) s) e (product_same (has old) (has old) r s (same_self (has old)) f)
 
-has_low : (m : Matrix) (i j : ℕ) → HasPair m i j → (i < m.size) × (j < m.size)
+pub has_low : (m : Matrix) (i j : ℕ) → HasPair m i j → (i < m.size) × (j < m.size)
 unfolding HasPair
 has_low m i j h = (h.0, h.1)
 

@@ -1,14 +1,12 @@
 -- Triples of one machine have the same schemas, symbols and rules.
-use Rattle.std.proofs.Common.{◌≡◌, ◌+◌, ℕ, List, length, map, All, subst, sym, ap, ap₂, ◌∙◌}
+use Rattle.std.proofs.Common.{◌≡◌, ◌+◌, ℕ, List, length, subst, sym, ap, ap₂, ◌∙◌}
 use Rattle.tc_model.specs.Grammars.{Grammar, Pattern, ElementPattern}
 use Rattle.tc_model.specs.States.{Side, output, state_count, text_leaf, IsEdge}
 use Rattle.tc_auto.specs.Stands as a
 use Rattle.tc_auto.specs.declared.auto.Auto.{Auto}
-use Rattle.tc_mat.specs.Matrix.{Matrix}
 use Rattle.tc_rules.specs.RulesView.{RulesView}
-use Rattle.tc_rows.specs.Triples.{Triple, sheet, outputs}
+use Rattle.tc_rows.specs.Triples.{Triple, outputs}
 use Rattle.tc_rows.specs.PairSets.{HaveSamePairs}
-use Rattle.tc_rows.specs.Bodies.{text_edges}
 use Rattle.tc_beh.specs.Machines.{IsMachineOf}
 use Rattle.tc_beh.specs.Places.{AreSpare}
 use Rattle.tc_beh.specs.Putting.{has}

@@ -1,13 +1,13 @@
 -- The flags of the element patterns around a list of trees, one by one, and seen as rows.
-use Rattle.std.proofs.Common.{◌≡◌, ◌≢◌, ◌<◌, ◌≤◌, ◌⊎◌, inl, inr, ◌+◌, ◌-◌, ◌↔◌, ℕ, zero, suc, [], ◌∷◌, List, length, get_or, Bool, Some, slice_get, subst, sym, ap, ◌∙◌, refl, arith}
+use Rattle.std.proofs.Common.{◌≡◌, ◌≢◌, ◌<◌, ◌≤◌, inl, inr, ◌+◌, ◌-◌, ◌↔◌, ℕ, zero, suc, [], ◌∷◌, List, length, get_or, Some, slice_get, subst, sym, ◌∙◌, refl, arith}
 use Rattle.std.specs.List.{Contains}
 use Rattle.std.proofs.lemmas.Bool.{cases_lt, cases_eq}
 use Rattle.std.proofs.lemmas.List.{get_or_default}
 use Rattle.std.proofs.lemmas.Option.{slice_get_within}
 use Rattle.tc_alpha.proofs.Members.{Has, has_from_contains, contains_from_has}
 use Rattle.tc_model.specs.Names.{ExpandedName}
-use Rattle.tc_model.specs.Grammars.{Grammar, ElementPattern, element_at, InClass}
-use Rattle.tc_model.specs.States.{Side, input, automaton, IsPart, a_content, first_state, state_count, IsAccepting}
+use Rattle.tc_model.specs.Grammars.{Grammar, ElementPattern, element_at}
+use Rattle.tc_model.specs.States.{Side, input, automaton, IsPart, a_content, first_state, IsAccepting}
 use Rattle.tc_model.specs.Symbols.{Mention, symbol_of, symbol_count, fresh_name}
 use Rattle.tc_model.proofs.StatesExact.{sound}
 use Rattle.tc_model.proofs.StatesParts.{accepting_of_part, next_first}
@@ -15,13 +15,11 @@ use Rattle.tc_auto.specs.Stands.{patterns}
 use Rattle.tc_hedge.specs.Stands.{Stands}
 use Rattle.tc_hedge.specs.declared.hedge.Hedge.{Hedge}
 use Rattle.tc_hedge.proofs.Bounds.{patterns_of}
-use Rattle.tc_mat.specs.Matrix.{Matrix}
 use Rattle.tc_rows.specs.Triples.{Triple, IsTriple}
 use Rattle.tc_rows.specs.Rows.{HedgeRow}
 use Rattle.tc_rows.specs.Arithmetic.{IsPatternAround, IsLiveWrap}
 use Rattle.tc_beh.specs.Rooms.{flagged, flags_in, flag_at}
 use Rattle.tc_beh.specs.Around.{IsTakenBy, IsAroundBy, PutsPatterns}
-use Rattle.tc_beh.proofs.Appended.{state_at}
 use Rattle.tc_beh.proofs.Placed.{fresh_symbol}
 use Rattle.tc_beh.proofs.RoomRows.{flagged_at, at_flagged, flag_is}
 

@@ -1,24 +1,13 @@
 -- A room's numbers as those of the row of a tree.
-use Rattle.std.proofs.Common.{◌≡◌, ◌<◌, ◌≤◌, ◌+◌, ◌-◌, ◌↔◌, ◌==◌, [], ◌∷◌, ℕ, zero, suc, List, length, get_or, Some, Bool, true, false, if◌then◌else◌, subst, sym, ap, ◌∙◌, refl, arith}
-use Rattle.std.specs.List.{Contains}
-use Rattle.std.proofs.lemmas.List.{get_or_default}
+use Rattle.std.proofs.Common.{◌≡◌, ◌<◌, ◌==◌, [], ◌∷◌, ℕ, suc, List, length, get_or, false, if◌then◌else◌, ap, ◌∙◌, refl, arith}
 use Rattle.std.proofs.lemmas.List.Elements.{Contains-get_or}
-use Rattle.tc_alpha.proofs.Members.{Has, has_from_contains, contains_from_has}
-use Rattle.tc_model.specs.Grammars.{element_at, InClass, ElementPattern}
-use Rattle.tc_model.specs.States.{input, state_count, first_state, automaton}
-use Rattle.tc_model.specs.Symbols.{symbol_of, symbol_count, fresh_name}
-use Rattle.tc_auto.specs.Stands.{patterns}
-use Rattle.tc_hedge.specs.Stands.{Stands}
-use Rattle.tc_hedge.specs.declared.hedge.Hedge.{Hedge}
+use Rattle.tc_alpha.proofs.Members.{has_from_contains}
 use Rattle.tc_mat.specs.Matrix.{Matrix}
 use Rattle.tc_rows.specs.Triples.{Triple, outputs}
 use Rattle.tc_rows.specs.Rows.{IsTreeRow}
-use Rattle.tc_rows.specs.Arithmetic.{IsPatternAround}
-use Rattle.tc_rows.proofs.Inside.{number_within}
-use Rattle.tc_beh.specs.Around.{IsTakenBy, IsAroundBy, PutsPatterns}
 use Rattle.tc_beh.specs.Places.{no_matrix}
-use Rattle.tc_beh.specs.Rooms.{tree_layout, flagged, flags_in, flag_at, IsRoom, hedge_row, tree_row}
-use Rattle.tc_beh.proofs.RoomRows.{flagged_at, at_flagged, flagged_ascend, flag_is}
+use Rattle.tc_beh.specs.Rooms.{tree_layout, flagged, flags_in, IsRoom, tree_row}
+use Rattle.tc_beh.proofs.RoomRows.{flagged_at, flagged_ascend}
 use Rattle.tc_beh.proofs.RoomIs.{flags_count, are_entries, are_looks}
 
 pub is_tree_row : (x : Triple) (held : List Matrix) → ((k : ℕ) → k < length held → (get_or held k no_matrix).size ≡ outputs x) → (ns : List ℕ) → IsRoom (tree_layout x) held ns → IsTreeRow x (tree_row x held ns)

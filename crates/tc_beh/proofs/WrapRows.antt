@@ -1,5 +1,5 @@
 -- What a wrap and the row of a text are worked out of, and what they leave.
-use Rattle.std.proofs.Common.{◌≡◌, ◌<◌, ◌≤◌, ◌⊎◌, inl, inr, ◌+◌, ◌-◌, ◌↔◌, ◌==◌, [], ℕ, List, length, get_or, drop, Bool, true, false, if◌then◌else◌, subst, sym, ap, ◌∙◌, refl, arith, All}
+use Rattle.std.proofs.Common.{◌≡◌, ◌<◌, ◌≤◌, inl, inr, ◌+◌, ◌↔◌, ◌==◌, [], ℕ, List, length, get_or, drop, Bool, true, if◌then◌else◌, subst, sym, ap, ◌∙◌, arith, All}
 use Rattle.std.proofs.lemmas.List.{get_or_default, length-take-le, length-drop}
 use Rattle.std.proofs.lemmas.Bool.{cases_lt}
 use Rattle.std.specs.List.{Contains}
@@ -12,27 +12,24 @@ use Rattle.tc_model.specs.Letters as letters
 use Rattle.tc_model.specs.Letters.{of_symbol, of_text, IsLetter}
 use Rattle.tc_model.specs.States.{input, state_count}
 use Rattle.tc_model.specs.Symbols.{symbol_count}
-use Rattle.tc_rules.specs.States.{Going, Looking}
-use Rattle.tc_rules.specs.Tasks.{IsMoveAt, IsLookAt}
-use Rattle.tc_rows.specs.Triples.{Triple, outputs, ancestors, moves, entries, looks, predicates}
+use Rattle.tc_rows.specs.Triples.{Triple, outputs, entries, looks, predicates}
 use Rattle.tc_rows.specs.PairSets.{HaveSamePairs, listed}
-use Rattle.tc_rows.specs.Rows.{HedgeRow, TreeRow, entry, look}
-use Rattle.tc_rows.specs.Arithmetic.{letter_around, letter_of_text, IsTextRow, IsWrap, IsLiveWrap, IsPatternAround}
+use Rattle.tc_rows.specs.Rows.{HedgeRow, TreeRow, entry}
+use Rattle.tc_rows.specs.Arithmetic.{letter_around, letter_of_text, IsTextRow, IsWrap, IsLiveWrap}
 use Rattle.tc_rows.proofs.Sets.{past}
 use Rattle.tc_beh.specs.Above.{letter_of}
 use Rattle.tc_beh.specs.Around.{PutsPatterns}
-use Rattle.tc_beh.specs.Entries.{AreGrounds, IsNode, IsNodeRow, IsEntryAt, Comes, ComesPartly}
-use Rattle.tc_beh.specs.Held.{Extends, set_at}
+use Rattle.tc_beh.specs.Entries.{AreGrounds, IsNodeRow, ComesPartly}
+use Rattle.tc_beh.specs.Held.{Extends}
 use Rattle.tc_beh.specs.LooksAbove.{found_above}
 use Rattle.tc_beh.specs.Outs.{GrowsBy, IsLeftOut}
 use Rattle.tc_beh.specs.Places.{entries_by}
-use Rattle.tc_beh.specs.Rooms.{Layout, hedge_layout, tree_layout, count_of, flagged, flags_in, outputs_in, looks_in, flag_at, output_at, IsRoom, hedge_row, tree_row}
-use Rattle.tc_beh.specs.RoomsOf.{IsRoomOf, IsRoomBeside, ChangesHeads}
-use Rattle.tc_beh.specs.RowsOf.{IsWork, AreRowsOf, StandsForHedge, StandsForTree, hedge_of, tree_of}
+use Rattle.tc_beh.specs.Rooms.{Layout, hedge_layout, tree_layout, count_of, flagged, flags_in, outputs_in, looks_in, flag_at, output_at, IsRoom, tree_row}
+use Rattle.tc_beh.specs.RoomsOf.{IsRoomOf, IsRoomBeside}
+use Rattle.tc_beh.specs.RowsOf.{IsWork, AreRowsOf, StandsForHedge, hedge_of}
 use Rattle.tc_beh.specs.declared.entries.Node.{Node}
 use Rattle.tc_beh.specs.declared.rooms.HRow.{HRow}
 use Rattle.tc_beh.specs.declared.rooms.Room.{Room}
-use Rattle.tc_beh.specs.declared.rooms.TRow.{TRow}
 use Rattle.tc_beh.specs.declared.rows.Rows.{Rows}
 use Rattle.tc_beh.specs.declared.rows.Work.{Work}
 use Rattle.tc_beh.proofs.Behind.{head_is, head_low}
@@ -42,7 +39,7 @@ use Rattle.tc_beh.proofs.RoomIs.{flags_count, outputs_count}
 use Rattle.tc_beh.proofs.RoomRows.{output_is, look_is, flag_is}
 use Rattle.tc_beh.proofs.Surrounding.{patterns_around, some_pattern_around}
 use Rattle.tc_beh.proofs.TreeRows.{is_tree_row, none_flagged}
-use Rattle.tc_beh.proofs.Wrapped.{NodePairs, element_pairs, element_found, text_pairs, text_found, are_letters, node_entries, node_looks}
+use Rattle.tc_beh.proofs.Wrapped.{element_pairs, element_found, text_pairs, text_found, are_letters, node_entries, node_looks}
 
 symbol_same : (a b : ℕ) → of_symbol a ≡ of_symbol b → a ≡ b
 symbol_same a b e = ap at e

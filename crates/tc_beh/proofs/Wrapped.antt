@@ -1,7 +1,6 @@
 -- The rows of texts and of elements around trees, from what is left of them in rooms.
-use Rattle.std.proofs.Common.{◌≡◌, ◌<◌, ◌≤◌, ◌⊎◌, inl, inr, ◌+◌, ◌-◌, ◌*◌, ◌^◌, [], ℕ, List, length, get_or, map, Bool, true, false, cond, nat_lt, subst, sym, ap, ◌∙◌, refl, arith}
+use Rattle.std.proofs.Common.{◌≡◌, ◌<◌, ◌≤◌, ◌⊎◌, inr, ◌+◌, ◌-◌, ◌*◌, ◌^◌, [], ℕ, List, length, get_or, map, Bool, true, false, cond, nat_lt, subst, sym, ap, ◌∙◌, refl, arith}
 use Rattle.std.proofs.lemmas.List.{length-map}
-use Rattle.tc_mat.specs.Matrix.{Matrix}
 use Rattle.tc_mat.specs.Held.{Held, AreMatrices}
 use Rattle.tc_model.specs.Letters as letters
 use Rattle.tc_model.specs.Letters.{of_symbol, of_text, marks_of, IsLetter}
@@ -14,14 +13,14 @@ use Rattle.tc_rules.specs.Tasks.{IsMoveAt, IsLookAt}
 use Rattle.tc_rules.proofs.Counts.{move_counted}
 use Rattle.tc_rows.specs.Triples.{Triple, outputs, ancestors, moves, entries, looks, number, number_below, moving, looking, predicates}
 use Rattle.tc_rows.specs.PairSets.{PairSet, HaveSamePairs, product, listed}
-use Rattle.tc_rows.specs.Rows.{HedgeRow, TreeRow, IsTreeRow, entry, look}
+use Rattle.tc_rows.specs.Rows.{HedgeRow, TreeRow, entry, look}
 use Rattle.tc_rows.specs.Bodies.{on_element, on_text, holds_by, letter_by}
 use Rattle.tc_rows.specs.Arithmetic.{below, nothing_below, hit_pairs, pairs_from, step, look_from, letter_around, letter_of_text}
 use Rattle.tc_rows.proofs.Append.{entry_index}
 use Rattle.tc_rows.proofs.PairLaws.{same_back, same_on}
 use Rattle.tc_beh.specs.Above.{letter_of, pairs_at}
 use Rattle.tc_beh.specs.Entries.{IsEntryAt, Comes, IsNodeRow}
-use Rattle.tc_beh.specs.Held.{Extends, set_at}
+use Rattle.tc_beh.specs.Held.{set_at}
 use Rattle.tc_beh.specs.LooksAbove.{found_above}
 use Rattle.tc_beh.specs.Places.{pairs_of, entries_by}
 use Rattle.tc_beh.specs.Putting.{has}

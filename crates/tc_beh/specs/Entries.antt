@@ -75,6 +75,10 @@ module _ (x : Triple) (es : List (List (ℕ × ℕ))) (n : Node) where
   IsEntryAt i m = (q k : ℕ) (g : Going) (at : IsMoveAt x.rules k g) → q < ancestors x → i ≡ q * moves x + k
       → HaveSamePairs (has m) (pairs_at x n.bears es n.looks.now q (number_below x q (letter_of n.letter)) at.mode g n.letter.marks.0 (letter_of n.letter).kind)
 
+  -- a set of pairs of that place isn't held
+  abbrev pub IsNewEntry : Held → ℕ → Type 0
+  IsNewEntry h i = (m : Matrix) × IsEntryAt i m × (m.size ≡ h.size) × IsMatrix m × ¬ IsHeld h m
+
   -- what is held has come to hold so many of the entries, and no other sets
   pub record Comes (old new : Held) (numbers : ℕ → ℕ) (count : ℕ) : Type 0 where
     pub grows : Grows old new numbers count
@@ -84,7 +88,7 @@ module _ (x : Triple) (es : List (List (ℕ × ℕ))) (n : Node) where
   pub record ComesPartly (old new : Held) : Type 0 where
     pub held : Extends old new
     pub found : (k : ℕ) → length old.matrices ≤ k → k < length new.matrices → (i : ℕ) × (i < entries x) × IsEntryAt i (set_at new k)
-    pub left : (i : ℕ) × (m : Matrix) × (i < entries x) × IsEntryAt i m × (m.size ≡ new.size) × IsMatrix m × ¬ IsHeld new m
+    pub left : (i : ℕ) × (i < entries x) × IsNewEntry new i
 
 -- the numbers of a room have come to hold the looks and the entries of a node
 pub record IsNodeRow (x : Triple) (old new : Held) (n : Node) (numbers : List ℕ) : Type 0 where

@@ -9,7 +9,7 @@ use Rattle.tc_rows.specs.Rows.{TreeRow}
 use Rattle.tc_rows.specs.Bodies.{on_root, body_pairs}
 use Rattle.tc_rows.specs.Arithmetic.{below}
 use Rattle.tc_beh.specs.Machines.{IsMachineOf}
-use Rattle.tc_beh.specs.Rooms.{tree_layout, tree_row, IsRoom}
+use Rattle.tc_beh.specs.Rooms.{tree_layout, IsRoom}
 use Rattle.tc_beh.specs.RoomsOf.{IsRoomOf}
 use Rattle.tc_beh.specs.RowsOf.{IsWork}
 use Rattle.tc_beh.specs.declared.machine.Machine.{Machine}

@@ -1,6 +1,6 @@
 // The entries of a node, worked out from what stands below it: for each ancestor state above it, and in it for each state of a
 // move, where what is put out on the node and below it leads the output.
-ghost use Rattle.std.specs.Prelude.{◌≡◌, ◌<◌, ◌≤◌, ◌+◌, ◌*◌, ◌⊎◌, ℕ, List, length, get_or, OnOk, OnErr, true, false, All};
+ghost use Rattle.std.specs.Prelude.{◌≡◌, ◌<◌, ◌≤◌, ◌+◌, ◌*◌, ◌⊎◌, ℕ, List, length, get_or, IfOk, IfSome, OnOk, OnErr, true, false, All};
 ghost use Rattle.std.specs.Result.{IsErrOf};
 ghost use Rattle.tc_mat.specs.Matrix.{IsMatrix};
 ghost use Rattle.tc_mat.specs.Held.{Held};
@@ -8,10 +8,10 @@ ghost use Rattle.tc_model.specs.Letters.{IsLetter};
 ghost use Rattle.tc_rules.specs.Asked as asked;
 ghost use Rattle.tc_rules.specs.Kept.{told};
 ghost use Rattle.tc_rules.specs.RulesView.{move_count};
-ghost use Rattle.tc_rows.specs.Triples.{Triple, predicates, moves as moves_of};
+ghost use Rattle.tc_rows.specs.Triples.{Triple, predicates, moves as moves_of, outputs as outputs_of};
 ghost use Rattle.tc_beh.specs.Above.{letter_of, node_of};
-ghost use Rattle.tc_beh.specs.Entries.{AreGrounds, AreSomeGrounds, AreCalledOn, IsUnder, IsMadeOf, IsEntryAt, Comes, ComesPartly};
-ghost use Rattle.tc_beh.specs.Held.{Extends};
+ghost use Rattle.tc_beh.specs.Entries.{IsNode, IsNewEntry, AreGrounds, AreSomeGrounds, AreCalledOn, IsUnder, IsMadeOf, IsEntryAt, Comes, ComesPartly};
+ghost use Rattle.tc_beh.specs.Held.{Extends, set_at};
 ghost use Rattle.tc_beh.specs.Places.{kind_of, entries_by};
 ghost use Rattle.tc_beh.specs.Rooms.{output_at};
 ghost use Rattle.tc_beh.specs.RoomsOf.{IsRoomBeside};
@@ -37,6 +37,14 @@ pub(crate) struct Node<'a> {
     pub(crate) bears: bool,
     pub(crate) entries: &'a [u32],
     pub(crate) looks: &'a [u32],
+}
+
+/// Where an entry of a node stands: the ancestor state above the node, that for what stands below it, and the state of a move.
+#[derive(Clone, Copy)]
+struct Spot {
+    ancestor: u32,
+    above: u32,
+    state: u32,
 }
 
 /// What a node of a letter is.
@@ -107,31 +115,94 @@ fn put_named_on(machine: &Machine<'_>, outputs: &Pool, work: &mut Work, node: No
 }
 
 /// Works out what a state of a move above puts out on a node and then below it.
-fn put_entry_of(
-    machine: &Machine<'_>,
-    outputs: &Pool,
-    work: &mut Work,
-    node: Node<'_>,
-    ancestor: u32,
-    above: u32,
-    state: u32,
-)
+fn put_entry_of(machine: &Machine<'_>, outputs: &Pool, work: &mut Work, node: Node<'_>, spot: Spot)
     requires grounds { AreSomeGrounds machine.now outputs.now work.old node }
-    requires ancestor { ancestor < length (told machine.now.rules).ancestors.states }
-    requires state { state < move_count (told machine.now.rules) }
-    requires above { above < length (told machine.now.rules).ancestors.states }
+    requires ancestor { spot.ancestor < length (told machine.now.rules).ancestors.states }
+    requires state { spot.state < move_count (told machine.now.rules) }
+    requires above { spot.above < length (told machine.now.rules).ancestors.states }
     ensures work { (x : Triple) → AreGrounds x machine.now outputs.now work.old node.entry → IsWork x machine.now.depth work.new }
     ensures named { work.new.named.items ≡ work.old.named.items }
     ensures matrix { IsMatrix work.new.set }
-    ensures entry { (x : Triple) → AreGrounds x machine.now outputs.now work.old node.entry → IsUnder x (letter_of node.entry.letter) ancestor above → AreCalledOn x outputs.now node.entry above work.old.named.items
-        → IsEntryAt x (entries_by outputs.now.matrices node.entry.entries.now) node.entry (ancestor * moves_of x + state) work.new.set }
+    ensures entry { (x : Triple) → AreGrounds x machine.now outputs.now work.old node.entry → IsUnder x (letter_of node.entry.letter) spot.ancestor spot.above → AreCalledOn x outputs.now node.entry spot.above work.old.named.items
+        → IsEntryAt x (entries_by outputs.now.matrices node.entry.entries.now) node.entry (spot.ancestor * moves_of x + spot.state) work.new.set }
 {
     put_identity(&mut work.set);
     let named = work.named.as_slice();
-    let place = place_of(machine, outputs, &work.text, named, node, above);
+    let place = place_of(machine, outputs, &work.text, named, node, spot.above);
     let spare = work.spare.as_mut_slice();
-    put_entry_above(&place, node.letter, ancestor, state, &mut work.set, spare);
+    put_entry_above(
+        &place,
+        node.letter,
+        spot.ancestor,
+        spot.state,
+        &mut work.set,
+        spare,
+    );
     let _size = work.set.size();
+}
+
+/// The number of an entry of an element that its state doesn't hit: that of the state to which the element leads it, below the
+/// element. There is none where it hits the node or goes nowhere.
+fn passed_on(machine: &Machine<'_>, outputs: &Pool, node: Node<'_>, spot: Spot) -> Option<u32>
+    requires node { (x : Triple) × IsRulesIn x machine.now.rules × IsNode x outputs.now node }
+    requires state { spot.state < move_count (told machine.now.rules) }
+    requires above { spot.above < length (told machine.now.rules).ancestors.states }
+    ensures low { IfSome result (λ k. k < length outputs.now.matrices) }
+    ensures entry { IfSome result (λ k. (x : Triple) → IsRulesIn x machine.now.rules → outputs.now.size ≡ outputs_of x → IsNode x outputs.now node.entry
+        → IsUnder x (letter_of node.entry.letter) spot.ancestor spot.above
+        → IsEntryAt x (entries_by outputs.now.matrices node.entry.entries.now) node.entry (spot.ancestor * moves_of x + spot.state) (set_at outputs.now k)) }
+{
+    let rules = &machine.rules;
+    let marks = node.letter.marks;
+    let Kind::Elem(sym) = node.letter.kind else {
+        return None;
+    };
+    if rules.sel_hits(spot.state, Kind::Elem(sym), marks) {
+        return None;
+    }
+    match rules.sel_step(spot.state, sym, marks) {
+        None => None,
+        Some(next) => {
+            let _held = outputs.len();
+            Some(node.entries[entry_place(spot.above, rules.moves(), next)])
+        }
+    }
+}
+
+/// The number of an entry of a node.
+fn keep_entry(
+    machine: &Machine<'_>,
+    outputs: &mut Pool,
+    is_fixed: bool,
+    work: &mut Work,
+    node: Node<'_>,
+    spot: Spot,
+) -> Result<u32, RowFault>
+    requires grounds { AreSomeGrounds machine.now outputs.old work.old node }
+    requires ancestor { spot.ancestor < length (told machine.now.rules).ancestors.states }
+    requires state { spot.state < move_count (told machine.now.rules) }
+    requires above { spot.above < length (told machine.now.rules).ancestors.states }
+    ensures work { (x : Triple) → AreGrounds x machine.now outputs.old work.old node.entry → IsWork x machine.now.depth work.new }
+    ensures named { work.new.named.items ≡ work.old.named.items }
+    ensures held { Extends outputs.old outputs.new }
+    ensures low { IfOk result (λ k. k < length outputs.new.matrices) }
+    ensures grows { IfOk result (λ k. ((k < length outputs.old.matrices) × (outputs.new ≡ outputs.old)) ⊎ ((k ≡ length outputs.old.matrices) × (length outputs.new.matrices ≡ length outputs.old.matrices + 1))) }
+    ensures entry { IfOk result (λ k. (x : Triple) → AreGrounds x machine.now outputs.old work.old node.entry → IsUnder x (letter_of node.entry.letter) spot.ancestor spot.above → AreCalledOn x outputs.old node.entry spot.above work.old.named.items
+        → IsEntryAt x (entries_by outputs.old.matrices node.entry.entries.now) node.entry (spot.ancestor * moves_of x + spot.state) (set_at outputs.new k)) }
+    ensures err { OnErr result ((outputs.new ≡ outputs.old) × ((x : Triple) → AreGrounds x machine.now outputs.old work.old node.entry → IsUnder x (letter_of node.entry.letter) spot.ancestor spot.above → AreCalledOn x outputs.old node.entry spot.above work.old.named.items
+        → IsNewEntry x (entries_by outputs.old.matrices node.entry.entries.now) node.entry outputs.old (spot.ancestor * moves_of x + spot.state))) }
+    ensures fixed { is_fixed ≡ true → outputs.new ≡ outputs.old }
+    ensures full { IsErrOf result RowFault.TooManyOutputs → (is_fixed ≡ false) × (length outputs.old.matrices ≡ 65536) }
+    ensures fresh { IsErrOf result RowFault.NewOutput → is_fixed ≡ true }
+    ensures memory { IsErrOf result RowFault.NoMemory → is_fixed ≡ false }
+{
+    match passed_on(machine, outputs, node, spot) {
+        Some(number) => Ok(number),
+        None => {
+            put_entry_of(machine, outputs, work, node, spot);
+            keep(outputs, is_fixed, &work.set)
+        }
+    }
 }
 
 /// Leaves the entries of a node for one ancestor state above it.
@@ -166,8 +237,12 @@ fn put_row(
     put_named_on(machine, outputs, work, node, above);
     let moves = machine.rules.moves();
     for state in 0..moves {
-        put_entry_of(machine, outputs, work, node, ancestor, above, state);
-        let number = keep(outputs, is_fixed, &work.set)?;
+        let spot = Spot {
+            ancestor,
+            above,
+            state,
+        };
+        let number = keep_entry(machine, outputs, is_fixed, work, node, spot)?;
         out.set_output(entry_place(ancestor, moves, state), number);
     }
     Ok(())

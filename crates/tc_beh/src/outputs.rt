@@ -1,5 +1,5 @@
 // The sets of pairs that stand in rows, each held once.
-ghost use Rattle.std.specs.Prelude.{◌≡◌, ◌<◌, ◌≤◌, ◌+◌, ◌++◌, ◌∷◌, ◌⊎◌, ℕ, [], length, slice_get, get_or, Some, IfOk, OnOk, OnErr, true, false, IsTrue};
+ghost use Rattle.std.specs.Prelude.{◌≡◌, ◌<◌, ◌≤◌, ◌+◌, ◌++◌, ◌∷◌, ◌⊎◌, ℕ, [], length, slice_get, get_or, Some, IfSome, IfOk, OnOk, OnErr, true, false, IsTrue};
 ghost use Rattle.std.specs.Result.{IsErrOf};
 ghost use Rattle.tc_mat.specs.Matrix.{IsComposition};
 ghost use Rattle.tc_mat.specs.Held.{IsHeld};
@@ -9,6 +9,9 @@ ghost use Rattle.tc_beh.specs.RoomsOf.{IsRoomBeside};
 
 use crate::rooms::Room;
 use tc_mat::{Mat, MatId, Pool, PoolFault};
+
+/// How many places are looked at for the same two entries.
+const MOST_LOOKED_AT: usize = 256;
 
 /// Why there is no row.
 #[derive(Clone, Copy, Debug, PartialEq, Eq)]
@@ -70,6 +73,54 @@ pub(crate) fn keep_product(
     keep(outputs, is_fixed, set)
 }
 
+/// An earlier place at which the same two numbers stand, if there is one among the first ones.
+fn same_before(first: &[u32], second: &[u32], place: usize) -> Option<usize>
+    requires first { place < length first.now }
+    requires second { place < length second.now }
+    ensures { IfSome result (λ j. (j < place) × (get_or first.now j 0 ≡ get_or first.now place 0) × (get_or second.now j 0 ≡ get_or second.now place 0)) }
+{
+    for before in 0..place.min(MOST_LOOKED_AT) {
+        if first[before] == first[place] && second[before] == second[place] {
+            return Some(before);
+        }
+    }
+    None
+}
+
+/// The number of the product of the entries at a place. It is that of an earlier place where the same two stand there.
+fn keep_place(
+    outputs: &mut Pool,
+    is_fixed: bool,
+    set: &mut Mat,
+    first: &[u32],
+    second: &[u32],
+    out: &Room,
+    place: usize,
+) -> Result<u32, RowFault>
+    requires set { set.old.size ≡ outputs.old.size }
+    requires first_inside { place < length first.now }
+    requires second_inside { place < length second.now }
+    requires inside { place < out.now.entries }
+    requires first { get_or first.now place 0 < length outputs.old.matrices }
+    requires second { get_or second.now place 0 < length outputs.old.matrices }
+    requires done { (j : ℕ) → j < place → (output_at out.now.flags out.now.numbers.items j < length outputs.old.matrices)
+        × IsComposition (set_at outputs.old (get_or first.now j 0)) (set_at outputs.old (get_or second.now j 0)) (set_at outputs.old (output_at out.now.flags out.now.numbers.items j)) }
+    ensures set { set.new.size ≡ set.old.size }
+    ensures held { Extends outputs.old outputs.new }
+    ensures pairs { IfOk result (λ k. (k < length outputs.new.matrices) × IsComposition (set_at outputs.old (get_or first.now place 0)) (set_at outputs.old (get_or second.now place 0)) (set_at outputs.new k)) }
+    ensures grows { IfOk result (λ k. ((k < length outputs.old.matrices) × (outputs.new ≡ outputs.old)) ⊎ ((k ≡ length outputs.old.matrices) × (length outputs.new.matrices ≡ length outputs.old.matrices + 1))) }
+    ensures err { OnErr result ((outputs.new ≡ outputs.old) × IsNew outputs.old (set_at outputs.old (get_or first.now place 0)) (set_at outputs.old (get_or second.now place 0))) }
+    ensures fixed { is_fixed ≡ true → outputs.new ≡ outputs.old }
+    ensures full { IsErrOf result RowFault.TooManyOutputs → (is_fixed ≡ false) × (length outputs.old.matrices ≡ 65536) }
+    ensures fresh { IsErrOf result RowFault.NewOutput → is_fixed ≡ true }
+    ensures memory { IsErrOf result RowFault.NoMemory → is_fixed ≡ false }
+{
+    match same_before(first, second, place) {
+        Some(before) => Ok(out.outputs()[before]),
+        None => keep_product(outputs, is_fixed, set, first[place], second[place]),
+    }
+}
+
 /// Leaves the numbers of the products of entries.
 pub(crate) fn put_products(
     outputs: &mut Pool,
@@ -98,7 +149,7 @@ pub(crate) fn put_products(
     ensures memory { IsErrOf result RowFault.NoMemory → is_fixed ≡ false }
 {
     for place in 0..out.entries {
-        let number = keep_product(outputs, is_fixed, set, first[place], second[place])?;
+        let number = keep_place(outputs, is_fixed, set, first, second, out, place)?;
         out.set_output(place, number);
     }
     Ok(())

@@ -10,14 +10,18 @@ use tc_base::NoMemory;
 /// What a row of lists of trees is made of: no tree, or a list of trees with a tree behind.
 #[derive(Clone, Copy)]
 pub enum MadeHedge {
+    /// No tree.
     None,
+    /// The number of the list, and that of the tree.
     Append(u32, u32),
 }
 
 /// What a row of trees is made of: a text, or an element of a symbol around a list of trees.
 #[derive(Clone, Copy)]
 pub enum MadeTree {
+    /// A text.
     Text,
+    /// The symbol, and the number of the list.
     Wrap(u32, u32),
 }
 
@@ -25,9 +29,13 @@ pub enum MadeTree {
 /// 2,001 for all greater ones. Rows of each kind come in order of cost.
 #[derive(Drop)]
 pub struct Closed {
+    /// What each list of trees is made of.
     pub hedges: Vec<MadeHedge>,
+    /// The cost of each list of trees.
     pub hedge_costs: Vec<u32>,
+    /// What each tree is made of.
     pub trees: Vec<MadeTree>,
+    /// The cost of each tree.
     pub tree_costs: Vec<u32>,
 }
 

@@ -9,6 +9,8 @@ mod levels;
 mod rows;
 mod runs;
 mod settling;
+#[cfg(test)]
+mod tests;
 mod trying;
 
 pub use building::{BuildFault, build};

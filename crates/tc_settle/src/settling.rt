@@ -24,6 +24,7 @@ pub fn close<R: NumberedRows>(alloc: Global, rows: &mut R, most: u32) -> Result<
     ensures cause { IfErr result (λ e. IsCause (R.is_full rows.new) most (R.held rows.new) e) }
 {
     let closed = find(alloc, rows, most)?;
+    // It tells that rows of different numbers are different, without which no cost would be known to be the least.
     let _symbols = rows.symbols();
     Ok(closed)
 }

@@ -1,6 +1,5 @@
-use Rattle.std.proofs.Common.{Bool, true, false, not, sym, ap, ◌∙◌, subst}
+use Rattle.std.proofs.Common.{sym, ◌∙◌}
 use Rattle.tc_model.specs.StateCounts.{PathUse}
-use Rattle.tc_rules.specs.Asked.{letter}
 use Rattle.tc_rules.specs.Kept.{told}
 use Rattle.tc_rules.specs.RulesView.{ancestor}
 use Rattle.tc_rules.specs.States.{body_by}

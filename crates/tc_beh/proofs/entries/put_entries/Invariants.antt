@@ -1,4 +1,4 @@
-use Rattle.std.proofs.Common.{◌≡◌, ◌<◌, ◌≤◌, ◌⊎◌, ◌+◌, ◌*◌, ℕ, List, get_or, true}
+use Rattle.std.proofs.Common.{◌≡◌, ◌<◌, ◌≤◌, ◌⊎◌, ◌+◌, ◌*◌, ℕ, get_or, true}
 use Rattle.tc_rows.specs.Triples.{Triple, moves}
 use Rattle.tc_beh.specs.Entries.{AreGrounds, Comes}
 use Rattle.tc_beh.specs.Held.{Extends}

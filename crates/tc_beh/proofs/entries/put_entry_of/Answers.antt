@@ -9,15 +9,15 @@ pub put_entry_above-requires-clause-place : goal.put_entry_above-requires-clause
 put_entry_above-requires-clause-place c =
     let (x, ok) = c.requires.grounds in
     let w = c.args.work.now in
-    let low = subst (λ (t : RulesView). c.args.above < length t.ancestors.states) ok.machine.parts.are_rules.told c.requires.above in
-    (x, is_place x c.args.machine.now c.args.outputs.now w c.args.node ok w.text w.named.items c.args.above c.place_of-place.result (subst (λ (ms : List Matrix). IsMadeOf c.args.machine.now c.args.outputs.now w.text ms c.args.node c.args.above c.place_of-place.result) c.as_slice-named.ensures.value c.place_of-place.ensures) (λ i. w.text) low ok.work.named_count ok.work.named)
+    let low = subst (λ (t : RulesView). c.args.spot.above < length t.ancestors.states) ok.machine.parts.are_rules.told c.requires.above in
+    (x, is_place x c.args.machine.now c.args.outputs.now w c.args.node ok w.text w.named.items c.args.spot.above c.place_of-place.result (subst (λ (ms : List Matrix). IsMadeOf c.args.machine.now c.args.outputs.now w.text ms c.args.node c.args.spot.above c.place_of-place.result) c.as_slice-named.ensures.value c.place_of-place.ensures) (λ i. w.text) low ok.work.named_count ok.work.named)
 
 pub put_entry_above-requires-clause-letter : goal.put_entry_above-requires-clause-letter
 put_entry_above-requires-clause-letter c =
     let (x, ok) = c.requires.grounds in
     let w = c.args.work.now in
-    let low = subst (λ (t : RulesView). c.args.above < length t.ancestors.states) ok.machine.parts.are_rules.told c.requires.above in
-    (x, is_place x c.args.machine.now c.args.outputs.now w c.args.node ok w.text w.named.items c.args.above c.place_of-place.result (subst (λ (ms : List Matrix). IsMadeOf c.args.machine.now c.args.outputs.now w.text ms c.args.node c.args.above c.place_of-place.result) c.as_slice-named.ensures.value c.place_of-place.ensures) (λ i. w.text) low ok.work.named_count ok.work.named, ok.node.letter)
+    let low = subst (λ (t : RulesView). c.args.spot.above < length t.ancestors.states) ok.machine.parts.are_rules.told c.requires.above in
+    (x, is_place x c.args.machine.now c.args.outputs.now w c.args.node ok w.text w.named.items c.args.spot.above c.place_of-place.result (subst (λ (ms : List Matrix). IsMadeOf c.args.machine.now c.args.outputs.now w.text ms c.args.node c.args.spot.above c.place_of-place.result) c.as_slice-named.ensures.value c.place_of-place.ensures) (λ i. w.text) low ok.work.named_count ok.work.named, ok.node.letter)
 
 pub returns-clause-work : goal.returns-clause-work
 returns-clause-work c = λ x ok.
@@ -32,10 +32,10 @@ returns-clause-entry c = λ x ok under called.
     let held = c.args.outputs.now in
     let n = c.args.node in
     let p = c.place_of-place.result in
-    let made = subst (λ (ms : List Matrix). IsMadeOf m held w.text ms n c.args.above p) c.as_slice-named.ensures.value c.place_of-place.ensures in
-    let ground = is_ground x m held w n ok w.text w.named.items c.args.above p made (λ i. w.text) under.low in
-    let place = is_place x m held w n ok w.text w.named.items c.args.above p made (λ i. w.text) under.low ok.work.named_count ok.work.named in
-    let all_called = are_called x m held w n ok w.text w.named.items c.args.above p made called in
-    let within = subst (λ (t : RulesView). c.args.state < move_count t) ok.machine.parts.are_rules.told c.requires.state in
-    entry_made x m held w n ok w.text w.named.items c.args.above p made ground c.put_identity.new.out c.put_entry_above.new.out c.args.ancestor c.args.state under c.put_identity.ensures.pairs (c.put_identity.ensures.size ∙ ok.work.set) within
+    let made = subst (λ (ms : List Matrix). IsMadeOf m held w.text ms n c.args.spot.above p) c.as_slice-named.ensures.value c.place_of-place.ensures in
+    let ground = is_ground x m held w n ok w.text w.named.items c.args.spot.above p made (λ i. w.text) under.low in
+    let place = is_place x m held w n ok w.text w.named.items c.args.spot.above p made (λ i. w.text) under.low ok.work.named_count ok.work.named in
+    let all_called = are_called x m held w n ok w.text w.named.items c.args.spot.above p made called in
+    let within = subst (λ (t : RulesView). c.args.spot.state < move_count t) ok.machine.parts.are_rules.told c.requires.state in
+    entry_made x m held w n ok w.text w.named.items c.args.spot.above p made ground c.put_identity.new.out c.put_entry_above.new.out c.args.spot.ancestor c.args.spot.state under c.put_identity.ensures.pairs (c.put_identity.ensures.size ∙ ok.work.set) within
     (λ g at. c.put_entry_above.ensures.pairs x g at place all_called ok.node.letter)

@@ -6,11 +6,11 @@ use Rattle.tc_rules.specs.RulesView.{RulesView, move_count}
 use Rattle.tc_rows.specs.Triples.{Triple, ancestors, moves, outputs}
 use Rattle.tc_rows.proofs.Append.{entry_index}
 use Rattle.tc_beh.specs.Above.{letter_of}
-use Rattle.tc_beh.specs.Entries.{AreCalledOn, IsEntryAt}
-use Rattle.tc_beh.specs.Places.{entries_by}
+use Rattle.tc_beh.specs.Entries.{AreCalledOn, IsEntryAt, IsNewEntry}
+use Rattle.tc_beh.specs.Held.{set_at}
 use Rattle.tc_beh.specs.Rooms.{output_at}
 use Rattle.tc_beh.proofs.Looking.{moves_told}
-use Rattle.tc_beh.proofs.Holding.{extends_self, extends_then, extends_kept, set_kept, grows_kept, on_err}
+use Rattle.tc_beh.proofs.Holding.{extends_self, extends_then, on_err}
 use Rattle.tc_beh.proofs.Coming.{grounds_kept, read_kept, called_kept, row_within, comes_step, comes_partly, comes_same}
 use Rattle.tc_beh.proofs.entries.put_row.Goals as goal
 
@@ -25,23 +25,16 @@ loop-state-init c = record {
   fixed = λ e. refl;
 }
 
-pub put_entry_of-requires-clause-grounds : goal.put_entry_of-requires-clause-grounds
-put_entry_of-requires-clause-grounds c =
+pub keep_entry-requires-clause-grounds : goal.keep_entry-requires-clause-grounds
+keep_entry-requires-clause-grounds c =
     let (x, ok) = c.requires.grounds in
     let so_far = c.loop-state.invariant in
     (x, grounds_kept x c.args.machine.now c.args.outputs.now c.loop-state.outputs so_far.held c.args.work.now c.args.node ok c.loop-state.work (so_far.work x ok))
 
-pub keep-requires : goal.keep-requires
-keep-requires c =
-    let (x, ok) = c.requires.grounds in
-    let so_far = c.loop-state.invariant in
-    let now = grounds_kept x c.args.machine.now c.args.outputs.now c.loop-state.outputs so_far.held c.args.work.now c.args.node ok c.loop-state.work (so_far.work x ok) in
-    (c.put_entry_of.ensures.work x now).set ∙ sym now.size
-
 pub returns-in_err-number-clause-work : goal.returns-in_err-number-clause-work
 returns-in_err-number-clause-work c = λ x ok.
     let so_far = c.loop-state.invariant in
-    c.put_entry_of.ensures.work x (grounds_kept x c.args.machine.now c.args.outputs.now c.loop-state.outputs so_far.held c.args.work.now c.args.node ok c.loop-state.work (so_far.work x ok))
+    c.keep_entry.ensures.work x (grounds_kept x c.args.machine.now c.args.outputs.now c.loop-state.outputs so_far.held c.args.work.now c.args.node ok c.loop-state.work (so_far.work x ok))
 
 pub returns-in_err-number-clause-partly : goal.returns-in_err-number-clause-partly
 returns-in_err-number-clause-partly c = on_err c.from_residual.result _ (λ x es begun ok e so.
@@ -53,17 +46,16 @@ returns-in_err-number-clause-partly c = on_err c.from_residual.result _ (λ x es
     let so_far = c.loop-state.invariant in
     let q = c.args.ancestor in
     let k = c.loop-state.state in
-    let set = c.put_entry_of.new.work.set in
     let rules = ok.machine.parts.are_rules in
     let now = grounds_kept x m a b so_far.held w n ok c.loop-state.work (so_far.work x ok) in
     let count = moves_told x m.rules rules c.moves-moves.result (c.moves-moves.ensures x.symbols rules.rules) in
     let within : k < moves x = let t = c.loop-state-test.true in omega (arith, t, count) in
     let low : q < ancestors x = subst (λ (t : RulesView). q < length t.ancestors.states) rules.told c.requires.ancestor in
     let under = c.state_below-above.ensures.under x rules ok.node.letter in
-    let made = c.put_entry_of.ensures.entry x now under (called_kept x m a b so_far.held w n ok c.state_below-above.result c.loop-state.work.named.items (so_far.called x ok)) in
-    let right : IsEntryAt x es n (q * moves x + k) set = subst (λ l. IsEntryAt x l n (q * moves x + k) set) (read_kept x m a b so_far.held w n ok ∙ sym e) made in
-    comes_partly x es n begun b c.keep.new.outputs (output_at c.args.out.now.flags c.loop-state.out.numbers.items) (q * moves x + k) set (so_far.comes x es begun ok e so) (entry_index x q k low within) right
-    ((c.put_entry_of.ensures.work x now).set ∙ sym now.size) c.put_entry_of.ensures.matrix c.in_err-number.ensures.err)
+    let err = c.in_err-number.ensures.err in
+    let fresh = err.1 x now under (called_kept x m a b so_far.held w n ok c.state_below-above.result c.loop-state.work.named.items (so_far.called x ok)) in
+    comes_partly x es n begun b c.keep_entry.new.outputs (output_at c.args.out.now.flags c.loop-state.out.numbers.items) (q * moves x + k) (so_far.comes x es begun ok e so) (entry_index x q k low within) err.0
+    (subst (λ l. IsNewEntry x l n b (q * moves x + k)) (read_kept x m a b so_far.held w n ok ∙ sym e) fresh))
 
 pub loop-state-preserved : goal.loop-state-preserved
 loop-state-preserved c =
@@ -71,22 +63,21 @@ loop-state-preserved c =
     let n = c.args.node in
     let a = c.args.outputs.now in
     let b = c.loop-state.outputs in
-    let new = c.keep.new.outputs in
+    let new = c.keep_entry.new.outputs in
     let w = c.args.work.now in
     let so_far = c.loop-state.invariant in
     let q = c.args.ancestor in
     let k = c.loop-state.state in
-    let set = c.put_entry_of.new.work.set in
     let number = c.in_ok-number.number in
     let flags = so_far.beside.flags in
     let put = c.set_output.ensures in
-    let more = extends_kept b new set c.keep.result c.keep.ensures.grows c.keep.ensures.err in
+    let more = c.keep_entry.ensures.held in
     let (y, fit) = c.requires.grounds in
     let many = c.moves-moves.ensures y.symbols fit.machine.parts.are_rules.rules in
     let inside : c.entry_place.result < c.args.out.now.entries = subst (λ j. j < c.args.out.now.entries) (sym c.entry_place.ensures) (row_within q k c.moves-moves.result (move_count (told m.rules)) c.args.out.now.entries many c.loop-state-test.true c.requires.room) in
     record {
-      work = λ x ok. c.put_entry_of.ensures.work x (grounds_kept x m a b so_far.held w n ok c.loop-state.work (so_far.work x ok));
-      called = λ x ok. subst (λ (ms : List Matrix). AreCalledOn x a n c.state_below-above.result ms) (sym c.put_entry_of.ensures.named) (so_far.called x ok);
+      work = λ x ok. c.keep_entry.ensures.work x (grounds_kept x m a b so_far.held w n ok c.loop-state.work (so_far.work x ok));
+      called = λ x ok. subst (λ (ms : List Matrix). AreCalledOn x a n c.state_below-above.result ms) (sym c.keep_entry.ensures.named) (so_far.called x ok);
       beside = record { flags = put.beside.flags ∙ flags; entries = put.beside.entries ∙ so_far.beside.entries; count = put.beside.count ∙ so_far.beside.count };
       others = λ i h. put.others i (λ e. elim h [ inl l ↦ absurd (omega (arith, e, l, flags)) | inr l ↦ absurd (omega (arith, e, l, flags, inside)) ]) ∙ so_far.others i h;
       held = extends_then a b new so_far.held more;
@@ -99,14 +90,13 @@ loop-state-preserved c =
           let before = output_at c.args.out.now.flags c.loop-state.out.numbers.items in
           let after = output_at c.args.out.now.flags c.set_output.new.self.numbers.items in
           let under = c.state_below-above.ensures.under x rules ok.node.letter in
-          let made = c.put_entry_of.ensures.entry x now under (called_kept x m a b so_far.held w n ok c.state_below-above.result c.loop-state.work.named.items (so_far.called x ok)) in
-          let right : IsEntryAt x es n i set = subst (λ l. IsEntryAt x l n i set) (read_kept x m a b so_far.held w n ok ∙ sym e) made in
+          let made = c.in_ok-number.ensures.entry x now under (called_kept x m a b so_far.held w n ok c.state_below-above.result c.loop-state.work.named.items (so_far.called x ok)) in
+          let right : IsEntryAt x es n i (set_at new number) = subst (λ l. IsEntryAt x l n i (set_at new number)) (read_kept x m a b so_far.held w n ok ∙ sym e) made in
           let stays : (p : ℕ) → p < i → after p ≡ before p = λ p l. put.others (2 + c.args.out.now.flags + p) (λ f. absurd (omega (arith, f, l, flags, place))) in
           let at : 2 + c.loop-state.out.flags + c.entry_place.result ≡ 2 + c.args.out.now.flags + i = omega (arith, flags, place) in
           let here : after i ≡ number = subst (λ j. get_or c.set_output.new.self.numbers.items j 0 ≡ number) at put.output in
           comes_same x es n begun new after (i + 1) (q * moves x + (k + 1)) (omega arith)
-          (comes_step x es n begun b new before after i number set (so_far.comes x es begun ok e so) stays here more (set_kept b new set (Ok number) c.in_ok-number.ensures.number)
-          (grows_kept b new set (Ok number) c.in_ok-number.ensures.number c.in_ok-number.ensures.grows) right);
+          (comes_step x es n begun b new before after i number (set_at new number) (so_far.comes x es begun ok e so) stays here more (c.in_ok-number.ensures.low, refl) c.in_ok-number.ensures.grows right);
       fixed = λ e. c.in_ok-number.ensures.fixed e ∙ so_far.fixed e;
     }
 

@@ -1,4 +1,4 @@
-use Rattle.std.proofs.Common.{◌≡◌, ◌∙◌, ap}
+use Rattle.std.proofs.Common.{◌∙◌}
 use Rattle.tc_beh.proofs.Lining.{places_with, places_without}
 use Rattle.tc_beh.proofs.lines.places_of.Goals.{then-flags-place-eq1+in_ok-push_number, else-flags-place-eq1}
 use Rattle.tc_beh.proofs.lines.places_of.Goals as goal

@@ -1,4 +1,4 @@
-use Rattle.std.proofs.Common.{◌≡◌, ◌<◌, ◌≤◌, ◌+◌, ℕ, get_or}
+use Rattle.std.proofs.Common.{◌≡◌, ◌<◌, ◌+◌, ℕ, get_or}
 use Rattle.tc_beh.specs.RoomsOf.{IsRoomBeside}
 use Rattle.tc_beh.proofs.lines.put_looks.Given as goal
 

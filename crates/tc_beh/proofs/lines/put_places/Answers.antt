@@ -1,4 +1,4 @@
-use Rattle.std.proofs.Common.{◌≡◌, ◌≤◌, ◌<◌, ◌+◌, ◌-◌, ◌⊎◌, inl, inr, ◌∙◌, length, arith}
+use Rattle.std.proofs.Common.{inl, inr, ◌∙◌, arith}
 use Rattle.tc_beh.proofs.Lining.{one_place, all_places, no_place, place_fits}
 use Rattle.tc_beh.proofs.lines.put_places.Goals as goal
 

@@ -1,8 +1,7 @@
-use Rattle.std.proofs.Common.{◌≡◌, true, false, ◌∙◌, sym, subst, refl}
+use Rattle.std.proofs.Common.{◌≡◌, ◌∙◌, sym, subst, refl}
 use Rattle.tc_model.specs.Letters.{IsLetter}
 use Rattle.tc_rules.specs.Asked.{letter}
 use Rattle.tc_rules.specs.declared.rules.Kind.{Kind}
-use Rattle.tc_rules.specs.declared.rules.Kind.TheVariants.{Elem, Text}
 use Rattle.tc_rows.specs.Triples.{predicates}
 use Rattle.tc_beh.specs.LooksAbove.{found_below}
 use Rattle.tc_beh.proofs.Finding.{of_look, look_told, letter_told, hits_told, one_more, one_more_few, is_found, isnt_found}

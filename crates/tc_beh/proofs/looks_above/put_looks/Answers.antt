@@ -1,9 +1,7 @@
-use Rattle.std.proofs.Common.{◌≡◌, ◌<◌, ◌≤◌, ◌+◌, ◌-◌, ℕ, ap, ◌∙◌, sym, subst, get_or, length, inl, inr, arith}
+use Rattle.std.proofs.Common.{◌≡◌, ◌<◌, ◌+◌, ◌-◌, ℕ, ap, ◌∙◌, subst, get_or, inl, inr, arith}
 use Rattle.std.proofs.lemmas.Bool.{cases_lt}
-use Rattle.tc_rules.specs.Asked.{letter}
 use Rattle.tc_rules.specs.Tasks.{IsLookAt}
 use Rattle.tc_rows.specs.Triples.{moves, looks as looks_of}
-use Rattle.tc_beh.specs.LooksAbove.{found_above}
 use Rattle.tc_beh.proofs.Finding.{look_place}
 use Rattle.tc_beh.proofs.Looking.{moves_told}
 use Rattle.tc_beh.proofs.Sizes.{looks_are}

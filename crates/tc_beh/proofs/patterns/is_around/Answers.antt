@@ -1,4 +1,4 @@
-use Rattle.std.proofs.Common.{◌≡◌, ◌≤◌, length, ◌∙◌, sym, subst, arith}
+use Rattle.std.proofs.Common.{◌≤◌, length, ◌∙◌, sym, subst, arith}
 use Rattle.tc_auto.specs.Stands.{Stands}
 use Rattle.tc_auto.specs.declared.auto.Auto.{Auto}
 use Rattle.tc_hedge.proofs.Bounds.{patterns_of}

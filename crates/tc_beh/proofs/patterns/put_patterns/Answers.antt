@@ -1,4 +1,4 @@
-use Rattle.std.proofs.Common.{◌≡◌, ◌<◌, ◌≤◌, ◌⊎◌, inl, inr, ◌+◌, ℕ, ap, ◌∙◌, sym, subst, get_or, arith}
+use Rattle.std.proofs.Common.{◌≡◌, ◌<◌, inl, inr, ◌+◌, ap, ◌∙◌, sym, subst, get_or, arith}
 use Rattle.std.proofs.lemmas.Bool.{true≢false}
 use Rattle.tc_auto.specs.Stands.{patterns}
 use Rattle.tc_beh.specs.declared.rooms.Room.{Room}

@@ -1,4 +1,4 @@
-use Rattle.std.proofs.Common.{◌+◌, arith}
+use Rattle.std.proofs.Common.{arith}
 use Rattle.tc_model.specs.Chains.{top}
 use Rattle.tc_model.specs.Machine.{in_mode}
 use Rattle.tc_model.specs.Paths.{fits}

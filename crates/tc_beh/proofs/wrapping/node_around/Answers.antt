@@ -1,4 +1,4 @@
-use Rattle.std.proofs.Common.{◌≡◌, List, ℕ, subst}
+use Rattle.std.proofs.Common.{◌≡◌, subst}
 use Rattle.tc_rules.specs.Asked as asked
 use Rattle.tc_rules.specs.declared.rules.Kind.TheVariants.{Elem}
 use Rattle.tc_rows.specs.Arithmetic.{letter_around}

@@ -1,7 +1,7 @@
-use Rattle.std.proofs.Common.{◌≡◌, ◌≤◌, ◌+◌, ◌-◌, ◌*◌, length, ap, ◌∙◌, sym, subst, arith}
+use Rattle.std.proofs.Common.{◌≡◌, ◌-◌, ◌*◌, length, ap, ◌∙◌, sym, arith}
 use Rattle.tc_rules.specs.Kept.{told}
 use Rattle.tc_rules.specs.RulesView.{RulesView, move_count, select_count}
-use Rattle.tc_rows.specs.Triples.{Triple, looks, moves, entries, ancestors}
+use Rattle.tc_rows.specs.Triples.{looks, moves, ancestors}
 use Rattle.tc_beh.proofs.Together.{on_ok_map}
 use Rattle.tc_beh.proofs.Wrapped.{node_row}
 use Rattle.tc_beh.proofs.wrapping.put_node.Goals as goal

@@ -1,11 +1,9 @@
-use Rattle.std.proofs.Common.{◌≡◌, ◌<◌, ◌≤◌, ◌+◌, inl, ℕ, length, get_or, sym, subst, ◌∙◌, refl, arith, true, false}
+use Rattle.std.proofs.Common.{◌≡◌, ◌<◌, ◌+◌, inl, ℕ, length, get_or, sym, subst, ◌∙◌, refl, arith, true, false}
 use Rattle.tc_model.specs.States.{input}
 use Rattle.tc_auto.specs.Stands.{Stands}
 use Rattle.tc_auto.specs.declared.auto.Auto.{Auto}
-use Rattle.tc_rows.specs.Arithmetic.{IsTextLive}
 use Rattle.tc_beh.specs.Rooms.{tree_layout, flag_at}
 use Rattle.tc_beh.proofs.Holding.{on_err}
-use Rattle.tc_beh.proofs.Together.{on_err_map}
 use Rattle.tc_beh.proofs.WrapRows.{text_grounds, text_left_out, text_room, is_text_row, room_after, beside_then, rows_after}
 use Rattle.tc_beh.proofs.rows.Rows.text_row.Goals as goal
 

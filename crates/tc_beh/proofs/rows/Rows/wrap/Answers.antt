@@ -1,4 +1,4 @@
-use Rattle.std.proofs.Common.{◌≡◌, ◌<◌, ◌≤◌, ◌+◌, inl, inr, ℕ, List, length, get_or, sym, subst, ap, ◌∙◌, refl, arith, true, false}
+use Rattle.std.proofs.Common.{◌≡◌, get_or, sym, subst, ◌∙◌, refl, arith, true, false}
 use Rattle.tc_hedge.proofs.Bounds.{patterns_of}
 use Rattle.tc_model.specs.States.{input}
 use Rattle.tc_beh.specs.Around.{PutsPatterns}

@@ -1,0 +1,172 @@
+#!/usr/bin/env python3
+"""Writes two schemas and a stylesheet, as the files I, O and S of a directory, for the benchmark of `check`.
+
+make_triple.py FAMILY DIR [NUMBER..]
+
+Like real ones:
+  report 12 3 8     a report of sections, parts and inlines, to a page with a table of contents and an index
+  above 6 2 3       the same with a rule for each part in each section, so with many ancestor states
+  copies 60         a copy of a schema whose element patterns refer to three others each
+Costly ones, within the limits:
+  dense 9 44        contents that overlap: many kinds of rows, many edges
+  wide 5 3 240      many entries: ancestor states by move states
+  wraps 10 300 5 100 0   symbols each of its own class, and looks
+  paths 900 2 6     a select of many alternatives, with predicates
+  bodies 10 20000   bodies of many instructions that read nothing
+  sets 59 29        many sets of pairs
+"""
+import os
+import sys
+
+HEAD = '<xsl:stylesheet version="1.0" xmlns:xsl="http://www.w3.org/1999/XSL/Transform">'
+APPLY = "<xsl:apply-templates/>"
+ROOT_OF_Y = "start = r\nr = element r { y* }\ny = element y { empty }\n"
+ROOT_ALONE = "start = r\nr = element r { empty }\n"
+
+
+def rule(match, body, mode=""):
+    mode = f' mode="{mode}"' if mode else ""
+    return f'<xsl:template match="{match}"{mode}>{body}</xsl:template>'
+
+
+def choice(names):
+    return " | ".join(names)
+
+
+def names(count):
+    return [f"x{number}" for number in range(count)]
+
+
+def report(sections, parts, inlines, by_section=False):
+    section_names = [f"s{k}" for k in range(1, sections + 1)]
+    part_names = [f"p{j}" for j in range(1, parts + 1)]
+    inline_numbers = range(1, inlines + 1)
+
+    def inline(letter):
+        items = [f"{letter}{n}" for n in inline_numbers]
+        return f"inline = (text | {choice(items)})*\n" + "".join(f"{item} = element {item} {{ inline }}\n" for item in items)
+
+    source = f"start = d\nd = element d {{ ({choice(section_names)})* }}\n"
+    for section in section_names:
+        head = "h" + section[1:]
+        source += f"{section} = element {section} {{ {head}, ({choice(part_names)})* }}\n"
+        source += f"{head} = element {head} {{ inline }}\n"
+    source += "".join(f"{part} = element {part} {{ inline }}\n" for part in part_names) + inline("i")
+    target = (
+        "start = r\nr = element r { toc, sec* }\ntoc = element toc { li* }\nli = element li { text }\n"
+        "sec = element sec { h, index?, para* }\nh = element h { inline }\nindex = element index { key+ }\n"
+        "key = element key { empty }\npara = element para { inline }\n"
+    ) + inline("o")
+    keys = "".join(f'<xsl:if test="{part}"><key/></xsl:if>' for part in part_names)
+    some_part = " or ".join(part_names)
+    all_parts = "|".join(part_names)
+    sheet = rule("d", f'<r><toc><xsl:apply-templates mode="toc"/></toc>{APPLY}</r>')
+    for section in section_names:
+        head = "h" + section[1:]
+        sheet += rule(section, f'<li><xsl:value-of select="{head}"/></li>', "toc")
+        sheet += rule(
+            section,
+            f'<sec><xsl:apply-templates select="{head}"/><xsl:if test="{some_part}"><index>{keys}</index></xsl:if>'
+            f'<xsl:apply-templates select="{all_parts}"/></sec>',
+        )
+        sheet += rule(head, f"<h>{APPLY}</h>")
+    matches = [f"{s}/{p}" for s in section_names for p in part_names] if by_section else part_names
+    sheet += "".join(rule(match, f"<para>{APPLY}</para>") for match in matches)
+    sheet += "".join(rule(f"i{n}", f"<o{n}>{APPLY}</o{n}>") for n in inline_numbers)
+    return source, target, sheet
+
+
+def above(sections, parts, inlines):
+    return report(sections, parts, inlines, by_section=True)
+
+
+def copies(count):
+    def wrapped(number):
+        return (number - 1) % count + 1
+
+    schema = "start = e1\n"
+    for k in range(1, count + 1):
+        schema += f"e{k} = element e{k} {{ e{wrapped(2 * k)}?, e{wrapped(2 * k + 1)}*, e{wrapped(k + 1)}? }}\n"
+    return schema, schema, rule("*", f"<xsl:copy>{APPLY}</xsl:copy>")
+
+
+def nested(count):
+    return f"start = d\nd = element d {{ x* }}\nx = element ({choice(names(count))}) {{ x* }}\n"
+
+
+def tests(count):
+    return "".join(f'<xsl:if test="{name}"><y/></xsl:if>' for name in names(count))
+
+
+def dense(kinds, times):
+    source = f"start = r\nr = element r {{ ({choice(f'e{j}' for j in range(kinds) for _ in range(times))})* }}\n"
+    for j in range(kinds):
+        others = choice(f"x{t}" for t in range(kinds) if t != j)
+        source += f"e{j} = element a {{ l{j}* }}\nl{j} = element ({others}) {{ empty }}\n"
+    return source, ROOT_ALONE, rule("/", "<r/>")
+
+
+def wide(count, ancestors, moves):
+    selects = "".join(f'<xsl:apply-templates select="{x}"/><xsl:apply-templates select="*/{x}"/>' for x in names(count))
+    sheet = rule("/", f"<r>{selects}</r>")
+    sheet += "".join(rule(f"x{a}//x{(a + 1) % count}", "<y/>") for a in range(ancestors))
+    sheet += rule("x0/x0/x0", "".join(f'<xsl:apply-templates select="x{j % count}" mode="m{j}"/>' for j in range(moves)))
+    sheet += "".join(rule("*", "<y/>", f"m{move}") for move in range(moves)) + rule("*", "<y/>")
+    return nested(count), ROOT_OF_Y, sheet
+
+
+def wraps(looks, count, ancestors, moves, predicates):
+    sheet = rule("/", f"<r>{APPLY}</r>") + rule("d", tests(looks))
+    sheet += "".join(rule(f"x{a}//x{a + ancestors}", "<y/>") for a in range(ancestors))
+    sheet += "".join(rule(f"x{p}[x{p}]", "<y/>") for p in range(predicates))
+    sheet += "".join(rule(name, "<y/>") for name in names(count))
+    sheet += rule("e", "".join(f'<xsl:apply-templates select="x{j % count}/nosuch"/>' for j in range(moves)))
+    return nested(count), ROOT_OF_Y, sheet
+
+
+def paths(alternatives, steps, predicates):
+    def step(t, u):
+        predicate = f"[x{t % predicates}]" if predicates else ""
+        return f"x{(t * (u + 1) + u) % alternatives}{predicate}"
+
+    six = names(6)
+    source = f"start = d\nd = element d {{ {' , '.join(name + '?' for name in six)} }}\n"
+    source += "".join(f"{name} = element {name} {{ empty }}\n" for name in six)
+    select = " | ".join("/".join(step(t, u) for u in range(steps)) for t in range(alternatives))
+    return source, ROOT_ALONE, rule("/", "<r/>") + rule("*", f'<xsl:apply-templates select="{select}"/>')
+
+
+def bodies(count, length):
+    body = tests(count) + "<y/>" * length + APPLY
+    sheet = rule("/", f"<r>{APPLY}</r>") + rule("d", body) + "".join(rule(name, body) for name in names(count))
+    return nested(count), ROOT_OF_Y, sheet
+
+
+def sets(count, modes):
+    some = choice(names(count))
+    source = f"start = d\nd = element d {{ ({some}), ({some})? }}\n"
+    source += "".join(f"{name} = element {name} {{ empty }}\n" for name in names(count))
+    target = f"start = r\nr = element r {{ ({choice(f'c{k}' for k in range(count))})? }}\n"
+    for k in range(count):
+        others = choice(f"y{j}" for j in range(count) if j != k)
+        target += f"c{k} = element c{k} {{ n{k}* }}\nn{k} = element ({others}) {{ empty }}\n"
+    sheet = rule("/", "<r/>")
+    for mode in range(modes):
+        sheet += "".join(rule(f"x{a}", f"<y{a}/><y{(a + mode + 1) % count}/>", f"m{mode}") for a in range(count))
+    return source, target, sheet + rule("q", "".join(f'<xsl:apply-templates mode="m{mode}"/>' for mode in range(modes)))
+
+
+FAMILIES = (report, above, copies, dense, wide, wraps, paths, bodies, sets)
+
+
+def main():
+    family, place, *numbers = sys.argv[1:]
+    make = {each.__name__: each for each in FAMILIES}[family]
+    source, target, sheet = make(*map(int, numbers))
+    os.makedirs(place, exist_ok=True)
+    for name, text in (("I", source), ("O", target), ("S", f"{HEAD}{sheet}</xsl:stylesheet>")):
+        with open(os.path.join(place, name), "w") as file:
+            file.write(text)
+
+
+main()
