@@ -1,5 +1,5 @@
 -- What holds of rows that are held goes on holding where a row is worked out, be it kept, dead or refused.
-use Rattle.std.proofs.Common.{◌≡◌, ◌<◌, ◌≤◌, ◌⊎◌, inl, inr, [], ℕ, List, length, get_or, Bool, true, false, slice_get, Some, not, IsTrue, ◌↔◌, subst, sym, ap, ◌∙◌, refl, arith, append-nil}
+use Rattle.std.proofs.Common.{◌≡◌, ◌<◌, inl, inr, [], ℕ, List, length, get_or, Bool, true, false, slice_get, Some, not, IsTrue, ◌↔◌, subst, sym, ap, ◌∙◌, refl, append-nil}
 use Rattle.std.specs.List.{Contains}
 use Rattle.std.specs.Bool.{MatchBool}
 use Rattle.std.proofs.lemmas.Option.{get_or_from_slice_get}
