@@ -14,17 +14,17 @@ line_short size i some few within =
     let rest : i % size < size = mod-lt i (omega (arith, some)) in
     let two : length (decimal (i % size + 1)) ≤ 2 = length-decimal-le 2 (i % size + 1) (omega arith) (omega (arith, few, rest)) (omega (arith, few, rest)) in
     let next = decimal (i % size + 1) in
-    let t6 = next ++ codes "* }\n" in
-    let t5 = codes " { e" ++ t6 in
-    let t4 = decimal i ++ t5 in
-    let t3 = codes " = element e" ++ t4 in
-    let t2 = decimal i ++ t3 in
-    let h6 : length t6 ≤ 6 = append_short next (codes "* }\n") 2 4 two (omega arith) in
-    let h5 : length t5 ≤ 10 = append_short (codes " { e") t6 4 6 (omega arith) h6 in
-    let h4 : length t4 ≤ 12 = append_short (decimal i) t5 2 10 one h5 in
-    let h3 : length t3 ≤ 24 = append_short (codes " = element e") t4 12 12 (omega arith) h4 in
-    let h2 : length t2 ≤ 26 = append_short (decimal i) t3 2 24 one h3 in
-    let whole : length (demo_line size i) ≤ 27 = append_short (codes "e") t2 1 26 (omega arith) h2 in
+    let t1 = codes "e" ++ decimal i in
+    let t2 = t1 ++ codes " = element e" in
+    let t3 = t2 ++ decimal i in
+    let t4 = t3 ++ codes " { e" in
+    let t5 = t4 ++ next in
+    let h1 : length t1 ≤ 3 = append_short (codes "e") (decimal i) 1 2 (omega arith) one in
+    let h2 : length t2 ≤ 15 = append_short t1 (codes " = element e") 3 12 h1 (omega arith) in
+    let h3 : length t3 ≤ 17 = append_short t2 (decimal i) 15 2 h2 one in
+    let h4 : length t4 ≤ 21 = append_short t3 (codes " { e") 17 4 h3 (omega arith) in
+    let h5 : length t5 ≤ 23 = append_short t4 next 21 2 h4 two in
+    let whole : length (demo_line size i) ≤ 27 = append_short t5 (codes "* }\n") 23 4 h5 (omega arith) in
     omega (arith, whole)
 
 lines_short : (size i : ℕ) → 1 ≤ size → size ≤ 40 → i ≤ size → length (demo_lines size i) ≤ i * 40
