@@ -1,15 +1,15 @@
 -- How the entries of a node come to be held.
-use Rattle.std.proofs.Common.{◌≡◌, ◌<◌, ◌≤◌, ◌+◌, ◌*◌, ◌⊎◌, inl, inr, ℕ, suc, List, [], ◌∷◌, length, get_or, map, subst, sym, ap, ◌∙◌, refl, arith, All}
+use Rattle.std.proofs.Common.{◌≡◌, ◌<◌, ◌≤◌, ◌+◌, ◌*◌, ◌⊎◌, inl, inr, ℕ, suc, List, [], ◌∷◌, length, subst, sym, ap, ◌∙◌, refl, arith, All}
 use Rattle.std.proofs.lemmas.Bool.{cases_lt}
-use Rattle.tc_mat.specs.Matrix.{Matrix, IsMatrix}
-use Rattle.tc_mat.specs.Held.{Held, IsHeld}
+use Rattle.tc_mat.specs.Matrix.{Matrix}
+use Rattle.tc_mat.specs.Held.{Held}
 use Rattle.tc_rows.specs.Triples.{Triple, entries}
 use Rattle.tc_rows.specs.Bodies.{Below}
 use Rattle.tc_beh.specs.Above.{letter_of, node_of}
-use Rattle.tc_beh.specs.Entries.{IsNode, AreGrounds, below_node, AreCalledOn, IsEntryAt, IsNewEntry, Comes, ComesPartly}
+use Rattle.tc_beh.specs.Entries.{AreGrounds, AreCalledOn, IsEntryAt, IsNewEntry, Comes, ComesPartly}
 use Rattle.tc_beh.specs.Grounds.{called_from}
-use Rattle.tc_beh.specs.Held.{Extends, Grows, AreFirstFound, set_at}
-use Rattle.tc_beh.specs.Places.{below_at, entries_by, pairs_of, no_matrix}
+use Rattle.tc_beh.specs.Held.{Extends, set_at}
+use Rattle.tc_beh.specs.Places.{below_at, entries_by, pairs_of}
 use Rattle.tc_beh.specs.Putting.{IsCalled}
 use Rattle.tc_beh.specs.RowsOf.{IsWork}
 use Rattle.tc_beh.specs.declared.entries.Node.{Node}

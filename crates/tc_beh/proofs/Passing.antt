@@ -1,5 +1,5 @@
 -- An entry of an element that its state doesn't hit is one below the element.
-use Rattle.std.proofs.Common.{◌≡◌, ◌<◌, ◌+◌, ◌*◌, ℕ, List, [], length, get_or, Bool, true, false, nat_lt, Result, Ok, Err, IfOk, subst, sym, ap, ◌∙◌, refl, arith, All}
+use Rattle.std.proofs.Common.{◌≡◌, ◌<◌, ◌+◌, ◌*◌, ℕ, List, [], length, get_or, true, false, nat_lt, Result, Ok, Err, IfOk, subst, sym, ◌∙◌, arith, All}
 use Rattle.std.proofs.lemmas.Bool.{lt-ltb}
 use Rattle.std.proofs.lemmas.List.{get_or-map}
 use Rattle.tc_mat.specs.Matrix.{Matrix}
@@ -15,7 +15,7 @@ use Rattle.tc_rules.specs.Tasks.{IsMoveAt}
 use Rattle.tc_rules.specs.declared.rules.Rules.{Rules}
 use Rattle.tc_rules.proofs.Counts.{move_counted}
 use Rattle.tc_rows.specs.Triples.{Triple, IsTriple, outputs, ancestors, moves, number, number_below, moving}
-use Rattle.tc_rows.specs.PairSets.{PairSet, HaveSamePairs, product, chosen, listed}
+use Rattle.tc_rows.specs.PairSets.{PairSet, HaveSamePairs, product, listed}
 use Rattle.tc_rows.specs.Rows.{entry}
 use Rattle.tc_rows.specs.Bodies.{on_element, stay}
 use Rattle.tc_rows.specs.Arithmetic.{below, hits, hit_pairs, pairs_from, step}

@@ -1,6 +1,6 @@
 -- The entries of a node, as they come to be held one after the other.
-use Rattle.std.specs.Prelude.{◌≡◌, ◌<◌, ◌≤◌, ◌+◌, ◌-◌, ◌*◌, ℕ, List, [], length, get_or, All, true}
-use Rattle.tc_mat.specs.Matrix.{Matrix, IsMatrix}
+use Rattle.std.specs.Prelude.{◌≡◌, ◌<◌, ◌≤◌, ◌+◌, ◌-◌, ◌*◌, ℕ, List, [], length, get_or, All, true, Option, IfSome}
+use Rattle.tc_mat.specs.Matrix.{Matrix, IsMatrix, IsIdentity}
 use Rattle.tc_mat.specs.Held.{Held, IsHeld, AreMatrices}
 use Rattle.tc_model.specs.Letters as letters
 use Rattle.tc_model.specs.Letters.{of_symbol, of_text, IsLetter}
@@ -68,6 +68,14 @@ pub record IsMadeOf (m : Machine) (h : Held) (t : Matrix) (ms : List Matrix) (n 
   pub looks : p.looks.now ≡ n.looks.now
   pub above : p.above ≡ under
   pub sets : AreMatrices h
+
+-- a number, if there is one, is that of the held set of each state with itself
+abbrev pub IsNothing : Held → Option ℕ → Type 0
+IsNothing h o = IfSome o (λ k. (k < length h.matrices) × IsIdentity (set_at h k) × ((set_at h k).size ≡ h.size))
+
+-- that set isn't held
+abbrev pub IsNewNothing : Held → Type 0
+IsNewNothing h = (m : Matrix) × IsIdentity m × (m.size ≡ h.size) × IsMatrix m × ¬ IsHeld h m
 
 module _ (x : Triple) (es : List (List (ℕ × ℕ))) (n : Node) where
   -- a set of pairs is that of a place among the entries of the node

@@ -2,7 +2,7 @@
 // move, where what is put out on the node and below it leads the output.
 ghost use Rattle.std.specs.Prelude.{◌≡◌, ◌<◌, ◌≤◌, ◌+◌, ◌*◌, ◌⊎◌, ℕ, List, length, get_or, IfOk, IfSome, OnOk, OnErr, true, false, All};
 ghost use Rattle.std.specs.Result.{IsErrOf};
-ghost use Rattle.tc_mat.specs.Matrix.{IsMatrix};
+ghost use Rattle.tc_mat.specs.Matrix.{Matrix, IsMatrix, IsIdentity};
 ghost use Rattle.tc_mat.specs.Held.{Held};
 ghost use Rattle.tc_model.specs.Letters.{IsLetter};
 ghost use Rattle.tc_rules.specs.Asked as asked;
@@ -10,7 +10,7 @@ ghost use Rattle.tc_rules.specs.Kept.{told};
 ghost use Rattle.tc_rules.specs.RulesView.{move_count};
 ghost use Rattle.tc_rows.specs.Triples.{Triple, predicates, moves as moves_of, outputs as outputs_of};
 ghost use Rattle.tc_beh.specs.Above.{letter_of, node_of};
-ghost use Rattle.tc_beh.specs.Entries.{IsNode, IsNewEntry, AreGrounds, AreSomeGrounds, AreCalledOn, IsUnder, IsMadeOf, IsEntryAt, Comes, ComesPartly};
+ghost use Rattle.tc_beh.specs.Entries.{IsNode, IsNothing, IsNewNothing, IsNewEntry, AreGrounds, AreSomeGrounds, AreCalledOn, IsUnder, IsMadeOf, IsEntryAt, Comes, ComesPartly};
 ghost use Rattle.tc_beh.specs.Held.{Extends, set_at};
 ghost use Rattle.tc_beh.specs.Places.{kind_of, entries_by};
 ghost use Rattle.tc_beh.specs.Rooms.{output_at};
@@ -169,6 +169,93 @@ fn passed_on(machine: &Machine<'_>, outputs: &Pool, node: Node<'_>, spot: Spot) 
     }
 }
 
+/// Whether a state of a move above puts nothing out on a node and below it: it doesn't hit the node, and goes nowhere.
+fn puts_nothing(machine: &Machine<'_>, node: Node<'_>, spot: Spot) -> bool
+    requires node { (x : Triple) × IsRulesIn x machine.now.rules × IsLetter x.symbols (predicates x) (letter_of node.letter) }
+    requires state { spot.state < move_count (told machine.now.rules) }
+    ensures { result ≡ true → (x : Triple) (es : List (List (ℕ × ℕ))) (m : Matrix) → IsRulesIn x machine.now.rules → IsLetter x.symbols (predicates x) (letter_of node.entry.letter)
+        → IsIdentity m → m.size ≡ outputs_of x → IsEntryAt x es node.entry (spot.ancestor * moves_of x + spot.state) m }
+{
+    let rules = &machine.rules;
+    let letter = node.letter;
+    if rules.sel_hits(spot.state, letter.kind, letter.marks) {
+        return false;
+    }
+    match letter.kind {
+        Kind::Elem(sym) => match rules.sel_step(spot.state, sym, letter.marks) {
+            None => true,
+            Some(_) => false,
+        },
+        Kind::Text => true,
+    }
+}
+
+/// The number of the set of each state with itself. It is told in `nothing` from then on.
+fn keep_nothing(
+    outputs: &mut Pool,
+    is_fixed: bool,
+    set: &mut Mat,
+    nothing: &mut Option<u32>,
+) -> Result<u32, RowFault>
+    requires set { set.old.size ≡ outputs.old.size }
+    requires known { IsNothing outputs.old nothing.old }
+    ensures known { IsNothing outputs.new nothing.new }
+    ensures set { set.new.size ≡ set.old.size }
+    ensures held { Extends outputs.old outputs.new }
+    ensures number { IfOk result (λ k. (k < length outputs.new.matrices) × IsIdentity (set_at outputs.new k) × ((set_at outputs.new k).size ≡ outputs.new.size)) }
+    ensures grows { IfOk result (λ k. ((k < length outputs.old.matrices) × (outputs.new ≡ outputs.old)) ⊎ ((k ≡ length outputs.old.matrices) × (length outputs.new.matrices ≡ length outputs.old.matrices + 1))) }
+    ensures err { OnErr result ((outputs.new ≡ outputs.old) × IsNewNothing outputs.old) }
+    ensures fixed { is_fixed ≡ true → outputs.new ≡ outputs.old }
+    ensures full { IsErrOf result RowFault.TooManyOutputs → (is_fixed ≡ false) × (length outputs.old.matrices ≡ 65536) }
+    ensures fresh { IsErrOf result RowFault.NewOutput → is_fixed ≡ true }
+    ensures memory { IsErrOf result RowFault.NoMemory → is_fixed ≡ false }
+{
+    if let Some(number) = *nothing {
+        return Ok(number);
+    }
+    put_identity(set);
+    let number = keep(outputs, is_fixed, set)?;
+    *nothing = Some(number);
+    Ok(number)
+}
+
+/// The number of an entry of a node that isn't one below it.
+fn keep_here(
+    machine: &Machine<'_>,
+    outputs: &mut Pool,
+    is_fixed: bool,
+    work: &mut Work,
+    node: Node<'_>,
+    spot: Spot,
+    nothing: &mut Option<u32>,
+) -> Result<u32, RowFault>
+    requires grounds { AreSomeGrounds machine.now outputs.old work.old node }
+    requires ancestor { spot.ancestor < length (told machine.now.rules).ancestors.states }
+    requires state { spot.state < move_count (told machine.now.rules) }
+    requires above { spot.above < length (told machine.now.rules).ancestors.states }
+    requires known { IsNothing outputs.old nothing.old }
+    ensures known { IsNothing outputs.new nothing.new }
+    ensures work { (x : Triple) → AreGrounds x machine.now outputs.old work.old node.entry → IsWork x machine.now.depth work.new }
+    ensures named { work.new.named.items ≡ work.old.named.items }
+    ensures held { Extends outputs.old outputs.new }
+    ensures low { IfOk result (λ k. k < length outputs.new.matrices) }
+    ensures grows { IfOk result (λ k. ((k < length outputs.old.matrices) × (outputs.new ≡ outputs.old)) ⊎ ((k ≡ length outputs.old.matrices) × (length outputs.new.matrices ≡ length outputs.old.matrices + 1))) }
+    ensures entry { IfOk result (λ k. (x : Triple) → AreGrounds x machine.now outputs.old work.old node.entry → IsUnder x (letter_of node.entry.letter) spot.ancestor spot.above → AreCalledOn x outputs.old node.entry spot.above work.old.named.items
+        → IsEntryAt x (entries_by outputs.old.matrices node.entry.entries.now) node.entry (spot.ancestor * moves_of x + spot.state) (set_at outputs.new k)) }
+    ensures err { OnErr result ((outputs.new ≡ outputs.old) × ((x : Triple) → AreGrounds x machine.now outputs.old work.old node.entry → IsUnder x (letter_of node.entry.letter) spot.ancestor spot.above → AreCalledOn x outputs.old node.entry spot.above work.old.named.items
+        → IsNewEntry x (entries_by outputs.old.matrices node.entry.entries.now) node.entry outputs.old (spot.ancestor * moves_of x + spot.state))) }
+    ensures fixed { is_fixed ≡ true → outputs.new ≡ outputs.old }
+    ensures full { IsErrOf result RowFault.TooManyOutputs → (is_fixed ≡ false) × (length outputs.old.matrices ≡ 65536) }
+    ensures fresh { IsErrOf result RowFault.NewOutput → is_fixed ≡ true }
+    ensures memory { IsErrOf result RowFault.NoMemory → is_fixed ≡ false }
+{
+    if puts_nothing(machine, node, spot) {
+        return keep_nothing(outputs, is_fixed, &mut work.set, nothing);
+    }
+    put_entry_of(machine, outputs, work, node, spot);
+    keep(outputs, is_fixed, &work.set)
+}
+
 /// The number of an entry of a node.
 fn keep_entry(
     machine: &Machine<'_>,
@@ -177,11 +264,14 @@ fn keep_entry(
     work: &mut Work,
     node: Node<'_>,
     spot: Spot,
+    nothing: &mut Option<u32>,
 ) -> Result<u32, RowFault>
     requires grounds { AreSomeGrounds machine.now outputs.old work.old node }
     requires ancestor { spot.ancestor < length (told machine.now.rules).ancestors.states }
     requires state { spot.state < move_count (told machine.now.rules) }
     requires above { spot.above < length (told machine.now.rules).ancestors.states }
+    requires known { IsNothing outputs.old nothing.old }
+    ensures known { IsNothing outputs.new nothing.new }
     ensures work { (x : Triple) → AreGrounds x machine.now outputs.old work.old node.entry → IsWork x machine.now.depth work.new }
     ensures named { work.new.named.items ≡ work.old.named.items }
     ensures held { Extends outputs.old outputs.new }
@@ -198,10 +288,7 @@ fn keep_entry(
 {
     match passed_on(machine, outputs, node, spot) {
         Some(number) => Ok(number),
-        None => {
-            put_entry_of(machine, outputs, work, node, spot);
-            keep(outputs, is_fixed, &work.set)
-        }
+        None => keep_here(machine, outputs, is_fixed, work, node, spot, nothing),
     }
 }
 
@@ -236,13 +323,14 @@ fn put_row(
     let above = state_below(&machine.rules, node.letter, ancestor);
     put_named_on(machine, outputs, work, node, above);
     let moves = machine.rules.moves();
+    let mut nothing = None;
     for state in 0..moves {
         let spot = Spot {
             ancestor,
             above,
             state,
         };
-        let number = keep_entry(machine, outputs, is_fixed, work, node, spot)?;
+        let number = keep_entry(machine, outputs, is_fixed, work, node, spot, &mut nothing)?;
         out.set_output(entry_place(ancestor, moves, state), number);
     }
     Ok(())

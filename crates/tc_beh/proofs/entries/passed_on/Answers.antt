@@ -4,7 +4,7 @@ use Rattle.tc_model.specs.PathStates.{State}
 use Rattle.tc_model.specs.StateCounts.{PathUse}
 use Rattle.tc_rules.specs.Asked as asked
 use Rattle.tc_rules.specs.Kept.{told}
-use Rattle.tc_rules.specs.RulesView.{RulesView, IsStateOf, select_below, move_count}
+use Rattle.tc_rules.specs.RulesView.{RulesView, IsStateOf, move_count}
 use Rattle.tc_rules.specs.declared.rules.Kind.{Kind}
 use Rattle.tc_rules.specs.declared.rules.Kind.TheVariants.{Elem}
 use Rattle.tc_rows.specs.Triples.{predicates, moves}

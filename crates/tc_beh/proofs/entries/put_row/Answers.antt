@@ -1,11 +1,9 @@
-use Rattle.std.proofs.Common.{◌≡◌, ◌≢◌, ◌<◌, ◌≤◌, ◌+◌, ◌*◌, ◌⊎◌, inl, inr, ℕ, List, length, get_or, Ok, subst, sym, ap, ◌∙◌, refl, arith}
+use Rattle.std.proofs.Common.{◌≡◌, ◌<◌, ◌+◌, ◌*◌, inl, inr, ℕ, List, length, get_or, subst, sym, ap, ◌∙◌, refl, arith}
 use Rattle.tc_mat.specs.Matrix.{Matrix}
-use Rattle.tc_mat.specs.Held.{Held}
 use Rattle.tc_rules.specs.Kept.{told}
 use Rattle.tc_rules.specs.RulesView.{RulesView, move_count}
-use Rattle.tc_rows.specs.Triples.{Triple, ancestors, moves, outputs}
+use Rattle.tc_rows.specs.Triples.{ancestors, moves}
 use Rattle.tc_rows.proofs.Append.{entry_index}
-use Rattle.tc_beh.specs.Above.{letter_of}
 use Rattle.tc_beh.specs.Entries.{AreCalledOn, IsEntryAt, IsNewEntry}
 use Rattle.tc_beh.specs.Held.{set_at}
 use Rattle.tc_beh.specs.Rooms.{output_at}
@@ -18,6 +16,7 @@ pub loop-state-init : goal.loop-state-init
 loop-state-init c = record {
   work = c.put_named_on.ensures.work;
   called = c.put_named_on.ensures.called;
+  known = tt;
   beside = record { flags = refl; entries = refl; count = refl };
   others = λ k h. refl;
   held = extends_self c.args.outputs.now;
@@ -78,6 +77,7 @@ loop-state-preserved c =
     record {
       work = λ x ok. c.keep_entry.ensures.work x (grounds_kept x m a b so_far.held w n ok c.loop-state.work (so_far.work x ok));
       called = λ x ok. subst (λ (ms : List Matrix). AreCalledOn x a n c.state_below-above.result ms) (sym c.keep_entry.ensures.named) (so_far.called x ok);
+      known = c.keep_entry.ensures.known;
       beside = record { flags = put.beside.flags ∙ flags; entries = put.beside.entries ∙ so_far.beside.entries; count = put.beside.count ∙ so_far.beside.count };
       others = λ i h. put.others i (λ e. elim h [ inl l ↦ absurd (omega (arith, e, l, flags)) | inr l ↦ absurd (omega (arith, e, l, flags, inside)) ]) ∙ so_far.others i h;
       held = extends_then a b new so_far.held more;
