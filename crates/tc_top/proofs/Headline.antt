@@ -1,6 +1,6 @@
 -- A check, a validation and a run of held files are exact.
-use Rattle.std.proofs.Common.{◌≡◌, ◌≤◌, ◌⊎◌, ◌∷◌, [], ◌∙◌, inl, inr, refl, sym, subst, ℕ, List, length, Option, Some, Ok, arith}
-use Rattle.tc_io.specs.Store.{Files, Read, longest_file}
+use Rattle.std.proofs.Common.{◌≡◌, ◌≤◌, ◌⊎◌, ◌∷◌, [], ◌∙◌, inl, inr, refl, sym, subst, ℕ, List, Option, Some, Ok, arith}
+use Rattle.tc_io.specs.Store.{Files, Read}
 use Rattle.tc_io.specs.Reads.{AreTrue}
 use Rattle.tc_io.specs.Sink.{Appended}
 use Rattle.tc_model.specs.Trees.{Trees, none, text, element, node_count}
@@ -12,7 +12,7 @@ use Rattle.tc_model.specs.Printed.{printed}
 use Rattle.tc_model.specs.Safety.{IsSafe}
 use Rattle.tc_print.specs.ReadBack.{nesting, IsReadAs}
 use Rattle.tc_print.proofs.ReadBack.{read_back}
-use Rattle.tc_top.specs.Checking.{RowCount, most_rows, most_of, IsCompiled, PassesCompile, HasManyRows, HasFewRows, AreRowCounts, IsLeastCounter, HasSmallCounter, HasLargeCounters}
+use Rattle.tc_top.specs.Checking.{most_rows, IsCompiled, HasFewRows, AreRowCounts, IsLeastCounter, HasSmallCounter, HasLargeCounters}
 use Rattle.tc_top.specs.Headline.{IsCutShort, ChecksFiles, ChecksShortFiles, ShowsCounterexample, shows_both, shows_document, ShowsRun, shows_result, shows_large, IsLimited, limited_before_rows, limited_in_rows, limited_in_nodes, DecidesSafety, ValidatesFiles, DecidesValidity, RunsFiles, GivesResult}
 use Rattle.tc_top.specs.Answers.{Answer, IsBuilt, usage, not_yet, cannot_read, file_limit, safe, unsafe, unsafe_large, rows_limit, counterexample_limit, refused, over_limit, is_valid, is_invalid, has_result, work_limit, open_limit, status_of, text_of, Finds, passes_compile, passes_rows, finds_safe, finds_unsafe, finds_large, finds_none_small, IsAnswer, no_command, not_built, not_read, over_long, checked, validated, ran, shown, Ends, Gives, KeepsToLimits, Runs, sheet_passes, too_much_work, too_open, gives_result}
 use Rattle.tc_top.specs.AnswersSeen.{IsRightFor}
@@ -25,7 +25,7 @@ use Rattle.tc_model.specs.RncText.{RncText}
 use Rattle.tc_read.specs.Sheets.{IsSheetOf}
 use Rattle.tc_top.specs.Demo.{demo_schema, demo_sheet}
 use Rattle.tc_top.specs.declared.limits.TheConstants.{MOST_ROWS}
-use Rattle.tc_top.specs.Words.{Words, check, demo}
+use Rattle.tc_top.specs.Words.{Words, demo}
 use Rattle.tc_top.proofs.Exact.{Agrees, checked_only, validated_only, ran_only, shown_only, shown_reads, held_texts, read_two, read_three}
 use Rattle.tc_top.proofs.OneCheck.{not_both, over_compile, one_compile, near_far, finds_of}
 use Rattle.tc_top.proofs.OneCommand.{one_command}
