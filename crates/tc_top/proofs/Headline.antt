@@ -235,6 +235,20 @@ pub safe_is_so : (rose : Type 0) {words : List (List ℕ)} {reads : List Read} (
     → ChecksFiles words files limit i o s → AreTrue (Some files) rose reads → IsAnswer words reads answer → status ≡ status_of answer → status ≡ Yes → IsSafe i o s
 safe_is_so rose files limit i o s status answer c true right is e = says_safe (found rose files limit i o s c true right (inl (sym is ∙ e))) (sym is ∙ e)
 
+-- what a demonstration finds
+demo_found : {words : List (List ℕ)} {reads : List Read} (size : ℕ) (g : Grammar) (s : Sheet) {answer : Answer} → Words words (demo size) → RncText (demo_schema size) g → IsSheetOf demo_sheet s
+    → IsAnswer words reads answer → Finds MOST_ROWS g g s answer
+demo_found size g s w spells means right = finds_of spells spells means (shown_only w (shown_reads w right) right)
+
+pub demo_is_safe : {words : List (List ℕ)} {reads : List Read} (size : ℕ) (g : Grammar) (s : Sheet) (status : Status) (answer : Answer) → Words words (demo size)
+    → RncText (demo_schema size) g → IsSheetOf demo_sheet s → IsAnswer words reads answer → status ≡ status_of answer → status ≡ Yes → IsSafe g g s
+demo_is_safe size g s status answer w spells means right is e = says_safe (demo_found size g s w spells means right) (sym is ∙ e)
+
+pub demo_is_shown : {words : List (List ℕ)} {reads : List Read} (size : ℕ) (g : Grammar) (s : Sheet) (status : Status) (old new : Option (List ℕ)) (answer : Answer) → Words words (demo size)
+    → RncText (demo_schema size) g → IsSheetOf demo_sheet s → IsAnswer words reads answer → status ≡ status_of answer → Appended old new (text_of answer) → status ≡ No
+    → ShowsCounterexample old new g g s
+demo_is_shown size g s status old new answer w spells means right is written e = shows old new (demo_found size g s w spells means right) (sym is ∙ e) written
+
 pub unsafe_is_shown : (rose : Type 0) {words : List (List ℕ)} {reads : List Read} (files : Files) (limit : Option ℕ) (i o : Grammar) (s : Sheet) (status : Status) (old new : Option (List ℕ)) (answer : Answer)
     → ChecksFiles words files limit i o s → AreTrue (Some files) rose reads → IsAnswer words reads answer → status ≡ status_of answer → Appended old new (text_of answer) → status ≡ No
     → ShowsCounterexample old new i o s
