@@ -2,7 +2,7 @@
 use std::alloc::Global;
 use std::test::Fail;
 use tc_io::{MemSink, MemStore};
-use tc_top::{WordList, typecheck};
+use tc_top::{Status, WordList, typecheck};
 
 const HEAD: &str =
     "<xsl:stylesheet version=\"1.0\" xmlns:xsl=\"http://www.w3.org/1999/XSL/Transform\">";
@@ -33,7 +33,18 @@ const ANY_B: &str = "element a{element b{empty}*}";
 
 const ANY_X: &str = "element r{element x{empty}*}";
 
-/// Whether these words, of two schemas and of a stylesheet with these rules, write this text.
+/// The status that goes with an answer's text.
+fn status_of(text: &str) -> Status {
+    if text.starts_with("safe") {
+        Status::Yes
+    } else if text.starts_with("unsafe") {
+        Status::No
+    } else {
+        Status::Limit
+    }
+}
+
+/// Whether these words, of two schemas and of a stylesheet with these rules, write this text, with its status.
 fn writes(
     alloc: Global,
     words: &[&str],
@@ -54,8 +65,8 @@ fn writes(
     store.put("O", output.as_bytes())?;
     store.put("S", sheet.as_bytes())?;
     let mut sink = MemSink::new(alloc, text.len() + 200)?;
-    let _status = typecheck(alloc, &list, &mut store, &mut sink);
-    Ok(sink.bytes() == text.as_bytes())
+    let status = typecheck(alloc, &list, &mut store, &mut sink);
+    Ok(status == status_of(text) && sink.bytes() == text.as_bytes())
 }
 
 /// Whether `check I O S`, of two schemas and of a stylesheet with these rules, writes this text.
@@ -83,6 +94,27 @@ fn repeated(
     }
     text.push_str(back)?;
     Ok(text)
+}
+
+#[test]
+fn fixed_results_are_decided(rt: HostRuntime) -> Result<(), Fail> {
+    let rules = "<xsl:template match=\"/\"><r><x/></r></xsl:template>";
+    for (output, text) in [
+        (
+            "element r { element x { empty }* }",
+            "safe trees 1 hedges 1 outputs 1\n",
+        ),
+        (
+            "element r { empty }",
+            "unsafe\ndocument <a/>\noutput <r><x/></r>\n",
+        ),
+    ] {
+        assert!(rt;
+            answers(rt.alloc(), "element a { empty }", output, rules, text)?,
+            "{text}"
+        );
+    }
+    Ok(())
 }
 
 #[test]

@@ -1,11 +1,8 @@
 -- What is decided of a machine is found of its schemas and its stylesheet.
-use Rattle.std.proofs.Common.{◌≡◌, ◌≤◌, ◌⊎◌, inl, inr, ◌∙◌, refl, sym, ap, subst, ℕ, List}
-use Rattle.tc_alpha.proofs.Members.{Has}
-use Rattle.tc_base.specs.declared.Limit.{Limit}
-use Rattle.tc_base.specs.declared.limits.TheConstants.{MOST_INPUT_STATES, MOST_OUTPUT_STATES}
-use Rattle.tc_beh.specs.Machines.{AreParts, IsMachine, IsMachineOf}
+use Rattle.std.proofs.Common.{◌≡◌, inl, inr, refl, sym, ap, subst, ℕ, List}
+use Rattle.tc_beh.specs.Machines.{IsMachineOf}
 use Rattle.tc_beh.specs.declared.machine.Machine.{Machine}
-use Rattle.tc_close.specs.Decisions.{KeepsCounts, AreCounts, IsSafeWith, IsUnsafeBy, IsFarUnsafe}
+use Rattle.tc_close.specs.Decisions.{KeepsCounts, IsSafeWith, IsUnsafeBy, IsFarUnsafe}
 use Rattle.tc_close.specs.declared.decision.Counts.{Counts}
 use Rattle.tc_model.specs.Grammars.{Grammar}
 use Rattle.tc_model.specs.RncText.{RncText}
@@ -19,12 +16,11 @@ use Rattle.tc_read.specs.declared.schemas.Schema.TheVariants.{Small, TooLarge}
 use Rattle.tc_rows.specs.Triples as t
 use Rattle.tc_rows.specs.Triples.{Triple, IsTriple}
 use Rattle.tc_rules.specs.Kept.{IsRulesOf, told}
-use Rattle.tc_rules.specs.declared.rules.Rules.{Rules}
 use Rattle.tc_run.specs.Limits.{IsCause}
 use Rattle.tc_run.specs.declared.RunFault.TheVariants.{TooMuchWork, TooOpen}
-use Rattle.tc_top.specs.Answers.{Answer, Finds, finds_safe, finds_unsafe, finds_large, finds_none_small, passes_rows, Checks, safe, counterexample_limit}
+use Rattle.tc_top.specs.Answers.{Answer, Finds, finds_safe, finds_unsafe, finds_large, finds_none_small, Checks, safe, counterexample_limit}
 use Rattle.tc_top.specs.AnswersSeen.{IsRunOf, run_within, run_large}
-use Rattle.tc_top.specs.Checking.{RowCount, trees, hedges, outputs, IsCompiled, HasManyRows, HasFewRows, AreRowCounts, IsLeastCounter, HasLargeCounters, IsLargeRun}
+use Rattle.tc_top.specs.Checking.{trees, hedges, outputs, IsCompiled, HasFewRows, IsLeastCounter, IsLargeRun}
 use Rattle.tc_close.specs.Triples.{IsTripleOf}
 use Rattle.tc_top.specs.Compiled.{IsReadOf}
 use Rattle.tc_top.specs.declared.limits.TheConstants.{MOST_OUTPUTS}

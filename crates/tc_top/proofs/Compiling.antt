@@ -4,38 +4,33 @@ use Rattle.std.proofs.lemmas.Bool.{cases_lt}
 use Rattle.tc_auto.specs.Stands as a
 use Rattle.tc_auto.specs.declared.auto.Auto.{Auto}
 use Rattle.tc_base.specs.declared.Limit.{Limit}
-use Rattle.tc_base.specs.declared.Limit.TheVariants.{States}
 use Rattle.tc_base.specs.declared.limits.TheConstants.{MOST_INPUT_STATES, MOST_OUTPUT_STATES}
 use Rattle.tc_beh.specs.Machines.{AreParts, IsMachineOf, KeepsLimits}
 use Rattle.tc_beh.specs.declared.machine.Machine.{Machine}
 use Rattle.tc_hedge.specs.Stands as h
 use Rattle.tc_hedge.specs.declared.hedge.Hedge.{Hedge}
 use Rattle.tc_model.specs.Grammars.{Grammar, IsGrammar}
-use Rattle.tc_model.specs.RncText.{RncText}
 use Rattle.tc_model.specs.Sheets.{Sheet}
 use Rattle.tc_model.specs.SimplifiesCounts.{IsWithinCounts}
 use Rattle.tc_model.specs.SimplifiesLaws.{IsStart}
 use Rattle.tc_model.specs.StateCounts.{PassNone}
-use Rattle.tc_model.specs.States.{Side, input, output, state_count}
+use Rattle.tc_model.specs.States.{Side, input, output}
 use Rattle.tc_model.specs.Symbols.{Mention, symbols_of}
 use Rattle.tc_model.specs.Views as see
-use Rattle.tc_model.specs.WellFormed.{IsSheet}
 use Rattle.tc_model.proofs.SimplifiesLawful.{lawful_grammar}
 use Rattle.tc_model.proofs.SimplifiesUnique.{lawful_start}
-use Rattle.tc_read.specs.Schemas.{PassesSize}
 use Rattle.tc_read.specs.declared.schemas.Schema.{Schema}
 use Rattle.tc_read.specs.declared.schemas.Schema.TheVariants.{Small, TooLarge}
 use Rattle.tc_rows.specs.Counts.{PassCalls}
-use Rattle.tc_rows.specs.Triples as t
-use Rattle.tc_rows.specs.Triples.{Triple, IsTriple}
+use Rattle.tc_rows.specs.Triples.{Triple}
 use Rattle.tc_rules.specs.Kept.{IsRulesOf, told}
 use Rattle.tc_rules.specs.States.{AllInline}
 use Rattle.tc_rules.specs.declared.rules.Rules.{Rules}
 use Rattle.tc_rules.proofs.Looking.{all_unfold}
-use Rattle.tc_top.specs.Checking.{IsCompiled, PassesCompile, by_sheet, by_calls, by_entries}
+use Rattle.tc_top.specs.Checking.{PassesCompile, by_sheet, by_calls, by_entries}
 use Rattle.tc_close.specs.Triples.{IsTripleOf}
 use Rattle.tc_top.specs.Compiled.{IsSpelled, IsReadOf, IsCauseBy, AreAutomata, PassesMachine, many_calls, many_entries, IsMachineFor}
-use Rattle.tc_top.specs.Limits.{IsWithinLimits, PassesLimit, passes_size, passes_states, SheetPasses, IsWithinSheetLimits, AreFew}
+use Rattle.tc_top.specs.Limits.{IsWithinLimits, PassesLimit, passes_size, SheetPasses, IsWithinSheetLimits, AreFew}
 use Rattle.tc_top.specs.declared.compile.CompileFault.{CompileFault}
 use Rattle.tc_top.specs.declared.compile.CompileFault.TheVariants.{Passes, NoMemory}
 use Rattle.tc_top.proofs.Checked.{read_of}
@@ -73,7 +68,7 @@ module _ (i o : Grammar) (symbols : List Mention) (r : Rules) (rules : IsRulesOf
   triple_by = record { input = i; output = o; symbols = symbols; rules = told r; bodies = bodies.0 }
 
 module _ (i o : Grammar) (s : Sheet) (contents states : Auto) (symbols : List Mention) (a : AreAutomata i o s contents states symbols) (r : Rules) (rules : IsRulesOf symbols r)
-  (same : (told r).sheet ≡ s) where
+    (same : (told r).sheet ≡ s) where
   pub triple_of : IsTripleOf i o s (triple_by i o symbols r rules)
   triple_of = record {
     triple = record {

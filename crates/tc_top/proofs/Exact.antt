@@ -1,5 +1,5 @@
 -- The answer to words and to what was read is determined, but for what is left open; and where the store tells what it holds, what is read is.
-use Rattle.std.proofs.Common.{◌≡◌, ◌<◌, ◌≤◌, ◌⊎◌, ◌∷◌, [], ◌∙◌, inl, inr, refl, sym, subst, ap, ℕ, List, length, Option, Some, None, Result, Ok, Err, arith}
+use Rattle.std.proofs.Common.{◌≡◌, ◌<◌, ◌≤◌, ◌⊎◌, ◌∷◌, [], ◌∙◌, inl, inr, refl, sym, subst, ap, ℕ, List, length, Option, Some, None, Ok, Err, arith}
 use Rattle.tc_io.specs.Store.{Files, Came, Read, longest_file}
 use Rattle.tc_io.specs.Reads.{IsTrue, AreTrue}
 use Rattle.tc_io.specs.declared.StoreFault.{StoreFault}

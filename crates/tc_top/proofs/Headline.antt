@@ -1,6 +1,6 @@
 -- A check, a validation and a run of held files are exact.
-use Rattle.std.proofs.Common.{◌≡◌, ◌≤◌, ◌⊎◌, ◌∷◌, [], ◌∙◌, inl, inr, refl, sym, subst, ℕ, List, length, Option, Some, Ok, arith}
-use Rattle.tc_io.specs.Store.{Files, Read, longest_file}
+use Rattle.std.proofs.Common.{◌≡◌, ◌≤◌, ◌⊎◌, ◌∷◌, [], ◌∙◌, inl, inr, refl, sym, subst, ℕ, List, Option, Some, Ok, arith}
+use Rattle.tc_io.specs.Store.{Files, Read}
 use Rattle.tc_io.specs.Reads.{AreTrue}
 use Rattle.tc_io.specs.Sink.{Appended}
 use Rattle.tc_model.specs.Trees.{Trees, none, text, element, node_count}
@@ -12,7 +12,7 @@ use Rattle.tc_model.specs.Printed.{printed}
 use Rattle.tc_model.specs.Safety.{IsSafe}
 use Rattle.tc_print.specs.ReadBack.{nesting, IsReadAs}
 use Rattle.tc_print.proofs.ReadBack.{read_back}
-use Rattle.tc_top.specs.Checking.{RowCount, most_rows, most_of, IsCompiled, PassesCompile, HasManyRows, HasFewRows, AreRowCounts, IsLeastCounter, HasSmallCounter, HasLargeCounters}
+use Rattle.tc_top.specs.Checking.{most_rows, IsCompiled, HasFewRows, AreRowCounts, IsLeastCounter, HasSmallCounter, HasLargeCounters}
 use Rattle.tc_top.specs.Headline.{IsCutShort, ChecksFiles, ChecksShortFiles, ShowsCounterexample, shows_both, shows_document, ShowsRun, shows_result, shows_large, IsLimited, limited_before_rows, limited_in_rows, limited_in_nodes, DecidesSafety, ValidatesFiles, DecidesValidity, RunsFiles, GivesResult}
 use Rattle.tc_top.specs.Answers.{Answer, IsBuilt, usage, not_yet, cannot_read, file_limit, safe, unsafe, unsafe_large, rows_limit, counterexample_limit, refused, over_limit, is_valid, is_invalid, has_result, work_limit, open_limit, status_of, text_of, Finds, passes_compile, passes_rows, finds_safe, finds_unsafe, finds_large, finds_none_small, IsAnswer, no_command, not_built, not_read, over_long, checked, validated, ran, shown, Ends, Gives, KeepsToLimits, Runs, sheet_passes, too_much_work, too_open, gives_result}
 use Rattle.tc_top.specs.AnswersSeen.{IsRightFor}
@@ -25,7 +25,7 @@ use Rattle.tc_model.specs.RncText.{RncText}
 use Rattle.tc_read.specs.Sheets.{IsSheetOf}
 use Rattle.tc_top.specs.Demo.{demo_schema, demo_sheet}
 use Rattle.tc_top.specs.declared.limits.TheConstants.{MOST_ROWS}
-use Rattle.tc_top.specs.Words.{Words, check, demo}
+use Rattle.tc_top.specs.Words.{Words, demo}
 use Rattle.tc_top.proofs.Exact.{Agrees, checked_only, validated_only, ran_only, shown_only, shown_reads, held_texts, read_two, read_three}
 use Rattle.tc_top.proofs.OneCheck.{not_both, over_compile, one_compile, near_far, finds_of}
 use Rattle.tc_top.proofs.OneCommand.{one_command}
@@ -234,6 +234,20 @@ shows old new (finds_none_small w f l) e written = absurd (cc)
 pub safe_is_so : (rose : Type 0) {words : List (List ℕ)} {reads : List Read} (files : Files) (limit : Option ℕ) (i o : Grammar) (s : Sheet) (status : Status) (answer : Answer)
     → ChecksFiles words files limit i o s → AreTrue (Some files) rose reads → IsAnswer words reads answer → status ≡ status_of answer → status ≡ Yes → IsSafe i o s
 safe_is_so rose files limit i o s status answer c true right is e = says_safe (found rose files limit i o s c true right (inl (sym is ∙ e))) (sym is ∙ e)
+
+-- what a demonstration finds
+demo_found : {words : List (List ℕ)} {reads : List Read} (size : ℕ) (g : Grammar) (s : Sheet) {answer : Answer} → Words words (demo size) → RncText (demo_schema size) g → IsSheetOf demo_sheet s
+    → IsAnswer words reads answer → Finds MOST_ROWS g g s answer
+demo_found size g s w spells means right = finds_of spells spells means (shown_only w (shown_reads w right) right)
+
+pub demo_is_safe : {words : List (List ℕ)} {reads : List Read} (size : ℕ) (g : Grammar) (s : Sheet) (status : Status) (answer : Answer) → Words words (demo size)
+    → RncText (demo_schema size) g → IsSheetOf demo_sheet s → IsAnswer words reads answer → status ≡ status_of answer → status ≡ Yes → IsSafe g g s
+demo_is_safe size g s status answer w spells means right is e = says_safe (demo_found size g s w spells means right) (sym is ∙ e)
+
+pub demo_is_shown : {words : List (List ℕ)} {reads : List Read} (size : ℕ) (g : Grammar) (s : Sheet) (status : Status) (old new : Option (List ℕ)) (answer : Answer) → Words words (demo size)
+    → RncText (demo_schema size) g → IsSheetOf demo_sheet s → IsAnswer words reads answer → status ≡ status_of answer → Appended old new (text_of answer) → status ≡ No
+    → ShowsCounterexample old new g g s
+demo_is_shown size g s status old new answer w spells means right is written e = shows old new (demo_found size g s w spells means right) (sym is ∙ e) written
 
 pub unsafe_is_shown : (rose : Type 0) {words : List (List ℕ)} {reads : List Read} (files : Files) (limit : Option ℕ) (i o : Grammar) (s : Sheet) (status : Status) (old new : Option (List ℕ)) (answer : Answer)
     → ChecksFiles words files limit i o s → AreTrue (Some files) rose reads → IsAnswer words reads answer → status ≡ status_of answer → Appended old new (text_of answer) → status ≡ No

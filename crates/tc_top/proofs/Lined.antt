@@ -1,5 +1,5 @@
 -- The lines of a counterexample whose result is too large to be shown.
-use Rattle.std.proofs.Common.{◌≡◌, ◌++◌, ◌∷◌, [], ◌∙◌, sym, ap, List, ℕ, codes, append_assoc}
+use Rattle.std.proofs.Common.{◌≡◌, ◌++◌, ◌∷◌, [], ◌∙◌, sym, ap, codes, append_assoc}
 use Rattle.tc_model.specs.Printed.{printed}
 use Rattle.tc_model.specs.Trees.{Trees}
 use Rattle.tc_top.specs.Lines.{unsafe_large_lines}

@@ -1,8 +1,8 @@
 -- The schema and the stylesheet that mention nothing: beside them are the symbols those of what is left.
-use Rattle.std.proofs.Common.{◌≡◌, List, [], ◌++◌, ap, append-nil, flat_map}
+use Rattle.std.proofs.Common.{◌≡◌, [], ap, append-nil, flat_map}
 use Rattle.tc_model.specs.Grammars.{Grammar, not_allowed}
 use Rattle.tc_model.specs.Sheets.{Sheet}
-use Rattle.tc_model.specs.Symbols.{Mention, mention_cmp, in_order, with_namespace, mentions_in_grammar, symbols_of}
+use Rattle.tc_model.specs.Symbols.{mention_cmp, in_order, with_namespace, mentions_in_grammar, symbols_of}
 use Rattle.tc_top.specs.Limits.{symbols_of_schema}
 
 abbrev pub no_schema : Grammar

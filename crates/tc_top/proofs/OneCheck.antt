@@ -1,25 +1,18 @@
 -- What the texts of two schemas and of a stylesheet decide is one.
-use Rattle.std.proofs.Common.{◌≡◌, ◌<◌, ◌≤◌, ◌⊎◌, inl, inr, ◌∙◌, refl, sym, ap, subst, ℕ, List, arith}
+use Rattle.std.proofs.Common.{◌≡◌, subst, ℕ, List, arith}
 use Rattle.tc_base.specs.declared.Limit.{Limit}
-use Rattle.tc_base.specs.declared.limits.TheConstants.{MOST_INPUT_STATES, MOST_OUTPUT_STATES}
 use Rattle.tc_model.specs.Grammars.{Grammar}
-use Rattle.tc_model.specs.Outcomes.{Outcome}
 use Rattle.tc_model.specs.RncText.{RncText}
-use Rattle.tc_model.specs.Safety.{IsSafe, IsCounterexample}
+use Rattle.tc_model.specs.Safety.{IsSafe}
 use Rattle.tc_model.specs.Sheets.{Sheet}
-use Rattle.tc_model.specs.States.{input, output}
-use Rattle.tc_model.specs.Symbols.{symbols_of}
-use Rattle.tc_model.specs.Trees.{Trees, node_count}
+use Rattle.tc_model.specs.Trees.{Trees}
 use Rattle.tc_model.specs.Validity.{IsValidOutput}
 use Rattle.tc_model.proofs.SimplifiesUnique.{one_rnc_text}
 use Rattle.tc_read.specs.Sheets.{IsSheetOf}
-use Rattle.tc_rows.specs.Counts.{Counts, IsRowOfLiveTree, IsRowOfLiveHedge, IsOutput}
+use Rattle.tc_rows.specs.Counts.{IsRowOfLiveTree, IsRowOfLiveHedge, IsOutput}
 use Rattle.tc_rows.proofs.Counting.{counts_tell}
-use Rattle.tc_run.specs.Limits.{KeepsLimits}
-use Rattle.tc_top.specs.Answers.{Answer, safe, unsafe, over_limit, Finds, passes_compile, passes_rows, finds_safe, finds_unsafe, finds_large, finds_none_small, Checks, input_refused, output_refused, stylesheet_refused, all_read}
-use Rattle.tc_top.specs.Checking.{IsCompiled, PassesCompile, by_input, by_output, by_sheet, by_calls, by_entries, HasFewRows, AreRowCounts, IsCounter, IsLeastCounter, HasLargeCounters, IsLargeRun}
-use Rattle.tc_close.specs.Triples.{IsTripleOf}
-use Rattle.tc_top.specs.Limits.{IsWithinLimits, IsWithinSheetLimits}
+use Rattle.tc_top.specs.Answers.{Answer, safe, over_limit, Finds, passes_compile, passes_rows, finds_safe, finds_unsafe, finds_large, finds_none_small, Checks, input_refused, output_refused, stylesheet_refused, all_read}
+use Rattle.tc_top.specs.Checking.{IsCompiled, PassesCompile, by_input, by_output, by_sheet, by_calls, by_entries, AreRowCounts, IsCounter, IsLeastCounter, HasLargeCounters}
 use Rattle.tc_top.specs.OneAnswer.{AreAlike, same_answer, counterexamples, large_counterexamples, large_or_not, not_large_or_large, row_limits}
 use Rattle.tc_top.proofs.OneRefusal.{schema_refusals, sheet_refusals}
 use Rattle.tc_top.proofs.OneRun as run

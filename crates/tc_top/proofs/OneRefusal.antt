@@ -1,5 +1,5 @@
 -- Why a text is refused: by what is left open, or by one fault at one place.
-use Rattle.std.proofs.Common.{◌≡◌, inl, inr, ℕ, List, length, refl, ap, ◌∙◌, sym, subst}
+use Rattle.std.proofs.Common.{◌≡◌, inl, inr, ℕ, List, refl, ap, subst}
 use Rattle.std.specs.List.{IsDistinct}
 use Rattle.tc_model.specs.CompactSyntaxTrees.{Syntax}
 use Rattle.tc_model.specs.CompactSyntax.{CompactSyntax}

@@ -2,9 +2,8 @@
 use Rattle.std.proofs.Common.{◌≡◌, ◌∷◌, [], refl, sym, ap, subst, ℕ, List, Ok, Err}
 use Rattle.tc_io.specs.Store.{Read}
 use Rattle.tc_io.specs.declared.StoreFault.{StoreFault}
-use Rattle.tc_io.specs.declared.StoreFault.TheVariants.{TooLong, NoMemory}
 use Rattle.tc_top.specs.AnswersSeen.{IsUnread, IsFirstUnread}
-use Rattle.tc_top.specs.Reading.{StopsAt, at_first, past_first, IsUnreadable}
+use Rattle.tc_top.specs.Reading.{StopsAt, at_first, past_first}
 use Rattle.tc_top.specs.declared.read.Unread.{Unread}
 use Rattle.tc_top.specs.declared.read.Unread.TheVariants as u
 

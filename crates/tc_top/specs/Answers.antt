@@ -1,5 +1,5 @@
 -- What a call answers, and why: the lines, the status, and the cause of each answer.
-use Rattle.std.specs.Prelude.{◌≡◌, ◌<◌, ◌⊎◌, ◌↔◌, ℕ, List, [], ◌∷◌, ◌++◌, Option, Some, None, Ok, codes, decimal}
+use Rattle.std.specs.Prelude.{◌≡◌, ◌<◌, ◌⊎◌, ◌↔◌, ℕ, List, [], ◌∷◌, ◌++◌, Option, Some, Ok, codes, decimal}
 use Rattle.tc_base.specs.declared.Limit as kinds
 use Rattle.tc_base.specs.declared.Limit.TheVariants.{Symbols}
 use Rattle.tc_base.specs.declared.limits.TheConstants.{LONGEST_FILE, MOST_INPUT_STATES, MOST_SYMBOLS, MOST_WORK, MOST_OPEN}
@@ -182,7 +182,6 @@ pub data IsAnswer (words : List (List ℕ)) (reads : List Read) : Answer → Typ
   ran : {sheet document sheet_text document_text : List ℕ} {answer : Answer} → Words words (run sheet document)
       → reads ≡ (sheet, Ok sheet_text) ∷ (document, Ok document_text) ∷ []
       → RunsTexts sheet document sheet_text document_text answer → IsAnswer words reads answer
-
   shown : {size : ℕ} {answer : Answer} → Words words (demo size) → reads ≡ []
       → Checks MOST_ROWS input_name output_name sheet_name (demo_schema size) (demo_schema size) demo_sheet answer → IsAnswer words reads answer
 

@@ -36,6 +36,8 @@ most_of most hedges = most
 most_of most outputs = MOST_OUTPUTS
 
 module _ (i o : Grammar) (s : Sheet) where
+  -- Well-formed schemas and a well-formed stylesheet within the limits of the stylesheet have a triple, and all of theirs have the same rows: law_of_triples of tc_close.
+
   -- rows have too many entries
   abbrev pub HasManyEntries : Type 0
   HasManyEntries = (x : Triple) × IsTripleOf i o s x × PassEntries x MOST_ENTRIES

@@ -1,5 +1,5 @@
 -- The limits on the counts of a schema, and of a stylesheet and its runs, in the order in which they are tried.
-use Rattle.std.specs.Prelude.{◌<◌, ◌≤◌, ℕ, List, [], flat_map, codes}
+use Rattle.std.specs.Prelude.{◌<◌, ◌≤◌, ℕ, List, flat_map, codes}
 use Rattle.tc_base.specs.declared.Limit.{Limit}
 use Rattle.tc_base.specs.declared.Limit.TheVariants.{Pattern, Depth, Elements, States, Symbols, Predicates, Ancestors, Selects, Calls, Entries}
 use Rattle.tc_base.specs.declared.limits.TheConstants.{MOST_INPUT_STATES, MOST_SYMBOLS, MOST_PREDICATES, MOST_ANCESTORS, MOST_SELECTS}

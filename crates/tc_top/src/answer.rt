@@ -151,12 +151,7 @@ impl Answer {
     }
 
     /// Every result is valid, and there are so many rows of trees, of lists of trees, and sets of pairs in them.
-    pub fn safe(
-        alloc: Global,
-        trees: u32,
-        hedges: u32,
-        outputs: u32,
-    ) -> Result<Answer, NoMemory>
+    pub fn safe(alloc: Global, trees: u32, hedges: u32, outputs: u32) -> Result<Answer, NoMemory>
         ensures { IfOk result (λ said. Says said (a.safe trees hedges outputs)) }
     {
         let mut digits = itoa::Buffer::new();

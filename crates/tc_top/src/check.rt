@@ -64,11 +64,7 @@ fn row_limit(limit: Option<u32>) -> u32
 }
 
 /// Decides by the texts of the operands whether the stylesheet is safe.
-pub fn check_texts(
-    alloc: Global,
-    most: u32,
-    operands: &Operands<'_>,
-) -> Result<Answer, NoMemory>
+pub fn check_texts(alloc: Global, most: u32, operands: &Operands<'_>) -> Result<Answer, NoMemory>
     requires few { most ≤ 4000 }
     requires input { length operands.now.input.text.items ≤ longest_text }
     requires output { length operands.now.output.text.items ≤ longest_text }

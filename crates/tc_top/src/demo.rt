@@ -15,7 +15,8 @@ use std::alloc::Global;
 use tc_base::NoMemory;
 
 /// The stylesheet that copies all elements.
-const SHEET: &[u8] = b"<xsl:stylesheet version=\"1.0\" xmlns:xsl=\"http://www.w3.org/1999/XSL/Transform\"><xsl:template match=\"*\"><xsl:copy><xsl:apply-templates/></xsl:copy></xsl:template></xsl:stylesheet>";
+const SHEET: &[u8] =
+    b"<xsl:stylesheet version=\"1.0\" xmlns:xsl=\"http://www.w3.org/1999/XSL/Transform\"><xsl:template match=\"*\"><xsl:copy><xsl:apply-templates/></xsl:copy></xsl:template></xsl:stylesheet>";
 
 /// Decides whether the stylesheet that copies all elements is safe from a schema of so many elements to the same.
 pub fn demo(alloc: Global, size: u32) -> Result<Answer, NoMemory>

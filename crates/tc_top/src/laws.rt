@@ -7,9 +7,9 @@ pub fn law_of_words()
     ensures { WordsGiveOne }
 {}
 
-/// Laws of answers. Words and what was read have one answer, but for what is left open: which counterexample there is,
-/// which limit is told of a run that passes both, and for which of the reasons malformed, unsupported and too deep, and
-/// where, a text is refused. So have words and held files, where no read fails; and a call gives that answer, unless a
+/// Laws of answers. Words and what was read have one answer, but for what is left open: which least counterexample is
+/// shown, and so whether its result is; which limit is told where several numbers of rows pass theirs, and of a run
+/// that passes both; and for which of the reasons malformed, unsupported and too deep, and where, a text is refused. So have words and held files, where no read fails; and a call gives that answer, unless a
 /// read of it fails. A document's text is refused for one reason, and but for malformed at one place alone; and a
 /// stylesheet that is written well but for the names of its templates and its calls is refused for one reason, at one
 /// place.

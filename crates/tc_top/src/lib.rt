@@ -91,6 +91,10 @@ pub fn typecheck<S: Store, K: Sink>(
         ⊎ DecidesSafety result (K.written sink.old) (K.written sink.new) (most_rows limit) i o s }
 
     // So is a demonstration on the texts that it makes, for which nothing is read.
+    ensures demo_safe { (size : ℕ) (g : Grammar) (s : Sheet) → Words words.now (w.demo size) → RncText (demo_schema size) g → IsSheetOf demo_sheet s
+        → result ≡ Status.Yes → IsSafe g g s }
+    ensures demo_shown { (size : ℕ) (g : Grammar) (s : Sheet) → Words words.now (w.demo size) → RncText (demo_schema size) g → IsSheetOf demo_sheet s
+        → result ≡ Status.No → ShowsCounterexample (K.written sink.old) (K.written sink.new) g g s }
     ensures demonstrated { (size : ℕ) (g : Grammar) (s : Sheet) → Words words.now (w.demo size) → RncText (demo_schema size) g → IsSheetOf demo_sheet s
         → IsCutShort result ⊥ ⊎ DecidesSafety result (K.written sink.old) (K.written sink.new) MOST_ROWS g g s }
 

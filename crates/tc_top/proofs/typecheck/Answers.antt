@@ -2,7 +2,7 @@ use Rattle.std.proofs.Common.{◌∙◌, inl, inr, refl, ap, subst}
 use Rattle.tc_io.specs.Sink.{Appended, WroteFront}
 use Rattle.tc_top.specs.Answers.{status_of, answered, broken_off, out_of_memory}
 use Rattle.tc_top.proofs.Exact.{exact, usage_only, refused_only}
-use Rattle.tc_top.proofs.Headline.{at_words, at_told, gives, headline, safe_is_so, unsafe_is_shown, demonstrated, validity, running, limited}
+use Rattle.tc_top.proofs.Headline.{at_words, at_told, gives, headline, safe_is_so, unsafe_is_shown, demo_is_safe, demo_is_shown, demonstrated, validity, running, limited}
 use Rattle.tc_top.specs.Words.{Words}
 use Rattle.tc_top.proofs.typecheck.Goals as goal
 
@@ -53,6 +53,17 @@ returns-in-Ok-write_lines-clause-headline g c = λ files limit i o s told checks
     let right = at_words c.as_slice.ensures c.in-Ok.ensures.right in
     let written = subst (Appended (g.K.Sink.written c.args.sink.now) (g.K.Sink.written c.write_lines.new.sink)) (c.as_bytes.ensures ∙ right.2.1.written) c.in-Ok-write_lines.ensures.ok in
     headline files limit i o s _ _ _ right.2.0 checks (at_told _ right.0 told right.1.true) right.2.2 right.2.1.status written
+
+pub returns-in-Ok-write_lines-clause-demo_safe : goal.returns-in-Ok-write_lines-clause-demo_safe
+returns-in-Ok-write_lines-clause-demo_safe g c = λ size x s words spells means e.
+    let right = at_words c.as_slice.ensures c.in-Ok.ensures.right in
+    demo_is_safe size x s _ right.2.0 words spells means right.2.2 right.2.1.status e
+
+pub returns-in-Ok-write_lines-clause-demo_shown : goal.returns-in-Ok-write_lines-clause-demo_shown
+returns-in-Ok-write_lines-clause-demo_shown g c = λ size x s words spells means e.
+    let right = at_words c.as_slice.ensures c.in-Ok.ensures.right in
+    let written = subst (Appended (g.K.Sink.written c.args.sink.now) (g.K.Sink.written c.write_lines.new.sink)) (c.as_bytes.ensures ∙ right.2.1.written) c.in-Ok-write_lines.ensures.ok in
+    demo_is_shown size x s _ _ _ right.2.0 words spells means right.2.2 right.2.1.status written e
 
 pub returns-in-Ok-write_lines-clause-demonstrated : goal.returns-in-Ok-write_lines-clause-demonstrated
 returns-in-Ok-write_lines-clause-demonstrated g c = λ size x s words spells means.

@@ -3,7 +3,6 @@ use Rattle.std.proofs.lemmas.Result.{IfOk-weaker}
 use Rattle.tc_model.specs.Views as see
 use Rattle.tc_top.specs.Answers as a
 use Rattle.tc_top.specs.Answers.{Finds, passes_compile}
-use Rattle.tc_top.specs.AnswersSeen.{Says}
 use Rattle.tc_top.specs.Checking.{IsCompiled, PassesCompile}
 use Rattle.tc_top.specs.Compiled.{IsCauseBy}
 use Rattle.tc_top.proofs.Checked.{read_of, of_triple, to_triple}

@@ -1,8 +1,6 @@
 use Rattle.std.proofs.Common.{subst}
 use Rattle.std.proofs.lemmas.Result.{IfOk-weaker}
 use Rattle.tc_close.specs.Decisions.{IsDecided, IsCloseCause}
-use Rattle.tc_model.specs.Trees.{none}
-use Rattle.tc_model.specs.Views as see
 use Rattle.tc_top.specs.Answers as a
 use Rattle.tc_top.specs.Answers.{passes_rows}
 use Rattle.tc_top.specs.Checking as count

@@ -1,6 +1,5 @@
 use Rattle.std.proofs.Common.{◌≡◌, sym, subst}
 use Rattle.std.proofs.lemmas.Result.{IfOk-weaker}
-use Rattle.tc_beh.specs.declared.machine.Machine.{Machine}
 use Rattle.tc_model.specs.Safety.{IsResultOf}
 use Rattle.tc_model.specs.Sheets.{Sheet}
 use Rattle.tc_model.specs.Trees.{none}
@@ -24,8 +23,7 @@ pub returns-in-Ok : goal.returns-in-Ok
 returns-in-Ok c =
     let d = before c.args.document.now none in
     IfOk-weaker c.not_safe.result _ _ (λ said says x is.
-    let same : (told c.rules.result.now).sheet ≡ sheet x = subst (λ (r : Rules). (told r).sheet ≡ sheet x) (sym c.rules.ensures) (rules_sheet is) in
-    (
+    let same : (told c.rules.result.now).sheet ≡ sheet x = subst (λ (r : Rules). (told r).sheet ≡ sheet x) (sym c.rules.ensures) (rules_sheet is) in (
       a.unsafe d (trees c.in-Ok.nodes.now),
       says,
       run_within (subst (λ (s : Sheet). KeepsLimits s d) same c.in-Ok.ensures.within) (subst (λ (s : Sheet). IsResultOf s d (trees c.in-Ok.nodes.now)) same c.in-Ok.ensures.result),

@@ -7,7 +7,7 @@ use Rattle.tc_model.specs.Symbols.{Mention, symbols_of, symbol_count}
 use Rattle.tc_model.specs.Views as see
 use Rattle.tc_read.proofs.Exits.{err_is}
 use Rattle.tc_top.specs.Checking.{by_input, by_output, by_sheet}
-use Rattle.tc_top.specs.Limits.{AreFew, sheet_symbols}
+use Rattle.tc_top.specs.Limits.{sheet_symbols}
 use Rattle.tc_top.proofs.Compiling.{cause_on, small_is}
 use Rattle.tc_top.proofs.compile.alphabet_of.Goals as goal
 

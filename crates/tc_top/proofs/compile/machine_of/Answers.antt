@@ -1,4 +1,3 @@
-use Rattle.std.proofs.Common.{sym, subst, List}
 use Rattle.std.proofs.lemmas.Result.{IfOk-weaker, IfErr-weaker}
 use Rattle.tc_model.specs.Views as see
 use Rattle.tc_read.proofs.Exits.{err_is}

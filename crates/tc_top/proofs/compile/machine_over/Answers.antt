@@ -1,7 +1,6 @@
-use Rattle.std.proofs.Common.{inl, inr, refl, sym, subst, List}
+use Rattle.std.proofs.Common.{inl, inr, refl}
 use Rattle.std.proofs.lemmas.Result.{IfErr-weaker}
 use Rattle.tc_model.specs.Views as see
-use Rattle.tc_model.specs.Symbols.{Mention}
 use Rattle.tc_model.specs.States.{input, output}
 use Rattle.tc_read.proofs.Exits.{err_is}
 use Rattle.tc_top.proofs.Compiling.{cause_on, triple_by, parts_of, machine_for, machine_passes, sheet_passes, ok_both}

@@ -1,4 +1,3 @@
-use Rattle.std.proofs.Common.{subst}
 use Rattle.tc_top.proofs.Compiling.{size_passes}
 use Rattle.tc_top.proofs.compile.small.Goals as goal
 

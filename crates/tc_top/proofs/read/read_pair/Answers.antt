@@ -1,6 +1,5 @@
-use Rattle.std.proofs.Common.{◌≡◌, ◌∷◌, [], ◌∙◌, ap, sym, subst, List, ℕ, Ok}
+use Rattle.std.proofs.Common.{◌≡◌, ◌∷◌, [], ◌∙◌, ap, sym, subst, Ok}
 use Rattle.tc_io.specs.Reads.{Happened}
-use Rattle.tc_io.specs.Store.{Read}
 use Rattle.tc_io.proofs.ReadsInOrder.{happened_both}
 use Rattle.tc_read.proofs.Exits.{err_is}
 use Rattle.tc_top.proofs.OperandsRead.{unread_first, unread_later}

@@ -1,4 +1,4 @@
-use Rattle.std.proofs.Common.{◌≡◌, ◌++◌, ◌∙◌, refl, ap, codes, List, ℕ}
+use Rattle.std.proofs.Common.{◌++◌, ◌∙◌, refl, ap, codes, List, ℕ}
 use Rattle.tc_model.specs.Printed.{printed}
 use Rattle.tc_model.specs.Views.{trees}
 use Rattle.tc_top.proofs.Lined.{large_lines}
