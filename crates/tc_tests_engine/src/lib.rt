@@ -1,4 +1,4 @@
-//! The tests of symbols, automata, matrices and sets, validity, path states and runs, by public calls alone.
+//! The tests of symbols, automata, matrices and sets, validity, path states, runs and rows, by public calls alone.
 #![tactic(auto)]
 
 #[cfg(test)]
@@ -7,6 +7,8 @@ mod automata;
 mod matrices;
 #[cfg(test)]
 mod path_states;
+#[cfg(test)]
+mod rows;
 #[cfg(test)]
 mod runs;
 #[cfg(test)]
