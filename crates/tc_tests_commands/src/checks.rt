@@ -352,10 +352,10 @@ fn least_documents_are_shown(rt: HostRuntime) -> Result<(), Fail> {
 }
 
 /// A schema in which each element has two of the next one.
-fn doubled(alloc: Global, count: u32, last: &str) -> Result<String, Fail> {
+fn doubled(alloc: Global, count: u16, last: &str) -> Result<String, Fail> {
     let mut input = String::from_str(alloc, "start = e1")?;
     for number in 1..=count {
-        let next = number + 1;
+        let next = u32::from(number) + 1;
         let line = format!(in alloc; "\ne{number} = element e{number}{{e{next},e{next}}}")?;
         input.push_str(line.as_str())?;
     }
