@@ -363,12 +363,11 @@ fn doubled(alloc: Global, count: u16, last: &str) -> Result<String, Fail> {
     Ok(input)
 }
 
-/// An element of the document that a doubled schema has, with the elements within it.
-fn tree_of(alloc: Global, number: u32, last: u32) -> Result<String, Fail> {
+/// The document that a doubled schema has.
+fn tree_of(alloc: Global, last: u32) -> Result<String, Fail> {
     let mut tree = format!(in alloc; "<e{last}/>")?;
-    let mut level = last;
-    while level > number {
-        level -= 1;
+    for below in 1..last {
+        let level = last - below;
         let mut outer = format!(in alloc; "<e{level}>")?;
         outer.push_str(tree.as_str())?;
         outer.push_str(tree.as_str())?;
@@ -387,7 +386,7 @@ fn counterexamples_have_a_limit(rt: HostRuntime) -> Result<(), Fail> {
     let line = "limit counterexample 2000\n";
     assert!(rt; answers(alloc, input.as_str(), "element r{empty}", rules, line)?);
     let input = doubled(alloc, 9, "\ne10 = element e10{empty}")?;
-    let tree = tree_of(alloc, 1, 10)?;
+    let tree = tree_of(alloc, 10)?;
     let mut text = String::from_str(alloc, "unsafe\ndocument ")?;
     text.push_str(tree.as_str())?;
     text.push_str("\noutput <x/>\n")?;
