@@ -221,6 +221,7 @@ impl<'c, 'b> Side<'c, 'b> {
         requires states { states.now.size ≡ a.states self.now.auto.now }
         ensures set { IfOk result (λ r. IsSet r) }
         ensures size { IfOk result (λ r. r.size ≡ self.now.end) }
+        ensures from_one { IfOk result (λ r. ¬ Has r 0) }
         ensures numbers { IfOk result (λ r. (x : g.Grammar) (symbols : List Mention) → a.Stands s.input x self.now.auto.now → AreAllowed x symbols self.now.allowed.items → (k : ℕ) → Has r k ↔ (IsAllowed x (fresh_name symbols symbol) k × IsTaken x states.now k)) }
     {
         let allowed = &self.allowed[symbol as usize];

@@ -16,3 +16,6 @@ pub returns-clause-numbers : goal.returns-clause-numbers
 returns-clause-numbers c = λ x st j.
     let count : c.loop-before.before ≡ length x.elements = omega (arith, c.loop-before.auto.before-end, c.loop-before-test.false, c.patterns-before-end.ensures.schema input x st) in
     subst (λ n. Has c.loop-before.states j ↔ IsBegun x n j) count (c.loop-before.invariant.1 x st j)
+
+pub returns-clause-set : goal.returns-clause-set
+returns-clause-set c = ?
