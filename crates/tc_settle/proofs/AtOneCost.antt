@@ -1,8 +1,8 @@
 -- What is made at one cost.
-use Rattle.std.proofs.Common.{◌≡◌, ◌⊎◌, inl, inr, ℕ, suc, ◌+◌, ◌-◌, ◌<◌, ◌≤◌, List, [], ◌∷◌, ◌++◌, length, slice_index, refl, ◌∙◌, sym, subst, arith, add-one}
+use Rattle.std.proofs.Common.{◌≡◌, ◌⊎◌, inl, inr, ℕ, ◌+◌, ◌-◌, ◌<◌, ◌≤◌, List, [], ◌∷◌, ◌++◌, length, slice_index, refl, ◌∙◌, sym, subst, arith, add-one}
 use Rattle.tc_settle.specs.declared.closed.Closed.{Closed}
-use Rattle.tc_settle.specs.Held.{Held, Grows}
-use Rattle.tc_settle.specs.Closed.{hedge_cost, tree_cost, IsKept}
+use Rattle.tc_settle.specs.Held.{Held}
+use Rattle.tc_settle.specs.Closed.{hedge_cost, tree_cost}
 use Rattle.tc_settle.specs.Settled.{Goes, Steps, AreStarts, AreSumsDone, AreWrapsDone, AreDoneBelow, IsAppendDone, IsReady}
 use Rattle.tc_settle.proofs.Kept.{below_or_last}
 use Rattle.tc_settle.proofs.Going.{low_or_high, append_done_stays, wraps_done_stay, done_stays, starts_stay}

@@ -1,12 +1,12 @@
 -- The rows that are found first: that of no tree, and that of a text.
-use Rattle.std.proofs.Common.{◌≡◌, ◌⊎◌, inl, inr, ℕ, zero, suc, ◌+◌, ◌<◌, ◌≤◌, List, [], ◌∷◌, length, slice_index, refl, ap, ◌∙◌, sym, subst, arith}
+use Rattle.std.proofs.Common.{◌≡◌, inl, inr, ℕ, zero, suc, ◌<◌, ◌≤◌, List, [], ◌∷◌, length, slice_index, refl, ap, ◌∙◌, sym, subst, arith}
 use Rattle.tc_settle.specs.declared.closed.Closed.{Closed}
 use Rattle.tc_settle.specs.declared.closed.MadeHedge.TheVariants as hedge
 use Rattle.tc_settle.specs.Held.{Held, Grows, IsNoneAt, IsHeldAs}
 use Rattle.tc_settle.specs.Derived.{from_none}
 use Rattle.tc_settle.specs.Closed.{hedge_cost, tree_cost, IsKept}
-use Rattle.tc_settle.specs.Settled.{Steps, AreFew, AreUpTo, AreStarts, IsNoneDone, IsTextDone, IsWithHedge, IsReady, IsBegun}
-use Rattle.tc_settle.proofs.Kept.{kept_hedge, goes_hedge, new_hedge_cost}
+use Rattle.tc_settle.specs.Settled.{Steps, AreUpTo, AreStarts, IsNoneDone, IsTextDone, IsWithHedge, IsReady, IsBegun}
+use Rattle.tc_settle.proofs.Kept.{kept_hedge, new_hedge_cost}
 use Rattle.tc_settle.proofs.Going.{none_done_stays}
 
 pub kept_nothing : (s : Held) (c : Closed) → s.trees ≡ 0 → s.hedges ≡ 0 → c.hedges.items ≡ [] → c.hedge_costs.items ≡ [] → c.trees.items ≡ [] → c.tree_costs.items ≡ [] → IsKept s c

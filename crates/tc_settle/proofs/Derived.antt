@@ -1,5 +1,5 @@
 -- Derivations stay while rows come on, and are bounded by what was tried.
-use Rattle.std.proofs.Common.{◌≡◌, ◌⊎◌, inl, inr, ℕ, ◌+◌, ◌<◌, ◌≤◌, sym, subst, arith}
+use Rattle.std.proofs.Common.{◌≡◌, ℕ, ◌+◌, ◌<◌, ◌≤◌, sym, subst, arith}
 use Rattle.tc_settle.specs.Held.{Held, Grows, IsNoneAt, IsTextAt, IsAppendAt, IsWrapAt, IsUnchanged}
 use Rattle.tc_settle.specs.Derived.{HedgeFrom, TreeFrom, from_none, from_append, from_text, from_wrap, AllDerive}
 use Rattle.tc_settle.specs.Closed.{IsCapped}

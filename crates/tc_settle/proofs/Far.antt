@@ -1,9 +1,9 @@
 -- What costs more than 2,000.
-use Rattle.std.proofs.Common.{◌≡◌, ◌⊎◌, inl, inr, ℕ, ◌+◌, ◌-◌, ◌<◌, ◌≤◌, List, length, slice_index, ◌∙◌, sym, subst, arith}
+use Rattle.std.proofs.Common.{◌≡◌, ◌⊎◌, inl, inr, ℕ, ◌+◌, ◌-◌, ◌<◌, ◌≤◌, List, slice_index, sym, subst, arith}
 use Rattle.tc_settle.specs.declared.closed.Closed.{Closed}
 use Rattle.tc_settle.specs.Held.{Held}
 use Rattle.tc_settle.specs.Closed.{hedge_cost, tree_cost}
-use Rattle.tc_settle.specs.Settled.{Goes, Steps, AreStarts, AreWrapsDone, AreDoneBelow, AreDoneBefore, AreRangesDone, IsAppendDone, IsFar}
+use Rattle.tc_settle.specs.Settled.{Goes, Steps, AreStarts, AreWrapsDone, AreDoneBelow, AreRangesDone, IsAppendDone, IsFar}
 use Rattle.tc_settle.proofs.Kept.{below_or_last}
 use Rattle.tc_settle.proofs.Going.{low_or_high, append_done_stays, wraps_done_stay, done_stays, goes_on, starts_stay}
 

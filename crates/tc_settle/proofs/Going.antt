@@ -1,7 +1,7 @@
 -- What is kept and was tried stays while rows come on.
-use Rattle.std.proofs.Common.{◌≡◌, ◌⊎◌, inl, inr, ℕ, suc, ◌+◌, ◌<◌, ◌≤◌, List, length, slice_index, refl, ◌∙◌, sym, subst, arith}
+use Rattle.std.proofs.Common.{◌≡◌, ◌⊎◌, inl, inr, ℕ, ◌+◌, ◌<◌, ◌≤◌, List, length, slice_index, refl, ◌∙◌, sym, subst, arith}
 use Rattle.tc_settle.specs.declared.closed.Closed.{Closed}
-use Rattle.tc_settle.specs.Held.{Held, Grows, SameRows}
+use Rattle.tc_settle.specs.Held.{Held, Grows}
 use Rattle.tc_settle.specs.Closed.{hedge_cost, tree_cost, IsCapped, IsKept}
 use Rattle.tc_settle.specs.Settled.{Goes, Steps, AreFew, AreUpTo, AreStarts, AreDoneBelow, IsNoneDone, IsAppendDone, IsWrapDone, AreWrapsDone, IsTextDone}
 use Rattle.tc_settle.proofs.Derived.{none_stays, text_stays, append_stays, wrap_stays}

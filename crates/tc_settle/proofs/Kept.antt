@@ -1,14 +1,14 @@
 -- What is kept while rows come on.
-use Rattle.std.proofs.Common.{◌≡◌, ◌⊎◌, inl, inr, ℕ, suc, ◌+◌, ◌<◌, ◌≤◌, List, [], ◌∷◌, ◌++◌, refl, ap, ◌∙◌, sym, subst, length, slice_index, slice_get, Some, arith}
+use Rattle.std.proofs.Common.{◌≡◌, ◌⊎◌, inl, inr, ℕ, suc, ◌+◌, ◌<◌, ◌≤◌, refl, ap, ◌∙◌, sym, subst, length, slice_index, slice_get, Some, arith}
 use Rattle.tc_settle.specs.declared.closed.Closed.{Closed}
 use Rattle.tc_settle.specs.declared.closed.MadeHedge.{MadeHedge}
 use Rattle.tc_settle.specs.declared.closed.MadeHedge.TheVariants as hedge
 use Rattle.tc_settle.specs.declared.closed.MadeTree.{MadeTree}
 use Rattle.tc_settle.specs.declared.closed.MadeTree.TheVariants as tree
 use Rattle.tc_settle.specs.Held.{Held, Grows, IsUnchanged}
-use Rattle.tc_settle.specs.Derived.{HedgeFrom, TreeFrom, AllDerive}
+use Rattle.tc_settle.specs.Derived.{HedgeFrom, TreeFrom}
 use Rattle.tc_settle.specs.Closed.{hedge_cost, tree_cost, IsCapped, IsHedgeMade, IsTreeMade, IsKept}
-use Rattle.tc_settle.specs.Settled.{Goes, AreUpTo, IsWithHedge, IsWithTree}
+use Rattle.tc_settle.specs.Settled.{Goes, IsWithHedge, IsWithTree}
 use Rattle.tc_settle.proofs.Derived.{none_stays, text_stays, append_stays, wrap_stays, symbol_stays, hedge_stays, tree_stays}
 use Rattle.tc_settle.proofs.Lists.{same_before, longer, last_of, kept_before, kept_last}
 

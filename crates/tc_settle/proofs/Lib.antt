@@ -2,6 +2,7 @@ pub mod Begun
 pub mod Derived
 pub mod Far
 pub mod Going
+pub mod Grown
 pub mod Kept
 pub mod AtOneCost
 pub mod Lists

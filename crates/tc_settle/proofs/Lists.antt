@@ -1,5 +1,5 @@
 -- Lists with one more at the end.
-use Rattle.std.proofs.Common.{◌≡◌, ℕ, zero, suc, ◌+◌, ◌<◌, List, [], ◌∷◌, ◌++◌, refl, ap, ◌∙◌, sym, length, get_or, slice_index, slice_get, Some, None, arith, rules, length-append}
+use Rattle.std.proofs.Common.{◌≡◌, ℕ, zero, suc, ◌+◌, ◌<◌, List, [], ◌∷◌, ◌++◌, refl, ap, ◌∙◌, length, get_or, slice_index, slice_get, Some, rules, length-append}
 use Rattle.std.proofs.Math.ListN.{get_or-append}
 
 pub same_before : (xs ys : List ℕ) (x i : ℕ) → ys ≡ xs ++ x ∷ [] → i < length xs → slice_index ys i ≡ slice_index xs i

@@ -1,18 +1,18 @@
 -- What is tried is dead, or held at no greater cost.
-use Rattle.std.proofs.Common.{◌≡◌, ◌⊎◌, inl, inr, ℕ, suc, ◌+◌, ◌<◌, ◌≤◌, refl, ◌∙◌, sym, subst, arith, rules, Option, Some, None}
+use Rattle.std.proofs.Common.{◌≡◌, ◌⊎◌, inl, inr, ℕ, suc, ◌+◌, ◌<◌, ◌≤◌, refl, ◌∙◌, sym, subst, arith, Option, Some, None}
 use Rattle.std.specs.Prelude.{MatchOption}
 use Rattle.tc_settle.specs.declared.closed.Closed.{Closed}
 use Rattle.tc_settle.specs.declared.closed.MadeHedge.TheVariants as hedge
 use Rattle.tc_settle.specs.declared.closed.MadeTree.TheVariants as tree
-use Rattle.tc_settle.specs.Held.{Held, Grows, IsHeldAs, IsUnchanged, IsAppendAt, IsWrapAt, IsTextAt, IsNoneAt}
-use Rattle.tc_settle.specs.Derived.{HedgeFrom, TreeFrom, from_append, from_wrap, from_text, AllDerive, HaveTooManyHedges, HaveTooManyTrees}
+use Rattle.tc_settle.specs.Held.{Held, Grows, IsHeldAs, IsUnchanged, IsAppendAt, IsWrapAt, IsTextAt}
+use Rattle.tc_settle.specs.Derived.{from_append, from_wrap, from_text, AllDerive}
 use Rattle.tc_settle.specs.declared.rows.HoldFault.{HoldFault}
 use Rattle.tc_settle.specs.declared.rows.HoldFault.TheVariants as hold
 use Rattle.tc_settle.specs.Faults.{close_fault}
 use Rattle.tc_settle.specs.Closed.{hedge_cost, tree_cost, IsCapped, IsCause, IsKept}
 use Rattle.tc_settle.specs.Settled.{Goes, Steps, AreFew, AreUpTo, IsWithHedge, IsWithTree, IsAppendDone, IsWrapDone, IsTextDone}
 use Rattle.tc_settle.proofs.Derived.{hedge_stays, tree_stays, capped_sum, capped_more, capped_most, all_stay}
-use Rattle.tc_settle.proofs.Kept.{below_or_last, kept_unchanged, goes_unchanged, kept_hedge, goes_hedge, new_hedge_costs, new_hedge_cost, new_hedge_trees, kept_tree, goes_tree, new_tree_costs, new_tree_cost, new_tree_hedges}
+use Rattle.tc_settle.proofs.Kept.{kept_unchanged, goes_unchanged, kept_hedge, goes_hedge, new_hedge_costs, new_hedge_cost, new_hedge_trees, kept_tree, goes_tree, new_tree_cost, new_tree_hedges}
 
 pub all_derive : (s : Held) (c : Closed) → IsKept s c → AllDerive s
 all_derive s c kept = record {

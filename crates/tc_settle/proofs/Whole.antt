@@ -1,10 +1,10 @@
 -- Where everything was tried, all that is derived is held, at its least cost.
-use Rattle.std.proofs.Common.{◌≡◌, ◌⊎◌, inl, inr, ℕ, ◌+◌, ◌<◌, ◌≤◌, List, [], ◌∷◌, length, slice_index, refl, ◌∙◌, sym, subst, arith}
+use Rattle.std.proofs.Common.{inl, inr, ℕ, ◌+◌, ◌<◌, ◌≤◌, List, sym, subst, arith}
 use Rattle.tc_settle.specs.declared.closed.Closed.{Closed}
 use Rattle.tc_settle.specs.Held.{Held, IsExact, IsNoneAt, IsTextAt, IsAppendAt, IsWrapAt}
 use Rattle.tc_settle.specs.Derived.{HedgeFrom, TreeFrom, from_none, from_append, from_text, from_wrap, IsClosed, IsCost}
 use Rattle.tc_settle.specs.Closed.{hedge_cost, tree_cost, IsCapped, IsClosure}
-use Rattle.tc_settle.specs.Settled.{AreAllDone, AreStarts, AreUpTo, IsNoneDone, IsTextDone, IsAppendDone, IsWrapDone, IsReady, IsFar, IsWhole}
+use Rattle.tc_settle.specs.Settled.{AreAllDone, IsNoneDone, IsTextDone, IsAppendDone, IsWrapDone, IsReady, IsFar, IsWhole}
 use Rattle.tc_settle.proofs.Derived.{held_hedge, held_tree}
 
 module _ (s : Held) (c : Closed) (exact : IsExact s) (done : AreAllDone s c) where

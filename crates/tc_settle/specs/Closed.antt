@@ -58,8 +58,9 @@ IsCause full most s fault.TooManyHedges = HaveTooManyHedges s most
 IsCause full most s fault.Full = full × AllDerive s
 IsCause full most s fault.NoMemory = Unit {0}
 
--- a row that fails at the least cost of all that fail
+-- the first row that fails, at the least cost of all that fail
 pub record IsFirstFailing (s : Held) (c : Closed) (k : ℕ) : Type 0 where
   pub held : k < s.trees
   pub fails : s.fails k
+  pub passed : (t : ℕ) → t < k → s.passes t
   pub least : (t : ℕ) → t < s.trees → s.fails t → tree_cost c k ≤ tree_cost c t

@@ -1,5 +1,5 @@
 -- The trees that rows are derived by: texts `t`, and elements of the names that stand for their symbols.
-use Rattle.std.specs.Prelude.{◌≡◌, ◌<◌, ◌≤◌, ℕ, List, codes}
+use Rattle.std.specs.Prelude.{◌≡◌, ◌<◌, ℕ, List, codes}
 use Rattle.tc_model.specs.Trees.{Trees, none, node_count}
 use Rattle.tc_model.specs.Chains.{Tree, an_element, a_text}
 use Rattle.tc_model.specs.TreesApart.{alone, followed_by}

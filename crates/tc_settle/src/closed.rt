@@ -1,5 +1,5 @@
 // What is kept of rows: what each is made of, and its cost.
-ghost use Rattle.std.specs.Prelude.{◌≡◌, ◌<◌, ◌≤◌, ◌+◌, ℕ, OnOk, [], ◌∷◌, ◌++◌, length, slice_index};
+ghost use Rattle.std.specs.Prelude.{◌≡◌, ◌<◌, ◌≤◌, ◌+◌, ℕ, OnOk, [], ◌∷◌, ◌++◌, length, slice_get, slice_index, MatchOption, Some};
 ghost use Rattle.tc_settle.specs.Closed.{hedge_cost, tree_cost};
 ghost use Rattle.tc_settle.specs.Settled.{IsInOrder, IsWithHedge, IsWithTree};
 
@@ -115,6 +115,17 @@ impl Closed {
         ensures { result ≡ length self.now.tree_costs.items }
     {
         self.tree_costs.len() as u32
+    }
+
+    /// The list of trees and the tree behind of which a list is made; none for the list of no tree.
+    pub(crate) fn appended(&self, hedge: u32) -> Option<(u32, u32)>
+        requires { hedge < length self.now.hedges.items }
+        ensures { MatchOption result (slice_get self.now.hedges.items hedge ≡ Some MadeHedge.None) (λ p. slice_get self.now.hedges.items hedge ≡ Some (MadeHedge.Append p.0 p.1)) }
+    {
+        match self.hedges[hedge as usize] {
+            MadeHedge::None => None,
+            MadeHedge::Append(front, tree) => Some((front, tree)),
+        }
     }
 
     /// A cost that nothing passes that is made of what there is.

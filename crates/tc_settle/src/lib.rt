@@ -2,13 +2,17 @@
 //! lists with one more tree behind, each at its least cost.
 #![tactic(auto)]
 
+mod building;
 mod closed;
+mod failing;
 mod levels;
 mod rows;
 mod runs;
 mod settling;
 mod trying;
 
+pub use building::{BuildFault, build};
 pub use closed::{CloseFault, Closed, MadeHedge, MadeTree};
+pub use failing::first_failing;
 pub use rows::{HoldFault, NumberedRows};
 pub use settling::close;

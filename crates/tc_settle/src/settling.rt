@@ -29,11 +29,7 @@ pub fn close<R: NumberedRows>(alloc: Global, rows: &mut R, most: u32) -> Result<
 }
 
 /// The list of no tree.
-fn find_none<R: NumberedRows>(
-    alloc: Global,
-    rows: &mut R,
-    most: u32,
-) -> Result<Closed, CloseFault>
+fn find_none<R: NumberedRows>(alloc: Global, rows: &mut R, most: u32) -> Result<Closed, CloseFault>
     requires trees { (R.held rows.old).trees ≡ 0 }
     requires hedges { (R.held rows.old).hedges ≡ 0 }
     ensures kept { IfOk result (λ c. IsKept (R.held rows.new) c) }

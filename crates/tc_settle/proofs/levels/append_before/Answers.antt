@@ -1,4 +1,4 @@
-use Rattle.std.proofs.Common.{◌<◌, ◌≤◌, ◌∙◌, arith}
+use Rattle.std.proofs.Common.{◌∙◌, arith}
 use Rattle.tc_settle.proofs.Going.{steps_twice}
 use Rattle.tc_settle.proofs.Far.{next_ranges}
 use Rattle.tc_settle.proofs.levels.append_before.Goals as goal

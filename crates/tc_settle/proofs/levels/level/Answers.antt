@@ -1,4 +1,4 @@
-use Rattle.std.proofs.Common.{◌≡◌, ◌<◌, ◌≤◌, ◌+◌, ℕ, [], ◌∷◌, ◌++◌, ap, ◌∙◌, sym, subst, arith}
+use Rattle.std.proofs.Common.{◌≡◌, ◌+◌, [], ◌∷◌, ◌++◌, ap, ◌∙◌, sym, subst, arith}
 use Rattle.tc_settle.specs.Settled.{AreSumsDone, IsReady}
 use Rattle.tc_settle.proofs.AtOneCost.{ready_next}
 use Rattle.tc_settle.proofs.levels.level.Goals as goal

@@ -1,4 +1,4 @@
-use Rattle.std.proofs.Common.{◌≡◌, ◌<◌, ◌≤◌, ℕ}
+use Rattle.std.proofs.Common.{◌≡◌}
 use Rattle.tc_settle.specs.Settled.{AreSumsDone, Steps}
 use Rattle.tc_settle.proofs.runs.append_level.Given as goal
 

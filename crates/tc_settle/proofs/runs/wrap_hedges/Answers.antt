@@ -1,4 +1,4 @@
-use Rattle.std.proofs.Common.{◌≡◌, ◌<◌, ◌≤◌, ◌+◌, ℕ, inl, inr, ◌∙◌, sym, subst, arith}
+use Rattle.std.proofs.Common.{◌+◌, inl, inr, ◌∙◌, sym, subst, arith}
 use Rattle.tc_settle.specs.Settled.{AreWrapsDone}
 use Rattle.tc_settle.proofs.Kept.{below_or_last}
 use Rattle.tc_settle.proofs.Going.{steps_nothing, steps_twice, wraps_done_stay, more_capped}

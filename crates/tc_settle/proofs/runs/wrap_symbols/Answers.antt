@@ -1,4 +1,4 @@
-use Rattle.std.proofs.Common.{◌≡◌, ◌<◌, ◌≤◌, ◌+◌, ℕ, inl, inr, ◌∙◌, sym, subst, arith}
+use Rattle.std.proofs.Common.{◌+◌, inl, inr, ◌∙◌, sym, subst, arith}
 use Rattle.tc_settle.specs.Settled.{IsWrapDone}
 use Rattle.tc_settle.proofs.Kept.{below_or_last}
 use Rattle.tc_settle.proofs.Going.{steps_twice, wrap_done_stays}

@@ -1,4 +1,4 @@
-use Rattle.std.proofs.Common.{◌≡◌, ◌<◌, ◌≤◌, ℕ}
+use Rattle.std.proofs.Common.{◌≡◌, ◌<◌, ℕ}
 use Rattle.tc_settle.specs.Settled.{IsWrapDone, Steps}
 use Rattle.tc_settle.proofs.runs.wrap_symbols.Given as goal
 

@@ -1,4 +1,4 @@
-use Rattle.std.proofs.Common.{◌≡◌, ◌<◌, ◌≤◌, arith}
+use Rattle.std.proofs.Common.{arith}
 use Rattle.tc_settle.proofs.Begun.{kept_nothing, begun_kept, begun_hedges}
 use Rattle.tc_settle.proofs.Tried.{all_derive}
 use Rattle.tc_settle.proofs.settling.find_none.Goals as goal

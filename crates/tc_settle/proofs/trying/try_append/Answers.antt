@@ -1,6 +1,4 @@
-use Rattle.std.proofs.Common.{rules, ◌≡◌, ◌<◌, ◌≤◌, ◌+◌, ℕ, suc, ◌∙◌, sym, subst, arith}
-use Rattle.tc_settle.specs.Closed.{IsCause}
-use Rattle.tc_settle.specs.Faults.{close_fault}
+use Rattle.std.proofs.Common.{rules, ◌≡◌, subst, arith}
 use Rattle.tc_settle.specs.Held.{IsHeldAs, IsUnchanged, IsAppendAt}
 use Rattle.tc_settle.proofs.Tried.{all_derive, at_none, at_some, is_new, is_known, fault_cause, steps_unchanged, append_kept, append_steps}
 use Rattle.tc_settle.proofs.trying.try_append.Goals as goal
