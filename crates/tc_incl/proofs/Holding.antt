@@ -1,5 +1,5 @@
 -- What holds of rows that are held goes on holding where one comes on, and of what it is made.
-use Rattle.std.proofs.Common.{◌≡◌, ◌<◌, ◌≤◌, ◌⊎◌, inl, inr, ◌+◌, ◌++◌, ◌∷◌, [], ℕ, suc, List, length, get_or, map, slice_get, Some, All, subst, sym, ap, ◌∙◌, refl, arith, append-nil, length-append, false}
+use Rattle.std.proofs.Common.{◌≡◌, ◌<◌, ◌≤◌, ◌⊎◌, inl, inr, ◌+◌, ◌++◌, ◌∷◌, [], ℕ, zero, suc, List, length, get_or, map, slice_get, Some, All, subst, sym, ap, ◌∙◌, refl, arith, append-nil, length-append, false}
 use Rattle.std.proofs.lemmas.List.{length-map, get_or-map, map-append}
 use Rattle.std.proofs.lemmas.List.Elements.{All-same, All-push, All-get_or}
 use Rattle.std.proofs.lemmas.Option.{get_or_from_slice_get, slice_get_within, slice_get-get_or}
@@ -63,7 +63,7 @@ module _ (form : SetsHaveOneForm) (b : Both) where
     where
       some : (ys : List Row) (k : ℕ) → k < length ys → (r : Row) × (slice_get ys k ≡ Some r)
       some [] k l = absurd (omega (arith, l))
-      some (r ∷ ys) 0 l = (r, refl)
+      some (r ∷ ys) zero l = (r, refl)
       some (r ∷ ys) (suc k) l = some ys k (omega (arith, l))
 
       fit : (k : ℕ) (r : Row) → slice_get xs k ≡ Some r → P r
@@ -125,7 +125,7 @@ module _ (IsOf : Schemas → Type 0) (b : Both) (hs ts : List Row) (held : AreHe
       where
         front : (xs ys : List Row) (i : ℕ) (q : Row) → slice_get xs i ≡ Some q → slice_get (xs ++ ys) i ≡ Some q
         front [] ys i q e = absurd (cc)
-        front (x ∷ xs) ys 0 q e = e
+        front (x ∷ xs) ys zero q e = e
         front (x ∷ xs) ys (suc i) q e = front xs ys i q e
 
     pub none_at : IsNone b r → IsNoneAt (held_of IsOf with_hedge) u
@@ -208,3 +208,41 @@ hedge_fit_at b hs h p at all = subst (IsHedgeFit b) (get_or_from_slice_get hs h 
 
 pub tree_fit_at : (b : Both) (ts : List Row) (t : ℕ) (q : Row) → slice_get ts t ≡ Some q → All (IsTreeFit b) ts → IsTreeFit b q
 tree_fit_at b ts t q at all = subst (IsTreeFit b) (get_or_from_slice_get ts t q q at) (All-get_or (IsTreeFit b) ts t q (slice_get_within ts t q at) all)
+
+-- the same, told of the state that was seen before
+module _ (IsOf : Schemas → Type 0) (b : Both) (hs ts : List Row) (held : AreHeld IsOf b hs ts) (now : State) (seen : state_of b hs ts ≡ now) where
+  abbrev GrowsTo : State → Type 0
+  GrowsTo s = Grows (held_of IsOf now) (held_of IsOf s)
+
+  from_now : (s : State) → Grows (held_of IsOf (state_of b hs ts)) (held_of IsOf s) → GrowsTo s
+  from_now s g = subst (λ w. Grows (held_of IsOf w) (held_of IsOf s)) seen g
+
+  pub same_trees : (ks : List Row) → ks ≡ ts → GrowsTo (state_of b hs ks)
+  same_trees ks e = subst (λ l. GrowsTo (state_of b hs l)) (sym e) (from_now (state_of b hs ts) (same_grows IsOf b hs ts held))
+
+  pub same_hedges : (ks : List Row) → ks ≡ hs → GrowsTo (state_of b ks ts)
+  same_hedges ks e = subst (λ l. GrowsTo (state_of b l ts)) (sym e) (from_now (state_of b hs ts) (same_grows IsOf b hs ts held))
+
+  module _ (ks : List Row) (u : ℕ) (r : Row) (at : slice_get ks u ≡ Some r) where
+    pub more_hedges : ((u < length hs) × (ks ≡ hs)) ⊎ ((u ≡ length hs) × (ks ≡ hs ++ r ∷ [])) → GrowsTo (state_of b ks ts)
+    more_hedges kept = from_now (state_of b ks ts) (hedge_grows IsOf b hs ts held ks u r at kept)
+
+    pub more_trees : ((u < length ts) × (ks ≡ ts)) ⊎ ((u ≡ length ts) × (ks ≡ ts ++ r ∷ [])) → GrowsTo (state_of b hs ks)
+    more_trees kept = from_now (state_of b hs ks) (tree_grows IsOf b hs ts held ks u r at kept)
+
+    pub as_hedge : ((u < length hs) × (ks ≡ hs)) ⊎ ((u ≡ length hs) × (ks ≡ hs ++ r ∷ [])) → IsHeldAs (length now.hedges) (length (map hedge_row ks)) u
+    as_hedge kept = subst (λ (s : State). IsHeldAs (length s.hedges) (length (map hedge_row ks)) u) seen (hedge_as IsOf b hs ts held ks u r at kept)
+
+    pub as_tree : ((u < length ts) × (ks ≡ ts)) ⊎ ((u ≡ length ts) × (ks ≡ ts ++ r ∷ [])) → IsHeldAs (length now.trees) (length (map tree_row ks)) u
+    as_tree kept = subst (λ (s : State). IsHeldAs (length s.trees) (length (map tree_row ks)) u) seen (tree_as IsOf b hs ts held ks u r at kept)
+
+  -- a number of a row that is held
+  pub hedge_low : (h : ℕ) → h < length now.hedges → h < length hs
+  hedge_low h l = subst (λ n. h < n) (length-map hs hedge_row) (subst (λ (s : State). h < length s.hedges) (sym seen) l)
+
+  pub tree_low : (t : ℕ) → t < length now.trees → t < length ts
+  tree_low t l = subst (λ n. t < n) (length-map ts tree_row) (subst (λ (s : State). t < length s.trees) (sym seen) l)
+
+-- a row that is lent is one of those that are held
+pub row_of : (hs ks : List Row) (i : ℕ) (p : Row) → ks ≡ hs → p ≡ get_or ks i p → i < length hs → slice_get hs i ≡ Some p
+row_of hs ks i p same is low = slice_get-get_or hs i p low ∙ ap Some (sym (is ∙ ap (λ l. get_or l i p) same))

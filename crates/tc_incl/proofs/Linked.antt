@@ -20,7 +20,7 @@ use Rattle.tc_incl.proofs.One.{are_one}
 
 -- within a list the default doesn't matter
 pub at_any : {X : Type 0} (xs : List X) (c : X) (u : ℕ) (d : X) → u < length xs → get_or xs u c ≡ get_or xs u d
-at_any xs c u d l = sym (get_or_from_slice_get xs u (get_or xs u d) c (slice_get-get_or xs u d l))
+at_any xs c u d l = get_or_from_slice_get xs u (get_or xs u d) c (slice_get-get_or xs u d l)
 
 -- no two places hold one row
 apart : {X : Type 0} (xs : List X) (d : X) → AreDifferent xs → (i j : ℕ) → i < length xs → j < length xs → get_or xs i d ≡ get_or xs j d → i ≡ j

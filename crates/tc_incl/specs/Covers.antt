@@ -1,6 +1,9 @@
 -- Rows that are held by their numbers, over schemas, and what is made of them.
 use Rattle.std.specs.Prelude.{◌≡◌, ◌<◌, ℕ, List, [], length, get_or, map, false, All}
-use Rattle.tc_model.specs.Symbols.{symbol_count}
+use Rattle.tc_auto.specs.Stands as a
+use Rattle.tc_auto.specs.declared.auto.Auto.{Auto}
+use Rattle.tc_model.specs.States.{input}
+use Rattle.tc_model.specs.Symbols.{Mention, symbol_count}
 use Rattle.tc_rows.specs.Counts.{AreDifferent}
 use Rattle.tc_settle.specs.Held.{Held}
 use Rattle.tc_incl.specs.declared.rows.Row.{Row}
@@ -9,6 +12,13 @@ use Rattle.tc_incl.specs.Schemas.{Schemas, AreSchemas}
 use Rattle.tc_incl.specs.Rows.{HedgeRow, TreeRow}
 use Rattle.tc_incl.specs.Arithmetic.{IsEmptyRow, IsTextRow, IsTextLive, IsAppend, IsLiveAppend, IsWrap, IsLiveWrap, IsFailing}
 use Rattle.tc_incl.specs.Held.{hedge_row, tree_row, AreTold, IsHedgeFit, IsTreeFit}
+
+-- the automata of the contents of two schemas, and their symbols
+pub record AreOf (one other : Auto) (mentions : List Mention) (x : Schemas) : Type 0 where
+  pub are : AreSchemas x
+  pub first : a.Stands input x.first one
+  pub second : a.Stands input x.second other
+  pub symbols : mentions ≡ x.symbols
 
 pub record State : Type 0 where
   -- how many symbols there are

@@ -31,8 +31,7 @@ impl<'c, 'g, K: Over> Model for Covers<'c, 'g, K> {
 
 impl<'c, 'g, K: Over> Covers<'c, 'g, K> {
     ghost use Rattle.std.specs.Prelude.{◌≡◌, ◌<◌, ◌≤◌, [], length, IfOk, MatchBool};
-    ghost use Rattle.tc_incl.specs.Answers.{AreOf};
-    ghost use Rattle.tc_incl.specs.Covers.{Known, held_of};
+    ghost use Rattle.tc_incl.specs.Covers.{AreOf, Known, held_of};
     ghost use Rattle.tc_incl.specs.Schemas.{Schemas};
 
     /// No rows.
@@ -59,7 +58,9 @@ impl<'c, 'g, K: Over> Covers<'c, 'g, K> {
     /// What holds of all that is held.
     pub(crate) fn see(&self)
         ensures known { Known K.is_of self.now }
-    {}
+    {
+        let _ = &self.both;
+    }
 
     /// How many rows of lists of trees are held.
     pub(crate) fn hedge_count(&self) -> u32

@@ -6,10 +6,10 @@
 
 mod both;
 mod covers;
-mod included;
+mod inclusion;
 pub mod laws;
 mod over;
 mod rows;
 mod sides;
 
-pub use included::{Cover, InclFault, included};
+pub use inclusion::{Cover, InclFault, included};

@@ -134,6 +134,7 @@ impl<'c, 'b> Side<'c, 'b> {
         for before in 0..self.auto.patterns() {
             states.add(self.auto.first(before + 1));
         }
+        let _size = states.size();
         Ok(states)
     }
 
@@ -163,6 +164,7 @@ impl<'c, 'b> Side<'c, 'b> {
     {
         let mut next = Set::empty(self.alloc, self.auto.states())?;
         put_ends(self.auto.text_arrows(), states, &mut next);
+        let _size = next.size();
         Ok(next)
     }
 
@@ -180,6 +182,7 @@ impl<'c, 'b> Side<'c, 'b> {
                 put_ends(self.auto.arrows(before + 1), states, &mut next);
             }
         }
+        let _size = next.size();
         Ok(next)
     }
 
@@ -231,6 +234,7 @@ impl<'c, 'b> Side<'c, 'b> {
                 around.add(before + 1);
             }
         }
+        let _size = around.size();
         Ok(around)
     }
 

@@ -58,4 +58,4 @@ pub returns-clause-from_one : goal.returns-clause-from_one
 returns-clause-from_one c = c.loop-before.invariant.1
 
 pub returns-clause-set : goal.returns-clause-set
-returns-clause-set c = ?
+returns-clause-set c = c.size-size.ensures.set

@@ -18,4 +18,4 @@ returns-clause-numbers c = λ x st j.
     subst (λ n. Has c.loop-before.states j ↔ IsBegun x n j) count (c.loop-before.invariant.1 x st j)
 
 pub returns-clause-set : goal.returns-clause-set
-returns-clause-set c = ?
+returns-clause-set c = c.size-size.ensures.set

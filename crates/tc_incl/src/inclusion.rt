@@ -1,7 +1,7 @@
 // Whether one schema is included in another, and a least difference where it isn't.
 ghost use Rattle.std.specs.Prelude.{◌≡◌, ◌<◌, ◌≤◌, IfOk, IfErr, MatchOption};
-ghost use Rattle.tc_incl.specs.Answers.{AreOf, IsAnswer, IsCause};
-ghost use Rattle.tc_incl.specs.Covers.{held_of, IsFirstFailing, PassBefore};
+ghost use Rattle.tc_incl.specs.Answers.{IsAnswer, IsCause};
+ghost use Rattle.tc_incl.specs.Covers.{AreOf, IsFirstFailing, PassBefore, held_of};
 ghost use Rattle.tc_incl.specs.Schemas.{Schemas};
 ghost use Rattle.tc_settle.specs.Closed as settled;
 
@@ -40,7 +40,7 @@ pub enum InclFault {
 }
 
 impl From<NoMemory> for InclFault {
-    ghost use Rattle.tc_incl.specs.declared.included.InclFault.TheVariants.{NoMemory};
+    ghost use Rattle.tc_incl.specs.declared.inclusion.InclFault.TheVariants.{NoMemory};
 
     ghost from_gives = { λ _ e. e ≡ NoMemory };
 
