@@ -1,7 +1,6 @@
 -- What all rows tell: the counts, inclusion, and least differences.
-use Rattle.std.proofs.Common.{◌≡◌, ◌<◌, ◌≤◌, ◌⊎◌, inl, inr, ◌+◌, ℕ, List, length, refl, ap, ◌∙◌, sym, subst, arith}
+use Rattle.std.proofs.Common.{◌≡◌, ◌<◌, ◌≤◌, ◌⊎◌, inl, inr, ◌+◌, ℕ, length, ap, ◌∙◌, sym, subst, arith}
 use Rattle.tc_model.specs.Trees.{Trees, node_count}
-use Rattle.tc_model.specs.Chains.{Tree}
 use Rattle.tc_model.specs.TreesApart.{alone}
 use Rattle.tc_rows.specs.Counts.{Counts, Pass}
 use Rattle.tc_rows.specs.CountLaws.{CountsTell}
@@ -12,18 +11,18 @@ use Rattle.tc_settle.specs.Derived as number
 use Rattle.tc_settle.specs.Derived.{IsClosed, AllDerive, IsCost}
 use Rattle.tc_settle.specs.Made.{IsOneMade}
 use Rattle.tc_incl.specs.Schemas.{Schemas, AreSchemas, IsIncluded, IsDifference, IsLeastDifference}
-use Rattle.tc_incl.specs.Rows.{HedgeRow, TreeRow}
+use Rattle.tc_incl.specs.Rows.{TreeRow}
 use Rattle.tc_incl.specs.Arithmetic.{IsFailing}
 use Rattle.tc_incl.specs.Laws.{RowLaws}
 use Rattle.tc_incl.specs.Derivations as row
 use Rattle.tc_incl.specs.Derivations.{AreExact, IsLeastFailing, ArePlain}
 use Rattle.tc_incl.specs.Counts.{IsRowOfLiveTree, IsRowOfLiveHedge, ListsTell, SomePass}
-use Rattle.tc_incl.specs.Covers.{State, hedge_at, tree_at, held_of, Known, PassBefore, IsFirstFailing}
+use Rattle.tc_incl.specs.Covers.{State, tree_at, held_of, Known, PassBefore, IsFirstFailing}
 use Rattle.tc_incl.specs.Answers.{KeepsCounts, IsIncludedWith, IsLeastPlain, IsFarDifferent}
 use Rattle.tc_incl.proofs.AllLaws.{rows_are_lawful}
 use Rattle.tc_incl.proofs.Derived.{derivations_are_exact}
 use Rattle.tc_incl.proofs.Counting.{covers_are_counted}
-use Rattle.tc_incl.proofs.Linked.{hedge_from, tree_from, tree_number, hedge_comes, tree_comes, are_closed}
+use Rattle.tc_incl.proofs.Linked.{tree_from, tree_number, hedge_comes, tree_comes, are_closed}
 use Rattle.tc_incl.proofs.Planted.{tree_is}
 
 low_or_high : (i n : ℕ) → (i < n) ⊎ (n ≤ i)

@@ -1,17 +1,17 @@
 -- What holds of rows that are held goes on holding where one comes on, and of what it is made.
-use Rattle.std.proofs.Common.{◌≡◌, ◌<◌, ◌≤◌, ◌⊎◌, inl, inr, ◌+◌, ◌++◌, ◌∷◌, [], ℕ, zero, suc, List, length, get_or, map, slice_get, Some, All, subst, sym, ap, ◌∙◌, refl, arith, append-nil, length-append, false}
+use Rattle.std.proofs.Common.{◌≡◌, ◌<◌, ◌⊎◌, inl, inr, ◌++◌, ◌∷◌, [], ℕ, zero, suc, List, length, get_or, map, slice_get, Some, All, subst, sym, ap, ◌∙◌, refl, arith, append-nil, length-append}
 use Rattle.std.proofs.lemmas.List.{length-map, get_or-map, map-append}
 use Rattle.std.proofs.lemmas.List.Elements.{All-same, All-push, All-get_or}
 use Rattle.std.proofs.lemmas.Option.{get_or_from_slice_get, slice_get_within, slice_get-get_or}
 use Rattle.tc_rows.specs.Counts.{AreDifferent}
 use Rattle.tc_sets.specs.Numbers.{SetsHaveOneForm}
-use Rattle.tc_settle.specs.Held.{Held, Grows, IsHeldAs, IsNoneAt, IsTextAt, IsAppendAt, IsWrapAt}
+use Rattle.tc_settle.specs.Held.{Grows, IsHeldAs, IsNoneAt, IsTextAt, IsAppendAt, IsWrapAt}
 use Rattle.tc_incl.specs.declared.rows.Row.{Row}
 use Rattle.tc_incl.specs.declared.both.Both.{Both}
 use Rattle.tc_incl.specs.Schemas.{Schemas}
 use Rattle.tc_incl.specs.Rows.{HedgeRow, TreeRow}
 use Rattle.tc_incl.specs.Arithmetic.{IsEmptyRow, IsTextRow, IsTextLive, IsAppend, IsLiveAppend, IsWrap, IsLiveWrap, IsFailing}
-use Rattle.tc_incl.specs.Held.{hedge_row, tree_row, AreTold, IsHedgeFit, IsTreeFit, IsNone, IsText, NoText, IsAppended, NoAppended, IsWrapped, NoWrapped, Fails, Passes}
+use Rattle.tc_incl.specs.Held.{hedge_row, tree_row, IsHedgeFit, IsTreeFit, IsNone, IsText, NoText, IsAppended, NoAppended, IsWrapped, NoWrapped, Fails, Passes}
 use Rattle.tc_incl.specs.Covers.{State, no_hedge, no_tree, hedge_at, tree_at, held_of, Known, state_of, AreHeld}
 use Rattle.tc_incl.proofs.Listed.{members_one}
 use Rattle.tc_incl.proofs.Linked.{grows}

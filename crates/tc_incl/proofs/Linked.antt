@@ -1,21 +1,21 @@
 -- Numbers come from numbers as the rows that they stand for come from rows, at the same costs.
-use Rattle.std.proofs.Common.{◌≡◌, ◌<◌, ◌⊎◌, inl, inr, ◌+◌, ◌++◌, [], ℕ, suc, List, length, get_or, slice_get, Some, subst, sym, ap, ◌∙◌, refl, Contains, arith, length-append}
+use Rattle.std.proofs.Common.{◌≡◌, ◌<◌, inl, inr, ◌+◌, ◌++◌, ℕ, List, length, get_or, Some, subst, sym, ap, ◌∙◌, Contains, arith, length-append}
 use Rattle.std.proofs.Math.ListN.{get_or-append}
 use Rattle.std.proofs.lemmas.List.Elements.{Contains-get_or}
 use Rattle.std.proofs.lemmas.Option.{slice_get-get_or, get_or_from_slice_get}
 use Rattle.tc_model.specs.Symbols.{symbol_count}
 use Rattle.tc_rows.specs.Counts.{AreDifferent}
-use Rattle.tc_settle.specs.Held.{Held, IsExact, Grows}
+use Rattle.tc_settle.specs.Held.{IsExact, Grows}
 use Rattle.tc_settle.specs.Derived as number
 use Rattle.tc_settle.specs.Derived.{IsClosed, AllDerive}
 use Rattle.tc_incl.specs.Schemas.{Schemas}
 use Rattle.tc_incl.specs.Rows.{HedgeRow, TreeRow}
-use Rattle.tc_incl.specs.Arithmetic.{IsEmptyRow, IsTextRow, IsTextLive, IsAppend, IsLiveAppend, IsWrap, IsLiveWrap, IsFailing}
+use Rattle.tc_incl.specs.Arithmetic.{IsEmptyRow, IsTextRow, IsAppend, IsLiveAppend, IsWrap, IsLiveWrap, IsFailing}
 use Rattle.tc_incl.specs.Laws.{AreOne}
 use Rattle.tc_incl.specs.Derivations as row
 use Rattle.tc_incl.specs.Derivations.{from_none, from_append, from_text, from_wrap}
 use Rattle.tc_incl.specs.Counts.{AreClosed}
-use Rattle.tc_incl.specs.Covers.{State, no_hedge, no_tree, hedge_at, tree_at, Each, held_of, Known}
+use Rattle.tc_incl.specs.Covers.{State, no_hedge, no_tree, hedge_at, tree_at, held_of, Known}
 use Rattle.tc_incl.proofs.One.{are_one}
 
 -- within a list the default doesn't matter

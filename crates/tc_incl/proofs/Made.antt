@@ -1,5 +1,5 @@
 -- Rows that are made of rows, by the sets that tell them.
-use Rattle.std.proofs.Common.{◌≡◌, ◌↔◌, ◌⊎◌, inl, inr, ℕ, ◌+◌, ◌<◌, ◌≤◌, List, [], ◌∷◌, length, Bool, true, false, ◌&&◌, not, MatchBool, refl, ap, ◌∙◌, sym, subst, Contains, All, IsTrue, arith}
+use Rattle.std.proofs.Common.{◌≡◌, ◌↔◌, ◌⊎◌, inl, inr, ℕ, ◌+◌, ◌<◌, ◌≤◌, List, [], ◌∷◌, length, Bool, true, false, ◌&&◌, refl, ◌∙◌, sym, subst, Contains, All, arith}
 use Rattle.std.proofs.lemmas.Bool.{true≢false}
 use Rattle.std.proofs.lemmas.Option.{same_Some}
 use Rattle.std.proofs.lemmas.List.Elements.{All-contains}
@@ -15,12 +15,11 @@ use Rattle.tc_incl.specs.declared.rows.Row.{Row}
 use Rattle.tc_incl.specs.declared.both.Both.{Both}
 use Rattle.tc_incl.specs.Schemas.{Schemas}
 use Rattle.tc_incl.specs.Rows.{AreStates, ArePatterns}
-use Rattle.tc_incl.specs.Arithmetic.{TreeLeads, AreBegun, AreNext, IsPatternAround, AreAround, is_start, IsLiveAppend, IsFailing}
+use Rattle.tc_incl.specs.Arithmetic.{TreeLeads, AreBegun, AreNext, IsPatternAround, AreAround}
 use Rattle.tc_incl.specs.Sets.{members}
-use Rattle.tc_incl.specs.Sides.{IsAllowed, AreAllowed, IsBegun, IsTaken, IsAfterText, IsAfterElement, IsAfter}
-use Rattle.tc_incl.specs.Held.{AreTold, IsHedgeFit, IsTreeFit, hedge_row, tree_row, IsNone, IsText, NoText, IsAppended, NoAppended, IsWrapped, NoWrapped, Fails, Passes}
+use Rattle.tc_incl.specs.Sides.{IsAllowed, AreAllowed, IsBegun, IsTaken, IsAfter}
+use Rattle.tc_incl.specs.Held.{AreTold, IsHedgeFit, IsTreeFit, IsText, IsAppended, NoAppended, IsWrapped, NoWrapped}
 use Rattle.tc_incl.proofs.Listed.{members_rise, members_have, members_below}
-use Rattle.tc_rows.proofs.Inside.{number_within}
 
 module _ (g : Grammar) (auto : Auto) (st : a.Stands input g auto) where
   -- members of sets of states and of element patterns

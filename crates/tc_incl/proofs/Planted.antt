@@ -1,5 +1,5 @@
 -- The trees that rows are derived by are plain and live, and of these rows.
-use Rattle.std.proofs.Common.{◌≡◌, ◌<◌, ℕ, List, refl, ap, sym, subst, codes}
+use Rattle.std.proofs.Common.{◌<◌, ℕ, refl, ap, sym, subst, codes}
 use Rattle.tc_model.specs.Trees.{Trees, none, text, element, beside, IsNormal}
 use Rattle.tc_model.specs.Chains.{Tree}
 use Rattle.tc_model.specs.TreesApart.{alone}

@@ -1,5 +1,5 @@
 -- What is answered of two schemas: that the first is included in the second, with how many rows there are; or a least difference; and why nothing is told.
-use Rattle.std.specs.Prelude.{◌≡◌, ◌<◌, ◌≤◌, ℕ}
+use Rattle.std.specs.Prelude.{◌<◌, ◌≤◌, ℕ}
 use Rattle.tc_model.specs.Trees.{Trees, none, node_count}
 use Rattle.tc_model.specs.Views.{before}
 use Rattle.tc_rows.specs.Counts.{Counts, Pass}

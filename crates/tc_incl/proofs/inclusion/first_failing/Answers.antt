@@ -1,5 +1,4 @@
-use Rattle.std.proofs.Common.{◌≡◌, ◌<◌, ℕ, subst, sym, arith, MatchBool}
-use Rattle.tc_settle.specs.Held.{Held}
+use Rattle.std.proofs.Common.{subst, arith, MatchBool}
 use Rattle.tc_incl.specs.Covers.{held_of}
 use Rattle.tc_incl.proofs.inclusion.first_failing.Goals as goal
 

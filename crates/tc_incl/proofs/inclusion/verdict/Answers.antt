@@ -1,4 +1,4 @@
-use Rattle.std.proofs.Common.{◌≡◌, ℕ, subst, ap, ◌∙◌, Err}
+use Rattle.std.proofs.Common.{subst, ap, ◌∙◌, Err}
 use Rattle.tc_model.specs.Trees.{none}
 use Rattle.tc_model.specs.Views.{before}
 use Rattle.tc_settle.specs.Closed.{tree_cost}

@@ -1,4 +1,4 @@
-use Rattle.std.proofs.Common.{◌≡◌, ◌∙◌, sym, true, false, ◌&&◌}
+use Rattle.std.proofs.Common.{◌≡◌, false, ◌&&◌}
 use Rattle.tc_incl.proofs.Made.{dead_append, appended_fit, is_appended, some_number, and_first, and_second}
 use Rattle.tc_incl.proofs.both.Both.appended.Goals.{else-hedge-via-then-hedge+else-tree, else-hedge-via-else-hedge}
 use Rattle.tc_incl.proofs.both.Both.appended.Goals as goal
@@ -20,8 +20,8 @@ returns c =
     record {
       made = (
         appended_fit c.args.self.now c.args.hedge.now c.args.tree.now c.requires.hedge c.requires.tree c.in_ok-first.first c.in_ok-first.ensures.set c.in_ok-first.ensures.size c.in_ok-first.ensures.numbers c.args.self.now.first.ended
-        c.in_ok-second.second c.in_ok-second.ensures.set c.in_ok-second.ensures.size c.in_ok-second.ensures.numbers c.args.self.now.second.ended,
+            c.in_ok-second.second c.in_ok-second.ensures.set c.in_ok-second.ensures.size c.in_ok-second.ensures.numbers c.args.self.now.second.ended,
         is_appended c.args.self.now c.args.hedge.now c.args.tree.now c.requires.hedge c.requires.tree c.in_ok-first.first c.in_ok-first.ensures.set c.in_ok-first.ensures.size c.in_ok-first.ensures.numbers c.args.self.now.first.ended
-        c.in_ok-second.second c.in_ok-second.ensures.set c.in_ok-second.ensures.size c.in_ok-second.ensures.numbers c.args.self.now.second.ended apart j some,
+            c.in_ok-second.second c.in_ok-second.ensures.set c.in_ok-second.ensures.size c.in_ok-second.ensures.numbers c.args.self.now.second.ended apart j some,
       );
     }

@@ -1,8 +1,8 @@
-use Rattle.std.proofs.Common.{◌≡◌, ◌∙◌, ap, sym, subst}
+use Rattle.std.proofs.Common.{◌∙◌, ap, sym, subst}
 use Rattle.tc_auto.specs.Stands as a
 use Rattle.tc_auto.specs.declared.auto.Auto.{Auto}
 use Rattle.tc_model.specs.States.{input}
-use Rattle.tc_model.specs.Symbols.{Mention, symbol_count}
+use Rattle.tc_model.specs.Symbols.{symbol_count}
 use Rattle.tc_incl.specs.Sides.{AreAllowed}
 use Rattle.tc_incl.proofs.both.Both.of.Goals as goal
 

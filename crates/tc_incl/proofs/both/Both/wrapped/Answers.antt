@@ -12,8 +12,8 @@ returns c =
     record {
       made = (
         wrapped_fit c.args.self.now c.args.symbol c.args.hedge.now c.requires.hedge c.in_ok-first.first c.in_ok-first.ensures.set c.in_ok-first.ensures.size c.in_ok-first.ensures.numbers c.args.self.now.first.ended c.in_ok-first.ensures.from_one
-        c.in_ok-second.second c.in_ok-second.ensures.set c.in_ok-second.ensures.size c.in_ok-second.ensures.from_one c.in_ok-second.ensures.numbers c.args.self.now.second.ended,
+            c.in_ok-second.second c.in_ok-second.ensures.set c.in_ok-second.ensures.size c.in_ok-second.ensures.from_one c.in_ok-second.ensures.numbers c.args.self.now.second.ended,
         is_wrapped c.args.self.now c.args.symbol c.args.hedge.now c.requires.hedge c.in_ok-first.first c.in_ok-first.ensures.set c.in_ok-first.ensures.size c.in_ok-first.ensures.numbers c.args.self.now.first.ended c.in_ok-first.ensures.from_one
-        c.in_ok-second.second c.in_ok-second.ensures.set c.in_ok-second.ensures.size c.in_ok-second.ensures.from_one c.in_ok-second.ensures.numbers c.args.self.now.second.ended k some,
+            c.in_ok-second.second c.in_ok-second.ensures.set c.in_ok-second.ensures.size c.in_ok-second.ensures.from_one c.in_ok-second.ensures.numbers c.args.self.now.second.ended k some,
       );
     }

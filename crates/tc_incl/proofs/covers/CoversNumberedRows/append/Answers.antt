@@ -1,8 +1,8 @@
-use Rattle.std.proofs.Common.{◌≡◌, ◌<◌, ℕ, List, subst, sym, refl, length, MatchOption, Some, slice_get, rules}
+use Rattle.std.proofs.Common.{◌≡◌, subst, refl, MatchOption, Some, slice_get, rules}
 use Rattle.tc_incl.specs.declared.rows.Row.{Row}
 use Rattle.tc_incl.specs.Schemas.{Schemas}
 use Rattle.tc_incl.specs.Arithmetic.{IsLiveAppend}
-use Rattle.tc_incl.specs.Held.{IsHedgeFit, IsTreeFit, IsText, NoText, IsAppended, NoAppended, IsWrapped, NoWrapped}
+use Rattle.tc_incl.specs.Held.{IsHedgeFit, IsAppended, NoAppended}
 use Rattle.tc_incl.specs.Covers.{State, hedge_at, tree_at}
 use Rattle.tc_incl.proofs.Holding.{append_at, as_hedge, hedge_held, hedge_low, more_hedges, no_append_at, row_of, same_hedges, tree_low}
 use Rattle.tc_incl.proofs.covers.CoversNumberedRows.append.Goals as goal
@@ -17,8 +17,7 @@ returns-in_default-made-clause-made g c =
     let q = c.index-as_slice-tree.result in
     let front : slice_get hs c.args.hedge ≡ Some p = row_of hs c.as_slice.result.now c.args.hedge p c.as_slice.ensures.keys c.index-as_slice-hedge.is (hedge_low of b hs ts c.self.invariant c.args.self.now c.self.view_is c.args.hedge c.requires.hedge) in
     let last : slice_get ts c.args.tree ≡ Some q = row_of ts c.as_slice-2.result.now c.args.tree q c.as_slice-2.ensures.keys c.index-as_slice-tree.is (tree_low of b hs ts c.self.invariant c.args.self.now c.self.view_is c.args.tree c.requires.tree) in
-    let dead : NoAppended b p q = search rules in
-    (
+    let dead : NoAppended b p q = search rules in (
       subst (λ (s : State). (x : Schemas) → of x → IsLiveAppend x (hedge_at s c.args.hedge) (tree_at s c.args.tree) → ⊥) c.self.view_is (no_append_at of b hs ts c.self.invariant c.args.hedge c.args.tree p q front last dead),
       (refl, refl),
     )

@@ -1,9 +1,4 @@
-use Rattle.std.proofs.Common.{◌≡◌, ◌<◌, ℕ, List, subst, sym, refl, length, MatchOption, Some, slice_get, rules}
-use Rattle.tc_incl.specs.declared.rows.Row.{Row}
-use Rattle.tc_incl.specs.Schemas.{Schemas}
-use Rattle.tc_incl.specs.Arithmetic.{IsLiveAppend}
-use Rattle.tc_incl.specs.Held.{IsHedgeFit, IsTreeFit, IsNone, IsText, NoText, IsAppended, NoAppended, IsWrapped, NoWrapped}
-use Rattle.tc_incl.specs.Covers.{State, hedge_at, tree_at}
+use Rattle.tc_incl.specs.Held.{IsHedgeFit, IsNone}
 use Rattle.tc_incl.proofs.Holding.{as_hedge, hedge_held, more_hedges, none_at, same_hedges}
 use Rattle.tc_incl.proofs.covers.CoversNumberedRows.none.Goals as goal
 

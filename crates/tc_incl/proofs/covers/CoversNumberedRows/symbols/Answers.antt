@@ -1,7 +1,6 @@
 use Rattle.std.proofs.Common.{subst}
 use Rattle.tc_sets.proofs.Bits.{one_form}
-use Rattle.tc_settle.specs.Held.{IsExact}
-use Rattle.tc_incl.specs.Covers.{State, Known, held_of, state_of}
+use Rattle.tc_incl.specs.Covers.{Known}
 use Rattle.tc_incl.proofs.Holding.{known_of}
 use Rattle.tc_incl.proofs.Linked.{are_exact}
 use Rattle.tc_incl.proofs.covers.CoversNumberedRows.symbols.Goals as goal

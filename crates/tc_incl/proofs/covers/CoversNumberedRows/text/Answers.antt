@@ -1,9 +1,6 @@
-use Rattle.std.proofs.Common.{◌≡◌, ◌<◌, ℕ, List, subst, sym, refl, length, MatchOption, Some, slice_get, rules}
+use Rattle.std.proofs.Common.{subst, MatchOption}
 use Rattle.tc_incl.specs.declared.rows.Row.{Row}
-use Rattle.tc_incl.specs.Schemas.{Schemas}
-use Rattle.tc_incl.specs.Arithmetic.{IsLiveAppend}
-use Rattle.tc_incl.specs.Held.{IsHedgeFit, IsTreeFit, IsText, NoText, IsAppended, NoAppended, IsWrapped, NoWrapped}
-use Rattle.tc_incl.specs.Covers.{State, hedge_at, tree_at}
+use Rattle.tc_incl.specs.Held.{IsTreeFit, IsText, NoText}
 use Rattle.tc_incl.proofs.Holding.{as_tree, more_trees, same_trees, text_at, tree_held}
 use Rattle.tc_incl.proofs.covers.CoversNumberedRows.text.Goals as goal
 

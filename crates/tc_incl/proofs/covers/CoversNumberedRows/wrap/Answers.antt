@@ -1,9 +1,6 @@
-use Rattle.std.proofs.Common.{◌≡◌, ◌<◌, ℕ, List, subst, sym, refl, length, MatchOption, Some, slice_get, rules}
+use Rattle.std.proofs.Common.{◌≡◌, subst, MatchOption, Some, slice_get}
 use Rattle.tc_incl.specs.declared.rows.Row.{Row}
-use Rattle.tc_incl.specs.Schemas.{Schemas}
-use Rattle.tc_incl.specs.Arithmetic.{IsLiveAppend}
-use Rattle.tc_incl.specs.Held.{IsHedgeFit, IsTreeFit, IsText, NoText, IsAppended, NoAppended, IsWrapped, NoWrapped}
-use Rattle.tc_incl.specs.Covers.{State, hedge_at, tree_at}
+use Rattle.tc_incl.specs.Held.{IsTreeFit, IsWrapped, NoWrapped}
 use Rattle.tc_incl.proofs.Holding.{as_tree, hedge_low, more_trees, row_of, same_trees, tree_held, wrap_at}
 use Rattle.tc_incl.proofs.covers.CoversNumberedRows.wrap.Goals as goal
 

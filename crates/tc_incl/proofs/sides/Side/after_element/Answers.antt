@@ -1,10 +1,9 @@
-use Rattle.std.proofs.Common.{◌≡◌, ◌+◌, ap, ◌∙◌, sym, subst, ◌↔◌, ℕ, length, arith}
+use Rattle.std.proofs.Common.{◌≡◌, ◌+◌, ap, ◌∙◌, sym, subst, ◌↔◌, length, arith}
 use Rattle.std.proofs.lemmas.Bool.{true≢false}
-use Rattle.tc_hedge.proofs.Bounds.{patterns_of}
 use Rattle.tc_model.specs.States.{input}
 use Rattle.tc_sets.specs.Numbers.{Numbers, Has}
 use Rattle.tc_incl.specs.Sides.{IsAfterElement}
-use Rattle.tc_incl.proofs.Found.{element_none, element_more, element_same}
+use Rattle.tc_incl.proofs.Found.{element_more, element_same}
 use Rattle.tc_incl.proofs.sides.Side.after_element.Goals.{then-has, else-has}
 use Rattle.tc_incl.proofs.sides.Side.after_element.Goals as goal
 

@@ -1,8 +1,7 @@
-use Rattle.std.proofs.Common.{inl, inr, ◌≡◌, ◌+◌, ap, ◌∙◌, sym, subst, ℕ, List, Some, slice_get, get_or, arith}
+use Rattle.std.proofs.Common.{inl, inr, ◌≡◌, ◌+◌, ap, ◌∙◌, sym, subst, ℕ, List, Some, slice_get, arith}
 use Rattle.std.proofs.lemmas.Bool.{true≢false}
 use Rattle.std.proofs.lemmas.Option.{slice_get-get_or}
 use Rattle.tc_model.specs.Grammars.{Grammar}
-use Rattle.tc_model.specs.States.{input}
 use Rattle.tc_model.specs.Symbols.{Mention, fresh_name}
 use Rattle.tc_sets.specs.Numbers.{Numbers, Has}
 use Rattle.tc_incl.specs.Sets.{IsFound}

@@ -1,4 +1,4 @@
-use Rattle.std.proofs.Common.{◌≡◌, ℕ, List}
+use Rattle.std.proofs.Common.{◌≡◌, List}
 use Rattle.tc_auto.specs.Stands as held
 use Rattle.tc_sets.specs.Numbers.{Has}
 use Rattle.tc_incl.specs.Sets.{IsFound}

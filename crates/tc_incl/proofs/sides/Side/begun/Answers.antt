@@ -1,9 +1,8 @@
-use Rattle.std.proofs.Common.{◌≡◌, ap, ◌∙◌, sym, subst, ◌↔◌, ℕ, length, arith}
-use Rattle.tc_hedge.proofs.Bounds.{patterns_of}
+use Rattle.std.proofs.Common.{◌≡◌, ◌∙◌, subst, ◌↔◌, length, arith}
 use Rattle.tc_model.specs.States.{input}
 use Rattle.tc_sets.specs.Numbers.{Has}
 use Rattle.tc_incl.specs.Sides.{IsBegun}
-use Rattle.tc_incl.proofs.Found.{begun_none, begun_more}
+use Rattle.tc_incl.proofs.Found.{begun_more}
 use Rattle.tc_incl.proofs.sides.Side.begun.Goals as goal
 
 pub loop-before-preserved : goal.loop-before-preserved
