@@ -1,11 +1,11 @@
 -- Sets that are put together number by number.
-use Rattle.std.proofs.Common.{◌≡◌, ◌↔◌, ◌⊎◌, inl, inr, ℕ, suc, ◌+◌, ◌≤◌, ◌<◌, List, [], ◌∷◌, ◌++◌, length, take, get_or, sym, ap, subst, ◌∙◌, add-one, arith}
+use Rattle.std.proofs.Common.{◌≡◌, ◌↔◌, ◌⊎◌, inl, inr, ℕ, ◌+◌, ◌≤◌, ◌<◌, List, [], ◌∷◌, ◌++◌, length, take, get_or, sym, ap, subst, ◌∙◌, add-one, arith}
 use Rattle.std.specs.List.{Contains}
 use Rattle.std.proofs.Math.Seq.{take-suc}
 use Rattle.std.proofs.lemmas.List.{take_all}
 use Rattle.tc_alpha.proofs.Members.{has_from_contains, contains_from_has, has_front, has_back, has_either}
 use Rattle.tc_auto.specs.declared.arrows.Arrow.{Arrow}
-use Rattle.tc_model.specs.Grammars.{Grammar, element_at}
+use Rattle.tc_model.specs.Grammars.{Grammar}
 use Rattle.tc_model.specs.States.{input, ref_leaf, text_leaf, first_state, IsEdge}
 use Rattle.tc_sets.specs.Numbers.{Numbers, Has, HasNone}
 use Rattle.tc_incl.specs.Sets.{IsFound}

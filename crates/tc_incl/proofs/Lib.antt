@@ -3,6 +3,9 @@ pub mod Listed
 pub mod Taken
 pub mod Keys
 pub mod Made
+pub mod Linked
+pub mod Planted
+pub mod Holding
 pub mod OneSchema
 pub mod SetsThere
 pub mod Lives
@@ -11,3 +14,4 @@ pub mod There
 pub mod AllLaws
 pub mod Derived
 pub mod Counting
+pub mod Decided

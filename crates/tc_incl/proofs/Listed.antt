@@ -1,5 +1,5 @@
 -- Sets of numbers as lists in order.
-use Rattle.std.proofs.Common.{◌≡◌, ◌⊎◌, ◌↔◌, inl, inr, ℕ, zero, suc, ◌+◌, ◌<◌, ◌≤◌, List, [], ◌∷◌, ◌++◌, filter, Bool, true, false, if◌then◌else◌, nat_eq, eqb-true, eq-eqb, refl, ap, sym, subst, ◌∙◌, Contains, All, arith}
+use Rattle.std.proofs.Common.{◌≡◌, ◌⊎◌, ◌↔◌, inl, inr, ℕ, zero, suc, ◌<◌, List, [], ◌∷◌, ◌++◌, filter, Bool, true, false, if◌then◌else◌, eqb-true, eq-eqb, refl, ap, sym, subst, ◌∙◌, Contains, All, arith}
 use Rattle.std.specs.List.Sorted.{IsStrictlySortedBy}
 use Rattle.std.specs.Ordering.{nat_cmp}
 use Rattle.std.specs.declared.cmp.Ordering.TheVariants.{Less}
@@ -7,7 +7,7 @@ use Rattle.std.proofs.lemmas.Bool.{true≢false}
 use Rattle.std.proofs.lemmas.List.Kept.{IsStrictlySortedBy-filter}
 use Rattle.tc_model.specs.Numbered.{numbers_below}
 use Rattle.tc_alpha.proofs.Members.{Has as HasItem, has_from_contains, contains_from_has, has_front, has_back, has_either, every_from_members, every_append, all_from_every}
-use Rattle.tc_sets.specs.Numbers.{Numbers, Has, IsSet, HaveSameNumbers, SetsHaveOneForm}
+use Rattle.tc_sets.specs.Numbers.{Numbers, Has, IsSet, SetsHaveOneForm}
 use Rattle.tc_sets.proofs.Bits.{number_below}
 use Rattle.tc_incl.specs.Sets.{is_in, members}
 

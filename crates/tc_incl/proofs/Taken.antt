@@ -1,11 +1,11 @@
 -- Whether a content accepts in one of some states, and whether an element pattern may start.
-use Rattle.std.proofs.Common.{◌≡◌, ◌↔◌, ◌⊎◌, inl, inr, ℕ, zero, suc, ◌+◌, ◌-◌, ◌<◌, ◌≤◌, List, [], ◌∷◌, ◌++◌, ◌||◌, length, Bool, true, false, IsTrue, Some, refl, sym, ap, subst, ◌∙◌, slice_get, arith}
+use Rattle.std.proofs.Common.{◌≡◌, ◌↔◌, ◌⊎◌, inl, inr, ℕ, zero, suc, ◌+◌, ◌-◌, ◌<◌, ◌≤◌, List, [], ◌∷◌, ◌++◌, ◌||◌, length, Bool, true, false, Some, refl, sym, ap, subst, ◌∙◌, slice_get, arith}
 use Rattle.std.specs.List.{list_any}
 use Rattle.std.proofs.lemmas.Option.{same_Some}
 use Rattle.tc_alpha.proofs.Members.{Has as HasItem, has_from_contains, contains_from_has}
 use Rattle.tc_auto.specs.Stands as held
 use Rattle.tc_auto.specs.declared.auto.Auto.{Auto}
-use Rattle.tc_hedge.proofs.Bounds.{patterns_of, states_of}
+use Rattle.tc_hedge.proofs.Bounds.{patterns_of}
 use Rattle.tc_model.specs.Grammars.{Grammar, ElementPattern, element_at}
 use Rattle.tc_model.specs.States.{input, automaton, IsPart, a_content, first_state, IsAccepting, is_alternative}
 use Rattle.tc_model.proofs.StatesExact.{sound}

@@ -1,10 +1,9 @@
 -- Rows as code holds them, and what is made of which, by the schemas that the automata stand for.
-use Rattle.std.specs.Prelude.{◌≡◌, ◌<◌, ℕ, List, [], Bool, false, All, length, get_or, map, slice_get, Some, IsTrue}
+use Rattle.std.specs.Prelude.{◌≡◌, ℕ}
 use Rattle.tc_auto.specs.Stands as a
 use Rattle.tc_model.specs.States.{input}
 use Rattle.tc_model.specs.Symbols.{symbol_count}
-use Rattle.tc_rows.specs.Counts.{AreDifferent}
-use Rattle.tc_sets.specs.Numbers.{Numbers, Has, IsSet}
+use Rattle.tc_sets.specs.Numbers.{Has, IsSet}
 use Rattle.tc_incl.specs.declared.rows.Row.{Row}
 use Rattle.tc_incl.specs.declared.both.Both.{Both}
 use Rattle.tc_incl.specs.Schemas.{Schemas}

@@ -7,3 +7,5 @@ pub mod Laws
 pub mod Sets
 pub mod Sides
 pub mod Held
+pub mod Covers
+pub mod Answers

@@ -1,5 +1,5 @@
 -- What sets of states and of element patterns of one schema are worked out from.
-use Rattle.std.specs.Prelude.{◌≡◌, ◌<◌, ◌≤◌, ◌↔◌, ◌⊎◌, ◌+◌, ℕ, List, Bool, true, false, Some, slice_get, All, length}
+use Rattle.std.specs.Prelude.{◌≡◌, ◌≤◌, ◌↔◌, ◌⊎◌, ◌+◌, ℕ, List, Bool, true, false, Some, slice_get, All, length}
 use Rattle.tc_model.specs.Names.{ExpandedName}
 use Rattle.tc_model.specs.Grammars.{Grammar, ElementPattern, element_at, InClass}
 use Rattle.tc_model.specs.States.{input, text_leaf, ref_leaf, automaton, first_state, IsEdge}

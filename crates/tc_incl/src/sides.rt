@@ -134,6 +134,7 @@ impl<'c, 'b> Side<'c, 'b> {
         for before in 0..self.auto.patterns() {
             states.add(self.auto.first(before + 1));
         }
+        let _size = states.size();
         Ok(states)
     }
 
@@ -163,6 +164,7 @@ impl<'c, 'b> Side<'c, 'b> {
     {
         let mut next = Set::empty(self.alloc, self.auto.states())?;
         put_ends(self.auto.text_arrows(), states, &mut next);
+        let _size = next.size();
         Ok(next)
     }
 
@@ -180,6 +182,7 @@ impl<'c, 'b> Side<'c, 'b> {
                 put_ends(self.auto.arrows(before + 1), states, &mut next);
             }
         }
+        let _size = next.size();
         Ok(next)
     }
 
@@ -221,6 +224,7 @@ impl<'c, 'b> Side<'c, 'b> {
         requires states { states.now.size ≡ a.states self.now.auto.now }
         ensures set { IfOk result (λ r. IsSet r) }
         ensures size { IfOk result (λ r. r.size ≡ self.now.end) }
+        ensures from_one { IfOk result (λ r. ¬ Has r 0) }
         ensures numbers { IfOk result (λ r. (x : g.Grammar) (symbols : List Mention) → a.Stands s.input x self.now.auto.now → AreAllowed x symbols self.now.allowed.items → (k : ℕ) → Has r k ↔ (IsAllowed x (fresh_name symbols symbol) k × IsTaken x states.now k)) }
     {
         let allowed = &self.allowed[symbol as usize];
@@ -230,6 +234,7 @@ impl<'c, 'b> Side<'c, 'b> {
                 around.add(before + 1);
             }
         }
+        let _size = around.size();
         Ok(around)
     }
 

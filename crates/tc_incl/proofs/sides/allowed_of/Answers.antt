@@ -1,4 +1,4 @@
-use Rattle.std.proofs.Common.{◌≡◌, ◌++◌, ◌∷◌, [], ◌∙◌, sym, ap, subst, ℕ, length, Some, slice_get, ◌↔◌, arith}
+use Rattle.std.proofs.Common.{◌≡◌, ◌++◌, ◌∷◌, [], sym, ap, subst, length, ◌↔◌, arith}
 use Rattle.std.proofs.lemmas.List.Elements.{All-same, All-push}
 use Rattle.std.proofs.lemmas.Option.{slice_get_within}
 use Rattle.tc_model.specs.Symbols.{fresh_name}
@@ -19,7 +19,7 @@ pub loop-symbol-preserved : goal.loop-symbol-preserved
 loop-symbol-preserved c = (
   omega (arith, c.in_ok-push.ensures.len, c.loop-symbol.invariant.0),
   All-same (λ (s : Numbers). s.size ≡ c.args.end) c.push.new.self.items (c.loop-symbol.allowed.items ++ c.in_ok-numbers.numbers ∷ []) c.in_ok-push.ensures.items
-  (All-push (λ (s : Numbers). s.size ≡ c.args.end) c.loop-symbol.allowed.items c.in_ok-numbers.numbers c.loop-symbol.invariant.1 c.in_ok-numbers.ensures.size),
+      (All-push (λ (s : Numbers). s.size ≡ c.args.end) c.loop-symbol.allowed.items c.in_ok-numbers.numbers c.loop-symbol.invariant.1 c.in_ok-numbers.ensures.size),
   λ x st.
       let place : c.loop-symbol.symbol ≡ length c.loop-symbol.allowed.items = sym c.loop-symbol.invariant.0 in
       allowed_more x c.args.alphabet.now c.loop-symbol.allowed.items c.push.new.self.items c.in_ok-numbers.numbers c.in_ok-push.ensures.items (c.loop-symbol.invariant.2 x st)

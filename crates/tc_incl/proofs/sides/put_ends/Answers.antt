@@ -1,4 +1,4 @@
-use Rattle.std.proofs.Common.{◌≡◌, ap, ◌∙◌, sym, subst, take, ◌+◌, true, false}
+use Rattle.std.proofs.Common.{ap, ◌∙◌, sym, subst, take, ◌+◌}
 use Rattle.std.proofs.lemmas.Bool.{true≢false}
 use Rattle.tc_sets.specs.Numbers.{Numbers}
 use Rattle.tc_incl.proofs.Found.{IsEnded, ended_more, ended_same, ended_all}

@@ -1,10 +1,9 @@
-use Rattle.std.proofs.Common.{◌≡◌, ◌+◌, ap, ◌∙◌, sym, subst, ◌↔◌, ℕ, length, arith}
+use Rattle.std.proofs.Common.{◌≡◌, ◌+◌, ap, ◌∙◌, sym, subst, ◌↔◌, length, arith}
 use Rattle.std.proofs.lemmas.Bool.{true≢false}
-use Rattle.tc_hedge.proofs.Bounds.{patterns_of}
 use Rattle.tc_model.specs.States.{input}
 use Rattle.tc_sets.specs.Numbers.{Numbers, Has}
 use Rattle.tc_incl.specs.Sides.{IsAfterElement}
-use Rattle.tc_incl.proofs.Found.{element_none, element_more, element_same}
+use Rattle.tc_incl.proofs.Found.{element_more, element_same}
 use Rattle.tc_incl.proofs.sides.Side.after_element.Goals.{then-has, else-has}
 use Rattle.tc_incl.proofs.sides.Side.after_element.Goals as goal
 
@@ -29,3 +28,6 @@ pub returns-clause-numbers : goal.returns-clause-numbers
 returns-clause-numbers c = λ x st j.
     let count : c.loop-before.before ≡ length x.elements = omega (arith, c.loop-before.auto.before-end, c.loop-before-test.false, c.patterns-before-end.ensures.schema input x st) in
     subst (λ n. Has c.loop-before.next j ↔ IsAfterElement x c.args.states.now c.args.patterns.now n j) count (c.loop-before.invariant.1 x st j)
+
+pub returns-clause-set : goal.returns-clause-set
+returns-clause-set c = c.size-size.ensures.set

@@ -5,3 +5,6 @@ use Rattle.tc_incl.proofs.sides.Side.after_text.Goals as goal
 pub returns-clause-numbers : goal.returns-clause-numbers
 returns-clause-numbers c = λ x st.
     text_led x c.text_arrows.result.now c.args.states.now c.in_ok-next.next c.put_ends.new.ends (c.text_arrows.ensures.exact input x st) c.in_ok-next.ensures.numbers c.put_ends.ensures.numbers
+
+pub returns-clause-set : goal.returns-clause-set
+returns-clause-set c = c.size-size.ensures.set

@@ -1,9 +1,8 @@
-use Rattle.std.proofs.Common.{◌≡◌, ap, ◌∙◌, sym, subst, ◌↔◌, ℕ, length, arith}
-use Rattle.tc_hedge.proofs.Bounds.{patterns_of}
+use Rattle.std.proofs.Common.{◌≡◌, ◌∙◌, subst, ◌↔◌, length, arith}
 use Rattle.tc_model.specs.States.{input}
 use Rattle.tc_sets.specs.Numbers.{Has}
 use Rattle.tc_incl.specs.Sides.{IsBegun}
-use Rattle.tc_incl.proofs.Found.{begun_none, begun_more}
+use Rattle.tc_incl.proofs.Found.{begun_more}
 use Rattle.tc_incl.proofs.sides.Side.begun.Goals as goal
 
 pub loop-before-preserved : goal.loop-before-preserved
@@ -16,3 +15,6 @@ pub returns-clause-numbers : goal.returns-clause-numbers
 returns-clause-numbers c = λ x st j.
     let count : c.loop-before.before ≡ length x.elements = omega (arith, c.loop-before.auto.before-end, c.loop-before-test.false, c.patterns-before-end.ensures.schema input x st) in
     subst (λ n. Has c.loop-before.states j ↔ IsBegun x n j) count (c.loop-before.invariant.1 x st j)
+
+pub returns-clause-set : goal.returns-clause-set
+returns-clause-set c = c.size-size.ensures.set

@@ -1,7 +1,7 @@
-use Rattle.std.proofs.Common.{◌≡◌, ◌+◌, ◌∙◌, sym, ℕ, true, arith}
+use Rattle.std.proofs.Common.{◌≡◌, ◌∙◌, sym, true, arith}
 use Rattle.std.proofs.lemmas.Bool.{true≢false}
 use Rattle.tc_model.specs.States.{input, is_alternative}
-use Rattle.tc_sets.specs.Numbers.{Has, IsSet}
+use Rattle.tc_sets.specs.Numbers.{Has}
 use Rattle.tc_incl.proofs.Taken.{none_more, starts_told, starts_not}
 use Rattle.tc_incl.proofs.sides.Side.starts.Goals.{else-has-via-then-has+else-starts, else-has-via-else-has}
 use Rattle.tc_incl.proofs.sides.Side.starts.Goals as goal

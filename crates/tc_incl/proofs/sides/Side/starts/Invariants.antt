@@ -1,4 +1,4 @@
-use Rattle.std.proofs.Common.{◌≡◌, ℕ, ◌<◌, IsTrue}
+use Rattle.std.proofs.Common.{ℕ, ◌<◌, IsTrue}
 use Rattle.tc_auto.specs.Stands as held
 use Rattle.tc_model.specs.Grammars.{Grammar}
 use Rattle.tc_model.specs.States.{input, is_alternative}

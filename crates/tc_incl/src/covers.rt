@@ -1,0 +1,156 @@
+// The cover rows of two schemas, held by their numbers.
+use crate::both::Both;
+use crate::over::Over;
+use crate::rows::{Row, hold};
+use indexmap::IndexSet;
+use std::alloc::Global;
+use std::marker::{Model, PhantomData};
+use tc_alpha::Alphabet;
+use tc_auto::Auto;
+use tc_base::NoMemory;
+use tc_settle::{HoldFault, NumberedRows};
+
+/// Cover rows of two schemas, each held once and known by its number.
+#[derive(Drop)]
+pub(crate) struct Covers<'c, 'g, K: Over> {
+    both: Both<'c, 'g>,
+    hedges: IndexSet<Row>,
+    trees: IndexSet<Row>,
+    over: PhantomData<K>,
+}
+
+impl<'c, 'g, K: Over> Model for Covers<'c, 'g, K> {
+    ghost use Rattle.tc_incl.specs.Covers.{AreHeld, State, state_of};
+
+    ghost Value = { State };
+
+    ghost view = { λ p. state_of p.both p.hedges.keys p.trees.keys };
+
+    ghost invariant = { λ p. AreHeld K.is_of p.both p.hedges.keys p.trees.keys };
+}
+
+impl<'c, 'g, K: Over> Covers<'c, 'g, K> {
+    ghost use Rattle.std.specs.Prelude.{◌≡◌, ◌<◌, ◌≤◌, [], length, IfOk, MatchBool};
+    ghost use Rattle.tc_incl.specs.Covers.{AreOf, Known, held_of};
+    ghost use Rattle.tc_incl.specs.Schemas.{Schemas};
+
+    /// No rows.
+    pub(crate) fn new(
+        alloc: Global,
+        first: &'c Auto<'g>,
+        second: &'c Auto<'g>,
+        alphabet: &Alphabet,
+    ) -> Result<Covers<'c, 'g, K>, NoMemory>
+        requires some { (x : Schemas) × K.is_of x }
+        requires schemas { (x : Schemas) → K.is_of x → AreOf first.now second.now alphabet.now x }
+        ensures hedges { IfOk result (λ r. r.hedges ≡ []) }
+        ensures trees { IfOk result (λ r. r.trees ≡ []) }
+    {
+        let both = Both::of(alloc, first, second, alphabet)?;
+        Ok(Covers {
+            both,
+            hedges: IndexSet::new(alloc),
+            trees: IndexSet::new(alloc),
+            over: PhantomData,
+        })
+    }
+
+    /// What holds of all that is held.
+    pub(crate) fn see(&self)
+        ensures known { Known K.is_of self.now }
+    {
+        let _ = &self.both;
+    }
+
+    /// How many rows of lists of trees are held.
+    pub(crate) fn hedge_count(&self) -> u32
+        requires { length self.now.hedges ≤ 4294967295 }
+        ensures { result ≡ length self.now.hedges }
+    {
+        self.hedges.len() as u32
+    }
+
+    /// How many rows of trees are held.
+    pub(crate) fn tree_count(&self) -> u32
+        requires { length self.now.trees ≤ 4294967295 }
+        ensures { result ≡ length self.now.trees }
+    {
+        self.trees.len() as u32
+    }
+
+    /// Whether the row of a tree is that of a document that is valid for the first schema and not for the second.
+    pub(crate) fn fails(&self, tree: u32) -> bool
+        requires { tree < length self.now.trees }
+        ensures { MatchBool result ((held_of K.is_of self.now).fails tree) ((held_of K.is_of self.now).passes tree) }
+    {
+        self.both.is_failing(&self.trees.as_slice()[tree as usize])
+    }
+}
+
+impl<'c, 'g, K: Over> NumberedRows for Covers<'c, 'g, K> {
+    ghost use Rattle.tc_incl.specs.Covers.{held_of};
+
+    ghost held = { held_of K.is_of };
+
+    ghost is_full = { λ s. ⊥ };
+
+    fn symbols(&self) -> u32 {
+        self.both.symbols
+    }
+
+    fn none(&mut self) -> Result<u32, HoldFault> {
+        let Ok(row) = self.both.none() else {
+            return Err(HoldFault::NoMemory);
+        };
+        let Ok(number) = hold(&mut self.hedges, row) else {
+            return Err(HoldFault::NoMemory);
+        };
+        Ok(number)
+    }
+
+    fn text(&mut self) -> Result<Option<u32>, HoldFault> {
+        let Ok(made) = self.both.text() else {
+            return Err(HoldFault::NoMemory);
+        };
+        let Some(row) = made else {
+            return Ok(None);
+        };
+        let Ok(number) = hold(&mut self.trees, row) else {
+            return Err(HoldFault::NoMemory);
+        };
+        Ok(Some(number))
+    }
+
+    fn append(&mut self, hedge: u32, tree: u32) -> Result<Option<u32>, HoldFault> {
+        let front = &self.hedges.as_slice()[hedge as usize];
+        let last = &self.trees.as_slice()[tree as usize];
+        let Ok(made) = self.both.appended(front, last) else {
+            return Err(HoldFault::NoMemory);
+        };
+        let Some(row) = made else {
+            return Ok(None);
+        };
+        let Ok(number) = hold(&mut self.hedges, row) else {
+            return Err(HoldFault::NoMemory);
+        };
+        Ok(Some(number))
+    }
+
+    fn wrap(&mut self, symbol: u32, hedge: u32) -> Result<Option<u32>, HoldFault> {
+        let inside = &self.hedges.as_slice()[hedge as usize];
+        let Ok(made) = self.both.wrapped(symbol, inside) else {
+            return Err(HoldFault::NoMemory);
+        };
+        let Some(row) = made else {
+            return Ok(None);
+        };
+        let Ok(number) = hold(&mut self.trees, row) else {
+            return Err(HoldFault::NoMemory);
+        };
+        Ok(Some(number))
+    }
+
+    fn is_failing(&mut self, tree: u32) -> bool {
+        self.fails(tree)
+    }
+}
