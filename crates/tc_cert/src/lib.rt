@@ -1,0 +1,10 @@
+//! The text of certificates: what it holds, how it is written, and how it is read.
+#![tactic(auto)]
+
+mod lines;
+mod text;
+mod writing;
+
+pub use lines::{hedge_line, pairs_line, tree_line};
+pub use text::CertWriteFault;
+pub use writing::write_cert;
