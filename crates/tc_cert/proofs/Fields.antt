@@ -1,5 +1,5 @@
 -- Numbers, and lists of what begins with a digit, can be read in one way alone.
-use Rattle.std.proofs.Common.{◌≡◌, ◌<◌, ◌≤◌, ◌^◌, ◌⊎◌, inl, inr, ℕ, ◌+◌, List, [], ◌∷◌, ◌++◌, length, flat_map, All, refl, sym, ap, ◌∙◌, append_assoc, arith, codes, decimal, IsTrue}
+use Rattle.std.proofs.Common.{◌≡◌, ◌<◌, ◌≤◌, ◌^◌, ◌⊎◌, inl, inr, ℕ, ◌+◌, List, [], ◌∷◌, ◌++◌, length, drop, flat_map, All, refl, sym, ap, subst, ◌∙◌, append_assoc, arith, codes, decimal, IsTrue}
 use Rattle.std.specs.Char.{digit_value}
 use Rattle.std.specs.Str.Parse.{AllDigits, IsNumeral}
 use Rattle.std.proofs.lemmas.Fmt.{decimal_is_IsNumeral, decimal_injective}
@@ -11,15 +11,26 @@ use Rattle.tc_cert.specs.Formed.{IsNumber}
 abbrev pub Stops : List ℕ → Type 0
 Stops r = (c : ℕ) (after : List ℕ) → r ≡ c ∷ after → digit_value c < 10 → ⊥
 
--- a field, or the line, has ended
+-- a field, or the line, has ended: a space or a line feed stands at the front, or nothing
 abbrev pub Ends : List ℕ → Type 0
-Ends r = (after : List ℕ) × ((r ≡ 32 ∷ after) ⊎ (r ≡ 10 ∷ after) ⊎ (r ≡ []))
+Ends r = (c : ℕ) (after : List ℕ) → r ≡ c ∷ after → (c ≡ 32) ⊎ (c ≡ 10)
+
+pub ends_nil : Ends []
+ends_nil c after e = let same : c ≡ 32 = cc in inl same
+
+pub ends_space : (r : List ℕ) → Ends (32 ∷ r)
+ends_space r c after e = let same : c ≡ 32 = cc in inl same
 
 pub stops_at : (c : ℕ) (r : List ℕ) → (digit_value c < 10 → ⊥) → Stops (c ∷ r)
-stops_at c r no d after e h = let same : d ≡ c = cc in no (subst_digit same h)
-  where
-    subst_digit : {a b : ℕ} → a ≡ b → digit_value a < 10 → digit_value b < 10
-    subst_digit e h = rw (sym e) h
+stops_at c r refuse d after e h = let same : d ≡ c = cc in refuse (subst (λ x. digit_value x < 10) same h)
+
+ended_at : (c : ℕ) → (c ≡ 32) ⊎ (c ≡ 10) → digit_value c < 10 → ⊥
+ended_at c (inl e) h = let k : digit_value 32 < 10 = subst (λ x. digit_value x < 10) e h in absurd (omega (arith, k))
+ended_at c (inr e) h = let k : digit_value 10 < 10 = subst (λ x. digit_value x < 10) e h in absurd (omega (arith, k))
+
+not_comma : (c : ℕ) → c ≡ 44 → (c ≡ 32) ⊎ (c ≡ 10) → ⊥
+not_comma c is (inl e) = absurd (omega arith)
+not_comma c is (inr e) = absurd (omega arith)
 
 split_digits : (xs ys r s : List ℕ) → AllDigits 10 xs → AllDigits 10 ys → Stops r → Stops s → xs ++ r ≡ ys ++ s → (xs ≡ ys) × (r ≡ s)
 split_digits [] [] r s p q t u e = (refl, e)
@@ -60,22 +71,18 @@ module _ {X : Type 0} (f : X → List ℕ) (ok : X → Type 0) (plain : IsPlain 
   next y = codes "," ++ f y
 
   stops_next : (xs : List X) (r : List ℕ) → Ends r → Stops (flat_map next xs ++ r)
-  stops_next [] r (after, inl e) = rw e (stops_at 32 after (λ h. absurd (omega (arith, h))))
-  stops_next [] r (after, inr (inl e)) = rw e (stops_at 10 after (λ h. absurd (omega (arith, h))))
-  stops_next [] r (after, inr (inr e)) = λ c more is h. let no : [] ≡ c ∷ more = sym e ∙ is in cc
+  stops_next [] r ends = λ c after e h. ended_at c (ends c after e) h
   stops_next (x ∷ xs) r ends = stops_at 44 _ (λ h. absurd (omega (arith, h)))
 
   no_comma : (r after : List ℕ) → Ends r → r ≡ 44 ∷ after → ⊥
-  no_comma r after (more, inl e) is = cc
-  no_comma r after (more, inr (inl e)) is = cc
-  no_comma r after (more, inr (inr e)) is = cc
+  no_comma r after ends is = not_comma 44 refl (ends 44 after is)
 
   many : (xs ys : List X) (r s : List ℕ) → All ok xs → All ok ys → Ends r → Ends s → flat_map next xs ++ r ≡ flat_map next ys ++ s → (xs ≡ ys) × (r ≡ s)
   many [] [] r s p q t u e = (refl, e)
   many [] (y ∷ ys) r s p q t u e = absurd (no_comma r ((f y ++ flat_map next ys) ++ s) t e)
   many (x ∷ xs) [] r s p q t u e = absurd (no_comma s ((f x ++ flat_map next xs) ++ r) u (sym e))
   many (x ∷ xs) (y ∷ ys) r s p q t u e =
-      let tail : (f x ++ flat_map next xs) ++ r ≡ (f y ++ flat_map next ys) ++ s = cc in
+      let tail : (f x ++ flat_map next xs) ++ r ≡ (f y ++ flat_map next ys) ++ s = ap (drop 1) e in
       let open_tail : f x ++ (flat_map next xs ++ r) ≡ f y ++ (flat_map next ys ++ s) = sym (append_assoc (f x) _ r) ∙ tail ∙ append_assoc (f y) _ s in
       let head : (x ≡ y) × (flat_map next xs ++ r ≡ flat_map next ys ++ s) = plain.one x y _ _ (All-head ok x xs p) (All-head ok y ys q) (stops_next xs r t) (stops_next ys s u) open_tail in
       let rest : (xs ≡ ys) × (r ≡ s) = many xs ys r s (All-tail ok x xs p) (All-tail ok y ys q) t u head.1 in
@@ -92,7 +99,7 @@ module _ {X : Type 0} (f : X → List ℕ) (ok : X → Type 0) (plain : IsPlain 
       low c same d.3
     where
       low : (c : ℕ) → c ≡ 45 → digit_value c < 10 → ⊥
-      low c e h = let k : digit_value 45 < 10 = rw (sym e) h in absurd (omega (arith, k))
+      low c e h = let k : digit_value 45 < 10 = subst (λ x. digit_value x < 10) e h in absurd (omega (arith, k))
 
   pub one_list : (xs ys : List X) (r s : List ℕ) → All ok xs → All ok ys → Ends r → Ends s → listed f xs ++ r ≡ listed f ys ++ s → (xs ≡ ys) × (r ≡ s)
   one_list [] [] r s p q t u e = (refl, cc)

@@ -3,3 +3,4 @@ pub mod Loops
 pub mod Steps
 pub mod Fronts
 pub mod Fields
+pub mod Apart

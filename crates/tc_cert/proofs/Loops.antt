@@ -1,5 +1,5 @@
 -- What is left of lists that are written from the front.
-use Rattle.std.proofs.Common.{◌≡◌, ◌≤◌, ℕ, zero, suc, ◌+◌, ◌-◌, ◌==◌, ◌⊎◌, inl, inr, List, [], ◌∷◌, ◌++◌, length, drop, flat_map, Some, slice_get, cond, true, false, refl, sym, ap, ◌∙◌, subst, append_assoc, length-append, add-one, arith, codes, decimal}
+use Rattle.std.proofs.Common.{◌≡◌, ◌≤◌, ℕ, zero, suc, ◌+◌, ◌-◌, ◌==◌, min, Bool, List, [], ◌∷◌, ◌++◌, length, drop, flat_map, Some, slice_get, cond, true, false, refl, sym, ap, ◌∙◌, subst, append_assoc, length-append, add-one, arith, codes, decimal}
 use Rattle.tc_cert.specs.Lines.{listed, change_at, changes}
 use Rattle.tc_cert.specs.Texts.{ended, rows_in, rows_behind, rows_left}
 
@@ -55,15 +55,13 @@ no_new : (place : ℕ) (ms : List ℕ) → changes place ms [] ≡ []
 no_new place [] = refl
 no_new place (m ∷ ms) = refl
 
-pub no_changes : (place : ℕ) (ms ns : List ℕ) (i : ℕ) → (length ms ≤ i) ⊎ (length ns ≤ i) → changes place (drop i ms) (drop i ns) ≡ []
+pub no_changes : (place : ℕ) (ms ns : List ℕ) (i : ℕ) → min (length ms) (length ns) ≤ i → changes place (drop i ms) (drop i ns) ≡ []
 no_changes place [] ns zero h = refl
 no_changes place [] ns (suc i) h = refl
 no_changes place (x ∷ ms) [] zero h = refl
-no_changes place (x ∷ ms) (y ∷ ns) zero (inl h) = absurd (omega arith)
-no_changes place (x ∷ ms) (y ∷ ns) zero (inr h) = absurd (omega arith)
+no_changes place (x ∷ ms) (y ∷ ns) zero h = absurd (omega arith)
 no_changes place (x ∷ ms) [] (suc i) h = no_new place (drop i ms)
-no_changes place (x ∷ ms) (y ∷ ns) (suc i) (inl h) = no_changes place ms ns i (inl (omega arith))
-no_changes place (x ∷ ms) (y ∷ ns) (suc i) (inr h) = no_changes place ms ns i (inr (omega arith))
+no_changes place (x ∷ ms) (y ∷ ns) (suc i) h = no_changes place ms ns i (omega arith)
 
 pub next_place : (ms ns : List ℕ) (i m n : ℕ) (done new : List (ℕ × ℕ)) → slice_get ms i ≡ Some m → slice_get ns i ≡ Some n
     → done ++ changes i (drop i ms) (drop i ns) ≡ changes 0 ms ns → new ≡ done ++ change_at i m n → new ++ changes (i + 1) (drop (i + 1) ms) (drop (i + 1) ns) ≡ changes 0 ms ns
@@ -74,8 +72,12 @@ next_place ms ns i m n done new e d so_far is =
     ∙ ap (λ w. done ++ w) (sym (changes_suc i ms ns i m n e d))
     ∙ so_far
 
+at_most_one : (b : Bool) (p : ℕ × ℕ) → length (cond b [] (p ∷ [])) ≤ 1
+at_most_one true p = omega arith
+at_most_one false p = omega arith
+
 few_changes : (i m n : ℕ) → length (change_at i m n) ≤ 1
-few_changes i m n = elim (m == n) as (λ b. length (cond b [] ((i, n) ∷ [])) ≤ 1) [ true ↦ omega arith | false ↦ omega arith ]
+few_changes i m n = at_most_one (m == n) (i, n)
 
 pub next_few : (i m n : ℕ) (done new : List (ℕ × ℕ)) → length done ≤ i → new ≡ done ++ change_at i m n → length new ≤ i + 1
 next_few i m n done new few is = omega (arith, ap length is, length-append done (change_at i m n), few_changes i m n)

@@ -1,10 +1,10 @@
 -- One more piece or row of a list that is written from the front.
-use Rattle.std.proofs.Common.{◌≡◌, ◌≤◌, ℕ, suc, ◌+◌, ◌-◌, List, ◌++◌, drop, flat_map, Some, slice_get, Result, Ok, Err, IfErr, IsErrAnd, sym, subst, arith}
+use Rattle.std.proofs.Common.{◌≡◌, ◌≤◌, ℕ, suc, ◌+◌, ◌-◌, List, ◌++◌, drop, flat_map, Some, slice_get, Result, Ok, Err, IfErr, OnOk, IsErrAnd, sym, subst, arith}
 use Rattle.tc_cert.specs.declared.text.Text.{Text}
 use Rattle.tc_cert.specs.declared.text.CertWriteFault.{CertWriteFault}
 use Rattle.tc_cert.specs.Texts.{ended, rows_left}
 use Rattle.tc_cert.specs.Puts.{IsPut, IsCause, IsOn}
-use Rattle.tc_cert.proofs.Puts.{further, at_further}
+use Rattle.tc_cert.proofs.Puts.{both, further, at_further}
 use Rattle.tc_cert.proofs.Loops.{next_piece, next_row}
 
 pub piece_step : {X : Type 0} {s t u : Text} {goal : List ℕ} (f : X → List ℕ) (xs : List X) (i : ℕ) (x : X) → slice_get xs i ≡ Some x
@@ -34,3 +34,7 @@ row_cause later xs i b x some e d o c = at_further (rows_left later (drop (i + 1
 pub same_error : {T : Type 0} (P : CertWriteFault → Type 0) (r : Result T CertWriteFault) (x : CertWriteFault) → IsErrAnd r (λ e. e ≡ x) → P x → IfErr r P
 same_error P (Ok v) x h a = tt
 same_error P (Err e) x h a = subst P (sym h) a
+
+pub three : {T : Type 0} {s t u : Text} {p q : List ℕ} (v : Text) (r : List ℕ) (result : Result T CertWriteFault) → IsPut s t p → IsPut t u q → OnOk result (IsPut u v r) → OnOk result (IsPut s v (p ++ (q ++ r)))
+three v r (Ok x) a b c = both a (both b c)
+three v r (Err e) a b c = tt

@@ -59,9 +59,13 @@ trees_part v trees = ended (counted (codes "trees") (length trees)) ++ rows_in t
 abbrev pub hedges_part : Version → List HedgeLine → List ℕ
 hedges_part v hedges = ended (counted (codes "hedges") (length hedges)) ++ rows_in hedge_line (hedge_in v) hedges
 
+-- all that stands behind the outputs
+abbrev pub rows_part : Version → CertData → List ℕ
+rows_part v d = trees_part v d.trees ++ hedges_part v d.hedges ++ ended (codes "end")
+
 -- the text of data
 abbrev pub text : Version → CertData → List ℕ
-text v d = ended (heading v) ++ outputs_part d.outputs ++ trees_part v d.trees ++ hedges_part v d.hedges ++ ended (codes "end")
+text v d = ended (heading v) ++ (outputs_part d.outputs ++ rows_part v d)
 
 -- the bytes are the text of this data, in one of the versions
 pub record CertificateText (bytes : List ℕ) (d : CertData) : Type 0 where

@@ -303,10 +303,8 @@ fn put_hedges(alloc: Global, text: &mut Text, hedges: &HedgeLines) -> Result<(),
 
 /// Puts all that stands behind the outputs.
 fn put_rows(alloc: Global, text: &mut Text, cert: &CertData) -> Result<(), CertWriteFault>
-    ensures ok { OnOk result (IsPut text.old text.new
-        (texts.trees_part by_changes cert.now.trees ++ texts.hedges_part by_changes cert.now.hedges ++ texts.ended (codes "end"))) }
-    ensures cause { IfErr result (IsCause text.old
-        (texts.trees_part by_changes cert.now.trees ++ texts.hedges_part by_changes cert.now.hedges ++ texts.ended (codes "end"))) }
+    ensures ok { OnOk result (IsPut text.old text.new (texts.rows_part by_changes cert.now)) }
+    ensures cause { IfErr result (IsCause text.old (texts.rows_part by_changes cert.now)) }
 {
     put_trees(alloc, text, &cert.trees)?;
     put_hedges(alloc, text, &cert.hedges)?;

@@ -1,9 +1,9 @@
-use Rattle.std.proofs.Common.{rules, arith, ◌≤◌, ◌<◌, length}
+use Rattle.std.proofs.Common.{arith, suc, ◌-◌, ◌≤◌, length}
 use Rattle.tc_cert.specs.Lines as lines
 use Rattle.tc_cert.specs.Texts as texts
 use Rattle.tc_cert.specs.Puts.{IsCause}
-use Rattle.tc_cert.proofs.Puts.{begun, ended}
-use Rattle.tc_cert.proofs.Loops.{first_row, no_row}
+use Rattle.tc_cert.proofs.Puts.{ended}
+use Rattle.tc_cert.proofs.Loops.{no_row}
 use Rattle.tc_cert.proofs.Steps.{row_step, row_cause, same_error}
 use Rattle.tc_cert.proofs.writing.put_hedge_rows.Goals as goal
 
@@ -14,3 +14,8 @@ returns-in_err-put_next_hedge-clause-cause c =
 
 pub loop-i-preserved : goal.loop-i-preserved
 loop-i-preserved c = row_step lines.hedge_behind c.args.hedges.now c.loop-i.i c.get-before.result.now c.get-line.result.now c.loop-i.auto.i c.get-before.ensures c.get-line.ensures c.loop-i.invariant c.in_ok-put_next_hedge.ensures.ok
+
+pub returns-clause-ok : goal.returns-clause-ok
+returns-clause-ok c =
+    let past : length c.args.hedges.now ≤ suc (c.loop-i.i - 1) = omega arith in
+    ended c.loop-i.invariant (no_row lines.hedge_behind c.args.hedges.now (c.loop-i.i - 1) past)
