@@ -1,11 +1,9 @@
 -- No line is that of two outputs or rows.
-use Rattle.std.proofs.Common.{◌≡◌, ◌<◌, ◌≤◌, ℕ, List, [], ◌∷◌, ◌++◌, length, drop, flat_map, get_or, All, Bool, true, false, refl, sym, ap, ◌∙◌, append_assoc, append-nil, arith, decimal}
+use Rattle.std.proofs.Common.{◌≡◌, ◌<◌, ◌≤◌, ℕ, List, [], ◌∷◌, ◌++◌, drop, flat_map, get_or, All, Bool, true, false, refl, sym, ap, ◌∙◌, append_assoc, append-nil, arith, decimal}
 use Rattle.std.specs.Char.{digit_value}
 use Rattle.std.proofs.lemmas.List.Elements.{All-head, All-tail}
-use Rattle.tc_model.specs.declared.lists.TreeLine.{TreeLine}
-use Rattle.tc_model.specs.declared.lists.HedgeLine.{HedgeLine}
-use Rattle.tc_cert.specs.Lines.{flag, numbers, pair, row, tree_line, hedge_line, pairs_line}
-use Rattle.tc_cert.specs.Formed.{IsNumber, ArePairs, IsFormedTree, IsFormedHedge}
+use Rattle.tc_cert.specs.Lines.{flag, numbers, pair, row}
+use Rattle.tc_cert.specs.Formed.{IsNumber}
 use Rattle.tc_cert.specs.Unambiguous.{OneOutput, OneTree, OneHedge}
 use Rattle.tc_cert.proofs.Fields.{Stops, stops_at, ends_nil, ends_space, one_number, one_list, plain_numbers}
 

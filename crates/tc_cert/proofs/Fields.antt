@@ -1,10 +1,10 @@
 -- Numbers, and lists of what begins with a digit, can be read in one way alone.
-use Rattle.std.proofs.Common.{◌≡◌, ◌<◌, ◌≤◌, ◌^◌, ◌⊎◌, inl, inr, ℕ, ◌+◌, List, [], ◌∷◌, ◌++◌, length, drop, flat_map, All, refl, sym, ap, subst, ◌∙◌, append_assoc, arith, codes, decimal, IsTrue}
+use Rattle.std.proofs.Common.{◌≡◌, ◌<◌, ◌^◌, ◌⊎◌, inl, inr, ℕ, List, [], ◌∷◌, ◌++◌, drop, flat_map, All, refl, sym, ap, subst, ◌∙◌, append_assoc, arith, codes, decimal}
 use Rattle.std.specs.Char.{digit_value}
 use Rattle.std.specs.Str.Parse.{AllDigits, IsNumeral}
 use Rattle.std.proofs.lemmas.Fmt.{decimal_is_IsNumeral, decimal_injective}
 use Rattle.std.proofs.lemmas.List.Elements.{All-head, All-tail}
-use Rattle.tc_cert.specs.Lines.{listed, change}
+use Rattle.tc_cert.specs.Lines.{listed}
 use Rattle.tc_cert.specs.Formed.{IsNumber}
 
 -- no digit stands at the front

@@ -1,8 +1,6 @@
 -- The first line that isn't as it must be is one alone.
-use Rattle.std.proofs.Common.{◌≡◌, ◌≤◌, ◌+◌, ℕ, List, refl, sym, ap, ◌∙◌, arith}
-use Rattle.tc_model.specs.declared.lists.CertData.{CertData}
-use Rattle.tc_cert.specs.Texts.{CertificateText}
-use Rattle.tc_cert.specs.Fronts.{line_count, IsFirstFault, OneFirstFault, TextHasNoFault}
+use Rattle.std.proofs.Common.{◌≡◌, ◌≤◌, ◌+◌, ℕ, arith}
+use Rattle.tc_cert.specs.Fronts.{line_count, OneFirstFault, TextHasNoFault}
 
 pub one_fault : OneFirstFault
 one_fault bytes one other a b =

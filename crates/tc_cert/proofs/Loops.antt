@@ -1,5 +1,5 @@
 -- What is left of lists that are written from the front.
-use Rattle.std.proofs.Common.{◌≡◌, ◌≤◌, ℕ, zero, suc, ◌+◌, ◌-◌, ◌==◌, min, Bool, List, [], ◌∷◌, ◌++◌, length, drop, flat_map, Some, slice_get, cond, true, false, refl, sym, ap, ◌∙◌, subst, append_assoc, length-append, add-one, arith, codes, decimal}
+use Rattle.std.proofs.Common.{◌≡◌, ◌≤◌, ℕ, zero, suc, ◌+◌, ◌==◌, min, Bool, List, [], ◌∷◌, ◌++◌, length, drop, flat_map, Some, slice_get, cond, true, false, refl, sym, ap, ◌∙◌, append_assoc, length-append, add-one, arith, codes}
 use Rattle.tc_cert.specs.Lines.{listed, change_at, changes}
 use Rattle.tc_cert.specs.Texts.{ended, rows_in, rows_behind, rows_left}
 

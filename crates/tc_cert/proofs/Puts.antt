@@ -1,8 +1,8 @@
 -- How puts to a text add up.
-use Rattle.std.proofs.Common.{◌≡◌, ◌<◌, ◌≤◌, ℕ, ◌+◌, List, [], ◌∷◌, ◌++◌, length, refl, sym, ap, ◌∙◌, subst, append_assoc, append-nil, arith, length-append}
+use Rattle.std.proofs.Common.{◌≡◌, ◌<◌, ℕ, List, [], ◌++◌, length, sym, ap, ◌∙◌, subst, append_assoc, append-nil, arith, length-append}
 use Rattle.tc_cert.specs.declared.text.Text.{Text}
 use Rattle.tc_cert.specs.declared.text.CertWriteFault.{CertWriteFault}
-use Rattle.tc_cert.specs.Puts.{IsPut, IsLong, IsCause, IsOn}
+use Rattle.tc_cert.specs.Puts.{IsPut, IsCause, IsOn}
 
 pub both : {s t u : Text} {p q : List ℕ} → IsPut s t p → IsPut t u q → IsPut s u (p ++ q)
 both {s} {t} {u} {p} {q} a b = record {

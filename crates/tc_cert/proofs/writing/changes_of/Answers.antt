@@ -1,4 +1,4 @@
-use Rattle.std.proofs.Common.{rules, arith, ◌≤◌, ◌<◌, length, min, ◌≡◌, ◌++◌, [], drop, sym, ap, ◌∙◌}
+use Rattle.std.proofs.Common.{arith, ◌≤◌, length, min, ◌≡◌, ◌++◌, [], drop, sym, ap, ◌∙◌}
 use Rattle.std.proofs.lemmas.List.{append-nil}
 use Rattle.tc_cert.specs.Lines.{changes}
 use Rattle.tc_cert.proofs.Loops.{next_place, next_few, no_changes}

@@ -1,7 +1,6 @@
-use Rattle.std.proofs.Common.{◌≡◌, ◌++◌, ◌-◌, flat_map, drop, codes, decimal}
+use Rattle.std.proofs.Common.{◌++◌, flat_map, drop, codes}
 use Rattle.tc_cert.specs.Puts.{IsOn}
-use Rattle.tc_cert.specs.Lines.{numbers, listed, pair, pairs_line, change, changes, tree_line, tree_behind, hedge_line, hedge_behind}
-use Rattle.tc_cert.specs.Texts.{outputs_part, output_text, rows_in, rows_left}
+use Rattle.tc_cert.specs.Lines.{listed, change}
 use Rattle.tc_cert.proofs.writing.put_changes.Given as goal
 
 abbrev pub invariant-loop-i : goal.invariant-loop-i
