@@ -1,0 +1,40 @@
+-- One more piece or row of a list that is written from the front.
+use Rattle.std.proofs.Common.{◌≡◌, ◌≤◌, ℕ, suc, ◌+◌, ◌-◌, List, ◌++◌, drop, flat_map, Some, slice_get, Result, Ok, Err, IfErr, OnOk, IsErrAnd, sym, subst, arith}
+use Rattle.tc_cert.specs.declared.text.Text.{Text}
+use Rattle.tc_cert.specs.declared.text.CertWriteFault.{CertWriteFault}
+use Rattle.tc_cert.specs.Texts.{ended, rows_left}
+use Rattle.tc_cert.specs.Puts.{IsPut, IsCause, IsOn}
+use Rattle.tc_cert.proofs.Puts.{both, further, at_further}
+use Rattle.tc_cert.proofs.Loops.{next_piece, next_row}
+
+pub piece_step : {X : Type 0} {s t u : Text} {goal : List ℕ} (f : X → List ℕ) (xs : List X) (i : ℕ) (x : X) → slice_get xs i ≡ Some x
+    → IsOn s t (flat_map f (drop i xs)) goal → IsPut t u (f x) → IsOn s u (flat_map f (drop (i + 1) xs)) goal
+piece_step f xs i x e o p = further o p (next_piece f xs i x e)
+
+pub piece_cause : {X : Type 0} {s t : Text} {fault : CertWriteFault} {goal : List ℕ} (f : X → List ℕ) (xs : List X) (i : ℕ) (x : X) → slice_get xs i ≡ Some x
+    → IsOn s t (flat_map f (drop i xs)) goal → IsCause t (f x) fault → IsCause s goal fault
+piece_cause f xs i x e o c = at_further (flat_map f (drop (i + 1) xs)) o (next_piece f xs i x e) c
+
+row_is : {X : Type 0} (later : X → X → List ℕ) (xs : List X) (i : ℕ) (b x : X) → 1 ≤ i → slice_get xs (i - 1) ≡ Some b → slice_get xs i ≡ Some x
+    → rows_left later (drop (i - 1) xs) ≡ ended (later b x) ++ rows_left later (drop (i + 1 - 1) xs)
+row_is later xs i b x some e d =
+    let up : i ≡ suc (i - 1) = omega arith in
+    let on : i + 1 - 1 ≡ suc (i - 1) = omega arith in
+    rw on (next_row later xs (i - 1) b x e (subst (λ k. slice_get xs k ≡ Some x) up d))
+
+pub row_step : {X : Type 0} {s t u : Text} {goal : List ℕ} (later : X → X → List ℕ) (xs : List X) (i : ℕ) (b x : X) → 1 ≤ i → slice_get xs (i - 1) ≡ Some b → slice_get xs i ≡ Some x
+    → IsOn s t (rows_left later (drop (i - 1) xs)) goal → IsPut t u (ended (later b x)) → IsOn s u (rows_left later (drop (i + 1 - 1) xs)) goal
+row_step later xs i b x some e d o p = further o p (row_is later xs i b x some e d)
+
+pub row_cause : {X : Type 0} {s t : Text} {fault : CertWriteFault} {goal : List ℕ} (later : X → X → List ℕ) (xs : List X) (i : ℕ) (b x : X) → 1 ≤ i → slice_get xs (i - 1) ≡ Some b → slice_get xs i ≡ Some x
+    → IsOn s t (rows_left later (drop (i - 1) xs)) goal → IsCause t (ended (later b x)) fault → IsCause s goal fault
+row_cause later xs i b x some e d o c = at_further (rows_left later (drop (i + 1 - 1) xs)) o (row_is later xs i b x some e d) c
+
+-- what is told of a fault is told of the fault that is handed on
+pub same_error : {T : Type 0} (P : CertWriteFault → Type 0) (r : Result T CertWriteFault) (x : CertWriteFault) → IsErrAnd r (λ e. e ≡ x) → P x → IfErr r P
+same_error P (Ok v) x h a = tt
+same_error P (Err e) x h a = subst P (sym h) a
+
+pub three : {T : Type 0} {s t u : Text} {p q : List ℕ} (v : Text) (r : List ℕ) (result : Result T CertWriteFault) → IsPut s t p → IsPut t u q → OnOk result (IsPut u v r) → OnOk result (IsPut s v (p ++ (q ++ r)))
+three v r (Ok x) a b c = both a (both b c)
+three v r (Err e) a b c = tt

@@ -1,0 +1,21 @@
+use Rattle.std.proofs.Common.{arith, suc, ◌-◌, ◌≤◌, length}
+use Rattle.tc_cert.specs.Lines as lines
+use Rattle.tc_cert.specs.Texts as texts
+use Rattle.tc_cert.specs.Puts.{IsCause}
+use Rattle.tc_cert.proofs.Puts.{ended}
+use Rattle.tc_cert.proofs.Loops.{no_row}
+use Rattle.tc_cert.proofs.Steps.{row_step, row_cause, same_error}
+use Rattle.tc_cert.proofs.writing.put_tree_rows.Goals as goal
+
+pub returns-in_err-put_next_tree-clause-cause : goal.returns-in_err-put_next_tree-clause-cause
+returns-in_err-put_next_tree-clause-cause c =
+    same_error (IsCause c.args.text.now (texts.rows_in lines.tree_line lines.tree_behind c.args.trees.now)) c.from_residual-in_err-put_next_tree.result c.in_err-put_next_tree.field-0.0 c.from_residual-in_err-put_next_tree.ensures.1
+    (row_cause lines.tree_behind c.args.trees.now c.loop-i.i c.get-before.result.now c.get-line.result.now c.loop-i.auto.i c.get-before.ensures c.get-line.ensures c.loop-i.invariant c.in_err-put_next_tree.ensures.cause)
+
+pub loop-i-preserved : goal.loop-i-preserved
+loop-i-preserved c = row_step lines.tree_behind c.args.trees.now c.loop-i.i c.get-before.result.now c.get-line.result.now c.loop-i.auto.i c.get-before.ensures c.get-line.ensures c.loop-i.invariant c.in_ok-put_next_tree.ensures.ok
+
+pub returns-clause-ok : goal.returns-clause-ok
+returns-clause-ok c =
+    let past : length c.args.trees.now ≤ suc (c.loop-i.i - 1) = omega arith in
+    ended c.loop-i.invariant (no_row lines.tree_behind c.args.trees.now (c.loop-i.i - 1) past)

@@ -1,0 +1,17 @@
+// Laws of the definitions.
+ghost use Rattle.tc_cert.specs.Fronts.{OneFirstFault, TextHasNoFault};
+ghost use Rattle.tc_cert.specs.Unambiguous.{OneHedge, OneOutput, OneTree};
+
+/// The law of lines: no line of version 1 is that of two outputs or of two rows.
+pub fn law_of_lines()
+    ensures outputs { OneOutput }
+    ensures trees { OneTree }
+    ensures hedges { OneHedge }
+{}
+
+/// The law of faults: of any bytes one line at most is the first that isn't as it must be, and none where they are the
+/// text of a certificate.
+pub fn law_of_faults()
+    ensures one { OneFirstFault }
+    ensures none { TextHasNoFault }
+{}
