@@ -1,7 +1,7 @@
 -- The reasons for which a text is refused: the number and the word of each.
 use Rattle.std.specs.Prelude.{ℕ, List, codes}
 use Rattle.tc_base.specs.declared.reasons.Why.{Why}
-use Rattle.tc_base.specs.declared.reasons.Why.TheVariants.{N1, N2, N3, N4, N5, N6, N7, N8, N9, N10, N11, N12, N13, N14, N15, N16, N17, N18, N19, N20, N21, N22, N23, N24, N25, N26, N27, N28, N29, N30, N31, N32, N33, N34, N35, N36, N37, N38, N39, N40, N41, N42, N43, N44, N45, N46, N47, N48, N49, N50, N51, N52}
+use Rattle.tc_base.specs.declared.reasons.Why.TheVariants.{N1, N2, N3, N4, N5, N6, N7, N8, N9, N10, N11, N12, N13, N14, N15, N16, N17, N18, N19, N20, N21, N22, N23, N24, N25, N26, N27, N28, N29, N30, N31, N32, N33, N34, N35, N36, N37, N38, N39, N40, N41, N42, N43, N44, N45, N46, N47, N48, N49, N50, N51, N52, N53, N54, N55}
 
 -- the number of a reason
 abbrev pub number_of : Why → ℕ
@@ -57,6 +57,9 @@ number_of N49 = 49
 number_of N50 = 50
 number_of N51 = 51
 number_of N52 = 52
+number_of N53 = 53
+number_of N54 = 54
+number_of N55 = 55
 
 -- the word of a reason
 abbrev pub word_of : Why → List ℕ
@@ -112,3 +115,6 @@ word_of N49 = codes "predicate"
 word_of N50 = codes "attribute"
 word_of N51 = codes "variable-reference"
 word_of N52 = codes "string"
+word_of N53 = codes "parameter-entity"
+word_of N54 = codes "conditional-section"
+word_of N55 = codes "qualified-name"

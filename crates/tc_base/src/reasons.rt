@@ -6,10 +6,11 @@ ghost use Rattle.tc_base.specs.Reasons.{number_of, word_of};
 
 use crate::Place;
 
-/// The construct for which a text is refused, by its number from 1 to 52.
+/// The construct for which a text is refused, by its number from 1 to 55.
 ///
 /// 1 to 5 are constructs of a document, 6 to 17 of a schema in the compact syntax of RELAX NG
-/// (ISO/IEC 19757-2, Annex C), 18 to 42 of a stylesheet, and 43 to 52 of its paths, patterns and tests.
+/// (ISO/IEC 19757-2, Annex C), 18 to 42 of a stylesheet, 43 to 52 of its paths, patterns and tests, and 53 to 55
+/// of a document type definition.
 #[derive(Clone, Copy, Debug, PartialEq, Eq, Hash)]
 pub enum Why {
     /// `doctype-subset`: a document type declaration with an internal subset (XML 1.0, 2.8).
@@ -80,13 +81,13 @@ pub enum Why {
     N33,
     /// `preserve-space`: `xsl:preserve-space` (XSLT 1.0, 3.4).
     N34,
-    /// `extension`: an extension element (XSLT 1.0, 14.1).
+    /// `extension`: the attribute `extension-element-prefixes` of the root (XSLT 1.0, 14.1).
     N35,
     /// `simplified`: a stylesheet that is one literal result element (XSLT 1.0, 2.3).
     N36,
     /// `disable-output-escaping`: the attribute `disable-output-escaping` (XSLT 1.0, 16.4).
     N37,
-    /// `computed-name`: a name or namespace of `xsl:element` that is computed (XSLT 1.0, 7.1.2).
+    /// `computed-name`: a name of `xsl:element` with `{`, or its attribute `namespace` (XSLT 1.0, 7.1.2).
     N38,
     /// `copy-of`: `xsl:copy-of` of anything but attributes (XSLT 1.0, 11.3).
     N39,
@@ -108,7 +109,8 @@ pub enum Why {
     N47,
     /// `arithmetic`: a number or a calculation (XPath 1.0, 3.5).
     N48,
-    /// `predicate`: a predicate (XPath 1.0, 2.4).
+    /// `predicate`: a predicate of an attribute step, of `comment()`, of `processing-instruction()` or of `.`
+    /// (XPath 1.0, 2.4).
     N49,
     /// `attribute`: an attribute in a test or a value (XPath 1.0, 2.2).
     N50,
@@ -116,14 +118,20 @@ pub enum Why {
     N51,
     /// `string`: a string literal (XPath 1.0, 3.7).
     N52,
+    /// `parameter-entity`: a `%`, which declares or refers to a parameter entity (XML 1.0, 2.8 and 4.2).
+    N53,
+    /// `conditional-section`: a section that is included or ignored, `<![` (XML 1.0, 3.4).
+    N54,
+    /// `qualified-name`: a name of an element with a colon (Namespaces in XML 1.0, 4).
+    N55,
 }
 
 impl Why {
-    /// The number of the reason, from 1 to 52. No two reasons have one number.
+    /// The number of the reason, from 1 to 55. No two reasons have one number.
     pub fn number(self) -> u32
         ensures number { result ≡ number_of self }
         ensures least { 1 ≤ result }
-        ensures most { result ≤ 52 }
+        ensures most { result ≤ 55 }
         ensures unique { (other : Why) → number_of other ≡ result → other ≡ self }
     {
         self as u32
@@ -187,6 +195,9 @@ impl Why {
             Why::N50 => "attribute",
             Why::N51 => "variable-reference",
             Why::N52 => "string",
+            Why::N53 => "parameter-entity",
+            Why::N54 => "conditional-section",
+            Why::N55 => "qualified-name",
         }
     }
 }

@@ -89,6 +89,8 @@ fn reasons_have_their_numbers_and_words(rt: HostRuntime) {
         (Why::N42, 42, "unknown-xslt"),
         (Why::N43, 43, "axis"),
         (Why::N52, 52, "string"),
+        (Why::N53, 53, "parameter-entity"),
+        (Why::N55, 55, "qualified-name"),
     ];
     for (why, number, word) in rows {
         assert_eq!(rt; why.number(), number);
