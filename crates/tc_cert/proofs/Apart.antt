@@ -2,8 +2,8 @@
 use Rattle.std.proofs.Common.{◌≡◌, ◌<◌, ◌≤◌, ℕ, List, [], ◌∷◌, ◌++◌, drop, flat_map, get_or, All, Bool, true, false, refl, sym, ap, ◌∙◌, append_assoc, append-nil, arith, decimal}
 use Rattle.std.specs.Char.{digit_value}
 use Rattle.std.proofs.lemmas.List.Elements.{All-head, All-tail}
-use Rattle.tc_cert.specs.Lines.{flag, numbers, pair, row}
-use Rattle.tc_cert.specs.Formed.{IsNumber}
+use Rattle.tc_model.specs.CertificateLines.{flag, numbers, pair, row}
+use Rattle.tc_model.specs.CertificateData.{IsNumber}
 use Rattle.tc_cert.specs.Unambiguous.{OneOutput, OneTree, OneHedge}
 use Rattle.tc_cert.proofs.Fields.{Stops, stops_at, ends_nil, ends_space, one_number, one_list, plain_numbers}
 

@@ -4,8 +4,8 @@ use Rattle.std.specs.Char.{digit_value}
 use Rattle.std.specs.Str.Parse.{AllDigits, IsNumeral}
 use Rattle.std.proofs.lemmas.Fmt.{decimal_is_IsNumeral, decimal_injective}
 use Rattle.std.proofs.lemmas.List.Elements.{All-head, All-tail}
-use Rattle.tc_cert.specs.Lines.{listed}
-use Rattle.tc_cert.specs.Formed.{IsNumber}
+use Rattle.tc_model.specs.CertificateLines.{listed}
+use Rattle.tc_model.specs.CertificateData.{IsNumber}
 
 -- no digit stands at the front
 abbrev pub Stops : List ℕ → Type 0

@@ -1,6 +1,6 @@
 -- What is left of lists that are written from the front.
 use Rattle.std.proofs.Common.{◌≡◌, ◌≤◌, ℕ, zero, suc, ◌+◌, ◌==◌, min, Bool, List, [], ◌∷◌, ◌++◌, length, drop, flat_map, Some, slice_get, cond, true, false, refl, sym, ap, ◌∙◌, append_assoc, length-append, add-one, arith, codes}
-use Rattle.tc_cert.specs.Lines.{listed, change_at, changes}
+use Rattle.tc_model.specs.CertificateLines.{listed, change_at, changes}
 use Rattle.tc_cert.specs.Texts.{ended, rows_in, rows_behind, rows_left}
 
 next_suc : {X : Type 0} (f : X → List ℕ) (xs : List X) (i : ℕ) (x : X) → slice_get xs i ≡ Some x → flat_map f (drop i xs) ≡ f x ++ flat_map f (drop (suc i) xs)

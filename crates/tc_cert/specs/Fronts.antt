@@ -3,8 +3,8 @@ use Rattle.std.specs.Prelude.{◌≡◌, ◌≤◌, ◌+◌, ℕ, List, [], ◌+
 use Rattle.tc_model.specs.declared.lists.TreeLine.{TreeLine}
 use Rattle.tc_model.specs.declared.lists.HedgeLine.{HedgeLine}
 use Rattle.tc_model.specs.declared.lists.CertData.{CertData}
-use Rattle.tc_cert.specs.Lines.{pairs_line, tree_line, hedge_line}
-use Rattle.tc_cert.specs.Formed.{ArePairs, IsFormedTree, IsFormedHedge, AreOrdered, IsFormed}
+use Rattle.tc_model.specs.CertificateLines.{pairs_line, tree_line, hedge_line}
+use Rattle.tc_model.specs.CertificateData.{ArePairs, IsFormedTree, IsFormedHedge, AreOrdered, IsFormed}
 use Rattle.tc_cert.specs.Texts.{Version, ended, heading, counted, tree_in, hedge_in, rows_in, output_text, outputs_part, trees_part, text, CertificateText}
 
 -- lines from the front of a text, by what they say: up to the heading, up to some outputs of so many, up to some

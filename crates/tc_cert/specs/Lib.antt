@@ -1,5 +1,3 @@
-pub mod Lines
-pub mod Formed
 pub mod Puts
 pub mod Texts
 pub mod Fronts

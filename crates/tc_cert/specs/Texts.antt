@@ -3,8 +3,8 @@ use Rattle.std.specs.Prelude.{◌≡◌, ℕ, List, [], ◌∷◌, ◌++◌, len
 use Rattle.tc_model.specs.declared.lists.TreeLine.{TreeLine}
 use Rattle.tc_model.specs.declared.lists.HedgeLine.{HedgeLine}
 use Rattle.tc_model.specs.declared.lists.CertData.{CertData}
-use Rattle.tc_cert.specs.Lines.{pairs_line, tree_line, hedge_line, tree_behind, hedge_behind}
-use Rattle.tc_cert.specs.Formed.{IsFormed}
+use Rattle.tc_model.specs.CertificateLines.{pairs_line, tree_line, hedge_line, tree_behind, hedge_behind}
+use Rattle.tc_model.specs.CertificateData.{IsFormed}
 
 -- how rows are written: each whole, or as changes of the row before
 pub data Version : Type 0 where

@@ -2,8 +2,8 @@
 use Rattle.std.specs.Prelude.{◌≡◌, ℕ, List}
 use Rattle.tc_model.specs.declared.lists.TreeLine.{TreeLine}
 use Rattle.tc_model.specs.declared.lists.HedgeLine.{HedgeLine}
-use Rattle.tc_cert.specs.Lines.{pairs_line, tree_line, hedge_line}
-use Rattle.tc_cert.specs.Formed.{ArePairs, IsFormedTree, IsFormedHedge}
+use Rattle.tc_model.specs.CertificateLines.{pairs_line, tree_line, hedge_line}
+use Rattle.tc_model.specs.CertificateData.{ArePairs, IsFormedTree, IsFormedHedge}
 
 abbrev pub OneOutput : Type 0
 OneOutput = (ps qs : List (ℕ × ℕ)) → ArePairs ps → ArePairs qs → pairs_line ps ≡ pairs_line qs → ps ≡ qs

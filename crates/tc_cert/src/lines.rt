@@ -1,6 +1,6 @@
 // Lines of a certificate, as version 1 writes them.
 ghost use Rattle.std.specs.Prelude.{◌≡◌, ◌++◌, ◌∷◌, [], IfOk, IfErr, OnOk, codes, decimal};
-ghost use Rattle.tc_cert.specs.Lines as lines;
+ghost use Rattle.tc_model.specs.CertificateLines as lines;
 ghost use Rattle.tc_cert.specs.Puts.{IsPut, IsCause};
 
 use crate::text::{CertWriteFault, Text};

@@ -1,7 +1,7 @@
 // The text of a certificate in version 2: rows as changes of the row before.
 ghost use Rattle.std.specs.Prelude.{◌≡◌, ◌≤◌, ◌<◌, ◌++◌, IfOk, IfErr, OnOk, length, codes};
 ghost use Rattle.tc_cert.specs.declared.text.CertWriteFault.TheVariants.{TooLong};
-ghost use Rattle.tc_cert.specs.Lines as lines;
+ghost use Rattle.tc_model.specs.CertificateLines as lines;
 ghost use Rattle.tc_cert.specs.Texts as texts;
 ghost use Rattle.tc_cert.specs.Texts.{by_changes};
 ghost use Rattle.tc_cert.specs.Puts.{IsPut, IsCause};

@@ -64,3 +64,5 @@ pub mod SheetTextTrees
 pub mod SheetTextPhrases
 pub mod SheetText
 pub mod SheetTextLaws
+pub mod CertificateLines
+pub mod CertificateData

@@ -1,6 +1,6 @@
 use Rattle.std.proofs.Common.{◌++◌, flat_map, drop, codes, decimal}
 use Rattle.tc_cert.specs.Puts.{IsOn}
-use Rattle.tc_cert.specs.Lines.{numbers}
+use Rattle.tc_model.specs.CertificateLines.{numbers}
 use Rattle.tc_cert.proofs.lines.put_numbers.Given as goal
 
 abbrev pub invariant-loop-i : goal.invariant-loop-i

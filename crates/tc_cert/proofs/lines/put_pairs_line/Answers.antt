@@ -1,4 +1,4 @@
-use Rattle.tc_cert.specs.Lines as lines
+use Rattle.tc_model.specs.CertificateLines as lines
 use Rattle.tc_cert.specs.Puts.{IsCause}
 use Rattle.tc_cert.proofs.Steps.{piece_step, piece_cause, same_error}
 use Rattle.tc_cert.proofs.lines.put_pairs_line.Goals as goal

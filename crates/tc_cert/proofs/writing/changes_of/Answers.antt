@@ -1,6 +1,6 @@
 use Rattle.std.proofs.Common.{arith, ◌≤◌, length, min, ◌≡◌, ◌++◌, [], drop, sym, ap, ◌∙◌}
 use Rattle.std.proofs.lemmas.List.{append-nil}
-use Rattle.tc_cert.specs.Lines.{changes}
+use Rattle.tc_model.specs.CertificateLines.{changes}
 use Rattle.tc_cert.proofs.Loops.{next_place, next_few, no_changes}
 use Rattle.tc_cert.proofs.writing.changes_of.Goals as goal
 

@@ -1,5 +1,5 @@
 use Rattle.std.proofs.Common.{◌≡◌, ◌≤◌, ◌++◌, length, drop}
-use Rattle.tc_cert.specs.Lines.{changes}
+use Rattle.tc_model.specs.CertificateLines.{changes}
 use Rattle.tc_cert.proofs.writing.changes_of.Given as goal
 
 abbrev pub invariant-loop-i : goal.invariant-loop-i

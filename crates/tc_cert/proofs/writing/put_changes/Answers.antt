@@ -1,5 +1,5 @@
 use Rattle.std.proofs.Common.{◌++◌, codes}
-use Rattle.tc_cert.specs.Lines as lines
+use Rattle.tc_model.specs.CertificateLines as lines
 use Rattle.tc_cert.specs.Puts.{IsCause}
 use Rattle.tc_cert.proofs.Steps.{piece_step, piece_cause, same_error}
 use Rattle.tc_cert.proofs.writing.put_changes.Goals as goal

@@ -1,6 +1,6 @@
 use Rattle.std.proofs.Common.{◌++◌, flat_map, drop, codes}
 use Rattle.tc_cert.specs.Puts.{IsOn}
-use Rattle.tc_cert.specs.Lines.{listed, change}
+use Rattle.tc_model.specs.CertificateLines.{listed, change}
 use Rattle.tc_cert.proofs.writing.put_changes.Given as goal
 
 abbrev pub invariant-loop-i : goal.invariant-loop-i

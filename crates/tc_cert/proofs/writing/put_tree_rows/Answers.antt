@@ -1,5 +1,5 @@
 use Rattle.std.proofs.Common.{arith, suc, ◌-◌, ◌≤◌, length}
-use Rattle.tc_cert.specs.Lines as lines
+use Rattle.tc_model.specs.CertificateLines as lines
 use Rattle.tc_cert.specs.Texts as texts
 use Rattle.tc_cert.specs.Puts.{IsCause}
 use Rattle.tc_cert.proofs.Puts.{ended}

@@ -1,6 +1,6 @@
 use Rattle.std.proofs.Common.{◌-◌, drop}
 use Rattle.tc_cert.specs.Puts.{IsOn}
-use Rattle.tc_cert.specs.Lines.{tree_line, tree_behind}
+use Rattle.tc_model.specs.CertificateLines.{tree_line, tree_behind}
 use Rattle.tc_cert.specs.Texts.{rows_in, rows_left}
 use Rattle.tc_cert.proofs.writing.put_tree_rows.Given as goal
 

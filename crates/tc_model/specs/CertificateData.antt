@@ -7,7 +7,7 @@ use Rattle.std.specs.List.Sorted.{IsStrictlySortedBy}
 use Rattle.tc_model.specs.declared.lists.TreeLine.{TreeLine}
 use Rattle.tc_model.specs.declared.lists.HedgeLine.{HedgeLine}
 use Rattle.tc_model.specs.declared.lists.CertData.{CertData}
-use Rattle.tc_cert.specs.Lines.{pairs_line, tree_line, hedge_line}
+use Rattle.tc_model.specs.CertificateLines.{pairs_line, tree_line, hedge_line}
 
 -- a number of 32 bits
 abbrev pub IsNumber : ℕ → Type 0
