@@ -81,7 +81,7 @@ fn put_row(set: &Mat, from: u32, pairs: &mut Pairs) -> Result<(), NoMemory>
 }
 
 /// The pairs of a set, in order.
-fn pairs_of(alloc: Global, set: &Mat) -> Result<Pairs, NoMemory>
+pub(crate) fn pairs_of(alloc: Global, set: &Mat) -> Result<Pairs, NoMemory>
     ensures { IfOk result (λ l. l ≡ list_of set.now) }
 {
     let mut pairs = Pairs::new(alloc);
