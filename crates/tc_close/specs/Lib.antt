@@ -4,3 +4,6 @@ pub mod Triples
 pub mod Decisions
 pub mod RowState
 pub mod HeldRows
+pub mod Orders
+pub mod Certified
+pub mod Lines
