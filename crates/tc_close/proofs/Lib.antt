@@ -14,3 +14,6 @@ pub mod Carried
 pub mod Verdicts
 pub mod Exact
 pub mod Ordered
+pub mod More
+pub mod Ranked
+pub mod Certified

@@ -2,7 +2,7 @@
 use Rattle.std.specs.Prelude.{◌≡◌, ◌==◌, ℕ, List, [], length, map, get_or}
 use Rattle.tc_model.specs.Numbered.{numbers_below}
 use Rattle.tc_model.specs.States.{input, state_count}
-use Rattle.tc_model.specs.CertificateLines.{tree_line, hedge_line}
+use Rattle.tc_model.specs.CertificateLines.{pairs_line, tree_line, hedge_line}
 use Rattle.tc_model.specs.declared.lists.CertData.{CertData}
 use Rattle.tc_model.specs.declared.lists.HedgeLine.{HedgeLine}
 use Rattle.tc_model.specs.declared.lists.TreeLine.{TreeLine}
@@ -46,6 +46,10 @@ module _ (x : Triple) (s : RowState) where
 
   abbrev pub hedge_lines : List ℕ → List (List ℕ)
   hedge_lines ranks = map (λ p. hedge_line (hedge_ranked ranks p)) (numbers_below (length s.hedges))
+
+-- the lines of all sets of pairs, by their numbers
+abbrev pub output_lines : RowState → List (List ℕ)
+output_lines s = map (λ n. pairs_line (pairs_of (set_at s.outputs n))) (numbers_below (length s.outputs.matrices))
 
 -- the sets of pairs of these numbers
 abbrev pub sets_at : RowState → List ℕ → List (List (ℕ × ℕ))

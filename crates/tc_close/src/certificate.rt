@@ -43,7 +43,7 @@ fn output_lines<K: Over>(
 ) -> Result<Option<PlacedLines>, NoMemory>
     ensures { IfOk result (λ o. MatchOption o
         (longest_file < length (flat_map output_text (sets_of rows.now.outputs.matrices)))
-        (λ all. all ≡ map lines.pairs_line (sets_of rows.now.outputs.matrices))) }
+        (λ all. all ≡ held.output_lines rows.now)) }
 {
     let mut all = PlacedLines::new(alloc);
     let mut room = LONGEST_FILE;
@@ -268,7 +268,7 @@ fn data_by<K: Over>(
     rows: &mut HeldRows<'_, '_, K>,
     numbers: &[u32],
 ) -> Result<CertData, NoMemory>
-    requires { IsOrder (map lines.pairs_line (sets_of rows.old.outputs.matrices)) numbers.now }
+    requires { IsOrder (held.output_lines rows.old) numbers.now }
     ensures same { rows.new ≡ rows.old }
     ensures data { IfOk result (λ d. (x : Triple) → K.is_of x → IsDataBy x rows.old numbers.now d) }
 {
@@ -297,6 +297,7 @@ pub(crate) fn cert_data<K: Over>(
     ensures { IfOk result (λ o. (x : Triple) → K.is_of x → MatchOption o (IsTooLong x) (IsLeastCertificate x)) }
 {
     let _outputs = rows.output_count();
+    let _shape = rows.shape();
     let Some(lines) = output_lines(alloc, rows)? else {
         return Ok(None);
     };

@@ -1,7 +1,7 @@
 // Rows over a machine, held by their numbers.
 ghost use Rattle.std.specs.Prelude.{◌≡◌, ◌<◌, ◌≤◌, [], length, All, IfOk, true};
 ghost use Rattle.tc_beh.specs.Held.{set_at};
-ghost use Rattle.tc_beh.specs.Machines.{IsMachineOf};
+ghost use Rattle.tc_beh.specs.Machines.{IsMachineOf, IsShapeOf};
 ghost use Rattle.tc_beh.specs.Places.{pairs_of};
 ghost use Rattle.tc_close.specs.Lines.{tree_held, hedge_held};
 ghost use Rattle.tc_close.specs.RowState.{Known};
@@ -14,7 +14,7 @@ use std::alloc::Global;
 use std::marker::{Model, PhantomData};
 use tc_alpha::Sym;
 use tc_base::NoMemory;
-use tc_beh::{Machine, RowFault, Rows};
+use tc_beh::{Machine, RowFault, Rows, Shape};
 use tc_model::{HedgeLine, Pairs, TreeLine};
 use tc_settle::{HoldFault, NumberedRows};
 
@@ -84,6 +84,13 @@ impl<'m, 'b, K: Over> HeldRows<'m, 'b, K> {
         self.rows.output_count()
     }
 
+    /// How long the parts of rows are.
+    pub(crate) fn shape(&self) -> Shape
+        ensures { (x : Triple) → K.is_of x → IsShapeOf x result }
+    {
+        self.rows.machine().shape()
+    }
+
     /// How many rows of lists of trees are held.
     pub(crate) fn hedge_count(&self) -> u32
         ensures { result ≡ length self.now.hedges }
@@ -113,7 +120,7 @@ impl<'m, 'b, K: Over> HeldRows<'m, 'b, K> {
         ensures line { IfOk result (λ l. (x : Triple) → K.is_of x → l ≡ tree_held x self.old place) }
         ensures outs { IfOk result (λ l. All (λ n. n < length self.old.outputs.matrices) l.outs) }
     {
-        let _shape = self.rows.machine().shape();
+        let _shape = self.shape();
         self.rooms.tree.load(self.trees.get(place));
         self.rooms.tree.line(alloc)
     }
@@ -125,7 +132,7 @@ impl<'m, 'b, K: Over> HeldRows<'m, 'b, K> {
         ensures line { IfOk result (λ l. (x : Triple) → K.is_of x → l ≡ hedge_held x self.old place) }
         ensures outs { IfOk result (λ l. All (λ n. n < length self.old.outputs.matrices) l.outs) }
     {
-        let _shape = self.rows.machine().shape();
+        let _shape = self.shape();
         self.rooms.hedge.load(self.hedges.get(place));
         self.rooms.hedge.line(alloc)
     }
