@@ -1,9 +1,10 @@
 -- Lines that are put in order, whatever they are lines of: what they mean, and what holds of each.
 use Rattle.std.proofs.Common.{◌≡◌, ◌<◌, ◌↔◌, ℕ, zero, suc, List, [], ◌∷◌, refl, sym, ap, ◌∙◌, subst, map, length, get_or, All, Some, slice_get, arith}
 use Rattle.std.specs.List.{Contains}
-use Rattle.std.proofs.lemmas.List.{length-map, get_or-map, map-map}
+use Rattle.std.proofs.lemmas.List.{length-map, get_or-map}
 use Rattle.std.proofs.lemmas.List.Elements.{All-map, All-get_or, All-weaker, All-tail}
 use Rattle.std.proofs.lemmas.Option.{get_or_from_slice_get}
+use Rattle.std.proofs.lemmas.Simd.{map-map}
 use Rattle.tc_model.specs.CertificateData.{AreOrdered}
 use Rattle.tc_model.specs.Numbered.{numbers_below}
 use Rattle.tc_rules.proofs.Pieces.{length_below, number_at}
@@ -71,3 +72,11 @@ module _ {L R : Type 0} (bytes : L → List ℕ) (meant : L → R) (f : ℕ → 
 
   pub many : length (map f numbers) ≡ n
   many = length-map numbers f ∙ (order.count ∙ line_count)
+
+-- what is worked out alike of all that stand in a list
+pub same_mapped : {X Y : Type 0} (f g : X → Y) (P : X → Type 0) → ((x : X) → P x → f x ≡ g x) → (xs : List X) → All P xs → map f xs ≡ map g xs
+same_mapped f g P same [] all = refl
+same_mapped f g P same (x ∷ xs) all =
+    let first : f x ≡ g x = same x (All-get_or P (x ∷ xs) zero x (omega arith) all) in
+    let rest : map f xs ≡ map g xs = same_mapped f g P same xs (All-tail P x xs all) in
+    cc
