@@ -1,0 +1,162 @@
+// Whether the numbers of a certificate's lines fit a machine.
+ghost use Rattle.std.specs.Prelude.{◌≡◌, ◌<◌, ◌↔◌, ◌+◌, ℕ, length, IsTrue, All, MatchOption};
+ghost use Rattle.tc_beh.specs.Machines.{IsShapeOf};
+ghost use Rattle.tc_rows.specs.Triples.{Triple};
+ghost use Rattle.tc_model.specs.CertificateData.{IsFormed};
+ghost use Rattle.tc_verify.specs.Fits.{AreFrom, PairsFit, RowFits, TreeLineFits, HedgeLineFits, AllFit};
+ghost use Rattle.tc_verify.specs.Firsts.{IsFirstNot};
+ghost use Rattle.tc_verify.specs.Rejects.{IsFirstUnfit, tree_line as line_of_tree, hedge_line as line_of_hedge};
+
+use tc_beh::Shape;
+use tc_model::{CertData, HedgeLine, Numbers, Pairs, TreeLine};
+
+/// Whether each number is one of so many from the first.
+fn are_from(first: u32, count: u32, numbers: &Numbers) -> bool
+    ensures { IsTrue result ↔ AreFrom first count numbers.now }
+{
+    for place in 0..numbers.len() {
+        let number = *numbers.get(place);
+        if number < first || number - first >= count {
+            return false;
+        }
+    }
+    true
+}
+
+/// Whether the pairs are of so many states.
+fn pairs_fit(states: u32, pairs: &Pairs) -> bool
+    ensures { IsTrue result ↔ PairsFit states pairs.now }
+{
+    for place in 0..pairs.len() {
+        let (from, to) = *pairs.get(place);
+        if from >= states || to >= states {
+            return false;
+        }
+    }
+    true
+}
+
+/// Whether the lists of a row have their lengths and numbers.
+fn row_fits(
+    first: u32,
+    flags: u32,
+    shape: Shape,
+    sets: u32,
+    places: &Numbers,
+    outs: &Numbers,
+    looks: &Numbers,
+) -> bool
+    ensures { IsTrue result ↔ RowFits first flags shape.entries shape.looks sets places.now outs.now looks.now }
+{
+    are_from(first, flags, places)
+        && outs.len() == shape.entries
+        && are_from(0, sets, outs)
+        && looks.len() == shape.looks
+}
+
+fn tree_fits(shape: Shape, sets: u32, line: &TreeLine) -> bool
+    ensures { IsTrue result ↔ TreeLineFits shape sets line.now }
+{
+    row_fits(
+        1,
+        shape.patterns,
+        shape,
+        sets,
+        &line.patterns,
+        &line.outs,
+        &line.looks,
+    )
+}
+
+fn hedge_fits(shape: Shape, sets: u32, line: &HedgeLine) -> bool
+    ensures { IsTrue result ↔ HedgeLineFits shape sets line.now }
+{
+    row_fits(
+        0,
+        shape.inputs,
+        shape,
+        sets,
+        &line.states,
+        &line.outs,
+        &line.looks,
+    )
+}
+
+/// The first output that doesn't fit.
+fn first_output(shape: Shape, cert: &CertData) -> Option<u32>
+    ensures { MatchOption result (All (PairsFit shape.outputs) cert.now.outputs) (λ k. IsFirstNot (PairsFit shape.outputs) cert.now.outputs k) }
+{
+    for place in 0..cert.outputs.len() {
+        if !pairs_fit(shape.outputs, cert.outputs.get(place)) {
+            return Some(place);
+        }
+    }
+    None
+}
+
+/// The first row of a tree that doesn't fit.
+fn first_tree(shape: Shape, cert: &CertData) -> Option<u32>
+    ensures { MatchOption result (All (TreeLineFits shape (length cert.now.outputs)) cert.now.trees) (λ k. IsFirstNot (TreeLineFits shape (length cert.now.outputs)) cert.now.trees k) }
+{
+    for place in 0..cert.trees.len() {
+        if !tree_fits(shape, cert.outputs.len(), cert.trees.get(place)) {
+            return Some(place);
+        }
+    }
+    None
+}
+
+/// The first row of a list of trees that doesn't fit.
+fn first_hedge(shape: Shape, cert: &CertData) -> Option<u32>
+    ensures { MatchOption result (All (HedgeLineFits shape (length cert.now.outputs)) cert.now.hedges) (λ k. IsFirstNot (HedgeLineFits shape (length cert.now.outputs)) cert.now.hedges k) }
+{
+    for place in 0..cert.hedges.len() {
+        if !hedge_fits(shape, cert.outputs.len(), cert.hedges.get(place)) {
+            return Some(place);
+        }
+    }
+    None
+}
+
+/// The first line that doesn't fit.
+pub(crate) fn first_unfit(shape: Shape, cert: &CertData) -> Option<u32>
+    requires { IsFormed cert.now }
+    ensures { (x : Triple) → IsShapeOf x shape → MatchOption result (AllFit x cert.now) (λ line. IsFirstUnfit x cert.now line) }
+{
+    if let Some(place) = first_output(shape, cert) {
+        return Some(output_line(place));
+    }
+    if let Some(place) = first_tree(shape, cert) {
+        return Some(tree_line(cert, place));
+    }
+    if let Some(place) = first_hedge(shape, cert) {
+        return Some(hedge_line(cert, place));
+    }
+    None
+}
+
+/// The line of an output.
+fn output_line(place: u32) -> u32
+    requires { place < 65536 }
+    ensures { result ≡ 3 + place }
+{
+    3 + place
+}
+
+/// The line of a tree.
+pub(crate) fn tree_line(cert: &CertData, place: u32) -> u32
+    requires formed { IsFormed cert.now }
+    requires place { place < length cert.now.trees }
+    ensures { result ≡ line_of_tree cert.now place }
+{
+    4 + cert.outputs.len() + place
+}
+
+/// The line of a list of trees.
+pub(crate) fn hedge_line(cert: &CertData, place: u32) -> u32
+    requires formed { IsFormed cert.now }
+    requires place { place < length cert.now.hedges }
+    ensures { result ≡ line_of_hedge cert.now place }
+{
+    5 + cert.outputs.len() + cert.trees.len() + place
+}
