@@ -54,16 +54,16 @@ module _ (x : Triple) (c : CertData) (formed : IsFormed c) (fit : AllFit x c) wh
   tree_shaped l is fits = record {
     ascend = is.patterns.ascending;
     patterns = All-weaker (λ k. (1 ≤ k) × (k < 1 + length x.input.elements)) (λ k. (1 ≤ k) × (k ≤ length x.input.elements)) (λ k b. let low = b.1 in (b.0, omega (arith, low))) l.patterns fits.places_fit;
-    entries = are_entries l.outs fits.out_count fits.outs_fit;
-    looks = record { count = fits.look_count; each = is.looks };
+    entries = are_entries l.outs fits.lists_fit.out_count fits.lists_fit.outs_fit;
+    looks = record { count = fits.lists_fit.look_count; each = is.looks };
   }
 
   pub hedge_shaped : (l : HedgeLine) → IsFormedHedge l → HedgeFits x c l → IsHedgeRow x (hedge_of c.outputs (numbered_hedge l))
   hedge_shaped l is fits = record {
     ascend = is.states.ascending;
     states = All-weaker (λ k. (0 ≤ k) × (k < 0 + state_count x.input input)) (λ k. k < state_count x.input input) (λ k b. from_zero k (state_count x.input input) b.1) l.states fits.places_fit;
-    entries = are_entries l.outs fits.out_count fits.outs_fit;
-    looks = record { count = fits.look_count; each = is.looks };
+    entries = are_entries l.outs fits.lists_fit.out_count fits.lists_fit.outs_fit;
+    looks = record { count = fits.lists_fit.look_count; each = is.looks };
   }
 
   -- all rules hold of the rows that are meant
@@ -105,8 +105,8 @@ module _ (x : Triple) (c : CertData) (formed : IsFormed c) (fit : AllFit x c) wh
     pub is_certificate : IsCertificateData x c
     is_certificate = record {
       outputs_fit = pairs_are;
-      trees_fit = All-map (λ q. All (λ n. n < length c.outputs) q.entries) numbered_tree c.trees (All-weaker (TreeFits x c) (λ l. All (λ n. n < length c.outputs) l.outs) (λ l b. below_count l.outs b.outs_fit) c.trees fit.trees);
-      hedges_fit = All-map (λ q. All (λ n. n < length c.outputs) q.entries) numbered_hedge c.hedges (All-weaker (HedgeFits x c) (λ l. All (λ n. n < length c.outputs) l.outs) (λ l b. below_count l.outs b.outs_fit) c.hedges fit.hedges);
+      trees_fit = All-map (λ q. All (λ n. n < length c.outputs) q.entries) numbered_tree c.trees (All-weaker (TreeFits x c) (λ l. All (λ n. n < length c.outputs) l.outs) (λ l b. below_count l.outs b.lists_fit.outs_fit) c.trees fit.trees);
+      hedges_fit = All-map (λ q. All (λ n. n < length c.outputs) q.entries) numbered_hedge c.hedges (All-weaker (HedgeFits x c) (λ l. All (λ n. n < length c.outputs) l.outs) (λ l b. below_count l.outs b.lists_fit.outs_fit) c.hedges fit.hedges);
       certified = subst (λ ts. AreCertified x ts (map (hedge_of c.outputs) (map numbered_hedge c.hedges))) (sym (map_twice (tree_of c.outputs) numbered_tree c.trees))
           (subst (λ hs. AreCertified x (trees_of c) hs) (sym (map_twice (hedge_of c.outputs) numbered_hedge c.hedges)) certified);
     }

@@ -6,7 +6,7 @@ use Rattle.std.proofs.lemmas.List.{length-map}
 use Rattle.std.proofs.lemmas.List.Elements.{All-contains}
 use Rattle.std.proofs.lemmas.Option.{slice_get-map, slice_get-get_or}
 use Rattle.tc_model.specs.Symbols.{symbol_count}
-use Rattle.tc_mat.specs.Held.{Held}
+use Rattle.tc_mat.specs.Held.{Held, AreDifferent}
 use Rattle.tc_rows.specs.Triples.{Triple}
 use Rattle.tc_rows.specs.Rows.{HedgeRow, TreeRow, IsHedgeRow, IsTreeRow}
 use Rattle.tc_beh.specs.Machines.{IsMachine, IsMachineOf}
@@ -101,6 +101,7 @@ module _ {r : Rows} {hs : List HRow} {ts : List TRow} {hl tl : List (List ℕ)} 
       some = subst IsMachine (sym machine_is) is.some;
       stand = λ x m. stand x (is.stand x (back x m));
       fixed = same.is_fixed ∙ is.fixed;
+      different = subst AreDifferent (sym sets) is.different;
       few_hedges = is.few_hedges;
       few_trees = is.few_trees;
       hedges_stand = λ x m. subst (λ (o : Held). All (HedgeStands x o) hs) (sym sets) (is.hedges_stand x (back x m));

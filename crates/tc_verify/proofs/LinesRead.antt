@@ -40,7 +40,7 @@ fits_room s first sets r places outs values parted fits same =
     let a = parted.flags in
     let b = parted.entries in
     let n : length r.numbers.items ≡ 2 + s.flags + s.entries + s.looks = parted.count in
-    let k = fits.look_count in
+    let k = fits.lists_fit.look_count in
     omega (arith, a, b, n, k)
 
 module _ (m : Machine) (c : CertData) (formed : IsFormed c) (fit : (x : Triple) → IsMachineOf x m → AllFit x c) (some : IsMachine m) (place : ℕ) where
@@ -53,8 +53,8 @@ module _ (m : Machine) (c : CertData) (formed : IsFormed c) (fit : (x : Triple) 
       record {
         ascend = (All-contains IsFormedHedge c.hedges l formed.hedges inside).states.ascending;
         within = subst (λ n. AreFrom 0 n l.states) (sym p.flags) f.places_fit;
-        outs = f.out_count ∙ sym p.entries;
-        looks = fits_room (hedge_layout x) 0 (length c.outputs) r l.states l.outs l.looks p f f.out_count;
+        outs = f.lists_fit.out_count ∙ sym p.entries;
+        looks = fits_room (hedge_layout x) 0 (length c.outputs) r l.states l.outs l.looks p f f.lists_fit.out_count;
       }
 
   pub tree_fits_room : (l : TreeLine) → slice_get c.trees place ≡ Some l → (r : Room) → ((x : Triple) → IsMachineOf x m → IsRoomOf (tree_layout x) r) → FitsRoom 1 r l.patterns l.outs l.looks
@@ -66,8 +66,8 @@ module _ (m : Machine) (c : CertData) (formed : IsFormed c) (fit : (x : Triple) 
       record {
         ascend = (All-contains IsFormedTree c.trees l formed.trees inside).patterns.ascending;
         within = subst (λ n. AreFrom 1 n l.patterns) (sym p.flags) f.places_fit;
-        outs = f.out_count ∙ sym p.entries;
-        looks = fits_room (tree_layout x) 1 (length c.outputs) r l.patterns l.outs l.looks p f f.out_count;
+        outs = f.lists_fit.out_count ∙ sym p.entries;
+        looks = fits_room (tree_layout x) 1 (length c.outputs) r l.patterns l.outs l.looks p f f.lists_fit.out_count;
       }
 
 -- numbers mean the same sets
@@ -98,14 +98,14 @@ module _ (s : Layout) (held : List Matrix) (first : ℕ) (r : Room) (parted : Is
     flags = λ i low. flags.flags i (subst (λ n. i < n) (sym parted.flags) low);
     outs = λ i low.
         let e : get_or outs i 0 ≡ output_at s.flags r.numbers.items i = ap (λ (os : List ℕ). get_or os i 0) outs_are ∙ output_is s.flags s.entries r.numbers.items i low in
-        subst (λ n. n < length held) e (from_zero (get_or outs i 0) (length held) (All-get_or (λ k. (0 ≤ k) × (k < 0 + length held)) outs i 0 (subst (λ n. i < n) (sym fits.out_count) low) fits.outs_fit).1);
+        subst (λ n. n < length held) e (from_zero (get_or outs i 0) (length held) (All-get_or (λ k. (0 ≤ k) × (k < 0 + length held)) outs i 0 (subst (λ n. i < n) (sym fits.lists_fit.out_count) low) fits.lists_fit.outs_fit).1);
     looks = λ i low.
         let e : get_or values i 0 ≡ get_or r.numbers.items (2 + s.flags + s.entries + i) 0 = ap (λ (vs : List ℕ). get_or vs i 0) looks_are ∙ look_is s.flags s.entries r.numbers.items i in
-        subst (λ n. n ≤ 2) e (All-get_or (λ v. v ≤ 2) values i 0 (subst (λ n. i < n) (sym fits.look_count) low) small);
+        subst (λ n. n ≤ 2) e (All-get_or (λ v. v ≤ 2) values i 0 (subst (λ n. i < n) (sym fits.lists_fit.look_count) low) small);
   }
 
   entries_are : entries_by held (outputs_in s.flags s.entries r.numbers.items) ≡ map (λ n. get_or (map pairs_of held) n []) outs
-  entries_are = ap (λ (os : List ℕ). entries_by held os) (sym outs_are) ∙ same_sets held outs (λ k d low. from_zero (get_or outs k d) (length held) (fits.outs_fit k d low).1)
+  entries_are = ap (λ (os : List ℕ). entries_by held os) (sym outs_are) ∙ same_sets held outs (λ k d low. from_zero (get_or outs k d) (length held) (fits.lists_fit.outs_fit k d low).1)
 
 module _ (x : Triple) (c : CertData) (formed : IsFormed c) (fit : AllFit x c) (m : Machine) (is : IsMachineOf x m) (sets : Held) (same : sets_of sets.matrices ≡ c.outputs) (place : ℕ) where
   sizes : length c.outputs ≡ length sets.matrices

@@ -8,7 +8,7 @@ use Rattle.tc_model.specs.Symbols.{symbol_count}
 use Rattle.tc_model.specs.declared.lists.TreeLine.{TreeLine}
 use Rattle.tc_model.specs.declared.lists.HedgeLine.{HedgeLine}
 use Rattle.tc_model.specs.declared.lists.CertData.{CertData}
-use Rattle.tc_mat.specs.Held.{Held}
+use Rattle.tc_mat.specs.Held.{Held, AreDifferent}
 use Rattle.tc_rows.specs.Triples.{Triple, sheet}
 use Rattle.tc_rows.specs.Rows.{HedgeRow, TreeRow}
 use Rattle.tc_rows.specs.Certificates.{tree_of, hedge_of}
@@ -28,6 +28,7 @@ use Rattle.tc_verify.specs.Fits.{numbered_tree, numbered_hedge, trees_of, hedges
 use Rattle.tc_verify.specs.Rooms.{IsReadHedge, IsReadTree, HedgeStands, TreeStands, hedge_numbers, tree_numbers}
 use Rattle.tc_verify.specs.Checkers.{IsChecker}
 use Rattle.tc_verify.specs.Firsts.{AllHold}
+use Rattle.tc_verify.proofs.Distinct.{sets_differ}
 use Rattle.tc_verify.proofs.Certified.{AreRules, is_certificate}
 use Rattle.tc_verify.proofs.LinesRead.{hedge_row_read, hedge_stands_read, tree_row_read, tree_stands_read}
 
@@ -88,6 +89,7 @@ module _ (m : Machine) (c : CertData) (formed : IsFormed c) (fit : (x : Triple) 
         some = subst IsMachine (sym machine) some;
         stand = λ x i. stands x (on x i);
         fixed = fixed;
+        different = subst AreDifferent (sym held) (sets_differ c formed sets same);
         few_hedges = subst (λ n. n ≤ 4000) (sym ch) formed.few_hedges;
         few_trees = subst (λ n. n ≤ 4000) (sym ct) formed.few_trees;
         hedges_stand = λ x i. subst (λ (o : Held). All (HedgeStands x o) hs) (sym held) (hedges_stand_all hs ch eh x (on x i));

@@ -62,9 +62,7 @@ certificate_fits x c is = record {
       let outs = unmapped (λ y. All (λ n. n < length c.outputs) y.entries) numbered_tree c.trees is.trees_fit k d low in
       record {
         places_fit = λ i e s. let (a, b) = row.patterns i e s in (a, omega (arith, b));
-        out_count = sym (length-map l.outs (λ n. get_or c.outputs n [])) ∙ row.entries.count;
-        outs_fit = λ i e s. let low = outs i e s in (omega arith, omega (arith, low));
-        look_count = row.looks.count;
+        lists_fit = record { out_count = sym (length-map l.outs (λ n. get_or c.outputs n [])) ∙ row.entries.count; outs_fit = λ i e s. let low = outs i e s in (omega arith, omega (arith, low)); look_count = row.looks.count };
       };
   hedges = λ k d low.
       let l : HedgeLine = get_or c.hedges k d in
@@ -72,9 +70,7 @@ certificate_fits x c is = record {
       let outs = unmapped (λ y. All (λ n. n < length c.outputs) y.entries) numbered_hedge c.hedges is.hedges_fit k d low in
       record {
         places_fit = λ i e s. let low = row.states i e s in (omega arith, omega (arith, low));
-        out_count = sym (length-map l.outs (λ n. get_or c.outputs n [])) ∙ row.entries.count;
-        outs_fit = λ i e s. let low = outs i e s in (omega arith, omega (arith, low));
-        look_count = row.looks.count;
+        lists_fit = record { out_count = sym (length-map l.outs (λ n. get_or c.outputs n [])) ∙ row.entries.count; outs_fit = λ i e s. let low = outs i e s in (omega arith, omega (arith, low)); look_count = row.looks.count };
       };
 }
   where

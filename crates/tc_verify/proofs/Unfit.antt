@@ -25,16 +25,16 @@ module _ (x : Triple) (s : Shape) (c : CertData) (is : IsShapeOf x s) where
   pairs_back ps f = subst (λ n. PairsFit n ps) (sym is.output_states) f
 
   tree_on : (l : TreeLine) → TreeLineFits s (length c.outputs) l → TreeFits x c l
-  tree_on l f = record { places_fit = subst (λ n. AreFrom 1 n l.patterns) is.input_patterns f.places_fit; out_count = f.out_count ∙ is.entry_number; outs_fit = f.outs_fit; look_count = f.look_count ∙ is.look_number }
+  tree_on l f = record { places_fit = subst (λ n. AreFrom 1 n l.patterns) is.input_patterns f.places_fit; lists_fit = record { out_count = f.lists_fit.out_count ∙ is.entry_number; outs_fit = f.lists_fit.outs_fit; look_count = f.lists_fit.look_count ∙ is.look_number } }
 
   tree_back : (l : TreeLine) → TreeFits x c l → TreeLineFits s (length c.outputs) l
-  tree_back l f = record { places_fit = subst (λ n. AreFrom 1 n l.patterns) (sym is.input_patterns) f.places_fit; out_count = f.out_count ∙ sym is.entry_number; outs_fit = f.outs_fit; look_count = f.look_count ∙ sym is.look_number }
+  tree_back l f = record { places_fit = subst (λ n. AreFrom 1 n l.patterns) (sym is.input_patterns) f.places_fit; lists_fit = record { out_count = f.lists_fit.out_count ∙ sym is.entry_number; outs_fit = f.lists_fit.outs_fit; look_count = f.lists_fit.look_count ∙ sym is.look_number } }
 
   hedge_on : (l : HedgeLine) → HedgeLineFits s (length c.outputs) l → HedgeFits x c l
-  hedge_on l f = record { places_fit = subst (λ n. AreFrom 0 n l.states) is.input_states f.places_fit; out_count = f.out_count ∙ is.entry_number; outs_fit = f.outs_fit; look_count = f.look_count ∙ is.look_number }
+  hedge_on l f = record { places_fit = subst (λ n. AreFrom 0 n l.states) is.input_states f.places_fit; lists_fit = record { out_count = f.lists_fit.out_count ∙ is.entry_number; outs_fit = f.lists_fit.outs_fit; look_count = f.lists_fit.look_count ∙ is.look_number } }
 
   hedge_back : (l : HedgeLine) → HedgeFits x c l → HedgeLineFits s (length c.outputs) l
-  hedge_back l f = record { places_fit = subst (λ n. AreFrom 0 n l.states) (sym is.input_states) f.places_fit; out_count = f.out_count ∙ sym is.entry_number; outs_fit = f.outs_fit; look_count = f.look_count ∙ sym is.look_number }
+  hedge_back l f = record { places_fit = subst (λ n. AreFrom 0 n l.states) (sym is.input_states) f.places_fit; lists_fit = record { out_count = f.lists_fit.out_count ∙ sym is.entry_number; outs_fit = f.lists_fit.outs_fit; look_count = f.lists_fit.look_count ∙ sym is.look_number } }
 
   pub all_fit : All (PairsFit s.outputs) c.outputs → All (TreeLineFits s (length c.outputs)) c.trees → All (HedgeLineFits s (length c.outputs)) c.hedges → AllFit x c
   all_fit o t h = record {

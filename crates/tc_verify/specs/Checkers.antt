@@ -1,6 +1,7 @@
 -- What holds of the rows of a certificate while they are checked.
 use Rattle.std.specs.Prelude.{◌≡◌, ◌≤◌, ◌↔◌, ℕ, List, length, true, All}
 use Rattle.std.specs.List.{Contains}
+use Rattle.tc_mat.specs.Held.{AreDifferent}
 use Rattle.tc_rows.specs.Triples.{Triple}
 use Rattle.tc_beh.specs.Machines.{IsMachine, IsMachineOf}
 use Rattle.tc_beh.specs.Rooms.{hedge_layout, tree_layout}
@@ -21,6 +22,7 @@ pub record IsChecker (r : Rows) (hedges : List HRow) (trees : List TRow) (hedge_
   pub some : IsMachine r.machine.now
   pub stand : (x : Triple) → IsMachineOf x r.machine.now → AreRowsOf x r
   pub fixed : r.is_fixed ≡ true
+  pub different : AreDifferent r.outputs
   pub few_hedges : length hedges ≤ 4000
   pub few_trees : length trees ≤ 4000
   pub hedges_stand : (x : Triple) → IsMachineOf x r.machine.now → All (HedgeStands x r.outputs) hedges

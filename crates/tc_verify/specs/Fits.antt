@@ -44,12 +44,16 @@ AreFrom first count numbers = All (λ k. (first ≤ k) × (k < first + count)) n
 abbrev pub PairsFit : ℕ → List (ℕ × ℕ) → Type 0
 PairsFit states pairs = All (λ p. (p.0 < states) × (p.1 < states)) pairs
 
--- of the lists of a row: places from the first, so many outputs and looks
-pub record RowFits (first flags entry_number look_number sets : ℕ) (places outs values : List ℕ) : Type 0 where
-  pub places_fit : AreFrom first flags places
+-- so many outputs, each one of the sets, and so many looks
+pub record ListsFit (entry_number look_number sets : ℕ) (outs values : List ℕ) : Type 0 where
   pub out_count : length outs ≡ entry_number
   pub outs_fit : AreFrom 0 sets outs
   pub look_count : length values ≡ look_number
+
+-- of the lists of a row: places from the first, outputs and looks
+pub record RowFits (first flags entry_number look_number sets : ℕ) (places outs values : List ℕ) : Type 0 where
+  pub places_fit : AreFrom first flags places
+  pub lists_fit : ListsFit entry_number look_number sets outs values
 
 module _ (x : Triple) (c : CertData) where
   abbrev pub OutputFits : List (ℕ × ℕ) → Type 0

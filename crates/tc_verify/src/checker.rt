@@ -7,8 +7,8 @@ ghost use Rattle.tc_verify.specs.Fits.{AllFit};
 
 use crate::lists::Lists;
 use crate::reading::{hedge_lists, read_hedges, read_trees, tree_lists};
-use crate::trials;
 use std::alloc::Global;
+use tc_alpha::Sym;
 use tc_base::NoMemory;
 use tc_beh::{HRow, Machine, Rows, TRow};
 use tc_model::CertData;
@@ -98,7 +98,10 @@ impl<'m, 'b> Checker<'m, 'b> {
         ensures same { view_of self.new ≡ view_of self.old }
         ensures exact { MatchBool result (EmptyHolds (view_of self.old)) (EmptyBreaks (view_of self.old)) }
     {
-        trials::empty_is_listed(&mut self.rows, &self.hedge_lists, &mut self.new_hedge)
+        match self.rows.empty_row(&mut self.new_hedge) {
+            Ok(()) => self.hedge_lists.has(self.new_hedge.numbers()),
+            Err(_) => false,
+        }
     }
 
     /// Whether the row of a text is listed, or a text can't stand in the input.
@@ -108,7 +111,11 @@ impl<'m, 'b> Checker<'m, 'b> {
         ensures same { view_of self.new ≡ view_of self.old }
         ensures exact { MatchBool result (TextHolds (view_of self.old)) (TextBreaks (view_of self.old)) }
     {
-        trials::text_is_listed(&mut self.rows, &self.tree_lists, &mut self.new_tree)
+        match self.rows.text_row(&mut self.new_tree) {
+            Ok(true) => self.tree_lists.has(self.new_tree.numbers()),
+            Ok(false) => true,
+            Err(_) => false,
+        }
     }
 
     /// Whether what a tree behind a list of trees makes is listed, or can't stand in the input.
@@ -120,13 +127,13 @@ impl<'m, 'b> Checker<'m, 'b> {
         ensures same { view_of self.new ≡ view_of self.old }
         ensures exact { MatchBool result (AppendHolds (view_of self.old) hedge tree) (AppendBreaks (view_of self.old) hedge tree) }
     {
-        trials::append_is_listed(
-            &mut self.rows,
-            &self.hedge_lists,
-            &self.hedges[hedge as usize],
-            &self.trees[tree as usize],
-            &mut self.new_hedge,
-        )
+        let first = &self.hedges[hedge as usize];
+        let next = &self.trees[tree as usize];
+        match self.rows.append(first, next, &mut self.new_hedge) {
+            Ok(true) => self.hedge_lists.has(self.new_hedge.numbers()),
+            Ok(false) => true,
+            Err(_) => false,
+        }
     }
 
     /// Whether what an element of a symbol around a list of trees makes is listed, or can't stand in the input.
@@ -138,13 +145,12 @@ impl<'m, 'b> Checker<'m, 'b> {
         ensures same { view_of self.new ≡ view_of self.old }
         ensures exact { MatchBool result (WrapHolds (view_of self.old) hedge symbol) (WrapBreaks (view_of self.old) hedge symbol) }
     {
-        trials::wrap_is_listed(
-            &mut self.rows,
-            &self.tree_lists,
-            symbol,
-            &self.hedges[hedge as usize],
-            &mut self.new_tree,
-        )
+        let inner = &self.hedges[hedge as usize];
+        match self.rows.wrap(Sym(symbol), inner, &mut self.new_tree) {
+            Ok(true) => self.tree_lists.has(self.new_tree.numbers()),
+            Ok(false) => true,
+            Err(_) => false,
+        }
     }
 
     /// Whether a tree passes at the root, or isn't a document of the input.
@@ -155,6 +161,7 @@ impl<'m, 'b> Checker<'m, 'b> {
         ensures same { view_of self.new ≡ view_of self.old }
         ensures exact { MatchBool result (RootHolds (view_of self.old) tree) (RootBreaks (view_of self.old) tree) }
     {
-        trials::root_is_good(&mut self.rows, &self.trees[tree as usize])
+        let root = &self.trees[tree as usize];
+        !self.rows.admitted(root) || self.rows.root_ok(root)
     }
 }

@@ -8,7 +8,7 @@ ghost use Rattle.tc_verify.specs.Fits.{IsCertificateData, ListsAllLive, trees_of
 ghost use Rattle.tc_verify.specs.Firsts.{AllHold, IsFirstOf};
 ghost use Rattle.tc_verify.specs.Listings.{Listing, hedge_rows, tree_rows};
 ghost use Rattle.tc_verify.specs.Rejects.{IsCause};
-ghost use Rattle.tc_verify.specs.Told.{IsRejectOf, AreIn};
+ghost use Rattle.tc_verify.specs.Told.{Tells, IsRejectOf, AreIn};
 
 use crate::checker::Checker;
 use crate::first::{Broken, first_broken};
@@ -18,6 +18,12 @@ use std::alloc::Global;
 use tc_beh::Machine;
 use tc_model::CertData;
 
+fn told(rule: RejectRule, line: u32, other: u32) -> Reject
+    ensures { Tells result rule line other }
+{
+    Reject { line, rule, other }
+}
+
 /// What is told of a rule that is broken.
 fn reject_of(cert: &CertData, broken: Broken) -> Reject
     requires formed { IsFormed cert.now }
@@ -25,31 +31,15 @@ fn reject_of(cert: &CertData, broken: Broken) -> Reject
     ensures { IsRejectOf cert.now broken result }
 {
     match broken {
-        Broken::Empty => Reject {
-            line: 0,
-            rule: RejectRule::Empty,
-            other: 0,
-        },
-        Broken::Text => Reject {
-            line: 0,
-            rule: RejectRule::Text,
-            other: 0,
-        },
-        Broken::Append(hedge, tree) => Reject {
-            line: hedge_line(cert, hedge),
-            rule: RejectRule::Append,
-            other: tree_line(cert, tree),
-        },
-        Broken::Wrap(hedge, symbol) => Reject {
-            line: hedge_line(cert, hedge),
-            rule: RejectRule::Wrap,
-            other: symbol,
-        },
-        Broken::Root(tree) => Reject {
-            line: tree_line(cert, tree),
-            rule: RejectRule::Root,
-            other: 0,
-        },
+        Broken::Empty => told(RejectRule::Empty, 0, 0),
+        Broken::Text => told(RejectRule::Text, 0, 0),
+        Broken::Append(hedge, tree) => told(
+            RejectRule::Append,
+            hedge_line(cert, hedge),
+            tree_line(cert, tree),
+        ),
+        Broken::Wrap(hedge, symbol) => told(RejectRule::Wrap, hedge_line(cert, hedge), symbol),
+        Broken::Root(tree) => told(RejectRule::Root, tree_line(cert, tree), 0),
     }
 }
 
@@ -69,11 +59,7 @@ pub fn verify(alloc: Global, machine: &Machine<'_>, cert: &CertData) -> Result<(
     ensures cause { IfErr result (λ e. (x : Triple) → IsMachineOf x machine.now → IsCause x cert.now e) }
 {
     if let Some(line) = first_unfit(machine.shape(), cert) {
-        return Err(VerifyFault::Rejected(Reject {
-            line,
-            rule: RejectRule::Fit,
-            other: 0,
-        }));
+        return Err(VerifyFault::Rejected(told(RejectRule::Fit, line, 0)));
     }
     let mut checker = Checker::new(alloc, machine, cert)?;
     match first_broken(&mut checker) {

@@ -3,7 +3,7 @@ ghost use Rattle.std.specs.Prelude.{◌≡◌, ◌<◌, ◌↔◌, ◌+◌, ℕ,
 ghost use Rattle.tc_beh.specs.Machines.{IsShapeOf};
 ghost use Rattle.tc_rows.specs.Triples.{Triple};
 ghost use Rattle.tc_model.specs.CertificateData.{IsFormed};
-ghost use Rattle.tc_verify.specs.Fits.{AreFrom, PairsFit, RowFits, TreeLineFits, HedgeLineFits, AllFit};
+ghost use Rattle.tc_verify.specs.Fits.{AreFrom, PairsFit, ListsFit, TreeLineFits, HedgeLineFits, AllFit};
 ghost use Rattle.tc_verify.specs.Firsts.{IsFirstNot};
 ghost use Rattle.tc_verify.specs.Rejects.{IsFirstUnfit, tree_line as line_of_tree, hedge_line as line_of_hedge};
 
@@ -36,50 +36,24 @@ fn pairs_fit(states: u32, pairs: &Pairs) -> bool
     true
 }
 
-/// Whether the lists of a row have their lengths and numbers.
-fn row_fits(
-    first: u32,
-    flags: u32,
-    shape: Shape,
-    sets: u32,
-    places: &Numbers,
-    outs: &Numbers,
-    looks: &Numbers,
-) -> bool
-    ensures { IsTrue result ↔ RowFits first flags shape.entries shape.looks sets places.now outs.now looks.now }
+/// Whether the outputs and the looks of a row have their lengths, and the outputs are among so many sets.
+fn lists_fit(shape: Shape, sets: u32, outs: &Numbers, looks: &Numbers) -> bool
+    ensures { IsTrue result ↔ ListsFit shape.entries shape.looks sets outs.now looks.now }
 {
-    are_from(first, flags, places)
-        && outs.len() == shape.entries
-        && are_from(0, sets, outs)
-        && looks.len() == shape.looks
+    outs.len() == shape.entries && are_from(0, sets, outs) && looks.len() == shape.looks
 }
 
 fn tree_fits(shape: Shape, sets: u32, line: &TreeLine) -> bool
     ensures { IsTrue result ↔ TreeLineFits shape sets line.now }
 {
-    row_fits(
-        1,
-        shape.patterns,
-        shape,
-        sets,
-        &line.patterns,
-        &line.outs,
-        &line.looks,
-    )
+    are_from(1, shape.patterns, &line.patterns)
+        && lists_fit(shape, sets, &line.outs, &line.looks)
 }
 
 fn hedge_fits(shape: Shape, sets: u32, line: &HedgeLine) -> bool
     ensures { IsTrue result ↔ HedgeLineFits shape sets line.now }
 {
-    row_fits(
-        0,
-        shape.inputs,
-        shape,
-        sets,
-        &line.states,
-        &line.outs,
-        &line.looks,
-    )
+    are_from(0, shape.inputs, &line.states) && lists_fit(shape, sets, &line.outs, &line.looks)
 }
 
 /// The first output that doesn't fit.

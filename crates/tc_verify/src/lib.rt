@@ -9,7 +9,6 @@ mod fit;
 mod lists;
 mod reading;
 mod reject;
-mod trials;
 
 pub use checking::verify;
 pub use reject::{Reject, RejectRule, VerifyFault};

@@ -4,6 +4,7 @@ use Rattle.tc_beh.specs.declared.rooms.HRow.{HRow}
 use Rattle.tc_beh.specs.declared.rooms.TRow.{TRow}
 use Rattle.tc_verify.specs.Rooms.{hedge_numbers, tree_numbers}
 use Rattle.tc_verify.proofs.Certified.{pairs_are}
+use Rattle.tc_verify.proofs.Distinct.{outputs_differ}
 use Rattle.tc_verify.proofs.Made.{checker_made, hedge_rows_are, tree_rows_are}
 use Rattle.tc_verify.proofs.checker.Checker.new.Goals as goal
 
@@ -24,3 +25,6 @@ returns-clause-hedges c = λ x is. hedge_rows_are c.args.machine.now c.args.cert
 
 pub returns-clause-trees : goal.returns-clause-trees
 returns-clause-trees c = λ x is. tree_rows_are c.args.machine.now c.args.cert.now c.requires.formed c.requires.fit c.in_ok-rows.rows.outputs c.in_ok-rows.ensures.sets c.in_ok-trees.trees.items c.in_ok-trees.ensures.count c.in_ok-trees.ensures.each x is
+
+pub fixed-requires-clause-distinct : goal.fixed-requires-clause-distinct
+fixed-requires-clause-distinct c = outputs_differ c.args.cert.now c.requires.formed
