@@ -17,7 +17,8 @@ use Rattle.tc_rows.specs.Rows.{HedgeRow, TreeRow, AreEntries, AreLooks, IsHedgeR
 use Rattle.tc_rows.specs.Certificates.{AreCertified, AreClosed, IsCertificate, tree_of, hedge_of, sets_of}
 use Rattle.tc_model.specs.CertificateData.{ArePairs, IsFormed, IsFormedTree, IsFormedHedge}
 use Rattle.tc_verify.specs.Rules as r
-use Rattle.tc_verify.specs.Fits.{numbered_tree, numbered_hedge, trees_of, hedges_of, IsCertificateData, AreFrom, PairsFit, RowFits, OutputFits, TreeFits, HedgeFits, AllFit}
+use Rattle.tc_rows.specs.CertificateRows.{numbered_tree, numbered_hedge, trees_of, hedges_of, IsCertificateData}
+use Rattle.tc_verify.specs.Fits.{AreFrom, PairsFit, RowFits, OutputFits, TreeFits, HedgeFits, AllFit}
 
 map_twice : {A B C : Type 0} (f : B → C) (g : A → B) (xs : List A) → map f (map g xs) ≡ map (λ y. f (g y)) xs
 map_twice f g [] = refl

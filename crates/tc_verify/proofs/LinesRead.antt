@@ -24,7 +24,8 @@ use Rattle.tc_beh.specs.declared.rooms.HRow.{HRow}
 use Rattle.tc_beh.specs.declared.rooms.TRow.{TRow}
 use Rattle.tc_beh.proofs.RoomRows.{output_is, look_is}
 use Rattle.tc_model.specs.CertificateData.{IsFormed, IsFormedTree, IsFormedHedge}
-use Rattle.tc_verify.specs.Fits.{numbered_tree, numbered_hedge, AreFrom, RowFits, TreeFits, HedgeFits, AllFit}
+use Rattle.tc_rows.specs.CertificateRows.{numbered_tree, numbered_hedge}
+use Rattle.tc_verify.specs.Fits.{AreFrom, RowFits, TreeFits, HedgeFits, AllFit}
 use Rattle.tc_verify.specs.Rooms.{IsReadHedge, IsReadTree, HedgeStands, TreeStands}
 use Rattle.tc_verify.proofs.Certified.{from_zero, hedge_shaped, tree_shaped}
 use Rattle.tc_verify.proofs.Kept.{contains_at}

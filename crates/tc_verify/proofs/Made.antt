@@ -24,7 +24,8 @@ use Rattle.tc_beh.specs.declared.rooms.TRow.{TRow}
 use Rattle.tc_model.specs.CertificateData.{IsFormed}
 use Rattle.tc_verify.specs.Rules.{IsEmptyListed, IsTextListed, AppendIsListed, WrapIsListed, RootIsGood}
 use Rattle.tc_verify.specs.Listings.{Listing, hedge_rows, tree_rows}
-use Rattle.tc_verify.specs.Fits.{numbered_tree, numbered_hedge, trees_of, hedges_of, IsCertificateData, AllFit}
+use Rattle.tc_rows.specs.CertificateRows.{numbered_tree, numbered_hedge, trees_of, hedges_of, IsCertificateData}
+use Rattle.tc_verify.specs.Fits.{AllFit}
 use Rattle.tc_verify.specs.Rooms.{IsReadHedge, IsReadTree, HedgeStands, TreeStands, hedge_numbers, tree_numbers}
 use Rattle.tc_verify.specs.Checkers.{IsChecker}
 use Rattle.tc_verify.specs.Firsts.{AllHold}

@@ -16,7 +16,8 @@ use Rattle.tc_rows.specs.Certificates.{AreCertified, tree_of, hedge_of}
 use Rattle.tc_beh.specs.Machines.{IsMachineOf}
 use Rattle.tc_model.specs.CertificateData.{IsFormed}
 use Rattle.tc_verify.specs.Rules.{IsEmptyListed, IsTextListed, AppendIsListed, WrapIsListed, RootIsGood}
-use Rattle.tc_verify.specs.Fits.{numbered_tree, numbered_hedge, trees_of, hedges_of, IsCertificateData, PairsFit, OutputFits, TreeFits, HedgeFits, AllFit}
+use Rattle.tc_rows.specs.CertificateRows.{numbered_tree, numbered_hedge, trees_of, hedges_of, IsCertificateData}
+use Rattle.tc_verify.specs.Fits.{PairsFit, OutputFits, TreeFits, HedgeFits, AllFit}
 use Rattle.tc_verify.specs.Listings.{Listing, hedge_rows, tree_rows, AppendHolds, WrapHolds}
 use Rattle.tc_verify.specs.Firsts.{ListsHold, RowsHold, WrapsToo, IsFirstAt, IsFirstPair, IsFirstOf, AppendsHold, WrapsHold, symbols}
 use Rattle.tc_verify.specs.Told.{Tells, IsRejectOf, AreIn}

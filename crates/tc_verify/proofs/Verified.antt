@@ -7,7 +7,8 @@ use Rattle.tc_model.specs.declared.lists.CertData.{CertData}
 use Rattle.tc_beh.specs.Machines.{IsMachineOf}
 use Rattle.tc_beh.specs.declared.machine.Machine.{Machine}
 use Rattle.tc_model.specs.CertificateData.{IsFormed}
-use Rattle.tc_verify.specs.Fits.{trees_of, hedges_of, numbered_tree, numbered_hedge, IsCertificateData, AllFit}
+use Rattle.tc_rows.specs.CertificateRows.{trees_of, hedges_of, numbered_tree, numbered_hedge, IsCertificateData}
+use Rattle.tc_verify.specs.Fits.{AllFit}
 use Rattle.tc_verify.specs.Listings.{Listing, hedge_rows, tree_rows}
 use Rattle.tc_verify.specs.Firsts.{AllHold}
 use Rattle.tc_verify.specs.Rejects.{IsFirstUnfit}

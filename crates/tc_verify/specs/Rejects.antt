@@ -6,7 +6,8 @@ use Rattle.tc_model.specs.declared.lists.HedgeLine.{HedgeLine}
 use Rattle.tc_model.specs.declared.lists.CertData.{CertData}
 use Rattle.tc_rows.specs.Triples.{Triple}
 use Rattle.tc_verify.specs.Rules as r
-use Rattle.tc_verify.specs.Fits.{trees_of, hedges_of, OutputFits, TreeFits, HedgeFits, AllFit, IsCertificateData}
+use Rattle.tc_rows.specs.CertificateRows.{trees_of, hedges_of, IsCertificateData}
+use Rattle.tc_verify.specs.Fits.{OutputFits, TreeFits, HedgeFits, AllFit}
 use Rattle.tc_verify.specs.declared.reject.RejectRule.{RejectRule}
 use Rattle.tc_verify.specs.declared.reject.RejectRule.TheVariants as rule
 use Rattle.tc_verify.specs.declared.reject.Reject.{Reject}

@@ -28,7 +28,9 @@ pub(crate) struct Checker<'m, 'b> {
 impl<'m, 'b> Checker<'m, 'b> {
     ghost use Rattle.std.specs.Prelude.{◌≡◌, ◌<◌, ◌≤◌, IfOk, length, MatchBool};
     ghost use Rattle.tc_model.specs.Symbols.{symbol_count};
-    ghost use Rattle.tc_verify.specs.Fits.{AllFit, hedges_of, trees_of};
+    ghost use Rattle.tc_rows.specs.CertificateRows.{hedges_of, trees_of};
+
+    ghost use Rattle.tc_verify.specs.Fits.{AllFit};
     ghost use Rattle.tc_verify.specs.Checkers.{AreChecked, view_of};
     ghost use Rattle.tc_verify.specs.Listings.{hedge_rows, tree_rows, EmptyHolds, EmptyBreaks, TextHolds, TextBreaks, AppendHolds, AppendBreaks, WrapHolds, WrapBreaks, RootHolds, RootBreaks};
 

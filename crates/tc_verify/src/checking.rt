@@ -4,7 +4,7 @@ ghost use Rattle.tc_model.specs.Safety.{IsSafe};
 ghost use Rattle.tc_rows.specs.Triples.{Triple, sheet};
 ghost use Rattle.tc_beh.specs.Machines.{IsMachine, IsMachineOf};
 ghost use Rattle.tc_model.specs.CertificateData.{IsFormed};
-ghost use Rattle.tc_verify.specs.Fits.{IsCertificateData, ListsAllLive, trees_of, hedges_of};
+ghost use Rattle.tc_rows.specs.CertificateRows.{IsCertificateData, ListsAllLive, trees_of, hedges_of};
 ghost use Rattle.tc_verify.specs.Firsts.{AllHold, IsFirstOf};
 ghost use Rattle.tc_verify.specs.Listings.{Listing, hedge_rows, tree_rows};
 ghost use Rattle.tc_verify.specs.Rejects.{IsCause};
