@@ -18,7 +18,8 @@ use Rattle.tc_rows.specs.Certificates.{AreCertified, AreClosed, IsCertificate, t
 use Rattle.tc_model.specs.CertificateData.{ArePairs, IsFormed, IsFormedTree, IsFormedHedge}
 use Rattle.tc_verify.specs.Rules as r
 use Rattle.tc_rows.specs.CertificateRows.{numbered_tree, numbered_hedge, trees_of, hedges_of, IsCertificateData}
-use Rattle.tc_verify.specs.Fits.{AreFrom, PairsFit, RowFits, OutputFits, TreeFits, HedgeFits, AllFit}
+use Rattle.tc_model.specs.CertificateFits.{AllFit, AreFrom, HedgeFits, OutputFits, PairsFit, RowFits, TreeFits}
+use Rattle.tc_verify.specs.Fits.{sizes}
 
 map_twice : {A B C : Type 0} (f : B → C) (g : A → B) (xs : List A) → map f (map g xs) ≡ map (λ y. f (g y)) xs
 map_twice f g [] = refl
@@ -33,12 +34,12 @@ from_zero k n low = omega (arith, low)
 both : {A : Type 0} (P Q : A → Type 0) (xs : List A) → All P xs → All Q xs → All (λ y. P y × Q y) xs
 both P Q xs p q k d low = (p k d low, q k d low)
 
-module _ (x : Triple) (c : CertData) (formed : IsFormed c) (fit : AllFit x c) where
+module _ (x : Triple) (c : CertData) (formed : IsFormed c) (fit : AllFit (sizes x) c) where
   pub pairs_are : All (IsPairs (t.outputs x)) c.outputs
   pairs_are =
-      All-weaker (λ ps. IsStrictlySortedBy pair_cmp ps × OutputFits x c ps) (IsPairs (t.outputs x))
+      All-weaker (λ ps. IsStrictlySortedBy pair_cmp ps × OutputFits (sizes x) c ps) (IsPairs (t.outputs x))
       (λ ps b. record { ascend = b.0; within = λ i j inside. All-contains (λ p. (p.0 < t.outputs x) × (p.1 < t.outputs x)) ps (i, j) b.1 inside }) c.outputs
-      (both (IsStrictlySortedBy pair_cmp) (OutputFits x c) c.outputs (All-weaker ArePairs (IsStrictlySortedBy pair_cmp) (λ ps p. p.ascending) c.outputs formed.outputs) fit.outputs)
+      (both (IsStrictlySortedBy pair_cmp) (OutputFits (sizes x) c) c.outputs (All-weaker ArePairs (IsStrictlySortedBy pair_cmp) (λ ps p. p.ascending) c.outputs formed.outputs) fit.outputs)
 
   sets_are : (outs : List ℕ) → AreFrom 0 (length c.outputs) outs → All (IsPairs (t.outputs x)) (sets_of c.outputs outs)
   sets_are outs few =
@@ -51,20 +52,20 @@ module _ (x : Triple) (c : CertData) (formed : IsFormed c) (fit : AllFit x c) wh
   are_entries : (outs : List ℕ) → length outs ≡ entries x → AreFrom 0 (length c.outputs) outs → AreEntries x (sets_of c.outputs outs)
   are_entries outs count few = record { count = length-map outs (λ n. get_or c.outputs n []) ∙ count; each = sets_are outs few }
 
-  pub tree_shaped : (l : TreeLine) → IsFormedTree l → TreeFits x c l → IsTreeRow x (tree_of c.outputs (numbered_tree l))
+  pub tree_shaped : (l : TreeLine) → IsFormedTree l → TreeFits (sizes x) c l → IsTreeRow x (tree_of c.outputs (numbered_tree l))
   tree_shaped l is fits = record {
     ascend = is.patterns.ascending;
-    patterns = All-weaker (λ k. (1 ≤ k) × (k < 1 + length x.input.elements)) (λ k. (1 ≤ k) × (k ≤ length x.input.elements)) (λ k b. let low = b.1 in (b.0, omega (arith, low))) l.patterns fits.places_fit;
-    entries = are_entries l.outs fits.lists_fit.out_count fits.lists_fit.outs_fit;
-    looks = record { count = fits.lists_fit.look_count; each = is.looks };
+    patterns = All-weaker (λ k. (1 ≤ k) × (k < 1 + length x.input.elements)) (λ k. (1 ≤ k) × (k ≤ length x.input.elements)) (λ k b. let low = b.1 in (b.0, omega (arith, low))) l.patterns fits.members_fit;
+    entries = are_entries l.outs fits.out_count fits.outs_fit;
+    looks = record { count = fits.look_count; each = is.looks };
   }
 
-  pub hedge_shaped : (l : HedgeLine) → IsFormedHedge l → HedgeFits x c l → IsHedgeRow x (hedge_of c.outputs (numbered_hedge l))
+  pub hedge_shaped : (l : HedgeLine) → IsFormedHedge l → HedgeFits (sizes x) c l → IsHedgeRow x (hedge_of c.outputs (numbered_hedge l))
   hedge_shaped l is fits = record {
     ascend = is.states.ascending;
-    states = All-weaker (λ k. (0 ≤ k) × (k < 0 + state_count x.input input)) (λ k. k < state_count x.input input) (λ k b. from_zero k (state_count x.input input) b.1) l.states fits.places_fit;
-    entries = are_entries l.outs fits.lists_fit.out_count fits.lists_fit.outs_fit;
-    looks = record { count = fits.lists_fit.look_count; each = is.looks };
+    states = All-weaker (λ k. (0 ≤ k) × (k < 0 + state_count x.input input)) (λ k. k < state_count x.input input) (λ k b. from_zero k (state_count x.input input) b.1) l.states fits.members_fit;
+    entries = are_entries l.outs fits.out_count fits.outs_fit;
+    looks = record { count = fits.look_count; each = is.looks };
   }
 
   -- all rules hold of the rows that are meant
@@ -96,9 +97,9 @@ module _ (x : Triple) (c : CertData) (formed : IsFormed c) (fit : AllFit x c) wh
     certified : AreCertified x (trees_of c) (hedges_of c)
     certified = record {
       tree_rows = All-map (IsTreeRow x) (λ l. tree_of c.outputs (numbered_tree l)) c.trees
-          (All-weaker (λ l. IsFormedTree l × TreeFits x c l) (λ l. IsTreeRow x (tree_of c.outputs (numbered_tree l))) (λ l b. tree_shaped l b.0 b.1) c.trees (both IsFormedTree (TreeFits x c) c.trees formed.trees fit.trees));
+          (All-weaker (λ l. IsFormedTree l × TreeFits (sizes x) c l) (λ l. IsTreeRow x (tree_of c.outputs (numbered_tree l))) (λ l b. tree_shaped l b.0 b.1) c.trees (both IsFormedTree (TreeFits (sizes x) c) c.trees formed.trees fit.trees));
       hedge_rows = All-map (IsHedgeRow x) (λ l. hedge_of c.outputs (numbered_hedge l)) c.hedges
-          (All-weaker (λ l. IsFormedHedge l × HedgeFits x c l) (λ l. IsHedgeRow x (hedge_of c.outputs (numbered_hedge l))) (λ l b. hedge_shaped l b.0 b.1) c.hedges (both IsFormedHedge (HedgeFits x c) c.hedges formed.hedges fit.hedges));
+          (All-weaker (λ l. IsFormedHedge l × HedgeFits (sizes x) c l) (λ l. IsHedgeRow x (hedge_of c.outputs (numbered_hedge l))) (λ l b. hedge_shaped l b.0 b.1) c.hedges (both IsFormedHedge (HedgeFits (sizes x) c) c.hedges formed.hedges fit.hedges));
       closed = closed;
       root = λ tree a good. let (j, low, at) = place_of (trees_of c) tree a in rules.roots j (tree_low j low) tree at good;
     }
@@ -106,8 +107,8 @@ module _ (x : Triple) (c : CertData) (formed : IsFormed c) (fit : AllFit x c) wh
     pub is_certificate : IsCertificateData x c
     is_certificate = record {
       outputs_fit = pairs_are;
-      trees_fit = All-map (λ q. All (λ n. n < length c.outputs) q.entries) numbered_tree c.trees (All-weaker (TreeFits x c) (λ l. All (λ n. n < length c.outputs) l.outs) (λ l b. below_count l.outs b.lists_fit.outs_fit) c.trees fit.trees);
-      hedges_fit = All-map (λ q. All (λ n. n < length c.outputs) q.entries) numbered_hedge c.hedges (All-weaker (HedgeFits x c) (λ l. All (λ n. n < length c.outputs) l.outs) (λ l b. below_count l.outs b.lists_fit.outs_fit) c.hedges fit.hedges);
+      trees_fit = All-map (λ q. All (λ n. n < length c.outputs) q.entries) numbered_tree c.trees (All-weaker (TreeFits (sizes x) c) (λ l. All (λ n. n < length c.outputs) l.outs) (λ l b. below_count l.outs b.outs_fit) c.trees fit.trees);
+      hedges_fit = All-map (λ q. All (λ n. n < length c.outputs) q.entries) numbered_hedge c.hedges (All-weaker (HedgeFits (sizes x) c) (λ l. All (λ n. n < length c.outputs) l.outs) (λ l b. below_count l.outs b.outs_fit) c.hedges fit.hedges);
       certified = subst (λ ts. AreCertified x ts (map (hedge_of c.outputs) (map numbered_hedge c.hedges))) (sym (map_twice (tree_of c.outputs) numbered_tree c.trees))
           (subst (λ hs. AreCertified x (trees_of c) hs) (sym (map_twice (hedge_of c.outputs) numbered_hedge c.hedges)) certified);
     }

@@ -25,7 +25,8 @@ use Rattle.tc_beh.specs.declared.rooms.TRow.{TRow}
 use Rattle.tc_beh.proofs.RoomRows.{output_is, look_is}
 use Rattle.tc_model.specs.CertificateData.{IsFormed, IsFormedTree, IsFormedHedge}
 use Rattle.tc_rows.specs.CertificateRows.{numbered_tree, numbered_hedge}
-use Rattle.tc_verify.specs.Fits.{AreFrom, RowFits, TreeFits, HedgeFits, AllFit}
+use Rattle.tc_model.specs.CertificateFits.{AllFit, AreFrom, HedgeFits, RowFits, TreeFits}
+use Rattle.tc_verify.specs.Fits.{sizes}
 use Rattle.tc_verify.specs.Rooms.{IsReadHedge, IsReadTree, HedgeStands, TreeStands}
 use Rattle.tc_verify.proofs.Certified.{from_zero, hedge_shaped, tree_shaped}
 use Rattle.tc_verify.proofs.Kept.{contains_at}
@@ -41,21 +42,21 @@ fits_room s first sets r places outs values parted fits same =
     let a = parted.flags in
     let b = parted.entries in
     let n : length r.numbers.items ≡ 2 + s.flags + s.entries + s.looks = parted.count in
-    let k = fits.lists_fit.look_count in
+    let k = fits.look_count in
     omega (arith, a, b, n, k)
 
-module _ (m : Machine) (c : CertData) (formed : IsFormed c) (fit : (x : Triple) → IsMachineOf x m → AllFit x c) (some : IsMachine m) (place : ℕ) where
+module _ (m : Machine) (c : CertData) (formed : IsFormed c) (fit : (x : Triple) → IsMachineOf x m → AllFit (sizes x) c) (some : IsMachine m) (place : ℕ) where
   pub hedge_fits_room : (l : HedgeLine) → slice_get c.hedges place ≡ Some l → (r : Room) → ((x : Triple) → IsMachineOf x m → IsRoomOf (hedge_layout x) r) → FitsRoom 0 r l.states l.outs l.looks
   hedge_fits_room l at r parted =
       let (x, is) = some in
       let p = parted x is in
       let inside = contains_at c.hedges place l at in
-      let f = All-contains (HedgeFits x c) c.hedges l (fit x is).hedges inside in
+      let f = All-contains (HedgeFits (sizes x) c) c.hedges l (fit x is).hedges inside in
       record {
         ascend = (All-contains IsFormedHedge c.hedges l formed.hedges inside).states.ascending;
-        within = subst (λ n. AreFrom 0 n l.states) (sym p.flags) f.places_fit;
-        outs = f.lists_fit.out_count ∙ sym p.entries;
-        looks = fits_room (hedge_layout x) 0 (length c.outputs) r l.states l.outs l.looks p f f.lists_fit.out_count;
+        within = subst (λ n. AreFrom 0 n l.states) (sym p.flags) f.members_fit;
+        outs = f.out_count ∙ sym p.entries;
+        looks = fits_room (hedge_layout x) 0 (length c.outputs) r l.states l.outs l.looks p f f.out_count;
       }
 
   pub tree_fits_room : (l : TreeLine) → slice_get c.trees place ≡ Some l → (r : Room) → ((x : Triple) → IsMachineOf x m → IsRoomOf (tree_layout x) r) → FitsRoom 1 r l.patterns l.outs l.looks
@@ -63,12 +64,12 @@ module _ (m : Machine) (c : CertData) (formed : IsFormed c) (fit : (x : Triple) 
       let (x, is) = some in
       let p = parted x is in
       let inside = contains_at c.trees place l at in
-      let f = All-contains (TreeFits x c) c.trees l (fit x is).trees inside in
+      let f = All-contains (TreeFits (sizes x) c) c.trees l (fit x is).trees inside in
       record {
         ascend = (All-contains IsFormedTree c.trees l formed.trees inside).patterns.ascending;
-        within = subst (λ n. AreFrom 1 n l.patterns) (sym p.flags) f.places_fit;
-        outs = f.lists_fit.out_count ∙ sym p.entries;
-        looks = fits_room (tree_layout x) 1 (length c.outputs) r l.patterns l.outs l.looks p f f.lists_fit.out_count;
+        within = subst (λ n. AreFrom 1 n l.patterns) (sym p.flags) f.members_fit;
+        outs = f.out_count ∙ sym p.entries;
+        looks = fits_room (tree_layout x) 1 (length c.outputs) r l.patterns l.outs l.looks p f f.out_count;
       }
 
 -- numbers mean the same sets
@@ -99,16 +100,16 @@ module _ (s : Layout) (held : List Matrix) (first : ℕ) (r : Room) (parted : Is
     flags = λ i low. flags.flags i (subst (λ n. i < n) (sym parted.flags) low);
     outs = λ i low.
         let e : get_or outs i 0 ≡ output_at s.flags r.numbers.items i = ap (λ (os : List ℕ). get_or os i 0) outs_are ∙ output_is s.flags s.entries r.numbers.items i low in
-        subst (λ n. n < length held) e (from_zero (get_or outs i 0) (length held) (All-get_or (λ k. (0 ≤ k) × (k < 0 + length held)) outs i 0 (subst (λ n. i < n) (sym fits.lists_fit.out_count) low) fits.lists_fit.outs_fit).1);
+        subst (λ n. n < length held) e (from_zero (get_or outs i 0) (length held) (All-get_or (λ k. (0 ≤ k) × (k < 0 + length held)) outs i 0 (subst (λ n. i < n) (sym fits.out_count) low) fits.outs_fit).1);
     looks = λ i low.
         let e : get_or values i 0 ≡ get_or r.numbers.items (2 + s.flags + s.entries + i) 0 = ap (λ (vs : List ℕ). get_or vs i 0) looks_are ∙ look_is s.flags s.entries r.numbers.items i in
-        subst (λ n. n ≤ 2) e (All-get_or (λ v. v ≤ 2) values i 0 (subst (λ n. i < n) (sym fits.lists_fit.look_count) low) small);
+        subst (λ n. n ≤ 2) e (All-get_or (λ v. v ≤ 2) values i 0 (subst (λ n. i < n) (sym fits.look_count) low) small);
   }
 
   entries_are : entries_by held (outputs_in s.flags s.entries r.numbers.items) ≡ map (λ n. get_or (map pairs_of held) n []) outs
-  entries_are = ap (λ (os : List ℕ). entries_by held os) (sym outs_are) ∙ same_sets held outs (λ k d low. from_zero (get_or outs k d) (length held) (fits.lists_fit.outs_fit k d low).1)
+  entries_are = ap (λ (os : List ℕ). entries_by held os) (sym outs_are) ∙ same_sets held outs (λ k d low. from_zero (get_or outs k d) (length held) (fits.outs_fit k d low).1)
 
-module _ (x : Triple) (c : CertData) (formed : IsFormed c) (fit : AllFit x c) (m : Machine) (is : IsMachineOf x m) (sets : Held) (same : sets_of sets.matrices ≡ c.outputs) (place : ℕ) where
+module _ (x : Triple) (c : CertData) (formed : IsFormed c) (fit : AllFit (sizes x) c) (m : Machine) (is : IsMachineOf x m) (sets : Held) (same : sets_of sets.matrices ≡ c.outputs) (place : ℕ) where
   sizes : length c.outputs ≡ length sets.matrices
   sizes = ap length (sym same) ∙ length-map sets.matrices pairs_of
 
@@ -117,7 +118,7 @@ module _ (x : Triple) (c : CertData) (formed : IsFormed c) (fit : AllFit x c) (m
     inside_hedges = contains_at c.hedges place l at
 
     hedge_fits : RowFits 0 (state_count x.input input) (entries x) (looks x) (length sets.matrices) l.states l.outs l.looks
-    hedge_fits = subst (λ n. RowFits 0 (state_count x.input input) (entries x) (looks x) n l.states l.outs l.looks) sizes (All-contains (HedgeFits x c) c.hedges l fit.hedges inside_hedges)
+    hedge_fits = subst (λ n. RowFits 0 (state_count x.input input) (entries x) (looks x) n l.states l.outs l.looks) sizes (All-contains (HedgeFits (sizes x) c) c.hedges l fit.hedges inside_hedges)
 
     hedge_small : All (λ v. v ≤ 2) l.looks
     hedge_small = (All-contains IsFormedHedge c.hedges l formed.hedges inside_hedges).looks
@@ -140,7 +141,7 @@ module _ (x : Triple) (c : CertData) (formed : IsFormed c) (fit : AllFit x c) (m
     hedge_stands_read = record {
       parted = read.parted x is;
       numbers = is_room (hedge_layout x) sets.matrices 0 h.room (read.parted x is) read.flags l.ends l.bears l.states l.outs l.looks (read.line l at) hedge_fits hedge_small;
-      row = subst (IsHedgeRow x) (sym hedge_row_read) (hedge_shaped x c formed fit l (All-contains IsFormedHedge c.hedges l formed.hedges inside_hedges) (All-contains (HedgeFits x c) c.hedges l fit.hedges inside_hedges));
+      row = subst (IsHedgeRow x) (sym hedge_row_read) (hedge_shaped x c formed fit l (All-contains IsFormedHedge c.hedges l formed.hedges inside_hedges) (All-contains (HedgeFits (sizes x) c) c.hedges l fit.hedges inside_hedges));
     }
 
   module _ (l : TreeLine) (at : slice_get c.trees place ≡ Some l) (h : TRow) (read : IsReadTree m c place h) where
@@ -148,7 +149,7 @@ module _ (x : Triple) (c : CertData) (formed : IsFormed c) (fit : AllFit x c) (m
     inside_trees = contains_at c.trees place l at
 
     tree_fits : RowFits 1 (length x.input.elements) (entries x) (looks x) (length sets.matrices) l.patterns l.outs l.looks
-    tree_fits = subst (λ n. RowFits 1 (length x.input.elements) (entries x) (looks x) n l.patterns l.outs l.looks) sizes (All-contains (TreeFits x c) c.trees l fit.trees inside_trees)
+    tree_fits = subst (λ n. RowFits 1 (length x.input.elements) (entries x) (looks x) n l.patterns l.outs l.looks) sizes (All-contains (TreeFits (sizes x) c) c.trees l fit.trees inside_trees)
 
     tree_small : All (λ v. v ≤ 2) l.looks
     tree_small = (All-contains IsFormedTree c.trees l formed.trees inside_trees).looks
@@ -170,5 +171,5 @@ module _ (x : Triple) (c : CertData) (formed : IsFormed c) (fit : AllFit x c) (m
     tree_stands_read = record {
       parted = read.parted x is;
       numbers = is_room (tree_layout x) sets.matrices 1 h.room (read.parted x is) read.flags l.text l.bears l.patterns l.outs l.looks (read.line l at) tree_fits tree_small;
-      row = subst (IsTreeRow x) (sym tree_row_read) (tree_shaped x c formed fit l (All-contains IsFormedTree c.trees l formed.trees inside_trees) (All-contains (TreeFits x c) c.trees l fit.trees inside_trees));
+      row = subst (IsTreeRow x) (sym tree_row_read) (tree_shaped x c formed fit l (All-contains IsFormedTree c.trees l formed.trees inside_trees) (All-contains (TreeFits (sizes x) c) c.trees l fit.trees inside_trees));
     }

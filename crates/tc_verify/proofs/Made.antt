@@ -25,7 +25,8 @@ use Rattle.tc_model.specs.CertificateData.{IsFormed}
 use Rattle.tc_verify.specs.Rules.{IsEmptyListed, IsTextListed, AppendIsListed, WrapIsListed, RootIsGood}
 use Rattle.tc_verify.specs.Listings.{Listing, hedge_rows, tree_rows}
 use Rattle.tc_rows.specs.CertificateRows.{numbered_tree, numbered_hedge, trees_of, hedges_of, IsCertificateData}
-use Rattle.tc_verify.specs.Fits.{AllFit}
+use Rattle.tc_model.specs.CertificateFits.{AllFit}
+use Rattle.tc_verify.specs.Fits.{sizes}
 use Rattle.tc_verify.specs.Rooms.{IsReadHedge, IsReadTree, HedgeStands, TreeStands, hedge_numbers, tree_numbers}
 use Rattle.tc_verify.specs.Checkers.{IsChecker}
 use Rattle.tc_verify.specs.Firsts.{AllHold}
@@ -49,7 +50,7 @@ map_both : {A B C : Type 0} (f : B → C) (g : A → B) (xs : List A) → map f 
 map_both f g [] = refl
 map_both f g (y ∷ ys) = ap (λ zs. f (g y) ∷ zs) (map_both f g ys)
 
-module _ (m : Machine) (c : CertData) (formed : IsFormed c) (fit : (x : Triple) → IsMachineOf x m → AllFit x c) (sets : Held) (same : sets_of sets.matrices ≡ c.outputs) where
+module _ (m : Machine) (c : CertData) (formed : IsFormed c) (fit : (x : Triple) → IsMachineOf x m → AllFit (sizes x) c) (sets : Held) (same : sets_of sets.matrices ≡ c.outputs) where
   module _ (hs : List HRow) (count : length hs ≡ length c.hedges) (each : (k : ℕ) (h : HRow) → slice_get hs k ≡ Some h → IsReadHedge m c k h) (x : Triple) (is : IsMachineOf x m) where
     pub hedges_stand_all : All (HedgeStands x sets) hs
     hedges_stand_all k d low =
@@ -102,7 +103,7 @@ module _ (m : Machine) (c : CertData) (formed : IsFormed c) (fit : (x : Triple) 
       }
 
 -- where all rules hold of the listing, they hold of the certificate
-module _ (x : Triple) (c : CertData) (formed : IsFormed c) (fit : AllFit x c) (l : Listing) (is : IsMachineOf x l.machine) (hs : hedge_rows l x ≡ hedges_of c) (ts : tree_rows l x ≡ trees_of c) where
+module _ (x : Triple) (c : CertData) (formed : IsFormed c) (fit : AllFit (sizes x) c) (l : Listing) (is : IsMachineOf x l.machine) (hs : hedge_rows l x ≡ hedges_of c) (ts : tree_rows l x ≡ trees_of c) where
   pub hedge_count : length l.hedges ≡ length c.hedges
   hedge_count = sym (length-map l.hedges (hedge_row x l.sets.matrices)) ∙ (ap length hs ∙ length-map c.hedges (λ k. hedge_of c.outputs (numbered_hedge k)))
 

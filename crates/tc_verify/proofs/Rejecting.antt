@@ -17,11 +17,12 @@ use Rattle.tc_beh.specs.Machines.{IsMachineOf}
 use Rattle.tc_model.specs.CertificateData.{IsFormed}
 use Rattle.tc_verify.specs.Rules.{IsEmptyListed, IsTextListed, AppendIsListed, WrapIsListed, RootIsGood}
 use Rattle.tc_rows.specs.CertificateRows.{numbered_tree, numbered_hedge, trees_of, hedges_of, IsCertificateData}
-use Rattle.tc_verify.specs.Fits.{PairsFit, OutputFits, TreeFits, HedgeFits, AllFit}
+use Rattle.tc_model.specs.CertificateFits.{AllFit, HedgeFits, IsFirstUnfit, IsUnfit, OutputFits, PairsFit, TreeFits, line_of_hedge, line_of_output, line_of_tree}
+use Rattle.tc_verify.specs.Fits.{sizes}
 use Rattle.tc_verify.specs.Listings.{Listing, hedge_rows, tree_rows, AppendHolds, WrapHolds}
 use Rattle.tc_verify.specs.Firsts.{ListsHold, RowsHold, WrapsToo, IsFirstAt, IsFirstPair, IsFirstOf, AppendsHold, WrapsHold, symbols}
 use Rattle.tc_verify.specs.Told.{Tells, IsRejectOf, AreIn}
-use Rattle.tc_verify.specs.Rejects.{output_line, tree_line, hedge_line, IsUnfit, IsFirstUnfit, IsBroken, IsFirstBroken, IsRejected, rank}
+use Rattle.tc_verify.specs.Rejects.{IsBroken, IsFirstBroken, IsRejected, rank}
 use Rattle.tc_verify.specs.declared.reject.Reject.{Reject}
 use Rattle.tc_verify.specs.declared.reject.RejectRule.{RejectRule}
 use Rattle.tc_verify.specs.declared.reject.RejectRule.TheVariants as rule
@@ -41,10 +42,10 @@ below_or a b = grind arith
 
 module _ (x : Triple) (c : CertData) where
   -- where all fit no line is unfit
-  none_unfit : AllFit x c → (l : ℕ) → ¬ IsUnfit x c l
-  none_unfit fit l (inl (k, ps, e, at, bad)) = bad (All-contains (OutputFits x c) c.outputs ps fit.outputs (contains_at c.outputs k ps at))
-  none_unfit fit l (inr (inl (k, ps, e, at, bad))) = bad (All-contains (TreeFits x c) c.trees ps fit.trees (contains_at c.trees k ps at))
-  none_unfit fit l (inr (inr (k, ps, e, at, bad))) = bad (All-contains (HedgeFits x c) c.hedges ps fit.hedges (contains_at c.hedges k ps at))
+  none_unfit : AllFit (sizes x) c → (l : ℕ) → ¬ IsUnfit (sizes x) c l
+  none_unfit fit l (inl (k, ps, e, at, bad)) = bad (All-contains (OutputFits (sizes x) c) c.outputs ps fit.outputs (contains_at c.outputs k ps at))
+  none_unfit fit l (inr (inl (k, ps, e, at, bad))) = bad (All-contains (TreeFits (sizes x) c) c.trees ps fit.trees (contains_at c.trees k ps at))
+  none_unfit fit l (inr (inr (k, ps, e, at, bad))) = bad (All-contains (HedgeFits (sizes x) c) c.hedges ps fit.hedges (contains_at c.hedges k ps at))
 
 unmapped : {A B : Type 0} (P : B → Type 0) (f : A → B) (ys : List A) → All P (map f ys) → All (λ y. P (f y)) ys
 unmapped P f ys all k d low = subst P (get_or-map f ys k d (f d) low) (all k (f d) (subst (λ n. k < n) (sym (length-map ys f)) low))
@@ -54,7 +55,7 @@ maps f g [] = refl
 maps f g (y ∷ ys) = ap (λ zs. f (g y) ∷ zs) (maps f g ys)
 
 -- a certificate's numbers fit
-certificate_fits : (x : Triple) (c : CertData) → IsCertificateData x c → AllFit x c
+certificate_fits : (x : Triple) (c : CertData) → IsCertificateData x c → AllFit (sizes x) c
 certificate_fits x c is = record {
   outputs = λ k d low. pairs (get_or c.outputs k d) (is.outputs_fit k d low);
   trees = λ k d low.
@@ -62,20 +63,24 @@ certificate_fits x c is = record {
       let row = unmapped (IsTreeRow x) (λ (y : TreeLine). tree_of c.outputs (numbered_tree y)) c.trees (subst (All (IsTreeRow x)) (maps (tree_of c.outputs) numbered_tree c.trees) is.certified.tree_rows) k d low in
       let outs = unmapped (λ y. All (λ n. n < length c.outputs) y.entries) numbered_tree c.trees is.trees_fit k d low in
       record {
-        places_fit = λ i e s. let (a, b) = row.patterns i e s in (a, omega (arith, b));
-        lists_fit = record { out_count = sym (length-map l.outs (λ n. get_or c.outputs n [])) ∙ row.entries.count; outs_fit = λ i e s. let low = outs i e s in (omega arith, omega (arith, low)); look_count = row.looks.count };
+        members_fit = λ i e s. let (a, b) = row.patterns i e s in (a, omega (arith, b));
+        out_count = sym (length-map l.outs (λ n. get_or c.outputs n [])) ∙ row.entries.count;
+        outs_fit = λ i e s. let low = outs i e s in (omega arith, omega (arith, low));
+        look_count = row.looks.count;
       };
   hedges = λ k d low.
       let l : HedgeLine = get_or c.hedges k d in
       let row = unmapped (IsHedgeRow x) (λ (y : HedgeLine). hedge_of c.outputs (numbered_hedge y)) c.hedges (subst (All (IsHedgeRow x)) (maps (hedge_of c.outputs) numbered_hedge c.hedges) is.certified.hedge_rows) k d low in
       let outs = unmapped (λ y. All (λ n. n < length c.outputs) y.entries) numbered_hedge c.hedges is.hedges_fit k d low in
       record {
-        places_fit = λ i e s. let low = row.states i e s in (omega arith, omega (arith, low));
-        lists_fit = record { out_count = sym (length-map l.outs (λ n. get_or c.outputs n [])) ∙ row.entries.count; outs_fit = λ i e s. let low = outs i e s in (omega arith, omega (arith, low)); look_count = row.looks.count };
+        members_fit = λ i e s. let low = row.states i e s in (omega arith, omega (arith, low));
+        out_count = sym (length-map l.outs (λ n. get_or c.outputs n [])) ∙ row.entries.count;
+        outs_fit = λ i e s. let low = outs i e s in (omega arith, omega (arith, low));
+        look_count = row.looks.count;
       };
 }
   where
-    pairs : (ps : List (ℕ × ℕ)) → IsPairs (t.outputs x) ps → OutputFits x c ps
+    pairs : (ps : List (ℕ × ℕ)) → IsPairs (t.outputs x) ps → OutputFits (sizes x) c ps
     pairs ps is k d low = is.within (get_or ps k d).0 (get_or ps k d).1 (Contains-get_or ps k d low)
 
 -- data with a rule that is broken is none
@@ -86,7 +91,7 @@ module _ (x : Triple) (c : CertData) (is : IsCertificateData x c) where
   trees_in : map (tree_of c.outputs) (map numbered_tree c.trees) ≡ trees_of c
   trees_in = maps (tree_of c.outputs) numbered_tree c.trees
 
-  certified : AreCertified x (trees_of c) (hedges_of c)
+  pub certified : AreCertified x (trees_of c) (hedges_of c)
   certified = subst (λ ts. AreCertified x ts (hedges_of c)) trees_in (subst (λ hs. AreCertified x (map (tree_of c.outputs) (map numbered_tree c.trees)) hs) hedges_in is.certified)
 
   none_broken : (r : RejectRule) (l o : ℕ) → ¬ IsBroken x c r l o
@@ -103,7 +108,7 @@ rejected : (x : Triple) (c : CertData) (r : Reject) → IsFirstBroken x c r.rule
 rejected x c r first earlier = record { first = first; earlier = earlier; none = λ is. none_broken x c is r.rule r.line r.other first.broken }
 
 -- a line that doesn't fit
-pub unfit_rejected : (x : Triple) (c : CertData) (line : ℕ) → IsFirstUnfit x c line → IsRejected x c (record { line = line; rule = rule.Fit; other = 0 })
+pub unfit_rejected : (x : Triple) (c : CertData) (line : ℕ) → IsFirstUnfit (sizes x) c line → IsRejected x c (record { line = line; rule = rule.Fit; other = 0 })
 unfit_rejected x c line is = rejected x c (record { line = line; rule = rule.Fit; other = 0 }) first earlier
   where
     first : IsFirstBroken x c rule.Fit line 0
@@ -124,7 +129,7 @@ told x c ru li ot r t p =
     subst (IsRejected x c) (ap (λ a. Made a ru ot) (sym t.by_line) ∙ (ap (λ b. Made r.line b ot) (sym t.by_rule) ∙ ap (λ d. Made r.line r.rule d) (sym t.by_other))) p
 
 -- the first rule that the listing breaks is the first that the certificate breaks
-module _ (x : Triple) (c : CertData) (formed : IsFormed c) (fit : AllFit x c) (l : Listing) (is : IsMachineOf x l.machine) (hs : hedge_rows l x ≡ hedges_of c) (ts : tree_rows l x ≡ trees_of c) where
+module _ (x : Triple) (c : CertData) (formed : IsFormed c) (fit : AllFit (sizes x) c) (l : Listing) (is : IsMachineOf x l.machine) (hs : hedge_rows l x ≡ hedges_of c) (ts : tree_rows l x ≡ trees_of c) where
   abbrev Appends : Type 0
   Appends = (i j : ℕ) → i < length c.hedges → j < length c.trees → AppendIsListed x (trees_of c) (hedges_of c) i j
 
@@ -179,9 +184,9 @@ module _ (x : Triple) (c : CertData) (formed : IsFormed c) (fit : AllFit x c) (l
       (record { broken = (subst (λ t. ¬ IsTextListed x t) ts (bad x is), refl, refl); least = λ k o b. inr (sym b.1.0, omega arith) })
       (all_before 3 (λ y. subst (IsEmptyListed x) hs (e x is)) (never 3 3 (omega arith)) (never 4 3 (omega arith)) (never 5 3 (omega arith)) (omega arith))
 
-  append_first : (i j : ℕ) → IsFirstOf l (broken.Append i j) → IsRejected x c (record { line = hedge_line c i; rule = rule.Append; other = tree_line c j })
+  append_first : (i j : ℕ) → IsFirstOf l (broken.Append i j) → IsRejected x c (record { line = line_of_hedge c i; rule = rule.Append; other = line_of_tree c j })
   append_first i j (lists, first) =
-      rejected x c (record { line = hedge_line c i; rule = rule.Append; other = tree_line c j })
+      rejected x c (record { line = line_of_hedge c i; rule = rule.Append; other = line_of_tree c j })
       (record {
         broken = (i, j, subst (λ n. i < n) (hedge_count x c formed fit l is hs ts) first.low, subst (λ n. j < n) (tree_count x c formed fit l is hs ts) first.here.low, refl, refl, on (λ t h. ¬ AppendIsListed x t h i j) (first.here.breaks x is));
         least = least;
@@ -191,7 +196,7 @@ module _ (x : Triple) (c : CertData) (formed : IsFormed c) (fit : AllFit x c) (l
       listed : (k m : ℕ) → AppendHolds l k m → AppendIsListed x (trees_of c) (hedges_of c) k m
       listed k m holds = on (λ t h. AppendIsListed x t h k m) (holds x is)
 
-      least : (k o : ℕ) → IsBroken x c rule.Append k o → (hedge_line c i < k) ⊎ ((hedge_line c i ≡ k) × (tree_line c j ≤ o))
+      least : (k o : ℕ) → IsBroken x c rule.Append k o → (line_of_hedge c i < k) ⊎ ((line_of_hedge c i ≡ k) × (line_of_tree c j ≤ o))
       least k o (a, b, p, q, e, f, bad) = elim (below_or a i) [
         | inl low ↦ absurd (bad (listed a b (first.earlier a low b (tree_in b q))))
         | inr high ↦ elim (later_or_same i a high) [
@@ -203,9 +208,9 @@ module _ (x : Triple) (c : CertData) (formed : IsFormed c) (fit : AllFit x c) (l
         ]
       ]
 
-  wrap_first : (i s : ℕ) → IsFirstOf l (broken.Wrap i s) → IsRejected x c (record { line = hedge_line c i; rule = rule.Wrap; other = s })
+  wrap_first : (i s : ℕ) → IsFirstOf l (broken.Wrap i s) → IsRejected x c (record { line = line_of_hedge c i; rule = rule.Wrap; other = s })
   wrap_first i s (rows, first) =
-      rejected x c (record { line = hedge_line c i; rule = rule.Wrap; other = s })
+      rejected x c (record { line = line_of_hedge c i; rule = rule.Wrap; other = s })
       (record {
         broken = (i, subst (λ n. i < n) (hedge_count x c formed fit l is hs ts) first.low, subst (λ n. s < n) (symbols_are x c formed fit l is hs ts) first.here.low, refl, on (λ t h. ¬ WrapIsListed x t h i s) (first.here.breaks x is));
         least = least;
@@ -215,7 +220,7 @@ module _ (x : Triple) (c : CertData) (formed : IsFormed c) (fit : AllFit x c) (l
       listed : (k m : ℕ) → WrapHolds l k m → WrapIsListed x (trees_of c) (hedges_of c) k m
       listed k m holds = on (λ t h. WrapIsListed x t h k m) (holds x is)
 
-      least : (k o : ℕ) → IsBroken x c rule.Wrap k o → (hedge_line c i < k) ⊎ ((hedge_line c i ≡ k) × (s ≤ o))
+      least : (k o : ℕ) → IsBroken x c rule.Wrap k o → (line_of_hedge c i < k) ⊎ ((line_of_hedge c i ≡ k) × (s ≤ o))
       least k o (a, p, q, e, bad) = elim (below_or a i) [
         | inl low ↦ absurd (bad (listed a o (first.earlier a low o (symbol_in o q))))
         | inr high ↦ elim (later_or_same i a high) [
@@ -227,16 +232,16 @@ module _ (x : Triple) (c : CertData) (formed : IsFormed c) (fit : AllFit x c) (l
         ]
       ]
 
-  root_first : (j : ℕ) → IsFirstOf l (broken.Root j) → IsRejected x c (record { line = tree_line c j; rule = rule.Root; other = 0 })
+  root_first : (j : ℕ) → IsFirstOf l (broken.Root j) → IsRejected x c (record { line = line_of_tree c j; rule = rule.Root; other = 0 })
   root_first j (rows, first) =
-      rejected x c (record { line = tree_line c j; rule = rule.Root; other = 0 })
+      rejected x c (record { line = line_of_tree c j; rule = rule.Root; other = 0 })
       (record {
         broken = (j, subst (λ n. j < n) (tree_count x c formed fit l is hs ts) first.low, refl, refl, on (λ t h. ¬ RootIsGood x t h j) (first.breaks x is));
         least = least;
       })
       (all_before 6 (λ y. empty_listed rows.rows.lists) (λ y. text_listed rows.rows.lists) (λ y. appends_listed rows.rows) (λ y. wraps_listed rows) (omega arith))
     where
-      least : (k o : ℕ) → IsBroken x c rule.Root k o → (tree_line c j < k) ⊎ ((tree_line c j ≡ k) × (0 ≤ o))
+      least : (k o : ℕ) → IsBroken x c rule.Root k o → (line_of_tree c j < k) ⊎ ((line_of_tree c j ≡ k) × (0 ≤ o))
       least k o (a, p, e, f, bad) = elim (below_or a j) [
         | inl low ↦ absurd (bad (on (λ t h. RootIsGood x t h a) (first.before a low x is)))
         | inr high ↦ elim (later_or_same j a high) [ inl more ↦ inl (omega (arith, more, e)) | inr same ↦ inr (omega (arith, same, e), omega arith) ]
@@ -245,9 +250,9 @@ module _ (x : Triple) (c : CertData) (formed : IsFormed c) (fit : AllFit x c) (l
   pub broken_rejected : (b : Broken) (r : Reject) → IsFirstOf l b → IsRejectOf c b r → IsRejected x c r
   broken_rejected broken.Empty r f e = told x c rule.Empty 0 0 r e (empty_first f)
   broken_rejected broken.Text r f e = told x c rule.Text 0 0 r e (text_first f)
-  broken_rejected (broken.Append i j) r f e = told x c rule.Append (hedge_line c i) (tree_line c j) r e (append_first i j f)
-  broken_rejected (broken.Wrap i s) r f e = told x c rule.Wrap (hedge_line c i) s r e (wrap_first i s f)
-  broken_rejected (broken.Root j) r f e = told x c rule.Root (tree_line c j) 0 r e (root_first j f)
+  broken_rejected (broken.Append i j) r f e = told x c rule.Append (line_of_hedge c i) (line_of_tree c j) r e (append_first i j f)
+  broken_rejected (broken.Wrap i s) r f e = told x c rule.Wrap (line_of_hedge c i) s r e (wrap_first i s f)
+  broken_rejected (broken.Root j) r f e = told x c rule.Root (line_of_tree c j) 0 r e (root_first j f)
 
   -- the places are those of the certificate
   pub places_in : (b : Broken) → IsFirstOf l b → AreIn c b

@@ -61,9 +61,9 @@ module _ {r : Rows} {hs : List HRow} {ts : List TRow} {hl tl : List (List ℕ)} 
   pub empty_left : ((x : Triple) (u : HedgeRow) → AreRowsOf x r → IsEmptyRow x u → IsLeftOut q.outputs u.entries) → MatchBool false (EmptyHolds l) (EmptyBreaks l)
   empty_left out =
       empty_exact is l e false (λ x a.
-        let laws = rows_are_lawful x a.machine.parts.are_rules.triple in
-        let (u, made) = laws.there.empty in
-        always (hedge_out x a (Unit {0}) (IsEmptyRow x) (laws.one.empty) tt u made (out x u a made)))
+      let laws = rows_are_lawful x a.machine.parts.are_rules.triple in
+      let (u, made) = laws.there.empty in
+      always (hedge_out x a (Unit {0}) (IsEmptyRow x) (laws.one.empty) tt u made (out x u a made)))
 
   -- that of a text
   pub text_found : (out : TRow) → ((x : Triple) → AreRowsOf x r → StandsForTree x q out × IsTextRow x (tree_of x q out)) → ((x : Triple) → AreRowsOf x r → IsTextLive x) → (b : Bool) (ns : List ℕ) → ns ≡ out.room.numbers.items → Found tl ns b
@@ -77,9 +77,9 @@ module _ {r : Rows} {hs : List HRow} {ts : List TRow} {hl tl : List (List ℕ)} 
   pub text_left : ((x : Triple) → AreRowsOf x r → IsTextLive x) → ((x : Triple) (u : TreeRow) → AreRowsOf x r → IsTextRow x u → IsLeftOut q.outputs u.entries) → MatchBool false (TextHolds l) (TextBreaks l)
   text_left live out =
       text_exact is l e false (λ x a.
-        let laws = rows_are_lawful x a.machine.parts.are_rules.triple in
-        let (u, made) = laws.there.text in
-        tree_out x a (IsTextLive x) (IsTextRow x) (laws.one.text) (live x a) u made (out x u a made))
+      let laws = rows_are_lawful x a.machine.parts.are_rules.triple in
+      let (u, made) = laws.there.text in
+      tree_out x a (IsTextLive x) (IsTextRow x) (laws.one.text) (live x a) u made (out x u a made))
 
   -- that of trees and one behind them
   module _ (i j : ℕ) (h : HRow) (t : TRow) (at : slice_get hs i ≡ Some h) (there : slice_get ts j ≡ Some t) where
@@ -93,8 +93,8 @@ module _ {r : Rows} {hs : List HRow} {ts : List TRow} {hl tl : List (List ℕ)} 
         → MatchBool b (AppendHolds l i j) (AppendBreaks l i j)
     append_found out row live b ns same has =
         append_exact is l e b i j h t at there (λ x a.
-          let (stands, made) = row x a in
-          hedge_yes x a (Live x) (Made x) ((rows_are_lawful x a.machine.parts.are_rules.triple).one.appended (hedge_of x r h) (tree_of x r t)) out stands made (live x a) b (at_room hl ns out.room.numbers.items b same has))
+        let (stands, made) = row x a in
+        hedge_yes x a (Live x) (Made x) ((rows_are_lawful x a.machine.parts.are_rules.triple).one.appended (hedge_of x r h) (tree_of x r t)) out stands made (live x a) b (at_room hl ns out.room.numbers.items b same has))
 
     pub append_dead : ((x : Triple) → AreRowsOf x r → ¬ Live x) → MatchBool true (AppendHolds l i j) (AppendBreaks l i j)
     append_dead dead = append_exact is l e true i j h t at there (λ x a. hedge_no x a (Live x) (Made x) ((rows_are_lawful x a.machine.parts.are_rules.triple).one.appended (hedge_of x r h) (tree_of x r t)) (dead x a))
@@ -102,9 +102,9 @@ module _ {r : Rows} {hs : List HRow} {ts : List TRow} {hl tl : List (List ℕ)} 
     pub append_left : ((x : Triple) → AreRowsOf x r → Live x) → ((x : Triple) (u : HedgeRow) → AreRowsOf x r → Made x u → IsLeftOut q.outputs u.entries) → MatchBool false (AppendHolds l i j) (AppendBreaks l i j)
     append_left live out =
         append_exact is l e false i j h t at there (λ x a.
-          let laws = rows_are_lawful x a.machine.parts.are_rules.triple in
-          let (u, made) = laws.there.appended (hedge_of x r h) (tree_of x r t) (hedge_stands is i h at x a).1 (tree_stands is j t there x a).1 in
-          hedge_out x a (Live x) (Made x) (laws.one.appended (hedge_of x r h) (tree_of x r t)) (live x a) u made (out x u a made))
+        let laws = rows_are_lawful x a.machine.parts.are_rules.triple in
+        let (u, made) = laws.there.appended (hedge_of x r h) (tree_of x r t) (hedge_stands is i h at x a).1 (tree_stands is j t there x a).1 in
+        hedge_out x a (Live x) (Made x) (laws.one.appended (hedge_of x r h) (tree_of x r t)) (live x a) u made (out x u a made))
 
   -- that of an element around trees
   module _ (i s : ℕ) (h : HRow) (at : slice_get hs i ≡ Some h) where
@@ -118,8 +118,8 @@ module _ {r : Rows} {hs : List HRow} {ts : List TRow} {hl tl : List (List ℕ)} 
         → MatchBool b (WrapHolds l i s) (WrapBreaks l i s)
     wrap_found out row live b ns same has =
         wrap_exact is l e b i s h at (λ x a.
-          let (stands, made) = row x a in
-          tree_yes x a (LiveAround x) (MadeAround x) ((rows_are_lawful x a.machine.parts.are_rules.triple).one.wrapped s (hedge_of x r h)) out stands made (live x a) b (at_room tl ns out.room.numbers.items b same has))
+        let (stands, made) = row x a in
+        tree_yes x a (LiveAround x) (MadeAround x) ((rows_are_lawful x a.machine.parts.are_rules.triple).one.wrapped s (hedge_of x r h)) out stands made (live x a) b (at_room tl ns out.room.numbers.items b same has))
 
     pub wrap_dead : ((x : Triple) → AreRowsOf x r → ¬ LiveAround x) → MatchBool true (WrapHolds l i s) (WrapBreaks l i s)
     wrap_dead dead = wrap_exact is l e true i s h at (λ x a. tree_no x a (LiveAround x) (MadeAround x) ((rows_are_lawful x a.machine.parts.are_rules.triple).one.wrapped s (hedge_of x r h)) (dead x a))
@@ -127,24 +127,24 @@ module _ {r : Rows} {hs : List HRow} {ts : List TRow} {hl tl : List (List ℕ)} 
     pub wrap_left : ((x : Triple) → AreRowsOf x r → LiveAround x) → ((x : Triple) (u : TreeRow) → AreRowsOf x r → MadeAround x u → IsLeftOut q.outputs u.entries) → MatchBool false (WrapHolds l i s) (WrapBreaks l i s)
     wrap_left live out =
         wrap_exact is l e false i s h at (λ x a.
-          let laws = rows_are_lawful x a.machine.parts.are_rules.triple in
-          let (u, made) = laws.there.wrapped s (hedge_of x r h) (hedge_stands is i h at x a).1 in
-          tree_out x a (LiveAround x) (MadeAround x) (laws.one.wrapped s (hedge_of x r h)) (live x a) u made (out x u a made))
+        let laws = rows_are_lawful x a.machine.parts.are_rules.triple in
+        let (u, made) = laws.there.wrapped s (hedge_of x r h) (hedge_stands is i h at x a).1 in
+        tree_out x a (LiveAround x) (MadeAround x) (laws.one.wrapped s (hedge_of x r h)) (live x a) u made (out x u a made))
 
 -- a row that is admitted passes, or isn't admitted
 module _ {r : Rows} {hs : List HRow} {ts : List TRow} {hl tl : List (List ℕ)} {nh : HRow} {nt : TRow} (is : IsChecker r hs ts hl tl nh nt) (l : Listing) (e : listing_of r hs ts ≡ l) (j : ℕ) (t : TRow) (at : slice_get ts j ≡ Some t) where
   pub root_passes : (b c : Bool) → ((x : Triple) → AreRowsOf x r → b ≡ is_admitted x (tree_of x r t)) → b ≡ true → ((x : Triple) → AreRowsOf x r → IsTrue c ↔ IsPassing x (tree_of x r t)) → MatchBool c (RootHolds l j) (RootBreaks l j)
   root_passes b c admitted yes passing =
       root_exact is l e c j t at (λ x a.
-        let valid : is_admitted x (tree_of x r t) ≡ true = sym (admitted x a) ∙ yes in
-        let p = passing x a in
-        (λ y good. p.0 y, λ good. p.1 (good valid)))
+      let valid : is_admitted x (tree_of x r t) ≡ true = sym (admitted x a) ∙ yes in
+      let p = passing x a in
+      (λ y good. p.0 y, λ good. p.1 (good valid)))
 
   pub root_free : (b : Bool) → ((x : Triple) → AreRowsOf x r → b ≡ is_admitted x (tree_of x r t)) → b ≡ false → MatchBool true (RootHolds l j) (RootBreaks l j)
   root_free b admitted no =
       root_exact is l e true j t at (λ x a.
-        let dead : is_admitted x (tree_of x r t) ≡ false = sym (admitted x a) ∙ no in
-        (λ y good. absurd (clash (is_admitted x (tree_of x r t)) dead good), λ good. refl))
+      let dead : is_admitted x (tree_of x r t) ≡ false = sym (admitted x a) ∙ no in
+      (λ y good. absurd (clash (is_admitted x (tree_of x r t)) dead good), λ good. refl))
     where
       clash : (v : Bool) → v ≡ false → IsTrue v → ⊥
       clash v n y = cc

@@ -1,53 +1,29 @@
 -- Which rule of a certificate is broken first, and by which line.
 use Rattle.std.specs.Prelude.{◌≡◌, ◌<◌, ◌≤◌, ◌+◌, ◌⊎◌, ℕ, List, length, slice_get, Some}
 use Rattle.tc_model.specs.Symbols.{symbol_count}
-use Rattle.tc_model.specs.declared.lists.TreeLine.{TreeLine}
-use Rattle.tc_model.specs.declared.lists.HedgeLine.{HedgeLine}
 use Rattle.tc_model.specs.declared.lists.CertData.{CertData}
+use Rattle.tc_model.specs.CertificateFits.{line_of_tree, line_of_hedge, AllFit, IsUnfit}
 use Rattle.tc_rows.specs.Triples.{Triple}
 use Rattle.tc_verify.specs.Rules as r
 use Rattle.tc_rows.specs.CertificateRows.{trees_of, hedges_of, IsCertificateData}
-use Rattle.tc_verify.specs.Fits.{OutputFits, TreeFits, HedgeFits, AllFit}
+use Rattle.tc_verify.specs.Fits.{sizes}
 use Rattle.tc_verify.specs.declared.reject.RejectRule.{RejectRule}
 use Rattle.tc_verify.specs.declared.reject.RejectRule.TheVariants as rule
 use Rattle.tc_verify.specs.declared.reject.Reject.{Reject}
 use Rattle.tc_verify.specs.declared.reject.VerifyFault.{VerifyFault}
 use Rattle.tc_verify.specs.declared.reject.VerifyFault.TheVariants.{Rejected, NoMemory}
 
--- The numbers of the lines of a certificate's text, from 1, in both of its versions: the heading is line 1, the number of outputs
--- line 2, and the first output line 3; behind the outputs comes the number of trees, and then the trees; behind them the number of
--- lists of trees, and then these
-abbrev pub output_line : ℕ → ℕ
-output_line k = 3 + k
-
-abbrev pub tree_line : CertData → ℕ → ℕ
-tree_line c k = 4 + length c.outputs + k
-
-abbrev pub hedge_line : CertData → ℕ → ℕ
-hedge_line c k = 5 + length c.outputs + length c.trees + k
-
 module _ (x : Triple) (c : CertData) where
-  -- a line whose numbers don't fit
-  abbrev pub IsUnfit : ℕ → Type 0
-  IsUnfit line =
-      ((k : ℕ) × (pairs : List (ℕ × ℕ)) × (line ≡ output_line k) × (slice_get c.outputs k ≡ Some pairs) × ¬ OutputFits x c pairs)
-      ⊎ (((k : ℕ) × (t : TreeLine) × (line ≡ tree_line c k) × (slice_get c.trees k ≡ Some t) × ¬ TreeFits x c t)
-      ⊎ ((k : ℕ) × (h : HedgeLine) × (line ≡ hedge_line c k) × (slice_get c.hedges k ≡ Some h) × ¬ HedgeFits x c h))
-
-  pub record IsFirstUnfit (line : ℕ) : Type 0 where
-    pub unfit : IsUnfit line
-    pub least : (l : ℕ) → IsUnfit l → line ≤ l
-
   -- a rule is broken by a line, and by another line or a symbol, or else 0. Data has its form
   abbrev pub IsBroken : RejectRule → ℕ → ℕ → Type 0
   IsBroken rule.Form line other = ⊥
-  IsBroken rule.Fit line other = IsUnfit line × (other ≡ 0)
+  IsBroken rule.Fit line other = IsUnfit (sizes x) c line × (other ≡ 0)
   IsBroken rule.Empty line other = (¬ r.IsEmptyListed x (hedges_of c)) × (line ≡ 0) × (other ≡ 0)
   IsBroken rule.Text line other = (¬ r.IsTextListed x (trees_of c)) × (line ≡ 0) × (other ≡ 0)
   IsBroken rule.Append line other =
-      (i : ℕ) × (j : ℕ) × (i < length c.hedges) × (j < length c.trees) × (line ≡ hedge_line c i) × (other ≡ tree_line c j) × ¬ r.AppendIsListed x (trees_of c) (hedges_of c) i j
-  IsBroken rule.Wrap line other = (i : ℕ) × (i < length c.hedges) × (other < symbol_count x.symbols) × (line ≡ hedge_line c i) × ¬ r.WrapIsListed x (trees_of c) (hedges_of c) i other
-  IsBroken rule.Root line other = (j : ℕ) × (j < length c.trees) × (line ≡ tree_line c j) × (other ≡ 0) × ¬ r.RootIsGood x (trees_of c) (hedges_of c) j
+      (i : ℕ) × (j : ℕ) × (i < length c.hedges) × (j < length c.trees) × (line ≡ line_of_hedge c i) × (other ≡ line_of_tree c j) × ¬ r.AppendIsListed x (trees_of c) (hedges_of c) i j
+  IsBroken rule.Wrap line other = (i : ℕ) × (i < length c.hedges) × (other < symbol_count x.symbols) × (line ≡ line_of_hedge c i) × ¬ r.WrapIsListed x (trees_of c) (hedges_of c) i other
+  IsBroken rule.Root line other = (j : ℕ) × (j < length c.trees) × (line ≡ line_of_tree c j) × (other ≡ 0) × ¬ r.RootIsGood x (trees_of c) (hedges_of c) j
 
   -- by the least line, and then by the least other
   pub record IsFirstBroken (rule : RejectRule) (line other : ℕ) : Type 0 where
@@ -73,4 +49,4 @@ pub record IsRejected (x : Triple) (c : CertData) (reject : Reject) : Type 0 whe
 -- why data isn't verified: a rule is broken, or all numbers fit and there is no memory for what the other rules are tried with
 abbrev pub IsCause : Triple → CertData → VerifyFault → Type 0
 IsCause x c (Rejected reject) = IsRejected x c reject
-IsCause x c NoMemory = AllFit x c
+IsCause x c NoMemory = AllFit (sizes x) c

@@ -1,7 +1,7 @@
 -- A rule that is broken at places, and what is told of it.
 use Rattle.std.specs.Prelude.{◌≡◌, ◌<◌, ℕ, length}
 use Rattle.tc_model.specs.declared.lists.CertData.{CertData}
-use Rattle.tc_verify.specs.Rejects.{tree_line, hedge_line}
+use Rattle.tc_model.specs.CertificateFits.{line_of_tree, line_of_hedge}
 use Rattle.tc_verify.specs.declared.first.Broken.{Broken}
 use Rattle.tc_verify.specs.declared.first.Broken.TheVariants as broken
 use Rattle.tc_verify.specs.declared.reject.RejectRule.{RejectRule}
@@ -24,6 +24,6 @@ pub record Tells (r : Reject) (the_rule : RejectRule) (line other : ℕ) : Type 
 abbrev pub IsRejectOf : CertData → Broken → Reject → Type 0
 IsRejectOf c broken.Empty r = Tells r rule.Empty 0 0
 IsRejectOf c broken.Text r = Tells r rule.Text 0 0
-IsRejectOf c (broken.Append i j) r = Tells r rule.Append (hedge_line c i) (tree_line c j)
-IsRejectOf c (broken.Wrap i a) r = Tells r rule.Wrap (hedge_line c i) a
-IsRejectOf c (broken.Root j) r = Tells r rule.Root (tree_line c j) 0
+IsRejectOf c (broken.Append i j) r = Tells r rule.Append (line_of_hedge c i) (line_of_tree c j)
+IsRejectOf c (broken.Wrap i a) r = Tells r rule.Wrap (line_of_hedge c i) a
+IsRejectOf c (broken.Root j) r = Tells r rule.Root (line_of_tree c j) 0

@@ -3,7 +3,8 @@ ghost use Rattle.std.specs.Prelude.{◌≡◌, IfOk};
 ghost use Rattle.tc_beh.specs.Machines.{IsMachine, IsMachineOf};
 ghost use Rattle.tc_rows.specs.Triples.{Triple};
 ghost use Rattle.tc_model.specs.CertificateData.{IsFormed};
-ghost use Rattle.tc_verify.specs.Fits.{AllFit};
+ghost use Rattle.tc_model.specs.CertificateFits.{AllFit};
+ghost use Rattle.tc_verify.specs.Fits.{sizes};
 
 use crate::lists::Lists;
 use crate::reading::{hedge_lists, read_hedges, read_trees, tree_lists};
@@ -29,8 +30,6 @@ impl<'m, 'b> Checker<'m, 'b> {
     ghost use Rattle.std.specs.Prelude.{◌≡◌, ◌<◌, ◌≤◌, IfOk, length, MatchBool};
     ghost use Rattle.tc_model.specs.Symbols.{symbol_count};
     ghost use Rattle.tc_rows.specs.CertificateRows.{hedges_of, trees_of};
-
-    ghost use Rattle.tc_verify.specs.Fits.{AllFit};
     ghost use Rattle.tc_verify.specs.Checkers.{AreChecked, view_of};
     ghost use Rattle.tc_verify.specs.Listings.{hedge_rows, tree_rows, EmptyHolds, EmptyBreaks, TextHolds, TextBreaks, AppendHolds, AppendBreaks, WrapHolds, WrapBreaks, RootHolds, RootBreaks};
 
@@ -46,7 +45,7 @@ impl<'m, 'b> Checker<'m, 'b> {
     ) -> Result<Checker<'m, 'b>, NoMemory>
         requires machine { IsMachine machine.now }
         requires formed { IsFormed cert.now }
-        requires fit { (x : Triple) → IsMachineOf x machine.now → AllFit x cert.now }
+        requires fit { (x : Triple) → IsMachineOf x machine.now → AllFit (sizes x) cert.now }
         ensures checked { IfOk result (λ c. AreChecked c) }
         ensures machine { IfOk result (λ c. (view_of c).machine ≡ machine.now) }
         ensures hedges { IfOk result (λ c. (x : Triple) → IsMachineOf x machine.now → hedge_rows (view_of c) x ≡ hedges_of cert.now) }

@@ -1,11 +1,9 @@
 // Whether the numbers of a certificate's lines fit a machine.
-ghost use Rattle.std.specs.Prelude.{◌≡◌, ◌<◌, ◌↔◌, ◌+◌, ℕ, length, IsTrue, All, MatchOption};
-ghost use Rattle.tc_beh.specs.Machines.{IsShapeOf};
-ghost use Rattle.tc_rows.specs.Triples.{Triple};
+ghost use Rattle.std.specs.Prelude.{◌≡◌, ◌<◌, ◌↔◌, ◌+◌, length, IsTrue, All, MatchOption};
 ghost use Rattle.tc_model.specs.CertificateData.{IsFormed};
-ghost use Rattle.tc_verify.specs.Fits.{AreFrom, PairsFit, ListsFit, TreeLineFits, HedgeLineFits, AllFit};
+ghost use Rattle.tc_model.specs.CertificateFits.{AllFit, AreFrom, HedgeFits, IsFirstUnfit, OutputFits, PairsFit, TreeFits, line_of_hedge, line_of_tree};
+ghost use Rattle.tc_verify.specs.Fits.{shape_sizes};
 ghost use Rattle.tc_verify.specs.Firsts.{IsFirstNot};
-ghost use Rattle.tc_verify.specs.Rejects.{IsFirstUnfit, tree_line as line_of_tree, hedge_line as line_of_hedge};
 
 use tc_beh::Shape;
 use tc_model::{CertData, HedgeLine, Numbers, Pairs, TreeLine};
@@ -38,27 +36,28 @@ fn pairs_fit(states: u32, pairs: &Pairs) -> bool
 
 /// Whether the outputs and the looks of a row have their lengths, and the outputs are among so many sets.
 fn lists_fit(shape: Shape, sets: u32, outs: &Numbers, looks: &Numbers) -> bool
-    ensures { IsTrue result ↔ ListsFit shape.entries shape.looks sets outs.now looks.now }
+    ensures { IsTrue result ↔ ((length outs.now ≡ shape.entries) × AreFrom 0 sets outs.now × (length looks.now ≡ shape.looks)) }
 {
     outs.len() == shape.entries && are_from(0, sets, outs) && looks.len() == shape.looks
 }
 
-fn tree_fits(shape: Shape, sets: u32, line: &TreeLine) -> bool
-    ensures { IsTrue result ↔ TreeLineFits shape sets line.now }
+fn tree_fits(shape: Shape, cert: &CertData, line: &TreeLine) -> bool
+    ensures { IsTrue result ↔ TreeFits (shape_sizes shape) cert.now line.now }
 {
     are_from(1, shape.patterns, &line.patterns)
-        && lists_fit(shape, sets, &line.outs, &line.looks)
+        && lists_fit(shape, cert.outputs.len(), &line.outs, &line.looks)
 }
 
-fn hedge_fits(shape: Shape, sets: u32, line: &HedgeLine) -> bool
-    ensures { IsTrue result ↔ HedgeLineFits shape sets line.now }
+fn hedge_fits(shape: Shape, cert: &CertData, line: &HedgeLine) -> bool
+    ensures { IsTrue result ↔ HedgeFits (shape_sizes shape) cert.now line.now }
 {
-    are_from(0, shape.inputs, &line.states) && lists_fit(shape, sets, &line.outs, &line.looks)
+    are_from(0, shape.inputs, &line.states)
+        && lists_fit(shape, cert.outputs.len(), &line.outs, &line.looks)
 }
 
 /// The first output that doesn't fit.
 fn first_output(shape: Shape, cert: &CertData) -> Option<u32>
-    ensures { MatchOption result (All (PairsFit shape.outputs) cert.now.outputs) (λ k. IsFirstNot (PairsFit shape.outputs) cert.now.outputs k) }
+    ensures { MatchOption result (All (OutputFits (shape_sizes shape) cert.now) cert.now.outputs) (λ k. IsFirstNot (OutputFits (shape_sizes shape) cert.now) cert.now.outputs k) }
 {
     for place in 0..cert.outputs.len() {
         if !pairs_fit(shape.outputs, cert.outputs.get(place)) {
@@ -70,10 +69,10 @@ fn first_output(shape: Shape, cert: &CertData) -> Option<u32>
 
 /// The first row of a tree that doesn't fit.
 fn first_tree(shape: Shape, cert: &CertData) -> Option<u32>
-    ensures { MatchOption result (All (TreeLineFits shape (length cert.now.outputs)) cert.now.trees) (λ k. IsFirstNot (TreeLineFits shape (length cert.now.outputs)) cert.now.trees k) }
+    ensures { MatchOption result (All (TreeFits (shape_sizes shape) cert.now) cert.now.trees) (λ k. IsFirstNot (TreeFits (shape_sizes shape) cert.now) cert.now.trees k) }
 {
     for place in 0..cert.trees.len() {
-        if !tree_fits(shape, cert.outputs.len(), cert.trees.get(place)) {
+        if !tree_fits(shape, cert, cert.trees.get(place)) {
             return Some(place);
         }
     }
@@ -82,10 +81,10 @@ fn first_tree(shape: Shape, cert: &CertData) -> Option<u32>
 
 /// The first row of a list of trees that doesn't fit.
 fn first_hedge(shape: Shape, cert: &CertData) -> Option<u32>
-    ensures { MatchOption result (All (HedgeLineFits shape (length cert.now.outputs)) cert.now.hedges) (λ k. IsFirstNot (HedgeLineFits shape (length cert.now.outputs)) cert.now.hedges k) }
+    ensures { MatchOption result (All (HedgeFits (shape_sizes shape) cert.now) cert.now.hedges) (λ k. IsFirstNot (HedgeFits (shape_sizes shape) cert.now) cert.now.hedges k) }
 {
     for place in 0..cert.hedges.len() {
-        if !hedge_fits(shape, cert.outputs.len(), cert.hedges.get(place)) {
+        if !hedge_fits(shape, cert, cert.hedges.get(place)) {
             return Some(place);
         }
     }
@@ -95,7 +94,7 @@ fn first_hedge(shape: Shape, cert: &CertData) -> Option<u32>
 /// The first line that doesn't fit.
 pub(crate) fn first_unfit(shape: Shape, cert: &CertData) -> Option<u32>
     requires { IsFormed cert.now }
-    ensures { (x : Triple) → IsShapeOf x shape → MatchOption result (AllFit x cert.now) (λ line. IsFirstUnfit x cert.now line) }
+    ensures { MatchOption result (AllFit (shape_sizes shape) cert.now) (λ line. IsFirstUnfit (shape_sizes shape) cert.now line) }
 {
     if let Some(place) = first_output(shape, cert) {
         return Some(output_line(place));

@@ -4,7 +4,8 @@ ghost use Rattle.std.specs.List.{Contains};
 ghost use Rattle.tc_rows.specs.Triples.{Triple};
 ghost use Rattle.tc_beh.specs.Machines.{IsMachine, IsMachineOf};
 ghost use Rattle.tc_model.specs.CertificateData.{IsFormed};
-ghost use Rattle.tc_verify.specs.Fits.{AllFit};
+ghost use Rattle.tc_model.specs.CertificateFits.{AllFit};
+ghost use Rattle.tc_verify.specs.Fits.{sizes};
 ghost use Rattle.tc_verify.specs.Rooms.{IsReadHedge, IsReadTree, hedge_numbers, tree_numbers};
 ghost use Rattle.tc_beh.specs.declared.rooms.HRow.{HRow};
 ghost use Rattle.tc_beh.specs.declared.rooms.TRow.{TRow};
@@ -24,7 +25,7 @@ fn read_hedge(
 ) -> Result<HRow, NoMemory>
     requires machine { IsMachine machine.now }
     requires formed { IsFormed cert.now }
-    requires fit { (x : Triple) → IsMachineOf x machine.now → AllFit x cert.now }
+    requires fit { (x : Triple) → IsMachineOf x machine.now → AllFit (sizes x) cert.now }
     requires place { place < length cert.now.hedges }
     ensures { IfOk result (λ h. IsReadHedge machine.now cert.now place h) }
 {
@@ -41,7 +42,7 @@ pub(crate) fn read_hedges(
 ) -> Result<Vec<HRow>, NoMemory>
     requires machine { IsMachine machine.now }
     requires formed { IsFormed cert.now }
-    requires fit { (x : Triple) → IsMachineOf x machine.now → AllFit x cert.now }
+    requires fit { (x : Triple) → IsMachineOf x machine.now → AllFit (sizes x) cert.now }
     ensures count { IfOk result (λ v. length v.items ≡ length cert.now.hedges) }
     ensures each { IfOk result (λ v. (k : ℕ) (h : HRow) → slice_get v.items k ≡ Some h → IsReadHedge machine.now cert.now k h) }
 {
@@ -72,7 +73,7 @@ fn read_tree(
 ) -> Result<TRow, NoMemory>
     requires machine { IsMachine machine.now }
     requires formed { IsFormed cert.now }
-    requires fit { (x : Triple) → IsMachineOf x machine.now → AllFit x cert.now }
+    requires fit { (x : Triple) → IsMachineOf x machine.now → AllFit (sizes x) cert.now }
     requires place { place < length cert.now.trees }
     ensures { IfOk result (λ t. IsReadTree machine.now cert.now place t) }
 {
@@ -89,7 +90,7 @@ pub(crate) fn read_trees(
 ) -> Result<Vec<TRow>, NoMemory>
     requires machine { IsMachine machine.now }
     requires formed { IsFormed cert.now }
-    requires fit { (x : Triple) → IsMachineOf x machine.now → AllFit x cert.now }
+    requires fit { (x : Triple) → IsMachineOf x machine.now → AllFit (sizes x) cert.now }
     ensures count { IfOk result (λ v. length v.items ≡ length cert.now.trees) }
     ensures each { IfOk result (λ v. (k : ℕ) (t : TRow) → slice_get v.items k ≡ Some t → IsReadTree machine.now cert.now k t) }
 {

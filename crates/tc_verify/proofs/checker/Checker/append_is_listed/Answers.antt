@@ -35,12 +35,12 @@ pub returns-in-Err-clause-same : goal.returns-in-Err-clause-same
 returns-in-Err-clause-same c = same_listing c.requires.checked c.append.new.self c.append.ensures.same c.append.ensures.rows (c.append.ensures.fixed c.requires.checked.fixed) (view_of c.args.self.now) refl
 
 pub returns-in-Ok-true-clause-exact : goal.returns-in-Ok-true-clause-exact
-returns-in-Ok-true-clause-exact c = 
+returns-in-Ok-true-clause-exact c =
     let yes : c.in-Ok-true.field-0 ≡ true = cc in
     append_found c.requires.checked (view_of c.args.self.now) refl c.append.new.self (c.append.ensures.fixed c.requires.checked.fixed) c.args.hedge c.args.tree c.index-first.result.now c.index-next.result.now (hedge_at c.args.self.now.hedges.items c.args.hedge c.index-first.result.now c.requires.hedge c.index-first.ensures) (tree_at c.args.self.now.trees.items c.args.tree c.index-next.result.now c.requires.tree c.index-next.ensures) c.append.new.out (c.in-Ok-true.ensures.row yes) (c.in-Ok-true.ensures.live yes) c.has.result c.numbers.result.now c.numbers.ensures c.has.ensures
 
 pub returns-in-Ok-false-clause-exact : goal.returns-in-Ok-false-clause-exact
-returns-in-Ok-false-clause-exact c = 
+returns-in-Ok-false-clause-exact c =
     let no : c.in-Ok-false.field-0 ≡ false = cc in
     append_dead c.requires.checked (view_of c.args.self.now) refl c.append.new.self (c.append.ensures.fixed c.requires.checked.fixed) c.args.hedge c.args.tree c.index-first.result.now c.index-next.result.now (hedge_at c.args.self.now.hedges.items c.args.hedge c.index-first.result.now c.requires.hedge c.index-first.ensures) (tree_at c.args.self.now.trees.items c.args.tree c.index-next.result.now c.requires.tree c.index-next.ensures) (c.in-Ok-false.ensures.dead no).1
 

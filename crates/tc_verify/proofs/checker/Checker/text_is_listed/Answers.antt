@@ -29,12 +29,12 @@ pub returns-in-Err-clause-same : goal.returns-in-Err-clause-same
 returns-in-Err-clause-same c = same_listing c.requires.checked c.text_row.new.self c.text_row.ensures.same c.text_row.ensures.rows (c.text_row.ensures.fixed c.requires.checked.fixed) (view_of c.args.self.now) refl
 
 pub returns-in-Ok-true-clause-exact : goal.returns-in-Ok-true-clause-exact
-returns-in-Ok-true-clause-exact c = 
+returns-in-Ok-true-clause-exact c =
     let yes : c.in-Ok-true.field-0 ≡ true = cc in
     text_found c.requires.checked (view_of c.args.self.now) refl c.text_row.new.self (c.text_row.ensures.fixed c.requires.checked.fixed) c.text_row.new.out (c.in-Ok-true.ensures.row yes) (c.in-Ok-true.ensures.live yes) c.has.result c.numbers.result.now c.numbers.ensures c.has.ensures
 
 pub returns-in-Ok-false-clause-exact : goal.returns-in-Ok-false-clause-exact
-returns-in-Ok-false-clause-exact c = 
+returns-in-Ok-false-clause-exact c =
     let no : c.in-Ok-false.field-0 ≡ false = cc in
     text_dead c.requires.checked (view_of c.args.self.now) refl c.text_row.new.self (c.text_row.ensures.fixed c.requires.checked.fixed) (c.in-Ok-false.ensures.dead no).1
 
