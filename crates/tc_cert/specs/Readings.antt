@@ -1,0 +1,30 @@
+-- What is answered where bytes aren't the text of a certificate, or where its text in version 2 is too long.
+use Rattle.std.specs.Prelude.{◌≡◌, ◌<◌, ℕ, List, length}
+use Rattle.tc_model.specs.declared.lists.CertData.{CertData}
+use Rattle.tc_cert.specs.Texts.{text, by_changes, CertificateText}
+use Rattle.tc_cert.specs.Fronts.{IsFirstFault}
+use Rattle.tc_cert.specs.declared.faults.CertFault.{CertFault}
+use Rattle.tc_cert.specs.declared.faults.CertFault.TheVariants as fault
+use Rattle.tc_cert.specs.declared.faults.UpgradeFault.{UpgradeFault}
+use Rattle.tc_cert.specs.declared.faults.UpgradeFault.TheVariants as upgrade
+
+-- why bytes can't be read: they are the text of no certificate, and this line is the first that isn't as it must be; memory is free
+abbrev pub IsUnread : List ℕ → CertFault → Type 0
+IsUnread bytes (fault.Form line) = IsFirstFault bytes line
+IsUnread bytes fault.NoMemory = Unit {0}
+
+-- the data of the bytes has a text in version 2 with more bytes than a file may have
+pub record IsLong (bytes : List ℕ) : Type 0 where
+  pub held : CertData
+  pub means : CertificateText bytes held
+  pub long : 67108864 < length (text by_changes held)
+
+-- why there is no text in version 2
+abbrev pub IsNotUpgraded : List ℕ → UpgradeFault → Type 0
+IsNotUpgraded bytes (upgrade.Form line) = IsFirstFault bytes line
+IsNotUpgraded bytes upgrade.TooLong = IsLong bytes
+IsNotUpgraded bytes upgrade.NoMemory = Unit {0}
+
+-- bytes are the text of one data at most
+abbrev pub OneData : Type 0
+OneData = (bytes : List ℕ) (d e : CertData) → CertificateText bytes d → CertificateText bytes e → d ≡ e
