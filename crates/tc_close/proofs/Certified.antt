@@ -15,7 +15,8 @@ use Rattle.tc_model.specs.declared.lists.CertData.{CertData}
 use Rattle.tc_model.specs.declared.lists.HedgeLine.{HedgeLine}
 use Rattle.tc_model.specs.declared.lists.TreeLine.{TreeLine}
 use Rattle.tc_mat.specs.Matrix.{Matrix}
-use Rattle.tc_rows.specs.Certificates.{sets_of as sets_meant}
+use Rattle.tc_rows.specs.CertificateRows.{numbered_tree, numbered_hedge}
+use Rattle.tc_rows.specs.Certificates.{tree_of, hedge_of, sets_of as sets_meant}
 use Rattle.tc_rows.specs.CountLaws.{IsSetIn}
 use Rattle.tc_rows.specs.Counts.{IsRowOfLiveTree, IsRowOfLiveHedge, IsOutput}
 use Rattle.tc_rows.specs.Derivations.{AreExact}
@@ -34,13 +35,19 @@ use Rattle.tc_beh.specs.declared.machine.Shape.{Shape}
 use Rattle.tc_beh.proofs.RoomIs.{outputs_count}
 use Rattle.tc_beh.proofs.RoomRows.{output_is}
 use Rattle.tc_settle.specs.Derived.{IsClosed, AllDerive}
-use Rattle.tc_close.specs.Certified.{tree_meant, hedge_meant, AreNumbersOf, IsLeastCertificate, IsTooLong}
+use Rattle.tc_close.specs.Certified.{AreNumbersOf, IsLeastCertificate, IsTooLong}
 use Rattle.tc_close.specs.Lines.{tree_held, hedge_held, tree_ranked, hedge_ranked, sets_at, output_lines, tree_lines, hedge_lines, AreTreesInOrder, AreHedgesInOrder, IsDataBy}
 use Rattle.tc_close.specs.Orders.{IsOrder, AreRanks, ranked}
 use Rattle.tc_close.specs.RowState.{RowState, hedge_at, tree_at, StandsInRow, AreGood, held_of, Known}
 use Rattle.tc_close.proofs.Linked.{tree_rows, hedge_rows, tree_listed, hedge_listed, tree_of_listed, hedge_of_listed, tree_number, hedge_number, trees_come, hedges_come, one_tree, one_hedge, sets_different, sets_apart, in_set, set_in, made_at, made_of}
 use Rattle.tc_close.proofs.More.{no_more}
 use Rattle.tc_close.proofs.Ranked.{inside, all_there, ordered, row_of, row_there, each_line, many, same_mapped}
+
+abbrev tree_meant : List (List (ℕ × ℕ)) → TreeLine → TreeRow
+tree_meant sets l = tree_of sets (numbered_tree l)
+
+abbrev hedge_meant : List (List (ℕ × ℕ)) → HedgeLine → HedgeRow
+hedge_meant sets l = hedge_of sets (numbered_hedge l)
 
 -- numbers of a room's outputs are those of sets that are held
 outs_low : (l : Layout) (held : List Matrix) (ns : List ℕ) → IsRoom l held ns → All (λ k. k < length held) (outputs_in l.flags l.entries ns)

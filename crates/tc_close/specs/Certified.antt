@@ -1,5 +1,5 @@
 -- The certificate of a stylesheet that is safe: exactly the rows of live trees and of live lists of trees, and exactly the sets of pairs in them.
-use Rattle.std.specs.Prelude.{◌<◌, ◌↔◌, ℕ, List, length, map, flat_map, All}
+use Rattle.std.specs.Prelude.{◌<◌, ◌↔◌, ℕ, List, length, flat_map, All}
 use Rattle.std.specs.List.{Contains}
 use Rattle.tc_base.specs.declared.limits.TheConstants.{LONGEST_FILE}
 use Rattle.tc_cert.specs.Texts.{output_text}
@@ -8,22 +8,13 @@ use Rattle.tc_model.specs.Safety.{IsSafe}
 use Rattle.tc_model.specs.Trees.{none}
 use Rattle.tc_model.specs.Views.{before}
 use Rattle.tc_model.specs.declared.lists.CertData.{CertData}
-use Rattle.tc_model.specs.declared.lists.HedgeLine.{HedgeLine}
-use Rattle.tc_model.specs.declared.lists.TreeLine.{TreeLine}
-use Rattle.tc_rows.specs.Certificates.{sets_of}
+use Rattle.tc_rows.specs.CertificateRows.{trees_of, hedges_of}
 use Rattle.tc_rows.specs.Counts.{IsRowOfLiveTree, IsRowOfLiveHedge, IsOutput}
 use Rattle.tc_rows.specs.Rows.{HedgeRow, TreeRow}
 use Rattle.tc_rows.specs.Triples.{Triple, sheet}
 use Rattle.tc_close.specs.Decisions.{KeepsCounts, IsUnsafeBy, IsFarUnsafe}
 use Rattle.tc_close.specs.declared.proof.Proof.{Proof}
 use Rattle.tc_close.specs.declared.proof.Proof.TheVariants.{Certified, TooLong, Unsafe, TooManyNodes}
-
--- the rows that lines mean: each of their numbers is that of a set of pairs among the outputs
-abbrev pub tree_meant : List (List (ℕ × ℕ)) → TreeLine → TreeRow
-tree_meant outputs l = record { is_text = l.text; bears = l.bears; patterns = l.patterns; entries = sets_of outputs l.outs; looks = l.looks }
-
-abbrev pub hedge_meant : List (List (ℕ × ℕ)) → HedgeLine → HedgeRow
-hedge_meant outputs l = record { ends = l.ends; bears = l.bears; states = l.states; entries = sets_of outputs l.outs; looks = l.looks }
 
 -- each number is that of an output
 abbrev pub AreNumbersOf : List (List (ℕ × ℕ)) → List ℕ → Type 0
@@ -34,8 +25,8 @@ module _ (x : Triple) where
   pub record IsLeastCertificate (d : CertData) : Type 0 where
     pub formed : IsFormed d
     pub outputs : (pairs : List (ℕ × ℕ)) → Contains d.outputs pairs ↔ IsOutput x pairs
-    pub trees : (r : TreeRow) → Contains (map (tree_meant d.outputs) d.trees) r ↔ IsRowOfLiveTree x r
-    pub hedges : (r : HedgeRow) → Contains (map (hedge_meant d.outputs) d.hedges) r ↔ IsRowOfLiveHedge x r
+    pub trees : (r : TreeRow) → Contains (trees_of d) r ↔ IsRowOfLiveTree x r
+    pub hedges : (r : HedgeRow) → Contains (hedges_of d) r ↔ IsRowOfLiveHedge x r
     pub tree_numbers : All (λ l. AreNumbersOf d.outputs l.outs) d.trees
     pub hedge_numbers : All (λ l. AreNumbersOf d.outputs l.outs) d.hedges
 
