@@ -17,3 +17,4 @@ pub mod Ordered
 pub mod More
 pub mod Ranked
 pub mod Certified
+pub mod LeastHolds

@@ -8,7 +8,7 @@ use Rattle.tc_model.specs.Safety.{IsSafe}
 use Rattle.tc_model.specs.Trees.{none}
 use Rattle.tc_model.specs.Views.{before}
 use Rattle.tc_model.specs.declared.lists.CertData.{CertData}
-use Rattle.tc_rows.specs.CertificateRows.{trees_of, hedges_of}
+use Rattle.tc_rows.specs.CertificateRows.{trees_of, hedges_of, IsCertificateData}
 use Rattle.tc_rows.specs.Counts.{IsRowOfLiveTree, IsRowOfLiveHedge, IsOutput}
 use Rattle.tc_rows.specs.Rows.{HedgeRow, TreeRow}
 use Rattle.tc_rows.specs.Triples.{Triple, sheet}
@@ -40,7 +40,7 @@ module _ (x : Triple) where
     pub keeps : KeepsCounts x most
 
   abbrev pub IsProved : ℕ → Proof → Type 0
-  IsProved most (Certified d) = IsSafeWithin most × IsLeastCertificate d
+  IsProved most (Certified d) = IsSafeWithin most × IsLeastCertificate d × IsCertificateData x d
   IsProved most TooLong = IsSafeWithin most × IsTooLong
   IsProved most (Unsafe d) = IsUnsafeBy x most (before d none)
   IsProved most TooManyNodes = IsFarUnsafe x most
