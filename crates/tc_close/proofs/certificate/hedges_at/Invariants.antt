@@ -4,6 +4,6 @@ use Rattle.tc_close.specs.Lines.{hedge_ranked}
 use Rattle.tc_close.proofs.certificate.hedges_at.Given as goal
 
 abbrev pub invariant-loop-place : goal.invariant-loop-place
-invariant-loop-place l =
+invariant-loop-place g l =
     (l.rows ≡ l.fn.rows)
-    × ((x : Triple) → goal.K.Over.is_of x → l.hedges ≡ map (hedge_ranked x l.fn.rows l.ranks) (take l.place l.numbers))
+    × ((x : Triple) → g.K.Over.is_of x → l.hedges ≡ map (hedge_ranked x l.fn.rows l.ranks) (take l.place l.numbers))

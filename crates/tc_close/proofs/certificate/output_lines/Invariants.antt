@@ -9,6 +9,6 @@ use Rattle.tc_model.specs.Numbered.{numbers_below}
 use Rattle.tc_close.proofs.certificate.output_lines.Given as goal
 
 abbrev pub invariant-loop-number : goal.invariant-loop-number
-invariant-loop-number l =
+invariant-loop-number g l =
     (l.all ≡ map (λ n. pairs_line (pairs_of (set_at l.rows.outputs n))) (numbers_below l.number))
     × (l.room + length (flat_map output_text (take l.number (sets_of l.rows.outputs.matrices))) ≡ LONGEST_FILE)

@@ -6,6 +6,6 @@ use Rattle.tc_close.specs.Lines.{tree_ranked}
 use Rattle.tc_close.proofs.certificate.tree_lines.Given as goal
 
 abbrev pub invariant-loop-place : goal.invariant-loop-place
-invariant-loop-place l =
+invariant-loop-place g l =
     (l.rows ≡ l.fn.rows)
-    × ((x : Triple) → goal.K.Over.is_of x → l.all ≡ map (λ p. tree_line (tree_ranked x l.fn.rows l.ranks p)) (numbers_below l.place))
+    × ((x : Triple) → g.K.Over.is_of x → l.all ≡ map (λ p. tree_line (tree_ranked x l.fn.rows l.ranks p)) (numbers_below l.place))
