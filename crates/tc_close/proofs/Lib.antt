@@ -18,3 +18,5 @@ pub mod More
 pub mod Ranked
 pub mod Certified
 pub mod LeastHolds
+pub mod Alike
+pub mod OneCertificate

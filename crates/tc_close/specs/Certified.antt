@@ -1,18 +1,21 @@
 -- The certificate of a stylesheet that is safe: exactly the rows of live trees and of live lists of trees, and exactly the sets of pairs in them.
-use Rattle.std.specs.Prelude.{◌<◌, ◌↔◌, ℕ, List, length, flat_map, All}
+use Rattle.std.specs.Prelude.{◌≡◌, ◌<◌, ◌↔◌, ℕ, List, length, flat_map, All}
 use Rattle.std.specs.List.{Contains}
 use Rattle.tc_base.specs.declared.limits.TheConstants.{LONGEST_FILE}
 use Rattle.tc_cert.specs.Texts.{output_text}
 use Rattle.tc_model.specs.CertificateData.{IsFormed}
+use Rattle.tc_model.specs.Grammars.{Grammar}
 use Rattle.tc_model.specs.Safety.{IsSafe}
+use Rattle.tc_model.specs.Sheets.{Sheet}
 use Rattle.tc_model.specs.Trees.{none}
 use Rattle.tc_model.specs.Views.{before}
 use Rattle.tc_model.specs.declared.lists.CertData.{CertData}
 use Rattle.tc_rows.specs.CertificateRows.{trees_of, hedges_of, IsCertificateData}
 use Rattle.tc_rows.specs.Counts.{IsRowOfLiveTree, IsRowOfLiveHedge, IsOutput}
 use Rattle.tc_rows.specs.Rows.{HedgeRow, TreeRow}
-use Rattle.tc_rows.specs.Triples.{Triple, sheet}
+use Rattle.tc_rows.specs.Triples.{Triple, IsTriple, sheet}
 use Rattle.tc_close.specs.Decisions.{KeepsCounts, IsUnsafeBy, IsFarUnsafe}
+use Rattle.tc_close.specs.Triples.{IsTripleOf}
 use Rattle.tc_close.specs.declared.proof.Proof.{Proof}
 use Rattle.tc_close.specs.declared.proof.Proof.TheVariants.{Certified, TooLong, Unsafe, TooManyNodes}
 
@@ -44,3 +47,11 @@ module _ (x : Triple) where
   IsProved most TooLong = IsSafeWithin most × IsTooLong
   IsProved most (Unsafe d) = IsUnsafeBy x most (before d none)
   IsProved most TooManyNodes = IsFarUnsafe x most
+
+-- triples of the same schemas and stylesheet have one such certificate at most
+abbrev pub OneCertificate : Type 0
+OneCertificate = (i o : Grammar) (s : Sheet) (x y : Triple) → IsTripleOf i o s x → IsTripleOf i o s y → (d e : CertData) → IsLeastCertificate x d → IsLeastCertificate y e → d ≡ e
+
+-- and where the stylesheet is safe it is a certificate
+abbrev pub LeastIsCertificate : Type 0
+LeastIsCertificate = (x : Triple) → IsTriple x → IsSafe x.input x.output (sheet x) → (d : CertData) → IsLeastCertificate x d → IsCertificateData x d
