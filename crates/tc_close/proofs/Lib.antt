@@ -20,3 +20,4 @@ pub mod Certified
 pub mod LeastHolds
 pub mod Alike
 pub mod OneCertificate
+pub mod ArithmeticAlike

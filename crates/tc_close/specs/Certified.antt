@@ -55,3 +55,7 @@ OneCertificate = (i o : Grammar) (s : Sheet) (x y : Triple) → IsTripleOf i o s
 -- and where the stylesheet is safe it is a certificate
 abbrev pub LeastIsCertificate : Type 0
 LeastIsCertificate = (x : Triple) → IsTriple x → IsSafe x.input x.output (sheet x) → (d : CertData) → IsLeastCertificate x d → IsCertificateData x d
+
+-- and what is a certificate by one of them is one by the other
+abbrev pub CertificatesAgree : Type 0
+CertificatesAgree = (i o : Grammar) (s : Sheet) (x y : Triple) → IsTripleOf i o s x → IsTripleOf i o s y → (d : CertData) → IsCertificateData x d → IsCertificateData y d

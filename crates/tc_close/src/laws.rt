@@ -1,5 +1,5 @@
 // What is proved of costs.
-ghost use Rattle.tc_close.specs.Certified.{LeastIsCertificate, OneCertificate};
+ghost use Rattle.tc_close.specs.Certified.{CertificatesAgree, LeastIsCertificate, OneCertificate};
 ghost use Rattle.tc_close.specs.Least.{CostsAreLeast};
 ghost use Rattle.tc_close.specs.Triples.{TriplesAgree, TriplesAreThere};
 ghost use Rattle.tc_close.specs.Verdict.{ListsTell};
@@ -25,8 +25,10 @@ pub fn law_of_triples()
 {}
 
 /// The law of certificates: however the states of paths stand in tables, one certificate at most has exactly the rows of
-/// live trees and of live lists of trees, and exactly the sets of pairs in them; and where the stylesheet is safe, it holds.
+/// live trees and of live lists of trees, and exactly the sets of pairs in them; where the stylesheet is safe, it is a
+/// certificate; and what is a certificate is one however the states stand.
 pub fn law_of_certificates()
+    ensures agree { CertificatesAgree }
     ensures one { OneCertificate }
     ensures holds { LeastIsCertificate }
 {}
