@@ -12,3 +12,5 @@ pub mod Program
 pub mod Reading
 pub mod StatusSeen
 pub mod Compiled
+pub mod Comparing
+pub mod Pairs
