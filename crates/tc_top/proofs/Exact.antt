@@ -6,12 +6,14 @@ use Rattle.tc_io.specs.declared.StoreFault.{StoreFault}
 use Rattle.tc_io.specs.declared.StoreFault.TheVariants.{Missing, Failed, TooLong, NoMemory}
 use Rattle.tc_top.specs.Checking.{most_rows}
 use Rattle.tc_top.specs.Demo.{demo_schema, demo_sheet, input_name, output_name, sheet_name}
-use Rattle.tc_top.specs.declared.limits.TheConstants.{MOST_ROWS}
+use Rattle.tc_answer.specs.declared.limits.TheConstants.{MOST_ROWS}
 use Rattle.tc_top.specs.OneAnswer.{AreAlike, same_answer, IsOfFault}
-use Rattle.tc_top.specs.Words.{Command, check, run, valid, demo, Words, IsNoCommand, name_of, operands_of}
-use Rattle.tc_top.specs.Reading.{StopsAt, at_first, past_first, IsUnreadable}
-use Rattle.tc_top.specs.Answers.{Answer, usage, not_yet, cannot_read, file_limit, IsBuilt, Checks, Validates, RunsTexts, IsAnswer, no_command, not_built, not_read, over_long, checked, validated, ran, shown}
-use Rattle.tc_top.proofs.OneCommand.{one_command}
+use Rattle.tc_answer.specs.Words.{Command, check, run, valid, demo, Words, IsNoCommand, name_of, operands_of}
+use Rattle.tc_answer.specs.Reading.{StopsAt, at_first, past_first, IsUnreadable}
+use Rattle.tc_answer.specs.Answers.{Answer, usage, not_yet, cannot_read, file_limit}
+use Rattle.tc_top.specs.Answers.{IsBuilt, IsAnswer, no_command, not_built, not_read, over_long, checked, validated, ran, shown}
+use Rattle.tc_top.specs.Causes.{Checks, Validates, RunsTexts}
+use Rattle.tc_answer.proofs.OneCommand.{one_command}
 use Rattle.tc_top.proofs.OneValidity.{validates_one}
 use Rattle.tc_top.proofs.OneRun.{runs_texts_one}
 use Rattle.tc_top.proofs.OneCheck.{checks_one}

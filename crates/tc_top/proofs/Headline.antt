@@ -14,21 +14,23 @@ use Rattle.tc_print.specs.ReadBack.{nesting, IsReadAs}
 use Rattle.tc_print.proofs.ReadBack.{read_back}
 use Rattle.tc_top.specs.Checking.{most_rows, IsCompiled, HasFewRows, AreRowCounts, IsLeastCounter, HasSmallCounter, HasLargeCounters}
 use Rattle.tc_top.specs.Headline.{IsCutShort, ChecksFiles, ChecksShortFiles, ShowsCounterexample, shows_both, shows_document, ShowsRun, shows_result, shows_large, IsLimited, limited_before_rows, limited_in_rows, limited_in_nodes, DecidesSafety, ValidatesFiles, DecidesValidity, RunsFiles, GivesResult}
-use Rattle.tc_top.specs.Answers.{Answer, IsBuilt, usage, not_yet, cannot_read, file_limit, safe, unsafe, unsafe_large, rows_limit, counterexample_limit, refused, over_limit, is_valid, is_invalid, has_result, work_limit, open_limit, status_of, text_of, Finds, passes_compile, passes_rows, finds_safe, finds_unsafe, finds_large, finds_none_small, IsAnswer, no_command, not_built, not_read, over_long, checked, validated, ran, shown, Ends, Gives, KeepsToLimits, Runs, sheet_passes, too_much_work, too_open, gives_result}
+use Rattle.tc_answer.specs.Answers.{Answer, usage, not_yet, cannot_read, file_limit, safe, unsafe, unsafe_large, rows_limit, counterexample_limit, refused, over_limit, is_valid, is_invalid, has_result, work_limit, open_limit, status_of, text_of}
+use Rattle.tc_top.specs.Answers.{IsBuilt, IsAnswer, no_command, not_built, not_read, over_long, checked, validated, ran, shown, Ends, Gives, KeepsToLimits}
+use Rattle.tc_top.specs.Causes.{Finds, passes_compile, passes_rows, finds_safe, finds_unsafe, finds_large, finds_none_small, Runs, sheet_passes, too_much_work, too_open, gives_result}
 use Rattle.tc_top.specs.AnswersSeen.{IsRightFor}
 use Rattle.tc_top.specs.OneAnswer.{AreAlike, same_answer, counterexamples, large_counterexamples, large_or_not, not_large_or_large, row_limits, work_or_open, open_or_work, open_reasons, IsOfFault}
-use Rattle.tc_top.specs.declared.answer.Answer.{Answer as Said}
-use Rattle.tc_top.specs.declared.status.Status.{Status}
-use Rattle.tc_top.specs.declared.status.Status.TheVariants.{Yes, No, Limit}
+use Rattle.tc_answer.specs.declared.answer.Answer.{Answer as Said}
+use Rattle.tc_answer.specs.declared.status.Status.{Status}
+use Rattle.tc_answer.specs.declared.status.Status.TheVariants.{Yes, No, Limit}
 use Rattle.tc_top.specs.Limits.{IsRunWithin}
 use Rattle.tc_model.specs.RncText.{RncText}
 use Rattle.tc_read.specs.Sheets.{IsSheetOf}
 use Rattle.tc_top.specs.Demo.{demo_schema, demo_sheet}
-use Rattle.tc_top.specs.declared.limits.TheConstants.{MOST_ROWS}
-use Rattle.tc_top.specs.Words.{Words, demo}
+use Rattle.tc_answer.specs.declared.limits.TheConstants.{MOST_ROWS}
+use Rattle.tc_answer.specs.Words.{Words, demo}
 use Rattle.tc_top.proofs.Exact.{Agrees, checked_only, validated_only, ran_only, shown_only, shown_reads, held_texts, read_two, read_three}
 use Rattle.tc_top.proofs.OneCheck.{not_both, over_compile, one_compile, near_far, finds_of}
-use Rattle.tc_top.proofs.OneCommand.{one_command}
+use Rattle.tc_answer.proofs.OneCommand.{one_command}
 use Rattle.tc_top.proofs.OneValidity.{Settles, settles_valid, settles_invalid, settles}
 use Rattle.tc_top.proofs.OneRun.{one_result, runs_of, not_within, not_few, not_low}
 

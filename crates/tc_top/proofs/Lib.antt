@@ -1,10 +1,6 @@
-pub mod Named
-pub mod Lined
-pub mod OperandsRead
+pub mod FewRows
 pub mod Nothing
-pub mod Numerals
 pub mod DemoSizes
-pub mod OneCommand
 pub mod OneRefusal
 pub mod OneValidity
 pub mod OneRun

@@ -1,7 +1,7 @@
 -- Words and files have one answer, but for what is left open.
 use Rattle.std.proofs.Common.{inl, inr}
 use Rattle.tc_io.specs.Faults.{Rose}
-use Rattle.tc_top.specs.Answers.{Answer, usage, not_yet, cannot_read, file_limit, safe, unsafe, unsafe_large, rows_limit, counterexample_limit, refused, over_limit, is_valid, is_invalid, has_result, work_limit, open_limit}
+use Rattle.tc_answer.specs.Answers.{Answer, usage, not_yet, cannot_read, file_limit, safe, unsafe, unsafe_large, rows_limit, counterexample_limit, refused, over_limit, is_valid, is_invalid, has_result, work_limit, open_limit}
 use Rattle.tc_top.specs.OneAnswer.{AreAlike, IsOfFault, HasOneAnswer, HasOneAnswerOn, HasAnswerOfCall}
 use Rattle.tc_top.proofs.Exact.{Agrees, by_reads, exact}
 

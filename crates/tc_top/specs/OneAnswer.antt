@@ -8,8 +8,9 @@ use Rattle.tc_model.specs.SheetTextTrees.{Template}
 use Rattle.tc_model.specs.SheetTextPhrases.{IsStylesheet}
 use Rattle.tc_model.specs.Trees.{Trees}
 use Rattle.tc_model.specs.XmlText.{XmlText}
-use Rattle.tc_top.specs.Answers.{Answer, cannot_read, unsafe, unsafe_large, rows_limit, refused, work_limit, open_limit, IsAnswer, IsAnswerOn}
-use Rattle.tc_top.specs.Checking.{RowCount}
+use Rattle.tc_answer.specs.Answers.{Answer, cannot_read, unsafe, unsafe_large, rows_limit, refused, work_limit, open_limit}
+use Rattle.tc_top.specs.Answers.{IsAnswer, IsAnswerOn}
+use Rattle.tc_answer.specs.Lines.{RowCount}
 use Rattle.tc_read.specs.Refusals.{IsRefusedDocument, IsRefusedSheet}
 use Rattle.tc_read.specs.declared.faults.Reason.{Reason}
 use Rattle.tc_read.specs.declared.faults.Reason.TheVariants.{Malformed, Unsupported, TooDeep}

@@ -1,21 +1,14 @@
 //! The top call: it reads the files that its words name, decides, and writes the answer.
 #![tactic(auto)]
 
-mod answer;
-mod buffer;
 mod check;
-mod command;
 mod compile;
 mod demo;
 pub mod laws;
-pub mod limits;
 mod program;
-mod read;
 mod run;
-mod status;
+mod unread;
 mod valid;
-mod words;
-mod write;
 
 ghost use Rattle.std.specs.Prelude.{◌≡◌, ◌≤◌, ◌⊎◌, ℕ, List, Option, Some, IfOk, OnErr};
 ghost use Rattle.tc_io.specs.Faults.{Rose};
@@ -24,7 +17,7 @@ ghost use Rattle.tc_io.specs.Store.{Files};
 ghost use Rattle.tc_model.specs.Grammars.{Grammar};
 ghost use Rattle.tc_model.specs.Sheets.{Sheet};
 ghost use Rattle.tc_model.specs.Trees.{Trees};
-ghost use Rattle.tc_top.specs.Answers as a;
+ghost use Rattle.tc_answer.specs.Answers as a;
 ghost use Rattle.tc_top.specs.Answers.{Ends, IsAnswerOn, IsBuilt, ReadsNothing, Gives, KeepsToLimits};
 ghost use Rattle.tc_top.specs.AnswersSeen.{IsRightFor};
 ghost use Rattle.tc_model.specs.Safety.{IsSafe};
@@ -32,25 +25,22 @@ ghost use Rattle.tc_model.specs.RncText.{RncText};
 ghost use Rattle.tc_read.specs.Sheets.{IsSheetOf};
 ghost use Rattle.tc_top.specs.Checking.{most_rows};
 ghost use Rattle.tc_top.specs.Demo.{demo_schema, demo_sheet};
-ghost use Rattle.tc_top.specs.declared.limits.TheConstants.{MOST_ROWS};
+ghost use Rattle.tc_answer.specs.declared.limits.TheConstants.{MOST_ROWS};
 ghost use Rattle.tc_top.specs.Headline.{IsCutShort, ChecksFiles, ChecksShortFiles, ShowsCounterexample, DecidesSafety, ValidatesFiles, DecidesValidity, RunsFiles, GivesResult};
-ghost use Rattle.tc_top.specs.Words as w;
-ghost use Rattle.tc_top.specs.Words.{Words, IsNoCommand, name_of};
-ghost use Rattle.tc_top.specs.WordsSeen.{texts};
+ghost use Rattle.tc_answer.specs.Words as w;
+ghost use Rattle.tc_answer.specs.Words.{Words, IsNoCommand, name_of};
+ghost use Rattle.tc_answer.specs.WordsSeen.{texts};
 
-use answer::Answer;
 use check::check;
-use command::{Command, read_words};
 use demo::demo;
 pub use program::run_program;
 use run::run;
-pub use status::Status;
 use std::alloc::Global;
+use tc_answer::{Answer, Command, read_words, write_lines};
+pub use tc_answer::{Status, WordList};
 use tc_base::NoMemory;
 use tc_io::{Sink, Store, WriteFault};
 use valid::valid;
-pub use words::WordList;
-use write::write_lines;
 
 /// Carries out the command that the words give: reads the files that it names from the store, and writes the answer to
 /// the sink, each line by a write of its own. All memory is taken before the first write.
@@ -148,5 +138,8 @@ fn answer_words<S: Store>(
         Command::Prove(..) => Answer::not_yet(alloc, "prove"),
         Command::Verify(..) => Answer::not_yet(alloc, "verify"),
         Command::Demo(size) => demo(alloc, size),
+        Command::Upgrade(..) => Answer::not_yet(alloc, "upgrade"),
+        Command::Include(..) => Answer::not_yet(alloc, "include"),
+        Command::Same(..) => Answer::not_yet(alloc, "same"),
     }
 }

@@ -6,12 +6,12 @@ ghost use Rattle.tc_io.specs.Faults.{Rose};
 ghost use Rattle.tc_io.specs.Reads.{Happened};
 ghost use Rattle.tc_top.specs.Answers.{Ends};
 ghost use Rattle.tc_top.specs.Program.{words_of, LackMemory};
-ghost use Rattle.tc_top.specs.StatusSeen.{number_of};
-ghost use Rattle.tc_top.specs.declared.status.Status.{Status};
+ghost use Rattle.tc_answer.specs.StatusSeen.{number_of};
+ghost use Rattle.tc_answer.specs.declared.status.Status.{Status};
 
-use crate::status::Status;
+use tc_answer::Status;
 use crate::typecheck;
-use crate::words::WordList;
+use tc_answer::WordList;
 use std::alloc::Global;
 use std::env::Args;
 use std::io;

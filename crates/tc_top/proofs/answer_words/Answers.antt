@@ -2,12 +2,12 @@ use Rattle.std.proofs.Common.{◌≡◌, refl, sym, ap, subst, codes, ℕ, List}
 use Rattle.std.proofs.lemmas.Result.{IfOk-weaker}
 use Rattle.std.proofs.lemmas.Option.{MatchOption-at_none, MatchOption-at_some}
 use Rattle.tc_io.proofs.ReadsInOrder.{happened_nothing}
-use Rattle.tc_top.specs.Answers as a
+use Rattle.tc_answer.specs.Answers as a
 use Rattle.tc_top.specs.Answers.{no_command, not_built, shown, IsBuilt}
-use Rattle.tc_top.specs.Words.{Words, name_of}
-use Rattle.tc_top.specs.WordsSeen.{command}
-use Rattle.tc_top.specs.declared.command.Command.{Command}
-use Rattle.tc_top.proofs.Numerals.{few_rows, demo_size}
+use Rattle.tc_answer.specs.Words.{Words, name_of}
+use Rattle.tc_answer.specs.WordsSeen.{command}
+use Rattle.tc_answer.specs.declared.command.Command.{Command}
+use Rattle.tc_answer.proofs.Numerals.{few_rows, demo_size}
 use Rattle.tc_top.proofs.answer_words.Goals as goal
 
 pub returns-in_default-clause-right : goal.returns-in_default-clause-right

@@ -1,9 +1,10 @@
 use Rattle.std.proofs.Common.{◌∙◌, inl, inr, refl, ap, subst}
 use Rattle.tc_io.specs.Sink.{Appended, WroteFront}
-use Rattle.tc_top.specs.Answers.{status_of, answered, broken_off, out_of_memory}
+use Rattle.tc_answer.specs.Answers.{status_of}
+use Rattle.tc_top.specs.Answers.{answered, broken_off, out_of_memory}
 use Rattle.tc_top.proofs.Exact.{exact, usage_only, refused_only}
 use Rattle.tc_top.proofs.Headline.{at_words, at_told, gives, headline, safe_is_so, unsafe_is_shown, demo_is_safe, demo_is_shown, demonstrated, validity, running, limited}
-use Rattle.tc_top.specs.Words.{Words}
+use Rattle.tc_answer.specs.Words.{Words}
 use Rattle.tc_top.proofs.typecheck.Goals as goal
 
 pub returns-in-Ok-clause-ends : goal.returns-in-Ok-clause-ends

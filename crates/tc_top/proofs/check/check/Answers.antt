@@ -1,9 +1,9 @@
 use Rattle.std.proofs.Common.{refl}
 use Rattle.std.proofs.lemmas.Result.{IfOk-weaker}
 use Rattle.tc_top.specs.Answers.{checked}
-use Rattle.tc_top.specs.Words.{Words, check}
+use Rattle.tc_answer.specs.Words.{Words, check}
 use Rattle.tc_top.proofs.Checked.{checks_at}
-use Rattle.tc_top.proofs.OperandsRead.{three_named}
+use Rattle.tc_answer.proofs.OperandsRead.{three_named}
 use Rattle.tc_top.proofs.check.check.Goals as goal
 
 pub returns-in-Ok-clause-ok : goal.returns-in-Ok-clause-ok

@@ -1,8 +1,8 @@
 use Rattle.std.proofs.Common.{refl}
 use Rattle.std.proofs.lemmas.Result.{IfOk-weaker}
 use Rattle.tc_top.specs.Answers.{validated}
-use Rattle.tc_top.specs.Words.{Words, valid}
-use Rattle.tc_top.proofs.OperandsRead.{named}
+use Rattle.tc_answer.specs.Words.{Words, valid}
+use Rattle.tc_answer.proofs.OperandsRead.{named}
 use Rattle.tc_top.proofs.valid.valid.Goals as goal
 
 pub returns-in-Ok-clause-ok : goal.returns-in-Ok-clause-ok

@@ -1,0 +1,5 @@
+pub mod Named
+pub mod Lined
+pub mod OperandsRead
+pub mod Numerals
+pub mod OneCommand
