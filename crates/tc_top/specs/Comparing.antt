@@ -18,9 +18,14 @@ use Rattle.tc_read.specs.Refusals.{IsRefusedSchema}
 use Rattle.tc_read.specs.declared.faults.Reason.{Reason}
 use Rattle.tc_rows.specs.Counts.{Counts, Pass}
 use Rattle.tc_top.specs.Limits.{IsWithinLimits, PassesLimit, AreFew, symbols_of_mentions}
-use Rattle.tc_top.specs.declared.compare.Question.{Question}
-use Rattle.tc_top.specs.declared.compare.Question.TheVariants.{Inclusion, Equality}
 use Rattle.tc_answer.specs.declared.limits.TheConstants.{MOST_ROWS, MOST_SHOWN_NODES}
+
+-- what is asked of two schemas
+pub data Question : Type 0 where
+  -- whether each document that is valid for the first is valid for the second
+  inclusion : Question
+  -- whether both have the same valid documents
+  equality : Question
 
 -- the cover counts of a direction: there are more rows of trees, or of lists of trees, that are live for the first schema than there may be
 pub data HasManyCovers (x : Schemas) : RowCount → Type 0 where
@@ -94,8 +99,8 @@ module _ (a b : Grammar) where
         → ((other : Trees) → IsOfOne other → MOST_SHOWN_NODES < node_count other) → FindsEquality counterexample_limit
 
   abbrev pub FindsBoth : Question → Answer → Type 0
-  FindsBoth Inclusion answer = FindsInclusion answer
-  FindsBoth Equality answer = FindsEquality answer
+  FindsBoth inclusion answer = FindsInclusion answer
+  FindsBoth equality answer = FindsEquality answer
 
 -- what is answered of two texts
 pub data Compares (question : Question) (first second first_text second_text : List ℕ) : Answer → Type 0 where

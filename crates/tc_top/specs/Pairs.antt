@@ -12,8 +12,16 @@ use Rattle.tc_incl.specs.declared.inclusion.Cover.TheVariants.{Included, Not, No
 use Rattle.tc_model.specs.Grammars.{Grammar}
 use Rattle.tc_model.specs.Trees.{none, node_count}
 use Rattle.tc_model.specs.Views.{before}
+use Rattle.tc_top.specs.Comparing as c
 use Rattle.tc_top.specs.Comparing.{AreCompiled, HasManyCovers, forward, backward}
 use Rattle.tc_top.specs.declared.compare.Pair.{Pair}
+use Rattle.tc_top.specs.declared.compare.Question.{Question}
+use Rattle.tc_top.specs.declared.compare.Question.TheVariants.{Inclusion, Equality}
+
+-- what is asked
+abbrev pub question : Question → c.Question
+question Inclusion = c.inclusion
+question Equality = c.equality
 
 -- the automata of two schemas within their limits, and the symbols of both, for each direction
 pub record IsPairOf (a b : Grammar) (pair : Pair) : Type 0 where

@@ -15,8 +15,7 @@ ghost use Rattle.tc_top.specs.Limits.{AreFew, IsWithinLimits};
 ghost use Rattle.tc_model.specs.States.{input};
 ghost use Rattle.tc_base.specs.declared.limits.TheConstants.{MOST_INPUT_STATES};
 ghost use Rattle.tc_answer.specs.declared.limits.TheConstants.{MOST_ROWS, MOST_SHOWN_NODES};
-ghost use Rattle.tc_answer.specs.AnswersSeen.{row_count};
-ghost use Rattle.tc_top.specs.Pairs.{HasFewNodes, IsPairOf, SaysCovers};
+ghost use Rattle.tc_top.specs.Pairs.{HasFewNodes, IsPairOf, SaysCovers, question as asked};
 
 use crate::compile::{CompileFault, contents_of, small};
 use bumpalo::Bump;
@@ -58,7 +57,7 @@ pub fn compare_texts(
     requires first { length first.now.text.items ≤ longest_text }
     requires second { length second.now.text.items ≤ longest_text }
     ensures { IfOk result (λ said. (answer : a.Answer) × Says said answer
-        × Compares question first.now.name.now second.now.name.now first.now.text.items second.now.text.items answer) }
+        × Compares (asked question) first.now.name.now second.now.name.now first.now.text.items second.now.text.items answer) }
 {
     let arena = Bump::new(alloc);
     match read_schema(&arena, &first.text) {
@@ -82,7 +81,7 @@ fn compare_second<'b>(
     requires first { IsSchemaOf first.now.text.items read.now }
     requires second { length second.now.text.items ≤ longest_text }
     ensures { IfOk result (λ said. (answer : a.Answer) × Says said answer
-        × Compares question first.now.name.now second.now.name.now first.now.text.items second.now.text.items answer) }
+        × Compares (asked question) first.now.name.now second.now.name.now first.now.text.items second.now.text.items answer) }
 {
     match read_schema(arena, &second.text) {
         Ok(other) => compare_read(alloc, arena, question, read, &other),
@@ -104,7 +103,7 @@ fn compare_read<'b>(
     requires first { IsSpelled first.now }
     requires second { IsSpelled second.now }
     ensures { IfOk result (λ said. (a b : g.Grammar) → IsReadOf a first.now → IsReadOf b second.now
-        → (answer : a.Answer) × Says said answer × FindsBoth a b question answer) }
+        → (answer : a.Answer) × Says said answer × FindsBoth a b (asked question) answer) }
 {
     match pair_of(alloc, first, second) {
         Ok(pair) => match question {
