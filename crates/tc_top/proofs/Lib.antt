@@ -6,6 +6,7 @@ pub mod OneValidity
 pub mod OneRun
 pub mod Checked
 pub mod Compiling
+pub mod Compared
 pub mod OneCheck
 pub mod Exact
 pub mod OneAnswer

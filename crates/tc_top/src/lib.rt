@@ -2,6 +2,7 @@
 #![tactic(auto)]
 
 mod check;
+mod compare;
 mod compile;
 mod demo;
 pub mod laws;
