@@ -8,6 +8,7 @@ pub mod Checked
 pub mod Compiling
 pub mod Compared
 pub mod OneCheck
+pub mod OneComparison
 pub mod Exact
 pub mod OneAnswer
 pub mod Headline
