@@ -7,5 +7,6 @@ pub mod Laws
 pub mod Sets
 pub mod Sides
 pub mod Held
+pub mod Steps
 pub mod Covers
 pub mod Answers

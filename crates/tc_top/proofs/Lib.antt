@@ -6,7 +6,9 @@ pub mod OneValidity
 pub mod OneRun
 pub mod Checked
 pub mod Compiling
+pub mod Compared
 pub mod OneCheck
+pub mod OneComparison
 pub mod Exact
 pub mod OneAnswer
 pub mod Headline

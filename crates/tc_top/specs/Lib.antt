@@ -1,6 +1,8 @@
 pub mod Limits
 pub mod Checking
 pub mod Compiled
+pub mod Comparing
+pub mod Pairs
 pub mod Demo
 pub mod Causes
 pub mod Headline
