@@ -1,7 +1,5 @@
 -- What is verified is a certificate, and shows safety.
-use Rattle.std.proofs.Common.{◌≡◌, ℕ, Ok, Err, Result, map, subst, sym}
-use Rattle.std.specs.Prelude.{IfErr}
-use Rattle.std.specs.Result.{IsErrAnd}
+use Rattle.std.proofs.Common.{◌≡◌, ℕ, Ok, Err, Result, IfErr, IsErrAnd, map, subst, sym}
 use Rattle.tc_model.specs.Safety.{IsSafe}
 use Rattle.tc_rows.specs.Triples.{Triple, sheet}
 use Rattle.tc_rows.proofs.Derived.{certificate_is_safe, closed_hold_all}
