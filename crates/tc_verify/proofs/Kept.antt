@@ -122,6 +122,7 @@ module _ {r : Rows} {hs : List HRow} {ts : List TRow} {hl tl : List (List ℕ)} 
 
   module _ (l : Listing) (e : here ≡ l) (b : Bool) where
     pub empty_exact : ((x : Triple) → AreRowsOf x r → IsTrue b ↔ IsEmptyListed x (map (hedge_row x r.outputs.matrices) hl)) → MatchBool b (EmptyHolds l) (EmptyBreaks l)
+    unfolding EmptyHolds EmptyBreaks
     empty_exact f =
         subst (λ k. MatchBool b (EmptyHolds k) (EmptyBreaks k)) e
         (decide b (λ x. IsMachineOf x r.machine.now) (λ x. IsEmptyListed x (hedge_rows here x)) (λ x m.
@@ -130,6 +131,7 @@ module _ {r : Rows} {hs : List HRow} {ts : List TRow} {hl tl : List (List ℕ)} 
         (λ t u made. as_many row hl here.hedges (λ ns. (is.held_hedges ns).0) u (i.0 t u made), λ all. i.1 (λ u made. as_many row here.hedges hl (λ ns. (is.held_hedges ns).1) u (all u made)))))
 
     pub text_exact : ((x : Triple) → AreRowsOf x r → IsTrue b ↔ IsTextListed x (map (tree_row x r.outputs.matrices) tl)) → MatchBool b (TextHolds l) (TextBreaks l)
+    unfolding TextHolds TextBreaks
     text_exact f =
         subst (λ k. MatchBool b (TextHolds k) (TextBreaks k)) e
         (decide b (λ x. IsMachineOf x r.machine.now) (λ x. IsTextListed x (tree_rows here x)) (λ x m.
@@ -145,6 +147,7 @@ module _ {r : Rows} {hs : List HRow} {ts : List TRow} {hl tl : List (List ℕ)} 
 
     pub append_exact : (i j : ℕ) (h : HRow) (t : TRow) → slice_get hs i ≡ Some h → slice_get ts j ≡ Some t
         → ((x : Triple) → AreRowsOf x r → IsTrue b ↔ IsAppendListed x (map (hedge_row x r.outputs.matrices) hl) (hedge_of x r h) (tree_of x r t)) → MatchBool b (AppendHolds l i j) (AppendBreaks l i j)
+    unfolding AppendHolds AppendBreaks
     append_exact i j h t at there f =
         subst (λ k. MatchBool b (AppendHolds k i j) (AppendBreaks k i j)) e
         (decide b (λ x. IsMachineOf x r.machine.now) (λ x. AppendIsListed x (tree_rows here x) (hedge_rows here x) i j) (λ x m.
@@ -160,6 +163,7 @@ module _ {r : Rows} {hs : List HRow} {ts : List TRow} {hl tl : List (List ℕ)} 
 
     pub wrap_exact : (i s : ℕ) (h : HRow) → slice_get hs i ≡ Some h
         → ((x : Triple) → AreRowsOf x r → IsTrue b ↔ IsWrapListed x (map (tree_row x r.outputs.matrices) tl) s (hedge_of x r h)) → MatchBool b (WrapHolds l i s) (WrapBreaks l i s)
+    unfolding WrapHolds WrapBreaks
     wrap_exact i s h at f =
         subst (λ k. MatchBool b (WrapHolds k i s) (WrapBreaks k i s)) e
         (decide b (λ x. IsMachineOf x r.machine.now) (λ x. WrapIsListed x (tree_rows here x) (hedge_rows here x) i s) (λ x m.
@@ -172,6 +176,7 @@ module _ {r : Rows} {hs : List HRow} {ts : List TRow} {hl tl : List (List ℕ)} 
         )))
 
     pub root_exact : (j : ℕ) (t : TRow) → slice_get ts j ≡ Some t → ((x : Triple) → AreRowsOf x r → IsTrue b ↔ IsGood x (tree_of x r t)) → MatchBool b (RootHolds l j) (RootBreaks l j)
+    unfolding RootHolds RootBreaks
     root_exact j t at f =
         subst (λ k. MatchBool b (RootHolds k j) (RootBreaks k j)) e
         (decide b (λ x. IsMachineOf x r.machine.now) (λ x. RootIsGood x (tree_rows here x) (hedge_rows here x) j) (λ x m.

@@ -1,7 +1,7 @@
 -- Lists that grow by one in a loop.
-use Rattle.std.proofs.Common.{◌≡◌, ◌<◌, ◌+◌, ◌↔◌, ◌⊎◌, inl, inr, ◌++◌, ◌∷◌, [], ℕ, zero, suc, List, length, map, take, slice_get, Some, subst, sym, ap, ◌∙◌, refl, arith}
+use Rattle.std.proofs.Common.{◌≡◌, ◌<◌, ◌+◌, ◌↔◌, ◌⊎◌, inl, inr, ◌++◌, ◌∷◌, [], ℕ, zero, suc, List, length, map, slice_get, Some, subst, sym, ap, ◌∙◌, refl, arith}
 use Rattle.std.specs.List.{Contains}
-use Rattle.std.proofs.lemmas.List.{map-append}
+use Rattle.std.proofs.lemmas.List.{map-append, length-append}
 use Rattle.tc_beh.specs.Machines.{IsMachineOf}
 use Rattle.tc_beh.specs.Lines.{IsLine, AreFlags}
 use Rattle.tc_beh.specs.Rooms.{Layout, hedge_layout, tree_layout}
@@ -26,23 +26,29 @@ pushed P [] y all last (suc k) v e = absurd (cc)
 pushed P (x ∷ xs) y all last zero v e = all zero v e
 pushed P (x ∷ xs) y all last (suc k) v e = pushed (λ j w. P (suc j) w) xs y (λ j w p. all (suc j) w p) last k v e
 
-taken : {A : Type 0} (xs : List A) (i : ℕ) (y : A) → slice_get xs i ≡ Some y → take (suc i) xs ≡ take i xs ++ y ∷ []
-taken [] i y e = cc
-taken (x ∷ xs) zero y e = ap (λ z. z ∷ []) (cc)
-taken (x ∷ xs) (suc i) y e = ap (λ zs. x ∷ zs) (taken xs i y e)
+module _ {A : Type 0} (numbers : A → List ℕ) (P : ℕ → A → Type 0) where
+  -- so many rooms, each of its line, and exactly their numbers
+  pub record AreRead (rooms : List A) (lists : List (List ℕ)) (count : ℕ) : Type 0 where
+    pub count : length rooms ≡ count
+    pub each : (k : ℕ) (r : A) → slice_get rooms k ≡ Some r → P k r
+    pub held : (ns : List ℕ) → Contains lists ns ↔ Contains (map numbers rooms) ns
 
-pub more_taken : {A : Type 0} (f : A → List ℕ) (old new : List (List ℕ)) (xs : List A) (i : ℕ) (y : A) → slice_get xs i ≡ Some y → ((ns : List ℕ) → Contains old ns ↔ Contains (map f (take i xs)) ns) → HasMore old new (f y)
-    → (ns : List ℕ) → Contains new ns ↔ Contains (map f (take (suc i) xs)) ns
-more_taken f old new xs i y at all more ns = (there, back)
-  where
-    longer : HasMore (map f (take i xs)) (map f (take (suc i) xs)) (f y)
-    longer = one_more (map f (take i xs)) (map f (take (suc i) xs)) (f y) (ap (map f) (taken xs i y at) ∙ map-append f (take i xs) (y ∷ []))
+  pub one_read : (old new : List A) (y : A) (place : ℕ) (lists more : List (List ℕ)) → new ≡ old ++ y ∷ [] → length old ≡ place → ((k : ℕ) (r : A) → slice_get old k ≡ Some r → P k r) → P place y
+      → ((ns : List ℕ) → Contains lists ns ↔ Contains (map numbers old) ns) → HasMore lists more (numbers y) → AreRead new more (place + 1)
+  one_read old new y place lists more e n all last held has = record {
+    count = ap length e ∙ (length-append old (y ∷ []) ∙ ap (λ k. k + 1) n);
+    each = subst (λ (xs : List A). (k : ℕ) (r : A) → slice_get xs k ≡ Some r → P k r) (sym e) (pushed P old y all (subst (λ k. P k y) (sym n) last));
+    held = λ ns. (there ns, back ns);
+  }
+    where
+      longer : HasMore (map numbers old) (map numbers new) (numbers y)
+      longer = one_more (map numbers old) (map numbers new) (numbers y) (ap (map numbers) e ∙ map-append numbers old (y ∷ []))
 
-    there : Contains new ns → Contains (map f (take (suc i) xs)) ns
-    there c = (longer ns).1 (elim ((more ns).0 c) [ inl a ↦ inl ((all ns).0 a) | inr b ↦ inr b ])
+      there : (ns : List ℕ) → Contains more ns → Contains (map numbers new) ns
+      there ns c = (longer ns).1 (elim ((has ns).0 c) [ inl a ↦ inl ((held ns).0 a) | inr b ↦ inr b ])
 
-    back : Contains (map f (take (suc i) xs)) ns → Contains new ns
-    back c = (more ns).1 (elim ((longer ns).0 c) [ inl a ↦ inl ((all ns).1 a) | inr b ↦ inr b ])
+      back : (ns : List ℕ) → Contains (map numbers new) ns → Contains more ns
+      back ns c = (has ns).1 (elim ((longer ns).0 c) [ inl a ↦ inl ((held ns).1 a) | inr b ↦ inr b ])
 
 module _ (m : Machine) (c : CertData) (place : ℕ) where
   pub hedge_read : (l : HedgeLine) → slice_get c.hedges place ≡ Some l → (a b : HRow) → ((x : Triple) → IsMachineOf x m → IsRoomOf (hedge_layout x) a.room) → IsRoomBeside a.room b.room

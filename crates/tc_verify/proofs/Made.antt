@@ -23,7 +23,7 @@ use Rattle.tc_beh.specs.declared.rooms.HRow.{HRow}
 use Rattle.tc_beh.specs.declared.rooms.TRow.{TRow}
 use Rattle.tc_model.specs.CertificateData.{IsFormed}
 use Rattle.tc_verify.specs.Rules.{IsEmptyListed, IsTextListed, AppendIsListed, WrapIsListed, RootIsGood}
-use Rattle.tc_verify.specs.Listings.{Listing, hedge_rows, tree_rows}
+use Rattle.tc_verify.specs.Listings.{Listing, hedge_rows, tree_rows, EmptyHolds, TextHolds, AppendHolds, WrapHolds, RootHolds}
 use Rattle.tc_rows.specs.CertificateRows.{numbered_tree, numbered_hedge, trees_of, hedges_of, IsCertificateData}
 use Rattle.tc_model.specs.CertificateFits.{AllFit}
 use Rattle.tc_verify.specs.Fits.{sizes}
@@ -117,6 +117,7 @@ module _ (x : Triple) (c : CertData) (formed : IsFormed c) (fit : AllFit (sizes 
   over P p = subst (λ t. P t (hedges_of c)) ts (subst (P (tree_rows l x)) hs p)
 
   rules_hold : AllHold l → AreRules x c formed fit
+  unfolding EmptyHolds TextHolds AppendHolds WrapHolds RootHolds
   rules_hold all = record {
     empty = subst (IsEmptyListed x) hs (all.rows.rows.lists.empty x is);
     text = subst (IsTextListed x) ts (all.rows.rows.lists.text x is);

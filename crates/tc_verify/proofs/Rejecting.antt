@@ -19,7 +19,7 @@ use Rattle.tc_verify.specs.Rules.{IsEmptyListed, IsTextListed, AppendIsListed, W
 use Rattle.tc_rows.specs.CertificateRows.{numbered_tree, numbered_hedge, trees_of, hedges_of, IsCertificateData}
 use Rattle.tc_model.specs.CertificateFits.{AllFit, HedgeFits, IsFirstUnfit, IsUnfit, OutputFits, PairsFit, TreeFits, line_of_hedge, line_of_output, line_of_tree}
 use Rattle.tc_verify.specs.Fits.{sizes}
-use Rattle.tc_verify.specs.Listings.{Listing, hedge_rows, tree_rows, AppendHolds, WrapHolds}
+use Rattle.tc_verify.specs.Listings.{Listing, hedge_rows, tree_rows, EmptyHolds, EmptyBreaks, TextHolds, TextBreaks, AppendHolds, AppendBreaks, WrapHolds, WrapBreaks, RootHolds, RootBreaks}
 use Rattle.tc_verify.specs.Firsts.{ListsHold, RowsHold, WrapsToo, IsFirstAt, IsFirstPair, IsFirstOf, AppendsHold, WrapsHold, symbols}
 use Rattle.tc_verify.specs.Told.{Tells, IsRejectOf, AreIn}
 use Rattle.tc_verify.specs.Rejects.{IsBroken, IsFirstBroken, IsRejected, rank}
@@ -108,7 +108,7 @@ rejected : (x : Triple) (c : CertData) (r : Reject) → IsFirstBroken x c r.rule
 rejected x c r first earlier = record { first = first; earlier = earlier; none = λ is. none_broken x c is r.rule r.line r.other first.broken }
 
 -- a line that doesn't fit
-pub unfit_rejected : (x : Triple) (c : CertData) (line : ℕ) → IsFirstUnfit (sizes x) c line → IsRejected x c (record { line = line; rule = rule.Fit; other = 0 })
+unfit_rejected : (x : Triple) (c : CertData) (line : ℕ) → IsFirstUnfit (sizes x) c line → IsRejected x c (record { line = line; rule = rule.Fit; other = 0 })
 unfit_rejected x c line is = rejected x c (record { line = line; rule = rule.Fit; other = 0 }) first earlier
   where
     first : IsFirstBroken x c rule.Fit line 0
@@ -127,6 +127,9 @@ told : (x : Triple) (c : CertData) (ru : RejectRule) (li ot : ℕ) (r : Reject) 
 told x c ru li ot r t p =
     let Made : ℕ → RejectRule → ℕ → Reject = λ a b d. record { line = a; rule = b; other = d } in
     subst (IsRejected x c) (ap (λ a. Made a ru ot) (sym t.by_line) ∙ (ap (λ b. Made r.line b ot) (sym t.by_rule) ∙ ap (λ d. Made r.line r.rule d) (sym t.by_other))) p
+
+pub unfit_told : (x : Triple) (c : CertData) (line : ℕ) (r : Reject) → Tells r rule.Fit line 0 → IsFirstUnfit (sizes x) c line → IsRejected x c r
+unfit_told x c line r t is = told x c rule.Fit line 0 r t (unfit_rejected x c line is)
 
 -- the first rule that the listing breaks is the first that the certificate breaks
 module _ (x : Triple) (c : CertData) (formed : IsFormed c) (fit : AllFit (sizes x) c) (l : Listing) (is : IsMachineOf x l.machine) (hs : hedge_rows l x ≡ hedges_of c) (ts : tree_rows l x ≡ trees_of c) where
@@ -158,33 +161,40 @@ module _ (x : Triple) (c : CertData) (formed : IsFormed c) (fit : AllFit (sizes 
   on = over x c formed fit l is hs ts
 
   empty_listed : ListsHold l → IsEmptyListed x (hedges_of c)
+  unfolding EmptyHolds
   empty_listed a = subst (IsEmptyListed x) hs (a.empty x is)
 
   text_listed : ListsHold l → IsTextListed x (trees_of c)
+  unfolding TextHolds
   text_listed a = subst (IsTextListed x) ts (a.text x is)
 
   appends_listed : RowsHold l → Appends
+  unfolding AppendHolds
   appends_listed a i j p q = on (λ t h. AppendIsListed x t h i j) (a.appends i (hedge_in i p) j (tree_in j q) x is)
 
   wraps_listed : WrapsToo l → Wraps
+  unfolding WrapHolds
   wraps_listed a i s p q = on (λ t h. WrapIsListed x t h i s) (a.wraps i (hedge_in i p) s (symbol_in s q) x is)
 
   never : {A : Type 0} (n m : ℕ) → m ≤ n → n < m → A
   never n m a b = absurd (omega (arith, a, b))
 
   empty_first : IsFirstOf l broken.Empty → IsRejected x c (record { line = 0; rule = rule.Empty; other = 0 })
+  unfolding EmptyBreaks
   empty_first bad =
       rejected x c (record { line = 0; rule = rule.Empty; other = 0 })
       (record { broken = (subst (λ h. ¬ IsEmptyListed x h) hs (bad x is), refl, refl); least = λ k o b. inr (sym b.1.0, omega arith) })
       (all_before 2 (never 2 2 (omega arith)) (never 3 2 (omega arith)) (never 4 2 (omega arith)) (never 5 2 (omega arith)) (omega arith))
 
   text_first : IsFirstOf l broken.Text → IsRejected x c (record { line = 0; rule = rule.Text; other = 0 })
+  unfolding EmptyHolds TextBreaks
   text_first (e, bad) =
       rejected x c (record { line = 0; rule = rule.Text; other = 0 })
       (record { broken = (subst (λ t. ¬ IsTextListed x t) ts (bad x is), refl, refl); least = λ k o b. inr (sym b.1.0, omega arith) })
       (all_before 3 (λ y. subst (IsEmptyListed x) hs (e x is)) (never 3 3 (omega arith)) (never 4 3 (omega arith)) (never 5 3 (omega arith)) (omega arith))
 
   append_first : (i j : ℕ) → IsFirstOf l (broken.Append i j) → IsRejected x c (record { line = line_of_hedge c i; rule = rule.Append; other = line_of_tree c j })
+  unfolding AppendBreaks
   append_first i j (lists, first) =
       rejected x c (record { line = line_of_hedge c i; rule = rule.Append; other = line_of_tree c j })
       (record {
@@ -194,6 +204,7 @@ module _ (x : Triple) (c : CertData) (formed : IsFormed c) (fit : AllFit (sizes 
       (all_before 4 (λ y. empty_listed lists) (λ y. text_listed lists) (never 4 4 (omega arith)) (never 5 4 (omega arith)) (omega arith))
     where
       listed : (k m : ℕ) → AppendHolds l k m → AppendIsListed x (trees_of c) (hedges_of c) k m
+      unfolding AppendHolds
       listed k m holds = on (λ t h. AppendIsListed x t h k m) (holds x is)
 
       least : (k o : ℕ) → IsBroken x c rule.Append k o → (line_of_hedge c i < k) ⊎ ((line_of_hedge c i ≡ k) × (line_of_tree c j ≤ o))
@@ -209,6 +220,7 @@ module _ (x : Triple) (c : CertData) (formed : IsFormed c) (fit : AllFit (sizes 
       ]
 
   wrap_first : (i s : ℕ) → IsFirstOf l (broken.Wrap i s) → IsRejected x c (record { line = line_of_hedge c i; rule = rule.Wrap; other = s })
+  unfolding WrapBreaks
   wrap_first i s (rows, first) =
       rejected x c (record { line = line_of_hedge c i; rule = rule.Wrap; other = s })
       (record {
@@ -218,6 +230,7 @@ module _ (x : Triple) (c : CertData) (formed : IsFormed c) (fit : AllFit (sizes 
       (all_before 5 (λ y. empty_listed rows.lists) (λ y. text_listed rows.lists) (λ y. appends_listed rows) (never 5 5 (omega arith)) (omega arith))
     where
       listed : (k m : ℕ) → WrapHolds l k m → WrapIsListed x (trees_of c) (hedges_of c) k m
+      unfolding WrapHolds
       listed k m holds = on (λ t h. WrapIsListed x t h k m) (holds x is)
 
       least : (k o : ℕ) → IsBroken x c rule.Wrap k o → (line_of_hedge c i < k) ⊎ ((line_of_hedge c i ≡ k) × (s ≤ o))
@@ -233,6 +246,7 @@ module _ (x : Triple) (c : CertData) (formed : IsFormed c) (fit : AllFit (sizes 
       ]
 
   root_first : (j : ℕ) → IsFirstOf l (broken.Root j) → IsRejected x c (record { line = line_of_tree c j; rule = rule.Root; other = 0 })
+  unfolding RootBreaks
   root_first j (rows, first) =
       rejected x c (record { line = line_of_tree c j; rule = rule.Root; other = 0 })
       (record {
@@ -242,6 +256,7 @@ module _ (x : Triple) (c : CertData) (formed : IsFormed c) (fit : AllFit (sizes 
       (all_before 6 (λ y. empty_listed rows.rows.lists) (λ y. text_listed rows.rows.lists) (λ y. appends_listed rows.rows) (λ y. wraps_listed rows) (omega arith))
     where
       least : (k o : ℕ) → IsBroken x c rule.Root k o → (line_of_tree c j < k) ⊎ ((line_of_tree c j ≡ k) × (0 ≤ o))
+      unfolding RootHolds
       least k o (a, p, e, f, bad) = elim (below_or a j) [
         | inl low ↦ absurd (bad (on (λ t h. RootIsGood x t h a) (first.before a low x is)))
         | inr high ↦ elim (later_or_same j a high) [ inl more ↦ inl (omega (arith, more, e)) | inr same ↦ inr (omega (arith, same, e), omega arith) ]

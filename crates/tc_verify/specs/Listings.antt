@@ -29,34 +29,34 @@ tree_rows l x = map (tree_row x l.sets.matrices) l.trees
 
 -- a rule holds, and a rule is broken
 module _ (l : Listing) where
-  abbrev pub EmptyHolds : Type 0
+  unfoldable pub EmptyHolds : Type 0
   EmptyHolds = Each l (λ x. r.IsEmptyListed x (hedge_rows l x))
 
-  abbrev pub EmptyBreaks : Type 0
+  unfoldable pub EmptyBreaks : Type 0
   EmptyBreaks = Each l (λ x. ¬ r.IsEmptyListed x (hedge_rows l x))
 
-  abbrev pub TextHolds : Type 0
+  unfoldable pub TextHolds : Type 0
   TextHolds = Each l (λ x. r.IsTextListed x (tree_rows l x))
 
-  abbrev pub TextBreaks : Type 0
+  unfoldable pub TextBreaks : Type 0
   TextBreaks = Each l (λ x. ¬ r.IsTextListed x (tree_rows l x))
 
-  abbrev pub AppendHolds : ℕ → ℕ → Type 0
+  unfoldable pub AppendHolds : ℕ → ℕ → Type 0
   AppendHolds i j = Each l (λ x. r.AppendIsListed x (tree_rows l x) (hedge_rows l x) i j)
 
-  abbrev pub AppendBreaks : ℕ → ℕ → Type 0
+  unfoldable pub AppendBreaks : ℕ → ℕ → Type 0
   AppendBreaks i j = Each l (λ x. ¬ r.AppendIsListed x (tree_rows l x) (hedge_rows l x) i j)
 
-  abbrev pub WrapHolds : ℕ → ℕ → Type 0
+  unfoldable pub WrapHolds : ℕ → ℕ → Type 0
   WrapHolds i a = Each l (λ x. r.WrapIsListed x (tree_rows l x) (hedge_rows l x) i a)
 
-  abbrev pub WrapBreaks : ℕ → ℕ → Type 0
+  unfoldable pub WrapBreaks : ℕ → ℕ → Type 0
   WrapBreaks i a = Each l (λ x. ¬ r.WrapIsListed x (tree_rows l x) (hedge_rows l x) i a)
 
-  abbrev pub RootHolds : ℕ → Type 0
+  unfoldable pub RootHolds : ℕ → Type 0
   RootHolds j = Each l (λ x. r.RootIsGood x (tree_rows l x) (hedge_rows l x) j)
 
-  abbrev pub RootBreaks : ℕ → Type 0
+  unfoldable pub RootBreaks : ℕ → Type 0
   RootBreaks j = Each l (λ x. ¬ r.RootIsGood x (tree_rows l x) (hedge_rows l x) j)
 
 -- these lists and one more

@@ -7,7 +7,7 @@ ghost use Rattle.tc_model.specs.CertificateFits.{AllFit};
 ghost use Rattle.tc_verify.specs.Fits.{sizes};
 
 use crate::lists::Lists;
-use crate::reading::{hedge_lists, read_hedges, read_trees, tree_lists};
+use crate::reading::{read_hedges, read_trees};
 use std::alloc::Global;
 use tc_alpha::Sym;
 use tc_base::NoMemory;
@@ -52,10 +52,8 @@ impl<'m, 'b> Checker<'m, 'b> {
         ensures trees { IfOk result (λ c. (x : Triple) → IsMachineOf x machine.now → tree_rows (view_of c) x ≡ trees_of cert.now) }
     {
         let rows = Rows::fixed(alloc, machine, &cert.outputs)?;
-        let hedges = read_hedges(alloc, machine, cert)?;
-        let trees = read_trees(alloc, machine, cert)?;
-        let hedge_lists = hedge_lists(alloc, hedges.as_slice())?;
-        let tree_lists = tree_lists(alloc, trees.as_slice())?;
+        let (hedges, hedge_lists) = read_hedges(alloc, machine, cert)?;
+        let (trees, tree_lists) = read_trees(alloc, machine, cert)?;
         let new_hedge = HRow::room(alloc, machine)?;
         let new_tree = TRow::room(alloc, machine)?;
         Ok(Checker {

@@ -1,5 +1,5 @@
 // Rooms of the rows of a certificate's lines.
-ghost use Rattle.std.specs.Prelude.{◌≡◌, ◌<◌, ◌↔◌, ℕ, List, [], length, slice_get, Some, IfOk};
+ghost use Rattle.std.specs.Prelude.{◌≡◌, ◌↔◌, ℕ, List, length, slice_get, Some, IfOk};
 ghost use Rattle.std.specs.List.{Contains};
 ghost use Rattle.tc_rows.specs.Triples.{Triple};
 ghost use Rattle.tc_beh.specs.Machines.{IsMachine, IsMachineOf};
@@ -16,98 +16,58 @@ use tc_base::NoMemory;
 use tc_beh::{HRow, Machine, TRow};
 use tc_model::CertData;
 
-/// The room of a line of a list of trees.
-fn read_hedge(
-    alloc: Global,
-    machine: &Machine<'_>,
-    cert: &CertData,
-    place: u32,
-) -> Result<HRow, NoMemory>
-    requires machine { IsMachine machine.now }
-    requires formed { IsFormed cert.now }
-    requires fit { (x : Triple) → IsMachineOf x machine.now → AllFit (sizes x) cert.now }
-    requires place { place < length cert.now.hedges }
-    ensures { IfOk result (λ h. IsReadHedge machine.now cert.now place h) }
-{
-    let mut room = HRow::room(alloc, machine)?;
-    room.read(cert.hedges.get(place));
-    Ok(room)
-}
-
-/// The rooms of the lines of lists of trees.
+/// The rooms of the lines of lists of trees, by their places, and their numbers.
+///
+/// # Errors
+///
+/// There is no memory for them.
 pub(crate) fn read_hedges(
     alloc: Global,
     machine: &Machine<'_>,
     cert: &CertData,
-) -> Result<Vec<HRow>, NoMemory>
+) -> Result<(Vec<HRow>, Lists), NoMemory>
     requires machine { IsMachine machine.now }
     requires formed { IsFormed cert.now }
     requires fit { (x : Triple) → IsMachineOf x machine.now → AllFit (sizes x) cert.now }
-    ensures count { IfOk result (λ v. length v.items ≡ length cert.now.hedges) }
-    ensures each { IfOk result (λ v. (k : ℕ) (h : HRow) → slice_get v.items k ≡ Some h → IsReadHedge machine.now cert.now k h) }
+    ensures count { IfOk result (λ p. length p.0.items ≡ length cert.now.hedges) }
+    ensures each { IfOk result (λ p. (k : ℕ) (r : HRow) → slice_get p.0.items k ≡ Some r → IsReadHedge machine.now cert.now k r) }
+    ensures held { IfOk result (λ p. (ns : List ℕ) → Contains p.1 ns ↔ Contains (hedge_numbers p.0.items) ns) }
 {
     let mut rooms = Vec::new(alloc);
-    for place in 0..cert.hedges.len() {
-        rooms.push(read_hedge(alloc, machine, cert, place)?)?;
-    }
-    Ok(rooms)
-}
-
-/// The numbers of rooms of lists of trees.
-pub(crate) fn hedge_lists(alloc: Global, rooms: &[HRow]) -> Result<Lists, NoMemory>
-    ensures { IfOk result (λ l. (ns : List ℕ) → Contains l ns ↔ Contains (hedge_numbers rooms.now) ns) }
-{
     let mut lists = Lists::new(alloc);
-    for place in 0..rooms.len() {
-        lists.keep(rooms[place].numbers())?;
+    for place in 0..cert.hedges.len() {
+        let mut room = HRow::room(alloc, machine)?;
+        room.read(cert.hedges.get(place));
+        lists.keep(room.numbers())?;
+        rooms.push(room)?;
     }
-    Ok(lists)
+    Ok((rooms, lists))
 }
 
-/// The room of a line of a tree.
-fn read_tree(
-    alloc: Global,
-    machine: &Machine<'_>,
-    cert: &CertData,
-    place: u32,
-) -> Result<TRow, NoMemory>
-    requires machine { IsMachine machine.now }
-    requires formed { IsFormed cert.now }
-    requires fit { (x : Triple) → IsMachineOf x machine.now → AllFit (sizes x) cert.now }
-    requires place { place < length cert.now.trees }
-    ensures { IfOk result (λ t. IsReadTree machine.now cert.now place t) }
-{
-    let mut room = TRow::room(alloc, machine)?;
-    room.read(cert.trees.get(place));
-    Ok(room)
-}
-
-/// The rooms of the lines of trees.
+/// The rooms of the lines of trees, by their places, and their numbers.
+///
+/// # Errors
+///
+/// There is no memory for them.
 pub(crate) fn read_trees(
     alloc: Global,
     machine: &Machine<'_>,
     cert: &CertData,
-) -> Result<Vec<TRow>, NoMemory>
+) -> Result<(Vec<TRow>, Lists), NoMemory>
     requires machine { IsMachine machine.now }
     requires formed { IsFormed cert.now }
     requires fit { (x : Triple) → IsMachineOf x machine.now → AllFit (sizes x) cert.now }
-    ensures count { IfOk result (λ v. length v.items ≡ length cert.now.trees) }
-    ensures each { IfOk result (λ v. (k : ℕ) (t : TRow) → slice_get v.items k ≡ Some t → IsReadTree machine.now cert.now k t) }
+    ensures count { IfOk result (λ p. length p.0.items ≡ length cert.now.trees) }
+    ensures each { IfOk result (λ p. (k : ℕ) (r : TRow) → slice_get p.0.items k ≡ Some r → IsReadTree machine.now cert.now k r) }
+    ensures held { IfOk result (λ p. (ns : List ℕ) → Contains p.1 ns ↔ Contains (tree_numbers p.0.items) ns) }
 {
     let mut rooms = Vec::new(alloc);
-    for place in 0..cert.trees.len() {
-        rooms.push(read_tree(alloc, machine, cert, place)?)?;
-    }
-    Ok(rooms)
-}
-
-/// The numbers of rooms of trees.
-pub(crate) fn tree_lists(alloc: Global, rooms: &[TRow]) -> Result<Lists, NoMemory>
-    ensures { IfOk result (λ l. (ns : List ℕ) → Contains l ns ↔ Contains (tree_numbers rooms.now) ns) }
-{
     let mut lists = Lists::new(alloc);
-    for place in 0..rooms.len() {
-        lists.keep(rooms[place].numbers())?;
+    for place in 0..cert.trees.len() {
+        let mut room = TRow::room(alloc, machine)?;
+        room.read(cert.trees.get(place));
+        lists.keep(room.numbers())?;
+        rooms.push(room)?;
     }
-    Ok(lists)
+    Ok((rooms, lists))
 }
