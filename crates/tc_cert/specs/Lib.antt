@@ -4,3 +4,7 @@ pub mod Fronts
 pub mod Unambiguous
 pub mod Fits
 pub mod Readings
+pub mod Pieces
+pub mod Fields
+pub mod Orders
+pub mod NextRows

@@ -7,6 +7,8 @@ use Rattle.tc_cert.specs.declared.faults.CertFault.{CertFault}
 use Rattle.tc_cert.specs.declared.faults.CertFault.TheVariants as fault
 use Rattle.tc_cert.specs.declared.faults.UpgradeFault.{UpgradeFault}
 use Rattle.tc_cert.specs.declared.faults.UpgradeFault.TheVariants as upgrade
+use Rattle.tc_cert.specs.declared.text.CertWriteFault.{CertWriteFault}
+use Rattle.tc_cert.specs.declared.text.CertWriteFault.TheVariants as writing
 
 -- why bytes can't be read: they are the text of no certificate, and this line is the first that isn't as it must be; memory is free
 abbrev pub IsUnread : List ℕ → CertFault → Type 0
@@ -24,6 +26,15 @@ abbrev pub IsNotUpgraded : List ℕ → UpgradeFault → Type 0
 IsNotUpgraded bytes (upgrade.Form line) = IsFirstFault bytes line
 IsNotUpgraded bytes upgrade.TooLong = IsLong bytes
 IsNotUpgraded bytes upgrade.NoMemory = Unit {0}
+
+-- a fault of reading or of writing, as one of these
+abbrev pub upgrade_fault : CertFault → UpgradeFault
+upgrade_fault (fault.Form line) = upgrade.Form line
+upgrade_fault fault.NoMemory = upgrade.NoMemory
+
+abbrev pub write_fault : CertWriteFault → UpgradeFault
+write_fault writing.TooLong = upgrade.TooLong
+write_fault writing.NoMemory = upgrade.NoMemory
 
 -- bytes are the text of one data at most
 abbrev pub OneData : Type 0

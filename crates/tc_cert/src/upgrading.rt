@@ -6,6 +6,10 @@ ghost use Rattle.tc_cert.specs.Texts.{by_changes, CertificateText};
 ghost use Rattle.tc_cert.specs.Readings.{IsNotUpgraded};
 
 use crate::faults::UpgradeFault;
+use crate::fitting::first_unfit;
+use crate::ranges::Ranges;
+use crate::reading::read_cert;
+use crate::writing::write_cert;
 use std::alloc::Global;
 
 /// The text in version 2 of a certificate that is given in either version, of at most 67,108,864 bytes. A text of
@@ -19,7 +23,35 @@ pub fn upgrade(alloc: Global, text: &[u8]) -> Result<Vec<u8>, UpgradeFault>
     ensures within { IfOk result (λ out. length out.items ≤ 67108864) }
     ensures fault { IfErr result (λ e. IsNotUpgraded text.now e) }
 {
-    let _ = alloc;
-    let _ = text;
-    Err(UpgradeFault::NoMemory)
+    if is_by_changes(text) {
+        own(alloc, text)
+    } else {
+        rewritten(alloc, text)
+    }
+}
+
+/// Whether the text begins as one of version 2.
+fn is_by_changes(text: &[u8]) -> bool {
+    text.starts_with(b"xslt-typecheck certificate 2\n")
+}
+
+/// The text of version 2 itself.
+fn own(alloc: Global, text: &[u8]) -> Result<Vec<u8>, UpgradeFault> {
+    let ranges = Ranges {
+        output_states: 0,
+        patterns: 0,
+        input_states: 0,
+        outs: 0,
+        looks: 0,
+    };
+    first_unfit(alloc, text, ranges)?;
+    let mut out = Vec::new(alloc);
+    out.extend_from_slice(text)?;
+    Ok(out)
+}
+
+/// The text in version 2 of a text of version 1.
+fn rewritten(alloc: Global, text: &[u8]) -> Result<Vec<u8>, UpgradeFault> {
+    let cert = read_cert(alloc, text)?;
+    Ok(write_cert(alloc, &cert)?)
 }
