@@ -3,6 +3,8 @@ use Rattle.std.specs.Prelude.{◌≡◌, ℕ, List}
 use Rattle.tc_answer.specs.Answers.{Answer, refused, over_limit}
 use Rattle.tc_answer.specs.AnswersSeen.{Says}
 use Rattle.tc_beh.specs.declared.machine.Machine.{Machine}
+use Rattle.tc_beh.specs.declared.machine.Shape.{Shape}
+use Rattle.tc_cert.specs.declared.ranges.Ranges.{Ranges}
 use Rattle.tc_model.specs.Grammars.{Grammar}
 use Rattle.tc_model.specs.RncText.{RncText}
 use Rattle.tc_model.specs.Sheets.{Sheet}
@@ -41,3 +43,7 @@ pub record IsMachineOfTexts (input_text output_text sheet_text : List ℕ) (m : 
   pub output_spells : RncText output_text output
   pub sheet_spells : IsSheetOf sheet_text sheet
   pub machine : IsMachineFor input output sheet m
+
+-- the ranges of the numbers of a certificate, by the shape of rows
+abbrev pub ranges_of : Shape → Ranges
+ranges_of s = record { output_states = s.outputs; patterns = s.patterns; input_states = s.inputs; outs = s.entries; looks = s.looks }

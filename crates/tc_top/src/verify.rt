@@ -1,14 +1,16 @@
 // What `verify` answers.
-ghost use Rattle.std.specs.Prelude.{◌≡◌, ◌≤◌, IfOk, length};
+ghost use Rattle.std.specs.Prelude.{◌≡◌, ◌<◌, ◌≤◌, ℕ, List, IfOk, length};
 ghost use Rattle.tc_answer.specs.Answers as a;
 ghost use Rattle.tc_answer.specs.AnswersSeen.{Says};
 ghost use Rattle.tc_base.specs.Reading.{longest_text};
 ghost use Rattle.tc_beh.specs.Machines.{IsMachine, IsMachineOf};
 ghost use Rattle.tc_cert.specs.Texts.{CertificateText};
+ghost use Rattle.tc_model.specs.CertificateData.{IsFormed};
+ghost use Rattle.tc_model.specs.Symbols.{symbol_count};
 ghost use Rattle.tc_rows.specs.Triples as t;
-ghost use Rattle.tc_top.specs.Certifying.{Verifies, Accepts, IsRejectedFor};
+ghost use Rattle.tc_top.specs.Certifying.{Verifies, Accepts, told};
+ghost use Rattle.tc_top.specs.CertifyingSeen.{ranges_of};
 ghost use Rattle.tc_top.specs.Checking.{IsCompiled};
-ghost use Rattle.tc_verify.specs.Rejects.{IsRejected};
 
 use crate::texts::{Undecided, machine_of_texts};
 use bumpalo::Bump;
@@ -45,7 +47,7 @@ pub fn verify_texts(
 
 /// The ranges of the numbers of a certificate.
 fn ranges(shape: Shape) -> Ranges
-    ensures { IsRangesOf shape result }
+    ensures { result ≡ ranges_of shape }
 {
     Ranges {
         output_states: shape.outputs,
@@ -101,7 +103,7 @@ fn verify_data(alloc: Global, machine: &Machine<'_>, data: &CertData) -> Result<
 
 /// The answer by the first rule that fails.
 fn reject_data(alloc: Global, machine: &Machine<'_>, reject: Reject) -> Result<Answer, NoMemory>
-    requires { (x : t.Triple) × (d : Data) × IsMachineOf x machine.now × IsRejected x d reject }
+    requires { reject.rule ≡ RejectRule.Wrap → reject.other < symbol_count machine.now.alphabet }
     ensures { IfOk result (λ said. (x : t.Triple) → IsMachineOf x machine.now → Says said (a.rejected (told x reject.rule reject.line reject.other))) }
 {
     let arena = Bump::new(alloc);
