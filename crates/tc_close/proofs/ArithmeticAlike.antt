@@ -1,5 +1,5 @@
 -- What is worked out of rows doesn't depend on the tables in which states stand, be they rows of trees or not.
-use Rattle.std.proofs.Common.{◌≡◌, ◌<◌, ◌↔◌, inl, inr, ◌⊎◌, ℕ, zero, suc, ◌+◌, ◌-◌, ◌*◌, List, [], ◌∷◌, ◌++◌, refl, ap, sym, ◌∙◌, subst, map, length, get_or, nat_lt, cond, Bool, true, false, IsTrue, All}
+use Rattle.std.proofs.Common.{◌≡◌, ◌<◌, ◌↔◌, inl, inr, ◌⊎◌, ℕ, zero, suc, ◌+◌, ◌-◌, ◌*◌, List, [], ◌∷◌, ◌++◌, refl, ap, sym, ◌∙◌, subst, map, length, get_or, nat_lt, cond, Bool, true, false, IsTrue, All, None, Some}
 use Rattle.std.specs.List.{Contains}
 use Rattle.std.proofs.lemmas.List.Elements.{All-weaker}
 use Rattle.tc_model.specs.Letters.{of_symbol, of_text, Letter}
@@ -147,8 +147,9 @@ module _ (b : Bare) (v w : Rest) (same : all_states v.selects ≡ all_states w.s
     bears = a.bears;
     patterns = a.patterns;
     entries = λ q k g at low i j.
-        subst (λ es. listed es i j ↔ put_out Y q g (move_back b v w same k g at).mode i j) (entry_same u.entries q k)
-        (subst (λ (s : PairSet). listed (entry X u.entries q k) i j ↔ s i j) (put_same q g (move_back b v w same k g at).mode) (a.entries q k g (move_back b v w same k g at) low i j));
+        subst (λ es. listed es i j ↔ put_out Y q g at.mode i j) (entry_same u.entries q k)
+        (subst (λ (s : PairSet). listed (entry X u.entries q k) i j ↔ s i j) (put_same q g at.mode)
+        (a.entries q k g (record { mode = at.mode; state = state_back b v w same k (record { path = g.path; mode = Some at.mode }) g.state at.state; task = at.task }) low i j));
     looks = λ k s at. sym (value_same u.looks k) ∙ (a.looks k s (look_back k s at) ∙ hit_value_same s);
   }
     where

@@ -12,3 +12,5 @@ pub mod OneComparison
 pub mod Exact
 pub mod OneAnswer
 pub mod Headline
+pub mod RejectedAlike
+pub mod OneCertifying

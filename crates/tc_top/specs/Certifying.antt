@@ -13,7 +13,7 @@ use Rattle.tc_model.specs.Grammars.{Grammar}
 use Rattle.tc_model.specs.RncText.{RncText}
 use Rattle.tc_model.specs.Safety.{IsSafe}
 use Rattle.tc_model.specs.Sheets.{Sheet}
-use Rattle.tc_model.specs.Symbols.{fresh_name}
+use Rattle.tc_model.specs.Symbols.{Mention, fresh_name}
 use Rattle.tc_model.specs.declared.lists.CertData.{CertData}
 use Rattle.tc_read.specs.Refusals.{IsRefusedSchema, IsRefusedSheet}
 use Rattle.tc_read.specs.Sheets.{IsSheetOf}
@@ -28,14 +28,17 @@ use Rattle.tc_verify.specs.declared.reject.RejectRule.{RejectRule}
 use Rattle.tc_verify.specs.declared.reject.RejectRule.TheVariants as rule
 
 -- a rule that fails, as it is told: a symbol by the name that stands for it
+abbrev pub told_by : List Mention → RejectRule → ℕ → ℕ → Rejection
+told_by symbols rule.Form line other = form_fails line
+told_by symbols rule.Fit line other = fit_fails line
+told_by symbols rule.Empty line other = empty_fails
+told_by symbols rule.Text line other = text_fails
+told_by symbols rule.Append line other = append_fails line other
+told_by symbols rule.Wrap line other = wrap_fails line (fresh_name symbols other)
+told_by symbols rule.Root line other = root_fails line
+
 abbrev pub told : Triple → RejectRule → ℕ → ℕ → Rejection
-told x rule.Form line other = form_fails line
-told x rule.Fit line other = fit_fails line
-told x rule.Empty line other = empty_fails
-told x rule.Text line other = text_fails
-told x rule.Append line other = append_fails line other
-told x rule.Wrap line other = wrap_fails line (fresh_name x.symbols other)
-told x rule.Root line other = root_fails line
+told x r line other = told_by x.symbols r line other
 
 module _ (i o : Grammar) (s : Sheet) where
   -- Well-formed schemas and a well-formed stylesheet within the limits of the stylesheet have a triple, and all of theirs have the same rows: law_of_triples of tc_close.
