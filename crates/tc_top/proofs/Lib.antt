@@ -14,3 +14,4 @@ pub mod OneAnswer
 pub mod Headline
 pub mod RejectedAlike
 pub mod OneCertifying
+pub mod CertifiedTexts

@@ -60,7 +60,7 @@ module _ {i o : Grammar} {s : Sheet} where
   certifies_one (overlong w few safe long) (certifies {d} v g h m short) = let more = long d m in absurd (omega (arith, more, short))
   certifies_one (overlong w few safe l) (overlong v g h m) = same_answer
 
-  accepted_rejected : (bytes : List ℕ) (d e : CertData) (why : Rejection) → CertificateText bytes d → CertificateText bytes e → IsCertificateOf i o s d → IsRejectedFor i o s e why → ⊥
+  pub accepted_rejected : (bytes : List ℕ) (d e : CertData) (why : Rejection) → CertificateText bytes d → CertificateText bytes e → IsCertificateOf i o s d → IsRejectedFor i o s e why → ⊥
   accepted_rejected bytes d e why p q (x, a, c) (y, reject, b, k, same) =
       let alike : TriplesAlike x y = are_alike i o s x y a b in
       k.none (certificate_alike x y alike e (subst (IsCertificateData x) (one_data bytes d e p q) c))
