@@ -3,7 +3,6 @@ use Rattle.std.proofs.Common.{◌≡◌, ◌<◌, ◌≤◌, ◌↔◌, inl, inr
 use Rattle.std.specs.List.{Contains}
 use Rattle.std.specs.List.Sorted.{IsStrictlySortedBy}
 use Rattle.std.proofs.lemmas.List.{length-map, get_or-map}
-use Rattle.std.proofs.lemmas.List.Concat.{length-flat_map}
 use Rattle.std.proofs.lemmas.List.Elements.{All-map, All-get_or, All-from_get_or, All-weaker, Contains-get_or}
 use Rattle.std.proofs.lemmas.Simd.{map-map}
 use Rattle.tc_cert.specs.Texts.{output_text}
@@ -40,7 +39,7 @@ use Rattle.tc_close.specs.Lines.{tree_held, hedge_held, tree_ranked, hedge_ranke
 use Rattle.tc_close.specs.Orders.{IsOrder, AreRanks, ranked}
 use Rattle.tc_close.specs.RowState.{RowState, hedge_at, tree_at, StandsInRow, AreGood, held_of, Known}
 use Rattle.tc_close.proofs.Linked.{tree_rows, hedge_rows, tree_listed, hedge_listed, tree_of_listed, hedge_of_listed, tree_number, hedge_number, trees_come, hedges_come, one_tree, one_hedge, sets_different, sets_apart, in_set, set_in, made_at, made_of}
-use Rattle.tc_close.proofs.More.{no_more}
+use Rattle.tc_close.proofs.LeastHolds.{all_of, entries_are}
 use Rattle.tc_close.proofs.Ranked.{inside, all_there, ordered, row_of, row_there, each_line, many, same_mapped}
 
 abbrev tree_meant : List (List (ℕ × ℕ)) → TreeLine → TreeRow
@@ -128,15 +127,12 @@ module _ (x : Triple) (s : RowState) (IsOf : Triple → Type 0) (is : IsOf x) (k
       let (p, l, same) = live_hedge r live in in_set x s IsOf is known pairs (inr (hedge_at x s p, hedge_listed x s p l, subst (λ (q : HedgeRow). Contains q.entries pairs) (sym same) e))
 
   -- a set of pairs that is held is formed
-  entries_are : (es : List (List (ℕ × ℕ))) (pairs : List (ℕ × ℕ)) → All (IsPairs (outputs x)) es → Contains es pairs → IsPairs (outputs x) pairs
-  entries_are es pairs each (i, l, e) = subst (IsPairs (outputs x)) e (All-get_or (IsPairs (outputs x)) es i pairs l each)
-
   set_pairs : (k : ℕ) → k < length held → IsPairs (outputs x) (pairs_of (set_at s.outputs k))
   set_pairs k l = by (good.stood whole k l)
     where
       by : StandsInRow x s (pairs_of (set_at s.outputs k)) → IsPairs (outputs x) (pairs_of (set_at s.outputs k))
-      by (inl (u, low, c)) = entries_are (hedge_at x s u).entries (pairs_of (set_at s.outputs k)) (good.hedges u low).row.entries.each c
-      by (inr (u, low, c)) = entries_are (tree_at x s u).entries (pairs_of (set_at s.outputs k)) (good.trees u low).row.entries.each c
+      by (inl (u, low, c)) = entries_are (outputs x) (hedge_at x s u).entries (pairs_of (set_at s.outputs k)) (good.hedges u low).row.entries.each c
+      by (inr (u, low, c)) = entries_are (outputs x) (tree_at x s u).entries (pairs_of (set_at s.outputs k)) (good.trees u low).row.entries.each c
 
   small : (i : ℕ) → i < outputs x → IsNumber i
   small i l = let e = shaped.output_states in let f = fits.1.0 in omega (arith, l, e, f)
@@ -276,10 +272,6 @@ module _ (x : Triple) (s : RowState) (IsOf : Triple → Type 0) (is : IsOf x) (k
       λ i. record { outputs = sym by.outputs i; trees = sym by.trees.all i; hedges = sym by.hedges.all i } in
       subst (IsLeastCertificate x) same (is_least numbers order by.ranks by.are by.trees.numbers by.trees.order by.hedges.numbers by.hedges.order)
 
-  -- where the lines of all sets have more bytes than there may be, those of any certificate's outputs have
+  -- where the lines of all sets have more bytes than there may be
   pub too_long : 67108864 < length (flat_map output_text (sets_of held)) → IsTooLong x
-  too_long more d least =
-      let fewer = no_more (λ ps. length (output_text ps)) (sets_of held) d.outputs (sets_different x s IsOf is known) (λ pairs c. (least.outputs pairs).1 (output_of pairs c)) in
-      let a = length-flat_map output_text (sets_of held) in
-      let b = length-flat_map output_text d.outputs in
-      omega (arith, more, fewer, a, b)
+  too_long more = record { some = sets_of held; different = sets_different x s IsOf is known; each = all_of (IsOutput x) (sets_of held) output_of; more = more }

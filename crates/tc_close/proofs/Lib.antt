@@ -21,3 +21,4 @@ pub mod LeastHolds
 pub mod Alike
 pub mod OneCertificate
 pub mod ArithmeticAlike
+pub mod TooLong

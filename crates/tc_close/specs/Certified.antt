@@ -2,7 +2,7 @@
 use Rattle.std.specs.Prelude.{◌≡◌, ◌<◌, ◌↔◌, ℕ, List, length, flat_map, All}
 use Rattle.std.specs.List.{Contains}
 use Rattle.tc_base.specs.declared.limits.TheConstants.{LONGEST_FILE}
-use Rattle.tc_cert.specs.Texts.{output_text}
+use Rattle.tc_cert.specs.Texts.{text, by_changes, output_text}
 use Rattle.tc_model.specs.CertificateData.{IsFormed}
 use Rattle.tc_model.specs.Grammars.{Grammar}
 use Rattle.tc_model.specs.Safety.{IsSafe}
@@ -11,7 +11,7 @@ use Rattle.tc_model.specs.Trees.{none}
 use Rattle.tc_model.specs.Views.{before}
 use Rattle.tc_model.specs.declared.lists.CertData.{CertData}
 use Rattle.tc_rows.specs.CertificateRows.{trees_of, hedges_of, IsCertificateData}
-use Rattle.tc_rows.specs.Counts.{IsRowOfLiveTree, IsRowOfLiveHedge, IsOutput}
+use Rattle.tc_rows.specs.Counts.{AreDifferent, IsRowOfLiveTree, IsRowOfLiveHedge, IsOutput}
 use Rattle.tc_rows.specs.Rows.{HedgeRow, TreeRow}
 use Rattle.tc_rows.specs.Triples.{Triple, IsTriple, sheet}
 use Rattle.tc_close.specs.Decisions.{KeepsCounts, IsUnsafeBy, IsFarUnsafe}
@@ -33,9 +33,12 @@ module _ (x : Triple) where
     pub tree_numbers : All (λ l. AreNumbersOf d.outputs l.outs) d.trees
     pub hedge_numbers : All (λ l. AreNumbersOf d.outputs l.outs) d.hedges
 
-  -- the lines of its outputs alone have more bytes than a certificate may have
-  abbrev pub IsTooLong : Type 0
-  IsTooLong = (d : CertData) → IsLeastCertificate d → LONGEST_FILE < length (flat_map output_text d.outputs)
+  -- the lines of different sets of pairs, each in a row of a live tree or of a live list of trees, have more bytes than a certificate may have
+  pub record IsTooLong : Type 0 where
+    pub some : List (List (ℕ × ℕ))
+    pub different : AreDifferent some
+    pub each : All (IsOutput x) some
+    pub more : LONGEST_FILE < length (flat_map output_text some)
 
   -- every valid document is made into a valid one, and no count passes its limit
   pub record IsSafeWithin (most : ℕ) : Type 0 where
@@ -59,3 +62,7 @@ LeastIsCertificate = (x : Triple) → IsTriple x → IsSafe x.input x.output (sh
 -- and what is a certificate by one of them is one by the other
 abbrev pub CertificatesAgree : Type 0
 CertificatesAgree = (i o : Grammar) (s : Sheet) (x y : Triple) → IsTripleOf i o s x → IsTripleOf i o s y → (d : CertData) → IsCertificateData x d → IsCertificateData y d
+
+-- where the lines of sets of pairs are too long, its text is
+abbrev pub TooLongIsLong : Type 0
+TooLongIsLong = (i o : Grammar) (s : Sheet) (x y : Triple) → IsTripleOf i o s x → IsTripleOf i o s y → IsTooLong x → (d : CertData) → IsLeastCertificate y d → LONGEST_FILE < length (text by_changes d)

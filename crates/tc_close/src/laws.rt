@@ -1,5 +1,5 @@
 // What is proved of costs.
-ghost use Rattle.tc_close.specs.Certified.{CertificatesAgree, LeastIsCertificate, OneCertificate};
+ghost use Rattle.tc_close.specs.Certified.{CertificatesAgree, LeastIsCertificate, OneCertificate, TooLongIsLong};
 ghost use Rattle.tc_close.specs.Least.{CostsAreLeast};
 ghost use Rattle.tc_close.specs.Triples.{TriplesAgree, TriplesAreThere};
 ghost use Rattle.tc_close.specs.Verdict.{ListsTell};
@@ -31,4 +31,5 @@ pub fn law_of_certificates()
     ensures agree { CertificatesAgree }
     ensures one { OneCertificate }
     ensures holds { LeastIsCertificate }
+    ensures long { TooLongIsLong }
 {}

@@ -15,3 +15,4 @@ pub mod Headline
 pub mod RejectedAlike
 pub mod OneCertifying
 pub mod CertifiedTexts
+pub mod Undecided

@@ -11,6 +11,7 @@ use Rattle.tc_cert.proofs.OneData.{one_data}
 use Rattle.tc_close.proofs.Agreeing.{are_alike, triples_agree}
 use Rattle.tc_close.proofs.ArithmeticAlike.{certificate_alike}
 use Rattle.tc_close.proofs.OneCertificate.{one_certificate}
+use Rattle.tc_close.proofs.TooLong.{text_is_long}
 use Rattle.tc_close.proofs.Transport.{AreAlike as TriplesAlike}
 use Rattle.tc_model.specs.Grammars.{Grammar}
 use Rattle.tc_model.specs.RncText.{RncText}
@@ -24,7 +25,7 @@ use Rattle.tc_rows.specs.Triples.{Triple}
 use Rattle.tc_verify.specs.Rejects.{IsRejected}
 use Rattle.tc_verify.specs.declared.reject.Reject.{Reject}
 use Rattle.tc_top.specs.Causes.{Finds, passes_compile, passes_rows, finds_safe, finds_unsafe, finds_large, finds_none_small}
-use Rattle.tc_top.specs.Certifying.{told, told_by, IsCertificateOf, IsLeastOf, IsRejectedFor, Certifies, as_checked, certifies, overlong, Accepts, not_compiled, accepts, no_text, no_certificate, OfTexts, refuses_input, refuses_output, refuses_sheet, all_three, Upgrades, upgrades, too_long, no_form}
+use Rattle.tc_top.specs.Certifying.{told, told_by, IsCertificateOf, IsLeastOf, IsRejectedFor, IsOverlong, long_text, long_outputs, Certifies, as_checked, certifies, overlong, Accepts, not_compiled, accepts, no_text, no_certificate, OfTexts, refuses_input, refuses_output, refuses_sheet, all_three, Upgrades, upgrades, too_long, no_form}
 use Rattle.tc_top.specs.Checking.{IsCompiled, HasFewRows}
 use Rattle.tc_top.specs.OneAnswer.{AreAlike, same_answer}
 use Rattle.tc_top.proofs.OneCheck.{over_compile, one_compile, finds_one, not_both}
@@ -49,15 +50,20 @@ module _ {i o : Grammar} {s : Sheet} where
   one_least : (d e : CertData) → IsLeastOf i o s d → IsLeastOf i o s e → d ≡ e
   one_least d e (x, a, l) (y, b, m) = one_certificate x y (triples_agree i o s x y a b) d e l m
 
+  -- what is too long has no shorter text
+  short_overlong : (d : CertData) → IsLeastOf i o s d → length (text by_changes d) ≤ LONGEST_CERTIFICATE → IsOverlong i o s → ⊥
+  short_overlong d l short (long_text {d = e} m long) = let same = ap (λ (c : CertData). length (text by_changes c)) (one_least d e l m) in omega (arith, same, short, long)
+  short_overlong d (y, b, l) short (long_outputs {x} a long) = let more = text_is_long x y (triples_agree i o s x y a b) long d l in omega (arith, more, short)
+
   pub certifies_one : {most : ℕ} {one other : Answer} → Certifies i o s most one → Certifies i o s most other → AreAlike one other
   certifies_one (as_checked f n) (as_checked g m) = finds_one f g
   certifies_one (as_checked f n) (certifies w few safe l short) = absurd (n (only_yes f w few safe))
   certifies_one (as_checked f n) (overlong w few safe l) = absurd (n (only_yes f w few safe))
   certifies_one (certifies w few safe l short) (as_checked f n) = absurd (n (only_yes f w few safe))
   certifies_one (certifies {d} w few safe l short) (certifies {d = e} v g h m k) = same_as (ap (λ (c : CertData). certificate (text by_changes c)) (one_least d e l m))
-  certifies_one (certifies {d} w few safe l short) (overlong v g h long) = let more = long d l in absurd (omega (arith, more, short))
+  certifies_one (certifies {d} w few safe l short) (overlong v g h long) = absurd (short_overlong d l short long)
   certifies_one (overlong w few safe l) (as_checked f n) = absurd (n (only_yes f w few safe))
-  certifies_one (overlong w few safe long) (certifies {d} v g h m short) = let more = long d m in absurd (omega (arith, more, short))
+  certifies_one (overlong w few safe long) (certifies {d} v g h m short) = absurd (short_overlong d m short long)
   certifies_one (overlong w few safe l) (overlong v g h m) = same_answer
 
   pub accepted_rejected : (bytes : List ℕ) (d e : CertData) (why : Rejection) → CertificateText bytes d → CertificateText bytes e → IsCertificateOf i o s d → IsRejectedFor i o s e why → ⊥

@@ -7,7 +7,7 @@ use Rattle.tc_answer.specs.declared.status.Status.TheVariants.{Yes}
 use Rattle.tc_base.specs.declared.Limit as kinds
 use Rattle.tc_cert.specs.Fronts.{IsFirstFault}
 use Rattle.tc_cert.specs.Texts.{text, by_changes, CertificateText}
-use Rattle.tc_close.specs.Certified.{IsLeastCertificate}
+use Rattle.tc_close.specs.Certified.{IsLeastCertificate, IsTooLong}
 use Rattle.tc_close.specs.Triples.{IsTripleOf}
 use Rattle.tc_model.specs.Grammars.{Grammar}
 use Rattle.tc_model.specs.RncText.{RncText}
@@ -51,9 +51,10 @@ module _ (i o : Grammar) (s : Sheet) where
   abbrev pub IsLeastOf : CertData → Type 0
   IsLeastOf d = (x : Triple) × IsTripleOf i o s x × IsLeastCertificate x d
 
-  -- the text of this certificate has more bytes than a certificate may have
-  abbrev pub IsOverlong : Type 0
-  IsOverlong = (d : CertData) → IsLeastOf d → LONGEST_CERTIFICATE < length (text by_changes d)
+  -- the text of this certificate has more bytes than a certificate may have; or, where it isn't made, the lines of its sets of pairs alone have
+  pub data IsOverlong : Type 0 where
+    long_text : {d : CertData} → IsLeastOf d → LONGEST_CERTIFICATE < length (text by_changes d) → IsOverlong
+    long_outputs : {x : Triple} → IsTripleOf i o s x → IsTooLong x → IsOverlong
 
   -- it isn't, and this is the first rule that fails
   abbrev pub IsRejectedFor : CertData → Rejection → Type 0

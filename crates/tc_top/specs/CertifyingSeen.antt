@@ -1,7 +1,9 @@
 -- What contracts see of texts of which nothing is decided yet.
-use Rattle.std.specs.Prelude.{◌≡◌, ℕ, List}
+use Rattle.std.specs.Prelude.{◌≡◌, ℕ, List, Result, Ok, Err}
 use Rattle.tc_answer.specs.Answers.{Answer, refused, over_limit}
 use Rattle.tc_answer.specs.AnswersSeen.{Says}
+use Rattle.tc_answer.specs.declared.answer.Answer as made
+use Rattle.tc_base.specs.declared.NoMemory as memory
 use Rattle.tc_beh.specs.declared.machine.Machine.{Machine}
 use Rattle.tc_beh.specs.declared.machine.Shape.{Shape}
 use Rattle.tc_cert.specs.declared.ranges.Ranges.{Ranges}
@@ -16,6 +18,11 @@ use Rattle.tc_top.specs.Checking.{PassesCompile}
 use Rattle.tc_top.specs.Compiled.{IsMachineFor}
 use Rattle.tc_top.specs.declared.texts.Undecided.{Undecided}
 use Rattle.tc_top.specs.declared.texts.Undecided.TheVariants.{Stops, NoMemory}
+
+-- an answer that ends a call early, or want of memory
+abbrev pub undecided_of : Result made.Answer memory.NoMemory → Undecided
+undecided_of (Ok answer) = Stops answer
+undecided_of (Err refused) = NoMemory
 
 -- the answer that ends a call early, by its cause, or want of memory
 abbrev pub IsUndecided : (Answer → Type 0) → Undecided → Type 0

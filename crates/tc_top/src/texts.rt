@@ -1,14 +1,12 @@
 // What the texts of two schemas and a stylesheet lead to, before rows are worked out.
 ghost use Rattle.std.specs.Prelude.{◌≡◌, ◌≤◌, IfOk, IfErr, length};
-ghost use Rattle.tc_answer.specs.Answers as a;
-ghost use Rattle.tc_answer.specs.AnswersSeen.{Says};
 ghost use Rattle.tc_base.specs.Reading.{longest_text};
 ghost use Rattle.tc_model.specs.Views as see;
 ghost use Rattle.tc_model.specs.WellFormed.{IsSheet};
 ghost use Rattle.tc_read.specs.Refusals.{IsRefusedSchema, IsRefusedSheet};
 ghost use Rattle.tc_read.specs.Schemas.{IsSchemaOf};
 ghost use Rattle.tc_read.specs.Sheets.{IsSheetOf};
-ghost use Rattle.tc_top.specs.CertifyingSeen.{IsUndecided, IsRefusedBy, StopsTexts, IsMachineOfTexts};
+ghost use Rattle.tc_top.specs.CertifyingSeen.{undecided_of, IsUndecided, IsRefusedBy, StopsTexts, IsMachineOfTexts};
 
 use crate::compile::{CompileFault, machine_of};
 use bumpalo::Bump;
@@ -30,7 +28,7 @@ pub(crate) enum Undecided {
 
 /// An answer that ends a call early.
 fn stops(answer: Result<Answer, NoMemory>) -> Undecided
-    ensures { (P : a.Answer → Type 0) (said_of : a.Answer) → IfOk answer (λ said. Says said said_of) → P said_of → IsUndecided P result }
+    ensures { result ≡ undecided_of answer }
 {
     match answer {
         Ok(answer) => Undecided::Stops(answer),
