@@ -60,7 +60,7 @@ struct Files<'t> {
     input: &'t str,
     output: &'t str,
     rules: &'t str,
-    certificate: Option<&'t str>,
+    certificate: Option<&'t [u8]>,
 }
 
 /// These files with [`PARTS`].
@@ -69,7 +69,7 @@ fn parts<'t>(certificate: &'t str) -> Files<'t> {
         input: ANY_B,
         output: ANY_X,
         rules: PARTS,
-        certificate: Some(certificate),
+        certificate: Some(certificate.as_bytes()),
     }
 }
 
@@ -83,7 +83,7 @@ fn store_of(alloc: Global, files: Files<'_>) -> Result<MemStore, Fail> {
     store.put("O", files.output.as_bytes())?;
     store.put("S", sheet.as_bytes())?;
     if let Some(certificate) = files.certificate {
-        store.put("C", certificate.as_bytes())?;
+        store.put("C", certificate)?;
     }
     Ok(store)
 }
@@ -252,5 +252,88 @@ fn all_is_read_before_anything_is_told(rt: HostRuntime) -> Result<(), Fail> {
     assert!(rt; writes(rt.alloc(), VERIFY, broken, "refused I malformed at 10\n")?);
     assert!(rt; writes(rt.alloc(), VERIFY, unread, "cannot read C\n")?);
     assert!(rt; writes(rt.alloc(), UPGRADE, unread, "cannot read C\n")?);
+    Ok(())
+}
+
+#[test]
+fn a_text_that_may_stand_is_asked_for(rt: HostRuntime) -> Result<(), Fail> {
+    let files = Files {
+        input: "element a{text}",
+        output: "element r{element x{empty}?}",
+        rules: "<xsl:template match=\"/\"><r><xsl:apply-templates/></r></xsl:template>\
+            <xsl:template match=\"text()\"><x/></xsl:template>",
+        certificate: Some(
+            b"xslt-typecheck certificate 1\n\
+            outputs 2\n\
+            m 0>0 1>1 2>2 3>3 4>4\n\
+            m 2>3\n\
+            trees 2\n\
+            t 0 0 1 0 -\n\
+            t 0 1 1 1 -\n\
+            hedges 2\n\
+            h 0 0 0 0 -\n\
+            h 1 1 1 1 -\n\
+            end\n",
+        ),
+    };
+    assert!(rt; writes(rt.alloc(), VERIFY, files, "rejected 0 text\n")?);
+    Ok(())
+}
+
+#[test]
+fn names_that_nothing_mentions_are_asked_for(rt: HostRuntime) -> Result<(), Fail> {
+    let files = Files {
+        input: "element *{empty}",
+        output: "element *{empty}",
+        rules: "<xsl:template match=\"*\"><xsl:copy><xsl:apply-templates/></xsl:copy></xsl:template>",
+        certificate: Some(
+            b"xslt-typecheck certificate 1\n\
+            outputs 2\n\
+            m 0>0 1>1 2>2\n\
+            m 0>1\n\
+            trees 0\n\
+            hedges 1\n\
+            h 0 0 0 0 -\n\
+            end\n",
+        ),
+    };
+    assert!(rt; writes(rt.alloc(), VERIFY, files, "rejected 7 wrap {urn:n}n\n")?);
+    Ok(())
+}
+
+/// So many of a name, with commas between them.
+fn listed(alloc: Global, name: &str, count: u32) -> Result<String, Fail> {
+    let mut text = String::from_str(alloc, name)?;
+    for _ in 1..count {
+        text.push_str(",")?;
+        text.push_str(name)?;
+    }
+    Ok(text)
+}
+
+#[test]
+fn no_limit_on_rows_is_tried_of_a_certificate(rt: HostRuntime) -> Result<(), Fail> {
+    let mut input = String::from_str(rt.alloc(), "b = element b{empty} start = element a{(")?;
+    input.push_str(listed(rt.alloc(), "b", 51)?.as_str())?;
+    input.push_str(")*}")?;
+    let mut output = String::from_str(rt.alloc(), "x = element x{empty} start = element r{(")?;
+    output.push_str(listed(rt.alloc(), "x", 47)?.as_str())?;
+    output.push_str(")*|x*}")?;
+    let files = Files {
+        input: input.as_str(),
+        output: output.as_str(),
+        rules: PARTS,
+        certificate: None,
+    };
+    assert!(rt; writes(rt.alloc(), PROVE, files, "limit hedges 2000\n")?);
+    let most = &["prove", "--limit", "4000", "I", "O", "S"];
+    let (status, sink) = written(rt.alloc(), most, files, 100_000)?;
+    assert_eq!(rt; status, Status::Yes);
+    assert_eq!(rt; sink.bytes().len(), 63_908);
+    let proved = Files {
+        certificate: Some(sink.bytes()),
+        ..files
+    };
+    assert!(rt; writes(rt.alloc(), VERIFY, proved, "accepted\n")?);
     Ok(())
 }
