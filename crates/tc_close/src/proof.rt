@@ -50,7 +50,7 @@ fn certified<'b, K: Over>(
 }
 
 /// What all rows tell, with their certificate.
-fn proof<'b, K: Over>(
+fn told<'b, K: Over>(
     arena: &'b Bump,
     alloc: Global,
     machine: &Machine<'b>,
@@ -92,7 +92,7 @@ fn prove_over<'b, K: Over>(
 {
     let mut rows = HeldRows::<K>::new(alloc, machine)?;
     match close(alloc, &mut rows, most) {
-        Ok(closed) => match proof(arena, alloc, machine, &mut rows, &closed, most) {
+        Ok(closed) => match told(arena, alloc, machine, &mut rows, &closed, most) {
             Ok(proof) => Ok(proof),
             Err(NoMemory) => Err(CloseFault::NoMemory),
         },
