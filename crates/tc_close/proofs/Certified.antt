@@ -49,7 +49,7 @@ abbrev hedge_meant : List (List (ℕ × ℕ)) → HedgeLine → HedgeRow
 hedge_meant sets l = hedge_of sets (numbered_hedge l)
 
 -- numbers of a room's outputs are those of sets that are held
-outs_low : (l : Layout) (held : List Matrix) (ns : List ℕ) → IsRoom l held ns → All (λ k. k < length held) (outputs_in l.flags l.entries ns)
+pub outs_low : (l : Layout) (held : List Matrix) (ns : List ℕ) → IsRoom l held ns → All (λ k. k < length held) (outputs_in l.flags l.entries ns)
 outs_low l held ns room =
     All-from_get_or (λ k. k < length held) (outputs_in l.flags l.entries ns) 0 (λ i low.
       let count = outputs_count l held ns room in

@@ -22,3 +22,5 @@ pub mod Alike
 pub mod OneCertificate
 pub mod ArithmeticAlike
 pub mod TooLong
+pub mod HeldLines
+pub mod Pushed

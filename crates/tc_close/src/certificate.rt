@@ -163,6 +163,7 @@ fn tree_lines<K: Over>(
     requires { length ranks.now ≡ length rows.old.outputs.matrices }
     ensures same { rows.new ≡ rows.old }
     ensures lines { IfOk result (λ all. (x : Triple) → K.is_of x → all ≡ held.tree_lines x rows.old ranks.now) }
+    ensures count { IfOk result (λ all. length all ≡ length rows.old.trees) }
 {
     let mut all = PlacedLines::new(alloc);
     for place in 0..rows.tree_count() {
@@ -181,6 +182,7 @@ fn hedge_lines<K: Over>(
     requires { length ranks.now ≡ length rows.old.outputs.matrices }
     ensures same { rows.new ≡ rows.old }
     ensures lines { IfOk result (λ all. (x : Triple) → K.is_of x → all ≡ held.hedge_lines x rows.old ranks.now) }
+    ensures count { IfOk result (λ all. length all ≡ length rows.old.hedges) }
 {
     let mut all = PlacedLines::new(alloc);
     for place in 0..rows.hedge_count() {

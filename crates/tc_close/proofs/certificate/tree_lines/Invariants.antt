@@ -1,4 +1,4 @@
-use Rattle.std.proofs.Common.{◌≡◌, map}
+use Rattle.std.proofs.Common.{◌≡◌, length, map}
 use Rattle.tc_model.specs.CertificateLines.{tree_line}
 use Rattle.tc_model.specs.Numbered.{numbers_below}
 use Rattle.tc_rows.specs.Triples.{Triple}
@@ -9,3 +9,4 @@ abbrev pub invariant-loop-place : goal.invariant-loop-place
 invariant-loop-place g l =
     (l.rows ≡ l.fn.rows)
     × ((x : Triple) → g.K.Over.is_of x → l.all ≡ map (λ p. tree_line (tree_ranked x l.fn.rows l.ranks p)) (numbers_below l.place))
+    × (length l.all ≡ l.place)
