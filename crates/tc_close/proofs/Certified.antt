@@ -135,7 +135,7 @@ module _ (x : Triple) (s : RowState) (IsOf : Triple → Type 0) (is : IsOf x) (k
       by (inr (u, low, c)) = entries_are (outputs x) (tree_at x s u).entries (pairs_of (set_at s.outputs k)) (good.trees u low).row.entries.each c
 
   small : (i : ℕ) → i < outputs x → IsNumber i
-  small i l = let e = shaped.output_states in let f = fits.1.0 in omega (arith, l, e, f)
+  small i l = let e = shaped.output_states in let f = fits.1 in omega (arith, l, e, f)
 
   set_formed : (k : ℕ) → k < length held → ArePairs (pairs_of (set_at s.outputs k))
   set_formed k l =
@@ -189,7 +189,7 @@ module _ (x : Triple) (s : RowState) (IsOf : Triple → Type 0) (is : IsOf x) (k
     tree_formed p l =
         let g = good.trees p l in
         record {
-          patterns = record { ascending = g.row.ascend; numbers = All-weaker (λ k. (1 ≤ k) × (k ≤ length x.input.elements)) IsNumber (λ k m. let e = shaped.input_patterns in let f = fits.1.1 in let h = m.1 in omega (arith, h, e, f)) (tree_held x s p).patterns g.row.patterns };
+          patterns = record { ascending = g.row.ascend; numbers = All-weaker (λ k. (1 ≤ k) × (k ≤ length x.input.elements)) IsNumber (λ k m. let e = shaped.input_patterns in let f = fits.2 in let h = m.1 in omega (arith, h, e, f)) (tree_held x s p).patterns g.row.patterns };
           outs = rank_small (tree_held x s p).outs (outs_low (tree_layout x) held (get_or s.trees p []) g.room);
           looks = g.row.looks.each;
         }

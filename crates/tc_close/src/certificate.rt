@@ -272,7 +272,7 @@ fn data_by<K: Over>(
 ) -> Result<CertData, NoMemory>
     requires { IsOrder (held.output_lines rows.old) numbers.now }
     ensures same { rows.new ≡ rows.old }
-    ensures data { IfOk result (λ d. (x : Triple) → K.is_of x → IsDataBy x rows.old numbers.now d) }
+    ensures made { IfOk result (λ d. (x : Triple) → K.is_of x → IsDataBy x rows.old numbers.now d) }
 {
     let ranks = ranks_of(alloc, numbers, rows.output_count())?;
     let outputs = outputs_at(alloc, rows, numbers)?;

@@ -86,7 +86,8 @@ impl<'m, 'b, K: Over> HeldRows<'m, 'b, K> {
 
     /// How long the parts of rows are.
     pub(crate) fn shape(&self) -> Shape
-        ensures { (x : Triple) → K.is_of x → IsShapeOf x result }
+        ensures stands { (x : Triple) → K.is_of x → IsShapeOf x result }
+        ensures fits { (result.inputs < 4294967296) × (result.outputs < 4294967296) × (result.patterns < 4294967296) }
     {
         self.rows.machine().shape()
     }

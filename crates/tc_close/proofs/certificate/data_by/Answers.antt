@@ -1,9 +1,9 @@
-use Rattle.std.proofs.Common.{◌≡◌, ◌<◌, ◌≤◌, ℕ, length, All, subst, sym, ap, ◌∙◌, arith}
+use Rattle.std.proofs.Common.{◌≡◌, ◌<◌, ◌≤◌, ℕ, List, length, All, subst, sym, ap, ◌∙◌, arith}
 use Rattle.std.proofs.lemmas.List.Elements.{All-weaker}
 use Rattle.tc_beh.specs.Held.{set_at}
 use Rattle.tc_beh.specs.Places.{pairs_of}
 use Rattle.tc_model.specs.CertificateLines.{pairs_line}
-use Rattle.tc_close.specs.Lines.{output_lines, AreHedgesInOrder}
+use Rattle.tc_close.specs.Lines.{output_lines, AreTreesInOrder, AreHedgesInOrder}
 use Rattle.tc_close.specs.RowState.{RowState}
 use Rattle.tc_close.proofs.Pushed.{below_count}
 use Rattle.tc_close.proofs.certificate.data_by.Goals as goal
@@ -32,5 +32,13 @@ outputs_at-requires-clause-few g c =
     let e = c.requires.count in
     omega (arith, e, count, few)
 
-pub returns-clause-data : goal.returns-clause-data
-returns-clause-data g c = ?
+pub returns-clause-made : goal.returns-clause-made
+returns-clause-made g c = λ x o. record {
+  ranks = c.in_ok-ranks.ranks.items;
+  are = c.in_ok-ranks.ensures.ranks;
+  outputs = c.in_ok-outputs.ensures;
+  trees = subst (λ (rs : List ℕ). AreTreesInOrder x c.args.rows.now rs c.in_ok-trees.trees) c.deref.ensures.value (c.in_ok-trees.ensures.trees x o);
+  hedges =
+    subst (λ (s : RowState). AreHedgesInOrder x s c.in_ok-ranks.ranks.items c.in_ok-hedges.hedges) c.in_ok-trees.ensures.same
+    (subst (λ (rs : List ℕ). AreHedgesInOrder x c.trees_in_order.new.rows rs c.in_ok-hedges.hedges) c.deref-2.ensures.value (c.in_ok-hedges.ensures.hedges x o));
+}
