@@ -1,28 +1,27 @@
 -- What is worked out of rows doesn't depend on the tables in which states stand, be they rows of trees or not.
-use Rattle.std.proofs.Common.{◌≡◌, ◌<◌, ◌↔◌, inl, inr, ◌⊎◌, ℕ, zero, suc, ◌+◌, ◌-◌, ◌*◌, List, [], ◌∷◌, ◌++◌, refl, ap, sym, ◌∙◌, subst, map, length, get_or, nat_lt, cond, Bool, true, false, IsTrue, All, None, Some}
-use Rattle.std.specs.List.{Contains}
+use Rattle.std.proofs.Common.{◌≡◌, ◌<◌, ◌↔◌, ℕ, ◌+◌, ◌-◌, ◌*◌, List, [], ◌∷◌, ◌++◌, refl, ap, sym, ◌∙◌, subst, map, get_or, nat_lt, cond, Bool, IsTrue, All, None, Some}
 use Rattle.std.proofs.lemmas.List.Elements.{All-weaker}
-use Rattle.tc_model.specs.Letters.{of_symbol, of_text, Letter}
+use Rattle.tc_model.specs.Letters.{of_symbol, Letter}
 use Rattle.tc_model.specs.Machine.{in_mode}
 use Rattle.tc_model.specs.Numbered.{number_of}
 use Rattle.tc_model.specs.PathStates as paths
 use Rattle.tc_model.specs.PathStates.{State}
-use Rattle.tc_model.specs.Sheets.{Path, CallFreeBody, p_done, p_text, p_element, p_copy, p_apply, p_call, p_value, p_self, p_choose, p_each, CallFreeBranches, p_otherwise, p_branch}
+use Rattle.tc_model.specs.Sheets.{CallFreeBody, p_done, p_text, p_element, p_copy, p_apply, p_call, p_value, p_self, p_choose, p_each, CallFreeBranches, p_otherwise, p_branch}
 use Rattle.tc_model.specs.StateCounts.{PathUse, blocks_of}
-use Rattle.tc_model.specs.States.{output, state_count, automaton}
+use Rattle.tc_model.specs.States.{output, state_count}
 use Rattle.tc_model.specs.Symbols.{symbol_of, symbol_count}
 use Rattle.tc_model.specs.declared.lists.CertData.{CertData}
 use Rattle.tc_rules.specs.Graphs.{Graph}
-use Rattle.tc_rules.specs.RulesView.{ancestor, count_states, select_count}
+use Rattle.tc_rules.specs.RulesView.{ancestor, select_count}
 use Rattle.tc_rules.specs.States.{Going, Looking, body_by, body_of_root}
-use Rattle.tc_rules.specs.Tasks.{IsMoveAt, IsLookAt}
+use Rattle.tc_rules.specs.Tasks.{IsLookAt}
 use Rattle.tc_rows.specs.Arithmetic.{look_from, pairs_from, below, nothing_below, letter_of_text, letter_around, step, hits, hit_pairs, IsEmptyRow, IsTextRow, IsTextLive, IsAppend, IsLiveAppend, IsWrap, IsLiveWrap, is_admitted, IsPassing}
 use Rattle.tc_rows.specs.Bodies.{NodeKind, on_root, on_element, on_text, Below, letter_by, around, text_pairs, value_pairs, copied_pairs, self_bears, holds_by, body_pairs, branch_pairs, stay}
 use Rattle.tc_rows.specs.CertificateRows.{numbered_tree, numbered_hedge, IsCertificateData}
 use Rattle.tc_rows.specs.Certificates.{tree_of, hedge_of, AreClosed, AreCertified}
 use Rattle.tc_rows.specs.PairSets.{PairSet, IsPairs, product, chosen, listed}
 use Rattle.tc_rows.specs.Rows.{HedgeRow, TreeRow, IsHedgeRow, IsTreeRow, entry, look, hit_value, bears_value}
-use Rattle.tc_rows.specs.Triples.{Triple, Select, same_select, states_by, selects, number, number_below, moving, looking, sheet, predicates, ancestors, moves, looks, entries}
+use Rattle.tc_rows.specs.Triples.{Triple, Select, same_select, states_by, number, number_below, moving, looking, predicates, ancestors, moves, looks, entries}
 use Rattle.tc_close.proofs.Transport.{Bare, Rest, bare, rest, made, AreAlike, alike_back, all_states, same_count, state_back, move_back, hedge_row_on, tree_row_on, same_moves, same_looks}
 
 head_same : {X : Type 0} {a b : X} {xs ys : List X} → (a ∷ xs) ≡ (b ∷ ys) → a ≡ b

@@ -1,7 +1,6 @@
 -- The certificate of rows that are all found is that of the triple.
-use Rattle.std.proofs.Common.{◌≡◌, ◌<◌, ◌≤◌, ◌↔◌, inl, inr, ◌⊎◌, ◌+◌, ℕ, suc, List, [], refl, sym, ap, ◌∙◌, subst, map, flat_map, length, get_or, true, All, arith}
+use Rattle.std.proofs.Common.{◌≡◌, ◌<◌, ◌≤◌, ◌↔◌, inl, inr, ℕ, List, [], refl, sym, ap, ◌∙◌, subst, map, flat_map, length, get_or, true, All, arith}
 use Rattle.std.specs.List.{Contains}
-use Rattle.std.specs.List.Sorted.{IsStrictlySortedBy}
 use Rattle.std.proofs.lemmas.List.{length-map, get_or-map}
 use Rattle.std.proofs.lemmas.List.Elements.{All-map, All-get_or, All-from_get_or, All-weaker, Contains-get_or}
 use Rattle.std.proofs.lemmas.Simd.{map-map}
@@ -21,24 +20,24 @@ use Rattle.tc_rows.specs.Counts.{IsRowOfLiveTree, IsRowOfLiveHedge, IsOutput}
 use Rattle.tc_rows.specs.Derivations.{AreExact}
 use Rattle.tc_rows.specs.Laws.{RowLaws}
 use Rattle.tc_rows.specs.PairSets.{IsPairs}
-use Rattle.tc_rows.specs.Rows.{HedgeRow, TreeRow, IsHedgeRow, IsTreeRow}
-use Rattle.tc_rows.specs.Triples.{Triple, IsTriple, outputs, entries}
+use Rattle.tc_rows.specs.Rows.{HedgeRow, TreeRow}
+use Rattle.tc_rows.specs.Triples.{Triple, IsTriple, outputs}
 use Rattle.tc_rows.proofs.AllLaws.{rows_are_lawful}
 use Rattle.tc_rows.proofs.Derived.{derivations_are_exact}
 use Rattle.tc_beh.specs.Held.{set_at}
 use Rattle.tc_beh.specs.Machines.{IsShapeOf}
 use Rattle.tc_beh.specs.Outs.{sets_of}
 use Rattle.tc_beh.specs.Places.{pairs_of, entries_by, no_matrix}
-use Rattle.tc_beh.specs.Rooms.{Layout, hedge_layout, tree_layout, IsRoom, outputs_in, output_at}
+use Rattle.tc_beh.specs.Rooms.{Layout, hedge_layout, tree_layout, IsRoom, outputs_in}
 use Rattle.tc_beh.specs.declared.machine.Shape.{Shape}
 use Rattle.tc_beh.proofs.RoomIs.{outputs_count}
 use Rattle.tc_beh.proofs.RoomRows.{output_is}
 use Rattle.tc_settle.specs.Derived.{IsClosed, AllDerive}
 use Rattle.tc_close.specs.Certified.{AreNumbersOf, IsLeastCertificate, IsTooLong}
-use Rattle.tc_close.specs.Lines.{tree_held, hedge_held, tree_ranked, hedge_ranked, sets_at, output_lines, tree_lines, hedge_lines, AreTreesInOrder, AreHedgesInOrder, IsDataBy}
+use Rattle.tc_close.specs.Lines.{tree_held, hedge_held, tree_ranked, hedge_ranked, sets_at, output_lines, tree_lines, hedge_lines, IsDataBy}
 use Rattle.tc_close.specs.Orders.{IsOrder, AreRanks, ranked}
 use Rattle.tc_close.specs.RowState.{RowState, hedge_at, tree_at, StandsInRow, AreGood, held_of, Known}
-use Rattle.tc_close.proofs.Linked.{tree_rows, hedge_rows, tree_listed, hedge_listed, tree_of_listed, hedge_of_listed, tree_number, hedge_number, trees_come, hedges_come, one_tree, one_hedge, sets_different, sets_apart, in_set, set_in, made_at, made_of}
+use Rattle.tc_close.proofs.Linked.{tree_rows, hedge_rows, tree_listed, hedge_listed, tree_number, hedge_number, trees_come, hedges_come, one_tree, one_hedge, sets_different, sets_apart, in_set, set_in, made_at, made_of}
 use Rattle.tc_close.proofs.LeastHolds.{all_of, entries_are}
 use Rattle.tc_close.proofs.Ranked.{inside, all_there, ordered, row_of, row_there, each_line, many, same_mapped}
 
@@ -52,9 +51,9 @@ hedge_meant sets l = hedge_of sets (numbered_hedge l)
 pub outs_low : (l : Layout) (held : List Matrix) (ns : List ℕ) → IsRoom l held ns → All (λ k. k < length held) (outputs_in l.flags l.entries ns)
 outs_low l held ns room =
     All-from_get_or (λ k. k < length held) (outputs_in l.flags l.entries ns) 0 (λ i low.
-      let count = outputs_count l held ns room in
-      let within : i < l.entries = omega (arith, count, low) in
-      subst (λ k. k < length held) (sym (output_is l.flags l.entries ns i within)) (room.outs i within))
+    let count = outputs_count l held ns room in
+    let within : i < l.entries = omega (arith, count, low) in
+    subst (λ k. k < length held) (sym (output_is l.flags l.entries ns i within)) (room.outs i within))
 
 -- numbers by their ranks, where sets stand in the order of these, mean the same sets
 module _ (s : RowState) (numbers ranks : List ℕ) (are : AreRanks numbers ranks) (there : (k : ℕ) → k < length s.outputs.matrices → Contains numbers k) where
@@ -144,10 +143,10 @@ module _ (x : Triple) (s : RowState) (IsOf : Triple → Type 0) (is : IsOf x) (k
       record {
         ascending = p.ascend;
         numbers = All-from_get_or (λ q. IsNumber q.0 × IsNumber q.1) pairs (0, 0) (λ i low.
-          let q : ℕ × ℕ = get_or pairs i (0, 0) in
-          let there : Contains pairs (q.0, q.1) = Contains-get_or pairs i (0, 0) low in
-          let w = p.within q.0 q.1 there in
-          (small q.0 w.0, small q.1 w.1));
+            let q : ℕ × ℕ = get_or pairs i (0, 0) in
+            let there : Contains pairs (q.0, q.1) = Contains-get_or pairs i (0, 0) low in
+            let w = p.within q.0 q.1 there in
+            (small q.0 w.0, small q.1 w.1));
       }
 
   sets_one : (p q : ℕ) → p < length held → q < length held → pairs_line (pairs_of (set_at s.outputs p)) ≡ pairs_line (pairs_of (set_at s.outputs q)) → p ≡ q
@@ -233,27 +232,27 @@ module _ (x : Triple) (s : RowState) (IsOf : Triple → Type 0) (is : IsOf x) (k
       outputs_are : (pairs : List (ℕ × ℕ)) → Contains sets_there pairs ↔ IsOutput x pairs
       outputs_are pairs = (
         λ c. let (i, l, e) = made_of set_of numbers 0 pairs c in
-        let low : get_or numbers i 0 < length held = All-get_or (λ k. k < length held) numbers i 0 l (inside pairs_line (λ ps. ps) set_of set_of (length held) numbers order) in
-        output_of pairs (subst (Contains (sets_of held)) e (made_at pairs_of held no_matrix (get_or numbers i 0) low)),
+            let low : get_or numbers i 0 < length held = All-get_or (λ k. k < length held) numbers i 0 l (inside pairs_line (λ ps. ps) set_of set_of (length held) numbers order) in
+            output_of pairs (subst (Contains (sets_of held)) e (made_at pairs_of held no_matrix (get_or numbers i 0) low)),
         λ o. let (k, low, e) = made_of pairs_of held no_matrix pairs (output_held pairs o) in
-        let (i, l, at) = there k low in
-        subst (Contains sets_there) (ap set_of at ∙ e) (made_at set_of numbers k i l),
+            let (i, l, at) = there k low in
+            subst (Contains sets_there) (ap set_of at ∙ e) (made_at set_of numbers k i l),
       )
 
       trees_are : (r : TreeRow) → Contains (map (tree_meant sets_there) (map (tree_ranked x s ranks) ts)) r ↔ IsRowOfLiveTree x r
       trees_are r = (
         λ c. let (p, l, e) = row_of tree_line (tree_meant sets_there) (tree_ranked x s ranks) (tree_at x s) (length s.trees) ts tree_order tree_means r c in
-        subst (IsRowOfLiveTree x) e (tree_live (tree_at x s p) (tree_listed x s p l)),
+            subst (IsRowOfLiveTree x) e (tree_live (tree_at x s p) (tree_listed x s p l)),
         λ live. let (p, l, e) = live_tree r live in
-        row_there tree_line (tree_meant sets_there) (tree_ranked x s ranks) (tree_at x s) (length s.trees) ts tree_order tree_means r p l e,
+            row_there tree_line (tree_meant sets_there) (tree_ranked x s ranks) (tree_at x s) (length s.trees) ts tree_order tree_means r p l e,
       )
 
       hedges_are : (r : HedgeRow) → Contains (map (hedge_meant sets_there) (map (hedge_ranked x s ranks) hs)) r ↔ IsRowOfLiveHedge x r
       hedges_are r = (
         λ c. let (p, l, e) = row_of hedge_line (hedge_meant sets_there) (hedge_ranked x s ranks) (hedge_at x s) (length s.hedges) hs hedge_order hedge_means r c in
-        subst (IsRowOfLiveHedge x) e (hedge_live (hedge_at x s p) (hedge_listed x s p l)),
+            subst (IsRowOfLiveHedge x) e (hedge_live (hedge_at x s p) (hedge_listed x s p l)),
         λ live. let (p, l, e) = live_hedge r live in
-        row_there hedge_line (hedge_meant sets_there) (hedge_ranked x s ranks) (hedge_at x s) (length s.hedges) hs hedge_order hedge_means r p l e,
+            row_there hedge_line (hedge_meant sets_there) (hedge_ranked x s ranks) (hedge_at x s) (length s.hedges) hs hedge_order hedge_means r p l e,
       )
 
       is_least : IsLeastCertificate x data_of

@@ -1,15 +1,13 @@
 -- The least certificate of a stylesheet that is safe is a certificate.
-use Rattle.std.proofs.Common.{◌≡◌, ◌<◌, ◌↔◌, inl, inr, ℕ, List, [], ◌∷◌, refl, sym, subst, map, length, get_or, All, IsTrue, arith}
+use Rattle.std.proofs.Common.{◌<◌, inl, inr, ℕ, List, [], ◌∷◌, refl, sym, subst, map, length, get_or, All, arith}
 use Rattle.std.specs.List.{Contains}
 use Rattle.std.proofs.lemmas.List.Elements.{All-map, All-from_get_or, Contains-get_or, All-get_or}
 use Rattle.std.proofs.lemmas.Simd.{map-map}
 use Rattle.tc_model.specs.Safety.{IsSafe}
-use Rattle.tc_model.specs.Symbols.{symbol_count}
 use Rattle.tc_model.specs.declared.lists.CertData.{CertData}
-use Rattle.tc_rows.specs.Arithmetic.{IsEmptyRow, IsTextRow, IsTextLive, IsAppend, IsLiveAppend, IsWrap, IsLiveWrap, is_admitted, IsPassing}
 use Rattle.tc_rows.specs.CertificateRows.{numbered_tree, numbered_hedge, trees_of, hedges_of, IsCertificateData}
 use Rattle.tc_rows.specs.Certificates.{tree_of, hedge_of, AreClosed, AreCertified}
-use Rattle.tc_rows.specs.Counts.{IsRowOfLiveTree, IsRowOfLiveHedge, IsOutput}
+use Rattle.tc_rows.specs.Counts.{IsOutput}
 use Rattle.tc_rows.specs.Derivations.{HedgeFrom, TreeFrom, from_none, from_append, from_text, from_wrap, AreExact}
 use Rattle.tc_rows.specs.PairSets.{IsPairs}
 use Rattle.tc_rows.specs.Rows.{HedgeRow, TreeRow, IsHedgeRow, IsTreeRow}
@@ -68,6 +66,6 @@ module _ (x : Triple) (triple : IsTriple x) (safe : IsSafe x.input x.output (she
     trees_fit = All-map (λ t. All (λ n. n < length d.outputs) t.entries) numbered_tree d.trees least.tree_numbers;
     hedges_fit = All-map (λ h. All (λ n. n < length d.outputs) h.entries) numbered_hedge d.hedges least.hedge_numbers;
     certified =
-      subst (λ (ts : List TreeRow). AreCertified x ts (map (hedge_of d.outputs) (map numbered_hedge d.hedges))) (sym (map-map (tree_of d.outputs) numbered_tree d.trees))
-      (subst (λ (hs : List HedgeRow). AreCertified x (trees_of d) hs) (sym (map-map (hedge_of d.outputs) numbered_hedge d.hedges)) certified);
+        subst (λ (ts : List TreeRow). AreCertified x ts (map (hedge_of d.outputs) (map numbered_hedge d.hedges))) (sym (map-map (tree_of d.outputs) numbered_tree d.trees))
+        (subst (λ (hs : List HedgeRow). AreCertified x (trees_of d) hs) (sym (map-map (hedge_of d.outputs) numbered_hedge d.hedges)) certified);
   }

@@ -1,5 +1,5 @@
 -- A triple has one least certificate, and triples of the same schemas and stylesheet have the same one.
-use Rattle.std.proofs.Common.{◌≡◌, ◌<◌, ℕ, List, [], refl, sym, ap, ◌∙◌, subst, map, length, get_or, All}
+use Rattle.std.proofs.Common.{◌≡◌, ◌<◌, ℕ, List, [], sym, ap, ◌∙◌, subst, map, length, get_or}
 use Rattle.std.specs.List.{Contains}
 use Rattle.std.proofs.lemmas.List.Elements.{All-get_or}
 use Rattle.tc_cert.proofs.Apart.{one_output, one_tree, one_hedge}

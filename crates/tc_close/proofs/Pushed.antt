@@ -1,5 +1,5 @@
 -- What is worked out of numbers one after another, each put at the end.
-use Rattle.std.proofs.Common.{◌≡◌, ◌<◌, ◌≤◌, ◌+◌, ◌++◌, ◌∷◌, [], ℕ, zero, suc, List, refl, sym, ap, ◌∙◌, subst, map, flat_map, take, length, length-append, Option, None, Some, slice_get, arith}
+use Rattle.std.proofs.Common.{◌≡◌, ◌+◌, ◌++◌, ◌∷◌, [], ℕ, zero, suc, List, sym, ap, ◌∙◌, subst, map, flat_map, take, length, length-append, Option, None, Some, slice_get, arith}
 use Rattle.std.proofs.lemmas.List.{length-map, map-append}
 use Rattle.std.proofs.lemmas.Grind.{flat_map-append}
 use Rattle.std.specs.Option.{MatchOption}

@@ -1,5 +1,5 @@
 -- Lines that are put in order, whatever they are lines of: what they mean, and what holds of each.
-use Rattle.std.proofs.Common.{◌≡◌, ◌<◌, ◌↔◌, ℕ, zero, suc, List, [], ◌∷◌, refl, sym, ap, ◌∙◌, subst, map, length, get_or, All, Some, slice_get, arith}
+use Rattle.std.proofs.Common.{◌≡◌, ◌<◌, ℕ, zero, List, [], ◌∷◌, refl, sym, ap, ◌∙◌, subst, map, length, get_or, All, arith}
 use Rattle.std.specs.List.{Contains}
 use Rattle.std.proofs.lemmas.List.{length-map, get_or-map}
 use Rattle.std.proofs.lemmas.List.Elements.{All-map, All-get_or, All-weaker, All-tail}
@@ -46,11 +46,11 @@ module _ {L R : Type 0} (bytes : L → List ℕ) (meant : L → R) (f : ℕ → 
   ordered apart =
       subst AreOrdered (same_lines numbers inside)
       (order.ascend (different_of (λ p. bytes (f p)) (numbers_below n) 0 (λ i j li lj e.
-            let mi : i < n = subst (λ m. i < m) (length_below n) li in
-            let mj : j < n = subst (λ m. j < m) (length_below n) lj in
-            let at_i : bytes (f (get_or (numbers_below n) i 0)) ≡ bytes (f i) = ap (λ q. bytes (f q)) (number_there n i mi) in
-            let at_j : bytes (f (get_or (numbers_below n) j 0)) ≡ bytes (f j) = ap (λ q. bytes (f q)) (number_there n j mj) in
-            apart i j mi mj (sym at_i ∙ (e ∙ at_j)))))
+      let mi : i < n = subst (λ m. i < m) (length_below n) li in
+      let mj : j < n = subst (λ m. j < m) (length_below n) lj in
+      let at_i : bytes (f (get_or (numbers_below n) i 0)) ≡ bytes (f i) = ap (λ q. bytes (f q)) (number_there n i mi) in
+      let at_j : bytes (f (get_or (numbers_below n) j 0)) ≡ bytes (f j) = ap (λ q. bytes (f q)) (number_there n j mj) in
+      apart i j mi mj (sym at_i ∙ (e ∙ at_j)))))
 
   -- they mean the rows of all numbers
   module _ (means : (p : ℕ) → p < n → meant (f p) ≡ row p) (r : R) where

@@ -1,6 +1,6 @@
 -- Where the lines of sets of pairs are too long, the text of the least certificate is.
-use Rattle.std.proofs.Common.{◌≡◌, ◌<◌, ◌≤◌, ◌+◌, ◌++◌, ℕ, List, length, flat_map, subst, All, codes, arith, length-append}
-use Rattle.std.specs.List.{Contains, sum_by}
+use Rattle.std.proofs.Common.{◌<◌, ◌≤◌, ◌++◌, ℕ, List, length, flat_map, subst, codes, arith, length-append}
+use Rattle.std.specs.List.{Contains}
 use Rattle.std.proofs.lemmas.List.Concat.{length-flat_map}
 use Rattle.std.proofs.lemmas.List.Elements.{All-get_or}
 use Rattle.tc_cert.specs.Texts.{text, by_changes, ended, heading, counted, output_text, outputs_part, rows_part}

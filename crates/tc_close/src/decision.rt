@@ -64,7 +64,11 @@ impl From<NoMemory> for CloseFault {
 }
 
 /// Which count passes its limit, where rows came to no end.
-pub(crate) fn close_fault<K: Over>(rows: &HeldRows<'_, '_, K>, most: u32, fault: Unsettled) -> CloseFault
+pub(crate) fn close_fault<K: Over>(
+    rows: &HeldRows<'_, '_, K>,
+    most: u32,
+    fault: Unsettled,
+) -> CloseFault
     requires { IsCause (IsFull K.is_of rows.now) most (held_of K.is_of rows.now) fault }
     ensures { (x : Triple) → K.is_of x → IsCloseCause x most result }
 {

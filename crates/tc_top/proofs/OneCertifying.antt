@@ -7,7 +7,7 @@ use Rattle.tc_answer.specs.declared.status.Status.TheVariants.{Yes}
 use Rattle.tc_cert.specs.Fronts.{IsFirstFault}
 use Rattle.tc_cert.specs.Texts.{text, by_changes, CertificateText}
 use Rattle.tc_cert.proofs.Fronts.{one_fault, no_fault}
-use Rattle.tc_cert.proofs.OneData.{one_data}
+use Rattle.tc_cert.proofs.FirstFaults.{one_data}
 use Rattle.tc_close.proofs.Agreeing.{are_alike, triples_agree}
 use Rattle.tc_close.proofs.ArithmeticAlike.{certificate_alike}
 use Rattle.tc_close.proofs.OneCertificate.{one_certificate}

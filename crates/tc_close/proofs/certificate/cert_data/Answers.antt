@@ -1,4 +1,4 @@
-use Rattle.std.proofs.Common.{◌≡◌, ◌<◌, List, ℕ, length, map, flat_map, subst, sym}
+use Rattle.std.proofs.Common.{◌≡◌, ◌<◌, List, ℕ, length, flat_map, subst, sym}
 use Rattle.tc_base.specs.declared.limits.TheConstants.{LONGEST_FILE}
 use Rattle.tc_beh.specs.Outs.{sets_of}
 use Rattle.tc_cert.specs.Texts.{output_text}

@@ -1,4 +1,4 @@
-use Rattle.std.proofs.Common.{◌≡◌, ◌<◌, ◌≤◌, ℕ, List, length, All, subst, sym, ap, ◌∙◌, arith}
+use Rattle.std.proofs.Common.{◌<◌, ℕ, List, length, subst, arith}
 use Rattle.std.proofs.lemmas.List.Elements.{All-weaker}
 use Rattle.tc_beh.specs.Held.{set_at}
 use Rattle.tc_beh.specs.Places.{pairs_of}
@@ -39,6 +39,6 @@ returns-clause-made g c = λ x o. record {
   outputs = c.in_ok-outputs.ensures;
   trees = subst (λ (rs : List ℕ). AreTreesInOrder x c.args.rows.now rs c.in_ok-trees.trees) c.deref.ensures.value (c.in_ok-trees.ensures.trees x o);
   hedges =
-    subst (λ (s : RowState). AreHedgesInOrder x s c.in_ok-ranks.ranks.items c.in_ok-hedges.hedges) c.in_ok-trees.ensures.same
-    (subst (λ (rs : List ℕ). AreHedgesInOrder x c.trees_in_order.new.rows rs c.in_ok-hedges.hedges) c.deref-2.ensures.value (c.in_ok-hedges.ensures.hedges x o));
+      subst (λ (s : RowState). AreHedgesInOrder x s c.in_ok-ranks.ranks.items c.in_ok-hedges.hedges) c.in_ok-trees.ensures.same
+      (subst (λ (rs : List ℕ). AreHedgesInOrder x c.trees_in_order.new.rows rs c.in_ok-hedges.hedges) c.deref-2.ensures.value (c.in_ok-hedges.ensures.hedges x o));
 }

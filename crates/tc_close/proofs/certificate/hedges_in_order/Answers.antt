@@ -1,4 +1,4 @@
-use Rattle.std.proofs.Common.{◌≡◌, ◌<◌, ℕ, List, All, length, subst, sym, ap, arith}
+use Rattle.std.proofs.Common.{◌<◌, ℕ, List, All, length, subst, sym, ap, arith}
 use Rattle.std.proofs.lemmas.List.Elements.{All-weaker}
 use Rattle.tc_close.specs.RowState.{RowState}
 use Rattle.tc_close.proofs.certificate.hedges_in_order.Goals as goal

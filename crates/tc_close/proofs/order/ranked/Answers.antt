@@ -1,4 +1,4 @@
-use Rattle.std.proofs.Common.{◌≡◌, get_or, refl}
+use Rattle.std.proofs.Common.{get_or, refl}
 use Rattle.tc_close.proofs.Pushed.{pushed_taken}
 use Rattle.tc_close.proofs.order.ranked.Goals as goal
 

@@ -1,8 +1,7 @@
-use Rattle.std.proofs.Common.{◌≡◌, subst}
+use Rattle.std.proofs.Common.{subst}
 use Rattle.tc_model.specs.declared.lists.CertData.{CertData}
-use Rattle.tc_rows.specs.Triples.{IsTriple}
 use Rattle.tc_close.specs.Certified.{IsLeastCertificate, IsTooLong}
-use Rattle.tc_close.specs.Decisions.{IsDecided, IsSafeWith}
+use Rattle.tc_close.specs.Decisions.{IsDecided}
 use Rattle.tc_close.specs.RowState.{held_of}
 use Rattle.tc_close.proofs.Carried.{closure_on}
 use Rattle.tc_close.proofs.LeastHolds.{least_holds}

@@ -1,4 +1,4 @@
-use Rattle.std.proofs.Common.{◌≡◌, ◌<◌, ℕ, List, length, All, subst, sym, refl}
+use Rattle.std.proofs.Common.{◌≡◌, ◌<◌, length, All, subst, sym, refl}
 use Rattle.std.proofs.lemmas.Result.{IfOk-weaker}
 use Rattle.tc_beh.specs.Rooms.{tree_layout}
 use Rattle.tc_close.specs.HeldRows.{state_of}
