@@ -16,3 +16,4 @@ pub mod RejectedAlike
 pub mod OneCertifying
 pub mod CertifiedTexts
 pub mod Undecided
+pub mod CertifyingCalls
