@@ -56,10 +56,11 @@ module _ (x : Triple) (triple : IsTriple x) {most : ℕ} (compiled : IsCompiled 
   pub unsafe_run : {document : Trees} {answer : Answer} → IsUnsafeBy x most document → IsRunOf (t.sheet x) document answer → Certifies x.input x.output (t.sheet x) most answer
   unsafe_run h run = as_checked (found_unsafe x triple compiled h run) (run_is_not_yes run)
 
-  -- a line that doesn't fit
-  pub unfit_line : (s : Shape) → IsShapeOf x s → (bytes : List ℕ) (d : CertData) (line : ℕ) → CertificateText bytes d → IsFirstUnfit (shape_sizes s) d line → Accepts x.input x.output (t.sheet x) bytes (rejected (fit_fails line))
-  unfit_line s shaped bytes d line means unfit =
-      no_certificate compiled means (x, record { line = line; rule = rule.Fit; other = 0 }, itself x triple, unfit_rejected x d line (subst (λ (w : Sizes). IsFirstUnfit w d line) (same_sizes x s shaped) unfit), refl)
+-- a line that doesn't fit
+pub unfit_line : (x : Triple) → IsTriple x → IsCompiled x.input x.output (t.sheet x) → (s : Shape) → IsShapeOf x s → (bytes : List ℕ) (d : CertData) (line : ℕ) → CertificateText bytes d → IsFirstUnfit (shape_sizes s) d line
+    → Accepts x.input x.output (t.sheet x) bytes (rejected (fit_fails line))
+unfit_line x triple compiled s shaped bytes d line means unfit =
+    no_certificate compiled means (x, record { line = line; rule = rule.Fit; other = 0 }, itself x triple, unfit_rejected x d line (subst (λ (w : Sizes). IsFirstUnfit w d line) (same_sizes x s shaped) unfit), refl)
 
 -- a text that is written anew
 pub upgraded : (bytes out : List ℕ) → IsUpgraded bytes out → Upgrades bytes (certificate out)

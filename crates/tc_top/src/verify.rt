@@ -1,14 +1,14 @@
 // What `verify` answers.
 ghost use Rattle.std.specs.Prelude.{◌≡◌, ◌<◌, ◌≤◌, ℕ, List, IfOk, length};
 ghost use Rattle.tc_answer.specs.Answers as a;
-ghost use Rattle.tc_answer.specs.AnswersSeen.{Says};
+ghost use Rattle.tc_answer.specs.AnswersSeen.{Says, rejection};
 ghost use Rattle.tc_base.specs.Reading.{longest_text};
 ghost use Rattle.tc_beh.specs.Machines.{IsMachine, IsMachineOf};
 ghost use Rattle.tc_cert.specs.Texts.{CertificateText};
 ghost use Rattle.tc_model.specs.CertificateData.{IsFormed};
 ghost use Rattle.tc_model.specs.Symbols.{symbol_count};
 ghost use Rattle.tc_rows.specs.Triples as t;
-ghost use Rattle.tc_top.specs.Certifying.{Verifies, Accepts, told};
+ghost use Rattle.tc_top.specs.Certifying.{Verifies, Accepts, told_by};
 ghost use Rattle.tc_top.specs.CertifyingSeen.{ranges_of};
 ghost use Rattle.tc_top.specs.Checking.{IsCompiled};
 
@@ -46,7 +46,7 @@ pub fn verify_texts(
 }
 
 /// The ranges of the numbers of a certificate.
-fn ranges(shape: Shape) -> Ranges
+fn ranges_by(shape: Shape) -> Ranges
     ensures { result ≡ ranges_of shape }
 {
     Ranges {
@@ -65,7 +65,7 @@ fn verify_text(alloc: Global, machine: &Machine<'_>, text: &[u8]) -> Result<Answ
     ensures { IfOk result (λ said. (x : t.Triple) → IsMachineOf x machine.now → IsCompiled x.input x.output (t.sheet x)
         → (answer : a.Answer) × Says said answer × Accepts x.input x.output (t.sheet x) text.now answer) }
 {
-    match first_unfit(alloc, text, ranges(machine.shape())) {
+    match first_unfit(alloc, text, ranges_by(machine.shape())) {
         Ok(None) => verify_fitting(alloc, machine, text),
         Ok(Some(line)) => Answer::rejected(alloc, Rejection::Fit(line)),
         Err(CertFault::Form(line)) => Answer::rejected(alloc, Rejection::Form(line)),
@@ -101,23 +101,37 @@ fn verify_data(alloc: Global, machine: &Machine<'_>, data: &CertData) -> Result<
     }
 }
 
+/// The first rule that fails, as it is told.
+fn rejection_of<'b>(
+    arena: &'b Bump,
+    machine: &Machine<'_>,
+    reject: Reject,
+) -> Result<Rejection<'b>, NoMemory>
+    requires { reject.rule ≡ RejectRule.Wrap → reject.other < symbol_count machine.now.alphabet }
+    ensures { IfOk result (λ why. rejection why ≡ told_by machine.now.alphabet reject.rule reject.line reject.other) }
+{
+    match reject.rule {
+        RejectRule::Form => Ok(Rejection::Form(reject.line)),
+        RejectRule::Fit => Ok(Rejection::Fit(reject.line)),
+        RejectRule::Empty => Ok(Rejection::Empty),
+        RejectRule::Text => Ok(Rejection::Text),
+        RejectRule::Append => Ok(Rejection::Append(reject.line, reject.other)),
+        RejectRule::Wrap => {
+            let name = machine.alphabet().fresh(arena, Sym(reject.other))?;
+            Ok(Rejection::Wrap(reject.line, name))
+        }
+        RejectRule::Root => Ok(Rejection::Root(reject.line)),
+    }
+}
+
 /// The answer by the first rule that fails.
 fn reject_data(alloc: Global, machine: &Machine<'_>, reject: Reject) -> Result<Answer, NoMemory>
     requires { reject.rule ≡ RejectRule.Wrap → reject.other < symbol_count machine.now.alphabet }
-    ensures { IfOk result (λ said. (x : t.Triple) → IsMachineOf x machine.now → Says said (a.rejected (told x reject.rule reject.line reject.other))) }
+    ensures { IfOk result (λ said. Says said (a.rejected (told_by machine.now.alphabet reject.rule reject.line reject.other))) }
 {
     let arena = Bump::new(alloc);
-    let why = match reject.rule {
-        RejectRule::Form => Rejection::Form(reject.line),
-        RejectRule::Fit => Rejection::Fit(reject.line),
-        RejectRule::Empty => Rejection::Empty,
-        RejectRule::Text => Rejection::Text,
-        RejectRule::Append => Rejection::Append(reject.line, reject.other),
-        RejectRule::Wrap => Rejection::Wrap(
-            reject.line,
-            machine.alphabet().fresh(&arena, Sym(reject.other))?,
-        ),
-        RejectRule::Root => Rejection::Root(reject.line),
-    };
-    Answer::rejected(alloc, why)
+    match rejection_of(&arena, machine, reject) {
+        Ok(why) => Answer::rejected(alloc, why),
+        Err(NoMemory) => Err(NoMemory),
+    }
 }

@@ -2,6 +2,7 @@ use Rattle.std.proofs.Common.{subst}
 use Rattle.std.proofs.lemmas.Result.{IfOk-weaker}
 use Rattle.tc_top.specs.Causes.{passes_compile}
 use Rattle.tc_top.specs.Certifying.{Certifies, as_checked, all_three}
+use Rattle.tc_top.specs.CertifyingSeen.{IsUndecided, StopsTexts}
 use Rattle.tc_top.specs.Checking.{IsCompiled}
 use Rattle.tc_top.proofs.Checked.{of_triple, to_triple}
 use Rattle.tc_top.proofs.CertifyingCalls.{limit_is_not_yes}
@@ -19,4 +20,7 @@ returns-in-Ok c =
     (found.0, found.1, all_three made.input_spells made.output_spells made.sheet_spells (of_triple (λ i o s. Certifies i o s c.args.most found.0) made.machine.of found.2))) c.certify.ensures
 
 pub returns-in-Err-Stops : goal.returns-in-Err-Stops
-returns-in-Err-Stops c = ?
+returns-in-Err-Stops c =
+    let o = c.args.operands.now in
+    let why = subst (IsUndecided (StopsTexts o.input.name.now o.output.name.now o.sheet.name.now o.input.text.items o.output.text.items o.sheet.text.items)) c.in-Err-Stops.field-0-is c.in-Err-Stops.ensures.no in
+    (why.0, why.1, stopped (λ i o s kind number p. as_checked (passes_compile p) limit_is_not_yes) why.2)

@@ -1,6 +1,7 @@
 use Rattle.std.proofs.Common.{subst, List, ℕ}
 use Rattle.std.proofs.lemmas.Result.{IfOk-weaker}
 use Rattle.tc_top.specs.Certifying.{Accepts, not_compiled, all_three}
+use Rattle.tc_top.specs.CertifyingSeen.{IsUndecided, StopsTexts}
 use Rattle.tc_top.specs.Checking.{IsCompiled}
 use Rattle.tc_top.proofs.Checked.{of_triple, to_triple}
 use Rattle.tc_top.proofs.Undecided.{stopped}
@@ -22,4 +23,7 @@ returns-in-Ok c =
     )) c.verify_text.ensures
 
 pub returns-in-Err-Stops : goal.returns-in-Err-Stops
-returns-in-Err-Stops c = ?
+returns-in-Err-Stops c =
+    let o = c.args.operands.now in
+    let why = subst (IsUndecided (StopsTexts o.input.name.now o.output.name.now o.sheet.name.now o.input.text.items o.output.text.items o.sheet.text.items)) c.in-Err-Stops.field-0-is c.in-Err-Stops.ensures.no in
+    (why.0, why.1, stopped (λ i o s kind number p. not_compiled p) why.2)
