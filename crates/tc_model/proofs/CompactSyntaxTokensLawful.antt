@@ -42,7 +42,7 @@ literal_chars {v = v} {after = after} a h = by a.is_quote
     by (inr e) = up_to_chars 0x27 [] a.rest v after refl (subst (λ q. UpTo (q ∷ []) a.rest v after) e a.closes) (rest_chars (omega arith))
 
 -- a text stands somewhere, or nowhere
-before_text : (text bs : List ℕ) → Lacks text bs ⊎ ((after : List ℕ) × (drop (length_before text bs) bs ≡ text ++ after))
+pub before_text : (text bs : List ℕ) → Lacks text bs ⊎ ((after : List ℕ) × (drop (length_before text bs) bs ≡ text ++ after))
 before_text text [] = inl refl
 before_text text (b ∷ bs) = by (begins_with text (b ∷ bs)) refl (before_text text bs)
   where
@@ -74,7 +74,7 @@ long_literal_chars {after = after} a h = by a.is_quote
     by (inl e) = behind 0x22 (omega arith) refl e
     by (inr e) = behind 0x27 (omega arith) refl e
 
-word_lawful : {bs r : List ℕ} {w : Word} → WordAt bs w r → IsChars bs → IsLawfulWord w × IsChars r
+pub word_lawful : {bs r : List ℕ} {w : Word} → WordAt bs w r → IsChars bs → IsLawfulWord w × IsChars r
 word_lawful (plain_name a e) h = (a.lawful, (ncname_chars a h).1)
 word_lawful (prefixed_name {rest = rest} a b) h = (b.lawful, (ncname_chars b (after_ascii 0x3A rest (omega arith) (ncname_chars a h).1)).1)
 word_lawful (namespace_name {after = after} a) h = (tt, after_ascii 0x2A after (omega arith) (after_ascii 0x3A (0x2A ∷ after) (omega arith) (ncname_chars a h).1))
@@ -84,7 +84,7 @@ word_lawful (quoted_long a) h = (tt, long_literal_chars a h)
 word_lawful (backslash {after = after} k) h = (tt, after_ascii 0x5C after (omega arith) h)
 word_lawful (other {c = c} {bs = bs} {after = after} e k) h = (tt, behind_char c bs after e h)
 
-line_chars : (bs : List ℕ) → IsChars bs → IsChars (after_line bs)
+pub line_chars : (bs : List ℕ) → IsChars bs → IsChars (after_line bs)
 line_chars bs h = by (prefix_len (λ b. not (is_line_end b)) bs) refl
   where
     stops : (b : ℕ) → not (is_line_end b) ≡ false → b < 128

@@ -86,7 +86,7 @@ pub backslash_word : {text rest : List ℕ} → text ≡ 0x5C ∷ rest → ((n r
 backslash_word {text} {rest} e h =
     subst (λ w. WordAt w (mark 0x5C) rest) (sym e) (backslash (λ n r a. h n r (subst (λ w. EscapedAt w n r) (sym e) a)))
 
-some_char : (c : ℕ) (r : List ℕ) → [] ≡ encode_utf8 c ++ r → ⊥
+pub some_char : (c : ℕ) (r : List ℕ) → [] ≡ encode_utf8 c ++ r → ⊥
 some_char c r e = omega (arith, ap length e, length-append (encode_utf8 c) r, length-encode c, len_utf8_bounds c)
 
 pub no_mark_at_end : {text : List ℕ} → text ≡ [] → IsNoMark text
