@@ -84,9 +84,16 @@ escape_text t (u ∷ (v ∷ after)) =
     from : IsEscapeText t (u ∷ (v ∷ after)) → (t.word ≡ mark 0x5C) × ((u.word ≡ a_name (codes "x")) × ((v.word ≡ mark 0x7B) × ((u.place ≡ t.place + 1) × (v.place ≡ u.place + 1))))
     from k =
         let e = same_head k.parts in
-        let f = same_head (same_tail k.parts) in
-        (k.is_slash, (ap (λ z. z.word) e ∙ k.is_name, (ap (λ z. z.word) f ∙ k.is_brace,
-        (ap (λ z. z.place) e ∙ k.name_follows, ap (λ z. z.place) f ∙ (k.brace_follows ∙ ap (λ z. z.place + 1) (sym e))))))
+        let f = same_head (same_tail k.parts) in (
+          k.is_slash,
+          (
+            ap (λ z. z.word) e ∙ k.is_name,
+            (
+              ap (λ z. z.word) f ∙ k.is_brace,
+              (ap (λ z. z.place) e ∙ k.name_follows, ap (λ z. z.place) f ∙ (k.brace_follows ∙ ap (λ z. z.place + 1) (sym e))),
+            ),
+          ),
+        )
 
 within : (v : List ℕ) → Decided (length_before escape_mark v < length v)
 within v = by (cases_lt (length_before escape_mark v) (length v))

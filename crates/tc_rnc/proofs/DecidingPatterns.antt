@@ -46,19 +46,21 @@ no_pattern end t ts b = by (unread_pattern t.word) refl
     others : unread_pattern t.word ≡ None → (x : Bool) → is_literal t.word ≡ x → (r : Refusal) × NoPattern end (t ∷ ts) r
     others e true h = of_literal h (escape_at (t ∷ ts)) t.word refl
     others e false h =
-        let (r, x) = unexpected end (t ∷ ts) in
-        (r, u.none (record {
-          no_element = b.no_element;
-          no_attribute = b.no_attribute;
-          no_mixed = b.no_mixed;
-          no_empty = b.no_empty;
-          no_text = b.no_text;
-          no_not_allowed = b.no_not_allowed;
-          no_parenthesis = b.no_parenthesis;
-          no_reference = b.no_reference;
-          no_literal = h;
-          no_unread = e;
-        }) x)
+        let (r, x) = unexpected end (t ∷ ts) in (
+          r,
+          u.none (record {
+            no_element = b.no_element;
+            no_attribute = b.no_attribute;
+            no_mixed = b.no_mixed;
+            no_empty = b.no_empty;
+            no_text = b.no_text;
+            no_not_allowed = b.no_not_allowed;
+            no_parenthesis = b.no_parenthesis;
+            no_reference = b.no_reference;
+            no_literal = h;
+            no_unread = e;
+          }) x,
+        )
 
     by : (o : Option Why) → unread_pattern t.word ≡ o → (r : Refusal) × NoPattern end (t ∷ ts) r
     by (Some why) e = (unsupported why t.place, u.unread e)

@@ -77,12 +77,15 @@ front_here : (bs : List ℕ) → (front : List ℕ) × FrontOf bs front
 front_here = by_length (λ bs. (front : List ℕ) × FrontOf bs front) step
   where
     longer : {bs r : List ℕ} (c : ℕ) → bs ≡ encode_utf8 c ++ r → is_char c ≡ true → (front : List ℕ) × FrontOf r front → (front : List ℕ) × FrontOf bs front
-    longer c e h (front, f) = (encode_utf8 c ++ front, record {
-      after = f.after;
-      parts = e ∙ (ap (λ z. encode_utf8 c ++ z) f.parts ∙ sym (append_assoc (encode_utf8 c) front f.after));
-      characters = let (cs, is, all) = f.characters in (c ∷ cs, ap (λ z. encode_utf8 c ++ z) is, and_from (is_char c) (list_all is_char cs) h all);
-      longest = f.longest;
-    })
+    longer c e h (front, f) = (
+      encode_utf8 c ++ front,
+      record {
+        after = f.after;
+        parts = e ∙ (ap (λ z. encode_utf8 c ++ z) f.parts ∙ sym (append_assoc (encode_utf8 c) front f.after));
+        characters = let (cs, is, all) = f.characters in (c ∷ cs, ap (λ z. encode_utf8 c ++ z) is, and_from (is_char c) (list_all is_char cs) h all);
+        longest = f.longest;
+      },
+    )
 
     step : (bs : List ℕ) → ((cs : List ℕ) → length cs < length bs → (front : List ℕ) × FrontOf cs front) → (front : List ℕ) × FrontOf bs front
     step bs ih = by (char_at bs)
@@ -139,11 +142,17 @@ name_here : (bs : List ℕ) → IsChars bs → NameHere bs ⊎ ((name after : Li
 name_here bs i = by (first_is is_ncname_start bs i)
   where
     named : (c : ℕ) {r : List ℕ} → bs ≡ encode_utf8 c ++ r → is_ncname_start c ≡ true → Run is_ncname_char r → NameHere bs
-    named c e h a = (encode_utf8_all (c ∷ a.run), (a.after, record {
-      lawful = (c, a.run, refl, h, a.have);
-      parts = e ∙ (ap (λ z. encode_utf8 c ++ z) a.parts ∙ sym (append_assoc (encode_utf8 c) (encode_utf8_all a.run) a.after));
-      longest = a.longest;
-    }))
+    named c e h a = (
+      encode_utf8_all (c ∷ a.run),
+      (
+        a.after,
+        record {
+          lawful = (c, a.run, refl, h, a.have);
+          parts = e ∙ (ap (λ z. encode_utf8 c ++ z) a.parts ∙ sym (append_assoc (encode_utf8 c) (encode_utf8_all a.run) a.after));
+          longest = a.longest;
+        },
+      ),
+    )
 
     by : FirstIs is_ncname_start bs ⊎ ((c : ℕ) (r : List ℕ) → bs ≡ encode_utf8 c ++ r → is_ncname_start c ≡ true → ⊥) → NameHere bs ⊎ ((name after : List ℕ) → NcNameAt bs name after → ⊥)
     by (inl (c, (r, (e, (h, k))))) = inl (named c e h (run_of is_ncname_char r k))
@@ -202,14 +211,20 @@ long_here (b ∷ (c ∷ (d ∷ rest))) = by (quote_is b) (number_is c b) (number
     by (inl e) (inr k) l = inr (λ value after a. k (same_first (same_others a.opens) ∙ sym (same_first a.opens)))
     by (inl e) (inl f) (inr l) = inr (λ value after a. l (same_first (same_others (same_others a.opens)) ∙ sym (same_first a.opens)))
     by (inl e) (inl f) (inl g) =
-        inl (take (length_before (three b) rest) rest, (drop 3 (drop (length_before (three b) rest) rest), record {
-          quote = b;
-          rest = rest;
-          is_quote = e;
-          opens = ap (λ z. b ∷ (z ∷ (d ∷ rest))) f ∙ ap (λ z. b ∷ (b ∷ (z ∷ rest))) g;
-          front = refl;
-          back = refl;
-        }))
+        inl (
+          take (length_before (three b) rest) rest,
+          (
+            drop 3 (drop (length_before (three b) rest) rest),
+            record {
+              quote = b;
+              rest = rest;
+              is_quote = e;
+              opens = ap (λ z. b ∷ (z ∷ (d ∷ rest))) f ∙ ap (λ z. b ∷ (b ∷ (z ∷ rest))) g;
+              front = refl;
+              back = refl;
+            },
+          ),
+        )
 
 abbrev EscapedHere : List ℕ → Type 0
 EscapedHere bs = (name : List ℕ) × ((after : List ℕ) × EscapedAt bs name after)
@@ -366,13 +381,16 @@ read_or_refused_in bytes front f t = by
     tokens_of = record { is_front = f; words = t.words; no_space = t.no_space; no_word = t.no_word }
 
     whole : (ds : List Definition) → SchemaAt false first_scope deepest_nesting t.tokens ds → t.rest ≡ [] → front ≡ bytes → (s : Syntax) × CompactSyntax bytes s
-    whole ds m e g = (record { definitions = ds; end = length bytes }, record {
-      tokens = t.tokens;
-      characters = subst IsChars g f.characters;
-      words = subst (λ z. TokensAt (length z) (after_mark z) t.tokens) g (up_to_end e t.words);
-      schema = m;
-      end = refl;
-    })
+    whole ds m e g = (
+      record { definitions = ds; end = length bytes },
+      record {
+        tokens = t.tokens;
+        characters = subst IsChars g f.characters;
+        words = subst (λ z. TokensAt (length z) (after_mark z) t.tokens) g (up_to_end e t.words);
+        schema = m;
+        end = refl;
+      },
+    )
 
     past : (ds : List Definition) → SchemaAt false first_scope deepest_nesting t.tokens ds → (t.rest ≡ [] → front ≡ bytes → ⊥) → (r : Refusal) × IsRefused bytes r
     past ds m h = let (r, x) = unexpected (end_before (length front) t.rest) [] in (r, past_tokens tokens_of m h x)
