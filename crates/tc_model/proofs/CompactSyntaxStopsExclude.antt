@@ -1,12 +1,10 @@
 -- Where the reading of a phrase stops, there is no reading of it.
-use Rattle.std.proofs.Common.{◌||◌, Option, bytes_eq, cond, ◌≡◌, ◌⊎◌, inl, inr, ℕ, suc, ◌≤◌, ◌<◌, Bool, true, false, List, [], ◌∷◌, refl, ap, ◌∙◌, sym, subst, length, arith, None, Some, codes}
+use Rattle.std.proofs.Common.{◌||◌, Option, bytes_eq, cond, ◌≡◌, inl, inr, ℕ, suc, ◌≤◌, Bool, true, false, List, [], ◌∷◌, refl, ap, ◌∙◌, sym, subst, arith, None, Some, codes}
 use Rattle.std.proofs.lemmas.Bool.{false≢true}
 use Rattle.tc_base.specs.declared.reasons.Why.{Why}
 use Rattle.tc_base.specs.declared.reasons.Why.TheVariants.{N6}
-use Rattle.tc_model.specs.Names.{ExpandedName}
 use Rattle.tc_model.specs.RawTrees.{Bound}
-use Rattle.tc_model.specs.XmlTextBytes.{Lacks, length_before}
-use Rattle.tc_model.specs.CompactSyntaxTrees.{SyntaxClass, SyntaxClasses, SyntaxPattern, SyntaxPatterns, Joins, Definition}
+use Rattle.tc_model.specs.CompactSyntaxTrees.{SyntaxClass, SyntaxClasses, SyntaxPattern, SyntaxPatterns, Definition}
 use Rattle.tc_model.specs.CompactSyntaxTokens.{Word, a_name, escaped, prefixed, all_of, literal, long_literal, mark, Token}
 use Rattle.tc_model.specs.CompactSyntaxNames as n
 use Rattle.tc_model.specs.CompactSyntaxNames.{IsWord, IsMark, identifier, identifier_or_keyword, IsLiteral, MayBind, DeclarationAt, name_in, LacksMark, ClassAt, ClassesAt, SimpleAt, ExceptAt}
@@ -19,7 +17,7 @@ use Rattle.tc_model.specs.CompactSyntaxUnread as u
 use Rattle.tc_model.specs.CompactSyntaxStops as st
 use Rattle.tc_model.specs.CompactSyntaxStops.{ClassStops, SimpleStops, BalancedStops, BracedTextStops, PatternStops, ItemsStop, PrimaryStops, EnclosedStops, DefinitionsStop, DefinitionStops, BlockStops, BeginsDefinition}
 use Rattle.tc_model.specs.CompactSyntaxRefusedLaws.{Excludes}
-use Rattle.tc_model.proofs.CompactSyntaxClassesUnique.{same_some, some_none, same_head, same_tail, keyword_kind, word_kind, kind_at, element_kind, attribute_kind, mixed_kind, start_kind, div_kind, identifier_kind, simple_word, simple_at, simple_rule, simple_is, lacks_no, simple_unique, class_unique}
+use Rattle.tc_model.proofs.CompactSyntaxClassesUnique.{some_none, same_tail, keyword_kind, word_kind, kind_at, element_kind, attribute_kind, mixed_kind, start_kind, div_kind, identifier_kind, simple_word, simple_at, simple_rule, simple_is, lacks_no, simple_unique, class_unique}
 use Rattle.tc_model.proofs.CompactSyntaxUnique.{no_braces, balanced_unique, lacks_connector, same_connector, rule, primary_kind, item_unique, pattern_unique, operator_unique, definition_unique, definitions_unique, brace_kind, no_definition_at_brace, no_definition_at_end}
 use Rattle.tc_model.proofs.CompactSyntaxBehind.{item_with, pattern_with, definition_with, definitions_with}
 use Rattle.tc_model.proofs.CompactSyntaxUnread.{name_no_mark, unread_kind}

@@ -1,18 +1,18 @@
 -- Where the reading of a schema stops, there is no reading of it.
-use Rattle.std.proofs.Common.{◌≡◌, ◌⊎◌, inl, inr, ℕ, suc, ◌+◌, ◌≤◌, ◌<◌, Bool, true, false, List, [], ◌∷◌, refl, ap, ◌∙◌, sym, subst, length, arith, None, Some, codes}
+use Rattle.std.proofs.Common.{◌≡◌, ◌⊎◌, inl, inr, ℕ, ◌≤◌, ◌<◌, Bool, false, List, [], ◌∷◌, refl, ap, ◌∙◌, sym, subst, length, arith, Some, codes}
 use Rattle.std.proofs.lemmas.Bool.{false≢true}
 use Rattle.tc_model.specs.RawTrees.{Bound}
 use Rattle.tc_model.specs.XmlTextBytes.{Lacks, length_before}
-use Rattle.tc_model.specs.CompactSyntaxTrees.{SyntaxPattern, Joins, Definition}
-use Rattle.tc_model.specs.CompactSyntaxTokens.{Word, a_name, literal, mark, Token}
-use Rattle.tc_model.specs.CompactSyntaxNames.{IsWord, IsMark, identifier, identifier_or_keyword, IsLiteral, MayBind, DeclarationAt, namespace, default_namespace, both, datatypes, LacksMark}
+use Rattle.tc_model.specs.CompactSyntaxTrees.{SyntaxPattern, Definition}
+use Rattle.tc_model.specs.CompactSyntaxTokens.{literal, Token}
+use Rattle.tc_model.specs.CompactSyntaxNames.{IsWord, IsMark, identifier_or_keyword, IsLiteral, MayBind, DeclarationAt, namespace, default_namespace, both, datatypes}
 use Rattle.tc_model.specs.CompactSyntaxPatterns.{connector_at, suffix_at, PatternAt, ItemAt, PrimaryAt}
 use Rattle.tc_model.specs.CompactSyntaxPatterns as p
 use Rattle.tc_model.specs.CompactSyntax.{OperatorAt, DefinitionAt, DefinitionsAt, SchemaAt, declaration, one_pattern, definitions, grammar}
 use Rattle.tc_model.specs.CompactSyntax as s
 use Rattle.tc_model.specs.CompactSyntaxUnread.{Refusal, End, EscapeAt, in_text, in_literal, in_long_literal, escape_mark, LiteralStops, escape_within, three_quotes, NoNamespaceName, inherit, concatenation}
 use Rattle.tc_model.specs.CompactSyntaxUnread as u
-use Rattle.tc_model.specs.CompactSyntaxStops.{PatternStops, DefinitionsStop, BlockStops, UriStops, no_equals, no_namespace_name, PrefixStops, no_prefix, uri, DeclarationStops, namespace_prefix, namespace_bound, datatypes_prefix, default_word, default_uri, default_bound, both_prefix, both_bound, BeginsDefinitions, BeginsOnePattern, BlockAt, block, GoesOnAsPattern, SchemaStops, in_declaration, past_declaration, in_grammar, inner_grammar, past_grammar, in_definitions, past_definitions, in_pattern, past_pattern}
+use Rattle.tc_model.specs.CompactSyntaxStops.{BlockStops, UriStops, no_equals, no_namespace_name, PrefixStops, no_prefix, uri, DeclarationStops, namespace_prefix, namespace_bound, datatypes_prefix, default_word, default_uri, default_bound, both_prefix, both_bound, BeginsDefinitions, BeginsOnePattern, BlockAt, block, GoesOnAsPattern, SchemaStops, in_declaration, past_declaration, in_grammar, inner_grammar, past_grammar, in_definitions, past_definitions, in_pattern, past_pattern}
 use Rattle.tc_model.proofs.CompactSyntaxClassesUnique.{same_some, some_none, same_head, same_tail, keyword_kind, word_kind, kind_at, namespace_kind, default_kind, datatypes_kind, grammar_kind, start_kind, div_kind, identifier_kind, literal_unique, declares, declared_kind, declaration_kind, declaration_unique}
 use Rattle.tc_model.proofs.CompactSyntaxClassesUnique as q
 use Rattle.tc_model.proofs.CompactSyntaxUnique.{rule, primary_kind, defines, pattern_kind, pattern_unique, definitions_kind, definitions_unique, no_pattern_before_operator}

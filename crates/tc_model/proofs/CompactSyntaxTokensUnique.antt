@@ -5,7 +5,7 @@ use Rattle.std.proofs.lemmas.Bool.{false≢true, eqb-true}
 use Rattle.std.proofs.lemmas.Str.{encode_same, encode_ascii, length-encode, len_utf8_bounds}
 use Rattle.tc_base.specs.Characters.{is_white}
 use Rattle.tc_model.specs.Names.{is_ncname_start}
-use Rattle.tc_model.specs.XmlTextBytes.{IsQuote, LiteralAt, length_before, place_of}
+use Rattle.tc_model.specs.XmlTextBytes.{IsQuote, length_before, place_of}
 use Rattle.tc_model.specs.XmlTextNames.{NcNameAt}
 use Rattle.tc_model.specs.CompactSyntaxTokens.{Word, a_name, escaped, prefixed, all_of, literal, long_literal, mark, Token, three, LongLiteralAt, EndsName, is_mark, WordAt, plain_name, prefixed_name, namespace_name, escaped_name, quoted, quoted_long, backslash, other, after_line, TokensAt, at_end, white, comment, token}
 use Rattle.tc_model.proofs.XmlTextPhrases.{same_first, same_others, literal_unique, ncname_unique, no_name}
