@@ -1,5 +1,5 @@
 -- Name classes are read, or their reading stops.
-use Rattle.std.proofs.Common.{◌≡◌, ◌⊎◌, inl, inr, ℕ, zero, suc, ◌<◌, ◌≤◌, List, [], ◌∷◌, refl, ap, ◌∙◌, sym, subst, length, arith, Option, None, Some}
+use Rattle.std.proofs.Common.{◌≡◌, ◌⊎◌, inl, inr, ℕ, zero, suc, ◌<◌, ◌≤◌, List, [], ◌∷◌, refl, ap, ◌∙◌, sym, length, arith, Option, None, Some}
 use Rattle.tc_model.specs.Names.{ExpandedName}
 use Rattle.tc_model.specs.RawTrees.{Bound}
 use Rattle.tc_model.specs.XmlTextScopes.{uri_of}
@@ -7,7 +7,7 @@ use Rattle.tc_model.specs.CompactSyntaxTrees.{SyntaxClass, of_name, of_namespace
 use Rattle.tc_model.specs.CompactSyntaxTokens.{Word, a_name, escaped, prefixed, all_of, literal, long_literal, mark, Token}
 use Rattle.tc_model.specs.CompactSyntaxNames as n
 use Rattle.tc_model.specs.CompactSyntaxNames.{IsMark, name_in, LacksMark, ClassAt, ClassesAt, SimpleAt, ExceptAt}
-use Rattle.tc_model.specs.CompactSyntaxUnread.{Refusal, too_deep, End, Unexpected}
+use Rattle.tc_model.specs.CompactSyntaxUnread.{Refusal, too_deep, End}
 use Rattle.tc_model.specs.CompactSyntaxStops as st
 use Rattle.tc_model.specs.CompactSyntaxStops.{ClassStops, SimpleStops}
 use Rattle.tc_rnc.proofs.Deciding.{Decided, mark_is, unexpected, by_length}

@@ -1,5 +1,5 @@
 -- Patterns are read, or their reading stops.
-use Rattle.std.proofs.Common.{◌≡◌, ◌≢◌, ◌⊎◌, inl, inr, ℕ, zero, suc, ◌<◌, ◌≤◌, Bool, true, false, List, [], ◌∷◌, refl, ap, ◌∙◌, sym, subst, length, arith, Option, None, Some, codes}
+use Rattle.std.proofs.Common.{◌≡◌, ◌⊎◌, inl, inr, ℕ, zero, suc, ◌<◌, Bool, true, false, List, [], ◌∷◌, refl, ap, ◌∙◌, sym, length, arith, Option, None, Some, codes}
 use Rattle.std.proofs.lemmas.Bool.{false≢true}
 use Rattle.tc_base.specs.declared.reasons.Why.{Why}
 use Rattle.tc_base.specs.declared.reasons.Why.TheVariants.{N7, N15, N16}
@@ -7,7 +7,7 @@ use Rattle.tc_model.specs.RawTrees.{Bound}
 use Rattle.tc_model.specs.CompactSyntaxTrees.{SyntaxClass, SyntaxPattern, SyntaxPatterns, no_more, more}
 use Rattle.tc_model.specs.CompactSyntaxTrees as tree
 use Rattle.tc_model.specs.CompactSyntaxTokens.{Word, a_name, escaped, prefixed, all_of, literal, long_literal, mark, Token}
-use Rattle.tc_model.specs.CompactSyntaxNames.{IsWord, IsMark, LacksMark, identifier, ClassAt}
+use Rattle.tc_model.specs.CompactSyntaxNames.{IsWord, IsMark, identifier, ClassAt}
 use Rattle.tc_model.specs.CompactSyntaxPatterns as p
 use Rattle.tc_model.specs.CompactSyntaxPatterns.{Connector, comma, bar, ampersand, connector_of, joined_by, Suffix, suffix_of, suffixed, BalancedAt, PatternAt, ItemsAt, ItemAt, PrimaryAt}
 use Rattle.tc_model.specs.CompactSyntaxUnread.{Refusal, malformed, unsupported, too_deep, End, EscapeAt, NoEscape, escape_within, three_quotes, is_literal, unread_pattern, NoPattern}

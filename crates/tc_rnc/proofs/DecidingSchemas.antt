@@ -1,15 +1,14 @@
 -- Definitions, declarations and schemas are read, or their reading stops.
-use Rattle.std.proofs.Common.{◌≡◌, ◌⊎◌, inl, inr, ℕ, zero, suc, ◌+◌, ◌<◌, ◌≤◌, Bool, true, false, List, [], ◌∷◌, ◌++◌, refl, ap, ◌∙◌, sym, subst, length, arith, Option, None, Some, codes}
+use Rattle.std.proofs.Common.{◌≡◌, ◌⊎◌, inl, inr, ℕ, zero, suc, ◌+◌, ◌<◌, ◌≤◌, Bool, true, false, List, [], ◌∷◌, ◌++◌, refl, ap, ◌∙◌, sym, length, arith, Option, None, Some, codes}
 use Rattle.std.proofs.lemmas.Bool.{false≢true}
 use Rattle.tc_base.specs.declared.reasons.Why.TheVariants.{N10, N11, N13, N15, N16, N17}
 use Rattle.tc_model.specs.Names.{xmlns_uri}
 use Rattle.tc_model.specs.RawTrees.{Bound}
 use Rattle.tc_model.specs.XmlTextScopes.{uri_of}
-use Rattle.tc_model.specs.CompactSyntaxTrees.{SyntaxPattern, Joins, plain, by_choice, by_interleave, Definition}
+use Rattle.tc_model.specs.CompactSyntaxTrees.{Joins, plain, by_choice, by_interleave, Definition}
 use Rattle.tc_model.specs.CompactSyntaxTokens.{Word, a_name, escaped, prefixed, all_of, literal, long_literal, mark, Token}
-use Rattle.tc_model.specs.CompactSyntaxNames.{IsWord, IsMark, LacksMark, IsLiteral, identifier, identifier_or_keyword, MayBind, bound_to, DeclarationAt, namespace, default_namespace, datatypes}
-use Rattle.tc_model.specs.CompactSyntaxNames as n
-use Rattle.tc_model.specs.CompactSyntaxPatterns.{Connector, connector_at, Suffix, suffix_at, PatternAt}
+use Rattle.tc_model.specs.CompactSyntaxNames.{IsWord, IsMark, LacksMark, identifier, identifier_or_keyword, MayBind, bound_to, DeclarationAt}
+use Rattle.tc_model.specs.CompactSyntaxPatterns.{Connector, connector_at, Suffix, suffix_at}
 use Rattle.tc_model.specs.CompactSyntax as s
 use Rattle.tc_model.specs.CompactSyntax.{OperatorAt, equals, bar_equals, ampersand_equals, one_definition, DefinitionAt, of_start, of_name, DefinitionsAt, SchemaAt}
 use Rattle.tc_model.specs.CompactSyntaxUnread.{Refusal, unsupported, too_deep, End, EscapeAt, NoEscape, Unexpected, escape_within, three_quotes, is_literal, BeginsNoDefinition, NoDefinition, NoNamespaceName}
@@ -17,8 +16,7 @@ use Rattle.tc_model.specs.CompactSyntaxUnread as u
 use Rattle.tc_model.specs.CompactSyntaxStops as st
 use Rattle.tc_model.specs.CompactSyntaxStops.{BeginsDefinition, DefinitionsStop, DefinitionStops, BlockStops, UriStops, PrefixStops, LacksWord, DeclarationStops, BeginsDefinitions, BlockAt, block, GoesOnAsPattern, SchemaStops}
 use Rattle.tc_model.proofs.CompactSyntaxClassesUnique.{some_none}
-use Rattle.tc_rnc.specs.Readings.{BeginsWith}
-use Rattle.tc_rnc.specs.Schemas.{LiteralAt, UriAt, PrefixUriAt, StartsWith}
+use Rattle.tc_rnc.specs.Schemas.{LiteralAt, UriAt, PrefixUriAt}
 use Rattle.tc_rnc.proofs.Deciding.{Decided, both, decided_by, number_is, bytes_are, mark_is, word_is, unexpected, escape_at, by_length}
 use Rattle.tc_rnc.proofs.DecidingPatterns.{PatternHere, reads_pattern, stops_pattern, pattern_here}
 use Rattle.tc_rnc.proofs.DeclarationLaws as l

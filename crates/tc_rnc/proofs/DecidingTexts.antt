@@ -1,21 +1,20 @@
 -- Each text of a schema is read or refused.
-use Rattle.std.proofs.Common.{◌≡◌, ◌⊎◌, inl, inr, ℕ, zero, suc, ◌+◌, ◌<◌, ◌≤◌, ◌&&◌, Bool, true, false, not, cond, List, [], ◌∷◌, ◌++◌, refl, ap, ◌∙◌, sym, subst, length, take, drop, arith, take-append-drop, length-append, length-drop, append_assoc, leb, ltb, codes, Option, None, Some}
+use Rattle.std.proofs.Common.{◌≡◌, ◌⊎◌, inl, inr, ℕ, zero, suc, ◌<◌, ◌≤◌, ◌&&◌, Bool, true, false, cond, List, [], ◌∷◌, ◌++◌, refl, ap, ◌∙◌, sym, subst, length, take, drop, arith, take-append-drop, length-append, length-drop, append_assoc, leb, ltb, codes}
 use Rattle.std.specs.Prelude.{encode_utf8, encode_utf8_all}
 use Rattle.std.specs.List.{prefix_len, list_all}
-use Rattle.std.proofs.Math.Seq.{take-append_seam, drop-length}
-use Rattle.std.proofs.Math.Utf8.{scalar}
-use Rattle.std.proofs.lemmas.Bool.{and_parts, and_from, ltb-true, cases_lt, false≢true, true≢false}
+use Rattle.std.proofs.Math.Seq.{take-append_seam}
+use Rattle.std.proofs.lemmas.Bool.{and_parts, and_from, ltb-true, cases_lt}
 use Rattle.std.proofs.lemmas.Str.{encode_same, length-encode, len_utf8_bounds}
 use Rattle.tc_base.specs.Characters.{is_char, is_white}
-use Rattle.tc_model.specs.Names.{IsChars, IsNcName, is_ncname_start, is_ncname_char}
+use Rattle.tc_model.specs.Names.{IsChars, is_ncname_start, is_ncname_char}
 use Rattle.tc_model.specs.XmlText.{after_mark}
-use Rattle.tc_model.specs.XmlTextBytes.{FrontOf, IsQuote, UpTo, LiteralAt, length_before, Lacks, place_of}
+use Rattle.tc_model.specs.XmlTextBytes.{FrontOf, IsQuote, LiteralAt, length_before, Lacks, place_of}
 use Rattle.tc_model.specs.XmlTextNames.{NcNameAt}
 use Rattle.tc_model.specs.XmlTextScopes.{first_scope}
 use Rattle.tc_model.specs.CompactSyntaxTrees.{Syntax, Definition}
-use Rattle.tc_model.specs.CompactSyntaxTokens.{Word, mark, literal, long_literal, Token, three, LongLiteralAt, EscapedAt, is_mark, is_line_end, after_line, TokensAt, WordAt, quoted, quoted_long, escaped_name, other}
+use Rattle.tc_model.specs.CompactSyntaxTokens.{Word, mark, literal, long_literal, Token, three, LongLiteralAt, EscapedAt, is_mark, after_line, TokensAt, WordAt, quoted, quoted_long, escaped_name, other}
 use Rattle.tc_model.specs.CompactSyntax.{CompactSyntax, deepest_nesting, SchemaAt}
-use Rattle.tc_model.specs.CompactSyntaxUnread.{Refusal, End}
+use Rattle.tc_model.specs.CompactSyntaxUnread.{Refusal}
 use Rattle.tc_model.specs.CompactSyntaxRefused.{TokensUpTo, so_far, white, comment, token, BeginsNoSpace, TokensOf, end_before, IsRefused, in_tokens, past_tokens}
 use Rattle.tc_model.proofs.XmlTextChars.{char_scalar, after_ascii, ncname_chars}
 use Rattle.tc_model.proofs.XmlTextPhrases.{same_first, same_others, literal_unique}

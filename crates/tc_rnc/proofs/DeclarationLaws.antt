@@ -4,10 +4,9 @@ use Rattle.std.proofs.lemmas.Bool.{cases_lt, false≢true}
 use Rattle.tc_base.specs.declared.reasons.Why.TheVariants.{N13, N17}
 use Rattle.tc_model.specs.RawTrees.{Bound}
 use Rattle.tc_model.specs.XmlTextBytes.{Lacks, length_before}
-use Rattle.tc_model.specs.CompactSyntaxTrees.{Definition}
-use Rattle.tc_model.specs.CompactSyntaxTokens.{Word, literal, Token}
-use Rattle.tc_model.specs.CompactSyntaxNames.{IsWord, IsMark, LacksMark, IsLiteral, identifier_or_keyword, MayBind, bound_to, DeclarationAt, namespace, default_namespace, both, datatypes}
-use Rattle.tc_model.specs.CompactSyntax.{SchemaAt, declaration}
+use Rattle.tc_model.specs.CompactSyntaxTokens.{literal, Token}
+use Rattle.tc_model.specs.CompactSyntaxNames.{IsWord, IsMark, LacksMark, identifier_or_keyword, MayBind, bound_to, DeclarationAt, namespace, default_namespace, both, datatypes}
+use Rattle.tc_model.specs.CompactSyntax.{declaration}
 use Rattle.tc_model.specs.CompactSyntaxUnread.{Refusal, unsupported, End, in_literal, NoEscape, escape_mark, Unexpected, is_literal, NoNamespaceName, inherit, concatenation}
 use Rattle.tc_model.specs.CompactSyntaxUnread as u
 use Rattle.tc_model.specs.CompactSyntaxStops as st

@@ -1,5 +1,5 @@
 -- What is read of a text as tokens.
-use Rattle.std.proofs.Common.{not, cond, ◌&&◌, ◌||◌, ◌==◌, ◌≡◌, ◌≢◌, ◌⊎◌, inl, inr, ℕ, ◌+◌, ◌-◌, ◌<◌, ◌≤◌, Bool, true, false, List, [], ◌∷◌, ◌++◌, refl, ap, ◌∙◌, sym, subst, length, drop, arith, append-nil, length-append, length-take, length-drop, IsTrue, Option, None, Some, MatchOption}
+use Rattle.std.proofs.Common.{not, cond, ◌&&◌, ◌||◌, ◌==◌, ◌≡◌, ◌≢◌, ◌⊎◌, inl, inr, ℕ, ◌+◌, ◌-◌, ◌<◌, ◌≤◌, Bool, true, false, List, [], ◌∷◌, ◌++◌, refl, ap, ◌∙◌, sym, subst, length, drop, arith, append-nil, length-append, length-take, length-drop, Option, None, Some, MatchOption}
 use Rattle.std.specs.Prelude.{encode_utf8, MatchBool}
 use Rattle.std.specs.Option.{option_map}
 use Rattle.std.proofs.lemmas.Bool.{eqb-true}

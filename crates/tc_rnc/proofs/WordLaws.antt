@@ -2,7 +2,7 @@
 use Rattle.std.proofs.Common.{◌≡◌, ℕ, false, List, [], ◌∷◌, ◌++◌, refl, ap, ◌∙◌, sym, subst, length, take, drop, inl, inr, IsTrue, arith, length-append}
 use Rattle.std.specs.Prelude.{encode_utf8, codes}
 use Rattle.std.specs.List.{list_all}
-use Rattle.std.proofs.Math.Seq.{take-length, drop-length, drop-nil, drop-append_seam}
+use Rattle.std.proofs.Math.Seq.{take-length, drop-length, drop-nil}
 use Rattle.std.proofs.lemmas.Bool.{true≢false}
 use Rattle.std.proofs.lemmas.Str.{encode_same, length-encode, len_utf8_bounds}
 use Rattle.tc_model.specs.XmlTextBytes.{IsQuote, length_before, UpTo, LiteralAt}

@@ -1,5 +1,5 @@
 -- Literals, and the escape of a character by the tokens in which it may stand.
-use Rattle.std.specs.Prelude.{◌≡◌, ℕ, ◌+◌, ◌<◌, true, List, [], ◌∷◌, Option, None, Some, length, codes}
+use Rattle.std.specs.Prelude.{◌≡◌, ℕ, ◌+◌, ◌<◌, true, List, ◌∷◌, Option, None, Some, length, codes}
 use Rattle.tc_model.specs.XmlTextBytes.{length_before, Lacks}
 use Rattle.tc_model.specs.CompactSyntaxTokens.{Word, literal, long_literal, Token}
 use Rattle.tc_model.specs.CompactSyntaxNames.{IsWord, IsMark}

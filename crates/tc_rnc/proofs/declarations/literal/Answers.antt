@@ -1,6 +1,6 @@
 use Rattle.tc_rnc.specs.Refusals.{unsupported}
 use Rattle.tc_rnc.specs.Views as seen
-use Rattle.tc_rnc.proofs.RefusalLaws.{refuses_map, passed, passes, unmade, unmade_by}
+use Rattle.tc_rnc.proofs.RefusalLaws.{refuses_map}
 use Rattle.tc_rnc.proofs.Constructs.{read_literal, no_literal_at}
 use Rattle.tc_rnc.proofs.DeclarationLaws as l
 use Rattle.tc_rnc.proofs.declarations.literal.Goals as goal

@@ -1,7 +1,7 @@
 use Rattle.std.proofs.Common.{sym}
 use Rattle.tc_scan.proofs.NamesLaws.{at_none}
 use Rattle.tc_rnc.specs.Refusals.{unsupported}
-use Rattle.tc_rnc.proofs.Constructs.{escape_stops, three_stop, reads_in_none, reads_other, reads_plain}
+use Rattle.tc_rnc.proofs.Constructs.{escape_stops, three_stop, reads_in_none}
 use Rattle.tc_rnc.proofs.faults.unread_literal.Goals as goal
 
 pub returns-in_err-first : goal.returns-in_err-first
