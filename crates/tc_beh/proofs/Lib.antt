@@ -42,6 +42,5 @@ pub mod TreeRows
 pub mod Wrapped
 pub mod WrapRows
 pub mod Lining
-pub mod Repeats
 pub mod Passing
 pub mod Nowhere

@@ -11,10 +11,11 @@ ghost use Rattle.tc_beh.specs.Rooms.{flag_at, flags_in, output_at};
 ghost use Rattle.tc_beh.specs.RoomsOf.{IsRoomBeside, AreTexts};
 ghost use Rattle.tc_beh.specs.Appending.{IsTaken, PutsFrom, Puts, IsBehind};
 
+use crate::held_sets::HeldSets;
 use crate::outputs::{RowFault, put_products};
 use crate::rooms::Room;
 use tc_auto::{Auto, Leaf};
-use tc_mat::{Mat, Pool};
+use tc_mat::Mat;
 
 /// Whether an edge takes a tree, of which it is told whether it is a text, and a flag for each element pattern that it matches.
 fn takes(is_text: bool, patterns: &[u32], leaf: Leaf) -> bool
@@ -105,7 +106,7 @@ pub(crate) fn put_kind(auto: &Auto<'_>, hedge: &Room, tree: &Room, out: &mut Roo
 
 /// Leaves all but the flags of a list of trees with a tree more behind it.
 pub(crate) fn put_append(
-    outputs: &mut Pool,
+    outputs: &mut HeldSets,
     is_fixed: bool,
     set: &mut Mat,
     hedge: &Room,

@@ -13,3 +13,4 @@ pub mod Made
 pub mod Carried
 pub mod Verdicts
 pub mod Exact
+pub mod KindLaws

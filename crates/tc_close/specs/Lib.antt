@@ -4,3 +4,4 @@ pub mod Triples
 pub mod Decisions
 pub mod RowState
 pub mod HeldRows
+pub mod Kinds

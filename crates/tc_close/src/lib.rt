@@ -4,6 +4,7 @@
 
 mod decision;
 mod held;
+mod kinds;
 pub mod laws;
 mod lists;
 mod over;
