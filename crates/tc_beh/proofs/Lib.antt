@@ -44,3 +44,4 @@ pub mod WrapRows
 pub mod Lining
 pub mod Passing
 pub mod Nowhere
+pub mod Remembering

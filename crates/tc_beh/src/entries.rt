@@ -99,7 +99,13 @@ fn state_below(rules: &Rules<'_>, letter: Letter, ancestor: u32) -> u32
 }
 
 /// Works out the sets of the bodies of named templates on a node.
-fn put_named_on(machine: &Machine<'_>, outputs: &HeldSets, work: &mut Work, node: Node<'_>, above: u32)
+fn put_named_on(
+    machine: &Machine<'_>,
+    outputs: &HeldSets,
+    work: &mut Work,
+    node: Node<'_>,
+    above: u32,
+)
     requires grounds { AreSomeGrounds machine.now outputs.now work.old node }
     requires above { above < length (told machine.now.rules).ancestors.states }
     ensures work { (x : Triple) → AreGrounds x machine.now outputs.now work.old node.entry → IsWork x machine.now.depth work.new }
@@ -116,7 +122,13 @@ fn put_named_on(machine: &Machine<'_>, outputs: &HeldSets, work: &mut Work, node
 }
 
 /// Works out what a state of a move above puts out on a node and then below it.
-fn put_entry_of(machine: &Machine<'_>, outputs: &HeldSets, work: &mut Work, node: Node<'_>, spot: Spot)
+fn put_entry_of(
+    machine: &Machine<'_>,
+    outputs: &HeldSets,
+    work: &mut Work,
+    node: Node<'_>,
+    spot: Spot,
+)
     requires grounds { AreSomeGrounds machine.now outputs.now work.old node }
     requires ancestor { spot.ancestor < length (told machine.now.rules).ancestors.states }
     requires state { spot.state < move_count (told machine.now.rules) }

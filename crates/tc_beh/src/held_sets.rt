@@ -1,5 +1,5 @@
 // The sets of pairs that stand in rows, each held once, with some of their products.
-ghost use Rattle.std.specs.Prelude.{◌≡◌, ◌<◌, ◌≤◌, ◌++◌, ◌∷◌, [], Some, slice_get, length, IfOk, IfSome, OnErr, IsOk, MatchOption};
+ghost use Rattle.std.specs.Prelude.{◌≡◌, ◌<◌, ◌≤◌, ◌++◌, ◌∷◌, [], Some, slice_get, length, IfOk, IfSome, OnErr, MatchOption};
 ghost use Rattle.std.specs.Result.{IsErrOf};
 ghost use Rattle.tc_mat.specs.Held.{AreDifferent, AreMatrices, IsHeld};
 ghost use Rattle.tc_beh.specs.Remembered.{IsProduct};
@@ -87,21 +87,19 @@ impl HeldSets {
         self.pool.get(id)
     }
 
-    /// The number of a set. One that isn't held comes last.
+    /// Holds a set that isn't held, under the next number.
     ///
     /// # Errors
     ///
-    /// `PoolFull` exactly where 65,536 others are held, and `NoMemory` where memory for a copy is refused. What is held then
-    /// stays as it was.
-    pub(crate) fn intern(&mut self, set: &Mat) -> Result<MatId, PoolFault>
-        requires { set.now.size ≡ self.old.size }
+    /// `PoolFull` where 65,536 others are held, and `NoMemory` where memory for a copy is refused. What is held then stays as it
+    /// was.
+    pub(crate) fn hold(&mut self, set: &Mat) -> Result<MatId, PoolFault>
+        requires size { set.now.size ≡ self.old.size }
+        requires absent { ¬ IsHeld self.old set.now }
         ensures id { IfOk result (λ id. slice_get self.new.matrices id.0 ≡ Some set.now) }
-        ensures held { IsHeld self.old set.now → IsOk result × (self.new ≡ self.old) }
-        ensures absent { ¬ IsHeld self.old set.now → IfOk result
-            (λ id. (id.0 ≡ length self.old.matrices)
-            × (self.new ≡ record self.old { matrices = self.old.matrices ++ set.now ∷ [] })) }
+        ensures grows { IfOk result (λ id. (id.0 ≡ length self.old.matrices) × (self.new ≡ record self.old { matrices = self.old.matrices ++ set.now ∷ [] })) }
         ensures err { OnErr result (self.new ≡ self.old) }
-        ensures full { IsErrOf result PoolFault.PoolFull → (length self.old.matrices ≡ 65536) × ¬ IsHeld self.old set.now }
+        ensures full { IsErrOf result PoolFault.PoolFull → length self.old.matrices ≡ 65536 }
     {
         self.pool.intern(set)
     }

@@ -39,7 +39,7 @@ pub(crate) fn keep(outputs: &mut HeldSets, is_fixed: bool, set: &Mat) -> Result<
     if is_fixed {
         return Err(RowFault::NewOutput);
     }
-    match outputs.intern(set) {
+    match outputs.hold(set) {
         Ok(id) => Ok(id.0),
         Err(PoolFault::PoolFull) => Err(RowFault::TooManyOutputs),
         Err(PoolFault::NoMemory) => Err(RowFault::NoMemory),

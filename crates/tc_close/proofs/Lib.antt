@@ -13,4 +13,3 @@ pub mod Made
 pub mod Carried
 pub mod Verdicts
 pub mod Exact
-pub mod KindLaws

@@ -4,4 +4,3 @@ pub mod Triples
 pub mod Decisions
 pub mod RowState
 pub mod HeldRows
-pub mod Kinds

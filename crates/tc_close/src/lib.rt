@@ -4,7 +4,6 @@
 
 mod decision;
 mod held;
-mod kinds;
 pub mod laws;
 mod lists;
 mod over;
