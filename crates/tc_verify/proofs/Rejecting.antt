@@ -194,7 +194,7 @@ module _ (x : Triple) (c : CertData) (formed : IsFormed c) (fit : AllFit (sizes 
       (all_before 3 (λ y. subst (IsEmptyListed x) hs (e x is)) (never 3 3 (omega arith)) (never 4 3 (omega arith)) (never 5 3 (omega arith)) (omega arith))
 
   append_first : (i j : ℕ) → IsFirstOf l (broken.Append i j) → IsRejected x c (record { line = line_of_hedge c i; rule = rule.Append; other = line_of_tree c j })
-  unfolding AppendBreaks
+  unfolding AppendHolds AppendBreaks
   append_first i j (lists, first) =
       rejected x c (record { line = line_of_hedge c i; rule = rule.Append; other = line_of_tree c j })
       (record {
@@ -204,7 +204,6 @@ module _ (x : Triple) (c : CertData) (formed : IsFormed c) (fit : AllFit (sizes 
       (all_before 4 (λ y. empty_listed lists) (λ y. text_listed lists) (never 4 4 (omega arith)) (never 5 4 (omega arith)) (omega arith))
     where
       listed : (k m : ℕ) → AppendHolds l k m → AppendIsListed x (trees_of c) (hedges_of c) k m
-      unfolding AppendHolds
       listed k m holds = on (λ t h. AppendIsListed x t h k m) (holds x is)
 
       least : (k o : ℕ) → IsBroken x c rule.Append k o → (line_of_hedge c i < k) ⊎ ((line_of_hedge c i ≡ k) × (line_of_tree c j ≤ o))
@@ -220,7 +219,7 @@ module _ (x : Triple) (c : CertData) (formed : IsFormed c) (fit : AllFit (sizes 
       ]
 
   wrap_first : (i s : ℕ) → IsFirstOf l (broken.Wrap i s) → IsRejected x c (record { line = line_of_hedge c i; rule = rule.Wrap; other = s })
-  unfolding WrapBreaks
+  unfolding WrapHolds WrapBreaks
   wrap_first i s (rows, first) =
       rejected x c (record { line = line_of_hedge c i; rule = rule.Wrap; other = s })
       (record {
@@ -230,7 +229,6 @@ module _ (x : Triple) (c : CertData) (formed : IsFormed c) (fit : AllFit (sizes 
       (all_before 5 (λ y. empty_listed rows.lists) (λ y. text_listed rows.lists) (λ y. appends_listed rows) (never 5 5 (omega arith)) (omega arith))
     where
       listed : (k m : ℕ) → WrapHolds l k m → WrapIsListed x (trees_of c) (hedges_of c) k m
-      unfolding WrapHolds
       listed k m holds = on (λ t h. WrapIsListed x t h k m) (holds x is)
 
       least : (k o : ℕ) → IsBroken x c rule.Wrap k o → (line_of_hedge c i < k) ⊎ ((line_of_hedge c i ≡ k) × (s ≤ o))
@@ -246,7 +244,7 @@ module _ (x : Triple) (c : CertData) (formed : IsFormed c) (fit : AllFit (sizes 
       ]
 
   root_first : (j : ℕ) → IsFirstOf l (broken.Root j) → IsRejected x c (record { line = line_of_tree c j; rule = rule.Root; other = 0 })
-  unfolding RootBreaks
+  unfolding RootHolds RootBreaks
   root_first j (rows, first) =
       rejected x c (record { line = line_of_tree c j; rule = rule.Root; other = 0 })
       (record {
@@ -256,7 +254,6 @@ module _ (x : Triple) (c : CertData) (formed : IsFormed c) (fit : AllFit (sizes 
       (all_before 6 (λ y. empty_listed rows.rows.lists) (λ y. text_listed rows.rows.lists) (λ y. appends_listed rows.rows) (λ y. wraps_listed rows) (omega arith))
     where
       least : (k o : ℕ) → IsBroken x c rule.Root k o → (line_of_tree c j < k) ⊎ ((line_of_tree c j ≡ k) × (0 ≤ o))
-      unfolding RootHolds
       least k o (a, p, e, f, bad) = elim (below_or a j) [
         | inl low ↦ absurd (bad (on (λ t h. RootIsGood x t h a) (first.before a low x is)))
         | inr high ↦ elim (later_or_same j a high) [ inl more ↦ inl (omega (arith, more, e)) | inr same ↦ inr (omega (arith, same, e), omega arith) ]

@@ -11,7 +11,7 @@ ghost use Rattle.tc_verify.specs.Rejects.{IsCause};
 ghost use Rattle.tc_verify.specs.Told.{Tells, IsRejectOf, AreIn};
 
 use crate::checker::Checker;
-use crate::first::{Broken, first_broken};
+use crate::first::{Broken, try_rules};
 use crate::fit::{first_unfit, hedge_line, tree_line};
 use crate::reject::{Reject, RejectRule, VerifyFault};
 use std::alloc::Global;
@@ -62,8 +62,8 @@ pub fn verify(alloc: Global, machine: &Machine<'_>, cert: &CertData) -> Result<(
         return Err(VerifyFault::Rejected(told(RejectRule::Fit, line, 0)));
     }
     let mut checker = Checker::new(alloc, machine, cert)?;
-    match first_broken(&mut checker) {
-        None => Ok(()),
-        Some(broken) => Err(VerifyFault::Rejected(reject_of(cert, broken))),
+    match try_rules(&mut checker) {
+        Ok(()) => Ok(()),
+        Err(broken) => Err(VerifyFault::Rejected(reject_of(cert, broken))),
     }
 }
