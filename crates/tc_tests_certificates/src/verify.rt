@@ -1,6 +1,7 @@
 //! What the checker of certificates answers, by hand: the certificate of an element around any number of elements, for each of
 //! which one is put out, and changes of it.
 ghost use Rattle.std.specs.Prelude.{◌≡◌, ◌≤◌, length, IfOk};
+ghost use Rattle.tc_model.specs.CertificateData.{IsFormed};
 ghost use Rattle.tc_model.specs.Grammars.{IsGrammar};
 ghost use Rattle.tc_model.specs.SimplifiesLaws.{IsStart};
 ghost use Rattle.tc_model.specs.Views as see;
@@ -198,7 +199,7 @@ fn rejected(line: u32, rule: RejectRule, other: u32) -> Result<(), VerifyFault> 
     Err(VerifyFault::Rejected(Reject { line, rule, other }))
 }
 
-/// The certificate, and one with a further row that is closed under the rules.
+/// The certificate, in both versions, and one with a further row that is closed under the rules.
 #[test]
 fn accepts_certificates(rt: HostRuntime) -> Result<(), Fail> {
     let alloc = rt.alloc();
@@ -255,5 +256,60 @@ fn tells_symbols(rt: HostRuntime) -> Result<(), Fail> {
     assert_eq!(rt; answer(alloc, OUTPUT, FRONT, no_b, HEDGES)?, rejected(9, RejectRule::Wrap, b));
     let other_a = "trees 3\nt 0 0 - 0,0,0 -\nt 0 0 1 1,1,0 -\nt 0 0 2 1,0,1 -\n";
     assert_eq!(rt; answer(alloc, OUTPUT, FRONT, other_a, HEDGES)?, rejected(10, RejectRule::Wrap, a));
+    Ok(())
+}
+
+/// A text that may stand in the input has its row listed.
+#[test]
+fn tells_texts(rt: HostRuntime) -> Result<(), Fail> {
+    let alloc = rt.alloc();
+    let arena = Bump::new(alloc);
+    let sheet = sheet_text(
+        alloc,
+        "<xsl:template match=\"/\"><r><xsl:apply-templates/></r></xsl:template><xsl:template match=\"text()\"><x/></xsl:template>",
+    )?;
+    let machine = machine_of_texts(
+        alloc,
+        &arena,
+        "element a{text}",
+        "element r{element x{empty}?}",
+        sheet.as_str(),
+    )?;
+    let mut entries = String::from_str(alloc, "0")?;
+    for _ in 1..machine.shape().entries {
+        entries.push_str(",0")?;
+    }
+    let text = format!(in alloc;
+        "xslt-typecheck certificate 1\noutputs 1\nm 0>0 1>1 2>2 3>3 4>4\ntrees 0\nhedges 1\nh 0 0 0 {entries} -\nend\n"
+    )?;
+    let cert = data_of(alloc, text.as_str())?;
+    assert_eq!(rt; verify(alloc, &machine, &cert), rejected(0, RejectRule::Text, 0));
+    Ok(())
+}
+
+/// A name that nothing mentions has its symbol.
+#[test]
+fn tells_symbols_of_other_names(rt: HostRuntime) -> Result<(), Fail> {
+    let alloc = rt.alloc();
+    let arena = Bump::new(alloc);
+    let sheet = sheet_text(
+        alloc,
+        "<xsl:template match=\"*\"><xsl:copy><xsl:apply-templates/></xsl:copy></xsl:template>",
+    )?;
+    let schema = "element *{empty}";
+    let machine = machine_of_texts(alloc, &arena, schema, schema, sheet.as_str())?;
+    let mut entries = String::from_str(alloc, "0")?;
+    for _ in 1..machine.shape().entries {
+        entries.push_str(",0")?;
+    }
+    let text = format!(in alloc;
+        "xslt-typecheck certificate 1\noutputs 2\nm 0>0 1>1 2>2\nm 0>1\ntrees 0\nhedges 1\nh 0 0 0 {entries} -\nend\n"
+    )?;
+    let cert = data_of(alloc, text.as_str())?;
+    let other = machine.alphabet().sym_of(&Name {
+        uri: "urn:n",
+        local: "n",
+    });
+    assert_eq!(rt; verify(alloc, &machine, &cert), rejected(7, RejectRule::Wrap, other.0));
     Ok(())
 }
