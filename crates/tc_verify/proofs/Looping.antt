@@ -28,8 +28,8 @@ pushed P (x ∷ xs) y all last (suc k) v e = pushed (λ j w. P (suc j) w) xs y (
 
 module _ {A : Type 0} (numbers : A → List ℕ) (P : ℕ → A → Type 0) where
   -- so many rooms, each of its line, and exactly their numbers
-  pub record AreRead (rooms : List A) (lists : List (List ℕ)) (count : ℕ) : Type 0 where
-    pub count : length rooms ≡ count
+  pub record AreRead (rooms : List A) (lists : List (List ℕ)) (many : ℕ) : Type 0 where
+    pub count : length rooms ≡ many
     pub each : (k : ℕ) (r : A) → slice_get rooms k ≡ Some r → P k r
     pub held : (ns : List ℕ) → Contains lists ns ↔ Contains (map numbers rooms) ns
 

@@ -97,8 +97,8 @@ module _ (x : Triple) (c : CertData) (is : IsCertificateData x c) where
   none_broken : (r : RejectRule) (l o : ℕ) → ¬ IsBroken x c r l o
   none_broken rule.Form l o b = b
   none_broken rule.Fit l o (u, e) = none_unfit x c (certificate_fits x c is) l u
-  none_broken rule.Empty l o (bad, e) = bad certified.closed.empty
-  none_broken rule.Text l o (bad, e) = bad (λ live u made. certified.closed.text live u made)
+  none_broken rule.Empty l o (bad, e, f) = bad certified.closed.empty
+  none_broken rule.Text l o (bad, e, f) = bad (λ live u made. certified.closed.text live u made)
   none_broken rule.Append l o (i, j, a, b, e, f, bad) = bad (λ h s p q live u made. certified.closed.append h u s (contains_at (hedges_of c) i h p) (contains_at (trees_of c) j s q) live made)
   none_broken rule.Wrap l o (i, a, low, e, bad) = bad (λ h p live u made. certified.closed.wrap o h u low (contains_at (hedges_of c) i h p) live made)
   none_broken rule.Root l o (j, a, e, f, bad) = bad (λ s p good. certified.root s (contains_at (trees_of c) j s p) good)
@@ -142,8 +142,8 @@ module _ (x : Triple) (c : CertData) (formed : IsFormed c) (fit : AllFit (sizes 
   all_before : (n : ℕ) → (2 < n → IsEmptyListed x (hedges_of c)) → (3 < n → IsTextListed x (trees_of c)) → (4 < n → Appends) → (5 < n → Wraps) → n ≤ 6 → (s : RejectRule) (k o : ℕ) → rank s < n → ¬ IsBroken x c s k o
   all_before n e t a w m rule.Form k o low b = b
   all_before n e t a w m rule.Fit k o low (u, z) = none_unfit x c fit k u
-  all_before n e t a w m rule.Empty k o low (bad, z) = bad (e low)
-  all_before n e t a w m rule.Text k o low (bad, z) = bad (t low)
+  all_before n e t a w m rule.Empty k o low (bad, y, z) = bad (e low)
+  all_before n e t a w m rule.Text k o low (bad, y, z) = bad (t low)
   all_before n e t a w m rule.Append k o low (i, j, p, q, y, z, bad) = bad (a low i j p q)
   all_before n e t a w m rule.Wrap k o low (i, p, q, z, bad) = bad (w low i o p q)
   all_before n e t a w m rule.Root k o low b = absurd (omega (arith, low, m))
@@ -183,14 +183,14 @@ module _ (x : Triple) (c : CertData) (formed : IsFormed c) (fit : AllFit (sizes 
   unfolding EmptyBreaks
   empty_first bad =
       rejected x c (record { line = 0; rule = rule.Empty; other = 0 })
-      (record { broken = (subst (λ h. ¬ IsEmptyListed x h) hs (bad x is), refl, refl); least = λ k o b. inr (sym b.1.0, omega arith) })
+      (record { broken = (subst (λ h. ¬ IsEmptyListed x h) hs (bad x is), refl, refl); least = λ k o b. inr (sym b.1, omega arith) })
       (all_before 2 (never 2 2 (omega arith)) (never 3 2 (omega arith)) (never 4 2 (omega arith)) (never 5 2 (omega arith)) (omega arith))
 
   text_first : IsFirstOf l broken.Text → IsRejected x c (record { line = 0; rule = rule.Text; other = 0 })
   unfolding EmptyHolds TextBreaks
   text_first (e, bad) =
       rejected x c (record { line = 0; rule = rule.Text; other = 0 })
-      (record { broken = (subst (λ t. ¬ IsTextListed x t) ts (bad x is), refl, refl); least = λ k o b. inr (sym b.1.0, omega arith) })
+      (record { broken = (subst (λ t. ¬ IsTextListed x t) ts (bad x is), refl, refl); least = λ k o b. inr (sym b.1, omega arith) })
       (all_before 3 (λ y. subst (IsEmptyListed x) hs (e x is)) (never 3 3 (omega arith)) (never 4 3 (omega arith)) (never 5 3 (omega arith)) (omega arith))
 
   append_first : (i j : ℕ) → IsFirstOf l (broken.Append i j) → IsRejected x c (record { line = line_of_hedge c i; rule = rule.Append; other = line_of_tree c j })

@@ -21,24 +21,24 @@ returns-in_err-checker-clause-cause c =
 pub returns-in-Ok-clause-certificate : goal.returns-in-Ok-clause-certificate
 returns-in-Ok-clause-certificate c =
     is_certified c.args.machine.now c.args.cert.now c.requires.formed (λ x is. all_fit x c.shape.result c.args.cert.now (c.shape.ensures x is) c.in_default.ensures) (view_of c.in_ok-checker.checker) c.in_ok-checker.ensures.machine
-    c.in_ok-checker.ensures.hedges c.in_ok-checker.ensures.trees c.in-Ok.ensures
+    c.in_ok-checker.ensures.hedges c.in_ok-checker.ensures.trees c.in-Ok.ensures.first
 
 pub returns-in-Ok-clause-safe : goal.returns-in-Ok-clause-safe
 returns-in-Ok-clause-safe c =
     is_safe c.args.machine.now c.args.cert.now c.requires.formed (λ x is. all_fit x c.shape.result c.args.cert.now (c.shape.ensures x is) c.in_default.ensures) (view_of c.in_ok-checker.checker) c.in_ok-checker.ensures.machine
-    c.in_ok-checker.ensures.hedges c.in_ok-checker.ensures.trees c.in-Ok.ensures
+    c.in_ok-checker.ensures.hedges c.in_ok-checker.ensures.trees c.in-Ok.ensures.first
 
 pub returns-in-Ok-clause-all_live : goal.returns-in-Ok-clause-all_live
 returns-in-Ok-clause-all_live c =
     is_all_live c.args.machine.now c.args.cert.now c.requires.formed (λ x is. all_fit x c.shape.result c.args.cert.now (c.shape.ensures x is) c.in_default.ensures) (view_of c.in_ok-checker.checker) c.in_ok-checker.ensures.machine
-    c.in_ok-checker.ensures.hedges c.in_ok-checker.ensures.trees c.in-Ok.ensures
+    c.in_ok-checker.ensures.hedges c.in_ok-checker.ensures.trees c.in-Ok.ensures.first
 
 pub reject_of-requires-clause-places : goal.reject_of-requires-clause-places
 reject_of-requires-clause-places c =
     are_in c.args.machine.now c.args.cert.now c.requires.formed (λ x is. all_fit x c.shape.result c.args.cert.now (c.shape.ensures x is) c.in_default.ensures) (view_of c.in_ok-checker.checker) c.in_ok-checker.ensures.machine
-    c.in_ok-checker.ensures.hedges c.in_ok-checker.ensures.trees c.requires.machine c.in-Err.broken c.in-Err.ensures
+    c.in_ok-checker.ensures.hedges c.in_ok-checker.ensures.trees c.requires.machine c.in-Err.broken c.in-Err.ensures.first
 
 pub returns-in-Err-clause-cause : goal.returns-in-Err-clause-cause
 returns-in-Err-clause-cause c =
     is_rejected c.args.machine.now c.args.cert.now c.requires.formed (λ x is. all_fit x c.shape.result c.args.cert.now (c.shape.ensures x is) c.in_default.ensures) (view_of c.in_ok-checker.checker) c.in_ok-checker.ensures.machine
-    c.in_ok-checker.ensures.hedges c.in_ok-checker.ensures.trees c.in-Err.broken c.reject_of.result c.in-Err.ensures c.reject_of.ensures
+    c.in_ok-checker.ensures.hedges c.in_ok-checker.ensures.trees c.in-Err.broken c.reject_of.result c.in-Err.ensures.first c.reject_of.ensures
