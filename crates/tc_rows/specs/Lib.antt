@@ -9,3 +9,4 @@ pub mod Alike
 pub mod Derivations
 pub mod Certificates
 pub mod CountLaws
+pub mod CertificateRows

@@ -1,0 +1,315 @@
+//! What the checker of certificates answers, by hand: the certificate of an element around any number of elements, for each of
+//! which one is put out, and changes of it.
+ghost use Rattle.std.specs.Prelude.{◌≡◌, ◌≤◌, length, IfOk};
+ghost use Rattle.tc_model.specs.CertificateData.{IsFormed};
+ghost use Rattle.tc_model.specs.Grammars.{IsGrammar};
+ghost use Rattle.tc_model.specs.SimplifiesLaws.{IsStart};
+ghost use Rattle.tc_model.specs.Views as see;
+ghost use Rattle.tc_model.specs.WellFormed.{IsSheet};
+ghost use Rattle.tc_beh.specs.Machines.{IsMachine};
+
+use bumpalo::Bump;
+use std::alloc::Global;
+use std::test::Fail;
+use tc_alpha::Alphabet;
+use tc_auto::Auto;
+use tc_beh::{Machine, MachineFault};
+use tc_hedge::Hedge;
+use tc_model::{Grammar, Name, Sheet};
+use tc_model::{CertData, HedgeLine, HedgeLines, Numbers, PairLists, Pairs, TreeLine, TreeLines};
+use tc_read::{Schema, read_schema, read_sheet};
+use tc_rules::Rules;
+use tc_verify::{Reject, RejectRule, VerifyFault, verify};
+
+const LONGEST: usize = 1000000;
+
+/// Why there is no machine of some texts.
+#[derive(Clone, Copy, Debug, PartialEq, Eq)]
+enum NoMachine {
+    NotRead,
+    Fault(MachineFault),
+}
+
+/// The schema of a text.
+fn schema_of<'b>(arena: &'b Bump, text: &str) -> Result<Grammar<'b>, NoMachine>
+    ensures grammar { IfOk result (λ x. IsGrammar (see.grammar x)) }
+    ensures start { IfOk result (λ x. IsStart (see.grammar x).start) }
+{
+    if text.len() > LONGEST {
+        return Err(NoMachine::NotRead);
+    }
+    let Ok(schema) = read_schema(arena, text.as_bytes()) else {
+        return Err(NoMachine::NotRead);
+    };
+    match schema {
+        Schema::Small(grammar) => Ok(grammar),
+        Schema::TooLarge(_, _) => Err(NoMachine::NotRead),
+    }
+}
+
+/// The stylesheet of a text.
+fn sheet_of<'b>(arena: &'b Bump, text: &str) -> Result<Sheet<'b>, NoMachine>
+    ensures { IfOk result (λ x. IsSheet (see.sheet x)) }
+{
+    if text.len() > LONGEST {
+        return Err(NoMachine::NotRead);
+    }
+    match read_sheet(arena, text.as_bytes()) {
+        Ok(sheet) => Ok(sheet),
+        Err(_) => Err(NoMachine::NotRead),
+    }
+}
+
+/// The machine of two schemas and a stylesheet.
+fn machine_of<'b>(
+    alloc: Global,
+    input: &Grammar<'b>,
+    output: &Grammar<'b>,
+    sheet: &Sheet<'b>,
+) -> Result<Machine<'b>, NoMachine>
+    requires input { IsGrammar (see.grammar input.now) }
+    requires start { IsStart (see.grammar input.now).start }
+    requires output { IsGrammar (see.grammar output.now) }
+    requires sheet { IsSheet (see.sheet sheet.now) }
+    ensures { IfOk result (λ m. IsMachine m) }
+{
+    let Ok(alphabet) = Alphabet::of(alloc, input, output, sheet) else {
+        return Err(NoMachine::NotRead);
+    };
+    let Ok(contents) = Auto::contents(alloc, input, 512) else {
+        return Err(NoMachine::NotRead);
+    };
+    let Ok(states) = Auto::of(alloc, output, 256) else {
+        return Err(NoMachine::NotRead);
+    };
+    let Ok(rules) = Rules::of(alloc, sheet, &alphabet) else {
+        return Err(NoMachine::NotRead);
+    };
+    let Ok(inner) = Hedge::of(alloc, contents, &alphabet) else {
+        return Err(NoMachine::NotRead);
+    };
+    let Ok(outer) = Hedge::of(alloc, states, &alphabet) else {
+        return Err(NoMachine::NotRead);
+    };
+    match Machine::of(alloc, inner, outer, rules, alphabet) {
+        Ok(machine) => Ok(machine),
+        Err(fault) => Err(NoMachine::Fault(fault)),
+    }
+}
+
+/// The machine of three texts.
+fn machine_of_texts<'b>(
+    alloc: Global,
+    arena: &'b Bump,
+    input: &str,
+    output: &str,
+    sheet: &str,
+) -> Result<Machine<'b>, NoMachine>
+    ensures { IfOk result (λ m. IsMachine m) }
+{
+    let input = schema_of(arena, input)?;
+    let output = schema_of(arena, output)?;
+    let sheet = sheet_of(arena, sheet)?;
+    machine_of(alloc, &input, &output, &sheet)
+}
+
+/// A stylesheet with these rules.
+fn sheet_text(alloc: Global, rules: &str) -> Result<String, Fail> {
+    let text = format!(in alloc;
+        "<xsl:stylesheet version=\"1.0\" xmlns:xsl=\"http://www.w3.org/1999/XSL/Transform\">{rules}</xsl:stylesheet>"
+    )?;
+    Ok(text)
+}
+
+
+// TEMPORARY reader
+fn numbers(alloc: Global, text: &str) -> Result<Numbers, Fail> {
+    let mut out = Numbers::new(alloc);
+    if text == "-" {
+        return Ok(out);
+    }
+    for part in text.split(',') {
+        let Ok(number) = part.parse::<u32>() else {
+            return Err(Fail::from("number"));
+        };
+        out.push(number)?;
+    }
+    Ok(out)
+}
+
+fn pairs(alloc: Global, text: &str) -> Result<Pairs, Fail> {
+    let mut out = Pairs::new(alloc);
+    for part in text.split(' ') {
+        let mut ends = part.split('>');
+        let (Some(from), Some(to)) = (ends.next(), ends.next()) else {
+            continue;
+        };
+        let (Ok(from), Ok(to)) = (from.parse::<u32>(), to.parse::<u32>()) else {
+            return Err(Fail::from("pair"));
+        };
+        out.push((from, to))?;
+    }
+    Ok(out)
+}
+
+fn data_of(alloc: Global, text: &str) -> Result<CertData, Fail> {
+    let mut outputs = PairLists::new(alloc);
+    let mut trees = TreeLines::new(alloc);
+    let mut hedges = HedgeLines::new(alloc);
+    for line in text.split('\n') {
+        let mut parts = line.split(' ');
+        let kind = parts.next().unwrap_or("");
+        if kind == "m" {
+            outputs.push(pairs(alloc, line)?)?;
+        }
+        if kind == "t" || kind == "h" {
+            let one = parts.next().unwrap_or("") == "1";
+            let other = parts.next().unwrap_or("") == "1";
+            let places = numbers(alloc, parts.next().unwrap_or(""))?;
+            let outs = numbers(alloc, parts.next().unwrap_or(""))?;
+            let looks = numbers(alloc, parts.next().unwrap_or(""))?;
+            if kind == "t" {
+                trees.push(TreeLine { text: one, bears: other, patterns: places, outs, looks })?;
+            } else {
+                hedges.push(HedgeLine { ends: one, bears: other, states: places, outs, looks })?;
+            }
+        }
+    }
+    Ok(CertData { outputs, trees, hedges })
+}
+
+const INPUT: &str = "element a{element b{empty}*}";
+const OUTPUT: &str = "element r{element x{empty}*}";
+const RULES: &str = "<xsl:template match=\"/\"><r><xsl:apply-templates select=\"a/b\"/></r></xsl:template><xsl:template match=\"b\"><x/></xsl:template>";
+const FRONT: &str = "xslt-typecheck certificate 1\noutputs 2\nm 0>0 1>1 2>2 3>3 4>4\nm 2>3 3>3\n";
+const TREES: &str = "trees 3\nt 0 0 1 0,0,0 -\nt 0 0 1 1,1,0 -\nt 0 0 2 1,0,1 -\n";
+const HEDGES: &str = "hedges 2\nh 0 0 0,2 0,0,0 -\nh 0 0 1 1,0,1 -\nend\n";
+
+/// What is answered of a certificate in three parts, for the rules above and an output.
+fn answer(alloc: Global, output: &str, front: &str, trees: &str, hedges: &str) -> Result<Result<(), VerifyFault>, Fail> {
+    let arena = Bump::new(alloc);
+    let sheet = sheet_text(alloc, RULES)?;
+    let machine = machine_of_texts(alloc, &arena, INPUT, output, sheet.as_str())?;
+    let text = format!(in alloc; "{front}{trees}{hedges}")?;
+    let cert = data_of(alloc, text.as_str())?;
+    Ok(verify(alloc, &machine, &cert))
+}
+
+fn rejected(line: u32, rule: RejectRule, other: u32) -> Result<(), VerifyFault> {
+    Err(VerifyFault::Rejected(Reject { line, rule, other }))
+}
+
+/// The certificate, in both versions, and one with a further row that is closed under the rules.
+#[test]
+fn accepts_certificates(rt: HostRuntime) -> Result<(), Fail> {
+    let alloc = rt.alloc();
+    assert_eq!(rt; answer(alloc, OUTPUT, FRONT, TREES, HEDGES)?, Ok(()));
+    let more = "trees 4\nt 0 0 1 0,0,0 -\nt 0 0 1 1,0,1 -\nt 0 0 1 1,1,0 -\nt 0 0 2 1,0,1 -\n";
+    assert_eq!(rt; answer(alloc, OUTPUT, FRONT, more, HEDGES)?, Ok(()));
+    Ok(())
+}
+
+/// A row that is made of rows that are listed isn't listed.
+#[test]
+fn tells_what_is_not_listed(rt: HostRuntime) -> Result<(), Fail> {
+    let alloc = rt.alloc();
+    let no_start = "hedges 1\nh 0 0 1 1,0,1 -\nend\n";
+    assert_eq!(rt; answer(alloc, OUTPUT, FRONT, TREES, no_start)?, rejected(0, RejectRule::Empty, 0));
+    let no_end = "hedges 1\nh 0 0 0,2 0,0,0 -\nend\n";
+    assert_eq!(rt; answer(alloc, OUTPUT, FRONT, TREES, no_end)?, rejected(10, RejectRule::Append, 8));
+    Ok(())
+}
+
+#[test]
+fn tells_what_does_not_fit(rt: HostRuntime) -> Result<(), Fail> {
+    let alloc = rt.alloc();
+    let front = "xslt-typecheck certificate 1\noutputs 2\nm 0>0 1>1 2>2 3>3 4>4\nm 2>5 3>3\n";
+    assert_eq!(rt; answer(alloc, OUTPUT, front, TREES, HEDGES)?, rejected(4, RejectRule::Fit, 0));
+    for line in ["t 0 0 1 0,0,4294967295 -", "t 0 0 1 0,0 -", "t 0 0 0 0,0,0 -", "t 0 0 3 0,0,0 -", "t 0 0 1 0,0,0 0"] {
+        let trees = format!(in alloc; "trees 3\n{line}\nt 0 0 1 1,1,0 -\nt 0 0 2 1,0,1 -\n")?;
+        assert_eq!(rt; answer(alloc, OUTPUT, FRONT, trees.as_str(), HEDGES)?, rejected(6, RejectRule::Fit, 0));
+    }
+    for line in ["h 0 0 1 1,0,2 -", "h 0 0 1 1,0,1,0 -", "h 0 0 3 1,0,1 -", "h 0 0 1 1,0,1 2"] {
+        let hedges = format!(in alloc; "hedges 2\nh 0 0 0,2 0,0,0 -\n{line}\nend\n")?;
+        assert_eq!(rt; answer(alloc, OUTPUT, FRONT, TREES, hedges.as_str())?, rejected(11, RejectRule::Fit, 0));
+    }
+    Ok(())
+}
+
+#[test]
+fn tells_what_fails_at_the_root(rt: HostRuntime) -> Result<(), Fail> {
+    let alloc = rt.alloc();
+    assert_eq!(rt; answer(alloc, "element r{element x{empty}+}", FRONT, TREES, HEDGES)?, rejected(6, RejectRule::Root, 0));
+    Ok(())
+}
+
+/// What an element makes is told by the number of its symbol.
+#[test]
+fn tells_symbols(rt: HostRuntime) -> Result<(), Fail> {
+    let alloc = rt.alloc();
+    let arena = Bump::new(alloc);
+    let sheet = sheet_text(alloc, RULES)?;
+    let machine = machine_of_texts(alloc, &arena, INPUT, OUTPUT, sheet.as_str())?;
+    let a = machine.alphabet().sym_of(&Name { uri: "", local: "a" }).0;
+    let b = machine.alphabet().sym_of(&Name { uri: "", local: "b" }).0;
+    let no_b = "trees 2\nt 0 0 1 0,0,0 -\nt 0 0 1 1,1,0 -\n";
+    assert_eq!(rt; answer(alloc, OUTPUT, FRONT, no_b, HEDGES)?, rejected(9, RejectRule::Wrap, b));
+    let other_a = "trees 3\nt 0 0 - 0,0,0 -\nt 0 0 1 1,1,0 -\nt 0 0 2 1,0,1 -\n";
+    assert_eq!(rt; answer(alloc, OUTPUT, FRONT, other_a, HEDGES)?, rejected(10, RejectRule::Wrap, a));
+    Ok(())
+}
+
+/// A text that may stand in the input has its row listed.
+#[test]
+fn tells_texts(rt: HostRuntime) -> Result<(), Fail> {
+    let alloc = rt.alloc();
+    let arena = Bump::new(alloc);
+    let sheet = sheet_text(
+        alloc,
+        "<xsl:template match=\"/\"><r><xsl:apply-templates/></r></xsl:template><xsl:template match=\"text()\"><x/></xsl:template>",
+    )?;
+    let machine = machine_of_texts(
+        alloc,
+        &arena,
+        "element a{text}",
+        "element r{element x{empty}?}",
+        sheet.as_str(),
+    )?;
+    let mut entries = String::from_str(alloc, "0")?;
+    for _ in 1..machine.shape().entries {
+        entries.push_str(",0")?;
+    }
+    let text = format!(in alloc;
+        "xslt-typecheck certificate 1\noutputs 1\nm 0>0 1>1 2>2 3>3 4>4\ntrees 0\nhedges 1\nh 0 0 0 {entries} -\nend\n"
+    )?;
+    let cert = data_of(alloc, text.as_str())?;
+    assert_eq!(rt; verify(alloc, &machine, &cert), rejected(0, RejectRule::Text, 0));
+    Ok(())
+}
+
+/// A name that nothing mentions has its symbol.
+#[test]
+fn tells_symbols_of_other_names(rt: HostRuntime) -> Result<(), Fail> {
+    let alloc = rt.alloc();
+    let arena = Bump::new(alloc);
+    let sheet = sheet_text(
+        alloc,
+        "<xsl:template match=\"*\"><xsl:copy><xsl:apply-templates/></xsl:copy></xsl:template>",
+    )?;
+    let schema = "element *{empty}";
+    let machine = machine_of_texts(alloc, &arena, schema, schema, sheet.as_str())?;
+    let mut entries = String::from_str(alloc, "0")?;
+    for _ in 1..machine.shape().entries {
+        entries.push_str(",0")?;
+    }
+    let text = format!(in alloc;
+        "xslt-typecheck certificate 1\noutputs 2\nm 0>0 1>1 2>2\nm 0>1\ntrees 0\nhedges 1\nh 0 0 0 {entries} -\nend\n"
+    )?;
+    let cert = data_of(alloc, text.as_str())?;
+    let other = machine.alphabet().sym_of(&Name {
+        uri: "urn:n",
+        local: "n",
+    });
+    assert_eq!(rt; verify(alloc, &machine, &cert), rejected(7, RejectRule::Wrap, other.0));
+    Ok(())
+}

@@ -1,0 +1,14 @@
+pub mod Distinct
+pub mod Keys
+pub mod Listed
+pub mod Certified
+pub mod Tried
+pub mod Kept
+pub mod Trials
+pub mod LinesRead
+pub mod Made
+pub mod Looping
+pub mod Verified
+pub mod Rejecting
+pub mod Unfit
+pub mod Stepping

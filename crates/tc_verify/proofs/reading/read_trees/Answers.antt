@@ -1,0 +1,18 @@
+use Rattle.std.proofs.Common.{◌≡◌, ℕ, List, subst}
+use Rattle.tc_verify.specs.Listings.{HasMore}
+use Rattle.tc_beh.specs.declared.rooms.TRow.{TRow}
+use Rattle.tc_verify.specs.Rooms.{IsReadTree}
+use Rattle.tc_verify.proofs.LinesRead.{tree_fits_room}
+use Rattle.tc_verify.proofs.Looping.{tree_read, one_read}
+use Rattle.tc_verify.proofs.reading.read_trees.Goals as goal
+
+pub read-requires : goal.read-requires
+read-requires c = tree_fits_room c.args.machine.now c.args.cert.now c.requires.formed c.requires.fit c.requires.machine c.loop-place.place c.get.result.now c.get.ensures c.in_ok-room.room.room c.in_ok-room.ensures
+
+pub loop-place-preserved : goal.loop-place-preserved
+loop-place-preserved c =
+    let row = tree_read c.args.machine.now c.args.cert.now c.loop-place.place c.get.result.now c.get.ensures c.in_ok-room.room c.read.new.self c.in_ok-room.ensures c.read.ensures.beside c.read.ensures.line c.read.ensures.flags in
+    let more = subst (λ (ns : List ℕ). HasMore c.loop-place.lists c.keep.new.self ns) c.numbers.ensures c.in_ok-keep.ensures in
+    let all = one_read (λ (r : TRow). r.room.numbers.items) (IsReadTree c.args.machine.now c.args.cert.now) c.loop-place.rooms.items c.push.new.self.items c.read.new.self c.loop-place.place c.loop-place.lists c.keep.new.self c.in_ok-push.ensures.items
+    c.loop-place.invariant.count c.loop-place.invariant.each row c.loop-place.invariant.held more in
+    record { count = all.count; each = all.each; held = all.held }
