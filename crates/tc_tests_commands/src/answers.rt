@@ -10,7 +10,7 @@ const START: &str =
 const END: &str = "</xsl:template></xsl:stylesheet>";
 
 const USAGE: &[u8] =
-    b"usage: check|prove [--limit N] IN OUT SHEET; verify IN OUT SHEET CERT; run SHEET DOC; valid SCHEMA DOC; demo N\n";
+    b"usage: check|prove [--limit N] IN OUT SHEET; verify IN OUT SHEET CERT; run SHEET DOC; valid SCHEMA DOC; demo N; upgrade CERT; include A B; same A B\n";
 
 fn word_list(alloc: Global, words: &[&str]) -> Result<WordList, NoMemory> {
     let mut list = WordList::new(alloc);
