@@ -7,6 +7,8 @@ pub mod OneRun
 pub mod Checked
 pub mod Compiling
 pub mod Compared
+pub mod OneComparison
+pub mod ComparingExact
 pub mod OneCheck
 pub mod Exact
 pub mod OneAnswer
