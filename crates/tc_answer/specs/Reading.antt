@@ -17,3 +17,9 @@ IsUnreadable Missing = Unit {0}
 IsUnreadable Failed = Unit {0}
 IsUnreadable TooLong = ⊥
 IsUnreadable NoMemory = ⊥
+
+-- the names were read in order, each read was Ok, and these are the texts
+abbrev pub AreRead : List (List ℕ) → List (List ℕ) → List Read → Type 0
+AreRead [] [] reads = reads ≡ []
+AreRead (name ∷ names) (text ∷ texts) (read ∷ reads) = (read ≡ (name, Ok text)) × AreRead names texts reads
+AreRead _ _ _ = ⊥

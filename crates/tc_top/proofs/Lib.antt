@@ -10,6 +10,7 @@ pub mod Compared
 pub mod OneComparison
 pub mod ComparingExact
 pub mod OneCheck
+pub mod OneComparison
 pub mod Exact
 pub mod OneAnswer
 pub mod Headline

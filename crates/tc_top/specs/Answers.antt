@@ -13,11 +13,12 @@ use Rattle.tc_top.specs.Demo.{demo_schema, demo_sheet, input_name, output_name, 
 use Rattle.tc_top.specs.Headline.{IsCutShort}
 use Rattle.tc_answer.specs.Words.{Command, check, prove, verify, run, valid, demo, upgrade, include, same, Words, IsNoCommand, name_of, operands_of}
 use Rattle.tc_top.specs.Limits.{IsRunWithin}
-use Rattle.tc_answer.specs.Reading.{StopsAt, IsUnreadable}
+use Rattle.tc_answer.specs.Reading.{StopsAt, IsUnreadable, AreRead}
 use Rattle.tc_answer.specs.declared.status.Status.{Status}
 use Rattle.tc_answer.specs.declared.status.Status.TheVariants.{Yes, Limit, WriteFault, NoMemory}
 use Rattle.tc_answer.specs.Answers.{Answer, usage, not_yet, cannot_read, file_limit, status_of, text_of}
 use Rattle.tc_top.specs.Causes.{Checks, Validates, Runs, RunsTexts}
+use Rattle.tc_top.specs.Comparing.{Compares, inclusion, equality}
 
 -- a command that is carried out
 abbrev pub IsBuilt : Command → Type 0
@@ -28,19 +29,27 @@ IsBuilt (run sheet document) = Unit {0}
 IsBuilt (valid schema document) = Unit {0}
 IsBuilt (demo size) = Unit {0}
 IsBuilt (upgrade certificate) = ⊥
-IsBuilt (include first second) = ⊥
-IsBuilt (same first second) = ⊥
+IsBuilt (include first second) = Unit {0}
+IsBuilt (same first second) = Unit {0}
 
--- a command that is carried out on files
-abbrev pub ReadsFiles : Command → Type 0
-ReadsFiles (check limit input output sheet) = Unit {0}
-ReadsFiles (run sheet document) = Unit {0}
-ReadsFiles (valid schema document) = Unit {0}
-ReadsFiles _ = ⊥
-
--- words of no command, of a command that isn't carried out, and of one that makes its texts, for which nothing is read
+-- words of no command, and of a command that reads no file
 abbrev pub ReadsNothing : List (List ℕ) → Type 0
-ReadsNothing words = (command : Command) → Words words command → ¬ (ReadsFiles command)
+ReadsNothing words = (command : Command) → Words words command → IsBuilt command → operands_of command ≡ []
+
+-- what a command answers on the texts of its operands
+pub data IsAnswerTo : Command → List (List ℕ) → Answer → Type 0 where
+  checked : {limit : Option ℕ} {input output sheet input_text output_text sheet_text : List ℕ} {answer : Answer} → Checks (most_rows limit) input output sheet input_text output_text sheet_text answer
+      → IsAnswerTo (check limit input output sheet) (input_text ∷ output_text ∷ sheet_text ∷ []) answer
+  ran : {sheet document sheet_text document_text : List ℕ} {answer : Answer} → RunsTexts sheet document sheet_text document_text answer
+      → IsAnswerTo (run sheet document) (sheet_text ∷ document_text ∷ []) answer
+  validated : {schema document schema_text document_text : List ℕ} {answer : Answer} → Validates schema document schema_text document_text answer
+      → IsAnswerTo (valid schema document) (schema_text ∷ document_text ∷ []) answer
+  shown : {size : ℕ} {answer : Answer} → Checks MOST_ROWS input_name output_name sheet_name (demo_schema size) (demo_schema size) demo_sheet answer
+      → IsAnswerTo (demo size) [] answer
+  compared_one_way : {first second first_text second_text : List ℕ} {answer : Answer} → Compares inclusion first second first_text second_text answer
+      → IsAnswerTo (include first second) (first_text ∷ second_text ∷ []) answer
+  compared_both_ways : {first second first_text second_text : List ℕ} {answer : Answer} → Compares equality first second first_text second_text answer
+      → IsAnswerTo (same first second) (first_text ∷ second_text ∷ []) answer
 
 -- an answer with its cause: the words, and what was read, in order
 pub data IsAnswer (words : List (List ℕ)) (reads : List Read) : Answer → Type 0 where
@@ -49,17 +58,8 @@ pub data IsAnswer (words : List (List ℕ)) (reads : List Read) : Answer → Typ
   not_read : {command : Command} {name : List ℕ} {fault : StoreFault} → Words words command → IsBuilt command → StopsAt (operands_of command) reads name fault → IsUnreadable fault
       → IsAnswer words reads (cannot_read name)
   over_long : {command : Command} {name : List ℕ} → Words words command → IsBuilt command → StopsAt (operands_of command) reads name TooLong → IsAnswer words reads file_limit
-  checked : {limit : Option ℕ} {input output sheet input_text output_text sheet_text : List ℕ} {answer : Answer} → Words words (check limit input output sheet)
-      → reads ≡ (input, Ok input_text) ∷ (output, Ok output_text) ∷ (sheet, Ok sheet_text) ∷ []
-      → Checks (most_rows limit) input output sheet input_text output_text sheet_text answer → IsAnswer words reads answer
-  validated : {schema document schema_text document_text : List ℕ} {answer : Answer} → Words words (valid schema document)
-      → reads ≡ (schema, Ok schema_text) ∷ (document, Ok document_text) ∷ []
-      → Validates schema document schema_text document_text answer → IsAnswer words reads answer
-  ran : {sheet document sheet_text document_text : List ℕ} {answer : Answer} → Words words (run sheet document)
-      → reads ≡ (sheet, Ok sheet_text) ∷ (document, Ok document_text) ∷ []
-      → RunsTexts sheet document sheet_text document_text answer → IsAnswer words reads answer
-  shown : {size : ℕ} {answer : Answer} → Words words (demo size) → reads ≡ []
-      → Checks MOST_ROWS input_name output_name sheet_name (demo_schema size) (demo_schema size) demo_sheet answer → IsAnswer words reads answer
+  decided : {command : Command} {texts : List (List ℕ)} {answer : Answer} → Words words command → IsBuilt command → AreRead (operands_of command) texts reads → IsAnswerTo command texts answer
+      → IsAnswer words reads answer
 
 -- The answer of held files, where no read fails.
 abbrev pub IsAnswerOn : List (List ℕ) → Files → Answer → Type 0

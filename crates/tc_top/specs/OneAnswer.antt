@@ -8,7 +8,7 @@ use Rattle.tc_model.specs.SheetTextTrees.{Template}
 use Rattle.tc_model.specs.SheetTextPhrases.{IsStylesheet}
 use Rattle.tc_model.specs.Trees.{Trees}
 use Rattle.tc_model.specs.XmlText.{XmlText}
-use Rattle.tc_answer.specs.Answers.{Answer, cannot_read, unsafe, unsafe_large, rows_limit, not_included, first_only, second_only, refused, work_limit, open_limit}
+use Rattle.tc_answer.specs.Answers.{Answer, cannot_read, unsafe, unsafe_large, not_included, first_only, second_only, rows_limit, refused, work_limit, open_limit}
 use Rattle.tc_top.specs.Answers.{IsAnswer, IsAnswerOn}
 use Rattle.tc_answer.specs.Lines.{RowCount}
 use Rattle.tc_read.specs.Refusals.{IsRefusedDocument, IsRefusedSheet}
@@ -22,18 +22,19 @@ IsOpen (Unsupported why) = Unit {0}
 IsOpen TooDeep = Unit {0}
 IsOpen _ = ⊥
 
--- One answer, but for what is left open: which least counterexample is shown, and so whether its result is; which least document of one of two schemas; which limit is told where several
--- numbers of rows pass theirs, and of a run that passes both; and for which of the reasons above, and where, the text of an operand is refused.
+-- One answer, but for what is left open: which least counterexample is shown, and so whether its result is; which least document two schemas
+-- are shown to differ by; which limit is told where several numbers of rows pass theirs, and of a run that passes both; and for which of the
+-- reasons above, and where, the text of an operand is refused.
 pub data AreAlike : Answer → Answer → Type 0 where
   same_answer : {a : Answer} → AreAlike a a
   counterexamples : {document result other_document other_result : Trees} → AreAlike (unsafe document result) (unsafe other_document other_result)
   large_counterexamples : {document other_document : Trees} → AreAlike (unsafe_large document) (unsafe_large other_document)
   large_or_not : {document result other_document : Trees} → AreAlike (unsafe document result) (unsafe_large other_document)
   not_large_or_large : {document other_document other_result : Trees} → AreAlike (unsafe_large document) (unsafe other_document other_result)
+  documents_not_included : {document other_document : Trees} → AreAlike (not_included document) (not_included other_document)
+  documents_of_first : {document other_document : Trees} → AreAlike (first_only document) (first_only other_document)
+  documents_of_second : {document other_document : Trees} → AreAlike (second_only document) (second_only other_document)
   row_limits : {count other_count : RowCount} {number other_number : ℕ} → AreAlike (rows_limit count number) (rows_limit other_count other_number)
-  differences : {document other_document : Trees} → AreAlike (not_included document) (not_included other_document)
-  firsts : {document other_document : Trees} → AreAlike (first_only document) (first_only other_document)
-  seconds : {document other_document : Trees} → AreAlike (second_only document) (second_only other_document)
   work_or_open : AreAlike work_limit open_limit
   open_or_work : AreAlike open_limit work_limit
   open_reasons : {name : List ℕ} {reason other_reason : Reason} {place other_place : ℕ} → IsOpen reason → IsOpen other_reason

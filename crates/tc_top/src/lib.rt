@@ -8,6 +8,7 @@ mod demo;
 pub mod laws;
 mod program;
 mod run;
+mod schemas;
 mod unread;
 mod valid;
 
@@ -36,6 +37,7 @@ use check::check;
 use demo::demo;
 pub use program::run_program;
 use run::run;
+use schemas::{include, same};
 use std::alloc::Global;
 use tc_answer::{Answer, Command, read_words, write_lines};
 pub use tc_answer::{Status, WordList};
@@ -140,7 +142,7 @@ fn answer_words<S: Store>(
         Command::Verify(..) => Answer::not_yet(alloc, "verify"),
         Command::Demo(size) => demo(alloc, size),
         Command::Upgrade(..) => Answer::not_yet(alloc, "upgrade"),
-        Command::Include(..) => Answer::not_yet(alloc, "include"),
-        Command::Same(..) => Answer::not_yet(alloc, "same"),
+        Command::Include(first, second) => include(alloc, first, second, store),
+        Command::Same(first, second) => same(alloc, first, second, store),
     }
 }
