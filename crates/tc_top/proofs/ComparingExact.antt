@@ -16,7 +16,7 @@ use Rattle.tc_print.proofs.ReadBack.{read_back}
 use Rattle.tc_top.specs.Comparing.{Question, inclusion, equality, AreCompiled, HasManyCovers, HasFewCovers, PassesCompiling, forward, backward, IsShown, IsOfOne, FindsInclusion, inclusion_passes, inclusion_covers, finds_included, finds_not_included, finds_none_shown, FindsEquality, equality_passes, equality_covers_forward, equality_covers_backward, finds_equal, finds_first_only, finds_second_only, finds_no_one_shown, FindsBoth}
 use Rattle.tc_top.specs.ComparedFiles.{AreKept, IsSo, Refutes, HasSmallRefutation, HasLargeRefutations, IsLeastRefutation, AreTooMany, in_inclusion, in_first, in_second, IsLimited, limited_before_rows, limited_in_rows, limited_in_nodes, ShowsSo, Shows, shows_difference, shows_first, shows_second, DecidesComparison}
 use Rattle.tc_top.specs.OneAnswer.{AreAlike, same_answer}
-use Rattle.tc_top.proofs.OneComparison.{over_compiling, one_compiling, not_into, not_of_one}
+use Rattle.tc_top.proofs.OneComparison.{over_compiling, one_compiling, not_different, equal_not_of_one}
 
 -- a document that can be shown is read back
 deep_within : (h : Trees) → nesting h ≤ node_count h
@@ -56,8 +56,8 @@ module _ (g h : Grammar) where
 
   -- what is so isn't refuted
   not_refuted : (question : Question) {document : Trees} → IsSo g h question → Refutes g h question document → ⊥
-  not_refuted inclusion into d = not_into into d
-  not_refuted equality (i, j) d = not_of_one i j d
+  not_refuted inclusion into d = not_different into d
+  not_refuted equality (i, j) d = equal_not_of_one i j d
 
   -- counts that are kept don't pass
   kept_few : (question : Question) {count : RowCount} → AreKept g h question → AreTooMany g h question count → ⊥

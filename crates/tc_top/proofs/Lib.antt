@@ -7,10 +7,9 @@ pub mod OneRun
 pub mod Checked
 pub mod Compiling
 pub mod Compared
-pub mod OneComparison
-pub mod ComparingExact
 pub mod OneCheck
 pub mod OneComparison
+pub mod ComparingExact
 pub mod Exact
 pub mod OneAnswer
 pub mod Headline

@@ -19,15 +19,15 @@ use Rattle.tc_rows.specs.Counts.{Counts}
 use Rattle.tc_top.specs.Comparing.{Question, inclusion, equality, HasManyCovers, HasFewCovers, AreCompiled, PassesCompiling, forward, backward, IsShown, IsOfOne}
 
 -- the words that ask this of two files
-abbrev pub asking : Question → List ℕ → List ℕ → Command
-asking inclusion first second = include first second
-asking equality first second = same first second
+abbrev pub asks : Question → List ℕ → List ℕ → Command
+asks inclusion first second = include first second
+asks equality first second = same first second
 
 -- the words ask this of held files, none longer than a file may be, whose texts spell two schemas
 pub record ComparesFiles (words : List (List ℕ)) (files : Files) (question : Question) (a b : Grammar) : Type 0 where
   pub first : List ℕ
   pub second : List ℕ
-  pub words_are : Words words (asking question first second)
+  pub words_are : Words words (asks question first second)
   pub first_text : List ℕ
   pub second_text : List ℕ
   pub first_held : files first ≡ Some first_text
