@@ -150,7 +150,7 @@ answers_one (shown x) (shown y) = checks_one x y
 answers_one (compared_one_way x) (compared_one_way y) = compares_one x y
 answers_one (compared_both_ways x) (compared_both_ways y) = compares_one x y
 
-alike_at : {one other answer : Answer} → one ≡ answer → other ≡ answer → AreAlike one other
+pub alike_at : {one other answer : Answer} → one ≡ answer → other ≡ answer → AreAlike one other
 alike_at {one} {other} {answer} p q = subst (λ a. AreAlike a other) (sym p) (subst (AreAlike answer) (sym q) same_answer)
 
 -- the answer to words and to what was read is one

@@ -15,10 +15,10 @@ use Rattle.tc_print.proofs.ReadBack.{read_back}
 use Rattle.tc_top.specs.Checking.{most_rows, IsCompiled, HasFewRows, AreRowCounts, IsLeastCounter, HasSmallCounter, HasLargeCounters}
 use Rattle.tc_top.specs.Headline.{IsCutShort, ChecksFiles, ChecksShortFiles, ShowsCounterexample, shows_both, shows_document, ShowsRun, shows_result, shows_large, IsLimited, limited_before_rows, limited_in_rows, limited_in_nodes, DecidesSafety, ValidatesFiles, DecidesValidity, RunsFiles, GivesResult}
 use Rattle.tc_answer.specs.Answers.{Answer, usage, not_yet, cannot_read, file_limit, safe, unsafe, unsafe_large, rows_limit, counterexample_limit, certificate, certificate_limit, accepted, rejected, included, not_included, equal, first_only, second_only, refused, over_limit, is_valid, is_invalid, has_result, work_limit, open_limit, status_of, text_of}
-use Rattle.tc_top.specs.Answers.{IsBuilt, IsAnswerTo, checked, ran, validated, shown, IsAnswer, Ends, Gives, KeepsToLimits}
+use Rattle.tc_top.specs.Answers.{IsBuilt, IsAnswerTo, checked, ran, validated, shown, IsAnswer, Ends, KeepsToLimits}
 use Rattle.tc_top.specs.Causes.{Finds, passes_compile, passes_rows, finds_safe, finds_unsafe, finds_large, finds_none_small, Runs, sheet_passes, too_much_work, too_open, gives_result, Checks, Validates, RunsTexts}
 use Rattle.tc_top.specs.AnswersSeen.{IsRightFor}
-use Rattle.tc_top.specs.OneAnswer.{AreAlike, same_answer, counterexamples, large_counterexamples, large_or_not, not_large_or_large, documents_not_included, documents_of_first, documents_of_second, row_limits, work_or_open, open_or_work, open_reasons, IsOfFault}
+use Rattle.tc_top.specs.OneAnswer.{AreAlike, same_answer, GivesOneLike, IsOfFault}
 use Rattle.tc_answer.specs.declared.answer.Answer.{Answer as Said}
 use Rattle.tc_answer.specs.declared.status.Status.{Status}
 use Rattle.tc_answer.specs.declared.status.Status.TheVariants.{Yes, No, Limit}
@@ -33,20 +33,6 @@ use Rattle.tc_top.proofs.OneCheck.{not_both, over_compile, one_compile, near_far
 use Rattle.tc_answer.proofs.OneCommand.{one_command}
 use Rattle.tc_top.proofs.OneValidity.{Settles, settles_valid, settles_invalid, settles}
 use Rattle.tc_top.proofs.OneRun.{one_result, runs_of, not_within, not_few, not_low}
-
-alike_status : {one other : Answer} → AreAlike one other → status_of other ≡ status_of one
-alike_status same_answer = refl
-alike_status counterexamples = refl
-alike_status large_counterexamples = refl
-alike_status large_or_not = refl
-alike_status not_large_or_large = refl
-alike_status documents_not_included = refl
-alike_status documents_of_first = refl
-alike_status documents_of_second = refl
-alike_status row_limits = refl
-alike_status work_or_open = refl
-alike_status open_or_work = refl
-alike_status (open_reasons o p) = refl
 
 -- a call that tells of a fault of reading is cut short
 pub cut_short : {rose : Type 0} (status : Status) (answer : Answer) → status ≡ status_of answer → IsOfFault rose answer → IsCutShort status rose
@@ -76,9 +62,10 @@ cut_short status (has_result result) e h = absurd h
 cut_short status work_limit e h = absurd h
 cut_short status open_limit e h = absurd h
 
-pub gives : {rose : Type 0} (status : Status) (one other : Answer) → status ≡ status_of other → Agrees rose one other → Gives status rose one
-gives status one other e (inl alike) = inl (e ∙ alike_status alike)
-gives status one other e (inr fault) = inr (cut_short status other e fault)
+pub gives : {rose : Type 0} (status : Status) (old new : Option (List ℕ)) (one other : Answer) → status ≡ status_of other → Appended old new (text_of other) → Agrees rose one other
+    → IsCutShort status rose ⊎ GivesOneLike status old new one
+gives status old new one other e written (inl alike) = inr (record { given = other; alike = alike; status_is = e; written = written })
+gives status old new one other e written (inr fault) = inl (cut_short status other e fault)
 
 -- an answer that is right for the same words
 pub at_words : {words other : List (List ℕ)} {happened : List Read → Type 0} {said : Said} → words ≡ other → IsRightFor words happened said → IsRightFor other happened said
