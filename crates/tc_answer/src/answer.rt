@@ -121,12 +121,12 @@ fn over(alloc: Global, word: &str, number: u32) -> Result<Answer, NoMemory>
 }
 
 /// The answer no, by some lines whose last one ends with a document.
-fn showing(alloc: Global, front: &[u8], document: &[Node<'_>]) -> Result<Answer, NoMemory>
-    ensures { IfOk result (λ said. (said.status ≡ Status.No) × (see_text said.text ≡ line (front.now ++ printed (trees document.now)))) }
+fn showing(alloc: Global, front: &[u8], last: &[Node<'_>]) -> Result<Answer, NoMemory>
+    ensures { IfOk result (λ said. (said.status ≡ Status.No) × (see_text said.text ≡ line (front.now ++ printed (trees last.now)))) }
 {
     let mut text = Buffer::new(alloc);
     text.put(front)?;
-    text.put_trees(document)?;
+    text.put_trees(last)?;
     text.put(b"\n")?;
     Ok(Answer {
         status: Status::No,
