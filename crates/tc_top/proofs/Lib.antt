@@ -9,6 +9,7 @@ pub mod Compiling
 pub mod Compared
 pub mod OneCheck
 pub mod OneComparison
+pub mod ComparingExact
 pub mod Exact
 pub mod OneAnswer
 pub mod Headline

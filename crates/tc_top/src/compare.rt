@@ -166,28 +166,47 @@ fn symbols_of(
     }
 }
 
+impl Pair<'_> {
+    /// Whether the first schema is included in the second.
+    fn forth<'d>(&self, alloc: Global, arena: &'d Bump) -> Result<Cover<'d>, InclFault>
+        requires pair { (a : g.Grammar) × (b : g.Grammar) × IsPairOf a b self.now }
+        ensures answer { IfOk result (λ c. (a b : g.Grammar) → IsPairOf a b self.now → IsAnswer (forward a b) MOST_ROWS c) }
+        ensures cause { IfErr result (λ e. (a b : g.Grammar) → IsPairOf a b self.now → IsCause (forward a b) MOST_ROWS e) }
+    {
+        included(arena, alloc, &self.first, &self.second, &self.alphabet, MOST_ROWS)
+    }
+
+    /// Whether the second schema is included in the first.
+    fn back<'d>(&self, alloc: Global, arena: &'d Bump) -> Result<Cover<'d>, InclFault>
+        requires pair { (a : g.Grammar) × (b : g.Grammar) × IsPairOf a b self.now }
+        ensures answer { IfOk result (λ c. (a b : g.Grammar) → IsPairOf a b self.now → IsAnswer (backward a b) MOST_ROWS c) }
+        ensures cause { IfErr result (λ e. (a b : g.Grammar) → IsPairOf a b self.now → IsCause (backward a b) MOST_ROWS e) }
+    {
+        included(arena, alloc, &self.second, &self.first, &self.alphabet, MOST_ROWS)
+    }
+}
+
 /// Whether the first of two schemas is included in the second.
 fn decide_inclusion(alloc: Global, arena: &Bump, pair: &Pair<'_>) -> Result<Answer, NoMemory>
     requires pair { (a : g.Grammar) × (b : g.Grammar) × IsPairOf a b pair.now }
     ensures { IfOk result (λ said. (a b : g.Grammar) → IsPairOf a b pair.now → (answer : a.Answer) × Says said answer × FindsInclusion a b answer) }
 {
-    match included(arena, alloc, &pair.first, &pair.second, &pair.alphabet, MOST_ROWS) {
-        Ok(forth) => tell_inclusion(alloc, &forth),
+    match pair.forth(alloc, arena) {
+        Ok(cover) => tell_inclusion(alloc, &cover),
         Err(fault) => covers_limit(alloc, fault),
     }
 }
 
-/// Whether two schemas have the same valid documents.
+/// Whether two schemas have the same valid documents. Both directions are decided before a document is told.
 fn decide_equality(alloc: Global, arena: &Bump, pair: &Pair<'_>) -> Result<Answer, NoMemory>
     requires pair { (a : g.Grammar) × (b : g.Grammar) × IsPairOf a b pair.now }
     ensures { IfOk result (λ said. (a b : g.Grammar) → IsPairOf a b pair.now → (answer : a.Answer) × Says said answer × FindsEquality a b answer) }
 {
-    let forth = match included(arena, alloc, &pair.first, &pair.second, &pair.alphabet, MOST_ROWS) {
-        Ok(cover) => cover,
-        Err(fault) => return covers_limit(alloc, fault),
-    };
-    match included(arena, alloc, &pair.second, &pair.first, &pair.alphabet, MOST_ROWS) {
-        Ok(back) => tell_equality(alloc, &forth, &back),
+    match pair.forth(alloc, arena) {
+        Ok(forth) => match pair.back(alloc, arena) {
+            Ok(back) => tell_equality(alloc, &forth, &back),
+            Err(fault) => covers_limit(alloc, fault),
+        },
         Err(fault) => covers_limit(alloc, fault),
     }
 }
