@@ -30,6 +30,8 @@ ghost use Rattle.tc_top.specs.Demo.{demo_schema, demo_sheet};
 ghost use Rattle.tc_answer.specs.declared.limits.TheConstants.{MOST_ROWS};
 ghost use Rattle.tc_top.specs.Headline.{IsCutShort, ChecksFiles, ChecksShortFiles, ShowsCounterexample, DecidesSafety, ValidatesFiles, DecidesValidity, RunsFiles, GivesResult};
 ghost use Rattle.tc_top.specs.OneAnswer.{GivesOneLike};
+ghost use Rattle.tc_top.specs.ComparedFiles.{ComparesFiles, DecidesComparison};
+ghost use Rattle.tc_top.specs.Comparing.{inclusion, equality};
 ghost use Rattle.tc_answer.specs.Words as w;
 ghost use Rattle.tc_answer.specs.Words.{Words, IsNoCommand, name_of};
 ghost use Rattle.tc_answer.specs.WordsSeen.{texts};
@@ -106,6 +108,16 @@ pub fn typecheck<S: Store, K: Sink>(
     ensures limited { (files : Files) (s : Sheet) (d : Trees) → S.holds store.old ≡ Some files → RunsFiles words.now files s d
         → IsCutShort result (Rose (S.faults store.old) (S.faults store.new))
         ⊎ KeepsToLimits result (K.written sink.old) (K.written sink.new) s d }
+
+    // `include` of held files is yes exactly where each document that is valid for the first schema is valid for the second, with the
+    // numbers of rows; no exactly where some document that can be shown isn't, with one of the fewest nodes; and else it tells of a limit
+    // that is passed. So is `same`, for documents that are valid for exactly one of both.
+    ensures inclusion { (files : Files) (g h : Grammar) → S.holds store.old ≡ Some files → ComparesFiles words.now files inclusion g h
+        → IsCutShort result (Rose (S.faults store.old) (S.faults store.new))
+        ⊎ DecidesComparison g h result (K.written sink.old) (K.written sink.new) inclusion }
+    ensures equality { (files : Files) (g h : Grammar) → S.holds store.old ≡ Some files → ComparesFiles words.now files equality g h
+        → IsCutShort result (Rose (S.faults store.old) (S.faults store.new))
+        ⊎ DecidesComparison g h result (K.written sink.old) (K.written sink.new) equality }
 
     // What is held stays as it is, and no count of faults falls.
     ensures held { S.holds store.new ≡ S.holds store.old }

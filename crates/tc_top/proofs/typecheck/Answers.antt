@@ -4,6 +4,7 @@ use Rattle.tc_answer.specs.Answers.{usage, not_yet}
 use Rattle.tc_top.specs.Answers.{answered, broken_off, out_of_memory}
 use Rattle.tc_top.proofs.Exact.{alike_at, exact, usage_only, refused_only}
 use Rattle.tc_top.proofs.Headline.{at_words, at_told, gives, headline, safe_is_so, unsafe_is_shown, demo_is_safe, demo_is_shown, demonstrated, validity, running, limited}
+use Rattle.tc_top.proofs.Comparisons.{includes, equals}
 use Rattle.tc_answer.specs.Words.{Words, name_of}
 use Rattle.tc_top.proofs.typecheck.Goals as goal
 
@@ -92,3 +93,15 @@ returns-in-Ok-write_lines-clause-limited g c = λ files s d told runs.
     let right = at_words c.as_slice.ensures c.in-Ok.ensures.right in
     let written = subst (Appended (g.K.Sink.written c.args.sink.now) (g.K.Sink.written c.write_lines.new.sink)) (c.as_bytes.ensures ∙ right.2.1.written) c.in-Ok-write_lines.ensures.ok in
     limited files s d _ _ _ right.2.0 runs (at_told _ right.0 told right.1.true) right.2.2 right.2.1.status written
+
+pub returns-in-Ok-write_lines-clause-inclusion : goal.returns-in-Ok-write_lines-clause-inclusion
+returns-in-Ok-write_lines-clause-inclusion g c = λ files x y told compares.
+    let right = at_words c.as_slice.ensures c.in-Ok.ensures.right in
+    let written = subst (Appended (g.K.Sink.written c.args.sink.now) (g.K.Sink.written c.write_lines.new.sink)) (c.as_bytes.ensures ∙ right.2.1.written) c.in-Ok-write_lines.ensures.ok in
+    includes files x y _ _ _ right.2.0 compares (at_told _ right.0 told right.1.true) right.2.2 right.2.1.status written
+
+pub returns-in-Ok-write_lines-clause-equality : goal.returns-in-Ok-write_lines-clause-equality
+returns-in-Ok-write_lines-clause-equality g c = λ files x y told compares.
+    let right = at_words c.as_slice.ensures c.in-Ok.ensures.right in
+    let written = subst (Appended (g.K.Sink.written c.args.sink.now) (g.K.Sink.written c.write_lines.new.sink)) (c.as_bytes.ensures ∙ right.2.1.written) c.in-Ok-write_lines.ensures.ok in
+    equals files x y _ _ _ right.2.0 compares (at_told _ right.0 told right.1.true) right.2.2 right.2.1.status written
