@@ -13,7 +13,8 @@ use Rattle.tc_top.specs.Comparing.{Question, inclusion, equality, Compares}
 use Rattle.tc_top.specs.Headline.{IsCutShort}
 use Rattle.tc_top.specs.OneAnswer.{IsOfFault}
 use Rattle.tc_top.proofs.ComparingExact.{decides}
-use Rattle.tc_top.proofs.Exact.{AreHeld, no_file, holds, AreShort, none_long, is_short, read_all}
+use Rattle.tc_answer.proofs.ReadsOnce.{AreHeld, no_file, holds, AreShort, none_long, is_short}
+use Rattle.tc_top.proofs.Exact.{read_all}
 use Rattle.tc_top.proofs.Headline.{cut_short}
 use Rattle.tc_top.proofs.OneComparison.{compared_of}
 

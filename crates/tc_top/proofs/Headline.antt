@@ -28,7 +28,8 @@ use Rattle.tc_read.specs.Sheets.{IsSheetOf}
 use Rattle.tc_top.specs.Demo.{demo_schema, demo_sheet, input_name, output_name, sheet_name}
 use Rattle.tc_answer.specs.declared.limits.TheConstants.{MOST_ROWS}
 use Rattle.tc_answer.specs.Words.{Words, check, run, valid, demo}
-use Rattle.tc_top.proofs.Exact.{Agrees, AreHeld, no_file, holds, AreShort, none_long, is_short, decided_only, shown_reads, read_all, held_decided}
+use Rattle.tc_answer.proofs.ReadsOnce.{AreHeld, no_file, holds, AreShort, none_long, is_short}
+use Rattle.tc_top.proofs.Exact.{Agrees, decided_only, shown_reads, read_all, held_decided}
 use Rattle.tc_top.proofs.OneCheck.{not_both, over_compile, one_compile, near_far, finds_of}
 use Rattle.tc_answer.proofs.OneCommand.{one_command}
 use Rattle.tc_top.proofs.OneValidity.{Settles, settles_valid, settles_invalid, settles}
