@@ -26,7 +26,7 @@ pub enum Text {
 }
 
 impl Text {
-    ghost use Rattle.tc_answer.specs.AnswersSeen.{text, Says};
+    ghost use Rattle.tc_answer.specs.AnswersSeen.{text};
 
     pub fn as_bytes(&self) -> &[u8]
         ensures { result.now ≡ text self.now }
@@ -135,6 +135,7 @@ fn showing(alloc: Global, front: &[u8], last: &[Node<'_>]) -> Result<Answer, NoM
 }
 
 impl Answer {
+    ghost use Rattle.tc_answer.specs.AnswersSeen.{Says};
 
     /// How the program is called.
     pub fn usage() -> Answer
@@ -242,7 +243,7 @@ impl Answer {
 
     /// The certificate isn't one, and why.
     pub fn rejected(alloc: Global, why: Rejection<'_>) -> Result<Answer, NoMemory>
-        ensures { IfOk result (λ said. Says said (a.rejected (rejection why))) }
+        ensures { IfOk result (λ said. Says said (a.rejected (rejection why.entry))) }
     {
         let mut text = Buffer::new(alloc);
         text.put(b"rejected ")?;
