@@ -213,7 +213,7 @@ held_texts files rose (name ∷ names) (text ∷ texts) (other ∷ others) (read
 
 -- held files that are short enough are read well, or a read failed
 
-held_true : (files : Files) (name bytes : List ℕ) → files name ≡ Some bytes → length bytes ≤ longest_file → IsTrue (Some files) ⊥ (name, Ok bytes)
+pub held_true : (files : Files) (name bytes : List ℕ) → files name ≡ Some bytes → length bytes ≤ longest_file → IsTrue (Some files) ⊥ (name, Ok bytes)
 held_true files name bytes held short = record {
   answers = λ other same. let h : files ≡ other = cc in subst (λ (f : Files). f name ≡ Some bytes) h held;
   short = short;
@@ -234,3 +234,11 @@ well_read files (name ∷ names) (text ∷ texts) (holds h hs) = (refl, well_rea
 pub well_true : (files : Files) (names texts : List (List ℕ)) → AreHeld files names texts → AreShort texts → AreTrue (Some files) ⊥ (well names texts)
 well_true files [] [] no_file s = tt
 well_true files (name ∷ names) (text ∷ texts) (holds h hs) (is_short s ss) = (held_true files name text h s, well_true files names texts hs ss)
+
+-- what was read is all that
+pub reads_are : (names texts : List (List ℕ)) (reads : List Read) → AreRead names texts reads → reads ≡ well names texts
+reads_are [] [] reads h = h
+reads_are [] (text ∷ texts) reads h = absurd h
+reads_are (name ∷ names) [] reads h = absurd h
+reads_are (name ∷ names) (text ∷ texts) [] h = absurd h
+reads_are (name ∷ names) (text ∷ texts) (read ∷ reads) h = ap (λ r. r ∷ reads) h.0 ∙ ap (λ rs. (name, Ok text) ∷ rs) (reads_are names texts reads h.1)

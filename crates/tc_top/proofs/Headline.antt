@@ -92,17 +92,17 @@ reads_back {document = document} least = read_back document (record { document =
 
 -- what a status isn't
 
-not_no : {status : Status} → status ≡ Yes → status ≡ No → ⊥
+pub not_no : {status : Status} → status ≡ Yes → status ≡ No → ⊥
 not_no e f = absurd (let g = sym e ∙ f in cc)
 
-not_limit : {status : Status} → status ≡ Yes → status ≡ Limit → ⊥
+pub not_limit : {status : Status} → status ≡ Yes → status ≡ Limit → ⊥
 not_limit e f = absurd (let g = sym e ∙ f in cc)
 
-no_limit : {status : Status} → status ≡ No → status ≡ Limit → ⊥
+pub no_limit : {status : Status} → status ≡ No → status ≡ Limit → ⊥
 no_limit e f = absurd (let g = sym e ∙ f in cc)
 
 -- the line of the one limit that is told
-compile_lines : (old new : Option (List ℕ)) {kind other : kinds.Limit} {number count : ℕ} → AreAlike (over_limit kind number) (over_limit other count) → Appended old new (text_of (over_limit kind number))
+pub compile_lines : (old new : Option (List ℕ)) {kind other : kinds.Limit} {number count : ℕ} → AreAlike (over_limit kind number) (over_limit other count) → Appended old new (text_of (over_limit kind number))
     → Appended old new (text_of (over_limit other count))
 compile_lines old new same_answer written = written
 
@@ -114,7 +114,7 @@ module _ (most : ℕ) (i o : Grammar) (s : Sheet) (status : Status) (old new : O
   Decides = DecidesSafety status old new most i o s
 
   -- what isn't limited
-  few_not_limited : IsCompiled i o s → HasFewRows i o s most → (HasLargeCounters i o s → ⊥) → IsLimited most i o s → ⊥
+  pub few_not_limited : IsCompiled i o s → HasFewRows i o s most → (HasLargeCounters i o s → ⊥) → IsLimited most i o s → ⊥
   few_not_limited w f n (limited_before_rows p) = over_compile p w
   few_not_limited w f n (limited_in_rows count v p) = f count p
   few_not_limited w f n (limited_in_nodes v g l) = n l
@@ -146,7 +146,7 @@ module _ (most : ℕ) (i o : Grammar) (s : Sheet) (status : Status) (old new : O
   }
 
   -- what is found decides all
-  decides : {answer : Answer} → status ≡ status_of answer → Appended old new (text_of answer) → Finds most i o s answer → Decides
+  pub decides : {answer : Answer} → status ≡ status_of answer → Appended old new (text_of answer) → Finds most i o s answer → Decides
   decides is written (passes_compile {kind = k} {number = n} p) = record {
     yes = (λ e. absurd (not_limit e is), λ x. absurd (over_compile p x.0));
     no = (λ e. absurd (no_limit e is), λ x. absurd (over_compile p x.0));
