@@ -55,8 +55,8 @@ read_well (name ∷ names) [] reads h = absurd h
 read_well (name ∷ names) (text ∷ texts) [] h = absurd h
 read_well (name ∷ names) (text ∷ texts) (read ∷ reads) h = (subst (λ (r : Read). IsWell r.1) (sym h.0) tt, read_well names texts reads h.1)
 
-pub never_stops : {names others texts : List (List ℕ)} {reads : List Read} {name : List ℕ} {fault : StoreFault} → AreRead names texts reads → StopsAt others reads name fault → ⊥
-never_stops {names} {others} {texts} {reads} r s = no_stop reads refl (read_well names texts reads r) s
+pub never_stops : {others : List (List ℕ)} {reads : List Read} {name : List ℕ} {fault : StoreFault} (names texts : List (List ℕ)) → AreRead names texts reads → StopsAt others reads name fault → ⊥
+never_stops {reads = reads} names texts r s = no_stop reads refl (read_well names texts reads r) s
 
 -- what was read are these texts
 text_same : {name other : List ℕ} {text found : List ℕ} (read : Read) → read ≡ (name, Ok text) → read ≡ (other, Ok found) → text ≡ found
@@ -204,6 +204,8 @@ pub held_texts : (files : Files) (rose : Type 0) (names texts found : List (List
     → found ≡ texts
 held_texts files rose [] [] [] reads no_file r true = refl
 held_texts files rose [] [] (other ∷ others) reads no_file r true = absurd r
+held_texts files rose [] (text ∷ texts) found reads none r true = elim none [ ]
+held_texts files rose (name ∷ names) [] found reads none r true = elim none [ ]
 held_texts files rose (name ∷ names) (text ∷ texts) [] reads (holds h hs) r true = absurd r
 held_texts files rose (name ∷ names) (text ∷ texts) (other ∷ others) [] (holds h hs) r true = absurd r
 held_texts files rose (name ∷ names) (text ∷ texts) (other ∷ others) (read ∷ reads) (holds h hs) r true =
@@ -229,10 +231,14 @@ well (name ∷ names) (text ∷ texts) = (name, Ok text) ∷ well names texts
 
 pub well_read : (files : Files) (names texts : List (List ℕ)) → AreHeld files names texts → AreRead names texts (well names texts)
 well_read files [] [] no_file = refl
+well_read files [] (text ∷ texts) none = elim none [ ]
+well_read files (name ∷ names) [] none = elim none [ ]
 well_read files (name ∷ names) (text ∷ texts) (holds h hs) = (refl, well_read files names texts hs)
 
 pub well_true : (files : Files) (names texts : List (List ℕ)) → AreHeld files names texts → AreShort texts → AreTrue (Some files) ⊥ (well names texts)
 well_true files [] [] no_file s = tt
+well_true files [] (text ∷ texts) none s = elim none [ ]
+well_true files (name ∷ names) [] none s = elim none [ ]
 well_true files (name ∷ names) (text ∷ texts) (holds h hs) (is_short s ss) = (held_true files name text h s, well_true files names texts hs ss)
 
 -- what was read is all that

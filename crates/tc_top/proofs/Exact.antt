@@ -59,15 +59,15 @@ stopped_only w b s (not_built v x r e) = absurd (x (subst IsBuilt (one_command w
 stopped_only {name = name} {fault = fault} w b s (not_read {name = found} {fault = other} v x t u) =
     sym (unreadable other found u) ∙ stopped_at other fault found name (one_stop (ap operands_of (one_command v w)) refl t s)
 stopped_only {name = name} {fault = fault} w b s (over_long {name = found} v x t) = stopped_at TooLong fault found name (one_stop (ap operands_of (one_command v w)) refl t s)
-stopped_only w b s (decided v x r y) = absurd (never_stops r s)
+stopped_only w b s (decided v x r y) = absurd (never_stops _ _ r s)
 
 -- where all operands are read, their texts decide
 pub decided_only : {words texts : List (List ℕ)} {reads : List Read} {answer : Answer} {command : Command} → Words words command → IsBuilt command → AreRead (operands_of command) texts reads
     → IsAnswer words reads answer → IsAnswerTo command texts answer
 decided_only w b r (no_command n e) = absurd (n _ w)
 decided_only w b r (not_built v x e f) = absurd (x (subst IsBuilt (one_command w v) b))
-decided_only w b r (not_read v c s u) = absurd (never_stops r s)
-decided_only w b r (over_long v c s) = absurd (never_stops r s)
+decided_only w b r (not_read v c s u) = absurd (never_stops _ _ r s)
+decided_only w b r (over_long v c s) = absurd (never_stops _ _ r s)
 decided_only {texts = texts} {reads} {answer} {command} w b r (decided {command = other} {texts = found} v c q x) =
     let same = one_command v w in
     let read : AreRead (operands_of command) found reads = subst (λ d. AreRead (operands_of d) found reads) same q in

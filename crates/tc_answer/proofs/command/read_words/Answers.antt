@@ -31,7 +31,7 @@ returns-in_ok-schema-in-valid c =
 pub returns-in_ok-read_size-in-demo : goal.returns-in_ok-read_size-in-demo
 returns-in_ok-read_size-in-demo c =
     let read = c.in_ok-read_size-in-demo.ensures in
-    shows (texts-parts _ _ _ _ (codes "demo") _ c.in_ok-name.ensures.cases.0 c.as_str.ensures.value c.in-demo.is read.1.0) read.1.1
+    shows (texts-parts _ _ _ _ (codes "demo") _ c.in_ok-name.ensures.cases.0 c.as_str.ensures.value c.in-demo.is read.1) read.2
 
 pub returns-in_ok-read_one-in-upgrade : goal.returns-in_ok-read_one-in-upgrade
 returns-in_ok-read_one-in-upgrade c =

@@ -1,4 +1,4 @@
-use Rattle.std.proofs.Common.{◌∷◌, [], ap, sym, subst, Ok}
+use Rattle.std.proofs.Common.{◌∷◌, [], ap, sym, subst, Ok, Err}
 use Rattle.tc_io.specs.Reads.{Happened}
 use Rattle.tc_io.proofs.ReadsInOrder.{happened_both}
 use Rattle.tc_read.proofs.Exits.{err_is}
@@ -16,14 +16,21 @@ returns-in_err-operands-clause-err g c =
 pub returns-in_err-certificate-clause-err : goal.returns-in_err-certificate-clause-err
 returns-in_err-certificate-clause-err g c =
     let read = c.in_ok-operands.ensures in
-    let last = c.in_err-certificate.ensures.err in
+    let operands = c.in_ok-operands.operands in
+    let input = operands.input in
+    let output = operands.output in
+    let sheet = operands.sheet in
     let certificate = c.args.certificate.now in
-    let here = unread_first certificate _ last.0 _ last.2 in
+    let last = c.in_err-certificate.ensures.err in
+    let fourth = unread_first certificate [] last.0 _ last.2 in
+    let third = unread_later sheet.name.now sheet.text.items (certificate ∷ []) _ _ fourth in
+    let second = unread_later output.name.now output.text.items (sheet.name.now ∷ certificate ∷ []) _ _ third in
+    let first = unread_later input.name.now input.text.items (output.name.now ∷ sheet.name.now ∷ certificate ∷ []) _ _ second in
     err_is c.from_residual-in_err-certificate.result _ _ c.from_residual-in_err-certificate.ensures.1 (
       _,
       happened_both _ _ _ _ _ _ _ _ read.ok last.1,
-      three_named (λ x y z. IsFirstUnread (x ∷ y ∷ z ∷ certificate ∷ []) _ _) (sym read.input) (sym read.output) (sym read.sheet)
-          (unread_later _ _ _ _ _ (unread_later _ _ _ _ _ (unread_later _ _ _ _ _ here))),
+      three_named (λ x y z. IsFirstUnread (x ∷ y ∷ z ∷ certificate ∷ []) (read_of input ∷ read_of output ∷ read_of sheet ∷ (certificate, Err last.0) ∷ []) c.in_err-certificate.field-0.0)
+          (sym read.input) (sym read.output) (sym read.sheet) first,
     )
 
 pub returns-clause-ok : goal.returns-clause-ok
