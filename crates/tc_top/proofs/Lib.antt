@@ -13,3 +13,4 @@ pub mod ComparingExact
 pub mod Exact
 pub mod OneAnswer
 pub mod Headline
+pub mod Comparisons

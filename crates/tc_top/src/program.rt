@@ -1,5 +1,5 @@
 // What a program does with its arguments.
-ghost use Rattle.std.specs.Prelude.{◌≡◌, ◌⊎◌, IfOk, OnErr, drop, map, string_bytes};
+ghost use Rattle.std.specs.Prelude.{◌≡◌, ◌≢◌, ◌⊎◌, [], IfOk, OnErr, drop, map, string_bytes};
 ghost use Rattle.std.specs.Process.{exit_status};
 ghost use Rattle.std.specs.Vec.Iter.{into_iter_items};
 ghost use Rattle.tc_io.specs.Faults.{Rose};
@@ -63,7 +63,8 @@ fn word_list(alloc: Global, arguments: io::Result<Args>) -> Result<WordList, NoM
 
 /// The words behind the first one.
 fn words_behind_name(alloc: Global, arguments: Args) -> Result<WordList, NoMemory>
-    ensures { IfOk result (λ words. words ≡ map string_bytes (drop 1 (into_iter_items arguments))) }
+    ensures lack { OnErr result (drop 1 (into_iter_items arguments) ≢ []) }
+    ensures words { IfOk result (λ words. words ≡ map string_bytes (drop 1 (into_iter_items arguments))) }
 {
     let mut arguments = arguments;
     let _name = arguments.next();
