@@ -1,5 +1,5 @@
 -- Where the rows of lists of trees lead, as code holds it.
-use Rattle.std.specs.Prelude.{◌≡◌, ◌↔◌, ◌⊎◌, ◌+◌, ℕ, List, length, Bool, true, false, Some, slice_get}
+use Rattle.std.specs.Prelude.{◌≡◌, ◌↔◌, ◌⊎◌, ◌+◌, ℕ, length, Bool, true, false}
 use Rattle.tc_auto.specs.Stands as a
 use Rattle.tc_auto.specs.declared.auto.Auto.{Auto}
 use Rattle.tc_model.specs.Grammars.{Grammar}

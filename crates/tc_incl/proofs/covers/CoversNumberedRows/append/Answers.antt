@@ -2,10 +2,8 @@ use Rattle.std.proofs.Common.{◌≡◌, ◌<◌, subst, sym, ◌∙◌, ap, ref
 use Rattle.std.proofs.lemmas.Option.{slice_get-get_or}
 use Rattle.tc_incl.specs.declared.rows.Row.{Row}
 use Rattle.tc_incl.specs.declared.steps.BothSteps.{BothSteps}
-use Rattle.tc_incl.specs.Schemas.{Schemas}
-use Rattle.tc_incl.specs.Arithmetic.{IsLiveAppend}
 use Rattle.tc_incl.specs.Held.{IsHedgeFit, IsAppended, NoAppended}
-use Rattle.tc_incl.specs.Covers.{AreHeld, State, hedge_at, tree_at}
+use Rattle.tc_incl.specs.Covers.{AreHeld, State}
 use Rattle.tc_incl.specs.Stepped.{AreStepped}
 use Rattle.tc_incl.proofs.Holding.{append_at, as_hedge, hedge_fit_at, hedge_held, hedge_low, more_hedges, no_append_at, row_of, same_hedges, tree_fit_at, tree_low}
 use Rattle.tc_incl.proofs.Stepped.{steps_at, stepped_held}

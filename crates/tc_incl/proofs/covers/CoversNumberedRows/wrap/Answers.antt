@@ -2,9 +2,7 @@ use Rattle.std.proofs.Common.{◌≡◌, ◌<◌, subst, sym, ◌∙◌, ap, ref
 use Rattle.std.proofs.lemmas.Option.{slice_get-get_or}
 use Rattle.tc_incl.specs.declared.rows.Row.{Row}
 use Rattle.tc_incl.specs.declared.steps.BothSteps.{BothSteps}
-use Rattle.tc_incl.specs.Schemas.{Schemas}
-use Rattle.tc_incl.specs.Arithmetic.{IsLiveWrap}
-use Rattle.tc_incl.specs.Covers.{AreHeld, State, hedge_at}
+use Rattle.tc_incl.specs.Covers.{AreHeld, State}
 use Rattle.tc_incl.specs.Held.{IsTreeFit, IsWrapped, NoWrapped}
 use Rattle.tc_incl.specs.Stepped.{AreStepped}
 use Rattle.tc_incl.proofs.Holding.{as_tree, hedge_fit_at, hedge_low, more_trees, no_wrap_at, same_trees, tree_held, wrap_at}

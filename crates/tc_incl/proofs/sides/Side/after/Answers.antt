@@ -1,5 +1,4 @@
-use Rattle.std.proofs.Common.{◌≡◌, ◌+◌, ◌∙◌, sym, ap, subst, length}
-use Rattle.tc_sets.specs.Numbers.{Numbers}
+use Rattle.std.proofs.Common.{◌+◌, ◌∙◌, sym, ap, subst}
 use Rattle.tc_incl.specs.Sides.{AreOfSize}
 use Rattle.tc_incl.proofs.Stepped.{put_after}
 use Rattle.tc_incl.proofs.sides.Side.after.Goals as goal
