@@ -1,5 +1,5 @@
-use Rattle.std.proofs.Common.{subst, codes, List, ℕ}
-use Rattle.tc_answer.specs.Words.{AreOperands, IsNumeral, checks, proves, verifies, runs, validates, shows, upgrades, includes, compares}
+use Rattle.std.proofs.Common.{subst, codes}
+use Rattle.tc_answer.specs.Words.{AreOperands, checks, proves, verifies, runs, validates, shows, upgrades, includes, compares}
 use Rattle.tc_answer.proofs.Named.{texts-first, texts-parts}
 use Rattle.tc_answer.proofs.command.read_words.Goals as goal
 
