@@ -1,6 +1,7 @@
 pub mod Found
 pub mod Listed
 pub mod Taken
+pub mod Stepped
 pub mod Keys
 pub mod Made
 pub mod Linked

@@ -7,5 +7,7 @@ pub mod Laws
 pub mod Sets
 pub mod Sides
 pub mod Held
+pub mod Steps
+pub mod Stepped
 pub mod Covers
 pub mod Answers

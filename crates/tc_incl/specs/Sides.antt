@@ -1,5 +1,5 @@
 -- What sets of states and of element patterns of one schema are worked out from.
-use Rattle.std.specs.Prelude.{◌≡◌, ◌≤◌, ◌↔◌, ◌⊎◌, ◌+◌, ℕ, List, Bool, true, false, Some, slice_get, All, length}
+use Rattle.std.specs.Prelude.{◌≡◌, ◌<◌, ◌≤◌, ◌↔◌, ◌⊎◌, ◌+◌, ℕ, List, Bool, true, false, Some, slice_get, All, length}
 use Rattle.tc_model.specs.Names.{ExpandedName}
 use Rattle.tc_model.specs.Grammars.{Grammar, ElementPattern, element_at, InClass}
 use Rattle.tc_model.specs.States.{input, text_leaf, ref_leaf, automaton, first_state, IsEdge}
@@ -9,6 +9,10 @@ use Rattle.tc_sets.specs.Numbers.{Numbers, Has}
 -- all sets are of numbers below one
 abbrev pub AreOfSize : ℕ → List Numbers → Type 0
 AreOfSize n sets = All (λ s. s.size ≡ n) sets
+
+-- a number is in the set at one of the first so many places, where its place is told to be one of these, from 1
+abbrev pub IsAtSome : List Numbers → Numbers → ℕ → ℕ → Type 0
+IsAtSome sets places n j = (k : ℕ) × (s : Numbers) × (k < n) × Has places (k + 1) × (slice_get sets k ≡ Some s) × Has s j
 
 module _ (g : Grammar) where
   -- the class of an element pattern holds a name
@@ -31,7 +35,15 @@ module _ (g : Grammar) where
   abbrev pub IsAfterText : Numbers → ℕ → Type 0
   IsAfterText states j = (i : ℕ) × Has states i × IsEdge g input i text_leaf j
 
-  -- and so does an element by one of the first so many element patterns
+  -- and so does an element by an element pattern
+  abbrev pub IsAfterPattern : Numbers → ℕ → ℕ → Type 0
+  IsAfterPattern states k j = (i : ℕ) × Has states i × IsEdge g input i (ref_leaf k) j
+
+  -- by each of the first ones, in order
+  abbrev pub AreAfterPatterns : Numbers → List Numbers → Type 0
+  AreAfterPatterns states ends = (k : ℕ) (s : Numbers) → slice_get ends k ≡ Some s → (j : ℕ) → Has s j ↔ IsAfterPattern states (k + 1) j
+
+  -- by one of the first so many element patterns
   abbrev pub IsAfterElement : Numbers → Numbers → ℕ → ℕ → Type 0
   IsAfterElement states patterns n j = (k : ℕ) × (1 ≤ k) × (k ≤ n) × Has patterns k × ((i : ℕ) × Has states i × IsEdge g input i (ref_leaf k) j)
 

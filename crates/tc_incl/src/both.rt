@@ -3,6 +3,7 @@ ghost use Rattle.std.specs.Prelude.{◌≡◌, length};
 
 use crate::rows::Row;
 use crate::sides::Side;
+use crate::steps::BothSteps;
 use std::alloc::Global;
 use tc_alpha::Alphabet;
 use tc_auto::Auto;
@@ -25,6 +26,8 @@ impl<'c, 'b> Both<'c, 'b> {
     ghost use Rattle.tc_auto.specs.Stands as a;
     ghost use Rattle.tc_incl.specs.Held.{AreTold, Fails, IsAppended, IsHedgeFit, IsNone, IsText, IsTreeFit, IsWrapped, NoAppended, NoText, NoWrapped, Passes};
     ghost use Rattle.tc_incl.specs.Schemas.{Schemas};
+    ghost use Rattle.tc_incl.specs.Stepped.{AreBothSteps};
+    ghost use Rattle.tc_incl.specs.declared.rows.Row.{Row};
     ghost use Rattle.tc_model.specs.States as s;
 
     /// Two schemas by the symbols of an alphabet.
@@ -77,20 +80,36 @@ impl<'c, 'b> Both<'c, 'b> {
         }))
     }
 
+    /// Where the states of the row of a list of trees lead.
+    pub(crate) fn steps(&self, hedge: &Row) -> Result<BothSteps, NoMemory>
+        requires { IsHedgeFit self.now hedge.now }
+        ensures { IfOk result (λ r. AreBothSteps self.now hedge.now r) }
+    {
+        let first = self.first.steps(&hedge.first)?;
+        let second = self.second.steps(&hedge.second)?;
+        Ok(BothSteps { first, second })
+    }
+
     /// The row of trees with one more behind them, where they are live.
-    pub(crate) fn appended(&self, hedge: &Row, tree: &Row) -> Result<Option<Row>, NoMemory>
+    pub(crate) fn appended(
+        &self,
+        hedge: &Row,
+        steps: &BothSteps,
+        tree: &Row,
+    ) -> Result<Option<Row>, NoMemory>
         requires hedge { IsHedgeFit self.now hedge.now }
+        requires steps { AreBothSteps self.now hedge.now steps.now }
         requires tree { IsTreeFit self.now tree.now }
         ensures made { IfOk result (λ o. MatchOption o (NoAppended self.now hedge.now tree.now) (λ u. IsHedgeFit self.now u × IsAppended self.now hedge.now tree.now u)) }
     {
         if hedge.text && tree.text {
             return Ok(None);
         }
-        let first = self.first.after(&hedge.first, tree.text, &tree.first)?;
+        let first = self.first.after(&steps.first, tree.text, &tree.first)?;
         if first.is_empty() {
             return Ok(None);
         }
-        let second = self.second.after(&hedge.second, tree.text, &tree.second)?;
+        let second = self.second.after(&steps.second, tree.text, &tree.second)?;
         Ok(Some(Row {
             text: tree.text,
             first,
@@ -98,17 +117,18 @@ impl<'c, 'b> Both<'c, 'b> {
         }))
     }
 
-    /// The row of an element of a symbol around trees, where it is live.
-    pub(crate) fn wrapped(&self, symbol: u32, hedge: &Row) -> Result<Option<Row>, NoMemory>
+    /// The row of an element of a symbol around trees, by where their states lead, where it is live.
+    pub(crate) fn wrapped(&self, symbol: u32, steps: &BothSteps) -> Result<Option<Row>, NoMemory>
         requires symbol { symbol < self.now.symbols }
-        requires hedge { IsHedgeFit self.now hedge.now }
-        ensures made { IfOk result (λ o. MatchOption o (NoWrapped self.now symbol hedge.now) (λ u. IsTreeFit self.now u × IsWrapped self.now symbol hedge.now u)) }
+        requires steps { (h : Row) × AreBothSteps self.now h steps.now }
+        ensures made { IfOk result (λ o. (h : Row) → IsHedgeFit self.now h → AreBothSteps self.now h steps.now
+            → MatchOption o (NoWrapped self.now symbol h) (λ u. IsTreeFit self.now u × IsWrapped self.now symbol h u)) }
     {
-        let first = self.first.around(symbol, &hedge.first)?;
+        let first = self.first.around(symbol, &steps.first)?;
         if first.is_empty() {
             return Ok(None);
         }
-        let second = self.second.around(symbol, &hedge.second)?;
+        let second = self.second.around(symbol, &steps.second)?;
         Ok(Some(Row {
             text: false,
             first,

@@ -1,7 +1,12 @@
 // The cover rows of two schemas, held by their numbers.
+ghost use Rattle.std.specs.Prelude.{◌<◌, All, OnOk, length};
+ghost use Rattle.tc_incl.specs.Held.{IsHedgeFit};
+ghost use Rattle.tc_incl.specs.Stepped.{AreStepped};
+
 use crate::both::Both;
 use crate::over::Over;
 use crate::rows::{Row, hold};
+use crate::steps::BothSteps;
 use indexmap::IndexSet;
 use std::alloc::Global;
 use std::marker::{Model, PhantomData};
@@ -16,17 +21,44 @@ pub(crate) struct Covers<'c, 'g, K: Over> {
     both: Both<'c, 'g>,
     hedges: IndexSet<Row>,
     trees: IndexSet<Row>,
+    /// Where the first rows of lists of trees lead.
+    steps: Vec<BothSteps>,
     over: PhantomData<K>,
 }
 
 impl<'c, 'g, K: Over> Model for Covers<'c, 'g, K> {
     ghost use Rattle.tc_incl.specs.Covers.{AreHeld, State, state_of};
+    ghost use Rattle.tc_incl.specs.Stepped.{AreStepped};
 
     ghost Value = { State };
 
     ghost view = { λ p. state_of p.both p.hedges.keys p.trees.keys };
 
-    ghost invariant = { λ p. AreHeld K.is_of p.both p.hedges.keys p.trees.keys };
+    ghost invariant = { λ p. AreHeld K.is_of p.both p.hedges.keys p.trees.keys × AreStepped p.both p.hedges.keys p.steps.items };
+}
+
+/// Works out where rows of lists of trees lead, up to one of them.
+///
+/// # Errors
+///
+/// There is no memory; what was worked out stays.
+fn step_to(
+    both: &Both<'_, '_>,
+    hedges: &[Row],
+    steps: &mut Vec<BothSteps>,
+    hedge: u32,
+) -> Result<(), NoMemory>
+    requires hedge { hedge < length hedges.now }
+    requires fit { All (IsHedgeFit both.now) hedges.now }
+    requires stepped { AreStepped both.now hedges.now steps.old.items }
+    ensures stepped { AreStepped both.now hedges.now steps.new.items }
+    ensures there { OnOk result (hedge < length steps.new.items) }
+{
+    for place in steps.len()..hedge as usize + 1 {
+        let more = both.steps(&hedges[place])?;
+        steps.push(more)?;
+    }
+    Ok(())
 }
 
 impl<'c, 'g, K: Over> Covers<'c, 'g, K> {
@@ -51,6 +83,7 @@ impl<'c, 'g, K: Over> Covers<'c, 'g, K> {
             both,
             hedges: IndexSet::new(alloc),
             trees: IndexSet::new(alloc),
+            steps: Vec::new(alloc),
             over: PhantomData,
         })
     }
@@ -122,9 +155,12 @@ impl<'c, 'g, K: Over> NumberedRows for Covers<'c, 'g, K> {
     }
 
     fn append(&mut self, hedge: u32, tree: u32) -> Result<Option<u32>, HoldFault> {
+        let Ok(()) = step_to(&self.both, self.hedges.as_slice(), &mut self.steps, hedge) else {
+            return Err(HoldFault::NoMemory);
+        };
         let front = &self.hedges.as_slice()[hedge as usize];
         let last = &self.trees.as_slice()[tree as usize];
-        let Ok(made) = self.both.appended(front, last) else {
+        let Ok(made) = self.both.appended(front, &self.steps[hedge as usize], last) else {
             return Err(HoldFault::NoMemory);
         };
         let Some(row) = made else {
@@ -137,8 +173,10 @@ impl<'c, 'g, K: Over> NumberedRows for Covers<'c, 'g, K> {
     }
 
     fn wrap(&mut self, symbol: u32, hedge: u32) -> Result<Option<u32>, HoldFault> {
-        let inside = &self.hedges.as_slice()[hedge as usize];
-        let Ok(made) = self.both.wrapped(symbol, inside) else {
+        let Ok(()) = step_to(&self.both, self.hedges.as_slice(), &mut self.steps, hedge) else {
+            return Err(HoldFault::NoMemory);
+        };
+        let Ok(made) = self.both.wrapped(symbol, &self.steps[hedge as usize]) else {
             return Err(HoldFault::NoMemory);
         };
         let Some(row) = made else {

@@ -11,5 +11,6 @@ pub mod laws;
 mod over;
 mod rows;
 mod sides;
+mod steps;
 
 pub use inclusion::{Cover, InclFault, included};

@@ -3,13 +3,15 @@ ghost use Rattle.std.specs.Prelude.{◌≡◌, ◌<◌, ◌≤◌, ◌↔◌, �
 ghost use Rattle.std.specs.List.{Contains};
 ghost use Rattle.tc_auto.specs.Arrows.{AreWithin};
 ghost use Rattle.tc_auto.specs.Stands as a;
-ghost use Rattle.tc_incl.specs.Sides.{AreAllowed, AreOfSize, IsAllowed};
+ghost use Rattle.tc_incl.specs.Sides.{AreAllowed, AreOfSize, IsAllowed, IsAtSome};
+ghost use Rattle.tc_incl.specs.Steps.{IsLed};
 ghost use Rattle.tc_model.specs.Grammars as g;
 ghost use Rattle.tc_model.specs.States as s;
 ghost use Rattle.tc_model.specs.Symbols.{symbol_count};
 ghost use Rattle.tc_model.specs.Views as see;
 ghost use Rattle.tc_sets.specs.Numbers.{Has};
 
+use crate::steps::Steps;
 use bumpalo::Bump;
 use std::alloc::Global;
 use tc_alpha::{Alphabet, Sym};
@@ -93,12 +95,42 @@ fn put_ends(arrows: &[Arrow], states: &Set, ends: &mut Set)
     }
 }
 
+/// Puts the states to which an element leads by element patterns, of which the first is 1.
+fn put_after(ends: &[Set], patterns: &Set, next: &mut Set)
+    requires count { patterns.now.size ≡ length ends.now + 1 }
+    requires sizes { AreOfSize next.old.size ends.now }
+    ensures size { next.new.size ≡ next.old.size }
+    ensures numbers { (j : ℕ) → Has next.new j ↔ (Has next.old j ⊎ IsAtSome ends.now patterns.now (length ends.now) j) }
+{
+    for before in 0..patterns.size() - 1 {
+        if patterns.has(before + 1) {
+            next.add_all(&ends[before as usize]);
+        }
+    }
+}
+
+/// Puts the states to which a tree leads: a text, or an element that matches element patterns.
+fn put_steps(steps: &Steps, is_text: bool, patterns: &Set, next: &mut Set)
+    requires count { patterns.now.size ≡ length steps.now.elements.items + 1 }
+    requires sizes { AreOfSize next.old.size steps.now.elements.items }
+    requires text { steps.now.text.size ≡ next.old.size }
+    ensures size { next.new.size ≡ next.old.size }
+    ensures numbers { (j : ℕ) → Has next.new j ↔ (Has next.old j ⊎ IsLed steps.now is_text patterns.now j) }
+{
+    if is_text {
+        next.add_all(&steps.text);
+    } else {
+        put_after(steps.elements.as_slice(), patterns, next);
+    }
+}
+
 impl<'c, 'b> Side<'c, 'b> {
     ghost use Rattle.std.specs.Prelude.{◌≡◌, ◌<◌, ◌≤◌, ◌↔◌, ◌+◌, ℕ, List, IfOk, IsTrue, length};
     ghost use Rattle.tc_auto.specs.Stands as a;
     ghost use Rattle.tc_incl.specs.Arithmetic.{is_start};
     ghost use Rattle.tc_incl.specs.Sets.{members};
-    ghost use Rattle.tc_incl.specs.Sides.{AreAllowed, IsAfter, IsAfterElement, IsAfterText, IsAllowed, IsBegun, IsTaken};
+    ghost use Rattle.tc_incl.specs.Sides.{AreAfterPatterns, AreAllowed, AreOfSize, IsAfter, IsAfterPattern, IsAfterText, IsAllowed, IsBegun, IsTaken};
+    ghost use Rattle.tc_incl.specs.Steps.{AreSteps};
     ghost use Rattle.tc_model.specs.Grammars as g;
     ghost use Rattle.tc_model.specs.States as s;
     ghost use Rattle.tc_model.specs.Symbols.{Mention, fresh_name, symbol_count};
@@ -168,37 +200,83 @@ impl<'c, 'b> Side<'c, 'b> {
         Ok(next)
     }
 
-    /// The states to which an element that matches element patterns leads states.
-    fn after_element(&self, states: &Set, patterns: &Set) -> Result<Set, NoMemory>
-        requires states { states.now.size ≡ a.states self.now.auto.now }
-        requires patterns { patterns.now.size ≡ self.now.end }
-        ensures set { IfOk result (λ r. IsSet r) }
+    /// The states to which an element leads states by an element pattern.
+    fn after_pattern(&self, states: &Set, number: u32) -> Result<Set, NoMemory>
+        requires from_one { 1 ≤ number }
+        requires within { number ≤ a.patterns self.now.auto.now }
+        requires size { states.now.size ≡ a.states self.now.auto.now }
         ensures size { IfOk result (λ r. r.size ≡ a.states self.now.auto.now) }
-        ensures numbers { IfOk result (λ r. (x : g.Grammar) → a.Stands s.input x self.now.auto.now → (j : ℕ) → Has r j ↔ IsAfterElement x states.now patterns.now (length x.elements) j) }
+        ensures numbers { IfOk result (λ r. (x : g.Grammar) → a.Stands s.input x self.now.auto.now → (j : ℕ) → Has r j ↔ IsAfterPattern x states.now number j) }
     {
         let mut next = Set::empty(self.alloc, self.auto.states())?;
-        for before in 0..self.auto.patterns() {
-            if patterns.has(before + 1) {
-                put_ends(self.auto.arrows(before + 1), states, &mut next);
-            }
-        }
-        let _size = next.size();
+        put_ends(self.auto.arrows(number), states, &mut next);
         Ok(next)
     }
 
-    /// The states to which a tree leads states: a text, or an element that matches element patterns.
-    pub(crate) fn after(&self, states: &Set, is_text: bool, patterns: &Set) -> Result<Set, NoMemory>
-        requires states { states.now.size ≡ a.states self.now.auto.now }
+    /// The same by each element pattern, in order.
+    fn after_patterns(&self, states: &Set) -> Result<Vec<Set>, NoMemory>
+        requires { states.now.size ≡ a.states self.now.auto.now }
+        ensures count { IfOk result (λ r. length r.items ≡ a.patterns self.now.auto.now) }
+        ensures sizes { IfOk result (λ r. AreOfSize (a.states self.now.auto.now) r.items) }
+        ensures numbers { IfOk result (λ r. (x : g.Grammar) → a.Stands s.input x self.now.auto.now → AreAfterPatterns x states.now r.items) }
+    {
+        let mut next = Vec::new(self.alloc);
+        for before in 0..self.auto.patterns() {
+            let ends = self.after_pattern(states, before + 1)?;
+            next.push(ends)?;
+        }
+        Ok(next)
+    }
+
+    /// The element patterns of which the content accepts in one of the states.
+    fn taken(&self, states: &Set) -> Result<Set, NoMemory>
+        requires { states.now.size ≡ a.states self.now.auto.now }
+        ensures size { IfOk result (λ r. r.size ≡ self.now.end) }
+        ensures from_one { IfOk result (λ r. ¬ Has r 0) }
+        ensures numbers { IfOk result (λ r. (x : g.Grammar) → a.Stands s.input x self.now.auto.now → (k : ℕ) → Has r k ↔ IsTaken x states.now k) }
+    {
+        let mut taken = Set::empty(self.alloc, self.end)?;
+        for before in 0..self.auto.patterns() {
+            if self.is_taken(states, before + 1) {
+                taken.add(before + 1);
+            }
+        }
+        Ok(taken)
+    }
+
+    /// Where trees lead states, and what is matched around them: edges are gone over here alone.
+    pub(crate) fn steps(&self, states: &Set) -> Result<Steps, NoMemory>
+        requires { states.now.size ≡ a.states self.now.auto.now }
+        ensures { IfOk result (λ r. AreSteps self.now.auto.now states.now r) }
+    {
+        let text = self.after_text(states)?;
+        let elements = self.after_patterns(states)?;
+        let taken = self.taken(states)?;
+        Ok(Steps {
+            text,
+            elements,
+            taken,
+        })
+    }
+
+    /// The states to which a tree leads states, by where they lead: a text, or an element that matches element patterns.
+    pub(crate) fn after(
+        &self,
+        steps: &Steps,
+        is_text: bool,
+        patterns: &Set,
+    ) -> Result<Set, NoMemory>
+        requires steps { (states : Numbers) × AreSteps self.now.auto.now states steps.now }
         requires patterns { patterns.now.size ≡ self.now.end }
         ensures set { IfOk result (λ r. IsSet r) }
         ensures size { IfOk result (λ r. r.size ≡ a.states self.now.auto.now) }
-        ensures numbers { IfOk result (λ r. (x : g.Grammar) → a.Stands s.input x self.now.auto.now → (j : ℕ) → Has r j ↔ IsAfter x states.now is_text patterns.now j) }
+        ensures numbers { IfOk result (λ r. (x : g.Grammar) (states : Numbers) → a.Stands s.input x self.now.auto.now → AreSteps self.now.auto.now states steps.now
+            → (j : ℕ) → Has r j ↔ IsAfter x states is_text patterns.now j) }
     {
-        if is_text {
-            self.after_text(states)
-        } else {
-            self.after_element(states, patterns)
-        }
+        let mut next = Set::empty(self.alloc, self.auto.states())?;
+        put_steps(steps, is_text, patterns, &mut next);
+        let _size = next.size();
+        Ok(next)
     }
 
     /// Whether one of the states is one in which the content of an element pattern accepts.
@@ -218,22 +296,19 @@ impl<'c, 'b> Side<'c, 'b> {
         false
     }
 
-    /// The element patterns that an element of a symbol matches around trees that lead to states.
-    pub(crate) fn around(&self, symbol: u32, states: &Set) -> Result<Set, NoMemory>
+    /// The element patterns that an element of a symbol matches around trees, by where their states lead.
+    pub(crate) fn around(&self, symbol: u32, steps: &Steps) -> Result<Set, NoMemory>
         requires symbol { symbol < length self.now.allowed.items }
-        requires states { states.now.size ≡ a.states self.now.auto.now }
+        requires steps { (states : Numbers) × AreSteps self.now.auto.now states steps.now }
         ensures set { IfOk result (λ r. IsSet r) }
         ensures size { IfOk result (λ r. r.size ≡ self.now.end) }
         ensures from_one { IfOk result (λ r. ¬ Has r 0) }
-        ensures numbers { IfOk result (λ r. (x : g.Grammar) (symbols : List Mention) → a.Stands s.input x self.now.auto.now → AreAllowed x symbols self.now.allowed.items → (k : ℕ) → Has r k ↔ (IsAllowed x (fresh_name symbols symbol) k × IsTaken x states.now k)) }
+        ensures numbers { IfOk result (λ r. (x : g.Grammar) (states : Numbers) (symbols : List Mention) → a.Stands s.input x self.now.auto.now → AreSteps self.now.auto.now states steps.now
+            → AreAllowed x symbols self.now.allowed.items → (k : ℕ) → Has r k ↔ (IsAllowed x (fresh_name symbols symbol) k × IsTaken x states k)) }
     {
-        let allowed = &self.allowed[symbol as usize];
         let mut around = Set::empty(self.alloc, self.end)?;
-        for before in 0..self.auto.patterns() {
-            if allowed.has(before + 1) && self.is_taken(states, before + 1) {
-                around.add(before + 1);
-            }
-        }
+        around.add_all(&self.allowed[symbol as usize]);
+        around.keep_all(&steps.taken);
         let _size = around.size();
         Ok(around)
     }

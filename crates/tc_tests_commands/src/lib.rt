@@ -8,6 +8,8 @@ mod checks;
 #[cfg(test)]
 mod demonstrations;
 #[cfg(test)]
+mod inclusion;
+#[cfg(test)]
 mod runs;
 #[cfg(test)]
 mod validations;

@@ -18,12 +18,14 @@ use Rattle.tc_rows.specs.Triples.{Triple, IsTriple}
 use Rattle.tc_rules.specs.Kept.{IsRulesOf, told}
 use Rattle.tc_run.specs.Limits.{IsCause}
 use Rattle.tc_run.specs.declared.RunFault.TheVariants.{TooMuchWork, TooOpen}
-use Rattle.tc_top.specs.Answers.{Answer, Finds, finds_safe, finds_unsafe, finds_large, finds_none_small, Checks, safe, counterexample_limit}
+use Rattle.tc_answer.specs.Answers.{Answer, safe, counterexample_limit}
+use Rattle.tc_top.specs.Causes.{Finds, finds_safe, finds_unsafe, finds_large, finds_none_small, Checks}
 use Rattle.tc_top.specs.AnswersSeen.{IsRunOf, run_within, run_large}
-use Rattle.tc_top.specs.Checking.{trees, hedges, outputs, IsCompiled, HasFewRows, IsLeastCounter, IsLargeRun}
+use Rattle.tc_answer.specs.Lines.{trees, hedges, outputs}
+use Rattle.tc_top.specs.Checking.{IsCompiled, HasFewRows, IsLeastCounter, IsLargeRun}
 use Rattle.tc_close.specs.Triples.{IsTripleOf}
 use Rattle.tc_top.specs.Compiled.{IsReadOf}
-use Rattle.tc_top.specs.declared.limits.TheConstants.{MOST_OUTPUTS}
+use Rattle.tc_answer.specs.declared.limits.TheConstants.{MOST_OUTPUTS}
 use Rattle.tc_close.proofs.Agreeing.{triples_agree}
 
 -- the grammar that a text spells is that of its schema

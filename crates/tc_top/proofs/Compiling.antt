@@ -124,7 +124,7 @@ pub some_grammar : (s : Schema) → IsSpelled s → (x : Grammar) × IsReadOf x 
 some_grammar s (bytes, h) = let found = read_of bytes s h in (found.0, found.2)
 
 -- a small one's is well-formed; one that is too large has no automaton, so that it need not be
-lawful : (x : Grammar) (s : Schema) → IsSpelled s → IsReadOf x s → IsWithinCounts x → IsGrammar x × IsStart x.start
+pub lawful : (x : Grammar) (s : Schema) → IsSpelled s → IsReadOf x s → IsWithinCounts x → IsGrammar x × IsStart x.start
 lawful x (Small g) (bytes, h) read w =
     let grammar = lawful_grammar bytes (see.grammar g) h.0 in
     let start = lawful_start h.0.0 (see.grammar g) h.0.2 in

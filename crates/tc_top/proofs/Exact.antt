@@ -6,74 +6,18 @@ use Rattle.tc_io.specs.declared.StoreFault.{StoreFault}
 use Rattle.tc_io.specs.declared.StoreFault.TheVariants.{Missing, Failed, TooLong, NoMemory}
 use Rattle.tc_top.specs.Checking.{most_rows}
 use Rattle.tc_top.specs.Demo.{demo_schema, demo_sheet, input_name, output_name, sheet_name}
-use Rattle.tc_top.specs.declared.limits.TheConstants.{MOST_ROWS}
+use Rattle.tc_answer.specs.declared.limits.TheConstants.{MOST_ROWS}
 use Rattle.tc_top.specs.OneAnswer.{AreAlike, same_answer, IsOfFault}
-use Rattle.tc_top.specs.Words.{Command, check, run, valid, demo, Words, IsNoCommand, name_of, operands_of}
-use Rattle.tc_top.specs.Reading.{StopsAt, at_first, past_first, IsUnreadable}
-use Rattle.tc_top.specs.Answers.{Answer, usage, not_yet, cannot_read, file_limit, IsBuilt, Checks, Validates, RunsTexts, IsAnswer, no_command, not_built, not_read, over_long, checked, validated, ran, shown}
-use Rattle.tc_top.proofs.OneCommand.{one_command}
+use Rattle.tc_answer.specs.Words.{Command, check, run, valid, demo, Words, IsNoCommand, name_of, operands_of}
+use Rattle.tc_answer.specs.Reading.{StopsAt, at_first, past_first, IsUnreadable, AreRead}
+use Rattle.tc_answer.specs.Answers.{Answer, usage, not_yet, cannot_read, file_limit}
+use Rattle.tc_top.specs.Answers.{IsBuilt, IsAnswerTo, checked, ran, validated, shown, compared_one_way, compared_both_ways, IsAnswer, no_command, not_built, not_read, over_long, decided}
+use Rattle.tc_answer.proofs.OneCommand.{one_command}
+use Rattle.tc_answer.proofs.ReadsOnce.{never_stops, one_stop, one_texts, Follows, stop_follows, memory_no, long_memory, all_follow, no_reads, FailsIn, same_reads, AreHeld, holds, AreShort, well, well_read, well_true, held_texts}
 use Rattle.tc_top.proofs.OneValidity.{validates_one}
 use Rattle.tc_top.proofs.OneRun.{runs_texts_one}
 use Rattle.tc_top.proofs.OneCheck.{checks_one}
-
--- lists and reads that are the same
-
-cons_same : {X : Type 0} {x y : X} {xs ys : List X} → x ∷ xs ≡ y ∷ ys → (x ≡ y) × (xs ≡ ys)
-cons_same e = (cc, cc)
-
-read_same : {a c : List ℕ} {b d : Came} {xs ys : List Read} → (a, b) ∷ xs ≡ (c, d) ∷ ys → (a ≡ c) × (b ≡ d) × (xs ≡ ys)
-read_same e = let h = cons_same e in (ap (λ p. p.0) h.0, ap (λ p. p.1) h.0, h.1)
-
-ok_same : (x y : List ℕ) → ◌≡◌ {A = Came} (Ok x) (Ok y) → x ≡ y
-ok_same x y e = cc
-
-err_same : (x y : StoreFault) → ◌≡◌ {A = Came} (Err x) (Err y) → x ≡ y
-err_same x y e = cc
-
-ok_err : (x : List ℕ) (y : StoreFault) → ◌≡◌ {A = Came} (Ok x) (Err y) → ⊥
-ok_err x y e = absurd (cc)
-
--- reads that stop at a name, and not at another
-
-one_stop : {names others : List (List ℕ)} {reads same : List Read} {name found : List ℕ} {fault other : StoreFault} → names ≡ others → reads ≡ same → StopsAt names reads name fault
-    → StopsAt others same found other → (name ≡ found) × (fault ≡ other)
-one_stop e f (at_first p q) (at_first r s) = let two = read_same (sym q ∙ (f ∙ s)) in (two.0, err_same _ _ two.1)
-one_stop e f (at_first p q) (past_first r s x) = absurd (ok_err _ _ (sym (read_same (sym q ∙ (f ∙ s))).1))
-one_stop e f (past_first p q x) (at_first r s) = absurd (ok_err _ _ (read_same (sym q ∙ (f ∙ s))).1)
-one_stop e f (past_first p q x) (past_first r s y) = one_stop (cons_same (sym p ∙ (e ∙ r))).1 (read_same (sym q ∙ (f ∙ s))).2 x y
-
--- reads of which each is Ok
-
-abbrev IsWell : Came → Type 0
-IsWell (Ok text) = Unit {0}
-IsWell (Err fault) = ⊥
-
-abbrev AreWell : List Read → Type 0
-AreWell [] = Unit {0}
-AreWell (read ∷ reads) = IsWell read.1 × AreWell reads
-
-no_stop : {names : List (List ℕ)} {reads : List Read} {name : List ℕ} {fault : StoreFault} (well : List Read) → reads ≡ well → AreWell well → StopsAt names reads name fault → ⊥
-no_stop [] same w (at_first p q) = absurd (cc)
-no_stop [] same w (past_first p q x) = absurd (cc)
-no_stop (read ∷ well) same w (at_first p q) = let h = cons_same (sym same ∙ q) in subst (λ x. IsWell x.1) h.0 w.0
-no_stop (read ∷ well) same w (past_first p q x) = let h = cons_same (sym same ∙ q) in no_stop well (sym h.1) w.1 x
-
-no_stop_two : {names : List (List ℕ)} {reads : List Read} {name a b c d : List ℕ} {fault : StoreFault} → reads ≡ (a, Ok c) ∷ (b, Ok d) ∷ [] → StopsAt names reads name fault → ⊥
-no_stop_two r s = no_stop _ r (tt, (tt, tt)) s
-
-no_stop_three : {names : List (List ℕ)} {reads : List Read} {name a b e c d f : List ℕ} {fault : StoreFault} → reads ≡ (a, Ok c) ∷ (b, Ok d) ∷ (e, Ok f) ∷ [] → StopsAt names reads name fault → ⊥
-no_stop_three r s = no_stop _ r (tt, (tt, (tt, tt))) s
-
-checks_same : {most most' : ℕ} {input output sheet b c d input' output' sheet' b' c' d' : List ℕ} {answer : Answer} → most ≡ most' → input ≡ input' → output ≡ output' → sheet ≡ sheet' → b ≡ b' → c ≡ c' → d ≡ d'
-    → Checks most' input' output' sheet' b' c' d' answer → Checks most input output sheet b c d answer
-checks_same {most} {most'} {input} {output} {sheet} {b} {c} {d} {input'} {output'} {sheet'} {b'} {c'} {d'} {answer} m p q r s t u h =
-    subst (λ n. Checks n input output sheet b c d answer) (sym m)
-    (subst (λ v. Checks most' v output sheet b c d answer) (sym p)
-    (subst (λ v. Checks most' input' v sheet b c d answer) (sym q)
-    (subst (λ v. Checks most' input' output' v b c d answer) (sym r)
-    (subst (λ v. Checks most' input' output' sheet' v c d answer) (sym s)
-    (subst (λ v. Checks most' input' output' sheet' b' v d answer) (sym t)
-    (subst (λ v. Checks most' input' output' sheet' b' c' v answer) (sym u) h))))))
+use Rattle.tc_top.proofs.OneComparison.{compares_one}
 
 -- words of no command have the usage as their answer
 pub usage_only : {words : List (List ℕ)} {reads : List Read} {answer : Answer} → IsNoCommand words → IsAnswer words reads answer → answer ≡ usage
@@ -81,10 +25,7 @@ usage_only n (no_command m e) = refl
 usage_only n (not_built w x r e) = absurd (n _ w)
 usage_only n (not_read w b s u) = absurd (n _ w)
 usage_only n (over_long w b s) = absurd (n _ w)
-usage_only n (checked w r x) = absurd (n _ w)
-usage_only n (validated w r x) = absurd (n _ w)
-usage_only n (ran w r x) = absurd (n _ w)
-usage_only n (shown w r x) = absurd (n _ w)
+usage_only n (decided w b r x) = absurd (n _ w)
 
 -- a command that isn't carried out is refused by its name
 pub refused_only : {words : List (List ℕ)} {reads : List Read} {answer : Answer} {command : Command} → Words words command → (IsBuilt command → ⊥) → IsAnswer words reads answer
@@ -93,10 +34,7 @@ refused_only w x (no_command n e) = absurd (n _ w)
 refused_only w x (not_built v y r e) = ap not_yet (e ∙ ap name_of (one_command v w))
 refused_only w x (not_read v b s u) = absurd (x (subst IsBuilt (one_command v w) b))
 refused_only w x (over_long v b s) = absurd (x (subst IsBuilt (one_command v w) b))
-refused_only w x (checked v r y) = absurd (x (subst IsBuilt (one_command v w) tt))
-refused_only w x (validated v r y) = absurd (x (subst IsBuilt (one_command v w) tt))
-refused_only w x (ran v r y) = absurd (x (subst IsBuilt (one_command v w) tt))
-refused_only w x (shown v r y) = absurd (x (subst IsBuilt (one_command v w) tt))
+refused_only w x (decided v b r y) = absurd (x (subst IsBuilt (one_command v w) b))
 
 -- what is answered where the reads stop
 abbrev stopped : StoreFault → List ℕ → Answer
@@ -121,89 +59,31 @@ stopped_only w b s (not_built v x r e) = absurd (x (subst IsBuilt (one_command w
 stopped_only {name = name} {fault = fault} w b s (not_read {name = found} {fault = other} v x t u) =
     sym (unreadable other found u) ∙ stopped_at other fault found name (one_stop (ap operands_of (one_command v w)) refl t s)
 stopped_only {name = name} {fault = fault} w b s (over_long {name = found} v x t) = stopped_at TooLong fault found name (one_stop (ap operands_of (one_command v w)) refl t s)
-stopped_only w b s (checked v r x) = absurd (no_stop_three r s)
-stopped_only w b s (validated v r x) = absurd (no_stop_two r s)
-stopped_only w b s (ran v r x) = absurd (no_stop_two r s)
-stopped_only w b s (shown v r x) = absurd (no_stop _ r tt s)
+stopped_only w b s (decided v x r y) = absurd (never_stops _ _ r s)
 
--- where all operands are read, the texts decide
-pub checked_only : {words : List (List ℕ)} {reads : List Read} {answer : Answer} {limit : Option ℕ} {input output sheet b c d : List ℕ} → Words words (check limit input output sheet)
-    → reads ≡ (input, Ok b) ∷ (output, Ok c) ∷ (sheet, Ok d) ∷ [] → IsAnswer words reads answer → Checks (most_rows limit) input output sheet b c d answer
-checked_only w r (no_command n e) = absurd (n _ w)
-checked_only w r (not_built v x e f) = absurd (x (subst IsBuilt (one_command w v) tt))
-checked_only w r (not_read v b s u) = absurd (no_stop_three r s)
-checked_only w r (over_long v b s) = absurd (no_stop_three r s)
-checked_only {limit = limit} w r (checked {limit = other} v q x) =
-    let one = read_same (sym r ∙ q) in
-    let two = read_same one.2 in
-    let three = read_same two.2 in
-    let command = one_command w v in
-    let limits : limit ≡ other = cc in
-    checks_same (ap most_rows limits) one.0 two.0 three.0 (ok_same _ _ one.1) (ok_same _ _ two.1) (ok_same _ _ three.1) x
-checked_only w r (validated v q x) = let other = one_command w v in absurd (cc)
-checked_only w r (ran v q x) = let other = one_command w v in absurd (cc)
-checked_only w r (shown v q x) = let other = one_command w v in absurd (cc)
+-- where all operands are read, their texts decide
+pub decided_only : {words texts : List (List ℕ)} {reads : List Read} {answer : Answer} {command : Command} → Words words command → IsBuilt command → AreRead (operands_of command) texts reads
+    → IsAnswer words reads answer → IsAnswerTo command texts answer
+decided_only w b r (no_command n e) = absurd (n _ w)
+decided_only w b r (not_built v x e f) = absurd (x (subst IsBuilt (one_command w v) b))
+decided_only w b r (not_read v c s u) = absurd (never_stops _ _ r s)
+decided_only w b r (over_long v c s) = absurd (never_stops _ _ r s)
+decided_only {texts = texts} {reads} {answer} {command} w b r (decided {command = other} {texts = found} v c q x) =
+    let same = one_command v w in
+    let read : AreRead (operands_of command) found reads = subst (λ d. AreRead (operands_of d) found reads) same q in
+    let one = one_texts (operands_of command) found texts reads read r in
+    subst (λ ts. IsAnswerTo command ts answer) one (subst (λ d. IsAnswerTo d found answer) same x)
 
-validates_same : {schema document b c schema' document' b' c' : List ℕ} {answer : Answer} → schema ≡ schema' → document ≡ document' → b ≡ b' → c ≡ c'
-    → Validates schema' document' b' c' answer → Validates schema document b c answer
-validates_same {schema} {document} {b} {c} {schema'} {document'} {b'} {c'} {answer} p q s t h =
-    subst (λ v. Validates v document b c answer) (sym p)
-    (subst (λ v. Validates schema' v b c answer) (sym q)
-    (subst (λ v. Validates schema' document' v c answer) (sym s)
-    (subst (λ v. Validates schema' document' b' v answer) (sym t) h)))
+-- the answer of a command on texts is one
+answers_one : {command : Command} {texts : List (List ℕ)} {one other : Answer} → IsAnswerTo command texts one → IsAnswerTo command texts other → AreAlike one other
+answers_one (checked x) (checked y) = checks_one x y
+answers_one (ran x) (ran y) = runs_texts_one x y
+answers_one (validated x) (validated y) = validates_one x y
+answers_one (shown x) (shown y) = checks_one x y
+answers_one (compared_one_way x) (compared_one_way y) = compares_one x y
+answers_one (compared_both_ways x) (compared_both_ways y) = compares_one x y
 
-pub validated_only : {words : List (List ℕ)} {reads : List Read} {answer : Answer} {schema document b c : List ℕ} → Words words (valid schema document)
-    → reads ≡ (schema, Ok b) ∷ (document, Ok c) ∷ [] → IsAnswer words reads answer → Validates schema document b c answer
-validated_only w r (no_command n e) = absurd (n _ w)
-validated_only w r (not_built v x e f) = absurd (x (subst IsBuilt (one_command w v) tt))
-validated_only w r (not_read v b s u) = absurd (no_stop_two r s)
-validated_only w r (over_long v b s) = absurd (no_stop_two r s)
-validated_only w r (checked v q x) = let other = one_command w v in absurd (cc)
-validated_only w r (ran v q x) = let other = one_command w v in absurd (cc)
-validated_only w r (shown v q x) = let other = one_command w v in absurd (cc)
-validated_only w r (validated v q x) =
-    let one = read_same (sym r ∙ q) in
-    let two = read_same one.2 in
-    validates_same one.0 two.0 (ok_same _ _ one.1) (ok_same _ _ two.1) x
-
-runs_texts_same : {sheet document b c sheet' document' b' c' : List ℕ} {answer : Answer} → sheet ≡ sheet' → document ≡ document' → b ≡ b' → c ≡ c'
-    → RunsTexts sheet' document' b' c' answer → RunsTexts sheet document b c answer
-runs_texts_same {sheet} {document} {b} {c} {sheet'} {document'} {b'} {c'} {answer} p q s t h =
-    subst (λ v. RunsTexts v document b c answer) (sym p)
-    (subst (λ v. RunsTexts sheet' v b c answer) (sym q)
-    (subst (λ v. RunsTexts sheet' document' v c answer) (sym s)
-    (subst (λ v. RunsTexts sheet' document' b' v answer) (sym t) h)))
-
-pub ran_only : {words : List (List ℕ)} {reads : List Read} {answer : Answer} {sheet document b c : List ℕ} → Words words (run sheet document)
-    → reads ≡ (sheet, Ok b) ∷ (document, Ok c) ∷ [] → IsAnswer words reads answer → RunsTexts sheet document b c answer
-ran_only w r (no_command n e) = absurd (n _ w)
-ran_only w r (not_built v x e f) = absurd (x (subst IsBuilt (one_command w v) tt))
-ran_only w r (not_read v b s u) = absurd (no_stop_two r s)
-ran_only w r (over_long v b s) = absurd (no_stop_two r s)
-ran_only w r (checked v q x) = let other = one_command w v in absurd (cc)
-ran_only w r (validated v q x) = let other = one_command w v in absurd (cc)
-ran_only w r (shown v q x) = let other = one_command w v in absurd (cc)
-ran_only w r (ran v q x) =
-    let one = read_same (sym r ∙ q) in
-    let two = read_same one.2 in
-    runs_texts_same one.0 two.0 (ok_same _ _ one.1) (ok_same _ _ two.1) x
-
--- the texts of a demonstration decide
-pub shown_only : {words : List (List ℕ)} {reads : List Read} {answer : Answer} {size : ℕ} → Words words (demo size) → reads ≡ [] → IsAnswer words reads answer
-    → Checks MOST_ROWS input_name output_name sheet_name (demo_schema size) (demo_schema size) demo_sheet answer
-shown_only w r (no_command n e) = absurd (n _ w)
-shown_only w r (not_built v x e f) = absurd (x (subst IsBuilt (one_command w v) tt))
-shown_only w r (not_read v b s u) = absurd (no_stop _ r tt s)
-shown_only w r (over_long v b s) = absurd (no_stop _ r tt s)
-shown_only w r (checked v q x) = let other = one_command w v in absurd (cc)
-shown_only w r (validated v q x) = let other = one_command w v in absurd (cc)
-shown_only w r (ran v q x) = let other = one_command w v in absurd (cc)
-shown_only {answer = answer} {size = size} w r (shown {size = other} v q x) =
-    let command = one_command w v in
-    let sizes : other ≡ size = cc in
-    subst (λ n. Checks MOST_ROWS input_name output_name sheet_name (demo_schema n) (demo_schema n) demo_sheet answer) sizes x
-
-alike_at : {one other answer : Answer} → one ≡ answer → other ≡ answer → AreAlike one other
+pub alike_at : {one other answer : Answer} → one ≡ answer → other ≡ answer → AreAlike one other
 alike_at {one} {other} {answer} p q = subst (λ a. AreAlike a other) (sym p) (subst (AreAlike answer) (sym q) same_answer)
 
 -- the answer to words and to what was read is one
@@ -212,35 +92,7 @@ by_reads (no_command n e) y = alike_at refl (usage_only n y)
 by_reads (not_built w x r e) y = alike_at (ap not_yet e) (refused_only w x y)
 by_reads (not_read {name = name} {fault = fault} w b s u) y = alike_at (sym (unreadable fault name u)) (stopped_only w b s y)
 by_reads (over_long w b s) y = alike_at refl (stopped_only w b s y)
-by_reads (checked w r x) y = checks_one x (checked_only w r y)
-by_reads (validated w r x) y = validates_one x (validated_only w r y)
-by_reads (ran w r x) y = runs_texts_one x (ran_only w r y)
-by_reads (shown w r x) y = checks_one x (shown_only w r y)
-
--- The names are read in order up to the first read that isn't Ok, which isn't for want of memory.
-pub data Follows : List (List ℕ) → List Read → Type 0 where
-  no_name : {names : List (List ℕ)} {reads : List Read} → names ≡ [] → reads ≡ [] → Follows names reads
-  stops : {names rest : List (List ℕ)} {reads : List Read} {name : List ℕ} {fault : StoreFault} → names ≡ name ∷ rest → reads ≡ (name, Err fault) ∷ [] → (fault ≡ NoMemory → ⊥) → Follows names reads
-  goes_on : {names rest : List (List ℕ)} {reads more : List Read} {name text : List ℕ} → names ≡ name ∷ rest → reads ≡ (name, Ok text) ∷ more → Follows rest more → Follows names reads
-
-stop_follows : {names : List (List ℕ)} {reads : List Read} {name : List ℕ} {fault : StoreFault} → (fault ≡ NoMemory → ⊥) → StopsAt names reads name fault → Follows names reads
-stop_follows n (at_first p q) = stops p q n
-stop_follows n (past_first p q x) = goes_on p q (stop_follows n x)
-
-memory_no : (fault : StoreFault) → IsUnreadable fault → fault ≡ NoMemory → ⊥
-memory_no Missing u e = absurd (cc)
-memory_no Failed u e = absurd (cc)
-memory_no TooLong u e = absurd u
-memory_no NoMemory u e = absurd u
-
-long_memory : TooLong ≡ NoMemory → ⊥
-long_memory e = absurd (cc)
-
-two_follow : {reads : List Read} {a b c d : List ℕ} → reads ≡ (a, Ok c) ∷ (b, Ok d) ∷ [] → Follows (a ∷ b ∷ []) reads
-two_follow r = goes_on refl r (goes_on refl refl (no_name refl refl))
-
-three_follow : {reads : List Read} {a b e c d f : List ℕ} → reads ≡ (a, Ok c) ∷ (b, Ok d) ∷ (e, Ok f) ∷ [] → Follows (a ∷ b ∷ e ∷ []) reads
-three_follow r = goes_on refl r (goes_on refl refl (goes_on refl refl (no_name refl refl)))
+by_reads (decided w b r x) y = answers_one x (decided_only w b r y)
 
 -- what a command reads to be answered
 follows : {words : List (List ℕ)} {reads : List Read} {answer : Answer} {command : Command} → Words words command → IsBuilt command → IsAnswer words reads answer → Follows (operands_of command) reads
@@ -248,103 +100,11 @@ follows w b (no_command n e) = absurd (n _ w)
 follows w b (not_built v x r e) = absurd (x (subst IsBuilt (one_command w v) b))
 follows {reads = reads} w b (not_read {fault = fault} v x s u) = subst (λ c. Follows (operands_of c) reads) (one_command v w) (stop_follows (memory_no fault u) s)
 follows {reads = reads} w b (over_long v x s) = subst (λ c. Follows (operands_of c) reads) (one_command v w) (stop_follows long_memory s)
-follows {reads = reads} w b (checked v r x) = subst (λ c. Follows (operands_of c) reads) (one_command v w) (three_follow r)
-follows {reads = reads} w b (validated v r x) = subst (λ c. Follows (operands_of c) reads) (one_command v w) (two_follow r)
-follows {reads = reads} w b (ran v r x) = subst (λ c. Follows (operands_of c) reads) (one_command v w) (two_follow r)
-follows {reads = reads} w b (shown v r x) = subst (λ c. Follows (operands_of c) reads) (one_command v w) (no_name refl r)
-
--- of one file, two outcomes that are true where no read fails, and where some did
-
-some_is : {A : Type 0} (x y : A) → Some x ≡ Some y → x ≡ y
-some_is x y e = cc
-
-same_bytes : {file : Option (List ℕ)} (one other : List ℕ) → file ≡ Some one → file ≡ Some other → one ≡ other
-same_bytes one other p q = some_is _ _ (sym p ∙ q)
-
-long_short : {file : Option (List ℕ)} (bytes long : List ℕ) → file ≡ Some bytes → length bytes ≤ longest_file → file ≡ Some long → longest_file < length long → ⊥
-long_short bytes long p q r s =
-    let same : length long ≡ length bytes = ap length (same_bytes long bytes r p) in
-    omega (arith, q, s, same)
-
-missing_some : {file : Option (List ℕ)} (bytes : List ℕ) → file ≡ None → file ≡ Some bytes → ⊥
-missing_some bytes p q = let h = sym p ∙ q in absurd (cc)
-
-same_came : (files : Files) (rose : Type 0) (name : List ℕ) (one other : Came) → (one ≡ Err NoMemory → ⊥) → (other ≡ Err NoMemory → ⊥) → IsTrue (Some files) ⊥ (name, one) → IsTrue (Some files) rose (name, other)
-    → (one ≡ other) ⊎ ((other ≡ Err Failed) × rose)
-same_came files rose name one (Err Failed) n m t u = inr (refl, u.failed refl)
-same_came files rose name one (Err NoMemory) n m t u = absurd (m refl)
-same_came files rose name (Err Failed) other n m t u = absurd (t.failed refl)
-same_came files rose name (Err NoMemory) other n m t u = absurd (n refl)
-same_came files rose name (Ok bytes) (Ok more) n m t u = inl (ap Ok (same_bytes bytes more (t.answers files refl) (u.answers files refl)))
-same_came files rose name (Ok bytes) (Err Missing) n m t u = absurd (missing_some bytes (u.answers files refl) (t.answers files refl))
-same_came files rose name (Ok bytes) (Err TooLong) n m t u = let l = u.answers files refl in absurd (long_short bytes l.0 (t.answers files refl) t.short l.1 l.2)
-same_came files rose name (Err Missing) (Ok bytes) n m t u = absurd (missing_some bytes (t.answers files refl) (u.answers files refl))
-same_came files rose name (Err Missing) (Err Missing) n m t u = inl refl
-same_came files rose name (Err Missing) (Err TooLong) n m t u = let l = u.answers files refl in absurd (missing_some l.0 (t.answers files refl) l.1)
-same_came files rose name (Err TooLong) (Ok bytes) n m t u = let l = t.answers files refl in absurd (long_short bytes l.0 (u.answers files refl) u.short l.1 l.2)
-same_came files rose name (Err TooLong) (Err Missing) n m t u = let l = t.answers files refl in absurd (missing_some l.0 (u.answers files refl) l.1)
-same_came files rose name (Err TooLong) (Err TooLong) n m t u = inl refl
-
--- the reads of the same names in the same files are the same, or one of them failed
-abbrev FailsIn : Type 0 → List (List ℕ) → List Read → Type 0
-FailsIn rose names reads = rose × ((name : List ℕ) × StopsAt names reads name Failed)
-
--- the first of the reads, and what follows it
-data Goes (name : List ℕ) (rest : List (List ℕ)) : List Read → Type 0 where
-  goes : {reads : List Read} (came : Came) (more : List Read) → reads ≡ (name, came) ∷ more → (came ≡ Err NoMemory → ⊥)
-      → ((text : List ℕ) → came ≡ Ok text → Follows rest more) → ((fault : StoreFault) → came ≡ Err fault → more ≡ []) → Goes name rest reads
-
-first_read : {name : List ℕ} {rest names : List (List ℕ)} {reads : List Read} → names ≡ name ∷ rest → Follows names reads → Goes name rest reads
-first_read same (no_name p q) = absurd (cc)
-first_read same (stops {fault = fault} p q n) =
-    let first = (cons_same (sym p ∙ same)).0 in
-    goes (Err fault) [] (q ∙ ap (λ x. (x, Err fault) ∷ []) first) (λ e. n (err_same _ _ e)) (λ text e. absurd (ok_err _ _ (sym e))) (λ other e. refl)
-first_read same (goes_on {more = more} {text = text} p q x) =
-    let both = cons_same (sym p ∙ same) in
-    goes (Ok text) more (q ∙ ap (λ y. (y, Ok text) ∷ more) both.0) (λ e. ok_err _ _ e) (λ other e. subst (λ y. Follows y more) both.1 x) (λ fault e. absurd (ok_err _ _ e))
-
-no_reads : {names : List (List ℕ)} {reads : List Read} → names ≡ [] → Follows names reads → reads ≡ []
-no_reads same (no_name p q) = q
-no_reads same (stops p q n) = absurd (cc)
-no_reads same (goes_on p q x) = absurd (cc)
+follows {reads = reads} w b (decided {command = other} {texts = texts} v c r x) = subst (λ c. Follows (operands_of c) reads) (one_command v w) (all_follow (operands_of other) texts reads r)
 
 -- a demonstration reads nothing
 pub shown_reads : {words : List (List ℕ)} {reads : List Read} {answer : Answer} {size : ℕ} → Words words (demo size) → IsAnswer words reads answer → reads ≡ []
 shown_reads w x = no_reads refl (follows w tt x)
-
-true_at : (told : Option Files) (rose : Type 0) {reads others : List Read} → reads ≡ others → AreTrue told rose reads → AreTrue told rose others
-true_at told rose same t = subst (AreTrue told rose) same t
-
-abbrev HasSameReads : Files → Type 0 → List (List ℕ) → Type 0
-HasSameReads files rose names = (one other : List Read) → Follows names one → Follows names other → AreTrue (Some files) ⊥ one → AreTrue (Some files) rose other
-    → (one ≡ other) ⊎ FailsIn rose names other
-
--- behind a first read that is the same
-same_behind : (files : Files) (rose : Type 0) (name : List ℕ) (names : List (List ℕ)) (one other : List Read) (came : Came) (more others : List Read) → one ≡ (name, came) ∷ more → other ≡ (name, came) ∷ others
-    → ((text : List ℕ) → came ≡ Ok text → Follows names more) → ((fault : StoreFault) → came ≡ Err fault → more ≡ [])
-    → ((text : List ℕ) → came ≡ Ok text → Follows names others) → ((fault : StoreFault) → came ≡ Err fault → others ≡ [])
-    → AreTrue (Some files) ⊥ more → AreTrue (Some files) rose others → HasSameReads files rose names → (one ≡ other) ⊎ FailsIn rose (name ∷ names) other
-same_behind files rose name names one other (Ok text) more others p q f g h i t u again = by (again more others (f text refl) (h text refl) t u)
-  where
-    by : (more ≡ others) ⊎ FailsIn rose names others → (one ≡ other) ⊎ FailsIn rose (name ∷ names) other
-    by (inl same) = inl (p ∙ (ap (λ x. (name, Ok text) ∷ x) same ∙ sym q))
-    by (inr fails) = inr (fails.0, (fails.1.0, past_first refl q fails.1.1))
-same_behind files rose name names one other (Err fault) more others p q f g h i t u again = inl (p ∙ (ap (λ x. (name, Err fault) ∷ x) (g fault refl ∙ sym (i fault refl)) ∙ sym q))
-
-same_first : (files : Files) (rose : Type 0) (name : List ℕ) (names : List (List ℕ)) (one other : List Read) → Goes name names one → Goes name names other → AreTrue (Some files) ⊥ one
-    → AreTrue (Some files) rose other → HasSameReads files rose names → (one ≡ other) ⊎ FailsIn rose (name ∷ names) other
-same_first files rose name names one other (goes came more p n f g) (goes found others q m h i) t u again = by (same_came files rose name came found n m (true_at (Some files) ⊥ p t).0 (true_at (Some files) rose q u).0)
-  where
-    by : (came ≡ found) ⊎ ((found ≡ Err Failed) × rose) → (one ≡ other) ⊎ FailsIn rose (name ∷ names) other
-    by (inl same) =
-        same_behind files rose name names one other found more others (p ∙ ap (λ x. (name, x) ∷ more) same) q (λ text e. f text (same ∙ e)) (λ fault e. g fault (same ∙ e)) h i
-        (true_at (Some files) ⊥ p t).1 (true_at (Some files) rose q u).1 again
-    by (inr (failed, r)) =
-        inr (r, (name, at_first refl (q ∙ (ap (λ x. (name, x) ∷ others) failed ∙ ap (λ x. (name, Err Failed) ∷ x) (i Failed failed)))))
-
-pub same_reads : (files : Files) (rose : Type 0) (names : List (List ℕ)) → HasSameReads files rose names
-same_reads files rose [] one other a b t u = inl (no_reads refl a ∙ sym (no_reads refl b))
-same_reads files rose (name ∷ names) one other a b t u = same_first files rose name names one other (first_read refl a) (first_read refl b) t u (same_reads files rose names)
 
 -- the answer of a call: an answer like this one, or a read that failed
 abbrev pub Agrees : Type 0 → Answer → Answer → Type 0
@@ -374,56 +134,31 @@ exact files rose t (no_command n e) u y = inl (alike_at refl (usage_only n y))
 exact files rose t (not_built w x r e) u y = inl (alike_at (ap not_yet e) (refused_only w x y))
 exact files rose t (not_read w b s v) u y = alike files rose w b t (not_read w b s v) u y
 exact files rose t (over_long w b s) u y = alike files rose w b t (over_long w b s) u y
-exact files rose t (checked w r x) u y = alike files rose w tt t (checked w r x) u y
-exact files rose t (validated w r x) u y = alike files rose w tt t (validated w r x) u y
-exact files rose t (ran w r x) u y = alike files rose w tt t (ran w r x) u y
-exact files rose t (shown w r x) u y = alike files rose w tt t (shown w r x) u y
+exact files rose t (decided w b r x) u y = alike files rose w b t (decided w b r x) u y
 
--- the names and the texts of a check whose operands were read are those of the held files
-pub held_texts : (files : Files) (rose : Type 0) {words : List (List ℕ)} {reads : List Read} {limit other : Option ℕ} {input output sheet b c d input' output' sheet' b' c' d' : List ℕ} {answer : Answer}
-    → Words words (check limit input output sheet) → files input ≡ Some b → files output ≡ Some c → files sheet ≡ Some d
-    → Words words (check other input' output' sheet') → reads ≡ (input', Ok b') ∷ (output', Ok c') ∷ (sheet', Ok d') ∷ [] → AreTrue (Some files) rose reads
-    → Checks (most_rows other) input' output' sheet' b' c' d' answer → Checks (most_rows limit) input output sheet b c d answer
-held_texts files rose {limit = limit} {other} {input} {output} {sheet} {b} {c} {d} {input'} {output'} {sheet'} {b'} {c'} {d'} w p q r v same true x =
-    let command = one_command w v in
-    let limits : limit ≡ other = cc in
-    let inputs : input ≡ input' = cc in
-    let outputs : output ≡ output' = cc in
-    let sheets : sheet ≡ sheet' = cc in
-    let all = true_at (Some files) rose same true in
-    let first = some_is b b' (sym p ∙ (ap files inputs ∙ all.0.answers files refl)) in
-    let second = some_is c c' (sym q ∙ (ap files outputs ∙ all.1.0.answers files refl)) in
-    let third = some_is d d' (sym r ∙ (ap files sheets ∙ all.1.1.0.answers files refl)) in
-    checks_same (ap most_rows limits) inputs outputs sheets first second third x
-
--- held files that are short enough are read well, or a read failed
-
-held_true : (files : Files) (name bytes : List ℕ) → files name ≡ Some bytes → length bytes ≤ longest_file → IsTrue (Some files) ⊥ (name, Ok bytes)
-held_true files name bytes held short = record {
-  answers = λ other same. let h : files ≡ other = cc in subst (λ (f : Files). f name ≡ Some bytes) h held;
-  short = short;
-  failed = λ e. ok_err _ _ e;
-  untold = λ e. absurd (let none = e in cc);
-}
-
-pub read_two : (rose : Type 0) {words : List (List ℕ)} {answer : Answer} {reads : List Read} {command : Command} (files : Files) (a b c d : List ℕ) → Words words command → IsBuilt command
-    → operands_of command ≡ a ∷ b ∷ [] → files a ≡ Some c → length c ≤ longest_file → files b ≡ Some d → length d ≤ longest_file → AreTrue (Some files) rose reads → IsAnswer words reads answer
-    → IsOfFault rose answer ⊎ (reads ≡ (a, Ok c) ∷ (b, Ok d) ∷ [])
-read_two rose {words} {answer} {reads} {command} files a b c d w built same ha la hb lb t x =
-    by (same_reads files rose (operands_of command) _ reads (subst (λ n. Follows n ((a, Ok c) ∷ (b, Ok d) ∷ [])) (sym same) (two_follow refl)) (follows w built x)
-    (held_true files a c ha la, (held_true files b d hb lb, tt)) t)
+pub read_all : (rose : Type 0) {words : List (List ℕ)} {answer : Answer} {reads : List Read} {command : Command} (files : Files) (texts : List (List ℕ)) → Words words command → IsBuilt command
+    → AreHeld files (operands_of command) texts → AreShort texts → AreTrue (Some files) rose reads → IsAnswer words reads answer
+    → IsOfFault rose answer ⊎ IsAnswerTo command texts answer
+read_all rose {words} {answer} {reads} {command} files texts w built held short t x =
+    by (same_reads files rose names (well names texts) reads (all_follow names texts _ (well_read files names texts held)) (follows w built x) (well_true files names texts held short) t)
   where
-    by : ((a, Ok c) ∷ (b, Ok d) ∷ [] ≡ reads) ⊎ FailsIn rose (operands_of command) reads → IsOfFault rose answer ⊎ (reads ≡ (a, Ok c) ∷ (b, Ok d) ∷ [])
-    by (inl e) = inr (sym e)
+    names : List (List ℕ)
+    names = operands_of command
+
+    by : (well names texts ≡ reads) ⊎ FailsIn rose names reads → IsOfFault rose answer ⊎ IsAnswerTo command texts answer
+    by (inl e) = inr (decided_only w built (subst (AreRead names texts) e (well_read files names texts held)) x)
     by (inr f) = inl (fails_told w built f x)
 
-pub read_three : (rose : Type 0) {words : List (List ℕ)} {answer : Answer} {reads : List Read} {command : Command} (files : Files) (a b e c d f : List ℕ) → Words words command → IsBuilt command
-    → operands_of command ≡ a ∷ b ∷ e ∷ [] → files a ≡ Some c → length c ≤ longest_file → files b ≡ Some d → length d ≤ longest_file → files e ≡ Some f → length f ≤ longest_file
-    → AreTrue (Some files) rose reads → IsAnswer words reads answer → IsOfFault rose answer ⊎ (reads ≡ (a, Ok c) ∷ (b, Ok d) ∷ (e, Ok f) ∷ [])
-read_three rose {words} {answer} {reads} {command} files a b e c d f w built same ha la hb lb he le t x =
-    by (same_reads files rose (operands_of command) _ reads (subst (λ n. Follows n ((a, Ok c) ∷ (b, Ok d) ∷ (e, Ok f) ∷ [])) (sym same) (three_follow refl)) (follows w built x)
-    (held_true files a c ha la, (held_true files b d hb lb, (held_true files e f he le, tt))) t)
-  where
-    by : ((a, Ok c) ∷ (b, Ok d) ∷ (e, Ok f) ∷ [] ≡ reads) ⊎ FailsIn rose (operands_of command) reads → IsOfFault rose answer ⊎ (reads ≡ (a, Ok c) ∷ (b, Ok d) ∷ (e, Ok f) ∷ [])
-    by (inl g) = inr (sym g)
-    by (inr g) = inl (fails_told w built g x)
+-- what a command decided on held files, unless it tells of a read that was not Ok
+pub held_decided : (rose : Type 0) {words : List (List ℕ)} {answer : Answer} {reads : List Read} {command : Command} (files : Files) (texts : List (List ℕ)) → Words words command → IsBuilt command
+    → AreHeld files (operands_of command) texts → AreTrue (Some files) rose reads → IsAnswer words reads answer
+    → IsAnswerTo command texts answer ⊎ ((answer ≡ file_limit) ⊎ ((name : List ℕ) × (answer ≡ cannot_read name)))
+held_decided rose files texts w b held true (no_command n e) = absurd (n _ w)
+held_decided rose files texts w b held true (not_built v x r e) = absurd (x (subst IsBuilt (one_command w v) b))
+held_decided rose files texts w b held true (not_read {name = name} v c s u) = inr (inr (name, refl))
+held_decided rose files texts w b held true (over_long v c s) = inr (inl refl)
+held_decided rose {reads = reads} {command = command} files texts w b held true (decided {command = other} {texts = found} v c r x) =
+    let same = one_command v w in
+    let read : AreRead (operands_of command) found reads = subst (λ d. AreRead (operands_of d) found reads) same r in
+    let one = held_texts files rose (operands_of command) texts found reads held read true in
+    inl (subst (λ ts. IsAnswerTo command ts _) one (subst (λ d. IsAnswerTo d found _) same x))

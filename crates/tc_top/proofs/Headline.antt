@@ -1,5 +1,5 @@
 -- A check, a validation and a run of held files are exact.
-use Rattle.std.proofs.Common.{◌≡◌, ◌≤◌, ◌⊎◌, ◌∷◌, [], ◌∙◌, inl, inr, refl, sym, subst, ℕ, List, Option, Some, Ok, arith}
+use Rattle.std.proofs.Common.{◌≡◌, ◌≤◌, ◌⊎◌, ◌∷◌, [], ◌∙◌, inl, inr, refl, sym, subst, ap, ℕ, List, Option, Some, Ok, arith}
 use Rattle.tc_io.specs.Store.{Files, Read}
 use Rattle.tc_io.specs.Reads.{AreTrue}
 use Rattle.tc_io.specs.Sink.{Appended}
@@ -14,37 +14,29 @@ use Rattle.tc_print.specs.ReadBack.{nesting, IsReadAs}
 use Rattle.tc_print.proofs.ReadBack.{read_back}
 use Rattle.tc_top.specs.Checking.{most_rows, IsCompiled, HasFewRows, AreRowCounts, IsLeastCounter, HasSmallCounter, HasLargeCounters}
 use Rattle.tc_top.specs.Headline.{IsCutShort, ChecksFiles, ChecksShortFiles, ShowsCounterexample, shows_both, shows_document, ShowsRun, shows_result, shows_large, IsLimited, limited_before_rows, limited_in_rows, limited_in_nodes, DecidesSafety, ValidatesFiles, DecidesValidity, RunsFiles, GivesResult}
-use Rattle.tc_top.specs.Answers.{Answer, IsBuilt, usage, not_yet, cannot_read, file_limit, safe, unsafe, unsafe_large, rows_limit, counterexample_limit, refused, over_limit, is_valid, is_invalid, has_result, work_limit, open_limit, status_of, text_of, Finds, passes_compile, passes_rows, finds_safe, finds_unsafe, finds_large, finds_none_small, IsAnswer, no_command, not_built, not_read, over_long, checked, validated, ran, shown, Ends, Gives, KeepsToLimits, Runs, sheet_passes, too_much_work, too_open, gives_result}
+use Rattle.tc_answer.specs.Answers.{Answer, usage, not_yet, cannot_read, file_limit, safe, unsafe, unsafe_large, rows_limit, counterexample_limit, certificate, certificate_limit, accepted, rejected, included, not_included, equal, first_only, second_only, refused, over_limit, is_valid, is_invalid, has_result, work_limit, open_limit, status_of, text_of}
+use Rattle.tc_top.specs.Answers.{IsBuilt, IsAnswerTo, checked, ran, validated, shown, IsAnswer, Ends, KeepsToLimits}
+use Rattle.tc_top.specs.Causes.{Finds, passes_compile, passes_rows, finds_safe, finds_unsafe, finds_large, finds_none_small, Runs, sheet_passes, too_much_work, too_open, gives_result, Checks, Validates, RunsTexts}
 use Rattle.tc_top.specs.AnswersSeen.{IsRightFor}
-use Rattle.tc_top.specs.OneAnswer.{AreAlike, same_answer, counterexamples, large_counterexamples, large_or_not, not_large_or_large, row_limits, work_or_open, open_or_work, open_reasons, IsOfFault}
-use Rattle.tc_top.specs.declared.answer.Answer.{Answer as Said}
-use Rattle.tc_top.specs.declared.status.Status.{Status}
-use Rattle.tc_top.specs.declared.status.Status.TheVariants.{Yes, No, Limit}
+use Rattle.tc_top.specs.OneAnswer.{AreAlike, same_answer, GivesOneLike, IsOfFault}
+use Rattle.tc_answer.specs.declared.answer.Answer.{Answer as Said}
+use Rattle.tc_answer.specs.declared.status.Status.{Status}
+use Rattle.tc_answer.specs.declared.status.Status.TheVariants.{Yes, No, Limit}
 use Rattle.tc_top.specs.Limits.{IsRunWithin}
 use Rattle.tc_model.specs.RncText.{RncText}
 use Rattle.tc_read.specs.Sheets.{IsSheetOf}
-use Rattle.tc_top.specs.Demo.{demo_schema, demo_sheet}
-use Rattle.tc_top.specs.declared.limits.TheConstants.{MOST_ROWS}
-use Rattle.tc_top.specs.Words.{Words, demo}
-use Rattle.tc_top.proofs.Exact.{Agrees, checked_only, validated_only, ran_only, shown_only, shown_reads, held_texts, read_two, read_three}
+use Rattle.tc_top.specs.Demo.{demo_schema, demo_sheet, input_name, output_name, sheet_name}
+use Rattle.tc_answer.specs.declared.limits.TheConstants.{MOST_ROWS}
+use Rattle.tc_answer.specs.Words.{Words, check, run, valid, demo}
+use Rattle.tc_answer.proofs.ReadsOnce.{AreHeld, no_file, holds, AreShort, none_long, is_short}
+use Rattle.tc_top.proofs.Exact.{Agrees, decided_only, shown_reads, read_all, held_decided}
 use Rattle.tc_top.proofs.OneCheck.{not_both, over_compile, one_compile, near_far, finds_of}
-use Rattle.tc_top.proofs.OneCommand.{one_command}
+use Rattle.tc_answer.proofs.OneCommand.{one_command}
 use Rattle.tc_top.proofs.OneValidity.{Settles, settles_valid, settles_invalid, settles}
 use Rattle.tc_top.proofs.OneRun.{one_result, runs_of, not_within, not_few, not_low}
 
-alike_status : {one other : Answer} → AreAlike one other → status_of other ≡ status_of one
-alike_status same_answer = refl
-alike_status counterexamples = refl
-alike_status large_counterexamples = refl
-alike_status large_or_not = refl
-alike_status not_large_or_large = refl
-alike_status row_limits = refl
-alike_status work_or_open = refl
-alike_status open_or_work = refl
-alike_status (open_reasons o p) = refl
-
 -- a call that tells of a fault of reading is cut short
-cut_short : {rose : Type 0} (status : Status) (answer : Answer) → status ≡ status_of answer → IsOfFault rose answer → IsCutShort status rose
+pub cut_short : {rose : Type 0} (status : Status) (answer : Answer) → status ≡ status_of answer → IsOfFault rose answer → IsCutShort status rose
 cut_short status (cannot_read name) e h = inr (inr (e, h))
 cut_short status usage e h = absurd h
 cut_short status (not_yet name) e h = absurd h
@@ -54,6 +46,15 @@ cut_short status (unsafe document output) e h = absurd h
 cut_short status (unsafe_large document) e h = absurd h
 cut_short status (rows_limit count number) e h = absurd h
 cut_short status counterexample_limit e h = absurd h
+cut_short status (certificate text) e h = absurd h
+cut_short status certificate_limit e h = absurd h
+cut_short status accepted e h = absurd h
+cut_short status (rejected why) e h = absurd h
+cut_short status (included tree_rows hedge_rows) e h = absurd h
+cut_short status (not_included document) e h = absurd h
+cut_short status equal e h = absurd h
+cut_short status (first_only document) e h = absurd h
+cut_short status (second_only document) e h = absurd h
 cut_short status (refused name reason place) e h = absurd h
 cut_short status (over_limit kind number) e h = absurd h
 cut_short status is_valid e h = absurd h
@@ -62,9 +63,10 @@ cut_short status (has_result result) e h = absurd h
 cut_short status work_limit e h = absurd h
 cut_short status open_limit e h = absurd h
 
-pub gives : {rose : Type 0} (status : Status) (one other : Answer) → status ≡ status_of other → Agrees rose one other → Gives status rose one
-gives status one other e (inl alike) = inl (e ∙ alike_status alike)
-gives status one other e (inr fault) = inr (cut_short status other e fault)
+pub gives : {rose : Type 0} (status : Status) (old new : Option (List ℕ)) (one other : Answer) → status ≡ status_of other → Appended old new (text_of other) → Agrees rose one other
+    → IsCutShort status rose ⊎ GivesOneLike status old new one
+gives status old new one other e written (inl alike) = inr (record { given = other; alike = alike; status_is = e; written = written })
+gives status old new one other e written (inr fault) = inl (cut_short status other e fault)
 
 -- an answer that is right for the same words
 pub at_words : {words other : List (List ℕ)} {happened : List Read → Type 0} {said : Said} → words ≡ other → IsRightFor words happened said → IsRightFor other happened said
@@ -90,17 +92,17 @@ reads_back {document = document} least = read_back document (record { document =
 
 -- what a status isn't
 
-not_no : {status : Status} → status ≡ Yes → status ≡ No → ⊥
+pub not_no : {status : Status} → status ≡ Yes → status ≡ No → ⊥
 not_no e f = absurd (let g = sym e ∙ f in cc)
 
-not_limit : {status : Status} → status ≡ Yes → status ≡ Limit → ⊥
+pub not_limit : {status : Status} → status ≡ Yes → status ≡ Limit → ⊥
 not_limit e f = absurd (let g = sym e ∙ f in cc)
 
-no_limit : {status : Status} → status ≡ No → status ≡ Limit → ⊥
+pub no_limit : {status : Status} → status ≡ No → status ≡ Limit → ⊥
 no_limit e f = absurd (let g = sym e ∙ f in cc)
 
 -- the line of the one limit that is told
-compile_lines : (old new : Option (List ℕ)) {kind other : kinds.Limit} {number count : ℕ} → AreAlike (over_limit kind number) (over_limit other count) → Appended old new (text_of (over_limit kind number))
+pub compile_lines : (old new : Option (List ℕ)) {kind other : kinds.Limit} {number count : ℕ} → AreAlike (over_limit kind number) (over_limit other count) → Appended old new (text_of (over_limit kind number))
     → Appended old new (text_of (over_limit other count))
 compile_lines old new same_answer written = written
 
@@ -112,7 +114,7 @@ module _ (most : ℕ) (i o : Grammar) (s : Sheet) (status : Status) (old new : O
   Decides = DecidesSafety status old new most i o s
 
   -- what isn't limited
-  few_not_limited : IsCompiled i o s → HasFewRows i o s most → (HasLargeCounters i o s → ⊥) → IsLimited most i o s → ⊥
+  pub few_not_limited : IsCompiled i o s → HasFewRows i o s most → (HasLargeCounters i o s → ⊥) → IsLimited most i o s → ⊥
   few_not_limited w f n (limited_before_rows p) = over_compile p w
   few_not_limited w f n (limited_in_rows count v p) = f count p
   few_not_limited w f n (limited_in_nodes v g l) = n l
@@ -144,7 +146,7 @@ module _ (most : ℕ) (i o : Grammar) (s : Sheet) (status : Status) (old new : O
   }
 
   -- what is found decides all
-  decides : {answer : Answer} → status ≡ status_of answer → Appended old new (text_of answer) → Finds most i o s answer → Decides
+  pub decides : {answer : Answer} → status ≡ status_of answer → Appended old new (text_of answer) → Finds most i o s answer → Decides
   decides is written (passes_compile {kind = k} {number = n} p) = record {
     yes = (λ e. absurd (not_limit e is), λ x. absurd (over_compile p x.0));
     no = (λ e. absurd (no_limit e is), λ x. absurd (over_compile p x.0));
@@ -182,34 +184,54 @@ module _ (most : ℕ) (i o : Grammar) (s : Sheet) (status : Status) (old new : O
     nodes_text = λ v g m. written;
   }
 
+-- what the answers of commands say of texts
+
+checks_of : {limit : Option ℕ} {input output sheet b c d : List ℕ} {answer : Answer} → IsAnswerTo (check limit input output sheet) (b ∷ c ∷ d ∷ []) answer → Checks (most_rows limit) input output sheet b c d answer
+checks_of (checked x) = x
+
+demo_of : {size : ℕ} {texts : List (List ℕ)} {answer : Answer} → IsAnswerTo (demo size) texts answer → Checks MOST_ROWS input_name output_name sheet_name (demo_schema size) (demo_schema size) demo_sheet answer
+demo_of (shown x) = x
+
+validates_of : {schema document b c : List ℕ} {answer : Answer} → IsAnswerTo (valid schema document) (b ∷ c ∷ []) answer → Validates schema document b c answer
+validates_of (validated x) = x
+
+runs_texts_of : {sheet document b c : List ℕ} {answer : Answer} → IsAnswerTo (run sheet document) (b ∷ c ∷ []) answer → RunsTexts sheet document b c answer
+runs_texts_of (ran x) = x
+
+files_of : {words : List (List ℕ)} {files : Files} {limit : Option ℕ} {i o : Grammar} {s : Sheet} (c : ChecksFiles words files limit i o s)
+    → AreHeld files (c.input ∷ c.output ∷ c.sheet ∷ []) (c.input_text ∷ c.output_text ∷ c.sheet_text ∷ [])
+files_of c = holds c.input_held (holds c.output_held (holds c.sheet_held no_file))
+
+-- a call that tells of a file is neither yes nor no
+pub told_of_file : {answer : Answer} → (answer ≡ file_limit) ⊎ ((name : List ℕ) × (answer ≡ cannot_read name)) → (status_of answer ≡ Yes) ⊎ (status_of answer ≡ No) → ⊥
+told_of_file (inl e) (inl f) = absurd (let g = sym (ap status_of e) ∙ f in cc)
+told_of_file (inl e) (inr f) = absurd (let g = sym (ap status_of e) ∙ f in cc)
+told_of_file (inr (name, e)) (inl f) = absurd (let g = sym (ap status_of e) ∙ f in cc)
+told_of_file (inr (name, e)) (inr f) = absurd (let g = sym (ap status_of e) ∙ f in cc)
+
 pub headline : {words : List (List ℕ)} {rose : Type 0} {reads : List Read} (files : Files) (limit : Option ℕ) (i o : Grammar) (s : Sheet) (status : Status) (old new : Option (List ℕ)) (answer : Answer)
     → ChecksShortFiles words files limit i o s → AreTrue (Some files) rose reads → IsAnswer words reads answer → status ≡ status_of answer → Appended old new (text_of answer)
     → IsCutShort status rose ⊎ DecidesSafety status old new (most_rows limit) i o s
 headline {words} {rose} {reads} files limit i o s status old new answer short true right is written =
-    by (read_three rose files c.input c.output c.sheet c.input_text c.output_text c.sheet_text c.words_are tt refl c.input_held short.input_short c.output_held short.output_short c.sheet_held short.sheet_short true right)
+    by (read_all rose files _ c.words_are tt (files_of c) (is_short short.input_short (is_short short.output_short (is_short short.sheet_short none_long))) true right)
   where
     c : ChecksFiles words files limit i o s
     c = short.checks
 
-    by : IsOfFault rose answer ⊎ (reads ≡ (c.input, Ok c.input_text) ∷ (c.output, Ok c.output_text) ∷ (c.sheet, Ok c.sheet_text) ∷ [])
+    by : IsOfFault rose answer ⊎ IsAnswerTo (check limit c.input c.output c.sheet) (c.input_text ∷ c.output_text ∷ c.sheet_text ∷ []) answer
         → IsCutShort status rose ⊎ DecidesSafety status old new (most_rows limit) i o s
     by (inl fault) = inl (cut_short status answer is fault)
-    by (inr read) = inr (decides (most_rows limit) i o s status old new is written (finds_of c.input_spells c.output_spells c.sheet_spells (checked_only c.words_are read right)))
+    by (inr x) = inr (decides (most_rows limit) i o s status old new is written (finds_of c.input_spells c.output_spells c.sheet_spells (checks_of x)))
 
 -- what a check found whose answer is such a one, its files being held
 found : (rose : Type 0) {words : List (List ℕ)} {reads : List Read} (files : Files) (limit : Option ℕ) (i o : Grammar) (s : Sheet) {answer : Answer} → ChecksFiles words files limit i o s
     → AreTrue (Some files) rose reads → IsAnswer words reads answer → (status_of answer ≡ Yes) ⊎ (status_of answer ≡ No) → Finds (most_rows limit) i o s answer
-found rose files limit i o s c true (no_command n e) which = absurd (n _ c.words_are)
-found rose files limit i o s c true (not_built w x r e) which = let same = one_command w c.words_are in absurd (x (subst IsBuilt (sym same) tt))
-found rose files limit i o s c true (not_read w b t u) (inl e) = absurd (cc)
-found rose files limit i o s c true (not_read w b t u) (inr e) = absurd (cc)
-found rose files limit i o s c true (over_long w b t) (inl e) = absurd (cc)
-found rose files limit i o s c true (over_long w b t) (inr e) = absurd (cc)
-found rose files limit i o s c true (checked v same x) which =
-    finds_of c.input_spells c.output_spells c.sheet_spells (held_texts files rose c.words_are c.input_held c.output_held c.sheet_held v same true x)
-found rose files limit i o s c true (validated w r x) which = let same = one_command w c.words_are in absurd (cc)
-found rose files limit i o s c true (ran w r x) which = let same = one_command w c.words_are in absurd (cc)
-found rose files limit i o s c true (shown w r x) which = let same = one_command w c.words_are in absurd (cc)
+found rose files limit i o s {answer} c true right which = by (held_decided rose files _ c.words_are tt (files_of c) true right)
+  where
+    by : IsAnswerTo (check limit c.input c.output c.sheet) (c.input_text ∷ c.output_text ∷ c.sheet_text ∷ []) answer ⊎ ((answer ≡ file_limit) ⊎ ((name : List ℕ) × (answer ≡ cannot_read name)))
+        → Finds (most_rows limit) i o s answer
+    by (inl x) = finds_of c.input_spells c.output_spells c.sheet_spells (checks_of x)
+    by (inr told) = absurd (told_of_file told which)
 
 -- yes says that it is safe, and no shows that it isn't
 
@@ -238,7 +260,7 @@ safe_is_so rose files limit i o s status answer c true right is e = says_safe (f
 -- what a demonstration finds
 demo_found : {words : List (List ℕ)} {reads : List Read} (size : ℕ) (g : Grammar) (s : Sheet) {answer : Answer} → Words words (demo size) → RncText (demo_schema size) g → IsSheetOf demo_sheet s
     → IsAnswer words reads answer → Finds MOST_ROWS g g s answer
-demo_found size g s w spells means right = finds_of spells spells means (shown_only w (shown_reads w right) right)
+demo_found size g s w spells means right = finds_of spells spells means (demo_of (decided_only {texts = []} w tt (shown_reads w right) right))
 
 pub demo_is_safe : {words : List (List ℕ)} {reads : List Read} (size : ℕ) (g : Grammar) (s : Sheet) (status : Status) (answer : Answer) → Words words (demo size)
     → RncText (demo_schema size) g → IsSheetOf demo_sheet s → IsAnswer words reads answer → status ≡ status_of answer → status ≡ Yes → IsSafe g g s
@@ -259,7 +281,7 @@ pub demonstrated : {words : List (List ℕ)} {reads : List Read} (size : ℕ) (g
     → RncText (demo_schema size) g → IsSheetOf demo_sheet s → IsAnswer words reads answer → status ≡ status_of answer → Appended old new (text_of answer)
     → DecidesSafety status old new MOST_ROWS g g s
 demonstrated size g s status old new answer w spells means right is written =
-    decides MOST_ROWS g g s status old new is written (finds_of spells spells means (shown_only w (shown_reads w right) right))
+    decides MOST_ROWS g g s status old new is written (finds_of spells spells means (demo_of (decided_only {texts = []} w tt (shown_reads w right) right)))
 
 settled : {g : Grammar} {d : Trees} {answer : Answer} (status : Status) (old new : Option (List ℕ)) → status ≡ status_of answer → Appended old new (text_of answer) → Settles g d answer
     → DecidesValidity status old new g d
@@ -280,11 +302,11 @@ pub validity : {words : List (List ℕ)} {rose : Type 0} {reads : List Read} (fi
     → AreTrue (Some files) rose reads → IsAnswer words reads answer → status ≡ status_of answer → Appended old new (text_of answer)
     → IsCutShort status rose ⊎ DecidesValidity status old new g d
 validity {words} {rose} {reads} files g d status old new answer c true right is written =
-    by (read_two rose files c.schema c.document c.schema_text c.document_text c.words_are tt refl c.schema_held c.schema_short c.document_held c.document_short true right)
+    by (read_all rose files _ c.words_are tt (holds c.schema_held (holds c.document_held no_file)) (is_short c.schema_short (is_short c.document_short none_long)) true right)
   where
-    by : IsOfFault rose answer ⊎ (reads ≡ (c.schema, Ok c.schema_text) ∷ (c.document, Ok c.document_text) ∷ []) → IsCutShort status rose ⊎ DecidesValidity status old new g d
+    by : IsOfFault rose answer ⊎ IsAnswerTo (valid c.schema c.document) (c.schema_text ∷ c.document_text ∷ []) answer → IsCutShort status rose ⊎ DecidesValidity status old new g d
     by (inl fault) = inl (cut_short status answer is fault)
-    by (inr read) = inr (settled status old new is written (settles c.schema_spells c.document_spells c.within (validated_only c.words_are read right)))
+    by (inr x) = inr (settled status old new is written (settles c.schema_spells c.document_spells c.within (validates_of x)))
 
 at_limit : (s : Sheet) (d : Trees) (status : Status) (old new : Option (List ℕ)) (answer : Answer) → status_of answer ≡ Limit → status ≡ status_of answer → Appended old new (text_of answer)
     → (IsRunWithin s d → ⊥) → Runs s d answer → KeepsToLimits status old new s d × GivesResult status old new s d
@@ -322,11 +344,11 @@ run_decides : {words : List (List ℕ)} {rose : Type 0} {reads : List Read} (fil
     → AreTrue (Some files) rose reads → IsAnswer words reads answer → status ≡ status_of answer → Appended old new (text_of answer)
     → IsCutShort status rose ⊎ (KeepsToLimits status old new s d × GivesResult status old new s d)
 run_decides {words} {rose} {reads} files s d status old new answer c true right is written =
-    by (read_two rose files c.sheet c.document c.sheet_text c.document_text c.words_are tt refl c.sheet_held c.sheet_short c.document_held c.document_short true right)
+    by (read_all rose files _ c.words_are tt (holds c.sheet_held (holds c.document_held no_file)) (is_short c.sheet_short (is_short c.document_short none_long)) true right)
   where
-    by : IsOfFault rose answer ⊎ (reads ≡ (c.sheet, Ok c.sheet_text) ∷ (c.document, Ok c.document_text) ∷ []) → IsCutShort status rose ⊎ (KeepsToLimits status old new s d × GivesResult status old new s d)
+    by : IsOfFault rose answer ⊎ IsAnswerTo (run c.sheet c.document) (c.sheet_text ∷ c.document_text ∷ []) answer → IsCutShort status rose ⊎ (KeepsToLimits status old new s d × GivesResult status old new s d)
     by (inl fault) = inl (cut_short status answer is fault)
-    by (inr read) = inr (given s d status old new is written (runs_of c.sheet_spells c.document_spells (ran_only c.words_are read right)))
+    by (inr x) = inr (given s d status old new is written (runs_of c.sheet_spells c.document_spells (runs_texts_of x)))
 
 pub running : (rose : Type 0) {words : List (List ℕ)} {reads : List Read} (files : Files) (s : Sheet) (d : Trees) (status : Status) (old new : Option (List ℕ)) (answer : Answer) → RunsFiles words files s d
     → AreTrue (Some files) rose reads → IsAnswer words reads answer → status ≡ status_of answer → Appended old new (text_of answer) → GivesResult status old new s d

@@ -11,7 +11,8 @@ use Rattle.tc_model.proofs.SimplifiesUnique.{one_rnc_text}
 use Rattle.tc_read.specs.Sheets.{IsSheetOf}
 use Rattle.tc_rows.specs.Counts.{IsRowOfLiveTree, IsRowOfLiveHedge, IsOutput}
 use Rattle.tc_rows.proofs.Counting.{counts_tell}
-use Rattle.tc_top.specs.Answers.{Answer, safe, over_limit, Finds, passes_compile, passes_rows, finds_safe, finds_unsafe, finds_large, finds_none_small, Checks, input_refused, output_refused, stylesheet_refused, all_read}
+use Rattle.tc_answer.specs.Answers.{Answer, safe, over_limit}
+use Rattle.tc_top.specs.Causes.{Finds, passes_compile, passes_rows, finds_safe, finds_unsafe, finds_large, finds_none_small, Checks, input_refused, output_refused, stylesheet_refused, all_read}
 use Rattle.tc_top.specs.Checking.{IsCompiled, PassesCompile, by_input, by_output, by_sheet, by_calls, by_entries, AreRowCounts, IsCounter, IsLeastCounter, HasLargeCounters}
 use Rattle.tc_top.specs.OneAnswer.{AreAlike, same_answer, counterexamples, large_counterexamples, large_or_not, not_large_or_large, row_limits}
 use Rattle.tc_top.proofs.OneRefusal.{schema_refusals, sheet_refusals}

@@ -22,7 +22,7 @@ use Rattle.tc_sheet.specs.Faults.{OfAllWith}
 use Rattle.tc_sheet.specs.Tables.{IsNamedAgain}
 use Rattle.tc_sheet.proofs.Changes.{as_they_are}
 use Rattle.tc_sheet.proofs.NamedAgain.{not_once, one_place}
-use Rattle.tc_top.specs.Answers.{refused}
+use Rattle.tc_answer.specs.Answers.{refused}
 use Rattle.tc_top.specs.OneAnswer.{IsOpen, AreAlike, same_answer, open_reasons, IsConstruct, HasOneConstruct, HasOneFaultOfNames}
 use Rattle.tc_read.specs.Refusals.{SpellsFault, IsRefusedSchema, IsRefusedDocument, SpellsTree, IsRefusedSheet}
 use Rattle.tc_read.specs.declared.faults.Reason.{Reason}

@@ -29,7 +29,8 @@ use Rattle.tc_read.specs.Refusals.{IsRefusedSheet}
 use Rattle.tc_read.specs.declared.faults.Reason.{Reason}
 use Rattle.tc_read.specs.declared.faults.Reason.TheVariants.{Malformed, Unsupported, TooDeep, Undefined, Twice, Loop, BadStart, BadExcept, CallLoop}
 use Rattle.tc_top.specs.Limits.{symbols_of_sheet, IsWithinSheetLimits, IsRunWithin, SheetPasses, sheet_symbols, sheet_predicates, sheet_ancestors, sheet_selects}
-use Rattle.tc_top.specs.Answers.{Answer, over_limit, has_result, Runs, sheet_passes, too_much_work, too_open, gives_result, RunsTexts, sheet_refused, source_refused, sheet_and_source}
+use Rattle.tc_answer.specs.Answers.{Answer, over_limit, has_result}
+use Rattle.tc_top.specs.Causes.{Runs, sheet_passes, too_much_work, too_open, gives_result, RunsTexts, sheet_refused, source_refused, sheet_and_source}
 use Rattle.tc_top.specs.OneAnswer.{AreAlike, same_answer, work_or_open, open_or_work}
 use Rattle.tc_top.proofs.OneRefusal.{document_refusals, sheet_refusals}
 use Rattle.tc_top.proofs.OneValidity.{no_document, one_document}

@@ -20,7 +20,8 @@ use Rattle.tc_model.specs.SimplifiesCounts.{IsWithinCounts}
 use Rattle.tc_model.specs.States.{Side}
 use Rattle.tc_read.specs.Schemas.{PassesSize, passes_pattern, passes_depth, passes_elements}
 use Rattle.tc_top.specs.Limits.{IsWithinLimits, PassesLimit, passes_size, passes_states, IsValidityWithin}
-use Rattle.tc_top.specs.Answers.{Answer, over_limit, is_valid, is_invalid, Decides, passes, too_many_symbols, decides_valid, decides_invalid, Validates, schema_refused, document_refused, both_read}
+use Rattle.tc_answer.specs.Answers.{Answer, over_limit, is_valid, is_invalid}
+use Rattle.tc_top.specs.Causes.{Decides, passes, too_many_symbols, decides_valid, decides_invalid, Validates, schema_refused, document_refused, both_read}
 use Rattle.tc_top.specs.OneAnswer.{AreAlike, same_answer}
 use Rattle.tc_top.proofs.OneRefusal.{schema_refusals, document_refusals}
 

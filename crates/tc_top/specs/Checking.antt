@@ -1,5 +1,6 @@
 -- The limits of a check, in the order in which they are tried, and what a check finds of two schemas and a stylesheet.
 use Rattle.std.specs.Prelude.{◌<◌, ◌≤◌, ◌⊎◌, ℕ, Option, Some, None}
+use Rattle.tc_answer.specs.Lines.{RowCount, trees, hedges, outputs}
 use Rattle.tc_base.specs.declared.Limit.{Limit}
 use Rattle.tc_base.specs.declared.Limit.TheVariants.{Calls, Entries}
 use Rattle.tc_base.specs.declared.limits.TheConstants.{MOST_INPUT_STATES, MOST_OUTPUT_STATES, DEEPEST_CALLS, MOST_ENTRIES}
@@ -16,13 +17,7 @@ use Rattle.tc_rows.specs.Derivations.{ArePlain}
 use Rattle.tc_rows.specs.Triples.{Triple}
 use Rattle.tc_run.specs.Spent.{most_work, most_open}
 use Rattle.tc_top.specs.Limits.{IsWithinLimits, PassesLimit, IsWithinSheetLimits, SheetPasses}
-use Rattle.tc_top.specs.declared.limits.TheConstants.{MOST_ROWS, MOST_OUTPUTS, MOST_SHOWN_NODES}
-
--- the numbers of which one passes its limit: of rows of live trees, of rows of live lists of trees, of sets of pairs in them
-pub data RowCount : Type 0 where
-  trees : RowCount
-  hedges : RowCount
-  outputs : RowCount
+use Rattle.tc_answer.specs.declared.limits.TheConstants.{MOST_ROWS, MOST_OUTPUTS, MOST_SHOWN_NODES}
 
 -- how many rows of live trees, and of live lists of trees, there may be
 abbrev pub most_rows : Option ℕ → ℕ

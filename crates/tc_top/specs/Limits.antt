@@ -13,18 +13,6 @@ use Rattle.tc_model.specs.StateCounts.{PassNone, PassPredicates, PassAncestors, 
 use Rattle.tc_read.specs.Schemas.{PassesSize}
 use Rattle.tc_run.specs.Limits.{KeepsLimits}
 
-abbrev pub limit_word : Limit → List ℕ
-limit_word Pattern = codes "pattern"
-limit_word Depth = codes "depth"
-limit_word Elements = codes "elements"
-limit_word States = codes "states"
-limit_word Symbols = codes "symbols"
-limit_word Predicates = codes "predicates"
-limit_word Ancestors = codes "ancestors"
-limit_word Selects = codes "selects"
-limit_word Calls = codes "calls"
-limit_word Entries = codes "entries"
-
 -- the symbols of what is mentioned, but for the last, which is that of all other names
 abbrev pub symbols_of_mentions : List Mention → List Mention
 symbols_of_mentions mentions = in_order mention_cmp (flat_map with_namespace mentions)

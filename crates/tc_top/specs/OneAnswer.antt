@@ -1,6 +1,8 @@
 -- That an answer is the only one: what the causes exclude, and what they leave open.
-use Rattle.std.specs.Prelude.{◌≡◌, ◌⊎◌, ℕ, List, Some}
+use Rattle.std.specs.Prelude.{◌≡◌, ◌⊎◌, ℕ, List, Option, Some}
+use Rattle.tc_answer.specs.declared.status.Status.{Status}
 use Rattle.tc_io.specs.Faults.{Rose}
+use Rattle.tc_io.specs.Sink.{Appended}
 use Rattle.tc_io.specs.Store.{Files, Read}
 use Rattle.tc_io.specs.Reads.{AreTrue}
 use Rattle.tc_model.specs.RawTrees.{RawTrees}
@@ -8,8 +10,9 @@ use Rattle.tc_model.specs.SheetTextTrees.{Template}
 use Rattle.tc_model.specs.SheetTextPhrases.{IsStylesheet}
 use Rattle.tc_model.specs.Trees.{Trees}
 use Rattle.tc_model.specs.XmlText.{XmlText}
-use Rattle.tc_top.specs.Answers.{Answer, cannot_read, unsafe, unsafe_large, rows_limit, refused, work_limit, open_limit, IsAnswer, IsAnswerOn}
-use Rattle.tc_top.specs.Checking.{RowCount}
+use Rattle.tc_answer.specs.Answers.{Answer, cannot_read, unsafe, unsafe_large, not_included, first_only, second_only, rows_limit, refused, work_limit, open_limit, status_of, text_of}
+use Rattle.tc_top.specs.Answers.{IsAnswer, IsAnswerOn}
+use Rattle.tc_answer.specs.Lines.{RowCount}
 use Rattle.tc_read.specs.Refusals.{IsRefusedDocument, IsRefusedSheet}
 use Rattle.tc_read.specs.declared.faults.Reason.{Reason}
 use Rattle.tc_read.specs.declared.faults.Reason.TheVariants.{Malformed, Unsupported, TooDeep}
@@ -21,19 +24,30 @@ IsOpen (Unsupported why) = Unit {0}
 IsOpen TooDeep = Unit {0}
 IsOpen _ = ⊥
 
--- One answer, but for what is left open: which least counterexample is shown, and so whether its result is; which limit is told where several
--- numbers of rows pass theirs, and of a run that passes both; and for which of the reasons above, and where, the text of an operand is refused.
+-- One answer, but for what is left open: which least counterexample is shown, and so whether its result is; which least document two schemas
+-- are shown to differ by; which limit is told where several numbers of rows pass theirs, and of a run that passes both; and for which of the
+-- reasons above, and where, the text of an operand is refused.
 pub data AreAlike : Answer → Answer → Type 0 where
   same_answer : {a : Answer} → AreAlike a a
   counterexamples : {document result other_document other_result : Trees} → AreAlike (unsafe document result) (unsafe other_document other_result)
   large_counterexamples : {document other_document : Trees} → AreAlike (unsafe_large document) (unsafe_large other_document)
   large_or_not : {document result other_document : Trees} → AreAlike (unsafe document result) (unsafe_large other_document)
   not_large_or_large : {document other_document other_result : Trees} → AreAlike (unsafe_large document) (unsafe other_document other_result)
+  documents_not_included : {document other_document : Trees} → AreAlike (not_included document) (not_included other_document)
+  documents_of_first : {document other_document : Trees} → AreAlike (first_only document) (first_only other_document)
+  documents_of_second : {document other_document : Trees} → AreAlike (second_only document) (second_only other_document)
   row_limits : {count other_count : RowCount} {number other_number : ℕ} → AreAlike (rows_limit count number) (rows_limit other_count other_number)
   work_or_open : AreAlike work_limit open_limit
   open_or_work : AreAlike open_limit work_limit
   open_reasons : {name : List ℕ} {reason other_reason : Reason} {place other_place : ℕ} → IsOpen reason → IsOpen other_reason
       → AreAlike (refused name reason place) (refused name other_reason other_place)
+
+-- an answer that is one with this, and its lines
+pub record GivesOneLike (status : Status) (old new : Option (List ℕ)) (answer : Answer) : Type 0 where
+  pub given : Answer
+  pub alike : AreAlike answer given
+  pub status_is : status ≡ status_of given
+  pub written : Appended old new (text_of given)
 
 -- words and what was read have one answer
 abbrev pub HasOneAnswer : Type 0

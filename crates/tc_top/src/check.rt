@@ -9,19 +9,21 @@ ghost use Rattle.tc_model.specs.Views as see;
 ghost use Rattle.tc_model.specs.WellFormed.{IsSheet};
 ghost use Rattle.tc_read.specs.Schemas.{IsSchemaOf};
 ghost use Rattle.tc_rows.specs.Triples as t;
-ghost use Rattle.tc_top.specs.Answers as a;
-ghost use Rattle.tc_top.specs.Answers.{Checks, Finds};
-ghost use Rattle.tc_top.specs.AnswersSeen.{Says, IsRightFor, IsRunOf};
+ghost use Rattle.tc_answer.specs.Answers as a;
+ghost use Rattle.tc_top.specs.Causes.{Checks, Finds};
+ghost use Rattle.tc_answer.specs.AnswersSeen.{Says};
+ghost use Rattle.tc_top.specs.AnswersSeen.{IsRightFor, IsRunOf};
 ghost use Rattle.tc_top.specs.Checking.{IsCompiled, most_rows};
 ghost use Rattle.tc_top.specs.Compiled.{IsSpelled, IsReadOf};
-ghost use Rattle.tc_top.specs.Words as w;
-ghost use Rattle.tc_top.specs.Words.{Words};
+ghost use Rattle.tc_answer.specs.Words as w;
+ghost use Rattle.tc_answer.specs.Words.{Words};
 
-use crate::answer::{Answer, RowCount};
-use crate::command::Triple;
+use tc_answer::{Answer, RowCount};
+use tc_answer::Triple;
 use crate::compile::{CompileFault, machine_of};
-use crate::limits::{MOST_OUTPUTS, MOST_ROWS};
-use crate::read::{Operands, read_triple};
+use tc_answer::limits::{MOST_OUTPUTS, MOST_ROWS};
+use tc_answer::{Operands, read_triple};
+use crate::unread::answer_unread;
 use bumpalo::Bump;
 use std::alloc::Global;
 use tc_base::NoMemory;
@@ -49,7 +51,7 @@ pub fn check<S: Store>(
 {
     match read_triple(alloc, triple, store) {
         Ok(operands) => check_texts(alloc, row_limit(limit), &operands),
-        Err(unread) => unread.answer(alloc),
+        Err(unread) => answer_unread(alloc, unread),
     }
 }
 

@@ -76,7 +76,7 @@ pub fn machine_of<'b>(
 }
 
 /// The grammar of a schema, unless its size passes a limit.
-fn small<'s, 'b>(schema: &'s Schema<'b>) -> Result<&'s Grammar<'b>, CompileFault>
+pub(crate) fn small<'s, 'b>(schema: &'s Schema<'b>) -> Result<&'s Grammar<'b>, CompileFault>
     ensures ok { IfOk result (λ grammar. schema.now ≡ Schema.Small grammar.now) }
     ensures err { IfErr result (λ e. (side : s.Side) (x : g.Grammar) → IsReadOf x schema.now → IsCauseBy (PassesLimit x side MOST_INPUT_STATES) e) }
     ensures err_output { IfErr result (λ e. (side : s.Side) (x : g.Grammar) → IsReadOf x schema.now → IsCauseBy (PassesLimit x side MOST_OUTPUT_STATES) e) }
@@ -88,7 +88,7 @@ fn small<'s, 'b>(schema: &'s Schema<'b>) -> Result<&'s Grammar<'b>, CompileFault
 }
 
 /// The automaton of the contents of an input schema, unless that passes a limit of its own.
-fn contents_of<'b>(alloc: Global, schema: &Schema<'b>) -> Result<Auto<'b>, CompileFault>
+pub(crate) fn contents_of<'b>(alloc: Global, schema: &Schema<'b>) -> Result<Auto<'b>, CompileFault>
     ensures stands { IfOk result (λ auto. (x : g.Grammar) → IsReadOf x schema.now → a.Stands s.input x auto) }
     ensures within { OnOk result ((x : g.Grammar) → IsReadOf x schema.now → IsWithinLimits x s.input MOST_INPUT_STATES) }
     ensures err { IfErr result (λ e. (x : g.Grammar) → IsReadOf x schema.now → IsCauseBy (PassesLimit x s.input MOST_INPUT_STATES) e) }

@@ -1,16 +1,16 @@
 // What `demo` answers.
 ghost use Rattle.std.specs.Prelude.{◌≡◌, ◌≤◌, ◌++◌, IfOk, OnOk, length};
 ghost use Rattle.tc_base.specs.Reading.{longest_text};
-ghost use Rattle.tc_top.specs.Answers as a;
-ghost use Rattle.tc_top.specs.Answers.{Checks};
-ghost use Rattle.tc_top.specs.AnswersSeen.{Says};
+ghost use Rattle.tc_answer.specs.Answers as a;
+ghost use Rattle.tc_top.specs.Causes.{Checks};
+ghost use Rattle.tc_answer.specs.AnswersSeen.{Says};
 ghost use Rattle.tc_top.specs.Demo.{demo_line, demo_schema, demo_sheet, input_name, output_name, sheet_name};
-ghost use Rattle.tc_top.specs.declared.limits.TheConstants.{MOST_ROWS};
+ghost use Rattle.tc_answer.specs.declared.limits.TheConstants.{MOST_ROWS};
 
-use crate::answer::Answer;
+use tc_answer::Answer;
 use crate::check::check_texts;
-use crate::limits::MOST_ROWS;
-use crate::read::{Operand, Operands};
+use tc_answer::limits::MOST_ROWS;
+use tc_answer::{Operand, Operands};
 use std::alloc::Global;
 use tc_base::NoMemory;
 

@@ -1,11 +1,5 @@
-//! Laws of the definitions, each the contract of a function that does nothing.
+//! Laws of the definitions, the contract of a function that does nothing.
 ghost use Rattle.tc_top.specs.OneAnswer.{HasOneAnswer, HasOneAnswerOn, HasAnswerOfCall, HasOneConstruct, HasOneFaultOfNames};
-ghost use Rattle.tc_top.specs.Words.{WordsGiveOne};
-
-/// A list of words gives one command at most.
-pub fn law_of_words()
-    ensures { WordsGiveOne }
-{}
 
 /// Laws of answers. Words and what was read have one answer, but for what is left open: which least counterexample is
 /// shown, and so whether its result is; which limit is told where several numbers of rows pass theirs, and of a run

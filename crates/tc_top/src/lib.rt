@@ -1,21 +1,16 @@
 //! The top call: it reads the files that its words name, decides, and writes the answer.
 #![tactic(auto)]
 
-mod answer;
-mod buffer;
 mod check;
-mod command;
+mod compare;
 mod compile;
 mod demo;
 pub mod laws;
-pub mod limits;
 mod program;
-mod read;
 mod run;
-mod status;
+mod schemas;
+mod unread;
 mod valid;
-mod words;
-mod write;
 
 ghost use Rattle.std.specs.Prelude.{◌≡◌, ◌≤◌, ◌⊎◌, ℕ, List, Option, Some, IfOk, OnErr};
 ghost use Rattle.tc_io.specs.Faults.{Rose};
@@ -24,33 +19,34 @@ ghost use Rattle.tc_io.specs.Store.{Files};
 ghost use Rattle.tc_model.specs.Grammars.{Grammar};
 ghost use Rattle.tc_model.specs.Sheets.{Sheet};
 ghost use Rattle.tc_model.specs.Trees.{Trees};
-ghost use Rattle.tc_top.specs.Answers as a;
-ghost use Rattle.tc_top.specs.Answers.{Ends, IsAnswerOn, IsBuilt, ReadsNothing, Gives, KeepsToLimits};
+ghost use Rattle.tc_answer.specs.Answers as a;
+ghost use Rattle.tc_top.specs.Answers.{Ends, IsAnswerOn, IsBuilt, ReadsNothing, KeepsToLimits};
 ghost use Rattle.tc_top.specs.AnswersSeen.{IsRightFor};
 ghost use Rattle.tc_model.specs.Safety.{IsSafe};
 ghost use Rattle.tc_model.specs.RncText.{RncText};
 ghost use Rattle.tc_read.specs.Sheets.{IsSheetOf};
 ghost use Rattle.tc_top.specs.Checking.{most_rows};
 ghost use Rattle.tc_top.specs.Demo.{demo_schema, demo_sheet};
-ghost use Rattle.tc_top.specs.declared.limits.TheConstants.{MOST_ROWS};
+ghost use Rattle.tc_answer.specs.declared.limits.TheConstants.{MOST_ROWS};
 ghost use Rattle.tc_top.specs.Headline.{IsCutShort, ChecksFiles, ChecksShortFiles, ShowsCounterexample, DecidesSafety, ValidatesFiles, DecidesValidity, RunsFiles, GivesResult};
-ghost use Rattle.tc_top.specs.Words as w;
-ghost use Rattle.tc_top.specs.Words.{Words, IsNoCommand, name_of};
-ghost use Rattle.tc_top.specs.WordsSeen.{texts};
+ghost use Rattle.tc_top.specs.OneAnswer.{GivesOneLike};
+ghost use Rattle.tc_top.specs.ComparedFiles.{ComparesFiles, DecidesComparison};
+ghost use Rattle.tc_top.specs.Comparing.{inclusion, equality};
+ghost use Rattle.tc_answer.specs.Words as w;
+ghost use Rattle.tc_answer.specs.Words.{Words, IsNoCommand, name_of};
+ghost use Rattle.tc_answer.specs.WordsSeen.{texts};
 
-use answer::Answer;
 use check::check;
-use command::{Command, read_words};
 use demo::demo;
 pub use program::run_program;
 use run::run;
-pub use status::Status;
+use schemas::{include, same};
 use std::alloc::Global;
+use tc_answer::{Answer, Command, read_words, write_lines};
+pub use tc_answer::{Status, WordList};
 use tc_base::NoMemory;
 use tc_io::{Sink, Store, WriteFault};
 use valid::valid;
-pub use words::WordList;
-use write::write_lines;
 
 /// Carries out the command that the words give: reads the files that it names from the store, and writes the answer to
 /// the sink, each line by a write of its own. All memory is taken before the first write.
@@ -67,13 +63,14 @@ pub fn typecheck<S: Store, K: Sink>(
     ensures unwritten { result ≡ Status.NoMemory → sink.new ≡ sink.old }
 
     // Words alone decide that they are no command, and that a command isn't carried out.
-    ensures usage { IsNoCommand words.now → (result ≡ Status.Usage) ⊎ (result ≡ Status.WriteFault) }
-    ensures not_built { (command : w.Command) → Words words.now command → ¬ (IsBuilt command) → Gives result ⊥ (a.not_yet (name_of command)) }
+    ensures usage { IsNoCommand words.now → IsCutShort result ⊥ ⊎ GivesOneLike result (K.written sink.old) (K.written sink.new) a.usage }
+    ensures not_built { (command : w.Command) → Words words.now command → ¬ (IsBuilt command)
+        → IsCutShort result ⊥ ⊎ GivesOneLike result (K.written sink.old) (K.written sink.new) (a.not_yet (name_of command)) }
     ensures unread { ReadsNothing words.now → store.new ≡ store.old }
 
-    // Where the store tells what it holds, each cause has its status, and by `ends` and `law_of_answers` its answer.
+    // Where the store tells what it holds, each cause has its answer, but for what is left open.
     ensures exactly { (files : Files) (answer : a.Answer) → S.holds store.old ≡ Some files → IsAnswerOn words.now files answer
-        → Gives result (Rose (S.faults store.old) (S.faults store.new)) answer }
+        → IsCutShort result (Rose (S.faults store.old) (S.faults store.new)) ⊎ GivesOneLike result (K.written sink.old) (K.written sink.new) answer }
 
     // A check of held files that is yes: every document that is valid for the input is transformed to one that is valid for the output.
     ensures safe { (files : Files) (limit : Option ℕ) (i o : Grammar) (s : Sheet) → S.holds store.old ≡ Some files → ChecksFiles words.now files limit i o s
@@ -112,6 +109,16 @@ pub fn typecheck<S: Store, K: Sink>(
         → IsCutShort result (Rose (S.faults store.old) (S.faults store.new))
         ⊎ KeepsToLimits result (K.written sink.old) (K.written sink.new) s d }
 
+    // `include` of held files is yes exactly where each document that is valid for the first schema is valid for the second, with the
+    // numbers of rows; no exactly where some document that can be shown isn't, with one of the fewest nodes; and else it tells of a limit
+    // that is passed. So is `same`, for documents that are valid for exactly one of both.
+    ensures inclusion { (files : Files) (g h : Grammar) → S.holds store.old ≡ Some files → ComparesFiles words.now files inclusion g h
+        → IsCutShort result (Rose (S.faults store.old) (S.faults store.new))
+        ⊎ DecidesComparison g h result (K.written sink.old) (K.written sink.new) inclusion }
+    ensures equality { (files : Files) (g h : Grammar) → S.holds store.old ≡ Some files → ComparesFiles words.now files equality g h
+        → IsCutShort result (Rose (S.faults store.old) (S.faults store.new))
+        ⊎ DecidesComparison g h result (K.written sink.old) (K.written sink.new) equality }
+
     // What is held stays as it is, and no count of faults falls.
     ensures held { S.holds store.new ≡ S.holds store.old }
     ensures store_count { S.faults store.old ≤ S.faults store.new }
@@ -148,5 +155,8 @@ fn answer_words<S: Store>(
         Command::Prove(..) => Answer::not_yet(alloc, "prove"),
         Command::Verify(..) => Answer::not_yet(alloc, "verify"),
         Command::Demo(size) => demo(alloc, size),
+        Command::Upgrade(..) => Answer::not_yet(alloc, "upgrade"),
+        Command::Include(first, second) => include(alloc, first, second, store),
+        Command::Same(first, second) => same(alloc, first, second, store),
     }
 }

@@ -9,15 +9,17 @@ ghost use Rattle.tc_model.specs.Trees.{none, IsDocument};
 ghost use Rattle.tc_model.specs.WellFormed.{IsSheet};
 ghost use Rattle.tc_rules.specs.Kept.{IsRulesOf, told};
 ghost use Rattle.tc_read.specs.Sheets.{IsSheetOf};
-ghost use Rattle.tc_top.specs.Answers as a;
-ghost use Rattle.tc_top.specs.Answers.{Runs, RunsTexts};
-ghost use Rattle.tc_top.specs.AnswersSeen.{Says, IsRightFor};
+ghost use Rattle.tc_answer.specs.Answers as a;
+ghost use Rattle.tc_top.specs.Causes.{Runs, RunsTexts};
+ghost use Rattle.tc_answer.specs.AnswersSeen.{Says};
+ghost use Rattle.tc_top.specs.AnswersSeen.{IsRightFor};
 ghost use Rattle.tc_top.specs.Limits.{AreFew, IsWithinSheetLimits, symbols_of_sheet};
-ghost use Rattle.tc_top.specs.Words as w;
-ghost use Rattle.tc_top.specs.Words.{Words};
+ghost use Rattle.tc_answer.specs.Words as w;
+ghost use Rattle.tc_answer.specs.Words.{Words};
 
-use crate::answer::Answer;
-use crate::read::{Operand, read_pair};
+use tc_answer::Answer;
+use tc_answer::{Operand, read_pair};
+use crate::unread::answer_unread;
 use bumpalo::Bump;
 use std::alloc::Global;
 use tc_alpha::{AlphaFault, Alphabet};
@@ -43,7 +45,7 @@ pub fn run<S: Store>(
 {
     match read_pair(alloc, sheet, document, store) {
         Ok((sheet, document)) => run_texts(alloc, &sheet, &document),
-        Err(unread) => unread.answer(alloc),
+        Err(unread) => answer_unread(alloc, unread),
     }
 }
 

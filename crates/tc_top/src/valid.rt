@@ -9,15 +9,17 @@ ghost use Rattle.tc_model.specs.SimplifiesLaws.{IsStart};
 ghost use Rattle.tc_model.specs.Symbols.{symbol_count};
 ghost use Rattle.tc_model.specs.Trees.{none};
 ghost use Rattle.tc_read.specs.Schemas.{IsSchemaOf};
-ghost use Rattle.tc_top.specs.Answers as a;
-ghost use Rattle.tc_top.specs.Answers.{Decides, Validates};
-ghost use Rattle.tc_top.specs.AnswersSeen.{Says, IsRightFor};
+ghost use Rattle.tc_answer.specs.Answers as a;
+ghost use Rattle.tc_top.specs.Causes.{Decides, Validates};
+ghost use Rattle.tc_answer.specs.AnswersSeen.{Says};
+ghost use Rattle.tc_top.specs.AnswersSeen.{IsRightFor};
 ghost use Rattle.tc_top.specs.Limits.{AreFew, symbols_of_schema};
-ghost use Rattle.tc_top.specs.Words as w;
-ghost use Rattle.tc_top.specs.Words.{Words};
+ghost use Rattle.tc_answer.specs.Words as w;
+ghost use Rattle.tc_answer.specs.Words.{Words};
 
-use crate::answer::Answer;
-use crate::read::{Operand, read_pair};
+use tc_answer::Answer;
+use tc_answer::{Operand, read_pair};
+use crate::unread::answer_unread;
 use bumpalo::Bump;
 use std::alloc::Global;
 use tc_alpha::{AlphaFault, Alphabet};
@@ -43,7 +45,7 @@ pub fn valid<S: Store>(
 {
     match read_pair(alloc, schema, document, store) {
         Ok((schema, document)) => valid_texts(alloc, &schema, &document),
-        Err(unread) => unread.answer(alloc),
+        Err(unread) => answer_unread(alloc, unread),
     }
 }
 

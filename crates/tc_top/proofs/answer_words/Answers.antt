@@ -2,12 +2,13 @@ use Rattle.std.proofs.Common.{◌≡◌, refl, sym, ap, subst, codes, ℕ, List}
 use Rattle.std.proofs.lemmas.Result.{IfOk-weaker}
 use Rattle.std.proofs.lemmas.Option.{MatchOption-at_none, MatchOption-at_some}
 use Rattle.tc_io.proofs.ReadsInOrder.{happened_nothing}
-use Rattle.tc_top.specs.Answers as a
-use Rattle.tc_top.specs.Answers.{no_command, not_built, shown, IsBuilt}
-use Rattle.tc_top.specs.Words.{Words, name_of}
-use Rattle.tc_top.specs.WordsSeen.{command}
-use Rattle.tc_top.specs.declared.command.Command.{Command}
-use Rattle.tc_top.proofs.Numerals.{few_rows, demo_size}
+use Rattle.tc_answer.specs.Answers as a
+use Rattle.tc_top.specs.Answers.{no_command, not_built, decided, shown, IsBuilt}
+use Rattle.tc_answer.specs.Words.{Words, name_of}
+use Rattle.tc_answer.specs.WordsSeen.{command}
+use Rattle.tc_answer.specs.declared.command.Command.{Command}
+use Rattle.tc_answer.proofs.Numerals.{demo_size}
+use Rattle.tc_top.proofs.FewRows.{few_rows}
 use Rattle.tc_top.proofs.answer_words.Goals as goal
 
 pub returns-in_default-clause-right : goal.returns-in_default-clause-right
@@ -46,4 +47,10 @@ returns-in-Verify-clause-right g c =
 pub returns-in-Demo-clause-right : goal.returns-in-Demo-clause-right
 returns-in-Demo-clause-right g c =
     let words = MatchOption-at_some _ _ _ c.in-Some.is c.read_words.ensures in
-    IfOk-weaker c.demo.result _ _ (λ said h. (_, happened_nothing _ _ _ _, (h.0, h.1, shown (words_at _ _ c.in-Demo.is words) refl h.2))) c.demo.ensures
+    IfOk-weaker c.demo.result _ _ (λ said h. (_, happened_nothing _ _ _ _, (h.0, h.1, decided {texts = []} (words_at _ _ c.in-Demo.is words) tt refl (shown h.2)))) c.demo.ensures
+
+pub returns-in-Upgrade-clause-right : goal.returns-in-Upgrade-clause-right
+returns-in-Upgrade-clause-right g c =
+    let words = MatchOption-at_some _ _ _ c.in-Some.is c.read_words.ensures in
+    let is = c.in-Upgrade.is in
+    IfOk-weaker c.not_yet-in-Upgrade.result _ _ (λ said says. (_, happened_nothing _ _ _ _, (a.not_yet (codes "upgrade"), says, not_built words (unbuilt _ _ is (λ b. b)) refl (ap (λ x. name_of (command x)) (sym is))))) c.not_yet-in-Upgrade.ensures

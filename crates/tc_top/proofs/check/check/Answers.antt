@@ -1,9 +1,9 @@
 use Rattle.std.proofs.Common.{refl}
 use Rattle.std.proofs.lemmas.Result.{IfOk-weaker}
-use Rattle.tc_top.specs.Answers.{checked}
-use Rattle.tc_top.specs.Words.{Words, check}
+use Rattle.tc_top.specs.Answers.{checked, decided}
+use Rattle.tc_answer.specs.Words.{Words, check}
 use Rattle.tc_top.proofs.Checked.{checks_at}
-use Rattle.tc_top.proofs.OperandsRead.{three_named}
+use Rattle.tc_answer.proofs.OperandsRead.{three_named}
 use Rattle.tc_top.proofs.check.check.Goals as goal
 
 pub returns-in-Ok-clause-ok : goal.returns-in-Ok-clause-ok
@@ -15,12 +15,12 @@ returns-in-Ok-clause-ok g c =
       (
         h.0,
         h.1,
-        checked (three_named (λ x y z. Words words (check c.args.limit x y z)) read.input read.output read.sheet are) refl
-            (checks_at c.row_limit.ensures h.2),
+        decided (three_named (λ x y z. Words words (check c.args.limit x y z)) read.input read.output read.sheet are) tt (refl, (refl, (refl, refl)))
+            (checked (checks_at c.row_limit.ensures h.2)),
       ),
     )) c.check_texts.ensures
 
 pub returns-in-Err-clause-ok : goal.returns-in-Err-clause-ok
 returns-in-Err-clause-ok g c =
     let unread = c.in-Err.ensures.err in
-    IfOk-weaker c.answer.result _ _ (λ said right words are. (unread.0, unread.1, right words _ unread.0 are tt unread.2)) c.answer.ensures
+    IfOk-weaker c.answer_unread.result _ _ (λ said right words are. (unread.0, unread.1, right words _ unread.0 are tt unread.2)) c.answer_unread.ensures

@@ -1,8 +1,8 @@
 use Rattle.std.proofs.Common.{subst}
 use Rattle.std.proofs.lemmas.Result.{IfOk-weaker}
 use Rattle.tc_model.specs.Views as see
-use Rattle.tc_top.specs.Answers as a
-use Rattle.tc_top.specs.Answers.{output_refused}
+use Rattle.tc_answer.specs.Answers as a
+use Rattle.tc_top.specs.Causes.{output_refused}
 use Rattle.tc_read.specs.Faults.{IsUnaccepted}
 use Rattle.tc_read.specs.Refusals.{IsRefusedSchema}
 use Rattle.tc_read.specs.Schemas.{IsSchemaOf}

@@ -1,8 +1,8 @@
 use Rattle.std.proofs.Common.{subst}
 use Rattle.std.proofs.lemmas.Result.{IfOk-weaker}
 use Rattle.tc_model.specs.Views as see
-use Rattle.tc_top.specs.Answers as a
-use Rattle.tc_top.specs.Answers.{Finds, passes_compile}
+use Rattle.tc_answer.specs.Answers as a
+use Rattle.tc_top.specs.Causes.{Finds, passes_compile}
 use Rattle.tc_top.specs.Checking.{IsCompiled, PassesCompile}
 use Rattle.tc_top.specs.Compiled.{IsCauseBy}
 use Rattle.tc_top.proofs.Checked.{read_of, of_triple, to_triple}

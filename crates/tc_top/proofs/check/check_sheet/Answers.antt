@@ -1,8 +1,8 @@
 use Rattle.std.proofs.Common.{subst}
 use Rattle.std.proofs.lemmas.Result.{IfOk-weaker}
 use Rattle.tc_model.specs.Views as see
-use Rattle.tc_top.specs.Answers as a
-use Rattle.tc_top.specs.Answers.{stylesheet_refused, all_read}
+use Rattle.tc_answer.specs.Answers as a
+use Rattle.tc_top.specs.Causes.{stylesheet_refused, all_read}
 use Rattle.tc_read.specs.Faults.{IsUnaccepted}
 use Rattle.tc_read.specs.Refusals.{IsRefusedSheet}
 use Rattle.tc_read.specs.Sheets.{IsSheetOf}

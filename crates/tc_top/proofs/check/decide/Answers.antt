@@ -1,10 +1,10 @@
 use Rattle.std.proofs.Common.{subst}
 use Rattle.std.proofs.lemmas.Result.{IfOk-weaker}
 use Rattle.tc_close.specs.Decisions.{IsDecided, IsCloseCause}
-use Rattle.tc_top.specs.Answers as a
-use Rattle.tc_top.specs.Answers.{passes_rows}
+use Rattle.tc_answer.specs.Answers as a
+use Rattle.tc_top.specs.Causes.{passes_rows}
 use Rattle.tc_top.specs.Checking as count
-use Rattle.tc_top.specs.declared.limits.TheConstants.{MOST_OUTPUTS}
+use Rattle.tc_answer.specs.declared.limits.TheConstants.{MOST_OUTPUTS}
 use Rattle.tc_top.proofs.Checked.{itself, triple_is, found_safe, found_far, found_unsafe}
 use Rattle.tc_top.proofs.check.decide.Goals as goal
 

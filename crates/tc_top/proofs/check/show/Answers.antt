@@ -8,7 +8,7 @@ use Rattle.tc_rows.specs.Triples.{sheet}
 use Rattle.tc_rules.specs.Kept.{IsRulesOf, told}
 use Rattle.tc_rules.specs.declared.rules.Rules.{Rules}
 use Rattle.tc_run.specs.Limits.{KeepsLimits, IsCause}
-use Rattle.tc_top.specs.Answers as a
+use Rattle.tc_answer.specs.Answers as a
 use Rattle.tc_top.specs.AnswersSeen.{run_within, run_large}
 use Rattle.tc_top.specs.Checking.{IsLargeRun}
 use Rattle.tc_top.proofs.Checked.{rules_sheet, rules_stand, much_work, too_open}

@@ -1,7 +1,7 @@
 use Rattle.std.proofs.Common.{◌≡◌, ◌∙◌, inl, inr, refl, sym, arith}
-use Rattle.tc_top.specs.StatusSeen.{number_of}
-use Rattle.tc_top.specs.declared.status.Status.{Status}
-use Rattle.tc_top.specs.declared.status.Status.TheVariants.{Yes, No, Usage, Refused, Limit, ReadFault, WriteFault, NoMemory}
+use Rattle.tc_answer.specs.StatusSeen.{number_of}
+use Rattle.tc_answer.specs.declared.status.Status.{Status}
+use Rattle.tc_answer.specs.declared.status.Status.TheVariants.{Yes, No, Usage, Refused, Limit, ReadFault, WriteFault, NoMemory}
 use Rattle.tc_top.proofs.Headline.{ends_at}
 use Rattle.tc_top.proofs.program.run_program.Goals as goal
 

@@ -3,8 +3,8 @@ use Rattle.std.proofs.lemmas.Result.{IfOk-weaker}
 use Rattle.tc_model.specs.Views as see
 use Rattle.tc_model.specs.Trees.{none}
 use Rattle.tc_print.specs.ReadBack.{IsReadAs}
-use Rattle.tc_top.specs.Answers as a
-use Rattle.tc_top.specs.Answers.{source_refused, sheet_and_source}
+use Rattle.tc_answer.specs.Answers as a
+use Rattle.tc_top.specs.Causes.{source_refused, sheet_and_source}
 use Rattle.tc_read.specs.Refusals.{IsRefusedDocument}
 use Rattle.tc_read.specs.Faults.{IsUnaccepted}
 use Rattle.tc_top.proofs.run.run_on_text.Goals as goal

@@ -4,8 +4,8 @@ use Rattle.tc_model.specs.Views.{before, trees}
 use Rattle.tc_model.specs.Trees.{none}
 use Rattle.tc_rules.specs.Kept.{told}
 use Rattle.tc_run.specs.Limits.{IsCause}
-use Rattle.tc_top.specs.Answers as a
-use Rattle.tc_top.specs.Answers.{too_much_work, too_open, gives_result}
+use Rattle.tc_answer.specs.Answers as a
+use Rattle.tc_top.specs.Causes.{too_much_work, too_open, gives_result}
 use Rattle.tc_top.proofs.run.run_rules.Goals as goal
 
 pub returns-in-Ok : goal.returns-in-Ok

@@ -5,8 +5,8 @@ use Rattle.tc_base.specs.declared.Limit.TheVariants.{States, Symbols}
 use Rattle.tc_base.specs.declared.limits.TheConstants.{MOST_INPUT_STATES, MOST_SYMBOLS}
 use Rattle.tc_model.specs.Views as see
 use Rattle.tc_model.specs.States.{input, state_count}
-use Rattle.tc_top.specs.Answers as a
-use Rattle.tc_top.specs.Answers.{passes, too_many_symbols, decides_valid, decides_invalid}
+use Rattle.tc_answer.specs.Answers as a
+use Rattle.tc_top.specs.Causes.{passes, too_many_symbols, decides_valid, decides_invalid}
 use Rattle.tc_top.specs.Limits.{IsValidityWithin, passes_states}
 use Rattle.tc_top.proofs.Nothing.{no_schema, no_rules, schema_alone}
 use Rattle.tc_top.proofs.valid.decide.Goals as goal

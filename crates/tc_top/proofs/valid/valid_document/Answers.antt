@@ -6,8 +6,8 @@ use Rattle.tc_model.specs.Views as see
 use Rattle.tc_model.proofs.SimplifiesUnique.{lawful_start}
 use Rattle.tc_model.specs.Trees.{none}
 use Rattle.tc_print.specs.ReadBack.{IsReadAs}
-use Rattle.tc_top.specs.Answers as a
-use Rattle.tc_top.specs.Answers.{document_refused, both_read, passes}
+use Rattle.tc_answer.specs.Answers as a
+use Rattle.tc_top.specs.Causes.{document_refused, both_read, passes}
 use Rattle.tc_read.specs.Refusals.{IsRefusedDocument}
 use Rattle.tc_read.specs.Faults.{IsUnaccepted}
 use Rattle.tc_read.specs.Schemas.{IsSchemaOf}

@@ -5,7 +5,7 @@ use Rattle.tc_incl.proofs.both.Both.appended.Goals as goal
 
 pub returns-then-is_empty : goal.returns-then-is_empty
 returns-then-is_empty c = record {
-  made = dead_append c.args.self.now c.args.hedge.now c.args.tree.now c.requires.hedge c.requires.tree c.in_ok-first.first c.in_ok-first.ensures.set c.in_ok-first.ensures.size c.in_ok-first.ensures.numbers c.args.self.now.first.ended (c.is_empty.ensures.0 c.if-is_empty.true);
+  made = dead_append c.args.self.now c.args.hedge.now c.args.tree.now c.requires.hedge c.requires.tree c.in_ok-first.first c.in_ok-first.ensures.set c.in_ok-first.ensures.size (λ x st. c.in_ok-first.ensures.numbers x c.args.hedge.now.first st c.requires.steps.first) c.args.self.now.first.ended (c.is_empty.ensures.0 c.if-is_empty.true);
 }
 
 pub returns : goal.returns
@@ -19,9 +19,9 @@ returns c =
     let (j, some) = some_number c.in_ok-first.first c.in_ok-first.ensures.set c.is_empty.result c.is_empty.ensures.1 c.if-is_empty.false in
     record {
       made = (
-        appended_fit c.args.self.now c.args.hedge.now c.args.tree.now c.requires.hedge c.requires.tree c.in_ok-first.first c.in_ok-first.ensures.set c.in_ok-first.ensures.size c.in_ok-first.ensures.numbers c.args.self.now.first.ended
-            c.in_ok-second.second c.in_ok-second.ensures.set c.in_ok-second.ensures.size c.in_ok-second.ensures.numbers c.args.self.now.second.ended,
-        is_appended c.args.self.now c.args.hedge.now c.args.tree.now c.requires.hedge c.requires.tree c.in_ok-first.first c.in_ok-first.ensures.set c.in_ok-first.ensures.size c.in_ok-first.ensures.numbers c.args.self.now.first.ended
-            c.in_ok-second.second c.in_ok-second.ensures.set c.in_ok-second.ensures.size c.in_ok-second.ensures.numbers c.args.self.now.second.ended apart j some,
+        appended_fit c.args.self.now c.args.hedge.now c.args.tree.now c.requires.hedge c.requires.tree c.in_ok-first.first c.in_ok-first.ensures.set c.in_ok-first.ensures.size (λ x st. c.in_ok-first.ensures.numbers x c.args.hedge.now.first st c.requires.steps.first) c.args.self.now.first.ended
+            c.in_ok-second.second c.in_ok-second.ensures.set c.in_ok-second.ensures.size (λ x st. c.in_ok-second.ensures.numbers x c.args.hedge.now.second st c.requires.steps.second) c.args.self.now.second.ended,
+        is_appended c.args.self.now c.args.hedge.now c.args.tree.now c.requires.hedge c.requires.tree c.in_ok-first.first c.in_ok-first.ensures.set c.in_ok-first.ensures.size (λ x st. c.in_ok-first.ensures.numbers x c.args.hedge.now.first st c.requires.steps.first) c.args.self.now.first.ended
+            c.in_ok-second.second c.in_ok-second.ensures.set c.in_ok-second.ensures.size (λ x st. c.in_ok-second.ensures.numbers x c.args.hedge.now.second st c.requires.steps.second) c.args.self.now.second.ended apart j some,
       );
     }

@@ -1,5 +1,6 @@
 use Rattle.tc_incl.specs.Held.{IsHedgeFit, IsNone}
 use Rattle.tc_incl.proofs.Holding.{as_hedge, hedge_held, more_hedges, none_at, same_hedges}
+use Rattle.tc_incl.proofs.Stepped.{stepped_held}
 use Rattle.tc_incl.proofs.covers.CoversNumberedRows.none.Goals as goal
 
 pub returns-in_default-hold-clause-grows : goal.returns-in_default-hold-clause-grows
@@ -8,7 +9,7 @@ returns-in_default-hold-clause-grows g c =
     let b = c.self.inside.both in
     let hs = c.self.inside.hedges.keys in
     let ts = c.self.inside.trees.keys in
-    same_hedges of b hs ts c.self.invariant c.args.self.now c.self.view_is c.hold.new.rows.keys c.in_default-hold.ensures.err
+    same_hedges of b hs ts c.self.invariant.0 c.args.self.now c.self.view_is c.hold.new.rows.keys c.in_default-hold.ensures.err
 
 pub invariant_of-self-2 : goal.invariant_of-self-2
 invariant_of-self-2 g c =
@@ -20,7 +21,7 @@ invariant_of-self-2 g c =
     let u = c.in-Ok-hold.number in
     let held = c.in-Ok-hold.ensures in
     let fact : IsHedgeFit b c.in-Ok.row × IsNone b c.in-Ok.row = (c.in-Ok.ensures.fit, c.in-Ok.ensures.made) in
-    hedge_held of b hs ts c.self.invariant ks u c.in-Ok.row held.held held.kept held.different fact.0
+    (hedge_held of b hs ts c.self.invariant.0 ks u c.in-Ok.row held.held held.kept held.different fact.0, stepped_held b hs ks u c.in-Ok.row c.self.inside.steps.items held.kept c.self.invariant.1)
 
 pub returns-clause-grows : goal.returns-clause-grows
 returns-clause-grows g c =
@@ -31,7 +32,7 @@ returns-clause-grows g c =
     let ks = c.hold.new.rows.keys in
     let u = c.in-Ok-hold.number in
     let held = c.in-Ok-hold.ensures in
-    more_hedges of b hs ts c.self.invariant c.args.self.now c.self.view_is ks u c.in-Ok.row held.held held.kept
+    more_hedges of b hs ts c.self.invariant.0 c.args.self.now c.self.view_is ks u c.in-Ok.row held.held held.kept
 
 pub returns-clause-made : goal.returns-clause-made
 returns-clause-made g c =
@@ -43,4 +44,4 @@ returns-clause-made g c =
     let u = c.in-Ok-hold.number in
     let held = c.in-Ok-hold.ensures in
     let fact : IsHedgeFit b c.in-Ok.row × IsNone b c.in-Ok.row = (c.in-Ok.ensures.fit, c.in-Ok.ensures.made) in
-    (none_at of b hs ts c.self.invariant ks u c.in-Ok.row held.held held.kept fact.1, as_hedge of b hs ts c.self.invariant c.args.self.now c.self.view_is ks u c.in-Ok.row held.held held.kept)
+    (none_at of b hs ts c.self.invariant.0 ks u c.in-Ok.row held.held held.kept fact.1, as_hedge of b hs ts c.self.invariant.0 c.args.self.now c.self.view_is ks u c.in-Ok.row held.held held.kept)

@@ -10,7 +10,7 @@ returns-in_default-hold-clause-grows g c =
     let b = c.self.inside.both in
     let hs = c.self.inside.hedges.keys in
     let ts = c.self.inside.trees.keys in
-    same_trees of b hs ts c.self.invariant c.args.self.now c.self.view_is c.hold.new.rows.keys c.in_default-hold.ensures.err
+    same_trees of b hs ts c.self.invariant.0 c.args.self.now c.self.view_is c.hold.new.rows.keys c.in_default-hold.ensures.err
 
 pub invariant_of-self-2 : goal.invariant_of-self-2
 invariant_of-self-2 g c =
@@ -22,7 +22,7 @@ invariant_of-self-2 g c =
     let u = c.in-Ok-hold.number in
     let held = c.in-Ok-hold.ensures in
     let fact : IsTreeFit b c.in-Some.row × IsText b c.in-Some.row = subst (λ o. MatchOption o (NoText b) (λ (r : Row). IsTreeFit b r × IsText b r)) c.in-Some.is c.in-Ok.ensures.made in
-    tree_held of b hs ts c.self.invariant ks u c.in-Some.row held.held held.kept held.different fact.0
+    (tree_held of b hs ts c.self.invariant.0 ks u c.in-Some.row held.held held.kept held.different fact.0, c.self.invariant.1)
 
 pub returns-clause-grows : goal.returns-clause-grows
 returns-clause-grows g c =
@@ -33,7 +33,7 @@ returns-clause-grows g c =
     let ks = c.hold.new.rows.keys in
     let u = c.in-Ok-hold.number in
     let held = c.in-Ok-hold.ensures in
-    more_trees of b hs ts c.self.invariant c.args.self.now c.self.view_is ks u c.in-Some.row held.held held.kept
+    more_trees of b hs ts c.self.invariant.0 c.args.self.now c.self.view_is ks u c.in-Some.row held.held held.kept
 
 pub returns-clause-made : goal.returns-clause-made
 returns-clause-made g c =
@@ -45,4 +45,4 @@ returns-clause-made g c =
     let u = c.in-Ok-hold.number in
     let held = c.in-Ok-hold.ensures in
     let fact : IsTreeFit b c.in-Some.row × IsText b c.in-Some.row = subst (λ o. MatchOption o (NoText b) (λ (r : Row). IsTreeFit b r × IsText b r)) c.in-Some.is c.in-Ok.ensures.made in
-    (text_at of b hs ts c.self.invariant ks u c.in-Some.row held.held held.kept fact.1, as_tree of b hs ts c.self.invariant c.args.self.now c.self.view_is ks u c.in-Some.row held.held held.kept)
+    (text_at of b hs ts c.self.invariant.0 ks u c.in-Some.row held.held held.kept fact.1, as_tree of b hs ts c.self.invariant.0 c.args.self.now c.self.view_is ks u c.in-Some.row held.held held.kept)

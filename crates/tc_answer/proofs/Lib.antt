@@ -1,0 +1,6 @@
+pub mod Named
+pub mod Lined
+pub mod OperandsRead
+pub mod Numerals
+pub mod OneCommand
+pub mod ReadsOnce

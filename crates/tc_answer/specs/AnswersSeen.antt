@@ -1,0 +1,59 @@
+-- What contracts see of an answer, and of why an operand isn't read.
+use Rattle.std.specs.Prelude.{◌≡◌, ℕ, List, Ok}
+use Rattle.tc_answer.specs.Answers as a
+use Rattle.tc_answer.specs.Answers.{status_of, text_of}
+use Rattle.tc_answer.specs.Lines as l
+use Rattle.tc_answer.specs.Reading.{StopsAt, IsUnreadable}
+use Rattle.tc_answer.specs.declared.answer.Answer.{Answer}
+use Rattle.tc_answer.specs.declared.answer.Rejection.{Rejection}
+use Rattle.tc_answer.specs.declared.answer.Rejection.TheVariants.{Form, Fit, Empty, Text, Append, Wrap, Root}
+use Rattle.tc_answer.specs.declared.answer.RowCount.{RowCount}
+use Rattle.tc_answer.specs.declared.answer.RowCount.TheVariants.{Trees, Hedges, Outputs}
+use Rattle.tc_answer.specs.declared.answer.Text as written
+use Rattle.tc_answer.specs.declared.answer.Text.TheVariants.{Fixed, Made}
+use Rattle.tc_answer.specs.declared.read.Operand.{Operand}
+use Rattle.tc_answer.specs.declared.read.Unread.{Unread}
+use Rattle.tc_answer.specs.declared.read.Unread.TheVariants as u
+use Rattle.tc_io.specs.Store.{Read}
+use Rattle.tc_io.specs.declared.StoreFault.{StoreFault}
+use Rattle.tc_io.specs.declared.StoreFault.TheVariants.{TooLong, NoMemory}
+use Rattle.tc_model.specs.Views.{name}
+
+abbrev pub text : written.Text → List ℕ
+text (Fixed bytes) = bytes.now
+text (Made bytes) = bytes.items
+
+abbrev pub row_count : RowCount → l.RowCount
+row_count Trees = l.trees
+row_count Hedges = l.hedges
+row_count Outputs = l.outputs
+
+abbrev pub rejection : Rejection → l.Rejection
+rejection (Form line) = l.form_fails line
+rejection (Fit line) = l.fit_fails line
+rejection Empty = l.empty_fails
+rejection Text = l.text_fails
+rejection (Append line other) = l.append_fails line other
+rejection (Wrap line element) = l.wrap_fails line (name element)
+rejection (Root line) = l.root_fails line
+
+-- the status and the text are those of the answer
+pub record Says (said : Answer) (answer : a.Answer) : Type 0 where
+  pub status : said.status ≡ status_of answer
+  pub written : text said.text ≡ text_of answer
+
+-- an operand that was read
+abbrev pub read_of : Operand → Read
+read_of operand = (operand.name.now, Ok operand.text.items)
+
+-- why the read of an operand isn't Ok
+abbrev pub IsUnread : List ℕ → StoreFault → Unread → Type 0
+IsUnread name fault (u.Unreadable named) = (named.now ≡ name) × IsUnreadable fault
+IsUnread name fault u.TooLong = fault ≡ TooLong
+IsUnread name fault u.NoMemory = fault ≡ NoMemory
+
+-- the first of the operands of which the read isn't Ok, and why
+abbrev pub IsFirstUnread : List (List ℕ) → List Read → Unread → Type 0
+IsFirstUnread names reads (u.Unreadable named) = (fault : StoreFault) × StopsAt names reads named.now fault × IsUnreadable fault
+IsFirstUnread names reads u.TooLong = (name : List ℕ) × StopsAt names reads name TooLong
+IsFirstUnread names reads u.NoMemory = (name : List ℕ) × StopsAt names reads name NoMemory

@@ -1,0 +1,93 @@
+-- The words of the command line, and the commands that they give.
+use Rattle.std.specs.Prelude.{◌≡◌, ◌≢◌, ◌≤◌, ℕ, ◌+◌, ◌*◌, ◌-◌, List, [], ◌∷◌, Option, Some, None, Bool, false, not, ◌==◌, IsTrue, codes, slice_get}
+use Rattle.std.specs.Char.{is_ascii_digit}
+use Rattle.std.specs.List.{list_all}
+
+-- a command, with its operands in the order of the words
+pub data Command : Type 0 where
+  check : (limit : Option ℕ) (input output sheet : List ℕ) → Command
+  prove : (limit : Option ℕ) (input output sheet : List ℕ) → Command
+  verify : (input output sheet certificate : List ℕ) → Command
+  run : (sheet document : List ℕ) → Command
+  valid : (schema document : List ℕ) → Command
+  demo : (size : ℕ) → Command
+  upgrade : (certificate : List ℕ) → Command
+  include : (first second : List ℕ) → Command
+  same : (first second : List ℕ) → Command
+
+-- an operand isn't empty, and doesn't begin with `-`
+abbrev pub is_operand : List ℕ → Bool
+is_operand [] = false
+is_operand (c ∷ cs) = not (c == 45)
+
+abbrev pub AreOperands : List (List ℕ) → Type 0
+AreOperands words = IsTrue (list_all is_operand words)
+
+-- the number that decimal digits spell, behind digits that spell the value
+abbrev pub value_from : ℕ → List ℕ → ℕ
+value_from value [] = value
+value_from value (digit ∷ digits) = value_from (value * 10 + (digit - 48)) digits
+
+-- decimal digits without a leading zero spell the number, which is from 1 to `most`
+pub record IsNumeral (most : ℕ) (word : List ℕ) (number : ℕ) : Type 0 where
+  pub digits : IsTrue (list_all is_ascii_digit word)
+  pub no_leading_zero : slice_get word 0 ≢ Some 48
+  pub value : value_from 0 word ≡ number
+  pub at_least : 1 ≤ number
+  pub at_most : number ≤ most
+
+-- what stands behind `check` and `prove`: `--limit` and a number, or nothing, and then the operands
+abbrev pub Limits : List (List ℕ) → Option ℕ → List (List ℕ) → Type 0
+Limits words None operands = words ≡ operands
+Limits words (Some limit) operands = (numeral : List ℕ) × (words ≡ codes "--limit" ∷ numeral ∷ operands) × IsNumeral 4000 numeral limit
+
+-- the words give the command
+pub data Words : List (List ℕ) → Command → Type 0 where
+  checks : {words rest : List (List ℕ)} {limit : Option ℕ} {input output sheet : List ℕ} → words ≡ codes "check" ∷ rest → Limits rest limit (input ∷ output ∷ sheet ∷ [])
+      → AreOperands (input ∷ output ∷ sheet ∷ []) → Words words (check limit input output sheet)
+  proves : {words rest : List (List ℕ)} {limit : Option ℕ} {input output sheet : List ℕ} → words ≡ codes "prove" ∷ rest → Limits rest limit (input ∷ output ∷ sheet ∷ [])
+      → AreOperands (input ∷ output ∷ sheet ∷ []) → Words words (prove limit input output sheet)
+  verifies : {words : List (List ℕ)} {input output sheet certificate : List ℕ} → words ≡ codes "verify" ∷ input ∷ output ∷ sheet ∷ certificate ∷ []
+      → AreOperands (input ∷ output ∷ sheet ∷ certificate ∷ []) → Words words (verify input output sheet certificate)
+  runs : {words : List (List ℕ)} {sheet document : List ℕ} → words ≡ codes "run" ∷ sheet ∷ document ∷ []
+      → AreOperands (sheet ∷ document ∷ []) → Words words (run sheet document)
+  validates : {words : List (List ℕ)} {schema document : List ℕ} → words ≡ codes "valid" ∷ schema ∷ document ∷ []
+      → AreOperands (schema ∷ document ∷ []) → Words words (valid schema document)
+  shows : {words : List (List ℕ)} {numeral : List ℕ} {size : ℕ} → words ≡ codes "demo" ∷ numeral ∷ [] → IsNumeral 40 numeral size → Words words (demo size)
+  upgrades : {words : List (List ℕ)} {certificate : List ℕ} → words ≡ codes "upgrade" ∷ certificate ∷ [] → AreOperands (certificate ∷ []) → Words words (upgrade certificate)
+  includes : {words : List (List ℕ)} {first second : List ℕ} → words ≡ codes "include" ∷ first ∷ second ∷ []
+      → AreOperands (first ∷ second ∷ []) → Words words (include first second)
+  compares : {words : List (List ℕ)} {first second : List ℕ} → words ≡ codes "same" ∷ first ∷ second ∷ []
+      → AreOperands (first ∷ second ∷ []) → Words words (same first second)
+
+-- no command has these words
+abbrev pub IsNoCommand : List (List ℕ) → Type 0
+IsNoCommand words = (command : Command) → Words words command → ⊥
+
+-- a list of words gives one command at most
+abbrev pub WordsGiveOne : Type 0
+WordsGiveOne = (words : List (List ℕ)) (one other : Command) → Words words one → Words words other → one ≡ other
+
+-- the first word of a command
+abbrev pub name_of : Command → List ℕ
+name_of (check limit input output sheet) = codes "check"
+name_of (prove limit input output sheet) = codes "prove"
+name_of (verify input output sheet certificate) = codes "verify"
+name_of (run sheet document) = codes "run"
+name_of (valid schema document) = codes "valid"
+name_of (demo size) = codes "demo"
+name_of (upgrade certificate) = codes "upgrade"
+name_of (include first second) = codes "include"
+name_of (same first second) = codes "same"
+
+-- the names of the files that a command reads, in order
+abbrev pub operands_of : Command → List (List ℕ)
+operands_of (check limit input output sheet) = input ∷ output ∷ sheet ∷ []
+operands_of (prove limit input output sheet) = input ∷ output ∷ sheet ∷ []
+operands_of (verify input output sheet certificate) = input ∷ output ∷ sheet ∷ certificate ∷ []
+operands_of (run sheet document) = sheet ∷ document ∷ []
+operands_of (valid schema document) = schema ∷ document ∷ []
+operands_of (demo size) = []
+operands_of (upgrade certificate) = certificate ∷ []
+operands_of (include first second) = first ∷ second ∷ []
+operands_of (same first second) = first ∷ second ∷ []

@@ -1,0 +1,417 @@
+// Answers, in memory.
+ghost use Rattle.std.specs.Prelude.{◌≡◌, ◌++◌, IfOk};
+ghost use Rattle.tc_model.specs.Printed.{printed};
+ghost use Rattle.tc_model.specs.Views as see;
+ghost use Rattle.tc_model.specs.Views.{trees};
+ghost use Rattle.tc_answer.specs.Answers as a;
+ghost use Rattle.tc_answer.specs.AnswersSeen.{text as see_text, row_count, rejection};
+ghost use Rattle.tc_answer.specs.Lines.{line, limit_word, limit_line, count_word};
+
+use crate::buffer::Buffer;
+use crate::limits::{LONGEST_CERTIFICATE, MOST_SHOWN_NODES};
+use crate::status::Status;
+use std::alloc::Global;
+use tc_base::limits::{LONGEST_FILE, MOST_OPEN, MOST_WORK};
+use tc_base::{Limit, NoMemory, Place};
+use tc_model::{Name, Node};
+use tc_read::Reason;
+
+/// The text of an answer.
+#[derive(Drop)]
+pub enum Text {
+    /// A text that needs no memory.
+    Fixed(&'static [u8]),
+    /// A text that was put together.
+    Made(Vec<u8>),
+}
+
+impl Text {
+    ghost use Rattle.tc_answer.specs.AnswersSeen.{text};
+
+    pub fn as_bytes(&self) -> &[u8]
+        ensures { result.now ≡ text self.now }
+    {
+        match self {
+            Text::Fixed(bytes) => bytes,
+            Text::Made(bytes) => bytes.as_slice(),
+        }
+    }
+}
+
+/// A status, and the lines that are written with it.
+#[derive(Drop)]
+pub struct Answer {
+    pub status: Status,
+    pub text: Text,
+}
+
+/// What is counted of rows.
+#[derive(Clone, Copy, Debug, PartialEq, Eq)]
+pub enum RowCount {
+    /// Rows of live trees.
+    Trees,
+    /// Rows of live lists of trees.
+    Hedges,
+    /// Sets of pairs of states of the output in them.
+    Outputs,
+}
+
+/// The first rule of certificates that fails. Lines have the numbers of a certificate's text, from 1.
+#[derive(Clone, Copy, Debug, PartialEq, Eq)]
+pub enum Rejection<'w> {
+    /// The text isn't a certificate's: the first line that isn't as it must be.
+    Form(u32),
+    /// The first line with a number out of range, or with a list of another length.
+    Fit(u32),
+    /// The row of no tree isn't listed.
+    Empty,
+    /// The row of a text isn't listed.
+    Text,
+    /// The row of the lists of a line with a tree of another line behind them isn't listed.
+    Append(u32, u32),
+    /// The row of an element of this name around the lists of a line isn't listed.
+    Wrap(u32, Name<'w>),
+    /// The trees of a line may be whole documents, and their results aren't valid.
+    Root(u32),
+}
+
+/// The word of the limit on what is counted of rows.
+fn word_of_count(count: RowCount) -> &'static str
+    ensures { result.now ≡ count_word (row_count count) }
+{
+    match count {
+        RowCount::Trees => "trees",
+        RowCount::Hedges => "hedges",
+        RowCount::Outputs => "outputs",
+    }
+}
+
+/// The word of a limit.
+fn word_of(kind: Limit) -> &'static str
+    ensures { result.now ≡ limit_word kind }
+{
+    match kind {
+        Limit::Pattern => "pattern",
+        Limit::Depth => "depth",
+        Limit::Elements => "elements",
+        Limit::States => "states",
+        Limit::Symbols => "symbols",
+        Limit::Predicates => "predicates",
+        Limit::Ancestors => "ancestors",
+        Limit::Selects => "selects",
+        Limit::Calls => "calls",
+        Limit::Entries => "entries",
+    }
+}
+
+/// The answer that a limit is passed, by its word and its number.
+fn over(alloc: Global, word: &str, number: u32) -> Result<Answer, NoMemory>
+    ensures { IfOk result (λ said. (said.status ≡ Status.Limit) × (see_text said.text ≡ limit_line word.now number)) }
+{
+    let mut digits = itoa::Buffer::new();
+    let mut text = Vec::from_slice(alloc, b"limit ")?;
+    text.extend_from_slice(word.as_bytes())?;
+    text.extend_from_slice(b" ")?;
+    text.extend_from_slice(digits.format(number).as_bytes())?;
+    text.extend_from_slice(b"\n")?;
+    Ok(Answer {
+        status: Status::Limit,
+        text: Text::Made(text),
+    })
+}
+
+/// The answer no, by some lines whose last one ends with a document.
+fn showing(alloc: Global, front: &[u8], last: &[Node<'_>]) -> Result<Answer, NoMemory>
+    ensures { IfOk result (λ said. (said.status ≡ Status.No) × (see_text said.text ≡ line (front.now ++ printed (trees last.now)))) }
+{
+    let mut text = Buffer::new(alloc);
+    text.put(front)?;
+    text.put_trees(last)?;
+    text.put(b"\n")?;
+    Ok(Answer {
+        status: Status::No,
+        text: Text::Made(text.into_bytes()),
+    })
+}
+
+impl Answer {
+    ghost use Rattle.tc_answer.specs.AnswersSeen.{Says};
+
+    /// How the program is called.
+    pub fn usage() -> Answer
+        ensures { Says result a.usage }
+    {
+        Answer {
+            status: Status::Usage,
+            text: Text::Fixed(
+                b"usage: check|prove [--limit N] IN OUT SHEET; verify IN OUT SHEET CERT; run SHEET DOC; valid SCHEMA DOC; demo N; upgrade CERT; include A B; same A B\n",
+            ),
+        }
+    }
+
+    /// A command isn't carried out yet.
+    pub fn not_yet(alloc: Global, name: &str) -> Result<Answer, NoMemory>
+        ensures { IfOk result (λ said. Says said (a.not_yet name.now)) }
+    {
+        let mut text = Vec::from_slice(alloc, b"refused ")?;
+        text.extend_from_slice(name.as_bytes())?;
+        text.extend_from_slice(b" not-yet\n")?;
+        Ok(Answer {
+            status: Status::Refused,
+            text: Text::Made(text),
+        })
+    }
+
+    /// A file cannot be read.
+    pub fn cannot_read(alloc: Global, name: &str) -> Result<Answer, NoMemory>
+        ensures { IfOk result (λ said. Says said (a.cannot_read name.now)) }
+    {
+        let mut text = Vec::from_slice(alloc, b"cannot read ")?;
+        text.extend_from_slice(name.as_bytes())?;
+        text.extend_from_slice(b"\n")?;
+        Ok(Answer {
+            status: Status::ReadFault,
+            text: Text::Made(text),
+        })
+    }
+
+    /// A file has more bytes than a file may have.
+    pub fn file_limit(alloc: Global) -> Result<Answer, NoMemory>
+        ensures { IfOk result (λ said. Says said a.file_limit) }
+    {
+        over(alloc, "file", LONGEST_FILE as u32)
+    }
+
+    /// Every result is valid, and there are so many rows of trees, of lists of trees, and sets of pairs in them.
+    pub fn safe(alloc: Global, trees: u32, hedges: u32, outputs: u32) -> Result<Answer, NoMemory>
+        ensures { IfOk result (λ said. Says said (a.safe trees hedges outputs)) }
+    {
+        let mut digits = itoa::Buffer::new();
+        let mut text = Vec::from_slice(alloc, b"safe trees ")?;
+        text.extend_from_slice(digits.format(trees).as_bytes())?;
+        text.extend_from_slice(b" hedges ")?;
+        text.extend_from_slice(digits.format(hedges).as_bytes())?;
+        text.extend_from_slice(b" outputs ")?;
+        text.extend_from_slice(digits.format(outputs).as_bytes())?;
+        text.extend_from_slice(b"\n")?;
+        Ok(Answer {
+            status: Status::Yes,
+            text: Text::Made(text),
+        })
+    }
+
+    /// There are more rows, or sets of pairs in them, than there may be.
+    pub fn rows_limit(alloc: Global, count: RowCount, number: u32) -> Result<Answer, NoMemory>
+        ensures { IfOk result (λ said. Says said (a.rows_limit (row_count count) number)) }
+    {
+        over(alloc, word_of_count(count), number)
+    }
+
+    /// All documents whose results aren't valid are too large to be shown.
+    pub fn counterexample_limit(alloc: Global) -> Result<Answer, NoMemory>
+        ensures { IfOk result (λ said. Says said a.counterexample_limit) }
+    {
+        over(alloc, "counterexample", MOST_SHOWN_NODES)
+    }
+
+    /// The text of a certificate.
+    pub fn certificate(text: Vec<u8>) -> Answer
+        ensures { Says result (a.certificate text.items) }
+    {
+        Answer {
+            status: Status::Yes,
+            text: Text::Made(text),
+        }
+    }
+
+    /// The text of a certificate has more bytes than a certificate may have.
+    pub fn certificate_limit(alloc: Global) -> Result<Answer, NoMemory>
+        ensures { IfOk result (λ said. Says said a.certificate_limit) }
+    {
+        over(alloc, "certificate", LONGEST_CERTIFICATE)
+    }
+
+    /// The certificate is one.
+    pub fn accepted() -> Answer
+        ensures { Says result a.accepted }
+    {
+        Answer {
+            status: Status::Yes,
+            text: Text::Fixed(b"accepted\n"),
+        }
+    }
+
+    /// The certificate isn't one, and why.
+    pub fn rejected(alloc: Global, why: Rejection<'_>) -> Result<Answer, NoMemory>
+        ensures { IfOk result (λ said. Says said (a.rejected (rejection why.entry))) }
+    {
+        let mut text = Buffer::new(alloc);
+        text.put(b"rejected ")?;
+        text.put_rejection(why)?;
+        text.put(b"\n")?;
+        Ok(Answer {
+            status: Status::No,
+            text: Text::Made(text.into_bytes()),
+        })
+    }
+
+    /// A schema is included in another, and there are so many rows of its trees, and of its lists of trees.
+    pub fn included(alloc: Global, trees: u32, hedges: u32) -> Result<Answer, NoMemory>
+        ensures { IfOk result (λ said. Says said (a.included trees hedges)) }
+    {
+        let mut text = Buffer::new(alloc);
+        text.put(b"included trees ")?;
+        text.put_number(trees)?;
+        text.put(b" hedges ")?;
+        text.put_number(hedges)?;
+        text.put(b"\n")?;
+        Ok(Answer {
+            status: Status::Yes,
+            text: Text::Made(text.into_bytes()),
+        })
+    }
+
+    /// A document is valid for the first of two schemas alone, so that it isn't included in the second.
+    pub fn not_included(alloc: Global, document: &[Node<'_>]) -> Result<Answer, NoMemory>
+        ensures { IfOk result (λ said. Says said (a.not_included (trees document.now))) }
+    {
+        showing(alloc, b"not-included\ndocument ", document)
+    }
+
+    /// The same documents are valid for two schemas.
+    pub fn equal() -> Answer
+        ensures { Says result a.equal }
+    {
+        Answer {
+            status: Status::Yes,
+            text: Text::Fixed(b"same\n"),
+        }
+    }
+
+    /// A document is valid for the first of two schemas alone.
+    pub fn first_only(alloc: Global, document: &[Node<'_>]) -> Result<Answer, NoMemory>
+        ensures { IfOk result (λ said. Says said (a.first_only (trees document.now))) }
+    {
+        showing(alloc, b"different\nfirst-only ", document)
+    }
+
+    /// A document is valid for the second of two schemas alone.
+    pub fn second_only(alloc: Global, document: &[Node<'_>]) -> Result<Answer, NoMemory>
+        ensures { IfOk result (λ said. Says said (a.second_only (trees document.now))) }
+    {
+        showing(alloc, b"different\nsecond-only ", document)
+    }
+
+    /// The text of an operand is refused at a place.
+    pub fn refused(
+        alloc: Global,
+        name: &str,
+        reason: Reason,
+        place: Place,
+    ) -> Result<Answer, NoMemory>
+        ensures { IfOk result (λ said. Says said (a.refused name.now reason (see.place place))) }
+    {
+        let (front, word) = reason.words();
+        let mut number = itoa::Buffer::new();
+        let mut text = Vec::from_slice(alloc, b"refused ")?;
+        text.extend_from_slice(name.as_bytes())?;
+        text.extend_from_slice(b" ")?;
+        text.extend_from_slice(front.as_bytes())?;
+        text.extend_from_slice(word.as_bytes())?;
+        text.extend_from_slice(b" at ")?;
+        text.extend_from_slice(number.format(place.0).as_bytes())?;
+        text.extend_from_slice(b"\n")?;
+        Ok(Answer {
+            status: Status::Refused,
+            text: Text::Made(text),
+        })
+    }
+
+    /// A limit is passed, which has this number.
+    pub fn limit(alloc: Global, kind: Limit, number: u32) -> Result<Answer, NoMemory>
+        ensures { IfOk result (λ said. Says said (a.over_limit kind number)) }
+    {
+        over(alloc, word_of(kind), number)
+    }
+
+    /// The document is valid.
+    pub fn valid() -> Answer
+        ensures { Says result a.is_valid }
+    {
+        Answer {
+            status: Status::Yes,
+            text: Text::Fixed(b"valid\n"),
+        }
+    }
+
+    /// The document isn't valid.
+    pub fn invalid() -> Answer
+        ensures { Says result a.is_invalid }
+    {
+        Answer {
+            status: Status::No,
+            text: Text::Fixed(b"invalid\n"),
+        }
+    }
+
+    /// The result of a run.
+    pub fn result(alloc: Global, nodes: &[Node<'_>]) -> Result<Answer, NoMemory>
+        ensures { IfOk result (λ said. Says said (a.has_result (trees nodes.now))) }
+    {
+        let mut text = Buffer::new(alloc);
+        text.put_trees(nodes)?;
+        text.put(b"\n")?;
+        Ok(Answer {
+            status: Status::Yes,
+            text: Text::Made(text.into_bytes()),
+        })
+    }
+
+    /// A run instantiates and puts out too much.
+    pub fn work_limit(alloc: Global) -> Result<Answer, NoMemory>
+        ensures { IfOk result (λ said. Says said a.work_limit) }
+    {
+        over(alloc, "work", MOST_WORK)
+    }
+
+    /// Too many bodies and instructions of a run stand within one another.
+    pub fn open_limit(alloc: Global) -> Result<Answer, NoMemory>
+        ensures { IfOk result (λ said. Says said a.open_limit) }
+    {
+        over(alloc, "open", MOST_OPEN)
+    }
+
+    /// A valid document has these trees as its result, and they aren't valid.
+    pub fn not_safe(
+        alloc: Global,
+        document: &[Node<'_>],
+        output: &[Node<'_>],
+    ) -> Result<Answer, NoMemory>
+        ensures { IfOk result (λ said. Says said (a.unsafe (trees document.now) (trees output.now))) }
+    {
+        let mut text = Buffer::new(alloc);
+        text.put(b"unsafe\ndocument ")?;
+        text.put_trees(document)?;
+        text.put(b"\noutput ")?;
+        text.put_trees(output)?;
+        text.put(b"\n")?;
+        Ok(Answer {
+            status: Status::No,
+            text: Text::Made(text.into_bytes()),
+        })
+    }
+
+    /// A valid document has a result that isn't valid, and that is too large to be shown.
+    pub fn not_safe_large(alloc: Global, shown: &[Node<'_>]) -> Result<Answer, NoMemory>
+        ensures { IfOk result (λ said. Says said (a.unsafe_large (trees shown.now))) }
+    {
+        let mut text = Buffer::new(alloc);
+        text.put(b"unsafe\ndocument ")?;
+        text.put_trees(shown)?;
+        text.put(b"\noutput-too-large\n")?;
+        Ok(Answer {
+            status: Status::No,
+            text: Text::Made(text.into_bytes()),
+        })
+    }
+}

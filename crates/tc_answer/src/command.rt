@@ -1,0 +1,223 @@
+// The commands, and how the words of a command line give them.
+ghost use Rattle.std.specs.Prelude.{◌≡◌, ◌≤◌, ◌↔◌, ℕ, List, [], ◌∷◌, Option, length, IsTrue, MatchOption};
+ghost use Rattle.std.specs.List.{list_all};
+ghost use Rattle.tc_answer.specs.Words.{Limits, IsNumeral, Words, AreOperands, IsNoCommand, is_operand};
+ghost use Rattle.tc_answer.specs.WordsSeen.{texts, command};
+
+/// The operands of a check: the names of two schemas and a stylesheet.
+#[derive(Clone, Copy)]
+pub struct Triple<'w> {
+    pub input: &'w str,
+    pub output: &'w str,
+    pub sheet: &'w str,
+}
+
+/// A command with its operands.
+#[derive(Clone, Copy)]
+pub enum Command<'w> {
+    /// Decide whether the stylesheet is safe, with so many trees and hedges at most where that is said.
+    Check(Option<u32>, Triple<'w>),
+    /// Write a certificate of safety, with the same limit.
+    Prove(Option<u32>, Triple<'w>),
+    /// Verify the certificate of this name.
+    Verify(Triple<'w>, &'w str),
+    /// Run a stylesheet on a document.
+    Run(&'w str, &'w str),
+    /// Tell whether a document is valid for a schema.
+    Valid(&'w str, &'w str),
+    /// Check an example of this size.
+    Demo(u32),
+    /// Write the certificate of this name as it is written today.
+    Upgrade(&'w str),
+    /// Tell whether each document that is valid for the first schema is valid for the second.
+    Include(&'w str, &'w str),
+    /// Tell whether the same documents are valid for two schemas.
+    Same(&'w str, &'w str),
+}
+
+/// The greatest number of `--limit`.
+const MOST_LIMIT: u32 = 4000;
+
+/// The greatest number of `demo`.
+const MOST_DEMO: u32 = 40;
+
+/// The command that the words give. It takes no memory.
+pub fn read_words(words: &[String]) -> Option<Command<'_>>
+    ensures { MatchOption result (IsNoCommand (texts words.now)) (λ c. Words (texts words.now) (command c)) }
+{
+    let (name, rest) = words.split_first()?;
+    match name.as_str() {
+        "check" => {
+            let (limit, triple) = read_limited(rest)?;
+            Some(Command::Check(limit, triple))
+        }
+        "prove" => {
+            let (limit, triple) = read_limited(rest)?;
+            Some(Command::Prove(limit, triple))
+        }
+        "verify" => {
+            let (triple, certificate) = read_verified(rest)?;
+            Some(Command::Verify(triple, certificate))
+        }
+        "run" => {
+            let (sheet, document) = read_pair(rest)?;
+            Some(Command::Run(sheet, document))
+        }
+        "valid" => {
+            let (schema, document) = read_pair(rest)?;
+            Some(Command::Valid(schema, document))
+        }
+        "demo" => Some(Command::Demo(read_size(rest)?)),
+        "upgrade" => Some(Command::Upgrade(read_one(rest)?)),
+        "include" => {
+            let (first, second) = read_pair(rest)?;
+            Some(Command::Include(first, second))
+        }
+        "same" => {
+            let (first, second) = read_pair(rest)?;
+            Some(Command::Same(first, second))
+        }
+        _ => None,
+    }
+}
+
+/// The limit of a check, and its operands.
+fn read_limited(words: &[String]) -> Option<(Option<u32>, Triple<'_>)>
+    ensures { MatchOption result
+        ((limit : Option ℕ) (a b c : List ℕ) → Limits (texts words.now) limit (a ∷ b ∷ c ∷ []) → AreOperands (a ∷ b ∷ c ∷ []) → ⊥)
+        (λ read. Limits (texts words.now) read.0 (read.1.input.now ∷ read.1.output.now ∷ read.1.sheet.now ∷ [])
+        × AreOperands (read.1.input.now ∷ read.1.output.now ∷ read.1.sheet.now ∷ [])) }
+{
+    let (limit, operands) = read_limit(words)?;
+    Some((limit, read_triple(operands)?))
+}
+
+/// The size of a demonstration.
+fn read_size(words: &[String]) -> Option<u32>
+    ensures { MatchOption result
+        ((numeral : List ℕ) (size : ℕ) → texts words.now ≡ numeral ∷ [] → IsNumeral 40 numeral size → ⊥)
+        (λ size. (numeral : List ℕ) × (texts words.now ≡ numeral ∷ []) × IsNumeral 40 numeral size) }
+{
+    let (numeral, rest) = words.split_first()?;
+    if !rest.is_empty() {
+        return None;
+    }
+    read_number(numeral.as_str(), MOST_DEMO)
+}
+
+/// The limit before the operands, and the operands.
+fn read_limit(words: &[String]) -> Option<(Option<u32>, &[String])>
+    ensures { MatchOption result
+        ((limit : Option ℕ) (operands : List (List ℕ)) → Limits (texts words.now) limit operands → AreOperands operands → ⊥)
+        (λ read. Limits (texts words.now) read.0 (texts read.1.now)
+        × ((limit : Option ℕ) (operands : List (List ℕ)) → Limits (texts words.now) limit operands → AreOperands operands → operands ≡ texts read.1.now)) }
+{
+    let Some((option, rest)) = words.split_first() else {
+        return Some((None, words));
+    };
+    if option.as_str() != "--limit" {
+        return Some((None, words));
+    }
+    let (numeral, operands) = rest.split_first()?;
+    let limit = read_number(numeral.as_str(), MOST_LIMIT)?;
+    Some((Some(limit), operands))
+}
+
+/// Three operands.
+fn read_triple(words: &[String]) -> Option<Triple<'_>>
+    ensures { MatchOption result
+        ((a b c : List ℕ) → texts words.now ≡ a ∷ b ∷ c ∷ [] → AreOperands (texts words.now) → ⊥)
+        (λ t. (texts words.now ≡ t.input.now ∷ t.output.now ∷ t.sheet.now ∷ []) × AreOperands (texts words.now)) }
+{
+    if !are_operands(words, 3) {
+        return None;
+    }
+    Some(Triple {
+        input: words[0].as_str(),
+        output: words[1].as_str(),
+        sheet: words[2].as_str(),
+    })
+}
+
+/// Three operands, and then the name of a certificate.
+fn read_verified(words: &[String]) -> Option<(Triple<'_>, &str)>
+    ensures { MatchOption result
+        ((a b c d : List ℕ) → texts words.now ≡ a ∷ b ∷ c ∷ d ∷ [] → AreOperands (texts words.now) → ⊥)
+        (λ p. (texts words.now ≡ p.0.input.now ∷ p.0.output.now ∷ p.0.sheet.now ∷ p.1.now ∷ []) × AreOperands (texts words.now)) }
+{
+    if !are_operands(words, 4) {
+        return None;
+    }
+    let triple = Triple {
+        input: words[0].as_str(),
+        output: words[1].as_str(),
+        sheet: words[2].as_str(),
+    };
+    Some((triple, words[3].as_str()))
+}
+
+/// One operand.
+fn read_one(words: &[String]) -> Option<&str>
+    ensures { MatchOption result
+        ((a : List ℕ) → texts words.now ≡ a ∷ [] → AreOperands (texts words.now) → ⊥)
+        (λ name. (texts words.now ≡ name.now ∷ []) × AreOperands (texts words.now)) }
+{
+    if !are_operands(words, 1) {
+        return None;
+    }
+    Some(words[0].as_str())
+}
+
+/// Two operands.
+fn read_pair(words: &[String]) -> Option<(&str, &str)>
+    ensures { MatchOption result
+        ((a b : List ℕ) → texts words.now ≡ a ∷ b ∷ [] → AreOperands (texts words.now) → ⊥)
+        (λ p. (texts words.now ≡ p.0.now ∷ p.1.now ∷ []) × AreOperands (texts words.now)) }
+{
+    if !are_operands(words, 2) {
+        return None;
+    }
+    Some((words[0].as_str(), words[1].as_str()))
+}
+
+/// Whether the words are so many operands.
+fn are_operands(words: &[String], count: usize) -> bool
+    ensures { IsTrue result ↔ ((length words.now ≡ count) × AreOperands (texts words.now)) }
+{
+    words.len() == count && words.iter().all(|word| is_operand(word.as_str()))
+}
+
+/// Whether the word isn't empty and doesn't begin with `-`.
+fn is_operand(word: &str) -> bool
+    ensures { result ≡ is_operand word.now }
+{
+    match word.as_bytes().first() {
+        Some(first) => *first != b'-',
+        None => false,
+    }
+}
+
+/// The number from 1 to `most` that the word spells, in decimal digits without a leading zero.
+fn read_number(word: &str, most: u32) -> Option<u32>
+    requires { most ≤ 4000 }
+    ensures { MatchOption result ((number : ℕ) → IsNumeral most word.now number → ⊥) (IsNumeral most word.now) }
+{
+    let digits = word.as_bytes();
+    if digits.first() == Some(&b'0') {
+        return None;
+    }
+    let mut value = 0;
+    for digit in digits {
+        if !digit.is_ascii_digit() {
+            return None;
+        }
+        value = value * 10 + u32::from(*digit - b'0');
+        if most < value {
+            return None;
+        }
+    }
+    if value == 0 {
+        return None;
+    }
+    Some(value)
+}

@@ -1,0 +1,22 @@
+use Rattle.std.proofs.Common.{subst, inr}
+use Rattle.std.proofs.lemmas.Result.{IfOk-weaker}
+use Rattle.tc_answer.specs.Answers.{equal}
+use Rattle.tc_answer.specs.declared.limits.TheConstants.{MOST_ROWS}
+use Rattle.tc_incl.specs.Answers.{IsAnswer}
+use Rattle.tc_top.specs.Comparing.{backward}
+use Rattle.tc_top.proofs.Compared.{never, tells_equal, tells_no_one, tells_second_beyond}
+use Rattle.tc_top.proofs.compare.tell_second.Goals as goal
+
+pub returns-in-Included : goal.returns-in-Included
+returns-in-Included c = λ x y trees hedges w into told. (equal, c.equal.ensures, tells_equal x y w trees hedges _ _ into (subst (IsAnswer (backward x y) MOST_ROWS) c.in-Included.is told))
+
+pub returns-in-Not : goal.returns-in-Not
+returns-in-Not c =
+    IfOk-weaker c.second_only.result _ _ (λ said says x y trees hedges w into told.
+    (_, says, tells_second_beyond x y w _ into.keeps (never x y w x y into.included) (subst (IsAnswer (backward x y) MOST_ROWS) c.in-Not.is told))) c.second_only.ensures
+
+pub returns-in-NotLarge : goal.returns-in-NotLarge
+returns-in-NotLarge c =
+    IfOk-weaker c.counterexample_limit.result _ _ (λ said says x y trees hedges w into told.
+    let far = subst (IsAnswer (backward x y) MOST_ROWS) c.in-NotLarge.is told in
+    (_, says, tells_no_one x y w into.keeps far.keeps far.some.0 (inr far.some.1) (never x y w x y into.included) far.far)) c.counterexample_limit.ensures

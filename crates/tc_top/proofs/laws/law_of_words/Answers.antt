@@ -1,5 +1,0 @@
-use Rattle.tc_top.proofs.OneCommand.{words_give_one}
-use Rattle.tc_top.proofs.laws.law_of_words.Goals as goal
-
-pub returns : goal.returns
-returns c = words_give_one
