@@ -43,27 +43,27 @@ module _ (g h : Grammar) where
   of_one_document (inl d) = d.0.0
   of_one_document (inr d) = d.0.0
 
-  is_document : (question : Question) {document : Trees} → Refutes g h question document → IsDocument document
-  is_document inclusion d = d.0.0
-  is_document equality d = of_one_document d
+  is_document : (question : Question) (document : Trees) → Refutes g h question document → IsDocument document
+  is_document inclusion document d = d.0.0
+  is_document equality document d = of_one_document d
 
-  reads_back : (question : Question) {document : Trees} → Refutes g h question document → IsShown g h document → IsReadAs (printed document) document
-  reads_back question {document} refutes shown = read_back document (record { document = is_document question refutes; shallow = omega (arith, deep_within document, shown.few) })
+  reads_back : (question : Question) (document : Trees) → Refutes g h question document → IsShown g h document → IsReadAs (printed document) document
+  reads_back question document refutes shown = read_back document (record { document = is_document question document refutes; shallow = omega (arith, deep_within document, shown.few) })
 
   compiled : (question : Question) → AreKept g h question → AreCompiled g h
   compiled inclusion k = k.0
   compiled equality k = k.0
 
   -- what is so isn't refuted
-  not_refuted : (question : Question) {document : Trees} → IsSo g h question → Refutes g h question document → ⊥
-  not_refuted inclusion into d = not_different into d
-  not_refuted equality (i, j) d = equal_not_of_one i j d
+  not_refuted : (question : Question) (document : Trees) → IsSo g h question → Refutes g h question document → ⊥
+  not_refuted inclusion document into d = not_different into d
+  not_refuted equality document (i, j) d = equal_not_of_one i j d
 
   -- counts that are kept don't pass
-  kept_few : (question : Question) {count : RowCount} → AreKept g h question → AreTooMany g h question count → ⊥
-  kept_few inclusion k (in_inclusion p) = k.1 _ p
-  kept_few equality k (in_first p) = k.1 _ p
-  kept_few equality k (in_second f p) = k.2 _ p
+  kept_few : (question : Question) (count : RowCount) → AreKept g h question → AreTooMany g h question count → ⊥
+  kept_few inclusion count k (in_inclusion p) = k.1 _ p
+  kept_few equality count k (in_first p) = k.1 _ p
+  kept_few equality count k (in_second f p) = k.2 _ p
 
   small_large : (question : Question) → HasSmallRefutation g h question → HasLargeRefutations g h question → ⊥
   small_large question (document, refutes, few) large = let far = large.large document refutes in omega (arith, few, far)
@@ -74,32 +74,32 @@ module _ (g h : Grammar) where
 
     not_limited : AreKept g h question → (HasLargeRefutations g h question → ⊥) → IsLimited g h question → ⊥
     not_limited k n (limited_before_rows p) = over_compiling p (compiled question k)
-    not_limited k n (limited_in_rows count w p) = kept_few question k p
+    not_limited k n (limited_in_rows count w p) = kept_few question _ k p
     not_limited k n (limited_in_nodes j l) = n l
 
     is_yes : status ≡ Yes → AreKept g h question → IsSo g h question → ShowsSo g h question old new → Decides
     is_yes is k so shows = record {
       yes = (λ _. (k, so), λ _. is);
-      no = (λ e. absurd (not_no is e), λ x. absurd (not_refuted question so x.1.1));
-      limit = (λ e. absurd (not_limit is e), λ l. absurd (not_limited k (λ x. not_refuted question so x.some.1) l));
+      no = (λ e. absurd (not_no is e), λ x. absurd (not_refuted question _ so x.1.1));
+      limit = (λ e. absurd (not_limit is e), λ l. absurd (not_limited k (λ x. not_refuted question _ so x.some.1) l));
       one = inl is;
       yes_text = λ _. shows;
       no_text = λ e. absurd (not_no is e);
       compile_text = λ kind number p. absurd (over_compiling p (compiled question k));
-      rows_text = λ count w p. absurd (kept_few question k p);
-      nodes_text = λ j l. absurd (not_refuted question so l.some.1);
+      rows_text = λ count w p. absurd (kept_few question _ k p);
+      nodes_text = λ j l. absurd (not_refuted question _ so l.some.1);
     }
 
-    is_no : {document : Trees} → status ≡ No → AreKept g h question → IsLeastRefutation g h question document → IsShown g h document → Shows g h old new document question → Decides
-    is_no {document} is k least shown shows = record {
-      yes = (λ e. absurd (not_no e is), λ x. absurd (not_refuted question x.1 least.refutes));
+    is_no : (document : Trees) → status ≡ No → AreKept g h question → IsLeastRefutation g h question document → IsShown g h document → Shows g h old new document question → Decides
+    is_no document is k least shown shows = record {
+      yes = (λ e. absurd (not_no e is), λ x. absurd (not_refuted question _ x.1 least.refutes));
       no = (λ _. (k, (document, least.refutes, shown.few)), λ _. is);
       limit = (λ e. absurd (no_limit is e), λ l. absurd (not_limited k (λ x. small_large question (document, least.refutes, shown.few) x) l));
       one = inr (inl is);
       yes_text = λ e. absurd (not_no e is);
-      no_text = λ _. (document, least, shown, reads_back question least.refutes shown, shows);
+      no_text = λ _. (document, least, shown, reads_back question document least.refutes shown, shows);
       compile_text = λ kind number p. absurd (over_compiling p (compiled question k));
-      rows_text = λ count w p. absurd (kept_few question k p);
+      rows_text = λ count w p. absurd (kept_few question _ k p);
       nodes_text = λ j l. absurd (small_large question (document, least.refutes, shown.few) l);
     }
 
@@ -118,27 +118,27 @@ module _ (g h : Grammar) where
 
     is_rows : (count : RowCount) → status ≡ Limit → AreCompiled g h → AreTooMany g h question count → Appended old new (limit_line (count_word count) MOST_ROWS) → Decides
     is_rows count is w p written = record {
-      yes = (λ e. absurd (not_limit e is), λ x. absurd (kept_few question x.0 p));
-      no = (λ e. absurd (no_limit e is), λ x. absurd (kept_few question x.0 p));
+      yes = (λ e. absurd (not_limit e is), λ x. absurd (kept_few question _ x.0 p));
+      no = (λ e. absurd (no_limit e is), λ x. absurd (kept_few question _ x.0 p));
       limit = (λ _. limited_in_rows count w p, λ _. is);
       one = inr (inr is);
       yes_text = λ e. absurd (not_limit e is);
       no_text = λ e. absurd (no_limit e is);
       compile_text = λ kind number q. absurd (over_compiling q w);
       rows_text = λ other v q. (count, p, written);
-      nodes_text = λ j l. absurd (kept_few question j p);
+      nodes_text = λ j l. absurd (kept_few question _ j p);
     }
 
     is_nodes : status ≡ Limit → AreKept g h question → HasLargeRefutations g h question → Appended old new (limit_line (codes "counterexample") MOST_SHOWN_NODES) → Decides
     is_nodes is k l written = record {
-      yes = (λ e. absurd (not_limit e is), λ x. absurd (not_refuted question x.1 l.some.1));
+      yes = (λ e. absurd (not_limit e is), λ x. absurd (not_refuted question _ x.1 l.some.1));
       no = (λ e. absurd (no_limit e is), λ x. absurd (small_large question x.1 l));
       limit = (λ _. limited_in_nodes k l, λ _. is);
       one = inr (inr is);
       yes_text = λ e. absurd (not_limit e is);
       no_text = λ e. absurd (no_limit e is);
       compile_text = λ kind number q. absurd (over_compiling q (compiled question k));
-      rows_text = λ count w q. absurd (kept_few question k q);
+      rows_text = λ count w q. absurd (kept_few question _ k q);
       nodes_text = λ j m. written;
     }
 
@@ -147,7 +147,7 @@ module _ (g h : Grammar) where
     inclusion_decides is written (inclusion_passes p) = is_compile inclusion status old new is p written
     inclusion_decides is written (inclusion_covers c w p) = is_rows inclusion status old new c is w (in_inclusion p) written
     inclusion_decides is written (finds_included w f i t u) = is_yes inclusion status old new is (w, f) i (_, _, t, u, written)
-    inclusion_decides is written (finds_not_included w f d s l) = is_no inclusion status old new is (w, f) (record { refutes = d; least = l }) s (shows_difference written)
+    inclusion_decides is written (finds_not_included w f d s l) = is_no inclusion status old new _ is (w, f) (record { refutes = d; least = l }) s (shows_difference written)
     inclusion_decides is written (finds_none_shown {document = x} w f d l) = is_nodes inclusion status old new is (w, f) (record { some = (x, d); large = l }) written
 
     second_least : (document : Trees) → ((other : Trees) → IsDifference g h other → node_count document < node_count other) → ((other : Trees) → IsDifference h g other → node_count document ≤ node_count other)
@@ -160,12 +160,12 @@ module _ (g h : Grammar) where
     equality_decides is written (equality_covers_forward c w p) = is_rows equality status old new c is w (in_first p) written
     equality_decides is written (equality_covers_backward c w f p) = is_rows equality status old new c is w (in_second f p) written
     equality_decides is written (finds_equal w f e i j) = is_yes equality status old new is (w, f, e) (i, j) written
-    equality_decides is written (finds_first_only w f e d s l) = is_no equality status old new is (w, f, e) (record { refutes = inl d; least = l }) s (shows_first d written)
+    equality_decides is written (finds_first_only w f e d s l) = is_no equality status old new _ is (w, f, e) (record { refutes = inl d; least = l }) s (shows_first d written)
     equality_decides is written (finds_second_only {document = x} w f e d s m l) =
-        is_no equality status old new is (w, f, e) (record { refutes = inr d; least = second_least x m l }) s (shows_second d m written)
+        is_no equality status old new _ is (w, f, e) (record { refutes = inr d; least = second_least x m l }) s (shows_second d m written)
     equality_decides is written (finds_no_one_shown {document = x} w f e d l) = is_nodes equality status old new is (w, f, e) (record { some = (x, d); large = l }) written
 
     -- what is found decides all
-    pub decides : (question : Question) {answer : Answer} → status ≡ status_of answer → Appended old new (text_of answer) → FindsBoth g h question answer → DecidesComparison g h status old new question
-    decides inclusion is written f = inclusion_decides is written f
-    decides equality is written f = equality_decides is written f
+    pub decides : (question : Question) (answer : Answer) → status ≡ status_of answer → Appended old new (text_of answer) → FindsBoth g h question answer → DecidesComparison g h status old new question
+    decides inclusion answer is written f = inclusion_decides is written f
+    decides equality answer is written f = equality_decides is written f

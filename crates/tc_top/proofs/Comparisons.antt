@@ -29,7 +29,7 @@ module _ {words : List (List ℕ)} {rose : Type 0} {reads : List Read} (files : 
   by_texts : (question : Question) (c : ComparesFiles words files question g h) → status ≡ status_of answer → Appended old new (text_of answer)
       → IsOfFault rose answer ⊎ Compares question c.first c.second c.first_text c.second_text answer → IsCutShort status rose ⊎ DecidesComparison g h status old new question
   by_texts question c is written (inl fault) = inl (cut_short status answer is fault)
-  by_texts question c is written (inr x) = inr (decides g h status old new question is written (compared_of c.first_spells c.second_spells x))
+  by_texts question c is written (inr x) = inr (decides g h status old new question answer is written (compared_of c.first_spells c.second_spells x))
 
   pub includes : ComparesFiles words files inclusion g h → AreTrue (Some files) rose reads → IsAnswer words reads answer → status ≡ status_of answer → Appended old new (text_of answer)
       → IsCutShort status rose ⊎ DecidesComparison g h status old new inclusion

@@ -1,5 +1,5 @@
 use Rattle.std.proofs.Common.{◌≡◌, length}
-use Rattle.tc_incl.specs.Steps.{AreStepped}
+use Rattle.tc_incl.specs.Stepped.{AreStepped}
 use Rattle.tc_incl.proofs.covers.step_to.Given as goal
 
 abbrev pub invariant-loop-place : goal.invariant-loop-place
