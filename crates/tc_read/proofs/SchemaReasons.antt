@@ -54,9 +54,9 @@ text_or_syntax : {bytes : List ℕ} {x : Refusal} {s : Syntax} → IsRefused byt
 text_or_syntax {bytes} {x} {s} a b = no_syntax bytes x false deepest_nesting s a (excluded x) b
 
 one_syntax_fault : {bytes : List ℕ} {f g : Fault} → SpellsFault bytes f → SpellsFault bytes g → f ≡ g
-one_syntax_fault {bytes} {f} {g} (s, (a, x)) (t, (b, y)) = one_fault s f g x (subst (λ z. Fails z g) (sym (one_syntax bytes s t a b)) y)
+one_syntax_fault {bytes} {f} {g} (s, a, x) (t, b, y) = one_fault s f g x (subst (λ z. Fails z g) (sym (one_syntax bytes s t a b)) y)
 
-both : {r q : Reason} {k m : ℕ} → (r, k) ≡ (q, m) → (r ≡ q) × (k ≡ m)
+both : {r q : Reason} {k m : ℕ} → ◌≡◌ {A = Reason × ℕ} (r, k) (q, m) → (r ≡ q) × (k ≡ m)
 both e = (ap (λ z. z.0) e, ap (λ z. z.1) e)
 
 pub one_reason : HasOneReason
@@ -64,13 +64,13 @@ one_reason bytes r q k m a b = by (cause bytes r k a) (cause bytes q m b)
   where
     by : Cause bytes r k → Cause bytes q m → (r ≡ q) × (k ≡ m)
     by (in_text x h e) (in_text y i f) = both (e ∙ (ap told (one_refusal bytes x y h i) ∙ sym f))
-    by (in_text x h e) (in_syntax g (s, (i, y)) f) = absurd (text_or_syntax h i)
-    by (in_syntax g (s, (i, y)) f) (in_text x h e) = absurd (text_or_syntax h i)
+    by (in_text x h e) (in_syntax g (s, i, y) f) = absurd (text_or_syntax h i)
+    by (in_syntax g (s, i, y) f) (in_text x h e) = absurd (text_or_syntax h i)
     by (in_syntax g h e) (in_syntax l i f) = both (e ∙ (ap told_fault (one_syntax_fault h i) ∙ sym f))
 
 pub no_schema : HasNoGrammar
-no_schema bytes r k g a (s, (b, x)) = by (cause bytes r k a)
+no_schema bytes r k g a (s, b, x) = by (cause bytes r k a)
   where
     by : Cause bytes r k → ⊥
     by (in_text y h e) = text_or_syntax h b
-    by (in_syntax f (t, (i, y)) e) = no_grammar s f g (subst (λ z. Fails z f) (one_syntax bytes t s i b) y) x
+    by (in_syntax f (t, i, y) e) = no_grammar s f g (subst (λ z. Fails z f) (one_syntax bytes t s i b) y) x
