@@ -123,7 +123,7 @@ place_within n place [] h = absurd (none_has h)
 place_within n place (q ∷ qs) h = by q (has_first h) (place_within n place qs)
   where
     by : (q : SyntaxPattern) → (ref n place ≡ q) ⊎ Has qs (ref n place) → (Has qs (ref n place) → place ≤ places_sum qs) → place ≤ places_sum (q ∷ qs)
-    by q (inl e) f = subst (λ z. place ≤ places_sum (z ∷ qs)) e (omega arith)
+    by q (inl e) f = let first : place ≤ place + places_sum qs = omega arith in subst (λ z. place ≤ places_sum (z ∷ qs)) e first
     by (ref k p) (inr h) f = omega (arith, f h)
     by empty (inr h) f = f h
     by not_allowed (inr h) f = f h
@@ -144,7 +144,7 @@ has_map f (there k) = there (has_map f k)
 
 module _ (s : Syntax) where
   abbrev names : List (List ℕ)
-  names = map (λ d. d.name) s.definitions
+  names = map (λ x. x.name) s.definitions
 
   -- a name with a definition
   named : {a : List ℕ} {p : SyntaxPattern} → pattern_of s a ≡ Some p → Has names a
@@ -340,7 +340,7 @@ module _ (s : Syntax) where
   -- no reference stands behind this place
   sum_of : List (List ℕ) → ℕ
   sum_of [] = 0
-  sum_of (a ∷ rest) = elim (pattern_of s a) as (λ _. ℕ) [ Some p ↦ places_sum (nodes true p) | None ↦ 0 ] + sum_of rest
+  sum_of (a ∷ rest) = (elim (pattern_of s a) as (λ _. ℕ) [ Some p ↦ places_sum (nodes true p) | None ↦ 0 ]) + sum_of rest
 
   sum_above : (a : List ℕ) (p : SyntaxPattern) (among : List (List ℕ)) → pattern_of s a ≡ Some p → Has among a → places_sum (nodes true p) ≤ sum_of among
   unfolding sum_of
