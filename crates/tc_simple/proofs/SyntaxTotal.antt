@@ -252,8 +252,8 @@ module _ (s : Syntax) where
       let (c, (k, last)) = below_at y b mid in
       (c, (leads_then l k, last))
 
-  step_below : {a b : List ℕ} {p q : SyntaxPattern} → Refers false a b → pattern_of s a ≡ Some p → pattern_of s b ≡ Some q → Below s p q
-  step_below {a} {b} {p} {q} (place, (r, (e, h))) is to = by (node_below s p (ref b place) (subst (λ z. Has (nodes false z) (ref b place)) (same_some e is) h))
+  step_below : (a : List ℕ) {b : List ℕ} {p q : SyntaxPattern} → Refers false a b → pattern_of s a ≡ Some p → pattern_of s b ≡ Some q → Below s p q
+  step_below a {b} {p} {q} (place, (r, (e, h))) is to = by (node_below s p (ref b place) (subst (λ z. Has (nodes false z) (ref b place)) (same_some e is) h))
     where
       by : (ref b place ≡ p) ⊎ Below s p (ref b place) → Below s p q
       by (inl same) = subst (λ z. Below s z q) same (m.reference to)
@@ -264,8 +264,8 @@ module _ (s : Syntax) where
   path_pattern (via (place, (p, (e, h))) m q) = (p, e)
 
   path_below : {a b : List ℕ} {p q : SyntaxPattern} → Path (Refers false) names a b → pattern_of s a ≡ Some p → pattern_of s b ≡ Some q → Below s p q
-  path_below (step x) is to = step_below x is to
-  path_below (via x m r) is to = let (o, at) = path_pattern r in m.further (step_below x is at) (path_below r at to)
+  path_below {a} (step x) is to = step_below a x is to
+  path_below {a} (via x k r) is to = let (o, at) = path_pattern r in m.further (step_below a x is at) (path_below r at to)
 
   leads_below : {a b : List ℕ} {p q : SyntaxPattern} → Leads false a b → pattern_of s a ≡ Some p → pattern_of s b ≡ Some q → (q ≡ p) ⊎ Below s p q
   leads_below (inl e) is to = inl (same_some (ap (pattern_of s) e ∙ to) is)
@@ -345,14 +345,14 @@ module _ (s : Syntax) where
   sum_above : (a : List ℕ) (p : SyntaxPattern) (among : List (List ℕ)) → pattern_of s a ≡ Some p → Has among a → places_sum (nodes true p) ≤ sum_of among
   unfolding sum_of
   sum_above a p [] e h = absurd (none_has h)
-  sum_above a p (x ∷ rest) e h = by (has_first h)
+  sum_above a p (x ∷ rest) e h = by (has_first h) (λ k. sum_above a p rest e k)
     where
-      by : (a ≡ x) ⊎ Has rest a → places_sum (nodes true p) ≤ sum_of (x ∷ rest)
-      by (inl is) =
+      by : (a ≡ x) ⊎ Has rest a → (Has rest a → places_sum (nodes true p) ≤ sum_of rest) → places_sum (nodes true p) ≤ sum_of (x ∷ rest)
+      by (inl is) f =
           let same : elim (pattern_of s x) as (λ _. ℕ) [ Some q ↦ places_sum (nodes true q) | None ↦ 0 ] ≡ places_sum (nodes true p) =
           ap (λ o. elim o as (λ _. ℕ) [ Some q ↦ places_sum (nodes true q) | None ↦ 0 ]) (ap (pattern_of s) (sym is) ∙ e) in
           omega (arith, same)
-      by (inr k) = omega (arith, sum_above a p rest e k)
+      by (inr k) f = omega (arith, f k)
 
   circular_within : (place : ℕ) → IsCircular s place → place < suc (sum_of names)
   circular_within place c =
@@ -492,27 +492,31 @@ module _ (s : Syntax) where
       without_less : (n : List ℕ) (left : List (List ℕ)) → Has left n → length (without n left) < length left
       unfolding without
       without_less n [] h = absurd (none_has h)
-      without_less n (a ∷ left) h = by (bytes_eq a n) refl (has_first h)
+      without_less n (a ∷ left) h = by (bytes_eq a n) refl (has_first h) (λ k. without_less n left k)
         where
-          by : (b : Bool) → bytes_eq a n ≡ b → (n ≡ a) ⊎ Has left n → length (cond b (without n left) (a ∷ without n left)) < length (a ∷ left)
-          by true e k = omega (arith, without_fewer n left)
-          by false e (inl same) = absurd (false≢true (sym e ∙ (ap (λ z. bytes_eq z n) (sym same) ∙ same_bytes n)))
-          by false e (inr k) = omega (arith, without_less n left k)
+          by : (b : Bool) → bytes_eq a n ≡ b → (n ≡ a) ⊎ Has left n → (Has left n → length (without n left) < length left) → length (cond b (without n left) (a ∷ without n left)) < length (a ∷ left)
+          by true e k f = omega (arith, without_fewer n left)
+          by false e (inl same) f = absurd (false≢true (sym e ∙ (ap (λ z. bytes_eq z n) (sym same) ∙ same_bytes n)))
+          by false e (inr k) f = omega (arith, f k)
 
       without_others : (n k : List ℕ) (left : List (List ℕ)) → Has left k → (k ≡ n) ⊎ Has (without n left) k
       unfolding without
       without_others n k [] h = absurd (none_has h)
-      without_others n k (a ∷ left) h = by (bytes_eq a n) refl (has_first h)
+      without_others n k (a ∷ left) h = by (bytes_eq a n) refl (has_first h) (λ m. without_others n k left m)
         where
           later : (b : Bool) → (k ≡ n) ⊎ Has (without n left) k → (k ≡ n) ⊎ Has (cond b (without n left) (a ∷ without n left)) k
           later b (inl e) = inl e
           later true (inr m) = inr m
           later false (inr m) = inr (there m)
 
-          by : (b : Bool) → bytes_eq a n ≡ b → (k ≡ a) ⊎ Has left k → (k ≡ n) ⊎ Has (cond b (without n left) (a ∷ without n left)) k
-          by true e (inl same) = inl (same ∙ bytes_are a n e)
-          by false e (inl same) = inr (subst (λ z. Has (a ∷ without n left) z) (sym same) here)
-          by b e (inr m) = later b (without_others n k left m)
+          by : (b : Bool) → bytes_eq a n ≡ b → (k ≡ a) ⊎ Has left k → (Has left k → (k ≡ n) ⊎ Has (without n left) k) → (k ≡ n) ⊎ Has (cond b (without n left) (a ∷ without n left)) k
+          by true e (inl same) f = inl (same ∙ bytes_are a n e)
+          by false e (inl same) f = inr (subst (λ z. Has (a ∷ without n left) z) (sym same) here)
+          by b e (inr m) f = later b (f m)
+
+      -- what is so of fewer names
+      abbrev Fewer : ℕ → Type 0
+      Fewer count = (rest : List (List ℕ)) → length rest ≤ count → (k : List ℕ) (q : ℕ) → Reached s (ref k q) → Inside rest (ref k q) → Made (ref k q)
 
       -- of so many names at most that may still come
       made_of : (count : ℕ) (left : List (List ℕ)) → length left ≤ count → (n : List ℕ) (place : ℕ) → Reached s (ref n place) → Inside left (ref n place) → Made (ref n place)
@@ -521,7 +525,7 @@ module _ (s : Syntax) where
           by : Has left n ⊎ ((p : ℕ) → Below s (ref n p) (ref n place)) → Made (ref n place)
           by (inl h) = absurd (omega (arith, l, without_less n left h))
           by (inr x) = absurd (acyclic place (record { name = n; reached = r; cycle = x place }))
-      made_of (suc count) left l n place r f = by (reference_defined n place r)
+      made_of (suc count) left l n place r f = by (λ rest k. made_of count rest k) (reference_defined n place r)
         where
           further : (p : SyntaxPattern) → pattern_of s n ≡ Some p → Inside (without n left) p
           further p e k h = at (f k h)
@@ -534,14 +538,14 @@ module _ (s : Syntax) where
               at (inl h) = here_or (without_others n k left h)
               at (inr x) = inr (λ q. m.further (x q) (m.reference e))
 
-          once : (p : SyntaxPattern) → pattern_of s n ≡ Some p → Has left n ⊎ ((q : ℕ) → Below s (ref n q) (ref n place)) → Made (ref n place)
-          once p e (inr x) = absurd (acyclic place (record { name = n; reached = r; cycle = x place }))
-          once p e (inl h) =
-              let (q, b) = made (without n left) (made_of count (without n left) (omega (arith, l, without_less n left h))) p (m.reference r e) (further p e) in
+          once : Fewer count → (p : SyntaxPattern) → pattern_of s n ≡ Some p → Has left n ⊎ ((q : ℕ) → Below s (ref n q) (ref n place)) → Made (ref n place)
+          once fewer p e (inr x) = absurd (acyclic place (record { name = n; reached = r; cycle = x place }))
+          once fewer p e (inl h) =
+              let (q, b) = made (without n left) (fewer (without n left) (omega (arith, l, without_less n left h))) p (m.reference r e) (further p e) in
               (q, a_reference e b)
 
-          by : (p : SyntaxPattern) × (pattern_of s n ≡ Some p) → Made (ref n place)
-          by (p, e) = once p e (f n (named e))
+          by : Fewer count → (p : SyntaxPattern) × (pattern_of s n ≡ Some p) → Made (ref n place)
+          by fewer (p, e) = once fewer p e (f n (named e))
 
       becomes_here : (p : SyntaxPattern) → Reached s p → Made p
       becomes_here p r = made names (made_of (length names) names (omega arith)) p r (λ n h. inl h)
@@ -631,18 +635,20 @@ module _ (s : Syntax) where
   whole order f start is =
       let reached = elements_reached (kept s.definitions) (λ e h. h) in
       let (p, b) = becomes_here f.defined f.acyclic (kept s.definitions) start (m.at_start is) in
-      let (ps, l) = elements_become f.defined f.acyclic (kept s.definitions) (kept s.definitions) reached in
-      (record { start = p; elements = ps }, record {
-        numbered = kept s.definitions;
-        start = start;
-        faultless = f;
-        ascending = (kept_ascending 0 s.definitions order).0;
-        reached = reached;
-        all = all_kept;
-        is_start = is;
-        start_becomes = b;
-        elements_become = l;
-      })
+      let (ps, l) = elements_become f.defined f.acyclic (kept s.definitions) (kept s.definitions) reached in (
+        record { start = p; elements = ps },
+        record {
+          numbered = kept s.definitions;
+          start = start;
+          faultless = f;
+          ascending = (kept_ascending 0 s.definitions order).0;
+          reached = reached;
+          all = all_kept;
+          is_start = is;
+          start_becomes = b;
+          elements_become = l;
+        },
+      )
 
   pub grammar_or_fault : IsLawfulSyntax s → ((grammar : Grammar) × Simplifies s grammar) ⊎ ((f : Fault) × Fails s f)
   grammar_or_fault lawful = by (twice_at s) refl (undefined_at s) refl loop_here (bad_except_at s) refl
