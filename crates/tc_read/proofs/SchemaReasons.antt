@@ -1,5 +1,5 @@
--- A schema is refused for one reason, and then has no grammar.
-use Rattle.std.proofs.Common.{◌≡◌, ℕ, ◌≤◌, List, refl, ap, ◌∙◌, sym, subst, arith, false}
+-- A schema has a grammar or is refused, for one reason, and not both.
+use Rattle.std.proofs.Common.{◌≡◌, ◌⊎◌, inl, inr, ℕ, ◌≤◌, List, refl, ap, ◌∙◌, sym, subst, arith, false}
 use Rattle.tc_model.specs.CompactSyntaxTrees.{Syntax}
 use Rattle.tc_model.specs.CompactSyntax.{CompactSyntax, deepest_nesting}
 use Rattle.tc_model.specs.CompactSyntaxUnread.{Refusal, malformed, unsupported, too_deep}
@@ -7,12 +7,16 @@ use Rattle.tc_model.specs.CompactSyntaxRefused.{IsRefused}
 use Rattle.tc_model.specs.CompactSyntaxRefusedLaws.{Excludes}
 use Rattle.tc_model.specs.Grammars.{Grammar}
 use Rattle.tc_model.specs.RncText.{RncText}
+use Rattle.tc_model.specs.Simplifies.{Simplifies}
 use Rattle.tc_model.specs.SimplifiesFaults.{Fault, undefined, twice, loop, bad_start, bad_except, Fails}
 use Rattle.tc_model.proofs.CompactSyntaxRefused.{one_refusal, no_syntax}
 use Rattle.tc_model.proofs.SimplifiesFaults.{one_fault, no_grammar}
+use Rattle.tc_model.proofs.SimplifiesLawful.{lawful_syntax}
 use Rattle.tc_model.proofs.SimplifiesUnique.{one_syntax}
+use Rattle.tc_rnc.proofs.DecidingTexts.{read_or_refused}
+use Rattle.tc_simple.proofs.SyntaxTotal.{grammar_or_fault}
 use Rattle.tc_read.specs.Refusals.{IsRefusedSchema, SpellsFault}
-use Rattle.tc_read.specs.SchemaLaws.{HasOneReason, HasNoGrammar}
+use Rattle.tc_read.specs.SchemaLaws.{HasOneReason, HasNoGrammar, HasGrammarOrReason}
 use Rattle.tc_read.specs.declared.faults.Reason.{Reason}
 use Rattle.tc_read.specs.declared.faults.Reason.TheVariants.{Malformed, Unsupported, TooDeep, Undefined, Twice, Loop, BadStart, BadExcept, CallLoop}
 
@@ -74,3 +78,29 @@ no_schema bytes r k g a (s, b, x) = by (cause bytes r k a)
     by : Cause bytes r k → ⊥
     by (in_text y h e) = text_or_syntax h b
     by (in_syntax f (t, i, y) e) = no_grammar s f g (subst (λ z. Fails z f) (one_syntax bytes t s i b) y) x
+
+abbrev Refused : List ℕ → Type 0
+Refused bytes = (r : Reason) × ((k : ℕ) × IsRefusedSchema bytes r k)
+
+refused_text : {bytes : List ℕ} (x : Refusal) → IsRefused bytes x → Refused bytes
+refused_text {bytes} (malformed p) h = (Malformed, (p, (h, λ others deepest s a. no_syntax bytes (malformed p) others deepest s h tt a)))
+refused_text {bytes} (unsupported why p) h = (Unsupported why, (p, (h, λ deepest s a. no_syntax bytes (unsupported why p) false deepest s h refl a)))
+refused_text {bytes} (too_deep p) h = (TooDeep, (p, (h, λ others s a. no_syntax bytes (too_deep p) others deepest_nesting s h (omega arith) a)))
+
+refused_syntax : {bytes : List ℕ} (s : Syntax) → CompactSyntax bytes s → (f : Fault) → Fails s f → Refused bytes
+refused_syntax s a (undefined p) x = (Undefined, (p, (s, a, x)))
+refused_syntax s a (twice p) x = (Twice, (p, (s, a, x)))
+refused_syntax s a (loop p) x = (Loop, (p, (s, a, x)))
+refused_syntax s a (bad_start p) x = (BadStart, (p, (s, a, x)))
+refused_syntax s a (bad_except p) x = (BadExcept, (p, (s, a, x)))
+
+pub schema_or_reason : HasGrammarOrReason
+schema_or_reason bytes = by (read_or_refused bytes)
+  where
+    of_syntax : (s : Syntax) → CompactSyntax bytes s → ((g : Grammar) × Simplifies s g) ⊎ ((f : Fault) × Fails s f) → ((g : Grammar) × RncText bytes g) ⊎ Refused bytes
+    of_syntax s a (inl (g, x)) = inl (g, (s, a, x))
+    of_syntax s a (inr (f, x)) = inr (refused_syntax s a f x)
+
+    by : ((s : Syntax) × CompactSyntax bytes s) ⊎ ((r : Refusal) × IsRefused bytes r) → ((g : Grammar) × RncText bytes g) ⊎ Refused bytes
+    by (inl (s, a)) = of_syntax s a (grammar_or_fault s (lawful_syntax bytes s a).0)
+    by (inr (r, h)) = inr (refused_text r h)

@@ -1,5 +1,5 @@
--- Laws of schemas that are refused.
-use Rattle.std.specs.Prelude.{◌≡◌, ℕ, List}
+-- Laws of schemas: which are refused.
+use Rattle.std.specs.Prelude.{◌≡◌, ◌⊎◌, ℕ, List}
 use Rattle.tc_model.specs.Grammars.{Grammar}
 use Rattle.tc_model.specs.RncText.{RncText}
 use Rattle.tc_read.specs.Refusals.{IsRefusedSchema}
@@ -12,3 +12,7 @@ HasOneReason = (bytes : List ℕ) (r q : Reason) (k m : ℕ) → IsRefusedSchema
 -- and then has no grammar
 abbrev pub HasNoGrammar : Type 0
 HasNoGrammar = (bytes : List ℕ) (r : Reason) (k : ℕ) (g : Grammar) → IsRefusedSchema bytes r k → RncText bytes g → ⊥
+
+-- any bytes have a grammar, or are refused
+abbrev pub HasGrammarOrReason : Type 0
+HasGrammarOrReason = (bytes : List ℕ) → ((g : Grammar) × RncText bytes g) ⊎ ((r : Reason) × ((k : ℕ) × IsRefusedSchema bytes r k))

@@ -13,8 +13,8 @@ pub mod PatternLaws
 pub mod ItemLaws
 pub mod DeclarationLaws
 pub mod TopLaws
-mod Deciding
+pub mod Deciding
 mod DecidingClasses
 mod DecidingPatterns
 mod DecidingSchemas
-mod DecidingTexts
+pub mod DecidingTexts
