@@ -1,13 +1,12 @@
 -- Lists that grow by one in a loop.
-use Rattle.std.proofs.Common.{◌≡◌, ◌<◌, ◌+◌, ◌↔◌, ◌⊎◌, inl, inr, ◌++◌, ◌∷◌, [], ℕ, zero, suc, List, length, map, slice_get, Some, subst, sym, ap, ◌∙◌, refl, arith}
+use Rattle.std.proofs.Common.{◌≡◌, ◌+◌, ◌↔◌, inl, inr, ◌++◌, ◌∷◌, [], ℕ, zero, suc, List, length, map, slice_get, Some, subst, sym, ap, ◌∙◌}
 use Rattle.std.specs.List.{Contains}
 use Rattle.std.proofs.lemmas.List.{map-append, length-append}
 use Rattle.tc_beh.specs.Machines.{IsMachineOf}
 use Rattle.tc_beh.specs.Lines.{IsLine, AreFlags}
-use Rattle.tc_beh.specs.Rooms.{Layout, hedge_layout, tree_layout}
+use Rattle.tc_beh.specs.Rooms.{hedge_layout, tree_layout}
 use Rattle.tc_beh.specs.RoomsOf.{IsRoomOf, IsRoomBeside}
 use Rattle.tc_beh.specs.declared.machine.Machine.{Machine}
-use Rattle.tc_beh.specs.declared.rooms.Room.{Room}
 use Rattle.tc_beh.specs.declared.rooms.HRow.{HRow}
 use Rattle.tc_beh.specs.declared.rooms.TRow.{TRow}
 use Rattle.tc_model.specs.declared.lists.TreeLine.{TreeLine}

@@ -1,9 +1,8 @@
 -- What breaks a rule first, and that data with a broken rule is no certificate.
-use Rattle.std.proofs.Common.{◌≡◌, ◌<◌, ◌≤◌, ◌+◌, ◌⊎◌, inl, inr, ℕ, zero, suc, List, [], ◌∷◌, length, get_or, map, slice_get, Some, subst, sym, ap, ◌∙◌, refl, arith}
-use Rattle.std.specs.List.{Contains, All}
+use Rattle.std.proofs.Common.{◌≡◌, ◌<◌, ◌≤◌, ◌⊎◌, inl, inr, ℕ, zero, suc, List, [], ◌∷◌, length, get_or, map, subst, sym, ap, ◌∙◌, refl, arith}
+use Rattle.std.specs.List.{All}
 use Rattle.std.proofs.lemmas.List.{length-map, get_or-map}
 use Rattle.std.proofs.lemmas.List.Elements.{All-contains, Contains-get_or}
-use Rattle.std.proofs.lemmas.Option.{slice_get-get_or, slice_get-map}
 use Rattle.tc_model.specs.Symbols.{symbol_count}
 use Rattle.tc_model.specs.declared.lists.TreeLine.{TreeLine}
 use Rattle.tc_model.specs.declared.lists.HedgeLine.{HedgeLine}
@@ -17,10 +16,10 @@ use Rattle.tc_beh.specs.Machines.{IsMachineOf}
 use Rattle.tc_model.specs.CertificateData.{IsFormed}
 use Rattle.tc_verify.specs.Rules.{IsEmptyListed, IsTextListed, AppendIsListed, WrapIsListed, RootIsGood}
 use Rattle.tc_rows.specs.CertificateRows.{numbered_tree, numbered_hedge, trees_of, hedges_of, IsCertificateData}
-use Rattle.tc_model.specs.CertificateFits.{AllFit, HedgeFits, IsFirstUnfit, IsUnfit, OutputFits, PairsFit, TreeFits, line_of_hedge, line_of_output, line_of_tree}
+use Rattle.tc_model.specs.CertificateFits.{AllFit, HedgeFits, IsFirstUnfit, IsUnfit, OutputFits, TreeFits, line_of_hedge, line_of_tree}
 use Rattle.tc_verify.specs.Fits.{sizes}
 use Rattle.tc_verify.specs.Listings.{Listing, hedge_rows, tree_rows, EmptyHolds, EmptyBreaks, TextHolds, TextBreaks, AppendHolds, AppendBreaks, WrapHolds, WrapBreaks, RootHolds, RootBreaks}
-use Rattle.tc_verify.specs.Firsts.{ListsHold, RowsHold, WrapsToo, IsFirstAt, IsFirstPair, IsFirstOf, AppendsHold, WrapsHold, symbols}
+use Rattle.tc_verify.specs.Firsts.{ListsHold, RowsHold, WrapsToo, IsFirstOf, symbols}
 use Rattle.tc_verify.specs.Told.{Tells, IsRejectOf, AreIn}
 use Rattle.tc_verify.specs.Rejects.{IsBroken, IsFirstBroken, IsRejected, rank}
 use Rattle.tc_verify.specs.declared.reject.Reject.{Reject}

@@ -1,10 +1,9 @@
 -- What is worked out from rows of a certificate, and whether that is listed.
-use Rattle.std.proofs.Common.{◌≡◌, ◌<◌, ◌↔◌, ℕ, List, length, map, Bool, true, false, not, IsTrue, slice_get, Some, subst, sym, ap, ◌∙◌, refl}
+use Rattle.std.proofs.Common.{◌≡◌, ◌↔◌, ℕ, List, map, Bool, true, false, not, IsTrue, slice_get, Some, subst, sym, ◌∙◌, refl}
 use Rattle.std.specs.Bool.{MatchBool}
 use Rattle.std.specs.List.{Contains}
-use Rattle.tc_mat.specs.Held.{Held}
 use Rattle.tc_rows.specs.Triples.{Triple}
-use Rattle.tc_rows.specs.Rows.{HedgeRow, TreeRow, IsHedgeRow, IsTreeRow}
+use Rattle.tc_rows.specs.Rows.{HedgeRow, TreeRow}
 use Rattle.tc_rows.specs.Arithmetic.{IsEmptyRow, IsTextRow, IsTextLive, IsAppend, IsLiveAppend, IsWrap, IsLiveWrap, is_admitted, IsPassing}
 use Rattle.tc_rows.proofs.AllLaws.{rows_are_lawful}
 use Rattle.tc_beh.specs.Outs.{IsLeftOut}

@@ -7,9 +7,14 @@ use Rattle.tc_model.specs.declared.lists.TreeLine.{TreeLine}
 use Rattle.tc_model.specs.declared.lists.HedgeLine.{HedgeLine}
 use Rattle.tc_model.specs.declared.lists.CertData.{CertData}
 use Rattle.tc_model.specs.CertificateFits.{Sizes, OutputFits, TreeFits, HedgeFits, IsUnfit, IsFirstUnfit, line_of_output, line_of_tree, line_of_hedge}
-use Rattle.tc_verify.specs.Firsts.{IsFirstNot}
 use Rattle.tc_verify.proofs.Kept.{contains_at}
 use Rattle.tc_verify.proofs.Made.{got}
+
+-- the first element of a list of which something doesn't hold
+pub record IsFirstNot {X : Type 0} (P : X → Type 0) (xs : List X) (k : ℕ) : Type 0 where
+  pub low : k < length xs
+  pub before : (i : ℕ) (v : X) → i < k → slice_get xs i ≡ Some v → P v
+  pub breaks : (v : X) → slice_get xs k ≡ Some v → ¬ P v
 
 below_or : (a b : ℕ) → (a < b) ⊎ (b ≤ a)
 below_or a b = grind arith

@@ -1,5 +1,5 @@
 // The first rule that rows break.
-ghost use Rattle.std.specs.Prelude.{◌≡◌, ◌<◌, ℕ, length, MatchResult};
+ghost use Rattle.std.specs.Prelude.{◌≡◌, MatchResult};
 ghost use Rattle.tc_verify.specs.Checkers.{AreChecked, view_of};
 ghost use Rattle.tc_verify.specs.Firsts.{ListsHold, RowsHold, WrapsToo, AllHold, IsFirstOf};
 

@@ -1,4 +1,3 @@
-use Rattle.std.proofs.Common.{◌≡◌}
 use Rattle.tc_rows.specs.Triples.{Triple}
 use Rattle.tc_beh.specs.Machines.{IsMachineOf}
 use Rattle.tc_verify.specs.Rejects.{IsCause}

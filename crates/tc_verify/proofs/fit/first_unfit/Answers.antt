@@ -1,4 +1,4 @@
-use Rattle.std.proofs.Common.{◌≡◌, ℕ, subst, sym}
+use Rattle.std.proofs.Common.{ℕ, subst, sym}
 use Rattle.tc_model.specs.CertificateFits.{OutputFits, TreeFits, HedgeFits, IsFirstUnfit}
 use Rattle.tc_verify.specs.Fits.{shape_sizes}
 use Rattle.tc_verify.proofs.Unfit.{one_fits, first_not, all_fit_in, output_first, tree_first, hedge_first}

@@ -1,4 +1,3 @@
-use Rattle.std.proofs.Common.{◌<◌, ℕ}
 use Rattle.std.specs.List.{AllWithin}
 use Rattle.tc_model.specs.CertificateFits.{OutputFits, TreeFits, HedgeFits}
 use Rattle.tc_verify.specs.Fits.{shape_sizes}
