@@ -1,5 +1,5 @@
 -- Which names lead to which, by steps between names of a list.
-use Rattle.std.proofs.Common.{◌≡◌, ◌⊎◌, inl, inr, ℕ, zero, suc, ◌<◌, ◌≤◌, List, [], ◌∷◌, refl, sym, subst, arith}
+use Rattle.std.proofs.Common.{◌≡◌, ◌⊎◌, inl, inr, ℕ, zero, suc, ◌<◌, ◌≤◌, List, [], ◌∷◌, subst, arith}
 use Rattle.std.proofs.lemmas.Bool.{cases_lt}
 use Rattle.tc_model.proofs.SimplifiesUnique.{Has, here, there}
 use Rattle.tc_rnc.proofs.Deciding.{Decided, both, decided_by}

@@ -1,16 +1,16 @@
 -- A syntax tree has a grammar or a fault.
-use Rattle.std.proofs.Common.{◌≡◌, ◌⊎◌, inl, inr, ℕ, zero, suc, ◌+◌, ◌<◌, ◌≤◌, Bool, true, false, cond, List, [], ◌∷◌, ◌++◌, refl, ap, ◌∙◌, sym, subst, length, arith, map, filter, Option, None, Some, bytes_eq}
+use Rattle.std.proofs.Common.{◌≡◌, ◌⊎◌, inl, inr, ℕ, zero, suc, ◌+◌, ◌<◌, ◌≤◌, Bool, true, false, cond, List, [], ◌∷◌, ◌++◌, refl, ap, ◌∙◌, sym, subst, length, arith, map, Option, None, Some, bytes_eq}
 use Rattle.std.specs.List.{AllByRecursion, Contains, filter_map}
 use Rattle.std.proofs.lemmas.Bool.{false≢true, true≢false}
 use Rattle.tc_model.specs.Grammars as g
 use Rattle.tc_model.specs.Grammars.{Pattern, Patterns, ElementPattern, Grammar}
 use Rattle.tc_model.specs.CompactSyntaxTrees.{SyntaxClass, SyntaxPattern, empty, not_allowed, text, attribute, ref, element, mixed, optional, zero_or_more, one_or_more, group, choice, interleave, SyntaxPatterns, no_more, more, Definition, Syntax}
-use Rattle.tc_model.specs.CompactSyntaxLawful.{places_in, places_of, AscendFrom, IsLawfulSyntax}
+use Rattle.tc_model.specs.CompactSyntaxLawful.{places_of, AscendFrom, IsLawfulSyntax}
 use Rattle.tc_model.specs.SimplifiesParts.{definitions_of, joined_definitions, pattern_of, nodes_in, nodes_of, IsAmong, IsOpenPart, Below, Reached}
 use Rattle.tc_model.specs.SimplifiesParts as m
 use Rattle.tc_model.specs.SimplifiesFaults.{twice_at, undefined_at, undefined_reference, unless_defined, first_answer, IsCircular, IsLoop, IsAcyclic, bad_except_at, may_start, first_definition, IsBadStart, Fault, twice, undefined, loop, bad_except, bad_start, Fails, IsFaultless}
-use Rattle.tc_model.specs.Simplifies.{Element, name_class, both, Becomes, an_empty, a_not_allowed, a_text, an_attribute, a_reference, an_element, a_mixed, an_optional, a_zero_or_more, a_one_or_more, a_group, a_choice, an_interleave, AllBecome, none_left, one_more, ElementsBecome, no_element, next, AreAscending, Simplifies}
-use Rattle.tc_model.proofs.SimplifiesUnique.{Has, here, there, all_at}
+use Rattle.tc_model.specs.Simplifies.{Element, name_class, Becomes, an_empty, a_not_allowed, a_text, an_attribute, a_reference, an_element, a_mixed, an_optional, a_zero_or_more, a_one_or_more, a_group, a_choice, an_interleave, AllBecome, none_left, one_more, ElementsBecome, no_element, next, AreAscending, Simplifies}
+use Rattle.tc_model.proofs.SimplifiesUnique.{Has, here, there}
 use Rattle.tc_model.proofs.CompactSyntaxClassesUnique.{same_some, some_none}
 use Rattle.tc_rnc.proofs.Deciding as d
 use Rattle.tc_rnc.proofs.Deciding.{Decided, decided_by}
@@ -18,8 +18,8 @@ use Rattle.tc_simple.specs.Nodes.{nodes, element_of}
 use Rattle.tc_simple.proofs.Answered.{no_answer, one_answer}
 use Rattle.tc_simple.proofs.Gathering.{bytes_are, same_bytes}
 use Rattle.tc_simple.proofs.NamePaths.{any_of, least_below, Path, step, via, path_here}
-use Rattle.tc_simple.proofs.Numbering.{has_chosen, chosen_has, body_part, in_joined, is_list, Lies, lies, join_all, weaker, join_ascending, firsts, places_are, element_is}
-use Rattle.tc_simple.proofs.Standing.{has_left, has_right, has_cases, has_first, none_has, either, has_contains, Found, has_filter, filter_has, node_self, part_node, node_within, node_below, node_reached}
+use Rattle.tc_simple.proofs.Numbering.{has_chosen, chosen_has, body_part, in_joined, Lies, lies, join_all, weaker, join_ascending, firsts, places_are, element_is}
+use Rattle.tc_simple.proofs.Standing.{has_left, has_right, has_cases, has_first, none_has, either, has_contains, has_filter, filter_has, node_self, part_node, node_within, node_below, node_reached}
 use Rattle.tc_simple.proofs.Whole.{nodes_same, in_all_nodes, none_answers}
 
 truth : {P : Type 0} → Decided P → Bool
