@@ -1,5 +1,5 @@
 -- What is known of kinds is true, stays so where more rows come on, and tells what is dead.
-use Rattle.std.proofs.Common.{◌≡◌, ◌<◌, ◌≤◌, ◌⊎◌, inl, inr, ◌==◌, ◌++◌, ◌∷◌, ◌+◌, ◌-◌, refl, ℕ, List, [], length, get_or, Bool, false, Some, All, subst, sym, ap, ◌∙◌, arith, length-append, append-nil}
+use Rattle.std.proofs.Common.{◌≡◌, ◌<◌, ◌≤◌, inl, inr, ◌==◌, ◌++◌, ◌∷◌, ◌+◌, ◌-◌, refl, ℕ, List, [], length, get_or, false, subst, sym, ap, ◌∙◌, arith, length-append, append-nil}
 use Rattle.std.proofs.Math.ListN.{get_or-append}
 use Rattle.std.proofs.lemmas.Bool.{cases_lt}
 use Rattle.std.proofs.lemmas.List.{get_or_append_left, get_or-append_right}

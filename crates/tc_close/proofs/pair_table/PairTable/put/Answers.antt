@@ -1,4 +1,4 @@
-use Rattle.std.proofs.Common.{rules, arith}
+use Rattle.std.proofs.Common.{rules}
 use Rattle.tc_close.proofs.PairTables.{put_pair}
 use Rattle.tc_close.proofs.pair_table.PairTable.put.Goals as goal
 
