@@ -13,3 +13,5 @@ pub mod Made
 pub mod Carried
 pub mod Verdicts
 pub mod Exact
+pub mod PairTables
+pub mod KindLaws

@@ -4,3 +4,5 @@ pub mod Triples
 pub mod Decisions
 pub mod RowState
 pub mod HeldRows
+pub mod PairTables
+pub mod Kinds

@@ -4,9 +4,11 @@
 
 mod decision;
 mod held;
+mod kinds;
 pub mod laws;
 mod lists;
 mod over;
+mod pair_table;
 mod rooms;
 
 pub use decision::{CloseFault, Counts, Decision, decide};
