@@ -1,7 +1,7 @@
 -- Two schemas that are compared: their automata and their symbols, and what is found of them by what rows tell.
 use Rattle.std.proofs.Common.{◌≡◌, ◌≤◌, ◌<◌, ◌⊎◌, ◌++◌, inl, inr, refl, sym, ap, subst, ◌∙◌, ℕ, List, [], Contains, Result, IfOk, flat_map, append-nil, arith}
 use Rattle.tc_alpha.proofs.Members.{has_from_contains}
-use Rattle.tc_answer.specs.Answers.{Answer, included, not_included, equal, first_only, second_only, counterexample_limit}
+use Rattle.tc_answer.specs.Answers.{Answer, included, not_included, equal, first_only, second_only, counterexample_limit, over_limit}
 use Rattle.tc_answer.specs.declared.limits.TheConstants.{MOST_ROWS, MOST_SHOWN_NODES}
 use Rattle.tc_auto.specs.Stands as a
 use Rattle.tc_auto.specs.declared.auto.Auto.{Auto}
@@ -20,7 +20,8 @@ use Rattle.tc_model.specs.Trees.{Trees, none, node_count}
 use Rattle.tc_model.specs.Views.{before}
 use Rattle.tc_model.specs.WellFormed.{ForEach, IsSheet, eaches_of}
 use Rattle.tc_read.specs.declared.schemas.Schema.{Schema}
-use Rattle.tc_top.specs.Comparing.{AreCompiled, HasManyCovers, many_trees, many_hedges, HasFewCovers, symbols_of_both, forward, backward, IsOfOne, FindsInclusion, finds_included, finds_not_included, finds_none_shown, FindsEquality, finds_equal, finds_first_only, finds_second_only, finds_no_one_shown}
+use Rattle.tc_base.specs.declared.Limit.{Limit}
+use Rattle.tc_top.specs.Comparing.{Question, inclusion, equality, PassesCompiling, FindsBoth, inclusion_passes, equality_passes, AreCompiled, HasManyCovers, many_trees, many_hedges, HasFewCovers, symbols_of_both, forward, backward, IsOfOne, FindsInclusion, finds_included, finds_not_included, finds_none_shown, FindsEquality, finds_equal, finds_first_only, finds_second_only, finds_no_one_shown}
 use Rattle.tc_top.specs.Compiled.{IsSpelled, IsReadOf}
 use Rattle.tc_top.specs.Limits.{IsWithinLimits, AreFew}
 use Rattle.tc_top.specs.Pairs.{HasFewNodes, IsPairOf}
@@ -156,3 +157,8 @@ pub kept_counts : (x : Schemas) (c : Cover) → IsAnswer x MOST_ROWS c → Keeps
 kept_counts x (Included trees hedges) k = k.keeps
 kept_counts x (Not document) k = k.keeps
 kept_counts x NotLarge k = k.keeps
+
+-- a limit that is passed before rows are decides both questions
+pub passes_both : (g h : Grammar) (question : Question) {kind : Limit} {number : ℕ} → PassesCompiling g h kind number → FindsBoth g h question (over_limit kind number)
+passes_both g h inclusion p = inclusion_passes p
+passes_both g h equality p = equality_passes p
