@@ -7,21 +7,22 @@ ghost use Rattle.tc_rows.specs.Triples.{Triple};
 
 use crate::append::{put_append, put_kind};
 use crate::empty::put_empty;
-use crate::lists::{lists_of, pool_of};
+use crate::held_sets::HeldSets;
+use crate::lists::{lists_of, pairs_of, pool_of};
 use crate::machine::Machine;
 use crate::outputs::RowFault;
 use crate::rooms::{HRow, TRow};
 use std::alloc::Global;
 use tc_base::NoMemory;
-use tc_mat::{Mat, Pool};
-use tc_model::PairLists;
+use tc_mat::{Mat, MatId, Pool};
+use tc_model::{PairLists, Pairs};
 
 /// What rows over one machine are worked out in: the sets of pairs that stand in rows, each with a number, and room.
 #[derive(Drop)]
 pub struct Rows<'m, 'b> {
     pub(crate) machine: &'m Machine<'b>,
     pub(crate) is_fixed: bool,
-    pub(crate) outputs: Pool,
+    pub(crate) outputs: HeldSets,
     pub(crate) work: Work,
 }
 
@@ -81,7 +82,8 @@ impl<'m, 'b> Rows<'m, 'b> {
     ghost use Rattle.tc_rows.specs.Arithmetic.{IsEmptyRow, IsAppend, IsLiveAppend};
     ghost use Rattle.tc_beh.specs.Rooms.{hedge_layout, output_at};
     ghost use Rattle.tc_beh.specs.RoomsOf.{IsRoomOf, IsRoomBeside};
-    ghost use Rattle.tc_beh.specs.Held.{Extends, Grows};
+    ghost use Rattle.tc_beh.specs.Held.{Extends, Grows, set_at};
+    ghost use Rattle.tc_beh.specs.Places.{pairs_of as list_of};
     ghost use Rattle.tc_mat.specs.Held.{AreDifferent};
     ghost use Rattle.tc_rows.specs.Triples.{outputs as output_states};
     ghost use Rattle.tc_rows.specs.PairSets.{IsPairs};
@@ -102,7 +104,8 @@ impl<'m, 'b> Rows<'m, 'b> {
         ensures grow { IfOk result (λ r. r.is_fixed ≡ false) }
         ensures machine { IfOk result (λ r. r.machine.now ≡ machine.now) }
     {
-        let outputs = Pool::new(alloc, machine.output.auto().states());
+        let pool = Pool::new(alloc, machine.output.auto().states());
+        let outputs = HeldSets::of(alloc, pool)?;
         let work = Work::new(alloc, machine)?;
         Ok(Rows {
             machine,
@@ -131,7 +134,8 @@ impl<'m, 'b> Rows<'m, 'b> {
         ensures fixed { IfOk result (λ r. r.is_fixed ≡ true) }
         ensures machine { IfOk result (λ r. r.machine.now ≡ machine.now) }
     {
-        let outputs = pool_of(alloc, machine.output.auto().states(), outputs)?;
+        let pool = pool_of(alloc, machine.output.auto().states(), outputs)?;
+        let outputs = HeldSets::of(alloc, pool)?;
         let work = Work::new(alloc, machine)?;
         Ok(Rows {
             machine,
@@ -159,6 +163,18 @@ impl<'m, 'b> Rows<'m, 'b> {
         ensures { IfOk result (λ l. l ≡ sets_of self.now.outputs.matrices) }
     {
         lists_of(alloc, &self.outputs)
+    }
+
+    /// The pairs of the set of a number, in order.
+    ///
+    /// # Errors
+    ///
+    /// There is no memory for the list, or no room for the pairs in one.
+    pub fn output(&self, alloc: Global, number: u32) -> Result<Pairs, NoMemory>
+        requires { number < length self.now.outputs.matrices }
+        ensures { IfOk result (λ l. l ≡ list_of (set_at self.now.outputs number)) }
+    {
+        pairs_of(alloc, self.outputs.get(MatId(number)))
     }
 
     /// The machine.

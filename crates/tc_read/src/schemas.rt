@@ -5,6 +5,7 @@ ghost use Rattle.tc_model.specs.CompactSyntax.{CompactSyntax};
 ghost use Rattle.tc_model.specs.CompactSyntaxTrees as t;
 ghost use Rattle.tc_read.specs.Faults.{IsUnaccepted};
 ghost use Rattle.tc_read.specs.Refusals.{IsRefusedSchema};
+ghost use Rattle.tc_read.specs.SchemaLaws.{HasNoGrammar, HasOneReason};
 ghost use Rattle.tc_read.specs.Schemas.{IsSchemaOf};
 ghost use Rattle.tc_simple.specs.Refused as simple;
 
@@ -57,3 +58,9 @@ fn of_fault<'b>(fault: SimpleFault) -> Result<Schema<'b>, TextFault>
         SimpleFault::NoMemory => Err(TextFault::NoMemory),
     }
 }
+
+/// Laws of schemas that are refused: for one reason, at one place, and then there is no grammar.
+pub fn law_of_refusals()
+    ensures one { HasOneReason }
+    ensures none { HasNoGrammar }
+{}

@@ -3,7 +3,7 @@ use Rattle.std.proofs.lemmas.Option.{get_or_from_slice_get}
 use Rattle.tc_beh.specs.Places.{no_matrix}
 use Rattle.tc_beh.specs.Held.{set_at}
 use Rattle.tc_beh.proofs.Holding.{extends_kept, set_kept, grows_kept, pairs_kept, new_kept}
-use Rattle.tc_beh.proofs.outputs.keep_product.Goals as goal
+use Rattle.tc_beh.proofs.outputs.keep_new_product.Goals as goal
 
 pub returns-clause-held : goal.returns-clause-held
 returns-clause-held c = extends_kept c.args.outputs.now c.keep.new.outputs c.mul_into.new.out c.keep.result c.keep.ensures.grows c.keep.ensures.err

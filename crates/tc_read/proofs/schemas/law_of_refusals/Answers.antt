@@ -1,0 +1,8 @@
+use Rattle.tc_read.proofs.SchemaReasons.{one_reason, no_schema}
+use Rattle.tc_read.proofs.schemas.law_of_refusals.Goals as goal
+
+pub returns-clause-one : goal.returns-clause-one
+returns-clause-one c = one_reason
+
+pub returns-clause-none : goal.returns-clause-none
+returns-clause-none c = no_schema
