@@ -68,7 +68,7 @@ decided_only w b r (no_command n e) = absurd (n _ w)
 decided_only w b r (not_built v x e f) = absurd (x (subst IsBuilt (one_command w v) b))
 decided_only w b r (not_read v c s u) = absurd (never_stops _ _ r s)
 decided_only w b r (over_long v c s) = absurd (never_stops _ _ r s)
-decided_only {texts = texts} {reads} {answer} {command} w b r (decided {command = other} {texts = found} v c q x) =
+decided_only {texts = texts} {reads = reads} {answer = answer} {command = command} w b r (decided {command = other} {texts = found} v c q x) =
     let same = one_command v w in
     let read : AreRead (operands_of command) found reads = subst (λ d. AreRead (operands_of d) found reads) same q in
     let one = one_texts (operands_of command) found texts reads read r in

@@ -173,7 +173,14 @@ impl Pair<'_> {
         ensures answer { IfOk result (λ c. (x y : g.Grammar) → IsPairOf x y self.now → IsAnswer (forward x y) MOST_ROWS c) }
         ensures cause { IfErr result (λ e. (x y : g.Grammar) → IsPairOf x y self.now → IsCause (forward x y) MOST_ROWS e) }
     {
-        included(arena, alloc, &self.first, &self.second, &self.alphabet, MOST_ROWS)
+        included(
+            arena,
+            alloc,
+            &self.first,
+            &self.second,
+            &self.alphabet,
+            MOST_ROWS,
+        )
     }
 
     /// Whether the second schema is included in the first.
@@ -182,7 +189,14 @@ impl Pair<'_> {
         ensures answer { IfOk result (λ c. (x y : g.Grammar) → IsPairOf x y self.now → IsAnswer (backward x y) MOST_ROWS c) }
         ensures cause { IfErr result (λ e. (x y : g.Grammar) → IsPairOf x y self.now → IsCause (backward x y) MOST_ROWS e) }
     {
-        included(arena, alloc, &self.second, &self.first, &self.alphabet, MOST_ROWS)
+        included(
+            arena,
+            alloc,
+            &self.second,
+            &self.first,
+            &self.alphabet,
+            MOST_ROWS,
+        )
     }
 }
 
@@ -235,11 +249,7 @@ fn tell_inclusion(alloc: Global, forth: &Cover<'_>) -> Result<Answer, NoMemory>
 }
 
 /// The answer of `same`, by what is told of both directions.
-fn tell_equality(
-    alloc: Global,
-    forth: &Cover<'_>,
-    back: &Cover<'_>,
-) -> Result<Answer, NoMemory>
+fn tell_equality(alloc: Global, forth: &Cover<'_>, back: &Cover<'_>) -> Result<Answer, NoMemory>
     requires forth { HasFewNodes forth.now }
     requires back { HasFewNodes back.now }
     ensures { IfOk result (λ said. (x y : g.Grammar) → AreCompiled x y → IsAnswer (forward x y) MOST_ROWS forth.now → IsAnswer (backward x y) MOST_ROWS back.now
@@ -284,11 +294,7 @@ fn tell_first(alloc: Global, first: &Node<'_>, back: &Cover<'_>) -> Result<Answe
 }
 
 /// The answer of `same` where each schema has a document of its own: the first one, unless the second has fewer nodes.
-fn tell_smaller(
-    alloc: Global,
-    first: &Node<'_>,
-    second: &Node<'_>,
-) -> Result<Answer, NoMemory>
+fn tell_smaller(alloc: Global, first: &Node<'_>, second: &Node<'_>) -> Result<Answer, NoMemory>
     requires first { node_count (see.before first.now none) ≤ MOST_SHOWN_NODES }
     requires second { node_count (see.before second.now none) ≤ MOST_SHOWN_NODES }
     ensures { IfOk result (λ said. (x y : g.Grammar) → AreCompiled x y → IsLeastPlain (forward x y) MOST_ROWS (see.before first.now none)

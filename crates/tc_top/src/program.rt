@@ -9,14 +9,13 @@ ghost use Rattle.tc_top.specs.Program.{words_of, LackMemory};
 ghost use Rattle.tc_answer.specs.StatusSeen.{number_of};
 ghost use Rattle.tc_answer.specs.declared.status.Status.{Status};
 
-use tc_answer::Status;
 use crate::typecheck;
-use tc_answer::WordList;
 use std::alloc::Global;
 use std::env::Args;
 use std::io;
 use std::io::ErrorKind;
 use std::process::ExitCode;
+use tc_answer::{Status, WordList};
 use tc_base::NoMemory;
 use tc_io::{Sink, Store};
 
