@@ -40,11 +40,6 @@ abbrev pub references : List Declaration → List (List ℕ) → Patterns
 references kept [] = g.no_more
 references kept (n ∷ ns) = g.more (reference kept n) (references kept ns)
 
--- as many as are in these, from this number on
-abbrev pub references_from : ℕ → List Declaration → Patterns
-references_from k [] = g.no_more
-references_from k (x ∷ xs) = g.more (g.ref k) (references_from (k + 1) xs)
-
 -- any number of texts and of such elements
 abbrev pub with_texts : Patterns → Pattern
 with_texts ps = g.choice (both (g.one_or_more (g.choice (g.more g.text ps))) g.empty)
@@ -68,7 +63,7 @@ mixed_pattern kept (n ∷ ns) = with_texts (references kept (n ∷ ns))
 
 abbrev pub content_pattern : List Declaration → Content → Pattern
 content_pattern kept nothing = g.empty
-content_pattern kept anything = with_texts (references_from 1 kept)
+content_pattern kept anything = with_texts (references kept (map (λ x. x.name) kept))
 content_pattern kept (mixed ns) = mixed_pattern kept ns
 content_pattern kept (children p) = particle_pattern kept p
 

@@ -5,3 +5,4 @@ pub mod DtdTextDeclarations
 pub mod DtdText
 pub mod DtdValidity
 pub mod DtdGrammar
+pub mod Views

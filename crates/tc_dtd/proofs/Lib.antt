@@ -1,0 +1,4 @@
+pub mod ViewsLaws
+pub mod NamedLaws
+pub mod MatchLaws
+pub mod ValidLaws
