@@ -83,17 +83,19 @@ pub record Placed : Type 0 where
 abbrev pub placed : ℕ → Declaration → Placed
 placed place x = record { place = place; declaration = x }
 
--- all declarations up to the end of a text of so many bytes, where misc may stand behind each (XML, 2.8, [29]). A reference to a parameter
--- entity ([28a]) and a conditional section (3.4, [61]) may stand in their place, and are refused.
+-- One declaration in a text of so many bytes, and what of it is kept (XML, 2.8, [29]). A reference to a parameter entity ([28a]) and a
+-- conditional section (3.4, [61]) may stand in its place, and are refused.
+pub data MarkupAt (deepest total : ℕ) : List ℕ → Outcome (List Placed) → Type 0 where
+  reference : {bs r : List ℕ} → bs ≡ 0x25 ∷ r → MarkupAt deepest total bs (refused (unsupported N53) bs)
+  section : {bs r : List ℕ} → bs ≡ codes "<![" ++ r → MarkupAt deepest total bs (refused (unsupported N54) bs)
+  element : {bs r : List ℕ} {outcome : Outcome Declaration} {whole : Outcome (List Placed)} → bs ≡ codes "<!ELEMENT" ++ r → ElementAt deepest r outcome
+      → whole ≡ outcome_map (λ x. placed (place_of total bs) x ∷ []) outcome → MarkupAt deepest total bs whole
+  skipped : {bs : List ℕ} {outcome : Outcome (Unit {0})} {whole : Outcome (List Placed)} → SkippedAt bs outcome → whole ≡ outcome_map (λ _. []) outcome
+      → MarkupAt deepest total bs whole
+
+-- all declarations up to the end of a text of so many bytes, where misc may stand behind each
 pub data DeclarationsAt (deepest total : ℕ) : List ℕ → Outcome (List Placed) → Type 0 where
   end : {bs : List ℕ} → bs ≡ [] → DeclarationsAt deepest total bs (read [] [])
-  reference : {bs r : List ℕ} → bs ≡ 0x25 ∷ r → DeclarationsAt deepest total bs (refused (unsupported N53) bs)
-  section : {bs r : List ℕ} → bs ≡ codes "<![" ++ r → DeclarationsAt deepest total bs (refused (unsupported N54) bs)
-  element_refused : {bs r at : List ℕ} {cause : Cause} → bs ≡ codes "<!ELEMENT" ++ r → ElementAt deepest r (refused cause at)
-      → DeclarationsAt deepest total bs (refused cause at)
-  element : {bs r rest next : List ℕ} {x : Declaration} {outcome whole : Outcome (List Placed)} → bs ≡ codes "<!ELEMENT" ++ r → ElementAt deepest r (read x rest)
-      → MiscAt rest next → DeclarationsAt deepest total next outcome → whole ≡ outcome_map (λ xs. placed (place_of total bs) x ∷ xs) outcome
-      → DeclarationsAt deepest total bs whole
-  skipped_refused : {bs at : List ℕ} {cause : Cause} → SkippedAt bs (refused cause at) → DeclarationsAt deepest total bs (refused cause at)
-  skipped : {bs rest next : List ℕ} {outcome : Outcome (List Placed)} → SkippedAt bs (read tt rest) → MiscAt rest next → DeclarationsAt deepest total next outcome
-      → DeclarationsAt deepest total bs outcome
+  markup_refused : {bs at : List ℕ} {cause : Cause} → MarkupAt deepest total bs (refused cause at) → DeclarationsAt deepest total bs (refused cause at)
+  markup : {bs rest next : List ℕ} {xs : List Placed} {outcome whole : Outcome (List Placed)} → MarkupAt deepest total bs (read xs rest) → MiscAt rest next
+      → DeclarationsAt deepest total next outcome → whole ≡ outcome_map (λ ys. xs ++ ys) outcome → DeclarationsAt deepest total bs whole
