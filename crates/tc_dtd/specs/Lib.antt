@@ -6,3 +6,6 @@ pub mod DtdText
 pub mod DtdValidity
 pub mod DtdGrammar
 pub mod Views
+pub mod Stops
+pub mod Faults
+pub mod Seen
