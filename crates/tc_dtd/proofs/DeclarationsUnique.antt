@@ -21,7 +21,7 @@ use Rattle.tc_dtd.proofs.ContentsUnique.{space_unique, name_unique, content_uniq
 
 -- the XML declaration
 
-version_unique : (bs : List ℕ) (o p : Outcome (Unit {0})) → VersionAt bs o → VersionAt bs p → o ≡ p
+pub version_unique : (bs : List ℕ) (o p : Outcome (Unit {0})) → VersionAt bs o → VersionAt bs p → o ≡ p
 version_unique bs o p (no_version h) (no_version k) = refl
 version_unique bs o p (no_version h) (version s) = absurd (h s.behind s.names)
 version_unique bs o p (no_version h) (other_version s n) = absurd (h s.behind s.names)
@@ -32,7 +32,7 @@ version_unique bs o p (other_version s n) (no_version h) = absurd (h s.behind s.
 version_unique bs o p (other_version s n) (version u) = absurd (n (setting_unique s u).0)
 version_unique bs o p (other_version s n) (other_version u m) = refl
 
-settings_unique : (bs : List ℕ) (o p : Outcome (Unit {0})) → SettingsAt bs o → SettingsAt bs p → o ≡ p
+pub settings_unique : (bs : List ℕ) (o p : Outcome (Unit {0})) → SettingsAt bs o → SettingsAt bs p → o ≡ p
 settings_unique bs o p (settings {past_encoding = x} {past_standalone = y} {after = r} a b e) (settings {past_encoding = x'} {past_standalone = y'} {after = s} a' b' e') =
     let same : y ≡ y' = standalone_unique b (subst (λ z. StandaloneAt z y') (sym (encoding_unique a a')) b') in
     ap (read tt) (append_cancel_left (codes "?>") r s (sym e ∙ (ap after_white same ∙ e')))
@@ -40,7 +40,7 @@ settings_unique bs o p (settings a b e) (other_encoding s n) = absurd (encoding_
 settings_unique bs o p (other_encoding s n) (settings a b e) = absurd (encoding_no_encoding s n a)
 settings_unique bs o p (other_encoding s n) (other_encoding u m) = refl
 
-text_declaration_unique : (bs : List ℕ) (o p : Outcome (Unit {0})) → TextDeclarationAt bs o → TextDeclarationAt bs p → o ≡ p
+pub text_declaration_unique : (bs : List ℕ) (o p : Outcome (Unit {0})) → TextDeclarationAt bs o → TextDeclarationAt bs p → o ≡ p
 text_declaration_unique bs o p (no_declaration h) (no_declaration k) = refl
 text_declaration_unique bs o p (no_declaration h) (declaration {rest = r} e w a) = absurd (h r e w)
 text_declaration_unique bs o p (declaration {rest = r} e w a) (no_declaration h) = absurd (h r e w)
@@ -49,7 +49,7 @@ text_declaration_unique bs o p (declaration {rest = r} e w a) (declaration {rest
 
 -- declarations of elements
 
-end_unique : (bs : List ℕ) (o p : Outcome (Unit {0})) → EndAt bs o → EndAt bs p → o ≡ p
+pub end_unique : (bs : List ℕ) (o p : Outcome (Unit {0})) → EndAt bs o → EndAt bs p → o ≡ p
 end_unique bs o p (closed e) (closed f) = ap (read tt) (same_behind e f)
 end_unique bs o p (closed e) (t.reference f) = absurd (omega (arith, other_byte e f))
 end_unique bs o p (t.reference e) (closed f) = absurd (omega (arith, other_byte e f))
@@ -59,7 +59,7 @@ end_left : (bs : List ℕ) (o : Outcome (Unit {0})) → EndAt bs o → left_of o
 end_left bs o (closed {after = r} e) = let l = behind_white_left 0x3E bs r e in omega (arith, l)
 end_left bs o (t.reference {r = r} e) = let l = behind_white_left 0x25 bs r e in omega (arith, l)
 
-kept_unique : (x : Declaration) (bs : List ℕ) (o p : Outcome Declaration) → KeptAt x bs o → KeptAt x bs p → o ≡ p
+pub kept_unique : (x : Declaration) (bs : List ℕ) (o p : Outcome Declaration) → KeptAt x bs o → KeptAt x bs p → o ≡ p
 kept_unique x bs o p (kept {outcome = u} a e) (kept {outcome = v} b f) = e ∙ (ap (outcome_map (λ _. x)) (end_unique bs u v a b) ∙ sym f)
 
 kept_left : (x : Declaration) (bs : List ℕ) (o : Outcome Declaration) → KeptAt x bs o → left_of o ≤ length bs
@@ -69,10 +69,10 @@ space_left : (bs : List ℕ) (o : Outcome (Unit {0})) → SpaceAt bs o → left_
 space_left bs o (c.white w) = white_left bs
 space_left bs o (c.reference e) = omega arith
 
-abbrev Behind_name : ℕ → List ℕ → List ℕ → Outcome Declaration → Type 0
+abbrev pub Behind_name : ℕ → List ℕ → List ℕ → Outcome Declaration → Type 0
 Behind_name deepest n = Then SpaceAt (λ _. Then (ContentAt deepest) (λ c. KeptAt (record { name = n; content = c })))
 
-abbrev With_content : ℕ → List ℕ → List ℕ → Outcome Declaration → Type 0
+abbrev pub With_content : ℕ → List ℕ → List ℕ → Outcome Declaration → Type 0
 With_content deepest n = Then (ContentAt deepest) (λ c. KeptAt (record { name = n; content = c }))
 
 pub element_unique : (deepest : ℕ) (bs : List ℕ) (o p : Outcome Declaration) → ElementAt deepest bs o → ElementAt deepest bs p → o ≡ p
@@ -145,7 +145,7 @@ skips_left references bs o (literal {r = r} {rest = x} {quote = q} e i g a) =
 skips_left references bs o (literal_reference {r = r} {rest = x} {quote = q} e i g) =
     let l = passed_left is_skipped q bs r e in let m = passed_left (is_within references q) 0x25 r x g in omega (arith, l, m)
 
-skipped_unique : (bs : List ℕ) (o p : Outcome (Unit {0})) → SkippedAt bs o → SkippedAt bs p → o ≡ p
+pub skipped_unique : (bs : List ℕ) (o p : Outcome (Unit {0})) → SkippedAt bs o → SkippedAt bs p → o ≡ p
 skipped_unique bs o p (attributes {rest = r} e a) (attributes {rest = s} f b) =
     skips_unique false r o p a (subst (λ z. SkipsAt false z p) (append_cancel_left (codes "<!ATTLIST") s r (sym f ∙ e)) b)
 skipped_unique bs o p (attributes e a) (notation f b) = absurd (omega (arith, same_first (same_others (same_others (sym e ∙ f)))))
@@ -256,7 +256,7 @@ declarations_kept e deepest total bs o (markup {rest = r} {next = x} {xs = xs} {
 
 -- whole texts
 
-misc_past_unique : (bs : List ℕ) (o p : Outcome (Unit {0})) → Past MiscAt bs o → Past MiscAt bs p → o ≡ p
+pub misc_past_unique : (bs : List ℕ) (o p : Outcome (Unit {0})) → Past MiscAt bs o → Past MiscAt bs p → o ≡ p
 misc_past_unique = past_unique MiscAt (λ bs r s a b. misc_unique a b)
 
 pub text_unique : (deepest : ℕ) (bytes : List ℕ) (o p : Outcome (List Placed)) → TextAt deepest bytes o → TextAt deepest bytes p → o ≡ p

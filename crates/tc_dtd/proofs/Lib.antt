@@ -5,3 +5,10 @@ pub mod ValidLaws
 pub mod OutcomeLaws
 pub mod ContentsUnique
 pub mod DeclarationsUnique
+pub mod ReaderLaws
+pub mod ContentsLaws
+pub mod MarkupLaws
+pub mod FaultLaws
+pub mod NumberLaws
+pub mod ReachLaws
+pub mod SizeLaws

@@ -56,7 +56,6 @@ pub(crate) fn element_name<'b, 't>(
 }
 
 /// A particle with the suffix that stands behind it, if there is one, and what follows (XML 1.0, 3.2.1, [47], [48]).
-#[tactic(auto, using(crate::proofs::ViewsLaws::see_particle))]
 fn suffixed<'b, 't>(
     arena: &'b Bump,
     inner: Particle<'b>,
@@ -65,13 +64,16 @@ fn suffixed<'b, 't>(
     ensures { IfOk result (λ r. form.SuffixAt (see.particle inner.entry) text.now (see.particle r.0) r.1.now) }
 {
     if let Some(rest) = after_byte(text, b'?') {
-        return Ok((Particle::Optional(arena.try_alloc(inner)?), rest));
+        let inner: &'b Particle<'b> = arena.try_alloc(inner)?;
+        return Ok((Particle::Optional(inner), rest));
     }
     if let Some(rest) = after_byte(text, b'*') {
-        return Ok((Particle::Star(arena.try_alloc(inner)?), rest));
+        let inner: &'b Particle<'b> = arena.try_alloc(inner)?;
+        return Ok((Particle::Star(inner), rest));
     }
     if let Some(rest) = after_byte(text, b'+') {
-        return Ok((Particle::Plus(arena.try_alloc(inner)?), rest));
+        let inner: &'b Particle<'b> = arena.try_alloc(inner)?;
+        return Ok((Particle::Plus(inner), rest));
     }
     Ok((inner, text))
 }

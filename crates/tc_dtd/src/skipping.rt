@@ -46,8 +46,10 @@ fn past_skipped(text: &str) -> Option<(u8, &str)>
         (λ found. (form.passed form.is_skipped text.now ≡ found.0 ∷ found.1.now) × ((found.0 ≡ 0x3E) ⊎ ((found.0 ≡ 0x25) ⊎ IsQuote found.0))) }
 {
     let count = skipped_len(text);
-    let byte = *text.as_bytes().get(count)?;
-    Some((byte, &text[count + 1..]))
+    if count == text.len() {
+        return None;
+    }
+    Some((text.as_bytes()[count], &text[count + 1..]))
 }
 
 /// The first such quote, or `%` where references are recognised, and what follows it.
@@ -57,8 +59,10 @@ fn past_literal(text: &str, references: bool, quote: u8) -> Option<(u8, &str)>
         (λ found. (form.passed (form.is_within references quote) text.now ≡ found.0 ∷ found.1.now) × ((found.0 ≡ quote) ⊎ (found.0 ≡ 0x25))) }
 {
     let count = literal_len(text, references, quote);
-    let byte = *text.as_bytes().get(count)?;
-    Some((byte, &text[count + 1..]))
+    if count == text.len() {
+        return None;
+    }
+    Some((text.as_bytes()[count], &text[count + 1..]))
 }
 
 /// What follows a declaration that isn't read, from behind its word on. Where references are recognised in literals,
