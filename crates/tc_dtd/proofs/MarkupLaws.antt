@@ -63,7 +63,7 @@ module _ (deepest : ℕ) (bs : List ℕ) where
   element_no_end start behind n next last x e a b k m s =
       named start behind n e a b
       (stops_second SpaceAt (λ _. With_content deepest n) space_unique behind next tt e k
-      (stops_second (ContentAt deepest) (λ c. KeptAt (record { name = n; content = c })) (content_unique deepest) next last x e m (stops_map (EndAt last) (KeptAt d last) e back (λ c at f. kept f refl))))
+      (stops_second (ContentAt deepest) (λ c. KeptAt (record { name = n; content = c })) (content_unique deepest) next last x e m (stops_map (EndAt last) (KeptAt d last) e back (λ c at f. kept f refl) s)))
     where
       d : Declaration
       d = record { name = n; content = x }
@@ -101,7 +101,7 @@ ends_run test (x ∷ xs) b r e = by (test x) refl (ends_run test xs b r) e
     by true i rec e = rec (subst (λ n. drop n (x ∷ xs) ≡ b ∷ r) (more i) e)
       where
         more : test x ≡ true → prefix_len test (x ∷ xs) ≡ suc (prefix_len test xs)
-        more i = rw i refl
+        more i = rw i (omega arith)
     by false i rec e = let here : x ≡ b = same_first (subst (λ n. drop n (x ∷ xs) ≡ b ∷ r) (none i) e) in ap test (sym here) ∙ i
       where
         none : test x ≡ false → prefix_len test (x ∷ xs) ≡ 0
@@ -278,6 +278,13 @@ module _ (deepest total : ℕ) (bs : List ℕ) where
       nothing_more : (zs : List Placed) → zs ≡ zs ++ []
       nothing_more [] = refl
       nothing_more (z ∷ zs) = ap (λ w. z ∷ w) (nothing_more zs)
+
+pub some_left : (bs : List ℕ) → false ≡ (length bs == 0) → bs ≢ []
+some_left bs e i = true≢false (sym (ap (λ w. length w == 0) i) ∙ sym e)
+
+pub none_left : (bs : List ℕ) → true ≡ (length bs == 0) → bs ≡ []
+none_left [] e = refl
+none_left (b ∷ bs) e = absurd (omega (arith, eqb-true (length (b ∷ bs)) 0 (sym e)))
 
 -- all of them, from the front of the text to what is left of it
 pub record Declares (deepest total : ℕ) (text rest : List ℕ) (all : List Placed) : Type 0 where

@@ -1,4 +1,4 @@
-use Rattle.std.proofs.Common.{◌≡◌, subst, sym, ap, ◌∙◌, ◌++◌, ◌∷◌, [], rules}
+use Rattle.std.proofs.Common.{◌≡◌, subst, sym, ap, ◌∙◌, ◌++◌, ◌∷◌, [], arith, rules}
 use Rattle.tc_dtd.specs.Declarations as d
 use Rattle.tc_dtd.specs.DtdTextContents.{ParticleAt, a_group, GroupAt, ListAt, RestAt, bar, comma}
 use Rattle.tc_dtd.specs.Outcomes.{read}

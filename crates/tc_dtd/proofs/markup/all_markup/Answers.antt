@@ -4,7 +4,7 @@ use Rattle.tc_dtd.specs.DtdTextDeclarations.{DeclarationsAt}
 use Rattle.tc_dtd.specs.Seen.{placed}
 use Rattle.tc_dtd.specs.Stops.{Stops}
 use Rattle.tc_dtd.proofs.ReaderLaws.{failed}
-use Rattle.tc_dtd.proofs.MarkupLaws.{declares_first, declares_more, markup_stops, misc_stops, declares_end, declares_shorter}
+use Rattle.tc_dtd.proofs.MarkupLaws.{some_left, none_left, declares_first, declares_more, markup_stops, misc_stops, declares_end, declares_shorter}
 use Rattle.tc_dtd.proofs.markup.all_markup.Goals as goal
 
 pub loop-rest-init : goal.loop-rest-init
@@ -14,7 +14,7 @@ pub returns-in_err-after-clause-no : goal.returns-in_err-after-clause-no
 returns-in_err-after-clause-no c =
     let e = c.in_err-after.field-0.0 in
     failed c.from_residual.result (λ e. Stops e (DeclarationsAt deepest_parenthesis c.args.total c.args.text.now)) e c.from_residual.ensures.1
-    (markup_stops deepest_parenthesis c.args.total c.args.text.now c.loop-rest.rest.now (map placed c.loop-rest.found.items) c.loop-rest.invariant.so_far e ? c.in_err-after.ensures.no)
+    (markup_stops deepest_parenthesis c.args.total c.args.text.now c.loop-rest.rest.now (map placed c.loop-rest.found.items) c.loop-rest.invariant.so_far e (some_left c.loop-rest.rest.now c.loop-rest-test.ensures) c.in_err-after.ensures.no)
 
 pub returns-in_err-rest-clause-no : goal.returns-in_err-rest-clause-no
 returns-in_err-rest-clause-no c =
@@ -25,16 +25,16 @@ returns-in_err-rest-clause-no c =
 
 pub loop-rest-smaller : goal.loop-rest-smaller
 loop-rest-smaller c =
-    declares_shorter deepest_parenthesis c.args.total c.args.text.now c.loop-rest.rest.now (map placed c.loop-rest.found.items) c.loop-rest.invariant.so_far c.in_ok-after.after.now c.in_ok-rest.field-0.now (map placed c.after_markup.new.found.items)
+    declares_shorter deepest_parenthesis c.args.total c.args.text.now c.loop-rest.rest.now (map placed c.loop-rest.found.items) c.loop-rest.invariant.so_far c.in_ok-after.after.now c.in_ok-rest.rest.now (map placed c.after_markup.new.found.items)
     c.in_ok-after.ensures.ok c.in_ok-rest.ensures.ok
 
 pub loop-rest-preserved : goal.loop-rest-preserved
 loop-rest-preserved c = record {
   so_far =
-      declares_more deepest_parenthesis c.args.total c.args.text.now c.loop-rest.rest.now (map placed c.loop-rest.found.items) c.loop-rest.invariant.so_far c.in_ok-after.after.now c.in_ok-rest.field-0.now (map placed c.after_markup.new.found.items)
+      declares_more deepest_parenthesis c.args.total c.args.text.now c.loop-rest.rest.now (map placed c.loop-rest.found.items) c.loop-rest.invariant.so_far c.in_ok-after.after.now c.in_ok-rest.rest.now (map placed c.after_markup.new.found.items)
       c.in_ok-after.ensures.ok c.in_ok-rest.ensures.ok;
   text = search rules;
 }
 
 pub returns-clause-ok : goal.returns-clause-ok
-returns-clause-ok c = declares_end deepest_parenthesis c.args.total c.args.text.now c.loop-rest.rest.now (map placed c.loop-rest.found.items) c.loop-rest.invariant.so_far ?
+returns-clause-ok c = declares_end deepest_parenthesis c.args.total c.args.text.now c.loop-rest.rest.now (map placed c.loop-rest.found.items) c.loop-rest.invariant.so_far (none_left c.loop-rest.rest.now c.loop-rest-test.ensures)
