@@ -12,3 +12,4 @@ pub mod FaultLaws
 pub mod NumberLaws
 pub mod ReachLaws
 pub mod SizeLaws
+pub mod OnceLaws

@@ -77,20 +77,12 @@ module _ (deepest : ℕ) (bs : List ℕ) where
 -- runs
 
 -- what stands behind a run
-pub passed_at : (test : ℕ → Bool) (bs : List ℕ) (n b : ℕ) → n ≡ prefix_len test bs → n < length bs → b ≡ get_or bs n b → passed test bs ≡ b ∷ drop (n + 1) bs
-passed_at test bs n b e l f = ap (λ k. drop k bs) (sym e) ∙ (drop_more bs n b l ∙ ap (λ z. z ∷ drop (n + 1) bs) (sym f))
+pub passed_at : (test : ℕ → Bool) (text bs rest : List ℕ) (n : ℕ) → n ≡ prefix_len test text → n ≤ length text → n ≢ length text → bs ≡ text → rest ≡ drop (n + 1) text → passed test text ≡ get_or bs n 0 ∷ rest
+passed_at test text bs rest n e l other i r =
+    ap (λ k. drop k text) (sym e) ∙ (drop_more text n 0 (omega (arith, l, other)) ∙ (ap (λ w. get_or w n 0 ∷ drop (n + 1) text) (sym i) ∙ ap (λ w. get_or bs n 0 ∷ w) (sym r)))
 
 pub passed_none : (test : ℕ → Bool) (bs : List ℕ) (n : ℕ) → n ≡ prefix_len test bs → length bs ≤ n → (b : ℕ) (r : List ℕ) → passed test bs ≡ b ∷ r → ⊥
 passed_none test bs n e l b r f = omega (arith, e, l, ap length f, length-drop (prefix_len test bs) bs)
-
--- the text may be cut behind an ASCII byte
-pub cut_behind : (bs : List ℕ) (n b : ℕ) → IsUtf8 bs → n < length bs → b ≡ get_or bs n b → b < 128 → IsCharBoundary bs (n + 1)
-cut_behind bs n b u l e small = IsCharBoundary-after_ascii bs n u l (subst (λ z. z < 128) (at bs n b l e) small)
-  where
-    at : (xs : List ℕ) (n b : ℕ) → n < length xs → b ≡ get_or xs n b → b ≡ get_or xs n 0
-    at [] n b l e = absurd (omega (arith, l))
-    at (x ∷ xs) zero b l e = e
-    at (x ∷ xs) (suc n) b l e = at xs n b (omega (arith, l)) e
 
 -- the byte that ends a run
 ends_run : (test : ℕ → Bool) (bs : List ℕ) (b : ℕ) (r : List ℕ) → passed test bs ≡ b ∷ r → test b ≡ false
@@ -125,6 +117,26 @@ ends_within references quote bs b r e = by references (b == quote) refl (b == 0x
     by u false i true j h = inr (eqb-true b 0x25 j)
     by true false i false j h = absurd (true≢false h)
     by false false i false j h = absurd (true≢false h)
+
+-- the text may be cut behind the byte that ends a run
+pub cut_skipped : (text : List ℕ) (n : ℕ) → IsUtf8 text → n ≡ prefix_len is_skipped text → n ≤ length text → n ≢ length text → IsCharBoundary text (n + 1)
+cut_skipped text n u e l other = IsCharBoundary-after_ascii text n u (omega (arith, l, other)) (small (ends_skipped text (get_or text n 0) (drop (n + 1) text) (passed_at is_skipped text text (drop (n + 1) text) n e l other refl refl)))
+  where
+    small : (get_or text n 0 ≡ 0x3E) ⊎ ((get_or text n 0 ≡ 0x25) ⊎ IsQuote (get_or text n 0)) → get_or text n 0 < 128
+    small (inl i) = omega (arith, i)
+    small (inr (inl i)) = omega (arith, i)
+    small (inr (inr (inl i))) = omega (arith, i)
+    small (inr (inr (inr i))) = omega (arith, i)
+
+pub cut_literal : (references : Bool) (quote : ℕ) (text : List ℕ) (n : ℕ) → IsQuote quote → IsUtf8 text → n ≡ prefix_len (is_within references quote) text → n ≤ length text → n ≢ length text → IsCharBoundary text (n + 1)
+cut_literal references quote text n q u e l other =
+    IsCharBoundary-after_ascii text n u (omega (arith, l, other))
+    (small q (ends_within references quote text (get_or text n 0) (drop (n + 1) text) (passed_at (is_within references quote) text text (drop (n + 1) text) n e l other refl refl)))
+  where
+    small : IsQuote quote → (get_or text n 0 ≡ quote) ⊎ (get_or text n 0 ≡ 0x25) → get_or text n 0 < 128
+    small (inl j) (inl i) = omega (arith, i, j)
+    small (inr j) (inl i) = omega (arith, i, j)
+    small q (inr i) = omega (arith, i)
 
 -- declarations that are skipped, from the front of the text to what is left of it
 pub record Skips (references : Bool) (text rest : List ℕ) : Type 0 where

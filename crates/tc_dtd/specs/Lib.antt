@@ -9,3 +9,7 @@ pub mod Views
 pub mod Stops
 pub mod Faults
 pub mod Seen
+pub mod Numbers
+pub mod Sizes
+pub mod Built
+pub mod Refused

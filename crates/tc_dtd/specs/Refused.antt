@@ -7,8 +7,8 @@ use Rattle.tc_model.specs.Validity.{IsValid}
 use Rattle.tc_dtd.specs.Declarations.{Declaration}
 use Rattle.tc_dtd.specs.DtdGrammar.{grammar_with, IsGrammarOfDtd}
 use Rattle.tc_dtd.specs.DtdValidity.{IsDtdValid}
-use Rattle.tc_dtd.specs.declared.grammar.DtdGrammarFault.{DtdGrammarFault}
-use Rattle.tc_dtd.specs.declared.grammar.DtdGrammarFault.TheVariants.{TooManyNodes, TooNested, TooManyElements, NoMemory}
+use Rattle.tc_dtd.specs.declared.schema.DtdGrammarFault.{DtdGrammarFault}
+use Rattle.tc_dtd.specs.declared.schema.DtdGrammarFault.TheVariants.{TooManyNodes, TooNested, TooManyElements, NoMemory}
 
 -- the grammar passes a count, and no earlier one
 abbrev pub IsTooLarge : List Declaration → List ℕ → Count → Type 0

@@ -12,10 +12,15 @@ ghost use Rattle.tc_dtd.specs.Views as see;
 mod contents;
 mod declarations;
 mod faults;
+mod links;
 mod markup;
 mod misc;
+mod numbers;
 mod once;
+mod patterns;
 mod prolog;
+mod schema;
+mod sizes;
 mod skipping;
 
 use bumpalo::Bump;
@@ -24,6 +29,7 @@ pub use faults::DtdFault;
 use faults::place_of;
 use markup::{Placed, all_placed};
 use once::{first_again, without_places};
+pub use schema::{DtdGrammarFault, grammar};
 use tc_scan::characters;
 
 /// The declarations of elements in the text of a document type definition. Takes at most 64 MiB of text.

@@ -36,7 +36,7 @@ pub enum DtdGrammarFault {
 }
 
 impl From<OutOfMemory> for DtdGrammarFault {
-    ghost use Rattle.tc_dtd.specs.declared.grammar.DtdGrammarFault.TheVariants.{NoMemory};
+    ghost use Rattle.tc_dtd.specs.declared.schema.DtdGrammarFault.TheVariants.{NoMemory};
 
     ghost from_gives = { λ _ e. e ≡ NoMemory };
 
@@ -127,9 +127,17 @@ pub fn grammar<'b>(
     ensures valid { IfOk result (λ g. AllowsTheSame (see.declarations dtd.now) root.now (seen.grammar g)) }
     ensures err { IfErr result (Refuses (see.declarations dtd.now) root.now) }
 {
-    let root: &'b str = arena.try_alloc_str(root)?;
+    let root = copied(arena, root)?;
     let decls = kept(arena, dtd.decls, root)?;
     fits(decls)?;
     let grammar = built(arena, decls, root)?;
     Ok(grammar)
+}
+
+/// The name in the arena.
+fn copied<'b>(arena: &'b Bump, name: &str) -> Result<&'b str, OutOfMemory>
+    ensures { IfOk result (λ r. r.now ≡ name.now) }
+{
+    let name: &'b str = arena.try_alloc_str(name)?;
+    Ok(name)
 }
