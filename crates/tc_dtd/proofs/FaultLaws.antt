@@ -171,18 +171,18 @@ good_then : {A B : Type 0} (P : A → Type 0) (Q : B → Type 0) (First : List �
 good_then P Q First Second f g bs o (stops a) = tt
 good_then P Q First Second f g bs o (goes_on {rest = r} {value = v} a k) = g v r o (f bs (read v r) a) k
 
-good_unit : {P : List ℕ → Outcome (Unit {0}) → Type 0} (bs : List ℕ) (o : Outcome (Unit {0})) → P bs o → IsGood (λ _. Unit {0}) o
-good_unit bs (read tt r) a = tt
-good_unit bs (refused cause at) a = tt
+good_unit : (P : List ℕ → Outcome (Unit {0}) → Type 0) (bs : List ℕ) (o : Outcome (Unit {0})) → P bs o → IsGood (λ _. Unit {0}) o
+good_unit P bs (read u r) a = tt
+good_unit P bs (refused cause at) a = tt
 
 good_kept : (x : Declaration) (bs : List ℕ) (o : Outcome Declaration) → IsGoodDeclaration x → KeptAt x bs o → IsGood IsGoodDeclaration o
-good_kept x bs o i (t.kept {outcome = u} a w) = good_map (λ _. Unit {0}) IsGoodDeclaration (λ _. x) u o w (λ _ _. i) (good_unit {P = t.EndAt} bs u a)
+good_kept x bs o i (t.kept {outcome = u} a w) = good_map (λ _. Unit {0}) IsGoodDeclaration (λ _. x) u o w (λ _ _. i) (good_unit t.EndAt bs u a)
 
 good_element : (deepest : ℕ) (bs : List ℕ) (o : Outcome Declaration) → ElementAt deepest bs o → IsGood IsGoodDeclaration o
 good_element deepest =
-    good_then (λ _. Unit {0}) IsGoodDeclaration SpaceAt (λ _. Then NameAt (Behind_name deepest)) (good_unit {P = SpaceAt}) (λ _ bs o _.
+    good_then (λ _. Unit {0}) IsGoodDeclaration SpaceAt (λ _. Then NameAt (Behind_name deepest)) (good_unit SpaceAt) (λ _ bs o _.
     good_then IsNcName IsGoodDeclaration NameAt (Behind_name deepest) good_name (λ n bs o i.
-    good_then (λ _. Unit {0}) IsGoodDeclaration SpaceAt (λ _. With_content deepest n) (good_unit {P = SpaceAt}) (λ _ bs o _.
+    good_then (λ _. Unit {0}) IsGoodDeclaration SpaceAt (λ _. With_content deepest n) (good_unit SpaceAt) (λ _ bs o _.
     good_then IsContent IsGoodDeclaration (ContentAt deepest) (λ x. KeptAt (record { name = n; content = x })) (good_content deepest) (λ x bs o k.
     good_kept (record { name = n; content = x }) bs o (i, k)) bs o) bs o) bs o)
 
@@ -194,7 +194,7 @@ good_markup deepest total bs o (t.reference e) = tt
 good_markup deepest total bs o (t.section e) = tt
 good_markup deepest total bs o (t.element {r = r} {outcome = u} e a w) =
     good_map IsGoodDeclaration AreGood (λ x. placed (place_of total bs) x ∷ []) u o w (λ x i. (i, tt)) (good_element deepest r u a)
-good_markup deepest total bs o (t.skipped {outcome = u} a w) = good_map (λ _. Unit {0}) AreGood (λ _. []) u o w (λ _ _. tt) (good_unit {P = t.SkippedAt} bs u a)
+good_markup deepest total bs o (t.skipped {outcome = u} a w) = good_map (λ _. Unit {0}) AreGood (λ _. []) u o w (λ _ _. tt) (good_unit t.SkippedAt bs u a)
 
 good_append : (xs ys : List Placed) → AreGood xs → AreGood ys → AreGood (xs ++ ys)
 good_append [] ys a b = b
@@ -208,8 +208,8 @@ good_all deepest total bs o (t.markup {rest = r} {next = x} {xs = xs} {outcome =
 
 good_text : (deepest : ℕ) (bytes : List ℕ) (found : List Placed) → TextAt deepest bytes (read found []) → AreGood found
 good_text deepest bytes found m =
-    good_then (λ _. Unit {0}) AreGood t.TextDeclarationAt (λ _. Then (Past MiscAt) (λ _. DeclarationsAt deepest (length bytes))) (good_unit {P = t.TextDeclarationAt}) (λ _ bs o _.
-    good_then (λ _. Unit {0}) AreGood (Past MiscAt) (λ _. DeclarationsAt deepest (length bytes)) (good_unit {P = Past MiscAt}) (λ _ bs o _ k. good_all deepest (length bytes) bs o k) bs o)
+    good_then (λ _. Unit {0}) AreGood t.TextDeclarationAt (λ _. Then (Past MiscAt) (λ _. DeclarationsAt deepest (length bytes))) (good_unit t.TextDeclarationAt) (λ _ bs o _.
+    good_then (λ _. Unit {0}) AreGood (Past MiscAt) (λ _. DeclarationsAt deepest (length bytes)) (good_unit (Past MiscAt)) (λ _ bs o _ k. good_all deepest (length bytes) bs o k) bs o)
     (after_mark bytes) (read found []) m
 
 all_names : (xs : List Placed) → AreGood xs → AllByRecursion (λ x. IsNcName x.name) (map (λ x. x.declaration) xs)

@@ -28,10 +28,10 @@ returns-then-front-text-clause-refused c =
     map_err _ (IsFaultOf c.args.text.now) c.declared_once.result
     (λ e k. is_again c.args.text.now c.characters-front.result.now (map placed c.as_slice.result.now) e c.characters-front.ensures c.if-front-text.true m k) c.declared_once.ensures.again
 
-pub returns-else-front-text-clause-refused : goal.returns-else-front-text-clause-refused
-returns-else-front-text-clause-refused c =
+pub returns-in-Ok-clause-refused : goal.returns-in-Ok-clause-refused
+returns-in-Ok-clause-refused c =
     others_behind c.args.text.now c.characters-front.result.now (map placed c.in-Ok.found.items) c.place_of.result c.characters-front.ensures c.in-Ok.ensures.ok c.if-front-text.false c.place_of.ensures
 
-pub returns-in-Err-clause-refused : goal.returns-in-Err-clause-refused
-returns-in-Err-clause-refused c =
+pub returns-clause-refused : goal.returns-clause-refused
+returns-clause-refused c =
     subst (IsFaultOf c.args.text.now) (sym c.fault.ensures) (fault_is c.args.text.now c.characters-front.result.now c.in-Err.stop c.characters-front.ensures c.in-Err.ensures.no)

@@ -1,12 +1,8 @@
-use Rattle.std.proofs.Common.{◌≡◌, take, map, bytes_eq}
+use Rattle.std.proofs.Common.{◌≡◌, take, map}
 use Rattle.std.specs.List.{IsDistinct}
-use Rattle.tc_dtd.specs.Views.{names}
-use Rattle.tc_dtd.specs.DtdText.{names_of}
-use Rattle.tc_dtd.specs.Seen.{placed}
+use Rattle.tc_dtd.proofs.OnceLaws.{same_key}
 use Rattle.tc_dtd.proofs.once.first_again.Given as goal
 
+-- the names so far, of which no two are the same
 abbrev pub invariant-loop-one : goal.invariant-loop-one
-invariant-loop-one l = record {
-  keys : names l.seen.keys ≡ names_of (map placed (take l.one-index l.found));
-  differ : IsDistinct bytes_eq (names l.seen.keys);
-}
+invariant-loop-one l = record { keys : l.seen.keys ≡ map (λ x. x.declaration.name) (take l.one-index l.found); differ : IsDistinct same_key l.seen.keys }
