@@ -13,3 +13,4 @@ pub mod NumberLaws
 pub mod ReachLaws
 pub mod SizeLaws
 pub mod OnceLaws
+pub mod BuiltLaws

@@ -5,7 +5,8 @@ use Rattle.std.proofs.lemmas.List.{length-map}
 use Rattle.tc_model.specs.Grammars as g
 use Rattle.tc_model.specs.Grammars.{Pattern, Patterns}
 use Rattle.tc_model.specs.Simplifies.{both}
-use Rattle.tc_model.specs.SimplifiesCounts.{pattern_nodes, patterns_nodes, pattern_depth, patterns_depth, grammar_nodes, grammar_depth, greatest}
+use Rattle.tc_model.specs.SimplifiesCounts.{pattern_nodes, patterns_nodes, pattern_depth, patterns_depth, grammar_nodes, grammar_depth, greatest, Passes, IsWithinCounts}
+use Rattle.tc_model.specs.SimplifiesCounts as counted
 use Rattle.tc_dtd.specs.Declarations as d
 use Rattle.tc_dtd.specs.Declarations.{Particle, Particles, Content, nothing, anything, mixed, children, Declaration}
 use Rattle.tc_dtd.specs.DtdGrammar.{reference, references, with_texts, particle_pattern, particle_patterns, content_pattern, element_pattern, grammar_with, number_of}
@@ -106,3 +107,29 @@ module _ (kept : List Declaration) where
       let (e, f) = reference_leaf root in
       let r = total_so kept leaf 1 1 (omega arith) (omega arith) in
       (omega (arith, r.nodes, e), omega (arith, r.depth, f), length-map kept (element_pattern kept))
+
+-- which count is passed
+
+size_same : (kept : List Declaration) (n : ℕ) (z : Size) → n ≡ length kept → z ≡ total_of n kept → z ≡ total_of (length kept) kept
+size_same kept n z e f = f ∙ ap (λ m. total_of m kept) e
+
+module _ (kept : List Declaration) (n : ℕ) (z : Size) (e : n ≡ length kept) (f : z ≡ total_of n kept) where
+  z_nodes : z.nodes ≡ (total_of (length kept) kept).nodes
+  z_nodes = ap (λ (w : Size). w.nodes) (size_same kept n z e f)
+
+  z_depth : z.depth ≡ (total_of (length kept) kept).depth
+  z_depth = ap (λ (w : Size). w.depth) (size_same kept n z e f)
+
+  pub passes_nodes : 65536 < z.nodes → (root : List ℕ) → Passes (grammar_with kept root) counted.nodes
+  passes_nodes h root = let (i, j, k) = counts kept root in omega (arith, h, z_nodes, i)
+
+  pub passes_depth : z.nodes ≤ 65536 → 2000 < z.depth → (root : List ℕ) → Passes (grammar_with kept root) counted.depth
+  passes_depth g h root = let (i, j, k) = counts kept root in (omega (arith, g, z_nodes, i), omega (arith, h, z_depth, j))
+
+  pub passes_elements : z.nodes ≤ 65536 → z.depth ≤ 2000 → 256 < n → (root : List ℕ) → Passes (grammar_with kept root) counted.elements
+  passes_elements g h l root = let (i, j, k) = counts kept root in (omega (arith, g, z_nodes, i), omega (arith, h, z_depth, j), omega (arith, l, e, k))
+
+  pub within_counts : z.nodes ≤ 65536 → z.depth ≤ 2000 → n ≤ 256 → (root : List ℕ) → IsWithinCounts (grammar_with kept root)
+  within_counts g h l root =
+      let (i, j, k) = counts kept root in
+      record { nodes = omega (arith, g, z_nodes, i); depth = omega (arith, h, z_depth, j); elements = omega (arith, l, e, k) }
