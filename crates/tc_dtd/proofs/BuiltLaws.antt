@@ -1,10 +1,11 @@
 -- What the steps of making a grammar show of the whole.
-use Rattle.std.proofs.Common.{◌≡◌, ◌≢◌, ◌+◌, ◌<◌, ◌≤◌, ◌^◌, ℕ, zero, suc, Bool, true, false, cond, ◌||◌, not, List, [], ◌∷◌, ◌++◌, refl, ap, ◌∙◌, sym, subst, arith, Option, Some, None, map, length, drop, take, get_or, bytes_eq, position, append_assoc, append-nil, Bor}
+use Rattle.std.proofs.Common.{◌≡◌, ◌≢◌, ◌+◌, ◌<◌, ◌≤◌, ◌^◌, ℕ, zero, suc, Bool, true, false, cond, ◌||◌, not, List, [], ◌∷◌, ◌++◌, refl, ap, ◌∙◌, sym, subst, arith, Option, Some, None, is_some, map, length, drop, take, get_or, bytes_eq, position, append_assoc, append-nil, Bor}
 use Rattle.std.specs.List.{filter_map, list_any, IsDistinct, AllByRecursion}
 use Rattle.std.specs.Option.{option_map}
-use Rattle.std.proofs.lemmas.Bool.{true≢false}
-use Rattle.std.proofs.lemmas.Grind.{filter_map-append}
-use Rattle.std.proofs.lemmas.List.{drop_more, drop_all, map-append, take_more}
+use Rattle.std.proofs.lemmas.Bool.{true≢false, false_from_ne_true}
+use Rattle.std.proofs.lemmas.List.Elements.{filter_map-append}
+use Rattle.std.proofs.lemmas.List.{drop_more, drop_all, map-append, take_more, take_all}
+use Rattle.std.proofs.lemmas.List.Quantifiers.{position-Some}
 use Rattle.indexmap.specs.IndexSet.{insert_key}
 use Rattle.tc_graph.specs.Graph.{rows_of, is_marked}
 use Rattle.tc_model.specs.Grammars as g
@@ -20,13 +21,82 @@ use Rattle.tc_dtd.specs.Views as see
 use Rattle.tc_dtd.specs.declared.declarations.Particle.{Particle}
 use Rattle.tc_dtd.specs.declared.declarations.Decl.{Decl}
 use Rattle.tc_dtd.proofs.ViewsLaws.{left_particle}
+use Rattle.tc_dtd.proofs.NamedLaws.{same_bytes, bytes_same}
 use Rattle.tc_dtd.proofs.OnceLaws.{same_key}
 
 -- numbers of names
 
-pub number_found : (ks : List (Bor (List ℕ))) (n : Bor (List ℕ)) (i : ℕ) → position (same_key n) ks ≡ Some i → number_in (see.names ks) n.now ≡ Some i
-number_found [] n i e = absurd (cc)
-number_found (k ∷ ks) n i e = ?
+turned : (a b : List ℕ) → bytes_eq a b ≡ bytes_eq b a
+turned a b = by (bytes_eq a b) refl
+  where
+    by : (x : Bool) → bytes_eq a b ≡ x → bytes_eq a b ≡ bytes_eq b a
+    by true e = e ∙ sym (bytes_same b a (sym (same_bytes a b e)))
+    by false e = e ∙ sym (false_from_ne_true (bytes_eq b a) (λ f. true≢false (sym (bytes_same a b (sym (same_bytes b a f))) ∙ e)))
+
+first_place : (ks : List (Bor (List ℕ))) (n d : Bor (List ℕ)) (i : ℕ) → i < length ks → same_key n (get_or ks i d) ≡ true → ((k : ℕ) → k < i → same_key n (get_or ks k d) ≡ false)
+    → number_in (see.names ks) n.now ≡ Some i
+first_place [] n d i l e before = absurd (omega (arith, l))
+first_place (k ∷ ks) n d zero l e before = ap (λ b. cond b (Some 0) (option_map (λ k. k + 1) (number_in (see.names ks) n.now))) (turned k.now n.now ∙ e)
+first_place (k ∷ ks) n d (suc i) l e before =
+    let rest = first_place ks n d i (omega (arith, l)) e (λ j h. before (suc j) (omega (arith, h))) in
+    let next : i + 1 ≡ suc i = omega arith in
+    ap (λ b. cond b (Some 0) (option_map (λ k. k + 1) (number_in (see.names ks) n.now))) (turned k.now n.now ∙ before 0 (omega arith))
+    ∙ (ap (option_map (λ k. k + 1)) rest ∙ ap Some next)
+
+no_place : (ks : List (Bor (List ℕ))) (n : Bor (List ℕ)) → list_any (same_key n) ks ≡ false → number_in (see.names ks) n.now ≡ None
+no_place [] n e = refl
+no_place (k ∷ ks) n e = by (same_key n k) refl e (no_place ks n)
+  where
+    by : (b : Bool) → same_key n k ≡ b → (same_key n k || list_any (same_key n) ks) ≡ false → (list_any (same_key n) ks ≡ false → number_in (see.names ks) n.now ≡ None) → number_in (see.names (k ∷ ks)) n.now ≡ None
+    by true i h rec = absurd (true≢false (ap (λ b. b || list_any (same_key n) ks) (sym i) ∙ h))
+    by false i h rec =
+        ap (λ b. cond b (Some 0) (option_map (λ k. k + 1) (number_in (see.names ks) n.now))) (turned k.now n.now ∙ i)
+        ∙ ap (option_map (λ k. k + 1)) (rec (ap (λ b. b || list_any (same_key n) ks) (sym i) ∙ h))
+
+pub number_is : (o : Option ℕ) (ks : List (Bor (List ℕ))) (n : Bor (List ℕ)) → o ≡ position (same_key n) ks → is_some o ≡ list_any (same_key n) ks → o ≡ number_in (see.names ks) n.now
+number_is (Some i) ks n e f = let (l, at, before) = position-Some (same_key n) ks i n (sym e) in sym (first_place ks n n i l at before)
+number_is None ks n e f = sym (no_place ks n (sym f))
+
+pub number_within : (ns : List (List ℕ)) (n : List ℕ) (k : ℕ) → number_in ns n ≡ Some k → k < length ns
+number_within [] n k e = absurd (cc)
+number_within (m ∷ ms) n k e = by (bytes_eq m n) (λ j i. number_within ms n j i) (number_in ms n) refl e
+  where
+    by : (b : Bool) → ((j : ℕ) → number_in ms n ≡ Some j → j < length ms) → (o : Option ℕ) → number_in ms n ≡ o → cond b (Some 0) (option_map (λ k. k + 1) o) ≡ Some k → k < suc (length ms)
+    by true rec o i h = let z : 0 ≡ k = cc in omega (arith, z)
+    by false rec (Some j) i h = let z : j + 1 ≡ k = cc in omega (arith, z, rec j i)
+    by false rec None i h = absurd (cc)
+
+-- names that are apart
+
+apart_at : (m : List ℕ) (ds : List Decl) (i : ℕ) (d : Decl) → AllByRecursion (λ n. bytes_eq m n ≡ false) (map (λ x. x.name) (map see.declaration ds)) → i < length ds → bytes_eq m (get_or ds i d).name.now ≡ false
+apart_at m [] i d a l = absurd (omega (arith, l))
+apart_at m (x ∷ xs) zero d a l = a.0
+apart_at m (x ∷ xs) (suc i) d a l = apart_at m xs i d a.1 (omega (arith, l))
+
+new_here : (ds : List Decl) (i : ℕ) (d : Decl) → i < length ds → AreApart (map (λ x. x.name) (map see.declaration ds)) → list_any (same_key (get_or ds i d).name) (map (λ x. x.name) (take i ds)) ≡ false
+unfolding IsDistinct
+new_here [] i d l a = absurd (omega (arith, l))
+new_here (x ∷ xs) zero d l a = refl
+new_here (x ∷ xs) (suc i) d l a =
+    let one : same_key (get_or xs i d).name x.name ≡ false = turned (get_or xs i d).name.now x.name.now ∙ apart_at x.name.now xs i d a.0 (omega (arith, l)) in
+    ap (λ b. b || list_any (same_key (get_or xs i d).name) (map (λ y. y.name) (take i xs))) one ∙ new_here xs i d (omega (arith, l)) a.1
+
+pub names_more : (ds : List Decl) (i : ℕ) (d : Decl) (keys new : List (Bor (List ℕ))) → i < length ds → AreApart (map (λ x. x.name) (map see.declaration ds)) → keys ≡ map (λ x. x.name) (take i ds)
+    → new ≡ insert_key same_key keys (get_or ds i d).name → new ≡ map (λ x. x.name) (take (i + 1) ds)
+names_more ds i d keys new l a e f =
+    let name = (get_or ds i d).name in
+    let none : list_any (same_key name) keys ≡ false = ap (list_any (same_key name)) e ∙ new_here ds i d l a in
+    f
+    ∙ (ap (λ b. cond b keys (keys ++ name ∷ [])) none
+    ∙ (ap (λ w. w ++ name ∷ []) e
+    ∙ sym (ap (map (λ x. x.name)) (take_more ds i d l) ∙ map-append (λ x. x.name) (take i ds) (get_or ds i d ∷ []))))
+
+names_seen : (ds : List Decl) → see.names (map (λ x. x.name) ds) ≡ map (λ x. x.name) (map see.declaration ds)
+names_seen [] = refl
+names_seen (x ∷ xs) = ap (λ w. x.name.now ∷ w) (names_seen xs)
+
+pub names_all : (ds : List Decl) (i : ℕ) (keys : List (Bor (List ℕ))) → length ds ≤ i → keys ≡ map (λ x. x.name) (take i ds) → see.names keys ≡ map (λ x. x.name) (map see.declaration ds)
+names_all ds i keys l e = ap see.names (e ∙ ap (map (λ x. x.name)) (take_all i ds l)) ∙ names_seen ds
 
 -- links
 
@@ -86,7 +156,7 @@ patterns_more ns ps i x p out new small is same e =
 pub patterns_end : (ns : List (List ℕ)) (ps : List Particle) (i : ℕ) (out : List Pat) → length ps ≤ i
     → patterns_then (seen.patterns out) (built.particle_patterns ns (see.particles (drop i ps))) ≡ built.particle_patterns ns (see.particles ps) → seen.patterns out ≡ built.particle_patterns ns (see.particles ps)
 patterns_end ns ps i out all h =
-    sym (patterns_then_none (seen.patterns out)) ∙ (ap (λ z. patterns_then (seen.patterns out) (built.particle_patterns ns (see.particles z))) (sym (drop_all ps i all)) ∙ h)
+    sym (patterns_then_none (seen.patterns out)) ∙ (ap (λ z. patterns_then (seen.patterns out) (built.particle_patterns ns (see.particles z))) (sym (drop_all i ps all)) ∙ h)
 
 pub references_more : (ns : List (List ℕ)) (ms : List (Bor (List ℕ))) (i : ℕ) (x : Bor (List ℕ)) (p : Pat) (out new : List Pat) → i < length ms
     → seen.pattern p ≡ built.reference ns (get_or ms i x).now → new ≡ out ++ p ∷ []
@@ -102,4 +172,4 @@ references_more ns ms i x p out new small same e =
 pub references_end : (ns : List (List ℕ)) (ms : List (Bor (List ℕ))) (i : ℕ) (out : List Pat) (whole : g.Patterns) → length ms ≤ i
     → patterns_then (seen.patterns out) (built.references ns (see.names (drop i ms))) ≡ whole → seen.patterns out ≡ whole
 references_end ns ms i out whole all h =
-    sym (patterns_then_none (seen.patterns out)) ∙ (ap (λ z. patterns_then (seen.patterns out) (built.references ns (see.names z))) (sym (drop_all ms i all)) ∙ h)
+    sym (patterns_then_none (seen.patterns out)) ∙ (ap (λ z. patterns_then (seen.patterns out) (built.references ns (see.names z))) (sym (drop_all i ms all)) ∙ h)

@@ -149,3 +149,12 @@ unfolding IsDistinct
 kept_apart dtd root xs kept keeps_none a = tt
 kept_apart dtd root xs kept (keeps {x = y} {xs = ys} {kept = ks} r k) a = (kept_names (λ n. bytes_eq y.name n ≡ false) dtd root ys ks k a.0, kept_apart dtd root ys ks k a.1)
 kept_apart dtd root xs kept (leaves {xs = ys} left k) a = kept_apart dtd root ys kept k a.1
+
+-- the grammar by numbers is that by names
+pub built_is : (kept : List Declaration) (root : List ℕ) (ns : List (List ℕ)) (start : Pattern) (elements : List ElementPattern) → ns ≡ names_of kept → start ≡ built.reference ns root
+    → elements ≡ map (built.element_pattern ns) kept → record { start = start; elements = elements } ≡ grammar.grammar_with kept root
+built_is kept root ns start elements e f h =
+    let first : start ≡ grammar.reference kept root = f ∙ (ap (λ m. built.reference m root) e ∙ reference_same kept root) in
+    let others : elements ≡ map (grammar.element_pattern kept) kept = h ∙ (ap (λ m. map (built.element_pattern m) kept) e ∙ elements_same kept kept) in
+    let make : Pattern → List ElementPattern → g.Grammar = λ p es. record { start = p; elements = es } in
+    ap (λ p. make p elements) first ∙ ap (make (grammar.reference kept root)) others

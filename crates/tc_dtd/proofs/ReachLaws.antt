@@ -1,9 +1,9 @@
 -- The elements that are reached are those to which the links lead.
-use Rattle.std.proofs.Common.{◌≡◌, ◌≢◌, ◌⊎◌, inl, inr, ◌+◌, ◌<◌, ◌≤◌, ◌↔◌, ℕ, zero, suc, Bool, true, false, cond, List, [], ◌∷◌, ◌++◌, refl, ap, ◌∙◌, sym, subst, arith, Option, Some, None, map, length, bytes_eq, slice_get, slice_index_or}
+use Rattle.std.proofs.Common.{Bor, ◌≡◌, ◌≢◌, ◌⊎◌, inl, inr, ◌+◌, ◌<◌, ◌≤◌, ◌↔◌, ℕ, zero, suc, Bool, true, false, cond, List, [], ◌∷◌, ◌++◌, refl, ap, ◌∙◌, sym, subst, arith, Option, Some, None, map, length, bytes_eq, slice_get, slice_index_or}
 use Rattle.std.specs.List.{Contains, filter_map}
 use Rattle.std.proofs.lemmas.List.{length-map, length-append}
 use Rattle.std.proofs.lemmas.List.Elements.{Contains-append_left, Contains-append_right, Contains-append_cases, Contains-push, Contains-push_cases}
-use Rattle.tc_graph.specs.Graph.{Edge, IsGraph, Path, edge, further, Leads, is_marked, IsReached as IsMarked}
+use Rattle.tc_graph.specs.Graph.{rows_of, Edge, IsGraph, Path, edge, further, Leads, is_marked, IsReached as IsMarked}
 use Rattle.tc_dtd.specs.Declarations.{Content, nothing, anything, mixed, children, Declaration, declared, names_in}
 use Rattle.tc_dtd.specs.DtdGrammar.{mentioned, IsReached, at_root, within, Keeps, keeps_none, keeps, leaves}
 use Rattle.tc_dtd.specs.Numbers.{AreApart, number_in, names_of, numbers_below, row_of, link_rows, marked_from}
@@ -252,3 +252,24 @@ keeps_nothing dtd root none = by dtd (λ x i r. not_here x i (only_root dtd root
     by : (xs : List Declaration) → ((x : Declaration) → Contains (names_of xs) x.name → IsReached dtd root x.name → ⊥) → Keeps dtd root xs []
     by [] h = keeps_none
     by (x ∷ xs) h = leaves (h x (in_first x.name (names_of xs))) (by xs (λ y i. h y (in_rest x.name (names_of xs) y.name i)))
+
+-- as code has it
+
+count_rows : (dtd : List Declaration) → length (link_rows dtd) ≡ length dtd + 1
+count_rows dtd = omega (arith, length-append (map (λ x. row_of (names_of dtd) x.content) dtd) (numbers_below (length dtd) ∷ []), length-map dtd (λ x. row_of (names_of dtd) x.content))
+
+pub graph_of : (dtd : List Declaration) (rs : List (List ℕ)) → AreApart (names_of dtd) → rs ≡ link_rows dtd → IsGraph rs
+graph_of dtd rs apart e = subst IsGraph (sym e) (is_graph dtd apart)
+
+pub from_within : (dtd : List Declaration) (root : List ℕ) (from : ℕ) (rs : List (Bor (List ℕ))) → rows_of rs ≡ link_rows dtd → number_in (names_of dtd) root ≡ Some from → from < length rs
+from_within dtd root from rs e i =
+    let a = at_number dtd root from i in
+    omega (arith, a.within, ap length e, count_rows dtd, length-map rs (λ r. r.now))
+
+pub marks_cover : (dtd : List Declaration) (rs : List (List ℕ)) (from : ℕ) (marks : List Bool) → rs ≡ link_rows dtd → IsMarked rs from marks → length dtd ≤ length marks
+marks_cover dtd rs from marks e m = omega (arith, m.size, ap length e, count_rows dtd)
+
+pub kept_is : (dtd : List Declaration) (root : List ℕ) (from : ℕ) (marks : List Bool) (rs : List (List ℕ)) (kept : List Declaration) → AreApart (names_of dtd) → number_in (names_of dtd) root ≡ Some from
+    → rs ≡ link_rows dtd → IsMarked rs from marks → kept ≡ marked_from 0 marks dtd → Keeps dtd root dtd kept
+kept_is dtd root from marks rs kept apart start e m f =
+    subst (Keeps dtd root dtd) (sym f) (keeps_reached dtd root from marks apart start (subst (λ r. IsMarked r from marks) e m))

@@ -1,5 +1,5 @@
 -- Why declarations have no grammar, and what their grammar allows.
-use Rattle.std.specs.Prelude.{ℕ, List, ◌↔◌, Ok, Err, Result}
+use Rattle.std.specs.Prelude.{ℕ, List, ◌↔◌}
 use Rattle.tc_model.specs.Grammars.{Grammar}
 use Rattle.tc_model.specs.SimplifiesCounts.{Count, nodes, depth, elements, Passes, IsWithinCounts}
 use Rattle.tc_model.specs.Trees.{Trees}
@@ -29,9 +29,8 @@ FaultFits kept TooManyElements = (root : List ℕ) → Passes (grammar_with kept
 FaultFits kept NoMemory = ⊥
 
 -- or none
-abbrev pub FitsCounts : List Declaration → Result (Unit {0}) DtdGrammarFault → Type 0
-FitsCounts kept (Ok x) = (root : List ℕ) → IsWithinCounts (grammar_with kept root)
-FitsCounts kept (Err e) = FaultFits kept e
+abbrev pub FitsCounts : List Declaration → Type 0
+FitsCounts kept = (root : List ℕ) → IsWithinCounts (grammar_with kept root)
 
 -- for the grammar those documents are valid that are for the declarations
 abbrev pub AllowsTheSame : List Declaration → List ℕ → Grammar → Type 0

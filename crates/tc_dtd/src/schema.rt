@@ -1,5 +1,5 @@
 // The schema of a document type definition.
-ghost use Rattle.std.specs.Prelude.{◌≡◌, ◌≤◌, ◌<◌, ◌^◌, IfErr, IfOk, MatchOption, map, length};
+ghost use Rattle.std.specs.Prelude.{◌≡◌, ◌≤◌, IfErr, IfOk, OnOk, map, length};
 ghost use Rattle.tc_model.specs.Grammars.{IsGrammar};
 ghost use Rattle.tc_model.specs.SimplifiesCounts.{IsWithinCounts};
 ghost use Rattle.tc_model.specs.SimplifiesLaws.{IsStart};
@@ -7,7 +7,7 @@ ghost use Rattle.tc_model.specs.Views as seen;
 ghost use Rattle.tc_dtd.specs.Declarations.{AreDeclarations};
 ghost use Rattle.tc_dtd.specs.DtdGrammar.{Keeps, IsGrammarOfDtd, grammar_with};
 ghost use Rattle.tc_dtd.specs.Numbers.{AreApart};
-ghost use Rattle.tc_dtd.specs.Refused.{Refuses, FitsCounts, AllowsTheSame};
+ghost use Rattle.tc_dtd.specs.Refused.{Refuses, FitsCounts, FaultFits, AllowsTheSame};
 ghost use Rattle.tc_dtd.specs.Views as see;
 
 use crate::declarations::{Decl, Dtd};
@@ -65,7 +65,8 @@ fn kept<'b>(
 
 /// Whether the grammar of these elements isn't too large.
 fn fits(decls: &[Decl<'_>]) -> Result<(), DtdGrammarFault>
-    ensures { FitsCounts (map see.declaration decls.now) result }
+    ensures ok { OnOk result (FitsCounts (map see.declaration decls.now)) }
+    ensures err { IfErr result (FaultFits (map see.declaration decls.now)) }
 {
     let size = total(decls);
     if size.nodes > u64::from(MOST_PATTERN_NODES) {
