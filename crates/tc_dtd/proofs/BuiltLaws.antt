@@ -121,24 +121,24 @@ names_next f ns i x old new h e =
 
 -- declarations that are marked
 
-pub marked_next : (marks : List Bool) (ds : List Decl) (k : ℕ) (x : Decl) (out new : List Decl) → k < length ds → is_marked marks k ≡ true → new ≡ out ++ get_or ds k x ∷ []
-    → map see.declaration new ++ marked_from (k + 1) marks (map see.declaration (drop (k + 1) ds)) ≡ map see.declaration out ++ marked_from k marks (map see.declaration (drop k ds))
-marked_next marks ds k x out new l m e =
-    let rest = map see.declaration (drop (k + 1) ds) in
-    let one = see.declaration (get_or ds k x) in
-    ap (λ z. map see.declaration z ++ marked_from (k + 1) marks rest) e
-    ∙ (ap (λ z. z ++ marked_from (k + 1) marks rest) (map-append see.declaration out (get_or ds k x ∷ []))
-    ∙ (append_assoc (map see.declaration out) (one ∷ []) (marked_from (k + 1) marks rest)
-    ∙ ap (λ z. map see.declaration out ++ z)
-    (sym (ap (λ z. marked_from k marks (map see.declaration z)) (drop_more ds k x l) ∙ ap (λ b. cond b (one ∷ marked_from (k + 1) marks rest) (marked_from (k + 1) marks rest)) m))))
+marked_next : (marks : List Bool) (ds : List Decl) (k : ℕ) (x : Decl) → k < length ds
+    → marked_from k marks (map see.declaration (drop k ds)) ≡ cond (is_marked marks k) (see.declaration (get_or ds k x) ∷ []) [] ++ marked_from (k + 1) marks (map see.declaration (drop (k + 1) ds))
+marked_next marks ds k x l = ap (λ z. marked_from k marks (map see.declaration z)) (drop_more ds k x l) ∙ by (is_marked marks k)
+  where
+    rest : List t.Declaration
+    rest = marked_from (k + 1) marks (map see.declaration (drop (k + 1) ds))
+    by : (b : Bool) → cond b (see.declaration (get_or ds k x) ∷ rest) rest ≡ cond b (see.declaration (get_or ds k x) ∷ []) [] ++ rest
+    by true = refl
+    by false = refl
 
-pub left_out : (marks : List Bool) (ds : List Decl) (k : ℕ) (x : Decl) (out : List Decl) → k < length ds → is_marked marks k ≡ false
-    → map see.declaration out ++ marked_from (k + 1) marks (map see.declaration (drop (k + 1) ds)) ≡ map see.declaration out ++ marked_from k marks (map see.declaration (drop k ds))
-left_out marks ds k x out l m =
-    let rest = map see.declaration (drop (k + 1) ds) in
-    let one = see.declaration (get_or ds k x) in
-    ap (λ z. map see.declaration out ++ z)
-    (sym (ap (λ z. marked_from k marks (map see.declaration z)) (drop_more ds k x l) ∙ ap (λ b. cond b (one ∷ marked_from (k + 1) marks rest) (marked_from (k + 1) marks rest)) m))
+pub marked_step : (marks : List Bool) (ds : List Decl) (k : ℕ) (x : Decl) (out new : List Decl) → k < length ds
+    → map see.declaration new ≡ map see.declaration out ++ cond (is_marked marks k) (see.declaration (get_or ds k x) ∷ []) []
+    → map see.declaration new ++ marked_from (k + 1) marks (map see.declaration (drop (k + 1) ds)) ≡ map see.declaration out ++ marked_from k marks (map see.declaration (drop k ds))
+marked_step marks ds k x out new l e =
+    let rest = marked_from (k + 1) marks (map see.declaration (drop (k + 1) ds)) in
+    ap (λ z. z ++ rest) e
+    ∙ (append_assoc (map see.declaration out) (cond (is_marked marks k) (see.declaration (get_or ds k x) ∷ []) []) rest
+    ∙ ap (λ z. map see.declaration out ++ z) (sym (marked_next marks ds k x l)))
 
 -- patterns
 

@@ -14,3 +14,4 @@ pub mod ReachLaws
 pub mod SizeLaws
 pub mod OnceLaws
 pub mod BuiltLaws
+pub mod GrammarLaws

@@ -31,12 +31,29 @@ number_shift (x ∷ xs) n = by (bytes_eq x.name n) refl (number_shift xs n)
         ap (λ t. cond t (Some 1) (option_map (λ k. k + 1) (number_of xs n))) e
         ∙ (ap (option_map (λ k. k + 1)) rec ∙ sym (ap (λ t. option_map (λ k. k + 1) (cond t (Some 0) (option_map (λ k. k + 1) (number_in (names_of xs) n)))) e))
 
+from_zero : Option ℕ → Pattern
+from_zero (Some k) = g.ref (k + 1)
+from_zero None = g.not_allowed
+
+from_one : Option ℕ → Pattern
+from_one (Some k) = g.ref k
+from_one None = g.not_allowed
+
+shifted : (o : Option ℕ) → from_zero o ≡ from_one (option_map (λ k. k + 1) o)
+unfolding from_zero, from_one
+shifted (Some k) = refl
+shifted None = refl
+
+by_zero : (ns : List (List ℕ)) (n : List ℕ) → built.reference ns n ≡ from_zero (number_in ns n)
+unfolding from_zero
+by_zero ns n = elim (number_in ns n) as (λ (o : Option ℕ). (◌≡◌ {A = Pattern} (elim o [ Some k ↦ g.ref (k + 1) | None ↦ g.not_allowed ]) (from_zero o))) [ Some k ↦ refl | None ↦ refl ]
+
+by_one : (xs : List Declaration) (n : List ℕ) → grammar.reference xs n ≡ from_one (number_of xs n)
+unfolding from_one
+by_one xs n = elim (number_of xs n) as (λ (o : Option ℕ). (◌≡◌ {A = Pattern} (elim o [ Some k ↦ g.ref k | None ↦ g.not_allowed ]) (from_one o))) [ Some k ↦ refl | None ↦ refl ]
+
 pub reference_same : (xs : List Declaration) (n : List ℕ) → built.reference (names_of xs) n ≡ grammar.reference xs n
-reference_same xs n = by (number_in (names_of xs) n) ∙ sym (ap (λ (o : Option ℕ). elim o [ Some k ↦ g.ref k | None ↦ g.not_allowed ]) (number_shift xs n))
-  where
-    by : (o : Option ℕ) → (elim o [ Some k ↦ g.ref (k + 1) | None ↦ g.not_allowed ]) ≡ (elim (option_map (λ k. k + 1) o) [ Some k ↦ g.ref k | None ↦ g.not_allowed ])
-    by (Some k) = refl
-    by None = refl
+reference_same xs n = by_zero (names_of xs) n ∙ (shifted (number_in (names_of xs) n) ∙ (ap from_one (sym (number_shift xs n)) ∙ sym (by_one xs n)))
 
 references_same : (xs : List Declaration) (ns : List (List ℕ)) → built.references (names_of xs) ns ≡ grammar.references xs ns
 references_same xs [] = refl

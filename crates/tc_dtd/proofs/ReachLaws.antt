@@ -46,16 +46,16 @@ below (suc n) j h = elim (Contains-push_cases (numbers_below n) n j h) [ inl i �
 
 in_below : (n j : ℕ) → j < n → Contains (numbers_below n) j
 in_below zero j h = absurd (omega (arith, h))
-in_below (suc n) j h = by (cases j n h)
+in_below (suc n) j h = by (λ k. in_below n j k) (cases j n h)
   where
     cases : (j n : ℕ) → j < suc n → (n ≡ j) ⊎ (j < n)
     cases zero zero h = inl refl
     cases zero (suc n) h = inr (omega arith)
     cases (suc j) zero h = absurd (omega (arith, h))
     cases (suc j) (suc n) h = elim (cases j n (omega (arith, h))) [ inl e ↦ inl (ap suc e) | inr k ↦ inr (omega (arith, k)) ]
-    by : (n ≡ j) ⊎ (j < n) → Contains (numbers_below (suc n)) j
-    by (inl e) = subst (λ z. Contains (numbers_below n ++ n ∷ []) z) e (Contains-push (numbers_below n) n)
-    by (inr k) = Contains-append_left (numbers_below n) (n ∷ []) j (in_below n j k)
+    by : (j < n → Contains (numbers_below n) j) → (n ≡ j) ⊎ (j < n) → Contains (numbers_below (suc n)) j
+    by rec (inl e) = subst (λ z. Contains (numbers_below n ++ n ∷ []) z) e (Contains-push (numbers_below n) n)
+    by rec (inr k) = Contains-append_left (numbers_below n) (n ∷ []) j (rec k)
 
 get_within : (xs : List Declaration) (k : ℕ) → k < length xs → (x : Declaration) × (slice_get xs k ≡ Some x)
 get_within [] k h = absurd (omega (arith, h))
@@ -165,14 +165,14 @@ module _ (dtd : List Declaration) (apart : AreApart (names_of dtd)) where
     leads_on k j (inl e) h = inr (edge (subst (λ z. Edge rows z j) e h))
     leads_on k j (inr p) h = inr (further p h)
 
-    leads_to : (n : List ℕ) (k : ℕ) → IsReached dtd root n → number_in (names_of dtd) n ≡ Some k → Leads rows from k
-    leads_to n k at_root e = inl (some_same (sym e ∙ start))
-    leads_to n k (within {n = m} {c = c} r f i) e = by c f i
+    onward : (m n : List ℕ) (c : Content) (k : ℕ) → declared dtd m ≡ Some c → Contains (mentioned dtd c) n → number_in (names_of dtd) n ≡ Some k
+        → ((j : ℕ) → number_in (names_of dtd) m ≡ Some j → Leads rows from j) → Leads rows from k
+    onward m n c k f i e rec = by c f i
       where
         there : (j : ℕ) × (number_in (names_of dtd) m ≡ Some j)
         there = has_place dtd m c f
         before : Leads rows from there.0
-        before = leads_to m there.0 r there.1
+        before = rec there.0 there.1
         at : At dtd m there.0
         at = at_number dtd m there.0 there.1
         content_is : (x : Content) → declared dtd m ≡ Some x → at.x.content ≡ x
@@ -189,6 +189,10 @@ module _ (dtd : List Declaration) (apart : AreApart (names_of dtd)) where
             leads_on many k (leads_on there.0 many before (link anything g many (subst (λ z. Contains (z ∷ []) many) (sym count_names) (in_first many [])))) last
         by (mixed ms) g h = leads_on there.0 k before (link (mixed ms) g k (in_numbers (names_of dtd) ms n k h e))
         by (children p) g h = leads_on there.0 k before (link (children p) g k (in_numbers (names_of dtd) (names_in p) n k h e))
+
+    leads_to : (n : List ℕ) (k : ℕ) → IsReached dtd root n → number_in (names_of dtd) n ≡ Some k → Leads rows from k
+    leads_to n k at_root e = inl (some_same (sym e ∙ start))
+    leads_to n k (within {n = m} {c = c} r f i) e = onward m n c k f i e (λ j h. leads_to m j r h)
 
     -- marks are exact
     pub marked_reached : (marks : List Bool) → IsMarked rows from marks → (j : ℕ) (x : Declaration) → slice_get dtd j ≡ Some x → (is_marked marks j ≡ true) ↔ IsReached dtd root x.name

@@ -98,7 +98,11 @@ module _ (kept : List Declaration) where
       let n : (two z (content_size (length kept) x.content)).nodes ≡ capped (count + a) = omega (arith, e, c.nodes) in
       let m : (two z (content_size (length kept) x.content)).depth ≡ capped (max deep b) = omega (arith, f, c.depth) in
       let r = total_so xs (two z (content_size (length kept) x.content)) (count + a) (max deep b) n m in
-      record { nodes = omega (arith, r.nodes); depth = omega (arith, r.depth) }
+      let s = sum (map (λ e. pattern_nodes e.content) (map (element_pattern kept) xs)) in
+      let d = greatest (map (λ e. pattern_depth e.content) (map (element_pattern kept) xs)) in
+      let i : (count + a) + s ≡ count + (a + s) = omega arith in
+      let j : max (max deep b) d ≡ max deep (max b d) = omega arith in
+      record { nodes = r.nodes ∙ ap capped i; depth = r.depth ∙ ap capped j }
 
   -- the whole grammar
   pub counts : (root : List ℕ) → ((total_of (length kept) kept).nodes ≡ capped (grammar_nodes (grammar_with kept root))) × ((total_of (length kept) kept).depth ≡ capped (grammar_depth (grammar_with kept root)))

@@ -1,5 +1,5 @@
 // To which elements the contents of elements lead.
-ghost use Rattle.std.specs.Prelude.{◌≡◌, ◌≤◌, ◌<◌, ◌++◌, ◌∷◌, [], IfOk, OnOk, map, length};
+ghost use Rattle.std.specs.Prelude.{◌≡◌, ◌≤◌, ◌<◌, ◌++◌, ◌∷◌, [], IfOk, OnOk, map, length, if◌then◌else◌};
 ghost use Rattle.std.specs.List.{filter_map};
 ghost use Rattle.tc_graph.specs.Graph.{rows_of};
 ghost use Rattle.tc_dtd.specs.Declarations as t;
@@ -123,6 +123,20 @@ pub(crate) fn links<'b>(
     Ok(rows)
 }
 
+/// Puts a declaration behind the others, if it is kept.
+fn put_kept<'b>(
+    out: &mut Vec<Decl<'b>, &'b Bump>,
+    decl: &Decl<'b>,
+    is_kept: bool,
+) -> Result<(), NoMemory>
+    ensures { OnOk result (map see.declaration out.new.items ≡ map see.declaration out.old.items ++ (if is_kept then see.declaration decl.now ∷ [] else [])) }
+{
+    if is_kept {
+        out.push(*decl)?;
+    }
+    Ok(())
+}
+
 /// The declarations that are marked.
 pub(crate) fn marked<'b>(
     arena: &'b Bump,
@@ -134,9 +148,7 @@ pub(crate) fn marked<'b>(
 {
     let mut out = Vec::new(arena);
     for (number, decl) in decls.iter().enumerate() {
-        if marks[number] {
-            out.push(*decl)?;
-        }
+        put_kept(&mut out, decl, marks[number])?;
     }
     Ok(into_bump_slice(out))
 }
