@@ -40,7 +40,7 @@ from_one (Some k) = g.ref k
 from_one None = g.not_allowed
 
 shifted : (o : Option ℕ) → from_zero o ≡ from_one (option_map (λ k. k + 1) o)
-unfolding from_zero, from_one
+unfolding from_zero from_one
 shifted (Some k) = refl
 shifted None = refl
 

@@ -2,6 +2,7 @@
 use Rattle.std.proofs.Common.{Some, None, ◌≡◌, ◌+◌, ◌<◌, ◌≤◌, ℕ, List, [], ◌∷◌, refl, ap, ◌∙◌, sym, arith, map, length, max, Ok, Err, Result}
 use Rattle.std.specs.Prelude.{sum}
 use Rattle.std.proofs.lemmas.List.{length-map}
+use Rattle.std.proofs.lemmas.List.Sums.{sum_by-cons}
 use Rattle.tc_model.specs.Grammars as g
 use Rattle.tc_model.specs.Grammars.{Pattern, Patterns}
 use Rattle.tc_model.specs.Simplifies.{both}
@@ -102,7 +103,8 @@ module _ (kept : List Declaration) where
       let d = greatest (map (λ e. pattern_depth e.content) (map (element_pattern kept) xs)) in
       let i : (count + a) + s ≡ count + (a + s) = omega arith in
       let j : max (max deep b) d ≡ max deep (max b d) = omega arith in
-      record { nodes = r.nodes ∙ ap capped i; depth = r.depth ∙ ap capped j }
+      let more = sum_by-cons (λ (n : ℕ). n) a (map (λ (e : g.ElementPattern). pattern_nodes e.content) (map (element_pattern kept) xs)) in
+      record { nodes = r.nodes ∙ ap capped (i ∙ ap (λ n. count + n) (sym more)); depth = r.depth ∙ ap capped j }
 
   -- the whole grammar
   pub counts : (root : List ℕ) → ((total_of (length kept) kept).nodes ≡ capped (grammar_nodes (grammar_with kept root))) × ((total_of (length kept) kept).depth ≡ capped (grammar_depth (grammar_with kept root)))
