@@ -127,6 +127,7 @@ marked_next marks ds k x l = ap (λ z. marked_from k marks (map see.declaration 
   where
     rest : List t.Declaration
     rest = marked_from (k + 1) marks (map see.declaration (drop (k + 1) ds))
+
     by : (b : Bool) → cond b (see.declaration (get_or ds k x) ∷ rest) rest ≡ cond b (see.declaration (get_or ds k x) ∷ []) [] ++ rest
     by true = refl
     by false = refl

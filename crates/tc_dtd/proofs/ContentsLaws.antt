@@ -77,6 +77,7 @@ named_stops deepest bs e h = stops_map (NameAt bs) (ParticleAt deepest bs) e bac
   where
     opens : (o : Outcome Particle) → GroupAt deepest bs o → ⊥
     opens o a = let (r, f) = group_opens deepest bs o a in h r f
+
     back : (o : Outcome Particle) → ParticleAt deepest bs o → (p : Outcome (List ℕ)) × NameAt bs p
     back o (a_name {n = n} {rest = r} a s) = (read n r, a)
     back o (a_name_refused {at = at} {cause = c} a) = (refused c at, a)
@@ -106,13 +107,16 @@ inside_stops deepest bs r start e f some g = stops_map (ListAt (deepest - 1) sta
   where
     less : suc (deepest - 1) ≡ deepest
     less = omega (arith, some)
+
     forth : (c : Cause) (at : List ℕ) → ListAt (deepest - 1) start (refused c at) → GroupAt deepest bs (refused c at)
     forth c at a = subst (λ n. GroupAt n bs (refused c at)) less (inside f (subst (λ w. ListAt (deepest - 1) w (refused c at)) g a))
+
     by : (n : ℕ) → n ≡ deepest → (o : Outcome Particle) → GroupAt n bs o → (p : Outcome Particle) × ListAt (deepest - 1) start p
     by n i o (depth h) = absurd (some (sym i))
     by n i o (inside {deepest = m} {r = s} h a) =
         let one : m ≡ deepest - 1 = omega (arith, i) in
         (o, subst (λ k. ListAt k start o) one (subst (λ w. ListAt m w o) (ap after_white (same_behind h f) ∙ sym g) a))
+
     back : (o : Outcome Particle) → GroupAt deepest bs o → (p : Outcome Particle) × ListAt (deepest - 1) start p
     back = by deepest refl
 
@@ -199,8 +203,10 @@ joins_more k deepest text rest found ahead start after first q all whole s big i
   where
     here : ParticleAt deepest (after_white ahead) (read q after)
     here = subst (λ w. ParticleAt deepest w (read q after)) l a
+
     at_same : (r : List ℕ) (o : Outcome Particle) → after_white rest ≡ k ∷ r → ParticleAt deepest (after_white r) o → ParticleAt deepest (after_white ahead) o
     at_same r o f b = subst (λ w. ParticleAt deepest (after_white w) o) (same_behind f (sym i ∙ j)) b
+
     behind : (p : Outcome Particles) → RestAt k deepest rest p → (u : Outcome Particles) × RestAt k deepest after u
     behind p (closed f) = absurd (omega (arith, big, other_byte f (sym i ∙ j)))
     behind p (next_refused {r = r} {at = at} {cause = c} f b) = absurd (read_not (particle_unique deepest (after_white ahead) (read q after) (refused c at) here (at_same r (refused c at) f b)))
@@ -216,6 +222,7 @@ joins_stops k deepest text rest found ahead start first all e s big i j l =
   where
     there : (r : List ℕ) (o : Outcome Particle) → after_white rest ≡ k ∷ r → ParticleAt deepest (after_white r) o → ParticleAt deepest start o
     there r o f b = subst (λ w. ParticleAt deepest w o) (ap after_white (same_behind f (sym i ∙ j)) ∙ sym l) b
+
     by : (p : Outcome Particles) → RestAt k deepest rest p → (o : Outcome Particle) × ParticleAt deepest start o
     by p (closed f) = absurd (omega (arith, big, other_byte f (sym i ∙ j)))
     by p (next_refused {r = r} {at = at} {cause = c} f b) = (refused c at, there r (refused c at) f b)
@@ -275,8 +282,10 @@ lists_more text rest found ahead start after n all whole s i j l a e = record {
   where
     here : NameAt (after_white ahead) (read n after)
     here = subst (λ w. NameAt w (read n after)) l a
+
     at_same : (r : List ℕ) (o : Outcome (List ℕ)) → after_white rest ≡ bar ∷ r → NameAt (after_white r) o → NameAt (after_white ahead) o
     at_same r o f b = subst (λ w. NameAt (after_white w) o) (same_behind f (sym i ∙ j)) b
+
     behind : (p : Outcome (List (List ℕ))) → NamesAt rest p → (u : Outcome (List (List ℕ))) × NamesAt after u
     behind p (t.closed f) = absurd (omega (arith, other_byte f (sym i ∙ j)))
     behind p (t.next_refused {r = r} {at = at} {cause = c} f b) = absurd (read_not (name_unique (after_white ahead) (read n after) (refused c at) here (at_same r (refused c at) f b)))
@@ -292,6 +301,7 @@ lists_stops text rest found ahead start all e s i j l =
   where
     there : (r : List ℕ) (o : Outcome (List ℕ)) → after_white rest ≡ bar ∷ r → NameAt (after_white r) o → NameAt start o
     there r o f b = subst (λ w. NameAt w o) (ap after_white (same_behind f (sym i ∙ j)) ∙ sym l) b
+
     by : (p : Outcome (List (List ℕ))) → NamesAt rest p → (o : Outcome (List ℕ)) × NameAt start o
     by p (t.closed f) = absurd (omega (arith, other_byte f (sym i ∙ j)))
     by p (t.next_refused {r = r} {at = at} {cause = c} f b) = (refused c at, there r (refused c at) f b)
@@ -353,6 +363,7 @@ no_asterisk bs rest ns e a h some = unexpected_stops (MixedAt bs) rest e none (�
     there : (ms : List (List ℕ)) → NamesAt bs (read ms rest) → ms ≢ [] → (r : List ℕ) → rest ≡ 0x25 ∷ r → MixedAt bs (refused (unsupported N53) rest)
     there [] b n r f = absurd (n refl)
     there (m ∷ ms) b n r f = subst (λ w. MixedAt bs (refused (unsupported N53) w)) (sym f) (t.reference (subst (λ w. NamesAt bs (read (m ∷ ms) w)) f b))
+
     none : ((r : List ℕ) → rest ≡ 0x25 ∷ r → ⊥) → (o : Outcome Content) → MixedAt bs o → ⊥
     none f o (no_names {after = r} b k) = some (read_same (names_unique bs (read ns rest) (read [] r) a b)).0
     none f o (repeated {after = r} {ns = ms} b) = h r (read_same (names_unique bs (read ns rest) (read ms (0x2A ∷ r)) a b)).1
@@ -370,6 +381,7 @@ mixed_stops deepest bs rest e some (r, f, g) = stops_map (MixedAt rest) (Content
   where
     forth : (c : Cause) (at : List ℕ) → MixedAt rest (refused c at) → ContentAt deepest bs (refused c at)
     forth c at a = let less : suc (deepest - 1) ≡ deepest = omega (arith, some) in subst (λ n. ContentAt n bs (refused c at)) less (mixed f g a)
+
     by : (n : ℕ) → n ≡ deepest → (o : Outcome Content) → ContentAt n bs o → (p : Outcome Content) × MixedAt rest p
     by n i o (empty h) = absurd (omega (arith, other_byte h f))
     by n i o (any h) = absurd (omega (arith, other_byte h f))

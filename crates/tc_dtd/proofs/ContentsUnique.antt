@@ -230,17 +230,17 @@ mutual
   list_kept e deepest bs o (a_sequence {rest = x} {p = q} {outcome = u} a l w) i =
       elim (particle_kept e deepest bs (read q x) a tt) [
         | inl b ↦ elim (rest_kept e comma deepest x u l (read_under (λ ps. d.sequence (d.more q ps)) u o w i)) [
-            | inl m ↦ inl (a_sequence b m w)
-            | inr (at, m) ↦ inr (at, a_sequence b m refl)
-          ]
+          | inl m ↦ inl (a_sequence b m w)
+          | inr (at, m) ↦ inr (at, a_sequence b m refl)
+        ]
         | inr (at, b) ↦ inr (at, first_refused b)
       ]
   list_kept e deepest bs o (a_choice {rest = x} {p = q} {outcome = u} a k l w) i =
       elim (particle_kept e deepest bs (read q x) a tt) [
         | inl b ↦ elim (rest_kept e bar deepest x u l (read_under (λ ps. d.choice (d.more q ps)) u o w i)) [
-            | inl m ↦ inl (a_choice b k m w)
-            | inr (at, m) ↦ inr (at, a_choice b k m refl)
-          ]
+          | inl m ↦ inl (a_choice b k m w)
+          | inr (at, m) ↦ inr (at, a_choice b k m refl)
+        ]
         | inr (at, b) ↦ inr (at, first_refused b)
       ]
 
@@ -250,9 +250,9 @@ mutual
   rest_kept e k deepest bs o (next {r = r} {rest = x} {p = q} {outcome = u} f a l w) i =
       elim (particle_kept e deepest (after_white r) (read q x) a tt) [
         | inl b ↦ elim (rest_kept e k deepest x u l (read_under (d.more q) u o w i)) [
-            | inl m ↦ inl (next f b m w)
-            | inr (at, m) ↦ inr (at, next f b m refl)
-          ]
+          | inl m ↦ inl (next f b m w)
+          | inr (at, m) ↦ inr (at, next f b m refl)
+        ]
         | inr (at, b) ↦ inr (at, next_refused f b)
       ]
   rest_kept e k deepest bs o (t.reference f) i = inl (t.reference f)

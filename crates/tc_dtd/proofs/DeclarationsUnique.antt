@@ -248,9 +248,9 @@ declarations_kept e deepest total bs o (markup_refused a) i = absurd i
 declarations_kept e deepest total bs o (markup {rest = r} {next = x} {xs = xs} {outcome = u} a m l w) i =
     elim (markup_kept e deepest total bs (read xs r) a tt) [
       | inl b ↦ elim (declarations_kept e deepest total x u l (read_under (λ ys. xs ++ ys) u o w i)) [
-          | inl k ↦ inl (markup b m k w)
-          | inr (at, k) ↦ inr (at, markup b m k refl)
-        ]
+        | inl k ↦ inl (markup b m k w)
+        | inr (at, k) ↦ inr (at, markup b m k refl)
+      ]
       | inr (at, b) ↦ inr (at, markup_refused b)
     ]
 

@@ -17,14 +17,16 @@ use Rattle.tc_dtd.specs.DtdTextContents as c
 use Rattle.tc_dtd.specs.DtdTextContents.{SpaceAt, NameAt, SuffixAt, ParticleAt, GroupAt, ListAt, RestAt, MixedAt, ContentAt}
 use Rattle.tc_dtd.specs.DtdTextDeclarations as t
 use Rattle.tc_dtd.specs.DtdTextDeclarations.{KeptAt, ElementAt, Placed, placed, MarkupAt, DeclarationsAt}
-use Rattle.tc_dtd.specs.DtdText.{TextAt, deepest_parenthesis, HasForm, names_of, DtdText, FirstAgain, IsNotRefused}
+use Rattle.tc_dtd.specs.DtdText.{TextAt, deepest_parenthesis, HasForm, names_of, DtdText, FirstAgain, DtdTextRefuses, IsNotRefused}
 use Rattle.tc_dtd.specs.Faults.{IsFaultOf, fault_of, IsDeclaredOnce, IsAgain}
 use Rattle.tc_dtd.specs.Stops.{Stops}
 use Rattle.tc_dtd.specs.declared.faults.Stop.{Stop}
 use Rattle.tc_dtd.specs.declared.faults.Stop.TheVariants.{Malformed, Unsupported, TooDeep, NoMemory}
 use Rattle.tc_dtd.specs.declared.faults.DtdFault.{DtdFault}
 use Rattle.tc_dtd.specs.declared.faults.DtdFault.TheVariants as faults
-use Rattle.tc_dtd.proofs.OutcomeLaws.{read_not}
+use Rattle.tc_dtd.proofs.OutcomeLaws.{read_same, read_not}
+use Rattle.tc_dtd.proofs.NamedLaws.{in_cons, in_none, bytes_same}
+use Rattle.tc_dtd.specs.DtdTextLaws.{IsRefusal}
 use Rattle.tc_dtd.proofs.DeclarationsUnique.{Behind_name, With_content, text_unique, text_kept}
 
 front_within : {bytes front : List ℕ} → FrontOf bytes front → length front ≤ length bytes
@@ -45,29 +47,33 @@ not_refused : {bytes front : List ℕ} → FrontOf bytes front → ((cause : Cau
 not_refused f h cause place x = h cause x.at (subst (λ w. TextAt deepest_parenthesis w (refused cause x.at)) (front_unique x.is_front f) x.refuses)
 
 pub fault_is : (bytes front : List ℕ) (e : Stop) → FrontOf bytes front → Stops e (TextAt deepest_parenthesis front) → IsFaultOf bytes (fault_of (length front) e)
-fault_is bytes front (Malformed left) f s =
-    (omega (arith, front_within f),
-    (λ deepest found m. elim (here_or_deep deepest front found (form_front f m)) [ inl k ↦ s (read found []) k | inr (at, k) ↦ s (refused too_deep at) k ]),
-    not_refused f (λ cause at k. s (refused cause at) k))
-fault_is bytes front (Unsupported left why) f (at, l, k) =
-    (record { front = front; at = at; is_front = f; refuses = k; stands = ap (λ n. length front - n) l },
-    (λ deepest found m. by found (here_or_deep deepest front found (form_front f m))))
+fault_is bytes front (Malformed left) f s = (
+  omega (arith, front_within f),
+  (λ deepest found m. elim (here_or_deep deepest front found (form_front f m)) [ inl k ↦ s (read found []) k | inr (at, k) ↦ s (refused too_deep at) k ]),
+  not_refused f (λ cause at k. s (refused cause at) k),
+)
+fault_is bytes front (Unsupported left why) f (at, l, k) = (
+  record { front = front; at = at; is_front = f; refuses = k; stands = ap (λ n. length front - n) l },
+  (λ deepest found m. by found (here_or_deep deepest front found (form_front f m))),
+)
   where
     by : (found : List Placed) → TextAt deepest_parenthesis front (read found []) ⊎ ((at : List ℕ) × TextAt deepest_parenthesis front (refused too_deep at)) → ⊥
     by found (inl m) = read_not (text_unique deepest_parenthesis front (read found []) (refused (unsupported why) at) m k)
     by found (inr (at', m)) = let e = text_unique deepest_parenthesis front (refused too_deep at') (refused (unsupported why) at) m k in cc
-fault_is bytes front (TooDeep left) f (at, l, k) =
-    (record { front = front; at = at; is_front = f; refuses = k; stands = ap (λ n. length front - n) l },
-    (λ found m. read_not (text_unique deepest_parenthesis front (read found []) (refused too_deep at) (form_front f m) k)))
+fault_is bytes front (TooDeep left) f (at, l, k) = (
+  record { front = front; at = at; is_front = f; refuses = k; stands = ap (λ n. length front - n) l },
+  (λ found m. read_not (text_unique deepest_parenthesis front (read found []) (refused too_deep at) (form_front f m) k)),
+)
 fault_is bytes front NoMemory f s = tt
 
 -- other bytes behind declarations
 pub others_behind : (bytes front : List ℕ) (found : List Placed) (p : Place) → FrontOf bytes front → TextAt deepest_parenthesis front (read found []) → length front ≢ length bytes → p.0 ≡ length front - 0
     → IsFaultOf bytes (faults.Malformed p)
-others_behind bytes front found p f m other e =
-    (omega (arith, front_within f, e),
-    (λ deepest xs k. other (ap length (sym (front_form f k)))),
-    not_refused f (λ cause at k. read_not (text_unique deepest_parenthesis front (read found []) (refused cause at) m k)))
+others_behind bytes front found p f m other e = (
+  omega (arith, front_within f, e),
+  (λ deepest xs k. other (ap length (sym (front_form f k)))),
+  not_refused f (λ cause at k. read_not (text_unique deepest_parenthesis front (read found []) (refused cause at) m k)),
+)
 
 -- the whole text is read
 whole_text : {bytes front : List ℕ} → FrontOf bytes front → length front ≡ length bytes → bytes ≡ front
@@ -76,6 +82,7 @@ whole_text {bytes} {front} f e = f.parts ∙ (ap (λ w. front ++ w) (no_bytes f.
     no_bytes : (w : List ℕ) → length w ≡ 0 → w ≡ []
     no_bytes [] e = refl
     no_bytes (b ∷ w) e = absurd (omega (arith, e))
+
     nothing_behind : (w : List ℕ) → w ++ [] ≡ w
     nothing_behind [] = refl
     nothing_behind (b ∷ w) = ap (λ z. b ∷ z) (nothing_behind w)
@@ -230,3 +237,44 @@ lawful bytes ds m =
     let good = good_text deepest_parenthesis bytes m.found m.form.reads in
     subst AreDeclarations (sym m.are)
     (record { names = all_names m.found good; contents = all_contents m.found good; once = subst (IsDistinct bytes_eq) (sym (same_names m.found)) m.once })
+
+-- laws of texts
+
+pub one_dtd : (bytes : List ℕ) (ds es : List Declaration) → DtdText bytes ds → DtdText bytes es → ds ≡ es
+one_dtd bytes ds es m n =
+    let same : m.found ≡ n.found = (read_same (text_unique deepest_parenthesis bytes (read m.found []) (read n.found []) m.form.reads n.form.reads)).0 in
+    m.are ∙ (ap (map (λ x. x.declaration)) same ∙ sym n.are)
+
+refused_same : {A : Type 0} (o p : Outcome A) (c c' : Cause) (at at' : List ℕ) → o ≡ refused c at → p ≡ refused c' at' → o ≡ p → (c ≡ c') × (at ≡ at')
+refused_same o p c c' at at' e f g = (cc, cc)
+
+pub one_refusal : (bytes : List ℕ) (cause other : Cause) (place elsewhere : ℕ) → DtdTextRefuses bytes cause place → DtdTextRefuses bytes other elsewhere → (cause ≡ other) × (place ≡ elsewhere)
+one_refusal bytes cause other place elsewhere x y =
+    let front = front_unique x.is_front y.is_front in
+    let same = text_unique deepest_parenthesis y.front (refused cause x.at) (refused other y.at) (subst (λ w. TextAt deepest_parenthesis w (refused cause x.at)) front x.refuses) y.refuses in
+    let both = refused_same (refused cause x.at) (refused other y.at) cause other x.at y.at refl refl same in
+    (both.0, x.stands ∙ (ap (λ w. place_of (length w) x.at) front ∙ (ap (place_of (length y.front)) both.1 ∙ sym y.stands)))
+
+all_left : (P : List ℕ → Type 0) (xs ys : List Placed) (n : Placed) → AllByRecursion P (names_of (xs ++ n ∷ ys)) → P n.declaration.name
+all_left P [] ys n a = a.0
+all_left P (x ∷ xs) ys n a = all_left P xs ys n a.1
+
+not_once : (xs ys : List Placed) (n : Placed) → IsDistinct bytes_eq (names_of (xs ++ n ∷ ys)) → Contains (names_of xs) n.declaration.name → ⊥
+unfolding IsDistinct
+not_once [] ys n u i = in_none n.declaration.name i
+not_once (x ∷ xs) ys n u i = by (λ k. not_once xs ys n u.1 k) (in_cons x.declaration.name (names_of xs) n.declaration.name i)
+  where
+    by : (Contains (names_of xs) n.declaration.name → ⊥) → (x.declaration.name ≡ n.declaration.name) ⊎ Contains (names_of xs) n.declaration.name → ⊥
+    by rec (inl e) =
+        let other : bytes_eq x.declaration.name n.declaration.name ≡ false = all_left (λ m. bytes_eq x.declaration.name m ≡ false) xs ys n u.0 in
+        true≢false (sym (bytes_same x.declaration.name n.declaration.name e) ∙ other)
+    by rec (inr k) = rec k
+
+pub no_dtd : (bytes : List ℕ) (fault : DtdFault) (ds : List Declaration) → IsRefusal fault → IsFaultOf bytes fault → DtdText bytes ds → ⊥
+no_dtd bytes (faults.Malformed p) ds i (l, none, not) m = none deepest_parenthesis m.found m.form
+no_dtd bytes (faults.Unsupported p why) ds i (x, none) m = none deepest_parenthesis m.found m.form
+no_dtd bytes (faults.TooDeep p) ds i (x, none) m = none m.found m.form
+no_dtd bytes (faults.Twice p) ds i (found, form, again) m =
+    let same : m.found ≡ found = (read_same (text_unique deepest_parenthesis bytes (read m.found []) (read found []) m.form.reads form.reads)).0 in
+    not_once again.before again.behind again.again (subst (λ w. IsDistinct bytes_eq (names_of w)) (same ∙ again.parts) m.once) again.twice
+no_dtd bytes faults.NoMemory ds i f m = i

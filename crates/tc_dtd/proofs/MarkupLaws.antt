@@ -67,6 +67,7 @@ module _ (deepest : ℕ) (bs : List ℕ) where
     where
       d : Declaration
       d = record { name = n; content = x }
+
       back : (o : Outcome Declaration) → KeptAt d last o → (p : Outcome (Unit {0})) × EndAt last p
       back o (kept {outcome = u} f w) = (u, f)
 
@@ -258,6 +259,7 @@ module _ (deepest total : ℕ) (bs : List ℕ) where
       no_skipped o (attributes g a) = omega (arith, same_first (same_others (same_others (sym f ∙ g))))
       no_skipped o (notation g a) = omega (arith, same_first (same_others (same_others (sym f ∙ g))))
       no_skipped o (entity g a) = omega (arith, same_first (same_others (same_others (same_others (sym f ∙ g)))))
+
       back : (o : Outcome (List Placed)) → MarkupAt deepest total bs o → (p : Outcome Declaration) × ElementAt deepest rest p
       back o (t.reference g) = absurd (omega (arith, other_byte f g))
       back o (section g) = absurd (omega (arith, same_first (same_others (same_others (sym f ∙ g)))))
@@ -332,7 +334,7 @@ module _ (deepest total : ℕ) (text rest : List ℕ) (all : List Placed) (s : D
       → Declares deepest total text next whole
   declares_more after next whole (ys, e, a) m = record {
     forth = λ o k. subst (λ w. DeclarationsAt deepest total text (outcome_map (λ xs. w ++ xs) o)) (sym e)
-      (subst (DeclarationsAt deepest total text) (map_twice all ys o) (s.forth (outcome_map (λ xs. ys ++ xs) o) (markup a m k refl)));
+        (subst (DeclarationsAt deepest total text) (map_twice all ys o) (s.forth (outcome_map (λ xs. ys ++ xs) o) (markup a m k refl)));
     back = λ o k. let (p, n) = s.back o k in behind p n;
   }
     where
@@ -361,6 +363,7 @@ module _ (deepest total : ℕ) (text rest : List ℕ) (all : List Placed) (s : D
         where
           is_past : (o : Outcome (Unit {0})) → Past MiscAt after o → o ≡ refused c at → ⊥
           is_past o (past {after = r} m) f = read_not f
+
       by : (p : Outcome (List Placed)) → DeclarationsAt deepest total rest p → (u : Outcome (Unit {0})) × Past MiscAt after u
       by p (end f) = absurd (not_empty (read ys after) a f)
       by p (markup_refused {at = at} {cause = c} b) = absurd (read_not (markup_unique deepest total rest (read ys after) (refused c at) a b))

@@ -52,12 +52,15 @@ module _ (kept : List Declaration) where
             kids = kids;
             alone = refl;
             named = sym same ∙ r.named;
-            matched =
-              (sym (same_bytes [] l.uri both.0),
-              (r.x.content, ap (declared kept) (sym same ∙ r.named) ∙ r.is_declared, subst (λ (z : ElementPattern). Matches those kids z.content) is m));
+            matched = (
+              sym (same_bytes [] l.uri both.0),
+              (r.x.content, ap (declared kept) (sym same ∙ r.named) ∙ r.is_declared, subst (λ (z : ElementPattern). Matches those kids z.content) is m),
+            );
           }
+
       a_ref : (k : ℕ) (h : Trees) → number_of kept n ≡ Some k → Matches those h (g.ref k) → IsNamed n h
       a_ref k h i (m_ref {n = l} {c = kids} e at named m) = of_pattern k l kids e (numbered (element_pattern kept) kept n k i) at named m
+
       by : (k : Option ℕ) → number_of kept n ≡ k → Matches those h (elim k [ Some k ↦ g.ref k | None ↦ g.not_allowed ]) → IsNamed n h
       by (Some k) i m = a_ref k h i m
       by None i m = absurd (nothing_allowed h m)

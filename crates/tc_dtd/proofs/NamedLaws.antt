@@ -14,6 +14,7 @@ in_cons y ys x h = by (Contains-append_cases (y ∷ []) ys x h)
   where
     one : Contains (y ∷ []) x → y ≡ x
     one k = elim (Contains-push_cases [] y x k) [ inl (i, low, e) ↦ absurd (omega (arith, low)) | inr e ↦ e ]
+
     by : Contains (y ∷ []) x ⊎ Contains ys x → (y ≡ x) ⊎ Contains ys x
     by (inl k) = inl (one k)
     by (inr k) = inr k
@@ -67,6 +68,7 @@ numbered f (y ∷ ys) n k e = by (λ j i. numbered f ys n j i) (bytes_eq y.name 
           stands = r.stands;
           within = omega (arith, is, r.within);
         }
+
     by : ((j : ℕ) → number_of ys n ≡ Some j → Numbered f ys n j) → (t : Bool) → bytes_eq y.name n ≡ t → cond t (Some 1) (option_map (λ k. k + 1) (number_of ys n)) ≡ Some k
         → Numbered f (y ∷ ys) n k
     by rec true b e =

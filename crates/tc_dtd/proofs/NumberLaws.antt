@@ -111,6 +111,7 @@ at_number (y ∷ ys) n k e = by (bytes_eq y.name n) refl (λ j i. at_number ys n
           is_declared = ap (λ t. cond t (Some y.content) (declared ys n)) b ∙ r.is_declared;
           within = omega (arith, is, r.within);
         }
+
     by : (t : Bool) → bytes_eq y.name n ≡ t → ((j : ℕ) → number_in (names_of ys) n ≡ Some j → At ys n j) → cond t (Some 0) (option_map (λ k. k + 1) (number_in (names_of ys) n)) ≡ Some k → At (y ∷ ys) n k
     by true b rec e =
         let is : 0 ≡ k = some_same e in

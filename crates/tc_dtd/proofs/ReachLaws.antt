@@ -21,6 +21,7 @@ numbered_in ns (m ∷ ms) j h = by (λ k. numbered_in ns ms j k) (number_in ns m
   where
     later : (l : List ℕ) × Contains ms l × (number_in ns l ≡ Some j) → (l : List ℕ) × Contains (m ∷ ms) l × (number_in ns l ≡ Some j)
     later (l, i, e) = (l, in_rest m ms l i, e)
+
     by : (Contains (filter_map (number_in ns) ms) j → (l : List ℕ) × Contains ms l × (number_in ns l ≡ Some j)) → (o : Option ℕ) → number_in ns m ≡ o → Contains (filter_map (number_in ns) (m ∷ ms)) j
         → (l : List ℕ) × Contains (m ∷ ms) l × (number_in ns l ≡ Some j)
     by rec (Some k) e h =
@@ -53,6 +54,7 @@ in_below (suc n) j h = by (λ k. in_below n j k) (cases j n h)
     cases zero (suc n) h = inr (omega arith)
     cases (suc j) zero h = absurd (omega (arith, h))
     cases (suc j) (suc n) h = elim (cases j n (omega (arith, h))) [ inl e ↦ inl (ap suc e) | inr k ↦ inr (omega (arith, k)) ]
+
     by : (j < n → Contains (numbers_below n) j) → (n ≡ j) ⊎ (j < n) → Contains (numbers_below (suc n)) j
     by rec (inl e) = subst (λ z. Contains (numbers_below n ++ n ∷ []) z) e (Contains-push (numbers_below n) n)
     by rec (inr k) = Contains-append_left (numbers_below n) (n ∷ []) j (rec k)
@@ -109,6 +111,7 @@ module _ (dtd : List Declaration) (apart : AreApart (names_of dtd)) where
     where
       of_names : (ms : List (List ℕ)) → Contains (filter_map (number_in (names_of dtd)) ms) j → j ≤ many
       of_names ms i = let (m, k, e) = numbered_in (names_of dtd) ms j i in let r = at_number dtd m j e in omega (arith, r.within)
+
       by : (c : Content) → Contains (row_of (names_of dtd) c) j → j ≤ many
       by nothing i = absurd (in_none j i)
       by anything i = elim (in_cons (length (names_of dtd)) [] j i) [ inl e ↦ omega (arith, e, count_names) | inr k ↦ absurd (in_none j k) ]
@@ -120,6 +123,7 @@ module _ (dtd : List Declaration) (apart : AreApart (names_of dtd)) where
     where
       size : length rows ≡ many + 1
       size = omega (arith, length-append (map row dtd) (numbers_below many ∷ []), length-map dtd row)
+
       by : (k < many) ⊎ ((k ≡ many) ⊎ (many < k)) → j < length rows
       by (inl l) = let (x, e) = get_within dtd k l in let w = row_within x j (edge_of k j x e h) in omega (arith, size, w)
       by (inr (inl e)) =
@@ -140,6 +144,7 @@ module _ (dtd : List Declaration) (apart : AreApart (names_of dtd)) where
       where
         of : (c : Content) → x.content ≡ c → declared dtd x.name ≡ Some c
         of c i = declared_at dtd k x apart e ∙ ap Some i
+
         by : (c : Content) → x.content ≡ c → Contains (row_of (names_of dtd) c) j → Means j
         by nothing i l = absurd (in_none j l)
         by anything i l = elim (in_cons (length (names_of dtd)) [] j l) [ inl f ↦ inr ((sym f ∙ count_names), (x.name, r, of anything i)) | inr f ↦ absurd (in_none j f) ]
@@ -171,18 +176,24 @@ module _ (dtd : List Declaration) (apart : AreApart (names_of dtd)) where
       where
         there : (j : ℕ) × (number_in (names_of dtd) m ≡ Some j)
         there = has_place dtd m c f
+
         before : Leads rows from there.0
         before = rec there.0 there.1
+
         at : At dtd m there.0
         at = at_number dtd m there.0 there.1
+
         content_is : (x : Content) → declared dtd m ≡ Some x → at.x.content ≡ x
         content_is x g = some_same (sym at.is_declared ∙ g)
+
         link : (x : Content) → declared dtd m ≡ Some x → (j : ℕ) → Contains (row_of (names_of dtd) x) j → Edge rows there.0 j
         link x g j h = edge_from there.0 j at.x at.stands (subst (λ z. Contains (row_of (names_of dtd) z) j) (sym (content_is x g)) h)
+
         last : Edge rows many k
         last =
             let a = at_number dtd n k e in
             subst (λ z. Contains z k) (sym (row_last row dtd (numbers_below many))) (in_below many k a.within)
+
         by : (x : Content) → declared dtd m ≡ Some x → Contains (mentioned dtd x) n → Leads rows from k
         by nothing g h = absurd (in_none n h)
         by anything g h =
@@ -218,8 +229,10 @@ keeps_marked dtd root marks k (x ∷ xs) h =
   where
     next : (k j : ℕ) → k + suc j ≡ (k + 1) + j
     next k j = omega arith
+
     here : (is_marked marks k ≡ true) ↔ IsReached dtd root x.name
     here = let z : k + 0 ≡ k = omega arith in subst (λ n. (is_marked marks n ≡ true) ↔ IsReached dtd root x.name) z (h 0 x refl)
+
     by : (b : Bool) → is_marked marks k ≡ b → Keeps dtd root xs (marked_from (k + 1) marks xs) → Keeps dtd root (x ∷ xs) (marked_from k marks (x ∷ xs))
     by true e rest =
         subst (λ b. Keeps dtd root (x ∷ xs) (cond b (x ∷ marked_from (k + 1) marks xs) (marked_from (k + 1) marks xs))) (sym e) (keeps (here.0 e) rest)
@@ -251,8 +264,10 @@ keeps_nothing dtd root none = by dtd (λ x i r. not_here x i (only_root dtd root
         at true b h rec = (0, rw b refl)
         at false b (inl h) rec = let t = bytes_same y.name n h in absurd (cc)
         at false b (inr h) rec = let (k, e) = rec h in (k + 1, rw (b, e) refl)
+
     not_here : (x : Declaration) → Contains (names_of dtd) x.name → x.name ≡ root → ⊥
     not_here x i e = let (k, f) = in_place dtd root (subst (Contains (names_of dtd)) e i) in let both : None ≡ Some k = sym none ∙ f in cc
+
     by : (xs : List Declaration) → ((x : Declaration) → Contains (names_of xs) x.name → IsReached dtd root x.name → ⊥) → Keeps dtd root xs []
     by [] h = keeps_none
     by (x ∷ xs) h = leaves (h x (in_first x.name (names_of xs))) (by xs (λ y i. h y (in_rest x.name (names_of xs) y.name i)))

@@ -65,9 +65,10 @@ module _ (dtd : List Declaration) (root : List ℕ) (kept : List Declaration) (k
       → ((m : List ℕ) → Contains ns m → Contains (mentioned dtd c) m) → AreReached kids
   named_reached n c r e none ns a f = tt
   named_reached n c r e (text s rest) ns a f = absurd a
-  named_reached n c r e (element l kids rest) ns (ms, i, a) f =
-      (within r e (f l.local (subst (λ w. Contains w l.local) (sym i) (in_first l.local ms))),
-      named_reached n c r e rest ms a (λ m k. f m (subst (λ w. Contains w m) (sym i) (in_rest l.local ms m k))))
+  named_reached n c r e (element l kids rest) ns (ms, i, a) f = (
+    within r e (f l.local (subst (λ w. Contains w l.local) (sym i) (in_first l.local ms))),
+    named_reached n c r e rest ms a (λ m k. f m (subst (λ w. Contains w m) (sym i) (in_rest l.local ms m k))),
+  )
 
   among_reached : (n : List ℕ) (c : Content) → IsReached dtd root n → declared dtd n ≡ Some c → (kids : Trees) → AreAmong (mentioned dtd c) kids → AreReached kids
   among_reached n c r e none a = tt
@@ -107,15 +108,17 @@ module _ (dtd : List Declaration) (root : List ℕ) (kept : List Declaration) (k
       let alone : rest ≡ none = is.is_document.0 in
       let reached : IsReached dtd root n.local = subst (IsReached dtd root) (sym is.named) at_root in
       let ends : AreReached rest = subst AreReached (sym alone) tt in
-      let m = are_matched (element n kids rest) is.elements (reached, ends) in
-      (is.is_document,
-      subst (λ z. Matches (those kept) (element n kids z) (reference kept root)) (sym alone)
-      (subst (λ w. Matches (those kept) (element n kids none) (reference kept w)) is.named (matched_reference kept n kids m.0)))
+      let m = are_matched (element n kids rest) is.elements (reached, ends) in (
+        is.is_document,
+        subst (λ z. Matches (those kept) (element n kids z) (reference kept root)) (sym alone)
+            (subst (λ w. Matches (those kept) (element n kids none) (reference kept w)) is.named (matched_reference kept n kids m.0)),
+      )
 
 pub law_of_validity : (dtd : List Declaration) (root : List ℕ) (grammar : g.Grammar) → IsGrammarOfDtd dtd root grammar → (h : Trees) → IsValid grammar h ↔ IsDtdValid dtd root h
-law_of_validity dtd root grammar is h =
-    ((λ k. valid_here dtd root is.kept is.keeps_reached h (subst (λ x. IsValid x h) is.is_grammar k)),
-    (λ k. subst (λ x. IsValid x h) (sym is.is_grammar) (valid_there dtd root is.kept is.keeps_reached h k)))
+law_of_validity dtd root grammar is h = (
+  (λ k. valid_here dtd root is.kept is.keeps_reached h (subst (λ x. IsValid x h) is.is_grammar k)),
+  (λ k. subst (λ x. IsValid x h) (sym is.is_grammar) (valid_there dtd root is.kept is.keeps_reached h k)),
+)
 
 -- the grammar is well-formed
 
@@ -173,11 +176,12 @@ module _ (kept : List Declaration) where
 pub law_of_grammar : (dtd : List Declaration) (root : List ℕ) (grammar : g.Grammar) → AreDeclarations dtd → IsGrammarOfDtd dtd root grammar → IsGrammar grammar × IsStart grammar.start
 law_of_grammar dtd root grammar are is =
     let kept = is.kept in
-    let well : IsGrammar (grammar_with kept root) =
-    (a_reference kept root,
-    All-from_recursion (IsElementPattern (length (map (element_pattern kept) kept))) (map (element_pattern kept) kept)
-    (some_elements kept kept
-    (kept_all (λ x. IsNcName x.name) dtd root dtd kept is.keeps_reached are.names) (kept_all (λ x. IsContent x.content) dtd root dtd kept is.keeps_reached are.contents))) in
+    let well : IsGrammar (grammar_with kept root) = (
+      a_reference kept root,
+      All-from_recursion (IsElementPattern (length (map (element_pattern kept) kept))) (map (element_pattern kept) kept)
+          (some_elements kept kept
+          (kept_all (λ x. IsNcName x.name) dtd root dtd kept is.keeps_reached are.names) (kept_all (λ x. IsContent x.content) dtd root dtd kept is.keeps_reached are.contents)),
+    ) in
     subst (λ (x : g.Grammar). IsGrammar x × IsStart x.start) (sym is.is_grammar) (well, starts kept root)
   where
     starts : (kept : List Declaration) (root : List ℕ) → IsStart (reference kept root)

@@ -33,7 +33,7 @@ pub data TextDeclarationAt : List ℕ → Outcome (Unit {0}) → Type 0 where
   declaration : {bs rest : List ℕ} {outcome : Outcome (Unit {0})} → bs ≡ codes "<?xml" ++ rest → IsOpened rest → Then VersionAt (λ _. SettingsAt) rest outcome
       → TextDeclarationAt bs outcome
 
--- this mark stands at the front, or a reference
+-- white space, as much as there is, and the `>` that ends a declaration
 pub data EndAt : List ℕ → Outcome (Unit {0}) → Type 0 where
   closed : {bs after : List ℕ} → after_white bs ≡ 0x3E ∷ after → EndAt bs (read tt after)
   reference : {bs r : List ℕ} → after_white bs ≡ 0x25 ∷ r → EndAt bs (refused (unsupported N53) (0x25 ∷ r))

@@ -13,3 +13,4 @@ pub mod Numbers
 pub mod Sizes
 pub mod Built
 pub mod Refused
+pub mod DtdTextLaws

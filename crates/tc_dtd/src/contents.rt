@@ -171,10 +171,7 @@ fn joined<'b, 't>(
 }
 
 /// The names of mixed content, and what follows the parenthesis that closes it (XML 1.0, 3.2.2, [51]).
-fn mixed_names<'b, 't>(
-    arena: &'b Bump,
-    text: &'t str,
-) -> Result<(&'b [&'b str], &'t str), Stop>
+fn mixed_names<'b, 't>(arena: &'b Bump, text: &'t str) -> Result<(&'b [&'b str], &'t str), Stop>
     ensures ok { IfOk result (λ r. form.NamesAt text.now (read (see.names r.0.now) r.1.now)) }
     ensures no { IfErr result (λ e. Stops e (form.NamesAt text.now)) }
 {

@@ -109,10 +109,7 @@ fn past_mark(text: &str) -> &str
 }
 
 /// All declarations of elements of a text (XML 1.0, 2.8).
-pub(crate) fn all_placed<'b>(
-    arena: &'b Bump,
-    text: &str,
-) -> Result<Vec<Placed<'b>, &'b Bump>, Stop>
+pub(crate) fn all_placed<'b>(arena: &'b Bump, text: &str) -> Result<Vec<Placed<'b>, &'b Bump>, Stop>
     requires { length text.now ≤ 67108864 }
     ensures ok { IfOk result (λ v. whole.TextAt whole.deepest_parenthesis text.now (read (map placed v.items) [])) }
     ensures no { IfErr result (λ e. Stops e (whole.TextAt whole.deepest_parenthesis text.now)) }

@@ -14,10 +14,7 @@ use std::hash::{BuildHasherDefault, FoldHasher};
 use tc_base::{NoMemory, Place};
 
 /// The place of the first declaration of an element that was declared before.
-pub(crate) fn first_again(
-    arena: &Bump,
-    found: &[Placed<'_>],
-) -> Result<Option<Place>, NoMemory>
+pub(crate) fn first_again(arena: &Bump, found: &[Placed<'_>]) -> Result<Option<Place>, NoMemory>
     ensures { IfOk result (λ o. MatchOption o (IsDistinct bytes_eq (names_of (map placed found.now))) (λ p. FirstAgain (map placed found.now) p.0)) }
 {
     let mut seen: IndexSet<&str, BuildHasherDefault<FoldHasher>, &Bump> = IndexSet::new(arena);

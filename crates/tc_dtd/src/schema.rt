@@ -93,11 +93,7 @@ fn local_names<'b>(arena: &'b Bump, decls: &[Decl<'b>]) -> Result<&'b [&'b str],
 }
 
 /// The grammar of these elements.
-fn built<'b>(
-    arena: &'b Bump,
-    decls: &[Decl<'b>],
-    root: &'b str,
-) -> Result<Grammar<'b>, OutOfMemory>
+fn built<'b>(arena: &'b Bump, decls: &[Decl<'b>], root: &'b str) -> Result<Grammar<'b>, OutOfMemory>
     requires once { AreApart (map (λ x. x.name) (map see.declaration decls.now)) }
     requires few { length decls.now ≤ 256 }
     ensures { IfOk result (λ g. seen.grammar g ≡ grammar_with (map see.declaration decls.now) root.now) }

@@ -23,9 +23,21 @@ fn elements_that_are_reached_are_kept(rt: HostRuntime) {
         (b"<!ELEMENT a (b*)><!ELEMENT b EMPTY>", "b", 1),
         (b"<!ELEMENT a (b*)><!ELEMENT b EMPTY>", "z", 0),
         (b"<!ELEMENT a (z)>", "a", 1),
-        (b"<!ELEMENT b EMPTY><!ELEMENT a ANY><!ELEMENT c EMPTY>", "a", 3),
-        (b"<!ELEMENT a (b)><!ELEMENT b ANY><!ELEMENT c EMPTY>", "a", 3),
-        (b"<!ELEMENT a (#PCDATA|c)*><!ELEMENT b ANY><!ELEMENT c EMPTY>", "a", 2),
+        (
+            b"<!ELEMENT b EMPTY><!ELEMENT a ANY><!ELEMENT c EMPTY>",
+            "a",
+            3,
+        ),
+        (
+            b"<!ELEMENT a (b)><!ELEMENT b ANY><!ELEMENT c EMPTY>",
+            "a",
+            3,
+        ),
+        (
+            b"<!ELEMENT a (#PCDATA|c)*><!ELEMENT b ANY><!ELEMENT c EMPTY>",
+            "a",
+            2,
+        ),
         (b"<!ELEMENT a (a)>", "a", 1),
     ];
     for (text, root, count) in table {
@@ -48,7 +60,10 @@ fn there_are_256_elements(rt: HostRuntime) -> Result<(), Fail> {
     let most = chain(rt, 256)?;
     assert_eq!(rt; elements(rt, most.as_bytes(), "e1"), Ok(256));
     let more = chain(rt, 257)?;
-    assert_eq!(rt; elements(rt, more.as_bytes(), "e1"), Err(DtdGrammarFault::TooManyElements));
+    assert_eq!(rt;
+        elements(rt, more.as_bytes(), "e1"),
+        Err(DtdGrammarFault::TooManyElements)
+    );
     assert_eq!(rt; elements(rt, more.as_bytes(), "e2"), Ok(256));
     Ok(())
 }
@@ -59,6 +74,9 @@ fn nodes_are_counted(rt: HostRuntime) -> Result<(), Fail> {
     for number in 0..10000u32 {
         write!(text, "<!ELEMENT e{number} ANY>")?;
     }
-    assert_eq!(rt; elements(rt, text.as_bytes(), "e0"), Err(DtdGrammarFault::TooManyNodes));
+    assert_eq!(rt;
+        elements(rt, text.as_bytes(), "e0"),
+        Err(DtdGrammarFault::TooManyNodes)
+    );
     Ok(())
 }

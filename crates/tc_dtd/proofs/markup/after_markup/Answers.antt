@@ -19,9 +19,11 @@ returns-in_err-declaration-clause-no c =
 
 pub returns-in-Some-clause-ok : goal.returns-in-Some-clause-ok
 returns-in-Some-clause-ok c =
-    let x = declaration c.in_ok-declaration.declaration in
-    (form.placed c.place_of-place.result.0 x ∷ [], ap (map placed) c.in_ok-push.ensures.items ∙ map-append placed c.args.found.now.items _,
-    an_element_here deepest_parenthesis c.args.total c.args.text.now c.in-Some.rest.now c.in_ok-declaration.after.now x c.place_of-place.result.0 c.in-Some.ensures c.in_ok-declaration.ensures.ok c.place_of-place.ensures)
+    let x = declaration c.in_ok-declaration.declaration in (
+      form.placed c.place_of-place.result.0 x ∷ [],
+      ap (map placed) c.in_ok-push.ensures.items ∙ map-append placed c.args.found.now.items _,
+      an_element_here deepest_parenthesis c.args.total c.args.text.now c.in-Some.rest.now c.in_ok-declaration.after.now x c.place_of-place.result.0 c.in-Some.ensures c.in_ok-declaration.ensures.ok c.place_of-place.ensures,
+    )
 
 pub returns-then-begins-clause-no : goal.returns-then-begins-clause-no
 returns-then-begins-clause-no c = let (r, e) = c.if-begins.ensures in a_section deepest_parenthesis c.args.total c.args.text.now r e
