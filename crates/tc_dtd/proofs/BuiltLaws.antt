@@ -1,5 +1,5 @@
 -- What the steps of making a grammar show of the whole.
-use Rattle.std.proofs.Common.{◌≡◌, ◌≢◌, ◌+◌, ◌<◌, ◌≤◌, ◌^◌, ℕ, zero, suc, Bool, true, false, cond, ◌||◌, not, List, [], ◌∷◌, ◌++◌, refl, ap, ◌∙◌, sym, subst, arith, Option, Some, None, is_some, map, length, drop, take, get_or, bytes_eq, position, append_assoc, append-nil, Bor}
+use Rattle.std.proofs.Common.{◌≡◌, ◌+◌, ◌<◌, ◌≤◌, ℕ, zero, suc, Bool, true, false, cond, ◌||◌, List, [], ◌∷◌, ◌++◌, refl, ap, ◌∙◌, sym, arith, Option, Some, None, is_some, map, length, drop, take, get_or, bytes_eq, position, append_assoc, Bor}
 use Rattle.std.specs.List.{filter_map, list_any, IsDistinct, AllByRecursion}
 use Rattle.std.specs.Option.{option_map}
 use Rattle.std.proofs.lemmas.Bool.{true≢false, false_from_ne_true}
@@ -7,16 +7,15 @@ use Rattle.std.proofs.lemmas.List.Elements.{filter_map-append}
 use Rattle.std.proofs.lemmas.List.{drop_more, drop_all, map-append, take_more, take_all}
 use Rattle.std.proofs.lemmas.List.Quantifiers.{position-Some}
 use Rattle.indexmap.specs.IndexSet.{insert_key}
-use Rattle.tc_graph.specs.Graph.{rows_of, is_marked}
+use Rattle.tc_graph.specs.Graph.{is_marked}
 use Rattle.tc_model.specs.Grammars as g
 use Rattle.tc_model.specs.Grammars.{ElementPattern}
 use Rattle.tc_model.specs.Views as seen
 use Rattle.tc_model.specs.declared.grammar.Pat.{Pat}
-use Rattle.tc_model.specs.declared.grammar.ElemPat.{ElemPat}
 use Rattle.tc_model.proofs.ViewsGrammar.{patterns_then, pushed_pattern, patterns_then_none, patterns_then_assoc}
 use Rattle.tc_dtd.specs.Declarations as t
 use Rattle.tc_dtd.specs.Built as built
-use Rattle.tc_dtd.specs.Numbers.{number_in, row_of, marked_from, AreApart}
+use Rattle.tc_dtd.specs.Numbers.{number_in, marked_from, AreApart}
 use Rattle.tc_dtd.specs.Views as see
 use Rattle.tc_dtd.specs.declared.declarations.Particle.{Particle}
 use Rattle.tc_dtd.specs.declared.declarations.Decl.{Decl}

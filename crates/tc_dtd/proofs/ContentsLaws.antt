@@ -1,8 +1,6 @@
 -- What the steps of reading names and contents show of the whole.
-use Rattle.std.proofs.Common.{◌≡◌, ◌≢◌, ◌⊎◌, inl, inr, ℕ, zero, suc, ◌+◌, ◌-◌, ◌<◌, ◌≤◌, Bool, true, false, List, [], ◌∷◌, ◌++◌, refl, ap, ◌∙◌, sym, subst, length, arith, codes, map, Bor, length-append, length-drop}
-use Rattle.std.specs.List.{prefix_len}
-use Rattle.std.proofs.lemmas.List.{append_cancel_left, map-append}
-use Rattle.tc_base.specs.Characters.{is_white}
+use Rattle.std.proofs.Common.{◌≡◌, ◌≢◌, ◌⊎◌, inl, inr, ℕ, suc, ◌-◌, ◌<◌, List, [], ◌∷◌, ◌++◌, refl, ap, ◌∙◌, sym, subst, length, arith, codes, Bor}
+use Rattle.std.proofs.lemmas.List.{append_cancel_left}
 use Rattle.tc_base.specs.declared.reasons.Why.TheVariants.{N53, N55}
 use Rattle.tc_model.specs.XmlTextBytes.{BeginsWithWhite, after_white}
 use Rattle.tc_model.specs.XmlTextNames.{NcNameAt}
@@ -14,12 +12,11 @@ use Rattle.tc_dtd.specs.DtdTextContents as t
 use Rattle.tc_dtd.specs.DtdTextContents.{SpaceAt, white, NameAt, name, prefix, colon, SuffixAt, no_suffix, question, asterisk, plus, bar, comma, ParticleAt, a_name, a_name_refused, a_group, a_group_refused, GroupAt, depth, inside, ListAt, first_refused, a_sequence, a_choice, RestAt, closed, next_refused, next, NamesAt, MixedAt, no_names, repeated, names_refused, ContentAt, empty, any, mixed, children, children_refused}
 use Rattle.tc_dtd.specs.Stops.{Stops, IsUnexpected}
 use Rattle.tc_dtd.specs.Views as see
-use Rattle.tc_dtd.specs.declared.declarations.Particle as v
 use Rattle.tc_dtd.specs.declared.faults.Stop.{Stop}
-use Rattle.tc_dtd.proofs.OutcomeLaws.{read_same, read_not, left_of, other_byte, same_behind, not_named, white_left, behind_left, behind_white_left}
-use Rattle.tc_dtd.proofs.ContentsUnique.{name_unique, no_parenthesis, group_opens, particle_unique, rest_no_bar, names_unique, name_at_left, particle_left, mixed_no_group, group_unique}
+use Rattle.tc_dtd.proofs.OutcomeLaws.{read_same, read_not, other_byte, same_behind, white_left, behind_white_left}
+use Rattle.tc_dtd.proofs.ContentsUnique.{name_unique, no_parenthesis, group_opens, particle_unique, rest_no_bar, names_unique, name_at_left, particle_left, mixed_no_group}
 use Rattle.tc_dtd.proofs.ReaderLaws.{stops_map, unexpected_stops}
-use Rattle.tc_dtd.proofs.ViewsLaws.{pushed_particle, particles_then, particles_then_none, particles_then_assoc}
+use Rattle.tc_dtd.proofs.ViewsLaws.{particles_then, particles_then_none, particles_then_assoc}
 
 -- white space and names
 

@@ -1,10 +1,9 @@
 -- Names, particles and contents are read in one way; and what parentheses that stand deeper allow is read, or they stand too deep.
-use Rattle.std.proofs.Common.{◌≡◌, ◌≢◌, ◌⊎◌, inl, inr, ◌+◌, ◌<◌, ◌≤◌, ℕ, zero, suc, Bool, true, false, List, [], ◌∷◌, ◌++◌, refl, ap, ◌∙◌, sym, subst, arith, length, length-append, codes}
+use Rattle.std.proofs.Common.{◌≡◌, inl, inr, ◌<◌, ◌≤◌, ℕ, zero, suc, List, [], ◌∷◌, ◌++◌, refl, ap, ◌∙◌, sym, subst, arith, length, length-append, codes}
 use Rattle.std.proofs.lemmas.List.{append_cancel_left}
 use Rattle.tc_base.specs.declared.reasons.Why.TheVariants.{N53, N55}
 use Rattle.tc_model.specs.XmlTextBytes.{after_white}
-use Rattle.tc_model.specs.XmlTextNames.{NcNameAt}
-use Rattle.tc_model.specs.XmlTextRefusals.{Cause, unsupported, too_deep}
+use Rattle.tc_model.specs.XmlTextRefusals.{unsupported}
 use Rattle.tc_model.proofs.XmlTextPhrases.{same_first, same_others, ncname_unique}
 use Rattle.tc_dtd.specs.Declarations as d
 use Rattle.tc_dtd.specs.Declarations.{Particle, Particles, Content}

@@ -1,22 +1,22 @@
 -- Declarations and whole texts are read in one way; and what parentheses that stand deeper allow is read, or they stand too deep.
-use Rattle.std.proofs.Common.{◌≡◌, ◌≢◌, ◌⊎◌, inl, inr, ◌+◌, ◌<◌, ◌≤◌, ℕ, Bool, true, false, List, [], ◌∷◌, ◌++◌, refl, ap, ◌∙◌, sym, subst, arith, length, length-append, length-drop, codes}
+use Rattle.std.proofs.Common.{◌≡◌, ◌⊎◌, inl, inr, ◌+◌, ◌≤◌, ℕ, Bool, true, false, List, [], ◌∷◌, ◌++◌, refl, ap, ◌∙◌, sym, subst, arith, length, length-append, length-drop, codes}
 use Rattle.std.specs.List.{prefix_len}
 use Rattle.std.proofs.lemmas.List.{append_cancel_left}
 use Rattle.tc_base.specs.declared.reasons.Why.TheVariants.{N53}
 use Rattle.tc_model.specs.XmlText.{after_mark}
 use Rattle.tc_model.specs.XmlTextBytes.{place_of, after_white, IsQuote}
 use Rattle.tc_model.specs.XmlTextMisc.{StandaloneAt, MiscAt}
-use Rattle.tc_model.specs.XmlTextRefusals.{Cause, unsupported, too_deep}
+use Rattle.tc_model.specs.XmlTextRefusals.{unsupported}
 use Rattle.tc_model.proofs.XmlTextPhrases.{same_first, same_others, setting_unique, encoding_unique, standalone_unique, misc_unique}
 use Rattle.tc_model.proofs.XmlTextRefused.{start_same, encoding_no_encoding}
-use Rattle.tc_dtd.specs.Declarations.{Content, Declaration}
+use Rattle.tc_dtd.specs.Declarations.{Declaration}
 use Rattle.tc_dtd.specs.Outcomes.{Outcome, read, refused, outcome_map, Then, Past}
 use Rattle.tc_dtd.specs.DtdTextContents as c
 use Rattle.tc_dtd.specs.DtdTextContents.{SpaceAt, NameAt, ContentAt}
 use Rattle.tc_dtd.specs.DtdTextDeclarations as t
 use Rattle.tc_dtd.specs.DtdTextDeclarations.{VersionAt, no_version, version, other_version, SettingsAt, settings, other_encoding, TextDeclarationAt, no_declaration, declaration, EndAt, closed, KeptAt, kept, ElementAt, passed, is_skipped, is_within, SkipsAt, literal, literal_reference, SkippedAt, attributes, notation, entity, Placed, placed, MarkupAt, section, element, skipped, DeclarationsAt, end, markup_refused, markup}
 use Rattle.tc_dtd.specs.DtdText.{TextAt}
-use Rattle.tc_dtd.proofs.OutcomeLaws.{read_same, read_not, left_of, left_map, IsRead, read_under, Kept, then_unique, then_left, then_kept, same_kept, past_unique, other_byte, same_behind, white_left, behind_left, behind_white_left}
+use Rattle.tc_dtd.proofs.OutcomeLaws.{read_same, read_not, left_of, left_map, IsRead, read_under, Kept, then_unique, then_left, then_kept, same_kept, past_unique, other_byte, same_behind, white_left, behind_white_left}
 use Rattle.tc_dtd.proofs.ContentsUnique.{space_unique, name_unique, content_unique, name_at_left, content_left, content_kept, whole_same}
 
 -- the XML declaration

@@ -1,8 +1,7 @@
 -- What a fault says, from why reading stops; and declarations that are read.
-use Rattle.std.proofs.Common.{◌≡◌, ◌≢◌, ◌⊎◌, inl, inr, ℕ, ◌+◌, ◌-◌, ◌≤◌, Bool, true, false, not, ◌||◌, List, [], ◌∷◌, ◌++◌, refl, ap, ◌∙◌, sym, subst, length, map, arith, length-append, bytes_eq, take, drop, get_or, Bor, take-append-drop}
-use Rattle.std.specs.List.{IsDistinct, Contains, AllByRecursion, list_any}
+use Rattle.std.proofs.Common.{◌≡◌, ◌≢◌, ◌⊎◌, inl, inr, ℕ, ◌-◌, ◌≤◌, false, not, List, [], ◌∷◌, ◌++◌, refl, ap, ◌∙◌, sym, subst, length, map, arith, length-append, bytes_eq}
+use Rattle.std.specs.List.{IsDistinct, Contains, AllByRecursion}
 use Rattle.std.proofs.lemmas.Bool.{true≢false}
-use Rattle.std.proofs.lemmas.List.{drop_more}
 use Rattle.tc_model.specs.Names.{IsNcName}
 use Rattle.tc_model.specs.XmlText.{after_mark}
 use Rattle.tc_model.specs.XmlTextBytes.{place_of, FrontOf, after_white}
@@ -17,7 +16,7 @@ use Rattle.tc_dtd.specs.DtdTextContents as c
 use Rattle.tc_dtd.specs.DtdTextContents.{SpaceAt, NameAt, SuffixAt, ParticleAt, GroupAt, ListAt, RestAt, MixedAt, ContentAt}
 use Rattle.tc_dtd.specs.DtdTextDeclarations as t
 use Rattle.tc_dtd.specs.DtdTextDeclarations.{KeptAt, ElementAt, Placed, placed, MarkupAt, DeclarationsAt}
-use Rattle.tc_dtd.specs.DtdText.{TextAt, deepest_parenthesis, HasForm, names_of, DtdText, FirstAgain, DtdTextRefuses, IsNotRefused}
+use Rattle.tc_dtd.specs.DtdText.{TextAt, deepest_parenthesis, HasForm, names_of, DtdText, DtdTextRefuses, IsNotRefused}
 use Rattle.tc_dtd.specs.Faults.{IsFaultOf, fault_of, IsDeclaredOnce, IsAgain}
 use Rattle.tc_dtd.specs.Stops.{Stops}
 use Rattle.tc_dtd.specs.declared.faults.Stop.{Stop}

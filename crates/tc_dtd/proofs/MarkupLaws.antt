@@ -1,15 +1,14 @@
 -- What the steps of reading declarations show of the whole.
-use Rattle.std.proofs.Common.{◌≡◌, ◌≢◌, ◌⊎◌, inl, inr, ℕ, zero, suc, ◌+◌, ◌-◌, ◌<◌, ◌≤◌, Bool, true, false, not, ◌||◌, ◌&&◌, ◌==◌, List, [], ◌∷◌, ◌++◌, refl, ap, ◌∙◌, sym, subst, length, arith, codes, map, drop, get_or, Option, Some, None, IsUtf8, IsCharBoundary, length-append, length-drop, get_or-drop}
+use Rattle.std.proofs.Common.{◌≡◌, ◌≢◌, ◌⊎◌, inl, inr, ℕ, suc, ◌+◌, ◌<◌, ◌≤◌, Bool, true, false, not, ◌||◌, ◌&&◌, ◌==◌, List, [], ◌∷◌, ◌++◌, refl, ap, ◌∙◌, sym, subst, length, arith, codes, drop, get_or, IsUtf8, IsCharBoundary, length-drop}
 use Rattle.std.specs.List.{prefix_len}
 use Rattle.std.proofs.lemmas.Bool.{true≢false, eqb-true}
-use Rattle.std.proofs.lemmas.List.{append_cancel_left, map-append, drop_more}
-use Rattle.std.proofs.lemmas.List.Sums.{prefix_len-le-length}
+use Rattle.std.proofs.lemmas.List.{append_cancel_left, drop_more}
 use Rattle.std.proofs.lemmas.Str.{IsCharBoundary-after_ascii}
 use Rattle.tc_base.specs.declared.reasons.Why.TheVariants.{N53, N54}
 use Rattle.tc_model.specs.XmlText.{after_mark}
 use Rattle.tc_model.specs.XmlTextBytes.{after_white, place_of, IsQuote}
 use Rattle.tc_model.specs.XmlTextMisc.{MiscAt}
-use Rattle.tc_model.specs.XmlTextRefusals.{Cause, unsupported, too_deep}
+use Rattle.tc_model.specs.XmlTextRefusals.{Cause, unsupported}
 use Rattle.tc_model.proofs.XmlTextPhrases.{same_first, same_others, misc_unique}
 use Rattle.tc_dtd.specs.Declarations.{Content, Declaration}
 use Rattle.tc_dtd.specs.Outcomes.{Outcome, read, refused, outcome_map, Then, goes_on, Past, past}
@@ -19,9 +18,9 @@ use Rattle.tc_dtd.specs.DtdTextDeclarations.{EndAt, closed, KeptAt, kept, Elemen
 use Rattle.tc_dtd.specs.DtdText.{TextAt}
 use Rattle.tc_dtd.specs.Stops.{Stops, IsUnexpected}
 use Rattle.tc_dtd.specs.declared.faults.Stop.{Stop}
-use Rattle.tc_dtd.proofs.OutcomeLaws.{read_same, read_not, left_of, other_byte, same_behind}
+use Rattle.tc_dtd.proofs.OutcomeLaws.{read_same, read_not, other_byte, same_behind}
 use Rattle.tc_dtd.proofs.ContentsUnique.{space_unique, name_unique, content_unique}
-use Rattle.tc_dtd.proofs.DeclarationsUnique.{Behind_name, With_content, end_unique, kept_unique, element_unique, markup_unique, markup_left, skipped_unique, skips_unique, text_declaration_unique, misc_past_unique, passed_left}
+use Rattle.tc_dtd.proofs.DeclarationsUnique.{Behind_name, With_content, markup_unique, markup_left, text_declaration_unique, misc_past_unique, passed_left}
 use Rattle.tc_dtd.proofs.ReaderLaws.{stops_map, stops_first, stops_second, unexpected_stops, misc_left}
 
 -- the end of a declaration

@@ -1,8 +1,7 @@
 -- Names by their numbers: what is numbered is declared, and what contents become is the same by names and by numbers.
-use Rattle.std.proofs.Common.{◌≡◌, ◌≢◌, ◌⊎◌, inl, inr, ◌+◌, ◌<◌, ◌≤◌, ℕ, zero, suc, Bool, true, false, cond, List, [], ◌∷◌, ◌++◌, refl, ap, ◌∙◌, sym, subst, arith, Option, Some, None, map, length, bytes_eq, slice_get}
-use Rattle.std.specs.List.{Contains, AllByRecursion, IsDistinct}
+use Rattle.std.proofs.Common.{◌≡◌, ◌+◌, ◌<◌, ℕ, zero, suc, Bool, true, false, cond, List, [], ◌∷◌, refl, ap, ◌∙◌, sym, subst, arith, Option, Some, None, map, length, bytes_eq, slice_get}
+use Rattle.std.specs.List.{AllByRecursion, IsDistinct}
 use Rattle.std.specs.Option.{option_map}
-use Rattle.std.proofs.lemmas.Bool.{true≢false}
 use Rattle.tc_model.specs.Grammars as g
 use Rattle.tc_model.specs.Grammars.{Pattern, Patterns, ElementPattern}
 use Rattle.tc_model.specs.Simplifies.{both}

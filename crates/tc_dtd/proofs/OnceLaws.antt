@@ -1,12 +1,12 @@
 -- Elements that are declared more than once.
-use Rattle.std.proofs.Common.{◌≡◌, ◌+◌, ◌<◌, ◌≤◌, ℕ, zero, suc, Bool, true, false, cond, ◌||◌, not, List, [], ◌∷◌, ◌++◌, refl, ap, ◌∙◌, sym, subst, arith, length, map, take, drop, get_or, bytes_eq, take-append-drop, Bor}
+use Rattle.std.proofs.Common.{◌≡◌, ◌+◌, ◌<◌, ◌≤◌, ℕ, Bool, true, false, cond, ◌||◌, not, List, [], ◌∷◌, ◌++◌, refl, ap, ◌∙◌, sym, subst, length, map, take, drop, get_or, bytes_eq, take-append-drop, Bor}
 use Rattle.std.specs.List.{IsDistinct, AllByRecursion, Contains, list_any}
 use Rattle.std.proofs.lemmas.Bool.{true≢false}
 use Rattle.std.proofs.lemmas.List.{drop_more, map-append, take_all, take_more}
 use Rattle.indexmap.specs.IndexSet.{insert_key}
 use Rattle.tc_dtd.specs.DtdText.{names_of, FirstAgain}
 use Rattle.tc_dtd.specs.Seen.{placed}
-use Rattle.tc_dtd.specs.Views.{names, declaration}
+use Rattle.tc_dtd.specs.Views.{names}
 use Rattle.tc_dtd.specs.declared.markup.Placed.{Placed}
 use Rattle.tc_dtd.proofs.NamedLaws.{in_first, in_rest, same_bytes}
 

@@ -1,12 +1,12 @@
 -- What reading a phrase comes to is one thing: laws of single phrases, and of one phrase and then another.
-use Rattle.std.proofs.Common.{◌≡◌, ◌≢◌, ◌⊎◌, inl, inr, ◌+◌, ◌≤◌, ℕ, Bool, true, false, List, [], ◌∷◌, ◌++◌, refl, ap, ◌∙◌, sym, subst, arith, length, length-append, length-drop, codes}
+use Rattle.std.proofs.Common.{◌≡◌, ◌⊎◌, inl, inr, ◌+◌, ◌≤◌, ℕ, false, List, ◌∷◌, refl, ap, ◌∙◌, sym, subst, arith, length, length-append, length-drop}
 use Rattle.std.specs.List.{prefix_len}
 use Rattle.tc_base.specs.Characters.{is_white}
 use Rattle.tc_model.specs.Names.{is_ncname_start}
 use Rattle.tc_model.specs.XmlTextBytes.{BeginsWithWhite, after_white}
 use Rattle.tc_model.specs.XmlTextNames.{NcNameAt}
 use Rattle.tc_model.specs.XmlTextRefusals.{Cause, too_deep}
-use Rattle.tc_model.proofs.XmlTextPhrases.{same_first, same_others, ncname_unique, no_name}
+use Rattle.tc_model.proofs.XmlTextPhrases.{same_first, same_others, no_name}
 use Rattle.tc_dtd.specs.Outcomes.{Outcome, read, refused, outcome_map, Then, stops, goes_on, Past, past}
 
 pub read_same : {A : Type 0} {a b : A} {r s : List ℕ} → read a r ≡ read b s → (a ≡ b) × (r ≡ s)

@@ -1,5 +1,5 @@
 -- Why a phrase isn't at the front of a text, where one of its parts is missing; and what the parts that are read make.
-use Rattle.std.proofs.Common.{bytes_eq, ◌≡◌, ◌≢◌, ◌⊎◌, inl, inr, ℕ, suc, ◌+◌, ◌-◌, ◌<◌, ◌≤◌, Bool, true, false, not, List, [], ◌∷◌, ◌++◌, refl, ap, ◌∙◌, sym, subst, length, arith, Option, None, Some, MatchOption, Result, Ok, Err, IfOk, IfErr, codes, length-append, length-drop, map}
+use Rattle.std.proofs.Common.{bytes_eq, ◌≡◌, ◌⊎◌, inl, inr, ℕ, ◌+◌, ◌<◌, ◌≤◌, true, false, List, [], ◌∷◌, ◌++◌, refl, ap, ◌∙◌, sym, subst, length, arith, Option, None, Some, MatchOption, Result, Ok, Err, IfOk, IfErr, codes, length-append, length-drop}
 use Rattle.std.specs.Str.{str_eq_ignore_ascii_case, str_to_ascii_lowercase}
 use Rattle.std.specs.List.{prefix_len}
 use Rattle.std.specs.Result.{IsErrAnd}
@@ -8,14 +8,14 @@ use Rattle.std.proofs.lemmas.Bool.{true≢false, false_from_ne_true}
 use Rattle.std.proofs.lemmas.List.{append_cancel_left}
 use Rattle.std.proofs.lemmas.Result.{err_from_is_err_and}
 use Rattle.tc_base.specs.Characters.{is_white}
-use Rattle.tc_base.specs.declared.reasons.Why.TheVariants.{N3, N5, N53, N55}
+use Rattle.tc_base.specs.declared.reasons.Why.TheVariants.{N3, N5, N53}
 use Rattle.tc_model.specs.XmlTextBytes.{BeginsWithWhite, after_white, length_before, UpTo, LiteralAt, EqualsAt}
 use Rattle.tc_model.specs.XmlTextNames.{NcNameAt}
 use Rattle.tc_model.specs.XmlTextMisc.{CommentAt, InstructionAt, SettingAt, LacksWord, IsReadEncoding, EncodingAt, no_encoding, encoding, StandaloneAt, no_standalone, standalone, IsNoMisc, MiscAt, no_more, comment, instruction}
 use Rattle.tc_model.specs.XmlTextRefusals.{Cause, unsupported, too_deep}
-use Rattle.tc_model.proofs.XmlTextPhrases.{same_first, same_others, ncname_unique, up_to_unique, literal_unique, equals_unique, setting_unique, encoding_unique, standalone_unique, comment_unique, instruction_unique, misc_unique}
+use Rattle.tc_model.proofs.XmlTextPhrases.{same_first, same_others, ncname_unique, up_to_unique, equals_unique, encoding_unique, standalone_unique, comment_unique, instruction_unique}
 use Rattle.tc_model.proofs.XmlTextRefused.{start_same, encoding_no_encoding}
-use Rattle.tc_dtd.specs.Outcomes.{Outcome, read, refused, outcome_map, Then, stops, goes_on, Past, past}
+use Rattle.tc_dtd.specs.Outcomes.{Outcome, read, refused, Then, stops, goes_on, Past, past}
 use Rattle.tc_dtd.specs.Stops.{Stops, Breaks, IsUnexpected}
 use Rattle.tc_dtd.specs.declared.faults.Stop.{Stop}
 use Rattle.tc_dtd.specs.declared.faults.Stop.TheVariants.{Malformed, Unsupported, TooDeep, NoMemory}

@@ -1,5 +1,5 @@
 -- The sizes of what declarations become.
-use Rattle.std.proofs.Common.{Some, None, ◌≡◌, ◌+◌, ◌<◌, ◌≤◌, ℕ, List, [], ◌∷◌, refl, ap, ◌∙◌, sym, arith, map, length, max, Ok, Err, Result}
+use Rattle.std.proofs.Common.{Some, None, ◌≡◌, ◌+◌, ◌<◌, ◌≤◌, ℕ, List, [], ◌∷◌, refl, ap, ◌∙◌, sym, arith, map, length, max}
 use Rattle.std.specs.Prelude.{sum}
 use Rattle.std.proofs.lemmas.List.{length-map}
 use Rattle.std.proofs.lemmas.List.Sums.{sum_by-cons}

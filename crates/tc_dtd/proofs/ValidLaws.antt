@@ -1,10 +1,9 @@
 -- The grammar of declarations allows the documents that are valid for them.
-use Rattle.std.proofs.Common.{◌≡◌, ◌≢◌, ◌⊎◌, inl, inr, ◌+◌, ◌≤◌, ◌↔◌, ℕ, suc, Bool, true, false, List, [], ◌∷◌, ◌++◌, refl, ap, ◌∙◌, sym, subst, arith, Option, Some, None, map, length, bytes_eq}
-use Rattle.std.specs.List.{Contains, All, AllByRecursion}
-use Rattle.std.proofs.lemmas.List.{length-map}
+use Rattle.std.proofs.Common.{◌≡◌, ◌≢◌, inl, inr, ◌↔◌, ℕ, List, [], ◌∷◌, refl, sym, subst, arith, Option, Some, None, map, length}
+use Rattle.std.specs.List.{Contains, AllByRecursion}
 use Rattle.std.proofs.lemmas.List.Elements.{Contains-append_left, Contains-append_right, Contains-append_cases, All-from_recursion}
-use Rattle.tc_model.specs.Names.{ExpandedName, IsNcName}
-use Rattle.tc_model.specs.Trees.{Trees, none, text, element, IsDocument}
+use Rattle.tc_model.specs.Names.{IsNcName}
+use Rattle.tc_model.specs.Trees.{Trees, none, text, element}
 use Rattle.tc_model.specs.Grammars as g
 use Rattle.tc_model.specs.Grammars.{Pattern, Patterns, ElementPattern, IsPattern, ArePatterns, IsElementPattern, IsGrammar}
 use Rattle.tc_model.specs.Matching.{Matches}
@@ -16,7 +15,7 @@ use Rattle.tc_dtd.specs.DtdValidity as v
 use Rattle.tc_dtd.specs.DtdValidity.{Allows, a_name, a_sequence, a_choice, an_option, no_option, some, at_least_one, AllowsAll, all_end, all_more, AllowsOne, AllowsRepeated, no_part, one_part, AreElements, AreAmong, AllowsChildren, AreAsDeclared, IsRootNamed, IsDtdValid}
 use Rattle.tc_dtd.specs.DtdGrammar.{mentioned, IsReached, at_root, within, Keeps, number_of, reference, references, with_texts, particle_pattern, particle_patterns, content_pattern, element_pattern, grammar_with, IsGrammarOfDtd}
 use Rattle.tc_dtd.proofs.NamedLaws.{in_none, in_first, in_rest, numbered, declared_name, kept_declared, declared_kept, kept_all}
-use Rattle.tc_dtd.proofs.MatchLaws.{AreMatched, IsMatched, those, reference_matched, matched_reference, content_matched, matched_content}
+use Rattle.tc_dtd.proofs.MatchLaws.{AreMatched, those, reference_matched, matched_reference, content_matched, matched_content}
 
 -- the names that a particle allows stand in it
 

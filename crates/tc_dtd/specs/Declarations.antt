@@ -1,5 +1,5 @@
 -- What a document type definition declares of elements (XML 1.0, Fifth Edition, 3.2, whose numbers are meant by "XML").
-use Rattle.std.specs.Prelude.{ℕ, List, [], ◌∷◌, ◌++◌, map, ◌≢◌, Bool, bytes_eq, Option, None, Some, if◌then◌else◌}
+use Rattle.std.specs.Prelude.{ℕ, List, [], ◌∷◌, ◌++◌, map, ◌≢◌, bytes_eq, Option, None, Some, if◌then◌else◌}
 use Rattle.std.specs.List.{IsDistinct, AllByRecursion}
 use Rattle.tc_model.specs.Names.{IsNcName}
 

@@ -5,7 +5,7 @@ use Rattle.tc_base.specs.declared.reasons.Why.TheVariants.{N3, N5, N53, N54}
 use Rattle.tc_model.specs.XmlTextBytes.{place_of, BeginsWithWhite, after_white, IsQuote}
 use Rattle.tc_model.specs.XmlTextMisc.{SettingAt, LacksWord, IsReadEncoding, EncodingAt, StandaloneAt, MiscAt}
 use Rattle.tc_model.specs.XmlTextRefusals.{Cause, unsupported}
-use Rattle.tc_dtd.specs.Declarations.{Content, Declaration}
+use Rattle.tc_dtd.specs.Declarations.{Declaration}
 use Rattle.tc_dtd.specs.Outcomes.{Outcome, read, refused, outcome_map, Then}
 use Rattle.tc_dtd.specs.DtdTextContents.{SpaceAt, NameAt, ContentAt}
 

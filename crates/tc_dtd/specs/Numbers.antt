@@ -3,7 +3,7 @@ use Rattle.std.specs.Prelude.{ℕ, zero, suc, ◌+◌, Bool, List, [], ◌∷◌
 use Rattle.std.specs.List.{filter_map, IsDistinct}
 use Rattle.std.specs.Option.{option_map}
 use Rattle.tc_graph.specs.Graph.{is_marked}
-use Rattle.tc_dtd.specs.Declarations.{Particle, Particles, Content, nothing, anything, mixed, children, Declaration, names_in}
+use Rattle.tc_dtd.specs.Declarations.{Content, nothing, anything, mixed, children, Declaration, names_in}
 
 -- no two names are the same
 abbrev pub AreApart : List (List ℕ) → Type 0

@@ -1,6 +1,6 @@
 -- What reading a phrase of a text comes to: it is read, or reading comes to a construct that isn't read and stops there.
 -- A relation `PhraseAt bs outcome` says that of the phrase at the front of the bytes; where none holds, the text is malformed.
-use Rattle.std.specs.Prelude.{◌≡◌, ℕ, List}
+use Rattle.std.specs.Prelude.{ℕ, List}
 use Rattle.tc_model.specs.XmlTextRefusals.{Cause}
 
 pub data Outcome (A : Type 0) : Type 0 where

@@ -1,6 +1,6 @@
 use Rattle.std.proofs.Common.{◌≡◌, subst, sym, ap, ◌∙◌, ◌++◌, ◌∷◌, [], arith, rules}
 use Rattle.tc_dtd.specs.Declarations as d
-use Rattle.tc_dtd.specs.DtdTextContents.{ParticleAt, a_group, GroupAt, ListAt, RestAt, bar, comma}
+use Rattle.tc_dtd.specs.DtdTextContents.{ParticleAt, a_group, GroupAt, ListAt, RestAt}
 use Rattle.tc_dtd.specs.Outcomes.{read}
 use Rattle.tc_dtd.specs.Stops.{Stops}
 use Rattle.tc_dtd.specs.Views.{particle, particles}

@@ -1,4 +1,4 @@
-use Rattle.std.proofs.Common.{◌≡◌, ◌≢◌, ◌==◌, ℕ, false, true, sym, ap, ◌∙◌, arith, length}
+use Rattle.std.proofs.Common.{◌≡◌, ◌≢◌, ◌==◌, ℕ, false, sym, ap, ◌∙◌, arith, length}
 use Rattle.std.proofs.lemmas.Bool.{eqb-true, true≢false}
 use Rattle.tc_dtd.specs.DtdTextContents.{MixedAt}
 use Rattle.tc_dtd.specs.Stops.{Stops}

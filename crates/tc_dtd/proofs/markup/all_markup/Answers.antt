@@ -1,4 +1,4 @@
-use Rattle.std.proofs.Common.{◌≡◌, ap, map, rules}
+use Rattle.std.proofs.Common.{ap, map, rules}
 use Rattle.tc_dtd.specs.DtdText.{deepest_parenthesis}
 use Rattle.tc_dtd.specs.DtdTextDeclarations.{DeclarationsAt}
 use Rattle.tc_dtd.specs.Seen.{placed}

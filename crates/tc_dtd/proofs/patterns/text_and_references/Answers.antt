@@ -1,4 +1,4 @@
-use Rattle.std.proofs.Common.{◌∙◌, ap, arith}
+use Rattle.std.proofs.Common.{◌∙◌, ap}
 use Rattle.tc_model.specs.Views as seen
 use Rattle.tc_dtd.specs.Views as see
 use Rattle.tc_dtd.proofs.BuiltLaws.{references_end, references_more}

@@ -1,4 +1,4 @@
-use Rattle.std.proofs.Common.{◌≤◌, sym, arith, length, map}
+use Rattle.std.proofs.Common.{sym, arith, length, map}
 use Rattle.std.proofs.lemmas.List.{length-map}
 use Rattle.tc_dtd.specs.Views.{declaration}
 use Rattle.tc_dtd.proofs.SizeLaws.{passes_nodes, passes_depth, passes_elements, within_counts}

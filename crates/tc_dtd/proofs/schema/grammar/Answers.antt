@@ -1,4 +1,4 @@
-use Rattle.std.proofs.Common.{arith, length, map}
+use Rattle.std.proofs.Common.{arith, map}
 use Rattle.std.proofs.lemmas.List.{length-map}
 use Rattle.tc_model.specs.Views.{grammar}
 use Rattle.tc_dtd.specs.Refused.{Refuses}

@@ -1,9 +1,9 @@
-use Rattle.std.proofs.Common.{◌≡◌, ◌∙◌, sym, ap, subst, map, arith, length, Option, Some, None}
+use Rattle.std.proofs.Common.{◌≡◌, ◌∙◌, sym, ap, map, arith, length, Some}
 use Rattle.std.proofs.lemmas.List.{length-map}
-use Rattle.tc_graph.specs.Graph.{rows_of, IsReached}
+use Rattle.tc_graph.specs.Graph.{rows_of}
 use Rattle.tc_dtd.specs.DtdGrammar.{Keeps}
 use Rattle.tc_dtd.specs.Numbers.{number_in, names_of, link_rows, marked_from}
-use Rattle.tc_dtd.specs.Views.{declaration, names}
+use Rattle.tc_dtd.specs.Views.{declaration}
 use Rattle.tc_dtd.proofs.ReaderLaws.{map_ok}
 use Rattle.tc_dtd.proofs.ReachLaws.{keeps_nothing, graph_of, from_within, marks_cover, kept_is}
 use Rattle.tc_dtd.proofs.schema.kept.Goals as goal

@@ -1,5 +1,4 @@
-use Rattle.std.proofs.Common.{◌≡◌, ◌≢◌, sym, ◌∙◌, ◌∷◌, subst, ap, arith, rules}
-use Rattle.tc_model.specs.XmlTextBytes.{IsQuote}
+use Rattle.std.proofs.Common.{◌≡◌, ◌∷◌, subst, arith, rules}
 use Rattle.tc_dtd.specs.DtdTextDeclarations.{passed, is_within}
 use Rattle.tc_dtd.proofs.MarkupLaws.{skips_first, a_quote, skips_more, skips_shorter, skips_closed, skips_reference, literal_refers, no_literal, no_skip}
 use Rattle.tc_dtd.proofs.skipping.after_skipped.Goals as goal
