@@ -4,3 +4,13 @@ pub mod Steps
 pub mod Fronts
 pub mod Fields
 pub mod Apart
+pub mod Numbers
+pub mod Lists
+pub mod Sorted
+pub mod Orders
+pub mod Three
+pub mod Differing
+pub mod Applied
+pub mod RowLines
+pub mod Chains
+pub mod Faults

@@ -1,5 +1,5 @@
 -- One more piece or row of a list that is written from the front.
-use Rattle.std.proofs.Common.{◌≡◌, ◌≤◌, ℕ, suc, ◌+◌, ◌-◌, List, ◌++◌, drop, flat_map, Some, slice_get, Result, Ok, Err, IfErr, OnOk, IsErrAnd, sym, subst, arith}
+use Rattle.std.proofs.Common.{◌≡◌, ◌≤◌, ◌<◌, ◌⊎◌, inl, inr, ℕ, zero, suc, ◌+◌, ◌-◌, get_or, ap, List, ◌++◌, drop, flat_map, Some, slice_get, Result, Ok, Err, IfErr, OnOk, IsErrAnd, sym, subst, arith}
 use Rattle.tc_cert.specs.declared.text.Text.{Text}
 use Rattle.tc_cert.specs.declared.text.CertWriteFault.{CertWriteFault}
 use Rattle.tc_cert.specs.Texts.{ended, rows_left}
@@ -38,3 +38,26 @@ same_error P (Err e) x h a = subst P (sym h) a
 pub three : {T : Type 0} {s t u : Text} {p q : List ℕ} (v : Text) (r : List ℕ) (result : Result T CertWriteFault) → IsPut s t p → IsPut t u q → OnOk result (IsPut u v r) → OnOk result (IsPut s v (p ++ (q ++ r)))
 three v r (Ok x) a b c = both a (both b c)
 three v r (Err e) a b c = tt
+
+below_next : (k i : ℕ) → k + 1 < i + 1 → (k + 1 < i) ⊎ (k + 1 ≡ i)
+below_next k zero h = absurd (omega arith)
+below_next zero (suc zero) h = inr (omega arith)
+below_next zero (suc (suc i)) h = inl (omega arith)
+below_next (suc k) (suc i) h = by (below_next k i (omega arith))
+  where
+    by : (k + 1 < i) ⊎ (k + 1 ≡ i) → (suc k + 1 < suc i) ⊎ (suc k + 1 ≡ suc i)
+    by (inl a) = inl (omega (arith, a))
+    by (inr a) = inr (omega (arith, a))
+
+-- numbers that ascend up to a place ascend up to the next
+pub up_to_next : (xs : List ℕ) (i : ℕ) → 1 ≤ i → ((k : ℕ) → k + 1 < i → get_or xs k 0 < get_or xs (k + 1) 0) → get_or xs (i - 1) 0 < get_or xs i 0
+    → (k : ℕ) → k + 1 < i + 1 → get_or xs k 0 < get_or xs (k + 1) 0
+up_to_next xs i some so_far last k h = by (below_next k i h)
+  where
+    by : (k + 1 < i) ⊎ (k + 1 ≡ i) → get_or xs k 0 < get_or xs (k + 1) 0
+    by (inl a) = so_far k a
+    by (inr a) =
+        let before : i - 1 ≡ k = omega (arith, a) in
+        let one : get_or xs (i - 1) 0 ≡ get_or xs k 0 = ap (λ j. get_or xs j 0) before in
+        let other : get_or xs i 0 ≡ get_or xs (k + 1) 0 = ap (λ j. get_or xs j 0) (sym a) in
+        omega (arith, last, one, other)

@@ -1,5 +1,5 @@
 -- What is answered where bytes aren't the text of a certificate, or where its text in version 2 is too long.
-use Rattle.std.specs.Prelude.{◌≡◌, ◌<◌, ℕ, List, length}
+use Rattle.std.specs.Prelude.{◌≡◌, ◌<◌, ◌≤◌, ℕ, List, length}
 use Rattle.tc_model.specs.declared.lists.CertData.{CertData}
 use Rattle.tc_cert.specs.Texts.{text, by_changes, CertificateText}
 use Rattle.tc_cert.specs.Fronts.{IsFirstFault}
@@ -36,6 +36,6 @@ abbrev pub write_fault : CertWriteFault → UpgradeFault
 write_fault writing.TooLong = upgrade.TooLong
 write_fault writing.NoMemory = upgrade.NoMemory
 
--- bytes are the text of one data at most
+-- bytes that are no longer than a file are the text of one data at most
 abbrev pub OneData : Type 0
-OneData = (bytes : List ℕ) (d e : CertData) → CertificateText bytes d → CertificateText bytes e → d ≡ e
+OneData = (bytes : List ℕ) → length bytes ≤ 67108864 → (d e : CertData) → CertificateText bytes d → CertificateText bytes e → d ≡ e

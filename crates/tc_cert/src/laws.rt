@@ -17,7 +17,7 @@ pub fn law_of_faults()
     ensures none { TextHasNoFault }
 {}
 
-/// The law of texts: bytes are the text of one certificate at most.
+/// The law of texts: bytes, no more than a file may have, are the text of one certificate at most.
 pub fn law_of_texts()
     ensures { OneData }
 {}

@@ -7,10 +7,11 @@ ghost use Rattle.std.specs.List.Sorted.{IsStrictlySortedBy};
 ghost use Rattle.std.specs.Ordering.{nat_cmp};
 ghost use Rattle.tc_model.specs.CertificateLines as lines;
 ghost use Rattle.tc_model.specs.CertificateData.{pair_cmp};
-ghost use Rattle.tc_cert.specs.Pieces.{IsNumberAt, IsTwoAt, AreNumbersAt, AreChangesAt, ArePairsAt, FlagsAt, IsFrontAt, IsMissing};
+ghost use Rattle.tc_cert.specs.Pieces.{IsNumberAt, IsTwoAt, AreNumbersAt, AreChangesAt, ArePairsAt, FlagsAt, IsFrontAt, IsMissing, HasNoLeadingZero};
 
 use crate::faults::PieceFault;
 use std::alloc::Global;
+use std::cmp::Ordering;
 use tc_model::Pairs;
 
 /// What follows this byte, where the bytes begin with it.
@@ -51,16 +52,28 @@ fn value_of(digits: &[u8]) -> Option<u32>
     Some(value as u32)
 }
 
+/// Whether there are digits, and no leading zero.
+fn is_numeral(digits: &[u8]) -> bool
+    ensures { IsTrue result ↔ HasNoLeadingZero digits.now }
+{
+    match digits.first() {
+        Some(first) => *first != b'0' || digits.len() == 1,
+        None => false,
+    }
+}
+
 /// The number at the front, in decimal digits without a leading zero, and what follows it.
 pub(crate) fn number(bytes: &[u8]) -> Option<(u32, &[u8])>
     ensures { MatchOption result ((n : ℕ) (rest : List ℕ) → IsNumberAt bytes.now n rest → ⊥) (λ r. IsNumberAt bytes.now r.0 r.1.now) }
 {
-    let count = digit_len(bytes);
-    if count == 0 || (count > 1 && bytes[0] == b'0') {
+    let (digits, rest) = bytes.split_at(digit_len(bytes));
+    if !is_numeral(digits) {
         return None;
     }
-    let value = value_of(&bytes[..count])?;
-    Some((value, &bytes[count..]))
+    match value_of(digits) {
+        Some(value) => Some((value, rest)),
+        None => None,
+    }
 }
 
 /// Two numbers at the front with a byte between them, and what follows them.
@@ -68,9 +81,16 @@ fn two(bytes: &[u8], between: u8) -> Option<((u32, u32), &[u8])>
     requires { digit_value between < 10 → ⊥ }
     ensures { MatchOption result ((p : ℕ × ℕ) (rest : List ℕ) → IsTwoAt between bytes.now p rest → ⊥) (λ r. IsTwoAt between bytes.now r.0 r.1.now) }
 {
-    let (first, rest) = number(bytes)?;
-    let (second, rest) = number(after_byte(rest, between)?)?;
-    Some(((first, second), rest))
+    let Some((first, middle)) = number(bytes) else {
+        return None;
+    };
+    let Some(behind) = after_byte(middle, between) else {
+        return None;
+    };
+    match number(behind) {
+        Some((second, rest)) => Some(((first, second), rest)),
+        None => None,
+    }
 }
 
 /// What follows a dash and this byte, where the bytes begin with them.
@@ -208,7 +228,7 @@ pub(crate) fn do_pairs_ascend(pairs: &Pairs) -> bool
     ensures { IsTrue result ↔ IsStrictlySortedBy pair_cmp pairs.now }
 {
     for i in 1..pairs.len() {
-        if *pairs.get(i) <= *pairs.get(i - 1) {
+        if pairs.get(i - 1).cmp(pairs.get(i)) != Ordering::Less {
             return false;
         }
     }

@@ -1,8 +1,10 @@
 // Rows of a certificate: read whole, or as changes of the row before.
-ghost use Rattle.std.specs.Prelude.{◌≡◌, ◌≤◌, ◌<◌, ◌↔◌, ℕ, Some, None, Bool, true, List, length, All, IfOk, IfErr, IsTrue, MatchBool, MatchOption};
+ghost use Rattle.std.specs.Prelude.{◌≡◌, ◌≤◌, ◌<◌, ◌↔◌, ℕ, Some, None, Bool, true, List, length, All, IfOk, IfErr, IsTrue, MatchBool, MatchOption, IfSome};
 ghost use Rattle.tc_cert.specs.Fields as fields;
-ghost use Rattle.tc_cert.specs.Fields.{Fields, fields_of, IsFormedRow, IsBehind, row_line};
-ghost use Rattle.tc_cert.specs.NextRows.{IsWholeAt, IsChangedAt, AreChanged};
+ghost use Rattle.tc_cert.specs.Fields.{Fields, fields_of, IsFormedRow, IsBehind, IsNextRow, row_line};
+ghost use Rattle.std.specs.Option.{option_map};
+ghost use Rattle.tc_cert.specs.NextRows.{IsWholeAt, IsChangedAt, AreChanged, IsMade, IsMadeBehind, IsShort};
+ghost use Rattle.tc_cert.specs.Styles.{version_of, IsWholeBehind};
 ghost use Rattle.tc_cert.specs.Pieces.{IsMissing};
 
 use crate::faults::PieceFault;
@@ -114,13 +116,17 @@ fn apply(numbers: &mut Vec<u32>, changes: &[(u32, u32)]) -> bool
     true
 }
 
-/// The row that changes make of another, where they are changes of it.
+/// The row that changes make of another, where they are changes of it that put looks.
 fn with_changes(
     before: Row,
     front: RowFront,
     outs: &[(u32, u32)],
     looks: &[(u32, u32)],
-) -> Option<Row> {
+) -> Option<Row>
+    requires { All (λ n. n ≤ 2) before.looks.items }
+    ensures { MatchOption result ((f : Fields) → IsMade (fields_of before) front.one front.other front.members.items outs.now looks.now f → ⊥)
+        (λ r. IsMade (fields_of before) front.one front.other front.members.items outs.now looks.now (fields_of r)) }
+{
     let mut row = Row {
         one: front.one,
         other: front.other,
@@ -128,15 +134,22 @@ fn with_changes(
         outs: before.outs,
         looks: before.looks,
     };
-    if put_looks(looks) && apply(&mut row.outs, outs) && apply(&mut row.looks, looks) {
-        Some(row)
-    } else {
-        None
+    if !put_looks(looks) {
+        return None;
     }
+    if !apply(&mut row.outs, outs) {
+        return None;
+    }
+    if !apply(&mut row.looks, looks) {
+        return None;
+    }
+    Some(row)
 }
 
 /// Whether the row that changes make of another stands behind it.
-fn is_behind(before: &Row, front: &RowFront, outs: &[(u32, u32)], looks: &[(u32, u32)]) -> bool {
+fn is_behind(before: &Row, front: &RowFront, outs: &[(u32, u32)], looks: &[(u32, u32)]) -> bool
+    ensures { IsMadeBehind (fields_of before.now) front.now.one front.now.other front.now.members.items outs.now looks.now result }
+{
     front_order(before, front.one, front.other, &front.members)
         .then(changes_order(&before.outs, outs))
         .then(changes_order(&before.looks, looks))
@@ -150,7 +163,7 @@ fn changed(
     kind: Kind,
     before: Row,
 ) -> Result<(Row, &[u8]), PieceFault>
-    requires { All (λ n. n ≤ 2) before.looks.items }
+    requires { IsFormedRow (fields_of before) × IsShort (fields_of before) }
     ensures ok { IfOk result (λ r. IsChangedAt kind (fields_of before) bytes.now (fields_of r.0) r.1.now × IsBehind (row_line kind) (Some (fields_of before)) (fields_of r.0)) }
     ensures no { IfErr result (IsMissing ((f : Fields) × (rest : List ℕ) × IsChangedAt kind (fields_of before) bytes.now f rest × IsBehind (row_line kind) (Some (fields_of before)) f)) }
 {
@@ -180,7 +193,11 @@ fn whole_behind<'t>(
     kind: Kind,
     style: Style,
     before: &Row,
-) -> Result<(Row, &'t [u8]), PieceFault> {
+) -> Result<(Row, &'t [u8]), PieceFault>
+    requires { IsFormedRow (fields_of before.now) }
+    ensures ok { IfOk result (λ r. IsWholeBehind style kind (fields_of before.now) bytes.now (fields_of r.0) r.1.now) }
+    ensures no { IfErr result (IsMissing ((f : Fields) × (rest : List ℕ) × IsWholeBehind style kind (fields_of before.now) bytes.now f rest)) }
+{
     let (row, rest) = whole(alloc, bytes, kind)?;
     if style == Style::ByChanges && are_like(before, &row) {
         return Err(PieceFault::Form);
@@ -198,7 +215,11 @@ fn row_behind(
     kind: Kind,
     style: Style,
     before: Row,
-) -> Result<(Row, &[u8]), PieceFault> {
+) -> Result<(Row, &[u8]), PieceFault>
+    requires { IsFormedRow (fields_of before) × IsShort (fields_of before) }
+    ensures ok { IfOk result (λ r. IsNextRow (version_of style) kind (Some (fields_of before)) bytes.now (fields_of r.0) r.1.now) }
+    ensures no { IfErr result (IsMissing ((f : Fields) × (rest : List ℕ) × IsNextRow (version_of style) kind (Some (fields_of before)) bytes.now f rest)) }
+{
     if style == Style::ByChanges && bytes.first() == Some(&kind.changes_letter()) {
         changed(alloc, bytes, kind, before)
     } else {
@@ -213,7 +234,11 @@ pub(crate) fn next_row(
     kind: Kind,
     style: Style,
     before: Option<Row>,
-) -> Result<(Row, &[u8]), PieceFault> {
+) -> Result<(Row, &[u8]), PieceFault>
+    requires { IfSome before (λ b. IsFormedRow (fields_of b) × IsShort (fields_of b)) }
+    ensures ok { IfOk result (λ r. IsNextRow (version_of style) kind (option_map fields_of before) bytes.now (fields_of r.0) r.1.now) }
+    ensures no { IfErr result (IsMissing ((f : Fields) × (rest : List ℕ) × IsNextRow (version_of style) kind (option_map fields_of before) bytes.now f rest)) }
+{
     match before {
         None => whole(alloc, bytes, kind),
         Some(before) => row_behind(alloc, bytes, kind, style, before),
