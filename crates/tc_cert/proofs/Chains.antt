@@ -126,8 +126,8 @@ more_front (in_hedges v os ts count hs) l g (inr n) =
 more_front (finished v d) l g n = absurd n
 
 -- one line on
-pub goes_on : {bytes rest after l : List ℕ} {f g : Front} → Next f l g → IsGood g → BeginsWith bytes f rest → rest ≡ l ++ 10 ∷ after → BeginsWith bytes g after
-goes_on {after = after} {l = l} {f = f} {g = g} n good b e = record {
+pub goes_on : {bytes rest after : List ℕ} {f g : Front} (l : List ℕ) → Next f l g → IsGood g → BeginsWith bytes f rest → rest ≡ l ++ 10 ∷ after → BeginsWith bytes g after
+goes_on {after = after} {f = f} {g = g} l n good b e = record {
   good = good;
   spelled = b.spelled ∙ ap (λ w. front_text f ++ w) (e ∙ sym (append_assoc l (10 ∷ []) after)) ∙ sym (append_assoc (front_text f) (ended l) after) ∙ ap (λ w. w ++ after) (sym (more_front f l g n));
 }
@@ -159,7 +159,7 @@ none_some : {X : Type 0} (y : X) → None ≡ Some y → ⊥
 none_some y e = cc
 
 -- the last of a list that is good is good
-last_all : {X : Type 0} (P : X → Type 0) (xs : List X) (x : X) → All P (xs ++ x ∷ []) → P x
+pub last_all : {X : Type 0} (P : X → Type 0) (xs : List X) (x : X) → All P (xs ++ x ∷ []) → P x
 last_all P [] x a = All-head P x [] a
 last_all P (y ∷ ys) x a = last_all P ys x (All-tail P y (ys ++ x ∷ []) a)
 
@@ -209,7 +209,7 @@ outputs_lines ps qs r s p q e = let behind : flat_map pair ps ++ 10 ∷ r ≡ fl
 lines_are : (l k m n r s : List ℕ) → l ≡ m → k ≡ n → l ++ 10 ∷ r ≡ k ++ 10 ∷ s → m ++ 10 ∷ r ≡ n ++ 10 ∷ s
 lines_are l k m n r s p q e = sym (ap (λ w. w ++ 10 ∷ r) p) ∙ e ∙ ap (λ w. w ++ 10 ∷ s) q
 
-too_many : {X : Type 0} (xs : List X) (x : X) (count : ℕ) → length (xs ++ x ∷ []) ≤ count → length xs ≡ count → ⊥
+pub too_many : {X : Type 0} (xs : List X) (x : X) (count : ℕ) → length (xs ++ x ∷ []) ≤ count → length xs ≡ count → ⊥
 too_many xs x count h e = absurd (omega (arith, h, e, length-append xs (x ∷ [])))
 
 pub one_next : (f : Front) (l k : List ℕ) (g h : Front) (r s : List ℕ) → IsShortFront f → Next f l g → Next f k h → IsGood g → IsGood h → l ++ 10 ∷ r ≡ k ++ 10 ∷ s → (g ≡ h) × (r ≡ s)
@@ -254,15 +254,15 @@ one_next (finished v d) l k g h r s short n m p q e = absurd n
 -- what is reached by lines, each as it must be
 pub data Reach (bytes : List ℕ) : Front → List ℕ → Type 0 where
   at_start : {f : Front} {rest : List ℕ} → f ≡ nothing → rest ≡ bytes → Reach bytes f rest
-  behind : {f g : Front} {l rest after : List ℕ} → Reach bytes f rest → Next f l g → IsGood g → rest ≡ l ++ 10 ∷ after → Reach bytes g after
+  behind : {f g : Front} {rest after : List ℕ} (l : List ℕ) → Reach bytes f rest → Next f l g → IsGood g → rest ≡ l ++ 10 ∷ after → Reach bytes g after
 
 rest_short : (bytes : List ℕ) (f : Front) (rest : List ℕ) → Reach bytes f rest → length rest ≤ length bytes
 rest_short bytes f rest (at_start e q) = omega (arith, ap length q)
-rest_short bytes g after (behind {f = f} {l = l} {rest = rest} r n good e) = omega (arith, rest_short bytes f rest r, ap length e, length-append l (10 ∷ after))
+rest_short bytes g after (behind {f = f} {rest = rest} l r n good e) = omega (arith, rest_short bytes f rest r, ap length e, length-append l (10 ∷ after))
 
 pub reach_short : (bytes : List ℕ) (f : Front) (rest : List ℕ) → length bytes ≤ 67108864 → Reach bytes f rest → IsShortFront f
 reach_short bytes f rest h (at_start e q) = subst IsShortFront (sym e) tt
-reach_short bytes g after h (behind {f = f} {l = l} {rest = rest} r n good e) = short_on f l g rest after (omega (arith, h, rest_short bytes f rest r)) n good (reach_short bytes f rest h r) e
+reach_short bytes g after h (behind {f = f} {rest = rest} l r n good e) = short_on f l g rest after (omega (arith, h, rest_short bytes f rest r)) n good (reach_short bytes f rest h r) e
 
 module _ (bytes : List ℕ) {X : Type 0} (mk : List X → Front) (line : Option X → X → List ℕ)
     (next : (xs : List X) (x : X) → Next (mk xs) (line (last_of xs) x) (mk (xs ++ x ∷ [])))
@@ -278,7 +278,7 @@ module _ (bytes : List ℕ) {X : Type 0} (mk : List X → Front) (line : Option 
       let good_now : IsGood (mk ((done ++ x ∷ []) ++ xs)) = subst (λ ys. IsGood (mk ys)) (sym across) good in
       let cut : rest ≡ line (last_of done) x ++ 10 ∷ (text_from (Some x) xs ++ s)
       = e ∙ append_assoc (ended (line (last_of done) x)) (text_from (Some x) xs) s ∙ append_assoc (line (last_of done) x) (10 ∷ []) (text_from (Some x) xs ++ s) in
-      let here : Reach bytes (mk (done ++ x ∷ [])) (text_from (Some x) xs ++ s) = behind r (next done x) (front (done ++ x ∷ []) xs good_now) cut in
+      let here : Reach bytes (mk (done ++ x ∷ [])) (text_from (Some x) xs ++ s) = behind (line (last_of done) x) r (next done x) (front (done ++ x ∷ []) xs good_now) cut in
       subst (λ ys. Reach bytes (mk ys) s) across
       (all_from (done ++ x ∷ []) xs (text_from (Some x) xs ++ s) s here (ap (λ b. text_from b xs ++ s) (sym (last_snoc done x))) good_now)
 
@@ -307,8 +307,8 @@ module _ (bytes : List ℕ) where
   pub reach_outputs : (v : Version) (count : ℕ) (os : List (List (ℕ × ℕ))) (s : List ℕ) → AreOutputs count os
       → bytes ≡ heading v ++ 10 ∷ (counted (codes "outputs") count ++ 10 ∷ (outputs_text os ++ s)) → Reach bytes (in_outputs v count os) s
   reach_outputs v count os s good e =
-      let first : Reach bytes (begun v) (counted (codes "outputs") count ++ 10 ∷ (outputs_text os ++ s)) = behind (at_start refl refl) (record { version = v; line = refl; to = refl }) tt e in
-      let second : Reach bytes (in_outputs v count []) (outputs_text os ++ s) = behind first (record { outputs = count; line = refl; to = refl }) (front_outputs count [] os good) refl in
+      let first : Reach bytes (begun v) (counted (codes "outputs") count ++ 10 ∷ (outputs_text os ++ s)) = behind _ (at_start refl refl) (record { version = v; line = refl; to = refl }) tt e in
+      let second : Reach bytes (in_outputs v count []) (outputs_text os ++ s) = behind _ first (record { outputs = count; line = refl; to = refl }) (front_outputs count [] os good) refl in
       all_from bytes (in_outputs v count) (λ b ps. pairs_line ps) (λ xs x. inl (record { pairs = x; line = refl; to = refl })) (front_outputs count) [] os (outputs_text os ++ s) s second
       (ap (λ w. w ++ s) (sym (output_from v count None os))) good
 
@@ -331,7 +331,7 @@ module _ (bytes : List ℕ) where
   pub reach_trees : (v : Version) (os : List (List (ℕ × ℕ))) (count : ℕ) (ts : List TreeLine) (s : List ℕ) → IsGood (in_trees v os count ts)
       → Reach bytes (in_outputs v (length os) os) (counted (codes "trees") count ++ 10 ∷ (rows_in tree_line (tree_in v) ts ++ s)) → Reach bytes (in_trees v os count ts) s
   reach_trees v os count ts s good r =
-      let first : Reach bytes (in_trees v os count []) (rows_in tree_line (tree_in v) ts ++ s) = behind r (inr (record { trees = count; all = refl; line = refl; to = refl })) (good.0, front_trees count [] ts good.1) refl in
+      let first : Reach bytes (in_trees v os count []) (rows_in tree_line (tree_in v) ts ++ s) = behind _ r (inr (record { trees = count; all = refl; line = refl; to = refl })) (good.0, front_trees count [] ts good.1) refl in
       all_from bytes (in_trees v os count) (line_behind tree_line (tree_in v)) (next_tree v os count) (front_in_trees v os count) [] ts (rows_in tree_line (tree_in v) ts ++ s) s first
       (ap (λ w. w ++ s) (sym (tree_text v os count ts))) good
 
@@ -356,7 +356,7 @@ module _ (bytes : List ℕ) where
       → Reach bytes (in_trees v os (length ts) ts) (counted (codes "hedges") count ++ 10 ∷ (rows_in hedge_line (hedge_in v) hs ++ s)) → Reach bytes (in_hedges v os ts count hs) s
   reach_hedges v os ts count hs s good r =
       let first : Reach bytes (in_hedges v os ts count []) (rows_in hedge_line (hedge_in v) hs ++ s)
-      = behind r (inr (record { hedges = count; all = refl; line = refl; to = refl })) (good.0, good.1, front_hedges count [] hs good.2) refl in
+      = behind _ r (inr (record { hedges = count; all = refl; line = refl; to = refl })) (good.0, good.1, front_hedges count [] hs good.2) refl in
       all_from bytes (in_hedges v os ts count) (line_behind hedge_line (hedge_in v)) (next_hedge v os ts count) (front_in_hedges v os ts count) [] hs (rows_in hedge_line (hedge_in v) hs ++ s) s first
       (ap (λ w. w ++ s) (sym (hedge_text v os ts count hs))) good
 
@@ -398,11 +398,11 @@ module _ (bytes : List ℕ) where
         ∙ ap (λ w. w ++ ended (codes "end")) (sym (append_assoc (head ++ outputs_part d.outputs) (trees_part v d.trees) (hedges_part v d.hedges))) in
       let before : Reach bytes (in_hedges v d.outputs d.trees (length d.hedges) d.hedges) (codes "end" ++ 10 ∷ s)
       = hedges_front v d.outputs d.trees d.hedges (codes "end" ++ 10 ∷ s) (good_parts d h) (e ∙ ap (λ w. w ++ s) flat ∙ append_assoc (front ++ hedges_part v d.hedges) (ended (codes "end")) s) in
-      behind before (inr (record { all = refl; line = refl; to = refl })) h refl
+      behind _ before (inr (record { all = refl; line = refl; to = refl })) h refl
 
   pub reached : (g : Front) (s : List ℕ) → BeginsWith bytes g s → Reach bytes g s
   reached nothing s b = at_start refl (sym b.spelled)
-  reached (begun v) s b = behind (at_start refl refl) (record { version = v; line = refl; to = refl }) tt (b.spelled ∙ cut_line (heading v) s)
+  reached (begun v) s b = behind _ (at_start refl refl) (record { version = v; line = refl; to = refl }) tt (b.spelled ∙ cut_line (heading v) s)
   reached (in_outputs v count os) s b =
       reach_outputs v count os s b.good (b.spelled ∙ append_assoc (ended (heading v) ++ ended (counted (codes "outputs") count)) (outputs_text os) s
       ∙ append_assoc (ended (heading v)) (ended (counted (codes "outputs") count)) (outputs_text os ++ s) ∙ cut_line (heading v) (ended (counted (codes "outputs") count) ++ (outputs_text os ++ s))

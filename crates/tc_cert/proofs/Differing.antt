@@ -1,5 +1,5 @@
 -- The first places at which lists differ: their order, and changes one by one.
-use Rattle.std.proofs.Common.{◌≡◌, ◌<◌, ◌≤◌, ◌≢◌, ◌+◌, ◌-◌, ◌==◌, ℕ, zero, suc, min, Bool, true, false, cond, List, [], ◌∷◌, ◌++◌, length, take, drop, get_or, Option, Some, None, slice_get, set, refl, sym, ap, subst, ◌∙◌, append_assoc, append-nil, length-append, add-one, arith, decimal}
+use Rattle.std.proofs.Common.{◌≡◌, ◌<◌, ◌≤◌, ◌≢◌, ◌+◌, ◌-◌, ◌==◌, ℕ, zero, suc, min, Bool, true, false, cond, List, [], ◌∷◌, ◌++◌, length, take, drop, get_or, Option, Some, None, Result, Ok, Err, IfOk, ◌^◌, slice_get, set, All, refl, sym, ap, subst, ◌∙◌, append_assoc, append-nil, length-append, add-one, arith, decimal}
 use Rattle.std.specs.Ordering.{nat_cmp, ordering_then, MatchOrdering}
 use Rattle.std.specs.declared.cmp.Ordering.{Ordering}
 use Rattle.std.specs.declared.cmp.Ordering.TheVariants.{Less, Equal, Greater}
@@ -7,9 +7,12 @@ use Rattle.std.specs.Cmp.{nat_cmp_is, ranked}
 use Rattle.std.specs.Cmp.Lexicographic.{slice_cmp}
 use Rattle.std.proofs.lemmas.Map.Lookups.{exact_bytes}
 use Rattle.std.proofs.lemmas.List.{drop_more}
-use native.Mathlib.Numerals.{unary_clauses}
-use Rattle.tc_model.specs.CertificateLines.{changes, change_at}
-use Rattle.tc_cert.specs.Orders.{number_order, numbers_order, IsOrderOfChanges}
+use Rattle.std.proofs.lemmas.List.Elements.{All-append, All-head, All-tail}
+use Rattle.tc_model.specs.CertificateLines.{pair, changes, change_at}
+use Rattle.tc_cert.specs.Pieces.{AreNumbers}
+use Rattle.tc_cert.specs.Orders.{number_order, numbers_order, pair_order, pairs_order, IsOrderOfChanges}
+use Rattle.std.proofs.lemmas.Fmt.{decimal_injective}
+use Rattle.tc_cert.proofs.Lists.{one_pairs, all_one}
 
 itself : (x : ℕ) → nat_cmp x x ≡ Equal
 itself x = sym (nat_cmp_is x x Equal refl)
@@ -112,6 +115,12 @@ no_change n (m ∷ old) (x ∷ new) h e = by (no_change (n + 1) old new (omega (
     by more true q = let same : m ≡ x = same_by_test m x q in λ i. sym same i ∷ more (sym (none_here n m x (changes (n + 1) old new) q) ∙ e) i
     by more false q = absurd (cons_nil (n, x) (changes (n + 1) old new) (sym (change_here n m x (changes (n + 1) old new) q) ∙ e))
 
+drop_next : (k m : ℕ) (l : List ℕ) → drop (suc k + 1) (m ∷ l) ≡ drop (k + 1) l
+drop_next k m l = shift (suc k + 1) (k + 1) (omega arith)
+  where
+    shift : (i j : ℕ) → i ≡ suc j → drop i (m ∷ l) ≡ drop j l
+    shift i j e = ap (λ n. drop n (m ∷ l)) e
+
 -- the first change: where, from what and to what, and what is left
 pub record IsFirstChange (n : ℕ) (old new : List ℕ) (p v : ℕ) (rest : List (ℕ × ℕ)) (k : ℕ) : Type 0 where
   pub place : p ≡ n + k
@@ -134,7 +143,7 @@ first_change n (m ∷ old) (x ∷ new) p v rest h e = by (first_change (n + 1) o
       differs = f.differs;
       is_new = f.is_new;
       before = λ i. sym same i ∷ f.before i;
-      left = simp unary_clauses f.left;
+      left = (λ i. changes (p + 1) (drop_next k m old i) (drop_next k x new i)) ∙ f.left;
     }
 
     here : (n ≡ p) × (x ≡ v) × (changes (n + 1) old new ≡ rest) → m ≢ x → IsFirstChange n (m ∷ old) (x ∷ new) p v rest 0
@@ -193,3 +202,110 @@ one_more_change n (m ∷ old) (x ∷ now) zero (suc p) v l d k h q =
 one_more_change n (m ∷ old) (x ∷ now) (suc next) zero v l d k h q = absurd (omega (arith, k))
 one_more_change n (m ∷ old) (x ∷ now) (suc next) (suc p) v l d k h q =
     one_behind n m x old now v p (one_more_change (n + 1) old now next p v (omega (arith, l)) d (omega (arith, k)) (omega (arith, h)) q)
+
+pub numbers_itself : (ns : List ℕ) → numbers_order ns ns ≡ Equal
+numbers_itself [] = refl
+numbers_itself (n ∷ ns) = equal_first number_order n n ns ns refl (number_itself n) ∙ numbers_itself ns
+
+nil_of : (cs : List (ℕ × ℕ)) → length cs ≤ 0 → cs ≡ []
+nil_of [] h = refl
+nil_of (c ∷ cs) h = absurd (omega (arith, h))
+
+-- the order of a list and of what changes make of it
+pub order_of_none : (old : List ℕ) (cs : List (ℕ × ℕ)) → length cs ≤ 0 → IsOrderOfChanges old cs Equal
+order_of_none old cs h new long is = sym (ap (numbers_order old) (no_change 0 old new long (is ∙ nil_of cs h)) ∙ numbers_itself old)
+
+some_of : (cs : List (ℕ × ℕ)) → 0 < length cs → cs ≡ get_or cs 0 (0, 0) ∷ drop 1 cs
+some_of [] h = absurd (omega (arith, h))
+some_of (c ∷ cs) h = refl
+
+first_of : (old : List ℕ) (cs : List (ℕ × ℕ)) (new : List ℕ) → 0 < length cs → length new ≡ length old → changes 0 old new ≡ cs
+    → (k : ℕ) × IsFirstChange 0 old new (get_or cs 0 (0, 0)).0 (get_or cs 0 (0, 0)).1 (drop 1 cs) k
+first_of old cs new some long is = first_change 0 old new (get_or cs 0 (0, 0)).0 (get_or cs 0 (0, 0)).1 (drop 1 cs) long (is ∙ some_of cs some)
+
+pub order_past : (old : List ℕ) (cs : List (ℕ × ℕ)) (o : Ordering) → 0 < length cs → length old ≤ (get_or cs 0 (0, 0)).0 → IsOrderOfChanges old cs o
+order_past old cs o some past new long is = let f = first_of old cs new some long is in absurd (by f.0 f.1)
+  where
+    by : (k : ℕ) → IsFirstChange 0 old new (get_or cs 0 (0, 0)).0 (get_or cs 0 (0, 0)).1 (drop 1 cs) k → ⊥
+    by k f = absurd (omega (arith, past, f.place, f.within))
+
+order_by : (old new : List ℕ) (o : Ordering) (p v k : ℕ) (rest : List (ℕ × ℕ)) → length new ≡ length old → o ≡ number_order (get_or old p 0) v → (o ≡ Equal → get_or old p 0 ≡ v) → IsFirstChange 0 old new p v rest k → o ≡ numbers_order old new
+order_by old new o p v k rest long is apart f =
+    let place : p ≡ k = omega (arith, f.place) in
+    let here : number_order (get_or old p 0) v ≡ number_order (get_or old k 0) (get_or new k 0) = λ i. number_order (get_or old (place i) 0) (sym f.is_new i) in
+    let bar : number_order (get_or old k 0) (get_or new k 0) ≡ Equal → ⊥ = λ (e : number_order (get_or old k 0) (get_or new k 0) ≡ Equal). f.differs (sym (ap (λ j. get_or old j 0) place) ∙ apart (is ∙ here ∙ e)) in
+    is ∙ here ∙ sym (order_at old new k f.within long f.before bar)
+
+pub order_of_first : (old : List ℕ) (cs : List (ℕ × ℕ)) (o : Ordering) → 0 < length cs → o ≡ number_order (get_or old (get_or cs 0 (0, 0)).0 0) (get_or cs 0 (0, 0)).1
+    → (o ≡ Equal → get_or old (get_or cs 0 (0, 0)).0 0 ≡ (get_or cs 0 (0, 0)).1) → IsOrderOfChanges old cs o
+order_of_first old cs o some is apart new long made =
+    let f = first_of old cs new some long made in
+    order_by old new o (get_or cs 0 (0, 0)).0 (get_or cs 0 (0, 0)).1 f.0 (drop 1 cs) long is apart f.1
+
+-- of the number that a change puts
+abbrev Puts : (ℕ → Type 0) → ℕ × ℕ → Type 0
+Puts P c = P c.1
+
+-- what holds of the numbers before and of those that changes put holds of those behind
+pub changes_keep : (P : ℕ → Type 0) (n : ℕ) (old new : List ℕ) → length new ≡ length old → All P old → All (λ c. P c.1) (changes n old new) → All P new
+changes_keep P n [] [] l a b = λ k d h. absurd (omega arith)
+changes_keep P n [] (x ∷ new) l a b = absurd (omega (arith, l))
+changes_keep P n (m ∷ old) [] l a b = absurd (omega (arith, l))
+changes_keep P n (m ∷ old) (x ∷ new) l a b = by (changes_keep P (n + 1) old new (omega (arith, l)) (All-tail P m old a)) (m == x) refl
+  where
+    both : P x → All P new → All P (x ∷ new)
+    both p q = All-append P (x ∷ []) new (λ k d h. grind (arith, p)) q
+    by : (All (Puts P) (changes (n + 1) old new) → All P new) → (c : Bool) → (m == x) ≡ c → All P (x ∷ new)
+    by more true e = both (subst P (same_by_test m x e) (All-head P m old a)) (more (subst (All (Puts P)) (none_here n m x (changes (n + 1) old new) e) b))
+    by more false e =
+        let here : All (Puts P) ((n, x) ∷ changes (n + 1) old new) = subst (All (Puts P)) (change_here n m x (changes (n + 1) old new) e) b in
+        both (All-head (Puts P) (n, x) (changes (n + 1) old new) here) (more (All-tail (Puts P) (n, x) (changes (n + 1) old new) here))
+
+-- and of those behind, it holds of those that changes put
+pub changes_put : (P : ℕ → Type 0) (n : ℕ) (old new : List ℕ) → All P new → All (λ c. P c.1) (changes n old new)
+changes_put P n [] new a = λ k d h. absurd (omega arith)
+changes_put P n (m ∷ old) [] a = λ k d h. absurd (omega arith)
+changes_put P n (m ∷ old) (x ∷ new) a = All-append (Puts P) (change_at n m x) (changes (n + 1) old new) (by (m == x)) (changes_put P (n + 1) old new (All-tail P x new a))
+  where
+    by : (c : Bool) → All (Puts P) (cond c [] ((n, x) ∷ []))
+    by true = λ k d h. absurd (omega arith)
+    by false = λ k d h. let p : P x = All-head P x new a in grind (arith, p)
+
+-- outputs, pair by pair
+pub within_get : {X : Type 0} (xs : List X) (i : ℕ) (x : X) → slice_get xs i ≡ Some x → i < length xs
+within_get [] i x e = absurd (apart e)
+  where
+    apart : None ≡ Some x → ⊥
+    apart q = cc
+within_get (y ∷ ys) zero x e = omega arith
+within_get (y ∷ ys) (suc i) x e = omega (arith, within_get ys i x e)
+
+pair_itself : (p : ℕ × ℕ) → pair_order p p ≡ Equal
+pair_itself p = bytes_itself (pair p)
+
+pub pairs_differ : {E : Type 0} (r : Result Ordering E) (one other : List (ℕ × ℕ)) (i : ℕ) (p q : ℕ × ℕ) → slice_get one i ≡ Some p → slice_get other i ≡ Some q → (p ≡ q → ⊥)
+    → IfOk r (λ o. o ≡ pair_order p q) → IfOk r (λ o. o ≡ Equal → p ≡ q) → pairs_order one other ≡ pairs_order (drop i one) (drop i other) → IfOk r (λ o. o ≡ pairs_order one other)
+pairs_differ (Ok o) one other i p q e d bar is apart so_far =
+    let here : pair_order (get_or one i (0, 0)) (get_or other i (0, 0)) ≡ pair_order p q = λ j. pair_order (got one i p (0, 0) e j) (got other i q (0, 0) d j) in
+    is ∙ sym (so_far ∙ other_at pair_order one other i (0, 0) (within_get one i p e) (within_get other i q d) (λ z. bar (apart (is ∙ sym here ∙ z))) ∙ here)
+pairs_differ (Err x) one other i p q e d bar is apart so_far = tt
+
+pub pairs_alike : (one other : List (ℕ × ℕ)) (i : ℕ) (p q : ℕ × ℕ) → slice_get one i ≡ Some p → slice_get other i ≡ Some q → p ≡ q → pairs_order one other ≡ pairs_order (drop i one) (drop i other)
+    → pairs_order one other ≡ pairs_order (drop (i + 1) one) (drop (i + 1) other)
+pairs_alike one other i p q e d same so_far =
+    so_far ∙ equal_at pair_order one other i (0, 0) (within_get one i p e) (within_get other i q d) (got one i p (0, 0) e ∙ same ∙ sym (got other i q (0, 0) d)) (pair_itself (get_or one i (0, 0)))
+
+pub pairs_end : (one other : List (ℕ × ℕ)) (i : ℕ) (o : Ordering) → min (length one) (length other) ≤ i → i ≤ min (length one) (length other) → o ≡ nat_cmp (length one) (length other)
+    → pairs_order one other ≡ pairs_order (drop i one) (drop i other) → o ≡ pairs_order one other
+pairs_end one other i o h k is so_far = is ∙ sym (so_far ∙ at_end pair_order i one other h k)
+
+pub number_of_order : (m n : ℕ) (o : Ordering) → m < 2 ^ 64 → n < 2 ^ 64 → o ≡ number_order m n → o ≡ Equal → m ≡ n
+number_of_order m n o h k is e = decimal_injective m n h k (exact_bytes (decimal m) (decimal n) (sym is ∙ e))
+
+head_pair : (p q : ℕ × ℕ) → p ∷ [] ≡ q ∷ [] → p ≡ q
+head_pair p q e = cc
+
+pub pair_of_order : (p q : ℕ × ℕ) (o : Ordering) → AreNumbers p → AreNumbers q → o ≡ pair_order p q → o ≡ Equal → p ≡ q
+pair_of_order p q o a b is e =
+    let same : pair p ≡ pair q = exact_bytes (pair p) (pair q) (sym is ∙ e) in
+    head_pair p q (one_pairs (p ∷ []) (q ∷ []) [] [] (all_one AreNumbers p a) (all_one AreNumbers q b) (ap (λ l. (l ++ []) ++ 10 ∷ []) same)).0

@@ -13,4 +13,6 @@ pub mod Differing
 pub mod Applied
 pub mod RowLines
 pub mod Chains
-pub mod Faults
+pub mod FirstFaults
+pub mod ReadRows
+pub mod ReadLines

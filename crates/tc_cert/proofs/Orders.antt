@@ -133,10 +133,7 @@ last_list ms ns p q =
 
 -- a row
 pub open_row : (l : ℕ) (a b : Bool) (ms os ls : List ℕ) → row l a b ms os ls ≡ l ∷ 32 ∷ flag a ∷ 32 ∷ flag b ∷ 32 ∷ (numbers ms ++ 32 ∷ (os ++ 32 ∷ ls))
-open_row l a b ms os ls = append_assoc (l ∷ 32 ∷ flag a ∷ 32 ∷ flag b ∷ 32 ∷ (numbers ms ++ 32 ∷ os)) (32 ∷ ls) [] ∙ flat
-  where
-    flat : (l ∷ 32 ∷ flag a ∷ 32 ∷ flag b ∷ 32 ∷ (numbers ms ++ 32 ∷ os)) ++ ((32 ∷ ls) ++ []) ≡ l ∷ 32 ∷ flag a ∷ 32 ∷ flag b ∷ 32 ∷ (numbers ms ++ 32 ∷ (os ++ 32 ∷ ls))
-    flat = ap (λ w. l ∷ 32 ∷ flag a ∷ 32 ∷ flag b ∷ 32 ∷ w) (append_assoc (numbers ms) (32 ∷ os) ((32 ∷ ls) ++ []) ∙ ap (λ w. numbers ms ++ 32 ∷ (os ++ w)) (append-nil (32 ∷ ls)))
+open_row l a b ms os ls = ap (λ w. l ∷ 32 ∷ flag a ∷ 32 ∷ flag b ∷ 32 ∷ w) (append_assoc (numbers ms) (32 ∷ os) (32 ∷ ls))
 
 pub numbers_of_looks : (ls : List ℕ) → All (λ n. n ≤ 2) ls → All IsNumber ls
 numbers_of_looks ls h k d i = let low : get_or ls k d ≤ 2 = h k d i in omega arith

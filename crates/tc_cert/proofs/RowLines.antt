@@ -125,7 +125,7 @@ changes_one k b f g r s short p q l m e =
     let same : f ≡ g = λ i. record { one = o.one i; other = o.other i; members = o.members i; outs = outs i; looks = looks i } in
     (same, o.rest)
 
-letters_differ : (k : Kind) → changes_letter k ≡ letter k → ⊥
+pub letters_differ : (k : Kind) → changes_letter k ≡ letter k → ⊥
 letters_differ Tree e = absurd (omega (arith, e))
 letters_differ Hedge e = absurd (omega (arith, e))
 
@@ -136,20 +136,20 @@ abbrev pub IsShortBefore : Option Fields → Type 0
 IsShortBefore None = Unit {0}
 IsShortBefore (Some b) = IsShort b
 
+abbrev text_by : Bool → Kind → Fields → Fields → List ℕ → List ℕ
+text_by c k b h rest = cond c (row_changes k b h) (row_line k h) ++ 10 ∷ rest
+
 pub one_line : (v : Version) (k : Kind) (before : Option Fields) (f g : Fields) (r s : List ℕ) → IsShortBefore before → IsFormedRow f → IsFormedRow g
     → line_behind (row_line k) (row_in v k) before f ++ 10 ∷ r ≡ line_behind (row_line k) (row_in v k) before g ++ 10 ∷ s → (f ≡ g) × (r ≡ s)
 one_line v k None f g r s short p q e = whole_one k f g r s p q e
 one_line whole k (Some b) f g r s short p q e = whole_one k f g r s p q e
 one_line by_changes k (Some b) f g r s short p q e = by (are_like b f) refl (are_like b g) refl
   where
-    abbrev text : Bool → Fields → List ℕ → List ℕ
-    text c h rest = cond c (row_changes k b h) (row_line k h) ++ 10 ∷ rest
-
     by : (c : Bool) → are_like b f ≡ c → (d : Bool) → are_like b g ≡ d → (f ≡ g) × (r ≡ s)
-    by true i true j = changes_one k b f g r s short p q (as_long b f i) (as_long b g j) (sym (ap (λ c. text c f r) i) ∙ e ∙ ap (λ c. text c g s) j)
-    by true i false j = absurd (letters_apart k b f g r s (sym (ap (λ c. text c f r) i) ∙ e ∙ ap (λ c. text c g s) j))
-    by false i true j = absurd (letters_apart k b g f s r (sym (ap (λ c. text c g s) j) ∙ sym e ∙ ap (λ c. text c f r) i))
-    by false i false j = whole_one k f g r s p q (sym (ap (λ c. text c f r) i) ∙ e ∙ ap (λ c. text c g s) j)
+    by true i true j = changes_one k b f g r s short p q (as_long b f i) (as_long b g j) (sym (ap (λ c. text_by c k b f r) i) ∙ e ∙ ap (λ c. text_by c k b g s) j)
+    by true i false j = absurd (letters_apart k b f g r s (sym (ap (λ c. text_by c k b f r) i) ∙ e ∙ ap (λ c. text_by c k b g s) j))
+    by false i true j = absurd (letters_apart k b g f s r (sym (ap (λ c. text_by c k b g s) j) ∙ sym e ∙ ap (λ c. text_by c k b f r) i))
+    by false i false j = whole_one k f g r s p q (sym (ap (λ c. text_by c k b f r) i) ∙ e ∙ ap (λ c. text_by c k b g s) j)
 
 -- a row that is written whole is no longer than its text
 tail_long : (ns : List ℕ) → length ns ≤ length (flat_map (λ n. codes "," ++ decimal n) ns)
@@ -160,25 +160,34 @@ numbers_long : (ns : List ℕ) → length ns ≤ 1 + length (numbers ns)
 numbers_long [] = omega arith
 numbers_long (n ∷ ns) = omega (arith, tail_long ns, length-append (decimal n) (flat_map (λ n. codes "," ++ decimal n) ns))
 
-row_long : (l : ℕ) (a b : Bool) (ms os ls : List ℕ) → (1 + length os ≤ length (row l a b ms os ls)) × (1 + length ls ≤ length (row l a b ms os ls))
+row_long : (l : ℕ) (a b : Bool) (ms os ls : List ℕ) → (1 + length os ≤ length (row l a b ms os ls)) × (1 + length ls ≤ length (row l a b ms os ls)) × (1 + length (numbers ms) ≤ length (row l a b ms os ls))
 row_long l a b ms os ls =
     let whole_row : length (row l a b ms os ls) ≡ length (l ∷ 32 ∷ flag a ∷ 32 ∷ flag b ∷ 32 ∷ (numbers ms ++ 32 ∷ (os ++ 32 ∷ ls))) = ap length (open_row l a b ms os ls) in
     let inner : length (os ++ 32 ∷ ls) ≡ length os + length (32 ∷ ls) = length-append os (32 ∷ ls) in
     let outer : length (numbers ms ++ 32 ∷ (os ++ 32 ∷ ls)) ≡ length (numbers ms) + length (32 ∷ (os ++ 32 ∷ ls)) = length-append (numbers ms) (32 ∷ (os ++ 32 ∷ ls)) in
-    (omega (arith, whole_row, inner, outer), omega (arith, whole_row, inner, outer))
+    (omega (arith, whole_row, inner, outer), omega (arith, whole_row, inner, outer), omega (arith, whole_row, inner, outer))
 
 pub whole_short : (k : Kind) (f : Fields) (bytes rest : List ℕ) → length bytes ≤ 67108864 → IsFormedRow f → bytes ≡ row_line k f ++ 10 ∷ rest → IsShort f
 whole_short k f bytes rest h p e =
     let long : length bytes ≡ length (row_line k f) + length (10 ∷ rest) = ap length e ∙ length-append (row_line k f) (10 ∷ rest) in
     let row_is = row_long (letter k) f.one f.other f.members (numbers f.outs) (numbers f.looks) in
     record {
+      members = omega (arith, h, long, row_is.2, numbers_long f.members);
       outs = omega (arith, h, long, row_is.0, numbers_long f.outs);
       looks = omega (arith, h, long, row_is.1, numbers_long f.looks);
       small = p.looks;
     }
 
-pub long_short : (b f : Fields) → AreAsLong b f → IsShort b → IsFormedRow f → IsShort f
-long_short b f l s p = record { outs = omega (arith, l.outs, s.outs); looks = omega (arith, l.looks, s.looks); small = p.looks }
+changes_short : (k : Kind) (b f : Fields) (bytes rest : List ℕ) → length bytes ≤ 67108864 → AreAsLong b f → IsShort b → IsFormedRow f → bytes ≡ row_changes k b f ++ 10 ∷ rest → IsShort f
+changes_short k b f bytes rest h l s p e =
+    let long : length bytes ≡ length (row_changes k b f) + length (10 ∷ rest) = ap length e ∙ length-append (row_changes k b f) (10 ∷ rest) in
+    let row_is = row_long (changes_letter k) f.one f.other f.members (listed change (changes 0 b.outs f.outs)) (listed change (changes 0 b.looks f.looks)) in
+    record {
+      members = omega (arith, h, long, row_is.2, numbers_long f.members);
+      outs = omega (arith, l.outs, s.outs);
+      looks = omega (arith, l.looks, s.looks);
+      small = p.looks;
+    }
 
 -- each row that is read is short
 pub line_short : (v : Version) (k : Kind) (before : Option Fields) (f : Fields) (bytes rest : List ℕ) → length bytes ≤ 67108864 → IsShortBefore before → IsFormedRow f
@@ -188,8 +197,8 @@ line_short whole k (Some b) f bytes rest h short p e = whole_short k f bytes res
 line_short by_changes k (Some b) f bytes rest h short p e = by (are_like b f) refl
   where
     by : (c : Bool) → are_like b f ≡ c → IsShort f
-    by true i = long_short b f (as_long b f i) short p
-    by false i = whole_short k f bytes rest h p (e ∙ ap (λ c. cond c (row_changes k b f) (row_line k f) ++ 10 ∷ rest) i)
+    by true i = changes_short k b f bytes rest h (as_long b f i) short p (e ∙ ap (λ c. text_by c k b f rest) i)
+    by false i = whole_short k f bytes rest h p (e ∙ ap (λ c. text_by c k b f rest) i)
 
 -- the same of trees and of lists of trees
 pub one_tree_line : (v : Version) (before : Option TreeLine) (t u : TreeLine) (r s : List ℕ) → ((b : TreeLine) → before ≡ Some b → IsShort (of_tree b)) → IsFormedTree t → IsFormedTree u

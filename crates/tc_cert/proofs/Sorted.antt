@@ -1,5 +1,5 @@
 -- Lists that ascend strictly, one by one.
-use Rattle.std.proofs.Common.{◌≡◌, ◌<◌, ◌≤◌, ◌+◌, ℕ, zero, suc, List, [], ◌∷◌, ◌++◌, length, map, get_or, Option, Some, None, refl, sym, ap, subst, ◌∙◌, arith}
+use Rattle.std.proofs.Common.{◌≡◌, ◌<◌, ◌≤◌, ◌+◌, ◌-◌, ◌⊎◌, inl, inr, ℕ, zero, suc, slice_get, List, [], ◌∷◌, ◌++◌, length, map, get_or, Option, Some, None, refl, sym, ap, subst, ◌∙◌, arith}
 use Rattle.std.specs.List.{AllByRecursion}
 use Rattle.std.specs.List.Sorted.{IsStrictlySortedBy}
 use Rattle.std.specs.Ordering.{nat_cmp}
@@ -8,7 +8,11 @@ use Rattle.std.specs.declared.cmp.Ordering.TheVariants.{Less, Equal, Greater}
 use Rattle.std.specs.Cmp.{IsTotalOrder}
 use Rattle.std.specs.Cmp.Lexicographic.{slice_cmp, nat_list_cmp_total}
 use Rattle.std.proofs.lemmas.List.{map-append}
-use Rattle.tc_model.specs.CertificateData.{AreOrdered}
+use Rattle.std.proofs.lemmas.Cmp.{then_total, on_total, nat_cmp_total}
+use Rattle.std.proofs.lemmas.Map.Keys.{Less-from_sorted}
+use Rattle.tc_model.specs.CertificateData.{AreOrdered, pair_cmp}
+use Rattle.tc_cert.proofs.Steps.{below_next}
+use Rattle.tc_cert.proofs.Differing.{got, within_get}
 use Rattle.tc_cert.specs.Fields.{last_of, IsBehind}
 
 some_same : {X : Type 0} (x y : X) → Some x ≡ Some y → x ≡ y
@@ -57,12 +61,15 @@ module _ {K : Type 0} {c : K → K → Ordering} (o : IsTotalOrder c) where
   all_above x z [] h s = tt
   all_above x z (w ∷ ws) h s = (o.trans x z w h s.0, all_above x z ws h s.1)
 
+  next_place : (k : ℕ) → suc k + 1 ≡ suc (k + 1)
+  next_place k = omega arith
+
   pub sorted_from_steps : (xs : List K) (d : K) → ((k : ℕ) → k + 1 < length xs → c (get_or xs k d) (get_or xs (k + 1) d) ≡ Less) → IsStrictlySortedBy c xs
   unfolding IsStrictlySortedBy
   sorted_from_steps [] d h = tt
   sorted_from_steps (x ∷ []) d h = (tt, tt)
   sorted_from_steps (x ∷ (z ∷ zs)) d h =
-      let more : IsStrictlySortedBy c (z ∷ zs) = sorted_from_steps (z ∷ zs) d (λ k l. h (suc k) (omega arith)) in
+      let more : IsStrictlySortedBy c (z ∷ zs) = sorted_from_steps (z ∷ zs) d (λ k l. subst (λ j. c (get_or (z ∷ zs) k d) (get_or (x ∷ (z ∷ zs)) j d) ≡ Less) (next_place k) (h (suc k) (omega (arith, l)))) in
       let first : c x z ≡ Less = h 0 (omega arith) in
       ((first, all_above x z zs first more.0), more)
 
@@ -91,3 +98,29 @@ behind_of_ordered {X = X} line xs y s = by (last_of xs) refl
 
 pub ordered_front : {X : Type 0} (line : X → List ℕ) (xs ys : List X) → AreOrdered (map line (xs ++ ys)) → AreOrdered (map line xs)
 ordered_front line xs ys s = front_sorted nat_list_cmp_total (map line xs) (map line ys) (subst AreOrdered (map-append line xs ys) s)
+
+-- pairs that ascend
+pair_cmp_total : IsTotalOrder pair_cmp
+pair_cmp_total = then_total (on_total (λ (p : ℕ × ℕ). p.0) nat_cmp_total) (on_total (λ (p : ℕ × ℕ). p.1) nat_cmp_total)
+
+pub sorted_pairs : (ps : List (ℕ × ℕ)) → ((k : ℕ) → k + 1 < length ps → pair_cmp (get_or ps k (0, 0)) (get_or ps (k + 1) (0, 0)) ≡ Less) → IsStrictlySortedBy pair_cmp ps
+sorted_pairs ps h = sorted_from_steps pair_cmp_total ps (0, 0) h
+
+pub not_sorted_pairs : (ps : List (ℕ × ℕ)) (i : ℕ) (p q : ℕ × ℕ) → 1 ≤ i → slice_get ps (i - 1) ≡ Some p → slice_get ps i ≡ Some q → (pair_cmp p q ≡ Less → ⊥) → IsStrictlySortedBy pair_cmp ps → ⊥
+not_sorted_pairs ps i p q some e d bar s =
+    let within : i < length ps = within_get ps i q d in
+    let less : pair_cmp (get_or ps (i - 1) (0, 0)) (get_or ps i (0, 0)) ≡ Less = Less-from_sorted pair_cmp ps (i - 1) i (0, 0) s (omega (arith, some)) within in
+    bar (subst (λ x. pair_cmp x q ≡ Less) (got ps (i - 1) p (0, 0) e) (subst (λ x. pair_cmp (get_or ps (i - 1) (0, 0)) x ≡ Less) (got ps i q (0, 0) d) less))
+
+pub pairs_up_to_next : (ps : List (ℕ × ℕ)) (i : ℕ) (p q : ℕ × ℕ) → 1 ≤ i → slice_get ps (i - 1) ≡ Some p → slice_get ps i ≡ Some q
+    → ((k : ℕ) → k + 1 < i → pair_cmp (get_or ps k (0, 0)) (get_or ps (k + 1) (0, 0)) ≡ Less) → pair_cmp p q ≡ Less
+    → (k : ℕ) → k + 1 < i + 1 → pair_cmp (get_or ps k (0, 0)) (get_or ps (k + 1) (0, 0)) ≡ Less
+pairs_up_to_next ps i p q some e d so_far last k h = by (below_next k i h)
+  where
+    by : (k + 1 < i) ⊎ (k + 1 ≡ i) → pair_cmp (get_or ps k (0, 0)) (get_or ps (k + 1) (0, 0)) ≡ Less
+    by (inl a) = so_far k a
+    by (inr a) =
+        let before : i - 1 ≡ k = omega (arith, a) in
+        let one : get_or ps k (0, 0) ≡ p = ap (λ j. get_or ps j (0, 0)) (sym before) ∙ got ps (i - 1) p (0, 0) e in
+        let other : get_or ps (k + 1) (0, 0) ≡ q = ap (λ j. get_or ps j (0, 0)) a ∙ got ps i q (0, 0) d in
+        subst (λ x. pair_cmp x (get_or ps (k + 1) (0, 0)) ≡ Less) (sym one) (subst (λ x. pair_cmp p x ≡ Less) (sym other) last)

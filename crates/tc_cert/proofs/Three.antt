@@ -90,10 +90,10 @@ module _ {X : Type 0} (f : X → List ℕ) (ok : X → Type 0) (plain : IsPlain 
       let rest : end ∷ r ≡ end ∷ s = k.1 in
       (k.0, ap (drop 1) rest)
 
-  first_of : {letter : ℕ} {bytes ms r ns rest : List ℕ} {a b c d : Bool} {xs ys : List X} → IsFrontAt letter bytes a b ms r → AreThree f ok letter bytes c d ns xs ys rest → IsListAt f ok 32 r xs (listed f ys ++ 10 ∷ rest)
+  pub first_of : {letter : ℕ} {bytes ms r ns rest : List ℕ} {a b c d : Bool} {xs ys : List X} → IsFrontAt letter bytes a b ms r → AreThree f ok letter bytes c d ns xs ys rest → IsListAt f ok 32 r xs (listed f ys ++ 10 ∷ rest)
   first_of h t = record { allowed = t.first; spelled = (same_front h (front_of t)).rest }
 
-  second_of : {letter : ℕ} {bytes ms r ns s rest : List ℕ} {a b c d : Bool} {zs xs ys : List X} → IsFrontAt letter bytes a b ms r → IsListAt f ok 32 r zs s → AreThree f ok letter bytes c d ns xs ys rest → IsListAt f ok 10 s ys rest
+  pub second_of : {letter : ℕ} {bytes ms r ns s rest : List ℕ} {a b c d : Bool} {zs xs ys : List X} → IsFrontAt letter bytes a b ms r → IsListAt f ok 32 r zs s → AreThree f ok letter bytes c d ns xs ys rest → IsListAt f ok 10 s ys rest
   second_of h p t = record { allowed = t.second; spelled = (same_list ends_space p (first_of h t)).1 }
 
   pub one_row : {letter : ℕ} {bytes ms ns r s rest after : List ℕ} {a b c d : Bool} {xs ys zs ws : List X} → IsFrontAt letter bytes a b ms r → IsListAt f ok 32 r xs s → IsListAt f ok 10 s ys rest

@@ -9,3 +9,4 @@ pub mod Fields
 pub mod Orders
 pub mod NextRows
 pub mod Styles
+pub mod Standing

@@ -1,5 +1,5 @@
 -- Rows at the front of bytes: the first of a kind, one written whole behind another, one by its changes.
-use Rattle.std.specs.Prelude.{◌≡◌, ◌∷◌, ◌++◌, ℕ, List, Bool, true, false, length, All, ◌≤◌}
+use Rattle.std.specs.Prelude.{◌≡◌, ◌∷◌, ◌++◌, ℕ, List, Bool, true, false, length, get_or, All, ◌≤◌, ◌<◌, ◌≢◌}
 use Rattle.tc_model.specs.CertificateLines.{numbers, changed, changes, listed, change}
 use Rattle.tc_cert.specs.Fields.{Fields, IsFormedRow, row_line, row_changes, are_like, IsBehind}
 use Rattle.tc_cert.specs.Orders.{row_order}
@@ -15,6 +15,12 @@ pub record IsWholeAt (k : Kind) (bytes : List ℕ) (f : Fields) (rest : List ℕ
 pub record AreChanged (old : List ℕ) (cs : List (ℕ × ℕ)) (new : List ℕ) : Type 0 where
   pub long : length new ≡ length old
   pub are : changes 0 old new ≡ cs
+
+-- a change that may come next: from a place on, of another number than is there
+pub record IsNextChange (now : List ℕ) (next place number : ℕ) : Type 0 where
+  pub from : next ≤ place
+  pub within : place < length now
+  pub differs : get_or now place 0 ≢ number
 
 -- a row that is written by its changes of another
 pub record IsChangedAt (k : Kind) (b : Fields) (bytes : List ℕ) (f : Fields) (rest : List ℕ) : Type 0 where
@@ -37,6 +43,7 @@ IsMadeBehind b one other members outs looks result = (f : Fields) → IsMade b o
 
 -- rows whose lists are no longer than a file
 pub record IsShort (f : Fields) : Type 0 where
+  pub members : length f.members ≤ 67108864
   pub outs : length f.outs ≤ 67108864
   pub looks : length f.looks ≤ 67108864
   pub small : All (λ n. n ≤ 2) f.looks

@@ -5,6 +5,7 @@ ghost use Rattle.std.specs.Char.{digit_value, is_ascii_digit};
 ghost use Rattle.std.specs.Str.Parse.{AllDigits, digits_value};
 ghost use Rattle.std.specs.List.Sorted.{IsStrictlySortedBy};
 ghost use Rattle.std.specs.Ordering.{nat_cmp};
+ghost use Rattle.std.specs.declared.cmp.Ordering.TheVariants.{Less};
 ghost use Rattle.tc_model.specs.CertificateLines as lines;
 ghost use Rattle.tc_model.specs.CertificateData.{pair_cmp};
 ghost use Rattle.tc_cert.specs.Pieces.{IsNumberAt, IsTwoAt, AreNumbersAt, AreChangesAt, ArePairsAt, FlagsAt, IsFrontAt, IsMissing, HasNoLeadingZero};
@@ -223,12 +224,19 @@ fn do_ascend(numbers: &[u32]) -> bool
     true
 }
 
+/// Whether a pair stands before another.
+fn is_before(one: (u32, u32), other: (u32, u32)) -> bool
+    ensures { IsTrue result ↔ (pair_cmp one other ≡ Less) }
+{
+    one.cmp(&other) == Ordering::Less
+}
+
 /// Whether pairs ascend strictly.
 pub(crate) fn do_pairs_ascend(pairs: &Pairs) -> bool
     ensures { IsTrue result ↔ IsStrictlySortedBy pair_cmp pairs.now }
 {
     for i in 1..pairs.len() {
-        if pairs.get(i - 1).cmp(pairs.get(i)) != Ordering::Less {
+        if !is_before(*pairs.get(i - 1), *pairs.get(i)) {
             return false;
         }
     }

@@ -3,13 +3,13 @@ ghost use Rattle.std.specs.Prelude.{◌≡◌, ◌≤◌, ◌<◌, ◌↔◌, �
 ghost use Rattle.tc_cert.specs.Fields as fields;
 ghost use Rattle.tc_cert.specs.Fields.{Fields, fields_of, IsFormedRow, IsBehind, IsNextRow, row_line};
 ghost use Rattle.std.specs.Option.{option_map};
-ghost use Rattle.tc_cert.specs.NextRows.{IsWholeAt, IsChangedAt, AreChanged, IsMade, IsMadeBehind, IsShort};
-ghost use Rattle.tc_cert.specs.Styles.{version_of, IsWholeBehind};
+ghost use Rattle.tc_cert.specs.NextRows.{IsWholeAt, IsChangedAt, AreChanged, IsNextChange, IsMade, IsMadeBehind, IsShort};
+ghost use Rattle.tc_cert.specs.Styles.{version_of, IsWholeBehind, MayBeWhole, IsByChanges};
 ghost use Rattle.tc_cert.specs.Pieces.{IsMissing};
 
 use crate::faults::PieceFault;
 use crate::order::{changes_order, front_order, row_order};
-use crate::pieces::{RowFront, are_looks, changes, front, numbers};
+use crate::pieces::{RowFront, after_byte, are_looks, changes, front, numbers};
 use std::alloc::Global;
 use std::cmp::Ordering;
 
@@ -100,18 +100,25 @@ fn put_looks(changes: &[(u32, u32)]) -> bool
     changes.iter().all(|(_, number)| *number <= 2)
 }
 
+/// Whether a change stands at the next place or behind it, and puts another number than before.
+fn is_change(numbers: &[u32], next: usize, change: (u32, u32)) -> bool
+    ensures { IsTrue result ↔ IsNextChange numbers.now next change.0 change.1 }
+{
+    let place = change.0 as usize;
+    next <= place && place < numbers.len() && numbers[place] != change.1
+}
+
 /// Makes the changes, where each stands behind the one before it and puts another number than before.
 fn apply(numbers: &mut Vec<u32>, changes: &[(u32, u32)]) -> bool
     ensures { MatchBool result (AreChanged numbers.old.items changes.now numbers.new.items) ((new : List ℕ) → AreChanged numbers.old.items changes.now new → ⊥) }
 {
     let mut next = 0;
     for change in changes {
-        let place = change.0 as usize;
-        if place < next || numbers.len() <= place || numbers[place] == change.1 {
+        if !is_change(numbers, next, *change) {
             return false;
         }
-        numbers[place] = change.1;
-        next = place + 1;
+        numbers[change.0 as usize] = change.1;
+        next = change.0 as usize + 1;
     }
     true
 }
@@ -186,6 +193,17 @@ pub(crate) enum Style {
     ByChanges,
 }
 
+/// Whether a row is written whole behind another, and stands behind it.
+fn may_be_whole(style: Style, before: &Row, row: &Row) -> bool
+    ensures { IsTrue result ↔ MayBeWhole style (fields_of before.now) (fields_of row.now) }
+{
+    let unlike = match style {
+        Style::Whole => true,
+        Style::ByChanges => !are_like(before, row),
+    };
+    unlike && row_order(before, row) == Ordering::Less
+}
+
 /// The row at the front that is written whole behind another, and the next line.
 fn whole_behind<'t>(
     alloc: Global,
@@ -199,13 +217,23 @@ fn whole_behind<'t>(
     ensures no { IfErr result (IsMissing ((f : Fields) × (rest : List ℕ) × IsWholeBehind style kind (fields_of before.now) bytes.now f rest)) }
 {
     let (row, rest) = whole(alloc, bytes, kind)?;
-    if style == Style::ByChanges && are_like(before, &row) {
-        return Err(PieceFault::Form);
-    }
-    if row_order(before, &row) != Ordering::Less {
+    if !may_be_whole(style, before, &row) {
         return Err(PieceFault::Form);
     }
     Ok((row, rest))
+}
+
+/// Whether the next row is written by its changes.
+fn is_by_changes(bytes: &[u8], kind: Kind, style: Style) -> bool
+    ensures { MatchBool result (IsByChanges style kind bytes.now) (IsByChanges style kind bytes.now → ⊥) }
+{
+    match style {
+        Style::Whole => false,
+        Style::ByChanges => match after_byte(bytes, kind.changes_letter()) {
+            Some(_) => true,
+            None => false,
+        },
+    }
 }
 
 /// The row at the front behind another, and the next line.
@@ -220,7 +248,7 @@ fn row_behind(
     ensures ok { IfOk result (λ r. IsNextRow (version_of style) kind (Some (fields_of before)) bytes.now (fields_of r.0) r.1.now) }
     ensures no { IfErr result (IsMissing ((f : Fields) × (rest : List ℕ) × IsNextRow (version_of style) kind (Some (fields_of before)) bytes.now f rest)) }
 {
-    if style == Style::ByChanges && bytes.first() == Some(&kind.changes_letter()) {
+    if is_by_changes(bytes, kind, style) {
         changed(alloc, bytes, kind, before)
     } else {
         whole_behind(alloc, bytes, kind, style, &before)

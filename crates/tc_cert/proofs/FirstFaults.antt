@@ -20,9 +20,9 @@ next_of f g l h e n = subst (λ x. Next x l h) (sym e) n
 
 pub same_count : (bytes : List ℕ) (f : Front) (r : List ℕ) (g : Front) (s : List ℕ) → length bytes ≤ 67108864 → Reach bytes f r → Reach bytes g s → line_count f ≡ line_count g → (f ≡ g) × (r ≡ s)
 same_count bytes f r g s h (at_start e p) (at_start d q) c = (e ∙ sym d, p ∙ sym q)
-same_count bytes f r g s h (at_start e p) (behind {f = g0} {l = k} b n good q) c = absurd (omega (arith, c, ap line_count e, one_more_line g0 k g n))
-same_count bytes f r g s h (behind {f = f0} {l = l} a n good p) (at_start d q) c = absurd (omega (arith, c, ap line_count d, one_more_line f0 l f n))
-same_count bytes f r g s h (behind {f = f0} {l = l} {rest = r0} a n good p) (behind {f = g0} {l = k} {rest = s0} b m fine q) c =
+same_count bytes f r g s h (at_start e p) (behind {f = g0} k b n good q) c = absurd (omega (arith, c, ap line_count e, one_more_line g0 k g n))
+same_count bytes f r g s h (behind {f = f0} l a n good p) (at_start d q) c = absurd (omega (arith, c, ap line_count d, one_more_line f0 l f n))
+same_count bytes f r g s h (behind {f = f0} {rest = r0} l a n good p) (behind {f = g0} {rest = s0} k b m fine q) c =
     let before : (f0 ≡ g0) × (r0 ≡ s0) = same_count bytes f0 r0 g0 s0 h a b (omega (arith, c, one_more_line f0 l f n, one_more_line g0 k g m)) in
     one_next f0 l k f g r s (reach_short bytes f0 r0 h a) n (next_of f0 g0 k g before.0 m) good fine (sym p ∙ before.1 ∙ q)
 
@@ -47,7 +47,7 @@ most_or_more (suc m) (suc n) = by (most_or_more m n)
 
 pub shorter_goes : (bytes : List ℕ) (f : Front) (r : List ℕ) (g : Front) (s : List ℕ) → length bytes ≤ 67108864 → Reach bytes f r → Reach bytes g s → line_count f < line_count g → CanGo f r
 shorter_goes bytes f r g s h a (at_start d q) c = absurd (omega (arith, c, ap line_count d))
-shorter_goes bytes f r g s h a (behind {f = g0} {l = k} {rest = s0} b m fine q) c =
+shorter_goes bytes f r g s h a (behind {f = g0} {rest = s0} k b m fine q) c =
     by (shorter_goes bytes f r g0 s0 h a b) (less_or_same (line_count f) (line_count g0) (omega (arith, c, one_more_line g0 k g m)))
   where
     here : (f ≡ g0) × (r ≡ s0) → CanGo f r
@@ -99,22 +99,18 @@ data_or e (in_trees v os count ts) = e
 data_or e (in_hedges v os ts count hs) = e
 data_or e (finished v d) = d
 
-pub one_data : OneData
-one_data bytes h d e t u = by (most_or_more (line_count f) (line_count g))
+past_end : (v : Version) (c : CertData) (s : List ℕ) → CanGo (finished v c) s → ⊥
+past_end v c s k = k.next
+
+two_texts : (bytes : List ℕ) (v w : Version) (d e : CertData) → length bytes ≤ 67108864 → Reach bytes (finished v d) [] → Reach bytes (finished w e) [] → d ≡ e
+two_texts bytes v w d e h a b = by (most_or_more (line_count (finished v d)) (line_count (finished w e)))
   where
-    f : Front
-    f = finished t.version d
-    g : Front
-    g = finished u.version e
-    a : Reach bytes f []
-    a = reached bytes f [] (of_text bytes d t)
-    b : Reach bytes g []
-    b = reached bytes g [] (of_text bytes e u)
-    past : (v : Version) (c : CertData) (s : List ℕ) → CanGo (finished v c) s → ⊥
-    past v c s k = k.next
-    last : (line_count f < line_count g) ⊎ (line_count f ≡ line_count g) → d ≡ e
-    last (inl p) = absurd (past t.version d [] (shorter_goes bytes f [] g [] h a b p))
-    last (inr p) = ap (data_or d) (same_count bytes f [] g [] h a b p).0
-    by : (line_count f ≤ line_count g) ⊎ (line_count g < line_count f) → d ≡ e
-    by (inl p) = last (less_or_same (line_count f) (line_count g) (omega (arith, p)))
-    by (inr p) = absurd (past u.version e [] (shorter_goes bytes g [] f [] h b a p))
+    last : (line_count (finished v d) < line_count (finished w e)) ⊎ (line_count (finished v d) ≡ line_count (finished w e)) → d ≡ e
+    last (inl p) = absurd (past_end v d [] (shorter_goes bytes (finished v d) [] (finished w e) [] h a b p))
+    last (inr p) = ap (data_or d) (same_count bytes (finished v d) [] (finished w e) [] h a b p).0
+    by : (line_count (finished v d) ≤ line_count (finished w e)) ⊎ (line_count (finished w e) < line_count (finished v d)) → d ≡ e
+    by (inl p) = last (less_or_same (line_count (finished v d)) (line_count (finished w e)) (omega (arith, p)))
+    by (inr p) = absurd (past_end w e [] (shorter_goes bytes (finished w e) [] (finished v d) [] h b a p))
+
+pub one_data : OneData
+one_data bytes h d e t u = two_texts bytes t.version u.version d e h (reached bytes (finished t.version d) [] (of_text bytes d t)) (reached bytes (finished u.version e) [] (of_text bytes e u))
