@@ -283,12 +283,23 @@ within_get (y ∷ ys) (suc i) x e = omega (arith, within_get ys i x e)
 pair_itself : (p : ℕ × ℕ) → pair_order p p ≡ Equal
 pair_itself p = bytes_itself (pair p)
 
-pub pairs_differ : {E : Type 0} (r : Result Ordering E) (one other : List (ℕ × ℕ)) (i : ℕ) (p q : ℕ × ℕ) → slice_get one i ≡ Some p → slice_get other i ≡ Some q → (p ≡ q → ⊥)
-    → IfOk r (λ o. o ≡ pair_order p q) → IfOk r (λ o. o ≡ Equal → p ≡ q) → pairs_order one other ≡ pairs_order (drop i one) (drop i other) → IfOk r (λ o. o ≡ pairs_order one other)
-pairs_differ (Ok o) one other i p q e d bar is apart so_far =
+head_pair : (p q : ℕ × ℕ) → p ∷ [] ≡ q ∷ [] → p ≡ q
+head_pair p q e = cc
+
+pub pair_of_order : (p q : ℕ × ℕ) (o : Ordering) → AreNumbers p → AreNumbers q → o ≡ pair_order p q → o ≡ Equal → p ≡ q
+pair_of_order p q o a b is e =
+    let same : pair p ≡ pair q = exact_bytes (pair p) (pair q) (sym is ∙ e) in
+    head_pair p q (one_pairs (p ∷ []) (q ∷ []) [] [] (all_one AreNumbers p a) (all_one AreNumbers q b) (ap (λ l. (l ++ []) ++ 10 ∷ []) same)).0
+
+number_at : (ps : List (ℕ × ℕ)) (i : ℕ) (p : ℕ × ℕ) → slice_get ps i ≡ Some p → All AreNumbers ps → AreNumbers p
+number_at ps i p e a = subst AreNumbers (got ps i p (0, 0) e) (a i (0, 0) (within_get ps i p e))
+
+pub pairs_differ : {E : Type 0} (r : Result Ordering E) (one other : List (ℕ × ℕ)) (i : ℕ) (p q : ℕ × ℕ) → slice_get one i ≡ Some p → slice_get other i ≡ Some q → (p ≡ q → ⊥) → All AreNumbers one → All AreNumbers other
+    → IfOk r (λ o. o ≡ pair_order p q) → pairs_order one other ≡ pairs_order (drop i one) (drop i other) → IfOk r (λ o. o ≡ pairs_order one other)
+pairs_differ (Ok o) one other i p q e d bar a b is so_far =
     let here : pair_order (get_or one i (0, 0)) (get_or other i (0, 0)) ≡ pair_order p q = λ j. pair_order (got one i p (0, 0) e j) (got other i q (0, 0) d j) in
-    is ∙ sym (so_far ∙ other_at pair_order one other i (0, 0) (within_get one i p e) (within_get other i q d) (λ z. bar (apart (is ∙ sym here ∙ z))) ∙ here)
-pairs_differ (Err x) one other i p q e d bar is apart so_far = tt
+    is ∙ sym (so_far ∙ other_at pair_order one other i (0, 0) (within_get one i p e) (within_get other i q d) (λ z. bar (pair_of_order p q o (number_at one i p e a) (number_at other i q d b) is (is ∙ sym here ∙ z))) ∙ here)
+pairs_differ (Err x) one other i p q e d bar a b is so_far = tt
 
 pub pairs_alike : (one other : List (ℕ × ℕ)) (i : ℕ) (p q : ℕ × ℕ) → slice_get one i ≡ Some p → slice_get other i ≡ Some q → p ≡ q → pairs_order one other ≡ pairs_order (drop i one) (drop i other)
     → pairs_order one other ≡ pairs_order (drop (i + 1) one) (drop (i + 1) other)
@@ -302,10 +313,3 @@ pairs_end one other i o h k is so_far = is ∙ sym (so_far ∙ at_end pair_order
 pub number_of_order : (m n : ℕ) (o : Ordering) → m < 2 ^ 64 → n < 2 ^ 64 → o ≡ number_order m n → o ≡ Equal → m ≡ n
 number_of_order m n o h k is e = decimal_injective m n h k (exact_bytes (decimal m) (decimal n) (sym is ∙ e))
 
-head_pair : (p q : ℕ × ℕ) → p ∷ [] ≡ q ∷ [] → p ≡ q
-head_pair p q e = cc
-
-pub pair_of_order : (p q : ℕ × ℕ) (o : Ordering) → AreNumbers p → AreNumbers q → o ≡ pair_order p q → o ≡ Equal → p ≡ q
-pair_of_order p q o a b is e =
-    let same : pair p ≡ pair q = exact_bytes (pair p) (pair q) (sym is ∙ e) in
-    head_pair p q (one_pairs (p ∷ []) (q ∷ []) [] [] (all_one AreNumbers p a) (all_one AreNumbers q b) (ap (λ l. (l ++ []) ++ 10 ∷ []) same)).0

@@ -91,7 +91,7 @@ is_fault bytes f rest h b stuck unfinished = record {
         last (inl q) = past t.version d [] (shorter_goes bytes (finished t.version d) [] f rest h there here q)
         last (inr q) = let e : (finished t.version d ≡ f) × ([] ≡ rest) = same_count bytes (finished t.version d) [] f rest h there here q in unfinished t.version d (sym e.0) (sym e.1)
 
-data_or : CertData → Front → CertData
+abbrev data_or : CertData → Front → CertData
 data_or e nothing = e
 data_or e (begun v) = e
 data_or e (in_outputs v count os) = e

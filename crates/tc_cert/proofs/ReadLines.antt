@@ -1,6 +1,9 @@
 -- A reader behind the lines that were read: what the next line makes of them, or that it is the first fault.
-use Rattle.std.proofs.Common.{◌≡◌, ◌<◌, ◌≤◌, ◌+◌, ◌⊎◌, inl, inr, ℕ, zero, suc, List, [], ◌∷◌, ◌++◌, length, map, drop, All, Option, Some, None, Result, Ok, Err, IfErr, IfOk, IfSome, IsErrAnd, MatchResult, refl, sym, ap, subst, ◌∙◌, append_assoc, append-nil, length-append, arith, codes}
+use Rattle.std.proofs.Common.{◌≡◌, ◌<◌, ◌≤◌, ◌+◌, ◌⊎◌, inl, inr, ℕ, zero, suc, List, [], ◌∷◌, ◌++◌, length, map, take, drop, nat_eq, true, false, All, Option, Some, None, Result, Ok, Err, IfErr, IfOk, IfSome, IsErrAnd, MatchResult, refl, sym, ap, subst, ◌∙◌, append_assoc, append-nil, length-append, arith, codes, decimal, slice_get, MatchOption, ◌-◌}
 use Rattle.std.specs.Option.{option_map}
+use Rattle.std.specs.Cmp.Lexicographic.{pointwise, bytes_decides}
+use Rattle.std.proofs.lemmas.List.{take-append-drop, take_rest}
+use Rattle.tc_cert.proofs.Numbers.{bool_apart}
 use Rattle.std.proofs.lemmas.List.Elements.{All-append}
 use Rattle.tc_model.specs.declared.lists.TreeLine.{TreeLine}
 use Rattle.tc_model.specs.declared.lists.HedgeLine.{HedgeLine}
@@ -9,18 +12,22 @@ use Rattle.tc_model.specs.CertificateLines.{pairs_line, tree_line, hedge_line}
 use Rattle.tc_model.specs.CertificateData.{ArePairs, IsFormedTree, IsFormedHedge, AreOrdered, IsFormed}
 use Rattle.tc_cert.specs.Texts.{Version, whole, by_changes, heading, counted, tree_in, hedge_in, CertificateText}
 use Rattle.tc_cert.specs.Fronts.{Front, nothing, begun, in_outputs, in_trees, in_hedges, finished, line_count, AreOutputs, AreTrees, AreHedges, IsGood, BeginsWith, IsFirstFault}
-use Rattle.tc_cert.specs.Fields.{Fields, IsFormedRow, IsBehind, IsNextRow, row_line, row_in, line_behind, last_of, tree_of, hedge_of}
+use Rattle.tc_cert.specs.Fields.{Fields, IsFormedRow, IsBehind, IsNextRow, row_line, row_in, line_behind, last_of, tree_of, hedge_of, fields_of}
 use Rattle.tc_cert.specs.Readings.{IsUnread}
-use Rattle.tc_cert.specs.Standing.{Passes, Stands, IsNextFault, IsEndFault}
-use Rattle.tc_cert.specs.declared.reader.Reader.{Reader}
+use Rattle.tc_cert.specs.Standing.{Passes, Stands, IsAfter, IsNextFault, IsEndFault}
+use Rattle.tc_cert.specs.declared.cursor.Reader.{Reader}
 use Rattle.tc_cert.specs.declared.faults.CertFault.{CertFault}
 use Rattle.tc_cert.specs.declared.faults.CertFault.TheVariants as cert
 use Rattle.tc_cert.specs.Styles.{version_of}
 use Rattle.tc_cert.specs.declared.rows.Kind.{Kind}
 use Rattle.tc_cert.specs.declared.rows.Kind.TheVariants.{Tree, Hedge}
-use Rattle.tc_cert.proofs.Lists.{all_one}
-use Rattle.tc_cert.proofs.RowLines.{of_tree, of_hedge, formed_tree, tree_formed, formed_hedge, hedge_formed}
-use Rattle.tc_cert.proofs.Sorted.{ordered_snoc, behind_of_ordered}
+use Rattle.tc_cert.specs.Pieces.{Stops, IsNumberAt, ArePairsAt}
+use Rattle.tc_cert.specs.NextRows.{IsShort}
+use Rattle.tc_cert.specs.declared.rows.Row.{Row}
+use Rattle.tc_cert.proofs.Fields.{one_number, stops_at}
+use Rattle.tc_cert.proofs.Lists.{all_one, one_pairs}
+use Rattle.tc_cert.proofs.RowLines.{IsShortBefore, of_tree, of_hedge, formed_tree, tree_formed, formed_hedge, hedge_formed}
+use Rattle.tc_cert.proofs.Sorted.{ordered_nil, ordered_snoc, behind_of_ordered}
 use Rattle.tc_cert.proofs.Chains.{Next, goes_on, one_more_line, last_all, too_many}
 use Rattle.tc_cert.proofs.FirstFaults.{CanGo, is_fault, to_text}
 
@@ -83,13 +90,13 @@ output_fault v bytes count os r e few s h = next_fault v bytes (in_outputs v cou
 
 -- counts
 no_outputs : (count : ℕ) → count ≤ 65536 → AreOutputs count []
-no_outputs count h = record { few = omega arith; most_few = h; formed = λ k d i. absurd (omega arith); ordered = tt }
+no_outputs count h = record { few = omega arith; most_few = h; formed = λ k d i. absurd (omega arith); ordered = ordered_nil }
 
 no_trees : (count : ℕ) → count ≤ 4000 → AreTrees count []
-no_trees count h = record { few = omega arith; most_few = h; formed = λ k d i. absurd (omega arith); ordered = tt }
+no_trees count h = record { few = omega arith; most_few = h; formed = λ k d i. absurd (omega arith); ordered = ordered_nil }
 
 no_hedges : (count : ℕ) → count ≤ 4000 → AreHedges count []
-no_hedges count h = record { few = omega arith; most_few = h; formed = λ k d i. absurd (omega arith); ordered = tt }
+no_hedges count h = record { few = omega arith; most_few = h; formed = λ k d i. absurd (omega arith); ordered = ordered_nil }
 
 abbrev pub ACount : List ℕ → ℕ → List ℕ → Type 0
 ACount kind most bytes = (n : ℕ) × (rest : List ℕ) × (n ≤ most) × (bytes ≡ counted kind n ++ 10 ∷ rest)
@@ -257,6 +264,100 @@ end_fault v bytes os ts hs r (cert.Form line) s (inl h) =
     go c = by c.line c.to c.after c.next c.good c.spelled
 end_fault v bytes os ts hs r (cert.Form line) s (inr h) =
     let d : CertData = record { outputs = os; trees = ts; hedges = hs } in
-    let begins : BeginsWith bytes (finished v d) h.1 = goes_on (codes "end") (end_next v os ts hs) (formed_of v os ts hs s.begins.good) s.begins h.2 in
+    let begins : BeginsWith bytes (finished v d) h.1.0 = goes_on (codes "end") (end_next v os ts hs) (formed_of v os ts hs s.begins.good) s.begins h.1.1 in
     let place : line_count (finished v d) + 1 ≡ line = omega (arith, h.0, s.lines, one_more_line (in_hedges v os ts (length hs) hs) (codes "end") (finished v d) (end_next v os ts hs)) in
-    subst (IsFirstFault bytes) place (is_fault bytes (finished v d) h.1 s.short begins (λ c. c.next) (λ w c q z. h.3 z))
+    subst (IsFirstFault bytes) place (is_fault bytes (finished v d) h.1.0 s.short begins (λ c. c.next) (λ w c q z. h.1.2 z))
+
+-- the line of an output behind the last of others
+pub behind_of : {B : Type 0} (now : B → List (ℕ × ℕ)) (os : List (List (ℕ × ℕ))) (ps : List (ℕ × ℕ)) (r : Option B) → MatchOption r (last_of os ≡ None) (λ b. last_of os ≡ Some (now b)) → IfSome r (λ b. IsAfter (now b) ps) → IsBehind pairs_line (last_of os) ps
+behind_of now os ps None e h = subst (λ o. IsBehind pairs_line o ps) (sym e) tt
+behind_of now os ps (Some b) e h = subst (λ o. IsBehind pairs_line o ps) (sym e) h
+
+pub of_behind : {B : Type 0} (now : B → List (ℕ × ℕ)) (os : List (List (ℕ × ℕ))) (ps : List (ℕ × ℕ)) (r : Option B) → MatchOption r (last_of os ≡ None) (λ b. last_of os ≡ Some (now b)) → IsBehind pairs_line (last_of os) ps → IfSome r (λ b. IsAfter (now b) ps)
+of_behind now os ps None e h = tt
+of_behind now os ps (Some b) e h = subst (λ o. IsBehind pairs_line o ps) e h
+
+-- the last of a list, by its place
+pub last_get : {X : Type 0} (xs : List X) (x : X) → 0 < length xs → slice_get xs (length xs - 1) ≡ Some x → last_of xs ≡ Some x
+last_get [] x h e = absurd (omega (arith, h))
+last_get (y ∷ []) x h e = e
+last_get (y ∷ (z ∷ zs)) x h e = last_get (z ∷ zs) x (omega arith) (ap (slice_get (y ∷ (z ∷ zs))) (places (length zs)) ∙ e)
+  where
+    places : (n : ℕ) → suc (suc n - 1) ≡ suc (suc n) - 1
+    places n = omega arith
+
+pub last_none : {X : Type 0} (xs : List X) → length xs ≤ 0 → last_of xs ≡ None
+last_none [] h = refl
+last_none (x ∷ xs) h = absurd (omega (arith, h))
+
+-- what stands at the front of a line that counts
+pub count_behind : (kind bytes behind : List ℕ) (n : ℕ) (rest : List ℕ) → bytes ≡ kind ++ behind → bytes ≡ counted kind n ++ 10 ∷ rest → behind ≡ 32 ∷ (decimal n ++ 10 ∷ rest)
+count_behind kind bytes behind n rest e d = cancel kind behind (32 ∷ (decimal n ++ 10 ∷ rest)) (sym e ∙ d ∙ append_assoc (kind ++ 32 ∷ []) (decimal n) (10 ∷ rest) ∙ append_assoc kind (32 ∷ []) (decimal n ++ 10 ∷ rest))
+  where
+    cancel : (k xs ys : List ℕ) → k ++ xs ≡ k ++ ys → xs ≡ ys
+    cancel [] xs ys e = e
+    cancel (c ∷ k) xs ys e = let tail : k ++ xs ≡ k ++ ys = ap (drop 1) e in cancel k xs ys tail
+
+pub count_digits : (kind bytes behind digits : List ℕ) (n : ℕ) (rest : List ℕ) → bytes ≡ kind ++ behind → behind ≡ 32 ∷ digits → bytes ≡ counted kind n ++ 10 ∷ rest → digits ≡ decimal n ++ 10 ∷ rest
+count_digits kind bytes behind digits n rest e b d = let k : 32 ∷ digits ≡ 32 ∷ (decimal n ++ 10 ∷ rest) = sym b ∙ count_behind kind bytes behind n rest e d in ap (drop 1) k
+
+stops_feed : (r : List ℕ) → Stops (10 ∷ r)
+stops_feed r = stops_at 10 r (λ h. absurd (omega (arith, h)))
+
+pub count_number : (kind bytes behind digits : List ℕ) (n : ℕ) (rest : List ℕ) → n < 4294967296 → bytes ≡ kind ++ behind → behind ≡ 32 ∷ digits → bytes ≡ counted kind n ++ 10 ∷ rest → IsNumberAt digits n (10 ∷ rest)
+count_number kind bytes behind digits n rest h e b d = record { number = h; whole = stops_feed rest; spelled = count_digits kind bytes behind digits n rest e b d }
+
+pub count_same : (kind bytes behind digits end : List ℕ) (m n : ℕ) (rest : List ℕ) → n < 4294967296 → bytes ≡ kind ++ behind → behind ≡ 32 ∷ digits → IsNumberAt digits m end → bytes ≡ counted kind n ++ 10 ∷ rest → (m ≡ n) × (end ≡ 10 ∷ rest)
+count_same kind bytes behind digits end m n rest h e b at d = one_number m n end (10 ∷ rest) at.number h at.whole (stops_feed rest) (sym at.spelled ∙ count_digits kind bytes behind digits n rest e b d)
+
+-- neither heading
+pub no_heading : (bytes : List ℕ) → ((r : List ℕ) → bytes ≡ codes "xslt-typecheck certificate 1\n" ++ r → ⊥) → ((r : List ℕ) → bytes ≡ codes "xslt-typecheck certificate 2\n" ++ r → ⊥)
+    → (v : Version) (rest : List ℕ) → bytes ≡ heading v ++ 10 ∷ rest → ⊥
+no_heading bytes one two whole rest e = one rest e
+no_heading bytes one two by_changes rest e = two rest e
+
+-- what a refusal leaves
+pub refused : {T E : Type 0} (P : T → Type 0) (Q : E → Type 0) (r : Result T E) (x : E) → IsErrAnd r (λ e. e ≡ x) → Q x → MatchResult r P Q
+refused P Q (Ok x) e h q = absurd h
+refused P Q (Err x) e h q = subst Q (sym h) q
+
+-- a text that bytes begin with
+pub begins : (mark bs : List ℕ) → pointwise nat_eq mark (take (length mark) bs) ≡ true → bs ≡ mark ++ take (length bs - length mark) (drop (length mark) bs)
+begins mark bs e =
+    sym (take-append-drop (length mark) bs) ∙ ap (λ w. w ++ drop (length mark) bs) (sym ((bytes_decides mark (take (length mark) bs)).0 e)) ∙ ap (λ w. mark ++ w) (sym (take_rest bs (length mark)))
+
+take_front : (mark r : List ℕ) → take (length mark) (mark ++ r) ≡ mark
+take_front [] r = refl
+take_front (m ∷ mark) r = ap (λ w. m ∷ w) (take_front mark r)
+
+pub begins_not : (mark bs r : List ℕ) → pointwise nat_eq mark (take (length mark) bs) ≡ false → bs ≡ mark ++ r → ⊥
+begins_not mark bs r h e = bool_apart (pointwise nat_eq mark (take (length mark) bs)) ((bytes_decides mark (take (length mark) bs)).1 (sym (ap (take (length mark)) e ∙ take_front mark r))) h
+
+-- an output at the front
+abbrev pub AnOutputLine : {B : Type 0} → (B → List (ℕ × ℕ)) → Option B → List ℕ → Type 0
+AnOutputLine now before bytes = (ps : List (ℕ × ℕ)) × (rest : List ℕ) × ArePairs ps × IfSome before (λ b. IsAfter (now b) ps) × (bytes ≡ pairs_line ps ++ 10 ∷ rest)
+
+pub pairs_of_line : (bytes inside : List ℕ) (ps : List (ℕ × ℕ)) (rest : List ℕ) → bytes ≡ 109 ∷ inside → ArePairs ps → bytes ≡ pairs_line ps ++ 10 ∷ rest → ArePairsAt inside ps rest
+pairs_of_line bytes inside ps rest e p d = let k : 109 ∷ inside ≡ pairs_line ps ++ 10 ∷ rest = sym e ∙ d in record { allowed = p.numbers; spelled = ap (drop 1) k }
+
+pub line_of_pairs : (bytes inside : List ℕ) (ps : List (ℕ × ℕ)) (rest : List ℕ) → bytes ≡ 109 ∷ inside → ArePairsAt inside ps rest → bytes ≡ pairs_line ps ++ 10 ∷ rest
+line_of_pairs bytes inside ps rest e at = e ∙ ap (λ w. 109 ∷ w) at.spelled
+
+pub same_pairs_at : (inside : List ℕ) (ps qs : List (ℕ × ℕ)) (r s : List ℕ) → ArePairsAt inside ps r → ArePairsAt inside qs s → (ps ≡ qs) × (r ≡ s)
+same_pairs_at inside ps qs r s a b = one_pairs ps qs r s a.allowed b.allowed (sym a.spelled ∙ b.spelled)
+
+pub fault_as : (lines : ℕ) (A B : Type 0) (e : CertFault) → (B → A) → IsNextFault lines A e → IsNextFault lines B e
+fault_as lines A B (cert.Form line) f h = (h.0, λ b. h.1 (f b))
+fault_as lines A B cert.NoMemory f h = tt
+
+pub map_ok : {T E : Type 0} {P S : T → Type 0} {Q : E → Type 0} (r : Result T E) → ((x : T) → P x → S x) → MatchResult r P Q → MatchResult r S Q
+map_ok (Ok x) f h = f x h
+map_ok (Err e) f h = h
+
+pub formed_before : {B : Type 0} (now : B → List (ℕ × ℕ)) (os : List (List (ℕ × ℕ))) (r : Option B) → MatchOption r (last_of os ≡ None) (λ b. last_of os ≡ Some (now b)) → IfSome (last_of os) ArePairs → IfSome r (λ b. ArePairs (now b))
+formed_before now os None e h = tt
+formed_before now os (Some b) e h = subst (λ o. IfSome o ArePairs) e h
+
+pub short_before : (o : Option Row) → IfSome o (λ b. IsFormedRow (fields_of b) × IsShort (fields_of b)) → IsShortBefore (option_map fields_of o)
+short_before None h = tt
+short_before (Some b) h = h.1

@@ -73,6 +73,10 @@ module _ {K : Type 0} {c : K → K → Ordering} (o : IsTotalOrder c) where
       let first : c x z ≡ Less = h 0 (omega arith) in
       ((first, all_above x z zs first more.0), more)
 
+pub ordered_nil : AreOrdered []
+unfolding IsStrictlySortedBy
+ordered_nil = tt
+
 -- lines that ascend, by the last of them
 pub behind_last : {X : Type 0} (line : X → List ℕ) (before : Option X) (y b : X) → IsBehind line before y → before ≡ Some b → slice_cmp nat_cmp (line b) (line y) ≡ Less
 behind_last line before y b h e = subst (λ o. IsBehind line o y) e h

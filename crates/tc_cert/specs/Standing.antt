@@ -1,9 +1,13 @@
 -- Where reading stands: so many lines from the front were read, each as it must be.
 use Rattle.std.specs.Prelude.{◌≡◌, ◌≤◌, ◌<◌, ◌+◌, ◌∷◌, ◌++◌, ◌⊎◌, [], ℕ, List, length, codes}
+use Rattle.std.specs.Ordering.{nat_cmp}
+use Rattle.std.specs.declared.cmp.Ordering.TheVariants.{Less}
+use Rattle.std.specs.Cmp.Lexicographic.{slice_cmp}
+use Rattle.tc_model.specs.CertificateLines.{pairs_line}
 use Rattle.tc_cert.specs.Texts.{Version}
 use Rattle.tc_cert.specs.Fronts.{Front, nothing, begun, in_outputs, in_trees, in_hedges, finished, line_count, BeginsWith}
 use Rattle.tc_cert.specs.Styles.{version_of}
-use Rattle.tc_cert.specs.declared.reader.Reader.{Reader}
+use Rattle.tc_cert.specs.declared.cursor.Reader.{Reader}
 use Rattle.tc_cert.specs.declared.faults.CertFault.{CertFault}
 use Rattle.tc_cert.specs.declared.faults.CertFault.TheVariants as cert
 use Rattle.tc_cert.specs.declared.faults.PieceFault.{PieceFault}
@@ -14,6 +18,10 @@ pub record Passes (line : List ℕ) (old new : Reader) : Type 0 where
   pub read : old.rest.now ≡ line ++ 10 ∷ new.rest.now
   pub lines : new.lines ≡ old.lines + 1
   pub style : new.style ≡ old.style
+
+-- the line of an output is greater than that of another
+abbrev pub IsAfter : List (ℕ × ℕ) → List (ℕ × ℕ) → Type 0
+IsAfter before ps = slice_cmp nat_cmp (pairs_line before) (pairs_line ps) ≡ Less
 
 -- a fault of the line behind so many
 abbrev pub fault_behind : ℕ → PieceFault → CertFault

@@ -7,7 +7,7 @@ ghost use Rattle.tc_cert.specs.Readings.{IsUnread};
 
 use crate::faults::CertFault;
 use crate::ranges::Ranges;
-use crate::reader::Reader;
+use crate::cursor::Reader;
 use crate::rows::{Kind, Row};
 use std::alloc::Global;
 use tc_model::Pairs;

@@ -1,6 +1,7 @@
 //! The text of certificates: what it holds, how it is written, and how it is read.
 #![tactic(auto)]
 
+mod cursor;
 mod faults;
 mod fitting;
 mod laws;

@@ -1,17 +1,19 @@
 // Reading the lines of a certificate one by one.
-ghost use Rattle.std.specs.Prelude.{◌≡◌, ◌≤◌, ◌<◌, ◌∷◌, ◌++◌, [], ℕ, List, length, codes, IfOk, IfErr, IfSome, MatchOption, MatchResult};
+ghost use Rattle.std.specs.Prelude.{◌≡◌, ◌≤◌, ◌<◌, ◌+◌, ◌∷◌, ◌++◌, [], true, ℕ, List, length, codes, IfOk, IfErr, IfSome, MatchOption, MatchResult};
 ghost use Rattle.std.specs.Option.{option_map};
 ghost use Rattle.tc_model.specs.CertificateLines as lines;
 ghost use Rattle.tc_model.specs.CertificateData.{ArePairs};
-ghost use Rattle.tc_cert.specs.Fields.{Fields, fields_of, IsBehind, IsFormedRow, IsNextRow, line_behind, row_in, row_line};
+ghost use Rattle.tc_cert.specs.Fields.{Fields, fields_of, IsFormedRow, IsNextRow, line_behind, row_in, row_line};
 ghost use Rattle.tc_cert.specs.NextRows.{IsShort};
 ghost use Rattle.tc_cert.specs.Pieces.{IsMissing};
 ghost use Rattle.tc_cert.specs.Readings.{IsUnread};
-ghost use Rattle.tc_cert.specs.Standing.{Passes, Stands, IsEndFault, IsNextFault, fault_behind};
+ghost use Rattle.tc_cert.specs.Standing.{Passes, Stands, IsAfter, IsEndFault, IsNextFault, fault_behind};
 ghost use Rattle.tc_cert.specs.Styles.{version_of};
 ghost use Rattle.tc_cert.specs.Fronts.{begun};
+ghost use Rattle.tc_cert.specs.declared.faults.PieceFault.TheVariants.{NoMemory};
 ghost use Rattle.tc_cert.specs.Texts.{Version, counted, heading};
 
+use crate::cursor::Reader;
 use crate::faults::{CertFault, PieceFault};
 use crate::order::pairs_order;
 use crate::pieces::{after_byte, do_pairs_ascend, number, pairs};
@@ -70,7 +72,7 @@ fn count_line<'t>(bytes: &'t [u8], kind: &[u8], most: u32) -> Option<(u32, &'t [
 /// Whether an output stands behind another.
 fn is_behind(alloc: Global, before: Option<&Pairs>, pairs: &Pairs) -> Result<bool, PieceFault>
     requires { ArePairs pairs.now × IfSome before (λ b. ArePairs b.now) }
-    ensures ok { IfOk result (λ is. (is ≡ true → IsBehind lines.pairs_line (option_map (λ b. b.now) before) pairs.now) × (IsBehind lines.pairs_line (option_map (λ b. b.now) before) pairs.now → is ≡ true)) }
+    ensures ok { IfOk result (λ is. (is ≡ true → IfSome before (λ b. IsAfter b.now pairs.now)) × (IfSome before (λ b. IsAfter b.now pairs.now) → is ≡ true)) }
     ensures no { IfErr result (λ e. e ≡ NoMemory) }
 {
     match before {
@@ -87,8 +89,8 @@ fn output_line<'t>(
 ) -> Result<(Pairs, &'t [u8]), PieceFault>
     requires short { length bytes.now ≤ 67108864 }
     requires before { IfSome before (λ b. ArePairs b.now) }
-    ensures ok { IfOk result (λ r. ArePairs r.0 × IsBehind lines.pairs_line (option_map (λ b. b.now) before) r.0 × (bytes.now ≡ lines.pairs_line r.0 ++ 10 ∷ r.1.now)) }
-    ensures no { IfErr result (IsMissing ((ps : List (ℕ × ℕ)) × (rest : List ℕ) × ArePairs ps × IsBehind lines.pairs_line (option_map (λ b. b.now) before) ps × (bytes.now ≡ lines.pairs_line ps ++ 10 ∷ rest))) }
+    ensures ok { IfOk result (λ r. ArePairs r.0 × IfSome before (λ b. IsAfter b.now r.0) × (bytes.now ≡ lines.pairs_line r.0 ++ 10 ∷ r.1.now)) }
+    ensures no { IfErr result (IsMissing ((ps : List (ℕ × ℕ)) × (rest : List ℕ) × ArePairs ps × IfSome before (λ b. IsAfter b.now ps) × (bytes.now ≡ lines.pairs_line ps ++ 10 ∷ rest))) }
 {
     let Some(inside) = after_byte(bytes, b'm') else {
         return Err(PieceFault::Form);
@@ -101,17 +103,6 @@ fn output_line<'t>(
         return Err(PieceFault::Form);
     }
     Ok((pairs, rest))
-}
-
-/// A text of which some lines were read.
-#[derive(Drop)]
-pub(crate) struct Reader<'t> {
-    /// The lines that were not.
-    rest: &'t [u8],
-    style: Style,
-    /// How many lines were read.
-    lines: u32,
-    ghost short: { lines + length rest.now ≤ 67108864 },
 }
 
 impl<'t> Reader<'t> {
@@ -130,13 +121,6 @@ impl<'t> Reader<'t> {
         }
     }
 
-    /// How many lines were read.
-    pub(crate) fn lines(&self) -> u32
-        ensures { result ≡ self.now.lines }
-    {
-        self.lines
-    }
-
     /// The fault of the next line.
     fn fault(&self, fault: PieceFault) -> CertFault
         ensures { result ≡ fault_behind self.now.lines fault }
@@ -145,17 +129,6 @@ impl<'t> Reader<'t> {
             PieceFault::Form => CertFault::Form(self.lines + 1),
             PieceFault::NoMemory => CertFault::NoMemory,
         }
-    }
-
-    /// Goes on behind a line.
-    fn pass(&mut self, rest: &'t [u8])
-        requires { length rest.now < length self.old.rest.now }
-        ensures rest { self.new.rest.now ≡ rest.now }
-        ensures lines { self.new.lines ≡ self.old.lines + 1 }
-        ensures style { self.new.style ≡ self.old.style }
-    {
-        self.rest = rest;
-        self.lines += 1;
     }
 
     /// Reads the line that tells how many lines of a kind follow, at most so many.
@@ -179,8 +152,8 @@ impl<'t> Reader<'t> {
         before: Option<&Pairs>,
     ) -> Result<Pairs, CertFault>
         requires { IfSome before (λ b. ArePairs b.now) }
-        ensures ok { IfOk result (λ ps. ArePairs ps × IsBehind lines.pairs_line (option_map (λ b. b.now) before) ps × Passes (lines.pairs_line ps) self.old self.new) }
-        ensures no { IfErr result (IsNextFault self.old.lines ((ps : List (ℕ × ℕ)) × (rest : List ℕ) × ArePairs ps × IsBehind lines.pairs_line (option_map (λ b. b.now) before) ps × (self.old.rest.now ≡ lines.pairs_line ps ++ 10 ∷ rest))) }
+        ensures ok { IfOk result (λ ps. ArePairs ps × IfSome before (λ b. IsAfter b.now ps) × Passes (lines.pairs_line ps) self.old self.new) }
+        ensures no { IfErr result (IsNextFault self.old.lines ((ps : List (ℕ × ℕ)) × (rest : List ℕ) × ArePairs ps × IfSome before (λ b. IsAfter b.now ps) × (self.old.rest.now ≡ lines.pairs_line ps ++ 10 ∷ rest))) }
     {
         match output_line(alloc, self.rest, before) {
             Ok((pairs, rest)) => {

@@ -1,6 +1,5 @@
 // Reading a certificate.
-ghost use Rattle.std.specs.Prelude.{◌≡◌, ◌≤◌, ◌<◌, ℕ, List, [], length, IfOk, IfErr, MatchResult};
-ghost use Rattle.std.specs.Option.{option_map};
+ghost use Rattle.std.specs.Prelude.{◌≡◌, ◌≤◌, ◌<◌, ℕ, List, [], length, IfOk, IfErr, MatchOption, MatchResult, Some, None};
 ghost use Rattle.tc_cert.specs.Fields.{fields_of, last_of, tree_of, hedge_of};
 ghost use Rattle.tc_cert.specs.Fronts.{begun, in_outputs, in_trees, in_hedges};
 ghost use Rattle.tc_cert.specs.NextRows.{IsShort};
@@ -10,7 +9,7 @@ ghost use Rattle.tc_cert.specs.Texts.{Version, CertificateText};
 ghost use Rattle.tc_model.specs.declared.lists.TreeLine.{TreeLine};
 
 use crate::faults::CertFault;
-use crate::reader::Reader;
+use crate::cursor::Reader;
 use crate::rows::{Kind, Row};
 use std::alloc::Global;
 use tc_base::NoMemory;
@@ -64,7 +63,7 @@ fn hedge_of(alloc: Global, row: &Row) -> Result<HedgeLine, NoMemory>
 
 /// The last output.
 fn last_output(outputs: &PairLists) -> Option<&Pairs>
-    ensures { option_map (λ b. b.now) result ≡ last_of outputs.now }
+    ensures { MatchOption result (last_of outputs.now ≡ None) (λ b. last_of outputs.now ≡ Some b.now) }
 {
     if outputs.len() == 0 {
         return None;

@@ -3,10 +3,10 @@ use Rattle.tc_cert.proofs.Differing.{pairs_differ, pairs_alike, pairs_end}
 use Rattle.tc_cert.proofs.order.pairs_order.Goals as goal
 
 pub returns-then-not-are_same : goal.returns-then-not-are_same
-returns-then-not-are_same c = pairs_differ c.pair_order.result c.args.one.now c.args.other.now c.loop-i.i c.get.result.now c.get-in-loop-i.result.now c.get.ensures c.get-in-loop-i.ensures c.if-not-are_same.ensures c.pair_order.ensures.order c.pair_order.ensures.apart c.loop-i.invariant
+returns-then-not-are_same c = pairs_differ c.pair_order.result c.args.one.now c.args.other.now c.loop-i.i c.get-first.result.now c.get-second.result.now c.get-first.ensures c.get-second.ensures c.if-not-are_same.ensures c.requires.one c.requires.other c.pair_order.ensures c.loop-i.invariant
 
 pub loop-i-preserved : goal.loop-i-preserved
-loop-i-preserved c = pairs_alike c.args.one.now c.args.other.now c.loop-i.i c.get.result.now c.get-in-loop-i.result.now c.get.ensures c.get-in-loop-i.ensures c.if-not-are_same.ensures c.loop-i.invariant
+loop-i-preserved c = pairs_alike c.args.one.now c.args.other.now c.loop-i.i c.get-first.result.now c.get-second.result.now c.get-first.ensures c.get-second.ensures c.if-not-are_same.ensures c.loop-i.invariant
 
 pub returns : goal.returns
 returns c =
