@@ -16,3 +16,6 @@ pub mod Chains
 pub mod FirstFaults
 pub mod ReadRows
 pub mod ReadLines
+pub mod FitLines
+pub mod Upgrades
+pub mod ToldSoFar

@@ -1,5 +1,6 @@
 -- A reader behind the lines that were read: what the next line makes of them, or that it is the first fault.
 use Rattle.std.proofs.Common.{◌≡◌, ◌<◌, ◌≤◌, ◌+◌, ◌⊎◌, inl, inr, ℕ, zero, suc, List, [], ◌∷◌, ◌++◌, length, map, take, drop, nat_eq, true, false, All, Option, Some, None, Result, Ok, Err, IfErr, IfOk, IfSome, IsErrAnd, MatchResult, refl, sym, ap, subst, ◌∙◌, append_assoc, append-nil, length-append, arith, codes, decimal, slice_get, MatchOption, ◌-◌}
+use Rattle.std.specs.Borrow.{Bor}
 use Rattle.std.specs.Option.{option_map}
 use Rattle.std.specs.Cmp.Lexicographic.{pointwise, bytes_decides}
 use Rattle.std.proofs.lemmas.List.{take-append-drop, take_rest}
@@ -14,7 +15,7 @@ use Rattle.tc_cert.specs.Texts.{Version, whole, by_changes, heading, counted, tr
 use Rattle.tc_cert.specs.Fronts.{Front, nothing, begun, in_outputs, in_trees, in_hedges, finished, line_count, AreOutputs, AreTrees, AreHedges, IsGood, BeginsWith, IsFirstFault}
 use Rattle.tc_cert.specs.Fields.{Fields, IsFormedRow, IsBehind, IsNextRow, row_line, row_in, line_behind, last_of, tree_of, hedge_of, fields_of}
 use Rattle.tc_cert.specs.Readings.{IsUnread}
-use Rattle.tc_cert.specs.Standing.{Passes, Stands, IsAfter, IsNextFault, IsEndFault}
+use Rattle.tc_cert.specs.Standing.{Passes, Stands, IsAfter, IsAfterLent, IsNextFault, IsEndFault}
 use Rattle.tc_cert.specs.declared.cursor.Reader.{Reader}
 use Rattle.tc_cert.specs.declared.faults.CertFault.{CertFault}
 use Rattle.tc_cert.specs.declared.faults.CertFault.TheVariants as cert
@@ -269,13 +270,13 @@ end_fault v bytes os ts hs r (cert.Form line) s (inr h) =
     subst (IsFirstFault bytes) place (is_fault bytes (finished v d) h.1.0 s.short begins (λ c. c.next) (λ w c q z. h.1.2 z))
 
 -- the line of an output behind the last of others
-pub behind_of : {B : Type 0} (now : B → List (ℕ × ℕ)) (os : List (List (ℕ × ℕ))) (ps : List (ℕ × ℕ)) (r : Option B) → MatchOption r (last_of os ≡ None) (λ b. last_of os ≡ Some (now b)) → IfSome r (λ b. IsAfter (now b) ps) → IsBehind pairs_line (last_of os) ps
-behind_of now os ps None e h = subst (λ o. IsBehind pairs_line o ps) (sym e) tt
-behind_of now os ps (Some b) e h = subst (λ o. IsBehind pairs_line o ps) (sym e) h
+pub behind_of : (os : List (List (ℕ × ℕ))) (ps : List (ℕ × ℕ)) (r : Option (Bor (List (ℕ × ℕ)))) → MatchOption r (last_of os ≡ None) (λ b. last_of os ≡ Some b.now) → IsAfterLent r ps → IsBehind pairs_line (last_of os) ps
+behind_of os ps None e h = subst (λ o. IsBehind pairs_line o ps) (sym e) tt
+behind_of os ps (Some b) e h = subst (λ o. IsBehind pairs_line o ps) (sym e) h
 
-pub of_behind : {B : Type 0} (now : B → List (ℕ × ℕ)) (os : List (List (ℕ × ℕ))) (ps : List (ℕ × ℕ)) (r : Option B) → MatchOption r (last_of os ≡ None) (λ b. last_of os ≡ Some (now b)) → IsBehind pairs_line (last_of os) ps → IfSome r (λ b. IsAfter (now b) ps)
-of_behind now os ps None e h = tt
-of_behind now os ps (Some b) e h = subst (λ o. IsBehind pairs_line o ps) e h
+pub of_behind : (os : List (List (ℕ × ℕ))) (ps : List (ℕ × ℕ)) (r : Option (Bor (List (ℕ × ℕ)))) → MatchOption r (last_of os ≡ None) (λ b. last_of os ≡ Some b.now) → IsBehind pairs_line (last_of os) ps → IsAfterLent r ps
+of_behind os ps None e h = tt
+of_behind os ps (Some b) e h = subst (λ o. IsBehind pairs_line o ps) e h
 
 -- the last of a list, by its place
 pub last_get : {X : Type 0} (xs : List X) (x : X) → 0 < length xs → slice_get xs (length xs - 1) ≡ Some x → last_of xs ≡ Some x
@@ -334,8 +335,8 @@ pub begins_not : (mark bs r : List ℕ) → pointwise nat_eq mark (take (length 
 begins_not mark bs r h e = bool_apart (pointwise nat_eq mark (take (length mark) bs)) ((bytes_decides mark (take (length mark) bs)).1 (sym (ap (take (length mark)) e ∙ take_front mark r))) h
 
 -- an output at the front
-abbrev pub AnOutputLine : {B : Type 0} → (B → List (ℕ × ℕ)) → Option B → List ℕ → Type 0
-AnOutputLine now before bytes = (ps : List (ℕ × ℕ)) × (rest : List ℕ) × ArePairs ps × IfSome before (λ b. IsAfter (now b) ps) × (bytes ≡ pairs_line ps ++ 10 ∷ rest)
+abbrev pub AnOutputLine : Option (Bor (List (ℕ × ℕ))) → List ℕ → Type 0
+AnOutputLine before bytes = (ps : List (ℕ × ℕ)) × (rest : List ℕ) × ArePairs ps × IsAfterLent before ps × (bytes ≡ pairs_line ps ++ 10 ∷ rest)
 
 pub pairs_of_line : (bytes inside : List ℕ) (ps : List (ℕ × ℕ)) (rest : List ℕ) → bytes ≡ 109 ∷ inside → ArePairs ps → bytes ≡ pairs_line ps ++ 10 ∷ rest → ArePairsAt inside ps rest
 pairs_of_line bytes inside ps rest e p d = let k : 109 ∷ inside ≡ pairs_line ps ++ 10 ∷ rest = sym e ∙ d in record { allowed = p.numbers; spelled = ap (drop 1) k }
@@ -350,13 +351,13 @@ pub fault_as : (lines : ℕ) (A B : Type 0) (e : CertFault) → (B → A) → Is
 fault_as lines A B (cert.Form line) f h = (h.0, λ b. h.1 (f b))
 fault_as lines A B cert.NoMemory f h = tt
 
-pub map_ok : {T E : Type 0} {P S : T → Type 0} {Q : E → Type 0} (r : Result T E) → ((x : T) → P x → S x) → MatchResult r P Q → MatchResult r S Q
-map_ok (Ok x) f h = f x h
-map_ok (Err e) f h = h
+pub map_ok : {T E : Type 0} (P S : T → Type 0) (Q : E → Type 0) (r : Result T E) → ((x : T) → P x → S x) → MatchResult r P Q → MatchResult r S Q
+map_ok P S Q (Ok x) f h = f x h
+map_ok P S Q (Err e) f h = h
 
-pub formed_before : {B : Type 0} (now : B → List (ℕ × ℕ)) (os : List (List (ℕ × ℕ))) (r : Option B) → MatchOption r (last_of os ≡ None) (λ b. last_of os ≡ Some (now b)) → IfSome (last_of os) ArePairs → IfSome r (λ b. ArePairs (now b))
-formed_before now os None e h = tt
-formed_before now os (Some b) e h = subst (λ o. IfSome o ArePairs) e h
+pub formed_before : (os : List (List (ℕ × ℕ))) (r : Option (Bor (List (ℕ × ℕ)))) → MatchOption r (last_of os ≡ None) (λ b. last_of os ≡ Some b.now) → IfSome (last_of os) ArePairs → IfSome r (λ b. ArePairs b.now)
+formed_before os None e h = tt
+formed_before os (Some b) e h = subst (λ o. IfSome o ArePairs) e h
 
 pub short_before : (o : Option Row) → IfSome o (λ b. IsFormedRow (fields_of b) × IsShort (fields_of b)) → IsShortBefore (option_map fields_of o)
 short_before None h = tt

@@ -1,5 +1,5 @@
 -- What is answered where bytes aren't the text of a certificate, or where its text in version 2 is too long.
-use Rattle.std.specs.Prelude.{◌≡◌, ◌<◌, ◌≤◌, ℕ, List, length}
+use Rattle.std.specs.Prelude.{◌≡◌, ◌<◌, ◌≤◌, ◌++◌, ℕ, List, length, codes}
 use Rattle.tc_model.specs.declared.lists.CertData.{CertData}
 use Rattle.tc_cert.specs.Texts.{text, by_changes, CertificateText}
 use Rattle.tc_cert.specs.Fronts.{IsFirstFault}
@@ -26,6 +26,18 @@ abbrev pub IsNotUpgraded : List ℕ → UpgradeFault → Type 0
 IsNotUpgraded bytes (upgrade.Form line) = IsFirstFault bytes line
 IsNotUpgraded bytes upgrade.TooLong = IsLong bytes
 IsNotUpgraded bytes upgrade.NoMemory = Unit {0}
+
+-- the text in version 2 of the data of the bytes, of no more bytes than a file may have
+pub record IsUpgraded (bytes out : List ℕ) : Type 0 where
+  pub held : CertData
+  pub means : CertificateText bytes held
+  pub spelled : out ≡ text by_changes held
+  pub within : length out ≤ 67108864
+
+-- the first line is that of version 2
+pub record BeginsByChanges (bytes : List ℕ) : Type 0 where
+  pub rest : List ℕ
+  pub spelled : bytes ≡ codes "xslt-typecheck certificate 2\n" ++ rest
 
 -- a fault of reading or of writing, as one of these
 abbrev pub upgrade_fault : CertFault → UpgradeFault

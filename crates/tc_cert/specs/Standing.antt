@@ -1,5 +1,6 @@
 -- Where reading stands: so many lines from the front were read, each as it must be.
-use Rattle.std.specs.Prelude.{◌≡◌, ◌≤◌, ◌<◌, ◌+◌, ◌∷◌, ◌++◌, ◌⊎◌, [], ℕ, List, length, codes}
+use Rattle.std.specs.Prelude.{◌≡◌, ◌≤◌, ◌<◌, ◌+◌, ◌∷◌, ◌++◌, ◌⊎◌, [], ℕ, List, length, codes, Option, Some, None}
+use Rattle.std.specs.Borrow.{Bor}
 use Rattle.std.specs.Ordering.{nat_cmp}
 use Rattle.std.specs.declared.cmp.Ordering.TheVariants.{Less}
 use Rattle.std.specs.Cmp.Lexicographic.{slice_cmp}
@@ -22,6 +23,10 @@ pub record Passes (line : List ℕ) (old new : Reader) : Type 0 where
 -- the line of an output is greater than that of another
 abbrev pub IsAfter : List (ℕ × ℕ) → List (ℕ × ℕ) → Type 0
 IsAfter before ps = slice_cmp nat_cmp (pairs_line before) (pairs_line ps) ≡ Less
+
+abbrev pub IsAfterLent : Option (Bor (List (ℕ × ℕ))) → List (ℕ × ℕ) → Type 0
+IsAfterLent None ps = Unit {0}
+IsAfterLent (Some b) ps = IsAfter b.now ps
 
 -- a fault of the line behind so many
 abbrev pub fault_behind : ℕ → PieceFault → CertFault

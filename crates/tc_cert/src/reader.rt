@@ -7,7 +7,7 @@ ghost use Rattle.tc_cert.specs.Fields.{Fields, fields_of, IsFormedRow, IsNextRow
 ghost use Rattle.tc_cert.specs.NextRows.{IsShort};
 ghost use Rattle.tc_cert.specs.Pieces.{IsMissing};
 ghost use Rattle.tc_cert.specs.Readings.{IsUnread};
-ghost use Rattle.tc_cert.specs.Standing.{Passes, Stands, IsAfter, IsEndFault, IsNextFault, fault_behind};
+ghost use Rattle.tc_cert.specs.Standing.{Passes, Stands, IsAfterLent, IsEndFault, IsNextFault, fault_behind};
 ghost use Rattle.tc_cert.specs.Styles.{version_of};
 ghost use Rattle.tc_cert.specs.Fronts.{begun};
 ghost use Rattle.tc_cert.specs.declared.faults.PieceFault.TheVariants.{NoMemory};
@@ -23,7 +23,7 @@ use std::cmp::Ordering;
 use tc_model::Pairs;
 
 /// What follows this text, where the bytes begin with it.
-fn after_text<'t>(bytes: &'t [u8], text: &[u8]) -> Option<&'t [u8]>
+pub(crate) fn after_text<'t>(bytes: &'t [u8], text: &[u8]) -> Option<&'t [u8]>
     ensures { MatchOption result ((r : List ℕ) → bytes.now ≡ text.now ++ r → ⊥) (λ rest. bytes.now ≡ text.now ++ rest.now) }
 {
     if bytes.starts_with(text) {
@@ -72,7 +72,7 @@ fn count_line<'t>(bytes: &'t [u8], kind: &[u8], most: u32) -> Option<(u32, &'t [
 /// Whether an output stands behind another.
 fn is_behind(alloc: Global, before: Option<&Pairs>, pairs: &Pairs) -> Result<bool, PieceFault>
     requires { ArePairs pairs.now × IfSome before (λ b. ArePairs b.now) }
-    ensures ok { IfOk result (λ is. (is ≡ true → IfSome before (λ b. IsAfter b.now pairs.now)) × (IfSome before (λ b. IsAfter b.now pairs.now) → is ≡ true)) }
+    ensures ok { IfOk result (λ is. (is ≡ true → IsAfterLent before pairs.now) × (IsAfterLent before pairs.now → is ≡ true)) }
     ensures no { IfErr result (λ e. e ≡ NoMemory) }
 {
     match before {
@@ -89,8 +89,8 @@ fn output_line<'t>(
 ) -> Result<(Pairs, &'t [u8]), PieceFault>
     requires short { length bytes.now ≤ 67108864 }
     requires before { IfSome before (λ b. ArePairs b.now) }
-    ensures ok { IfOk result (λ r. ArePairs r.0 × IfSome before (λ b. IsAfter b.now r.0) × (bytes.now ≡ lines.pairs_line r.0 ++ 10 ∷ r.1.now)) }
-    ensures no { IfErr result (IsMissing ((ps : List (ℕ × ℕ)) × (rest : List ℕ) × ArePairs ps × IfSome before (λ b. IsAfter b.now ps) × (bytes.now ≡ lines.pairs_line ps ++ 10 ∷ rest))) }
+    ensures ok { IfOk result (λ r. ArePairs r.0 × IsAfterLent before r.0 × (bytes.now ≡ lines.pairs_line r.0 ++ 10 ∷ r.1.now)) }
+    ensures no { IfErr result (IsMissing ((ps : List (ℕ × ℕ)) × (rest : List ℕ) × ArePairs ps × IsAfterLent before ps × (bytes.now ≡ lines.pairs_line ps ++ 10 ∷ rest))) }
 {
     let Some(inside) = after_byte(bytes, b'm') else {
         return Err(PieceFault::Form);
@@ -152,8 +152,8 @@ impl<'t> Reader<'t> {
         before: Option<&Pairs>,
     ) -> Result<Pairs, CertFault>
         requires { IfSome before (λ b. ArePairs b.now) }
-        ensures ok { IfOk result (λ ps. ArePairs ps × IfSome before (λ b. IsAfter b.now ps) × Passes (lines.pairs_line ps) self.old self.new) }
-        ensures no { IfErr result (IsNextFault self.old.lines ((ps : List (ℕ × ℕ)) × (rest : List ℕ) × ArePairs ps × IfSome before (λ b. IsAfter b.now ps) × (self.old.rest.now ≡ lines.pairs_line ps ++ 10 ∷ rest))) }
+        ensures ok { IfOk result (λ ps. ArePairs ps × IsAfterLent before ps × Passes (lines.pairs_line ps) self.old self.new) }
+        ensures no { IfErr result (IsNextFault self.old.lines ((ps : List (ℕ × ℕ)) × (rest : List ℕ) × ArePairs ps × IsAfterLent before ps × (self.old.rest.now ≡ lines.pairs_line ps ++ 10 ∷ rest))) }
     {
         match output_line(alloc, self.rest, before) {
             Ok((pairs, rest)) => {

@@ -66,3 +66,4 @@ pub mod SheetText
 pub mod SheetTextLaws
 pub mod CertificateLines
 pub mod CertificateData
+pub mod CertificateFits

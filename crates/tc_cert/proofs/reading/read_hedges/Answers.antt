@@ -9,5 +9,5 @@ returns-in_err-count c = λ v bytes os ts s. refused _ _ c.from_residual.result 
 
 pub returns : goal.returns
 returns c = λ v bytes os ts s.
-    map_ok c.read_hedge_lines.result (λ hs h. subst (λ n. Stands v bytes (in_hedges v os ts n hs) c.read_hedge_lines.new.reader) (sym h.0) h.1)
+    map_ok _ _ _ c.read_hedge_lines.result (λ hs h. subst (λ n. Stands v bytes (in_hedges v os ts n hs) c.read_hedge_lines.new.reader) (sym h.0) h.1)
     (c.read_hedge_lines.ensures v bytes os ts (hedges_on v bytes os ts c.in_ok-count.count c.args.reader.now c.count.new.self s c.in_ok-count.ensures.ok.0 c.in_ok-count.ensures.ok.1))

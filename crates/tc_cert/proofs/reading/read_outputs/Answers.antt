@@ -9,5 +9,5 @@ returns-in_err-count c = λ v bytes s. refused _ _ c.from_residual.result c.in_e
 
 pub returns : goal.returns
 returns c = λ v bytes s.
-    map_ok c.read_output_lines.result (λ os h. subst (λ n. Stands v bytes (in_outputs v n os) c.read_output_lines.new.reader) (sym h.0) h.1)
+    map_ok _ _ _ c.read_output_lines.result (λ os h. subst (λ n. Stands v bytes (in_outputs v n os) c.read_output_lines.new.reader) (sym h.0) h.1)
     (c.read_output_lines.ensures v bytes (outputs_on v bytes c.in_ok-count.count c.args.reader.now c.count.new.self s c.in_ok-count.ensures.ok.0 c.in_ok-count.ensures.ok.1))

@@ -9,5 +9,5 @@ returns-in_err-count c = λ v bytes os s. refused _ _ c.from_residual.result c.i
 
 pub returns : goal.returns
 returns c = λ v bytes os s.
-    map_ok c.read_tree_lines.result (λ ts h. subst (λ n. Stands v bytes (in_trees v os n ts) c.read_tree_lines.new.reader) (sym h.0) h.1)
+    map_ok _ _ _ c.read_tree_lines.result (λ ts h. subst (λ n. Stands v bytes (in_trees v os n ts) c.read_tree_lines.new.reader) (sym h.0) h.1)
     (c.read_tree_lines.ensures v bytes os (trees_on v bytes os c.in_ok-count.count c.args.reader.now c.count.new.self s c.in_ok-count.ensures.ok.0 c.in_ok-count.ensures.ok.1))
