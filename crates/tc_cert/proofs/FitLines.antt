@@ -165,31 +165,31 @@ module _ (s : Sizes) where
 
   -- one list of trees more
   module _ (os : List (List (ℕ × ℕ))) (ts : List TreeLine) (hs : List HedgeLine) (t : HedgeLine) where
-    abbrev O : List (ℕ × ℕ) → Type 0
-    O = PairsFit s.output_states
+    abbrev OutputsFit : List (ℕ × ℕ) → Type 0
+    OutputsFit = PairsFit s.output_states
 
-    abbrev T : TreeLine → Type 0
-    T = TreeFits s (data_of os ts hs)
+    abbrev TreesFit : TreeLine → Type 0
+    TreesFit = TreeFits s (data_of os ts hs)
 
-    abbrev H : HedgeLine → Type 0
-    H = HedgeFits s (data_of os ts hs)
+    abbrev HedgesFit : HedgeLine → Type 0
+    HedgesFit = HedgeFits s (data_of os ts hs)
 
     abbrev base : ℕ
     base = 5 + length os + length ts
 
-    pub hedge_fits : AllFit s (data_of os ts hs) → H t → AllFit s (data_of os ts (hs ++ t ∷ []))
-    hedge_fits a f = record { outputs = a.outputs; trees = a.trees; hedges = All-append H hs (t ∷ []) a.hedges (all_one H t f) }
+    pub hedge_fits : AllFit s (data_of os ts hs) → HedgesFit t → AllFit s (data_of os ts (hs ++ t ∷ []))
+    hedge_fits a f = record { outputs = a.outputs; trees = a.trees; hedges = All-append HedgesFit hs (t ∷ []) a.hedges (all_one HedgesFit t f) }
 
-    pub hedge_unfit : AllFit s (data_of os ts hs) → ¬ H t → IsFirstUnfit s (data_of os ts (hs ++ t ∷ [])) (base + length hs)
-    hedge_unfit a bar = record { unfit = inr (inr (unfit_last H base hs t bar)); least = least }
+    pub hedge_unfit : AllFit s (data_of os ts hs) → ¬ HedgesFit t → IsFirstUnfit s (data_of os ts (hs ++ t ∷ [])) (base + length hs)
+    hedge_unfit a bar = record { unfit = inr (inr (unfit_last HedgesFit base hs t bar)); least = least }
       where
-        here : (l : ℕ) → UnfitIn base H hs l ⊎ ((l ≡ base + length hs) × ¬ H t) → base + length hs ≤ l
-        here l (inl u) = absurd (all_fit H base hs l a.hedges u)
+        here : (l : ℕ) → UnfitIn base HedgesFit hs l ⊎ ((l ≡ base + length hs) × ¬ HedgesFit t) → base + length hs ≤ l
+        here l (inl u) = absurd (all_fit HedgesFit base hs l a.hedges u)
         here l (inr u) = omega (arith, u.0)
         least : (l : ℕ) → IsUnfit s (data_of os ts (hs ++ t ∷ [])) l → base + length hs ≤ l
-        least l (inl u) = absurd (all_fit O 3 os l a.outputs u)
-        least l (inr (inl u)) = absurd (all_fit T (4 + length os) ts l a.trees u)
-        least l (inr (inr u)) = here l (unfit_front H base hs t l u)
+        least l (inl u) = absurd (all_fit OutputsFit 3 os l a.outputs u)
+        least l (inr (inl u)) = absurd (all_fit TreesFit (4 + length os) ts l a.trees u)
+        least l (inr (inr u)) = here l (unfit_front HedgesFit base hs t l u)
 
     pub hedge_keeps : (line : ℕ) → IsFirstUnfit s (data_of os ts hs) line → IsFirstUnfit s (data_of os ts (hs ++ t ∷ [])) line
     hedge_keeps line f = record { unfit = moved f.unfit; least = least }
@@ -197,18 +197,18 @@ module _ (s : Sizes) where
         moved : IsUnfit s (data_of os ts hs) line → IsUnfit s (data_of os ts (hs ++ t ∷ [])) line
         moved (inl u) = inl u
         moved (inr (inl u)) = inr (inl u)
-        moved (inr (inr u)) = inr (inr (unfit_more H base hs t line u))
+        moved (inr (inr u)) = inr (inr (unfit_more HedgesFit base hs t line u))
         below : IsUnfit s (data_of os ts hs) line → line ≤ base + length hs
-        below (inl u) = omega (arith, unfit_below O 3 os line u)
-        below (inr (inl u)) = omega (arith, unfit_below T (4 + length os) ts line u)
-        below (inr (inr u)) = omega (arith, unfit_below H base hs line u)
-        here : (l : ℕ) → UnfitIn base H hs l ⊎ ((l ≡ base + length hs) × ¬ H t) → line ≤ l
+        below (inl u) = omega (arith, unfit_below OutputsFit 3 os line u)
+        below (inr (inl u)) = omega (arith, unfit_below TreesFit (4 + length os) ts line u)
+        below (inr (inr u)) = omega (arith, unfit_below HedgesFit base hs line u)
+        here : (l : ℕ) → UnfitIn base HedgesFit hs l ⊎ ((l ≡ base + length hs) × ¬ HedgesFit t) → line ≤ l
         here l (inl u) = f.least l (inr (inr u))
         here l (inr u) = omega (arith, u.0, below f.unfit)
         least : (l : ℕ) → IsUnfit s (data_of os ts (hs ++ t ∷ [])) l → line ≤ l
         least l (inl u) = f.least l (inl u)
         least l (inr (inl u)) = f.least l (inr (inl u))
-        least l (inr (inr u)) = here l (unfit_front H base hs t l u)
+        least l (inr (inr u)) = here l (unfit_front HedgesFit base hs t l u)
 
 -- one line more, by what is known of it
 pub output_told : (s : Sizes) (os : List (List (ℕ × ℕ))) (p : List (ℕ × ℕ)) (told : Option ℕ) (fits : Bool) → ((fits ≡ true → PairsFit s.output_states p) × (PairsFit s.output_states p → fits ≡ true)) → Told s (data_of os [] []) told

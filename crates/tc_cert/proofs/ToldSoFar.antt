@@ -102,3 +102,15 @@ rows_fault Tree v bytes s os ts count done before told r e o few h =
     tree_fault v bytes os count (map tree_of o.rows) r e (omega (arith, few, o.long, length-map o.rows tree_of)) o.stands (subst (λ x. IsNextFault r.lines (ARow v Tree x r.rest.now) e) (sym (trees_last o.rows ∙ o.last)) h)
 rows_fault Hedge v bytes s os ts count done before told r e o few h =
     hedge_fault v bytes os ts count (map hedge_of o.rows) r e (omega (arith, few, o.long, length-map o.rows hedge_of)) o.stands (subst (λ x. IsNextFault r.lines (ARow v Hedge x r.rest.now) e) (sym (hedges_last o.rows ∙ o.last)) h)
+
+-- as many as were counted
+pub outputs_whole : (v : Version) (bytes : List ℕ) (count : ℕ) (os : List (List (ℕ × ℕ))) (r : Reader) → length os ≡ count → Stands v bytes (in_outputs v count os) r → Stands v bytes (in_outputs v (length os) os) r
+outputs_whole v bytes count os r e s = subst (λ n. Stands v bytes (in_outputs v n os) r) (sym e) s
+
+pub trees_whole : (v : Version) (bytes : List ℕ) (os : List (List (ℕ × ℕ))) (count : ℕ) (rows : List Fields) (r : Reader) → length rows ≡ count → Stands v bytes (in_trees v os count (map tree_of rows)) r
+    → Stands v bytes (in_trees v os (length (map tree_of rows)) (map tree_of rows)) r
+trees_whole v bytes os count rows r e s = subst (λ n. Stands v bytes (in_trees v os n (map tree_of rows)) r) (sym (length-map rows tree_of ∙ e)) s
+
+pub hedges_whole : (v : Version) (bytes : List ℕ) (os : List (List (ℕ × ℕ))) (ts : List TreeLine) (count : ℕ) (rows : List Fields) (r : Reader) → length rows ≡ count → Stands v bytes (in_hedges v os ts count (map hedge_of rows)) r
+    → Stands v bytes (in_hedges v os ts (length (map hedge_of rows)) (map hedge_of rows)) r
+hedges_whole v bytes os ts count rows r e s = subst (λ n. Stands v bytes (in_hedges v os ts n (map hedge_of rows)) r) (sym (length-map rows hedge_of ∙ e)) s

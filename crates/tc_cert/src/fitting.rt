@@ -141,11 +141,11 @@ pub fn first_unfit(alloc: Global, text: &[u8], ranges: Ranges) -> Result<Option<
 {
     let mut reader = Reader::new(text)?;
     let outputs = reader.count(b"outputs", 65536)?;
-    let told = first_output(alloc, &mut reader, outputs, ranges.output_states)?;
+    let of_outputs = first_output(alloc, &mut reader, outputs, ranges.output_states)?;
     let trees = reader.count(b"trees", 4000)?;
-    let told = first_row(alloc, &mut reader, Kind::Tree, trees, ranges, outputs, told)?;
+    let of_trees = first_row(alloc, &mut reader, Kind::Tree, trees, ranges, outputs, of_outputs)?;
     let hedges = reader.count(b"hedges", 4000)?;
-    let told = first_row(alloc, &mut reader, Kind::Hedge, hedges, ranges, outputs, told)?;
+    let told = first_row(alloc, &mut reader, Kind::Hedge, hedges, ranges, outputs, of_trees)?;
     reader.end()?;
     Ok(told)
 }

@@ -72,11 +72,14 @@ fn count_line<'t>(bytes: &'t [u8], kind: &[u8], most: u32) -> Option<(u32, &'t [
 /// Whether an output stands behind another.
 fn is_behind(alloc: Global, before: Option<&Pairs>, pairs: &Pairs) -> Result<bool, PieceFault>
     requires { ArePairs pairs.now × IfSome before (λ b. ArePairs b.now) }
-    ensures ok { IfOk result (λ is. (is ≡ true → IsAfterLent before pairs.now) × (IsAfterLent before pairs.now → is ≡ true)) }
+    ensures ok { IfOk result (λ is. (is ≡ true → IsAfterLent before.entry pairs.now) × (IsAfterLent before.entry pairs.now → is ≡ true)) }
     ensures no { IfErr result (λ e. e ≡ NoMemory) }
 {
     match before {
-        Some(before) => Ok(pairs_order(alloc, before, pairs)? == Ordering::Less),
+        Some(before) => {
+            let order = pairs_order(alloc, before, pairs)?;
+            Ok(order == Ordering::Less)
+        }
         None => Ok(true),
     }
 }
@@ -89,8 +92,8 @@ fn output_line<'t>(
 ) -> Result<(Pairs, &'t [u8]), PieceFault>
     requires short { length bytes.now ≤ 67108864 }
     requires before { IfSome before (λ b. ArePairs b.now) }
-    ensures ok { IfOk result (λ r. ArePairs r.0 × IsAfterLent before r.0 × (bytes.now ≡ lines.pairs_line r.0 ++ 10 ∷ r.1.now)) }
-    ensures no { IfErr result (IsMissing ((ps : List (ℕ × ℕ)) × (rest : List ℕ) × ArePairs ps × IsAfterLent before ps × (bytes.now ≡ lines.pairs_line ps ++ 10 ∷ rest))) }
+    ensures ok { IfOk result (λ r. ArePairs r.0 × IsAfterLent before.entry r.0 × (bytes.now ≡ lines.pairs_line r.0 ++ 10 ∷ r.1.now)) }
+    ensures no { IfErr result (IsMissing ((ps : List (ℕ × ℕ)) × (rest : List ℕ) × ArePairs ps × IsAfterLent before.entry ps × (bytes.now ≡ lines.pairs_line ps ++ 10 ∷ rest))) }
 {
     let Some(inside) = after_byte(bytes, b'm') else {
         return Err(PieceFault::Form);
@@ -99,7 +102,8 @@ fn output_line<'t>(
     if !do_pairs_ascend(&pairs) {
         return Err(PieceFault::Form);
     }
-    if !is_behind(alloc, before, &pairs)? {
+    let behind = is_behind(alloc, before, &pairs)?;
+    if !behind {
         return Err(PieceFault::Form);
     }
     Ok((pairs, rest))
@@ -152,8 +156,8 @@ impl<'t> Reader<'t> {
         before: Option<&Pairs>,
     ) -> Result<Pairs, CertFault>
         requires { IfSome before (λ b. ArePairs b.now) }
-        ensures ok { IfOk result (λ ps. ArePairs ps × IsAfterLent before ps × Passes (lines.pairs_line ps) self.old self.new) }
-        ensures no { IfErr result (IsNextFault self.old.lines ((ps : List (ℕ × ℕ)) × (rest : List ℕ) × ArePairs ps × IsAfterLent before ps × (self.old.rest.now ≡ lines.pairs_line ps ++ 10 ∷ rest))) }
+        ensures ok { IfOk result (λ ps. ArePairs ps × IsAfterLent before.entry ps × Passes (lines.pairs_line ps) self.old self.new) }
+        ensures no { IfErr result (IsNextFault self.old.lines ((ps : List (ℕ × ℕ)) × (rest : List ℕ) × ArePairs ps × IsAfterLent before.entry ps × (self.old.rest.now ≡ lines.pairs_line ps ++ 10 ∷ rest))) }
     {
         match output_line(alloc, self.rest, before) {
             Ok((pairs, rest)) => {
