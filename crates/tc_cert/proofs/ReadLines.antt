@@ -1,8 +1,13 @@
 -- A reader behind the lines that were read: what the next line makes of them, or that it is the first fault.
-use Rattle.std.proofs.Common.{◌≡◌, ◌<◌, ◌≤◌, ◌+◌, ◌⊎◌, inl, inr, ℕ, zero, suc, List, [], ◌∷◌, ◌++◌, length, map, take, drop, nat_eq, true, false, All, Option, Some, None, Result, Ok, Err, IfErr, IfOk, IfSome, IsErrAnd, MatchResult, refl, sym, ap, subst, ◌∙◌, append_assoc, append-nil, length-append, arith, codes, decimal, slice_get, MatchOption, ◌-◌}
+use Rattle.std.proofs.Common.{◌≡◌, ◌<◌, ◌≤◌, ◌+◌, ◌⊎◌, inl, inr, ℕ, zero, suc, List, [], ◌∷◌, ◌++◌, length, map, take, drop, nat_eq, Bool, true, false, All, Option, Some, None, Result, Ok, Err, IfErr, IfOk, IfSome, IsErrAnd, MatchResult, refl, sym, ap, subst, ◌∙◌, append_assoc, append-nil, length-append, arith, codes, decimal, slice_get, MatchOption, ◌-◌}
 use Rattle.std.specs.Borrow.{Bor}
 use Rattle.std.specs.Option.{option_map}
-use Rattle.std.specs.Cmp.Lexicographic.{pointwise, bytes_decides}
+use Rattle.std.specs.Cmp.Lexicographic.{pointwise, bytes_decides, slice_cmp}
+use Rattle.std.specs.Ordering.{nat_cmp}
+use Rattle.std.specs.declared.cmp.Ordering.{Ordering}
+use Rattle.std.specs.declared.cmp.Ordering.TheVariants.{Less}
+use Rattle.tc_cert.specs.Orders.{pairs_order}
+use Rattle.tc_cert.proofs.Orders.{outputs_by_pairs}
 use Rattle.std.proofs.lemmas.List.{take-append-drop, take_rest}
 use Rattle.tc_cert.proofs.Numbers.{bool_apart}
 use Rattle.std.proofs.lemmas.List.Elements.{All-append}
@@ -362,3 +367,10 @@ formed_before os (Some b) e h = subst (λ o. IfSome o ArePairs) e h
 pub short_before : (o : Option Row) → IfSome o (λ b. IsFormedRow (fields_of b) × IsShort (fields_of b)) → IsShortBefore (option_map fields_of o)
 short_before None h = tt
 short_before (Some b) h = h.1
+
+pub after_by_order : (before : Option (Bor (List (ℕ × ℕ)))) (b : Bor (List (ℕ × ℕ))) (ps : List (ℕ × ℕ)) (order : Ordering) (is : Bool) → before ≡ Some b → ArePairs ps → IfSome before (λ x. ArePairs x.now) → order ≡ pairs_order b.now ps
+    → ((is ≡ true → order ≡ Less) × (order ≡ Less → is ≡ true)) → (is ≡ true → IsAfterLent before ps) × (IsAfterLent before ps → is ≡ true)
+after_by_order before b ps order is e p q o h =
+    let lent : ArePairs b.now = subst (λ x. IfSome x (λ y. ArePairs y.now)) e q in
+    let same : slice_cmp nat_cmp (pairs_line b.now) (pairs_line ps) ≡ order = outputs_by_pairs b.now ps lent.numbers p.numbers ∙ sym o in
+    (λ t. subst (λ x. IsAfterLent x ps) (sym e) (same ∙ h.0 t), λ t. h.1 (sym same ∙ subst (λ x. IsAfterLent x ps) e t))

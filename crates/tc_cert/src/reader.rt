@@ -1,5 +1,6 @@
 // Reading the lines of a certificate one by one.
-ghost use Rattle.std.specs.Prelude.{◌≡◌, ◌≤◌, ◌<◌, ◌+◌, ◌∷◌, ◌++◌, [], true, ℕ, List, length, codes, IfOk, IfErr, IfSome, MatchOption, MatchResult};
+ghost use Rattle.std.specs.declared.cmp.Ordering.TheVariants.{Less};
+ghost use Rattle.std.specs.Prelude.{◌≡◌, ◌↔◌, IsTrue, ◌≤◌, ◌<◌, ◌+◌, ◌∷◌, ◌++◌, [], true, ℕ, List, length, codes, IfOk, IfErr, IfSome, MatchOption, MatchResult};
 ghost use Rattle.std.specs.Option.{option_map};
 ghost use Rattle.tc_model.specs.CertificateLines as lines;
 ghost use Rattle.tc_model.specs.CertificateData.{ArePairs};
@@ -69,6 +70,13 @@ fn count_line<'t>(bytes: &'t [u8], kind: &[u8], most: u32) -> Option<(u32, &'t [
     }
 }
 
+/// Whether an order is `Less`.
+fn is_less(order: Ordering) -> bool
+    ensures { IsTrue result ↔ (order ≡ Less) }
+{
+    order == Ordering::Less
+}
+
 /// Whether an output stands behind another.
 fn is_behind(alloc: Global, before: Option<&Pairs>, pairs: &Pairs) -> Result<bool, PieceFault>
     requires { ArePairs pairs.now × IfSome before (λ b. ArePairs b.now) }
@@ -78,7 +86,7 @@ fn is_behind(alloc: Global, before: Option<&Pairs>, pairs: &Pairs) -> Result<boo
     match before {
         Some(before) => {
             let order = pairs_order(alloc, before, pairs)?;
-            Ok(order == Ordering::Less)
+            Ok(is_less(order))
         }
         None => Ok(true),
     }

@@ -33,3 +33,8 @@ loop-alloc-preserved c =
       few = omega (arith, ap length pushed, length-append c.loop-alloc.outputs (ps ∷ []), few);
       formed = subst (λ o. IfSome o ArePairs) (sym (ap last_of pushed ∙ last_snoc c.loop-alloc.outputs ps)) c.in_ok-pairs.ensures.ok.0;
     }
+
+pub returns : goal.returns
+returns c = λ v bytes s.
+    let all : length c.loop-alloc.outputs ≡ c.args.count = omega (arith, c.loop-alloc.invariant.few, c.loop-alloc-test.false, c.len.ensures) in
+    (all, c.loop-alloc.invariant.stands v bytes s)
