@@ -73,12 +73,14 @@ step {old = old} {now = now} {cs = cs} {count = count} {next = next} p v a h e n
     by k f =
         let place : next + k ≡ p = sym f.place in
         let behind : next + (k + 1) ≡ p + 1 = omega (arith, place) in
-        let was : get_or (drop next old) k 0 ≡ get_or now p 0 = get_drop next k old ∙ sym (same_at next old now k a.same) ∙ ap (λ j. get_or now j 0) place in
-        (record {
-          from = omega (arith, place);
-          within = omega (arith, place, f.within, length_drop next old a.within, a.long);
-          differs = λ z. f.differs (was ∙ z);
-        }, (λ i. changes (p + 1) (sym (drop_drop next (k + 1) old ∙ ap (λ j. drop j old) behind) i) (sym (drop_drop next (k + 1) new ∙ ap (λ j. drop j new) behind) i)) ∙ f.left)
+        let was : get_or (drop next old) k 0 ≡ get_or now p 0 = get_drop next k old ∙ sym (same_at next old now k a.same) ∙ ap (λ j. get_or now j 0) place in (
+          record {
+            from = omega (arith, place);
+            within = omega (arith, place, f.within, length_drop next old a.within, a.long);
+            differs = λ z. f.differs (was ∙ z);
+          },
+          (λ i. changes (p + 1) (sym (drop_drop next (k + 1) old ∙ ap (λ j. drop j old) behind) i) (sym (drop_drop next (k + 1) new ∙ ap (λ j. drop j new) behind) i)) ∙ f.left,
+        )
 
 pub no_more : {old now : List ℕ} {cs : List (ℕ × ℕ)} {count next : ℕ} (p v : ℕ) → AppliesSoFar old now cs count next → count < length cs → get_or cs count (0, 0) ≡ (p, v)
     → (IsNextChange now next p v → ⊥) → (new : List ℕ) → AreChanged old cs new → ⊥
@@ -108,16 +110,18 @@ set_behind (x ∷ xs) (suc i) v = shift (suc i + 1) (i + 1) (omega arith) (set x
 pub one_more : {old now : List ℕ} {cs : List (ℕ × ℕ)} {count next : ℕ} (p v : ℕ) → AppliesSoFar old now cs count next → count < length cs → get_or cs count (0, 0) ≡ (p, v)
     → IsNextChange now next p v → AppliesSoFar old (set now p v) cs (count + 1) (p + 1)
 one_more {old = old} {now = now} {cs = cs} {count = count} {next = next} p v a h e n = record {
-      long = set_long now p v ∙ a.long;
-      within = omega (arith, n.within, a.long);
-      same = set_behind now p v ∙ further;
-      so_far = one_more_change 0 old now next p v a.long a.same n.from (omega (arith, n.within, a.long)) n.differs ∙ (λ i. a.so_far i ++ (zero_plus i, v) ∷ []) ∙ sym (take_snoc count cs (p, v) h e);
-      left = λ new are. (step p v a h e new are).1;
-    }
+  long = set_long now p v ∙ a.long;
+  within = omega (arith, n.within, a.long);
+  same = set_behind now p v ∙ further;
+  so_far = one_more_change 0 old now next p v a.long a.same n.from (omega (arith, n.within, a.long)) n.differs ∙ (λ i. a.so_far i ++ (zero_plus i, v) ∷ []) ∙ sym (take_snoc count cs (p, v) h e);
+  left = λ new are. (step p v a h e new are).1;
+}
   where
     zero_plus : 0 + p ≡ p
     zero_plus = omega arith
+
     gap : next + (p + 1 - next) ≡ p + 1
     gap = omega (arith, n.from)
+
     further : drop (p + 1) now ≡ drop (p + 1) old
     further = sym (drop_drop next (p + 1 - next) now ∙ ap (λ j. drop j now) gap) ∙ ap (drop (p + 1 - next)) a.same ∙ drop_drop next (p + 1 - next) old ∙ ap (λ j. drop j old) gap

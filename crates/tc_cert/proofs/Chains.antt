@@ -199,6 +199,7 @@ counts kind k m n r s long p q e =
   where
     feed : digit_value 10 < 10 → ⊥
     feed h = absurd (omega (arith, h))
+
     cancel : (k xs ys : List ℕ) → k ++ xs ≡ k ++ ys → xs ≡ ys
     cancel [] xs ys e = e
     cancel (c ∷ k) xs ys e = let tail : k ++ xs ≡ k ++ ys = ap (drop 1) e in cancel k xs ys tail
@@ -387,7 +388,8 @@ module _ (bytes : List ℕ) where
   good_parts d h = (
     record { few = omega arith; most_few = h.few_outputs; formed = h.outputs; ordered = h.outputs_ordered },
     record { few = omega arith; most_few = h.few_trees; formed = h.trees; ordered = h.trees_ordered },
-    record { few = omega arith; most_few = h.few_hedges; formed = h.hedges; ordered = h.hedges_ordered })
+    record { few = omega arith; most_few = h.few_hedges; formed = h.hedges; ordered = h.hedges_ordered },
+  )
 
   finished_front : (v : Version) (d : CertData) (s : List ℕ) → IsFormed d → bytes ≡ text v d ++ s → Reach bytes (finished v d) s
   finished_front v d s h e =
@@ -395,7 +397,7 @@ module _ (bytes : List ℕ) where
       let front : List ℕ = (head ++ outputs_part d.outputs) ++ trees_part v d.trees in
       let flat : text v d ≡ (front ++ hedges_part v d.hedges) ++ ended (codes "end")
       = sym (append_assoc head (outputs_part d.outputs) (rows_part v d)) ∙ sym (append_assoc (head ++ outputs_part d.outputs) (trees_part v d.trees ++ hedges_part v d.hedges) (ended (codes "end")))
-        ∙ ap (λ w. w ++ ended (codes "end")) (sym (append_assoc (head ++ outputs_part d.outputs) (trees_part v d.trees) (hedges_part v d.hedges))) in
+      ∙ ap (λ w. w ++ ended (codes "end")) (sym (append_assoc (head ++ outputs_part d.outputs) (trees_part v d.trees) (hedges_part v d.hedges))) in
       let before : Reach bytes (in_hedges v d.outputs d.trees (length d.hedges) d.hedges) (codes "end" ++ 10 ∷ s)
       = hedges_front v d.outputs d.trees d.hedges (codes "end" ++ 10 ∷ s) (good_parts d h) (e ∙ ap (λ w. w ++ s) flat ∙ append_assoc (front ++ hedges_part v d.hedges) (ended (codes "end")) s) in
       behind _ before (inr (record { all = refl; line = refl; to = refl })) h refl

@@ -255,6 +255,7 @@ changes_keep P n (m ∷ old) (x ∷ new) l a b = by (changes_keep P (n + 1) old 
   where
     both : P x → All P new → All P (x ∷ new)
     both p q = All-append P (x ∷ []) new (λ k d h. grind (arith, p)) q
+
     by : (All (Puts P) (changes (n + 1) old new) → All P new) → (c : Bool) → (m == x) ≡ c → All P (x ∷ new)
     by more true e = both (subst P (same_by_test m x e) (All-head P m old a)) (more (subst (All (Puts P)) (none_here n m x (changes (n + 1) old new) e) b))
     by more false e =
@@ -312,4 +313,3 @@ pairs_end one other i o h k is so_far = is ∙ sym (so_far ∙ at_end pair_order
 
 pub number_of_order : (m n : ℕ) (o : Ordering) → m < 2 ^ 64 → n < 2 ^ 64 → o ≡ number_order m n → o ≡ Equal → m ≡ n
 number_of_order m n o h k is e = decimal_injective m n h k (exact_bytes (decimal m) (decimal n) (sym is ∙ e))
-

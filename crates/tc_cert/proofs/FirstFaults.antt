@@ -52,6 +52,7 @@ shorter_goes bytes f r g s h a (behind {f = g0} {rest = s0} k b m fine q) c =
   where
     here : (f ≡ g0) × (r ≡ s0) → CanGo f r
     here e = record { line = k; to = g; after = s; next = next_of f g0 k g e.0 m; good = fine; spelled = e.1 ∙ q }
+
     by : (line_count f < line_count g0 → CanGo f r) → (line_count f < line_count g0) ⊎ (line_count f ≡ line_count g0) → CanGo f r
     by more (inl p) = more p
     by more (inr p) = here (same_count bytes f r g0 s0 h a b p)
@@ -66,27 +67,31 @@ to_text bytes v d b = record { formed = b.good; version = v; spelled = b.spelled
 pub is_fault : (bytes : List ℕ) (f : Front) (rest : List ℕ) → length bytes ≤ 67108864 → BeginsWith bytes f rest → (CanGo f rest → ⊥) → ((v : Version) (d : CertData) → f ≡ finished v d → rest ≡ [] → ⊥)
     → IsFirstFault bytes (line_count f + 1)
 is_fault bytes f rest h b stuck unfinished = record {
-      before = f;
-      rest = rest;
-      begins = b;
-      next = refl;
-      no_more = λ g after c. by g after c (most_or_more (line_count g) (line_count f));
-      no_text = λ d t. none d t (most_or_more (line_count (finished t.version d)) (line_count f));
-    }
+  before = f;
+  rest = rest;
+  begins = b;
+  next = refl;
+  no_more = λ g after c. by g after c (most_or_more (line_count g) (line_count f));
+  no_text = λ d t. none d t (most_or_more (line_count (finished t.version d)) (line_count f));
+}
   where
     here : Reach bytes f rest
     here = reached bytes f rest b
+
     by : (g : Front) (after : List ℕ) → BeginsWith bytes g after → (line_count g ≤ line_count f) ⊎ (line_count f < line_count g) → line_count g ≤ line_count f
     by g after c (inl p) = p
     by g after c (inr p) = absurd (stuck (shorter_goes bytes f rest g after h here (reached bytes g after c) p))
+
     past : (v : Version) (d : CertData) (s : List ℕ) → CanGo (finished v d) s → ⊥
     past v d s c = c.next
+
     none : (d : CertData) (t : CertificateText bytes d) → (line_count (finished t.version d) ≤ line_count f) ⊎ (line_count f < line_count (finished t.version d)) → ⊥
     none d t (inr p) = stuck (shorter_goes bytes f rest (finished t.version d) [] h here (reached bytes (finished t.version d) [] (of_text bytes d t)) p)
     none d t (inl p) = last (less_or_same (line_count (finished t.version d)) (line_count f) (omega (arith, p)))
       where
         there : Reach bytes (finished t.version d) []
         there = reached bytes (finished t.version d) [] (of_text bytes d t)
+
         last : (line_count (finished t.version d) < line_count f) ⊎ (line_count (finished t.version d) ≡ line_count f) → ⊥
         last (inl q) = past t.version d [] (shorter_goes bytes (finished t.version d) [] f rest h there here q)
         last (inr q) = let e : (finished t.version d ≡ f) × ([] ≡ rest) = same_count bytes (finished t.version d) [] f rest h there here q in unfinished t.version d (sym e.0) (sym e.1)
@@ -108,6 +113,7 @@ two_texts bytes v w d e h a b = by (most_or_more (line_count (finished v d)) (li
     last : (line_count (finished v d) < line_count (finished w e)) ⊎ (line_count (finished v d) ≡ line_count (finished w e)) → d ≡ e
     last (inl p) = absurd (past_end v d [] (shorter_goes bytes (finished v d) [] (finished w e) [] h a b p))
     last (inr p) = ap (data_or d) (same_count bytes (finished v d) [] (finished w e) [] h a b p).0
+
     by : (line_count (finished v d) ≤ line_count (finished w e)) ⊎ (line_count (finished w e) < line_count (finished v d)) → d ≡ e
     by (inl p) = last (less_or_same (line_count (finished v d)) (line_count (finished w e)) (omega (arith, p)))
     by (inr p) = absurd (past_end w e [] (shorter_goes bytes (finished w e) [] (finished v d) [] h b a p))

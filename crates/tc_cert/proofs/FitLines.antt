@@ -98,6 +98,7 @@ module _ (s : Sizes) where
         here : (l : ℕ) → UnfitIn 3 P os l ⊎ ((l ≡ 3 + length os) × ¬ P p) → 3 + length os ≤ l
         here l (inl u) = absurd (all_fit P 3 os l a.outputs u)
         here l (inr u) = omega (arith, u.0)
+
         least : (l : ℕ) → IsUnfit s (data_of (os ++ p ∷ []) [] []) l → 3 + length os ≤ l
         least l (inl u) = here l (unfit_front P 3 os p l u)
         least l (inr (inl u)) = absurd (nothing_unfit (TreeFits s (data_of (os ++ p ∷ []) [] [])) _ l u)
@@ -110,13 +111,16 @@ module _ (s : Sizes) where
         moved (inl u) = inl (unfit_more P 3 os p line u)
         moved (inr (inl u)) = absurd (nothing_unfit (TreeFits s (data_of os [] [])) _ line u)
         moved (inr (inr u)) = absurd (nothing_unfit (HedgeFits s (data_of os [] [])) _ line u)
+
         below : IsUnfit s (data_of os [] []) line → line < 3 + length os
         below (inl u) = unfit_below P 3 os line u
         below (inr (inl u)) = absurd (nothing_unfit (TreeFits s (data_of os [] [])) _ line u)
         below (inr (inr u)) = absurd (nothing_unfit (HedgeFits s (data_of os [] [])) _ line u)
+
         here : (l : ℕ) → UnfitIn 3 P os l ⊎ ((l ≡ 3 + length os) × ¬ P p) → line ≤ l
         here l (inl u) = f.least l (inl u)
         here l (inr u) = omega (arith, u.0, below f.unfit)
+
         least : (l : ℕ) → IsUnfit s (data_of (os ++ p ∷ []) [] []) l → line ≤ l
         least l (inl u) = here l (unfit_front P 3 os p l u)
         least l (inr (inl u)) = absurd (nothing_unfit (TreeFits s (data_of (os ++ p ∷ []) [] [])) _ l u)
@@ -139,6 +143,7 @@ module _ (s : Sizes) where
         here : (l : ℕ) → UnfitIn (4 + length os) T ts l ⊎ ((l ≡ 4 + length os + length ts) × ¬ T t) → 4 + length os + length ts ≤ l
         here l (inl u) = absurd (all_fit T (4 + length os) ts l a.trees u)
         here l (inr u) = omega (arith, u.0)
+
         least : (l : ℕ) → IsUnfit s (data_of os (ts ++ t ∷ []) []) l → 4 + length os + length ts ≤ l
         least l (inl u) = absurd (all_fit O 3 os l a.outputs u)
         least l (inr (inl u)) = here l (unfit_front T (4 + length os) ts t l u)
@@ -151,13 +156,16 @@ module _ (s : Sizes) where
         moved (inl u) = inl u
         moved (inr (inl u)) = inr (inl (unfit_more T (4 + length os) ts t line u))
         moved (inr (inr u)) = absurd (nothing_unfit (HedgeFits s (data_of os ts [])) _ line u)
+
         below : IsUnfit s (data_of os ts []) line → line ≤ 4 + length os + length ts
         below (inl u) = omega (arith, unfit_below O 3 os line u)
         below (inr (inl u)) = omega (arith, unfit_below T (4 + length os) ts line u)
         below (inr (inr u)) = absurd (nothing_unfit (HedgeFits s (data_of os ts [])) _ line u)
+
         here : (l : ℕ) → UnfitIn (4 + length os) T ts l ⊎ ((l ≡ 4 + length os + length ts) × ¬ T t) → line ≤ l
         here l (inl u) = f.least l (inr (inl u))
         here l (inr u) = omega (arith, u.0, below f.unfit)
+
         least : (l : ℕ) → IsUnfit s (data_of os (ts ++ t ∷ []) []) l → line ≤ l
         least l (inl u) = f.least l (inl u)
         least l (inr (inl u)) = here l (unfit_front T (4 + length os) ts t l u)
@@ -186,6 +194,7 @@ module _ (s : Sizes) where
         here : (l : ℕ) → UnfitIn base HedgesFit hs l ⊎ ((l ≡ base + length hs) × ¬ HedgesFit t) → base + length hs ≤ l
         here l (inl u) = absurd (all_fit HedgesFit base hs l a.hedges u)
         here l (inr u) = omega (arith, u.0)
+
         least : (l : ℕ) → IsUnfit s (data_of os ts (hs ++ t ∷ [])) l → base + length hs ≤ l
         least l (inl u) = absurd (all_fit OutputsFit 3 os l a.outputs u)
         least l (inr (inl u)) = absurd (all_fit TreesFit (4 + length os) ts l a.trees u)
@@ -198,13 +207,16 @@ module _ (s : Sizes) where
         moved (inl u) = inl u
         moved (inr (inl u)) = inr (inl u)
         moved (inr (inr u)) = inr (inr (unfit_more HedgesFit base hs t line u))
+
         below : IsUnfit s (data_of os ts hs) line → line ≤ base + length hs
         below (inl u) = omega (arith, unfit_below OutputsFit 3 os line u)
         below (inr (inl u)) = omega (arith, unfit_below TreesFit (4 + length os) ts line u)
         below (inr (inr u)) = omega (arith, unfit_below HedgesFit base hs line u)
+
         here : (l : ℕ) → UnfitIn base HedgesFit hs l ⊎ ((l ≡ base + length hs) × ¬ HedgesFit t) → line ≤ l
         here l (inl u) = f.least l (inr (inr u))
         here l (inr u) = omega (arith, u.0, below f.unfit)
+
         least : (l : ℕ) → IsUnfit s (data_of os ts (hs ++ t ∷ [])) l → line ≤ l
         least l (inl u) = f.least l (inl u)
         least l (inr (inl u)) = f.least l (inr (inl u))

@@ -64,11 +64,15 @@ module _ {X : Type 0} (f : X → List ℕ) (ok : X → Type 0) (plain : IsPlain 
     where
       first : (zs : List X) (after : List ℕ) → IsListAt f ok end bytes zs after → (y : X) × (ys : List X) × IsLeft f ok end bytes y ys after
       first [] after at = absurd (bar after at.spelled)
-      first (z ∷ zs) after at = (z, zs, record {
-        first = All-head ok z zs at.allowed;
-        more = All-tail ok z zs at.allowed;
-        spelled = at.spelled ∙ append_assoc (f z) (flat_map comma_before zs) (end ∷ after);
-      })
+      first (z ∷ zs) after at = (
+        z,
+        zs,
+        record {
+          first = All-head ok z zs at.allowed;
+          more = All-tail ok z zs at.allowed;
+          spelled = at.spelled ∙ append_assoc (f z) (flat_map comma_before zs) (end ∷ after);
+        },
+      )
 
   -- no item stands there: there is no list
   pub none : {bytes rest : List ℕ} {xs : List X} → GoesOn f ok end bytes xs rest → ((x : X) (r : List ℕ) → IsItemAt f ok rest x r → ⊥)
@@ -99,10 +103,10 @@ module _ {X : Type 0} (f : X → List ℕ) (ok : X → Type 0) (plain : IsPlain 
 
   pub next : {bytes rest behind after : List ℕ} {xs : List X} {x : X} → GoesOn f ok end bytes xs rest → IsItemAt f ok rest x behind → behind ≡ 44 ∷ after → GoesOn f ok end bytes (xs ++ x ∷ []) after
   next {bytes = bytes} {rest = rest} {behind = behind} {after = after} {xs = xs} {x = x} g i e = record {
-        allowed = All-append ok xs (x ∷ []) g.allowed (all_one ok x i.allowed);
-        spelled = g.spelled ∙ ap (λ l. flat_map comma_behind xs ++ l) (i.spelled ∙ ap (λ l. f x ++ l) e) ∙ sym (snoc_behind xs x after);
-        left = λ zs last at. more zs last (g.left zs last at);
-      }
+    allowed = All-append ok xs (x ∷ []) g.allowed (all_one ok x i.allowed);
+    spelled = g.spelled ∙ ap (λ l. flat_map comma_behind xs ++ l) (i.spelled ∙ ap (λ l. f x ++ l) e) ∙ sym (snoc_behind xs x after);
+    left = λ zs last at. more zs last (g.left zs last at);
+  }
     where
       more : (zs : List X) (last : List ℕ) → (y : X) × (ys : List X) × IsLeft f ok end rest y ys last → (y : X) × (ys : List X) × IsLeft f ok end after y ys last
       more zs last (y, [], l) = absurd (no_comma last after (sym (same y [] last i l) ∙ e))
@@ -146,9 +150,9 @@ open_change c r = append_assoc (decimal c.0 ++ (58 ∷ [])) (decimal c.1) r ∙ 
 
 pub plain_changes : IsPlain change AreNumbers
 plain_changes = record {
-    digit = λ c p. first c p (plain_numbers.digit c.0 p.0);
-    one = λ c d r s p q t u e. after_between 58 colon c d r s p q t u (sym (open_change c r) ∙ e ∙ open_change d s);
-  }
+  digit = λ c p. first c p (plain_numbers.digit c.0 p.0);
+  one = λ c d r s p q t u e. after_between 58 colon c d r s p q t u (sym (open_change c r) ∙ e ∙ open_change d s);
+}
   where
     first : (c : ℕ × ℕ) → AreNumbers c → ((k : ℕ) × (after : List ℕ) × (decimal c.0 ≡ k ∷ after) × (digit_value k < 10))
         → (k : ℕ) × (after : List ℕ) × (change c ≡ k ∷ after) × (digit_value k < 10)
@@ -230,13 +234,13 @@ two_long {rest = rest} {p = p} at = omega (arith, ap length at.spelled, length-a
 
 pub pairs_next : {bytes rest before after : List ℕ} {ps : List (ℕ × ℕ)} {p : ℕ × ℕ} → PairsGoOn bytes ps rest → rest ≡ 32 ∷ before → IsTwoAt 62 before p after → PairsGoOn bytes (ps ++ p ∷ []) after
 pairs_next {bytes = bytes} {rest = rest} {before = before} {after = after} {ps = ps} {p = p} g e i = record {
-      allowed = All-append AreNumbers ps (p ∷ []) g.allowed (all_one AreNumbers p i.numbers);
-      spelled = g.spelled ∙ ap (λ l. flat_map pair ps ++ l) (e ∙ ap (λ l. 32 ∷ l) i.spelled ∙ sym (open_pair p after))
-        ∙ sym (append_assoc (flat_map pair ps) (pair p) after)
-        ∙ ap (λ l. (flat_map pair ps ++ l) ++ after) (sym (append-nil (pair p))) ∙ ap (λ l. l ++ after) (sym (flat_map-append pair ps (p ∷ [])));
-      left = λ qs last at. more last (g.left qs last at);
-      few = omega (arith, g.few, two_long i, ap length e, length-append ps (p ∷ []));
-    }
+  allowed = All-append AreNumbers ps (p ∷ []) g.allowed (all_one AreNumbers p i.numbers);
+  spelled = g.spelled ∙ ap (λ l. flat_map pair ps ++ l) (e ∙ ap (λ l. 32 ∷ l) i.spelled ∙ sym (open_pair p after))
+      ∙ sym (append_assoc (flat_map pair ps) (pair p) after)
+      ∙ ap (λ l. (flat_map pair ps ++ l) ++ after) (sym (append-nil (pair p))) ∙ ap (λ l. l ++ after) (sym (flat_map-append pair ps (p ∷ [])));
+  left = λ qs last at. more last (g.left qs last at);
+  few = omega (arith, g.few, two_long i, ap length e, length-append ps (p ∷ []));
+}
   where
     more : (last : List ℕ) → (more_ps : List (ℕ × ℕ)) × ArePairsAt rest more_ps last → (more_ps : List (ℕ × ℕ)) × ArePairsAt after more_ps last
     more last ([], l) = absurd (omega (arith, first_same 32 before 10 last (sym e ∙ l.spelled)))

@@ -147,7 +147,7 @@ fields_then : (a c : Fields) → IsFormedRow a → IsFormedRow c
 fields_then a c p q =
     list_then a.members c.members _ _ p.members.numbers q.members.numbers (space_low _) (space_low _)
     ∙ ap (ordering_then (numbers_order a.members c.members)) (list_then a.outs c.outs _ _ p.outs q.outs (space_low _) (space_low _)
-      ∙ ap (ordering_then (numbers_order a.outs c.outs)) (last_list a.looks c.looks (numbers_of_looks a.looks p.looks) (numbers_of_looks c.looks q.looks)))
+    ∙ ap (ordering_then (numbers_order a.outs c.outs)) (last_list a.looks c.looks (numbers_of_looks a.looks p.looks) (numbers_of_looks c.looks q.looks)))
 
 -- the order of the lines of rows
 pub rows_by_fields : (k : Kind) (a c : Fields) → IsFormedRow a → IsFormedRow c → slice_cmp nat_cmp (row_line k a) (row_line k c) ≡ row_order a c

@@ -91,6 +91,7 @@ output_fault v bytes count os r e few s h = next_fault v bytes (in_outputs v cou
         let good_now : AreOutputs count (os ++ n.pairs ∷ []) = subst IsGood n.to good in
         (n.pairs, after, last_all ArePairs os n.pairs good_now.formed, behind_of_ordered pairs_line os n.pairs good_now.ordered, e ∙ ap (λ w. w ++ 10 ∷ after) n.line)
     by l g after (inr n) good e = absurd (omega (arith, few, n.all))
+
     go : CanGo (in_outputs v count os) r.rest.now → AnOutput os r.rest.now
     go c = by c.line c.to c.after c.next c.good c.spelled
 
@@ -125,6 +126,7 @@ trees_fault v bytes os r e s h = next_fault v bytes (in_outputs v (length os) os
     by : (l : List ℕ) (g : Front) (after : List ℕ) → Next (in_outputs v (length os) os) l g → IsGood g → r.rest.now ≡ l ++ 10 ∷ after → ACount (codes "trees") 4000 r.rest.now
     by l g after (inl n) good e = absurd (too_many os n.pairs (length os) (subst IsGood n.to good).few refl)
     by l g after (inr n) good e = (n.trees, after, (subst IsGood n.to good).1.most_few, e ∙ ap (λ w. w ++ 10 ∷ after) n.line)
+
     go : CanGo (in_outputs v (length os) os) r.rest.now → ACount (codes "trees") 4000 r.rest.now
     go c = by c.line c.to c.after c.next c.good c.spelled
 
@@ -139,6 +141,7 @@ hedges_fault v bytes os ts r e s h = next_fault v bytes (in_trees v os (length t
     by : (l : List ℕ) (g : Front) (after : List ℕ) → Next (in_trees v os (length ts) ts) l g → IsGood g → r.rest.now ≡ l ++ 10 ∷ after → ACount (codes "hedges") 4000 r.rest.now
     by l g after (inl n) good e = absurd (too_many ts n.tree (length ts) (subst IsGood n.to good).1.few refl)
     by l g after (inr n) good e = (n.hedges, after, (subst IsGood n.to good).2.most_few, e ∙ ap (λ w. w ++ 10 ∷ after) n.line)
+
     go : CanGo (in_trees v os (length ts) ts) r.rest.now → ACount (codes "hedges") 4000 r.rest.now
     go c = by c.line c.to c.after c.next c.good c.spelled
 
@@ -204,13 +207,17 @@ tree_fault v bytes os count ts r e few s h = next_fault v bytes (in_trees v os c
   where
     by : (l : List ℕ) (g : Front) (after : List ℕ) → Next (in_trees v os count ts) l g → IsGood g → r.rest.now ≡ l ++ 10 ∷ after → ARow v Tree (option_map of_tree (last_of ts)) r.rest.now
     by l g after (inl n) good e =
-        let good_now : AreTrees count (ts ++ n.tree ∷ []) = (subst IsGood n.to good).1 in
-        (of_tree n.tree, after, record {
-          formed = formed_tree n.tree (last_all IsFormedTree ts n.tree good_now.formed);
-          behind = is_tree_order (last_of ts) n.tree (behind_of_ordered tree_line ts n.tree good_now.ordered);
-          spelled = e ∙ ap (λ w. w ++ 10 ∷ after) (n.line ∙ sym (tree_behind_is v (last_of ts) n.tree));
-        })
+        let good_now : AreTrees count (ts ++ n.tree ∷ []) = (subst IsGood n.to good).1 in (
+          of_tree n.tree,
+          after,
+          record {
+            formed = formed_tree n.tree (last_all IsFormedTree ts n.tree good_now.formed);
+            behind = is_tree_order (last_of ts) n.tree (behind_of_ordered tree_line ts n.tree good_now.ordered);
+            spelled = e ∙ ap (λ w. w ++ 10 ∷ after) (n.line ∙ sym (tree_behind_is v (last_of ts) n.tree));
+          },
+        )
     by l g after (inr n) good e = absurd (omega (arith, few, n.all))
+
     go : CanGo (in_trees v os count ts) r.rest.now → ARow v Tree (option_map of_tree (last_of ts)) r.rest.now
     go c = by c.line c.to c.after c.next c.good c.spelled
 
@@ -220,13 +227,17 @@ hedge_fault v bytes os ts count hs r e few s h = next_fault v bytes (in_hedges v
   where
     by : (l : List ℕ) (g : Front) (after : List ℕ) → Next (in_hedges v os ts count hs) l g → IsGood g → r.rest.now ≡ l ++ 10 ∷ after → ARow v Hedge (option_map of_hedge (last_of hs)) r.rest.now
     by l g after (inl n) good e =
-        let good_now : AreHedges count (hs ++ n.hedge ∷ []) = (subst IsGood n.to good).2 in
-        (of_hedge n.hedge, after, record {
-          formed = formed_hedge n.hedge (last_all IsFormedHedge hs n.hedge good_now.formed);
-          behind = is_hedge_order (last_of hs) n.hedge (behind_of_ordered hedge_line hs n.hedge good_now.ordered);
-          spelled = e ∙ ap (λ w. w ++ 10 ∷ after) (n.line ∙ sym (hedge_behind_is v (last_of hs) n.hedge));
-        })
+        let good_now : AreHedges count (hs ++ n.hedge ∷ []) = (subst IsGood n.to good).2 in (
+          of_hedge n.hedge,
+          after,
+          record {
+            formed = formed_hedge n.hedge (last_all IsFormedHedge hs n.hedge good_now.formed);
+            behind = is_hedge_order (last_of hs) n.hedge (behind_of_ordered hedge_line hs n.hedge good_now.ordered);
+            spelled = e ∙ ap (λ w. w ++ 10 ∷ after) (n.line ∙ sym (hedge_behind_is v (last_of hs) n.hedge));
+          },
+        )
     by l g after (inr n) good e = absurd (omega (arith, few, n.all))
+
     go : CanGo (in_hedges v os ts count hs) r.rest.now → ARow v Hedge (option_map of_hedge (last_of hs)) r.rest.now
     go c = by c.line c.to c.after c.next c.good c.spelled
 
@@ -266,6 +277,7 @@ end_fault v bytes os ts hs r (cert.Form line) s (inl h) =
     by : (l : List ℕ) (g : Front) (after : List ℕ) → Next (in_hedges v os ts (length hs) hs) l g → IsGood g → r.rest.now ≡ l ++ 10 ∷ after → (rest : List ℕ) × (r.rest.now ≡ codes "end" ++ 10 ∷ rest)
     by l g after (inl n) good e = absurd (too_many hs n.hedge (length hs) (subst IsGood n.to good).2.few refl)
     by l g after (inr n) good e = (after, e ∙ ap (λ w. w ++ 10 ∷ after) n.line)
+
     go : CanGo (in_hedges v os ts (length hs) hs) r.rest.now → (rest : List ℕ) × (r.rest.now ≡ codes "end" ++ 10 ∷ rest)
     go c = by c.line c.to c.after c.next c.good c.spelled
 end_fault v bytes os ts hs r (cert.Form line) s (inr h) =

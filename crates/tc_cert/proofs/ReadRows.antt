@@ -62,8 +62,13 @@ three_of k b bytes f rest short c = three_of_changes k b f bytes rest short c.fo
 
 pub changed_no_front : (k : Kind) (b : Fields) (bytes : List ℕ) (l : ℕ) → l ≡ changes_letter k → IsShort b → ((one : Bool) × (other : Bool) × (ms : List ℕ) × (r : List ℕ) × IsFrontAt l bytes one other ms r → ⊥) → AnyChanged k b bytes → ⊥
 changed_no_front k b bytes l is short bar w =
-    bar (w.0.one, w.0.other, w.0.members, listed change (changes 0 b.outs w.0.outs) ++ 32 ∷ (listed change (changes 0 b.looks w.0.looks) ++ 10 ∷ w.1),
-      subst (λ c. IsFrontAt c bytes w.0.one w.0.other w.0.members (listed change (changes 0 b.outs w.0.outs) ++ 32 ∷ (listed change (changes 0 b.looks w.0.looks) ++ 10 ∷ w.1))) (sym is) (front_of change AreNumbers plain_changes (three_of k b bytes w.0 w.1 short w.2)))
+    bar (
+      w.0.one,
+      w.0.other,
+      w.0.members,
+      listed change (changes 0 b.outs w.0.outs) ++ 32 ∷ (listed change (changes 0 b.looks w.0.looks) ++ 10 ∷ w.1),
+      subst (λ c. IsFrontAt c bytes w.0.one w.0.other w.0.members (listed change (changes 0 b.outs w.0.outs) ++ 32 ∷ (listed change (changes 0 b.looks w.0.looks) ++ 10 ∷ w.1))) (sym is) (front_of change AreNumbers plain_changes (three_of k b bytes w.0 w.1 short w.2)),
+    )
 
 module _ (k : Kind) (b : Fields) (bytes : List ℕ) (l : ℕ) (is : l ≡ changes_letter k) (short : IsShort b) (one other : Bool) (ms r : List ℕ) (h : IsFrontAt l bytes one other ms r) where
   head_of : IsFrontAt (changes_letter k) bytes one other ms r
@@ -104,12 +109,14 @@ module _ (k : Kind) (b : Fields) (bytes : List ℕ) (l : ℕ) (is : l ≡ change
   changed_ok cs ds s t result formed p q m on f made_of =
       let outs : All IsNumber f.outs = changes_keep IsNumber 0 b.outs f.outs made_of.outs_are.long formed.outs (subst (All (λ c. IsNumber c.1)) (sym made_of.outs_are.are) (λ j d i. (p.allowed j d i).1)) in
       let good : IsFormedRow f = record { members = subst AreMembers (sym made_of.members_are) h.allowed; outs = outs; looks = made_of.small } in
-      let three : AreThree change AreNumbers (changes_letter k) bytes one other ms cs ds t = made change AreNumbers plain_changes head_of p q in
-      (record {
-        formed = good;
-        like = like_of f made_of.outs_are.long made_of.looks_are.long;
-        spelled = three.spelled ∙ sym (λ i. row_text k t (made_of.one_is i) (made_of.other_is i) (made_of.members_are i) (made_of.outs_are.are i) (made_of.looks_are.are i));
-      }, rows_by_fields k b f formed good ∙ (m f made_of).0 on)
+      let three : AreThree change AreNumbers (changes_letter k) bytes one other ms cs ds t = made change AreNumbers plain_changes head_of p q in (
+        record {
+          formed = good;
+          like = like_of f made_of.outs_are.long made_of.looks_are.long;
+          spelled = three.spelled ∙ sym (λ i. row_text k t (made_of.one_is i) (made_of.other_is i) (made_of.members_are i) (made_of.outs_are.are i) (made_of.looks_are.are i));
+        },
+        rows_by_fields k b f formed good ∙ (m f made_of).0 on,
+      )
 
 -- the next row, whole or by its changes
 text_by : (b : Bool) (k : Kind) (p f : Fields) (rest : List ℕ) → are_like p f ≡ b → row_in by_changes k p f ++ 10 ∷ rest ≡ cond b (row_changes k p f) (row_line k f) ++ 10 ∷ rest

@@ -66,7 +66,7 @@ module _ {X : Type 0} (f : X → List ℕ) (ok : X → Type 0) (plain : IsPlain 
   flat letter a b ms xs ys rest =
       ap (λ w. w ++ 10 ∷ rest) (open_row letter a b ms (listed f xs) (listed f ys))
       ∙ ap (λ w. letter ∷ 32 ∷ flag a ∷ 32 ∷ flag b ∷ 32 ∷ w) (append_assoc (numbers ms) (32 ∷ (listed f xs ++ 32 ∷ listed f ys)) (10 ∷ rest)
-        ∙ ap (λ w. numbers ms ++ 32 ∷ w) (append_assoc (listed f xs) (32 ∷ listed f ys) (10 ∷ rest)))
+      ∙ ap (λ w. numbers ms ++ 32 ∷ w) (append_assoc (listed f xs) (32 ∷ listed f ys) (10 ∷ rest)))
 
   pub front_of : {letter : ℕ} {bytes ms rest : List ℕ} {a b : Bool} {xs ys : List X} → AreThree f ok letter bytes a b ms xs ys rest → IsFrontAt letter bytes a b ms (listed f xs ++ 32 ∷ (listed f ys ++ 10 ∷ rest))
   front_of {letter = letter} {ms = ms} {rest = rest} {a = a} {b = b} {xs = xs} {ys = ys} t = record { allowed = t.members; spelled = t.spelled ∙ flat letter a b ms xs ys rest }

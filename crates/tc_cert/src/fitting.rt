@@ -66,13 +66,7 @@ fn first_of(told: Option<u32>, fits: bool, line: u32) -> Option<u32>
 {
     match told {
         Some(first) => Some(first),
-        None => {
-            if fits {
-                None
-            } else {
-                Some(line)
-            }
-        }
+        None => { if fits { None } else { Some(line) } }
     }
 }
 
@@ -143,9 +137,25 @@ pub fn first_unfit(alloc: Global, text: &[u8], ranges: Ranges) -> Result<Option<
     let outputs = reader.count(b"outputs", 65536)?;
     let of_outputs = first_output(alloc, &mut reader, outputs, ranges.output_states)?;
     let trees = reader.count(b"trees", 4000)?;
-    let of_trees = first_row(alloc, &mut reader, Kind::Tree, trees, ranges, outputs, of_outputs)?;
+    let of_trees = first_row(
+        alloc,
+        &mut reader,
+        Kind::Tree,
+        trees,
+        ranges,
+        outputs,
+        of_outputs,
+    )?;
     let hedges = reader.count(b"hedges", 4000)?;
-    let told = first_row(alloc, &mut reader, Kind::Hedge, hedges, ranges, outputs, of_trees)?;
+    let told = first_row(
+        alloc,
+        &mut reader,
+        Kind::Hedge,
+        hedges,
+        ranges,
+        outputs,
+        of_trees,
+    )?;
     reader.end()?;
     Ok(told)
 }

@@ -102,11 +102,7 @@ fn after_dash(bytes: &[u8], end: u8) -> Option<&[u8]>
 }
 
 /// The list of numbers at the front up to this byte, which ends a field or a line, and what follows it.
-pub(crate) fn numbers(
-    alloc: Global,
-    bytes: &[u8],
-    end: u8,
-) -> Result<(Vec<u32>, &[u8]), PieceFault>
+pub(crate) fn numbers(alloc: Global, bytes: &[u8], end: u8) -> Result<(Vec<u32>, &[u8]), PieceFault>
     requires { (end ≡ 32) ⊎ (end ≡ 10) }
     ensures ok { IfOk result (λ r. AreNumbersAt end bytes.now r.0.items r.1.now) }
     ensures no { IfErr result (IsMissing ((ns : List ℕ) × (rest : List ℕ) × AreNumbersAt end bytes.now ns rest)) }
@@ -274,5 +270,12 @@ pub(crate) fn front(
     if !do_ascend(&members) {
         return Err(PieceFault::Form);
     }
-    Ok((RowFront { one, other, members }, rest))
+    Ok((
+        RowFront {
+            one,
+            other,
+            members,
+        },
+        rest,
+    ))
 }

@@ -8,8 +8,8 @@ ghost use Rattle.tc_cert.specs.Standing.{Stands};
 ghost use Rattle.tc_cert.specs.Texts.{Version, CertificateText};
 ghost use Rattle.tc_model.specs.declared.lists.TreeLine.{TreeLine};
 
-use crate::faults::CertFault;
 use crate::cursor::Reader;
+use crate::faults::CertFault;
 use crate::rows::{Kind, Row};
 use std::alloc::Global;
 use tc_base::NoMemory;

@@ -164,12 +164,7 @@ fn is_behind(before: &Row, front: &RowFront, outs: &[(u32, u32)], looks: &[(u32,
 }
 
 /// The row at the front that is written by its changes of another, behind which it stands, and the next line.
-fn changed(
-    alloc: Global,
-    bytes: &[u8],
-    kind: Kind,
-    before: Row,
-) -> Result<(Row, &[u8]), PieceFault>
+fn changed(alloc: Global, bytes: &[u8], kind: Kind, before: Row) -> Result<(Row, &[u8]), PieceFault>
     requires { IsFormedRow (fields_of before) × IsShort (fields_of before) }
     ensures ok { IfOk result (λ r. IsChangedAt kind (fields_of before) bytes.now (fields_of r.0) r.1.now × IsBehind (row_line kind) (Some (fields_of before)) (fields_of r.0)) }
     ensures no { IfErr result (IsMissing ((f : Fields) × (rest : List ℕ) × IsChangedAt kind (fields_of before) bytes.now f rest × IsBehind (row_line kind) (Some (fields_of before)) f)) }

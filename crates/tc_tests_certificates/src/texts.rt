@@ -129,7 +129,11 @@ fn each_front_lacks_its_next_line(rt: HostRuntime) -> Result<(), Fail> {
 fn a_changed_line_of_version_1_is_told(rt: HostRuntime) -> Result<(), Fail> {
     let alloc = rt.alloc();
     let rows = [
-        ("m 0>0 1>1 2>2 3>3 4>4\nm 2>3 3>3", "m 2>3 3>3\nm 0>0 1>1 2>2 3>3 4>4", 4),
+        (
+            "m 0>0 1>1 2>2 3>3 4>4\nm 2>3 3>3",
+            "m 2>3 3>3\nm 0>0 1>1 2>2 3>3 4>4",
+            4,
+        ),
         ("end\n", "", 12),
         ("end\n", "end", 12),
         ("end\n", "end\n\n", 13),

@@ -12,7 +12,7 @@ use Rattle.tc_cert.proofs.fitting.first_row.Given as goal
 abbrev pub invariant-loop-done : goal.invariant-loop-done
 invariant-loop-done l = record {
   so_far : (v : Version) (bytes : List ℕ) (os : List (List (ℕ × ℕ))) (ts : List TreeLine) → length os ≡ l.listed → Stands v bytes (rows_front l.kind v os ts l.count []) l.fn.reader → Told (sizes_of l.ranges) (rows_data l.kind os ts []) l.fn.told_before
-    → RowsSoFar l.kind v bytes (sizes_of l.ranges) os ts l.count l.done (option_map fields_of l.before) l.told l.reader;
+      → RowsSoFar l.kind v bytes (sizes_of l.ranges) os ts l.count l.done (option_map fields_of l.before) l.told l.reader;
   few : l.done ≤ l.count;
   good : IfSome l.before (λ b. IsFormedRow (fields_of b) × IsShort (fields_of b));
 }

@@ -16,8 +16,8 @@ returns-in_err-pairs c = λ v bytes s.
     let here : Stands v bytes (in_outputs v c.args.count c.loop-alloc.outputs) c.loop-alloc.reader = c.loop-alloc.invariant.stands v bytes s in
     refused _ _ c.from_residual.result c.in_err-pairs.field-0.0 c.from_residual.ensures.1
     (output_fault v bytes c.args.count c.loop-alloc.outputs c.loop-alloc.reader c.in_err-pairs.field-0.0 few here
-      (fault_as c.loop-alloc.reader.lines (AnOutputLine c.last_output.result c.loop-alloc.reader.rest.now) (AnOutput c.loop-alloc.outputs c.loop-alloc.reader.rest.now) c.in_err-pairs.field-0.0
-        (λ p. (p.0, p.1, p.2, of_behind c.loop-alloc.outputs p.0 c.last_output.result c.last_output.ensures p.3, p.4)) c.in_err-pairs.ensures.no))
+    (fault_as c.loop-alloc.reader.lines (AnOutputLine c.last_output.result c.loop-alloc.reader.rest.now) (AnOutput c.loop-alloc.outputs c.loop-alloc.reader.rest.now) c.in_err-pairs.field-0.0
+    (λ p. (p.0, p.1, p.2, of_behind c.loop-alloc.outputs p.0 c.last_output.result c.last_output.ensures p.3, p.4)) c.in_err-pairs.ensures.no))
 
 pub loop-alloc-preserved : goal.loop-alloc-preserved
 loop-alloc-preserved c =
@@ -26,9 +26,9 @@ loop-alloc-preserved c =
     let pushed : c.push.new.self ≡ c.loop-alloc.outputs ++ ps ∷ [] = c.in_ok-push.ensures.ok in
     record {
       stands = λ v bytes s.
-        let here : Stands v bytes (in_outputs v c.args.count c.loop-alloc.outputs) c.loop-alloc.reader = c.loop-alloc.invariant.stands v bytes s in
-        subst (λ os. Stands v bytes (in_outputs v c.args.count os) c.output.new.self) (sym pushed)
-        (output_on v bytes c.args.count c.loop-alloc.outputs ps c.loop-alloc.reader c.output.new.self few here c.in_ok-pairs.ensures.ok.0
+          let here : Stands v bytes (in_outputs v c.args.count c.loop-alloc.outputs) c.loop-alloc.reader = c.loop-alloc.invariant.stands v bytes s in
+          subst (λ os. Stands v bytes (in_outputs v c.args.count os) c.output.new.self) (sym pushed)
+          (output_on v bytes c.args.count c.loop-alloc.outputs ps c.loop-alloc.reader c.output.new.self few here c.in_ok-pairs.ensures.ok.0
           (behind_of c.loop-alloc.outputs ps c.last_output.result c.last_output.ensures c.in_ok-pairs.ensures.ok.1) c.in_ok-pairs.ensures.ok.2);
       few = omega (arith, ap length pushed, length-append c.loop-alloc.outputs (ps ∷ []), few);
       formed = subst (λ o. IfSome o ArePairs) (sym (ap last_of pushed ∙ last_snoc c.loop-alloc.outputs ps)) c.in_ok-pairs.ensures.ok.0;

@@ -15,8 +15,8 @@ returns-in_err-row c = λ v bytes os s.
     let here : Stands v bytes (in_trees v os c.args.count c.loop-alloc.trees) c.loop-alloc.reader = c.loop-alloc.invariant.stands v bytes os s in
     refused _ _ c.from_residual.result c.in_err-row.field-0.0 c.from_residual.ensures.1
     (tree_fault v bytes os c.args.count c.loop-alloc.trees c.loop-alloc.reader c.in_err-row.field-0.0 few here
-      (subst (λ o. IsNextFault c.loop-alloc.reader.lines (ARow v Tree o c.loop-alloc.reader.rest.now) c.in_err-row.field-0.0) c.loop-alloc.invariant.last
-      (subst (λ w. IsNextFault c.loop-alloc.reader.lines (ARow w Tree (option_map fields_of c.loop-alloc.before) c.loop-alloc.reader.rest.now) c.in_err-row.field-0.0) here.style c.in_err-row.ensures.no)))
+    (subst (λ o. IsNextFault c.loop-alloc.reader.lines (ARow v Tree o c.loop-alloc.reader.rest.now) c.in_err-row.field-0.0) c.loop-alloc.invariant.last
+    (subst (λ w. IsNextFault c.loop-alloc.reader.lines (ARow w Tree (option_map fields_of c.loop-alloc.before) c.loop-alloc.reader.rest.now) c.in_err-row.field-0.0) here.style c.in_err-row.ensures.no)))
 
 pub loop-alloc-preserved : goal.loop-alloc-preserved
 loop-alloc-preserved c =
@@ -25,14 +25,14 @@ loop-alloc-preserved c =
     let pushed : c.push.new.self ≡ c.loop-alloc.trees ++ tree_of f ∷ [] = c.in_ok-push.ensures.ok ∙ ap (λ t. c.loop-alloc.trees ++ t ∷ []) c.in_ok-tree_of.ensures in
     record {
       stands = λ v bytes os s.
-        let here : Stands v bytes (in_trees v os c.args.count c.loop-alloc.trees) c.loop-alloc.reader = c.loop-alloc.invariant.stands v bytes os s in
-        let passes : PassesRow v Tree (option_map of_tree (last_of c.loop-alloc.trees)) f c.loop-alloc.reader c.row.new.self = record {
-          row = subst (λ o. IsNextRow v Tree o c.loop-alloc.reader.rest.now f c.row.new.self.rest.now) c.loop-alloc.invariant.last
-            (subst (λ w. IsNextRow w Tree (option_map fields_of c.loop-alloc.before) c.loop-alloc.reader.rest.now f c.row.new.self.rest.now) here.style c.in_ok-row.ensures.ok.0);
-          lines = c.in_ok-row.ensures.ok.1;
-          style = c.in_ok-row.ensures.ok.2;
-        } in
-        subst (λ ts. Stands v bytes (in_trees v os c.args.count ts) c.row.new.self) (sym pushed) (tree_on v bytes os c.args.count c.loop-alloc.trees f c.loop-alloc.reader c.row.new.self few here passes);
+          let here : Stands v bytes (in_trees v os c.args.count c.loop-alloc.trees) c.loop-alloc.reader = c.loop-alloc.invariant.stands v bytes os s in
+          let passes : PassesRow v Tree (option_map of_tree (last_of c.loop-alloc.trees)) f c.loop-alloc.reader c.row.new.self = record {
+            row = subst (λ o. IsNextRow v Tree o c.loop-alloc.reader.rest.now f c.row.new.self.rest.now) c.loop-alloc.invariant.last
+                (subst (λ w. IsNextRow w Tree (option_map fields_of c.loop-alloc.before) c.loop-alloc.reader.rest.now f c.row.new.self.rest.now) here.style c.in_ok-row.ensures.ok.0);
+            lines = c.in_ok-row.ensures.ok.1;
+            style = c.in_ok-row.ensures.ok.2;
+          } in
+          subst (λ ts. Stands v bytes (in_trees v os c.args.count ts) c.row.new.self) (sym pushed) (tree_on v bytes os c.args.count c.loop-alloc.trees f c.loop-alloc.reader c.row.new.self few here passes);
       few = omega (arith, ap length pushed, length-append c.loop-alloc.trees (tree_of f ∷ []), few);
       last = sym (ap (λ ts. option_map of_tree (last_of ts)) pushed ∙ ap (option_map of_tree) (last_snoc c.loop-alloc.trees (tree_of f)));
       good = (c.in_ok-row.ensures.ok.0.formed, c.in_ok-row.ensures.short);

@@ -16,7 +16,7 @@ pub returns-in_err-looks-clause-no : goal.returns-in_err-looks-clause-no
 returns-in_err-looks-clause-no c =
     same_error (IsMissing ((f : Fields) × (rest : List ℕ) × IsWholeAt c.args.kind c.args.bytes.now f rest)) c.from_residual-in_err-looks.result c.in_err-looks.field-0.0 c.from_residual-in_err-looks.ensures.1
     (λ e. whole_no_looks c.args.kind c.args.bytes.now c.letter.result c.letter.ensures c.in_ok-front.front.one c.in_ok-front.front.other c.in_ok-front.front.members.items c.in_ok-front.rest.now c.in_ok-front.ensures.ok
-      c.in_ok-outs.outs.items c.in_ok-outs.rest.now c.in_ok-outs.ensures.ok (c.in_err-looks.ensures.no e))
+    c.in_ok-outs.outs.items c.in_ok-outs.rest.now c.in_ok-outs.ensures.ok (c.in_err-looks.ensures.no e))
 
 pub returns-then-not-are_looks-clause-no : goal.returns-then-not-are_looks-clause-no
 returns-then-not-are_looks-clause-no c = λ _.

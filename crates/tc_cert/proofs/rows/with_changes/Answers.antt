@@ -15,5 +15,5 @@ returns c = record {
   outs_are = c.if-not-apply.ensures;
   looks_are = c.if-not-apply-2.ensures;
   small = changes_keep (λ n. n ≤ 2) 0 c.args.before.looks.items c.apply-2.new.numbers.items c.if-not-apply-2.ensures.long c.requires
-    (subst (All (λ d. d.1 ≤ 2)) (sym c.if-not-apply-2.ensures.are) (c.put_looks.ensures.0 c.if-not-put_looks.false));
+      (subst (All (λ d. d.1 ≤ 2)) (sym c.if-not-apply-2.ensures.are) (c.put_looks.ensures.0 c.if-not-put_looks.false));
 }
