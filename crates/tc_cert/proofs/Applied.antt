@@ -1,9 +1,9 @@
 -- Changes that are made one by one.
-use Rattle.std.proofs.Common.{◌≡◌, ◌<◌, ◌≤◌, ◌≢◌, ◌+◌, ◌-◌, ℕ, zero, suc, List, [], ◌∷◌, ◌++◌, length, take, drop, get_or, set, refl, sym, ap, subst, ◌∙◌, arith, add-one}
+use Rattle.std.proofs.Common.{◌≡◌, ◌<◌, ◌≤◌, ◌+◌, ◌-◌, ℕ, zero, suc, List, [], ◌∷◌, ◌++◌, length, take, drop, get_or, set, refl, sym, ap, ◌∙◌, arith}
 use Rattle.std.proofs.lemmas.List.{drop_more}
 use Rattle.tc_model.specs.CertificateLines.{changes}
 use Rattle.tc_cert.specs.NextRows.{AreChanged, IsNextChange}
-use Rattle.tc_cert.proofs.Differing.{IsFirstChange, first_change, no_differing, one_more_change, no_change}
+use Rattle.tc_cert.proofs.Differing.{IsFirstChange, first_change, no_differing, one_more_change}
 
 -- the list so far, after so many changes of which none stands from the next place on
 pub record AppliesSoFar (old now : List ℕ) (cs : List (ℕ × ℕ)) (count next : ℕ) : Type 0 where

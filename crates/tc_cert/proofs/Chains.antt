@@ -1,5 +1,5 @@
 -- Lines one after another from the front of a text: what may follow, and that it is one.
-use Rattle.std.proofs.Common.{◌≡◌, ◌<◌, ◌≤◌, ◌≢◌, ◌+◌, ◌⊎◌, inl, inr, ℕ, zero, suc, List, [], ◌∷◌, ◌++◌, length, drop, get_or, map, flat_map, All, Option, Some, None, refl, sym, ap, subst, ◌∙◌, append_assoc, append-nil, length-append, arith, codes, decimal}
+use Rattle.std.proofs.Common.{◌≡◌, ◌<◌, ◌≤◌, ◌+◌, ◌⊎◌, inl, inr, ℕ, List, [], ◌∷◌, ◌++◌, length, drop, get_or, flat_map, All, Option, Some, None, refl, sym, ap, subst, ◌∙◌, append_assoc, append-nil, length-append, arith, codes, decimal}
 use Rattle.std.specs.Char.{digit_value}
 use Rattle.std.proofs.lemmas.Grind.{flat_map-append}
 use Rattle.std.proofs.lemmas.List.Elements.{All-append, All-head, All-tail}
@@ -7,10 +7,9 @@ use Rattle.tc_model.specs.declared.lists.TreeLine.{TreeLine}
 use Rattle.tc_model.specs.declared.lists.HedgeLine.{HedgeLine}
 use Rattle.tc_model.specs.declared.lists.CertData.{CertData}
 use Rattle.tc_model.specs.CertificateLines.{pairs_line, pair, tree_line, hedge_line}
-use Rattle.tc_model.specs.CertificateData.{IsNumber, ArePairs, IsFormedTree, IsFormedHedge, AreOrdered, IsFormed}
-use Rattle.tc_cert.specs.Texts.{Version, whole, by_changes, ended, heading, counted, tree_in, hedge_in, rows_in, rows_behind, output_text, outputs_part, trees_part, hedges_part, rows_part, text, CertificateText}
-use Rattle.tc_cert.specs.Fronts.{Front, nothing, begun, in_outputs, in_trees, in_hedges, finished, line_count, front_text, AreOutputs, AreTrees, AreHedges, IsGood, BeginsWith, IsFirstFault}
-use Rattle.tc_cert.specs.Pieces.{Stops, AreNumbers, ArePairsAt}
+use Rattle.tc_model.specs.CertificateData.{ArePairs, IsFormedTree, IsFormedHedge, IsFormed}
+use Rattle.tc_cert.specs.Texts.{Version, whole, by_changes, ended, heading, counted, tree_in, hedge_in, rows_in, rows_behind, output_text, outputs_part, trees_part, hedges_part, rows_part, text}
+use Rattle.tc_cert.specs.Fronts.{Front, nothing, begun, in_outputs, in_trees, in_hedges, finished, line_count, front_text, AreOutputs, AreTrees, AreHedges, IsGood, BeginsWith}
 use Rattle.tc_cert.specs.Fields.{last_of, line_behind}
 use Rattle.tc_cert.specs.NextRows.{IsShort}
 use Rattle.tc_cert.proofs.Fields.{one_number, stops_at}

@@ -1,9 +1,8 @@
 -- The first line that doesn't fit, line by line.
-use Rattle.std.proofs.Common.{◌≡◌, ◌<◌, ◌≤◌, ◌+◌, ◌⊎◌, inl, inr, ℕ, zero, suc, List, [], ◌∷◌, ◌++◌, length, All, Option, Some, None, slice_get, MatchOption, Bool, true, false, map, refl, sym, ap, subst, ◌∙◌, length-append, arith}
+use Rattle.std.proofs.Common.{◌≡◌, ◌<◌, ◌≤◌, ◌+◌, ◌⊎◌, inl, inr, ℕ, zero, suc, List, [], ◌∷◌, ◌++◌, length, All, Option, Some, None, slice_get, Bool, true, false, map, refl, sym, ap, subst, ◌∙◌, arith}
 use Rattle.std.proofs.lemmas.List.Elements.{All-append, All-head, All-tail}
 use Rattle.tc_model.specs.declared.lists.TreeLine.{TreeLine}
 use Rattle.tc_model.specs.declared.lists.HedgeLine.{HedgeLine}
-use Rattle.tc_model.specs.declared.lists.CertData.{CertData}
 use Rattle.tc_model.specs.CertificateFits.{Sizes, PairsFit, OutputFits, TreeFits, HedgeFits, AllFit, IsUnfit, IsFirstUnfit}
 use Rattle.tc_cert.specs.Fits.{Told, data_of, told_with, RowFitsIn, rows_data}
 use Rattle.tc_cert.specs.Fields.{Fields, tree_of, hedge_of}

@@ -1,6 +1,5 @@
 -- The order of lines is that of the numbers in them.
-use Rattle.std.proofs.Common.{◌≡◌, ◌<◌, ◌≤◌, ◌^◌, ◌⊎◌, inl, inr, ℕ, Bool, List, [], ◌∷◌, ◌++◌, flat_map, get_or, All, refl, sym, ap, subst, ◌∙◌, append_assoc, append-nil, arith, codes, decimal}
-use Rattle.std.specs.Char.{digit_value}
+use Rattle.std.proofs.Common.{◌≡◌, ◌<◌, ◌≤◌, ℕ, Bool, List, [], ◌∷◌, ◌++◌, flat_map, get_or, All, refl, sym, ap, subst, ◌∙◌, append_assoc, append-nil, arith, codes, decimal}
 use Rattle.std.specs.Str.Parse.{AllDigits, IsNumeral}
 use Rattle.std.specs.Ordering.{nat_cmp, ordering_then}
 use Rattle.std.specs.declared.cmp.Ordering.{Ordering}
@@ -14,9 +13,8 @@ use Rattle.tc_model.specs.CertificateLines.{flag, numbers, row, pair, pairs_line
 use Rattle.tc_model.specs.CertificateData.{IsNumber}
 use Rattle.tc_cert.specs.Pieces.{AreNumbers}
 use Rattle.tc_cert.specs.Fields.{Fields, IsFormedRow, row_line, letter}
-use Rattle.tc_cert.specs.Orders.{number_order, numbers_order, pair_order, pairs_order, front_order, row_order}
+use Rattle.tc_cert.specs.Orders.{number_order, numbers_order, pair_order, pairs_order, row_order}
 use Rattle.tc_cert.specs.declared.rows.Kind.{Kind}
-use Rattle.tc_cert.specs.declared.rows.Kind.TheVariants.{Tree, Hedge}
 use Rattle.tc_cert.proofs.Fields.{wide}
 
 abbrev bytes_cmp : List ℕ → List ℕ → Ordering

@@ -1,5 +1,5 @@
 -- A reader behind the lines that were read: what the next line makes of them, or that it is the first fault.
-use Rattle.std.proofs.Common.{◌≡◌, ◌<◌, ◌≤◌, ◌+◌, ◌⊎◌, inl, inr, ℕ, zero, suc, List, [], ◌∷◌, ◌++◌, length, map, take, drop, nat_eq, Bool, true, false, All, Option, Some, None, Result, Ok, Err, IfErr, IfOk, IfSome, IsErrAnd, MatchResult, refl, sym, ap, subst, ◌∙◌, append_assoc, append-nil, length-append, arith, codes, decimal, slice_get, MatchOption, ◌-◌}
+use Rattle.std.proofs.Common.{◌≡◌, ◌<◌, ◌≤◌, ◌+◌, inl, inr, ℕ, suc, List, [], ◌∷◌, ◌++◌, length, take, drop, nat_eq, Bool, true, false, Option, Some, None, Result, Ok, Err, IfSome, IsErrAnd, MatchResult, refl, sym, ap, subst, ◌∙◌, append_assoc, length-append, arith, codes, decimal, slice_get, MatchOption, ◌-◌}
 use Rattle.std.specs.Borrow.{Bor}
 use Rattle.std.specs.Option.{option_map}
 use Rattle.std.specs.Cmp.Lexicographic.{pointwise, bytes_decides, slice_cmp}
@@ -15,12 +15,12 @@ use Rattle.tc_model.specs.declared.lists.TreeLine.{TreeLine}
 use Rattle.tc_model.specs.declared.lists.HedgeLine.{HedgeLine}
 use Rattle.tc_model.specs.declared.lists.CertData.{CertData}
 use Rattle.tc_model.specs.CertificateLines.{pairs_line, tree_line, hedge_line}
-use Rattle.tc_model.specs.CertificateData.{ArePairs, IsFormedTree, IsFormedHedge, AreOrdered, IsFormed}
+use Rattle.tc_model.specs.CertificateData.{ArePairs, IsFormedTree, IsFormedHedge, IsFormed}
 use Rattle.tc_cert.specs.Texts.{Version, whole, by_changes, heading, counted, tree_in, hedge_in, CertificateText}
 use Rattle.tc_cert.specs.Fronts.{Front, nothing, begun, in_outputs, in_trees, in_hedges, finished, line_count, AreOutputs, AreTrees, AreHedges, IsGood, BeginsWith, IsFirstFault}
 use Rattle.tc_cert.specs.Fields.{Fields, IsFormedRow, IsBehind, IsNextRow, row_line, row_in, line_behind, last_of, tree_of, hedge_of, fields_of}
 use Rattle.tc_cert.specs.Readings.{IsUnread}
-use Rattle.tc_cert.specs.Standing.{Passes, Stands, IsAfter, IsAfterLent, IsNextFault, IsEndFault}
+use Rattle.tc_cert.specs.Standing.{Passes, Stands, IsAfterLent, IsNextFault, IsEndFault}
 use Rattle.tc_cert.specs.declared.cursor.Reader.{Reader}
 use Rattle.tc_cert.specs.declared.faults.CertFault.{CertFault}
 use Rattle.tc_cert.specs.declared.faults.CertFault.TheVariants as cert

@@ -1,14 +1,13 @@
 -- Rows that are read field by field.
-use Rattle.std.proofs.Common.{◌≡◌, ◌<◌, ◌≤◌, ◌&&◌, ◌==◌, ℕ, Bool, true, false, cond, List, [], ◌∷◌, ◌++◌, length, drop, get_or, All, Option, Some, None, refl, sym, ap, subst, ◌∙◌, arith, decimal}
-use Rattle.std.specs.declared.cmp.Ordering.{Ordering}
+use Rattle.std.proofs.Common.{◌≡◌, ◌≤◌, ◌&&◌, ℕ, Bool, true, false, cond, List, ◌∷◌, ◌++◌, length, drop, get_or, All, Some, refl, sym, ap, subst, ◌∙◌, decimal}
 use Rattle.std.specs.declared.cmp.Ordering.TheVariants.{Less}
 use Rattle.tc_model.specs.CertificateLines.{change, changes, numbers, listed, row}
 use Rattle.tc_model.specs.CertificateData.{IsNumber, AreMembers}
-use Rattle.tc_cert.specs.Texts.{Version, whole, by_changes}
+use Rattle.tc_cert.specs.Texts.{by_changes}
 use Rattle.tc_cert.specs.Pieces.{AreNumbers, AreNumbersAt, AreChangesAt, IsFrontAt}
 use Rattle.tc_cert.specs.Fields.{Fields, IsFormedRow, IsBehind, IsNextRow, row_line, row_changes, row_in, are_like, letter, changes_letter}
 use Rattle.tc_cert.specs.Orders.{row_order}
-use Rattle.tc_cert.specs.NextRows.{IsWholeAt, IsChangedAt, AreChanged, IsMade, IsMadeBehind, IsShort}
+use Rattle.tc_cert.specs.NextRows.{IsWholeAt, IsChangedAt, IsMade, IsMadeBehind, IsShort}
 use Rattle.tc_cert.specs.Styles.{version_of, IsWholeBehind, MayBeWhole, IsByChanges}
 use Rattle.tc_cert.specs.declared.rows.Kind.{Kind}
 use Rattle.tc_cert.specs.declared.rows.Style.{Style}
@@ -16,9 +15,9 @@ use Rattle.tc_cert.specs.declared.rows.Style.TheVariants.{Whole, ByChanges}
 use Rattle.tc_cert.proofs.Fields.{plain_numbers}
 use Rattle.tc_cert.proofs.Lists.{plain_changes}
 use Rattle.tc_cert.proofs.Numbers.{bool_apart}
-use Rattle.tc_cert.proofs.Orders.{numbers_of_looks, rows_by_fields}
+use Rattle.tc_cert.proofs.Orders.{rows_by_fields}
 use Rattle.tc_cert.proofs.Three.{AreThree, IsOneRow, first_of, second_of, front_of, one_row, made}
-use Rattle.tc_cert.proofs.Differing.{changes_keep, changes_put, test_same}
+use Rattle.tc_cert.proofs.Differing.{changes_keep, test_same}
 use Rattle.tc_cert.proofs.RowLines.{three_of_line, three_of_changes, whole_one, as_long, letters_differ}
 
 -- some row that is written whole, or by changes

@@ -1,12 +1,12 @@
 -- The line of a row says one row, given the row before it.
-use Rattle.std.proofs.Common.{◌≡◌, ◌<◌, ◌≤◌, ◌≢◌, ◌+◌, ◌==◌, ◌&&◌, ℕ, zero, suc, Bool, true, false, cond, List, [], ◌∷◌, ◌++◌, length, get_or, flat_map, All, Option, Some, None, refl, sym, ap, subst, ◌∙◌, length-append, arith, codes, decimal}
+use Rattle.std.proofs.Common.{◌≡◌, ◌≤◌, ◌+◌, ◌==◌, ◌&&◌, ℕ, Bool, true, false, cond, List, [], ◌∷◌, ◌++◌, length, get_or, flat_map, All, Option, Some, None, refl, sym, ap, ◌∙◌, length-append, arith, codes, decimal}
 use Rattle.std.proofs.lemmas.List.Elements.{All-append, All-head, All-tail}
 use Rattle.tc_model.specs.declared.lists.TreeLine.{TreeLine}
 use Rattle.tc_model.specs.declared.lists.HedgeLine.{HedgeLine}
 use Rattle.tc_model.specs.CertificateLines.{flag, numbers, listed, change, changes, change_at, tree_line, hedge_line, row}
 use Rattle.tc_model.specs.CertificateData.{IsNumber, IsFormedTree, IsFormedHedge}
 use Rattle.tc_cert.specs.Texts.{Version, whole, by_changes, tree_in, hedge_in}
-use Rattle.tc_cert.specs.Pieces.{AreNumbers, IsListAt}
+use Rattle.tc_cert.specs.Pieces.{AreNumbers}
 use Rattle.tc_cert.specs.Fields.{Fields, IsFormedRow, row_line, row_changes, row_in, are_like, letter, changes_letter, line_behind, tree_of, hedge_of}
 use Rattle.tc_cert.specs.NextRows.{IsShort}
 use Rattle.tc_cert.specs.declared.rows.Kind.{Kind}
@@ -15,7 +15,7 @@ use Rattle.tc_cert.proofs.Fields.{plain_numbers}
 use Rattle.tc_cert.proofs.Lists.{plain_changes, all_one}
 use Rattle.tc_cert.proofs.Orders.{numbers_of_looks, open_row}
 use Rattle.tc_cert.proofs.Three.{AreThree, IsOneRow, both_rows}
-use Rattle.tc_cert.proofs.Differing.{first_change, IsFirstChange, same_by_test, other_by_test, change_here, none_here, first_change_is}
+use Rattle.tc_cert.proofs.Differing.{first_change, IsFirstChange, same_by_test, change_here, none_here, first_change_is}
 
 abbrev pub of_tree : TreeLine → Fields
 of_tree t = record { one = t.text; other = t.bears; members = t.patterns; outs = t.outs; looks = t.looks }

@@ -1,5 +1,5 @@
 -- The fields of a row: two truth values, members, and two lists of numbers or of changes.
-use Rattle.std.proofs.Common.{◌≡◌, ◌<◌, ◌≤◌, ◌⊎◌, inl, inr, ℕ, Bool, true, false, List, [], ◌∷◌, ◌++◌, drop, get_or, All, refl, sym, ap, subst, ◌∙◌, append_assoc, arith, decimal}
+use Rattle.std.proofs.Common.{◌≡◌, inr, ℕ, Bool, List, ◌∷◌, ◌++◌, drop, get_or, All, refl, sym, ap, subst, ◌∙◌, append_assoc, decimal}
 use Rattle.tc_model.specs.CertificateLines.{flag, numbers, row, listed}
 use Rattle.tc_model.specs.CertificateData.{IsNumber, AreMembers}
 use Rattle.tc_cert.specs.Pieces.{IsListAt, AreNumbersAt, FlagsAt, IsFrontAt}

@@ -1,16 +1,15 @@
 -- What was read and told of lines so far.
-use Rattle.std.proofs.Common.{◌≡◌, ◌<◌, ◌≤◌, ◌+◌, ℕ, Bool, true, List, [], ◌∷◌, ◌++◌, length, map, length-append, Option, Some, None, MatchOption, IfSome, refl, sym, ap, subst, ◌∙◌, arith}
+use Rattle.std.proofs.Common.{◌≡◌, ◌<◌, ◌+◌, ℕ, Bool, true, List, [], ◌∷◌, ◌++◌, length, map, length-append, Option, Some, None, MatchOption, IfSome, refl, sym, subst, ◌∙◌, arith}
 use Rattle.std.specs.Borrow.{Bor}
 use Rattle.std.specs.Option.{option_map, option_copied}
 use Rattle.std.proofs.lemmas.List.{map-append, length-map}
 use Rattle.tc_model.specs.declared.lists.TreeLine.{TreeLine}
-use Rattle.tc_model.specs.declared.lists.HedgeLine.{HedgeLine}
 use Rattle.tc_model.specs.CertificateLines.{pairs_line}
 use Rattle.tc_model.specs.CertificateData.{ArePairs}
 use Rattle.tc_model.specs.CertificateFits.{Sizes, PairsFit}
 use Rattle.tc_cert.specs.Fields.{Fields, IsBehind, last_of, tree_of, hedge_of}
 use Rattle.tc_cert.specs.Fits.{Told, told_with, data_of, RowFitsIn, rows_front, rows_data}
-use Rattle.tc_cert.specs.Fronts.{Front, in_outputs, in_trees, in_hedges, line_count}
+use Rattle.tc_cert.specs.Fronts.{in_outputs, in_trees, in_hedges}
 use Rattle.tc_cert.specs.Readings.{IsUnread}
 use Rattle.tc_cert.specs.Standing.{Passes, Stands, IsNextFault}
 use Rattle.tc_cert.specs.Texts.{Version}
@@ -21,7 +20,7 @@ use Rattle.tc_cert.specs.declared.rows.Kind.TheVariants.{Tree, Hedge}
 use Rattle.tc_cert.proofs.RowLines.{of_tree, of_hedge}
 use Rattle.tc_cert.proofs.Sorted.{last_snoc}
 use Rattle.tc_cert.proofs.FitLines.{output_told, row_told, place_of}
-use Rattle.tc_cert.proofs.ReadLines.{AnOutput, ARow, PassesRow, output_on, output_fault, tree_on, hedge_on, tree_fault, hedge_fault}
+use Rattle.tc_cert.proofs.ReadLines.{ARow, PassesRow, output_on, tree_on, hedge_on, tree_fault, hedge_fault}
 
 pub record OutputsSoFar (v : Version) (bytes : List ℕ) (s : Sizes) (count done : ℕ) (before : Option (List (ℕ × ℕ))) (told : Option ℕ) (r : Reader) : Type 0 where
   pub outputs : List (List (ℕ × ℕ))

@@ -1,8 +1,8 @@
 -- A text of version 2 is its own, and what faults of reading and of writing say of an upgrade.
-use Rattle.std.proofs.Common.{◌≡◌, ◌<◌, ℕ, List, ◌++◌, length, get_or, refl, sym, ap, ◌∙◌, arith, codes}
+use Rattle.std.proofs.Common.{◌≡◌, ◌<◌, ℕ, List, length, get_or, refl, sym, ap, ◌∙◌, arith}
 use Rattle.tc_model.specs.declared.lists.CertData.{CertData}
 use Rattle.tc_cert.specs.Texts.{Version, whole, by_changes, text, CertificateText}
-use Rattle.tc_cert.specs.Readings.{IsUnread, IsNotUpgraded, IsLong, BeginsByChanges, upgrade_fault, write_fault}
+use Rattle.tc_cert.specs.Readings.{IsUnread, IsNotUpgraded, BeginsByChanges, upgrade_fault, write_fault}
 use Rattle.tc_cert.specs.declared.faults.CertFault.{CertFault}
 use Rattle.tc_cert.specs.declared.faults.CertFault.TheVariants as cert
 use Rattle.tc_cert.specs.declared.text.CertWriteFault.{CertWriteFault}

@@ -1,7 +1,7 @@
 -- Rows at the front of bytes: the first of a kind, one written whole behind another, one by its changes.
-use Rattle.std.specs.Prelude.{◌≡◌, ◌∷◌, ◌++◌, ℕ, List, Bool, true, false, length, get_or, All, ◌≤◌, ◌<◌, ◌≢◌}
-use Rattle.tc_model.specs.CertificateLines.{numbers, changed, changes, listed, change}
-use Rattle.tc_cert.specs.Fields.{Fields, IsFormedRow, row_line, row_changes, are_like, IsBehind}
+use Rattle.std.specs.Prelude.{◌≡◌, ◌∷◌, ◌++◌, ℕ, List, Bool, true, length, get_or, All, ◌≤◌, ◌<◌, ◌≢◌}
+use Rattle.tc_model.specs.CertificateLines.{changes}
+use Rattle.tc_cert.specs.Fields.{Fields, IsFormedRow, row_line, row_changes, are_like}
 use Rattle.tc_cert.specs.Orders.{row_order}
 use Rattle.std.specs.declared.cmp.Ordering.TheVariants.{Less}
 use Rattle.tc_cert.specs.declared.rows.Kind.{Kind}

@@ -1,5 +1,5 @@
 -- Pieces of a line at the front of bytes: numbers, lists, fields, and what follows them.
-use Rattle.std.specs.Prelude.{◌≡◌, ◌<◌, ℕ, Bool, List, [], ◌∷◌, ◌++◌, length, get_or, flat_map, All, decimal}
+use Rattle.std.specs.Prelude.{◌≡◌, ◌<◌, ℕ, Bool, List, ◌∷◌, ◌++◌, length, get_or, flat_map, All, decimal}
 use Rattle.std.specs.Char.{digit_value}
 use Rattle.tc_model.specs.CertificateLines.{flag, listed, change, pair, numbers}
 use Rattle.tc_model.specs.CertificateData.{IsNumber, AreMembers}

@@ -1,12 +1,12 @@
 -- Where reading stands: so many lines from the front were read, each as it must be.
-use Rattle.std.specs.Prelude.{◌≡◌, ◌≤◌, ◌<◌, ◌+◌, ◌∷◌, ◌++◌, ◌⊎◌, [], ℕ, List, length, codes, Option, Some, None}
+use Rattle.std.specs.Prelude.{◌≡◌, ◌≤◌, ◌+◌, ◌∷◌, ◌++◌, ◌⊎◌, [], ℕ, List, length, codes, Option, Some, None}
 use Rattle.std.specs.Borrow.{Bor}
 use Rattle.std.specs.Ordering.{nat_cmp}
 use Rattle.std.specs.declared.cmp.Ordering.TheVariants.{Less}
 use Rattle.std.specs.Cmp.Lexicographic.{slice_cmp}
 use Rattle.tc_model.specs.CertificateLines.{pairs_line}
 use Rattle.tc_cert.specs.Texts.{Version}
-use Rattle.tc_cert.specs.Fronts.{Front, nothing, begun, in_outputs, in_trees, in_hedges, finished, line_count, BeginsWith}
+use Rattle.tc_cert.specs.Fronts.{Front, line_count, BeginsWith}
 use Rattle.tc_cert.specs.Styles.{version_of}
 use Rattle.tc_cert.specs.declared.cursor.Reader.{Reader}
 use Rattle.tc_cert.specs.declared.faults.CertFault.{CertFault}

@@ -1,4 +1,4 @@
-use Rattle.std.proofs.Common.{◌≡◌, ◌<◌, ◌≤◌, ◌∙◌, ◌+◌, List, [], ℕ, Some, IsTrue, length, refl, subst, sym, arith}
+use Rattle.std.proofs.Common.{◌≡◌, ◌<◌, ◌∙◌, ◌+◌, [], Some, IsTrue, length, refl, subst, sym, arith}
 use Rattle.tc_model.specs.CertificateFits.{PairsFit}
 use Rattle.tc_cert.proofs.FitLines.{told_nothing}
 use Rattle.tc_cert.proofs.ReadLines.{AnOutput, AnOutputLine, output_fault, behind_of, of_behind, fault_as, refused}

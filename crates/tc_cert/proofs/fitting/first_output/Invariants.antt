@@ -1,7 +1,6 @@
-use Rattle.std.proofs.Common.{◌≡◌, ◌≤◌, ◌-◌, ℕ, List, [], length, IfSome}
+use Rattle.std.proofs.Common.{◌≡◌, ◌≤◌, ◌-◌, ℕ, List, [], IfSome}
 use Rattle.tc_model.specs.CertificateData.{ArePairs}
 use Rattle.tc_model.specs.CertificateFits.{Sizes}
-use Rattle.tc_cert.specs.Fits.{Told, data_of}
 use Rattle.tc_cert.specs.Fronts.{in_outputs}
 use Rattle.tc_cert.specs.Standing.{Stands}
 use Rattle.tc_cert.specs.Texts.{Version}

@@ -1,4 +1,4 @@
-use Rattle.std.proofs.Common.{◌≡◌, ◌<◌, ◌≤◌, ◌∙◌, ◌+◌, List, [], ℕ, Some, IsTrue, length, refl, subst, sym, arith}
+use Rattle.std.proofs.Common.{◌≡◌, ◌∙◌, ◌+◌, [], Some, IsTrue, length, refl, subst, sym, arith}
 use Rattle.std.specs.Option.{option_map}
 use Rattle.tc_cert.specs.Fields.{Fields, fields_of, IsNextRow}
 use Rattle.tc_cert.specs.Fits.{RowFitsIn, sizes_of}

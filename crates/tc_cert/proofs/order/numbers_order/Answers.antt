@@ -1,4 +1,4 @@
-use Rattle.std.proofs.Common.{◌<◌, ◌≤◌, length, min, ap, sym, ◌∙◌, arith}
+use Rattle.std.proofs.Common.{◌<◌, ◌≤◌, length, min, sym, ◌∙◌, arith}
 use Rattle.tc_cert.specs.Orders.{number_order}
 use Rattle.tc_cert.proofs.Differing.{other_at, equal_at, at_end, number_itself}
 use Rattle.tc_cert.proofs.order.numbers_order.Goals as goal

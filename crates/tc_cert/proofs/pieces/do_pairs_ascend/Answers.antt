@@ -1,4 +1,4 @@
-use Rattle.std.proofs.Common.{◌-◌, ◌<◌, ◌≡◌, ◌∙◌, refl, sym, ap, arith}
+use Rattle.std.proofs.Common.{refl, arith}
 use Rattle.tc_cert.proofs.Numbers.{bool_apart}
 use Rattle.tc_cert.proofs.Sorted.{pairs_up_to_next, not_sorted_pairs, sorted_pairs}
 use Rattle.tc_cert.proofs.pieces.do_pairs_ascend.Goals as goal

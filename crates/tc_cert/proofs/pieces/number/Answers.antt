@@ -1,4 +1,4 @@
-use Rattle.std.proofs.Common.{◌≡◌, true, false, sym, ◌∙◌, arith}
+use Rattle.std.proofs.Common.{arith}
 use Rattle.tc_cert.proofs.Numbers.{are_digits, no_numeral, no_value, is_number, bool_apart}
 use Rattle.tc_cert.proofs.pieces.number.Goals as goal
 

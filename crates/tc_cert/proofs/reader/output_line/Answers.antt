@@ -1,4 +1,4 @@
-use Rattle.std.proofs.Common.{◌≤◌, length, ap, subst, sym, arith}
+use Rattle.std.proofs.Common.{length, ap, subst, sym, arith}
 use Rattle.std.specs.List.Sorted.{IsStrictlySortedBy}
 use Rattle.tc_model.specs.CertificateData.{ArePairs, pair_cmp}
 use Rattle.tc_cert.specs.Standing.{IsAfterLent}

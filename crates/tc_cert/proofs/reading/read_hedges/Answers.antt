@@ -1,4 +1,4 @@
-use Rattle.std.proofs.Common.{length, subst, sym}
+use Rattle.std.proofs.Common.{subst, sym}
 use Rattle.tc_cert.specs.Fronts.{in_hedges}
 use Rattle.tc_cert.specs.Standing.{Stands}
 use Rattle.tc_cert.proofs.ReadLines.{hedges_on, hedges_fault, refused, map_ok}

@@ -1,4 +1,4 @@
-use Rattle.std.proofs.Common.{◌≡◌, ◌≤◌, ◌-◌, ℕ, List, [], length, IfSome}
+use Rattle.std.proofs.Common.{◌≤◌, ◌-◌, ℕ, List, [], length, IfSome}
 use Rattle.tc_model.specs.CertificateData.{ArePairs}
 use Rattle.tc_cert.specs.Fields.{last_of}
 use Rattle.tc_cert.specs.Fronts.{in_outputs}

@@ -1,4 +1,4 @@
-use Rattle.std.proofs.Common.{◌≡◌, ◌<◌, ◌∙◌, ◌++◌, ◌∷◌, [], List, ℕ, length, length-append, ap, subst, sym, arith}
+use Rattle.std.proofs.Common.{◌≡◌, ◌<◌, ◌∙◌, ◌++◌, ◌∷◌, [], length, length-append, ap, subst, sym, arith}
 use Rattle.std.specs.Option.{option_map}
 use Rattle.tc_cert.specs.Fields.{Fields, fields_of, last_of, tree_of, IsNextRow}
 use Rattle.tc_cert.specs.Fronts.{in_trees}

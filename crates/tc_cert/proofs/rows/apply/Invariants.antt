@@ -1,4 +1,3 @@
-use Rattle.std.proofs.Common.{drop, length}
 use Rattle.tc_cert.proofs.Applied.{AppliesSoFar}
 use Rattle.tc_cert.proofs.rows.apply.Given as goal
 

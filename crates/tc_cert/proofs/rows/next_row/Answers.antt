@@ -1,10 +1,8 @@
-use Rattle.std.proofs.Common.{List, ℕ, Option, IfErr, subst, sym}
+use Rattle.std.proofs.Common.{List, ℕ, IfErr, subst, sym}
 use Rattle.std.specs.Option.{option_map}
 use Rattle.tc_cert.specs.Fields.{Fields, fields_of, IsNextRow}
 use Rattle.tc_cert.specs.Pieces.{IsMissing}
 use Rattle.tc_cert.specs.Styles.{version_of}
-use Rattle.tc_cert.proofs.FirstFaults.{one_data}
-use Rattle.tc_cert.proofs.ReadLines.{whole_text}
 use Rattle.tc_cert.proofs.rows.next_row.Goals as goal
 
 pub returns-in-Some-clause-no : goal.returns-in-Some-clause-no

@@ -1,4 +1,3 @@
-use Rattle.std.proofs.Common.{List, ℕ}
 use Rattle.tc_cert.specs.Fields.{fields_of}
 use Rattle.tc_cert.proofs.Steps.{missing_as}
 use Rattle.tc_cert.proofs.ReadRows.{changed_of_next, whole_of_next}

@@ -1,4 +1,3 @@
-use Rattle.std.proofs.Common.{refl}
 use Rattle.tc_cert.specs.Fields.{fields_of}
 use Rattle.tc_cert.proofs.Numbers.{bool_apart}
 use Rattle.tc_cert.proofs.ReadRows.{not_whole, is_whole}

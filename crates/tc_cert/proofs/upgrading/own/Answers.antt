@@ -1,4 +1,4 @@
-use Rattle.std.proofs.Common.{◌≡◌, ◌≤◌, ◌∙◌, ◌++◌, length, ap, arith}
+use Rattle.std.proofs.Common.{◌≡◌, ◌∙◌, ◌++◌, length, ap, arith}
 use Rattle.tc_cert.specs.Readings.{IsNotUpgraded, upgrade_fault}
 use Rattle.tc_cert.proofs.Steps.{same_error}
 use Rattle.tc_cert.proofs.Upgrades.{own_of, not_read}
