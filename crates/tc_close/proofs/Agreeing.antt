@@ -101,7 +101,7 @@ module _ (i o : Grammar) (s : Sheet) where
       ∙ (ap (λ w. record { input = i; output = o; symbols = w; sheet = sheet x; bodies = x.bodies; ancestors = x.rules.ancestors.states }) (symbols_are x a)
       ∙ ap (λ w. record { input = i; output = o; symbols = symbols; sheet = w; bodies = x.bodies; ancestors = x.rules.ancestors.states }) a.stylesheet))
 
-  are_alike : (x y : Triple) → IsTripleOf i o s x → IsTripleOf i o s y → AreAlike x y
+  pub are_alike : (x y : Triple) → IsTripleOf i o s x → IsTripleOf i o s y → AreAlike x y
   are_alike x y a b =
       let f = fixed x a in
       let g = fixed y b in

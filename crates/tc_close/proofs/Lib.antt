@@ -15,3 +15,14 @@ pub mod Verdicts
 pub mod Exact
 pub mod PairTables
 pub mod KindLaws
+pub mod Ordered
+pub mod More
+pub mod Ranked
+pub mod Certified
+pub mod LeastHolds
+pub mod Alike
+pub mod OneCertificate
+pub mod ArithmeticAlike
+pub mod TooLong
+pub mod HeldLines
+pub mod Pushed

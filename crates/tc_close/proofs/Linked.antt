@@ -53,7 +53,7 @@ module _ {X Y : Type 0} (f : X → Y) where
       apart i j ki kj (sym (get_or-map f xs i d y ki) ∙ (a ∙ (sym b ∙ get_or-map f xs j d y kj)))
 
 -- sets of different numbers are different lists of pairs
-sets_apart : (held : List Matrix) → ((i j : ℕ) (a b : Matrix) → slice_get held i ≡ Some a → slice_get held j ≡ Some b → mat.HaveSamePairs a b → i ≡ j)
+pub sets_apart : (held : List Matrix) → ((i j : ℕ) (a b : Matrix) → slice_get held i ≡ Some a → slice_get held j ≡ Some b → mat.HaveSamePairs a b → i ≡ j)
     → (i j : ℕ) → i < length held → j < length held → pairs_of (get_or held i no_matrix) ≡ pairs_of (get_or held j no_matrix) → i ≡ j
 sets_apart held apart i j l m e =
     let a : Matrix = get_or held i no_matrix in

@@ -94,10 +94,10 @@ module _ (b : Bare) (v w : Rest) (same : all_states v.selects ≡ all_states w.s
   abbrev Y : Triple
   Y = made b w
 
-  same_moves : moves X ≡ moves Y
+  pub same_moves : moves X ≡ moves Y
   same_moves = same_taken v.selects w.selects (length (moves_of b.sheet)) same
 
-  same_looks : looks X ≡ looks Y
+  pub same_looks : looks X ≡ looks Y
   same_looks = let all : count_states v.selects ≡ count_states w.selects = same_count v.selects w.selects same in omega (arith, all, same_moves)
 
   entries_on : (es : List (List (ℕ × ℕ))) → AreEntries X es → AreEntries Y es
@@ -106,13 +106,13 @@ module _ (b : Bare) (v w : Rest) (same : all_states v.selects ≡ all_states w.s
   looks_on : (vs : List ℕ) → AreLooks X vs → AreLooks Y vs
   looks_on vs a = record { count = a.count ∙ same_looks; each = a.each }
 
-  hedge_row_on : (r : HedgeRow) → IsHedgeRow X r → IsHedgeRow Y r
+  pub hedge_row_on : (r : HedgeRow) → IsHedgeRow X r → IsHedgeRow Y r
   hedge_row_on r a = record { ascend = a.ascend; states = a.states; entries = entries_on r.entries a.entries; looks = looks_on r.looks a.looks }
 
-  tree_row_on : (r : TreeRow) → IsTreeRow X r → IsTreeRow Y r
+  pub tree_row_on : (r : TreeRow) → IsTreeRow X r → IsTreeRow Y r
   tree_row_on r a = record { ascend = a.ascend; patterns = a.patterns; entries = entries_on r.entries a.entries; looks = looks_on r.looks a.looks }
 
-  state_back : (k : ℕ) (u : PathUse) (s : State) → IsStateOf Y.rules k u s → IsStateOf X.rules k u s
+  pub state_back : (k : ℕ) (u : PathUse) (s : State) → IsStateOf Y.rules k u s → IsStateOf X.rules k u s
   state_back k u s a =
       let (g, at, e) = same_graph w.selects v.selects a.place a.graph (sym same) a.graph_is in
       record {
@@ -125,7 +125,7 @@ module _ (b : Bare) (v w : Rest) (same : all_states v.selects ≡ all_states w.s
         number_is = a.number_is ∙ ap (λ n. n + a.number) (sym (same_taken v.selects w.selects a.place same));
       }
 
-  move_back : (k : ℕ) (g : Going) → IsMoveAt Y.rules k g → IsMoveAt X.rules k g
+  pub move_back : (k : ℕ) (g : Going) → IsMoveAt Y.rules k g → IsMoveAt X.rules k g
   move_back k g a = record { mode = a.mode; state = state_back k (record { path = g.path; mode = Some a.mode }) g.state a.state; task = a.task }
 
   entries_of_on : (h : Trees) (es : List (List (ℕ × ℕ))) → AreEntriesOf X h es → AreEntriesOf Y h es

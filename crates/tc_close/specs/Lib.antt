@@ -6,3 +6,6 @@ pub mod RowState
 pub mod HeldRows
 pub mod PairTables
 pub mod Kinds
+pub mod Orders
+pub mod Certified
+pub mod Lines

@@ -5,6 +5,7 @@ ghost use Rattle.tc_close.specs.Decisions.{IsDecided, IsCloseCause};
 ghost use Rattle.tc_close.specs.RowState.{held_of, IsFull};
 ghost use Rattle.tc_rows.specs.Triples.{Triple};
 ghost use Rattle.tc_settle.specs.Closed.{IsClosure, IsCause};
+ghost use Rattle.tc_settle.specs.Held.{SameRows};
 
 use crate::held::HeldRows;
 use crate::over::Over;
@@ -63,7 +64,11 @@ impl From<NoMemory> for CloseFault {
 }
 
 /// Which count passes its limit, where rows came to no end.
-fn close_fault<K: Over>(rows: &HeldRows<'_, '_, K>, most: u32, fault: Unsettled) -> CloseFault
+pub(crate) fn close_fault<K: Over>(
+    rows: &HeldRows<'_, '_, K>,
+    most: u32,
+    fault: Unsettled,
+) -> CloseFault
     requires { IsCause (IsFull K.is_of rows.now) most (held_of K.is_of rows.now) fault }
     ensures { (x : Triple) → K.is_of x → IsCloseCause x most result }
 {
@@ -77,7 +82,7 @@ fn close_fault<K: Over>(rows: &HeldRows<'_, '_, K>, most: u32, fault: Unsettled)
 }
 
 /// What all rows tell.
-fn verdict<'b, K: Over>(
+pub(crate) fn verdict<'b, K: Over>(
     arena: &'b Bump,
     alphabet: &Alphabet,
     rows: &mut HeldRows<'_, 'b, K>,
@@ -88,7 +93,8 @@ fn verdict<'b, K: Over>(
     requires closure { IsClosure (held_of K.is_of rows.old) closed.now }
     requires trees { (held_of K.is_of rows.old).trees ≤ most }
     requires hedges { (held_of K.is_of rows.old).hedges ≤ most }
-    ensures { IfOk result (λ d. (x : Triple) → K.is_of x → IsDecided x most d) }
+    ensures decision { IfOk result (λ d. (x : Triple) → K.is_of x → IsDecided x most d) }
+    ensures same { SameRows (held_of K.is_of rows.old) (held_of K.is_of rows.new) }
 {
     let counts = Counts {
         trees: rows.tree_count(),

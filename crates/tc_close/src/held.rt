@@ -1,6 +1,9 @@
 // Rows over a machine, held by their numbers.
-ghost use Rattle.std.specs.Prelude.{◌≡◌, ◌≤◌, [], length, IfOk, true};
-ghost use Rattle.tc_beh.specs.Machines.{IsMachineOf};
+ghost use Rattle.std.specs.Prelude.{◌≡◌, ◌<◌, ◌≤◌, [], length, All, IfOk, true};
+ghost use Rattle.tc_beh.specs.Held.{set_at};
+ghost use Rattle.tc_beh.specs.Machines.{IsMachineOf, IsShapeOf};
+ghost use Rattle.tc_beh.specs.Places.{pairs_of};
+ghost use Rattle.tc_close.specs.Lines.{tree_held, hedge_held};
 ghost use Rattle.tc_close.specs.RowState.{Known};
 ghost use Rattle.tc_rows.specs.Triples.{Triple};
 
@@ -12,7 +15,8 @@ use std::alloc::Global;
 use std::marker::{Model, PhantomData};
 use tc_alpha::Sym;
 use tc_base::NoMemory;
-use tc_beh::{Machine, RowFault, Rows};
+use tc_beh::{Machine, RowFault, Rows, Shape};
+use tc_model::{HedgeLine, Pairs, TreeLine};
 use tc_settle::{HoldFault, NumberedRows};
 
 /// Rows over a machine, each held once and known by its number. Once a row is refused, no further one is held.
@@ -85,6 +89,14 @@ impl<'m, 'b, K: Over> HeldRows<'m, 'b, K> {
         self.rows.output_count()
     }
 
+    /// How long the parts of rows are.
+    pub(crate) fn shape(&self) -> Shape
+        ensures stands { (x : Triple) → K.is_of x → IsShapeOf x result }
+        ensures fits { (result.inputs < 4294967296) × (result.outputs < 4294967296) × (result.patterns < 4294967296) }
+    {
+        self.rows.machine().shape()
+    }
+
     /// How many rows of lists of trees are held.
     pub(crate) fn hedge_count(&self) -> u32
         ensures { result ≡ length self.now.hedges }
@@ -97,6 +109,38 @@ impl<'m, 'b, K: Over> HeldRows<'m, 'b, K> {
         ensures { result ≡ length self.now.trees }
     {
         self.trees.count()
+    }
+
+    /// The pairs of the set of a number, in order.
+    pub(crate) fn output(&self, alloc: Global, number: u32) -> Result<Pairs, NoMemory>
+        requires { number < length self.now.outputs.matrices }
+        ensures { IfOk result (λ pairs. pairs ≡ pairs_of (set_at self.now.outputs number)) }
+    {
+        self.rows.output(alloc, number)
+    }
+
+    /// The row of a tree as a line of a certificate, with the numbers of its outputs as they are held.
+    pub(crate) fn tree_line(&mut self, alloc: Global, place: u32) -> Result<TreeLine, NoMemory>
+        requires { place < length self.old.trees }
+        ensures same { self.new ≡ self.old }
+        ensures line { IfOk result (λ l. (x : Triple) → K.is_of x → l ≡ tree_held x self.old place) }
+        ensures outs { IfOk result (λ l. All (λ n. n < length self.old.outputs.matrices) l.outs) }
+    {
+        let _shape = self.shape();
+        self.rooms.tree.load(self.trees.get(place));
+        self.rooms.tree.line(alloc)
+    }
+
+    /// The row of a list of trees as a line of a certificate, with the numbers of its outputs as they are held.
+    pub(crate) fn hedge_line(&mut self, alloc: Global, place: u32) -> Result<HedgeLine, NoMemory>
+        requires { place < length self.old.hedges }
+        ensures same { self.new ≡ self.old }
+        ensures line { IfOk result (λ l. (x : Triple) → K.is_of x → l ≡ hedge_held x self.old place) }
+        ensures outs { IfOk result (λ l. All (λ n. n < length self.old.outputs.matrices) l.outs) }
+    {
+        let _shape = self.shape();
+        self.rooms.hedge.load(self.hedges.get(place));
+        self.rooms.hedge.line(alloc)
     }
 
     /// Whether no row was refused.

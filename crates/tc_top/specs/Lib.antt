@@ -11,3 +11,5 @@ pub mod Answers
 pub mod AnswersSeen
 pub mod OneAnswer
 pub mod Program
+pub mod Certifying
+pub mod CertifyingSeen

@@ -26,13 +26,13 @@ pub build-requires-clause-tree : goal.build-requires-clause-tree
 build-requires-clause-tree g c =
     (first_on (held_of g.K.Over.is_of c.args.rows.now) (held_of g.K.Over.is_of c.first_failing.new.rows) c.args.closed.now c.in-Some.tree c.first_failing.ensures.same c.in-Some.ensures.first).low
 
-pub returns-in_default : goal.returns-in_default
-returns-in_default g c = λ x o.
+pub returns-in_default-clause-decision : goal.returns-in_default-clause-decision
+returns-in_default-clause-decision g c = λ x o.
     safe_with x c.args.rows.now g.K.Over.is_of o c.output_count.ensures.known c.args.closed.now c.requires.closure c.args.most (sym c.if-not-is_whole.ensures) c.requires.trees c.requires.hedges
     (record { trees = c.tree_count.result; hedges = c.hedge_count.result; outputs = c.output_count.result }) c.tree_count.ensures c.hedge_count.ensures c.output_count.ensures.count c.in_default.ensures.first
 
-pub returns-in-Ok : goal.returns-in-Ok
-returns-in-Ok g c = λ x o.
+pub returns-in-Ok-clause-decision : goal.returns-in-Ok-clause-decision
+returns-in-Ok-clause-decision g c = λ x o.
     let of = g.K.Over.is_of in
     let old = c.args.rows.now in
     let new = c.first_failing.new.rows in
@@ -43,8 +43,8 @@ returns-in-Ok g c = λ x o.
     unsafe_by x new of o c.output_count-outputs.ensures.known closed closure c.args.most within c.in-Some.tree first.low first.fails first.passed (before c.in-Ok.node none)
     (subst (λ (symbols : List Mention). IsOneMade (held_of of new) symbols (before c.in-Ok.node none) c.in-Some.tree (tree_cost closed c.in-Some.tree)) (c.requires.alphabet x o) c.in-Ok.ensures.made) c.in-Ok.ensures.near
 
-pub returns-in-Err-TooManyNodes : goal.returns-in-Err-TooManyNodes
-returns-in-Err-TooManyNodes g c = λ x o.
+pub returns-in-Err-TooManyNodes-clause-decision : goal.returns-in-Err-TooManyNodes-clause-decision
+returns-in-Err-TooManyNodes-clause-decision g c = λ x o.
     let of = g.K.Over.is_of in
     let old = c.args.rows.now in
     let new = c.first_failing.new.rows in

@@ -1,0 +1,25 @@
+use Rattle.std.proofs.Common.{◌≡◌, ◌<◌, List, ℕ, length, flat_map, subst, sym}
+use Rattle.tc_base.specs.declared.limits.TheConstants.{LONGEST_FILE}
+use Rattle.tc_beh.specs.Outs.{sets_of}
+use Rattle.tc_cert.specs.Texts.{output_text}
+use Rattle.tc_close.specs.Lines.{output_lines}
+use Rattle.tc_close.specs.Orders.{IsOrder}
+use Rattle.tc_close.proofs.Certified.{least_certificate, too_long}
+use Rattle.tc_close.proofs.Pushed.{none_of, some_of}
+use Rattle.tc_close.proofs.certificate.cert_data.Goals as goal
+
+pub returns-in_default : goal.returns-in_default
+returns-in_default g c = λ x o.
+    let s = c.args.rows.now in
+    too_long x s g.K.Over.is_of o c.output_count-outputs.ensures.known c.shape-shape.result (c.shape-shape.ensures.stands x o) c.shape-shape.ensures.fits c.requires.closed c.requires.derive c.requires.whole c.requires.trees c.requires.hedges
+    (none_of (LONGEST_FILE < length (flat_map output_text (sets_of s.outputs.matrices))) (λ (all : List (List ℕ)). all ≡ output_lines s) c.in_ok-lines.field-0 c.in_ok-lines.ensures c.in_default.is)
+
+pub returns : goal.returns
+returns g c = λ x o.
+    let s = c.args.rows.now in
+    let lines : c.in-Some.lines ≡ output_lines s =
+    some_of (LONGEST_FILE < length (flat_map output_text (sets_of s.outputs.matrices))) (λ (all : List (List ℕ)). all ≡ output_lines s) c.in_ok-lines.field-0 c.in-Some.lines c.in_ok-lines.ensures c.in-Some.is in
+    let order : IsOrder (output_lines s) c.deref.result.now =
+    subst (λ (ls : List (List ℕ)). IsOrder ls c.deref.result.now) lines (subst (IsOrder c.in-Some.lines) (sym c.deref.ensures.value) c.in_ok-numbers.ensures) in
+    least_certificate x s g.K.Over.is_of o c.output_count-outputs.ensures.known c.shape-shape.result (c.shape-shape.ensures.stands x o) c.shape-shape.ensures.fits c.requires.closed c.requires.derive c.requires.whole c.requires.trees c.requires.hedges
+    c.deref.result.now order c.in_ok-data.data (c.in_ok-data.ensures.made x o)

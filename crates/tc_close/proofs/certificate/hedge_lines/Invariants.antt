@@ -1,0 +1,12 @@
+use Rattle.std.proofs.Common.{◌≡◌, length, map}
+use Rattle.tc_model.specs.CertificateLines.{hedge_line}
+use Rattle.tc_model.specs.Numbered.{numbers_below}
+use Rattle.tc_rows.specs.Triples.{Triple}
+use Rattle.tc_close.specs.Lines.{hedge_ranked}
+use Rattle.tc_close.proofs.certificate.hedge_lines.Given as goal
+
+abbrev pub invariant-loop-place : goal.invariant-loop-place
+invariant-loop-place g l =
+    (l.rows ≡ l.fn.rows)
+    × ((x : Triple) → g.K.Over.is_of x → l.all ≡ map (λ p. hedge_line (hedge_ranked x l.fn.rows l.ranks p)) (numbers_below l.place))
+    × (length l.all ≡ l.place)

@@ -1,0 +1,17 @@
+use Rattle.std.proofs.Common.{◌∷◌, [], length, ap, ◌∙◌, arith, length-append}
+use Rattle.tc_model.specs.CertificateLines.{tree_line}
+use Rattle.tc_close.specs.Lines.{tree_ranked}
+use Rattle.tc_close.specs.RowState.{RowState}
+use Rattle.tc_close.proofs.Pushed.{pushed_below}
+use Rattle.tc_close.proofs.certificate.tree_lines.Goals as goal
+
+pub push-requires : goal.push-requires
+push-requires g c = let e = c.loop-place.invariant.2 in omega (arith, e, c.loop-place-test.true, c.tree_count-place-end.type_inv)
+
+pub loop-place-preserved : goal.loop-place-preserved
+loop-place-preserved g c = (
+  c.tree_bytes.ensures.same ∙ c.loop-place.invariant.0,
+  λ x o. pushed_below (λ p. tree_line (tree_ranked x c.args.rows.now c.args.ranks.now p)) c.loop-place.place c.loop-place.all c.push.new.self c.in_ok-line.line.items (c.loop-place.invariant.1 x o) c.in_ok-push.ensures
+      (c.in_ok-line.ensures.line x o ∙ ap (λ (s : RowState). tree_line (tree_ranked x s c.args.ranks.now c.loop-place.place)) c.loop-place.invariant.0),
+  (let a = ap length c.in_ok-push.ensures in let b = length-append c.loop-place.all (c.in_ok-line.line.items ∷ []) in let e = c.loop-place.invariant.2 in omega (arith, a, b, e)),
+)

@@ -1,0 +1,7 @@
+use Rattle.tc_close.proofs.proof.certified.Goals as goal
+
+pub cert_data-requires-clause-derive : goal.cert_data-requires-clause-derive
+cert_data-requires-clause-derive g c = record {
+  hedges = λ u l. let (n, d, capped) = c.requires.closure.kept.hedges_derive u l in (n, d);
+  trees = λ u l. let (n, d, capped) = c.requires.closure.kept.trees_derive u l in (n, d);
+}

@@ -1,0 +1,121 @@
+// Whether a stylesheet is safe between two schemas, with a certificate where it is, and a least counterexample where it isn't.
+ghost use Rattle.std.specs.Prelude.{◌≡◌, ◌≤◌, IfOk, IfErr, MatchOption, length};
+ghost use Rattle.tc_beh.specs.Machines.{IsMachine, IsMachineOf};
+ghost use Rattle.tc_close.specs.Certified.{IsProved, IsLeastCertificate, IsTooLong};
+ghost use Rattle.tc_close.specs.Decisions.{IsCloseCause};
+ghost use Rattle.tc_close.specs.RowState.{held_of};
+ghost use Rattle.tc_rows.specs.Triples.{Triple};
+ghost use Rattle.tc_settle.specs.Closed.{IsClosure};
+
+use crate::certificate::cert_data;
+use crate::decision::{CloseFault, Decision, close_fault, verdict};
+use crate::held::HeldRows;
+use crate::over::Over;
+use bumpalo::Bump;
+use std::alloc::Global;
+use std::marker::Brand;
+use tc_base::NoMemory;
+use tc_beh::Machine;
+use tc_model::{CertData, Node};
+use tc_settle::{Closed, close};
+
+/// What is told of a stylesheet between two schemas, with a certificate where it is safe.
+#[derive(Drop)]
+pub enum Proof<'b> {
+    /// Every valid document is made into a valid one, by this certificate.
+    Certified(CertData),
+    /// Every valid document is made into a valid one, and the sets of pairs alone have more lines than a certificate may have.
+    TooLong,
+    /// A valid document with a result that isn't valid, of the fewest nodes.
+    Unsafe(Node<'b>),
+    /// There are valid documents with results that aren't valid, and all have more than 2,000 nodes.
+    TooManyNodes,
+}
+
+/// The certificate of all rows, where none fails.
+fn certified<'b, K: Over>(
+    alloc: Global,
+    rows: &mut HeldRows<'_, 'b, K>,
+    closed: &Closed,
+) -> Result<Option<CertData>, NoMemory>
+    requires closure { IsClosure (held_of K.is_of rows.old) closed.now }
+    requires trees { (held_of K.is_of rows.old).trees ≤ 4000 }
+    requires hedges { (held_of K.is_of rows.old).hedges ≤ 4000 }
+    ensures { IfOk result (λ o. (x : Triple) → K.is_of x → MatchOption o (IsTooLong x) (IsLeastCertificate x)) }
+{
+    if !rows.is_whole() {
+        return Err(NoMemory);
+    }
+    cert_data(alloc, rows)
+}
+
+/// What all rows tell, with their certificate.
+fn told<'b, K: Over>(
+    arena: &'b Bump,
+    alloc: Global,
+    machine: &Machine<'b>,
+    rows: &mut HeldRows<'_, 'b, K>,
+    closed: &Closed,
+    most: u32,
+) -> Result<Proof<'b>, NoMemory>
+    requires machine { (x : Triple) → K.is_of x → IsMachineOf x machine.now }
+    requires closure { IsClosure (held_of K.is_of rows.old) closed.now }
+    requires trees { (held_of K.is_of rows.old).trees ≤ most }
+    requires hedges { (held_of K.is_of rows.old).hedges ≤ most }
+    requires most { most ≤ 4000 }
+    ensures { IfOk result (λ p. (x : Triple) → K.is_of x → IsProved x most p) }
+{
+    match verdict(arena, machine.alphabet(), rows, closed, most) {
+        Ok(Decision::Safe(_)) => match certified(alloc, rows, closed) {
+            Ok(Some(data)) => Ok(Proof::Certified(data)),
+            Ok(None) => Ok(Proof::TooLong),
+            Err(NoMemory) => Err(NoMemory),
+        },
+        Ok(Decision::Unsafe(node)) => Ok(Proof::Unsafe(node)),
+        Ok(Decision::TooManyNodes) => Ok(Proof::TooManyNodes),
+        Err(NoMemory) => Err(NoMemory),
+    }
+}
+
+/// The proof over some triples that a machine stands for.
+fn prove_over<'b, K: Over>(
+    arena: &'b Bump,
+    alloc: Global,
+    machine: &Machine<'b>,
+    most: u32,
+) -> Result<Proof<'b>, CloseFault>
+    requires some { (x : Triple) × K.is_of x }
+    requires machine { (x : Triple) → K.is_of x → IsMachineOf x machine.now }
+    requires most { most ≤ 4000 }
+    ensures proof { IfOk result (λ p. (x : Triple) → K.is_of x → IsProved x most p) }
+    ensures cause { IfErr result (λ e. (x : Triple) → K.is_of x → IsCloseCause x most e) }
+{
+    let mut rows = HeldRows::<K>::new(alloc, machine)?;
+    match close(alloc, &mut rows, most) {
+        Ok(closed) => match told(arena, alloc, machine, &mut rows, &closed, most) {
+            Ok(proof) => Ok(proof),
+            Err(NoMemory) => Err(CloseFault::NoMemory),
+        },
+        Err(fault) => Err(close_fault(&rows, most, fault)),
+    }
+}
+
+/// Decides whether a stylesheet is safe between two schemas, as [`decide`](crate::decide) does, and gives the certificate where
+/// it is: exactly the rows of live trees and of live lists of trees, and the sets of pairs in them.
+///
+/// # Errors
+///
+/// A count passes its limit, or memory is refused.
+pub fn prove<'b>(
+    arena: &'b Bump,
+    alloc: Global,
+    machine: &Machine<'b>,
+    most: u32,
+) -> Result<Proof<'b>, CloseFault>
+    requires machine { IsMachine machine.now }
+    requires most { most ≤ 4000 }
+    ensures proof { IfOk result (λ p. (x : Triple) → IsMachineOf x machine.now → IsProved x most p) }
+    ensures cause { IfErr result (λ e. (x : Triple) → IsMachineOf x machine.now → IsCloseCause x most e) }
+{
+    prove_over::<Brand>(arena, alloc, machine, most)
+}
