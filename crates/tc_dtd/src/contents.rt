@@ -1,5 +1,5 @@
 // Names and contents (XML 1.0, 3.2).
-ghost use Rattle.std.specs.Prelude.{◌≡◌, ◌<◌, ◌∷◌, ◌++◌, ℕ, List, IfOk, IfErr, MatchOption, codes};
+ghost use Rattle.std.specs.Prelude.{◌≡◌, ◌<◌, ◌∷◌, ◌++◌, [], ℕ, List, IfOk, IfErr, MatchOption, codes};
 ghost use Rattle.tc_model.specs.XmlTextBytes.{after_white as past_white};
 ghost use Rattle.tc_model.specs.XmlTextNames.{NcNameAt};
 ghost use Rattle.tc_dtd.specs.Declarations as t;
@@ -140,6 +140,19 @@ fn list<'b, 't>(
     Ok((Particle::Seq(all), after))
 }
 
+/// This particle alone, in room for itself alone, since many parentheses hold one.
+fn list_of<'b>(
+    arena: &'b Bump,
+    first: Particle<'b>,
+) -> Result<Vec<Particle<'b>, &'b Bump>, NoMemory>
+    ensures { IfOk result (λ v. v.items ≡ first.entry ∷ []) }
+{
+    let mut all = Vec::new(arena);
+    all.reserve_exact(1)?;
+    all.push(first)?;
+    Ok(all)
+}
+
 /// A particle and those that this byte joins to it, and what follows the parenthesis that closes them.
 #[cycle(particles)]
 #[inline(never)]
@@ -155,8 +168,7 @@ fn joined<'b, 't>(
     ensures ok { IfOk result (λ r. (ps : t.Particles) × (see.particles r.0.now ≡ t.more (see.particle first.entry) ps) × form.RestAt connector deepest text.now (read ps r.1.now)) }
     ensures no { IfErr result (λ e. Stops e (form.RestAt connector deepest text.now)) }
 {
-    let mut all = Vec::new(arena);
-    all.push(first)?;
+    let mut all = list_of(arena, first)?;
     let mut rest = text;
     while let Some(next) = after_byte(after_white(rest), connector) {
         let (one, after) = particle(arena, deepest, after_white(next))?;

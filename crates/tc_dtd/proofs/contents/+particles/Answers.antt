@@ -1,4 +1,4 @@
-use Rattle.std.proofs.Common.{◌≡◌, subst, sym, ap, ◌∙◌, ◌++◌, ◌∷◌, [], arith, rules}
+use Rattle.std.proofs.Common.{◌≡◌, subst, sym, ap, ◌∙◌, arith, rules}
 use Rattle.tc_dtd.specs.Declarations as d
 use Rattle.tc_dtd.specs.DtdTextContents.{ParticleAt, a_group, GroupAt, ListAt, RestAt}
 use Rattle.tc_dtd.specs.Outcomes.{read}
@@ -78,7 +78,7 @@ list-returns-clause-ok t c =
 pub joined-loop-next-init : goal.joined-loop-next-init
 joined-loop-next-init t c = (
   search rules,
-  joins_first c.args.connector c.args.deepest c.args.text.now (particle c.args.first) _ (ap particles c.in_ok-push.ensures.items ∙ ap (λ w. particles (w ++ c.args.first ∷ [])) c.new-all.ensures.items),
+  joins_first c.args.connector c.args.deepest c.args.text.now (particle c.args.first) _ (ap particles c.in_ok-all.ensures),
 )
 
 pub joined-returns-in_err-one-clause-no : goal.joined-returns-in_err-one-clause-no
@@ -98,7 +98,7 @@ joined-loop-next-preserved t c = (
   search rules,
   joins_more c.args.connector c.args.deepest c.args.text.now c.loop-next.rest.now c.after_white.result.now c.in-Some.next.now c.after_white-in-Some.result.now c.in_ok-one.after.now (particle c.args.first) (particle c.in_ok-one.one)
       (particles c.loop-next.all.items) _ c.loop-next.invariant.1 (omega (arith, c.requires.1)) c.after_white.ensures c.in-Some.ensures c.after_white-in-Some.ensures c.in_ok-one.ensures.ok
-      (ap particles c.in_ok-push-2.ensures.items ∙ pushed_particle c.loop-next.all.items c.in_ok-one.one),
+      (ap particles c.in_ok-push.ensures.items ∙ pushed_particle c.loop-next.all.items c.in_ok-one.one),
 )
 
 pub joined-returns-in_default-after_byte-clause-no : goal.joined-returns-in_default-after_byte-clause-no
