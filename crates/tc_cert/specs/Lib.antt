@@ -2,3 +2,11 @@ pub mod Puts
 pub mod Texts
 pub mod Fronts
 pub mod Unambiguous
+pub mod Fits
+pub mod Readings
+pub mod Pieces
+pub mod Fields
+pub mod Orders
+pub mod NextRows
+pub mod Styles
+pub mod Standing

@@ -1,5 +1,6 @@
 // Laws of the definitions.
 ghost use Rattle.tc_cert.specs.Fronts.{OneFirstFault, TextHasNoFault};
+ghost use Rattle.tc_cert.specs.Readings.{OneData};
 ghost use Rattle.tc_cert.specs.Unambiguous.{OneHedge, OneOutput, OneTree};
 
 /// The law of lines: no line of version 1 is that of two outputs or of two rows.
@@ -14,4 +15,9 @@ pub fn law_of_lines()
 pub fn law_of_faults()
     ensures one { OneFirstFault }
     ensures none { TextHasNoFault }
+{}
+
+/// The law of texts: bytes, no more than a file may have, are the text of one certificate at most.
+pub fn law_of_texts()
+    ensures { OneData }
 {}

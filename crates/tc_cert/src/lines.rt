@@ -9,7 +9,7 @@ use tc_base::NoMemory;
 use tc_model::{HedgeLine, Numbers, Pairs, TreeLine};
 
 /// The digit of a truth value.
-fn flag(holds: bool) -> u8
+pub(crate) fn flag(holds: bool) -> u8
     ensures { result ≡ lines.flag holds }
 {
     if holds { b'1' } else { b'0' }
@@ -62,7 +62,7 @@ pub(crate) fn put_front(
 }
 
 /// Puts a pair behind a space.
-fn put_pair(text: &mut Text, pair: (u32, u32)) -> Result<(), CertWriteFault>
+pub(crate) fn put_pair(text: &mut Text, pair: (u32, u32)) -> Result<(), CertWriteFault>
     ensures ok { OnOk result (IsPut text.old text.new (lines.pair pair)) }
     ensures cause { IfErr result (IsCause text.old (lines.pair pair)) }
 {

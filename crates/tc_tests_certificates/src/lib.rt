@@ -1,5 +1,8 @@
-//! The tests of certificates, by public calls alone.
+//! The tests of certificates, by public calls alone: which bytes are read, and what is answered of the others; which lines
+//! fit; what is written anew; and which certificates hold.
 #![tactic(auto)]
 
+#[cfg(test)]
+mod texts;
 #[cfg(test)]
 mod verify;
