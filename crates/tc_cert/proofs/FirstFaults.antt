@@ -1,9 +1,9 @@
 -- The first line that isn't as it must be; and that a text has one data.
 use Rattle.std.proofs.Common.{◌≡◌, ◌<◌, ◌≤◌, ◌+◌, ◌⊎◌, inl, inr, ℕ, zero, suc, List, [], ◌∷◌, ◌++◌, length, refl, sym, ap, subst, ◌∙◌, append-nil, arith}
 use Rattle.tc_model.specs.declared.lists.CertData.{CertData}
-use Rattle.tc_cert.specs.Texts.{Version, CertificateText}
+use Rattle.tc_cert.specs.Texts.{Version, by_changes, text, CertificateText}
 use Rattle.tc_cert.specs.Fronts.{Front, nothing, begun, in_outputs, in_trees, in_hedges, finished, line_count, IsGood, BeginsWith, IsFirstFault}
-use Rattle.tc_cert.specs.Readings.{OneData}
+use Rattle.tc_cert.specs.Readings.{OneData, WrittenIsRead}
 use Rattle.tc_cert.proofs.Chains.{Next, Reach, at_start, behind, one_next, one_more_line, reach_short, reached}
 
 -- the next line may stand there
@@ -120,3 +120,6 @@ two_texts bytes v w d e h a b = by (most_or_more (line_count (finished v d)) (li
 
 pub one_data : OneData
 one_data bytes h d e t u = two_texts bytes t.version u.version d e h (reached bytes (finished t.version d) [] (of_text bytes d t)) (reached bytes (finished u.version e) [] (of_text bytes e u))
+
+pub written_is_read : WrittenIsRead
+written_is_read d h short = let own : CertificateText (text by_changes d) d = record { formed = h; version = by_changes; spelled = refl } in (own, λ e t. one_data (text by_changes d) short e d t own)

@@ -1,6 +1,7 @@
 -- What is answered where bytes aren't the text of a certificate, or where its text in version 2 is too long.
 use Rattle.std.specs.Prelude.{◌≡◌, ◌<◌, ◌≤◌, ◌++◌, ℕ, List, length, codes}
 use Rattle.tc_model.specs.declared.lists.CertData.{CertData}
+use Rattle.tc_model.specs.CertificateData.{IsFormed}
 use Rattle.tc_cert.specs.Texts.{text, by_changes, CertificateText}
 use Rattle.tc_cert.specs.Fronts.{IsFirstFault}
 use Rattle.tc_cert.specs.declared.faults.CertFault.{CertFault}
@@ -51,3 +52,7 @@ write_fault writing.NoMemory = upgrade.NoMemory
 -- bytes that are no longer than a file are the text of one data at most
 abbrev pub OneData : Type 0
 OneData = (bytes : List ℕ) → length bytes ≤ 67108864 → (d e : CertData) → CertificateText bytes d → CertificateText bytes e → d ≡ e
+
+-- what is written of formed data is the text of that data, and of no other
+abbrev pub WrittenIsRead : Type 0
+WrittenIsRead = (d : CertData) → IsFormed d → length (text by_changes d) ≤ 67108864 → CertificateText (text by_changes d) d × ((e : CertData) → CertificateText (text by_changes d) e → e ≡ d)
