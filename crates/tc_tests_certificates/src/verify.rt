@@ -198,6 +198,7 @@ fn tells_what_is_not_listed(rt: HostRuntime) -> Result<(), Fail> {
     Ok(())
 }
 
+/// A number of a line is out of range, or a list has another length.
 #[test]
 fn tells_what_does_not_fit(rt: HostRuntime) -> Result<(), Fail> {
     let alloc = rt.alloc();
@@ -210,7 +211,6 @@ fn tells_what_does_not_fit(rt: HostRuntime) -> Result<(), Fail> {
         "t 0 0 1 0,0,4294967295 -",
         "t 0 0 1 0,0 -",
         "t 0 0 0 0,0,0 -",
-        "t 0 0 3 0,0,0 -",
         "t 0 0 1 0,0,0 0",
     ] {
         let trees = format!(in alloc; "trees 3\n{line}\nt 0 0 1 1,1,0 -\nt 0 0 2 1,0,1 -\n")?;
@@ -219,6 +219,18 @@ fn tells_what_does_not_fit(rt: HostRuntime) -> Result<(), Fail> {
             rejected(6, RejectRule::Fit, 0)
         );
     }
+    let last = "trees 3\nt 0 0 1 0,0,0 -\nt 0 0 1 1,1,0 -\nt 0 0 3 1,0,1 -\n";
+    assert_eq!(rt;
+        answer(alloc, OUTPUT, FRONT, last, HEDGES)?,
+        rejected(8, RejectRule::Fit, 0)
+    );
+    Ok(())
+}
+
+/// The numbers of rows of lists of trees are in range too.
+#[test]
+fn tells_lists_that_do_not_fit(rt: HostRuntime) -> Result<(), Fail> {
+    let alloc = rt.alloc();
     for line in [
         "h 0 0 1 1,0,2 -",
         "h 0 0 1 1,0,1,0 -",
@@ -234,6 +246,7 @@ fn tells_what_does_not_fit(rt: HostRuntime) -> Result<(), Fail> {
     Ok(())
 }
 
+/// What a document of a row gives isn't valid.
 #[test]
 fn tells_what_fails_at_the_root(rt: HostRuntime) -> Result<(), Fail> {
     let alloc = rt.alloc();
