@@ -3,3 +3,4 @@ pub mod Lined
 pub mod OperandsRead
 pub mod Numerals
 pub mod OneCommand
+pub mod ReadsOnce

@@ -1,7 +1,7 @@
 -- The value of digits, and the size of a demonstration.
-use Rattle.std.proofs.Common.{◌≡◌, ◌≤◌, ◌<◌, ◌+◌, ◌*◌, ◌-◌, ℕ, List, [], ◌∷◌, length, drop, get_or, arith, ap, Option, Some, None}
+use Rattle.std.proofs.Common.{◌≡◌, ◌≤◌, ◌<◌, ◌+◌, ◌*◌, ◌-◌, ℕ, List, [], ◌∷◌, length, drop, get_or, arith, ap}
 use Rattle.std.proofs.lemmas.List.{drop_more}
-use Rattle.tc_answer.specs.Words.{value_from, Words, checks, shows, check, demo, Limits}
+use Rattle.tc_answer.specs.Words.{value_from, Words, shows, demo}
 
 -- more digits never make it less
 pub value_from-le : (value : ℕ) (digits : List ℕ) → value ≤ value_from value digits

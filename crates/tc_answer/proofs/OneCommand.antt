@@ -1,17 +1,20 @@
 -- A list of words gives one command at most.
 use Rattle.std.proofs.Common.{◌≡◌, ◌∷◌, [], ◌∙◌, sym, ap, subst, refl, arith, ℕ, List, Option, Some, None, if◌then◌else◌, codes}
 use Rattle.std.specs.Str.{bytes_eq}
-use Rattle.tc_answer.specs.Words.{Command, check, prove, verify, run, valid, demo, Words, checks, proves, verifies, runs, validates, shows, Limits, IsNumeral, AreOperands, WordsGiveOne, value_from}
+use Rattle.tc_answer.specs.Words.{Command, check, prove, verify, run, valid, demo, upgrade, include, same, Words, checks, proves, verifies, runs, validates, shows, upgrades, includes, compares, Limits, IsNumeral, AreOperands, WordsGiveOne, value_from}
 
 -- which of the commands the first word names
 abbrev kind : List (List ℕ) → ℕ
-kind [] = 6
+kind [] = 9
 kind (word ∷ words) =
     if bytes_eq word (codes "check") then 0 else
     if bytes_eq word (codes "prove") then 1 else
     if bytes_eq word (codes "verify") then 2 else
     if bytes_eq word (codes "run") then 3 else
-    if bytes_eq word (codes "valid") then 4 else 5
+    if bytes_eq word (codes "valid") then 4 else
+    if bytes_eq word (codes "demo") then 5 else
+    if bytes_eq word (codes "upgrade") then 6 else
+    if bytes_eq word (codes "include") then 7 else 8
 
 abbrev kind_of : Command → ℕ
 kind_of (check limit input output sheet) = 0
@@ -20,6 +23,9 @@ kind_of (verify input output sheet certificate) = 2
 kind_of (run sheet document) = 3
 kind_of (valid schema document) = 4
 kind_of (demo size) = 5
+kind_of (upgrade certificate) = 6
+kind_of (include first second) = 7
+kind_of (same first second) = 8
 
 kind_is : {words : List (List ℕ)} {command : Command} → Words words command → kind words ≡ kind_of command
 kind_is (checks parts limits operands) = ap kind parts
@@ -28,45 +34,51 @@ kind_is (verifies parts operands) = ap kind parts
 kind_is (runs parts operands) = ap kind parts
 kind_is (validates parts operands) = ap kind parts
 kind_is (shows parts spelled) = ap kind parts
+kind_is (upgrades parts operands) = ap kind parts
+kind_is (includes parts operands) = ap kind parts
+kind_is (compares parts operands) = ap kind parts
 
 -- no operand is `--limit`
 no_option : (operands rest : List (List ℕ)) → operands ≡ codes "--limit" ∷ rest → AreOperands operands → ⊥
 no_option operands rest parts are = let h : AreOperands (codes "--limit" ∷ rest) = subst AreOperands parts are in absurd cc
 
 same_number : {most : ℕ} (word other : List ℕ) {one two : ℕ} → word ≡ other → IsNumeral most word one → IsNumeral most other two → one ≡ two
-same_number word other same p q = sym p.value ∙ (ap (value_from 0) same ∙ q.value)
+same_number word other agree p q = sym p.value ∙ (ap (value_from 0) agree ∙ q.value)
 
 -- the words behind a name give one limit, and the same operands
 limits_one : (rest other : List (List ℕ)) (one two : Option ℕ) (operands others : List (List ℕ)) → rest ≡ other → Limits rest one operands → Limits other two others → AreOperands operands → AreOperands others
     → (one ≡ two) × (operands ≡ others)
-limits_one rest other None None operands others same p q a b = (refl, sym p ∙ (same ∙ q))
-limits_one rest other None (Some two) operands others same p q a b = absurd (no_option operands (q.0 ∷ others) (sym p ∙ (same ∙ q.1)) a)
-limits_one rest other (Some one) None operands others same p q a b = absurd (no_option others (p.0 ∷ operands) (sym q ∙ (sym same ∙ p.1)) b)
-limits_one rest other (Some one) (Some two) operands others same p q a b =
-    let whole : codes "--limit" ∷ p.0 ∷ operands ≡ codes "--limit" ∷ q.0 ∷ others = sym p.1 ∙ (same ∙ q.1) in
+limits_one rest other None None operands others agree p q a b = (refl, sym p ∙ (agree ∙ q))
+limits_one rest other None (Some two) operands others agree p q a b = absurd (no_option operands (q.0 ∷ others) (sym p ∙ (agree ∙ q.1)) a)
+limits_one rest other (Some one) None operands others agree p q a b = absurd (no_option others (p.0 ∷ operands) (sym q ∙ (sym agree ∙ p.1)) b)
+limits_one rest other (Some one) (Some two) operands others agree p q a b =
+    let whole : codes "--limit" ∷ p.0 ∷ operands ≡ codes "--limit" ∷ q.0 ∷ others = sym p.1 ∙ (agree ∙ q.1) in
     let numeral : p.0 ≡ q.0 = cc in
     (ap Some (same_number p.0 q.0 numeral p.2 q.2), cc)
 
 pub one_command : {words : List (List ℕ)} {one other : Command} → Words words one → Words words other → one ≡ other
 one_command (checks p l a) (checks q m b) =
-    let same = limits_one _ _ _ _ _ _ (cc) l m a b in
-    let limit = same.0 in
-    let operands = same.1 in
+    let agree = limits_one _ _ _ _ _ _ (cc) l m a b in
+    let limit = agree.0 in
+    let operands = agree.1 in
     cc
 one_command (proves p l a) (proves q m b) =
-    let same = limits_one _ _ _ _ _ _ (cc) l m a b in
-    let limit = same.0 in
-    let operands = same.1 in
+    let agree = limits_one _ _ _ _ _ _ (cc) l m a b in
+    let limit = agree.0 in
+    let operands = agree.1 in
     cc
 one_command (verifies p a) (verifies q b) = cc
 one_command (runs p a) (runs q b) = cc
 one_command (validates p a) (validates q b) = cc
 one_command (shows p s) (shows q t) =
-    let same = same_number _ _ (cc) s t in
+    let agree = same_number _ _ (cc) s t in
     cc
+one_command (upgrades p a) (upgrades q b) = cc
+one_command (includes p a) (includes q b) = cc
+one_command (compares p a) (compares q b) = cc
 one_command p q =
-    let same = sym (kind_is p) ∙ kind_is q in
-    absurd (omega (arith, same))
+    let agree = sym (kind_is p) ∙ kind_is q in
+    absurd (omega (arith, agree))
 
 pub words_give_one : WordsGiveOne
 words_give_one words one other p q = one_command p q

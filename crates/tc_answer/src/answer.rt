@@ -26,7 +26,7 @@ pub enum Text {
 }
 
 impl Text {
-    ghost use Rattle.tc_answer.specs.AnswersSeen.{text, Says};
+    ghost use Rattle.tc_answer.specs.AnswersSeen.{text};
 
     pub fn as_bytes(&self) -> &[u8]
         ensures { result.now ≡ text self.now }
@@ -121,12 +121,12 @@ fn over(alloc: Global, word: &str, number: u32) -> Result<Answer, NoMemory>
 }
 
 /// The answer no, by some lines whose last one ends with a document.
-fn showing(alloc: Global, front: &[u8], document: &[Node<'_>]) -> Result<Answer, NoMemory>
-    ensures { IfOk result (λ said. (said.status ≡ Status.No) × (see_text said.text ≡ line (front.now ++ printed (trees document.now)))) }
+fn showing(alloc: Global, front: &[u8], last: &[Node<'_>]) -> Result<Answer, NoMemory>
+    ensures { IfOk result (λ said. (said.status ≡ Status.No) × (see_text said.text ≡ line (front.now ++ printed (trees last.now)))) }
 {
     let mut text = Buffer::new(alloc);
     text.put(front)?;
-    text.put_trees(document)?;
+    text.put_trees(last)?;
     text.put(b"\n")?;
     Ok(Answer {
         status: Status::No,
@@ -135,6 +135,7 @@ fn showing(alloc: Global, front: &[u8], document: &[Node<'_>]) -> Result<Answer,
 }
 
 impl Answer {
+    ghost use Rattle.tc_answer.specs.AnswersSeen.{Says};
 
     /// How the program is called.
     pub fn usage() -> Answer
@@ -242,7 +243,7 @@ impl Answer {
 
     /// The certificate isn't one, and why.
     pub fn rejected(alloc: Global, why: Rejection<'_>) -> Result<Answer, NoMemory>
-        ensures { IfOk result (λ said. Says said (a.rejected (rejection why))) }
+        ensures { IfOk result (λ said. Says said (a.rejected (rejection why.entry))) }
     {
         let mut text = Buffer::new(alloc);
         text.put(b"rejected ")?;

@@ -73,7 +73,7 @@ impl Buffer {
 
     /// Puts a name at the end, behind its namespace in braces where it has one.
     pub fn put_name(&mut self, name: Name<'_>) -> Result<(), NoMemory>
-        ensures { OnOk result (self.new.bytes.items ≡ self.old.bytes.items ++ name_text (see.name name)) }
+        ensures { OnOk result (self.new.bytes.items ≡ self.old.bytes.items ++ name_text (see.name name.entry)) }
     {
         if !name.uri.is_empty() {
             self.put(b"{")?;
@@ -85,7 +85,7 @@ impl Buffer {
 
     /// Puts the rule that fails at the end, with the number of its line.
     pub fn put_rejection(&mut self, why: Rejection<'_>) -> Result<(), NoMemory>
-        ensures { OnOk result (self.new.bytes.items ≡ self.old.bytes.items ++ rejection_text (rejection why)) }
+        ensures { OnOk result (self.new.bytes.items ≡ self.old.bytes.items ++ rejection_text (rejection why.entry)) }
     {
         match why {
             Rejection::Form(line) => self.put_line_rule(line, b" form"),

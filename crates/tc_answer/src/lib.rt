@@ -14,7 +14,7 @@ mod write;
 
 pub use answer::{Answer, Rejection, RowCount, Text};
 pub use command::{Command, Triple, read_words};
-pub use read::{Operand, Operands, Unread, read_one, read_pair, read_triple, read_verified};
+pub use read::{Operand, Operands, Unread, read_operand, read_pair, read_triple, read_verified};
 pub use status::Status;
 pub use words::WordList;
 pub use write::write_lines;

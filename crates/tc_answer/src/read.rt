@@ -84,22 +84,6 @@ pub fn read_verified<'w, S: Store>(
     Ok((operands, certificate))
 }
 
-/// Reads one operand.
-pub fn read_one<'w, S: Store>(
-    alloc: Global,
-    name: &'w str,
-    store: &mut S,
-) -> Result<Operand<'w>, Unread<'w>>
-    ensures same { S.holds store.new ≡ S.holds store.old }
-    ensures count { S.faults store.old ≤ S.faults store.new }
-    ensures named { IfOk result (λ read. read.name.now ≡ name.now) }
-    ensures ok { IfOk result (λ read. Happened S.read_gives S.holds S.faults store.old store.new (read_of read ∷ [])) }
-    ensures err { IfErr result (λ unread. (reads : List Read) × Happened S.read_gives S.holds S.faults store.old store.new reads
-        × IsFirstUnread (name.now ∷ []) reads unread) }
-{
-    read_operand(alloc, name, store)
-}
-
 /// Reads two operands, in order.
 pub fn read_pair<'w, S: Store>(
     alloc: Global,
@@ -120,8 +104,8 @@ pub fn read_pair<'w, S: Store>(
     Ok((one, other))
 }
 
-/// Reads an operand.
-fn read_operand<'w, S: Store>(
+/// Reads one operand.
+pub fn read_operand<'w, S: Store>(
     alloc: Global,
     name: &'w str,
     store: &mut S,

@@ -42,6 +42,6 @@ pub mod TreeRows
 pub mod Wrapped
 pub mod WrapRows
 pub mod Lining
-pub mod Repeats
 pub mod Passing
 pub mod Nowhere
+pub mod Remembering

@@ -22,3 +22,4 @@ pub mod Above
 pub mod Entries
 pub mod Listing
 pub mod Lines
+pub mod Remembered

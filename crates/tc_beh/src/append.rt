@@ -1,30 +1,21 @@
 // Rows of trees with one more behind them.
-ghost use Rattle.std.specs.Prelude.{◌≡◌, ◌≢◌, ◌<◌, ◌≤◌, ◌+◌, ◌⊎◌, ◌↔◌, ◌==◌, ◌-◌, ℕ, length, get_or, IsTrue, Bool, true, false, cond, OnOk, OnErr};
+ghost use Rattle.std.specs.Prelude.{◌≡◌, ◌≢◌, ◌<◌, ◌≤◌, ◌+◌, ◌⊎◌, ◌↔◌, ◌==◌, ◌-◌, ℕ, List, length, get_or, IsTrue, Bool, true, false, cond, OnOk, OnErr};
 ghost use Rattle.std.specs.Result.{IsErrOf};
 ghost use Rattle.std.specs.List.{Contains};
-ghost use Rattle.tc_auto.specs.Stands.{states as states_of};
-ghost use Rattle.tc_auto.specs.declared.auto.Edge.{Edge};
+ghost use Rattle.tc_auto.specs.Arrows.{AreWithin};
+ghost use Rattle.tc_auto.specs.Stands.{states as states_of, patterns as patterns_of};
 ghost use Rattle.tc_rows.specs.Rows.{or_hit};
 ghost use Rattle.tc_mat.specs.Held.{AreMatrices};
 ghost use Rattle.tc_beh.specs.Held.{Extends, Grows, set_at, IsNew, AreProducts};
 ghost use Rattle.tc_beh.specs.Rooms.{flag_at, flags_in, output_at};
 ghost use Rattle.tc_beh.specs.RoomsOf.{IsRoomBeside, AreTexts};
-ghost use Rattle.tc_beh.specs.Appending.{IsTaken, PutsFrom, Puts, IsBehind};
+ghost use Rattle.tc_beh.specs.Appending.{PutsAlong, Puts, IsBehind};
 
+use crate::held_sets::HeldSets;
 use crate::outputs::{RowFault, put_products};
 use crate::rooms::Room;
-use tc_auto::{Auto, Leaf};
-use tc_mat::{Mat, Pool};
-
-/// Whether an edge takes a tree, of which it is told whether it is a text, and a flag for each element pattern that it matches.
-fn takes(is_text: bool, patterns: &[u32], leaf: Leaf) -> bool
-    ensures { IsTrue result ↔ IsTaken is_text patterns.now leaf }
-{
-    match leaf {
-        Leaf::Text => is_text,
-        Leaf::Ref(number) => !is_text && number > 0 && is_set(patterns, number as usize - 1),
-    }
-}
+use tc_auto::{Arrow, Auto};
+use tc_mat::Mat;
 
 /// Whether a flag is set.
 pub(crate) fn is_set(flags: &[u32], place: usize) -> bool
@@ -36,17 +27,43 @@ pub(crate) fn is_set(flags: &[u32], place: usize) -> bool
     }
 }
 
-/// Sets the flags of the states to which a tree leads a state.
-fn put_states_from(auto: &Auto<'_>, state: u32, is_text: bool, patterns: &[u32], out: &mut Room)
-    requires state { state < states_of auto.now }
+/// Sets the flags of the states to which edges lead from states with a flag.
+fn put_arrows(arrows: &[Arrow], hedge: &[u32], out: &mut Room)
+    requires within { AreWithin out.old.flags arrows.now }
+    ensures beside { IsRoomBeside out.old out.new }
+    ensures others { (k : ℕ) → (k < 2) ⊎ (2 + out.old.flags ≤ k) → get_or out.new.numbers.items k 0 ≡ get_or out.old.numbers.items k 0 }
+    ensures flags { PutsAlong arrows.now hedge.now out.old.numbers.items out.new.numbers.items }
+{
+    for arrow in arrows {
+        if is_set(hedge, arrow.from as usize) {
+            out.set_flag(arrow.to as usize);
+        }
+    }
+}
+
+/// Leaves the flags of the states to which a text leads some.
+fn put_states_of_text(auto: &Auto<'_>, hedge: &[u32], out: &mut Room)
     requires flags { out.old.flags ≡ states_of auto.now }
     ensures beside { IsRoomBeside out.old out.new }
     ensures others { (k : ℕ) → (k < 2) ⊎ (2 + out.old.flags ≤ k) → get_or out.new.numbers.items k 0 ≡ get_or out.old.numbers.items k 0 }
-    ensures flags { PutsFrom auto.now state is_text patterns.now out.old.numbers.items out.new.numbers.items }
+    ensures flags { (patterns : List ℕ) → Puts auto.now hedge.now true patterns out.new.numbers.items }
 {
-    for edge in auto.follow(state) {
-        if takes(is_text, patterns, edge.leaf) {
-            out.set_flag(edge.to as usize);
+    out.clear_flags();
+    put_arrows(auto.text_arrows(), hedge, out);
+}
+
+/// Leaves the flags of the states to which an element leads some, by the element patterns that it matches.
+fn put_states_of_element(auto: &Auto<'_>, hedge: &[u32], patterns: &[u32], out: &mut Room)
+    requires flags { out.old.flags ≡ states_of auto.now }
+    requires patterns { length patterns.now ≡ patterns_of auto.now }
+    ensures beside { IsRoomBeside out.old out.new }
+    ensures others { (k : ℕ) → (k < 2) ⊎ (2 + out.old.flags ≤ k) → get_or out.new.numbers.items k 0 ≡ get_or out.old.numbers.items k 0 }
+    ensures flags { Puts auto.now hedge.now false patterns.now out.new.numbers.items }
+{
+    out.clear_flags();
+    for before in 0..auto.patterns() {
+        if is_set(patterns, before as usize) {
+            put_arrows(auto.arrows(before + 1), hedge, out);
         }
     }
 }
@@ -54,15 +71,15 @@ fn put_states_from(auto: &Auto<'_>, state: u32, is_text: bool, patterns: &[u32],
 /// Leaves the flags of the states to which a tree leads some.
 fn put_states(auto: &Auto<'_>, hedge: &[u32], is_text: bool, patterns: &[u32], out: &mut Room)
     requires flags { out.old.flags ≡ states_of auto.now }
+    requires patterns { length patterns.now ≡ patterns_of auto.now }
     ensures beside { IsRoomBeside out.old out.new }
     ensures others { (k : ℕ) → (k < 2) ⊎ (2 + out.old.flags ≤ k) → get_or out.new.numbers.items k 0 ≡ get_or out.old.numbers.items k 0 }
     ensures flags { Puts auto.now hedge.now is_text patterns.now out.new.numbers.items }
 {
-    out.clear_flags();
-    for state in 0..auto.states() {
-        if is_set(hedge, state as usize) {
-            put_states_from(auto, state, is_text, patterns, out);
-        }
+    if is_text {
+        put_states_of_text(auto, hedge, out);
+    } else {
+        put_states_of_element(auto, hedge, patterns, out);
     }
 }
 
@@ -91,6 +108,7 @@ fn put_first_looks(first: &[u32], second: &[u32], out: &mut Room)
 /// Leaves where a list of trees may stand with a tree more behind it. Tells whether it may stand anywhere.
 pub(crate) fn put_kind(auto: &Auto<'_>, hedge: &Room, tree: &Room, out: &mut Room) -> bool
     requires flags { out.old.flags ≡ states_of auto.now }
+    requires patterns { tree.now.flags ≡ patterns_of auto.now }
     ensures beside { IsRoomBeside out.old out.new }
     ensures others { (k : ℕ) → (k < 2) ⊎ (2 + out.old.flags ≤ k) → get_or out.new.numbers.items k 0 ≡ get_or out.old.numbers.items k 0 }
     ensures live { IsTrue result ↔ (¬ AreTexts hedge.now tree.now × Contains (flags_in out.new.flags out.new.numbers.items) 1) }
@@ -105,7 +123,7 @@ pub(crate) fn put_kind(auto: &Auto<'_>, hedge: &Room, tree: &Room, out: &mut Roo
 
 /// Leaves all but the flags of a list of trees with a tree more behind it.
 pub(crate) fn put_append(
-    outputs: &mut Pool,
+    outputs: &mut HeldSets,
     is_fixed: bool,
     set: &mut Mat,
     hedge: &Room,

@@ -21,11 +21,12 @@ ghost use Rattle.tc_beh.specs.Heights.{depth_in, depth_in_branches};
 ghost use Rattle.tc_beh.specs.Putting.{has, Extends, put_pairs, put_branch_pairs};
 ghost use Rattle.tc_beh.specs.Places.{IsPlace, IsPlaceIn, AreSpare, kind_of, below_of, called_by, size_at, entries_by};
 
+use crate::held_sets::HeldSets;
 use crate::looks::{holds, look};
 use crate::sets::{put_behind, put_identity};
 use tc_alpha::{Alphabet, Sym};
 use tc_hedge::Hedge;
-use tc_mat::{Mat, MatId, Pool};
+use tc_mat::{Mat, MatId};
 use tc_model::{Branch, Instr, NodeTest, Path, Step, Test, is_all_white};
 use tc_rules::{Job, Rules};
 
@@ -59,7 +60,7 @@ pub(crate) struct Place<'a, 'b> {
     pub(crate) rules: &'a Rules<'b>,
     pub(crate) output: &'a Hedge<'b>,
     pub(crate) alphabet: &'a Alphabet,
-    pub(crate) outputs: &'a Pool,
+    pub(crate) outputs: &'a HeldSets,
     /// The pairs of a text that isn't white space alone.
     pub(crate) text: &'a Mat,
     /// The pairs of the bodies of named templates here.

@@ -9,11 +9,12 @@ ghost use Rattle.tc_beh.specs.Rooms.{flag_at, output_at};
 ghost use Rattle.tc_beh.specs.RoomsOf.{IsRoomBeside};
 ghost use Rattle.tc_beh.specs.Emptying.{PutsFirst, IsOfNoTree, IsNewIdentity};
 
+use crate::held_sets::HeldSets;
 use crate::outputs::{RowFault, keep};
 use crate::rooms::Room;
 use crate::sets::put_identity;
 use tc_auto::Auto;
-use tc_mat::{Mat, Pool};
+use tc_mat::Mat;
 
 /// Leaves the flags of the first states of contents.
 fn put_first_states(auto: &Auto<'_>, out: &mut Room)
@@ -52,7 +53,7 @@ fn put_one_output(output: u32, out: &mut Room)
 
 /// Leaves for each output the number of the set that leads each state to itself.
 fn put_identities(
-    outputs: &mut Pool,
+    outputs: &mut HeldSets,
     is_fixed: bool,
     set: &mut Mat,
     out: &mut Room,
@@ -82,7 +83,7 @@ fn put_identities(
 /// Leaves the numbers of no tree.
 pub(crate) fn put_empty(
     auto: &Auto<'_>,
-    outputs: &mut Pool,
+    outputs: &mut HeldSets,
     is_fixed: bool,
     set: &mut Mat,
     out: &mut Room,

@@ -20,13 +20,14 @@ ghost use Rattle.tc_beh.specs.Stands.{IsRulesIn};
 
 use crate::above::{Letter, put_entry_above};
 use crate::bodies::{At, Place, entry_place};
+use crate::held_sets::HeldSets;
 use crate::machine::Machine;
 use crate::named::put_named;
 use crate::outputs::{RowFault, keep};
 use crate::rooms::Room;
 use crate::rows::Work;
 use crate::sets::put_identity;
-use tc_mat::{Mat, Pool};
+use tc_mat::Mat;
 use tc_rules::{Kind, Rules};
 
 /// A node that isn't the root: its letter, and what stands below it.
@@ -60,7 +61,7 @@ fn node_at(kind: Kind) -> At
 /// The node as bodies see it, for an ancestor state below it.
 fn place_of<'a, 'b>(
     machine: &'a Machine<'b>,
-    outputs: &'a Pool,
+    outputs: &'a HeldSets,
     text: &'a Mat,
     named: &'a [Mat],
     node: Node<'a>,
@@ -98,7 +99,13 @@ fn state_below(rules: &Rules<'_>, letter: Letter, ancestor: u32) -> u32
 }
 
 /// Works out the sets of the bodies of named templates on a node.
-fn put_named_on(machine: &Machine<'_>, outputs: &Pool, work: &mut Work, node: Node<'_>, above: u32)
+fn put_named_on(
+    machine: &Machine<'_>,
+    outputs: &HeldSets,
+    work: &mut Work,
+    node: Node<'_>,
+    above: u32,
+)
     requires grounds { AreSomeGrounds machine.now outputs.now work.old node }
     requires above { above < length (told machine.now.rules).ancestors.states }
     ensures work { (x : Triple) → AreGrounds x machine.now outputs.now work.old node.entry → IsWork x machine.now.depth work.new }
@@ -115,7 +122,13 @@ fn put_named_on(machine: &Machine<'_>, outputs: &Pool, work: &mut Work, node: No
 }
 
 /// Works out what a state of a move above puts out on a node and then below it.
-fn put_entry_of(machine: &Machine<'_>, outputs: &Pool, work: &mut Work, node: Node<'_>, spot: Spot)
+fn put_entry_of(
+    machine: &Machine<'_>,
+    outputs: &HeldSets,
+    work: &mut Work,
+    node: Node<'_>,
+    spot: Spot,
+)
     requires grounds { AreSomeGrounds machine.now outputs.now work.old node }
     requires ancestor { spot.ancestor < length (told machine.now.rules).ancestors.states }
     requires state { spot.state < move_count (told machine.now.rules) }
@@ -143,7 +156,7 @@ fn put_entry_of(machine: &Machine<'_>, outputs: &Pool, work: &mut Work, node: No
 
 /// The number of an entry of an element that its state doesn't hit: that of the state to which the element leads it, below the
 /// element. There is none where it hits the node or goes nowhere.
-fn passed_on(machine: &Machine<'_>, outputs: &Pool, node: Node<'_>, spot: Spot) -> Option<u32>
+fn passed_on(machine: &Machine<'_>, outputs: &HeldSets, node: Node<'_>, spot: Spot) -> Option<u32>
     requires node { (x : Triple) × IsRulesIn x machine.now.rules × IsNode x outputs.now node }
     requires state { spot.state < move_count (told machine.now.rules) }
     requires above { spot.above < length (told machine.now.rules).ancestors.states }
@@ -192,7 +205,7 @@ fn puts_nothing(machine: &Machine<'_>, node: Node<'_>, spot: Spot) -> bool
 
 /// The number of the set of each state with itself. It is told in `nothing` from then on.
 fn keep_nothing(
-    outputs: &mut Pool,
+    outputs: &mut HeldSets,
     is_fixed: bool,
     set: &mut Mat,
     nothing: &mut Option<u32>,
@@ -222,7 +235,7 @@ fn keep_nothing(
 /// The number of an entry of a node that isn't one below it.
 fn keep_here(
     machine: &Machine<'_>,
-    outputs: &mut Pool,
+    outputs: &mut HeldSets,
     is_fixed: bool,
     work: &mut Work,
     node: Node<'_>,
@@ -259,7 +272,7 @@ fn keep_here(
 /// The number of an entry of a node.
 fn keep_entry(
     machine: &Machine<'_>,
-    outputs: &mut Pool,
+    outputs: &mut HeldSets,
     is_fixed: bool,
     work: &mut Work,
     node: Node<'_>,
@@ -295,7 +308,7 @@ fn keep_entry(
 /// Leaves the entries of a node for one ancestor state above it.
 fn put_row(
     machine: &Machine<'_>,
-    outputs: &mut Pool,
+    outputs: &mut HeldSets,
     is_fixed: bool,
     work: &mut Work,
     node: Node<'_>,
@@ -339,7 +352,7 @@ fn put_row(
 /// Leaves the numbers of the entries of a node.
 pub(crate) fn put_entries(
     machine: &Machine<'_>,
-    outputs: &mut Pool,
+    outputs: &mut HeldSets,
     is_fixed: bool,
     work: &mut Work,
     node: Node<'_>,

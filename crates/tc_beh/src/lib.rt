@@ -11,6 +11,7 @@ mod bodies;
 mod calls;
 mod empty;
 mod entries;
+mod held_sets;
 mod laws;
 mod lines;
 mod lists;

@@ -8,6 +8,7 @@ ghost use Rattle.tc_beh.specs.Places.{pairs_of as list_of};
 ghost use Rattle.tc_beh.specs.Outs.{sets_of};
 ghost use Rattle.tc_beh.specs.Listing.{row_pairs, AreDistinct, HasPairs};
 
+use crate::held_sets::HeldSets;
 use std::alloc::Global;
 use tc_base::NoMemory;
 use tc_mat::{Mat, MatId, Pool};
@@ -92,7 +93,7 @@ pub(crate) fn pairs_of(alloc: Global, set: &Mat) -> Result<Pairs, NoMemory>
 }
 
 /// The pairs of the sets of a pool, by their numbers.
-pub(crate) fn lists_of(alloc: Global, outputs: &Pool) -> Result<PairLists, NoMemory>
+pub(crate) fn lists_of(alloc: Global, outputs: &HeldSets) -> Result<PairLists, NoMemory>
     ensures { IfOk result (λ l. l ≡ sets_of outputs.now.matrices) }
 {
     let mut lists = PairLists::new(alloc);

@@ -7,11 +7,9 @@ ghost use Rattle.tc_beh.specs.Held.{Extends, Grows, set_at, IsNew, AreProducts};
 ghost use Rattle.tc_beh.specs.Rooms.{output_at};
 ghost use Rattle.tc_beh.specs.RoomsOf.{IsRoomBeside};
 
+use crate::held_sets::HeldSets;
 use crate::rooms::Room;
-use tc_mat::{Mat, MatId, Pool, PoolFault};
-
-/// How many places are looked at for the same two entries.
-const MOST_LOOKED_AT: usize = 256;
+use tc_mat::{Mat, MatId, PoolFault};
 
 /// Why there is no row.
 #[derive(Clone, Copy, Debug, PartialEq, Eq)]
@@ -25,7 +23,7 @@ pub enum RowFault {
 }
 
 /// The number of a set, which is held from now on, or else is held already where the sets are fixed.
-pub(crate) fn keep(outputs: &mut Pool, is_fixed: bool, set: &Mat) -> Result<u32, RowFault>
+pub(crate) fn keep(outputs: &mut HeldSets, is_fixed: bool, set: &Mat) -> Result<u32, RowFault>
     requires { set.now.size ≡ outputs.old.size }
     ensures number { IfOk result (λ k. slice_get outputs.new.matrices k ≡ Some set.now) }
     ensures grows { IfOk result (λ k. (outputs.new ≡ outputs.old) ⊎ ((k ≡ length outputs.old.matrices) × (outputs.new ≡ record outputs.old { matrices = outputs.old.matrices ++ set.now ∷ [] }))) }
@@ -41,16 +39,16 @@ pub(crate) fn keep(outputs: &mut Pool, is_fixed: bool, set: &Mat) -> Result<u32,
     if is_fixed {
         return Err(RowFault::NewOutput);
     }
-    match outputs.intern(set) {
+    match outputs.hold(set) {
         Ok(id) => Ok(id.0),
         Err(PoolFault::PoolFull) => Err(RowFault::TooManyOutputs),
         Err(PoolFault::NoMemory) => Err(RowFault::NoMemory),
     }
 }
 
-/// The number of the set that leads by one and then by another.
-pub(crate) fn keep_product(
-    outputs: &mut Pool,
+/// The number of the set that leads by one and then by another, which is worked out.
+fn keep_new_product(
+    outputs: &mut HeldSets,
     is_fixed: bool,
     set: &mut Mat,
     first: u32,
@@ -73,57 +71,38 @@ pub(crate) fn keep_product(
     keep(outputs, is_fixed, set)
 }
 
-/// An earlier place at which the same two numbers stand, if there is one among the first ones.
-fn same_before(first: &[u32], second: &[u32], place: usize) -> Option<usize>
-    requires first { place < length first.now }
-    requires second { place < length second.now }
-    ensures { IfSome result (λ j. (j < place) × (get_or first.now j 0 ≡ get_or first.now place 0) × (get_or second.now j 0 ≡ get_or second.now place 0)) }
-{
-    for before in 0..place.min(MOST_LOOKED_AT) {
-        if first[before] == first[place] && second[before] == second[place] {
-            return Some(before);
-        }
-    }
-    None
-}
-
-/// The number of the product of the entries at a place. It is that of an earlier place where the same two stand there.
-fn keep_place(
-    outputs: &mut Pool,
+/// The number of the set that leads by one and then by another.
+fn keep_product(
+    outputs: &mut HeldSets,
     is_fixed: bool,
     set: &mut Mat,
-    first: &[u32],
-    second: &[u32],
-    out: &Room,
-    place: usize,
+    first: u32,
+    second: u32,
 ) -> Result<u32, RowFault>
     requires set { set.old.size ≡ outputs.old.size }
-    requires first_inside { place < length first.now }
-    requires second_inside { place < length second.now }
-    requires inside { place < out.now.entries }
-    requires first { get_or first.now place 0 < length outputs.old.matrices }
-    requires second { get_or second.now place 0 < length outputs.old.matrices }
-    requires done { (j : ℕ) → j < place → (output_at out.now.flags out.now.numbers.items j < length outputs.old.matrices)
-        × IsComposition (set_at outputs.old (get_or first.now j 0)) (set_at outputs.old (get_or second.now j 0)) (set_at outputs.old (output_at out.now.flags out.now.numbers.items j)) }
+    requires first { first < length outputs.old.matrices }
+    requires second { second < length outputs.old.matrices }
     ensures set { set.new.size ≡ set.old.size }
     ensures held { Extends outputs.old outputs.new }
-    ensures pairs { IfOk result (λ k. (k < length outputs.new.matrices) × IsComposition (set_at outputs.old (get_or first.now place 0)) (set_at outputs.old (get_or second.now place 0)) (set_at outputs.new k)) }
+    ensures pairs { IfOk result (λ k. (k < length outputs.new.matrices) × IsComposition (set_at outputs.old first) (set_at outputs.old second) (set_at outputs.new k)) }
     ensures grows { IfOk result (λ k. ((k < length outputs.old.matrices) × (outputs.new ≡ outputs.old)) ⊎ ((k ≡ length outputs.old.matrices) × (length outputs.new.matrices ≡ length outputs.old.matrices + 1))) }
-    ensures err { OnErr result ((outputs.new ≡ outputs.old) × IsNew outputs.old (set_at outputs.old (get_or first.now place 0)) (set_at outputs.old (get_or second.now place 0))) }
+    ensures err { OnErr result ((outputs.new ≡ outputs.old) × IsNew outputs.old (set_at outputs.old first) (set_at outputs.old second)) }
     ensures fixed { is_fixed ≡ true → outputs.new ≡ outputs.old }
     ensures full { IsErrOf result RowFault.TooManyOutputs → (is_fixed ≡ false) × (length outputs.old.matrices ≡ 65536) }
     ensures fresh { IsErrOf result RowFault.NewOutput → is_fixed ≡ true }
     ensures memory { IsErrOf result RowFault.NoMemory → is_fixed ≡ false }
 {
-    match same_before(first, second, place) {
-        Some(before) => Ok(out.outputs()[before]),
-        None => keep_product(outputs, is_fixed, set, first[place], second[place]),
+    if let Some(number) = outputs.product(first, second) {
+        return Ok(number);
     }
+    let number = keep_new_product(outputs, is_fixed, set, first, second)?;
+    outputs.remember(first, second, number);
+    Ok(number)
 }
 
 /// Leaves the numbers of the products of entries.
 pub(crate) fn put_products(
-    outputs: &mut Pool,
+    outputs: &mut HeldSets,
     is_fixed: bool,
     set: &mut Mat,
     first: &[u32],
@@ -149,7 +128,7 @@ pub(crate) fn put_products(
     ensures memory { IsErrOf result RowFault.NoMemory → is_fixed ≡ false }
 {
     for place in 0..out.entries {
-        let number = keep_place(outputs, is_fixed, set, first, second, out, place)?;
+        let number = keep_product(outputs, is_fixed, set, first[place], second[place])?;
         out.set_output(place, number);
     }
     Ok(())

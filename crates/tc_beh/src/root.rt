@@ -21,6 +21,7 @@ ghost use Rattle.tc_beh.specs.Templates.{AreCalled, depth_of_sheet};
 
 use crate::append::is_set;
 use crate::bodies::{At, Place};
+use crate::held_sets::HeldSets;
 use crate::machine::Machine;
 use crate::named::put_named;
 use crate::rooms::{Room, TRow};
@@ -28,7 +29,7 @@ use crate::rows::{Rows, Work};
 use crate::sets::put_identity;
 use crate::templates::{put_template, template_of};
 use tc_auto::Auto;
-use tc_mat::{Mat, Pool};
+use tc_mat::Mat;
 
 /// Whether some element pattern with a flag is an alternative of the schema's start.
 fn has_start(auto: &Auto<'_>, patterns: &[u32]) -> bool
@@ -74,7 +75,7 @@ fn put_on_root(place: &Place<'_, '_>, out: &mut Mat, spare: &mut [Mat])
 }
 
 /// Leaves, in the set that is worked out, where what is put out on the root of a document leads the output.
-fn put_root(machine: &Machine<'_>, outputs: &Pool, work: &mut Work, tree: &Room)
+fn put_root(machine: &Machine<'_>, outputs: &HeldSets, work: &mut Work, tree: &Room)
     requires { (x : Triple) × IsRootIn x machine.now outputs.now work.old tree.now }
     ensures work { (x : Triple) → IsRootIn x machine.now outputs.now work.old tree.now → IsWork x machine.now.depth work.new }
     ensures pairs { (x : Triple) → IsRootIn x machine.now outputs.now work.old tree.now → HaveSamePairs (has work.new.set) (root_pairs x (tree_row x outputs.now.matrices tree.now.numbers.items)) }

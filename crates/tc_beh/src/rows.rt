@@ -7,6 +7,7 @@ ghost use Rattle.tc_rows.specs.Triples.{Triple};
 
 use crate::append::{put_append, put_kind};
 use crate::empty::put_empty;
+use crate::held_sets::HeldSets;
 use crate::lists::{lists_of, pairs_of, pool_of};
 use crate::machine::Machine;
 use crate::outputs::RowFault;
@@ -21,7 +22,7 @@ use tc_model::{PairLists, Pairs};
 pub struct Rows<'m, 'b> {
     pub(crate) machine: &'m Machine<'b>,
     pub(crate) is_fixed: bool,
-    pub(crate) outputs: Pool,
+    pub(crate) outputs: HeldSets,
     pub(crate) work: Work,
 }
 
@@ -103,7 +104,8 @@ impl<'m, 'b> Rows<'m, 'b> {
         ensures grow { IfOk result (λ r. r.is_fixed ≡ false) }
         ensures machine { IfOk result (λ r. r.machine.now ≡ machine.now) }
     {
-        let outputs = Pool::new(alloc, machine.output.auto().states());
+        let pool = Pool::new(alloc, machine.output.auto().states());
+        let outputs = HeldSets::of(alloc, pool)?;
         let work = Work::new(alloc, machine)?;
         Ok(Rows {
             machine,
@@ -132,7 +134,8 @@ impl<'m, 'b> Rows<'m, 'b> {
         ensures fixed { IfOk result (λ r. r.is_fixed ≡ true) }
         ensures machine { IfOk result (λ r. r.machine.now ≡ machine.now) }
     {
-        let outputs = pool_of(alloc, machine.output.auto().states(), outputs)?;
+        let pool = pool_of(alloc, machine.output.auto().states(), outputs)?;
+        let outputs = HeldSets::of(alloc, pool)?;
         let work = Work::new(alloc, machine)?;
         Ok(Rows {
             machine,

@@ -15,6 +15,7 @@ ghost use Rattle.tc_beh.specs.Stands.{IsRulesIn, AreRules};
 
 use crate::above::Letter;
 use crate::entries::{Node, put_entries};
+use crate::held_sets::HeldSets;
 use crate::looks::marks;
 use crate::looks_above::put_looks;
 use crate::machine::Machine;
@@ -23,13 +24,12 @@ use crate::patterns::put_patterns;
 use crate::rooms::{HRow, Room, TRow};
 use crate::rows::{Rows, Work};
 use tc_alpha::Sym;
-use tc_mat::Pool;
 use tc_rules::Kind;
 
 /// Leaves the looks and the entries of a node.
 fn put_node(
     machine: &Machine<'_>,
-    outputs: &mut Pool,
+    outputs: &mut HeldSets,
     is_fixed: bool,
     work: &mut Work,
     node: Node<'_>,

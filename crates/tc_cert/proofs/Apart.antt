@@ -5,7 +5,8 @@ use Rattle.std.proofs.lemmas.List.Elements.{All-head, All-tail}
 use Rattle.tc_model.specs.CertificateLines.{flag, numbers, pair, row}
 use Rattle.tc_model.specs.CertificateData.{IsNumber}
 use Rattle.tc_cert.specs.Unambiguous.{OneOutput, OneTree, OneHedge}
-use Rattle.tc_cert.proofs.Fields.{Stops, stops_at, ends_nil, ends_space, one_number, one_list, plain_numbers}
+use Rattle.tc_cert.specs.Pieces.{Stops}
+use Rattle.tc_cert.proofs.Fields.{stops_at, ends_nil, ends_space, one_number, one_list, plain_numbers}
 
 low_enough : digit_value 32 < 10 → ⊥
 low_enough h = absurd (omega (arith, h))
@@ -46,7 +47,7 @@ one_output ps qs a b e =
     let behind : flat_map pair ps ≡ flat_map pair qs = ap (drop 1) e in
     same_pairs ps qs a.numbers b.numbers behind
 
-same_flag : (a b : Bool) → flag a ≡ flag b → a ≡ b
+pub same_flag : (a b : Bool) → flag a ≡ flag b → a ≡ b
 same_flag false false e = refl
 same_flag false true e = absurd (omega arith)
 same_flag true false e = absurd (omega arith)

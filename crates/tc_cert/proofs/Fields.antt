@@ -6,10 +6,7 @@ use Rattle.std.proofs.lemmas.Fmt.{decimal_is_IsNumeral, decimal_injective}
 use Rattle.std.proofs.lemmas.List.Elements.{All-head, All-tail}
 use Rattle.tc_model.specs.CertificateLines.{listed}
 use Rattle.tc_model.specs.CertificateData.{IsNumber}
-
--- no digit stands at the front
-abbrev pub Stops : List ℕ → Type 0
-Stops r = (c : ℕ) (after : List ℕ) → r ≡ c ∷ after → digit_value c < 10 → ⊥
+use Rattle.tc_cert.specs.Pieces.{Stops}
 
 -- a field, or the line, has ended: a space or a line feed stands at the front, or nothing
 abbrev pub Ends : List ℕ → Type 0

@@ -1,7 +1,9 @@
 -- One more piece or row of a list that is written from the front.
-use Rattle.std.proofs.Common.{◌≡◌, ◌≤◌, ℕ, suc, ◌+◌, ◌-◌, List, ◌++◌, drop, flat_map, Some, slice_get, Result, Ok, Err, IfErr, OnOk, IsErrAnd, sym, subst, arith}
+use Rattle.std.proofs.Common.{◌≡◌, ◌≤◌, ◌<◌, ◌⊎◌, inl, inr, ℕ, zero, suc, ◌+◌, ◌-◌, get_or, ap, List, ◌++◌, drop, flat_map, Some, slice_get, Result, Ok, Err, IfErr, OnOk, IsErrAnd, sym, subst, arith}
 use Rattle.tc_cert.specs.declared.text.Text.{Text}
 use Rattle.tc_cert.specs.declared.text.CertWriteFault.{CertWriteFault}
+use Rattle.tc_cert.specs.declared.faults.PieceFault.{PieceFault}
+use Rattle.tc_cert.specs.Pieces.{IsMissing}
 use Rattle.tc_cert.specs.Texts.{ended, rows_left}
 use Rattle.tc_cert.specs.Puts.{IsPut, IsCause, IsOn}
 use Rattle.tc_cert.proofs.Puts.{both, further, at_further}
@@ -31,10 +33,38 @@ pub row_cause : {X : Type 0} {s t : Text} {fault : CertWriteFault} {goal : List 
 row_cause later xs i b x some e d o c = at_further (rows_left later (drop (i + 1 - 1) xs)) o (row_is later xs i b x some e d) c
 
 -- what is told of a fault is told of the fault that is handed on
-pub same_error : {T : Type 0} (P : CertWriteFault → Type 0) (r : Result T CertWriteFault) (x : CertWriteFault) → IsErrAnd r (λ e. e ≡ x) → P x → IfErr r P
+pub same_error : {T E : Type 0} (P : E → Type 0) (r : Result T E) (x : E) → IsErrAnd r (λ e. e ≡ x) → P x → IfErr r P
 same_error P (Ok v) x h a = tt
 same_error P (Err e) x h a = subst P (sym h) a
 
 pub three : {T : Type 0} {s t u : Text} {p q : List ℕ} (v : Text) (r : List ℕ) (result : Result T CertWriteFault) → IsPut s t p → IsPut t u q → OnOk result (IsPut u v r) → OnOk result (IsPut s v (p ++ (q ++ r)))
 three v r (Ok x) a b c = both a (both b c)
 three v r (Err e) a b c = tt
+
+pub below_next : (k i : ℕ) → k + 1 < i + 1 → (k + 1 < i) ⊎ (k + 1 ≡ i)
+below_next k zero h = absurd (omega arith)
+below_next zero (suc zero) h = inr (omega arith)
+below_next zero (suc (suc i)) h = inl (omega arith)
+below_next (suc k) (suc i) h = by (below_next k i (omega arith))
+  where
+    by : (k + 1 < i) ⊎ (k + 1 ≡ i) → (suc k + 1 < suc i) ⊎ (suc k + 1 ≡ suc i)
+    by (inl a) = inl (omega (arith, a))
+    by (inr a) = inr (omega (arith, a))
+
+-- numbers that ascend up to a place ascend up to the next
+pub up_to_next : (xs : List ℕ) (i : ℕ) → 1 ≤ i → ((k : ℕ) → k + 1 < i → get_or xs k 0 < get_or xs (k + 1) 0) → get_or xs (i - 1) 0 < get_or xs i 0
+    → (k : ℕ) → k + 1 < i + 1 → get_or xs k 0 < get_or xs (k + 1) 0
+up_to_next xs i some so_far last k h = by (below_next k i h)
+  where
+    by : (k + 1 < i) ⊎ (k + 1 ≡ i) → get_or xs k 0 < get_or xs (k + 1) 0
+    by (inl a) = so_far k a
+    by (inr a) =
+        let before : i - 1 ≡ k = omega (arith, a) in
+        let one : get_or xs (i - 1) 0 ≡ get_or xs k 0 = ap (λ j. get_or xs j 0) before in
+        let other : get_or xs i 0 ≡ get_or xs (k + 1) 0 = ap (λ j. get_or xs j 0) (sym a) in
+        omega (arith, last, one, other)
+
+-- a piece is missing where another is that it would give
+pub missing_as : {T : Type 0} {A B : Type 0} (r : Result T PieceFault) → (B → A) → IfErr r (IsMissing A) → IfErr r (IsMissing B)
+missing_as (Ok x) f h = tt
+missing_as (Err e) f h = λ q b. h q (f b)

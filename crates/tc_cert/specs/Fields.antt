@@ -7,7 +7,7 @@ use Rattle.tc_model.specs.declared.lists.TreeLine.{TreeLine}
 use Rattle.tc_model.specs.declared.lists.HedgeLine.{HedgeLine}
 use Rattle.tc_model.specs.CertificateLines.{numbers, row, changed, are_alike}
 use Rattle.tc_model.specs.CertificateData.{IsNumber, AreMembers, AreOrdered}
-use Rattle.tc_cert.specs.Texts.{Version, whole, by_changes, ended, rows_in}
+use Rattle.tc_cert.specs.Texts.{Version, whole, by_changes, rows_in}
 use Rattle.tc_cert.specs.declared.rows.Row.{Row}
 use Rattle.tc_cert.specs.declared.rows.Kind.{Kind}
 use Rattle.tc_cert.specs.declared.rows.Kind.TheVariants.{Tree, Hedge}

@@ -8,3 +8,5 @@ pub mod Pieces
 pub mod Fields
 pub mod Orders
 pub mod NextRows
+pub mod Styles
+pub mod Standing

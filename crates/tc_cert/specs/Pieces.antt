@@ -1,5 +1,5 @@
 -- Pieces of a line at the front of bytes: numbers, lists, fields, and what follows them.
-use Rattle.std.specs.Prelude.{◌≡◌, ◌<◌, ℕ, Bool, List, [], ◌∷◌, ◌++◌, flat_map, All, decimal}
+use Rattle.std.specs.Prelude.{◌≡◌, ◌<◌, ℕ, Bool, List, ◌∷◌, ◌++◌, length, get_or, flat_map, All, decimal}
 use Rattle.std.specs.Char.{digit_value}
 use Rattle.tc_model.specs.CertificateLines.{flag, listed, change, pair, numbers}
 use Rattle.tc_model.specs.CertificateData.{IsNumber, AreMembers}
@@ -9,6 +9,11 @@ use Rattle.tc_cert.specs.declared.faults.PieceFault.TheVariants.{Form}
 -- no digit stands at the front
 abbrev pub Stops : List ℕ → Type 0
 Stops r = (c : ℕ) (after : List ℕ) → r ≡ c ∷ after → digit_value c < 10 → ⊥
+
+-- some digits, the first of them no 0 before another
+pub record HasNoLeadingZero (digits : List ℕ) : Type 0 where
+  pub some : 0 < length digits
+  pub lead : get_or digits 0 0 ≡ 48 → length digits ≡ 1
 
 -- a number, as long as its digits go
 pub record IsNumberAt (bytes : List ℕ) (n : ℕ) (rest : List ℕ) : Type 0 where

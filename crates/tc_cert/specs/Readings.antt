@@ -1,6 +1,7 @@
 -- What is answered where bytes aren't the text of a certificate, or where its text in version 2 is too long.
-use Rattle.std.specs.Prelude.{◌≡◌, ◌<◌, ℕ, List, length}
+use Rattle.std.specs.Prelude.{◌≡◌, ◌<◌, ◌≤◌, ◌++◌, ℕ, List, length, codes}
 use Rattle.tc_model.specs.declared.lists.CertData.{CertData}
+use Rattle.tc_model.specs.CertificateData.{IsFormed}
 use Rattle.tc_cert.specs.Texts.{text, by_changes, CertificateText}
 use Rattle.tc_cert.specs.Fronts.{IsFirstFault}
 use Rattle.tc_cert.specs.declared.faults.CertFault.{CertFault}
@@ -27,6 +28,18 @@ IsNotUpgraded bytes (upgrade.Form line) = IsFirstFault bytes line
 IsNotUpgraded bytes upgrade.TooLong = IsLong bytes
 IsNotUpgraded bytes upgrade.NoMemory = Unit {0}
 
+-- the text in version 2 of the data of the bytes, of no more bytes than a file may have
+pub record IsUpgraded (bytes out : List ℕ) : Type 0 where
+  pub held : CertData
+  pub means : CertificateText bytes held
+  pub spelled : out ≡ text by_changes held
+  pub within : length out ≤ 67108864
+
+-- the first line is that of version 2
+pub record BeginsByChanges (bytes : List ℕ) : Type 0 where
+  pub rest : List ℕ
+  pub spelled : bytes ≡ codes "xslt-typecheck certificate 2\n" ++ rest
+
 -- a fault of reading or of writing, as one of these
 abbrev pub upgrade_fault : CertFault → UpgradeFault
 upgrade_fault (fault.Form line) = upgrade.Form line
@@ -36,6 +49,10 @@ abbrev pub write_fault : CertWriteFault → UpgradeFault
 write_fault writing.TooLong = upgrade.TooLong
 write_fault writing.NoMemory = upgrade.NoMemory
 
--- bytes are the text of one data at most
+-- bytes that are no longer than a file are the text of one data at most
 abbrev pub OneData : Type 0
-OneData = (bytes : List ℕ) (d e : CertData) → CertificateText bytes d → CertificateText bytes e → d ≡ e
+OneData = (bytes : List ℕ) → length bytes ≤ 67108864 → (d e : CertData) → CertificateText bytes d → CertificateText bytes e → d ≡ e
+
+-- what is written of formed data is the text of that data, and of no other
+abbrev pub WrittenIsRead : Type 0
+WrittenIsRead = (d : CertData) → IsFormed d → length (text by_changes d) ≤ 67108864 → CertificateText (text by_changes d) d × ((e : CertData) → CertificateText (text by_changes d) e → e ≡ d)

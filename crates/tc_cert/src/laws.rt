@@ -1,6 +1,6 @@
 // Laws of the definitions.
 ghost use Rattle.tc_cert.specs.Fronts.{OneFirstFault, TextHasNoFault};
-ghost use Rattle.tc_cert.specs.Readings.{OneData};
+ghost use Rattle.tc_cert.specs.Readings.{OneData, WrittenIsRead};
 ghost use Rattle.tc_cert.specs.Unambiguous.{OneHedge, OneOutput, OneTree};
 
 /// The law of lines: no line of version 1 is that of two outputs or of two rows.
@@ -17,7 +17,13 @@ pub fn law_of_faults()
     ensures none { TextHasNoFault }
 {}
 
-/// The law of texts: bytes are the text of one certificate at most.
+/// The law of texts: bytes, no more than a file may have, are the text of one certificate at most.
 pub fn law_of_texts()
     ensures { OneData }
+{}
+
+/// The law of writing: what is written of formed data, where it is no more than a file may have, is the text of that data
+/// and of no other, so that reading gives it back.
+pub fn law_of_writing()
+    ensures { WrittenIsRead }
 {}

@@ -1,6 +1,7 @@
 //! The text of certificates: what it holds, how it is written, and how it is read.
 #![tactic(auto)]
 
+mod cursor;
 mod faults;
 mod fitting;
 mod laws;
@@ -17,7 +18,7 @@ mod writing;
 
 pub use faults::{CertFault, UpgradeFault};
 pub use fitting::first_unfit;
-pub use laws::{law_of_faults, law_of_lines, law_of_texts};
+pub use laws::{law_of_faults, law_of_lines, law_of_texts, law_of_writing};
 pub use lines::{hedge_line, pairs_line, tree_line};
 pub use ranges::Ranges;
 pub use reading::read_cert;

@@ -1,7 +1,9 @@
 // The order of lines, by the first number at which they differ.
-ghost use Rattle.std.specs.Prelude.{◌≡◌, IfOk};
+ghost use Rattle.std.specs.Prelude.{◌≡◌, ◌≢◌, All, IfOk, MatchBool};
+ghost use Rattle.std.specs.declared.cmp.Ordering.TheVariants.{Equal};
 ghost use Rattle.tc_model.specs.CertificateLines as lines;
 ghost use Rattle.tc_cert.specs.Fields.{fields_of};
+ghost use Rattle.tc_cert.specs.Pieces.{AreNumbers};
 ghost use Rattle.tc_cert.specs.Orders.{number_order, numbers_order, pair_order, pairs_order, front_order, row_order, IsOrderOfChanges};
 
 use crate::lines::{flag, put_pair};
@@ -15,7 +17,8 @@ use tc_model::Pairs;
 
 /// The order of two numbers by the bytes of their digits.
 fn number_order(one: u32, other: u32) -> Ordering
-    ensures { result ≡ number_order one other }
+    ensures order { result ≡ number_order one other }
+    ensures apart { result ≡ Equal → one ≡ other }
 {
     let mut first = Buffer::new();
     let mut second = Buffer::new();
@@ -41,12 +44,24 @@ pub(crate) fn numbers_order(one: &[u32], other: &[u32]) -> Ordering
 pub(crate) fn changes_order(old: &[u32], changes: &[(u32, u32)]) -> Ordering
     ensures { IsOrderOfChanges old.now changes.now result }
 {
-    let Some((place, new)) = changes.first() else {
+    if changes.is_empty() {
         return Ordering::Equal;
-    };
-    match old.get(*place as usize) {
-        Some(number) => number_order(*number, *new),
-        None => Ordering::Equal,
+    }
+    let place = changes[0].0 as usize;
+    if old.len() <= place {
+        return Ordering::Equal;
+    }
+    number_order(old[place], changes[0].1)
+}
+
+/// The bytes of a pair.
+fn pair_bytes(alloc: Global, pair: (u32, u32)) -> Result<Vec<u8>, NoMemory>
+    ensures { IfOk result (λ bytes. bytes.items ≡ lines.pair pair) }
+{
+    let mut text = Text::new(alloc, usize::MAX);
+    match put_pair(&mut text, pair) {
+        Ok(()) => Ok(text.bytes),
+        Err(_) => Err(NoMemory),
     }
 }
 
@@ -54,22 +69,28 @@ pub(crate) fn changes_order(old: &[u32], changes: &[(u32, u32)]) -> Ordering
 fn pair_order(alloc: Global, one: (u32, u32), other: (u32, u32)) -> Result<Ordering, NoMemory>
     ensures { IfOk result (λ order. order ≡ pair_order one other) }
 {
-    let mut first = Text::new(alloc, usize::MAX);
-    let mut second = Text::new(alloc, usize::MAX);
-    if put_pair(&mut first, one).is_err() || put_pair(&mut second, other).is_err() {
-        return Err(NoMemory);
-    }
-    Ok(first.bytes.as_slice().cmp(second.bytes.as_slice()))
+    let first = pair_bytes(alloc, one)?;
+    let second = pair_bytes(alloc, other)?;
+    Ok(first.as_slice().cmp(second.as_slice()))
+}
+
+/// Whether two pairs are the same.
+fn are_same(one: (u32, u32), other: (u32, u32)) -> bool
+    ensures { MatchBool result (one ≡ other) (one ≢ other) }
+{
+    one == other
 }
 
 /// The order of the lines of two outputs.
 pub(crate) fn pairs_order(alloc: Global, one: &Pairs, other: &Pairs) -> Result<Ordering, NoMemory>
+    requires one { All AreNumbers one.now }
+    requires other { All AreNumbers other.now }
     ensures { IfOk result (λ order. order ≡ pairs_order one.now other.now) }
 {
     for i in 0..one.len().min(other.len()) {
         let first = *one.get(i);
         let second = *other.get(i);
-        if first != second {
+        if !are_same(first, second) {
             return pair_order(alloc, first, second);
         }
     }

@@ -5,12 +5,14 @@ ghost use Rattle.std.specs.Char.{digit_value, is_ascii_digit};
 ghost use Rattle.std.specs.Str.Parse.{AllDigits, digits_value};
 ghost use Rattle.std.specs.List.Sorted.{IsStrictlySortedBy};
 ghost use Rattle.std.specs.Ordering.{nat_cmp};
+ghost use Rattle.std.specs.declared.cmp.Ordering.TheVariants.{Less};
 ghost use Rattle.tc_model.specs.CertificateLines as lines;
 ghost use Rattle.tc_model.specs.CertificateData.{pair_cmp};
-ghost use Rattle.tc_cert.specs.Pieces.{IsNumberAt, IsTwoAt, AreNumbersAt, AreChangesAt, ArePairsAt, FlagsAt, IsFrontAt, IsMissing};
+ghost use Rattle.tc_cert.specs.Pieces.{IsNumberAt, IsTwoAt, AreNumbersAt, AreChangesAt, ArePairsAt, FlagsAt, IsFrontAt, IsMissing, HasNoLeadingZero};
 
 use crate::faults::PieceFault;
 use std::alloc::Global;
+use std::cmp::Ordering;
 use tc_model::Pairs;
 
 /// What follows this byte, where the bytes begin with it.
@@ -51,16 +53,28 @@ fn value_of(digits: &[u8]) -> Option<u32>
     Some(value as u32)
 }
 
+/// Whether there are digits, and no leading zero.
+fn is_numeral(digits: &[u8]) -> bool
+    ensures { IsTrue result ↔ HasNoLeadingZero digits.now }
+{
+    match digits.first() {
+        Some(first) => *first != b'0' || digits.len() == 1,
+        None => false,
+    }
+}
+
 /// The number at the front, in decimal digits without a leading zero, and what follows it.
 pub(crate) fn number(bytes: &[u8]) -> Option<(u32, &[u8])>
     ensures { MatchOption result ((n : ℕ) (rest : List ℕ) → IsNumberAt bytes.now n rest → ⊥) (λ r. IsNumberAt bytes.now r.0 r.1.now) }
 {
-    let count = digit_len(bytes);
-    if count == 0 || (count > 1 && bytes[0] == b'0') {
+    let (digits, rest) = bytes.split_at(digit_len(bytes));
+    if !is_numeral(digits) {
         return None;
     }
-    let value = value_of(&bytes[..count])?;
-    Some((value, &bytes[count..]))
+    match value_of(digits) {
+        Some(value) => Some((value, rest)),
+        None => None,
+    }
 }
 
 /// Two numbers at the front with a byte between them, and what follows them.
@@ -68,9 +82,16 @@ fn two(bytes: &[u8], between: u8) -> Option<((u32, u32), &[u8])>
     requires { digit_value between < 10 → ⊥ }
     ensures { MatchOption result ((p : ℕ × ℕ) (rest : List ℕ) → IsTwoAt between bytes.now p rest → ⊥) (λ r. IsTwoAt between bytes.now r.0 r.1.now) }
 {
-    let (first, rest) = number(bytes)?;
-    let (second, rest) = number(after_byte(rest, between)?)?;
-    Some(((first, second), rest))
+    let Some((first, middle)) = number(bytes) else {
+        return None;
+    };
+    let Some(behind) = after_byte(middle, between) else {
+        return None;
+    };
+    match number(behind) {
+        Some((second, rest)) => Some(((first, second), rest)),
+        None => None,
+    }
 }
 
 /// What follows a dash and this byte, where the bytes begin with them.
@@ -81,11 +102,7 @@ fn after_dash(bytes: &[u8], end: u8) -> Option<&[u8]>
 }
 
 /// The list of numbers at the front up to this byte, which ends a field or a line, and what follows it.
-pub(crate) fn numbers(
-    alloc: Global,
-    bytes: &[u8],
-    end: u8,
-) -> Result<(Vec<u32>, &[u8]), PieceFault>
+pub(crate) fn numbers(alloc: Global, bytes: &[u8], end: u8) -> Result<(Vec<u32>, &[u8]), PieceFault>
     requires { (end ≡ 32) ⊎ (end ≡ 10) }
     ensures ok { IfOk result (λ r. AreNumbersAt end bytes.now r.0.items r.1.now) }
     ensures no { IfErr result (IsMissing ((ns : List ℕ) × (rest : List ℕ) × AreNumbersAt end bytes.now ns rest)) }
@@ -203,12 +220,19 @@ fn do_ascend(numbers: &[u32]) -> bool
     true
 }
 
+/// Whether a pair stands before another.
+fn is_before(one: (u32, u32), other: (u32, u32)) -> bool
+    ensures { IsTrue result ↔ (pair_cmp one other ≡ Less) }
+{
+    one.cmp(&other) == Ordering::Less
+}
+
 /// Whether pairs ascend strictly.
 pub(crate) fn do_pairs_ascend(pairs: &Pairs) -> bool
     ensures { IsTrue result ↔ IsStrictlySortedBy pair_cmp pairs.now }
 {
     for i in 1..pairs.len() {
-        if *pairs.get(i) <= *pairs.get(i - 1) {
+        if !is_before(*pairs.get(i - 1), *pairs.get(i)) {
             return false;
         }
     }
@@ -246,5 +270,12 @@ pub(crate) fn front(
     if !do_ascend(&members) {
         return Err(PieceFault::Form);
     }
-    Ok((RowFront { one, other, members }, rest))
+    Ok((
+        RowFront {
+            one,
+            other,
+            members,
+        },
+        rest,
+    ))
 }

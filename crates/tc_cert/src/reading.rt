@@ -1,17 +1,25 @@
 // Reading a certificate.
-ghost use Rattle.std.specs.Prelude.{◌≡◌, ◌≤◌, IfOk, IfErr, length};
-ghost use Rattle.tc_cert.specs.Texts.{CertificateText};
+ghost use Rattle.std.specs.Prelude.{◌≡◌, ◌≤◌, ◌<◌, ℕ, List, [], length, IfOk, IfErr, MatchOption, MatchResult, Some, None};
+ghost use Rattle.tc_cert.specs.Fields.{fields_of, last_of, tree_of, hedge_of};
+ghost use Rattle.tc_cert.specs.Fronts.{begun, in_outputs, in_trees, in_hedges};
+ghost use Rattle.tc_cert.specs.NextRows.{IsShort};
 ghost use Rattle.tc_cert.specs.Readings.{IsUnread};
+ghost use Rattle.tc_cert.specs.Standing.{Stands};
+ghost use Rattle.tc_cert.specs.Texts.{Version, CertificateText};
+ghost use Rattle.tc_model.specs.declared.lists.TreeLine.{TreeLine};
 
+use crate::cursor::Reader;
 use crate::faults::CertFault;
-use crate::reader::Reader;
 use crate::rows::{Kind, Row};
 use std::alloc::Global;
 use tc_base::NoMemory;
 use tc_model::{CertData, HedgeLine, HedgeLines, Numbers, PairLists, Pairs, TreeLine, TreeLines};
 
 /// The same numbers.
-fn numbers_of(alloc: Global, numbers: &[u32]) -> Result<Numbers, NoMemory> {
+fn numbers_of(alloc: Global, numbers: &[u32]) -> Result<Numbers, NoMemory>
+    requires { length numbers.now ≤ 67108864 }
+    ensures { IfOk result (λ list. list ≡ numbers.now) }
+{
     let mut list = Numbers::new(alloc);
     for number in numbers {
         list.push(*number)?;
@@ -20,7 +28,10 @@ fn numbers_of(alloc: Global, numbers: &[u32]) -> Result<Numbers, NoMemory> {
 }
 
 /// The row as that of trees.
-fn tree_of(alloc: Global, row: &Row) -> Result<TreeLine, NoMemory> {
+fn tree_of(alloc: Global, row: &Row) -> Result<TreeLine, NoMemory>
+    requires { IsShort (fields_of row.now) }
+    ensures { IfOk result (λ line. line ≡ tree_of (fields_of row.now)) }
+{
     let patterns = numbers_of(alloc, &row.members)?;
     let outs = numbers_of(alloc, &row.outs)?;
     let looks = numbers_of(alloc, &row.looks)?;
@@ -34,7 +45,10 @@ fn tree_of(alloc: Global, row: &Row) -> Result<TreeLine, NoMemory> {
 }
 
 /// The row as that of lists of trees.
-fn hedge_of(alloc: Global, row: &Row) -> Result<HedgeLine, NoMemory> {
+fn hedge_of(alloc: Global, row: &Row) -> Result<HedgeLine, NoMemory>
+    requires { IsShort (fields_of row.now) }
+    ensures { IfOk result (λ line. line ≡ hedge_of (fields_of row.now)) }
+{
     let states = numbers_of(alloc, &row.members)?;
     let outs = numbers_of(alloc, &row.outs)?;
     let looks = numbers_of(alloc, &row.looks)?;
@@ -48,30 +62,52 @@ fn hedge_of(alloc: Global, row: &Row) -> Result<HedgeLine, NoMemory> {
 }
 
 /// The last output.
-fn last_output(outputs: &PairLists) -> Option<&Pairs> {
+fn last_output(outputs: &PairLists) -> Option<&Pairs>
+    ensures { MatchOption result (last_of outputs.now ≡ None) (λ b. last_of outputs.now ≡ Some b.now) }
+{
     if outputs.len() == 0 {
         return None;
     }
     Some(outputs.get(outputs.len() - 1))
 }
 
-/// Reads the lines of outputs, and how many they are.
-fn read_outputs(alloc: Global, reader: &mut Reader<'_>) -> Result<PairLists, CertFault> {
-    let count = reader.count(b"outputs", 65536)?;
+/// Reads so many lines of outputs.
+fn read_output_lines(
+    alloc: Global,
+    reader: &mut Reader<'_>,
+    count: u32,
+) -> Result<PairLists, CertFault>
+    requires { count ≤ 65536 }
+    ensures { (v : Version) (bytes : List ℕ) → Stands v bytes (in_outputs v count []) reader.old → MatchResult result (λ os. (length os ≡ count) × Stands v bytes (in_outputs v count os) reader.new) (IsUnread bytes) }
+{
     let mut outputs = PairLists::new(alloc);
-    for _ in 0..count {
+    while outputs.len() < count {
         let pairs = reader.output(alloc, last_output(&outputs))?;
         outputs.push(pairs)?;
     }
     Ok(outputs)
 }
 
-/// Reads the rows of trees, and how many they are.
-fn read_trees(alloc: Global, reader: &mut Reader<'_>) -> Result<TreeLines, CertFault> {
-    let count = reader.count(b"trees", 4000)?;
+/// Reads the lines of outputs, and how many they are.
+fn read_outputs(alloc: Global, reader: &mut Reader<'_>) -> Result<PairLists, CertFault>
+    ensures { (v : Version) (bytes : List ℕ) → Stands v bytes (begun v) reader.old → MatchResult result (λ os. Stands v bytes (in_outputs v (length os) os) reader.new) (IsUnread bytes) }
+{
+    let count = reader.count(b"outputs", 65536)?;
+    read_output_lines(alloc, reader, count)
+}
+
+/// Reads so many rows of trees.
+fn read_tree_lines(
+    alloc: Global,
+    reader: &mut Reader<'_>,
+    count: u32,
+) -> Result<TreeLines, CertFault>
+    requires { count ≤ 4000 }
+    ensures { (v : Version) (bytes : List ℕ) (os : List (List (ℕ × ℕ))) → Stands v bytes (in_trees v os count []) reader.old → MatchResult result (λ ts. (length ts ≡ count) × Stands v bytes (in_trees v os count ts) reader.new) (IsUnread bytes) }
+{
     let mut trees = TreeLines::new(alloc);
     let mut before = None;
-    for _ in 0..count {
+    while trees.len() < count {
         let row = reader.row(alloc, Kind::Tree, before)?;
         trees.push(tree_of(alloc, &row)?)?;
         before = Some(row);
@@ -79,17 +115,39 @@ fn read_trees(alloc: Global, reader: &mut Reader<'_>) -> Result<TreeLines, CertF
     Ok(trees)
 }
 
-/// Reads the rows of lists of trees, and how many they are.
-fn read_hedges(alloc: Global, reader: &mut Reader<'_>) -> Result<HedgeLines, CertFault> {
-    let count = reader.count(b"hedges", 4000)?;
+/// Reads the rows of trees, and how many they are.
+fn read_trees(alloc: Global, reader: &mut Reader<'_>) -> Result<TreeLines, CertFault>
+    ensures { (v : Version) (bytes : List ℕ) (os : List (List (ℕ × ℕ))) → Stands v bytes (in_outputs v (length os) os) reader.old → MatchResult result (λ ts. Stands v bytes (in_trees v os (length ts) ts) reader.new) (IsUnread bytes) }
+{
+    let count = reader.count(b"trees", 4000)?;
+    read_tree_lines(alloc, reader, count)
+}
+
+/// Reads so many rows of lists of trees.
+fn read_hedge_lines(
+    alloc: Global,
+    reader: &mut Reader<'_>,
+    count: u32,
+) -> Result<HedgeLines, CertFault>
+    requires { count ≤ 4000 }
+    ensures { (v : Version) (bytes : List ℕ) (os : List (List (ℕ × ℕ))) (ts : List TreeLine) → Stands v bytes (in_hedges v os ts count []) reader.old → MatchResult result (λ hs. (length hs ≡ count) × Stands v bytes (in_hedges v os ts count hs) reader.new) (IsUnread bytes) }
+{
     let mut hedges = HedgeLines::new(alloc);
     let mut before = None;
-    for _ in 0..count {
+    while hedges.len() < count {
         let row = reader.row(alloc, Kind::Hedge, before)?;
         hedges.push(hedge_of(alloc, &row)?)?;
         before = Some(row);
     }
     Ok(hedges)
+}
+
+/// Reads the rows of lists of trees, and how many they are.
+fn read_hedges(alloc: Global, reader: &mut Reader<'_>) -> Result<HedgeLines, CertFault>
+    ensures { (v : Version) (bytes : List ℕ) (os : List (List (ℕ × ℕ))) (ts : List TreeLine) → Stands v bytes (in_trees v os (length ts) ts) reader.old → MatchResult result (λ hs. Stands v bytes (in_hedges v os ts (length hs) hs) reader.new) (IsUnread bytes) }
+{
+    let count = reader.count(b"hedges", 4000)?;
+    read_hedge_lines(alloc, reader, count)
 }
 
 /// Reads a certificate's text, of either version.

@@ -1,13 +1,11 @@
 // The text of a certificate in version 2, from either version.
-ghost use Rattle.std.specs.Prelude.{◌≡◌, ◌≤◌, IfOk, IfErr, length};
-ghost use Rattle.tc_model.specs.declared.lists.CertData.{CertData};
-ghost use Rattle.tc_cert.specs.Texts as texts;
-ghost use Rattle.tc_cert.specs.Texts.{by_changes, CertificateText};
-ghost use Rattle.tc_cert.specs.Readings.{IsNotUpgraded};
+ghost use Rattle.std.specs.Prelude.{◌≤◌, IfOk, IfErr, MatchBool, length};
+ghost use Rattle.tc_cert.specs.Readings.{BeginsByChanges, IsNotUpgraded, IsUpgraded};
 
 use crate::faults::UpgradeFault;
 use crate::fitting::first_unfit;
 use crate::ranges::Ranges;
+use crate::reader::after_text;
 use crate::reading::read_cert;
 use crate::writing::write_cert;
 use std::alloc::Global;
@@ -19,8 +17,7 @@ use std::alloc::Global;
 /// in version 2 has more bytes.
 pub fn upgrade(alloc: Global, text: &[u8]) -> Result<Vec<u8>, UpgradeFault>
     requires { length text.now ≤ 67108864 }
-    ensures ok { IfOk result (λ out. (d : CertData) × CertificateText text.now d × (out.items ≡ texts.text by_changes d)) }
-    ensures within { IfOk result (λ out. length out.items ≤ 67108864) }
+    ensures ok { IfOk result (λ out. IsUpgraded text.now out.items) }
     ensures fault { IfErr result (λ e. IsNotUpgraded text.now e) }
 {
     if is_by_changes(text) {
@@ -31,12 +28,22 @@ pub fn upgrade(alloc: Global, text: &[u8]) -> Result<Vec<u8>, UpgradeFault>
 }
 
 /// Whether the text begins as one of version 2.
-fn is_by_changes(text: &[u8]) -> bool {
-    text.starts_with(b"xslt-typecheck certificate 2\n")
+fn is_by_changes(text: &[u8]) -> bool
+    ensures { MatchBool result (BeginsByChanges text.now) (BeginsByChanges text.now → ⊥) }
+{
+    match after_text(text, b"xslt-typecheck certificate 2\n") {
+        Some(_) => true,
+        None => false,
+    }
 }
 
 /// The text of version 2 itself.
-fn own(alloc: Global, text: &[u8]) -> Result<Vec<u8>, UpgradeFault> {
+fn own(alloc: Global, text: &[u8]) -> Result<Vec<u8>, UpgradeFault>
+    requires short { length text.now ≤ 67108864 }
+    requires begins { BeginsByChanges text.now }
+    ensures ok { IfOk result (λ out. IsUpgraded text.now out.items) }
+    ensures fault { IfErr result (λ e. IsNotUpgraded text.now e) }
+{
     let ranges = Ranges {
         output_states: 0,
         patterns: 0,
@@ -51,7 +58,11 @@ fn own(alloc: Global, text: &[u8]) -> Result<Vec<u8>, UpgradeFault> {
 }
 
 /// The text in version 2 of a text of version 1.
-fn rewritten(alloc: Global, text: &[u8]) -> Result<Vec<u8>, UpgradeFault> {
+fn rewritten(alloc: Global, text: &[u8]) -> Result<Vec<u8>, UpgradeFault>
+    requires { length text.now ≤ 67108864 }
+    ensures ok { IfOk result (λ out. IsUpgraded text.now out.items) }
+    ensures fault { IfErr result (λ e. IsNotUpgraded text.now e) }
+{
     let cert = read_cert(alloc, text)?;
     Ok(write_cert(alloc, &cert)?)
 }

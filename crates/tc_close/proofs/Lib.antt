@@ -13,6 +13,8 @@ pub mod Made
 pub mod Carried
 pub mod Verdicts
 pub mod Exact
+pub mod PairTables
+pub mod KindLaws
 pub mod Ordered
 pub mod More
 pub mod Ranked

@@ -4,6 +4,8 @@ pub mod Triples
 pub mod Decisions
 pub mod RowState
 pub mod HeldRows
+pub mod PairTables
+pub mod Kinds
 pub mod Orders
 pub mod Certified
 pub mod Lines

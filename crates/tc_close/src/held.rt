@@ -7,6 +7,7 @@ ghost use Rattle.tc_close.specs.Lines.{tree_held, hedge_held};
 ghost use Rattle.tc_close.specs.RowState.{Known};
 ghost use Rattle.tc_rows.specs.Triples.{Triple};
 
+use crate::kinds::Kinds;
 use crate::lists::Lists;
 use crate::over::Over;
 use crate::rooms::Rooms;
@@ -25,6 +26,7 @@ pub(crate) struct HeldRows<'m, 'b, K: Over> {
     hedges: Lists,
     trees: Lists,
     rooms: Rooms,
+    kinds: Kinds,
     /// No row was refused.
     is_whole: bool,
     over: PhantomData<K>,
@@ -33,12 +35,13 @@ pub(crate) struct HeldRows<'m, 'b, K: Over> {
 impl<'m, 'b, K: Over> Model for HeldRows<'m, 'b, K> {
     ghost use Rattle.tc_close.specs.RowState.{RowState};
     ghost use Rattle.tc_close.specs.HeldRows.{AreHeld, state_of};
+    ghost use Rattle.tc_close.specs.Kinds.{AreTrue};
 
     ghost Value = { RowState };
 
     ghost view = { λ p. state_of p.rows p.hedges p.trees p.is_whole };
 
-    ghost invariant = { λ p. AreHeld K.is_of p.rows (state_of p.rows p.hedges p.trees p.is_whole) p.rooms };
+    ghost invariant = { λ p. AreHeld K.is_of p.rows (state_of p.rows p.hedges p.trees p.is_whole) p.rooms × AreTrue K.is_of p.hedges p.trees p.kinds };
 }
 
 /// Why a row can't be held.
@@ -64,11 +67,13 @@ impl<'m, 'b, K: Over> HeldRows<'m, 'b, K> {
     {
         let rows = Rows::new(alloc, machine)?;
         let rooms = Rooms::new(alloc, machine)?;
+        let kinds = Kinds::new(alloc, machine.shape())?;
         Ok(HeldRows {
             rows,
             hedges: Lists::new(alloc),
             trees: Lists::new(alloc),
             rooms,
+            kinds,
             is_whole: true,
             over: PhantomData,
         })
@@ -197,6 +202,9 @@ impl<'m, 'b, K: Over> NumberedRows for HeldRows<'m, 'b, K> {
         if !self.is_whole {
             return Err(HoldFault::NoMemory);
         }
+        if self.kinds.is_dead_append(hedge, tree) {
+            return Ok(None);
+        }
         self.is_whole = false;
         self.rooms.hedge.load(self.hedges.get(hedge));
         self.rooms.tree.load(self.trees.get(tree));
@@ -207,6 +215,8 @@ impl<'m, 'b, K: Over> NumberedRows for HeldRows<'m, 'b, K> {
         ) {
             Ok(true) => {}
             Ok(false) => {
+                self.kinds
+                    .learn_append(&self.hedges, &self.trees, hedge, tree);
                 self.is_whole = true;
                 return Ok(None);
             }
@@ -223,6 +233,9 @@ impl<'m, 'b, K: Over> NumberedRows for HeldRows<'m, 'b, K> {
         if !self.is_whole {
             return Err(HoldFault::NoMemory);
         }
+        if self.kinds.is_dead_wrap(symbol, hedge) {
+            return Ok(None);
+        }
         self.is_whole = false;
         self.rooms.hedge.load(self.hedges.get(hedge));
         match self
@@ -231,6 +244,7 @@ impl<'m, 'b, K: Over> NumberedRows for HeldRows<'m, 'b, K> {
         {
             Ok(true) => {}
             Ok(false) => {
+                self.kinds.learn_wrap(&self.hedges, symbol, hedge);
                 self.is_whole = true;
                 return Ok(None);
             }

@@ -5,10 +5,12 @@
 mod certificate;
 mod decision;
 mod held;
+mod kinds;
 pub mod laws;
 mod lists;
 mod order;
 mod over;
+mod pair_table;
 mod proof;
 mod rooms;
 

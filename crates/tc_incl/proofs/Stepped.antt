@@ -14,7 +14,8 @@ use Rattle.tc_incl.specs.declared.both.Both.{Both}
 use Rattle.tc_incl.specs.declared.steps.Steps.{Steps}
 use Rattle.tc_incl.specs.declared.steps.BothSteps.{BothSteps}
 use Rattle.tc_incl.specs.Sides.{AreAfterPatterns, IsAfter, IsAfterElement, IsAfterPattern, IsAtSome}
-use Rattle.tc_incl.specs.Steps.{AreBothSteps, AreStepped, AreSteps, IsLed}
+use Rattle.tc_incl.specs.Stepped.{AreBothSteps, AreStepped}
+use Rattle.tc_incl.specs.Steps.{AreSteps, IsLed}
 use Rattle.tc_incl.proofs.Taken.{pushed_at}
 
 -- sets at some places, from the first on
@@ -152,3 +153,20 @@ module _ (b : Both) (hedges : List Row) where
 -- a row's steps are those that stand at its place
 pub steps_at : (b : Both) (hedges : List Row) (steps : List BothSteps) (i : ℕ) (t : BothSteps) (h : Row) → AreStepped b hedges steps → slice_get steps i ≡ Some t → slice_get hedges i ≡ Some h → AreBothSteps b h t
 steps_at b hedges steps i t h stepped at there = let (g, here, are) = stepped i t at in subst (λ w. AreBothSteps b w t) (same_Some g h (sym here ∙ there)) are
+
+-- what is allowed and taken is around
+pub allowed_and_taken : (allowed empty put around taken : Numbers) (Allowed Taken : ℕ → Type 0) → HasNone empty → ((k : ℕ) → Has put k ↔ (Has empty k ⊎ Has allowed k))
+    → ((k : ℕ) → Has around k ↔ (Has put k × Has taken k)) → ((k : ℕ) → Has allowed k ↔ Allowed k) → ((k : ℕ) → Has taken k ↔ Taken k) → (k : ℕ) → Has around k ↔ (Allowed k × Taken k)
+allowed_and_taken allowed empty put around taken Allowed Taken none adds keeps is takes k = (
+  λ h. let (p, t) = (keeps k).0 h in (elim ((adds k).0 p) [ inl e ↦ absurd (none k e) | inr a ↦ (is k).0 a ], (takes k).0 t),
+  λ (a, t). (keeps k).1 ((adds k).1 (inr ((is k).1 a)), (takes k).1 t),
+)
+
+-- rows that are held stay stepped where one comes on
+pub stepped_held : (b : Both) (hs ks : List Row) (u : ℕ) (r : Row) (steps : List BothSteps) → ((u < length hs) × (ks ≡ hs)) ⊎ ((u ≡ length hs) × (ks ≡ hs ++ r ∷ [])) → AreStepped b hs steps → AreStepped b ks steps
+stepped_held b hs ks u r steps (inl (low, same)) before = subst (λ w. AreStepped b w steps) (sym same) before
+stepped_held b hs ks u r steps (inr (last, same)) before = subst (λ w. AreStepped b w steps) (sym same) (stepped_longer b hs (r ∷ []) steps before)
+
+-- the row that steps are of
+pub stepped_at : (b : Both) (hs ks : List Row) (steps : List BothSteps) (h : ℕ) (t : BothSteps) → ks ≡ hs → AreStepped b ks steps → slice_get steps h ≡ Some t → (p : Row) × (slice_get hs h ≡ Some p) × AreBothSteps b p t
+stepped_at b hs ks steps h t same before at = subst (λ w. (p : Row) × (slice_get w h ≡ Some p) × AreBothSteps b p t) same (before h t at)

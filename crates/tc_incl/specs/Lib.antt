@@ -8,5 +8,6 @@ pub mod Sets
 pub mod Sides
 pub mod Held
 pub mod Steps
+pub mod Stepped
 pub mod Covers
 pub mod Answers

@@ -1,14 +1,11 @@
 -- Where the rows of lists of trees lead, as code holds it.
-use Rattle.std.specs.Prelude.{◌≡◌, ◌↔◌, ◌⊎◌, ◌+◌, ℕ, List, length, Bool, true, false, Some, slice_get}
+use Rattle.std.specs.Prelude.{◌≡◌, ◌↔◌, ◌⊎◌, ◌+◌, ℕ, length, Bool, true, false}
 use Rattle.tc_auto.specs.Stands as a
 use Rattle.tc_auto.specs.declared.auto.Auto.{Auto}
 use Rattle.tc_model.specs.Grammars.{Grammar}
 use Rattle.tc_model.specs.States.{input}
 use Rattle.tc_sets.specs.Numbers.{Numbers, Has}
-use Rattle.tc_incl.specs.declared.rows.Row.{Row}
-use Rattle.tc_incl.specs.declared.both.Both.{Both}
 use Rattle.tc_incl.specs.declared.steps.Steps.{Steps}
-use Rattle.tc_incl.specs.declared.steps.BothSteps.{BothSteps}
 use Rattle.tc_incl.specs.Sides.{AreOfSize, AreAfterPatterns, IsAfterText, IsAtSome, IsTaken}
 
 -- a tree leads to a state: a text, or an element that matches element patterns
@@ -26,13 +23,3 @@ pub record AreSteps (auto : Auto) (states : Numbers) (steps : Steps) : Type 0 wh
   pub taken_size : steps.taken.size ≡ a.patterns auto + 1
   pub from_one : ¬ Has steps.taken 0
   pub taken : (x : Grammar) → a.Stands input x auto → (k : ℕ) → Has steps.taken k ↔ IsTaken x states k
-
-module _ (s : Both) where
-  -- those of the states of a row, of each schema
-  pub record AreBothSteps (h : Row) (steps : BothSteps) : Type 0 where
-    pub first : AreSteps s.first.auto.now h.first steps.first
-    pub second : AreSteps s.second.auto.now h.second steps.second
-
-  -- those of the first rows, in order
-  abbrev pub AreStepped : List Row → List BothSteps → Type 0
-  AreStepped hedges steps = (i : ℕ) (t : BothSteps) → slice_get steps i ≡ Some t → (h : Row) × (slice_get hedges i ≡ Some h) × AreBothSteps h t

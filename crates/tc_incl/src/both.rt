@@ -26,7 +26,7 @@ impl<'c, 'b> Both<'c, 'b> {
     ghost use Rattle.tc_auto.specs.Stands as a;
     ghost use Rattle.tc_incl.specs.Held.{AreTold, Fails, IsAppended, IsHedgeFit, IsNone, IsText, IsTreeFit, IsWrapped, NoAppended, NoText, NoWrapped, Passes};
     ghost use Rattle.tc_incl.specs.Schemas.{Schemas};
-    ghost use Rattle.tc_incl.specs.Steps.{AreBothSteps};
+    ghost use Rattle.tc_incl.specs.Stepped.{AreBothSteps};
     ghost use Rattle.tc_incl.specs.declared.rows.Row.{Row};
     ghost use Rattle.tc_model.specs.States as s;
 

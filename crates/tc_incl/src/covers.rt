@@ -1,7 +1,7 @@
 // The cover rows of two schemas, held by their numbers.
 ghost use Rattle.std.specs.Prelude.{◌<◌, All, OnOk, length};
 ghost use Rattle.tc_incl.specs.Held.{IsHedgeFit};
-ghost use Rattle.tc_incl.specs.Steps.{AreStepped};
+ghost use Rattle.tc_incl.specs.Stepped.{AreStepped};
 
 use crate::both::Both;
 use crate::over::Over;
@@ -28,7 +28,7 @@ pub(crate) struct Covers<'c, 'g, K: Over> {
 
 impl<'c, 'g, K: Over> Model for Covers<'c, 'g, K> {
     ghost use Rattle.tc_incl.specs.Covers.{AreHeld, State, state_of};
-    ghost use Rattle.tc_incl.specs.Steps.{AreStepped};
+    ghost use Rattle.tc_incl.specs.Stepped.{AreStepped};
 
     ghost Value = { State };
 

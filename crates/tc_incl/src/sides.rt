@@ -102,9 +102,9 @@ fn put_after(ends: &[Set], patterns: &Set, next: &mut Set)
     ensures size { next.new.size ≡ next.old.size }
     ensures numbers { (j : ℕ) → Has next.new j ↔ (Has next.old j ⊎ IsAtSome ends.now patterns.now (length ends.now) j) }
 {
-    for before in 0..ends.len() {
-        if patterns.has(before as u32 + 1) {
-            next.add_all(&ends[before]);
+    for before in 0..patterns.size() - 1 {
+        if patterns.has(before + 1) {
+            next.add_all(&ends[before as usize]);
         }
     }
 }

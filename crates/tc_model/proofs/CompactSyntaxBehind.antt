@@ -1,5 +1,5 @@
 -- What a phrase of the compact syntax leaves of the tokens stands behind, and a reading without data is one with data too.
-use Rattle.std.proofs.Common.{◌≡◌, ℕ, ◌≤◌, ◌+◌, Bool, false, List, [], ◌∷◌, length, arith}
+use Rattle.std.proofs.Common.{ℕ, ◌≤◌, Bool, false, List, ◌∷◌, length, arith}
 use Rattle.std.proofs.lemmas.Bool.{false≢true}
 use Rattle.tc_model.specs.RawTrees.{Bound}
 use Rattle.tc_model.specs.CompactSyntaxTrees.{SyntaxClass, SyntaxClasses, SyntaxPattern, SyntaxPatterns, Joins, Definition}

@@ -5,7 +5,7 @@ use Rattle.tc_model.specs.Names.{ExpandedName}
 use Rattle.tc_model.specs.RawTrees.{Bound}
 use Rattle.tc_model.specs.XmlTextScopes.{uri_of}
 use Rattle.tc_model.specs.CompactSyntaxTrees.{SyntaxClass, of_name, of_namespace, any_name, one_of, SyntaxClasses, no_class, class}
-use Rattle.tc_model.specs.CompactSyntaxTokens.{Word, a_name, escaped, prefixed, all_of, literal, mark, Token}
+use Rattle.tc_model.specs.CompactSyntaxTokens.{Word, a_name, escaped, prefixed, all_of, literal, long_literal, mark, Token}
 use Rattle.tc_model.specs.CompactSyntaxPatterns.{is_datum}
 use Rattle.std.proofs.lemmas.Bool.{false≢true}
 use Rattle.std.proofs.lemmas.Slice.Eq.{bytes_eq-Decides}
@@ -49,6 +49,7 @@ word_kind (escaped n) = 7
 word_kind (prefixed p n) = 9
 word_kind (all_of p) = 20
 word_kind (literal s) = 9
+word_kind (long_literal s) = 20
 word_kind (mark c) = cond (c == 0x28) 8 (cond (c == 0x7D) 21 20)
 
 unfoldable pub kind_at : List Token → ℕ
@@ -115,6 +116,7 @@ identifier_kind (escaped m) e = refl
 identifier_kind (prefixed p m) e = absurd (some_none e refl)
 identifier_kind (all_of p) e = absurd (some_none e refl)
 identifier_kind (literal s) e = absurd (some_none e refl)
+identifier_kind (long_literal s) e = absurd (some_none e refl)
 identifier_kind (mark c) e = absurd (some_none e refl)
 
 pub datum_kind : (w : Word) → is_datum w ≡ true → word_kind w ≡ 9
@@ -131,6 +133,7 @@ datum_kind (escaped m) e = absurd (false≢true e)
 datum_kind (prefixed p m) e = refl
 datum_kind (all_of p) e = absurd (false≢true e)
 datum_kind (literal s) e = refl
+datum_kind (long_literal s) e = absurd (false≢true e)
 datum_kind (mark c) e = absurd (false≢true e)
 
 quoted : Word → List ℕ
@@ -184,6 +187,7 @@ simple_word (escaped n) = 1
 simple_word (prefixed p n) = 1
 simple_word (all_of p) = 2
 simple_word (literal s) = 3
+simple_word (long_literal s) = 3
 simple_word (mark c) = c
 
 unfoldable pub simple_at : List Token → ℕ
@@ -197,6 +201,7 @@ name_is scope (escaped n) e = refl
 name_is scope (prefixed p n) e = refl
 name_is scope (all_of p) e = absurd (some_none e refl)
 name_is scope (literal s) e = absurd (some_none e refl)
+name_is scope (long_literal s) e = absurd (some_none e refl)
 name_is scope (mark c) e = absurd (some_none e refl)
 
 unfoldable pub simple_rule : {scope : List Bound} {d : ℕ} {ts r : List Token} {c : SyntaxClass} → SimpleAt scope d ts c r → ℕ

@@ -6,7 +6,7 @@ use Rattle.tc_model.specs.RawTrees.{Bound}
 use Rattle.tc_model.specs.XmlTextScopes.{uri_of}
 use Rattle.tc_model.specs.CompactSyntaxTrees.{SyntaxClass, SyntaxClasses, no_class, class, SyntaxPattern, SyntaxPatterns, no_more, Definition, Syntax}
 use Rattle.tc_model.specs.CompactSyntaxTrees as tree
-use Rattle.tc_model.specs.CompactSyntaxTokens.{Word, a_name, escaped, prefixed, all_of, literal, mark, Token}
+use Rattle.tc_model.specs.CompactSyntaxTokens.{Word, a_name, escaped, prefixed, all_of, literal, long_literal, mark, Token}
 use Rattle.tc_model.specs.CompactSyntaxNames.{identifier, is_keyword, IsLiteral, DeclarationAt, namespace, default_namespace, both, datatypes, or_none, named_in, name_in, ClassAt, alone, several, ClassesAt, last, more, SimpleAt, name, whole_namespace, any, parentheses, ExceptAt, nothing, except}
 use Rattle.tc_model.specs.CompactSyntaxPatterns as p
 use Rattle.tc_model.specs.CompactSyntaxPatterns.{Connector, comma, bar, ampersand, joined_by, Suffix, question_mark, asterisk, plus_sign, suffixed, BalancedAt, closed, nested, other, PatternAt, ItemsAt, and_more, ItemAt, bare, with_suffix, PrimaryAt, an_element, an_attribute, a_mixed, an_empty, a_text, a_not_allowed, reference, a_datum}
@@ -46,6 +46,7 @@ name_lawful scope (prefixed q m) n h k e = by (uri_of scope q) refl e
     by (Some uri) f e = subst IsName (same_some refl e) (uri_lawful scope q uri h f, k)
 name_lawful scope (all_of q) n h k e = absurd (some_none e refl)
 name_lawful scope (literal s) n h k e = absurd (some_none e refl)
+name_lawful scope (long_literal s) n h k e = absurd (some_none e refl)
 name_lawful scope (mark m) n h k e = absurd (some_none e refl)
 
 identifier_lawful : (w : Word) (n : List ℕ) → IsLawfulWord w → identifier w ≡ Some n → IsNcName n
@@ -58,6 +59,7 @@ identifier_lawful (escaped m) n h e = subst IsNcName (same_some refl e) h
 identifier_lawful (prefixed p m) n h e = absurd (some_none e refl)
 identifier_lawful (all_of p) n h e = absurd (some_none e refl)
 identifier_lawful (literal s) n h e = absurd (some_none e refl)
+identifier_lawful (long_literal s) n h e = absurd (some_none e refl)
 identifier_lawful (mark c) n h e = absurd (some_none e refl)
 
 literal_lawful : {uri : List ℕ} {t : Token} → IsLiteral uri t → IsLawfulWord t.word → IsChars uri

@@ -9,7 +9,7 @@ use Rattle.tc_model.specs.XmlText.{after_mark}
 use Rattle.tc_model.specs.RawTrees.{Bound}
 use Rattle.tc_model.specs.CompactSyntaxTrees.{SyntaxClass, SyntaxClasses, SyntaxPattern, SyntaxPatterns, no_more, Joins, Definition, Syntax}
 use Rattle.tc_model.specs.CompactSyntaxTrees as tree
-use Rattle.tc_model.specs.CompactSyntaxTokens.{Word, Token, is_line_end, after_line, WordAt, plain_name, prefixed_name, namespace_name, escaped_name, quoted, backslash, TokensAt, at_end, white, comment, token}
+use Rattle.tc_model.specs.CompactSyntaxTokens.{Word, Token, is_line_end, after_line, WordAt, plain_name, prefixed_name, namespace_name, escaped_name, quoted, quoted_long, three, LongLiteralAt, backslash, TokensAt, at_end, white, comment, token}
 use Rattle.tc_model.specs.CompactSyntaxTokens as w
 use Rattle.tc_model.specs.CompactSyntaxNames.{DeclarationAt, namespace, default_namespace, both, datatypes, ClassAt, alone, several, ClassesAt, last, more, SimpleAt, name, whole_namespace, any, parentheses, ExceptAt, nothing, except}
 use Rattle.tc_model.specs.CompactSyntaxPatterns as p
@@ -83,12 +83,18 @@ literal_shorter : {bs v r : List ℕ} → LiteralAt bs v r → length r < length
 literal_shorter {r = r} a =
     omega (arith, ap length a.opens, ap length a.closes.back, length-drop (length_before (a.quote ∷ []) a.rest) a.rest)
 
+long_literal_shorter : {bs v r : List ℕ} → LongLiteralAt bs v r → length r < length bs
+long_literal_shorter {r = r} a =
+    let from = drop (length_before (three a.quote) a.rest) a.rest in
+    omega (arith, ap length a.opens, ap length a.back, length-drop 3 from, length-drop (length_before (three a.quote) a.rest) a.rest)
+
 pub word_shorter : {bs r : List ℕ} {v : Word} → WordAt bs v r → length r < length bs
 word_shorter (plain_name a e) = name_shorter a
 word_shorter (prefixed_name a b) = omega (arith, name_shorter a, name_shorter b)
 word_shorter (namespace_name a) = omega (arith, name_shorter a)
 word_shorter (escaped_name a) = omega (arith, ap length a.opens, name_shorter a.names)
-word_shorter (quoted a e) = literal_shorter a
+word_shorter (quoted a e n) = literal_shorter a
+word_shorter (quoted_long a) = long_literal_shorter a
 word_shorter (backslash k) = omega arith
 word_shorter (w.other {c = c} {after = r} e k) = omega (arith, ap length e, length-append (encode_utf8 c) r, length-encode c, len_utf8_bounds c)
 

@@ -1,19 +1,15 @@
 -- A text has one refusal as a schema, which has no syntax then.
-use Rattle.std.proofs.Common.{not, ◌≡◌, ◌⊎◌, inl, inr, ℕ, ◌+◌, ◌-◌, ◌<◌, ◌≤◌, Bool, true, false, List, [], ◌∷◌, ◌++◌, refl, ap, ◌∙◌, sym, subst, length, arith, append_assoc, append-nil, length-append, length-take, length-drop, IsTrue}
-use Rattle.std.specs.Prelude.{encode_utf8, encode_utf8_all}
-use Rattle.std.specs.List.{prefix_len, list_all, AllByRecursion}
-use Rattle.std.proofs.lemmas.Bool.{false≢true, and_parts}
-use Rattle.std.proofs.lemmas.Str.{encode_same, length-encode, len_utf8_bounds}
-use Rattle.tc_base.specs.Characters.{is_char, is_white}
-use Rattle.tc_model.specs.Names.{IsChars}
+use Rattle.std.proofs.Common.{not, ◌≡◌, ◌⊎◌, inl, inr, ℕ, ◌≤◌, Bool, false, List, [], ◌∷◌, refl, ap, ◌∙◌, sym, subst, length, arith, length-append, length-take, length-drop}
+use Rattle.std.specs.List.{prefix_len, AllByRecursion}
+use Rattle.std.proofs.lemmas.Bool.{false≢true}
 use Rattle.tc_model.specs.XmlText.{after_mark}
-use Rattle.tc_model.specs.XmlTextBytes.{FrontOf, place_of}
+use Rattle.tc_model.specs.XmlTextBytes.{place_of}
 use Rattle.tc_model.specs.XmlTextScopes.{first_scope}
-use Rattle.tc_model.specs.CompactSyntaxTrees.{Definition, Syntax}
+use Rattle.tc_model.specs.CompactSyntaxTrees.{Syntax}
 use Rattle.tc_model.specs.CompactSyntaxTokens.{Word, Token, is_line_end, after_line, WordAt, TokensAt}
 use Rattle.tc_model.specs.CompactSyntaxTokens as m
 use Rattle.tc_model.specs.CompactSyntax.{SchemaAt, Spells, deepest_nesting}
-use Rattle.tc_model.specs.CompactSyntaxUnread.{Refusal, malformed, End, Unexpected}
+use Rattle.tc_model.specs.CompactSyntaxUnread.{Refusal, malformed, Unexpected}
 use Rattle.tc_model.specs.CompactSyntaxStops.{SchemaStops}
 use Rattle.tc_model.specs.CompactSyntaxRefused.{TokensUpTo, so_far, white, comment, token, BeginsNoSpace, TokensOf, line, end_before, IsRefused, in_tokens, past_tokens}
 use Rattle.tc_model.specs.CompactSyntaxRefusedLaws.{Excludes, HasOneRefusal, HasNoSyntax, IsMalformedWithin}
@@ -22,10 +18,10 @@ use Rattle.tc_model.proofs.CompactSyntaxTokensUnique.{nothing_begins, byte_begin
 use Rattle.tc_model.proofs.CompactSyntaxOrdered.{word_shorter, mark_shorter}
 use Rattle.tc_model.proofs.CompactSyntaxBehind.{Behind, none_yet, past}
 use Rattle.tc_model.proofs.CompactSyntaxUnread.{unexpected_unique}
-use Rattle.tc_model.proofs.CompactSyntaxStopsExclude.{Excluding, excludes_same}
+use Rattle.tc_model.proofs.CompactSyntaxStopsExclude.{excludes_same}
 use Rattle.tc_model.proofs.CompactSyntaxStopsSchemas.{schema_excludes}
 use Rattle.tc_model.proofs.CompactSyntaxStopsUnique.{schema_once}
-use Rattle.tc_model.proofs.CompactSyntaxStopsWithin.{AtToken, IsThere, Standing, schema_there, unexpected_stands}
+use Rattle.tc_model.proofs.CompactSyntaxStopsWithin.{AtToken, IsThere, schema_there, unexpected_stands}
 
 -- The tokens up to where none follows.
 

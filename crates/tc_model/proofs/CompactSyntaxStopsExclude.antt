@@ -1,25 +1,23 @@
 -- Where the reading of a phrase stops, there is no reading of it.
-use Rattle.std.proofs.Common.{◌||◌, Option, bytes_eq, cond, ◌≡◌, ◌⊎◌, inl, inr, ℕ, suc, ◌≤◌, ◌<◌, Bool, true, false, List, [], ◌∷◌, refl, ap, ◌∙◌, sym, subst, length, arith, None, Some, codes}
+use Rattle.std.proofs.Common.{◌||◌, Option, bytes_eq, cond, ◌≡◌, inl, inr, ℕ, suc, ◌≤◌, Bool, true, false, List, [], ◌∷◌, refl, ap, ◌∙◌, sym, subst, arith, None, Some, codes}
 use Rattle.std.proofs.lemmas.Bool.{false≢true}
 use Rattle.tc_base.specs.declared.reasons.Why.{Why}
 use Rattle.tc_base.specs.declared.reasons.Why.TheVariants.{N6}
-use Rattle.tc_model.specs.Names.{ExpandedName}
 use Rattle.tc_model.specs.RawTrees.{Bound}
-use Rattle.tc_model.specs.XmlTextBytes.{Lacks, length_before}
-use Rattle.tc_model.specs.CompactSyntaxTrees.{SyntaxClass, SyntaxClasses, SyntaxPattern, SyntaxPatterns, Joins, Definition}
-use Rattle.tc_model.specs.CompactSyntaxTokens.{Word, a_name, escaped, prefixed, all_of, literal, mark, Token}
+use Rattle.tc_model.specs.CompactSyntaxTrees.{SyntaxClass, SyntaxClasses, SyntaxPattern, SyntaxPatterns, Definition}
+use Rattle.tc_model.specs.CompactSyntaxTokens.{Word, a_name, escaped, prefixed, all_of, literal, long_literal, mark, Token}
 use Rattle.tc_model.specs.CompactSyntaxNames as n
 use Rattle.tc_model.specs.CompactSyntaxNames.{IsWord, IsMark, identifier, identifier_or_keyword, IsLiteral, MayBind, DeclarationAt, name_in, LacksMark, ClassAt, ClassesAt, SimpleAt, ExceptAt}
 use Rattle.tc_model.specs.CompactSyntaxPatterns as p
 use Rattle.tc_model.specs.CompactSyntaxPatterns.{Connector, connector_of, connector_at, BalancedAt, PatternAt, ItemsAt, ItemAt, PrimaryAt}
 use Rattle.tc_model.specs.CompactSyntax as s
 use Rattle.tc_model.specs.CompactSyntax.{OperatorAt, DefinitionAt, DefinitionsAt, SchemaAt}
-use Rattle.tc_model.specs.CompactSyntaxUnread.{Refusal, malformed, unsupported, too_deep, End, Unexpected, unread_pattern, NoPattern, NoDefinition, include, EscapeAt, in_text, in_literal, in_triple, escape_mark, TripleAt, triple, LiteralStops, escape_within, three_quotes, NoNamespaceName, inherit, concatenation}
+use Rattle.tc_model.specs.CompactSyntaxUnread.{Refusal, malformed, unsupported, too_deep, End, Unexpected, unread_pattern, NoPattern, NoDefinition, include, escape_mark, LiteralStops, escape_within, three_quotes, NoNamespaceName, inherit, concatenation}
 use Rattle.tc_model.specs.CompactSyntaxUnread as u
 use Rattle.tc_model.specs.CompactSyntaxStops as st
 use Rattle.tc_model.specs.CompactSyntaxStops.{ClassStops, SimpleStops, BalancedStops, BracedTextStops, PatternStops, ItemsStop, PrimaryStops, EnclosedStops, DefinitionsStop, DefinitionStops, BlockStops, BeginsDefinition}
 use Rattle.tc_model.specs.CompactSyntaxRefusedLaws.{Excludes}
-use Rattle.tc_model.proofs.CompactSyntaxClassesUnique.{same_some, some_none, same_head, same_tail, keyword_kind, word_kind, kind_at, element_kind, attribute_kind, mixed_kind, start_kind, div_kind, identifier_kind, simple_word, simple_at, simple_rule, simple_is, lacks_no, simple_unique, class_unique}
+use Rattle.tc_model.proofs.CompactSyntaxClassesUnique.{some_none, same_tail, keyword_kind, word_kind, kind_at, element_kind, attribute_kind, mixed_kind, start_kind, div_kind, identifier_kind, simple_word, simple_at, simple_rule, simple_is, lacks_no, simple_unique, class_unique}
 use Rattle.tc_model.proofs.CompactSyntaxUnique.{no_braces, balanced_unique, lacks_connector, same_connector, rule, primary_kind, item_unique, pattern_unique, operator_unique, definition_unique, definitions_unique, brace_kind, no_definition_at_brace, no_definition_at_end}
 use Rattle.tc_model.proofs.CompactSyntaxBehind.{item_with, pattern_with, definition_with, definitions_with}
 use Rattle.tc_model.proofs.CompactSyntaxUnread.{name_no_mark, unread_kind}
@@ -167,9 +165,15 @@ begins_kind (begins_not_allowed e) = omega (arith, ap word_kind e)
 begins_kind (begins_parenthesis e) = omega (arith, ap word_kind e)
 begins_kind {w} (begins_reference e) = omega (arith, identifier_kind w e)
 
-literal_kind : {w : Word} {s : List ℕ} → w ≡ literal s → word_kind w ≡ 9
+literal_kind : (w : Word) → u.is_literal w ≡ true → 9 ≤ word_kind w
 unfolding word_kind
-literal_kind e = ap word_kind e
+literal_kind (a_name n) h = absurd (false≢true h)
+literal_kind (escaped n) h = absurd (false≢true h)
+literal_kind (prefixed p n) h = absurd (false≢true h)
+literal_kind (all_of p) h = absurd (false≢true h)
+literal_kind (literal s) h = omega arith
+literal_kind (long_literal s) h = omega arith
+literal_kind (mark c) h = absurd (false≢true h)
 
 begins_none : {w : Word} → u.BeginsNoPattern w → BeginsPattern w → ⊥
 begins_none b (begins_element e) = b.no_element e
@@ -183,8 +187,8 @@ begins_none b (begins_reference e) = some_none e b.no_reference
 
 pub no_pattern_begins : {end : End} {t : Token} {ts : List Token} {r : Refusal} → BeginsPattern t.word → NoPattern end (t ∷ ts) r → ⊥
 no_pattern_begins {t = t} b (u.unread e) = omega (arith, begins_kind b, unread_kind t.word e)
-no_pattern_begins b (u.a_literal e l) = omega (arith, begins_kind b, literal_kind e)
-no_pattern_begins b (u.value e g) = omega (arith, begins_kind b, literal_kind e)
+no_pattern_begins {t = t} b (u.a_literal e l) = omega (arith, begins_kind b, literal_kind t.word e)
+no_pattern_begins {t = t} b (u.value e g) = omega (arith, begins_kind b, literal_kind t.word (ap u.is_literal e))
 no_pattern_begins b (u.none c x) = begins_none c b
 
 datum_unread : (w : Word) → p.is_datum w ≡ true → u.BeginsNoPattern w → ⊥
@@ -197,7 +201,8 @@ datum_unread (a_name q) h b = by (bytes_eq q (codes "string")) (bytes_eq q (code
 datum_unread (escaped q) h b = false≢true h
 datum_unread (prefixed q m) h b = some_none refl b.no_unread
 datum_unread (all_of q) h b = false≢true h
-datum_unread (literal q) h b = b.no_literal q refl
+datum_unread (literal q) h b = false≢true (sym b.no_literal)
+datum_unread (long_literal q) h b = false≢true h
 datum_unread (mark c) h b = false≢true h
 
 no_pattern_excludes : {end : End} {o : Bool} {scope : List Bound} {d m : ℕ} {ts after : List Token} {q : SyntaxPattern} {r : Refusal} → PrimaryAt o scope d ts q after → NoPattern end ts r

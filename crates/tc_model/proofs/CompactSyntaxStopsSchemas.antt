@@ -1,23 +1,23 @@
 -- Where the reading of a schema stops, there is no reading of it.
-use Rattle.std.proofs.Common.{◌≡◌, ◌⊎◌, inl, inr, ℕ, suc, ◌+◌, ◌≤◌, ◌<◌, Bool, true, false, List, [], ◌∷◌, refl, ap, ◌∙◌, sym, subst, length, arith, None, Some, codes}
+use Rattle.std.proofs.Common.{◌≡◌, ◌⊎◌, inl, inr, ℕ, ◌≤◌, ◌<◌, Bool, false, List, [], ◌∷◌, refl, ap, ◌∙◌, sym, subst, length, arith, Some, codes}
 use Rattle.std.proofs.lemmas.Bool.{false≢true}
 use Rattle.tc_model.specs.RawTrees.{Bound}
 use Rattle.tc_model.specs.XmlTextBytes.{Lacks, length_before}
-use Rattle.tc_model.specs.CompactSyntaxTrees.{SyntaxPattern, Joins, Definition}
-use Rattle.tc_model.specs.CompactSyntaxTokens.{Word, a_name, literal, mark, Token}
-use Rattle.tc_model.specs.CompactSyntaxNames.{IsWord, IsMark, identifier, identifier_or_keyword, IsLiteral, MayBind, DeclarationAt, namespace, default_namespace, both, datatypes, LacksMark}
+use Rattle.tc_model.specs.CompactSyntaxTrees.{SyntaxPattern, Definition}
+use Rattle.tc_model.specs.CompactSyntaxTokens.{literal, Token}
+use Rattle.tc_model.specs.CompactSyntaxNames.{IsWord, IsMark, identifier_or_keyword, IsLiteral, MayBind, DeclarationAt, namespace, default_namespace, both, datatypes}
 use Rattle.tc_model.specs.CompactSyntaxPatterns.{connector_at, suffix_at, PatternAt, ItemAt, PrimaryAt}
 use Rattle.tc_model.specs.CompactSyntaxPatterns as p
 use Rattle.tc_model.specs.CompactSyntax.{OperatorAt, DefinitionAt, DefinitionsAt, SchemaAt, declaration, one_pattern, definitions, grammar}
 use Rattle.tc_model.specs.CompactSyntax as s
-use Rattle.tc_model.specs.CompactSyntaxUnread.{Refusal, End, EscapeAt, in_text, in_literal, in_triple, escape_mark, TripleAt, triple, LiteralStops, escape_within, three_quotes, NoNamespaceName, inherit, concatenation}
+use Rattle.tc_model.specs.CompactSyntaxUnread.{Refusal, End, EscapeAt, in_text, in_literal, in_long_literal, escape_mark, LiteralStops, escape_within, three_quotes, NoNamespaceName, inherit, concatenation}
 use Rattle.tc_model.specs.CompactSyntaxUnread as u
-use Rattle.tc_model.specs.CompactSyntaxStops.{PatternStops, DefinitionsStop, BlockStops, UriStops, no_equals, no_namespace_name, PrefixStops, no_prefix, uri, DeclarationStops, namespace_prefix, namespace_bound, datatypes_prefix, default_word, default_uri, default_bound, both_prefix, both_bound, BeginsDefinitions, BeginsOnePattern, BlockAt, block, GoesOnAsPattern, SchemaStops, in_declaration, past_declaration, in_grammar, inner_grammar, past_grammar, in_definitions, past_definitions, in_pattern, past_pattern}
+use Rattle.tc_model.specs.CompactSyntaxStops.{BlockStops, UriStops, no_equals, no_namespace_name, PrefixStops, no_prefix, uri, DeclarationStops, namespace_prefix, namespace_bound, datatypes_prefix, default_word, default_uri, default_bound, both_prefix, both_bound, BeginsDefinitions, BeginsOnePattern, BlockAt, block, GoesOnAsPattern, SchemaStops, in_declaration, past_declaration, in_grammar, inner_grammar, past_grammar, in_definitions, past_definitions, in_pattern, past_pattern}
 use Rattle.tc_model.proofs.CompactSyntaxClassesUnique.{same_some, some_none, same_head, same_tail, keyword_kind, word_kind, kind_at, namespace_kind, default_kind, datatypes_kind, grammar_kind, start_kind, div_kind, identifier_kind, literal_unique, declares, declared_kind, declaration_kind, declaration_unique}
 use Rattle.tc_model.proofs.CompactSyntaxClassesUnique as q
 use Rattle.tc_model.proofs.CompactSyntaxUnique.{rule, primary_kind, defines, pattern_kind, pattern_unique, definitions_kind, definitions_unique, no_pattern_before_operator}
 use Rattle.tc_model.proofs.CompactSyntaxBehind.{pattern_with, definitions_with}
-use Rattle.tc_model.proofs.CompactSyntaxUnread.{mark_no_literal, name_no_literal, same_literal}
+use Rattle.tc_model.proofs.CompactSyntaxUnread.{mark_no_literal, name_no_literal, literal_no_long, same_literal}
 use Rattle.tc_model.proofs.CompactSyntaxStopsExclude.{Excluding, pattern_excludes, definitions_excludes, block_excludes, include_kind}
 
 pub declared_bounds : {scope within : List Bound} {ts rest : List Token} → DeclarationAt scope ts within rest → (13 ≤ kind_at ts) × (kind_at ts ≤ 15)
@@ -79,22 +79,19 @@ escape_excludes : {o : Bool} {within : List Bound} {w : Token} {after : List Tok
     → SchemaAt o within d after ds → ⊥
 escape_excludes (in_text a b c e f) l x m = mark_no_literal a l.word
 escape_excludes (in_literal a b) l x m = lacks_within (same_literal a l.word) b l.no_escape
-escape_excludes (in_triple a b e f) l x m = no_schema_at_literal e x m
-
-triple_excludes : {o : Bool} {within : List Bound} {d : ℕ} {w : Token} {after : List Token} {ds : List Definition} → TripleAt (w ∷ after) → o ≡ false → SchemaAt o within d after ds → ⊥
-triple_excludes (triple a b c) x m = no_schema_at_literal b x m
+escape_excludes (in_long_literal a b) l x m = literal_no_long l.word a
 
 literal_excludes : {o : Bool} {within : List Bound} {d k : ℕ} {w : Token} {after : List Token} {name : List ℕ} {ds : List Definition} {r : Refusal} → LiteralStops (w ∷ after) r → IsLiteral name w
     → SchemaAt o within d after ds → Excluding r k o d → ⊥
 literal_excludes (escape_within e) l m x = escape_excludes e l x.it m
-literal_excludes (three_quotes h t) l m x = triple_excludes t x.it m
+literal_excludes (three_quotes e h) l m x = literal_no_long l.word e
 
 name_excludes : {end : End} {i o : Bool} {within : List Bound} {d k : ℕ} {w : Token} {after : List Token} {name : List ℕ} {ds : List Definition} {r : Refusal} → NoNamespaceName end i (w ∷ after) r
     → IsLiteral name w → SchemaAt o within d after ds → Excluding r k o d → ⊥
 name_excludes (inherit h k) l m x = name_no_literal k l.word
 name_excludes (u.a_literal e y) l m x = literal_excludes y l m x
 name_excludes (concatenation e g k) l m x = no_schema_at_tilde k m
-name_excludes {name = v} (u.none h n y) l m x = h v l.word
+name_excludes (u.none h n y) l m x = false≢true (sym h ∙ ap u.is_literal l.word)
 
 uri_excludes : {end : End} {i o : Bool} {within : List Bound} {d k : ℕ} {v w : Token} {after : List Token} {name : List ℕ} {ds : List Definition} {r : Refusal} → UriStops end i (v ∷ w ∷ after) r
     → IsMark 0x3D v → IsLiteral name w → SchemaAt o within d after ds → Excluding r k o d → ⊥

@@ -1,11 +1,9 @@
 -- The reading of a schema stops at one place, for one reason.
-use Rattle.std.proofs.Common.{◌≡◌, ◌⊎◌, inl, inr, ℕ, suc, ◌≤◌, Bool, true, false, List, [], ◌∷◌, refl, ap, ◌∙◌, sym, subst, length, arith, None, Some, codes}
+use Rattle.std.proofs.Common.{◌≡◌, ◌⊎◌, inl, inr, ℕ, suc, ◌≤◌, Bool, List, ◌∷◌, refl, ap, ◌∙◌, sym, subst, arith, Some, codes}
 use Rattle.tc_model.specs.RawTrees.{Bound}
-use Rattle.tc_model.specs.CompactSyntaxTrees.{SyntaxClass, SyntaxPattern, Joins, Definition}
-use Rattle.tc_model.specs.CompactSyntaxTokens.{Word, Token}
-use Rattle.tc_model.specs.CompactSyntaxNames.{IsWord, IsMark, identifier, identifier_or_keyword, IsLiteral, LacksMark, DeclarationAt, namespace, default_namespace, both, datatypes, ClassAt, SimpleAt}
-use Rattle.tc_model.specs.CompactSyntaxPatterns.{Connector, connector_at, suffix_at, BalancedAt, PatternAt, ItemAt}
-use Rattle.tc_model.specs.CompactSyntax.{OperatorAt, DefinitionAt, DefinitionsAt}
+use Rattle.tc_model.specs.CompactSyntaxTokens.{Token}
+use Rattle.tc_model.specs.CompactSyntaxNames.{IsWord, IsMark, identifier_or_keyword, DeclarationAt, namespace, default_namespace, both, datatypes}
+use Rattle.tc_model.specs.CompactSyntaxPatterns.{Connector, connector_at, suffix_at}
 use Rattle.tc_model.specs.CompactSyntaxUnread.{Refusal, End, NoPattern, NoDefinition, include, NoNamespaceName}
 use Rattle.tc_model.specs.CompactSyntaxUnread as u
 use Rattle.tc_model.specs.CompactSyntaxStops as st
@@ -14,8 +12,8 @@ use Rattle.tc_model.proofs.CompactSyntaxClassesUnique.{same_some, some_none, sam
 use Rattle.tc_model.proofs.CompactSyntaxClassesUnique as q
 use Rattle.tc_model.proofs.CompactSyntaxUnique.{balanced_unique, same_connector, item_unique, pattern_unique, operator_unique, definition_unique, definitions_unique}
 use Rattle.tc_model.proofs.CompactSyntaxUnread.{unexpected_unique, unexpected_one, no_pattern_unique, no_definition_unique, no_namespace_name_unique}
-use Rattle.tc_model.proofs.CompactSyntaxStopsExclude.{excludes_same, simple_stops, simple_stops_at, class_excludes, simple_excludes, balanced_excludes, BeginsPattern, begins_element, begins_attribute, begins_mixed, begins_parenthesis, no_pattern_begins, primary_stops, primary_stops_at, item_excludes, pattern_excludes, include_kind, no_block_begins, definition_excludes, definitions_excludes}
-use Rattle.tc_model.proofs.CompactSyntaxStopsSchemas.{declared_bounds, declaration_stops, declaration_stops_at, declaration_stops_bounds, definitions_begin, not_between, block_unique, whole_block_excludes, no_more}
+use Rattle.tc_model.proofs.CompactSyntaxStopsExclude.{excludes_same, simple_stops, simple_stops_at, class_excludes, simple_excludes, balanced_excludes, begins_element, begins_attribute, begins_mixed, begins_parenthesis, no_pattern_begins, primary_stops, primary_stops_at, item_excludes, pattern_excludes, include_kind, no_block_begins, definition_excludes, definitions_excludes}
+use Rattle.tc_model.proofs.CompactSyntaxStopsSchemas.{declaration_stops, declaration_stops_at, definitions_begin, not_between, block_unique, whole_block_excludes}
 
 -- Name classes.
 

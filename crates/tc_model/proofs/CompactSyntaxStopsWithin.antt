@@ -1,5 +1,5 @@
 -- What is malformed is so at a token, or where the tokens end.
-use Rattle.std.proofs.Common.{◌≡◌, ◌⊎◌, inl, inr, ℕ, ◌≤◌, Bool, List, [], ◌∷◌, refl}
+use Rattle.std.proofs.Common.{◌≡◌, ◌⊎◌, inl, inr, ℕ, Bool, List, ◌∷◌, refl}
 use Rattle.tc_model.specs.RawTrees.{Bound}
 use Rattle.tc_model.specs.CompactSyntaxTokens.{Token}
 use Rattle.tc_model.specs.CompactSyntaxPatterns.{Connector}

@@ -1,14 +1,14 @@
 -- A text has one list of tokens.
 use Rattle.std.proofs.Common.{◌≡◌, ◌⊎◌, inl, inr, ℕ, ◌<◌, Bool, true, false, cond, ◌||◌, not, ◌==◌, List, [], ◌∷◌, ◌++◌, refl, ap, ◌∙◌, sym, subst, arith, length, append_assoc, length-append}
-use Rattle.std.specs.Prelude.{encode_utf8, encode_utf8_all}
+use Rattle.std.specs.Prelude.{take, drop, encode_utf8, encode_utf8_all}
 use Rattle.std.proofs.lemmas.Bool.{false≢true, eqb-true}
 use Rattle.std.proofs.lemmas.Str.{encode_same, encode_ascii, length-encode, len_utf8_bounds}
 use Rattle.tc_base.specs.Characters.{is_white}
 use Rattle.tc_model.specs.Names.{is_ncname_start}
-use Rattle.tc_model.specs.XmlTextBytes.{LiteralAt, place_of}
+use Rattle.tc_model.specs.XmlTextBytes.{IsQuote, length_before, place_of}
 use Rattle.tc_model.specs.XmlTextNames.{NcNameAt}
-use Rattle.tc_model.specs.CompactSyntaxTokens.{Word, a_name, escaped, prefixed, all_of, literal, mark, Token, EndsName, is_mark, WordAt, plain_name, prefixed_name, namespace_name, escaped_name, quoted, backslash, other, after_line, TokensAt, at_end, white, comment, token}
-use Rattle.tc_model.proofs.XmlTextPhrases.{same_others, literal_unique, ncname_unique, no_name}
+use Rattle.tc_model.specs.CompactSyntaxTokens.{Word, a_name, escaped, prefixed, all_of, literal, long_literal, mark, Token, three, LongLiteralAt, EndsName, is_mark, WordAt, plain_name, prefixed_name, namespace_name, escaped_name, quoted, quoted_long, backslash, other, after_line, TokensAt, at_end, white, comment, token}
+use Rattle.tc_model.proofs.XmlTextPhrases.{same_first, same_others, literal_unique, ncname_unique, no_name}
 
 -- what begins with this character: 1 a name, 2 white space, 3 a literal, 4 a comment, 5 a backslash, 6 a mark
 unfoldable pub other_kind : ℕ → ℕ
@@ -72,13 +72,20 @@ name_begins {bs} {n} {r} a =
 at_byte : {k : ℕ} {bs rest : List ℕ} (b : ℕ) → b < 128 → kind b ≡ k → bs ≡ b ∷ rest → BeginsAs k bs
 at_byte {k} b small e is = subst (BeginsAs k) (sym is) (byte_begins b small e)
 
-literal_begins : {bs s r : List ℕ} → LiteralAt bs s r → BeginsAs 3 bs
+quote_begins : {bs : List ℕ} (q : ℕ) (rest : List ℕ) → IsQuote q → bs ≡ q ∷ rest → BeginsAs 3 bs
 unfolding kind other_kind
-literal_begins {bs} a = by a.is_quote
-  where
-    by : (a.quote ≡ 0x22) ⊎ (a.quote ≡ 0x27) → BeginsAs 3 bs
-    by (inl e) = at_byte 0x22 (omega arith) refl (a.opens ∙ ap (λ q. q ∷ a.rest) e)
-    by (inr e) = at_byte 0x27 (omega arith) refl (a.opens ∙ ap (λ q. q ∷ a.rest) e)
+quote_begins q rest (inl e) is = at_byte 0x22 (omega arith) refl (is ∙ ap (λ q. q ∷ rest) e)
+quote_begins q rest (inr e) is = at_byte 0x27 (omega arith) refl (is ∙ ap (λ q. q ∷ rest) e)
+
+-- a text has one literal in three quotes at its front
+long_literal_unique : {bs v r w s : List ℕ} → LongLiteralAt bs v r → LongLiteralAt bs w s → (v ≡ w) × (r ≡ s)
+long_literal_unique {v = v} {r = r} {w = w} {s = s} a b =
+    let same = sym a.opens ∙ b.opens in
+    let quotes = same_first same in
+    let rests = same_others (same_others (same_others same)) in
+    let front : (q : ℕ) (rest : List ℕ) → List ℕ = λ q rest. take (length_before (three q) rest) rest in
+    let back : (q : ℕ) (rest : List ℕ) → List ℕ = λ q rest. drop 3 (drop (length_before (three q) rest) rest) in
+    (a.front ∙ (ap (λ q. front q a.rest) quotes ∙ (ap (front b.quote) rests ∙ sym b.front)), a.back ∙ (ap (λ q. back q a.rest) quotes ∙ (ap (back b.quote) rests ∙ sym b.back)))
 
 -- the kind of a word by its rule
 pub rule : {bs r : List ℕ} {w : Word} → WordAt bs w r → ℕ
@@ -86,7 +93,8 @@ rule (plain_name a e) = 1
 rule (prefixed_name a b) = 1
 rule (namespace_name a) = 1
 rule (escaped_name a) = 5
-rule (quoted a e) = 3
+rule (quoted a e n) = 3
+rule (quoted_long a) = 3
 rule (backslash h) = 5
 rule (other e h) = 6
 
@@ -96,7 +104,8 @@ word_begins (plain_name a e) = name_begins a
 word_begins (prefixed_name a b) = name_begins a
 word_begins (namespace_name a) = name_begins a
 word_begins (escaped_name a) = at_byte 0x5C (omega arith) refl a.opens
-word_begins (quoted a e) = literal_begins a
+word_begins (quoted a e n) = quote_begins a.quote a.rest a.is_quote a.opens
+word_begins (quoted_long a) = quote_begins a.quote (a.quote ∷ a.quote ∷ a.rest) a.is_quote a.opens
 word_begins (backslash h) = byte_begins 0x5C (omega arith) refl
 word_begins (other {c = c} {after = r} e h) = record { first = c; after = r; parts = e; is = mark_is c h }
 
@@ -113,8 +122,10 @@ no_word {k} is b a = by a (same_kind b (word_begins a)) is
     by (namespace_name a) s (inr i) = omega (arith, s, i)
     by (escaped_name a) s (inl i) = omega (arith, s, i)
     by (escaped_name a) s (inr i) = omega (arith, s, i)
-    by (quoted a e) s (inl i) = omega (arith, s, i)
-    by (quoted a e) s (inr i) = omega (arith, s, i)
+    by (quoted a e n) s (inl i) = omega (arith, s, i)
+    by (quoted a e n) s (inr i) = omega (arith, s, i)
+    by (quoted_long a) s (inl i) = omega (arith, s, i)
+    by (quoted_long a) s (inr i) = omega (arith, s, i)
     by (backslash h) s (inl i) = omega (arith, s, i)
     by (backslash h) s (inr i) = omega (arith, s, i)
     by (other e h) s (inl i) = omega (arith, s, i)
@@ -148,7 +159,10 @@ word_unique {s = s} (escaped_name a) (escaped_name {name = m} b) =
 word_unique {r = r} (escaped_name {name = n} a) (backslash h) = absurd (h n r a)
 word_unique {s = s} (backslash h) (escaped_name {name = n} a) = absurd (h n s a)
 word_unique (backslash h) (backslash k) = (refl, refl)
-word_unique (quoted a e) (quoted b f) = let both = literal_unique a b in (ap literal both.0, both.1)
+word_unique (quoted a e n) (quoted b f m) = let both = literal_unique a b in (ap literal both.0, both.1)
+word_unique (quoted a e n) (quoted_long {value = v} {after = r} b) = absurd (n v r b)
+word_unique (quoted_long {value = v} {after = r} b) (quoted a e n) = absurd (n v r b)
+word_unique (quoted_long a) (quoted_long b) = let both = long_literal_unique a b in (ap long_literal both.0, both.1)
 word_unique {r = r} {s = s} (other {c = c} e h) (other {c = d} f k) = let both = encode_same c d r s (sym e ∙ f) in (ap mark both.0, both.1)
 word_unique a b = absurd (omega (arith, same_kind (word_begins a) (word_begins b)))
 

@@ -2,11 +2,11 @@
 -- CName, nsName, literal). Every character for which some phrase asks is ASCII, so no byte of a
 -- longer character is ever taken for one. A relation `PhraseAt bs value after` says that this phrase stands at the front of the
 -- bytes, what it means, and what follows it.
-use Rattle.std.specs.Prelude.{◌≡◌, ℕ, Bool, ◌||◌, not, ◌==◌, List, [], ◌∷◌, ◌++◌, drop, IsTrue, codes, encode_utf8}
+use Rattle.std.specs.Prelude.{◌≡◌, ℕ, Bool, ◌||◌, not, ◌==◌, List, [], ◌∷◌, ◌++◌, take, drop, IsTrue, codes, encode_utf8}
 use Rattle.std.specs.List.{prefix_len, list_all}
 use Rattle.tc_base.specs.Characters.{is_white}
 use Rattle.tc_model.specs.Names.{is_ncname_start}
-use Rattle.tc_model.specs.XmlTextBytes.{place_of, LiteralAt}
+use Rattle.tc_model.specs.XmlTextBytes.{place_of, length_before, IsQuote, LiteralAt}
 use Rattle.tc_model.specs.XmlTextNames.{NcNameAt}
 
 pub data Word : Type 0 where
@@ -19,6 +19,8 @@ pub data Word : Type 0 where
   -- `p:*`
   all_of : List ℕ → Word
   literal : List ℕ → Word
+  -- a literal in three quotes
+  long_literal : List ℕ → Word
   -- a character that stands for itself
   mark : ℕ → Word
 
@@ -45,6 +47,19 @@ pub record EscapedAt (bs name after : List ℕ) : Type 0 where
   pub names : NcNameAt rest name after
   pub no_escape : name ≡ codes "x" → (r : List ℕ) → after ≡ 0x7B ∷ r → ⊥
 
+abbrev pub three : ℕ → List ℕ
+three quote = quote ∷ quote ∷ quote ∷ []
+
+-- A literal in three quotes of one kind, which may go over lines, up to the next three such quotes. One that isn't closed goes on to the
+-- end of the text.
+pub record LongLiteralAt (bs value after : List ℕ) : Type 0 where
+  pub quote : ℕ
+  pub rest : List ℕ
+  pub is_quote : IsQuote quote
+  pub opens : bs ≡ three quote ++ rest
+  pub front : value ≡ take (length_before (three quote) rest) rest
+  pub back : after ≡ drop 3 (drop (length_before (three quote) rest) rest)
+
 -- neither a name, white space, a comment, a literal nor a backslash begins with this character
 abbrev pub is_mark : ℕ → Bool
 is_mark c = not (is_ncname_start c || is_white c || c == 0x22 || c == 0x23 || c == 0x27 || c == 0x5C)
@@ -55,8 +70,11 @@ pub data WordAt : List ℕ → Word → List ℕ → Type 0 where
   prefixed_name : {bs prefix rest name after : List ℕ} → NcNameAt bs prefix (0x3A ∷ rest) → NcNameAt rest name after → WordAt bs (prefixed prefix name) after
   namespace_name : {bs prefix after : List ℕ} → NcNameAt bs prefix (0x3A ∷ 0x2A ∷ after) → WordAt bs (all_of prefix) after
   escaped_name : {bs name after : List ℕ} → EscapedAt bs name after → WordAt bs (escaped name) after
-  -- on one line, between single quotes; three of them, which begin a longer literal, are this project's to refuse
-  quoted : {bs value after : List ℕ} → LiteralAt bs value after → IsTrue (list_all (λ b. not (is_line_end b)) value) → WordAt bs (literal value) after
+  -- between single quotes, on one line
+  quoted : {bs value after : List ℕ} → LiteralAt bs value after → IsTrue (list_all (λ b. not (is_line_end b)) value)
+      → ((v r : List ℕ) → LongLiteralAt bs v r → ⊥) → WordAt bs (literal value) after
+  -- between three quotes, which are this project's to refuse
+  quoted_long : {bs value after : List ℕ} → LongLiteralAt bs value after → WordAt bs (long_literal value) after
   backslash : {after : List ℕ} → ((n r : List ℕ) → EscapedAt (0x5C ∷ after) n r → ⊥) → WordAt (0x5C ∷ after) (mark 0x5C) after
   other : {c : ℕ} {bs after : List ℕ} → bs ≡ encode_utf8 c ++ after → IsTrue (is_mark c) → WordAt bs (mark c) after
 

@@ -1,10 +1,10 @@
 -- What of the compact syntax isn't read, and what is refused where nothing that is read stands (OASIS, RELAX NG Compact Syntax, 2002, and
 -- ISO/IEC 19757-2, Annex C). Which of its constructs are read is this project's choice.
-use Rattle.std.specs.Prelude.{◌≡◌, ◌≢◌, ℕ, ◌+◌, ◌<◌, Bool, List, [], ◌∷◌, Option, None, Some, IsTrue, length, bytes_eq, codes, if◌then◌else◌}
+use Rattle.std.specs.Prelude.{◌≡◌, ◌≢◌, ℕ, ◌+◌, ◌<◌, Bool, true, false, List, [], ◌∷◌, Option, None, Some, IsTrue, length, bytes_eq, codes, if◌then◌else◌}
 use Rattle.tc_base.specs.declared.reasons.Why.{Why}
 use Rattle.tc_base.specs.declared.reasons.Why.TheVariants.{N6, N7, N8, N9, N10, N11, N12, N13, N14, N15, N16, N17}
 use Rattle.tc_model.specs.XmlTextBytes.{length_before}
-use Rattle.tc_model.specs.CompactSyntaxTokens.{Word, a_name, prefixed, literal, mark, Token}
+use Rattle.tc_model.specs.CompactSyntaxTokens.{Word, a_name, prefixed, literal, long_literal, mark, Token}
 use Rattle.tc_model.specs.CompactSyntaxNames.{IsWord, IsMark, identifier}
 
 -- why the reading of a schema stops, and where
@@ -24,23 +24,17 @@ pub record End : Type 0 where
 abbrev pub escape_mark : List ℕ
 escape_mark = 0x5C ∷ 0x78 ∷ 0x7B ∷ []
 
--- The escape of a character begins at this place: as the next tokens, or within the next literal. Of a literal in three quotes the first
--- two are an empty literal, and the third begins another one.
+-- the escape of a character begins at this place: as the next tokens, or within the next literal
 pub data EscapeAt : List Token → ℕ → Type 0 where
   in_text : {t u v : Token} {after : List Token} → IsMark 0x5C t → IsWord (codes "x") u → IsMark 0x7B v → u.place ≡ t.place + 1 → v.place ≡ u.place + 1
       → EscapeAt (t ∷ u ∷ v ∷ after) t.place
   in_literal : {t : Token} {after : List Token} {value : List ℕ} → t.word ≡ literal value → length_before escape_mark value < length value
       → EscapeAt (t ∷ after) (t.place + 1 + length_before escape_mark value)
-  in_triple : {t u : Token} {after : List Token} {value : List ℕ} → t.word ≡ literal [] → u.place ≡ t.place + 2 → u.word ≡ literal value
-      → length_before escape_mark value < length value → EscapeAt (t ∷ u ∷ after) (u.place + 1 + length_before escape_mark value)
+  in_long_literal : {t : Token} {after : List Token} {value : List ℕ} → t.word ≡ long_literal value → length_before escape_mark value < length value
+      → EscapeAt (t ∷ after) (t.place + 3 + length_before escape_mark value)
 
 abbrev pub NoEscape : List Token → Type 0
 NoEscape tokens = (place : ℕ) → EscapeAt tokens place → ⊥
-
--- an empty literal, and directly after it another one: the quotes stand three together
-pub data TripleAt : List Token → Type 0 where
-  triple : {t u : Token} {after : List Token} {value : List ℕ} → t.word ≡ literal [] → u.word ≡ literal value → u.place ≡ t.place + 2
-      → TripleAt (t ∷ u ∷ after)
 
 -- an annotation begins: `[`, or `>>` without anything between
 pub data AnnotationAt : List Token → Type 0 where
@@ -55,13 +49,15 @@ pub data Unexpected (end : End) : List Token → Refusal → Type 0 where
   unclosed : {place : ℕ} → end.escape ≡ Some place → Unexpected end [] (unsupported N15 place)
   at_end : end.escape ≡ None → Unexpected end [] (malformed end.place)
 
+abbrev pub is_literal : Word → Bool
+is_literal (literal s) = true
+is_literal (long_literal s) = true
+is_literal _ = false
+
 -- the literal at the front isn't read wherever it stands: it holds the escape of a character, or stands in three quotes
 pub data LiteralStops : List Token → Refusal → Type 0 where
   escape_within : {t : Token} {after : List Token} {place : ℕ} → EscapeAt (t ∷ after) place → LiteralStops (t ∷ after) (unsupported N15 place)
-  three_quotes : {t : Token} {after : List Token} → NoEscape (t ∷ after) → TripleAt (t ∷ after) → LiteralStops (t ∷ after) (unsupported N16 t.place)
-
-abbrev pub LiteralGoesOn : List Token → Type 0
-LiteralGoesOn tokens = NoEscape tokens × (TripleAt tokens → ⊥)
+  three_quotes : {t : Token} {after : List Token} {s : List ℕ} → t.word ≡ long_literal s → NoEscape (t ∷ after) → LiteralStops (t ∷ after) (unsupported N16 t.place)
 
 -- the reason why a pattern that begins with this word isn't read, if there is one: it is a datatype's name, or a keyword of such a pattern
 abbrev pub unread_keyword : List ℕ → Option Why
@@ -85,14 +81,14 @@ pub record BeginsNoPattern (w : Word) : Type 0 where
   pub no_not_allowed : w ≢ a_name (codes "notAllowed")
   pub no_parenthesis : w ≢ mark 0x28
   pub no_reference : identifier w ≡ None
-  pub no_literal : (s : List ℕ) → w ≢ literal s
+  pub no_literal : is_literal w ≡ false
   pub no_unread : unread_pattern w ≡ None
 
 -- where a pattern should begin, none that is read does
 pub data NoPattern (end : End) : List Token → Refusal → Type 0 where
   unread : {t : Token} {after : List Token} {why : Why} → unread_pattern t.word ≡ Some why → NoPattern end (t ∷ after) (unsupported why t.place)
-  a_literal : {t : Token} {after : List Token} {s : List ℕ} {r : Refusal} → t.word ≡ literal s → LiteralStops (t ∷ after) r → NoPattern end (t ∷ after) r
-  value : {t : Token} {after : List Token} {s : List ℕ} → t.word ≡ literal s → LiteralGoesOn (t ∷ after) → NoPattern end (t ∷ after) (unsupported N7 t.place)
+  a_literal : {t : Token} {after : List Token} {r : Refusal} → IsTrue (is_literal t.word) → LiteralStops (t ∷ after) r → NoPattern end (t ∷ after) r
+  value : {t : Token} {after : List Token} {s : List ℕ} → t.word ≡ literal s → NoEscape (t ∷ after) → NoPattern end (t ∷ after) (unsupported N7 t.place)
   none : {t : Token} {after : List Token} {r : Refusal} → BeginsNoPattern t.word → Unexpected end (t ∷ after) r → NoPattern end (t ∷ after) r
   no_token : {r : Refusal} → Unexpected end [] r → NoPattern end [] r
 
@@ -112,10 +108,10 @@ pub data NoDefinition (end : End) : List Token → Refusal → Type 0 where
 -- where a namespace name should stand, none that is read does; one may be inherited where `inherits` says so
 pub data NoNamespaceName (end : End) (inherits : Bool) : List Token → Refusal → Type 0 where
   inherit : {t : Token} {after : List Token} → IsTrue inherits → IsWord (codes "inherit") t → NoNamespaceName end inherits (t ∷ after) (unsupported N13 t.place)
-  a_literal : {t : Token} {after : List Token} {s : List ℕ} {r : Refusal} → t.word ≡ literal s → LiteralStops (t ∷ after) r
+  a_literal : {t : Token} {after : List Token} {r : Refusal} → IsTrue (is_literal t.word) → LiteralStops (t ∷ after) r
       → NoNamespaceName end inherits (t ∷ after) r
-  concatenation : {t u : Token} {after : List Token} {s : List ℕ} → t.word ≡ literal s → LiteralGoesOn (t ∷ u ∷ after) → IsMark 0x7E u
+  concatenation : {t u : Token} {after : List Token} {s : List ℕ} → t.word ≡ literal s → NoEscape (t ∷ u ∷ after) → IsMark 0x7E u
       → NoNamespaceName end inherits (t ∷ u ∷ after) (unsupported N17 u.place)
-  none : {t : Token} {after : List Token} {r : Refusal} → ((s : List ℕ) → t.word ≢ literal s) → (IsTrue inherits → IsWord (codes "inherit") t → ⊥)
+  none : {t : Token} {after : List Token} {r : Refusal} → is_literal t.word ≡ false → (IsTrue inherits → IsWord (codes "inherit") t → ⊥)
       → Unexpected end (t ∷ after) r → NoNamespaceName end inherits (t ∷ after) r
   no_token : {r : Refusal} → Unexpected end [] r → NoNamespaceName end inherits [] r

@@ -2,3 +2,4 @@ pub mod Exits
 pub mod OtherEntities
 mod TextFaults
 mod RefusedTexts
+pub mod SchemaReasons

@@ -1,5 +1,5 @@
 -- The faults of a text that is that of a raw tree.
-use Rattle.std.proofs.Common.{◌≡◌, inl, inr, refl, ℕ, List, Result, Ok, Err, IfErr, subst}
+use Rattle.std.proofs.Common.{inl, inr, refl, ℕ, List, subst}
 use Rattle.tc_model.specs.RawTrees.{RawTrees}
 use Rattle.tc_model.specs.XmlText.{XmlText}
 use Rattle.tc_model.proofs.XmlTextTrees.{one_raw_tree}

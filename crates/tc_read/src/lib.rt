@@ -8,5 +8,5 @@ mod sheets;
 
 pub use documents::read_document;
 pub use faults::{Reason, TextFault};
-pub use schemas::{Schema, read_schema};
+pub use schemas::{Schema, law_of_schemas, read_schema};
 pub use sheets::read_sheet;

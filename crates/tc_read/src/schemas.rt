@@ -5,6 +5,7 @@ ghost use Rattle.tc_model.specs.CompactSyntax.{CompactSyntax};
 ghost use Rattle.tc_model.specs.CompactSyntaxTrees as t;
 ghost use Rattle.tc_read.specs.Faults.{IsUnaccepted};
 ghost use Rattle.tc_read.specs.Refusals.{IsRefusedSchema};
+ghost use Rattle.tc_read.specs.SchemaLaws.{HasGrammarOrReason, HasNoGrammar, HasOneReason};
 ghost use Rattle.tc_read.specs.Schemas.{IsSchemaOf};
 ghost use Rattle.tc_simple.specs.Refused as simple;
 
@@ -57,3 +58,10 @@ fn of_fault<'b>(fault: SimpleFault) -> Result<Schema<'b>, TextFault>
         SimpleFault::NoMemory => Err(TextFault::NoMemory),
     }
 }
+
+/// Laws of the texts of schemas: each has a grammar or is refused, not both, and for one reason, at one place.
+pub fn law_of_schemas()
+    ensures one { HasOneReason }
+    ensures none { HasNoGrammar }
+    ensures some { HasGrammarOrReason }
+{}

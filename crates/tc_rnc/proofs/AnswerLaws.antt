@@ -1,19 +1,18 @@
 -- From where the reading of the tokens stops to the refusal of the text.
-use Rattle.std.proofs.Common.{◌≡◌, ◌≤◌, ℕ, Bool, true, false, List, [], refl, ap, sym, subst, length, arith}
+use Rattle.std.proofs.Common.{◌≡◌, ℕ, Bool, true, false, List, [], refl, ap, sym, subst, length, arith}
 use Rattle.tc_model.specs.Views.{place}
 use Rattle.tc_model.specs.Names.{IsChars}
 use Rattle.tc_model.specs.XmlText.{after_mark}
 use Rattle.tc_model.specs.XmlTextScopes.{first_scope}
 use Rattle.tc_model.specs.CompactSyntaxTrees.{Definition, Syntax}
 use Rattle.tc_model.specs.CompactSyntaxTokens.{Token, TokensAt}
-use Rattle.tc_model.specs.CompactSyntax.{SchemaAt, Spells, CompactSyntax, deepest_nesting}
+use Rattle.tc_model.specs.CompactSyntax.{SchemaAt, CompactSyntax, deepest_nesting}
 use Rattle.tc_model.specs.CompactSyntaxUnread.{Refusal, Unexpected}
 use Rattle.tc_model.specs.CompactSyntaxUnread as m
 use Rattle.tc_model.specs.CompactSyntaxStops.{SchemaStops}
 use Rattle.tc_model.specs.CompactSyntaxRefused.{IsRefused, in_tokens, past_tokens}
 use Rattle.tc_model.proofs.CompactSyntaxRefused.{no_syntax}
 use Rattle.tc_rnc.specs.declared.faults.RncFault.{RncFault}
-use Rattle.tc_rnc.specs.declared.faults.RncFault.TheVariants.{Malformed, Unsupported, TooDeep, NoMemory}
 use Rattle.tc_rnc.specs.declared.tokens.End.{End}
 use Rattle.tc_rnc.specs.Refusals.{Refuses, malformed, unsupported, too_deep, no_memory}
 use Rattle.tc_rnc.specs.Lexed.{Lexed}

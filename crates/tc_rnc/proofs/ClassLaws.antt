@@ -4,8 +4,8 @@ use Rattle.tc_model.specs.Names.{ExpandedName}
 use Rattle.tc_model.specs.RawTrees.{Bound}
 use Rattle.tc_model.specs.XmlTextScopes.{uri_of}
 use Rattle.tc_model.specs.CompactSyntaxTrees.{SyntaxClass, of_name, of_namespace, any_name, one_of, SyntaxClasses, no_class, class}
-use Rattle.tc_model.specs.CompactSyntaxTokens.{Word, all_of, mark, Token}
-use Rattle.tc_model.specs.CompactSyntaxNames.{IsMark, name_in, LacksMark, ClassAt, alone, several, ClassesAt, last, more, SimpleAt, name, whole_namespace, any, parentheses, ExceptAt, nothing, except}
+use Rattle.tc_model.specs.CompactSyntaxTokens.{all_of, Token}
+use Rattle.tc_model.specs.CompactSyntaxNames.{IsMark, name_in, LacksMark, ClassAt, several, ClassesAt, last, more, SimpleAt, name, whole_namespace, any, parentheses, ExceptAt, except}
 use Rattle.tc_model.specs.CompactSyntaxUnread.{Refusal, too_deep, End, Unexpected}
 use Rattle.tc_model.specs.CompactSyntaxStops as st
 use Rattle.tc_model.specs.CompactSyntaxStops.{ClassStops, SimpleStops, BeginsNoClass}

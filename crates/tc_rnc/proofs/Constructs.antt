@@ -1,15 +1,16 @@
 -- What stands where nothing that is read may.
-use Rattle.std.proofs.Common.{◌≡◌, ℕ, List, [], ◌∷◌, refl, sym, subst, None, Some, codes}
+use Rattle.std.proofs.Common.{◌≡◌, ℕ, Bool, true, false, List, [], ◌∷◌, refl, ap, ◌∙◌, sym, subst, length, arith, None, Some, codes}
+use Rattle.std.proofs.lemmas.Bool.{false≢true}
 use Rattle.tc_base.specs.declared.reasons.Why.{Why}
 use Rattle.tc_base.specs.declared.reasons.Why.TheVariants.{N7, N10, N15, N16}
-use Rattle.tc_model.specs.CompactSyntaxTokens.{Word, literal, Token}
+use Rattle.tc_model.specs.CompactSyntaxTokens.{Word, a_name, escaped, prefixed, all_of, literal, long_literal, mark, Token}
 use Rattle.tc_model.specs.CompactSyntaxNames.{IsWord, IsMark}
-use Rattle.tc_model.specs.CompactSyntaxUnread.{Refusal, unsupported, End, EscapeAt, NoEscape, TripleAt, triple, AnnotationAt, bracket, two_signs, Unexpected, LiteralStops, escape_within, three_quotes, LiteralGoesOn, unread_pattern, BeginsNoPattern, NoPattern, unread, value, no_token, BeginsNoDefinition, NoDefinition, include}
+use Rattle.tc_model.specs.CompactSyntaxUnread.{Refusal, unsupported, End, EscapeAt, NoEscape, AnnotationAt, bracket, two_signs, Unexpected, LiteralStops, escape_within, three_quotes, is_literal, unread_pattern, BeginsNoPattern, NoPattern, unread, value, no_token, BeginsNoDefinition, NoDefinition, include}
 use Rattle.tc_model.specs.CompactSyntaxUnread as u
 use Rattle.tc_rnc.specs.Connectors.{BeginsNone, BeginsNoneRead}
-use Rattle.tc_rnc.specs.Escapes.{IsTripleWith, IsTriple, IsTwoSigns}
+use Rattle.tc_rnc.specs.Escapes.{IsTwoSigns, StopsAtLiteral, ReadsLiteral}
 use Rattle.tc_rnc.specs.Blocks.{DefinesNothing, IsEndOfDefinitions, IsFirst}
-use Rattle.tc_rnc.proofs.Escapes.{no_escape_in_none}
+use Rattle.tc_model.proofs.CompactSyntaxClassesUnique.{same_head}
 
 -- `>>` with what follows it
 pub signs : {t : Token} {ts : List Token} → IsTwoSigns t ts → AnnotationAt (t ∷ ts)
@@ -25,22 +26,7 @@ pub ruleset annotations = (bracket, signs, no_annotation)
 pub unexpected_first : {end : End} {t : Token} {ts us : List Token} {r : Refusal} → us ≡ t ∷ ts → Unexpected end (t ∷ ts) r → Unexpected end us r
 unexpected_first {end} {r = r} e h = subst (λ w. Unexpected end w r) (sym e) h
 
-pub a_triple : {t v : Token} {ts us : List Token} → us ≡ t ∷ ts → IsTripleWith v t ts → TripleAt us
-a_triple {t} e k = subst TripleAt (sym e) (subst (λ w. TripleAt (t ∷ w)) (sym k.parts) (triple k.is_empty k.is_literal k.follows))
-
-pub no_triple : {t : Token} {ts us : List Token} → us ≡ t ∷ ts → (IsTriple t ts → ⊥) → TripleAt us → ⊥
-no_triple {t} {ts} e h k = by h (subst TripleAt e k)
-  where
-    by : {ts : List Token} → (IsTriple t ts → ⊥) → TripleAt (t ∷ ts) → ⊥
-    by h (triple {u = v} {after = after} {value = s} a b c) = h (v, record { after = after; value = s; parts = refl; is_empty = a; is_literal = b; follows = c })
-
-pub no_triple_in_none : {us : List Token} → us ≡ [] → TripleAt us → ⊥
-no_triple_in_none e k = by (subst TripleAt e k)
-  where
-    by : TripleAt [] → ⊥
-    by k = elim k [ ]
-
-pub none_begins : {t : Token} {ts us : List Token} → us ≡ t ∷ ts → BeginsNoneRead us → unread_pattern t.word ≡ None → ((s : List ℕ) → t.word ≡ literal s → ⊥) → BeginsNoPattern t.word
+pub none_begins : {t : Token} {ts us : List Token} → us ≡ t ∷ ts → BeginsNoneRead us → unread_pattern t.word ≡ None → is_literal t.word ≡ false → BeginsNoPattern t.word
 none_begins {t} e b n l = let h : BeginsNone t.word = subst BeginsNoneRead e b in record {
   no_element = h.no_element;
   no_attribute = h.no_attribute;
@@ -58,11 +44,23 @@ none_begins {t} e b n l = let h : BeginsNone t.word = subst BeginsNoneRead e b i
 pub unread_first : {end : End} {t : Token} {ts us : List Token} {why : Why} → us ≡ t ∷ ts → unread_pattern t.word ≡ Some why → NoPattern end us (unsupported why t.place)
 unread_first {end} {t} {why = why} e h = subst (λ z. NoPattern end z (unsupported why t.place)) (sym e) (unread h)
 
-pub literal_first : {end : End} {t : Token} {ts us : List Token} {s : List ℕ} {r : Refusal} → us ≡ t ∷ ts → t.word ≡ literal s → LiteralStops us r → NoPattern end us r
-literal_first {end} {r = r} e k y = subst (λ z. NoPattern end z r) (sym e) (u.a_literal k (subst (λ z. LiteralStops z r) e y))
+pub literal_first : {end : End} {us : List Token} {r : Refusal} → StopsAtLiteral us r → NoPattern end us r
+literal_first {end} {r = r} h = subst (λ z. NoPattern end z r) (sym h.parts) (u.a_literal h.a_literal h.stops)
 
-pub value_first : {end : End} {t : Token} {ts us : List Token} {s : List ℕ} → us ≡ t ∷ ts → t.word ≡ literal s → LiteralGoesOn us → NoPattern end us (unsupported N7 t.place)
-value_first {end} {t} e k g = subst (λ z. NoPattern end z (unsupported N7 t.place)) (sym e) (value k (subst LiteralGoesOn e g))
+-- a literal in single quotes that is read
+pub read_literal : {t : Token} {ts us : List Token} {s : List ℕ} → us ≡ t ∷ ts → ReadsLiteral us → t.word ≡ literal s → NoEscape us
+read_literal {t} {ts} e h k = subst NoEscape (sym e) (h t ts e (ap is_literal k)).no_escape
+
+-- no literal stands there
+pub no_literal_at : {t : Token} {ts us : List Token} → us ≡ t ∷ ts → ReadsLiteral us → ((s : List ℕ) → t.word ≡ literal s → ⊥) → is_literal t.word ≡ false
+no_literal_at {t} {ts} {us} e h k = by (is_literal t.word) refl
+  where
+    by : (x : Bool) → is_literal t.word ≡ x → x ≡ false
+    by true f = let one = h t ts e f in absurd (k one.value one.word)
+    by false f = refl
+
+pub value_first : {end : End} {t : Token} {ts us : List Token} {s : List ℕ} → us ≡ t ∷ ts → ReadsLiteral us → t.word ≡ literal s → NoPattern end us (unsupported N7 t.place)
+value_first {end} {t} e h k = subst (λ z. NoPattern end z (unsupported N7 t.place)) (sym e) (value k (subst NoEscape e (read_literal e h k)))
 
 pub none_first : {end : End} {t : Token} {ts us : List Token} {r : Refusal} → us ≡ t ∷ ts → BeginsNoPattern t.word → Unexpected end us r → NoPattern end us r
 none_first {end} {r = r} e b y = subst (λ z. NoPattern end z r) (sym e) (u.none b (subst (λ z. Unexpected end z r) e y))
@@ -71,14 +69,31 @@ pub ended_first : {end : End} {us : List Token} {r : Refusal} → us ≡ [] → 
 ended_first {end} {r = r} e y = subst (λ z. NoPattern end z r) (sym e) (no_token (subst (λ z. Unexpected end z r) e y))
 
 -- a literal that isn't read wherever it stands
-pub escape_stops : {t : Token} {ts us : List Token} {p : ℕ} → us ≡ t ∷ ts → EscapeAt us p → LiteralStops us (unsupported N15 p)
-escape_stops {p = p} e h = subst (λ z. LiteralStops z (unsupported N15 p)) (sym e) (escape_within (subst (λ z. EscapeAt z p) e h))
+pub escape_stops : {t : Token} {ts us : List Token} {p : ℕ} → us ≡ t ∷ ts → is_literal t.word ≡ true → EscapeAt us p → StopsAtLiteral us (unsupported N15 p)
+escape_stops {t} {ts} {p = p} e k h = record { first = t; after = ts; parts = e; a_literal = k; stops = escape_within (subst (λ z. EscapeAt z p) e h) }
 
-pub three_stop : {t v : Token} {ts us : List Token} → us ≡ t ∷ ts → NoEscape us → IsTripleWith v t ts → LiteralStops us (unsupported N16 t.place)
-three_stop {t} e h k = subst (λ z. LiteralStops z (unsupported N16 t.place)) (sym e) (three_quotes (subst NoEscape e h) (subst TripleAt e (a_triple e k)))
+long_word : (w : Word) → is_literal w ≡ true → ((s : List ℕ) → w ≡ literal s → ⊥) → (s : List ℕ) × (w ≡ long_literal s)
+long_word (a_name n) h k = absurd (false≢true h)
+long_word (escaped n) h k = absurd (false≢true h)
+long_word (prefixed p n) h k = absurd (false≢true h)
+long_word (all_of p) h k = absurd (false≢true h)
+long_word (literal s) h k = absurd (k s refl)
+long_word (long_literal s) h k = (s, refl)
+long_word (mark c) h k = absurd (false≢true h)
 
-pub goes_on_in_none : {us : List Token} → us ≡ [] → LiteralGoesOn us
-goes_on_in_none e = (no_escape_in_none e, no_triple_in_none e)
+pub three_stop : {t : Token} {ts us : List Token} → us ≡ t ∷ ts → is_literal t.word ≡ true → NoEscape us → ((s : List ℕ) → t.word ≡ literal s → ⊥) → StopsAtLiteral us (unsupported N16 t.place)
+three_stop {t} {ts} e k h l =
+    let (s, is) = long_word t.word k l in
+    record { first = t; after = ts; parts = e; a_literal = k; stops = three_quotes is (subst NoEscape e h) }
+
+pub reads_in_none : {us : List Token} → us ≡ [] → ReadsLiteral us
+reads_in_none e t ts f k = absurd (omega (arith, ap length (sym e ∙ f)))
+
+pub reads_other : {t : Token} {ts us : List Token} → us ≡ t ∷ ts → is_literal t.word ≡ false → ReadsLiteral us
+reads_other e h t ts f k = absurd (false≢true (sym h ∙ (ap (λ z. is_literal z.word) (same_head (sym e ∙ f)) ∙ k)))
+
+pub reads_plain : {t : Token} {ts us : List Token} {s : List ℕ} → us ≡ t ∷ ts → NoEscape us → t.word ≡ literal s → ReadsLiteral us
+reads_plain {s = s} e h k t ts f x = record { value = s; word = ap (λ z. z.word) (same_head (sym f ∙ e)) ∙ k; no_escape = subst NoEscape f h }
 
 -- where a definition should begin
 pub include_first : {end : End} {t : Token} {us : List Token} → IsFirst t us → IsWord (codes "include") t → NoDefinition end us (unsupported N10 t.place)

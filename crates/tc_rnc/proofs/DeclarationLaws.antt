@@ -1,14 +1,13 @@
 -- Why declarations are read, or not, where their parts are.
 use Rattle.std.proofs.Common.{◌≡◌, ◌⊎◌, inl, inr, ℕ, ◌+◌, ◌<◌, ◌≤◌, Bool, true, false, List, [], ◌∷◌, refl, ap, ◌∙◌, sym, subst, length, arith, None, Some, codes}
-use Rattle.std.proofs.lemmas.Bool.{cases_lt}
+use Rattle.std.proofs.lemmas.Bool.{cases_lt, false≢true}
 use Rattle.tc_base.specs.declared.reasons.Why.TheVariants.{N13, N17}
 use Rattle.tc_model.specs.RawTrees.{Bound}
 use Rattle.tc_model.specs.XmlTextBytes.{Lacks, length_before}
-use Rattle.tc_model.specs.CompactSyntaxTrees.{Definition}
-use Rattle.tc_model.specs.CompactSyntaxTokens.{Word, literal, Token}
-use Rattle.tc_model.specs.CompactSyntaxNames.{IsWord, IsMark, LacksMark, IsLiteral, identifier_or_keyword, MayBind, bound_to, DeclarationAt, namespace, default_namespace, both, datatypes}
-use Rattle.tc_model.specs.CompactSyntax.{SchemaAt, declaration}
-use Rattle.tc_model.specs.CompactSyntaxUnread.{Refusal, unsupported, End, in_literal, NoEscape, escape_mark, Unexpected, LiteralStops, LiteralGoesOn, NoNamespaceName, inherit, concatenation}
+use Rattle.tc_model.specs.CompactSyntaxTokens.{literal, Token}
+use Rattle.tc_model.specs.CompactSyntaxNames.{IsWord, IsMark, LacksMark, identifier_or_keyword, MayBind, bound_to, DeclarationAt, namespace, default_namespace, both, datatypes}
+use Rattle.tc_model.specs.CompactSyntax.{declaration}
+use Rattle.tc_model.specs.CompactSyntaxUnread.{Refusal, unsupported, End, in_literal, NoEscape, escape_mark, Unexpected, is_literal, NoNamespaceName, inherit, concatenation}
 use Rattle.tc_model.specs.CompactSyntaxUnread as u
 use Rattle.tc_model.specs.CompactSyntaxStops as st
 use Rattle.tc_model.specs.CompactSyntaxStops.{UriStops, no_equals, no_namespace_name, PrefixStops, no_prefix, DeclarationStops, namespace_prefix, namespace_bound, datatypes_prefix, default_word, default_uri, default_bound, both_prefix, both_bound, LacksWord, SchemaStops, past_declaration}
@@ -16,6 +15,7 @@ use Rattle.tc_model.proofs.CompactSyntaxClassesUnique.{same_some, some_none, sam
 use Rattle.tc_model.proofs.CompactSyntaxClassesUnique as q
 use Rattle.tc_model.proofs.CompactSyntaxUnread.{same_literal, name_no_literal, literal_stops_not}
 use Rattle.tc_model.proofs.CompactSyntaxStopsSchemas.{declaration_stops, declaration_stops_at}
+use Rattle.tc_rnc.specs.Escapes.{StopsAtLiteral}
 use Rattle.tc_rnc.specs.Schemas.{LiteralAt, UriAt, PrefixUriAt, StartsWith, BeginsAt, BeginsDeclaration, Declares}
 use Rattle.tc_rnc.specs.Readings.{BeginsWith}
 use Rattle.tc_rnc.proofs.Escapes.{before_within}
@@ -39,30 +39,30 @@ a_literal t ts rest uri is k h = (t, is, record { word = k; no_escape = lacks_wh
 pub inherited : {end : End} {i : Bool} {t : Token} {ts us : List Token} → us ≡ t ∷ ts → (i ≡ true) × IsWord (codes "inherit") t → NoNamespaceName end i us (unsupported N13 t.place)
 inherited {end} {i} {t} e k = subst (λ z. NoNamespaceName end i z (unsupported N13 t.place)) (sym e) (inherit k.0 k.1)
 
-pub no_name : {end : End} {i : Bool} {t : Token} {ts us : List Token} {r : Refusal} → us ≡ t ∷ ts → ((s : List ℕ) → t.word ≡ literal s → ⊥) → (i ≡ true → IsWord (codes "inherit") t → ⊥) → Unexpected end us r
+pub no_name : {end : End} {i : Bool} {t : Token} {ts us : List Token} {r : Refusal} → us ≡ t ∷ ts → is_literal t.word ≡ false → (i ≡ true → IsWord (codes "inherit") t → ⊥) → Unexpected end us r
     → NoNamespaceName end i us r
 no_name {end} {i} {r = r} e h k y = subst (λ z. NoNamespaceName end i z r) (sym e) (u.none h k (subst (λ z. Unexpected end z r) e y))
 
 pub no_name_at_end : {end : End} {i : Bool} {us : List Token} {r : Refusal} → us ≡ [] → Unexpected end us r → NoNamespaceName end i us r
 no_name_at_end {end} {i} {r = r} e y = subst (λ z. NoNamespaceName end i z r) (sym e) (u.no_token (subst (λ z. Unexpected end z r) e y))
 
-pub unread_name : {end : End} {i : Bool} {t : Token} {ts us : List Token} {s : List ℕ} {r : Refusal} → us ≡ t ∷ ts → t.word ≡ literal s → LiteralStops us r → NoNamespaceName end i us r
-unread_name {end} {i} {r = r} e k y = subst (λ z. NoNamespaceName end i z r) (sym e) (u.a_literal k (subst (λ z. LiteralStops z r) e y))
+pub unread_name : {end : End} {i : Bool} {us : List Token} {r : Refusal} → StopsAtLiteral us r → NoNamespaceName end i us r
+unread_name {end} {i} {r = r} h = subst (λ z. NoNamespaceName end i z r) (sym h.parts) (u.a_literal h.a_literal h.stops)
 
-pub joined_name : {end : End} {i : Bool} {t : Token} {ts us : List Token} {s : List ℕ} {p : ℕ} → us ≡ t ∷ ts → t.word ≡ literal s → LiteralGoesOn us → BeginsAt 0x7E ts p → NoNamespaceName end i us (unsupported N17 p)
+pub joined_name : {end : End} {i : Bool} {t : Token} {ts us : List Token} {s : List ℕ} {p : ℕ} → us ≡ t ∷ ts → t.word ≡ literal s → NoEscape us → BeginsAt 0x7E ts p → NoNamespaceName end i us (unsupported N17 p)
 joined_name {end} {i} {t} {us = us} {p = p} e k g (v, (rest, (is, m, at))) =
     let all : us ≡ t ∷ v ∷ rest = e ∙ ap (λ z. t ∷ z) is in
-    subst (λ z. NoNamespaceName end i z (unsupported N17 p)) (sym all) (subst (λ z. NoNamespaceName end i (t ∷ v ∷ rest) (unsupported N17 z)) (sym at) (concatenation k (subst LiteralGoesOn all g) m))
+    subst (λ z. NoNamespaceName end i z (unsupported N17 p)) (sym all) (subst (λ z. NoNamespaceName end i (t ∷ v ∷ rest) (unsupported N17 z)) (sym at) (concatenation k (subst NoEscape all g) m))
 
 -- a namespace name that is read stops nothing
-pub name_read : {end : End} {i : Bool} {t : Token} {ts us : List Token} {s : List ℕ} → us ≡ t ∷ ts → t.word ≡ literal s → LiteralGoesOn us → LacksMark 0x7E ts → (v : Refusal) → NoNamespaceName end i us v → ⊥
-name_read {end} {i} {t} {ts} {s = s} e k g l v y = by (subst LiteralGoesOn e g) l (subst (λ z. NoNamespaceName end i z v) e y)
+pub name_read : {end : End} {i : Bool} {t : Token} {ts us : List Token} {s : List ℕ} → us ≡ t ∷ ts → t.word ≡ literal s → NoEscape us → LacksMark 0x7E ts → (v : Refusal) → NoNamespaceName end i us v → ⊥
+name_read {end} {i} {t} {ts} {s = s} e k g l v y = by (subst NoEscape e g) l (subst (λ z. NoNamespaceName end i z v) e y)
   where
-    by : {ts : List Token} {v : Refusal} → LiteralGoesOn (t ∷ ts) → LacksMark 0x7E ts → NoNamespaceName end i (t ∷ ts) v → ⊥
+    by : {ts : List Token} {v : Refusal} → NoEscape (t ∷ ts) → LacksMark 0x7E ts → NoNamespaceName end i (t ∷ ts) v → ⊥
     by g l (inherit h m) = name_no_literal m k
-    by g l (u.a_literal m y) = literal_stops_not g y
+    by g l (u.a_literal m y) = literal_stops_not k g y
     by g l (concatenation m h n) = l n
-    by g l (u.none h m y) = h s k
+    by g l (u.none h m y) = false≢true (sym h ∙ ap is_literal k)
 
 -- An equals sign and a literal.
 

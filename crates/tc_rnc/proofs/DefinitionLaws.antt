@@ -1,9 +1,9 @@
 -- Why definitions are read, or not, where their parts are.
-use Rattle.std.proofs.Common.{◌≡◌, inl, inr, ℕ, suc, ◌+◌, ◌<◌, ◌≤◌, false, List, [], ◌∷◌, ◌++◌, ap, ◌∙◌, sym, subst, length, arith, map, codes, append_assoc, append-nil}
+use Rattle.std.proofs.Common.{◌≡◌, inl, inr, ℕ, suc, ◌+◌, ◌<◌, false, List, [], ◌∷◌, ◌++◌, ap, ◌∙◌, sym, subst, length, arith, map, codes, append_assoc, append-nil}
 use Rattle.tc_model.specs.RawTrees.{Bound}
 use Rattle.tc_model.specs.CompactSyntaxTrees.{SyntaxPattern, Joins, plain, by_choice, by_interleave, Definition}
 use Rattle.tc_model.specs.CompactSyntaxTokens.{Token}
-use Rattle.tc_model.specs.CompactSyntaxNames.{IsWord, IsMark, LacksMark}
+use Rattle.tc_model.specs.CompactSyntaxNames.{IsMark, LacksMark}
 use Rattle.tc_model.specs.CompactSyntax.{OperatorAt, equals, bar_equals, ampersand_equals, one_definition, DefinitionAt, of_start, of_name, div, DefinitionsAt, at_end, at_brace, more}
 use Rattle.tc_model.specs.CompactSyntaxUnread.{Refusal, End, Unexpected}
 use Rattle.tc_model.specs.CompactSyntaxStops as st

@@ -1,5 +1,5 @@
 -- Where a text may be cut after a line, and what is skipped.
-use Rattle.std.proofs.Common.{◌≡◌, ℕ, suc, ◌+◌, ◌-◌, ◌<◌, ◌≤◌, Bool, true, false, cond, not, ◌⊎◌, inl, inr, ◌||◌, ◌==◌, List, [], ◌∷◌, ◌++◌, refl, ap, ◌∙◌, sym, subst, length, take, drop, get_or, arith, IsTrue, IsUtf8, IsCharBoundary, take-append-drop, length-drop, length-append, append_assoc, append-nil}
+use Rattle.std.proofs.Common.{◌≡◌, ℕ, suc, ◌+◌, ◌<◌, ◌≤◌, Bool, true, false, cond, not, ◌⊎◌, inl, inr, ◌||◌, ◌==◌, List, [], ◌∷◌, refl, ap, ◌∙◌, sym, subst, length, drop, get_or, arith, IsTrue, IsUtf8, IsCharBoundary, length-drop}
 use Rattle.std.specs.List.{prefix_len}
 use Rattle.std.proofs.lemmas.Bool.{true≢false, eqb-true}
 use Rattle.std.proofs.Math.Nat.{eq-or-lt_of_le}

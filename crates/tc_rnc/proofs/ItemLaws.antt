@@ -1,15 +1,14 @@
 -- Why patterns and primaries are read, or not, where their parts are.
-use Rattle.std.proofs.Common.{◌≡◌, ℕ, ◌<◌, ◌≤◌, inl, inr, false, List, [], ◌∷◌, ◌++◌, refl, ap, ◌∙◌, sym, subst, length, arith, None, Some, codes}
+use Rattle.std.proofs.Common.{◌≡◌, ℕ, ◌<◌, inl, inr, false, List, [], ◌∷◌, ◌++◌, refl, ap, ◌∙◌, sym, subst, length, arith, None, Some, codes}
 use Rattle.tc_model.specs.RawTrees.{Bound}
 use Rattle.tc_model.specs.CompactSyntaxTrees.{SyntaxClass, SyntaxPattern, attribute, element, mixed, SyntaxPatterns, no_more}
 use Rattle.tc_model.specs.CompactSyntaxTrees as tree
 use Rattle.tc_model.specs.CompactSyntaxTokens.{Token}
 use Rattle.tc_model.specs.CompactSyntaxNames.{IsWord, IsMark, ClassAt}
 use Rattle.tc_model.specs.CompactSyntaxPatterns.{Connector, joined_by, connector_at, Suffix, suffix_at, suffixed, PatternAt, several, ItemsAt, last, and_more, ItemAt, with_suffix, PrimaryAt, an_element, an_attribute, a_mixed, parentheses}
-use Rattle.tc_model.specs.CompactSyntaxUnread.{Refusal, End, Unexpected, NoPattern, no_token}
+use Rattle.tc_model.specs.CompactSyntaxUnread.{Refusal, End, Unexpected, no_token}
 use Rattle.tc_model.specs.CompactSyntaxStops as st
 use Rattle.tc_model.specs.CompactSyntaxStops.{PatternStops, ItemsStop, PrimaryStops, EnclosedStops, GoesOnAsPattern}
-use Rattle.tc_model.proofs.CompactSyntaxBehind.{behind_shorter, item_behind}
 use Rattle.tc_model.proofs.CompactSyntaxClassesUnique.{some_none}
 use Rattle.tc_rnc.specs.Readings.{GoesOn, GoesOnOtherwise, EndsWith, EnclosedAt, enclosed, NamedAt, named, BracedTextAt, braced_text, LabelledAt, labelled}
 use Rattle.tc_rnc.specs.Stops as p

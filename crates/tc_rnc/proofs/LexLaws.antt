@@ -1,5 +1,5 @@
 -- What is read of a text as tokens.
-use Rattle.std.proofs.Common.{not, cond, ◌&&◌, ◌||◌, ◌==◌, ◌≡◌, ◌≢◌, ◌⊎◌, inl, inr, ℕ, ◌+◌, ◌-◌, ◌<◌, ◌≤◌, Bool, true, false, List, [], ◌∷◌, ◌++◌, refl, ap, ◌∙◌, sym, subst, length, arith, append-nil, length-append, length-take, length-drop, IsTrue, Option, None, Some, MatchOption}
+use Rattle.std.proofs.Common.{not, cond, ◌&&◌, ◌||◌, ◌==◌, ◌≡◌, ◌≢◌, ◌⊎◌, inl, inr, ℕ, ◌+◌, ◌-◌, ◌<◌, ◌≤◌, Bool, true, false, List, [], ◌∷◌, ◌++◌, refl, ap, ◌∙◌, sym, subst, length, drop, arith, append-nil, length-append, length-take, length-drop, Option, None, Some, MatchOption}
 use Rattle.std.specs.Prelude.{encode_utf8, MatchBool}
 use Rattle.std.specs.Option.{option_map}
 use Rattle.std.proofs.lemmas.Bool.{eqb-true}
@@ -10,7 +10,7 @@ use Rattle.tc_model.specs.XmlText.{after_mark}
 use Rattle.tc_model.specs.XmlTextBytes.{FrontOf, place_of, length_before, Lacks, LiteralAt, IsQuote}
 use Rattle.tc_model.specs.XmlTextNames.{NcNameAt}
 use Rattle.tc_model.specs.CompactSyntaxTokens as m
-use Rattle.tc_model.specs.CompactSyntaxTokens.{Word, a_name, escaped, prefixed, all_of, literal, mark, Token, WordAt, plain_name, prefixed_name, namespace_name, escaped_name, quoted, backslash, other, TokensAt}
+use Rattle.tc_model.specs.CompactSyntaxTokens.{Word, a_name, escaped, prefixed, all_of, literal, long_literal, mark, Token, three, LongLiteralAt, WordAt, plain_name, prefixed_name, namespace_name, escaped_name, quoted, quoted_long, backslash, other, TokensAt}
 use Rattle.tc_model.specs.CompactSyntaxUnread.{escape_mark}
 use Rattle.tc_model.specs.CompactSyntaxUnread as u
 use Rattle.tc_model.specs.CompactSyntaxRefused.{line, is_quote, unclosed_escape, TokensUpTo, so_far, white, comment, token, BeginsNoSpace}
@@ -50,6 +50,7 @@ skips_within (f.comment {bs = bs} a) = omega (arith, skips_within a, after_run_l
 -- how many bytes a word takes at least
 word_extent : Word → ℕ
 word_extent (literal s) = 1 + length s
+word_extent (long_literal s) = 3 + length s
 word_extent _ = 0
 
 same_extent : (w : code.Word) → extent w ≡ word_extent (seen.word w)
@@ -59,6 +60,7 @@ same_extent (words.Escaped n) = refl
 same_extent (words.Prefixed p n) = refl
 same_extent (words.AllOf p) = refl
 same_extent (words.Literal s) = refl
+same_extent (words.LongLiteral s) = refl
 same_extent (words.Mark c) = refl
 
 name_takes : {bs n r : List ℕ} → NcNameAt bs n r → length r ≤ length bs
@@ -68,13 +70,19 @@ literal_takes : {bs s r : List ℕ} → LiteralAt bs s r → 1 + length s + leng
 literal_takes {bs} {s} {r} a =
     omega (arith, ap length a.opens, ap length a.closes.front, length-take (length_before (a.quote ∷ []) a.rest) a.rest, ap length a.closes.back, length-drop (length_before (a.quote ∷ []) a.rest) a.rest)
 
+long_literal_takes : {bs s r : List ℕ} → LongLiteralAt bs s r → 3 + length s + length r ≤ length bs
+long_literal_takes a =
+    let before = length_before (three a.quote) a.rest in
+    omega (arith, ap length a.opens, ap length a.front, length-take before a.rest, ap length a.back, length-drop 3 (drop before a.rest), length-drop before a.rest)
+
 word_takes : {bs r : List ℕ} {w : Word} → WordAt bs w r → word_extent w + length r ≤ length bs
 unfolding word_extent
 word_takes (plain_name a e) = omega (arith, name_takes a)
 word_takes (prefixed_name a b) = omega (arith, name_takes a, name_takes b)
 word_takes (namespace_name a) = omega (arith, name_takes a)
 word_takes (escaped_name a) = omega (arith, name_takes a.names, ap length a.opens)
-word_takes (quoted a h) = omega (arith, literal_takes a)
+word_takes (quoted a h n) = omega (arith, literal_takes a)
+word_takes (quoted_long a) = long_literal_takes a
 word_takes (backslash h) = omega arith
 word_takes (other {c = c} {after = r} e h) = omega (arith, ap length e, length-append (encode_utf8 c) r)
 

@@ -13,3 +13,8 @@ pub mod PatternLaws
 pub mod ItemLaws
 pub mod DeclarationLaws
 pub mod TopLaws
+pub mod Deciding
+mod DecidingClasses
+mod DecidingPatterns
+mod DecidingSchemas
+pub mod DecidingTexts

@@ -1,5 +1,5 @@
 -- How a refusal of a part is one of the whole.
-use Rattle.std.proofs.Common.{◌≡◌, ℕ, subst, sym, Result, Ok, Err, IfOk, IfErr, Option, None, Some, MatchOption}
+use Rattle.std.proofs.Common.{◌≡◌, subst, sym, Result, Ok, Err, IfOk, IfErr, Option, None, Some, MatchOption}
 use Rattle.std.specs.Result.{IsErrAnd}
 use Rattle.tc_model.specs.Views.{place}
 use Rattle.tc_model.specs.CompactSyntaxUnread as m

@@ -1,14 +1,16 @@
 -- Which word stands at the front of a text.
-use Rattle.std.proofs.Common.{◌≡◌, ℕ, false, List, [], ◌∷◌, ◌++◌, refl, ap, ◌∙◌, sym, subst, length, inl, inr, IsTrue, arith, length-append}
+use Rattle.std.proofs.Common.{◌≡◌, ℕ, false, List, [], ◌∷◌, ◌++◌, refl, ap, ◌∙◌, sym, subst, length, take, drop, inl, inr, IsTrue, arith, length-append}
 use Rattle.std.specs.Prelude.{encode_utf8, codes}
 use Rattle.std.specs.List.{list_all}
+use Rattle.std.proofs.Math.Seq.{take-length, drop-length, drop-nil}
 use Rattle.std.proofs.lemmas.Bool.{true≢false}
 use Rattle.std.proofs.lemmas.Str.{encode_same, length-encode, len_utf8_bounds}
-use Rattle.tc_model.specs.XmlTextBytes.{IsQuote, UpTo, LiteralAt}
+use Rattle.tc_model.specs.XmlTextBytes.{IsQuote, length_before, UpTo, LiteralAt}
 use Rattle.tc_model.specs.XmlTextNames.{NcNameAt}
-use Rattle.tc_model.specs.CompactSyntaxTokens.{Word, a_name, prefixed, all_of, mark, EscapedAt, is_mark, WordAt, plain_name, prefixed_name, namespace_name, escaped_name, quoted, backslash, other}
+use Rattle.tc_model.specs.CompactSyntaxTokens.{Word, a_name, prefixed, all_of, mark, three, LongLiteralAt, EscapedAt, is_mark, WordAt, plain_name, prefixed_name, namespace_name, escaped_name, quoted, quoted_long, backslash, other}
 use Rattle.tc_model.proofs.XmlTextPhrases.{same_first, same_others, ncname_unique}
 use Rattle.tc_rnc.specs.Fronts.{IsNoMark, is_in_line}
+use Rattle.tc_rnc.proofs.Escapes.{lacks_mark}
 
 pub double_quoted : {text rest value after : List ℕ} → text ≡ 0x22 ∷ rest → UpTo (0x22 ∷ []) rest value after → LiteralAt text value after
 double_quoted {rest = rest} e u = record { quote = 0x22; rest = rest; is_quote = inl refl; opens = e; closes = u }
@@ -35,6 +37,30 @@ no_quote {text} h k value after a = by a.is_quote
     by (inl e) = h a.rest (a.opens ∙ ap (λ q. q ∷ a.rest) e)
     by (inr e) = k a.rest (a.opens ∙ ap (λ q. q ∷ a.rest) e)
 
+pub three_double : {text rest value after : List ℕ} → text ≡ three 0x22 ++ rest → value ≡ take (length_before (three 0x22) rest) rest
+    → after ≡ drop 3 (drop (length_before (three 0x22) rest) rest) → LongLiteralAt text value after
+three_double {rest = rest} e f b = record { quote = 0x22; rest = rest; is_quote = inl refl; opens = e; front = f; back = b }
+
+pub three_single : {text rest value after : List ℕ} → text ≡ three 0x27 ++ rest → value ≡ take (length_before (three 0x27) rest) rest
+    → after ≡ drop 3 (drop (length_before (three 0x27) rest) rest) → LongLiteralAt text value after
+three_single {rest = rest} e f b = record { quote = 0x27; rest = rest; is_quote = inr refl; opens = e; front = f; back = b }
+
+pub no_three : {text : List ℕ} → ((r : List ℕ) → text ≡ three 0x22 ++ r → ⊥) → ((r : List ℕ) → text ≡ three 0x27 ++ r → ⊥) → (value after : List ℕ) → LongLiteralAt text value after → ⊥
+no_three {text} h k value after a = by a.is_quote
+  where
+    by : IsQuote a.quote → ⊥
+    by (inl e) = h a.rest (a.opens ∙ ap (λ q. three q ++ a.rest) e)
+    by (inr e) = k a.rest (a.opens ∙ ap (λ q. three q ++ a.rest) e)
+
+-- what stands nowhere has all before it, and nothing behind
+pub all_before : (quotes text : List ℕ) → ((inside after : List ℕ) → UpTo quotes text inside after → ⊥) → text ≡ take (length_before quotes text) text
+all_before quotes text h = sym (ap (λ n. take n text) (lacks_mark quotes text h) ∙ take-length text)
+
+pub none_behind : (quotes text : List ℕ) → ((inside after : List ℕ) → UpTo quotes text inside after → ⊥) → [] ≡ drop (length quotes) (drop (length_before quotes text) text)
+none_behind quotes text h =
+    let none : drop (length_before quotes text) text ≡ [] = ap (λ n. drop n text) (lacks_mark quotes text h) ∙ drop-length text in
+    sym (ap (drop (length quotes)) none ∙ drop-nil (length quotes))
+
 pub no_escaped : {text rest name after r : List ℕ} → text ≡ 0x5C ∷ rest → NcNameAt rest name after → name ≡ codes "x" → after ≡ 0x7B ∷ r → (n s : List ℕ) → EscapedAt text n s → ⊥
 no_escaped {r = r} e a f g n s b =
     let both = ncname_unique (subst (λ w. NcNameAt w n s) (same_others (sym b.opens ∙ e)) b.names) a in
@@ -60,7 +86,7 @@ pub backslash_word : {text rest : List ℕ} → text ≡ 0x5C ∷ rest → ((n r
 backslash_word {text} {rest} e h =
     subst (λ w. WordAt w (mark 0x5C) rest) (sym e) (backslash (λ n r a. h n r (subst (λ w. EscapedAt w n r) (sym e) a)))
 
-some_char : (c : ℕ) (r : List ℕ) → [] ≡ encode_utf8 c ++ r → ⊥
+pub some_char : (c : ℕ) (r : List ℕ) → [] ≡ encode_utf8 c ++ r → ⊥
 some_char c r e = omega (arith, ap length e, length-append (encode_utf8 c) r, length-encode c, len_utf8_bounds c)
 
 pub no_mark_at_end : {text : List ℕ} → text ≡ [] → IsNoMark text
@@ -73,11 +99,12 @@ no_mark_at c rest h e k = record {
 }
 
 pub no_word : {text : List ℕ} → ((n r : List ℕ) → NcNameAt text n r → ⊥) → ((value after : List ℕ) → LiteralAt text value after → IsTrue (list_all is_in_line value) → ⊥)
-    → ((n r : List ℕ) → EscapedAt text n r → ⊥) → IsNoMark text → (w : Word) (r : List ℕ) → WordAt text w r → ⊥
-no_word h k l m w r (plain_name {name = n} a e) = h n r a
-no_word h k l m w r (prefixed_name {prefix = p} {rest = s} a b) = h p (0x3A ∷ s) a
-no_word h k l m w r (namespace_name {prefix = p} a) = h p (0x3A ∷ 0x2A ∷ r) a
-no_word h k l m w r (escaped_name {name = n} a) = l n r a
-no_word h k l m w r (quoted {value = v} a e) = k v r a e
-no_word h k l m w r (backslash e) = m.no_backslash r refl
-no_word h k l m w r (other {c = c} e i) = m.no_mark c r e i
+    → ((value after : List ℕ) → LongLiteralAt text value after → ⊥) → ((n r : List ℕ) → EscapedAt text n r → ⊥) → IsNoMark text → (w : Word) (r : List ℕ) → WordAt text w r → ⊥
+no_word h k g l m w r (plain_name {name = n} a e) = h n r a
+no_word h k g l m w r (prefixed_name {prefix = p} {rest = s} a b) = h p (0x3A ∷ s) a
+no_word h k g l m w r (namespace_name {prefix = p} a) = h p (0x3A ∷ 0x2A ∷ r) a
+no_word h k g l m w r (escaped_name {name = n} a) = l n r a
+no_word h k g l m w r (quoted {value = v} a e n) = k v r a e
+no_word h k g l m w r (quoted_long {value = v} a) = g v r a
+no_word h k g l m w r (backslash e) = m.no_backslash r refl
+no_word h k g l m w r (other {c = c} e i) = m.no_mark c r e i

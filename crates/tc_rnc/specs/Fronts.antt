@@ -1,5 +1,5 @@
 -- The front of a text: what separates tokens, and where none that is a mark begins.
-use Rattle.std.specs.Prelude.{◌≡◌, ℕ, Bool, not, List, [], ◌∷◌, ◌++◌, IsTrue, encode_utf8}
+use Rattle.std.specs.Prelude.{◌≡◌, ℕ, Bool, not, List, ◌∷◌, ◌++◌, IsTrue, encode_utf8}
 use Rattle.tc_base.specs.Characters.{is_white}
 use Rattle.tc_model.specs.CompactSyntaxTokens.{is_line_end, after_line, is_mark}
 

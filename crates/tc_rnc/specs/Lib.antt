@@ -12,3 +12,4 @@ pub mod Connectors
 pub mod Answers
 pub mod Schemas
 pub mod Stops
+pub mod Texts

@@ -1,5 +1,5 @@
 -- Declarations, and what schemas begin with, as the readers of them say what they read.
-use Rattle.std.specs.Prelude.{◌≡◌, ◌⊎◌, ℕ, Bool, false, List, [], ◌∷◌, Some, codes}
+use Rattle.std.specs.Prelude.{◌≡◌, ◌⊎◌, ℕ, false, List, [], ◌∷◌, Some, codes}
 use Rattle.tc_model.specs.RawTrees.{Bound}
 use Rattle.tc_model.specs.CompactSyntaxTrees.{Joins, Definition}
 use Rattle.tc_model.specs.CompactSyntaxTokens.{Token}

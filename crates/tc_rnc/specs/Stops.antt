@@ -1,5 +1,5 @@
 -- Where the reading of a part of a phrase stops.
-use Rattle.std.specs.Prelude.{◌≡◌, ℕ, suc, List, [], ◌∷◌, false}
+use Rattle.std.specs.Prelude.{ℕ, suc, List, [], ◌∷◌}
 use Rattle.tc_model.specs.RawTrees.{Bound}
 use Rattle.tc_model.specs.CompactSyntaxTrees.{SyntaxClass, Joins}
 use Rattle.tc_model.specs.CompactSyntaxTokens.{Token}

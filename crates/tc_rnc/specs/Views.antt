@@ -26,6 +26,7 @@ word (words.Escaped n) = m.escaped n.now
 word (words.Prefixed p n) = m.prefixed p.now n.now
 word (words.AllOf p) = m.all_of p.now
 word (words.Literal s) = m.literal s.now
+word (words.LongLiteral s) = m.long_literal s.now
 word (words.Mark c) = m.mark c
 
 abbrev pub token : Token → m.Token

@@ -55,12 +55,12 @@ fn literal<'s, 't>(
     if is_inherited(first, may_inherit) {
         return Err(RncFault::Unsupported(first.place, Why::N13));
     }
-    let Some(value) = first.literal() else {
-        return Err(unexpected(tokens, end));
-    };
     if let Some(fault) = unread_literal(tokens) {
         return Err(fault);
     }
+    let Some(value) = first.literal() else {
+        return Err(unexpected(tokens, end));
+    };
     if let Some(place) = tilde_at(rest) {
         return Err(RncFault::Unsupported(place, Why::N17));
     }

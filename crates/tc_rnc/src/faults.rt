@@ -3,7 +3,7 @@ ghost use Rattle.std.specs.Prelude.{◌≡◌, ◌<◌, List, [], ◌∷◌, len
 ghost use Rattle.tc_model.specs.CompactSyntaxUnread as unread;
 ghost use Rattle.tc_model.specs.XmlTextBytes.{Lacks, length_before};
 ghost use Rattle.tc_rnc.specs.Connectors.{BeginsNoneRead};
-ghost use Rattle.tc_rnc.specs.Escapes.{HasEscape, IsEscapeText, IsTriple, IsTripleWith, IsTwoSigns, LacksEscape};
+ghost use Rattle.tc_rnc.specs.Escapes.{HasEscape, IsEscapeText, IsTwoSigns, LacksEscape, ReadsLiteral, StopsAtLiteral};
 ghost use Rattle.tc_rnc.specs.Refusals.{Refuses};
 ghost use Rattle.tc_rnc.specs.Views as seen;
 
@@ -66,11 +66,9 @@ pub fn escape_in(value: &str) -> Option<usize>
 fn escape_in_literal(token: &Token<'_>) -> Option<Place>
     ensures { MatchOption result (LacksEscape (seen.token token.now)) (λ p. HasEscape (seen.token token.now) p.0) }
 {
-    let Word::Literal(value) = token.word else {
-        return None;
-    };
+    let (quotes, value) = token.quoted()?;
     let before = escape_in(value)?;
-    Some(Place(token.place.0 + 1 + before as u32))
+    Some(Place(token.place.0 + quotes + before as u32))
 }
 
 /// Whether the backslash, `x` and a brace stand here without anything between.
@@ -90,22 +88,6 @@ fn is_escape(first: &Token<'_>, rest: &[Token<'_>]) -> bool
         && brace.follows(name, 1)
 }
 
-/// The literal that stands directly after an empty one: the quotes stand three together.
-pub fn third_literal<'s, 't>(first: &Token<'t>, rest: &'s [Token<'t>]) -> Option<&'s Token<'t>>
-    ensures { MatchOption result (IsTriple (seen.token first.now) (seen.tokens rest.now) → ⊥) (λ t. IsTripleWith (seen.token t.now) (seen.token first.now) (seen.tokens rest.now)) }
-{
-    let Word::Literal(value) = first.word else {
-        return None;
-    };
-    let (second, _) = first_of(rest)?;
-    let _text = second.literal()?;
-    if value.is_empty() && second.follows(first, 2) {
-        Some(second)
-    } else {
-        None
-    }
-}
-
 /// Where the escape of a character begins as the next tokens, or in the next literal.
 #[tactic(auto, using(crate::proofs::Escapes::escapes))]
 pub fn escape_at(tokens: &[Token<'_>]) -> Option<Place>
@@ -115,10 +97,7 @@ pub fn escape_at(tokens: &[Token<'_>]) -> Option<Place>
     if is_escape(first, rest) {
         return Some(first.place);
     }
-    match escape_in_literal(first) {
-        Some(place) => Some(place),
-        None => escape_in_literal(third_literal(first, rest)?),
-    }
+    escape_in_literal(first)
 }
 
 /// Whether `>>` stands here without anything between.
@@ -202,15 +181,18 @@ fn unread_pattern(token: &Token<'_>) -> Option<Why>
 
 /// The refusal of the literal that stands first, where it isn't read wherever it stands.
 pub fn unread_literal(tokens: &[Token<'_>]) -> Option<RncFault>
-    ensures { MatchOption result (unread.LiteralGoesOn (seen.tokens tokens.now)) (λ e. Refuses (unread.LiteralStops (seen.tokens tokens.now)) e) }
+    ensures { MatchOption result (ReadsLiteral (seen.tokens tokens.now)) (λ e. Refuses (StopsAtLiteral (seen.tokens tokens.now)) e) }
 {
-    let (first, rest) = first_of(tokens)?;
+    let (first, _) = first_of(tokens)?;
+    if !first.is_literal() {
+        return None;
+    }
     if let Some(place) = escape_at(tokens) {
         return Some(RncFault::Unsupported(place, Why::N15));
     }
-    match third_literal(first, rest) {
-        Some(_) => Some(RncFault::Unsupported(first.place, Why::N16)),
-        None => None,
+    match first.literal() {
+        Some(_) => None,
+        None => Some(RncFault::Unsupported(first.place, Why::N16)),
     }
 }
 
@@ -225,11 +207,11 @@ pub fn no_pattern(tokens: &[Token<'_>], end: End) -> RncFault
     if let Some(why) = unread_pattern(first) {
         return RncFault::Unsupported(first.place, why);
     }
-    let Some(_text) = first.literal() else {
-        return unexpected(tokens, end);
-    };
-    match unread_literal(tokens) {
-        Some(fault) => fault,
-        None => RncFault::Unsupported(first.place, Why::N7),
+    if let Some(fault) = unread_literal(tokens) {
+        return fault;
+    }
+    match first.literal() {
+        Some(_) => RncFault::Unsupported(first.place, Why::N7),
+        None => unexpected(tokens, end),
     }
 }

@@ -24,5 +24,5 @@ mod tokens;
 mod words;
 
 pub use faults::RncFault;
-pub use reading::read_rnc;
+pub use reading::{law_of_texts, read_rnc};
 pub use syntax::{Def, Joins, SClass, SPat, Syntax};

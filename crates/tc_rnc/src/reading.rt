@@ -1,6 +1,7 @@
 // Whole schemas.
 ghost use Rattle.std.specs.Prelude.{◌≤◌, length, IfErr, IfOk};
 ghost use Rattle.tc_model.specs.CompactSyntax.{CompactSyntax};
+ghost use Rattle.tc_rnc.specs.Texts.{IsReadOrRefused};
 ghost use Rattle.tc_rnc.specs.Answers.{Excluded, Stands};
 ghost use Rattle.tc_rnc.specs.Views as seen;
 
@@ -32,3 +33,8 @@ pub fn read_rnc<'b>(arena: &'b Bump, text: &[u8]) -> Result<Syntax<'b>, RncFault
     let end = Place(text.len() as u32);
     Ok(Syntax { defs, end })
 }
+
+/// A law of texts: any bytes have a syntax tree, or are refused.
+pub fn law_of_texts()
+    ensures { IsReadOrRefused }
+{}

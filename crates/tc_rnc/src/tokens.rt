@@ -1,5 +1,5 @@
 // The tokens of a text.
-ghost use Rattle.std.specs.Prelude.{◌≡◌, ◌+◌, ◌≤◌, ℕ, List, None, Some, MatchBool, MatchOption};
+ghost use Rattle.std.specs.Prelude.{◌≡◌, ◌+◌, ◌≤◌, ℕ, List, None, Some, length, MatchBool, MatchOption, IfSome};
 ghost use Rattle.tc_model.specs.CompactSyntaxNames as names;
 ghost use Rattle.tc_rnc.specs.Extents.{extent};
 
@@ -16,7 +16,10 @@ pub enum Word<'t> {
     Prefixed(&'t str, &'t str),
     /// A prefix, with `:*` after it.
     AllOf(&'t str),
+    /// A literal in single quotes.
     Literal(&'t str),
+    /// A literal in three quotes.
+    LongLiteral(&'t str),
     /// Any other character.
     Mark(char),
 }
@@ -67,6 +70,8 @@ fn is_keyword(name: &str) -> bool
 
 impl<'t> Token<'t> {
     ghost use Rattle.tc_model.specs.CompactSyntaxTokens as model;
+    ghost use Rattle.tc_model.specs.CompactSyntaxUnread as unread;
+    ghost use Rattle.tc_rnc.specs.Escapes.{quoted_text};
     ghost use Rattle.tc_rnc.specs.Views as seen;
 
     pub fn is_mark(&self, mark: char) -> bool
@@ -87,7 +92,29 @@ impl<'t> Token<'t> {
         }
     }
 
-    /// The text of a literal.
+    /// Whether a literal stands here.
+    pub fn is_literal(&self) -> bool
+        ensures { result ≡ unread.is_literal (seen.word self.now.word) }
+    {
+        match self.word {
+            Word::Literal(_) | Word::LongLiteral(_) => true,
+            _ => false,
+        }
+    }
+
+    /// How many quotes open a literal, and its text.
+    pub fn quoted(&self) -> Option<(u32, &'t str)>
+        ensures text { MatchOption result (quoted_text (seen.word self.now.word) ≡ None) (λ r. quoted_text (seen.word self.now.word) ≡ Some (r.0, r.1.now)) }
+        ensures within { IfSome result (λ r. self.now.place.0 + r.0 + length r.1.now ≤ 67108864) }
+    {
+        match self.word {
+            Word::Literal(value) => Some((1, value)),
+            Word::LongLiteral(value) => Some((3, value)),
+            _ => None,
+        }
+    }
+
+    /// The text of a literal in single quotes.
     pub fn literal(&self) -> Option<&'t str>
         ensures { MatchOption result ((s : List ℕ) → seen.word self.now.word ≡ model.literal s → ⊥) (λ s. seen.word self.now.word ≡ model.literal s.now) }
     {

@@ -1,5 +1,5 @@
 // The word at the front of a text.
-ghost use Rattle.std.specs.Prelude.{◌≡◌, ◌+◌, ◌≤◌, ℕ, List, length, IsTrue, MatchOption};
+ghost use Rattle.std.specs.Prelude.{◌≡◌, ◌+◌, ◌<◌, ◌≤◌, ℕ, List, length, take, drop, slice_index, IsTrue, MatchOption};
 ghost use Rattle.std.specs.List.{list_all};
 ghost use Rattle.tc_model.specs.CompactSyntaxTokens as model;
 ghost use Rattle.tc_model.specs.XmlTextBytes as xml;
@@ -11,9 +11,9 @@ ghost use Rattle.tc_rnc.specs.Views as seen;
 use crate::front::first_char;
 use crate::tokens::Word;
 use tc_base::{is_name_start, is_white};
-use tc_scan::{after_byte, begins, ncname, up_to};
+use tc_scan::{after_byte, after_mark, begins, ncname, up_to};
 
-/// A literal in quotes at the front, and what follows it.
+/// A literal in single quotes at the front, and what follows it.
 fn literal(text: &str) -> Option<(&str, &str)>
     ensures { MatchOption result ((value after : List ℕ) → xml.LiteralAt text.now value after → ⊥) (λ r. xml.LiteralAt text.now r.0.now r.1.now) }
 {
@@ -42,6 +42,30 @@ fn quoted(text: &str) -> Option<(&str, &str)>
     } else {
         None
     }
+}
+
+/// What stands before a mark, and what follows it: all and nothing, where there is no such mark.
+fn up_to_or_all<'t>(text: &'t str, mark: &str) -> (&'t str, &'t str)
+    requires some { 0 < length mark.now }
+    requires ascii { slice_index mark.now 0 < 128 }
+    ensures front { result.0.now ≡ take (xml.length_before mark.now text.now) text.now }
+    ensures back { result.1.now ≡ drop (length mark.now) (drop (xml.length_before mark.now text.now) text.now) }
+{
+    match up_to(text, mark) {
+        Some(parts) => parts,
+        None => (text, ""),
+    }
+}
+
+/// A literal in three quotes at the front, and what follows it.
+fn long_literal(text: &str) -> Option<(&str, &str)>
+    ensures { MatchOption result ((value after : List ℕ) → model.LongLiteralAt text.now value after → ⊥) (λ r. model.LongLiteralAt text.now r.0.now r.1.now) }
+{
+    if let Some(rest) = after_mark(text, "\"\"\"") {
+        return Some(up_to_or_all(rest, "\"\"\""));
+    }
+    let rest = after_mark(text, "'''")?;
+    Some(up_to_or_all(rest, "'''"))
 }
 
 /// A backslash and a name at the front, and what follows them. Directly before a brace, a backslash and `x` are none.
@@ -107,6 +131,9 @@ pub fn word_at(text: &str) -> Option<(Word<'_>, &str)>
 {
     if let Some((name, rest)) = ncname(text) {
         return Some(named(name, rest));
+    }
+    if let Some((value, after)) = long_literal(text) {
+        return Some((Word::LongLiteral(value), after));
     }
     if let Some((value, after)) = quoted(text) {
         return Some((Word::Literal(value), after));

@@ -8,3 +8,5 @@ pub mod Resolving
 pub mod Numbering
 pub mod Whole
 pub mod Checked
+mod NamePaths
+pub mod SyntaxTotal

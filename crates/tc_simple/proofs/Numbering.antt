@@ -25,7 +25,7 @@ use Rattle.tc_simple.specs.Resolves.{Resolves}
 no_value : {X Y : Type 0} {x : X} → None ≡ Some x → Y
 no_value e = absurd (some_none e refl)
 
-element_is : (q : SyntaxPattern) (e : Element) → element_of q ≡ Some e → q ≡ element e.place e.names e.content
+pub element_is : (q : SyntaxPattern) (e : Element) → element_of q ≡ Some e → q ≡ element e.place e.names e.content
 element_is empty e is = no_value is
 element_is not_allowed e is = no_value is
 element_is text e is = no_value is
@@ -41,7 +41,7 @@ element_is (choice ps) e is = no_value is
 element_is (interleave ps) e is = no_value is
 
 -- a definition among those of its name
-has_chosen : (n : List ℕ) (ds : List Definition) (d : Definition) → Has ds d → bytes_eq d.name n ≡ true → Has (definitions_of ds n) d
+pub has_chosen : (n : List ℕ) (ds : List Definition) (d : Definition) → Has ds d → bytes_eq d.name n ≡ true → Has (definitions_of ds n) d
 has_chosen n ds d h e = by h e
   where
     keep : (b : Bool) (x : Definition) (xs : List Definition) {d : Definition} → Has xs d → Has (cond b (x ∷ xs) xs) d
@@ -52,7 +52,7 @@ has_chosen n ds d h e = by h e
     by (here {x = x} {xs = xs}) e = subst (λ b. Has (cond b (x ∷ definitions_of xs n) (definitions_of xs n)) x) (sym e) here
     by (there {y = y} {xs = xs} k) e = keep (bytes_eq y.name n) y (definitions_of xs n) (by k e)
 
-chosen_has : (n : List ℕ) (ds : List Definition) (d : Definition) → Has (definitions_of ds n) d → Has ds d × (bytes_eq d.name n ≡ true)
+pub chosen_has : (n : List ℕ) (ds : List Definition) (d : Definition) → Has (definitions_of ds n) d → Has ds d × (bytes_eq d.name n ≡ true)
 chosen_has n [] d h = absurd (none_has h)
 chosen_has n (x ∷ xs) d h = by (bytes_eq x.name n) refl h (λ k. chosen_has n xs d k)
   where
@@ -69,7 +69,7 @@ among_bodies here = inl refl
 among_bodies (there k) = inr (among_bodies k)
 
 -- the body of a definition in what its name stands for
-body_part : (ds : List Definition) (d : Definition) (q : SyntaxPattern) → Has ds d → joined_definitions ds ≡ Some q → (d.body ≡ q) ⊎ IsOpenPart q d.body
+pub body_part : (ds : List Definition) (d : Definition) (q : SyntaxPattern) → Has ds d → joined_definitions ds ≡ Some q → (d.body ≡ q) ⊎ IsOpenPart q d.body
 body_part [] d q h e = absurd (none_has h)
 body_part (x ∷ []) d q h e = inl (by (has_first h))
   where
@@ -87,13 +87,13 @@ in_bodies [] q h = absurd (none_has h)
 in_bodies (d ∷ ds) q h =
     either (has_cases (nodes true d.body) (nodes_of_all true (bodies_of ds)) h) (λ k. (d, here, k)) (λ k. let (x, a, b) = in_bodies ds q k in (x, there a, b))
 
-abbrev is_list : SyntaxPattern → Bool
+abbrev pub is_list : SyntaxPattern → Bool
 is_list (choice ps) = true
 is_list (interleave ps) = true
 is_list _ = false
 
 -- where what stands in what a name stands for is written
-in_joined : (ds : List Definition) (q r : SyntaxPattern) → joined_definitions ds ≡ Some q → Has (nodes true q) r → is_list r ≡ false → (d : Definition) × Has ds d × Has (nodes true d.body) r
+pub in_joined : (ds : List Definition) (q r : SyntaxPattern) → joined_definitions ds ≡ Some q → Has (nodes true q) r → is_list r ≡ false → (d : Definition) × Has ds d × Has (nodes true d.body) r
 in_joined [] q r e h plain = no_value e
 in_joined (x ∷ []) q r e h plain = (x, here, subst (λ z. Has (nodes true z) r) (sym (same_some refl e)) h)
 in_joined (x ∷ y ∷ zs) q r e h plain = by (list_any (λ f. is_choice f.joins) (x ∷ y ∷ zs)) e
@@ -124,7 +124,7 @@ elements_in t marks (there {y = d} {xs = ds} h) m k = has_right (marked_elements
 
 -- the places of elements as they stand
 mutual
-  places_are : (p : SyntaxPattern) → places_in p ≡ map (λ (e : Element). e.place) (filter_map element_of (nodes true p))
+  pub places_are : (p : SyntaxPattern) → places_in p ≡ map (λ (e : Element). e.place) (filter_map element_of (nodes true p))
   places_are empty = refl
   places_are not_allowed = refl
   places_are text = refl
@@ -148,12 +148,12 @@ mutual
       ∙ ap (map (λ (e : Element). e.place)) (sym (filter_map-append element_of (nodes true p) (nodes_of_all true ps)))))
 
 -- elements that ascend from one place on, and are below another
-record Lies (low : ℕ) (xs : List Element) (rest : List ℕ) : Type 0 where
-  high : ℕ
-  above : low ≤ high
-  after : AscendFrom high rest
-  ascending : AreAscending xs
-  within : AllByRecursion (λ e. (low ≤ e.place) × (e.place < high)) xs
+pub record Lies (low : ℕ) (xs : List Element) (rest : List ℕ) : Type 0 where
+  pub high : ℕ
+  pub above : low ≤ high
+  pub after : AscendFrom high rest
+  pub ascending : AreAscending xs
+  pub within : AllByRecursion (λ e. (low ≤ e.place) × (e.place < high)) xs
 
 all_from : (low least : ℕ) (P : ℕ → ℕ) (xs : List Element) (high : ℕ) → low ≤ least → AllByRecursion (λ e. (least ≤ e.place) × (e.place < high)) xs → AllByRecursion (λ e. (low ≤ e.place) × (e.place < high)) xs
 all_from low least P [] high l h = tt
@@ -163,7 +163,7 @@ all_above : (x : Element) (high : ℕ) (xs : List Element) → AllByRecursion (�
 all_above x high [] h = tt
 all_above x high (y ∷ ys) ((a, b), h) = (omega (arith, a), all_above x high ys h)
 
-lies : (low : ℕ) (xs : List Element) (rest : List ℕ) → AscendFrom low (map (λ (e : Element). e.place) xs ++ rest) → Lies low xs rest
+pub lies : (low : ℕ) (xs : List Element) (rest : List ℕ) → AscendFrom low (map (λ (e : Element). e.place) xs ++ rest) → Lies low xs rest
 lies low [] rest h = record { high = low; above = omega arith; after = h; ascending = tt; within = tt }
 lies low (x ∷ xs) rest (a, h) =
     let k = lies (x.place + 1) xs rest h in
@@ -175,11 +175,11 @@ lies low (x ∷ xs) rest (a, h) =
       within = ((a, omega (arith, k.above)), all_from low (x.place + 1) (λ n. n) xs k.high (omega (arith, a)) k.within);
     }
 
-join_all : (P : Element → Type 0) (xs ys : List Element) → AllByRecursion P xs → AllByRecursion P ys → AllByRecursion P (xs ++ ys)
+pub join_all : (P : Element → Type 0) (xs ys : List Element) → AllByRecursion P xs → AllByRecursion P ys → AllByRecursion P (xs ++ ys)
 join_all P [] ys h k = k
 join_all P (x ∷ xs) ys (a, h) k = (a, join_all P xs ys h k)
 
-weaker : (low least : ℕ) (xs : List Element) → low ≤ least → AllByRecursion (λ e. least ≤ e.place) xs → AllByRecursion (λ e. low ≤ e.place) xs
+pub weaker : (low least : ℕ) (xs : List Element) → low ≤ least → AllByRecursion (λ e. least ≤ e.place) xs → AllByRecursion (λ e. low ≤ e.place) xs
 weaker low least [] l h = tt
 weaker low least (x ∷ xs) l (a, h) = (omega (arith, l, a), weaker low least xs l h)
 
@@ -187,11 +187,11 @@ later_all : (x : Element) (high : ℕ) (ys : List Element) → x.place < high �
 later_all x high [] l h = tt
 later_all x high (y ∷ ys) l (a, h) = (omega (arith, l, a), later_all x high ys l h)
 
-join_ascending : (low high : ℕ) (xs ys : List Element) → AreAscending xs → AllByRecursion (λ e. (low ≤ e.place) × (e.place < high)) xs → AreAscending ys → AllByRecursion (λ e. high ≤ e.place) ys → AreAscending (xs ++ ys)
+pub join_ascending : (low high : ℕ) (xs ys : List Element) → AreAscending xs → AllByRecursion (λ e. (low ≤ e.place) × (e.place < high)) xs → AreAscending ys → AllByRecursion (λ e. high ≤ e.place) ys → AreAscending (xs ++ ys)
 join_ascending low high [] ys a h b k = b
 join_ascending low high (x ∷ xs) ys (u, a) ((l, m), h) b k = (join_all (λ e. x.place < e.place) xs ys u (later_all x high ys m k), join_ascending low high xs ys a h b k)
 
-firsts : (low high : ℕ) (xs : List Element) → AllByRecursion (λ e. (low ≤ e.place) × (e.place < high)) xs → AllByRecursion (λ e. low ≤ e.place) xs
+pub firsts : (low high : ℕ) (xs : List Element) → AllByRecursion (λ e. (low ≤ e.place) × (e.place < high)) xs → AllByRecursion (λ e. low ≤ e.place) xs
 firsts low high [] h = tt
 firsts low high (x ∷ xs) ((a, b), h) = (a, firsts low high xs h)
 

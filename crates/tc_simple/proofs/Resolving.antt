@@ -1,7 +1,7 @@
 -- What the components and the marks of definitions say of a schema.
 use Rattle.std.proofs.Common.{◌≡◌, ◌⊎◌, inl, inr, ℕ, zero, suc, ◌<◌, ◌≤◌, Bool, true, false, cond, ◌&&◌, List, [], ◌∷◌, ◌++◌, refl, ap, ◌∙◌, sym, subst, arith, length, Option, None, Some, slice_index}
 use Rattle.std.specs.List.{filter_map, list_all}
-use Rattle.std.proofs.lemmas.Bool.{cases_lt, eqb-true, eq-eqb, true≢false}
+use Rattle.std.proofs.lemmas.Bool.{cases_lt, eq-eqb, true≢false}
 use Rattle.std.proofs.lemmas.Option.{slice_get_within}
 use Rattle.std.proofs.lemmas.List.{length-map}
 use Rattle.tc_model.specs.CompactSyntaxTrees.{SyntaxPattern, empty, not_allowed, text, attribute, ref, element, mixed, optional, zero_or_more, one_or_more, group, choice, interleave, Syntax}
@@ -19,7 +19,7 @@ use Rattle.tc_simple.specs.Resolves.{Resolves}
 use Rattle.tc_graph.proofs.Joined as joined
 use Rattle.tc_graph.specs.Walks.{same_component, state_at}
 use Rattle.tc_graph.specs.declared.cycles.State.{State}
-use Rattle.tc_graph.specs.declared.cycles.State.TheVariants.{New, Open, Done}
+use Rattle.tc_graph.specs.declared.cycles.State.TheVariants.{New, Done}
 use Rattle.tc_simple.specs.declared.groups.Table.{Table}
 use Rattle.tc_simple.proofs.Standing.{has_filter, filter_has, has_contains, has_left, has_right, has_cases, none_has, either, node_below}
 use Rattle.tc_simple.proofs.Reaching.{edge_in, edge_out, start_below, leads_below, refers_reached, circular, circular_at}

@@ -34,7 +34,7 @@ use Rattle.tc_simple.proofs.Resolving.{state_of, orderly}
 use Rattle.tc_simple.proofs.Numbering.{written, all_elements, elements_reached, elements_ascend}
 use Rattle.tc_simple.proofs.Ordered.{becomes_so, sized_so}
 
-none_answers : (f : SyntaxPattern → Option ℕ) (xs : List SyntaxPattern) (o : Option ℕ) (x : SyntaxPattern) → first_answer f xs o ≡ None → Has xs x → f x ≡ None
+pub none_answers : (f : SyntaxPattern → Option ℕ) (xs : List SyntaxPattern) (o : Option ℕ) (x : SyntaxPattern) → first_answer f xs o ≡ None → Has xs x → f x ≡ None
 none_answers f xs o x e h = by h e
   where
     some_none' : {p : ℕ} → Some p ≡ None → ⊥
@@ -49,7 +49,7 @@ none_answers f xs o x e h = by h e
     by (there {y = y} {xs = xs} k) e = by k (both (f y) (first_answer f xs o) e).1
 
 mutual
-  nodes_same : (p : SyntaxPattern) → nodes true p ≡ nodes_in p
+  pub nodes_same : (p : SyntaxPattern) → nodes true p ≡ nodes_in p
   nodes_same empty = refl
   nodes_same not_allowed = refl
   nodes_same text = refl
@@ -68,7 +68,7 @@ mutual
   all_nodes_same no_more = refl
   all_nodes_same (more p ps) = ap (λ z. z ++ nodes_of_all true ps) (nodes_same p) ∙ ap (λ z. nodes_in p ++ z) (all_nodes_same ps)
 
-in_all_nodes : {ds : List Definition} {d : Definition} {q : SyntaxPattern} → Has ds d → Has (nodes_in d.body) q → Has (flat_map (λ d. nodes_in d.body) ds) q
+pub in_all_nodes : {ds : List Definition} {d : Definition} {q : SyntaxPattern} → Has ds d → Has (nodes_in d.body) q → Has (flat_map (λ d. nodes_in d.body) ds) q
 in_all_nodes (here {x = d} {xs = ds}) k = has_left (nodes_in d.body) (flat_map (λ d. nodes_in d.body) ds) k
 in_all_nodes (there {y = d} {xs = ds} h) k = has_right (nodes_in d.body) (flat_map (λ d. nodes_in d.body) ds) (in_all_nodes h k)
 

@@ -9,3 +9,4 @@ pub mod Orders
 pub mod Refused
 pub mod Totals
 pub mod Resolves
+pub mod Laws

@@ -9,6 +9,7 @@ ghost use Rattle.tc_model.specs.Simplifies.{Simplifies};
 ghost use Rattle.tc_model.specs.SimplifiesCounts.{IsWithinCounts};
 ghost use Rattle.tc_model.specs.SimplifiesFaults.{twice_at, undefined_at};
 ghost use Rattle.tc_rnc.specs.Views as see;
+ghost use Rattle.tc_simple.specs.Laws.{HasGrammarOrFault};
 ghost use Rattle.tc_simple.specs.Refused.{Refuses};
 ghost use Rattle.tc_simple.specs.Resolves.{Resolves};
 
@@ -73,3 +74,8 @@ fn resolved<'b>(
     let grammar = built(arena, table, start, marks, walked, &found)?;
     Ok(grammar)
 }
+
+/// A law of syntax trees: each that is lawful has a grammar or a fault, of whatever size.
+pub fn law_of_simplification()
+    ensures { HasGrammarOrFault }
+{}

@@ -1,5 +1,5 @@
 //! The tests of certificates, by public calls alone: which bytes are read, and what is answered of the others; which lines
-//! fit; what is written anew; and what holds.
+//! fit; what is written anew; and which rules are told to be broken.
 #![tactic(auto)]
 
 #[cfg(test)]

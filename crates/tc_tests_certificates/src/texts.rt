@@ -129,7 +129,11 @@ fn each_front_lacks_its_next_line(rt: HostRuntime) -> Result<(), Fail> {
 fn a_changed_line_of_version_1_is_told(rt: HostRuntime) -> Result<(), Fail> {
     let alloc = rt.alloc();
     let rows = [
-        ("m 0>0 1>1 2>2 3>3 4>4\nm 2>3 3>3", "m 2>3 3>3\nm 0>0 1>1 2>2 3>3 4>4", 4),
+        (
+            "m 0>0 1>1 2>2 3>3 4>4\nm 2>3 3>3",
+            "m 2>3 3>3\nm 0>0 1>1 2>2 3>3 4>4",
+            4,
+        ),
         ("end\n", "", 12),
         ("end\n", "end", 12),
         ("end\n", "end\n\n", 13),
@@ -274,5 +278,28 @@ fn no_kind_with_two_rows_is_alike_in_both_versions(rt: HostRuntime) -> Result<()
         let upgraded = upgrade(alloc, text.as_bytes()).ok().ok_or("the text")?;
         assert_eq!(rt; upgraded.as_slice(), second.as_bytes());
     }
+    Ok(())
+}
+
+/// A text of version 2 that unfolds: a row of a million outputs, and 3,999 that repeat it.
+fn text_that_unfolds(alloc: Global) -> Result<String, Fail> {
+    let head = "xslt-typecheck certificate 2\noutputs 0\ntrees 4000\nt 0 0 10000 0";
+    let mut text = String::from_str(alloc, head)?;
+    for _ in 1..1000000 {
+        text.push_str(",0")?;
+    }
+    text.push_str(" -\n")?;
+    for i in 1..4000 {
+        let line = format!(in alloc; "T 0 0 {} - -\n", 10000 + i)?;
+        text.push_str(line.as_str())?;
+    }
+    text.push_str("hedges 0\nend\n")?;
+    Ok(text)
+}
+
+#[test]
+fn a_text_that_unfolds_is_told_in_its_own_size(rt: HostRuntime) -> Result<(), Fail> {
+    let text = text_that_unfolds(rt.alloc())?;
+    assert_eq!(rt; line_of_fit(rt.alloc(), text.as_bytes())?, 4);
     Ok(())
 }

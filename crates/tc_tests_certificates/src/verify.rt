@@ -1,6 +1,7 @@
 //! What the checker of certificates answers, by hand: the certificate of an element around any number of elements, for each of
 //! which one is put out, and changes of it.
 ghost use Rattle.std.specs.Prelude.{◌≡◌, ◌≤◌, length, IfOk};
+ghost use Rattle.tc_model.specs.CertificateData.{IsFormed};
 ghost use Rattle.tc_model.specs.Grammars.{IsGrammar};
 ghost use Rattle.tc_model.specs.SimplifiesLaws.{IsStart};
 ghost use Rattle.tc_model.specs.Views as see;
@@ -13,9 +14,9 @@ use std::test::Fail;
 use tc_alpha::Alphabet;
 use tc_auto::Auto;
 use tc_beh::{Machine, MachineFault};
+use tc_cert::read_cert;
 use tc_hedge::Hedge;
-use tc_model::{Grammar, Name, Sheet};
-use tc_model::{CertData, HedgeLine, HedgeLines, Numbers, PairLists, Pairs, TreeLine, TreeLines};
+use tc_model::{CertData, Grammar, Name, Sheet};
 use tc_read::{Schema, read_schema, read_sheet};
 use tc_rules::Rules;
 use tc_verify::{Reject, RejectRule, VerifyFault, verify};
@@ -120,72 +121,40 @@ fn sheet_text(alloc: Global, rules: &str) -> Result<String, Fail> {
     Ok(text)
 }
 
-
-// TEMPORARY reader
-fn numbers(alloc: Global, text: &str) -> Result<Numbers, Fail> {
-    let mut out = Numbers::new(alloc);
-    if text == "-" {
-        return Ok(out);
+/// The data of a certificate's text.
+fn data_of(alloc: Global, text: &str) -> Result<CertData, Fail>
+    ensures { IfOk result (λ d. IsFormed d) }
+{
+    if text.len() > LONGEST {
+        return Err(Fail::from("the text is short"));
     }
-    for part in text.split(',') {
-        let Ok(number) = part.parse::<u32>() else {
-            return Err(Fail::from("number"));
-        };
-        out.push(number)?;
+    match read_cert(alloc, text.as_bytes()) {
+        Ok(cert) => Ok(cert),
+        Err(_) => Err(Fail::from("the text is a certificate's")),
     }
-    Ok(out)
-}
-
-fn pairs(alloc: Global, text: &str) -> Result<Pairs, Fail> {
-    let mut out = Pairs::new(alloc);
-    for part in text.split(' ') {
-        let mut ends = part.split('>');
-        let (Some(from), Some(to)) = (ends.next(), ends.next()) else {
-            continue;
-        };
-        let (Ok(from), Ok(to)) = (from.parse::<u32>(), to.parse::<u32>()) else {
-            return Err(Fail::from("pair"));
-        };
-        out.push((from, to))?;
-    }
-    Ok(out)
-}
-
-fn data_of(alloc: Global, text: &str) -> Result<CertData, Fail> {
-    let mut outputs = PairLists::new(alloc);
-    let mut trees = TreeLines::new(alloc);
-    let mut hedges = HedgeLines::new(alloc);
-    for line in text.split('\n') {
-        let mut parts = line.split(' ');
-        let kind = parts.next().unwrap_or("");
-        if kind == "m" {
-            outputs.push(pairs(alloc, line)?)?;
-        }
-        if kind == "t" || kind == "h" {
-            let one = parts.next().unwrap_or("") == "1";
-            let other = parts.next().unwrap_or("") == "1";
-            let places = numbers(alloc, parts.next().unwrap_or(""))?;
-            let outs = numbers(alloc, parts.next().unwrap_or(""))?;
-            let looks = numbers(alloc, parts.next().unwrap_or(""))?;
-            if kind == "t" {
-                trees.push(TreeLine { text: one, bears: other, patterns: places, outs, looks })?;
-            } else {
-                hedges.push(HedgeLine { ends: one, bears: other, states: places, outs, looks })?;
-            }
-        }
-    }
-    Ok(CertData { outputs, trees, hedges })
 }
 
 const INPUT: &str = "element a{element b{empty}*}";
+
 const OUTPUT: &str = "element r{element x{empty}*}";
-const RULES: &str = "<xsl:template match=\"/\"><r><xsl:apply-templates select=\"a/b\"/></r></xsl:template><xsl:template match=\"b\"><x/></xsl:template>";
+
+const RULES: &str =
+    "<xsl:template match=\"/\"><r><xsl:apply-templates select=\"a/b\"/></r></xsl:template><xsl:template match=\"b\"><x/></xsl:template>";
+
 const FRONT: &str = "xslt-typecheck certificate 1\noutputs 2\nm 0>0 1>1 2>2 3>3 4>4\nm 2>3 3>3\n";
+
 const TREES: &str = "trees 3\nt 0 0 1 0,0,0 -\nt 0 0 1 1,1,0 -\nt 0 0 2 1,0,1 -\n";
+
 const HEDGES: &str = "hedges 2\nh 0 0 0,2 0,0,0 -\nh 0 0 1 1,0,1 -\nend\n";
 
 /// What is answered of a certificate in three parts, for the rules above and an output.
-fn answer(alloc: Global, output: &str, front: &str, trees: &str, hedges: &str) -> Result<Result<(), VerifyFault>, Fail> {
+fn answer(
+    alloc: Global,
+    output: &str,
+    front: &str,
+    trees: &str,
+    hedges: &str,
+) -> Result<Result<(), VerifyFault>, Fail> {
     let arena = Bump::new(alloc);
     let sheet = sheet_text(alloc, RULES)?;
     let machine = machine_of_texts(alloc, &arena, INPUT, output, sheet.as_str())?;
@@ -198,13 +167,17 @@ fn rejected(line: u32, rule: RejectRule, other: u32) -> Result<(), VerifyFault> 
     Err(VerifyFault::Rejected(Reject { line, rule, other }))
 }
 
-/// The certificate, and one with a further row that is closed under the rules.
+/// The certificate, in both versions, and one with a further row that is closed under the rules.
 #[test]
 fn accepts_certificates(rt: HostRuntime) -> Result<(), Fail> {
     let alloc = rt.alloc();
     assert_eq!(rt; answer(alloc, OUTPUT, FRONT, TREES, HEDGES)?, Ok(()));
     let more = "trees 4\nt 0 0 1 0,0,0 -\nt 0 0 1 1,0,1 -\nt 0 0 1 1,1,0 -\nt 0 0 2 1,0,1 -\n";
     assert_eq!(rt; answer(alloc, OUTPUT, FRONT, more, HEDGES)?, Ok(()));
+    let front = "xslt-typecheck certificate 2\noutputs 2\nm 0>0 1>1 2>2 3>3 4>4\nm 2>3 3>3\n";
+    let trees = "trees 3\nt 0 0 1 0,0,0 -\nT 0 0 1 0:1,1:1 -\nT 0 0 2 1:0,2:1 -\n";
+    let hedges = "hedges 2\nh 0 0 0,2 0,0,0 -\nH 0 0 1 0:1,2:1 -\nend\n";
+    assert_eq!(rt; answer(alloc, OUTPUT, front, trees, hedges)?, Ok(()));
     Ok(())
 }
 
@@ -213,32 +186,74 @@ fn accepts_certificates(rt: HostRuntime) -> Result<(), Fail> {
 fn tells_what_is_not_listed(rt: HostRuntime) -> Result<(), Fail> {
     let alloc = rt.alloc();
     let no_start = "hedges 1\nh 0 0 1 1,0,1 -\nend\n";
-    assert_eq!(rt; answer(alloc, OUTPUT, FRONT, TREES, no_start)?, rejected(0, RejectRule::Empty, 0));
+    assert_eq!(rt;
+        answer(alloc, OUTPUT, FRONT, TREES, no_start)?,
+        rejected(0, RejectRule::Empty, 0)
+    );
     let no_end = "hedges 1\nh 0 0 0,2 0,0,0 -\nend\n";
-    assert_eq!(rt; answer(alloc, OUTPUT, FRONT, TREES, no_end)?, rejected(10, RejectRule::Append, 8));
+    assert_eq!(rt;
+        answer(alloc, OUTPUT, FRONT, TREES, no_end)?,
+        rejected(10, RejectRule::Append, 8)
+    );
     Ok(())
 }
 
+/// A number of a line is out of range, or a list has another length.
 #[test]
 fn tells_what_does_not_fit(rt: HostRuntime) -> Result<(), Fail> {
     let alloc = rt.alloc();
     let front = "xslt-typecheck certificate 1\noutputs 2\nm 0>0 1>1 2>2 3>3 4>4\nm 2>5 3>3\n";
-    assert_eq!(rt; answer(alloc, OUTPUT, front, TREES, HEDGES)?, rejected(4, RejectRule::Fit, 0));
-    for line in ["t 0 0 1 0,0,4294967295 -", "t 0 0 1 0,0 -", "t 0 0 0 0,0,0 -", "t 0 0 3 0,0,0 -", "t 0 0 1 0,0,0 0"] {
+    assert_eq!(rt;
+        answer(alloc, OUTPUT, front, TREES, HEDGES)?,
+        rejected(4, RejectRule::Fit, 0)
+    );
+    for line in [
+        "t 0 0 1 0,0,4294967295 -",
+        "t 0 0 1 0,0 -",
+        "t 0 0 0 0,0,0 -",
+        "t 0 0 1 0,0,0 0",
+    ] {
         let trees = format!(in alloc; "trees 3\n{line}\nt 0 0 1 1,1,0 -\nt 0 0 2 1,0,1 -\n")?;
-        assert_eq!(rt; answer(alloc, OUTPUT, FRONT, trees.as_str(), HEDGES)?, rejected(6, RejectRule::Fit, 0));
+        assert_eq!(rt;
+            answer(alloc, OUTPUT, FRONT, trees.as_str(), HEDGES)?,
+            rejected(6, RejectRule::Fit, 0)
+        );
     }
-    for line in ["h 0 0 1 1,0,2 -", "h 0 0 1 1,0,1,0 -", "h 0 0 3 1,0,1 -", "h 0 0 1 1,0,1 2"] {
+    let last = "trees 3\nt 0 0 1 0,0,0 -\nt 0 0 1 1,1,0 -\nt 0 0 3 1,0,1 -\n";
+    assert_eq!(rt;
+        answer(alloc, OUTPUT, FRONT, last, HEDGES)?,
+        rejected(8, RejectRule::Fit, 0)
+    );
+    Ok(())
+}
+
+/// The numbers of rows of lists of trees are in range too.
+#[test]
+fn tells_lists_that_do_not_fit(rt: HostRuntime) -> Result<(), Fail> {
+    let alloc = rt.alloc();
+    for line in [
+        "h 0 0 1 1,0,2 -",
+        "h 0 0 1 1,0,1,0 -",
+        "h 0 0 3 1,0,1 -",
+        "h 0 0 1 1,0,1 2",
+    ] {
         let hedges = format!(in alloc; "hedges 2\nh 0 0 0,2 0,0,0 -\n{line}\nend\n")?;
-        assert_eq!(rt; answer(alloc, OUTPUT, FRONT, TREES, hedges.as_str())?, rejected(11, RejectRule::Fit, 0));
+        assert_eq!(rt;
+            answer(alloc, OUTPUT, FRONT, TREES, hedges.as_str())?,
+            rejected(11, RejectRule::Fit, 0)
+        );
     }
     Ok(())
 }
 
+/// What a document of a row gives isn't valid.
 #[test]
 fn tells_what_fails_at_the_root(rt: HostRuntime) -> Result<(), Fail> {
     let alloc = rt.alloc();
-    assert_eq!(rt; answer(alloc, "element r{element x{empty}+}", FRONT, TREES, HEDGES)?, rejected(6, RejectRule::Root, 0));
+    assert_eq!(rt;
+        answer(alloc, "element r{element x{empty}+}", FRONT, TREES, HEDGES)?,
+        rejected(6, RejectRule::Root, 0)
+    );
     Ok(())
 }
 
@@ -249,11 +264,90 @@ fn tells_symbols(rt: HostRuntime) -> Result<(), Fail> {
     let arena = Bump::new(alloc);
     let sheet = sheet_text(alloc, RULES)?;
     let machine = machine_of_texts(alloc, &arena, INPUT, OUTPUT, sheet.as_str())?;
-    let a = machine.alphabet().sym_of(&Name { uri: "", local: "a" }).0;
-    let b = machine.alphabet().sym_of(&Name { uri: "", local: "b" }).0;
+    let a = machine
+        .alphabet()
+        .sym_of(&Name {
+            uri: "",
+            local: "a",
+        })
+        .0;
+    let b = machine
+        .alphabet()
+        .sym_of(&Name {
+            uri: "",
+            local: "b",
+        })
+        .0;
     let no_b = "trees 2\nt 0 0 1 0,0,0 -\nt 0 0 1 1,1,0 -\n";
-    assert_eq!(rt; answer(alloc, OUTPUT, FRONT, no_b, HEDGES)?, rejected(9, RejectRule::Wrap, b));
+    assert_eq!(rt;
+        answer(alloc, OUTPUT, FRONT, no_b, HEDGES)?,
+        rejected(9, RejectRule::Wrap, b)
+    );
     let other_a = "trees 3\nt 0 0 - 0,0,0 -\nt 0 0 1 1,1,0 -\nt 0 0 2 1,0,1 -\n";
-    assert_eq!(rt; answer(alloc, OUTPUT, FRONT, other_a, HEDGES)?, rejected(10, RejectRule::Wrap, a));
+    assert_eq!(rt;
+        answer(alloc, OUTPUT, FRONT, other_a, HEDGES)?,
+        rejected(10, RejectRule::Wrap, a)
+    );
+    Ok(())
+}
+
+/// A text that may stand in the input has its row listed.
+#[test]
+fn tells_texts(rt: HostRuntime) -> Result<(), Fail> {
+    let alloc = rt.alloc();
+    let arena = Bump::new(alloc);
+    let sheet = sheet_text(
+        alloc,
+        "<xsl:template match=\"/\"><r><xsl:apply-templates/></r></xsl:template><xsl:template match=\"text()\"><x/></xsl:template>",
+    )?;
+    let machine = machine_of_texts(
+        alloc,
+        &arena,
+        "element a{text}",
+        "element r{element x{empty}?}",
+        sheet.as_str(),
+    )?;
+    let mut entries = String::from_str(alloc, "0")?;
+    for _ in 1..machine.shape().entries {
+        entries.push_str(",0")?;
+    }
+    let text = format!(in alloc;
+        "xslt-typecheck certificate 1\noutputs 1\nm 0>0 1>1 2>2 3>3 4>4\ntrees 0\nhedges 1\nh 0 0 0 {entries} -\nend\n"
+    )?;
+    let cert = data_of(alloc, text.as_str())?;
+    assert_eq!(rt;
+        verify(alloc, &machine, &cert),
+        rejected(0, RejectRule::Text, 0)
+    );
+    Ok(())
+}
+
+/// A name that nothing mentions has its symbol.
+#[test]
+fn tells_symbols_of_other_names(rt: HostRuntime) -> Result<(), Fail> {
+    let alloc = rt.alloc();
+    let arena = Bump::new(alloc);
+    let sheet = sheet_text(
+        alloc,
+        "<xsl:template match=\"*\"><xsl:copy><xsl:apply-templates/></xsl:copy></xsl:template>",
+    )?;
+    let schema = "element *{empty}";
+    let machine = machine_of_texts(alloc, &arena, schema, schema, sheet.as_str())?;
+    let mut entries = String::from_str(alloc, "0")?;
+    for _ in 1..machine.shape().entries {
+        entries.push_str(",0")?;
+    }
+    let text = format!(in alloc;
+        "xslt-typecheck certificate 1\noutputs 2\nm 0>0 1>1 2>2\nm 0>1\ntrees 0\nhedges 1\nh 0 0 0 {entries} -\nend\n"
+    )?;
+    let cert = data_of(alloc, text.as_str())?;
+    let other = machine.alphabet().sym_of(&Name {
+        uri: "urn:n",
+        local: "n",
+    });
+    assert_eq!(rt;
+        verify(alloc, &machine, &cert),
+        rejected(7, RejectRule::Wrap, other.0)
+    );
     Ok(())
 }

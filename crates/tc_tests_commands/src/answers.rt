@@ -133,13 +133,14 @@ fn tells_the_usage(rt: HostRuntime) -> Result<(), Fail> {
 
 #[test]
 fn refuses_commands_that_are_not_built(rt: HostRuntime) -> Result<(), Fail> {
-    let commands: [(&[&str], &str); 3] = [
+    let commands: [(&[&str], &str); 4] = [
         (&["prove", "I", "O", "S"], "refused prove not-yet\n"),
         (
             &["prove", "--limit", "1", "I", "O", "S"],
             "refused prove not-yet\n",
         ),
         (&["verify", "I", "O", "S", "C"], "refused verify not-yet\n"),
+        (&["upgrade", "C"], "refused upgrade not-yet\n"),
     ];
     for (words, text) in commands {
         let words = word_list(rt.alloc(), words)?;

@@ -26,12 +26,7 @@ fn answers(
 }
 
 /// Whether `include A B` writes this text, with its status.
-fn include_writes(
-    alloc: Global,
-    first: &str,
-    second: &str,
-    text: &str,
-) -> Result<bool, Fail> {
+fn include_writes(alloc: Global, first: &str, second: &str, text: &str) -> Result<bool, Fail> {
     answers(
         alloc,
         &["include", "A", "B"],
@@ -76,12 +71,7 @@ fn line(alloc: Global, front: &str, text: &str) -> Result<String, Fail> {
 }
 
 /// Whether `valid` finds a document valid for the first schema and not for the second.
-fn tells_apart(
-    alloc: Global,
-    first: &str,
-    second: &str,
-    document: &str,
-) -> Result<bool, Fail> {
+fn tells_apart(alloc: Global, first: &str, second: &str, document: &str) -> Result<bool, Fail> {
     let command = &["valid", "A", "B"];
     Ok(
         answers(alloc, command, first, document, Status::Yes, "valid\n")?
@@ -172,13 +162,25 @@ const STRICTLY_INCLUDED: &[(&str, &str, &str)] = &[
 fn of_two_schemas_one_is_included(rt: HostRuntime) -> Result<(), Fail> {
     for (smaller, larger, document) in STRICTLY_INCLUDED {
         let alloc = rt.alloc();
-        assert!(rt; tells_apart(alloc, larger, smaller, document)?, "{larger} {document}");
+        assert!(rt;
+            tells_apart(alloc, larger, smaller, document)?,
+            "{larger} {document}"
+        );
         let text = line(alloc, "not-included\ndocument ", document)?;
-        assert!(rt; include_writes(alloc, larger, smaller, text.as_str())?, "{larger}");
+        assert!(rt;
+            include_writes(alloc, larger, smaller, text.as_str())?,
+            "{larger}"
+        );
         let text = line(alloc, "different\nsecond-only ", document)?;
-        assert!(rt; same_writes(alloc, smaller, larger, text.as_str())?, "{smaller}");
+        assert!(rt;
+            same_writes(alloc, smaller, larger, text.as_str())?,
+            "{smaller}"
+        );
         let text = line(alloc, "different\nfirst-only ", document)?;
-        assert!(rt; same_writes(alloc, larger, smaller, text.as_str())?, "{larger}");
+        assert!(rt;
+            same_writes(alloc, larger, smaller, text.as_str())?,
+            "{larger}"
+        );
     }
     Ok(())
 }
@@ -220,7 +222,10 @@ fn inclusion_tells_how_many_rows_there_are(rt: HostRuntime) -> Result<(), Fail> 
             "included trees 2 hedges 3\n",
         ),
     ] {
-        assert!(rt; include_writes(rt.alloc(), first, second, text)?, "{first} {second}");
+        assert!(rt;
+            include_writes(rt.alloc(), first, second, text)?,
+            "{first} {second}"
+        );
     }
     Ok(())
 }
@@ -281,8 +286,14 @@ fn schemas_are_the_same_however_they_are_written(rt: HostRuntime) -> Result<(), 
         ("element (a|b){empty}", "element a{empty}|element b{empty}"),
     ] {
         let alloc = rt.alloc();
-        assert!(rt; same_writes(alloc, first, second, "same\n")?, "{first} {second}");
-        assert!(rt; same_writes(alloc, second, first, "same\n")?, "{second} {first}");
+        assert!(rt;
+            same_writes(alloc, first, second, "same\n")?,
+            "{first} {second}"
+        );
+        assert!(rt;
+            same_writes(alloc, second, first, "same\n")?,
+            "{second} {first}"
+        );
     }
     Ok(())
 }
@@ -321,7 +332,14 @@ fn a_document_has_two_thousand_nodes_at_most(rt: HostRuntime) -> Result<(), Fail
     assert!(rt; include_writes(alloc, large.as_str(), nothing, limit)?);
     assert!(rt; same_writes(alloc, large.as_str(), nothing, limit)?);
     assert!(rt; same_writes(alloc, nothing, large.as_str(), limit)?);
-    assert!(rt; same_writes(alloc, large.as_str(), small, "different\nsecond-only <z/>\n")?);
+    assert!(rt;
+        same_writes(
+            alloc,
+            large.as_str(),
+            small,
+            "different\nsecond-only <z/>\n"
+        )?
+    );
     assert!(rt; same_writes(alloc, small, large.as_str(), "different\nfirst-only <z/>\n")?);
 
     let least = doubled(alloc, 10)?;
@@ -329,7 +347,14 @@ fn a_document_has_two_thousand_nodes_at_most(rt: HostRuntime) -> Result<(), Fail
     let text = line(alloc, "not-included\ndocument ", document.as_str())?;
     assert!(rt; include_writes(alloc, least.as_str(), nothing, text.as_str())?);
     assert!(rt; tells_apart(alloc, least.as_str(), nothing, document.as_str())?);
-    assert!(rt; same_writes(alloc, least.as_str(), small, "different\nsecond-only <z/>\n")?);
+    assert!(rt;
+        same_writes(
+            alloc,
+            least.as_str(),
+            small,
+            "different\nsecond-only <z/>\n"
+        )?
+    );
     Ok(())
 }
 
@@ -341,8 +366,10 @@ fn many_trees(alloc: Global, count: u32) -> Result<String, Fail> {
     for number in 0..count {
         let part = format!(in alloc; "|n{number}|p{number}")?;
         start.push_str(part.as_str())?;
-        let rule = format!(in alloc; "n{number} = element n{number}{{k}}\n\
-            p{number} = element *{{element k{number}{{empty}}}}\n")?;
+        let rule = format!(in alloc;
+            "n{number} = element n{number}{{k}}\n\
+            p{number} = element *{{element k{number}{{empty}}}}\n"
+        )?;
         rules.push_str(rule.as_str())?;
     }
     start.push_str(rules.as_str())?;
@@ -370,7 +397,14 @@ fn there_are_two_thousand_rows_at_most(rt: HostRuntime) -> Result<(), Fail> {
     assert!(rt; include_writes(alloc, hedges.as_str(), small, "limit hedges 2000\n")?);
     assert!(rt; same_writes(alloc, small, hedges.as_str(), "limit hedges 2000\n")?);
     // live trees are those of the first schema alone
-    assert!(rt; include_writes(alloc, "element b{empty}", hedges.as_str(), "not-included\ndocument <b/>\n")?);
+    assert!(rt;
+        include_writes(
+            alloc,
+            "element b{empty}",
+            hedges.as_str(),
+            "not-included\ndocument <b/>\n"
+        )?
+    );
     Ok(())
 }
 
@@ -406,9 +440,27 @@ fn limits_are_tried_in_order(rt: HostRuntime) -> Result<(), Fail> {
     let alloc = rt.alloc();
     let small = "element a{empty}";
     // 512 states in all: those of `b`, of which there is one, and one before and behind each `b`
-    let within = repeated(alloc, "start = element a{b", ",b", 509, "} b = element b{empty}")?;
-    let states = repeated(alloc, "start = element a{b", ",b", 510, "} b = element b{empty}")?;
-    let elements = repeated(alloc, "start = element a{empty}", "|element b{empty}", 256, "")?;
+    let within = repeated(
+        alloc,
+        "start = element a{b",
+        ",b",
+        509,
+        "} b = element b{empty}",
+    )?;
+    let states = repeated(
+        alloc,
+        "start = element a{b",
+        ",b",
+        510,
+        "} b = element b{empty}",
+    )?;
+    let elements = repeated(
+        alloc,
+        "start = element a{empty}",
+        "|element b{empty}",
+        256,
+        "",
+    )?;
     for (first, second, text) in [
         (within.as_str(), within.as_str(), "same\n"),
         (states.as_str(), small, "limit states 512\n"),
@@ -434,11 +486,21 @@ fn limits_are_tried_in_order(rt: HostRuntime) -> Result<(), Fail> {
 fn texts_are_refused_before_limits(rt: HostRuntime) -> Result<(), Fail> {
     let alloc = rt.alloc();
     let good = "element a{empty}";
-    let states = repeated(alloc, "start = element a{b", ",b", 510, "} b = element b{empty}")?;
+    let states = repeated(
+        alloc,
+        "start = element a{b",
+        ",b",
+        510,
+        "} b = element b{empty}",
+    )?;
     for (first, second, text) in [
         ("start = b", "element a{", "refused A undefined at 8\n"),
         (good, "start = b", "refused B undefined at 8\n"),
-        (states.as_str(), "start = empty", "refused B bad-start at 0\n"),
+        (
+            states.as_str(),
+            "start = empty",
+            "refused B bad-start at 0\n",
+        ),
     ] {
         assert!(rt; include_writes(alloc, first, second, text)?, "{text}");
         assert!(rt; same_writes(alloc, first, second, text)?, "{text}");

@@ -8,6 +8,8 @@ mod matrices;
 #[cfg(test)]
 mod path_states;
 #[cfg(test)]
+mod random_rows;
+#[cfg(test)]
 mod rows;
 #[cfg(test)]
 mod runs;

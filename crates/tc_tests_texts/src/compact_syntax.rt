@@ -18,7 +18,7 @@ fn fault(rt: HostRuntime, text: &[u8]) -> Option<RncFault> {
 
 #[test]
 fn phrases_are_read(rt: HostRuntime) {
-    let texts: [&[u8]; 25] = [
+    let texts: [&[u8]; 26] = [
         b"",
         b"start = b",
         b"start = empty",
@@ -44,6 +44,7 @@ fn phrases_are_read(rt: HostRuntime) {
         b"element a { attribute b { {x} \"}\" # }\n \\x{} } }",
         b"attribute * { ( [ , \"\\x{41}\" ) \\ >> }?",
         b"element a { attribute b { } }",
+        b"element a { attribute b { \"\"\"}\n\"{\"\"\" } }",
     ];
     for text in texts {
         assert!(rt; fault(rt, text).is_none());
@@ -91,7 +92,7 @@ fn other_texts_are_malformed(rt: HostRuntime) {
 
 #[test]
 fn constructs_that_are_not_read_have_their_reasons(rt: HostRuntime) {
-    let table: [(&[u8], u32, Why); 26] = [
+    let table: [(&[u8], u32, Why); 32] = [
         (b"p:a", 0, Why::N6),
         (b"element a { string }", 12, Why::N6),
         (b"element a { token, \"b\" }", 12, Why::N6),
@@ -117,6 +118,12 @@ fn constructs_that_are_not_read_have_their_reasons(rt: HostRuntime) {
         (b"a = \"\\x{41}", 5, Why::N15),
         (b"namespace a = \"\"\"b\"\"\" empty", 14, Why::N16),
         (b"a = '''b'''", 4, Why::N16),
+        (b"a = \"\"'b'", 4, Why::N7),
+        (b"a = \"\" \"b\"", 4, Why::N7),
+        (b"namespace a = \"\"\"\nb\"\"\" empty", 14, Why::N16),
+        (b"a = \"\"\"b", 4, Why::N16),
+        (b"a = '''\nb\"\"\" \\x{41}'''", 13, Why::N15),
+        (b"a = '''b''' \\x{41}", 4, Why::N16),
         (b"namespace a = \"b\" ~ \"c\" empty", 18, Why::N17),
     ];
     for (text, place, why) in table {

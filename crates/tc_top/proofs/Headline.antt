@@ -15,10 +15,10 @@ use Rattle.tc_print.proofs.ReadBack.{read_back}
 use Rattle.tc_top.specs.Checking.{most_rows, IsCompiled, HasFewRows, AreRowCounts, IsLeastCounter, HasSmallCounter, HasLargeCounters}
 use Rattle.tc_top.specs.Headline.{IsCutShort, ChecksFiles, ChecksShortFiles, ShowsCounterexample, shows_both, shows_document, ShowsRun, shows_result, shows_large, IsLimited, limited_before_rows, limited_in_rows, limited_in_nodes, DecidesSafety, ValidatesFiles, DecidesValidity, RunsFiles, GivesResult}
 use Rattle.tc_answer.specs.Answers.{Answer, usage, not_yet, cannot_read, file_limit, safe, unsafe, unsafe_large, rows_limit, counterexample_limit, certificate, certificate_limit, accepted, rejected, included, not_included, equal, first_only, second_only, refused, over_limit, is_valid, is_invalid, has_result, work_limit, open_limit, status_of, text_of}
-use Rattle.tc_top.specs.Answers.{IsBuilt, IsAnswerTo, checked, ran, validated, shown, IsAnswer, Ends, Gives, KeepsToLimits}
+use Rattle.tc_top.specs.Answers.{IsBuilt, IsAnswerTo, checked, ran, validated, shown, IsAnswer, Ends, KeepsToLimits}
 use Rattle.tc_top.specs.Causes.{Finds, passes_compile, passes_rows, finds_safe, finds_unsafe, finds_large, finds_none_small, Runs, sheet_passes, too_much_work, too_open, gives_result, Checks, Validates, RunsTexts}
 use Rattle.tc_top.specs.AnswersSeen.{IsRightFor}
-use Rattle.tc_top.specs.OneAnswer.{AreAlike, same_answer, counterexamples, large_counterexamples, large_or_not, not_large_or_large, documents_not_included, documents_of_first, documents_of_second, row_limits, work_or_open, open_or_work, open_reasons, IsOfFault}
+use Rattle.tc_top.specs.OneAnswer.{AreAlike, same_answer, GivesOneLike, IsOfFault}
 use Rattle.tc_answer.specs.declared.answer.Answer.{Answer as Said}
 use Rattle.tc_answer.specs.declared.status.Status.{Status}
 use Rattle.tc_answer.specs.declared.status.Status.TheVariants.{Yes, No, Limit}
@@ -28,25 +28,12 @@ use Rattle.tc_read.specs.Sheets.{IsSheetOf}
 use Rattle.tc_top.specs.Demo.{demo_schema, demo_sheet, input_name, output_name, sheet_name}
 use Rattle.tc_answer.specs.declared.limits.TheConstants.{MOST_ROWS}
 use Rattle.tc_answer.specs.Words.{Words, check, run, valid, demo}
-use Rattle.tc_top.proofs.Exact.{Agrees, AreHeld, no_file, holds, AreShort, none_long, is_short, decided_only, shown_reads, read_all, held_decided}
+use Rattle.tc_answer.proofs.ReadsOnce.{AreHeld, no_file, holds, AreShort, none_long, is_short}
+use Rattle.tc_top.proofs.Exact.{Agrees, decided_only, shown_reads, read_all, held_decided}
 use Rattle.tc_top.proofs.OneCheck.{not_both, over_compile, one_compile, near_far, finds_of}
 use Rattle.tc_answer.proofs.OneCommand.{one_command}
 use Rattle.tc_top.proofs.OneValidity.{Settles, settles_valid, settles_invalid, settles}
 use Rattle.tc_top.proofs.OneRun.{one_result, runs_of, not_within, not_few, not_low}
-
-alike_status : {one other : Answer} → AreAlike one other → status_of other ≡ status_of one
-alike_status same_answer = refl
-alike_status counterexamples = refl
-alike_status large_counterexamples = refl
-alike_status large_or_not = refl
-alike_status not_large_or_large = refl
-alike_status documents_not_included = refl
-alike_status documents_of_first = refl
-alike_status documents_of_second = refl
-alike_status row_limits = refl
-alike_status work_or_open = refl
-alike_status open_or_work = refl
-alike_status (open_reasons o p) = refl
 
 -- a call that tells of a fault of reading is cut short
 pub cut_short : {rose : Type 0} (status : Status) (answer : Answer) → status ≡ status_of answer → IsOfFault rose answer → IsCutShort status rose
@@ -76,9 +63,10 @@ cut_short status (has_result result) e h = absurd h
 cut_short status work_limit e h = absurd h
 cut_short status open_limit e h = absurd h
 
-pub gives : {rose : Type 0} (status : Status) (one other : Answer) → status ≡ status_of other → Agrees rose one other → Gives status rose one
-gives status one other e (inl alike) = inl (e ∙ alike_status alike)
-gives status one other e (inr fault) = inr (cut_short status other e fault)
+pub gives : {rose : Type 0} (status : Status) (old new : Option (List ℕ)) (one other : Answer) → status ≡ status_of other → Appended old new (text_of other) → Agrees rose one other
+    → IsCutShort status rose ⊎ GivesOneLike status old new one
+gives status old new one other e written (inl alike) = inr (record { given = other; alike = alike; status_is = e; written = written })
+gives status old new one other e written (inr fault) = inl (cut_short status other e fault)
 
 -- an answer that is right for the same words
 pub at_words : {words other : List (List ℕ)} {happened : List Read → Type 0} {said : Said} → words ≡ other → IsRightFor words happened said → IsRightFor other happened said
@@ -104,17 +92,17 @@ reads_back {document = document} least = read_back document (record { document =
 
 -- what a status isn't
 
-not_no : {status : Status} → status ≡ Yes → status ≡ No → ⊥
+pub not_no : {status : Status} → status ≡ Yes → status ≡ No → ⊥
 not_no e f = absurd (let g = sym e ∙ f in cc)
 
-not_limit : {status : Status} → status ≡ Yes → status ≡ Limit → ⊥
+pub not_limit : {status : Status} → status ≡ Yes → status ≡ Limit → ⊥
 not_limit e f = absurd (let g = sym e ∙ f in cc)
 
-no_limit : {status : Status} → status ≡ No → status ≡ Limit → ⊥
+pub no_limit : {status : Status} → status ≡ No → status ≡ Limit → ⊥
 no_limit e f = absurd (let g = sym e ∙ f in cc)
 
 -- the line of the one limit that is told
-compile_lines : (old new : Option (List ℕ)) {kind other : kinds.Limit} {number count : ℕ} → AreAlike (over_limit kind number) (over_limit other count) → Appended old new (text_of (over_limit kind number))
+pub compile_lines : (old new : Option (List ℕ)) {kind other : kinds.Limit} {number count : ℕ} → AreAlike (over_limit kind number) (over_limit other count) → Appended old new (text_of (over_limit kind number))
     → Appended old new (text_of (over_limit other count))
 compile_lines old new same_answer written = written
 
@@ -126,7 +114,7 @@ module _ (most : ℕ) (i o : Grammar) (s : Sheet) (status : Status) (old new : O
   Decides = DecidesSafety status old new most i o s
 
   -- what isn't limited
-  few_not_limited : IsCompiled i o s → HasFewRows i o s most → (HasLargeCounters i o s → ⊥) → IsLimited most i o s → ⊥
+  pub few_not_limited : IsCompiled i o s → HasFewRows i o s most → (HasLargeCounters i o s → ⊥) → IsLimited most i o s → ⊥
   few_not_limited w f n (limited_before_rows p) = over_compile p w
   few_not_limited w f n (limited_in_rows count v p) = f count p
   few_not_limited w f n (limited_in_nodes v g l) = n l
@@ -158,7 +146,7 @@ module _ (most : ℕ) (i o : Grammar) (s : Sheet) (status : Status) (old new : O
   }
 
   -- what is found decides all
-  decides : {answer : Answer} → status ≡ status_of answer → Appended old new (text_of answer) → Finds most i o s answer → Decides
+  pub decides : {answer : Answer} → status ≡ status_of answer → Appended old new (text_of answer) → Finds most i o s answer → Decides
   decides is written (passes_compile {kind = k} {number = n} p) = record {
     yes = (λ e. absurd (not_limit e is), λ x. absurd (over_compile p x.0));
     no = (λ e. absurd (no_limit e is), λ x. absurd (over_compile p x.0));

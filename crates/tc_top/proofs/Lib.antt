@@ -9,9 +9,11 @@ pub mod Compiling
 pub mod Compared
 pub mod OneCheck
 pub mod OneComparison
+pub mod ComparingExact
 pub mod Exact
 pub mod OneAnswer
 pub mod Headline
+pub mod Comparisons
 pub mod RejectedAlike
 pub mod OneCertifying
 pub mod CertifiedTexts

@@ -123,18 +123,18 @@ module _ {a b : Grammar} where
   equality_one (finds_no_one_shown w1 f1 g1 d1 l1) (finds_second_only w2 f2 g2 d2 s2 k2 l2) = absurd (let far = l1 _ (inr d2) in omega (arith, far, s2.few))
   equality_one (finds_no_one_shown w1 f1 g1 d1 l1) (finds_no_one_shown w2 f2 g2 d2 l2) = same_answer
 
-  finds_one : (question : Question) {one other : Answer} → FindsBoth a b question one → FindsBoth a b question other → AreAlike one other
-  finds_one inclusion x y = inclusion_one x y
-  finds_one equality x y = equality_one x y
+finds_one : (a b : Grammar) (question : Question) (one other : Answer) → FindsBoth a b question one → FindsBoth a b question other → AreAlike one other
+finds_one a b inclusion one other x y = inclusion_one x y
+finds_one a b equality one other x y = equality_one x y
 
-finds_same : (question : Question) {a b c d : Grammar} {answer : Answer} → a ≡ c → b ≡ d → FindsBoth a b question answer → FindsBoth c d question answer
-finds_same question {a} {b} {c} {d} {answer} p q x = subst (λ (g : Grammar). FindsBoth c g question answer) q (subst (λ (g : Grammar). FindsBoth g b question answer) p x)
+finds_same : (question : Question) (a b c d : Grammar) (answer : Answer) → a ≡ c → b ≡ d → FindsBoth a b question answer → FindsBoth c d question answer
+finds_same question a b c d answer p q x = subst (λ (g : Grammar). FindsBoth c g question answer) q (subst (λ (g : Grammar). FindsBoth g b question answer) p x)
 
 -- what is decided, the texts being read
 pub compared_of : {question : Question} {first second c d : List ℕ} {a b : Grammar} {answer : Answer} → RncText c a → RncText d b → Compares question first second c d answer → FindsBoth a b question answer
 compared_of x y (first_refused {reason = w} {place = p} r) = absurd (no_schema w p r x)
 compared_of x y (second_refused {reason = w} {place = p} g r) = absurd (no_schema w p r y)
-compared_of {question = question} {c = c} {d = d} {a = a} {b = b} x y (both_schemas {a = g} {b = h} k l f) = finds_same question (one_rnc_text c g a k x) (one_rnc_text d h b l y) f
+compared_of {question = question} {c = c} {d = d} {a = a} {b = b} {answer = answer} x y (both_schemas {a = g} {b = h} k l f) = finds_same question g h a b answer (one_rnc_text c g a k x) (one_rnc_text d h b l y) f
 
 -- the answer that the texts decide is one
 pub compares_one : {question : Question} {first second c d : List ℕ} {one other : Answer} → Compares question first second c d one → Compares question first second c d other → AreAlike one other
@@ -146,4 +146,4 @@ compares_one {second = n} {d = d} (second_refused g r) (second_refused h q) = sc
 compares_one (second_refused {reason = w} {place = p} g r) (both_schemas h k f) = absurd (no_schema w p r k)
 compares_one (both_schemas g h f) (first_refused {reason = w} {place = p} q) = absurd (no_schema w p q g)
 compares_one (both_schemas g h f) (second_refused {reason = w} {place = p} k q) = absurd (no_schema w p q h)
-compares_one {question = question} {first = n} {second = m} (both_schemas g h f) (both_schemas k l e) = finds_one question f (compared_of {first = n} {second = m} g h (both_schemas k l e))
+compares_one {question = question} {first = n} {second = m} {one = one} {other = other} (both_schemas {a = i} {b = j} g h f) (both_schemas k l e) = finds_one i j question one other f (compared_of {question = question} {first = n} {second = m} {answer = other} g h (both_schemas k l e))

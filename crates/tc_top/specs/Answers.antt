@@ -1,5 +1,5 @@
 -- The answer of a call, with its cause, and how the call ends.
-use Rattle.std.specs.Prelude.{◌≡◌, ◌⊎◌, ◌↔◌, ℕ, List, [], ◌∷◌, Option, Some, Ok}
+use Rattle.std.specs.Prelude.{◌≡◌, ◌↔◌, ℕ, List, [], ◌∷◌, Option, Some, Ok}
 use Rattle.tc_io.specs.Store.{Files, Read}
 use Rattle.tc_io.specs.Reads.{AreTrue}
 use Rattle.tc_io.specs.Sink.{Appended, WroteFront}
@@ -10,7 +10,6 @@ use Rattle.tc_model.specs.Sheets.{Sheet}
 use Rattle.tc_top.specs.Checking.{most_rows}
 use Rattle.tc_answer.specs.declared.limits.TheConstants.{MOST_ROWS}
 use Rattle.tc_top.specs.Demo.{demo_schema, demo_sheet, input_name, output_name, sheet_name}
-use Rattle.tc_top.specs.Headline.{IsCutShort}
 use Rattle.tc_answer.specs.Words.{Command, check, prove, verify, run, valid, demo, upgrade, include, same, Words, IsNoCommand, name_of, operands_of}
 use Rattle.tc_top.specs.Limits.{IsRunWithin}
 use Rattle.tc_answer.specs.Reading.{StopsAt, IsUnreadable, AreRead}
@@ -73,10 +72,6 @@ pub data Ends (words : List (List ℕ)) (happened : List Read → Type 0) (fault
   broken_off : {reads : List Read} {answer : Answer} {status : Status} → happened reads → IsAnswer words reads answer → status ≡ WriteFault → WroteFront old new (text_of answer) → faulted
       → Ends words happened faulted old new status
   out_of_memory : {command : Command} {status : Status} → Words words command → status ≡ NoMemory → Ends words happened faulted old new status
-
--- the status is that of the answer, unless the call was cut short
-abbrev pub Gives : Status → Type 0 → Answer → Type 0
-Gives status rose answer = (status ≡ status_of answer) ⊎ IsCutShort status rose
 
 -- the answer is yes exactly within the limits of a run, and else a limit that is passed
 pub record KeepsToLimits (status : Status) (old new : Option (List ℕ)) (s : Sheet) (d : Trees) : Type 0 where

@@ -3,6 +3,7 @@ pub mod Checking
 pub mod Compiled
 pub mod Comparing
 pub mod Pairs
+pub mod ComparedFiles
 pub mod Demo
 pub mod Causes
 pub mod Headline

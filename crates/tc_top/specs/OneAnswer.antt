@@ -1,6 +1,8 @@
 -- That an answer is the only one: what the causes exclude, and what they leave open.
-use Rattle.std.specs.Prelude.{◌≡◌, ◌⊎◌, ℕ, List, Some}
+use Rattle.std.specs.Prelude.{◌≡◌, ◌⊎◌, ℕ, List, Option, Some}
+use Rattle.tc_answer.specs.declared.status.Status.{Status}
 use Rattle.tc_io.specs.Faults.{Rose}
+use Rattle.tc_io.specs.Sink.{Appended}
 use Rattle.tc_io.specs.Store.{Files, Read}
 use Rattle.tc_io.specs.Reads.{AreTrue}
 use Rattle.tc_model.specs.RawTrees.{RawTrees}
@@ -8,7 +10,7 @@ use Rattle.tc_model.specs.SheetTextTrees.{Template}
 use Rattle.tc_model.specs.SheetTextPhrases.{IsStylesheet}
 use Rattle.tc_model.specs.Trees.{Trees}
 use Rattle.tc_model.specs.XmlText.{XmlText}
-use Rattle.tc_answer.specs.Answers.{Answer, cannot_read, unsafe, unsafe_large, not_included, first_only, second_only, rows_limit, refused, work_limit, open_limit}
+use Rattle.tc_answer.specs.Answers.{Answer, cannot_read, unsafe, unsafe_large, not_included, first_only, second_only, rows_limit, refused, work_limit, open_limit, status_of, text_of}
 use Rattle.tc_top.specs.Answers.{IsAnswer, IsAnswerOn}
 use Rattle.tc_answer.specs.Lines.{RowCount}
 use Rattle.tc_read.specs.Refusals.{IsRefusedDocument, IsRefusedSheet}
@@ -39,6 +41,13 @@ pub data AreAlike : Answer → Answer → Type 0 where
   open_or_work : AreAlike open_limit work_limit
   open_reasons : {name : List ℕ} {reason other_reason : Reason} {place other_place : ℕ} → IsOpen reason → IsOpen other_reason
       → AreAlike (refused name reason place) (refused name other_reason other_place)
+
+-- an answer that is one with this, and its lines
+pub record GivesOneLike (status : Status) (old new : Option (List ℕ)) (answer : Answer) : Type 0 where
+  pub given : Answer
+  pub alike : AreAlike answer given
+  pub status_is : status ≡ status_of given
+  pub written : Appended old new (text_of given)
 
 -- words and what was read have one answer
 abbrev pub HasOneAnswer : Type 0

@@ -18,14 +18,12 @@ ghost use Rattle.tc_top.specs.Compiled.{IsSpelled, IsReadOf};
 ghost use Rattle.tc_answer.specs.Words as w;
 ghost use Rattle.tc_answer.specs.Words.{Words};
 
-use tc_answer::{Answer, RowCount};
-use tc_answer::Triple;
 use crate::compile::{CompileFault, machine_of};
-use tc_answer::limits::{MOST_OUTPUTS, MOST_ROWS};
-use tc_answer::{Operands, read_triple};
 use crate::unread::answer_unread;
 use bumpalo::Bump;
 use std::alloc::Global;
+use tc_answer::limits::{MOST_OUTPUTS, MOST_ROWS};
+use tc_answer::{Answer, Operands, RowCount, Triple, read_triple};
 use tc_base::NoMemory;
 use tc_beh::Machine;
 use tc_close::{CloseFault, Decision};

@@ -102,8 +102,8 @@ fn compare_read<'b>(
 ) -> Result<Answer, NoMemory>
     requires first { IsSpelled first.now }
     requires second { IsSpelled second.now }
-    ensures { IfOk result (λ said. (a b : g.Grammar) → IsReadOf a first.now → IsReadOf b second.now
-        → (answer : a.Answer) × Says said answer × FindsBoth a b (asked question) answer) }
+    ensures { IfOk result (λ said. (x y : g.Grammar) → IsReadOf x first.now → IsReadOf y second.now
+        → (answer : a.Answer) × Says said answer × FindsBoth x y (asked question) answer) }
 {
     match pair_of(alloc, first, second) {
         Ok(pair) => match question {
@@ -127,8 +127,8 @@ fn pair_of<'b>(
 ) -> Result<Pair<'b>, CompileFault>
     requires first { IsSpelled first.now }
     requires second { IsSpelled second.now }
-    ensures ok { IfOk result (λ pair. (a b : g.Grammar) → IsReadOf a first.now → IsReadOf b second.now → IsPairOf a b pair) }
-    ensures err { IfErr result (λ e. (a b : g.Grammar) → IsReadOf a first.now → IsReadOf b second.now → IsCauseBy (PassesCompiling a b) e) }
+    ensures ok { IfOk result (λ pair. (x y : g.Grammar) → IsReadOf x first.now → IsReadOf y second.now → IsPairOf x y pair) }
+    ensures err { IfErr result (λ e. (x y : g.Grammar) → IsReadOf x first.now → IsReadOf y second.now → IsCauseBy (PassesCompiling x y) e) }
 {
     let one = contents_of(alloc, first)?;
     let other = contents_of(alloc, second)?;
@@ -146,10 +146,10 @@ fn symbols_of(
     first: &Schema<'_>,
     second: &Schema<'_>,
 ) -> Result<Alphabet, CompileFault>
-    ensures stands { IfOk result (λ symbols. (a b : g.Grammar) → IsReadOf a first.now → IsReadOf b second.now → symbols ≡ symbols_of_both a b) }
+    ensures stands { IfOk result (λ symbols. (x y : g.Grammar) → IsReadOf x first.now → IsReadOf y second.now → symbols ≡ symbols_of_both x y) }
     ensures few { IfOk result (λ symbols. AreFew symbols) }
-    ensures err { IfErr result (λ e. (a b : g.Grammar) → IsReadOf a first.now → IsReadOf b second.now
-        → IsWithinLimits a input MOST_INPUT_STATES → IsWithinLimits b input MOST_INPUT_STATES → IsCauseBy (PassesCompiling a b) e) }
+    ensures err { IfErr result (λ e. (x y : g.Grammar) → IsReadOf x first.now → IsReadOf y second.now
+        → IsWithinLimits x input MOST_INPUT_STATES → IsWithinLimits y input MOST_INPUT_STATES → IsCauseBy (PassesCompiling x y) e) }
 {
     let nothing = Sheet {
         modes: 1,
@@ -166,28 +166,61 @@ fn symbols_of(
     }
 }
 
+impl Pair<'_> {
+    /// Whether the first schema is included in the second.
+    fn forth<'d>(&self, alloc: Global, arena: &'d Bump) -> Result<Cover<'d>, InclFault>
+        requires pair { (x : g.Grammar) × (y : g.Grammar) × IsPairOf x y self.now }
+        ensures answer { IfOk result (λ c. (x y : g.Grammar) → IsPairOf x y self.now → IsAnswer (forward x y) MOST_ROWS c) }
+        ensures cause { IfErr result (λ e. (x y : g.Grammar) → IsPairOf x y self.now → IsCause (forward x y) MOST_ROWS e) }
+    {
+        included(
+            arena,
+            alloc,
+            &self.first,
+            &self.second,
+            &self.alphabet,
+            MOST_ROWS,
+        )
+    }
+
+    /// Whether the second schema is included in the first.
+    fn back<'d>(&self, alloc: Global, arena: &'d Bump) -> Result<Cover<'d>, InclFault>
+        requires pair { (x : g.Grammar) × (y : g.Grammar) × IsPairOf x y self.now }
+        ensures answer { IfOk result (λ c. (x y : g.Grammar) → IsPairOf x y self.now → IsAnswer (backward x y) MOST_ROWS c) }
+        ensures cause { IfErr result (λ e. (x y : g.Grammar) → IsPairOf x y self.now → IsCause (backward x y) MOST_ROWS e) }
+    {
+        included(
+            arena,
+            alloc,
+            &self.second,
+            &self.first,
+            &self.alphabet,
+            MOST_ROWS,
+        )
+    }
+}
+
 /// Whether the first of two schemas is included in the second.
 fn decide_inclusion(alloc: Global, arena: &Bump, pair: &Pair<'_>) -> Result<Answer, NoMemory>
-    requires pair { (a : g.Grammar) × (b : g.Grammar) × IsPairOf a b pair.now }
-    ensures { IfOk result (λ said. (a b : g.Grammar) → IsPairOf a b pair.now → (answer : a.Answer) × Says said answer × FindsInclusion a b answer) }
+    requires pair { (x : g.Grammar) × (y : g.Grammar) × IsPairOf x y pair.now }
+    ensures { IfOk result (λ said. (x y : g.Grammar) → IsPairOf x y pair.now → (answer : a.Answer) × Says said answer × FindsInclusion x y answer) }
 {
-    match included(arena, alloc, &pair.first, &pair.second, &pair.alphabet, MOST_ROWS) {
-        Ok(forth) => tell_inclusion(alloc, &forth),
+    match pair.forth(alloc, arena) {
+        Ok(cover) => tell_inclusion(alloc, &cover),
         Err(fault) => covers_limit(alloc, fault),
     }
 }
 
-/// Whether two schemas have the same valid documents.
+/// Whether two schemas have the same valid documents. Both directions are decided before a document is told.
 fn decide_equality(alloc: Global, arena: &Bump, pair: &Pair<'_>) -> Result<Answer, NoMemory>
-    requires pair { (a : g.Grammar) × (b : g.Grammar) × IsPairOf a b pair.now }
-    ensures { IfOk result (λ said. (a b : g.Grammar) → IsPairOf a b pair.now → (answer : a.Answer) × Says said answer × FindsEquality a b answer) }
+    requires pair { (x : g.Grammar) × (y : g.Grammar) × IsPairOf x y pair.now }
+    ensures { IfOk result (λ said. (x y : g.Grammar) → IsPairOf x y pair.now → (answer : a.Answer) × Says said answer × FindsEquality x y answer) }
 {
-    let forth = match included(arena, alloc, &pair.first, &pair.second, &pair.alphabet, MOST_ROWS) {
-        Ok(cover) => cover,
-        Err(fault) => return covers_limit(alloc, fault),
-    };
-    match included(arena, alloc, &pair.second, &pair.first, &pair.alphabet, MOST_ROWS) {
-        Ok(back) => tell_equality(alloc, &forth, &back),
+    match pair.forth(alloc, arena) {
+        Ok(forth) => match pair.back(alloc, arena) {
+            Ok(back) => tell_equality(alloc, &forth, &back),
+            Err(fault) => covers_limit(alloc, fault),
+        },
         Err(fault) => covers_limit(alloc, fault),
     }
 }
@@ -205,8 +238,8 @@ fn covers_limit(alloc: Global, fault: InclFault) -> Result<Answer, NoMemory>
 
 /// The answer of `include`, by what is told of its direction.
 fn tell_inclusion(alloc: Global, forth: &Cover<'_>) -> Result<Answer, NoMemory>
-    ensures { IfOk result (λ said. (a b : g.Grammar) → AreCompiled a b → IsAnswer (forward a b) MOST_ROWS forth.now
-        → (answer : a.Answer) × Says said answer × FindsInclusion a b answer) }
+    ensures { IfOk result (λ said. (x y : g.Grammar) → AreCompiled x y → IsAnswer (forward x y) MOST_ROWS forth.now
+        → (answer : a.Answer) × Says said answer × FindsInclusion x y answer) }
 {
     match forth {
         Cover::Included(trees, hedges) => Answer::included(alloc, *trees, *hedges),
@@ -216,15 +249,11 @@ fn tell_inclusion(alloc: Global, forth: &Cover<'_>) -> Result<Answer, NoMemory>
 }
 
 /// The answer of `same`, by what is told of both directions.
-fn tell_equality(
-    alloc: Global,
-    forth: &Cover<'_>,
-    back: &Cover<'_>,
-) -> Result<Answer, NoMemory>
+fn tell_equality(alloc: Global, forth: &Cover<'_>, back: &Cover<'_>) -> Result<Answer, NoMemory>
     requires forth { HasFewNodes forth.now }
     requires back { HasFewNodes back.now }
-    ensures { IfOk result (λ said. (a b : g.Grammar) → AreCompiled a b → IsAnswer (forward a b) MOST_ROWS forth.now → IsAnswer (backward a b) MOST_ROWS back.now
-        → (answer : a.Answer) × Says said answer × FindsEquality a b answer) }
+    ensures { IfOk result (λ said. (x y : g.Grammar) → AreCompiled x y → IsAnswer (forward x y) MOST_ROWS forth.now → IsAnswer (backward x y) MOST_ROWS back.now
+        → (answer : a.Answer) × Says said answer × FindsEquality x y answer) }
 {
     match forth {
         Cover::Included(_, _) => tell_second(alloc, back),
@@ -239,8 +268,8 @@ fn tell_equality(
 
 /// The answer of `same` where the first schema is included in the second.
 fn tell_second(alloc: Global, back: &Cover<'_>) -> Result<Answer, NoMemory>
-    ensures { IfOk result (λ said. (a b : g.Grammar) (trees hedges : ℕ) → AreCompiled a b → IsIncludedWith (forward a b) MOST_ROWS trees hedges
-        → IsAnswer (backward a b) MOST_ROWS back.now → (answer : a.Answer) × Says said answer × FindsEquality a b answer) }
+    ensures { IfOk result (λ said. (x y : g.Grammar) (trees hedges : ℕ) → AreCompiled x y → IsIncludedWith (forward x y) MOST_ROWS trees hedges
+        → IsAnswer (backward x y) MOST_ROWS back.now → (answer : a.Answer) × Says said answer × FindsEquality x y answer) }
 {
     match back {
         Cover::Included(_, _) => Ok(Answer::equal()),
@@ -254,8 +283,8 @@ fn tell_second(alloc: Global, back: &Cover<'_>) -> Result<Answer, NoMemory>
 fn tell_first(alloc: Global, first: &Node<'_>, back: &Cover<'_>) -> Result<Answer, NoMemory>
     requires first { node_count (see.before first.now none) ≤ MOST_SHOWN_NODES }
     requires back { HasFewNodes back.now }
-    ensures { IfOk result (λ said. (a b : g.Grammar) → AreCompiled a b → IsLeastPlain (forward a b) MOST_ROWS (see.before first.now none)
-        → IsAnswer (backward a b) MOST_ROWS back.now → (answer : a.Answer) × Says said answer × FindsEquality a b answer) }
+    ensures { IfOk result (λ said. (x y : g.Grammar) → AreCompiled x y → IsLeastPlain (forward x y) MOST_ROWS (see.before first.now none)
+        → IsAnswer (backward x y) MOST_ROWS back.now → (answer : a.Answer) × Says said answer × FindsEquality x y answer) }
 {
     match back {
         Cover::Not(second) => tell_smaller(alloc, first, second),
@@ -265,15 +294,11 @@ fn tell_first(alloc: Global, first: &Node<'_>, back: &Cover<'_>) -> Result<Answe
 }
 
 /// The answer of `same` where each schema has a document of its own: the first one, unless the second has fewer nodes.
-fn tell_smaller(
-    alloc: Global,
-    first: &Node<'_>,
-    second: &Node<'_>,
-) -> Result<Answer, NoMemory>
+fn tell_smaller(alloc: Global, first: &Node<'_>, second: &Node<'_>) -> Result<Answer, NoMemory>
     requires first { node_count (see.before first.now none) ≤ MOST_SHOWN_NODES }
     requires second { node_count (see.before second.now none) ≤ MOST_SHOWN_NODES }
-    ensures { IfOk result (λ said. (a b : g.Grammar) → AreCompiled a b → IsLeastPlain (forward a b) MOST_ROWS (see.before first.now none)
-        → IsLeastPlain (backward a b) MOST_ROWS (see.before second.now none) → (answer : a.Answer) × Says said answer × FindsEquality a b answer) }
+    ensures { IfOk result (λ said. (x y : g.Grammar) → AreCompiled x y → IsLeastPlain (forward x y) MOST_ROWS (see.before first.now none)
+        → IsLeastPlain (backward x y) MOST_ROWS (see.before second.now none) → (answer : a.Answer) × Says said answer × FindsEquality x y answer) }
 {
     if count_nodes(&[*second]) < count_nodes(&[*first]) {
         Answer::second_only(alloc, &[*second])

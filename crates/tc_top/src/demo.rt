@@ -7,11 +7,10 @@ ghost use Rattle.tc_answer.specs.AnswersSeen.{Says};
 ghost use Rattle.tc_top.specs.Demo.{demo_line, demo_schema, demo_sheet, input_name, output_name, sheet_name};
 ghost use Rattle.tc_answer.specs.declared.limits.TheConstants.{MOST_ROWS};
 
-use tc_answer::Answer;
 use crate::check::check_texts;
-use tc_answer::limits::MOST_ROWS;
-use tc_answer::{Operand, Operands};
 use std::alloc::Global;
+use tc_answer::limits::MOST_ROWS;
+use tc_answer::{Answer, Operand, Operands};
 use tc_base::NoMemory;
 
 /// The stylesheet that copies all elements.

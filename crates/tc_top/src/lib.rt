@@ -24,7 +24,7 @@ ghost use Rattle.tc_model.specs.Grammars.{Grammar};
 ghost use Rattle.tc_model.specs.Sheets.{Sheet};
 ghost use Rattle.tc_model.specs.Trees.{Trees};
 ghost use Rattle.tc_answer.specs.Answers as a;
-ghost use Rattle.tc_top.specs.Answers.{Ends, IsAnswerOn, IsBuilt, ReadsNothing, Gives, KeepsToLimits};
+ghost use Rattle.tc_top.specs.Answers.{Ends, IsAnswerOn, IsBuilt, ReadsNothing, KeepsToLimits};
 ghost use Rattle.tc_top.specs.AnswersSeen.{IsRightFor};
 ghost use Rattle.tc_model.specs.Safety.{IsSafe};
 ghost use Rattle.tc_model.specs.RncText.{RncText};
@@ -33,6 +33,9 @@ ghost use Rattle.tc_top.specs.Checking.{most_rows};
 ghost use Rattle.tc_top.specs.Demo.{demo_schema, demo_sheet};
 ghost use Rattle.tc_answer.specs.declared.limits.TheConstants.{MOST_ROWS};
 ghost use Rattle.tc_top.specs.Headline.{IsCutShort, ChecksFiles, ChecksShortFiles, ShowsCounterexample, DecidesSafety, ValidatesFiles, DecidesValidity, RunsFiles, GivesResult};
+ghost use Rattle.tc_top.specs.OneAnswer.{GivesOneLike};
+ghost use Rattle.tc_top.specs.ComparedFiles.{ComparesFiles, DecidesComparison};
+ghost use Rattle.tc_top.specs.Comparing.{inclusion, equality};
 ghost use Rattle.tc_answer.specs.Words as w;
 ghost use Rattle.tc_answer.specs.Words.{Words, IsNoCommand, name_of};
 ghost use Rattle.tc_answer.specs.WordsSeen.{texts};
@@ -64,13 +67,14 @@ pub fn typecheck<S: Store, K: Sink>(
     ensures unwritten { result ≡ Status.NoMemory → sink.new ≡ sink.old }
 
     // Words alone decide that they are no command, and that a command isn't carried out.
-    ensures usage { IsNoCommand words.now → (result ≡ Status.Usage) ⊎ (result ≡ Status.WriteFault) }
-    ensures not_built { (command : w.Command) → Words words.now command → ¬ (IsBuilt command) → Gives result ⊥ (a.not_yet (name_of command)) }
+    ensures usage { IsNoCommand words.now → IsCutShort result ⊥ ⊎ GivesOneLike result (K.written sink.old) (K.written sink.new) a.usage }
+    ensures not_built { (command : w.Command) → Words words.now command → ¬ (IsBuilt command)
+        → IsCutShort result ⊥ ⊎ GivesOneLike result (K.written sink.old) (K.written sink.new) (a.not_yet (name_of command)) }
     ensures unread { ReadsNothing words.now → store.new ≡ store.old }
 
-    // Where the store tells what it holds, each cause has its status, and by `ends` and `law_of_answers` its answer.
+    // Where the store tells what it holds, each cause has its answer, but for what is left open.
     ensures exactly { (files : Files) (answer : a.Answer) → S.holds store.old ≡ Some files → IsAnswerOn words.now files answer
-        → Gives result (Rose (S.faults store.old) (S.faults store.new)) answer }
+        → IsCutShort result (Rose (S.faults store.old) (S.faults store.new)) ⊎ GivesOneLike result (K.written sink.old) (K.written sink.new) answer }
 
     // A check of held files that is yes: every document that is valid for the input is transformed to one that is valid for the output.
     ensures safe { (files : Files) (limit : Option ℕ) (i o : Grammar) (s : Sheet) → S.holds store.old ≡ Some files → ChecksFiles words.now files limit i o s
@@ -108,6 +112,16 @@ pub fn typecheck<S: Store, K: Sink>(
     ensures limited { (files : Files) (s : Sheet) (d : Trees) → S.holds store.old ≡ Some files → RunsFiles words.now files s d
         → IsCutShort result (Rose (S.faults store.old) (S.faults store.new))
         ⊎ KeepsToLimits result (K.written sink.old) (K.written sink.new) s d }
+
+    // `include` of held files is yes exactly where each document that is valid for the first schema is valid for the second, with the
+    // numbers of rows; no exactly where some document that can be shown isn't, with one of the fewest nodes; and else it tells of a limit
+    // that is passed. So is `same`, for documents that are valid for exactly one of both.
+    ensures inclusion { (files : Files) (g h : Grammar) → S.holds store.old ≡ Some files → ComparesFiles words.now files inclusion g h
+        → IsCutShort result (Rose (S.faults store.old) (S.faults store.new))
+        ⊎ DecidesComparison g h result (K.written sink.old) (K.written sink.new) inclusion }
+    ensures equality { (files : Files) (g h : Grammar) → S.holds store.old ≡ Some files → ComparesFiles words.now files equality g h
+        → IsCutShort result (Rose (S.faults store.old) (S.faults store.new))
+        ⊎ DecidesComparison g h result (K.written sink.old) (K.written sink.new) equality }
 
     // What is held stays as it is, and no count of faults falls.
     ensures held { S.holds store.new ≡ S.holds store.old }

@@ -1,5 +1,5 @@
 // What a program does with its arguments.
-ghost use Rattle.std.specs.Prelude.{◌≡◌, ◌⊎◌, IfOk, OnErr, drop, map, string_bytes};
+ghost use Rattle.std.specs.Prelude.{◌≡◌, ◌≢◌, ◌⊎◌, [], IfOk, OnErr, drop, map, string_bytes};
 ghost use Rattle.std.specs.Process.{exit_status};
 ghost use Rattle.std.specs.Vec.Iter.{into_iter_items};
 ghost use Rattle.tc_io.specs.Faults.{Rose};
@@ -9,14 +9,13 @@ ghost use Rattle.tc_top.specs.Program.{words_of, LackMemory};
 ghost use Rattle.tc_answer.specs.StatusSeen.{number_of};
 ghost use Rattle.tc_answer.specs.declared.status.Status.{Status};
 
-use tc_answer::Status;
 use crate::typecheck;
-use tc_answer::WordList;
 use std::alloc::Global;
 use std::env::Args;
 use std::io;
 use std::io::ErrorKind;
 use std::process::ExitCode;
+use tc_answer::{Status, WordList};
 use tc_base::NoMemory;
 use tc_io::{Sink, Store};
 
@@ -63,7 +62,8 @@ fn word_list(alloc: Global, arguments: io::Result<Args>) -> Result<WordList, NoM
 
 /// The words behind the first one.
 fn words_behind_name(alloc: Global, arguments: Args) -> Result<WordList, NoMemory>
-    ensures { IfOk result (λ words. words ≡ map string_bytes (drop 1 (into_iter_items arguments))) }
+    ensures lack { OnErr result (drop 1 (into_iter_items arguments) ≢ []) }
+    ensures words { IfOk result (λ words. words ≡ map string_bytes (drop 1 (into_iter_items arguments))) }
 {
     let mut arguments = arguments;
     let _name = arguments.next();

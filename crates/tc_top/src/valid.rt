@@ -17,12 +17,11 @@ ghost use Rattle.tc_top.specs.Limits.{AreFew, symbols_of_schema};
 ghost use Rattle.tc_answer.specs.Words as w;
 ghost use Rattle.tc_answer.specs.Words.{Words};
 
-use tc_answer::Answer;
-use tc_answer::{Operand, read_pair};
 use crate::unread::answer_unread;
 use bumpalo::Bump;
 use std::alloc::Global;
 use tc_alpha::{AlphaFault, Alphabet};
+use tc_answer::{Answer, Operand, read_pair};
 use tc_auto::{Auto, AutoFault};
 use tc_base::limits::{MOST_INPUT_STATES, MOST_SYMBOLS};
 use tc_base::{Limit, NoMemory};

@@ -1,5 +1,5 @@
 -- Data whose numbers fit, and whose rows keep all rules, is a certificate, and shows safety.
-use Rattle.std.proofs.Common.{◌≡◌, ◌<◌, ◌≤◌, ◌+◌, [], ◌∷◌, ℕ, List, length, get_or, map, slice_get, Some, IsTrue, subst, sym, ap, ◌∙◌, refl, arith}
+use Rattle.std.proofs.Common.{◌≡◌, ◌<◌, ◌≤◌, ◌+◌, [], ◌∷◌, ℕ, List, length, get_or, map, slice_get, Some, subst, sym, ap, ◌∙◌, refl, arith}
 use Rattle.std.specs.List.{Contains, All}
 use Rattle.std.specs.List.Sorted.{IsStrictlySortedBy}
 use Rattle.std.proofs.lemmas.List.{length-map}
@@ -13,12 +13,12 @@ use Rattle.tc_model.specs.declared.lists.CertData.{CertData}
 use Rattle.tc_rows.specs.Triples.{Triple, entries, looks}
 use Rattle.tc_rows.specs.Triples as t
 use Rattle.tc_rows.specs.PairSets.{pair_cmp, IsPairs}
-use Rattle.tc_rows.specs.Rows.{HedgeRow, TreeRow, AreEntries, AreLooks, IsHedgeRow, IsTreeRow}
-use Rattle.tc_rows.specs.Certificates.{AreCertified, AreClosed, IsCertificate, tree_of, hedge_of, sets_of}
+use Rattle.tc_rows.specs.Rows.{AreEntries, IsHedgeRow, IsTreeRow}
+use Rattle.tc_rows.specs.Certificates.{AreCertified, AreClosed, tree_of, hedge_of, sets_of}
 use Rattle.tc_model.specs.CertificateData.{ArePairs, IsFormed, IsFormedTree, IsFormedHedge}
 use Rattle.tc_verify.specs.Rules as r
 use Rattle.tc_rows.specs.CertificateRows.{numbered_tree, numbered_hedge, trees_of, hedges_of, IsCertificateData}
-use Rattle.tc_model.specs.CertificateFits.{AllFit, AreFrom, HedgeFits, OutputFits, PairsFit, RowFits, TreeFits}
+use Rattle.tc_model.specs.CertificateFits.{AllFit, AreFrom, HedgeFits, OutputFits, TreeFits}
 use Rattle.tc_verify.specs.Fits.{sizes}
 
 map_twice : {A B C : Type 0} (f : B → C) (g : A → B) (xs : List A) → map f (map g xs) ≡ map (λ y. f (g y)) xs

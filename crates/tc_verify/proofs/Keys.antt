@@ -1,11 +1,9 @@
 -- Lists of numbers as the keys of a set.
-use Rattle.std.proofs.Common.{◌≡◌, ◌<◌, ◌↔◌, ◌⊎◌, inl, inr, ℕ, zero, suc, List, [], ◌∷◌, ◌++◌, refl, ap, ◌∙◌, sym, Bool, true, false, ◌||◌, Option, Some, None, slice_get, get_or, position, length, map, cond, nat_eq, subst, arith}
-use Rattle.std.specs.List.{list_any, Contains, position_or_len}
+use Rattle.std.proofs.Common.{◌≡◌, ◌↔◌, ◌⊎◌, inl, inr, ℕ, zero, suc, List, [], ◌∷◌, ◌++◌, refl, ap, ◌∙◌, sym, Bool, IsTrue, true, false, ◌||◌, Some, slice_get, map, cond, nat_eq, subst, arith}
+use Rattle.std.specs.List.{list_any, Contains}
 use Rattle.std.specs.Cmp.Lexicographic.{pointwise, bytes_decides}
-use Rattle.std.specs.Prelude.{is_some}
-use Rattle.std.proofs.lemmas.List.Quantifiers.{position-Some}
 use Rattle.std.proofs.lemmas.Option.{slice_get-get_or}
-use Rattle.std.proofs.lemmas.List.{length-map, get_or-map, map-append}
+use Rattle.std.proofs.lemmas.List.{map-append}
 use Rattle.indexmap.specs.IndexSet.{insert_key}
 use Rattle.tc_alpha.proofs.Members.{Has, has_from_contains, contains_from_has, has_front, has_back, has_either}
 use Rattle.tc_verify.specs.Listings.{HasMore}
@@ -16,14 +14,6 @@ module _ {V : Type 0} (items : V → List ℕ) where
 
   same_true : (a b : V) → same a b ≡ true → items a ≡ items b
   same_true a b e = (bytes_decides (items a) (items b)).0 e
-
-  -- the place that a test finds holds the list
-  pub found_at : (ns : List ℕ) (ks : List V) (i : ℕ) → position (λ k. pointwise nat_eq ns (items k)) ks ≡ Some i → slice_get (map items ks) i ≡ Some ns
-  found_at ns [] i e = cc
-  found_at ns (x ∷ xs) i e =
-      let h = position-Some (λ k. pointwise nat_eq ns (items k)) (x ∷ xs) i x e in
-      let low : i < length (map items (x ∷ xs)) = subst (λ n. i < n) (sym (length-map (x ∷ xs) items)) h.0 in
-      slice_get-get_or (map items (x ∷ xs)) i ns low ∙ ap Some (get_or-map items (x ∷ xs) i x ns h.0 ∙ sym ((bytes_decides ns (items (get_or (x ∷ xs) i x))).0 h.1))
 
   or_left : (a b : Bool) → (a || b) ≡ false → a ≡ false
   or_left true b e = cc
@@ -40,8 +30,21 @@ module _ {V : Type 0} (items : V → List ℕ) where
       let f = or_left (pointwise nat_eq ns (items x)) (list_any (λ k. pointwise nat_eq ns (items k)) xs) e in cc
   not_at ns (x ∷ xs) (suc i) e p = not_at ns xs i (or_right (pointwise nat_eq ns (items x)) (list_any (λ k. pointwise nat_eq ns (items k)) xs) e) p
 
-  pub absent : (ns : List ℕ) (ks : List V) → list_any (λ k. pointwise nat_eq ns (items k)) ks ≡ false → Contains (map items ks) ns → ⊥
+  absent : (ns : List ℕ) (ks : List V) → list_any (λ k. pointwise nat_eq ns (items k)) ks ≡ false → Contains (map items ks) ns → ⊥
   absent ns ks e (i, low, at) = not_at ns ks i e (slice_get-get_or (map items ks) i ns low ∙ ap Some at)
+
+  listed_at : (ns : List ℕ) (ks : List V) → list_any (λ k. pointwise nat_eq ns (items k)) ks ≡ true → Contains (map items ks) ns
+  listed_at ns [] e = cc
+  listed_at ns (x ∷ xs) e = by (pointwise nat_eq ns (items x)) refl (listed_at ns xs)
+    where
+      by : (b : Bool) → pointwise nat_eq ns (items x) ≡ b → (list_any (λ k. pointwise nat_eq ns (items k)) xs ≡ true → Contains (map items xs) ns) → Contains (items x ∷ map items xs) ns
+      by true is rest = (0, omega arith, sym ((bytes_decides ns (items x)).0 is))
+      by false is rest = let (i, low, at) = rest (sym (ap (λ c. c || list_any (λ k. pointwise nat_eq ns (items k)) xs) is) ∙ e) in (suc i, omega (arith, low), at)
+
+  -- a test of all lists
+  pub looked_up : (ns : List ℕ) (ks : List V) (b : Bool) → b ≡ list_any (λ k. pointwise nat_eq ns (items k)) ks → IsTrue b ↔ Contains (map items ks) ns
+  looked_up ns ks true e = (λ t. listed_at ns ks (sym e), λ h. refl)
+  looked_up ns ks false e = (λ f. absurd (cc), λ h. absurd (absent ns ks (sym e) h))
 
   holds : (v : V) (ks : List V) → list_any (same v) ks ≡ true → Contains (map items ks) (items v)
   holds v [] e = cc
@@ -58,11 +61,6 @@ module _ {V : Type 0} (items : V → List ℕ) where
       by : (b : Bool) → list_any (same v) ks ≡ b → map items (insert_key same ks v) ≡ map items ks ++ items v ∷ []
       by true e = absurd (absent (holds v ks e))
       by false e = ap (λ b. map items (cond b ks (ks ++ v ∷ []))) e ∙ map-append items ks (v ∷ [])
-
-pub at_contains : (ks : List (List ℕ)) (i : ℕ) (r : List ℕ) → slice_get ks i ≡ Some r → Contains ks r
-at_contains [] i r e = cc
-at_contains (k ∷ ks) zero r e = (0, omega arith, cc)
-at_contains (k ∷ ks) (suc i) r e = let (j, low, at) = at_contains ks i r e in (suc j, omega (arith, low), at)
 
 -- what a list with one more behind it contains
 pub one_more : (old new : List (List ℕ)) (r : List ℕ) → new ≡ old ++ r ∷ [] → HasMore old new r

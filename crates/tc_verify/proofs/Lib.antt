@@ -11,3 +11,4 @@ pub mod Looping
 pub mod Verified
 pub mod Rejecting
 pub mod Unfit
+pub mod Stepping

@@ -1,5 +1,5 @@
 -- A line that fits is read into a room, which stands for its row.
-use Rattle.std.proofs.Common.{◌≡◌, ◌<◌, ◌≤◌, ◌+◌, ◌==◌, ℕ, List, [], ◌∷◌, length, get_or, map, slice_get, Some, Bool, subst, sym, ap, ◌∙◌, refl, arith}
+use Rattle.std.proofs.Common.{◌≡◌, ◌<◌, ◌≤◌, ◌+◌, ℕ, List, [], ◌∷◌, length, get_or, map, slice_get, Some, Bool, subst, sym, ap, ◌∙◌, refl, arith}
 use Rattle.std.specs.List.{Contains, All}
 use Rattle.std.proofs.lemmas.List.{get_or-map, length-map}
 use Rattle.std.proofs.lemmas.List.Elements.{All-contains, All-get_or, All-head, All-tail}
@@ -110,15 +110,15 @@ module _ (s : Layout) (held : List Matrix) (first : ℕ) (r : Room) (parted : Is
   entries_are = ap (λ (os : List ℕ). entries_by held os) (sym outs_are) ∙ same_sets held outs (λ k d low. from_zero (get_or outs k d) (length held) (fits.outs_fit k d low).1)
 
 module _ (x : Triple) (c : CertData) (formed : IsFormed c) (fit : AllFit (sizes x) c) (m : Machine) (is : IsMachineOf x m) (sets : Held) (same : sets_of sets.matrices ≡ c.outputs) (place : ℕ) where
-  sizes : length c.outputs ≡ length sets.matrices
-  sizes = ap length (sym same) ∙ length-map sets.matrices pairs_of
+  set_count : length c.outputs ≡ length sets.matrices
+  set_count = ap length (sym same) ∙ length-map sets.matrices pairs_of
 
   module _ (l : HedgeLine) (at : slice_get c.hedges place ≡ Some l) (h : HRow) (read : IsReadHedge m c place h) where
     inside_hedges : Contains c.hedges l
     inside_hedges = contains_at c.hedges place l at
 
     hedge_fits : RowFits 0 (state_count x.input input) (entries x) (looks x) (length sets.matrices) l.states l.outs l.looks
-    hedge_fits = subst (λ n. RowFits 0 (state_count x.input input) (entries x) (looks x) n l.states l.outs l.looks) sizes (All-contains (HedgeFits (sizes x) c) c.hedges l fit.hedges inside_hedges)
+    hedge_fits = subst (λ n. RowFits 0 (state_count x.input input) (entries x) (looks x) n l.states l.outs l.looks) set_count (All-contains (HedgeFits (sizes x) c) c.hedges l fit.hedges inside_hedges)
 
     hedge_small : All (λ v. v ≤ 2) l.looks
     hedge_small = (All-contains IsFormedHedge c.hedges l formed.hedges inside_hedges).looks
@@ -149,7 +149,7 @@ module _ (x : Triple) (c : CertData) (formed : IsFormed c) (fit : AllFit (sizes 
     inside_trees = contains_at c.trees place l at
 
     tree_fits : RowFits 1 (length x.input.elements) (entries x) (looks x) (length sets.matrices) l.patterns l.outs l.looks
-    tree_fits = subst (λ n. RowFits 1 (length x.input.elements) (entries x) (looks x) n l.patterns l.outs l.looks) sizes (All-contains (TreeFits (sizes x) c) c.trees l fit.trees inside_trees)
+    tree_fits = subst (λ n. RowFits 1 (length x.input.elements) (entries x) (looks x) n l.patterns l.outs l.looks) set_count (All-contains (TreeFits (sizes x) c) c.trees l fit.trees inside_trees)
 
     tree_small : All (λ v. v ≤ 2) l.looks
     tree_small = (All-contains IsFormedTree c.trees l formed.trees inside_trees).looks

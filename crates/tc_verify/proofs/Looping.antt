@@ -1,13 +1,12 @@
 -- Lists that grow by one in a loop.
-use Rattle.std.proofs.Common.{◌≡◌, ◌<◌, ◌+◌, ◌↔◌, ◌⊎◌, inl, inr, ◌++◌, ◌∷◌, [], ℕ, zero, suc, List, length, map, slice_get, Some, subst, sym, ap, ◌∙◌, refl, arith}
+use Rattle.std.proofs.Common.{◌≡◌, ◌+◌, ◌↔◌, inl, inr, ◌++◌, ◌∷◌, [], ℕ, zero, suc, List, length, map, slice_get, Some, subst, sym, ap, ◌∙◌}
 use Rattle.std.specs.List.{Contains}
 use Rattle.std.proofs.lemmas.List.{map-append, length-append}
 use Rattle.tc_beh.specs.Machines.{IsMachineOf}
 use Rattle.tc_beh.specs.Lines.{IsLine, AreFlags}
-use Rattle.tc_beh.specs.Rooms.{Layout, hedge_layout, tree_layout}
+use Rattle.tc_beh.specs.Rooms.{hedge_layout, tree_layout}
 use Rattle.tc_beh.specs.RoomsOf.{IsRoomOf, IsRoomBeside}
 use Rattle.tc_beh.specs.declared.machine.Machine.{Machine}
-use Rattle.tc_beh.specs.declared.rooms.Room.{Room}
 use Rattle.tc_beh.specs.declared.rooms.HRow.{HRow}
 use Rattle.tc_beh.specs.declared.rooms.TRow.{TRow}
 use Rattle.tc_model.specs.declared.lists.TreeLine.{TreeLine}
@@ -28,8 +27,8 @@ pushed P (x ∷ xs) y all last (suc k) v e = pushed (λ j w. P (suc j) w) xs y (
 
 module _ {A : Type 0} (numbers : A → List ℕ) (P : ℕ → A → Type 0) where
   -- so many rooms, each of its line, and exactly their numbers
-  pub record AreRead (rooms : List A) (lists : List (List ℕ)) (count : ℕ) : Type 0 where
-    pub count : length rooms ≡ count
+  pub record AreRead (rooms : List A) (lists : List (List ℕ)) (many : ℕ) : Type 0 where
+    pub count : length rooms ≡ many
     pub each : (k : ℕ) (r : A) → slice_get rooms k ≡ Some r → P k r
     pub held : (ns : List ℕ) → Contains lists ns ↔ Contains (map numbers rooms) ns
 

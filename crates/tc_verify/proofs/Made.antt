@@ -1,15 +1,14 @@
 -- The rows of a certificate's lines, read into rooms, and the rules that hold of them.
-use Rattle.std.proofs.Common.{◌≡◌, ◌<◌, ◌≤◌, ◌+◌, ◌↔◌, true, ℕ, zero, suc, List, [], ◌∷◌, length, get_or, map, slice_get, Some, subst, sym, ap, ◌∙◌, refl, arith}
+use Rattle.std.proofs.Common.{◌≡◌, ◌<◌, ◌≤◌, ◌↔◌, true, ℕ, zero, suc, List, [], ◌∷◌, length, get_or, map, slice_get, Some, subst, sym, ap, ◌∙◌, refl, arith}
 use Rattle.std.specs.List.{Contains, All}
 use Rattle.std.proofs.lemmas.List.{length-map}
 use Rattle.std.proofs.lemmas.Option.{slice_get-get_or}
-use Rattle.tc_model.specs.Safety.{IsSafe}
 use Rattle.tc_model.specs.Symbols.{symbol_count}
 use Rattle.tc_model.specs.declared.lists.TreeLine.{TreeLine}
 use Rattle.tc_model.specs.declared.lists.HedgeLine.{HedgeLine}
 use Rattle.tc_model.specs.declared.lists.CertData.{CertData}
 use Rattle.tc_mat.specs.Held.{Held, AreDifferent}
-use Rattle.tc_rows.specs.Triples.{Triple, sheet}
+use Rattle.tc_rows.specs.Triples.{Triple}
 use Rattle.tc_rows.specs.Rows.{HedgeRow, TreeRow}
 use Rattle.tc_rows.specs.Certificates.{tree_of, hedge_of}
 use Rattle.tc_beh.specs.Machines.{IsMachine, IsMachineOf}

@@ -1,9 +1,8 @@
 -- What breaks a rule first, and that data with a broken rule is no certificate.
-use Rattle.std.proofs.Common.{◌≡◌, ◌<◌, ◌≤◌, ◌+◌, ◌⊎◌, inl, inr, ℕ, zero, suc, List, [], ◌∷◌, length, get_or, map, slice_get, Some, subst, sym, ap, ◌∙◌, refl, arith}
-use Rattle.std.specs.List.{Contains, All}
+use Rattle.std.proofs.Common.{◌≡◌, ◌<◌, ◌≤◌, ◌⊎◌, inl, inr, ℕ, zero, suc, List, [], ◌∷◌, length, get_or, map, subst, sym, ap, ◌∙◌, refl, arith}
+use Rattle.std.specs.List.{All}
 use Rattle.std.proofs.lemmas.List.{length-map, get_or-map}
 use Rattle.std.proofs.lemmas.List.Elements.{All-contains, Contains-get_or}
-use Rattle.std.proofs.lemmas.Option.{slice_get-get_or, slice_get-map}
 use Rattle.tc_model.specs.Symbols.{symbol_count}
 use Rattle.tc_model.specs.declared.lists.TreeLine.{TreeLine}
 use Rattle.tc_model.specs.declared.lists.HedgeLine.{HedgeLine}
@@ -17,10 +16,10 @@ use Rattle.tc_beh.specs.Machines.{IsMachineOf}
 use Rattle.tc_model.specs.CertificateData.{IsFormed}
 use Rattle.tc_verify.specs.Rules.{IsEmptyListed, IsTextListed, AppendIsListed, WrapIsListed, RootIsGood}
 use Rattle.tc_rows.specs.CertificateRows.{numbered_tree, numbered_hedge, trees_of, hedges_of, IsCertificateData}
-use Rattle.tc_model.specs.CertificateFits.{AllFit, HedgeFits, IsFirstUnfit, IsUnfit, OutputFits, PairsFit, TreeFits, line_of_hedge, line_of_output, line_of_tree}
+use Rattle.tc_model.specs.CertificateFits.{AllFit, HedgeFits, IsFirstUnfit, IsUnfit, OutputFits, TreeFits, line_of_hedge, line_of_tree}
 use Rattle.tc_verify.specs.Fits.{sizes}
 use Rattle.tc_verify.specs.Listings.{Listing, hedge_rows, tree_rows, EmptyHolds, EmptyBreaks, TextHolds, TextBreaks, AppendHolds, AppendBreaks, WrapHolds, WrapBreaks, RootHolds, RootBreaks}
-use Rattle.tc_verify.specs.Firsts.{ListsHold, RowsHold, WrapsToo, IsFirstAt, IsFirstPair, IsFirstOf, AppendsHold, WrapsHold, symbols}
+use Rattle.tc_verify.specs.Firsts.{ListsHold, RowsHold, WrapsToo, IsFirstOf, symbols}
 use Rattle.tc_verify.specs.Told.{Tells, IsRejectOf, AreIn}
 use Rattle.tc_verify.specs.Rejects.{IsBroken, IsFirstBroken, IsRejected, rank}
 use Rattle.tc_verify.specs.declared.reject.Reject.{Reject}
@@ -97,8 +96,8 @@ module _ (x : Triple) (c : CertData) (is : IsCertificateData x c) where
   none_broken : (r : RejectRule) (l o : ℕ) → ¬ IsBroken x c r l o
   none_broken rule.Form l o b = b
   none_broken rule.Fit l o (u, e) = none_unfit x c (certificate_fits x c is) l u
-  none_broken rule.Empty l o (bad, e) = bad certified.closed.empty
-  none_broken rule.Text l o (bad, e) = bad (λ live u made. certified.closed.text live u made)
+  none_broken rule.Empty l o (bad, e, f) = bad certified.closed.empty
+  none_broken rule.Text l o (bad, e, f) = bad (λ live u made. certified.closed.text live u made)
   none_broken rule.Append l o (i, j, a, b, e, f, bad) = bad (λ h s p q live u made. certified.closed.append h u s (contains_at (hedges_of c) i h p) (contains_at (trees_of c) j s q) live made)
   none_broken rule.Wrap l o (i, a, low, e, bad) = bad (λ h p live u made. certified.closed.wrap o h u low (contains_at (hedges_of c) i h p) live made)
   none_broken rule.Root l o (j, a, e, f, bad) = bad (λ s p good. certified.root s (contains_at (trees_of c) j s p) good)
@@ -142,8 +141,8 @@ module _ (x : Triple) (c : CertData) (formed : IsFormed c) (fit : AllFit (sizes 
   all_before : (n : ℕ) → (2 < n → IsEmptyListed x (hedges_of c)) → (3 < n → IsTextListed x (trees_of c)) → (4 < n → Appends) → (5 < n → Wraps) → n ≤ 6 → (s : RejectRule) (k o : ℕ) → rank s < n → ¬ IsBroken x c s k o
   all_before n e t a w m rule.Form k o low b = b
   all_before n e t a w m rule.Fit k o low (u, z) = none_unfit x c fit k u
-  all_before n e t a w m rule.Empty k o low (bad, z) = bad (e low)
-  all_before n e t a w m rule.Text k o low (bad, z) = bad (t low)
+  all_before n e t a w m rule.Empty k o low (bad, y, z) = bad (e low)
+  all_before n e t a w m rule.Text k o low (bad, y, z) = bad (t low)
   all_before n e t a w m rule.Append k o low (i, j, p, q, y, z, bad) = bad (a low i j p q)
   all_before n e t a w m rule.Wrap k o low (i, p, q, z, bad) = bad (w low i o p q)
   all_before n e t a w m rule.Root k o low b = absurd (omega (arith, low, m))
@@ -183,18 +182,18 @@ module _ (x : Triple) (c : CertData) (formed : IsFormed c) (fit : AllFit (sizes 
   unfolding EmptyBreaks
   empty_first bad =
       rejected x c (record { line = 0; rule = rule.Empty; other = 0 })
-      (record { broken = (subst (λ h. ¬ IsEmptyListed x h) hs (bad x is), refl, refl); least = λ k o b. inr (sym b.1.0, omega arith) })
+      (record { broken = (subst (λ h. ¬ IsEmptyListed x h) hs (bad x is), refl, refl); least = λ k o b. inr (sym b.1, omega arith) })
       (all_before 2 (never 2 2 (omega arith)) (never 3 2 (omega arith)) (never 4 2 (omega arith)) (never 5 2 (omega arith)) (omega arith))
 
   text_first : IsFirstOf l broken.Text → IsRejected x c (record { line = 0; rule = rule.Text; other = 0 })
   unfolding EmptyHolds TextBreaks
   text_first (e, bad) =
       rejected x c (record { line = 0; rule = rule.Text; other = 0 })
-      (record { broken = (subst (λ t. ¬ IsTextListed x t) ts (bad x is), refl, refl); least = λ k o b. inr (sym b.1.0, omega arith) })
+      (record { broken = (subst (λ t. ¬ IsTextListed x t) ts (bad x is), refl, refl); least = λ k o b. inr (sym b.1, omega arith) })
       (all_before 3 (λ y. subst (IsEmptyListed x) hs (e x is)) (never 3 3 (omega arith)) (never 4 3 (omega arith)) (never 5 3 (omega arith)) (omega arith))
 
   append_first : (i j : ℕ) → IsFirstOf l (broken.Append i j) → IsRejected x c (record { line = line_of_hedge c i; rule = rule.Append; other = line_of_tree c j })
-  unfolding AppendBreaks
+  unfolding AppendHolds AppendBreaks
   append_first i j (lists, first) =
       rejected x c (record { line = line_of_hedge c i; rule = rule.Append; other = line_of_tree c j })
       (record {
@@ -204,7 +203,6 @@ module _ (x : Triple) (c : CertData) (formed : IsFormed c) (fit : AllFit (sizes 
       (all_before 4 (λ y. empty_listed lists) (λ y. text_listed lists) (never 4 4 (omega arith)) (never 5 4 (omega arith)) (omega arith))
     where
       listed : (k m : ℕ) → AppendHolds l k m → AppendIsListed x (trees_of c) (hedges_of c) k m
-      unfolding AppendHolds
       listed k m holds = on (λ t h. AppendIsListed x t h k m) (holds x is)
 
       least : (k o : ℕ) → IsBroken x c rule.Append k o → (line_of_hedge c i < k) ⊎ ((line_of_hedge c i ≡ k) × (line_of_tree c j ≤ o))
@@ -220,7 +218,7 @@ module _ (x : Triple) (c : CertData) (formed : IsFormed c) (fit : AllFit (sizes 
       ]
 
   wrap_first : (i s : ℕ) → IsFirstOf l (broken.Wrap i s) → IsRejected x c (record { line = line_of_hedge c i; rule = rule.Wrap; other = s })
-  unfolding WrapBreaks
+  unfolding WrapHolds WrapBreaks
   wrap_first i s (rows, first) =
       rejected x c (record { line = line_of_hedge c i; rule = rule.Wrap; other = s })
       (record {
@@ -230,7 +228,6 @@ module _ (x : Triple) (c : CertData) (formed : IsFormed c) (fit : AllFit (sizes 
       (all_before 5 (λ y. empty_listed rows.lists) (λ y. text_listed rows.lists) (λ y. appends_listed rows) (never 5 5 (omega arith)) (omega arith))
     where
       listed : (k m : ℕ) → WrapHolds l k m → WrapIsListed x (trees_of c) (hedges_of c) k m
-      unfolding WrapHolds
       listed k m holds = on (λ t h. WrapIsListed x t h k m) (holds x is)
 
       least : (k o : ℕ) → IsBroken x c rule.Wrap k o → (line_of_hedge c i < k) ⊎ ((line_of_hedge c i ≡ k) × (s ≤ o))
@@ -246,7 +243,7 @@ module _ (x : Triple) (c : CertData) (formed : IsFormed c) (fit : AllFit (sizes 
       ]
 
   root_first : (j : ℕ) → IsFirstOf l (broken.Root j) → IsRejected x c (record { line = line_of_tree c j; rule = rule.Root; other = 0 })
-  unfolding RootBreaks
+  unfolding RootHolds RootBreaks
   root_first j (rows, first) =
       rejected x c (record { line = line_of_tree c j; rule = rule.Root; other = 0 })
       (record {
@@ -256,7 +253,6 @@ module _ (x : Triple) (c : CertData) (formed : IsFormed c) (fit : AllFit (sizes 
       (all_before 6 (λ y. empty_listed rows.rows.lists) (λ y. text_listed rows.rows.lists) (λ y. appends_listed rows.rows) (λ y. wraps_listed rows) (omega arith))
     where
       least : (k o : ℕ) → IsBroken x c rule.Root k o → (line_of_tree c j < k) ⊎ ((line_of_tree c j ≡ k) × (0 ≤ o))
-      unfolding RootHolds
       least k o (a, p, e, f, bad) = elim (below_or a j) [
         | inl low ↦ absurd (bad (on (λ t h. RootIsGood x t h a) (first.before a low x is)))
         | inr high ↦ elim (later_or_same j a high) [ inl more ↦ inl (omega (arith, more, e)) | inr same ↦ inr (omega (arith, same, e), omega arith) ]

@@ -1,10 +1,9 @@
 -- What is worked out from rows of a certificate, and whether that is listed.
-use Rattle.std.proofs.Common.{◌≡◌, ◌<◌, ◌↔◌, ℕ, List, length, map, Bool, true, false, IsTrue, slice_get, Some, subst, sym, ap, ◌∙◌, refl}
+use Rattle.std.proofs.Common.{◌≡◌, ◌↔◌, ℕ, List, map, Bool, true, false, not, IsTrue, slice_get, Some, subst, sym, ◌∙◌, refl}
 use Rattle.std.specs.Bool.{MatchBool}
 use Rattle.std.specs.List.{Contains}
-use Rattle.tc_mat.specs.Held.{Held}
 use Rattle.tc_rows.specs.Triples.{Triple}
-use Rattle.tc_rows.specs.Rows.{HedgeRow, TreeRow, IsHedgeRow, IsTreeRow}
+use Rattle.tc_rows.specs.Rows.{HedgeRow, TreeRow}
 use Rattle.tc_rows.specs.Arithmetic.{IsEmptyRow, IsTextRow, IsTextLive, IsAppend, IsLiveAppend, IsWrap, IsLiveWrap, is_admitted, IsPassing}
 use Rattle.tc_rows.proofs.AllLaws.{rows_are_lawful}
 use Rattle.tc_beh.specs.Outs.{IsLeftOut}
@@ -134,16 +133,17 @@ module _ {r : Rows} {hs : List HRow} {ts : List TRow} {hl tl : List (List ℕ)} 
 -- a row that is admitted passes, or isn't admitted
 module _ {r : Rows} {hs : List HRow} {ts : List TRow} {hl tl : List (List ℕ)} {nh : HRow} {nt : TRow} (is : IsChecker r hs ts hl tl nh nt) (l : Listing) (e : listing_of r hs ts ≡ l) (j : ℕ) (t : TRow) (at : slice_get ts j ≡ Some t) where
   pub root_passes : (b c : Bool) → ((x : Triple) → AreRowsOf x r → b ≡ is_admitted x (tree_of x r t)) → b ≡ true → ((x : Triple) → AreRowsOf x r → IsTrue c ↔ IsPassing x (tree_of x r t)) → MatchBool c (RootHolds l j) (RootBreaks l j)
-  root_passes b c admitted yes passing =
+  root_passes b c admitted said passing =
       root_exact is l e c j t at (λ x a.
-      let valid : is_admitted x (tree_of x r t) ≡ true = sym (admitted x a) ∙ yes in
+      let valid : is_admitted x (tree_of x r t) ≡ true = sym (admitted x a) ∙ said in
       let p = passing x a in
       (λ y good. p.0 y, λ good. p.1 (good valid)))
 
-  pub root_free : (b : Bool) → ((x : Triple) → AreRowsOf x r → b ≡ is_admitted x (tree_of x r t)) → b ≡ false → MatchBool true (RootHolds l j) (RootBreaks l j)
-  root_free b admitted no =
+  pub root_free : (b : Bool) → ((x : Triple) → AreRowsOf x r → b ≡ is_admitted x (tree_of x r t)) → b ≡ false → MatchBool (not b) (RootHolds l j) (RootBreaks l j)
+  root_free true admitted none = cc
+  root_free false admitted none =
       root_exact is l e true j t at (λ x a.
-      let dead : is_admitted x (tree_of x r t) ≡ false = sym (admitted x a) ∙ no in
+      let dead : is_admitted x (tree_of x r t) ≡ false = sym (admitted x a) in
       (λ y good. absurd (clash (is_admitted x (tree_of x r t)) dead good), λ good. refl))
     where
       clash : (v : Bool) → v ≡ false → IsTrue v → ⊥

@@ -1,14 +1,12 @@
 -- What is made of rows is listed exactly where its numbers are, over sets that stay.
-use Rattle.std.proofs.Common.{◌≡◌, ◌<◌, ◌↔◌, ℕ, List, map, Bool, true, false, IsTrue, subst, sym, ap, ◌∙◌, refl, not, ◌||◌}
+use Rattle.std.proofs.Common.{◌≡◌, ◌↔◌, ℕ, List, map, Bool, true, false, IsTrue, subst}
 use Rattle.std.specs.List.{Contains}
 use Rattle.tc_mat.specs.Held.{Held, AreDifferent}
 use Rattle.tc_rows.specs.Triples.{Triple}
 use Rattle.tc_rows.specs.Rows.{HedgeRow, TreeRow}
-use Rattle.tc_rows.specs.Arithmetic.{is_admitted, IsPassing}
 use Rattle.tc_beh.specs.Outs.{IsLeftOut}
 use Rattle.tc_beh.specs.Rooms.{hedge_layout, tree_layout, IsRoom, hedge_row, tree_row}
-use Rattle.tc_verify.specs.Rules.{IsGood}
-use Rattle.tc_verify.proofs.Listed.{AreListed, hedges_listed, trees_listed, found, dead, left}
+use Rattle.tc_verify.proofs.Listed.{hedges_listed, trees_listed, found, dead, left}
 
 module _ (x : Triple) (old new : Held) (e : new ≡ old) (index : List (List ℕ)) (different : AreDifferent old) where
   module _ (rooms : (ns : List ℕ) → Contains index ns → IsRoom (hedge_layout x) old.matrices ns) (Live : Type 0) (Made : HedgeRow → Type 0) (one : (u v : HedgeRow) → Made u → Made v → u ≡ v) where
@@ -46,11 +44,3 @@ module _ (x : Triple) (old new : Held) (e : new ≡ old) (index : List (List ℕ
 -- a rule without a condition
 pub always : {A : Type 0} {b : Bool} → IsTrue b ↔ (Unit {0} → A) → IsTrue b ↔ A
 always i = (λ t. i.0 t tt, λ a. i.1 (λ u. a))
-
-pub not_false : (b : Bool) → not b ≡ false → b ≡ true
-not_false true e = refl
-not_false false e = cc
-
-pub not_true : (b : Bool) → not b ≡ true → b ≡ false
-not_true true e = cc
-not_true false e = refl

@@ -1,25 +1,48 @@
 -- The first line that doesn't fit, from the first of each kind.
-use Rattle.std.proofs.Common.{◌≡◌, ◌<◌, ◌≤◌, ◌+◌, ◌⊎◌, ◌↔◌, inl, inr, ℕ, List, length, slice_get, Some, Bool, IsTrue, refl, arith}
-use Rattle.std.specs.List.{All}
+use Rattle.std.proofs.Common.{get_or, true, false, Option, subst, sym, ap, ◌∙◌, ◌≡◌, ◌<◌, ◌≤◌, ◌+◌, ◌⊎◌, ◌↔◌, inl, inr, ℕ, List, length, slice_get, Some, Bool, IsTrue, refl, arith}
+use Rattle.std.specs.List.{All, AllWithin}
+use Rattle.std.proofs.lemmas.Option.{slice_get_within, get_or_from_slice_get}
 use Rattle.std.proofs.lemmas.List.Elements.{All-contains}
 use Rattle.tc_model.specs.declared.lists.TreeLine.{TreeLine}
 use Rattle.tc_model.specs.declared.lists.HedgeLine.{HedgeLine}
 use Rattle.tc_model.specs.declared.lists.CertData.{CertData}
-use Rattle.tc_model.specs.CertificateFits.{Sizes, AreFrom, RowFits, OutputFits, TreeFits, HedgeFits, IsUnfit, IsFirstUnfit, line_of_output, line_of_tree, line_of_hedge}
-use Rattle.tc_verify.specs.Firsts.{IsFirstNot}
+use Rattle.tc_model.specs.CertificateFits.{Sizes, OutputFits, TreeFits, HedgeFits, IsUnfit, IsFirstUnfit, line_of_output, line_of_tree, line_of_hedge}
 use Rattle.tc_verify.proofs.Kept.{contains_at}
 use Rattle.tc_verify.proofs.Made.{got}
+
+-- the first element of a list of which something doesn't hold
+pub record IsFirstNot {X : Type 0} (P : X → Type 0) (xs : List X) (k : ℕ) : Type 0 where
+  pub low : k < length xs
+  pub before : (i : ℕ) (v : X) → i < k → slice_get xs i ≡ Some v → P v
+  pub breaks : (v : X) → slice_get xs k ≡ Some v → ¬ P v
 
 below_or : (a b : ℕ) → (a < b) ⊎ (b ≤ a)
 below_or a b = grind arith
 
--- two tests for the lists of a row
-pub row_tested : (first members outs looks listed : ℕ) (row_members row_outs row_looks : List ℕ) (a b r : Bool) → IsTrue r ↔ (IsTrue a × IsTrue b) → IsTrue a ↔ AreFrom first members row_members
-    → IsTrue b ↔ ((length row_outs ≡ outs) × AreFrom 0 listed row_outs × (length row_looks ≡ looks)) → IsTrue r ↔ RowFits first members outs looks listed row_members row_outs row_looks
-row_tested first members outs looks listed row_members row_outs row_looks a b r both one other = (
-  λ t. let (s, u) = both.0 t in let (count, fit, few) = other.0 u in record { members_fit = one.0 s; out_count = count; outs_fit = fit; look_count = few },
-  λ f. both.1 (one.1 f.members_fit, other.1 (f.out_count, f.outs_fit, f.look_count)),
-)
+one_some : {X : Type 0} (o : Option X) (u v : X) → o ≡ Some u → o ≡ Some v → u ≡ v
+one_some o u v a b = cc
+
+-- of a list that is gone through, so many fit
+module _ {X : Type 0} (P : X → Type 0) (xs : List X) (i : ℕ) where
+  pub one_fits : (v : X) (b : Bool) → AllWithin P xs 0 i → slice_get xs i ≡ Some v → IsTrue b ↔ P v → b ≡ true → AllWithin P xs 0 (i + 1)
+  one_fits v b all at test said k d z low = elim (below_or k i) [ inl l ↦ all k d z l | inr h ↦ subst P (sym (here k d (omega (arith, h, low)))) (test.0 said) ]
+    where
+      here : (k : ℕ) (d : X) → k ≡ i → get_or xs k d ≡ v
+      here k d e = ap (λ n. get_or xs n d) e ∙ get_or_from_slice_get xs i v d at
+
+  pub first_not : (v : X) (b : Bool) → AllWithin P xs 0 i → slice_get xs i ≡ Some v → IsTrue b ↔ P v → b ≡ false → IsFirstNot P xs i
+  first_not v b all at test said = record {
+    low = slice_get_within xs i v at;
+    before = λ k w low there. subst P (get_or_from_slice_get xs k w w there) (all k w (omega arith) low);
+    breaks = λ w there p. bad b test said (subst P (one_some (slice_get xs i) w v there at) p);
+  }
+    where
+      bad : (b : Bool) → IsTrue b ↔ P v → b ≡ false → P v → ⊥
+      bad true t n p = cc
+      bad false t n p = let f = t.1 p in cc
+
+  pub all_fit_in : (end : ℕ) → end ≡ length xs → end ≤ i → AllWithin P xs 0 i → All P xs
+  all_fit_in end e h all k d low = all k d (omega arith) (omega (arith, low, e, h))
 
 module _ (s : Sizes) (c : CertData) where
   pub output_first : (k : ℕ) → IsFirstNot (OutputFits s c) c.outputs k → IsFirstUnfit s c (line_of_output k)

@@ -1,15 +1,9 @@
 -- The first rule that is broken by rows that are listed, by places.
-use Rattle.std.specs.Prelude.{◌≡◌, ◌<◌, ℕ, List, length, slice_get, Some}
+use Rattle.std.specs.Prelude.{◌<◌, ℕ, length}
 use Rattle.tc_model.specs.Symbols.{symbol_count}
 use Rattle.tc_verify.specs.Listings.{Listing, EmptyHolds, EmptyBreaks, TextHolds, TextBreaks, AppendHolds, AppendBreaks, WrapHolds, WrapBreaks, RootHolds, RootBreaks}
 use Rattle.tc_verify.specs.declared.first.Broken.{Broken}
 use Rattle.tc_verify.specs.declared.first.Broken.TheVariants as broken
-
--- the first element of a list of which something doesn't hold
-pub record IsFirstNot {X : Type 0} (P : X → Type 0) (xs : List X) (k : ℕ) : Type 0 where
-  pub low : k < length xs
-  pub before : (i : ℕ) (v : X) → i < k → slice_get xs i ≡ Some v → P v
-  pub breaks : (v : X) → slice_get xs k ≡ Some v → ¬ P v
 
 -- of so many numbers the first that breaks a rule
 pub record IsFirstAt (Holds Breaks : ℕ → Type 0) (count k : ℕ) : Type 0 where

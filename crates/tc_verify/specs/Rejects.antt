@@ -1,5 +1,5 @@
 -- Which rule of a certificate is broken first, and by which line.
-use Rattle.std.specs.Prelude.{◌≡◌, ◌<◌, ◌≤◌, ◌+◌, ◌⊎◌, ℕ, List, length, slice_get, Some}
+use Rattle.std.specs.Prelude.{◌≡◌, ◌<◌, ◌≤◌, ◌⊎◌, ℕ, length}
 use Rattle.tc_model.specs.Symbols.{symbol_count}
 use Rattle.tc_model.specs.declared.lists.CertData.{CertData}
 use Rattle.tc_model.specs.CertificateFits.{line_of_tree, line_of_hedge, AllFit, IsUnfit}

@@ -1,5 +1,4 @@
 // The rows of a certificate, and whether what comes of them is listed.
-ghost use Rattle.std.specs.Prelude.{◌≡◌, IfOk};
 ghost use Rattle.tc_beh.specs.Machines.{IsMachine, IsMachineOf};
 ghost use Rattle.tc_rows.specs.Triples.{Triple};
 ghost use Rattle.tc_model.specs.CertificateData.{IsFormed};
@@ -27,7 +26,7 @@ pub(crate) struct Checker<'m, 'b> {
 }
 
 impl<'m, 'b> Checker<'m, 'b> {
-    ghost use Rattle.std.specs.Prelude.{◌≡◌, ◌<◌, ◌≤◌, IfOk, length, MatchBool};
+    ghost use Rattle.std.specs.Prelude.{◌≡◌, ◌<◌, IfOk, length, MatchBool};
     ghost use Rattle.tc_model.specs.Symbols.{symbol_count};
     ghost use Rattle.tc_rows.specs.CertificateRows.{hedges_of, trees_of};
     ghost use Rattle.tc_verify.specs.Checkers.{AreChecked, view_of};

@@ -1,23 +1,22 @@
 // Whether a certificate holds.
-ghost use Rattle.std.specs.Prelude.{◌≡◌, OnOk, IfErr, MatchOption};
+ghost use Rattle.std.specs.Prelude.{◌≡◌, OnOk, IfErr};
 ghost use Rattle.tc_model.specs.Safety.{IsSafe};
 ghost use Rattle.tc_rows.specs.Triples.{Triple, sheet};
 ghost use Rattle.tc_beh.specs.Machines.{IsMachine, IsMachineOf};
 ghost use Rattle.tc_model.specs.CertificateData.{IsFormed};
-ghost use Rattle.tc_rows.specs.CertificateRows.{IsCertificateData, ListsAllLive, trees_of, hedges_of};
-ghost use Rattle.tc_verify.specs.Firsts.{AllHold, IsFirstOf};
-ghost use Rattle.tc_verify.specs.Listings.{Listing, hedge_rows, tree_rows};
+ghost use Rattle.tc_rows.specs.CertificateRows.{IsCertificateData, ListsAllLive};
 ghost use Rattle.tc_verify.specs.Rejects.{IsCause};
 ghost use Rattle.tc_verify.specs.Told.{Tells, IsRejectOf, AreIn};
 
 use crate::checker::Checker;
-use crate::first::{Broken, first_broken};
+use crate::first::{Broken, try_rules};
 use crate::fit::{first_unfit, hedge_line, tree_line};
 use crate::reject::{Reject, RejectRule, VerifyFault};
 use std::alloc::Global;
 use tc_beh::Machine;
 use tc_model::CertData;
 
+/// A rule that is broken, by a line and another line or a symbol.
 fn told(rule: RejectRule, line: u32, other: u32) -> Reject
     ensures { Tells result rule line other }
 {
@@ -45,7 +44,7 @@ fn reject_of(cert: &CertData, broken: Broken) -> Reject
 
 /// Whether a certificate holds for a machine: whatever it was made by, the stylesheet is safe where it does. Its data is as the
 /// text of a certificate gives it. The rules are tried one after the other over all lines; of them the first that is broken is
-/// told, with its least line. Once the rooms are taken no memory is.
+/// told, with its least line. Memory is taken for the rooms of rows, where all numbers fit, and none after that.
 ///
 /// # Errors
 ///
@@ -62,8 +61,8 @@ pub fn verify(alloc: Global, machine: &Machine<'_>, cert: &CertData) -> Result<(
         return Err(VerifyFault::Rejected(told(RejectRule::Fit, line, 0)));
     }
     let mut checker = Checker::new(alloc, machine, cert)?;
-    match first_broken(&mut checker) {
-        None => Ok(()),
-        Some(broken) => Err(VerifyFault::Rejected(reject_of(cert, broken))),
+    match try_rules(&mut checker) {
+        Ok(()) => Ok(()),
+        Err(broken) => Err(VerifyFault::Rejected(reject_of(cert, broken))),
     }
 }

@@ -1,8 +1,7 @@
 // The first rule that rows break.
-ghost use Rattle.std.specs.Prelude.{◌≡◌, ◌<◌, ℕ, length, MatchOption};
-ghost use Rattle.tc_verify.specs.Listings.{AppendHolds, AppendBreaks, WrapHolds, WrapBreaks, RootHolds, RootBreaks};
+ghost use Rattle.std.specs.Prelude.{◌≡◌, MatchResult};
 ghost use Rattle.tc_verify.specs.Checkers.{AreChecked, view_of};
-ghost use Rattle.tc_verify.specs.Firsts.{IsFirstAt, IsFirstPair, AppendsHold, WrapsHold, AllHold, IsFirstOf, symbols};
+ghost use Rattle.tc_verify.specs.Firsts.{ListsHold, RowsHold, WrapsToo, AllHold, IsFirstOf};
 
 use crate::checker::Checker;
 
@@ -21,102 +20,72 @@ pub(crate) enum Broken {
     Root(u32),
 }
 
-/// The first tree that makes, behind a list of trees, what isn't listed.
-fn first_tree(checker: &mut Checker<'_, '_>, hedge: u32) -> Option<u32>
+/// Whether what trees make behind lists of trees is listed.
+fn try_appends(checker: &mut Checker<'_, '_>) -> Result<(), Broken>
     requires checked { AreChecked checker.old }
-    requires hedge { hedge < length (view_of checker.old).hedges }
+    requires before { ListsHold (view_of checker.old) }
     ensures checked { AreChecked checker.new }
     ensures same { view_of checker.new ≡ view_of checker.old }
-    ensures first { MatchOption result (AppendsHold (view_of checker.old) hedge) (λ j. IsFirstAt (AppendHolds (view_of checker.old) hedge) (AppendBreaks (view_of checker.old) hedge) (length (view_of checker.old).trees) j) }
-{
-    for tree in 0..checker.tree_count() {
-        if !checker.append_is_listed(hedge, tree) {
-            return Some(tree);
-        }
-    }
-    None
-}
-
-/// The first list of trees and the first tree behind it that make what isn't listed.
-fn first_append(checker: &mut Checker<'_, '_>) -> Option<(u32, u32)>
-    requires checked { AreChecked checker.old }
-    ensures checked { AreChecked checker.new }
-    ensures same { view_of checker.new ≡ view_of checker.old }
-    ensures first { MatchOption result ((i : ℕ) → i < length (view_of checker.old).hedges → AppendsHold (view_of checker.old) i) (λ p. IsFirstPair (AppendsHold (view_of checker.old)) (AppendHolds (view_of checker.old)) (AppendBreaks (view_of checker.old)) (length (view_of checker.old).hedges) (length (view_of checker.old).trees) p.0 p.1) }
+    ensures first { MatchResult result (λ _. RowsHold (view_of checker.old)) (λ b. IsFirstOf (view_of checker.old) b) }
 {
     for hedge in 0..checker.hedge_count() {
-        if let Some(tree) = first_tree(checker, hedge) {
-            return Some((hedge, tree));
+        for tree in 0..checker.tree_count() {
+            if !checker.append_is_listed(hedge, tree) {
+                return Err(Broken::Append(hedge, tree));
+            }
         }
     }
-    None
+    Ok(())
 }
 
-/// The first symbol that makes, around a list of trees, what isn't listed.
-fn first_symbol(checker: &mut Checker<'_, '_>, hedge: u32) -> Option<u32>
+/// Whether what symbols make around lists of trees is listed.
+fn try_wraps(checker: &mut Checker<'_, '_>) -> Result<(), Broken>
     requires checked { AreChecked checker.old }
-    requires hedge { hedge < length (view_of checker.old).hedges }
+    requires before { RowsHold (view_of checker.old) }
     ensures checked { AreChecked checker.new }
     ensures same { view_of checker.new ≡ view_of checker.old }
-    ensures first { MatchOption result (WrapsHold (view_of checker.old) hedge) (λ a. IsFirstAt (WrapHolds (view_of checker.old) hedge) (WrapBreaks (view_of checker.old) hedge) (symbols (view_of checker.old)) a) }
-{
-    for symbol in 0..checker.symbol_count() {
-        if !checker.wrap_is_listed(hedge, symbol) {
-            return Some(symbol);
-        }
-    }
-    None
-}
-
-/// The first list of trees and the first symbol around it that make what isn't listed.
-fn first_wrap(checker: &mut Checker<'_, '_>) -> Option<(u32, u32)>
-    requires checked { AreChecked checker.old }
-    ensures checked { AreChecked checker.new }
-    ensures same { view_of checker.new ≡ view_of checker.old }
-    ensures first { MatchOption result ((i : ℕ) → i < length (view_of checker.old).hedges → WrapsHold (view_of checker.old) i) (λ p. IsFirstPair (WrapsHold (view_of checker.old)) (WrapHolds (view_of checker.old)) (WrapBreaks (view_of checker.old)) (length (view_of checker.old).hedges) (symbols (view_of checker.old)) p.0 p.1) }
+    ensures first { MatchResult result (λ _. WrapsToo (view_of checker.old)) (λ b. IsFirstOf (view_of checker.old) b) }
 {
     for hedge in 0..checker.hedge_count() {
-        if let Some(symbol) = first_symbol(checker, hedge) {
-            return Some((hedge, symbol));
+        for symbol in 0..checker.symbol_count() {
+            if !checker.wrap_is_listed(hedge, symbol) {
+                return Err(Broken::Wrap(hedge, symbol));
+            }
         }
     }
-    None
+    Ok(())
 }
 
-/// The first tree that fails at the root.
-fn first_root(checker: &mut Checker<'_, '_>) -> Option<u32>
+/// Whether trees pass at the root.
+fn try_roots(checker: &mut Checker<'_, '_>) -> Result<(), Broken>
     requires checked { AreChecked checker.old }
+    requires before { WrapsToo (view_of checker.old) }
     ensures checked { AreChecked checker.new }
     ensures same { view_of checker.new ≡ view_of checker.old }
-    ensures first { MatchOption result ((j : ℕ) → j < length (view_of checker.old).trees → RootHolds (view_of checker.old) j) (λ j. IsFirstAt (RootHolds (view_of checker.old)) (RootBreaks (view_of checker.old)) (length (view_of checker.old).trees) j) }
+    ensures first { MatchResult result (λ _. AllHold (view_of checker.old)) (λ b. IsFirstOf (view_of checker.old) b) }
 {
     for tree in 0..checker.tree_count() {
         if !checker.root_is_good(tree) {
-            return Some(tree);
+            return Err(Broken::Root(tree));
         }
     }
-    None
+    Ok(())
 }
 
-/// The first rule that is broken, in the order of the rules, by the least place.
-pub(crate) fn first_broken(checker: &mut Checker<'_, '_>) -> Option<Broken>
-    requires { AreChecked checker.old }
-    ensures { MatchOption result (AllHold (view_of checker.old)) (λ b. IsFirstOf (view_of checker.old) b) }
+/// Tries the rules in their order, each over all places in theirs. Tells the first that is broken.
+pub(crate) fn try_rules(checker: &mut Checker<'_, '_>) -> Result<(), Broken>
+    requires checked { AreChecked checker.old }
+    ensures checked { AreChecked checker.new }
+    ensures same { view_of checker.new ≡ view_of checker.old }
+    ensures first { MatchResult result (λ _. AllHold (view_of checker.old)) (λ b. IsFirstOf (view_of checker.old) b) }
 {
     if !checker.empty_is_listed() {
-        return Some(Broken::Empty);
+        return Err(Broken::Empty);
     }
     if !checker.text_is_listed() {
-        return Some(Broken::Text);
+        return Err(Broken::Text);
     }
-    if let Some((hedge, tree)) = first_append(checker) {
-        return Some(Broken::Append(hedge, tree));
-    }
-    if let Some((hedge, symbol)) = first_wrap(checker) {
-        return Some(Broken::Wrap(hedge, symbol));
-    }
-    if let Some(tree) = first_root(checker) {
-        return Some(Broken::Root(tree));
-    }
-    None
+    try_appends(checker)?;
+    try_wraps(checker)?;
+    try_roots(checker)
 }

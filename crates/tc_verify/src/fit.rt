@@ -3,7 +3,6 @@ ghost use Rattle.std.specs.Prelude.{◌≡◌, ◌<◌, ◌↔◌, ◌+◌, leng
 ghost use Rattle.tc_model.specs.CertificateData.{IsFormed};
 ghost use Rattle.tc_model.specs.CertificateFits.{AllFit, AreFrom, HedgeFits, IsFirstUnfit, OutputFits, PairsFit, TreeFits, line_of_hedge, line_of_tree};
 ghost use Rattle.tc_verify.specs.Fits.{shape_sizes};
-ghost use Rattle.tc_verify.specs.Firsts.{IsFirstNot};
 
 use tc_beh::Shape;
 use tc_model::{CertData, HedgeLine, Numbers, Pairs, TreeLine};
@@ -55,55 +54,25 @@ fn hedge_fits(shape: Shape, cert: &CertData, line: &HedgeLine) -> bool
         && lists_fit(shape, cert.outputs.len(), &line.outs, &line.looks)
 }
 
-/// The first output that doesn't fit.
-fn first_output(shape: Shape, cert: &CertData) -> Option<u32>
-    ensures { MatchOption result (All (OutputFits (shape_sizes shape) cert.now) cert.now.outputs) (λ k. IsFirstNot (OutputFits (shape_sizes shape) cert.now) cert.now.outputs k) }
-{
-    for place in 0..cert.outputs.len() {
-        if !pairs_fit(shape.outputs, cert.outputs.get(place)) {
-            return Some(place);
-        }
-    }
-    None
-}
-
-/// The first row of a tree that doesn't fit.
-fn first_tree(shape: Shape, cert: &CertData) -> Option<u32>
-    ensures { MatchOption result (All (TreeFits (shape_sizes shape) cert.now) cert.now.trees) (λ k. IsFirstNot (TreeFits (shape_sizes shape) cert.now) cert.now.trees k) }
-{
-    for place in 0..cert.trees.len() {
-        if !tree_fits(shape, cert, cert.trees.get(place)) {
-            return Some(place);
-        }
-    }
-    None
-}
-
-/// The first row of a list of trees that doesn't fit.
-fn first_hedge(shape: Shape, cert: &CertData) -> Option<u32>
-    ensures { MatchOption result (All (HedgeFits (shape_sizes shape) cert.now) cert.now.hedges) (λ k. IsFirstNot (HedgeFits (shape_sizes shape) cert.now) cert.now.hedges k) }
-{
-    for place in 0..cert.hedges.len() {
-        if !hedge_fits(shape, cert, cert.hedges.get(place)) {
-            return Some(place);
-        }
-    }
-    None
-}
-
 /// The first line that doesn't fit.
 pub(crate) fn first_unfit(shape: Shape, cert: &CertData) -> Option<u32>
     requires { IsFormed cert.now }
     ensures { MatchOption result (AllFit (shape_sizes shape) cert.now) (λ line. IsFirstUnfit (shape_sizes shape) cert.now line) }
 {
-    if let Some(place) = first_output(shape, cert) {
-        return Some(output_line(place));
+    for output in 0..cert.outputs.len() {
+        if !pairs_fit(shape.outputs, cert.outputs.get(output)) {
+            return Some(output_line(output));
+        }
     }
-    if let Some(place) = first_tree(shape, cert) {
-        return Some(tree_line(cert, place));
+    for tree in 0..cert.trees.len() {
+        if !tree_fits(shape, cert, cert.trees.get(tree)) {
+            return Some(tree_line(cert, tree));
+        }
     }
-    if let Some(place) = first_hedge(shape, cert) {
-        return Some(hedge_line(cert, place));
+    for hedge in 0..cert.hedges.len() {
+        if !hedge_fits(shape, cert, cert.hedges.get(hedge)) {
+            return Some(hedge_line(cert, hedge));
+        }
     }
     None
 }

@@ -38,10 +38,7 @@ impl Lists {
     pub(crate) fn has(&self, numbers: &[u32]) -> bool
         ensures { IsTrue result ↔ Contains self.now numbers.now }
     {
-        match self.keys.get_index_of(numbers) {
-            Some(_) => true,
-            None => false,
-        }
+        self.keys.contains(numbers)
     }
 
     /// Holds a list, if it isn't held.

@@ -1,4 +1,4 @@
-use Rattle.std.proofs.Common.{◌≡◌, ◌∙◌, List, ap, map, sym, subst, length, true, false}
+use Rattle.std.proofs.Common.{◌≡◌, ◌∙◌, ap, map, subst, length, true, false}
 use Rattle.tc_model.specs.SimplifiesCounts.{IsWithinCounts}
 use Rattle.tc_model.proofs.SimplifiesUnique.{simplifies_unique}
 use Rattle.tc_rnc.specs.Views.{syntax}

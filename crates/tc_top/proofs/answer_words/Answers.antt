@@ -1,10 +1,10 @@
-use Rattle.std.proofs.Common.{◌≡◌, refl, sym, ap, subst, codes, ℕ, List}
+use Rattle.std.proofs.Common.{◌≡◌, ◌∷◌, [], ◌∙◌, refl, sym, ap, subst, codes, ℕ, List}
 use Rattle.std.proofs.lemmas.Result.{IfOk-weaker}
 use Rattle.std.proofs.lemmas.Option.{MatchOption-at_none, MatchOption-at_some}
 use Rattle.tc_io.proofs.ReadsInOrder.{happened_nothing}
 use Rattle.tc_answer.specs.Answers as a
-use Rattle.tc_top.specs.Answers.{no_command, not_built, decided, shown, IsBuilt}
-use Rattle.tc_answer.specs.Words.{Words, name_of}
+use Rattle.tc_top.specs.Answers.{no_command, not_built, decided, shown, IsBuilt, ReadsNothing}
+use Rattle.tc_answer.specs.Words.{Command as Given, Words, name_of, operands_of}
 use Rattle.tc_answer.specs.WordsSeen.{command}
 use Rattle.tc_answer.specs.declared.command.Command.{Command}
 use Rattle.tc_answer.proofs.Numerals.{demo_size}
@@ -54,3 +54,26 @@ returns-in-Upgrade-clause-right g c =
     let words = MatchOption-at_some _ _ _ c.in-Some.is c.read_words.ensures in
     let is = c.in-Upgrade.is in
     IfOk-weaker c.not_yet-in-Upgrade.result _ _ (λ said says. (_, happened_nothing _ _ _ _, (a.not_yet (codes "upgrade"), says, not_built words (unbuilt _ _ is (λ b. b)) refl (ap (λ x. name_of (command x)) (sym is))))) c.not_yet-in-Upgrade.ensures
+
+-- a command that reads a file
+
+some_name : {name : List ℕ} {names : List (List ℕ)} → name ∷ names ≡ [] → ⊥
+some_name e = absurd (cc)
+
+reads_some : {words names : List (List ℕ)} {name : List ℕ} {given : Given} → ReadsNothing words → Words words given → IsBuilt given → operands_of given ≡ name ∷ names → ⊥
+reads_some nothing are built same = some_name (sym same ∙ nothing _ are built)
+
+pub returns-in-Check-clause-unread : goal.returns-in-Check-clause-unread
+returns-in-Check-clause-unread g c = λ nothing. absurd (reads_some nothing (words_at _ _ c.in-Check.is (MatchOption-at_some _ _ _ c.in-Some.is c.read_words.ensures)) tt refl)
+
+pub returns-in-Run-clause-unread : goal.returns-in-Run-clause-unread
+returns-in-Run-clause-unread g c = λ nothing. absurd (reads_some nothing (words_at _ _ c.in-Run.is (MatchOption-at_some _ _ _ c.in-Some.is c.read_words.ensures)) tt refl)
+
+pub returns-in-Valid-clause-unread : goal.returns-in-Valid-clause-unread
+returns-in-Valid-clause-unread g c = λ nothing. absurd (reads_some nothing (words_at _ _ c.in-Valid.is (MatchOption-at_some _ _ _ c.in-Some.is c.read_words.ensures)) tt refl)
+
+pub returns-in-Include-clause-unread : goal.returns-in-Include-clause-unread
+returns-in-Include-clause-unread g c = λ nothing. absurd (reads_some nothing (words_at _ _ c.in-Include.is (MatchOption-at_some _ _ _ c.in-Some.is c.read_words.ensures)) tt refl)
+
+pub returns-in-Same-clause-unread : goal.returns-in-Same-clause-unread
+returns-in-Same-clause-unread g c = λ nothing. absurd (reads_some nothing (words_at _ _ c.in-Same.is (MatchOption-at_some _ _ _ c.in-Some.is c.read_words.ensures)) tt refl)

@@ -1,10 +1,11 @@
-use Rattle.std.proofs.Common.{◌∙◌, inl, inr, refl, ap, subst}
+use Rattle.std.proofs.Common.{◌∙◌, inl, inr, refl, subst}
 use Rattle.tc_io.specs.Sink.{Appended, WroteFront}
-use Rattle.tc_answer.specs.Answers.{status_of}
+use Rattle.tc_answer.specs.Answers.{usage, not_yet}
 use Rattle.tc_top.specs.Answers.{answered, broken_off, out_of_memory}
-use Rattle.tc_top.proofs.Exact.{exact, usage_only, refused_only}
+use Rattle.tc_top.proofs.Exact.{alike_at, exact, usage_only, refused_only}
 use Rattle.tc_top.proofs.Headline.{at_words, at_told, gives, headline, safe_is_so, unsafe_is_shown, demo_is_safe, demo_is_shown, demonstrated, validity, running, limited}
-use Rattle.tc_answer.specs.Words.{Words}
+use Rattle.tc_top.proofs.Comparisons.{includes, equals}
+use Rattle.tc_answer.specs.Words.{Words, name_of}
 use Rattle.tc_top.proofs.typecheck.Goals as goal
 
 pub returns-in-Ok-clause-ends : goal.returns-in-Ok-clause-ends
@@ -26,17 +27,20 @@ returns-in-Ok-write_lines-clause-ends g c =
 pub returns-in-Ok-write_lines-clause-usage : goal.returns-in-Ok-write_lines-clause-usage
 returns-in-Ok-write_lines-clause-usage g c = λ none.
     let right = at_words c.as_slice.ensures c.in-Ok.ensures.right in
-    inl (right.2.1.status ∙ ap status_of (usage_only none right.2.2))
+    let written = subst (Appended (g.K.Sink.written c.args.sink.now) (g.K.Sink.written c.write_lines.new.sink)) (c.as_bytes.ensures ∙ right.2.1.written) c.in-Ok-write_lines.ensures.ok in
+    gives _ _ _ usage right.2.0 right.2.1.status written (inl (alike_at refl (usage_only none right.2.2)))
 
 pub returns-in-Ok-write_lines-clause-not_built : goal.returns-in-Ok-write_lines-clause-not_built
 returns-in-Ok-write_lines-clause-not_built g c = λ command words other.
     let right = at_words c.as_slice.ensures c.in-Ok.ensures.right in
-    inl (right.2.1.status ∙ ap status_of (refused_only words other right.2.2))
+    let written = subst (Appended (g.K.Sink.written c.args.sink.now) (g.K.Sink.written c.write_lines.new.sink)) (c.as_bytes.ensures ∙ right.2.1.written) c.in-Ok-write_lines.ensures.ok in
+    gives _ _ _ (not_yet (name_of command)) right.2.0 right.2.1.status written (inl (alike_at refl (refused_only words other right.2.2)))
 
 pub returns-in-Ok-write_lines-clause-exactly : goal.returns-in-Ok-write_lines-clause-exactly
 returns-in-Ok-write_lines-clause-exactly g c = λ files answer told is.
     let right = at_words c.as_slice.ensures c.in-Ok.ensures.right in
-    gives _ answer right.2.0 right.2.1.status (exact files _ is.1 is.2 (at_told _ right.0 told right.1.true) right.2.2)
+    let written = subst (Appended (g.K.Sink.written c.args.sink.now) (g.K.Sink.written c.write_lines.new.sink)) (c.as_bytes.ensures ∙ right.2.1.written) c.in-Ok-write_lines.ensures.ok in
+    gives _ _ _ answer right.2.0 right.2.1.status written (exact files _ is.1 is.2 (at_told _ right.0 told right.1.true) right.2.2)
 
 pub returns-in-Ok-write_lines-clause-safe : goal.returns-in-Ok-write_lines-clause-safe
 returns-in-Ok-write_lines-clause-safe g c = λ files limit i o s told checks e.
@@ -89,3 +93,15 @@ returns-in-Ok-write_lines-clause-limited g c = λ files s d told runs.
     let right = at_words c.as_slice.ensures c.in-Ok.ensures.right in
     let written = subst (Appended (g.K.Sink.written c.args.sink.now) (g.K.Sink.written c.write_lines.new.sink)) (c.as_bytes.ensures ∙ right.2.1.written) c.in-Ok-write_lines.ensures.ok in
     limited files s d _ _ _ right.2.0 runs (at_told _ right.0 told right.1.true) right.2.2 right.2.1.status written
+
+pub returns-in-Ok-write_lines-clause-inclusion : goal.returns-in-Ok-write_lines-clause-inclusion
+returns-in-Ok-write_lines-clause-inclusion g c = λ files x y told compares.
+    let right = at_words c.as_slice.ensures c.in-Ok.ensures.right in
+    let written = subst (Appended (g.K.Sink.written c.args.sink.now) (g.K.Sink.written c.write_lines.new.sink)) (c.as_bytes.ensures ∙ right.2.1.written) c.in-Ok-write_lines.ensures.ok in
+    includes files x y _ _ _ right.2.0 compares (at_told _ right.0 told right.1.true) right.2.2 right.2.1.status written
+
+pub returns-in-Ok-write_lines-clause-equality : goal.returns-in-Ok-write_lines-clause-equality
+returns-in-Ok-write_lines-clause-equality g c = λ files x y told compares.
+    let right = at_words c.as_slice.ensures c.in-Ok.ensures.right in
+    let written = subst (Appended (g.K.Sink.written c.args.sink.now) (g.K.Sink.written c.write_lines.new.sink)) (c.as_bytes.ensures ∙ right.2.1.written) c.in-Ok-write_lines.ensures.ok in
+    equals files x y _ _ _ right.2.0 compares (at_told _ right.0 told right.1.true) right.2.2 right.2.1.status written

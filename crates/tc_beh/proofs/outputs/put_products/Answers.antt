@@ -3,7 +3,6 @@ use Rattle.tc_mat.specs.Held.{Held}
 use Rattle.tc_beh.specs.Rooms.{output_at}
 use Rattle.tc_beh.specs.Held.{set_at, IsNew, AreProducts}
 use Rattle.tc_beh.proofs.Holding.{grows_step, on_err, new_before, pairs_step, products_found}
-use Rattle.tc_beh.proofs.Repeats.{Done, done_at}
 use Rattle.tc_beh.proofs.outputs.put_products.Goals as goal
 
 pub returns-in_err-number-clause-err : goal.returns-in_err-number-clause-err
@@ -37,7 +36,7 @@ pub loop-place-preserved : goal.loop-place-preserved
 loop-place-preserved c =
     let old = c.args.outputs.now in
     let mid = c.loop-place.outputs in
-    let new = c.keep_place.new.outputs in
+    let new = c.keep_product.new.outputs in
     let i = c.loop-place.place in
     let k = c.in_ok-number.number in
     let before = output_at c.args.out.now.flags c.loop-place.out.numbers.items in
@@ -61,13 +60,3 @@ loop-place-preserved c =
       pairs = pairs_step old mid new before after i k (λ n. get_or c.args.first.now n 0) (λ n. get_or c.args.second.now n 0) so_far.grows stays here now.held (c.requires.first i first_low) (c.requires.second i second_low) now.pairs.1 so_far.pairs;
       fixed = λ e. now.fixed e ∙ so_far.fixed e;
     }
-
-pub keep_place-requires-clause-done : goal.keep_place-requires-clause-done
-keep_place-requires-clause-done c = λ j l.
-    let so_far = c.loop-place.invariant in
-    let low = c.loop-place-test.true in
-    let n = c.requires.first_count in
-    let m = c.requires.second_count in
-    subst (λ f. Done c.loop-place.outputs c.args.first.now c.args.second.now (output_at f c.loop-place.out.numbers.items) j) (sym so_far.beside.flags)
-    (done_at c.args.outputs.now c.loop-place.outputs (output_at c.args.out.now.flags c.loop-place.out.numbers.items) c.args.first.now c.args.second.now c.loop-place.place so_far.grows
-    (λ i h. c.requires.first i (omega (arith, h, low, n))) (λ i h. c.requires.second i (omega (arith, h, low, m))) so_far.pairs j l)

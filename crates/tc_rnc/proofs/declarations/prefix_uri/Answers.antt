@@ -1,5 +1,5 @@
 use Rattle.tc_rnc.specs.Views as seen
-use Rattle.tc_rnc.proofs.RefusalLaws.{refuses_map, passed, passes, unmade, unmade_by}
+use Rattle.tc_rnc.proofs.RefusalLaws.{refuses_map, passed}
 use Rattle.tc_rnc.proofs.DeclarationLaws as l
 use Rattle.tc_rnc.proofs.declarations.prefix_uri.Goals as goal
 

@@ -1,6 +1,6 @@
 use Rattle.tc_model.specs.CompactSyntaxStops.{no_equals}
 use Rattle.tc_rnc.specs.Views as seen
-use Rattle.tc_rnc.proofs.RefusalLaws.{refuses_map, passed, passes, unmade, unmade_by}
+use Rattle.tc_rnc.proofs.RefusalLaws.{passed}
 use Rattle.tc_rnc.proofs.DeclarationLaws as l
 use Rattle.tc_rnc.proofs.declarations.uri.Goals as goal
 

@@ -1,8 +1,6 @@
-use Rattle.std.proofs.Common.{ap, refl, sym, subst}
-use Rattle.tc_model.specs.CompactSyntaxRefused.{IsRefused}
+use Rattle.std.proofs.Common.{ap, refl, subst}
 use Rattle.tc_rnc.specs.Answers.{Excluded, Stands}
 use Rattle.tc_rnc.specs.Lexed.{Lexed}
-use Rattle.tc_rnc.specs.Refusals.{Refuses}
 use Rattle.tc_rnc.specs.Views as seen
 use Rattle.tc_rnc.proofs.RefusalLaws.{refuses_map, failed}
 use Rattle.tc_rnc.proofs.AnswerLaws as l

@@ -1,4 +1,4 @@
-use Rattle.std.proofs.Common.{false, map, ◌∙◌, ap, sym, subst}
+use Rattle.std.proofs.Common.{false, map, ap, subst}
 use Rattle.tc_model.specs.CompactSyntax.{SchemaAt}
 use Rattle.tc_model.specs.CompactSyntaxStops.{SchemaStops}
 use Rattle.tc_rnc.specs.Scopes.{scope_of}

@@ -1,4 +1,4 @@
-use Rattle.std.proofs.Common.{subst}
+use Rattle.std.proofs.Common.{ap, subst}
 use Rattle.std.proofs.lemmas.Result.{IfOk-weaker}
 use Rattle.tc_answer.specs.Answers as a
 use Rattle.tc_model.specs.Views as see
@@ -7,13 +7,14 @@ use Rattle.tc_read.specs.Refusals.{IsRefusedSchema}
 use Rattle.tc_read.specs.Schemas.{IsSchemaOf}
 use Rattle.tc_top.specs.Comparing.{second_refused, both_schemas}
 use Rattle.tc_top.proofs.Checked.{read_of}
+use Rattle.tc_top.proofs.Compared.{says_refused}
 use Rattle.tc_top.proofs.compare.compare_second.Goals as goal
 
 pub returns-in-Err-Refused : goal.returns-in-Err-Refused
 returns-in-Err-Refused c =
     let why = subst (λ w. IsUnaccepted (IsRefusedSchema w) c.in-Err-Refused.field-0) c.deref.ensures.value c.in-Err-Refused.ensures.no in
     let refused = subst (IsUnaccepted (IsRefusedSchema c.args.second.now.text.items)) c.in-Err-Refused.field-0-is why in
-    IfOk-weaker c.refused.result _ _ (λ said says. (a.refused c.args.second.now.name.now c.in-Err-Refused.reason (see.place c.in-Err-Refused.place), says, second_refused (read_of _ _ c.requires.first).1 refused)) c.refused.ensures
+    IfOk-weaker c.refused.result _ _ (λ said says. (a.refused c.args.second.now.name.now c.in-Err-Refused.reason (see.place c.in-Err-Refused.place), says_refused c.in-Err-Refused.reason-is (ap see.place c.in-Err-Refused.place-is) says, second_refused (read_of _ _ c.requires.first).1 refused)) c.refused.ensures
 
 pub compare_read-requires-clause-first : goal.compare_read-requires-clause-first
 compare_read-requires-clause-first c = (_, c.requires.first)

@@ -15,3 +15,24 @@ tell_first-requires-clause-first c = subst HasFewNodes c.in-Not.is c.requires.fo
 
 pub returns-in-Not : goal.returns-in-Not
 returns-in-Not c = IfOk-weaker c.tell_first.result _ _ (λ said h x y w forth back. h x y w (subst (IsAnswer (forward x y) MOST_ROWS) c.in-Not.is forth) back) c.tell_first.ensures
+
+pub returns-in-Not-back : goal.returns-in-Not-back
+returns-in-Not-back c =
+    IfOk-weaker c.second_only.result _ _ (λ said says x y w forth back.
+    let far = subst (IsAnswer (forward x y) MOST_ROWS) c.in-NotLarge.is forth in
+    let least = subst (IsAnswer (backward x y) MOST_ROWS) c.in-Not-back.is back in
+    (_, says, tells_second_beyond x y w _ far.keeps far.far least)) c.second_only.ensures
+
+pub returns-in-Included-back : goal.returns-in-Included-back
+returns-in-Included-back c =
+    IfOk-weaker c.counterexample_limit.result _ _ (λ said says x y w forth back.
+    let far = subst (IsAnswer (forward x y) MOST_ROWS) c.in-NotLarge.is forth in
+    let into = subst (IsAnswer (backward x y) MOST_ROWS) c.in-Included-back.is back in
+    (_, says, tells_no_one x y w far.keeps into.keeps far.some.0 (inl far.some.1) far.far (never x y w y x into.included))) c.counterexample_limit.ensures
+
+pub returns-in-NotLarge-back : goal.returns-in-NotLarge-back
+returns-in-NotLarge-back c =
+    IfOk-weaker c.counterexample_limit-in-NotLarge-back.result _ _ (λ said says x y w forth back.
+    let far = subst (IsAnswer (forward x y) MOST_ROWS) c.in-NotLarge.is forth in
+    let more = subst (IsAnswer (backward x y) MOST_ROWS) c.in-NotLarge-back.is back in
+    (_, says, tells_no_one x y w far.keeps more.keeps far.some.0 (inl far.some.1) far.far more.far)) c.counterexample_limit-in-NotLarge-back.ensures

@@ -1,3 +1,4 @@
+use Rattle.tc_read.proofs.SchemaReasons.{one_reason}
 use Rattle.tc_top.proofs.OneAnswer.{one_answer, one_answer_on, answer_of_call}
 use Rattle.tc_top.proofs.OneRefusal.{one_construct, one_fault_of_names}
 use Rattle.tc_top.proofs.laws.law_of_answers.Goals as goal
@@ -10,6 +11,9 @@ returns-clause-on_files c = one_answer_on
 
 pub returns-clause-call : goal.returns-clause-call
 returns-clause-call c = answer_of_call
+
+pub returns-clause-schema : goal.returns-clause-schema
+returns-clause-schema c = one_reason
 
 pub returns-clause-construct : goal.returns-clause-construct
 returns-clause-construct c = one_construct

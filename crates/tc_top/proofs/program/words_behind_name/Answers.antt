@@ -2,6 +2,7 @@ use Rattle.std.proofs.Common.{◌≡◌, ◌∷◌, [], ◌++◌, ◌∙◌, ref
 use Rattle.std.specs.Vec.Iter.{into_iter_items, into_iter_len, into_iter_steps}
 use Rattle.std.specs.declared.vec.IntoIter.{IntoIter}
 use Rattle.std.proofs.lemmas.List.{map-append}
+use Rattle.tc_io.proofs.Fronts.{on_err}
 use Rattle.tc_top.proofs.program.words_behind_name.Goals as goal
 
 nothing_left : {X : Type 0} (l : List X) → length l ≡ 0 → l ≡ []
@@ -30,8 +31,21 @@ loop-word-preserved c =
       c.next.new.self.rest.ok.0,
     )
 
-pub returns : goal.returns
-returns c =
+never_empty : {X : Type 0} (xs : List X) (y : X) (ys : List X) → xs ++ y ∷ ys ≡ [] → ⊥
+never_empty [] y ys e = absurd (cc)
+never_empty (x ∷ xs) y ys e = absurd (cc)
+
+-- there is a word where one is pushed
+pub returns-in_err-push-clause-lack : goal.returns-in_err-push-clause-lack
+returns-in_err-push-clause-lack c =
+    let at = c.loop-word.invariant in
+    let yielded = c.loop-word.yielded in
+    let whole = ap (λ l. yielded ++ l) (sym c.in-Some.ensures.steps.0) ∙ at.0 in
+    let behind = after_name c.args.arguments c.next-name.new.self c.next-name.result c.next-name.ensures.cases in
+    on_err c.from_residual.result (λ none. never_empty yielded c.in-Some.word _ (whole ∙ (ap into_iter_items c.into_iter-word-iterator.ensures.into_iter_gives ∙ (sym behind ∙ none))))
+
+pub returns-clause-words : goal.returns-clause-words
+returns-clause-words c =
     let at = c.loop-word.invariant in
     let yielded = c.loop-word.yielded in
     let rest = at_end c.loop-word.word-iterator c.in-None.ensures.steps.0 in

@@ -1,4 +1,3 @@
-use Rattle.std.proofs.Common.{◌≡◌}
 use Rattle.tc_rows.specs.Triples.{Triple}
 use Rattle.tc_beh.specs.Machines.{IsMachineOf}
 use Rattle.tc_verify.specs.Rejects.{IsCause}
@@ -18,27 +17,27 @@ pub returns-in_err-checker-clause-cause : goal.returns-in_err-checker-clause-cau
 returns-in_err-checker-clause-cause c =
     lacks (λ e. (x : Triple) → IsMachineOf x c.args.machine.now → IsCause x c.args.cert.now e) c.from_residual.result c.from_residual.ensures.1 (λ x is. all_fit x c.shape.result c.args.cert.now (c.shape.ensures x is) c.in_default.ensures)
 
-pub returns-in-None-clause-certificate : goal.returns-in-None-clause-certificate
-returns-in-None-clause-certificate c =
+pub returns-in-Ok-clause-certificate : goal.returns-in-Ok-clause-certificate
+returns-in-Ok-clause-certificate c =
     is_certified c.args.machine.now c.args.cert.now c.requires.formed (λ x is. all_fit x c.shape.result c.args.cert.now (c.shape.ensures x is) c.in_default.ensures) (view_of c.in_ok-checker.checker) c.in_ok-checker.ensures.machine
-    c.in_ok-checker.ensures.hedges c.in_ok-checker.ensures.trees c.in-None.ensures
+    c.in_ok-checker.ensures.hedges c.in_ok-checker.ensures.trees c.in-Ok.ensures.first
 
-pub returns-in-None-clause-safe : goal.returns-in-None-clause-safe
-returns-in-None-clause-safe c =
+pub returns-in-Ok-clause-safe : goal.returns-in-Ok-clause-safe
+returns-in-Ok-clause-safe c =
     is_safe c.args.machine.now c.args.cert.now c.requires.formed (λ x is. all_fit x c.shape.result c.args.cert.now (c.shape.ensures x is) c.in_default.ensures) (view_of c.in_ok-checker.checker) c.in_ok-checker.ensures.machine
-    c.in_ok-checker.ensures.hedges c.in_ok-checker.ensures.trees c.in-None.ensures
+    c.in_ok-checker.ensures.hedges c.in_ok-checker.ensures.trees c.in-Ok.ensures.first
 
-pub returns-in-None-clause-all_live : goal.returns-in-None-clause-all_live
-returns-in-None-clause-all_live c =
+pub returns-in-Ok-clause-all_live : goal.returns-in-Ok-clause-all_live
+returns-in-Ok-clause-all_live c =
     is_all_live c.args.machine.now c.args.cert.now c.requires.formed (λ x is. all_fit x c.shape.result c.args.cert.now (c.shape.ensures x is) c.in_default.ensures) (view_of c.in_ok-checker.checker) c.in_ok-checker.ensures.machine
-    c.in_ok-checker.ensures.hedges c.in_ok-checker.ensures.trees c.in-None.ensures
+    c.in_ok-checker.ensures.hedges c.in_ok-checker.ensures.trees c.in-Ok.ensures.first
 
 pub reject_of-requires-clause-places : goal.reject_of-requires-clause-places
 reject_of-requires-clause-places c =
     are_in c.args.machine.now c.args.cert.now c.requires.formed (λ x is. all_fit x c.shape.result c.args.cert.now (c.shape.ensures x is) c.in_default.ensures) (view_of c.in_ok-checker.checker) c.in_ok-checker.ensures.machine
-    c.in_ok-checker.ensures.hedges c.in_ok-checker.ensures.trees c.requires.machine c.in-Some-first_broken.broken c.in-Some-first_broken.ensures
+    c.in_ok-checker.ensures.hedges c.in_ok-checker.ensures.trees c.requires.machine c.in-Err.broken c.in-Err.ensures.first
 
-pub returns-in-Some-first_broken-clause-cause : goal.returns-in-Some-first_broken-clause-cause
-returns-in-Some-first_broken-clause-cause c =
+pub returns-clause-cause : goal.returns-clause-cause
+returns-clause-cause c =
     is_rejected c.args.machine.now c.args.cert.now c.requires.formed (λ x is. all_fit x c.shape.result c.args.cert.now (c.shape.ensures x is) c.in_default.ensures) (view_of c.in_ok-checker.checker) c.in_ok-checker.ensures.machine
-    c.in_ok-checker.ensures.hedges c.in_ok-checker.ensures.trees c.in-Some-first_broken.broken c.reject_of.result c.in-Some-first_broken.ensures c.reject_of.ensures
+    c.in_ok-checker.ensures.hedges c.in_ok-checker.ensures.trees c.in-Err.broken c.reject_of.result c.in-Err.ensures.first c.reject_of.ensures

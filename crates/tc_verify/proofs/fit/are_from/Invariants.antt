@@ -1,4 +1,4 @@
-use Rattle.std.proofs.Common.{◌≤◌, ◌<◌, ◌+◌, ℕ}
+use Rattle.std.proofs.Common.{◌≤◌, ◌<◌, ◌+◌}
 use Rattle.std.specs.List.{AllWithin}
 use Rattle.tc_verify.proofs.fit.are_from.Given as goal
 

@@ -2,10 +2,16 @@ use Rattle.std.proofs.Common.{◌≡◌, ◌<◌, ◌∙◌, length, sym, subst,
 use Rattle.tc_model.specs.States.{input}
 use Rattle.tc_auto.specs.Stands.{Stands}
 use Rattle.tc_auto.specs.declared.auto.Auto.{Auto}
+use Rattle.tc_hedge.proofs.Bounds.{patterns_of}
 use Rattle.tc_beh.specs.Rooms.{output_at}
 use Rattle.tc_beh.proofs.Holding.{on_err}
 use Rattle.tc_beh.proofs.Appends.{is_live, isnt_live, appended, refused}
 use Rattle.tc_beh.proofs.rows.Rows.append.Goals as goal
+
+pub put_kind-requires-clause-patterns : goal.put_kind-requires-clause-patterns
+put_kind-requires-clause-patterns c =
+    let (x, is) = c.requires.rows in
+    (c.requires.tree x is).parted.flags ∙ sym (patterns_of input x.input c.auto.result.now (subst (λ (a : Auto). Stands input x.input a) (sym c.auto.ensures) is.machine.parts.contents.auto))
 
 pub put_append-requires-clause-first : goal.put_append-requires-clause-first
 put_append-requires-clause-first c = λ i low.

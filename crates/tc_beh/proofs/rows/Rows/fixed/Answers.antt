@@ -1,7 +1,8 @@
-use Rattle.std.proofs.Common.{◌≡◌, ◌∙◌, sym, subst, get_or}
+use Rattle.std.proofs.Common.{◌≡◌, ◌∙◌, sym, ap, subst, get_or}
 use Rattle.tc_model.specs.States.{output}
 use Rattle.tc_auto.specs.Stands as a
 use Rattle.tc_auto.specs.declared.auto.Auto.{Auto}
+use Rattle.tc_mat.specs.Held.{Held}
 use Rattle.tc_rows.specs.Triples.{outputs}
 use Rattle.tc_rows.specs.PairSets.{IsPairs}
 use Rattle.tc_beh.proofs.rows.Rows.fixed.Goals as goal
@@ -19,6 +20,6 @@ returns-clause-stands c = λ x is.
     let size : c.states.result ≡ outputs x = c.states.ensures.schema output x.output stands in
     record {
       machine = is;
-      size = c.in_ok-outputs.ensures.size ∙ size;
+      size = ap (λ (h : Held). h.size) c.in_ok-outputs.ensures ∙ (c.in_ok-pool.ensures.size ∙ size);
       work = c.in_ok-work.ensures x is;
     }

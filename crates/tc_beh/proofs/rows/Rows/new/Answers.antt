@@ -12,6 +12,6 @@ returns-clause-stands c = λ x is.
     let size : c.states.result ≡ outputs x = c.states.ensures.schema output x.output stands in
     record {
       machine = is;
-      size = ap (λ (h : Held). h.size) c.new-outputs.ensures ∙ size;
+      size = ap (λ (h : Held). h.size) c.in_ok-outputs.ensures ∙ (ap (λ (h : Held). h.size) c.new-pool.ensures ∙ size);
       work = c.in_ok-work.ensures x is;
     }

@@ -4,28 +4,30 @@ use Rattle.tc_close.specs.RowState.{held_of}
 use Rattle.tc_close.specs.HeldRows.{state_of, AreHeld}
 use Rattle.tc_close.proofs.Growing.{Keeps, keeps}
 use Rattle.tc_close.proofs.Holding.{Worked, whole_held, whole_state, same_room, are_rows, refused, grows_as, grows_tree, tree_came, new_tree_parted, full_text, made_text, dead}
+use Rattle.tc_close.specs.Kinds.{AreTrue}
+use Rattle.tc_close.proofs.KindLaws.{true_tree}
 use Rattle.tc_close.proofs.held.HeldRowsNumberedRows.text.Goals as goal
 
 pub text_row-requires-clause-rows : goal.text_row-requires-clause-rows
-text_row-requires-clause-rows g c = are_rows c.self.invariant
+text_row-requires-clause-rows g c = are_rows c.self.invariant.0
 
 pub text_row-requires-clause-room : goal.text_row-requires-clause-room
-text_row-requires-clause-room g c = new_tree_parted c.self.invariant
+text_row-requires-clause-room g c = new_tree_parted c.self.invariant.0
 
 -- dead
 pub invariant_of-self : goal.invariant_of-self
 invariant_of-self g c =
     let whole : c.self.inside.is_whole ≡ true = c.if-not-self.false in
     let w : Worked g.K.Over.is_of c.self.inside.rows c.text_row.new.self c.self.inside.hedges c.self.inside.trees c.self.inside.rooms (record { hedge = c.self.inside.rooms.hedge; tree = c.self.inside.rooms.tree; new_hedge = c.self.inside.rooms.new_hedge; new_tree = c.text_row.new.out }) =
-    record { was = whole_held g.K.Over.is_of c.self.inside.rows c.self.inside.hedges c.self.inside.trees c.self.inside.rooms c.self.inside.is_whole whole c.self.invariant; same = c.text_row.ensures.same; stand = c.text_row.ensures.rows; ext = c.text_row.ensures.held; beside = record { hedge = same_room c.self.inside.rooms.hedge.room; tree = same_room c.self.inside.rooms.tree.room; new_hedge = same_room c.self.inside.rooms.new_hedge.room; new_tree = c.text_row.ensures.room } } in
+    record { was = whole_held g.K.Over.is_of c.self.inside.rows c.self.inside.hedges c.self.inside.trees c.self.inside.rooms c.self.inside.is_whole whole c.self.invariant.0; same = c.text_row.ensures.same; stand = c.text_row.ensures.rows; ext = c.text_row.ensures.held; beside = record { hedge = same_room c.self.inside.rooms.hedge.room; tree = same_room c.self.inside.rooms.tree.room; new_hedge = same_room c.self.inside.rooms.new_hedge.room; new_tree = c.text_row.ensures.room } } in
     let old : state_of c.self.inside.rows c.self.inside.hedges c.self.inside.trees true ≡ c.args.self.now = whole_state c.self.inside.rows c.self.inside.hedges c.self.inside.trees c.self.inside.is_whole c.args.self.now whole c.self.view_is in
-    dead w (c.in-Ok-false.ensures.dead c.in-Ok-false.field-0-test).0
+    (dead w (c.in-Ok-false.ensures.dead c.in-Ok-false.field-0-test).0, c.self.invariant.1)
 
 pub returns-in-Ok-false-clause-grows : goal.returns-in-Ok-false-clause-grows
 returns-in-Ok-false-clause-grows g c =
     let whole : c.self.inside.is_whole ≡ true = c.if-not-self.false in
     let w : Worked g.K.Over.is_of c.self.inside.rows c.text_row.new.self c.self.inside.hedges c.self.inside.trees c.self.inside.rooms (record { hedge = c.self.inside.rooms.hedge; tree = c.self.inside.rooms.tree; new_hedge = c.self.inside.rooms.new_hedge; new_tree = c.text_row.new.out }) =
-    record { was = whole_held g.K.Over.is_of c.self.inside.rows c.self.inside.hedges c.self.inside.trees c.self.inside.rooms c.self.inside.is_whole whole c.self.invariant; same = c.text_row.ensures.same; stand = c.text_row.ensures.rows; ext = c.text_row.ensures.held; beside = record { hedge = same_room c.self.inside.rooms.hedge.room; tree = same_room c.self.inside.rooms.tree.room; new_hedge = same_room c.self.inside.rooms.new_hedge.room; new_tree = c.text_row.ensures.room } } in
+    record { was = whole_held g.K.Over.is_of c.self.inside.rows c.self.inside.hedges c.self.inside.trees c.self.inside.rooms c.self.inside.is_whole whole c.self.invariant.0; same = c.text_row.ensures.same; stand = c.text_row.ensures.rows; ext = c.text_row.ensures.held; beside = record { hedge = same_room c.self.inside.rooms.hedge.room; tree = same_room c.self.inside.rooms.tree.room; new_hedge = same_room c.self.inside.rooms.new_hedge.room; new_tree = c.text_row.ensures.room } } in
     let old : state_of c.self.inside.rows c.self.inside.hedges c.self.inside.trees true ≡ c.args.self.now = whole_state c.self.inside.rows c.self.inside.hedges c.self.inside.trees c.self.inside.is_whole c.args.self.now whole c.self.view_is in
     grows_as w true c.args.self.now old
 
@@ -34,15 +36,15 @@ pub invariant_of-self-in-Err : goal.invariant_of-self-in-Err
 invariant_of-self-in-Err g c =
     let whole : c.self.inside.is_whole ≡ true = c.if-not-self.false in
     let w : Worked g.K.Over.is_of c.self.inside.rows c.text_row.new.self c.self.inside.hedges c.self.inside.trees c.self.inside.rooms (record { hedge = c.self.inside.rooms.hedge; tree = c.self.inside.rooms.tree; new_hedge = c.self.inside.rooms.new_hedge; new_tree = c.text_row.new.out }) =
-    record { was = whole_held g.K.Over.is_of c.self.inside.rows c.self.inside.hedges c.self.inside.trees c.self.inside.rooms c.self.inside.is_whole whole c.self.invariant; same = c.text_row.ensures.same; stand = c.text_row.ensures.rows; ext = c.text_row.ensures.held; beside = record { hedge = same_room c.self.inside.rooms.hedge.room; tree = same_room c.self.inside.rooms.tree.room; new_hedge = same_room c.self.inside.rooms.new_hedge.room; new_tree = c.text_row.ensures.room } } in
+    record { was = whole_held g.K.Over.is_of c.self.inside.rows c.self.inside.hedges c.self.inside.trees c.self.inside.rooms c.self.inside.is_whole whole c.self.invariant.0; same = c.text_row.ensures.same; stand = c.text_row.ensures.rows; ext = c.text_row.ensures.held; beside = record { hedge = same_room c.self.inside.rooms.hedge.room; tree = same_room c.self.inside.rooms.tree.room; new_hedge = same_room c.self.inside.rooms.new_hedge.room; new_tree = c.text_row.ensures.room } } in
     let old : state_of c.self.inside.rows c.self.inside.hedges c.self.inside.trees true ≡ c.args.self.now = whole_state c.self.inside.rows c.self.inside.hedges c.self.inside.trees c.self.inside.is_whole c.args.self.now whole c.self.view_is in
-    refused w
+    (refused w, c.self.invariant.1)
 
 pub returns-in-Err-clause-grows : goal.returns-in-Err-clause-grows
 returns-in-Err-clause-grows g c =
     let whole : c.self.inside.is_whole ≡ true = c.if-not-self.false in
     let w : Worked g.K.Over.is_of c.self.inside.rows c.text_row.new.self c.self.inside.hedges c.self.inside.trees c.self.inside.rooms (record { hedge = c.self.inside.rooms.hedge; tree = c.self.inside.rooms.tree; new_hedge = c.self.inside.rooms.new_hedge; new_tree = c.text_row.new.out }) =
-    record { was = whole_held g.K.Over.is_of c.self.inside.rows c.self.inside.hedges c.self.inside.trees c.self.inside.rooms c.self.inside.is_whole whole c.self.invariant; same = c.text_row.ensures.same; stand = c.text_row.ensures.rows; ext = c.text_row.ensures.held; beside = record { hedge = same_room c.self.inside.rooms.hedge.room; tree = same_room c.self.inside.rooms.tree.room; new_hedge = same_room c.self.inside.rooms.new_hedge.room; new_tree = c.text_row.ensures.room } } in
+    record { was = whole_held g.K.Over.is_of c.self.inside.rows c.self.inside.hedges c.self.inside.trees c.self.inside.rooms c.self.inside.is_whole whole c.self.invariant.0; same = c.text_row.ensures.same; stand = c.text_row.ensures.rows; ext = c.text_row.ensures.held; beside = record { hedge = same_room c.self.inside.rooms.hedge.room; tree = same_room c.self.inside.rooms.tree.room; new_hedge = same_room c.self.inside.rooms.new_hedge.room; new_tree = c.text_row.ensures.room } } in
     let old : state_of c.self.inside.rows c.self.inside.hedges c.self.inside.trees true ≡ c.args.self.now = whole_state c.self.inside.rows c.self.inside.hedges c.self.inside.trees c.self.inside.is_whole c.args.self.now whole c.self.view_is in
     grows_as w false c.args.self.now old
 
@@ -50,7 +52,7 @@ pub returns-in-Err-clause-full : goal.returns-in-Err-clause-full
 returns-in-Err-clause-full g c = λ f.
     let whole : c.self.inside.is_whole ≡ true = c.if-not-self.false in
     let w : Worked g.K.Over.is_of c.self.inside.rows c.text_row.new.self c.self.inside.hedges c.self.inside.trees c.self.inside.rooms (record { hedge = c.self.inside.rooms.hedge; tree = c.self.inside.rooms.tree; new_hedge = c.self.inside.rooms.new_hedge; new_tree = c.text_row.new.out }) =
-    record { was = whole_held g.K.Over.is_of c.self.inside.rows c.self.inside.hedges c.self.inside.trees c.self.inside.rooms c.self.inside.is_whole whole c.self.invariant; same = c.text_row.ensures.same; stand = c.text_row.ensures.rows; ext = c.text_row.ensures.held; beside = record { hedge = same_room c.self.inside.rooms.hedge.room; tree = same_room c.self.inside.rooms.tree.room; new_hedge = same_room c.self.inside.rooms.new_hedge.room; new_tree = c.text_row.ensures.room } } in
+    record { was = whole_held g.K.Over.is_of c.self.inside.rows c.self.inside.hedges c.self.inside.trees c.self.inside.rooms c.self.inside.is_whole whole c.self.invariant.0; same = c.text_row.ensures.same; stand = c.text_row.ensures.rows; ext = c.text_row.ensures.held; beside = record { hedge = same_room c.self.inside.rooms.hedge.room; tree = same_room c.self.inside.rooms.tree.room; new_hedge = same_room c.self.inside.rooms.new_hedge.room; new_tree = c.text_row.ensures.room } } in
     let old : state_of c.self.inside.rows c.self.inside.hedges c.self.inside.trees true ≡ c.args.self.now = whole_state c.self.inside.rows c.self.inside.hedges c.self.inside.trees c.self.inside.is_whole c.args.self.now whole c.self.view_is in
     let is : c.text_row.result ≡ Err c.in-Err.fault = c.in-Err.is in
     let many = (c.text_row.ensures.full (is ∙ ap Err (c.hold_fault.ensures f))).1 in
@@ -61,15 +63,15 @@ pub invariant_of-self-in_default : goal.invariant_of-self-in_default
 invariant_of-self-in_default g c =
     let whole : c.self.inside.is_whole ≡ true = c.if-not-self.false in
     let w : Worked g.K.Over.is_of c.self.inside.rows c.text_row.new.self c.self.inside.hedges c.self.inside.trees c.self.inside.rooms (record { hedge = c.self.inside.rooms.hedge; tree = c.self.inside.rooms.tree; new_hedge = c.self.inside.rooms.new_hedge; new_tree = c.text_row.new.out }) =
-    record { was = whole_held g.K.Over.is_of c.self.inside.rows c.self.inside.hedges c.self.inside.trees c.self.inside.rooms c.self.inside.is_whole whole c.self.invariant; same = c.text_row.ensures.same; stand = c.text_row.ensures.rows; ext = c.text_row.ensures.held; beside = record { hedge = same_room c.self.inside.rooms.hedge.room; tree = same_room c.self.inside.rooms.tree.room; new_hedge = same_room c.self.inside.rooms.new_hedge.room; new_tree = c.text_row.ensures.room } } in
+    record { was = whole_held g.K.Over.is_of c.self.inside.rows c.self.inside.hedges c.self.inside.trees c.self.inside.rooms c.self.inside.is_whole whole c.self.invariant.0; same = c.text_row.ensures.same; stand = c.text_row.ensures.rows; ext = c.text_row.ensures.held; beside = record { hedge = same_room c.self.inside.rooms.hedge.room; tree = same_room c.self.inside.rooms.tree.room; new_hedge = same_room c.self.inside.rooms.new_hedge.room; new_tree = c.text_row.ensures.room } } in
     let old : state_of c.self.inside.rows c.self.inside.hedges c.self.inside.trees true ≡ c.args.self.now = whole_state c.self.inside.rows c.self.inside.hedges c.self.inside.trees c.self.inside.is_whole c.args.self.now whole c.self.view_is in
-    subst (λ (l : List (List ℕ)). AreHeld g.K.Over.is_of c.text_row.new.self (state_of c.text_row.new.self c.self.inside.hedges l false) (record { hedge = c.self.inside.rooms.hedge; tree = c.self.inside.rooms.tree; new_hedge = c.self.inside.rooms.new_hedge; new_tree = c.text_row.new.out })) (sym c.in_default.ensures.err) (refused w)
+    (subst (λ (l : List (List ℕ)). AreHeld g.K.Over.is_of c.text_row.new.self (state_of c.text_row.new.self c.self.inside.hedges l false) (record { hedge = c.self.inside.rooms.hedge; tree = c.self.inside.rooms.tree; new_hedge = c.self.inside.rooms.new_hedge; new_tree = c.text_row.new.out })) (sym c.in_default.ensures.err) (refused w), subst (λ (l : List (List ℕ)). AreTrue g.K.Over.is_of c.self.inside.hedges l c.self.inside.kinds) (sym c.in_default.ensures.err) c.self.invariant.1)
 
 pub returns-in_default-clause-grows : goal.returns-in_default-clause-grows
 returns-in_default-clause-grows g c =
     let whole : c.self.inside.is_whole ≡ true = c.if-not-self.false in
     let w : Worked g.K.Over.is_of c.self.inside.rows c.text_row.new.self c.self.inside.hedges c.self.inside.trees c.self.inside.rooms (record { hedge = c.self.inside.rooms.hedge; tree = c.self.inside.rooms.tree; new_hedge = c.self.inside.rooms.new_hedge; new_tree = c.text_row.new.out }) =
-    record { was = whole_held g.K.Over.is_of c.self.inside.rows c.self.inside.hedges c.self.inside.trees c.self.inside.rooms c.self.inside.is_whole whole c.self.invariant; same = c.text_row.ensures.same; stand = c.text_row.ensures.rows; ext = c.text_row.ensures.held; beside = record { hedge = same_room c.self.inside.rooms.hedge.room; tree = same_room c.self.inside.rooms.tree.room; new_hedge = same_room c.self.inside.rooms.new_hedge.room; new_tree = c.text_row.ensures.room } } in
+    record { was = whole_held g.K.Over.is_of c.self.inside.rows c.self.inside.hedges c.self.inside.trees c.self.inside.rooms c.self.inside.is_whole whole c.self.invariant.0; same = c.text_row.ensures.same; stand = c.text_row.ensures.rows; ext = c.text_row.ensures.held; beside = record { hedge = same_room c.self.inside.rooms.hedge.room; tree = same_room c.self.inside.rooms.tree.room; new_hedge = same_room c.self.inside.rooms.new_hedge.room; new_tree = c.text_row.ensures.room } } in
     let old : state_of c.self.inside.rows c.self.inside.hedges c.self.inside.trees true ≡ c.args.self.now = whole_state c.self.inside.rows c.self.inside.hedges c.self.inside.trees c.self.inside.is_whole c.args.self.now whole c.self.view_is in
     subst (λ (l : List (List ℕ)). Grows (held_of g.K.Over.is_of c.args.self.now) (held_of g.K.Over.is_of (state_of c.text_row.new.self c.self.inside.hedges l false))) (sym c.in_default.ensures.err) (grows_as w false c.args.self.now old)
 
@@ -78,20 +80,20 @@ pub invariant_of-self-2 : goal.invariant_of-self-2
 invariant_of-self-2 g c =
     let whole : c.self.inside.is_whole ≡ true = c.if-not-self.false in
     let w : Worked g.K.Over.is_of c.self.inside.rows c.text_row.new.self c.self.inside.hedges c.self.inside.trees c.self.inside.rooms (record { hedge = c.self.inside.rooms.hedge; tree = c.self.inside.rooms.tree; new_hedge = c.self.inside.rooms.new_hedge; new_tree = c.text_row.new.out }) =
-    record { was = whole_held g.K.Over.is_of c.self.inside.rows c.self.inside.hedges c.self.inside.trees c.self.inside.rooms c.self.inside.is_whole whole c.self.invariant; same = c.text_row.ensures.same; stand = c.text_row.ensures.rows; ext = c.text_row.ensures.held; beside = record { hedge = same_room c.self.inside.rooms.hedge.room; tree = same_room c.self.inside.rooms.tree.room; new_hedge = same_room c.self.inside.rooms.new_hedge.room; new_tree = c.text_row.ensures.room } } in
+    record { was = whole_held g.K.Over.is_of c.self.inside.rows c.self.inside.hedges c.self.inside.trees c.self.inside.rooms c.self.inside.is_whole whole c.self.invariant.0; same = c.text_row.ensures.same; stand = c.text_row.ensures.rows; ext = c.text_row.ensures.held; beside = record { hedge = same_room c.self.inside.rooms.hedge.room; tree = same_room c.self.inside.rooms.tree.room; new_hedge = same_room c.self.inside.rooms.new_hedge.room; new_tree = c.text_row.ensures.room } } in
     let old : state_of c.self.inside.rows c.self.inside.hedges c.self.inside.trees true ≡ c.args.self.now = whole_state c.self.inside.rows c.self.inside.hedges c.self.inside.trees c.self.inside.is_whole c.args.self.now whole c.self.view_is in
     let row = c.in-Ok-true.ensures.row c.in-Ok-true.field-0-test in
     let out = c.text_row.new.out.room in
     let at : slice_get c.keep.new.self c.in-Ok.number ≡ Some out.numbers.items = c.in-Ok.ensures.place ∙ ap Some c.numbers.ensures in
     let more = c.in-Ok.ensures.grows in
     let keep : Keeps c.self.inside.trees c.keep.new.self c.in-Ok.number out.numbers.items = keeps c.self.inside.trees c.keep.new.self c.in-Ok.number out.numbers.items at (subst (λ ns. (c.keep.new.self ≡ c.self.inside.trees) ⊎ ((c.in-Ok.number ≡ length c.self.inside.trees) × (c.keep.new.self ≡ c.self.inside.trees ++ ns ∷ []))) c.numbers.ensures more) in
-    tree_came w keep (λ x i. ((row x i).0.numbers, (row x i).1.row)) out c.text_row.ensures.room (c.in-Ok-true.ensures.grows c.in-Ok-true.field-0-test)
+    (tree_came w keep (λ x i. ((row x i).0.numbers, (row x i).1.row)) out c.text_row.ensures.room (c.in-Ok-true.ensures.grows c.in-Ok-true.field-0-test), true_tree g.K.Over.is_of c.self.inside.hedges c.self.inside.trees c.keep.new.self c.in-Ok.number out.numbers.items c.self.inside.kinds keep c.self.invariant.1)
 
 pub returns-clause-grows : goal.returns-clause-grows
 returns-clause-grows g c =
     let whole : c.self.inside.is_whole ≡ true = c.if-not-self.false in
     let w : Worked g.K.Over.is_of c.self.inside.rows c.text_row.new.self c.self.inside.hedges c.self.inside.trees c.self.inside.rooms (record { hedge = c.self.inside.rooms.hedge; tree = c.self.inside.rooms.tree; new_hedge = c.self.inside.rooms.new_hedge; new_tree = c.text_row.new.out }) =
-    record { was = whole_held g.K.Over.is_of c.self.inside.rows c.self.inside.hedges c.self.inside.trees c.self.inside.rooms c.self.inside.is_whole whole c.self.invariant; same = c.text_row.ensures.same; stand = c.text_row.ensures.rows; ext = c.text_row.ensures.held; beside = record { hedge = same_room c.self.inside.rooms.hedge.room; tree = same_room c.self.inside.rooms.tree.room; new_hedge = same_room c.self.inside.rooms.new_hedge.room; new_tree = c.text_row.ensures.room } } in
+    record { was = whole_held g.K.Over.is_of c.self.inside.rows c.self.inside.hedges c.self.inside.trees c.self.inside.rooms c.self.inside.is_whole whole c.self.invariant.0; same = c.text_row.ensures.same; stand = c.text_row.ensures.rows; ext = c.text_row.ensures.held; beside = record { hedge = same_room c.self.inside.rooms.hedge.room; tree = same_room c.self.inside.rooms.tree.room; new_hedge = same_room c.self.inside.rooms.new_hedge.room; new_tree = c.text_row.ensures.room } } in
     let old : state_of c.self.inside.rows c.self.inside.hedges c.self.inside.trees true ≡ c.args.self.now = whole_state c.self.inside.rows c.self.inside.hedges c.self.inside.trees c.self.inside.is_whole c.args.self.now whole c.self.view_is in
     let row = c.in-Ok-true.ensures.row c.in-Ok-true.field-0-test in
     let out = c.text_row.new.out.room in
@@ -104,7 +106,7 @@ pub returns-clause-made : goal.returns-clause-made
 returns-clause-made g c =
     let whole : c.self.inside.is_whole ≡ true = c.if-not-self.false in
     let w : Worked g.K.Over.is_of c.self.inside.rows c.text_row.new.self c.self.inside.hedges c.self.inside.trees c.self.inside.rooms (record { hedge = c.self.inside.rooms.hedge; tree = c.self.inside.rooms.tree; new_hedge = c.self.inside.rooms.new_hedge; new_tree = c.text_row.new.out }) =
-    record { was = whole_held g.K.Over.is_of c.self.inside.rows c.self.inside.hedges c.self.inside.trees c.self.inside.rooms c.self.inside.is_whole whole c.self.invariant; same = c.text_row.ensures.same; stand = c.text_row.ensures.rows; ext = c.text_row.ensures.held; beside = record { hedge = same_room c.self.inside.rooms.hedge.room; tree = same_room c.self.inside.rooms.tree.room; new_hedge = same_room c.self.inside.rooms.new_hedge.room; new_tree = c.text_row.ensures.room } } in
+    record { was = whole_held g.K.Over.is_of c.self.inside.rows c.self.inside.hedges c.self.inside.trees c.self.inside.rooms c.self.inside.is_whole whole c.self.invariant.0; same = c.text_row.ensures.same; stand = c.text_row.ensures.rows; ext = c.text_row.ensures.held; beside = record { hedge = same_room c.self.inside.rooms.hedge.room; tree = same_room c.self.inside.rooms.tree.room; new_hedge = same_room c.self.inside.rooms.new_hedge.room; new_tree = c.text_row.ensures.room } } in
     let old : state_of c.self.inside.rows c.self.inside.hedges c.self.inside.trees true ≡ c.args.self.now = whole_state c.self.inside.rows c.self.inside.hedges c.self.inside.trees c.self.inside.is_whole c.args.self.now whole c.self.view_is in
     let row = c.in-Ok-true.ensures.row c.in-Ok-true.field-0-test in
     let out = c.text_row.new.out.room in

@@ -1,11 +1,63 @@
-use Rattle.std.proofs.Common.{◌≡◌, subst, refl, MatchOption, Some, slice_get, rules}
+use Rattle.std.proofs.Common.{◌≡◌, ◌<◌, subst, sym, ◌∙◌, ap, refl, length, MatchOption, Some, slice_get, rules}
+use Rattle.std.proofs.lemmas.Option.{slice_get-get_or}
 use Rattle.tc_incl.specs.declared.rows.Row.{Row}
-use Rattle.tc_incl.specs.Schemas.{Schemas}
-use Rattle.tc_incl.specs.Arithmetic.{IsLiveAppend}
+use Rattle.tc_incl.specs.declared.steps.BothSteps.{BothSteps}
 use Rattle.tc_incl.specs.Held.{IsHedgeFit, IsAppended, NoAppended}
-use Rattle.tc_incl.specs.Covers.{State, hedge_at, tree_at}
-use Rattle.tc_incl.proofs.Holding.{append_at, as_hedge, hedge_held, hedge_low, more_hedges, no_append_at, row_of, same_hedges, tree_low}
+use Rattle.tc_incl.specs.Covers.{AreHeld, State}
+use Rattle.tc_incl.specs.Stepped.{AreStepped}
+use Rattle.tc_incl.proofs.Holding.{append_at, as_hedge, hedge_fit_at, hedge_held, hedge_low, more_hedges, no_append_at, row_of, same_hedges, tree_fit_at, tree_low}
+use Rattle.tc_incl.proofs.Stepped.{steps_at, stepped_held}
 use Rattle.tc_incl.proofs.covers.CoversNumberedRows.append.Goals as goal
+
+pub returns-in_default-clause-grows : goal.returns-in_default-clause-grows
+returns-in_default-clause-grows g c =
+    same_hedges g.K.Over.is_of c.self.inside.both c.self.inside.hedges.keys c.self.inside.trees.keys c.self.invariant.0 c.args.self.now c.self.view_is c.self.inside.hedges.keys refl
+
+pub step_to-requires-clause-hedge : goal.step_to-requires-clause-hedge
+step_to-requires-clause-hedge g c =
+    subst (λ l. c.args.hedge < length l) (sym c.as_slice.ensures.keys)
+    (hedge_low g.K.Over.is_of c.self.inside.both c.self.inside.hedges.keys c.self.inside.trees.keys c.self.invariant.0 c.args.self.now c.self.view_is c.args.hedge c.requires.hedge)
+
+pub appended-requires-clause-hedge : goal.appended-requires-clause-hedge
+appended-requires-clause-hedge g c =
+    let of = g.K.Over.is_of in
+    let b = c.self.inside.both in
+    let hs = c.self.inside.hedges.keys in
+    let ts = c.self.inside.trees.keys in
+    let p = c.index-as_slice-hedge.result in
+    let front : slice_get hs c.args.hedge ≡ Some p = row_of hs c.as_slice-2.result.now c.args.hedge p c.as_slice-2.ensures.keys c.index-as_slice-hedge.is (hedge_low of b hs ts c.self.invariant.0 c.args.self.now c.self.view_is c.args.hedge c.requires.hedge) in
+    hedge_fit_at b hs c.args.hedge p front c.self.invariant.0.hedges_fit
+
+pub appended-requires-clause-steps : goal.appended-requires-clause-steps
+appended-requires-clause-steps g c =
+    let of = g.K.Over.is_of in
+    let b = c.self.inside.both in
+    let hs = c.self.inside.hedges.keys in
+    let ts = c.self.inside.trees.keys in
+    let p = c.index-as_slice-hedge.result in
+    let front : slice_get hs c.args.hedge ≡ Some p = row_of hs c.as_slice-2.result.now c.args.hedge p c.as_slice-2.ensures.keys c.index-as_slice-hedge.is (hedge_low of b hs ts c.self.invariant.0 c.args.self.now c.self.view_is c.args.hedge c.requires.hedge) in
+    let ss = c.step_to.new.steps.items in
+    let t : BothSteps = c.index.result.now in
+    let at : slice_get ss c.args.hedge ≡ Some t = slice_get-get_or ss c.args.hedge t c.in-Ok.ensures.there ∙ ap Some (sym c.index.ensures) in
+    steps_at b hs ss c.args.hedge t p (subst (λ w. AreStepped b w ss) c.as_slice.ensures.keys c.in-Ok.ensures.stepped) at front
+
+pub appended-requires-clause-tree : goal.appended-requires-clause-tree
+appended-requires-clause-tree g c =
+    let of = g.K.Over.is_of in
+    let b = c.self.inside.both in
+    let hs = c.self.inside.hedges.keys in
+    let ts = c.self.inside.trees.keys in
+    let q = c.index-as_slice-tree.result in
+    let last : slice_get ts c.args.tree ≡ Some q = row_of ts c.as_slice-3.result.now c.args.tree q c.as_slice-3.ensures.keys c.index-as_slice-tree.is (tree_low of b hs ts c.self.invariant.0 c.args.self.now c.self.view_is c.args.tree c.requires.tree) in
+    tree_fit_at b ts c.args.tree q last c.self.invariant.0.trees_fit
+
+pub returns-in_default-appended-clause-grows : goal.returns-in_default-appended-clause-grows
+returns-in_default-appended-clause-grows g c =
+    same_hedges g.K.Over.is_of c.self.inside.both c.self.inside.hedges.keys c.self.inside.trees.keys c.self.invariant.0 c.args.self.now c.self.view_is c.self.inside.hedges.keys refl
+
+pub returns-in_default-made-clause-grows : goal.returns-in_default-made-clause-grows
+returns-in_default-made-clause-grows g c =
+    same_hedges g.K.Over.is_of c.self.inside.both c.self.inside.hedges.keys c.self.inside.trees.keys c.self.invariant.0 c.args.self.now c.self.view_is c.self.inside.hedges.keys refl
 
 pub returns-in_default-made-clause-made : goal.returns-in_default-made-clause-made
 returns-in_default-made-clause-made g c =
@@ -15,11 +67,22 @@ returns-in_default-made-clause-made g c =
     let ts = c.self.inside.trees.keys in
     let p = c.index-as_slice-hedge.result in
     let q = c.index-as_slice-tree.result in
-    let front : slice_get hs c.args.hedge ≡ Some p = row_of hs c.as_slice.result.now c.args.hedge p c.as_slice.ensures.keys c.index-as_slice-hedge.is (hedge_low of b hs ts c.self.invariant.0 c.args.self.now c.self.view_is c.args.hedge c.requires.hedge) in
-    let last : slice_get ts c.args.tree ≡ Some q = row_of ts c.as_slice-2.result.now c.args.tree q c.as_slice-2.ensures.keys c.index-as_slice-tree.is (tree_low of b hs ts c.self.invariant.0 c.args.self.now c.self.view_is c.args.tree c.requires.tree) in
+    let front : slice_get hs c.args.hedge ≡ Some p = row_of hs c.as_slice-2.result.now c.args.hedge p c.as_slice-2.ensures.keys c.index-as_slice-hedge.is (hedge_low of b hs ts c.self.invariant.0 c.args.self.now c.self.view_is c.args.hedge c.requires.hedge) in
+    let last : slice_get ts c.args.tree ≡ Some q = row_of ts c.as_slice-3.result.now c.args.tree q c.as_slice-3.ensures.keys c.index-as_slice-tree.is (tree_low of b hs ts c.self.invariant.0 c.args.self.now c.self.view_is c.args.tree c.requires.tree) in
     let dead : NoAppended b p q = search rules in (
-      subst (λ (s : State). (x : Schemas) → of x → IsLiveAppend x (hedge_at s c.args.hedge) (tree_at s c.args.tree) → ⊥) c.self.view_is (no_append_at of b hs ts c.self.invariant.0 c.args.hedge c.args.tree p q front last dead),
-      (refl, refl),
+      no_append_at of b hs ts c.self.invariant.0 c.args.hedge c.args.tree p q front last dead,
+      (ap (λ (s : State). length s.trees) c.self.view_is, ap (λ (s : State). length s.hedges) c.self.view_is),
+    )
+
+pub invariant_of-self-in_default-hold : goal.invariant_of-self-in_default-hold
+invariant_of-self-in_default-hold g c =
+    let of = g.K.Over.is_of in
+    let b = c.self.inside.both in
+    let hs = c.self.inside.hedges.keys in
+    let ts = c.self.inside.trees.keys in
+    let ss = c.step_to.new.steps.items in (
+      subst (λ w. AreHeld of b w ts) (sym c.in_default-hold.ensures.err) c.self.invariant.0,
+      subst (λ w. AreStepped b w ss) (sym c.in_default-hold.ensures.err) (subst (λ w. AreStepped b w ss) c.as_slice.ensures.keys c.in-Ok.ensures.stepped),
     )
 
 pub returns-in_default-hold-clause-grows : goal.returns-in_default-hold-clause-grows
@@ -37,10 +100,13 @@ invariant_of-self-2 g c =
     let hs = c.self.inside.hedges.keys in
     let ts = c.self.inside.trees.keys in
     let ks = c.hold.new.rows.keys in
+    let ss = c.step_to.new.steps.items in
     let u = c.in-Ok-hold.number in
     let held = c.in-Ok-hold.ensures in
-    let fact : IsHedgeFit b c.in-Some.row × IsAppended b c.index-as_slice-hedge.result c.index-as_slice-tree.result c.in-Some.row = subst (λ o. MatchOption o (NoAppended b c.index-as_slice-hedge.result c.index-as_slice-tree.result) (λ (r : Row). IsHedgeFit b r × IsAppended b c.index-as_slice-hedge.result c.index-as_slice-tree.result r)) c.in-Some.is c.in-Ok.ensures.made in
-    hedge_held of b hs ts c.self.invariant.0 ks u c.in-Some.row held.held held.kept held.different fact.0
+    let fact : IsHedgeFit b c.in-Some.row × IsAppended b c.index-as_slice-hedge.result c.index-as_slice-tree.result c.in-Some.row = subst (λ o. MatchOption o (NoAppended b c.index-as_slice-hedge.result c.index-as_slice-tree.result) (λ (r : Row). IsHedgeFit b r × IsAppended b c.index-as_slice-hedge.result c.index-as_slice-tree.result r)) c.in-Some.is c.in-Ok-appended.ensures.made in (
+      hedge_held of b hs ts c.self.invariant.0 ks u c.in-Some.row held.held held.kept held.different fact.0,
+      stepped_held b hs ks u c.in-Some.row ss held.kept (subst (λ w. AreStepped b w ss) c.as_slice.ensures.keys c.in-Ok.ensures.stepped),
+    )
 
 pub returns-clause-grows : goal.returns-clause-grows
 returns-clause-grows g c =
@@ -62,9 +128,9 @@ returns-clause-made g c =
     let ks = c.hold.new.rows.keys in
     let u = c.in-Ok-hold.number in
     let held = c.in-Ok-hold.ensures in
-    let fact : IsHedgeFit b c.in-Some.row × IsAppended b c.index-as_slice-hedge.result c.index-as_slice-tree.result c.in-Some.row = subst (λ o. MatchOption o (NoAppended b c.index-as_slice-hedge.result c.index-as_slice-tree.result) (λ (r : Row). IsHedgeFit b r × IsAppended b c.index-as_slice-hedge.result c.index-as_slice-tree.result r)) c.in-Some.is c.in-Ok.ensures.made in
+    let fact : IsHedgeFit b c.in-Some.row × IsAppended b c.index-as_slice-hedge.result c.index-as_slice-tree.result c.in-Some.row = subst (λ o. MatchOption o (NoAppended b c.index-as_slice-hedge.result c.index-as_slice-tree.result) (λ (r : Row). IsHedgeFit b r × IsAppended b c.index-as_slice-hedge.result c.index-as_slice-tree.result r)) c.in-Some.is c.in-Ok-appended.ensures.made in
     let p = c.index-as_slice-hedge.result in
     let q = c.index-as_slice-tree.result in
-    let front : slice_get hs c.args.hedge ≡ Some p = row_of hs c.as_slice.result.now c.args.hedge p c.as_slice.ensures.keys c.index-as_slice-hedge.is (hedge_low of b hs ts c.self.invariant.0 c.args.self.now c.self.view_is c.args.hedge c.requires.hedge) in
-    let last : slice_get ts c.args.tree ≡ Some q = row_of ts c.as_slice-2.result.now c.args.tree q c.as_slice-2.ensures.keys c.index-as_slice-tree.is (tree_low of b hs ts c.self.invariant.0 c.args.self.now c.self.view_is c.args.tree c.requires.tree) in
+    let front : slice_get hs c.args.hedge ≡ Some p = row_of hs c.as_slice-2.result.now c.args.hedge p c.as_slice-2.ensures.keys c.index-as_slice-hedge.is (hedge_low of b hs ts c.self.invariant.0 c.args.self.now c.self.view_is c.args.hedge c.requires.hedge) in
+    let last : slice_get ts c.args.tree ≡ Some q = row_of ts c.as_slice-3.result.now c.args.tree q c.as_slice-3.ensures.keys c.index-as_slice-tree.is (tree_low of b hs ts c.self.invariant.0 c.args.self.now c.self.view_is c.args.tree c.requires.tree) in
     (append_at of b hs ts c.self.invariant.0 ks u c.in-Some.row held.held held.kept c.args.hedge c.args.tree p q front last fact.1, as_hedge of b hs ts c.self.invariant.0 c.args.self.now c.self.view_is ks u c.in-Some.row held.held held.kept)

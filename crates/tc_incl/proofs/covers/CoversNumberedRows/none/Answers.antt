@@ -1,5 +1,6 @@
 use Rattle.tc_incl.specs.Held.{IsHedgeFit, IsNone}
 use Rattle.tc_incl.proofs.Holding.{as_hedge, hedge_held, more_hedges, none_at, same_hedges}
+use Rattle.tc_incl.proofs.Stepped.{stepped_held}
 use Rattle.tc_incl.proofs.covers.CoversNumberedRows.none.Goals as goal
 
 pub returns-in_default-hold-clause-grows : goal.returns-in_default-hold-clause-grows
@@ -20,7 +21,7 @@ invariant_of-self-2 g c =
     let u = c.in-Ok-hold.number in
     let held = c.in-Ok-hold.ensures in
     let fact : IsHedgeFit b c.in-Ok.row × IsNone b c.in-Ok.row = (c.in-Ok.ensures.fit, c.in-Ok.ensures.made) in
-    hedge_held of b hs ts c.self.invariant.0 ks u c.in-Ok.row held.held held.kept held.different fact.0
+    (hedge_held of b hs ts c.self.invariant.0 ks u c.in-Ok.row held.held held.kept held.different fact.0, stepped_held b hs ks u c.in-Ok.row c.self.inside.steps.items held.kept c.self.invariant.1)
 
 pub returns-clause-grows : goal.returns-clause-grows
 returns-clause-grows g c =

@@ -22,7 +22,7 @@ invariant_of-self-2 g c =
     let u = c.in-Ok-hold.number in
     let held = c.in-Ok-hold.ensures in
     let fact : IsTreeFit b c.in-Some.row × IsText b c.in-Some.row = subst (λ o. MatchOption o (NoText b) (λ (r : Row). IsTreeFit b r × IsText b r)) c.in-Some.is c.in-Ok.ensures.made in
-    tree_held of b hs ts c.self.invariant.0 ks u c.in-Some.row held.held held.kept held.different fact.0
+    (tree_held of b hs ts c.self.invariant.0 ks u c.in-Some.row held.held held.kept held.different fact.0, c.self.invariant.1)
 
 pub returns-clause-grows : goal.returns-clause-grows
 returns-clause-grows g c =

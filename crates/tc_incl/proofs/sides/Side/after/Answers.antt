@@ -1,5 +1,4 @@
-use Rattle.std.proofs.Common.{◌≡◌, ◌+◌, ◌∙◌, sym, ap, subst, length}
-use Rattle.tc_sets.specs.Numbers.{Numbers}
+use Rattle.std.proofs.Common.{◌+◌, ◌∙◌, sym, ap, subst}
 use Rattle.tc_incl.specs.Sides.{AreOfSize}
 use Rattle.tc_incl.proofs.Stepped.{put_after}
 use Rattle.tc_incl.proofs.sides.Side.after.Goals as goal
@@ -8,10 +7,11 @@ pub put_steps-requires-clause-count : goal.put_steps-requires-clause-count
 put_steps-requires-clause-count c = let are = c.requires.steps.1 in c.requires.patterns ∙ (c.args.self.now.ended ∙ sym (ap (λ n. n + 1) are.count))
 
 pub put_steps-requires-clause-sizes : goal.put_steps-requires-clause-sizes
-put_steps-requires-clause-sizes c = let are = c.requires.steps.1 in subst (λ n. AreOfSize n c.args.steps.now.elements.items) (sym c.in_ok-next.ensures.size) are.element_sizes
+put_steps-requires-clause-sizes c =
+    let are = c.requires.steps.1 in subst (λ n. AreOfSize n c.args.steps.now.elements.items) (sym (c.in_ok-next.ensures.size ∙ c.states.ensures.here)) are.element_sizes
 
 pub put_steps-requires-clause-text : goal.put_steps-requires-clause-text
-put_steps-requires-clause-text c = let are = c.requires.steps.1 in are.text_size ∙ sym c.in_ok-next.ensures.size
+put_steps-requires-clause-text c = let are = c.requires.steps.1 in are.text_size ∙ sym (c.in_ok-next.ensures.size ∙ c.states.ensures.here)
 
 pub returns-clause-numbers : goal.returns-clause-numbers
 returns-clause-numbers c = λ x states st are.

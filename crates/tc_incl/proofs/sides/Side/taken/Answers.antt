@@ -1,4 +1,4 @@
-use Rattle.std.proofs.Common.{inl, inr, ◌≡◌, ◌+◌, ap, ◌∙◌, sym, subst, arith}
+use Rattle.std.proofs.Common.{inl, inr, ◌+◌, ap, ◌∙◌, sym, subst, arith}
 use Rattle.std.proofs.lemmas.Bool.{true≢false}
 use Rattle.tc_sets.specs.Numbers.{Numbers, Has}
 use Rattle.tc_incl.specs.Sets.{IsFound}

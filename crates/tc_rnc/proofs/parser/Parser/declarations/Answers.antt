@@ -1,10 +1,10 @@
-use Rattle.std.proofs.Common.{◌≡◌, refl, ◌∙◌, ap, sym, subst}
+use Rattle.std.proofs.Common.{refl, ◌∙◌, sym, subst}
 use Rattle.tc_model.specs.CompactSyntaxStops.{DeclarationStops, in_declaration}
 use Rattle.tc_model.specs.CompactSyntaxUnread.{Refusal}
 use Rattle.tc_rnc.specs.Schemas.{Declares}
 use Rattle.tc_rnc.specs.Scopes.{scope_of}
 use Rattle.tc_rnc.specs.Views as seen
-use Rattle.tc_rnc.proofs.RefusalLaws.{refuses_map, passed, passes, unmade, unmade_by}
+use Rattle.tc_rnc.proofs.RefusalLaws.{passed}
 use Rattle.tc_rnc.proofs.DeclarationLaws as l
 use Rattle.tc_rnc.proofs.parser.Parser.declarations.Goals as goal
 

@@ -2,7 +2,7 @@ use Rattle.std.proofs.Common.{◌∷◌, ◌∙◌, [], ap, sym, subst}
 use Rattle.tc_model.specs.CompactSyntaxNames.{bound_to, DeclarationAt}
 use Rattle.tc_rnc.specs.Scopes.{scope_of}
 use Rattle.tc_rnc.specs.Views as seen
-use Rattle.tc_rnc.proofs.RefusalLaws.{refuses_map, passed, passes, unmade, unmade_by}
+use Rattle.tc_rnc.proofs.RefusalLaws.{refuses_map, passed, unmade_by}
 use Rattle.tc_rnc.proofs.DeclarationLaws as l
 use Rattle.tc_rnc.proofs.parser.Parser.default_and_prefix.Goals as goal
 

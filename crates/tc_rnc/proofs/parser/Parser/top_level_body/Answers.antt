@@ -3,8 +3,7 @@ use Rattle.tc_model.specs.CompactSyntax.{SchemaAt}
 use Rattle.tc_model.specs.CompactSyntaxStops.{SchemaStops}
 use Rattle.tc_rnc.specs.Scopes.{scope_of}
 use Rattle.tc_rnc.specs.Views as seen
-use Rattle.tc_rnc.proofs.RefusalLaws.{passed, passes, unmade_by, map_ok}
-use Rattle.tc_rnc.proofs.TopLaws as l
+use Rattle.tc_rnc.proofs.RefusalLaws.{passes, map_ok}
 use Rattle.tc_rnc.proofs.parser.Parser.top_level_body.Goals as goal
 
 pub returns-in-Some-clause-ok : goal.returns-in-Some-clause-ok

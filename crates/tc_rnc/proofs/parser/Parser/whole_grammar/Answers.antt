@@ -1,9 +1,8 @@
 use Rattle.std.proofs.Common.{◌++◌, ◌∙◌, map, ap}
 use Rattle.tc_model.specs.CompactSyntaxStops.{in_grammar, inner_grammar}
 use Rattle.tc_rnc.specs.Refusals.{unsupported}
-use Rattle.tc_rnc.specs.Scopes.{scope_of}
 use Rattle.tc_rnc.specs.Views as seen
-use Rattle.tc_rnc.proofs.RefusalLaws.{passed, passes, unmade_by, map_ok}
+use Rattle.tc_rnc.proofs.RefusalLaws.{passed}
 use Rattle.tc_rnc.proofs.TopLaws as l
 use Rattle.tc_rnc.proofs.parser.Parser.whole_grammar.Goals as goal
 

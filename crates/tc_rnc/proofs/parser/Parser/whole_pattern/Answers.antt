@@ -2,7 +2,7 @@ use Rattle.std.proofs.Common.{false, sym, subst}
 use Rattle.tc_model.specs.CompactSyntax.{SchemaAt}
 use Rattle.tc_rnc.specs.Scopes.{scope_of}
 use Rattle.tc_rnc.specs.Views as seen
-use Rattle.tc_rnc.proofs.RefusalLaws.{passed, passes, unmade_by, map_ok}
+use Rattle.tc_rnc.proofs.RefusalLaws.{passed, unmade_by}
 use Rattle.tc_rnc.proofs.TopLaws as l
 use Rattle.tc_rnc.proofs.parser.Parser.whole_pattern.Goals as goal
 

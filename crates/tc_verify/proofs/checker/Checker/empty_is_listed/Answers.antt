@@ -1,4 +1,4 @@
-use Rattle.std.proofs.Common.{◌≡◌, true, false, refl}
+use Rattle.std.proofs.Common.{refl}
 use Rattle.tc_verify.specs.Checkers.{view_of}
 use Rattle.tc_verify.proofs.Kept.{are_rows, hedge_room, same_room, stays, same_listing}
 use Rattle.tc_verify.proofs.Trials.{empty_found, empty_left}

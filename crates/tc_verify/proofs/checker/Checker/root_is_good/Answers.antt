@@ -1,7 +1,6 @@
-use Rattle.std.proofs.Common.{◌≡◌, true, false, refl}
+use Rattle.std.proofs.Common.{refl}
 use Rattle.tc_verify.specs.Checkers.{view_of}
 use Rattle.tc_verify.proofs.Kept.{are_rows, tree_at, tree_stands, same_room, stays, same_listing}
-use Rattle.tc_verify.proofs.Tried.{not_false, not_true}
 use Rattle.tc_verify.proofs.Trials.{root_passes, root_free}
 use Rattle.tc_verify.proofs.checker.Checker.root_is_good.Goals as goal
 
@@ -24,7 +23,7 @@ pub returns-else-not-admitted-clause-same : goal.returns-else-not-admitted-claus
 returns-else-not-admitted-clause-same c = same_listing c.requires.checked c.root_ok.new.self c.root_ok.ensures.same c.root_ok.ensures.rows c.root_ok.ensures.outputs (view_of c.args.self.now) refl
 
 pub returns-else-not-admitted-clause-exact : goal.returns-else-not-admitted-clause-exact
-returns-else-not-admitted-clause-exact c = root_passes c.requires.checked (view_of c.args.self.now) refl c.args.tree c.index-root.result.now (tree_at c.args.self.now.trees.items c.args.tree c.index-root.result.now c.requires.tree c.index-root.ensures) c.admitted.result c.root_ok.result c.admitted.ensures (not_false c.admitted.result c.if-not-admitted.false) c.root_ok.ensures.passing
+returns-else-not-admitted-clause-exact c = root_passes c.requires.checked (view_of c.args.self.now) refl c.args.tree c.index-root.result.now (tree_at c.args.self.now.trees.items c.args.tree c.index-root.result.now c.requires.tree c.index-root.ensures) c.admitted.result c.root_ok.result c.admitted.ensures c.if-not-admitted.false c.root_ok.ensures.passing
 
 pub returns-then-not-admitted-clause-exact : goal.returns-then-not-admitted-clause-exact
-returns-then-not-admitted-clause-exact c = root_free c.requires.checked (view_of c.args.self.now) refl c.args.tree c.index-root.result.now (tree_at c.args.self.now.trees.items c.args.tree c.index-root.result.now c.requires.tree c.index-root.ensures) c.admitted.result c.admitted.ensures (not_true c.admitted.result c.if-not-admitted.true)
+returns-then-not-admitted-clause-exact c = root_free c.requires.checked (view_of c.args.self.now) refl c.args.tree c.index-root.result.now (tree_at c.args.self.now.trees.items c.args.tree c.index-root.result.now c.requires.tree c.index-root.ensures) c.admitted.result c.admitted.ensures c.if-not-admitted.true

@@ -1,4 +1,4 @@
-use Rattle.std.proofs.Common.{◌≡◌, ◌++◌, ◌∷◌, [], List, ℕ, map, ap, sym, ◌∙◌, subst, refl}
+use Rattle.std.proofs.Common.{◌≡◌, ◌++◌, ◌∷◌, [], List, ℕ, map, ap, sym, ◌∙◌, subst}
 use Rattle.std.specs.List.{Contains}
 use Rattle.tc_verify.proofs.Keys.{grown, one_more}
 use Rattle.tc_verify.proofs.lists.Lists.keep.Goals as goal

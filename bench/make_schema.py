@@ -1,0 +1,35 @@
+#!/usr/bin/env python3
+"""Prints a schema with nearly as many cover rows as there may be, over nearly as many states.
+
+  make_schema.py NAMES KEYS WINDOW CYCLE MATCHED
+
+A row of a tree tells its name, one of NAMES and one more, and which of KEYS stands alone in it; each tree matches
+MATCHED element patterns beside these. A row of a list of trees tells which of the last WINDOW trees have one of the
+first names, and how many trees there are, up to multiples of CYCLE. With 43 43 7 15 88 there are nearly 2,000 rows of
+each kind, over 509 states.
+"""
+import sys
+
+
+def main():
+    names, keys, window, cycle, matched = map(int, sys.argv[1:])
+    first = "|".join(f"n{i}" for i in range((names + 1) // 2))
+    rules = ["start = any | window | cycle | dense"]
+    rules.append("any = element * {any*}")
+    rules.append(f"first = element ({first}) {{any*}}")
+    rules.append("window = element window {any*, first" + ", any" * (window - 1) + "}")
+    rules.append("cycle = element cycle {(any" + ", any" * (cycle - 1) + ")*}")
+    rules.append("dense = element dense {(" + "|".join(f"q{i}" for i in range(matched)) + ")*}")
+    for i in range(names):
+        rules.append(f"n{i} = element n{i} {{any*}}")
+    for i in range(keys):
+        rules.append(f"p{i} = element * {{k{i}}}")
+        rules.append(f"k{i} = element k{i} {{empty}}")
+    for i in range(matched):
+        rules.append(f"q{i} = element * {{any*}}")
+    used = "|".join([f"n{i}" for i in range(names)] + [f"p{i}" for i in range(keys)])
+    rules[0] += " | " + used
+    print("\n".join(rules))
+
+
+main()

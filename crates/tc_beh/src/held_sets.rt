@@ -1,0 +1,130 @@
+// The sets of pairs that stand in rows, each held once, with some of their products.
+ghost use Rattle.std.specs.Prelude.{◌≡◌, ◌<◌, ◌≤◌, ◌++◌, ◌∷◌, [], Some, slice_get, length, IfOk, IfSome, OnErr, MatchOption};
+ghost use Rattle.std.specs.Result.{IsErrOf};
+ghost use Rattle.tc_mat.specs.Held.{AreDifferent, AreMatrices, IsHeld};
+ghost use Rattle.tc_beh.specs.Remembered.{IsProduct};
+
+use std::alloc::Global;
+use std::marker::Model;
+use tc_base::NoMemory;
+use tc_mat::{Mat, MatId, Pool, PoolFault};
+
+/// How many products are remembered.
+const REMEMBERED: usize = 4096;
+
+/// Two held sets, and the one that leads by the first and then by the second, by their numbers.
+#[derive(Clone, Copy)]
+struct Product {
+    first: u32,
+    second: u32,
+    product: u32,
+}
+
+/// The sets of pairs that stand in rows, each held once and known by its number, with some of their products. A product is
+/// forgotten where another one comes to its place.
+#[derive(Drop)]
+pub(crate) struct HeldSets {
+    pool: Pool,
+    products: Vec<Option<Product>>,
+}
+
+impl Model for HeldSets {
+    ghost use Rattle.std.specs.Prelude.{◌≡◌, length};
+    ghost use Rattle.tc_mat.specs.Held.{Held};
+    ghost use Rattle.tc_beh.specs.Remembered.{AreRemembered};
+
+    ghost Value = { Held };
+
+    ghost view = { λ s. s.pool };
+
+    ghost invariant = { λ s. (length s.products.items ≡ 4096) × AreRemembered s.pool s.products.items };
+}
+
+/// Where the product of two sets is remembered.
+fn place_of(first: u32, second: u32) -> usize
+    ensures { result < 4096 }
+{
+    (first as usize * 64 + second as usize) % REMEMBERED
+}
+
+impl HeldSets {
+    /// The sets of a pool, of which no products are known.
+    ///
+    /// # Errors
+    ///
+    /// There is no memory for the products.
+    pub(crate) fn of(alloc: Global, pool: Pool) -> Result<HeldSets, NoMemory>
+        ensures { IfOk result (λ s. s ≡ pool) }
+    {
+        let products = vec![in alloc; None; REMEMBERED]?;
+        Ok(HeldSets { pool, products })
+    }
+
+    /// How many sets are held.
+    pub(crate) fn len(&self) -> u32
+        ensures count { result ≡ length self.now.matrices }
+        ensures bound { length self.now.matrices ≤ 65536 }
+        ensures different { AreDifferent self.now }
+        ensures matrices { AreMatrices self.now }
+    {
+        self.pool.len()
+    }
+
+    /// The number of a set, if it is held.
+    pub(crate) fn find(&self, set: &Mat) -> Option<MatId>
+        ensures { MatchOption result (¬ IsHeld self.now set.now)
+            (λ id. slice_get self.now.matrices id.0 ≡ Some set.now) }
+    {
+        self.pool.find(set)
+    }
+
+    /// The set of a number.
+    pub(crate) fn get(&self, id: MatId) -> &Mat
+        requires { id.0 < length self.now.matrices }
+        ensures matrix { slice_get self.now.matrices id.0 ≡ Some result.now }
+        ensures size { result.now.size ≡ self.now.size }
+    {
+        self.pool.get(id)
+    }
+
+    /// Holds a set that isn't held, under the next number.
+    ///
+    /// # Errors
+    ///
+    /// `PoolFull` where 65,536 others are held, and `NoMemory` where memory for a copy is refused. What is held then stays as it
+    /// was.
+    pub(crate) fn hold(&mut self, set: &Mat) -> Result<MatId, PoolFault>
+        requires size { set.now.size ≡ self.old.size }
+        requires absent { ¬ IsHeld self.old set.now }
+        ensures id { IfOk result (λ id. slice_get self.new.matrices id.0 ≡ Some set.now) }
+        ensures grows { IfOk result (λ id. (id.0 ≡ length self.old.matrices) × (self.new ≡ record self.old { matrices = self.old.matrices ++ set.now ∷ [] })) }
+        ensures err { OnErr result (self.new ≡ self.old) }
+        ensures full { IsErrOf result PoolFault.PoolFull → length self.old.matrices ≡ 65536 }
+    {
+        self.pool.intern(set)
+    }
+
+    /// The number of the product of two sets, if it is remembered.
+    pub(crate) fn product(&self, first: u32, second: u32) -> Option<u32>
+        ensures { IfSome result (λ k. IsProduct self.now first second k) }
+    {
+        let known = self.products[place_of(first, second)]?;
+        if known.first == first && known.second == second {
+            Some(known.product)
+        } else {
+            None
+        }
+    }
+
+    /// Remembers the product of two sets.
+    pub(crate) fn remember(&mut self, first: u32, second: u32, product: u32)
+        requires { IsProduct self.old first second product }
+        ensures { self.new ≡ self.old }
+    {
+        self.products[place_of(first, second)] = Some(Product {
+            first,
+            second,
+            product,
+        });
+    }
+}

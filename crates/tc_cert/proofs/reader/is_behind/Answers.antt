@@ -1,0 +1,5 @@
+use Rattle.tc_cert.proofs.ReadLines.{after_by_order}
+use Rattle.tc_cert.proofs.reader.is_behind.Goals as goal
+
+pub returns-in_ok-order-in-Some-clause-ok : goal.returns-in_ok-order-in-Some-clause-ok
+returns-in_ok-order-in-Some-clause-ok c = after_by_order c.args.before c.in-Some.before c.args.pairs.now c.in_ok-order-in-Some.order c.is_less.result c.in-Some.is c.requires.0 c.requires.1 c.in_ok-order-in-Some.ensures c.is_less.ensures

@@ -1,0 +1,13 @@
+use Rattle.std.proofs.Common.{subst, sym}
+use Rattle.tc_cert.specs.Fronts.{in_outputs}
+use Rattle.tc_cert.specs.Standing.{Stands}
+use Rattle.tc_cert.proofs.ReadLines.{outputs_on, outputs_fault, refused, map_ok}
+use Rattle.tc_cert.proofs.reading.read_outputs.Goals as goal
+
+pub returns-in_err-count : goal.returns-in_err-count
+returns-in_err-count c = λ v bytes s. refused _ _ c.from_residual.result c.in_err-count.field-0.0 c.from_residual.ensures.1 (outputs_fault v bytes c.args.reader.now c.in_err-count.field-0.0 s c.in_err-count.ensures.no)
+
+pub returns : goal.returns
+returns c = λ v bytes s.
+    map_ok _ _ _ c.read_output_lines.result (λ os h. subst (λ n. Stands v bytes (in_outputs v n os) c.read_output_lines.new.reader) (sym h.0) h.1)
+    (c.read_output_lines.ensures v bytes (outputs_on v bytes c.in_ok-count.count c.args.reader.now c.count.new.self s c.in_ok-count.ensures.ok.0 c.in_ok-count.ensures.ok.1))

@@ -1,0 +1,12 @@
+use Rattle.tc_cert.specs.Fields.{fields_of}
+use Rattle.tc_cert.proofs.Steps.{missing_as}
+use Rattle.tc_cert.proofs.ReadRows.{changed_of_next, whole_of_next}
+use Rattle.tc_cert.proofs.rows.row_behind.Goals as goal
+
+pub returns-then-is_by_changes-clause-no : goal.returns-then-is_by_changes-clause-no
+returns-then-is_by_changes-clause-no c =
+    missing_as c.changed.result (λ p. let q = changed_of_next c.args.style c.args.kind (fields_of c.args.before) c.args.bytes.now p.0 p.1 c.if-is_by_changes.ensures p.2 in (p.0, p.1, q.0, q.1)) c.changed.ensures.no
+
+pub returns-clause-no : goal.returns-clause-no
+returns-clause-no c =
+    missing_as c.whole_behind.result (λ p. (p.0, p.1, whole_of_next c.args.style c.args.kind (fields_of c.args.before) c.args.bytes.now p.0 p.1 c.if-is_by_changes.ensures p.2)) c.whole_behind.ensures.no

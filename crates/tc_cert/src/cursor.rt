@@ -1,0 +1,35 @@
+// The place in a text of which some lines were read.
+ghost use Rattle.std.specs.Prelude.{◌≡◌, ◌≤◌, ◌<◌, ◌+◌, length};
+
+use crate::rows::Style;
+
+/// A text of which some lines were read.
+#[derive(Drop)]
+pub(crate) struct Reader<'t> {
+    /// The lines that were not.
+    pub(crate) rest: &'t [u8],
+    pub(crate) style: Style,
+    /// How many lines were read.
+    pub(crate) lines: u32,
+    ghost short: { lines + length rest.now ≤ 67108864 },
+}
+
+impl<'t> Reader<'t> {
+    /// How many lines were read.
+    pub(crate) fn lines(&self) -> u32
+        ensures { result ≡ self.now.lines }
+    {
+        self.lines
+    }
+
+    /// Goes on behind a line.
+    pub(crate) fn pass(&mut self, rest: &'t [u8])
+        requires { length rest.now < length self.old.rest.now }
+        ensures rest { self.new.rest.now ≡ rest.now }
+        ensures lines { self.new.lines ≡ self.old.lines + 1 }
+        ensures style { self.new.style ≡ self.old.style }
+    {
+        self.rest = rest;
+        self.lines += 1;
+    }
+}

@@ -1,0 +1,23 @@
+-- Pairs that are remembered at places.
+use Rattle.std.proofs.Common.{◌≡◌, ◌<◌, ◌⊎◌, inl, inr, ℕ, List, length, get_or, slice_set, Option, None, Some, sym, ap, ◌∙◌, arith}
+use Rattle.std.proofs.lemmas.Bool.{cases_eq}
+use Rattle.std.proofs.lemmas.List.{get_or-set_same, get_or-set_other, length-set}
+use Rattle.tc_close.specs.PairTables.{pair, HasPair}
+
+first_of : Option (ℕ × ℕ) → ℕ
+first_of None = 0
+first_of (Some p) = p.0
+
+second_of : Option (ℕ × ℕ) → ℕ
+second_of None = 0
+second_of (Some p) = p.1
+
+one_pair : (a b i j : ℕ) → pair a b ≡ pair i j → (i ≡ a) × (j ≡ b)
+unfolding first_of second_of
+one_pair a b i j e = (sym (ap first_of e), sym (ap second_of e))
+
+pub put_pair : (xs : List (Option (ℕ × ℕ))) (place a b i j : ℕ) → place < length xs → HasPair (slice_set xs place (pair a b)) i j → HasPair xs i j ⊎ ((i ≡ a) × (j ≡ b))
+put_pair xs place a b i j low (k, inside, at) = elim (cases_eq k place) [
+  | inl same ↦ inr (one_pair a b i j (sym (ap (λ n. get_or (slice_set xs place (pair a b)) n (pair i j)) same ∙ get_or-set_same xs place (pair a b) (pair i j) low) ∙ at))
+  | inr other ↦ inl (k, (let n = length-set xs place (pair a b) in omega (arith, inside, n)), sym (get_or-set_other xs place k (pair a b) (pair i j) other) ∙ at)
+]

@@ -1,0 +1,17 @@
+pub mod ViewsLaws
+pub mod NamedLaws
+pub mod MatchLaws
+pub mod ValidLaws
+pub mod OutcomeLaws
+pub mod ContentsUnique
+pub mod DeclarationsUnique
+pub mod ReaderLaws
+pub mod ContentsLaws
+pub mod MarkupLaws
+pub mod FaultLaws
+pub mod NumberLaws
+pub mod ReachLaws
+pub mod SizeLaws
+pub mod OnceLaws
+pub mod BuiltLaws
+pub mod GrammarLaws

@@ -1,0 +1,14 @@
+use Rattle.tc_dtd.proofs.FaultLaws.{one_dtd, lawful, one_refusal, no_dtd}
+use Rattle.tc_dtd.proofs.laws.law_of_dtd_texts.Goals as goal
+
+pub returns-clause-meaning : goal.returns-clause-meaning
+returns-clause-meaning c = one_dtd
+
+pub returns-clause-lawful : goal.returns-clause-lawful
+returns-clause-lawful c = lawful
+
+pub returns-clause-refusal : goal.returns-clause-refusal
+returns-clause-refusal c = one_refusal
+
+pub returns-clause-refused : goal.returns-clause-refused
+returns-clause-refused c = no_dtd

@@ -1,0 +1,15 @@
+use Rattle.std.proofs.Common.{codes}
+use Rattle.tc_model.specs.XmlTextMisc.{no_standalone, standalone}
+use Rattle.tc_dtd.proofs.ReaderLaws.{lacks, no_standalone_here}
+use Rattle.tc_dtd.proofs.prolog.after_standalone.Goals as goal
+
+pub returns-then-not-begins-clause-ok : goal.returns-then-not-begins-clause-ok
+returns-then-not-begins-clause-ok c = no_standalone (lacks (codes "standalone") c.args.text.now c.after_white-start.result.now c.after_white-start.ensures c.if-not-begins.ensures)
+
+pub returns-in_default-clause-no : goal.returns-in_default-clause-no
+returns-in_default-clause-no c =
+    let (r, e) = c.if-not-begins.ensures in
+    no_standalone_here c.args.text.now c.after_white-start.result.now r c.after_white-start.ensures e (λ v a s k. c.in_default.ensures v a s)
+
+pub returns-then-is_yes_or_no-clause-ok : goal.returns-then-is_yes_or_no-clause-ok
+returns-then-is_yes_or_no-clause-ok c = standalone c.in-Some.ensures c.if-is_yes_or_no.ensures

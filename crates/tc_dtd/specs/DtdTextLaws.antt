@@ -1,0 +1,32 @@
+-- Laws of texts of document type definitions.
+use Rattle.std.specs.Prelude.{◌≡◌, ℕ, List}
+use Rattle.tc_model.specs.XmlTextRefusals.{Cause}
+use Rattle.tc_dtd.specs.Declarations.{Declaration, AreDeclarations}
+use Rattle.tc_dtd.specs.DtdText.{DtdText, DtdTextRefuses}
+use Rattle.tc_dtd.specs.Faults.{IsFaultOf}
+use Rattle.tc_dtd.specs.declared.faults.DtdFault.{DtdFault}
+use Rattle.tc_dtd.specs.declared.faults.DtdFault.TheVariants.{Malformed, Unsupported, TooDeep, Twice, NoMemory}
+
+-- a text declares one thing at most
+abbrev pub HasOneDtd : Type 0
+HasOneDtd = (bytes : List ℕ) (ds es : List Declaration) → DtdText bytes ds → DtdText bytes es → ds ≡ es
+
+-- which is lawful
+abbrev pub HasLawfulDtd : Type 0
+HasLawfulDtd = (bytes : List ℕ) (ds : List Declaration) → DtdText bytes ds → AreDeclarations ds
+
+-- a text is refused for one construct, at one place
+abbrev pub HasOneRefusal : Type 0
+HasOneRefusal = (bytes : List ℕ) (cause other : Cause) (place elsewhere : ℕ) → DtdTextRefuses bytes cause place → DtdTextRefuses bytes other elsewhere → (cause ≡ other) × (place ≡ elsewhere)
+
+-- a refusal, and no want of memory
+abbrev pub IsRefusal : DtdFault → Type 0
+IsRefusal (Malformed place) = Unit {0}
+IsRefusal (Unsupported place why) = Unit {0}
+IsRefusal (TooDeep place) = Unit {0}
+IsRefusal (Twice place) = Unit {0}
+IsRefusal NoMemory = ⊥
+
+-- a text that is refused declares nothing
+abbrev pub HasNoDtdWhereRefused : Type 0
+HasNoDtdWhereRefused = (bytes : List ℕ) (fault : DtdFault) (ds : List Declaration) → IsRefusal fault → IsFaultOf bytes fault → DtdText bytes ds → ⊥

@@ -1,0 +1,16 @@
+pub mod Declarations
+pub mod Outcomes
+pub mod DtdTextContents
+pub mod DtdTextDeclarations
+pub mod DtdText
+pub mod DtdValidity
+pub mod DtdGrammar
+pub mod Views
+pub mod Stops
+pub mod Faults
+pub mod Seen
+pub mod Numbers
+pub mod Sizes
+pub mod Built
+pub mod Refused
+pub mod DtdTextLaws

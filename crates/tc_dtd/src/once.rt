@@ -1,0 +1,42 @@
+// Elements that are declared more than once (XML 1.0, 3.2).
+ghost use Rattle.std.specs.Prelude.{◌≡◌, map, bytes_eq, IfOk, MatchOption};
+ghost use Rattle.std.specs.List.{IsDistinct};
+ghost use Rattle.tc_dtd.specs.DtdText.{FirstAgain, names_of};
+ghost use Rattle.tc_dtd.specs.Seen.{placed};
+ghost use Rattle.tc_dtd.specs.Views.{declaration};
+
+use crate::declarations::Decl;
+use crate::markup::Placed;
+use bumpalo::Bump;
+use bumpalo::collections::into_bump_slice;
+use indexmap::IndexSet;
+use std::hash::{BuildHasherDefault, FoldHasher};
+use tc_base::{NoMemory, Place};
+
+/// The place of the first declaration of an element that was declared before.
+pub(crate) fn first_again(arena: &Bump, found: &[Placed<'_>]) -> Result<Option<Place>, NoMemory>
+    ensures { IfOk result (λ o. MatchOption o (IsDistinct bytes_eq (names_of (map placed found.now))) (λ p. FirstAgain (map placed found.now) p.0)) }
+{
+    let mut seen: IndexSet<&str, BuildHasherDefault<FoldHasher>, &Bump> = IndexSet::new(arena);
+    for one in found {
+        let is_new = seen.insert(one.declaration.name)?;
+        if !is_new {
+            return Ok(Some(one.place));
+        }
+    }
+    Ok(None)
+}
+
+/// The declarations without their places.
+pub(crate) fn without_places<'b>(
+    arena: &'b Bump,
+    found: &[Placed<'b>],
+) -> Result<&'b [Decl<'b>], NoMemory>
+    ensures { IfOk result (λ out. map declaration out.now ≡ map (λ x. x.declaration) (map placed found.now)) }
+{
+    let mut out = Vec::new(arena);
+    for one in found {
+        out.push(one.declaration)?;
+    }
+    Ok(into_bump_slice(out))
+}
