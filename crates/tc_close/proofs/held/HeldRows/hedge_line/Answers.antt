@@ -11,11 +11,11 @@ use Rattle.tc_close.proofs.held.HeldRows.hedge_line.Goals as goal
 pub load-requires : goal.load-requires
 load-requires g c =
     let low : c.args.place < length c.self.inside.hedges = subst (λ s. c.args.place < length s.hedges) (sym c.self.view_is) c.requires in
-    hedge_fits c.self.invariant c.args.place c.get.result.now c.get.ensures low
+    hedge_fits c.self.invariant.0 c.args.place c.get.result.now c.get.ensures low
 
 pub invariant_of-self : goal.invariant_of-self
 invariant_of-self g c =
-    tested c.self.invariant c.self.inside.rows (record { machine = refl; is_fixed = refl }) (λ x is. is) refl (record { hedge = c.load.new.self; tree = c.self.inside.rooms.tree; new_hedge = c.self.inside.rooms.new_hedge; new_tree = c.self.inside.rooms.new_tree }) (record { hedge = c.load.ensures.beside; tree = same_room c.self.inside.rooms.tree.room; new_hedge = same_room c.self.inside.rooms.new_hedge.room; new_tree = same_room c.self.inside.rooms.new_tree.room })
+    (tested c.self.invariant.0 c.self.inside.rows (record { machine = refl; is_fixed = refl }) (λ x is. is) refl (record { hedge = c.load.new.self; tree = c.self.inside.rooms.tree; new_hedge = c.self.inside.rooms.new_hedge; new_tree = c.self.inside.rooms.new_tree }) (record { hedge = c.load.ensures.beside; tree = same_room c.self.inside.rooms.tree.room; new_hedge = same_room c.self.inside.rooms.new_hedge.room; new_tree = same_room c.self.inside.rooms.new_tree.room }), c.self.invariant.1)
 
 pub returns-clause-line : goal.returns-clause-line
 returns-clause-line g c =
@@ -23,7 +23,7 @@ returns-clause-line g c =
     let room = c.load.new.self in
     let items : room.room.numbers.items ≡ _ = taken c.self.inside.hedges c.args.place c.get.result.now room.room.numbers.items c.get.ensures c.load.ensures.numbers in
     IfOk-weaker c.line.result _ _ (λ l line x o.
-    let stands = hedge_stands c.self.invariant c.args.place room low c.load.ensures.beside items x (c.self.invariant.stand x (c.self.invariant.over x o)) in
+    let stands = hedge_stands c.self.invariant.0 c.args.place room low c.load.ensures.beside items x (c.self.invariant.0.stand x (c.self.invariant.0.over x o)) in
     subst (λ (s : RowState). l ≡ hedge_held x s c.args.place) c.self.view_is (hedge_line_is x (state_of c.self.inside.rows c.self.inside.hedges c.self.inside.trees c.self.inside.is_whole) c.args.place room.room stands.parted items l line)) c.line.ensures
 
 pub returns-clause-outs : goal.returns-clause-outs
@@ -31,6 +31,6 @@ returns-clause-outs g c =
     let low : c.args.place < length c.self.inside.hedges = subst (λ s. c.args.place < length s.hedges) (sym c.self.view_is) c.requires in
     let room = c.load.new.self in
     let items : room.room.numbers.items ≡ _ = taken c.self.inside.hedges c.args.place c.get.result.now room.room.numbers.items c.get.ensures c.load.ensures.numbers in
-    let (x, o) = c.self.invariant.some in
-    let stands = hedge_stands c.self.invariant c.args.place room low c.load.ensures.beside items x (c.self.invariant.stand x (c.self.invariant.over x o)) in
+    let (x, o) = c.self.invariant.0.some in
+    let stands = hedge_stands c.self.invariant.0 c.args.place room low c.load.ensures.beside items x (c.self.invariant.0.stand x (c.self.invariant.0.over x o)) in
     IfOk-weaker c.line.result _ _ (λ l line. subst (λ (s : RowState). All (λ n. n < length s.outputs.matrices) l.outs) c.self.view_is (line_outs_low (hedge_layout x) room.room c.self.inside.rows.outputs.matrices l.outs stands.parted stands.numbers line.outs)) c.line.ensures
