@@ -314,8 +314,7 @@ fn doubled(alloc: Global, levels: u32) -> Result<String, Fail> {
 /// The document of such a schema with ten levels.
 fn ten_levels(alloc: Global) -> Result<String, Fail> {
     let mut text = String::from_str(alloc, "<e10/>")?;
-    for step in 1..10 {
-        let level = 10 - step;
+    for level in [9, 8, 7, 6, 5, 4, 3, 2, 1] {
         let inside = text.as_str();
         text = format!(in alloc; "<e{level}>{inside}{inside}</e{level}>")?;
     }
