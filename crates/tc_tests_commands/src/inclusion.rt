@@ -314,8 +314,7 @@ fn doubled(alloc: Global, levels: u32) -> Result<String, Fail> {
 /// The document of such a schema with ten levels.
 fn ten_levels(alloc: Global) -> Result<String, Fail> {
     let mut text = String::from_str(alloc, "<e10/>")?;
-    for step in 1..10 {
-        let level = 10 - step;
+    for level in [9, 8, 7, 6, 5, 4, 3, 2, 1] {
         let inside = text.as_str();
         text = format!(in alloc; "<e{level}>{inside}{inside}</e{level}>")?;
     }
@@ -461,17 +460,15 @@ fn limits_are_tried_in_order(rt: HostRuntime) -> Result<(), Fail> {
         256,
         "",
     )?;
+    assert!(rt; same_writes(alloc, within.as_str(), within.as_str(), "same\n")?);
     for (first, second, text) in [
-        (within.as_str(), within.as_str(), "same\n"),
         (states.as_str(), small, "limit states 512\n"),
         (small, states.as_str(), "limit states 512\n"),
         (elements.as_str(), states.as_str(), "limit elements 256\n"),
         (states.as_str(), elements.as_str(), "limit states 512\n"),
     ] {
-        assert!(rt; same_writes(alloc, first, second, text)?, "{text}");
-        if text != "same\n" {
-            assert!(rt; include_writes(alloc, first, second, text)?, "{text}");
-        }
+        assert!(rt; same_writes(alloc, first, second, text)?);
+        assert!(rt; include_writes(alloc, first, second, text)?);
     }
     let one = named(alloc, "p", 600)?;
     let other = named(alloc, "q", 600)?;
