@@ -4,7 +4,9 @@ ghost use Rattle.std.specs.Prelude.{◌≡◌, ◌<◌, ◌≤◌, [], length, I
 ghost use Rattle.tc_beh.specs.Machines.{IsMachine};
 ghost use Rattle.tc_tests_engine.specs.Kept.{AreKept};
 
-use crate::rows::{LONGEST, NoMachine, Step, is_fine, keep, machine_of_texts, schema_of, sheet_text};
+use crate::rows::{
+    LONGEST, NoMachine, Step, is_fine, keep, machine_of_texts, schema_of, sheet_text,
+};
 use bumpalo::Bump;
 use std::alloc::Global;
 use std::test::Fail;
@@ -23,7 +25,14 @@ const STEPS: u32 = 24;
 
 /// Contents of the elements `a` and `b` of an input.
 static CONTENTS: [&str; 8] = [
-    "empty", "text", "(a|b)*", "a?,b*", "(text|b)*", "b,b?", "(b,b)*", "b|text",
+    "empty",
+    "text",
+    "(a|b)*",
+    "a?,b*",
+    "(text|b)*",
+    "b,b?",
+    "(b,b)*",
+    "b|text",
 ];
 
 /// Contents of the elements `r` and `x` of an output.
@@ -31,7 +40,14 @@ static RESULTS: [&str; 7] = ["empty", "x*", "(x,x)*", "text", "(text|x)*", "x?",
 
 /// What rules match.
 static MATCHES: [&str; 8] = [
-    "/", "a", "b", "a/b", "*[b]", "text()", "b[not(a)]", "a//b[b or a]",
+    "/",
+    "a",
+    "b",
+    "a/b",
+    "*[b]",
+    "text()",
+    "b[not(a)]",
+    "a//b[b or a]",
 ];
 
 /// Parts of their bodies.
@@ -178,7 +194,15 @@ fn keep_some(
     requires { AreKept rows.old hedges.old.items trees.old.items }
     ensures { AreKept rows.new hedges.new.items trees.new.items }
 {
-    keep_step(alloc, rows, hedges, trees, texts, Step::Empty, String::new(alloc))?;
+    keep_step(
+        alloc,
+        rows,
+        hedges,
+        trees,
+        texts,
+        Step::Empty,
+        String::new(alloc),
+    )?;
     let text = String::from_str(alloc, "t")?;
     keep_step(alloc, rows, hedges, trees, texts, Step::Text, text)?;
     for _ in 0..STEPS {
