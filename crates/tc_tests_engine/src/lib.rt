@@ -8,8 +8,6 @@ mod matrices;
 #[cfg(test)]
 mod path_states;
 #[cfg(test)]
-mod random_rows;
-#[cfg(test)]
 mod rows;
 #[cfg(test)]
 mod runs;

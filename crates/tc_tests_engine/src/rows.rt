@@ -19,17 +19,17 @@ use tc_model::{Grammar, Name, Pairs, Sheet};
 use tc_read::{Schema, read_schema, read_sheet};
 use tc_rules::Rules;
 
-pub(crate) const LONGEST: usize = 1000000;
+const LONGEST: usize = 1000000;
 
 /// Why there is no machine of some texts.
 #[derive(Clone, Copy, Debug, PartialEq, Eq)]
-pub(crate) enum NoMachine {
+enum NoMachine {
     NotRead,
     Fault(MachineFault),
 }
 
 /// The schema of a text.
-pub(crate) fn schema_of<'b>(arena: &'b Bump, text: &str) -> Result<Grammar<'b>, NoMachine>
+fn schema_of<'b>(arena: &'b Bump, text: &str) -> Result<Grammar<'b>, NoMachine>
     ensures grammar { IfOk result (λ x. IsGrammar (see.grammar x)) }
     ensures start { IfOk result (λ x. IsStart (see.grammar x).start) }
 {
@@ -96,7 +96,7 @@ fn machine_of<'b>(
 }
 
 /// The machine of three texts.
-pub(crate) fn machine_of_texts<'b>(
+fn machine_of_texts<'b>(
     alloc: Global,
     arena: &'b Bump,
     input: &str,
@@ -112,7 +112,7 @@ pub(crate) fn machine_of_texts<'b>(
 }
 
 /// A stylesheet with these rules.
-pub(crate) fn sheet_text(alloc: Global, rules: &str) -> Result<String, Fail> {
+fn sheet_text(alloc: Global, rules: &str) -> Result<String, Fail> {
     let text = format!(in alloc;
         "<xsl:stylesheet version=\"1.0\" xmlns:xsl=\"http://www.w3.org/1999/XSL/Transform\">{rules}</xsl:stylesheet>"
     )?;
@@ -202,7 +202,7 @@ fn keep_wrap(
 
 /// What is done next, by the numbers of kept rows.
 #[derive(Clone, Copy)]
-pub(crate) enum Step {
+enum Step {
     Empty,
     Text,
     Append(usize, usize),
@@ -211,7 +211,7 @@ pub(crate) enum Step {
 }
 
 /// Does one step. Tells whether its row is live.
-pub(crate) fn keep(
+fn keep(
     alloc: Global,
     rows: &mut Rows<'_, '_>,
     hedges: &mut Vec<HRow>,
@@ -275,7 +275,7 @@ fn last_of_tree(trees: &[TRow], place: usize) -> Option<u32> {
 }
 
 /// Whether a document of a kept row is a valid input, and its result a valid output.
-pub(crate) fn is_fine(
+fn is_fine(
     rows: &mut Rows<'_, '_>,
     hedges: &Vec<HRow>,
     trees: &Vec<TRow>,
