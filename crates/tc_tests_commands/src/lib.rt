@@ -4,8 +4,6 @@
 #[cfg(test)]
 mod answers;
 #[cfg(test)]
-mod certificates;
-#[cfg(test)]
 mod checks;
 #[cfg(test)]
 mod demonstrations;

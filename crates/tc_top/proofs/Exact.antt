@@ -157,8 +157,8 @@ held_decided rose files texts w b held true (no_command n e) = absurd (n _ w)
 held_decided rose files texts w b held true (not_built v x r e) = absurd (x (subst IsBuilt (one_command w v) b))
 held_decided rose files texts w b held true (not_read {name = name} v c s u) = inr (inr (name, refl))
 held_decided rose files texts w b held true (over_long v c s) = inr (inl refl)
-held_decided rose {reads = reads} {command = command} files texts w b held true (decided {command = other} {texts = found} v c r x) =
+held_decided rose {answer = answer} {reads = reads} {command = command} files texts w b held true (decided {command = other} {texts = found} v c r x) =
     let same = one_command v w in
     let read : AreRead (operands_of command) found reads = subst (λ d. AreRead (operands_of d) found reads) same r in
     let one = held_texts files rose (operands_of command) texts found reads held read true in
-    inl (subst (λ ts. IsAnswerTo command ts _) one (subst (λ d. IsAnswerTo d found _) same x))
+    inl (subst (λ ts. IsAnswerTo command ts answer) one (subst (λ d. IsAnswerTo d found answer) same x))

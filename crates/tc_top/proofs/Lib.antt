@@ -14,8 +14,3 @@ pub mod Exact
 pub mod OneAnswer
 pub mod Headline
 pub mod Comparisons
-pub mod RejectedAlike
-pub mod OneCertifying
-pub mod CertifiedTexts
-pub mod Undecided
-pub mod CertifyingCalls

@@ -11,5 +11,3 @@ pub mod Answers
 pub mod AnswersSeen
 pub mod OneAnswer
 pub mod Program
-pub mod Certifying
-pub mod CertifyingSeen

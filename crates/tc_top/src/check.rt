@@ -185,7 +185,7 @@ fn decide<'b>(
 }
 
 /// The answer that a document is a counterexample, with its result, unless its run passes a limit.
-pub(crate) fn show<'b>(
+fn show<'b>(
     alloc: Global,
     arena: &'b Bump,
     machine: &Machine<'b>,

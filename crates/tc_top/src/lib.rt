@@ -7,14 +7,10 @@ mod compile;
 mod demo;
 pub mod laws;
 mod program;
-mod prove;
 mod run;
 mod schemas;
-mod texts;
 mod unread;
-mod upgrade;
 mod valid;
-mod verify;
 
 ghost use Rattle.std.specs.Prelude.{◌≡◌, ◌≤◌, ◌⊎◌, ℕ, List, Option, Some, IfOk, OnErr};
 ghost use Rattle.tc_io.specs.Faults.{Rose};

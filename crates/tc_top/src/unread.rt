@@ -14,7 +14,7 @@ use tc_base::NoMemory;
 /// What is answered where an operand was not read.
 pub fn answer_unread(alloc: Global, unread: Unread<'_>) -> Result<Answer, NoMemory>
     ensures { IfOk result (λ said. (words : List (List ℕ)) (command : w.Command) (reads : List Read) → Words words command → IsBuilt command
-        → IsFirstUnread (operands_of command) reads unread → IsRight words reads said) }
+        → IsFirstUnread (operands_of command) reads unread.entry → IsRight words reads said) }
 {
     match unread {
         Unread::Unreadable(name) => Answer::cannot_read(alloc, name),

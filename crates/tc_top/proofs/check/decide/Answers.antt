@@ -3,7 +3,7 @@ use Rattle.std.proofs.lemmas.Result.{IfOk-weaker}
 use Rattle.tc_close.specs.Decisions.{IsDecided, IsCloseCause}
 use Rattle.tc_answer.specs.Answers as a
 use Rattle.tc_top.specs.Causes.{passes_rows}
-use Rattle.tc_top.specs.Checking as count
+use Rattle.tc_answer.specs.Lines as count
 use Rattle.tc_answer.specs.declared.limits.TheConstants.{MOST_OUTPUTS}
 use Rattle.tc_top.proofs.Checked.{itself, triple_is, found_safe, found_far, found_unsafe}
 use Rattle.tc_top.proofs.check.decide.Goals as goal
