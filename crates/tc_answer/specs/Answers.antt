@@ -13,8 +13,6 @@ use Rattle.tc_read.specs.declared.faults.Reason.{Reason}
 
 pub data Answer : Type 0 where
   usage : Answer
-  -- a command that isn't carried out yet
-  not_yet : (name : List ℕ) → Answer
   cannot_read : (name : List ℕ) → Answer
   file_limit : Answer
   safe : (tree_rows hedge_rows output_sets : ℕ) → Answer
@@ -54,7 +52,6 @@ pub data Answer : Type 0 where
 
 abbrev pub status_of : Answer → Status
 status_of usage = Usage
-status_of (not_yet name) = Refused
 status_of (cannot_read name) = ReadFault
 status_of file_limit = Limit
 status_of (safe tree_rows hedge_rows output_sets) = Yes
@@ -82,7 +79,6 @@ status_of open_limit = Limit
 -- what an answer writes
 abbrev pub text_of : Answer → List ℕ
 text_of usage = line (codes "usage: check|prove [--limit N] IN OUT SHEET; verify IN OUT SHEET CERT; run SHEET DOC; valid SCHEMA DOC; demo N; upgrade CERT; include A B; same A B")
-text_of (not_yet name) = line (codes "refused " ++ name ++ codes " not-yet")
 text_of (cannot_read name) = line (codes "cannot read " ++ name)
 text_of file_limit = limit_line (codes "file") LONGEST_FILE
 text_of (safe tree_rows hedge_rows output_sets) = safe_line tree_rows hedge_rows output_sets

@@ -149,19 +149,6 @@ impl Answer {
         }
     }
 
-    /// A command isn't carried out yet.
-    pub fn not_yet(alloc: Global, name: &str) -> Result<Answer, NoMemory>
-        ensures { IfOk result (λ said. Says said (a.not_yet name.now)) }
-    {
-        let mut text = Vec::from_slice(alloc, b"refused ")?;
-        text.extend_from_slice(name.as_bytes())?;
-        text.extend_from_slice(b" not-yet\n")?;
-        Ok(Answer {
-            status: Status::Refused,
-            text: Text::Made(text),
-        })
-    }
-
     /// A file cannot be read.
     pub fn cannot_read(alloc: Global, name: &str) -> Result<Answer, NoMemory>
         ensures { IfOk result (λ said. Says said (a.cannot_read name.now)) }

@@ -131,30 +131,6 @@ fn tells_the_usage(rt: HostRuntime) -> Result<(), Fail> {
     Ok(())
 }
 
-#[test]
-fn refuses_commands_that_are_not_built(rt: HostRuntime) -> Result<(), Fail> {
-    let commands: [(&[&str], &str); 4] = [
-        (&["prove", "I", "O", "S"], "refused prove not-yet\n"),
-        (
-            &["prove", "--limit", "1", "I", "O", "S"],
-            "refused prove not-yet\n",
-        ),
-        (&["verify", "I", "O", "S", "C"], "refused verify not-yet\n"),
-        (&["upgrade", "C"], "refused upgrade not-yet\n"),
-    ];
-    for (words, text) in commands {
-        let words = word_list(rt.alloc(), words)?;
-        let mut store = MemStore::new(rt.alloc());
-        let mut sink = MemSink::new(rt.alloc(), 200)?;
-        assert_eq!(rt;
-            typecheck(rt.alloc(), &words, &mut store, &mut sink),
-            Status::Refused
-        );
-        assert_eq!(rt; sink.bytes(), text.as_bytes());
-    }
-    Ok(())
-}
-
 /// Counts the pieces that it is given, and those that reach past a line feed.
 #[derive(Drop)]
 struct Pieces {

@@ -35,7 +35,7 @@ module _ {words : List (List ℕ)} {rose : Type 0} (files : Files) (g h : Gramma
       → IsCutShort status rose ⊎ DecidesComparison g h status old new inclusion
   includes c true right is written =
       by_texts inclusion c is written
-      (read (read_all rose files _ c.words_are tt (holds c.first_held (holds c.second_held no_file)) (is_short c.first_short (is_short c.second_short none_long)) true right))
+      (read (read_all rose files _ c.words_are (holds c.first_held (holds c.second_held no_file)) (is_short c.first_short (is_short c.second_short none_long)) true right))
     where
       read : IsOfFault rose answer ⊎ IsAnswerTo (w.include c.first c.second) (c.first_text ∷ c.second_text ∷ []) answer → IsOfFault rose answer ⊎ Compares inclusion c.first c.second c.first_text c.second_text answer
       read (inl fault) = inl fault
@@ -45,7 +45,7 @@ module _ {words : List (List ℕ)} {rose : Type 0} (files : Files) (g h : Gramma
       → IsCutShort status rose ⊎ DecidesComparison g h status old new equality
   equals c true right is written =
       by_texts equality c is written
-      (read (read_all rose files _ c.words_are tt (holds c.first_held (holds c.second_held no_file)) (is_short c.first_short (is_short c.second_short none_long)) true right))
+      (read (read_all rose files _ c.words_are (holds c.first_held (holds c.second_held no_file)) (is_short c.first_short (is_short c.second_short none_long)) true right))
     where
       read : IsOfFault rose answer ⊎ IsAnswerTo (w.same c.first c.second) (c.first_text ∷ c.second_text ∷ []) answer → IsOfFault rose answer ⊎ Compares equality c.first c.second c.first_text c.second_text answer
       read (inl fault) = inl fault

@@ -8,33 +8,24 @@ use Rattle.tc_top.specs.Checking.{most_rows}
 use Rattle.tc_top.specs.Demo.{demo_schema, demo_sheet, input_name, output_name, sheet_name}
 use Rattle.tc_answer.specs.declared.limits.TheConstants.{MOST_ROWS}
 use Rattle.tc_top.specs.OneAnswer.{AreAlike, same_answer, IsOfFault}
-use Rattle.tc_answer.specs.Words.{Command, check, run, valid, demo, Words, IsNoCommand, name_of, operands_of}
+use Rattle.tc_answer.specs.Words.{Command, check, run, valid, demo, Words, IsNoCommand, operands_of}
 use Rattle.tc_answer.specs.Reading.{StopsAt, at_first, past_first, IsUnreadable, AreRead}
-use Rattle.tc_answer.specs.Answers.{Answer, usage, not_yet, cannot_read, file_limit}
-use Rattle.tc_top.specs.Answers.{IsBuilt, IsAnswerTo, checked, ran, validated, shown, compared_one_way, compared_both_ways, IsAnswer, no_command, not_built, not_read, over_long, decided}
+use Rattle.tc_answer.specs.Answers.{Answer, usage, cannot_read, file_limit}
+use Rattle.tc_top.specs.Answers.{IsAnswerTo, checked, proved, verified, ran, validated, shown, upgraded, compared_one_way, compared_both_ways, IsAnswer, no_command, not_read, over_long, decided}
 use Rattle.tc_answer.proofs.OneCommand.{one_command}
 use Rattle.tc_answer.proofs.ReadsOnce.{never_stops, one_stop, one_texts, Follows, stop_follows, memory_no, long_memory, all_follow, no_reads, FailsIn, same_reads, AreHeld, holds, AreShort, well, well_read, well_true, held_texts}
 use Rattle.tc_top.proofs.OneValidity.{validates_one}
 use Rattle.tc_top.proofs.OneRun.{runs_texts_one}
 use Rattle.tc_top.proofs.OneCheck.{checks_one}
+use Rattle.tc_top.proofs.OneCertifying.{one_proof, one_verification, one_upgrade}
 use Rattle.tc_top.proofs.OneComparison.{compares_one}
 
 -- words of no command have the usage as their answer
 pub usage_only : {words : List (List ℕ)} {reads : List Read} {answer : Answer} → IsNoCommand words → IsAnswer words reads answer → answer ≡ usage
 usage_only n (no_command m e) = refl
-usage_only n (not_built w x r e) = absurd (n _ w)
-usage_only n (not_read w b s u) = absurd (n _ w)
-usage_only n (over_long w b s) = absurd (n _ w)
-usage_only n (decided w b r x) = absurd (n _ w)
-
--- a command that isn't carried out is refused by its name
-pub refused_only : {words : List (List ℕ)} {reads : List Read} {answer : Answer} {command : Command} → Words words command → (IsBuilt command → ⊥) → IsAnswer words reads answer
-    → answer ≡ not_yet (name_of command)
-refused_only w x (no_command n e) = absurd (n _ w)
-refused_only w x (not_built v y r e) = ap not_yet (e ∙ ap name_of (one_command v w))
-refused_only w x (not_read v b s u) = absurd (x (subst IsBuilt (one_command v w) b))
-refused_only w x (over_long v b s) = absurd (x (subst IsBuilt (one_command v w) b))
-refused_only w x (decided v b r y) = absurd (x (subst IsBuilt (one_command v w) b))
+usage_only n (not_read w s u) = absurd (n _ w)
+usage_only n (over_long w s) = absurd (n _ w)
+usage_only n (decided w r x) = absurd (n _ w)
 
 -- what is answered where the reads stop
 abbrev stopped : StoreFault → List ℕ → Answer
@@ -52,23 +43,21 @@ unreadable Failed name u = refl
 unreadable TooLong name u = absurd u
 unreadable NoMemory name u = absurd u
 
-stopped_only : {words : List (List ℕ)} {reads : List Read} {answer : Answer} {command : Command} {name : List ℕ} {fault : StoreFault} → Words words command → IsBuilt command
+stopped_only : {words : List (List ℕ)} {reads : List Read} {answer : Answer} {command : Command} {name : List ℕ} {fault : StoreFault} → Words words command
     → StopsAt (operands_of command) reads name fault → IsAnswer words reads answer → answer ≡ stopped fault name
-stopped_only w b s (no_command n e) = absurd (n _ w)
-stopped_only w b s (not_built v x r e) = absurd (x (subst IsBuilt (one_command w v) b))
-stopped_only {name = name} {fault = fault} w b s (not_read {name = found} {fault = other} v x t u) =
+stopped_only w s (no_command n e) = absurd (n _ w)
+stopped_only {name = name} {fault = fault} w s (not_read {name = found} {fault = other} v t u) =
     sym (unreadable other found u) ∙ stopped_at other fault found name (one_stop (ap operands_of (one_command v w)) refl t s)
-stopped_only {name = name} {fault = fault} w b s (over_long {name = found} v x t) = stopped_at TooLong fault found name (one_stop (ap operands_of (one_command v w)) refl t s)
-stopped_only w b s (decided v x r y) = absurd (never_stops _ _ r s)
+stopped_only {name = name} {fault = fault} w s (over_long {name = found} v t) = stopped_at TooLong fault found name (one_stop (ap operands_of (one_command v w)) refl t s)
+stopped_only w s (decided v r y) = absurd (never_stops _ _ r s)
 
 -- where all operands are read, their texts decide
-pub decided_only : {words texts : List (List ℕ)} {reads : List Read} {answer : Answer} {command : Command} → Words words command → IsBuilt command → AreRead (operands_of command) texts reads
+pub decided_only : {words texts : List (List ℕ)} {reads : List Read} {answer : Answer} {command : Command} → Words words command → AreRead (operands_of command) texts reads
     → IsAnswer words reads answer → IsAnswerTo command texts answer
-decided_only w b r (no_command n e) = absurd (n _ w)
-decided_only w b r (not_built v x e f) = absurd (x (subst IsBuilt (one_command w v) b))
-decided_only w b r (not_read v c s u) = absurd (never_stops _ _ r s)
-decided_only w b r (over_long v c s) = absurd (never_stops _ _ r s)
-decided_only {texts = texts} {reads = reads} {answer = answer} {command = command} w b r (decided {command = other} {texts = found} v c q x) =
+decided_only w r (no_command n e) = absurd (n _ w)
+decided_only w r (not_read v s u) = absurd (never_stops _ _ r s)
+decided_only w r (over_long v s) = absurd (never_stops _ _ r s)
+decided_only {texts = texts} {reads = reads} {answer = answer} {command = command} w r (decided {command = other} {texts = found} v q x) =
     let same = one_command v w in
     let read : AreRead (operands_of command) found reads = subst (λ d. AreRead (operands_of d) found reads) same q in
     let one = one_texts (operands_of command) found texts reads read r in
@@ -77,9 +66,12 @@ decided_only {texts = texts} {reads = reads} {answer = answer} {command = comman
 -- the answer of a command on texts is one
 answers_one : {command : Command} {texts : List (List ℕ)} {one other : Answer} → IsAnswerTo command texts one → IsAnswerTo command texts other → AreAlike one other
 answers_one (checked x) (checked y) = checks_one x y
+answers_one (proved x) (proved y) = one_proof x y
+answers_one (verified h x) (verified k y) = one_verification h x y
 answers_one (ran x) (ran y) = runs_texts_one x y
 answers_one (validated x) (validated y) = validates_one x y
 answers_one (shown x) (shown y) = checks_one x y
+answers_one (upgraded h x) (upgraded k y) = one_upgrade h x y
 answers_one (compared_one_way x) (compared_one_way y) = compares_one x y
 answers_one (compared_both_ways x) (compared_both_ways y) = compares_one x y
 
@@ -89,22 +81,20 @@ alike_at {one} {other} {answer} p q = subst (λ a. AreAlike a other) (sym p) (su
 -- the answer to words and to what was read is one
 pub by_reads : {words : List (List ℕ)} {reads : List Read} {one other : Answer} → IsAnswer words reads one → IsAnswer words reads other → AreAlike one other
 by_reads (no_command n e) y = alike_at refl (usage_only n y)
-by_reads (not_built w x r e) y = alike_at (ap not_yet e) (refused_only w x y)
-by_reads (not_read {name = name} {fault = fault} w b s u) y = alike_at (sym (unreadable fault name u)) (stopped_only w b s y)
-by_reads (over_long w b s) y = alike_at refl (stopped_only w b s y)
-by_reads (decided w b r x) y = answers_one x (decided_only w b r y)
+by_reads (not_read {name = name} {fault = fault} w s u) y = alike_at (sym (unreadable fault name u)) (stopped_only w s y)
+by_reads (over_long w s) y = alike_at refl (stopped_only w s y)
+by_reads (decided w r x) y = answers_one x (decided_only w r y)
 
 -- what a command reads to be answered
-follows : {words : List (List ℕ)} {reads : List Read} {answer : Answer} {command : Command} → Words words command → IsBuilt command → IsAnswer words reads answer → Follows (operands_of command) reads
-follows w b (no_command n e) = absurd (n _ w)
-follows w b (not_built v x r e) = absurd (x (subst IsBuilt (one_command w v) b))
-follows {reads = reads} w b (not_read {fault = fault} v x s u) = subst (λ c. Follows (operands_of c) reads) (one_command v w) (stop_follows (memory_no fault u) s)
-follows {reads = reads} w b (over_long v x s) = subst (λ c. Follows (operands_of c) reads) (one_command v w) (stop_follows long_memory s)
-follows {reads = reads} w b (decided {command = other} {texts = texts} v c r x) = subst (λ c. Follows (operands_of c) reads) (one_command v w) (all_follow (operands_of other) texts reads r)
+follows : {words : List (List ℕ)} {reads : List Read} {answer : Answer} {command : Command} → Words words command → IsAnswer words reads answer → Follows (operands_of command) reads
+follows w (no_command n e) = absurd (n _ w)
+follows {reads = reads} w (not_read {fault = fault} v s u) = subst (λ c. Follows (operands_of c) reads) (one_command v w) (stop_follows (memory_no fault u) s)
+follows {reads = reads} w (over_long v s) = subst (λ c. Follows (operands_of c) reads) (one_command v w) (stop_follows long_memory s)
+follows {reads = reads} w (decided {command = other} {texts = texts} v r x) = subst (λ c. Follows (operands_of c) reads) (one_command v w) (all_follow (operands_of other) texts reads r)
 
 -- a demonstration reads nothing
 pub shown_reads : {words : List (List ℕ)} {reads : List Read} {answer : Answer} {size : ℕ} → Words words (demo size) → IsAnswer words reads answer → reads ≡ []
-shown_reads w x = no_reads refl (follows w tt x)
+shown_reads w x = no_reads refl (follows w x)
 
 -- the answer of a call: an answer like this one, or a read that failed
 abbrev pub Agrees : Type 0 → Answer → Answer → Type 0
@@ -114,50 +104,48 @@ fault_at : {rose : Type 0} {answer : Answer} {name : List ℕ} → answer ≡ ca
 fault_at {rose} e r = subst (IsOfFault rose) (sym e) r
 
 -- a read that failed is told
-pub fails_told : {words : List (List ℕ)} {reads : List Read} {answer : Answer} {command : Command} {rose : Type 0} → Words words command → IsBuilt command → FailsIn rose (operands_of command) reads
+pub fails_told : {words : List (List ℕ)} {reads : List Read} {answer : Answer} {command : Command} {rose : Type 0} → Words words command → FailsIn rose (operands_of command) reads
     → IsAnswer words reads answer → IsOfFault rose answer
-fails_told w b f x = fault_at (stopped_only w b f.1.1 x) f.0
+fails_told w f x = fault_at (stopped_only w f.1.1 x) f.0
 
 -- two answers of one command on the same files
-alike : (files : Files) (rose : Type 0) {words : List (List ℕ)} {one other : Answer} {reads others : List Read} {command : Command} → Words words command → IsBuilt command → AreTrue (Some files) ⊥ reads
+alike : (files : Files) (rose : Type 0) {words : List (List ℕ)} {one other : Answer} {reads others : List Read} {command : Command} → Words words command → AreTrue (Some files) ⊥ reads
     → IsAnswer words reads one → AreTrue (Some files) rose others → IsAnswer words others other → Agrees rose one other
-alike files rose {words} {one} {other} {reads} {others} {command} w b t x u y = by (same_reads files rose (operands_of command) reads others (follows w b x) (follows w b y) t u)
+alike files rose {words} {one} {other} {reads} {others} {command} w t x u y = by (same_reads files rose (operands_of command) reads others (follows w x) (follows w y) t u)
   where
     by : (reads ≡ others) ⊎ FailsIn rose (operands_of command) others → Agrees rose one other
     by (inl same) = inl (by_reads (subst (λ r. IsAnswer words r one) same x) y)
-    by (inr fails) = inr (fails_told w b fails y)
+    by (inr fails) = inr (fails_told w fails y)
 
 -- the answer of a call is one
 pub exact : (files : Files) (rose : Type 0) {words : List (List ℕ)} {one other : Answer} {reads others : List Read} → AreTrue (Some files) ⊥ reads → IsAnswer words reads one
     → AreTrue (Some files) rose others → IsAnswer words others other → Agrees rose one other
 exact files rose t (no_command n e) u y = inl (alike_at refl (usage_only n y))
-exact files rose t (not_built w x r e) u y = inl (alike_at (ap not_yet e) (refused_only w x y))
-exact files rose t (not_read w b s v) u y = alike files rose w b t (not_read w b s v) u y
-exact files rose t (over_long w b s) u y = alike files rose w b t (over_long w b s) u y
-exact files rose t (decided w b r x) u y = alike files rose w b t (decided w b r x) u y
+exact files rose t (not_read w s v) u y = alike files rose w t (not_read w s v) u y
+exact files rose t (over_long w s) u y = alike files rose w t (over_long w s) u y
+exact files rose t (decided w r x) u y = alike files rose w t (decided w r x) u y
 
-pub read_all : (rose : Type 0) {words : List (List ℕ)} {answer : Answer} {reads : List Read} {command : Command} (files : Files) (texts : List (List ℕ)) → Words words command → IsBuilt command
+pub read_all : (rose : Type 0) {words : List (List ℕ)} {answer : Answer} {reads : List Read} {command : Command} (files : Files) (texts : List (List ℕ)) → Words words command
     → AreHeld files (operands_of command) texts → AreShort texts → AreTrue (Some files) rose reads → IsAnswer words reads answer
     → IsOfFault rose answer ⊎ IsAnswerTo command texts answer
-read_all rose {words} {answer} {reads} {command} files texts w built held short t x =
-    by (same_reads files rose names (well names texts) reads (all_follow names texts _ (well_read files names texts held)) (follows w built x) (well_true files names texts held short) t)
+read_all rose {words} {answer} {reads} {command} files texts w held short t x =
+    by (same_reads files rose names (well names texts) reads (all_follow names texts _ (well_read files names texts held)) (follows w x) (well_true files names texts held short) t)
   where
     names : List (List ℕ)
     names = operands_of command
 
     by : (well names texts ≡ reads) ⊎ FailsIn rose names reads → IsOfFault rose answer ⊎ IsAnswerTo command texts answer
-    by (inl e) = inr (decided_only w built (subst (AreRead names texts) e (well_read files names texts held)) x)
-    by (inr f) = inl (fails_told w built f x)
+    by (inl e) = inr (decided_only w (subst (AreRead names texts) e (well_read files names texts held)) x)
+    by (inr f) = inl (fails_told w f x)
 
 -- what a command decided on held files, unless it tells of a read that was not Ok
-pub held_decided : (rose : Type 0) {words : List (List ℕ)} {answer : Answer} {reads : List Read} {command : Command} (files : Files) (texts : List (List ℕ)) → Words words command → IsBuilt command
+pub held_decided : (rose : Type 0) {words : List (List ℕ)} {answer : Answer} {reads : List Read} {command : Command} (files : Files) (texts : List (List ℕ)) → Words words command
     → AreHeld files (operands_of command) texts → AreTrue (Some files) rose reads → IsAnswer words reads answer
     → IsAnswerTo command texts answer ⊎ ((answer ≡ file_limit) ⊎ ((name : List ℕ) × (answer ≡ cannot_read name)))
-held_decided rose files texts w b held true (no_command n e) = absurd (n _ w)
-held_decided rose files texts w b held true (not_built v x r e) = absurd (x (subst IsBuilt (one_command w v) b))
-held_decided rose files texts w b held true (not_read {name = name} v c s u) = inr (inr (name, refl))
-held_decided rose files texts w b held true (over_long v c s) = inr (inl refl)
-held_decided rose {answer = answer} {reads = reads} {command = command} files texts w b held true (decided {command = other} {texts = found} v c r x) =
+held_decided rose files texts w held true (no_command n e) = absurd (n _ w)
+held_decided rose files texts w held true (not_read {name = name} v s u) = inr (inr (name, refl))
+held_decided rose files texts w held true (over_long v s) = inr (inl refl)
+held_decided rose {answer = answer} {reads = reads} {command = command} files texts w held true (decided {command = other} {texts = found} v r x) =
     let same = one_command v w in
     let read : AreRead (operands_of command) found reads = subst (λ d. AreRead (operands_of d) found reads) same r in
     let one = held_texts files rose (operands_of command) texts found reads held read true in

@@ -14,8 +14,8 @@ use Rattle.tc_print.specs.ReadBack.{nesting, IsReadAs}
 use Rattle.tc_print.proofs.ReadBack.{read_back}
 use Rattle.tc_top.specs.Checking.{most_rows, IsCompiled, HasFewRows, AreRowCounts, IsLeastCounter, HasSmallCounter, HasLargeCounters}
 use Rattle.tc_top.specs.Headline.{IsCutShort, ChecksFiles, ChecksShortFiles, ShowsCounterexample, shows_both, shows_document, ShowsRun, shows_result, shows_large, IsLimited, limited_before_rows, limited_in_rows, limited_in_nodes, DecidesSafety, ValidatesFiles, DecidesValidity, RunsFiles, GivesResult}
-use Rattle.tc_answer.specs.Answers.{Answer, usage, not_yet, cannot_read, file_limit, safe, unsafe, unsafe_large, rows_limit, counterexample_limit, certificate, certificate_limit, accepted, rejected, included, not_included, equal, first_only, second_only, refused, over_limit, is_valid, is_invalid, has_result, work_limit, open_limit, status_of, text_of}
-use Rattle.tc_top.specs.Answers.{IsBuilt, IsAnswerTo, checked, ran, validated, shown, IsAnswer, Ends, KeepsToLimits}
+use Rattle.tc_answer.specs.Answers.{Answer, usage, cannot_read, file_limit, safe, unsafe, unsafe_large, rows_limit, counterexample_limit, certificate, certificate_limit, accepted, rejected, included, not_included, equal, first_only, second_only, refused, over_limit, is_valid, is_invalid, has_result, work_limit, open_limit, status_of, text_of}
+use Rattle.tc_top.specs.Answers.{IsAnswerTo, checked, ran, validated, shown, IsAnswer, Ends, KeepsToLimits}
 use Rattle.tc_top.specs.Causes.{Finds, passes_compile, passes_rows, finds_safe, finds_unsafe, finds_large, finds_none_small, Runs, sheet_passes, too_much_work, too_open, gives_result, Checks, Validates, RunsTexts}
 use Rattle.tc_top.specs.AnswersSeen.{IsRightFor}
 use Rattle.tc_top.specs.OneAnswer.{AreAlike, same_answer, GivesOneLike, IsOfFault}
@@ -39,7 +39,6 @@ use Rattle.tc_top.proofs.OneRun.{one_result, runs_of, not_within, not_few, not_l
 pub cut_short : {rose : Type 0} (status : Status) (answer : Answer) → status ≡ status_of answer → IsOfFault rose answer → IsCutShort status rose
 cut_short status (cannot_read name) e h = inr (inr (e, h))
 cut_short status usage e h = absurd h
-cut_short status (not_yet name) e h = absurd h
 cut_short status file_limit e h = absurd h
 cut_short status (safe tree_rows hedge_rows output_sets) e h = absurd h
 cut_short status (unsafe document output) e h = absurd h
@@ -213,7 +212,7 @@ pub headline : {words : List (List ℕ)} {rose : Type 0} {reads : List Read} (fi
     → ChecksShortFiles words files limit i o s → AreTrue (Some files) rose reads → IsAnswer words reads answer → status ≡ status_of answer → Appended old new (text_of answer)
     → IsCutShort status rose ⊎ DecidesSafety status old new (most_rows limit) i o s
 headline {words} {rose} {reads} files limit i o s status old new answer short true right is written =
-    by (read_all rose files _ c.words_are tt (files_of c) (is_short short.input_short (is_short short.output_short (is_short short.sheet_short none_long))) true right)
+    by (read_all rose files _ c.words_are (files_of c) (is_short short.input_short (is_short short.output_short (is_short short.sheet_short none_long))) true right)
   where
     c : ChecksFiles words files limit i o s
     c = short.checks
@@ -226,7 +225,7 @@ headline {words} {rose} {reads} files limit i o s status old new answer short tr
 -- what a check found whose answer is such a one, its files being held
 found : (rose : Type 0) {words : List (List ℕ)} {reads : List Read} (files : Files) (limit : Option ℕ) (i o : Grammar) (s : Sheet) {answer : Answer} → ChecksFiles words files limit i o s
     → AreTrue (Some files) rose reads → IsAnswer words reads answer → (status_of answer ≡ Yes) ⊎ (status_of answer ≡ No) → Finds (most_rows limit) i o s answer
-found rose files limit i o s {answer} c true right which = by (held_decided rose files _ c.words_are tt (files_of c) true right)
+found rose files limit i o s {answer} c true right which = by (held_decided rose files _ c.words_are (files_of c) true right)
   where
     by : IsAnswerTo (check limit c.input c.output c.sheet) (c.input_text ∷ c.output_text ∷ c.sheet_text ∷ []) answer ⊎ ((answer ≡ file_limit) ⊎ ((name : List ℕ) × (answer ≡ cannot_read name)))
         → Finds (most_rows limit) i o s answer
@@ -260,7 +259,7 @@ safe_is_so rose files limit i o s status answer c true right is e = says_safe (f
 -- what a demonstration finds
 demo_found : {words : List (List ℕ)} {reads : List Read} (size : ℕ) (g : Grammar) (s : Sheet) {answer : Answer} → Words words (demo size) → RncText (demo_schema size) g → IsSheetOf demo_sheet s
     → IsAnswer words reads answer → Finds MOST_ROWS g g s answer
-demo_found size g s w spells means right = finds_of spells spells means (demo_of (decided_only {texts = []} w tt (shown_reads w right) right))
+demo_found size g s w spells means right = finds_of spells spells means (demo_of (decided_only {texts = []} w (shown_reads w right) right))
 
 pub demo_is_safe : {words : List (List ℕ)} {reads : List Read} (size : ℕ) (g : Grammar) (s : Sheet) (status : Status) (answer : Answer) → Words words (demo size)
     → RncText (demo_schema size) g → IsSheetOf demo_sheet s → IsAnswer words reads answer → status ≡ status_of answer → status ≡ Yes → IsSafe g g s
@@ -281,7 +280,7 @@ pub demonstrated : {words : List (List ℕ)} {reads : List Read} (size : ℕ) (g
     → RncText (demo_schema size) g → IsSheetOf demo_sheet s → IsAnswer words reads answer → status ≡ status_of answer → Appended old new (text_of answer)
     → DecidesSafety status old new MOST_ROWS g g s
 demonstrated size g s status old new answer w spells means right is written =
-    decides MOST_ROWS g g s status old new is written (finds_of spells spells means (demo_of (decided_only {texts = []} w tt (shown_reads w right) right)))
+    decides MOST_ROWS g g s status old new is written (finds_of spells spells means (demo_of (decided_only {texts = []} w (shown_reads w right) right)))
 
 settled : {g : Grammar} {d : Trees} {answer : Answer} (status : Status) (old new : Option (List ℕ)) → status ≡ status_of answer → Appended old new (text_of answer) → Settles g d answer
     → DecidesValidity status old new g d
@@ -302,7 +301,7 @@ pub validity : {words : List (List ℕ)} {rose : Type 0} {reads : List Read} (fi
     → AreTrue (Some files) rose reads → IsAnswer words reads answer → status ≡ status_of answer → Appended old new (text_of answer)
     → IsCutShort status rose ⊎ DecidesValidity status old new g d
 validity {words} {rose} {reads} files g d status old new answer c true right is written =
-    by (read_all rose files _ c.words_are tt (holds c.schema_held (holds c.document_held no_file)) (is_short c.schema_short (is_short c.document_short none_long)) true right)
+    by (read_all rose files _ c.words_are (holds c.schema_held (holds c.document_held no_file)) (is_short c.schema_short (is_short c.document_short none_long)) true right)
   where
     by : IsOfFault rose answer ⊎ IsAnswerTo (valid c.schema c.document) (c.schema_text ∷ c.document_text ∷ []) answer → IsCutShort status rose ⊎ DecidesValidity status old new g d
     by (inl fault) = inl (cut_short status answer is fault)
@@ -344,7 +343,7 @@ run_decides : {words : List (List ℕ)} {rose : Type 0} {reads : List Read} (fil
     → AreTrue (Some files) rose reads → IsAnswer words reads answer → status ≡ status_of answer → Appended old new (text_of answer)
     → IsCutShort status rose ⊎ (KeepsToLimits status old new s d × GivesResult status old new s d)
 run_decides {words} {rose} {reads} files s d status old new answer c true right is written =
-    by (read_all rose files _ c.words_are tt (holds c.sheet_held (holds c.document_held no_file)) (is_short c.sheet_short (is_short c.document_short none_long)) true right)
+    by (read_all rose files _ c.words_are (holds c.sheet_held (holds c.document_held no_file)) (is_short c.sheet_short (is_short c.document_short none_long)) true right)
   where
     by : IsOfFault rose answer ⊎ IsAnswerTo (run c.sheet c.document) (c.sheet_text ∷ c.document_text ∷ []) answer → IsCutShort status rose ⊎ (KeepsToLimits status old new s d × GivesResult status old new s d)
     by (inl fault) = inl (cut_short status answer is fault)

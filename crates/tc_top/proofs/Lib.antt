@@ -14,3 +14,9 @@ pub mod Exact
 pub mod OneAnswer
 pub mod Headline
 pub mod Comparisons
+pub mod RejectedAlike
+pub mod OneCertifying
+pub mod CertifiedTexts
+pub mod Undecided
+pub mod CertifiedExact
+pub mod CertifyingCalls

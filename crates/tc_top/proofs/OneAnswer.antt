@@ -1,14 +1,13 @@
 -- Words and files have one answer, but for what is left open.
 use Rattle.std.proofs.Common.{inl, inr}
 use Rattle.tc_io.specs.Faults.{Rose}
-use Rattle.tc_answer.specs.Answers.{Answer, usage, not_yet, cannot_read, file_limit, safe, unsafe, unsafe_large, rows_limit, counterexample_limit, certificate, certificate_limit, accepted, rejected, included, not_included, equal, first_only, second_only, refused, over_limit, is_valid, is_invalid, has_result, work_limit, open_limit}
+use Rattle.tc_answer.specs.Answers.{Answer, usage, cannot_read, file_limit, safe, unsafe, unsafe_large, rows_limit, counterexample_limit, certificate, certificate_limit, accepted, rejected, included, not_included, equal, first_only, second_only, refused, over_limit, is_valid, is_invalid, has_result, work_limit, open_limit}
 use Rattle.tc_top.specs.OneAnswer.{AreAlike, IsOfFault, HasOneAnswer, HasOneAnswerOn, HasAnswerOfCall}
 use Rattle.tc_top.proofs.Exact.{Agrees, by_reads, exact}
 
 no_fault : (answer : Answer) → IsOfFault ⊥ answer → ⊥
 no_fault (cannot_read name) h = h
 no_fault usage h = h
-no_fault (not_yet name) h = h
 no_fault file_limit h = h
 no_fault (safe tree_rows hedge_rows output_sets) h = h
 no_fault (unsafe document output) h = h

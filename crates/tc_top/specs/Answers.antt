@@ -1,6 +1,6 @@
 -- The answer of a call, with its cause, and how the call ends.
-use Rattle.std.specs.Prelude.{◌≡◌, ◌↔◌, ℕ, List, [], ◌∷◌, Option, Some, Ok}
-use Rattle.tc_io.specs.Store.{Files, Read}
+use Rattle.std.specs.Prelude.{◌≡◌, ◌≤◌, ◌↔◌, ℕ, List, length, [], ◌∷◌, Option, Some, Ok}
+use Rattle.tc_io.specs.Store.{Files, Read, longest_file}
 use Rattle.tc_io.specs.Reads.{AreTrue}
 use Rattle.tc_io.specs.Sink.{Appended, WroteFront}
 use Rattle.tc_io.specs.declared.StoreFault.{StoreFault}
@@ -10,41 +10,35 @@ use Rattle.tc_model.specs.Sheets.{Sheet}
 use Rattle.tc_top.specs.Checking.{most_rows}
 use Rattle.tc_answer.specs.declared.limits.TheConstants.{MOST_ROWS}
 use Rattle.tc_top.specs.Demo.{demo_schema, demo_sheet, input_name, output_name, sheet_name}
-use Rattle.tc_answer.specs.Words.{Command, check, prove, verify, run, valid, demo, upgrade, include, same, Words, IsNoCommand, name_of, operands_of}
+use Rattle.tc_answer.specs.Words.{Command, check, prove, verify, run, valid, demo, upgrade, include, same, Words, IsNoCommand, operands_of}
 use Rattle.tc_top.specs.Limits.{IsRunWithin}
 use Rattle.tc_answer.specs.Reading.{StopsAt, IsUnreadable, AreRead}
 use Rattle.tc_answer.specs.declared.status.Status.{Status}
 use Rattle.tc_answer.specs.declared.status.Status.TheVariants.{Yes, Limit, WriteFault, NoMemory}
-use Rattle.tc_answer.specs.Answers.{Answer, usage, not_yet, cannot_read, file_limit, status_of, text_of}
+use Rattle.tc_answer.specs.Answers.{Answer, usage, cannot_read, file_limit, status_of, text_of}
 use Rattle.tc_top.specs.Causes.{Checks, Validates, Runs, RunsTexts}
+use Rattle.tc_top.specs.Certifying.{Proves, Verifies, Upgrades}
 use Rattle.tc_top.specs.Comparing.{Compares, inclusion, equality}
-
--- a command that is carried out
-abbrev pub IsBuilt : Command → Type 0
-IsBuilt (check limit input output sheet) = Unit {0}
-IsBuilt (prove limit input output sheet) = ⊥
-IsBuilt (verify input output sheet certificate) = ⊥
-IsBuilt (run sheet document) = Unit {0}
-IsBuilt (valid schema document) = Unit {0}
-IsBuilt (demo size) = Unit {0}
-IsBuilt (upgrade certificate) = ⊥
-IsBuilt (include first second) = Unit {0}
-IsBuilt (same first second) = Unit {0}
 
 -- words of no command, and of a command that reads no file
 abbrev pub ReadsNothing : List (List ℕ) → Type 0
-ReadsNothing words = (command : Command) → Words words command → IsBuilt command → operands_of command ≡ []
+ReadsNothing words = (command : Command) → Words words command → operands_of command ≡ []
 
 -- what a command answers on the texts of its operands
 pub data IsAnswerTo : Command → List (List ℕ) → Answer → Type 0 where
   checked : {limit : Option ℕ} {input output sheet input_text output_text sheet_text : List ℕ} {answer : Answer} → Checks (most_rows limit) input output sheet input_text output_text sheet_text answer
       → IsAnswerTo (check limit input output sheet) (input_text ∷ output_text ∷ sheet_text ∷ []) answer
+  proved : {limit : Option ℕ} {input output sheet input_text output_text sheet_text : List ℕ} {answer : Answer} → Proves (most_rows limit) input output sheet input_text output_text sheet_text answer
+      → IsAnswerTo (prove limit input output sheet) (input_text ∷ output_text ∷ sheet_text ∷ []) answer
+  verified : {input output sheet certificate input_text output_text sheet_text bytes : List ℕ} {answer : Answer} → length bytes ≤ longest_file
+      → Verifies input output sheet input_text output_text sheet_text bytes answer → IsAnswerTo (verify input output sheet certificate) (input_text ∷ output_text ∷ sheet_text ∷ bytes ∷ []) answer
   ran : {sheet document sheet_text document_text : List ℕ} {answer : Answer} → RunsTexts sheet document sheet_text document_text answer
       → IsAnswerTo (run sheet document) (sheet_text ∷ document_text ∷ []) answer
   validated : {schema document schema_text document_text : List ℕ} {answer : Answer} → Validates schema document schema_text document_text answer
       → IsAnswerTo (valid schema document) (schema_text ∷ document_text ∷ []) answer
   shown : {size : ℕ} {answer : Answer} → Checks MOST_ROWS input_name output_name sheet_name (demo_schema size) (demo_schema size) demo_sheet answer
       → IsAnswerTo (demo size) [] answer
+  upgraded : {certificate bytes : List ℕ} {answer : Answer} → length bytes ≤ longest_file → Upgrades bytes answer → IsAnswerTo (upgrade certificate) (bytes ∷ []) answer
   compared_one_way : {first second first_text second_text : List ℕ} {answer : Answer} → Compares inclusion first second first_text second_text answer
       → IsAnswerTo (include first second) (first_text ∷ second_text ∷ []) answer
   compared_both_ways : {first second first_text second_text : List ℕ} {answer : Answer} → Compares equality first second first_text second_text answer
@@ -53,11 +47,10 @@ pub data IsAnswerTo : Command → List (List ℕ) → Answer → Type 0 where
 -- an answer with its cause: the words, and what was read, in order
 pub data IsAnswer (words : List (List ℕ)) (reads : List Read) : Answer → Type 0 where
   no_command : IsNoCommand words → reads ≡ [] → IsAnswer words reads usage
-  not_built : {command : Command} {name : List ℕ} → Words words command → ¬ (IsBuilt command) → reads ≡ [] → name ≡ name_of command → IsAnswer words reads (not_yet name)
-  not_read : {command : Command} {name : List ℕ} {fault : StoreFault} → Words words command → IsBuilt command → StopsAt (operands_of command) reads name fault → IsUnreadable fault
+  not_read : {command : Command} {name : List ℕ} {fault : StoreFault} → Words words command → StopsAt (operands_of command) reads name fault → IsUnreadable fault
       → IsAnswer words reads (cannot_read name)
-  over_long : {command : Command} {name : List ℕ} → Words words command → IsBuilt command → StopsAt (operands_of command) reads name TooLong → IsAnswer words reads file_limit
-  decided : {command : Command} {texts : List (List ℕ)} {answer : Answer} → Words words command → IsBuilt command → AreRead (operands_of command) texts reads → IsAnswerTo command texts answer
+  over_long : {command : Command} {name : List ℕ} → Words words command → StopsAt (operands_of command) reads name TooLong → IsAnswer words reads file_limit
+  decided : {command : Command} {texts : List (List ℕ)} {answer : Answer} → Words words command → AreRead (operands_of command) texts reads → IsAnswerTo command texts answer
       → IsAnswer words reads answer
 
 -- The answer of held files, where no read fails.

@@ -11,3 +11,6 @@ pub mod Answers
 pub mod AnswersSeen
 pub mod OneAnswer
 pub mod Program
+pub mod Certifying
+pub mod CertifyingSeen
+pub mod CertifiedFiles

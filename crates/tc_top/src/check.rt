@@ -54,7 +54,7 @@ pub fn check<S: Store>(
 }
 
 /// How many rows of trees, and of lists of trees, there may be.
-fn row_limit(limit: Option<u32>) -> u32
+pub(crate) fn row_limit(limit: Option<u32>) -> u32
     ensures { result ≡ most_rows limit }
 {
     match limit {
@@ -185,7 +185,7 @@ fn decide<'b>(
 }
 
 /// The answer that a document is a counterexample, with its result, unless its run passes a limit.
-fn show<'b>(
+pub(crate) fn show<'b>(
     alloc: Global,
     arena: &'b Bump,
     machine: &Machine<'b>,

@@ -1,5 +1,6 @@
-//! Laws of the definitions, the contract of a function that does nothing.
+//! Laws of the definitions, each the contract of a function that does nothing.
 ghost use Rattle.tc_read.specs.SchemaLaws.{HasOneReason};
+ghost use Rattle.tc_top.specs.CertifiedFiles.{ProvedIsAccepted};
 ghost use Rattle.tc_top.specs.OneAnswer.{HasOneAnswer, HasOneAnswerOn, HasAnswerOfCall, HasOneConstruct, HasOneFaultOfNames};
 
 /// Laws of answers. Words and what was read have one answer, but for what is left open: which least counterexample is
@@ -16,4 +17,9 @@ pub fn law_of_answers()
     ensures schema { HasOneReason }
     ensures construct { HasOneConstruct }
     ensures names { HasOneFaultOfNames }
+{}
+
+/// The law of proofs: what `prove` writes of held files is accepted by `verify` on the same files.
+pub fn law_of_proofs()
+    ensures { ProvedIsAccepted }
 {}

@@ -1,16 +1,21 @@
 //! The top call: it reads the files that its words name, decides, and writes the answer.
 #![tactic(auto)]
 
+mod certificates;
 mod check;
 mod compare;
 mod compile;
 mod demo;
 pub mod laws;
 mod program;
+mod prove;
 mod run;
 mod schemas;
+mod texts;
 mod unread;
+mod upgrade;
 mod valid;
+mod verify;
 
 ghost use Rattle.std.specs.Prelude.{◌≡◌, ◌≤◌, ◌⊎◌, ℕ, List, Option, Some, IfOk, OnErr};
 ghost use Rattle.tc_io.specs.Faults.{Rose};
@@ -20,11 +25,12 @@ ghost use Rattle.tc_model.specs.Grammars.{Grammar};
 ghost use Rattle.tc_model.specs.Sheets.{Sheet};
 ghost use Rattle.tc_model.specs.Trees.{Trees};
 ghost use Rattle.tc_answer.specs.Answers as a;
-ghost use Rattle.tc_top.specs.Answers.{Ends, IsAnswerOn, IsBuilt, ReadsNothing, KeepsToLimits};
+ghost use Rattle.tc_top.specs.Answers.{Ends, IsAnswerOn, ReadsNothing, KeepsToLimits};
 ghost use Rattle.tc_top.specs.AnswersSeen.{IsRightFor};
 ghost use Rattle.tc_model.specs.Safety.{IsSafe};
 ghost use Rattle.tc_model.specs.RncText.{RncText};
 ghost use Rattle.tc_read.specs.Sheets.{IsSheetOf};
+ghost use Rattle.tc_top.specs.CertifiedFiles.{ProvesFiles, VerifiesFiles, VerifiesShortFiles, UpgradesFiles, DecidesProof, DecidesCertificate, DecidesUpgrade};
 ghost use Rattle.tc_top.specs.Checking.{most_rows};
 ghost use Rattle.tc_top.specs.Demo.{demo_schema, demo_sheet};
 ghost use Rattle.tc_answer.specs.declared.limits.TheConstants.{MOST_ROWS};
@@ -33,9 +39,10 @@ ghost use Rattle.tc_top.specs.OneAnswer.{GivesOneLike};
 ghost use Rattle.tc_top.specs.ComparedFiles.{ComparesFiles, DecidesComparison};
 ghost use Rattle.tc_top.specs.Comparing.{inclusion, equality};
 ghost use Rattle.tc_answer.specs.Words as w;
-ghost use Rattle.tc_answer.specs.Words.{Words, IsNoCommand, name_of};
+ghost use Rattle.tc_answer.specs.Words.{Words, IsNoCommand};
 ghost use Rattle.tc_answer.specs.WordsSeen.{texts};
 
+use certificates::{prove, upgrade, verify};
 use check::check;
 use demo::demo;
 pub use program::run_program;
@@ -62,10 +69,8 @@ pub fn typecheck<S: Store, K: Sink>(
         (Rose (K.faults sink.old) (K.faults sink.new)) (K.written sink.old) (K.written sink.new) result }
     ensures unwritten { result ≡ Status.NoMemory → sink.new ≡ sink.old }
 
-    // Words alone decide that they are no command, and that a command isn't carried out.
+    // Words alone decide that they are no command.
     ensures usage { IsNoCommand words.now → IsCutShort result ⊥ ⊎ GivesOneLike result (K.written sink.old) (K.written sink.new) a.usage }
-    ensures not_built { (command : w.Command) → Words words.now command → ¬ (IsBuilt command)
-        → IsCutShort result ⊥ ⊎ GivesOneLike result (K.written sink.old) (K.written sink.new) (a.not_yet (name_of command)) }
     ensures unread { ReadsNothing words.now → store.new ≡ store.old }
 
     // Where the store tells what it holds, each cause has its answer, but for what is left open.
@@ -94,6 +99,27 @@ pub fn typecheck<S: Store, K: Sink>(
         → result ≡ Status.No → ShowsCounterexample (K.written sink.old) (K.written sink.new) g g s }
     ensures demonstrated { (size : ℕ) (g : Grammar) (s : Sheet) → Words words.now (w.demo size) → RncText (demo_schema size) g → IsSheetOf demo_sheet s
         → IsCutShort result ⊥ ⊎ DecidesSafety result (K.written sink.old) (K.written sink.new) MOST_ROWS g g s }
+
+    // `prove` of held files decides as a check does, but that where it is yes the text of the one certificate with exactly the rows of
+    // what is live is written, and that it tells of the limit of its length where that is passed.
+    ensures proved { (files : Files) (limit : Option ℕ) (i o : Grammar) (s : Sheet) → S.holds store.old ≡ Some files → ProvesFiles words.now files limit i o s
+        → IsCutShort result (Rose (S.faults store.old) (S.faults store.new))
+        ⊎ DecidesProof i o s result (K.written sink.old) (K.written sink.new) (most_rows limit) }
+
+    // `verify` of held files that is yes: every document that is valid for the input is transformed to one that is valid for the output.
+    ensures accepted_safe { (files : Files) (i o : Grammar) (s : Sheet) (bytes : List ℕ) → S.holds store.old ≡ Some files → VerifiesFiles words.now files i o s bytes
+        → result ≡ Status.Yes → IsSafe i o s }
+
+    // It is yes exactly where no limit is passed that is tried before rows are, and the bytes are the text of a certificate; no exactly
+    // where none is passed and they aren't, by the first rule that fails.
+    ensures verified { (files : Files) (i o : Grammar) (s : Sheet) (bytes : List ℕ) → S.holds store.old ≡ Some files → VerifiesShortFiles words.now files i o s bytes
+        → IsCutShort result (Rose (S.faults store.old) (S.faults store.new))
+        ⊎ DecidesCertificate i o s result (K.written sink.old) (K.written sink.new) bytes }
+
+    // `upgrade` of a held file is yes exactly where its bytes are a certificate's text, with the text of its data by changes.
+    ensures upgraded { (files : Files) (bytes : List ℕ) → S.holds store.old ≡ Some files → UpgradesFiles words.now files bytes
+        → IsCutShort result (Rose (S.faults store.old) (S.faults store.new))
+        ⊎ DecidesUpgrade result (K.written sink.old) (K.written sink.new) bytes }
 
     // A validation of held files is yes exactly where the document is valid, and no exactly where it isn't.
     ensures validity { (files : Files) (g : Grammar) (d : Trees) → S.holds store.old ≡ Some files → ValidatesFiles words.now files g d
@@ -152,10 +178,10 @@ fn answer_words<S: Store>(
         Command::Check(limit, triple) => check(alloc, limit, triple, store),
         Command::Run(sheet, document) => run(alloc, sheet, document, store),
         Command::Valid(schema, document) => valid(alloc, schema, document, store),
-        Command::Prove(..) => Answer::not_yet(alloc, "prove"),
-        Command::Verify(..) => Answer::not_yet(alloc, "verify"),
+        Command::Prove(limit, triple) => prove(alloc, limit, triple, store),
+        Command::Verify(triple, certificate) => verify(alloc, triple, certificate, store),
         Command::Demo(size) => demo(alloc, size),
-        Command::Upgrade(..) => Answer::not_yet(alloc, "upgrade"),
+        Command::Upgrade(certificate) => upgrade(alloc, certificate, store),
         Command::Include(first, second) => include(alloc, first, second, store),
         Command::Same(first, second) => same(alloc, first, second, store),
     }

@@ -4,7 +4,6 @@ ghost use Rattle.tc_answer.specs.AnswersSeen.{IsFirstUnread};
 ghost use Rattle.tc_answer.specs.Words as w;
 ghost use Rattle.tc_answer.specs.Words.{Words, operands_of};
 ghost use Rattle.tc_io.specs.Store.{Read};
-ghost use Rattle.tc_top.specs.Answers.{IsBuilt};
 ghost use Rattle.tc_top.specs.AnswersSeen.{IsRight};
 
 use std::alloc::Global;
@@ -13,7 +12,7 @@ use tc_base::NoMemory;
 
 /// What is answered where an operand was not read.
 pub fn answer_unread(alloc: Global, unread: Unread<'_>) -> Result<Answer, NoMemory>
-    ensures { IfOk result (λ said. (words : List (List ℕ)) (command : w.Command) (reads : List Read) → Words words command → IsBuilt command
+    ensures { IfOk result (λ said. (words : List (List ℕ)) (command : w.Command) (reads : List Read) → Words words command
         → IsFirstUnread (operands_of command) reads unread.entry → IsRight words reads said) }
 {
     match unread {

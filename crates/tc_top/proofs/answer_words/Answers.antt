@@ -3,21 +3,17 @@ use Rattle.std.proofs.lemmas.Result.{IfOk-weaker}
 use Rattle.std.proofs.lemmas.Option.{MatchOption-at_none, MatchOption-at_some}
 use Rattle.tc_io.proofs.ReadsInOrder.{happened_nothing}
 use Rattle.tc_answer.specs.Answers as a
-use Rattle.tc_top.specs.Answers.{no_command, not_built, decided, shown, IsBuilt, ReadsNothing}
+use Rattle.tc_top.specs.Answers.{no_command, decided, shown, ReadsNothing}
 use Rattle.tc_answer.specs.Words.{Command as Given, Words, name_of, operands_of}
 use Rattle.tc_answer.specs.WordsSeen.{command}
 use Rattle.tc_answer.specs.declared.command.Command.{Command}
 use Rattle.tc_answer.proofs.Numerals.{demo_size}
-use Rattle.tc_top.proofs.FewRows.{few_rows}
+use Rattle.tc_top.proofs.FewRows.{few_rows, few_rows_proved}
 use Rattle.tc_top.proofs.answer_words.Goals as goal
 
 pub returns-in_default-clause-right : goal.returns-in_default-clause-right
 returns-in_default-clause-right g c =
     (_, happened_nothing _ _ _ _, (a.usage, c.usage.ensures, no_command (MatchOption-at_none _ _ c.in_default.is c.read_words.ensures) refl))
-
--- a command that is this one isn't built
-unbuilt : (x y : Command) → x ≡ y → (IsBuilt (command y) → ⊥) → IsBuilt (command x) → ⊥
-unbuilt x y same other built = other (subst (λ z. IsBuilt (command z)) same built)
 
 -- the words of a command that is this one
 words_at : {words : List (List ℕ)} (x y : Command) → x ≡ y → Words words (command x) → Words words (command y)
@@ -32,48 +28,42 @@ demo-requires-clause-some g c = let words = MatchOption-at_some _ _ _ c.in-Some.
 pub demo-requires-clause-few : goal.demo-requires-clause-few
 demo-requires-clause-few g c = let words = MatchOption-at_some _ _ _ c.in-Some.is c.read_words.ensures in (demo_size (words_at _ _ c.in-Demo.is words)).1
 
-pub returns-in-Prove-clause-right : goal.returns-in-Prove-clause-right
-returns-in-Prove-clause-right g c =
-    let words = MatchOption-at_some _ _ _ c.in-Some.is c.read_words.ensures in
-    let is = c.in-Prove.is in
-    IfOk-weaker c.not_yet.result _ _ (λ said says. (_, happened_nothing _ _ _ _, (a.not_yet (codes "prove"), says, not_built words (unbuilt _ _ is (λ b. b)) refl (ap (λ x. name_of (command x)) (sym is))))) c.not_yet.ensures
-
-pub returns-in-Verify-clause-right : goal.returns-in-Verify-clause-right
-returns-in-Verify-clause-right g c =
-    let words = MatchOption-at_some _ _ _ c.in-Some.is c.read_words.ensures in
-    let is = c.in-Verify.is in
-    IfOk-weaker c.not_yet-in-Verify.result _ _ (λ said says. (_, happened_nothing _ _ _ _, (a.not_yet (codes "verify"), says, not_built words (unbuilt _ _ is (λ b. b)) refl (ap (λ x. name_of (command x)) (sym is))))) c.not_yet-in-Verify.ensures
-
 pub returns-in-Demo-clause-right : goal.returns-in-Demo-clause-right
 returns-in-Demo-clause-right g c =
     let words = MatchOption-at_some _ _ _ c.in-Some.is c.read_words.ensures in
-    IfOk-weaker c.demo.result _ _ (λ said h. (_, happened_nothing _ _ _ _, (h.0, h.1, decided {texts = []} (words_at _ _ c.in-Demo.is words) tt refl (shown h.2)))) c.demo.ensures
-
-pub returns-in-Upgrade-clause-right : goal.returns-in-Upgrade-clause-right
-returns-in-Upgrade-clause-right g c =
-    let words = MatchOption-at_some _ _ _ c.in-Some.is c.read_words.ensures in
-    let is = c.in-Upgrade.is in
-    IfOk-weaker c.not_yet-in-Upgrade.result _ _ (λ said says. (_, happened_nothing _ _ _ _, (a.not_yet (codes "upgrade"), says, not_built words (unbuilt _ _ is (λ b. b)) refl (ap (λ x. name_of (command x)) (sym is))))) c.not_yet-in-Upgrade.ensures
+    IfOk-weaker c.demo.result _ _ (λ said h. (_, happened_nothing _ _ _ _, (h.0, h.1, decided {texts = []} (words_at _ _ c.in-Demo.is words) refl (shown h.2)))) c.demo.ensures
 
 -- a command that reads a file
 
 some_name : {name : List ℕ} {names : List (List ℕ)} → name ∷ names ≡ [] → ⊥
 some_name e = absurd (cc)
 
-reads_some : {words names : List (List ℕ)} {name : List ℕ} {given : Given} → ReadsNothing words → Words words given → IsBuilt given → operands_of given ≡ name ∷ names → ⊥
-reads_some nothing are built same = some_name (sym same ∙ nothing _ are built)
+reads_some : {words names : List (List ℕ)} {name : List ℕ} {given : Given} → ReadsNothing words → Words words given → operands_of given ≡ name ∷ names → ⊥
+reads_some nothing are same = some_name (sym same ∙ nothing _ are)
 
 pub returns-in-Check-clause-unread : goal.returns-in-Check-clause-unread
-returns-in-Check-clause-unread g c = λ nothing. absurd (reads_some nothing (words_at _ _ c.in-Check.is (MatchOption-at_some _ _ _ c.in-Some.is c.read_words.ensures)) tt refl)
+returns-in-Check-clause-unread g c = λ nothing. absurd (reads_some nothing (words_at _ _ c.in-Check.is (MatchOption-at_some _ _ _ c.in-Some.is c.read_words.ensures)) refl)
 
 pub returns-in-Run-clause-unread : goal.returns-in-Run-clause-unread
-returns-in-Run-clause-unread g c = λ nothing. absurd (reads_some nothing (words_at _ _ c.in-Run.is (MatchOption-at_some _ _ _ c.in-Some.is c.read_words.ensures)) tt refl)
+returns-in-Run-clause-unread g c = λ nothing. absurd (reads_some nothing (words_at _ _ c.in-Run.is (MatchOption-at_some _ _ _ c.in-Some.is c.read_words.ensures)) refl)
 
 pub returns-in-Valid-clause-unread : goal.returns-in-Valid-clause-unread
-returns-in-Valid-clause-unread g c = λ nothing. absurd (reads_some nothing (words_at _ _ c.in-Valid.is (MatchOption-at_some _ _ _ c.in-Some.is c.read_words.ensures)) tt refl)
+returns-in-Valid-clause-unread g c = λ nothing. absurd (reads_some nothing (words_at _ _ c.in-Valid.is (MatchOption-at_some _ _ _ c.in-Some.is c.read_words.ensures)) refl)
 
 pub returns-in-Include-clause-unread : goal.returns-in-Include-clause-unread
-returns-in-Include-clause-unread g c = λ nothing. absurd (reads_some nothing (words_at _ _ c.in-Include.is (MatchOption-at_some _ _ _ c.in-Some.is c.read_words.ensures)) tt refl)
+returns-in-Include-clause-unread g c = λ nothing. absurd (reads_some nothing (words_at _ _ c.in-Include.is (MatchOption-at_some _ _ _ c.in-Some.is c.read_words.ensures)) refl)
 
 pub returns-in-Same-clause-unread : goal.returns-in-Same-clause-unread
-returns-in-Same-clause-unread g c = λ nothing. absurd (reads_some nothing (words_at _ _ c.in-Same.is (MatchOption-at_some _ _ _ c.in-Some.is c.read_words.ensures)) tt refl)
+returns-in-Same-clause-unread g c = λ nothing. absurd (reads_some nothing (words_at _ _ c.in-Same.is (MatchOption-at_some _ _ _ c.in-Some.is c.read_words.ensures)) refl)
+
+pub returns-in-Prove-clause-unread : goal.returns-in-Prove-clause-unread
+returns-in-Prove-clause-unread g c = λ nothing. absurd (reads_some nothing (words_at _ _ c.in-Prove.is (MatchOption-at_some _ _ _ c.in-Some.is c.read_words.ensures)) refl)
+
+pub returns-in-Verify-clause-unread : goal.returns-in-Verify-clause-unread
+returns-in-Verify-clause-unread g c = λ nothing. absurd (reads_some nothing (words_at _ _ c.in-Verify.is (MatchOption-at_some _ _ _ c.in-Some.is c.read_words.ensures)) refl)
+
+pub returns-in-Upgrade-clause-unread : goal.returns-in-Upgrade-clause-unread
+returns-in-Upgrade-clause-unread g c = λ nothing. absurd (reads_some nothing (words_at _ _ c.in-Upgrade.is (MatchOption-at_some _ _ _ c.in-Some.is c.read_words.ensures)) refl)
+
+pub prove-requires : goal.prove-requires
+prove-requires g c = let words = MatchOption-at_some _ _ _ c.in-Some.is c.read_words.ensures in record { few = few_rows_proved (words_at _ _ c.in-Prove.is words) }

@@ -1,11 +1,12 @@
 use Rattle.std.proofs.Common.{◌∙◌, inl, inr, refl, subst}
 use Rattle.tc_io.specs.Sink.{Appended, WroteFront}
-use Rattle.tc_answer.specs.Answers.{usage, not_yet}
+use Rattle.tc_answer.specs.Answers.{usage}
 use Rattle.tc_top.specs.Answers.{answered, broken_off, out_of_memory}
-use Rattle.tc_top.proofs.Exact.{alike_at, exact, usage_only, refused_only}
+use Rattle.tc_top.proofs.Exact.{alike_at, exact, usage_only}
 use Rattle.tc_top.proofs.Headline.{at_words, at_told, gives, headline, safe_is_so, unsafe_is_shown, demo_is_safe, demo_is_shown, demonstrated, validity, running, limited}
+use Rattle.tc_top.proofs.CertifiedExact.{proof_of_files, accepted_is_safe, certificate_of_files, upgrade_of_files}
 use Rattle.tc_top.proofs.Comparisons.{includes, equals}
-use Rattle.tc_answer.specs.Words.{Words, name_of}
+use Rattle.tc_answer.specs.Words.{Words}
 use Rattle.tc_top.proofs.typecheck.Goals as goal
 
 pub returns-in-Ok-clause-ends : goal.returns-in-Ok-clause-ends
@@ -29,12 +30,6 @@ returns-in-Ok-write_lines-clause-usage g c = λ none.
     let right = at_words c.as_slice.ensures c.in-Ok.ensures.right in
     let written = subst (Appended (g.K.Sink.written c.args.sink.now) (g.K.Sink.written c.write_lines.new.sink)) (c.as_bytes.ensures ∙ right.2.1.written) c.in-Ok-write_lines.ensures.ok in
     gives _ _ _ usage right.2.0 right.2.1.status written (inl (alike_at refl (usage_only none right.2.2)))
-
-pub returns-in-Ok-write_lines-clause-not_built : goal.returns-in-Ok-write_lines-clause-not_built
-returns-in-Ok-write_lines-clause-not_built g c = λ command words other.
-    let right = at_words c.as_slice.ensures c.in-Ok.ensures.right in
-    let written = subst (Appended (g.K.Sink.written c.args.sink.now) (g.K.Sink.written c.write_lines.new.sink)) (c.as_bytes.ensures ∙ right.2.1.written) c.in-Ok-write_lines.ensures.ok in
-    gives _ _ _ (not_yet (name_of command)) right.2.0 right.2.1.status written (inl (alike_at refl (refused_only words other right.2.2)))
 
 pub returns-in-Ok-write_lines-clause-exactly : goal.returns-in-Ok-write_lines-clause-exactly
 returns-in-Ok-write_lines-clause-exactly g c = λ files answer told is.
@@ -105,3 +100,26 @@ returns-in-Ok-write_lines-clause-equality g c = λ files x y told compares.
     let right = at_words c.as_slice.ensures c.in-Ok.ensures.right in
     let written = subst (Appended (g.K.Sink.written c.args.sink.now) (g.K.Sink.written c.write_lines.new.sink)) (c.as_bytes.ensures ∙ right.2.1.written) c.in-Ok-write_lines.ensures.ok in
     equals files x y _ _ _ right.2.0 compares (at_told _ right.0 told right.1.true) right.2.2 right.2.1.status written
+
+pub returns-in-Ok-write_lines-clause-proved : goal.returns-in-Ok-write_lines-clause-proved
+returns-in-Ok-write_lines-clause-proved g c = λ files limit i o s told proves.
+    let right = at_words c.as_slice.ensures c.in-Ok.ensures.right in
+    let written = subst (Appended (g.K.Sink.written c.args.sink.now) (g.K.Sink.written c.write_lines.new.sink)) (c.as_bytes.ensures ∙ right.2.1.written) c.in-Ok-write_lines.ensures.ok in
+    proof_of_files files limit i o s _ _ _ right.2.0 proves (at_told _ right.0 told right.1.true) right.2.2 right.2.1.status written
+
+pub returns-in-Ok-write_lines-clause-accepted_safe : goal.returns-in-Ok-write_lines-clause-accepted_safe
+returns-in-Ok-write_lines-clause-accepted_safe g c = λ files i o s bytes told verifies e.
+    let right = at_words c.as_slice.ensures c.in-Ok.ensures.right in
+    accepted_is_safe _ files i o s bytes _ right.2.0 verifies (at_told _ right.0 told right.1.true) right.2.2 right.2.1.status e
+
+pub returns-in-Ok-write_lines-clause-verified : goal.returns-in-Ok-write_lines-clause-verified
+returns-in-Ok-write_lines-clause-verified g c = λ files i o s bytes told verifies.
+    let right = at_words c.as_slice.ensures c.in-Ok.ensures.right in
+    let written = subst (Appended (g.K.Sink.written c.args.sink.now) (g.K.Sink.written c.write_lines.new.sink)) (c.as_bytes.ensures ∙ right.2.1.written) c.in-Ok-write_lines.ensures.ok in
+    certificate_of_files files i o s bytes _ _ _ right.2.0 verifies (at_told _ right.0 told right.1.true) right.2.2 right.2.1.status written
+
+pub returns-in-Ok-write_lines-clause-upgraded : goal.returns-in-Ok-write_lines-clause-upgraded
+returns-in-Ok-write_lines-clause-upgraded g c = λ files bytes told upgrades.
+    let right = at_words c.as_slice.ensures c.in-Ok.ensures.right in
+    let written = subst (Appended (g.K.Sink.written c.args.sink.now) (g.K.Sink.written c.write_lines.new.sink)) (c.as_bytes.ensures ∙ right.2.1.written) c.in-Ok-write_lines.ensures.ok in
+    upgrade_of_files files bytes _ _ _ right.2.0 upgrades (at_told _ right.0 told right.1.true) right.2.2 right.2.1.status written

@@ -15,7 +15,7 @@ returns-in-Ok-clause-ok g c =
       (
         h.0,
         h.1,
-        decided (three_named (λ x y z. Words words (check c.args.limit x y z)) read.input read.output read.sheet are) tt (refl, (refl, (refl, refl)))
+        decided (three_named (λ x y z. Words words (check c.args.limit x y z)) read.input read.output read.sheet are) (refl, (refl, (refl, refl)))
             (checked (checks_at c.row_limit.ensures h.2)),
       ),
     )) c.check_texts.ensures
@@ -23,4 +23,4 @@ returns-in-Ok-clause-ok g c =
 pub returns-in-Err-clause-ok : goal.returns-in-Err-clause-ok
 returns-in-Err-clause-ok g c =
     let unread = c.in-Err.ensures.err in
-    IfOk-weaker c.answer_unread.result _ _ (λ said right words are. (unread.0, unread.1, right words _ unread.0 are tt unread.2)) c.answer_unread.ensures
+    IfOk-weaker c.answer_unread.result _ _ (λ said right words are. (unread.0, unread.1, right words _ unread.0 are unread.2)) c.answer_unread.ensures

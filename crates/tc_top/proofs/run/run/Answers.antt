@@ -8,9 +8,9 @@ use Rattle.tc_top.proofs.run.run.Goals as goal
 pub returns-in-Ok-clause-ok : goal.returns-in-Ok-clause-ok
 returns-in-Ok-clause-ok g c =
     let read = c.in-Ok.ensures in
-    IfOk-weaker c.run_texts.result _ _ (λ said h words are. (_, read.ok, (h.0, h.1, decided (named (λ x y. Words words (run x y)) read.first read.second are) tt (refl, (refl, refl)) (ran h.2)))) c.run_texts.ensures
+    IfOk-weaker c.run_texts.result _ _ (λ said h words are. (_, read.ok, (h.0, h.1, decided (named (λ x y. Words words (run x y)) read.first read.second are) (refl, (refl, refl)) (ran h.2)))) c.run_texts.ensures
 
 pub returns-in-Err-clause-ok : goal.returns-in-Err-clause-ok
 returns-in-Err-clause-ok g c =
     let unread = c.in-Err.ensures.err in
-    IfOk-weaker c.answer_unread.result _ _ (λ said right words are. (unread.0, unread.1, right words _ unread.0 are tt unread.2)) c.answer_unread.ensures
+    IfOk-weaker c.answer_unread.result _ _ (λ said right words are. (unread.0, unread.1, right words _ unread.0 are unread.2)) c.answer_unread.ensures

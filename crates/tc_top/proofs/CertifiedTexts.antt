@@ -1,0 +1,61 @@
+-- What is proved is accepted, what is accepted is safe, and what a certificate is it is accepted as.
+use Rattle.std.proofs.Common.{◌≡◌, ◌↔◌, ◌⊎◌, inl, inr, ℕ, List, refl, sym, subst}
+use Rattle.tc_answer.specs.Answers.{Answer, certificate, accepted, rejected}
+use Rattle.tc_answer.specs.Lines.{Rejection, form_fails}
+use Rattle.tc_base.specs.declared.limits.TheConstants.{LONGEST_FILE}
+use Rattle.tc_cert.specs.Texts.{text, by_changes, CertificateText}
+use Rattle.tc_cert.proofs.Fronts.{no_fault}
+use Rattle.tc_close.proofs.LeastHolds.{least_holds}
+use Rattle.tc_close.specs.Triples.{IsTripleOf}
+use Rattle.tc_model.specs.Grammars.{Grammar}
+use Rattle.tc_model.specs.RncText.{RncText}
+use Rattle.tc_model.specs.Safety.{IsSafe}
+use Rattle.tc_model.specs.Sheets.{Sheet}
+use Rattle.tc_model.specs.declared.lists.CertData.{CertData}
+use Rattle.tc_read.specs.Sheets.{IsSheetOf}
+use Rattle.tc_rows.proofs.Derived.{certificate_is_safe}
+use Rattle.tc_top.specs.Certifying.{IsCertificateOf, IsLeastOf, Certifies, as_checked, certifies, overlong, Accepts, not_compiled, accepts, no_text, no_certificate, OfTexts, refuses_input, refuses_output, refuses_sheet, all_three}
+use Rattle.tc_top.specs.Checking.{IsCompiled}
+use Rattle.tc_top.proofs.Checked.{of_triple, to_triple}
+use Rattle.tc_top.proofs.OneCertifying.{decided_of, accepted_rejected}
+use Rattle.tc_top.proofs.OneCheck.{over_compile}
+
+module _ {i o : Grammar} {s : Sheet} where
+  -- the least certificate of what is safe is one
+  pub least_is_one : (d : CertData) → IsSafe i o s → IsLeastOf i o s d → IsCertificateOf i o s d
+  least_is_one d safe (x, of, least) = (x, of, least_holds x of.triple (to_triple IsSafe of safe) d least)
+
+  -- what is proved is accepted
+  accepts_proved : {most : ℕ} {bytes : List ℕ} → Certifies i o s most (certificate bytes) → Accepts i o s bytes accepted
+  accepts_proved (as_checked f n) = absurd (n refl)
+  accepts_proved (certifies {d} w few safe least short) = accepts w (record { formed = least.2.formed; version = by_changes; spelled = refl }) (least_is_one d safe least)
+
+  -- what is accepted is safe
+  pub safe_certified : (d : CertData) → IsCertificateOf i o s d → IsSafe i o s
+  safe_certified d (x, of, c) = of_triple IsSafe of (certificate_is_safe x of.triple d.outputs _ _ c)
+
+  safe_accepted : {bytes : List ℕ} → Accepts i o s bytes accepted → IsSafe i o s
+  safe_accepted (accepts {d} w t c) = safe_certified d c
+
+  -- within the limits it is accepted exactly where the bytes are the text of a certificate, and else rejected
+  pub accepted_where : {bytes : List ℕ} {answer : Answer} → length bytes ≤ LONGEST_FILE → IsCompiled i o s → Accepts i o s bytes answer → (d : CertData) → CertificateText bytes d → IsCertificateOf i o s d → answer ≡ accepted
+  accepted_where h w (not_compiled p) d t c = absurd (over_compile p w)
+  accepted_where h w (accepts v u e) d t c = refl
+  accepted_where {bytes} h w (no_text {line} v f) d t c = absurd (no_fault bytes d line t f)
+  accepted_where {bytes} h w (no_certificate {d = e} {why} v u r) d t c = absurd (accepted_rejected bytes h d e why t u c r)
+
+  pub certified_where : {bytes : List ℕ} → Accepts i o s bytes accepted → (d : CertData) × CertificateText bytes d × IsCertificateOf i o s d
+  certified_where (accepts {d} w t c) = (d, t, c)
+
+  pub yes_or_no : {bytes : List ℕ} {answer : Answer} → IsCompiled i o s → Accepts i o s bytes answer → (answer ≡ accepted) ⊎ ((why : Rejection) × (answer ≡ rejected why))
+  yes_or_no w (not_compiled p) = absurd (over_compile p w)
+  yes_or_no w (accepts v u e) = inl refl
+  yes_or_no w (no_text {line} v f) = inr (form_fails line, refl)
+  yes_or_no w (no_certificate {d} {why} v u r) = inr (why, refl)
+
+-- what `prove` prints is accepted of the same texts
+pub proved_accepted : {most : ℕ} {input output sheet b c d bytes : List ℕ} → OfTexts (λ i o s. Certifies i o s most) input output sheet b c d (certificate bytes) → OfTexts (λ i o s. Accepts i o s bytes) input output sheet b c d accepted
+proved_accepted (all_three k l m f) = all_three k l m (accepts_proved f)
+
+pub accepted_safe : {input output sheet b c d bytes : List ℕ} {i o : Grammar} {s : Sheet} → RncText b i → RncText c o → IsSheetOf d s → OfTexts (λ i o s. Accepts i o s bytes) input output sheet b c d accepted → IsSafe i o s
+accepted_safe x y z f = safe_accepted (decided_of x y z f)

@@ -1,0 +1,148 @@
+-- What texts decide of certificates is one.
+use Rattle.std.proofs.Common.{◌≡◌, ◌≤◌, ℕ, List, refl, sym, ap, ◌∙◌, subst, length, arith}
+use Rattle.tc_answer.specs.Answers.{Answer, certificate, accepted, rejected, status_of}
+use Rattle.tc_answer.specs.Lines.{Rejection, form_fails}
+use Rattle.tc_answer.specs.declared.limits.TheConstants.{LONGEST_CERTIFICATE}
+use Rattle.tc_answer.specs.declared.status.Status.TheVariants.{Yes}
+use Rattle.tc_base.specs.declared.limits.TheConstants.{LONGEST_FILE}
+use Rattle.tc_cert.specs.Fronts.{IsFirstFault}
+use Rattle.tc_cert.specs.Texts.{text, by_changes, CertificateText}
+use Rattle.tc_cert.proofs.Fronts.{one_fault, no_fault}
+use Rattle.tc_cert.proofs.FirstFaults.{one_data}
+use Rattle.tc_close.proofs.Agreeing.{are_alike, triples_agree}
+use Rattle.tc_close.proofs.ArithmeticAlike.{certificate_alike}
+use Rattle.tc_close.proofs.OneCertificate.{one_certificate}
+use Rattle.tc_close.proofs.TooLong.{text_is_long}
+use Rattle.tc_close.proofs.Transport.{AreAlike as TriplesAlike}
+use Rattle.tc_model.specs.Grammars.{Grammar}
+use Rattle.tc_model.specs.RncText.{RncText}
+use Rattle.tc_model.specs.Safety.{IsSafe}
+use Rattle.tc_model.specs.Sheets.{Sheet}
+use Rattle.tc_model.specs.declared.lists.CertData.{CertData}
+use Rattle.tc_model.proofs.SimplifiesUnique.{one_rnc_text}
+use Rattle.tc_read.specs.Sheets.{IsSheetOf}
+use Rattle.tc_rows.specs.CertificateRows.{IsCertificateData}
+use Rattle.tc_rows.specs.Triples.{Triple}
+use Rattle.tc_verify.specs.Rejects.{IsRejected}
+use Rattle.tc_verify.specs.declared.reject.Reject.{Reject}
+use Rattle.tc_top.specs.Causes.{Finds, passes_compile, passes_rows, finds_safe, finds_unsafe, finds_large, finds_none_small}
+use Rattle.tc_top.specs.Certifying.{told, told_by, IsCertificateOf, IsLeastOf, IsRejectedFor, IsOverlong, long_text, long_outputs, Certifies, as_checked, certifies, overlong, Accepts, not_compiled, accepts, no_text, no_certificate, OfTexts, refuses_input, refuses_output, refuses_sheet, all_three, Upgrades, upgrades, too_long, no_form}
+use Rattle.tc_top.specs.Checking.{IsCompiled, HasFewRows}
+use Rattle.tc_top.specs.OneAnswer.{AreAlike, same_answer}
+use Rattle.tc_top.proofs.OneCheck.{over_compile, one_compile, finds_one, not_both}
+use Rattle.tc_top.proofs.OneRefusal.{schema_refusals, sheet_refusals}
+use Rattle.tc_top.proofs.OneRun.{no_sheet, one_sheet_of}
+use Rattle.tc_top.proofs.OneValidity.{no_schema}
+use Rattle.tc_top.proofs.RejectedAlike.{rejected_alike, one_rejected}
+
+same_as : {one other : Answer} → one ≡ other → AreAlike one other
+same_as {one} e = subst (AreAlike one) e same_answer
+
+-- of what is safe and passes no limit `check` says yes
+pub only_yes : {i o : Grammar} {s : Sheet} {most : ℕ} {answer : Answer} → Finds most i o s answer → IsCompiled i o s → HasFewRows i o s most → IsSafe i o s → status_of answer ≡ Yes
+only_yes (passes_compile p) w few safe = absurd (over_compile p w)
+only_yes (passes_rows c v p) w few safe = absurd (few c p)
+only_yes (finds_safe v f n h) w few safe = refl
+only_yes {i} {o} {s} (finds_unsafe v f l k r) w few safe = absurd (not_both i o s safe l.counter)
+only_yes {i} {o} {s} (finds_large v f l k) w few safe = absurd (not_both i o s safe l.counter)
+only_yes {i} {o} {s} (finds_none_small v f l) w few safe = absurd (not_both i o s safe l.some.1)
+
+module _ {i o : Grammar} {s : Sheet} where
+  pub one_least : (d e : CertData) → IsLeastOf i o s d → IsLeastOf i o s e → d ≡ e
+  one_least d e (x, a, l) (y, b, m) = one_certificate x y (triples_agree i o s x y a b) d e l m
+
+  -- what is too long has no shorter text
+  pub short_overlong : (d : CertData) → IsLeastOf i o s d → length (text by_changes d) ≤ LONGEST_CERTIFICATE → IsOverlong i o s → ⊥
+  short_overlong d l short (long_text {d = e} m long) = let same = ap (λ (c : CertData). length (text by_changes c)) (one_least d e l m) in omega (arith, same, short, long)
+  short_overlong d (y, b, l) short (long_outputs {x} a long) = let more = text_is_long x y (triples_agree i o s x y a b) long d l in omega (arith, more, short)
+
+  pub certifies_one : {most : ℕ} {one other : Answer} → Certifies i o s most one → Certifies i o s most other → AreAlike one other
+  certifies_one (as_checked f n) (as_checked g m) = finds_one f g
+  certifies_one (as_checked f n) (certifies w few safe l short) = absurd (n (only_yes f w few safe))
+  certifies_one (as_checked f n) (overlong w few safe l) = absurd (n (only_yes f w few safe))
+  certifies_one (certifies w few safe l short) (as_checked f n) = absurd (n (only_yes f w few safe))
+  certifies_one (certifies {d} w few safe l short) (certifies {d = e} v g h m k) = same_as (ap (λ (c : CertData). certificate (text by_changes c)) (one_least d e l m))
+  certifies_one (certifies {d} w few safe l short) (overlong v g h long) = absurd (short_overlong d l short long)
+  certifies_one (overlong w few safe l) (as_checked f n) = absurd (n (only_yes f w few safe))
+  certifies_one (overlong w few safe long) (certifies {d} v g h m short) = absurd (short_overlong d m short long)
+  certifies_one (overlong w few safe l) (overlong v g h m) = same_answer
+
+  pub accepted_rejected : (bytes : List ℕ) → length bytes ≤ LONGEST_FILE → (d e : CertData) (why : Rejection) → CertificateText bytes d → CertificateText bytes e → IsCertificateOf i o s d → IsRejectedFor i o s e why → ⊥
+  accepted_rejected bytes h d e why p q (x, a, c) (y, reject, b, k, same) =
+      let alike : TriplesAlike x y = are_alike i o s x y a b in
+      k.none (certificate_alike x y alike e (subst (IsCertificateData x) (one_data bytes h d e p q) c))
+
+  one_why : (d e : CertData) (why other : Rejection) → d ≡ e → IsRejectedFor i o s d why → IsRejectedFor i o s e other → why ≡ other
+  one_why d e why other same (x, p, a, k, f) (y, q, b, m, g) =
+      let alike : TriplesAlike x y = are_alike i o s x y a b in
+      let there : IsRejected y e p = subst (λ (c : CertData). IsRejected y c p) same (rejected_alike x y alike d p k) in
+      let rejects : p ≡ q = one_rejected y e p q there m in
+      f ∙ (ap (λ z. told_by z.symbols p.rule p.line p.other) alike.bare_same ∙ (ap (λ (r : Reject). told y r.rule r.line r.other) rejects ∙ sym g))
+
+  pub accepts_one : {bytes : List ℕ} {one other : Answer} → length bytes ≤ LONGEST_FILE → Accepts i o s bytes one → Accepts i o s bytes other → AreAlike one other
+  accepts_one h (not_compiled p) (not_compiled q) = one_compile p q
+  accepts_one h (not_compiled p) (accepts w t c) = absurd (over_compile p w)
+  accepts_one h (not_compiled p) (no_text w f) = absurd (over_compile p w)
+  accepts_one h (not_compiled p) (no_certificate w t r) = absurd (over_compile p w)
+  accepts_one h (accepts w t c) (not_compiled p) = absurd (over_compile p w)
+  accepts_one h (accepts w t c) (accepts v u e) = same_answer
+  accepts_one {bytes} h (accepts {d} w t c) (no_text {line} v f) = absurd (no_fault bytes d line t f)
+  accepts_one {bytes} h (accepts {d} w t c) (no_certificate {d = e} {why} v u r) = absurd (accepted_rejected bytes h d e why t u c r)
+  accepts_one h (no_text w f) (not_compiled p) = absurd (over_compile p w)
+  accepts_one {bytes} h (no_text {line} w f) (accepts {d} v t c) = absurd (no_fault bytes d line t f)
+  accepts_one {bytes} h (no_text {line} w f) (no_text {line = other} v g) = same_as (ap (λ n. rejected (form_fails n)) (one_fault bytes line other f g))
+  accepts_one {bytes} h (no_text {line} w f) (no_certificate {d} v t r) = absurd (no_fault bytes d line t f)
+  accepts_one h (no_certificate w t r) (not_compiled p) = absurd (over_compile p w)
+  accepts_one {bytes} h (no_certificate {d} {why} w t r) (accepts {d = e} v u c) = absurd (accepted_rejected bytes h e d why u t c r)
+  accepts_one {bytes} h (no_certificate {d} w t r) (no_text {line} v f) = absurd (no_fault bytes d line t f)
+  accepts_one {bytes} h (no_certificate {d} {why} w t r) (no_certificate {d = e} {why = other} v u q) = same_as (ap rejected (one_why d e why other (one_data bytes h d e t u) r q))
+
+module _ {Decided : Grammar → Grammar → Sheet → Answer → Type 0} where
+  decided_same : {i j o p : Grammar} {s t : Sheet} {answer : Answer} → i ≡ j → o ≡ p → s ≡ t → Decided i o s answer → Decided j p t answer
+  decided_same {i} {j} {o} {p} {s} {t} {answer} a b c x =
+      subst (λ (w : Sheet). Decided j p w answer) c (subst (λ (w : Grammar). Decided j w s answer) b (subst (λ (w : Grammar). Decided w o s answer) a x))
+
+  -- what is decided, the texts being read
+  pub decided_of : {input output sheet b c d : List ℕ} {i o : Grammar} {s : Sheet} {answer : Answer} → RncText b i → RncText c o → IsSheetOf d s
+      → OfTexts Decided input output sheet b c d answer → Decided i o s answer
+  decided_of x y z (refuses_input {reason = w} {place = p} r) = absurd (no_schema w p r x)
+  decided_of x y z (refuses_output {reason = w} {place = p} g r) = absurd (no_schema w p r y)
+  decided_of x y z (refuses_sheet {reason = w} {place = p} g h r) = absurd (no_sheet w p r z)
+  decided_of {b = b} {c = c} {i = i} {o = o} x y z (all_three {i = j} {o = p} k l m f) = decided_same (one_rnc_text b j i k x) (one_rnc_text c p o l y) (one_sheet_of m z) f
+
+  -- and that is one answer
+  pub texts_one : ({i o : Grammar} {s : Sheet} {one other : Answer} → Decided i o s one → Decided i o s other → AreAlike one other)
+      → {input output sheet b c d : List ℕ} {one other : Answer} → OfTexts Decided input output sheet b c d one → OfTexts Decided input output sheet b c d other → AreAlike one other
+  texts_one alike {input = n} {b = b} (refuses_input r) (refuses_input q) = schema_refusals b n r q
+  texts_one alike (refuses_input {reason = w} {place = p} r) (refuses_output g q) = absurd (no_schema w p r g)
+  texts_one alike (refuses_input {reason = w} {place = p} r) (refuses_sheet g h q) = absurd (no_schema w p r g)
+  texts_one alike (refuses_input {reason = w} {place = p} r) (all_three g h z f) = absurd (no_schema w p r g)
+  texts_one alike (refuses_output g r) (refuses_input {reason = w} {place = p} q) = absurd (no_schema w p q g)
+  texts_one alike {output = n} {c = c} (refuses_output g r) (refuses_output h q) = schema_refusals c n r q
+  texts_one alike (refuses_output {reason = w} {place = p} g r) (refuses_sheet h k q) = absurd (no_schema w p r k)
+  texts_one alike (refuses_output {reason = w} {place = p} g r) (all_three h k z f) = absurd (no_schema w p r k)
+  texts_one alike (refuses_sheet g h r) (refuses_input {reason = w} {place = p} q) = absurd (no_schema w p q g)
+  texts_one alike (refuses_sheet g h r) (refuses_output {reason = w} {place = p} k q) = absurd (no_schema w p q h)
+  texts_one alike {sheet = n} {d = d} (refuses_sheet g h r) (refuses_sheet k l q) = sheet_refusals d n r q
+  texts_one alike (refuses_sheet {reason = w} {place = p} g h r) (all_three k l z f) = absurd (no_sheet w p r z)
+  texts_one alike (all_three g h z f) (refuses_input {reason = w} {place = p} q) = absurd (no_schema w p q g)
+  texts_one alike (all_three g h z f) (refuses_output {reason = w} {place = p} k q) = absurd (no_schema w p q h)
+  texts_one alike (all_three g h z f) (refuses_sheet {reason = w} {place = p} k l q) = absurd (no_sheet w p q z)
+  texts_one alike {input = n} {output = m} {sheet = w} (all_three g h z f) (all_three k l y e) = alike f (decided_of {input = n} {output = m} {sheet = w} g h z (all_three k l y e))
+
+pub one_proof : {most : ℕ} {input output sheet b c d : List ℕ} {one other : Answer} → OfTexts (λ i o s. Certifies i o s most) input output sheet b c d one → OfTexts (λ i o s. Certifies i o s most) input output sheet b c d other → AreAlike one other
+one_proof p q = texts_one certifies_one p q
+
+pub one_verification : {bytes input output sheet b c d : List ℕ} {one other : Answer} → length bytes ≤ LONGEST_FILE → OfTexts (λ i o s. Accepts i o s bytes) input output sheet b c d one → OfTexts (λ i o s. Accepts i o s bytes) input output sheet b c d other → AreAlike one other
+one_verification h p q = texts_one (λ x y. accepts_one h x y) p q
+
+pub one_upgrade : {bytes : List ℕ} {one other : Answer} → length bytes ≤ LONGEST_FILE → Upgrades bytes one → Upgrades bytes other → AreAlike one other
+one_upgrade {bytes} h (upgrades {d} t short) (upgrades {d = e} u k) = same_as (ap (λ (c : CertData). certificate (text by_changes c)) (one_data bytes h d e t u))
+one_upgrade {bytes} h (upgrades {d} t short) (too_long {d = e} u long) = let same = ap (λ (c : CertData). length (text by_changes c)) (one_data bytes h d e t u) in absurd (omega (arith, same, short, long))
+one_upgrade {bytes} h (upgrades {d} t short) (no_form {line} f) = absurd (no_fault bytes d line t f)
+one_upgrade {bytes} h (too_long {d} t long) (upgrades {d = e} u short) = let same = ap (λ (c : CertData). length (text by_changes c)) (one_data bytes h d e t u) in absurd (omega (arith, same, short, long))
+one_upgrade h (too_long t long) (too_long u more) = same_answer
+one_upgrade {bytes} h (too_long {d} t long) (no_form {line} f) = absurd (no_fault bytes d line t f)
+one_upgrade {bytes} h (no_form {line} f) (upgrades {d} t short) = absurd (no_fault bytes d line t f)
+one_upgrade {bytes} h (no_form {line} f) (too_long {d} t long) = absurd (no_fault bytes d line t f)
+one_upgrade {bytes} h (no_form {line} f) (no_form {line = other} g) = same_as (ap (λ n. rejected (form_fails n)) (one_fault bytes line other f g))

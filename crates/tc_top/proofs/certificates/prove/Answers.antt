@@ -1,0 +1,26 @@
+use Rattle.std.proofs.Common.{refl, subst}
+use Rattle.std.proofs.lemmas.Result.{IfOk-weaker}
+use Rattle.tc_answer.specs.Words.{Words, prove}
+use Rattle.tc_answer.proofs.OperandsRead.{three_named}
+use Rattle.tc_top.specs.Answers.{proved, decided}
+use Rattle.tc_top.specs.Certifying.{Proves}
+use Rattle.tc_top.proofs.certificates.prove.Goals as goal
+
+pub returns-in-Ok-clause-ok : goal.returns-in-Ok-clause-ok
+returns-in-Ok-clause-ok g c =
+    let read = c.in-Ok.ensures in
+    IfOk-weaker c.prove_texts.result _ _ (λ said h words are. (
+      _,
+      read.ok,
+      (
+        h.0,
+        h.1,
+        decided (three_named (λ x y z. Words words (prove c.args.limit x y z)) read.input read.output read.sheet are) (refl, (refl, (refl, refl)))
+            (proved (subst (λ most. Proves most _ _ _ _ _ _ h.0) c.row_limit.ensures h.2)),
+      ),
+    )) c.prove_texts.ensures
+
+pub returns-in-Err-clause-ok : goal.returns-in-Err-clause-ok
+returns-in-Err-clause-ok g c =
+    let unread = c.in-Err.ensures.err in
+    IfOk-weaker c.answer_unread.result _ _ (λ said right words are. (unread.0, unread.1, right words _ unread.0 are unread.2)) c.answer_unread.ensures
