@@ -82,7 +82,7 @@ fn verify_fitting(alloc: Global, machine: &Machine<'_>, text: &[u8]) -> Result<A
 {
     match read_cert(alloc, text) {
         Ok(data) => verify_data(alloc, machine, &data),
-        Err(CertFault::Form(line)) => Answer::rejected(alloc, Rejection::Form(line)),
+        Err(CertFault::Form(first)) => Answer::rejected(alloc, Rejection::Form(first)),
         Err(CertFault::NoMemory) => Err(NoMemory),
     }
 }
