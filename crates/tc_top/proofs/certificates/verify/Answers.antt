@@ -25,4 +25,4 @@ returns-in-Ok-clause-ok g c =
 pub returns-in-Err-clause-ok : goal.returns-in-Err-clause-ok
 returns-in-Err-clause-ok g c =
     let unread = c.in-Err.ensures.err in
-    IfOk-weaker c.answer_unread.result _ _ (λ said right words are. (unread.0, unread.1, right words _ unread.0 are unread.2)) c.answer_unread.ensures
+    IfOk-weaker c.answer_unread.result _ _ (λ said right words are. (unread.0, unread.1, right words (verify c.args.triple.input.now c.args.triple.output.now c.args.triple.sheet.now c.args.certificate.now) unread.0 are unread.2)) c.answer_unread.ensures
