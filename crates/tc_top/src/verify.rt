@@ -2,6 +2,7 @@
 ghost use Rattle.std.specs.Prelude.{◌≡◌, ◌<◌, ◌≤◌, ℕ, List, IfOk, length};
 ghost use Rattle.tc_answer.specs.Answers as a;
 ghost use Rattle.tc_answer.specs.AnswersSeen.{Says, rejection};
+ghost use Rattle.tc_answer.specs.Lines.{form_fails};
 ghost use Rattle.tc_base.specs.Reading.{longest_text};
 ghost use Rattle.tc_beh.specs.Machines.{IsMachine, IsMachineOf};
 ghost use Rattle.tc_cert.specs.Texts.{CertificateText};
@@ -67,9 +68,16 @@ fn verify_text(alloc: Global, machine: &Machine<'_>, text: &[u8]) -> Result<Answ
     match first_unfit(alloc, text, ranges_by(machine.shape())) {
         Ok(None) => verify_fitting(alloc, machine, text),
         Ok(Some(line)) => Answer::rejected(alloc, Rejection::Fit(line)),
-        Err(CertFault::Form(line)) => Answer::rejected(alloc, Rejection::Form(line)),
+        Err(CertFault::Form(line)) => no_form(alloc, line),
         Err(CertFault::NoMemory) => Err(NoMemory),
     }
+}
+
+/// The answer that bytes are no certificate's text, by the first line that isn't as it must be.
+fn no_form(alloc: Global, line: u32) -> Result<Answer, NoMemory>
+    ensures { IfOk result (λ said. Says said (a.rejected (form_fails line))) }
+{
+    Answer::rejected(alloc, Rejection::Form(line))
 }
 
 /// Decides by the bytes of a certificate whether it holds.
@@ -81,7 +89,7 @@ fn verify_fitting(alloc: Global, machine: &Machine<'_>, text: &[u8]) -> Result<A
 {
     match read_cert(alloc, text) {
         Ok(data) => verify_data(alloc, machine, &data),
-        Err(CertFault::Form(first)) => Answer::rejected(alloc, Rejection::Form(first)),
+        Err(CertFault::Form(line)) => no_form(alloc, line),
         Err(CertFault::NoMemory) => Err(NoMemory),
     }
 }

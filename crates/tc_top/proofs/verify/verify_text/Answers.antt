@@ -23,4 +23,4 @@ returns-in-Ok-Some c =
 pub returns-in-Err-Form : goal.returns-in-Err-Form
 returns-in-Err-Form c =
     let fault = subst (IsUnread c.args.text.now) c.in-Err-Form.field-0-is c.in-Err-Form.ensures.fault in
-    IfOk-weaker c.rejected-in-Err-Form.result _ _ (λ said says x is compiled. (a.rejected (form_fails c.in-Err-Form.line), says, no_text compiled fault)) c.rejected-in-Err-Form.ensures
+    IfOk-weaker c.no_form.result _ _ (λ said says x is compiled. (a.rejected (form_fails c.in-Err-Form.line), says, no_text compiled fault)) c.no_form.ensures
