@@ -1,6 +1,5 @@
-use Rattle.std.proofs.Common.{refl, subst}
+use Rattle.std.proofs.Common.{refl, sym, subst}
 use Rattle.std.proofs.lemmas.Result.{IfOk-weaker}
-use Rattle.tc_answer.specs.Words.{Words, prove}
 use Rattle.tc_answer.proofs.OperandsRead.{three_named}
 use Rattle.tc_top.specs.Answers.{proved, decided}
 use Rattle.tc_top.specs.Certifying.{Proves}
@@ -15,8 +14,8 @@ returns-in-Ok-clause-ok g c =
       (
         h.0,
         h.1,
-        decided (three_named (λ x y z. Words words (prove c.args.limit x y z)) read.input read.output read.sheet are) (refl, (refl, (refl, refl)))
-            (proved (subst (λ most. Proves most _ _ _ _ _ _ h.0) c.row_limit.ensures h.2)),
+        decided are (refl, (refl, (refl, refl)))
+            (proved (three_named (λ x y z. Proves _ x y z _ _ _ h.0) (sym read.input) (sym read.output) (sym read.sheet) (subst (λ most. Proves most _ _ _ _ _ _ h.0) c.row_limit.ensures h.2))),
       ),
     )) c.prove_texts.ensures
 

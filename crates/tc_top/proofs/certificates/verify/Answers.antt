@@ -1,8 +1,8 @@
-use Rattle.std.proofs.Common.{refl, sym, subst}
+use Rattle.std.proofs.Common.{refl, sym}
 use Rattle.std.proofs.lemmas.Result.{IfOk-weaker}
-use Rattle.tc_answer.specs.Words.{Words, verify}
 use Rattle.tc_answer.proofs.OperandsRead.{three_named}
 use Rattle.tc_top.specs.Answers.{verified, decided}
+use Rattle.tc_top.specs.Certifying.{Verifies}
 use Rattle.tc_top.proofs.certificates.verify.Goals as goal
 
 pub returns-in-Ok-clause-ok : goal.returns-in-Ok-clause-ok
@@ -14,11 +14,8 @@ returns-in-Ok-clause-ok g c =
       (
         h.0,
         h.1,
-        decided
-            (three_named (λ x y z. Words words (verify x y z c.in-Ok.certificate.name.now)) read.input read.output read.sheet
-            (subst (λ n. Words words (verify c.args.triple.input.now c.args.triple.output.now c.args.triple.sheet.now n)) (sym read.certificate) are))
-            (refl, (refl, (refl, (refl, refl))))
-            (verified read.ok.true.1.1.1.0.short h.2),
+        decided are (refl, (refl, (refl, (refl, refl))))
+            (verified read.ok.true.1.1.1.0.short (three_named (λ x y z. Verifies x y z _ _ _ _ h.0) (sym read.input) (sym read.output) (sym read.sheet) h.2)),
       ),
     )) c.verify_texts.ensures
 

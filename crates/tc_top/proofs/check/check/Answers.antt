@@ -1,7 +1,7 @@
-use Rattle.std.proofs.Common.{refl}
+use Rattle.std.proofs.Common.{refl, sym}
 use Rattle.std.proofs.lemmas.Result.{IfOk-weaker}
 use Rattle.tc_top.specs.Answers.{checked, decided}
-use Rattle.tc_answer.specs.Words.{Words, check}
+use Rattle.tc_top.specs.Causes.{Checks}
 use Rattle.tc_top.proofs.Checked.{checks_at}
 use Rattle.tc_answer.proofs.OperandsRead.{three_named}
 use Rattle.tc_top.proofs.check.check.Goals as goal
@@ -15,8 +15,8 @@ returns-in-Ok-clause-ok g c =
       (
         h.0,
         h.1,
-        decided (three_named (λ x y z. Words words (check c.args.limit x y z)) read.input read.output read.sheet are) (refl, (refl, (refl, refl)))
-            (checked (checks_at c.row_limit.ensures h.2)),
+        decided are (refl, (refl, (refl, refl)))
+            (checked (three_named (λ x y z. Checks _ x y z _ _ _ h.0) (sym read.input) (sym read.output) (sym read.sheet) (checks_at c.row_limit.ensures h.2))),
       ),
     )) c.check_texts.ensures
 
