@@ -6,7 +6,7 @@ from functools import cache
 from pathlib import Path
 
 TOP = Path("crates/tc_top/src/lib.rt")
-CLAUSE = r"    ensures (safe|shown|headline|inclusion|validity|running|limited) \{(.*?)(?=\n    ensures|\n\n|\n\{)"
+CLAUSE = r"    ensures (safe|shown|headline|proved|accepted_safe|verified|upgraded|inclusion|validity|running|limited) \{(.*?)(?=\n    ensures|\n\n|\n\{)"
 WORD = re.compile(r"(?:\w+\.)*[\w-]+(?![\w-]| =)")
 ITEM = re.compile(r"\s*(?:abbrev )?(?:pub )?(data |record )?([\w-]+)(?: \(.*\)| \{.*\})* : ")
 

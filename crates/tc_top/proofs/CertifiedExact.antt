@@ -38,7 +38,7 @@ use Rattle.tc_top.proofs.OneCheck.{not_both, over_compile, one_compile}
 -- `prove`
 
 module _ (i o : Grammar) (s : Sheet) (most : ℕ) (status : Status) (old new : Option (List ℕ)) where
-  as_check : {answer : Answer} → DecidesSafety status old new most i o s → ¬ (IsCompiled i o s × HasFewRows i o s most × IsSafe i o s) → DecidesProof i o s status old new most
+  as_check : DecidesSafety status old new most i o s → ¬ (IsCompiled i o s × HasFewRows i o s most × IsSafe i o s) → DecidesProof i o s status old new most
   as_check r n = record {
     yes = (λ e. absurd (n (r.yes.0 e)), λ x. absurd (n (x.0, x.1, x.2)));
     no = r.no;
@@ -53,7 +53,7 @@ module _ (i o : Grammar) (s : Sheet) (most : ℕ) (status : Status) (old new : O
   }
 
   pub proof_decides : {answer : Answer} → status ≡ status_of answer → Appended old new (text_of answer) → Certifies i o s most answer → DecidesProof i o s status old new most
-  proof_decides {answer} is written (as_checked f n) = as_check {answer} (decides most i o s status old new is written f) (λ x. n (only_yes f x.0 x.1 x.2))
+  proof_decides {answer} is written (as_checked f n) = as_check (decides most i o s status old new is written f) (λ x. n (only_yes f x.0 x.1 x.2))
   proof_decides is written (certifies {d = d} c f h l k) = record {
     yes = (λ _. (c, f, h, (d, l, k)), λ _. is);
     no = (λ e. absurd (not_no is e), λ x. absurd (not_both i o s h x.2.1));

@@ -1,5 +1,5 @@
 -- What is proved is accepted, what is accepted is safe, and what a certificate is it is accepted as.
-use Rattle.std.proofs.Common.{◌≡◌, ◌↔◌, ◌⊎◌, inl, inr, ℕ, List, refl, sym, subst}
+use Rattle.std.proofs.Common.{◌≡◌, ◌↔◌, ◌⊎◌, inl, inr, ℕ, List, refl, sym, subst, length, ◌≤◌}
 use Rattle.tc_answer.specs.Answers.{Answer, certificate, accepted, rejected}
 use Rattle.tc_answer.specs.Lines.{Rejection, form_fails}
 use Rattle.tc_base.specs.declared.limits.TheConstants.{LONGEST_FILE}

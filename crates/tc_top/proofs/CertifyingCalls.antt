@@ -18,7 +18,7 @@ use Rattle.tc_rows.specs.Triples as t
 use Rattle.tc_rows.specs.Triples.{Triple, IsTriple}
 use Rattle.tc_top.specs.AnswersSeen.{IsRunOf, run_within, run_large}
 use Rattle.tc_top.specs.Causes.{Finds, passes_rows}
-use Rattle.tc_top.specs.Certifying.{Certifies, as_checked, certifies, overlong, long_text, long_outputs, Accepts, no_certificate, Upgrades, upgrades}
+use Rattle.tc_top.specs.Certifying.{Certifies, as_checked, certifies, overlong, long_text, long_outputs, Accepts, no_certificate, Proves, Upgrades, upgrades}
 use Rattle.tc_top.specs.Checking.{IsCompiled, HasManyRows, most_of}
 use Rattle.tc_top.proofs.Checked.{itself, few_rows, found_far, found_unsafe}
 use Rattle.tc_verify.specs.Fits.{sizes, shape_sizes}
@@ -62,6 +62,10 @@ pub unfit_line : (x : Triple) → IsTriple x → IsCompiled x.input x.output (t.
 unfit_line x triple compiled s shaped bytes d line means unfit =
     let reject : Reject = record { line = line; rule = rule.Fit; other = 0 } in
     no_certificate compiled means (x, reject, itself x triple, unfit_rejected x s d shaped line reject (record { by_rule = refl; by_line = refl; by_other = refl }) unfit, refl)
+
+-- a proof with an equal limit of rows
+pub proves_at : (most other : ℕ) (input output sheet b c d : List ℕ) (answer : Answer) → most ≡ other → Proves most input output sheet b c d answer → Proves other input output sheet b c d answer
+proves_at most other input output sheet b c d answer e x = subst (λ (n : ℕ). Proves n input output sheet b c d answer) e x
 
 -- a text that is written anew
 pub upgraded : (bytes out : List ℕ) → IsUpgraded bytes out → Upgrades bytes (certificate out)

@@ -96,44 +96,43 @@ module _ {i o : Grammar} {s : Sheet} where
   accepts_one {bytes} h (no_certificate {d} w t r) (no_text {line} v f) = absurd (no_fault bytes d line t f)
   accepts_one {bytes} h (no_certificate {d} {why} w t r) (no_certificate {d = e} {why = other} v u q) = same_as (ap rejected (one_why d e why other (one_data bytes h d e t u) r q))
 
-module _ {Decided : Grammar → Grammar → Sheet → Answer → Type 0} where
-  decided_same : {i j o p : Grammar} {s t : Sheet} {answer : Answer} → i ≡ j → o ≡ p → s ≡ t → Decided i o s answer → Decided j p t answer
-  decided_same {i} {j} {o} {p} {s} {t} {answer} a b c x =
-      subst (λ (w : Sheet). Decided j p w answer) c (subst (λ (w : Grammar). Decided j w s answer) b (subst (λ (w : Grammar). Decided w o s answer) a x))
+decided_same : (Decided : Grammar → Grammar → Sheet → Answer → Type 0) → {i j o p : Grammar} {s t : Sheet} {answer : Answer} → i ≡ j → o ≡ p → s ≡ t → Decided i o s answer → Decided j p t answer
+decided_same Decided {i} {j} {o} {p} {s} {t} {answer} a b c x =
+    subst (λ (w : Sheet). Decided j p w answer) c (subst (λ (w : Grammar). Decided j w s answer) b (subst (λ (w : Grammar). Decided w o s answer) a x))
 
-  -- what is decided, the texts being read
-  pub decided_of : {input output sheet b c d : List ℕ} {i o : Grammar} {s : Sheet} {answer : Answer} → SchemaText input b i → SchemaText output c o → IsSheetOf d s
-      → OfTexts Decided input output sheet b c d answer → Decided i o s answer
-  decided_of x y z (refuses_input {reason = w} {place = p} r) = absurd (no_schema w p r x)
-  decided_of x y z (refuses_output {reason = w} {place = p} g r) = absurd (no_schema w p r y)
-  decided_of x y z (refuses_sheet {reason = w} {place = p} g h r) = absurd (no_sheet w p r z)
-  decided_of x y z (all_three k l m f) = decided_same (one_schema k x) (one_schema l y) (one_sheet_of m z) f
+-- what is decided, the texts being read
+pub decided_of : {Decided : Grammar → Grammar → Sheet → Answer → Type 0} {input output sheet b c d : List ℕ} {i o : Grammar} {s : Sheet} {answer : Answer} → SchemaText input b i → SchemaText output c o → IsSheetOf d s
+    → OfTexts Decided input output sheet b c d answer → Decided i o s answer
+decided_of x y z (refuses_input {reason = w} {place = p} r) = absurd (no_schema w p r x)
+decided_of x y z (refuses_output {reason = w} {place = p} g r) = absurd (no_schema w p r y)
+decided_of x y z (refuses_sheet {reason = w} {place = p} g h r) = absurd (no_sheet w p r z)
+decided_of {Decided = Decided} x y z (all_three k l m f) = decided_same Decided (one_schema k x) (one_schema l y) (one_sheet_of m z) f
 
-  -- and that is one answer
-  pub texts_one : ({i o : Grammar} {s : Sheet} {one other : Answer} → Decided i o s one → Decided i o s other → AreAlike one other)
-      → {input output sheet b c d : List ℕ} {one other : Answer} → OfTexts Decided input output sheet b c d one → OfTexts Decided input output sheet b c d other → AreAlike one other
-  texts_one alike {input = n} (refuses_input r) (refuses_input q) = text_refusals n r q
-  texts_one alike (refuses_input {reason = w} {place = p} r) (refuses_output g q) = absurd (no_schema w p r g)
-  texts_one alike (refuses_input {reason = w} {place = p} r) (refuses_sheet g h q) = absurd (no_schema w p r g)
-  texts_one alike (refuses_input {reason = w} {place = p} r) (all_three g h z f) = absurd (no_schema w p r g)
-  texts_one alike (refuses_output g r) (refuses_input {reason = w} {place = p} q) = absurd (no_schema w p q g)
-  texts_one alike {output = n} (refuses_output g r) (refuses_output h q) = text_refusals n r q
-  texts_one alike (refuses_output {reason = w} {place = p} g r) (refuses_sheet h k q) = absurd (no_schema w p r k)
-  texts_one alike (refuses_output {reason = w} {place = p} g r) (all_three h k z f) = absurd (no_schema w p r k)
-  texts_one alike (refuses_sheet g h r) (refuses_input {reason = w} {place = p} q) = absurd (no_schema w p q g)
-  texts_one alike (refuses_sheet g h r) (refuses_output {reason = w} {place = p} k q) = absurd (no_schema w p q h)
-  texts_one alike {sheet = n} {d = d} (refuses_sheet g h r) (refuses_sheet k l q) = sheet_refusals d n r q
-  texts_one alike (refuses_sheet {reason = w} {place = p} g h r) (all_three k l z f) = absurd (no_sheet w p r z)
-  texts_one alike (all_three g h z f) (refuses_input {reason = w} {place = p} q) = absurd (no_schema w p q g)
-  texts_one alike (all_three g h z f) (refuses_output {reason = w} {place = p} k q) = absurd (no_schema w p q h)
-  texts_one alike (all_three g h z f) (refuses_sheet {reason = w} {place = p} k l q) = absurd (no_sheet w p q z)
-  texts_one alike {input = n} {output = m} {sheet = w} (all_three g h z f) (all_three k l y e) = alike f (decided_of {input = n} {output = m} {sheet = w} g h z (all_three k l y e))
+-- and that is one answer
+pub texts_one : (Decided : Grammar → Grammar → Sheet → Answer → Type 0) → ((i o : Grammar) (s : Sheet) (one other : Answer) → Decided i o s one → Decided i o s other → AreAlike one other)
+    → {input output sheet b c d : List ℕ} {one other : Answer} → OfTexts Decided input output sheet b c d one → OfTexts Decided input output sheet b c d other → AreAlike one other
+texts_one Decided alike {input = n} (refuses_input r) (refuses_input q) = text_refusals n r q
+texts_one Decided alike (refuses_input {reason = w} {place = p} r) (refuses_output g q) = absurd (no_schema w p r g)
+texts_one Decided alike (refuses_input {reason = w} {place = p} r) (refuses_sheet g h q) = absurd (no_schema w p r g)
+texts_one Decided alike (refuses_input {reason = w} {place = p} r) (all_three g h z f) = absurd (no_schema w p r g)
+texts_one Decided alike (refuses_output g r) (refuses_input {reason = w} {place = p} q) = absurd (no_schema w p q g)
+texts_one Decided alike {output = n} (refuses_output g r) (refuses_output h q) = text_refusals n r q
+texts_one Decided alike (refuses_output {reason = w} {place = p} g r) (refuses_sheet h k q) = absurd (no_schema w p r k)
+texts_one Decided alike (refuses_output {reason = w} {place = p} g r) (all_three h k z f) = absurd (no_schema w p r k)
+texts_one Decided alike (refuses_sheet g h r) (refuses_input {reason = w} {place = p} q) = absurd (no_schema w p q g)
+texts_one Decided alike (refuses_sheet g h r) (refuses_output {reason = w} {place = p} k q) = absurd (no_schema w p q h)
+texts_one Decided alike {sheet = n} {d = d} (refuses_sheet g h r) (refuses_sheet k l q) = sheet_refusals d n r q
+texts_one Decided alike (refuses_sheet {reason = w} {place = p} g h r) (all_three k l z f) = absurd (no_sheet w p r z)
+texts_one Decided alike (all_three g h z f) (refuses_input {reason = w} {place = p} q) = absurd (no_schema w p q g)
+texts_one Decided alike (all_three g h z f) (refuses_output {reason = w} {place = p} k q) = absurd (no_schema w p q h)
+texts_one Decided alike (all_three g h z f) (refuses_sheet {reason = w} {place = p} k l q) = absurd (no_sheet w p q z)
+texts_one Decided alike {input = n} {output = m} {sheet = w} (all_three g h z f) (all_three k l y e) = alike _ _ _ _ _ f (decided_of {Decided = Decided} {input = n} {output = m} {sheet = w} g h z (all_three k l y e))
 
 pub one_proof : {most : ℕ} {input output sheet b c d : List ℕ} {one other : Answer} → OfTexts (λ i o s. Certifies i o s most) input output sheet b c d one → OfTexts (λ i o s. Certifies i o s most) input output sheet b c d other → AreAlike one other
-one_proof p q = texts_one certifies_one p q
+one_proof {most} p q = texts_one (λ i o s. Certifies i o s most) (λ i o s one other x y. certifies_one x y) p q
 
 pub one_verification : {bytes input output sheet b c d : List ℕ} {one other : Answer} → length bytes ≤ LONGEST_FILE → OfTexts (λ i o s. Accepts i o s bytes) input output sheet b c d one → OfTexts (λ i o s. Accepts i o s bytes) input output sheet b c d other → AreAlike one other
-one_verification h p q = texts_one (λ x y. accepts_one h x y) p q
+one_verification {bytes} h p q = texts_one (λ i o s. Accepts i o s bytes) (λ i o s one other x y. accepts_one h x y) p q
 
 pub one_upgrade : {bytes : List ℕ} {one other : Answer} → length bytes ≤ LONGEST_FILE → Upgrades bytes one → Upgrades bytes other → AreAlike one other
 one_upgrade {bytes} h (upgrades {d} t short) (upgrades {d = e} u k) = same_as (ap (λ (c : CertData). certificate (text by_changes c)) (one_data bytes h d e t u))

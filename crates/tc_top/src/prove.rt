@@ -12,7 +12,7 @@ ghost use Rattle.tc_top.specs.Certifying.{Proves, Certifies};
 ghost use Rattle.tc_top.specs.Checking.{IsCompiled};
 
 use crate::check::show;
-use crate::texts::{Undecided, machine_of_texts};
+use crate::texts::{early_answer, machine_of_texts};
 use bumpalo::Bump;
 use std::alloc::Global;
 use tc_answer::limits::MOST_OUTPUTS;
@@ -36,8 +36,7 @@ pub fn prove_texts(alloc: Global, most: u32, operands: &Operands<'_>) -> Result<
     let arena = Bump::new(alloc);
     match machine_of_texts(alloc, &arena, operands) {
         Ok(machine) => certify(alloc, &arena, most, &machine),
-        Err(Undecided::Stops(answer)) => Ok(answer),
-        Err(Undecided::NoMemory) => Err(NoMemory),
+        Err(undecided) => early_answer(undecided),
     }
 }
 

@@ -37,6 +37,16 @@ fn stops(answer: Result<Answer, NoMemory>) -> Undecided
     }
 }
 
+/// The answer of a call that ends early, unless memory was refused.
+pub(crate) fn early_answer(undecided: Undecided) -> Result<Answer, NoMemory>
+    ensures { IfOk result (λ said. undecided ≡ Undecided.Stops said) }
+{
+    match undecided {
+        Undecided::Stops(answer) => Ok(answer),
+        Undecided::NoMemory => Err(NoMemory),
+    }
+}
+
 /// The schema of an operand.
 fn schema_of<'b>(
     alloc: Global,

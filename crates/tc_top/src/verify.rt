@@ -12,7 +12,7 @@ ghost use Rattle.tc_top.specs.Certifying.{Verifies, Accepts, told_by};
 ghost use Rattle.tc_top.specs.CertifyingSeen.{ranges_of};
 ghost use Rattle.tc_top.specs.Checking.{IsCompiled};
 
-use crate::texts::{Undecided, machine_of_texts};
+use crate::texts::{early_answer, machine_of_texts};
 use bumpalo::Bump;
 use std::alloc::Global;
 use tc_alpha::Sym;
@@ -40,8 +40,7 @@ pub fn verify_texts(
     let arena = Bump::new(alloc);
     match machine_of_texts(alloc, &arena, operands) {
         Ok(machine) => verify_text(alloc, &machine, &certificate.text),
-        Err(Undecided::Stops(answer)) => Ok(answer),
-        Err(Undecided::NoMemory) => Err(NoMemory),
+        Err(undecided) => early_answer(undecided),
     }
 }
 
@@ -82,7 +81,7 @@ fn verify_fitting(alloc: Global, machine: &Machine<'_>, text: &[u8]) -> Result<A
 {
     match read_cert(alloc, text) {
         Ok(data) => verify_data(alloc, machine, &data),
-        Err(CertFault::Form(line)) => Answer::rejected(alloc, Rejection::Form(line)),
+        Err(CertFault::Form(first)) => Answer::rejected(alloc, Rejection::Form(first)),
         Err(CertFault::NoMemory) => Err(NoMemory),
     }
 }

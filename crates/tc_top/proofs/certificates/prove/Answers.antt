@@ -1,13 +1,16 @@
-use Rattle.std.proofs.Common.{refl, sym, subst}
+use Rattle.std.proofs.Common.{refl, sym}
 use Rattle.std.proofs.lemmas.Result.{IfOk-weaker}
 use Rattle.tc_answer.proofs.OperandsRead.{three_named}
 use Rattle.tc_top.specs.Answers.{proved, decided}
 use Rattle.tc_top.specs.Certifying.{Proves}
+use Rattle.tc_top.specs.Checking.{most_rows}
+use Rattle.tc_top.proofs.CertifyingCalls.{proves_at}
 use Rattle.tc_top.proofs.certificates.prove.Goals as goal
 
 pub returns-in-Ok-clause-ok : goal.returns-in-Ok-clause-ok
 returns-in-Ok-clause-ok g c =
     let read = c.in-Ok.ensures in
+    let o = c.in-Ok.operands in
     IfOk-weaker c.prove_texts.result _ _ (λ said h words are. (
       _,
       read.ok,
@@ -15,7 +18,9 @@ returns-in-Ok-clause-ok g c =
         h.0,
         h.1,
         decided are (refl, (refl, (refl, refl)))
-            (proved (three_named (λ x y z. Proves _ x y z _ _ _ h.0) (sym read.input) (sym read.output) (sym read.sheet) (subst (λ most. Proves most _ _ _ _ _ _ h.0) c.row_limit.ensures h.2))),
+            (proved
+            (three_named (λ x y z. Proves (most_rows c.args.limit) x y z o.input.text.items o.output.text.items o.sheet.text.items h.0) (sym read.input) (sym read.output) (sym read.sheet)
+            (proves_at c.row_limit.result (most_rows c.args.limit) o.input.name.now o.output.name.now o.sheet.name.now o.input.text.items o.output.text.items o.sheet.text.items h.0 c.row_limit.ensures h.2))),
       ),
     )) c.prove_texts.ensures
 

@@ -19,8 +19,9 @@ returns-in-Ok c =
     let found = h made.machine.triple made.machine.machine (to_triple IsCompiled made.machine.of made.machine.compiled) in
     (found.0, found.1, all_three made.input_spells made.output_spells made.sheet_spells (of_triple (λ i o s. Certifies i o s c.args.most found.0) made.machine.of found.2))) c.certify.ensures
 
-pub returns-in-Err-Stops : goal.returns-in-Err-Stops
-returns-in-Err-Stops c =
+pub returns : goal.returns
+returns c =
     let o = c.args.operands.now in
-    let why = subst (IsUndecided (StopsTexts o.input.name.now o.output.name.now o.sheet.name.now o.input.text.items o.output.text.items o.sheet.text.items)) c.in-Err-Stops.field-0-is c.in-Err-Stops.ensures.no in
-    (why.0, why.1, stopped (λ i o s kind number p. as_checked (passes_compile p) limit_is_not_yes) why.2)
+    IfOk-weaker c.early_answer.result _ _ (λ said is.
+    let why = subst (IsUndecided (StopsTexts o.input.name.now o.output.name.now o.sheet.name.now o.input.text.items o.output.text.items o.sheet.text.items)) is c.in-Err.ensures.no in
+    (why.0, why.1, stopped (λ i o s kind number p. as_checked (passes_compile p) limit_is_not_yes) why.2)) c.early_answer.ensures

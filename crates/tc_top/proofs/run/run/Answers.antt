@@ -17,7 +17,7 @@ returns-in-Ok-clause-ok g c =
         h.0,
         h.1,
         decided are (ap (λ s. (s.file, Ok c.in-Ok.sheet.text.items)) c.plain.ensures, (ap (λ s. (s.file, Ok c.in-Ok.document.text.items)) c.plain-2.ensures, refl))
-            (ran (named (λ x y. RunsTexts x y _ _ h.0) (sym one) (sym other) h.2)),
+            (ran (named (λ x y. RunsTexts x y c.in-Ok.sheet.text.items c.in-Ok.document.text.items h.0) (sym one) (sym other) h.2)),
       ),
     )) c.run_texts.ensures
 

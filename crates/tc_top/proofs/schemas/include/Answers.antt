@@ -17,7 +17,7 @@ returns-in-Ok-clause-ok g c =
         h.0,
         h.1,
         decided are (ap (λ s. (s.file, Ok c.in-Ok.first.text.items)) c.schema.ensures, (ap (λ s. (s.file, Ok c.in-Ok.second.text.items)) c.schema-2.ensures, refl))
-            (compared_one_way (named (λ x y. Compares inclusion x y _ _ h.0) (sym one) (sym other) h.2)),
+            (compared_one_way (named (λ x y. Compares inclusion x y c.in-Ok.first.text.items c.in-Ok.second.text.items h.0) (sym one) (sym other) h.2)),
       ),
     )) c.compare_texts.ensures
 

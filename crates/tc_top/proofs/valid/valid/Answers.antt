@@ -17,7 +17,7 @@ returns-in-Ok-clause-ok g c =
         h.0,
         h.1,
         decided are (ap (λ s. (s.file, Ok c.in-Ok.schema.text.items)) c.schema-2.ensures, (ap (λ s. (s.file, Ok c.in-Ok.document.text.items)) c.plain.ensures, refl))
-            (validated (named (λ x y. Validates x y _ _ h.0) (sym one) (sym other) h.2)),
+            (validated (named (λ x y. Validates x y c.in-Ok.schema.text.items c.in-Ok.document.text.items h.0) (sym one) (sym other) h.2)),
       ),
     )) c.valid_texts.ensures
 

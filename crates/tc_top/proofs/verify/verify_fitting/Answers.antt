@@ -15,4 +15,4 @@ returns-in-Ok c = IfOk-weaker c.verify_data.result _ _ (λ said h x is compiled.
 pub returns-in-Err-Form : goal.returns-in-Err-Form
 returns-in-Err-Form c =
     let fault = subst (IsUnread c.args.text.now) c.in-Err-Form.field-0-is c.in-Err-Form.ensures.fault in
-    IfOk-weaker c.rejected.result _ _ (λ said says x is compiled. (a.rejected (form_fails c.in-Err-Form.line), says, no_text compiled fault)) c.rejected.ensures
+    IfOk-weaker c.rejected.result _ _ (λ said says x is compiled. (a.rejected (form_fails c.in-Err-Form.first), says, no_text compiled fault)) c.rejected.ensures

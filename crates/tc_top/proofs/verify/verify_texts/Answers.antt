@@ -1,5 +1,6 @@
 use Rattle.std.proofs.Common.{subst, List, ℕ}
 use Rattle.std.proofs.lemmas.Result.{IfOk-weaker}
+use Rattle.tc_rows.specs.Triples as t
 use Rattle.tc_top.specs.Certifying.{Accepts, not_compiled, all_three}
 use Rattle.tc_top.specs.CertifyingSeen.{IsUndecided, StopsTexts}
 use Rattle.tc_top.specs.Checking.{IsCompiled}
@@ -18,11 +19,12 @@ returns-in-Ok c =
       found.0,
       found.1,
       all_three made.input_spells made.output_spells made.sheet_spells
-          (of_triple (λ i o s. Accepts i o s c.args.certificate.now.text.items found.0) made.machine.of (subst (λ (w : List ℕ). Accepts _ _ _ w found.0) c.deref.ensures.value found.2)),
+          (of_triple (λ i o s. Accepts i o s c.args.certificate.now.text.items found.0) made.machine.of (subst (λ (w : List ℕ). Accepts made.machine.triple.input made.machine.triple.output (t.sheet made.machine.triple) w found.0) c.deref.ensures.value found.2)),
     )) c.verify_text.ensures
 
-pub returns-in-Err-Stops : goal.returns-in-Err-Stops
-returns-in-Err-Stops c =
+pub returns : goal.returns
+returns c =
     let o = c.args.operands.now in
-    let why = subst (IsUndecided (StopsTexts o.input.name.now o.output.name.now o.sheet.name.now o.input.text.items o.output.text.items o.sheet.text.items)) c.in-Err-Stops.field-0-is c.in-Err-Stops.ensures.no in
-    (why.0, why.1, stopped (λ i o s kind number p. not_compiled p) why.2)
+    IfOk-weaker c.early_answer.result _ _ (λ said is.
+    let why = subst (IsUndecided (StopsTexts o.input.name.now o.output.name.now o.sheet.name.now o.input.text.items o.output.text.items o.sheet.text.items)) is c.in-Err.ensures.no in
+    (why.0, why.1, stopped (λ i o s kind number p. not_compiled p) why.2)) c.early_answer.ensures
