@@ -31,14 +31,14 @@ use Rattle.tc_top.proofs.OneRefusal.{schema_refusals}
 
 -- a word has a root or none, and one
 
-no_root : {word root : List ℕ} → root_of word ≡ None → root_of word ≡ Some root → ⊥
-no_root e f = absurd (let h = sym e ∙ f in cc)
+no_root : (word root : List ℕ) → root_of word ≡ None → root_of word ≡ Some root → ⊥
+no_root word root e f = absurd (let h = sym e ∙ f in cc)
 
 some_is : (x y : List ℕ) → Some x ≡ Some y → x ≡ y
 some_is x y e = cc
 
-one_root : {word root other : List ℕ} → root_of word ≡ Some root → root_of word ≡ Some other → root ≡ other
-one_root e f = some_is _ _ (sym e ∙ f)
+one_root : (word root other : List ℕ) → root_of word ≡ Some root → root_of word ≡ Some other → root ≡ other
+one_root word root other e f = some_is root other (sym e ∙ f)
 
 -- declarations
 
@@ -113,20 +113,20 @@ dtd_refusals bytes name {r} {q} {k} {m} x y =
 
 pub one_schema : {word bytes : List ℕ} {g h : Grammar} → SchemaText word bytes g → SchemaText word bytes h → g ≡ h
 one_schema {bytes = bytes} {g = g} {h = h} (compact e a) (compact f b) = one_rnc_text bytes g h a b
-one_schema (compact e a) (declares f b) = absurd (no_root e f)
-one_schema (declares e a) (compact f b) = absurd (no_root f e)
-one_schema {bytes = bytes} {h = h} (declares e a) (declares f b) = one_declared a (subst (λ r. DeclaresGrammar r bytes h) (one_root f e) b)
+one_schema {word = w} (compact e a) (declares {root = r} f b) = absurd (no_root w r e f)
+one_schema {word = w} (declares {root = r} e a) (compact f b) = absurd (no_root w r f e)
+one_schema {word = w} {bytes = bytes} {h = h} (declares {root = r} e a) (declares {root = q} f b) = one_declared a (subst (λ x. DeclaresGrammar x bytes h) (one_root w q r f e) b)
 
 pub no_schema : {word bytes : List ℕ} {g : Grammar} (reason : Reason) (place : ℕ) → IsRefusedText word bytes reason place → SchemaText word bytes g → ⊥
-no_schema {bytes = bytes} {g = g} r k (refuses_compact e x) (compact f a) = rnc.no_schema bytes r k g x a
-no_schema r k (refuses_compact e x) (declares f a) = absurd (no_root e f)
-no_schema r k (refuses_declarations e x) (compact f a) = absurd (no_root f e)
-no_schema r k (refuses_declarations e x) (declares f a) = no_declared r k x a
+no_schema {bytes = bytes} {g = g} reason place (refuses_compact e x) (compact f a) = rnc.no_schema bytes reason place g x a
+no_schema {word = w} reason place (refuses_compact e x) (declares {root = r} f a) = absurd (no_root w r e f)
+no_schema {word = w} reason place (refuses_declarations {root = r} e x) (compact f a) = absurd (no_root w r f e)
+no_schema reason place (refuses_declarations e x) (declares f a) = no_declared reason place x a
 
 pub text_refusals : {word bytes : List ℕ} {r q : Reason} {k m : ℕ} (name : List ℕ) → IsRefusedText word bytes r k → IsRefusedText word bytes q m → AreAlike (refused name r k) (refused name q m)
 text_refusals {bytes = bytes} name (refuses_compact e x) (refuses_compact f y) = schema_refusals bytes name x y
-text_refusals name (refuses_compact e x) (refuses_declarations f y) = absurd (no_root e f)
-text_refusals name (refuses_declarations e x) (refuses_compact f y) = absurd (no_root f e)
+text_refusals {word = w} name (refuses_compact e x) (refuses_declarations {root = r} f y) = absurd (no_root w r e f)
+text_refusals {word = w} name (refuses_declarations {root = r} e x) (refuses_compact f y) = absurd (no_root w r f e)
 text_refusals {bytes = bytes} name (refuses_declarations e x) (refuses_declarations f y) = dtd_refusals bytes name x y
 
 pub lawful_schema : {word bytes : List ℕ} {g : Grammar} → SchemaText word bytes g → IsGrammar g × IsStart g.start
@@ -134,19 +134,21 @@ lawful_schema {bytes = bytes} {g = g} (compact e a) = (lawful_grammar bytes g a,
 lawful_schema {bytes = bytes} {g = g} (declares {root = root} e a) = law_of_grammar a.declarations root g (lawful bytes a.declarations a.declared) a.is_grammar
 
 -- what is read of a text is read of that behind its word
-pub read_as_text : {word root bytes : List ℕ} (s : Schema) → root_of word ≡ Some root → IsSchemaOfDtd root bytes s → IsSchemaOfText word bytes s
-read_as_text (Small x) e h = (declares e h.0, h.1)
-read_as_text (TooLarge kind number) e h = (h.0, declares e h.1, h.2)
 
-pub read_as_compact : {word bytes : List ℕ} (s : Schema) → root_of word ≡ None → IsSchemaOf bytes s → IsSchemaOfText word bytes s
-read_as_compact (Small x) e h = (compact e h.0, h.1)
-read_as_compact (TooLarge kind number) e h = (h.0, compact e h.1, h.2)
+pub read_as_text : (word root bytes : List ℕ) (s : Schema) → root_of word ≡ Some root → IsSchemaOfDtd root bytes s → IsSchemaOfText word bytes s
+read_as_text word root bytes (Small x) e h = (declares e h.0, h.1)
+read_as_text word root bytes (TooLarge kind number) e h = (h.0, declares e h.1, h.2)
+
+pub read_as_compact : (word bytes : List ℕ) (s : Schema) → root_of word ≡ None → IsSchemaOf bytes s → IsSchemaOfText word bytes s
+read_as_compact word bytes (Small x) e h = (compact e h.0, h.1)
+read_as_compact word bytes (TooLarge kind number) e h = (h.0, compact e h.1, h.2)
 
 -- and so is why there is none
-pub refused_as_text : {word root bytes : List ℕ} (e : TextFault) → root_of word ≡ Some root → IsUnaccepted (IsRefusedDtd bytes) e → IsUnaccepted (IsRefusedText word bytes) e
-refused_as_text (Refused why p) f h = refuses_declarations f h
-refused_as_text NoMemory f h = tt
 
-pub refused_as_compact : {word bytes : List ℕ} (e : TextFault) → root_of word ≡ None → IsUnaccepted (IsRefusedSchema bytes) e → IsUnaccepted (IsRefusedText word bytes) e
-refused_as_compact (Refused why p) f h = refuses_compact f h
-refused_as_compact NoMemory f h = tt
+pub refused_as_text : (word root bytes : List ℕ) (e : TextFault) → root_of word ≡ Some root → IsUnaccepted (IsRefusedDtd bytes) e → IsUnaccepted (IsRefusedText word bytes) e
+refused_as_text word root bytes (Refused why p) f h = refuses_declarations f h
+refused_as_text word root bytes NoMemory f h = tt
+
+pub refused_as_compact : (word bytes : List ℕ) (e : TextFault) → root_of word ≡ None → IsUnaccepted (IsRefusedSchema bytes) e → IsUnaccepted (IsRefusedText word bytes) e
+refused_as_compact word bytes (Refused why p) f h = refuses_compact f h
+refused_as_compact word bytes NoMemory f h = tt
