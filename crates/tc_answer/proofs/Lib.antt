@@ -4,3 +4,4 @@ pub mod OperandsRead
 pub mod Numerals
 pub mod OneCommand
 pub mod ReadsOnce
+pub mod SchemaWordsLaws

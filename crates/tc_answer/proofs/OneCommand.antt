@@ -28,15 +28,15 @@ kind_of (include first second) = 7
 kind_of (same first second) = 8
 
 kind_is : {words : List (List ℕ)} {command : Command} → Words words command → kind words ≡ kind_of command
-kind_is (checks parts limits operands) = ap kind parts
-kind_is (proves parts limits operands) = ap kind parts
-kind_is (verifies parts operands) = ap kind parts
+kind_is (checks parts limits operands schemas) = ap kind parts
+kind_is (proves parts limits operands schemas) = ap kind parts
+kind_is (verifies parts operands schemas) = ap kind parts
 kind_is (runs parts operands) = ap kind parts
-kind_is (validates parts operands) = ap kind parts
+kind_is (validates parts operands schemas) = ap kind parts
 kind_is (shows parts spelled) = ap kind parts
 kind_is (upgrades parts operands) = ap kind parts
-kind_is (includes parts operands) = ap kind parts
-kind_is (compares parts operands) = ap kind parts
+kind_is (includes parts operands schemas) = ap kind parts
+kind_is (compares parts operands schemas) = ap kind parts
 
 -- no operand is `--limit`
 no_option : (operands rest : List (List ℕ)) → operands ≡ codes "--limit" ∷ rest → AreOperands operands → ⊥
@@ -57,25 +57,25 @@ limits_one rest other (Some one) (Some two) operands others agree p q a b =
     (ap Some (same_number p.0 q.0 numeral p.2 q.2), cc)
 
 pub one_command : {words : List (List ℕ)} {one other : Command} → Words words one → Words words other → one ≡ other
-one_command (checks p l a) (checks q m b) =
+one_command (checks p l a x) (checks q m b y) =
     let agree = limits_one _ _ _ _ _ _ (cc) l m a b in
     let limit = agree.0 in
     let operands = agree.1 in
     cc
-one_command (proves p l a) (proves q m b) =
+one_command (proves p l a x) (proves q m b y) =
     let agree = limits_one _ _ _ _ _ _ (cc) l m a b in
     let limit = agree.0 in
     let operands = agree.1 in
     cc
-one_command (verifies p a) (verifies q b) = cc
+one_command (verifies p a x) (verifies q b y) = cc
 one_command (runs p a) (runs q b) = cc
-one_command (validates p a) (validates q b) = cc
+one_command (validates p a x) (validates q b y) = cc
 one_command (shows p s) (shows q t) =
     let agree = same_number _ _ (cc) s t in
     cc
 one_command (upgrades p a) (upgrades q b) = cc
-one_command (includes p a) (includes q b) = cc
-one_command (compares p a) (compares q b) = cc
+one_command (includes p a x) (includes q b y) = cc
+one_command (compares p a x) (compares q b y) = cc
 one_command p q =
     let agree = sym (kind_is p) ∙ kind_is q in
     absurd (omega (arith, agree))

@@ -4,31 +4,45 @@ use Rattle.tc_io.specs.Store.{Read}
 use Rattle.tc_io.specs.declared.StoreFault.{StoreFault}
 use Rattle.tc_answer.specs.AnswersSeen.{IsUnread, IsFirstUnread}
 use Rattle.tc_answer.specs.Reading.{StopsAt, at_first, past_first}
+use Rattle.tc_answer.specs.Words.{Source}
 use Rattle.tc_answer.specs.declared.read.Unread.{Unread}
 use Rattle.tc_answer.specs.declared.read.Unread.TheVariants as u
 
--- the first name is the one whose read isn't Ok
-pub unread_first : (name : List ℕ) (rest : List (List ℕ)) (fault : StoreFault) (unread : Unread) → IsUnread name fault unread → IsFirstUnread (name ∷ rest) ((name, Err fault) ∷ []) unread
-unread_first name rest fault (u.Unreadable named) h =
-    (fault, subst (λ n. StopsAt (name ∷ rest) ((name, Err fault) ∷ []) n fault) (sym h.0) (at_first refl refl), h.1)
-unread_first name rest fault u.TooLong h = (name, at_first refl (ap (λ f. (name, Err f) ∷ []) h))
-unread_first name rest fault u.NoMemory h = (name, at_first refl (ap (λ f. (name, Err f) ∷ []) h))
+-- the first operand is the one whose read isn't Ok
+pub unread_first : (first : Source) (rest : List Source) (fault : StoreFault) (unread : Unread) → IsUnread first.word fault unread → IsFirstUnread (first ∷ rest) ((first.file, Err fault) ∷ []) unread
+unread_first first rest fault (u.Unreadable named) h = (fault, at_first refl refl h.0, h.1)
+unread_first first rest fault u.TooLong h = (first.word, at_first refl (ap (λ f. (first.file, Err f) ∷ []) h) refl)
+unread_first first rest fault u.NoMemory h = (first.word, at_first refl (ap (λ f. (first.file, Err f) ∷ []) h) refl)
 
--- one of those behind a name that was read
-pub unread_later : (first text : List ℕ) (rest : List (List ℕ)) (more : List Read) (unread : Unread) → IsFirstUnread rest more unread → IsFirstUnread (first ∷ rest) ((first, Ok text) ∷ more) unread
+-- one of those behind an operand that was read
+pub unread_later : (first : Source) (text : List ℕ) (rest : List Source) (more : List Read) (unread : Unread) → IsFirstUnread rest more unread → IsFirstUnread (first ∷ rest) ((first.file, Ok text) ∷ more) unread
 unread_later first text rest more (u.Unreadable named) h = (h.0, past_first refl refl h.1, h.2)
 unread_later first text rest more u.TooLong h = (h.0, past_first refl refl h.1)
 unread_later first text rest more u.NoMemory h = (h.0, past_first refl refl h.1)
 
--- one of the first names, and more behind them
-stops_before : {names : List (List ℕ)} {reads : List Read} {name : List ℕ} {fault : StoreFault} (more : List (List ℕ)) → StopsAt names reads name fault → StopsAt (names ++ more) reads name fault
-stops_before more (at_first p q) = at_first (ap (λ n. n ++ more) p) q
+-- one of the first operands, and more behind them
+stops_before : {sources : List Source} {reads : List Read} {word : List ℕ} {fault : StoreFault} (more : List Source) → StopsAt sources reads word fault → StopsAt (sources ++ more) reads word fault
+stops_before more (at_first p q w) = at_first (ap (λ n. n ++ more) p) q w
 stops_before more (past_first p q x) = past_first (ap (λ n. n ++ more) p) q (stops_before more x)
 
-pub unread_before : (names more : List (List ℕ)) (reads : List Read) (unread : Unread) → IsFirstUnread names reads unread → IsFirstUnread (names ++ more) reads unread
-unread_before names more reads (u.Unreadable named) h = (h.0, stops_before more h.1, h.2)
-unread_before names more reads u.TooLong h = (h.0, stops_before more h.1)
-unread_before names more reads u.NoMemory h = (h.0, stops_before more h.1)
+pub unread_before : (sources more : List Source) (reads : List Read) (unread : Unread) → IsFirstUnread sources reads unread → IsFirstUnread (sources ++ more) reads unread
+unread_before sources more reads (u.Unreadable named) h = (h.0, stops_before more h.1, h.2)
+unread_before sources more reads u.TooLong h = (h.0, stops_before more h.1)
+unread_before sources more reads u.NoMemory h = (h.0, stops_before more h.1)
+
+-- the same of an operand that another equals
+pub first_as : (rest : List Source) (fault : StoreFault) (unread : Unread) (one other : Source) → one ≡ other → IsUnread one.word fault unread → IsFirstUnread (other ∷ rest) ((one.file, Err fault) ∷ []) unread
+first_as rest fault unread one other same h = subst (λ w. IsFirstUnread (w ∷ rest) ((one.file, Err fault) ∷ []) unread) same (unread_first one rest fault unread h)
+
+pub later_as : (text : List ℕ) (rest : List Source) (more : List Read) (unread : Unread) (one other : Source) → one ≡ other → IsFirstUnread rest more unread
+    → IsFirstUnread (other ∷ rest) ((one.file, Ok text) ∷ more) unread
+later_as text rest more unread one other same h = subst (λ w. IsFirstUnread (w ∷ rest) ((one.file, Ok text) ∷ more) unread) same (unread_later one text rest more unread h)
+
+-- two operands that others equal
+pub pair_unread : (reads : List Read) (unread : Unread) {one other first second : Source} → one ≡ first → other ≡ second → IsFirstUnread (one ∷ other ∷ []) reads unread
+    → IsFirstUnread (first ∷ second ∷ []) reads unread
+pair_unread reads unread {one} {other} {first} {second} p q h =
+    subst (λ w. IsFirstUnread (first ∷ w ∷ []) reads unread) q (subst (λ w. IsFirstUnread (w ∷ other ∷ []) reads unread) p h)
 
 -- what is so of names is so of those that operands keep
 pub named : (P : List ℕ → List ℕ → Type 0) {a b c d : List ℕ} → c ≡ a → d ≡ b → P a b → P c d

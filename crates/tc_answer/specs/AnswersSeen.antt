@@ -4,6 +4,7 @@ use Rattle.tc_answer.specs.Answers as a
 use Rattle.tc_answer.specs.Answers.{status_of, text_of}
 use Rattle.tc_answer.specs.Lines as l
 use Rattle.tc_answer.specs.Reading.{StopsAt, IsUnreadable}
+use Rattle.tc_answer.specs.Words as w
 use Rattle.tc_answer.specs.declared.answer.Answer.{Answer}
 use Rattle.tc_answer.specs.declared.answer.Rejection.{Rejection}
 use Rattle.tc_answer.specs.declared.answer.Rejection.TheVariants.{Form, Fit, Empty, Text, Append, Wrap, Root}
@@ -13,6 +14,7 @@ use Rattle.tc_answer.specs.declared.answer.Text as written
 use Rattle.tc_answer.specs.declared.answer.Text.TheVariants.{Fixed, Made}
 use Rattle.tc_answer.specs.declared.read.Operand.{Operand}
 use Rattle.tc_answer.specs.declared.read.Unread.{Unread}
+use Rattle.tc_answer.specs.declared.sources.Source.{Source}
 use Rattle.tc_answer.specs.declared.read.Unread.TheVariants as u
 use Rattle.tc_io.specs.Store.{Read}
 use Rattle.tc_io.specs.declared.StoreFault.{StoreFault}
@@ -42,18 +44,22 @@ pub record Says (said : Answer) (answer : a.Answer) : Type 0 where
   pub status : said.status ≡ status_of answer
   pub written : text said.text ≡ text_of answer
 
--- an operand that was read
-abbrev pub read_of : Operand → Read
-read_of operand = (operand.name.now, Ok operand.text.items)
+-- what names an operand
+abbrev pub source : Source → w.Source
+source s = record { word = s.word.now; file = s.file.now }
+
+-- the file of an operand, which was read
+abbrev pub read_of : w.Source → Operand → Read
+read_of named operand = (named.file, Ok operand.text.items)
 
 -- why the read of an operand isn't Ok
 abbrev pub IsUnread : List ℕ → StoreFault → Unread → Type 0
-IsUnread name fault (u.Unreadable named) = (named.now ≡ name) × IsUnreadable fault
-IsUnread name fault u.TooLong = fault ≡ TooLong
-IsUnread name fault u.NoMemory = fault ≡ NoMemory
+IsUnread word fault (u.Unreadable named) = (named.now ≡ word) × IsUnreadable fault
+IsUnread word fault u.TooLong = fault ≡ TooLong
+IsUnread word fault u.NoMemory = fault ≡ NoMemory
 
 -- the first of the operands of which the read isn't Ok, and why
-abbrev pub IsFirstUnread : List (List ℕ) → List Read → Unread → Type 0
-IsFirstUnread names reads (u.Unreadable named) = (fault : StoreFault) × StopsAt names reads named.now fault × IsUnreadable fault
-IsFirstUnread names reads u.TooLong = (name : List ℕ) × StopsAt names reads name TooLong
-IsFirstUnread names reads u.NoMemory = (name : List ℕ) × StopsAt names reads name NoMemory
+abbrev pub IsFirstUnread : List w.Source → List Read → Unread → Type 0
+IsFirstUnread sources reads (u.Unreadable named) = (fault : StoreFault) × StopsAt sources reads named.now fault × IsUnreadable fault
+IsFirstUnread sources reads u.TooLong = (word : List ℕ) × StopsAt sources reads word TooLong
+IsFirstUnread sources reads u.NoMemory = (word : List ℕ) × StopsAt sources reads word NoMemory

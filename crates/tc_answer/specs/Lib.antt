@@ -1,3 +1,4 @@
+pub mod SchemaWords
 pub mod Words
 pub mod WordsSeen
 pub mod Reading

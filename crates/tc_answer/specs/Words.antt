@@ -2,8 +2,9 @@
 use Rattle.std.specs.Prelude.{◌≡◌, ◌≢◌, ◌≤◌, ℕ, ◌+◌, ◌*◌, ◌-◌, List, [], ◌∷◌, Option, Some, None, Bool, false, not, ◌==◌, IsTrue, codes, slice_get}
 use Rattle.std.specs.Char.{is_ascii_digit}
 use Rattle.std.specs.List.{list_all}
+use Rattle.tc_answer.specs.SchemaWords.{file_of, IsSchemaWord}
 
--- a command, with its operands in the order of the words
+-- a command, with its operands in the order of the words; of those in a schema's place SchemaWords says what they name
 pub data Command : Type 0 where
   check : (limit : Option ℕ) (input output sheet : List ℕ) → Command
   prove : (limit : Option ℕ) (input output sheet : List ℕ) → Command
@@ -22,6 +23,11 @@ is_operand (c ∷ cs) = not (c == 45)
 
 abbrev pub AreOperands : List (List ℕ) → Type 0
 AreOperands words = IsTrue (list_all is_operand words)
+
+-- words in a schema's place
+abbrev pub AreSchemas : List (List ℕ) → Type 0
+AreSchemas [] = Unit {0}
+AreSchemas (word ∷ words) = IsSchemaWord word × AreSchemas words
 
 -- the number that decimal digits spell, behind digits that spell the value
 abbrev pub value_from : ℕ → List ℕ → ℕ
@@ -44,21 +50,21 @@ Limits words (Some limit) operands = (numeral : List ℕ) × (words ≡ codes "-
 -- the words give the command
 pub data Words : List (List ℕ) → Command → Type 0 where
   checks : {words rest : List (List ℕ)} {limit : Option ℕ} {input output sheet : List ℕ} → words ≡ codes "check" ∷ rest → Limits rest limit (input ∷ output ∷ sheet ∷ [])
-      → AreOperands (input ∷ output ∷ sheet ∷ []) → Words words (check limit input output sheet)
+      → AreOperands (input ∷ output ∷ sheet ∷ []) → AreSchemas (input ∷ output ∷ []) → Words words (check limit input output sheet)
   proves : {words rest : List (List ℕ)} {limit : Option ℕ} {input output sheet : List ℕ} → words ≡ codes "prove" ∷ rest → Limits rest limit (input ∷ output ∷ sheet ∷ [])
-      → AreOperands (input ∷ output ∷ sheet ∷ []) → Words words (prove limit input output sheet)
+      → AreOperands (input ∷ output ∷ sheet ∷ []) → AreSchemas (input ∷ output ∷ []) → Words words (prove limit input output sheet)
   verifies : {words : List (List ℕ)} {input output sheet certificate : List ℕ} → words ≡ codes "verify" ∷ input ∷ output ∷ sheet ∷ certificate ∷ []
-      → AreOperands (input ∷ output ∷ sheet ∷ certificate ∷ []) → Words words (verify input output sheet certificate)
+      → AreOperands (input ∷ output ∷ sheet ∷ certificate ∷ []) → AreSchemas (input ∷ output ∷ []) → Words words (verify input output sheet certificate)
   runs : {words : List (List ℕ)} {sheet document : List ℕ} → words ≡ codes "run" ∷ sheet ∷ document ∷ []
       → AreOperands (sheet ∷ document ∷ []) → Words words (run sheet document)
   validates : {words : List (List ℕ)} {schema document : List ℕ} → words ≡ codes "valid" ∷ schema ∷ document ∷ []
-      → AreOperands (schema ∷ document ∷ []) → Words words (valid schema document)
+      → AreOperands (schema ∷ document ∷ []) → AreSchemas (schema ∷ []) → Words words (valid schema document)
   shows : {words : List (List ℕ)} {numeral : List ℕ} {size : ℕ} → words ≡ codes "demo" ∷ numeral ∷ [] → IsNumeral 40 numeral size → Words words (demo size)
   upgrades : {words : List (List ℕ)} {certificate : List ℕ} → words ≡ codes "upgrade" ∷ certificate ∷ [] → AreOperands (certificate ∷ []) → Words words (upgrade certificate)
   includes : {words : List (List ℕ)} {first second : List ℕ} → words ≡ codes "include" ∷ first ∷ second ∷ []
-      → AreOperands (first ∷ second ∷ []) → Words words (include first second)
+      → AreOperands (first ∷ second ∷ []) → AreSchemas (first ∷ second ∷ []) → Words words (include first second)
   compares : {words : List (List ℕ)} {first second : List ℕ} → words ≡ codes "same" ∷ first ∷ second ∷ []
-      → AreOperands (first ∷ second ∷ []) → Words words (same first second)
+      → AreOperands (first ∷ second ∷ []) → AreSchemas (first ∷ second ∷ []) → Words words (same first second)
 
 -- no command has these words
 abbrev pub IsNoCommand : List (List ℕ) → Type 0
@@ -80,14 +86,26 @@ name_of (upgrade certificate) = codes "upgrade"
 name_of (include first second) = codes "include"
 name_of (same first second) = codes "same"
 
--- the names of the files that a command reads, in order
-abbrev pub operands_of : Command → List (List ℕ)
-operands_of (check limit input output sheet) = input ∷ output ∷ sheet ∷ []
-operands_of (prove limit input output sheet) = input ∷ output ∷ sheet ∷ []
-operands_of (verify input output sheet certificate) = input ∷ output ∷ sheet ∷ certificate ∷ []
-operands_of (run sheet document) = sheet ∷ document ∷ []
-operands_of (valid schema document) = schema ∷ document ∷ []
+-- a file that a command reads, and the word that names it
+pub record Source : Type 0 where
+  pub word : List ℕ
+  pub file : List ℕ
+
+-- by a word in a schema's place, and by a word elsewhere, which is the name of its file
+abbrev pub schema : List ℕ → Source
+schema word = record { word = word; file = file_of word }
+
+abbrev pub plain : List ℕ → Source
+plain word = record { word = word; file = word }
+
+-- the files that a command reads, in order
+abbrev pub operands_of : Command → List Source
+operands_of (check limit input output sheet) = schema input ∷ schema output ∷ plain sheet ∷ []
+operands_of (prove limit input output sheet) = schema input ∷ schema output ∷ plain sheet ∷ []
+operands_of (verify input output sheet certificate) = schema input ∷ schema output ∷ plain sheet ∷ plain certificate ∷ []
+operands_of (run sheet document) = plain sheet ∷ plain document ∷ []
+operands_of (valid first document) = schema first ∷ plain document ∷ []
 operands_of (demo size) = []
-operands_of (upgrade certificate) = certificate ∷ []
-operands_of (include first second) = first ∷ second ∷ []
-operands_of (same first second) = first ∷ second ∷ []
+operands_of (upgrade certificate) = plain certificate ∷ []
+operands_of (include first second) = schema first ∷ schema second ∷ []
+operands_of (same first second) = schema first ∷ schema second ∷ []

@@ -1,8 +1,10 @@
 // The commands, and how the words of a command line give them.
 ghost use Rattle.std.specs.Prelude.{◌≡◌, ◌≤◌, ◌↔◌, ℕ, List, [], ◌∷◌, Option, length, IsTrue, MatchOption};
 ghost use Rattle.std.specs.List.{list_all};
-ghost use Rattle.tc_answer.specs.Words.{Limits, IsNumeral, Words, AreOperands, IsNoCommand, is_operand};
+ghost use Rattle.tc_answer.specs.Words.{Limits, IsNumeral, Words, AreOperands, AreSchemas, IsNoCommand, is_operand};
 ghost use Rattle.tc_answer.specs.WordsSeen.{texts, command};
+
+use crate::sources::is_schema_word;
 
 /// The operands of a check: the names of two schemas and a stylesheet.
 #[derive(Clone, Copy)]
@@ -64,17 +66,17 @@ pub fn read_words(words: &[String]) -> Option<Command<'_>>
             Some(Command::Run(sheet, document))
         }
         "valid" => {
-            let (schema, document) = read_pair(rest)?;
+            let (schema, document) = read_validation(rest)?;
             Some(Command::Valid(schema, document))
         }
         "demo" => Some(Command::Demo(read_size(rest)?)),
         "upgrade" => Some(Command::Upgrade(read_one(rest)?)),
         "include" => {
-            let (first, second) = read_pair(rest)?;
+            let (first, second) = read_schemas(rest)?;
             Some(Command::Include(first, second))
         }
         "same" => {
-            let (first, second) = read_pair(rest)?;
+            let (first, second) = read_schemas(rest)?;
             Some(Command::Same(first, second))
         }
         _ => None,
@@ -84,9 +86,9 @@ pub fn read_words(words: &[String]) -> Option<Command<'_>>
 /// The limit of a check, and its operands.
 fn read_limited(words: &[String]) -> Option<(Option<u32>, Triple<'_>)>
     ensures { MatchOption result
-        ((limit : Option ℕ) (a b c : List ℕ) → Limits (texts words.now) limit (a ∷ b ∷ c ∷ []) → AreOperands (a ∷ b ∷ c ∷ []) → ⊥)
+        ((limit : Option ℕ) (a b c : List ℕ) → Limits (texts words.now) limit (a ∷ b ∷ c ∷ []) → AreOperands (a ∷ b ∷ c ∷ []) → AreSchemas (a ∷ b ∷ []) → ⊥)
         (λ read. Limits (texts words.now) read.0 (read.1.input.now ∷ read.1.output.now ∷ read.1.sheet.now ∷ [])
-        × AreOperands (read.1.input.now ∷ read.1.output.now ∷ read.1.sheet.now ∷ [])) }
+        × AreOperands (read.1.input.now ∷ read.1.output.now ∷ read.1.sheet.now ∷ []) × AreSchemas (read.1.input.now ∷ read.1.output.now ∷ [])) }
 {
     let (limit, operands) = read_limit(words)?;
     Some((limit, read_triple(operands)?))
@@ -123,34 +125,38 @@ fn read_limit(words: &[String]) -> Option<(Option<u32>, &[String])>
     Some((Some(limit), operands))
 }
 
-/// Three operands.
+/// Three operands, the first two schemas.
 fn read_triple(words: &[String]) -> Option<Triple<'_>>
     ensures { MatchOption result
-        ((a b c : List ℕ) → texts words.now ≡ a ∷ b ∷ c ∷ [] → AreOperands (texts words.now) → ⊥)
-        (λ t. (texts words.now ≡ t.input.now ∷ t.output.now ∷ t.sheet.now ∷ []) × AreOperands (texts words.now)) }
+        ((a b c : List ℕ) → texts words.now ≡ a ∷ b ∷ c ∷ [] → AreOperands (texts words.now) → AreSchemas (a ∷ b ∷ []) → ⊥)
+        (λ t. (texts words.now ≡ t.input.now ∷ t.output.now ∷ t.sheet.now ∷ []) × AreOperands (texts words.now)
+        × AreSchemas (t.input.now ∷ t.output.now ∷ [])) }
 {
     if !are_operands(words, 3) {
         return None;
     }
+    let (input, output) = schemas(words[0].as_str(), words[1].as_str())?;
     Some(Triple {
-        input: words[0].as_str(),
-        output: words[1].as_str(),
+        input,
+        output,
         sheet: words[2].as_str(),
     })
 }
 
-/// Three operands, and then the name of a certificate.
+/// Three operands, the first two schemas, and then the name of a certificate.
 fn read_verified(words: &[String]) -> Option<(Triple<'_>, &str)>
     ensures { MatchOption result
-        ((a b c d : List ℕ) → texts words.now ≡ a ∷ b ∷ c ∷ d ∷ [] → AreOperands (texts words.now) → ⊥)
-        (λ p. (texts words.now ≡ p.0.input.now ∷ p.0.output.now ∷ p.0.sheet.now ∷ p.1.now ∷ []) × AreOperands (texts words.now)) }
+        ((a b c d : List ℕ) → texts words.now ≡ a ∷ b ∷ c ∷ d ∷ [] → AreOperands (texts words.now) → AreSchemas (a ∷ b ∷ []) → ⊥)
+        (λ p. (texts words.now ≡ p.0.input.now ∷ p.0.output.now ∷ p.0.sheet.now ∷ p.1.now ∷ []) × AreOperands (texts words.now)
+        × AreSchemas (p.0.input.now ∷ p.0.output.now ∷ [])) }
 {
     if !are_operands(words, 4) {
         return None;
     }
+    let (input, output) = schemas(words[0].as_str(), words[1].as_str())?;
     let triple = Triple {
-        input: words[0].as_str(),
-        output: words[1].as_str(),
+        input,
+        output,
         sheet: words[2].as_str(),
     };
     Some((triple, words[3].as_str()))
@@ -178,6 +184,41 @@ fn read_pair(words: &[String]) -> Option<(&str, &str)>
         return None;
     }
     Some((words[0].as_str(), words[1].as_str()))
+}
+
+/// A schema, and then another operand.
+fn read_validation(words: &[String]) -> Option<(&str, &str)>
+    ensures { MatchOption result
+        ((a b : List ℕ) → texts words.now ≡ a ∷ b ∷ [] → AreOperands (texts words.now) → AreSchemas (a ∷ []) → ⊥)
+        (λ p. (texts words.now ≡ p.0.now ∷ p.1.now ∷ []) × AreOperands (texts words.now) × AreSchemas (p.0.now ∷ [])) }
+{
+    let (schema, document) = read_pair(words)?;
+    if !is_schema_word(schema) {
+        return None;
+    }
+    Some((schema, document))
+}
+
+/// Two schemas.
+fn read_schemas(words: &[String]) -> Option<(&str, &str)>
+    ensures { MatchOption result
+        ((a b : List ℕ) → texts words.now ≡ a ∷ b ∷ [] → AreOperands (texts words.now) → AreSchemas (a ∷ b ∷ []) → ⊥)
+        (λ p. (texts words.now ≡ p.0.now ∷ p.1.now ∷ []) × AreOperands (texts words.now) × AreSchemas (p.0.now ∷ p.1.now ∷ [])) }
+{
+    let (first, second) = read_pair(words)?;
+    schemas(first, second)
+}
+
+/// Two words, where both may stand in a schema's place.
+fn schemas<'w>(first: &'w str, second: &'w str) -> Option<(&'w str, &'w str)>
+    ensures { MatchOption result (AreSchemas (first.now ∷ second.now ∷ []) → ⊥)
+        (λ p. (p.0.now ≡ first.now) × (p.1.now ≡ second.now) × AreSchemas (first.now ∷ second.now ∷ [])) }
+{
+    if is_schema_word(first) && is_schema_word(second) {
+        Some((first, second))
+    } else {
+        None
+    }
 }
 
 /// Whether the words are so many operands.

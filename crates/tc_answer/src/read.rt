@@ -3,13 +3,15 @@ ghost use Rattle.std.specs.Prelude.{◌≡◌, ◌≤◌, ◌∷◌, [], List, I
 ghost use Rattle.tc_io.specs.Reads.{Happened};
 ghost use Rattle.tc_io.specs.Store.{Read};
 ghost use Rattle.tc_io.specs.declared.StoreFault.{StoreFault};
-ghost use Rattle.tc_answer.specs.AnswersSeen.{IsUnread, IsFirstUnread, read_of};
+ghost use Rattle.tc_answer.specs.AnswersSeen.{IsUnread, IsFirstUnread, read_of, source};
+ghost use Rattle.tc_answer.specs.Words.{plain, schema};
 
 use crate::command::Triple;
+use crate::sources::Source;
 use std::alloc::Global;
 use tc_io::{Store, StoreFault};
 
-/// An operand that was read: the name of its file, and its text.
+/// An operand that was read: the word that names it, and its text.
 #[derive(Drop)]
 pub struct Operand<'w> {
     pub name: &'w str,
@@ -19,7 +21,7 @@ pub struct Operand<'w> {
 /// Why an operand was not read.
 #[derive(Clone, Copy)]
 pub enum Unread<'w> {
-    /// No file of this name can be read.
+    /// The file that this word names cannot be read.
     Unreadable(&'w str),
     /// A file has more bytes than a file may have.
     TooLong,
@@ -47,13 +49,14 @@ pub fn read_triple<'w, S: Store>(
     ensures output { IfOk result (λ read. read.output.name.now ≡ triple.entry.output.now) }
     ensures sheet { IfOk result (λ read. read.sheet.name.now ≡ triple.entry.sheet.now) }
     ensures ok { IfOk result (λ read. Happened S.read_gives S.holds S.faults store.old store.new
-        (read_of read.input ∷ read_of read.output ∷ read_of read.sheet ∷ [])) }
+        (read_of (schema triple.entry.input.now) read.input ∷ read_of (schema triple.entry.output.now) read.output
+        ∷ read_of (plain triple.entry.sheet.now) read.sheet ∷ [])) }
     ensures err { IfErr result (λ unread. (reads : List Read) × Happened S.read_gives S.holds S.faults store.old store.new reads
-        × IsFirstUnread (triple.entry.input.now ∷ triple.entry.output.now ∷ triple.entry.sheet.now ∷ []) reads unread) }
+        × IsFirstUnread (schema triple.entry.input.now ∷ schema triple.entry.output.now ∷ plain triple.entry.sheet.now ∷ []) reads unread) }
 {
-    let input = read_operand(alloc, triple.input, store)?;
-    let output = read_operand(alloc, triple.output, store)?;
-    let sheet = read_operand(alloc, triple.sheet, store)?;
+    let input = read_operand(alloc, Source::schema(triple.input), store)?;
+    let output = read_operand(alloc, Source::schema(triple.output), store)?;
+    let sheet = read_operand(alloc, Source::plain(triple.sheet), store)?;
     Ok(Operands {
         input,
         output,
@@ -75,29 +78,31 @@ pub fn read_verified<'w, S: Store>(
     ensures sheet { IfOk result (λ read. read.0.sheet.name.now ≡ triple.entry.sheet.now) }
     ensures certificate { IfOk result (λ read. read.1.name.now ≡ certificate.now) }
     ensures ok { IfOk result (λ read. Happened S.read_gives S.holds S.faults store.old store.new
-        (read_of read.0.input ∷ read_of read.0.output ∷ read_of read.0.sheet ∷ read_of read.1 ∷ [])) }
+        (read_of (schema triple.entry.input.now) read.0.input ∷ read_of (schema triple.entry.output.now) read.0.output
+        ∷ read_of (plain triple.entry.sheet.now) read.0.sheet ∷ read_of (plain certificate.now) read.1 ∷ [])) }
     ensures err { IfErr result (λ unread. (reads : List Read) × Happened S.read_gives S.holds S.faults store.old store.new reads
-        × IsFirstUnread (triple.entry.input.now ∷ triple.entry.output.now ∷ triple.entry.sheet.now ∷ certificate.now ∷ []) reads unread) }
+        × IsFirstUnread (schema triple.entry.input.now ∷ schema triple.entry.output.now ∷ plain triple.entry.sheet.now ∷ plain certificate.now ∷ []) reads unread) }
 {
     let operands = read_triple(alloc, triple, store)?;
-    let certificate = read_operand(alloc, certificate, store)?;
+    let certificate = read_operand(alloc, Source::plain(certificate), store)?;
     Ok((operands, certificate))
 }
 
 /// Reads two operands, in order.
 pub fn read_pair<'w, S: Store>(
     alloc: Global,
-    first: &'w str,
-    second: &'w str,
+    first: Source<'w>,
+    second: Source<'w>,
     store: &mut S,
 ) -> Result<(Operand<'w>, Operand<'w>), Unread<'w>>
     ensures same { S.holds store.new ≡ S.holds store.old }
     ensures count { S.faults store.old ≤ S.faults store.new }
-    ensures first { IfOk result (λ read. read.0.name.now ≡ first.now) }
-    ensures second { IfOk result (λ read. read.1.name.now ≡ second.now) }
-    ensures ok { IfOk result (λ read. Happened S.read_gives S.holds S.faults store.old store.new (read_of read.0 ∷ read_of read.1 ∷ [])) }
+    ensures first { IfOk result (λ read. read.0.name.now ≡ first.entry.word.now) }
+    ensures second { IfOk result (λ read. read.1.name.now ≡ second.entry.word.now) }
+    ensures ok { IfOk result (λ read. Happened S.read_gives S.holds S.faults store.old store.new
+        (read_of (source first.entry) read.0 ∷ read_of (source second.entry) read.1 ∷ [])) }
     ensures err { IfErr result (λ unread. (reads : List Read) × Happened S.read_gives S.holds S.faults store.old store.new reads
-        × IsFirstUnread (first.now ∷ second.now ∷ []) reads unread) }
+        × IsFirstUnread (source first.entry ∷ source second.entry ∷ []) reads unread) }
 {
     let one = read_operand(alloc, first, store)?;
     let other = read_operand(alloc, second, store)?;
@@ -107,28 +112,29 @@ pub fn read_pair<'w, S: Store>(
 /// Reads one operand.
 pub fn read_operand<'w, S: Store>(
     alloc: Global,
-    name: &'w str,
+    named: Source<'w>,
     store: &mut S,
 ) -> Result<Operand<'w>, Unread<'w>>
     ensures same { S.holds store.new ≡ S.holds store.old }
     ensures count { S.faults store.old ≤ S.faults store.new }
-    ensures named { IfOk result (λ operand. operand.name.now ≡ name.now) }
-    ensures ok { IfOk result (λ operand. Happened S.read_gives S.holds S.faults store.old store.new ((name.now, Ok operand.text.items) ∷ [])) }
-    ensures err { IfErr result (λ unread. (fault : StoreFault) × Happened S.read_gives S.holds S.faults store.old store.new ((name.now, Err fault) ∷ [])
-        × IsUnread name.now fault unread) }
+    ensures named { IfOk result (λ operand. operand.name.now ≡ named.entry.word.now) }
+    ensures ok { IfOk result (λ operand. Happened S.read_gives S.holds S.faults store.old store.new (read_of (source named.entry) operand ∷ [])) }
+    ensures err { IfErr result (λ unread. (fault : StoreFault) × Happened S.read_gives S.holds S.faults store.old store.new ((named.entry.file.now, Err fault) ∷ [])
+        × IsUnread named.entry.word.now fault unread) }
 {
-    match store.read(alloc, name) {
+    let name = named.word;
+    match store.read(alloc, named.file) {
         Ok(text) => Ok(Operand { name, text }),
         Err(fault) => Err(why_unread(name, fault)),
     }
 }
 
-/// Why the operand of this name was not read, by the fault of its read.
-fn why_unread(name: &str, fault: StoreFault) -> Unread<'_>
-    ensures { IsUnread name.now fault result }
+/// Why the operand of this word was not read, by the fault of its read.
+fn why_unread(word: &str, fault: StoreFault) -> Unread<'_>
+    ensures { IsUnread word.now fault result }
 {
     match fault {
-        StoreFault::Missing | StoreFault::Failed => Unread::Unreadable(name),
+        StoreFault::Missing | StoreFault::Failed => Unread::Unreadable(word),
         StoreFault::TooLong => Unread::TooLong,
         StoreFault::NoMemory => Unread::NoMemory,
     }

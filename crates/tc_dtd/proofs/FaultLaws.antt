@@ -258,7 +258,7 @@ all_left : (P : List ℕ → Type 0) (xs ys : List Placed) (n : Placed) → AllB
 all_left P [] ys n a = a.0
 all_left P (x ∷ xs) ys n a = all_left P xs ys n a.1
 
-not_once : (xs ys : List Placed) (n : Placed) → IsDistinct bytes_eq (names_of (xs ++ n ∷ ys)) → Contains (names_of xs) n.declaration.name → ⊥
+pub not_once : (xs ys : List Placed) (n : Placed) → IsDistinct bytes_eq (names_of (xs ++ n ∷ ys)) → Contains (names_of xs) n.declaration.name → ⊥
 unfolding IsDistinct
 not_once [] ys n u i = in_none n.declaration.name i
 not_once (x ∷ xs) ys n u i = by (λ k. not_once xs ys n u.1 k) (in_cons x.declaration.name (names_of xs) n.declaration.name i)

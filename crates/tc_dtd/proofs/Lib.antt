@@ -9,6 +9,7 @@ pub mod ReaderLaws
 pub mod ContentsLaws
 pub mod MarkupLaws
 pub mod FaultLaws
+pub mod OneFault
 pub mod NumberLaws
 pub mod ReachLaws
 pub mod SizeLaws

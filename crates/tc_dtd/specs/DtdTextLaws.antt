@@ -1,7 +1,9 @@
 -- Laws of texts of document type definitions.
-use Rattle.std.specs.Prelude.{◌≡◌, ℕ, List}
+use Rattle.std.specs.Prelude.{◌≡◌, ◌⊎◌, ℕ, List}
+use Rattle.tc_model.specs.Grammars.{Grammar}
 use Rattle.tc_model.specs.XmlTextRefusals.{Cause}
 use Rattle.tc_dtd.specs.Declarations.{Declaration, AreDeclarations}
+use Rattle.tc_dtd.specs.DtdGrammar.{IsGrammarOfDtd}
 use Rattle.tc_dtd.specs.DtdText.{DtdText, DtdTextRefuses}
 use Rattle.tc_dtd.specs.Faults.{IsFaultOf}
 use Rattle.tc_dtd.specs.declared.faults.DtdFault.{DtdFault}
@@ -30,3 +32,18 @@ IsRefusal NoMemory = ⊥
 -- a text that is refused declares nothing
 abbrev pub HasNoDtdWhereRefused : Type 0
 HasNoDtdWhereRefused = (bytes : List ℕ) (fault : DtdFault) (ds : List Declaration) → IsRefusal fault → IsFaultOf bytes fault → DtdText bytes ds → ⊥
+
+abbrev pub IsMalformed : DtdFault → Type 0
+IsMalformed (Malformed place) = Unit {0}
+IsMalformed (Unsupported place why) = ⊥
+IsMalformed (TooDeep place) = ⊥
+IsMalformed (Twice place) = ⊥
+IsMalformed NoMemory = ⊥
+
+-- a text is refused for one fault, but that the place of malformed is left open
+abbrev pub HasOneFault : Type 0
+HasOneFault = (bytes : List ℕ) (one other : DtdFault) → IsRefusal one → IsRefusal other → IsFaultOf bytes one → IsFaultOf bytes other → (one ≡ other) ⊎ (IsMalformed one × IsMalformed other)
+
+-- declarations have one grammar at most with this element as the document's
+abbrev pub HasOneGrammar : Type 0
+HasOneGrammar = (ds : List Declaration) (root : List ℕ) (g h : Grammar) → IsGrammarOfDtd ds root g → IsGrammarOfDtd ds root h → g ≡ h

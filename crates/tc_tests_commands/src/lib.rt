@@ -10,6 +10,8 @@ mod checks;
 #[cfg(test)]
 mod demonstrations;
 #[cfg(test)]
+mod dtd;
+#[cfg(test)]
 mod inclusion;
 #[cfg(test)]
 mod runs;

@@ -2,6 +2,7 @@
 use Rattle.std.proofs.Common.{◌≡◌, ◌≤◌, ◌<◌, ◌⊎◌, ◌∷◌, [], ◌∙◌, inl, inr, refl, sym, subst, ap, ℕ, List, Option, Some, Ok, length, arith}
 use Rattle.tc_answer.specs.Answers.{Answer, certificate, accepted, file_limit, cannot_read, status_of, text_of}
 use Rattle.tc_answer.specs.Lines.{Rejection, form_fails}
+use Rattle.tc_answer.specs.SchemaWords.{file_of}
 use Rattle.tc_answer.specs.Words as w
 use Rattle.tc_answer.specs.Words.{Words, operands_of}
 use Rattle.tc_answer.specs.Reading.{AreRead}
@@ -148,7 +149,7 @@ module _ (i o : Grammar) (s : Sheet) (bytes : List ℕ) (status : Status) (old n
   }
 
 verified_held : {words : List (List ℕ)} {files : Files} {i o : Grammar} {s : Sheet} {bytes : List ℕ} (c : VerifiesFiles words files i o s bytes)
-    → AreHeld files (c.input ∷ c.output ∷ c.sheet ∷ c.certificate ∷ []) (c.held.input_text ∷ c.held.output_text ∷ c.held.sheet_text ∷ bytes ∷ [])
+    → AreHeld files (w.schema c.input ∷ w.schema c.output ∷ w.plain c.sheet ∷ w.plain c.certificate ∷ []) (c.held.input_text ∷ c.held.output_text ∷ c.held.sheet_text ∷ bytes ∷ [])
 verified_held c = holds c.held.input_held (holds c.held.output_held (holds c.held.sheet_held (holds c.certificate_held no_file)))
 
 pub certificate_of_files : {words : List (List ℕ)} {rose : Type 0} {reads : List Read} (files : Files) (i o : Grammar) (s : Sheet) (bytes : List ℕ) (status : Status) (old new : Option (List ℕ)) (answer : Answer)
@@ -238,10 +239,10 @@ proved_short {most} (all_three {i = i} {o = o} {s = s} k l m f) = certified_shor
 pub proved_is_accepted : ProvedIsAccepted
 proved_is_accepted files limit input output sheet name bytes words others given v held (reads, true, right) = of_answer right
   where
-    of_texts : (texts : List (List ℕ)) → AreRead (input ∷ output ∷ sheet ∷ []) texts reads → IsAnswerTo (w.prove limit input output sheet) texts (certificate bytes) → IsAnswerOn others files accepted
+    of_texts : (texts : List (List ℕ)) → AreRead (w.schema input ∷ w.schema output ∷ w.plain sheet ∷ []) texts reads → IsAnswerTo (w.prove limit input output sheet) texts (certificate bytes) → IsAnswerOn others files accepted
     of_texts texts read (proved {input_text = b} {output_text = c} {sheet_text = d} x) =
-        let three = subst (AreTrue (Some files) ⊥) (reads_are (input ∷ output ∷ sheet ∷ []) (b ∷ c ∷ d ∷ []) reads read) true in (
-          (input, Ok b) ∷ (output, Ok c) ∷ (sheet, Ok d) ∷ (name, Ok bytes) ∷ [],
+        let three = subst (AreTrue (Some files) ⊥) (reads_are (w.schema input ∷ w.schema output ∷ w.plain sheet ∷ []) (b ∷ c ∷ d ∷ []) reads read) true in (
+          (file_of input, Ok b) ∷ (file_of output, Ok c) ∷ (sheet, Ok d) ∷ (name, Ok bytes) ∷ [],
           (three.0, (three.1.0, (three.1.1.0, (held_true files name bytes held (proved_short x), tt)))),
           decided v (refl, (refl, (refl, (refl, refl)))) (verified (proved_short x) (proved_accepted x)),
         )

@@ -8,7 +8,6 @@ use Rattle.tc_cert.proofs.Fronts.{no_fault}
 use Rattle.tc_close.proofs.LeastHolds.{least_holds}
 use Rattle.tc_close.specs.Triples.{IsTripleOf}
 use Rattle.tc_model.specs.Grammars.{Grammar}
-use Rattle.tc_model.specs.RncText.{RncText}
 use Rattle.tc_model.specs.Safety.{IsSafe}
 use Rattle.tc_model.specs.Sheets.{Sheet}
 use Rattle.tc_model.specs.declared.lists.CertData.{CertData}
@@ -16,6 +15,7 @@ use Rattle.tc_read.specs.Sheets.{IsSheetOf}
 use Rattle.tc_rows.proofs.Derived.{certificate_is_safe}
 use Rattle.tc_top.specs.Certifying.{IsCertificateOf, IsLeastOf, Certifies, as_checked, certifies, overlong, Accepts, not_compiled, accepts, no_text, no_certificate, OfTexts, refuses_input, refuses_output, refuses_sheet, all_three}
 use Rattle.tc_top.specs.Checking.{IsCompiled}
+use Rattle.tc_top.specs.SchemaTexts.{SchemaText}
 use Rattle.tc_top.proofs.Checked.{of_triple, to_triple}
 use Rattle.tc_top.proofs.OneCertifying.{decided_of, accepted_rejected}
 use Rattle.tc_top.proofs.OneCheck.{over_compile}
@@ -57,5 +57,5 @@ module _ {i o : Grammar} {s : Sheet} where
 pub proved_accepted : {most : ℕ} {input output sheet b c d bytes : List ℕ} → OfTexts (λ i o s. Certifies i o s most) input output sheet b c d (certificate bytes) → OfTexts (λ i o s. Accepts i o s bytes) input output sheet b c d accepted
 proved_accepted (all_three k l m f) = all_three k l m (accepts_proved f)
 
-pub accepted_safe : {input output sheet b c d bytes : List ℕ} {i o : Grammar} {s : Sheet} → RncText b i → RncText c o → IsSheetOf d s → OfTexts (λ i o s. Accepts i o s bytes) input output sheet b c d accepted → IsSafe i o s
+pub accepted_safe : {input output sheet b c d bytes : List ℕ} {i o : Grammar} {s : Sheet} → SchemaText input b i → SchemaText output c o → IsSheetOf d s → OfTexts (λ i o s. Accepts i o s bytes) input output sheet b c d accepted → IsSafe i o s
 accepted_safe x y z f = safe_accepted (decided_of x y z f)

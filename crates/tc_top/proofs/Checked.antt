@@ -5,12 +5,10 @@ use Rattle.tc_beh.specs.declared.machine.Machine.{Machine}
 use Rattle.tc_close.specs.Decisions.{KeepsCounts, IsSafeWith, IsUnsafeBy, IsFarUnsafe}
 use Rattle.tc_close.specs.declared.decision.Counts.{Counts}
 use Rattle.tc_model.specs.Grammars.{Grammar}
-use Rattle.tc_model.specs.RncText.{RncText}
 use Rattle.tc_model.specs.Sheets.{Sheet}
 use Rattle.tc_model.specs.Symbols.{Mention}
 use Rattle.tc_model.specs.Trees.{Trees}
 use Rattle.tc_model.specs.Views as see
-use Rattle.tc_read.specs.Schemas.{IsSchemaOf}
 use Rattle.tc_read.specs.declared.schemas.Schema.{Schema}
 use Rattle.tc_read.specs.declared.schemas.Schema.TheVariants.{Small, TooLarge}
 use Rattle.tc_rows.specs.Triples as t
@@ -25,13 +23,14 @@ use Rattle.tc_answer.specs.Lines.{trees, hedges, outputs}
 use Rattle.tc_top.specs.Checking.{IsCompiled, HasFewRows, IsLeastCounter, IsLargeRun}
 use Rattle.tc_close.specs.Triples.{IsTripleOf}
 use Rattle.tc_top.specs.Compiled.{IsReadOf}
+use Rattle.tc_top.specs.SchemaTexts.{SchemaText, IsSchemaOfText}
 use Rattle.tc_answer.specs.declared.limits.TheConstants.{MOST_OUTPUTS}
 use Rattle.tc_close.proofs.Agreeing.{triples_agree}
 
 -- the grammar that a text spells is that of its schema
-pub read_of : (bytes : List ℕ) (x : Schema) → IsSchemaOf bytes x → (g : Grammar) × RncText bytes g × IsReadOf g x
-read_of bytes (Small g) h = (see.grammar g, h.0, (refl, h.1))
-read_of bytes (TooLarge kind number) h = (h.0, h.1, h.2)
+pub read_of : (word bytes : List ℕ) (x : Schema) → IsSchemaOfText word bytes x → (g : Grammar) × SchemaText word bytes g × IsReadOf g x
+read_of word bytes (Small g) h = (see.grammar g, h.0, (refl, h.1))
+read_of word bytes (TooLarge kind number) h = (h.0, h.1, h.2)
 
 -- a triple is that of its own schemas and stylesheet
 pub itself : (x : Triple) → IsTriple x → IsTripleOf x.input x.output (t.sheet x) x

@@ -17,8 +17,6 @@ use Rattle.tc_model.specs.StateCounts.{PassNone}
 use Rattle.tc_model.specs.States.{Side, input, output}
 use Rattle.tc_model.specs.Symbols.{Mention, symbols_of}
 use Rattle.tc_model.specs.Views as see
-use Rattle.tc_model.proofs.SimplifiesLawful.{lawful_grammar}
-use Rattle.tc_model.proofs.SimplifiesUnique.{lawful_start}
 use Rattle.tc_read.specs.declared.schemas.Schema.{Schema}
 use Rattle.tc_read.specs.declared.schemas.Schema.TheVariants.{Small, TooLarge}
 use Rattle.tc_rows.specs.Counts.{PassCalls}
@@ -36,6 +34,7 @@ use Rattle.tc_top.specs.declared.compile.CompileFault.TheVariants.{Passes, NoMem
 use Rattle.tc_top.proofs.Checked.{read_of}
 use Rattle.tc_close.proofs.Agreeing.{triples_agree}
 use Rattle.tc_top.proofs.OneValidity.{too_large}
+use Rattle.tc_top.proofs.SchemaTextLaws.{lawful_schema}
 
 -- a fault of one kind is a fault of another
 pub cause_on : {P Q : Limit → ℕ → Type 0} (e : CompileFault) → ((kind : Limit) (number : ℕ) → P kind number → Q kind number) → IsCauseBy P e → IsCauseBy Q e
@@ -121,14 +120,11 @@ ok_both (Err e) both p q = tt
 
 -- a schema that some text spells has a grammar
 pub some_grammar : (s : Schema) → IsSpelled s → (x : Grammar) × IsReadOf x s
-some_grammar s (bytes, h) = let found = read_of bytes s h in (found.0, found.2)
+some_grammar s (word, bytes, h) = let found = read_of word bytes s h in (found.0, found.2)
 
 -- a small one's is well-formed; one that is too large has no automaton, so that it need not be
 pub lawful : (x : Grammar) (s : Schema) → IsSpelled s → IsReadOf x s → IsWithinCounts x → IsGrammar x × IsStart x.start
-lawful x (Small g) (bytes, h) read w =
-    let grammar = lawful_grammar bytes (see.grammar g) h.0 in
-    let start = lawful_start h.0.0 (see.grammar g) h.0.2 in
-    subst (λ (y : Grammar). IsGrammar y × IsStart y.start) read.0 (grammar, start)
+lawful x (Small g) (word, bytes, h) read w = subst (λ (y : Grammar). IsGrammar y × IsStart y.start) read.0 (lawful_schema h.0)
 lawful x (TooLarge kind number) h read w = absurd (too_large read w)
 
 pub automata : (i o : Grammar) (s : Sheet) (input_schema output_schema : Schema) → IsSpelled input_schema → IsSpelled output_schema → IsReadOf i input_schema → IsReadOf o output_schema

@@ -8,7 +8,7 @@ use Rattle.tc_top.specs.Checking.{most_rows}
 use Rattle.tc_top.specs.Demo.{demo_schema, demo_sheet, input_name, output_name, sheet_name}
 use Rattle.tc_answer.specs.declared.limits.TheConstants.{MOST_ROWS}
 use Rattle.tc_top.specs.OneAnswer.{AreAlike, same_answer, IsOfFault}
-use Rattle.tc_answer.specs.Words.{Command, check, run, valid, demo, Words, IsNoCommand, operands_of}
+use Rattle.tc_answer.specs.Words.{Command, Source, check, run, valid, demo, Words, IsNoCommand, operands_of}
 use Rattle.tc_answer.specs.Reading.{StopsAt, at_first, past_first, IsUnreadable, AreRead}
 use Rattle.tc_answer.specs.Answers.{Answer, usage, cannot_read, file_limit}
 use Rattle.tc_top.specs.Answers.{IsAnswerTo, checked, proved, verified, ran, validated, shown, upgraded, compared_one_way, compared_both_ways, IsAnswer, no_command, not_read, over_long, decided}
@@ -131,7 +131,7 @@ pub read_all : (rose : Type 0) {words : List (List ℕ)} {answer : Answer} {read
 read_all rose {words} {answer} {reads} {command} files texts w held short t x =
     by (same_reads files rose names (well names texts) reads (all_follow names texts _ (well_read files names texts held)) (follows w x) (well_true files names texts held short) t)
   where
-    names : List (List ℕ)
+    names : List Source
     names = operands_of command
 
     by : (well names texts ≡ reads) ⊎ FailsIn rose names reads → IsOfFault rose answer ⊎ IsAnswerTo command texts answer

@@ -25,9 +25,10 @@ use Rattle.tc_answer.specs.declared.status.Status.TheVariants.{Yes, No, Limit}
 use Rattle.tc_top.specs.Limits.{IsRunWithin}
 use Rattle.tc_model.specs.RncText.{RncText}
 use Rattle.tc_read.specs.Sheets.{IsSheetOf}
+use Rattle.tc_top.specs.SchemaTexts.{SchemaText, compact}
 use Rattle.tc_top.specs.Demo.{demo_schema, demo_sheet, input_name, output_name, sheet_name}
 use Rattle.tc_answer.specs.declared.limits.TheConstants.{MOST_ROWS}
-use Rattle.tc_answer.specs.Words.{Words, check, run, valid, demo}
+use Rattle.tc_answer.specs.Words.{Words, check, run, valid, demo, schema, plain}
 use Rattle.tc_answer.proofs.ReadsOnce.{AreHeld, no_file, holds, AreShort, none_long, is_short}
 use Rattle.tc_top.proofs.Exact.{Agrees, decided_only, shown_reads, read_all, held_decided}
 use Rattle.tc_top.proofs.OneCheck.{not_both, over_compile, one_compile, near_far, finds_of}
@@ -198,7 +199,7 @@ runs_texts_of : {sheet document b c : List ℕ} {answer : Answer} → IsAnswerTo
 runs_texts_of (ran x) = x
 
 files_of : {words : List (List ℕ)} {files : Files} {limit : Option ℕ} {i o : Grammar} {s : Sheet} (c : ChecksFiles words files limit i o s)
-    → AreHeld files (c.input ∷ c.output ∷ c.sheet ∷ []) (c.input_text ∷ c.output_text ∷ c.sheet_text ∷ [])
+    → AreHeld files (schema c.input ∷ schema c.output ∷ plain c.sheet ∷ []) (c.input_text ∷ c.output_text ∷ c.sheet_text ∷ [])
 files_of c = holds c.input_held (holds c.output_held (holds c.sheet_held no_file))
 
 -- a call that tells of a file is neither yes nor no
@@ -256,10 +257,17 @@ pub safe_is_so : (rose : Type 0) {words : List (List ℕ)} {reads : List Read} (
     → ChecksFiles words files limit i o s → AreTrue (Some files) rose reads → IsAnswer words reads answer → status ≡ status_of answer → status ≡ Yes → IsSafe i o s
 safe_is_so rose files limit i o s status answer c true right is e = says_safe (found rose files limit i o s c true right (inl (sym is ∙ e))) (sym is ∙ e)
 
+-- the texts of a demonstration are those of schemas in the compact syntax
+input_text : (size : ℕ) (g : Grammar) → RncText (demo_schema size) g → SchemaText input_name (demo_schema size) g
+input_text size g spells = compact refl spells
+
+output_text : (size : ℕ) (g : Grammar) → RncText (demo_schema size) g → SchemaText output_name (demo_schema size) g
+output_text size g spells = compact refl spells
+
 -- what a demonstration finds
 demo_found : {words : List (List ℕ)} {reads : List Read} (size : ℕ) (g : Grammar) (s : Sheet) {answer : Answer} → Words words (demo size) → RncText (demo_schema size) g → IsSheetOf demo_sheet s
     → IsAnswer words reads answer → Finds MOST_ROWS g g s answer
-demo_found size g s w spells means right = finds_of spells spells means (demo_of (decided_only {texts = []} w (shown_reads w right) right))
+demo_found size g s w spells means right = finds_of (input_text size g spells) (output_text size g spells) means (demo_of (decided_only {texts = []} w (shown_reads w right) right))
 
 pub demo_is_safe : {words : List (List ℕ)} {reads : List Read} (size : ℕ) (g : Grammar) (s : Sheet) (status : Status) (answer : Answer) → Words words (demo size)
     → RncText (demo_schema size) g → IsSheetOf demo_sheet s → IsAnswer words reads answer → status ≡ status_of answer → status ≡ Yes → IsSafe g g s
@@ -280,7 +288,7 @@ pub demonstrated : {words : List (List ℕ)} {reads : List Read} (size : ℕ) (g
     → RncText (demo_schema size) g → IsSheetOf demo_sheet s → IsAnswer words reads answer → status ≡ status_of answer → Appended old new (text_of answer)
     → DecidesSafety status old new MOST_ROWS g g s
 demonstrated size g s status old new answer w spells means right is written =
-    decides MOST_ROWS g g s status old new is written (finds_of spells spells means (demo_of (decided_only {texts = []} w (shown_reads w right) right)))
+    decides MOST_ROWS g g s status old new is written (finds_of (input_text size g spells) (output_text size g spells) means (demo_of (decided_only {texts = []} w (shown_reads w right) right)))
 
 settled : {g : Grammar} {d : Trees} {answer : Answer} (status : Status) (old new : Option (List ℕ)) → status ≡ status_of answer → Appended old new (text_of answer) → Settles g d answer
     → DecidesValidity status old new g d

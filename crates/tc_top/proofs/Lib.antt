@@ -2,6 +2,7 @@ pub mod FewRows
 pub mod Nothing
 pub mod DemoSizes
 pub mod OneRefusal
+pub mod SchemaTextLaws
 pub mod OneValidity
 pub mod OneRun
 pub mod Checked

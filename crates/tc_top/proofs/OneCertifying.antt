@@ -15,11 +15,9 @@ use Rattle.tc_close.proofs.OneCertificate.{one_certificate}
 use Rattle.tc_close.proofs.TooLong.{text_is_long}
 use Rattle.tc_close.proofs.Transport.{AreAlike as TriplesAlike}
 use Rattle.tc_model.specs.Grammars.{Grammar}
-use Rattle.tc_model.specs.RncText.{RncText}
 use Rattle.tc_model.specs.Safety.{IsSafe}
 use Rattle.tc_model.specs.Sheets.{Sheet}
 use Rattle.tc_model.specs.declared.lists.CertData.{CertData}
-use Rattle.tc_model.proofs.SimplifiesUnique.{one_rnc_text}
 use Rattle.tc_read.specs.Sheets.{IsSheetOf}
 use Rattle.tc_rows.specs.CertificateRows.{IsCertificateData}
 use Rattle.tc_rows.specs.Triples.{Triple}
@@ -30,9 +28,10 @@ use Rattle.tc_top.specs.Certifying.{told, told_by, IsCertificateOf, IsLeastOf, I
 use Rattle.tc_top.specs.Checking.{IsCompiled, HasFewRows}
 use Rattle.tc_top.specs.OneAnswer.{AreAlike, same_answer}
 use Rattle.tc_top.proofs.OneCheck.{over_compile, one_compile, finds_one, not_both}
-use Rattle.tc_top.proofs.OneRefusal.{schema_refusals, sheet_refusals}
+use Rattle.tc_top.proofs.OneRefusal.{sheet_refusals}
 use Rattle.tc_top.proofs.OneRun.{no_sheet, one_sheet_of}
-use Rattle.tc_top.proofs.OneValidity.{no_schema}
+use Rattle.tc_top.specs.SchemaTexts.{SchemaText}
+use Rattle.tc_top.proofs.SchemaTextLaws.{no_schema, one_schema, text_refusals}
 use Rattle.tc_top.proofs.RejectedAlike.{rejected_alike, one_rejected}
 
 same_as : {one other : Answer} → one ≡ other → AreAlike one other
@@ -102,22 +101,22 @@ decided_same Decided {i} {j} {o} {p} {s} {t} {answer} a b c x =
     subst (λ (w : Sheet). Decided j p w answer) c (subst (λ (w : Grammar). Decided j w s answer) b (subst (λ (w : Grammar). Decided w o s answer) a x))
 
 -- what is decided, the texts being read
-pub decided_of : {Decided : Grammar → Grammar → Sheet → Answer → Type 0} {input output sheet b c d : List ℕ} {i o : Grammar} {s : Sheet} {answer : Answer} → RncText b i → RncText c o → IsSheetOf d s
+pub decided_of : {Decided : Grammar → Grammar → Sheet → Answer → Type 0} {input output sheet b c d : List ℕ} {i o : Grammar} {s : Sheet} {answer : Answer} → SchemaText input b i → SchemaText output c o → IsSheetOf d s
     → OfTexts Decided input output sheet b c d answer → Decided i o s answer
 decided_of x y z (refuses_input {reason = w} {place = p} r) = absurd (no_schema w p r x)
 decided_of x y z (refuses_output {reason = w} {place = p} g r) = absurd (no_schema w p r y)
 decided_of x y z (refuses_sheet {reason = w} {place = p} g h r) = absurd (no_sheet w p r z)
-decided_of {Decided = Decided} {b = b} {c = c} {i = i} {o = o} x y z (all_three {i = j} {o = p} k l m f) = decided_same Decided (one_rnc_text b j i k x) (one_rnc_text c p o l y) (one_sheet_of m z) f
+decided_of {Decided = Decided} x y z (all_three k l m f) = decided_same Decided (one_schema k x) (one_schema l y) (one_sheet_of m z) f
 
 -- and that is one answer
 pub texts_one : (Decided : Grammar → Grammar → Sheet → Answer → Type 0) → ((i o : Grammar) (s : Sheet) (one other : Answer) → Decided i o s one → Decided i o s other → AreAlike one other)
     → {input output sheet b c d : List ℕ} {one other : Answer} → OfTexts Decided input output sheet b c d one → OfTexts Decided input output sheet b c d other → AreAlike one other
-texts_one Decided alike {input = n} {b = b} (refuses_input r) (refuses_input q) = schema_refusals b n r q
+texts_one Decided alike {input = n} (refuses_input r) (refuses_input q) = text_refusals n r q
 texts_one Decided alike (refuses_input {reason = w} {place = p} r) (refuses_output g q) = absurd (no_schema w p r g)
 texts_one Decided alike (refuses_input {reason = w} {place = p} r) (refuses_sheet g h q) = absurd (no_schema w p r g)
 texts_one Decided alike (refuses_input {reason = w} {place = p} r) (all_three g h z f) = absurd (no_schema w p r g)
 texts_one Decided alike (refuses_output g r) (refuses_input {reason = w} {place = p} q) = absurd (no_schema w p q g)
-texts_one Decided alike {output = n} {c = c} (refuses_output g r) (refuses_output h q) = schema_refusals c n r q
+texts_one Decided alike {output = n} (refuses_output g r) (refuses_output h q) = text_refusals n r q
 texts_one Decided alike (refuses_output {reason = w} {place = p} g r) (refuses_sheet h k q) = absurd (no_schema w p r k)
 texts_one Decided alike (refuses_output {reason = w} {place = p} g r) (all_three h k z f) = absurd (no_schema w p r k)
 texts_one Decided alike (refuses_sheet g h r) (refuses_input {reason = w} {place = p} q) = absurd (no_schema w p q g)

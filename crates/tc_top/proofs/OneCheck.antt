@@ -2,12 +2,10 @@
 use Rattle.std.proofs.Common.{◌≡◌, subst, ℕ, List, arith}
 use Rattle.tc_base.specs.declared.Limit.{Limit}
 use Rattle.tc_model.specs.Grammars.{Grammar}
-use Rattle.tc_model.specs.RncText.{RncText}
 use Rattle.tc_model.specs.Safety.{IsSafe}
 use Rattle.tc_model.specs.Sheets.{Sheet}
 use Rattle.tc_model.specs.Trees.{Trees}
 use Rattle.tc_model.specs.Validity.{IsValidOutput}
-use Rattle.tc_model.proofs.SimplifiesUnique.{one_rnc_text}
 use Rattle.tc_read.specs.Sheets.{IsSheetOf}
 use Rattle.tc_rows.specs.Counts.{IsRowOfLiveTree, IsRowOfLiveHedge, IsOutput}
 use Rattle.tc_rows.proofs.Counting.{counts_tell}
@@ -15,12 +13,13 @@ use Rattle.tc_answer.specs.Answers.{Answer, safe, over_limit}
 use Rattle.tc_top.specs.Causes.{Finds, passes_compile, passes_rows, finds_safe, finds_unsafe, finds_large, finds_none_small, Checks, input_refused, output_refused, stylesheet_refused, all_read}
 use Rattle.tc_top.specs.Checking.{IsCompiled, PassesCompile, by_input, by_output, by_sheet, by_calls, by_entries, AreRowCounts, IsCounter, IsLeastCounter, HasLargeCounters}
 use Rattle.tc_top.specs.OneAnswer.{AreAlike, same_answer, counterexamples, large_counterexamples, large_or_not, not_large_or_large, row_limits}
-use Rattle.tc_top.proofs.OneRefusal.{schema_refusals, sheet_refusals}
+use Rattle.tc_top.specs.SchemaTexts.{SchemaText}
+use Rattle.tc_top.proofs.OneRefusal.{sheet_refusals}
+use Rattle.tc_top.proofs.SchemaTextLaws.{no_schema, one_schema, text_refusals}
 use Rattle.tc_top.proofs.OneRun as run
 use Rattle.tc_top.proofs.OneRun.{no_sheet, one_sheet_of, one_result, over_work, over_open}
 use Rattle.tc_close.proofs.Agreeing.{triples_agree}
 use Rattle.tc_top.proofs.OneValidity as schema
-use Rattle.tc_top.proofs.OneValidity.{no_schema}
 
 -- a safe stylesheet has no counterexample
 pub not_both : (i o : Grammar) (s : Sheet) {document : Trees} → IsSafe i o s → IsCounter i o s document → ⊥
@@ -125,21 +124,21 @@ finds_same {most} {i} {j} {o} {p} {s} {t} {answer} a b c x =
     subst (λ (w : Sheet). Finds most j p w answer) c (subst (λ (w : Grammar). Finds most j w s answer) b (subst (λ (w : Grammar). Finds most w o s answer) a x))
 
 -- what is decided, the texts being read
-pub finds_of : {most : ℕ} {input output sheet b c d : List ℕ} {i o : Grammar} {s : Sheet} {answer : Answer} → RncText b i → RncText c o → IsSheetOf d s
+pub finds_of : {most : ℕ} {input output sheet b c d : List ℕ} {i o : Grammar} {s : Sheet} {answer : Answer} → SchemaText input b i → SchemaText output c o → IsSheetOf d s
     → Checks most input output sheet b c d answer → Finds most i o s answer
 finds_of x y z (input_refused {reason = w} {place = p} r) = absurd (no_schema w p r x)
 finds_of x y z (output_refused {reason = w} {place = p} g r) = absurd (no_schema w p r y)
 finds_of x y z (stylesheet_refused {reason = w} {place = p} g h r) = absurd (no_sheet w p r z)
-finds_of {b = b} {c = c} {i = i} {o = o} x y z (all_read {i = j} {o = p} k l m f) = finds_same (one_rnc_text b j i k x) (one_rnc_text c p o l y) (one_sheet_of m z) f
+finds_of x y z (all_read k l m f) = finds_same (one_schema k x) (one_schema l y) (one_sheet_of m z) f
 
 -- the answer that the texts decide is one
 pub checks_one : {most : ℕ} {input output sheet b c d : List ℕ} {one other : Answer} → Checks most input output sheet b c d one → Checks most input output sheet b c d other → AreAlike one other
-checks_one {input = n} {b = b} (input_refused r) (input_refused q) = schema_refusals b n r q
+checks_one {input = n} (input_refused r) (input_refused q) = text_refusals n r q
 checks_one (input_refused {reason = w} {place = p} r) (output_refused g q) = absurd (no_schema w p r g)
 checks_one (input_refused {reason = w} {place = p} r) (stylesheet_refused g h q) = absurd (no_schema w p r g)
 checks_one (input_refused {reason = w} {place = p} r) (all_read g h z f) = absurd (no_schema w p r g)
 checks_one (output_refused g r) (input_refused {reason = w} {place = p} q) = absurd (no_schema w p q g)
-checks_one {output = n} {c = c} (output_refused g r) (output_refused h q) = schema_refusals c n r q
+checks_one {output = n} (output_refused g r) (output_refused h q) = text_refusals n r q
 checks_one (output_refused {reason = w} {place = p} g r) (stylesheet_refused h k q) = absurd (no_schema w p r k)
 checks_one (output_refused {reason = w} {place = p} g r) (all_read h k z f) = absurd (no_schema w p r k)
 checks_one (stylesheet_refused g h r) (input_refused {reason = w} {place = p} q) = absurd (no_schema w p q g)

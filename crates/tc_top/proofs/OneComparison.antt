@@ -5,15 +5,14 @@ use Rattle.tc_base.specs.declared.Limit.{Limit}
 use Rattle.tc_incl.specs.Counts.{IsRowOfLiveTree, IsRowOfLiveHedge}
 use Rattle.tc_incl.specs.Schemas.{IsIncluded, IsDifference}
 use Rattle.tc_model.specs.Grammars.{Grammar}
-use Rattle.tc_model.specs.RncText.{RncText}
 use Rattle.tc_model.specs.Trees.{Trees}
-use Rattle.tc_model.proofs.SimplifiesUnique.{one_rnc_text}
 use Rattle.tc_rows.specs.Counts.{Counts}
 use Rattle.tc_rows.proofs.Counting.{counts_tell}
 use Rattle.tc_top.specs.Comparing.{Question, inclusion, equality, AreCompiled, PassesCompiling, by_first, by_second, by_symbols, forward, backward, IsOfOne, FindsInclusion, inclusion_passes, inclusion_covers, finds_included, finds_not_included, finds_none_shown, FindsEquality, equality_passes, equality_covers_forward, equality_covers_backward, finds_equal, finds_first_only, finds_second_only, finds_no_one_shown, FindsBoth, Compares, first_refused, second_refused, both_schemas}
 use Rattle.tc_top.specs.OneAnswer.{AreAlike, same_answer, documents_not_included, documents_of_first, documents_of_second, row_limits}
-use Rattle.tc_top.proofs.OneRefusal.{schema_refusals}
-use Rattle.tc_top.proofs.OneValidity.{no_schema, over, one_limit}
+use Rattle.tc_top.specs.SchemaTexts.{SchemaText}
+use Rattle.tc_top.proofs.OneValidity.{over, one_limit}
+use Rattle.tc_top.proofs.SchemaTextLaws.{no_schema, one_schema, text_refusals}
 
 -- a schema that is included in another has no document that isn't valid for that
 pub not_different : {a b : Grammar} {document : Trees} → IsIncluded a b → IsDifference a b document → ⊥
@@ -131,18 +130,18 @@ finds_same : (question : Question) (a b c d : Grammar) (answer : Answer) → a �
 finds_same question a b c d answer p q x = subst (λ (g : Grammar). FindsBoth c g question answer) q (subst (λ (g : Grammar). FindsBoth g b question answer) p x)
 
 -- what is decided, the texts being read
-pub compared_of : {question : Question} {first second c d : List ℕ} {a b : Grammar} {answer : Answer} → RncText c a → RncText d b → Compares question first second c d answer → FindsBoth a b question answer
+pub compared_of : {question : Question} {first second c d : List ℕ} {a b : Grammar} {answer : Answer} → SchemaText first c a → SchemaText second d b → Compares question first second c d answer → FindsBoth a b question answer
 compared_of x y (first_refused {reason = w} {place = p} r) = absurd (no_schema w p r x)
 compared_of x y (second_refused {reason = w} {place = p} g r) = absurd (no_schema w p r y)
-compared_of {question = question} {c = c} {d = d} {a = a} {b = b} {answer = answer} x y (both_schemas {a = g} {b = h} k l f) = finds_same question g h a b answer (one_rnc_text c g a k x) (one_rnc_text d h b l y) f
+compared_of {question = question} {a = a} {b = b} {answer = answer} x y (both_schemas {a = g} {b = h} k l f) = finds_same question g h a b answer (one_schema k x) (one_schema l y) f
 
 -- the answer that the texts decide is one
 pub compares_one : {question : Question} {first second c d : List ℕ} {one other : Answer} → Compares question first second c d one → Compares question first second c d other → AreAlike one other
-compares_one {first = n} {c = c} (first_refused r) (first_refused q) = schema_refusals c n r q
+compares_one {first = n} (first_refused r) (first_refused q) = text_refusals n r q
 compares_one (first_refused {reason = w} {place = p} r) (second_refused g q) = absurd (no_schema w p r g)
 compares_one (first_refused {reason = w} {place = p} r) (both_schemas g h f) = absurd (no_schema w p r g)
 compares_one (second_refused g r) (first_refused {reason = w} {place = p} q) = absurd (no_schema w p q g)
-compares_one {second = n} {d = d} (second_refused g r) (second_refused h q) = schema_refusals d n r q
+compares_one {second = n} (second_refused g r) (second_refused h q) = text_refusals n r q
 compares_one (second_refused {reason = w} {place = p} g r) (both_schemas h k f) = absurd (no_schema w p r k)
 compares_one (both_schemas g h f) (first_refused {reason = w} {place = p} q) = absurd (no_schema w p q g)
 compares_one (both_schemas g h f) (second_refused {reason = w} {place = p} k q) = absurd (no_schema w p q h)

@@ -3,17 +3,12 @@ use Rattle.std.proofs.Common.{◌≡◌, ℕ, List, sym, ap, ◌∙◌, subst, a
 use Rattle.tc_base.specs.declared.Limit.{Limit}
 use Rattle.tc_model.specs.Trees.{Trees}
 use Rattle.tc_model.specs.Grammars.{Grammar}
-use Rattle.tc_model.specs.SimplifiesFaults.{Fault, Fails}
-use Rattle.tc_model.specs.SimplifiesFaults as faults
-use Rattle.tc_model.specs.RncText.{RncText}
 use Rattle.tc_model.specs.Stripped.{stripped}
 use Rattle.tc_model.specs.Validity.{IsValid}
-use Rattle.tc_model.proofs.SimplifiesUnique.{one_syntax, one_rnc_text}
-use Rattle.tc_model.proofs.SimplifiesFaults.{no_grammar}
 use Rattle.tc_model.proofs.XmlTextTrees.{one_raw_tree}
 use Rattle.tc_print.specs.ReadBack.{IsReadAs}
 use Rattle.tc_read.proofs.OtherEntities.{with_others}
-use Rattle.tc_read.specs.Refusals.{SpellsFault, IsRefusedSchema, IsRefusedDocument}
+use Rattle.tc_read.specs.Refusals.{IsRefusedDocument}
 use Rattle.tc_read.specs.declared.faults.Reason.{Reason}
 use Rattle.tc_read.specs.declared.faults.Reason.TheVariants.{Malformed, Unsupported, TooDeep, Undefined, Twice, Loop, BadStart, BadExcept, CallLoop}
 use Rattle.tc_model.specs.SimplifiesCounts.{IsWithinCounts}
@@ -23,23 +18,9 @@ use Rattle.tc_top.specs.Limits.{IsWithinLimits, PassesLimit, passes_size, passes
 use Rattle.tc_answer.specs.Answers.{Answer, over_limit, is_valid, is_invalid}
 use Rattle.tc_top.specs.Causes.{Decides, passes, too_many_symbols, decides_valid, decides_invalid, Validates, schema_refused, document_refused, both_read}
 use Rattle.tc_top.specs.OneAnswer.{AreAlike, same_answer}
-use Rattle.tc_top.proofs.OneRefusal.{schema_refusals, document_refusals}
-
--- a schema with a fault has no grammar
-faulty : {bytes : List ℕ} {g : Grammar} (f : Fault) → SpellsFault bytes f → RncText bytes g → ⊥
-faulty {bytes} {g} f (s, spelled, fails) (t, spells, simple) =
-    no_grammar t f g (subst (λ x. Fails x f) (one_syntax bytes s t spelled spells) fails) simple
-
-pub no_schema : {bytes : List ℕ} {g : Grammar} (reason : Reason) (place : ℕ) → IsRefusedSchema bytes reason place → RncText bytes g → ⊥
-no_schema Malformed place r (t, spells, simple) = r.1 _ _ t spells
-no_schema (Unsupported why) place r (t, spells, simple) = r.1 _ t spells
-no_schema TooDeep place r (t, spells, simple) = r.1 _ t spells
-no_schema Undefined place r x = faulty (faults.undefined place) r x
-no_schema Twice place r x = faulty (faults.twice place) r x
-no_schema Loop place r x = faulty (faults.loop place) r x
-no_schema BadStart place r x = faulty (faults.bad_start place) r x
-no_schema BadExcept place r x = faulty (faults.bad_except place) r x
-no_schema CallLoop place r x = r
+use Rattle.tc_top.specs.SchemaTexts.{SchemaText}
+use Rattle.tc_top.proofs.OneRefusal.{document_refusals}
+use Rattle.tc_top.proofs.SchemaTextLaws.{no_schema, one_schema, text_refusals}
 
 pub no_document : {bytes : List ℕ} {d : Trees} (reason : Reason) (place : ℕ) → IsRefusedDocument bytes reason place → IsReadAs bytes d → ⊥
 no_document Malformed place r x = r.1 _ x.raw (with_others x.spells)
@@ -107,7 +88,7 @@ decides_same {g} {h} {c} {d} {answer} p q x = subst (λ y. Decides h y answer) q
 
 -- the answer that the texts decide is one
 pub validates_one : {schema document b c : List ℕ} {one other : Answer} → Validates schema document b c one → Validates schema document b c other → AreAlike one other
-validates_one {schema = n} {b = b} (schema_refused r) (schema_refused s) = schema_refusals b n r s
+validates_one {schema = n} (schema_refused r) (schema_refused s) = text_refusals n r s
 validates_one (schema_refused {reason = w} {place = p} r) (document_refused g s) = absurd (no_schema w p r g)
 validates_one (schema_refused {reason = w} {place = p} r) (both_read g d h) = absurd (no_schema w p r g)
 validates_one (document_refused g r) (schema_refused {reason = w} {place = p} s) = absurd (no_schema w p s g)
@@ -115,7 +96,7 @@ validates_one {document = n} {c = c} (document_refused g r) (document_refused k 
 validates_one (document_refused {reason = w} {place = p} g r) (both_read k d h) = absurd (no_document w p r d)
 validates_one (both_read g d h) (schema_refused {reason = w} {place = p} s) = absurd (no_schema w p s g)
 validates_one (both_read g d h) (document_refused {reason = w} {place = p} k s) = absurd (no_document w p s d)
-validates_one {b = b} (both_read {g = g} x d h) (both_read {g = k} y e i) = decides_one h (decides_same (one_rnc_text b k g y x) (one_document e d) i)
+validates_one (both_read x d h) (both_read y e i) = decides_one h (decides_same (one_schema y x) (one_document e d) i)
 
 -- what a small enough schema and a document decide
 pub data Settles (g : Grammar) (d : Trees) : Answer → Type 0 where
@@ -128,7 +109,7 @@ settled w (too_many_symbols x q) = absurd (omega (arith, q, w.symbols))
 settled w (decides_valid x v) = settles_valid v
 settled w (decides_invalid x v) = settles_invalid v
 
-pub settles : {schema document b c : List ℕ} {g : Grammar} {d : Trees} {answer : Answer} → RncText b g → IsReadAs c d → IsValidityWithin g → Validates schema document b c answer → Settles g d answer
+pub settles : {schema document b c : List ℕ} {g : Grammar} {d : Trees} {answer : Answer} → SchemaText schema b g → IsReadAs c d → IsValidityWithin g → Validates schema document b c answer → Settles g d answer
 settles g d w (schema_refused {reason = why} {place = p} r) = absurd (no_schema why p r g)
 settles g d w (document_refused {reason = why} {place = p} h r) = absurd (no_document why p r d)
-settles {b = b} {g = g} x d w (both_read {g = h} y e i) = settled w (decides_same (one_rnc_text b h g y x) (one_document e d) i)
+settles x d w (both_read y e i) = settled w (decides_same (one_schema y x) (one_document e d) i)

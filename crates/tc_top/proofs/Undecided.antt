@@ -15,13 +15,12 @@ use Rattle.tc_top.specs.declared.texts.Undecided.{Undecided}
 use Rattle.tc_top.specs.declared.texts.Undecided.TheVariants.{Stops, NoMemory}
 use Rattle.tc_answer.specs.Answers.{over_limit}
 use Rattle.tc_beh.specs.declared.machine.Machine.{Machine}
-use Rattle.tc_model.specs.RncText.{RncText}
-use Rattle.tc_read.specs.Refusals.{IsRefusedSchema, IsRefusedSheet}
-use Rattle.tc_read.specs.Schemas.{IsSchemaOf}
+use Rattle.tc_read.specs.Refusals.{IsRefusedSheet}
 use Rattle.tc_read.specs.Sheets.{IsSheetOf}
 use Rattle.tc_read.specs.declared.schemas.Schema.{Schema}
 use Rattle.tc_read.proofs.Exits.{err_is}
 use Rattle.tc_top.specs.CertifyingSeen.{IsRefusedBy, is_refused, IsMachineOfTexts}
+use Rattle.tc_top.specs.SchemaTexts.{IsRefusedText, IsSchemaOfText}
 use Rattle.tc_top.specs.Compiled.{IsReadOf, IsMachineFor, IsCauseBy}
 use Rattle.tc_top.specs.declared.compile.CompileFault.{CompileFault}
 use Rattle.tc_top.specs.declared.compile.CompileFault.TheVariants.{Passes}
@@ -47,36 +46,36 @@ undecided_weaker P Q on NoMemory u = tt
 
 module _ (input output sheet b c d : List ℕ) where
   -- a refused text stops the call
-  by_input : (answer : Answer) → IsRefusedBy input (IsRefusedSchema b) answer → StopsTexts input output sheet b c d answer
+  by_input : (answer : Answer) → IsRefusedBy input (IsRefusedText input b) answer → StopsTexts input output sheet b c d answer
   by_input answer (is_refused r) = refuses_input r
 
-  by_output : (x : Schema) → IsSchemaOf b x → (answer : Answer) → IsRefusedBy output (IsRefusedSchema c) answer → StopsTexts input output sheet b c d answer
-  by_output x one answer (is_refused r) = refuses_output (read_of b x one).1 r
+  by_output : (x : Schema) → IsSchemaOfText input b x → (answer : Answer) → IsRefusedBy output (IsRefusedText output c) answer → StopsTexts input output sheet b c d answer
+  by_output x one answer (is_refused r) = refuses_output (read_of input b x one).1 r
 
-  by_sheet : (x y : Schema) → IsSchemaOf b x → IsSchemaOf c y → (answer : Answer) → IsRefusedBy sheet (IsRefusedSheet d) answer → StopsTexts input output sheet b c d answer
-  by_sheet x y one other answer (is_refused r) = refuses_sheet (read_of b x one).1 (read_of c y other).1 r
+  by_sheet : (x y : Schema) → IsSchemaOfText input b x → IsSchemaOfText output c y → (answer : Answer) → IsRefusedBy sheet (IsRefusedSheet d) answer → StopsTexts input output sheet b c d answer
+  by_sheet x y one other answer (is_refused r) = refuses_sheet (read_of input b x one).1 (read_of output c y other).1 r
 
-  pub stops_input : {T : Type 0} (r : Result T Undecided) (e : Undecided) → IsErrAnd r (λ y. y ≡ e) → IsUndecided (IsRefusedBy input (IsRefusedSchema b)) e → IfErr r (IsUndecided (StopsTexts input output sheet b c d))
-  stops_input r e is why = err_is r e (IsUndecided (StopsTexts input output sheet b c d)) is (undecided_weaker (IsRefusedBy input (IsRefusedSchema b)) (StopsTexts input output sheet b c d) by_input e why)
+  pub stops_input : {T : Type 0} (r : Result T Undecided) (e : Undecided) → IsErrAnd r (λ y. y ≡ e) → IsUndecided (IsRefusedBy input (IsRefusedText input b)) e → IfErr r (IsUndecided (StopsTexts input output sheet b c d))
+  stops_input r e is why = err_is r e (IsUndecided (StopsTexts input output sheet b c d)) is (undecided_weaker (IsRefusedBy input (IsRefusedText input b)) (StopsTexts input output sheet b c d) by_input e why)
 
-  pub stops_output : {T : Type 0} (x : Schema) → IsSchemaOf b x → (r : Result T Undecided) (e : Undecided) → IsErrAnd r (λ y. y ≡ e) → IsUndecided (IsRefusedBy output (IsRefusedSchema c)) e
+  pub stops_output : {T : Type 0} (x : Schema) → IsSchemaOfText input b x → (r : Result T Undecided) (e : Undecided) → IsErrAnd r (λ y. y ≡ e) → IsUndecided (IsRefusedBy output (IsRefusedText output c)) e
       → IfErr r (IsUndecided (StopsTexts input output sheet b c d))
   stops_output x one r e is why =
-      err_is r e (IsUndecided (StopsTexts input output sheet b c d)) is (undecided_weaker (IsRefusedBy output (IsRefusedSchema c)) (StopsTexts input output sheet b c d) (by_output x one) e why)
+      err_is r e (IsUndecided (StopsTexts input output sheet b c d)) is (undecided_weaker (IsRefusedBy output (IsRefusedText output c)) (StopsTexts input output sheet b c d) (by_output x one) e why)
 
-  pub stops_sheet : {T : Type 0} (x y : Schema) → IsSchemaOf b x → IsSchemaOf c y → (r : Result T Undecided) (e : Undecided) → IsErrAnd r (λ y. y ≡ e) → IsUndecided (IsRefusedBy sheet (IsRefusedSheet d)) e
+  pub stops_sheet : {T : Type 0} (x y : Schema) → IsSchemaOfText input b x → IsSchemaOfText output c y → (r : Result T Undecided) (e : Undecided) → IsErrAnd r (λ y. y ≡ e) → IsUndecided (IsRefusedBy sheet (IsRefusedSheet d)) e
       → IfErr r (IsUndecided (StopsTexts input output sheet b c d))
   stops_sheet x y one other r e is why =
       err_is r e (IsUndecided (StopsTexts input output sheet b c d)) is (undecided_weaker (IsRefusedBy sheet (IsRefusedSheet d)) (StopsTexts input output sheet b c d) (by_sheet x y one other) e why)
 
-  module _ (x y : Schema) (s : Sheet) (one : IsSchemaOf b x) (other : IsSchemaOf c y) (spells : IsSheetOf d s) where
+  module _ (x y : Schema) (s : Sheet) (one : IsSchemaOfText input b x) (other : IsSchemaOfText output c y) (spells : IsSheetOf d s) where
     -- a machine of the texts
-    pub machine_of_all : (m : Machine) → ((i o : Grammar) → IsReadOf i x → IsReadOf o y → IsMachineFor i o s m) → IsMachineOfTexts b c d m
+    pub machine_of_all : (m : Machine) → ((i o : Grammar) → IsReadOf i x → IsReadOf o y → IsMachineFor i o s m) → IsMachineOfTexts input output b c d m
     machine_of_all m made =
-        let (i, input_spells, read_in) = read_of b x one in
-        let (o, output_spells, read_out) = read_of c y other in record { input = i; output = o; sheet = s; input_spells = input_spells; output_spells = output_spells; sheet_spells = spells; machine = made i o read_in read_out }
+        let (i, input_spells, read_in) = read_of input b x one in
+        let (o, output_spells, read_out) = read_of output c y other in record { input = i; output = o; sheet = s; input_spells = input_spells; output_spells = output_spells; sheet_spells = spells; machine = made i o read_in read_out }
 
     -- a limit is passed
     pub passed_by_all : (kind : kinds.Limit) (number : ℕ) → ((i o : Grammar) → IsReadOf i x → IsReadOf o y → PassesCompile i o s kind number) → StopsTexts input output sheet b c d (over_limit kind number)
     passed_by_all kind number passes =
-        let (i, input_spells, read_in) = read_of b x one in let (o, output_spells, read_out) = read_of c y other in all_three input_spells output_spells spells (is_passed (passes i o read_in read_out))
+        let (i, input_spells, read_in) = read_of input b x one in let (o, output_spells, read_out) = read_of output c y other in all_three input_spells output_spells spells (is_passed (passes i o read_in read_out))

@@ -10,7 +10,6 @@ use Rattle.tc_model.specs.Safety.{IsSafe, Transforms, IsResultOf}
 use Rattle.tc_model.specs.States as side
 use Rattle.tc_model.specs.Symbols.{symbol_count}
 use Rattle.tc_model.specs.Outcomes.{Outcome}
-use Rattle.tc_model.specs.RncText.{RncText}
 use Rattle.tc_model.specs.Validity.{IsValid}
 use Rattle.tc_print.specs.ReadBack.{IsReadAs}
 use Rattle.tc_run.specs.Spent.{most_work, most_open}
@@ -19,8 +18,9 @@ use Rattle.tc_run.specs.Limits.{KeepsLimits}
 use Rattle.tc_answer.specs.Lines.{RowCount}
 use Rattle.tc_top.specs.Checking.{most_of, IsCompiled, PassesCompile, HasManyRows, HasFewRows, AreRowCounts, IsLeastCounter, HasLargeCounters, IsLargeRun}
 use Rattle.tc_answer.specs.Words.{check, run, valid}
-use Rattle.tc_read.specs.Refusals.{IsRefusedSchema, IsRefusedDocument, IsRefusedSheet}
+use Rattle.tc_read.specs.Refusals.{IsRefusedDocument, IsRefusedSheet}
 use Rattle.tc_read.specs.declared.faults.Reason.{Reason}
+use Rattle.tc_top.specs.SchemaTexts.{SchemaText, IsRefusedText}
 use Rattle.tc_top.specs.Limits.{symbols_of_schema, symbols_of_sheet, IsWithinLimits, PassesLimit, IsValidityWithin, IsWithinSheetLimits, SheetPasses, IsRunWithin}
 use Rattle.tc_answer.specs.declared.status.Status.TheVariants.{Limit}
 use Rattle.tc_answer.specs.Answers.{Answer, safe, unsafe, unsafe_large, rows_limit, counterexample_limit, refused, over_limit, is_valid, is_invalid, has_result, work_limit, open_limit}
@@ -38,12 +38,12 @@ pub data Finds (most : ℕ) (i o : Grammar) (s : Sheet) : Answer → Type 0 wher
 
 -- what `check` answers on the texts of its operands
 pub data Checks (most : ℕ) (input output sheet input_text output_text sheet_text : List ℕ) : Answer → Type 0 where
-  input_refused : {reason : Reason} {place : ℕ} → IsRefusedSchema input_text reason place → Checks most input output sheet input_text output_text sheet_text (refused input reason place)
-  output_refused : {i : Grammar} {reason : Reason} {place : ℕ} → RncText input_text i → IsRefusedSchema output_text reason place
+  input_refused : {reason : Reason} {place : ℕ} → IsRefusedText input input_text reason place → Checks most input output sheet input_text output_text sheet_text (refused input reason place)
+  output_refused : {i : Grammar} {reason : Reason} {place : ℕ} → SchemaText input input_text i → IsRefusedText output output_text reason place
       → Checks most input output sheet input_text output_text sheet_text (refused output reason place)
-  stylesheet_refused : {i o : Grammar} {reason : Reason} {place : ℕ} → RncText input_text i → RncText output_text o → IsRefusedSheet sheet_text reason place
+  stylesheet_refused : {i o : Grammar} {reason : Reason} {place : ℕ} → SchemaText input input_text i → SchemaText output output_text o → IsRefusedSheet sheet_text reason place
       → Checks most input output sheet input_text output_text sheet_text (refused sheet reason place)
-  all_read : {i o : Grammar} {s : Sheet} {answer : Answer} → RncText input_text i → RncText output_text o → IsSheetOf sheet_text s → Finds most i o s answer
+  all_read : {i o : Grammar} {s : Sheet} {answer : Answer} → SchemaText input input_text i → SchemaText output output_text o → IsSheetOf sheet_text s → Finds most i o s answer
       → Checks most input output sheet input_text output_text sheet_text answer
 
 -- what a schema and a document decide
@@ -55,10 +55,10 @@ pub data Decides (g : Grammar) (d : Trees) : Answer → Type 0 where
 
 -- what `valid` answers on the texts of its operands
 pub data Validates (schema document schema_text document_text : List ℕ) : Answer → Type 0 where
-  schema_refused : {reason : Reason} {place : ℕ} → IsRefusedSchema schema_text reason place → Validates schema document schema_text document_text (refused schema reason place)
-  document_refused : {g : Grammar} {reason : Reason} {place : ℕ} → RncText schema_text g → IsRefusedDocument document_text reason place
+  schema_refused : {reason : Reason} {place : ℕ} → IsRefusedText schema schema_text reason place → Validates schema document schema_text document_text (refused schema reason place)
+  document_refused : {g : Grammar} {reason : Reason} {place : ℕ} → SchemaText schema schema_text g → IsRefusedDocument document_text reason place
       → Validates schema document schema_text document_text (refused document reason place)
-  both_read : {g : Grammar} {d : Trees} {answer : Answer} → RncText schema_text g → IsReadAs document_text d → Decides g d answer → Validates schema document schema_text document_text answer
+  both_read : {g : Grammar} {d : Trees} {answer : Answer} → SchemaText schema schema_text g → IsReadAs document_text d → Decides g d answer → Validates schema document schema_text document_text answer
 
 -- what a stylesheet and a document give
 pub data Runs (s : Sheet) (d : Trees) : Answer → Type 0 where

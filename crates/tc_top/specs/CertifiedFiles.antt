@@ -1,6 +1,7 @@
 -- What `prove`, `verify` and `upgrade` of held files decide.
 use Rattle.std.specs.Prelude.{◌≡◌, ◌<◌, ◌≤◌, ◌⊎◌, ◌↔◌, ℕ, List, length, Option, Some, codes}
 use Rattle.tc_answer.specs.Lines.{Rejection, form_fails, RowCount, line, limit_line, limit_word, count_word, rejected_line}
+use Rattle.tc_answer.specs.SchemaWords.{file_of}
 use Rattle.tc_answer.specs.Words.{prove, verify, upgrade, Words}
 use Rattle.tc_answer.specs.declared.limits.TheConstants.{MOST_SHOWN_NODES, LONGEST_CERTIFICATE}
 use Rattle.tc_answer.specs.declared.status.Status.{Status}
@@ -12,7 +13,6 @@ use Rattle.tc_io.specs.Store.{Files, longest_file}
 use Rattle.tc_io.specs.Sink.{Appended}
 use Rattle.tc_model.specs.Grammars.{Grammar}
 use Rattle.tc_model.specs.Printed.{printed}
-use Rattle.tc_model.specs.RncText.{RncText}
 use Rattle.tc_model.specs.Safety.{IsSafe}
 use Rattle.tc_model.specs.Sheets.{Sheet}
 use Rattle.tc_model.specs.Trees.{Trees}
@@ -23,6 +23,7 @@ use Rattle.tc_top.specs.Answers.{IsAnswerOn}
 use Rattle.tc_answer.specs.Answers.{certificate, accepted}
 use Rattle.tc_top.specs.Certifying.{IsCertificateOf, IsLeastOf, IsOverlong, IsRejectedFor}
 use Rattle.tc_top.specs.Checking.{most_of, IsCompiled, PassesCompile, HasManyRows, HasFewRows, IsLeastCounter, HasSmallCounter, HasLargeCounters}
+use Rattle.tc_top.specs.SchemaTexts.{SchemaText}
 use Rattle.tc_top.specs.Headline.{IsLimited, ShowsRun}
 
 -- files are held whose texts spell two schemas and a stylesheet
@@ -30,11 +31,11 @@ pub record HoldTriple (files : Files) (input output sheet : List ℕ) (i o : Gra
   pub input_text : List ℕ
   pub output_text : List ℕ
   pub sheet_text : List ℕ
-  pub input_held : files input ≡ Some input_text
-  pub output_held : files output ≡ Some output_text
+  pub input_held : files (file_of input) ≡ Some input_text
+  pub output_held : files (file_of output) ≡ Some output_text
   pub sheet_held : files sheet ≡ Some sheet_text
-  pub input_spells : RncText input_text i
-  pub output_spells : RncText output_text o
+  pub input_spells : SchemaText input input_text i
+  pub output_spells : SchemaText output output_text o
   pub sheet_spells : IsSheetOf sheet_text s
 
 -- and none of them is longer than a file may be

@@ -10,18 +10,18 @@ use Rattle.tc_cert.specs.Texts.{text, by_changes, CertificateText}
 use Rattle.tc_close.specs.Certified.{IsLeastCertificate, IsTooLong}
 use Rattle.tc_close.specs.Triples.{IsTripleOf}
 use Rattle.tc_model.specs.Grammars.{Grammar}
-use Rattle.tc_model.specs.RncText.{RncText}
 use Rattle.tc_model.specs.Safety.{IsSafe}
 use Rattle.tc_model.specs.Sheets.{Sheet}
 use Rattle.tc_model.specs.Symbols.{Mention, fresh_name}
 use Rattle.tc_model.specs.declared.lists.CertData.{CertData}
-use Rattle.tc_read.specs.Refusals.{IsRefusedSchema, IsRefusedSheet}
+use Rattle.tc_read.specs.Refusals.{IsRefusedSheet}
 use Rattle.tc_read.specs.Sheets.{IsSheetOf}
 use Rattle.tc_read.specs.declared.faults.Reason.{Reason}
 use Rattle.tc_rows.specs.CertificateRows.{IsCertificateData}
 use Rattle.tc_rows.specs.Triples.{Triple}
 use Rattle.tc_top.specs.Causes.{Finds}
 use Rattle.tc_top.specs.Checking.{IsCompiled, PassesCompile, HasFewRows}
+use Rattle.tc_top.specs.SchemaTexts.{SchemaText, IsRefusedText}
 use Rattle.tc_verify.specs.Rejects.{IsRejected}
 use Rattle.tc_verify.specs.declared.reject.Reject.{Reject}
 use Rattle.tc_verify.specs.declared.reject.RejectRule.{RejectRule}
@@ -76,12 +76,12 @@ module _ (i o : Grammar) (s : Sheet) where
 
 -- what the texts of two schemas and a stylesheet decide: the first that is refused, or what all three decide
 pub data OfTexts (Decided : Grammar → Grammar → Sheet → Answer → Type 0) (input output sheet input_text output_text sheet_text : List ℕ) : Answer → Type 0 where
-  refuses_input : {reason : Reason} {place : ℕ} → IsRefusedSchema input_text reason place → OfTexts Decided input output sheet input_text output_text sheet_text (refused input reason place)
-  refuses_output : {i : Grammar} {reason : Reason} {place : ℕ} → RncText input_text i → IsRefusedSchema output_text reason place
+  refuses_input : {reason : Reason} {place : ℕ} → IsRefusedText input input_text reason place → OfTexts Decided input output sheet input_text output_text sheet_text (refused input reason place)
+  refuses_output : {i : Grammar} {reason : Reason} {place : ℕ} → SchemaText input input_text i → IsRefusedText output output_text reason place
       → OfTexts Decided input output sheet input_text output_text sheet_text (refused output reason place)
-  refuses_sheet : {i o : Grammar} {reason : Reason} {place : ℕ} → RncText input_text i → RncText output_text o → IsRefusedSheet sheet_text reason place
+  refuses_sheet : {i o : Grammar} {reason : Reason} {place : ℕ} → SchemaText input input_text i → SchemaText output output_text o → IsRefusedSheet sheet_text reason place
       → OfTexts Decided input output sheet input_text output_text sheet_text (refused sheet reason place)
-  all_three : {i o : Grammar} {s : Sheet} {answer : Answer} → RncText input_text i → RncText output_text o → IsSheetOf sheet_text s → Decided i o s answer
+  all_three : {i o : Grammar} {s : Sheet} {answer : Answer} → SchemaText input input_text i → SchemaText output output_text o → IsSheetOf sheet_text s → Decided i o s answer
       → OfTexts Decided input output sheet input_text output_text sheet_text answer
 
 -- what `prove` answers on the texts of its operands

@@ -8,7 +8,6 @@ use Rattle.tc_beh.specs.declared.machine.Machine.{Machine}
 use Rattle.tc_beh.specs.declared.machine.Shape.{Shape}
 use Rattle.tc_cert.specs.declared.ranges.Ranges.{Ranges}
 use Rattle.tc_model.specs.Grammars.{Grammar}
-use Rattle.tc_model.specs.RncText.{RncText}
 use Rattle.tc_model.specs.Sheets.{Sheet}
 use Rattle.tc_read.specs.Sheets.{IsSheetOf}
 use Rattle.tc_read.specs.declared.faults.Reason.{Reason}
@@ -16,6 +15,7 @@ use Rattle.tc_base.specs.declared.Limit as kinds
 use Rattle.tc_top.specs.Certifying.{OfTexts}
 use Rattle.tc_top.specs.Checking.{PassesCompile}
 use Rattle.tc_top.specs.Compiled.{IsMachineFor}
+use Rattle.tc_top.specs.SchemaTexts.{SchemaText}
 use Rattle.tc_top.specs.declared.texts.Undecided.{Undecided}
 use Rattle.tc_top.specs.declared.texts.Undecided.TheVariants.{Stops, NoMemory}
 
@@ -42,12 +42,12 @@ abbrev pub StopsTexts : List ℕ → List ℕ → List ℕ → List ℕ → List
 StopsTexts input output sheet input_text output_text sheet_text answer = OfTexts IsPassed input output sheet input_text output_text sheet_text answer
 
 -- the texts are those of schemas and a stylesheet that the machine stands for
-pub record IsMachineOfTexts (input_text output_text sheet_text : List ℕ) (m : Machine) : Type 0 where
+pub record IsMachineOfTexts (input_word output_word input_text output_text sheet_text : List ℕ) (m : Machine) : Type 0 where
   pub input : Grammar
   pub output : Grammar
   pub sheet : Sheet
-  pub input_spells : RncText input_text input
-  pub output_spells : RncText output_text output
+  pub input_spells : SchemaText input_word input_text input
+  pub output_spells : SchemaText output_word output_text output
   pub sheet_spells : IsSheetOf sheet_text sheet
   pub machine : IsMachineFor input output sheet m
 

@@ -1,6 +1,7 @@
 -- What a comparison of held files decides.
 use Rattle.std.specs.Prelude.{◌≡◌, ◌<◌, ◌≤◌, ◌⊎◌, ◌↔◌, ℕ, List, length, Option, Some, codes}
 use Rattle.tc_answer.specs.Lines.{RowCount, line, limit_line, limit_word, count_word, included_line, not_included_lines, different_lines}
+use Rattle.tc_answer.specs.SchemaWords.{file_of}
 use Rattle.tc_answer.specs.Words.{Command, include, same, Words}
 use Rattle.tc_answer.specs.declared.limits.TheConstants.{MOST_ROWS, MOST_SHOWN_NODES}
 use Rattle.tc_answer.specs.declared.status.Status.{Status}
@@ -12,10 +13,10 @@ use Rattle.tc_io.specs.Store.{Files, longest_file}
 use Rattle.tc_io.specs.Sink.{Appended}
 use Rattle.tc_model.specs.Grammars.{Grammar}
 use Rattle.tc_model.specs.Printed.{printed}
-use Rattle.tc_model.specs.RncText.{RncText}
 use Rattle.tc_model.specs.Trees.{Trees, node_count}
 use Rattle.tc_print.specs.ReadBack.{IsReadAs}
 use Rattle.tc_rows.specs.Counts.{Counts}
+use Rattle.tc_top.specs.SchemaTexts.{SchemaText}
 use Rattle.tc_top.specs.Comparing.{Question, inclusion, equality, HasManyCovers, HasFewCovers, AreCompiled, PassesCompiling, forward, backward, IsShown, IsOfOne}
 
 -- the words that ask this of two files
@@ -30,12 +31,12 @@ pub record ComparesFiles (words : List (List ℕ)) (files : Files) (question : Q
   pub words_are : Words words (asks question first second)
   pub first_text : List ℕ
   pub second_text : List ℕ
-  pub first_held : files first ≡ Some first_text
-  pub second_held : files second ≡ Some second_text
+  pub first_held : files (file_of first) ≡ Some first_text
+  pub second_held : files (file_of second) ≡ Some second_text
   pub first_short : length first_text ≤ longest_file
   pub second_short : length second_text ≤ longest_file
-  pub first_spells : RncText first_text a
-  pub second_spells : RncText second_text b
+  pub first_spells : SchemaText first first_text a
+  pub second_spells : SchemaText second second_text b
 
 module _ (a b : Grammar) where
   -- the counts that `include` tries are kept, and those that `same` tries

@@ -10,13 +10,12 @@ use Rattle.tc_incl.specs.Counts.{IsRowOfLiveTree, IsRowOfLiveHedge}
 use Rattle.tc_incl.specs.Derivations.{ArePlain}
 use Rattle.tc_incl.specs.Schemas.{Schemas, IsIncluded, IsDifference}
 use Rattle.tc_model.specs.Grammars.{Grammar}
-use Rattle.tc_model.specs.RncText.{RncText}
 use Rattle.tc_model.specs.States.{input}
 use Rattle.tc_model.specs.Symbols.{Mention, mentions_in_grammar, symbol_count}
 use Rattle.tc_model.specs.Trees.{Trees, node_count}
-use Rattle.tc_read.specs.Refusals.{IsRefusedSchema}
 use Rattle.tc_read.specs.declared.faults.Reason.{Reason}
 use Rattle.tc_rows.specs.Counts.{Counts, Pass}
+use Rattle.tc_top.specs.SchemaTexts.{SchemaText, IsRefusedText}
 use Rattle.tc_top.specs.Limits.{IsWithinLimits, PassesLimit, AreFew, symbols_of_mentions}
 use Rattle.tc_answer.specs.declared.limits.TheConstants.{MOST_ROWS, MOST_SHOWN_NODES}
 
@@ -104,8 +103,8 @@ module _ (a b : Grammar) where
 
 -- what is answered of two texts
 pub data Compares (question : Question) (first second first_text second_text : List ℕ) : Answer → Type 0 where
-  first_refused : {reason : Reason} {place : ℕ} → IsRefusedSchema first_text reason place → Compares question first second first_text second_text (refused first reason place)
-  second_refused : {a : Grammar} {reason : Reason} {place : ℕ} → RncText first_text a → IsRefusedSchema second_text reason place
+  first_refused : {reason : Reason} {place : ℕ} → IsRefusedText first first_text reason place → Compares question first second first_text second_text (refused first reason place)
+  second_refused : {a : Grammar} {reason : Reason} {place : ℕ} → SchemaText first first_text a → IsRefusedText second second_text reason place
       → Compares question first second first_text second_text (refused second reason place)
-  both_schemas : {a b : Grammar} {answer : Answer} → RncText first_text a → RncText second_text b → FindsBoth a b question answer
+  both_schemas : {a b : Grammar} {answer : Answer} → SchemaText first first_text a → SchemaText second second_text b → FindsBoth a b question answer
       → Compares question first second first_text second_text answer

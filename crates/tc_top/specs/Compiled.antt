@@ -15,7 +15,7 @@ use Rattle.tc_model.specs.SimplifiesLaws.{IsStart}
 use Rattle.tc_model.specs.States.{input, output}
 use Rattle.tc_model.specs.Symbols.{Mention, symbols_of}
 use Rattle.tc_model.specs.Views.{grammar}
-use Rattle.tc_read.specs.Schemas.{PassesSize, IsSchemaOf}
+use Rattle.tc_read.specs.Schemas.{PassesSize}
 use Rattle.tc_read.specs.declared.schemas.Schema.{Schema}
 use Rattle.tc_read.specs.declared.schemas.Schema.TheVariants.{Small, TooLarge}
 use Rattle.tc_rows.specs.Counts.{PassCalls, PassEntries}
@@ -23,12 +23,13 @@ use Rattle.tc_rows.specs.Triples.{Triple, sheet}
 use Rattle.tc_top.specs.Checking.{IsCompiled}
 use Rattle.tc_close.specs.Triples.{IsTripleOf}
 use Rattle.tc_top.specs.Limits.{IsWithinLimits, AreFew}
+use Rattle.tc_top.specs.SchemaTexts.{IsSchemaOfText}
 use Rattle.tc_top.specs.declared.compile.CompileFault.{CompileFault}
 use Rattle.tc_top.specs.declared.compile.CompileFault.TheVariants.{Passes, NoMemory}
 
--- some text spells the schema
+-- some text spells the schema, behind some word
 abbrev pub IsSpelled : Schema → Type 0
-IsSpelled schema = (bytes : List ℕ) × IsSchemaOf bytes schema
+IsSpelled schema = (word : List ℕ) × (bytes : List ℕ) × IsSchemaOfText word bytes schema
 
 -- the schema is this grammar, or only told to pass a limit that this grammar passes
 abbrev pub IsReadOf : g.Grammar → Schema → Type 0

@@ -8,7 +8,6 @@ use Rattle.tc_model.specs.Grammars.{Grammar}
 use Rattle.tc_model.specs.Sheets.{Sheet}
 use Rattle.tc_model.specs.Safety.{IsSafe, IsCounterexample, IsResultOf}
 use Rattle.tc_model.specs.Printed.{printed}
-use Rattle.tc_model.specs.RncText.{RncText}
 use Rattle.tc_model.specs.Validity.{IsValid}
 use Rattle.tc_print.specs.ReadBack.{IsReadAs}
 use Rattle.tc_read.specs.Sheets.{IsSheetOf}
@@ -16,7 +15,9 @@ use Rattle.tc_run.specs.Limits.{KeepsLimits}
 use Rattle.tc_answer.specs.Lines.{RowCount, limit_word, line, limit_line, count_word, safe_line, unsafe_lines, unsafe_large_lines}
 use Rattle.tc_top.specs.Checking.{most_of, IsCompiled, PassesCompile, HasManyRows, HasFewRows, AreRowCounts, IsLeastCounter, HasSmallCounter, HasLargeCounters, IsLargeRun}
 use Rattle.tc_top.specs.Limits.{IsValidityWithin}
+use Rattle.tc_answer.specs.SchemaWords.{file_of}
 use Rattle.tc_answer.specs.Words.{check, run, valid, Words}
+use Rattle.tc_top.specs.SchemaTexts.{SchemaText}
 use Rattle.tc_answer.specs.declared.limits.TheConstants.{MOST_SHOWN_NODES}
 use Rattle.tc_answer.specs.declared.status.Status.{Status}
 use Rattle.tc_answer.specs.declared.status.Status.TheVariants.{Yes, No, Limit, ReadFault, WriteFault, NoMemory}
@@ -34,11 +35,11 @@ pub record ChecksFiles (words : List (List ℕ)) (files : Files) (limit : Option
   pub input_text : List ℕ
   pub output_text : List ℕ
   pub sheet_text : List ℕ
-  pub input_held : files input ≡ Some input_text
-  pub output_held : files output ≡ Some output_text
+  pub input_held : files (file_of input) ≡ Some input_text
+  pub output_held : files (file_of output) ≡ Some output_text
   pub sheet_held : files sheet ≡ Some sheet_text
-  pub input_spells : RncText input_text i
-  pub output_spells : RncText output_text o
+  pub input_spells : SchemaText input input_text i
+  pub output_spells : SchemaText output output_text o
   pub sheet_spells : IsSheetOf sheet_text s
 
 -- and none of the files is longer than a file may be
@@ -85,11 +86,11 @@ pub record ValidatesFiles (words : List (List ℕ)) (files : Files) (g : Grammar
   pub words_are : Words words (valid schema document)
   pub schema_text : List ℕ
   pub document_text : List ℕ
-  pub schema_held : files schema ≡ Some schema_text
+  pub schema_held : files (file_of schema) ≡ Some schema_text
   pub document_held : files document ≡ Some document_text
   pub schema_short : length schema_text ≤ longest_file
   pub document_short : length document_text ≤ longest_file
-  pub schema_spells : RncText schema_text g
+  pub schema_spells : SchemaText schema schema_text g
   pub document_spells : IsReadAs document_text d
   pub within : IsValidityWithin g
 

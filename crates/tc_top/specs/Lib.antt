@@ -1,4 +1,5 @@
 pub mod Limits
+pub mod SchemaTexts
 pub mod Checking
 pub mod Compiled
 pub mod Comparing

@@ -13,6 +13,7 @@ use Rattle.tc_model.specs.XmlText.{XmlText}
 use Rattle.tc_answer.specs.Answers.{Answer, cannot_read, unsafe, unsafe_large, not_included, first_only, second_only, rows_limit, refused, work_limit, open_limit, status_of, text_of}
 use Rattle.tc_top.specs.Answers.{IsAnswer, IsAnswerOn}
 use Rattle.tc_answer.specs.Lines.{RowCount}
+use Rattle.tc_top.specs.SchemaTexts.{IsRefusedDtd}
 use Rattle.tc_read.specs.Refusals.{IsRefusedDocument, IsRefusedSheet}
 use Rattle.tc_read.specs.declared.faults.Reason.{Reason}
 use Rattle.tc_read.specs.declared.faults.Reason.TheVariants.{Malformed, Unsupported, TooDeep}
@@ -66,6 +67,15 @@ IsOfFault rose _ = ⊥
 abbrev pub HasAnswerOfCall : Type 0
 HasAnswerOfCall = (words : List (List ℕ)) (files : Files) (before after : ℕ) (reads : List Read) (a b : Answer)
     → IsAnswerOn words files a → AreTrue (Some files) (Rose before after) reads → IsAnswer words reads b → AreAlike a b ⊎ IsOfFault (Rose before after) b
+
+-- what is refused for this reason is refused at one place
+abbrev pub IsPlaced : Reason → Type 0
+IsPlaced Malformed = ⊥
+IsPlaced _ = Unit {0}
+
+-- declarations of elements are refused for one reason, at one place unless they are malformed
+abbrev pub HasOneReasonOfDtd : Type 0
+HasOneReasonOfDtd = (bytes : List ℕ) (r q : Reason) (k m : ℕ) → IsRefusedDtd bytes r k → IsRefusedDtd bytes q m → (r ≡ q) × (IsPlaced r → k ≡ m)
 
 -- this stands in a text, up to which it was read
 abbrev pub IsConstruct : Reason → Type 0

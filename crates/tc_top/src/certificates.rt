@@ -12,7 +12,7 @@ use crate::unread::answer_unread;
 use crate::upgrade::upgrade_text;
 use crate::verify::verify_texts;
 use std::alloc::Global;
-use tc_answer::{Answer, Triple, read_operand, read_triple, read_verified};
+use tc_answer::{Answer, Source, Triple, read_operand, read_triple, read_verified};
 use tc_base::NoMemory;
 use tc_io::Store;
 
@@ -67,7 +67,7 @@ pub fn upgrade<S: Store>(
     ensures ok { IfOk result (λ said. (words : List (List ℕ)) → Words words (w.upgrade certificate.now)
         → IsRightFor words (Happened S.read_gives S.holds S.faults store.old store.new) said) }
 {
-    match read_operand(alloc, certificate, store) {
+    match read_operand(alloc, Source::plain(certificate), store) {
         Ok(certificate) => upgrade_text(alloc, &certificate),
         Err(unread) => answer_unread(alloc, unread),
     }

@@ -7,7 +7,7 @@ ghost use Rattle.tc_model.specs.Grammars as g;
 ghost use Rattle.tc_model.specs.Trees.{none, IsDocument};
 ghost use Rattle.tc_model.specs.Views as see;
 ghost use Rattle.tc_model.specs.WellFormed.{IsSheet};
-ghost use Rattle.tc_read.specs.Schemas.{IsSchemaOf};
+ghost use Rattle.tc_top.specs.SchemaTexts.{IsSchemaOfText};
 ghost use Rattle.tc_rows.specs.Triples as t;
 ghost use Rattle.tc_answer.specs.Answers as a;
 ghost use Rattle.tc_top.specs.Causes.{Checks, Finds};
@@ -19,6 +19,7 @@ ghost use Rattle.tc_answer.specs.Words as w;
 ghost use Rattle.tc_answer.specs.Words.{Words};
 
 use crate::compile::{CompileFault, machine_of};
+use crate::schema_texts::read_operand_schema;
 use crate::unread::answer_unread;
 use bumpalo::Bump;
 use std::alloc::Global;
@@ -29,7 +30,7 @@ use tc_beh::Machine;
 use tc_close::{CloseFault, Decision};
 use tc_io::Store;
 use tc_model::{Node, Sheet};
-use tc_read::{Schema, TextFault, read_schema, read_sheet};
+use tc_read::{Schema, TextFault, read_sheet};
 use tc_run::RunFault;
 
 /// Reads the operands, and decides whether the stylesheet is safe, with so many rows of trees and of lists of trees at
@@ -74,7 +75,7 @@ pub fn check_texts(alloc: Global, most: u32, operands: &Operands<'_>) -> Result<
         operands.now.input.text.items operands.now.output.text.items operands.now.sheet.text.items answer) }
 {
     let arena = Bump::new(alloc);
-    match read_schema(&arena, &operands.input.text) {
+    match read_operand_schema(&arena, &operands.input) {
         Ok(input) => check_output(alloc, &arena, most, &input, operands),
         Err(TextFault::Refused(reason, place)) => {
             Answer::refused(alloc, operands.input.name, reason, place)
@@ -92,14 +93,14 @@ fn check_output<'b>(
     operands: &Operands<'_>,
 ) -> Result<Answer, NoMemory>
     requires few { most ≤ 4000 }
-    requires input { IsSchemaOf operands.now.input.text.items input.now }
+    requires input { IsSchemaOfText operands.now.input.name.now operands.now.input.text.items input.now }
     requires output { length operands.now.output.text.items ≤ longest_text }
     requires sheet { length operands.now.sheet.text.items ≤ longest_text }
     ensures { IfOk result (λ said. (answer : a.Answer) × Says said answer
         × Checks most operands.now.input.name.now operands.now.output.name.now operands.now.sheet.name.now
         operands.now.input.text.items operands.now.output.text.items operands.now.sheet.text.items answer) }
 {
-    match read_schema(arena, &operands.output.text) {
+    match read_operand_schema(arena, &operands.output) {
         Ok(output) => check_sheet(alloc, arena, most, input, &output, operands),
         Err(TextFault::Refused(reason, place)) => {
             Answer::refused(alloc, operands.output.name, reason, place)
@@ -118,8 +119,8 @@ fn check_sheet<'b>(
     operands: &Operands<'_>,
 ) -> Result<Answer, NoMemory>
     requires few { most ≤ 4000 }
-    requires input { IsSchemaOf operands.now.input.text.items input.now }
-    requires output { IsSchemaOf operands.now.output.text.items output.now }
+    requires input { IsSchemaOfText operands.now.input.name.now operands.now.input.text.items input.now }
+    requires output { IsSchemaOfText operands.now.output.name.now operands.now.output.text.items output.now }
     requires sheet { length operands.now.sheet.text.items ≤ longest_text }
     ensures { IfOk result (λ said. (answer : a.Answer) × Says said answer
         × Checks most operands.now.input.name.now operands.now.output.name.now operands.now.sheet.name.now

@@ -8,16 +8,17 @@ ghost use Rattle.tc_incl.specs.Schemas.{Schemas};
 ghost use Rattle.tc_model.specs.Grammars as g;
 ghost use Rattle.tc_model.specs.Trees.{none, node_count};
 ghost use Rattle.tc_model.specs.Views as see;
-ghost use Rattle.tc_read.specs.Schemas.{IsSchemaOf};
 ghost use Rattle.tc_top.specs.Comparing.{AreCompiled, Compares, FindsBoth, FindsEquality, FindsInclusion, PassesCompiling, backward, forward, symbols_of_both};
 ghost use Rattle.tc_top.specs.Compiled.{IsCauseBy, IsReadOf, IsSpelled};
 ghost use Rattle.tc_top.specs.Limits.{AreFew, IsWithinLimits};
 ghost use Rattle.tc_model.specs.States.{input};
 ghost use Rattle.tc_base.specs.declared.limits.TheConstants.{MOST_INPUT_STATES};
 ghost use Rattle.tc_answer.specs.declared.limits.TheConstants.{MOST_ROWS, MOST_SHOWN_NODES};
+ghost use Rattle.tc_top.specs.SchemaTexts.{IsSchemaOfText};
 ghost use Rattle.tc_top.specs.Pairs.{HasFewNodes, IsPairOf, SaysCovers, question as asked};
 
 use crate::compile::{CompileFault, contents_of, small};
+use crate::schema_texts::read_operand_schema;
 use bumpalo::Bump;
 use std::alloc::Global;
 use tc_alpha::{AlphaFault, Alphabet};
@@ -28,7 +29,7 @@ use tc_base::limits::MOST_SYMBOLS;
 use tc_base::{Limit, NoMemory};
 use tc_incl::{Cover, InclFault, included};
 use tc_model::{Node, Sheet};
-use tc_read::{Schema, TextFault, read_schema};
+use tc_read::{Schema, TextFault};
 
 /// What is asked of two schemas.
 #[derive(Clone, Copy, Debug, PartialEq, Eq)]
@@ -60,7 +61,7 @@ pub fn compare_texts(
         × Compares (asked question) first.now.name.now second.now.name.now first.now.text.items second.now.text.items answer) }
 {
     let arena = Bump::new(alloc);
-    match read_schema(&arena, &first.text) {
+    match read_operand_schema(&arena, first) {
         Ok(read) => compare_second(alloc, &arena, question, &read, first, second),
         Err(TextFault::Refused(reason, place)) => {
             Answer::refused(alloc, first.name, reason, place)
@@ -78,12 +79,12 @@ fn compare_second<'b>(
     first: &Operand<'_>,
     second: &Operand<'_>,
 ) -> Result<Answer, NoMemory>
-    requires first { IsSchemaOf first.now.text.items read.now }
+    requires first { IsSchemaOfText first.now.name.now first.now.text.items read.now }
     requires second { length second.now.text.items ≤ longest_text }
     ensures { IfOk result (λ said. (answer : a.Answer) × Says said answer
         × Compares (asked question) first.now.name.now second.now.name.now first.now.text.items second.now.text.items answer) }
 {
-    match read_schema(arena, &second.text) {
+    match read_operand_schema(arena, second) {
         Ok(other) => compare_read(alloc, arena, question, read, &other),
         Err(TextFault::Refused(reason, place)) => {
             Answer::refused(alloc, second.name, reason, place)

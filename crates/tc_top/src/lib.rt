@@ -10,6 +10,7 @@ pub mod laws;
 mod program;
 mod prove;
 mod run;
+mod schema_texts;
 mod schemas;
 mod texts;
 mod unread;

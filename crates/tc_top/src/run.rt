@@ -21,7 +21,7 @@ use crate::unread::answer_unread;
 use bumpalo::Bump;
 use std::alloc::Global;
 use tc_alpha::{AlphaFault, Alphabet};
-use tc_answer::{Answer, Operand, read_pair};
+use tc_answer::{Answer, Operand, Source, read_pair};
 use tc_base::limits::{MOST_ANCESTORS, MOST_PREDICATES, MOST_SELECTS, MOST_SYMBOLS};
 use tc_base::{Limit, NoMemory};
 use tc_io::Store;
@@ -42,7 +42,12 @@ pub fn run<S: Store>(
     ensures ok { IfOk result (λ said. (words : List (List ℕ)) → Words words (w.run sheet.now document.now)
         → IsRightFor words (Happened S.read_gives S.holds S.faults store.old store.new) said) }
 {
-    match read_pair(alloc, sheet, document, store) {
+    match read_pair(
+        alloc,
+        Source::plain(sheet),
+        Source::plain(document),
+        store,
+    ) {
         Ok((sheet, document)) => run_texts(alloc, &sheet, &document),
         Err(unread) => answer_unread(alloc, unread),
     }

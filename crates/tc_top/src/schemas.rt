@@ -8,7 +8,7 @@ ghost use Rattle.tc_top.specs.AnswersSeen.{IsRightFor};
 use crate::compare::{Question, compare_texts};
 use crate::unread::answer_unread;
 use std::alloc::Global;
-use tc_answer::{Answer, read_pair};
+use tc_answer::{Answer, Source, read_pair};
 use tc_base::NoMemory;
 use tc_io::Store;
 
@@ -24,7 +24,12 @@ pub fn include<S: Store>(
     ensures ok { IfOk result (λ said. (words : List (List ℕ)) → Words words (w.include first.now second.now)
         → IsRightFor words (Happened S.read_gives S.holds S.faults store.old store.new) said) }
 {
-    match read_pair(alloc, first, second, store) {
+    match read_pair(
+        alloc,
+        Source::schema(first),
+        Source::schema(second),
+        store,
+    ) {
         Ok((first, second)) => compare_texts(alloc, Question::Inclusion, &first, &second),
         Err(unread) => answer_unread(alloc, unread),
     }
@@ -42,7 +47,12 @@ pub fn same<S: Store>(
     ensures ok { IfOk result (λ said. (words : List (List ℕ)) → Words words (w.same first.now second.now)
         → IsRightFor words (Happened S.read_gives S.holds S.faults store.old store.new) said) }
 {
-    match read_pair(alloc, first, second, store) {
+    match read_pair(
+        alloc,
+        Source::schema(first),
+        Source::schema(second),
+        store,
+    ) {
         Ok((first, second)) => compare_texts(alloc, Question::Equality, &first, &second),
         Err(unread) => answer_unread(alloc, unread),
     }

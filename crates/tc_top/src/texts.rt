@@ -3,19 +3,20 @@ ghost use Rattle.std.specs.Prelude.{◌≡◌, ◌≤◌, IfOk, IfErr, length};
 ghost use Rattle.tc_base.specs.Reading.{longest_text};
 ghost use Rattle.tc_model.specs.Views as see;
 ghost use Rattle.tc_model.specs.WellFormed.{IsSheet};
-ghost use Rattle.tc_read.specs.Refusals.{IsRefusedSchema, IsRefusedSheet};
-ghost use Rattle.tc_read.specs.Schemas.{IsSchemaOf};
+ghost use Rattle.tc_read.specs.Refusals.{IsRefusedSheet};
 ghost use Rattle.tc_read.specs.Sheets.{IsSheetOf};
+ghost use Rattle.tc_top.specs.SchemaTexts.{IsRefusedText, IsSchemaOfText};
 ghost use Rattle.tc_top.specs.CertifyingSeen.{undecided_of, IsUndecided, IsRefusedBy, StopsTexts, IsMachineOfTexts};
 
 use crate::compile::{CompileFault, machine_of};
+use crate::schema_texts::read_operand_schema;
 use bumpalo::Bump;
 use std::alloc::Global;
 use tc_answer::{Answer, Operand, Operands};
 use tc_base::NoMemory;
 use tc_beh::Machine;
 use tc_model::Sheet;
-use tc_read::{Schema, TextFault, read_schema, read_sheet};
+use tc_read::{Schema, TextFault, read_sheet};
 
 /// Why nothing is decided of texts.
 #[derive(Drop)]
@@ -53,10 +54,10 @@ fn schema_of<'b>(
     operand: &Operand<'_>,
 ) -> Result<Schema<'b>, Undecided>
     requires { length operand.now.text.items ≤ longest_text }
-    ensures ok { IfOk result (IsSchemaOf operand.now.text.items) }
-    ensures no { IfErr result (IsUndecided (IsRefusedBy operand.now.name.now (IsRefusedSchema operand.now.text.items))) }
+    ensures ok { IfOk result (IsSchemaOfText operand.now.name.now operand.now.text.items) }
+    ensures no { IfErr result (IsUndecided (IsRefusedBy operand.now.name.now (IsRefusedText operand.now.name.now operand.now.text.items))) }
 {
-    match read_schema(arena, &operand.text) {
+    match read_operand_schema(arena, operand) {
         Ok(schema) => Ok(schema),
         Err(TextFault::Refused(reason, place)) => {
             Err(stops(Answer::refused(alloc, operand.name, reason, place)))
@@ -98,7 +99,8 @@ pub(crate) fn machine_of_texts<'b>(
     requires input { length operands.now.input.text.items ≤ longest_text }
     requires output { length operands.now.output.text.items ≤ longest_text }
     requires sheet { length operands.now.sheet.text.items ≤ longest_text }
-    ensures ok { IfOk result (IsMachineOfTexts operands.now.input.text.items operands.now.output.text.items operands.now.sheet.text.items) }
+    ensures ok { IfOk result (IsMachineOfTexts operands.now.input.name.now operands.now.output.name.now
+        operands.now.input.text.items operands.now.output.text.items operands.now.sheet.text.items) }
     ensures no { IfErr result (IsUndecided (StopsTexts operands.now.input.name.now operands.now.output.name.now operands.now.sheet.name.now
         operands.now.input.text.items operands.now.output.text.items operands.now.sheet.text.items)) }
 {

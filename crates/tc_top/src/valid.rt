@@ -8,7 +8,7 @@ ghost use Rattle.tc_model.specs.SimplifiesCounts.{IsWithinCounts};
 ghost use Rattle.tc_model.specs.SimplifiesLaws.{IsStart};
 ghost use Rattle.tc_model.specs.Symbols.{symbol_count};
 ghost use Rattle.tc_model.specs.Trees.{none};
-ghost use Rattle.tc_read.specs.Schemas.{IsSchemaOf};
+ghost use Rattle.tc_top.specs.SchemaTexts.{IsSchemaOfText};
 ghost use Rattle.tc_answer.specs.Answers as a;
 ghost use Rattle.tc_top.specs.Causes.{Decides, Validates};
 ghost use Rattle.tc_answer.specs.AnswersSeen.{Says};
@@ -17,18 +17,19 @@ ghost use Rattle.tc_top.specs.Limits.{AreFew, symbols_of_schema};
 ghost use Rattle.tc_answer.specs.Words as w;
 ghost use Rattle.tc_answer.specs.Words.{Words};
 
+use crate::schema_texts::read_operand_schema;
 use crate::unread::answer_unread;
 use bumpalo::Bump;
 use std::alloc::Global;
 use tc_alpha::{AlphaFault, Alphabet};
-use tc_answer::{Answer, Operand, read_pair};
+use tc_answer::{Answer, Operand, Source, read_pair};
 use tc_auto::{Auto, AutoFault};
 use tc_base::limits::{MOST_INPUT_STATES, MOST_SYMBOLS};
 use tc_base::{Limit, NoMemory};
 use tc_hedge::Hedge;
 use tc_io::Store;
 use tc_model::{Grammar, Node, Pat, Sheet};
-use tc_read::{Schema, TextFault, read_document, read_schema};
+use tc_read::{Schema, TextFault, read_document};
 
 /// Reads the operands, and tells whether the document is valid.
 pub fn valid<S: Store>(
@@ -42,7 +43,12 @@ pub fn valid<S: Store>(
     ensures ok { IfOk result (λ said. (words : List (List ℕ)) → Words words (w.valid schema.now document.now)
         → IsRightFor words (Happened S.read_gives S.holds S.faults store.old store.new) said) }
 {
-    match read_pair(alloc, schema, document, store) {
+    match read_pair(
+        alloc,
+        Source::schema(schema),
+        Source::plain(document),
+        store,
+    ) {
         Ok((schema, document)) => valid_texts(alloc, &schema, &document),
         Err(unread) => answer_unread(alloc, unread),
     }
@@ -60,7 +66,7 @@ fn valid_texts(
         × Validates schema.now.name.now document.now.name.now schema.now.text.items document.now.text.items answer) }
 {
     let arena = Bump::new(alloc);
-    match read_schema(&arena, &schema.text) {
+    match read_operand_schema(&arena, schema) {
         Ok(read) => valid_document(alloc, &arena, &read, document),
         Err(TextFault::Refused(reason, place)) => {
             Answer::refused(alloc, schema.name, reason, place)
@@ -77,8 +83,8 @@ fn valid_document(
     document: &Operand<'_>,
 ) -> Result<Answer, NoMemory>
     requires short { length document.now.text.items ≤ longest_text }
-    requires read { (bytes : List ℕ) × IsSchemaOf bytes schema.now }
-    ensures { IfOk result (λ said. (answer : a.Answer) × Says said answer × ((name bytes : List ℕ) → IsSchemaOf bytes schema.now
+    requires read { (word : List ℕ) × (bytes : List ℕ) × IsSchemaOfText word bytes schema.now }
+    ensures { IfOk result (λ said. (answer : a.Answer) × Says said answer × ((name bytes : List ℕ) → IsSchemaOfText name bytes schema.now
         → Validates name document.now.name.now bytes document.now.text.items answer)) }
 {
     match read_document(arena, &document.text) {

@@ -1,8 +1,15 @@
-use Rattle.std.proofs.Common.{subst}
+use Rattle.std.proofs.Common.{◌∷◌, [], sym, subst}
 use Rattle.tc_answer.specs.Words.{AreOperands, Limits}
+use Rattle.tc_scan.proofs.NamesLaws.{at_none}
 use Rattle.tc_answer.proofs.command.read_limited.Goals as goal
+
+pub returns-in_err-read_triple : goal.returns-in_err-read_triple
+returns-in_err-read_triple c =
+    at_none _ c.from_residual-in_err-read_triple.ensures (λ limit a b d limits operands schemas.
+    let same = c.in_ok-limit.ensures.1 limit (a ∷ b ∷ d ∷ []) limits operands in
+    c.in_err-read_triple.ensures a b d (sym same) (subst AreOperands same operands) schemas)
 
 pub returns : goal.returns
 returns c =
     let read = c.in_ok-read_triple.ensures in
-    (subst (Limits _ _) read.0 c.in_ok-limit.ensures.0, subst AreOperands read.0 read.1)
+    (subst (Limits _ _) read.0 c.in_ok-limit.ensures.0, subst AreOperands read.0 read.1, read.2)

@@ -6,17 +6,17 @@ use Rattle.tc_answer.proofs.command.read_words.Goals as goal
 pub returns-in_ok-limit-in-check : goal.returns-in_ok-limit-in-check
 returns-in_ok-limit-in-check c =
     let read = c.in_ok-limit-in-check.ensures in
-    checks (texts-first _ _ _ _ (codes "check") c.in_ok-name.ensures.cases.0 c.as_str.ensures.value c.in-check.is) read.0 read.1
+    checks (texts-first _ _ _ _ (codes "check") c.in_ok-name.ensures.cases.0 c.as_str.ensures.value c.in-check.is) read.0 read.1 read.2
 
 pub returns-in_ok-limit-in-prove : goal.returns-in_ok-limit-in-prove
 returns-in_ok-limit-in-prove c =
     let read = c.in_ok-limit-in-prove.ensures in
-    proves (texts-first _ _ _ _ (codes "prove") c.in_ok-name.ensures.cases.0 c.as_str.ensures.value c.in-prove.is) read.0 read.1
+    proves (texts-first _ _ _ _ (codes "prove") c.in_ok-name.ensures.cases.0 c.as_str.ensures.value c.in-prove.is) read.0 read.1 read.2
 
 pub returns-in_ok-triple-in-verify : goal.returns-in_ok-triple-in-verify
 returns-in_ok-triple-in-verify c =
     let read = c.in_ok-triple-in-verify.ensures in
-    verifies (texts-parts _ _ _ _ (codes "verify") _ c.in_ok-name.ensures.cases.0 c.as_str.ensures.value c.in-verify.is read.0) (subst AreOperands read.0 read.1)
+    verifies (texts-parts _ _ _ _ (codes "verify") _ c.in_ok-name.ensures.cases.0 c.as_str.ensures.value c.in-verify.is read.0) (subst AreOperands read.0 read.1) read.2
 
 pub returns-in_ok-sheet-in-run : goal.returns-in_ok-sheet-in-run
 returns-in_ok-sheet-in-run c =
@@ -26,7 +26,7 @@ returns-in_ok-sheet-in-run c =
 pub returns-in_ok-schema-in-valid : goal.returns-in_ok-schema-in-valid
 returns-in_ok-schema-in-valid c =
     let read = c.in_ok-schema-in-valid.ensures in
-    validates (texts-parts _ _ _ _ (codes "valid") _ c.in_ok-name.ensures.cases.0 c.as_str.ensures.value c.in-valid.is read.0) (subst AreOperands read.0 read.1)
+    validates (texts-parts _ _ _ _ (codes "valid") _ c.in_ok-name.ensures.cases.0 c.as_str.ensures.value c.in-valid.is read.0) (subst AreOperands read.0 read.1) read.2
 
 pub returns-in_ok-read_size-in-demo : goal.returns-in_ok-read_size-in-demo
 returns-in_ok-read_size-in-demo c =
@@ -41,9 +41,9 @@ returns-in_ok-read_one-in-upgrade c =
 pub returns-in_ok-first-in-include : goal.returns-in_ok-first-in-include
 returns-in_ok-first-in-include c =
     let read = c.in_ok-first-in-include.ensures in
-    includes (texts-parts _ _ _ _ (codes "include") _ c.in_ok-name.ensures.cases.0 c.as_str.ensures.value c.in-include.is read.0) (subst AreOperands read.0 read.1)
+    includes (texts-parts _ _ _ _ (codes "include") _ c.in_ok-name.ensures.cases.0 c.as_str.ensures.value c.in-include.is read.0) (subst AreOperands read.0 read.1) read.2
 
 pub returns-in_ok-first-in-same : goal.returns-in_ok-first-in-same
 returns-in_ok-first-in-same c =
     let read = c.in_ok-first-in-same.ensures in
-    compares (texts-parts _ _ _ _ (codes "same") _ c.in_ok-name.ensures.cases.0 c.as_str.ensures.value c.in-same.is read.0) (subst AreOperands read.0 read.1)
+    compares (texts-parts _ _ _ _ (codes "same") _ c.in_ok-name.ensures.cases.0 c.as_str.ensures.value c.in-same.is read.0) (subst AreOperands read.0 read.1) read.2

@@ -1,4 +1,5 @@
 use Rattle.tc_dtd.proofs.FaultLaws.{one_dtd, lawful, one_refusal, no_dtd}
+use Rattle.tc_dtd.proofs.OneFault.{one_fault, one_grammar}
 use Rattle.tc_dtd.proofs.laws.law_of_dtd_texts.Goals as goal
 
 pub returns-clause-meaning : goal.returns-clause-meaning
@@ -12,3 +13,9 @@ returns-clause-refusal c = one_refusal
 
 pub returns-clause-refused : goal.returns-clause-refused
 returns-clause-refused c = no_dtd
+
+pub returns-clause-fault : goal.returns-clause-fault
+returns-clause-fault c = one_fault
+
+pub returns-clause-grammar : goal.returns-clause-grammar
+returns-clause-grammar c = one_grammar

@@ -1,8 +1,8 @@
-use Rattle.std.proofs.Common.{refl}
+use Rattle.std.proofs.Common.{refl, sym}
 use Rattle.std.proofs.lemmas.Result.{IfOk-weaker}
-use Rattle.tc_answer.specs.Words.{Words, prove}
 use Rattle.tc_answer.proofs.OperandsRead.{three_named}
 use Rattle.tc_top.specs.Answers.{proved, decided}
+use Rattle.tc_top.specs.Certifying.{Proves}
 use Rattle.tc_top.specs.Checking.{most_rows}
 use Rattle.tc_top.proofs.CertifyingCalls.{proves_at}
 use Rattle.tc_top.proofs.certificates.prove.Goals as goal
@@ -17,9 +17,10 @@ returns-in-Ok-clause-ok g c =
       (
         h.0,
         h.1,
-        decided (three_named (λ x y z. Words words (prove c.args.limit x y z)) read.input read.output read.sheet are) (refl, (refl, (refl, refl)))
+        decided are (refl, (refl, (refl, refl)))
             (proved
-            (proves_at c.row_limit.result (most_rows c.args.limit) o.input.name.now o.output.name.now o.sheet.name.now o.input.text.items o.output.text.items o.sheet.text.items h.0 c.row_limit.ensures h.2)),
+            (three_named (λ x y z. Proves (most_rows c.args.limit) x y z o.input.text.items o.output.text.items o.sheet.text.items h.0) (sym read.input) (sym read.output) (sym read.sheet)
+            (proves_at c.row_limit.result (most_rows c.args.limit) o.input.name.now o.output.name.now o.sheet.name.now o.input.text.items o.output.text.items o.sheet.text.items h.0 c.row_limit.ensures h.2))),
       ),
     )) c.prove_texts.ensures
 

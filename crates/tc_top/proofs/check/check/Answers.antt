@@ -1,7 +1,8 @@
-use Rattle.std.proofs.Common.{refl}
+use Rattle.std.proofs.Common.{refl, sym}
 use Rattle.std.proofs.lemmas.Result.{IfOk-weaker}
 use Rattle.tc_top.specs.Answers.{checked, decided}
-use Rattle.tc_answer.specs.Words.{Words, check}
+use Rattle.tc_top.specs.Causes.{Checks}
+use Rattle.tc_top.specs.Checking.{most_rows}
 use Rattle.tc_top.proofs.Checked.{checks_at}
 use Rattle.tc_answer.proofs.OperandsRead.{three_named}
 use Rattle.tc_top.proofs.check.check.Goals as goal
@@ -9,14 +10,15 @@ use Rattle.tc_top.proofs.check.check.Goals as goal
 pub returns-in-Ok-clause-ok : goal.returns-in-Ok-clause-ok
 returns-in-Ok-clause-ok g c =
     let read = c.in-Ok.ensures in
+    let o = c.in-Ok.operands in
     IfOk-weaker c.check_texts.result _ _ (λ said h words are. (
       _,
       read.ok,
       (
         h.0,
         h.1,
-        decided (three_named (λ x y z. Words words (check c.args.limit x y z)) read.input read.output read.sheet are) (refl, (refl, (refl, refl)))
-            (checked (checks_at c.row_limit.ensures h.2)),
+        decided are (refl, (refl, (refl, refl)))
+            (checked (three_named (λ x y z. Checks (most_rows c.args.limit) x y z o.input.text.items o.output.text.items o.sheet.text.items h.0) (sym read.input) (sym read.output) (sym read.sheet) (checks_at c.row_limit.ensures h.2))),
       ),
     )) c.check_texts.ensures
 

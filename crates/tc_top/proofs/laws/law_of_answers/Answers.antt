@@ -1,6 +1,7 @@
 use Rattle.tc_read.proofs.SchemaReasons.{one_reason}
 use Rattle.tc_top.proofs.OneAnswer.{one_answer, one_answer_on, answer_of_call}
 use Rattle.tc_top.proofs.OneRefusal.{one_construct, one_fault_of_names}
+use Rattle.tc_top.proofs.SchemaTextLaws.{one_reason_of_dtd}
 use Rattle.tc_top.proofs.laws.law_of_answers.Goals as goal
 
 pub returns-clause-one : goal.returns-clause-one
@@ -14,6 +15,9 @@ returns-clause-call c = answer_of_call
 
 pub returns-clause-schema : goal.returns-clause-schema
 returns-clause-schema c = one_reason
+
+pub returns-clause-declarations : goal.returns-clause-declarations
+returns-clause-declarations c = one_reason_of_dtd
 
 pub returns-clause-construct : goal.returns-clause-construct
 returns-clause-construct c = one_construct

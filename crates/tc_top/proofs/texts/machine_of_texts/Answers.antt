@@ -23,10 +23,10 @@ returns-in_err-sheet-clause-no c =
     stops_sheet o.input.name.now o.output.name.now o.sheet.name.now o.input.text.items o.output.text.items o.sheet.text.items _ _ c.in_ok-input.ensures.ok c.in_ok-output.ensures.ok c.from_residual-in_err-sheet.result _ c.from_residual-in_err-sheet.ensures.1 c.in_err-sheet.ensures.no
 
 pub machine_of-requires-clause-input : goal.machine_of-requires-clause-input
-machine_of-requires-clause-input c = (c.args.operands.now.input.text.items, c.in_ok-input.ensures.ok)
+machine_of-requires-clause-input c = (c.args.operands.now.input.name.now, c.args.operands.now.input.text.items, c.in_ok-input.ensures.ok)
 
 pub machine_of-requires-clause-output : goal.machine_of-requires-clause-output
-machine_of-requires-clause-output c = (c.args.operands.now.output.text.items, c.in_ok-output.ensures.ok)
+machine_of-requires-clause-output c = (c.args.operands.now.output.name.now, c.args.operands.now.output.text.items, c.in_ok-output.ensures.ok)
 
 pub machine_of-requires-clause-sheet : goal.machine_of-requires-clause-sheet
 machine_of-requires-clause-sheet c = c.in_ok-sheet.ensures.well_formed

@@ -1,35 +1,32 @@
 use Rattle.std.proofs.Common.{List, ℕ, subst}
 use Rattle.std.proofs.lemmas.Result.{IfOk-weaker}
 use Rattle.tc_model.specs.Grammars.{Grammar}
-use Rattle.tc_model.specs.RncText.{RncText}
 use Rattle.tc_model.specs.Views as see
-use Rattle.tc_model.proofs.SimplifiesUnique.{lawful_start}
 use Rattle.tc_model.specs.Trees.{none}
 use Rattle.tc_print.specs.ReadBack.{IsReadAs}
 use Rattle.tc_answer.specs.Answers as a
 use Rattle.tc_top.specs.Causes.{document_refused, both_read, passes}
 use Rattle.tc_read.specs.Refusals.{IsRefusedDocument}
 use Rattle.tc_read.specs.Faults.{IsUnaccepted}
-use Rattle.tc_read.specs.Schemas.{IsSchemaOf}
 use Rattle.tc_read.specs.declared.schemas.Schema.{Schema}
 use Rattle.tc_read.specs.declared.schemas.Schema.TheVariants.{Small, TooLarge}
 use Rattle.tc_top.specs.Limits.{passes_size}
+use Rattle.tc_top.specs.SchemaTexts.{SchemaText, IsSchemaOfText}
+use Rattle.tc_top.proofs.SchemaTextLaws.{lawful_schema}
 use Rattle.tc_top.proofs.valid.valid_document.Goals as goal
 
 -- the schema has a grammar, whether it is small enough or not
-has_grammar : (bytes : List ℕ) (s : Schema) → IsSchemaOf bytes s → (g : Grammar) × RncText bytes g
-has_grammar bytes (Small x) h = (see.grammar x, h.0)
-has_grammar bytes (TooLarge kind number) h = (h.0, h.1)
+has_grammar : (word bytes : List ℕ) (s : Schema) → IsSchemaOfText word bytes s → (g : Grammar) × SchemaText word bytes g
+has_grammar word bytes (Small x) h = (see.grammar x, h.0)
+has_grammar word bytes (TooLarge kind number) h = (h.0, h.1)
 
 pub decide-requires-clause-start : goal.decide-requires-clause-start
-decide-requires-clause-start c =
-    let read = subst (IsSchemaOf c.requires.read.0) c.in-Small.is c.requires.read.1 in
-    lawful_start read.0.0 (see.grammar c.in-Small.grammar) read.0.2
+decide-requires-clause-start c = let read = subst (IsSchemaOfText c.requires.read.0 c.requires.read.1) c.in-Small.is c.requires.read.2 in (lawful_schema read.0).1
 
 pub returns-in-Small : goal.returns-in-Small
 returns-in-Small c =
     let read = subst (λ w. IsReadAs w (see.before c.in-Ok.root none)) c.deref.ensures.value c.in-Ok.ensures.ok in
-    IfOk-weaker c.decide.result _ _ (λ said h. (h.0, h.1, λ other bytes is. both_read (subst (IsSchemaOf bytes) c.in-Small.is is).0 read h.2)) c.decide.ensures
+    IfOk-weaker c.decide.result _ _ (λ said h. (h.0, h.1, λ word bytes is. both_read (subst (IsSchemaOfText word bytes) c.in-Small.is is).0 read h.2)) c.decide.ensures
 
 pub returns-in-TooLarge : goal.returns-in-TooLarge
 returns-in-TooLarge c =
@@ -37,7 +34,7 @@ returns-in-TooLarge c =
     IfOk-weaker c.limit.result _ _ (λ said says. (
       a.over_limit c.in-TooLarge.kind c.in-TooLarge.number,
       says,
-      λ other bytes is. let large = subst (IsSchemaOf bytes) c.in-TooLarge.is is in both_read large.1 read (passes (passes_size large.2)),
+      λ word bytes is. let large = subst (IsSchemaOfText word bytes) c.in-TooLarge.is is in both_read large.1 read (passes (passes_size large.2)),
     )) c.limit.ensures
 
 pub returns-in-Err-Refused : goal.returns-in-Err-Refused
@@ -47,5 +44,5 @@ returns-in-Err-Refused c =
     IfOk-weaker c.refused.result _ _ (λ said says. (
       a.refused c.args.document.now.name.now c.in-Err-Refused.reason (see.place c.in-Err-Refused.place),
       says,
-      λ other bytes is. document_refused (has_grammar bytes c.args.schema.now is).1 refused,
+      λ word bytes is. document_refused (has_grammar word bytes c.args.schema.now is).1 refused,
     )) c.refused.ensures
