@@ -18,6 +18,6 @@ done
 sed 's/section+/section*/; s/{ para+ }/{ (para | itemlist)+ }/' "$top/bench/article.rnc" >"$work/wider.rnc"
 compare "$top/bench/article.rnc" "$work/wider.rnc" "article, wider"
 if [ "${2:-}" = all ]; then
-  python3 "$top/bench/make_schema.py" 43 43 7 15 88 >"$work/large.rnc"
+  python3 "$top/bench/make_schema.py" covers 43 43 7 15 88 >"$work/large.rnc"
   compare "$work/large.rnc" "$work/large.rnc" "large"
 fi

@@ -3,6 +3,8 @@
 
   make_document.py attributes BYTES   elements with attributes, texts, references and prefixed namespaces
   make_document.py article BYTES      an article, valid for article.rnc
+  make_document.py tag BYTES          one tag with many attributes
+  make_document.py scopes BYTES       many prefixes, a third of them declared at the root and one at each child
 
 The same words give the same bytes.
 """
@@ -57,11 +59,25 @@ def section(chance, number):
     return "".join(lines)
 
 
+def declared(_, number):
+    """A child that declares a prefix."""
+    return f'<e xmlns:q{number}="u"/>'
+
+
+def root_of_scopes(size):
+    """A start tag that declares as many prefixes as half of so many children do."""
+    return "<a" + "".join(f' xmlns:p{number}="u"' for number in range(size // 60)) + ">"
+
+
 def main():
     kind, size = sys.argv[1], int(sys.argv[2])
     chance = random.Random(1)
     if kind == "attributes":
         front, back, part = '<?xml version="1.0" encoding="UTF-8"?>\n<entries xmlns="urn:entries" xmlns:x="urn:extra">\n', "</entries>\n", entry
+    elif kind == "tag":
+        front, back, part = "<a", "/>\n", lambda _, number: f' k{number}=""'
+    elif kind == "scopes":
+        front, back, part = root_of_scopes(size), "</a>\n", declared
     else:
         front, back, part = "<article>\n  <title>On words</title>\n", "</article>\n", section
     out = sys.stdout.buffer

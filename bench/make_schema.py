@@ -1,18 +1,23 @@
 #!/usr/bin/env python3
-"""Prints a schema with nearly as many cover rows as there may be, over nearly as many states.
+"""Prints a schema that costs much.
 
-  make_schema.py NAMES KEYS WINDOW CYCLE MATCHED
+  make_schema.py covers NAMES KEYS WINDOW CYCLE MATCHED
+  make_schema.py repeated ALTERNATIVES DEPTH   a choice of references in repetitions, one in another
 
-A row of a tree tells its name, one of NAMES and one more, and which of KEYS stands alone in it; each tree matches
-MATCHED element patterns beside these. A row of a list of trees tells which of the last WINDOW trees have one of the
-first names, and how many trees there are, up to multiples of CYCLE. With 43 43 7 15 88 there are nearly 2,000 rows of
-each kind, over 509 states.
+`covers` has nearly as many cover rows as there may be, over nearly as many states. A row of a tree tells its name, one of
+NAMES and one more, and which of KEYS stands alone in it; each tree matches MATCHED element patterns beside these. A row of
+a list of trees tells which of the last WINDOW trees have one of the first names, and how many trees there are, up to
+multiples of CYCLE. With 43 43 7 15 88 there are nearly 2,000 rows of each kind, over 509 states.
 """
 import sys
 
 
-def main():
-    names, keys, window, cycle, matched = map(int, sys.argv[1:])
+def repeated(alternatives, depth):
+    choice = "|".join(["x"] * alternatives)
+    print(f"start = element a {{{'(' * depth}{choice}{')+' * depth}}}\nx = element x {{empty}}")
+
+
+def covers(names, keys, window, cycle, matched):
     first = "|".join(f"n{i}" for i in range((names + 1) // 2))
     rules = ["start = any | window | cycle | dense"]
     rules.append("any = element * {any*}")
@@ -30,6 +35,10 @@ def main():
     used = "|".join([f"n{i}" for i in range(names)] + [f"p{i}" for i in range(keys)])
     rules[0] += " | " + used
     print("\n".join(rules))
+
+
+def main():
+    {"covers": covers, "repeated": repeated}[sys.argv[1]](*map(int, sys.argv[2:]))
 
 
 main()

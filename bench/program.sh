@@ -1,6 +1,7 @@
-# The built program, for the scripts beside this one: `$program`, proved and built first where it isn't.
+# The built program, for the scripts beside this one: `$program`, that of the variable TYPECHECK or that of this repository,
+# proved and built first where it isn't.
 top=$(cd "$(dirname "${BASH_SOURCE[0]}")/.." && pwd)
-program=$top/crates/typecheck/out/typecheck
-"$top/typecheck" valid "$top/bench/article.rnc" "$top/bench/article.xml" >&2 || { echo "the program doesn't validate yet" >&2; exit 1; }
+program=${TYPECHECK:-$top/crates/typecheck/out/typecheck}
+[ -n "${TYPECHECK:-}" ] || "$top/typecheck" valid "$top/bench/article.rnc" "$top/bench/article.xml" >&2 || exit 1
 work=$(mktemp -d)
 trap 'rm -rf "$work"' EXIT
