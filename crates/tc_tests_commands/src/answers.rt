@@ -1,55 +1,58 @@
+// How commands end: their statuses, lines and faults.
+use crate::commands::{joined, sheet_of, store_answers, store_of, words_of, written};
 use std::alloc::Global;
 use std::test::Fail;
 use tc_base::NoMemory;
 use tc_io::{MemSink, MemStore, Sink, WriteFault};
-use tc_top::{Status, WordList, typecheck};
-
-const START: &str =
-    "<xsl:stylesheet version=\"1.0\" xmlns:xsl=\"http://www.w3.org/1999/XSL/Transform\"><xsl:template match=\"/\">";
-
-const END: &str = "</xsl:template></xsl:stylesheet>";
+use tc_top::{Status, typecheck};
 
 const USAGE: &[u8] =
     b"usage: check|prove [--limit N] IN OUT SHEET; verify IN OUT SHEET CERT; run SHEET DOC; valid SCHEMA DOC; demo N; upgrade CERT; include A B; same A B\n";
 
-fn word_list(alloc: Global, words: &[&str]) -> Result<WordList, NoMemory> {
-    let mut list = WordList::new(alloc);
-    for word in words {
-        list.push(word)?;
-    }
-    Ok(list)
-}
+const CHECK: &[&str] = &["check", "I", "O", "S"];
 
 /// A store with two schemas, and a stylesheet with this body.
 fn store_with(alloc: Global, input: &str, output: &str, body: &str) -> Result<MemStore, NoMemory> {
-    let mut sheet = String::from_str(alloc, START)?;
-    sheet.push_str(body)?;
-    sheet.push_str(END)?;
-    let mut store = MemStore::new(alloc);
-    store.put("I", input.as_bytes())?;
-    store.put("O", output.as_bytes())?;
-    store.put("S", sheet.as_bytes())?;
-    Ok(store)
+    let rules = joined(
+        alloc,
+        &["<xsl:template match=\"/\">", body, "</xsl:template>"],
+    )?;
+    let sheet = sheet_of(alloc, rules.as_str())?;
+    store_of(
+        alloc,
+        &[
+            ("I", input.as_bytes()),
+            ("O", output.as_bytes()),
+            ("S", sheet.as_bytes()),
+        ],
+    )
+}
+
+#[test]
+fn stops_at_the_first_operand_that_is_missing(rt: HostRuntime) -> Result<(), Fail> {
+    let mut store = store_of(rt.alloc(), &[("I", b"of no form".as_slice())])?;
+    let line = "cannot read O\n";
+    assert!(rt; store_answers(rt.alloc(), CHECK, &mut store, Status::ReadFault, line)?);
+    Ok(())
 }
 
 #[test]
 fn stops_at_the_first_operand_that_cannot_be_read(rt: HostRuntime) -> Result<(), Fail> {
-    let words = word_list(rt.alloc(), &["check", "I", "O", "S"])?;
-    let mut sink = MemSink::new(rt.alloc(), 200)?;
-    let mut missing = MemStore::new(rt.alloc());
-    missing.put("I", b"of no form")?;
-    assert_eq!(rt;
-        typecheck(rt.alloc(), &words, &mut missing, &mut sink),
-        Status::ReadFault
-    );
-    let mut failing = store_with(rt.alloc(), "of no form", "element r{empty}", "<r/>")?;
-    failing.fail_at(2)?;
-    assert_eq!(rt;
-        typecheck(rt.alloc(), &words, &mut failing, &mut sink),
-        Status::ReadFault
-    );
-    assert_eq!(rt; sink.bytes(), b"cannot read O\ncannot read O\n".as_slice());
+    let mut store = store_with(rt.alloc(), "of no form", "element r{empty}", "<r/>")?;
+    store.fail_at(2)?;
+    let line = "cannot read O\n";
+    assert!(rt; store_answers(rt.alloc(), CHECK, &mut store, Status::ReadFault, line)?);
     Ok(())
+}
+
+/// A store whose reads of these numbers fail.
+fn failing_store(alloc: Global, failing: [u64; 2]) -> Result<MemStore, NoMemory> {
+    let mut store = store_with(alloc, "element a{empty}", "", "<r/>")?;
+    store.put("D", b"<a/>")?;
+    for number in failing {
+        store.fail_at(number)?;
+    }
+    Ok(store)
 }
 
 #[test]
@@ -60,36 +63,20 @@ fn names_the_first_operand_whose_read_fails(rt: HostRuntime) -> Result<(), Fail>
         (["valid", "I", "D"], [1, 2], "cannot read I\n"),
         (["valid", "I", "D"], [2, 3], "cannot read D\n"),
     ] {
-        let mut store = store_with(rt.alloc(), "element a{empty}", "", "<r/>")?;
-        store.put("D", b"<a/>")?;
-        for number in failing {
-            store.fail_at(number)?;
-        }
-        let mut sink = MemSink::new(rt.alloc(), 200)?;
-        assert_eq!(rt;
-            typecheck(
-                rt.alloc(),
-                &word_list(rt.alloc(), &words)?,
-                &mut store,
-                &mut sink
-            ),
-            Status::ReadFault,
+        let mut store = failing_store(rt.alloc(), failing)?;
+        assert!(rt;
+            store_answers(rt.alloc(), &words, &mut store, Status::ReadFault, line)?,
             "{line}"
         );
-        assert_eq!(rt; sink.bytes(), line.as_bytes());
     }
     Ok(())
 }
 
 #[test]
 fn breaks_off_where_a_write_fails(rt: HostRuntime) -> Result<(), Fail> {
-    let words = word_list(rt.alloc(), &["check", "I", "O", "S"])?;
-    let mut store = store_with(
-        rt.alloc(),
-        "element a { empty }",
-        "element r { empty }",
-        "<r><x/></r>",
-    )?;
+    let words = words_of(rt.alloc(), CHECK)?;
+    let (input, output) = ("element a { empty }", "element r { empty }");
+    let mut store = store_with(rt.alloc(), input, output, "<r><x/></r>")?;
     let mut sink = MemSink::new(rt.alloc(), 200)?;
     sink.fail_at(2)?;
     assert_eq!(rt;
@@ -119,13 +106,9 @@ fn tells_the_usage(rt: HostRuntime) -> Result<(), Fail> {
         &["upgrade", "I", "O", "S", "T"],
     ];
     for words in wrong {
-        let words = word_list(rt.alloc(), words)?;
         let mut store = MemStore::new(rt.alloc());
-        let mut sink = MemSink::new(rt.alloc(), 200)?;
-        assert_eq!(rt;
-            typecheck(rt.alloc(), &words, &mut store, &mut sink),
-            Status::Usage
-        );
+        let (status, sink) = written(rt.alloc(), words, &mut store, 200)?;
+        assert_eq!(rt; status, Status::Usage);
         assert_eq!(rt; sink.bytes(), USAGE);
     }
     Ok(())
@@ -155,26 +138,24 @@ impl Sink for Pieces {
     }
 }
 
+/// What these words write of a store with an unsafe stylesheet, and their status.
+fn pieces_of(alloc: Global, words: &[&str]) -> Result<(Status, Pieces), NoMemory> {
+    let words = words_of(alloc, words)?;
+    let (input, output) = ("element a { empty }", "element r { empty }");
+    let mut store = store_with(alloc, input, output, "<r/><r/>")?;
+    let mut sink = Pieces { count: 0, past: 0 };
+    let status = typecheck(alloc, &words, &mut store, &mut sink);
+    Ok((status, sink))
+}
+
 #[test]
 fn writes_each_line_by_itself(rt: HostRuntime) -> Result<(), Fail> {
-    let mut sink = Pieces { count: 0, past: 0 };
-    let mut store = store_with(
-        rt.alloc(),
-        "element a { empty }",
-        "element r { empty }",
-        "<r/><r/>",
-    )?;
-    let check = word_list(rt.alloc(), &["check", "I", "O", "S"])?;
-    assert_eq!(rt;
-        typecheck(rt.alloc(), &check, &mut store, &mut sink),
-        Status::No
-    );
+    let (status, sink) = pieces_of(rt.alloc(), CHECK)?;
+    assert_eq!(rt; status, Status::No);
     assert_eq!(rt; sink.count, 3);
-    let missing = word_list(rt.alloc(), &["check", "no\nfile", "O", "S"])?;
-    assert_eq!(rt;
-        typecheck(rt.alloc(), &missing, &mut store, &mut sink),
-        Status::ReadFault
-    );
+    assert_eq!(rt; sink.past, 0);
+    let (status, sink) = pieces_of(rt.alloc(), &["check", "no\nfile", "O", "S"])?;
+    assert_eq!(rt; status, Status::ReadFault);
     assert_eq!(rt; sink.past, 0);
     Ok(())
 }

@@ -1,13 +1,10 @@
 // Tests of `prove`, `verify` and `upgrade`.
+use crate::commands::{joined, sheet_of, store_answers, store_of, written};
 use std::alloc::Global;
 use std::test::Fail;
-use tc_io::{MemSink, MemStore};
-use tc_top::{Status, WordList, typecheck};
-
-const HEAD: &str =
-    "<xsl:stylesheet version=\"1.0\" xmlns:xsl=\"http://www.w3.org/1999/XSL/Transform\">";
-
-const TAIL: &str = "</xsl:stylesheet>";
+use tc_base::NoMemory;
+use tc_io::MemStore;
+use tc_top::Status;
 
 const PROVE: &[&str] = &["prove", "I", "O", "S"];
 
@@ -54,55 +51,37 @@ const CHANGES: &str = "xslt-typecheck certificate 2\n\
     H 0 0 1 0:1,2:1 -\n\
     end\n";
 
-/// Two schemas, the rules of a stylesheet, and a certificate where there is one.
+/// Two schemas and the rules of a stylesheet.
 #[derive(Clone, Copy)]
 struct Files<'t> {
     input: &'t str,
     output: &'t str,
     rules: &'t str,
-    certificate: Option<&'t [u8]>,
 }
 
-/// These files with [`PARTS`].
-fn parts<'t>(certificate: &'t str) -> Files<'t> {
-    Files {
-        input: ANY_B,
-        output: ANY_X,
-        rules: PARTS,
-        certificate: Some(certificate.as_bytes()),
-    }
-}
+const ANY_PARTS: Files<'static> = Files {
+    input: ANY_B,
+    output: ANY_X,
+    rules: PARTS,
+};
 
-/// A store with these files as `I`, `O`, `S` and `C`.
-fn store_of(alloc: Global, files: Files<'_>) -> Result<MemStore, Fail> {
-    let mut sheet = String::from_str(alloc, HEAD)?;
-    sheet.push_str(files.rules)?;
-    sheet.push_str(TAIL)?;
-    let mut store = MemStore::new(alloc);
-    store.put("I", files.input.as_bytes())?;
-    store.put("O", files.output.as_bytes())?;
-    store.put("S", sheet.as_bytes())?;
-    if let Some(certificate) = files.certificate {
-        store.put("C", certificate)?;
+/// A store with these files as `I`, `O`, `S`, and with a certificate, where there is one, as `C`.
+fn store_with(
+    alloc: Global,
+    files: Files<'_>,
+    certificate: Option<&[u8]>,
+) -> Result<MemStore, NoMemory> {
+    let sheet = sheet_of(alloc, files.rules)?;
+    let triple = [
+        ("I", files.input.as_bytes()),
+        ("O", files.output.as_bytes()),
+        ("S", sheet.as_bytes()),
+    ];
+    let mut store = store_of(alloc, &triple)?;
+    if let Some(bytes) = certificate {
+        store.put("C", bytes)?;
     }
     Ok(store)
-}
-
-/// What these words write of these files, and their status.
-fn written(
-    alloc: Global,
-    words: &[&str],
-    files: Files<'_>,
-    room: usize,
-) -> Result<(Status, MemSink), Fail> {
-    let mut list = WordList::new(alloc);
-    for word in words {
-        list.push(word)?;
-    }
-    let mut store = store_of(alloc, files)?;
-    let mut sink = MemSink::new(alloc, room)?;
-    let status = typecheck(alloc, &list, &mut store, &mut sink);
-    Ok((status, sink))
 }
 
 /// The status that goes with an answer's text.
@@ -121,9 +100,20 @@ fn status_of(text: &str) -> Status {
 }
 
 /// Whether these words write this text of these files, with its status.
-fn writes(alloc: Global, words: &[&str], files: Files<'_>, text: &str) -> Result<bool, Fail> {
-    let (status, sink) = written(alloc, words, files, text.len() + 200)?;
-    Ok(status == status_of(text) && sink.bytes() == text.as_bytes())
+fn writes(
+    alloc: Global,
+    words: &[&str],
+    files: Files<'_>,
+    certificate: Option<&[u8]>,
+    text: &str,
+) -> Result<bool, Fail> {
+    let mut store = store_with(alloc, files, certificate)?;
+    store_answers(alloc, words, &mut store, status_of(text), text)
+}
+
+/// Whether they do so of a certificate for [`ANY_PARTS`].
+fn writes_of(alloc: Global, words: &[&str], certificate: &str, text: &str) -> Result<bool, Fail> {
+    writes(alloc, words, ANY_PARTS, Some(certificate.as_bytes()), text)
 }
 
 /// A text whose line of this number, from 1, is replaced by another text, which ends with its own line feed where it has any.
@@ -145,7 +135,7 @@ fn with_line(alloc: Global, text: &str, number: usize, other: &str) -> Result<St
 /// Whether `verify` says this of the certificate with one line replaced.
 fn verifies_with(alloc: Global, number: usize, other: &str, text: &str) -> Result<bool, Fail> {
     let certificate = with_line(alloc, WHOLE, number, other)?;
-    writes(alloc, VERIFY, parts(certificate.as_str()), text)
+    writes_of(alloc, VERIFY, certificate.as_str(), text)
 }
 
 /// Whether `verify` says this of the certificate with two lines replaced.
@@ -157,15 +147,15 @@ fn verifies_with_two(
 ) -> Result<bool, Fail> {
     let once = with_line(alloc, WHOLE, one.0, one.1)?;
     let twice = with_line(alloc, once.as_str(), other.0, other.1)?;
-    writes(alloc, VERIFY, parts(twice.as_str()), text)
+    writes_of(alloc, VERIFY, twice.as_str(), text)
 }
 
 #[test]
 fn a_certificate_is_proved_verified_and_written_anew(rt: HostRuntime) -> Result<(), Fail> {
-    assert!(rt; writes(rt.alloc(), PROVE, parts(""), CHANGES)?);
+    assert!(rt; writes_of(rt.alloc(), PROVE, "", CHANGES)?);
     for certificate in [WHOLE, CHANGES] {
-        assert!(rt; writes(rt.alloc(), VERIFY, parts(certificate), "accepted\n")?);
-        assert!(rt; writes(rt.alloc(), UPGRADE, parts(certificate), CHANGES)?);
+        assert!(rt; writes_of(rt.alloc(), VERIFY, certificate, "accepted\n")?);
+        assert!(rt; writes_of(rt.alloc(), UPGRADE, certificate, CHANGES)?);
     }
     Ok(())
 }
@@ -191,14 +181,16 @@ fn rows_that_lack_are_told(rt: HostRuntime) -> Result<(), Fail> {
 fn what_is_unsafe_is_not_proved(rt: HostRuntime) -> Result<(), Fail> {
     let files = Files {
         output: SOME_X,
-        ..parts(WHOLE)
+        ..ANY_PARTS
     };
-    assert!(rt; writes(rt.alloc(), VERIFY, files, "rejected 6 root\n")?);
+    let whole = Some(WHOLE.as_bytes());
+    assert!(rt; writes(rt.alloc(), VERIFY, files, whole, "rejected 6 root\n")?);
     assert!(rt;
         writes(
             rt.alloc(),
             PROVE,
             files,
+            None,
             "unsafe\ndocument <a/>\noutput <r/>\n"
         )?
     );
@@ -234,8 +226,38 @@ fn the_first_line_that_is_wrong_is_told(rt: HostRuntime) -> Result<(), Fail> {
             "rejected 4 form\n"
         )?
     );
-    assert!(rt; writes(rt.alloc(), VERIFY, parts(""), "rejected 1 form\n")?);
-    assert!(rt; writes(rt.alloc(), UPGRADE, parts(""), "rejected 1 form\n")?);
+    assert!(rt; writes_of(rt.alloc(), VERIFY, "", "rejected 1 form\n")?);
+    assert!(rt; writes_of(rt.alloc(), UPGRADE, "", "rejected 1 form\n")?);
+    Ok(())
+}
+
+/// Whether of nothing, of the first byte, and so on up to all but the last line feed of a certificate, `verify` tells the line
+/// that isn't whole.
+fn fronts_lack_their_next_line(alloc: Global, certificate: &str) -> Result<bool, Fail> {
+    let bytes = certificate.as_bytes();
+    let mut line = 1u32;
+    for end in 0..bytes.len() {
+        let text = format!(in alloc; "rejected {line} form\n")?;
+        let front = Some(&bytes[..end]);
+        if !writes(alloc, VERIFY, ANY_PARTS, front, text.as_str())? {
+            return Ok(false);
+        }
+        if bytes[end] == b'\n' {
+            line = line.saturating_add(1);
+        }
+    }
+    Ok(true)
+}
+
+#[test]
+fn fronts_of_version_1_lack_their_next_line(rt: HostRuntime) -> Result<(), Fail> {
+    assert!(rt; fronts_lack_their_next_line(rt.alloc(), WHOLE)?);
+    Ok(())
+}
+
+#[test]
+fn fronts_of_version_2_lack_their_next_line(rt: HostRuntime) -> Result<(), Fail> {
+    assert!(rt; fronts_lack_their_next_line(rt.alloc(), CHANGES)?);
     Ok(())
 }
 
@@ -247,8 +269,8 @@ fn changes_are_those_of_the_row_before(rt: HostRuntime) -> Result<(), Fail> {
         (6, "T 0 0 1 - -\n", "rejected 6 form\n"),
     ] {
         let certificate = with_line(rt.alloc(), CHANGES, number, other)?;
-        assert!(rt; writes(rt.alloc(), VERIFY, parts(certificate.as_str()), text)?);
-        assert!(rt; writes(rt.alloc(), UPGRADE, parts(certificate.as_str()), text)?);
+        assert!(rt; writes_of(rt.alloc(), VERIFY, certificate.as_str(), text)?);
+        assert!(rt; writes_of(rt.alloc(), UPGRADE, certificate.as_str(), text)?);
     }
     Ok(())
 }
@@ -257,15 +279,12 @@ fn changes_are_those_of_the_row_before(rt: HostRuntime) -> Result<(), Fail> {
 fn all_is_read_before_anything_is_told(rt: HostRuntime) -> Result<(), Fail> {
     let broken = Files {
         input: "element a{",
-        ..parts("")
+        ..ANY_PARTS
     };
-    let unread = Files {
-        certificate: None,
-        ..broken
-    };
-    assert!(rt; writes(rt.alloc(), VERIFY, broken, "refused I malformed at 10\n")?);
-    assert!(rt; writes(rt.alloc(), VERIFY, unread, "cannot read C\n")?);
-    assert!(rt; writes(rt.alloc(), UPGRADE, unread, "cannot read C\n")?);
+    let refused = "refused I malformed at 10\n";
+    assert!(rt; writes(rt.alloc(), VERIFY, broken, Some(b""), refused)?);
+    assert!(rt; writes(rt.alloc(), VERIFY, broken, None, "cannot read C\n")?);
+    assert!(rt; writes(rt.alloc(), UPGRADE, broken, None, "cannot read C\n")?);
     Ok(())
 }
 
@@ -276,21 +295,20 @@ fn a_text_that_may_stand_is_asked_for(rt: HostRuntime) -> Result<(), Fail> {
         output: "element r{element x{empty}?}",
         rules: "<xsl:template match=\"/\"><r><xsl:apply-templates/></r></xsl:template>\
             <xsl:template match=\"text()\"><x/></xsl:template>",
-        certificate: Some(
-            b"xslt-typecheck certificate 1\n\
-            outputs 2\n\
-            m 0>0 1>1 2>2 3>3 4>4\n\
-            m 2>3\n\
-            trees 2\n\
-            t 0 0 1 0 -\n\
-            t 0 1 1 1 -\n\
-            hedges 2\n\
-            h 0 0 0 0 -\n\
-            h 1 1 1 1 -\n\
-            end\n",
-        ),
     };
-    assert!(rt; writes(rt.alloc(), VERIFY, files, "rejected 0 text\n")?);
+    let certificate = "xslt-typecheck certificate 1\n\
+        outputs 2\n\
+        m 0>0 1>1 2>2 3>3 4>4\n\
+        m 2>3\n\
+        trees 2\n\
+        t 0 0 1 0 -\n\
+        t 0 1 1 1 -\n\
+        hedges 2\n\
+        h 0 0 0 0 -\n\
+        h 1 1 1 1 -\n\
+        end\n";
+    let bytes = Some(certificate.as_bytes());
+    assert!(rt; writes(rt.alloc(), VERIFY, files, bytes, "rejected 0 text\n")?);
     Ok(())
 }
 
@@ -300,23 +318,30 @@ fn names_that_nothing_mentions_are_asked_for(rt: HostRuntime) -> Result<(), Fail
         input: "element *{empty}",
         output: "element *{empty}",
         rules: "<xsl:template match=\"*\"><xsl:copy><xsl:apply-templates/></xsl:copy></xsl:template>",
-        certificate: Some(
-            b"xslt-typecheck certificate 1\n\
-            outputs 2\n\
-            m 0>0 1>1 2>2\n\
-            m 0>1\n\
-            trees 0\n\
-            hedges 1\n\
-            h 0 0 0 0 -\n\
-            end\n",
-        ),
     };
-    assert!(rt; writes(rt.alloc(), VERIFY, files, "rejected 7 wrap {urn:n}n\n")?);
+    let certificate = "xslt-typecheck certificate 1\n\
+        outputs 2\n\
+        m 0>0 1>1 2>2\n\
+        m 0>1\n\
+        trees 0\n\
+        hedges 1\n\
+        h 0 0 0 0 -\n\
+        end\n";
+    let bytes = Some(certificate.as_bytes());
+    assert!(rt;
+        writes(
+            rt.alloc(),
+            VERIFY,
+            files,
+            bytes,
+            "rejected 7 wrap {urn:n}n\n"
+        )?
+    );
     Ok(())
 }
 
 /// So many of a name, with commas between them.
-fn listed(alloc: Global, name: &str, count: u32) -> Result<String, Fail> {
+fn listed(alloc: Global, name: &str, count: u32) -> Result<String, NoMemory> {
     let mut text = String::from_str(alloc, name)?;
     for _ in 1..count {
         text.push_str(",")?;
@@ -325,29 +350,103 @@ fn listed(alloc: Global, name: &str, count: u32) -> Result<String, Fail> {
     Ok(text)
 }
 
+/// An output of an `r` with so many `x`: a state before and behind each of them, one of what stands in an `x`, two of the root.
+fn output_of(alloc: Global, count: u32) -> Result<String, NoMemory> {
+    let content = listed(alloc, "x", count)?;
+    let front = "x = element x{empty} start = element r{";
+    joined(alloc, &[front, content.as_str(), "}"])
+}
+
 #[test]
-fn no_limit_on_rows_is_tried_of_a_certificate(rt: HostRuntime) -> Result<(), Fail> {
-    let mut input = String::from_str(rt.alloc(), "b = element b{empty} start = element a{(")?;
-    input.push_str(listed(rt.alloc(), "b", 51)?.as_str())?;
-    input.push_str(")*}")?;
-    let mut output = String::from_str(rt.alloc(), "x = element x{empty} start = element r{(")?;
-    output.push_str(listed(rt.alloc(), "x", 47)?.as_str())?;
-    output.push_str(")*|x*}")?;
+fn limits_of_schemas_come_before_the_certificate(rt: HostRuntime) -> Result<(), Fail> {
+    for (count, text) in [(252, "rejected 1 form\n"), (260, "limit states 256\n")] {
+        let output = output_of(rt.alloc(), count)?;
+        let files = Files {
+            output: output.as_str(),
+            ..ANY_PARTS
+        };
+        assert!(rt;
+            writes(rt.alloc(), VERIFY, files, Some(b""), text)?,
+            "{count}"
+        );
+    }
+    Ok(())
+}
+
+/// A million zeros, with commas between them.
+fn million_zeros(alloc: Global) -> Result<String, NoMemory> {
+    let thousand = listed(alloc, "0", 1_000)?;
+    listed(alloc, thousand.as_str(), 1_000)
+}
+
+/// Rows of trees of version 2, each but for one number like the one before.
+fn like_rows(alloc: Global) -> Result<String, Fail> {
+    let mut text = String::new(alloc);
+    for number in 10_001..14_000 {
+        write!(text, "T 0 0 {number} - -\n")?;
+    }
+    Ok(text)
+}
+
+/// A text of two megabytes whose rows, written whole, would take eight gigabytes.
+fn text_that_unfolds(alloc: Global) -> Result<String, Fail> {
+    let zeros = million_zeros(alloc)?;
+    let rows = like_rows(alloc)?;
+    let head = "xslt-typecheck certificate 2\noutputs 0\ntrees 4000\nt 0 0 10000 ";
+    let parts = [
+        head,
+        zeros.as_str(),
+        " -\n",
+        rows.as_str(),
+        "hedges 0\nend\n",
+    ];
+    Ok(joined(alloc, &parts)?)
+}
+
+#[test]
+fn rows_are_not_unfolded_before_they_fit(rt: HostRuntime) -> Result<(), Fail> {
+    let text = text_that_unfolds(rt.alloc())?;
+    assert!(rt; writes_of(rt.alloc(), VERIFY, text.as_str(), "rejected 4 fit\n")?);
+    assert!(rt; writes_of(rt.alloc(), UPGRADE, text.as_str(), text.as_str())?);
+    Ok(())
+}
+
+/// Any number of times 51 `b`; its results are any number of times 47 `x`, or any number of `x`.
+fn many_rows(alloc: Global) -> Result<(String, String), NoMemory> {
+    let of_b = listed(alloc, "b", 51)?;
+    let front = "b = element b{empty} start = element a{(";
+    let input = joined(alloc, &[front, of_b.as_str(), ")*}"])?;
+    let of_x = listed(alloc, "x", 47)?;
+    let front = "x = element x{empty} start = element r{(";
+    let output = joined(alloc, &[front, of_x.as_str(), ")*|x*}"])?;
+    Ok((input, output))
+}
+
+#[test]
+fn many_rows_pass_the_limit(rt: HostRuntime) -> Result<(), Fail> {
+    let (input, output) = many_rows(rt.alloc())?;
     let files = Files {
         input: input.as_str(),
         output: output.as_str(),
         rules: PARTS,
-        certificate: None,
     };
-    assert!(rt; writes(rt.alloc(), PROVE, files, "limit hedges 2000\n")?);
+    assert!(rt; writes(rt.alloc(), PROVE, files, None, "limit hedges 2000\n")?);
+    Ok(())
+}
+
+#[test]
+fn no_limit_on_rows_is_tried_of_a_certificate(rt: HostRuntime) -> Result<(), Fail> {
+    let (input, output) = many_rows(rt.alloc())?;
+    let files = Files {
+        input: input.as_str(),
+        output: output.as_str(),
+        rules: PARTS,
+    };
+    let mut store = store_with(rt.alloc(), files, None)?;
     let most = &["prove", "--limit", "4000", "I", "O", "S"];
-    let (status, sink) = written(rt.alloc(), most, files, 100_000)?;
+    let (status, sink) = written(rt.alloc(), most, &mut store, 100_000)?;
     assert_eq!(rt; status, Status::Yes);
     assert_eq!(rt; sink.bytes().len(), 63_908);
-    let proved = Files {
-        certificate: Some(sink.bytes()),
-        ..files
-    };
-    assert!(rt; writes(rt.alloc(), VERIFY, proved, "accepted\n")?);
+    assert!(rt; writes(rt.alloc(), VERIFY, files, Some(sink.bytes()), "accepted\n")?);
     Ok(())
 }

@@ -1,13 +1,9 @@
 // Tests of `check` on whole schemas and stylesheets.
+use crate::commands::{command_answers, doubled, joined, nested, repeated, sheet_of, ten_levels};
 use std::alloc::Global;
 use std::test::Fail;
-use tc_io::{MemSink, MemStore};
-use tc_top::{Status, WordList, typecheck};
-
-const HEAD: &str =
-    "<xsl:stylesheet version=\"1.0\" xmlns:xsl=\"http://www.w3.org/1999/XSL/Transform\">";
-
-const TAIL: &str = "</xsl:stylesheet>";
+use tc_base::NoMemory;
+use tc_top::Status;
 
 /// `check I O S`, and with these words in front of the operands.
 const PLAIN: &[&str] = &["check", "I", "O", "S"];
@@ -53,20 +49,13 @@ fn writes(
     rules: &str,
     text: &str,
 ) -> Result<bool, Fail> {
-    let mut list = WordList::new(alloc);
-    for word in words {
-        list.push(word)?;
-    }
-    let mut sheet = String::from_str(alloc, HEAD)?;
-    sheet.push_str(rules)?;
-    sheet.push_str(TAIL)?;
-    let mut store = MemStore::new(alloc);
-    store.put("I", input.as_bytes())?;
-    store.put("O", output.as_bytes())?;
-    store.put("S", sheet.as_bytes())?;
-    let mut sink = MemSink::new(alloc, text.len() + 200)?;
-    let status = typecheck(alloc, &list, &mut store, &mut sink);
-    Ok(status == status_of(text) && sink.bytes() == text.as_bytes())
+    let sheet = sheet_of(alloc, rules)?;
+    let files = [
+        ("I", input.as_bytes()),
+        ("O", output.as_bytes()),
+        ("S", sheet.as_bytes()),
+    ];
+    command_answers(alloc, words, &files, status_of(text), text)
 }
 
 /// Whether `check I O S`, of two schemas and of a stylesheet with these rules, writes this text.
@@ -80,20 +69,9 @@ fn answers(
     writes(alloc, PLAIN, input, output, rules, text)
 }
 
-/// A text, then another so many times, and then a last one.
-fn repeated(
-    alloc: Global,
-    front: &str,
-    middle: &str,
-    times: u32,
-    back: &str,
-) -> Result<String, Fail> {
-    let mut text = String::from_str(alloc, front)?;
-    for _ in 0..times {
-        text.push_str(middle)?;
-    }
-    text.push_str(back)?;
-    Ok(text)
+/// Whether it does so for an `a` as the input and an `r` as the output, both empty.
+fn decides(alloc: Global, rules: &str, text: &str) -> Result<bool, Fail> {
+    answers(alloc, "element a{empty}", "element r{empty}", rules, text)
 }
 
 #[test]
@@ -259,64 +237,78 @@ fn roots_texts_and_namespaces_are_printed(rt: HostRuntime) -> Result<(), Fail> {
             "unsafe\ndocument <a/>\noutput <r xmlns=\"u\"/>\n",
         ),
     ] {
-        let alloc = rt.alloc();
         let front = "<xsl:template match=\"/\">";
-        let rules = repeated(alloc, front, body, 1, "</xsl:template>")?;
-        let (input, output) = ("element a{empty}", "element r{empty}");
-        assert!(rt;
-            answers(alloc, input, output, rules.as_str(), text)?,
-            "{body}"
-        );
+        let rules = joined(rt.alloc(), &[front, body, "</xsl:template>"])?;
+        assert!(rt; decides(rt.alloc(), rules.as_str(), text)?, "{body}");
     }
     Ok(())
 }
 
 #[test]
-fn stylesheets_have_limits(rt: HostRuntime) -> Result<(), Fail> {
-    let alloc = rt.alloc();
-    let (input, output) = ("element a{empty}", "element r{empty}");
-    let mut rules = String::new(alloc);
+fn predicates_are_limited(rt: HostRuntime) -> Result<(), Fail> {
+    let mut rules = String::new(rt.alloc());
     for number in 1..=7 {
-        let rule = format!(in alloc; "<xsl:template match='a[p{number}]'><x/></xsl:template>")?;
-        rules.push_str(rule.as_str())?;
+        write!(
+            rules,
+            "<xsl:template match='a[p{number}]'><x/></xsl:template>"
+        )?;
     }
-    let line = "limit predicates 6\n";
-    assert!(rt; answers(alloc, input, output, rules.as_str(), line)?);
+    assert!(rt; decides(rt.alloc(), rules.as_str(), "limit predicates 6\n")?);
+    Ok(())
+}
 
-    let call = "<xsl:call-template name=\"n1\"/>";
-    let front = "<xsl:template match=\"/\">";
-    let mut doubling = repeated(alloc, front, call, 1, "</xsl:template>")?;
+const CALL: &str = "<xsl:template match=\"/\"><xsl:call-template name=\"n1\"/></xsl:template>";
+
+/// Sixty named bodies, of which each calls the next one twice; the last one is empty.
+fn doubling_calls(alloc: Global) -> Result<String, Fail> {
+    let mut rules = String::from_str(alloc, CALL)?;
     for number in 1..=60 {
         let next = number + 1;
-        let rule = format!(in alloc;
+        write!(
+            rules,
             "<xsl:template name=\"n{number}\"><xsl:call-template name=\"n{next}\"/><xsl:call-template name=\"n{next}\"/></xsl:template>"
         )?;
-        doubling.push_str(rule.as_str())?;
     }
-    doubling.push_str("<xsl:template name=\"n61\"/>")?;
-    let large = "unsafe\ndocument <a/>\noutput-too-large\n";
-    assert!(rt; answers(alloc, input, output, doubling.as_str(), large)?);
+    rules.push_str("<xsl:template name=\"n61\"/>")?;
+    Ok(rules)
+}
 
-    let mut deep = repeated(alloc, front, call, 1, "</xsl:template>")?;
+#[test]
+fn results_of_many_calls_are_not_shown(rt: HostRuntime) -> Result<(), Fail> {
+    let rules = doubling_calls(rt.alloc())?;
+    let text = "unsafe\ndocument <a/>\noutput-too-large\n";
+    assert!(rt; decides(rt.alloc(), rules.as_str(), text)?);
+    Ok(())
+}
+
+/// Named bodies, of which each of 8,000 calls the next one.
+fn deep_calls(alloc: Global) -> Result<String, Fail> {
+    let mut rules = String::from_str(alloc, CALL)?;
     for number in 1..=8_000 {
         let next = number + 1;
-        let rule = format!(in alloc;
+        write!(
+            rules,
             "<xsl:template name=\"n{number}\"><xsl:call-template name=\"n{next}\"/></xsl:template>"
         )?;
-        deep.push_str(rule.as_str())?;
     }
-    deep.push_str("<xsl:template name=\"n8001\"><r/></xsl:template>")?;
-    assert!(rt; answers(alloc, input, output, deep.as_str(), "limit calls 8000\n")?);
+    rules.push_str("<xsl:template name=\"n8001\"><r/></xsl:template>")?;
+    Ok(rules)
+}
+
+#[test]
+fn calls_are_limited(rt: HostRuntime) -> Result<(), Fail> {
+    let rules = deep_calls(rt.alloc())?;
+    assert!(rt; decides(rt.alloc(), rules.as_str(), "limit calls 8000\n")?);
     Ok(())
 }
 
 #[test]
 fn output_schemas_have_fewer_states(rt: HostRuntime) -> Result<(), Fail> {
-    let alloc = rt.alloc();
+    let more = repeated(rt.alloc(), ",x", 259)?;
     let front = "start = r x = element x{empty} r = element r{x";
-    let output = repeated(alloc, front, ",x", 259, "}")?;
+    let output = joined(rt.alloc(), &[front, more.as_str(), "}"])?;
     let line = "limit states 256\n";
-    assert!(rt; answers(alloc, ANY_B, output.as_str(), PARTS, line)?);
+    assert!(rt; answers(rt.alloc(), ANY_B, output.as_str(), PARTS, line)?);
     Ok(())
 }
 
@@ -351,118 +343,94 @@ fn least_documents_are_shown(rt: HostRuntime) -> Result<(), Fail> {
     Ok(())
 }
 
-/// A schema in which each element has two of the next one.
-fn doubled(alloc: Global, count: u16, last: &str) -> Result<String, Fail> {
-    let mut input = String::from_str(alloc, "start = e1")?;
-    for number in 1..=count {
-        let next = u32::from(number) + 1;
-        let line = format!(in alloc; "\ne{number} = element e{number}{{e{next},e{next}}}")?;
-        input.push_str(line.as_str())?;
-    }
-    input.push_str(last)?;
-    Ok(input)
+/// Whether `check` writes this text of an input, an empty `r` as the output, and a stylesheet whose result is one element.
+fn counters(alloc: Global, input: &str, element: &str, text: &str) -> Result<bool, Fail> {
+    let front = "<xsl:template match=\"/\">";
+    let rules = joined(alloc, &[front, element, "</xsl:template>"])?;
+    answers(alloc, input, "element r{empty}", rules.as_str(), text)
 }
 
-/// The document that a doubled schema has.
-fn tree_of(alloc: Global, last: u32) -> Result<String, Fail> {
-    let mut tree = format!(in alloc; "<e{last}/>")?;
-    for below in 1..last {
-        let level = last - below;
-        let mut outer = format!(in alloc; "<e{level}>")?;
-        outer.push_str(tree.as_str())?;
-        outer.push_str(tree.as_str())?;
-        let end = format!(in alloc; "</e{level}>")?;
-        outer.push_str(end.as_str())?;
-        tree = outer;
-    }
-    Ok(tree)
+#[test]
+fn counterexamples_are_shown(rt: HostRuntime) -> Result<(), Fail> {
+    let input = doubled(rt.alloc(), 10)?;
+    let tree = ten_levels(rt.alloc())?;
+    let parts = ["unsafe\ndocument ", tree.as_str(), "\noutput <x/>\n"];
+    let text = joined(rt.alloc(), &parts)?;
+    assert!(rt; counters(rt.alloc(), input.as_str(), "<x/>", text.as_str())?);
+    Ok(())
 }
 
 #[test]
 fn counterexamples_have_a_limit(rt: HostRuntime) -> Result<(), Fail> {
-    let alloc = rt.alloc();
-    let rules = "<xsl:template match=\"/\"><x/></xsl:template>";
-    let input = doubled(alloc, 10, "\ne11 = element e11{empty}")?;
+    let input = doubled(rt.alloc(), 11)?;
     let line = "limit counterexample 2000\n";
-    assert!(rt; answers(alloc, input.as_str(), "element r{empty}", rules, line)?);
-    let input = doubled(alloc, 9, "\ne10 = element e10{empty}")?;
-    let tree = tree_of(alloc, 10)?;
-    let mut text = String::from_str(alloc, "unsafe\ndocument ")?;
-    text.push_str(tree.as_str())?;
-    text.push_str("\noutput <x/>\n")?;
-    assert!(rt;
-        answers(
-            alloc,
-            input.as_str(),
-            "element r{empty}",
-            rules,
-            text.as_str()
-        )?
-    );
+    assert!(rt; counters(rt.alloc(), input.as_str(), "<x/>", line)?);
     Ok(())
 }
 
-/// A schema whose only document has 19 times 100 elements and so many more in its root.
-fn wide(alloc: Global, last: u32) -> Result<String, Fail> {
-    let mut input = repeated(alloc, "start = r r = element r{", "g,", 19, "x")?;
-    for _ in 1..last {
-        input.push_str(",x")?;
-    }
-    input.push_str("} g = element g{x")?;
-    for _ in 1..99 {
-        input.push_str(",x")?;
-    }
-    input.push_str("} x = element x{empty}")?;
-    Ok(input)
+/// A schema whose only document has 19 times 100 elements and so many more than one in its root.
+fn wide(alloc: Global, more: u32) -> Result<String, NoMemory> {
+    let groups = repeated(alloc, "g,", 19)?;
+    let in_root = repeated(alloc, ",x", more)?;
+    let in_group = repeated(alloc, ",x", 98)?;
+    let parts = [
+        "start = r r = element r{",
+        groups.as_str(),
+        "x",
+        in_root.as_str(),
+        "} g = element g{x",
+        in_group.as_str(),
+        "} x = element x{empty}",
+    ];
+    joined(alloc, &parts)
+}
+
+/// The document of 2,000 elements, and its result.
+fn wide_text(alloc: Global) -> Result<String, NoMemory> {
+    let many = repeated(alloc, "<x/>", 99)?;
+    let group = joined(alloc, &["<g>", many.as_str(), "</g>"])?;
+    let groups = repeated(alloc, group.as_str(), 19)?;
+    let front = "unsafe\ndocument <r>";
+    let back = "</r>\noutput <no/>\n";
+    joined(alloc, &[front, groups.as_str(), many.as_str(), back])
 }
 
 #[test]
 fn two_thousand_nodes_are_shown(rt: HostRuntime) -> Result<(), Fail> {
-    let alloc = rt.alloc();
-    let rules = "<xsl:template match=\"/\"><no/></xsl:template>";
-    let group = repeated(alloc, "<g>", "<x/>", 99, "</g>")?;
-    let groups = repeated(alloc, "unsafe\ndocument <r>", group.as_str(), 19, "")?;
-    let end = "</r>\noutput <no/>\n";
-    let text = repeated(alloc, groups.as_str(), "<x/>", 99, end)?;
-    let input = wide(alloc, 99)?;
-    assert!(rt;
-        answers(
-            alloc,
-            input.as_str(),
-            "element r{empty}",
-            rules,
-            text.as_str()
-        )?
-    );
-    let input = wide(alloc, 100)?;
-    let line = "limit counterexample 2000\n";
-    assert!(rt; answers(alloc, input.as_str(), "element r{empty}", rules, line)?);
+    let input = wide(rt.alloc(), 98)?;
+    let text = wide_text(rt.alloc())?;
+    assert!(rt; counters(rt.alloc(), input.as_str(), "<no/>", text.as_str())?);
     Ok(())
 }
 
 #[test]
-fn large_results_are_not_shown(rt: HostRuntime) -> Result<(), Fail> {
-    let alloc = rt.alloc();
-    let rules = "<xsl:template match=\"/\"><r><xsl:apply-templates/></r></xsl:template>\
-        <xsl:template match=\"a\"><x/><xsl:apply-templates/><xsl:apply-templates/></xsl:template>";
+fn more_than_two_thousand_nodes_are_not_shown(rt: HostRuntime) -> Result<(), Fail> {
+    let input = wide(rt.alloc(), 99)?;
+    let line = "limit counterexample 2000\n";
+    assert!(rt; counters(rt.alloc(), input.as_str(), "<no/>", line)?);
+    Ok(())
+}
+
+/// A schema of 25 elements `a` within one another.
+fn deep(alloc: Global) -> Result<String, Fail> {
     let mut input = String::from_str(alloc, "start = e1")?;
     for number in 1..=24 {
         let next = number + 1;
-        let line = format!(in alloc; "\ne{number} = element a{{e{next}}}")?;
-        input.push_str(line.as_str())?;
+        write!(input, "\ne{number} = element a{{e{next}}}")?;
     }
     input.push_str("\ne25 = element a{empty}")?;
-    let opened = repeated(alloc, "unsafe\ndocument ", "<a>", 24, "<a/>")?;
-    let end = "\noutput-too-large\n";
-    let text = repeated(alloc, opened.as_str(), "</a>", 24, end)?;
-    assert!(rt;
-        answers(
-            alloc,
-            input.as_str(),
-            "element r{empty}",
-            rules,
-            text.as_str()
-        )?
-    );
+    Ok(input)
+}
+
+#[test]
+fn large_results_are_not_shown(rt: HostRuntime) -> Result<(), Fail> {
+    let rules = "<xsl:template match=\"/\"><r><xsl:apply-templates/></r></xsl:template>\
+        <xsl:template match=\"a\"><x/><xsl:apply-templates/><xsl:apply-templates/></xsl:template>";
+    let input = deep(rt.alloc())?;
+    let tree = nested(rt.alloc(), "<a>", 24, "<a/>", "</a>")?;
+    let parts = ["unsafe\ndocument ", tree.as_str(), "\noutput-too-large\n"];
+    let text = joined(rt.alloc(), &parts)?;
+    let output = "element r{empty}";
+    assert!(rt; answers(rt.alloc(), input.as_str(), output, rules, text.as_str())?);
     Ok(())
 }

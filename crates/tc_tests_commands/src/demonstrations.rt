@@ -1,8 +1,14 @@
 // Tests of `check` on an article, on texts that are refused, and of `demo`.
+use crate::commands::{command_answers, joined, repeated};
 use std::alloc::Global;
 use std::test::Fail;
-use tc_io::{MemSink, MemStore};
-use tc_top::{Status, WordList, typecheck};
+use tc_base::NoMemory;
+use tc_top::Status;
+
+const CHECK: &[&str] = &["check", "I", "O", "S"];
+
+const NO_RULES: &[u8] =
+    b"<xsl:stylesheet version=\"1.0\" xmlns:xsl=\"http://www.w3.org/1999/XSL/Transform\"/>";
 
 const ARTICLE: &str = "datatypes xsd = \"http://www.w3.org/2001/XMLSchema-datatypes\"
 start = article
@@ -42,30 +48,24 @@ const TO_PAGE: &str = "<?xml version=\"1.0\" encoding=\"UTF-8\"?>
 <xsl:template match=\"emph\"><em><xsl:apply-templates/></em></xsl:template>
 ";
 
-/// The rule of lists, with this body.
-fn sheet_with(alloc: Global, body: &str) -> Result<String, Fail> {
-    let mut sheet = String::from_str(alloc, TO_PAGE)?;
-    sheet.push_str("<xsl:template match=\"itemlist\">")?;
-    sheet.push_str(body)?;
-    sheet.push_str("</xsl:template>\n</xsl:stylesheet>\n")?;
-    Ok(sheet)
+/// The stylesheet with a rule of lists, of this body.
+fn sheet_with(alloc: Global, body: &str) -> Result<String, NoMemory> {
+    let front = "<xsl:template match=\"itemlist\">";
+    let back = "</xsl:template>\n</xsl:stylesheet>\n";
+    joined(alloc, &[TO_PAGE, front, body, back])
 }
 
-/// Whether these words write this text, with this status.
+/// Whether `check I O S` of these files has this status and writes this text.
 fn answers(
     alloc: Global,
-    words: &[&str],
-    store: &mut MemStore,
+    input: &[u8],
+    output: &[u8],
+    sheet: &[u8],
     status: Status,
     text: &str,
 ) -> Result<bool, Fail> {
-    let mut list = WordList::new(alloc);
-    for word in words {
-        list.push(word)?;
-    }
-    let mut sink = MemSink::new(alloc, text.len() + 200)?;
-    let answered = typecheck(alloc, &list, store, &mut sink);
-    Ok(answered == status && sink.bytes() == text.as_bytes())
+    let files = [("I", input), ("O", output), ("S", sheet)];
+    command_answers(alloc, CHECK, &files, status, text)
 }
 
 #[test]
@@ -85,12 +85,9 @@ fn articles_become_pages(rt: HostRuntime) -> Result<(), Fail> {
         ),
     ] {
         let sheet = sheet_with(alloc, body)?;
-        let mut store = MemStore::new(alloc);
-        store.put("I", ARTICLE.as_bytes())?;
-        store.put("O", PAGE.as_bytes())?;
-        store.put("S", sheet.as_bytes())?;
+        let (input, output) = (ARTICLE.as_bytes(), PAGE.as_bytes());
         assert!(rt;
-            answers(alloc, &["check", "I", "O", "S"], &mut store, status, text)?,
+            answers(alloc, input, output, sheet.as_bytes(), status, text)?,
             "{body}"
         );
     }
@@ -99,12 +96,8 @@ fn articles_become_pages(rt: HostRuntime) -> Result<(), Fail> {
 
 #[test]
 fn operands_are_refused_in_order(rt: HostRuntime) -> Result<(), Fail> {
-    let alloc = rt.alloc();
-    let words = ["check", "I", "O", "S"];
     let good = b"element a{empty}".as_slice();
     let many = b"element a{empty|empty}".as_slice();
-    let sheet =
-        b"<xsl:stylesheet version=\"1.0\" xmlns:xsl=\"http://www.w3.org/1999/XSL/Transform\"/>";
     for (input, output, text) in [
         (b"\xFF".as_slice(), good, "refused I malformed at 0\n"),
         (
@@ -119,12 +112,8 @@ fn operands_are_refused_in_order(rt: HostRuntime) -> Result<(), Fail> {
             "refused O bad-start at 0\n",
         ),
     ] {
-        let mut store = MemStore::new(alloc);
-        store.put("I", input)?;
-        store.put("O", output)?;
-        store.put("S", sheet.as_slice())?;
         assert!(rt;
-            answers(alloc, &words, &mut store, Status::Refused, text)?,
+            answers(rt.alloc(), input, output, NO_RULES, Status::Refused, text)?,
             "{text}"
         );
     }
@@ -134,63 +123,47 @@ fn operands_are_refused_in_order(rt: HostRuntime) -> Result<(), Fail> {
 #[test]
 fn limits_wait_for_all_texts(rt: HostRuntime) -> Result<(), Fail> {
     let alloc = rt.alloc();
-    let words = ["check", "I", "O", "S"];
-    let mut large = String::from_str(alloc, "element a{empty")?;
-    for _ in 0..65_534 {
-        large.push_str("|empty")?;
-    }
-    large.push_str("}")?;
-    let sheet =
-        b"<xsl:stylesheet version=\"1.0\" xmlns:xsl=\"http://www.w3.org/1999/XSL/Transform\"/>";
-    for (text, status, line) in [
-        (sheet.as_slice(), Status::Limit, "limit pattern 65536\n"),
+    let more = repeated(alloc, "|empty", 65_534)?;
+    let large = joined(alloc, &["element a{empty", more.as_str(), "}"])?;
+    let output = b"element a{empty}".as_slice();
+    for (sheet, status, line) in [
+        (NO_RULES, Status::Limit, "limit pattern 65536\n"),
         (
             b"<r".as_slice(),
             Status::Refused,
             "refused S malformed at 2\n",
         ),
     ] {
-        let mut store = MemStore::new(alloc);
-        store.put("I", large.as_bytes())?;
-        store.put("O", b"element a{empty}")?;
-        store.put("S", text)?;
-        assert!(rt; answers(alloc, &words, &mut store, status, line)?, "{line}");
+        assert!(rt;
+            answers(alloc, large.as_bytes(), output, sheet, status, line)?,
+            "{line}"
+        );
     }
     Ok(())
 }
 
 #[test]
 fn files_have_a_limit(rt: HostRuntime) -> Result<(), Fail> {
-    let alloc = rt.alloc();
-    let long = vec![in alloc; b' '; 67_108_865]?;
-    let mut store = MemStore::new(alloc);
-    store.put("I", &long)?;
-    store.put("O", b"of no form")?;
-    store.put("S", b"of no form")?;
-    let words = ["check", "I", "O", "S"];
+    let long = vec![in rt.alloc(); b' '; 67_108_865]?;
+    let other = b"of no form".as_slice();
     let line = "limit file 67108864\n";
-    assert!(rt; answers(alloc, &words, &mut store, Status::Limit, line)?);
+    assert!(rt; answers(rt.alloc(), &long, other, other, Status::Limit, line)?);
     Ok(())
+}
+
+/// Whether the demonstration of this size is safe, with the rows that it has.
+fn is_safe(alloc: Global, size: u32) -> Result<bool, Fail> {
+    let number = format!(in alloc; "{size}")?;
+    let more = size.saturating_add(2);
+    let line = format!(in alloc; "safe trees {size} hedges {more} outputs {more}\n")?;
+    let words = ["demo", number.as_str()];
+    command_answers(alloc, &words, &[], Status::Yes, line.as_str())
 }
 
 #[test]
 fn demonstrations_are_safe(rt: HostRuntime) -> Result<(), Fail> {
-    let alloc = rt.alloc();
     for size in 1..=40 {
-        let number = format!(in alloc; "{size}")?;
-        let more = size + 2;
-        let line = format!(in alloc; "safe trees {size} hedges {more} outputs {more}\n")?;
-        let mut store = MemStore::new(alloc);
-        assert!(rt;
-            answers(
-                alloc,
-                &["demo", number.as_str()],
-                &mut store,
-                Status::Yes,
-                line.as_str()
-            )?,
-            "{size}"
-        );
+        assert!(rt; is_safe(rt.alloc(), size)?, "{size}");
     }
     Ok(())
 }

@@ -1,8 +1,9 @@
 // Tests of `include` and `same`.
+use crate::commands::{command_answers, doubled, joined, repeated, store_of, ten_levels, written};
 use std::alloc::Global;
 use std::test::Fail;
-use tc_io::{MemSink, MemStore};
-use tc_top::{Status, WordList, typecheck};
+use tc_base::NoMemory;
+use tc_top::Status;
 
 /// Whether a command on these two texts has this status and writes this text. The files are `A` and `B`.
 fn answers(
@@ -13,16 +14,16 @@ fn answers(
     status: Status,
     text: &str,
 ) -> Result<bool, Fail> {
-    let mut words = WordList::new(alloc);
-    for word in command {
-        words.push(word)?;
-    }
-    let mut store = MemStore::new(alloc);
-    store.put("A", first.as_bytes())?;
-    store.put("B", second.as_bytes())?;
-    let mut sink = MemSink::new(alloc, text.len() + 200)?;
-    let answered = typecheck(alloc, &words, &mut store, &mut sink);
-    Ok(answered == status && sink.bytes() == text.as_bytes())
+    let files = [("A", first.as_bytes()), ("B", second.as_bytes())];
+    command_answers(alloc, command, &files, status, text)
+}
+
+/// Whether `include A B` says that the first is included in the second, whatever it counts.
+fn is_included(alloc: Global, first: &str, second: &str) -> Result<bool, Fail> {
+    let files = [("A", first.as_bytes()), ("B", second.as_bytes())];
+    let mut store = store_of(alloc, &files)?;
+    let (status, sink) = written(alloc, &["include", "A", "B"], &mut store, 200)?;
+    Ok(status == Status::Yes && sink.bytes().starts_with(b"included trees "))
 }
 
 /// Whether `include A B` writes this text, with its status.
@@ -60,14 +61,6 @@ fn status_of(text: &str) -> Status {
     } else {
         Status::Limit
     }
-}
-
-/// A text, with one before it and a line feed behind.
-fn line(alloc: Global, front: &str, text: &str) -> Result<String, Fail> {
-    let mut written = String::from_str(alloc, front)?;
-    written.push_str(text)?;
-    written.push_str("\n")?;
-    Ok(written)
 }
 
 /// Whether `valid` finds a document valid for the first schema and not for the second.
@@ -108,6 +101,11 @@ const STRICTLY_INCLUDED: &[(&str, &str, &str)] = &[
         "element a{element b{empty}}",
         "element a{element b{empty}+}",
         "<a><b/><b/></a>",
+    ),
+    (
+        "element a{element b{empty}}",
+        "element a{element b{empty}*}",
+        "<a/>",
     ),
     (
         "element a{element b{empty}+}",
@@ -158,29 +156,36 @@ const STRICTLY_INCLUDED: &[(&str, &str, &str)] = &[
     ),
 ];
 
+/// Whether `include` writes this document of the first schema, which is not included in the second.
+fn include_shows(alloc: Global, first: &str, second: &str, document: &str) -> Result<bool, Fail> {
+    let text = joined(alloc, &["not-included\ndocument ", document, "\n"])?;
+    include_writes(alloc, first, second, text.as_str())
+}
+
+/// Whether `same` writes this document of the first schema alone, also where the schemas are exchanged.
+fn same_shows(alloc: Global, first: &str, second: &str, document: &str) -> Result<bool, Fail> {
+    let text = joined(alloc, &["different\nfirst-only ", document, "\n"])?;
+    let turned = joined(alloc, &["different\nsecond-only ", document, "\n"])?;
+    Ok(
+        same_writes(alloc, first, second, text.as_str())?
+            && same_writes(alloc, second, first, turned.as_str())?,
+    )
+}
+
 #[test]
 fn of_two_schemas_one_is_included(rt: HostRuntime) -> Result<(), Fail> {
     for (smaller, larger, document) in STRICTLY_INCLUDED {
         let alloc = rt.alloc();
+        assert!(rt; is_included(alloc, smaller, larger)?, "{smaller} {larger}");
         assert!(rt;
             tells_apart(alloc, larger, smaller, document)?,
             "{larger} {document}"
         );
-        let text = line(alloc, "not-included\ndocument ", document)?;
         assert!(rt;
-            include_writes(alloc, larger, smaller, text.as_str())?,
+            include_shows(alloc, larger, smaller, document)?,
             "{larger}"
         );
-        let text = line(alloc, "different\nsecond-only ", document)?;
-        assert!(rt;
-            same_writes(alloc, smaller, larger, text.as_str())?,
-            "{smaller}"
-        );
-        let text = line(alloc, "different\nfirst-only ", document)?;
-        assert!(rt;
-            same_writes(alloc, larger, smaller, text.as_str())?,
-            "{larger}"
-        );
+        assert!(rt; same_shows(alloc, larger, smaller, document)?, "{larger}");
     }
     Ok(())
 }
@@ -298,183 +303,178 @@ fn schemas_are_the_same_however_they_are_written(rt: HostRuntime) -> Result<(), 
     Ok(())
 }
 
-/// A schema of documents with so many levels: at each but the last two elements stand in one.
-fn doubled(alloc: Global, levels: u32) -> Result<String, Fail> {
-    let mut text = String::from_str(alloc, "start = e1\n")?;
-    for level in 1..levels {
-        let next = level + 1;
-        let rule = format!(in alloc; "e{level} = element e{level}{{e{next},e{next}}}\n")?;
-        text.push_str(rule.as_str())?;
-    }
-    let last = format!(in alloc; "e{levels} = element e{levels}{{empty}}\n")?;
-    text.push_str(last.as_str())?;
-    Ok(text)
-}
+const NOTHING: &str = "start = notAllowed";
 
-/// The document of such a schema with ten levels.
-fn ten_levels(alloc: Global) -> Result<String, Fail> {
-    let mut text = String::from_str(alloc, "<e10/>")?;
-    for level in [9, 8, 7, 6, 5, 4, 3, 2, 1] {
-        let inside = text.as_str();
-        text = format!(in alloc; "<e{level}>{inside}{inside}</e{level}>")?;
-    }
-    Ok(text)
+const SMALL: &str = "element z{empty}";
+
+/// Whether both commands write this text of these schemas.
+fn both_write(alloc: Global, first: &str, second: &str, text: &str) -> Result<bool, Fail> {
+    Ok(include_writes(alloc, first, second, text)? && same_writes(alloc, first, second, text)?)
 }
 
 #[test]
 fn a_document_has_two_thousand_nodes_at_most(rt: HostRuntime) -> Result<(), Fail> {
     let alloc = rt.alloc();
-    let nothing = "start = notAllowed";
-    let small = "element z{empty}";
     let large = doubled(alloc, 11)?;
     let limit = "limit counterexample 2000\n";
-    assert!(rt; include_writes(alloc, large.as_str(), nothing, limit)?);
-    assert!(rt; same_writes(alloc, large.as_str(), nothing, limit)?);
-    assert!(rt; same_writes(alloc, nothing, large.as_str(), limit)?);
-    assert!(rt;
-        same_writes(
-            alloc,
-            large.as_str(),
-            small,
-            "different\nsecond-only <z/>\n"
-        )?
-    );
-    assert!(rt; same_writes(alloc, small, large.as_str(), "different\nfirst-only <z/>\n")?);
-
-    let least = doubled(alloc, 10)?;
-    let document = ten_levels(alloc)?;
-    let text = line(alloc, "not-included\ndocument ", document.as_str())?;
-    assert!(rt; include_writes(alloc, least.as_str(), nothing, text.as_str())?);
-    assert!(rt; tells_apart(alloc, least.as_str(), nothing, document.as_str())?);
-    assert!(rt;
-        same_writes(
-            alloc,
-            least.as_str(),
-            small,
-            "different\nsecond-only <z/>\n"
-        )?
-    );
+    assert!(rt; both_write(alloc, large.as_str(), NOTHING, limit)?);
+    assert!(rt; same_writes(alloc, NOTHING, large.as_str(), limit)?);
+    assert!(rt; same_shows(alloc, SMALL, large.as_str(), "<z/>")?);
     Ok(())
-}
-
-/// A schema with so many element patterns of one kind that trees match by their names, and as many that they match by what
-/// stands in them: each pair of one of both is a row.
-fn many_trees(alloc: Global, count: u32) -> Result<String, Fail> {
-    let mut start = String::from_str(alloc, "start = notAllowed")?;
-    let mut rules = String::from_str(alloc, "\nk = element *{empty}\n")?;
-    for number in 0..count {
-        let part = format!(in alloc; "|n{number}|p{number}")?;
-        start.push_str(part.as_str())?;
-        let rule = format!(in alloc;
-            "n{number} = element n{number}{{k}}\n\
-            p{number} = element *{{element k{number}{{empty}}}}\n"
-        )?;
-        rules.push_str(rule.as_str())?;
-    }
-    start.push_str(rules.as_str())?;
-    Ok(start)
 }
 
 #[test]
-fn there_are_two_thousand_rows_at_most(rt: HostRuntime) -> Result<(), Fail> {
+fn a_document_of_many_nodes_is_shown(rt: HostRuntime) -> Result<(), Fail> {
     let alloc = rt.alloc();
-    let small = "element a{empty}";
-    let trees = many_trees(alloc, 45)?;
-    assert!(rt; include_writes(alloc, trees.as_str(), small, "limit trees 2000\n")?);
-    assert!(rt; same_writes(alloc, trees.as_str(), small, "limit trees 2000\n")?);
-    assert!(rt; same_writes(alloc, small, trees.as_str(), "limit trees 2000\n")?);
-    let few = many_trees(alloc, 40)?;
-    let text = line(alloc, "included trees 1721 hedges ", "42")?;
-    assert!(rt; include_writes(alloc, few.as_str(), few.as_str(), text.as_str())?);
-
-    // which of the last eleven children are an `x`
-    let mut hedges = String::from_str(alloc, "start = element a{(x|y)*,x")?;
-    for _ in 0..10 {
-        hedges.push_str(",(x|y)")?;
-    }
-    hedges.push_str("} x = element x{empty} y = element y{empty}")?;
-    assert!(rt; include_writes(alloc, hedges.as_str(), small, "limit hedges 2000\n")?);
-    assert!(rt; same_writes(alloc, small, hedges.as_str(), "limit hedges 2000\n")?);
-    // live trees are those of the first schema alone
-    assert!(rt;
-        include_writes(
-            alloc,
-            "element b{empty}",
-            hedges.as_str(),
-            "not-included\ndocument <b/>\n"
-        )?
-    );
+    let schema = doubled(alloc, 10)?;
+    let document = ten_levels(alloc)?;
+    assert!(rt; include_shows(alloc, schema.as_str(), NOTHING, document.as_str())?);
+    assert!(rt; tells_apart(alloc, schema.as_str(), NOTHING, document.as_str())?);
     Ok(())
 }
 
-/// A text, then another so many times, and then a last one.
-fn repeated(
-    alloc: Global,
-    front: &str,
-    middle: &str,
-    times: u32,
-    back: &str,
-) -> Result<String, Fail> {
-    let mut text = String::from_str(alloc, front)?;
-    for _ in 0..times {
-        text.push_str(middle)?;
+#[test]
+fn a_document_of_fewer_nodes_is_shown(rt: HostRuntime) -> Result<(), Fail> {
+    let schema = doubled(rt.alloc(), 10)?;
+    assert!(rt; same_shows(rt.alloc(), SMALL, schema.as_str(), "<z/>")?);
+    Ok(())
+}
+
+/// The start and the rules of a schema with so many element patterns of one kind that trees match by their names, and as many
+/// that they match by what stands in them: each pair of one of both is a row.
+fn many_parts(alloc: Global, count: u32) -> Result<(String, String), Fail> {
+    let mut start = String::new(alloc);
+    let mut rules = String::new(alloc);
+    for number in 0..count {
+        write!(start, "|n{number}|p{number}")?;
+        write!(
+            rules,
+            "n{number} = element n{number}{{k}}\n\
+            p{number} = element *{{element k{number}{{empty}}}}\n"
+        )?;
     }
-    text.push_str(back)?;
-    Ok(text)
+    Ok((start, rules))
+}
+
+/// That schema.
+fn many_trees(alloc: Global, count: u32) -> Result<String, Fail> {
+    let (start, rules) = many_parts(alloc, count)?;
+    let parts = [
+        "start = notAllowed",
+        start.as_str(),
+        "\nk = element *{empty}\n",
+        rules.as_str(),
+    ];
+    Ok(joined(alloc, &parts)?)
+}
+
+#[test]
+fn there_are_two_thousand_rows_of_trees_at_most(rt: HostRuntime) -> Result<(), Fail> {
+    let alloc = rt.alloc();
+    let trees = many_trees(alloc, 45)?;
+    let limit = "limit trees 2000\n";
+    assert!(rt; both_write(alloc, trees.as_str(), SMALL, limit)?);
+    assert!(rt; same_writes(alloc, SMALL, trees.as_str(), limit)?);
+    Ok(())
+}
+
+#[test]
+fn many_rows_of_trees_are_told(rt: HostRuntime) -> Result<(), Fail> {
+    let few = many_trees(rt.alloc(), 40)?;
+    let text = "included trees 1721 hedges 42\n";
+    assert!(rt; include_writes(rt.alloc(), few.as_str(), few.as_str(), text)?);
+    Ok(())
+}
+
+/// A schema whose rows tell which of the last eleven children are an `x`.
+fn many_hedges(alloc: Global) -> Result<String, NoMemory> {
+    let last = repeated(alloc, ",(x|y)", 10)?;
+    let front = "start = element a{(x|y)*,x";
+    joined(
+        alloc,
+        &[
+            front,
+            last.as_str(),
+            "} x = element x{empty} y = element y{empty}",
+        ],
+    )
+}
+
+/// Live trees are those of the first schema alone.
+#[test]
+fn there_are_two_thousand_rows_of_hedges_at_most(rt: HostRuntime) -> Result<(), Fail> {
+    let alloc = rt.alloc();
+    let hedges = many_hedges(alloc)?;
+    let limit = "limit hedges 2000\n";
+    assert!(rt; both_write(alloc, hedges.as_str(), SMALL, limit)?);
+    assert!(rt; same_writes(alloc, SMALL, hedges.as_str(), limit)?);
+    assert!(rt; include_shows(alloc, "element b{empty}", hedges.as_str(), "<b/>")?);
+    Ok(())
 }
 
 /// An element of so many names, all with one beginning.
 fn named(alloc: Global, front: &str, count: u32) -> Result<String, Fail> {
     let mut text = String::from_str(alloc, "element (x")?;
     for number in 0..count {
-        let name = format!(in alloc; "|{front}{number}")?;
-        text.push_str(name.as_str())?;
+        write!(text, "|{front}{number}")?;
     }
     text.push_str("){empty}")?;
     Ok(text)
 }
 
+/// A schema of an `a` with one `b` and so many more: it has a state before and behind each `b`, and one of what stands in a `b`.
+fn many_b(alloc: Global, more: u32) -> Result<String, NoMemory> {
+    let rest = repeated(alloc, ",b", more)?;
+    joined(
+        alloc,
+        &[
+            "start = element a{b",
+            rest.as_str(),
+            "} b = element b{empty}",
+        ],
+    )
+}
+
+#[test]
+fn many_states_are_built(rt: HostRuntime) -> Result<(), Fail> {
+    let within = many_b(rt.alloc(), 509)?;
+    assert!(rt; same_writes(rt.alloc(), within.as_str(), within.as_str(), "same\n")?);
+    Ok(())
+}
+
 #[test]
 fn limits_are_tried_in_order(rt: HostRuntime) -> Result<(), Fail> {
     let alloc = rt.alloc();
-    let small = "element a{empty}";
-    // 512 states in all: those of `b`, of which there is one, and one before and behind each `b`
-    let within = repeated(
-        alloc,
-        "start = element a{b",
-        ",b",
-        509,
-        "} b = element b{empty}",
-    )?;
-    let states = repeated(
-        alloc,
-        "start = element a{b",
-        ",b",
-        510,
-        "} b = element b{empty}",
-    )?;
-    let elements = repeated(
-        alloc,
-        "start = element a{empty}",
-        "|element b{empty}",
-        256,
-        "",
-    )?;
-    assert!(rt; same_writes(alloc, within.as_str(), within.as_str(), "same\n")?);
+    let states = many_b(alloc, 510)?;
+    let more = repeated(alloc, "|element b{empty}", 256)?;
+    let elements = joined(alloc, &["start = element a{empty}", more.as_str()])?;
     for (first, second, text) in [
-        (states.as_str(), small, "limit states 512\n"),
-        (small, states.as_str(), "limit states 512\n"),
+        (states.as_str(), SMALL, "limit states 512\n"),
+        (SMALL, states.as_str(), "limit states 512\n"),
         (elements.as_str(), states.as_str(), "limit elements 256\n"),
         (states.as_str(), elements.as_str(), "limit states 512\n"),
     ] {
-        assert!(rt; same_writes(alloc, first, second, text)?);
-        assert!(rt; include_writes(alloc, first, second, text)?);
+        assert!(rt; both_write(alloc, first, second, text)?, "{text}");
     }
+    Ok(())
+}
+
+#[test]
+fn symbols_of_both_schemas_are_limited(rt: HostRuntime) -> Result<(), Fail> {
+    let alloc = rt.alloc();
     let one = named(alloc, "p", 600)?;
     let other = named(alloc, "q", 600)?;
+    let limit = "limit symbols 1024\n";
     assert!(rt; same_writes(alloc, one.as_str(), one.as_str(), "same\n")?);
-    assert!(rt; same_writes(alloc, one.as_str(), other.as_str(), "limit symbols 1024\n")?);
-    assert!(rt; include_writes(alloc, one.as_str(), other.as_str(), "limit symbols 1024\n")?);
+    assert!(rt; both_write(alloc, one.as_str(), other.as_str(), limit)?);
+    Ok(())
+}
+
+#[test]
+fn states_are_counted_before_symbols(rt: HostRuntime) -> Result<(), Fail> {
+    let alloc = rt.alloc();
+    let one = named(alloc, "p", 600)?;
+    let states = many_b(alloc, 510)?;
     assert!(rt; include_writes(alloc, one.as_str(), states.as_str(), "limit states 512\n")?);
     Ok(())
 }
@@ -482,30 +482,37 @@ fn limits_are_tried_in_order(rt: HostRuntime) -> Result<(), Fail> {
 #[test]
 fn texts_are_refused_before_limits(rt: HostRuntime) -> Result<(), Fail> {
     let alloc = rt.alloc();
-    let good = "element a{empty}";
-    let states = repeated(
-        alloc,
-        "start = element a{b",
-        ",b",
-        510,
-        "} b = element b{empty}",
-    )?;
+    let states = many_b(alloc, 510)?;
     for (first, second, text) in [
         ("start = b", "element a{", "refused A undefined at 8\n"),
-        (good, "start = b", "refused B undefined at 8\n"),
+        (SMALL, "start = b", "refused B undefined at 8\n"),
         (
             states.as_str(),
             "start = empty",
             "refused B bad-start at 0\n",
         ),
     ] {
-        assert!(rt; include_writes(alloc, first, second, text)?, "{text}");
-        assert!(rt; same_writes(alloc, first, second, text)?, "{text}");
+        assert!(rt; both_write(alloc, first, second, text)?, "{text}");
     }
+    Ok(())
+}
+
+#[test]
+fn operands_are_read_before_texts(rt: HostRuntime) -> Result<(), Fail> {
     let missing = "cannot read C\n";
     for command in ["include", "same"] {
         let words = &[command, "A", "C"];
-        assert!(rt; answers(alloc, words, "start = b", good, Status::ReadFault, missing)?);
+        assert!(rt;
+            answers(
+                rt.alloc(),
+                words,
+                "start = b",
+                SMALL,
+                Status::ReadFault,
+                missing
+            )?,
+            "{command}"
+        );
     }
     Ok(())
 }

@@ -8,6 +8,8 @@ mod certificates;
 #[cfg(test)]
 mod checks;
 #[cfg(test)]
+mod commands;
+#[cfg(test)]
 mod demonstrations;
 #[cfg(test)]
 mod dtd;

@@ -1,13 +1,9 @@
 // Tests of `run`.
+use crate::commands::{command_answers, joined, nested, repeated, sheet_of};
 use std::alloc::Global;
 use std::test::Fail;
-use tc_io::{MemSink, MemStore};
-use tc_top::{Status, WordList, typecheck};
-
-const HEAD: &str =
-    "<xsl:stylesheet version=\"1.0\" xmlns:xsl=\"http://www.w3.org/1999/XSL/Transform\">";
-
-const TAIL: &str = "</xsl:stylesheet>";
+use tc_base::NoMemory;
+use tc_top::Status;
 
 /// Whether `run S D`, of these rules and of this document, has this status and writes this line.
 fn answers(
@@ -17,39 +13,9 @@ fn answers(
     status: Status,
     line: &str,
 ) -> Result<bool, Fail> {
-    let mut words = WordList::new(alloc);
-    for word in ["run", "S", "D"] {
-        words.push(word)?;
-    }
-    let mut sheet = String::from_str(alloc, HEAD)?;
-    sheet.push_str(rules)?;
-    sheet.push_str(TAIL)?;
-    let mut store = MemStore::new(alloc);
-    store.put("S", sheet.as_bytes())?;
-    store.put("D", document.as_bytes())?;
-    let mut sink = MemSink::new(alloc, line.len() + 64)?;
-    let answered = typecheck(alloc, &words, &mut store, &mut sink);
-    Ok(answered == status && sink.bytes() == line.as_bytes())
-}
-
-/// A text so many times, and then another as many times.
-fn repeated(alloc: Global, front: &str, times: u32, back: &str) -> Result<String, Fail> {
-    let mut text = String::new(alloc);
-    for _ in 0..times {
-        text.push_str(front)?;
-    }
-    for _ in 0..times {
-        text.push_str(back)?;
-    }
-    Ok(text)
-}
-
-/// Three texts, one after the other.
-fn joined(alloc: Global, front: &str, middle: &str, back: &str) -> Result<String, Fail> {
-    let mut text = String::from_str(alloc, front)?;
-    text.push_str(middle)?;
-    text.push_str(back)?;
-    Ok(text)
+    let sheet = sheet_of(alloc, rules)?;
+    let files = [("S", sheet.as_bytes()), ("D", document.as_bytes())];
+    command_answers(alloc, &["run", "S", "D"], &files, status, line)
 }
 
 const DOUBLING: &str = "<xsl:template match='/'><r><xsl:apply-templates/></r></xsl:template>\
@@ -207,10 +173,8 @@ fn tests_nest_two_thousand_deep(rt: HostRuntime) -> Result<(), Fail> {
         (1_999, Status::Yes, "<r/>\n"),
         (2_001, Status::Refused, "refused S too-deep at 111\n"),
     ] {
-        let opened = repeated(rt.alloc(), "(", depth, "")?;
-        let closed = repeated(rt.alloc(), ")", depth, "")?;
-        let test = joined(rt.alloc(), opened.as_str(), "true()", closed.as_str())?;
-        let rules = joined(rt.alloc(), front, test.as_str(), back)?;
+        let test = nested(rt.alloc(), "(", depth, "true()", ")")?;
+        let rules = joined(rt.alloc(), &[front, test.as_str(), back])?;
         assert!(rt;
             answers(rt.alloc(), rules.as_str(), "<a/>", status, line)?,
             "{depth}"
@@ -219,127 +183,142 @@ fn tests_nest_two_thousand_deep(rt: HostRuntime) -> Result<(), Fail> {
     Ok(())
 }
 
+/// Rules with so many predicates.
+fn predicates(alloc: Global, count: u32) -> Result<String, Fail> {
+    let mut rules = String::new(alloc);
+    for number in 0..count {
+        write!(
+            rules,
+            "<xsl:template match='a[p{number}]'><x/></xsl:template>"
+        )?;
+    }
+    Ok(rules)
+}
+
+/// A limit waits until the document was read.
 #[test]
 fn limits_are_tried_in_turn(rt: HostRuntime) -> Result<(), Fail> {
-    let alloc = rt.alloc();
-    let mut rules = String::new(alloc);
-    for number in 1..=7 {
-        let rule = format!(in alloc; "<xsl:template match='a[p{number}]'><x/></xsl:template>")?;
-        rules.push_str(rule.as_str())?;
-    }
+    let rules = predicates(rt.alloc(), 7)?;
     let line = "limit predicates 6\n";
-    assert!(rt; answers(alloc, rules.as_str(), "<a/>", Status::Limit, line)?);
-    // A limit waits until the document was read.
+    assert!(rt; answers(rt.alloc(), rules.as_str(), "<a/>", Status::Limit, line)?);
     let line = "refused D malformed at 2\n";
-    assert!(rt; answers(alloc, rules.as_str(), "<a", Status::Refused, line)?);
+    assert!(rt; answers(rt.alloc(), rules.as_str(), "<a", Status::Refused, line)?);
+    Ok(())
+}
 
+#[test]
+fn states_of_ancestors_are_limited(rt: HostRuntime) -> Result<(), Fail> {
+    let front = "<xsl:template match='a";
+    let back = "'><x/></xsl:template>";
     for (more, status, line) in [
         (63, Status::Yes, "\n"),
         (64, Status::Limit, "limit ancestors 64\n"),
     ] {
-        let steps = repeated(alloc, "/a", more, "")?;
-        let front = "<xsl:template match='a";
-        let rules = joined(alloc, front, steps.as_str(), "'><x/></xsl:template>")?;
+        let steps = repeated(rt.alloc(), "/a", more)?;
+        let rules = joined(rt.alloc(), &[front, steps.as_str(), back])?;
         assert!(rt;
-            answers(alloc, rules.as_str(), "<a/>", status, line)?,
+            answers(rt.alloc(), rules.as_str(), "<a/>", status, line)?,
             "{more}"
         );
     }
     Ok(())
 }
 
+/// So many elements, each of its own name.
+fn elements(alloc: Global, count: u32) -> Result<String, Fail> {
+    let mut text = String::new(alloc);
+    for number in 0..count {
+        write!(text, "<n{number}/>")?;
+    }
+    Ok(text)
+}
+
+/// Whether a stylesheet that puts these elements out has this status and writes this line.
+fn puts(alloc: Global, elements: &str, status: Status, line: &str) -> Result<bool, Fail> {
+    let front = "<xsl:template match='/'>";
+    let rules = joined(alloc, &[front, elements, "</xsl:template>"])?;
+    answers(alloc, rules.as_str(), "<a/>", status, line)
+}
+
+#[test]
+fn many_symbols_of_stylesheets_are_read(rt: HostRuntime) -> Result<(), Fail> {
+    let many = elements(rt.alloc(), 1_022)?;
+    let line = joined(rt.alloc(), &[many.as_str(), "\n"])?;
+    assert!(rt; puts(rt.alloc(), many.as_str(), Status::Yes, line.as_str())?);
+    Ok(())
+}
+
 #[test]
 fn symbols_of_stylesheets_are_limited(rt: HostRuntime) -> Result<(), Fail> {
-    let alloc = rt.alloc();
-    for names in [1_022, 1_023] {
-        let mut body = String::new(alloc);
-        for name in 0..names {
-            let element = format!(in alloc; "<n{name}/>")?;
-            body.push_str(element.as_str())?;
-        }
-        let front = "<xsl:template match='/'>";
-        let rules = joined(alloc, front, body.as_str(), "</xsl:template>")?;
-        body.push_str("\n")?;
-        if names == 1_022 {
-            assert!(rt; answers(alloc, rules.as_str(), "<a/>", Status::Yes, body.as_str())?);
-        } else {
-            let line = "limit symbols 1024\n";
-            assert!(rt; answers(alloc, rules.as_str(), "<a/>", Status::Limit, line)?);
-        }
-    }
+    let many = elements(rt.alloc(), 1_023)?;
+    let line = "limit symbols 1024\n";
+    assert!(rt; puts(rt.alloc(), many.as_str(), Status::Limit, line)?);
+    Ok(())
+}
+
+/// Whether the doubling of so many elements within one another has this status and writes this line.
+fn doubles(alloc: Global, depth: u32, status: Status, line: &str) -> Result<bool, Fail> {
+    let document = nested(alloc, "<a>", depth, "", "</a>")?;
+    answers(alloc, DOUBLING, document.as_str(), status, line)
+}
+
+#[test]
+fn much_work_is_done(rt: HostRuntime) -> Result<(), Fail> {
+    let elements = repeated(rt.alloc(), "<x/>", 1_048_575)?;
+    let line = joined(rt.alloc(), &["<r>", elements.as_str(), "</r>\n"])?;
+    assert!(rt; doubles(rt.alloc(), 20, Status::Yes, line.as_str())?);
     Ok(())
 }
 
 #[test]
 fn work_is_limited(rt: HostRuntime) -> Result<(), Fail> {
-    let alloc = rt.alloc();
-    let document = repeated(alloc, "<a>", 20, "</a>")?;
-    let elements = repeated(alloc, "<x/>", 1_048_575, "")?;
-    let line = joined(alloc, "<r>", elements.as_str(), "</r>\n")?;
-    assert!(rt;
-        answers(
-            alloc,
-            DOUBLING,
-            document.as_str(),
-            Status::Yes,
-            line.as_str()
-        )?
-    );
-    let document = repeated(alloc, "<a>", 21, "</a>")?;
-    let line = "limit work 4000000\n";
-    assert!(rt; answers(alloc, DOUBLING, document.as_str(), Status::Limit, line)?);
+    assert!(rt; doubles(rt.alloc(), 21, Status::Limit, "limit work 4000000\n")?);
     Ok(())
+}
+
+/// Whether these rules have this status and write this line, of so many elements within one another.
+fn opens(alloc: Global, rules: &str, depth: u32, status: Status, line: &str) -> Result<bool, Fail> {
+    let document = nested(alloc, "<a>", depth, "", "</a>")?;
+    answers(alloc, rules, document.as_str(), status, line)
 }
 
 #[test]
 fn open_bodies_are_limited(rt: HostRuntime) -> Result<(), Fail> {
-    let alloc = rt.alloc();
     let limit = "limit open 8000\n";
     let rules =
         "<xsl:template match='a'><x><x><x><xsl:apply-templates/></x></x></x></xsl:template>";
-    let document = repeated(alloc, "<a>", 1_599, "</a>")?;
-    let opened = repeated(alloc, "<x>", 4_796, "")?;
-    let closed = repeated(alloc, "</x>", 4_796, "")?;
-    let inner = joined(alloc, opened.as_str(), "<x/>", closed.as_str())?;
-    let line = joined(alloc, inner.as_str(), "\n", "")?;
-    assert!(rt; answers(alloc, rules, document.as_str(), Status::Yes, line.as_str())?);
+    let result = nested(rt.alloc(), "<x>", 4_796, "<x/>", "</x>")?;
+    let line = joined(rt.alloc(), &[result.as_str(), "\n"])?;
+    assert!(rt; opens(rt.alloc(), rules, 1_599, Status::Yes, line.as_str())?);
     for depth in [1_600, 2_000] {
-        let document = repeated(alloc, "<a>", depth, "</a>")?;
         assert!(rt;
-            answers(alloc, rules, document.as_str(), Status::Limit, limit)?,
+            opens(rt.alloc(), rules, depth, Status::Limit, limit)?,
             "{depth}"
         );
     }
+    Ok(())
+}
 
-    let opened = repeated(alloc, "<x>", 1_990, "")?;
-    let closed = repeated(alloc, "</x>", 1_990, "")?;
-    let apply = "<xsl:apply-templates/>";
-    let body = joined(alloc, opened.as_str(), apply, closed.as_str())?;
+/// A rule that goes on within 1,990 elements.
+fn deep_rule(alloc: Global) -> Result<String, NoMemory> {
+    let body = nested(alloc, "<x>", 1_990, "<xsl:apply-templates/>", "</x>")?;
     let front = "<xsl:template match='a'>";
-    let rules = joined(alloc, front, body.as_str(), "</xsl:template>")?;
-    let opened = repeated(alloc, "<x>", 7_959, "")?;
-    let closed = repeated(alloc, "</x>", 7_959, "")?;
-    let inner = joined(alloc, opened.as_str(), "<x/>", closed.as_str())?;
-    let line = joined(alloc, inner.as_str(), "\n", "")?;
-    let document = repeated(alloc, "<a>", 4, "</a>")?;
-    assert!(rt;
-        answers(
-            alloc,
-            rules.as_str(),
-            document.as_str(),
-            Status::Yes,
-            line.as_str()
-        )?
-    );
-    let document = repeated(alloc, "<a>", 5, "</a>")?;
-    assert!(rt;
-        answers(
-            alloc,
-            rules.as_str(),
-            document.as_str(),
-            Status::Limit,
-            limit
-        )?
-    );
+    joined(alloc, &[front, body.as_str(), "</xsl:template>"])
+}
+
+#[test]
+fn open_elements_are_limited(rt: HostRuntime) -> Result<(), Fail> {
+    let rules = deep_rule(rt.alloc())?;
+    let result = nested(rt.alloc(), "<x>", 7_959, "<x/>", "</x>")?;
+    let line = joined(rt.alloc(), &[result.as_str(), "\n"])?;
+    assert!(rt; opens(rt.alloc(), rules.as_str(), 4, Status::Yes, line.as_str())?);
+    Ok(())
+}
+
+#[test]
+fn more_open_elements_are_too_many(rt: HostRuntime) -> Result<(), Fail> {
+    let rules = deep_rule(rt.alloc())?;
+    let limit = "limit open 8000\n";
+    assert!(rt; opens(rt.alloc(), rules.as_str(), 5, Status::Limit, limit)?);
     Ok(())
 }

@@ -1,8 +1,9 @@
 // Tests of `valid`.
+use crate::commands::{command_answers, joined, nested, repeated};
 use std::alloc::Global;
 use std::test::Fail;
-use tc_io::{MemSink, MemStore};
-use tc_top::{Status, WordList, typecheck};
+use tc_base::NoMemory;
+use tc_top::Status;
 
 /// Whether `valid O D` of these texts has this status and writes this line.
 fn answers(
@@ -12,32 +13,8 @@ fn answers(
     status: Status,
     line: &str,
 ) -> Result<bool, Fail> {
-    let mut words = WordList::new(alloc);
-    for word in ["valid", "O", "D"] {
-        words.push(word)?;
-    }
-    let mut store = MemStore::new(alloc);
-    store.put("O", schema.as_bytes())?;
-    store.put("D", document.as_bytes())?;
-    let mut sink = MemSink::new(alloc, 200)?;
-    let answered = typecheck(alloc, &words, &mut store, &mut sink);
-    Ok(answered == status && sink.bytes() == line.as_bytes())
-}
-
-/// A text, then another so many times, and then a last one.
-fn repeated(
-    alloc: Global,
-    front: &str,
-    middle: &str,
-    times: u32,
-    back: &str,
-) -> Result<String, Fail> {
-    let mut text = String::from_str(alloc, front)?;
-    for _ in 0..times {
-        text.push_str(middle)?;
-    }
-    text.push_str(back)?;
-    Ok(text)
+    let files = [("O", schema.as_bytes()), ("D", document.as_bytes())];
+    command_answers(alloc, &["valid", "O", "D"], &files, status, line)
 }
 
 #[test]
@@ -141,8 +118,7 @@ fn elements_nest_two_thousand_deep(rt: HostRuntime) -> Result<(), Fail> {
         (2_000, Status::Yes, "valid\n"),
         (2_001, Status::Refused, "refused D too-deep at 6000\n"),
     ] {
-        let front = repeated(rt.alloc(), "", "<a>", depth, "")?;
-        let document = repeated(rt.alloc(), front.as_str(), "</a>", depth, "")?;
+        let document = nested(rt.alloc(), "<a>", depth, "", "</a>")?;
         assert!(rt;
             answers(rt.alloc(), schema, document.as_str(), status, line)?,
             "{depth}"
@@ -151,33 +127,65 @@ fn elements_nest_two_thousand_deep(rt: HostRuntime) -> Result<(), Fail> {
     Ok(())
 }
 
-#[test]
-fn limits_are_tried_in_order(rt: HostRuntime) -> Result<(), Fail> {
+/// A schema of an `r` with one `x` and so many more.
+fn wide(alloc: Global, more: u32) -> Result<String, NoMemory> {
     let front = "start = r x = element x{empty} r = element r{x";
-    let fits = repeated(rt.alloc(), front, ",x", 509, "}")?;
-    let document = repeated(rt.alloc(), "<r>", "<x/>", 510, "</r>")?;
+    let rest = repeated(alloc, ",x", more)?;
+    joined(alloc, &[front, rest.as_str(), "}"])
+}
+
+#[test]
+fn many_states_are_built(rt: HostRuntime) -> Result<(), Fail> {
+    let schema = wide(rt.alloc(), 509)?;
+    let children = repeated(rt.alloc(), "<x/>", 510)?;
+    let document = joined(rt.alloc(), &["<r>", children.as_str(), "</r>"])?;
     assert!(rt;
         answers(
             rt.alloc(),
-            fits.as_str(),
+            schema.as_str(),
             document.as_str(),
             Status::Yes,
             "valid\n"
         )?
     );
-    let large = repeated(rt.alloc(), front, ",x", 510, "}")?;
-    let line = "limit states 512\n";
-    assert!(rt; answers(rt.alloc(), large.as_str(), "<r/>", Status::Limit, line)?);
-    // A limit of the schema waits until the document was read.
-    let line = "refused D malformed at 2\n";
-    assert!(rt; answers(rt.alloc(), large.as_str(), "<a", Status::Refused, line)?);
-
-    let nodes = repeated(rt.alloc(), "element a{empty", "|empty", 65_533, "}")?;
-    assert!(rt; answers(rt.alloc(), nodes.as_str(), "<a/>", Status::Yes, "valid\n")?);
-    let nodes = repeated(rt.alloc(), "element a{empty", "|empty", 65_534, "}")?;
-    let line = "limit pattern 65536\n";
-    assert!(rt; answers(rt.alloc(), nodes.as_str(), "<a/>", Status::Limit, line)?);
     Ok(())
+}
+
+/// A limit of the schema waits until the document was read.
+#[test]
+fn limits_are_tried_in_order(rt: HostRuntime) -> Result<(), Fail> {
+    let schema = wide(rt.alloc(), 510)?;
+    let line = "limit states 512\n";
+    assert!(rt; answers(rt.alloc(), schema.as_str(), "<r/>", Status::Limit, line)?);
+    let line = "refused D malformed at 2\n";
+    assert!(rt; answers(rt.alloc(), schema.as_str(), "<a", Status::Refused, line)?);
+    Ok(())
+}
+
+#[test]
+fn nodes_of_patterns_are_limited(rt: HostRuntime) -> Result<(), Fail> {
+    for (more, status, line) in [
+        (65_533, Status::Yes, "valid\n"),
+        (65_534, Status::Limit, "limit pattern 65536\n"),
+    ] {
+        let rest = repeated(rt.alloc(), "|empty", more)?;
+        let schema = joined(rt.alloc(), &["element a{empty", rest.as_str(), "}"])?;
+        assert!(rt;
+            answers(rt.alloc(), schema.as_str(), "<a/>", status, line)?,
+            "{line}"
+        );
+    }
+    Ok(())
+}
+
+/// A schema of one element, of so many names.
+fn named(alloc: Global, names: u32) -> Result<String, Fail> {
+    let mut schema = String::from_str(alloc, "element (n0")?;
+    for name in 1..names {
+        write!(schema, "|n{name}")?;
+    }
+    schema.push_str("){empty}")?;
+    Ok(schema)
 }
 
 #[test]
@@ -186,12 +194,7 @@ fn symbols_are_limited(rt: HostRuntime) -> Result<(), Fail> {
         (1_022, Status::Yes, "valid\n"),
         (1_023, Status::Limit, "limit symbols 1024\n"),
     ] {
-        let mut schema = String::from_str(rt.alloc(), "element (n0")?;
-        for name in 1..names {
-            let alternative = format!(in rt.alloc(); "|n{name}")?;
-            schema.push_str(alternative.as_str())?;
-        }
-        schema.push_str("){empty}")?;
+        let schema = named(rt.alloc(), names)?;
         assert!(rt;
             answers(rt.alloc(), schema.as_str(), "<n7/>", status, line)?,
             "{names}"

@@ -8,6 +8,10 @@ mod matrices;
 #[cfg(test)]
 mod path_states;
 #[cfg(test)]
+mod random_rows;
+#[cfg(test)]
+mod random_triples;
+#[cfg(test)]
 mod rows;
 #[cfg(test)]
 mod runs;

@@ -1,123 +1,14 @@
 //! Rows of small triples, by hand. A row is told by its numbers: two flags of the whole, a flag for each state of the input's
 //! contents or for each of its element patterns, the numbers of the outputs, the looks.
 ghost use Rattle.std.specs.Prelude.{◌≡◌, ◌≤◌, length, IfOk};
-ghost use Rattle.tc_model.specs.Grammars.{IsGrammar};
-ghost use Rattle.tc_model.specs.SimplifiesLaws.{IsStart};
-ghost use Rattle.tc_model.specs.Views as see;
-ghost use Rattle.tc_model.specs.WellFormed.{IsSheet};
-ghost use Rattle.tc_beh.specs.Machines.{IsMachine};
 ghost use Rattle.tc_tests_engine.specs.Kept.{AreKept};
 
 use bumpalo::Bump;
 use std::alloc::Global;
 use std::test::Fail;
-use tc_alpha::{Alphabet, Sym};
-use tc_auto::Auto;
-use tc_beh::{HRow, Machine, MachineFault, Rows, TRow};
-use tc_hedge::Hedge;
-use tc_model::{Grammar, Name, Pairs, Sheet};
-use tc_read::{Schema, read_schema, read_sheet};
-use tc_rules::Rules;
-
-const LONGEST: usize = 1000000;
-
-/// Why there is no machine of some texts.
-#[derive(Clone, Copy, Debug, PartialEq, Eq)]
-enum NoMachine {
-    NotRead,
-    Fault(MachineFault),
-}
-
-/// The schema of a text.
-fn schema_of<'b>(arena: &'b Bump, text: &str) -> Result<Grammar<'b>, NoMachine>
-    ensures grammar { IfOk result (λ x. IsGrammar (see.grammar x)) }
-    ensures start { IfOk result (λ x. IsStart (see.grammar x).start) }
-{
-    if text.len() > LONGEST {
-        return Err(NoMachine::NotRead);
-    }
-    let Ok(schema) = read_schema(arena, text.as_bytes()) else {
-        return Err(NoMachine::NotRead);
-    };
-    match schema {
-        Schema::Small(grammar) => Ok(grammar),
-        Schema::TooLarge(_, _) => Err(NoMachine::NotRead),
-    }
-}
-
-/// The stylesheet of a text.
-fn sheet_of<'b>(arena: &'b Bump, text: &str) -> Result<Sheet<'b>, NoMachine>
-    ensures { IfOk result (λ x. IsSheet (see.sheet x)) }
-{
-    if text.len() > LONGEST {
-        return Err(NoMachine::NotRead);
-    }
-    match read_sheet(arena, text.as_bytes()) {
-        Ok(sheet) => Ok(sheet),
-        Err(_) => Err(NoMachine::NotRead),
-    }
-}
-
-/// The machine of two schemas and a stylesheet.
-fn machine_of<'b>(
-    alloc: Global,
-    input: &Grammar<'b>,
-    output: &Grammar<'b>,
-    sheet: &Sheet<'b>,
-) -> Result<Machine<'b>, NoMachine>
-    requires input { IsGrammar (see.grammar input.now) }
-    requires start { IsStart (see.grammar input.now).start }
-    requires output { IsGrammar (see.grammar output.now) }
-    requires sheet { IsSheet (see.sheet sheet.now) }
-    ensures { IfOk result (λ m. IsMachine m) }
-{
-    let Ok(alphabet) = Alphabet::of(alloc, input, output, sheet) else {
-        return Err(NoMachine::NotRead);
-    };
-    let Ok(contents) = Auto::contents(alloc, input, 512) else {
-        return Err(NoMachine::NotRead);
-    };
-    let Ok(states) = Auto::of(alloc, output, 256) else {
-        return Err(NoMachine::NotRead);
-    };
-    let Ok(rules) = Rules::of(alloc, sheet, &alphabet) else {
-        return Err(NoMachine::NotRead);
-    };
-    let Ok(inner) = Hedge::of(alloc, contents, &alphabet) else {
-        return Err(NoMachine::NotRead);
-    };
-    let Ok(outer) = Hedge::of(alloc, states, &alphabet) else {
-        return Err(NoMachine::NotRead);
-    };
-    match Machine::of(alloc, inner, outer, rules, alphabet) {
-        Ok(machine) => Ok(machine),
-        Err(fault) => Err(NoMachine::Fault(fault)),
-    }
-}
-
-/// The machine of three texts.
-fn machine_of_texts<'b>(
-    alloc: Global,
-    arena: &'b Bump,
-    input: &str,
-    output: &str,
-    sheet: &str,
-) -> Result<Machine<'b>, NoMachine>
-    ensures { IfOk result (λ m. IsMachine m) }
-{
-    let input = schema_of(arena, input)?;
-    let output = schema_of(arena, output)?;
-    let sheet = sheet_of(arena, sheet)?;
-    machine_of(alloc, &input, &output, &sheet)
-}
-
-/// A stylesheet with these rules.
-fn sheet_text(alloc: Global, rules: &str) -> Result<String, Fail> {
-    let text = format!(in alloc;
-        "<xsl:stylesheet version=\"1.0\" xmlns:xsl=\"http://www.w3.org/1999/XSL/Transform\">{rules}</xsl:stylesheet>"
-    )?;
-    Ok(text)
-}
+use tc_beh::{HRow, MachineFault, Rows, TRow};
+use tc_model::{Name, Pairs};
+use tc_tests_triples::{NoMachine, machine_of_texts, sheet_text};
 
 /// Keeps the row of no tree.
 fn keep_empty(
@@ -202,7 +93,7 @@ fn keep_wrap(
 
 /// What is done next, by the numbers of kept rows.
 #[derive(Clone, Copy)]
-enum Step {
+pub(crate) enum Step {
     Empty,
     Text,
     Append(usize, usize),
@@ -211,7 +102,7 @@ enum Step {
 }
 
 /// Does one step. Tells whether its row is live.
-fn keep(
+pub(crate) fn keep(
     alloc: Global,
     rows: &mut Rows<'_, '_>,
     hedges: &mut Vec<HRow>,
@@ -275,7 +166,7 @@ fn last_of_tree(trees: &[TRow], place: usize) -> Option<u32> {
 }
 
 /// Whether a document of a kept row is a valid input, and its result a valid output.
-fn is_fine(
+pub(crate) fn is_fine(
     rows: &mut Rows<'_, '_>,
     hedges: &Vec<HRow>,
     trees: &Vec<TRow>,
@@ -467,7 +358,7 @@ fn sheet_of_entries(alloc: Global, value: &str) -> Result<String, Fail> {
     let rules = format!(in alloc;
         "<xsl:template match=\"/{pattern}\"/><xsl:template match=\"/\"><r><xsl:apply-templates select=\"{path}\"/><xsl:value-of select=\"{value}\"/></r></xsl:template>"
     )?;
-    sheet_text(alloc, rules.as_str())
+    Ok(sheet_text(alloc, rules.as_str())?)
 }
 
 /// A stylesheet whose root calls the first of so many named bodies, each of which calls the next one.
@@ -484,7 +375,7 @@ fn sheet_of_calls(alloc: Global, count: u32) -> Result<String, Fail> {
         )?;
     }
     write!(rules, "<xsl:template name=\"n{count}\"><r/></xsl:template>")?;
-    sheet_text(alloc, rules.as_str())
+    Ok(sheet_text(alloc, rules.as_str())?)
 }
 
 /// Why there is no machine of a stylesheet over small schemas.

@@ -1,8 +1,8 @@
 use Rattle.std.proofs.Common.{inl, inr, refl}
 use Rattle.tc_model.specs.States.{input, output}
 use Rattle.tc_model.specs.Views as see
-use Rattle.tc_tests_engine.proofs.Parts.{are_parts}
-use Rattle.tc_tests_engine.proofs.rows.machine_of.Goals as goal
+use Rattle.tc_tests_triples.proofs.Parts.{are_parts}
+use Rattle.tc_tests_triples.proofs.machine_of.Goals as goal
 
 pub of-requires-6 : goal.of-requires-6
 of-requires-6 c =

@@ -1,0 +1,398 @@
+//! Rows of random small triples beside what they tell by definition: the trees that steps make are written down as documents, each
+//! of which is read, validated and run.
+ghost use Rattle.std.specs.Prelude.{◌≡◌, ◌≤◌, length};
+ghost use Rattle.tc_beh.specs.Machines.{IsMachine};
+ghost use Rattle.tc_model.specs.Trees.{IsDocument, none};
+ghost use Rattle.tc_model.specs.Views.{before};
+ghost use Rattle.tc_tests_engine.specs.Kept.{AreKept};
+
+use crate::random_triples::{Dice, TripleTexts, random_texts};
+use crate::rows::{Step, is_fine, keep};
+use bumpalo::Bump;
+use std::alloc::Global;
+use std::test::Fail;
+use tc_auto::Auto;
+use tc_beh::{HRow, Machine, Rows, TRow};
+use tc_hedge::is_valid;
+use tc_model::Node;
+use tc_read::read_document;
+use tc_run::run;
+use tc_tests_triples::{LONGEST, machine_of_texts, schema_of};
+
+/// How many triples a test makes.
+const TRIPLES: u32 = 50;
+
+/// How many steps are tried over each of them.
+const STEPS: u32 = 24;
+
+/// What is told of a tree.
+#[derive(Clone, Copy, Debug, PartialEq, Eq)]
+enum Told {
+    /// It matches no element pattern of the input.
+    Dead,
+    /// It matches one: whether a document of it is a valid input, and its result a valid output.
+    Live { is_valid: bool, is_fit: bool },
+}
+
+/// How often what was told.
+#[derive(Clone, Copy)]
+struct Tally {
+    /// What a row tells isn't so.
+    wrong: u32,
+    dead: u32,
+    invalid: u32,
+    fit: u32,
+    unfit: u32,
+}
+
+impl Tally {
+    fn new() -> Tally {
+        Tally {
+            wrong: 0,
+            dead: 0,
+            invalid: 0,
+            fit: 0,
+            unfit: 0,
+        }
+    }
+
+    /// Counts what a row tells of a tree beside what is so.
+    fn count(&mut self, by_row: Told, by_definition: Told) {
+        if by_row != by_definition {
+            self.wrong = self.wrong.saturating_add(1);
+        }
+        match by_definition {
+            Told::Dead => self.dead = self.dead.saturating_add(1),
+            Told::Live {
+                is_valid: false,
+                ..
+            } => self.invalid = self.invalid.saturating_add(1),
+            Told::Live { is_fit: true, .. } => self.fit = self.fit.saturating_add(1),
+            Told::Live { .. } => self.unfit = self.unfit.saturating_add(1),
+        }
+    }
+
+    /// Adds what was counted elsewhere.
+    fn add(&mut self, other: Tally) {
+        self.wrong = self.wrong.saturating_add(other.wrong);
+        self.dead = self.dead.saturating_add(other.dead);
+        self.invalid = self.invalid.saturating_add(other.invalid);
+        self.fit = self.fit.saturating_add(other.fit);
+        self.unfit = self.unfit.saturating_add(other.unfit);
+    }
+}
+
+/// The texts of the trees of kept rows.
+#[derive(Drop)]
+struct Texts {
+    hedges: Vec<String>,
+    trees: Vec<String>,
+}
+
+/// The text of this number, or an empty one where there is none.
+fn text_at<'t>(texts: &'t [String], number: usize) -> &'t str {
+    match texts.get(number) {
+        Some(text) => text.as_str(),
+        None => "",
+    }
+}
+
+/// Keeps the rows of no tree and of a text.
+fn keep_first(
+    alloc: Global,
+    rows: &mut Rows<'_, '_>,
+    hedges: &mut Vec<HRow>,
+    trees: &mut Vec<TRow>,
+    texts: &mut Texts,
+) -> Result<(), Fail>
+    requires { AreKept rows.old hedges.old.items trees.old.items }
+    ensures { AreKept rows.new hedges.new.items trees.new.items }
+{
+    keep(alloc, rows, hedges, trees, Step::Empty)?;
+    texts.hedges.push(String::new(alloc))?;
+    if keep(alloc, rows, hedges, trees, Step::Text)? {
+        texts.trees.push(String::from_str(alloc, "t")?)?;
+    }
+    Ok(())
+}
+
+/// Puts a tree behind others, and keeps what is live.
+fn append_some(
+    alloc: Global,
+    dice: &mut Dice,
+    rows: &mut Rows<'_, '_>,
+    hedges: &mut Vec<HRow>,
+    trees: &mut Vec<TRow>,
+    texts: &mut Texts,
+) -> Result<(), Fail>
+    requires { AreKept rows.old hedges.old.items trees.old.items }
+    ensures { AreKept rows.new hedges.new.items trees.new.items }
+{
+    let hedge = dice.roll(texts.hedges.len().max(1));
+    let tree = dice.roll(texts.trees.len().max(1));
+    let front = text_at(&texts.hedges, hedge);
+    let last = text_at(&texts.trees, tree);
+    let text = format!(in alloc; "{front}{last}")?;
+    if keep(alloc, rows, hedges, trees, Step::Append(hedge, tree))? {
+        texts.hedges.push(text)?;
+    }
+    Ok(())
+}
+
+/// What is told of the tree that a step makes, by its row, which is kept if it is live.
+fn told_by_row(
+    alloc: Global,
+    rows: &mut Rows<'_, '_>,
+    hedges: &mut Vec<HRow>,
+    trees: &mut Vec<TRow>,
+    step: Step,
+) -> Result<Told, Fail>
+    requires { AreKept rows.old hedges.old.items trees.old.items }
+    ensures { AreKept rows.new hedges.new.items trees.new.items }
+{
+    if !keep(alloc, rows, hedges, trees, step)? {
+        return Ok(Told::Dead);
+    }
+    let last = trees.len().saturating_sub(1);
+    let (is_valid, is_fit) = is_fine(rows, hedges, trees, last);
+    Ok(Told::Live { is_valid, is_fit })
+}
+
+/// What is told of an element around trees, by its row; and its text.
+fn wrap_some(
+    alloc: Global,
+    dice: &mut Dice,
+    rows: &mut Rows<'_, '_>,
+    hedges: &mut Vec<HRow>,
+    trees: &mut Vec<TRow>,
+    texts: &Texts,
+) -> Result<(Told, String), Fail>
+    requires { AreKept rows.old hedges.old.items trees.old.items }
+    ensures { AreKept rows.new hedges.new.items trees.new.items }
+{
+    let hedge = dice.roll(texts.hedges.len().max(1));
+    let name = dice.pick(&["a", "b"]);
+    let told = told_by_row(alloc, rows, hedges, trees, Step::Wrap(name, hedge))?;
+    let inner = text_at(&texts.hedges, hedge);
+    let text = format!(in alloc; "<{name}>{inner}</{name}>")?;
+    Ok((told, text))
+}
+
+/// What decides validity by the schemas alone.
+#[derive(Drop)]
+struct Schemas<'b> {
+    input: Auto<'b>,
+    anywhere: Auto<'b>,
+    output: Auto<'b>,
+}
+
+/// The automaton of a schema's text.
+fn automaton_of<'b>(alloc: Global, arena: &'b Bump, text: &str) -> Result<Auto<'b>, Fail> {
+    let grammar = schema_of(arena, text)?;
+    match Auto::of(alloc, &grammar, 256) {
+        Ok(automaton) => Ok(automaton),
+        Err(_) => Err(Fail::from("the schema is small")),
+    }
+}
+
+/// Those of a triple.
+fn schemas_of<'b>(
+    alloc: Global,
+    arena: &'b Bump,
+    texts: &TripleTexts,
+) -> Result<Schemas<'b>, Fail> {
+    let input = automaton_of(alloc, arena, texts.input.as_str())?;
+    let anywhere = automaton_of(alloc, arena, texts.anywhere.as_str())?;
+    let output = automaton_of(alloc, arena, texts.output.as_str())?;
+    Ok(Schemas {
+        input,
+        anywhere,
+        output,
+    })
+}
+
+/// Whether the result of a document is a valid output.
+fn is_fit<'b>(
+    alloc: Global,
+    arena: &'b Bump,
+    machine: &Machine<'b>,
+    output: &Auto<'_>,
+    document: &Node<'b>,
+) -> Result<bool, Fail>
+    requires machine { IsMachine machine.now }
+    requires document { IsDocument (before document.now none) }
+{
+    let Ok(result) = run(arena, machine.rules(), machine.alphabet(), document) else {
+        return Err(Fail::from("the run is short"));
+    };
+    match result {
+        [node] => Ok(is_valid(alloc, output, node)?),
+        _ => Ok(false),
+    }
+}
+
+/// What is so of a tree that is written down.
+fn told_by_definition<'b>(
+    alloc: Global,
+    arena: &'b Bump,
+    machine: &Machine<'b>,
+    schemas: &Schemas<'_>,
+    text: &str,
+) -> Result<Told, Fail>
+    requires { IsMachine machine.now }
+{
+    if text.len() > LONGEST {
+        return Err(Fail::from("the text is short"));
+    }
+    let Ok(document) = read_document(arena, text.as_bytes()) else {
+        return Err(Fail::from("the text is a document's"));
+    };
+    if !is_valid(alloc, &schemas.anywhere, &document)? {
+        return Ok(Told::Dead);
+    }
+    let is_valid = is_valid(alloc, &schemas.input, &document)?;
+    let is_fit = is_fit(alloc, arena, machine, &schemas.output, &document)?;
+    Ok(Told::Live { is_valid, is_fit })
+}
+
+/// Does random steps, and counts what is told of the elements that they make.
+fn told_of_steps<'b>(
+    alloc: Global,
+    arena: &'b Bump,
+    dice: &mut Dice,
+    machine: &Machine<'b>,
+    schemas: &Schemas<'_>,
+    rows: &mut Rows<'_, '_>,
+    hedges: &mut Vec<HRow>,
+    trees: &mut Vec<TRow>,
+    texts: &mut Texts,
+) -> Result<Tally, Fail>
+    requires machine { IsMachine machine.now }
+    requires kept { AreKept rows.old hedges.old.items trees.old.items }
+{
+    let mut tally = Tally::new();
+    for _ in 0..STEPS {
+        if dice.roll(3) > 0 {
+            append_some(alloc, dice, rows, hedges, trees, texts)?;
+        } else {
+            let (told, text) = wrap_some(alloc, dice, rows, hedges, trees, texts)?;
+            let is = told_by_definition(alloc, arena, machine, schemas, text.as_str())?;
+            tally.count(told, is);
+            if told != Told::Dead {
+                texts.trees.push(text)?;
+            }
+        }
+    }
+    Ok(tally)
+}
+
+/// The same over a machine.
+fn told_over<'b>(
+    alloc: Global,
+    arena: &'b Bump,
+    dice: &mut Dice,
+    machine: &Machine<'b>,
+    schemas: &Schemas<'_>,
+) -> Result<Tally, Fail>
+    requires { IsMachine machine.now }
+{
+    let mut rows = Rows::new(alloc, machine)?;
+    let mut hedges = Vec::new(alloc);
+    let mut trees = Vec::new(alloc);
+    let mut texts = Texts {
+        hedges: Vec::new(alloc),
+        trees: Vec::new(alloc),
+    };
+    keep_first(alloc, &mut rows, &mut hedges, &mut trees, &mut texts)?;
+    told_of_steps(
+        alloc,
+        arena,
+        dice,
+        machine,
+        schemas,
+        &mut rows,
+        &mut hedges,
+        &mut trees,
+        &mut texts,
+    )
+}
+
+/// The same over the machine of three texts.
+fn told_of_texts(alloc: Global, dice: &mut Dice, texts: &TripleTexts) -> Result<Tally, Fail> {
+    let arena = Bump::new(alloc);
+    let input = texts.input.as_str();
+    let output = texts.output.as_str();
+    let machine = machine_of_texts(alloc, &arena, input, output, texts.sheet.as_str())?;
+    let schemas = schemas_of(alloc, &arena, texts)?;
+    told_over(alloc, &arena, dice, &machine, &schemas)
+}
+
+/// The same of a random triple.
+fn told_of_one(alloc: Global, dice: &mut Dice) -> Result<Tally, Fail> {
+    let texts = random_texts(alloc, dice)?;
+    told_of_texts(alloc, dice, &texts)
+}
+
+/// What is told of elements over many triples, and how many of these have valid documents all of whose results are valid, or
+/// one whose result isn't.
+#[derive(Clone, Copy)]
+struct Seen {
+    all: Tally,
+    safe: u32,
+    not_safe: u32,
+}
+
+/// The same over many random triples.
+fn told_of_many(alloc: Global, seed: u32) -> Result<Seen, Fail> {
+    let mut dice = Dice::new(seed);
+    let mut seen = Seen {
+        all: Tally::new(),
+        safe: 0,
+        not_safe: 0,
+    };
+    for _ in 0..TRIPLES {
+        let one = told_of_one(alloc, &mut dice)?;
+        if one.unfit > 0 {
+            seen.not_safe = seen.not_safe.saturating_add(1);
+        } else if one.fit > 0 {
+            seen.safe = seen.safe.saturating_add(1);
+        }
+        seen.all.add(one);
+    }
+    Ok(seen)
+}
+
+/// Whether each thing that can be told is told often.
+fn are_many(seen: Seen) -> bool {
+    let all = seen.all;
+    all.dead > 50
+        && all.invalid > 50
+        && all.fit > 50
+        && all.unfit > 50
+        && seen.safe > 10
+        && seen.not_safe > 10
+}
+
+#[test]
+fn rows_of_fifty_triples_tell_what_is_so(rt: HostRuntime) -> Result<(), Fail> {
+    let seen = told_of_many(rt.alloc(), 1)?;
+    assert_eq!(rt; seen.all.wrong, 0);
+    assert!(rt; are_many(seen));
+    Ok(())
+}
+
+#[test]
+fn rows_of_fifty_others_do(rt: HostRuntime) -> Result<(), Fail> {
+    let seen = told_of_many(rt.alloc(), 2)?;
+    assert_eq!(rt; seen.all.wrong, 0);
+    assert!(rt; are_many(seen));
+    Ok(())
+}
+
+#[test]
+fn rows_of_fifty_more_do(rt: HostRuntime) -> Result<(), Fail> {
+    let seen = told_of_many(rt.alloc(), 3)?;
+    assert_eq!(rt; seen.all.wrong, 0);
+    assert!(rt; are_many(seen));
+    Ok(())
+}

@@ -1,0 +1,168 @@
+//! Two schemas and a stylesheet by chance, always the same ones.
+ghost use Rattle.std.specs.Prelude.{◌<◌, length};
+
+use std::alloc::Global;
+use std::test::Fail;
+use tc_tests_triples::sheet_text;
+
+/// Contents of the elements `a` and `b` of an input.
+static CONTENTS: [&str; 8] = [
+    "empty",
+    "text",
+    "(a|b)*",
+    "a?,b*",
+    "(text|b)*",
+    "b,b?",
+    "(b,b)*",
+    "b|text",
+];
+
+/// Contents of the elements `r` and `x` of an output.
+static RESULTS: [&str; 8] = [
+    "empty",
+    "x*",
+    "(x,x)*",
+    "(text|x)*",
+    "r?,x*",
+    "(r|x)*",
+    "(text|r|x)*",
+    "text,x?,r?,text",
+];
+
+/// What rules match.
+static MATCHES: [&str; 7] = [
+    "a",
+    "b",
+    "a/b",
+    "*[b]",
+    "text()",
+    "b[not(a)]",
+    "a//b[b or a]",
+];
+
+/// Parts of their bodies.
+static PARTS: [&str; 14] = [
+    "",
+    "t",
+    " ",
+    "<x/>",
+    "<x>t</x>",
+    "<xsl:apply-templates/>",
+    "<xsl:apply-templates select=\"b|a\"/>",
+    "<xsl:apply-templates select=\".//b\" mode=\"m\"/>",
+    "<xsl:value-of select=\"a/b\"/>",
+    "<xsl:if test=\"b[b]\"><x/></xsl:if>",
+    "<xsl:copy><xsl:apply-templates/></xsl:copy>",
+    "<xsl:for-each select=\"b\"><x><xsl:value-of select=\".\"/></x></xsl:for-each>",
+    "<xsl:choose><xsl:when test=\"a\"><r/></xsl:when><xsl:otherwise><x/></xsl:otherwise></xsl:choose>",
+    "<xsl:call-template name=\"n\"/>",
+];
+
+/// Numbers that look as if thrown (a linear congruential generator).
+#[derive(Drop)]
+pub(crate) struct Dice {
+    state: u32,
+}
+
+impl Dice {
+    /// Dice that throw what others with this seed throw.
+    pub(crate) fn new(seed: u32) -> Dice {
+        Dice { state: seed }
+    }
+
+    /// A number below a count.
+    pub(crate) fn roll(&mut self, count: usize) -> usize
+        requires { 0 < count }
+        ensures { result < count }
+    {
+        self.state = self
+            .state
+            .wrapping_mul(1_664_525)
+            .wrapping_add(1_013_904_223);
+        (self.state >> 16) as usize % count
+    }
+
+    /// One of some words.
+    pub(crate) fn pick(&mut self, words: &[&'static str]) -> &'static str
+        requires { 0 < length words.now }
+    {
+        let place = self.roll(words.len());
+        words[place]
+    }
+}
+
+/// The texts of two schemas and of a stylesheet.
+#[derive(Drop)]
+pub(crate) struct TripleTexts {
+    pub(crate) input: String,
+    /// The input's schema with each of its element patterns at the start.
+    pub(crate) anywhere: String,
+    pub(crate) output: String,
+    pub(crate) sheet: String,
+}
+
+/// A schema of two elements of these names and contents, with this start.
+fn schema_text(
+    alloc: Global,
+    start: &str,
+    names: [&str; 2],
+    contents: [&str; 2],
+) -> Result<String, Fail> {
+    let [name, other] = names;
+    let [content, inside] = contents;
+    let text = format!(in alloc;
+        "start = {start} {name} = element {name}{{{content}}} {other} = element {other}{{{inside}}}"
+    )?;
+    Ok(text)
+}
+
+/// A rule of a pattern in a mode, which is an attribute's text or none. Its body is an element of this name.
+fn put_rule(
+    rules: &mut String,
+    dice: &mut Dice,
+    pattern: &str,
+    mode: &str,
+    name: &str,
+) -> Result<(), Fail> {
+    let one = dice.pick(&PARTS);
+    let other = dice.pick(&PARTS);
+    write!(
+        rules,
+        "<xsl:template match=\"{pattern}\"{mode}><{name}>{one}{other}</{name}></xsl:template>"
+    )?;
+    Ok(())
+}
+
+/// A rule of the root, four others, and a named template.
+fn random_sheet(alloc: Global, dice: &mut Dice) -> Result<String, Fail> {
+    let mut rules = String::from_str(
+        alloc,
+        "<xsl:template name=\"n\"><x/><xsl:apply-templates select=\"b\"/></xsl:template>",
+    )?;
+    put_rule(&mut rules, dice, "/", "", "r")?;
+    for mode in ["", "", "", " mode=\"m\""] {
+        let pattern = dice.pick(&MATCHES);
+        let name = dice.pick(&["x", "x", "r"]);
+        put_rule(&mut rules, dice, pattern, mode, name)?;
+    }
+    Ok(sheet_text(alloc, rules.as_str())?)
+}
+
+/// The texts of a triple.
+pub(crate) fn random_texts(alloc: Global, dice: &mut Dice) -> Result<TripleTexts, Fail> {
+    let content = dice.pick(&CONTENTS);
+    let inside = dice.pick(&CONTENTS);
+    let result = dice.pick(&RESULTS);
+    let part = dice.pick(&RESULTS);
+    let all = if content.contains('b') { "a|b" } else { "a" };
+    let input = schema_text(alloc, "a", ["a", "b"], [content, inside])?;
+    let anywhere = schema_text(alloc, all, ["a", "b"], [content, inside])?;
+    let output = schema_text(alloc, "r", ["r", "x"], [result, part])?;
+    let sheet = random_sheet(alloc, dice)?;
+    Ok(TripleTexts {
+        input,
+        anywhere,
+        output,
+        sheet,
+    })
+}
