@@ -9,7 +9,7 @@ limit_few (Some n) words operands l = l.2.at_most
 
 -- a limit of rows is at most 4,000
 pub few_rows : {words : List (List ℕ)} {limit : Option ℕ} {input output sheet : List ℕ} → Words words (check limit input output sheet) → most_rows limit ≤ 4000
-few_rows {limit = limit} (checks p l a) = limit_few limit _ _ l
+few_rows {limit = limit} (checks p l a schemas) = limit_few limit _ _ l
 
 pub few_rows_proved : {words : List (List ℕ)} {limit : Option ℕ} {input output sheet : List ℕ} → Words words (prove limit input output sheet) → most_rows limit ≤ 4000
-few_rows_proved {limit = limit} (proves p l a) = limit_few limit _ _ l
+few_rows_proved {limit = limit} (proves p l a schemas) = limit_few limit _ _ l

@@ -4,7 +4,7 @@ use Rattle.std.proofs.lemmas.Option.{MatchOption-at_none, MatchOption-at_some}
 use Rattle.tc_io.proofs.ReadsInOrder.{happened_nothing}
 use Rattle.tc_answer.specs.Answers as a
 use Rattle.tc_top.specs.Answers.{no_command, decided, shown, ReadsNothing}
-use Rattle.tc_answer.specs.Words.{Command as Given, Words, name_of, operands_of}
+use Rattle.tc_answer.specs.Words.{Command as Given, Source, Words, operands_of}
 use Rattle.tc_answer.specs.WordsSeen.{command}
 use Rattle.tc_answer.specs.declared.command.Command.{Command}
 use Rattle.tc_answer.proofs.Numerals.{demo_size}
@@ -35,11 +35,11 @@ returns-in-Demo-clause-right g c =
 
 -- a command that reads a file
 
-some_name : {name : List ℕ} {names : List (List ℕ)} → name ∷ names ≡ [] → ⊥
-some_name e = absurd (cc)
+some_source : {source : Source} {sources : List Source} → source ∷ sources ≡ [] → ⊥
+some_source e = absurd (cc)
 
-reads_some : {words names : List (List ℕ)} {name : List ℕ} {given : Given} → ReadsNothing words → Words words given → operands_of given ≡ name ∷ names → ⊥
-reads_some nothing are same = some_name (sym same ∙ nothing _ are)
+reads_some : {words : List (List ℕ)} {source : Source} {sources : List Source} {given : Given} → ReadsNothing words → Words words given → operands_of given ≡ source ∷ sources → ⊥
+reads_some nothing are same = some_source (sym same ∙ nothing _ are)
 
 pub returns-in-Check-clause-unread : goal.returns-in-Check-clause-unread
 returns-in-Check-clause-unread g c = λ nothing. absurd (reads_some nothing (words_at _ _ c.in-Check.is (MatchOption-at_some _ _ _ c.in-Some.is c.read_words.ensures)) refl)
