@@ -1,5 +1,5 @@
 // How commands end: their statuses, lines and faults.
-use crate::commands::{joined, sheet_of, store_answers, store_of, words_of, written};
+use crate::commands::{joined, sheet_of, store_answers, store_of, triple_store, words_of, written};
 use std::alloc::Global;
 use std::test::Fail;
 use tc_base::NoMemory;
@@ -18,14 +18,7 @@ fn store_with(alloc: Global, input: &str, output: &str, body: &str) -> Result<Me
         &["<xsl:template match=\"/\">", body, "</xsl:template>"],
     )?;
     let sheet = sheet_of(alloc, rules.as_str())?;
-    store_of(
-        alloc,
-        &[
-            ("I", input.as_bytes()),
-            ("O", output.as_bytes()),
-            ("S", sheet.as_bytes()),
-        ],
-    )
+    triple_store(alloc, input.as_bytes(), output.as_bytes(), sheet.as_bytes())
 }
 
 #[test]

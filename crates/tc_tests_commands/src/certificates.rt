@@ -1,5 +1,5 @@
 // Tests of `prove`, `verify` and `upgrade`.
-use crate::commands::{joined, sheet_of, store_answers, store_of, written};
+use crate::commands::{joined, sheet_of, store_answers, triple_store, written};
 use std::alloc::Global;
 use std::test::Fail;
 use tc_base::NoMemory;
@@ -72,12 +72,8 @@ fn store_with(
     certificate: Option<&[u8]>,
 ) -> Result<MemStore, NoMemory> {
     let sheet = sheet_of(alloc, files.rules)?;
-    let triple = [
-        ("I", files.input.as_bytes()),
-        ("O", files.output.as_bytes()),
-        ("S", sheet.as_bytes()),
-    ];
-    let mut store = store_of(alloc, &triple)?;
+    let (input, output) = (files.input.as_bytes(), files.output.as_bytes());
+    let mut store = triple_store(alloc, input, output, sheet.as_bytes())?;
     if let Some(bytes) = certificate {
         store.put("C", bytes)?;
     }

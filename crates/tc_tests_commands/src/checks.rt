@@ -1,5 +1,7 @@
 // Tests of `check` on whole schemas and stylesheets.
-use crate::commands::{command_answers, doubled, joined, nested, repeated, sheet_of, ten_levels};
+use crate::commands::{
+    doubled, joined, nested, repeated, sheet_of, store_answers, ten_levels, triple_store,
+};
 use std::alloc::Global;
 use std::test::Fail;
 use tc_base::NoMemory;
@@ -50,12 +52,9 @@ fn writes(
     text: &str,
 ) -> Result<bool, Fail> {
     let sheet = sheet_of(alloc, rules)?;
-    let files = [
-        ("I", input.as_bytes()),
-        ("O", output.as_bytes()),
-        ("S", sheet.as_bytes()),
-    ];
-    command_answers(alloc, words, &files, status_of(text), text)
+    let (input, output) = (input.as_bytes(), output.as_bytes());
+    let mut store = triple_store(alloc, input, output, sheet.as_bytes())?;
+    store_answers(alloc, words, &mut store, status_of(text), text)
 }
 
 /// Whether `check I O S`, of two schemas and of a stylesheet with these rules, writes this text.

@@ -61,6 +61,16 @@ pub(crate) fn store_of(alloc: Global, files: &[(&str, &[u8])]) -> Result<MemStor
     Ok(store)
 }
 
+/// A store with two schemas and a stylesheet as `I`, `O` and `S`.
+pub(crate) fn triple_store(
+    alloc: Global,
+    input: &[u8],
+    output: &[u8],
+    sheet: &[u8],
+) -> Result<MemStore, NoMemory> {
+    store_of(alloc, &[("I", input), ("O", output), ("S", sheet)])
+}
+
 /// What these words write of a store into so much room, and their status.
 pub(crate) fn written(
     alloc: Global,

@@ -1,5 +1,5 @@
 // Tests of `run`.
-use crate::commands::{command_answers, joined, nested, repeated, sheet_of};
+use crate::commands::{joined, nested, repeated, sheet_of, store_answers, store_of};
 use std::alloc::Global;
 use std::test::Fail;
 use tc_base::NoMemory;
@@ -14,8 +14,9 @@ fn answers(
     line: &str,
 ) -> Result<bool, Fail> {
     let sheet = sheet_of(alloc, rules)?;
-    let files = [("S", sheet.as_bytes()), ("D", document.as_bytes())];
-    command_answers(alloc, &["run", "S", "D"], &files, status, line)
+    let mut store = store_of(alloc, &[("D", document.as_bytes())])?;
+    store.put("S", sheet.as_bytes())?;
+    store_answers(alloc, &["run", "S", "D"], &mut store, status, line)
 }
 
 const DOUBLING: &str = "<xsl:template match='/'><r><xsl:apply-templates/></r></xsl:template>\
@@ -167,14 +168,17 @@ fn texts_are_refused(rt: HostRuntime) -> Result<(), Fail> {
 
 #[test]
 fn tests_nest_two_thousand_deep(rt: HostRuntime) -> Result<(), Fail> {
-    let front = "<xsl:template match='/'><xsl:if test='";
-    let back = "'><r/></xsl:if></xsl:template>";
     for (depth, status, line) in [
         (1_999, Status::Yes, "<r/>\n"),
         (2_001, Status::Refused, "refused S too-deep at 111\n"),
     ] {
         let test = nested(rt.alloc(), "(", depth, "true()", ")")?;
-        let rules = joined(rt.alloc(), &[front, test.as_str(), back])?;
+        let parts = [
+            "<xsl:template match='/'><xsl:if test='",
+            test.as_str(),
+            "'><r/></xsl:if></xsl:template>",
+        ];
+        let rules = joined(rt.alloc(), &parts)?;
         assert!(rt;
             answers(rt.alloc(), rules.as_str(), "<a/>", status, line)?,
             "{depth}"
@@ -208,14 +212,17 @@ fn limits_are_tried_in_turn(rt: HostRuntime) -> Result<(), Fail> {
 
 #[test]
 fn states_of_ancestors_are_limited(rt: HostRuntime) -> Result<(), Fail> {
-    let front = "<xsl:template match='a";
-    let back = "'><x/></xsl:template>";
     for (more, status, line) in [
         (63, Status::Yes, "\n"),
         (64, Status::Limit, "limit ancestors 64\n"),
     ] {
         let steps = repeated(rt.alloc(), "/a", more)?;
-        let rules = joined(rt.alloc(), &[front, steps.as_str(), back])?;
+        let parts = [
+            "<xsl:template match='a",
+            steps.as_str(),
+            "'><x/></xsl:template>",
+        ];
+        let rules = joined(rt.alloc(), &parts)?;
         assert!(rt;
             answers(rt.alloc(), rules.as_str(), "<a/>", status, line)?,
             "{more}"

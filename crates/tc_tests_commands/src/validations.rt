@@ -129,8 +129,8 @@ fn elements_nest_two_thousand_deep(rt: HostRuntime) -> Result<(), Fail> {
 
 /// A schema of an `r` with one `x` and so many more.
 fn wide(alloc: Global, more: u32) -> Result<String, NoMemory> {
-    let front = "start = r x = element x{empty} r = element r{x";
     let rest = repeated(alloc, ",x", more)?;
+    let front = "start = r x = element x{empty} r = element r{x";
     joined(alloc, &[front, rest.as_str(), "}"])
 }
 
