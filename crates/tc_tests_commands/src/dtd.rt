@@ -11,7 +11,8 @@ const ANY_B: &str = "<!ELEMENT a (b*)><!ELEMENT b EMPTY>";
 const ANY_X: &str = "element r{element x{empty}*}";
 
 /// The results of all `b` below an `a`, in an `r`.
-const PARTS: &str = "<xsl:stylesheet version=\"1.0\" xmlns:xsl=\"http://www.w3.org/1999/XSL/Transform\">\
+const PARTS: &str =
+    "<xsl:stylesheet version=\"1.0\" xmlns:xsl=\"http://www.w3.org/1999/XSL/Transform\">\
     <xsl:template match=\"/\"><r><xsl:apply-templates select=\"a/b\"/></r></xsl:template>\
     <xsl:template match=\"b\"><x/></xsl:template></xsl:stylesheet>";
 
@@ -141,10 +142,7 @@ fn every_schema_may_be_declared(rt: HostRuntime) -> Result<(), Fail> {
 #[test]
 fn declarations_are_refused_by_the_whole_word(rt: HostRuntime) -> Result<(), Fail> {
     for (declarations, text) in [
-        (
-            "<!ELEMENT a (b,c|d)>",
-            "refused dtd:a:G malformed at 16\n",
-        ),
+        ("<!ELEMENT a (b,c|d)>", "refused dtd:a:G malformed at 16\n"),
         (
             "<!ELEMENT a EMPTY><!ELEMENT a EMPTY>",
             "refused dtd:a:G twice at 18\n",
@@ -163,7 +161,11 @@ fn declarations_are_refused_by_the_whole_word(rt: HostRuntime) -> Result<(), Fai
         ),
         ("", "refused D malformed at 2\n"),
     ] {
-        let document = if declarations.is_empty() { "<a" } else { "<a/>" };
+        let document = if declarations.is_empty() {
+            "<a"
+        } else {
+            "<a/>"
+        };
         assert!(rt;
             validates(
                 rt.alloc(),
@@ -181,12 +183,16 @@ fn declarations_are_refused_by_the_whole_word(rt: HostRuntime) -> Result<(), Fai
 
 #[test]
 fn words_name_an_element_and_a_file(rt: HostRuntime) -> Result<(), Fail> {
-    let usage = "usage: check|prove [--limit N] IN OUT SHEET; verify IN OUT SHEET CERT; run SHEET DOC; \
+    let usage =
+        "usage: check|prove [--limit N] IN OUT SHEET; verify IN OUT SHEET CERT; run SHEET DOC; \
         valid SCHEMA DOC; demo N; upgrade CERT; include A B; same A B\n";
     let files = [("G", "<!ELEMENT a EMPTY>"), ("D", "<a/>")];
     for word in ["dtd:", "dtd:a", "dtd:a:", "dtd:1:G", "dtd::G", "dtd:a b:G"] {
         for command in [["valid", word, "D"], ["include", "G", word]] {
-            assert!(rt; answers(rt.alloc(), &command, &files, Status::Usage, usage)?, "{word}");
+            assert!(rt;
+                answers(rt.alloc(), &command, &files, Status::Usage, usage)?,
+                "{word}"
+            );
         }
     }
     let missing = "cannot read dtd:a:b:c\n";
@@ -219,13 +225,40 @@ fn nested(alloc: Global, depth: usize) -> Result<String, Fail> {
 fn parentheses_nest_2000_deep(rt: HostRuntime) -> Result<(), Fail> {
     let most = nested(rt.alloc(), 2000)?;
     let text = "limit depth 2000\n";
-    assert!(rt; validates(rt.alloc(), "dtd:a:G", most.as_str(), "<a/>", Status::Limit, text)?);
+    assert!(rt;
+        validates(
+            rt.alloc(),
+            "dtd:a:G",
+            most.as_str(),
+            "<a/>",
+            Status::Limit,
+            text
+        )?
+    );
     let more = nested(rt.alloc(), 2001)?;
     let text = "refused dtd:a:G too-deep at 2012\n";
-    assert!(rt; validates(rt.alloc(), "dtd:a:G", more.as_str(), "<a/>", Status::Refused, text)?);
+    assert!(rt;
+        validates(
+            rt.alloc(),
+            "dtd:a:G",
+            more.as_str(),
+            "<a/>",
+            Status::Refused,
+            text
+        )?
+    );
     // A limit of the schema waits until the document was read.
     let text = "refused D malformed at 2\n";
-    assert!(rt; validates(rt.alloc(), "dtd:a:G", most.as_str(), "<a", Status::Refused, text)?);
+    assert!(rt;
+        validates(
+            rt.alloc(),
+            "dtd:a:G",
+            most.as_str(),
+            "<a",
+            Status::Refused,
+            text
+        )?
+    );
     Ok(())
 }
 
@@ -243,16 +276,52 @@ fn chain(alloc: Global, count: u32) -> Result<String, Fail> {
 fn elements_and_nodes_are_limited(rt: HostRuntime) -> Result<(), Fail> {
     let most = chain(rt.alloc(), 256)?;
     let valid = "valid\n";
-    assert!(rt; validates(rt.alloc(), "dtd:e1:G", most.as_str(), "<e1/>", Status::Yes, valid)?);
+    assert!(rt;
+        validates(
+            rt.alloc(),
+            "dtd:e1:G",
+            most.as_str(),
+            "<e1/>",
+            Status::Yes,
+            valid
+        )?
+    );
     let more = chain(rt.alloc(), 257)?;
     let text = "limit elements 256\n";
-    assert!(rt; validates(rt.alloc(), "dtd:e1:G", more.as_str(), "<e1/>", Status::Limit, text)?);
-    assert!(rt; validates(rt.alloc(), "dtd:e2:G", more.as_str(), "<e2/>", Status::Yes, valid)?);
+    assert!(rt;
+        validates(
+            rt.alloc(),
+            "dtd:e1:G",
+            more.as_str(),
+            "<e1/>",
+            Status::Limit,
+            text
+        )?
+    );
+    assert!(rt;
+        validates(
+            rt.alloc(),
+            "dtd:e2:G",
+            more.as_str(),
+            "<e2/>",
+            Status::Yes,
+            valid
+        )?
+    );
     let mut any = String::new(rt.alloc());
     for number in 0..10000u32 {
         write!(any, "<!ELEMENT e{number} ANY>")?;
     }
     let text = "limit pattern 65536\n";
-    assert!(rt; validates(rt.alloc(), "dtd:e0:G", any.as_str(), "<e0/>", Status::Limit, text)?);
+    assert!(rt;
+        validates(
+            rt.alloc(),
+            "dtd:e0:G",
+            any.as_str(),
+            "<e0/>",
+            Status::Limit,
+            text
+        )?
+    );
     Ok(())
 }

@@ -93,8 +93,8 @@ one_reason_of_dtd bytes r q k m x y = by (of_fault bytes r k x) (of_fault bytes 
     by a b = elim (one_fault bytes a.fault b.fault a.refusal b.refusal a.faulty b.faulty) [
       | inl s ↦ (a.reason_is ∙ (ap reason_by s ∙ sym b.reason_is), λ _. a.place_is ∙ (ap place_by s ∙ sym b.place_is))
       | inr s ↦
-        let first = a.reason_is ∙ reason_malformed a.fault s.0 in
-        (first ∙ sym (b.reason_is ∙ reason_malformed b.fault s.1), λ p. absurd (subst IsPlaced first p))
+          let first = a.reason_is ∙ reason_malformed a.fault s.0 in
+          (first ∙ sym (b.reason_is ∙ reason_malformed b.fault s.1), λ p. absurd (subst IsPlaced first p))
     ]
 
 no_declared : {root bytes : List ℕ} {g : Grammar} (reason : Reason) (place : ℕ) → IsRefusedDtd bytes reason place → DeclaresGrammar root bytes g → ⊥

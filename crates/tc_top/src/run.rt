@@ -42,12 +42,7 @@ pub fn run<S: Store>(
     ensures ok { IfOk result (λ said. (words : List (List ℕ)) → Words words (w.run sheet.now document.now)
         → IsRightFor words (Happened S.read_gives S.holds S.faults store.old store.new) said) }
 {
-    match read_pair(
-        alloc,
-        Source::plain(sheet),
-        Source::plain(document),
-        store,
-    ) {
+    match read_pair(alloc, Source::plain(sheet), Source::plain(document), store) {
         Ok((sheet, document)) => run_texts(alloc, &sheet, &document),
         Err(unread) => answer_unread(alloc, unread),
     }

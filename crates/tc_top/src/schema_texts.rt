@@ -32,11 +32,7 @@ pub fn read_operand_schema<'b>(
 }
 
 /// The schema of declarations of elements, with `root` as the document's element.
-fn read_declarations<'b>(
-    arena: &'b Bump,
-    text: &[u8],
-    root: &str,
-) -> Result<Schema<'b>, TextFault>
+fn read_declarations<'b>(arena: &'b Bump, text: &[u8], root: &str) -> Result<Schema<'b>, TextFault>
     requires { length text.now ≤ longest_text }
     ensures ok { IfOk result (IsSchemaOfDtd root.now text.now) }
     ensures no { IfErr result (IsUnaccepted (IsRefusedDtd text.now)) }

@@ -24,12 +24,7 @@ pub fn include<S: Store>(
     ensures ok { IfOk result (λ said. (words : List (List ℕ)) → Words words (w.include first.now second.now)
         → IsRightFor words (Happened S.read_gives S.holds S.faults store.old store.new) said) }
 {
-    match read_pair(
-        alloc,
-        Source::schema(first),
-        Source::schema(second),
-        store,
-    ) {
+    match read_pair(alloc, Source::schema(first), Source::schema(second), store) {
         Ok((first, second)) => compare_texts(alloc, Question::Inclusion, &first, &second),
         Err(unread) => answer_unread(alloc, unread),
     }
@@ -47,12 +42,7 @@ pub fn same<S: Store>(
     ensures ok { IfOk result (λ said. (words : List (List ℕ)) → Words words (w.same first.now second.now)
         → IsRightFor words (Happened S.read_gives S.holds S.faults store.old store.new) said) }
 {
-    match read_pair(
-        alloc,
-        Source::schema(first),
-        Source::schema(second),
-        store,
-    ) {
+    match read_pair(alloc, Source::schema(first), Source::schema(second), store) {
         Ok((first, second)) => compare_texts(alloc, Question::Equality, &first, &second),
         Err(unread) => answer_unread(alloc, unread),
     }
