@@ -129,6 +129,12 @@ patterns_more g states sets more s same before here k t at j = by (pushed_at set
     by (inl e) = before k t e j
     by (inr (place, e)) = subst (λ w. Has w j ↔ IsAfterPattern g states (k + 1) j) e (subst (λ n. Has s j ↔ IsAfterPattern g states (n + 1) j) (sym place) (here j))
 
+-- a row stays where it stands when others come behind
+pub front : (xs ys : List Row) (i : ℕ) (q : Row) → slice_get xs i ≡ Some q → slice_get (xs ++ ys) i ≡ Some q
+front [] ys i q e = absurd (cc)
+front (x ∷ xs) ys zero q e = e
+front (x ∷ xs) ys (suc i) q e = front xs ys i q e
+
 -- rows that were stepped stay so
 module _ (b : Both) (hedges : List Row) where
   pub stepped_none : AreStepped b hedges []
@@ -144,11 +150,6 @@ module _ (b : Both) (hedges : List Row) where
   -- where more rows come on, and where none does
   pub stepped_longer : (more : List Row) (steps : List BothSteps) → AreStepped b hedges steps → AreStepped b (hedges ++ more) steps
   stepped_longer more steps before i t at = let (h, there, are) = before i t at in (h, front hedges more i h there, are)
-    where
-      front : (xs ys : List Row) (i : ℕ) (q : Row) → slice_get xs i ≡ Some q → slice_get (xs ++ ys) i ≡ Some q
-      front [] ys i q e = absurd (cc)
-      front (x ∷ xs) ys zero q e = e
-      front (x ∷ xs) ys (suc i) q e = front xs ys i q e
 
 -- a row's steps are those that stand at its place
 pub steps_at : (b : Both) (hedges : List Row) (steps : List BothSteps) (i : ℕ) (t : BothSteps) (h : Row) → AreStepped b hedges steps → slice_get steps i ≡ Some t → slice_get hedges i ≡ Some h → AreBothSteps b h t

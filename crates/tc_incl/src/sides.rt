@@ -296,6 +296,17 @@ impl<'c, 'b> Side<'c, 'b> {
         false
     }
 
+    /// The element patterns whose classes hold a symbol.
+    pub(crate) fn allowing(&self, symbol: u32) -> Result<Set, NoMemory>
+        requires { symbol < length self.now.allowed.items }
+        ensures size { IfOk result (λ r. r.size ≡ self.now.end) }
+        ensures numbers { IfOk result (λ r. (x : g.Grammar) (symbols : List Mention) → AreAllowed x symbols self.now.allowed.items → (k : ℕ) → Has r k ↔ IsAllowed x (fresh_name symbols symbol) k) }
+    {
+        let mut allowing = Set::empty(self.alloc, self.end)?;
+        allowing.add_all(&self.allowed[symbol as usize]);
+        Ok(allowing)
+    }
+
     /// The element patterns that an element of a symbol matches around trees, by where their states lead.
     pub(crate) fn around(&self, symbol: u32, steps: &Steps) -> Result<Set, NoMemory>
         requires symbol { symbol < length self.now.allowed.items }
@@ -306,8 +317,7 @@ impl<'c, 'b> Side<'c, 'b> {
         ensures numbers { IfOk result (λ r. (x : g.Grammar) (states : Numbers) (symbols : List Mention) → a.Stands s.input x self.now.auto.now → AreSteps self.now.auto.now states steps.now
             → AreAllowed x symbols self.now.allowed.items → (k : ℕ) → Has r k ↔ (IsAllowed x (fresh_name symbols symbol) k × IsTaken x states k)) }
     {
-        let mut around = Set::empty(self.alloc, self.end)?;
-        around.add_all(&self.allowed[symbol as usize]);
+        let mut around = self.allowing(symbol)?;
         around.keep_all(&steps.taken);
         let _size = around.size();
         Ok(around)

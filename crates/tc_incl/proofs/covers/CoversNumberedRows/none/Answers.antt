@@ -1,5 +1,7 @@
 use Rattle.tc_incl.specs.Held.{IsHedgeFit, IsNone}
-use Rattle.tc_incl.proofs.Holding.{as_hedge, hedge_held, more_hedges, none_at, same_hedges}
+use Rattle.tc_incl.specs.Covers.{held_of, state_of}
+use Rattle.tc_incl.proofs.Alike.{known_on}
+use Rattle.tc_incl.proofs.Holding.{as_hedge, hedge_grows, hedge_held, more_hedges, none_at, same_hedges}
 use Rattle.tc_incl.proofs.Stepped.{stepped_held}
 use Rattle.tc_incl.proofs.covers.CoversNumberedRows.none.Goals as goal
 
@@ -21,7 +23,11 @@ invariant_of-self-2 g c =
     let u = c.in-Ok-hold.number in
     let held = c.in-Ok-hold.ensures in
     let fact : IsHedgeFit b c.in-Ok.row × IsNone b c.in-Ok.row = (c.in-Ok.ensures.fit, c.in-Ok.ensures.made) in
-    (hedge_held of b hs ts c.self.invariant.0 ks u c.in-Ok.row held.held held.kept held.different fact.0, stepped_held b hs ks u c.in-Ok.row c.self.inside.steps.items held.kept c.self.invariant.1)
+    (
+      hedge_held of b hs ts c.self.invariant.0 ks u c.in-Ok.row held.held held.kept held.different fact.0,
+      stepped_held b hs ks u c.in-Ok.row c.self.inside.steps.items held.kept c.self.invariant.1,
+      known_on (held_of of (state_of b hs ts)) (held_of of (state_of b ks ts)) b.kinds.items c.self.inside.wraps (hedge_grows of b hs ts c.self.invariant.0 ks u c.in-Ok.row held.held held.kept) c.self.invariant.2,
+    )
 
 pub returns-clause-grows : goal.returns-clause-grows
 returns-clause-grows g c =
