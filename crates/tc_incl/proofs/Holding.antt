@@ -198,6 +198,10 @@ module _ (IsOf : Schemas → Type 0) (b : Both) (hs ts : List Row) (held : AreHe
   pub passes_at : (t : ℕ) (q : Row) → slice_get ts t ≡ Some q → Passes b q → (held_of IsOf before).passes t
   passes_at t q c passes x is = subst (λ r. IsFailing x r → ⊥) (sym (row_at tree_row ts no_tree t q c)) (passes x (held.told x is))
 
+-- what is held stays so
+pub grows_itself : (IsOf : Schemas → Type 0) (s : State) → Grows (held_of IsOf s) (held_of IsOf s)
+grows_itself IsOf s = grows s s refl [] (sym (append-nil s.hedges)) [] (sym (append-nil s.trees)) IsOf
+
 -- a row of a list
 pub hedge_fit_at : (b : Both) (hs : List Row) (h : ℕ) (p : Row) → slice_get hs h ≡ Some p → All (IsHedgeFit b) hs → IsHedgeFit b p
 hedge_fit_at b hs h p at all = subst (IsHedgeFit b) (get_or_from_slice_get hs h p p at) (All-get_or (IsHedgeFit b) hs h p (slice_get_within hs h p at) all)

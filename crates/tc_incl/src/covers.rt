@@ -70,6 +70,7 @@ impl<'c, 'g, K: Over> Covers<'c, 'g, K> {
     ghost use Rattle.std.specs.Prelude.{◌≡◌, ◌<◌, ◌≤◌, [], length, IfOk, MatchBool, MatchOption, OnErr};
     ghost use Rattle.tc_incl.specs.Covers.{AreOf, Known, held_of};
     ghost use Rattle.tc_incl.specs.Schemas.{Schemas};
+    ghost use Rattle.tc_incl.specs.Wraps.{IsWrapTold};
     ghost use Rattle.tc_settle.specs.Held.{Grows, IsHeldAs, IsUnchanged, IsWrapAt};
 
     /// No rows.
@@ -124,6 +125,26 @@ impl<'c, 'g, K: Over> Covers<'c, 'g, K> {
         ensures { MatchBool result ((held_of K.is_of self.now).fails tree) ((held_of K.is_of self.now).passes tree) }
     {
         self.both.is_failing(&self.trees.as_slice()[tree as usize])
+    }
+
+    /// What came of an element of a symbol, or of another one of its kind, around a list of trees, if it is known.
+    fn known_wrap(&self, symbol: u32, hedge: u32) -> Option<Option<u32>>
+        requires { symbol < self.now.symbols }
+        ensures { MatchOption result (Unit {0}) (λ made. IsWrapTold (held_of K.is_of self.now) symbol hedge made) }
+    {
+        let kind = self.both.kind(symbol);
+        self.wraps.known(kind, hedge)
+    }
+
+    /// Learns what came of an element of a symbol around a list of trees.
+    fn learn_wrap(&mut self, symbol: u32, hedge: u32, made: Option<u32>)
+        requires symbol { symbol < self.old.symbols }
+        requires hedge { hedge < length self.old.hedges }
+        requires told { IsWrapTold (held_of K.is_of self.old) symbol hedge made }
+        ensures { self.new ≡ self.old }
+    {
+        let kind = self.both.kind(symbol);
+        self.wraps.learn(kind, hedge, made);
     }
 
     /// The row of an element of a symbol around a list of trees, where that is live.
@@ -203,14 +224,13 @@ impl<'c, 'g, K: Over> NumberedRows for Covers<'c, 'g, K> {
     }
 
     fn wrap(&mut self, symbol: u32, hedge: u32) -> Result<Option<u32>, HoldFault> {
-        let kind = self.both.kind(symbol);
-        if let Some(made) = self.wraps.known(kind, hedge) {
+        if let Some(made) = self.known_wrap(symbol, hedge) {
             return Ok(made);
         }
         let Ok(made) = self.wrap_new(symbol, hedge) else {
             return Err(HoldFault::NoMemory);
         };
-        self.wraps.learn(kind, hedge, made);
+        self.learn_wrap(symbol, hedge, made);
         Ok(made)
     }
 

@@ -1,5 +1,5 @@
 // What came of elements around one list of trees.
-ghost use Rattle.std.specs.Prelude.{◌≡◌, ◌⊎◌, [], ℕ, Option, Unit, MatchOption};
+ghost use Rattle.std.specs.Prelude.{◌≡◌, ◌⊎◌, [], ℕ, Option, MatchOption};
 
 use std::alloc::Global;
 
