@@ -10,8 +10,8 @@ use Rattle.tc_top.proofs.check.check_read.Goals as goal
 
 pub decide-requires-clause-machine : goal.decide-requires-clause-machine
 decide-requires-clause-machine c =
-    let input = read_of _ _ c.requires.input.1 in
-    let output = read_of _ _ c.requires.output.1 in
+    let input = read_of c.requires.input.0 c.requires.input.1 _ c.requires.input.2 in
+    let output = read_of c.requires.output.0 c.requires.output.1 _ c.requires.output.2 in
     let made = c.in-Ok.ensures.ok input.0 output.0 input.2 output.2 in
     (made.triple, made.machine)
 
