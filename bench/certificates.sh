@@ -13,16 +13,18 @@ measure="python3 $top/bench/measure.py --seconds $seconds"
 
 # Lines of triples, and an option of measure.py or nothing.
 verify_all() {
-  echo "$1" | while read -r -a words; do
-    make_triple "${words[@]}"
+  echo "$1" | while read -r line; do
+    name=${line%%:*}
+    # shellcheck disable=SC2086
+    make_triple $name
     texts="$triple/I $triple/O $triple/S"
     # shellcheck disable=SC2086
     if timeout "$seconds" "$program" prove $texts >"$triple/C"; then
-      echo "${words[*]}: $("$program" verify $texts "$triple/C"), a certificate of $(wc -c <"$triple/C") bytes"
+      echo "$name: $("$program" verify $texts "$triple/C"), a certificate of $(wc -c <"$triple/C") bytes"
       # shellcheck disable=SC2086
       $measure $2 "$runs" check "$program check $texts" prove "$program prove $texts" verify "$program verify $texts $triple/C"
     else
-      echo "${words[*]}: no certificate within $seconds seconds"
+      echo "$name: no certificate within $seconds seconds"
     fi
   done
 }

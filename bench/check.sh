@@ -9,14 +9,19 @@ set -eu
 runs=${1:-3}
 seconds=${2:-30}
 
-# A name, and the words of a command: its answer, and what it takes.
+# A line of a triple, and the words of a command: its answer, which is the line's where that has one, and what it takes.
 show() {
-  timeout "$seconds" "$program" "${@:2}" | head -1
-  python3 "$top/bench/measure.py" --seconds "$seconds" "$runs" "$1" "$program ${*:2}"
+  name=${1%%:*}
+  wanted=${1#"$name"}
+  answer=$(timeout "$seconds" "$program" "${@:2}" | head -1)
+  echo "$answer"
+  [ -z "$wanted" ] || [ ": $answer" = "$wanted" ] || echo "wrong: it is${wanted#:}"
+  python3 "$top/bench/measure.py" --seconds "$seconds" "$runs" "$name" "$program ${*:2}"
 }
 
-show "demo 40" demo 40
-printf '%s\n' "$like_real" "$costly" | while read -r -a words; do
-  make_triple "${words[@]}"
-  show "${words[*]}" check "$triple/I" "$triple/O" "$triple/S"
+show "demo 40: safe trees 40 hedges 42 outputs 42" demo 40
+printf '%s\n' "$like_real" "$costly" | while read -r line; do
+  # shellcheck disable=SC2086
+  make_triple ${line%%:*}
+  show "$line" check "$triple/I" "$triple/O" "$triple/S"
 done

@@ -6,8 +6,13 @@ class Unsafe(Exception):
     """Some row is admitted and doesn't pass."""
 
 
-def closed(machine):
-    """All rows that come from the empty row and a live text by appends and wraps: those of trees, and those of lists."""
+class TooMany(Exception):
+    """There are more rows of one kind than asked for."""
+
+
+def closed(machine, most):
+    """All rows that come from the empty row and a live text by appends and wraps: those of trees, and those of lists; or
+    `TooMany`."""
     hedges, trees = {machine.empty_row(): None}, {}
     if machine.text_is_live():
         trees[machine.text_row()] = None
@@ -21,13 +26,15 @@ def closed(machine):
             hedges.update((machine.append(row, tree), None) for tree in new_trees)
         trees.pop(None, None)
         hedges.pop(None, None)
+        if most < max(len(trees), len(hedges)):
+            raise TooMany
         old_hedges, old_trees = len(listed_hedges), len(listed_trees)
     return list(trees), list(hedges)
 
 
-def proved(machine):
-    """The data of the least certificate; or `Unsafe`."""
-    trees, hedges = closed(machine)
+def proved(machine, most=4000):
+    """The data of the least certificate; or `Unsafe`, or `TooMany` for more rows of one kind."""
+    trees, hedges = closed(machine, most)
     if any(machine.admitted(tree) and not machine.passes(tree) for tree in trees):
         raise Unsafe
     used = {number: machine.sets.pairs(number) for row in trees + hedges for number in row[3]}

@@ -6,9 +6,7 @@ A letter is (symbol, predicates), where the symbol of a text is None and the pre
 from itertools import count
 
 from schemas import holds, mentioned
-from sheets import TRUE, Step
-
-CHILDREN = ((Step(False, ("node",), TRUE),),)
+from sheets import CHILDREN, TRUE
 
 
 def parts(instruction):

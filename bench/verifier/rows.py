@@ -3,9 +3,9 @@
 A set of pairs of output states is a tuple that has, for each state, the states to which it leads as the bits of a number.
 A row is (flag, bears, ascending numbers, sets, looks), the sets by their numbers in `Sets`.
 """
-from numbering import CHILDREN, Numbers
+from numbering import Numbers
 from schemas import Numbered, Schema, has_text, holds
-from sheets import WHITE, Sheet
+from sheets import CHILDREN, WHITE, Sheet
 
 
 class Sets:

@@ -31,6 +31,9 @@ class Step(NamedTuple):
     when: tuple
 
 
+CHILDREN = ((Step(False, ("node",), TRUE),),)
+
+
 class Rule(NamedTuple):
     """A mode by its number, the steps of one alternative or None for `/`, the priority, the body."""
 
@@ -222,11 +225,10 @@ class Paths:
 
 
 def default_priority(steps):
-    """XSLT 1.0, 5.5, in ten-thousandths."""
-    text = Decimal("0.5")
-    if steps is None or len(steps) > 1 or steps[0].when != TRUE:
-        return text
-    return {"name": Decimal(0), "ns": Decimal("-0.25")}.get(steps[0].test[0], -text)
+    """The priority of a relative pattern (XSLT 1.0, 5.5)."""
+    if len(steps) > 1 or steps[0].when != TRUE:
+        return Decimal("0.5")
+    return {"name": Decimal(0), "ns": Decimal("-0.25")}.get(steps[0].test[0], Decimal("-0.5"))
 
 
 class Sheet:
@@ -279,54 +281,41 @@ class Sheet:
             if isinstance(child, str):
                 found.append(("text", child))
             elif child.name[0] == XSLT:
-                found += getattr(self, child.name[1].replace("-", "_"))(child)
+                found += self.instruction(child)
             else:
                 found.append(("elem", child.name, self.body(child.children)))
         return tuple(found)
 
-    def apply_templates(self, element):
+    def instruction(self, element):
+        """What an element of XSLT puts out, as a list of instructions; `attribute` and `copy-of` put nothing out."""
+        kind = element.name[1]
+        if kind == "apply-templates":
+            yield "apply", self.selected(element), self.mode(element)
+        elif kind == "for-each":
+            path, number = self.selected(element), self.eaches
+            self.eaches += 1
+            yield "each", number, path, self.body(element.children)
+        elif kind == "call-template":
+            yield "call", expanded(element.get("name").strip(WHITE), element.scope)
+        elif kind == "value-of":
+            yield ("self",) if element.get("select").strip(WHITE) == "." else ("value", self.selected(element))
+        elif kind == "if":
+            yield "choose", (self.branch(element),), ()
+        elif kind == "choose":
+            branches = tuple(self.branch(child) for child in element.children if child.is_xslt("when"))
+            others = [self.body(child.children) for child in element.children if child.is_xslt("otherwise")]
+            yield "choose", branches, others[0] if others else ()
+        elif kind == "copy":
+            yield "copy", self.body(element.children)
+        elif kind == "element":
+            name = expanded(element.get("name").strip(WHITE), element.scope, element.scope[""])
+            yield "elem", name, self.body(element.children)
+        elif kind == "text":
+            yield from (("text", text) for text in element.children)
+
+    def selected(self, element):
         select = element.get("select")
-        path = ((Step(False, ("node",), TRUE),),) if select is None else Paths(select, element.scope).select()
-        return [("apply", path, self.mode(element))]
-
-    def for_each(self, element):
-        path = Paths(element.get("select"), element.scope).select()
-        number = self.eaches
-        self.eaches += 1
-        return [("each", number, path, self.body(element.children))]
-
-    def call_template(self, element):
-        return [("call", expanded(element.get("name").strip(WHITE), element.scope))]
-
-    def value_of(self, element):
-        if element.get("select").strip(WHITE) == ".":
-            return [("self",)]
-        return [("value", Paths(element.get("select"), element.scope).select())]
+        return CHILDREN if select is None else Paths(select, element.scope).select()
 
     def branch(self, element):
         return Paths(element.get("test"), element.scope).test(), self.body(element.children)
-
-    def choose(self, element):
-        branches = tuple(self.branch(child) for child in element.children if child.is_xslt("when"))
-        others = [self.body(child.children) for child in element.children if child.is_xslt("otherwise")]
-        return [("choose", branches, others[0] if others else ())]
-
-    def copy(self, element):
-        return [("copy", self.body(element.children))]
-
-    def element(self, element):
-        name = expanded(element.get("name").strip(WHITE), element.scope, element.scope[""])
-        return [("elem", name, self.body(element.children))]
-
-    def text(self, element):
-        return [("text", text) for text in element.children]
-
-    def attribute(self, _):
-        return []
-
-    copy_of = attribute
-
-    def __getattr__(self, name):
-        if name == "if":
-            return lambda element: [("choose", (self.branch(element),), ())]
-        raise AttributeError(name)

@@ -1,22 +1,18 @@
 -- A text is refused for one fault, and declarations have one grammar.
 use Rattle.std.proofs.Common.{◌≡◌, ◌⊎◌, inl, inr, ℕ, List, [], ◌∷◌, ◌++◌, refl, ap, ◌∙◌, sym, subst, bytes_eq}
-use Rattle.std.specs.List.{IsDistinct, Contains}
+use Rattle.std.specs.List.{IsDistinct}
 use Rattle.tc_base.specs.declared.Place.{Place}
 use Rattle.tc_base.specs.declared.reasons.Why.{Why}
-use Rattle.tc_model.specs.Grammars.{Grammar}
-use Rattle.tc_model.specs.XmlTextRefusals.{Cause, unsupported, too_deep}
+use Rattle.tc_model.specs.XmlTextRefusals.{unsupported, too_deep}
 use Rattle.tc_dtd.specs.Declarations.{Declaration}
-use Rattle.tc_dtd.specs.DtdGrammar.{Keeps, keeps_none, keeps, leaves, grammar_with, IsGrammarOfDtd}
-use Rattle.tc_dtd.specs.DtdText.{HasForm, deepest_parenthesis, names_of, FirstAgain}
+use Rattle.tc_dtd.specs.DtdGrammar.{Keeps, keeps_none, keeps, leaves, grammar_with}
+use Rattle.tc_dtd.specs.DtdText.{deepest_parenthesis, names_of, FirstAgain}
 use Rattle.tc_dtd.specs.DtdTextDeclarations.{Placed}
-use Rattle.tc_dtd.specs.DtdTextLaws.{HasOneFault, HasOneGrammar, IsMalformed}
-use Rattle.tc_dtd.specs.Faults.{IsFaultOf}
+use Rattle.tc_dtd.specs.DtdTextLaws.{HasOneFault, HasOneGrammar}
 use Rattle.tc_dtd.specs.Outcomes.{read}
-use Rattle.tc_dtd.specs.declared.faults.DtdFault.{DtdFault}
 use Rattle.tc_dtd.specs.declared.faults.DtdFault.TheVariants.{Malformed, Unsupported, TooDeep, Twice, NoMemory}
 use Rattle.tc_dtd.proofs.DeclarationsUnique.{text_unique}
 use Rattle.tc_dtd.proofs.FaultLaws.{one_refusal, not_once}
-use Rattle.tc_dtd.proofs.NamedLaws.{in_none}
 use Rattle.tc_dtd.proofs.OutcomeLaws.{read_same}
 
 -- one list is cut at one place, or at one place behind the other

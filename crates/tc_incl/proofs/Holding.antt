@@ -15,6 +15,7 @@ use Rattle.tc_incl.specs.Held.{hedge_row, tree_row, IsHedgeFit, IsTreeFit, IsNon
 use Rattle.tc_incl.specs.Covers.{State, no_hedge, no_tree, hedge_at, tree_at, held_of, Known, state_of, AreHeld}
 use Rattle.tc_incl.proofs.Listed.{members_one}
 use Rattle.tc_incl.proofs.Linked.{grows}
+use Rattle.tc_incl.proofs.Stepped.{front}
 
 -- one row more, or none
 pub record Keeps (old new : List Row) (k : ℕ) (r : Row) : Type 0 where
@@ -122,11 +123,6 @@ module _ (IsOf : Schemas → Type 0) (b : Both) (hs ts : List Row) (held : AreHe
     -- a row that was held still is
     hedge_was : (h : ℕ) (p : Row) → slice_get hs h ≡ Some p → hedge_at with_hedge h ≡ hedge_row p
     hedge_was h p there = row_at hedge_row ks no_hedge h p (subst (λ w. slice_get w h ≡ Some p) (sym keep.all) (front hs keep.more h p there))
-      where
-        front : (xs ys : List Row) (i : ℕ) (q : Row) → slice_get xs i ≡ Some q → slice_get (xs ++ ys) i ≡ Some q
-        front [] ys i q e = absurd (cc)
-        front (x ∷ xs) ys zero q e = e
-        front (x ∷ xs) ys (suc i) q e = front xs ys i q e
 
     pub none_at : IsNone b r → IsNoneAt (held_of IsOf with_hedge) u
     none_at made = (hedge_here, λ x is. subst (IsEmptyRow x) (sym hedge_is) (made x (held.told x is)))
@@ -201,6 +197,10 @@ module _ (IsOf : Schemas → Type 0) (b : Both) (hs ts : List Row) (held : AreHe
 
   pub passes_at : (t : ℕ) (q : Row) → slice_get ts t ≡ Some q → Passes b q → (held_of IsOf before).passes t
   passes_at t q c passes x is = subst (λ r. IsFailing x r → ⊥) (sym (row_at tree_row ts no_tree t q c)) (passes x (held.told x is))
+
+-- what is held stays so
+pub grows_itself : (IsOf : Schemas → Type 0) (s : State) → Grows (held_of IsOf s) (held_of IsOf s)
+grows_itself IsOf s = grows s s refl [] (sym (append-nil s.hedges)) [] (sym (append-nil s.trees)) IsOf
 
 -- a row of a list
 pub hedge_fit_at : (b : Both) (hs : List Row) (h : ℕ) (p : Row) → slice_get hs h ≡ Some p → All (IsHedgeFit b) hs → IsHedgeFit b p

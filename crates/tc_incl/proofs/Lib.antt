@@ -7,6 +7,7 @@ pub mod Made
 pub mod Linked
 pub mod Planted
 pub mod Holding
+pub mod Alike
 pub mod OneSchema
 pub mod SetsThere
 pub mod Lives

@@ -73,13 +73,14 @@ module _ (steps : Steps) (patterns old new : Numbers) where
     λ h. (put j).1 (elim h [ inl a ↦ inl a | inr (inl (f, _)) ↦ absurd (cc) | inr (inr (_, t)) ↦ inr t ]),
   )
 
+-- something stands at a place within
+pub some_at : {X : Type 0} (xs : List X) (k : ℕ) → k < length xs → (y : X) × (slice_get xs k ≡ Some y)
+some_at [] k l = absurd (omega (arith, l))
+some_at (y ∷ xs) zero l = (y, refl)
+some_at (y ∷ xs) (suc k) l = some_at xs k (omega (arith, l))
+
 -- a tree leads as is told of its states
 module _ (auto : Auto) (x : Grammar) (st : a.Stands input x auto) (states : Numbers) (steps : Steps) (are : AreSteps auto states steps) where
-  some_at : {X : Type 0} (xs : List X) (k : ℕ) → k < length xs → (y : X) × (slice_get xs k ≡ Some y)
-  some_at [] k l = absurd (omega (arith, l))
-  some_at (y ∷ xs) zero l = (y, refl)
-  some_at (y ∷ xs) (suc k) l = some_at xs k (omega (arith, l))
-
   at_element : (patterns : Numbers) (j : ℕ) → IsAtSome steps.elements.items patterns (length steps.elements.items) j ↔ IsAfterElement x states patterns (length x.elements) j
   at_element patterns j = (to, of)
     where
@@ -129,6 +130,12 @@ patterns_more g states sets more s same before here k t at j = by (pushed_at set
     by (inl e) = before k t e j
     by (inr (place, e)) = subst (λ w. Has w j ↔ IsAfterPattern g states (k + 1) j) e (subst (λ n. Has s j ↔ IsAfterPattern g states (n + 1) j) (sym place) (here j))
 
+-- a row stays where it stands when others come behind
+pub front : (xs ys : List Row) (i : ℕ) (q : Row) → slice_get xs i ≡ Some q → slice_get (xs ++ ys) i ≡ Some q
+front [] ys i q e = absurd (cc)
+front (x ∷ xs) ys zero q e = e
+front (x ∷ xs) ys (suc i) q e = front xs ys i q e
+
 -- rows that were stepped stay so
 module _ (b : Both) (hedges : List Row) where
   pub stepped_none : AreStepped b hedges []
@@ -144,22 +151,17 @@ module _ (b : Both) (hedges : List Row) where
   -- where more rows come on, and where none does
   pub stepped_longer : (more : List Row) (steps : List BothSteps) → AreStepped b hedges steps → AreStepped b (hedges ++ more) steps
   stepped_longer more steps before i t at = let (h, there, are) = before i t at in (h, front hedges more i h there, are)
-    where
-      front : (xs ys : List Row) (i : ℕ) (q : Row) → slice_get xs i ≡ Some q → slice_get (xs ++ ys) i ≡ Some q
-      front [] ys i q e = absurd (cc)
-      front (x ∷ xs) ys zero q e = e
-      front (x ∷ xs) ys (suc i) q e = front xs ys i q e
 
 -- a row's steps are those that stand at its place
 pub steps_at : (b : Both) (hedges : List Row) (steps : List BothSteps) (i : ℕ) (t : BothSteps) (h : Row) → AreStepped b hedges steps → slice_get steps i ≡ Some t → slice_get hedges i ≡ Some h → AreBothSteps b h t
 steps_at b hedges steps i t h stepped at there = let (g, here, are) = stepped i t at in subst (λ w. AreBothSteps b w t) (same_Some g h (sym here ∙ there)) are
 
 -- what is allowed and taken is around
-pub allowed_and_taken : (allowed empty put around taken : Numbers) (Allowed Taken : ℕ → Type 0) → HasNone empty → ((k : ℕ) → Has put k ↔ (Has empty k ⊎ Has allowed k))
-    → ((k : ℕ) → Has around k ↔ (Has put k × Has taken k)) → ((k : ℕ) → Has allowed k ↔ Allowed k) → ((k : ℕ) → Has taken k ↔ Taken k) → (k : ℕ) → Has around k ↔ (Allowed k × Taken k)
-allowed_and_taken allowed empty put around taken Allowed Taken none adds keeps is takes k = (
-  λ h. let (p, t) = (keeps k).0 h in (elim ((adds k).0 p) [ inl e ↦ absurd (none k e) | inr a ↦ (is k).0 a ], (takes k).0 t),
-  λ (a, t). (keeps k).1 ((adds k).1 (inr ((is k).1 a)), (takes k).1 t),
+pub allowed_and_taken : (allowed around taken : Numbers) (Allowed Taken : ℕ → Type 0) → ((k : ℕ) → Has around k ↔ (Has allowed k × Has taken k)) → ((k : ℕ) → Has allowed k ↔ Allowed k) → ((k : ℕ) → Has taken k ↔ Taken k)
+    → (k : ℕ) → Has around k ↔ (Allowed k × Taken k)
+allowed_and_taken allowed around taken Allowed Taken keeps is takes k = (
+  λ h. let (p, t) = (keeps k).0 h in ((is k).0 p, (takes k).0 t),
+  λ (a, t). (keeps k).1 ((is k).1 a, (takes k).1 t),
 )
 
 -- rows that are held stay stepped where one comes on

@@ -6,8 +6,10 @@ pub mod Counts
 pub mod Laws
 pub mod Sets
 pub mod Sides
+pub mod Alike
 pub mod Held
 pub mod Steps
 pub mod Stepped
+pub mod Wraps
 pub mod Covers
 pub mod Answers

@@ -1,6 +1,8 @@
 // Two schemas together: rows that are made of rows.
 ghost use Rattle.std.specs.Prelude.{◌≡◌, length};
+ghost use Rattle.tc_incl.specs.Alike.{AreKinds};
 
+use crate::kinds::kinds_of;
 use crate::rows::Row;
 use crate::sides::Side;
 use crate::steps::BothSteps;
@@ -17,12 +19,16 @@ pub struct Both<'c, 'b> {
     pub(crate) symbols: u32,
     pub(crate) first: Side<'c, 'b>,
     pub(crate) second: Side<'c, 'b>,
+    /// For each symbol its kind.
+    kinds: Vec<u32>,
     ghost first_counted: { length first.allowed.items ≡ symbols },
     ghost second_counted: { length second.allowed.items ≡ symbols },
+    ghost kinds_counted: { length kinds.items ≡ symbols },
+    ghost are_kinds: { AreKinds first.allowed.items second.allowed.items kinds.items },
 }
 
 impl<'c, 'b> Both<'c, 'b> {
-    ghost use Rattle.std.specs.Prelude.{◌≡◌, ◌<◌, ℕ, IfOk, MatchBool, MatchOption};
+    ghost use Rattle.std.specs.Prelude.{◌≡◌, ◌<◌, ℕ, IfOk, MatchBool, MatchOption, Some, slice_get};
     ghost use Rattle.tc_auto.specs.Stands as a;
     ghost use Rattle.tc_incl.specs.Held.{AreTold, Fails, IsAppended, IsHedgeFit, IsNone, IsText, IsTreeFit, IsWrapped, NoAppended, NoText, NoWrapped, Passes};
     ghost use Rattle.tc_incl.specs.Schemas.{Schemas};
@@ -42,12 +48,22 @@ impl<'c, 'b> Both<'c, 'b> {
         let symbols = alphabet.count();
         let first = Side::of(alloc, first, alphabet)?;
         let second = Side::of(alloc, second, alphabet)?;
+        let kinds = kinds_of(alloc, &first, &second, symbols)?;
         Ok(Both {
             alloc,
             symbols,
             first,
             second,
+            kinds,
         })
+    }
+
+    /// The kind of a symbol: an element of one of the same kind has the same row.
+    pub(crate) fn kind(&self, symbol: u32) -> u32
+        requires { symbol < self.now.symbols }
+        ensures { slice_get self.now.kinds.items symbol ≡ Some result }
+    {
+        self.kinds[symbol as usize]
     }
 
     /// The row of no tree.

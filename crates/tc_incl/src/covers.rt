@@ -7,6 +7,7 @@ use crate::both::Both;
 use crate::over::Over;
 use crate::rows::{Row, hold};
 use crate::steps::BothSteps;
+use crate::wraps::Wraps;
 use indexmap::IndexSet;
 use std::alloc::Global;
 use std::marker::{Model, PhantomData};
@@ -23,18 +24,22 @@ pub(crate) struct Covers<'c, 'g, K: Over> {
     trees: IndexSet<Row>,
     /// Where the first rows of lists of trees lead.
     steps: Vec<BothSteps>,
+    /// What came of elements around the list of trees that was tried last.
+    wraps: Wraps,
     over: PhantomData<K>,
 }
 
 impl<'c, 'g, K: Over> Model for Covers<'c, 'g, K> {
-    ghost use Rattle.tc_incl.specs.Covers.{AreHeld, State, state_of};
+    ghost use Rattle.tc_incl.specs.Covers.{AreHeld, State, held_of, state_of};
     ghost use Rattle.tc_incl.specs.Stepped.{AreStepped};
+    ghost use Rattle.tc_incl.specs.Wraps.{AreKnown};
 
     ghost Value = { State };
 
     ghost view = { λ p. state_of p.both p.hedges.keys p.trees.keys };
 
-    ghost invariant = { λ p. AreHeld K.is_of p.both p.hedges.keys p.trees.keys × AreStepped p.both p.hedges.keys p.steps.items };
+    ghost invariant = { λ p. AreHeld K.is_of p.both p.hedges.keys p.trees.keys × AreStepped p.both p.hedges.keys p.steps.items
+        × AreKnown (held_of K.is_of (state_of p.both p.hedges.keys p.trees.keys)) p.both.kinds.items p.wraps };
 }
 
 /// Works out where rows of lists of trees lead, up to one of them.
@@ -62,9 +67,11 @@ fn step_to(
 }
 
 impl<'c, 'g, K: Over> Covers<'c, 'g, K> {
-    ghost use Rattle.std.specs.Prelude.{◌≡◌, ◌<◌, ◌≤◌, [], length, IfOk, MatchBool};
+    ghost use Rattle.std.specs.Prelude.{◌≡◌, ◌<◌, ◌≤◌, [], length, IfOk, MatchBool, MatchOption, OnErr};
     ghost use Rattle.tc_incl.specs.Covers.{AreOf, Known, held_of};
     ghost use Rattle.tc_incl.specs.Schemas.{Schemas};
+    ghost use Rattle.tc_incl.specs.Wraps.{IsWrapTold};
+    ghost use Rattle.tc_settle.specs.Held.{Grows, IsHeldAs, IsUnchanged, IsWrapAt};
 
     /// No rows.
     pub(crate) fn new(
@@ -84,6 +91,7 @@ impl<'c, 'g, K: Over> Covers<'c, 'g, K> {
             hedges: IndexSet::new(alloc),
             trees: IndexSet::new(alloc),
             steps: Vec::new(alloc),
+            wraps: Wraps::new(alloc),
             over: PhantomData,
         })
     }
@@ -117,6 +125,49 @@ impl<'c, 'g, K: Over> Covers<'c, 'g, K> {
         ensures { MatchBool result ((held_of K.is_of self.now).fails tree) ((held_of K.is_of self.now).passes tree) }
     {
         self.both.is_failing(&self.trees.as_slice()[tree as usize])
+    }
+
+    /// What came of an element of a symbol, or of another one of its kind, around a list of trees, if it is known.
+    fn known_wrap(&self, symbol: u32, hedge: u32) -> Option<Option<u32>>
+        requires { symbol < self.now.symbols }
+        ensures { MatchOption result (Unit {0}) (λ made. IsWrapTold (held_of K.is_of self.now) symbol hedge made) }
+    {
+        let kind = self.both.kind(symbol);
+        self.wraps.known(kind, hedge)
+    }
+
+    /// Learns what came of an element of a symbol around a list of trees.
+    fn learn_wrap(&mut self, symbol: u32, hedge: u32, made: Option<u32>)
+        requires symbol { symbol < self.old.symbols }
+        requires hedge { hedge < length self.old.hedges }
+        requires told { IsWrapTold (held_of K.is_of self.old) symbol hedge made }
+        ensures { self.new ≡ self.old }
+    {
+        let kind = self.both.kind(symbol);
+        self.wraps.learn(kind, hedge, made);
+    }
+
+    /// The row of an element of a symbol around a list of trees, where that is live.
+    ///
+    /// # Errors
+    ///
+    /// There is no memory to hold it.
+    fn wrap_new(&mut self, symbol: u32, hedge: u32) -> Result<Option<u32>, NoMemory>
+        requires hedge { hedge < length self.old.hedges }
+        requires symbol { symbol < self.old.symbols }
+        requires room { length self.old.trees < 4294967295 }
+        ensures grows { Grows (held_of K.is_of self.old) (held_of K.is_of self.new) }
+        ensures hedges { length self.new.hedges ≡ length self.old.hedges }
+        ensures made { IfOk result (λ o. MatchOption o ((held_of K.is_of self.new).no_wrap symbol hedge × IsUnchanged (held_of K.is_of self.old) (held_of K.is_of self.new)) (λ u. IsWrapAt (held_of K.is_of self.new) symbol hedge u × IsHeldAs (length self.old.trees) (length self.new.trees) u)) }
+        ensures fault { OnErr result (IsUnchanged (held_of K.is_of self.old) (held_of K.is_of self.new)) }
+    {
+        step_to(&self.both, self.hedges.as_slice(), &mut self.steps, hedge)?;
+        let made = self.both.wrapped(symbol, &self.steps[hedge as usize])?;
+        let Some(row) = made else {
+            return Ok(None);
+        };
+        let number = hold(&mut self.trees, row)?;
+        Ok(Some(number))
     }
 }
 
@@ -173,19 +224,14 @@ impl<'c, 'g, K: Over> NumberedRows for Covers<'c, 'g, K> {
     }
 
     fn wrap(&mut self, symbol: u32, hedge: u32) -> Result<Option<u32>, HoldFault> {
-        let Ok(()) = step_to(&self.both, self.hedges.as_slice(), &mut self.steps, hedge) else {
+        if let Some(made) = self.known_wrap(symbol, hedge) {
+            return Ok(made);
+        }
+        let Ok(made) = self.wrap_new(symbol, hedge) else {
             return Err(HoldFault::NoMemory);
         };
-        let Ok(made) = self.both.wrapped(symbol, &self.steps[hedge as usize]) else {
-            return Err(HoldFault::NoMemory);
-        };
-        let Some(row) = made else {
-            return Ok(None);
-        };
-        let Ok(number) = hold(&mut self.trees, row) else {
-            return Err(HoldFault::NoMemory);
-        };
-        Ok(Some(number))
+        self.learn_wrap(symbol, hedge, made);
+        Ok(made)
     }
 
     fn is_failing(&mut self, tree: u32) -> bool {

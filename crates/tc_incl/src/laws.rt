@@ -1,4 +1,5 @@
 // What is proved of cover rows.
+ghost use Rattle.tc_incl.specs.Alike.{AlikeWrapAlike};
 ghost use Rattle.tc_incl.specs.Counts.{CoversAreCounted};
 ghost use Rattle.tc_incl.specs.Derivations.{DerivationsAreExact};
 ghost use Rattle.tc_incl.specs.Laws.{RowsAreLawful};
@@ -22,4 +23,10 @@ pub fn law_of_derivations()
 /// different rows show `Pass`.
 pub fn law_of_counts()
     ensures { CoversAreCounted }
+{}
+
+/// The law of symbols alike: elements of symbols that the same classes of both schemas hold, around the same trees, have the
+/// same rows.
+pub fn law_of_symbols_alike()
+    ensures { AlikeWrapAlike }
 {}

@@ -7,10 +7,12 @@
 mod both;
 mod covers;
 mod inclusion;
+mod kinds;
 pub mod laws;
 mod over;
 mod rows;
 mod sides;
 mod steps;
+mod wraps;
 
 pub use inclusion::{Cover, InclFault, included};

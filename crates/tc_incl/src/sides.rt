@@ -127,6 +127,7 @@ fn put_steps(steps: &Steps, is_text: bool, patterns: &Set, next: &mut Set)
 impl<'c, 'b> Side<'c, 'b> {
     ghost use Rattle.std.specs.Prelude.{◌≡◌, ◌<◌, ◌≤◌, ◌↔◌, ◌+◌, ℕ, List, IfOk, IsTrue, length};
     ghost use Rattle.tc_auto.specs.Stands as a;
+    ghost use Rattle.tc_incl.specs.Alike.{IsCopyAt};
     ghost use Rattle.tc_incl.specs.Arithmetic.{is_start};
     ghost use Rattle.tc_incl.specs.Sets.{members};
     ghost use Rattle.tc_incl.specs.Sides.{AreAfterPatterns, AreAllowed, AreOfSize, IsAfter, IsAfterPattern, IsAfterText, IsAllowed, IsBegun, IsTaken};
@@ -296,6 +297,17 @@ impl<'c, 'b> Side<'c, 'b> {
         false
     }
 
+    /// The element patterns whose classes hold a symbol.
+    pub(crate) fn allowing(&self, symbol: u32) -> Result<Set, NoMemory>
+        requires { symbol < length self.now.allowed.items }
+        ensures size { IfOk result (λ r. r.size ≡ self.now.end) }
+        ensures numbers { IfOk result (λ r. IsCopyAt self.now.allowed.items symbol r) }
+    {
+        let mut allowing = Set::empty(self.alloc, self.end)?;
+        allowing.add_all(&self.allowed[symbol as usize]);
+        Ok(allowing)
+    }
+
     /// The element patterns that an element of a symbol matches around trees, by where their states lead.
     pub(crate) fn around(&self, symbol: u32, steps: &Steps) -> Result<Set, NoMemory>
         requires symbol { symbol < length self.now.allowed.items }
@@ -306,8 +318,7 @@ impl<'c, 'b> Side<'c, 'b> {
         ensures numbers { IfOk result (λ r. (x : g.Grammar) (states : Numbers) (symbols : List Mention) → a.Stands s.input x self.now.auto.now → AreSteps self.now.auto.now states steps.now
             → AreAllowed x symbols self.now.allowed.items → (k : ℕ) → Has r k ↔ (IsAllowed x (fresh_name symbols symbol) k × IsTaken x states k)) }
     {
-        let mut around = Set::empty(self.alloc, self.end)?;
-        around.add_all(&self.allowed[symbol as usize]);
+        let mut around = self.allowing(symbol)?;
         around.keep_all(&steps.taken);
         let _size = around.size();
         Ok(around)

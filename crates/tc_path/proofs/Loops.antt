@@ -15,9 +15,6 @@ use Rattle.tc_path.specs.Phrases.{ClosedAt}
 pub tests_pushed : (found more : List CodeTest) (x : CodeTest) → more ≡ found ++ x ∷ [] → seen.tests more ≡ tests_then (seen.tests found) (test (seen.test x) no_test)
 tests_pushed found more x e = ap seen.tests e ∙ pushed_test found x
 
-pub tests_first : (found more : List CodeTest) (x : CodeTest) → found ≡ [] → more ≡ found ++ x ∷ [] → seen.tests more ≡ test (seen.test x) no_test
-tests_first found more x f e = tests_pushed found more x e ∙ ap (λ w. tests_then (seen.tests w) (test (seen.test x) no_test)) f
-
 module _ (scope : List Bound) where
   -- primaries joined by `and`
   pub record AndsSoFar (ts : List Token) (us : Tests) (rest : List Token) : Type 0 where
@@ -41,8 +38,11 @@ module _ (scope : List Bound) where
   and_behind {next = next} a (last_primary b h) = absurd (h next (sym (primary_unique scope a b).1))
   and_behind {after = r} a (one_primary {us = us} b c) = (us, subst (λ w. AndAt scope w us r) (sym (same_others (primary_unique scope a b).1)) c)
 
-  pub ands_first : {ts rest : List Token} {t : Test} {us : Tests} → PrimaryAt scope ts t rest → us ≡ test t no_test → AndsRead ts us rest
-  ands_first {ts} {t = t} a e = record { prior = ts; earlier = no_test; last = t; so_far = record { forth = λ vs after b. b; back = λ vs after b. (vs, b) }; read = a; whole = e }
+  pub ands_start : (ts rest : List Token) (found : List CodeTest) → found ≡ [] → rest ≡ ts → AndsSoFar ts (seen.tests found) rest
+  ands_start ts rest found e f = subst (AndsSoFar ts (seen.tests found)) (sym f) (subst (λ w. AndsSoFar ts (seen.tests w) ts) (sym e) (record { forth = λ vs after a. a; back = λ vs after a. (vs, a) }))
+
+  pub ands_read : {ts rest after : List Token} {t : Test} {us vs : Tests} → AndsSoFar ts us rest → PrimaryAt scope rest t after → vs ≡ tests_then us (test t no_test) → AndsRead ts vs after
+  ands_read {rest = rest} {t = t} {us = us} so a e = record { prior = rest; earlier = us; last = t; so_far = so; read = a; whole = e }
 
   pub ands_behind : {ts rest next : List Token} {us : Tests} → AndsRead ts us rest → rest ≡ word (codes "and") ∷ next → AndsSoFar ts us next
   ands_behind {ts} {next = next} {us = us} all e = record {
@@ -53,17 +53,14 @@ module _ (scope : List Bound) where
     back = λ vs after b. let (ws, d) = all.so_far.back vs after b in and_behind (subst (PrimaryAt scope all.prior all.last) e all.read) d;
   }
 
-  pub ands_more : {ts rest next after : List Token} {t : Test} {us vs : Tests} → AndsRead ts us rest → rest ≡ word (codes "and") ∷ next → PrimaryAt scope next t after → vs ≡ tests_then us (test t no_test) → AndsRead ts vs after
-  ands_more {next = next} {t = t} {us = us} all f a e = record { prior = next; earlier = us; last = t; so_far = ands_behind all f; read = a; whole = e }
-
   pub ands_end : {ts rest : List Token} {us : Tests} → AndsRead ts us rest → Lacks (word (codes "and")) rest → AndAt scope ts us rest
   ands_end {ts} {rest} all h = subst (λ w. AndAt scope ts w rest) (sym all.whole) (all.so_far.forth (test all.last no_test) rest (last_primary all.read h))
 
-  pub ands_none : {ts : List Token} → ((t : Test) (r : List Token) → PrimaryAt scope ts t r → ⊥) → (vs : Tests) (after : List Token) → AndAt scope ts vs after → ⊥
+  ands_none : {ts : List Token} → ((t : Test) (r : List Token) → PrimaryAt scope ts t r → ⊥) → (vs : Tests) (after : List Token) → AndAt scope ts vs after → ⊥
   ands_none h vs after a = let (t, r, d) = first_and a in h t r d
 
-  pub ands_fail : {ts rest next : List Token} {us : Tests} → AndsRead ts us rest → rest ≡ word (codes "and") ∷ next → ((t : Test) (r : List Token) → PrimaryAt scope next t r → ⊥) → (vs : Tests) (after : List Token) → AndAt scope ts vs after → ⊥
-  ands_fail all e h vs after a = let (ws, b) = (ands_behind all e).back vs after a in ands_none h ws after b
+  pub ands_fail : {ts rest : List Token} {us : Tests} → AndsSoFar ts us rest → ((t : Test) (r : List Token) → PrimaryAt scope rest t r → ⊥) → (vs : Tests) (after : List Token) → AndAt scope ts vs after → ⊥
+  ands_fail so h vs after a = let (ws, b) = so.back vs after a in ands_none h ws after b
 
   -- conjunctions joined by `or`
   pub record OrsSoFar (ts : List Token) (us : Tests) (rest : List Token) : Type 0 where
@@ -87,8 +84,11 @@ module _ (scope : List Bound) where
   or_behind {next = next} a (last_conjunction b h) = absurd (h next (sym (and_unique scope a b).1))
   or_behind {after = r} a (one_conjunction {vs = us} b c) = (us, subst (λ w. OrAt scope w us r) (sym (same_others (and_unique scope a b).1)) c)
 
-  pub ors_first : {ts rest : List Token} {t : Tests} {us : Tests} → AndAt scope ts t rest → us ≡ test (conjunction t) no_test → OrsRead ts us rest
-  ors_first {ts} {t = t} a e = record { prior = ts; earlier = no_test; last = t; so_far = record { forth = λ vs after b. b; back = λ vs after b. (vs, b) }; read = a; whole = e }
+  pub ors_start : (ts rest : List Token) (found : List CodeTest) → found ≡ [] → rest ≡ ts → OrsSoFar ts (seen.tests found) rest
+  ors_start ts rest found e f = subst (OrsSoFar ts (seen.tests found)) (sym f) (subst (λ w. OrsSoFar ts (seen.tests w) ts) (sym e) (record { forth = λ vs after a. a; back = λ vs after a. (vs, a) }))
+
+  pub ors_read : {ts rest after : List Token} {t us vs : Tests} → OrsSoFar ts us rest → AndAt scope rest t after → vs ≡ tests_then us (test (conjunction t) no_test) → OrsRead ts vs after
+  ors_read {rest = rest} {t = t} {us = us} so a e = record { prior = rest; earlier = us; last = t; so_far = so; read = a; whole = e }
 
   pub ors_behind : {ts rest next : List Token} {us : Tests} → OrsRead ts us rest → rest ≡ word (codes "or") ∷ next → OrsSoFar ts us next
   ors_behind {ts} {next = next} {us = us} all e = record {
@@ -99,17 +99,14 @@ module _ (scope : List Bound) where
     back = λ vs after b. let (ws, d) = all.so_far.back vs after b in or_behind (subst (AndAt scope all.prior all.last) e all.read) d;
   }
 
-  pub ors_more : {ts rest next after : List Token} {t : Tests} {us vs : Tests} → OrsRead ts us rest → rest ≡ word (codes "or") ∷ next → AndAt scope next t after → vs ≡ tests_then us (test (conjunction t) no_test) → OrsRead ts vs after
-  ors_more {next = next} {t = t} {us = us} all f a e = record { prior = next; earlier = us; last = t; so_far = ors_behind all f; read = a; whole = e }
-
   pub ors_end : {ts rest : List Token} {us : Tests} → OrsRead ts us rest → Lacks (word (codes "or")) rest → OrAt scope ts us rest
   ors_end {ts} {rest} all h = subst (λ w. OrAt scope ts w rest) (sym all.whole) (all.so_far.forth (test (conjunction all.last) no_test) rest (last_conjunction all.read h))
 
-  pub ors_none : {ts : List Token} → ((t : Tests) (r : List Token) → AndAt scope ts t r → ⊥) → (vs : Tests) (after : List Token) → OrAt scope ts vs after → ⊥
+  ors_none : {ts : List Token} → ((t : Tests) (r : List Token) → AndAt scope ts t r → ⊥) → (vs : Tests) (after : List Token) → OrAt scope ts vs after → ⊥
   ors_none h vs after a = let (t, r, d) = first_or a in h t r d
 
-  pub ors_fail : {ts rest next : List Token} {us : Tests} → OrsRead ts us rest → rest ≡ word (codes "or") ∷ next → ((t : Tests) (r : List Token) → AndAt scope next t r → ⊥) → (vs : Tests) (after : List Token) → OrAt scope ts vs after → ⊥
-  ors_fail all e h vs after a = let (ws, b) = (ors_behind all e).back vs after a in ors_none h ws after b
+  pub ors_fail : {ts rest : List Token} {us : Tests} → OrsSoFar ts us rest → ((t : Tests) (r : List Token) → AndAt scope rest t r → ⊥) → (vs : Tests) (after : List Token) → OrAt scope ts vs after → ⊥
+  ors_fail so h vs after a = let (ws, b) = so.back vs after a in ors_none h ws after b
 
   -- predicates, one behind the other
   pub record PredicatesSoFar (ts : List Token) (us : Tests) (rest : List Token) : Type 0 where

@@ -33,8 +33,11 @@ module _ (scope : List Bound) where
   pattern_behind a (p.PatternAt.last_alternative b) = absurd (bar_is_not_end (sym (alternative_of_pattern_unique a b).1))
   pattern_behind a (p.PatternAt.one_alternative {others = ws} b c) = (ws, subst (λ w. PatternAt scope w ws) (sym (same_others (alternative_of_pattern_unique a b).1)) c)
 
-  pub patterns_first : {ts rest : List Token} {zs xs : List Alternative} → PatternAlternativeAt scope ts zs rest → xs ≡ zs → PatternsRead ts xs rest
-  patterns_first {ts} {zs = zs} a e = record { prior = ts; earlier = []; last = zs; so_far = record { forth = λ ys b. b; back = λ ys b. (ys, b) }; read = a; whole = e }
+  pub patterns_start : (ts rest : List Token) (xs : List Alternative) → xs ≡ [] → rest ≡ ts → PatternsSoFar ts xs rest
+  patterns_start ts rest xs e f = subst (PatternsSoFar ts xs) (sym f) (subst (λ w. PatternsSoFar ts w ts) (sym e) (record { forth = λ ys b. b; back = λ ys b. (ys, b) }))
+
+  pub patterns_read : {ts rest after : List Token} {xs zs more : List Alternative} → PatternsSoFar ts xs rest → PatternAlternativeAt scope rest zs after → more ≡ xs ++ zs → PatternsRead ts more after
+  patterns_read {rest = rest} {xs = xs} {zs = zs} so a e = record { prior = rest; earlier = xs; last = zs; so_far = so; read = a; whole = e }
 
   pub patterns_behind : {ts rest next : List Token} {xs : List Alternative} → PatternsRead ts xs rest → rest ≡ mark bar ∷ next → PatternsSoFar ts xs next
   patterns_behind {ts} {xs = xs} all e = record {
@@ -44,19 +47,15 @@ module _ (scope : List Bound) where
     back = λ ys b. let (ws, m) = all.so_far.back ys b in pattern_behind (subst (PatternAlternativeAt scope all.prior all.last) e all.read) m;
   }
 
-  pub patterns_more : {ts rest next after : List Token} {xs zs more : List Alternative} → PatternsRead ts xs rest → rest ≡ mark bar ∷ next → PatternAlternativeAt scope next zs after → more ≡ xs ++ zs → PatternsRead ts more after
-  patterns_more {next = next} {xs = xs} {zs = zs} all f a e = record { prior = next; earlier = xs; last = zs; so_far = patterns_behind all f; read = a; whole = e }
-
   pub patterns_end : {ts rest : List Token} {xs : List Alternative} → PatternsRead ts xs rest → rest ≡ [] → PatternAt scope ts xs
   patterns_end {ts} all f = subst (PatternAt scope ts) (sym all.whole) (all.so_far.forth all.last (p.PatternAt.last_alternative (subst (PatternAlternativeAt scope all.prior all.last) f all.read)))
 
-  pub patterns_none : {ts : List Token} → ((zs : List Alternative) (r : List Token) → PatternAlternativeAt scope ts zs r → ⊥) → (ys : List Alternative) → PatternAt scope ts ys → ⊥
+  patterns_none : {ts : List Token} → ((zs : List Alternative) (r : List Token) → PatternAlternativeAt scope ts zs r → ⊥) → (ys : List Alternative) → PatternAt scope ts ys → ⊥
   patterns_none h ys (p.PatternAt.last_alternative {alternatives = zs} a) = h zs [] a
   patterns_none h ys (p.PatternAt.one_alternative {rest = r} {alternatives = zs} a b) = h zs (mark bar ∷ r) a
 
-  pub patterns_fail : {ts rest next : List Token} {xs : List Alternative} → PatternsRead ts xs rest → rest ≡ mark bar ∷ next → ((zs : List Alternative) (r : List Token) → PatternAlternativeAt scope next zs r → ⊥)
-      → (ys : List Alternative) → PatternAt scope ts ys → ⊥
-  patterns_fail all e h ys a = let (ws, m) = (patterns_behind all e).back ys a in patterns_none h ws m
+  pub patterns_fail : {ts rest : List Token} {xs : List Alternative} → PatternsSoFar ts xs rest → ((zs : List Alternative) (r : List Token) → PatternAlternativeAt scope rest zs r → ⊥) → (ys : List Alternative) → PatternAt scope ts ys → ⊥
+  patterns_fail so h ys a = let (ws, m) = so.back ys a in patterns_none h ws m
 
   goes_on : {rest after : List Token} {zs ys : List Alternative} → PatternAlternativeAt scope rest zs after → (after ≡ [] → ⊥) → Lacks (mark bar) after → PatternAt scope rest ys → ⊥
   goes_on a f h (p.PatternAt.last_alternative b) = f (alternative_of_pattern_unique a b).1

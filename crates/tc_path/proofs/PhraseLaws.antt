@@ -12,7 +12,6 @@ use Rattle.tc_model.specs.PathTextPhrases.{word, Lacks, ChildAt, AttributeAt, Ot
 use Rattle.tc_model.specs.Views as seen
 use Rattle.tc_model.specs.declared.sheet.Test.{Test as CodeTest}
 use Rattle.tc_model.specs.declared.sheet.Test.TheVariants as code_tests
-use Rattle.tc_model.specs.declared.sheet.Step.{Step as CodeStep}
 use Rattle.tc_model.proofs.ViewsPath.{see_not}
 use Rattle.tc_model.proofs.PathTextUnique.{same_others, child_unique, steps_open, no_path_dot, no_select_call, no_select_parenthesis, select_unique, or_unique}
 use Rattle.tc_path.specs.declared.PathFault.{PathFault}
@@ -126,6 +125,3 @@ module _ (scope : List Bound) where
   pub no_predicates : {ts behind : List Token} {t : NodeTest} {deep : Bool} → ChildAt scope ts t behind → ((us : Tests) (r : List Token) → PredicatesAt scope behind us r → ⊥) → (ss : Steps) (b : Bool) (r : List Token)
       → IsStepAt scope deep ts ss b r → ⊥
   no_predicates a h ss b r (a_step {us = us} c u) = h us r (subst (λ w. PredicatesAt scope w us r) (child_unique c a).1 u)
-
-  pub attribute_alone : {ts rest : List Token} {deep : Bool} (found steps : List CodeStep) → steps ≡ found → found ≡ [] → AttributeAt scope ts rest → StepsAt scope deep ts (seen.steps steps) dropped rest
-  attribute_alone {ts} {rest} {deep} found steps e f a = subst (λ w. StepsAt scope deep ts (seen.steps w) dropped rest) (sym (e ∙ f)) (p.StepsAt.attribute_step a)

@@ -31,6 +31,11 @@ lengthened_dropped true = refl
 abbrev pub form_read : Bool → Bool → Form
 form_read l b = lengthened_if l (form_of_one b)
 
+form_is : (l b : Bool) → cond l longer (form_of_one b) ≡ form_read l b
+form_is false b = refl
+form_is true true = refl
+form_is true false = refl
+
 -- the sign before a step
 abbrev pub separator : Bool → Mark
 separator below = cond below slashes slash
@@ -39,26 +44,10 @@ separator below = cond below slashes slash
 pub steps_pushed : (found more : List CodeStep) (x : CodeStep) → more ≡ found ++ x ∷ [] → seen.steps more ≡ steps_then (seen.steps found) (seen.steps (x ∷ []))
 steps_pushed found more x e = ap seen.steps e ∙ steps_append found (x ∷ [])
 
-pub steps_first : (found more : List CodeStep) (x : CodeStep) → found ≡ [] → more ≡ found ++ x ∷ [] → seen.steps more ≡ seen.steps (x ∷ [])
-steps_first found more x f e = steps_pushed found more x e ∙ ap (λ w. steps_then (seen.steps w) (seen.steps (x ∷ []))) f
-
 module _ (scope : List Bound) where
   pub record StepsSoFar (first_deep : Bool) (ts : List Token) (is_longer : Bool) (ss : Steps) (deep : Bool) (rest : List Token) : Type 0 where
     pub forth : (xs : Steps) (f : Form) (after : List Token) → StepsAt scope deep rest xs f after → StepsAt scope first_deep ts (steps_then ss xs) (lengthened_if is_longer f) after
     pub back : (xs : Steps) (f : Form) (after : List Token) → StepsAt scope first_deep ts xs f after → (ys : Steps) × (g : Form) × StepsAt scope deep rest ys g after
-
-  -- the steps that were read, of which the last stands before the rest
-  pub record StepsRead (first_deep : Bool) (ts : List Token) (ss : Steps) (form : Form) (rest : List Token) : Type 0 where
-    pub prior : List Token
-    pub is_longer : Bool
-    pub earlier : Steps
-    pub deep : Bool
-    pub last : Steps
-    pub alone : Bool
-    pub so_far : StepsSoFar first_deep ts is_longer earlier deep prior
-    pub read : IsStepAt scope deep prior last alone rest
-    pub whole : ss ≡ steps_then earlier last
-    pub written : form ≡ form_read is_longer alone
 
   step_before : {deep b : Bool} (below : Bool) {rest next after : List Token} {ss xs : Steps} {f : Form} → IsStepAt scope deep rest ss b (mark (separator below) ∷ next) → StepsAt scope below next xs f after
       → StepsAt scope deep rest (steps_then ss xs) (lengthened f) after
@@ -82,46 +71,31 @@ module _ (scope : List Bound) where
   step_last (a_step {us = no_test} a u) h k = last_step a u h k
   step_last (a_step {us = test t us} a u) h k = last_step a u h k
 
-  pub steps_read_first : {deep b : Bool} {ts rest : List Token} {ss one : Steps} {f : Form} → IsStepAt scope deep ts one b rest → ss ≡ one → f ≡ form_of_one b → StepsRead deep ts ss f rest
-  steps_read_first {deep} {b} {ts} {one = one} a e g = record {
-    prior = ts;
-    is_longer = false;
-    earlier = no_step;
-    deep = deep;
-    last = one;
-    alone = b;
-    so_far = record { forth = λ xs f after m. m; back = λ xs f after m. (xs, f, m) };
-    read = a;
-    whole = e;
-    written = g;
+  pub steps_start : {deep : Bool} (ts rest : List Token) (found : List CodeStep) → found ≡ [] → rest ≡ ts → StepsSoFar deep ts false (seen.steps found) deep rest
+  steps_start {deep} ts rest found e f =
+      subst (StepsSoFar deep ts false (seen.steps found) deep) (sym f) (subst (λ w. StepsSoFar deep ts false (seen.steps w) deep ts) (sym e) (record { forth = λ xs g after m. m; back = λ xs g after m. (xs, g, m) }))
+
+  pub steps_next : {first_deep deep is_longer lone : Bool} (below : Bool) {ts rest after next : List Token} {ss one more : Steps} → StepsSoFar first_deep ts is_longer ss deep rest → IsStepAt scope deep rest one lone after
+      → after ≡ mark (separator below) ∷ next → more ≡ steps_then ss one → StepsSoFar first_deep ts true more below next
+  steps_next {first_deep} {deep} {is_longer} {lone = b} below {ts} {rest} {ss = ss} {one = one} {more = more} so a e whole = record {
+    forth = λ xs f r m.
+        let is : steps_then ss (steps_then one xs) ≡ steps_then more xs = sym (steps_then_assoc ss one xs) ∙ ap (λ w. steps_then w xs) (sym whole) in
+        subst (λ w. StepsAt scope first_deep ts w (lengthened f) r) is
+        (subst (λ g. StepsAt scope first_deep ts (steps_then ss (steps_then one xs)) g r) (lengthened_twice is_longer f)
+        (so.forth (steps_then one xs) (lengthened f) r (step_before below (subst (IsStepAt scope deep rest one b) e a) m)));
+    back = λ xs f r m. let (ys, g, d) = so.back xs f r m in step_behind below (subst (IsStepAt scope deep rest one b) e a) d;
   }
 
-  pub steps_behind : {first_deep : Bool} (below : Bool) {ts rest next : List Token} {ss : Steps} {form : Form} → StepsRead first_deep ts ss form rest → rest ≡ mark (separator below) ∷ next → StepsSoFar first_deep ts true ss below next
-  steps_behind {first_deep} below {ts} {ss = ss} all e = record {
-    forth = λ xs f after m.
-        let is : steps_then all.earlier (steps_then all.last xs) ≡ steps_then ss xs = sym (steps_then_assoc all.earlier all.last xs) ∙ ap (λ w. steps_then w xs) (sym all.whole) in
-        subst (λ w. StepsAt scope first_deep ts w (lengthened f) after) is
-        (subst (λ g. StepsAt scope first_deep ts (steps_then all.earlier (steps_then all.last xs)) g after) (lengthened_twice all.is_longer f)
-        (all.so_far.forth (steps_then all.last xs) (lengthened f) after (step_before below (subst (IsStepAt scope all.deep all.prior all.last all.alone) e all.read) m)));
-    back = λ xs f after m. let (ys, g, d) = all.so_far.back xs f after m in step_behind below (subst (IsStepAt scope all.deep all.prior all.last all.alone) e all.read) d;
-  }
+  pub steps_attribute : {first_deep deep is_longer : Bool} {ts rest after : List Token} {ss : Steps} → StepsSoFar first_deep ts is_longer ss deep rest → AttributeAt scope rest after → StepsAt scope first_deep ts ss dropped after
+  steps_attribute {first_deep} {is_longer = l} {ts} {after = after} {ss = ss} so a =
+      subst (λ w. StepsAt scope first_deep ts w dropped after) (steps_then_none ss)
+      (subst (λ w. StepsAt scope first_deep ts (steps_then ss no_step) w after) (lengthened_dropped l) (so.forth no_step dropped after (attribute_step a)))
 
-  pub steps_more : {first_deep b : Bool} (below : Bool) {ts rest next after : List Token} {ss xs one : Steps} {form : Form} → StepsRead first_deep ts ss form rest → rest ≡ mark (separator below) ∷ next
-      → IsStepAt scope below next one b after → xs ≡ steps_then ss one → StepsRead first_deep ts xs longer after
-  steps_more {b = true} below {next = next} {ss = ss} {one = one} all f a e =
-      record { prior = next; is_longer = true; earlier = ss; deep = below; last = one; alone = true; so_far = steps_behind below all f; read = a; whole = e; written = refl }
-  steps_more {b = false} below {next = next} {ss = ss} {one = one} all f a e =
-      record { prior = next; is_longer = true; earlier = ss; deep = below; last = one; alone = false; so_far = steps_behind below all f; read = a; whole = e; written = refl }
-
-  pub steps_attribute : {first_deep : Bool} (below : Bool) {ts rest next after : List Token} {ss : Steps} {form : Form} → StepsRead first_deep ts ss form rest → rest ≡ mark (separator below) ∷ next → AttributeAt scope next after
-      → StepsAt scope first_deep ts ss dropped after
-  steps_attribute {first_deep} below {ts} {after = after} {ss = ss} all e a =
-      subst (λ w. StepsAt scope first_deep ts w dropped after) (steps_then_none ss) ((steps_behind below all e).forth no_step dropped after (attribute_step a))
-
-  pub steps_end : {first_deep : Bool} {ts rest : List Token} {ss : Steps} {form : Form} → StepsRead first_deep ts ss form rest → Lacks (mark slash) rest × Lacks (mark slashes) rest → StepsAt scope first_deep ts ss form rest
-  steps_end {first_deep} {ts} {rest} {ss} all (h, k) =
-      subst (λ w. StepsAt scope first_deep ts ss w rest) (sym all.written)
-      (subst (λ w. StepsAt scope first_deep ts w (form_read all.is_longer all.alone) rest) (sym all.whole) (all.so_far.forth all.last (form_of_one all.alone) rest (step_last all.read h k)))
+  pub steps_end : {first_deep deep is_longer lone : Bool} {ts rest after : List Token} {ss one more : Steps} {form : Form} → StepsSoFar first_deep ts is_longer ss deep rest → IsStepAt scope deep rest one lone after
+      → more ≡ steps_then ss one → form ≡ cond is_longer longer (form_of_one lone) → Lacks (mark slash) after × Lacks (mark slashes) after → StepsAt scope first_deep ts more form after
+  steps_end {first_deep} {is_longer = l} {lone = b} {ts} {after = after} {one = one} {more = more} so a whole written (h, k) =
+      subst (λ w. StepsAt scope first_deep ts more w after) (sym (written ∙ form_is l b))
+      (subst (λ w. StepsAt scope first_deep ts w (form_read l b) after) (sym whole) (so.forth one (form_of_one b) after (step_last a h k)))
 
   no_step_here : {deep : Bool} {rest after : List Token} {xs : Steps} {f : Form} → ((r : List Token) → AttributeAt scope rest r → ⊥)
       → ((ss : Steps) (b : Bool) (r : List Token) → IsStepAt scope deep rest ss b r → ⊥) → StepsAt scope deep rest xs f after → ⊥
@@ -130,13 +104,9 @@ module _ (scope : List Bound) where
   no_step_here {deep} h k (child_step {behind = z} {t = t} {us = us} a u m) = k (step deep t (conjunction us) no_step) (is_lone us) (mark slash ∷ z) (a_step a u)
   no_step_here {deep} h k (descendant_step {behind = z} {t = t} {us = us} a u m) = k (step deep t (conjunction us) no_step) (is_lone us) (mark slashes ∷ z) (a_step a u)
 
-  pub steps_none : {deep : Bool} {ts : List Token} → ((r : List Token) → AttributeAt scope ts r → ⊥) → ((ss : Steps) (b : Bool) (r : List Token) → IsStepAt scope deep ts ss b r → ⊥)
-      → (xs : Steps) (f : Form) (after : List Token) → StepsAt scope deep ts xs f after → ⊥
-  steps_none h k xs f after a = no_step_here h k a
-
-  pub steps_fail : {first_deep : Bool} (below : Bool) {ts rest next : List Token} {ss : Steps} {form : Form} → StepsRead first_deep ts ss form rest → rest ≡ mark (separator below) ∷ next
-      → ((r : List Token) → AttributeAt scope next r → ⊥) → ((ss : Steps) (b : Bool) (r : List Token) → IsStepAt scope below next ss b r → ⊥) → (xs : Steps) (f : Form) (after : List Token) → StepsAt scope first_deep ts xs f after → ⊥
-  steps_fail below all e h k xs f after a = let (ys, g, d) = (steps_behind below all e).back xs f after a in no_step_here h k d
+  pub steps_fail : {first_deep deep is_longer : Bool} {ts rest : List Token} {ss : Steps} → StepsSoFar first_deep ts is_longer ss deep rest
+      → ((r : List Token) → AttributeAt scope rest r → ⊥) → ((ss : Steps) (b : Bool) (r : List Token) → IsStepAt scope deep rest ss b r → ⊥) → (xs : Steps) (f : Form) (after : List Token) → StepsAt scope first_deep ts xs f after → ⊥
+  steps_fail so h k xs f after a = let (ys, g, d) = so.back xs f after a in no_step_here h k d
 
   -- the alternatives of a select
   pub record SelectsSoFar (ts : List Token) (q : Path) (drops : Bool) (rest : List Token) : Type 0 where
@@ -176,19 +146,6 @@ module _ (scope : List Bound) where
   alternative_behind {next = next} a (p.SelectAt.last_alternative b h) = absurd (h next (sym (alternative_unique scope a b).same_after))
   alternative_behind {after = r} a (p.SelectAt.one_alternative {p = q} {drops = d} b c) = (q, d, subst (λ w. SelectAt scope w q d r) (sym (same_others (alternative_unique scope a b).same_after)) c)
 
-  pub selects_first : {ts rest : List Token} {ss : Steps} {f : Form} {q : Path} {drops : Bool} → AlternativeAt scope ts ss f rest → q ≡ alternative_before f ss no_alternative → drops ≡ (is_dropped f || false) → SelectsRead ts q drops rest
-  selects_first {ts} {ss = ss} {f = f} a e g = record {
-    prior = ts;
-    earlier = no_alternative;
-    dropped_earlier = false;
-    last = ss;
-    form = f;
-    so_far = record { forth = λ r d after m. m; back = λ r d after m. (r, d, m) };
-    read = a;
-    whole = e;
-    whether = g;
-  }
-
   pub selects_behind : {ts rest next : List Token} {q : Path} {drops : Bool} → SelectsRead ts q drops rest → rest ≡ mark bar ∷ next → SelectsSoFar ts q drops next
   selects_behind {ts} {q = q} {drops = drops} all e = record {
     forth = λ r d after b.
@@ -201,10 +158,21 @@ module _ (scope : List Bound) where
     back = λ r d after b. let (s, c, m) = all.so_far.back r d after b in alternative_behind (subst (AlternativeAt scope all.prior all.last all.form) e all.read) m;
   }
 
+  pub selects_start : (ts rest : List Token) (found : List (Bor (List CodeStep))) → found ≡ [] → rest ≡ ts → SelectsSoFar ts (seen.alternatives found) false rest
+  selects_start ts rest found e f =
+      subst (SelectsSoFar ts (seen.alternatives found) false) (sym f) (subst (λ w. SelectsSoFar ts (seen.alternatives w) false ts) (sym e) (record { forth = λ r d after m. m; back = λ r d after m. (r, d, m) }))
+
+  pub selects_read : {ts rest after : List Token} {q q' : Path} {drops drops' : Bool} {ss : Steps} {f : Form} → SelectsSoFar ts q drops rest → AlternativeAt scope rest ss f after
+      → q' ≡ alternatives_then q (alternative_before f ss no_alternative) → drops' ≡ (is_dropped f || drops) → SelectsRead ts q' drops' after
+  selects_read {rest = rest} {q = q} {drops = drops} {ss = ss} {f = f} so a e g =
+      record { prior = rest; earlier = q; dropped_earlier = drops; last = ss; form = f; so_far = so; read = a; whole = e; whether = g }
+
+  pub selects_first : {ts rest : List Token} {ss : Steps} {f : Form} {q : Path} {drops : Bool} → AlternativeAt scope ts ss f rest → q ≡ alternative_before f ss no_alternative → drops ≡ (is_dropped f || false) → SelectsRead ts q drops rest
+  selects_first {ts} a e g = selects_read (selects_start ts ts [] refl refl) a e g
+
   pub selects_more : {ts rest next after : List Token} {q q' : Path} {drops drops' : Bool} {ss : Steps} {f : Form} → SelectsRead ts q drops rest → rest ≡ mark bar ∷ next → AlternativeAt scope next ss f after
       → q' ≡ alternatives_then q (alternative_before f ss no_alternative) → drops' ≡ (is_dropped f || drops) → SelectsRead ts q' drops' after
-  selects_more {next = next} {q = q} {drops = drops} {ss = ss} {f = f} all k a e g =
-      record { prior = next; earlier = q; dropped_earlier = drops; last = ss; form = f; so_far = selects_behind all k; read = a; whole = e; whether = g }
+  selects_more all k a e g = selects_read (selects_behind all k) a e g
 
   pub selects_end : {ts rest : List Token} {q : Path} {drops : Bool} → SelectsRead ts q drops rest → Lacks (mark bar) rest → SelectAt scope ts q drops rest
   selects_end {ts} {rest} {q} {drops} all h =
@@ -216,9 +184,13 @@ module _ (scope : List Bound) where
   selects_none h q d after (p.SelectAt.last_alternative {ss = ss} {form = f} a l) = h ss f after a
   selects_none h q d after (p.SelectAt.one_alternative {rest = r} {ss = ss} {form = f} a b) = h ss f (mark bar ∷ r) a
 
+  pub selects_refused : {ts rest : List Token} {q : Path} {drops : Bool} → SelectsSoFar ts q drops rest → ((ss : Steps) (f : Form) (r : List Token) → AlternativeAt scope rest ss f r → ⊥)
+      → (r : Path) (d : Bool) (after : List Token) → SelectAt scope ts r d after → ⊥
+  selects_refused so h r d after a = let (s, c, m) = so.back r d after a in selects_none h s c after m
+
   pub selects_fail : {ts rest next : List Token} {q : Path} {drops : Bool} → SelectsRead ts q drops rest → rest ≡ mark bar ∷ next → ((ss : Steps) (f : Form) (r : List Token) → AlternativeAt scope next ss f r → ⊥)
       → (r : Path) (d : Bool) (after : List Token) → SelectAt scope ts r d after → ⊥
-  selects_fail all e h r d after a = let (s, c, m) = (selects_behind all e).back r d after a in selects_none h s c after m
+  selects_fail all e h r d after a = selects_refused (selects_behind all e) h r d after a
 
 -- the alternatives found, one more or none
 pub alternatives_kept : (found more : List (Bor (List CodeStep))) (x : Bor (List CodeStep)) (f : Form) → more ≡ found ++ cond (is_dropped f) [] (x ∷ [])
@@ -226,7 +198,3 @@ pub alternatives_kept : (found more : List (Bor (List CodeStep))) (x : Bor (List
 alternatives_kept found more x lone e = ap seen.alternatives e ∙ alternatives_append found (x ∷ [])
 alternatives_kept found more x longer e = ap seen.alternatives e ∙ alternatives_append found (x ∷ [])
 alternatives_kept found more x dropped e = ap seen.alternatives e ∙ alternatives_append found []
-
-pub alternatives_first : (found more : List (Bor (List CodeStep))) (x : Bor (List CodeStep)) (f : Form) → found ≡ [] → more ≡ found ++ cond (is_dropped f) [] (x ∷ [])
-    → seen.alternatives more ≡ alternative_before f (seen.steps x.now) no_alternative
-alternatives_first found more x f g e = alternatives_kept found more x f e ∙ ap (λ w. alternatives_then (seen.alternatives w) (alternative_before f (seen.steps x.now) no_alternative)) g

@@ -48,11 +48,15 @@ pub(crate) fn disjunction<'b>(tests: &'b [Test<'b>]) -> Test<'b>
     }
 }
 
-/// The form of one step, which is a node test alone or not.
-pub(crate) fn form_of(lone: bool) -> Form
-    ensures { form result ≡ form_of_one lone }
+/// The form of steps, which are several or one, and of which the last is a node test alone or not.
+pub(crate) fn form_of(several: bool, lone: bool) -> Form
+    ensures { form result ≡ (if several then p.longer else form_of_one lone) }
 {
-    if lone { Form::Lone } else { Form::Longer }
+    if lone && !several {
+        Form::Lone
+    } else {
+        Form::Longer
+    }
 }
 
 /// Whether the next step is deep, and what follows the `/` or `//` before it.

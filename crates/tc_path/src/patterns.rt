@@ -131,16 +131,16 @@ pub(crate) fn pattern<'b>(
     ensures no { IfErr result (λ e. OrNoMemory e ((xs : List p.Alternative) → p.PatternAt (map seen.bound scope.now) (tokens_of tokens.now) xs → ⊥)) }
 {
     let mut found = Vec::new(arena);
-    let (first, mut rest) = alternative(arena, scope, tokens)?;
-    keep(&mut found, first)?;
-    while let Some(next) = after_mark(rest, Mark::Bar) {
-        let (more, after) = alternative(arena, scope, next)?;
+    let mut rest = tokens.split_at(0).1;
+    loop {
+        let (more, after) = alternative(arena, scope, rest)?;
         keep(&mut found, more)?;
-        rest = after;
-    }
-    if rest.is_empty() {
-        Ok(into_bump_slice(found))
-    } else {
-        Err(PathFault::Malformed)
+        if after.is_empty() {
+            return Ok(into_bump_slice(found));
+        }
+        let Some(next) = after_mark(after, Mark::Bar) else {
+            return Err(PathFault::Malformed);
+        };
+        rest = next;
     }
 }

@@ -62,22 +62,22 @@ pub(crate) fn steps<'a, 'b, 't>(
     ensures shorter { IfOk result (λ r. length r.2.now < length tokens.now) }
 {
     let mut found = Vec::new(arena);
-    if let Some(after) = after_attribute(scope, tokens) {
-        return Ok((into_bump_slice(found), Form::Dropped, after));
-    }
-    let (first, lone, mut rest) = step(arena, scope, tokens, is_deep)?;
-    found.push(first)?;
-    let mut form = form_of(lone);
-    while let Some((deep, next)) = after_separator(rest) {
-        if let Some(after) = after_attribute(scope, next) {
+    let mut longer = false;
+    let mut deep = is_deep;
+    let mut rest = tokens.split_at(0).1;
+    loop {
+        if let Some(after) = after_attribute(scope, rest) {
             return Ok((into_bump_slice(found), Form::Dropped, after));
         }
-        let (more, _, after) = step(arena, scope, next, deep)?;
-        found.push(more)?;
-        form = Form::Longer;
-        rest = after;
+        let (next, lone, after) = step(arena, scope, rest, deep)?;
+        found.push(next)?;
+        let Some((below, behind)) = after_separator(after) else {
+            return Ok((into_bump_slice(found), form_of(longer, lone), after));
+        };
+        longer = true;
+        deep = below;
+        rest = behind;
     }
-    Ok((into_bump_slice(found), form, rest))
 }
 
 /// The alternative of a select at the front, its form, and what follows it.
@@ -115,15 +115,17 @@ pub(crate) fn select<'a, 'b, 't>(
     ensures shorter { IfOk result (λ r. length r.2.now < length tokens.now) }
 {
     let mut found = Vec::new(arena);
-    let (steps, form, mut rest) = alternative(arena, scope, tokens)?;
-    let mut drops = keep(&mut found, steps, form, false)?;
-    while let Some(next) = after_mark(rest, Mark::Bar) {
-        let (steps, form, after) = alternative(arena, scope, next)?;
+    let mut drops = false;
+    let mut rest = tokens.split_at(0).1;
+    loop {
+        let (steps, form, after) = alternative(arena, scope, rest)?;
         drops = keep(&mut found, steps, form, drops)?;
-        rest = after;
+        let Some(next) = after_mark(after, Mark::Bar) else {
+            let alts = into_bump_slice(found);
+            return Ok((Path { alts }, drops, after));
+        };
+        rest = next;
     }
-    let alts = into_bump_slice(found);
-    Ok((Path { alts }, drops, rest))
 }
 
 /// What `and` joins, at the front, and what follows it.
@@ -188,14 +190,15 @@ fn all_tests<'a, 'b, 't>(
     ensures shorter { IfOk result (λ r. length r.1.now < length tokens.now) }
 {
     let mut found = Vec::new(arena);
-    let (first, mut rest) = primary(arena, scope, tokens)?;
-    found.push(first)?;
-    while let Some(next) = after_word(rest, "and") {
-        let (test, after) = primary(arena, scope, next)?;
+    let mut rest = tokens.split_at(0).1;
+    loop {
+        let (test, after) = primary(arena, scope, rest)?;
         found.push(test)?;
-        rest = after;
+        let Some(next) = after_word(after, "and") else {
+            return Ok((into_bump_slice(found), after));
+        };
+        rest = next;
     }
-    Ok((into_bump_slice(found), rest))
 }
 
 /// Conjunctions joined by `or`, at the front, and what follows them (XPath 1.0, 3.4).
@@ -210,12 +213,13 @@ pub(crate) fn any_tests<'a, 'b, 't>(
     ensures shorter { IfOk result (λ r. length r.1.now < length tokens.now) }
 {
     let mut found = Vec::new(arena);
-    let (first, mut rest) = all_tests(arena, scope, tokens)?;
-    found.push(conjunction(first))?;
-    while let Some(next) = after_word(rest, "or") {
-        let (tests, after) = all_tests(arena, scope, next)?;
+    let mut rest = tokens.split_at(0).1;
+    loop {
+        let (tests, after) = all_tests(arena, scope, rest)?;
         found.push(conjunction(tests))?;
-        rest = after;
+        let Some(next) = after_word(after, "or") else {
+            return Ok((into_bump_slice(found), after));
+        };
+        rest = next;
     }
-    Ok((into_bump_slice(found), rest))
 }

@@ -115,9 +115,9 @@ fn writes_of(alloc: Global, words: &[&str], certificate: &str, text: &str) -> Re
 /// A text whose line of this number, from 1, is replaced by another text, which ends with its own line feed where it has any.
 fn with_line(alloc: Global, text: &str, number: usize, other: &str) -> Result<String, Fail> {
     let mut changed = String::new(alloc);
-    let mut place = 0;
+    let mut place = 0usize;
     for line in text.lines() {
-        place += 1;
+        place = place.saturating_add(1);
         if place == number {
             changed.push_str(other)?;
         } else {

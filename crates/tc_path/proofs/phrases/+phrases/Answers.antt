@@ -1,75 +1,222 @@
-use Rattle.std.proofs.Common.{rules, arith, map, ap, ◌∙◌, sym, subst}
+use Rattle.std.proofs.Common.{rules, arith, length, map, ap, ◌∙◌, sym, subst}
 use Rattle.tc_model.specs.Views.{bound, tests, steps, alternatives, path}
 use Rattle.tc_model.specs.Sheets as s
 use Rattle.tc_model.specs.PathTextPhrases as p
 use Rattle.tc_model.proofs.ViewsPath.{see_has, see_true, see_false, see_path, tests_then}
 use Rattle.tc_path.specs.Views.{mark, form, tokens_of}
 use Rattle.tc_path.proofs.NodeTestLaws.{map_ok, map_no, shorter_by, shorter_by_two, shorter_by_three, attribute_shorter, other_shorter}
-use Rattle.tc_path.proofs.Loops.{tests_first, tests_pushed, ands_first, ands_more, ands_end, ands_fail, ors_first, ors_more, ors_end, ors_fail, predicates_start, predicates_next, predicates_end, predicates_fail}
-use Rattle.tc_path.proofs.StepLoops.{steps_first, steps_pushed, steps_read_first, steps_more, steps_attribute, steps_end, steps_none, steps_fail, alternatives_first, alternatives_kept, selects_first, selects_more, selects_end, selects_fail}
-use Rattle.tc_path.proofs.PhraseLaws.{handed_on, other_alternative, descendant_alternative, no_child_alternative, no_dot_alternative, no_descendant_alternative, truth_at, falsehood_at, parentheses_at, negation_at, no_select_primary, no_dropped_primary, no_parentheses, no_negation, not_closed, step_at, no_predicates, attribute_alone}
+use Rattle.tc_path.proofs.Loops.{tests_pushed, ands_start, ands_read, ands_behind, ands_end, ands_fail, ors_start, ors_read, ors_behind, ors_end, ors_fail, predicates_start, predicates_next, predicates_end, predicates_fail}
+use Rattle.tc_path.proofs.StepLoops.{steps_pushed, steps_start, steps_next, steps_attribute, steps_end, steps_fail, alternatives_kept, selects_start, selects_read, selects_behind, selects_end, selects_refused}
+use Rattle.tc_path.proofs.PhraseLaws.{handed_on, other_alternative, descendant_alternative, no_child_alternative, no_dot_alternative, no_descendant_alternative, truth_at, falsehood_at, parentheses_at, negation_at, no_select_primary, no_dropped_primary, no_parentheses, no_negation, not_closed, step_at, no_predicates}
 use Rattle.tc_path.proofs.phrases.+phrases.Goals as goal
 
-pub all_tests-loop-next-init : goal.all_tests-loop-next-init
-all_tests-loop-next-init t c = record {
-  read =
-      ands_first (map bound c.args.scope.now) c.in_ok-first.ensures.ok
-      (tests_first c.new-found.result.items c.push.new.self.items c.in_ok-first.first c.new-found.ensures.items c.in_ok-push.ensures.items);
-  shorter = c.in_ok-first.ensures.shorter;
+pub all_tests-loop-found-init : goal.all_tests-loop-found-init
+all_tests-loop-found-init t c = record {
+  read = ands_start (map bound c.args.scope.now) (tokens_of c.args.tokens.now) _ c.new-found.result.items c.new-found.ensures.items (ap tokens_of c.split_at.ensures.back);
+  within = omega (arith, ap length c.split_at.ensures.back);
 }
 
-pub all_tests-loop-next-preserved : goal.all_tests-loop-next-preserved
-all_tests-loop-next-preserved t c = record {
+pub all_tests-loop-found-preserved : goal.all_tests-loop-found-preserved
+all_tests-loop-found-preserved t c = record {
   read =
-      ands_more (map bound c.args.scope.now) c.loop-next.invariant.read c.in-Some.ensures c.in_ok-test.ensures.ok
-      (tests_pushed c.loop-next.found.items c.push-in-Some.new.self.items c.in_ok-test.test c.in_ok-push-2.ensures.items);
-  shorter = omega (arith, shorter_by c.loop-next.rest.now c.in-Some.next.now c.in-Some.ensures, c.in_ok-test.ensures.shorter, c.loop-next.invariant.shorter);
+      ands_behind (map bound c.args.scope.now)
+      (ands_read (map bound c.args.scope.now) c.loop-found.invariant.read c.in_ok-test.ensures.ok (tests_pushed c.loop-found.found.items c.push.new.self.items c.in_ok-test.test c.in_ok-push.ensures.items)) c.in-Some.ensures;
+  within = omega (arith, shorter_by c.in_ok-test.after.now c.in-Some.next.now c.in-Some.ensures, c.in_ok-test.ensures.shorter, c.loop-found.invariant.within);
 }
 
-pub all_tests-loop-next-smaller : goal.all_tests-loop-next-smaller
-all_tests-loop-next-smaller t c = omega (arith, shorter_by c.loop-next.rest.now c.in-Some.next.now c.in-Some.ensures, c.in_ok-test.ensures.shorter)
+pub all_tests-loop-found-smaller : goal.all_tests-loop-found-smaller
+all_tests-loop-found-smaller t c = omega (arith, shorter_by c.in_ok-test.after.now c.in-Some.next.now c.in-Some.ensures, c.in_ok-test.ensures.shorter)
 
-pub all_tests-primary-requires-in-Some : goal.all_tests-primary-requires-in-Some
-all_tests-primary-requires-in-Some t c = omega (arith, shorter_by c.loop-next.rest.now c.in-Some.next.now c.in-Some.ensures, c.loop-next.invariant.shorter)
+pub all_tests-primary-requires : goal.all_tests-primary-requires
+all_tests-primary-requires t c = omega (arith, c.loop-found.invariant.within)
 
-pub all_tests-returns-clause-ok : goal.all_tests-returns-clause-ok
-all_tests-returns-clause-ok t c = subst (λ w. p.AndAt (map bound c.args.scope.now) (tokens_of c.args.tokens.now) (tests w) (tokens_of c.loop-next.rest.now)) (sym c.into_bump_slice.ensures)
-    (ands_end (map bound c.args.scope.now) c.loop-next.invariant.read c.in_default.ensures)
+pub all_tests-returns-in_default-clause-ok : goal.all_tests-returns-in_default-clause-ok
+all_tests-returns-in_default-clause-ok t c = subst (λ w. p.AndAt (map bound c.args.scope.now) (tokens_of c.args.tokens.now) (tests w) (tokens_of c.in_ok-test.after.now)) (sym c.into_bump_slice.ensures)
+    (ands_end (map bound c.args.scope.now)
+    (ands_read (map bound c.args.scope.now) c.loop-found.invariant.read c.in_ok-test.ensures.ok (tests_pushed c.loop-found.found.items c.push.new.self.items c.in_ok-test.test c.in_ok-push.ensures.items)) c.in_default.ensures)
+
+pub all_tests-returns-in_default-clause-shorter : goal.all_tests-returns-in_default-clause-shorter
+all_tests-returns-in_default-clause-shorter t c = omega (arith, c.in_ok-test.ensures.shorter, c.loop-found.invariant.within)
+
+pub all_tests-returns-in_default-clause-no : goal.all_tests-returns-in_default-clause-no
+all_tests-returns-in_default-clause-no t c = search rules
 
 pub all_tests-returns-in_err-test-clause-no : goal.all_tests-returns-in_err-test-clause-no
-all_tests-returns-in_err-test-clause-no t c = handed_on c.from_residual-in_err-test.result c.in_err-test.field-0.0 c.from_residual-in_err-test.ensures.1
-    (ands_fail (map bound c.args.scope.now) c.loop-next.invariant.read c.in-Some.ensures) c.in_err-test.ensures.no
+all_tests-returns-in_err-test-clause-no t c = handed_on c.from_residual.result c.in_err-test.field-0.0 c.from_residual.ensures.1 (ands_fail (map bound c.args.scope.now) c.loop-found.invariant.read) c.in_err-test.ensures.no
 
-pub any_tests-loop-next-init : goal.any_tests-loop-next-init
-any_tests-loop-next-init t c = record {
-  read =
-      ors_first (map bound c.args.scope.now) c.in_ok-first.ensures.ok
-      (tests_first c.new-found.result.items c.push.new.self.items c.conjunction.result c.new-found.ensures.items c.in_ok-push.ensures.items ∙ ap (λ w. s.test w s.no_test) c.conjunction.ensures);
-  shorter = c.in_ok-first.ensures.shorter;
+pub all_tests-returns-in_err-test-clause-ok : goal.all_tests-returns-in_err-test-clause-ok
+all_tests-returns-in_err-test-clause-ok t c = search rules
+
+pub all_tests-returns-in_err-test-clause-shorter : goal.all_tests-returns-in_err-test-clause-shorter
+all_tests-returns-in_err-test-clause-shorter t c = search rules
+
+pub all_tests-returns-in_err-push-clause-no : goal.all_tests-returns-in_err-push-clause-no
+all_tests-returns-in_err-push-clause-no t c = search rules
+
+pub all_tests-returns-in_err-push-clause-ok : goal.all_tests-returns-in_err-push-clause-ok
+all_tests-returns-in_err-push-clause-ok t c = search rules
+
+pub all_tests-returns-in_err-push-clause-shorter : goal.all_tests-returns-in_err-push-clause-shorter
+all_tests-returns-in_err-push-clause-shorter t c = search rules
+
+pub any_tests-loop-found-init : goal.any_tests-loop-found-init
+any_tests-loop-found-init t c = record {
+  read = ors_start (map bound c.args.scope.now) (tokens_of c.args.tokens.now) _ c.new-found.result.items c.new-found.ensures.items (ap tokens_of c.split_at.ensures.back);
+  within = omega (arith, ap length c.split_at.ensures.back);
 }
 
-pub any_tests-loop-next-preserved : goal.any_tests-loop-next-preserved
-any_tests-loop-next-preserved t c = record {
+pub any_tests-loop-found-preserved : goal.any_tests-loop-found-preserved
+any_tests-loop-found-preserved t c = record {
   read =
-      ors_more (map bound c.args.scope.now) c.loop-next.invariant.read c.in-Some.ensures c.in_ok-tests.ensures.ok
-      (tests_pushed c.loop-next.found.items c.push-in-Some.new.self.items c.conjunction-in-Some.result c.in_ok-push-2.ensures.items
-      ∙ ap (λ w. tests_then (tests c.loop-next.found.items) (s.test w s.no_test)) c.conjunction-in-Some.ensures);
-  shorter = omega (arith, shorter_by c.loop-next.rest.now c.in-Some.next.now c.in-Some.ensures, c.in_ok-tests.ensures.shorter, c.loop-next.invariant.shorter);
+      ors_behind (map bound c.args.scope.now)
+      (ors_read (map bound c.args.scope.now) c.loop-found.invariant.read c.in_ok-tests.ensures.ok (tests_pushed c.loop-found.found.items c.push.new.self.items c.conjunction.result c.in_ok-push.ensures.items ∙ ap (λ w. tests_then (tests c.loop-found.found.items) (s.test w s.no_test)) c.conjunction.ensures)) c.in-Some.ensures;
+  within = omega (arith, shorter_by c.in_ok-tests.after.now c.in-Some.next.now c.in-Some.ensures, c.in_ok-tests.ensures.shorter, c.loop-found.invariant.within);
 }
 
-pub any_tests-loop-next-smaller : goal.any_tests-loop-next-smaller
-any_tests-loop-next-smaller t c = omega (arith, shorter_by c.loop-next.rest.now c.in-Some.next.now c.in-Some.ensures, c.in_ok-tests.ensures.shorter)
+pub any_tests-loop-found-smaller : goal.any_tests-loop-found-smaller
+any_tests-loop-found-smaller t c = omega (arith, shorter_by c.in_ok-tests.after.now c.in-Some.next.now c.in-Some.ensures, c.in_ok-tests.ensures.shorter)
 
-pub any_tests-all_tests-requires-in-Some : goal.any_tests-all_tests-requires-in-Some
-any_tests-all_tests-requires-in-Some t c = omega (arith, shorter_by c.loop-next.rest.now c.in-Some.next.now c.in-Some.ensures, c.loop-next.invariant.shorter)
+pub any_tests-all_tests-requires : goal.any_tests-all_tests-requires
+any_tests-all_tests-requires t c = omega (arith, c.loop-found.invariant.within)
 
-pub any_tests-returns-clause-ok : goal.any_tests-returns-clause-ok
-any_tests-returns-clause-ok t c = subst (λ w. p.OrAt (map bound c.args.scope.now) (tokens_of c.args.tokens.now) (tests w) (tokens_of c.loop-next.rest.now)) (sym c.into_bump_slice.ensures)
-    (ors_end (map bound c.args.scope.now) c.loop-next.invariant.read c.in_default.ensures)
+pub any_tests-returns-in_default-clause-ok : goal.any_tests-returns-in_default-clause-ok
+any_tests-returns-in_default-clause-ok t c = subst (λ w. p.OrAt (map bound c.args.scope.now) (tokens_of c.args.tokens.now) (tests w) (tokens_of c.in_ok-tests.after.now)) (sym c.into_bump_slice.ensures)
+    (ors_end (map bound c.args.scope.now)
+    (ors_read (map bound c.args.scope.now) c.loop-found.invariant.read c.in_ok-tests.ensures.ok (tests_pushed c.loop-found.found.items c.push.new.self.items c.conjunction.result c.in_ok-push.ensures.items ∙ ap (λ w. tests_then (tests c.loop-found.found.items) (s.test w s.no_test)) c.conjunction.ensures)) c.in_default.ensures)
+
+pub any_tests-returns-in_default-clause-shorter : goal.any_tests-returns-in_default-clause-shorter
+any_tests-returns-in_default-clause-shorter t c = omega (arith, c.in_ok-tests.ensures.shorter, c.loop-found.invariant.within)
+
+pub any_tests-returns-in_default-clause-no : goal.any_tests-returns-in_default-clause-no
+any_tests-returns-in_default-clause-no t c = search rules
 
 pub any_tests-returns-in_err-tests-clause-no : goal.any_tests-returns-in_err-tests-clause-no
-any_tests-returns-in_err-tests-clause-no t c = handed_on c.from_residual-in_err-tests.result c.in_err-tests.field-0.0 c.from_residual-in_err-tests.ensures.1
-    (ors_fail (map bound c.args.scope.now) c.loop-next.invariant.read c.in-Some.ensures) c.in_err-tests.ensures.no
+any_tests-returns-in_err-tests-clause-no t c = handed_on c.from_residual.result c.in_err-tests.field-0.0 c.from_residual.ensures.1 (ors_fail (map bound c.args.scope.now) c.loop-found.invariant.read) c.in_err-tests.ensures.no
+
+pub any_tests-returns-in_err-tests-clause-ok : goal.any_tests-returns-in_err-tests-clause-ok
+any_tests-returns-in_err-tests-clause-ok t c = search rules
+
+pub any_tests-returns-in_err-tests-clause-shorter : goal.any_tests-returns-in_err-tests-clause-shorter
+any_tests-returns-in_err-tests-clause-shorter t c = search rules
+
+pub any_tests-returns-in_err-push-clause-no : goal.any_tests-returns-in_err-push-clause-no
+any_tests-returns-in_err-push-clause-no t c = search rules
+
+pub any_tests-returns-in_err-push-clause-ok : goal.any_tests-returns-in_err-push-clause-ok
+any_tests-returns-in_err-push-clause-ok t c = search rules
+
+pub any_tests-returns-in_err-push-clause-shorter : goal.any_tests-returns-in_err-push-clause-shorter
+any_tests-returns-in_err-push-clause-shorter t c = search rules
+
+pub select-loop-found-init : goal.select-loop-found-init
+select-loop-found-init t c = record {
+  read = selects_start (map bound c.args.scope.now) (tokens_of c.args.tokens.now) _ c.new-found.result.items c.new-found.ensures.items (ap tokens_of c.split_at.ensures.back);
+  within = omega (arith, ap length c.split_at.ensures.back);
+}
+
+pub select-loop-found-preserved : goal.select-loop-found-preserved
+select-loop-found-preserved t c = record {
+  read =
+      selects_behind (map bound c.args.scope.now)
+      (selects_read (map bound c.args.scope.now) c.loop-found.invariant.read c.in_ok-steps.ensures.ok
+      (alternatives_kept c.loop-found.found.items c.keep.new.alternatives.items c.in_ok-steps.steps (form c.in_ok-steps.form) c.in_ok-drops.ensures.kept) c.in_ok-drops.ensures.drops) c.in-Some.ensures;
+  within = omega (arith, shorter_by c.in_ok-steps.after.now c.in-Some.next.now c.in-Some.ensures, c.in_ok-steps.ensures.shorter, c.loop-found.invariant.within);
+}
+
+pub select-loop-found-smaller : goal.select-loop-found-smaller
+select-loop-found-smaller t c = omega (arith, shorter_by c.in_ok-steps.after.now c.in-Some.next.now c.in-Some.ensures, c.in_ok-steps.ensures.shorter)
+
+pub select-alternative-requires : goal.select-alternative-requires
+select-alternative-requires t c = omega (arith, c.loop-found.invariant.within)
+
+pub select-returns-in_default-clause-ok : goal.select-returns-in_default-clause-ok
+select-returns-in_default-clause-ok t c = subst (λ w. p.SelectAt (map bound c.args.scope.now) (tokens_of c.args.tokens.now) w c.in_ok-drops.drops (tokens_of c.in_ok-steps.after.now))
+    (sym (see_path (record { ref_ptr = c.into_bump_slice-alts.result.ref_ptr; now = c.into_bump_slice-alts.result.now }) ∙ ap alternatives c.into_bump_slice-alts.ensures))
+    (selects_end (map bound c.args.scope.now)
+    (selects_read (map bound c.args.scope.now) c.loop-found.invariant.read c.in_ok-steps.ensures.ok
+    (alternatives_kept c.loop-found.found.items c.keep.new.alternatives.items c.in_ok-steps.steps (form c.in_ok-steps.form) c.in_ok-drops.ensures.kept) c.in_ok-drops.ensures.drops) c.in_default.ensures)
+
+pub select-returns-in_default-clause-shorter : goal.select-returns-in_default-clause-shorter
+select-returns-in_default-clause-shorter t c = omega (arith, c.in_ok-steps.ensures.shorter, c.loop-found.invariant.within)
+
+pub select-returns-in_default-clause-no : goal.select-returns-in_default-clause-no
+select-returns-in_default-clause-no t c = search rules
+
+pub select-returns-in_err-steps-clause-no : goal.select-returns-in_err-steps-clause-no
+select-returns-in_err-steps-clause-no t c = handed_on c.from_residual.result c.in_err-steps.field-0.0 c.from_residual.ensures.1 (selects_refused (map bound c.args.scope.now) c.loop-found.invariant.read) c.in_err-steps.ensures.no
+
+pub select-returns-in_err-steps-clause-ok : goal.select-returns-in_err-steps-clause-ok
+select-returns-in_err-steps-clause-ok t c = search rules
+
+pub select-returns-in_err-steps-clause-shorter : goal.select-returns-in_err-steps-clause-shorter
+select-returns-in_err-steps-clause-shorter t c = search rules
+
+pub select-returns-in_err-drops-clause-no : goal.select-returns-in_err-drops-clause-no
+select-returns-in_err-drops-clause-no t c = search rules
+
+pub select-returns-in_err-drops-clause-ok : goal.select-returns-in_err-drops-clause-ok
+select-returns-in_err-drops-clause-ok t c = search rules
+
+pub select-returns-in_err-drops-clause-shorter : goal.select-returns-in_err-drops-clause-shorter
+select-returns-in_err-drops-clause-shorter t c = search rules
+
+pub steps-loop-after-init : goal.steps-loop-after-init
+steps-loop-after-init t c = record {
+  read = steps_start (map bound c.args.scope.now) (tokens_of c.args.tokens.now) _ c.new-found.result.items c.new-found.ensures.items (ap tokens_of c.split_at.ensures.back);
+  within = omega (arith, ap length c.split_at.ensures.back);
+}
+
+pub steps-loop-after-preserved : goal.steps-loop-after-preserved
+steps-loop-after-preserved t c = record {
+  read =
+      steps_next (map bound c.args.scope.now) c.in-Some-after_separator.below c.loop-after.invariant.read c.in_ok-next.ensures.ok c.in-Some-after_separator.ensures
+      (steps_pushed c.loop-after.found.items c.push.new.self.items c.in_ok-next.next c.in_ok-push.ensures.items);
+  within = omega (arith, shorter_by c.in_ok-next.after.now c.in-Some-after_separator.behind.now c.in-Some-after_separator.ensures, c.in_ok-next.ensures.shorter, c.loop-after.invariant.within);
+}
+
+pub steps-loop-after-smaller : goal.steps-loop-after-smaller
+steps-loop-after-smaller t c = omega (arith, shorter_by c.in_ok-next.after.now c.in-Some-after_separator.behind.now c.in-Some-after_separator.ensures, c.in_ok-next.ensures.shorter)
+
+pub steps-step-requires : goal.steps-step-requires
+steps-step-requires t c = omega (arith, c.loop-after.invariant.within)
+
+pub steps-returns-in-Some-clause-ok : goal.steps-returns-in-Some-clause-ok
+steps-returns-in-Some-clause-ok t c = subst (λ w. p.StepsAt (map bound c.args.scope.now) c.args.is_deep (tokens_of c.args.tokens.now) (steps w) p.dropped (tokens_of c.in-Some.after.now)) (sym c.into_bump_slice.ensures)
+    (steps_attribute (map bound c.args.scope.now) c.loop-after.invariant.read c.in-Some.ensures)
+
+pub steps-returns-in-Some-clause-shorter : goal.steps-returns-in-Some-clause-shorter
+steps-returns-in-Some-clause-shorter t c = omega (arith, attribute_shorter c.loop-after.rest.now c.in-Some.after.now c.in-Some.ensures, c.loop-after.invariant.within)
+
+pub steps-returns-in-Some-clause-no : goal.steps-returns-in-Some-clause-no
+steps-returns-in-Some-clause-no t c = search rules
+
+pub steps-returns-in_default-after_separator-clause-ok : goal.steps-returns-in_default-after_separator-clause-ok
+steps-returns-in_default-after_separator-clause-ok t c = subst (λ w. p.StepsAt (map bound c.args.scope.now) c.args.is_deep (tokens_of c.args.tokens.now) (steps w) (form c.form_of.result) (tokens_of c.in_ok-next.after.now)) (sym c.into_bump_slice-in_default-after_separator.ensures)
+    (steps_end (map bound c.args.scope.now) c.loop-after.invariant.read c.in_ok-next.ensures.ok (steps_pushed c.loop-after.found.items c.push.new.self.items c.in_ok-next.next c.in_ok-push.ensures.items) c.form_of.ensures c.in_default-after_separator.ensures)
+
+pub steps-returns-in_default-after_separator-clause-shorter : goal.steps-returns-in_default-after_separator-clause-shorter
+steps-returns-in_default-after_separator-clause-shorter t c = omega (arith, c.in_ok-next.ensures.shorter, c.loop-after.invariant.within)
+
+pub steps-returns-in_default-after_separator-clause-no : goal.steps-returns-in_default-after_separator-clause-no
+steps-returns-in_default-after_separator-clause-no t c = search rules
+
+pub steps-returns-in_err-next-clause-no : goal.steps-returns-in_err-next-clause-no
+steps-returns-in_err-next-clause-no t c = handed_on c.from_residual.result c.in_err-next.field-0.0 c.from_residual.ensures.1 (steps_fail (map bound c.args.scope.now) c.loop-after.invariant.read c.in_default.ensures) c.in_err-next.ensures.no
+
+pub steps-returns-in_err-next-clause-ok : goal.steps-returns-in_err-next-clause-ok
+steps-returns-in_err-next-clause-ok t c = search rules
+
+pub steps-returns-in_err-next-clause-shorter : goal.steps-returns-in_err-next-clause-shorter
+steps-returns-in_err-next-clause-shorter t c = search rules
+
+pub steps-returns-in_err-push-clause-no : goal.steps-returns-in_err-push-clause-no
+steps-returns-in_err-push-clause-no t c = search rules
+
+pub steps-returns-in_err-push-clause-ok : goal.steps-returns-in_err-push-clause-ok
+steps-returns-in_err-push-clause-ok t c = search rules
+
+pub steps-returns-in_err-push-clause-shorter : goal.steps-returns-in_err-push-clause-shorter
+steps-returns-in_err-push-clause-shorter t c = search rules
 
 pub closed_test-returns-clause-shorter : goal.closed_test-returns-clause-shorter
 closed_test-returns-clause-shorter t c = omega (arith, shorter_by c.in_ok-tests.after.now c.in-Some.rest.now c.in-Some.ensures, c.in_ok-tests.ensures.shorter)
@@ -153,37 +300,6 @@ pub primary-returns-clause-ok : goal.primary-returns-clause-ok
 primary-returns-clause-ok t c = subst (λ w. p.PrimaryAt (map bound c.args.scope.now) (tokens_of c.args.tokens.now) w (tokens_of c.in_ok-path.rest.now)) (sym (see_has c.in_ok-path.path))
     (p.PrimaryAt.a_path (subst (λ b. p.SelectAt (map bound c.args.scope.now) (tokens_of c.args.tokens.now) (path c.in_ok-path.path) b (tokens_of c.in_ok-path.rest.now)) c.if-drops.false c.in_ok-path.ensures.ok))
 
-pub select-loop-next-init : goal.select-loop-next-init
-select-loop-next-init t c = record {
-  read =
-      selects_first (map bound c.args.scope.now) c.in_ok-steps.ensures.ok
-      (alternatives_first c.new-found.result.items c.keep.new.alternatives.items c.in_ok-steps.steps (form c.in_ok-steps.form) c.new-found.ensures.items c.in_ok-drops.ensures.kept) c.in_ok-drops.ensures.drops;
-  shorter = c.in_ok-steps.ensures.shorter;
-}
-
-pub select-loop-next-preserved : goal.select-loop-next-preserved
-select-loop-next-preserved t c = record {
-  read =
-      selects_more (map bound c.args.scope.now) c.loop-next.invariant.read c.in-Some.ensures c.in_ok-steps-2.ensures.ok
-      (alternatives_kept c.loop-next.found.items c.keep-in-Some.new.alternatives.items c.in_ok-steps-2.steps (form c.in_ok-steps-2.form) c.in_ok-drops-2.ensures.kept) c.in_ok-drops-2.ensures.drops;
-  shorter = omega (arith, shorter_by c.loop-next.rest.now c.in-Some.next.now c.in-Some.ensures, c.in_ok-steps-2.ensures.shorter, c.loop-next.invariant.shorter);
-}
-
-pub select-loop-next-smaller : goal.select-loop-next-smaller
-select-loop-next-smaller t c = omega (arith, shorter_by c.loop-next.rest.now c.in-Some.next.now c.in-Some.ensures, c.in_ok-steps-2.ensures.shorter)
-
-pub select-alternative-requires-in-Some : goal.select-alternative-requires-in-Some
-select-alternative-requires-in-Some t c = omega (arith, shorter_by c.loop-next.rest.now c.in-Some.next.now c.in-Some.ensures, c.loop-next.invariant.shorter)
-
-pub select-returns-in_err-steps-2-clause-no : goal.select-returns-in_err-steps-2-clause-no
-select-returns-in_err-steps-2-clause-no t c = handed_on c.from_residual-in_err-steps-2.result c.in_err-steps-2.field-0.0 c.from_residual-in_err-steps-2.ensures.1
-    (selects_fail (map bound c.args.scope.now) c.loop-next.invariant.read c.in-Some.ensures) c.in_err-steps-2.ensures.no
-
-pub select-returns-clause-ok : goal.select-returns-clause-ok
-select-returns-clause-ok t c = subst (λ w. p.SelectAt (map bound c.args.scope.now) (tokens_of c.args.tokens.now) w c.loop-next.drops (tokens_of c.loop-next.rest.now))
-    (sym (see_path (record { ref_ptr = c.into_bump_slice-alts.result.ref_ptr; now = c.into_bump_slice-alts.result.now }) ∙ ap alternatives c.into_bump_slice-alts.ensures))
-    (selects_end (map bound c.args.scope.now) c.loop-next.invariant.read c.in_default.ensures)
-
 pub step-loop-inside-preserved : goal.step-loop-inside-preserved
 step-loop-inside-preserved t c = record {
   read =
@@ -212,91 +328,6 @@ pub step-returns-clause-ok : goal.step-returns-clause-ok
 step-returns-clause-ok t c = step_at (map bound c.args.scope.now) c.loop-inside.found.items c.into_bump_slice-predicates.result.now c.in_ok-test.ensures.ok
     (predicates_end (map bound c.args.scope.now) c.loop-inside.invariant.read c.in_default.ensures) c.into_bump_slice-predicates.ensures c.conjunction.ensures c.is_empty.ensures
 
-pub steps-returns-in-Some-clause-ok : goal.steps-returns-in-Some-clause-ok
-steps-returns-in-Some-clause-ok t c = attribute_alone (map bound c.args.scope.now) c.new-found.result.items c.into_bump_slice.result.now c.into_bump_slice.ensures c.new-found.ensures.items c.in-Some.ensures
-
-pub steps-returns-in-Some-clause-shorter : goal.steps-returns-in-Some-clause-shorter
-steps-returns-in-Some-clause-shorter t c = attribute_shorter c.args.tokens.now c.in-Some.after.now c.in-Some.ensures
-
-pub steps-returns-in_err-first-clause-no : goal.steps-returns-in_err-first-clause-no
-steps-returns-in_err-first-clause-no t c = handed_on c.from_residual.result c.in_err-first.field-0.0 c.from_residual.ensures.1 (steps_none (map bound c.args.scope.now) c.in_default.ensures) c.in_err-first.ensures.no
-
-pub steps-loop-deep-init : goal.steps-loop-deep-init
-steps-loop-deep-init t c = record {
-  read =
-      steps_read_first (map bound c.args.scope.now) c.in_ok-first.ensures.ok (steps_first c.new-found.result.items c.push.new.self.items c.in_ok-first.first c.new-found.ensures.items c.in_ok-push.ensures.items)
-      c.form_of-form.ensures;
-  shorter = c.in_ok-first.ensures.shorter;
-}
-
-pub steps-loop-deep-preserved : goal.steps-loop-deep-preserved
-steps-loop-deep-preserved t c = record {
-  read =
-      steps_more (map bound c.args.scope.now) c.in-Some-after_separator.deep c.loop-deep.invariant.read c.in-Some-after_separator.ensures c.in_ok-more.ensures.ok
-      (steps_pushed c.loop-deep.found.items c.push-in-Some-after_separator.new.self.items c.in_ok-more.more c.in_ok-push-2.ensures.items);
-  shorter = omega (arith, shorter_by c.loop-deep.rest.now c.in-Some-after_separator.next.now c.in-Some-after_separator.ensures, c.in_ok-more.ensures.shorter, c.loop-deep.invariant.shorter);
-}
-
-pub steps-loop-deep-smaller : goal.steps-loop-deep-smaller
-steps-loop-deep-smaller t c = omega (arith, shorter_by c.loop-deep.rest.now c.in-Some-after_separator.next.now c.in-Some-after_separator.ensures, c.in_ok-more.ensures.shorter)
-
-pub steps-step-requires-in-Some-after_separator : goal.steps-step-requires-in-Some-after_separator
-steps-step-requires-in-Some-after_separator t c = omega (arith, shorter_by c.loop-deep.rest.now c.in-Some-after_separator.next.now c.in-Some-after_separator.ensures, c.loop-deep.invariant.shorter)
-
-pub steps-returns-in_err-more-clause-no : goal.steps-returns-in_err-more-clause-no
-steps-returns-in_err-more-clause-no t c = handed_on c.from_residual-in_err-more.result c.in_err-more.field-0.0 c.from_residual-in_err-more.ensures.1
-    (steps_fail (map bound c.args.scope.now) c.in-Some-after_separator.deep c.loop-deep.invariant.read c.in-Some-after_separator.ensures c.in_default-after_attribute.ensures) c.in_err-more.ensures.no
-
-pub steps-returns-in-Some-after_attribute-clause-ok : goal.steps-returns-in-Some-after_attribute-clause-ok
-steps-returns-in-Some-after_attribute-clause-ok t c = subst (λ w. p.StepsAt (map bound c.args.scope.now) c.args.is_deep (tokens_of c.args.tokens.now) (steps w) p.dropped (tokens_of c.in-Some-after_attribute.after.now)) (sym c.into_bump_slice-in-Some-after_attribute.ensures)
-    (steps_attribute (map bound c.args.scope.now) c.in-Some-after_separator.deep c.loop-deep.invariant.read c.in-Some-after_separator.ensures c.in-Some-after_attribute.ensures)
-
-pub steps-returns-in-Some-after_attribute-clause-shorter : goal.steps-returns-in-Some-after_attribute-clause-shorter
-steps-returns-in-Some-after_attribute-clause-shorter t c = omega (arith, shorter_by c.loop-deep.rest.now c.in-Some-after_separator.next.now c.in-Some-after_separator.ensures, attribute_shorter c.in-Some-after_separator.next.now c.in-Some-after_attribute.after.now c.in-Some-after_attribute.ensures, c.loop-deep.invariant.shorter)
-
-pub steps-returns-clause-ok : goal.steps-returns-clause-ok
-steps-returns-clause-ok t c = subst (λ w. p.StepsAt (map bound c.args.scope.now) c.args.is_deep (tokens_of c.args.tokens.now) (steps w) (form c.loop-deep.form) (tokens_of c.loop-deep.rest.now)) (sym c.into_bump_slice-2.ensures)
-    (steps_end (map bound c.args.scope.now) c.loop-deep.invariant.read c.in_default-after_separator.ensures)
-
-pub all_tests-primary-requires : goal.all_tests-primary-requires
-all_tests-primary-requires t c = search rules
-
-pub all_tests-returns-clause-shorter : goal.all_tests-returns-clause-shorter
-all_tests-returns-clause-shorter t c = search rules
-
-pub all_tests-returns-in_err-first-clause-no : goal.all_tests-returns-in_err-first-clause-no
-all_tests-returns-in_err-first-clause-no t c = search rules
-
-pub all_tests-returns-in_err-first-clause-ok : goal.all_tests-returns-in_err-first-clause-ok
-all_tests-returns-in_err-first-clause-ok t c = search rules
-
-pub all_tests-returns-in_err-first-clause-shorter : goal.all_tests-returns-in_err-first-clause-shorter
-all_tests-returns-in_err-first-clause-shorter t c = search rules
-
-pub all_tests-returns-in_err-push-2-clause-no : goal.all_tests-returns-in_err-push-2-clause-no
-all_tests-returns-in_err-push-2-clause-no t c = search rules
-
-pub all_tests-returns-in_err-push-2-clause-ok : goal.all_tests-returns-in_err-push-2-clause-ok
-all_tests-returns-in_err-push-2-clause-ok t c = search rules
-
-pub all_tests-returns-in_err-push-2-clause-shorter : goal.all_tests-returns-in_err-push-2-clause-shorter
-all_tests-returns-in_err-push-2-clause-shorter t c = search rules
-
-pub all_tests-returns-in_err-push-clause-no : goal.all_tests-returns-in_err-push-clause-no
-all_tests-returns-in_err-push-clause-no t c = search rules
-
-pub all_tests-returns-in_err-push-clause-ok : goal.all_tests-returns-in_err-push-clause-ok
-all_tests-returns-in_err-push-clause-ok t c = search rules
-
-pub all_tests-returns-in_err-push-clause-shorter : goal.all_tests-returns-in_err-push-clause-shorter
-all_tests-returns-in_err-push-clause-shorter t c = search rules
-
-pub all_tests-returns-in_err-test-clause-ok : goal.all_tests-returns-in_err-test-clause-ok
-all_tests-returns-in_err-test-clause-ok t c = search rules
-
-pub all_tests-returns-in_err-test-clause-shorter : goal.all_tests-returns-in_err-test-clause-shorter
-all_tests-returns-in_err-test-clause-shorter t c = search rules
-
 pub alternative-returns-in_default-after_mark-clause-shorter : goal.alternative-returns-in_default-after_mark-clause-shorter
 alternative-returns-in_default-after_mark-clause-shorter t c = search rules
 
@@ -305,45 +336,6 @@ alternative-slice_bounds-result-end t c = search rules
 
 pub alternative-steps-requires : goal.alternative-steps-requires
 alternative-steps-requires t c = search rules
-
-pub any_tests-all_tests-requires : goal.any_tests-all_tests-requires
-any_tests-all_tests-requires t c = search rules
-
-pub any_tests-returns-clause-shorter : goal.any_tests-returns-clause-shorter
-any_tests-returns-clause-shorter t c = search rules
-
-pub any_tests-returns-in_err-first-clause-no : goal.any_tests-returns-in_err-first-clause-no
-any_tests-returns-in_err-first-clause-no t c = search rules
-
-pub any_tests-returns-in_err-first-clause-ok : goal.any_tests-returns-in_err-first-clause-ok
-any_tests-returns-in_err-first-clause-ok t c = search rules
-
-pub any_tests-returns-in_err-first-clause-shorter : goal.any_tests-returns-in_err-first-clause-shorter
-any_tests-returns-in_err-first-clause-shorter t c = search rules
-
-pub any_tests-returns-in_err-push-2-clause-no : goal.any_tests-returns-in_err-push-2-clause-no
-any_tests-returns-in_err-push-2-clause-no t c = search rules
-
-pub any_tests-returns-in_err-push-2-clause-ok : goal.any_tests-returns-in_err-push-2-clause-ok
-any_tests-returns-in_err-push-2-clause-ok t c = search rules
-
-pub any_tests-returns-in_err-push-2-clause-shorter : goal.any_tests-returns-in_err-push-2-clause-shorter
-any_tests-returns-in_err-push-2-clause-shorter t c = search rules
-
-pub any_tests-returns-in_err-push-clause-no : goal.any_tests-returns-in_err-push-clause-no
-any_tests-returns-in_err-push-clause-no t c = search rules
-
-pub any_tests-returns-in_err-push-clause-ok : goal.any_tests-returns-in_err-push-clause-ok
-any_tests-returns-in_err-push-clause-ok t c = search rules
-
-pub any_tests-returns-in_err-push-clause-shorter : goal.any_tests-returns-in_err-push-clause-shorter
-any_tests-returns-in_err-push-clause-shorter t c = search rules
-
-pub any_tests-returns-in_err-tests-clause-ok : goal.any_tests-returns-in_err-tests-clause-ok
-any_tests-returns-in_err-tests-clause-ok t c = search rules
-
-pub any_tests-returns-in_err-tests-clause-shorter : goal.any_tests-returns-in_err-tests-clause-shorter
-any_tests-returns-in_err-tests-clause-shorter t c = search rules
 
 pub closed_test-any_tests-requires : goal.closed_test-any_tests-requires
 closed_test-any_tests-requires t c = search rules
@@ -387,45 +379,6 @@ primary-returns-in_err-try_alloc-clause-shorter t c = search rules
 pub primary-select-requires : goal.primary-select-requires
 primary-select-requires t c = search rules
 
-pub select-alternative-requires : goal.select-alternative-requires
-select-alternative-requires t c = search rules
-
-pub select-returns-clause-shorter : goal.select-returns-clause-shorter
-select-returns-clause-shorter t c = search rules
-
-pub select-returns-in_err-drops-2-clause-no : goal.select-returns-in_err-drops-2-clause-no
-select-returns-in_err-drops-2-clause-no t c = search rules
-
-pub select-returns-in_err-drops-2-clause-ok : goal.select-returns-in_err-drops-2-clause-ok
-select-returns-in_err-drops-2-clause-ok t c = search rules
-
-pub select-returns-in_err-drops-2-clause-shorter : goal.select-returns-in_err-drops-2-clause-shorter
-select-returns-in_err-drops-2-clause-shorter t c = search rules
-
-pub select-returns-in_err-drops-clause-no : goal.select-returns-in_err-drops-clause-no
-select-returns-in_err-drops-clause-no t c = search rules
-
-pub select-returns-in_err-drops-clause-ok : goal.select-returns-in_err-drops-clause-ok
-select-returns-in_err-drops-clause-ok t c = search rules
-
-pub select-returns-in_err-drops-clause-shorter : goal.select-returns-in_err-drops-clause-shorter
-select-returns-in_err-drops-clause-shorter t c = search rules
-
-pub select-returns-in_err-steps-2-clause-ok : goal.select-returns-in_err-steps-2-clause-ok
-select-returns-in_err-steps-2-clause-ok t c = search rules
-
-pub select-returns-in_err-steps-2-clause-shorter : goal.select-returns-in_err-steps-2-clause-shorter
-select-returns-in_err-steps-2-clause-shorter t c = search rules
-
-pub select-returns-in_err-steps-clause-no : goal.select-returns-in_err-steps-clause-no
-select-returns-in_err-steps-clause-no t c = search rules
-
-pub select-returns-in_err-steps-clause-ok : goal.select-returns-in_err-steps-clause-ok
-select-returns-in_err-steps-clause-ok t c = search rules
-
-pub select-returns-in_err-steps-clause-shorter : goal.select-returns-in_err-steps-clause-shorter
-select-returns-in_err-steps-clause-shorter t c = search rules
-
 pub step-returns-clause-shorter : goal.step-returns-clause-shorter
 step-returns-clause-shorter t c = search rules
 
@@ -453,38 +406,14 @@ step-returns-in_err-test-clause-ok t c = search rules
 pub step-returns-in_err-test-clause-shorter : goal.step-returns-in_err-test-clause-shorter
 step-returns-in_err-test-clause-shorter t c = search rules
 
-pub steps-returns-clause-shorter : goal.steps-returns-clause-shorter
-steps-returns-clause-shorter t c = search rules
+pub all_tests-split_at-requires : goal.all_tests-split_at-requires
+all_tests-split_at-requires t c = omega arith
 
-pub steps-returns-in_err-first-clause-ok : goal.steps-returns-in_err-first-clause-ok
-steps-returns-in_err-first-clause-ok t c = search rules
+pub any_tests-split_at-requires : goal.any_tests-split_at-requires
+any_tests-split_at-requires t c = omega arith
 
-pub steps-returns-in_err-first-clause-shorter : goal.steps-returns-in_err-first-clause-shorter
-steps-returns-in_err-first-clause-shorter t c = search rules
+pub select-split_at-requires : goal.select-split_at-requires
+select-split_at-requires t c = omega arith
 
-pub steps-returns-in_err-more-clause-ok : goal.steps-returns-in_err-more-clause-ok
-steps-returns-in_err-more-clause-ok t c = search rules
-
-pub steps-returns-in_err-more-clause-shorter : goal.steps-returns-in_err-more-clause-shorter
-steps-returns-in_err-more-clause-shorter t c = search rules
-
-pub steps-returns-in_err-push-2-clause-no : goal.steps-returns-in_err-push-2-clause-no
-steps-returns-in_err-push-2-clause-no t c = search rules
-
-pub steps-returns-in_err-push-2-clause-ok : goal.steps-returns-in_err-push-2-clause-ok
-steps-returns-in_err-push-2-clause-ok t c = search rules
-
-pub steps-returns-in_err-push-2-clause-shorter : goal.steps-returns-in_err-push-2-clause-shorter
-steps-returns-in_err-push-2-clause-shorter t c = search rules
-
-pub steps-returns-in_err-push-clause-no : goal.steps-returns-in_err-push-clause-no
-steps-returns-in_err-push-clause-no t c = search rules
-
-pub steps-returns-in_err-push-clause-ok : goal.steps-returns-in_err-push-clause-ok
-steps-returns-in_err-push-clause-ok t c = search rules
-
-pub steps-returns-in_err-push-clause-shorter : goal.steps-returns-in_err-push-clause-shorter
-steps-returns-in_err-push-clause-shorter t c = search rules
-
-pub steps-step-requires : goal.steps-step-requires
-steps-step-requires t c = search rules
+pub steps-split_at-requires : goal.steps-split_at-requires
+steps-split_at-requires t c = omega arith

@@ -3,9 +3,11 @@ use Rattle.std.proofs.lemmas.Option.{slice_get-get_or}
 use Rattle.tc_incl.specs.declared.rows.Row.{Row}
 use Rattle.tc_incl.specs.declared.steps.BothSteps.{BothSteps}
 use Rattle.tc_incl.specs.Held.{IsHedgeFit, IsAppended, NoAppended}
-use Rattle.tc_incl.specs.Covers.{AreHeld, State}
+use Rattle.tc_incl.specs.Covers.{AreHeld, State, held_of, state_of}
 use Rattle.tc_incl.specs.Stepped.{AreStepped}
-use Rattle.tc_incl.proofs.Holding.{append_at, as_hedge, hedge_fit_at, hedge_held, hedge_low, more_hedges, no_append_at, row_of, same_hedges, tree_fit_at, tree_low}
+use Rattle.tc_incl.specs.Wraps.{AreKnown}
+use Rattle.tc_incl.proofs.Alike.{known_on}
+use Rattle.tc_incl.proofs.Holding.{append_at, as_hedge, hedge_fit_at, hedge_grows, hedge_held, hedge_low, more_hedges, no_append_at, row_of, same_hedges, tree_fit_at, tree_low}
 use Rattle.tc_incl.proofs.Stepped.{steps_at, stepped_held}
 use Rattle.tc_incl.proofs.covers.CoversNumberedRows.append.Goals as goal
 
@@ -83,6 +85,7 @@ invariant_of-self-in_default-hold g c =
     let ss = c.step_to.new.steps.items in (
       subst (λ w. AreHeld of b w ts) (sym c.in_default-hold.ensures.err) c.self.invariant.0,
       subst (λ w. AreStepped b w ss) (sym c.in_default-hold.ensures.err) (subst (λ w. AreStepped b w ss) c.as_slice.ensures.keys c.in-Ok.ensures.stepped),
+      subst (λ w. AreKnown (held_of of (state_of b w ts)) b.kinds.items c.self.inside.wraps) (sym c.in_default-hold.ensures.err) c.self.invariant.2,
     )
 
 pub returns-in_default-hold-clause-grows : goal.returns-in_default-hold-clause-grows
@@ -106,6 +109,7 @@ invariant_of-self-2 g c =
     let fact : IsHedgeFit b c.in-Some.row × IsAppended b c.index-as_slice-hedge.result c.index-as_slice-tree.result c.in-Some.row = subst (λ o. MatchOption o (NoAppended b c.index-as_slice-hedge.result c.index-as_slice-tree.result) (λ (r : Row). IsHedgeFit b r × IsAppended b c.index-as_slice-hedge.result c.index-as_slice-tree.result r)) c.in-Some.is c.in-Ok-appended.ensures.made in (
       hedge_held of b hs ts c.self.invariant.0 ks u c.in-Some.row held.held held.kept held.different fact.0,
       stepped_held b hs ks u c.in-Some.row ss held.kept (subst (λ w. AreStepped b w ss) c.as_slice.ensures.keys c.in-Ok.ensures.stepped),
+      known_on (held_of of (state_of b hs ts)) (held_of of (state_of b ks ts)) b.kinds.items c.self.inside.wraps (hedge_grows of b hs ts c.self.invariant.0 ks u c.in-Some.row held.held held.kept) c.self.invariant.2,
     )
 
 pub returns-clause-grows : goal.returns-clause-grows

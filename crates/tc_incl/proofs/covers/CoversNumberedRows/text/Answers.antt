@@ -1,7 +1,10 @@
-use Rattle.std.proofs.Common.{subst, MatchOption}
+use Rattle.std.proofs.Common.{sym, subst, MatchOption}
 use Rattle.tc_incl.specs.declared.rows.Row.{Row}
 use Rattle.tc_incl.specs.Held.{IsTreeFit, IsText, NoText}
-use Rattle.tc_incl.proofs.Holding.{as_tree, more_trees, same_trees, text_at, tree_held}
+use Rattle.tc_incl.specs.Covers.{AreHeld, held_of, state_of}
+use Rattle.tc_incl.specs.Wraps.{AreKnown}
+use Rattle.tc_incl.proofs.Alike.{known_on}
+use Rattle.tc_incl.proofs.Holding.{as_tree, more_trees, same_trees, text_at, tree_grows, tree_held}
 use Rattle.tc_incl.proofs.covers.CoversNumberedRows.text.Goals as goal
 
 pub returns-in_default-hold-clause-grows : goal.returns-in_default-hold-clause-grows
@@ -21,8 +24,11 @@ invariant_of-self-2 g c =
     let ks = c.hold.new.rows.keys in
     let u = c.in-Ok-hold.number in
     let held = c.in-Ok-hold.ensures in
-    let fact : IsTreeFit b c.in-Some.row × IsText b c.in-Some.row = subst (λ o. MatchOption o (NoText b) (λ (r : Row). IsTreeFit b r × IsText b r)) c.in-Some.is c.in-Ok.ensures.made in
-    (tree_held of b hs ts c.self.invariant.0 ks u c.in-Some.row held.held held.kept held.different fact.0, c.self.invariant.1)
+    let fact : IsTreeFit b c.in-Some.row × IsText b c.in-Some.row = subst (λ o. MatchOption o (NoText b) (λ (r : Row). IsTreeFit b r × IsText b r)) c.in-Some.is c.in-Ok.ensures.made in (
+      tree_held of b hs ts c.self.invariant.0 ks u c.in-Some.row held.held held.kept held.different fact.0,
+      c.self.invariant.1,
+      known_on (held_of of (state_of b hs ts)) (held_of of (state_of b hs ks)) b.kinds.items c.self.inside.wraps (tree_grows of b hs ts c.self.invariant.0 ks u c.in-Some.row held.held held.kept) c.self.invariant.2,
+    )
 
 pub returns-clause-grows : goal.returns-clause-grows
 returns-clause-grows g c =
@@ -46,3 +52,14 @@ returns-clause-made g c =
     let held = c.in-Ok-hold.ensures in
     let fact : IsTreeFit b c.in-Some.row × IsText b c.in-Some.row = subst (λ o. MatchOption o (NoText b) (λ (r : Row). IsTreeFit b r × IsText b r)) c.in-Some.is c.in-Ok.ensures.made in
     (text_at of b hs ts c.self.invariant.0 ks u c.in-Some.row held.held held.kept fact.1, as_tree of b hs ts c.self.invariant.0 c.args.self.now c.self.view_is ks u c.in-Some.row held.held held.kept)
+
+pub invariant_of-self : goal.invariant_of-self
+invariant_of-self g c =
+    let of = g.K.Over.is_of in
+    let b = c.self.inside.both in
+    let hs = c.self.inside.hedges.keys in
+    let same = sym c.in_default-hold.ensures.err in (
+      subst (λ w. AreHeld of b hs w) same c.self.invariant.0,
+      c.self.invariant.1,
+      subst (λ w. AreKnown (held_of of (state_of b hs w)) b.kinds.items c.self.inside.wraps) same c.self.invariant.2,
+    )

@@ -1,116 +1,36 @@
-use Rattle.std.proofs.Common.{◌≡◌, ◌<◌, subst, sym, ◌∙◌, ap, refl, length, MatchOption, Some, slice_get}
-use Rattle.std.proofs.lemmas.Option.{slice_get-get_or}
-use Rattle.tc_incl.specs.declared.rows.Row.{Row}
-use Rattle.tc_incl.specs.declared.steps.BothSteps.{BothSteps}
-use Rattle.tc_incl.specs.Covers.{AreHeld, State}
-use Rattle.tc_incl.specs.Held.{IsTreeFit, IsWrapped, NoWrapped}
-use Rattle.tc_incl.specs.Stepped.{AreStepped}
-use Rattle.tc_incl.proofs.Holding.{as_tree, hedge_fit_at, hedge_low, more_trees, no_wrap_at, same_trees, tree_held, wrap_at}
-use Rattle.tc_incl.proofs.Stepped.{stepped_at}
+use Rattle.std.proofs.Common.{◌<◌, ◌∙◌, sym, subst, ap, length, MatchOption}
+use Rattle.tc_settle.specs.Held.{Grows, IsHeldAs, IsUnchanged, IsWrapAt}
+use Rattle.tc_incl.specs.Covers.{State, held_of}
+use Rattle.tc_incl.proofs.Alike.{told_again, told_of}
+use Rattle.tc_incl.proofs.Holding.{grows_itself}
 use Rattle.tc_incl.proofs.covers.CoversNumberedRows.wrap.Goals as goal
 
-pub step_to-requires-clause-hedge : goal.step_to-requires-clause-hedge
-step_to-requires-clause-hedge g c =
-    subst (λ l. c.args.hedge < length l) (sym c.as_slice.ensures.keys)
-    (hedge_low g.K.Over.is_of c.self.inside.both c.self.inside.hedges.keys c.self.inside.trees.keys c.self.invariant.0 c.args.self.now c.self.view_is c.args.hedge c.requires.hedge)
+pub returns-in-Some-clause-grows : goal.returns-in-Some-clause-grows
+returns-in-Some-clause-grows g c = grows_itself g.K.Over.is_of c.args.self.now
 
-pub returns-in_default-clause-grows : goal.returns-in_default-clause-grows
-returns-in_default-clause-grows g c =
-    same_trees g.K.Over.is_of c.self.inside.both c.self.inside.hedges.keys c.self.inside.trees.keys c.self.invariant.0 c.args.self.now c.self.view_is c.self.inside.trees.keys refl
+pub returns-in-Some-clause-made : goal.returns-in-Some-clause-made
+returns-in-Some-clause-made g c = told_again (held_of g.K.Over.is_of c.args.self.now) c.args.symbol c.args.hedge c.in-Some.made c.in-Some.ensures
 
-pub wrapped-requires-clause-steps : goal.wrapped-requires-clause-steps
-wrapped-requires-clause-steps g c =
-    let b = c.self.inside.both in
-    let hs = c.self.inside.hedges.keys in
-    let ss = c.step_to.new.steps.items in
-    let t : BothSteps = c.index.result.now in
-    let at : slice_get ss c.args.hedge ≡ Some t = slice_get-get_or ss c.args.hedge t c.in-Ok.ensures.there ∙ ap Some (sym c.index.ensures) in
-    let (p, there, are) = stepped_at b hs c.as_slice.result.now ss c.args.hedge t c.as_slice.ensures.keys c.in-Ok.ensures.stepped at in
-    (p, are)
+pub learn_wrap-requires-clause-symbol : goal.learn_wrap-requires-clause-symbol
+learn_wrap-requires-clause-symbol g c = subst (λ n. c.args.symbol < n) (sym c.wrap_new.ensures.grows.symbols) c.requires.symbol
 
-pub returns-in_default-wrapped-clause-grows : goal.returns-in_default-wrapped-clause-grows
-returns-in_default-wrapped-clause-grows g c =
-    same_trees g.K.Over.is_of c.self.inside.both c.self.inside.hedges.keys c.self.inside.trees.keys c.self.invariant.0 c.args.self.now c.self.view_is c.self.inside.trees.keys refl
+pub learn_wrap-requires-clause-hedge : goal.learn_wrap-requires-clause-hedge
+learn_wrap-requires-clause-hedge g c = subst (λ n. c.args.hedge < n) (sym c.wrap_new.ensures.hedges) c.requires.hedge
 
-pub returns-in_default-made-clause-grows : goal.returns-in_default-made-clause-grows
-returns-in_default-made-clause-grows g c =
-    same_trees g.K.Over.is_of c.self.inside.both c.self.inside.hedges.keys c.self.inside.trees.keys c.self.invariant.0 c.args.self.now c.self.view_is c.self.inside.trees.keys refl
-
-pub returns-in_default-made-clause-made : goal.returns-in_default-made-clause-made
-returns-in_default-made-clause-made g c =
+pub learn_wrap-requires-clause-told : goal.learn_wrap-requires-clause-told
+learn_wrap-requires-clause-told g c =
     let of = g.K.Over.is_of in
-    let b = c.self.inside.both in
-    let hs = c.self.inside.hedges.keys in
-    let ts = c.self.inside.trees.keys in
-    let ss = c.step_to.new.steps.items in
-    let t : BothSteps = c.index.result.now in
-    let at : slice_get ss c.args.hedge ≡ Some t = slice_get-get_or ss c.args.hedge t c.in-Ok.ensures.there ∙ ap Some (sym c.index.ensures) in
-    let (p, there, are) = stepped_at b hs c.as_slice.result.now ss c.args.hedge t c.as_slice.ensures.keys c.in-Ok.ensures.stepped at in
-    let fit = hedge_fit_at b hs c.args.hedge p there c.self.invariant.0.hedges_fit in
-    let made = c.in-Ok-wrapped.ensures.made p fit are in
-    let dead : NoWrapped b c.args.symbol p = subst (λ o. MatchOption o (NoWrapped b c.args.symbol p) (λ (r : Row). IsTreeFit b r × IsWrapped b c.args.symbol p r)) c.in_default-made.is made in (
-      no_wrap_at of b hs ts c.self.invariant.0 c.args.symbol c.args.hedge p there dead,
-      (ap (λ (s : State). length s.trees) c.self.view_is, ap (λ (s : State). length s.hedges) c.self.view_is),
-    )
-
-pub returns-in_default-hold-clause-grows : goal.returns-in_default-hold-clause-grows
-returns-in_default-hold-clause-grows g c =
-    let of = g.K.Over.is_of in
-    let b = c.self.inside.both in
-    let hs = c.self.inside.hedges.keys in
-    let ts = c.self.inside.trees.keys in
-    same_trees of b hs ts c.self.invariant.0 c.args.self.now c.self.view_is c.hold.new.rows.keys c.in_default-hold.ensures.err
-
-pub invariant_of-self-in_default-hold : goal.invariant_of-self-in_default-hold
-invariant_of-self-in_default-hold g c =
-    let of = g.K.Over.is_of in
-    let b = c.self.inside.both in
-    let hs = c.self.inside.hedges.keys in
-    let ts = c.self.inside.trees.keys in
-    let ss = c.step_to.new.steps.items in
-    (subst (λ w. AreHeld of b hs w) (sym c.in_default-hold.ensures.err) c.self.invariant.0, subst (λ w. AreStepped b w ss) c.as_slice.ensures.keys c.in-Ok.ensures.stepped)
-
-pub invariant_of-self-2 : goal.invariant_of-self-2
-invariant_of-self-2 g c =
-    let of = g.K.Over.is_of in
-    let b = c.self.inside.both in
-    let hs = c.self.inside.hedges.keys in
-    let ts = c.self.inside.trees.keys in
-    let ks = c.hold.new.rows.keys in
-    let u = c.in-Ok-hold.number in
-    let held = c.in-Ok-hold.ensures in
-    let ss = c.step_to.new.steps.items in
-    let t : BothSteps = c.index.result.now in
-    let at : slice_get ss c.args.hedge ≡ Some t = slice_get-get_or ss c.args.hedge t c.in-Ok.ensures.there ∙ ap Some (sym c.index.ensures) in
-    let (p, there, are) = stepped_at b hs c.as_slice.result.now ss c.args.hedge t c.as_slice.ensures.keys c.in-Ok.ensures.stepped at in
-    let fit = hedge_fit_at b hs c.args.hedge p there c.self.invariant.0.hedges_fit in
-    let fact : IsTreeFit b c.in-Some.row × IsWrapped b c.args.symbol p c.in-Some.row = subst (λ o. MatchOption o (NoWrapped b c.args.symbol p) (λ (r : Row). IsTreeFit b r × IsWrapped b c.args.symbol p r)) c.in-Some.is (c.in-Ok-wrapped.ensures.made p fit are) in
-    (tree_held of b hs ts c.self.invariant.0 ks u c.in-Some.row held.held held.kept held.different fact.0, subst (λ w. AreStepped b w ss) c.as_slice.ensures.keys c.in-Ok.ensures.stepped)
+    told_of (held_of of c.args.self.now) (held_of of c.wrap_new.new.self) c.args.symbol c.args.hedge c.in-Ok.made c.in-Ok.ensures.made
 
 pub returns-clause-grows : goal.returns-clause-grows
-returns-clause-grows g c =
-    let of = g.K.Over.is_of in
-    let b = c.self.inside.both in
-    let hs = c.self.inside.hedges.keys in
-    let ts = c.self.inside.trees.keys in
-    let ks = c.hold.new.rows.keys in
-    let u = c.in-Ok-hold.number in
-    let held = c.in-Ok-hold.ensures in
-    more_trees of b hs ts c.self.invariant.0 c.args.self.now c.self.view_is ks u c.in-Some.row held.held held.kept
+returns-clause-grows g c = let of = g.K.Over.is_of in subst (λ (s : State). Grows (held_of of c.args.self.now) (held_of of s)) (sym c.learn_wrap.ensures) c.in-Ok.ensures.grows
+
+pub returns-clause-hedges : goal.returns-clause-hedges
+returns-clause-hedges g c = ap (λ (s : State). length s.hedges) c.learn_wrap.ensures ∙ c.in-Ok.ensures.hedges
 
 pub returns-clause-made : goal.returns-clause-made
 returns-clause-made g c =
     let of = g.K.Over.is_of in
-    let b = c.self.inside.both in
-    let hs = c.self.inside.hedges.keys in
-    let ts = c.self.inside.trees.keys in
-    let ks = c.hold.new.rows.keys in
-    let u = c.in-Ok-hold.number in
-    let held = c.in-Ok-hold.ensures in
-    let ss = c.step_to.new.steps.items in
-    let t : BothSteps = c.index.result.now in
-    let at : slice_get ss c.args.hedge ≡ Some t = slice_get-get_or ss c.args.hedge t c.in-Ok.ensures.there ∙ ap Some (sym c.index.ensures) in
-    let (p, there, are) = stepped_at b hs c.as_slice.result.now ss c.args.hedge t c.as_slice.ensures.keys c.in-Ok.ensures.stepped at in
-    let fit = hedge_fit_at b hs c.args.hedge p there c.self.invariant.0.hedges_fit in
-    let fact : IsTreeFit b c.in-Some.row × IsWrapped b c.args.symbol p c.in-Some.row = subst (λ o. MatchOption o (NoWrapped b c.args.symbol p) (λ (r : Row). IsTreeFit b r × IsWrapped b c.args.symbol p r)) c.in-Some.is (c.in-Ok-wrapped.ensures.made p fit are) in
-    (wrap_at of b hs ts c.self.invariant.0 ks u c.in-Some.row held.held held.kept c.args.symbol c.args.hedge p there fact.1, as_tree of b hs ts c.self.invariant.0 c.args.self.now c.self.view_is ks u c.in-Some.row held.held held.kept)
+    let old = held_of of c.args.self.now in
+    subst (λ (s : State). MatchOption c.in-Ok.made ((held_of of s).no_wrap c.args.symbol c.args.hedge × IsUnchanged old (held_of of s)) (λ u. IsWrapAt (held_of of s) c.args.symbol c.args.hedge u × IsHeldAs old.trees (length s.trees) u))
+    (sym c.learn_wrap.ensures) c.in-Ok.ensures.made

@@ -1,16 +1,15 @@
-use Rattle.std.proofs.Common.{◌≡◌, ap, ◌∙◌, sym, Some, slice_get}
-use Rattle.std.proofs.lemmas.Option.{slice_get-get_or}
 use Rattle.tc_model.specs.Symbols.{fresh_name}
 use Rattle.tc_incl.specs.Sides.{IsAllowed, IsTaken}
-use Rattle.tc_incl.proofs.Stepped.{allowed_and_taken}
+use Rattle.tc_incl.proofs.Stepped.{allowed_and_taken, some_at}
 use Rattle.tc_incl.proofs.sides.Side.around.Goals as goal
 
 pub returns-clause-numbers : goal.returns-clause-numbers
 returns-clause-numbers c = λ x states symbols st are allowed.
-    let sets = c.args.self.now.allowed.items in
-    let at : slice_get sets c.args.symbol ≡ Some c.index.result.now = slice_get-get_or sets c.args.symbol c.index.result.now c.requires.symbol ∙ ap Some (sym c.index.ensures) in
-    allowed_and_taken c.index.result.now c.in_ok-around.around c.add_all.new.self c.keep_all.new.self c.args.steps.now.taken (IsAllowed x (fresh_name symbols c.args.symbol)) (IsTaken x states) c.in_ok-around.ensures.numbers
-    c.add_all.ensures.numbers c.keep_all.ensures.numbers (λ k. allowed c.args.symbol c.index.result.now at k) (are.taken x st)
+    let (s, at) = some_at c.args.self.now.allowed.items c.args.symbol c.requires.symbol in
+    let same = c.in_ok-around.ensures.numbers s at in
+    let holds = allowed c.args.symbol s at in
+    allowed_and_taken c.in_ok-around.around c.keep_all.new.self c.args.steps.now.taken (IsAllowed x (fresh_name symbols c.args.symbol)) (IsTaken x states) c.keep_all.ensures.numbers
+    (λ k. (λ h. (holds k).0 ((same k).0 h), λ a. (same k).1 ((holds k).1 a))) (are.taken x st)
 
 pub returns-clause-from_one : goal.returns-clause-from_one
 returns-clause-from_one c = let are = c.requires.steps.1 in λ h. are.from_one ((c.keep_all.ensures.numbers 0).0 h).1

@@ -1,0 +1,151 @@
+#!/usr/bin/env python3
+"""Compares `typecheck prove` with the plain verifier's closure on random small triples of two schemas and a stylesheet.
+
+random_triples.py PROGRAM [COUNT [FIRST]]   so many triples (300), with the seeds from the first (1) on
+
+Where the plain closure finds the triple safe, `prove` prints its least certificate, byte by byte; else its status is that of
+an unsafe one. So numbers of states, symbols, predicates, moves and looks are compared, and the meaning of bodies. Triples with
+many rows are passed over.
+"""
+import random
+import subprocess
+import sys
+import tempfile
+from pathlib import Path
+
+sys.path.insert(0, str(Path(__file__).resolve().parent / "verifier"))
+
+from closure import TooMany, Unsafe, proved  # noqa: E402
+from rows import Machine  # noqa: E402
+from text import write  # noqa: E402
+
+MOST = 120
+CLASSES = ["a", "b", "c", "a | b", "* - a", "*", "p:e", "p:*", "p:* - p:e", "(a | p:e)", "* - (a | p:*)"]
+TESTS = ["a", "not(b)", "a or text()", "a and not(b/c)", "true()", "(a)"]
+SELECTS = ["a", "*", "node()", "text()", "a/b", ".//a", "a//b", "a|b", "child::b", "p:*", "p:e", "@k", "a|@k", "*/*", ".//text()"]
+PATTERNS = ["a", "b", "*", "text()", "node()", "/", "/a", "//b", "a/b", "a//b", "a|b", "p:*", "p:e", "a|@k", "comment()|b", "*/*/a"]
+VALUES = ["a", ".", "*", ".//text()", "a|b", "b/c"]
+MODES = ["", ' mode="m"', ' mode="k"']
+
+
+class Maker:
+    """Makes the texts of one triple."""
+
+    def __init__(self, seed):
+        self.chance = random.Random(seed)
+        self.predicates = self.chance.sample(TESTS, 2)
+
+    def one(self, *choices):
+        return self.chance.choice(choices)
+
+    def content(self, references, depth):
+        kind = self.chance.randrange(12 if depth else 5)
+        if kind < 2:
+            return self.one(*references)
+        if kind == 2:
+            return self.one("text", "empty", "empty", "attribute k { text }")
+        if kind == 3:
+            return self.one(*references) + self.one("*", "?", "+")
+        if kind == 4:
+            return self.one("text", "notAllowed", "empty") if self.chance.random() < 0.3 else self.one(*references)
+        if kind == 11:
+            return f"mixed {{ {self.content(references, depth - 1)} }}"
+        parts = [self.content(references, depth - 1) for _ in range(self.chance.randrange(2, 4))]
+        return f"({self.one(' , ', ' | ', ' & ').join(parts)}){self.one('', '', '*', '?')}"
+
+    def schema(self, letter, wide):
+        """Some element patterns; a wide schema has a root that holds anything."""
+        references = [f"{letter}{number}" for number in range(1, self.chance.randrange(2, 5))]
+        starts = self.chance.sample(references, self.chance.randrange(1, len(references) + 1))
+        text = f'namespace p = "u"\nstart = {"root" if wide else " | ".join(starts)}\n'
+        if wide:
+            text += f"root = element * {{ (text | root | {' | '.join(references)})* }}\n"
+        for reference in references:
+            text += f"{reference} = element {self.one(*CLASSES)} {{ {self.content(references, 2)} }}\n"
+        return text
+
+    def path(self, paths):
+        path = self.one(*paths)
+        if self.chance.random() < 0.25 and "@" not in path and "(" not in path and path not in (".", "/"):
+            path += f"[{self.one(*self.predicates)}]"
+        return path
+
+    def test(self):
+        return self.one(*TESTS, self.path(["a", "b", "*", "a/b", ".//b"]), "false()")
+
+    def body(self, depth, calls):
+        return "".join(self.instruction(depth, calls) for _ in range(self.chance.randrange(0, 4)))
+
+    def instruction(self, depth, calls):
+        kind = self.chance.randrange(12 if depth else 6)
+        if kind < 2:
+            select = f' select="{self.path(SELECTS)}"' if self.chance.random() < 0.6 else ""
+            return f"<xsl:apply-templates{select}{self.one(*MODES)}/>"
+        if kind == 2:
+            return self.one("x", "<xsl:text> </xsl:text>", "x<!-- -->y", "<y/>")
+        if kind == 3:
+            return f'<xsl:value-of select="{self.path(VALUES)}"/>'
+        if kind == 4:
+            return f'<xsl:call-template name="{self.one(*calls)}"/>' if calls else "<a/>"
+        if kind == 5:
+            return self.one("<a/>", '<xsl:attribute name="k">v</xsl:attribute>', '<xsl:copy-of select="@*"/>', "<b k=\"v\"/>")
+        inner = self.body(depth - 1, calls)
+        if kind == 6:
+            return self.one(f"<a>{inner}</a>", f'<xsl:element name="p:e">{inner}</xsl:element>', f"<p:f>{inner}</p:f>")
+        if kind == 7:
+            return f"<xsl:copy>{inner}</xsl:copy>"
+        if kind == 8:
+            return f'<xsl:for-each select="{self.path(SELECTS)}">{inner}</xsl:for-each>'
+        if kind == 9:
+            return f'<xsl:if test="{self.test()}">{inner}</xsl:if>'
+        others = f"<xsl:otherwise>{self.body(depth - 1, calls)}</xsl:otherwise>" if self.chance.random() < 0.6 else ""
+        return f'<xsl:choose><xsl:when test="{self.test()}">{inner}</xsl:when>{others}</xsl:choose>'
+
+    def sheet(self):
+        names = ["t1", "t2"][: self.chance.randrange(3)]
+        templates = [f'<xsl:template name="{name}">{self.body(1, names[:place])}</xsl:template>' for place, name in enumerate(names)]
+        for _ in range(self.chance.randrange(1, 5)):
+            priority = self.one("", "", "", ' priority="1"', ' priority="-.5"')
+            match = f' match="{self.path(PATTERNS)}"{priority}{self.one(*MODES, "", "")}'
+            templates.append(f"<xsl:template{match}>{self.body(2, names)}</xsl:template>")
+        if self.chance.random() < 0.7:
+            templates.append(f'<xsl:template match="/"><r>{self.body(2, names)}</r></xsl:template>')
+        self.chance.shuffle(templates)
+        head = '<xsl:stylesheet version="1.0" xmlns:xsl="http://www.w3.org/1999/XSL/Transform" xmlns:p="u">'
+        return f"{head}{''.join(templates)}</xsl:stylesheet>"
+
+    def triple(self):
+        return tuple(text.encode() for text in (self.schema("e", False), self.schema("o", self.chance.random() < 0.7), self.sheet()))
+
+
+def expected(texts):
+    """The status and the certificate, or None where there are many rows."""
+    try:
+        return 0, write(proved(Machine(*texts), MOST), 2)
+    except Unsafe:
+        return 1, None
+    except TooMany:
+        return None
+
+
+def main():
+    program = str(Path(sys.argv[1]).resolve())
+    count, first = (int(word) for word in (sys.argv[2:] + ["300", "1"][len(sys.argv) - 2 :])[:2])
+    sys.setrecursionlimit(20000)
+    work = Path(tempfile.mkdtemp())
+    told = {0: 0, 1: 0, None: 0}
+    for seed in range(first, first + count):
+        texts = Maker(seed).triple()
+        wanted = expected(texts)
+        told[wanted and wanted[0]] += 1
+        if wanted is None:
+            continue
+        for name, text in zip("IOS", texts):
+            (work / name).write_bytes(text)
+        done = subprocess.run([program, "prove", "I", "O", "S"], cwd=work, stdout=subprocess.PIPE, check=False)
+        if done.returncode != wanted[0] or (wanted[1] is not None and done.stdout != wanted[1]):
+            sys.exit(f"{work}, seed {seed}: {done.returncode} {done.stdout[:400]}, and by the plain closure {wanted}")
+    print(f"{told[0]} safe, {told[1]} not safe, {told[None]} passed over")
+
+
+main()
