@@ -7,7 +7,7 @@
 `covers` has nearly as many cover rows as there may be, over nearly as many states. A row of a tree tells its name, one of
 NAMES and one more, and which of KEYS stands alone in it; each tree matches MATCHED element patterns beside these. A row of
 a list of trees tells which of the last WINDOW trees have one of the first names, and how many trees there are, up to
-multiples of CYCLE. With 43 43 7 15 88 there are nearly 2,000 rows of each kind, over 509 states. ALIKE (0) names more are
+multiples of CYCLE. With 42 42 7 15 88 there are nearly 2,000 rows of each kind, over some 500 states. ALIKE (0) names more are
 in the class of the first names and in no other, so that nothing tells them apart.
 """
 import sys
