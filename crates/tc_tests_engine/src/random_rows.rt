@@ -255,6 +255,34 @@ fn told_by_definition<'b>(
     Ok(Told::Live { is_valid, is_fit })
 }
 
+/// Does a random step. Of an element that it makes, what is told by its row and by definition.
+fn told_of_step<'b>(
+    alloc: Global,
+    arena: &'b Bump,
+    dice: &mut Dice,
+    machine: &Machine<'b>,
+    schemas: &Schemas<'_>,
+    rows: &mut Rows<'_, '_>,
+    hedges: &mut Vec<HRow>,
+    trees: &mut Vec<TRow>,
+    texts: &mut Texts,
+) -> Result<Option<(Told, Told)>, Fail>
+    requires machine { IsMachine machine.now }
+    requires kept { AreKept rows.old hedges.old.items trees.old.items }
+    ensures { AreKept rows.new hedges.new.items trees.new.items }
+{
+    if dice.roll(3) > 0 {
+        append_some(alloc, dice, rows, hedges, trees, texts)?;
+        return Ok(None);
+    }
+    let (by_row, text) = wrap_some(alloc, dice, rows, hedges, trees, texts)?;
+    let by_definition = told_by_definition(alloc, arena, machine, schemas, text.as_str())?;
+    if by_row != Told::Dead {
+        texts.trees.push(text)?;
+    }
+    Ok(Some((by_row, by_definition)))
+}
+
 /// Does random steps, and counts what is told of the elements that they make.
 fn told_of_steps<'b>(
     alloc: Global,
@@ -272,15 +300,11 @@ fn told_of_steps<'b>(
 {
     let mut tally = Tally::new();
     for _ in 0..STEPS {
-        if dice.roll(3) > 0 {
-            append_some(alloc, dice, rows, hedges, trees, texts)?;
-        } else {
-            let (told, text) = wrap_some(alloc, dice, rows, hedges, trees, texts)?;
-            let is = told_by_definition(alloc, arena, machine, schemas, text.as_str())?;
-            tally.count(told, is);
-            if told != Told::Dead {
-                texts.trees.push(text)?;
-            }
+        let told = told_of_step(
+            alloc, arena, dice, machine, schemas, rows, hedges, trees, texts,
+        )?;
+        if let Some((by_row, by_definition)) = told {
+            tally.count(by_row, by_definition);
         }
     }
     Ok(tally)
