@@ -5,7 +5,7 @@ use Rattle.tc_model.specs.Sheets.{Path, CallFreeBody, p_done, p_text, p_element,
 use Rattle.tc_model.specs.States.{output, text_leaf, ref_leaf}
 use Rattle.tc_model.specs.PathStates.{first_state}
 use Rattle.tc_model.specs.Symbols.{symbol_of}
-use Rattle.tc_model.specs.Trees.{is_all_white}
+use Rattle.tc_model.specs.Trees.{is_white_space_only}
 use Rattle.tc_model.proofs.StatesParts.{edge_within}
 use Rattle.tc_rows.specs.Triples.{Triple, sheet, outputs, moves, number, moving}
 use Rattle.tc_rows.specs.PairSets.{PairSet, HaveSamePairs, identity, product, chosen, listed}
@@ -59,7 +59,7 @@ module _ (x : Triple) where
     mutual
       pub starts : (b : CallFreeBody) → StartsBelow (outputs x) (body_pairs x b k w)
       starts p_done i j h = h.0
-      starts (p_text s b) i j (l, h, t) = chosen_starts (outputs x) (is_all_white s) (stay x) (text_edges x) stay_starts edge_starts i l h
+      starts (p_text s b) i j (l, h, t) = chosen_starts (outputs x) (is_white_space_only s) (stay x) (text_edges x) stay_starts edge_starts i l h
       starts (p_element n inner b) i j (l, h, t) = around_starts (symbol_of x.symbols n) (body_pairs x inner k w) i l h
       starts (p_copy inner b) i j (l, h, t) = copied_starts k (body_pairs x inner k w) (starts inner) i l h
       starts (p_apply p mode b) i j (l, h, t) = low mode p i l h

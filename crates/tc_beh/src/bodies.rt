@@ -27,7 +27,7 @@ use crate::sets::{put_behind, put_identity};
 use tc_alpha::{Alphabet, Sym};
 use tc_hedge::Hedge;
 use tc_mat::{Mat, MatId};
-use tc_model::{Branch, Instr, NodeTest, Path, Step, Test, is_all_white};
+use tc_model::{Branch, Instr, NodeTest, Path, Step, Test, is_white_space_only};
 use tc_rules::{Job, Rules};
 
 /// All children of a node.
@@ -130,7 +130,7 @@ fn put_instruction(place: &Place<'_, '_>, instruction: &Instr<'_>, out: &mut Mat
         (product (has out.old) (put_pairs x (kind_of place.now.node) (below_of x place.now) (called_by place.now) (see.instruction instruction.now rest))) }
 {
     match instruction {
-        Instr::Text(text) => put_text_if(place, !is_all_white(text), out, spare),
+        Instr::Text(text) => put_text_if(place, !is_white_space_only(text), out, spare),
         Instr::Elem(name, inner) => {
             let sym = place.alphabet.sym_of(name);
             put_element(place, sym, inner, out, spare)

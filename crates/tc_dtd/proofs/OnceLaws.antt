@@ -5,7 +5,7 @@ use Rattle.std.proofs.lemmas.Bool.{true≢false}
 use Rattle.std.proofs.lemmas.List.{drop_more, map-append, take_all, take_more}
 use Rattle.indexmap.specs.IndexSet.{insert_key}
 use Rattle.tc_dtd.specs.DtdText.{names_of, FirstAgain}
-use Rattle.tc_dtd.specs.Seen.{placed}
+use Rattle.tc_dtd.specs.PlacedViews.{placed}
 use Rattle.tc_dtd.specs.Views.{names}
 use Rattle.tc_dtd.specs.declared.markup.Placed.{Placed}
 use Rattle.tc_dtd.proofs.NamedLaws.{in_first, in_rest, same_bytes}

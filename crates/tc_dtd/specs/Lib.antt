@@ -8,7 +8,7 @@ pub mod DtdGrammar
 pub mod Views
 pub mod Stops
 pub mod Faults
-pub mod Seen
+pub mod PlacedViews
 pub mod Numbers
 pub mod Sizes
 pub mod Built

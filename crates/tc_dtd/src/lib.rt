@@ -6,7 +6,7 @@ ghost use Rattle.std.specs.Prelude.{◌≤◌, length, map, IfOk, IfErr};
 ghost use Rattle.tc_dtd.specs.Declarations.{AreDeclarations};
 ghost use Rattle.tc_dtd.specs.DtdText.{DtdText};
 ghost use Rattle.tc_dtd.specs.Faults.{IsFaultOf, IsDeclaredOnce, IsAgain};
-ghost use Rattle.tc_dtd.specs.Seen.{placed};
+ghost use Rattle.tc_dtd.specs.PlacedViews.{placed};
 ghost use Rattle.tc_dtd.specs.Views as see;
 
 mod contents;

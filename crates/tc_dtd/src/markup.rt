@@ -4,7 +4,7 @@ ghost use Rattle.tc_model.specs.XmlText.{after_mark as past_mark_of};
 ghost use Rattle.tc_dtd.specs.DtdText as whole;
 ghost use Rattle.tc_dtd.specs.DtdTextDeclarations as form;
 ghost use Rattle.tc_dtd.specs.Outcomes.{read};
-ghost use Rattle.tc_dtd.specs.Seen.{placed};
+ghost use Rattle.tc_dtd.specs.PlacedViews.{placed};
 ghost use Rattle.tc_dtd.specs.Stops.{Stops};
 ghost use Rattle.tc_dtd.specs.Views as see;
 

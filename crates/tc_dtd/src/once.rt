@@ -2,7 +2,7 @@
 ghost use Rattle.std.specs.Prelude.{◌≡◌, map, bytes_eq, IfOk, MatchOption};
 ghost use Rattle.std.specs.List.{IsDistinct};
 ghost use Rattle.tc_dtd.specs.DtdText.{FirstAgain, names_of};
-ghost use Rattle.tc_dtd.specs.Seen.{placed};
+ghost use Rattle.tc_dtd.specs.PlacedViews.{placed};
 ghost use Rattle.tc_dtd.specs.Views.{declaration};
 
 use crate::declarations::Decl;

@@ -64,7 +64,7 @@ fn kept<'b>(
 }
 
 /// Whether the grammar of these elements isn't too large.
-fn fits(decls: &[Decl<'_>]) -> Result<(), DtdGrammarFault>
+fn check_limits(decls: &[Decl<'_>]) -> Result<(), DtdGrammarFault>
     ensures ok { OnOk result (FitsCounts (map see.declaration decls.now)) }
     ensures err { IfErr result (FaultFits (map see.declaration decls.now)) }
 {
@@ -126,7 +126,7 @@ pub fn grammar<'b>(
 {
     let root = copied(arena, root)?;
     let decls = kept(arena, dtd.decls, root)?;
-    fits(decls)?;
+    check_limits(decls)?;
     let grammar = built(arena, decls, root)?;
     Ok(grammar)
 }

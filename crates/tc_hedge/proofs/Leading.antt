@@ -2,7 +2,7 @@
 use Rattle.std.proofs.Common.{◌≡◌, ◌<◌, ◌⊎◌, inl, inr, ℕ, ◌+◌, List, Bool, true, false, cond, Some, refl, sym, subst, arith}
 use Rattle.tc_mat.specs.Matrix.{Matrix, HasPair}
 use Rattle.tc_model.specs.Names.{ExpandedName}
-use Rattle.tc_model.specs.Trees.{Trees, none, text, element, beside, is_all_white, kept, normal_form}
+use Rattle.tc_model.specs.Trees.{Trees, none, text, element, beside, is_white_space_only, kept, normal_form}
 use Rattle.tc_model.specs.Grammars.{Grammar, Pattern, ElementPattern, element_at, InClass}
 use Rattle.tc_model.specs.Matching.{Matches}
 use Rattle.tc_model.specs.States.{text_leaf, ref_leaf, Run, stay, step, front_text, front_element, IsElementOf, automaton, Side, output, IsPart, the_start, a_content, first_state, state_count, IsEdge, Leads, at_end, past_white, by_text, by_element}
@@ -47,9 +47,9 @@ module _ (g : Grammar) (side : Side) where
 
   pub leads_of_run : (h : Trees) {i j : ℕ} → Runs i (trimmed h) j → Leads g side i h j
   leads_of_run none {i} {j} r = subst (λ w. Leads g side i none w) (run_of_none refl r) at_end
-  leads_of_run (text s h) {i} {j} r = by (true_or_false (is_all_white s)) (λ (k : ℕ) (x : Runs k (trimmed h) j). leads_of_run h x)
+  leads_of_run (text s h) {i} {j} r = by (true_or_false (is_white_space_only s)) (λ (k : ℕ) (x : Runs k (trimmed h) j). leads_of_run h x)
     where
-      by : (is_all_white s ≡ true) ⊎ (is_all_white s ≡ false) → ((k : ℕ) → Runs k (trimmed h) j → Leads g side k h j) → Leads g side i (text s h) j
+      by : (is_white_space_only s ≡ true) ⊎ (is_white_space_only s ≡ false) → ((k : ℕ) → Runs k (trimmed h) j → Leads g side k h j) → Leads g side i (text s h) j
       by (inl w) later = past_white w (later i (subst (λ b. Runs i (cond b (trimmed h) (text s (trimmed h))) j) w r))
       by (inr w) later = let x = run_of_text refl (subst (λ b. Runs i (cond b (trimmed h) (text s (trimmed h))) j) w r) in by_text w x.1 (later x.0 x.2)
   leads_of_run (element n c h) r = let x = run_of_element refl r in by_element x.2 x.3 (leads_of_run h x.4)
@@ -110,9 +110,9 @@ module _ (g : Grammar) (side : Side) where
   -- trees side by side lead over a state between them
   pub leads_split : (h : Trees) {k : Trees} {i j : ℕ} → Leads g side i (beside h k) j → (m : ℕ) × Leads g side i h m × Leads g side m k j
   leads_split none {i = i} l = (i, at_end, l)
-  leads_split (text s h) {k} {i} {j} l = by (true_or_false (is_all_white s)) (run_of_leads g side l) (λ (a : ℕ) (x : Leads g side a (beside h k) j). leads_split h x)
+  leads_split (text s h) {k} {i} {j} l = by (true_or_false (is_white_space_only s)) (run_of_leads g side l) (λ (a : ℕ) (x : Leads g side a (beside h k) j). leads_split h x)
     where
-      by : (is_all_white s ≡ true) ⊎ (is_all_white s ≡ false) → Runs g side i (kept s (trimmed (beside h k))) j
+      by : (is_white_space_only s ≡ true) ⊎ (is_white_space_only s ≡ false) → Runs g side i (kept s (trimmed (beside h k))) j
           → ((a : ℕ) → Leads g side a (beside h k) j → (m : ℕ) × Leads g side a h m × Leads g side m k j) → (m : ℕ) × Leads g side i (text s h) m × Leads g side m k j
       by (inl w) r later =
           let x = later i (leads_of_run g side (beside h k) (subst (λ b. Runs g side i (cond b (trimmed (beside h k)) (text s (trimmed (beside h k)))) j) w r)) in

@@ -6,7 +6,7 @@ use Rattle.std.proofs.lemmas.Bool.{true≢false}
 use Rattle.std.proofs.lemmas.Str.{encodes-chars, encodes_same, length-encode, len_utf8_bounds}
 use Rattle.tc_base.specs.Characters.{is_char}
 use Rattle.tc_model.specs.Names.{ExpandedName, IsName, IsChars, IsNcName, is_ncname_start, is_ncname_char}
-use Rattle.tc_model.specs.Trees.{Trees, none, text, element, is_all_white, joined_to, joined, kept, dropped, normal_form, IsNormal, AreLawful, IsDocument}
+use Rattle.tc_model.specs.Trees.{Trees, none, text, element, is_white_space_only, joined_to, joined, kept, dropped, normal_form, IsNormal, AreLawful, IsDocument}
 use Rattle.tc_model.specs.Views as see
 use Rattle.tc_model.specs.declared.tree.Name.{Name}
 use Rattle.tc_model.specs.declared.tree.Node.{Node, Elem}
@@ -33,7 +33,7 @@ ncname_told bs rest c e u = (to, of)
 -- behind a text or not: no text stands beside another or is white space alone
 abbrev IsApart : Bool → Trees → Type 0
 IsApart behind none = Unit {0}
-IsApart behind (text s rest) = (behind ≡ false) × (is_all_white s ≡ false) × IsApart true rest
+IsApart behind (text s rest) = (behind ≡ false) × (is_white_space_only s ≡ false) × IsApart true rest
 IsApart behind (element n kids rest) = IsApart false kids × IsApart false rest
 
 -- no text stands beside another
@@ -63,9 +63,9 @@ true_or_false false = inr refl
 
 dropped_apart : (b : Bool) (h : Trees) → IsJoined b h → IsApart b (dropped h)
 dropped_apart b none j = tt
-dropped_apart b (text s rest) j = by (true_or_false (is_all_white s)) (dropped_apart true rest j.1)
+dropped_apart b (text s rest) j = by (true_or_false (is_white_space_only s)) (dropped_apart true rest j.1)
   where
-    by : (is_all_white s ≡ true) ⊎ (is_all_white s ≡ false) → IsApart true (dropped rest) → IsApart b (kept s (dropped rest))
+    by : (is_white_space_only s ≡ true) ⊎ (is_white_space_only s ≡ false) → IsApart true (dropped rest) → IsApart b (kept s (dropped rest))
     by (inl w) a = subst (λ v. IsApart b (cond v (dropped rest) (text s (dropped rest)))) (sym w) (subst (λ v. IsApart v (dropped rest)) (sym j.0) (free true (dropped rest) a))
     by (inr w) a = subst (λ v. IsApart b (cond v (dropped rest) (text s (dropped rest)))) (sym w) (j.0, w, a)
 dropped_apart b (element n kids rest) j = (dropped_apart false kids j.0, dropped_apart false rest j.1)
@@ -83,10 +83,10 @@ lawful_of b none s = tt
 lawful_of b (text t rest) s = ((some, s.2), lawful_of true rest s.3)
   where
     some : t ≢ []
-    some e = true≢false (ap is_all_white (sym e) ∙ s.1)
+    some e = true≢false (ap is_white_space_only (sym e) ∙ s.1)
 lawful_of b (element n kids rest) s = (s.0, lawful_of false kids s.1, lawful_of false rest s.2)
 
-keeps : (s : List ℕ) (h : Trees) → is_all_white s ≡ false → kept s h ≡ text s h
+keeps : (s : List ℕ) (h : Trees) → is_white_space_only s ≡ false → kept s h ≡ text s h
 keeps s h w = ap (λ v. cond v h (text s h)) w
 
 normal_of : (b : Bool) (h : Trees) → IsSettled b h → normal_form h ≡ h

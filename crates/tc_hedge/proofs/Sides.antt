@@ -6,7 +6,7 @@ use Rattle.std.proofs.lemmas.Option.{slice_get_within}
 use Rattle.std.proofs.lemmas.List.{take_all}
 use Rattle.tc_mat.specs.Matrix.{Matrix, HasPair, IsIdentity, IsComposition}
 use Rattle.tc_model.specs.Names.{ExpandedName}
-use Rattle.tc_model.specs.Trees.{Trees, none, text, is_all_white}
+use Rattle.tc_model.specs.Trees.{Trees, none, text, is_white_space_only}
 use Rattle.tc_model.specs.Views as see
 use Rattle.tc_model.specs.declared.tree.Node.{Node}
 use Rattle.tc_model.specs.Grammars.{Grammar, ElementPattern, element_at, in_class, InClass}
@@ -36,7 +36,7 @@ nothing_led g side a st m size is i j = (to, of)
     of (low, l) = (is i j).1 (omega (arith, size, states_of side g a st), run_of_none g side refl (run_of_leads g side l))
 
 -- a text of white space alone stays where it is
-pub white_led : (g : Grammar) (side : Side) (s : List ℕ) (m : Matrix) → is_all_white s ≡ true → ArePairsOf g side none m → ArePairsOf g side (text s none) m
+pub white_led : (g : Grammar) (side : Side) (s : List ℕ) (m : Matrix) → is_white_space_only s ≡ true → ArePairsOf g side none m → ArePairsOf g side (text s none) m
 white_led g side s m white pairs i j = (to, of)
   where
     to : HasPair m i j → (i < state_count g side) × Leads g side i (text s none) j
@@ -47,7 +47,7 @@ white_led g side s m white pairs i j = (to, of)
     of (low, by_text other e l) = absurd (cc)
 
 -- any other text takes an edge
-pub text_led : (g : Grammar) (side : Side) (s : List ℕ) (m : Matrix) → is_all_white s ≡ false → ArePairsOfText g side m → ArePairsOf g side (text s none) m
+pub text_led : (g : Grammar) (side : Side) (s : List ℕ) (m : Matrix) → is_white_space_only s ≡ false → ArePairsOfText g side m → ArePairsOf g side (text s none) m
 text_led g side s m other pairs i j = (to, of)
   where
     to : HasPair m i j → (i < state_count g side) × Leads g side i (text s none) j

@@ -3,7 +3,7 @@ use Rattle.std.proofs.Common.{◌≡◌, ℕ, List, [], ◌++◌, Bool, true, fa
 use Rattle.std.proofs.lemmas.List.Folds.{list_all-append}
 use Rattle.tc_base.specs.Characters.{is_white}
 use Rattle.tc_model.specs.Names.{ExpandedName}
-use Rattle.tc_model.specs.Trees.{Trees, none, text, element, beside, is_all_white, joined_to, joined, kept, dropped, normal_form}
+use Rattle.tc_model.specs.Trees.{Trees, none, text, element, beside, is_white_space_only, joined_to, joined, kept, dropped, normal_form}
 use Rattle.tc_model.specs.Grammars as p
 use Rattle.tc_model.specs.Grammars.{Pattern, Patterns, no_more, more, ElementPattern}
 use Rattle.tc_model.specs.Matching.{Matches, InOrder, OneOf, Shuffled, Repeated, Shuffle, AreTexts, m_empty, m_text, m_ref, m_group, m_choice, m_interleave, m_one_or_more, order_end, order_more, here, there, shuffled_end, shuffled_more, once, again, both_end, left_text, left_element, right_text, right_element}
@@ -134,7 +134,7 @@ trimmed (text s rest) = kept s (trimmed rest)
 trimmed (element n c rest) = element n (normal_form c) (trimmed rest)
 
 thin_behind : (s : List ℕ) {h k : Trees} → Thins h k → Thins (kept s h) (kept s k)
-thin_behind s {h} {k} t = by (is_all_white s)
+thin_behind s {h} {k} t = by (is_white_space_only s)
   where
     by : (b : Bool) → Thins (cond b h (text s h)) (cond b k (text s k))
     by true = t
@@ -142,7 +142,7 @@ thin_behind s {h} {k} t = by (is_all_white s)
 
 -- two texts side by side, and both as one
 to_one : (p s : List ℕ) (h : Trees) → Thins (kept p (kept s h)) (kept (p ++ s) h)
-to_one p s h = subst (λ b. Thins (kept p (kept s h)) (cond b h (text (p ++ s) h))) (sym (list_all-append is_white p s)) (by (is_all_white p) (is_all_white s))
+to_one p s h = subst (λ b. Thins (kept p (kept s h)) (cond b h (text (p ++ s) h))) (sym (list_all-append is_white p s)) (by (is_white_space_only p) (is_white_space_only s))
   where
     by : (a b : Bool) → Thins (cond a (cond b h (text s h)) (text p (cond b h (text s h)))) (cond (a && b) h (text (p ++ s) h))
     by true true = thin_same h
@@ -151,7 +151,7 @@ to_one p s h = subst (λ b. Thins (kept p (kept s h)) (cond b h (text (p ++ s) h
     by false false = text_again (text_less (text_less (thin_same h)))
 
 to_two : (p s : List ℕ) (h : Trees) → Thins (kept (p ++ s) h) (kept p (kept s h))
-to_two p s h = subst (λ b. Thins (cond b h (text (p ++ s) h)) (kept p (kept s h))) (sym (list_all-append is_white p s)) (by (is_all_white p) (is_all_white s))
+to_two p s h = subst (λ b. Thins (cond b h (text (p ++ s) h)) (kept p (kept s h))) (sym (list_all-append is_white p s)) (by (is_white_space_only p) (is_white_space_only s))
   where
     by : (a b : Bool) → Thins (cond (a && b) h (text (p ++ s) h)) (cond a (cond b h (text s h)) (text p (cond b h (text s h))))
     by true true = thin_same h

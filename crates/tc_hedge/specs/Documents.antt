@@ -3,7 +3,7 @@ use Rattle.std.specs.Prelude.{◌≡◌, ℕ, List, Bool, true, false, [], ◌�
 use Rattle.std.specs.List.{list_all}
 use Rattle.tc_base.specs.Characters.{is_between}
 use Rattle.tc_model.specs.Names.{IsName, IsChars}
-use Rattle.tc_model.specs.Trees.{Trees, none, text, element, is_all_white}
+use Rattle.tc_model.specs.Trees.{Trees, none, text, element, is_white_space_only}
 
 -- a character of ASCII with which an NCName may begin, and one that it may hold (Namespaces in XML 1.0, 3, [4])
 abbrev pub is_plain_start_char : ℕ → Bool
@@ -25,5 +25,5 @@ begins_with_text (element n kids rest) = false
 -- behind a text or not: no text stands beside another or is white space alone, and names and texts are lawful, at every level
 abbrev pub IsSettled : Bool → Trees → Type 0
 IsSettled behind none = Unit {0}
-IsSettled behind (text s rest) = (behind ≡ false) × (is_all_white s ≡ false) × IsChars s × IsSettled true rest
+IsSettled behind (text s rest) = (behind ≡ false) × (is_white_space_only s ≡ false) × IsChars s × IsSettled true rest
 IsSettled behind (element n kids rest) = IsName n × IsSettled false kids × IsSettled false rest

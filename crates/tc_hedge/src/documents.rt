@@ -7,7 +7,7 @@ ghost use Rattle.tc_model.specs.Views as see;
 ghost use Rattle.tc_model.specs.Trees as t;
 
 use tc_base::{is_name_char, is_name_start};
-use tc_model::{Name, Node, is_all_white};
+use tc_model::{Name, Node, is_white_space_only};
 use tc_scan::are_chars;
 
 /// The namespace of namespace declarations, to which nothing may be bound (Namespaces in XML 1.0, 3).
@@ -110,7 +110,7 @@ fn may_stand(node: &Node<'_>, behind: bool) -> bool
     ensures { (rest : t.Trees) → IsSettled behind (see.before node.now rest) ↔ (IsTrue result × IsSettled (begins_with_text (see.before node.now t.none)) rest) }
 {
     match node {
-        Node::Text(text) => !behind && !is_all_white(text) && are_chars(text),
+        Node::Text(text) => !behind && !is_white_space_only(text) && are_chars(text),
         Node::Elem(name, kids) => is_name(name) && are_settled(kids),
     }
 }

@@ -12,7 +12,7 @@ use tc_alpha::{Alphabet, Sym};
 use tc_auto::{Arrow, Auto, Edge};
 use tc_base::NoMemory;
 use tc_mat::Mat;
-use tc_model::{Name, Node, is_all_white};
+use tc_model::{Name, Node, is_white_space_only};
 
 /// The automaton of a schema, and which symbols the classes of its element patterns hold.
 #[derive(Drop)]
@@ -217,7 +217,7 @@ impl<'b> Hedge<'b> {
         ensures pairs { IfOk result (λ m. (side : s.Side) (x : g.Grammar) → a.Stands side x self.now.auto → ArePairsOf x side (t.text text.now t.none) m) }
     {
         let states = self.auto.states();
-        if is_all_white(text) {
+        if is_white_space_only(text) {
             return Mat::identity(self.alloc, states);
         }
         let mut led = Mat::zero(self.alloc, states)?;

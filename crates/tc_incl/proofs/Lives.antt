@@ -2,7 +2,7 @@
 use Rattle.std.proofs.Common.{◌≡◌, ◌↔◌, inl, inr, ℕ, ◌<◌, List, false, ◌&&◌, refl, ap, ◌∙◌, sym, subst, arith}
 use Rattle.std.proofs.lemmas.List.Elements.{All-contains}
 use Rattle.tc_model.specs.Names.{ExpandedName, IsName, IsText}
-use Rattle.tc_model.specs.Trees.{Trees, none, text, element, beside, node_count, IsNormal, AreLawful, is_all_white}
+use Rattle.tc_model.specs.Trees.{Trees, none, text, element, beside, node_count, IsNormal, AreLawful, is_white_space_only}
 use Rattle.tc_model.specs.Chains.{Tree, an_element, a_text}
 use Rattle.tc_model.specs.TreesApart.{alone, followed_by, is_text, ends_in_text, IsApart}
 use Rattle.tc_model.specs.LiveTrees.{HasPattern, HavePatterns, LeadSomewhere, IsLiveTree, IsLiveHedge, empty_is_live, are_live}
@@ -88,7 +88,7 @@ module _ (x : Schemas) (are : AreSchemas x) where
     | inr e ↦ lawful_told x.symbols a (fresh_name x.symbols a) refl x.second x.first are.sheet are.second are.first are.well_formed e
   ]
 
-  pub text_live : (s : List ℕ) → IsText s → is_all_white s ≡ false → IsLiveTree x.first (a_text s) ↔ IsTextLive x
+  pub text_live : (s : List ℕ) → IsText s → is_white_space_only s ≡ false → IsLiveTree x.first (a_text s) ↔ IsTextLive x
   text_live s lawful ink = (λ l. l.1, λ l. (((lawful, tt), (normal_apart (text s none)).1 (refl, ink, tt)), l))
 
   pub append_live : (h : Trees) (t : Tree) (r : HedgeRow) (s : TreeRow) → IsLiveHedge x.first h → IsLiveTree x.first t → IsRowOfHedge x h r → IsRowOfTree x t s

@@ -140,11 +140,11 @@ impl<'c, 'b> Both<'c, 'b> {
         ensures made { IfOk result (λ o. (h : Row) → IsHedgeFit self.now h → AreBothSteps self.now h steps.now
             → MatchOption o (NoWrapped self.now symbol h) (λ u. IsTreeFit self.now u × IsWrapped self.now symbol h u)) }
     {
-        let first = self.first.around(symbol, &steps.first)?;
+        let first = self.first.matching_patterns(symbol, &steps.first)?;
         if first.is_empty() {
             return Ok(None);
         }
-        let second = self.second.around(symbol, &steps.second)?;
+        let second = self.second.matching_patterns(symbol, &steps.second)?;
         Ok(Some(Row {
             text: false,
             first,

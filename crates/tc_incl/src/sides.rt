@@ -230,7 +230,7 @@ impl<'c, 'b> Side<'c, 'b> {
     }
 
     /// The element patterns of which the content accepts in one of the states.
-    fn taken(&self, states: &Set) -> Result<Set, NoMemory>
+    fn accepting_patterns(&self, states: &Set) -> Result<Set, NoMemory>
         requires { states.now.size ≡ a.states self.now.auto.now }
         ensures size { IfOk result (λ r. r.size ≡ self.now.end) }
         ensures from_one { IfOk result (λ r. ¬ Has r 0) }
@@ -252,7 +252,7 @@ impl<'c, 'b> Side<'c, 'b> {
     {
         let text = self.after_text(states)?;
         let elements = self.after_patterns(states)?;
-        let taken = self.taken(states)?;
+        let taken = self.accepting_patterns(states)?;
         Ok(Steps {
             text,
             elements,
@@ -309,7 +309,7 @@ impl<'c, 'b> Side<'c, 'b> {
     }
 
     /// The element patterns that an element of a symbol matches around trees, by where their states lead.
-    pub(crate) fn around(&self, symbol: u32, steps: &Steps) -> Result<Set, NoMemory>
+    pub(crate) fn matching_patterns(&self, symbol: u32, steps: &Steps) -> Result<Set, NoMemory>
         requires symbol { symbol < length self.now.allowed.items }
         requires steps { (states : Numbers) × AreSteps self.now.auto.now states steps.now }
         ensures set { IfOk result (λ r. IsSet r) }

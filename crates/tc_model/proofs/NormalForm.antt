@@ -1,7 +1,7 @@
 -- Laws of the normal form.
 use Rattle.std.proofs.Common.{◌≡◌, ℕ, List, [], ◌++◌, refl, ap, ◌∙◌, sym, append_assoc, Bool, true, false, cond}
 use Rattle.tc_model.specs.Names.{ExpandedName}
-use Rattle.tc_model.specs.Trees.{Trees, none, text, element, beside, is_all_white, joined_to, joined, kept, dropped, normal_form}
+use Rattle.tc_model.specs.Trees.{Trees, none, text, element, beside, is_white_space_only, joined_to, joined, kept, dropped, normal_form}
 
 pub beside_none : (h : Trees) → beside h none ≡ h
 beside_none none = refl
@@ -29,15 +29,15 @@ chosen_beside true s h = refl
 chosen_beside false s h = refl
 
 pub kept_beside : (s : List ℕ) (h : Trees) → beside (kept s none) h ≡ kept s h
-kept_beside s h = chosen_beside (is_all_white s) s h
+kept_beside s h = chosen_beside (is_white_space_only s) s h
 
-pub put_white : (o : Trees) (s : List ℕ) → is_all_white s ≡ true → o ≡ beside o (kept s none)
+pub put_white : (o : Trees) (s : List ℕ) → is_white_space_only s ≡ true → o ≡ beside o (kept s none)
 put_white o s e = sym (ap (λ b. beside o (cond b none (text s none))) e ∙ beside_none o)
 
-put_other : (o : Trees) (s : List ℕ) → is_all_white s ≡ false → beside o (text s none) ≡ beside o (kept s none)
+put_other : (o : Trees) (s : List ℕ) → is_white_space_only s ≡ false → beside o (text s none) ≡ beside o (kept s none)
 put_other o s e = sym (ap (λ b. beside o (cond b none (text s none))) e)
 
-pub put_text : (o new : Trees) (s put : List ℕ) → put ≡ s → is_all_white put ≡ false → new ≡ beside o (text put none) → new ≡ beside o (kept s none)
+pub put_text : (o new : Trees) (s put : List ℕ) → put ≡ s → is_white_space_only put ≡ false → new ≡ beside o (text put none) → new ≡ beside o (kept s none)
 put_text o new s put is other pushed = cc (put_other o put other)
 
 -- a text joins the run

@@ -1,7 +1,7 @@
 -- Trees one at a time from the back, and normal trees place by place.
 use Rattle.std.proofs.Common.{◌≡◌, ◌↔◌, ◌⊎◌, inl, inr, ℕ, ◌+◌, List, refl, ap, ◌∙◌, sym, subst, Bool, true, false, cond, ◌&&◌, ◌||◌, arith}
 use Rattle.std.proofs.lemmas.Bool.{true≢false}
-use Rattle.tc_model.specs.Trees.{Trees, none, text, element, beside, node_count, is_all_white, joined_to, joined, kept, dropped, normal_form, IsNormal, AreLawful}
+use Rattle.tc_model.specs.Trees.{Trees, none, text, element, beside, node_count, is_white_space_only, joined_to, joined, kept, dropped, normal_form, IsNormal, AreLawful}
 use Rattle.tc_model.specs.Chains.{Tree, an_element, a_text}
 use Rattle.tc_model.specs.TreesApart.{alone, followed_by, FromBack, is_none, is_followed, is_text, ends_in_text_after, ends_in_text, bears_text, IsApartAfter, IsApart}
 use Rattle.tc_model.proofs.TotalJoin.{beside_none, beside_assoc}
@@ -113,14 +113,14 @@ true_or_false false = inr refl
 
 dropped_apart : (b : Bool) (h : Trees) → IsJoined b h → IsApartAfter b (dropped h)
 dropped_apart b none j = tt
-dropped_apart b (text s rest) j = by (true_or_false (is_all_white s)) (dropped_apart true rest j.1)
+dropped_apart b (text s rest) j = by (true_or_false (is_white_space_only s)) (dropped_apart true rest j.1)
   where
-    by : (is_all_white s ≡ true) ⊎ (is_all_white s ≡ false) → IsApartAfter true (dropped rest) → IsApartAfter b (kept s (dropped rest))
+    by : (is_white_space_only s ≡ true) ⊎ (is_white_space_only s ≡ false) → IsApartAfter true (dropped rest) → IsApartAfter b (kept s (dropped rest))
     by (inl w) a = subst (λ v. IsApartAfter b (cond v (dropped rest) (text s (dropped rest)))) (sym w) (subst (λ v. IsApartAfter v (dropped rest)) (sym j.0) (apart_freed true (dropped rest) a))
     by (inr w) a = subst (λ v. IsApartAfter b (cond v (dropped rest) (text s (dropped rest)))) (sym w) (j.0, w, a)
 dropped_apart b (element n kids rest) j = (dropped_apart false kids j.0, dropped_apart false rest j.1)
 
-keeps : (s : List ℕ) (h : Trees) → is_all_white s ≡ false → kept s h ≡ text s h
+keeps : (s : List ℕ) (h : Trees) → is_white_space_only s ≡ false → kept s h ≡ text s h
 keeps s h w = ap (λ v. cond v h (text s h)) w
 
 normal_of : (b : Bool) (h : Trees) → IsApartAfter b h → normal_form h ≡ h

@@ -1,7 +1,7 @@
 -- Stripped, a lawful raw tree is a document.
 use Rattle.std.proofs.Common.{◌≡◌, ◌≢◌, ℕ, Bool, true, false, cond, List, [], ◌∷◌, ◌++◌, refl, ap, ◌∙◌, sym, subst, length}
 use Rattle.tc_model.specs.Names.{IsText}
-use Rattle.tc_model.specs.Trees.{Trees, none, text, element, is_all_white, joined_to, joined, kept, dropped, normal_form, IsNormal, AreLawful, IsOneElement}
+use Rattle.tc_model.specs.Trees.{Trees, none, text, element, is_white_space_only, joined_to, joined, kept, dropped, normal_form, IsNormal, AreLawful, IsOneElement}
 use Rattle.tc_model.specs.RawTrees as r
 use Rattle.tc_model.specs.Stripped.{bare, stripped}
 use Rattle.tc_model.specs.XmlTextContent.{piece_before, Piece, ElementAt, empty_tag, with_content}
@@ -29,7 +29,7 @@ joined_lawful (text s rest) (t, l) = joined_to_lawful s (joined rest) t (joined_
 joined_lawful (element n kids rest) (a, k, l) = (a, joined_lawful kids k, joined_lawful rest l)
 
 pub kept_lawful : (s : List ℕ) (h : Trees) → IsText s → AreLawful h → AreLawful (kept s h)
-kept_lawful s h t l = by (is_all_white s)
+kept_lawful s h t l = by (is_white_space_only s)
   where
     by : (x : Bool) → AreLawful (cond x h (text s h))
     by true = l
@@ -74,7 +74,7 @@ apart_joined (element n kids rest) a = ap (λ k. element n k (joined rest)) (apa
 
 kept_apart : (s : List ℕ) (h : Trees) → BeginsWithNoText h → AreApart h → AreApart (kept s h)
 unfolding AreApart
-kept_apart s h b a = by (is_all_white s)
+kept_apart s h b a = by (is_white_space_only s)
   where
     by : (x : Bool) → AreApart (cond x h (text s h))
     by true = a
@@ -93,9 +93,9 @@ dropped_apart (text s rest) a = kept_apart s (dropped rest) (dropped_begins rest
 dropped_apart (element n kids rest) a = (dropped_apart kids a.0, dropped_apart rest a.1)
 
 dropped_kept : (s : List ℕ) (h : Trees) → dropped h ≡ h → dropped (kept s h) ≡ kept s h
-dropped_kept s h e = by (is_all_white s) refl
+dropped_kept s h e = by (is_white_space_only s) refl
   where
-    by : (x : Bool) → is_all_white s ≡ x → dropped (cond x h (text s h)) ≡ cond x h (text s h)
+    by : (x : Bool) → is_white_space_only s ≡ x → dropped (cond x h (text s h)) ≡ cond x h (text s h)
     by true q = e
     by false q = ap (kept s) e ∙ ap (λ x. cond x h (text s h)) q
 

@@ -2,7 +2,7 @@
 use Rattle.std.specs.Prelude.{◌≡◌, ◌≢◌, ◌⊎◌, ℕ, not, ◌&&◌, ◌||◌, List, [], ◌∷◌, ◌++◌, map, Option, None, Some, All, IsTrue, IsFalse, bytes_eq, codes, ℤ, if◌then◌else◌}
 use Rattle.std.specs.List.{list_any}
 use Rattle.tc_model.specs.Names.{ExpandedName}
-use Rattle.tc_model.specs.Trees.{is_all_white}
+use Rattle.tc_model.specs.Trees.{is_white_space_only}
 use Rattle.tc_model.specs.RawTrees.{Attribute, Bound, RawTrees, none, text, element}
 use Rattle.tc_model.specs.XmlTextNames.{QualifiedName, QNameAt}
 use Rattle.tc_model.specs.XmlTextScopes.{is_empty, ElementName}
@@ -37,7 +37,7 @@ AreLiteral attributes = All (λ a. IsTrue (not (bytes_eq a.name.uri xsl_uri) || 
 -- texts of white space alone are passed over (3.4)
 pub data IsBlank : RawTrees → Type 0 where
   at_end : IsBlank none
-  past_white : {s : List ℕ} {p : ℕ} {rest : RawTrees} → IsTrue (is_all_white s) → IsBlank rest → IsBlank (text s p rest)
+  past_white : {s : List ℕ} {p : ℕ} {rest : RawTrees} → IsTrue (is_white_space_only s) → IsBlank rest → IsBlank (text s p rest)
 
 -- texts alone, joined
 pub data AreCharacters : RawTrees → List ℕ → Type 0 where
@@ -141,9 +141,9 @@ mutual
   -- a body (2.2, 7): texts, literal elements and instructions
   pub data IsBody : RawTrees → WrittenBody → Type 0 where
     at_end : IsBody none w_nothing
-    past_white : {s : List ℕ} {p : ℕ} {rest : RawTrees} {b : WrittenBody} → IsTrue (is_all_white s) → IsBody rest b → IsBody (text s p rest) b
+    past_white : {s : List ℕ} {p : ℕ} {rest : RawTrees} {b : WrittenBody} → IsTrue (is_white_space_only s) → IsBody rest b → IsBody (text s p rest) b
     -- 7.2
-    a_text : {s : List ℕ} {p : ℕ} {rest : RawTrees} {b : WrittenBody} → IsFalse (is_all_white s) → IsBody rest b → IsBody (text s p rest) (w_text s b)
+    a_text : {s : List ℕ} {p : ℕ} {rest : RawTrees} {b : WrittenBody} → IsFalse (is_white_space_only s) → IsBody rest b → IsBody (text s p rest) (w_text s b)
     -- 7.1.1
     a_literal : {n : ExpandedName} {attributes : List Attribute} {scope : List Bound} {p : ℕ} {kids rest : RawTrees} {inner b : WrittenBody} → n.uri ≢ xsl_uri → AreLiteral attributes
         → IsBody kids inner → IsBody rest b → IsBody (element n attributes scope p kids rest) (w_element n inner b)
@@ -190,7 +190,7 @@ mutual
   -- `xsl:when` elements, and perhaps an `xsl:otherwise` (9.2)
   pub data AreBranches : RawTrees → WrittenBranches → Type 0 where
     no_otherwise : AreBranches none (w_otherwise w_nothing)
-    between : {s : List ℕ} {p : ℕ} {rest : RawTrees} {x : WrittenBranches} → IsTrue (is_all_white s) → AreBranches rest x → AreBranches (text s p rest) x
+    between : {s : List ℕ} {p : ℕ} {rest : RawTrees} {x : WrittenBranches} → IsTrue (is_white_space_only s) → AreBranches rest x → AreBranches (text s p rest) x
     a_when : {n : ExpandedName} {attributes : List Attribute} {scope : List Bound} {p : ℕ} {kids rest : RawTrees} {test : Test} {inner : WrittenBody} {x : WrittenBranches}
         → IsTag (codes "when") (codes "test" ∷ []) (tag n attributes scope p) → Required (TestText scope) (value_of (codes "test") attributes) test
         → IsBody kids inner → AreBranches rest x → AreBranches (element n attributes scope p kids rest) (w_branch test inner x)
@@ -216,7 +216,7 @@ pub record IsTemplate (s : Tag) (kids : RawTrees) (t : Template) : Type 0 where
 -- for that of no name
 pub data AreTemplates : RawTrees → List Template → Type 0 where
   at_end : AreTemplates none []
-  past_white : {s : List ℕ} {p : ℕ} {rest : RawTrees} {ts : List Template} → IsTrue (is_all_white s) → AreTemplates rest ts → AreTemplates (text s p rest) ts
+  past_white : {s : List ℕ} {p : ℕ} {rest : RawTrees} {ts : List Template} → IsTrue (is_white_space_only s) → AreTemplates rest ts → AreTemplates (text s p rest) ts
   a_template : {n : ExpandedName} {attributes : List Attribute} {scope : List Bound} {p : ℕ} {kids rest : RawTrees} {t : Template} {ts : List Template}
       → IsTemplate (tag n attributes scope p) kids t → AreTemplates rest ts → AreTemplates (element n attributes scope p kids rest) (t ∷ ts)
   past_declaration : {n : ExpandedName} {attributes : List Attribute} {scope : List Bound} {p : ℕ} {kids rest : RawTrees} {ts : List Template}

@@ -1,7 +1,7 @@
 -- The states of patterns and of schemas: their numbers, the edges between them, those that accept, and what trees lead from one to another.
 use Rattle.std.specs.Prelude.{◌≡◌, ◌<◌, ◌≤◌, ◌⊎◌, ℕ, zero, suc, ◌+◌, ◌-◌, ◌*◌, List, [], ◌∷◌, length, Bool, false, ◌==◌, ◌||◌, Some, IsTrue}
 use Rattle.tc_model.specs.Names.{ExpandedName}
-use Rattle.tc_model.specs.Trees.{Trees, none, text, element, is_all_white, normal_form}
+use Rattle.tc_model.specs.Trees.{Trees, none, text, element, is_white_space_only, normal_form}
 use Rattle.tc_model.specs.Grammars as p
 use Rattle.tc_model.specs.Grammars.{Pattern, Patterns, no_more, more, ElementPattern, Grammar, element_at, InClass}
 use Rattle.tc_model.specs.Matching.{Matches}
@@ -179,6 +179,6 @@ abbrev mutual
 -- what trees lead from one state to another: a text of white space alone stays where it is, any other text takes an edge, and so does an element, by an element pattern that its normal form matches
 pub data Leads (g : Grammar) (side : Side) : ℕ → Trees → ℕ → Type 0 where
   at_end : {i : ℕ} → Leads g side i none i
-  past_white : {i j : ℕ} {s : List ℕ} {h : Trees} → IsTrue (is_all_white s) → Leads g side i h j → Leads g side i (text s h) j
-  by_text : {i j k : ℕ} {s : List ℕ} {h : Trees} → is_all_white s ≡ false → IsEdge g side i text_leaf j → Leads g side j h k → Leads g side i (text s h) k
+  past_white : {i j : ℕ} {s : List ℕ} {h : Trees} → IsTrue (is_white_space_only s) → Leads g side i h j → Leads g side i (text s h) j
+  by_text : {i j k : ℕ} {s : List ℕ} {h : Trees} → is_white_space_only s ≡ false → IsEdge g side i text_leaf j → Leads g side j h k → Leads g side i (text s h) k
   by_element : {i j k r : ℕ} {n : ExpandedName} {c h : Trees} → IsElementOf g.elements r n (normal_form c) → IsEdge g side i (ref_leaf r) j → Leads g side j h k → Leads g side i (element n c h) k

@@ -23,8 +23,8 @@ node_count (text s rest) = node_count rest + 1
 node_count (element n kids rest) = node_count kids + node_count rest + 1
 
 -- white space alone, or nothing (XML, 2.3, [3]); a byte of another character is none of these
-abbrev pub is_all_white : List ℕ → Bool
-is_all_white bytes = list_all is_white bytes
+abbrev pub is_white_space_only : List ℕ → Bool
+is_white_space_only bytes = list_all is_white bytes
 
 -- a text before trees: it joins a text that stands there
 abbrev pub joined_to : List ℕ → Trees → Trees
@@ -40,7 +40,7 @@ joined (element n kids rest) = element n (joined kids) (joined rest)
 
 -- a text before trees, unless it is white space alone
 abbrev pub kept : List ℕ → Trees → Trees
-kept s rest = if is_all_white s then rest else text s rest
+kept s rest = if is_white_space_only s then rest else text s rest
 
 -- texts of white space alone dropped, at every level
 abbrev pub dropped : Trees → Trees

@@ -1,6 +1,6 @@
 -- Trees one at a time, from the front and from the back, and normal trees place by place.
 use Rattle.std.specs.Prelude.{◌≡◌, Bool, true, false, ◌||◌}
-use Rattle.tc_model.specs.Trees.{Trees, none, text, element, beside, is_all_white}
+use Rattle.tc_model.specs.Trees.{Trees, none, text, element, beside, is_white_space_only}
 use Rattle.tc_model.specs.Chains.{Tree, an_element, a_text}
 
 -- one tree, and nothing beside it
@@ -39,7 +39,7 @@ bears_text (element n kids rest) = bears_text kids || bears_text rest
 -- behind a text or not: no two texts stand side by side, and none is white space alone, at every level
 abbrev pub IsApartAfter : Bool → Trees → Type 0
 IsApartAfter before none = Unit {0}
-IsApartAfter before (text s rest) = (before ≡ false) × (is_all_white s ≡ false) × IsApartAfter true rest
+IsApartAfter before (text s rest) = (before ≡ false) × (is_white_space_only s ≡ false) × IsApartAfter true rest
 IsApartAfter before (element n kids rest) = IsApartAfter false kids × IsApartAfter false rest
 
 -- trees are so exactly where they are in normal form

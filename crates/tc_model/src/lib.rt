@@ -18,7 +18,7 @@ pub mod xml;
 
 pub use grammar::{ElemPat, Grammar, NameClass, Pat};
 pub use lists::{CertData, HedgeLine, HedgeLines, Numbers, PairLists, Pairs, TreeLine, TreeLines};
-pub use normal::{is_all_white, normalise};
+pub use normal::{is_white_space_only, normalise};
 pub use sheet::{Alt, Branch, Instr, NodeTest, Path, Pattern, Rule, Sheet, Step, Test};
 pub use takers::TakesTrees;
 pub use tree::{Binding, Name, Node, Raw, RawAttr, RawElem};

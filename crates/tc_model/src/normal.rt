@@ -13,8 +13,8 @@ use std::mem;
 use tc_base::NoMemory;
 
 /// Whether a text is white space alone (XML 1.0, 2.3).
-pub fn is_all_white(text: &str) -> bool
-    ensures { result ≡ t.is_all_white text.now }
+pub fn is_white_space_only(text: &str) -> bool
+    ensures { result ≡ t.is_white_space_only text.now }
 {
     for byte in text.as_bytes() {
         if !matches!(*byte, b' ' | b'\t' | b'\r' | b'\n') {
@@ -98,7 +98,7 @@ fn end_run(gathered: &mut Gathered<'_>) -> Result<(), NoMemory>
     ensures run { OnOk result (run_text gathered.new.run ≡ []) }
 {
     let text = text_of(mem::replace(&mut gathered.run, Run::Nothing));
-    if !is_all_white(text) {
+    if !is_white_space_only(text) {
         gathered.nodes.push(Node::Text(text))?;
     }
     Ok(())

@@ -1,7 +1,7 @@
 -- What a body puts out on a node leads as is told by what stands below the node.
 use Rattle.std.proofs.Common.{◌≡◌, ℕ, ◌+◌, List, [], ◌∷◌, refl, ap, ◌∙◌, sym, subst, Bool, true, false, cond, not, ◌&&◌, ◌||◌, Option, Some, None, is_some, Contains}
 use Rattle.tc_model.specs.Names.{ExpandedName}
-use Rattle.tc_model.specs.Trees.{Trees, none, element, beside, is_all_white}
+use Rattle.tc_model.specs.Trees.{Trees, none, element, beside, is_white_space_only}
 use Rattle.tc_model.specs.Chains.{an_element, a_text, Node, whole, one, children, joined_texts, string_value}
 use Rattle.tc_model.specs.Sheets.{Path, Test, always, never, has, negated, all_of, any_of, Tests, no_test, test, CallFreeBody, p_done, p_text, p_element, p_copy, p_apply, p_call, p_value, p_self, p_choose, p_each, CallFreeBranches, p_otherwise, p_branch}
 use Rattle.tc_model.specs.Outcomes.{Outcome, put, copied}
@@ -63,7 +63,7 @@ module _ (x : Triple) (is : IsTriple x) where
   abbrev pub IsNodeApart : Node → Type 0
   IsNodeApart (whole doc) = IsApart doc
   IsNodeApart (one (an_element n kids)) = IsApart kids
-  IsNodeApart (one (a_text s)) = is_all_white s ≡ false
+  IsNodeApart (one (a_text s)) = is_white_space_only s ≡ false
 
   pub children_apart : (n : Node) → IsNodeApart n → IsApart (children n)
   children_apart (whole doc) a = a
@@ -76,7 +76,7 @@ module _ (x : Triple) (is : IsTriple x) where
   element_same : (n : ExpandedName) (h : Trees) (r : PairSet) → HaveSamePairs (led x h) r → HaveSamePairs (led x (element n h none)) (around x (symbol_of x.symbols n) r)
   element_same n h r e = same_on _ (around x (symbol_of x.symbols n) (led x h)) _ (led_element x is n h) (around_alike x (symbol_of x.symbols n) (led x h) r e)
 
-  text_same : (s : List ℕ) (b : Bool) → is_all_white s ≡ b → Leads (put s) (chosen b (stay x) (text_edges x))
+  text_same : (s : List ℕ) (b : Bool) → is_white_space_only s ≡ b → Leads (put s) (chosen b (stay x) (text_edges x))
   text_same [] true e = led_none x is
   text_same [] false e = cc
   text_same (c ∷ cs) true e = led_white x is (c ∷ cs) e
@@ -119,7 +119,7 @@ module _ (x : Triple) (is : IsTriple x) where
     mutual
       pub body_same : (d : CallFreeBody) → HasParts (sheet x) d → Leads (does_in (machine x) d n outs) (body_pairs x d (kind_of_node n) w)
       body_same p_done i = led_none x is
-      body_same (p_text s d) i = together _ _ _ _ (text_same s (is_all_white s) refl) (body_same d i)
+      body_same (p_text s d) i = together _ _ _ _ (text_same s (is_white_space_only s) refl) (body_same d i)
       body_same (p_element a inner d) i = together _ _ _ _ (element_same a _ _ (body_same inner i.0)) (body_same d i.1)
       body_same (p_copy inner d) i = together _ _ _ _ (copy_same n (does_in (machine x) inner n outs) _ b.apart (body_same inner i.0)) (body_same d i.1)
       body_same (p_apply p m d) i = together _ _ _ _ (b.pairs m p (in_mode m) i.0 (of_mode i.1)) (body_same d i.2)

@@ -3,7 +3,7 @@ use Rattle.std.proofs.Common.{◌≡◌, inl, inr, ℕ, ◌+◌, zero, suc, List
 use Rattle.std.proofs.lemmas.List.Elements.{All-contains}
 use Rattle.std.proofs.lemmas.Option.{same_Some}
 use Rattle.tc_model.specs.Names.{ExpandedName}
-use Rattle.tc_model.specs.Trees.{Trees, none, text, element, beside, is_all_white}
+use Rattle.tc_model.specs.Trees.{Trees, none, text, element, beside, is_white_space_only}
 use Rattle.tc_model.specs.Grammars.{ElementPattern, element_at, in_class}
 use Rattle.tc_model.specs.States.{output, text_leaf, ref_leaf, first_state, a_content, IsEdge, Leads, at_end, past_white, by_text, by_element}
 use Rattle.tc_model.specs.Symbols.{symbol_of, fresh_name, symbols_of}
@@ -65,7 +65,7 @@ module _ (x : Triple) (is : IsTriple x) where
       of : product (led x h) (led x k) i j → led x (beside h k) i j
       of (m, a, b) = (a.0, leads_beside x.output output a.1 b.1)
 
-  pub led_text : (s : List ℕ) → is_all_white s ≡ false → HaveSamePairs (led x (text s none)) (text_edges x)
+  pub led_text : (s : List ℕ) → is_white_space_only s ≡ false → HaveSamePairs (led x (text s none)) (text_edges x)
   led_text s other i j = (to, of)
     where
       to : led x (text s none) i j → text_edges x i j
@@ -75,7 +75,7 @@ module _ (x : Triple) (is : IsTriple x) where
       of : text_edges x i j → led x (text s none) i j
       of edge = ((edge_within x.output output i j text_leaf edge).0, by_text other edge at_end)
 
-  pub led_white : (s : List ℕ) → is_all_white s ≡ true → HaveSamePairs (led x (text s none)) (stay x)
+  pub led_white : (s : List ℕ) → is_white_space_only s ≡ true → HaveSamePairs (led x (text s none)) (stay x)
   led_white s white i j = (to, of)
     where
       to : led x (text s none) i j → stay x i j

@@ -3,7 +3,7 @@ use Rattle.std.proofs.Common.{◌≡◌, ◌↔◌, inl, inr, ℕ, ◌+◌, ◌<
 use Rattle.std.specs.List.{list_any}
 use Rattle.std.proofs.lemmas.Bool.{true≢false}
 use Rattle.tc_model.specs.Names.{ExpandedName, IsName, IsText}
-use Rattle.tc_model.specs.Trees.{Trees, none, text, element, beside, node_count, normal_form, AreLawful, IsNormal, IsDocument, is_all_white}
+use Rattle.tc_model.specs.Trees.{Trees, none, text, element, beside, node_count, normal_form, AreLawful, IsNormal, IsDocument, is_white_space_only}
 use Rattle.tc_model.specs.Chains.{Tree, an_element, a_text}
 use Rattle.tc_model.specs.TreesApart.{alone, followed_by, is_text, ends_in_text, IsApart}
 use Rattle.tc_model.specs.LiveTrees.{AreOfDocuments, HasPattern, HavePatterns, LeadSomewhere, IsLiveTree, IsLiveHedge, empty_is_live, are_live}
@@ -82,7 +82,7 @@ module _ (g : Grammar) where
       are_live (lawful.1, same) (led_have g false apart leads) (k, first_state g input k + y, low, high, leads)
 
 module _ (x : Triple) (is : IsTriple x) where
-  pub text_live : (s : List ℕ) → IsText s → is_all_white s ≡ false → IsLiveTree x.input (a_text s) ↔ IsTextLive x
+  pub text_live : (s : List ℕ) → IsText s → is_white_space_only s ≡ false → IsLiveTree x.input (a_text s) ↔ IsTextLive x
   text_live s lawful ink = (λ l. l.1, λ l. (((lawful, tt), (normal_apart (text s none)).1 (refl, ink, tt)), l))
 
   pub append_live : (h : Trees) (t : Tree) (r : HedgeRow) (s : TreeRow) → IsLiveHedge x.input h → IsLiveTree x.input t → IsRowOfHedge x h r → IsRowOfTree x t s

@@ -2,7 +2,7 @@
 use Rattle.std.proofs.Common.{◌≡◌, ◌⊎◌, inl, inr, ℕ, zero, suc, ◌+◌, ◌*◌, ◌<◌, ◌≤◌, List, [], ◌∷◌, Bool, true, false, refl, ap, ◌∙◌, sym, subst, length, get_or, nat_lt, Option, Some, None, arith}
 use Rattle.std.proofs.lemmas.Option.{same_Some}
 use Rattle.std.proofs.lemmas.List.Elements.{All-get_or}
-use Rattle.tc_model.specs.Trees.{is_all_white}
+use Rattle.tc_model.specs.Trees.{is_white_space_only}
 use Rattle.tc_model.specs.Grammars.{ElementPattern, element_at, InClass, in_class}
 use Rattle.tc_model.specs.Sheets.{Path, CallFreeBody, p_done, p_text, p_element, p_copy, p_apply, p_call, p_value, p_self, p_choose, p_each, CallFreeBranches, p_otherwise, p_branch}
 use Rattle.tc_model.specs.Symbols.{symbol_of, fresh_name}
@@ -108,7 +108,7 @@ module _ (x : Triple) where
     mutual
       pub set_body : (d : CallFreeBody) → IsSet (body_pairs x d k w)
       set_body p_done = set_stay
-      set_body (p_text s d) = set_product _ _ (set_chosen (is_all_white s) (stay x) (text_edges x) set_stay set_text) (set_body d)
+      set_body (p_text s d) = set_product _ _ (set_chosen (is_white_space_only s) (stay x) (text_edges x) set_stay set_text) (set_body d)
       set_body (p_element n inner d) = set_product _ _ (set_around (symbol_of x.symbols n) _ (set_body inner)) (set_body d)
       set_body (p_copy inner d) = set_product _ _ (set_copied k _ (set_body inner)) (set_body d)
       set_body (p_apply p m d) = set_product _ _ (pairs m p) (set_body d)

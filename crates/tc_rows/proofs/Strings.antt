@@ -1,18 +1,18 @@
 -- A string-value is empty, or isn't white space alone: where no text of a document is.
 use Rattle.std.proofs.Common.{◌≡◌, ℕ, List, [], ◌∷◌, ◌++◌, refl, ap, ◌∙◌, sym, subst, Bool, true, false, cond, ◌&&◌, ◌||◌, Option, Some, None}
 use Rattle.tc_base.specs.Characters.{is_white}
-use Rattle.tc_model.specs.Trees.{Trees, none, text, element, is_all_white}
+use Rattle.tc_model.specs.Trees.{Trees, none, text, element, is_white_space_only}
 use Rattle.tc_model.specs.Chains.{an_element, a_text, Node, one, joined_texts, string_value}
 use Rattle.tc_model.specs.TreesApart.{bears_text, IsApartAfter}
 use Rattle.tc_model.specs.Meaning.{value_of_first}
 use Rattle.tc_model.specs.Machine.{Machine, or_else, first_hit}
 use Rattle.tc_rows.specs.Rows.{hit_value, bears_value, node_bears, value_of}
 
-white_append : (s t : List ℕ) → is_all_white (s ++ t) ≡ is_all_white s && is_all_white t
+white_append : (s t : List ℕ) → is_white_space_only (s ++ t) ≡ is_white_space_only s && is_white_space_only t
 white_append [] t = refl
 white_append (b ∷ bs) t = go (is_white b) (white_append bs t)
   where
-    go : (w : Bool) → is_all_white (bs ++ t) ≡ is_all_white bs && is_all_white t → w && is_all_white (bs ++ t) ≡ (w && is_all_white bs) && is_all_white t
+    go : (w : Bool) → is_white_space_only (bs ++ t) ≡ is_white_space_only bs && is_white_space_only t → w && is_white_space_only (bs ++ t) ≡ (w && is_white_space_only bs) && is_white_space_only t
     go true e = e
     go false e = refl
 
@@ -22,12 +22,12 @@ and_false false b e = refl
 
 -- a text that bears nothing is empty, and one that does isn't white space alone
 abbrev pub Fits : Bool → List ℕ → Type 0
-Fits true s = is_all_white s ≡ false
+Fits true s = is_white_space_only s ≡ false
 Fits false s = s ≡ []
 
 fits_append : (a b : Bool) (s t : List ℕ) → Fits a s → Fits b t → Fits (a || b) (s ++ t)
-fits_append true b s t f g = white_append s t ∙ and_false (is_all_white s) (is_all_white t) f
-fits_append false true s t f g = ap (λ w. is_all_white (w ++ t)) f ∙ g
+fits_append true b s t f g = white_append s t ∙ and_false (is_white_space_only s) (is_white_space_only t) f
+fits_append false true s t f g = ap (λ w. is_white_space_only (w ++ t)) f ∙ g
 fits_append false false s t f g = ap (λ w. w ++ t) f ∙ g
 
 pub string_fits : (b : Bool) (h : Trees) → IsApartAfter b h → Fits (bears_text h) (joined_texts h)

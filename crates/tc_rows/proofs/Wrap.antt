@@ -1,7 +1,7 @@
 -- The row of an element around trees, of a text, and of no tree.
 use Rattle.std.proofs.Common.{◌≡◌, ◌↔◌, ℕ, ◌+◌, ◌-◌, ◌*◌, ◌<◌, List, [], Bool, true, false, cond, refl, ap, ◌∙◌, sym, subst, Option, Some, None, Contains}
 use Rattle.tc_model.specs.Names.{ExpandedName}
-use Rattle.tc_model.specs.Trees.{Trees, none, text, element, beside, normal_form, is_all_white}
+use Rattle.tc_model.specs.Trees.{Trees, none, text, element, beside, normal_form, is_white_space_only}
 use Rattle.tc_model.specs.Chains.{an_element, a_text, Node, one}
 use Rattle.tc_model.specs.TreesApart.{bears_text, IsApart}
 use Rattle.tc_model.specs.Matching.{Matches}
@@ -144,7 +144,7 @@ module _ (x : Triple) (is : IsTriple x) where
         }
 
   -- a text
-  module _ (s : List ℕ) (u : TreeRow) (ink : is_all_white s ≡ false) where
+  module _ (s : List ℕ) (u : TreeRow) (ink : is_white_space_only s ≡ false) where
     abbrev T : Letter
     T = letter_of x.symbols (predicates x) (a_text s)
 

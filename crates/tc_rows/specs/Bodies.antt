@@ -1,6 +1,6 @@
 -- What a body puts out on a node, told by what stands below the node: where it leads the output.
 use Rattle.std.specs.Prelude.{◌≡◌, ◌+◌, ℕ, List, map, Bool, true, false, not, ◌&&◌, ◌||◌, Some}
-use Rattle.tc_model.specs.Trees.{is_all_white}
+use Rattle.tc_model.specs.Trees.{is_white_space_only}
 use Rattle.tc_model.specs.Grammars.{ElementPattern, element_at, InClass}
 use Rattle.tc_model.specs.Sheets.{Path, Test, always, never, has, negated, all_of, any_of, Tests, no_test, test, CallFreeBody, p_done, p_text, p_element, p_copy, p_apply, p_call, p_value, p_self, p_choose, p_each, CallFreeBranches, p_otherwise, p_branch}
 use Rattle.tc_model.specs.States.{output, text_leaf, ref_leaf, automaton, first_state, IsEdge}
@@ -60,7 +60,7 @@ module _ (x : Triple) where
 
   -- a text, which leads nowhere if it is white space alone
   abbrev pub text_pairs : List ℕ → PairSet
-  text_pairs s = chosen (is_all_white s) stay text_edges
+  text_pairs s = chosen (is_white_space_only s) stay text_edges
 
   -- a string-value, which is empty or isn't white space alone
   abbrev pub value_pairs : Bool → PairSet

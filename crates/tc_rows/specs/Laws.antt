@@ -1,7 +1,7 @@
 -- The laws of rows: all that is to be known of them where rows of all live trees are found, or where some are checked.
 use Rattle.std.specs.Prelude.{◌≡◌, ◌<◌, ◌↔◌, ◌+◌, ℕ, List, false, ◌&&◌, IsTrue, codes}
 use Rattle.tc_model.specs.Names.{ExpandedName, IsName, IsText}
-use Rattle.tc_model.specs.Trees.{Trees, none, is_all_white, node_count, IsNormal, IsDocument}
+use Rattle.tc_model.specs.Trees.{Trees, none, is_white_space_only, node_count, IsNormal, IsDocument}
 use Rattle.tc_model.specs.Chains.{Tree, an_element, a_text}
 use Rattle.tc_model.specs.TreesApart.{alone, followed_by, FromBack, is_text, ends_in_text}
 use Rattle.tc_model.specs.LiveTrees.{AreOfDocuments, IsLiveTree, IsLiveHedge}
@@ -34,8 +34,8 @@ module _ (x : Triple) where
   -- rows commute with putting trees together: of all trees in normal form, live or not, rows are worked out from those of their parts; and what is live, made of live parts, is told by rows
   pub record Commute : Type 0 where
     pub empty : (u : HedgeRow) → IsEmptyRow x u → IsRowOfHedge x none u
-    pub text : (s : List ℕ) (u : TreeRow) → is_all_white s ≡ false → IsTextRow x u → IsRowOfTree x (a_text s) u
-    pub text_live : (s : List ℕ) → IsText s → is_all_white s ≡ false → IsLiveTree x.input (a_text s) ↔ IsTextLive x
+    pub text : (s : List ℕ) (u : TreeRow) → is_white_space_only s ≡ false → IsTextRow x u → IsRowOfTree x (a_text s) u
+    pub text_live : (s : List ℕ) → IsText s → is_white_space_only s ≡ false → IsLiveTree x.input (a_text s) ↔ IsTextLive x
     -- where all of it is in normal form, so is the last tree
     pub appended : (h : Trees) (t : Tree) (r : HedgeRow) (s : TreeRow) (u : HedgeRow)
         → IsNormal (alone t) → IsRowOfHedge x h r → IsRowOfTree x t s → IsAppend x r s u → IsRowOfHedge x (followed_by h t) u
@@ -48,7 +48,7 @@ module _ (x : Triple) where
 
   -- trees are in normal form exactly where their parts are and no two texts meet
   pub record AreNormal : Type 0 where
-    pub text : (s : List ℕ) → IsNormal (alone (a_text s)) ↔ (is_all_white s ≡ false)
+    pub text : (s : List ℕ) → IsNormal (alone (a_text s)) ↔ (is_white_space_only s ≡ false)
     pub element : (n : ExpandedName) (h : Trees) → IsNormal (alone (an_element n h)) ↔ IsNormal h
     pub followed : (h : Trees) (t : Tree) → IsNormal (followed_by h t) ↔ (IsNormal h × IsNormal (alone t) × ((ends_in_text h && is_text t) ≡ false))
 
@@ -56,7 +56,7 @@ module _ (x : Triple) where
   pub record AreMade : Type 0 where
     pub from_back : (h : Trees) → FromBack h
     pub none_is_live : IsLiveHedge x.input none
-    pub no_white_text : (s : List ℕ) → IsLiveTree x.input (a_text s) → IsText s × (is_all_white s ≡ false)
+    pub no_white_text : (s : List ℕ) → IsLiveTree x.input (a_text s) → IsText s × (is_white_space_only s ≡ false)
     pub name_inside : (n : ExpandedName) (h : Trees) → IsLiveTree x.input (an_element n h) → IsName n
     pub inside : (n : ExpandedName) (h : Trees) → IsLiveTree x.input (an_element n h) → IsLiveHedge x.input h
     pub front : (h : Trees) (t : Tree) → IsLiveHedge x.input (followed_by h t) → IsLiveHedge x.input h
@@ -65,7 +65,7 @@ module _ (x : Triple) where
     -- each symbol has a name, and a text is at hand
     pub symbol : (n : ExpandedName) → symbol_of x.symbols n < symbol_count x.symbols
     pub fresh : (a : ℕ) → a < symbol_count x.symbols → IsName (fresh_name x.symbols a) × (symbol_of x.symbols (fresh_name x.symbols a) ≡ a)
-    pub plain_text : IsText (codes "t") × (is_all_white (codes "t") ≡ false)
+    pub plain_text : IsText (codes "t") × (is_white_space_only (codes "t") ≡ false)
 
   -- a document is one tree, and live where it is valid; rows tell which documents are valid, and the results of which, be they live or not
   pub record Tell : Type 0 where

@@ -496,13 +496,13 @@ fn number_of(states: &IndexSet<Row>, row: &Row) -> Option<u32>
     ensures { result ≡ number_in (seen.states states.now.keys) (seen.state row.now) }
 {
     match states.get_index_of(row) {
-        Some(number) => Some(small(number)),
+        Some(number) => Some(as_u32(number)),
         None => None,
     }
 }
 
 /// The same number, which is far below 2 to the power 32.
-pub(crate) fn small(number: usize) -> u32
+pub(crate) fn as_u32(number: usize) -> u32
     ensures { number < 2 ^ 32 → result ≡ number }
 {
     number.min(u32::MAX as usize) as u32
@@ -513,7 +513,7 @@ impl Graph {
     pub(crate) fn len(&self) -> u32
         ensures { length (seen.graph self.now).states < 2 ^ 32 → result ≡ length (seen.graph self.now).states }
     {
-        small(self.states.len())
+        as_u32(self.states.len())
     }
 
     /// Whether there are no states.

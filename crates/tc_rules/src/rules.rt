@@ -32,7 +32,7 @@ use crate::gather::{
     all_eaches, all_looks, all_moves, all_predicates, all_usages, modes_of_rules, names_of,
     paths_of_rules,
 };
-use crate::graph::{Counts, Graph, GraphFault, Source, small};
+use crate::graph::{Counts, Graph, GraphFault, Source, as_u32};
 use crate::once::{number_of_move, number_of_path};
 use crate::walk::{Job, Move, Usage};
 use bumpalo::Bump;
@@ -186,7 +186,7 @@ impl<'b> Rules<'b> {
     pub fn predicates(&self) -> u32
         ensures { (symbols : List Mention) → IsRulesOf symbols self.now → result ≡ length (n.predicates_of (told self.now).sheet) }
     {
-        small(self.predicates.len())
+        as_u32(self.predicates.len())
     }
 
     /// The predicate of a number.

@@ -2,7 +2,7 @@
 use Rattle.std.proofs.Common.{◌≡◌, ◌≢◌, ℕ, List, [], ◌∷◌, ◌++◌, refl, ap, ◌∙◌, sym, subst, Option, None, Some, IsTrue, IsFalse, Result, Ok, Err, IfOk, IfErr}
 use Rattle.tc_model.specs.Names.{ExpandedName}
 use Rattle.tc_model.specs.RawTrees.{Attribute, Bound, RawTrees, none, text, element}
-use Rattle.tc_model.specs.Trees.{is_all_white}
+use Rattle.tc_model.specs.Trees.{is_white_space_only}
 use Rattle.tc_model.specs.Views.{name, place, raw_trees, raw_before, raw_element}
 use Rattle.tc_model.specs.SheetTextTrees.{WrittenBody, w_nothing, w_text}
 use Rattle.tc_model.specs.SheetTextPhrases as p
@@ -196,10 +196,10 @@ pub item_of_body_refuses : {whole : RawTrees} (rest : RawTrees) {found : List Wr
 item_of_body_refuses rest t l x r = lifted (both_cover (covers_first in_body t rest) l.covers) (λ c h. l.no_more c (h rest)) x r
 
 -- what a tree in a body is
-pub item_white : (t : Raw) (s : List ℕ) (q : ℕ) → ((rest : RawTrees) → raw_before t rest ≡ text s q rest) → IsTrue (is_all_white s) → IsItem t (put None)
+pub item_white : (t : Raw) (s : List ℕ) (q : ℕ) → ((rest : RawTrees) → raw_before t rest ≡ text s q rest) → IsTrue (is_white_space_only s) → IsItem t (put None)
 item_white t s q f w = λ rest b y. subst (λ h. IsBody h b) (sym (f rest)) (p.past_white w y)
 
-pub item_text : (t : Raw) (s : List ℕ) (q : ℕ) (x : Written) → ((rest : RawTrees) → raw_before t rest ≡ text s q rest) → IsFalse (is_all_white s) → ((b : WrittenBody) → written x b ≡ w_text s b) → IsItem t (put (Some x))
+pub item_text : (t : Raw) (s : List ℕ) (q : ℕ) (x : Written) → ((rest : RawTrees) → raw_before t rest ≡ text s q rest) → IsFalse (is_white_space_only s) → ((b : WrittenBody) → written x b ≡ w_text s b) → IsItem t (put (Some x))
 item_text t s q x f w g = λ rest b y. subst (λ h. IsBody h (written x b)) (sym (f rest)) (subst (IsBody (text s q rest)) (sym (g b)) (p.a_text w y))
 
 pub item_elem : (t : Raw) (e : RawElem) (f : WrittenBody → WrittenBody) → ((rest : RawTrees) → raw_before t rest ≡ raw_element e rest) → IsElementItem e f → IsItem t f

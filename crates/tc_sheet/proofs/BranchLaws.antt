@@ -6,7 +6,7 @@ use Rattle.std.proofs.Common.{◌-◌, take, drop, length-drop}
 use Rattle.std.proofs.lemmas.List.{take_all}
 use Rattle.tc_model.specs.Names.{ExpandedName}
 use Rattle.tc_model.specs.RawTrees.{Attribute, Bound, RawTrees, none, text, element}
-use Rattle.tc_model.specs.Trees.{is_all_white}
+use Rattle.tc_model.specs.Trees.{is_white_space_only}
 use Rattle.tc_model.specs.Views.{name, test, raw_trees, raw_element}
 use Rattle.tc_model.specs.Sheets.{Test}
 use Rattle.tc_model.specs.SheetTextTrees.{WrittenBody, w_nothing, w_choose, WrittenBranches, w_otherwise, w_branch}
@@ -46,7 +46,7 @@ no_branch f g (p.an_otherwise o i y) = g o.name
 behind_white : {s : List ℕ} {q : ℕ} {behind : RawTrees} {x : WrittenBranches} → AreBranches (text s q behind) x → AreBranches behind x
 behind_white (p.between w y) = y
 
-white_there : {s : List ℕ} {q : ℕ} {behind : RawTrees} {x : WrittenBranches} → AreBranches (text s q behind) x → IsTrue (is_all_white s)
+white_there : {s : List ℕ} {q : ℕ} {behind : RawTrees} {x : WrittenBranches} → AreBranches (text s q behind) x → IsTrue (is_white_space_only s)
 white_there (p.between w y) = w
 
 when_stays : (c : Change) (n : ExpandedName) → IsXsl (codes "when") n → TakesAway c n → ⊥
@@ -84,7 +84,7 @@ module _ (e : RawElem) (after : RawTrees) (is : IsXsl (codes "otherwise") (name 
   otherwise_blank_refuses x r = lifted (covers_rest (ap (λ (m : ExpandedName). looked.behind m in_choose) is)) (λ c h. otherwise_by c (λ bs others behind v w z t. h behind z t.2)) x r
 
 -- a text that is no white space, or another element, stands in no `xsl:choose`
-pub text_no_branch : (s : List ℕ) (q : ℕ) → IsFalse (is_all_white s) → (c : Change) (rest : RawTrees) → HasNoBranches (text s q rest) c
+pub text_no_branch : (s : List ℕ) (q : ℕ) → IsFalse (is_white_space_only s) → (c : Change) (rest : RawTrees) → HasNoBranches (text s q rest) c
 text_no_branch s q f c rest k x (a_text h) y = differ (white_there y) f
   where
     differ : {b : _} → IsTrue b → IsFalse b → ⊥
@@ -109,7 +109,7 @@ white_rest : {s : List ℕ} {q : ℕ} {rest : RawTrees} (c : Change) → HasNoBr
 white_rest c g k x (a_text {k = behind} h) y = g behind x h (behind_white y)
 
 module _ {whole rest left : RawTrees} {found : List WrittenBranch} (l : BranchLoop whole left found) where
-  pub past_blank : (s : List ℕ) (q : ℕ) → left ≡ text s q rest → IsTrue (is_all_white s) → BranchLoop whole rest found
+  pub past_blank : (s : List ℕ) (q : ℕ) → left ≡ text s q rest → IsTrue (is_white_space_only s) → BranchLoop whole rest found
   past_blank s q e w = record {
     so_far = λ x y. l.so_far x (subst (λ h. AreBranches h x) (sym e) (p.between w y));
     no_more = λ c g. l.no_more c (subst (λ h. HasNoBranches h c) (sym e) (white_rest c g));
@@ -163,7 +163,7 @@ module _ (e : RawElem) (is : instruction_of (name e.name) ≡ Some i_choose) whe
 
 -- faults of a tree in an `xsl:choose`
 module _ {whole left : RawTrees} {found : List WrittenBranch} (l : BranchLoop whole left found) where
-  pub black_refuses : (s : List ℕ) (q : ℕ) (rest : RawTrees) → left ≡ text s q rest → IsFalse (is_all_white s) → IsAt (IsIn in_choose whole) IsUnrefused q × HasNoBranches whole both
+  pub black_refuses : (s : List ℕ) (q : ℕ) (rest : RawTrees) → left ≡ text s q rest → IsFalse (is_white_space_only s) → IsAt (IsIn in_choose whole) IsUnrefused q × HasNoBranches whole both
   black_refuses s q rest e f = (moved l.covers (subst (λ h. IsAt (IsIn in_choose h) IsUnrefused q) (sym e) (text_at in_choose s q rest)), l.no_more both (subst (λ h. HasNoBranches h both) (sym e) (text_no_branch s q f both rest)))
 
   pub odd_refuses : (e : RawElem) (rest : RawTrees) → left ≡ raw_element e rest → (x : SheetFault) → Refuses x (IsIn in_choose (raw_element e none)) (λ c. (rest : RawTrees) → HasNoBranches (raw_element e rest) c) → Refuses x (IsIn in_choose whole) (HasNoBranches whole)

@@ -2,7 +2,7 @@
 use Rattle.std.proofs.Common.{◌≡◌, ℕ, List, [], ◌∷◌, ◌++◌, refl, ap, ◌∙◌, sym, subst, append_assoc, IsTrue, IsFalse}
 use Rattle.std.proofs.lemmas.Bool.{true≢false}
 use Rattle.tc_model.specs.RawTrees.{Attribute, Bound, RawTrees, none, text, element}
-use Rattle.tc_model.specs.Trees.{is_all_white}
+use Rattle.tc_model.specs.Trees.{is_white_space_only}
 use Rattle.tc_model.specs.Names.{ExpandedName}
 use Rattle.tc_model.specs.Views.{raw_element}
 use Rattle.tc_model.specs.SheetTextPhrases.{IsBlank, at_end, past_white, AreCharacters, no_characters, characters}
@@ -20,7 +20,7 @@ no_blank_element b = elim b [ ]
 no_character_element : {n : ExpandedName} {bs : List Attribute} {scope : List Bound} {q : ℕ} {kids rest : RawTrees} {s : List ℕ} → AreCharacters (element n bs scope q kids rest) s → ⊥
 no_character_element b = elim b [ ]
 
-white_text : {s : List ℕ} {q : ℕ} {rest : RawTrees} → IsBlank (text s q rest) → IsTrue (is_all_white s) × IsBlank rest
+white_text : {s : List ℕ} {q : ℕ} {rest : RawTrees} → IsBlank (text s q rest) → IsTrue (is_white_space_only s) × IsBlank rest
 white_text (past_white w b) = (w, b)
 
 rest_characters : {s : List ℕ} {q : ℕ} {rest : RawTrees} {t : List ℕ} → AreCharacters (text s q rest) t → (u : List ℕ) × AreCharacters rest u
@@ -38,18 +38,18 @@ blank_begins whole = record { so_far = λ b. b; no_more = λ c g. g; covers = co
 blank_rest : {s : List ℕ} {q : ℕ} {rest : RawTrees} (c : Change) → IsNotBlank rest c → (k : RawTrees) → Changed c (text s q rest) k → IsBlank k → ⊥
 blank_rest c g k (a_text {k = behind} h) b = g behind h (white_text b).1
 
-black_text : {s : List ℕ} {q : ℕ} {rest : RawTrees} (c : Change) → IsFalse (is_all_white s) → (k : RawTrees) → Changed c (text s q rest) k → IsBlank k → ⊥
+black_text : {s : List ℕ} {q : ℕ} {rest : RawTrees} (c : Change) → IsFalse (is_white_space_only s) → (k : RawTrees) → Changed c (text s q rest) k → IsBlank k → ⊥
 black_text c f k (a_text h) b = true≢false (sym (white_text b).0 ∙ f)
 
 module _ {whole left rest : RawTrees} (l : BlankLoop whole left) where
-  pub past_blank_text : (s : List ℕ) (q : ℕ) → left ≡ text s q rest → IsTrue (is_all_white s) → BlankLoop whole rest
+  pub past_blank_text : (s : List ℕ) (q : ℕ) → left ≡ text s q rest → IsTrue (is_white_space_only s) → BlankLoop whole rest
   past_blank_text s q e w = record {
     so_far = λ b. l.so_far (subst IsBlank (sym e) (past_white w b));
     no_more = λ c g. l.no_more c (subst (λ h. IsNotBlank h c) (sym e) (blank_rest c g));
     covers = both_cover (subst (λ h. Covers (IsIn in_blank rest) (IsIn in_blank h)) (sym e) covers_beside_text) l.covers;
   }
 
-  pub text_not_blank : (s : List ℕ) (q : ℕ) → left ≡ text s q rest → IsFalse (is_all_white s) → IsAt (IsIn in_blank whole) IsUnrefused q × IsNotBlank whole both
+  pub text_not_blank : (s : List ℕ) (q : ℕ) → left ≡ text s q rest → IsFalse (is_white_space_only s) → IsAt (IsIn in_blank whole) IsUnrefused q × IsNotBlank whole both
   text_not_blank s q e f = (moved l.covers (subst (λ h. IsAt (IsIn in_blank h) IsUnrefused q) (sym e) (text_at in_blank s q rest)), l.no_more both (subst (λ h. IsNotBlank h both) (sym e) (black_text both f)))
 
   pub element_not_blank : (e : RawElem) → left ≡ raw_element e rest → (x : SheetFault) → IsMisplaced e x → Refuses x (IsIn in_blank whole) (IsNotBlank whole)

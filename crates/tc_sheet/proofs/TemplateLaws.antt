@@ -6,7 +6,7 @@ use Rattle.std.proofs.lemmas.Bool.{true≢false, false≢true}
 use Rattle.tc_base.specs.declared.reasons.Why.TheVariants.{N36}
 use Rattle.tc_model.specs.Names.{ExpandedName}
 use Rattle.tc_model.specs.RawTrees.{Attribute, Bound, RawTrees, none, text, element}
-use Rattle.tc_model.specs.Trees.{is_all_white}
+use Rattle.tc_model.specs.Trees.{is_white_space_only}
 use Rattle.tc_model.specs.Views.{name, raw_trees, raw_before, raw_element}
 use Rattle.tc_model.specs.PathTextPhrases.{Alternative}
 use Rattle.tc_model.specs.PathText.{PatternText}
@@ -111,7 +111,7 @@ no_top f g h k (p.past_declaration (inr d) y) = h d
 no_top f g h (inl k) (p.past_other u v y) = v k
 no_top f g h (inr k) (p.past_other u v y) = u k
 
-white_top : {s : List ℕ} {q : ℕ} {behind : RawTrees} {ts : List Template} → AreTemplates (text s q behind) ts → IsTrue (is_all_white s) × ((us : List Template) × AreTemplates behind us)
+white_top : {s : List ℕ} {q : ℕ} {behind : RawTrees} {ts : List Template} → AreTemplates (text s q behind) ts → IsTrue (is_white_space_only s) × ((us : List Template) × AreTemplates behind us)
 white_top (p.past_white {ts = us} w y) = (w, (us, y))
 
 pub top_template : (e : RawElem) (t : Code) → IsTemplate (tag_of e) (raw_trees e.kids.now) (template t) → IsTopElement e (put_template (Some t))
@@ -135,7 +135,7 @@ top_declaration e d = λ rest ts y. p.past_declaration d y
 pub top_other : (e : RawElem) → (name e.name).uri ≢ xsl_uri → (name e.name).uri ≢ [] → IsTopElement e (put_template None)
 top_other e u v = λ rest ts y. p.past_other v u y
 
-pub text_no_top : (s : List ℕ) (q : ℕ) → IsFalse (is_all_white s) → (c : Change) (rest : RawTrees) → HasNoTemplates (text s q rest) c
+pub text_no_top : (s : List ℕ) (q : ℕ) → IsFalse (is_white_space_only s) → (c : Change) (rest : RawTrees) → HasNoTemplates (text s q rest) c
 text_no_top s q f c rest k ts (a_text h) y = differ (white_top y).0 f
   where
     differ : {b : Bool} → IsTrue b → IsFalse b → ⊥
@@ -193,10 +193,10 @@ pub top_stays : (found now : List Code) (read : Option Code) → now ≡ found �
 top_stays found now read e f ts = ap (λ us. map template us ++ ts) e ∙ ap (λ o. map template found ++ put_template o ts) (sym f)
 
 -- what a tree at the top is
-pub top_white : (t : Raw) (s : List ℕ) (q : ℕ) → ((rest : RawTrees) → raw_before t rest ≡ text s q rest) → IsTrue (is_all_white s) → IsTopItem t (put_template None)
+pub top_white : (t : Raw) (s : List ℕ) (q : ℕ) → ((rest : RawTrees) → raw_before t rest ≡ text s q rest) → IsTrue (is_white_space_only s) → IsTopItem t (put_template None)
 top_white t s q f w = λ rest ts y. subst (λ h. AreTemplates h ts) (sym (f rest)) (p.past_white w y)
 
-pub top_black : (t : Raw) (s : List ℕ) (q : ℕ) → ((rest : RawTrees) → raw_before t rest ≡ text s q rest) → IsFalse (is_all_white s) → IsAt (IsIn at_top (raw_before t none)) IsUnrefused q × HasNoTopItem t both
+pub top_black : (t : Raw) (s : List ℕ) (q : ℕ) → ((rest : RawTrees) → raw_before t rest ≡ text s q rest) → IsFalse (is_white_space_only s) → IsAt (IsIn at_top (raw_before t none)) IsUnrefused q × HasNoTopItem t both
 top_black t s q f w = (subst (λ h. IsAt (IsIn at_top h) IsUnrefused q) (sym (f none)) (text_at at_top s q none), λ rest. subst (λ h. HasNoTemplates h both) (sym (f rest)) (text_no_top s q w both rest))
 
 pub top_elem : (t : Raw) (e : RawElem) (f : List Template → List Template) → ((rest : RawTrees) → raw_before t rest ≡ raw_element e rest) → IsTopElement e f → IsTopItem t f

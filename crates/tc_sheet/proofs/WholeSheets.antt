@@ -19,7 +19,7 @@ use Rattle.tc_sheet.specs.Graphs.{IsCallFault}
 use Rattle.tc_sheet.specs.Tables.{IsTwice}
 use Rattle.tc_sheet.specs.declared.faults.SheetFault.{SheetFault}
 use Rattle.tc_sheet.specs.declared.faults.SheetFault.TheVariants.{NoMemory}
-use Rattle.tc_sheet.specs.Told.{IsTold}
+use Rattle.tc_sheet.specs.FaultClauses.{IsTold}
 use Rattle.tc_sheet.proofs.SheetLaws.{always_unsupported, always_deep, no_undefined, no_loop, always_again, twice_cause, twice_no_call, calls_cause, calls_unsupported, calls_deep, calls_undefined, calls_loop, calls_again, used_names}
 
 pub element_tree : (t : Raw) (e : RawElem) → t ≡ Elem e → raw_tree t ≡ raw_element e none

@@ -11,4 +11,4 @@ pub mod SeenCalls
 pub mod Tables
 pub mod Numbers
 pub mod Begun
-pub mod Told
+pub mod FaultClauses

@@ -112,7 +112,7 @@ fn take(element: &RawElem<'_>, attribute: &RawAttr<'_>, locals: &[&str]) -> Resu
 }
 
 /// Takes the attributes without a namespace of an XSLT element, which are of these names.
-pub(crate) fn only(element: &RawElem<'_>, locals: &[&str]) -> Result<(), SheetFault>
+pub(crate) fn only_attributes(element: &RawElem<'_>, locals: &[&str]) -> Result<(), SheetFault>
     requires xslt { (see.name element.now.name).uri ≡ xsl_uri }
     requires weighed { AreWeighedAmong (map (λ w. w.now) locals.now) (see.name element.now.name) }
     ensures ok { OnOk result (phrases.HasOnly (map (λ w. w.now) locals.now) (attributes_of element.now)) }

@@ -6,7 +6,7 @@ ghost use Rattle.tc_model.specs.Views as see;
 ghost use Rattle.tc_model.specs.SheetTextPhrases as phrases;
 ghost use Rattle.tc_model.specs.SheetTextPhrases.{xsl_uri, IsXsl};
 ghost use Rattle.tc_model.specs.SheetTextTrees as trees;
-ghost use Rattle.tc_sheet.specs.Begun.{IsBegunBy, IsBegun, around as around_seen};
+ghost use Rattle.tc_sheet.specs.Begun.{IsBegunBy, IsBegun, instruction_with_body as around_seen};
 ghost use Rattle.tc_sheet.specs.Constructs.{MustHave, plain};
 ghost use Rattle.tc_sheet.specs.Constructs as forms;
 ghost use Rattle.tc_sheet.specs.LookedAt.{IsIn, in_body, in_choose, in_blank};
@@ -15,15 +15,15 @@ ghost use Rattle.tc_sheet.specs.Views.{written, put, tag_of, body as body_of, br
 ghost use Rattle.tc_sheet.specs.declared.faults.SheetFault.TheVariants as faults;
 
 use crate::attributes::{
-    literal, only, optional_name, optional_select, required_attributes, required_element_name,
-    required_name, required_select, required_test, required_value,
+    literal, only_attributes, optional_name, optional_select, required_attributes,
+    required_element_name, required_name, required_select, required_test, required_value,
 };
 use crate::elements::{Instruction, instruction_of, is_xsl, is_xslt, misplaced};
 use crate::faults::SheetFault;
 use crate::written::{Written, WrittenBranch};
 use bumpalo::Bump;
 use bumpalo::collections::{into_bump_slice, into_bump_str};
-use tc_model::{Instr, Name, NodeTest, Path, Raw, RawElem, Step, Test, is_all_white};
+use tc_model::{Instr, Name, NodeTest, Path, Raw, RawElem, Step, Test, is_white_space_only};
 
 /// Takes texts of white space alone (XSLT 1.0, 3.4).
 fn blank(kids: &[Raw<'_>]) -> Result<(), SheetFault>
@@ -33,7 +33,7 @@ fn blank(kids: &[Raw<'_>]) -> Result<(), SheetFault>
     for kid in kids {
         match kid {
             Raw::Text(text, place) => {
-                if !is_all_white(text) {
+                if !is_white_space_only(text) {
                     return Err(SheetFault::Malformed(*place));
                 }
             }
@@ -112,7 +112,7 @@ fn apply_templates<'b>(arena: &'b Bump, element: &RawElem<'b>) -> Result<Begun<'
     ensures ok { IfOk result (IsBegunBy phrases.i_apply element.now) }
     ensures no { IfErr result (λ e. Refuses e (IsIn in_body (see.raw_element element.now raws.none)) (HasNoInstruction phrases.i_apply element.now)) }
 {
-    only(element, &["select", "mode"])?;
+    only_attributes(element, &["select", "mode"])?;
     let path = optional_select(arena, element)?;
     let mode = optional_name(element, "mode")?;
     blank(element.kids)?;
@@ -126,7 +126,7 @@ fn call_template<'b>(element: &RawElem<'b>) -> Result<Begun<'b>, SheetFault>
     ensures ok { IfOk result (IsBegunBy phrases.i_call element.now) }
     ensures no { IfErr result (λ e. Refuses e (IsIn in_body (see.raw_element element.now raws.none)) (HasNoInstruction phrases.i_call element.now)) }
 {
-    only(element, &["name"])?;
+    only_attributes(element, &["name"])?;
     let name = required_name(element)?;
     blank(element.kids)?;
     Ok(Begun::Whole(Some(Written::Call(name, element.place))))
@@ -138,7 +138,7 @@ fn value_of<'b>(arena: &'b Bump, element: &RawElem<'b>) -> Result<Begun<'b>, She
     ensures ok { IfOk result (IsBegunBy phrases.i_value element.now) }
     ensures no { IfErr result (λ e. Refuses e (IsIn in_body (see.raw_element element.now raws.none)) (HasNoInstruction phrases.i_value element.now)) }
 {
-    only(element, &["select"])?;
+    only_attributes(element, &["select"])?;
     let value = required_value(arena, element)?;
     blank(element.kids)?;
     match value {
@@ -153,7 +153,7 @@ fn text<'b>(arena: &'b Bump, element: &RawElem<'b>) -> Result<Begun<'b>, SheetFa
     ensures ok { IfOk result (IsBegunBy phrases.i_text element.now) }
     ensures no { IfErr result (λ e. Refuses e (IsIn in_body (see.raw_element element.now raws.none)) (HasNoInstruction phrases.i_text element.now)) }
 {
-    only(element, &[])?;
+    only_attributes(element, &[])?;
     let text = characters(arena, element.kids)?;
     Ok(Begun::Whole(Some(Written::Text(text))))
 }
@@ -164,7 +164,7 @@ fn copy_of<'b>(arena: &'b Bump, element: &RawElem<'b>) -> Result<Begun<'b>, Shee
     ensures ok { IfOk result (IsBegunBy phrases.i_copy_of element.now) }
     ensures no { IfErr result (λ e. Refuses e (IsIn in_body (see.raw_element element.now raws.none)) (HasNoInstruction phrases.i_copy_of element.now)) }
 {
-    only(element, &["select"])?;
+    only_attributes(element, &["select"])?;
     required_attributes(arena, element)?;
     blank(element.kids)?;
     Ok(Begun::Whole(None))
@@ -176,7 +176,7 @@ fn for_each<'b>(arena: &'b Bump, element: &RawElem<'b>) -> Result<Begun<'b>, She
     ensures ok { IfOk result (IsBegunBy phrases.i_each element.now) }
     ensures no { IfErr result (λ e. Refuses e (IsIn in_body (see.raw_element element.now raws.none)) (HasNoInstruction phrases.i_each element.now)) }
 {
-    only(element, &["select"])?;
+    only_attributes(element, &["select"])?;
     let path = required_select(arena, element)?;
     Ok(Begun::Around(Head::ForEach(path)))
 }
@@ -188,12 +188,12 @@ fn test_of<'b>(arena: &'b Bump, element: &RawElem<'b>) -> Result<Test<'b>, Sheet
     ensures ok { IfOk result (λ t. HasTest (scope_of element.now) (attributes_of element.now) (see.test t)) }
     ensures no { IfErr result (λ e. Refuses e (alone element.now) (HasNoTest element.now)) }
 {
-    only(element, &["test"])?;
+    only_attributes(element, &["test"])?;
     required_test(arena, element)
 }
 
 /// Reads the start of an `xsl:if` (XSLT 1.0, 9.1).
-fn an_if<'b>(arena: &'b Bump, element: &RawElem<'b>) -> Result<Begun<'b>, SheetFault>
+fn begin_if<'b>(arena: &'b Bump, element: &RawElem<'b>) -> Result<Begun<'b>, SheetFault>
     requires { IsXsl (codes "if") (see.name element.now.name) }
     ensures ok { IfOk result (IsBegunBy phrases.i_if element.now) }
     ensures no { IfErr result (λ e. Refuses e (IsIn in_body (see.raw_element element.now raws.none)) (HasNoInstruction phrases.i_if element.now)) }
@@ -203,32 +203,32 @@ fn an_if<'b>(arena: &'b Bump, element: &RawElem<'b>) -> Result<Begun<'b>, SheetF
 }
 
 /// Reads the start of an `xsl:choose` (XSLT 1.0, 9.2).
-fn a_choose<'b>(element: &RawElem<'b>) -> Result<Begun<'b>, SheetFault>
+fn begin_choose<'b>(element: &RawElem<'b>) -> Result<Begun<'b>, SheetFault>
     requires { IsXsl (codes "choose") (see.name element.now.name) }
     ensures ok { IfOk result (IsBegunBy phrases.i_choose element.now) }
     ensures no { IfErr result (λ e. Refuses e (IsIn in_body (see.raw_element element.now raws.none)) (HasNoInstruction phrases.i_choose element.now)) }
 {
-    only(element, &[])?;
+    only_attributes(element, &[])?;
     Ok(Begun::Choose)
 }
 
 /// Reads the start of an `xsl:copy` (XSLT 1.0, 7.5).
-fn a_copy<'b>(element: &RawElem<'b>) -> Result<Begun<'b>, SheetFault>
+fn begin_copy<'b>(element: &RawElem<'b>) -> Result<Begun<'b>, SheetFault>
     requires { IsXsl (codes "copy") (see.name element.now.name) }
     ensures ok { IfOk result (IsBegunBy phrases.i_copy element.now) }
     ensures no { IfErr result (λ e. Refuses e (IsIn in_body (see.raw_element element.now raws.none)) (HasNoInstruction phrases.i_copy element.now)) }
 {
-    only(element, &[])?;
+    only_attributes(element, &[])?;
     Ok(Begun::Around(Head::Copy))
 }
 
 /// Reads the start of an `xsl:element` (XSLT 1.0, 7.1.2).
-fn an_element<'b>(element: &RawElem<'b>) -> Result<Begun<'b>, SheetFault>
+fn begin_element<'b>(element: &RawElem<'b>) -> Result<Begun<'b>, SheetFault>
     requires { IsXsl (codes "element") (see.name element.now.name) }
     ensures ok { IfOk result (IsBegunBy phrases.i_element element.now) }
     ensures no { IfErr result (λ e. Refuses e (IsIn in_body (see.raw_element element.now raws.none)) (HasNoInstruction phrases.i_element element.now)) }
 {
-    only(element, &["name"])?;
+    only_attributes(element, &["name"])?;
     let name = required_element_name(element)?;
     Ok(Begun::Around(Head::Element(name)))
 }
@@ -248,11 +248,11 @@ fn begin_instruction<'b>(
         Instruction::CallTemplate => call_template(element),
         Instruction::ValueOf => value_of(arena, element),
         Instruction::ForEach => for_each(arena, element),
-        Instruction::If => an_if(arena, element),
-        Instruction::Choose => a_choose(element),
+        Instruction::If => begin_if(arena, element),
+        Instruction::Choose => begin_choose(element),
         Instruction::Text => text(arena, element),
-        Instruction::Copy => a_copy(element),
-        Instruction::Element => an_element(element),
+        Instruction::Copy => begin_copy(element),
+        Instruction::Element => begin_element(element),
         Instruction::Attribute => Ok(Begun::Whole(None)),
         Instruction::CopyOf => copy_of(arena, element),
     }
@@ -281,7 +281,7 @@ fn no_instruction<'b>(arena: &'b Bump) -> &'b [Written<'b>]
 }
 
 /// What an element of this head makes of this body.
-fn around<'b>(
+fn instruction_with_body<'b>(
     arena: &'b Bump,
     head: Head<'b>,
     inner: &'b [Written<'b>],
@@ -324,7 +324,7 @@ fn otherwise<'b>(
     ensures ok { IfOk result (λ b. phrases.AreBranches (see.raw_element element.now (see.raw_trees after.now)) (trees.w_otherwise (body_of b.now))) }
     ensures no { IfErr result (λ e. Refuses e (IsIn in_choose (see.raw_element element.now (see.raw_trees after.now))) (HasNoBranches (see.raw_element element.now (see.raw_trees after.now)))) }
 {
-    only(element, &[])?;
+    only_attributes(element, &[])?;
     let inner = body(arena, element.kids)?;
     blank(after)?;
     Ok(inner)
@@ -358,7 +358,7 @@ fn read_branches<'b>(
         let kid = &kids[at];
         match kid {
             Raw::Text(text, place) => {
-                if !is_all_white(text) {
+                if !is_white_space_only(text) {
                     return Err(SheetFault::Malformed(*place));
                 }
             }
@@ -405,7 +405,7 @@ fn element_of_body<'b>(
         Begun::Whole(written) => Ok(written),
         Begun::Around(head) => {
             let inner = body(arena, element.kids)?;
-            let written = around(arena, head, inner)?;
+            let written = instruction_with_body(arena, head, inner)?;
             Ok(Some(written))
         }
         Begun::Choose => choose(arena, element),
@@ -420,7 +420,7 @@ fn item<'b>(arena: &'b Bump, kid: &Raw<'b>) -> Result<Option<Written<'b>>, Sheet
 {
     match kid {
         Raw::Text(text, _) => {
-            if is_all_white(text) {
+            if is_white_space_only(text) {
                 Ok(None)
             } else {
                 Ok(Some(Written::Text(text)))

@@ -11,7 +11,7 @@ ghost use Rattle.tc_sheet.specs.Changes.{mended, flattened, Changed};
 ghost use Rattle.tc_sheet.specs.Faults.{IsCause, IsUnsupported, IsTooDeep, IsUndefinedAt, IsLoopAt, NamesAgain, IsMalformedAt};
 ghost use Rattle.tc_sheet.specs.Laws.{HasLawfulSheet};
 ghost use Rattle.tc_sheet.specs.Views.{template as template_seen};
-ghost use Rattle.tc_sheet.specs.Told.{IsTold};
+ghost use Rattle.tc_sheet.specs.FaultClauses.{IsTold};
 
 mod attributes;
 mod bodies;

@@ -13,7 +13,8 @@ ghost use Rattle.tc_sheet.specs.Views.{tag_of, put_template, template as templat
 ghost use Rattle.tc_sheet.specs.declared.faults.SheetFault.TheVariants as faults;
 
 use crate::attributes::{
-    attribute_of, is_root, only, optional_name, optional_pattern, optional_priority, xsl_attribute,
+    attribute_of, is_root, only_attributes, optional_name, optional_pattern, optional_priority,
+    xsl_attribute,
 };
 use crate::bodies::body;
 use crate::elements::{is_xsl, is_xslt, misplaced};
@@ -22,7 +23,7 @@ use crate::written::Template;
 use bumpalo::Bump;
 use bumpalo::collections::into_bump_slice;
 use tc_base::Why;
-use tc_model::{Alt, Name, Raw, RawElem, is_all_white};
+use tc_model::{Alt, Name, Raw, RawElem, is_white_space_only};
 
 /// The alternatives of a pattern, each with this priority if it is given (XSLT 1.0, 5.5).
 fn with_priority<'b>(
@@ -74,7 +75,7 @@ fn template<'b>(arena: &'b Bump, element: &RawElem<'b>) -> Result<Template<'b>, 
     ensures ok { IfOk result (λ t. phrases.IsTemplate (tag_of element.now) (see.raw_trees element.now.kids.now) (template_seen t)) }
     ensures no { IfErr result (λ e. Refuses e (IsIn at_top (see.raw_element element.now raws.none)) (HasNoTemplate element.now)) }
 {
-    only(element, &["match", "name", "priority", "mode"])?;
+    only_attributes(element, &["match", "name", "priority", "mode"])?;
     let pattern = optional_pattern(arena, element)?;
     let priority = optional_priority(element)?;
     let name = optional_name(element, "name")?;
@@ -138,7 +139,7 @@ fn at_top<'b>(arena: &'b Bump, kid: &Raw<'b>) -> Result<Option<Template<'b>>, Sh
 {
     match kid {
         Raw::Text(text, place) => {
-            if is_all_white(text) {
+            if is_white_space_only(text) {
                 Ok(None)
             } else {
                 Err(SheetFault::Malformed(*place))
@@ -208,7 +209,7 @@ pub(crate) fn stylesheet<'b>(
     if !is_root(&element.name) {
         return Err(no_root(element));
     }
-    only(element, &["version", "exclude-result-prefixes", "id"])?;
+    only_attributes(element, &["version", "exclude-result-prefixes", "id"])?;
     version(element)?;
     templates(arena, element.kids)
 }

@@ -17,7 +17,7 @@ ghost use Rattle.tc_answer.specs.declared.limits.TheConstants.{MOST_ROWS, MOST_S
 ghost use Rattle.tc_top.specs.SchemaTexts.{IsSchemaOfText};
 ghost use Rattle.tc_top.specs.Pairs.{HasFewNodes, IsPairOf, SaysCovers, question as asked};
 
-use crate::compile::{CompileFault, contents_of, small};
+use crate::compile::{CompileFault, contents_of, grammar_within_limits};
 use crate::schema_texts::read_operand_schema;
 use bumpalo::Bump;
 use std::alloc::Global;
@@ -158,8 +158,8 @@ fn symbols_of(
         rules: &[],
         named: &[],
     };
-    let first = small(first)?;
-    let second = small(second)?;
+    let first = grammar_within_limits(first)?;
+    let second = grammar_within_limits(second)?;
     match Alphabet::of(alloc, first, second, &nothing) {
         Ok(alphabet) => Ok(alphabet),
         Err(AlphaFault::TooManySymbols) => Err(CompileFault::Passes(Limit::Symbols, MOST_SYMBOLS)),

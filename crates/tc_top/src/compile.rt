@@ -76,7 +76,9 @@ pub fn machine_of<'b>(
 }
 
 /// The grammar of a schema, unless its size passes a limit.
-pub(crate) fn small<'s, 'b>(schema: &'s Schema<'b>) -> Result<&'s Grammar<'b>, CompileFault>
+pub(crate) fn grammar_within_limits<'s, 'b>(
+    schema: &'s Schema<'b>,
+) -> Result<&'s Grammar<'b>, CompileFault>
     ensures ok { IfOk result (λ grammar. schema.now ≡ Schema.Small grammar.now) }
     ensures err { IfErr result (λ e. (side : s.Side) (x : g.Grammar) → IsReadOf x schema.now → IsCauseBy (PassesLimit x side MOST_INPUT_STATES) e) }
     ensures err_output { IfErr result (λ e. (side : s.Side) (x : g.Grammar) → IsReadOf x schema.now → IsCauseBy (PassesLimit x side MOST_OUTPUT_STATES) e) }
@@ -93,7 +95,7 @@ pub(crate) fn contents_of<'b>(alloc: Global, schema: &Schema<'b>) -> Result<Auto
     ensures within { OnOk result ((x : g.Grammar) → IsReadOf x schema.now → IsWithinLimits x s.input MOST_INPUT_STATES) }
     ensures err { IfErr result (λ e. (x : g.Grammar) → IsReadOf x schema.now → IsCauseBy (PassesLimit x s.input MOST_INPUT_STATES) e) }
 {
-    let grammar = small(schema)?;
+    let grammar = grammar_within_limits(schema)?;
     match Auto::contents(alloc, grammar, MOST_INPUT_STATES) {
         Ok(auto) => Ok(auto),
         Err(AutoFault::TooManyStates) => {
@@ -109,7 +111,7 @@ fn states_of<'b>(alloc: Global, schema: &Schema<'b>) -> Result<Auto<'b>, Compile
     ensures within { OnOk result ((x : g.Grammar) → IsReadOf x schema.now → IsWithinLimits x s.output MOST_OUTPUT_STATES) }
     ensures err { IfErr result (λ e. (x : g.Grammar) → IsReadOf x schema.now → IsCauseBy (PassesLimit x s.output MOST_OUTPUT_STATES) e) }
 {
-    let grammar = small(schema)?;
+    let grammar = grammar_within_limits(schema)?;
     match Auto::of(alloc, grammar, MOST_OUTPUT_STATES) {
         Ok(auto) => Ok(auto),
         Err(AutoFault::TooManyStates) => {
@@ -133,8 +135,8 @@ fn alphabet_of(
         → IsWithinLimits i s.input MOST_INPUT_STATES → IsWithinLimits o s.output MOST_OUTPUT_STATES
         → IsCauseBy (PassesCompile i o (see.sheet sheet.now)) e) }
 {
-    let input = small(input)?;
-    let output = small(output)?;
+    let input = grammar_within_limits(input)?;
+    let output = grammar_within_limits(output)?;
     match Alphabet::of(alloc, input, output, sheet) {
         Ok(alphabet) => Ok(alphabet),
         Err(AlphaFault::TooManySymbols) => Err(CompileFault::Passes(Limit::Symbols, MOST_SYMBOLS)),

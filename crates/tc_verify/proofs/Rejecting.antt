@@ -20,7 +20,7 @@ use Rattle.tc_model.specs.CertificateFits.{AllFit, HedgeFits, IsFirstUnfit, IsUn
 use Rattle.tc_verify.specs.Fits.{sizes}
 use Rattle.tc_verify.specs.Listings.{Listing, hedge_rows, tree_rows, EmptyHolds, EmptyBreaks, TextHolds, TextBreaks, AppendHolds, AppendBreaks, WrapHolds, WrapBreaks, RootHolds, RootBreaks}
 use Rattle.tc_verify.specs.Firsts.{ListsHold, RowsHold, WrapsToo, IsFirstOf, symbols}
-use Rattle.tc_verify.specs.Told.{Tells, IsRejectOf, AreIn}
+use Rattle.tc_verify.specs.RejectedPlaces.{Tells, IsRejectOf, AreIn}
 use Rattle.tc_verify.specs.Rejects.{IsBroken, IsFirstBroken, IsRejected, rank}
 use Rattle.tc_verify.specs.declared.reject.Reject.{Reject}
 use Rattle.tc_verify.specs.declared.reject.RejectRule.{RejectRule}

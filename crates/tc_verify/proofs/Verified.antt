@@ -13,7 +13,7 @@ use Rattle.tc_model.specs.CertificateFits.{AllFit, IsFirstUnfit}
 use Rattle.tc_verify.specs.Fits.{sizes, shape_sizes}
 use Rattle.tc_verify.specs.Listings.{Listing, hedge_rows, tree_rows}
 use Rattle.tc_verify.specs.Firsts.{AllHold, IsFirstOf}
-use Rattle.tc_verify.specs.Told.{IsRejectOf, AreIn, Tells}
+use Rattle.tc_verify.specs.RejectedPlaces.{IsRejectOf, AreIn, Tells}
 use Rattle.tc_verify.specs.Rejects.{IsRejected}
 use Rattle.tc_verify.specs.declared.first.Broken.{Broken}
 use Rattle.tc_verify.specs.declared.reject.Reject.{Reject}

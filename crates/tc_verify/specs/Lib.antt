@@ -5,4 +5,4 @@ pub mod Rejects
 pub mod Rooms
 pub mod Checkers
 pub mod Firsts
-pub mod Told
+pub mod RejectedPlaces

@@ -6,7 +6,7 @@ ghost use Rattle.tc_beh.specs.Machines.{IsMachine, IsMachineOf};
 ghost use Rattle.tc_model.specs.CertificateData.{IsFormed};
 ghost use Rattle.tc_rows.specs.CertificateRows.{IsCertificateData, ListsAllLive};
 ghost use Rattle.tc_verify.specs.Rejects.{IsCause};
-ghost use Rattle.tc_verify.specs.Told.{Tells, IsRejectOf, AreIn};
+ghost use Rattle.tc_verify.specs.RejectedPlaces.{Tells, IsRejectOf, AreIn};
 
 use crate::checker::Checker;
 use crate::first::{Broken, try_rules};

@@ -5,7 +5,7 @@ use Rattle.tc_model.specs.Names.{ExpandedName}
 use Rattle.tc_model.specs.RawTrees.{RawTrees, none, text, element, Attribute, Bound}
 use Rattle.tc_model.specs.Stripped.{bare, stripped}
 use Rattle.tc_model.specs.Trees as t
-use Rattle.tc_model.specs.Trees.{Trees, is_all_white, joined_to, joined, kept, dropped}
+use Rattle.tc_model.specs.Trees.{Trees, is_white_space_only, joined_to, joined, kept, dropped}
 use Rattle.tc_model.specs.XmlText.{Reads, after_mark}
 use Rattle.tc_model.specs.XmlTextBytes.{place_of, FrontOf}
 use Rattle.tc_model.specs.XmlTextMisc.{DeclarationAt, MiscAt, DoctypeAt}
@@ -48,7 +48,7 @@ waiting_characters run (b ∷ s) p (element n x scope q kids rest) = refl
 waiting_element : (run : List ℕ) (n : ExpandedName) (x : List Attribute) (scope : List Bound) (p : ℕ) (kids h : RawTrees)
     → waiting run (element n x scope p kids h) ≡ waiting run none ++ start n ∷ (waiting [] kids ++ end ∷ waiting [] h)
 waiting_element run n x scope p kids h =
-    by (is_all_white run) (dropped (joined (bare kids))) (dropped (joined (bare h)))
+    by (is_white_space_only run) (dropped (joined (bare kids))) (dropped (joined (bare h)))
     ∙ ap (λ w. waiting run none ++ start n ∷ w)
     (ap (λ w. w ++ end ∷ events (dropped (joined (bare h)))) (sym (ap events (dropped_empty (joined (bare kids))))) ∙ ap (λ w. waiting [] kids ++ end ∷ w) (sym (ap events (dropped_empty (joined (bare h))))))
   where
@@ -187,10 +187,10 @@ read_whole one deepest bytes d m root rest old new chars a b x f e = (
 
 -- a run ends
 
-pub white_run : {S : Type 0} (one : S → Event → S → Type 0) (old new : S) (run : List ℕ) → is_all_white run ≡ true → new ≡ old → Takes one old (waiting run none) new
+pub white_run : {S : Type 0} (one : S → Event → S → Type 0) (old new : S) (run : List ℕ) → is_white_space_only run ≡ true → new ≡ old → Takes one old (waiting run none) new
 white_run one old new run e same = subst (λ s. Takes one old (waiting run none) s) (sym same) (subst (λ es. Takes one old es old) (sym (ap (λ b. events (cond b t.none (t.text run t.none))) e)) nothing)
 
-pub other_run : {S : Type 0} (one : S → Event → S → Type 0) (old new : S) (run : List ℕ) → is_all_white run ≡ false → one old (characters run) new → Takes one old (waiting run none) new
+pub other_run : {S : Type 0} (one : S → Event → S → Type 0) (old new : S) (run : List ℕ) → is_white_space_only run ≡ false → one old (characters run) new → Takes one old (waiting run none) new
 other_run one old new run e o = subst (λ es. Takes one old es new) (sym (ap (λ b. events (cond b t.none (t.text run t.none))) e)) (takes_one o)
 
 -- the elements that have started

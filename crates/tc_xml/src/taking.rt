@@ -29,7 +29,7 @@ use memchr::memchr;
 use std::mem;
 use tc_base::NoMemory;
 use tc_model::normal::{Run, extended, text_of};
-use tc_model::{Name, TakesTrees, is_all_white};
+use tc_model::{Name, TakesTrees, is_white_space_only};
 use tc_scan::{
     QualifiedName, after_byte, after_mark, after_white, begins as begins_mark, characters, qname,
 };
@@ -170,7 +170,7 @@ fn end_run<'b, T: TakesTrees<'b>>(reader: &mut Reader<'b, T>) -> Option<()>
     ensures ended { IfSome result (λ _. run_text reader.new.run ≡ []) }
 {
     let text = text_of(mem::replace(&mut reader.run, Run::Nothing));
-    if is_all_white(text) {
+    if is_white_space_only(text) {
         return Some(());
     }
     reader.taker.text(text)

@@ -3,7 +3,7 @@ use Rattle.tc_dtd.specs.Faults.{IsFaultOf}
 use Rattle.tc_dtd.specs.DtdText.{DtdText, TextAt, deepest_parenthesis}
 use Rattle.tc_dtd.specs.Declarations.{AreDeclarations}
 use Rattle.tc_dtd.specs.Outcomes.{read}
-use Rattle.tc_dtd.specs.Seen.{placed}
+use Rattle.tc_dtd.specs.PlacedViews.{placed}
 use Rattle.tc_dtd.specs.Views.{declarations}
 use Rattle.tc_dtd.proofs.ReaderLaws.{map_ok, map_err}
 use Rattle.tc_dtd.proofs.FaultLaws.{fault_is, others_behind, is_text, is_again, lawful}

@@ -4,7 +4,7 @@ use Rattle.tc_dtd.specs.DtdText.{deepest_parenthesis}
 use Rattle.tc_dtd.specs.DtdTextDeclarations as form
 use Rattle.tc_dtd.specs.DtdTextDeclarations.{MarkupAt}
 use Rattle.tc_dtd.specs.Outcomes.{read}
-use Rattle.tc_dtd.specs.Seen.{placed}
+use Rattle.tc_dtd.specs.PlacedViews.{placed}
 use Rattle.tc_dtd.specs.Stops.{Stops}
 use Rattle.tc_dtd.specs.Views.{declaration}
 use Rattle.tc_dtd.proofs.ReaderLaws.{failed, map_ok, map_err}

@@ -1,7 +1,7 @@
 use Rattle.std.proofs.Common.{ap, map, rules}
 use Rattle.tc_dtd.specs.DtdText.{deepest_parenthesis}
 use Rattle.tc_dtd.specs.DtdTextDeclarations.{DeclarationsAt}
-use Rattle.tc_dtd.specs.Seen.{placed}
+use Rattle.tc_dtd.specs.PlacedViews.{placed}
 use Rattle.tc_dtd.specs.Stops.{Stops}
 use Rattle.tc_dtd.proofs.ReaderLaws.{failed}
 use Rattle.tc_dtd.proofs.MarkupLaws.{some_left, none_left, declares_first, declares_more, markup_stops, misc_stops, declares_end, declares_shorter}

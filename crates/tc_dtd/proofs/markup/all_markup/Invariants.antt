@@ -1,6 +1,6 @@
 use Rattle.std.proofs.Common.{IsUtf8, length, map}
 use Rattle.tc_dtd.specs.DtdText.{deepest_parenthesis}
-use Rattle.tc_dtd.specs.Seen.{placed}
+use Rattle.tc_dtd.specs.PlacedViews.{placed}
 use Rattle.tc_dtd.proofs.MarkupLaws.{Declares}
 use Rattle.tc_dtd.proofs.markup.all_markup.Given as goal
 

@@ -1,7 +1,7 @@
 use Rattle.std.proofs.Common.{[], map}
 use Rattle.tc_dtd.specs.DtdText.{deepest_parenthesis, TextAt}
 use Rattle.tc_dtd.specs.Outcomes.{read}
-use Rattle.tc_dtd.specs.Seen.{placed}
+use Rattle.tc_dtd.specs.PlacedViews.{placed}
 use Rattle.tc_dtd.specs.Stops.{Stops}
 use Rattle.tc_dtd.proofs.ReaderLaws.{failed, map_ok, map_err}
 use Rattle.tc_dtd.proofs.MarkupLaws.{no_prolog, no_misc, no_declarations, a_text}

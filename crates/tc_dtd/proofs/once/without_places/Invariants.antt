@@ -1,5 +1,5 @@
 use Rattle.std.proofs.Common.{◌≡◌, take, map}
-use Rattle.tc_dtd.specs.Seen.{placed}
+use Rattle.tc_dtd.specs.PlacedViews.{placed}
 use Rattle.tc_dtd.specs.Views.{declaration}
 use Rattle.tc_dtd.proofs.once.without_places.Given as goal
 

@@ -11,7 +11,7 @@ built-requires-clause-once c =
     once (declarations c.args.dtd.now) c.args.root.now c.in_ok-root.root.now (map declaration c.in_ok-decls.decls.now) c.in_ok-root.ensures c.in_ok-decls.ensures c.requires
 
 pub built-requires-clause-few : goal.built-requires-clause-few
-built-requires-clause-few c = omega (arith, few (map declaration c.in_ok-decls.decls.now) c.args.root.now c.in_ok-fits.ensures.ok, length-map c.in_ok-decls.decls.now declaration)
+built-requires-clause-few c = omega (arith, few (map declaration c.in_ok-decls.decls.now) c.args.root.now c.in_ok-check_limits.ensures.ok, length-map c.in_ok-decls.decls.now declaration)
 
 pub returns-clause-grammar : goal.returns-clause-grammar
 returns-clause-grammar c =
@@ -23,7 +23,7 @@ pub returns-clause-within : goal.returns-clause-within
 returns-clause-within c =
     let dtd = declarations c.args.dtd.now in
     let kept = map declaration c.in_ok-decls.decls.now in
-    grammar_within dtd c.args.root.now c.in_ok-root.root.now kept c.in_ok-root.ensures c.in_ok-decls.ensures (grammar c.in_ok-grammar.grammar) c.in_ok-grammar.ensures c.in_ok-fits.ensures.ok
+    grammar_within dtd c.args.root.now c.in_ok-root.root.now kept c.in_ok-root.ensures c.in_ok-decls.ensures (grammar c.in_ok-grammar.grammar) c.in_ok-grammar.ensures c.in_ok-check_limits.ensures.ok
 
 pub returns-clause-lawful : goal.returns-clause-lawful
 returns-clause-lawful c =
@@ -43,9 +43,9 @@ returns-clause-valid c =
     let kept = map declaration c.in_ok-decls.decls.now in
     grammar_valid dtd c.args.root.now c.in_ok-root.root.now kept c.in_ok-root.ensures c.in_ok-decls.ensures (grammar c.in_ok-grammar.grammar) c.in_ok-grammar.ensures
 
-pub returns-in_err-fits-clause-err : goal.returns-in_err-fits-clause-err
-returns-in_err-fits-clause-err c =
+pub returns-in_err-check_limits-clause-err : goal.returns-in_err-check_limits-clause-err
+returns-in_err-check_limits-clause-err c =
     let dtd = declarations c.args.dtd.now in
-    let e = c.in_err-fits.field-0.0 in
-    failed_with c.from_residual-in_err-fits.result (Refuses dtd c.args.root.now) e c.from_residual-in_err-fits.ensures.1
-    (refuses dtd c.args.root.now c.in_ok-root.root.now (map declaration c.in_ok-decls.decls.now) c.in_ok-root.ensures c.in_ok-decls.ensures e c.in_err-fits.ensures.err)
+    let e = c.in_err-check_limits.field-0.0 in
+    failed_with c.from_residual-in_err-check_limits.result (Refuses dtd c.args.root.now) e c.from_residual-in_err-check_limits.ensures.1
+    (refuses dtd c.args.root.now c.in_ok-root.root.now (map declaration c.in_ok-decls.decls.now) c.in_ok-root.ensures c.in_ok-decls.ensures e c.in_err-check_limits.ensures.err)

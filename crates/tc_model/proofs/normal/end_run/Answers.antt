@@ -12,5 +12,5 @@ returns-in_ok-push-clause-nodes c =
     (search rules)
     (ap trees c.in_ok-push.ensures.items ∙ pushed_text c.args.gathered.now.nodes.items c.text_of-text.result)
 
-pub returns-else-not-is_all_white-clause-nodes : goal.returns-else-not-is_all_white-clause-nodes
-returns-else-not-is_all_white-clause-nodes c = put_white (trees c.args.gathered.now.nodes.items) (run_text c.args.gathered.now.run) (search rules)
+pub returns-else-not-is_white_space_only-clause-nodes : goal.returns-else-not-is_white_space_only-clause-nodes
+returns-else-not-is_white_space_only-clause-nodes c = put_white (trees c.args.gathered.now.nodes.items) (run_text c.args.gathered.now.run) (search rules)

@@ -12,7 +12,7 @@ use Rattle.tc_sheet.specs.Begun.{IsBegun}
 use Rattle.tc_sheet.specs.Readings.{Refuses, HasNoBranches}
 use Rattle.std.proofs.Common.{rules}
 use Rattle.tc_model.specs.declared.tree.Raw.TheViews.{the_lemmas}
-use Rattle.tc_sheet.proofs.bodies.+body.Goals.{body-in-Some+in_ok-push-in-Some, body-in-None, read_branches-in-Text+else-not-is_all_white, read_branches-in-Elem+in_ok-ends-in-Elem+else-ends+in_ok-branch-in-Elem+in_ok-push-in-Elem}
+use Rattle.tc_sheet.proofs.bodies.+body.Goals.{body-in-Some+in_ok-push-in-Some, body-in-None, read_branches-in-Text+else-not-is_white_space_only, read_branches-in-Elem+in_ok-ends-in-Elem+else-ends+in_ok-branch-in-Elem+in_ok-push-in-Elem}
 use Rattle.tc_sheet.specs.Views.{body, branches, put}
 use Rattle.tc_sheet.specs.declared.written.Written.TheVariants as v
 use Rattle.tc_model.proofs.ViewsRaw.{left_one, left_elem, left_text, before_elem, before_text}
@@ -53,11 +53,11 @@ choose-returns-clause-ok t c = λ rest b y. subst (IsBody (raw_element c.args.el
 pub element_of_body-returns-in_err-inner-in-Around-clause-no : goal.element_of_body-returns-in_err-inner-in-Around-clause-no
 element_of_body-returns-in_err-inner-in-Around-clause-no t c = handed_on _ c.from_residual-in_err-inner-in-Around.result c.in_err-inner-in-Around.field-0.0 c.from_residual-in_err-inner-in-Around.ensures.1 (body_refuses c.args.element.now c.in-Around.head (subst (IsBegun c.args.element.now) c.in-Around.is c.in_ok-begun.ensures.ok) c.in_err-inner-in-Around.field-0.0 c.in_err-inner-in-Around.ensures.no)
 
-pub item-returns-then-is_all_white-clause-ok : goal.item-returns-then-is_all_white-clause-ok
-item-returns-then-is_all_white-clause-ok t c = item_white c.args.kid.now c.in-Text.text.now (place c.in-Text.field-1) (λ rest. ap (λ (y : Raw). raw_before y rest) c.in-Text.is ∙ before_text c.in-Text.text c.in-Text.field-1 rest) (sym c.if-is_all_white.ensures)
+pub item-returns-then-is_white_space_only-clause-ok : goal.item-returns-then-is_white_space_only-clause-ok
+item-returns-then-is_white_space_only-clause-ok t c = item_white c.args.kid.now c.in-Text.text.now (place c.in-Text.field-1) (λ rest. ap (λ (y : Raw). raw_before y rest) c.in-Text.is ∙ before_text c.in-Text.text c.in-Text.field-1 rest) (sym c.if-is_white_space_only.ensures)
 
-pub item-returns-else-is_all_white-clause-ok : goal.item-returns-else-is_all_white-clause-ok
-item-returns-else-is_all_white-clause-ok t c = item_text c.args.kid.now c.in-Text.text.now (place c.in-Text.field-1) (v.Text c.in-Text.text) (λ rest. ap (λ (y : Raw). raw_before y rest) c.in-Text.is ∙ before_text c.in-Text.text c.in-Text.field-1 rest) (sym c.if-is_all_white.ensures) (see_text c.in-Text.text)
+pub item-returns-else-is_white_space_only-clause-ok : goal.item-returns-else-is_white_space_only-clause-ok
+item-returns-else-is_white_space_only-clause-ok t c = item_text c.args.kid.now c.in-Text.text.now (place c.in-Text.field-1) (v.Text c.in-Text.text) (λ rest. ap (λ (y : Raw). raw_before y rest) c.in-Text.is ∙ before_text c.in-Text.text c.in-Text.field-1 rest) (sym c.if-is_white_space_only.ensures) (see_text c.in-Text.text)
 
 pub item-returns-in-Elem-clause-ok : goal.item-returns-in-Elem-clause-ok
 item-returns-in-Elem-clause-ok t c = item_ok c.args.kid.now c.in-Elem.element (λ rest. ap (λ (y : Raw). raw_before y rest) c.in-Elem.is ∙ before_elem c.in-Elem.element rest) c.element_of_body.result c.element_of_body.ensures.ok
@@ -65,8 +65,8 @@ item-returns-in-Elem-clause-ok t c = item_ok c.args.kid.now c.in-Elem.element (�
 pub item-returns-in-Elem-clause-no : goal.item-returns-in-Elem-clause-no
 item-returns-in-Elem-clause-no t c = item_no c.args.kid.now c.in-Elem.element (λ rest. ap (λ (y : Raw). raw_before y rest) c.in-Elem.is ∙ before_elem c.in-Elem.element rest) c.element_of_body.result c.element_of_body.ensures.no
 
-pub otherwise-returns-in_err-only-clause-no : goal.otherwise-returns-in_err-only-clause-no
-otherwise-returns-in_err-only-clause-no t c = handed_on _ c.from_residual.result c.in_err-only.field-0.0 c.from_residual.ensures.1 (otherwise_only_refuses c.args.element.now (raw_trees c.args.after.now) c.requires c.in_err-only.field-0.0 c.in_err-only.ensures.no)
+pub otherwise-returns-in_err-only_attributes-clause-no : goal.otherwise-returns-in_err-only_attributes-clause-no
+otherwise-returns-in_err-only_attributes-clause-no t c = handed_on _ c.from_residual.result c.in_err-only_attributes.field-0.0 c.from_residual.ensures.1 (otherwise_only_refuses c.args.element.now (raw_trees c.args.after.now) c.requires c.in_err-only_attributes.field-0.0 c.in_err-only_attributes.ensures.no)
 
 pub otherwise-returns-in_err-inner-clause-no : goal.otherwise-returns-in_err-inner-clause-no
 otherwise-returns-in_err-inner-clause-no t c = handed_on _ c.from_residual-in_err-inner.result c.in_err-inner.field-0.0 c.from_residual-in_err-inner.ensures.1 (otherwise_body_refuses c.args.element.now (raw_trees c.args.after.now) c.requires c.in_err-inner.field-0.0 c.in_err-inner.ensures.no)
@@ -75,13 +75,13 @@ pub otherwise-returns-in_err-blank-clause-no : goal.otherwise-returns-in_err-bla
 otherwise-returns-in_err-blank-clause-no t c = handed_on _ c.from_residual-in_err-blank.result c.in_err-blank.field-0.0 c.from_residual-in_err-blank.ensures.1 (otherwise_blank_refuses c.args.element.now (raw_trees c.args.after.now) c.requires c.in_err-blank.field-0.0 c.in_err-blank.ensures.no)
 
 pub otherwise-returns-clause-ok : goal.otherwise-returns-clause-ok
-otherwise-returns-clause-ok t c = otherwise_read c.args.element.now (raw_trees c.args.after.now) c.requires (body c.in_ok-inner.inner.now) c.in_ok-only.ensures.ok c.in_ok-inner.ensures.ok c.in_ok-blank.ensures.ok
+otherwise-returns-clause-ok t c = otherwise_read c.args.element.now (raw_trees c.args.after.now) c.requires (body c.in_ok-inner.inner.now) c.in_ok-only_attributes.ensures.ok c.in_ok-inner.ensures.ok c.in_ok-blank.ensures.ok
 
 pub read_branches-loop-at-init : goal.read_branches-loop-at-init
 read_branches-loop-at-init t c = subst (BranchLoop (raw_trees c.args.kids.now) (raw_trees c.args.kids.now)) (sym c.new-found.ensures.items) (branches_begin (raw_trees c.args.kids.now))
 
-pub read_branches-returns-then-not-is_all_white-clause-no : goal.read_branches-returns-then-not-is_all_white-clause-no
-read_branches-returns-then-not-is_all_white-clause-no t c = black_refuses c.loop-at.invariant c.in-Text.text.now (place c.in-Text.place) (raw_trees (drop (c.loop-at.at + 1) c.args.kids.now)) (left_text c.args.kids.now c.loop-at.at c.index-kids-at.result c.in-Text.text c.in-Text.place c.loop-at-test.true c.index-kids-at.is c.in-Text.is) (sym c.if-not-is_all_white.ensures)
+pub read_branches-returns-then-not-is_white_space_only-clause-no : goal.read_branches-returns-then-not-is_white_space_only-clause-no
+read_branches-returns-then-not-is_white_space_only-clause-no t c = black_refuses c.loop-at.invariant c.in-Text.text.now (place c.in-Text.place) (raw_trees (drop (c.loop-at.at + 1) c.args.kids.now)) (left_text c.args.kids.now c.loop-at.at c.index-kids-at.result c.in-Text.text c.in-Text.place c.loop-at-test.true c.index-kids-at.is c.in-Text.is) (sym c.if-not-is_white_space_only.ensures)
 
 pub read_branches-returns-in_err-ends-in-Elem-clause-no : goal.read_branches-returns-in_err-ends-in-Elem-clause-no
 read_branches-returns-in_err-ends-in-Elem-clause-no t c = handed_on _ c.from_residual.result c.in_err-ends-in-Elem.field-0.0 c.from_residual.ensures.1 (odd_refuses c.loop-at.invariant c.in-Elem.element (raw_trees (drop (c.loop-at.at + 1) c.args.kids.now)) (left_elem c.args.kids.now c.loop-at.at c.index-kids-at.result c.in-Elem.element c.loop-at-test.true c.index-kids-at.is c.in-Elem.is) c.in_err-ends-in-Elem.field-0.0 c.in_err-ends-in-Elem.ensures.no)
@@ -104,8 +104,8 @@ read_branches-returns-in_err-branch-in-Elem-clause-no t c = handed_on _ c.from_r
 pub read_branches-loop-at-preserved : goal.read_branches-loop-at-preserved
 read_branches-loop-at-preserved t c =
     elim c.match-kid.branch [
-      | read_branches-in-Text+else-not-is_all_white w ↦
-          subst (BranchLoop (raw_trees c.args.kids.now) (raw_trees (drop (c.loop-at.at + 1) c.args.kids.now))) (sym (ap (λ v. v.items) w.found-is)) (past_blank c.loop-at.invariant w.in-Text.text.now (place w.in-Text.place) (left_text c.args.kids.now c.loop-at.at c.index-kids-at.result w.in-Text.text w.in-Text.place c.loop-at-test.true c.index-kids-at.is w.in-Text.is) (sym w.if-not-is_all_white.ensures))
+      | read_branches-in-Text+else-not-is_white_space_only w ↦
+          subst (BranchLoop (raw_trees c.args.kids.now) (raw_trees (drop (c.loop-at.at + 1) c.args.kids.now))) (sym (ap (λ v. v.items) w.found-is)) (past_blank c.loop-at.invariant w.in-Text.text.now (place w.in-Text.place) (left_text c.args.kids.now c.loop-at.at c.index-kids-at.result w.in-Text.text w.in-Text.place c.loop-at-test.true c.index-kids-at.is w.in-Text.is) (sym w.if-not-is_white_space_only.ensures))
       | read_branches-in-Elem+in_ok-ends-in-Elem+else-ends+in_ok-branch-in-Elem+in_ok-push-in-Elem w ↦
           past_when c.loop-at.invariant w.in-Elem.element (left_elem c.args.kids.now c.loop-at.at c.index-kids-at.result w.in-Elem.element c.loop-at-test.true c.index-kids-at.is w.in-Elem.is) w.in_ok-branch-in-Elem.branch c.match-kid.found.items
           (is_when w.in_ok-ends-in-Elem.ends (name w.in-Elem.element.name) w.if-ends.false w.in_ok-ends-in-Elem.ensures.ok) w.in_ok-branch-in-Elem.ensures.ok (ap (λ v. v.items) w.found-is ∙ w.in_ok-push-in-Elem.ensures.items)

@@ -8,14 +8,14 @@ use Rattle.std.specs.Prelude.{codes}
 use Rattle.tc_model.specs.Views.{name, path}
 use Rattle.tc_sheet.proofs.bodies.apply_templates.Goals as goal
 
-pub only-requires-clause-weighed : goal.only-requires-clause-weighed
-only-requires-clause-weighed c = weighed_among (name c.args.element.now.name) (codes "apply-templates") (codes "select" ∷ codes "mode" ∷ []) refl c.requires
+pub only_attributes-requires-clause-weighed : goal.only_attributes-requires-clause-weighed
+only_attributes-requires-clause-weighed c = weighed_among (name c.args.element.now.name) (codes "apply-templates") (codes "select" ∷ codes "mode" ∷ []) refl c.requires
 
 pub optional_name-requires-clause-unrefused : goal.optional_name-requires-clause-unrefused
 optional_name-requires-clause-unrefused c = never_refused (name c.args.element.now.name) (codes "apply-templates") (codes "mode") c.requires refl refl refl refl
 
-pub returns-in_err-only-clause-no : goal.returns-in_err-only-clause-no
-returns-in_err-only-clause-no c = handed_on _ c.from_residual.result c.in_err-only.field-0.0 c.from_residual.ensures.1 (of_apply_only c.args.element.now c.in_err-only.field-0.0 c.requires c.in_err-only.ensures.no)
+pub returns-in_err-only_attributes-clause-no : goal.returns-in_err-only_attributes-clause-no
+returns-in_err-only_attributes-clause-no c = handed_on _ c.from_residual.result c.in_err-only_attributes.field-0.0 c.from_residual.ensures.1 (of_apply_only c.args.element.now c.in_err-only_attributes.field-0.0 c.requires c.in_err-only_attributes.ensures.no)
 
 pub optional_select-requires : goal.optional_select-requires
 optional_select-requires c = of_apply c.requires
@@ -30,4 +30,4 @@ pub returns-in_err-blank-clause-no : goal.returns-in_err-blank-clause-no
 returns-in_err-blank-clause-no c = handed_on _ c.from_residual-in_err-blank.result c.in_err-blank.field-0.0 c.from_residual-in_err-blank.ensures.1 (of_apply_blank c.args.element.now c.in_err-blank.field-0.0 c.requires c.in_err-blank.ensures.no)
 
 pub returns-clause-ok : goal.returns-clause-ok
-returns-clause-ok c = apply_read c.args.element.now (option_map path c.in_ok-path.path) c.in_ok-path-2.path c.in_ok-mode.mode c.in_ok-only.ensures.ok c.in_ok-path.ensures.ok c.in_ok-mode.ensures.ok c.in_ok-blank.ensures.ok c.in_ok-path-2.ensures.ok
+returns-clause-ok c = apply_read c.args.element.now (option_map path c.in_ok-path.path) c.in_ok-path-2.path c.in_ok-mode.mode c.in_ok-only_attributes.ensures.ok c.in_ok-path.ensures.ok c.in_ok-mode.ensures.ok c.in_ok-blank.ensures.ok c.in_ok-path-2.ensures.ok

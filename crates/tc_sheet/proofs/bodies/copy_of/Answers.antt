@@ -7,11 +7,11 @@ use Rattle.tc_sheet.proofs.LeafLaws.{of_copy_of_only, of_copy_of_select, of_copy
 use Rattle.tc_sheet.proofs.ReadLaws.{copy_of_read}
 use Rattle.tc_sheet.proofs.bodies.copy_of.Goals as goal
 
-pub only-requires-clause-weighed : goal.only-requires-clause-weighed
-only-requires-clause-weighed c = weighed_among (name c.args.element.now.name) (codes "copy-of") (codes "select" ∷ []) refl c.requires
+pub only_attributes-requires-clause-weighed : goal.only_attributes-requires-clause-weighed
+only_attributes-requires-clause-weighed c = weighed_among (name c.args.element.now.name) (codes "copy-of") (codes "select" ∷ []) refl c.requires
 
-pub returns-in_err-only-clause-no : goal.returns-in_err-only-clause-no
-returns-in_err-only-clause-no c = handed_on _ c.from_residual.result c.in_err-only.field-0.0 c.from_residual.ensures.1 (of_copy_of_only c.args.element.now c.in_err-only.field-0.0 c.requires c.in_err-only.ensures.no)
+pub returns-in_err-only_attributes-clause-no : goal.returns-in_err-only_attributes-clause-no
+returns-in_err-only_attributes-clause-no c = handed_on _ c.from_residual.result c.in_err-only_attributes.field-0.0 c.from_residual.ensures.1 (of_copy_of_only c.args.element.now c.in_err-only_attributes.field-0.0 c.requires c.in_err-only_attributes.ensures.no)
 
 pub returns-in_err-required_attributes-clause-no : goal.returns-in_err-required_attributes-clause-no
 returns-in_err-required_attributes-clause-no c = handed_on _ c.from_residual-in_err-required_attributes.result c.in_err-required_attributes.field-0.0 c.from_residual-in_err-required_attributes.ensures.1 (of_copy_of_select c.args.element.now c.in_err-required_attributes.field-0.0 c.requires c.in_err-required_attributes.ensures.no)
@@ -20,4 +20,4 @@ pub returns-in_err-blank-clause-no : goal.returns-in_err-blank-clause-no
 returns-in_err-blank-clause-no c = handed_on _ c.from_residual-in_err-blank.result c.in_err-blank.field-0.0 c.from_residual-in_err-blank.ensures.1 (of_copy_of_blank c.args.element.now c.in_err-blank.field-0.0 c.requires c.in_err-blank.ensures.no)
 
 pub returns-clause-ok : goal.returns-clause-ok
-returns-clause-ok c = copy_of_read c.args.element.now c.in_ok-only.ensures.ok c.in_ok-required_attributes.ensures.ok c.in_ok-blank.ensures.ok
+returns-clause-ok c = copy_of_read c.args.element.now c.in_ok-only_attributes.ensures.ok c.in_ok-required_attributes.ensures.ok c.in_ok-blank.ensures.ok

@@ -7,14 +7,14 @@ use Rattle.tc_sheet.proofs.LeafLaws.{of_text_only, of_text_characters}
 use Rattle.tc_sheet.proofs.ReadLaws.{text_read}
 use Rattle.tc_sheet.proofs.bodies.text.Goals as goal
 
-pub only-requires-clause-weighed : goal.only-requires-clause-weighed
-only-requires-clause-weighed c = weighed_among (name c.args.element.now.name) (codes "text") [] tt c.requires
+pub only_attributes-requires-clause-weighed : goal.only_attributes-requires-clause-weighed
+only_attributes-requires-clause-weighed c = weighed_among (name c.args.element.now.name) (codes "text") [] tt c.requires
 
-pub returns-in_err-only-clause-no : goal.returns-in_err-only-clause-no
-returns-in_err-only-clause-no c = handed_on _ c.from_residual.result c.in_err-only.field-0.0 c.from_residual.ensures.1 (of_text_only c.args.element.now c.in_err-only.field-0.0 c.requires c.in_err-only.ensures.no)
+pub returns-in_err-only_attributes-clause-no : goal.returns-in_err-only_attributes-clause-no
+returns-in_err-only_attributes-clause-no c = handed_on _ c.from_residual.result c.in_err-only_attributes.field-0.0 c.from_residual.ensures.1 (of_text_only c.args.element.now c.in_err-only_attributes.field-0.0 c.requires c.in_err-only_attributes.ensures.no)
 
 pub returns-in_err-text-clause-no : goal.returns-in_err-text-clause-no
 returns-in_err-text-clause-no c = handed_on _ c.from_residual-in_err-text.result c.in_err-text.field-0.0 c.from_residual-in_err-text.ensures.1 (of_text_characters c.args.element.now c.in_err-text.field-0.0 c.requires c.in_err-text.ensures.no)
 
 pub returns-clause-ok : goal.returns-clause-ok
-returns-clause-ok c = text_read c.args.element.now c.in_ok-text.text c.in_ok-only.ensures.ok c.in_ok-text.ensures.ok
+returns-clause-ok c = text_read c.args.element.now c.in_ok-text.text c.in_ok-only_attributes.ensures.ok c.in_ok-text.ensures.ok

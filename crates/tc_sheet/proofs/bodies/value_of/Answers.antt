@@ -8,11 +8,11 @@ use Rattle.tc_sheet.proofs.ReadLaws.{path_read, self_read}
 use Rattle.tc_sheet.specs.Constructs.{of_value}
 use Rattle.tc_sheet.proofs.bodies.value_of.Goals as goal
 
-pub only-requires-clause-weighed : goal.only-requires-clause-weighed
-only-requires-clause-weighed c = weighed_among (name c.args.element.now.name) (codes "value-of") (codes "select" ∷ []) refl c.requires
+pub only_attributes-requires-clause-weighed : goal.only_attributes-requires-clause-weighed
+only_attributes-requires-clause-weighed c = weighed_among (name c.args.element.now.name) (codes "value-of") (codes "select" ∷ []) refl c.requires
 
-pub returns-in_err-only-clause-no : goal.returns-in_err-only-clause-no
-returns-in_err-only-clause-no c = handed_on _ c.from_residual.result c.in_err-only.field-0.0 c.from_residual.ensures.1 (of_value_only c.args.element.now c.in_err-only.field-0.0 c.requires c.in_err-only.ensures.no)
+pub returns-in_err-only_attributes-clause-no : goal.returns-in_err-only_attributes-clause-no
+returns-in_err-only_attributes-clause-no c = handed_on _ c.from_residual.result c.in_err-only_attributes.field-0.0 c.from_residual.ensures.1 (of_value_only c.args.element.now c.in_err-only_attributes.field-0.0 c.requires c.in_err-only_attributes.ensures.no)
 
 pub required_value-requires : goal.required_value-requires
 required_value-requires c = of_value c.requires
@@ -24,7 +24,7 @@ pub returns-in_err-blank-clause-no : goal.returns-in_err-blank-clause-no
 returns-in_err-blank-clause-no c = handed_on _ c.from_residual-in_err-blank.result c.in_err-blank.field-0.0 c.from_residual-in_err-blank.ensures.1 (of_value_blank c.args.element.now c.in_err-blank.field-0.0 c.requires c.in_err-blank.ensures.no)
 
 pub returns-in-ValueOf-clause-ok : goal.returns-in-ValueOf-clause-ok
-returns-in-ValueOf-clause-ok c = path_read c.args.element.now c.in_ok-value.value c.in-ValueOf.path c.in-ValueOf.is c.in_ok-only.ensures.ok c.in_ok-value.ensures.ok c.in_ok-blank.ensures.ok
+returns-in-ValueOf-clause-ok c = path_read c.args.element.now c.in_ok-value.value c.in-ValueOf.path c.in-ValueOf.is c.in_ok-only_attributes.ensures.ok c.in_ok-value.ensures.ok c.in_ok-blank.ensures.ok
 
 pub returns-in_default : goal.returns-in_default
-returns-in_default c = record { ok = self_read c.args.element.now c.in_ok-value.value c.in_default.not-ValueOf c.in_ok-only.ensures.ok c.in_ok-value.ensures.ok c.in_ok-blank.ensures.ok; no = tt }
+returns-in_default c = record { ok = self_read c.args.element.now c.in_ok-value.value c.in_default.not-ValueOf c.in_ok-only_attributes.ensures.ok c.in_ok-value.ensures.ok c.in_ok-blank.ensures.ok; no = tt }

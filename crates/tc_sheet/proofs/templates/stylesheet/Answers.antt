@@ -7,14 +7,14 @@ use Rattle.tc_sheet.specs.Readings.{alone}
 use Rattle.tc_sheet.proofs.Unrefused.{root_weighed_among}
 use Rattle.tc_sheet.proofs.templates.stylesheet.Goals as goal
 
-pub only-requires-clause-weighed : goal.only-requires-clause-weighed
-only-requires-clause-weighed c = root_weighed_among (name c.args.element.now.name) (codes "version" ∷ codes "exclude-result-prefixes" ∷ codes "id" ∷ []) refl c.if-not-is_root.ensures
+pub only_attributes-requires-clause-weighed : goal.only_attributes-requires-clause-weighed
+only_attributes-requires-clause-weighed c = root_weighed_among (name c.args.element.now.name) (codes "version" ∷ codes "exclude-result-prefixes" ∷ codes "id" ∷ []) refl c.if-not-is_root.ensures
 
-pub returns-in_err-only-clause-no : goal.returns-in_err-only-clause-no
-returns-in_err-only-clause-no c = handed_on _ c.from_residual.result c.in_err-only.field-0.0 c.from_residual.ensures.1 (root_only_refuses c.args.element.now c.if-not-is_root.ensures c.in_err-only.field-0.0 c.in_err-only.ensures.no)
+pub returns-in_err-only_attributes-clause-no : goal.returns-in_err-only_attributes-clause-no
+returns-in_err-only_attributes-clause-no c = handed_on _ c.from_residual.result c.in_err-only_attributes.field-0.0 c.from_residual.ensures.1 (root_only_refuses c.args.element.now c.if-not-is_root.ensures c.in_err-only_attributes.field-0.0 c.in_err-only_attributes.ensures.no)
 
-pub returns-in_err-only-clause-calls : goal.returns-in_err-only-clause-calls
-returns-in_err-only-clause-calls c = handed_on _ c.from_residual.result c.in_err-only.field-0.0 c.from_residual.ensures.1 (no_call (alone c.args.element.now) _ c.in_err-only.field-0.0 c.in_err-only.ensures.no)
+pub returns-in_err-only_attributes-clause-calls : goal.returns-in_err-only_attributes-clause-calls
+returns-in_err-only_attributes-clause-calls c = handed_on _ c.from_residual.result c.in_err-only_attributes.field-0.0 c.from_residual.ensures.1 (no_call (alone c.args.element.now) _ c.in_err-only_attributes.field-0.0 c.in_err-only_attributes.ensures.no)
 
 pub returns-in_err-version-clause-no : goal.returns-in_err-version-clause-no
 returns-in_err-version-clause-no c = handed_on _ c.from_residual-in_err-version.result c.in_err-version.field-0.0 c.from_residual-in_err-version.ensures.1 (root_version_refuses c.args.element.now c.if-not-is_root.ensures c.in_err-version.field-0.0 c.in_err-version.ensures.no)
@@ -23,7 +23,7 @@ pub returns-in_err-version-clause-calls : goal.returns-in_err-version-clause-cal
 returns-in_err-version-clause-calls c = handed_on _ c.from_residual-in_err-version.result c.in_err-version.field-0.0 c.from_residual-in_err-version.ensures.1 (no_call (alone c.args.element.now) _ c.in_err-version.field-0.0 c.in_err-version.ensures.no)
 
 pub returns-clause-ok : goal.returns-clause-ok
-returns-clause-ok c = stylesheet_ok c.args.element.now c.templates.result c.if-not-is_root.ensures c.in_ok-only.ensures.ok c.in_ok-version.ensures.ok c.templates.ensures.ok
+returns-clause-ok c = stylesheet_ok c.args.element.now c.templates.result c.if-not-is_root.ensures c.in_ok-only_attributes.ensures.ok c.in_ok-version.ensures.ok c.templates.ensures.ok
 
 pub returns-clause-no : goal.returns-clause-no
 returns-clause-no c = stylesheet_no c.args.element.now c.if-not-is_root.ensures c.templates.result c.templates.ensures.no

@@ -11,8 +11,8 @@ use Rattle.tc_model.specs.Views.{name}
 use Rattle.tc_path.specs.Views.{alternative}
 use Rattle.tc_sheet.proofs.templates.template.Goals as goal
 
-pub only-requires-clause-weighed : goal.only-requires-clause-weighed
-only-requires-clause-weighed c = weighed_among (name c.args.element.now.name) (codes "template") (codes "match" ∷ codes "name" ∷ codes "priority" ∷ codes "mode" ∷ []) refl c.requires
+pub only_attributes-requires-clause-weighed : goal.only_attributes-requires-clause-weighed
+only_attributes-requires-clause-weighed c = weighed_among (name c.args.element.now.name) (codes "template") (codes "match" ∷ codes "name" ∷ codes "priority" ∷ codes "mode" ∷ []) refl c.requires
 
 pub optional_name-requires-clause-unrefused : goal.optional_name-requires-clause-unrefused
 optional_name-requires-clause-unrefused c = never_refused (name c.args.element.now.name) (codes "template") (codes "name") c.requires refl refl refl refl
@@ -20,8 +20,8 @@ optional_name-requires-clause-unrefused c = never_refused (name c.args.element.n
 pub optional_name-requires-2-clause-unrefused : goal.optional_name-requires-2-clause-unrefused
 optional_name-requires-2-clause-unrefused c = never_refused (name c.args.element.now.name) (codes "template") (codes "mode") c.requires refl refl refl refl
 
-pub returns-in_err-only-clause-no : goal.returns-in_err-only-clause-no
-returns-in_err-only-clause-no c = handed_on _ c.from_residual.result c.in_err-only.field-0.0 c.from_residual.ensures.1 (template_only_refuses c.args.element.now c.in_err-only.field-0.0 c.requires c.in_err-only.ensures.no)
+pub returns-in_err-only_attributes-clause-no : goal.returns-in_err-only_attributes-clause-no
+returns-in_err-only_attributes-clause-no c = handed_on _ c.from_residual.result c.in_err-only_attributes.field-0.0 c.from_residual.ensures.1 (template_only_refuses c.args.element.now c.in_err-only_attributes.field-0.0 c.requires c.in_err-only_attributes.ensures.no)
 
 pub returns-in_err-pattern-clause-no : goal.returns-in_err-pattern-clause-no
 returns-in_err-pattern-clause-no c = handed_on _ c.from_residual-in_err-pattern.result c.in_err-pattern.field-0.0 c.from_residual-in_err-pattern.ensures.1 (template_pattern_refuses c.args.element.now c.in_err-pattern.field-0.0 c.requires c.in_err-pattern.ensures.no)

@@ -2,16 +2,16 @@ use Rattle.std.proofs.Common.{◌≡◌, refl, rules, false, ap, ◌∙◌, subs
 use Rattle.std.proofs.lemmas.Option.{IfSome_then}
 use Rattle.tc_model.specs.Events.{characters}
 use Rattle.tc_model.specs.Runs.{run_text}
-use Rattle.tc_model.specs.Trees.{is_all_white}
+use Rattle.tc_model.specs.Trees.{is_white_space_only}
 use Rattle.tc_xml.proofs.TakingLaws.{white_run, other_run}
 use Rattle.tc_xml.proofs.taking.end_run.Goals as goal
 
-pub returns-then-is_all_white-clause-taken : goal.returns-then-is_all_white-clause-taken
-returns-then-is_all_white-clause-taken g c = white_run _ c.args.reader.now.taker c.args.reader.now.taker (run_text c.args.reader.now.run) (search rules) refl
+pub returns-then-is_white_space_only-clause-taken : goal.returns-then-is_white_space_only-clause-taken
+returns-then-is_white_space_only-clause-taken g c = white_run _ c.args.reader.now.taker c.args.reader.now.taker (run_text c.args.reader.now.run) (search rules) refl
 
 pub returns-clause-taken : goal.returns-clause-taken
 returns-clause-taken g c =
-    let white : is_all_white (run_text c.args.reader.now.run) ≡ false = search rules in
+    let white : is_white_space_only (run_text c.args.reader.now.run) ≡ false = search rules in
     let same : c.text_of-text.result.now ≡ run_text c.args.reader.now.run = c.text_of-text.ensures ∙ ap run_text c.replace.ensures.value in
     IfSome_then c.text.result c.text.ensures
     (λ x o. other_run _ c.args.reader.now.taker c.text.new.self (run_text c.args.reader.now.run) white (subst (λ s. g.T.TakesTrees.takes c.args.reader.now.taker (characters s) c.text.new.self) same o))

@@ -2,8 +2,8 @@ use Rattle.std.proofs.Common.{rules, ◌∙◌}
 use Rattle.tc_hedge.proofs.Sides.{both_of, nothing_led, white_led, text_led}
 use Rattle.tc_hedge.proofs.hedge.Hedge.matrix_of_text.Goals as goal
 
-pub returns-then-is_all_white-clause-pairs : goal.returns-then-is_all_white-clause-pairs
-returns-then-is_all_white-clause-pairs c =
+pub returns-then-is_white_space_only-clause-pairs : goal.returns-then-is_white_space_only-clause-pairs
+returns-then-is_white_space_only-clause-pairs c =
     both_of c.identity.result c.identity.ensures.size c.identity.ensures.pairs
     (λ m size is side x st. white_led x side c.args.text.now m (search rules) (nothing_led x side c.args.self.now.auto st m (size ∙ c.states-states.ensures.here) is))
 

@@ -1,5 +1,5 @@
 use Rattle.tc_top.proofs.Compiling.{size_passes}
-use Rattle.tc_top.proofs.compile.small.Goals as goal
+use Rattle.tc_top.proofs.compile.grammar_within_limits.Goals as goal
 
 pub returns-in-TooLarge-clause-err : goal.returns-in-TooLarge-clause-err
 returns-in-TooLarge-clause-err c = λ side x read. size_passes side _ x _ _ _ c.in-TooLarge.is read

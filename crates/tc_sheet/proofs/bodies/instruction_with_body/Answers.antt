@@ -4,7 +4,7 @@ use Rattle.tc_sheet.specs.Begun.{around as around_seen}
 use Rattle.tc_sheet.specs.declared.bodies.Head.{Head}
 use Rattle.tc_sheet.proofs.ViewsWritten.{see_elem, see_copy, see_for_each}
 use Rattle.tc_sheet.proofs.ReadLaws.{if_made}
-use Rattle.tc_sheet.proofs.bodies.around.Goals as goal
+use Rattle.tc_sheet.proofs.bodies.instruction_with_body.Goals as goal
 
 pub returns-in-Element-clause-ok : goal.returns-in-Element-clause-ok
 returns-in-Element-clause-ok c = λ rest. see_elem c.in-Element.name c.args.inner rest ∙ ap (λ (h : Head). around_seen h (body c.args.inner.now) rest) (sym c.in-Element.is)

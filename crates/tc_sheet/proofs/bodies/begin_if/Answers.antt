@@ -2,7 +2,7 @@ use Rattle.tc_sheet.proofs.Refused.{handed_on}
 use Rattle.tc_sheet.proofs.LeafLaws.{of_if_test}
 use Rattle.tc_sheet.proofs.ReadLaws.{if_head}
 use Rattle.tc_sheet.specs.Constructs.{of_if}
-use Rattle.tc_sheet.proofs.bodies.an_if.Goals as goal
+use Rattle.tc_sheet.proofs.bodies.begin_if.Goals as goal
 
 pub test_of-requires-clause-test : goal.test_of-requires-clause-test
 test_of-requires-clause-test c = of_if c.requires

@@ -5,7 +5,7 @@ use Rattle.tc_incl.specs.Sets.{IsFound}
 use Rattle.tc_incl.specs.Sides.{IsTaken}
 use Rattle.tc_model.specs.Grammars.{Grammar}
 use Rattle.tc_model.specs.States.{input}
-use Rattle.tc_incl.proofs.sides.Side.taken.Given as goal
+use Rattle.tc_incl.proofs.sides.Side.accepting_patterns.Given as goal
 
 abbrev pub invariant-loop-before : goal.invariant-loop-before
 invariant-loop-before l =

@@ -2,7 +2,7 @@ use Rattle.std.proofs.Common.{sym, arith, length, map}
 use Rattle.std.proofs.lemmas.List.{length-map}
 use Rattle.tc_dtd.specs.Views.{declaration}
 use Rattle.tc_dtd.proofs.SizeLaws.{passes_nodes, passes_depth, passes_elements, within_counts}
-use Rattle.tc_dtd.proofs.schema.fits.Goals as goal
+use Rattle.tc_dtd.proofs.schema.check_limits.Goals as goal
 
 pub returns-then-size-from-clause-err : goal.returns-then-size-from-clause-err
 returns-then-size-from-clause-err c =
