@@ -232,7 +232,7 @@ fn keep_nothing(
     Ok(number)
 }
 
-/// The number of an entry of a node that isn't one below it.
+/// The number of an entry of a node, whose set is worked out.
 fn keep_here(
     machine: &Machine<'_>,
     outputs: &mut HeldSets,
@@ -240,14 +240,11 @@ fn keep_here(
     work: &mut Work,
     node: Node<'_>,
     spot: Spot,
-    nothing: &mut Option<u32>,
 ) -> Result<u32, RowFault>
     requires grounds { AreSomeGrounds machine.now outputs.old work.old node }
     requires ancestor { spot.ancestor < length (told machine.now.rules).ancestors.states }
     requires state { spot.state < move_count (told machine.now.rules) }
     requires above { spot.above < length (told machine.now.rules).ancestors.states }
-    requires known { IsNothing outputs.old nothing.old }
-    ensures known { IsNothing outputs.new nothing.new }
     ensures work { (x : Triple) → AreGrounds x machine.now outputs.old work.old node.entry → IsWork x machine.now.depth work.new }
     ensures named { work.new.named.items ≡ work.old.named.items }
     ensures held { Extends outputs.old outputs.new }
@@ -262,9 +259,6 @@ fn keep_here(
     ensures fresh { IsErrOf result RowFault.NewOutput → is_fixed ≡ true }
     ensures memory { IsErrOf result RowFault.NoMemory → is_fixed ≡ false }
 {
-    if puts_nothing(machine, node, spot) {
-        return keep_nothing(outputs, is_fixed, &mut work.set, nothing);
-    }
     put_entry_of(machine, outputs, work, node, spot);
     keep(outputs, is_fixed, &work.set)
 }
@@ -299,9 +293,12 @@ fn keep_entry(
     ensures fresh { IsErrOf result RowFault.NewOutput → is_fixed ≡ true }
     ensures memory { IsErrOf result RowFault.NoMemory → is_fixed ≡ false }
 {
+    if puts_nothing(machine, node, spot) {
+        return keep_nothing(outputs, is_fixed, &mut work.set, nothing);
+    }
     match passed_on(machine, outputs, node, spot) {
         Some(number) => Ok(number),
-        None => keep_here(machine, outputs, is_fixed, work, node, spot, nothing),
+        None => keep_here(machine, outputs, is_fixed, work, node, spot),
     }
 }
 

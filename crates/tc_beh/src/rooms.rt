@@ -34,6 +34,18 @@ pub struct TRow {
     pub(crate) room: Room,
 }
 
+/// Takes the numbers away from one place up to another.
+fn clear(numbers: &mut [u32], from: usize, to: usize)
+    requires within { to ≤ length numbers.old }
+    ensures count { length numbers.new ≡ length numbers.old }
+    ensures cleared { (k : ℕ) → from ≤ k → k < to → get_or numbers.new k 0 ≡ 0 }
+    ensures others { (k : ℕ) → (k < from) ⊎ (to ≤ k) → get_or numbers.new k 0 ≡ get_or numbers.old k 0 }
+{
+    for place in from..to {
+        numbers[place] = 0;
+    }
+}
+
 impl Room {
     ghost use Rattle.tc_beh.specs.RoomsOf.{IsRoomBeside, ChangesHeads};
     ghost use Rattle.tc_beh.specs.Rooms.{flag_at, output_at, flags_in, outputs_in, looks_in};
@@ -108,9 +120,8 @@ impl Room {
         ensures flags { (i : ℕ) → i < self.old.flags → flag_at self.new.numbers.items i ≡ 0 }
         ensures others { (k : ℕ) → (k < 2) ⊎ (2 + self.old.flags ≤ k) → get_or self.new.numbers.items k 0 ≡ get_or self.old.numbers.items k 0 }
     {
-        for place in 0..self.flags {
-            self.numbers[HEADS + place] = 0;
-        }
+        let end = HEADS + self.flags;
+        clear(self.numbers.as_mut_slice(), HEADS, end);
     }
 
     pub(crate) fn set_flag(&mut self, place: usize)
