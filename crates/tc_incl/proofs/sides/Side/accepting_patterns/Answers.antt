@@ -10,9 +10,9 @@ use Rattle.tc_incl.proofs.sides.Side.accepting_patterns.Goals as goal
 
 pub loop-before-init : goal.loop-before-init
 loop-before-init c = (
-  c.in_ok-accepting_patterns.ensures.size,
-  c.in_ok-accepting_patterns.ensures.numbers 0,
-  λ x st. found_none (IsTaken x c.args.states.now) c.in_ok-accepting_patterns.taken c.in_ok-accepting_patterns.ensures.numbers (λ (e, at, inside). no_pattern_of_none x e at),
+  c.in_ok-taken.ensures.size,
+  c.in_ok-taken.ensures.numbers 0,
+  λ x st. found_none (IsTaken x c.args.states.now) c.in_ok-taken.taken c.in_ok-taken.ensures.numbers (λ (e, at, inside). no_pattern_of_none x e at),
 )
 
 pub loop-before-preserved : goal.loop-before-preserved

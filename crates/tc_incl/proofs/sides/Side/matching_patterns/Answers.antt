@@ -6,9 +6,9 @@ use Rattle.tc_incl.proofs.sides.Side.matching_patterns.Goals as goal
 pub returns-clause-numbers : goal.returns-clause-numbers
 returns-clause-numbers c = λ x states symbols st are allowed.
     let (s, at) = some_at c.args.self.now.allowed.items c.args.symbol c.requires.symbol in
-    let same = c.in_ok-matching_patterns.ensures.numbers s at in
+    let same = c.in_ok-around.ensures.numbers s at in
     let holds = allowed c.args.symbol s at in
-    allowed_and_taken c.in_ok-matching_patterns.around c.keep_all.new.self c.args.steps.now.taken (IsAllowed x (fresh_name symbols c.args.symbol)) (IsTaken x states) c.keep_all.ensures.numbers
+    allowed_and_taken c.in_ok-around.around c.keep_all.new.self c.args.steps.now.taken (IsAllowed x (fresh_name symbols c.args.symbol)) (IsTaken x states) c.keep_all.ensures.numbers
     (λ k. (λ h. (holds k).0 ((same k).0 h), λ a. (same k).1 ((holds k).1 a))) (are.taken x st)
 
 pub returns-clause-from_one : goal.returns-clause-from_one

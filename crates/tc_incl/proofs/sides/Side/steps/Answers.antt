@@ -8,7 +8,7 @@ returns c = record {
   count = c.in_ok-elements.ensures.count;
   element_sizes = c.in_ok-elements.ensures.sizes;
   elements = c.in_ok-elements.ensures.numbers;
-  taken_size = c.in_ok-accepting_patterns.ensures.size ∙ c.args.self.now.ended;
-  from_one = c.in_ok-accepting_patterns.ensures.from_one;
-  taken = c.in_ok-accepting_patterns.ensures.numbers;
+  taken_size = c.in_ok-taken.ensures.size ∙ c.args.self.now.ended;
+  from_one = c.in_ok-taken.ensures.from_one;
+  taken = c.in_ok-taken.ensures.numbers;
 }
