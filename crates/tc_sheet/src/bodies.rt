@@ -59,32 +59,28 @@ fn characters<'b>(arena: &'b Bump, kids: &[Raw<'b>]) -> Result<&'b str, SheetFau
 }
 
 /// The path of all children (XSLT 1.0, 5.4).
-fn all_children<'b>(arena: &'b Bump) -> Result<Path<'b>, SheetFault>
-    ensures ok { IfOk result (λ p. see.path p ≡ meaning.all_children) }
-    ensures no { IfErr result (λ e. e ≡ faults.NoMemory) }
-{
-    let mut steps = Vec::new(arena);
-    steps.push(Step {
+static ALL_CHILDREN: Path<'static> = Path {
+    alts: &[&[Step {
         deep: false,
         test: NodeTest::Node,
         when: Test::True,
-    })?;
-    let steps: &'b [Step<'b>] = into_bump_slice(steps);
-    let mut alternatives = Vec::new(arena);
-    alternatives.push(steps)?;
-    Ok(Path {
-        alts: into_bump_slice(alternatives),
-    })
+    }]],
+};
+
+/// The path of all children.
+fn all_children<'b>() -> &'b Path<'b>
+    ensures { see.path result.now ≡ meaning.all_children }
+{
+    &ALL_CHILDREN
 }
 
 /// The path, or that of all children.
-fn or_all_children<'b>(arena: &'b Bump, path: Option<Path<'b>>) -> Result<Path<'b>, SheetFault>
-    ensures ok { IfOk result (λ p. see.path p ≡ phrases.or_all_children (option_map see.path path.entry)) }
-    ensures no { IfErr result (λ e. e ≡ faults.NoMemory) }
+fn or_all_children<'b>(path: Option<Path<'b>>) -> Path<'b>
+    ensures { see.path result ≡ phrases.or_all_children (option_map see.path path.entry) }
 {
     match path {
-        Some(path) => Ok(path),
-        None => all_children(arena),
+        Some(path) => path,
+        None => *all_children(),
     }
 }
 
@@ -116,8 +112,7 @@ fn apply_templates<'b>(arena: &'b Bump, element: &RawElem<'b>) -> Result<Begun<'
     let path = optional_select(arena, element)?;
     let mode = optional_name(element, "mode")?;
     blank(element.kids)?;
-    let path = or_all_children(arena, path)?;
-    Ok(Begun::Whole(Some(Written::Apply(path, mode))))
+    Ok(Begun::Whole(Some(Written::Apply(or_all_children(path), mode))))
 }
 
 /// Reads an `xsl:call-template` (XSLT 1.0, 6).
