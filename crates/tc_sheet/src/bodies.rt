@@ -112,10 +112,7 @@ fn apply_templates<'b>(arena: &'b Bump, element: &RawElem<'b>) -> Result<Begun<'
     let path = optional_select(arena, element)?;
     let mode = optional_name(element, "mode")?;
     blank(element.kids)?;
-    Ok(Begun::Whole(Some(Written::Apply(
-        or_all_children(path),
-        mode,
-    ))))
+    Ok(Begun::Whole(Some(Written::Apply(or_all_children(path), mode))))
 }
 
 /// Reads an `xsl:call-template` (XSLT 1.0, 6).

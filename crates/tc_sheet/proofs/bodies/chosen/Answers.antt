@@ -12,11 +12,10 @@ use Rattle.tc_sheet.proofs.ViewsWritten.{see_choose}
 use Rattle.tc_sheet.proofs.bodies.chosen.Goals as goal
 
 pub returns-then-is_empty-clause-no : goal.returns-then-is_empty-clause-no
-returns-then-is_empty-clause-no c =
-    (
-      element_at in_body c.args.element.now none (instruction_unrefused (name c.args.element.now.name) i_choose c.requires.choose),
-      without_when c.args.element.now c.requires.choose (body c.args.last.now) (empty_branches c.args.branches.now (sym c.if-is_empty.ensures) c.requires.held) both,
-    )
+returns-then-is_empty-clause-no c = (
+  element_at in_body c.args.element.now none (instruction_unrefused (name c.args.element.now.name) i_choose c.requires.choose),
+  without_when c.args.element.now c.requires.choose (body c.args.last.now) (empty_branches c.args.branches.now (sym c.if-is_empty.ensures) c.requires.held) both,
+)
 
 pub returns-clause-ok : goal.returns-clause-ok
 returns-clause-ok c = λ rest b y.
