@@ -58,7 +58,7 @@ fn characters<'b>(arena: &'b Bump, kids: &[Raw<'b>]) -> Result<&'b str, SheetFau
     Ok(into_bump_str(all))
 }
 
-/// The path of all children (XSLT 1.0, 5.4).
+/// All children of a node.
 static ALL_CHILDREN: Path<'static> = Path {
     alts: &[&[Step {
         deep: false,
@@ -67,7 +67,7 @@ static ALL_CHILDREN: Path<'static> = Path {
     }]],
 };
 
-/// The path of all children.
+/// The path of all children (XSLT 1.0, 5.4).
 fn all_children<'b>() -> &'b Path<'b>
     ensures { see.path result.now ≡ meaning.all_children }
 {
