@@ -6,7 +6,7 @@ ghost use Rattle.tc_model.specs.Views as see;
 ghost use Rattle.tc_model.specs.SheetTextPhrases as phrases;
 ghost use Rattle.tc_model.specs.SheetTextPhrases.{xsl_uri, IsXsl};
 ghost use Rattle.tc_model.specs.SheetTextTrees as trees;
-ghost use Rattle.tc_sheet.specs.Begun.{IsBegunBy, IsBegun, instruction_with_body as around_seen};
+ghost use Rattle.tc_sheet.specs.Begun.{IsBegunBy, IsBegun, around as around_seen};
 ghost use Rattle.tc_sheet.specs.Constructs.{MustHave, plain};
 ghost use Rattle.tc_sheet.specs.Constructs as forms;
 ghost use Rattle.tc_sheet.specs.LookedAt.{IsIn, in_body, in_choose, in_blank};
