@@ -1,13 +1,11 @@
-use Rattle.tc_model.specs.SheetTextPhrases.{i_choose, IsBody, AreBranches}
+use Rattle.tc_model.specs.SheetTextPhrases.{AreBranches}
 use Rattle.std.proofs.Common.{ap, ◌∙◌, sym, subst, ◌+◌, drop}
 use Rattle.std.proofs.lemmas.List.{at_drop_all}
 use Rattle.tc_model.specs.Views.{name, place, raw_trees, raw_before, raw_element}
 use Rattle.tc_model.specs.SheetTextTrees.{w_otherwise}
 use Rattle.tc_model.specs.declared.tree.Raw.{Raw}
-use Rattle.tc_model.specs.RawTrees.{none}
-use Rattle.tc_sheet.specs.LookedAt.{in_body, in_choose, IsIn}
+use Rattle.tc_sheet.specs.LookedAt.{in_choose, IsIn}
 use Rattle.tc_sheet.specs.Constructs.{of_when}
-use Rattle.tc_sheet.specs.Changes.{both}
 use Rattle.tc_sheet.specs.Begun.{IsBegun}
 use Rattle.tc_sheet.specs.Readings.{Refuses, HasNoBranches}
 use Rattle.std.proofs.Common.{rules}
@@ -16,9 +14,7 @@ use Rattle.tc_sheet.proofs.bodies.+body.Goals.{read_branches-in-Text+else-not-is
 use Rattle.tc_sheet.specs.Views.{body, branches, put}
 use Rattle.tc_sheet.specs.declared.written.Written.TheVariants as v
 use Rattle.tc_model.proofs.ViewsRaw.{left_one, left_elem, left_text, before_elem, before_text}
-use Rattle.tc_sheet.proofs.ViewsWritten.{see_text, see_choose}
-use Rattle.tc_sheet.proofs.Refusals.{element_at}
-use Rattle.tc_sheet.proofs.Unrefused.{instruction_unrefused}
+use Rattle.tc_sheet.proofs.ViewsWritten.{see_text}
 use Rattle.tc_sheet.proofs.Refused.{handed_on}
 use Rattle.tc_sheet.proofs.BodyLaws.{BodyLoop, body_begins, body_goes_on, body_ends, item_of_body_refuses, item_white, item_text, item_ok, item_no, body_refuses}
 use Rattle.tc_sheet.proofs.BranchLaws.{BranchLoop, branches_begin, past_blank, past_when, when_refuses, all_read, otherwise_refuses, none_left, black_refuses, odd_refuses, is_when, is_last, rest_whole, choose_refuses, otherwise_only_refuses, otherwise_body_refuses, otherwise_blank_refuses, otherwise_read, when_test_refuses, when_body_refuses}
