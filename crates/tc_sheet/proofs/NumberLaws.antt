@@ -5,12 +5,14 @@ use Rattle.std.proofs.lemmas.List.{drop_more, drop_all}
 use Rattle.tc_model.specs.Names.{ExpandedName, same_name}
 use Rattle.tc_model.specs.Numbered.{number_of}
 use Rattle.tc_model.specs.Views as see
-use Rattle.tc_model.specs.Views.{name, path, test}
+use Rattle.tc_model.specs.Views.{name, path, place, test}
 use Rattle.tc_model.specs.Sheets as sheets
 use Rattle.tc_model.specs.Sheets.{Body, Branches}
 use Rattle.tc_model.specs.SheetTextTrees as s
 use Rattle.tc_model.specs.SheetTextTrees.{WrittenBody, WrittenBranches, makes_rules}
 use Rattle.tc_model.specs.SheetText.{eaches_in, eaches_in_branches, eaches_of, mode_number, numbered, numbered_branches, NumberedTemplate, first_eaches}
+use Rattle.tc_base.specs.declared.Place.{Place}
+use Rattle.tc_model.specs.declared.sheet.Path.{Path}
 use Rattle.tc_model.specs.declared.tree.Name.{Name}
 use Rattle.tc_model.specs.declared.sheet.Branch.{Branch}
 use Rattle.tc_model.specs.declared.sheet.Instr.{Instr}
@@ -24,7 +26,7 @@ use Rattle.tc_sheet.specs.declared.written.WrittenBranch.{WrittenBranch}
 use Rattle.tc_sheet.specs.declared.written.Written.{Written}
 use Rattle.tc_sheet.specs.declared.written.Written.TheVariants as v
 use Rattle.tc_sheet.specs.declared.written.Template.{Template}
-use Rattle.tc_sheet.proofs.ViewsWritten.{see_choose, left_written}
+use Rattle.tc_sheet.proofs.ViewsWritten.{see_text, see_elem, see_copy, see_apply, see_call, see_value_of, see_value_of_self, see_choose, see_for_each, left_written}
 use Rattle.tc_sheet.proofs.WrittenParts.{choose_eaches, next_branch, eaches_step, eaches_branch, no_body_left}
 use Rattle.tc_sheet.proofs.TableKeys.{same_key, found_at, any_seen, number_past}
 
@@ -50,6 +52,53 @@ module _ (modes names : List ExpandedName) where
         by_parts w (i.Choose rs r) from next (λ t. s.w_choose (branches bs.now last) t) (λ t. sheets.choose (see.branches rs.now (sheets.otherwise (see.body r.now))) t)
         (along w (v.Choose bs b) (λ t. s.w_choose (branches bs.now last) t) e (see_choose bs b)) (bodies.see_choose rs r)
         (λ rest. ap (λ z. sheets.choose z (put next rest)) whole ∙ ap (λ k. sheets.choose (numbered_branches modes names from (branches bs.now last)) (put k rest)) count)
+
+    -- an instruction that holds no for-each
+    leaf : (x : Instr) (f : WrittenBody → WrittenBody) (g : Body → Body) → ((rest : WrittenBody) → written w rest ≡ f rest) → ((rest : Body) → see.instruction x rest ≡ g rest) → next ≡ from
+        → ((rest : WrittenBody) → g (put from rest) ≡ put from (f rest)) → (rest : WrittenBody) → see.instruction x (put next rest) ≡ put from (written w rest)
+    leaf x f g e h n same = by_parts w x from next f g e h (λ rest. ap (λ k. g (put k rest)) n ∙ same rest)
+
+    pub number_text : (x : Bor (List ℕ)) → w ≡ v.Text x → next ≡ from → (rest : WrittenBody) → see.instruction (i.Text x) (put next rest) ≡ put from (written w rest)
+    number_text x e n = leaf (i.Text x) (λ t. s.w_text x.now t) (λ t. sheets.put_text x.now t) (along w (v.Text x) (λ t. s.w_text x.now t) e (see_text x)) (bodies.see_text x) n (λ rest. refl)
+
+    pub number_apply : (p : Path) (mode : Option Name) (k : ℕ) → w ≡ v.Apply p mode → k ≡ mode_number modes names (option_map name mode) → next ≡ from → (rest : WrittenBody) → see.instruction (i.Apply p k) (put next rest) ≡ put from (written w rest)
+    number_apply p mode k e f n =
+        leaf (i.Apply p k) (λ t. s.w_apply (path p) (option_map name mode) t) (λ t. sheets.apply (path p) k t) (along w (v.Apply p mode) (λ t. s.w_apply (path p) (option_map name mode) t) e (see_apply p mode)) (bodies.see_apply p k) n
+        (λ rest. ap (λ z. sheets.apply (path p) z (put from rest)) f)
+
+    pub number_call : (m : Name) (q : Place) (k : ℕ) → w ≡ v.Call m q → k ≡ number_of same_name (name m) names → next ≡ from → (rest : WrittenBody) → see.instruction (i.Call k) (put next rest) ≡ put from (written w rest)
+    number_call m q k e f n =
+        leaf (i.Call k) (λ t. s.w_call (name m) (place q) t) (λ t. sheets.call k t) (along w (v.Call m q) (λ t. s.w_call (name m) (place q) t) e (see_call m q)) (bodies.see_call k) n (λ rest. ap (λ z. sheets.call z (put from rest)) f)
+
+    pub number_value : (p : Path) → w ≡ v.ValueOf p → next ≡ from → (rest : WrittenBody) → see.instruction (i.ValueOf p) (put next rest) ≡ put from (written w rest)
+    number_value p e n = leaf (i.ValueOf p) (λ t. s.w_value (path p) t) (λ t. sheets.value (path p) t) (along w (v.ValueOf p) (λ t. s.w_value (path p) t) e (see_value_of p)) (bodies.see_value_of p) n (λ rest. refl)
+
+    pub number_self : w ≡ v.ValueOfSelf → next ≡ from → (rest : WrittenBody) → see.instruction i.ValueOfSelf (put next rest) ≡ put from (written w rest)
+    number_self e n = leaf i.ValueOfSelf (λ t. s.w_self t) (λ t. sheets.value_of_self t) (along w v.ValueOfSelf (λ t. s.w_self t) e see_value_of_self) bodies.see_value_of_self n (λ rest. refl)
+
+    pub number_elem : (m : Name) (b : Bor (List Written)) (r : Bor (List Instr)) → w ≡ v.Elem m b → see.body r.now ≡ put from (body b.now) → next ≡ from + eaches_in (body b.now)
+        → (rest : WrittenBody) → see.instruction (i.Elem m r) (put next rest) ≡ put from (written w rest)
+    number_elem m b r e f n =
+        by_parts w (i.Elem m r) from next (λ t. s.w_element (name m) (body b.now) t) (λ t. sheets.put_element (name m) (see.body r.now) t) (along w (v.Elem m b) (λ t. s.w_element (name m) (body b.now) t) e (see_elem m b)) (bodies.see_elem m r)
+        (λ rest. ap (λ z. sheets.put_element (name m) z (put next rest)) f ∙ ap (λ k. sheets.put_element (name m) (put from (body b.now)) (put k rest)) n)
+
+    pub number_copy : (b : Bor (List Written)) (r : Bor (List Instr)) → w ≡ v.Copy b → see.body r.now ≡ put from (body b.now) → next ≡ from + eaches_in (body b.now)
+        → (rest : WrittenBody) → see.instruction (i.Copy r) (put next rest) ≡ put from (written w rest)
+    number_copy b r e f n =
+        by_parts w (i.Copy r) from next (λ t. s.w_copy (body b.now) t) (λ t. sheets.copy (see.body r.now) t) (along w (v.Copy b) (λ t. s.w_copy (body b.now) t) e (see_copy b)) (bodies.see_copy r)
+        (λ rest. ap (λ z. sheets.copy z (put next rest)) f ∙ ap (λ k. sheets.copy (put from (body b.now)) (put k rest)) n)
+
+    pub number_each : (p : Path) (b : Bor (List Written)) (r : Bor (List Instr)) (k middle : ℕ) → w ≡ v.ForEach p b → k ≡ from → middle ≡ from + 1 → see.body r.now ≡ put middle (body b.now) → next ≡ middle + eaches_in (body b.now)
+        → (rest : WrittenBody) → see.instruction (i.ForEach k p r) (put next rest) ≡ put from (written w rest)
+    number_each p b r k middle e is m f n =
+        let count : next ≡ from + 1 + eaches_in (body b.now) = omega (arith, m, n) in
+        by_parts w (i.ForEach k p r) from next (λ t. s.w_each (path p) (body b.now) t) (λ t. sheets.for_each k (path p) (see.body r.now) t) (along w (v.ForEach p b) (λ t. s.w_each (path p) (body b.now) t) e (see_for_each p b)) (bodies.see_for_each k p r)
+        (λ rest. ap (λ z. sheets.for_each z (path p) (see.body r.now) (put next rest)) is
+        ∙ (ap (λ z. sheets.for_each from (path p) z (put next rest)) (f ∙ ap (λ z. put z (body b.now)) m) ∙ ap (λ z. sheets.for_each from (path p) (put (from + 1) (body b.now)) (put z rest)) count))
+
+    -- how many for-eaches an instruction has
+    pub counted_by : (u : Written) (k : ℕ) → w ≡ u → eaches_in (alone (written u)) ≡ k → next ≡ from + k → next ≡ from + eaches_in (alone (written w))
+    counted_by u k e f g = g ∙ ap (λ z. from + z) (sym (ap (λ z. eaches_in (alone (written z))) e ∙ f))
 
   -- one more instruction in a body
   pub body_step : (is : List Written) (k : ℕ) (w : Written) (h : k < length is) → w ≡ get_or is k w → (found : List Instr) (x : Instr) (from next : ℕ) (all : Body)

@@ -6,12 +6,12 @@ ghost use Rattle.tc_model.specs.Views as see;
 ghost use Rattle.tc_model.specs.SheetTextPhrases as phrases;
 ghost use Rattle.tc_model.specs.SheetTextPhrases.{xsl_uri, IsXsl};
 ghost use Rattle.tc_model.specs.SheetTextTrees as trees;
-ghost use Rattle.tc_sheet.specs.Begun.{IsBegunBy, IsBegun, instruction_with_body as around_seen};
+ghost use Rattle.tc_sheet.specs.Begun.{IsBegunBy, IsBegun, around as around_seen};
 ghost use Rattle.tc_sheet.specs.Constructs.{MustHave, plain};
 ghost use Rattle.tc_sheet.specs.Constructs as forms;
 ghost use Rattle.tc_sheet.specs.LookedAt.{IsIn, in_body, in_choose, in_blank};
 ghost use Rattle.tc_sheet.specs.Readings.{Refuses, IsNotBlank, HasNoCharacters, HasNoInstruction, HasTest, HasNoTest, IsTested, HasNoTested, HasNoBody, IsItem, HasNoItem, IsElementItem, HasNoElementItem, HasNoBranches, alone, attributes_of, scope_of};
-ghost use Rattle.tc_sheet.specs.Views.{written, put, tag_of, body as body_of, branches as branches_before, instruction as instruction_seen};
+ghost use Rattle.tc_sheet.specs.Views.{written, written_before, put, tag_of, body as body_of, branches as branches_before, instruction as instruction_seen};
 ghost use Rattle.tc_sheet.specs.declared.faults.SheetFault.TheVariants as faults;
 
 use crate::attributes::{
@@ -58,33 +58,29 @@ fn characters<'b>(arena: &'b Bump, kids: &[Raw<'b>]) -> Result<&'b str, SheetFau
     Ok(into_bump_str(all))
 }
 
-/// The path of all children (XSLT 1.0, 5.4).
-fn all_children<'b>(arena: &'b Bump) -> Result<Path<'b>, SheetFault>
-    ensures ok { IfOk result (λ p. see.path p ≡ meaning.all_children) }
-    ensures no { IfErr result (λ e. e ≡ faults.NoMemory) }
-{
-    let mut steps = Vec::new(arena);
-    steps.push(Step {
+/// All children of a node.
+static ALL_CHILDREN: Path<'static> = Path {
+    alts: &[&[Step {
         deep: false,
         test: NodeTest::Node,
         when: Test::True,
-    })?;
-    let steps: &'b [Step<'b>] = into_bump_slice(steps);
-    let mut alternatives = Vec::new(arena);
-    alternatives.push(steps)?;
-    Ok(Path {
-        alts: into_bump_slice(alternatives),
-    })
+    }]],
+};
+
+/// The path of all children (XSLT 1.0, 5.4).
+fn all_children<'b>() -> &'b Path<'b>
+    ensures { see.path result.now ≡ meaning.all_children }
+{
+    &ALL_CHILDREN
 }
 
 /// The path, or that of all children.
-fn or_all_children<'b>(arena: &'b Bump, path: Option<Path<'b>>) -> Result<Path<'b>, SheetFault>
-    ensures ok { IfOk result (λ p. see.path p ≡ phrases.or_all_children (option_map see.path path.entry)) }
-    ensures no { IfErr result (λ e. e ≡ faults.NoMemory) }
+fn or_all_children<'b>(path: Option<Path<'b>>) -> Path<'b>
+    ensures { see.path result ≡ phrases.or_all_children (option_map see.path path.entry) }
 {
     match path {
-        Some(path) => Ok(path),
-        None => all_children(arena),
+        Some(path) => path,
+        None => *all_children(),
     }
 }
 
@@ -116,8 +112,7 @@ fn apply_templates<'b>(arena: &'b Bump, element: &RawElem<'b>) -> Result<Begun<'
     let path = optional_select(arena, element)?;
     let mode = optional_name(element, "mode")?;
     blank(element.kids)?;
-    let path = or_all_children(arena, path)?;
-    Ok(Begun::Whole(Some(Written::Apply(path, mode))))
+    Ok(Begun::Whole(Some(Written::Apply(or_all_children(path), mode))))
 }
 
 /// Reads an `xsl:call-template` (XSLT 1.0, 6).
@@ -376,6 +371,24 @@ fn read_branches<'b>(
     Ok((into_bump_slice(found), no_instruction(arena)))
 }
 
+/// What an `xsl:choose` of these branches and this last body makes, which has one branch at least (XSLT 1.0, 9.2).
+fn chosen<'b>(
+    element: &RawElem<'b>,
+    branches: &'b [WrittenBranch<'b>],
+    last: &'b [Written<'b>],
+) -> Result<Option<Written<'b>>, SheetFault>
+    requires choose { phrases.instruction_of (see.name element.now.name) ≡ Some phrases.i_choose }
+    requires only { phrases.HasOnly [] (attributes_of element.now) }
+    requires held { phrases.AreBranches (see.raw_trees element.now.kids.now) (branches_before branches.now (trees.w_otherwise (body_of last.now))) }
+    ensures ok { IfOk result (λ w. IsElementItem element.now (put w)) }
+    ensures no { IfErr result (λ e. Refuses e (IsIn in_body (see.raw_element element.now raws.none)) (HasNoElementItem element.now)) }
+{
+    if branches.is_empty() {
+        return Err(SheetFault::Malformed(element.place));
+    }
+    Ok(Some(Written::Choose(branches, last)))
+}
+
 /// Reads what an `xsl:choose` holds (XSLT 1.0, 9.2).
 #[cycle(body)]
 fn choose<'b>(arena: &'b Bump, element: &RawElem<'b>) -> Result<Option<Written<'b>>, SheetFault>
@@ -385,10 +398,7 @@ fn choose<'b>(arena: &'b Bump, element: &RawElem<'b>) -> Result<Option<Written<'
     ensures no { IfErr result (λ e. Refuses e (IsIn in_body (see.raw_element element.now raws.none)) (HasNoElementItem element.now)) }
 {
     let (branches, last) = read_branches(arena, element.kids)?;
-    if branches.is_empty() {
-        return Err(SheetFault::Malformed(element.place));
-    }
-    Ok(Some(Written::Choose(branches, last)))
+    chosen(element, branches, last)
 }
 
 /// Reads an element of a body.
@@ -430,6 +440,23 @@ fn item<'b>(arena: &'b Bump, kid: &Raw<'b>) -> Result<Option<Written<'b>>, Sheet
     }
 }
 
+/// Puts what was read behind the others, unless it makes nothing.
+fn put_read<'b>(
+    found: &mut Vec<Written<'b>, &'b Bump>,
+    read: Option<Written<'b>>,
+) -> Result<(), SheetFault>
+    ensures ok { OnOk result ((rest : trees.WrittenBody) → written_before found.new.items rest ≡ written_before found.old.items (put read.entry rest)) }
+    ensures no { IfErr result (λ e. e ≡ faults.NoMemory) }
+{
+    match read {
+        None => Ok(()),
+        Some(written) => {
+            found.push(written)?;
+            Ok(())
+        }
+    }
+}
+
 /// Reads a body.
 #[cycle(body)]
 pub(crate) fn body<'b>(arena: &'b Bump, kids: &[Raw<'b>]) -> Result<&'b [Written<'b>], SheetFault>
@@ -439,10 +466,7 @@ pub(crate) fn body<'b>(arena: &'b Bump, kids: &[Raw<'b>]) -> Result<&'b [Written
     let mut found = Vec::new(arena);
     for kid in kids {
         let read = item(arena, kid)?;
-        match read {
-            Some(written) => found.push(written)?,
-            None => {}
-        }
+        put_read(&mut found, read)?;
     }
     Ok(into_bump_slice(found))
 }

@@ -169,6 +169,16 @@ fn put_row<'b>(
     Ok(())
 }
 
+/// The calls in a body.
+fn sites_of<'b>(arena: &'b Bump, body: &[Written<'b>]) -> Result<&'b [Site<'b>], SheetFault>
+    ensures ok { IfOk result (λ s. map seen_site s.now ≡ model.calls_in_body (body_seen body.now)) }
+    ensures no { IfErr result (λ e. e ≡ NoMemory) }
+{
+    let mut sites = Vec::new(arena);
+    put_calls(&mut sites, body)?;
+    Ok(into_bump_slice(sites))
+}
+
 /// Puts the calls of a template behind the others, and its row, if it has a name.
 ///
 /// # Errors
@@ -187,10 +197,9 @@ fn put_template<'b>(
     ensures first { OnOk result (first_undefined (names_seen names.now) (model.calls_in_body (body_seen template.now.body.now)) ≡ None) }
     ensures no { IfErr result (IsFirstUndefined (names_seen names.now) (model.calls_in_body (body_seen template.now.body.now))) }
 {
-    let mut sites = Vec::new(arena);
-    put_calls(&mut sites, template.body)?;
+    let sites = sites_of(arena, template.body)?;
     let caller = caller(names, template);
-    let row = put_numbered(arena, names, caller, &sites, calls)?;
+    let row = put_numbered(arena, names, caller, sites, calls)?;
     put_row(rows, template, row)
 }
 
@@ -241,8 +250,10 @@ pub(crate) fn check_calls<'b>(
     for template in templates {
         put_template(arena, names, template, &mut rows, &mut calls)?;
     }
-    let walk = components(arena, &rows)?;
-    match first_loop(&walk, &calls) {
+    let rows: &'b [&'b [usize]] = into_bump_slice(rows);
+    let calls: &'b [Call] = into_bump_slice(calls);
+    let walk = components(arena, rows)?;
+    match first_loop(&walk, calls) {
         Some(place) => Err(SheetFault::CallLoop(place)),
         None => Ok(()),
     }

@@ -24,6 +24,7 @@ mod templates;
 mod written;
 
 use bumpalo::Bump;
+use bumpalo::collections::into_bump_slice;
 use calls::check_calls;
 pub use faults::SheetFault;
 use numbering::{Tables, sheet_of};
@@ -33,11 +34,8 @@ use templates::stylesheet;
 use written::Template;
 
 /// The templates that can be used: without a name, one of whose alternatives all are dropped can't.
-fn used<'b>(
-    arena: &'b Bump,
-    templates: &[Template<'b>],
-) -> Result<Vec<Template<'b>, &'b Bump>, SheetFault>
-    ensures ok { IfOk result (λ r. map template_seen r.items ≡ filter is_used (map template_seen templates.now)) }
+fn used<'b>(arena: &'b Bump, templates: &[Template<'b>]) -> Result<&'b [Template<'b>], SheetFault>
+    ensures ok { IfOk result (λ r. map template_seen r.now ≡ filter is_used (map template_seen templates.now)) }
     ensures no { IfErr result (λ e. e ≡ SheetFault.NoMemory) }
 {
     let mut found = Vec::new(arena);
@@ -46,7 +44,7 @@ fn used<'b>(
             found.push(*template)?;
         }
     }
-    Ok(found)
+    Ok(into_bump_slice(found))
 }
 
 /// The stylesheet of its root (XSLT 1.0, 2.2).
@@ -57,13 +55,10 @@ fn sheet_in<'b>(arena: &'b Bump, element: &RawElem<'b>) -> Result<Sheet<'b>, She
     let written = stylesheet(arena, element)?;
     let names = names_of(arena, written)?;
     let templates = used(arena, written)?;
-    check_calls(arena, &names, &templates)?;
-    let modes = modes_of(arena, &templates)?;
-    let tables = Tables {
-        modes: &modes,
-        names: &names,
-    };
-    sheet_of(arena, &tables, &templates)
+    check_calls(arena, names, templates)?;
+    let modes = modes_of(arena, templates)?;
+    let tables = Tables { modes, names };
+    sheet_of(arena, &tables, templates)
 }
 
 /// Reads a stylesheet from its raw tree, which is an element (XSLT 1.0, 2 to 9 and 11.3).

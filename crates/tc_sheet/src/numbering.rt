@@ -366,6 +366,7 @@ pub(crate) fn sheet_of<'b>(
     ensures no { IfErr result (λ e. e ≡ NoMemory) }
 {
     let others = eaches_in_rules(templates)?;
+    let modes = after(tables.modes.len())?;
     let mut parts = Parts {
         in_rules: 0,
         others,
@@ -375,7 +376,6 @@ pub(crate) fn sheet_of<'b>(
     for template in templates {
         parts.put(arena, tables, template)?;
     }
-    let modes = after(tables.modes.len())?;
     Ok(finished(parts, modes))
 }
 

@@ -47,8 +47,8 @@ fn put_name<'b>(names: &mut Names<'b>, template: &Template<'b>) -> Result<(), Sh
 pub(crate) fn names_of<'b>(
     arena: &'b Bump,
     templates: &[Template<'b>],
-) -> Result<Names<'b>, SheetFault>
-    ensures ok { IfOk result (λ n. names_seen n ≡ model.names_of (map template_seen templates.now)) }
+) -> Result<&'b Names<'b>, SheetFault>
+    ensures ok { IfOk result (λ n. names_seen n.now ≡ model.names_of (map template_seen templates.now)) }
     ensures once { OnOk result (IsDistinct same_name (model.names_of (map template_seen templates.now))) }
     ensures no { IfErr result (IsTwice (map template_seen templates.now)) }
 {
@@ -56,6 +56,7 @@ pub(crate) fn names_of<'b>(
     for template in templates {
         put_name(&mut names, template)?;
     }
+    let names: &'b Names<'b> = arena.try_alloc(names)?;
     Ok(names)
 }
 
@@ -135,13 +136,14 @@ fn put_modes_of_template<'b>(
 pub(crate) fn modes_of<'b>(
     arena: &'b Bump,
     templates: &[Template<'b>],
-) -> Result<Names<'b>, SheetFault>
-    ensures ok { IfOk result (λ m. names_seen m ≡ model.modes_of (map template_seen templates.now)) }
+) -> Result<&'b Names<'b>, SheetFault>
+    ensures ok { IfOk result (λ m. names_seen m.now ≡ model.modes_of (map template_seen templates.now)) }
     ensures no { IfErr result (λ e. e ≡ NoMemory) }
 {
     let mut modes: Names<'b> = IndexSet::new(arena);
     for template in templates {
         put_modes_of_template(&mut modes, template)?;
     }
+    let modes: &'b Names<'b> = arena.try_alloc(modes)?;
     Ok(modes)
 }

@@ -1,4 +1,4 @@
-use Rattle.std.proofs.Common.{◌∙◌, ap, map}
+use Rattle.std.proofs.Common.{map}
 use Rattle.tc_model.specs.RawTrees.{none}
 use Rattle.tc_model.specs.Views.{raw_element}
 use Rattle.tc_sheet.specs.Views.{template}
@@ -24,20 +24,20 @@ returns-in_err-templates-clause-no c =
 pub returns-in_err-check_calls-clause-no : goal.returns-in_err-check_calls-clause-no
 returns-in_err-check_calls-clause-no c =
     handed_on _ c.from_residual-in_err-check_calls.result c.in_err-check_calls.field-0.0 c.from_residual-in_err-check_calls.ensures.1
-    (told_calls (raw_element c.args.element.now none) (map template c.in_ok-written.written.now) c.in_ok-written.ensures.ok c.in_ok-names.ensures.once (map template c.deref.result.now)
-    (ap (map template) c.deref.ensures.value ∙ c.in_ok-templates.ensures.ok) c.in_err-check_calls.field-0.0 c.in_err-check_calls.ensures.no)
+    (told_calls (raw_element c.args.element.now none) (map template c.in_ok-written.written.now) c.in_ok-written.ensures.ok c.in_ok-names.ensures.once (map template c.in_ok-templates.templates.now)
+    c.in_ok-templates.ensures.ok c.in_err-check_calls.field-0.0 c.in_err-check_calls.ensures.no)
 
 pub returns-in_err-modes-clause-no : goal.returns-in_err-modes-clause-no
 returns-in_err-modes-clause-no c =
     handed_on _ c.from_residual-in_err-modes.result c.in_err-modes.field-0.0 c.from_residual-in_err-modes.ensures.1 (told_memory (raw_element c.args.element.now none) c.in_err-modes.field-0.0 c.in_err-modes.ensures.no)
 
 pub check_calls-requires-clause-names : goal.check_calls-requires-clause-names
-check_calls-requires-clause-names c = names_used (map template c.in_ok-written.written.now) (map template c.deref.result.now) (names_seen c.in_ok-names.names) (ap (map template) c.deref.ensures.value ∙ c.in_ok-templates.ensures.ok) c.in_ok-names.ensures.ok
+check_calls-requires-clause-names c = names_used (map template c.in_ok-written.written.now) (map template c.in_ok-templates.templates.now) (names_seen c.in_ok-names.names.now) c.in_ok-templates.ensures.ok c.in_ok-names.ensures.ok
 
 pub sheet_of-requires-clause-names : goal.sheet_of-requires-clause-names
-sheet_of-requires-clause-names c = names_used (map template c.in_ok-written.written.now) (map template c.deref-3.result.now) (names_seen c.in_ok-names.names) (ap (map template) c.deref-3.ensures.value ∙ c.in_ok-templates.ensures.ok) c.in_ok-names.ensures.ok
+sheet_of-requires-clause-names c = names_used (map template c.in_ok-written.written.now) (map template c.in_ok-templates.templates.now) (names_seen c.in_ok-names.names.now) c.in_ok-templates.ensures.ok c.in_ok-names.ensures.ok
 
 pub returns-clause-ok : goal.returns-clause-ok
 returns-clause-ok c =
-    whole_read (raw_element c.args.element.now none) (map template c.in_ok-written.written.now) c.in_ok-written.ensures.ok c.in_ok-names.ensures.once (map template c.deref.result.now) (map template c.deref-3.result.now) (ap (map template) c.deref.ensures.value ∙ c.in_ok-templates.ensures.ok) (ap (map template) c.deref-3.ensures.value ∙ c.in_ok-templates.ensures.ok)
+    whole_read (raw_element c.args.element.now none) (map template c.in_ok-written.written.now) c.in_ok-written.ensures.ok c.in_ok-names.ensures.once (map template c.in_ok-templates.templates.now) (map template c.in_ok-templates.templates.now) c.in_ok-templates.ensures.ok c.in_ok-templates.ensures.ok
     c.in_ok-check_calls.ensures.defined c.in_ok-check_calls.ensures.no_loop c.sheet_of.result c.sheet_of.ensures.ok

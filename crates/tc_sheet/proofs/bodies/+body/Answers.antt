@@ -1,27 +1,23 @@
-use Rattle.tc_model.specs.SheetTextPhrases.{i_choose, IsBody, AreBranches}
+use Rattle.tc_model.specs.SheetTextPhrases.{AreBranches}
 use Rattle.std.proofs.Common.{ap, ◌∙◌, sym, subst, ◌+◌, drop}
 use Rattle.std.proofs.lemmas.List.{at_drop_all}
 use Rattle.tc_model.specs.Views.{name, place, raw_trees, raw_before, raw_element}
 use Rattle.tc_model.specs.SheetTextTrees.{w_otherwise}
 use Rattle.tc_model.specs.declared.tree.Raw.{Raw}
-use Rattle.tc_model.specs.RawTrees.{none}
-use Rattle.tc_sheet.specs.LookedAt.{in_body, in_choose, IsIn}
+use Rattle.tc_sheet.specs.LookedAt.{in_choose, IsIn}
 use Rattle.tc_sheet.specs.Constructs.{of_when}
-use Rattle.tc_sheet.specs.Changes.{both}
 use Rattle.tc_sheet.specs.Begun.{IsBegun}
 use Rattle.tc_sheet.specs.Readings.{Refuses, HasNoBranches}
 use Rattle.std.proofs.Common.{rules}
 use Rattle.tc_model.specs.declared.tree.Raw.TheViews.{the_lemmas}
-use Rattle.tc_sheet.proofs.bodies.+body.Goals.{body-in-Some+in_ok-push-in-Some, body-in-None, read_branches-in-Text+else-not-is_white_space_only, read_branches-in-Elem+in_ok-ends-in-Elem+else-ends+in_ok-branch-in-Elem+in_ok-push-in-Elem}
+use Rattle.tc_sheet.proofs.bodies.+body.Goals.{read_branches-in-Text+else-not-is_white_space_only, read_branches-in-Elem+in_ok-ends-in-Elem+else-ends+in_ok-branch-in-Elem+in_ok-push-in-Elem}
 use Rattle.tc_sheet.specs.Views.{body, branches, put}
 use Rattle.tc_sheet.specs.declared.written.Written.TheVariants as v
 use Rattle.tc_model.proofs.ViewsRaw.{left_one, left_elem, left_text, before_elem, before_text}
-use Rattle.tc_sheet.proofs.ViewsWritten.{see_text, see_choose}
-use Rattle.tc_sheet.proofs.Refusals.{element_at}
-use Rattle.tc_sheet.proofs.Unrefused.{instruction_unrefused}
+use Rattle.tc_sheet.proofs.ViewsWritten.{see_text}
 use Rattle.tc_sheet.proofs.Refused.{handed_on}
-use Rattle.tc_sheet.proofs.BodyLaws.{BodyLoop, body_begins, body_goes_on, body_pushed, body_stays, body_ends, item_of_body_refuses, item_white, item_text, item_ok, item_no, body_refuses}
-use Rattle.tc_sheet.proofs.BranchLaws.{BranchLoop, branches_begin, past_blank, past_when, when_refuses, all_read, otherwise_refuses, none_left, black_refuses, odd_refuses, is_when, is_last, rest_whole, choose_refuses, without_when, empty_branches, choose_item, otherwise_only_refuses, otherwise_body_refuses, otherwise_blank_refuses, otherwise_read, when_test_refuses, when_body_refuses}
+use Rattle.tc_sheet.proofs.BodyLaws.{BodyLoop, body_begins, body_goes_on, body_ends, item_of_body_refuses, item_white, item_text, item_ok, item_no, body_refuses}
+use Rattle.tc_sheet.proofs.BranchLaws.{BranchLoop, branches_begin, past_blank, past_when, when_refuses, all_read, otherwise_refuses, none_left, black_refuses, odd_refuses, is_when, is_last, rest_whole, choose_refuses, otherwise_only_refuses, otherwise_body_refuses, otherwise_blank_refuses, otherwise_read, when_test_refuses, when_body_refuses}
 use Rattle.tc_sheet.proofs.bodies.+body.Goals as goal
 
 pub body-loop-kid-init : goal.body-loop-kid-init
@@ -32,23 +28,14 @@ body-returns-in_err-read-clause-no t c = handed_on _ c.from_residual.result c.in
 
 pub body-loop-kid-preserved : goal.body-loop-kid-preserved
 body-loop-kid-preserved t c =
-    body_goes_on c.kid-item.result (raw_trees (drop (c.loop-kid.kid-index + 1) c.args.kids.now)) (put c.in_ok-read.read) c.match-read.found.items c.in_ok-read.ensures.ok (subst (λ h. BodyLoop (raw_trees c.args.kids.now) h c.loop-kid.found.items) (left_one c.args.kids.now c.loop-kid.kid-index c.kid-item.result c.loop-kid-test.true c.kid-item.is) c.loop-kid.invariant)
-    (elim c.match-read.branch [
-      | body-in-Some+in_ok-push-in-Some w ↦ body_pushed c.loop-kid.found.items c.match-read.found.items w.in-Some.written c.in_ok-read.read (ap (λ v. v.items) w.found-is ∙ w.in_ok-push-in-Some.ensures.items) w.in-Some.is
-      | body-in-None w ↦ body_stays c.loop-kid.found.items c.match-read.found.items c.in_ok-read.read (ap (λ v. v.items) w.found-is) w.in-None.is
-    ])
+    body_goes_on c.kid-item.result (raw_trees (drop (c.loop-kid.kid-index + 1) c.args.kids.now)) (put c.in_ok-read.read) c.put_read.new.found.items c.in_ok-read.ensures.ok
+    (subst (λ h. BodyLoop (raw_trees c.args.kids.now) h c.loop-kid.found.items) (left_one c.args.kids.now c.loop-kid.kid-index c.kid-item.result c.loop-kid-test.true c.kid-item.is) c.loop-kid.invariant) c.in_ok-put_read.ensures.ok
 
 pub body-returns-clause-ok : goal.body-returns-clause-ok
 body-returns-clause-ok t c = body_ends c.loop-kid.invariant (at_drop_all raw_trees c.args.kids.now c.loop-kid.kid-index c.loop-kid-test.false) c.into_bump_slice.ensures
 
 pub choose-returns-in_err-branches-clause-no : goal.choose-returns-in_err-branches-clause-no
 choose-returns-in_err-branches-clause-no t c = handed_on _ c.from_residual.result c.in_err-branches.field-0.0 c.from_residual.ensures.1 (choose_refuses c.args.element.now c.requires.choose c.in_err-branches.field-0.0 c.in_err-branches.ensures.no)
-
-pub choose-returns-then-is_empty-clause-no : goal.choose-returns-then-is_empty-clause-no
-choose-returns-then-is_empty-clause-no t c = (element_at in_body c.args.element.now none (instruction_unrefused (name c.args.element.now.name) i_choose c.requires.choose), without_when c.args.element.now c.requires.choose (body c.in_ok-branches.last.now) (empty_branches c.in_ok-branches.branches.now (sym c.if-is_empty.ensures) c.in_ok-branches.ensures.ok) both)
-
-pub choose-returns-clause-ok : goal.choose-returns-clause-ok
-choose-returns-clause-ok t c = λ rest b y. subst (IsBody (raw_element c.args.element.now rest)) (sym (see_choose c.in_ok-branches.branches c.in_ok-branches.last b)) (choose_item c.args.element.now c.requires.choose c.in_ok-branches.branches.now (body c.in_ok-branches.last.now) (sym c.if-is_empty.ensures) c.requires.only c.in_ok-branches.ensures.ok rest b y)
 
 pub element_of_body-returns-in_err-inner-in-Around-clause-no : goal.element_of_body-returns-in_err-inner-in-Around-clause-no
 element_of_body-returns-in_err-inner-in-Around-clause-no t c = handed_on _ c.from_residual-in_err-inner-in-Around.result c.in_err-inner-in-Around.field-0.0 c.from_residual-in_err-inner-in-Around.ensures.1 (body_refuses c.args.element.now c.in-Around.head (subst (IsBegun c.args.element.now) c.in-Around.is c.in_ok-begun.ensures.ok) c.in_err-inner-in-Around.field-0.0 c.in_err-inner-in-Around.ensures.no)

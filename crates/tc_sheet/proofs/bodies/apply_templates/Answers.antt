@@ -30,4 +30,4 @@ pub returns-in_err-blank-clause-no : goal.returns-in_err-blank-clause-no
 returns-in_err-blank-clause-no c = handed_on _ c.from_residual-in_err-blank.result c.in_err-blank.field-0.0 c.from_residual-in_err-blank.ensures.1 (of_apply_blank c.args.element.now c.in_err-blank.field-0.0 c.requires c.in_err-blank.ensures.no)
 
 pub returns-clause-ok : goal.returns-clause-ok
-returns-clause-ok c = apply_read c.args.element.now (option_map path c.in_ok-path.path) c.in_ok-path-2.path c.in_ok-mode.mode c.in_ok-only_attributes.ensures.ok c.in_ok-path.ensures.ok c.in_ok-mode.ensures.ok c.in_ok-blank.ensures.ok c.in_ok-path-2.ensures.ok
+returns-clause-ok c = apply_read c.args.element.now (option_map path c.in_ok-path.path) c.or_all_children.result c.in_ok-mode.mode c.in_ok-only_attributes.ensures.ok c.in_ok-path.ensures.ok c.in_ok-mode.ensures.ok c.in_ok-blank.ensures.ok c.or_all_children.ensures

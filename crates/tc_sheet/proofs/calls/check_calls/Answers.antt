@@ -36,7 +36,7 @@ components-requires c =
     let k = c.loop-template.template-index in
     let names = names_seen c.args.names.now in
     graph_rows (map template ts) names c.requires.names c.requires.once (first_end ts k names _ c.loop-template-test.false c.loop-template.invariant.first)
-    (rows_of c.deref.result.now) (ap rows_of c.deref.ensures.value ∙ flat_end (row_of names) ts k (rows_of c.loop-template.rows.items) _ c.loop-template-test.false c.loop-template.invariant.rows)
+    (rows_of c.into_bump_slice-rows.result.now) (ap rows_of c.into_bump_slice-rows.ensures ∙ flat_end (row_of names) ts k (rows_of c.loop-template.rows.items) _ c.loop-template-test.false c.loop-template.invariant.rows)
 
 pub first_loop-requires : goal.first_loop-requires
 first_loop-requires c =
@@ -44,9 +44,9 @@ first_loop-requires c =
     let k = c.loop-template.template-index in
     let names = names_seen c.args.names.now in
     within_calls (map template ts) names c.requires.names c.requires.once (first_end ts k names _ c.loop-template-test.false c.loop-template.invariant.first)
-    (rows_of c.deref.result.now) (ap rows_of c.deref.ensures.value ∙ flat_end (row_of names) ts k (rows_of c.loop-template.rows.items) _ c.loop-template-test.false c.loop-template.invariant.rows)
+    (rows_of c.into_bump_slice-rows.result.now) (ap rows_of c.into_bump_slice-rows.ensures ∙ flat_end (row_of names) ts k (rows_of c.loop-template.rows.items) _ c.loop-template-test.false c.loop-template.invariant.rows)
     c.in_ok-walk.walk.states.items c.in_ok-walk.walk.order.items c.in_ok-walk.ensures
-    c.deref-2.result.now (ap (map call) c.deref-2.ensures.value ∙ flat_end (calls_from names) ts k (map call c.loop-template.calls.items) _ c.loop-template-test.false c.loop-template.invariant.put)
+    c.into_bump_slice-calls.result.now (ap (map call) c.into_bump_slice-calls.ensures ∙ flat_end (calls_from names) ts k (map call c.loop-template.calls.items) _ c.loop-template-test.false c.loop-template.invariant.put)
 
 pub returns-in-Some-clause-no : goal.returns-in-Some-clause-no
 returns-in-Some-clause-no c =
@@ -54,9 +54,9 @@ returns-in-Some-clause-no c =
     let k = c.loop-template.template-index in
     let names = names_seen c.args.names.now in
     has_loop (map template ts) names c.requires.names c.requires.once (first_end ts k names _ c.loop-template-test.false c.loop-template.invariant.first)
-    (rows_of c.deref.result.now) (ap rows_of c.deref.ensures.value ∙ flat_end (row_of names) ts k (rows_of c.loop-template.rows.items) _ c.loop-template-test.false c.loop-template.invariant.rows)
+    (rows_of c.into_bump_slice-rows.result.now) (ap rows_of c.into_bump_slice-rows.ensures ∙ flat_end (row_of names) ts k (rows_of c.loop-template.rows.items) _ c.loop-template-test.false c.loop-template.invariant.rows)
     c.in_ok-walk.walk.states.items c.in_ok-walk.walk.order.items c.in_ok-walk.ensures
-    c.deref-2.result.now (ap (map call) c.deref-2.ensures.value ∙ flat_end (calls_from names) ts k (map call c.loop-template.calls.items) _ c.loop-template-test.false c.loop-template.invariant.put)
+    c.into_bump_slice-calls.result.now (ap (map call) c.into_bump_slice-calls.ensures ∙ flat_end (calls_from names) ts k (map call c.loop-template.calls.items) _ c.loop-template-test.false c.loop-template.invariant.put)
     (place c.in-Some.place) c.in-Some.ensures
 
 pub returns-clause-defined : goal.returns-clause-defined
@@ -71,7 +71,7 @@ returns-clause-no_loop c =
     let k = c.loop-template.template-index in
     let names = names_seen c.args.names.now in
     no_loops (map template ts) names c.requires.names c.requires.once (first_end ts k names _ c.loop-template-test.false c.loop-template.invariant.first)
-    (rows_of c.deref.result.now) (ap rows_of c.deref.ensures.value ∙ flat_end (row_of names) ts k (rows_of c.loop-template.rows.items) _ c.loop-template-test.false c.loop-template.invariant.rows)
+    (rows_of c.into_bump_slice-rows.result.now) (ap rows_of c.into_bump_slice-rows.ensures ∙ flat_end (row_of names) ts k (rows_of c.loop-template.rows.items) _ c.loop-template-test.false c.loop-template.invariant.rows)
     c.in_ok-walk.walk.states.items c.in_ok-walk.walk.order.items c.in_ok-walk.ensures
-    c.deref-2.result.now (ap (map call) c.deref-2.ensures.value ∙ flat_end (calls_from names) ts k (map call c.loop-template.calls.items) _ c.loop-template-test.false c.loop-template.invariant.put)
+    c.into_bump_slice-calls.result.now (ap (map call) c.into_bump_slice-calls.ensures ∙ flat_end (calls_from names) ts k (map call c.loop-template.calls.items) _ c.loop-template-test.false c.loop-template.invariant.put)
     c.in-None.ensures

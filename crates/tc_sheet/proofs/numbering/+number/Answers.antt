@@ -1,10 +1,12 @@
-use Rattle.std.proofs.Common.{◌+◌, ◌∙◌, ap, refl, drop}
+use Rattle.std.proofs.Common.{◌+◌, ◌∙◌, ap, arith, refl, drop}
 use Rattle.tc_model.specs.Views as see
 use Rattle.tc_model.specs.SheetText.{numbered, numbered_branches}
 use Rattle.tc_model.proofs.ViewsBody.{body_then}
 use Rattle.tc_sheet.specs.Views.{body, branches}
 use Rattle.tc_sheet.specs.SeenCalls.{names_seen}
-use Rattle.tc_sheet.proofs.NumberLaws.{body_count, body_end, body_step, branches_count, branches_step, number_choose}
+use Rattle.tc_sheet.specs.declared.written.Written.TheVariants as v
+use Rattle.tc_sheet.proofs.NumberLaws.{body_count, body_end, body_step, branches_count, branches_step, counted_by, number_apply, number_call, number_choose, number_copy, number_each, number_elem, number_self, number_text, number_value}
+use Rattle.tc_sheet.proofs.WrittenParts.{eaches_of_apply, eaches_of_call, eaches_of_choose, eaches_of_copy, eaches_of_each, eaches_of_elem, eaches_of_self, eaches_of_text, eaches_of_value}
 use Rattle.tc_sheet.proofs.numbering.+number.Goals as goal
 
 pub numbered_one-returns-in_ok-otherwise-in-Choose-clause-ok : goal.numbered_one-returns-in_ok-otherwise-in-Choose-clause-ok
@@ -48,3 +50,54 @@ numbered_branches-loop-branch-preserved t c =
           c.loop-branch.invariant.means rest;
       counted = branches_count modes names bs k _ c.loop-branch-test.true c.loop-branch.next c.numbered.new.next _ c.in_ok-body.ensures.counted c.loop-branch.invariant.counted;
     }
+
+pub numbered_one-returns-in-Text-clause-ok : goal.numbered_one-returns-in-Text-clause-ok
+numbered_one-returns-in-Text-clause-ok t c = number_text (names_seen c.args.tables.now.modes.now) (names_seen c.args.tables.now.names.now) c.args.instruction.now c.args.next.now c.args.next.now c.in-Text.text c.in-Text.is refl
+
+pub numbered_one-returns-in-Text-clause-counted : goal.numbered_one-returns-in-Text-clause-counted
+numbered_one-returns-in-Text-clause-counted t c = counted_by (names_seen c.args.tables.now.modes.now) (names_seen c.args.tables.now.names.now) c.args.instruction.now c.args.next.now c.args.next.now (v.Text c.in-Text.text) 0 c.in-Text.is (eaches_of_text c.in-Text.text) (omega arith)
+
+pub numbered_one-returns-in-ValueOf-clause-ok : goal.numbered_one-returns-in-ValueOf-clause-ok
+numbered_one-returns-in-ValueOf-clause-ok t c = number_value (names_seen c.args.tables.now.modes.now) (names_seen c.args.tables.now.names.now) c.args.instruction.now c.args.next.now c.args.next.now c.in-ValueOf.path c.in-ValueOf.is refl
+
+pub numbered_one-returns-in-ValueOf-clause-counted : goal.numbered_one-returns-in-ValueOf-clause-counted
+numbered_one-returns-in-ValueOf-clause-counted t c = counted_by (names_seen c.args.tables.now.modes.now) (names_seen c.args.tables.now.names.now) c.args.instruction.now c.args.next.now c.args.next.now (v.ValueOf c.in-ValueOf.path) 0 c.in-ValueOf.is (eaches_of_value c.in-ValueOf.path) (omega arith)
+
+pub numbered_one-returns-in-ValueOfSelf-clause-ok : goal.numbered_one-returns-in-ValueOfSelf-clause-ok
+numbered_one-returns-in-ValueOfSelf-clause-ok t c = number_self (names_seen c.args.tables.now.modes.now) (names_seen c.args.tables.now.names.now) c.args.instruction.now c.args.next.now c.args.next.now c.in-ValueOfSelf.is refl
+
+pub numbered_one-returns-in-ValueOfSelf-clause-counted : goal.numbered_one-returns-in-ValueOfSelf-clause-counted
+numbered_one-returns-in-ValueOfSelf-clause-counted t c = counted_by (names_seen c.args.tables.now.modes.now) (names_seen c.args.tables.now.names.now) c.args.instruction.now c.args.next.now c.args.next.now v.ValueOfSelf 0 c.in-ValueOfSelf.is eaches_of_self (omega arith)
+
+pub numbered_one-returns-in_ok-number_of_mode-in-Apply-clause-ok : goal.numbered_one-returns-in_ok-number_of_mode-in-Apply-clause-ok
+numbered_one-returns-in_ok-number_of_mode-in-Apply-clause-ok t c = number_apply (names_seen c.args.tables.now.modes.now) (names_seen c.args.tables.now.names.now) c.args.instruction.now c.args.next.now c.args.next.now c.in-Apply.path c.in-Apply.mode c.in_ok-number_of_mode-in-Apply.number_of_mode c.in-Apply.is c.in_ok-number_of_mode-in-Apply.ensures.ok refl
+
+pub numbered_one-returns-in_ok-number_of_mode-in-Apply-clause-counted : goal.numbered_one-returns-in_ok-number_of_mode-in-Apply-clause-counted
+numbered_one-returns-in_ok-number_of_mode-in-Apply-clause-counted t c = counted_by (names_seen c.args.tables.now.modes.now) (names_seen c.args.tables.now.names.now) c.args.instruction.now c.args.next.now c.args.next.now (v.Apply c.in-Apply.path c.in-Apply.mode) 0 c.in-Apply.is (eaches_of_apply c.in-Apply.path c.in-Apply.mode) (omega arith)
+
+pub numbered_one-returns-in_ok-callee-in-Call-clause-ok : goal.numbered_one-returns-in_ok-callee-in-Call-clause-ok
+numbered_one-returns-in_ok-callee-in-Call-clause-ok t c = number_call (names_seen c.args.tables.now.modes.now) (names_seen c.args.tables.now.names.now) c.args.instruction.now c.args.next.now c.args.next.now c.in-Call.name c.in-Call.field-1 c.in_ok-callee-in-Call.callee c.in-Call.is c.in_ok-callee-in-Call.ensures.ok refl
+
+pub numbered_one-returns-in_ok-callee-in-Call-clause-counted : goal.numbered_one-returns-in_ok-callee-in-Call-clause-counted
+numbered_one-returns-in_ok-callee-in-Call-clause-counted t c = counted_by (names_seen c.args.tables.now.modes.now) (names_seen c.args.tables.now.names.now) c.args.instruction.now c.args.next.now c.args.next.now (v.Call c.in-Call.name c.in-Call.field-1) 0 c.in-Call.is (eaches_of_call c.in-Call.name c.in-Call.field-1) (omega arith)
+
+pub numbered_one-returns-in_ok-content-in-Elem-clause-ok : goal.numbered_one-returns-in_ok-content-in-Elem-clause-ok
+numbered_one-returns-in_ok-content-in-Elem-clause-ok t c = number_elem (names_seen c.args.tables.now.modes.now) (names_seen c.args.tables.now.names.now) c.args.instruction.now c.args.next.now c.numbered.new.next c.in-Elem.name c.in-Elem.inner c.in_ok-content-in-Elem.content c.in-Elem.is c.in_ok-content-in-Elem.ensures.ok c.in_ok-content-in-Elem.ensures.counted
+
+pub numbered_one-returns-in_ok-content-in-Elem-clause-counted : goal.numbered_one-returns-in_ok-content-in-Elem-clause-counted
+numbered_one-returns-in_ok-content-in-Elem-clause-counted t c = counted_by (names_seen c.args.tables.now.modes.now) (names_seen c.args.tables.now.names.now) c.args.instruction.now c.args.next.now c.numbered.new.next (v.Elem c.in-Elem.name c.in-Elem.inner) _ c.in-Elem.is (eaches_of_elem c.in-Elem.name c.in-Elem.inner) c.in_ok-content-in-Elem.ensures.counted
+
+pub numbered_one-returns-in_ok-copied-in-Copy-clause-ok : goal.numbered_one-returns-in_ok-copied-in-Copy-clause-ok
+numbered_one-returns-in_ok-copied-in-Copy-clause-ok t c = number_copy (names_seen c.args.tables.now.modes.now) (names_seen c.args.tables.now.names.now) c.args.instruction.now c.args.next.now c.numbered-in-Copy.new.next c.in-Copy.inner c.in_ok-copied-in-Copy.copied c.in-Copy.is c.in_ok-copied-in-Copy.ensures.ok c.in_ok-copied-in-Copy.ensures.counted
+
+pub numbered_one-returns-in_ok-copied-in-Copy-clause-counted : goal.numbered_one-returns-in_ok-copied-in-Copy-clause-counted
+numbered_one-returns-in_ok-copied-in-Copy-clause-counted t c = counted_by (names_seen c.args.tables.now.modes.now) (names_seen c.args.tables.now.names.now) c.args.instruction.now c.args.next.now c.numbered-in-Copy.new.next (v.Copy c.in-Copy.inner) _ c.in-Copy.is (eaches_of_copy c.in-Copy.inner) c.in_ok-copied-in-Copy.ensures.counted
+
+pub numbered_one-returns-in_ok-repeated-in-ForEach-clause-ok : goal.numbered_one-returns-in_ok-repeated-in-ForEach-clause-ok
+numbered_one-returns-in_ok-repeated-in-ForEach-clause-ok t c = number_each (names_seen c.args.tables.now.modes.now) (names_seen c.args.tables.now.names.now) c.args.instruction.now c.args.next.now c.numbered-in-ForEach.new.next c.in-ForEach.path c.in-ForEach.inner c.in_ok-repeated-in-ForEach.repeated c.in_ok-number-in-ForEach.number c.take_number.new.next c.in-ForEach.is c.in_ok-number-in-ForEach.ensures.ok c.in_ok-number-in-ForEach.ensures.counted c.in_ok-repeated-in-ForEach.ensures.ok c.in_ok-repeated-in-ForEach.ensures.counted
+
+pub numbered_one-returns-in_ok-repeated-in-ForEach-clause-counted : goal.numbered_one-returns-in_ok-repeated-in-ForEach-clause-counted
+numbered_one-returns-in_ok-repeated-in-ForEach-clause-counted t c = counted_by (names_seen c.args.tables.now.modes.now) (names_seen c.args.tables.now.names.now) c.args.instruction.now c.args.next.now c.numbered-in-ForEach.new.next (v.ForEach c.in-ForEach.path c.in-ForEach.inner) _ c.in-ForEach.is (eaches_of_each c.in-ForEach.path c.in-ForEach.inner) (omega (arith, c.in_ok-number-in-ForEach.ensures.counted, c.in_ok-repeated-in-ForEach.ensures.counted))
+
+pub numbered_one-returns-in_ok-otherwise-in-Choose-clause-counted : goal.numbered_one-returns-in_ok-otherwise-in-Choose-clause-counted
+numbered_one-returns-in_ok-otherwise-in-Choose-clause-counted t c = counted_by (names_seen c.args.tables.now.modes.now) (names_seen c.args.tables.now.names.now) c.args.instruction.now c.args.next.now c.numbered-in-Choose.new.next (v.Choose c.in-Choose.branches c.in-Choose.last) _ c.in-Choose.is (eaches_of_choose c.in-Choose.branches c.in-Choose.last) (omega (arith, c.in_ok-chosen-in-Choose.ensures.counted, c.in_ok-otherwise-in-Choose.ensures.counted))
