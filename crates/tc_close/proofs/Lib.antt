@@ -26,3 +26,4 @@ pub mod ArithmeticAlike
 pub mod TooLong
 pub mod HeldLines
 pub mod Pushed
+pub mod NumberBytes

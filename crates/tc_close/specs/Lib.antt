@@ -9,3 +9,4 @@ pub mod Kinds
 pub mod Orders
 pub mod Certified
 pub mod Lines
+pub mod Hashing

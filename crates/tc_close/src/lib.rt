@@ -8,6 +8,7 @@ mod held;
 mod kinds;
 pub mod laws;
 mod lists;
+mod number_hasher;
 mod order;
 mod over;
 mod pair_table;

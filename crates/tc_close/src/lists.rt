@@ -3,8 +3,10 @@ ghost use Rattle.std.specs.Prelude.{◌≡◌, ◌<◌, ◌++◌, ◌∷◌, ◌
 ghost use Rattle.std.specs.List.{Contains};
 ghost use Rattle.tc_rows.specs.Counts.{AreDifferent};
 
+use crate::number_hasher::NumberHasher;
 use indexmap::IndexSet;
 use std::alloc::Global;
+use std::hash::BuildHasherDefault;
 use std::marker::Model;
 use tc_base::NoMemory;
 
@@ -15,7 +17,7 @@ const MOST: usize = u32::MAX as usize;
 #[derive(Drop)]
 pub(crate) struct Lists {
     alloc: Global,
-    keys: IndexSet<Vec<u32>>,
+    keys: IndexSet<Vec<u32>, BuildHasherDefault<NumberHasher>>,
 }
 
 impl Model for Lists {
@@ -35,7 +37,7 @@ impl Lists {
     {
         Lists {
             alloc,
-            keys: IndexSet::new(alloc),
+            keys: IndexSet::with_hasher(alloc, BuildHasherDefault::new()),
         }
     }
 

@@ -2,24 +2,26 @@
 ghost use Rattle.std.specs.Prelude.{◌≡◌, ◌<◌, ◌⊎◌, ℕ, length, IfOk, IsTrue};
 ghost use Rattle.tc_close.specs.PairTables.{HasPair};
 
+use crate::number_hasher::MULTIPLIER;
 use std::alloc::Global;
 use tc_base::NoMemory;
 
 /// How many pairs are remembered.
-const REMEMBERED: usize = 4096;
+const REMEMBERED: usize = 16384;
 
 /// Pairs of numbers. One is forgotten where another one comes to its place.
 #[derive(Drop)]
 pub(crate) struct PairTable {
     places: Vec<Option<(u32, u32)>>,
-    ghost whole: { length places.items ≡ 4096 },
+    ghost whole: { length places.items ≡ 16384 },
 }
 
 /// Where a pair is remembered.
 fn place_of(first: u32, second: u32) -> usize
-    ensures { result < 4096 }
+    ensures { result < 16384 }
 {
-    (first as usize * 64 + second as usize) % REMEMBERED
+    let pair = u64::from(first) << 32 | u64::from(second);
+    (pair.wrapping_mul(MULTIPLIER) >> 50) as usize % REMEMBERED
 }
 
 impl PairTable {
