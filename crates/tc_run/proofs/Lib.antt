@@ -22,3 +22,4 @@ pub mod BuiltIn
 pub mod Templates
 pub mod Hitting
 pub mod Ends
+pub mod FoundLow

@@ -4,4 +4,5 @@ pub mod Running
 pub mod Tasks
 pub mod Spent
 pub mod Limits
+pub mod Known
 pub mod Lawful

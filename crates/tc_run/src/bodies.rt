@@ -1,7 +1,7 @@
 // What bodies put out (XSLT 1.0, 5 to 9).
 //
 // A node is known by its children with their letters and by the ancestor state at it. Each function puts out into `output`, and is given
-// how many bodies and instructions stand around what it does.
+// how many bodies and instructions stand around what it does, and the rules with what they answered before.
 ghost use Rattle.std.specs.Prelude.{◌≡◌, ◌≤◌, ◌<◌, ℕ, List, length, cond, Contains, Option, option_map, IfSome, OnOk};
 ghost use Rattle.tc_model.specs.Chains as c;
 ghost use Rattle.tc_model.specs.Letters as letters;
@@ -18,6 +18,7 @@ ghost use Rattle.tc_rules.specs.Jobs.{IsJob};
 ghost use Rattle.tc_rules.specs.Views.{mode_of};
 ghost use Rattle.tc_rules.specs.States.{Chosen, Going, built_in_at, plain_of};
 ghost use Rattle.tc_rules.specs.RulesView.{ancestor};
+ghost use Rattle.tc_run.specs.Known.{AreKnown};
 ghost use Rattle.tc_run.specs.Lettered as l;
 ghost use Rattle.tc_rules.specs.Parts.{IsPart, ArePartBranches};
 ghost use Rattle.tc_run.specs.Running.{IsRunner, IsLetteredBy, HasBodies, told_by, sheet_by, symbols_by, predicates_by, machine, looking};
@@ -27,6 +28,7 @@ ghost use Rattle.tc_rules.specs.Tasks.{IsTaskOf, IsMoveAt, IsSomeMove, going_fro
 ghost use Rattle.tc_run.specs.Tasks.{IsMeantBy, IsPartTemplate, built_in as built_in_of, does, outputs_on};
 
 use crate::RunFault;
+use crate::known_rules::KnownRules;
 use crate::letters::{Letter, Lettered};
 use crate::looks::{first_hit, holds};
 use crate::output::{Output, deeper};
@@ -80,12 +82,15 @@ pub(crate) fn root<'b>(
     nodes: &'b [Lettered<'b>],
     string: &'b str,
     output: &mut Output<'b>,
+    known: &mut KnownRules<'_>,
 ) -> Result<(), RunFault>
     requires runner { IsRunner runner.now }
     requires nodes { IsLetteredBy runner.now (trees nodes.now) }
     requires string { string.now ≡ c.joined_texts (l.bare (trees nodes.now)) }
     requires work { output.old.work ≤ 4000000 }
+    requires known { AreKnown runner.now.rules.now known.old }
     ensures few { OnOk result (output.new.work ≤ 4000000) }
+    ensures known { AreKnown runner.now.rules.now known.new }
     ensures outcome { (bodies : List CallFreeBody) → HasBodies runner.now bodies → Answers 0 output.old output.new result
         (counted (does_at (machine runner.now bodies) ((machine runner.now bodies).root_body (in_mode 0)) (c.top (l.bare (trees nodes.now))))) }
 {
@@ -97,7 +102,7 @@ pub(crate) fn root<'b>(
     };
     let found = runner.rules.root_rule(0);
     let rule = template_of(runner, 0, found);
-    instantiate(runner, rule, &here, 0, output)
+    instantiate(runner, rule, &here, 0, output, known)
 }
 
 /// What a rule says, or the built-in ones in a mode.
@@ -118,15 +123,18 @@ fn template_of<'b>(runner: &Runner<'_, 'b>, mode: u32, found: Found) -> Template
 /// What is to be done on a node of a letter.
 fn template_for<'b>(
     runner: &Runner<'_, 'b>,
+    known: &mut KnownRules<'_>,
     job: Job,
     above: u32,
     kind: Kind,
     marks: Marks,
 ) -> Template<'b>
     requires runner { IsRunner runner.now }
+    requires known { AreKnown runner.now.rules.now known.old }
     requires job { IsJob (sheet_by runner.now) job }
     requires above { above < length (told_by runner.now).ancestors.states }
     requires letter { letters.IsLetter (symbols_by runner.now) (predicates_by runner.now) (see_letter kind marks) }
+    ensures known { AreKnown runner.now.rules.now known.new }
     ensures part { IsPartTemplate (sheet_by runner.now) result }
     ensures meant { (bodies : List CallFreeBody) (n : c.Node) (k : CallFreeJob) → HasBodies runner.now bodies → IsTaskOf (sheet_by runner.now) (mode_of (sheet_by runner.now).modes job) k →
         ((m : ℕ) → built_in_at m (see_letter kind marks).kind ≡ built_in_of m n) →
@@ -135,7 +143,7 @@ fn template_for<'b>(
     match job {
         Job::Each(number) => Template::Body(runner.rules.each_body(number)),
         Job::Mode(mode) => {
-            let found = runner.rules.rule_for(mode, above, kind, marks);
+            let found = known.rule_for(runner.rules, mode, above, kind, marks);
             template_of(runner, mode, found)
         }
     }
@@ -149,21 +157,24 @@ fn instantiate<'b>(
     here: &Context<'b>,
     nesting: u32,
     output: &mut Output<'b>,
+    known: &mut KnownRules<'_>,
 ) -> Result<(), RunFault>
     requires runner { IsRunner runner.now }
     requires here { IsContext runner.now here.now }
     requires meant { IsPartTemplate (sheet_by runner.now) meant }
     requires nesting { nesting ≤ 8000 }
     requires work { output.old.work ≤ 4000000 }
+    requires known { AreKnown runner.now.rules.now known.old }
     ensures few { OnOk result (output.new.work ≤ 4000000) }
+    ensures known { AreKnown runner.now.rules.now known.new }
     ensures outcome { (bodies : List CallFreeBody) (p : CallFreeBody) → HasBodies runner.now bodies → IsMeantBy (sheet_by runner.now).named (node here.now) meant.entry p → Answers nesting output.old output.new result
         (counted (does runner.now bodies p here.now)) }
 {
     let nesting = deeper(nesting)?;
     output.count()?;
     match meant {
-        Template::Body(inner) => body(runner, inner, here, nesting, output),
-        Template::BuiltIn(mode) => built_in(runner, mode, here, nesting, output),
+        Template::Body(inner) => body(runner, inner, here, nesting, output, known),
+        Template::BuiltIn(mode) => built_in(runner, mode, here, nesting, output, known),
     }
 }
 
@@ -175,13 +186,16 @@ fn built_in<'b>(
     here: &Context<'b>,
     nesting: u32,
     output: &mut Output<'b>,
+    known: &mut KnownRules<'_>,
 ) -> Result<(), RunFault>
     requires runner { IsRunner runner.now }
     requires here { IsContext runner.now here.now }
     requires mode { mode < (sheet_by runner.now).modes }
     requires nesting { nesting ≤ 8000 }
     requires work { output.old.work ≤ 4000000 }
+    requires known { AreKnown runner.now.rules.now known.old }
     ensures few { OnOk result (output.new.work ≤ 4000000) }
+    ensures known { AreKnown runner.now.rules.now known.new }
     ensures outcome { (bodies : List CallFreeBody) → HasBodies runner.now bodies → Answers nesting output.old output.new result
         (does runner.now bodies (built_in_of mode (node here.now)) here.now) }
 {
@@ -190,7 +204,7 @@ fn built_in<'b>(
         Shape::Text => output.put(here.string),
         _ => {
             let path = all_children();
-            selected(runner, path, Job::Mode(mode), here, nesting, output)
+            selected(runner, path, Job::Mode(mode), here, nesting, output, known)
         }
     }
 }
@@ -203,18 +217,21 @@ fn body<'b>(
     here: &Context<'b>,
     nesting: u32,
     output: &mut Output<'b>,
+    known: &mut KnownRules<'_>,
 ) -> Result<(), RunFault>
     requires runner { IsRunner runner.now }
     requires here { IsContext runner.now here.now }
     requires part { IsPart (sheet_by runner.now) (see.body body.now) }
     requires nesting { nesting ≤ 8000 }
     requires work { output.old.work ≤ 4000000 }
+    requires known { AreKnown runner.now.rules.now known.old }
     ensures few { OnOk result (output.new.work ≤ 4000000) }
+    ensures known { AreKnown runner.now.rules.now known.new }
     ensures outcome { (bodies : List CallFreeBody) (p : CallFreeBody) → HasBodies runner.now bodies → Inlines (sheet_by runner.now).named (see.body body.now) p → Answers nesting output.old output.new result
         (does runner.now bodies p here.now) }
 {
     for one in body {
-        instruction(runner, one, here, nesting, output)?;
+        instruction(runner, one, here, nesting, output, known)?;
     }
     Ok(())
 }
@@ -227,27 +244,30 @@ fn instruction<'b>(
     here: &Context<'b>,
     nesting: u32,
     output: &mut Output<'b>,
+    known: &mut KnownRules<'_>,
 ) -> Result<(), RunFault>
     requires runner { IsRunner runner.now }
     requires here { IsContext runner.now here.now }
     requires part { IsPart (sheet_by runner.now) (see.instruction instruction.now no_instruction) }
     requires nesting { nesting ≤ 8000 }
     requires work { output.old.work ≤ 4000000 }
+    requires known { AreKnown runner.now.rules.now known.old }
     ensures few { OnOk result (output.new.work ≤ 4000000) }
+    ensures known { AreKnown runner.now.rules.now known.new }
     ensures outcome { (bodies : List CallFreeBody) (p : CallFreeBody) → HasBodies runner.now bodies → Inlines (sheet_by runner.now).named (see.instruction instruction.now no_instruction) p → Answers nesting output.old output.new result
         (does runner.now bodies p here.now) }
 {
     let nesting = deeper(nesting)?;
     match instruction {
         Instr::Text(text) => output.put(text),
-        Instr::Elem(name, inner) => put_element(runner, *name, inner, here, nesting, output),
-        Instr::Copy(inner) => copy(runner, inner, here, nesting, output),
+        Instr::Elem(name, inner) => put_element(runner, *name, inner, here, nesting, output, known),
+        Instr::Copy(inner) => copy(runner, inner, here, nesting, output, known),
         Instr::Apply(path, mode) => {
-            selected(runner, path, Job::Mode(*mode), here, nesting, output)
+            selected(runner, path, Job::Mode(*mode), here, nesting, output, known)
         }
         Instr::Call(number) => {
             let called = runner.rules.sheet().named[*number as usize];
-            instantiate(runner, Template::Body(called), here, nesting, output)
+            instantiate(runner, Template::Body(called), here, nesting, output, known)
         }
         Instr::ValueOf(path) => {
             let first = value(runner, path, here);
@@ -256,10 +276,18 @@ fn instruction<'b>(
         Instr::ValueOfSelf => output.put(here.string),
         Instr::Choose(branches, last) => {
             let chosen = chosen_branch(runner, branches, last, here);
-            body(runner, chosen, here, nesting, output)
+            body(runner, chosen, here, nesting, output, known)
         }
         Instr::ForEach(number, path, _) => {
-            selected(runner, path, Job::Each(*number), here, nesting, output)
+            selected(
+                runner,
+                path,
+                Job::Each(*number),
+                here,
+                nesting,
+                output,
+                known,
+            )
         }
     }
 }
@@ -273,18 +301,21 @@ fn put_element<'b>(
     here: &Context<'b>,
     nesting: u32,
     output: &mut Output<'b>,
+    known: &mut KnownRules<'_>,
 ) -> Result<(), RunFault>
     requires runner { IsRunner runner.now }
     requires here { IsContext runner.now here.now }
     requires part { IsPart (sheet_by runner.now) (see.body inner.now) }
     requires nesting { nesting ≤ 8000 }
     requires work { output.old.work ≤ 4000000 }
+    requires known { AreKnown runner.now.rules.now known.old }
     ensures few { OnOk result (output.new.work ≤ 4000000) }
+    ensures known { AreKnown runner.now.rules.now known.new }
     ensures outcome { (bodies : List CallFreeBody) (p : CallFreeBody) → HasBodies runner.now bodies → Inlines (sheet_by runner.now).named (see.body inner.now) p → Answers nesting output.old output.new result
         (put_around (see.name name.entry) (does runner.now bodies p here.now)) }
 {
     let before = output.enter()?;
-    body(runner, inner, here, nesting, output)?;
+    body(runner, inner, here, nesting, output, known)?;
     output.leave(name, before)
 }
 
@@ -296,19 +327,22 @@ fn copy<'b>(
     here: &Context<'b>,
     nesting: u32,
     output: &mut Output<'b>,
+    known: &mut KnownRules<'_>,
 ) -> Result<(), RunFault>
     requires runner { IsRunner runner.now }
     requires here { IsContext runner.now here.now }
     requires part { IsPart (sheet_by runner.now) (see.body inner.now) }
     requires nesting { nesting ≤ 8000 }
     requires work { output.old.work ≤ 4000000 }
+    requires known { AreKnown runner.now.rules.now known.old }
     ensures few { OnOk result (output.new.work ≤ 4000000) }
+    ensures known { AreKnown runner.now.rules.now known.new }
     ensures outcome { (bodies : List CallFreeBody) (p : CallFreeBody) → HasBodies runner.now bodies → Inlines (sheet_by runner.now).named (see.body inner.now) p → Answers nesting output.old output.new result
         (copied (node here.now) (does runner.now bodies p here.now)) }
 {
     match here.shape {
-        Shape::Root => body(runner, inner, here, nesting, output),
-        Shape::Elem(name) => put_element(runner, name, inner, here, nesting, output),
+        Shape::Root => body(runner, inner, here, nesting, output, known),
+        Shape::Elem(name) => put_element(runner, name, inner, here, nesting, output, known),
         Shape::Text => output.put(here.string),
     }
 }
@@ -358,19 +392,22 @@ fn selected<'b>(
     here: &Context<'b>,
     nesting: u32,
     output: &mut Output<'b>,
+    known: &mut KnownRules<'_>,
 ) -> Result<(), RunFault>
     requires runner { IsRunner runner.now }
     requires here { IsContext runner.now here.now }
     requires path { Contains (moves_of (sheet_by runner.now)) (record { path = see.path path.now; mode = mode_of (sheet_by runner.now).modes job }) }
     requires nesting { nesting ≤ 8000 }
     requires work { output.old.work ≤ 4000000 }
+    requires known { AreKnown runner.now.rules.now known.old }
     ensures few { OnOk result (output.new.work ≤ 4000000) }
+    ensures known { AreKnown runner.now.rules.now known.new }
     ensures outcome { (bodies : List CallFreeBody) (k : CallFreeJob) → HasBodies runner.now bodies → IsTaskOf (sheet_by runner.now) (mode_of (sheet_by runner.now).modes job) k → Answers nesting output.old output.new result
         (outputs_on runner.now bodies (c.children (node here.now)) here.now.above (going_from k (see.path path.now))) }
 {
     match runner.rules.move_first(path, job) {
         None => Ok(()),
-        Some(state) => apply_to_trees(runner, here.kids, here.above, state, nesting, output),
+        Some(state) => apply_to_trees(runner, here.kids, here.above, state, nesting, output, known),
     }
 }
 
@@ -383,6 +420,7 @@ fn apply_to_trees<'b>(
     state: u32,
     nesting: u32,
     output: &mut Output<'b>,
+    known: &mut KnownRules<'_>,
 ) -> Result<(), RunFault>
     requires runner { IsRunner runner.now }
     requires nodes { IsLetteredBy runner.now (trees nodes.now) }
@@ -390,12 +428,14 @@ fn apply_to_trees<'b>(
     requires state { IsSomeMove (told_by runner.now) state }
     requires nesting { nesting ≤ 8000 }
     requires work { output.old.work ≤ 4000000 }
+    requires known { AreKnown runner.now.rules.now known.old }
     ensures few { OnOk result (output.new.work ≤ 4000000) }
+    ensures known { AreKnown runner.now.rules.now known.new }
     ensures outcome { (bodies : List CallFreeBody) (g : Going) → HasBodies runner.now bodies → IsMoveAt (told_by runner.now) state g → Answers nesting output.old output.new result
         (outputs_on runner.now bodies (l.bare (trees nodes.now)) above g) }
 {
     for node in nodes {
-        apply_to_tree(runner, node, above, state, nesting, output)?;
+        apply_to_tree(runner, node, above, state, nesting, output, known)?;
     }
     Ok(())
 }
@@ -409,6 +449,7 @@ fn apply_to_tree<'b>(
     state: u32,
     nesting: u32,
     output: &mut Output<'b>,
+    known: &mut KnownRules<'_>,
 ) -> Result<(), RunFault>
     requires runner { IsRunner runner.now }
     requires node { IsLetteredBy runner.now (before node.now l.none) }
@@ -416,13 +457,15 @@ fn apply_to_tree<'b>(
     requires state { IsSomeMove (told_by runner.now) state }
     requires nesting { nesting ≤ 8000 }
     requires work { output.old.work ≤ 4000000 }
+    requires known { AreKnown runner.now.rules.now known.old }
     ensures few { OnOk result (output.new.work ≤ 4000000) }
+    ensures known { AreKnown runner.now.rules.now known.new }
     ensures outcome { (bodies : List CallFreeBody) (g : Going) → HasBodies runner.now bodies → IsMoveAt (told_by runner.now) state g → Answers nesting output.old output.new result
         (outputs_on runner.now bodies (l.bare (before node.now l.none)) above g) }
 {
     match node {
         Lettered::Text(text, marks) => {
-            apply_to_text(runner, text, *marks, above, state, nesting, output)
+            apply_to_text(runner, text, *marks, above, state, nesting, output, known)
         }
         Lettered::Elem(name, letter, string, kids) => {
             let here = Context {
@@ -431,10 +474,12 @@ fn apply_to_tree<'b>(
                 kids: *kids,
                 above: runner.rules.anc_step(above, letter.sym, letter.marks),
             };
-            apply_to_element(runner, &here, *letter, above, state, nesting, output)?;
+            apply_to_element(runner, &here, *letter, above, state, nesting, output, known)?;
             match runner.rules.sel_step(state, letter.sym, letter.marks) {
                 None => Ok(()),
-                Some(below) => apply_to_trees(runner, kids, here.above, below, nesting, output),
+                Some(below) => apply_to_trees(
+                    runner, kids, here.above, below, nesting, output, known,
+                ),
             }
         }
     }
@@ -450,6 +495,7 @@ fn apply_to_text<'b>(
     state: u32,
     nesting: u32,
     output: &mut Output<'b>,
+    known: &mut KnownRules<'_>,
 ) -> Result<(), RunFault>
     requires runner { IsRunner runner.now }
     requires marks { see_letter Kind.Text marks ≡ letters.letter_of (symbols_by runner.now) (predicates_by runner.now) (c.a_text text.now) }
@@ -457,7 +503,9 @@ fn apply_to_text<'b>(
     requires state { IsSomeMove (told_by runner.now) state }
     requires nesting { nesting ≤ 8000 }
     requires work { output.old.work ≤ 4000000 }
+    requires known { AreKnown runner.now.rules.now known.old }
     ensures few { OnOk result (output.new.work ≤ 4000000) }
+    ensures known { AreKnown runner.now.rules.now known.new }
     ensures outcome { (bodies : List CallFreeBody) (g : Going) → HasBodies runner.now bodies → IsMoveAt (told_by runner.now) state g → Answers nesting output.old output.new result
         (outputs_on runner.now bodies (t.text text.now t.none) above g) }
 {
@@ -471,8 +519,8 @@ fn apply_to_text<'b>(
         above,
     };
     let job = runner.rules.mode_of(state);
-    let rule = template_for(runner, job, above, Kind::Text, marks);
-    instantiate(runner, rule, &here, nesting, output)
+    let rule = template_for(runner, known, job, above, Kind::Text, marks);
+    instantiate(runner, rule, &here, nesting, output, known)
 }
 
 /// The job of a move on an element, where it selects it.
@@ -485,6 +533,7 @@ fn apply_to_element<'b>(
     state: u32,
     nesting: u32,
     output: &mut Output<'b>,
+    known: &mut KnownRules<'_>,
 ) -> Result<(), RunFault>
     requires runner { IsRunner runner.now }
     requires here { IsContext runner.now here.now }
@@ -494,7 +543,9 @@ fn apply_to_element<'b>(
     requires state { IsSomeMove (told_by runner.now) state }
     requires nesting { nesting ≤ 8000 }
     requires work { output.old.work ≤ 4000000 }
+    requires known { AreKnown runner.now.rules.now known.old }
     ensures few { OnOk result (output.new.work ≤ 4000000) }
+    ensures known { AreKnown runner.now.rules.now known.new }
     ensures outcome { (bodies : List CallFreeBody) (g : Going) → HasBodies runner.now bodies → IsMoveAt (told_by runner.now) state g → Answers nesting output.old output.new result
         (cond ((machine runner.now bodies).move_hits g (see_letter (Kind.Elem letter.sym) letter.marks))
         (counted (does runner.now bodies ((machine runner.now bodies).body_at g.task (ancestor (told_by runner.now) above) (see_letter (Kind.Elem letter.sym) letter.marks)) here.now)) nothing) }
@@ -504,6 +555,6 @@ fn apply_to_element<'b>(
         return Ok(());
     }
     let job = runner.rules.mode_of(state);
-    let rule = template_for(runner, job, above, kind, letter.marks);
-    instantiate(runner, rule, here, nesting, output)
+    let rule = template_for(runner, known, job, above, kind, letter.marks);
+    instantiate(runner, rule, here, nesting, output, known)
 }

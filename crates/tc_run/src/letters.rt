@@ -80,15 +80,17 @@ fn before_end<'b>(text: &'b str, end: &str) -> &'b str
     front
 }
 
-/// Trees with their letters. Their text stands in front of the one given.
+/// Trees with their letters. Their text stands in front of the one given, and which predicates hold on a text is given, too.
 pub(crate) fn with_letters<'b>(
     arena: &'b Bump,
     runner: &Runner<'_, '_>,
     nodes: &[Node<'b>],
     text: &'b str,
+    on_texts: Marks,
 ) -> Result<Below<'b>, NoMemory>
     requires runner { IsRunner runner.now }
     requires text { (rest : List ℕ) × (text.now ≡ joined_texts (see.trees nodes.now) ++ rest) }
+    requires on_texts { on_texts.0 ≡ marks_of (map (λ p. holds_in (looking runner.now) p t.none) (predicates_by runner.now)) }
     ensures nodes { IfOk result (λ b. trees b.nodes.now ≡ lettered_by runner.now (see.trees nodes.now)) }
     ensures rest { IfOk result (λ b. text.now ≡ joined_texts (see.trees nodes.now) ++ b.rest.now) }
 {
@@ -98,10 +100,10 @@ pub(crate) fn with_letters<'b>(
         match node {
             Node::Text(piece) => {
                 rest = after(rest, piece);
-                found.push(lettered_text(runner, piece))?;
+                found.push(Lettered::Text(*piece, on_texts))?;
             }
             Node::Elem(name, kids) => {
-                let below = with_letters(arena, runner, kids, rest)?;
+                let below = with_letters(arena, runner, kids, rest, on_texts)?;
                 let string = before_end(rest, below.rest);
                 rest = below.rest;
                 found.push(lettered_element(runner, name, string, below.nodes))?;
@@ -112,14 +114,6 @@ pub(crate) fn with_letters<'b>(
         nodes: into_bump_slice(found),
         rest,
     })
-}
-
-/// A text with its letter.
-fn lettered_text<'b>(runner: &Runner<'_, '_>, text: &'b str) -> Lettered<'b>
-    requires runner { IsRunner runner.now }
-    ensures { (rest : t.Trees) → before result (lettered_by runner.now rest) ≡ lettered_by runner.now (t.text text.now rest) }
-{
-    Lettered::Text(text, marks(runner, &[]))
 }
 
 /// An element with its letter.
@@ -142,7 +136,7 @@ fn lettered_element<'b>(
 }
 
 /// Which predicates hold on a node of these children.
-fn marks(runner: &Runner<'_, '_>, kids: &[Lettered<'_>]) -> Marks
+pub(crate) fn marks(runner: &Runner<'_, '_>, kids: &[Lettered<'_>]) -> Marks
     requires runner { IsRunner runner.now }
     requires kids { IsLetteredBy runner.now (trees kids.now) }
     ensures { result.0 ≡ marks_of (map (λ p. holds_in (looking runner.now) p (l.bare (trees kids.now))) (predicates_by runner.now)) }

@@ -13,6 +13,7 @@ ghost use Rattle.tc_run.specs.Lawful.{HasLawfulResults};
 ghost use Rattle.tc_run.specs.Limits.{KeepsLimits, IsCause};
 
 mod bodies;
+mod known_rules;
 mod letters;
 mod looks;
 mod output;
@@ -20,7 +21,8 @@ mod runner;
 
 use bodies::root;
 use bumpalo::Bump;
-use letters::{text_of, with_letters};
+use known_rules::KnownRules;
+use letters::{marks, text_of, with_letters};
 use output::Output;
 use runner::Runner;
 use std::slice::from_ref;
@@ -76,8 +78,10 @@ pub fn run<'b>(
     let nodes = from_ref(doc);
     let text = text_of(arena, nodes)?;
     let runner = Runner { rules, alphabet };
-    let document = with_letters(arena, &runner, nodes, text)?;
+    let on_texts = marks(&runner, &[]);
+    let document = with_letters(arena, &runner, nodes, text, on_texts)?;
+    let mut known = KnownRules::new(arena)?;
     let mut output = Output::new(arena);
-    root(&runner, document.nodes, text, &mut output)?;
+    root(&runner, document.nodes, text, &mut output, &mut known)?;
     Ok(normalise(arena, &output.nodes)?)
 }

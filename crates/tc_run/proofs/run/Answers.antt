@@ -63,3 +63,10 @@ returns-clause-within c =
     let same : bare given ≡ see.before c.args.doc.now none = document_bare r given (see.trees c.from_ref-nodes.result.now) c.in_ok-document.ensures.nodes ∙ ap see.trees c.from_ref-nodes.ensures.value in
     subst (λ d. KeepsLimits (sheet_by r) d) same
     (keeps_limits r c.requires.rules (bare given) c.new-output.result c.root.new.output c.new-output.ensures.nodes c.new-output.ensures.work c.in_ok-root.ensures.outcome)
+
+pub returns-in_err-known-clause-cause : goal.returns-in_err-known-clause-cause
+returns-in_err-known-clause-cause c =
+    refused c.args.alphabet.now c.args.rules.now c.requires.rules (see.before c.args.doc.now none) c.from_residual-in_err-known.result c.from_residual-in_err-known.ensures.1
+
+pub root-requires-clause-known : goal.root-requires-clause-known
+root-requires-clause-known c = c.in_ok-known.ensures c.args.rules.now

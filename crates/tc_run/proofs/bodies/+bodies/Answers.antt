@@ -54,7 +54,7 @@ put_element-returns-clause-outcome t c = λ bodies p hb u.
 
 pub body-loop-one-init : goal.body-loop-one-init
 body-loop-one-init t c =
-    (c.requires.work, c.requires.part, λ bodies p hb u. body_begin c.args.runner.now bodies c.args.here.now c.args.nesting p c.args.output.now (see.body c.args.body.now) (spends_nothing c.args.nesting c.args.output.now c.requires.work c.requires.nesting) u)
+    ((c.requires.work, c.requires.known), c.requires.part, λ bodies p hb u. body_begin c.args.runner.now bodies c.args.here.now c.args.nesting p c.args.output.now (see.body c.args.body.now) (spends_nothing c.args.nesting c.args.output.now c.requires.work c.requires.nesting) u)
 
 pub body-loop-one-preserved : goal.body-loop-one-preserved
 body-loop-one-preserved t c =
@@ -62,7 +62,7 @@ body-loop-one-preserved t c =
     let is = c.args.body.now in
     let k = c.loop-one.one-index in
     let i = c.one-item.result in (
-      c.in_ok-instruction.ensures.few,
+      (c.in_ok-instruction.ensures.few, c.in_ok-instruction.ensures.known),
       (part_at (sheet_by r) is k i c.loop-one-test.true c.one-item.is c.loop-one.invariant.1).1,
       λ bodies p hb u.
           body_further r bodies c.args.here.now c.args.nesting p i (see.body (drop (k + 1) is))
@@ -94,7 +94,7 @@ pub built_in-selected-requires : goal.built_in-selected-requires
 built_in-selected-requires t c =
     let r = c.args.runner.now in (
       omega (arith, c.decreases, deeper_less c.args.nesting c.in_ok-nesting.nesting (bare (trees c.args.here.now.kids.now)) 3 1 c.in_ok-nesting.ensures.ok (omega arith)),
-      (c.requires.runner, (c.requires.here, (subst (λ p. Contains (moves_of (sheet_by r)) (record { path = p; mode = c.args.mode })) (sym c.all_children-path.ensures) (children_move (sheet_by r) c.args.mode c.requires.mode), (c.in_ok-nesting.ensures.ok.1, c.requires.work)))),
+      (c.requires.runner, (c.requires.here, (subst (λ p. Contains (moves_of (sheet_by r)) (record { path = p; mode = c.args.mode })) (sym c.all_children-path.ensures) (children_move (sheet_by r) c.args.mode c.requires.mode), (c.in_ok-nesting.ensures.ok.1, (c.requires.work, c.requires.known))))),
     )
 
 pub built_in-returns-in_default : goal.built_in-returns-in_default
@@ -106,6 +106,7 @@ built_in-returns-in_default t c =
     let y = c.selected.new.output in
     record {
       few = c.selected.ensures.few;
+      known = c.selected.ensures.known;
       outcome = λ bodies hb.
           instructed c.args.nesting n x y c.selected.result (outputs_on r bodies (children (node h)) h.above (going_from (in_mode c.args.mode) all_children)) (does r bodies (built_in c.args.mode (node h)) h)
           c.in_ok-nesting.ensures.ok (built_in_children r bodies c.args.mode h c.in_default.not-Text)
@@ -164,7 +165,7 @@ apply_to_element-returns-clause-outcome t c = λ bodies g hb at.
 
 pub apply_to_trees-loop-node-init : goal.apply_to_trees-loop-node-init
 apply_to_trees-loop-node-init t c =
-    (c.requires.work, c.requires.nodes, λ bodies g hb at. hits_begin c.args.runner.now bodies c.args.above c.args.nesting g (bare (trees c.args.nodes.now)) c.args.output.now (spends_nothing c.args.nesting c.args.output.now c.requires.work c.requires.nesting))
+    ((c.requires.work, c.requires.known), c.requires.nodes, λ bodies g hb at. hits_begin c.args.runner.now bodies c.args.above c.args.nesting g (bare (trees c.args.nodes.now)) c.args.output.now (spends_nothing c.args.nesting c.args.output.now c.requires.work c.requires.nesting))
 
 pub apply_to_trees-apply_to_tree-requires : goal.apply_to_trees-apply_to_tree-requires
 apply_to_trees-apply_to_tree-requires t c =
@@ -172,7 +173,7 @@ apply_to_trees-apply_to_tree-requires t c =
     let k = c.loop-node.node-index in
     let x = c.node-item.result in (
       omega (arith, c.decreases, tree_less c.args.nesting ns k x c.loop-node-test.true c.node-item.is),
-      (c.requires.runner, ((apart_at c.args.runner.now ns k x c.loop-node-test.true c.node-item.is c.loop-node.invariant.1).0, (c.requires.above, (c.requires.state, (c.requires.nesting, c.loop-node.invariant.0))))),
+      (c.requires.runner, ((apart_at c.args.runner.now ns k x c.loop-node-test.true c.node-item.is c.loop-node.invariant.1).0, (c.requires.above, (c.requires.state, (c.requires.nesting, (c.loop-node.invariant.0.0, c.loop-node.invariant.0.1)))))),
     )
 
 pub apply_to_trees-loop-node-preserved : goal.apply_to_trees-loop-node-preserved
@@ -181,7 +182,7 @@ apply_to_trees-loop-node-preserved t c =
     let ns = c.args.nodes.now in
     let k = c.loop-node.node-index in
     let x = c.node-item.result in (
-      c.in_ok-apply_to_tree.ensures.few,
+      (c.in_ok-apply_to_tree.ensures.few, c.in_ok-apply_to_tree.ensures.known),
       (apart_at r ns k x c.loop-node-test.true c.node-item.is c.loop-node.invariant.1).1,
       λ bodies g hb at.
           hits_further r bodies c.args.above c.args.nesting g (bare (trees ns)) (c.loop-node.invariant.2 bodies g hb at) (c.in_ok-apply_to_tree.ensures.outcome bodies g hb at)
@@ -239,13 +240,13 @@ instruction-returns-in_err-nesting-clause-outcome t c = λ bodies p hb u.
 pub instruction-put_element-requires : goal.instruction-put_element-requires
 instruction-put_element-requires t c = (
   omega (arith, c.decreases, deeper_less c.args.nesting c.in_ok-nesting.nesting (bare (trees c.args.here.now.kids.now)) 8 6 c.in_ok-nesting.ensures.ok (omega arith)),
-  (c.requires.runner, (c.requires.here, (elem_part (sheet_by c.args.runner.now) c.args.instruction.now c.in-Elem.name c.in-Elem.inner c.in-Elem.is c.requires.part, (c.in_ok-nesting.ensures.ok.1, c.requires.work)))),
+  (c.requires.runner, (c.requires.here, (elem_part (sheet_by c.args.runner.now) c.args.instruction.now c.in-Elem.name c.in-Elem.inner c.in-Elem.is c.requires.part, (c.in_ok-nesting.ensures.ok.1, (c.requires.work, c.requires.known))))),
 )
 
 pub instruction-copy-requires : goal.instruction-copy-requires
 instruction-copy-requires t c = (
   omega (arith, c.decreases, deeper_less c.args.nesting c.in_ok-nesting.nesting (bare (trees c.args.here.now.kids.now)) 9 6 c.in_ok-nesting.ensures.ok (omega arith)),
-  (c.requires.runner, (c.requires.here, (copy_part (sheet_by c.args.runner.now) c.args.instruction.now c.in-Copy.inner c.in-Copy.is c.requires.part, (c.in_ok-nesting.ensures.ok.1, c.requires.work)))),
+  (c.requires.runner, (c.requires.here, (copy_part (sheet_by c.args.runner.now) c.args.instruction.now c.in-Copy.inner c.in-Copy.is c.requires.part, (c.in_ok-nesting.ensures.ok.1, (c.requires.work, c.requires.known))))),
 )
 
 pub instruction-bounds-sheet-number : goal.instruction-bounds-sheet-number
@@ -258,7 +259,7 @@ instruction-instantiate-requires t c =
     let r = c.args.runner.now in
     let low = call_part (sheet_by r) c.args.instruction.now c.in-Call.number c.in-Call.is c.requires.part in (
       omega (arith, c.decreases, deeper_less c.args.nesting c.in_ok-nesting.nesting (bare (trees c.args.here.now.kids.now)) 1 6 c.in_ok-nesting.ensures.ok (omega arith)),
-      (c.requires.runner, (c.requires.here, (named_part_at r c.requires.runner c.in-Call.number (get_or c.sheet.result.now.named.now c.in-Call.number no_body) (named_got (sheet_by r) c.sheet.result.now c.in-Call.number no_body c.sheet.ensures low), (c.in_ok-nesting.ensures.ok.1, c.requires.work)))),
+      (c.requires.runner, (c.requires.here, (named_part_at r c.requires.runner c.in-Call.number (get_or c.sheet.result.now.named.now c.in-Call.number no_body) (named_got (sheet_by r) c.sheet.result.now c.in-Call.number no_body c.sheet.ensures low), (c.in_ok-nesting.ensures.ok.1, (c.requires.work, c.requires.known))))),
     )
 
 pub instruction-chosen_branch-chosen-requires-clause-part : goal.instruction-chosen_branch-chosen-requires-clause-part
@@ -386,7 +387,7 @@ apply_to_text-returns-then-not-sel_hits-clause-outcome w c = λ bodies g hb at.
     let x = letter kinds.Text c.args.marks in
     let hit = hit_is r c.args.state g x c.sel_hits.result at c.requires.1.1.0 (is_letter r x (a_text s) c.requires.1.1.1.0) c.sel_hits.ensures bodies in
     spends_none c.args.nesting c.args.output.now (outputs_on r bodies (t.text s t.none) c.args.above g)
-    (text_missed r bodies c.args.above g s x c.sel_hits.result c.requires.1.1.1.0 hit c.if-not-sel_hits.true) c.requires.1.1.1.1.1.1.1 c.requires.1.1.1.1.1.1.0
+    (text_missed r bodies c.args.above g s x c.sel_hits.result c.requires.1.1.1.0 hit c.if-not-sel_hits.true) c.requires.1.1.1.1.1.1.1.0 c.requires.1.1.1.1.1.1.0
 
 pub apply_to_text-mode_of-job-requires : goal.apply_to_text-mode_of-job-requires
 apply_to_text-mode_of-job-requires t c = some_move_low (told_by c.args.runner.now) c.args.state c.requires.1.1.1.1.1.0
@@ -421,7 +422,7 @@ apply_to_tree-apply_to_element-requires t c =
     let a = element_at r c.args.node.now c.in-Elem.name c.in-Elem.letter c.in-Elem.string c.in-Elem.kids none c.requires.node c.in-Elem.is in
     let d = c.anc_step.ensures (symbols_by r) c.requires.runner (is_letter r x (an_element (see.name c.in-Elem.name) kids) a.letter_is) in (
       omega (arith, c.decreases, below_less c.args.nesting c.args.node.now c.in-Elem.name c.in-Elem.letter c.in-Elem.string c.in-Elem.kids 4 c.in-Elem.is (omega arith)),
-      (c.requires.runner, (is_here_elem r c.in-Elem.name c.in-Elem.letter c.in-Elem.string c.in-Elem.kids none c.anc_step.result a (down_low r c.anc_step.result _ d), ((see.name c.in-Elem.name, kids, refl, a.letter_is), (c.requires.above, (c.requires.state, (c.requires.nesting, c.requires.work)))))),
+      (c.requires.runner, (is_here_elem r c.in-Elem.name c.in-Elem.letter c.in-Elem.string c.in-Elem.kids none c.anc_step.result a (down_low r c.anc_step.result _ d), ((see.name c.in-Elem.name, kids, refl, a.letter_is), (c.requires.above, (c.requires.state, (c.requires.nesting, (c.requires.work, c.requires.known))))))),
     )
 
 pub apply_to_tree-returns-in_err-apply_to_element-in-Elem-clause-outcome : goal.apply_to_tree-returns-in_err-apply_to_element-in-Elem-clause-outcome
@@ -456,7 +457,7 @@ apply_to_tree-apply_to_trees-requires t c =
     let lx = is_letter r x (an_element (see.name c.in-Elem.name) kids) a.letter_is in
     let d = c.anc_step.ensures (symbols_by r) c.requires.runner lx in (
       omega (arith, c.decreases, below_less c.args.nesting c.args.node.now c.in-Elem.name c.in-Elem.letter c.in-Elem.string c.in-Elem.kids 1 c.in-Elem.is (omega arith)),
-      (c.requires.runner, (a.kids_are, (down_low r c.anc_step.result _ d, (move_below r c.args.state c.in-Some.below x c.requires.state c.requires.runner lx c.in-Some.ensures, (c.requires.nesting, c.in_ok-apply_to_element-in-Elem.ensures.few))))),
+      (c.requires.runner, (a.kids_are, (down_low r c.anc_step.result _ d, (move_below r c.args.state c.in-Some.below x c.requires.state c.requires.runner lx c.in-Some.ensures, (c.requires.nesting, (c.in_ok-apply_to_element-in-Elem.ensures.few, c.in_ok-apply_to_element-in-Elem.ensures.known)))))),
     )
 
 pub apply_to_tree-returns-in-None-clause-outcome : goal.apply_to_tree-returns-in-None-clause-outcome

@@ -5,6 +5,8 @@ use Rattle.tc_model.specs.Views as see
 use Rattle.tc_model.specs.declared.tree.Node.TheViews.{the_lemmas}
 use Rattle.tc_run.specs.Running.{lettered_by}
 use Rattle.tc_run.specs.Views.{trees}
+use Rattle.tc_run.specs.declared.letters.Lettered.TheVariants.{Text}
+use Rattle.tc_run.proofs.Marking.{text_lettered}
 use Rattle.tc_run.proofs.Texts.{text_joined, elem_joined, cut_front, has_front, cut_end, text_found, elem_found, found_further, joined_none, text_after, document_lettered, document_bare}
 use Rattle.tc_run.proofs.Views.{joined}
 use Rattle.tc_run.proofs.letters.+with_letters.Goals as goal
@@ -19,7 +21,7 @@ with_letters-requires t c =
     let rest = joined_texts (see.trees (drop (i + 1) ns)) in
     let cut = c.loop-node.invariant.cut in
     let first = has_front c.loop-node.rest.now (joined_texts (see.trees x.kids.now)) all rest cut.0 cut.1 (elem_joined ns i c.node-item.result x.name x.kids c.loop-node-test.true c.node-item.is x.is) in
-    (search (rules, the_lemmas), (c.requires.1.1.0, (rest ++ cut.0, first)))
+    (search (rules, the_lemmas), (c.requires.1.1.0, ((rest ++ cut.0, first), c.requires.1.1.1.1)))
 
 pub lettered_element-requires-clause-kids : goal.lettered_element-requires-clause-kids
 lettered_element-requires-clause-kids t c =
@@ -48,7 +50,9 @@ loop-node-preserved t c =
           record {
             lettered =
                 ap (λ xs. joined (trees xs) (lettered_by r rest)) (ap (λ v. v.items) w.found-is ∙ w.in_ok-push-in-Text.ensures.items)
-                ∙ found_further r c.loop-node.found.items w.lettered_text.result h rest _ (text_found r ns i x w.in-Text.piece here c.node-item.is is w.lettered_text.result w.lettered_text.ensures) c.loop-node.invariant.lettered;
+                ∙ found_further r c.loop-node.found.items (Text w.in-Text.piece c.args.on_texts) h rest _
+                (text_found r ns i x w.in-Text.piece here c.node-item.is is (Text w.in-Text.piece c.args.on_texts) (λ more. text_lettered r c.requires.1.1.0 w.in-Text.piece c.args.on_texts more c.requires.1.1.1.1))
+                c.loop-node.invariant.lettered;
             cut = (cut.0, now ∙ cut_front c.loop-node.rest.now w.after-rest.result.now w.in-Text.piece.now (joined_texts h) (joined_texts rest) cut.0 cut.1 (text_joined ns i x w.in-Text.piece here c.node-item.is is) w.after-rest.ensures, cut.2);
             text = subst IsUtf8 (sym now) w.after-rest.utf8;
           }
