@@ -25,15 +25,16 @@ use Rattle.tc_model.specs.Sheets.{Sheet}
 use Rattle.tc_model.specs.declared.lists.CertData.{CertData}
 use Rattle.tc_top.specs.Answers.{IsAnswerTo, proved, verified, upgraded, IsAnswer, decided, IsAnswerOn}
 use Rattle.tc_top.specs.CertifiedFiles.{HoldTriple, HoldShort, ProvesFiles, VerifiesFiles, VerifiesShortFiles, UpgradesFiles, HasShortCertificate, DecidesProof, IsCertificateText, IsRejectionOf, of_form, of_rule, DecidesCertificate, DecidesUpgrade, ProvedIsAccepted}
-use Rattle.tc_top.specs.Certifying.{IsRejectedFor, IsCertificateOf, IsLeastOf, IsOverlong, Certifies, as_checked, certifies, overlong, Accepts, not_compiled, accepts, no_text, no_certificate, OfTexts, refuses_input, refuses_output, refuses_sheet, all_three, Proves, Verifies, Upgrades, upgrades, too_long, no_form}
+use Rattle.tc_top.specs.Causes.{all_three}
+use Rattle.tc_top.specs.Certifying.{IsRejectedFor, IsCertificateOf, IsLeastOf, IsOverlong, Certifies, as_checked, certifies, overlong, Accepts, not_compiled, accepts, no_text, no_certificate, Proves, Verifies, Upgrades, upgrades, too_long, no_form}
 use Rattle.tc_top.specs.Checking.{most_rows, IsCompiled, PassesCompile, HasFewRows}
 use Rattle.tc_top.specs.Headline.{IsCutShort, DecidesSafety, IsLimited}
 use Rattle.tc_top.specs.OneAnswer.{IsOfFault}
 use Rattle.tc_top.proofs.Exact.{read_all, held_decided}
 use Rattle.tc_top.proofs.Headline.{cut_short, told_of_file, not_no, not_limit, no_limit, few_not_limited, decides, compile_lines}
-use Rattle.tc_top.proofs.OneCertifying.{only_yes, short_overlong, accepted_rejected, decided_of}
+use Rattle.tc_top.proofs.OneCertifying.{only_yes, short_overlong, accepted_rejected}
 use Rattle.tc_top.proofs.CertifiedTexts.{safe_certified, proved_accepted}
-use Rattle.tc_top.proofs.OneCheck.{not_both, over_compile, one_compile}
+use Rattle.tc_top.proofs.OneCheck.{not_both, over_compile, one_compile, decided_of}
 
 -- `prove`
 

@@ -13,12 +13,13 @@ use Rattle.tc_model.specs.Sheets.{Sheet}
 use Rattle.tc_model.specs.declared.lists.CertData.{CertData}
 use Rattle.tc_read.specs.Sheets.{IsSheetOf}
 use Rattle.tc_rows.proofs.Derived.{certificate_is_safe}
-use Rattle.tc_top.specs.Certifying.{IsCertificateOf, IsLeastOf, Certifies, as_checked, certifies, overlong, Accepts, not_compiled, accepts, no_text, no_certificate, OfTexts, refuses_input, refuses_output, refuses_sheet, all_three}
+use Rattle.tc_top.specs.Causes.{OfTexts, all_three}
+use Rattle.tc_top.specs.Certifying.{IsCertificateOf, IsLeastOf, Certifies, as_checked, certifies, overlong, Accepts, not_compiled, accepts, no_text, no_certificate}
 use Rattle.tc_top.specs.Checking.{IsCompiled}
 use Rattle.tc_top.specs.SchemaTexts.{SchemaText}
 use Rattle.tc_top.proofs.Checked.{of_triple, to_triple}
-use Rattle.tc_top.proofs.OneCertifying.{decided_of, accepted_rejected}
-use Rattle.tc_top.proofs.OneCheck.{over_compile}
+use Rattle.tc_top.proofs.OneCertifying.{accepted_rejected}
+use Rattle.tc_top.proofs.OneCheck.{decided_of, over_compile}
 
 module _ {i o : Grammar} {s : Sheet} where
   -- the least certificate of what is safe is one

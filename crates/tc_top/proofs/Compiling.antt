@@ -14,9 +14,10 @@ use Rattle.tc_model.specs.Sheets.{Sheet}
 use Rattle.tc_model.specs.SimplifiesCounts.{IsWithinCounts}
 use Rattle.tc_model.specs.SimplifiesLaws.{IsStart}
 use Rattle.tc_model.specs.StateCounts.{PassNone}
-use Rattle.tc_model.specs.States.{Side, input, output}
+use Rattle.tc_model.specs.States.{Side, input, output, state_count}
 use Rattle.tc_model.specs.Symbols.{Mention, symbols_of}
 use Rattle.tc_model.specs.Views as see
+use Rattle.tc_model.proofs.SchemaStates.{state_counts_agree}
 use Rattle.tc_read.specs.declared.schemas.Schema.{Schema}
 use Rattle.tc_read.specs.declared.schemas.Schema.TheVariants.{Small, TooLarge}
 use Rattle.tc_rows.specs.Counts.{PassCalls}
@@ -28,7 +29,7 @@ use Rattle.tc_rules.proofs.Looking.{all_unfold}
 use Rattle.tc_top.specs.Checking.{PassesCompile, by_sheet, by_calls, by_entries}
 use Rattle.tc_close.specs.Triples.{IsTripleOf}
 use Rattle.tc_top.specs.Compiled.{IsSpelled, IsReadOf, IsCauseBy, AreAutomata, PassesMachine, many_calls, many_entries, IsMachineFor}
-use Rattle.tc_top.specs.Limits.{IsWithinLimits, PassesLimit, passes_size, SheetPasses, IsWithinSheetLimits, AreFew}
+use Rattle.tc_top.specs.Limits.{IsWithinLimits, PassesLimit, passes_size, SheetPasses, IsWithinSheetLimits, AreFew, states_on}
 use Rattle.tc_top.specs.declared.compile.CompileFault.{CompileFault}
 use Rattle.tc_top.specs.declared.compile.CompileFault.TheVariants.{Passes, NoMemory}
 use Rattle.tc_top.proofs.Checked.{read_of}
@@ -56,6 +57,17 @@ within m n h = by (cases_lt m n)
     by : (m < n) ⊎ (n ≤ m) → n ≤ m
     by (inl l) = absurd (h l)
     by (inr l) = l
+
+-- the states of a schema's automaton are those that its patterns tell
+same_states : (g : Grammar) (side : Side) → state_count g side ≡ states_on g side
+same_states g input = (state_counts_agree g).0
+same_states g output = (state_counts_agree g).1
+
+pub few_states : (g : Grammar) (side : Side) (most : ℕ) → state_count g side ≤ most → states_on g side ≤ most
+few_states g side most few = subst (λ n. n ≤ most) (same_states g side) few
+
+pub many_states : (g : Grammar) (side : Side) (most : ℕ) → most < state_count g side → most < states_on g side
+many_states g side most many = subst (λ n. most < n) (same_states g side) many
 
 -- the triple of schemas, of the rules of a stylesheet and of their symbols
 

@@ -16,7 +16,7 @@ use Rattle.tc_answer.proofs.OneCommand.{one_command}
 use Rattle.tc_answer.proofs.ReadsOnce.{never_stops, one_stop, one_texts, Follows, stop_follows, memory_no, long_memory, all_follow, no_reads, FailsIn, same_reads, AreHeld, holds, AreShort, well, well_read, well_true, held_texts}
 use Rattle.tc_top.proofs.OneValidity.{validates_one}
 use Rattle.tc_top.proofs.OneRun.{runs_texts_one}
-use Rattle.tc_top.proofs.OneCheck.{checks_one}
+use Rattle.tc_top.proofs.OneCheck.{one_check}
 use Rattle.tc_top.proofs.OneCertifying.{one_proof, one_verification, one_upgrade}
 use Rattle.tc_top.proofs.OneComparison.{compares_one}
 
@@ -65,12 +65,12 @@ decided_only {texts = texts} {reads = reads} {answer = answer} {command = comman
 
 -- the answer of a command on texts is one
 answers_one : {command : Command} {texts : List (List ℕ)} {one other : Answer} → IsAnswerTo command texts one → IsAnswerTo command texts other → AreAlike one other
-answers_one (checked x) (checked y) = checks_one x y
+answers_one (checked x) (checked y) = one_check x y
 answers_one (proved x) (proved y) = one_proof x y
 answers_one (verified h x) (verified k y) = one_verification h x y
 answers_one (ran x) (ran y) = runs_texts_one x y
 answers_one (validated x) (validated y) = validates_one x y
-answers_one (shown x) (shown y) = checks_one x y
+answers_one (shown x) (shown y) = one_check x y
 answers_one (upgraded h x) (upgraded k y) = one_upgrade h x y
 answers_one (compared_one_way x) (compared_one_way y) = compares_one x y
 answers_one (compared_both_ways x) (compared_both_ways y) = compares_one x y

@@ -31,7 +31,7 @@ use Rattle.tc_answer.specs.declared.limits.TheConstants.{MOST_ROWS}
 use Rattle.tc_answer.specs.Words.{Words, check, run, valid, demo, schema, plain}
 use Rattle.tc_answer.proofs.ReadsOnce.{AreHeld, no_file, holds, AreShort, none_long, is_short}
 use Rattle.tc_top.proofs.Exact.{Agrees, decided_only, shown_reads, read_all, held_decided}
-use Rattle.tc_top.proofs.OneCheck.{not_both, over_compile, one_compile, near_far, finds_of}
+use Rattle.tc_top.proofs.OneCheck.{not_both, over_compile, one_compile, near_far, decided_of}
 use Rattle.tc_answer.proofs.OneCommand.{one_command}
 use Rattle.tc_top.proofs.OneValidity.{Settles, settles_valid, settles_invalid, settles}
 use Rattle.tc_top.proofs.OneRun.{one_result, runs_of, not_within, not_few, not_low}
@@ -221,7 +221,7 @@ headline {words} {rose} {reads} files limit i o s status old new answer short tr
     by : IsOfFault rose answer ⊎ IsAnswerTo (check limit c.input c.output c.sheet) (c.input_text ∷ c.output_text ∷ c.sheet_text ∷ []) answer
         → IsCutShort status rose ⊎ DecidesSafety status old new (most_rows limit) i o s
     by (inl fault) = inl (cut_short status answer is fault)
-    by (inr x) = inr (decides (most_rows limit) i o s status old new is written (finds_of c.input_spells c.output_spells c.sheet_spells (checks_of x)))
+    by (inr x) = inr (decides (most_rows limit) i o s status old new is written (decided_of c.input_spells c.output_spells c.sheet_spells (checks_of x)))
 
 -- what a check found whose answer is such a one, its files being held
 found : (rose : Type 0) {words : List (List ℕ)} {reads : List Read} (files : Files) (limit : Option ℕ) (i o : Grammar) (s : Sheet) {answer : Answer} → ChecksFiles words files limit i o s
@@ -230,7 +230,7 @@ found rose files limit i o s {answer} c true right which = by (held_decided rose
   where
     by : IsAnswerTo (check limit c.input c.output c.sheet) (c.input_text ∷ c.output_text ∷ c.sheet_text ∷ []) answer ⊎ ((answer ≡ file_limit) ⊎ ((name : List ℕ) × (answer ≡ cannot_read name)))
         → Finds (most_rows limit) i o s answer
-    by (inl x) = finds_of c.input_spells c.output_spells c.sheet_spells (checks_of x)
+    by (inl x) = decided_of c.input_spells c.output_spells c.sheet_spells (checks_of x)
     by (inr told) = absurd (told_of_file told which)
 
 -- yes says that it is safe, and no shows that it isn't
@@ -267,7 +267,7 @@ output_text size g spells = compact refl spells
 -- what a demonstration finds
 demo_found : {words : List (List ℕ)} {reads : List Read} (size : ℕ) (g : Grammar) (s : Sheet) {answer : Answer} → Words words (demo size) → RncText (demo_schema size) g → IsSheetOf demo_sheet s
     → IsAnswer words reads answer → Finds MOST_ROWS g g s answer
-demo_found size g s w spells means right = finds_of (input_text size g spells) (output_text size g spells) means (demo_of (decided_only {texts = []} w (shown_reads w right) right))
+demo_found size g s w spells means right = decided_of (input_text size g spells) (output_text size g spells) means (demo_of (decided_only {texts = []} w (shown_reads w right) right))
 
 pub demo_is_safe : {words : List (List ℕ)} {reads : List Read} (size : ℕ) (g : Grammar) (s : Sheet) (status : Status) (answer : Answer) → Words words (demo size)
     → RncText (demo_schema size) g → IsSheetOf demo_sheet s → IsAnswer words reads answer → status ≡ status_of answer → status ≡ Yes → IsSafe g g s
@@ -288,7 +288,7 @@ pub demonstrated : {words : List (List ℕ)} {reads : List Read} (size : ℕ) (g
     → RncText (demo_schema size) g → IsSheetOf demo_sheet s → IsAnswer words reads answer → status ≡ status_of answer → Appended old new (text_of answer)
     → DecidesSafety status old new MOST_ROWS g g s
 demonstrated size g s status old new answer w spells means right is written =
-    decides MOST_ROWS g g s status old new is written (finds_of (input_text size g spells) (output_text size g spells) means (demo_of (decided_only {texts = []} w (shown_reads w right) right)))
+    decides MOST_ROWS g g s status old new is written (decided_of (input_text size g spells) (output_text size g spells) means (demo_of (decided_only {texts = []} w (shown_reads w right) right)))
 
 settled : {g : Grammar} {d : Trees} {answer : Answer} (status : Status) (old new : Option (List ℕ)) → status ≡ status_of answer → Appended old new (text_of answer) → Settles g d answer
     → DecidesValidity status old new g d

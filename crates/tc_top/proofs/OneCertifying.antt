@@ -18,20 +18,15 @@ use Rattle.tc_model.specs.Grammars.{Grammar}
 use Rattle.tc_model.specs.Safety.{IsSafe}
 use Rattle.tc_model.specs.Sheets.{Sheet}
 use Rattle.tc_model.specs.declared.lists.CertData.{CertData}
-use Rattle.tc_read.specs.Sheets.{IsSheetOf}
 use Rattle.tc_rows.specs.CertificateRows.{IsCertificateData}
 use Rattle.tc_rows.specs.Triples.{Triple}
 use Rattle.tc_verify.specs.Rejects.{IsRejected}
 use Rattle.tc_verify.specs.declared.reject.Reject.{Reject}
-use Rattle.tc_top.specs.Causes.{Finds, passes_compile, passes_rows, finds_safe, finds_unsafe, finds_large, finds_none_small}
-use Rattle.tc_top.specs.Certifying.{told, told_by, IsCertificateOf, IsLeastOf, IsRejectedFor, IsOverlong, long_text, long_outputs, Certifies, as_checked, certifies, overlong, Accepts, not_compiled, accepts, no_text, no_certificate, OfTexts, refuses_input, refuses_output, refuses_sheet, all_three, Upgrades, upgrades, too_long, no_form}
+use Rattle.tc_top.specs.Causes.{Finds, passes_compile, passes_rows, finds_safe, finds_unsafe, finds_large, finds_none_small, OfTexts}
+use Rattle.tc_top.specs.Certifying.{told, told_by, IsCertificateOf, IsLeastOf, IsRejectedFor, IsOverlong, long_text, long_outputs, Certifies, as_checked, certifies, overlong, Accepts, not_compiled, accepts, no_text, no_certificate, Upgrades, upgrades, too_long, no_form}
 use Rattle.tc_top.specs.Checking.{IsCompiled, HasFewRows}
 use Rattle.tc_top.specs.OneAnswer.{AreAlike, same_answer}
-use Rattle.tc_top.proofs.OneCheck.{over_compile, one_compile, finds_one, not_both}
-use Rattle.tc_top.proofs.OneRefusal.{sheet_refusals}
-use Rattle.tc_top.proofs.OneRun.{no_sheet, one_sheet_of}
-use Rattle.tc_top.specs.SchemaTexts.{SchemaText}
-use Rattle.tc_top.proofs.SchemaTextLaws.{no_schema, one_schema, text_refusals}
+use Rattle.tc_top.proofs.OneCheck.{over_compile, one_compile, finds_one, not_both, texts_one}
 use Rattle.tc_top.proofs.RejectedAlike.{rejected_alike, one_rejected}
 
 same_as : {one other : Answer} → one ≡ other → AreAlike one other
@@ -95,38 +90,6 @@ module _ {i o : Grammar} {s : Sheet} where
   accepts_one {bytes} h (no_certificate {d} {why} w t r) (accepts {d = e} v u c) = absurd (accepted_rejected bytes h e d why u t c r)
   accepts_one {bytes} h (no_certificate {d} w t r) (no_text {line} v f) = absurd (no_fault bytes d line t f)
   accepts_one {bytes} h (no_certificate {d} {why} w t r) (no_certificate {d = e} {why = other} v u q) = same_as (ap rejected (one_why d e why other (one_data bytes h d e t u) r q))
-
-decided_same : (Decided : Grammar → Grammar → Sheet → Answer → Type 0) → {i j o p : Grammar} {s t : Sheet} {answer : Answer} → i ≡ j → o ≡ p → s ≡ t → Decided i o s answer → Decided j p t answer
-decided_same Decided {i} {j} {o} {p} {s} {t} {answer} a b c x =
-    subst (λ (w : Sheet). Decided j p w answer) c (subst (λ (w : Grammar). Decided j w s answer) b (subst (λ (w : Grammar). Decided w o s answer) a x))
-
--- what is decided, the texts being read
-pub decided_of : {Decided : Grammar → Grammar → Sheet → Answer → Type 0} {input output sheet b c d : List ℕ} {i o : Grammar} {s : Sheet} {answer : Answer} → SchemaText input b i → SchemaText output c o → IsSheetOf d s
-    → OfTexts Decided input output sheet b c d answer → Decided i o s answer
-decided_of x y z (refuses_input {reason = w} {place = p} r) = absurd (no_schema w p r x)
-decided_of x y z (refuses_output {reason = w} {place = p} g r) = absurd (no_schema w p r y)
-decided_of x y z (refuses_sheet {reason = w} {place = p} g h r) = absurd (no_sheet w p r z)
-decided_of {Decided = Decided} x y z (all_three k l m f) = decided_same Decided (one_schema k x) (one_schema l y) (one_sheet_of m z) f
-
--- and that is one answer
-pub texts_one : (Decided : Grammar → Grammar → Sheet → Answer → Type 0) → ((i o : Grammar) (s : Sheet) (one other : Answer) → Decided i o s one → Decided i o s other → AreAlike one other)
-    → {input output sheet b c d : List ℕ} {one other : Answer} → OfTexts Decided input output sheet b c d one → OfTexts Decided input output sheet b c d other → AreAlike one other
-texts_one Decided alike {input = n} (refuses_input r) (refuses_input q) = text_refusals n r q
-texts_one Decided alike (refuses_input {reason = w} {place = p} r) (refuses_output g q) = absurd (no_schema w p r g)
-texts_one Decided alike (refuses_input {reason = w} {place = p} r) (refuses_sheet g h q) = absurd (no_schema w p r g)
-texts_one Decided alike (refuses_input {reason = w} {place = p} r) (all_three g h z f) = absurd (no_schema w p r g)
-texts_one Decided alike (refuses_output g r) (refuses_input {reason = w} {place = p} q) = absurd (no_schema w p q g)
-texts_one Decided alike {output = n} (refuses_output g r) (refuses_output h q) = text_refusals n r q
-texts_one Decided alike (refuses_output {reason = w} {place = p} g r) (refuses_sheet h k q) = absurd (no_schema w p r k)
-texts_one Decided alike (refuses_output {reason = w} {place = p} g r) (all_three h k z f) = absurd (no_schema w p r k)
-texts_one Decided alike (refuses_sheet g h r) (refuses_input {reason = w} {place = p} q) = absurd (no_schema w p q g)
-texts_one Decided alike (refuses_sheet g h r) (refuses_output {reason = w} {place = p} k q) = absurd (no_schema w p q h)
-texts_one Decided alike {sheet = n} {d = d} (refuses_sheet g h r) (refuses_sheet k l q) = sheet_refusals d n r q
-texts_one Decided alike (refuses_sheet {reason = w} {place = p} g h r) (all_three k l z f) = absurd (no_sheet w p r z)
-texts_one Decided alike (all_three g h z f) (refuses_input {reason = w} {place = p} q) = absurd (no_schema w p q g)
-texts_one Decided alike (all_three g h z f) (refuses_output {reason = w} {place = p} k q) = absurd (no_schema w p q h)
-texts_one Decided alike (all_three g h z f) (refuses_sheet {reason = w} {place = p} k l q) = absurd (no_sheet w p q z)
-texts_one Decided alike {input = n} {output = m} {sheet = w} (all_three g h z f) (all_three k l y e) = alike _ _ _ _ _ f (decided_of {Decided = Decided} {input = n} {output = m} {sheet = w} g h z (all_three k l y e))
 
 pub one_proof : {most : ℕ} {input output sheet b c d : List ℕ} {one other : Answer} → OfTexts (λ i o s. Certifies i o s most) input output sheet b c d one → OfTexts (λ i o s. Certifies i o s most) input output sheet b c d other → AreAlike one other
 one_proof {most} p q = texts_one (λ i o s. Certifies i o s most) (λ i o s one other x y. certifies_one x y) p q

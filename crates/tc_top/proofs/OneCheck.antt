@@ -10,7 +10,7 @@ use Rattle.tc_read.specs.Sheets.{IsSheetOf}
 use Rattle.tc_rows.specs.Counts.{IsRowOfLiveTree, IsRowOfLiveHedge, IsOutput}
 use Rattle.tc_rows.proofs.Counting.{counts_tell}
 use Rattle.tc_answer.specs.Answers.{Answer, safe, over_limit}
-use Rattle.tc_top.specs.Causes.{Finds, passes_compile, passes_rows, finds_safe, finds_unsafe, finds_large, finds_none_small, Checks, input_refused, output_refused, stylesheet_refused, all_read}
+use Rattle.tc_top.specs.Causes.{Finds, passes_compile, passes_rows, finds_safe, finds_unsafe, finds_large, finds_none_small, Checks, OfTexts, refuses_input, refuses_output, refuses_sheet, all_three}
 use Rattle.tc_top.specs.Checking.{IsCompiled, PassesCompile, by_input, by_output, by_sheet, by_calls, by_entries, AreRowCounts, IsCounter, IsLeastCounter, HasLargeCounters}
 use Rattle.tc_top.specs.OneAnswer.{AreAlike, same_answer, counterexamples, large_counterexamples, large_or_not, not_large_or_large, row_limits}
 use Rattle.tc_top.specs.SchemaTexts.{SchemaText}
@@ -119,33 +119,37 @@ module _ {i o : Grammar} {s : Sheet} where
   finds_one (finds_none_small w f l) (finds_large v g m j) = absurd (near_far m l)
   finds_one (finds_none_small w f l) (finds_none_small v g m) = same_answer
 
-finds_same : {most : ℕ} {i j o p : Grammar} {s t : Sheet} {answer : Answer} → i ≡ j → o ≡ p → s ≡ t → Finds most i o s answer → Finds most j p t answer
-finds_same {most} {i} {j} {o} {p} {s} {t} {answer} a b c x =
-    subst (λ (w : Sheet). Finds most j p w answer) c (subst (λ (w : Grammar). Finds most j w s answer) b (subst (λ (w : Grammar). Finds most w o s answer) a x))
+decided_same : (Decided : Grammar → Grammar → Sheet → Answer → Type 0) → {i j o p : Grammar} {s t : Sheet} {answer : Answer} → i ≡ j → o ≡ p → s ≡ t → Decided i o s answer → Decided j p t answer
+decided_same Decided {i} {j} {o} {p} {s} {t} {answer} a b c x =
+    subst (λ (w : Sheet). Decided j p w answer) c (subst (λ (w : Grammar). Decided j w s answer) b (subst (λ (w : Grammar). Decided w o s answer) a x))
 
 -- what is decided, the texts being read
-pub finds_of : {most : ℕ} {input output sheet b c d : List ℕ} {i o : Grammar} {s : Sheet} {answer : Answer} → SchemaText input b i → SchemaText output c o → IsSheetOf d s
-    → Checks most input output sheet b c d answer → Finds most i o s answer
-finds_of x y z (input_refused {reason = w} {place = p} r) = absurd (no_schema w p r x)
-finds_of x y z (output_refused {reason = w} {place = p} g r) = absurd (no_schema w p r y)
-finds_of x y z (stylesheet_refused {reason = w} {place = p} g h r) = absurd (no_sheet w p r z)
-finds_of x y z (all_read k l m f) = finds_same (one_schema k x) (one_schema l y) (one_sheet_of m z) f
+pub decided_of : {Decided : Grammar → Grammar → Sheet → Answer → Type 0} {input output sheet b c d : List ℕ} {i o : Grammar} {s : Sheet} {answer : Answer} → SchemaText input b i → SchemaText output c o → IsSheetOf d s
+    → OfTexts Decided input output sheet b c d answer → Decided i o s answer
+decided_of x y z (refuses_input {reason = w} {place = p} r) = absurd (no_schema w p r x)
+decided_of x y z (refuses_output {reason = w} {place = p} g r) = absurd (no_schema w p r y)
+decided_of x y z (refuses_sheet {reason = w} {place = p} g h r) = absurd (no_sheet w p r z)
+decided_of {Decided = Decided} x y z (all_three k l m f) = decided_same Decided (one_schema k x) (one_schema l y) (one_sheet_of m z) f
 
--- the answer that the texts decide is one
-pub checks_one : {most : ℕ} {input output sheet b c d : List ℕ} {one other : Answer} → Checks most input output sheet b c d one → Checks most input output sheet b c d other → AreAlike one other
-checks_one {input = n} (input_refused r) (input_refused q) = text_refusals n r q
-checks_one (input_refused {reason = w} {place = p} r) (output_refused g q) = absurd (no_schema w p r g)
-checks_one (input_refused {reason = w} {place = p} r) (stylesheet_refused g h q) = absurd (no_schema w p r g)
-checks_one (input_refused {reason = w} {place = p} r) (all_read g h z f) = absurd (no_schema w p r g)
-checks_one (output_refused g r) (input_refused {reason = w} {place = p} q) = absurd (no_schema w p q g)
-checks_one {output = n} (output_refused g r) (output_refused h q) = text_refusals n r q
-checks_one (output_refused {reason = w} {place = p} g r) (stylesheet_refused h k q) = absurd (no_schema w p r k)
-checks_one (output_refused {reason = w} {place = p} g r) (all_read h k z f) = absurd (no_schema w p r k)
-checks_one (stylesheet_refused g h r) (input_refused {reason = w} {place = p} q) = absurd (no_schema w p q g)
-checks_one (stylesheet_refused g h r) (output_refused {reason = w} {place = p} k q) = absurd (no_schema w p q h)
-checks_one {sheet = n} {d = d} (stylesheet_refused g h r) (stylesheet_refused k l q) = sheet_refusals d n r q
-checks_one (stylesheet_refused {reason = w} {place = p} g h r) (all_read k l z f) = absurd (no_sheet w p r z)
-checks_one (all_read g h z f) (input_refused {reason = w} {place = p} q) = absurd (no_schema w p q g)
-checks_one (all_read g h z f) (output_refused {reason = w} {place = p} k q) = absurd (no_schema w p q h)
-checks_one (all_read g h z f) (stylesheet_refused {reason = w} {place = p} k l q) = absurd (no_sheet w p q z)
-checks_one {input = n} {output = m} {sheet = w} (all_read g h z f) (all_read k l y e) = finds_one f (finds_of {input = n} {output = m} {sheet = w} g h z (all_read k l y e))
+-- and that is one answer
+pub texts_one : (Decided : Grammar → Grammar → Sheet → Answer → Type 0) → ((i o : Grammar) (s : Sheet) (one other : Answer) → Decided i o s one → Decided i o s other → AreAlike one other)
+    → {input output sheet b c d : List ℕ} {one other : Answer} → OfTexts Decided input output sheet b c d one → OfTexts Decided input output sheet b c d other → AreAlike one other
+texts_one Decided alike {input = n} (refuses_input r) (refuses_input q) = text_refusals n r q
+texts_one Decided alike (refuses_input {reason = w} {place = p} r) (refuses_output g q) = absurd (no_schema w p r g)
+texts_one Decided alike (refuses_input {reason = w} {place = p} r) (refuses_sheet g h q) = absurd (no_schema w p r g)
+texts_one Decided alike (refuses_input {reason = w} {place = p} r) (all_three g h z f) = absurd (no_schema w p r g)
+texts_one Decided alike (refuses_output g r) (refuses_input {reason = w} {place = p} q) = absurd (no_schema w p q g)
+texts_one Decided alike {output = n} (refuses_output g r) (refuses_output h q) = text_refusals n r q
+texts_one Decided alike (refuses_output {reason = w} {place = p} g r) (refuses_sheet h k q) = absurd (no_schema w p r k)
+texts_one Decided alike (refuses_output {reason = w} {place = p} g r) (all_three h k z f) = absurd (no_schema w p r k)
+texts_one Decided alike (refuses_sheet g h r) (refuses_input {reason = w} {place = p} q) = absurd (no_schema w p q g)
+texts_one Decided alike (refuses_sheet g h r) (refuses_output {reason = w} {place = p} k q) = absurd (no_schema w p q h)
+texts_one Decided alike {sheet = n} {d = d} (refuses_sheet g h r) (refuses_sheet k l q) = sheet_refusals d n r q
+texts_one Decided alike (refuses_sheet {reason = w} {place = p} g h r) (all_three k l z f) = absurd (no_sheet w p r z)
+texts_one Decided alike (all_three g h z f) (refuses_input {reason = w} {place = p} q) = absurd (no_schema w p q g)
+texts_one Decided alike (all_three g h z f) (refuses_output {reason = w} {place = p} k q) = absurd (no_schema w p q h)
+texts_one Decided alike (all_three g h z f) (refuses_sheet {reason = w} {place = p} k l q) = absurd (no_sheet w p q z)
+texts_one Decided alike {input = n} {output = m} {sheet = w} (all_three g h z f) (all_three k l y e) = alike _ _ _ _ _ f (decided_of {Decided = Decided} {input = n} {output = m} {sheet = w} g h z (all_three k l y e))
+
+pub one_check : {most : ℕ} {input output sheet b c d : List ℕ} {one other : Answer} → Checks most input output sheet b c d one → Checks most input output sheet b c d other → AreAlike one other
+one_check {most} p q = texts_one (λ i o s. Finds most i o s) (λ i o s one other x y. finds_one x y) p q

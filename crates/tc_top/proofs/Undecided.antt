@@ -8,7 +8,7 @@ use Rattle.tc_base.specs.declared.NoMemory as memory
 use Rattle.tc_base.specs.declared.Limit as kinds
 use Rattle.tc_model.specs.Grammars.{Grammar}
 use Rattle.tc_model.specs.Sheets.{Sheet}
-use Rattle.tc_top.specs.Certifying.{OfTexts, refuses_input, refuses_output, refuses_sheet, all_three}
+use Rattle.tc_top.specs.Causes.{OfTexts, refuses_input, refuses_output, refuses_sheet, all_three}
 use Rattle.tc_top.specs.CertifyingSeen.{undecided_of, IsUndecided, IsPassed, is_passed, StopsTexts}
 use Rattle.tc_top.specs.Checking.{PassesCompile}
 use Rattle.tc_top.specs.declared.texts.Undecided.{Undecided}

@@ -36,15 +36,19 @@ pub data Finds (most : ℕ) (i o : Grammar) (s : Sheet) : Answer → Type 0 wher
   finds_large : {document : Trees} → IsCompiled i o s → HasFewRows i o s most → IsLeastCounter i o s document → IsLargeRun s document → Finds most i o s (unsafe_large document)
   finds_none_small : IsCompiled i o s → HasFewRows i o s most → HasLargeCounters i o s → Finds most i o s counterexample_limit
 
+-- what the texts of two schemas and a stylesheet decide: the first that is refused, or what all three decide
+pub data OfTexts (Decided : Grammar → Grammar → Sheet → Answer → Type 0) (input output sheet input_text output_text sheet_text : List ℕ) : Answer → Type 0 where
+  refuses_input : {reason : Reason} {place : ℕ} → IsRefusedText input input_text reason place → OfTexts Decided input output sheet input_text output_text sheet_text (refused input reason place)
+  refuses_output : {i : Grammar} {reason : Reason} {place : ℕ} → SchemaText input input_text i → IsRefusedText output output_text reason place
+      → OfTexts Decided input output sheet input_text output_text sheet_text (refused output reason place)
+  refuses_sheet : {i o : Grammar} {reason : Reason} {place : ℕ} → SchemaText input input_text i → SchemaText output output_text o → IsRefusedSheet sheet_text reason place
+      → OfTexts Decided input output sheet input_text output_text sheet_text (refused sheet reason place)
+  all_three : {i o : Grammar} {s : Sheet} {answer : Answer} → SchemaText input input_text i → SchemaText output output_text o → IsSheetOf sheet_text s → Decided i o s answer
+      → OfTexts Decided input output sheet input_text output_text sheet_text answer
+
 -- what `check` answers on the texts of its operands
-pub data Checks (most : ℕ) (input output sheet input_text output_text sheet_text : List ℕ) : Answer → Type 0 where
-  input_refused : {reason : Reason} {place : ℕ} → IsRefusedText input input_text reason place → Checks most input output sheet input_text output_text sheet_text (refused input reason place)
-  output_refused : {i : Grammar} {reason : Reason} {place : ℕ} → SchemaText input input_text i → IsRefusedText output output_text reason place
-      → Checks most input output sheet input_text output_text sheet_text (refused output reason place)
-  stylesheet_refused : {i o : Grammar} {reason : Reason} {place : ℕ} → SchemaText input input_text i → SchemaText output output_text o → IsRefusedSheet sheet_text reason place
-      → Checks most input output sheet input_text output_text sheet_text (refused sheet reason place)
-  all_read : {i o : Grammar} {s : Sheet} {answer : Answer} → SchemaText input input_text i → SchemaText output output_text o → IsSheetOf sheet_text s → Finds most i o s answer
-      → Checks most input output sheet input_text output_text sheet_text answer
+abbrev pub Checks : ℕ → List ℕ → List ℕ → List ℕ → List ℕ → List ℕ → List ℕ → Answer → Type 0
+Checks most input output sheet input_text output_text sheet_text answer = OfTexts (λ i o s. Finds most i o s) input output sheet input_text output_text sheet_text answer
 
 -- what a schema and a document decide
 pub data Decides (g : Grammar) (d : Trees) : Answer → Type 0 where

@@ -1,6 +1,6 @@
 -- Certificates: what `prove`, `verify` and `upgrade` answer on the texts of their operands, each answer with its cause.
 use Rattle.std.specs.Prelude.{◌≡◌, ◌<◌, ◌≤◌, ℕ, List, length}
-use Rattle.tc_answer.specs.Answers.{Answer, certificate, certificate_limit, accepted, rejected, refused, over_limit, status_of}
+use Rattle.tc_answer.specs.Answers.{Answer, certificate, certificate_limit, accepted, rejected, over_limit, status_of}
 use Rattle.tc_answer.specs.Lines.{Rejection, form_fails, fit_fails, empty_fails, text_fails, append_fails, wrap_fails, root_fails}
 use Rattle.tc_answer.specs.declared.limits.TheConstants.{LONGEST_CERTIFICATE}
 use Rattle.tc_answer.specs.declared.status.Status.TheVariants.{Yes}
@@ -14,14 +14,10 @@ use Rattle.tc_model.specs.Safety.{IsSafe}
 use Rattle.tc_model.specs.Sheets.{Sheet}
 use Rattle.tc_model.specs.Symbols.{Mention, fresh_name}
 use Rattle.tc_model.specs.declared.lists.CertData.{CertData}
-use Rattle.tc_read.specs.Refusals.{IsRefusedSheet}
-use Rattle.tc_read.specs.Sheets.{IsSheetOf}
-use Rattle.tc_read.specs.declared.faults.Reason.{Reason}
 use Rattle.tc_rows.specs.CertificateRows.{IsCertificateData}
 use Rattle.tc_rows.specs.Triples.{Triple}
-use Rattle.tc_top.specs.Causes.{Finds}
+use Rattle.tc_top.specs.Causes.{Finds, OfTexts}
 use Rattle.tc_top.specs.Checking.{IsCompiled, PassesCompile, HasFewRows}
-use Rattle.tc_top.specs.SchemaTexts.{SchemaText, IsRefusedText}
 use Rattle.tc_verify.specs.Rejects.{IsRejected}
 use Rattle.tc_verify.specs.declared.reject.Reject.{Reject}
 use Rattle.tc_verify.specs.declared.reject.RejectRule.{RejectRule}
@@ -73,16 +69,6 @@ module _ (i o : Grammar) (s : Sheet) where
     accepts : {d : CertData} → IsCompiled i o s → CertificateText bytes d → IsCertificateOf d → Accepts bytes accepted
     no_text : {line : ℕ} → IsCompiled i o s → IsFirstFault bytes line → Accepts bytes (rejected (form_fails line))
     no_certificate : {d : CertData} {why : Rejection} → IsCompiled i o s → CertificateText bytes d → IsRejectedFor d why → Accepts bytes (rejected why)
-
--- what the texts of two schemas and a stylesheet decide: the first that is refused, or what all three decide
-pub data OfTexts (Decided : Grammar → Grammar → Sheet → Answer → Type 0) (input output sheet input_text output_text sheet_text : List ℕ) : Answer → Type 0 where
-  refuses_input : {reason : Reason} {place : ℕ} → IsRefusedText input input_text reason place → OfTexts Decided input output sheet input_text output_text sheet_text (refused input reason place)
-  refuses_output : {i : Grammar} {reason : Reason} {place : ℕ} → SchemaText input input_text i → IsRefusedText output output_text reason place
-      → OfTexts Decided input output sheet input_text output_text sheet_text (refused output reason place)
-  refuses_sheet : {i o : Grammar} {reason : Reason} {place : ℕ} → SchemaText input input_text i → SchemaText output output_text o → IsRefusedSheet sheet_text reason place
-      → OfTexts Decided input output sheet input_text output_text sheet_text (refused sheet reason place)
-  all_three : {i o : Grammar} {s : Sheet} {answer : Answer} → SchemaText input input_text i → SchemaText output output_text o → IsSheetOf sheet_text s → Decided i o s answer
-      → OfTexts Decided input output sheet input_text output_text sheet_text answer
 
 -- what `prove` answers on the texts of its operands
 abbrev pub Proves : ℕ → List ℕ → List ℕ → List ℕ → List ℕ → List ℕ → List ℕ → Answer → Type 0

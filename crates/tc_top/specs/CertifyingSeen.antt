@@ -12,7 +12,7 @@ use Rattle.tc_model.specs.Sheets.{Sheet}
 use Rattle.tc_read.specs.Sheets.{IsSheetOf}
 use Rattle.tc_read.specs.declared.faults.Reason.{Reason}
 use Rattle.tc_base.specs.declared.Limit as kinds
-use Rattle.tc_top.specs.Certifying.{OfTexts}
+use Rattle.tc_top.specs.Causes.{OfTexts}
 use Rattle.tc_top.specs.Checking.{PassesCompile}
 use Rattle.tc_top.specs.Compiled.{IsMachineFor}
 use Rattle.tc_top.specs.SchemaTexts.{SchemaText}

@@ -6,7 +6,8 @@ use Rattle.tc_base.specs.declared.limits.TheConstants.{MOST_INPUT_STATES, MOST_S
 use Rattle.tc_model.specs.Grammars.{Grammar}
 use Rattle.tc_model.specs.Sheets.{Sheet}
 use Rattle.tc_model.specs.SimplifiesCounts.{IsWithinCounts}
-use Rattle.tc_model.specs.States.{Side, input, state_count}
+use Rattle.tc_model.specs.SchemaStates.{states_of_input, states_of_output}
+use Rattle.tc_model.specs.States.{Side, input, output}
 use Rattle.tc_model.specs.Symbols.{Mention, mention_cmp, in_order, with_namespace, mentions_in_grammar, mentions_in_sheet, symbol_count}
 use Rattle.tc_model.specs.Trees.{Trees}
 use Rattle.tc_model.specs.StateCounts.{PassNone, PassPredicates, PassAncestors, PassSelects}
@@ -26,15 +27,20 @@ symbols_of_sheet s = symbols_of_mentions (mentions_in_sheet s)
 abbrev pub AreFew : List Mention → Type 0
 AreFew symbols = symbol_count symbols ≤ MOST_SYMBOLS
 
+-- how many states the schema has on this side
+abbrev pub states_on : Grammar → Side → ℕ
+states_on g input = states_of_input g
+states_on g output = states_of_output g
+
 -- the schema passes none of its own limits: on its size, and on its states on this side, of which there may be so many
 pub record IsWithinLimits (g : Grammar) (side : Side) (most : ℕ) : Type 0 where
   pub counts : IsWithinCounts g
-  pub states : state_count g side ≤ most
+  pub states : states_on g side ≤ most
 
 -- the first of its own limits that the schema passes, and its number
 pub data PassesLimit (g : Grammar) (side : Side) (most : ℕ) : Limit → ℕ → Type 0 where
   passes_size : {kind : Limit} {number : ℕ} → PassesSize g kind number → PassesLimit g side most kind number
-  passes_states : IsWithinCounts g → most < state_count g side → PassesLimit g side most States most
+  passes_states : IsWithinCounts g → most < states_on g side → PassesLimit g side most States most
 
 -- the schema passes none of the limits of `valid`
 pub record IsValidityWithin (g : Grammar) : Type 0 where

@@ -3,23 +3,18 @@ ghost use Rattle.std.specs.Prelude.{◌≡◌, ◌≤◌, ℕ, List, IfOk, lengt
 ghost use Rattle.tc_base.specs.Reading.{longest_text};
 ghost use Rattle.tc_beh.specs.Machines.{IsMachine, IsMachineOf};
 ghost use Rattle.tc_io.specs.Reads.{Happened};
-ghost use Rattle.tc_model.specs.Grammars as g;
 ghost use Rattle.tc_model.specs.Trees.{none, IsDocument};
 ghost use Rattle.tc_model.specs.Views as see;
-ghost use Rattle.tc_model.specs.WellFormed.{IsSheet};
-ghost use Rattle.tc_top.specs.SchemaTexts.{IsSchemaOfText};
 ghost use Rattle.tc_rows.specs.Triples as t;
 ghost use Rattle.tc_answer.specs.Answers as a;
 ghost use Rattle.tc_top.specs.Causes.{Checks, Finds};
 ghost use Rattle.tc_answer.specs.AnswersSeen.{Says};
 ghost use Rattle.tc_top.specs.AnswersSeen.{IsRightFor, IsRunOf};
 ghost use Rattle.tc_top.specs.Checking.{IsCompiled, most_rows};
-ghost use Rattle.tc_top.specs.Compiled.{IsSpelled, IsReadOf};
 ghost use Rattle.tc_answer.specs.Words as w;
 ghost use Rattle.tc_answer.specs.Words.{Words};
 
-use crate::compile::{CompileFault, machine_of};
-use crate::schema_texts::read_operand_schema;
+use crate::texts::{early_answer, machine_of_texts};
 use crate::unread::answer_unread;
 use bumpalo::Bump;
 use std::alloc::Global;
@@ -29,8 +24,7 @@ use tc_base::NoMemory;
 use tc_beh::Machine;
 use tc_close::{CloseFault, Decision};
 use tc_io::Store;
-use tc_model::{Node, Sheet};
-use tc_read::{Schema, TextFault, read_sheet};
+use tc_model::Node;
 use tc_run::RunFault;
 
 /// Reads the operands, and decides whether the stylesheet is safe, with so many rows of trees and of lists of trees at
@@ -75,86 +69,9 @@ pub fn check_texts(alloc: Global, most: u32, operands: &Operands<'_>) -> Result<
         operands.now.input.text.items operands.now.output.text.items operands.now.sheet.text.items answer) }
 {
     let arena = Bump::new(alloc);
-    match read_operand_schema(&arena, &operands.input) {
-        Ok(input) => check_output(alloc, &arena, most, &input, operands),
-        Err(TextFault::Refused(reason, place)) => {
-            Answer::refused(alloc, operands.input.name, reason, place)
-        }
-        Err(TextFault::NoMemory) => Err(NoMemory),
-    }
-}
-
-/// Decides by the texts of the output schema and the stylesheet whether the stylesheet is safe.
-fn check_output<'b>(
-    alloc: Global,
-    arena: &'b Bump,
-    most: u32,
-    input: &Schema<'b>,
-    operands: &Operands<'_>,
-) -> Result<Answer, NoMemory>
-    requires few { most ≤ 4000 }
-    requires input { IsSchemaOfText operands.now.input.name.now operands.now.input.text.items input.now }
-    requires output { length operands.now.output.text.items ≤ longest_text }
-    requires sheet { length operands.now.sheet.text.items ≤ longest_text }
-    ensures { IfOk result (λ said. (answer : a.Answer) × Says said answer
-        × Checks most operands.now.input.name.now operands.now.output.name.now operands.now.sheet.name.now
-        operands.now.input.text.items operands.now.output.text.items operands.now.sheet.text.items answer) }
-{
-    match read_operand_schema(arena, &operands.output) {
-        Ok(output) => check_sheet(alloc, arena, most, input, &output, operands),
-        Err(TextFault::Refused(reason, place)) => {
-            Answer::refused(alloc, operands.output.name, reason, place)
-        }
-        Err(TextFault::NoMemory) => Err(NoMemory),
-    }
-}
-
-/// Decides by the text of the stylesheet whether it is safe.
-fn check_sheet<'b>(
-    alloc: Global,
-    arena: &'b Bump,
-    most: u32,
-    input: &Schema<'b>,
-    output: &Schema<'b>,
-    operands: &Operands<'_>,
-) -> Result<Answer, NoMemory>
-    requires few { most ≤ 4000 }
-    requires input { IsSchemaOfText operands.now.input.name.now operands.now.input.text.items input.now }
-    requires output { IsSchemaOfText operands.now.output.name.now operands.now.output.text.items output.now }
-    requires sheet { length operands.now.sheet.text.items ≤ longest_text }
-    ensures { IfOk result (λ said. (answer : a.Answer) × Says said answer
-        × Checks most operands.now.input.name.now operands.now.output.name.now operands.now.sheet.name.now
-        operands.now.input.text.items operands.now.output.text.items operands.now.sheet.text.items answer) }
-{
-    match read_sheet(arena, &operands.sheet.text) {
-        Ok(sheet) => check_read(alloc, arena, most, input, output, &sheet),
-        Err(TextFault::Refused(reason, place)) => {
-            Answer::refused(alloc, operands.sheet.name, reason, place)
-        }
-        Err(TextFault::NoMemory) => Err(NoMemory),
-    }
-}
-
-/// Decides whether a stylesheet is safe between two schemas, unless a limit is passed.
-fn check_read<'b>(
-    alloc: Global,
-    arena: &'b Bump,
-    most: u32,
-    input: &Schema<'b>,
-    output: &Schema<'b>,
-    sheet: &Sheet<'b>,
-) -> Result<Answer, NoMemory>
-    requires few { most ≤ 4000 }
-    requires input { IsSpelled input.now }
-    requires output { IsSpelled output.now }
-    requires sheet { IsSheet (see.sheet sheet.now) }
-    ensures { IfOk result (λ said. (i o : g.Grammar) → IsReadOf i input.now → IsReadOf o output.now
-        → (answer : a.Answer) × Says said answer × Finds most i o (see.sheet sheet.now) answer) }
-{
-    match machine_of(alloc, input, output, sheet) {
-        Ok(machine) => decide(alloc, arena, most, &machine),
-        Err(CompileFault::Passes(kind, number)) => Answer::limit(alloc, kind, number),
-        Err(CompileFault::NoMemory) => Err(NoMemory),
+    match machine_of_texts(alloc, &arena, operands) {
+        Ok(machine) => decide(alloc, &arena, most, &machine),
+        Err(undecided) => early_answer(undecided),
     }
 }
 

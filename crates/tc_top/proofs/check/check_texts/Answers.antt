@@ -1,16 +1,25 @@
 use Rattle.std.proofs.Common.{subst}
 use Rattle.std.proofs.lemmas.Result.{IfOk-weaker}
-use Rattle.tc_model.specs.Views as see
-use Rattle.tc_answer.specs.Answers as a
-use Rattle.tc_top.specs.Causes.{input_refused}
-use Rattle.tc_read.specs.Faults.{IsUnaccepted}
-use Rattle.tc_top.specs.SchemaTexts.{IsRefusedText}
+use Rattle.tc_top.specs.Causes.{Finds, passes_compile, all_three}
+use Rattle.tc_top.specs.CertifyingSeen.{IsUndecided, StopsTexts}
+use Rattle.tc_top.specs.Checking.{IsCompiled}
+use Rattle.tc_top.proofs.Checked.{of_triple, to_triple}
+use Rattle.tc_top.proofs.Undecided.{stopped}
 use Rattle.tc_top.proofs.check.check_texts.Goals as goal
 
-pub returns-in-Err-Refused : goal.returns-in-Err-Refused
-returns-in-Err-Refused c =
-    let refused = subst (IsUnaccepted (IsRefusedText c.args.operands.now.input.name.now c.args.operands.now.input.text.items)) c.in-Err-Refused.field-0-is c.in-Err-Refused.ensures.no in
-    IfOk-weaker c.refused.result _ _ (λ said says. (a.refused c.args.operands.now.input.name.now c.in-Err-Refused.reason (see.place c.in-Err-Refused.place), says, input_refused refused)) c.refused.ensures
+pub decide-requires-clause-machine : goal.decide-requires-clause-machine
+decide-requires-clause-machine c = let made = c.in-Ok.ensures.ok in (made.machine.triple, made.machine.machine)
 
-pub check_output-requires-clause-input : goal.check_output-requires-clause-input
-check_output-requires-clause-input c = c.in-Ok.ensures.ok
+pub returns-in-Ok : goal.returns-in-Ok
+returns-in-Ok c =
+    let made = c.in-Ok.ensures.ok in
+    IfOk-weaker c.decide.result _ _ (λ said h.
+    let found = h made.machine.triple made.machine.machine (to_triple IsCompiled made.machine.of made.machine.compiled) in
+    (found.0, found.1, all_three made.input_spells made.output_spells made.sheet_spells (of_triple (λ i o s. Finds c.args.most i o s found.0) made.machine.of found.2))) c.decide.ensures
+
+pub returns : goal.returns
+returns c =
+    let o = c.args.operands.now in
+    IfOk-weaker c.early_answer.result _ _ (λ said is.
+    let why = subst (IsUndecided (StopsTexts o.input.name.now o.output.name.now o.sheet.name.now o.input.text.items o.output.text.items o.sheet.text.items)) is c.in-Err.ensures.no in
+    (why.0, why.1, stopped (λ i o s kind number p. passes_compile p) why.2)) c.early_answer.ensures

@@ -6,7 +6,7 @@ use Rattle.tc_model.specs.States.{output, state_count}
 use Rattle.tc_model.specs.Views as see
 use Rattle.tc_read.proofs.Exits.{err_is}
 use Rattle.tc_top.specs.Limits.{passes_states}
-use Rattle.tc_top.proofs.Compiling.{small_is, within}
+use Rattle.tc_top.proofs.Compiling.{small_is, within, few_states, many_states}
 use Rattle.tc_top.proofs.compile.states_of.Goals as goal
 
 pub returns-in_err-grammar-clause-err : goal.returns-in_err-grammar-clause-err
@@ -21,10 +21,10 @@ pub returns-in-Ok-clause-within : goal.returns-in-Ok-clause-within
 returns-in-Ok-clause-within c = λ x read.
     let small = small_is x _ _ c.in_ok-grammar.ensures.ok read in
     let states = within MOST_OUTPUT_STATES (state_count (see.grammar c.in_ok-grammar.grammar.now) output) (λ l. let e = c.in-Ok.ensures.told l in absurd (cc)) in
-    record { counts = small.1; states = subst (λ (g : Grammar). state_count g output ≤ MOST_OUTPUT_STATES) small.0 states }
+    record { counts = small.1; states = few_states x output MOST_OUTPUT_STATES (subst (λ (g : Grammar). state_count g output ≤ MOST_OUTPUT_STATES) small.0 states) }
 
 pub returns-in-Err-TooManyStates-clause-err : goal.returns-in-Err-TooManyStates-clause-err
 returns-in-Err-TooManyStates-clause-err c = λ x read.
     let small = small_is x _ _ c.in_ok-grammar.ensures.ok read in
     let over = c.in-Err-TooManyStates.ensures.too_many (ap Err c.in-Err-TooManyStates.field-0-is) in
-    passes_states small.1 (subst (λ (g : Grammar). MOST_OUTPUT_STATES < state_count g output) small.0 over)
+    passes_states small.1 (many_states x output MOST_OUTPUT_STATES (subst (λ (g : Grammar). MOST_OUTPUT_STATES < state_count g output) small.0 over))

@@ -1,7 +1,7 @@
 use Rattle.std.proofs.Common.{subst}
 use Rattle.std.proofs.lemmas.Result.{IfOk-weaker}
-use Rattle.tc_top.specs.Causes.{passes_compile}
-use Rattle.tc_top.specs.Certifying.{Certifies, as_checked, all_three}
+use Rattle.tc_top.specs.Causes.{passes_compile, all_three}
+use Rattle.tc_top.specs.Certifying.{Certifies, as_checked}
 use Rattle.tc_top.specs.CertifyingSeen.{IsUndecided, StopsTexts}
 use Rattle.tc_top.specs.Checking.{IsCompiled}
 use Rattle.tc_top.proofs.Checked.{of_triple, to_triple}

@@ -1,5 +1,5 @@
-use Rattle.std.proofs.Common.{◌≤◌, ◌<◌, ◌⊎◌, ◌∙◌, ℕ, Err, refl, sym, ap, inl, inr}
-use Rattle.std.proofs.lemmas.Bool.{cases_lt, true≢false}
+use Rattle.std.proofs.Common.{◌∙◌, Err, refl, sym, ap, inl}
+use Rattle.std.proofs.lemmas.Bool.{true≢false}
 use Rattle.std.proofs.lemmas.Result.{IfOk-weaker}
 use Rattle.tc_base.specs.declared.Limit.TheVariants.{States, Symbols}
 use Rattle.tc_base.specs.declared.limits.TheConstants.{MOST_INPUT_STATES, MOST_SYMBOLS}
@@ -8,32 +8,26 @@ use Rattle.tc_model.specs.States.{input, state_count}
 use Rattle.tc_answer.specs.Answers as a
 use Rattle.tc_top.specs.Causes.{passes, too_many_symbols, decides_valid, decides_invalid}
 use Rattle.tc_top.specs.Limits.{IsValidityWithin, passes_states}
+use Rattle.tc_top.proofs.Compiling.{within, few_states, many_states}
 use Rattle.tc_top.proofs.Nothing.{no_schema, no_rules, schema_alone}
 use Rattle.tc_top.proofs.valid.decide.Goals as goal
-
--- what isn't over is within
-within : (m n : ℕ) → (m < n → ⊥) → n ≤ m
-within m n h = by (cases_lt m n)
-  where
-    by : (m < n) ⊎ (n ≤ m) → n ≤ m
-    by (inl l) = absurd (h l)
-    by (inr l) = l
 
 pub returns-in-Err-TooManyStates : goal.returns-in-Err-TooManyStates
 returns-in-Err-TooManyStates c =
     let over = c.in-Err-TooManyStates.ensures.too_many (ap Err c.in-Err-TooManyStates.field-0-is) in
-    IfOk-weaker c.limit.result _ _ (λ said says. (a.over_limit States MOST_INPUT_STATES, says, passes (passes_states c.requires.small over))) c.limit.ensures
+    IfOk-weaker c.limit.result _ _ (λ said says. (a.over_limit States MOST_INPUT_STATES, says, passes (passes_states c.requires.small (many_states (see.grammar c.args.grammar.now) input MOST_INPUT_STATES over)))) c.limit.ensures
 
 pub returns-in-Err-TooManySymbols : goal.returns-in-Err-TooManySymbols
 returns-in-Err-TooManySymbols c =
-    let states = within MOST_INPUT_STATES (state_count (see.grammar c.args.grammar.now) input) (λ l. let e = c.in-Ok.ensures.told l in absurd (cc)) in
+    let g = see.grammar c.args.grammar.now in
+    let states = few_states g input MOST_INPUT_STATES (within MOST_INPUT_STATES (state_count g input) (λ l. let e = c.in-Ok.ensures.told l in absurd (cc))) in
     let over = c.in-Err-TooManySymbols.ensures.many c.in-Err-TooManySymbols.field-0-is in
     IfOk-weaker c.limit-in-Err-TooManySymbols.result _ _ (λ said says. (a.over_limit Symbols MOST_SYMBOLS, says, too_many_symbols (record { counts = c.requires.small; states = states }) over)) c.limit-in-Err-TooManySymbols.ensures
 
 pub returns-then-branch : goal.returns-then-branch
 returns-then-branch c =
     let g = see.grammar c.args.grammar.now in
-    let states = within MOST_INPUT_STATES (state_count g input) (λ l. let e = c.in-Ok.ensures.told l in absurd (cc)) in
+    let states = few_states g input MOST_INPUT_STATES (within MOST_INPUT_STATES (state_count g input) (λ l. let e = c.in-Ok.ensures.told l in absurd (cc))) in
     let small : IsValidityWithin g = record { schema = record { counts = c.requires.small; states = states }; symbols = c.in-Ok-alphabet_of.ensures.few } in
     let stands = c.in_ok-hedge.ensures.stands input g c.in-Ok.ensures.stands g no_schema no_rules (c.in-Ok-alphabet_of.ensures.stands ∙ sym (schema_alone g)) (inl refl) in
     let exact = c.in_ok-valid.ensures input g stands.auto c.requires.start in
@@ -42,7 +36,7 @@ returns-then-branch c =
 pub returns : goal.returns
 returns c =
     let g = see.grammar c.args.grammar.now in
-    let states = within MOST_INPUT_STATES (state_count g input) (λ l. let e = c.in-Ok.ensures.told l in absurd (cc)) in
+    let states = few_states g input MOST_INPUT_STATES (within MOST_INPUT_STATES (state_count g input) (λ l. let e = c.in-Ok.ensures.told l in absurd (cc))) in
     let small : IsValidityWithin g = record { schema = record { counts = c.requires.small; states = states }; symbols = c.in-Ok-alphabet_of.ensures.few } in
     let stands = c.in_ok-hedge.ensures.stands input g c.in-Ok.ensures.stands g no_schema no_rules (c.in-Ok-alphabet_of.ensures.stands ∙ sym (schema_alone g)) (inl refl) in
     let exact = c.in_ok-valid.ensures input g stands.auto c.requires.start in

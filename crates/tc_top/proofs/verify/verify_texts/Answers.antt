@@ -1,7 +1,8 @@
 use Rattle.std.proofs.Common.{subst, List, ℕ}
 use Rattle.std.proofs.lemmas.Result.{IfOk-weaker}
 use Rattle.tc_rows.specs.Triples as t
-use Rattle.tc_top.specs.Certifying.{Accepts, not_compiled, all_three}
+use Rattle.tc_top.specs.Causes.{all_three}
+use Rattle.tc_top.specs.Certifying.{Accepts, not_compiled}
 use Rattle.tc_top.specs.CertifyingSeen.{IsUndecided, StopsTexts}
 use Rattle.tc_top.specs.Checking.{IsCompiled}
 use Rattle.tc_top.proofs.Checked.{of_triple, to_triple}
