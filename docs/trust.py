@@ -1,12 +1,13 @@
 #!/usr/bin/env python3
 """Writes docs/TRUST.md, and its sums into README.md: which definitions the main clauses of `typecheck` reach by `use`
-lines. Run it at the top."""
+lines. Run it at the top. With the name of a clause it only prints what that clause reaches, module by module."""
 import re
+import sys
 from functools import cache
 from pathlib import Path
 
 TOP = Path("crates/tc_top/src/lib.rt")
-CLAUSE = r"    ensures (safe|shown|headline|proved|accepted_safe|verified|upgraded|inclusion|validity|running|limited) \{(.*?)(?=\n    ensures|\n\n|\n\{)"
+CLAUSE = r"    ensures (ends|exactly|safe|shown|headline|demonstrated|proved|accepted_safe|verified|upgraded|inclusion|equality|validity|running|limited) \{(.*?)(?=\n    ensures|\n\n|\n\{)"
 WORD = re.compile(r"(?:\w+\.)*[\w-]+(?![\w-]| =)")
 ITEM = re.compile(r"\s*(?:abbrev )?(?:pub )?(data |record )?([\w-]+)(?: \(.*\)| \{.*\})* : ")
 
@@ -104,13 +105,20 @@ def main():
         reach("tc_top", WORD.findall(body), uses(text), reached[clause])
     clauses = list(reached)
     modules = in_order({m for seen in reached.values() for m in seen if m not in ("code", "std")})
+    if len(sys.argv) > 1:
+        for module in modules:
+            names = [name for i in sorted(reached[sys.argv[1]].get(module, ())) for name in sorted(parse(module)[1][i][0])]
+            if names:
+                print(f"{file_of(module)}: {', '.join(names)}")
+        return
     lines = {m: [sum(parse(m)[1][i][2] for i in seen.get(m, ())) for seen in reached.values()] for m in modules}
     rows = [f"| [`{m.replace('.specs.', '.')}`](../{file_of(m)}) | {subject(m)} | {cells(lines[m])} |" for m in modules]
     for source, names in constants(reached).items():
         lines[source] = [sum(name in seen.get("code", ()) for name in names) for seen in reached.values()]
         listed = ", ".join(f"`{name.split('.')[-1]}`" for name in names)
         rows.insert(0, f"| [constants](../{source}) | The numbers that these definitions name: {listed} | {cells(lines[source])} |")
-    counts = [f"{sum(1 for each in lines.values() if each[c])} modules, {sum(each[c] for each in lines.values())} lines" for c in range(len(clauses))]
+    sums = [(sum(1 for each in lines.values() if each[c]), sum(each[c] for each in lines.values())) for c in range(len(clauses))]
+    counts = [f"{modules} modules, {total} lines" for modules, total in sums]
     code = sorted({name.replace(".specs.declared", "") for seen in reached.values() for name in seen.get("code", ()) if name.split(".")[-1] == name.split(".")[-2]})
     std = sorted({name.split(".")[-1] for seen in reached.values() for name in seen.get("std", ())})
     head = ["clause of `typecheck`", *(f"`{c}`" for c in clauses)]
@@ -118,8 +126,8 @@ def main():
     Path("docs/TRUST.md").write_text(TEXT.format(table="\n".join(table), code=", ".join(f"`{c}`" for c in code), std=", ".join(f"`{s}`" for s in std)))
 
     readme = Path("README.md").read_text()
-    for clause, count in zip(clauses, counts):
-        readme = re.sub(rf"(`{clause}` )\d+ modules, \d+ lines", rf"\g<1>{count}", readme)
+    for clause, (modules, total) in zip(clauses, sums):
+        readme = re.sub(rf"(`{clause}` )\d+, \d+", rf"\g<1>{modules}, {total}", readme)
     Path("README.md").write_text(readme)
 
 
@@ -129,7 +137,9 @@ This page is written by `docs/trust.py`; don't edit it.
 
 The theorem is the contract of `typecheck` in `crates/tc_top/src/lib.rt`. Each clause there is a statement in words of the modules below. Whoever has read these definitions, and finds that they say what the standards say, has read all of the project's own text on which the clause rests: code, proofs and the other clauses are checked against them by machine.
 
-The modules stand in reading order, each after those on which it stands. The numbers are lines of definitions that the clause reaches, blank lines and comments left out; what a module holds beside them the clause doesn't cite.
+The signs of the language are told in [GLOSSARY.md](GLOSSARY.md#how-a-clause-is-read). Begin with what a clause itself says, for `safe` with `ChecksFiles` of `tc_top.Headline` and `IsSafe` of `tc_model.Safety`, then go on to `Validity`, `Matching`, `Grammars`, `Trees`, `Chains`, `Paths` and `Meaning`, which carry the meaning; the others say what texts mean. Without a column are `demo_safe` and `demo_shown`, which read as `safe` and `shown`, and what says little: `usage`, `unread`, `unwritten`, `held` and the counts of faults. Of the program on real files, whose store tells none, `ends` speaks; the columns behind it ask for held files.
+
+The modules stand in an order in which each comes after those on which it stands. The numbers are lines of definitions that the clause reaches, blank lines, comments and `use` lines left out; what a module holds beside them the clause doesn't cite. `docs/trust.py safe` prints the list of `safe` alone, with the names that it reaches.
 
 {table}
 
@@ -140,7 +150,7 @@ The modules stand in reading order, each after those on which it stands. The num
 - **The ghost functions of the traits `Store` and `Sink`** (`crates/tc_io/src/lib.rt`), as `holds` and `written`: what a store holds and a sink was given, where it tells. The store and the sink of memory tell it, and it is proved of them. A file system and a terminal can't tell it: that `RealStore` reads what a file holds, and that the bytes given to `RealSink` come out, is tested, not proved.
 - **The toolchain**: that its check accepts no wrong proof, and that the program which it builds does what the checked code says.
 - **The C library and the operating system**, and the statements of the kit's crates that the program stands on (`std`, `bumpalo`, `indexmap`, `memchr`, `simdutf8`, `itoa`): their own proofs are the toolchain's.
-- **`main`** of `crates/typecheck`: that it hands the arguments, the files of the system and the standard output to `run_program` of `tc_top`, and the code that this gives to the system. By its clause `ends`, `run_program` carries out the words behind the program's name as `typecheck` does. What no clause says: how long an answer takes, and that memory suffices.
+- **`main`** of `crates/typecheck`: that it hands the arguments, the files of the system and the standard output to `run_program` of `tc_top`, and the code that this gives to the system. By its clause `ends`, `run_program` carries out the words behind the program's name as `typecheck` does.
 """
 
 main()
