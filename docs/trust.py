@@ -1,12 +1,13 @@
 #!/usr/bin/env python3
 """Writes docs/TRUST.md, and its sums into README.md: which definitions the main clauses of `typecheck` reach by `use`
-lines. Run it at the top."""
+lines. Run it at the top. With the name of a clause it only prints what that clause reaches, module by module."""
 import re
+import sys
 from functools import cache
 from pathlib import Path
 
 TOP = Path("crates/tc_top/src/lib.rt")
-CLAUSE = r"    ensures (safe|shown|headline|proved|accepted_safe|verified|upgraded|inclusion|validity|running|limited) \{(.*?)(?=\n    ensures|\n\n|\n\{)"
+CLAUSE = r"    ensures (ends|exactly|safe|shown|headline|demonstrated|proved|accepted_safe|verified|upgraded|inclusion|equality|validity|running|limited) \{(.*?)(?=\n    ensures|\n\n|\n\{)"
 WORD = re.compile(r"(?:\w+\.)*[\w-]+(?![\w-]| =)")
 ITEM = re.compile(r"\s*(?:abbrev )?(?:pub )?(data |record )?([\w-]+)(?: \(.*\)| \{.*\})* : ")
 
@@ -104,6 +105,12 @@ def main():
         reach("tc_top", WORD.findall(body), uses(text), reached[clause])
     clauses = list(reached)
     modules = in_order({m for seen in reached.values() for m in seen if m not in ("code", "std")})
+    if len(sys.argv) > 1:
+        for module in modules:
+            names = [name for i in sorted(reached[sys.argv[1]].get(module, ())) for name in sorted(parse(module)[1][i][0])]
+            if names:
+                print(f"{file_of(module)}: {', '.join(names)}")
+        return
     lines = {m: [sum(parse(m)[1][i][2] for i in seen.get(m, ())) for seen in reached.values()] for m in modules}
     rows = [f"| [`{m.replace('.specs.', '.')}`](../{file_of(m)}) | {subject(m)} | {cells(lines[m])} |" for m in modules]
     for source, names in constants(reached).items():
@@ -130,7 +137,9 @@ This page is written by `docs/trust.py`; don't edit it.
 
 The theorem is the contract of `typecheck` in `crates/tc_top/src/lib.rt`. Each clause there is a statement in words of the modules below. Whoever has read these definitions, and finds that they say what the standards say, has read all of the project's own text on which the clause rests: code, proofs and the other clauses are checked against them by machine.
 
-The modules stand in reading order, each after those on which it stands. The numbers are lines of definitions that the clause reaches, blank lines and comments left out; what a module holds beside them the clause doesn't cite.
+The signs of the language are told in [GLOSSARY.md](GLOSSARY.md#how-a-clause-is-read). Begin with what a clause itself says, for `safe` with `ChecksFiles` of `tc_top.Headline` and `IsSafe` of `tc_model.Safety`, then go on to `Validity`, `Matching`, `Grammars`, `Trees`, `Chains`, `Paths` and `Meaning`, which carry the meaning; the others say what texts mean. Without a column are `demo_safe` and `demo_shown`, which read as `safe` and `shown`, and what says little: `usage`, `unread`, `unwritten`, `held` and the counts of faults. Of the program on real files, whose store tells none, `ends` speaks; the columns behind it ask for held files.
+
+The modules stand in an order in which each comes after those on which it stands. The numbers are lines of definitions that the clause reaches, blank lines, comments and `use` lines left out; what a module holds beside them the clause doesn't cite. `docs/trust.py safe` prints the list of `safe` alone, with the names that it reaches.
 
 {table}
 
