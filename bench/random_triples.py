@@ -43,18 +43,41 @@ def sheet(*rules, select="a/b"):
 
 SOURCE, TARGET = b"element a { element b { empty }* }", b"element r { element x { empty }* }"
 DECLARED = Dtd("a", b"<!ELEMENT a (b*)><!ELEMENT b EMPTY>")
-MIXED = Dtd("a", b'<!-- % --><!ELEMENT a (#PCDATA|b|z)*><!ATTLIST a k CDATA ">"> <!ELEMENT c EMPTY><!ELEMENT b ANY><!ELEMENT d (c)>')
+MIXED = Dtd(
+    "a",
+    b"""<!-- % --><!ELEMENT a (#PCDATA|b|z)*><!ATTLIST a k CDATA ">">
+    <!ELEMENT c EMPTY><!ELEMENT b ANY><!ELEMENT d (c)>""",
+)
+ALTERNATIVES = Dtd("r", b"<?xml encoding='UTF-8'?><!ELEMENT x EMPTY><!ELEMENT r ((x, (x | y?)+)?, z*)>")
+ANYTHING = Dtd("r", b"<!ELEMENT s (r)><!ELEMENT r ANY><!ELEMENT x (x*)>")
 REPEATED = b"element a { element b { element b { empty }* }* }"
+JOINED = [
+    "(b and b) and b",
+    "b and b and b",
+    "(b and b and b)",
+    "b][b][b",
+    "b][b and b",
+    "b and (b) and b",
+    "(b or b) or b",
+    "(b and b) or b",
+    "b and b or b",
+    "not((b and b))",
+]
+
+
+def joined(test):
+    """A stylesheet with two selects, whose predicates are the same or not."""
+    return sheet(("b", "<x/>"), ("c", f'<xsl:apply-templates select="a/b[{test}]"/>'), select="a/b[b and b and b]")
+
+
 FIXED = [
     # a predicate that says nothing, and what the priority of its pattern is
     (SOURCE, TARGET, sheet(("b[true()]", "<x/>"), ("b", "<y/>"))),
     (SOURCE, TARGET, sheet(("*[true()]", "<x/>"), ("b", "<y/>"))),
     (SOURCE, TARGET, sheet(("b[(true())]", "<x/>"), ("a/b[true()][true()]", "<x/>"), ("child::b", "<y/>"))),
     # the members of what `and` and `or` join
-    *(
-        (REPEATED, TARGET, sheet(("b", "<x/>"), ("c", f'<xsl:apply-templates select="a/b[{test}]"/>'), select="a/b[b and b and b]"))
-        for test in ("(b and b) and b", "b and b and b", "(b and b and b)", "b][b][b", "b][b and b", "b and (b) and b", "(b or b) or b", "not((b and b))")
-    ),
+    *((REPEATED, TARGET, joined(test)) for test in JOINED),
+    (REPEATED, TARGET, sheet(("b[(b and b) or c]", "<x/>"), ("b", "<x/><x/>"), ("b[b and b or c]", "<x/>"))),
     # ancestor states that are empty, and a path without alternatives
     (SOURCE, TARGET, sheet(("/a", "<x/>"), ("b", "<x/>"))),
     (SOURCE, TARGET, sheet(("/a", "<y/>"), select="@k")),
@@ -62,9 +85,9 @@ FIXED = [
     (DECLARED, TARGET, sheet(("b", "<x/>"))),
     (DECLARED._replace(root="b"), TARGET, sheet(("b", "<x/>"))),
     (DECLARED._replace(root="z"), TARGET, sheet(("b", "<x/>"))),
-    (SOURCE, Dtd("r", b"<?xml encoding='UTF-8'?><!ELEMENT x EMPTY><!ELEMENT r ((x, (x | y?)+)?, z*)>"), sheet(("b", "<x/><x/><x/>"))),
+    (SOURCE, ALTERNATIVES, sheet(("b", "<x/><x/><x/>"))),
     (MIXED, Dtd("r", b"<!ELEMENT r (#PCDATA)*>"), sheet(("b", "t"), select=".//b")),
-    (MIXED._replace(root="b"), Dtd("r", b"<!ELEMENT s (r)><!ELEMENT r ANY><!ELEMENT x (x*)>"), sheet(("node()", "<x/>"), select="node()|b/*")),
+    (MIXED._replace(root="b"), ANYTHING, sheet(("node()", "<x/>"), select="node()|b/*")),
 ]
 
 
@@ -128,7 +151,8 @@ class Maker:
         if kind == 4:
             return f'<xsl:call-template name="{self.one(*calls)}"/>' if calls else "<a/>"
         if kind == 5:
-            return self.one("<a/>", f'<xsl:attribute name="k">v{UNSEEN}</xsl:attribute>', '<xsl:copy-of select="@*"/>', "<b k=\"v\"/>")
+            attribute = f'<xsl:attribute name="k">v{UNSEEN}</xsl:attribute>'
+            return self.one("<a/>", attribute, '<xsl:copy-of select="@*"/>', "<b k=\"v\"/>")
         inner = self.body(depth - 1, calls)
         if kind == 6:
             return self.one(f"<a>{inner}</a>", f'<xsl:element name="p:e">{inner}</xsl:element>', f"<p:f>{inner}</p:f>")

@@ -3,7 +3,8 @@
 
 verify.py IN OUT SHEET CERT   prints what `typecheck verify` prints for texts that it accepts, with its status
 
-It reads the same schemas, in compact syntax and as `dtd:ROOT:NAME`, and the same stylesheets, but doesn't look for what is refused in them, nor for limits.
+It reads the same schemas, in compact syntax and by operands `dtd:ROOT:NAME`, and the same stylesheets, but doesn't look for
+what is refused in them, nor for limits.
 """
 import sys
 from pathlib import Path

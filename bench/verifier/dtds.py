@@ -12,7 +12,11 @@ from typing import NamedTuple
 
 from schemas import EMPTY, CompactSchema, Schema
 
-SKIPPED = re.compile(r"""\s+|<!--.*?-->|<\?.*?\?>|<!(?:ATTLIST|NOTATION|ENTITY)(?:"[^"]*"|'[^']*'|[^>"'])*>""", re.ASCII | re.DOTALL)
+SKIPPED = re.compile(
+    r"""\s+|<!--.*?-->|<\?.*?\?>
+    |<!(?:ATTLIST|NOTATION|ENTITY)(?:"[^"]*"|'[^']*'|[^>"'])*>""",
+    re.ASCII | re.DOTALL | re.VERBOSE,
+)
 ELEMENT = re.compile(r"<!ELEMENT\s+([^\s>]+)\s+([^>]*)>", re.ASCII)
 TOKEN = re.compile(r"[(),|?*+]|[^\s(),|?*+]+", re.ASCII)
 
@@ -118,7 +122,8 @@ class DtdSchema(Schema):
                 waits.extend(names_in(declared[name], declared))
         kept = [name for name in declared if name in reached]
         self.numbers = {name: number for number, name in enumerate(kept, 1)}
-        super().__init__(self.reference(dtd.root), [("name", "", name) for name in kept], [self.pattern(declared[name]) for name in kept])
+        contents = [self.pattern(declared[name]) for name in kept]
+        super().__init__(self.reference(dtd.root), [("name", "", name) for name in kept], contents)
 
     def reference(self, name):
         """An element by its number; one that isn't declared is allowed nowhere."""
