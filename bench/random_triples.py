@@ -85,6 +85,8 @@ FIXED = [
     (DECLARED, TARGET, sheet(("b", "<x/>"))),
     (DECLARED._replace(root="b"), TARGET, sheet(("b", "<x/>"))),
     (DECLARED._replace(root="z"), TARGET, sheet(("b", "<x/>"))),
+    (Dtd("a", b"<!ELEMENT a (b*, z)><!ELEMENT b EMPTY>"), TARGET, sheet(("b", "<x/>"))),
+    (Dtd("a", b"<!ELEMENT a (b+)><!ELEMENT b (#PCDATA|b|b)*>"), TARGET, sheet(("b", "<x/>"))),
     (SOURCE, ALTERNATIVES, sheet(("b", "<x/><x/><x/>"))),
     (MIXED, Dtd("r", b"<!ELEMENT r (#PCDATA)*>"), sheet(("b", "t"), select=".//b")),
     (MIXED._replace(root="b"), ANYTHING, sheet(("node()", "<x/>"), select="node()|b/*")),
