@@ -3,8 +3,8 @@
 
 mutations.py PROGRAM [SAMPLE]   SAMPLE is the greatest number of changes of one kind to one text (300)
 
-The certificates are those of three safe triples, in both versions: a small one, the article of examples/, and a report of
-make_triple.py. Changed is each byte, to some others or to none; each line is dropped, doubled, and exchanged with another,
+The certificates are those of four safe triples, in both versions: a small one, the article of examples/, the same with the
+declarations of elements beside this, and a report of make_triple.py. Changed is each byte, to some others or to none; each line is dropped, doubled, and exchanged with another,
 with the counts as they were and repaired; each number of the data is changed, each row and set dropped or doubled with a
 number changed, and the whole written again in its order. Of each text:
 
@@ -24,6 +24,7 @@ TOP = Path(__file__).resolve().parent.parent
 sys.path.insert(0, str(TOP / "bench" / "verifier"))
 
 from closure import Unsafe, proved  # noqa: E402
+from dtds import Dtd, word_and_bytes  # noqa: E402
 from rows import Machine  # noqa: E402
 from rules import ACCEPTED, Verifier  # noqa: E402
 from text import Certificate, Malformed, hedge_line, pairs_line, read, tree_line, write  # noqa: E402
@@ -140,8 +141,11 @@ class Runner:
     def __init__(self, program, work, texts):
         self.program, self.work = program, work
         self.work.mkdir(exist_ok=True)
+        self.words = []
         for name, text in zip("IOS", texts):
-            (work / name).write_bytes(text)
+            word, written = word_and_bytes(text, name)
+            (work / name).write_bytes(written)
+            self.words.append(word)
 
     def run(self, *words):
         done = subprocess.run([self.program, *words], cwd=self.work, stdout=subprocess.PIPE, check=False)
@@ -151,7 +155,7 @@ class Runner:
         (self.work / "C").write_bytes(text)
 
     def verify(self):
-        return self.run("verify", "I", "O", "S", "C")
+        return self.run("verify", *self.words, "C")
 
     def upgrade(self):
         return self.run("upgrade", "C")
@@ -217,7 +221,7 @@ def try_triple(name, program, work, texts, neighbours, most, chance):
     """All changes of both versions of a triple's certificate."""
     runner, machine = Runner(program, work / name, texts), Machine(*texts)
     verifier, data = Verifier(machine), proved(machine)
-    proof = runner.run("prove", "I", "O", "S")
+    proof = runner.run("prove", *runner.words)
     agree(runner, proof[1], proof, (0, write(data, 2)))
     for version in VERSIONS:
         text = write(data, version)
@@ -255,6 +259,9 @@ def main():
     source, target, made = article("mended.xsl")
     alone = source, target.replace(b"element body { block+ }", b"element body { block }"), made
     try_triple("article", program, work, (source, target, made), [article("page.xsl"), alone], most, chance)
+    declared = Dtd("article", (TOP / "bench" / "article.dtd").read_bytes())
+    near = [(declared, *alone[1:]), (declared._replace(root="section"), target, made)]
+    try_triple("declarations", program, work, (declared, target, made), near, most, chance)
     try_triple("report", program, work, report(work / "made"), [], most, chance)
     shutil.rmtree(work)
 

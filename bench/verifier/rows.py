@@ -3,8 +3,9 @@
 A set of pairs of output states is a tuple that has, for each state, the states to which it leads as the bits of a number.
 A row is (flag, bears, ascending numbers, sets, looks), the sets by their numbers in `Sets`.
 """
+from dtds import schema_of
 from numbering import Numbers
-from schemas import Numbered, Schema, has_text, holds
+from schemas import Numbered, has_text, holds
 from sheets import CHILDREN, WHITE, Sheet
 
 
@@ -48,10 +49,10 @@ def joined(row, right):
 
 
 class Machine:
-    """Two schemas and a stylesheet."""
+    """Two schemas and a stylesheet, by their texts."""
 
     def __init__(self, source, target, sheet):
-        self.source, self.target, self.sheet = Schema(source), Schema(target), Sheet(sheet)
+        self.source, self.target, self.sheet = schema_of(source), schema_of(target), Sheet(sheet)
         self.numbers = Numbers(self.source, self.target, self.sheet)
         self.input = Numbered(self.source.contents[1:])
         self.output = Numbered([self.target.start, *self.target.contents[1:]])

@@ -1,4 +1,4 @@
-"""Schemas in RELAX NG's compact syntax: their element patterns, and the states of their contents.
+"""Schemas, in RELAX NG's compact syntax too: their element patterns, and the states of their contents.
 
 A text is taken to be one that `typecheck` accepts: what is refused isn't looked for.
 
@@ -214,20 +214,35 @@ class Reader:
 class Schema:
     """The start of a schema and its element patterns, which have the numbers from 1: their name classes and contents."""
 
+    def __init__(self, start, classes, contents):
+        self.start, self.classes, self.contents = start, [None, *classes], [None, *contents]
+
+    def alternatives(self, pattern=None):
+        """The numbers of the element patterns that are alternatives of the start."""
+        pattern = self.start if pattern is None else pattern
+        if pattern[0] == "element":
+            yield pattern[1]
+        elif pattern[0] == "choice":
+            for part in pattern[1:]:
+                yield from self.alternatives(part)
+
+
+class CompactSchema(Schema):
+    """A schema in compact syntax."""
+
     def __init__(self, text):
-        reader = Reader(text.decode("utf-8-sig"))
+        self.reader = reader = Reader(text.decode("utf-8-sig"))
         reader.file()
-        self.reader = reader
         places, waits = set(), list(self.elements_in(("reference", "start")))
         while waits:
             place = waits.pop()
             if place not in places:
                 places.add(place)
                 waits.extend(self.elements_in(reader.elements[place][1]))
+        elements = [reader.elements[place] for place in sorted(places)]
         self.numbers = {place: number for number, place in enumerate(sorted(places), 1)}
-        self.start = self.numbered(("reference", "start"))
-        self.classes = [None, *(reader.elements[place][0] for place in sorted(places))]
-        self.contents = [None, *(self.numbered(reader.elements[place][1]) for place in sorted(places))]
+        contents = [self.numbered(content) for _, content in elements]
+        super().__init__(self.numbered(("reference", "start")), [names for names, _ in elements], contents)
 
     def definition(self, name):
         """The patterns of a name joined by their operator."""
@@ -255,15 +270,6 @@ class Schema:
         if pattern[0] == "element":
             return ("element", self.numbers[pattern[1]])
         return (pattern[0], *map(self.numbered, pattern[1:]))
-
-    def alternatives(self, pattern=None):
-        """The numbers of the element patterns that are alternatives of the start."""
-        pattern = self.start if pattern is None else pattern
-        if pattern[0] == "element":
-            yield pattern[1]
-        elif pattern[0] == "choice":
-            for part in pattern[1:]:
-                yield from self.alternatives(part)
 
 
 def holds(names, uri, local):

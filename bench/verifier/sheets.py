@@ -224,9 +224,9 @@ class Paths:
         return ("has", self.select())
 
 
-def default_priority(steps, has_brackets):
-    """The priority of a relative pattern (XSLT 1.0, 5.5). Brackets count, whatever stands in them, `true()` too."""
-    if len(steps) > 1 or has_brackets:
+def default_priority(steps, written):
+    """The priority of an alternative with these tokens (XSLT 1.0, 5.5): a predicate counts whatever its test is."""
+    if any(token in ("/", "//", "[") for token in written):
         return Decimal("0.5")
     return {"name": Decimal(0), "ns": Decimal("-0.25")}.get(steps[0].test[0], Decimal("-0.5"))
 
@@ -258,15 +258,14 @@ class Sheet:
             self.named[expanded(name.strip(WHITE), element.scope)] = body
 
     def pattern(self, text, scope):
-        """The alternatives of a pattern with their default priorities. A lone test is one that `//` doesn't stand before."""
+        """The alternatives of a pattern with their default priorities."""
         reader = Paths(text, scope)
         found = []
         while True:
-            absolute, first = reader.peek() in ("/", "//"), reader.now
+            begin = reader.now
             steps = reader.pattern_alternative()
             if steps != "dropped":
-                has_brackets = "[" in reader.tokens[first : reader.now]
-                found.append((steps, Decimal("0.5") if absolute else default_priority(steps, has_brackets)))
+                found.append((steps, default_priority(steps, reader.tokens[begin : reader.now])))
             if not reader.takes("|"):
                 return found
 
