@@ -110,7 +110,8 @@ def main():
         lines[source] = [sum(name in seen.get("code", ()) for name in names) for seen in reached.values()]
         listed = ", ".join(f"`{name.split('.')[-1]}`" for name in names)
         rows.insert(0, f"| [constants](../{source}) | The numbers that these definitions name: {listed} | {cells(lines[source])} |")
-    counts = [f"{sum(1 for each in lines.values() if each[c])} modules, {sum(each[c] for each in lines.values())} lines" for c in range(len(clauses))]
+    sums = [(sum(1 for each in lines.values() if each[c]), sum(each[c] for each in lines.values())) for c in range(len(clauses))]
+    counts = [f"{modules} modules, {total} lines" for modules, total in sums]
     code = sorted({name.replace(".specs.declared", "") for seen in reached.values() for name in seen.get("code", ()) if name.split(".")[-1] == name.split(".")[-2]})
     std = sorted({name.split(".")[-1] for seen in reached.values() for name in seen.get("std", ())})
     head = ["clause of `typecheck`", *(f"`{c}`" for c in clauses)]
@@ -118,8 +119,8 @@ def main():
     Path("docs/TRUST.md").write_text(TEXT.format(table="\n".join(table), code=", ".join(f"`{c}`" for c in code), std=", ".join(f"`{s}`" for s in std)))
 
     readme = Path("README.md").read_text()
-    for clause, count in zip(clauses, counts):
-        readme = re.sub(rf"(`{clause}` )\d+ modules, \d+ lines", rf"\g<1>{count}", readme)
+    for clause, (modules, total) in zip(clauses, sums):
+        readme = re.sub(rf"(`{clause}` )\d+, \d+", rf"\g<1>{modules}, {total}", readme)
     Path("README.md").write_text(readme)
 
 
@@ -140,7 +141,7 @@ The modules stand in reading order, each after those on which it stands. The num
 - **The ghost functions of the traits `Store` and `Sink`** (`crates/tc_io/src/lib.rt`), as `holds` and `written`: what a store holds and a sink was given, where it tells. The store and the sink of memory tell it, and it is proved of them. A file system and a terminal can't tell it: that `RealStore` reads what a file holds, and that the bytes given to `RealSink` come out, is tested, not proved.
 - **The toolchain**: that its check accepts no wrong proof, and that the program which it builds does what the checked code says.
 - **The C library and the operating system**, and the statements of the kit's crates that the program stands on (`std`, `bumpalo`, `indexmap`, `memchr`, `simdutf8`, `itoa`): their own proofs are the toolchain's.
-- **`main`** of `crates/typecheck`: that it hands the arguments, the files of the system and the standard output to `run_program` of `tc_top`, and the code that this gives to the system. By its clause `ends`, `run_program` carries out the words behind the program's name as `typecheck` does. What no clause says: how long an answer takes, and that memory suffices.
+- **`main`** of `crates/typecheck`: that it hands the arguments, the files of the system and the standard output to `run_program` of `tc_top`, and the code that this gives to the system. By its clause `ends`, `run_program` carries out the words behind the program's name as `typecheck` does.
 """
 
 main()
