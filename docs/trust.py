@@ -1,14 +1,29 @@
 #!/usr/bin/env python3
-"""Writes docs/TRUST.md, and its sums into README.md: which definitions the main clauses of `typecheck` reach by `use`
-lines. Run it at the top."""
+"""Writes docs/TRUST.md, and its sums into README.md: which definitions the clauses of the theorem reach by `use` lines. Run it
+at the top. `docs/trust.py CLAUSE` prints what to read for one clause, and `docs/trust.py CLAUSE text` the definitions."""
 import re
+import sys
 from functools import cache
 from pathlib import Path
+from string import Template
 
-TOP = Path("crates/tc_top/src/lib.rt")
-CLAUSE = r"    ensures (safe|shown|headline|proved|accepted_safe|verified|upgraded|inclusion|validity|running|limited) \{(.*?)(?=\n    ensures|\n\n|\n\{)"
+CODE = ("crates/tc_top/src/lib.rt", "crates/tc_top/src/program.rt", "crates/tc_top/src/laws.rt")
+FUNCTION = re.compile(r"^pub fn (\w+).*?\n\{", re.M | re.S)
+CLAUSE = re.compile(r"    ensures (\w*) ?\{(.*?)\}\n", re.S)
+GROUPS = {
+    "safety": "safe accepted_safe demo_safe",
+    "counterexamples": "shown demo_shown",
+    "decisions": "headline demonstrated",
+    "certificates": "proved verified upgraded law_of_proofs",
+    "comparisons": "inclusion equality",
+    "documents": "validity running limited",
+    "answers": "",  # all others
+}
+FIRST = [f"tc_model.specs.{name}" for name in "Safety Validity Matching Grammars Trees Names Sheets Chains Paths Outcomes Meaning".split()]
+FIRST.insert(0, "tc_top.specs.Headline")
+USE = re.compile(r"^(?:ghost )?use Rattle\.([\w.]+?)(?: as (\w+)|\.\{(.*)\});?$", re.M)
 WORD = re.compile(r"(?:\w+\.)*[\w-]+(?![\w-]| =)")
-ITEM = re.compile(r"\s*(?:abbrev )?(?:pub )?(data |record )?([\w-]+)(?: \(.*\)| \{.*\})* : ")
+ITEM = re.compile(r"\s*((?:abbrev )?(?:pub )?)(data |record )?([\w-]+)(?: \(.*\)| \{.*\})* : ")
 
 
 def file_of(module):
@@ -19,7 +34,7 @@ def file_of(module):
 def uses(text):
     """What each word of a file means, by its `use` lines: a module, or a module and a name of it."""
     names = {}
-    for module, alias, listed in re.findall(r"^(?:ghost )?use Rattle\.([\w.]+?)(?: as (\w+)|\.\{(.*)\});?$", text, re.M):
+    for module, alias, listed in USE.findall(text):
         for name in listed.split(", ") if listed else []:
             names[name.split(" as ")[-1].strip()] = (module, name.split(" as ")[0].strip())
         if alias:
@@ -27,21 +42,28 @@ def uses(text):
     return names
 
 
+class Block:
+    """Definitions between blank lines: the names that they define, of which `titles` aren't constructors, their words and lines."""
+
+    def __init__(self, text):
+        self.text = text.strip("\n")
+        plain = re.sub(r'--.*|"[^"]*"', "", text)
+        self.words, self.lines = WORD.findall(plain), sum(1 for line in plain.split("\n") if line.strip())
+        self.names, self.titles, inside = set(), [], ""
+        for item in filter(None, map(ITEM.match, plain.split("\n"))):
+            mark, kind, name = item.groups()
+            if kind or inside != "record ":
+                self.names.add(name)
+                if kind or mark or inside != "data ":
+                    self.titles.append(name)
+                    inside = kind or ""
+
+
 @cache
 def parse(module):
-    """The `use` lines of a module, and of each block of definitions the names that it defines, its words and its lines."""
+    """The `use` lines of a module, and its blocks."""
     text = file_of(module).read_text()
-    plain = re.sub(r"^use .*\n", "", re.sub(r'--.*|"[^"]*"', "", text), flags=re.M)
-    blocks = []
-    for block in re.split(r"\n\s*\n(?=\S)", plain):
-        defined, in_record = set(), False
-        for line in block.split("\n"):
-            item = ITEM.match(line)
-            if item and (item[1] or not in_record):
-                defined.add(item[2])
-                in_record = item[1] == "record "
-        blocks.append((defined, WORD.findall(block), sum(map(bool, map(str.strip, block.split("\n"))))))
-    return uses(text), blocks
+    return uses(text), [Block(block) for block in re.split(r"\n\s*\n(?=\S)", re.sub(r"^use .*\n", "", text, flags=re.M))]
 
 
 def reach(module, words, names, seen):
@@ -54,26 +76,87 @@ def reach(module, words, names, seen):
                 seen.setdefault("code" if ".declared." in at else "std", set()).add(f"{at}.{name}".replace(".TheVariants", ""))
             continue
         inner, blocks = parse(at)
-        for number, (defined, used, _) in enumerate(blocks):
-            if name in defined and number not in seen.setdefault(at, set()):
+        for number, block in enumerate(blocks):
+            if name in block.names and number not in seen.setdefault(at, set()):
                 seen[at].add(number)
-                reach(at, used, inner, seen)
+                reach(at, block.words, inner, seen)
+
+
+def clauses():
+    """Each clause of the theorem, and what it reaches."""
+    found = {}
+    for text in (Path(file).read_text() for file in CODE):
+        for function in FUNCTION.finditer(text):
+            for clause, body in CLAUSE.findall(function[0]):
+                name = ".".join(filter(None, (function[1], clause))).removeprefix("typecheck.")
+                found[name] = {}
+                reach("tc_top", WORD.findall(body), uses(text), found[name])
+    return found
+
+
+def union(several):
+    """What several clauses reach together."""
+    whole = {}
+    for seen in several:
+        for module, marked in seen.items():
+            whole[module] = whole.get(module, set()) | marked
+    return whole
+
+
+def modules_of(seen):
+    return [module for module in seen if module not in ("code", "std")]
 
 
 def in_order(modules):
-    """Modules after those on which they stand."""
+    """Modules after those on which they stand, and else as they are reached."""
     order = []
 
     def visit(module):
-        for at, _ in parse(module)[0].values():
-            if at in modules and at not in order and at != module:
+        below = {at for at, _ in parse(module)[0].values()} - {module}
+        for at in modules:
+            if at in below and at not in order:
                 visit(at)
         if module not in order:
             order.append(module)
 
-    for module in sorted(modules):
+    for module in modules:
         visit(module)
     return order
+
+
+def parts(found):
+    """The one reading order, in its three parts."""
+    texts = [module for module in modules_of(found["safe"]) if module not in FIRST]
+    others = [module for module in modules_of(union(found.values())) if module not in FIRST + texts]
+    return {"Read these before all others": FIRST, "What texts and words mean": in_order(texts), "What the other clauses add": in_order(others)}
+
+
+def blocks_of(module, seen):
+    return [block for number, block in enumerate(parse(module)[1]) if number in seen.get(module, ())]
+
+
+def titles(module, seen):
+    return [title for block in blocks_of(module, seen) for title in block.titles]
+
+
+def lines(module, seen):
+    return sum(block.lines for block in blocks_of(module, seen))
+
+
+def size(seen):
+    """How many modules and lines: a file of constants is a module, each of them a line."""
+    numbers = [lines(module, seen) for module in modules_of(seen)] + list(map(len, constants(seen).values()))
+    return len(numbers), sum(numbers)
+
+
+def constants(seen):
+    """The constants that are reached, by the file of the code in which they stand."""
+    found = {}
+    for name in sorted(name for name in seen.get("code", ()) if ".TheConstants." in name):
+        crate, _, rest = name.partition(".specs.declared.")
+        file, _, constant = rest.partition(".TheConstants.")
+        found.setdefault(Path("crates", crate, "src", file.replace(".", "/") + ".rt"), []).append(constant)
+    return found
 
 
 def subject(module):
@@ -83,44 +166,58 @@ def subject(module):
     return re.split(r"(?<=[\w)\]`])\. (?=[A-Z])|: `", whole)[0].rstrip(".")
 
 
-def constants(reached):
-    """The constants that clauses reach, by the file of the code in which they stand."""
-    found = {}
-    for name in sorted({name for seen in reached.values() for name in seen.get("code", ()) if ".TheConstants." in name}):
-        crate, _, rest = name.partition(".specs.declared.")
-        found.setdefault(Path("crates", crate, "src", rest.split(".TheConstants.")[0].replace(".", "/") + ".rt"), []).append(name)
-    return found
+def quoted(names):
+    return ", ".join(f"`{name}`" for name in names)
 
 
-def cells(numbers):
-    return " | ".join(str(n or "") for n in numbers)
+def table(head, rows):
+    """A table, whose columns of numbers are those from the third on."""
+    return "\n".join("| " + " | ".join(map(str, row)) + " |" for row in [head, ["---", "---"] + ["---:"] * (len(head) - 2), *rows])
 
 
-def main():
-    text = TOP.read_text()
-    reached = {}
-    for clause, body in re.findall(CLAUSE, text, re.S):
-        reached[clause] = {}
-        reach("tc_top", WORD.findall(body), uses(text), reached[clause])
-    clauses = list(reached)
-    modules = in_order({m for seen in reached.values() for m in seen if m not in ("code", "std")})
-    lines = {m: [sum(parse(m)[1][i][2] for i in seen.get(m, ())) for seen in reached.values()] for m in modules}
-    rows = [f"| [`{m.replace('.specs.', '.')}`](../{file_of(m)}) | {subject(m)} | {cells(lines[m])} |" for m in modules]
-    for source, names in constants(reached).items():
-        lines[source] = [sum(name in seen.get("code", ()) for name in names) for seen in reached.values()]
-        listed = ", ".join(f"`{name.split('.')[-1]}`" for name in names)
-        rows.insert(0, f"| [constants](../{source}) | The numbers that these definitions name: {listed} | {cells(lines[source])} |")
-    sums = [(sum(1 for each in lines.values() if each[c]), sum(each[c] for each in lines.values())) for c in range(len(clauses))]
-    counts = [f"{modules} modules, {total} lines" for modules, total in sums]
-    code = sorted({name.replace(".specs.declared", "") for seen in reached.values() for name in seen.get("code", ()) if name.split(".")[-1] == name.split(".")[-2]})
-    std = sorted({name.split(".")[-1] for seen in reached.values() for name in seen.get("std", ())})
-    head = ["clause of `typecheck`", *(f"`{c}`" for c in clauses)]
-    table = ["| module | what it says | " + " | ".join(head[1:]) + " |", "|---" * 2 + "|---:" * len(clauses) + "|", *rows, "| **all** | | " + " | ".join(counts) + " |"]
-    Path("docs/TRUST.md").write_text(TEXT.format(table="\n".join(table), code=", ".join(f"`{c}`" for c in code), std=", ".join(f"`{s}`" for s in std)))
+def link(module):
+    return f"[`{module.replace('.specs.', '.')}`](../{file_of(module)})"
 
+
+def print_list(clause, seen, order, whole):
+    count, total = size(seen)
+    print(f"`{clause}`: {count} modules, {total} lines")
+    for part, modules in order.items():
+        print(f"\n-- {part}")
+        for module in filter(seen.get, modules):
+            print(f"{file_of(module)}, {lines(module, seen)}: {' '.join(titles(module, seen))}")
+            for block in blocks_of(module, seen) if whole else ():
+                print(f"\n{block.text}")
+    for file, names in constants(seen).items():
+        print(f"{file}, {len(names)}: {' '.join(names)}")
+
+
+def write(found, order):
+    named = {clause: group for group, listed in GROUPS.items() for clause in listed.split()}
+    members = {group: [clause for clause in found if named.get(clause, "answers") == group] for group in GROUPS}
+    groups = {group: union(found[clause] for clause in listed) for group, listed in members.items()}
+    whole = union(found.values())
+
+    def sized(seen):
+        return "{}, {}".format(*size(seen))
+
+    def reading(modules):
+        return table(["module", "what it says", *GROUPS], [[link(m), subject(m), *(lines(m, seen) or "" for seen in groups.values())] for m in modules])
+
+    first = [[link(m), subject(m), lines(m, found["safe"]), quoted(titles(m, found["safe"]))] for m in FIRST]
+    numbers = [[f"[`{file}`](../{file})", quoted(names), *(len(constants(seen).get(file, ())) or "" for seen in groups.values())] for file, names in constants(whole).items()]
+    columns = [[group, "; ".join(f"`{clause}` {sized(found[clause])}" for clause in listed), sized(groups[group])] for group, listed in members.items()]
+    code = sorted({name.replace(".specs.declared", "") for name in whole["code"] if name.split(".")[-1] == name.split(".")[-2]})
+    texts, others = list(order.values())[1:]
+    Path("docs/TRUST.md").write_text(Template(TEXT).substitute(
+        safe=re.search(r"    ensures safe \{ (.*?) \}\n", Path(CODE[0]).read_text(), re.S)[1].replace("\n        ", "\n    "),
+        total=sum(row[2] for row in first), most=size(found["safe"])[1], first=table(["module", "what it says", "lines", "what `safe` reaches"], first),
+        columns=table(["column", "clauses, each with its modules and lines", "together"], columns),
+        texts=reading(texts), others=reading(others), constants=table(["file", "constants", *GROUPS], numbers),
+        std=quoted(sorted({name.split(".")[-1] for name in whole["std"]})), code=quoted(code)))
     readme = Path("README.md").read_text()
-    for clause, (modules, total) in zip(clauses, sums):
-        readme = re.sub(rf"(`{clause}` )\d+, \d+", rf"\g<1>{modules}, {total}", readme)
+    for clause, seen in found.items():
+        readme = re.sub(rf"(`{clause}` )\d+, \d+", rf"\g<1>{sized(seen)}", readme)
     Path("README.md").write_text(readme)
 
 
@@ -128,20 +225,93 @@ TEXT = """# What a reader has to believe
 
 This page is written by `docs/trust.py`; don't edit it.
 
-The theorem is the contract of `typecheck` in `crates/tc_top/src/lib.rt`. Each clause there is a statement in words of the modules below. Whoever has read these definitions, and finds that they say what the standards say, has read all of the project's own text on which the clause rests: code, proofs and the other clauses are checked against them by machine.
+The theorem is the contract of `typecheck` in [`crates/tc_top/src/lib.rt`](../crates/tc_top/src/lib.rt), which the program reaches through `run_program` ([`program.rt`](../crates/tc_top/src/program.rt)); two laws of its answers stand in [`laws.rt`](../crates/tc_top/src/laws.rt). Each clause there is a statement in words of the modules below. Whoever has read the definitions that a clause reaches, and finds that they say what the standards say, has read all of the project's own text on which it rests: code, proofs and the other clauses are checked against them by machine.
 
-The modules stand in reading order, each after those on which it stands. The numbers are lines of definitions that the clause reaches, blank lines and comments left out; what a module holds beside them the clause doesn't cite.
+**Begin with `safe`**: the clause itself, then the modules of the first table from the top down. They carry the meaning, in $total of the $most lines of `safe`: valid documents first (down to trees), then stylesheets (up to what one puts out on a node). The second table says what the texts mean that the clause speaks of. In it and in the third each module stands after those on which it stands. This is the one reading order of the repository, and
 
-{table}
+```sh
+python3 docs/trust.py safe        # prints it for one clause: each module, its lines, and the definitions that are reached
+python3 docs/trust.py safe text   # prints the definitions themselves
+```
+
+Lines are those of definitions that are reached, by whole blocks between blank lines; `use` lines, blank lines and comments aren't counted. What a module holds beside them the clause doesn't cite.
+
+## Read these before all others
+
+$first
+
+## How a clause is read
+
+| written | read |
+| --- | --- |
+| `requires { P }`, `ensures NAME { P }` | P must hold before each call; then P holds after it. What is named above has no `requires`: its clauses hold of all calls. `result` is what the function returns. |
+| `words.now`; `store.old`, `store.new` | what a `&` points to; what a `&mut` points to as the call begins, and at its end. In lower crates also `x.entry`: a parameter as it was passed. |
+| `S.holds store.old` | of the type `S` of the store, a `ghost` function of its trait: what is marked `ghost` stands in contracts and proofs, never in the program. |
+| `f x y`; `λ x. e`; `r.name`, `r.0` | f of x and y; the function that gives e for each x; a part of r |
+| `(x : A) → P`, `{x : A} → P`; `P → Q` | P for every x of A, which in braces is told by the rest; if P, then Q |
+| `(x : A) × P`; `P × Q`; `P ⊎ Q`; `P ↔ Q` | P for some x of A; P and Q; P or Q; P exactly where Q |
+| `x ≡ y`, `x ≢ y`; `¬ P`; `⊥`; `Unit {0}` | equal, unequal; not P; what never holds; what always does |
+| `IfOk r (λ v. P)`, `OnOk r P`; `IfErr`, `OnErr`; `IfSome` | where r is `Ok v`, P of this v; where r is an `Ok`, P; so for `Err` and `Some`. Of the other variant nothing is said. |
+| `ℕ`; `List ℕ`; `codes "ab"`; `IsTrue b` | a number from 0; a text, by its bytes; the bytes of this text; the truth value b is true |
+| `Type 0` | the type of statements and of plain types: who has the type `A → Type 0` is a property of what is in A. |
+| `abbrev f : A` and lines `f x = ..` | f stands for the right side; of several lines the first that fits counts. |
+| `record R (x : A) .. where`, with fields | the statement that all its fields hold, of which later ones may speak of earlier ones; or a type of values with these parts |
+| `data D (x : A) .. where`, with constructors | the statement that holds where a constructor gives it, in finitely many steps, and nowhere else; or a type with these variants |
+| `module _ (i o : Grammar) where` | what is indented below has these parameters first. |
+| `use M.{a, b as c}`; `use M as m` | a and b of the file M, b by the name c; all of it, as `m.a` |
+
+The language is described in the toolchain's guides: `rt doc` prints the path of their first page; beside it, in `rattle`, `CONTRACTS.md` ("Clauses") tells what a contract may say, `ANTT.md` and `antt/docs/primer-language.md` the language of definitions. `core/specs` and `std/specs` there define the words of the library.
+
+So the clause `safe`,
+
+    $safe
+
+says: *let files be any that a store may hold, `limit` a number or none, i and o schemas, and s a stylesheet.* `S.holds store.old ≡ Some files`: *if the store, as the call begins, tells that it holds these files*, `ChecksFiles ..`: *and the words are `check IN OUT SHEET`, with or without a limit, of three files among them, whose bytes spell i, o and s*, `result ≡ Status.Yes`: *and the call answers Yes*, `IsSafe i o s`: *then s is safe, which is that every document that is valid for i has a result under s, and this result is valid for o.*
+
+## The clauses
+
+Each has its column in the tables below; a number there is that of the lines which some clause of the column reaches. `unwritten`, `held`, `store_count` and `sink_count` reach no definition but those of types and traits in the code.
+
+$columns
+
+## What texts and words mean
+
+What `safe` reaches beside the first table: words of the command line, schemas, documents and stylesheets as bytes.
+
+$texts
+
+**A schema given as `dtd:ROOT:NAME`** is by `safe` the grammar of the declarations (`IsGrammarOfDtd` in `tc_dtd.DtdGrammar`), which is this project's choice among many. What XML 1.0 says of validity (3, Element Valid; 3.2) stands in [`tc_dtd.DtdValidity`](../crates/tc_dtd/specs/DtdValidity.antt), `IsDtdValid`. That the same documents are valid by both is proved in `tc_dtd`, of each grammar that `IsGrammarOfDtd` tells of (`law_of_validity`), and is the clause `valid` of `grammar` ([`src/schema.rt`](../crates/tc_dtd/src/schema.rt)). Whoever reads `DtdValidity` needn't read `DtdGrammar`.
+
+## What the other clauses add
+
+$others
+
+Numbers that these definitions take from the code:
+
+$constants
 
 ## What is trusted beside them
 
-- **The words of the standard library** that these definitions use, as the toolchain defines them (`std/specs`): {std}.
-- **The types of the code** whose values the clauses name: {code}.
-- **The ghost functions of the traits `Store` and `Sink`** (`crates/tc_io/src/lib.rt`), as `holds` and `written`: what a store holds and a sink was given, where it tells. The store and the sink of memory tell it, and it is proved of them. A file system and a terminal can't tell it: that `RealStore` reads what a file holds, and that the bytes given to `RealSink` come out, is tested, not proved.
+- **The words of the standard library** that these definitions use, as the toolchain defines them: $std.
+- **The types of the code** whose values the clauses name: $code.
+- **The ghost functions of the traits `Store` and `Sink`** ([`crates/tc_io/src/lib.rt`](../crates/tc_io/src/lib.rt)), as `holds` and `written`: what a store holds and a sink was given, where it tells. The store and the sink of memory tell it, and it is proved of them.
+- **The real store and sink.** A file system and a terminal can't tell what they hold: `RealStore` and `RealSink` say `None` ([`real.rt`](../crates/tc_io/src/real.rt)). So of the program on real files each clause that begins with `S.holds store.old ≡ Some files` promises nothing, and none says which bytes are written. There `ends` holds: the call made reads, each with what came of it, and its status is that of an answer which has its cause in the words and in the bytes that came; the answer Yes to a check has the cause that the stylesheet is safe which these bytes spell. That they are the bytes of the files, and that the answer's bytes come out, is trusted and tested. The code is one for all stores and sinks.
 - **The toolchain**: that its check accepts no wrong proof, and that the program which it builds does what the checked code says.
 - **The C library and the operating system**, and the statements of the kit's crates that the program stands on (`std`, `bumpalo`, `indexmap`, `memchr`, `simdutf8`, `itoa`): their own proofs are the toolchain's.
 - **`main`** of `crates/typecheck`: that it hands the arguments, the files of the system and the standard output to `run_program` of `tc_top`, and the code that this gives to the system. By its clause `ends`, `run_program` carries out the words behind the program's name as `typecheck` does.
 """
+
+
+def main():
+    found = clauses()
+    order = parts(found)
+    match sys.argv[1:]:
+        case []:
+            write(found, order)
+        case [clause, *rest] if clause in found and rest in ([], ["text"]):
+            print_list(clause, found[clause], order, rest == ["text"])
+        case _:
+            sys.exit("docs/trust.py [CLAUSE [text]], where CLAUSE is one of " + ", ".join(found))
+
 
 main()
