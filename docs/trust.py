@@ -21,6 +21,7 @@ GROUPS = {
 }
 FIRST = [f"tc_model.specs.{name}" for name in "Safety Validity Matching Grammars Trees Names Sheets Chains Paths Outcomes Meaning".split()]
 FIRST.insert(0, "tc_top.specs.Headline")
+TEXTS, OTHERS = "What texts and words mean", "What the other clauses add"
 USE = re.compile(r"^(?:ghost )?use Rattle\.([\w.]+?)(?: as (\w+)|\.\{(.*)\});?$", re.M)
 WORD = re.compile(r"(?:\w+\.)*[\w-]+(?![\w-]| =)")
 ITEM = re.compile(r"\s*((?:abbrev )?(?:pub )?)(data |record )?([\w-]+)(?: \(.*\)| \{.*\})* : ")
@@ -67,13 +68,13 @@ def parse(module):
 
 
 def reach(module, words, names, seen):
-    """Marks the blocks that words reach."""
+    """Marks the blocks that words reach, by module; below "" the names of the code and of the library."""
     for word in words:
         front, _, last = word.rpartition(".")
         at, name = (names[front][0], last) if names.get(front, (0, 0))[1] is None and front in names else names.get(word, (module, word))
         if not file_of(at).exists():
             if name and at != module:
-                seen.setdefault("code" if ".declared." in at else "std", set()).add(f"{at}.{name}".replace(".TheVariants", ""))
+                seen.setdefault("", set()).add(f"{at}.{name}".replace(".TheVariants", ""))
             continue
         inner, blocks = parse(at)
         for number, block in enumerate(blocks):
@@ -103,10 +104,6 @@ def union(several):
     return whole
 
 
-def modules_of(seen):
-    return [module for module in seen if module not in ("code", "std")]
-
-
 def in_order(modules):
     """Modules after those on which they stand, and else as they are reached."""
     order = []
@@ -126,37 +123,37 @@ def in_order(modules):
 
 def parts(found):
     """The one reading order, in its three parts."""
-    texts = [module for module in modules_of(found["safe"]) if module not in FIRST]
-    others = [module for module in modules_of(union(found.values())) if module not in FIRST + texts]
-    return {"Read these before all others": FIRST, "What texts and words mean": in_order(texts), "What the other clauses add": in_order(others)}
+    texts = [module for module in found["safe"] if module not in ["", *FIRST]]
+    others = [module for module in union(found.values()) if module not in ["", *FIRST, *texts]]
+    return {"Read these before all others": FIRST, TEXTS: in_order(texts), OTHERS: in_order(others)}
 
 
-def blocks_of(module, seen):
+def reached(module, seen):
     return [block for number, block in enumerate(parse(module)[1]) if number in seen.get(module, ())]
 
 
 def titles(module, seen):
-    return [title for block in blocks_of(module, seen) for title in block.titles]
+    return [title for block in reached(module, seen) for title in block.titles]
 
 
 def lines(module, seen):
-    return sum(block.lines for block in blocks_of(module, seen))
-
-
-def size(seen):
-    """How many modules and lines: a file of constants is a module, each of them a line."""
-    numbers = [lines(module, seen) for module in modules_of(seen)] + list(map(len, constants(seen).values()))
-    return len(numbers), sum(numbers)
+    return sum(block.lines for block in reached(module, seen))
 
 
 def constants(seen):
     """The constants that are reached, by the file of the code in which they stand."""
     found = {}
-    for name in sorted(name for name in seen.get("code", ()) if ".TheConstants." in name):
+    for name in sorted(name for name in seen.get("", ()) if ".TheConstants." in name):
         crate, _, rest = name.partition(".specs.declared.")
         file, _, constant = rest.partition(".TheConstants.")
         found.setdefault(Path("crates", crate, "src", file.replace(".", "/") + ".rt"), []).append(constant)
     return found
+
+
+def size(seen):
+    """How many modules and lines: a file of constants is a module, each of them a line."""
+    numbers = [lines(module, seen) for module in seen if module] + [len(names) for names in constants(seen).values()]
+    return f"{len(numbers)}, {sum(numbers)}"
 
 
 def subject(module):
@@ -170,24 +167,24 @@ def quoted(names):
     return ", ".join(f"`{name}`" for name in names)
 
 
-def table(head, rows):
-    """A table, whose columns of numbers are those from the third on."""
-    return "\n".join("| " + " | ".join(map(str, row)) + " |" for row in [head, ["---", "---"] + ["---:"] * (len(head) - 2), *rows])
-
-
 def link(module):
     return f"[`{module.replace('.specs.', '.')}`](../{file_of(module)})"
 
 
+def table(head, rows):
+    """A table, whose columns of numbers stand to the right."""
+    marks = ["---:" if any(isinstance(row[column], int) for row in rows) else "---" for column in range(len(head))]
+    return "\n".join("| " + " | ".join(map(str, row)) + " |" for row in [head, marks, *rows])
+
+
 def print_list(clause, seen, order, whole):
-    count, total = size(seen)
-    print(f"`{clause}`: {count} modules, {total} lines")
+    print(f"`{clause}` (modules, lines): {size(seen)}")
     for part, modules in order.items():
-        print(f"\n-- {part}")
+        print(f"\n{part}:")
         for module in filter(seen.get, modules):
             print(f"{file_of(module)}, {lines(module, seen)}: {' '.join(titles(module, seen))}")
-            for block in blocks_of(module, seen) if whole else ():
-                print(f"\n{block.text}")
+            if whole:
+                print("", *(block.text for block in reached(module, seen)), "", sep="\n\n")
     for file, names in constants(seen).items():
         print(f"{file}, {len(names)}: {' '.join(names)}")
 
@@ -196,30 +193,36 @@ def write(found, order):
     named = {clause: group for group, listed in GROUPS.items() for clause in listed.split()}
     members = {group: [clause for clause in found if named.get(clause, "answers") == group] for group in GROUPS}
     groups = {group: union(found[clause] for clause in listed) for group, listed in members.items()}
-    whole = union(found.values())
+    whole, safe = union(found.values()), found["safe"]
 
-    def sized(seen):
-        return "{}, {}".format(*size(seen))
+    def reading(part):
+        return table(["module", "what it says", *GROUPS], [[link(m), subject(m), *(lines(m, seen) or "" for seen in groups.values())] for m in order[part]])
 
-    def reading(modules):
-        return table(["module", "what it says", *GROUPS], [[link(m), subject(m), *(lines(m, seen) or "" for seen in groups.values())] for m in modules])
-
-    first = [[link(m), subject(m), lines(m, found["safe"]), quoted(titles(m, found["safe"]))] for m in FIRST]
+    first = [[link(m), subject(m), lines(m, safe), quoted(titles(m, safe))] for m in FIRST]
+    columns = [[group, "; ".join(f"`{clause}` {size(found[clause])}" for clause in listed), size(groups[group])] for group, listed in members.items()]
     numbers = [[f"[`{file}`](../{file})", quoted(names), *(len(constants(seen).get(file, ())) or "" for seen in groups.values())] for file, names in constants(whole).items()]
-    columns = [[group, "; ".join(f"`{clause}` {sized(found[clause])}" for clause in listed), sized(groups[group])] for group, listed in members.items()]
-    code = sorted({name.replace(".specs.declared", "") for name in whole["code"] if name.split(".")[-1] == name.split(".")[-2]})
-    texts, others = list(order.values())[1:]
+    pieces = re.search(r"    ensures safe \{(.*?)\}\n", Path(CODE[0]).read_text(), re.S)[1].split("→")
+    code = {name.replace(".specs.declared", "") for name in whole[""] if ".declared." in name and name.split(".")[-1] == name.split(".")[-2]}
     Path("docs/TRUST.md").write_text(Template(TEXT).substitute(
-        safe=re.search(r"    ensures safe \{ (.*?) \}\n", Path(CODE[0]).read_text(), re.S)[1].replace("\n        ", "\n    "),
-        total=sum(row[2] for row in first), most=size(found["safe"])[1], first=table(["module", "what it says", "lines", "what `safe` reaches"], first),
+        safe=table(["`safe`", "in words"], [[f"`{' '.join(piece.split())}`", words] for piece, words in zip(pieces, SAFE, strict=True)]),
+        carrying=sum(row[2] for row in first), most=size(safe).split()[1],
+        first=table(["module", "what it says", "lines", "what `safe` reaches"], first),
         columns=table(["column", "clauses, each with its modules and lines", "together"], columns),
-        texts=reading(texts), others=reading(others), constants=table(["file", "constants", *GROUPS], numbers),
-        std=quoted(sorted({name.split(".")[-1] for name in whole["std"]})), code=quoted(code)))
+        texts=reading(TEXTS), others=reading(OTHERS), constants=table(["file", "constants", *GROUPS], numbers), code=quoted(sorted(code)),
+        std=quoted(sorted({name.split(".")[-1] for name in whole[""] if ".declared." not in name}))))
     readme = Path("README.md").read_text()
     for clause, seen in found.items():
-        readme = re.sub(rf"(`{clause}` )\d+, \d+", rf"\g<1>{sized(seen)}", readme)
+        readme = re.sub(rf"(`{clause}` )\d+, \d+", rf"\g<1>{size(seen)}", readme)
     Path("README.md").write_text(readme)
 
+
+SAFE = (
+    "Whatever files, limit (or none), schemas i and o and stylesheet s one takes:",
+    "if the store tells, as the call begins, that these are the files that it holds,",
+    "and the words are `check IN OUT SHEET`, with this limit or without one, of three of the files, whose bytes spell i, o and s,",
+    "and the call answers Yes,",
+    "then s is safe: each document that is valid for i has a result by s, and this is valid for o.",
+)
 
 TEXT = """# What a reader has to believe
 
@@ -227,24 +230,26 @@ This page is written by `docs/trust.py`; don't edit it.
 
 The theorem is the contract of `typecheck` in [`crates/tc_top/src/lib.rt`](../crates/tc_top/src/lib.rt), which the program reaches through `run_program` ([`program.rt`](../crates/tc_top/src/program.rt)); two laws of its answers stand in [`laws.rt`](../crates/tc_top/src/laws.rt). Each clause there is a statement in words of the modules below. Whoever has read the definitions that a clause reaches, and finds that they say what the standards say, has read all of the project's own text on which it rests: code, proofs and the other clauses are checked against them by machine.
 
-**Begin with `safe`**: the clause itself, then the modules of the first table from the top down. They carry the meaning, in $total of the $most lines of `safe`: valid documents first (down to trees), then stylesheets (up to what one puts out on a node). The second table says what the texts mean that the clause speaks of. In it and in the third each module stands after those on which it stands. This is the one reading order of the repository, and
+**Begin with `safe`**: the clause itself, then the modules of the first table from the top down. They carry the meaning, in $carrying of the $most lines of `safe`: the statement, valid documents down to trees, and stylesheets from what is written up to what is put out on a node. The second table says what the texts mean that the clause speaks of, the third what the other clauses add; in both a module comes after those on which it stands. This is the one reading order of the repository, and
 
 ```sh
 python3 docs/trust.py safe        # prints it for one clause: each module, its lines, and the definitions that are reached
 python3 docs/trust.py safe text   # prints the definitions themselves
 ```
 
-Lines are those of definitions that are reached, by whole blocks between blank lines; `use` lines, blank lines and comments aren't counted. What a module holds beside them the clause doesn't cite.
+Lines are those of the definitions that are reached, by whole blocks between blank lines; `use` lines, blank lines and comments aren't counted. What a module holds beside them the clause doesn't cite.
 
 ## Read these before all others
 
 $first
 
+Of another clause the statement stands in `tc_top.Headline` too, or, of certificates, in `tc_top.CertifiedFiles`, of comparisons in `tc_top.ComparedFiles`, of all answers in `tc_top.Answers`, of the laws in `tc_top.OneAnswer`. Then come these modules, as far as the clause reaches them.
+
 ## How a clause is read
 
 | written | read |
 | --- | --- |
-| `requires { P }`, `ensures NAME { P }` | P must hold before each call; then P holds after it. What is named above has no `requires`: its clauses hold of all calls. `result` is what the function returns. |
+| `requires { P }`; `ensures NAME { P }` | P must hold before each call; P holds after each call. The contracts named above have no `requires`: their clauses hold of all calls. `result` is what the function returned. |
 | `words.now`; `store.old`, `store.new` | what a `&` points to; what a `&mut` points to as the call begins, and at its end. In lower crates also `x.entry`: a parameter as it was passed. |
 | `S.holds store.old` | of the type `S` of the store, a `ghost` function of its trait: what is marked `ghost` stands in contracts and proofs, never in the program. |
 | `f x y`; `λ x. e`; `r.name`, `r.0` | f of x and y; the function that gives e for each x; a part of r |
@@ -257,16 +262,14 @@ $first
 | `abbrev f : A` and lines `f x = ..` | f stands for the right side; of several lines the first that fits counts. |
 | `record R (x : A) .. where`, with fields | the statement that all its fields hold, of which later ones may speak of earlier ones; or a type of values with these parts |
 | `data D (x : A) .. where`, with constructors | the statement that holds where a constructor gives it, in finitely many steps, and nowhere else; or a type with these variants |
-| `module _ (i o : Grammar) where` | what is indented below has these parameters first. |
+| `module _ (i o : Grammar) where`; `mutual` | what is indented below has these parameters first; may speak of each other. |
 | `use M.{a, b as c}`; `use M as m` | a and b of the file M, b by the name c; all of it, as `m.a` |
 
 The language is described in the toolchain's guides: `rt doc` prints the path of their first page; beside it, in `rattle`, `CONTRACTS.md` ("Clauses") tells what a contract may say, `ANTT.md` and `antt/docs/primer-language.md` the language of definitions. `core/specs` and `std/specs` there define the words of the library.
 
-So the clause `safe`,
+So the clause `safe` is read piece by piece:
 
-    $safe
-
-says: *let files be any that a store may hold, `limit` a number or none, i and o schemas, and s a stylesheet.* `S.holds store.old ≡ Some files`: *if the store, as the call begins, tells that it holds these files*, `ChecksFiles ..`: *and the words are `check IN OUT SHEET`, with or without a limit, of three files among them, whose bytes spell i, o and s*, `result ≡ Status.Yes`: *and the call answers Yes*, `IsSafe i o s`: *then s is safe, which is that every document that is valid for i has a result under s, and this result is valid for o.*
+$safe
 
 ## The clauses
 
@@ -280,7 +283,7 @@ What `safe` reaches beside the first table: words of the command line, schemas, 
 
 $texts
 
-**A schema given as `dtd:ROOT:NAME`** is by `safe` the grammar of the declarations (`IsGrammarOfDtd` in `tc_dtd.DtdGrammar`), which is this project's choice among many. What XML 1.0 says of validity (3, Element Valid; 3.2) stands in [`tc_dtd.DtdValidity`](../crates/tc_dtd/specs/DtdValidity.antt), `IsDtdValid`. That the same documents are valid by both is proved in `tc_dtd`, of each grammar that `IsGrammarOfDtd` tells of (`law_of_validity`), and is the clause `valid` of `grammar` ([`src/schema.rt`](../crates/tc_dtd/src/schema.rt)). Whoever reads `DtdValidity` needn't read `DtdGrammar`.
+**A schema given as `dtd:ROOT:NAME`** is by `safe` the grammar of the declarations (`IsGrammarOfDtd` in `tc_dtd.DtdGrammar`), whose form is this project's choice. What XML 1.0 says of validity (3, Element Valid; 3.2) is `IsDtdValid` in [`tc_dtd.DtdValidity`](../crates/tc_dtd/specs/DtdValidity.antt), which no clause above reaches. That the same documents are valid by both is proved: the clause `valid` of `grammar` in [`crates/tc_dtd/src/schema.rt`](../crates/tc_dtd/src/schema.rt) says it of the grammar that is made, and rests on `law_of_validity`, which says it of each grammar that `IsGrammarOfDtd` tells of. So it is as good to read `DtdValidity` in place of `DtdGrammar`. It speaks of documents (`IsDocument`); of a result that is one, valid as an output (`IsValidOutput`) means the same as valid.
 
 ## What the other clauses add
 
@@ -295,7 +298,7 @@ $constants
 - **The words of the standard library** that these definitions use, as the toolchain defines them: $std.
 - **The types of the code** whose values the clauses name: $code.
 - **The ghost functions of the traits `Store` and `Sink`** ([`crates/tc_io/src/lib.rt`](../crates/tc_io/src/lib.rt)), as `holds` and `written`: what a store holds and a sink was given, where it tells. The store and the sink of memory tell it, and it is proved of them.
-- **The real store and sink.** A file system and a terminal can't tell what they hold: `RealStore` and `RealSink` say `None` ([`real.rt`](../crates/tc_io/src/real.rt)). So of the program on real files each clause that begins with `S.holds store.old ≡ Some files` promises nothing, and none says which bytes are written. There `ends` holds: the call made reads, each with what came of it, and its status is that of an answer which has its cause in the words and in the bytes that came; the answer Yes to a check has the cause that the stylesheet is safe which these bytes spell. That they are the bytes of the files, and that the answer's bytes come out, is trusted and tested. The code is one for all stores and sinks.
+- **The real store and sink.** A file system and a terminal can't tell what they hold: `RealStore` and `RealSink` say `None` ([`real.rt`](../crates/tc_io/src/real.rt)). So of the program on real files each clause that begins with `S.holds store.old ≡ Some files` promises nothing, and none says which bytes are written. There `ends` holds: the call made reads, each with what came of it, and its status is that of an answer which has its cause in the words and in the bytes that came, unless a write failed or memory was refused. Yes to a check has the cause that the stylesheet which these bytes spell is safe between the schemas which they spell. That they are the bytes of the files, and that the answer's bytes come out, is trusted and tested. The code is one for all stores and sinks.
 - **The toolchain**: that its check accepts no wrong proof, and that the program which it builds does what the checked code says.
 - **The C library and the operating system**, and the statements of the kit's crates that the program stands on (`std`, `bumpalo`, `indexmap`, `memchr`, `simdutf8`, `itoa`): their own proofs are the toolchain's.
 - **`main`** of `crates/typecheck`: that it hands the arguments, the files of the system and the standard output to `run_program` of `tc_top`, and the code that this gives to the system. By its clause `ends`, `run_program` carries out the words behind the program's name as `typecheck` does.
