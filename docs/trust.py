@@ -228,7 +228,7 @@ TEXT = """# What a reader has to believe
 
 This page is written by `docs/trust.py`; don't edit it.
 
-The theorem is the contract of `typecheck` in [`crates/tc_top/src/lib.rt`](../crates/tc_top/src/lib.rt), which the program reaches through `run_program` ([`program.rt`](../crates/tc_top/src/program.rt)); two laws of its answers stand in [`laws.rt`](../crates/tc_top/src/laws.rt). Each clause there is a statement in words of the modules below. Whoever has read the definitions that a clause reaches, and finds that they say what the standards say, has read all of the project's own text on which it rests: code, proofs and the other clauses are checked against them by machine.
+The theorem is the contract of `typecheck` in [`crates/tc_top/src/lib.rt`](../crates/tc_top/src/lib.rt), which the program reaches through `run_program` ([`program.rt`](../crates/tc_top/src/program.rt)); two laws of its answers stand in [`laws.rt`](../crates/tc_top/src/laws.rt). Each clause there is a statement in words of the modules below. Whoever has read the definitions that a clause reaches, and finds that they say what the standards say, has read all of the project's own text on which it rests: code, proofs and the other clauses are checked against them by machine. Clauses that speak of held files promise nothing of real ones, whose store tells none; of these `ends` speaks (at the end of this page).
 
 **Begin with `safe`**: the clause itself, then the modules of the first table from the top down. They carry the meaning, in $carrying of the $most lines of `safe`: the statement, valid documents down to trees, and stylesheets from what is written up to what is put out on a node. The second table says what the texts mean that the clause speaks of, the third what the other clauses add; in both a module comes after those on which it stands. This is the one reading order of the repository, and
 
@@ -249,20 +249,20 @@ Of another clause the statement stands in `tc_top.Headline` too, or, of certific
 
 | written | read |
 | --- | --- |
-| `requires { P }`; `ensures NAME { P }` | P must hold before each call; P holds after each call. The contracts named above have no `requires`: their clauses hold of all calls. `result` is what the function returned. |
-| `words.now`; `store.old`, `store.new` | what a `&` points to; what a `&mut` points to as the call begins, and at its end. In lower crates also `x.entry`: a parameter as it was passed. |
+| `requires { P }`; `ensures NAME { P }` | P must hold before each call; P holds after each call. The contracts named above have no `requires`: their clauses hold of all calls. `result` is what the function returned; a clause without a name is called *result* too. |
+| `words.now`; `store.old`, `store.new` | what a `&` points to; what a `&mut` points to as the call begins, and at its end. In lower crates also `x.entry`, a parameter as it was passed, and `x.items`, the list in a `Vec`. |
 | `S.holds store.old` | of the type `S` of the store, a `ghost` function of its trait: what is marked `ghost` stands in contracts and proofs, never in the program. |
 | `f x y`; `λ x. e`; `r.name`, `r.0` | f of x and y; the function that gives e for each x; a part of r |
 | `(x : A) → P`, `{x : A} → P`; `P → Q` | P for every x of A, which in braces is told by the rest; if P, then Q |
 | `(x : A) × P`; `P × Q`; `P ⊎ Q`; `P ↔ Q` | P for some x of A; P and Q; P or Q; P exactly where Q |
-| `x ≡ y`, `x ≢ y`; `¬ P`; `⊥`; `Unit {0}` | equal, unequal; not P; what never holds; what always does |
+| `x ≡ y`, `x ≢ y`; `¬ P`, `P → ⊥`; `⊥`; `Unit {0}` | equal, unequal; not P; what never holds; what always does |
 | `IfOk r (λ v. P)`, `OnOk r P`; `IfErr`, `OnErr`; `IfSome` | where r is `Ok v`, P of this v; where r is an `Ok`, P; so for `Err` and `Some`. Of the other variant nothing is said. |
-| `ℕ`; `List ℕ`; `codes "ab"`; `IsTrue b` | a number from 0; a text, by its bytes; the bytes of this text; the truth value b is true |
+| `ℕ`; `List ℕ`; `codes "ab"`; `[]`, `x ∷ xs`, `xs ++ ys`; `IsTrue b` | a number from 0; a text, by its bytes; the bytes of this text; the empty list, x before xs, ys behind xs; the truth value b is true |
 | `Type 0` | the type of statements and of plain types: who has the type `A → Type 0` is a property of what is in A. |
 | `abbrev f : A` and lines `f x = ..` | f stands for the right side; of several lines the first that fits counts. |
 | `record R (x : A) .. where`, with fields | the statement that all its fields hold, of which later ones may speak of earlier ones; or a type of values with these parts |
 | `data D (x : A) .. where`, with constructors | the statement that holds where a constructor gives it, in finitely many steps, and nowhere else; or a type with these variants |
-| `module _ (i o : Grammar) where`; `mutual` | what is indented below has these parameters first; may speak of each other. |
+| `module _ (i o : Grammar) where`; `mutual`; `pub` | what is indented below has these parameters first; may speak of each other; is seen in other files. |
 | `use M.{a, b as c}`; `use M as m` | a and b of the file M, b by the name c; all of it, as `m.a` |
 
 The language is described in the toolchain's guides: `rt doc` prints the path of their first page; beside it, in `rattle`, `CONTRACTS.md` ("Clauses") tells what a contract may say, `ANTT.md` and `antt/docs/primer-language.md` the language of definitions. `core/specs` and `std/specs` there define the words of the library.

@@ -224,9 +224,9 @@ class Paths:
         return ("has", self.select())
 
 
-def default_priority(steps):
-    """The priority of a relative pattern (XSLT 1.0, 5.5)."""
-    if len(steps) > 1 or steps[0].when != TRUE:
+def default_priority(steps, has_brackets):
+    """The priority of a relative pattern (XSLT 1.0, 5.5). Brackets count, whatever stands in them, `true()` too."""
+    if len(steps) > 1 or has_brackets:
         return Decimal("0.5")
     return {"name": Decimal(0), "ns": Decimal("-0.25")}.get(steps[0].test[0], Decimal("-0.5"))
 
@@ -262,10 +262,11 @@ class Sheet:
         reader = Paths(text, scope)
         found = []
         while True:
-            absolute = reader.peek() in ("/", "//")
+            absolute, first = reader.peek() in ("/", "//"), reader.now
             steps = reader.pattern_alternative()
             if steps != "dropped":
-                found.append((steps, Decimal("0.5") if absolute else default_priority(steps)))
+                has_brackets = "[" in reader.tokens[first : reader.now]
+                found.append((steps, Decimal("0.5") if absolute else default_priority(steps, has_brackets)))
             if not reader.takes("|"):
                 return found
 
