@@ -180,8 +180,9 @@ def table(head, rows):
 def print_list(clause, seen, order, whole):
     print(f"`{clause}` (modules, lines): {size(seen)}")
     for part, modules in order.items():
-        print(f"\n{part}:")
-        for module in filter(seen.get, modules):
+        here = list(filter(seen.get, modules))
+        print(f"\n{part}:" if here else "", end="\n" if here else "")
+        for module in here:
             print(f"{file_of(module)}, {lines(module, seen)}: {' '.join(titles(module, seen))}")
             if whole:
                 print("", *(block.text for block in reached(module, seen)), "", sep="\n\n")
