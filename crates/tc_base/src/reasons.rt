@@ -10,120 +10,120 @@ use crate::Place;
 ///
 /// 1 to 5 are constructs of a document, 6 to 17 of a schema in the compact syntax of RELAX NG
 /// (ISO/IEC 19757-2, Annex C), 18 to 42 of a stylesheet, 43 to 52 of its paths, patterns and tests, and 53 to 55
-/// of a document type definition.
+/// of a document type definition. Each is named by its construct, those that are elements of XSLT with `Xsl` before.
 #[derive(Clone, Copy, Debug, PartialEq, Eq, Hash)]
 pub enum Why {
     /// `doctype-subset`: a document type declaration with an internal subset (XML 1.0, 2.8).
-    N1 = 1,
+    DoctypeSubset = 1,
     /// `entity`: a reference to an entity other than `lt`, `gt`, `amp`, `apos` and `quot` (XML 1.0, 4.1).
-    N2,
+    EntityReference = 2,
     /// `encoding`: an encoding other than UTF-8 and US-ASCII (XML 1.0, 4.3.3).
-    N3,
+    Encoding = 3,
     /// `xml-space`: the attribute `xml:space` (XML 1.0, 2.10).
-    N4,
+    XmlSpace = 4,
     /// `xml-version`: a version other than 1.0 (XML 1.0, 2.8).
-    N5,
+    XmlVersion = 5,
     /// `data`: a datatype name, `string` or `token` as a pattern.
-    N6,
+    DataPattern = 6,
     /// `value`: a literal as a pattern.
-    N7,
+    ValuePattern = 7,
     /// `list`: a list pattern.
-    N8,
+    ListPattern = 8,
     /// `external`: a pattern that stands in another file.
-    N9,
+    ExternalPattern = 9,
     /// `include`: definitions that stand in another file.
-    N10,
+    Include = 10,
     /// `grammar`: a grammar that is not the whole file.
-    N11,
+    NestedGrammar = 11,
     /// `parent`: a reference to a definition of the grammar around this one.
-    N12,
+    ParentReference = 12,
     /// `inherit`: a namespace that is inherited from the including file.
-    N13,
+    InheritedNamespace = 13,
     /// `annotation`: an annotation, `[` or `>>`.
-    N14,
+    Annotation = 14,
     /// `escape`: a character given by its code, `\x{`.
-    N15,
+    Escape = 15,
     /// `triple-quote`: a literal in three quotes.
-    N16,
+    TripleQuote = 16,
     /// `concatenation`: literals joined by `~`.
-    N17,
+    Concatenation = 17,
     /// `variable`: `xsl:variable` (XSLT 1.0, 11).
-    N18,
+    XslVariable = 18,
     /// `param`: `xsl:param` (XSLT 1.0, 11).
-    N19,
+    XslParam = 19,
     /// `with-param`: `xsl:with-param` (XSLT 1.0, 11.6).
-    N20,
+    XslWithParam = 20,
     /// `import`: `xsl:import` (XSLT 1.0, 2.6.2).
-    N21,
+    XslImport = 21,
     /// `xsl-include`: `xsl:include` (XSLT 1.0, 2.6.1).
-    N22,
+    XslInclude = 22,
     /// `sort`: `xsl:sort` (XSLT 1.0, 10).
-    N23,
+    XslSort = 23,
     /// `number`: `xsl:number` (XSLT 1.0, 7.7).
-    N24,
+    XslNumber = 24,
     /// `key`: `xsl:key` (XSLT 1.0, 12.2).
-    N25,
+    XslKey = 25,
     /// `message`: `xsl:message` (XSLT 1.0, 13).
-    N26,
+    XslMessage = 26,
     /// `comment`: `xsl:comment` (XSLT 1.0, 7.4).
-    N27,
+    XslComment = 27,
     /// `processing-instruction`: `xsl:processing-instruction` (XSLT 1.0, 7.3).
-    N28,
+    XslProcessingInstruction = 28,
     /// `apply-imports`: `xsl:apply-imports` (XSLT 1.0, 5.6).
-    N29,
+    XslApplyImports = 29,
     /// `attribute-set`: `xsl:attribute-set` (XSLT 1.0, 7.1.4).
-    N30,
+    XslAttributeSet = 30,
     /// `namespace-alias`: `xsl:namespace-alias` (XSLT 1.0, 7.1.1).
-    N31,
+    XslNamespaceAlias = 31,
     /// `decimal-format`: `xsl:decimal-format` (XSLT 1.0, 12.3).
-    N32,
+    XslDecimalFormat = 32,
     /// `fallback`: `xsl:fallback` (XSLT 1.0, 15).
-    N33,
+    XslFallback = 33,
     /// `preserve-space`: `xsl:preserve-space` (XSLT 1.0, 3.4).
-    N34,
+    XslPreserveSpace = 34,
     /// `extension`: the attribute `extension-element-prefixes` of the root (XSLT 1.0, 14.1).
-    N35,
+    ExtensionElements = 35,
     /// `simplified`: a stylesheet that is one literal result element (XSLT 1.0, 2.3).
-    N36,
+    SimplifiedStylesheet = 36,
     /// `disable-output-escaping`: the attribute `disable-output-escaping` (XSLT 1.0, 16.4).
-    N37,
+    DisableOutputEscaping = 37,
     /// `computed-name`: a name of `xsl:element` with `{`, or its attribute `namespace` (XSLT 1.0, 7.1.2).
-    N38,
+    ComputedName = 38,
     /// `copy-of`: `xsl:copy-of` of anything but attributes (XSLT 1.0, 11.3).
-    N39,
+    XslCopyOf = 39,
     /// `use-attribute-sets`: the attribute `use-attribute-sets` (XSLT 1.0, 7.1.4).
-    N40,
+    UseAttributeSets = 40,
     /// `version`: a version other than 1.0 (XSLT 1.0, 2.2).
-    N41,
+    XsltVersion = 41,
     /// `unknown-xslt`: an unknown element or attribute of the XSLT namespace (XSLT 1.0, 2.1).
-    N42,
+    UnknownXslt = 42,
     /// `axis`: an axis other than `child` and `attribute`, `..` too (XPath 1.0, 2.2).
-    N43,
+    Axis = 43,
     /// `dot`: the node itself, `.`, as a step (XPath 1.0, 2.5).
-    N44,
+    Dot = 44,
     /// `absolute`: a path from the root (XPath 1.0, 2).
-    N45,
+    AbsolutePath = 45,
     /// `function`: a function (XPath 1.0, 3.2).
-    N46,
+    FunctionCall = 46,
     /// `comparison`: a comparison (XPath 1.0, 3.4).
-    N47,
+    Comparison = 47,
     /// `arithmetic`: a number or a calculation (XPath 1.0, 3.5).
-    N48,
+    Arithmetic = 48,
     /// `predicate`: a predicate of an attribute step, of `comment()`, of `processing-instruction()` or of `.`
     /// (XPath 1.0, 2.4).
-    N49,
+    Predicate = 49,
     /// `attribute`: an attribute in a test or a value (XPath 1.0, 2.2).
-    N50,
+    AttributeStep = 50,
     /// `variable-reference`: a reference to a variable (XPath 1.0, 3.1).
-    N51,
+    VariableReference = 51,
     /// `string`: a string literal (XPath 1.0, 3.7).
-    N52,
+    StringLiteral = 52,
     /// `parameter-entity`: a `%`, which declares or refers to a parameter entity (XML 1.0, 2.8 and 4.2).
-    N53,
+    ParameterEntity = 53,
     /// `conditional-section`: a section that is included or ignored, `<![` (XML 1.0, 3.4).
-    N54,
+    ConditionalSection = 54,
     /// `qualified-name`: a name of an element with a colon (Namespaces in XML 1.0, 4).
-    N55,
+    QualifiedElementName = 55,
 }
 
 impl Why {
@@ -143,61 +143,61 @@ impl Why {
         ensures unique { (other : Why) → word_of other ≡ result.now → other ≡ self }
     {
         match self {
-            Why::N1 => "doctype-subset",
-            Why::N2 => "entity",
-            Why::N3 => "encoding",
-            Why::N4 => "xml-space",
-            Why::N5 => "xml-version",
-            Why::N6 => "data",
-            Why::N7 => "value",
-            Why::N8 => "list",
-            Why::N9 => "external",
-            Why::N10 => "include",
-            Why::N11 => "grammar",
-            Why::N12 => "parent",
-            Why::N13 => "inherit",
-            Why::N14 => "annotation",
-            Why::N15 => "escape",
-            Why::N16 => "triple-quote",
-            Why::N17 => "concatenation",
-            Why::N18 => "variable",
-            Why::N19 => "param",
-            Why::N20 => "with-param",
-            Why::N21 => "import",
-            Why::N22 => "xsl-include",
-            Why::N23 => "sort",
-            Why::N24 => "number",
-            Why::N25 => "key",
-            Why::N26 => "message",
-            Why::N27 => "comment",
-            Why::N28 => "processing-instruction",
-            Why::N29 => "apply-imports",
-            Why::N30 => "attribute-set",
-            Why::N31 => "namespace-alias",
-            Why::N32 => "decimal-format",
-            Why::N33 => "fallback",
-            Why::N34 => "preserve-space",
-            Why::N35 => "extension",
-            Why::N36 => "simplified",
-            Why::N37 => "disable-output-escaping",
-            Why::N38 => "computed-name",
-            Why::N39 => "copy-of",
-            Why::N40 => "use-attribute-sets",
-            Why::N41 => "version",
-            Why::N42 => "unknown-xslt",
-            Why::N43 => "axis",
-            Why::N44 => "dot",
-            Why::N45 => "absolute",
-            Why::N46 => "function",
-            Why::N47 => "comparison",
-            Why::N48 => "arithmetic",
-            Why::N49 => "predicate",
-            Why::N50 => "attribute",
-            Why::N51 => "variable-reference",
-            Why::N52 => "string",
-            Why::N53 => "parameter-entity",
-            Why::N54 => "conditional-section",
-            Why::N55 => "qualified-name",
+            Why::DoctypeSubset => "doctype-subset",
+            Why::EntityReference => "entity",
+            Why::Encoding => "encoding",
+            Why::XmlSpace => "xml-space",
+            Why::XmlVersion => "xml-version",
+            Why::DataPattern => "data",
+            Why::ValuePattern => "value",
+            Why::ListPattern => "list",
+            Why::ExternalPattern => "external",
+            Why::Include => "include",
+            Why::NestedGrammar => "grammar",
+            Why::ParentReference => "parent",
+            Why::InheritedNamespace => "inherit",
+            Why::Annotation => "annotation",
+            Why::Escape => "escape",
+            Why::TripleQuote => "triple-quote",
+            Why::Concatenation => "concatenation",
+            Why::XslVariable => "variable",
+            Why::XslParam => "param",
+            Why::XslWithParam => "with-param",
+            Why::XslImport => "import",
+            Why::XslInclude => "xsl-include",
+            Why::XslSort => "sort",
+            Why::XslNumber => "number",
+            Why::XslKey => "key",
+            Why::XslMessage => "message",
+            Why::XslComment => "comment",
+            Why::XslProcessingInstruction => "processing-instruction",
+            Why::XslApplyImports => "apply-imports",
+            Why::XslAttributeSet => "attribute-set",
+            Why::XslNamespaceAlias => "namespace-alias",
+            Why::XslDecimalFormat => "decimal-format",
+            Why::XslFallback => "fallback",
+            Why::XslPreserveSpace => "preserve-space",
+            Why::ExtensionElements => "extension",
+            Why::SimplifiedStylesheet => "simplified",
+            Why::DisableOutputEscaping => "disable-output-escaping",
+            Why::ComputedName => "computed-name",
+            Why::XslCopyOf => "copy-of",
+            Why::UseAttributeSets => "use-attribute-sets",
+            Why::XsltVersion => "version",
+            Why::UnknownXslt => "unknown-xslt",
+            Why::Axis => "axis",
+            Why::Dot => "dot",
+            Why::AbsolutePath => "absolute",
+            Why::FunctionCall => "function",
+            Why::Comparison => "comparison",
+            Why::Arithmetic => "arithmetic",
+            Why::Predicate => "predicate",
+            Why::AttributeStep => "attribute",
+            Why::VariableReference => "variable-reference",
+            Why::StringLiteral => "string",
+            Why::ParameterEntity => "parameter-entity",
+            Why::ConditionalSection => "conditional-section",
+            Why::QualifiedElementName => "qualified-name",
         }
     }
 }

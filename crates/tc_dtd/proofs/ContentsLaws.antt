@@ -1,7 +1,7 @@
 -- What the steps of reading names and contents show of the whole.
 use Rattle.std.proofs.Common.{◌≡◌, ◌≢◌, ◌⊎◌, inl, inr, ℕ, suc, ◌-◌, ◌<◌, List, [], ◌∷◌, ◌++◌, refl, ap, ◌∙◌, sym, subst, length, arith, codes, Bor}
 use Rattle.std.proofs.lemmas.List.{append_cancel_left}
-use Rattle.tc_base.specs.declared.reasons.Why.TheVariants.{N53, N55}
+use Rattle.tc_base.specs.declared.reasons.Why.TheVariants.{ParameterEntity, QualifiedElementName}
 use Rattle.tc_model.specs.XmlTextBytes.{BeginsWithWhite, after_white}
 use Rattle.tc_model.specs.XmlTextNames.{NcNameAt}
 use Rattle.tc_model.specs.XmlTextRefusals.{Cause, unsupported, too_deep}
@@ -30,7 +30,7 @@ no_space bs e h = unexpected_stops (SpaceAt bs) bs e none (λ r f. t.reference f
     none k o (white w) = h w
     none k o (t.reference {r = r} f) = k r f
 
-pub a_colon : (bs r : List ℕ) → bs ≡ 0x3A ∷ r → (at : List ℕ) × (length bs ≡ length at) × NameAt bs (refused (unsupported N55) at)
+pub a_colon : (bs r : List ℕ) → bs ≡ 0x3A ∷ r → (at : List ℕ) × (length bs ≡ length at) × NameAt bs (refused (unsupported QualifiedElementName) at)
 a_colon bs r e = (bs, refl, colon e)
 
 pub no_name_stops : (bs : List ℕ) (e : Stop) → ((n after : List ℕ) → NcNameAt bs n after → ⊥) → ((r : List ℕ) → bs ≡ 0x3A ∷ r → ⊥) → IsUnexpected bs e → Stops e (NameAt bs)
@@ -42,7 +42,7 @@ no_name_stops bs e h c = unexpected_stops (NameAt bs) bs e none (λ r f. t.refer
     none k o (colon {r = r} f) = c r f
     none k o (t.reference {r = r} f) = k r f
 
-pub a_prefix : (bs n rest r : List ℕ) → NcNameAt bs n rest → rest ≡ 0x3A ∷ r → (at : List ℕ) × (length rest ≡ length at) × NameAt bs (refused (unsupported N55) at)
+pub a_prefix : (bs n rest r : List ℕ) → NcNameAt bs n rest → rest ≡ 0x3A ∷ r → (at : List ℕ) × (length rest ≡ length at) × NameAt bs (refused (unsupported QualifiedElementName) at)
 a_prefix bs n rest r a e = (0x3A ∷ r, ap length e, prefix (subst (NcNameAt bs n) e a))
 
 pub this_name : (bs n m rest : List ℕ) → NcNameAt bs n rest → ((r : List ℕ) → rest ≡ 0x3A ∷ r → ⊥) → m ≡ n → NameAt bs (read m rest)
@@ -235,7 +235,7 @@ pub joins_unexpected : (k deepest : ℕ) (text rest found : List ℕ) (first : P
     → ((r : List ℕ) → found ≡ k ∷ r → ⊥) → ((r : List ℕ) → found ≡ 0x29 ∷ r → ⊥) → IsUnexpected found e → Stops e (RestAt k deepest text)
 joins_unexpected k deepest text rest found first all e s i h c =
     unexpected_stops (RestAt k deepest text) found e (λ f o m. let (p, n) = s.back o m in by f p n)
-    (λ r f. subst (λ w. RestAt k deepest text (refused (unsupported N53) w)) (sym f) (s.forth (refused (unsupported N53) (0x25 ∷ r)) (t.reference (sym i ∙ f))))
+    (λ r f. subst (λ w. RestAt k deepest text (refused (unsupported ParameterEntity) w)) (sym f) (s.forth (refused (unsupported ParameterEntity) (0x25 ∷ r)) (t.reference (sym i ∙ f))))
   where
     by : ((r : List ℕ) → found ≡ 0x25 ∷ r → ⊥) → (p : Outcome Particles) → RestAt k deepest rest p → ⊥
     by f p (closed {after = r} g) = c r (i ∙ g)
@@ -316,7 +316,7 @@ pub lists_unexpected : (text rest found : List ℕ) (all : List (List ℕ)) (e :
     → ((r : List ℕ) → found ≡ bar ∷ r → ⊥) → ((r : List ℕ) → found ≡ 0x29 ∷ r → ⊥) → IsUnexpected found e → Stops e (NamesAt text)
 lists_unexpected text rest found all e s i h c =
     unexpected_stops (NamesAt text) found e (λ f o m. let (p, n) = s.back o m in by f p n)
-    (λ r f. subst (λ w. NamesAt text (refused (unsupported N53) w)) (sym f) (s.forth (refused (unsupported N53) (0x25 ∷ r)) (t.reference (sym i ∙ f))))
+    (λ r f. subst (λ w. NamesAt text (refused (unsupported ParameterEntity) w)) (sym f) (s.forth (refused (unsupported ParameterEntity) (0x25 ∷ r)) (t.reference (sym i ∙ f))))
   where
     by : ((r : List ℕ) → found ≡ 0x25 ∷ r → ⊥) → (p : Outcome (List (List ℕ))) → NamesAt rest p → ⊥
     by f p (t.closed {after = r} g) = c r (i ∙ g)
@@ -357,9 +357,9 @@ some_members (m ∷ ns) n e = cc
 pub no_asterisk : (bs rest : List ℕ) (ns : List (List ℕ)) (e : Stop) → NamesAt bs (read ns rest) → ((r : List ℕ) → rest ≡ 0x2A ∷ r → ⊥) → ns ≢ [] → IsUnexpected rest e → Stops e (MixedAt bs)
 no_asterisk bs rest ns e a h some = unexpected_stops (MixedAt bs) rest e none (λ r f. there ns a some r f)
   where
-    there : (ms : List (List ℕ)) → NamesAt bs (read ms rest) → ms ≢ [] → (r : List ℕ) → rest ≡ 0x25 ∷ r → MixedAt bs (refused (unsupported N53) rest)
+    there : (ms : List (List ℕ)) → NamesAt bs (read ms rest) → ms ≢ [] → (r : List ℕ) → rest ≡ 0x25 ∷ r → MixedAt bs (refused (unsupported ParameterEntity) rest)
     there [] b n r f = absurd (n refl)
-    there (m ∷ ms) b n r f = subst (λ w. MixedAt bs (refused (unsupported N53) w)) (sym f) (t.reference (subst (λ w. NamesAt bs (read (m ∷ ms) w)) f b))
+    there (m ∷ ms) b n r f = subst (λ w. MixedAt bs (refused (unsupported ParameterEntity) w)) (sym f) (t.reference (subst (λ w. NamesAt bs (read (m ∷ ms) w)) f b))
 
     none : ((r : List ℕ) → rest ≡ 0x25 ∷ r → ⊥) → (o : Outcome Content) → MixedAt bs o → ⊥
     none f o (no_names {after = r} b k) = some (read_same (names_unique bs (read ns rest) (read [] r) a b)).0

@@ -1,7 +1,7 @@
 -- Names, particles and contents are read in one way; and what parentheses that stand deeper allow is read, or they stand too deep.
 use Rattle.std.proofs.Common.{◌≡◌, inl, inr, ◌<◌, ◌≤◌, ℕ, zero, suc, List, [], ◌∷◌, ◌++◌, refl, ap, ◌∙◌, sym, subst, arith, length, length-append, codes}
 use Rattle.std.proofs.lemmas.List.{append_cancel_left}
-use Rattle.tc_base.specs.declared.reasons.Why.TheVariants.{N53, N55}
+use Rattle.tc_base.specs.declared.reasons.Why.TheVariants.{ParameterEntity, QualifiedElementName}
 use Rattle.tc_model.specs.XmlTextBytes.{after_white}
 use Rattle.tc_model.specs.XmlTextRefusals.{unsupported}
 use Rattle.tc_model.proofs.XmlTextPhrases.{same_first, same_others, ncname_unique}
@@ -24,7 +24,7 @@ name_unique bs o p (name a h) (prefix {r = r} b) = absurd (h r (ncname_unique a 
 name_unique bs o p (name {n = n} {after = s} a h) (colon {r = r} e) = absurd (not_named 0x3A bs r n s (omega arith) refl e a)
 name_unique bs o p (name {n = n} {after = s} a h) (t.reference {r = r} e) = absurd (not_named 0x25 bs r n s (omega arith) refl e a)
 name_unique bs o p (prefix {r = r} a) (name b h) = absurd (h r (ncname_unique b a).1)
-name_unique bs o p (prefix a) (prefix b) = ap (refused (unsupported N55)) (ncname_unique a b).1
+name_unique bs o p (prefix a) (prefix b) = ap (refused (unsupported QualifiedElementName)) (ncname_unique a b).1
 name_unique bs o p (prefix {n = n} {r = s} a) (colon {r = r} e) = absurd (not_named 0x3A bs r n (0x3A ∷ s) (omega arith) refl e a)
 name_unique bs o p (prefix {n = n} {r = s} a) (t.reference {r = r} e) = absurd (not_named 0x25 bs r n (0x3A ∷ s) (omega arith) refl e a)
 name_unique bs o p (colon {r = r} e) (name {n = n} {after = s} a h) = absurd (not_named 0x3A bs r n s (omega arith) refl e a)
@@ -170,7 +170,7 @@ mutual
   rest_unique k deepest bs o p big (t.reference e) (closed f) = absurd (omega (arith, other_byte e f))
   rest_unique k deepest bs o p big (t.reference e) (next_refused f b) = absurd (omega (arith, big, other_byte e f))
   rest_unique k deepest bs o p big (t.reference e) (next f b l w) = absurd (omega (arith, big, other_byte e f))
-  rest_unique k deepest bs o p big (t.reference e) (t.reference f) = ap (refused (unsupported N53)) (ap (λ z. 0x25 ∷ z) (same_behind e f))
+  rest_unique k deepest bs o p big (t.reference e) (t.reference f) = ap (refused (unsupported ParameterEntity)) (ap (λ z. 0x25 ∷ z) (same_behind e f))
 
 pub name_at_left : (bs : List ℕ) (o : Outcome (List ℕ)) → NameAt bs o → left_of o ≤ length bs
 name_at_left bs o (name {n = n} {after = r} a h) = name_left bs n r a
@@ -280,7 +280,7 @@ names_unique bs o p (t.next e a l w) (t.reference f) = absurd (omega (arith, oth
 names_unique bs o p (t.reference e) (t.closed f) = absurd (omega (arith, other_byte e f))
 names_unique bs o p (t.reference e) (t.next_refused f b) = absurd (omega (arith, other_byte e f))
 names_unique bs o p (t.reference e) (t.next f b l w) = absurd (omega (arith, other_byte e f))
-names_unique bs o p (t.reference e) (t.reference f) = ap (refused (unsupported N53)) (ap (λ z. 0x25 ∷ z) (same_behind e f))
+names_unique bs o p (t.reference e) (t.reference f) = ap (refused (unsupported ParameterEntity)) (ap (λ z. 0x25 ∷ z) (same_behind e f))
 
 pub names_left : (bs : List ℕ) (o : Outcome (List (List ℕ))) → NamesAt bs o → left_of o ≤ length bs
 names_left bs o (t.closed {after = r} e) = let l = behind_white_left 0x29 bs r e in omega (arith, l)
@@ -312,7 +312,7 @@ mixed_unique bs o p (t.reference {n = n} {r = s} {ns = ms} b) (repeated {after =
     absurd (omega (arith, same_first (read_same (names_unique bs (read ns (0x2A ∷ r)) (read (n ∷ ms) (0x25 ∷ s)) a b)).1))
 mixed_unique bs o p (t.reference {n = n} {r = s} {ns = ms} a) (names_refused {at = at} {cause = c} b) = absurd (read_not (names_unique bs (read (n ∷ ms) (0x25 ∷ s)) (refused c at) a b))
 mixed_unique bs o p (t.reference {n = n} {r = s} {ns = ns} a) (t.reference {n = m} {r = s'} {ns = ms} b) =
-    ap (refused (unsupported N53)) (read_same (names_unique bs (read (n ∷ ns) (0x25 ∷ s)) (read (m ∷ ms) (0x25 ∷ s')) a b)).1
+    ap (refused (unsupported ParameterEntity)) (read_same (names_unique bs (read (n ∷ ns) (0x25 ∷ s)) (read (m ∷ ms) (0x25 ∷ s')) a b)).1
 
 pub mixed_left : (bs : List ℕ) (o : Outcome Content) → MixedAt bs o → left_of o ≤ length bs
 mixed_left bs o (no_names {after = r} a h) = names_left bs (read [] r) a

@@ -2,7 +2,7 @@
 use Rattle.std.proofs.Common.{◌≡◌, ◌⊎◌, inl, inr, ◌+◌, ◌≤◌, ℕ, Bool, true, false, List, [], ◌∷◌, ◌++◌, refl, ap, ◌∙◌, sym, subst, arith, length, length-append, length-drop, codes}
 use Rattle.std.specs.List.{prefix_len}
 use Rattle.std.proofs.lemmas.List.{append_cancel_left}
-use Rattle.tc_base.specs.declared.reasons.Why.TheVariants.{N53}
+use Rattle.tc_base.specs.declared.reasons.Why.TheVariants.{ParameterEntity}
 use Rattle.tc_model.specs.XmlText.{after_mark}
 use Rattle.tc_model.specs.XmlTextBytes.{place_of, after_white, IsQuote}
 use Rattle.tc_model.specs.XmlTextMisc.{StandaloneAt, MiscAt}
@@ -53,7 +53,7 @@ pub end_unique : (bs : List ℕ) (o p : Outcome (Unit {0})) → EndAt bs o → E
 end_unique bs o p (closed e) (closed f) = ap (read tt) (same_behind e f)
 end_unique bs o p (closed e) (t.reference f) = absurd (omega (arith, other_byte e f))
 end_unique bs o p (t.reference e) (closed f) = absurd (omega (arith, other_byte e f))
-end_unique bs o p (t.reference e) (t.reference f) = ap (λ z. refused (unsupported N53) (0x25 ∷ z)) (same_behind e f)
+end_unique bs o p (t.reference e) (t.reference f) = ap (λ z. refused (unsupported ParameterEntity) (0x25 ∷ z)) (same_behind e f)
 
 end_left : (bs : List ℕ) (o : Outcome (Unit {0})) → EndAt bs o → left_of o ≤ length bs
 end_left bs o (closed {after = r} e) = let l = behind_white_left 0x3E bs r e in omega (arith, l)
@@ -117,7 +117,7 @@ skips_unique references bs o p (t.closed e) (t.reference f) = absurd (omega (ari
 skips_unique references bs o p (t.closed e) (literal {quote = q} f i g b) = absurd (quote_not q 0x3E i (inl refl) (other_byte f e))
 skips_unique references bs o p (t.closed e) (literal_reference {quote = q} f i g) = absurd (quote_not q 0x3E i (inl refl) (other_byte f e))
 skips_unique references bs o p (t.reference e) (t.closed f) = absurd (omega (arith, other_byte e f))
-skips_unique references bs o p (t.reference e) (t.reference f) = ap (λ z. refused (unsupported N53) (0x25 ∷ z)) (same_behind e f)
+skips_unique references bs o p (t.reference e) (t.reference f) = ap (λ z. refused (unsupported ParameterEntity) (0x25 ∷ z)) (same_behind e f)
 skips_unique references bs o p (t.reference e) (literal {quote = q} f i g b) = absurd (quote_not q 0x25 i (inr refl) (other_byte f e))
 skips_unique references bs o p (t.reference e) (literal_reference {quote = q} f i g) = absurd (quote_not q 0x25 i (inr refl) (other_byte f e))
 skips_unique references bs o p (literal {quote = q} f i g b) (t.closed e) = absurd (quote_not q 0x3E i (inl refl) (other_byte f e))
@@ -132,7 +132,7 @@ skips_unique references bs o p (literal_reference {quote = q} f i g) (t.referenc
 skips_unique references bs o p (literal_reference {r = s} {rest = y} {quote = k} f j h) (literal {r = r} {rest = x} {quote = q} e i g a) =
     absurd (quote_not q 0x25 i (inr refl) (other_byte g (literal_at references bs r s y q k 0x25 e f h)))
 skips_unique references bs o p (literal_reference {r = r} {rest = x} {quote = q} e i g) (literal_reference {r = s} {rest = y} {quote = k} f j h) =
-    ap (λ z. refused (unsupported N53) (0x25 ∷ z)) (same_behind g (literal_at references bs r s y q k 0x25 e f h))
+    ap (λ z. refused (unsupported ParameterEntity) (0x25 ∷ z)) (same_behind g (literal_at references bs r s y q k 0x25 e f h))
 
 pub passed_left : (test : ℕ → Bool) (b : ℕ) (bs r : List ℕ) → passed test bs ≡ b ∷ r → length r + 1 ≤ length bs
 passed_left test b bs r e = omega (arith, ap length e, length-drop (prefix_len test bs) bs)

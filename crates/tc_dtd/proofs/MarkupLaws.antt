@@ -4,7 +4,7 @@ use Rattle.std.specs.List.{prefix_len}
 use Rattle.std.proofs.lemmas.Bool.{true≢false, eqb-true}
 use Rattle.std.proofs.lemmas.List.{append_cancel_left, drop_more}
 use Rattle.std.proofs.lemmas.Str.{IsCharBoundary-after_ascii}
-use Rattle.tc_base.specs.declared.reasons.Why.TheVariants.{N53, N54}
+use Rattle.tc_base.specs.declared.reasons.Why.TheVariants.{ParameterEntity, ConditionalSection}
 use Rattle.tc_model.specs.XmlText.{after_mark}
 use Rattle.tc_model.specs.XmlTextBytes.{after_white, place_of, IsQuote}
 use Rattle.tc_model.specs.XmlTextMisc.{MiscAt}
@@ -29,7 +29,7 @@ pub an_end : (bs found after : List ℕ) → found ≡ after_white bs → found 
 an_end bs found after e f = closed (sym e ∙ f)
 
 pub no_end : (bs found : List ℕ) (e : Stop) → found ≡ after_white bs → ((r : List ℕ) → found ≡ 0x3E ∷ r → ⊥) → IsUnexpected found e → Stops e (EndAt bs)
-no_end bs found e i h = unexpected_stops (EndAt bs) found e none (λ r f. subst (λ w. EndAt bs (refused (unsupported N53) w)) (sym f) (t.reference (sym i ∙ f)))
+no_end bs found e i h = unexpected_stops (EndAt bs) found e none (λ r f. subst (λ w. EndAt bs (refused (unsupported ParameterEntity) w)) (sym f) (t.reference (sym i ∙ f)))
   where
     none : ((r : List ℕ) → found ≡ 0x25 ∷ r → ⊥) → (o : Outcome (Unit {0})) → EndAt bs o → ⊥
     none k o (closed {after = r} f) = h r (i ∙ f)
@@ -184,15 +184,15 @@ pub skips_closed : (references : Bool) (text rest r : List ℕ) (b : ℕ) → Sk
 skips_closed references text rest r b s e i = s.forth (read tt r) (t.closed (subst (λ z. passed is_skipped rest ≡ z ∷ r) i e))
 
 pub skips_reference : (references : Bool) (text rest r : List ℕ) (b n : ℕ) → Skips references text rest → passed is_skipped rest ≡ b ∷ r → b ≡ 0x25 → n ≡ length r + 1
-    → (at : List ℕ) × (n ≡ length at) × SkipsAt references text (refused (unsupported N53) at)
+    → (at : List ℕ) × (n ≡ length at) × SkipsAt references text (refused (unsupported ParameterEntity) at)
 skips_reference references text rest r b n s e i l =
-    (0x25 ∷ r, omega (arith, l), s.forth (refused (unsupported N53) (0x25 ∷ r)) (t.reference (subst (λ z. passed is_skipped rest ≡ z ∷ r) i e)))
+    (0x25 ∷ r, omega (arith, l), s.forth (refused (unsupported ParameterEntity) (0x25 ∷ r)) (t.reference (subst (λ z. passed is_skipped rest ≡ z ∷ r) i e)))
 
 pub literal_refers : (references : Bool) (text rest r after : List ℕ) (q b n : ℕ) → Skips references text rest → passed is_skipped rest ≡ q ∷ r → IsQuote q → passed (is_within references q) r ≡ b ∷ after
-    → (b ≡ q) ⊎ (b ≡ 0x25) → b ≢ q → n ≡ length after + 1 → (at : List ℕ) × (n ≡ length at) × SkipsAt references text (refused (unsupported N53) at)
+    → (b ≡ q) ⊎ (b ≡ 0x25) → b ≢ q → n ≡ length after + 1 → (at : List ℕ) × (n ≡ length at) × SkipsAt references text (refused (unsupported ParameterEntity) at)
 literal_refers references text rest r after q b n s e i f (inl j) other l = absurd (other j)
 literal_refers references text rest r after q b n s e i f (inr j) other l =
-    (0x25 ∷ after, omega (arith, l), s.forth (refused (unsupported N53) (0x25 ∷ after)) (literal_reference e i (subst (λ z. passed (is_within references q) r ≡ z ∷ after) j f)))
+    (0x25 ∷ after, omega (arith, l), s.forth (refused (unsupported ParameterEntity) (0x25 ∷ after)) (literal_reference e i (subst (λ z. passed (is_within references q) r ≡ z ∷ after) j f)))
 
 pub no_literal : (references : Bool) (text rest r : List ℕ) (q : ℕ) → Skips references text rest → passed is_skipped rest ≡ q ∷ r → IsQuote q
     → ((b : ℕ) (x : List ℕ) → passed (is_within references q) r ≡ b ∷ x → ⊥) → (o : Outcome (Unit {0})) → SkipsAt references text o → ⊥
@@ -269,10 +269,10 @@ module _ (deepest total : ℕ) (bs : List ℕ) where
       → MarkupAt deepest total bs (read (placed n x ∷ []) after)
   an_element_here rest after x n e a f = element e a (ap (λ k. read (placed k x ∷ []) after) f)
 
-  pub a_section : (r : List ℕ) → bs ≡ codes "<![" ++ r → (at : List ℕ) × (length bs ≡ length at) × MarkupAt deepest total bs (refused (unsupported N54) at)
+  pub a_section : (r : List ℕ) → bs ≡ codes "<![" ++ r → (at : List ℕ) × (length bs ≡ length at) × MarkupAt deepest total bs (refused (unsupported ConditionalSection) at)
   a_section r e = (bs, refl, section e)
 
-  pub a_reference : (r : List ℕ) → bs ≡ 0x25 ∷ r → (at : List ℕ) × (length bs ≡ length at) × MarkupAt deepest total bs (refused (unsupported N53) at)
+  pub a_reference : (r : List ℕ) → bs ≡ 0x25 ∷ r → (at : List ℕ) × (length bs ≡ length at) × MarkupAt deepest total bs (refused (unsupported ParameterEntity) at)
   a_reference r e = (bs, refl, t.reference e)
 
   pub unread_stops : (e : Stop) → ((r : List ℕ) → bs ≡ codes "<!ELEMENT" ++ r → ⊥) → ((r : List ℕ) → bs ≡ codes "<![" ++ r → ⊥) → ((r : List ℕ) → bs ≡ 0x25 ∷ r → ⊥) → Stops e (SkippedAt bs)

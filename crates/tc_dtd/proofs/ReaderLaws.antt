@@ -8,7 +8,7 @@ use Rattle.std.proofs.lemmas.Bool.{true≢false, false_from_ne_true}
 use Rattle.std.proofs.lemmas.List.{append_cancel_left}
 use Rattle.std.proofs.lemmas.Result.{err_from_is_err_and}
 use Rattle.tc_base.specs.Characters.{is_white}
-use Rattle.tc_base.specs.declared.reasons.Why.TheVariants.{N3, N5, N53}
+use Rattle.tc_base.specs.declared.reasons.Why.TheVariants.{Encoding, XmlVersion, ParameterEntity}
 use Rattle.tc_model.specs.XmlTextBytes.{BeginsWithWhite, after_white, length_before, UpTo, LiteralAt, EqualsAt}
 use Rattle.tc_model.specs.XmlTextNames.{NcNameAt}
 use Rattle.tc_model.specs.XmlTextMisc.{CommentAt, InstructionAt, SettingAt, LacksWord, IsReadEncoding, EncodingAt, no_encoding, encoding, StandaloneAt, no_standalone, standalone, IsNoMisc, MiscAt, no_more, comment, instruction}
@@ -68,7 +68,7 @@ stops_second {A} {B} First Second unique bs rest a e f = stops_map (Second a res
 
 -- where no phrase that is due stands
 pub unexpected_stops : {A : Type 0} (P : Outcome A → Type 0) (bs : List ℕ) (e : Stop) → (((r : List ℕ) → bs ≡ 0x25 ∷ r → ⊥) → (o : Outcome A) → P o → ⊥)
-    → ((r : List ℕ) → bs ≡ 0x25 ∷ r → P (refused (unsupported N53) bs)) → IsUnexpected bs e → Stops e P
+    → ((r : List ℕ) → bs ≡ 0x25 ∷ r → P (refused (unsupported ParameterEntity) bs)) → IsUnexpected bs e → Stops e P
 unexpected_stops P bs (Malformed left) none there h = none h
 unexpected_stops P bs (Unsupported left why) none there (l, w, (r, e)) = (bs, l, subst (λ x. P (refused (unsupported x) bs)) (sym w) (there r e))
 unexpected_stops P bs (TooDeep left) none there h = absurd h
@@ -210,7 +210,7 @@ pub this_version : (text value after : List ℕ) → true ≡ bytes_eq value (co
 this_version text value after e s = version (subst (λ w. SettingAt (codes "version") text w after) ((bytes_decides value (codes "1.0")).0 (sym e)) s)
 
 pub that_version : (text start value after : List ℕ) → start ≡ after_white text → false ≡ bytes_eq value (codes "1.0") → SettingAt (codes "version") text value after
-    → (at : List ℕ) × (length start ≡ length at) × VersionAt text (refused (unsupported N5) at)
+    → (at : List ℕ) × (length start ≡ length at) × VersionAt text (refused (unsupported XmlVersion) at)
 that_version text start value after e f s = (after_white text, ap length e, other_version s (λ q. true≢false (sym ((bytes_decides value (codes "1.0")).1 q) ∙ sym f)))
 
 pub no_encoding_here : (text start r : List ℕ) → start ≡ after_white text → start ≡ codes "encoding" ++ r → ((v a : List ℕ) → SettingAt (codes "encoding") text v a → ⊥)
@@ -220,7 +220,7 @@ no_encoding_here text start r e f h o (settings {past_encoding = a} (encoding {v
 no_encoding_here text start r e f h o (other_encoding {value = v} {after = a} s n) = h v a s
 
 pub that_encoding : (text start value after : List ℕ) → start ≡ after_white text → (IsReadEncoding value → ⊥) → SettingAt (codes "encoding") text value after
-    → (at : List ℕ) × (length start ≡ length at) × SettingsAt text (refused (unsupported N3) at)
+    → (at : List ℕ) × (length start ≡ length at) × SettingsAt text (refused (unsupported Encoding) at)
 that_encoding text start value after e n s = (after_white text, ap length e, other_encoding s n)
 
 pub no_standing : (text mid : List ℕ) (e : Stop) → EncodingAt text mid → Breaks e ((a : List ℕ) → StandaloneAt mid a → ⊥) → Stops e (SettingsAt text)

@@ -1,7 +1,7 @@
 -- Names and contents in a document type definition (XML 1.0, Fifth Edition, 3.2). A `%`, with which a reference to a parameter entity begins
 -- (XML, 4.1, [69]), is refused where reading comes to it.
 use Rattle.std.specs.Prelude.{◌≡◌, ◌⊎◌, ℕ, suc, List, [], ◌∷◌, ◌++◌, codes}
-use Rattle.tc_base.specs.declared.reasons.Why.TheVariants.{N53, N55}
+use Rattle.tc_base.specs.declared.reasons.Why.TheVariants.{ParameterEntity, QualifiedElementName}
 use Rattle.tc_model.specs.XmlTextBytes.{BeginsWithWhite, after_white}
 use Rattle.tc_model.specs.XmlTextNames.{NcNameAt}
 use Rattle.tc_model.specs.XmlTextRefusals.{Cause, unsupported, too_deep}
@@ -12,14 +12,14 @@ use Rattle.tc_dtd.specs.Outcomes.{Outcome, read, refused, outcome_map}
 -- white space of which there must be some (XML, 2.3, [3] S)
 pub data SpaceAt : List ℕ → Outcome (Unit {0}) → Type 0 where
   white : {bs : List ℕ} → BeginsWithWhite bs → SpaceAt bs (read tt (after_white bs))
-  reference : {bs r : List ℕ} → bs ≡ 0x25 ∷ r → SpaceAt bs (refused (unsupported N53) bs)
+  reference : {bs r : List ℕ} → bs ≡ 0x25 ∷ r → SpaceAt bs (refused (unsupported ParameterEntity) bs)
 
 -- the name of an element: an NCName, as long as it goes (Namespaces in XML 1.0, 3, [4]; 4). A colon in front of it or behind it is refused
 pub data NameAt : List ℕ → Outcome (List ℕ) → Type 0 where
   name : {bs n after : List ℕ} → NcNameAt bs n after → ((r : List ℕ) → after ≡ 0x3A ∷ r → ⊥) → NameAt bs (read n after)
-  prefix : {bs n r : List ℕ} → NcNameAt bs n (0x3A ∷ r) → NameAt bs (refused (unsupported N55) (0x3A ∷ r))
-  colon : {bs r : List ℕ} → bs ≡ 0x3A ∷ r → NameAt bs (refused (unsupported N55) bs)
-  reference : {bs r : List ℕ} → bs ≡ 0x25 ∷ r → NameAt bs (refused (unsupported N53) bs)
+  prefix : {bs n r : List ℕ} → NcNameAt bs n (0x3A ∷ r) → NameAt bs (refused (unsupported QualifiedElementName) (0x3A ∷ r))
+  colon : {bs r : List ℕ} → bs ≡ 0x3A ∷ r → NameAt bs (refused (unsupported QualifiedElementName) bs)
+  reference : {bs r : List ℕ} → bs ≡ 0x25 ∷ r → NameAt bs (refused (unsupported ParameterEntity) bs)
 
 -- none of these bytes stands at the front
 abbrev pub LacksSuffix : List ℕ → Type 0
@@ -69,7 +69,7 @@ mutual
     next : {connector deepest : ℕ} {bs r rest : List ℕ} {p : Particle} {outcome whole : Outcome Particles} → after_white bs ≡ connector ∷ r
         → ParticleAt deepest (after_white r) (read p rest) → RestAt connector deepest rest outcome → whole ≡ outcome_map (d.more p) outcome
         → RestAt connector deepest bs whole
-    reference : {connector deepest : ℕ} {bs r : List ℕ} → after_white bs ≡ 0x25 ∷ r → RestAt connector deepest bs (refused (unsupported N53) (0x25 ∷ r))
+    reference : {connector deepest : ℕ} {bs r : List ℕ} → after_white bs ≡ 0x25 ∷ r → RestAt connector deepest bs (refused (unsupported ParameterEntity) (0x25 ∷ r))
 
 -- the names of mixed content, each behind a bar, and the parenthesis that closes (XML, 3.2.2, [51])
 pub data NamesAt : List ℕ → Outcome (List (List ℕ)) → Type 0 where
@@ -77,14 +77,14 @@ pub data NamesAt : List ℕ → Outcome (List (List ℕ)) → Type 0 where
   next_refused : {bs r at : List ℕ} {cause : Cause} → after_white bs ≡ bar ∷ r → NameAt (after_white r) (refused cause at) → NamesAt bs (refused cause at)
   next : {bs r n rest : List ℕ} {outcome whole : Outcome (List (List ℕ))} → after_white bs ≡ bar ∷ r → NameAt (after_white r) (read n rest) → NamesAt rest outcome
       → whole ≡ outcome_map (λ ns. n ∷ ns) outcome → NamesAt bs whole
-  reference : {bs r : List ℕ} → after_white bs ≡ 0x25 ∷ r → NamesAt bs (refused (unsupported N53) (0x25 ∷ r))
+  reference : {bs r : List ℕ} → after_white bs ≡ 0x25 ∷ r → NamesAt bs (refused (unsupported ParameterEntity) (0x25 ∷ r))
 
 -- mixed content behind `#PCDATA` ([51]): an asterisk may stand behind it, and must where it has names
 pub data MixedAt : List ℕ → Outcome Content → Type 0 where
   no_names : {bs after : List ℕ} → NamesAt bs (read [] after) → ((r : List ℕ) → after ≡ 0x2A ∷ r → ⊥) → MixedAt bs (read (d.mixed []) after)
   repeated : {bs after : List ℕ} {ns : List (List ℕ)} → NamesAt bs (read ns (0x2A ∷ after)) → MixedAt bs (read (d.mixed ns) after)
   names_refused : {bs at : List ℕ} {cause : Cause} → NamesAt bs (refused cause at) → MixedAt bs (refused cause at)
-  reference : {bs n r : List ℕ} {ns : List (List ℕ)} → NamesAt bs (read (n ∷ ns) (0x25 ∷ r)) → MixedAt bs (refused (unsupported N53) (0x25 ∷ r))
+  reference : {bs n r : List ℕ} {ns : List (List ℕ)} → NamesAt bs (read (n ∷ ns) (0x25 ∷ r)) → MixedAt bs (refused (unsupported ParameterEntity) (0x25 ∷ r))
 
 -- a content, in which parentheses stand at most so deep within one another (XML, 3.2, [46]; 3.2.1, [47])
 pub data ContentAt : ℕ → List ℕ → Outcome Content → Type 0 where
@@ -95,4 +95,4 @@ pub data ContentAt : ℕ → List ℕ → Outcome Content → Type 0 where
   children : {deepest : ℕ} {bs rest after : List ℕ} {g p : Particle} → GroupAt deepest bs (read g rest) → SuffixAt g rest p after
       → ContentAt deepest bs (read (d.children p) after)
   children_refused : {deepest : ℕ} {bs at : List ℕ} {cause : Cause} → GroupAt deepest bs (refused cause at) → ContentAt deepest bs (refused cause at)
-  reference : {deepest : ℕ} {bs r : List ℕ} → bs ≡ 0x25 ∷ r → ContentAt deepest bs (refused (unsupported N53) bs)
+  reference : {deepest : ℕ} {bs r : List ℕ} → bs ≡ 0x25 ∷ r → ContentAt deepest bs (refused (unsupported ParameterEntity) bs)

@@ -1,7 +1,7 @@
 -- The declarations of a document type definition (XML 1.0, Fifth Edition, 2.8, [29]; 3.2, [45]).
 use Rattle.std.specs.Prelude.{◌≡◌, ◌≢◌, ◌⊎◌, ℕ, Bool, true, false, ◌||◌, ◌&&◌, not, ◌==◌, List, [], ◌∷◌, ◌++◌, drop, codes}
 use Rattle.std.specs.List.{prefix_len}
-use Rattle.tc_base.specs.declared.reasons.Why.TheVariants.{N3, N5, N53, N54}
+use Rattle.tc_base.specs.declared.reasons.Why.TheVariants.{Encoding, XmlVersion, ParameterEntity, ConditionalSection}
 use Rattle.tc_model.specs.XmlTextBytes.{place_of, BeginsWithWhite, after_white, IsQuote}
 use Rattle.tc_model.specs.XmlTextMisc.{SettingAt, LacksWord, IsReadEncoding, EncodingAt, StandaloneAt, MiscAt}
 use Rattle.tc_model.specs.XmlTextRefusals.{Cause, unsupported}
@@ -14,14 +14,14 @@ pub data VersionAt : List ℕ → Outcome (Unit {0}) → Type 0 where
   no_version : {bs : List ℕ} → LacksWord (codes "version") bs → VersionAt bs (read tt bs)
   version : {bs after : List ℕ} → SettingAt (codes "version") bs (codes "1.0") after → VersionAt bs (read tt after)
   other_version : {bs value after : List ℕ} → SettingAt (codes "version") bs value after → value ≢ codes "1.0"
-      → VersionAt bs (refused (unsupported N5) (after_white bs))
+      → VersionAt bs (refused (unsupported XmlVersion) (after_white bs))
 
 -- what stands behind the version of an XML declaration, up to its end (XML, 2.8, [23]; 2.9, [32]; 4.3.3, [80])
 pub data SettingsAt : List ℕ → Outcome (Unit {0}) → Type 0 where
   settings : {bs past_encoding past_standalone after : List ℕ} → EncodingAt bs past_encoding → StandaloneAt past_encoding past_standalone
       → after_white past_standalone ≡ codes "?>" ++ after → SettingsAt bs (read tt after)
   other_encoding : {bs value after : List ℕ} → SettingAt (codes "encoding") bs value after → (IsReadEncoding value → ⊥)
-      → SettingsAt bs (refused (unsupported N3) (after_white bs))
+      → SettingsAt bs (refused (unsupported Encoding) (after_white bs))
 
 -- an XML declaration begins behind `<?xml`, and no processing instruction whose target is longer
 abbrev pub IsOpened : List ℕ → Type 0
@@ -36,7 +36,7 @@ pub data TextDeclarationAt : List ℕ → Outcome (Unit {0}) → Type 0 where
 -- white space, as much as there is, and the `>` that ends a declaration
 pub data EndAt : List ℕ → Outcome (Unit {0}) → Type 0 where
   closed : {bs after : List ℕ} → after_white bs ≡ 0x3E ∷ after → EndAt bs (read tt after)
-  reference : {bs r : List ℕ} → after_white bs ≡ 0x25 ∷ r → EndAt bs (refused (unsupported N53) (0x25 ∷ r))
+  reference : {bs r : List ℕ} → after_white bs ≡ 0x25 ∷ r → EndAt bs (refused (unsupported ParameterEntity) (0x25 ∷ r))
 
 -- the end of a declaration, behind which that is kept
 pub data KeptAt (x : Declaration) : List ℕ → Outcome Declaration → Type 0 where
@@ -63,11 +63,11 @@ is_within references quote b = not (b == quote || (references && b == 0x25))
 -- in the literals of entities (XML, 4.4, 4.4.5), and not in those of attributes and notations.
 pub data SkipsAt (references : Bool) : List ℕ → Outcome (Unit {0}) → Type 0 where
   closed : {bs after : List ℕ} → passed is_skipped bs ≡ 0x3E ∷ after → SkipsAt references bs (read tt after)
-  reference : {bs r : List ℕ} → passed is_skipped bs ≡ 0x25 ∷ r → SkipsAt references bs (refused (unsupported N53) (0x25 ∷ r))
+  reference : {bs r : List ℕ} → passed is_skipped bs ≡ 0x25 ∷ r → SkipsAt references bs (refused (unsupported ParameterEntity) (0x25 ∷ r))
   literal : {bs r rest : List ℕ} {quote : ℕ} {outcome : Outcome (Unit {0})} → passed is_skipped bs ≡ quote ∷ r → IsQuote quote
       → passed (is_within references quote) r ≡ quote ∷ rest → SkipsAt references rest outcome → SkipsAt references bs outcome
   literal_reference : {bs r rest : List ℕ} {quote : ℕ} → passed is_skipped bs ≡ quote ∷ r → IsQuote quote
-      → passed (is_within references quote) r ≡ 0x25 ∷ rest → SkipsAt references bs (refused (unsupported N53) (0x25 ∷ rest))
+      → passed (is_within references quote) r ≡ 0x25 ∷ rest → SkipsAt references bs (refused (unsupported ParameterEntity) (0x25 ∷ rest))
 
 -- a declaration of attributes, of a notation or of an entity (XML, 3.3, [52]; 4.7, [82]; 4.2, [70])
 pub data SkippedAt : List ℕ → Outcome (Unit {0}) → Type 0 where
@@ -86,8 +86,8 @@ placed place x = record { place = place; declaration = x }
 -- One declaration in a text of so many bytes, and what of it is kept (XML, 2.8, [29]). A reference to a parameter entity ([28a]) and a
 -- conditional section (3.4, [61]) may stand in its place, and are refused.
 pub data MarkupAt (deepest total : ℕ) : List ℕ → Outcome (List Placed) → Type 0 where
-  reference : {bs r : List ℕ} → bs ≡ 0x25 ∷ r → MarkupAt deepest total bs (refused (unsupported N53) bs)
-  section : {bs r : List ℕ} → bs ≡ codes "<![" ++ r → MarkupAt deepest total bs (refused (unsupported N54) bs)
+  reference : {bs r : List ℕ} → bs ≡ 0x25 ∷ r → MarkupAt deepest total bs (refused (unsupported ParameterEntity) bs)
+  section : {bs r : List ℕ} → bs ≡ codes "<![" ++ r → MarkupAt deepest total bs (refused (unsupported ConditionalSection) bs)
   element : {bs r : List ℕ} {outcome : Outcome Declaration} {whole : Outcome (List Placed)} → bs ≡ codes "<!ELEMENT" ++ r → ElementAt deepest r outcome
       → whole ≡ outcome_map (λ x. placed (place_of total bs) x ∷ []) outcome → MarkupAt deepest total bs whole
   skipped : {bs : List ℕ} {outcome : Outcome (Unit {0})} {whole : Outcome (List Placed)} → SkippedAt bs outcome → whole ≡ outcome_map (λ _. []) outcome

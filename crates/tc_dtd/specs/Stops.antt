@@ -1,6 +1,6 @@
 -- What it means that reading stops.
 use Rattle.std.specs.Prelude.{◌≡◌, ℕ, List, ◌∷◌, length}
-use Rattle.tc_base.specs.declared.reasons.Why.TheVariants.{N53}
+use Rattle.tc_base.specs.declared.reasons.Why.TheVariants.{ParameterEntity}
 use Rattle.tc_model.specs.XmlTextRefusals.{unsupported, too_deep}
 use Rattle.tc_dtd.specs.Outcomes.{Outcome, refused}
 use Rattle.tc_dtd.specs.declared.faults.Stop.{Stop}
@@ -23,6 +23,6 @@ Breaks NoMemory broken = Unit {0}
 -- A reference to a parameter entity is said where one begins, and Malformed where none does.
 abbrev pub IsUnexpected : List ℕ → Stop → Type 0
 IsUnexpected bs (Malformed left) = (r : List ℕ) → bs ≡ 0x25 ∷ r → ⊥
-IsUnexpected bs (Unsupported left why) = (left ≡ length bs) × (why ≡ N53) × ((r : List ℕ) × (bs ≡ 0x25 ∷ r))
+IsUnexpected bs (Unsupported left why) = (left ≡ length bs) × (why ≡ ParameterEntity) × ((r : List ℕ) × (bs ≡ 0x25 ∷ r))
 IsUnexpected bs (TooDeep left) = ⊥
 IsUnexpected bs NoMemory = ⊥

@@ -32,7 +32,7 @@ fn no_name(text: &str) -> Stop
     ensures { Stops result (form.NameAt text.now) }
 {
     if begins(text, ":") {
-        return Stop::Unsupported(text.len(), Why::N55);
+        return Stop::Unsupported(text.len(), Why::QualifiedElementName);
     }
     unexpected(text)
 }
@@ -49,7 +49,7 @@ pub(crate) fn element_name<'b, 't>(
         return Err(no_name(text));
     };
     if begins(rest, ":") {
-        return Err(Stop::Unsupported(rest.len(), Why::N55));
+        return Err(Stop::Unsupported(rest.len(), Why::QualifiedElementName));
     }
     let name = arena.try_alloc_str(name)?;
     Ok((name, rest))

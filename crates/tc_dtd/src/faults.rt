@@ -100,7 +100,7 @@ pub(crate) fn unexpected(text: &str) -> Stop
     ensures { IsUnexpected text.now result }
 {
     if begins(text, "%") {
-        Stop::Unsupported(text.len(), Why::N53)
+        Stop::Unsupported(text.len(), Why::ParameterEntity)
     } else {
         Stop::Malformed(text.len())
     }

@@ -71,10 +71,10 @@ fn after_markup<'b, 't>(
         return Ok(after);
     }
     if begins(text, "<![") {
-        return Err(Stop::Unsupported(text.len(), Why::N54));
+        return Err(Stop::Unsupported(text.len(), Why::ConditionalSection));
     }
     if begins(text, "%") {
-        return Err(Stop::Unsupported(text.len(), Why::N53));
+        return Err(Stop::Unsupported(text.len(), Why::ParameterEntity));
     }
     after_unread(text)
 }

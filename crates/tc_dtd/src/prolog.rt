@@ -26,7 +26,7 @@ fn after_version(text: &str) -> Result<&str, Stop>
     if version == "1.0" {
         Ok(after)
     } else {
-        Err(Stop::Unsupported(start.len(), Why::N5))
+        Err(Stop::Unsupported(start.len(), Why::XmlVersion))
     }
 }
 
@@ -45,7 +45,7 @@ fn after_encoding(text: &str) -> Result<&str, Stop>
     if is_read_encoding(value) {
         Ok(after)
     } else {
-        Err(Stop::Unsupported(start.len(), Why::N3))
+        Err(Stop::Unsupported(start.len(), Why::Encoding))
     }
 }
 

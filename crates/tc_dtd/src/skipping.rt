@@ -77,13 +77,13 @@ fn after_skipped(text: &str, references: bool) -> Result<&str, Stop>
             return Ok(behind);
         }
         if byte == b'%' {
-            return Err(Stop::Unsupported(behind.len() + 1, Why::N53));
+            return Err(Stop::Unsupported(behind.len() + 1, Why::ParameterEntity));
         }
         let Some((end, after)) = past_literal(behind, references, byte) else {
             return Err(Stop::Malformed(0));
         };
         if end != byte {
-            return Err(Stop::Unsupported(after.len() + 1, Why::N53));
+            return Err(Stop::Unsupported(after.len() + 1, Why::ParameterEntity));
         }
         rest = after;
     }

@@ -82,7 +82,7 @@ impl<'b> Walk<'b> {
     }
 
     /// Takes the last step, or leaves the last component where none of its steps is left.
-    fn turn(&mut self, rows: &[&[usize]], start: Start) -> Result<(), NoMemory>
+    fn advance(&mut self, rows: &[&[usize]], start: Start) -> Result<(), NoMemory>
         requires graph { IsGraph (rows_of rows.now) }
         requires walk { IsWalk (rows_of rows.now) (seen self.old) }
         requires last { (front : List Start) × (self.old.starts.items ≡ front ++ start ∷ []) }
@@ -136,7 +136,7 @@ impl<'b> Walk<'b> {
     {
         self.begin(rows, number)?;
         while let Some(start) = self.starts.last().copied() {
-            self.turn(rows, start)?;
+            self.advance(rows, start)?;
         }
         Ok(())
     }

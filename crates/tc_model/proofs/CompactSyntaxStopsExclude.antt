@@ -2,7 +2,7 @@
 use Rattle.std.proofs.Common.{◌||◌, Option, bytes_eq, cond, ◌≡◌, inl, inr, ℕ, suc, ◌≤◌, Bool, true, false, List, [], ◌∷◌, refl, ap, ◌∙◌, sym, subst, arith, None, Some, codes}
 use Rattle.std.proofs.lemmas.Bool.{false≢true}
 use Rattle.tc_base.specs.declared.reasons.Why.{Why}
-use Rattle.tc_base.specs.declared.reasons.Why.TheVariants.{N6}
+use Rattle.tc_base.specs.declared.reasons.Why.TheVariants.{DataPattern}
 use Rattle.tc_model.specs.RawTrees.{Bound}
 use Rattle.tc_model.specs.CompactSyntaxTrees.{SyntaxClass, SyntaxClasses, SyntaxPattern, SyntaxPatterns, Definition}
 use Rattle.tc_model.specs.CompactSyntaxTokens.{Word, a_name, escaped, prefixed, all_of, literal, long_literal, mark, Token}
@@ -194,7 +194,7 @@ no_pattern_begins b (u.none c x) = begins_none c b
 datum_unread : (w : Word) → p.is_datum w ≡ true → u.BeginsNoPattern w → ⊥
 datum_unread (a_name q) h b = by (bytes_eq q (codes "string")) (bytes_eq q (codes "token")) _ h b.no_unread
   where
-    by : (x y : Bool) (others : Option Why) → (x || y) ≡ true → cond x (Some N6) (cond y (Some N6) others) ≡ None → ⊥
+    by : (x y : Bool) (others : Option Why) → (x || y) ≡ true → cond x (Some DataPattern) (cond y (Some DataPattern) others) ≡ None → ⊥
     by true y others h e = some_none refl e
     by false true others h e = some_none refl e
     by false false others h e = false≢true h

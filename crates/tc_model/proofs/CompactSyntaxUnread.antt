@@ -3,7 +3,7 @@ use Rattle.std.proofs.Common.{◌≡◌, ℕ, ◌+◌, ◌≤◌, Bool, true, fa
 use Rattle.std.proofs.lemmas.Bool.{false≢true}
 use Rattle.std.proofs.lemmas.Slice.Eq.{bytes_eq-Decides}
 use Rattle.tc_base.specs.declared.reasons.Why.{Why}
-use Rattle.tc_base.specs.declared.reasons.Why.TheVariants.{N6, N8, N9, N11, N12, N15}
+use Rattle.tc_base.specs.declared.reasons.Why.TheVariants.{DataPattern, ListPattern, ExternalPattern, NestedGrammar, ParentReference, Escape}
 use Rattle.tc_model.specs.XmlTextBytes.{length_before}
 use Rattle.tc_model.specs.CompactSyntaxTokens.{Word, a_name, escaped, prefixed, all_of, literal, long_literal, mark, Token}
 use Rattle.tc_model.specs.CompactSyntaxUnread.{Refusal, malformed, unsupported, too_deep, End, escape_mark, EscapeAt, in_text, in_literal, in_long_literal, NoEscape, AnnotationAt, bracket, two_signs, Unexpected, escape, annotation, other, unclosed, at_end, LiteralStops, escape_within, three_quotes, is_literal, unread_keyword, unread_pattern, NoPattern, NoDefinition, include, NoNamespaceName, inherit, concatenation}
@@ -84,7 +84,7 @@ pub no_escape_at_end : {p : ℕ} → EscapeAt [] p → ⊥
 no_escape_at_end e = elim e [ ]
 
 pub unexpected_unique : {end : End} {ts : List Token} {r s : Refusal} → Unexpected end ts r → Unexpected end ts s → r ≡ s
-unexpected_unique (escape a) (escape b) = ap (unsupported N15) (escape_unique a b)
+unexpected_unique (escape a) (escape b) = ap (unsupported Escape) (escape_unique a b)
 unexpected_unique (escape a) (annotation b) = absurd (escape_or_annotation a b)
 unexpected_unique (escape {place = p} a) (other h k) = absurd (h p a)
 unexpected_unique (escape a) (unclosed e) = absurd (no_escape_at_end a)
@@ -96,7 +96,7 @@ unexpected_unique (other h k) (escape {place = p} a) = absurd (h p a)
 unexpected_unique (other h k) (annotation a) = absurd (k a)
 unexpected_unique (other h k) (other h' k') = refl
 unexpected_unique (unclosed e) (escape a) = absurd (no_escape_at_end a)
-unexpected_unique (unclosed e) (unclosed f) = ap (unsupported N15) (same_some e f)
+unexpected_unique (unclosed e) (unclosed f) = ap (unsupported Escape) (same_some e f)
 unexpected_unique (unclosed e) (at_end f) = absurd (some_none e f)
 unexpected_unique (at_end e) (escape a) = absurd (no_escape_at_end a)
 unexpected_unique (at_end f) (unclosed e) = absurd (some_none e f)
@@ -107,7 +107,7 @@ pub unexpected_one : {end : End} {ts us : List Token} {r s : Refusal} → ts ≡
 unexpected_one {end} {s = s} e a b = unexpected_unique a (subst (λ z. Unexpected end z s) (sym e) b)
 
 pub literal_unique : {ts : List Token} {r s : Refusal} → LiteralStops ts r → LiteralStops ts s → r ≡ s
-literal_unique (escape_within a) (escape_within b) = ap (unsupported N15) (escape_unique a b)
+literal_unique (escape_within a) (escape_within b) = ap (unsupported Escape) (escape_unique a b)
 literal_unique (escape_within {place = p} a) (three_quotes k h) = absurd (h p a)
 literal_unique (three_quotes k h) (escape_within {place = p} a) = absurd (h p a)
 literal_unique (three_quotes k h) (three_quotes k' h') = refl
@@ -179,7 +179,7 @@ unread_kind (a_name n) {why} e = by (bytes_eq n (codes "string")) refl (bytes_eq
 
     by : (a : Bool) → bytes_eq n (codes "string") ≡ a → (b : Bool) → bytes_eq n (codes "token") ≡ b → (c : Bool) → bytes_eq n (codes "list") ≡ c → (d : Bool) → bytes_eq n (codes "external") ≡ d
         → (f : Bool) → bytes_eq n (codes "grammar") ≡ f → (g : Bool) → bytes_eq n (codes "parent") ≡ g
-        → cond a (Some N6) (cond b (Some N6) (cond c (Some N8) (cond d (Some N9) (cond f (Some N11) (cond g (Some N12) None))))) ≡ Some why → 9 ≤ word_kind (a_name n)
+        → cond a (Some DataPattern) (cond b (Some DataPattern) (cond c (Some ListPattern) (cond d (Some ExternalPattern) (cond f (Some NestedGrammar) (cond g (Some ParentReference) None))))) ≡ Some why → 9 ≤ word_kind (a_name n)
     by true e1 b e2 c e3 d e4 f e5 g e6 e = named (codes "string") (omega arith) e1
     by false e1 true e2 c e3 d e4 f e5 g e6 e = named (codes "token") (omega arith) e2
     by false e1 false e2 true e3 d e4 f e5 g e6 e = named (codes "list") (omega arith) e3

@@ -2,7 +2,7 @@
 -- these tokens is read up to a token with which it can't go on, and how that is refused. What stands behind that place isn't looked at but
 -- where the reason depends on it: `grammar { }` is a part of a pattern where it goes on as one.
 use Rattle.std.specs.Prelude.{◌≡◌, ◌≢◌, ◌⊎◌, ℕ, suc, Bool, true, false, List, [], ◌∷◌, None, Some, codes}
-use Rattle.tc_base.specs.declared.reasons.Why.TheVariants.{N11}
+use Rattle.tc_base.specs.declared.reasons.Why.TheVariants.{NestedGrammar}
 use Rattle.tc_model.specs.RawTrees.{Bound}
 use Rattle.tc_model.specs.XmlTextScopes.{uri_of}
 use Rattle.tc_model.specs.CompactSyntaxTrees.{SyntaxClass, SyntaxPattern, Joins, Definition}
@@ -196,7 +196,7 @@ pub data SchemaStops (end : End) : List Bound → ℕ → List Token → Refusal
   in_grammar : {scope : List Bound} {deepest : ℕ} {t : Token} {tokens : List Token} {r : Refusal} → IsWord (codes "grammar") t → BlockStops end scope deepest tokens r
       → SchemaStops end scope deepest (t ∷ tokens) r
   inner_grammar : {scope : List Bound} {deepest : ℕ} {t : Token} {tokens rest : List Token} {ds : List Definition} → IsWord (codes "grammar") t
-      → BlockAt false scope deepest tokens ds rest → GoesOnAsPattern rest → SchemaStops end scope deepest (t ∷ tokens) (unsupported N11 t.place)
+      → BlockAt false scope deepest tokens ds rest → GoesOnAsPattern rest → SchemaStops end scope deepest (t ∷ tokens) (unsupported NestedGrammar t.place)
   past_grammar : {scope : List Bound} {deepest : ℕ} {t u : Token} {tokens rest : List Token} {ds : List Definition} {r : Refusal} → IsWord (codes "grammar") t
       → BlockAt false scope deepest tokens ds (u ∷ rest) → (GoesOnAsPattern (u ∷ rest) → ⊥) → Unexpected end (u ∷ rest) r → SchemaStops end scope deepest (t ∷ tokens) r
   in_definitions : {scope : List Bound} {deepest : ℕ} {tokens : List Token} {r : Refusal} → BeginsDefinitions tokens → DefinitionsStop end scope deepest tokens r

@@ -2,7 +2,7 @@
 -- ISO/IEC 19757-2, Annex C). Which of its constructs are read is this project's choice.
 use Rattle.std.specs.Prelude.{◌≡◌, ◌≢◌, ℕ, ◌+◌, ◌<◌, Bool, true, false, List, [], ◌∷◌, Option, None, Some, IsTrue, length, bytes_eq, codes, if◌then◌else◌}
 use Rattle.tc_base.specs.declared.reasons.Why.{Why}
-use Rattle.tc_base.specs.declared.reasons.Why.TheVariants.{N6, N7, N8, N9, N10, N11, N12, N13, N14, N15, N16, N17}
+use Rattle.tc_base.specs.declared.reasons.Why.TheVariants.{DataPattern, ValuePattern, ListPattern, ExternalPattern, Include, NestedGrammar, ParentReference, InheritedNamespace, Annotation, Escape, TripleQuote, Concatenation}
 use Rattle.tc_model.specs.XmlTextBytes.{length_before}
 use Rattle.tc_model.specs.CompactSyntaxTokens.{Word, a_name, prefixed, literal, long_literal, mark, Token}
 use Rattle.tc_model.specs.CompactSyntaxNames.{IsWord, IsMark, identifier}
@@ -43,10 +43,10 @@ pub data AnnotationAt : List Token → Type 0 where
 
 -- nothing that is read stands here
 pub data Unexpected (end : End) : List Token → Refusal → Type 0 where
-  escape : {tokens : List Token} {place : ℕ} → EscapeAt tokens place → Unexpected end tokens (unsupported N15 place)
-  annotation : {t : Token} {after : List Token} → AnnotationAt (t ∷ after) → Unexpected end (t ∷ after) (unsupported N14 t.place)
+  escape : {tokens : List Token} {place : ℕ} → EscapeAt tokens place → Unexpected end tokens (unsupported Escape place)
+  annotation : {t : Token} {after : List Token} → AnnotationAt (t ∷ after) → Unexpected end (t ∷ after) (unsupported Annotation t.place)
   other : {t : Token} {after : List Token} → NoEscape (t ∷ after) → (AnnotationAt (t ∷ after) → ⊥) → Unexpected end (t ∷ after) (malformed t.place)
-  unclosed : {place : ℕ} → end.escape ≡ Some place → Unexpected end [] (unsupported N15 place)
+  unclosed : {place : ℕ} → end.escape ≡ Some place → Unexpected end [] (unsupported Escape place)
   at_end : end.escape ≡ None → Unexpected end [] (malformed end.place)
 
 abbrev pub is_literal : Word → Bool
@@ -56,19 +56,19 @@ is_literal _ = false
 
 -- the literal at the front isn't read wherever it stands: it holds the escape of a character, or stands in three quotes
 pub data LiteralStops : List Token → Refusal → Type 0 where
-  escape_within : {t : Token} {after : List Token} {place : ℕ} → EscapeAt (t ∷ after) place → LiteralStops (t ∷ after) (unsupported N15 place)
-  three_quotes : {t : Token} {after : List Token} {s : List ℕ} → t.word ≡ long_literal s → NoEscape (t ∷ after) → LiteralStops (t ∷ after) (unsupported N16 t.place)
+  escape_within : {t : Token} {after : List Token} {place : ℕ} → EscapeAt (t ∷ after) place → LiteralStops (t ∷ after) (unsupported Escape place)
+  three_quotes : {t : Token} {after : List Token} {s : List ℕ} → t.word ≡ long_literal s → NoEscape (t ∷ after) → LiteralStops (t ∷ after) (unsupported TripleQuote t.place)
 
 -- the reason why a pattern that begins with this word isn't read, if there is one: it is a datatype's name, or a keyword of such a pattern
 abbrev pub unread_keyword : List ℕ → Option Why
 unread_keyword n =
-    if bytes_eq n (codes "string") then Some N6 else if bytes_eq n (codes "token") then Some N6 else if bytes_eq n (codes "list") then Some N8
-    else if bytes_eq n (codes "external") then Some N9 else if bytes_eq n (codes "grammar") then Some N11 else if bytes_eq n (codes "parent") then Some N12
+    if bytes_eq n (codes "string") then Some DataPattern else if bytes_eq n (codes "token") then Some DataPattern else if bytes_eq n (codes "list") then Some ListPattern
+    else if bytes_eq n (codes "external") then Some ExternalPattern else if bytes_eq n (codes "grammar") then Some NestedGrammar else if bytes_eq n (codes "parent") then Some ParentReference
     else None
 
 abbrev pub unread_pattern : Word → Option Why
 unread_pattern (a_name n) = unread_keyword n
-unread_pattern (prefixed p n) = Some N6
+unread_pattern (prefixed p n) = Some DataPattern
 unread_pattern _ = None
 
 -- no pattern begins with this word, not even one that isn't read
@@ -88,7 +88,7 @@ pub record BeginsNoPattern (w : Word) : Type 0 where
 pub data NoPattern (end : End) : List Token → Refusal → Type 0 where
   unread : {t : Token} {after : List Token} {why : Why} → unread_pattern t.word ≡ Some why → NoPattern end (t ∷ after) (unsupported why t.place)
   a_literal : {t : Token} {after : List Token} {r : Refusal} → IsTrue (is_literal t.word) → LiteralStops (t ∷ after) r → NoPattern end (t ∷ after) r
-  value : {t : Token} {after : List Token} {s : List ℕ} → t.word ≡ literal s → NoEscape (t ∷ after) → NoPattern end (t ∷ after) (unsupported N7 t.place)
+  value : {t : Token} {after : List Token} {s : List ℕ} → t.word ≡ literal s → NoEscape (t ∷ after) → NoPattern end (t ∷ after) (unsupported ValuePattern t.place)
   none : {t : Token} {after : List Token} {r : Refusal} → BeginsNoPattern t.word → Unexpected end (t ∷ after) r → NoPattern end (t ∷ after) r
   no_token : {r : Refusal} → Unexpected end [] r → NoPattern end [] r
 
@@ -102,16 +102,16 @@ pub record BeginsNoDefinition (t : Token) : Type 0 where
 
 -- where a definition should begin, none that is read does
 pub data NoDefinition (end : End) : List Token → Refusal → Type 0 where
-  include : {t : Token} {after : List Token} → IsWord (codes "include") t → NoDefinition end (t ∷ after) (unsupported N10 t.place)
+  include : {t : Token} {after : List Token} → IsWord (codes "include") t → NoDefinition end (t ∷ after) (unsupported Include t.place)
   none : {t : Token} {after : List Token} {r : Refusal} → BeginsNoDefinition t → Unexpected end (t ∷ after) r → NoDefinition end (t ∷ after) r
 
 -- where a namespace name should stand, none that is read does; one may be inherited where `inherits` says so
 pub data NoNamespaceName (end : End) (inherits : Bool) : List Token → Refusal → Type 0 where
-  inherit : {t : Token} {after : List Token} → IsTrue inherits → IsWord (codes "inherit") t → NoNamespaceName end inherits (t ∷ after) (unsupported N13 t.place)
+  inherit : {t : Token} {after : List Token} → IsTrue inherits → IsWord (codes "inherit") t → NoNamespaceName end inherits (t ∷ after) (unsupported InheritedNamespace t.place)
   a_literal : {t : Token} {after : List Token} {r : Refusal} → IsTrue (is_literal t.word) → LiteralStops (t ∷ after) r
       → NoNamespaceName end inherits (t ∷ after) r
   concatenation : {t u : Token} {after : List Token} {s : List ℕ} → t.word ≡ literal s → NoEscape (t ∷ u ∷ after) → IsMark 0x7E u
-      → NoNamespaceName end inherits (t ∷ u ∷ after) (unsupported N17 u.place)
+      → NoNamespaceName end inherits (t ∷ u ∷ after) (unsupported Concatenation u.place)
   none : {t : Token} {after : List Token} {r : Refusal} → is_literal t.word ≡ false → (IsTrue inherits → IsWord (codes "inherit") t → ⊥)
       → Unexpected end (t ∷ after) r → NoNamespaceName end inherits (t ∷ after) r
   no_token : {r : Refusal} → Unexpected end [] r → NoNamespaceName end inherits [] r

@@ -3,7 +3,7 @@
 -- at the front of these bytes is read up to `at`, where such a construct stands.
 use Rattle.std.specs.Prelude.{◌≡◌, ◌≢◌, ℕ, suc, false, List, ◌∷◌, ◌++◌, None, IsFalse, codes, length}
 use Rattle.tc_base.specs.declared.reasons.Why.{Why}
-use Rattle.tc_base.specs.declared.reasons.Why.TheVariants.{N1, N2, N3, N4, N5}
+use Rattle.tc_base.specs.declared.reasons.Why.TheVariants.{DoctypeSubset, EntityReference, Encoding, XmlSpace, XmlVersion}
 use Rattle.tc_model.specs.Names.{ExpandedName}
 use Rattle.tc_model.specs.RawTrees.{Attribute, Bound}
 use Rattle.tc_model.specs.XmlTextBytes.{place_of, BeginsWithWhite, after_white, IsQuote, EqualsAt, FrontOf}
@@ -46,10 +46,10 @@ xml_space = record { prefix = codes "xml"; local = codes "space" }
 
 -- the attributes of a tag (XML, 3.1, [40], [41], [44])
 pub data AttributesRefuse : List ℕ → Why → List ℕ → Type 0 where
-  space : {bs past_name : List ℕ} → BeginsWithWhite bs → QNameAt (after_white bs) xml_space past_name → AttributesRefuse bs N4 (after_white bs)
+  space : {bs past_name : List ℕ} → BeginsWithWhite bs → QNameAt (after_white bs) xml_space past_name → AttributesRefuse bs XmlSpace (after_white bs)
   value : {bs past_name start at : List ℕ} {name : QualifiedName}
       → BeginsWithWhite bs → QNameAt (after_white bs) name past_name → IsFalse (same_written name xml_space) → EqualsAt past_name start
-      → QuotedRefuses start at → AttributesRefuse bs N2 at
+      → QuotedRefuses start at → AttributesRefuse bs EntityReference at
   past_attribute : {bs past_name start v rest at : List ℕ} {name : QualifiedName} {why : Why}
       → BeginsWithWhite bs → QNameAt (after_white bs) name past_name → IsFalse (same_written name xml_space) → EqualsAt past_name start
       → QuotedAt false start v rest → AttributesRefuse rest why at → AttributesRefuse bs why at
@@ -66,7 +66,7 @@ pub record TagRefuses (bs : List ℕ) (why : Why) (at : List ℕ) : Type 0 where
 -- content, or an element, where `outer` is in scope and elements stand at most so deep (XML, 3, [39]; 3.1, [43])
 mutual
   pub data ContentRefuses (total : ℕ) : List Bound → ℕ → List ℕ → Cause → List ℕ → Type 0 where
-    entity : {outer : List Bound} {deepest : ℕ} {bs : List ℕ} → OtherEntityAt bs → ContentRefuses total outer deepest bs (unsupported N2) bs
+    entity : {outer : List Bound} {deepest : ℕ} {bs : List ℕ} → OtherEntityAt bs → ContentRefuses total outer deepest bs (unsupported EntityReference) bs
     child : {outer : List Bound} {deepest : ℕ} {bs at : List ℕ} {cause : Cause} → ElementRefuses total outer deepest bs cause at
         → ContentRefuses total outer deepest bs cause at
     past_item : {outer : List Bound} {deepest : ℕ} {bs rest at : List ℕ} {piece : Piece} {cause : Cause}
@@ -86,16 +86,16 @@ mutual
 -- an XML declaration of another version than 1.0, or with an encoding that isn't read (XML, 2.8, [23] to [26]; 4.3.3, [80])
 pub data DeclarationRefuses : List ℕ → Why → List ℕ → Type 0 where
   version : {bs rest value after : List ℕ} → bs ≡ codes "<?xml" ++ rest → SettingAt (codes "version") rest value after → value ≢ codes "1.0"
-      → DeclarationRefuses bs N5 (after_white rest)
+      → DeclarationRefuses bs XmlVersion (after_white rest)
   encoding : {bs rest past_version value after : List ℕ} → bs ≡ codes "<?xml" ++ rest → SettingAt (codes "version") rest (codes "1.0") past_version
       → SettingAt (codes "encoding") past_version value after → (IsReadEncoding value → ⊥)
-      → DeclarationRefuses bs N3 (after_white past_version)
+      → DeclarationRefuses bs Encoding (after_white past_version)
 
 -- a document in which elements stand at most so deep (XML, 2.1, [1]; 2.8, [22], [28], [28b])
 pub data DocumentRefuses (deepest : ℕ) (text : List ℕ) : Cause → List ℕ → Type 0 where
   declaration : {at : List ℕ} {why : Why} → DeclarationRefuses (after_mark text) why at → DocumentRefuses deepest text (unsupported why) at
   subset : {past_declaration past_misc r : List ℕ} → DeclarationAt (after_mark text) past_declaration → MiscAt past_declaration past_misc
-      → DoctypeFrontAt past_misc (0x5B ∷ r) → DocumentRefuses deepest text (unsupported N1) (0x5B ∷ r)
+      → DoctypeFrontAt past_misc (0x5B ∷ r) → DocumentRefuses deepest text (unsupported DoctypeSubset) (0x5B ∷ r)
   element : {past_declaration past_misc root at : List ℕ} {cause : Cause} → DeclarationAt (after_mark text) past_declaration
       → MiscAt past_declaration past_misc → DoctypeAt past_misc root → ElementRefuses (length text) first_scope deepest root cause at
       → DocumentRefuses deepest text cause at

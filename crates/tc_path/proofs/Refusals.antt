@@ -2,7 +2,7 @@
 use Rattle.std.proofs.Common.{◌≡◌, ◌⊎◌, inl, inr, ℕ, ◌<◌, List, ◌∷◌, refl, ap, ◌∙◌, sym, subst, max, Option, None, Some, Result, Ok, Err, IfErr}
 use Rattle.std.specs.Result.{IsErrAnd}
 use Rattle.tc_base.specs.declared.reasons.Why.{Why}
-use Rattle.tc_base.specs.declared.reasons.Why.TheVariants.{N48, N51, N52}
+use Rattle.tc_base.specs.declared.reasons.Why.TheVariants.{Arithmetic, VariableReference, StringLiteral}
 use Rattle.tc_model.specs.PathTextTokens.{Token, Tokens, most_open, open_behind, IsTooDeep}
 use Rattle.tc_model.specs.PathText.{Forms}
 use Rattle.tc_model.proofs.PathTextLexing.{tokens_unique}
@@ -43,9 +43,9 @@ renamed_reason (as_it_is {t = t} {ts = ts} r) = by (renamed_reason r)
     by : {us : List Token} → (us ≡ ts) ⊎ HasReason ts → (t ∷ us ≡ t ∷ ts) ⊎ HasReason (t ∷ ts)
     by (inl e) = inl (ap (λ w. t ∷ w) e)
     by (inr h) = inr (λ c n b. one_of_two (reason_at (within c n) b t ts) (first_from c (brackets_behind n t) (behind b t) ts) (h c (brackets_behind n t) (behind b t)))
-renamed_reason (a_number r) = inr (λ c n b. (N48, refl))
-renamed_reason (a_literal r) = inr (λ c n b. (N52, refl))
-renamed_reason (a_variable r) = inr (λ c n b. (N51, refl))
+renamed_reason (a_number r) = inr (λ c n b. (Arithmetic, refl))
+renamed_reason (a_literal r) = inr (λ c n b. (StringLiteral, refl))
+renamed_reason (a_variable r) = inr (λ c n b. (VariableReference, refl))
 
 fault_none : {P : Type 0} (o : Option Why) → P → OrNoMemory (fault_of o) P
 fault_none None a = a

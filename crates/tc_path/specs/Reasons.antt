@@ -1,7 +1,7 @@
 -- The first construct of a text for which it is refused by a reason of its own, where it isn't of its form (XPath 1.0, 2 and 3).
 use Rattle.std.specs.Prelude.{ℕ, ◌+◌, ◌-◌, Bool, false, ◌&&◌, ◌||◌, not, ◌==◌, List, [], ◌∷◌, Option, None, Some, bytes_eq, codes, if◌then◌else◌}
 use Rattle.tc_base.specs.declared.reasons.Why.{Why}
-use Rattle.tc_base.specs.declared.reasons.Why.TheVariants.{N43, N44, N45, N46, N47, N48, N49, N50, N51, N52}
+use Rattle.tc_base.specs.declared.reasons.Why.TheVariants.{Axis, Dot, AbsolutePath, FunctionCall, Comparison, Arithmetic, Predicate, AttributeStep, VariableReference, StringLiteral}
 use Rattle.tc_model.specs.XmlTextNames.{QualifiedName}
 use Rattle.tc_model.specs.PathTextTokens.{Mark, star, slash, slashes, bar, open_parenthesis, close_parenthesis, open_bracket, close_bracket, at, dot, dots, colons, comma, comparison, arithmetic, Token, name, all_of_prefix, mark, number, literal, variable}
 use Rattle.tc_path.specs.declared.reasons.Context.{Context}
@@ -48,13 +48,13 @@ behind b variable = Operand
 
 -- the predicate that must not stand here
 abbrev pub bracket_reason : List Token → Option Why
-bracket_reason (mark open_bracket ∷ ts) = Some N49
+bracket_reason (mark open_bracket ∷ ts) = Some Predicate
 bracket_reason ts = None
 
 -- an attribute step whose name stands here: none may stand in a test or a value, and none may have predicates
 abbrev pub attribute_reason : Context → List Token → Option Why
-attribute_reason Test ts = Some N50
-attribute_reason Value ts = Some N50
+attribute_reason Test ts = Some AttributeStep
+attribute_reason Value ts = Some AttributeStep
 attribute_reason c (name n ∷ ts) = bracket_reason ts
 attribute_reason c (all_of_prefix p ∷ ts) = bracket_reason ts
 attribute_reason c (mark star ∷ ts) = bracket_reason ts
@@ -64,7 +64,7 @@ attribute_reason c ts = None
 abbrev pub axis_reason : Context → QualifiedName → List Token → Option Why
 axis_reason c n ts =
     if is_word n (codes "attribute") then attribute_reason c ts
-    else (if is_word n (codes "child") || not (bytes_eq n.prefix []) then None else Some N43)
+    else (if is_word n (codes "child") || not (bytes_eq n.prefix []) then None else Some Axis)
 
 abbrev pub other_node_reason : List Token → Option Why
 other_node_reason (mark close_parenthesis ∷ ts) = bracket_reason ts
@@ -78,31 +78,31 @@ is_of_test c n = false
 abbrev pub call_reason : Context → QualifiedName → List Token → Option Why
 call_reason c n ts =
     if is_word n (codes "comment") || is_word n (codes "processing-instruction") then other_node_reason ts
-    else (if is_word n (codes "text") || is_word n (codes "node") then None else (if is_of_test c n then None else Some N46))
+    else (if is_word n (codes "text") || is_word n (codes "node") then None else (if is_of_test c n then None else Some FunctionCall))
 
 -- a name before these tokens
 abbrev pub name_reason : Context → Before → QualifiedName → List Token → Option Why
-name_reason c Operand n ts = if is_word n (codes "div") || is_word n (codes "mod") then Some N48 else None
+name_reason c Operand n ts = if is_word n (codes "div") || is_word n (codes "mod") then Some Arithmetic else None
 name_reason c b n (mark colons ∷ ts) = axis_reason c n ts
 name_reason c b n (mark open_parenthesis ∷ ts) = call_reason c n ts
 name_reason c b n ts = None
 
 -- a `.` before these tokens: where an expression begins it may stand before `//`, but in no pattern
 abbrev pub dot_reason : Context → Before → List Token → Option Why
-dot_reason Pattern b ts = Some N44
+dot_reason Pattern b ts = Some Dot
 dot_reason c Nothing (mark slashes ∷ ts) = None
-dot_reason Value Nothing (mark open_bracket ∷ ts) = Some N49
-dot_reason c b ts = Some N44
+dot_reason Value Nothing (mark open_bracket ∷ ts) = Some Predicate
+dot_reason c b ts = Some Dot
 
 -- a path from the root, which may stand in a pattern alone
 abbrev pub slash_reason : Context → Before → Option Why
 slash_reason Pattern b = None
-slash_reason c Nothing = Some N45
+slash_reason c Nothing = Some AbsolutePath
 slash_reason c b = None
 
 -- a `*` is an operator behind an operand (XPath, 3.7)
 abbrev pub star_reason : Before → Option Why
-star_reason Operand = Some N48
+star_reason Operand = Some Arithmetic
 star_reason b = None
 
 -- a mark before these tokens
@@ -117,20 +117,20 @@ mark_reason c b open_bracket ts = None
 mark_reason c b close_bracket ts = None
 mark_reason c b at ts = attribute_reason c ts
 mark_reason c b dot ts = dot_reason c b ts
-mark_reason c b dots ts = Some N43
+mark_reason c b dots ts = Some Axis
 mark_reason c b colons ts = None
 mark_reason c b comma ts = None
-mark_reason c b comparison ts = Some N47
-mark_reason c b arithmetic ts = Some N48
+mark_reason c b comparison ts = Some Comparison
+mark_reason c b arithmetic ts = Some Arithmetic
 
 -- the construct that begins with this token, before these
 abbrev pub reason_at : Context → Before → Token → List Token → Option Why
 reason_at c b (name n) ts = name_reason c b n ts
 reason_at c b (all_of_prefix p) ts = None
 reason_at c b (mark m) ts = mark_reason c b m ts
-reason_at c b number ts = Some N48
-reason_at c b literal ts = Some N52
-reason_at c b variable ts = Some N51
+reason_at c b number ts = Some Arithmetic
+reason_at c b literal ts = Some StringLiteral
+reason_at c b variable ts = Some VariableReference
 
 -- how many brackets are open behind this token
 abbrev pub brackets_behind : ℕ → Token → ℕ

@@ -78,7 +78,7 @@ fn attribute_reason(context: Context, tokens: &[Token<'_>]) -> Option<Why>
     ensures { result ≡ reasons.attribute_reason context (tokens_of tokens.now) }
 {
     match context {
-        Context::Test | Context::Value => Some(Why::N50),
+        Context::Test | Context::Value => Some(Why::AttributeStep),
         Context::Select | Context::Pattern => {
             let (first, rest) = tokens.split_first()?;
             match first {
@@ -96,7 +96,7 @@ fn bracket_reason(tokens: &[Token<'_>]) -> Option<Why>
     ensures { result ≡ reasons.bracket_reason (tokens_of tokens.now) }
 {
     after_mark(tokens, Mark::OpenBracket)?;
-    Some(Why::N49)
+    Some(Why::Predicate)
 }
 
 /// The reason of an axis of this name, before these tokens (XPath 1.0, 2.2).
@@ -109,7 +109,7 @@ fn axis_reason(context: Context, name: &QualifiedName<'_>, tokens: &[Token<'_>])
     if is_word(name, "child") || !name.prefix.is_empty() {
         return None;
     }
-    Some(Why::N43)
+    Some(Why::Axis)
 }
 
 /// The reason of a call of this name, whose parenthesis opens before these tokens (XPath 1.0, 3.2).
@@ -125,7 +125,7 @@ fn call_reason(context: Context, name: &QualifiedName<'_>, tokens: &[Token<'_>])
     match context {
         Context::Test if is_word(name, "not") || is_word(name, "true") || is_word(name, "false") =>
             None,
-        _ => Some(Why::N46),
+        _ => Some(Why::FunctionCall),
     }
 }
 
@@ -140,7 +140,7 @@ fn name_reason(
 {
     if let Before::Operand = before {
         return if is_word(name, "div") || is_word(name, "mod") {
-            Some(Why::N48)
+            Some(Why::Arithmetic)
         } else {
             None
         };
@@ -160,9 +160,9 @@ fn dot_reason(context: Context, before: Before, tokens: &[Token<'_>]) -> Option<
             None,
         (Context::Value, Before::Nothing) if begins_with(tokens, Mark::Slashes) => None,
         (Context::Value, Before::Nothing) if begins_with(tokens, Mark::OpenBracket) => Some(
-            Why::N49,
+            Why::Predicate,
         ),
-        _ => Some(Why::N44),
+        _ => Some(Why::Dot),
     }
 }
 
@@ -172,18 +172,20 @@ fn mark_reason(context: Context, before: Before, sign: Mark, tokens: &[Token<'_>
 {
     match sign {
         Mark::Star => match before {
-            Before::Operand => Some(Why::N48),
+            Before::Operand => Some(Why::Arithmetic),
             Before::Nothing | Before::Joint => None,
         },
-        Mark::Dots => Some(Why::N43),
+        Mark::Dots => Some(Why::Axis),
         Mark::Dot => dot_reason(context, before, tokens),
         Mark::Slash | Mark::Slashes => match (before, context) {
-            (Before::Nothing, Context::Select | Context::Value | Context::Test) => Some(Why::N45),
+            (Before::Nothing, Context::Select | Context::Value | Context::Test) => Some(
+                Why::AbsolutePath,
+            ),
             _ => None,
         },
         Mark::At => attribute_reason(context, tokens),
-        Mark::Comparison => Some(Why::N47),
-        Mark::Arithmetic => Some(Why::N48),
+        Mark::Comparison => Some(Why::Comparison),
+        Mark::Arithmetic => Some(Why::Arithmetic),
         _ => None,
     }
 }
@@ -195,9 +197,9 @@ fn reason_at(context: Context, before: Before, first: &Token<'_>, rest: &[Token<
     match first {
         Token::Name(name) => name_reason(context, before, name, rest),
         Token::Mark(mark) => mark_reason(context, before, *mark, rest),
-        Token::Number => Some(Why::N48),
-        Token::Variable => Some(Why::N51),
-        Token::Literal => Some(Why::N52),
+        Token::Number => Some(Why::Arithmetic),
+        Token::Variable => Some(Why::VariableReference),
+        Token::Literal => Some(Why::StringLiteral),
         Token::AllOfPrefix(_) => None,
     }
 }

@@ -2,7 +2,7 @@
 use Rattle.std.proofs.Common.{◌≡◌, ℕ, Bool, true, false, List, [], ◌∷◌, refl, ap, ◌∙◌, sym, subst, length, arith, None, Some, codes}
 use Rattle.std.proofs.lemmas.Bool.{false≢true}
 use Rattle.tc_base.specs.declared.reasons.Why.{Why}
-use Rattle.tc_base.specs.declared.reasons.Why.TheVariants.{N7, N10, N15, N16}
+use Rattle.tc_base.specs.declared.reasons.Why.TheVariants.{ValuePattern, Include, Escape, TripleQuote}
 use Rattle.tc_model.specs.CompactSyntaxTokens.{Word, a_name, escaped, prefixed, all_of, literal, long_literal, mark, Token}
 use Rattle.tc_model.specs.CompactSyntaxNames.{IsWord, IsMark}
 use Rattle.tc_model.specs.CompactSyntaxUnread.{Refusal, unsupported, End, EscapeAt, NoEscape, AnnotationAt, bracket, two_signs, Unexpected, LiteralStops, escape_within, three_quotes, is_literal, unread_pattern, BeginsNoPattern, NoPattern, unread, value, no_token, BeginsNoDefinition, NoDefinition, include}
@@ -59,8 +59,8 @@ no_literal_at {t} {ts} {us} e h k = by (is_literal t.word) refl
     by true f = let one = h t ts e f in absurd (k one.value one.word)
     by false f = refl
 
-pub value_first : {end : End} {t : Token} {ts us : List Token} {s : List ℕ} → us ≡ t ∷ ts → ReadsLiteral us → t.word ≡ literal s → NoPattern end us (unsupported N7 t.place)
-value_first {end} {t} e h k = subst (λ z. NoPattern end z (unsupported N7 t.place)) (sym e) (value k (subst NoEscape e (read_literal e h k)))
+pub value_first : {end : End} {t : Token} {ts us : List Token} {s : List ℕ} → us ≡ t ∷ ts → ReadsLiteral us → t.word ≡ literal s → NoPattern end us (unsupported ValuePattern t.place)
+value_first {end} {t} e h k = subst (λ z. NoPattern end z (unsupported ValuePattern t.place)) (sym e) (value k (subst NoEscape e (read_literal e h k)))
 
 pub none_first : {end : End} {t : Token} {ts us : List Token} {r : Refusal} → us ≡ t ∷ ts → BeginsNoPattern t.word → Unexpected end us r → NoPattern end us r
 none_first {end} {r = r} e b y = subst (λ z. NoPattern end z r) (sym e) (u.none b (subst (λ z. Unexpected end z r) e y))
@@ -69,7 +69,7 @@ pub ended_first : {end : End} {us : List Token} {r : Refusal} → us ≡ [] → 
 ended_first {end} {r = r} e y = subst (λ z. NoPattern end z r) (sym e) (no_token (subst (λ z. Unexpected end z r) e y))
 
 -- a literal that isn't read wherever it stands
-pub escape_stops : {t : Token} {ts us : List Token} {p : ℕ} → us ≡ t ∷ ts → is_literal t.word ≡ true → EscapeAt us p → StopsAtLiteral us (unsupported N15 p)
+pub escape_stops : {t : Token} {ts us : List Token} {p : ℕ} → us ≡ t ∷ ts → is_literal t.word ≡ true → EscapeAt us p → StopsAtLiteral us (unsupported Escape p)
 escape_stops {t} {ts} {p = p} e k h = record { first = t; after = ts; parts = e; a_literal = k; stops = escape_within (subst (λ z. EscapeAt z p) e h) }
 
 long_word : (w : Word) → is_literal w ≡ true → ((s : List ℕ) → w ≡ literal s → ⊥) → (s : List ℕ) × (w ≡ long_literal s)
@@ -81,7 +81,7 @@ long_word (literal s) h k = absurd (k s refl)
 long_word (long_literal s) h k = (s, refl)
 long_word (mark c) h k = absurd (false≢true h)
 
-pub three_stop : {t : Token} {ts us : List Token} → us ≡ t ∷ ts → is_literal t.word ≡ true → NoEscape us → ((s : List ℕ) → t.word ≡ literal s → ⊥) → StopsAtLiteral us (unsupported N16 t.place)
+pub three_stop : {t : Token} {ts us : List Token} → us ≡ t ∷ ts → is_literal t.word ≡ true → NoEscape us → ((s : List ℕ) → t.word ≡ literal s → ⊥) → StopsAtLiteral us (unsupported TripleQuote t.place)
 three_stop {t} {ts} e k h l =
     let (s, is) = long_word t.word k l in
     record { first = t; after = ts; parts = e; a_literal = k; stops = three_quotes is (subst NoEscape e h) }
@@ -96,8 +96,8 @@ pub reads_plain : {t : Token} {ts us : List Token} {s : List ℕ} → us ≡ t �
 reads_plain {s = s} e h k t ts f x = record { value = s; word = ap (λ z. z.word) (same_head (sym f ∙ e)) ∙ k; no_escape = subst NoEscape f h }
 
 -- where a definition should begin
-pub include_first : {end : End} {t : Token} {us : List Token} → IsFirst t us → IsWord (codes "include") t → NoDefinition end us (unsupported N10 t.place)
-include_first {end} {t} (ts, e) k = subst (λ z. NoDefinition end z (unsupported N10 t.place)) (sym e) (include k)
+pub include_first : {end : End} {t : Token} {us : List Token} → IsFirst t us → IsWord (codes "include") t → NoDefinition end us (unsupported Include t.place)
+include_first {end} {t} (ts, e) k = subst (λ z. NoDefinition end z (unsupported Include t.place)) (sym e) (include k)
 
 not_brace : {t : Token} {us : List Token} → IsFirst t us → (IsEndOfDefinitions us → ⊥) → IsMark 0x7D t → ⊥
 not_brace (ts, e) h k = h (subst IsEndOfDefinitions (sym e) k)

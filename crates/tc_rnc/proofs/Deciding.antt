@@ -3,7 +3,7 @@ use Rattle.std.proofs.Common.{◌≡◌, ◌≢◌, ◌⊎◌, inl, inr, ℕ, ze
 use Rattle.std.proofs.lemmas.Bool.{false≢true, cases_lt}
 use Rattle.std.proofs.lemmas.Bool.Decides.{eqb_tells}
 use Rattle.std.proofs.lemmas.Slice.Eq.{bytes_eq-Decides}
-use Rattle.tc_base.specs.declared.reasons.Why.TheVariants.{N14, N15}
+use Rattle.tc_base.specs.declared.reasons.Why.TheVariants.{Annotation, Escape}
 use Rattle.tc_model.specs.XmlTextBytes.{length_before}
 use Rattle.tc_model.specs.CompactSyntaxTokens.{Word, a_name, escaped, prefixed, all_of, literal, long_literal, mark, Token}
 use Rattle.tc_model.specs.CompactSyntaxUnread.{Refusal, malformed, unsupported, End, escape_mark, EscapeAt, in_text, in_literal, in_long_literal, NoEscape, AnnotationAt, bracket, Unexpected, escape, annotation, other, unclosed, at_end}
@@ -175,14 +175,14 @@ unexpected end ts = by ts (escape_at ts)
   where
     ended : (o : Option ℕ) → end.escape ≡ o → (r : Refusal) × Unexpected end [] r
     ended None e = (malformed end.place, at_end e)
-    ended (Some p) e = (unsupported N15 p, unclosed e)
+    ended (Some p) e = (unsupported Escape p, unclosed e)
 
     first : (t : Token) (us : List Token) → NoEscape (t ∷ us) → Decided (AnnotationAt (t ∷ us)) → (r : Refusal) × Unexpected end (t ∷ us) r
-    first t us h (inl a) = (unsupported N14 t.place, annotation a)
+    first t us h (inl a) = (unsupported Annotation t.place, annotation a)
     first t us h (inr k) = (malformed t.place, other h k)
 
     by : (us : List Token) → ((p : ℕ) × EscapeAt us p) ⊎ NoEscape us → (r : Refusal) × Unexpected end us r
-    by us (inl (p, a)) = (unsupported N15 p, escape a)
+    by us (inl (p, a)) = (unsupported Escape p, escape a)
     by [] (inr h) = ended end.escape refl
     by (t ∷ us) (inr h) = first t us h (annotation_at t us)
 

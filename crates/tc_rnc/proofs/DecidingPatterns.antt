@@ -2,7 +2,7 @@
 use Rattle.std.proofs.Common.{◌≡◌, ◌⊎◌, inl, inr, ℕ, zero, suc, ◌<◌, Bool, true, false, List, [], ◌∷◌, refl, ap, ◌∙◌, sym, length, arith, Option, None, Some, codes}
 use Rattle.std.proofs.lemmas.Bool.{false≢true}
 use Rattle.tc_base.specs.declared.reasons.Why.{Why}
-use Rattle.tc_base.specs.declared.reasons.Why.TheVariants.{N7, N15, N16}
+use Rattle.tc_base.specs.declared.reasons.Why.TheVariants.{ValuePattern, Escape, TripleQuote}
 use Rattle.tc_model.specs.RawTrees.{Bound}
 use Rattle.tc_model.specs.CompactSyntaxTrees.{SyntaxClass, SyntaxPattern, SyntaxPatterns, no_more, more}
 use Rattle.tc_model.specs.CompactSyntaxTrees as tree
@@ -34,9 +34,9 @@ pub no_pattern : (end : End) (t : Token) (ts : List Token) → BeginsNone t.word
 no_pattern end t ts b = by (unread_pattern t.word) refl
   where
     of_literal : is_literal t.word ≡ true → ((q : ℕ) × EscapeAt (t ∷ ts) q) ⊎ NoEscape (t ∷ ts) → (w : Word) → t.word ≡ w → (r : Refusal) × NoPattern end (t ∷ ts) r
-    of_literal h (inl (q, a)) w e = (unsupported N15 q, u.a_literal h (escape_within a))
-    of_literal h (inr g) (literal s) e = (unsupported N7 t.place, u.value e g)
-    of_literal h (inr g) (long_literal s) e = (unsupported N16 t.place, u.a_literal h (three_quotes e g))
+    of_literal h (inl (q, a)) w e = (unsupported Escape q, u.a_literal h (escape_within a))
+    of_literal h (inr g) (literal s) e = (unsupported ValuePattern t.place, u.value e g)
+    of_literal h (inr g) (long_literal s) e = (unsupported TripleQuote t.place, u.a_literal h (three_quotes e g))
     of_literal h (inr g) (a_name m) e = absurd (false≢true (sym (ap is_literal e) ∙ h))
     of_literal h (inr g) (escaped m) e = absurd (false≢true (sym (ap is_literal e) ∙ h))
     of_literal h (inr g) (prefixed q m) e = absurd (false≢true (sym (ap is_literal e) ∙ h))

@@ -1,7 +1,7 @@
 -- Definitions, declarations and schemas are read, or their reading stops.
 use Rattle.std.proofs.Common.{◌≡◌, ◌⊎◌, inl, inr, ℕ, zero, suc, ◌+◌, ◌<◌, ◌≤◌, Bool, true, false, List, [], ◌∷◌, ◌++◌, refl, ap, ◌∙◌, sym, length, arith, Option, None, Some, codes}
 use Rattle.std.proofs.lemmas.Bool.{false≢true}
-use Rattle.tc_base.specs.declared.reasons.Why.TheVariants.{N10, N11, N13, N15, N16, N17}
+use Rattle.tc_base.specs.declared.reasons.Why.TheVariants.{Include, NestedGrammar, InheritedNamespace, Escape, TripleQuote, Concatenation}
 use Rattle.tc_model.specs.Names.{xmlns_uri}
 use Rattle.tc_model.specs.RawTrees.{Bound}
 use Rattle.tc_model.specs.XmlTextScopes.{uri_of}
@@ -118,7 +118,7 @@ module _ (end : End) (scope : List Bound) where
       by : Decided (IsWord (codes "start") t) → Decided (IsWord (codes "div") t) → Decided (IsWord (codes "include") t) → (o : Option (List ℕ)) → identifier t.word ≡ o → DefinitionHere d (t ∷ ts)
       by (inl e) k i o f = start_at e (operator_here ts)
       by (inr h) (inl e) i o f = div_at e (block_of ts (λ us g. definitions us (omega (arith, g))) d)
-      by (inr h) (inr k) (inl e) o f = stops_definition (unsupported N10 t.place) (st.no_definition (u.include e))
+      by (inr h) (inr k) (inl e) o f = stops_definition (unsupported Include t.place) (st.no_definition (u.include e))
       by (inr h) (inr k) (inr i) (Some m) f = named_at f (operator_here ts)
       by (inr h) (inr k) (inr i) None f =
           let (r, x) = unexpected end (t ∷ ts) in
@@ -160,13 +160,13 @@ module _ (end : End) where
   plain_name {i} t (v ∷ ts) uri e g = by (mark_is 0x7E v.word)
     where
       by : Decided (IsMark 0x7E v) → NameHere i (t ∷ (v ∷ ts))
-      by (inl f) = stops_name (unsupported N17 v.place) (u.concatenation e g f)
+      by (inl f) = stops_name (unsupported Concatenation v.place) (u.concatenation e g f)
       by (inr k) = reads_name uri (v ∷ ts) (l.a_literal t (t ∷ (v ∷ ts)) (v ∷ ts) uri refl e g) (l.name_read refl e g k)
 
   literal_name : {i : Bool} (t : Token) (ts : List Token) → is_literal t.word ≡ true → ((q : ℕ) × EscapeAt (t ∷ ts) q) ⊎ NoEscape (t ∷ ts) → (w : Word) → t.word ≡ w → NameHere i (t ∷ ts)
-  literal_name t ts h (inl (q, a)) w e = stops_name (unsupported N15 q) (u.a_literal h (escape_within a))
+  literal_name t ts h (inl (q, a)) w e = stops_name (unsupported Escape q) (u.a_literal h (escape_within a))
   literal_name t ts h (inr g) (literal v) e = plain_name t ts v e g
-  literal_name t ts h (inr g) (long_literal v) e = stops_name (unsupported N16 t.place) (u.a_literal h (three_quotes e g))
+  literal_name t ts h (inr g) (long_literal v) e = stops_name (unsupported TripleQuote t.place) (u.a_literal h (three_quotes e g))
   literal_name t ts h (inr g) (a_name m) e = absurd (false≢true (sym (ap is_literal e) ∙ h))
   literal_name t ts h (inr g) (escaped m) e = absurd (false≢true (sym (ap is_literal e) ∙ h))
   literal_name t ts h (inr g) (prefixed q m) e = absurd (false≢true (sym (ap is_literal e) ∙ h))
@@ -183,7 +183,7 @@ module _ (end : End) where
 
       by : (x : Bool) → is_literal t.word ≡ x → Decided ((i ≡ true) × IsWord (codes "inherit") t) → NameHere i (t ∷ ts)
       by true h k = literal_name t ts h (escape_at (t ∷ ts)) t.word refl
-      by false h (inl (a, b)) = stops_name (unsupported N13 t.place) (u.inherit a b)
+      by false h (inl (a, b)) = stops_name (unsupported InheritedNamespace t.place) (u.inherit a b)
       by false h (inr k) = let (r, x) = unexpected end (t ∷ ts) in stops_name r (u.none h (λ a b. k (a, b)) x)
 
   -- an equals sign and a name
@@ -326,7 +326,7 @@ module _ (end : End) where
   grammar_at {scope} {t = t} e (reads_block {d} {t = b} {v = z} {inside = inside} {after = w ∷ rest} ds k a g h) = by (goes_on (w ∷ rest))
     where
       by : Decided (GoesOnAsPattern (w ∷ rest)) → SchemaHere scope (suc d) (t ∷ (b ∷ inside))
-      by (inl o) = stops_schema (unsupported N11 t.place) (st.inner_grammar {t = t} e (block {t = b} {u = z} k a g) o)
+      by (inl o) = stops_schema (unsupported NestedGrammar t.place) (st.inner_grammar {t = t} e (block {t = b} {u = z} k a g) o)
       by (inr o) = let (r, x) = unexpected end (w ∷ rest) in stops_schema r (st.past_grammar {t = t} e (block {t = b} {u = z} k a g) o x)
 
   declaration_of : {scope : List Bound} {d : ℕ} {ts : List Token} → DeclarationHere end scope ts → ((within : List Bound) (us : List Token) → length us < length ts → SchemaHere within d us) → SchemaHere scope d ts

@@ -1,7 +1,7 @@
 -- Why declarations are read, or not, where their parts are.
 use Rattle.std.proofs.Common.{◌≡◌, ◌⊎◌, inl, inr, ℕ, ◌+◌, ◌<◌, ◌≤◌, Bool, true, false, List, [], ◌∷◌, refl, ap, ◌∙◌, sym, subst, length, arith, None, Some, codes}
 use Rattle.std.proofs.lemmas.Bool.{cases_lt, false≢true}
-use Rattle.tc_base.specs.declared.reasons.Why.TheVariants.{N13, N17}
+use Rattle.tc_base.specs.declared.reasons.Why.TheVariants.{InheritedNamespace, Concatenation}
 use Rattle.tc_model.specs.RawTrees.{Bound}
 use Rattle.tc_model.specs.XmlTextBytes.{Lacks, length_before}
 use Rattle.tc_model.specs.CompactSyntaxTokens.{literal, Token}
@@ -36,8 +36,8 @@ lacks_when uri h = not_less (length_before escape_mark uri) (length uri) (before
 pub a_literal : (t : Token) (ts rest : List Token) (uri : List ℕ) → ts ≡ t ∷ rest → t.word ≡ literal uri → NoEscape ts → LiteralAt ts uri rest
 a_literal t ts rest uri is k h = (t, is, record { word = k; no_escape = lacks_when uri (λ less. subst NoEscape is h (t.place + 1 + length_before escape_mark uri) (in_literal k less)) })
 
-pub inherited : {end : End} {i : Bool} {t : Token} {ts us : List Token} → us ≡ t ∷ ts → (i ≡ true) × IsWord (codes "inherit") t → NoNamespaceName end i us (unsupported N13 t.place)
-inherited {end} {i} {t} e k = subst (λ z. NoNamespaceName end i z (unsupported N13 t.place)) (sym e) (inherit k.0 k.1)
+pub inherited : {end : End} {i : Bool} {t : Token} {ts us : List Token} → us ≡ t ∷ ts → (i ≡ true) × IsWord (codes "inherit") t → NoNamespaceName end i us (unsupported InheritedNamespace t.place)
+inherited {end} {i} {t} e k = subst (λ z. NoNamespaceName end i z (unsupported InheritedNamespace t.place)) (sym e) (inherit k.0 k.1)
 
 pub no_name : {end : End} {i : Bool} {t : Token} {ts us : List Token} {r : Refusal} → us ≡ t ∷ ts → is_literal t.word ≡ false → (i ≡ true → IsWord (codes "inherit") t → ⊥) → Unexpected end us r
     → NoNamespaceName end i us r
@@ -49,10 +49,10 @@ no_name_at_end {end} {i} {r = r} e y = subst (λ z. NoNamespaceName end i z r) (
 pub unread_name : {end : End} {i : Bool} {us : List Token} {r : Refusal} → StopsAtLiteral us r → NoNamespaceName end i us r
 unread_name {end} {i} {r = r} h = subst (λ z. NoNamespaceName end i z r) (sym h.parts) (u.a_literal h.a_literal h.stops)
 
-pub joined_name : {end : End} {i : Bool} {t : Token} {ts us : List Token} {s : List ℕ} {p : ℕ} → us ≡ t ∷ ts → t.word ≡ literal s → NoEscape us → BeginsAt 0x7E ts p → NoNamespaceName end i us (unsupported N17 p)
+pub joined_name : {end : End} {i : Bool} {t : Token} {ts us : List Token} {s : List ℕ} {p : ℕ} → us ≡ t ∷ ts → t.word ≡ literal s → NoEscape us → BeginsAt 0x7E ts p → NoNamespaceName end i us (unsupported Concatenation p)
 joined_name {end} {i} {t} {us = us} {p = p} e k g (v, (rest, (is, m, at))) =
     let all : us ≡ t ∷ v ∷ rest = e ∙ ap (λ z. t ∷ z) is in
-    subst (λ z. NoNamespaceName end i z (unsupported N17 p)) (sym all) (subst (λ z. NoNamespaceName end i (t ∷ v ∷ rest) (unsupported N17 z)) (sym at) (concatenation k (subst NoEscape all g) m))
+    subst (λ z. NoNamespaceName end i z (unsupported Concatenation p)) (sym all) (subst (λ z. NoNamespaceName end i (t ∷ v ∷ rest) (unsupported Concatenation z)) (sym at) (concatenation k (subst NoEscape all g) m))
 
 -- a namespace name that is read stops nothing
 pub name_read : {end : End} {i : Bool} {t : Token} {ts us : List Token} {s : List ℕ} → us ≡ t ∷ ts → t.word ≡ literal s → NoEscape us → LacksMark 0x7E ts → (v : Refusal) → NoNamespaceName end i us v → ⊥

@@ -53,7 +53,7 @@ fn literal<'s, 't>(
         return Err(unexpected(tokens, end));
     };
     if is_inherited(first, may_inherit) {
-        return Err(RncFault::Unsupported(first.place, Why::N13));
+        return Err(RncFault::Unsupported(first.place, Why::InheritedNamespace));
     }
     if let Some(fault) = unread_literal(tokens) {
         return Err(fault);
@@ -62,7 +62,7 @@ fn literal<'s, 't>(
         return Err(unexpected(tokens, end));
     };
     if let Some(place) = tilde_at(rest) {
-        return Err(RncFault::Unsupported(place, Why::N17));
+        return Err(RncFault::Unsupported(place, Why::Concatenation));
     }
     Ok((value, rest))
 }

@@ -88,7 +88,7 @@ fn no_definition(first: &Token<'_>, tokens: &[Token<'_>], end: End) -> RncFault
     ensures { Refuses (unread.NoDefinition (seen.end end) (seen.tokens tokens.now)) result }
 {
     if first.is_name("include") {
-        return RncFault::Unsupported(first.place, Why::N10);
+        return RncFault::Unsupported(first.place, Why::Include);
     }
     unexpected(tokens, end)
 }

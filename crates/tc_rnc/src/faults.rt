@@ -126,7 +126,7 @@ pub fn at_end(end: End) -> RncFault
     ensures { Refuses (unread.Unexpected (seen.end end) []) result }
 {
     match end.escape {
-        Some(place) => RncFault::Unsupported(place, Why::N15),
+        Some(place) => RncFault::Unsupported(place, Why::Escape),
         None => RncFault::Malformed(end.place),
     }
 }
@@ -136,13 +136,13 @@ pub fn unexpected(tokens: &[Token<'_>], end: End) -> RncFault
     ensures { Refuses (unread.Unexpected (seen.end end) (seen.tokens tokens.now)) result }
 {
     if let Some(place) = escape_at(tokens) {
-        return RncFault::Unsupported(place, Why::N15);
+        return RncFault::Unsupported(place, Why::Escape);
     }
     let Some((first, rest)) = first_of(tokens) else {
         return at_end(end);
     };
     if is_annotation(first, rest) {
-        return RncFault::Unsupported(first.place, Why::N14);
+        return RncFault::Unsupported(first.place, Why::Annotation);
     }
     RncFault::Malformed(first.place)
 }
@@ -152,17 +152,17 @@ fn unread_keyword(name: &str) -> Option<Why>
     ensures { result ≡ unread.unread_keyword name.now }
 {
     if name == "string" {
-        Some(Why::N6)
+        Some(Why::DataPattern)
     } else if name == "token" {
-        Some(Why::N6)
+        Some(Why::DataPattern)
     } else if name == "list" {
-        Some(Why::N8)
+        Some(Why::ListPattern)
     } else if name == "external" {
-        Some(Why::N9)
+        Some(Why::ExternalPattern)
     } else if name == "grammar" {
-        Some(Why::N11)
+        Some(Why::NestedGrammar)
     } else if name == "parent" {
-        Some(Why::N12)
+        Some(Why::ParentReference)
     } else {
         None
     }
@@ -174,7 +174,7 @@ fn unread_pattern(token: &Token<'_>) -> Option<Why>
 {
     match token.word {
         Word::Name(name) => unread_keyword(name),
-        Word::Prefixed(_, _) => Some(Why::N6),
+        Word::Prefixed(_, _) => Some(Why::DataPattern),
         _ => None,
     }
 }
@@ -188,11 +188,11 @@ pub fn unread_literal(tokens: &[Token<'_>]) -> Option<RncFault>
         return None;
     }
     if let Some(place) = escape_at(tokens) {
-        return Some(RncFault::Unsupported(place, Why::N15));
+        return Some(RncFault::Unsupported(place, Why::Escape));
     }
     match first.literal() {
         Some(_) => None,
-        None => Some(RncFault::Unsupported(first.place, Why::N16)),
+        None => Some(RncFault::Unsupported(first.place, Why::TripleQuote)),
     }
 }
 
@@ -211,7 +211,7 @@ pub fn no_pattern(tokens: &[Token<'_>], end: End) -> RncFault
         return fault;
     }
     match first.literal() {
-        Some(_) => RncFault::Unsupported(first.place, Why::N7),
+        Some(_) => RncFault::Unsupported(first.place, Why::ValuePattern),
         None => unexpected(tokens, end),
     }
 }

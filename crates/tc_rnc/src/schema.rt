@@ -130,7 +130,7 @@ impl<'b> Parser<'b> {
         let mut defs = Vec::new(self.arena);
         let after = self.braced_definitions(&mut defs, rest, DEEPEST)?;
         if goes_on(after) {
-            return Err(RncFault::Unsupported(word.place, Why::N11));
+            return Err(RncFault::Unsupported(word.place, Why::NestedGrammar));
         }
         expect_end(after, self.end)?;
         Ok(into_bump_slice(defs))

@@ -10,7 +10,7 @@ use Rattle.tc_base.specs.Characters.{is_char}
 use Rattle.tc_model.specs.Names.{IsChars}
 use Rattle.tc_model.specs.XmlTextBytes.{FrontOf}
 use Rattle.tc_model.proofs.XmlTextChars.{char_scalar, no_chars, one_char, join_chars}
-use Rattle.tc_scan.specs.Chars.{IsUtf8Front, IsNoChar, at_end, other, IsPastChars, is_plain_byte}
+use Rattle.tc_scan.specs.Chars.{IsUtf8Front, IsNoChar, at_end, other, IsPastChars, is_start_of_chars_only}
 use Rattle.tc_scan.proofs.CharsLaws.{plain_text}
 
 char_some : (c : ℕ) → 0 < length (encode_utf8 c)
@@ -77,7 +77,7 @@ front_of bytes text rest front n a b f g =
         true≢false (sym h ∙ (ap is_char (encode_same c d r (s ++ a.after) (sym e ∙ (ap (λ w. w ++ a.after) i ∙ append_assoc (encode_utf8 d) s a.after))).0 ∙ k))
 
 -- nothing follows a text of plain bytes
-pub past_plain : (text rest : List ℕ) → IsUtf8 text → list_all is_plain_byte text ≡ true → rest ≡ [] → IsPastChars text rest
+pub past_plain : (text rest : List ℕ) → IsUtf8 text → list_all is_start_of_chars_only text ≡ true → rest ≡ [] → IsPastChars text rest
 past_plain text rest u h e = record {
   front = text;
   parts = sym (append-nil text) ∙ ap (λ w. text ++ w) (sym e);

@@ -6,8 +6,8 @@ use Rattle.tc_model.specs.Names.{IsChars}
 
 -- no character that XML lacks begins with this byte: in UTF-8 those of ASCII are one byte below 0x20, and U+FFFE and U+FFFF begin with 0xEF. So a text of such
 -- bytes alone has characters of XML alone
-abbrev pub is_plain_byte : ℕ → Bool
-is_plain_byte b = b == 0x9 || b == 0xA || b == 0xD || (nat_le 0x20 b && not (b == 0xEF))
+abbrev pub is_start_of_chars_only : ℕ → Bool
+is_start_of_chars_only b = b == 0x9 || b == 0xA || b == 0xD || (nat_le 0x20 b && not (b == 0xEF))
 
 -- the longest front that is text in UTF-8
 pub record IsUtf8Front (bytes front : List ℕ) : Type 0 where

@@ -3,26 +3,26 @@ ghost use Rattle.std.specs.Prelude.{◌≡◌, ◌↔◌, IsTrue, MatchBool};
 ghost use Rattle.std.specs.List.{list_all};
 ghost use Rattle.tc_model.specs.Names.{IsChars};
 ghost use Rattle.tc_model.specs.XmlTextBytes.{FrontOf};
-ghost use Rattle.tc_scan.specs.Chars.{IsPastChars, IsUtf8Front, is_plain_byte};
+ghost use Rattle.tc_scan.specs.Chars.{IsPastChars, IsUtf8Front, is_start_of_chars_only};
 
 use crate::names::first_char;
 use simdutf8::compat::from_utf8;
 use tc_base::is_char;
 
-/// Whether no character that XML lacks begins with this byte.
-fn is_plain(byte: u8) -> bool
-    ensures { result ≡ is_plain_byte byte }
+/// Whether no character that XML lacks begins with this byte: U+FFFE and U+FFFF begin with 0xEF.
+fn starts_chars_only(byte: u8) -> bool
+    ensures { result ≡ is_start_of_chars_only byte }
 {
     byte == b'\t' || byte == b'\n' || byte == b'\r' || byte >= b' ' && byte != 0xEF
 }
 
 /// Whether none begins with any of these bytes.
-fn are_plain(bytes: &[u8]) -> bool
-    ensures { result ≡ list_all is_plain_byte bytes.now }
+fn start_chars_only(bytes: &[u8]) -> bool
+    ensures { result ≡ list_all is_start_of_chars_only bytes.now }
 {
     let mut plain = true;
     for byte in bytes {
-        plain &= is_plain(*byte);
+        plain &= starts_chars_only(*byte);
     }
     plain
 }
@@ -39,7 +39,7 @@ fn all_are_chars(text: &str) -> bool
 pub fn are_chars(text: &str) -> bool
     ensures { MatchBool result (IsChars text.now) (IsChars text.now → ⊥) }
 {
-    are_plain(text.as_bytes()) || all_are_chars(text)
+    start_chars_only(text.as_bytes()) || all_are_chars(text)
 }
 
 /// The front of the bytes that is text in UTF-8.
@@ -73,7 +73,7 @@ fn past_characters(text: &str) -> &str
 fn after_characters(text: &str) -> &str
     ensures { IsPastChars text.now result.now }
 {
-    if are_plain(text.as_bytes()) {
+    if start_chars_only(text.as_bytes()) {
         return &text[text.len()..];
     }
     past_characters(text)

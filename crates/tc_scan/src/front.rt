@@ -56,7 +56,7 @@ fn white_len(text: &str) -> usize
     count
 }
 
-/// What follows the white space at the front, if there is some (XML 1.0, 2.3).
+/// What follows the white space at the front: all of the text where there is none (XML 1.0, 2.3).
 pub fn after_white(text: &str) -> &str
     ensures { result.now ≡ xml.after_white text.now }
 {

@@ -18,8 +18,8 @@ use Rattle.tc_sheet.specs.Changes.{Change}
 use Rattle.tc_sheet.specs.Readings.{attributes_of, HasNoAttributes}
 use Rattle.tc_sheet.proofs.Changes.{kept_only, kept_literal, Becomes, value_becomes}
 
-abbrev pub is_plain : List ℕ → Attribute → Bool
-is_plain local a = is_empty a.name.uri && bytes_eq a.name.local local
+abbrev pub has_plain_name : List ℕ → Attribute → Bool
+has_plain_name local a = is_empty a.name.uri && bytes_eq a.name.local local
 
 pub both_of : (a b : Bool) → (a && b) ≡ true → (a ≡ true) × (b ≡ true)
 both_of true true e = (refl, refl)

@@ -5,7 +5,7 @@ use Rattle.std.specs.List.{list_any}
 use Rattle.std.proofs.lemmas.Bool.{true≢false, eqb-true}
 use Rattle.std.proofs.lemmas.List.Elements.{All-contains}
 use Rattle.tc_base.specs.declared.reasons.Why.{Why}
-use Rattle.tc_base.specs.declared.reasons.Why.TheVariants.{N35, N37, N38, N39, N40, N41, N42}
+use Rattle.tc_base.specs.declared.reasons.Why.TheVariants.{ExtensionElements, DisableOutputEscaping, ComputedName, XslCopyOf, UseAttributeSets, XsltVersion, UnknownXslt}
 use Rattle.tc_model.specs.Names.{ExpandedName}
 use Rattle.tc_model.specs.RawTrees.{Attribute, Bound}
 use Rattle.tc_model.specs.Views.{name, place, attribute}
@@ -77,7 +77,7 @@ module _ {X : Type 0} (M : List ℕ → X → Type 0) {e : RawElem} {local : Lis
 pub required_refuses : {X : Type 0} (e : RawElem) (local : List ℕ) (M : List ℕ → X → Type 0) (x : SheetFault) → Refuses x (alone e) (HasNoAttributes e (λ olds. (s : List ℕ) × (value_of local olds ≡ Some s))) → Refuses x (alone e) (HasNoRequired e local M)
 required_refuses e local M x r = refused (alone e) (λ c h. no_required e local M c h) x r
 
-pub computed_name : (e : RawElem) (a : RawAttr) → IsXsl (codes "element") (name e.name) → IsAttribute e (codes "name") a → Contains (attribute a).value 0x7B → constructs.IsRefusedAttribute (name e.name) (scope_of e) (attribute a) N38
+pub computed_name : (e : RawElem) (a : RawAttr) → IsXsl (codes "element") (name e.name) → IsAttribute e (codes "name") a → Contains (attribute a).value 0x7B → constructs.IsRefusedAttribute (name e.name) (scope_of e) (attribute a) ComputedName
 computed_name e a n at h = constructs.computed n at.name h
 
 pub no_brace : (s : List ℕ) → All (λ x. x ≢ 0x7B) s → Contains s 0x7B → ⊥
@@ -140,7 +140,7 @@ attributes_there e a at t = record { written = (attribute a).value; has = at.val
 
 -- a select with other nodes is exchanged for none of attributes alone, unless it nests too deep
 pub not_attributes : (e : RawElem) (a : RawAttr) → IsXsl (codes "copy-of") (name e.name) → IsAttribute e (codes "select") a → (q : Path) × SelectText (scope_of e) (attribute a).value q → (AttributesText (scope_of e) (attribute a).value → ⊥)
-    → IsAt (alone e) (IsRefused N39) (place a.place) × HasNoAttributes e (HasAttributesText (scope_of e)) flattened
+    → IsAt (alone e) (IsRefused XslCopyOf) (place a.place) × HasNoAttributes e (HasAttributesText (scope_of e)) flattened
 not_attributes e a n at (q, s) refuses = (attribute_at e a at.has (constructs.copied n at.name s refuses), none_changed)
   where
     by : (olds : List Attribute) → Becomes flattened (codes "select") (Some (attribute a).value) (value_of (codes "select") olds) → HasAttributesText (scope_of e) olds → ⊥
@@ -153,31 +153,31 @@ not_attributes e a n at (q, s) refuses = (attribute_at e a at.has (constructs.co
 -- attributes that an element must not have
 module _ (e : RawElem) (a : RawAttr) (has : Contains (attributes_of e) (attribute a)) where
   module _ (xslt : (name e.name).uri ≡ xsl_uri) (no_uri : is_empty (attribute a).name.uri ≡ true) where
-    pub escaping_at : bytes_eq (attribute a).name.local (codes "disable-output-escaping") ≡ true → IsAt (alone e) (IsRefused N37) (place a.place)
+    pub escaping_at : bytes_eq (attribute a).name.local (codes "disable-output-escaping") ≡ true → IsAt (alone e) (IsRefused DisableOutputEscaping) (place a.place)
     escaping_at f = attribute_at e a has (constructs.escaping xslt (plain_name (attribute a).name (codes "disable-output-escaping") no_uri f))
 
-    pub sets_at : bytes_eq (attribute a).name.local (codes "use-attribute-sets") ≡ true → IsAt (alone e) (IsRefused N40) (place a.place)
+    pub sets_at : bytes_eq (attribute a).name.local (codes "use-attribute-sets") ≡ true → IsAt (alone e) (IsRefused UseAttributeSets) (place a.place)
     sets_at f = attribute_at e a has (constructs.sets xslt (plain_name (attribute a).name (codes "use-attribute-sets") no_uri f))
 
-    pub namespace_at : bytes_eq (attribute a).name.local (codes "namespace") ≡ true → IsXsl (codes "element") (name e.name) → IsAt (alone e) (IsRefused N38) (place a.place)
+    pub namespace_at : bytes_eq (attribute a).name.local (codes "namespace") ≡ true → IsXsl (codes "element") (name e.name) → IsAt (alone e) (IsRefused ComputedName) (place a.place)
     namespace_at f n = attribute_at e a has (constructs.of_namespace n (plain_name (attribute a).name (codes "namespace") no_uri f))
 
-    pub extension_at : bytes_eq (attribute a).name.local (codes "extension-element-prefixes") ≡ true → IsRoot (name e.name) → IsAt (alone e) (IsRefused N35) (place a.place)
+    pub extension_at : bytes_eq (attribute a).name.local (codes "extension-element-prefixes") ≡ true → IsRoot (name e.name) → IsAt (alone e) (IsRefused ExtensionElements) (place a.place)
     extension_at f n = attribute_at e a has (constructs.extension n (plain_name (attribute a).name (codes "extension-element-prefixes") no_uri f))
 
   pub place_at : IsUnrefused (of_attribute (tag_of e) (attribute a)) → IsAt (alone e) IsUnrefused (place a.place)
   place_at r = attribute_at e a has r
 
-  pub literal_sets_at : (name e.name).uri ≢ xsl_uri → (attribute a).name.uri ≡ xsl_uri → bytes_eq (attribute a).name.local (codes "use-attribute-sets") ≡ true → IsAt (alone e) (IsRefused N40) (place a.place)
+  pub literal_sets_at : (name e.name).uri ≢ xsl_uri → (attribute a).name.uri ≡ xsl_uri → bytes_eq (attribute a).name.local (codes "use-attribute-sets") ≡ true → IsAt (alone e) (IsRefused UseAttributeSets) (place a.place)
   literal_sets_at u v f = attribute_at e a has (constructs.literal_sets u (xsl_name (attribute a).name (codes "use-attribute-sets") v (bytes_same (attribute a).name.local (codes "use-attribute-sets") f)))
 
   pub unknown_at : (name e.name).uri ≢ xsl_uri → (attribute a).name.uri ≡ xsl_uri → (attribute a).name.local ≢ codes "exclude-result-prefixes" → bytes_eq (attribute a).name.local (codes "use-attribute-sets") ≡ false
-      → IsAt (alone e) (IsRefused N42) (place a.place)
+      → IsAt (alone e) (IsRefused UnknownXslt) (place a.place)
   unknown_at u v f g = attribute_at e a has (constructs.unknown u v f (differs (attribute a).name.local (codes "use-attribute-sets") g))
 
 -- the version
 pub version_refused : (e : RawElem) (a : RawAttr) → IsRoot (name e.name) → IsAttribute e (codes "version") a → bytes_eq (attribute a).value (codes "1.0") ≡ false
-    → IsAt (alone e) (IsRefused N41) (place a.place) × HasNoAttributes e (λ olds. value_of (codes "version") olds ≡ Some (codes "1.0")) flattened
+    → IsAt (alone e) (IsRefused XsltVersion) (place a.place) × HasNoAttributes e (λ olds. value_of (codes "version") olds ≡ Some (codes "1.0")) flattened
 version_refused e a n at f = (
   attribute_at e a at.has (constructs.version n at.name (differs (attribute a).value (codes "1.0") f)),
   λ olds u g. differs (attribute a).value (codes "1.0") f (some_same at.value (sym (kept_value flattened (codes "version") refl u) ∙ g)),

@@ -3,7 +3,7 @@ use Rattle.std.proofs.Common.{◌≡◌, ◌≢◌, ◌⊎◌, inl, inr, ℕ, Bo
 use Rattle.std.specs.Prelude.{codes, is_some}
 use Rattle.std.proofs.lemmas.List.Elements.{All-contains}
 use Rattle.std.proofs.lemmas.Bool.{true≢false, false≢true}
-use Rattle.tc_base.specs.declared.reasons.Why.TheVariants.{N36}
+use Rattle.tc_base.specs.declared.reasons.Why.TheVariants.{SimplifiedStylesheet}
 use Rattle.tc_model.specs.Names.{ExpandedName}
 use Rattle.tc_model.specs.RawTrees.{Attribute, Bound, RawTrees, none, text, element}
 use Rattle.tc_model.specs.Trees.{is_white_space_only}
@@ -287,7 +287,7 @@ no_root_cause e f g = (
 )
 
 pub simplified_cause : (e : RawElem) (a : Attribute) → (IsRoot (name e.name) → ⊥) → (name e.name).uri ≢ xsl_uri → Contains (attributes_of e) a → IsXsl (codes "version") a.name
-    → IsCause (raw_element e none) (Unsupported e.place N36)
+    → IsCause (raw_element e none) (Unsupported e.place SimplifiedStylesheet)
 simplified_cause e a f u has n = (
   record { item = of_root (tag_of e); has = looked.the_root; holds = (record { literal = u; version = a; has = has; is_version = n }, refl); stands = refl },
   no_root_malformed e f flattened,

@@ -2,7 +2,7 @@
 use Rattle.std.specs.Prelude.{◌≡◌, ◌≢◌, ◌⊎◌, ℕ, List, [], ◌∷◌, Option, None, Some, Contains, bytes_eq, codes, if◌then◌else◌, IsTrue, IsFalse}
 use Rattle.std.specs.List.{list_any}
 use Rattle.tc_base.specs.declared.reasons.Why.{Why}
-use Rattle.tc_base.specs.declared.reasons.Why.TheVariants.{N18, N19, N20, N21, N22, N23, N24, N25, N26, N27, N28, N29, N30, N31, N32, N33, N34, N35, N37, N38, N39, N40, N41, N42}
+use Rattle.tc_base.specs.declared.reasons.Why.TheVariants.{XslVariable, XslParam, XslWithParam, XslImport, XslInclude, XslSort, XslNumber, XslKey, XslMessage, XslComment, XslProcessingInstruction, XslApplyImports, XslAttributeSet, XslNamespaceAlias, XslDecimalFormat, XslFallback, XslPreserveSpace, ExtensionElements, DisableOutputEscaping, ComputedName, XslCopyOf, UseAttributeSets, XsltVersion, UnknownXslt}
 use Rattle.tc_model.specs.Names.{ExpandedName}
 use Rattle.tc_model.specs.RawTrees.{Attribute, Bound}
 use Rattle.tc_model.specs.Sheets.{Path, Test, Body}
@@ -23,23 +23,23 @@ reason local why = record { local = local; why = why }
 -- elements of XSLT that are not supported
 abbrev pub reasons : List Reason
 reasons =
-    reason (codes "variable") N18
-    ∷ reason (codes "param") N19
-    ∷ reason (codes "with-param") N20
-    ∷ reason (codes "import") N21
-    ∷ reason (codes "include") N22
-    ∷ reason (codes "sort") N23
-    ∷ reason (codes "number") N24
-    ∷ reason (codes "key") N25
-    ∷ reason (codes "message") N26
-    ∷ reason (codes "comment") N27
-    ∷ reason (codes "processing-instruction") N28
-    ∷ reason (codes "apply-imports") N29
-    ∷ reason (codes "attribute-set") N30
-    ∷ reason (codes "namespace-alias") N31
-    ∷ reason (codes "decimal-format") N32
-    ∷ reason (codes "fallback") N33
-    ∷ reason (codes "preserve-space") N34 ∷ []
+    reason (codes "variable") XslVariable
+    ∷ reason (codes "param") XslParam
+    ∷ reason (codes "with-param") XslWithParam
+    ∷ reason (codes "import") XslImport
+    ∷ reason (codes "include") XslInclude
+    ∷ reason (codes "sort") XslSort
+    ∷ reason (codes "number") XslNumber
+    ∷ reason (codes "key") XslKey
+    ∷ reason (codes "message") XslMessage
+    ∷ reason (codes "comment") XslComment
+    ∷ reason (codes "processing-instruction") XslProcessingInstruction
+    ∷ reason (codes "apply-imports") XslApplyImports
+    ∷ reason (codes "attribute-set") XslAttributeSet
+    ∷ reason (codes "namespace-alias") XslNamespaceAlias
+    ∷ reason (codes "decimal-format") XslDecimalFormat
+    ∷ reason (codes "fallback") XslFallback
+    ∷ reason (codes "preserve-space") XslPreserveSpace ∷ []
 
 abbrev pub reason_in : List Reason → List ℕ → Option Why
 reason_in [] local = None
@@ -106,23 +106,23 @@ pub data MustHave : ExpandedName → ExpandedName → Form → Type 0 where
 -- an attribute of an element of this name, in this scope, that is refused by a reason of its own
 pub data IsRefusedAttribute (n : ExpandedName) (scope : List Bound) (a : Attribute) : Why → Type 0 where
   -- 14.1
-  extension : IsRoot n → a.name ≡ plain (codes "extension-element-prefixes") → IsRefusedAttribute n scope a N35
+  extension : IsRoot n → a.name ≡ plain (codes "extension-element-prefixes") → IsRefusedAttribute n scope a ExtensionElements
   -- 16.4
-  escaping : n.uri ≡ xsl_uri → a.name ≡ plain (codes "disable-output-escaping") → IsRefusedAttribute n scope a N37
+  escaping : n.uri ≡ xsl_uri → a.name ≡ plain (codes "disable-output-escaping") → IsRefusedAttribute n scope a DisableOutputEscaping
   -- 7.1.2
-  computed : IsXsl (codes "element") n → a.name ≡ plain (codes "name") → Contains a.value 0x7B → IsRefusedAttribute n scope a N38
-  of_namespace : IsXsl (codes "element") n → a.name ≡ plain (codes "namespace") → IsRefusedAttribute n scope a N38
+  computed : IsXsl (codes "element") n → a.name ≡ plain (codes "name") → Contains a.value 0x7B → IsRefusedAttribute n scope a ComputedName
+  of_namespace : IsXsl (codes "element") n → a.name ≡ plain (codes "namespace") → IsRefusedAttribute n scope a ComputedName
   -- 11.3
   copied : {p : Path} → IsXsl (codes "copy-of") n → a.name ≡ plain (codes "select") → SelectText scope a.value p → (AttributesText scope a.value → ⊥)
-      → IsRefusedAttribute n scope a N39
+      → IsRefusedAttribute n scope a XslCopyOf
   -- 7.1.4
-  sets : n.uri ≡ xsl_uri → a.name ≡ plain (codes "use-attribute-sets") → IsRefusedAttribute n scope a N40
-  literal_sets : n.uri ≢ xsl_uri → IsXsl (codes "use-attribute-sets") a.name → IsRefusedAttribute n scope a N40
+  sets : n.uri ≡ xsl_uri → a.name ≡ plain (codes "use-attribute-sets") → IsRefusedAttribute n scope a UseAttributeSets
+  literal_sets : n.uri ≢ xsl_uri → IsXsl (codes "use-attribute-sets") a.name → IsRefusedAttribute n scope a UseAttributeSets
   -- 2.2
-  version : IsRoot n → a.name ≡ plain (codes "version") → a.value ≢ codes "1.0" → IsRefusedAttribute n scope a N41
+  version : IsRoot n → a.name ≡ plain (codes "version") → a.value ≢ codes "1.0" → IsRefusedAttribute n scope a XsltVersion
   -- 2.1, 7.1.1
   unknown : n.uri ≢ xsl_uri → a.name.uri ≡ xsl_uri → a.name.local ≢ codes "exclude-result-prefixes" → a.name.local ≢ codes "use-attribute-sets"
-      → IsRefusedAttribute n scope a N42
+      → IsRefusedAttribute n scope a UnknownXslt
   -- a construct of XPath, in a text that isn't of its form
   in_path : {f : Form} {why : Why} → MustHave n a.name f → (HasForm f scope a.value → ⊥) → Shallow (context_of f) a.value (Some why) → IsRefusedAttribute n scope a why
 
@@ -143,7 +143,7 @@ IsNeverRefused local n = (scope : List Bound) (a : Attribute) (why : Why) → a.
 -- an element of this name that is refused by a reason of its own
 pub data IsRefusedElement (n : ExpandedName) : Why → Type 0 where
   of_reason : {why : Why} → reason_of n ≡ Some why → IsRefusedElement n why
-  unknown : IsUnknown n → IsRefusedElement n N42
+  unknown : IsUnknown n → IsRefusedElement n UnknownXslt
 
 -- an element of this name is refused by no reason
 abbrev pub IsUnrefusedElement : ExpandedName → Type 0

@@ -3,7 +3,7 @@
 -- stand; and of a root that is no stylesheet's, its tag alone.
 use Rattle.std.specs.Prelude.{◌≡◌, ◌≢◌, ◌&&◌, ℕ, List, Option, None, Some, Contains, bytes_eq, codes, if◌then◌else◌}
 use Rattle.tc_base.specs.declared.reasons.Why.{Why}
-use Rattle.tc_base.specs.declared.reasons.Why.TheVariants.{N36}
+use Rattle.tc_base.specs.declared.reasons.Why.TheVariants.{SimplifiedStylesheet}
 use Rattle.tc_model.specs.Names.{ExpandedName}
 use Rattle.tc_model.specs.RawTrees.{Attribute, Bound, RawTrees, text, element}
 use Rattle.tc_model.specs.SheetTextPhrases.{xsl_uri, IsXsl, Tag, tag, Instruction, i_apply, i_call, i_value, i_each, i_if, i_choose, i_text, i_copy, i_element, i_attribute, i_copy_of, instruction_of}
@@ -91,7 +91,7 @@ pub record IsSimplified (t : Tag) : Type 0 where
 -- this is refused by this reason
 abbrev pub IsRefused : Why → Item → Type 0
 IsRefused why (of_text p) = ⊥
-IsRefused why (of_root t) = IsSimplified t × (why ≡ N36)
+IsRefused why (of_root t) = IsSimplified t × (why ≡ SimplifiedStylesheet)
 IsRefused why (of_element t) = IsRefusedElement t.name why
 IsRefused why (of_attribute t a) = IsRefusedAttribute t.name t.scope a why
 

@@ -29,7 +29,7 @@ use tc_path::{
 use tc_scan::{QualifiedName, qname};
 
 /// Whether an attribute has this local name and no namespace.
-fn is_plain(attribute: &RawAttr<'_>, local: &str) -> bool
+fn has_plain_name(attribute: &RawAttr<'_>, local: &str) -> bool
     ensures { result ≡ (is_empty (see.attribute attribute.now).name.uri && bytes_eq (see.attribute attribute.now).name.local local.now) }
 {
     attribute.name.uri.is_empty() && attribute.name.local == local
@@ -40,7 +40,7 @@ pub(crate) fn attribute_of<'e, 'b>(element: &'e RawElem<'b>, local: &str) -> Opt
     ensures { MatchOption result (phrases.value_of local.now (attributes_of element.now) ≡ None) (λ a. IsAttribute element.now local.now a.now) }
 {
     for attribute in element.attrs {
-        if is_plain(attribute, local) {
+        if has_plain_name(attribute, local) {
             return Some(attribute);
         }
     }
@@ -70,13 +70,13 @@ fn unexpected(element: &RawElem<'_>, attribute: &RawAttr<'_>) -> SheetFault
     let place = attribute.place;
     let local = attribute.name.local;
     if local == "disable-output-escaping" {
-        SheetFault::Unsupported(place, Why::N37)
+        SheetFault::Unsupported(place, Why::DisableOutputEscaping)
     } else if local == "use-attribute-sets" {
-        SheetFault::Unsupported(place, Why::N40)
+        SheetFault::Unsupported(place, Why::UseAttributeSets)
     } else if local == "namespace" && is_xsl(&element.name, "element") {
-        SheetFault::Unsupported(place, Why::N38)
+        SheetFault::Unsupported(place, Why::ComputedName)
     } else if local == "extension-element-prefixes" && is_root(&element.name) {
-        SheetFault::Unsupported(place, Why::N35)
+        SheetFault::Unsupported(place, Why::ExtensionElements)
     } else {
         SheetFault::Malformed(place)
     }
@@ -96,8 +96,12 @@ fn is_expected(attribute: &RawAttr<'_>, locals: &[&str]) -> bool
     !attribute.name.uri.is_empty() || is_among(attribute.name.local, locals)
 }
 
-/// Takes an attribute of an XSLT element, which has a namespace or is of one of these names.
-fn take(element: &RawElem<'_>, attribute: &RawAttr<'_>, locals: &[&str]) -> Result<(), SheetFault>
+/// Checks that an attribute of an XSLT element has a namespace or is of one of these names.
+fn check_attribute(
+    element: &RawElem<'_>,
+    attribute: &RawAttr<'_>,
+    locals: &[&str],
+) -> Result<(), SheetFault>
     requires xslt { (see.name element.now.name).uri ≡ xsl_uri }
     requires has { Contains (attributes_of element.now) (see.attribute attribute.now) }
     requires weighed { AreWeighedAmong (map (λ w. w.now) locals.now) (see.name element.now.name) }
@@ -111,7 +115,7 @@ fn take(element: &RawElem<'_>, attribute: &RawAttr<'_>, locals: &[&str]) -> Resu
     }
 }
 
-/// Takes the attributes without a namespace of an XSLT element, which are of these names.
+/// Checks that the attributes without a namespace of an XSLT element are of these names.
 pub(crate) fn only_attributes(element: &RawElem<'_>, locals: &[&str]) -> Result<(), SheetFault>
     requires xslt { (see.name element.now.name).uri ≡ xsl_uri }
     requires weighed { AreWeighedAmong (map (λ w. w.now) locals.now) (see.name element.now.name) }
@@ -119,7 +123,7 @@ pub(crate) fn only_attributes(element: &RawElem<'_>, locals: &[&str]) -> Result<
     ensures no { IfErr result (λ e. Refuses e (alone element.now) (HasNoAttributes element.now (phrases.HasOnly (map (λ w. w.now) locals.now)))) }
 {
     for attribute in element.attrs {
-        take(element, attribute, locals)?;
+        check_attribute(element, attribute, locals)?;
     }
     Ok(())
 }
@@ -141,14 +145,14 @@ fn unexpected_in_literal(element: &RawElem<'_>, attribute: &RawAttr<'_>) -> Shee
     ensures { IsFaultOf result (alone element.now) }
 {
     if attribute.name.local == "use-attribute-sets" {
-        SheetFault::Unsupported(attribute.place, Why::N40)
+        SheetFault::Unsupported(attribute.place, Why::UseAttributeSets)
     } else {
-        SheetFault::Unsupported(attribute.place, Why::N42)
+        SheetFault::Unsupported(attribute.place, Why::UnknownXslt)
     }
 }
 
-/// Takes an attribute of a literal element.
-fn take_in_literal(element: &RawElem<'_>, attribute: &RawAttr<'_>) -> Result<(), SheetFault>
+/// Checks that an attribute of a literal element may stand there.
+fn check_literal_attribute(element: &RawElem<'_>, attribute: &RawAttr<'_>) -> Result<(), SheetFault>
     requires literal { (see.name element.now.name).uri ≢ xsl_uri }
     requires has { Contains (attributes_of element.now) (see.attribute attribute.now) }
     ensures ok { OnOk result (IsTrue (not (bytes_eq (see.attribute attribute.now).name.uri xsl_uri) || bytes_eq (see.attribute attribute.now).name.local (codes "exclude-result-prefixes"))) }
@@ -161,15 +165,15 @@ fn take_in_literal(element: &RawElem<'_>, attribute: &RawAttr<'_>) -> Result<(),
     }
 }
 
-/// Takes the attributes of a literal element: in the namespace of XSLT it has `exclude-result-prefixes` alone
+/// Checks the attributes of a literal element: in the namespace of XSLT it has `exclude-result-prefixes` alone
 /// (XSLT 1.0, 7.1.1).
-pub(crate) fn literal(element: &RawElem<'_>) -> Result<(), SheetFault>
+pub(crate) fn check_literal_attributes(element: &RawElem<'_>) -> Result<(), SheetFault>
     requires { (see.name element.now.name).uri ≢ xsl_uri }
     ensures ok { OnOk result (phrases.AreLiteral (attributes_of element.now)) }
     ensures no { IfErr result (λ e. Refuses e (alone element.now) (HasNoAttributes element.now phrases.AreLiteral)) }
 {
     for attribute in element.attrs {
-        take_in_literal(element, attribute)?;
+        check_literal_attribute(element, attribute)?;
     }
     Ok(())
 }
@@ -264,7 +268,7 @@ pub(crate) fn required_attributes(arena: &Bump, element: &RawElem<'_>) -> Result
             if all {
                 Ok(())
             } else {
-                Err(SheetFault::Unsupported(attribute.place, Why::N39))
+                Err(SheetFault::Unsupported(attribute.place, Why::XslCopyOf))
             }
         }
         Err(fault) => Err(fault_at(attribute.place, fault)),
@@ -403,7 +407,7 @@ pub(crate) fn required_element_name<'b>(element: &RawElem<'b>) -> Result<Name<'b
     match element_name_of(element.scope, attribute.value) {
         Some(name) => Ok(name),
         None if has_brace(attribute.value) => {
-            Err(SheetFault::Unsupported(attribute.place, Why::N38))
+            Err(SheetFault::Unsupported(attribute.place, Why::ComputedName))
         }
         None => Err(SheetFault::Malformed(attribute.place)),
     }

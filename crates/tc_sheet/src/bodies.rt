@@ -15,7 +15,7 @@ ghost use Rattle.tc_sheet.specs.Views.{written, written_before, put, tag_of, bod
 ghost use Rattle.tc_sheet.specs.declared.faults.SheetFault.TheVariants as faults;
 
 use crate::attributes::{
-    literal, only_attributes, optional_name, optional_select, required_attributes,
+    check_literal_attributes, only_attributes, optional_name, optional_select, required_attributes,
     required_element_name, required_name, required_select, required_test, required_value,
 };
 use crate::elements::{Instruction, instruction_of, is_xsl, is_xslt, misplaced};
@@ -25,8 +25,8 @@ use bumpalo::Bump;
 use bumpalo::collections::{into_bump_slice, into_bump_str};
 use tc_model::{Instr, Name, NodeTest, Path, Raw, RawElem, Step, Test, is_white_space_only};
 
-/// Takes texts of white space alone (XSLT 1.0, 3.4).
-fn blank(kids: &[Raw<'_>]) -> Result<(), SheetFault>
+/// Checks that these are texts of white space alone (XSLT 1.0, 3.4).
+fn check_blank(kids: &[Raw<'_>]) -> Result<(), SheetFault>
     ensures ok { OnOk result (phrases.IsBlank (see.raw_trees kids.now)) }
     ensures no { IfErr result (λ e. Refuses e (IsIn in_blank (see.raw_trees kids.now)) (IsNotBlank (see.raw_trees kids.now))) }
 {
@@ -111,7 +111,7 @@ fn apply_templates<'b>(arena: &'b Bump, element: &RawElem<'b>) -> Result<Begun<'
     only_attributes(element, &["select", "mode"])?;
     let path = optional_select(arena, element)?;
     let mode = optional_name(element, "mode")?;
-    blank(element.kids)?;
+    check_blank(element.kids)?;
     Ok(Begun::Whole(Some(Written::Apply(or_all_children(path), mode))))
 }
 
@@ -123,7 +123,7 @@ fn call_template<'b>(element: &RawElem<'b>) -> Result<Begun<'b>, SheetFault>
 {
     only_attributes(element, &["name"])?;
     let name = required_name(element)?;
-    blank(element.kids)?;
+    check_blank(element.kids)?;
     Ok(Begun::Whole(Some(Written::Call(name, element.place))))
 }
 
@@ -135,7 +135,7 @@ fn value_of<'b>(arena: &'b Bump, element: &RawElem<'b>) -> Result<Begun<'b>, She
 {
     only_attributes(element, &["select"])?;
     let value = required_value(arena, element)?;
-    blank(element.kids)?;
+    check_blank(element.kids)?;
     match value {
         Instr::ValueOf(path) => Ok(Begun::Whole(Some(Written::ValueOf(path)))),
         _ => Ok(Begun::Whole(Some(Written::ValueOfSelf))),
@@ -161,7 +161,7 @@ fn copy_of<'b>(arena: &'b Bump, element: &RawElem<'b>) -> Result<Begun<'b>, Shee
 {
     only_attributes(element, &["select"])?;
     required_attributes(arena, element)?;
-    blank(element.kids)?;
+    check_blank(element.kids)?;
     Ok(Begun::Whole(None))
 }
 
@@ -259,7 +259,7 @@ fn begin<'b>(arena: &'b Bump, element: &RawElem<'b>) -> Result<Begun<'b>, SheetF
     ensures no { IfErr result (λ e. Refuses e (IsIn in_body (see.raw_element element.now raws.none)) (HasNoElementItem element.now)) }
 {
     if !is_xslt(&element.name) {
-        literal(element)?;
+        check_literal_attributes(element)?;
         return Ok(Begun::Around(Head::Element(element.name)));
     }
     match instruction_of(&element.name) {
@@ -321,7 +321,7 @@ fn otherwise<'b>(
 {
     only_attributes(element, &[])?;
     let inner = body(arena, element.kids)?;
-    blank(after)?;
+    check_blank(after)?;
     Ok(inner)
 }
 

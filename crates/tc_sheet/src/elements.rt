@@ -81,23 +81,23 @@ fn reason_of(local: &str) -> Option<Why>
     ensures { result ≡ constructs.reason_in constructs.reasons local.now }
 {
     match local {
-        "variable" => Some(Why::N18),
-        "param" => Some(Why::N19),
-        "with-param" => Some(Why::N20),
-        "import" => Some(Why::N21),
-        "include" => Some(Why::N22),
-        "sort" => Some(Why::N23),
-        "number" => Some(Why::N24),
-        "key" => Some(Why::N25),
-        "message" => Some(Why::N26),
-        "comment" => Some(Why::N27),
-        "processing-instruction" => Some(Why::N28),
-        "apply-imports" => Some(Why::N29),
-        "attribute-set" => Some(Why::N30),
-        "namespace-alias" => Some(Why::N31),
-        "decimal-format" => Some(Why::N32),
-        "fallback" => Some(Why::N33),
-        "preserve-space" => Some(Why::N34),
+        "variable" => Some(Why::XslVariable),
+        "param" => Some(Why::XslParam),
+        "with-param" => Some(Why::XslWithParam),
+        "import" => Some(Why::XslImport),
+        "include" => Some(Why::XslInclude),
+        "sort" => Some(Why::XslSort),
+        "number" => Some(Why::XslNumber),
+        "key" => Some(Why::XslKey),
+        "message" => Some(Why::XslMessage),
+        "comment" => Some(Why::XslComment),
+        "processing-instruction" => Some(Why::XslProcessingInstruction),
+        "apply-imports" => Some(Why::XslApplyImports),
+        "attribute-set" => Some(Why::XslAttributeSet),
+        "namespace-alias" => Some(Why::XslNamespaceAlias),
+        "decimal-format" => Some(Why::XslDecimalFormat),
+        "fallback" => Some(Why::XslFallback),
+        "preserve-space" => Some(Why::XslPreserveSpace),
         _ => None,
     }
 }
@@ -126,5 +126,5 @@ pub(crate) fn misplaced(element: &RawElem<'_>) -> SheetFault
     if is_part(local) || instruction_in(local).is_some() {
         return SheetFault::Malformed(element.place);
     }
-    SheetFault::Unsupported(element.place, Why::N42)
+    SheetFault::Unsupported(element.place, Why::UnknownXslt)
 }

@@ -33,7 +33,7 @@ use tc_model::{Raw, RawElem, Sheet};
 use templates::stylesheet;
 use written::Template;
 
-/// The templates that can be used: without a name, one of whose alternatives all are dropped can't.
+/// Drops templates that have no name and no alternative left.
 fn used<'b>(arena: &'b Bump, templates: &[Template<'b>]) -> Result<&'b [Template<'b>], SheetFault>
     ensures ok { IfOk result (λ r. map template_seen r.now ≡ filter is_used (map template_seen templates.now)) }
     ensures no { IfErr result (λ e. e ≡ SheetFault.NoMemory) }

@@ -26,7 +26,7 @@ pub(crate) struct Tables<'t, 'b> {
     pub(crate) names: &'t Names<'b>,
 }
 
-/// A number as the types of sheets hold it. A sheet with more modes, templates or for-eaches fits no memory.
+/// A number as the types of sheets hold it. One that they do not hold is told as want of memory.
 fn number(count: usize) -> Result<u32, SheetFault>
     ensures ok { IfOk result (λ n. n ≡ count) }
     ensures no { IfErr result (λ e. e ≡ NoMemory) }
@@ -38,7 +38,7 @@ fn number(count: usize) -> Result<u32, SheetFault>
 }
 
 /// The number after this one.
-fn after(count: usize) -> Result<u32, SheetFault>
+fn next_number(count: usize) -> Result<u32, SheetFault>
     ensures ok { IfOk result (λ n. n ≡ count + 1) }
     ensures no { IfErr result (λ e. e ≡ NoMemory) }
 {
@@ -60,7 +60,7 @@ fn eaches_in_branches(branches: &[WrittenBranch<'_>]) -> Result<u32, SheetFault>
     Ok(count)
 }
 
-/// The sum of two numbers of for-eaches.
+/// The sum of two numbers.
 fn sum(first: u32, second: u32) -> Result<u32, SheetFault>
     ensures ok { IfOk result (λ n. n ≡ first + second) }
     ensures no { IfErr result (λ e. e ≡ NoMemory) }
@@ -136,7 +136,7 @@ fn eaches_in_rules(templates: &[Template<'_>]) -> Result<u32, SheetFault>
     Ok(count)
 }
 
-/// The number of a mode: that of the default one is 0.
+/// The number of a mode: that of the default one is 0. `modes_of` lists each, so that it is found.
 fn mode_number(tables: &Tables<'_, '_>, mode: Option<Name<'_>>) -> Result<u32, SheetFault>
     ensures ok { IfOk result (λ n. n ≡ model.mode_number (names_seen tables.now.modes.now) (names_seen tables.now.names.now) (option_map see.name mode.entry)) }
     ensures no { IfErr result (λ e. e ≡ NoMemory) }
@@ -145,12 +145,12 @@ fn mode_number(tables: &Tables<'_, '_>, mode: Option<Name<'_>>) -> Result<u32, S
         return Ok(0);
     };
     match tables.modes.get_index_of(&name) {
-        Some(index) => after(index),
-        None => after(tables.modes.len()),
+        Some(index) => next_number(index),
+        None => next_number(tables.modes.len()),
     }
 }
 
-/// The number of a named template.
+/// The number of a named template. `check_calls` refuses calls of others, so that it is found.
 fn name_number(tables: &Tables<'_, '_>, name: &Name<'_>) -> Result<u32, SheetFault>
     ensures ok { IfOk result (λ n. n ≡ number_of same_name (see.name name.now) (names_seen tables.now.names.now)) }
     ensures no { IfErr result (λ e. e ≡ NoMemory) }
@@ -366,7 +366,7 @@ pub(crate) fn sheet_of<'b>(
     ensures no { IfErr result (λ e. e ≡ NoMemory) }
 {
     let others = eaches_in_rules(templates)?;
-    let modes = after(tables.modes.len())?;
+    let modes = next_number(tables.modes.len())?;
     let mut parts = Parts {
         in_rules: 0,
         others,

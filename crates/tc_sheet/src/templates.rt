@@ -176,13 +176,13 @@ fn no_root(element: &RawElem<'_>) -> SheetFault
         return SheetFault::Malformed(element.place);
     }
     match xsl_attribute(element, "version") {
-        Some(_version) => SheetFault::Unsupported(element.place, Why::N36),
+        Some(_version) => SheetFault::Unsupported(element.place, Why::SimplifiedStylesheet),
         None => SheetFault::Malformed(element.place),
     }
 }
 
-/// Takes the version, which is 1.0 (XSLT 1.0, 2.2).
-fn version(element: &RawElem<'_>) -> Result<(), SheetFault>
+/// Checks that the version is 1.0 (XSLT 1.0, 2.2).
+fn check_version(element: &RawElem<'_>) -> Result<(), SheetFault>
     requires { IsRoot (see.name element.now.name) }
     ensures ok { OnOk result (phrases.value_of (codes "version") (attributes_of element.now) ≡ Some (codes "1.0")) }
     ensures no { IfErr result (λ e. Refuses e (alone element.now) (HasNoAttributes element.now (λ olds. phrases.value_of (codes "version") olds ≡ Some (codes "1.0")))) }
@@ -193,7 +193,7 @@ fn version(element: &RawElem<'_>) -> Result<(), SheetFault>
     if attribute.value == "1.0" {
         Ok(())
     } else {
-        Err(SheetFault::Unsupported(attribute.place, Why::N41))
+        Err(SheetFault::Unsupported(attribute.place, Why::XsltVersion))
     }
 }
 
@@ -210,6 +210,6 @@ pub(crate) fn stylesheet<'b>(
         return Err(no_root(element));
     }
     only_attributes(element, &["version", "exclude-result-prefixes", "id"])?;
-    version(element)?;
+    check_version(element)?;
     templates(arena, element.kids)
 }

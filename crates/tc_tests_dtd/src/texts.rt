@@ -100,29 +100,29 @@ fn other_texts_are_malformed(rt: HostRuntime) {
 #[test]
 fn constructs_are_refused_by_their_names(rt: HostRuntime) {
     let table: [(&[u8], u32, Why); 23] = [
-        (b"<!ENTITY % x \"b\">", 9, Why::N53),
-        (b"%x;", 0, Why::N53),
-        (b" %x;", 1, Why::N53),
-        (b"<!ELEMENT %n; EMPTY>", 10, Why::N53),
-        (b"<!ELEMENT% a EMPTY>", 9, Why::N53),
-        (b"<!ELEMENT a %c;>", 12, Why::N53),
-        (b"<!ELEMENT a (%c;)>", 13, Why::N53),
-        (b"<!ELEMENT a (b,%c;)>", 15, Why::N53),
-        (b"<!ELEMENT a (b%c;)>", 14, Why::N53),
-        (b"<!ELEMENT a (#PCDATA %c;)*>", 21, Why::N53),
-        (b"<!ELEMENT a (#PCDATA|%c;)*>", 21, Why::N53),
-        (b"<!ELEMENT a (#PCDATA|b)%c;>", 23, Why::N53),
-        (b"<!ELEMENT a EMPTY %e;>", 18, Why::N53),
-        (b"<!ATTLIST a %k;>", 12, Why::N53),
-        (b"<!ENTITY e \"%x;\">", 12, Why::N53),
-        (b"<!ENTITY e '%", 12, Why::N53),
-        (b"<![INCLUDE[]]>", 0, Why::N54),
-        (b"<!ELEMENT a EMPTY><![ %x;", 18, Why::N54),
-        (b"<!ELEMENT a:b EMPTY>", 11, Why::N55),
-        (b"<!ELEMENT :b EMPTY>", 10, Why::N55),
-        (b"<!ELEMENT a (b,c:d)>", 16, Why::N55),
-        (b"<?xml version='1.1'?>", 6, Why::N5),
-        (b"<?xml encoding='latin-1'?>\xFF", 6, Why::N3),
+        (b"<!ENTITY % x \"b\">", 9, Why::ParameterEntity),
+        (b"%x;", 0, Why::ParameterEntity),
+        (b" %x;", 1, Why::ParameterEntity),
+        (b"<!ELEMENT %n; EMPTY>", 10, Why::ParameterEntity),
+        (b"<!ELEMENT% a EMPTY>", 9, Why::ParameterEntity),
+        (b"<!ELEMENT a %c;>", 12, Why::ParameterEntity),
+        (b"<!ELEMENT a (%c;)>", 13, Why::ParameterEntity),
+        (b"<!ELEMENT a (b,%c;)>", 15, Why::ParameterEntity),
+        (b"<!ELEMENT a (b%c;)>", 14, Why::ParameterEntity),
+        (b"<!ELEMENT a (#PCDATA %c;)*>", 21, Why::ParameterEntity),
+        (b"<!ELEMENT a (#PCDATA|%c;)*>", 21, Why::ParameterEntity),
+        (b"<!ELEMENT a (#PCDATA|b)%c;>", 23, Why::ParameterEntity),
+        (b"<!ELEMENT a EMPTY %e;>", 18, Why::ParameterEntity),
+        (b"<!ATTLIST a %k;>", 12, Why::ParameterEntity),
+        (b"<!ENTITY e \"%x;\">", 12, Why::ParameterEntity),
+        (b"<!ENTITY e '%", 12, Why::ParameterEntity),
+        (b"<![INCLUDE[]]>", 0, Why::ConditionalSection),
+        (b"<!ELEMENT a EMPTY><![ %x;", 18, Why::ConditionalSection),
+        (b"<!ELEMENT a:b EMPTY>", 11, Why::QualifiedElementName),
+        (b"<!ELEMENT :b EMPTY>", 10, Why::QualifiedElementName),
+        (b"<!ELEMENT a (b,c:d)>", 16, Why::QualifiedElementName),
+        (b"<?xml version='1.1'?>", 6, Why::XmlVersion),
+        (b"<?xml encoding='latin-1'?>\xFF", 6, Why::Encoding),
     ];
     for (text, place, why) in table {
         assert_eq!(rt;
@@ -148,7 +148,7 @@ fn an_element_is_declared_once(rt: HostRuntime) {
     let first = b"<!ELEMENT a ANY><!ELEMENT a ANY>%";
     assert_eq!(rt;
         fault(rt, first),
-        Some(DtdFault::Unsupported(Place(32), Why::N53))
+        Some(DtdFault::Unsupported(Place(32), Why::ParameterEntity))
     );
 }
 

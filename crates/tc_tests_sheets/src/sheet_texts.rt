@@ -107,12 +107,12 @@ fn articles_and_copies_are_read(rt: HostRuntime) -> Result<(), Fail> {
 #[test]
 fn what_is_not_read_is_told_at_its_place(rt: HostRuntime) -> Result<(), Fail> {
     let variable = "<xsl:template match=\"/\"><xsl:variable name=\"v\"/><r/></xsl:template>";
-    let refused = TextFault::Refused(Reason::Unsupported(Why::N18), Place(103));
+    let refused = TextFault::Refused(Reason::Unsupported(Why::XslVariable), Place(103));
     assert_eq!(rt; inside(&rt, variable)?, Some(Err(refused)));
     let literal = "<xsl:template match=\"/\"><variable/></xsl:template>";
     assert_eq!(rt; inside(&rt, literal)?, Some(Ok(1)));
     let entity = "<xsl:template match=\"/\">&nbsp;</xsl:template>";
-    let refused = TextFault::Refused(Reason::Unsupported(Why::N2), Place(103));
+    let refused = TextFault::Refused(Reason::Unsupported(Why::EntityReference), Place(103));
     assert_eq!(rt; inside(&rt, entity)?, Some(Err(refused)));
     let unbound = "<xsl:template match=\"p:a\"/>";
     let refused = TextFault::Refused(Reason::Malformed, Place(93));

@@ -79,18 +79,18 @@ fn stays_where_no_character_begins(rt: HostRuntime) {
 #[test]
 fn reasons_have_their_numbers_and_words(rt: HostRuntime) {
     let rows = [
-        (Why::N1, 1, "doctype-subset"),
-        (Why::N5, 5, "xml-version"),
-        (Why::N6, 6, "data"),
-        (Why::N17, 17, "concatenation"),
-        (Why::N18, 18, "variable"),
-        (Why::N34, 34, "preserve-space"),
-        (Why::N35, 35, "extension"),
-        (Why::N42, 42, "unknown-xslt"),
-        (Why::N43, 43, "axis"),
-        (Why::N52, 52, "string"),
-        (Why::N53, 53, "parameter-entity"),
-        (Why::N55, 55, "qualified-name"),
+        (Why::DoctypeSubset, 1, "doctype-subset"),
+        (Why::XmlVersion, 5, "xml-version"),
+        (Why::DataPattern, 6, "data"),
+        (Why::Concatenation, 17, "concatenation"),
+        (Why::XslVariable, 18, "variable"),
+        (Why::XslPreserveSpace, 34, "preserve-space"),
+        (Why::ExtensionElements, 35, "extension"),
+        (Why::UnknownXslt, 42, "unknown-xslt"),
+        (Why::Axis, 43, "axis"),
+        (Why::StringLiteral, 52, "string"),
+        (Why::ParameterEntity, 53, "parameter-entity"),
+        (Why::QualifiedElementName, 55, "qualified-name"),
     ];
     for (why, number, word) in rows {
         assert_eq!(rt; why.number(), number);

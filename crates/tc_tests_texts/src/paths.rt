@@ -237,9 +237,9 @@ const ATTRIBUTES: [(&str, Result<bool, PathFault>); 9] = [
     ("@a|comment()", Ok(false)),
     ("@a|b", Ok(false)),
     ("processing-instruction()", Ok(false)),
-    ("@a[b]", Err(PathFault::Unsupported(Why::N49))),
+    ("@a[b]", Err(PathFault::Unsupported(Why::Predicate))),
     ("@q:a", Err(PathFault::Malformed)),
-    ("@a|/@b", Err(PathFault::Unsupported(Why::N45))),
+    ("@a|/@b", Err(PathFault::Unsupported(Why::AbsolutePath))),
 ];
 
 #[test]
@@ -415,7 +415,7 @@ fn reasons_by_number(rt: HostRuntime) {
     assert!(rt;
         matches!(
             read_select(&arena, "@a[b]", &SCOPE),
-            Err(PathFault::Unsupported(Why::N49))
+            Err(PathFault::Unsupported(Why::Predicate))
         )
     );
 }

@@ -126,18 +126,34 @@ fn lines_of_the_grammar(rt: HostRuntime) -> Result<(), Fail> {
 #[test]
 fn places_of_refusals(rt: HostRuntime) -> Result<(), Fail> {
     let unsupported = [
-        ("<a>&nbsp;</a>", 3, Why::N2),
-        ("<a>x<b/>&eacute;</a>", 8, Why::N2),
-        ("<a b='x&nbsp;'/>", 7, Why::N2),
-        ("\u{FEFF}<a>&x;</a>", 6, Why::N2),
-        ("<a xml:space='preserve'/>", 3, Why::N4),
-        ("<a><b c='' xml:space='&x;'/></a>", 11, Why::N4),
-        ("<!DOCTYPE a [<!ELEMENT a ANY>]><a/>", 12, Why::N1),
-        ("<!DOCTYPE a SYSTEM 'x'[]><a/>", 22, Why::N1),
-        ("<?xml version='1.1'?><a/>", 6, Why::N5),
-        ("<?xml  version='1.1' encoding='x'?><a/>", 7, Why::N5),
-        ("<?xml version='1.0' encoding='latin1'?><a/>", 20, Why::N3),
-        ("<?xml version='1.0' encoding='utf8'?><a/>", 20, Why::N3),
+        ("<a>&nbsp;</a>", 3, Why::EntityReference),
+        ("<a>x<b/>&eacute;</a>", 8, Why::EntityReference),
+        ("<a b='x&nbsp;'/>", 7, Why::EntityReference),
+        ("\u{FEFF}<a>&x;</a>", 6, Why::EntityReference),
+        ("<a xml:space='preserve'/>", 3, Why::XmlSpace),
+        ("<a><b c='' xml:space='&x;'/></a>", 11, Why::XmlSpace),
+        (
+            "<!DOCTYPE a [<!ELEMENT a ANY>]><a/>",
+            12,
+            Why::DoctypeSubset,
+        ),
+        ("<!DOCTYPE a SYSTEM 'x'[]><a/>", 22, Why::DoctypeSubset),
+        ("<?xml version='1.1'?><a/>", 6, Why::XmlVersion),
+        (
+            "<?xml  version='1.1' encoding='x'?><a/>",
+            7,
+            Why::XmlVersion,
+        ),
+        (
+            "<?xml version='1.0' encoding='latin1'?><a/>",
+            20,
+            Why::Encoding,
+        ),
+        (
+            "<?xml version='1.0' encoding='utf8'?><a/>",
+            20,
+            Why::Encoding,
+        ),
     ];
     for (text, place, why) in unsupported {
         let answer = Some(XmlFault::Unsupported(Place(place), why));
@@ -151,19 +167,19 @@ fn places_of_refusals(rt: HostRuntime) -> Result<(), Fail> {
 #[test]
 fn what_stands_behind_is_not_looked_at(rt: HostRuntime) -> Result<(), Fail> {
     let unsupported = [
-        ("<a>&nbsp;</a>", 3, Why::N2),
-        ("<a xml:space='", 3, Why::N4),
-        ("<!DOCTYPE a [", 12, Why::N1),
-        ("<?xml version='1.1'", 6, Why::N5),
+        ("<a>&nbsp;</a>", 3, Why::EntityReference),
+        ("<a xml:space='", 3, Why::XmlSpace),
+        ("<!DOCTYPE a [", 12, Why::DoctypeSubset),
+        ("<?xml version='1.1'", 6, Why::XmlVersion),
         (
             "<?xml version='1.0' encoding='ISO-8859-1'?><a>",
             20,
-            Why::N3,
+            Why::Encoding,
         ),
         (
             "<?xml version='1.0' encoding='ISO-2022-JP'?><a>",
             20,
-            Why::N3,
+            Why::Encoding,
         ),
     ];
     let behind: [&[u8]; 4] = [b"\xFF", b"\xE9</a>", b"\x1B$B</a>", b"\xEF\xBF\xBE"];
@@ -342,7 +358,10 @@ fn documents_are_read(rt: HostRuntime) -> Result<(), Fail> {
         assert_eq!(rt; out.as_str(), answer);
     }
     let refused = [
-        ("<a>&nbsp;</a>", XmlFault::Unsupported(Place(3), Why::N2)),
+        (
+            "<a>&nbsp;</a>",
+            XmlFault::Unsupported(Place(3), Why::EntityReference),
+        ),
         ("<a><b></a>", XmlFault::Malformed(Place(6))),
     ];
     for (text, fault) in refused {

@@ -26,20 +26,20 @@ use Rattle.tc_model.specs.declared.lists.CertData.{CertData}
 use Rattle.tc_top.specs.Answers.{IsAnswerTo, proved, verified, upgraded, IsAnswer, decided, IsAnswerOn}
 use Rattle.tc_top.specs.CertifiedFiles.{HoldTriple, HoldShort, ProvesFiles, VerifiesFiles, VerifiesShortFiles, UpgradesFiles, HasShortCertificate, DecidesProof, IsCertificateText, IsRejectionOf, of_form, of_rule, DecidesCertificate, DecidesUpgrade, ProvedIsAccepted}
 use Rattle.tc_top.specs.Causes.{all_three}
-use Rattle.tc_top.specs.Certifying.{IsRejectedFor, IsCertificateOf, IsLeastOf, IsOverlong, Certifies, as_checked, certifies, overlong, Accepts, not_compiled, accepts, no_text, no_certificate, Proves, Verifies, Upgrades, upgrades, too_long, no_form}
-use Rattle.tc_top.specs.Checking.{most_rows, IsCompiled, PassesCompile, HasFewRows}
+use Rattle.tc_top.specs.Certifying.{IsRejectedFor, IsCertificateOf, IsLeastOf, IsOverlong, Certifies, as_checked, certifies, overlong, Accepts, stops_before_rows, accepts, no_text, no_certificate, Proves, Verifies, Upgrades, upgrades, too_long, no_form}
+use Rattle.tc_top.specs.Checking.{most_rows, IsWithinTripleLimits, PassesTripleLimit, HasFewRows}
 use Rattle.tc_top.specs.Headline.{IsCutShort, DecidesSafety, IsLimited}
 use Rattle.tc_top.specs.OneAnswer.{IsOfFault}
 use Rattle.tc_top.proofs.Exact.{read_all, held_decided}
-use Rattle.tc_top.proofs.Headline.{cut_short, told_of_file, not_no, not_limit, no_limit, few_not_limited, decides, compile_lines}
+use Rattle.tc_top.proofs.Headline.{cut_short, told_of_file, not_no, not_limit, no_limit, few_not_limited, decides, before_rows_lines}
 use Rattle.tc_top.proofs.OneCertifying.{only_yes, short_overlong, accepted_rejected}
 use Rattle.tc_top.proofs.CertifiedTexts.{safe_certified, proved_accepted}
-use Rattle.tc_top.proofs.OneCheck.{not_both, over_compile, one_compile, decided_of}
+use Rattle.tc_top.proofs.OneCheck.{not_both, over_triple, one_triple_limit, decided_of}
 
 -- `prove`
 
 module _ (i o : Grammar) (s : Sheet) (most : ℕ) (status : Status) (old new : Option (List ℕ)) where
-  as_check : DecidesSafety status old new most i o s → ¬ (IsCompiled i o s × HasFewRows i o s most × IsSafe i o s) → DecidesProof i o s status old new most
+  as_check : DecidesSafety status old new most i o s → ¬ (IsWithinTripleLimits i o s × HasFewRows i o s most × IsSafe i o s) → DecidesProof i o s status old new most
   as_check r n = record {
     yes = (λ e. absurd (n (r.yes.0 e)), λ x. absurd (n (x.0, x.1, x.2)));
     no = r.no;
@@ -47,7 +47,7 @@ module _ (i o : Grammar) (s : Sheet) (most : ℕ) (status : Status) (old new : O
     one = r.one;
     yes_text = λ e. absurd (n (r.yes.0 e));
     no_text = r.no_text;
-    compile_text = r.compile_text;
+    before_rows_text = r.before_rows_text;
     rows_text = r.rows_text;
     nodes_text = r.nodes_text;
     overlong_text = λ c f h l. absurd (n (c, f, h));
@@ -62,7 +62,7 @@ module _ (i o : Grammar) (s : Sheet) (most : ℕ) (status : Status) (old new : O
     one = inl is;
     yes_text = λ _. (d, l, written);
     no_text = λ e. absurd (not_no is e);
-    compile_text = λ kind number p. absurd (over_compile p c);
+    before_rows_text = λ kind number p. absurd (over_triple p c);
     rows_text = λ count v p. absurd (f count p);
     nodes_text = λ v g x. absurd (not_both i o s h x.some.1);
     overlong_text = λ v g j x. absurd (short_overlong d l k x);
@@ -74,7 +74,7 @@ module _ (i o : Grammar) (s : Sheet) (most : ℕ) (status : Status) (old new : O
     one = inr (inr is);
     yes_text = λ e. absurd (not_limit e is);
     no_text = λ e. absurd (no_limit e is);
-    compile_text = λ kind number p. absurd (over_compile p c);
+    before_rows_text = λ kind number p. absurd (over_triple p c);
     rows_text = λ count v p. absurd (f count p);
     nodes_text = λ v g x. absurd (not_both i o s h x.some.1);
     overlong_text = λ v g j x. written;
@@ -112,41 +112,41 @@ module _ (i o : Grammar) (s : Sheet) (bytes : List ℕ) (status : Status) (old n
   not_it {d} {why} h t r (e, u, c) = accepted_rejected bytes h e d why u t c r
 
   pub certificate_decides : {answer : Answer} → length bytes ≤ longest_file → status ≡ status_of answer → Appended old new (text_of answer) → Accepts i o s bytes answer → DecidesCertificate i o s status old new bytes
-  certificate_decides h is written (not_compiled {kind = k} {number = n} p) = record {
-    yes = (λ e. absurd (not_limit e is), λ x. absurd (over_compile p x.0));
-    no = (λ e. absurd (no_limit e is), λ x. absurd (over_compile p x.0));
+  certificate_decides h is written (stops_before_rows {kind = k} {number = n} p) = record {
+    yes = (λ e. absurd (not_limit e is), λ x. absurd (over_triple p x.0));
+    no = (λ e. absurd (no_limit e is), λ x. absurd (over_triple p x.0));
     limit = (λ _. (k, n, p), λ _. is);
     one = inr (inr is);
     yes_text = λ e. absurd (not_limit e is);
     no_text = λ e. absurd (no_limit e is);
-    compile_text = λ kind number q. compile_lines old new (one_compile p q) written;
+    before_rows_text = λ kind number q. before_rows_lines old new (one_triple_limit p q) written;
   }
   certificate_decides h is written (accepts {d = d} v t c) = record {
     yes = (λ _. (v, (d, t, c)), λ _. is);
     no = (λ e. absurd (not_no is e), λ x. absurd (x.1 (d, t, c)));
-    limit = (λ e. absurd (not_limit is e), λ x. absurd (over_compile x.2 v));
+    limit = (λ e. absurd (not_limit is e), λ x. absurd (over_triple x.2 v));
     one = inl is;
     yes_text = λ _. written;
     no_text = λ e. absurd (not_no is e);
-    compile_text = λ kind number q. absurd (over_compile q v);
+    before_rows_text = λ kind number q. absurd (over_triple q v);
   }
   certificate_decides h is written (no_text {line = n} v f) = record {
     yes = (λ e. absurd (not_no e is), λ x. absurd (not_text f x.1));
     no = (λ _. (v, not_text f), λ _. is);
-    limit = (λ e. absurd (no_limit is e), λ x. absurd (over_compile x.2 v));
+    limit = (λ e. absurd (no_limit is e), λ x. absurd (over_triple x.2 v));
     one = inr (inl is);
     yes_text = λ e. absurd (not_no e is);
     no_text = λ _. (form_fails n, of_form f, written);
-    compile_text = λ kind number q. absurd (over_compile q v);
+    before_rows_text = λ kind number q. absurd (over_triple q v);
   }
   certificate_decides h is written (no_certificate {why = why} v t r) = record {
     yes = (λ e. absurd (not_no e is), λ x. absurd (not_it h t r x.1));
     no = (λ _. (v, not_it h t r), λ _. is);
-    limit = (λ e. absurd (no_limit is e), λ x. absurd (over_compile x.2 v));
+    limit = (λ e. absurd (no_limit is e), λ x. absurd (over_triple x.2 v));
     one = inr (inl is);
     yes_text = λ e. absurd (not_no e is);
     no_text = λ _. (why, of_rule t r, written);
-    compile_text = λ kind number q. absurd (over_compile q v);
+    before_rows_text = λ kind number q. absurd (over_triple q v);
   }
 
 verified_held : {words : List (List ℕ)} {files : Files} {i o : Grammar} {s : Sheet} {bytes : List ℕ} (c : VerifiesFiles words files i o s bytes)
@@ -170,7 +170,7 @@ certificate_of_files {words} {rose} {reads} files i o s bytes status old new ans
 -- a certificate of safety shows it
 
 says_accepted : {i o : Grammar} {s : Sheet} {bytes : List ℕ} {answer : Answer} → Accepts i o s bytes answer → status_of answer ≡ Yes → IsSafe i o s
-says_accepted (not_compiled p) e = absurd (cc)
+says_accepted (stops_before_rows p) e = absurd (cc)
 says_accepted (accepts {d = d} v t c) e = safe_certified d c
 says_accepted (no_text v f) e = absurd (cc)
 says_accepted (no_certificate v t r) e = absurd (cc)

@@ -14,12 +14,12 @@ use Rattle.tc_model.specs.declared.lists.CertData.{CertData}
 use Rattle.tc_read.specs.Sheets.{IsSheetOf}
 use Rattle.tc_rows.proofs.Derived.{certificate_is_safe}
 use Rattle.tc_top.specs.Causes.{OfTexts, all_three}
-use Rattle.tc_top.specs.Certifying.{IsCertificateOf, IsLeastOf, Certifies, as_checked, certifies, overlong, Accepts, not_compiled, accepts, no_text, no_certificate}
-use Rattle.tc_top.specs.Checking.{IsCompiled}
+use Rattle.tc_top.specs.Certifying.{IsCertificateOf, IsLeastOf, Certifies, as_checked, certifies, overlong, Accepts, stops_before_rows, accepts, no_text, no_certificate}
+use Rattle.tc_top.specs.Checking.{IsWithinTripleLimits}
 use Rattle.tc_top.specs.SchemaTexts.{SchemaText}
 use Rattle.tc_top.proofs.Checked.{of_triple, to_triple}
 use Rattle.tc_top.proofs.OneCertifying.{accepted_rejected}
-use Rattle.tc_top.proofs.OneCheck.{decided_of, over_compile}
+use Rattle.tc_top.proofs.OneCheck.{decided_of, over_triple}
 
 module _ {i o : Grammar} {s : Sheet} where
   -- the least certificate of what is safe is one
@@ -39,8 +39,8 @@ module _ {i o : Grammar} {s : Sheet} where
   safe_accepted (accepts {d} w t c) = safe_certified d c
 
   -- within the limits it is accepted exactly where the bytes are the text of a certificate, and else rejected
-  pub accepted_where : {bytes : List ℕ} {answer : Answer} → length bytes ≤ LONGEST_FILE → IsCompiled i o s → Accepts i o s bytes answer → (d : CertData) → CertificateText bytes d → IsCertificateOf i o s d → answer ≡ accepted
-  accepted_where h w (not_compiled p) d t c = absurd (over_compile p w)
+  pub accepted_where : {bytes : List ℕ} {answer : Answer} → length bytes ≤ LONGEST_FILE → IsWithinTripleLimits i o s → Accepts i o s bytes answer → (d : CertData) → CertificateText bytes d → IsCertificateOf i o s d → answer ≡ accepted
+  accepted_where h w (stops_before_rows p) d t c = absurd (over_triple p w)
   accepted_where h w (accepts v u e) d t c = refl
   accepted_where {bytes} h w (no_text {line} v f) d t c = absurd (no_fault bytes d line t f)
   accepted_where {bytes} h w (no_certificate {d = e} {why} v u r) d t c = absurd (accepted_rejected bytes h d e why t u c r)
@@ -48,8 +48,8 @@ module _ {i o : Grammar} {s : Sheet} where
   pub certified_where : {bytes : List ℕ} → Accepts i o s bytes accepted → (d : CertData) × CertificateText bytes d × IsCertificateOf i o s d
   certified_where (accepts {d} w t c) = (d, t, c)
 
-  pub yes_or_no : {bytes : List ℕ} {answer : Answer} → IsCompiled i o s → Accepts i o s bytes answer → (answer ≡ accepted) ⊎ ((why : Rejection) × (answer ≡ rejected why))
-  yes_or_no w (not_compiled p) = absurd (over_compile p w)
+  pub yes_or_no : {bytes : List ℕ} {answer : Answer} → IsWithinTripleLimits i o s → Accepts i o s bytes answer → (answer ≡ accepted) ⊎ ((why : Rejection) × (answer ≡ rejected why))
+  yes_or_no w (stops_before_rows p) = absurd (over_triple p w)
   yes_or_no w (accepts v u e) = inl refl
   yes_or_no w (no_text {line} v f) = inr (form_fails line, refl)
   yes_or_no w (no_certificate {d} {why} v u r) = inr (why, refl)

@@ -20,9 +20,9 @@ use Rattle.tc_answer.specs.Answers.{Answer, safe, counterexample_limit}
 use Rattle.tc_top.specs.Causes.{Finds, finds_safe, finds_unsafe, finds_large, finds_none_small, Checks}
 use Rattle.tc_top.specs.AnswersSeen.{IsRunOf, run_within, run_large}
 use Rattle.tc_answer.specs.Lines.{trees, hedges, outputs}
-use Rattle.tc_top.specs.Checking.{IsCompiled, HasFewRows, IsLeastCounter, IsLargeRun}
+use Rattle.tc_top.specs.Checking.{IsWithinTripleLimits, HasFewRows, IsLeastCounter, IsLargeRun}
 use Rattle.tc_close.specs.Triples.{IsTripleOf}
-use Rattle.tc_top.specs.Compiled.{IsReadOf}
+use Rattle.tc_top.specs.MachinesSeen.{IsReadOf}
 use Rattle.tc_top.specs.SchemaTexts.{SchemaText, IsSchemaOfText}
 use Rattle.tc_answer.specs.declared.limits.TheConstants.{MOST_OUTPUTS}
 use Rattle.tc_close.proofs.Agreeing.{triples_agree}
@@ -53,17 +53,17 @@ module _ (x : Triple) (is : IsTriple x) where
   few_rows {most} keeps hedges (y, of, many) = keeps.hedges (((triples_agree x.input x.output (t.sheet x) y x of (itself x is)).live_hedges.pass most).0 many)
   few_rows {most} keeps outputs (y, of, many) = keeps.outputs (((triples_agree x.input x.output (t.sheet x) y x of (itself x is)).outputs.pass MOST_OUTPUTS).0 many)
 
-  pub found_safe : {most : ℕ} {n : Counts} → IsCompiled x.input x.output (t.sheet x) → IsSafeWith x most n → Finds most x.input x.output (t.sheet x) (safe n.trees n.hedges n.outputs)
+  pub found_safe : {most : ℕ} {n : Counts} → IsWithinTripleLimits x.input x.output (t.sheet x) → IsSafeWith x most n → Finds most x.input x.output (t.sheet x) (safe n.trees n.hedges n.outputs)
   found_safe w h =
       finds_safe w (few_rows h.keeps) (record { triple = x; of = itself x is; trees = h.counts.trees; hedges = h.counts.hedges; outputs = h.counts.outputs }) h.safe
 
-  pub found_far : {most : ℕ} → IsCompiled x.input x.output (t.sheet x) → IsFarUnsafe x most → Finds most x.input x.output (t.sheet x) counterexample_limit
+  pub found_far : {most : ℕ} → IsWithinTripleLimits x.input x.output (t.sheet x) → IsFarUnsafe x most → Finds most x.input x.output (t.sheet x) counterexample_limit
   found_far w h = finds_none_small w (few_rows h.keeps) (record { some = h.some; large = h.far })
 
   least_counter : {most : ℕ} {document : Trees} → IsUnsafeBy x most document → IsLeastCounter x.input x.output (t.sheet x) document
   least_counter h = record { counter = h.counter; plain = (x, itself x is, h.plain); few = h.few; least = h.least }
 
-  pub found_unsafe : {most : ℕ} {document : Trees} {answer : Answer} → IsCompiled x.input x.output (t.sheet x) → IsUnsafeBy x most document → IsRunOf (t.sheet x) document answer
+  pub found_unsafe : {most : ℕ} {document : Trees} {answer : Answer} → IsWithinTripleLimits x.input x.output (t.sheet x) → IsUnsafeBy x most document → IsRunOf (t.sheet x) document answer
       → Finds most x.input x.output (t.sheet x) answer
   found_unsafe w h (run_within k r) = finds_unsafe w (few_rows h.keeps) (least_counter h) k r
   found_unsafe w h (run_large k) = finds_large w (few_rows h.keeps) (least_counter h) k

@@ -24,12 +24,12 @@ use Rattle.tc_model.specs.WellFormed.{ForEach, IsSheet, eaches_of}
 use Rattle.tc_read.specs.declared.faults.Reason.{Reason}
 use Rattle.tc_read.specs.declared.schemas.Schema.{Schema}
 use Rattle.tc_base.specs.declared.Limit.{Limit}
-use Rattle.tc_top.specs.Comparing.{Question, inclusion, equality, PassesCompiling, FindsBoth, inclusion_passes, equality_passes, AreCompiled, HasManyCovers, many_trees, many_hedges, HasFewCovers, symbols_of_both, forward, backward, IsOfOne, FindsInclusion, finds_included, finds_not_included, finds_none_shown, FindsEquality, finds_equal, finds_first_only, finds_second_only, finds_no_one_shown}
-use Rattle.tc_top.specs.Compiled.{IsSpelled, IsReadOf}
+use Rattle.tc_top.specs.Comparing.{Question, inclusion, equality, PassesPairLimit, FindsBoth, inclusion_passes, equality_passes, AreWithinPairLimits, HasManyCovers, many_trees, many_hedges, HasFewCovers, symbols_of_both, forward, backward, IsOfOne, FindsInclusion, finds_included, finds_not_included, finds_none_shown, FindsEquality, finds_equal, finds_first_only, finds_second_only, finds_no_one_shown}
+use Rattle.tc_top.specs.MachinesSeen.{IsSpelled, IsReadOf}
 use Rattle.tc_top.specs.Limits.{IsWithinLimits, AreFew}
 use Rattle.tc_top.specs.Pairs.{HasFewNodes, IsPairOf}
 use Rattle.tc_top.specs.declared.compare.Pair.{Pair}
-use Rattle.tc_top.proofs.Compiling.{lawful}
+use Rattle.tc_top.proofs.MachineLimits.{lawful}
 use Rattle.tc_top.proofs.Nothing.{no_rules}
 
 -- a stylesheet without rules is well-formed
@@ -83,7 +83,7 @@ module _ (g h : Grammar) (first second : Schema) (one_spelled : IsSpelled first)
   pub is_pair : (one other : Auto) (symbols : List Mention) → a.Stands input g one → a.Stands input h other → symbols ≡ symbols_of_both g h → AreFew symbols
       → IsPairOf g h (record { first = one; second = other; alphabet = symbols })
   is_pair one other symbols p q same few = record {
-    compiled = record { first = one_within; second = other_within; few = subst AreFew same few };
+    within_limits = record { first = one_within; second = other_within; few = subst AreFew same few };
     forth = record { are = are_forward; first = p; second = q; symbols = same };
     back = record { are = are_backward; first = q; second = p; symbols = same };
   }
@@ -93,7 +93,7 @@ pub few_covers : (x : Schemas) → KeepsCounts x MOST_ROWS → HasFewCovers x
 few_covers x keeps count (many_trees p) = keeps.trees p
 few_covers x keeps count (many_hedges p) = keeps.hedges p
 
-module _ (g h : Grammar) (w : AreCompiled g h) where
+module _ (g h : Grammar) (w : AreWithinPairLimits g h) where
   pub tells_included : (trees hedges : ℕ) → IsIncludedWith (forward g h) MOST_ROWS trees hedges → FindsInclusion g h (included trees hedges)
   tells_included trees hedges k = finds_included w (few_covers (forward g h) k.keeps) k.included k.trees k.hedges
 
@@ -162,7 +162,7 @@ kept_counts x (Not document) k = k.keeps
 kept_counts x NotLarge k = k.keeps
 
 -- a limit that is passed before rows are decides both questions
-pub passes_both : (g h : Grammar) (question : Question) {kind : Limit} {number : ℕ} → PassesCompiling g h kind number → FindsBoth g h question (over_limit kind number)
+pub passes_both : (g h : Grammar) (question : Question) {kind : Limit} {number : ℕ} → PassesPairLimit g h kind number → FindsBoth g h question (over_limit kind number)
 passes_both g h inclusion p = inclusion_passes p
 passes_both g h equality p = equality_passes p
 

@@ -13,10 +13,10 @@ use Rattle.tc_model.specs.Printed.{printed}
 use Rattle.tc_model.specs.Trees.{Trees, none, text, element, node_count, IsDocument}
 use Rattle.tc_print.specs.ReadBack.{nesting, IsReadAs}
 use Rattle.tc_print.proofs.ReadBack.{read_back}
-use Rattle.tc_top.specs.Comparing.{Question, inclusion, equality, AreCompiled, HasManyCovers, HasFewCovers, PassesCompiling, forward, backward, IsShown, IsOfOne, FindsInclusion, inclusion_passes, inclusion_covers, finds_included, finds_not_included, finds_none_shown, FindsEquality, equality_passes, equality_covers_forward, equality_covers_backward, finds_equal, finds_first_only, finds_second_only, finds_no_one_shown, FindsBoth}
+use Rattle.tc_top.specs.Comparing.{Question, inclusion, equality, AreWithinPairLimits, HasManyCovers, HasFewCovers, PassesPairLimit, forward, backward, IsShown, IsOfOne, FindsInclusion, inclusion_passes, inclusion_covers, finds_included, finds_not_included, finds_none_shown, FindsEquality, equality_passes, equality_covers_forward, equality_covers_backward, finds_equal, finds_first_only, finds_second_only, finds_no_one_shown, FindsBoth}
 use Rattle.tc_top.specs.ComparedFiles.{AreKept, IsSo, Refutes, HasSmallRefutation, HasLargeRefutations, IsLeastRefutation, AreTooMany, in_inclusion, in_first, in_second, IsLimited, limited_before_rows, limited_in_rows, limited_in_nodes, ShowsSo, Shows, shows_difference, shows_first, shows_second, DecidesComparison}
 use Rattle.tc_top.specs.OneAnswer.{AreAlike, same_answer}
-use Rattle.tc_top.proofs.OneComparison.{over_compiling, one_compiling, not_different, equal_not_of_one}
+use Rattle.tc_top.proofs.OneComparison.{over_pair, one_pair_limit, not_different, equal_not_of_one}
 
 -- a document that can be shown is read back
 deep_within : (h : Trees) → nesting h ≤ node_count h
@@ -34,9 +34,9 @@ no_limit : {status : Status} → status ≡ No → status ≡ Limit → ⊥
 no_limit e f = absurd (let g = sym e ∙ f in cc)
 
 -- the line of the one limit that is told
-compile_lines : (old new : Option (List ℕ)) {kind other : kinds.Limit} {number count : ℕ} → AreAlike (over_limit kind number) (over_limit other count) → Appended old new (text_of (over_limit kind number))
+before_rows_lines : (old new : Option (List ℕ)) {kind other : kinds.Limit} {number count : ℕ} → AreAlike (over_limit kind number) (over_limit other count) → Appended old new (text_of (over_limit kind number))
     → Appended old new (text_of (over_limit other count))
-compile_lines old new same_answer written = written
+before_rows_lines old new same_answer written = written
 
 module _ (g h : Grammar) where
   of_one_document : {document : Trees} → IsOfOne g h document → IsDocument document
@@ -50,9 +50,9 @@ module _ (g h : Grammar) where
   reads_back : (question : Question) (document : Trees) → Refutes g h question document → IsShown g h document → IsReadAs (printed document) document
   reads_back question document refutes shown = read_back document (record { document = is_document question document refutes; shallow = omega (arith, deep_within document, shown.few) })
 
-  compiled : (question : Question) → AreKept g h question → AreCompiled g h
-  compiled inclusion k = k.0
-  compiled equality k = k.0
+  within_limits : (question : Question) → AreKept g h question → AreWithinPairLimits g h
+  within_limits inclusion k = k.0
+  within_limits equality k = k.0
 
   -- what is so isn't refuted
   not_refuted : (question : Question) (document : Trees) → IsSo g h question → Refutes g h question document → ⊥
@@ -73,7 +73,7 @@ module _ (g h : Grammar) where
     Decides = DecidesComparison g h status old new question
 
     not_limited : AreKept g h question → (HasLargeRefutations g h question → ⊥) → IsLimited g h question → ⊥
-    not_limited k n (limited_before_rows p) = over_compiling p (compiled question k)
+    not_limited k n (limited_before_rows p) = over_pair p (within_limits question k)
     not_limited k n (limited_in_rows count w p) = kept_few question _ k p
     not_limited k n (limited_in_nodes j l) = n l
 
@@ -85,7 +85,7 @@ module _ (g h : Grammar) where
       one = inl is;
       yes_text = λ _. shows;
       no_text = λ e. absurd (not_no is e);
-      compile_text = λ kind number p. absurd (over_compiling p (compiled question k));
+      before_rows_text = λ kind number p. absurd (over_pair p (within_limits question k));
       rows_text = λ count w p. absurd (kept_few question _ k p);
       nodes_text = λ j l. absurd (not_refuted question _ so l.some.1);
     }
@@ -98,25 +98,25 @@ module _ (g h : Grammar) where
       one = inr (inl is);
       yes_text = λ e. absurd (not_no e is);
       no_text = λ _. (document, least, shown, reads_back question document least.refutes shown, shows);
-      compile_text = λ kind number p. absurd (over_compiling p (compiled question k));
+      before_rows_text = λ kind number p. absurd (over_pair p (within_limits question k));
       rows_text = λ count w p. absurd (kept_few question _ k p);
       nodes_text = λ j l. absurd (small_large question (document, least.refutes, shown.few) l);
     }
 
-    is_compile : {kind : kinds.Limit} {number : ℕ} → status ≡ Limit → PassesCompiling g h kind number → Appended old new (text_of (over_limit kind number)) → Decides
-    is_compile is p written = record {
-      yes = (λ e. absurd (not_limit e is), λ x. absurd (over_compiling p (compiled question x.0)));
-      no = (λ e. absurd (no_limit e is), λ x. absurd (over_compiling p (compiled question x.0)));
+    is_pair_limit : {kind : kinds.Limit} {number : ℕ} → status ≡ Limit → PassesPairLimit g h kind number → Appended old new (text_of (over_limit kind number)) → Decides
+    is_pair_limit is p written = record {
+      yes = (λ e. absurd (not_limit e is), λ x. absurd (over_pair p (within_limits question x.0)));
+      no = (λ e. absurd (no_limit e is), λ x. absurd (over_pair p (within_limits question x.0)));
       limit = (λ _. limited_before_rows p, λ _. is);
       one = inr (inr is);
       yes_text = λ e. absurd (not_limit e is);
       no_text = λ e. absurd (no_limit e is);
-      compile_text = λ kind number q. compile_lines old new (one_compiling p q) written;
-      rows_text = λ count w q. absurd (over_compiling p w);
-      nodes_text = λ j l. absurd (over_compiling p (compiled question j));
+      before_rows_text = λ kind number q. before_rows_lines old new (one_pair_limit p q) written;
+      rows_text = λ count w q. absurd (over_pair p w);
+      nodes_text = λ j l. absurd (over_pair p (within_limits question j));
     }
 
-    is_rows : (count : RowCount) → status ≡ Limit → AreCompiled g h → AreTooMany g h question count → Appended old new (limit_line (count_word count) MOST_ROWS) → Decides
+    is_rows : (count : RowCount) → status ≡ Limit → AreWithinPairLimits g h → AreTooMany g h question count → Appended old new (limit_line (count_word count) MOST_ROWS) → Decides
     is_rows count is w p written = record {
       yes = (λ e. absurd (not_limit e is), λ x. absurd (kept_few question _ x.0 p));
       no = (λ e. absurd (no_limit e is), λ x. absurd (kept_few question _ x.0 p));
@@ -124,7 +124,7 @@ module _ (g h : Grammar) where
       one = inr (inr is);
       yes_text = λ e. absurd (not_limit e is);
       no_text = λ e. absurd (no_limit e is);
-      compile_text = λ kind number q. absurd (over_compiling q w);
+      before_rows_text = λ kind number q. absurd (over_pair q w);
       rows_text = λ other v q. (count, p, written);
       nodes_text = λ j l. absurd (kept_few question _ j p);
     }
@@ -137,14 +137,14 @@ module _ (g h : Grammar) where
       one = inr (inr is);
       yes_text = λ e. absurd (not_limit e is);
       no_text = λ e. absurd (no_limit e is);
-      compile_text = λ kind number q. absurd (over_compiling q (compiled question k));
+      before_rows_text = λ kind number q. absurd (over_pair q (within_limits question k));
       rows_text = λ count w q. absurd (kept_few question _ k q);
       nodes_text = λ j m. written;
     }
 
   module _ (status : Status) (old new : Option (List ℕ)) where
     inclusion_decides : {answer : Answer} → status ≡ status_of answer → Appended old new (text_of answer) → FindsInclusion g h answer → DecidesComparison g h status old new inclusion
-    inclusion_decides is written (inclusion_passes p) = is_compile inclusion status old new is p written
+    inclusion_decides is written (inclusion_passes p) = is_pair_limit inclusion status old new is p written
     inclusion_decides is written (inclusion_covers c w p) = is_rows inclusion status old new c is w (in_inclusion p) written
     inclusion_decides is written (finds_included w f i t u) = is_yes inclusion status old new is (w, f) i (_, _, t, u, written)
     inclusion_decides is written (finds_not_included w f d s l) = is_no inclusion status old new _ is (w, f) (record { refutes = d; least = l }) s (shows_difference written)
@@ -156,7 +156,7 @@ module _ (g h : Grammar) where
     second_least document m l other (inr d) = l other d
 
     equality_decides : {answer : Answer} → status ≡ status_of answer → Appended old new (text_of answer) → FindsEquality g h answer → DecidesComparison g h status old new equality
-    equality_decides is written (equality_passes p) = is_compile equality status old new is p written
+    equality_decides is written (equality_passes p) = is_pair_limit equality status old new is p written
     equality_decides is written (equality_covers_forward c w p) = is_rows equality status old new c is w (in_first p) written
     equality_decides is written (equality_covers_backward c w f p) = is_rows equality status old new c is w (in_second f p) written
     equality_decides is written (finds_equal w f e i j) = is_yes equality status old new is (w, f, e) (i, j) written

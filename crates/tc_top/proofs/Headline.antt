@@ -12,11 +12,11 @@ use Rattle.tc_model.specs.Printed.{printed}
 use Rattle.tc_model.specs.Safety.{IsSafe}
 use Rattle.tc_print.specs.ReadBack.{nesting, IsReadAs}
 use Rattle.tc_print.proofs.ReadBack.{read_back}
-use Rattle.tc_top.specs.Checking.{most_rows, IsCompiled, HasFewRows, AreRowCounts, IsLeastCounter, HasSmallCounter, HasLargeCounters}
+use Rattle.tc_top.specs.Checking.{most_rows, IsWithinTripleLimits, HasFewRows, AreRowCounts, IsLeastCounter, HasSmallCounter, HasLargeCounters}
 use Rattle.tc_top.specs.Headline.{IsCutShort, ChecksFiles, ChecksShortFiles, ShowsCounterexample, shows_both, shows_document, ShowsRun, shows_result, shows_large, IsLimited, limited_before_rows, limited_in_rows, limited_in_nodes, DecidesSafety, ValidatesFiles, DecidesValidity, RunsFiles, GivesResult}
 use Rattle.tc_answer.specs.Answers.{Answer, usage, cannot_read, file_limit, safe, unsafe, unsafe_large, rows_limit, counterexample_limit, certificate, certificate_limit, accepted, rejected, included, not_included, equal, first_only, second_only, refused, over_limit, is_valid, is_invalid, has_result, work_limit, open_limit, status_of, text_of}
 use Rattle.tc_top.specs.Answers.{IsAnswerTo, checked, ran, validated, shown, IsAnswer, Ends, KeepsToLimits}
-use Rattle.tc_top.specs.Causes.{Finds, passes_compile, passes_rows, finds_safe, finds_unsafe, finds_large, finds_none_small, Runs, sheet_passes, too_much_work, too_open, gives_result, Checks, Validates, RunsTexts}
+use Rattle.tc_top.specs.Causes.{Finds, passes_before_rows, passes_rows, finds_safe, finds_unsafe, finds_large, finds_none_small, Runs, sheet_passes, too_much_work, too_open, gives_result, Checks, Validates, RunsTexts}
 use Rattle.tc_top.specs.AnswersSeen.{IsRightFor}
 use Rattle.tc_top.specs.OneAnswer.{AreAlike, same_answer, GivesOneLike, IsOfFault}
 use Rattle.tc_answer.specs.declared.answer.Answer.{Answer as Said}
@@ -31,7 +31,7 @@ use Rattle.tc_answer.specs.declared.limits.TheConstants.{MOST_ROWS}
 use Rattle.tc_answer.specs.Words.{Words, check, run, valid, demo, schema, plain}
 use Rattle.tc_answer.proofs.ReadsOnce.{AreHeld, no_file, holds, AreShort, none_long, is_short}
 use Rattle.tc_top.proofs.Exact.{Agrees, decided_only, shown_reads, read_all, held_decided}
-use Rattle.tc_top.proofs.OneCheck.{not_both, over_compile, one_compile, near_far, decided_of}
+use Rattle.tc_top.proofs.OneCheck.{not_both, over_triple, one_triple_limit, near_far, decided_of}
 use Rattle.tc_answer.proofs.OneCommand.{one_command}
 use Rattle.tc_top.proofs.OneValidity.{Settles, settles_valid, settles_invalid, settles}
 use Rattle.tc_top.proofs.OneRun.{one_result, runs_of, not_within, not_few, not_low}
@@ -102,9 +102,9 @@ pub no_limit : {status : Status} → status ≡ No → status ≡ Limit → ⊥
 no_limit e f = absurd (let g = sym e ∙ f in cc)
 
 -- the line of the one limit that is told
-pub compile_lines : (old new : Option (List ℕ)) {kind other : kinds.Limit} {number count : ℕ} → AreAlike (over_limit kind number) (over_limit other count) → Appended old new (text_of (over_limit kind number))
+pub before_rows_lines : (old new : Option (List ℕ)) {kind other : kinds.Limit} {number count : ℕ} → AreAlike (over_limit kind number) (over_limit other count) → Appended old new (text_of (over_limit kind number))
     → Appended old new (text_of (over_limit other count))
-compile_lines old new same_answer written = written
+before_rows_lines old new same_answer written = written
 
 small_far : {i o : Grammar} {s : Sheet} → HasSmallCounter i o s → HasLargeCounters i o s → ⊥
 small_far (document, counter, few) large = let far = large.large document counter in omega (arith, few, far)
@@ -114,12 +114,12 @@ module _ (most : ℕ) (i o : Grammar) (s : Sheet) (status : Status) (old new : O
   Decides = DecidesSafety status old new most i o s
 
   -- what isn't limited
-  pub few_not_limited : IsCompiled i o s → HasFewRows i o s most → (HasLargeCounters i o s → ⊥) → IsLimited most i o s → ⊥
-  few_not_limited w f n (limited_before_rows p) = over_compile p w
+  pub few_not_limited : IsWithinTripleLimits i o s → HasFewRows i o s most → (HasLargeCounters i o s → ⊥) → IsLimited most i o s → ⊥
+  few_not_limited w f n (limited_before_rows p) = over_triple p w
   few_not_limited w f n (limited_in_rows count v p) = f count p
   few_not_limited w f n (limited_in_nodes v g l) = n l
 
-  is_yes : {a b c : ℕ} → status ≡ Yes → Appended old new (text_of (safe a b c)) → IsCompiled i o s → HasFewRows i o s most → AreRowCounts i o s a b c → IsSafe i o s → Decides
+  is_yes : {a b c : ℕ} → status ≡ Yes → Appended old new (text_of (safe a b c)) → IsWithinTripleLimits i o s → HasFewRows i o s most → AreRowCounts i o s a b c → IsSafe i o s → Decides
   is_yes {a} {b} {c} is written w f n h = record {
     yes = (λ _. (w, f, h), λ _. is);
     no = (λ e. absurd (not_no is e), λ x. absurd (not_both i o s h x.2.1));
@@ -127,12 +127,12 @@ module _ (most : ℕ) (i o : Grammar) (s : Sheet) (status : Status) (old new : O
     one = inl is;
     yes_text = λ _. (a, b, c, n, written);
     no_text = λ e. absurd (not_no is e);
-    compile_text = λ kind number p. absurd (over_compile p w);
+    before_rows_text = λ kind number p. absurd (over_triple p w);
     rows_text = λ count v p. absurd (f count p);
     nodes_text = λ v g l. absurd (not_both i o s h l.some.1);
   }
 
-  is_no : {document : Trees} → status ≡ No → IsCompiled i o s → HasFewRows i o s most → IsLeastCounter i o s document → ShowsRun old new s document → Decides
+  is_no : {document : Trees} → status ≡ No → IsWithinTripleLimits i o s → HasFewRows i o s most → IsLeastCounter i o s document → ShowsRun old new s document → Decides
   is_no {document} is w f l display = record {
     yes = (λ e. absurd (not_no e is), λ x. absurd (not_both i o s x.2 l.counter));
     no = (λ _. (w, f, (document, l.counter, l.few)), λ _. is);
@@ -140,23 +140,23 @@ module _ (most : ℕ) (i o : Grammar) (s : Sheet) (status : Status) (old new : O
     one = inr (inl is);
     yes_text = λ e. absurd (not_no e is);
     no_text = λ _. (document, l, reads_back l, display);
-    compile_text = λ kind number p. absurd (over_compile p w);
+    before_rows_text = λ kind number p. absurd (over_triple p w);
     rows_text = λ count v p. absurd (f count p);
     nodes_text = λ v g x. absurd (near_far l x);
   }
 
   -- what is found decides all
   pub decides : {answer : Answer} → status ≡ status_of answer → Appended old new (text_of answer) → Finds most i o s answer → Decides
-  decides is written (passes_compile {kind = k} {number = n} p) = record {
-    yes = (λ e. absurd (not_limit e is), λ x. absurd (over_compile p x.0));
-    no = (λ e. absurd (no_limit e is), λ x. absurd (over_compile p x.0));
+  decides is written (passes_before_rows {kind = k} {number = n} p) = record {
+    yes = (λ e. absurd (not_limit e is), λ x. absurd (over_triple p x.0));
+    no = (λ e. absurd (no_limit e is), λ x. absurd (over_triple p x.0));
     limit = (λ _. limited_before_rows p, λ _. is);
     one = inr (inr is);
     yes_text = λ e. absurd (not_limit e is);
     no_text = λ e. absurd (no_limit e is);
-    compile_text = λ kind number q. compile_lines old new (one_compile p q) written;
-    rows_text = λ count w q. absurd (over_compile p w);
-    nodes_text = λ w f l. absurd (over_compile p w);
+    before_rows_text = λ kind number q. before_rows_lines old new (one_triple_limit p q) written;
+    rows_text = λ count w q. absurd (over_triple p w);
+    nodes_text = λ w f l. absurd (over_triple p w);
   }
   decides is written (passes_rows c w p) = record {
     yes = (λ e. absurd (not_limit e is), λ x. absurd (x.1 c p));
@@ -165,7 +165,7 @@ module _ (most : ℕ) (i o : Grammar) (s : Sheet) (status : Status) (old new : O
     one = inr (inr is);
     yes_text = λ e. absurd (not_limit e is);
     no_text = λ e. absurd (no_limit e is);
-    compile_text = λ kind number q. absurd (over_compile q w);
+    before_rows_text = λ kind number q. absurd (over_triple q w);
     rows_text = λ count v q. (c, p, written);
     nodes_text = λ v f l. absurd (f c p);
   }
@@ -179,7 +179,7 @@ module _ (most : ℕ) (i o : Grammar) (s : Sheet) (status : Status) (old new : O
     one = inr (inr is);
     yes_text = λ e. absurd (not_limit e is);
     no_text = λ e. absurd (no_limit e is);
-    compile_text = λ kind number q. absurd (over_compile q w);
+    before_rows_text = λ kind number q. absurd (over_triple q w);
     rows_text = λ count v q. absurd (f count q);
     nodes_text = λ v g m. written;
   }
@@ -236,7 +236,7 @@ found rose files limit i o s {answer} c true right which = by (held_decided rose
 -- yes says that it is safe, and no shows that it isn't
 
 says_safe : {most : ℕ} {i o : Grammar} {s : Sheet} {answer : Answer} → Finds most i o s answer → status_of answer ≡ Yes → IsSafe i o s
-says_safe (passes_compile p) e = absurd (cc)
+says_safe (passes_before_rows p) e = absurd (cc)
 says_safe (passes_rows c w p) e = absurd (cc)
 says_safe (finds_safe w f n h) e = h
 says_safe (finds_unsafe w f l k r) e = absurd (cc)
@@ -245,7 +245,7 @@ says_safe (finds_none_small w f l) e = absurd (cc)
 
 shows : {most : ℕ} {i o : Grammar} {s : Sheet} {answer : Answer} (old new : Option (List ℕ)) → Finds most i o s answer → status_of answer ≡ No → Appended old new (text_of answer)
     → ShowsCounterexample old new i o s
-shows old new (passes_compile p) e written = absurd (cc)
+shows old new (passes_before_rows p) e written = absurd (cc)
 shows old new (passes_rows c w p) e written = absurd (cc)
 shows old new (finds_safe w f n h) e written = absurd (cc)
 shows {i = i} {o = o} {s = s} old new (finds_unsafe {document = d} {result = r} w f l k is) e written =

@@ -6,7 +6,7 @@ pub mod SchemaTextLaws
 pub mod OneValidity
 pub mod OneRun
 pub mod Checked
-pub mod Compiling
+pub mod MachineLimits
 pub mod Compared
 pub mod OneCheck
 pub mod OneComparison

@@ -22,19 +22,19 @@ use Rattle.tc_rows.specs.CertificateRows.{IsCertificateData}
 use Rattle.tc_rows.specs.Triples.{Triple}
 use Rattle.tc_verify.specs.Rejects.{IsRejected}
 use Rattle.tc_verify.specs.declared.reject.Reject.{Reject}
-use Rattle.tc_top.specs.Causes.{Finds, passes_compile, passes_rows, finds_safe, finds_unsafe, finds_large, finds_none_small, OfTexts}
-use Rattle.tc_top.specs.Certifying.{told, told_by, IsCertificateOf, IsLeastOf, IsRejectedFor, IsOverlong, long_text, long_outputs, Certifies, as_checked, certifies, overlong, Accepts, not_compiled, accepts, no_text, no_certificate, Upgrades, upgrades, too_long, no_form}
-use Rattle.tc_top.specs.Checking.{IsCompiled, HasFewRows}
+use Rattle.tc_top.specs.Causes.{Finds, passes_before_rows, passes_rows, finds_safe, finds_unsafe, finds_large, finds_none_small, OfTexts}
+use Rattle.tc_top.specs.Certifying.{told, told_by, IsCertificateOf, IsLeastOf, IsRejectedFor, IsOverlong, long_text, long_outputs, Certifies, as_checked, certifies, overlong, Accepts, stops_before_rows, accepts, no_text, no_certificate, Upgrades, upgrades, too_long, no_form}
+use Rattle.tc_top.specs.Checking.{IsWithinTripleLimits, HasFewRows}
 use Rattle.tc_top.specs.OneAnswer.{AreAlike, same_answer}
-use Rattle.tc_top.proofs.OneCheck.{over_compile, one_compile, finds_one, not_both, texts_one}
+use Rattle.tc_top.proofs.OneCheck.{over_triple, one_triple_limit, finds_one, not_both, texts_one}
 use Rattle.tc_top.proofs.RejectedAlike.{rejected_alike, one_rejected}
 
 same_as : {one other : Answer} → one ≡ other → AreAlike one other
 same_as {one} e = subst (AreAlike one) e same_answer
 
 -- of what is safe and passes no limit `check` says yes
-pub only_yes : {i o : Grammar} {s : Sheet} {most : ℕ} {answer : Answer} → Finds most i o s answer → IsCompiled i o s → HasFewRows i o s most → IsSafe i o s → status_of answer ≡ Yes
-only_yes (passes_compile p) w few safe = absurd (over_compile p w)
+pub only_yes : {i o : Grammar} {s : Sheet} {most : ℕ} {answer : Answer} → Finds most i o s answer → IsWithinTripleLimits i o s → HasFewRows i o s most → IsSafe i o s → status_of answer ≡ Yes
+only_yes (passes_before_rows p) w few safe = absurd (over_triple p w)
 only_yes (passes_rows c v p) w few safe = absurd (few c p)
 only_yes (finds_safe v f n h) w few safe = refl
 only_yes {i} {o} {s} (finds_unsafe v f l k r) w few safe = absurd (not_both i o s safe l.counter)
@@ -74,19 +74,19 @@ module _ {i o : Grammar} {s : Sheet} where
       f ∙ (ap (λ z. told_by z.symbols p.rule p.line p.other) alike.bare_same ∙ (ap (λ (r : Reject). told y r.rule r.line r.other) rejects ∙ sym g))
 
   pub accepts_one : {bytes : List ℕ} {one other : Answer} → length bytes ≤ LONGEST_FILE → Accepts i o s bytes one → Accepts i o s bytes other → AreAlike one other
-  accepts_one h (not_compiled p) (not_compiled q) = one_compile p q
-  accepts_one h (not_compiled p) (accepts w t c) = absurd (over_compile p w)
-  accepts_one h (not_compiled p) (no_text w f) = absurd (over_compile p w)
-  accepts_one h (not_compiled p) (no_certificate w t r) = absurd (over_compile p w)
-  accepts_one h (accepts w t c) (not_compiled p) = absurd (over_compile p w)
+  accepts_one h (stops_before_rows p) (stops_before_rows q) = one_triple_limit p q
+  accepts_one h (stops_before_rows p) (accepts w t c) = absurd (over_triple p w)
+  accepts_one h (stops_before_rows p) (no_text w f) = absurd (over_triple p w)
+  accepts_one h (stops_before_rows p) (no_certificate w t r) = absurd (over_triple p w)
+  accepts_one h (accepts w t c) (stops_before_rows p) = absurd (over_triple p w)
   accepts_one h (accepts w t c) (accepts v u e) = same_answer
   accepts_one {bytes} h (accepts {d} w t c) (no_text {line} v f) = absurd (no_fault bytes d line t f)
   accepts_one {bytes} h (accepts {d} w t c) (no_certificate {d = e} {why} v u r) = absurd (accepted_rejected bytes h d e why t u c r)
-  accepts_one h (no_text w f) (not_compiled p) = absurd (over_compile p w)
+  accepts_one h (no_text w f) (stops_before_rows p) = absurd (over_triple p w)
   accepts_one {bytes} h (no_text {line} w f) (accepts {d} v t c) = absurd (no_fault bytes d line t f)
   accepts_one {bytes} h (no_text {line} w f) (no_text {line = other} v g) = same_as (ap (λ n. rejected (form_fails n)) (one_fault bytes line other f g))
   accepts_one {bytes} h (no_text {line} w f) (no_certificate {d} v t r) = absurd (no_fault bytes d line t f)
-  accepts_one h (no_certificate w t r) (not_compiled p) = absurd (over_compile p w)
+  accepts_one h (no_certificate w t r) (stops_before_rows p) = absurd (over_triple p w)
   accepts_one {bytes} h (no_certificate {d} {why} w t r) (accepts {d = e} v u c) = absurd (accepted_rejected bytes h e d why u t c r)
   accepts_one {bytes} h (no_certificate {d} w t r) (no_text {line} v f) = absurd (no_fault bytes d line t f)
   accepts_one {bytes} h (no_certificate {d} {why} w t r) (no_certificate {d = e} {why = other} v u q) = same_as (ap rejected (one_why d e why other (one_data bytes h d e t u) r q))

@@ -10,8 +10,8 @@ use Rattle.tc_read.specs.Sheets.{IsSheetOf}
 use Rattle.tc_rows.specs.Counts.{IsRowOfLiveTree, IsRowOfLiveHedge, IsOutput}
 use Rattle.tc_rows.proofs.Counting.{counts_tell}
 use Rattle.tc_answer.specs.Answers.{Answer, safe, over_limit}
-use Rattle.tc_top.specs.Causes.{Finds, passes_compile, passes_rows, finds_safe, finds_unsafe, finds_large, finds_none_small, Checks, OfTexts, refuses_input, refuses_output, refuses_sheet, all_three}
-use Rattle.tc_top.specs.Checking.{IsCompiled, PassesCompile, by_input, by_output, by_sheet, by_calls, by_entries, AreRowCounts, IsCounter, IsLeastCounter, HasLargeCounters}
+use Rattle.tc_top.specs.Causes.{Finds, passes_before_rows, passes_rows, finds_safe, finds_unsafe, finds_large, finds_none_small, Checks, OfTexts, refuses_input, refuses_output, refuses_sheet, all_three}
+use Rattle.tc_top.specs.Checking.{IsWithinTripleLimits, PassesTripleLimit, by_input, by_output, by_sheet, by_calls, by_entries, AreRowCounts, IsCounter, IsLeastCounter, HasLargeCounters}
 use Rattle.tc_top.specs.OneAnswer.{AreAlike, same_answer, counterexamples, large_counterexamples, large_or_not, not_large_or_large, row_limits}
 use Rattle.tc_top.specs.SchemaTexts.{SchemaText}
 use Rattle.tc_top.proofs.OneRefusal.{sheet_refusals}
@@ -32,40 +32,40 @@ safe_alike {a} {b} {c} {d} {e} {f} (p, q, r) =
     subst (λ n. AreAlike (safe a b c) (safe n e f)) p (subst (λ n. AreAlike (safe a b c) (safe a n f)) q (subst (λ n. AreAlike (safe a b c) (safe a b n)) r same_answer))
 
 module _ {i o : Grammar} {s : Sheet} where
-  pub over_compile : {kind : Limit} {number : ℕ} → PassesCompile i o s kind number → IsCompiled i o s → ⊥
-  over_compile (by_input p) w = schema.over p w.input
-  over_compile (by_output v p) w = schema.over p w.output
-  over_compile (by_sheet v x p) w = run.over p w.sheet
-  over_compile (by_calls v x y p) w = w.calls p
-  over_compile (by_entries v x y n p) w = w.entries p
+  pub over_triple : {kind : Limit} {number : ℕ} → PassesTripleLimit i o s kind number → IsWithinTripleLimits i o s → ⊥
+  over_triple (by_input p) w = schema.over p w.input
+  over_triple (by_output v p) w = schema.over p w.output
+  over_triple (by_sheet v x p) w = run.over p w.sheet
+  over_triple (by_calls v x y p) w = w.calls p
+  over_triple (by_entries v x y n p) w = w.entries p
 
   -- the first limit that is passed is one
-  pub one_compile : {kind other : Limit} {number count : ℕ} → PassesCompile i o s kind number → PassesCompile i o s other count → AreAlike (over_limit kind number) (over_limit other count)
-  one_compile (by_input p) (by_input q) = schema.one_limit p q
-  one_compile (by_input p) (by_output v q) = absurd (schema.over p v)
-  one_compile (by_input p) (by_sheet v x q) = absurd (schema.over p v)
-  one_compile (by_input p) (by_calls v x y q) = absurd (schema.over p v)
-  one_compile (by_input p) (by_entries v x y n q) = absurd (schema.over p v)
-  one_compile (by_output v p) (by_input q) = absurd (schema.over q v)
-  one_compile (by_output v p) (by_output w q) = schema.one_limit p q
-  one_compile (by_output v p) (by_sheet w x q) = absurd (schema.over p x)
-  one_compile (by_output v p) (by_calls w x y q) = absurd (schema.over p x)
-  one_compile (by_output v p) (by_entries w x y n q) = absurd (schema.over p x)
-  one_compile (by_sheet v x p) (by_input q) = absurd (schema.over q v)
-  one_compile (by_sheet v x p) (by_output w q) = absurd (schema.over q x)
-  one_compile (by_sheet v x p) (by_sheet w y q) = run.one_limit p q
-  one_compile (by_sheet v x p) (by_calls w y z q) = absurd (run.over p z)
-  one_compile (by_sheet v x p) (by_entries w y z n q) = absurd (run.over p z)
-  one_compile (by_calls v x y p) (by_input q) = absurd (schema.over q v)
-  one_compile (by_calls v x y p) (by_output w q) = absurd (schema.over q x)
-  one_compile (by_calls v x y p) (by_sheet w z q) = absurd (run.over q y)
-  one_compile (by_calls v x y p) (by_calls w z u q) = same_answer
-  one_compile (by_calls v x y p) (by_entries w z u n q) = absurd (n p)
-  one_compile (by_entries v x y n p) (by_input q) = absurd (schema.over q v)
-  one_compile (by_entries v x y n p) (by_output w q) = absurd (schema.over q x)
-  one_compile (by_entries v x y n p) (by_sheet w z q) = absurd (run.over q y)
-  one_compile (by_entries v x y n p) (by_calls w z u q) = absurd (n q)
-  one_compile (by_entries v x y n p) (by_entries w z u m q) = same_answer
+  pub one_triple_limit : {kind other : Limit} {number count : ℕ} → PassesTripleLimit i o s kind number → PassesTripleLimit i o s other count → AreAlike (over_limit kind number) (over_limit other count)
+  one_triple_limit (by_input p) (by_input q) = schema.one_limit p q
+  one_triple_limit (by_input p) (by_output v q) = absurd (schema.over p v)
+  one_triple_limit (by_input p) (by_sheet v x q) = absurd (schema.over p v)
+  one_triple_limit (by_input p) (by_calls v x y q) = absurd (schema.over p v)
+  one_triple_limit (by_input p) (by_entries v x y n q) = absurd (schema.over p v)
+  one_triple_limit (by_output v p) (by_input q) = absurd (schema.over q v)
+  one_triple_limit (by_output v p) (by_output w q) = schema.one_limit p q
+  one_triple_limit (by_output v p) (by_sheet w x q) = absurd (schema.over p x)
+  one_triple_limit (by_output v p) (by_calls w x y q) = absurd (schema.over p x)
+  one_triple_limit (by_output v p) (by_entries w x y n q) = absurd (schema.over p x)
+  one_triple_limit (by_sheet v x p) (by_input q) = absurd (schema.over q v)
+  one_triple_limit (by_sheet v x p) (by_output w q) = absurd (schema.over q x)
+  one_triple_limit (by_sheet v x p) (by_sheet w y q) = run.one_limit p q
+  one_triple_limit (by_sheet v x p) (by_calls w y z q) = absurd (run.over p z)
+  one_triple_limit (by_sheet v x p) (by_entries w y z n q) = absurd (run.over p z)
+  one_triple_limit (by_calls v x y p) (by_input q) = absurd (schema.over q v)
+  one_triple_limit (by_calls v x y p) (by_output w q) = absurd (schema.over q x)
+  one_triple_limit (by_calls v x y p) (by_sheet w z q) = absurd (run.over q y)
+  one_triple_limit (by_calls v x y p) (by_calls w z u q) = same_answer
+  one_triple_limit (by_calls v x y p) (by_entries w z u n q) = absurd (n p)
+  one_triple_limit (by_entries v x y n p) (by_input q) = absurd (schema.over q v)
+  one_triple_limit (by_entries v x y n p) (by_output w q) = absurd (schema.over q x)
+  one_triple_limit (by_entries v x y n p) (by_sheet w z q) = absurd (run.over q y)
+  one_triple_limit (by_entries v x y n p) (by_calls w z u q) = absurd (n q)
+  one_triple_limit (by_entries v x y n p) (by_entries w z u m q) = same_answer
 
   -- the numbers of rows are one
   one_count : {a b c d e f : ℕ} → AreRowCounts i o s a b c → AreRowCounts i o s d e f → (a ≡ d) × (b ≡ e) × (c ≡ f)
@@ -82,37 +82,37 @@ module _ {i o : Grammar} {s : Sheet} where
 
   -- what two schemas and a stylesheet decide is one
   pub finds_one : {most : ℕ} {one other : Answer} → Finds most i o s one → Finds most i o s other → AreAlike one other
-  finds_one (passes_compile p) (passes_compile q) = one_compile p q
-  finds_one (passes_compile p) (passes_rows c w q) = absurd (over_compile p w)
-  finds_one (passes_compile p) (finds_safe w f c h) = absurd (over_compile p w)
-  finds_one (passes_compile p) (finds_unsafe w f l k r) = absurd (over_compile p w)
-  finds_one (passes_compile p) (finds_large w f l k) = absurd (over_compile p w)
-  finds_one (passes_compile p) (finds_none_small w f l) = absurd (over_compile p w)
-  finds_one (passes_rows c w p) (passes_compile q) = absurd (over_compile q w)
+  finds_one (passes_before_rows p) (passes_before_rows q) = one_triple_limit p q
+  finds_one (passes_before_rows p) (passes_rows c w q) = absurd (over_triple p w)
+  finds_one (passes_before_rows p) (finds_safe w f c h) = absurd (over_triple p w)
+  finds_one (passes_before_rows p) (finds_unsafe w f l k r) = absurd (over_triple p w)
+  finds_one (passes_before_rows p) (finds_large w f l k) = absurd (over_triple p w)
+  finds_one (passes_before_rows p) (finds_none_small w f l) = absurd (over_triple p w)
+  finds_one (passes_rows c w p) (passes_before_rows q) = absurd (over_triple q w)
   finds_one (passes_rows c w p) (passes_rows d v q) = row_limits
   finds_one (passes_rows c w p) (finds_safe v f n h) = absurd (f c p)
   finds_one (passes_rows c w p) (finds_unsafe v f l k r) = absurd (f c p)
   finds_one (passes_rows c w p) (finds_large v f l k) = absurd (f c p)
   finds_one (passes_rows c w p) (finds_none_small v f l) = absurd (f c p)
-  finds_one (finds_safe w f c h) (passes_compile q) = absurd (over_compile q w)
+  finds_one (finds_safe w f c h) (passes_before_rows q) = absurd (over_triple q w)
   finds_one (finds_safe w f n h) (passes_rows c v p) = absurd (f c p)
   finds_one (finds_safe w f n h) (finds_safe v g m j) = safe_alike (one_count n m)
   finds_one (finds_safe w f n h) (finds_unsafe v g l k r) = absurd (not_both i o s h l.counter)
   finds_one (finds_safe w f n h) (finds_large v g l k) = absurd (not_both i o s h l.counter)
   finds_one (finds_safe w f n h) (finds_none_small v g l) = absurd (not_both i o s h l.some.1)
-  finds_one (finds_unsafe w f l k r) (passes_compile q) = absurd (over_compile q w)
+  finds_one (finds_unsafe w f l k r) (passes_before_rows q) = absurd (over_triple q w)
   finds_one (finds_unsafe w f l k r) (passes_rows c v p) = absurd (f c p)
   finds_one (finds_unsafe w f l k r) (finds_safe v g n h) = absurd (not_both i o s h l.counter)
   finds_one (finds_unsafe w f l k r) (finds_unsafe v g m j q) = counterexamples
   finds_one (finds_unsafe w f l k r) (finds_large v g m j) = large_or_not
   finds_one (finds_unsafe w f l k r) (finds_none_small v g m) = absurd (near_far l m)
-  finds_one (finds_large w f l k) (passes_compile q) = absurd (over_compile q w)
+  finds_one (finds_large w f l k) (passes_before_rows q) = absurd (over_triple q w)
   finds_one (finds_large w f l k) (passes_rows c v p) = absurd (f c p)
   finds_one (finds_large w f l k) (finds_safe v g n h) = absurd (not_both i o s h l.counter)
   finds_one (finds_large w f l k) (finds_unsafe v g m j q) = not_large_or_large
   finds_one (finds_large w f l k) (finds_large v g m j) = large_counterexamples
   finds_one (finds_large w f l k) (finds_none_small v g m) = absurd (near_far l m)
-  finds_one (finds_none_small w f l) (passes_compile q) = absurd (over_compile q w)
+  finds_one (finds_none_small w f l) (passes_before_rows q) = absurd (over_triple q w)
   finds_one (finds_none_small w f l) (passes_rows c v p) = absurd (f c p)
   finds_one (finds_none_small w f l) (finds_safe v g n h) = absurd (not_both i o s h l.some.1)
   finds_one (finds_none_small w f l) (finds_unsafe v g m j q) = absurd (near_far m l)

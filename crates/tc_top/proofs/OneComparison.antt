@@ -8,7 +8,7 @@ use Rattle.tc_model.specs.Grammars.{Grammar}
 use Rattle.tc_model.specs.Trees.{Trees}
 use Rattle.tc_rows.specs.Counts.{Counts}
 use Rattle.tc_rows.proofs.Counting.{counts_tell}
-use Rattle.tc_top.specs.Comparing.{Question, inclusion, equality, AreCompiled, PassesCompiling, by_first, by_second, by_symbols, forward, backward, IsOfOne, FindsInclusion, inclusion_passes, inclusion_covers, finds_included, finds_not_included, finds_none_shown, FindsEquality, equality_passes, equality_covers_forward, equality_covers_backward, finds_equal, finds_first_only, finds_second_only, finds_no_one_shown, FindsBoth, Compares, first_refused, second_refused, both_schemas}
+use Rattle.tc_top.specs.Comparing.{Question, inclusion, equality, AreWithinPairLimits, PassesPairLimit, by_first, by_second, by_symbols, forward, backward, IsOfOne, FindsInclusion, inclusion_passes, inclusion_covers, finds_included, finds_not_included, finds_none_shown, FindsEquality, equality_passes, equality_covers_forward, equality_covers_backward, finds_equal, finds_first_only, finds_second_only, finds_no_one_shown, FindsBoth, Compares, first_refused, second_refused, both_schemas}
 use Rattle.tc_top.specs.OneAnswer.{AreAlike, same_answer, documents_not_included, documents_of_first, documents_of_second, row_limits}
 use Rattle.tc_top.specs.SchemaTexts.{SchemaText}
 use Rattle.tc_top.proofs.OneValidity.{over, one_limit}
@@ -22,22 +22,22 @@ included_alike : {t u h k : ℕ} → t ≡ u → h ≡ k → AreAlike (included 
 included_alike {t} {u} {h} {k} p q = subst (λ n. AreAlike (included t h) (included n k)) p (subst (λ n. AreAlike (included t h) (included t n)) q same_answer)
 
 module _ {a b : Grammar} where
-  pub over_compiling : {kind : Limit} {number : ℕ} → PassesCompiling a b kind number → AreCompiled a b → ⊥
-  over_compiling (by_first p) w = over p w.first
-  over_compiling (by_second v p) w = over p w.second
-  over_compiling (by_symbols v x p) w = omega (arith, p, w.few)
+  pub over_pair : {kind : Limit} {number : ℕ} → PassesPairLimit a b kind number → AreWithinPairLimits a b → ⊥
+  over_pair (by_first p) w = over p w.first
+  over_pair (by_second v p) w = over p w.second
+  over_pair (by_symbols v x p) w = omega (arith, p, w.few)
 
   -- the first limit that is passed is one
-  pub one_compiling : {kind other : Limit} {number count : ℕ} → PassesCompiling a b kind number → PassesCompiling a b other count → AreAlike (over_limit kind number) (over_limit other count)
-  one_compiling (by_first p) (by_first q) = one_limit p q
-  one_compiling (by_first p) (by_second v q) = absurd (over p v)
-  one_compiling (by_first p) (by_symbols v x q) = absurd (over p v)
-  one_compiling (by_second v p) (by_first q) = absurd (over q v)
-  one_compiling (by_second v p) (by_second w q) = one_limit p q
-  one_compiling (by_second v p) (by_symbols w x q) = absurd (over p x)
-  one_compiling (by_symbols v x p) (by_first q) = absurd (over q v)
-  one_compiling (by_symbols v x p) (by_second w q) = absurd (over q x)
-  one_compiling (by_symbols v x p) (by_symbols w y q) = same_answer
+  pub one_pair_limit : {kind other : Limit} {number count : ℕ} → PassesPairLimit a b kind number → PassesPairLimit a b other count → AreAlike (over_limit kind number) (over_limit other count)
+  one_pair_limit (by_first p) (by_first q) = one_limit p q
+  one_pair_limit (by_first p) (by_second v q) = absurd (over p v)
+  one_pair_limit (by_first p) (by_symbols v x q) = absurd (over p v)
+  one_pair_limit (by_second v p) (by_first q) = absurd (over q v)
+  one_pair_limit (by_second v p) (by_second w q) = one_limit p q
+  one_pair_limit (by_second v p) (by_symbols w x q) = absurd (over p x)
+  one_pair_limit (by_symbols v x p) (by_first q) = absurd (over q v)
+  one_pair_limit (by_symbols v x p) (by_second w q) = absurd (over q x)
+  one_pair_limit (by_symbols v x p) (by_symbols w y q) = same_answer
 
   -- a document that both schemas have no use for
   pub equal_not_of_one : {document : Trees} → IsIncluded a b → IsIncluded b a → IsOfOne a b document → ⊥
@@ -45,76 +45,76 @@ module _ {a b : Grammar} where
   equal_not_of_one i j (inr d) = not_different j d
 
   inclusion_one : {one other : Answer} → FindsInclusion a b one → FindsInclusion a b other → AreAlike one other
-  inclusion_one (inclusion_passes p1) (inclusion_passes p2) = one_compiling p1 p2
-  inclusion_one (inclusion_passes p1) (inclusion_covers c2 w2 m2) = absurd (over_compiling p1 w2)
-  inclusion_one (inclusion_passes p1) (finds_included w2 f2 i2 t2 h2) = absurd (over_compiling p1 w2)
-  inclusion_one (inclusion_passes p1) (finds_not_included w2 f2 d2 s2 l2) = absurd (over_compiling p1 w2)
-  inclusion_one (inclusion_passes p1) (finds_none_shown w2 f2 d2 l2) = absurd (over_compiling p1 w2)
-  inclusion_one (inclusion_covers c1 w1 m1) (inclusion_passes p2) = absurd (over_compiling p2 w1)
+  inclusion_one (inclusion_passes p1) (inclusion_passes p2) = one_pair_limit p1 p2
+  inclusion_one (inclusion_passes p1) (inclusion_covers c2 w2 m2) = absurd (over_pair p1 w2)
+  inclusion_one (inclusion_passes p1) (finds_included w2 f2 i2 t2 h2) = absurd (over_pair p1 w2)
+  inclusion_one (inclusion_passes p1) (finds_not_included w2 f2 d2 s2 l2) = absurd (over_pair p1 w2)
+  inclusion_one (inclusion_passes p1) (finds_none_shown w2 f2 d2 l2) = absurd (over_pair p1 w2)
+  inclusion_one (inclusion_covers c1 w1 m1) (inclusion_passes p2) = absurd (over_pair p2 w1)
   inclusion_one (inclusion_covers c1 w1 m1) (inclusion_covers c2 w2 m2) = row_limits
   inclusion_one (inclusion_covers c1 w1 m1) (finds_included w2 f2 i2 t2 h2) = absurd (f2 c1 m1)
   inclusion_one (inclusion_covers c1 w1 m1) (finds_not_included w2 f2 d2 s2 l2) = absurd (f2 c1 m1)
   inclusion_one (inclusion_covers c1 w1 m1) (finds_none_shown w2 f2 d2 l2) = absurd (f2 c1 m1)
-  inclusion_one (finds_included w1 f1 i1 t1 h1) (inclusion_passes p2) = absurd (over_compiling p2 w1)
+  inclusion_one (finds_included w1 f1 i1 t1 h1) (inclusion_passes p2) = absurd (over_pair p2 w1)
   inclusion_one (finds_included w1 f1 i1 t1 h1) (inclusion_covers c2 w2 m2) = absurd (f1 c2 m2)
   inclusion_one (finds_included w1 f1 i1 t1 h1) (finds_included w2 f2 i2 t2 h2) = included_alike ((counts_tell (IsRowOfLiveTree (forward a b))).0 _ _ t1 t2) ((counts_tell (IsRowOfLiveHedge (forward a b))).0 _ _ h1 h2)
   inclusion_one (finds_included w1 f1 i1 t1 h1) (finds_not_included w2 f2 d2 s2 l2) = absurd (not_different i1 d2)
   inclusion_one (finds_included w1 f1 i1 t1 h1) (finds_none_shown w2 f2 d2 l2) = absurd (not_different i1 d2)
-  inclusion_one (finds_not_included w1 f1 d1 s1 l1) (inclusion_passes p2) = absurd (over_compiling p2 w1)
+  inclusion_one (finds_not_included w1 f1 d1 s1 l1) (inclusion_passes p2) = absurd (over_pair p2 w1)
   inclusion_one (finds_not_included w1 f1 d1 s1 l1) (inclusion_covers c2 w2 m2) = absurd (f1 c2 m2)
   inclusion_one (finds_not_included w1 f1 d1 s1 l1) (finds_included w2 f2 i2 t2 h2) = absurd (not_different i2 d1)
   inclusion_one (finds_not_included w1 f1 d1 s1 l1) (finds_not_included w2 f2 d2 s2 l2) = documents_not_included
   inclusion_one (finds_not_included w1 f1 d1 s1 l1) (finds_none_shown w2 f2 d2 l2) = absurd (let far = l2 _ d1 in omega (arith, far, s1.few))
-  inclusion_one (finds_none_shown w1 f1 d1 l1) (inclusion_passes p2) = absurd (over_compiling p2 w1)
+  inclusion_one (finds_none_shown w1 f1 d1 l1) (inclusion_passes p2) = absurd (over_pair p2 w1)
   inclusion_one (finds_none_shown w1 f1 d1 l1) (inclusion_covers c2 w2 m2) = absurd (f1 c2 m2)
   inclusion_one (finds_none_shown w1 f1 d1 l1) (finds_included w2 f2 i2 t2 h2) = absurd (not_different i2 d1)
   inclusion_one (finds_none_shown w1 f1 d1 l1) (finds_not_included w2 f2 d2 s2 l2) = absurd (let far = l1 _ d2 in omega (arith, far, s2.few))
   inclusion_one (finds_none_shown w1 f1 d1 l1) (finds_none_shown w2 f2 d2 l2) = same_answer
 
   equality_one : {one other : Answer} → FindsEquality a b one → FindsEquality a b other → AreAlike one other
-  equality_one (equality_passes p1) (equality_passes p2) = one_compiling p1 p2
-  equality_one (equality_passes p1) (equality_covers_forward c2 w2 m2) = absurd (over_compiling p1 w2)
-  equality_one (equality_passes p1) (equality_covers_backward c2 w2 f2 m2) = absurd (over_compiling p1 w2)
-  equality_one (equality_passes p1) (finds_equal w2 f2 g2 i2 j2) = absurd (over_compiling p1 w2)
-  equality_one (equality_passes p1) (finds_first_only w2 f2 g2 d2 s2 l2) = absurd (over_compiling p1 w2)
-  equality_one (equality_passes p1) (finds_second_only w2 f2 g2 d2 s2 k2 l2) = absurd (over_compiling p1 w2)
-  equality_one (equality_passes p1) (finds_no_one_shown w2 f2 g2 d2 l2) = absurd (over_compiling p1 w2)
-  equality_one (equality_covers_forward c1 w1 m1) (equality_passes p2) = absurd (over_compiling p2 w1)
+  equality_one (equality_passes p1) (equality_passes p2) = one_pair_limit p1 p2
+  equality_one (equality_passes p1) (equality_covers_forward c2 w2 m2) = absurd (over_pair p1 w2)
+  equality_one (equality_passes p1) (equality_covers_backward c2 w2 f2 m2) = absurd (over_pair p1 w2)
+  equality_one (equality_passes p1) (finds_equal w2 f2 g2 i2 j2) = absurd (over_pair p1 w2)
+  equality_one (equality_passes p1) (finds_first_only w2 f2 g2 d2 s2 l2) = absurd (over_pair p1 w2)
+  equality_one (equality_passes p1) (finds_second_only w2 f2 g2 d2 s2 k2 l2) = absurd (over_pair p1 w2)
+  equality_one (equality_passes p1) (finds_no_one_shown w2 f2 g2 d2 l2) = absurd (over_pair p1 w2)
+  equality_one (equality_covers_forward c1 w1 m1) (equality_passes p2) = absurd (over_pair p2 w1)
   equality_one (equality_covers_forward c1 w1 m1) (equality_covers_forward c2 w2 m2) = row_limits
   equality_one (equality_covers_forward c1 w1 m1) (equality_covers_backward c2 w2 f2 m2) = absurd (f2 c1 m1)
   equality_one (equality_covers_forward c1 w1 m1) (finds_equal w2 f2 g2 i2 j2) = absurd (f2 c1 m1)
   equality_one (equality_covers_forward c1 w1 m1) (finds_first_only w2 f2 g2 d2 s2 l2) = absurd (f2 c1 m1)
   equality_one (equality_covers_forward c1 w1 m1) (finds_second_only w2 f2 g2 d2 s2 k2 l2) = absurd (f2 c1 m1)
   equality_one (equality_covers_forward c1 w1 m1) (finds_no_one_shown w2 f2 g2 d2 l2) = absurd (f2 c1 m1)
-  equality_one (equality_covers_backward c1 w1 f1 m1) (equality_passes p2) = absurd (over_compiling p2 w1)
+  equality_one (equality_covers_backward c1 w1 f1 m1) (equality_passes p2) = absurd (over_pair p2 w1)
   equality_one (equality_covers_backward c1 w1 f1 m1) (equality_covers_forward c2 w2 m2) = absurd (f1 c2 m2)
   equality_one (equality_covers_backward c1 w1 f1 m1) (equality_covers_backward c2 w2 f2 m2) = row_limits
   equality_one (equality_covers_backward c1 w1 f1 m1) (finds_equal w2 f2 g2 i2 j2) = absurd (g2 c1 m1)
   equality_one (equality_covers_backward c1 w1 f1 m1) (finds_first_only w2 f2 g2 d2 s2 l2) = absurd (g2 c1 m1)
   equality_one (equality_covers_backward c1 w1 f1 m1) (finds_second_only w2 f2 g2 d2 s2 k2 l2) = absurd (g2 c1 m1)
   equality_one (equality_covers_backward c1 w1 f1 m1) (finds_no_one_shown w2 f2 g2 d2 l2) = absurd (g2 c1 m1)
-  equality_one (finds_equal w1 f1 g1 i1 j1) (equality_passes p2) = absurd (over_compiling p2 w1)
+  equality_one (finds_equal w1 f1 g1 i1 j1) (equality_passes p2) = absurd (over_pair p2 w1)
   equality_one (finds_equal w1 f1 g1 i1 j1) (equality_covers_forward c2 w2 m2) = absurd (f1 c2 m2)
   equality_one (finds_equal w1 f1 g1 i1 j1) (equality_covers_backward c2 w2 f2 m2) = absurd (g1 c2 m2)
   equality_one (finds_equal w1 f1 g1 i1 j1) (finds_equal w2 f2 g2 i2 j2) = same_answer
   equality_one (finds_equal w1 f1 g1 i1 j1) (finds_first_only w2 f2 g2 d2 s2 l2) = absurd (not_different i1 d2)
   equality_one (finds_equal w1 f1 g1 i1 j1) (finds_second_only w2 f2 g2 d2 s2 k2 l2) = absurd (not_different j1 d2)
   equality_one (finds_equal w1 f1 g1 i1 j1) (finds_no_one_shown w2 f2 g2 d2 l2) = absurd (equal_not_of_one i1 j1 d2)
-  equality_one (finds_first_only w1 f1 g1 d1 s1 l1) (equality_passes p2) = absurd (over_compiling p2 w1)
+  equality_one (finds_first_only w1 f1 g1 d1 s1 l1) (equality_passes p2) = absurd (over_pair p2 w1)
   equality_one (finds_first_only w1 f1 g1 d1 s1 l1) (equality_covers_forward c2 w2 m2) = absurd (f1 c2 m2)
   equality_one (finds_first_only w1 f1 g1 d1 s1 l1) (equality_covers_backward c2 w2 f2 m2) = absurd (g1 c2 m2)
   equality_one (finds_first_only w1 f1 g1 d1 s1 l1) (finds_equal w2 f2 g2 i2 j2) = absurd (not_different i2 d1)
   equality_one (finds_first_only w1 f1 g1 d1 s1 l1) (finds_first_only w2 f2 g2 d2 s2 l2) = documents_of_first
   equality_one (finds_first_only w1 f1 g1 d1 s1 l1) (finds_second_only w2 f2 g2 d2 s2 k2 l2) = absurd (let less = k2 _ d1 in let least = l1 _ (inr d2) in omega (arith, less, least))
   equality_one (finds_first_only w1 f1 g1 d1 s1 l1) (finds_no_one_shown w2 f2 g2 d2 l2) = absurd (let far = l2 _ (inl d1) in omega (arith, far, s1.few))
-  equality_one (finds_second_only w1 f1 g1 d1 s1 k1 l1) (equality_passes p2) = absurd (over_compiling p2 w1)
+  equality_one (finds_second_only w1 f1 g1 d1 s1 k1 l1) (equality_passes p2) = absurd (over_pair p2 w1)
   equality_one (finds_second_only w1 f1 g1 d1 s1 k1 l1) (equality_covers_forward c2 w2 m2) = absurd (f1 c2 m2)
   equality_one (finds_second_only w1 f1 g1 d1 s1 k1 l1) (equality_covers_backward c2 w2 f2 m2) = absurd (g1 c2 m2)
   equality_one (finds_second_only w1 f1 g1 d1 s1 k1 l1) (finds_equal w2 f2 g2 i2 j2) = absurd (not_different j2 d1)
   equality_one (finds_second_only w1 f1 g1 d1 s1 k1 l1) (finds_first_only w2 f2 g2 d2 s2 l2) = absurd (let less = k1 _ d2 in let least = l2 _ (inr d1) in omega (arith, less, least))
   equality_one (finds_second_only w1 f1 g1 d1 s1 k1 l1) (finds_second_only w2 f2 g2 d2 s2 k2 l2) = documents_of_second
   equality_one (finds_second_only w1 f1 g1 d1 s1 k1 l1) (finds_no_one_shown w2 f2 g2 d2 l2) = absurd (let far = l2 _ (inr d1) in omega (arith, far, s1.few))
-  equality_one (finds_no_one_shown w1 f1 g1 d1 l1) (equality_passes p2) = absurd (over_compiling p2 w1)
+  equality_one (finds_no_one_shown w1 f1 g1 d1 l1) (equality_passes p2) = absurd (over_pair p2 w1)
   equality_one (finds_no_one_shown w1 f1 g1 d1 l1) (equality_covers_forward c2 w2 m2) = absurd (f1 c2 m2)
   equality_one (finds_no_one_shown w1 f1 g1 d1 l1) (equality_covers_backward c2 w2 f2 m2) = absurd (g1 c2 m2)
   equality_one (finds_no_one_shown w1 f1 g1 d1 l1) (finds_equal w2 f2 g2 i2 j2) = absurd (equal_not_of_one i2 j2 d1)

@@ -10,7 +10,7 @@ use Rattle.tc_model.specs.Grammars.{Grammar}
 use Rattle.tc_model.specs.Sheets.{Sheet}
 use Rattle.tc_top.specs.Causes.{OfTexts, refuses_input, refuses_output, refuses_sheet, all_three}
 use Rattle.tc_top.specs.CertifyingSeen.{undecided_of, IsUndecided, IsPassed, is_passed, StopsTexts}
-use Rattle.tc_top.specs.Checking.{PassesCompile}
+use Rattle.tc_top.specs.Checking.{PassesTripleLimit}
 use Rattle.tc_top.specs.declared.texts.Undecided.{Undecided}
 use Rattle.tc_top.specs.declared.texts.Undecided.TheVariants.{Stops, NoMemory}
 use Rattle.tc_answer.specs.Answers.{over_limit}
@@ -21,9 +21,9 @@ use Rattle.tc_read.specs.declared.schemas.Schema.{Schema}
 use Rattle.tc_read.proofs.Exits.{err_is}
 use Rattle.tc_top.specs.CertifyingSeen.{IsRefusedBy, is_refused, IsMachineOfTexts}
 use Rattle.tc_top.specs.SchemaTexts.{IsRefusedText, IsSchemaOfText}
-use Rattle.tc_top.specs.Compiled.{IsReadOf, IsMachineFor, IsCauseBy}
-use Rattle.tc_top.specs.declared.compile.CompileFault.{CompileFault}
-use Rattle.tc_top.specs.declared.compile.CompileFault.TheVariants.{Passes}
+use Rattle.tc_top.specs.MachinesSeen.{IsReadOf, IsMachineFor, IsCauseBy}
+use Rattle.tc_top.specs.declared.machine.LimitFault.{LimitFault}
+use Rattle.tc_top.specs.declared.machine.LimitFault.TheVariants.{Passes}
 use Rattle.tc_top.proofs.Checked.{read_of}
 
 -- an answer that says this
@@ -32,7 +32,7 @@ undecided P answer (Ok said) says holds = (answer, says, holds)
 undecided P answer (Err want) says holds = tt
 
 -- what ends every call on these texts ends this one
-pub stopped : {Decided : Grammar → Grammar → Sheet → Answer → Type 0} → ((i o : Grammar) (s : Sheet) (kind : kinds.Limit) (number : ℕ) → PassesCompile i o s kind number → Decided i o s (over_limit kind number))
+pub stopped : {Decided : Grammar → Grammar → Sheet → Answer → Type 0} → ((i o : Grammar) (s : Sheet) (kind : kinds.Limit) (number : ℕ) → PassesTripleLimit i o s kind number → Decided i o s (over_limit kind number))
     → {input output sheet b c d : List ℕ} {answer : Answer} → StopsTexts input output sheet b c d answer → OfTexts Decided input output sheet b c d answer
 stopped over (refuses_input r) = refuses_input r
 stopped over (refuses_output g r) = refuses_output g r
@@ -76,6 +76,6 @@ module _ (input output sheet b c d : List ℕ) where
         let (o, output_spells, read_out) = read_of output c y other in record { input = i; output = o; sheet = s; input_spells = input_spells; output_spells = output_spells; sheet_spells = spells; machine = made i o read_in read_out }
 
     -- a limit is passed
-    pub passed_by_all : (kind : kinds.Limit) (number : ℕ) → ((i o : Grammar) → IsReadOf i x → IsReadOf o y → PassesCompile i o s kind number) → StopsTexts input output sheet b c d (over_limit kind number)
+    pub passed_by_all : (kind : kinds.Limit) (number : ℕ) → ((i o : Grammar) → IsReadOf i x → IsReadOf o y → PassesTripleLimit i o s kind number) → StopsTexts input output sheet b c d (over_limit kind number)
     passed_by_all kind number passes =
         let (i, input_spells, read_in) = read_of input b x one in let (o, output_spells, read_out) = read_of output c y other in all_three input_spells output_spells spells (is_passed (passes i o read_in read_out))

@@ -16,7 +16,7 @@ use Rattle.tc_run.specs.Spent.{most_work, most_open}
 use Rattle.tc_read.specs.Sheets.{IsSheetOf}
 use Rattle.tc_run.specs.Limits.{KeepsLimits}
 use Rattle.tc_answer.specs.Lines.{RowCount}
-use Rattle.tc_top.specs.Checking.{most_of, IsCompiled, PassesCompile, HasManyRows, HasFewRows, AreRowCounts, IsLeastCounter, HasLargeCounters, IsLargeRun}
+use Rattle.tc_top.specs.Checking.{most_of, IsWithinTripleLimits, PassesTripleLimit, HasManyRows, HasFewRows, AreRowCounts, IsLeastCounter, HasLargeCounters, IsLargeRun}
 use Rattle.tc_answer.specs.Words.{check, run, valid}
 use Rattle.tc_read.specs.Refusals.{IsRefusedDocument, IsRefusedSheet}
 use Rattle.tc_read.specs.declared.faults.Reason.{Reason}
@@ -27,14 +27,14 @@ use Rattle.tc_answer.specs.Answers.{Answer, safe, unsafe, unsafe_large, rows_lim
 
 -- what two schemas and a stylesheet decide, with so many rows of trees and of lists of trees at most
 pub data Finds (most : ℕ) (i o : Grammar) (s : Sheet) : Answer → Type 0 where
-  passes_compile : {kind : kinds.Limit} {number : ℕ} → PassesCompile i o s kind number → Finds most i o s (over_limit kind number)
-  passes_rows : (count : RowCount) → IsCompiled i o s → HasManyRows i o s most count → Finds most i o s (rows_limit count (most_of most count))
-  finds_safe : {tree_rows hedge_rows output_sets : ℕ} → IsCompiled i o s → HasFewRows i o s most → AreRowCounts i o s tree_rows hedge_rows output_sets → IsSafe i o s
+  passes_before_rows : {kind : kinds.Limit} {number : ℕ} → PassesTripleLimit i o s kind number → Finds most i o s (over_limit kind number)
+  passes_rows : (count : RowCount) → IsWithinTripleLimits i o s → HasManyRows i o s most count → Finds most i o s (rows_limit count (most_of most count))
+  finds_safe : {tree_rows hedge_rows output_sets : ℕ} → IsWithinTripleLimits i o s → HasFewRows i o s most → AreRowCounts i o s tree_rows hedge_rows output_sets → IsSafe i o s
       → Finds most i o s (safe tree_rows hedge_rows output_sets)
-  finds_unsafe : {document result : Trees} → IsCompiled i o s → HasFewRows i o s most → IsLeastCounter i o s document → KeepsLimits s document → IsResultOf s document result
+  finds_unsafe : {document result : Trees} → IsWithinTripleLimits i o s → HasFewRows i o s most → IsLeastCounter i o s document → KeepsLimits s document → IsResultOf s document result
       → Finds most i o s (unsafe document result)
-  finds_large : {document : Trees} → IsCompiled i o s → HasFewRows i o s most → IsLeastCounter i o s document → IsLargeRun s document → Finds most i o s (unsafe_large document)
-  finds_none_small : IsCompiled i o s → HasFewRows i o s most → HasLargeCounters i o s → Finds most i o s counterexample_limit
+  finds_large : {document : Trees} → IsWithinTripleLimits i o s → HasFewRows i o s most → IsLeastCounter i o s document → IsLargeRun s document → Finds most i o s (unsafe_large document)
+  finds_none_small : IsWithinTripleLimits i o s → HasFewRows i o s most → HasLargeCounters i o s → Finds most i o s counterexample_limit
 
 -- what the texts of two schemas and a stylesheet decide: the first that is refused, or what all three decide
 pub data OfTexts (Decided : Grammar → Grammar → Sheet → Answer → Type 0) (input output sheet input_text output_text sheet_text : List ℕ) : Answer → Type 0 where

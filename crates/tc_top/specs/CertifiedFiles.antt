@@ -22,7 +22,7 @@ use Rattle.tc_read.specs.Sheets.{IsSheetOf}
 use Rattle.tc_top.specs.Answers.{IsAnswerOn}
 use Rattle.tc_answer.specs.Answers.{certificate, accepted}
 use Rattle.tc_top.specs.Certifying.{IsCertificateOf, IsLeastOf, IsOverlong, IsRejectedFor}
-use Rattle.tc_top.specs.Checking.{most_of, IsCompiled, PassesCompile, HasManyRows, HasFewRows, IsLeastCounter, HasSmallCounter, HasLargeCounters}
+use Rattle.tc_top.specs.Checking.{most_of, IsWithinTripleLimits, PassesTripleLimit, HasManyRows, HasFewRows, IsLeastCounter, HasSmallCounter, HasLargeCounters}
 use Rattle.tc_top.specs.SchemaTexts.{SchemaText}
 use Rattle.tc_top.specs.Headline.{IsLimited, ShowsRun}
 
@@ -84,17 +84,17 @@ module _ (i o : Grammar) (s : Sheet) where
 
   -- as a check, but that where it is yes there is a certificate that isn't too long, which is written
   pub record DecidesProof (status : Status) (old new : Option (List ℕ)) (most : ℕ) : Type 0 where
-    pub yes : (status ≡ Yes) ↔ (IsCompiled i o s × HasFewRows i o s most × IsSafe i o s × HasShortCertificate)
-    pub no : (status ≡ No) ↔ (IsCompiled i o s × HasFewRows i o s most × HasSmallCounter i o s)
-    pub limit : (status ≡ Limit) ↔ (IsLimited most i o s ⊎ (IsCompiled i o s × HasFewRows i o s most × IsSafe i o s × IsOverlong i o s))
+    pub yes : (status ≡ Yes) ↔ (IsWithinTripleLimits i o s × HasFewRows i o s most × IsSafe i o s × HasShortCertificate)
+    pub no : (status ≡ No) ↔ (IsWithinTripleLimits i o s × HasFewRows i o s most × HasSmallCounter i o s)
+    pub limit : (status ≡ Limit) ↔ (IsLimited most i o s ⊎ (IsWithinTripleLimits i o s × HasFewRows i o s most × IsSafe i o s × IsOverlong i o s))
     pub one : (status ≡ Yes) ⊎ ((status ≡ No) ⊎ (status ≡ Limit))
     pub yes_text : status ≡ Yes → (d : CertData) × IsLeastOf i o s d × Appended old new (text by_changes d)
     pub no_text : status ≡ No → (document : Trees) × IsLeastCounter i o s document × IsReadAs (printed document) document × ShowsRun old new s document
-    pub compile_text : (kind : kinds.Limit) (number : ℕ) → PassesCompile i o s kind number → Appended old new (limit_line (limit_word kind) number)
-    pub rows_text : (count : RowCount) → IsCompiled i o s → HasManyRows i o s most count
+    pub before_rows_text : (kind : kinds.Limit) (number : ℕ) → PassesTripleLimit i o s kind number → Appended old new (limit_line (limit_word kind) number)
+    pub rows_text : (count : RowCount) → IsWithinTripleLimits i o s → HasManyRows i o s most count
         → (named : RowCount) × HasManyRows i o s most named × Appended old new (limit_line (count_word named) (most_of most named))
-    pub nodes_text : IsCompiled i o s → HasFewRows i o s most → HasLargeCounters i o s → Appended old new (limit_line (codes "counterexample") MOST_SHOWN_NODES)
-    pub overlong_text : IsCompiled i o s → HasFewRows i o s most → IsSafe i o s → IsOverlong i o s → Appended old new (limit_line (codes "certificate") LONGEST_CERTIFICATE)
+    pub nodes_text : IsWithinTripleLimits i o s → HasFewRows i o s most → HasLargeCounters i o s → Appended old new (limit_line (codes "counterexample") MOST_SHOWN_NODES)
+    pub overlong_text : IsWithinTripleLimits i o s → HasFewRows i o s most → IsSafe i o s → IsOverlong i o s → Appended old new (limit_line (codes "certificate") LONGEST_CERTIFICATE)
 
   -- the bytes are the text of a certificate of safety
   abbrev pub IsCertificateText : List ℕ → Type 0
@@ -108,13 +108,13 @@ module _ (i o : Grammar) (s : Sheet) where
   -- yes exactly where no limit is passed that is tried before rows are, and the bytes are the text of a certificate of safety; no exactly where
   -- none is passed and they aren't; and else the limit
   pub record DecidesCertificate (status : Status) (old new : Option (List ℕ)) (bytes : List ℕ) : Type 0 where
-    pub yes : (status ≡ Yes) ↔ (IsCompiled i o s × IsCertificateText bytes)
-    pub no : (status ≡ No) ↔ (IsCompiled i o s × ¬ (IsCertificateText bytes))
-    pub limit : (status ≡ Limit) ↔ ((kind : kinds.Limit) × (number : ℕ) × PassesCompile i o s kind number)
+    pub yes : (status ≡ Yes) ↔ (IsWithinTripleLimits i o s × IsCertificateText bytes)
+    pub no : (status ≡ No) ↔ (IsWithinTripleLimits i o s × ¬ (IsCertificateText bytes))
+    pub limit : (status ≡ Limit) ↔ ((kind : kinds.Limit) × (number : ℕ) × PassesTripleLimit i o s kind number)
     pub one : (status ≡ Yes) ⊎ ((status ≡ No) ⊎ (status ≡ Limit))
     pub yes_text : status ≡ Yes → Appended old new (line (codes "accepted"))
     pub no_text : status ≡ No → (why : Rejection) × IsRejectionOf bytes why × Appended old new (rejected_line why)
-    pub compile_text : (kind : kinds.Limit) (number : ℕ) → PassesCompile i o s kind number → Appended old new (limit_line (limit_word kind) number)
+    pub before_rows_text : (kind : kinds.Limit) (number : ℕ) → PassesTripleLimit i o s kind number → Appended old new (limit_line (limit_word kind) number)
 
 -- yes exactly where the bytes are a certificate's text whose data is written by changes within the limit, and so it is; no exactly where they are
 -- no certificate's text, with the first line that isn't as it must be; and else the limit

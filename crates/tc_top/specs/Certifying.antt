@@ -17,7 +17,7 @@ use Rattle.tc_model.specs.declared.lists.CertData.{CertData}
 use Rattle.tc_rows.specs.CertificateRows.{IsCertificateData}
 use Rattle.tc_rows.specs.Triples.{Triple}
 use Rattle.tc_top.specs.Causes.{Finds, OfTexts}
-use Rattle.tc_top.specs.Checking.{IsCompiled, PassesCompile, HasFewRows}
+use Rattle.tc_top.specs.Checking.{IsWithinTripleLimits, PassesTripleLimit, HasFewRows}
 use Rattle.tc_verify.specs.Rejects.{IsRejected}
 use Rattle.tc_verify.specs.declared.reject.Reject.{Reject}
 use Rattle.tc_verify.specs.declared.reject.RejectRule.{RejectRule}
@@ -59,16 +59,16 @@ module _ (i o : Grammar) (s : Sheet) where
   -- what `prove` decides, with so many rows of trees and of lists of trees at most: the certificate where it is safe, and else what `check` does
   pub data Certifies (most : ℕ) : Answer → Type 0 where
     as_checked : {answer : Answer} → Finds most i o s answer → ¬ (status_of answer ≡ Yes) → Certifies most answer
-    certifies : {d : CertData} → IsCompiled i o s → HasFewRows i o s most → IsSafe i o s → IsLeastOf d → length (text by_changes d) ≤ LONGEST_CERTIFICATE
+    certifies : {d : CertData} → IsWithinTripleLimits i o s → HasFewRows i o s most → IsSafe i o s → IsLeastOf d → length (text by_changes d) ≤ LONGEST_CERTIFICATE
         → Certifies most (certificate (text by_changes d))
-    overlong : IsCompiled i o s → HasFewRows i o s most → IsSafe i o s → IsOverlong → Certifies most certificate_limit
+    overlong : IsWithinTripleLimits i o s → HasFewRows i o s most → IsSafe i o s → IsOverlong → Certifies most certificate_limit
 
   -- what `verify` decides of a certificate's bytes. No limit on rows is tried
   pub data Accepts (bytes : List ℕ) : Answer → Type 0 where
-    not_compiled : {kind : kinds.Limit} {number : ℕ} → PassesCompile i o s kind number → Accepts bytes (over_limit kind number)
-    accepts : {d : CertData} → IsCompiled i o s → CertificateText bytes d → IsCertificateOf d → Accepts bytes accepted
-    no_text : {line : ℕ} → IsCompiled i o s → IsFirstFault bytes line → Accepts bytes (rejected (form_fails line))
-    no_certificate : {d : CertData} {why : Rejection} → IsCompiled i o s → CertificateText bytes d → IsRejectedFor d why → Accepts bytes (rejected why)
+    stops_before_rows : {kind : kinds.Limit} {number : ℕ} → PassesTripleLimit i o s kind number → Accepts bytes (over_limit kind number)
+    accepts : {d : CertData} → IsWithinTripleLimits i o s → CertificateText bytes d → IsCertificateOf d → Accepts bytes accepted
+    no_text : {line : ℕ} → IsWithinTripleLimits i o s → IsFirstFault bytes line → Accepts bytes (rejected (form_fails line))
+    no_certificate : {d : CertData} {why : Rejection} → IsWithinTripleLimits i o s → CertificateText bytes d → IsRejectedFor d why → Accepts bytes (rejected why)
 
 -- what `prove` answers on the texts of its operands
 abbrev pub Proves : ℕ → List ℕ → List ℕ → List ℕ → List ℕ → List ℕ → List ℕ → Answer → Type 0

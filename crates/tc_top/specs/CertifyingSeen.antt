@@ -13,8 +13,8 @@ use Rattle.tc_read.specs.Sheets.{IsSheetOf}
 use Rattle.tc_read.specs.declared.faults.Reason.{Reason}
 use Rattle.tc_base.specs.declared.Limit as kinds
 use Rattle.tc_top.specs.Causes.{OfTexts}
-use Rattle.tc_top.specs.Checking.{PassesCompile}
-use Rattle.tc_top.specs.Compiled.{IsMachineFor}
+use Rattle.tc_top.specs.Checking.{PassesTripleLimit}
+use Rattle.tc_top.specs.MachinesSeen.{IsMachineFor}
 use Rattle.tc_top.specs.SchemaTexts.{SchemaText}
 use Rattle.tc_top.specs.declared.texts.Undecided.{Undecided}
 use Rattle.tc_top.specs.declared.texts.Undecided.TheVariants.{Stops, NoMemory}
@@ -35,7 +35,7 @@ pub data IsRefusedBy (name : List ℕ) (refuses : Reason → ℕ → Type 0) : A
 
 -- only a limit is passed
 pub data IsPassed (i o : Grammar) (s : Sheet) : Answer → Type 0 where
-  is_passed : {kind : kinds.Limit} {number : ℕ} → PassesCompile i o s kind number → IsPassed i o s (over_limit kind number)
+  is_passed : {kind : kinds.Limit} {number : ℕ} → PassesTripleLimit i o s kind number → IsPassed i o s (over_limit kind number)
 
 -- the texts are refused, or pass a limit that is tried before rows are
 abbrev pub StopsTexts : List ℕ → List ℕ → List ℕ → List ℕ → List ℕ → List ℕ → Answer → Type 0

@@ -38,7 +38,7 @@ module _ (i o : Grammar) (s : Sheet) where
   HasManyEntries = (x : Triple) × IsTripleOf i o s x × PassEntries x MOST_ENTRIES
 
   -- none of the limits is passed that are tried before rows are
-  pub record IsCompiled : Type 0 where
+  pub record IsWithinTripleLimits : Type 0 where
     pub input : IsWithinLimits i input MOST_INPUT_STATES
     pub output : IsWithinLimits o output MOST_OUTPUT_STATES
     pub sheet : IsWithinSheetLimits (symbols_of i o s) s
@@ -46,15 +46,15 @@ module _ (i o : Grammar) (s : Sheet) where
     pub entries : ¬ HasManyEntries
 
   -- the first of them that is passed, and its number
-  pub data PassesCompile : Limit → ℕ → Type 0 where
-    by_input : {kind : Limit} {number : ℕ} → PassesLimit i input MOST_INPUT_STATES kind number → PassesCompile kind number
-    by_output : {kind : Limit} {number : ℕ} → IsWithinLimits i input MOST_INPUT_STATES → PassesLimit o output MOST_OUTPUT_STATES kind number → PassesCompile kind number
+  pub data PassesTripleLimit : Limit → ℕ → Type 0 where
+    by_input : {kind : Limit} {number : ℕ} → PassesLimit i input MOST_INPUT_STATES kind number → PassesTripleLimit kind number
+    by_output : {kind : Limit} {number : ℕ} → IsWithinLimits i input MOST_INPUT_STATES → PassesLimit o output MOST_OUTPUT_STATES kind number → PassesTripleLimit kind number
     by_sheet : {kind : Limit} {number : ℕ} → IsWithinLimits i input MOST_INPUT_STATES → IsWithinLimits o output MOST_OUTPUT_STATES
-        → SheetPasses (symbols_of i o s) s kind number → PassesCompile kind number
+        → SheetPasses (symbols_of i o s) s kind number → PassesTripleLimit kind number
     by_calls : IsWithinLimits i input MOST_INPUT_STATES → IsWithinLimits o output MOST_OUTPUT_STATES → IsWithinSheetLimits (symbols_of i o s) s
-        → PassCalls s DEEPEST_CALLS → PassesCompile Calls DEEPEST_CALLS
+        → PassCalls s DEEPEST_CALLS → PassesTripleLimit Calls DEEPEST_CALLS
     by_entries : IsWithinLimits i input MOST_INPUT_STATES → IsWithinLimits o output MOST_OUTPUT_STATES → IsWithinSheetLimits (symbols_of i o s) s
-        → ¬ (PassCalls s DEEPEST_CALLS) → HasManyEntries → PassesCompile Entries MOST_ENTRIES
+        → ¬ (PassCalls s DEEPEST_CALLS) → HasManyEntries → PassesTripleLimit Entries MOST_ENTRIES
 
   -- there are more rows, or sets of pairs in them, than there may be
   abbrev pub HasManyRows : ℕ → RowCount → Type 0

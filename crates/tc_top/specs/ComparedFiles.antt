@@ -17,7 +17,7 @@ use Rattle.tc_model.specs.Trees.{Trees, node_count}
 use Rattle.tc_print.specs.ReadBack.{IsReadAs}
 use Rattle.tc_rows.specs.Counts.{Counts}
 use Rattle.tc_top.specs.SchemaTexts.{SchemaText}
-use Rattle.tc_top.specs.Comparing.{Question, inclusion, equality, HasManyCovers, HasFewCovers, AreCompiled, PassesCompiling, forward, backward, IsShown, IsOfOne}
+use Rattle.tc_top.specs.Comparing.{Question, inclusion, equality, HasManyCovers, HasFewCovers, AreWithinPairLimits, PassesPairLimit, forward, backward, IsShown, IsOfOne}
 
 -- the words that ask this of two files
 abbrev pub asks : Question → List ℕ → List ℕ → Command
@@ -41,8 +41,8 @@ pub record ComparesFiles (words : List (List ℕ)) (files : Files) (question : Q
 module _ (a b : Grammar) where
   -- the counts that `include` tries are kept, and those that `same` tries
   abbrev pub AreKept : Question → Type 0
-  AreKept inclusion = AreCompiled a b × HasFewCovers (forward a b)
-  AreKept equality = AreCompiled a b × HasFewCovers (forward a b) × HasFewCovers (backward a b)
+  AreKept inclusion = AreWithinPairLimits a b × HasFewCovers (forward a b)
+  AreKept equality = AreWithinPairLimits a b × HasFewCovers (forward a b) × HasFewCovers (backward a b)
 
   -- the schemas are as is asked
   abbrev pub IsSo : Question → Type 0
@@ -77,8 +77,8 @@ module _ (a b : Grammar) where
 
   -- a limit is told, which is passed while none is that is tried before it
   pub data IsLimited (question : Question) : Type 0 where
-    limited_before_rows : {kind : kinds.Limit} {number : ℕ} → PassesCompiling a b kind number → IsLimited question
-    limited_in_rows : (count : RowCount) → AreCompiled a b → AreTooMany question count → IsLimited question
+    limited_before_rows : {kind : kinds.Limit} {number : ℕ} → PassesPairLimit a b kind number → IsLimited question
+    limited_in_rows : (count : RowCount) → AreWithinPairLimits a b → AreTooMany question count → IsLimited question
     limited_in_nodes : AreKept question → HasLargeRefutations question → IsLimited question
 
   -- what is written where they are as is asked: the numbers of rows, or that they are the same
@@ -103,6 +103,6 @@ module _ (a b : Grammar) where
     pub one : (status ≡ Yes) ⊎ ((status ≡ No) ⊎ (status ≡ Limit))
     pub yes_text : status ≡ Yes → ShowsSo question old new
     pub no_text : status ≡ No → (document : Trees) × IsLeastRefutation question document × IsShown a b document × IsReadAs (printed document) document × Shows old new document question
-    pub compile_text : (kind : kinds.Limit) (number : ℕ) → PassesCompiling a b kind number → Appended old new (limit_line (limit_word kind) number)
-    pub rows_text : (count : RowCount) → AreCompiled a b → AreTooMany question count → (named : RowCount) × AreTooMany question named × Appended old new (limit_line (count_word named) MOST_ROWS)
+    pub before_rows_text : (kind : kinds.Limit) (number : ℕ) → PassesPairLimit a b kind number → Appended old new (limit_line (limit_word kind) number)
+    pub rows_text : (count : RowCount) → AreWithinPairLimits a b → AreTooMany question count → (named : RowCount) × AreTooMany question named × Appended old new (limit_line (count_word named) MOST_ROWS)
     pub nodes_text : AreKept question → HasLargeRefutations question → Appended old new (limit_line (codes "counterexample") MOST_SHOWN_NODES)

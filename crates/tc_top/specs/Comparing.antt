@@ -40,16 +40,16 @@ module _ (a b : Grammar) where
   symbols_of_both = symbols_of_mentions (mentions_in_grammar a ++ mentions_in_grammar b)
 
   -- neither passes a limit that is tried before rows are, and nor do both together
-  pub record AreCompiled : Type 0 where
+  pub record AreWithinPairLimits : Type 0 where
     pub first : IsWithinLimits a input MOST_INPUT_STATES
     pub second : IsWithinLimits b input MOST_INPUT_STATES
     pub few : AreFew symbols_of_both
 
   -- the first of these limits that is passed, and its number
-  pub data PassesCompiling : Limit → ℕ → Type 0 where
-    by_first : {kind : Limit} {number : ℕ} → PassesLimit a input MOST_INPUT_STATES kind number → PassesCompiling kind number
-    by_second : {kind : Limit} {number : ℕ} → IsWithinLimits a input MOST_INPUT_STATES → PassesLimit b input MOST_INPUT_STATES kind number → PassesCompiling kind number
-    by_symbols : IsWithinLimits a input MOST_INPUT_STATES → IsWithinLimits b input MOST_INPUT_STATES → MOST_SYMBOLS < symbol_count symbols_of_both → PassesCompiling Symbols MOST_SYMBOLS
+  pub data PassesPairLimit : Limit → ℕ → Type 0 where
+    by_first : {kind : Limit} {number : ℕ} → PassesLimit a input MOST_INPUT_STATES kind number → PassesPairLimit kind number
+    by_second : {kind : Limit} {number : ℕ} → IsWithinLimits a input MOST_INPUT_STATES → PassesLimit b input MOST_INPUT_STATES kind number → PassesPairLimit kind number
+    by_symbols : IsWithinLimits a input MOST_INPUT_STATES → IsWithinLimits b input MOST_INPUT_STATES → MOST_SYMBOLS < symbol_count symbols_of_both → PassesPairLimit Symbols MOST_SYMBOLS
 
   -- the two directions: of the first in the second, and of the second in the first
   abbrev pub forward : Schemas
@@ -69,32 +69,32 @@ module _ (a b : Grammar) where
 
   -- what is found where inclusion is asked for
   pub data FindsInclusion : Answer → Type 0 where
-    inclusion_passes : {kind : Limit} {number : ℕ} → PassesCompiling kind number → FindsInclusion (over_limit kind number)
-    inclusion_covers : (count : RowCount) → AreCompiled → HasManyCovers forward count → FindsInclusion (rows_limit count MOST_ROWS)
+    inclusion_passes : {kind : Limit} {number : ℕ} → PassesPairLimit kind number → FindsInclusion (over_limit kind number)
+    inclusion_covers : (count : RowCount) → AreWithinPairLimits → HasManyCovers forward count → FindsInclusion (rows_limit count MOST_ROWS)
     -- with the cover counts
-    finds_included : {tree_rows hedge_rows : ℕ} → AreCompiled → HasFewCovers forward → IsIncluded a b → Counts (IsRowOfLiveTree forward) tree_rows → Counts (IsRowOfLiveHedge forward) hedge_rows
+    finds_included : {tree_rows hedge_rows : ℕ} → AreWithinPairLimits → HasFewCovers forward → IsIncluded a b → Counts (IsRowOfLiveTree forward) tree_rows → Counts (IsRowOfLiveHedge forward) hedge_rows
         → FindsInclusion (included tree_rows hedge_rows)
     -- a document that is valid for the first alone, with the fewest nodes
-    finds_not_included : {document : Trees} → AreCompiled → HasFewCovers forward → IsDifference a b document → IsShown document
+    finds_not_included : {document : Trees} → AreWithinPairLimits → HasFewCovers forward → IsDifference a b document → IsShown document
         → ((other : Trees) → IsDifference a b other → node_count document ≤ node_count other) → FindsInclusion (not_included document)
     -- all such documents are too large to be shown
-    finds_none_shown : {document : Trees} → AreCompiled → HasFewCovers forward → IsDifference a b document
+    finds_none_shown : {document : Trees} → AreWithinPairLimits → HasFewCovers forward → IsDifference a b document
         → ((other : Trees) → IsDifference a b other → MOST_SHOWN_NODES < node_count other) → FindsInclusion counterexample_limit
 
   -- what is found where it is asked whether both have the same valid documents
   pub data FindsEquality : Answer → Type 0 where
-    equality_passes : {kind : Limit} {number : ℕ} → PassesCompiling kind number → FindsEquality (over_limit kind number)
-    equality_covers_forward : (count : RowCount) → AreCompiled → HasManyCovers forward count → FindsEquality (rows_limit count MOST_ROWS)
-    equality_covers_backward : (count : RowCount) → AreCompiled → HasFewCovers forward → HasManyCovers backward count → FindsEquality (rows_limit count MOST_ROWS)
-    finds_equal : AreCompiled → HasFewCovers forward → HasFewCovers backward → IsIncluded a b → IsIncluded b a → FindsEquality equal
+    equality_passes : {kind : Limit} {number : ℕ} → PassesPairLimit kind number → FindsEquality (over_limit kind number)
+    equality_covers_forward : (count : RowCount) → AreWithinPairLimits → HasManyCovers forward count → FindsEquality (rows_limit count MOST_ROWS)
+    equality_covers_backward : (count : RowCount) → AreWithinPairLimits → HasFewCovers forward → HasManyCovers backward count → FindsEquality (rows_limit count MOST_ROWS)
+    finds_equal : AreWithinPairLimits → HasFewCovers forward → HasFewCovers backward → IsIncluded a b → IsIncluded b a → FindsEquality equal
     -- a document that is valid for the first alone, with the fewest nodes of all that are valid for one alone
-    finds_first_only : {document : Trees} → AreCompiled → HasFewCovers forward → HasFewCovers backward → IsDifference a b document → IsShown document
+    finds_first_only : {document : Trees} → AreWithinPairLimits → HasFewCovers forward → HasFewCovers backward → IsDifference a b document → IsShown document
         → ((other : Trees) → IsOfOne other → node_count document ≤ node_count other) → FindsEquality (first_only document)
     -- one that is valid for the second alone, where those that are valid for the first alone have more nodes
-    finds_second_only : {document : Trees} → AreCompiled → HasFewCovers forward → HasFewCovers backward → IsDifference b a document → IsShown document
+    finds_second_only : {document : Trees} → AreWithinPairLimits → HasFewCovers forward → HasFewCovers backward → IsDifference b a document → IsShown document
         → ((other : Trees) → IsDifference a b other → node_count document < node_count other)
         → ((other : Trees) → IsDifference b a other → node_count document ≤ node_count other) → FindsEquality (second_only document)
-    finds_no_one_shown : {document : Trees} → AreCompiled → HasFewCovers forward → HasFewCovers backward → IsOfOne document
+    finds_no_one_shown : {document : Trees} → AreWithinPairLimits → HasFewCovers forward → HasFewCovers backward → IsOfOne document
         → ((other : Trees) → IsOfOne other → MOST_SHOWN_NODES < node_count other) → FindsEquality counterexample_limit
 
   abbrev pub FindsBoth : Question → Answer → Type 0

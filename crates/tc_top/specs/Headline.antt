@@ -13,7 +13,7 @@ use Rattle.tc_print.specs.ReadBack.{IsReadAs}
 use Rattle.tc_read.specs.Sheets.{IsSheetOf}
 use Rattle.tc_run.specs.Limits.{KeepsLimits}
 use Rattle.tc_answer.specs.Lines.{RowCount, limit_word, line, limit_line, count_word, safe_line, unsafe_lines, unsafe_large_lines}
-use Rattle.tc_top.specs.Checking.{most_of, IsCompiled, PassesCompile, HasManyRows, HasFewRows, AreRowCounts, IsLeastCounter, HasSmallCounter, HasLargeCounters, IsLargeRun}
+use Rattle.tc_top.specs.Checking.{most_of, IsWithinTripleLimits, PassesTripleLimit, HasManyRows, HasFewRows, AreRowCounts, IsLeastCounter, HasSmallCounter, HasLargeCounters, IsLargeRun}
 use Rattle.tc_top.specs.Limits.{IsValidityWithin}
 use Rattle.tc_answer.specs.SchemaWords.{file_of}
 use Rattle.tc_answer.specs.Words.{check, run, valid, Words}
@@ -61,23 +61,23 @@ pub data ShowsRun (old new : Option (List ℕ)) (s : Sheet) (document : Trees) :
 
 -- a limit is told, which is passed while none is that is tried before it
 pub data IsLimited (most : ℕ) (i o : Grammar) (s : Sheet) : Type 0 where
-  limited_before_rows : {kind : kinds.Limit} {number : ℕ} → PassesCompile i o s kind number → IsLimited most i o s
-  limited_in_rows : (count : RowCount) → IsCompiled i o s → HasManyRows i o s most count → IsLimited most i o s
-  limited_in_nodes : IsCompiled i o s → HasFewRows i o s most → HasLargeCounters i o s → IsLimited most i o s
+  limited_before_rows : {kind : kinds.Limit} {number : ℕ} → PassesTripleLimit i o s kind number → IsLimited most i o s
+  limited_in_rows : (count : RowCount) → IsWithinTripleLimits i o s → HasManyRows i o s most count → IsLimited most i o s
+  limited_in_nodes : IsWithinTripleLimits i o s → HasFewRows i o s most → HasLargeCounters i o s → IsLimited most i o s
 
 -- yes exactly where no limit is passed and the stylesheet is safe, with the numbers of rows; no exactly where none is passed and there is a
 -- counterexample that can be shown, with a least one and its result; and else a limit that is passed
 pub record DecidesSafety (status : Status) (old new : Option (List ℕ)) (most : ℕ) (i o : Grammar) (s : Sheet) : Type 0 where
-  pub yes : (status ≡ Yes) ↔ (IsCompiled i o s × HasFewRows i o s most × IsSafe i o s)
-  pub no : (status ≡ No) ↔ (IsCompiled i o s × HasFewRows i o s most × HasSmallCounter i o s)
+  pub yes : (status ≡ Yes) ↔ (IsWithinTripleLimits i o s × HasFewRows i o s most × IsSafe i o s)
+  pub no : (status ≡ No) ↔ (IsWithinTripleLimits i o s × HasFewRows i o s most × HasSmallCounter i o s)
   pub limit : (status ≡ Limit) ↔ IsLimited most i o s
   pub one : (status ≡ Yes) ⊎ ((status ≡ No) ⊎ (status ≡ Limit))
   pub yes_text : status ≡ Yes → (trees : ℕ) × (hedges : ℕ) × (outputs : ℕ) × AreRowCounts i o s trees hedges outputs × Appended old new (safe_line trees hedges outputs)
   pub no_text : status ≡ No → (document : Trees) × IsLeastCounter i o s document × IsReadAs (printed document) document × ShowsRun old new s document
-  pub compile_text : (kind : kinds.Limit) (number : ℕ) → PassesCompile i o s kind number → Appended old new (limit_line (limit_word kind) number)
-  pub rows_text : (count : RowCount) → IsCompiled i o s → HasManyRows i o s most count
+  pub before_rows_text : (kind : kinds.Limit) (number : ℕ) → PassesTripleLimit i o s kind number → Appended old new (limit_line (limit_word kind) number)
+  pub rows_text : (count : RowCount) → IsWithinTripleLimits i o s → HasManyRows i o s most count
       → (named : RowCount) × HasManyRows i o s most named × Appended old new (limit_line (count_word named) (most_of most named))
-  pub nodes_text : IsCompiled i o s → HasFewRows i o s most → HasLargeCounters i o s → Appended old new (limit_line (codes "counterexample") MOST_SHOWN_NODES)
+  pub nodes_text : IsWithinTripleLimits i o s → HasFewRows i o s most → HasLargeCounters i o s → Appended old new (limit_line (codes "counterexample") MOST_SHOWN_NODES)
 
 -- the words validate a held file by a held schema, whose texts spell this document and this grammar, which passes no limit
 pub record ValidatesFiles (words : List (List ℕ)) (files : Files) (g : Grammar) (d : Trees) : Type 0 where

@@ -1,7 +1,7 @@
 pub mod Limits
 pub mod SchemaTexts
 pub mod Checking
-pub mod Compiled
+pub mod MachinesSeen
 pub mod Comparing
 pub mod Pairs
 pub mod ComparedFiles

@@ -13,7 +13,7 @@ use Rattle.tc_model.specs.Grammars.{Grammar}
 use Rattle.tc_model.specs.Trees.{none, node_count}
 use Rattle.tc_model.specs.Views.{before}
 use Rattle.tc_top.specs.Comparing as c
-use Rattle.tc_top.specs.Comparing.{AreCompiled, HasManyCovers, forward, backward}
+use Rattle.tc_top.specs.Comparing.{AreWithinPairLimits, HasManyCovers, forward, backward}
 use Rattle.tc_top.specs.declared.compare.Pair.{Pair}
 use Rattle.tc_top.specs.declared.compare.Question.{Question}
 use Rattle.tc_top.specs.declared.compare.Question.TheVariants.{Inclusion, Equality}
@@ -25,7 +25,7 @@ question Equality = c.equality
 
 -- the automata of two schemas within their limits, and the symbols of both, for each direction
 pub record IsPairOf (a b : Grammar) (pair : Pair) : Type 0 where
-  pub compiled : AreCompiled a b
+  pub within_limits : AreWithinPairLimits a b
   pub forth : AreOf pair.first pair.second pair.alphabet (forward a b)
   pub back : AreOf pair.second pair.first pair.alphabet (backward a b)
 

@@ -10,7 +10,7 @@ ghost use Rattle.tc_answer.specs.Answers as a;
 ghost use Rattle.tc_top.specs.Causes.{Checks, Finds};
 ghost use Rattle.tc_answer.specs.AnswersSeen.{Says};
 ghost use Rattle.tc_top.specs.AnswersSeen.{IsRightFor, IsRunOf};
-ghost use Rattle.tc_top.specs.Checking.{IsCompiled, most_rows};
+ghost use Rattle.tc_top.specs.Checking.{IsWithinTripleLimits, most_rows};
 ghost use Rattle.tc_answer.specs.Words as w;
 ghost use Rattle.tc_answer.specs.Words.{Words};
 
@@ -75,7 +75,7 @@ pub fn check_texts(alloc: Global, most: u32, operands: &Operands<'_>) -> Result<
     }
 }
 
-/// Decides whether a stylesheet is safe, by what rows are worked out by.
+/// Decides by the machine whether its stylesheet is safe.
 fn decide<'b>(
     alloc: Global,
     arena: &'b Bump,
@@ -84,7 +84,7 @@ fn decide<'b>(
 ) -> Result<Answer, NoMemory>
     requires few { most ≤ 4000 }
     requires machine { IsMachine machine.now }
-    ensures { IfOk result (λ said. (x : t.Triple) → IsMachineOf x machine.now → IsCompiled x.input x.output (t.sheet x)
+    ensures { IfOk result (λ said. (x : t.Triple) → IsMachineOf x machine.now → IsWithinTripleLimits x.input x.output (t.sheet x)
         → (answer : a.Answer) × Says said answer × Finds most x.input x.output (t.sheet x) answer) }
 {
     match tc_close::decide(arena, alloc, machine, most) {

@@ -1,4 +1,4 @@
-// What `include` and `same` answer.
+// Decides by the texts of two schemas what `include` and `same` answer.
 ghost use Rattle.std.specs.Prelude.{◌≡◌, ◌≤◌, ◌<◌, ◌^◌, ℕ, List, IfOk, IfErr, IsTrue, ◌↔◌, length};
 ghost use Rattle.tc_answer.specs.Answers as a;
 ghost use Rattle.tc_answer.specs.AnswersSeen.{Says};
@@ -8,8 +8,8 @@ ghost use Rattle.tc_incl.specs.Schemas.{Schemas};
 ghost use Rattle.tc_model.specs.Grammars as g;
 ghost use Rattle.tc_model.specs.Trees.{none, node_count};
 ghost use Rattle.tc_model.specs.Views as see;
-ghost use Rattle.tc_top.specs.Comparing.{AreCompiled, Compares, FindsBoth, FindsEquality, FindsInclusion, PassesCompiling, backward, forward, symbols_of_both};
-ghost use Rattle.tc_top.specs.Compiled.{IsCauseBy, IsReadOf, IsSpelled};
+ghost use Rattle.tc_top.specs.Comparing.{AreWithinPairLimits, Compares, FindsBoth, FindsEquality, FindsInclusion, PassesPairLimit, backward, forward, symbols_of_both};
+ghost use Rattle.tc_top.specs.MachinesSeen.{IsCauseBy, IsReadOf, IsSpelled};
 ghost use Rattle.tc_top.specs.Limits.{AreFew, IsWithinLimits};
 ghost use Rattle.tc_model.specs.States.{input};
 ghost use Rattle.tc_base.specs.declared.limits.TheConstants.{MOST_INPUT_STATES};
@@ -17,7 +17,7 @@ ghost use Rattle.tc_answer.specs.declared.limits.TheConstants.{MOST_ROWS, MOST_S
 ghost use Rattle.tc_top.specs.SchemaTexts.{IsSchemaOfText};
 ghost use Rattle.tc_top.specs.Pairs.{HasFewNodes, IsPairOf, SaysCovers, question as asked};
 
-use crate::compile::{CompileFault, contents_of, grammar_within_limits};
+use crate::machine::{LimitFault, grammar_within_limits, input_automaton};
 use crate::schema_texts::read_operand_schema;
 use bumpalo::Bump;
 use std::alloc::Global;
@@ -111,8 +111,8 @@ fn compare_read<'b>(
             Question::Inclusion => decide_inclusion(alloc, arena, &pair),
             Question::Equality => decide_equality(alloc, arena, &pair),
         },
-        Err(CompileFault::Passes(kind, number)) => Answer::limit(alloc, kind, number),
-        Err(CompileFault::NoMemory) => Err(NoMemory),
+        Err(LimitFault::Passes(kind, number)) => Answer::limit(alloc, kind, number),
+        Err(LimitFault::NoMemory) => Err(NoMemory),
     }
 }
 
@@ -125,14 +125,14 @@ fn pair_of<'b>(
     alloc: Global,
     first: &Schema<'b>,
     second: &Schema<'b>,
-) -> Result<Pair<'b>, CompileFault>
+) -> Result<Pair<'b>, LimitFault>
     requires first { IsSpelled first.now }
     requires second { IsSpelled second.now }
     ensures ok { IfOk result (λ pair. (x y : g.Grammar) → IsReadOf x first.now → IsReadOf y second.now → IsPairOf x y pair) }
-    ensures err { IfErr result (λ e. (x y : g.Grammar) → IsReadOf x first.now → IsReadOf y second.now → IsCauseBy (PassesCompiling x y) e) }
+    ensures err { IfErr result (λ e. (x y : g.Grammar) → IsReadOf x first.now → IsReadOf y second.now → IsCauseBy (PassesPairLimit x y) e) }
 {
-    let one = contents_of(alloc, first)?;
-    let other = contents_of(alloc, second)?;
+    let one = input_automaton(alloc, first)?;
+    let other = input_automaton(alloc, second)?;
     let alphabet = symbols_of(alloc, first, second)?;
     Ok(Pair {
         first: one,
@@ -146,11 +146,11 @@ fn symbols_of(
     alloc: Global,
     first: &Schema<'_>,
     second: &Schema<'_>,
-) -> Result<Alphabet, CompileFault>
+) -> Result<Alphabet, LimitFault>
     ensures stands { IfOk result (λ symbols. (x y : g.Grammar) → IsReadOf x first.now → IsReadOf y second.now → symbols ≡ symbols_of_both x y) }
     ensures few { IfOk result (λ symbols. AreFew symbols) }
     ensures err { IfErr result (λ e. (x y : g.Grammar) → IsReadOf x first.now → IsReadOf y second.now
-        → IsWithinLimits x input MOST_INPUT_STATES → IsWithinLimits y input MOST_INPUT_STATES → IsCauseBy (PassesCompiling x y) e) }
+        → IsWithinLimits x input MOST_INPUT_STATES → IsWithinLimits y input MOST_INPUT_STATES → IsCauseBy (PassesPairLimit x y) e) }
 {
     let nothing = Sheet {
         modes: 1,
@@ -162,8 +162,8 @@ fn symbols_of(
     let second = grammar_within_limits(second)?;
     match Alphabet::of(alloc, first, second, &nothing) {
         Ok(alphabet) => Ok(alphabet),
-        Err(AlphaFault::TooManySymbols) => Err(CompileFault::Passes(Limit::Symbols, MOST_SYMBOLS)),
-        Err(AlphaFault::NoMemory) => Err(CompileFault::NoMemory),
+        Err(AlphaFault::TooManySymbols) => Err(LimitFault::Passes(Limit::Symbols, MOST_SYMBOLS)),
+        Err(AlphaFault::NoMemory) => Err(LimitFault::NoMemory),
     }
 }
 
@@ -239,7 +239,7 @@ fn covers_limit(alloc: Global, fault: InclFault) -> Result<Answer, NoMemory>
 
 /// The answer of `include`, by what is told of its direction.
 fn tell_inclusion(alloc: Global, forth: &Cover<'_>) -> Result<Answer, NoMemory>
-    ensures { IfOk result (λ said. (x y : g.Grammar) → AreCompiled x y → IsAnswer (forward x y) MOST_ROWS forth.now
+    ensures { IfOk result (λ said. (x y : g.Grammar) → AreWithinPairLimits x y → IsAnswer (forward x y) MOST_ROWS forth.now
         → (answer : a.Answer) × Says said answer × FindsInclusion x y answer) }
 {
     match forth {
@@ -253,7 +253,7 @@ fn tell_inclusion(alloc: Global, forth: &Cover<'_>) -> Result<Answer, NoMemory>
 fn tell_equality(alloc: Global, forth: &Cover<'_>, back: &Cover<'_>) -> Result<Answer, NoMemory>
     requires forth { HasFewNodes forth.now }
     requires back { HasFewNodes back.now }
-    ensures { IfOk result (λ said. (x y : g.Grammar) → AreCompiled x y → IsAnswer (forward x y) MOST_ROWS forth.now → IsAnswer (backward x y) MOST_ROWS back.now
+    ensures { IfOk result (λ said. (x y : g.Grammar) → AreWithinPairLimits x y → IsAnswer (forward x y) MOST_ROWS forth.now → IsAnswer (backward x y) MOST_ROWS back.now
         → (answer : a.Answer) × Says said answer × FindsEquality x y answer) }
 {
     match forth {
@@ -269,7 +269,7 @@ fn tell_equality(alloc: Global, forth: &Cover<'_>, back: &Cover<'_>) -> Result<A
 
 /// The answer of `same` where the first schema is included in the second.
 fn tell_second(alloc: Global, back: &Cover<'_>) -> Result<Answer, NoMemory>
-    ensures { IfOk result (λ said. (x y : g.Grammar) (trees hedges : ℕ) → AreCompiled x y → IsIncludedWith (forward x y) MOST_ROWS trees hedges
+    ensures { IfOk result (λ said. (x y : g.Grammar) (trees hedges : ℕ) → AreWithinPairLimits x y → IsIncludedWith (forward x y) MOST_ROWS trees hedges
         → IsAnswer (backward x y) MOST_ROWS back.now → (answer : a.Answer) × Says said answer × FindsEquality x y answer) }
 {
     match back {
@@ -284,7 +284,7 @@ fn tell_second(alloc: Global, back: &Cover<'_>) -> Result<Answer, NoMemory>
 fn tell_first(alloc: Global, first: &Node<'_>, back: &Cover<'_>) -> Result<Answer, NoMemory>
     requires first { node_count (see.before first.now none) ≤ MOST_SHOWN_NODES }
     requires back { HasFewNodes back.now }
-    ensures { IfOk result (λ said. (x y : g.Grammar) → AreCompiled x y → IsLeastPlain (forward x y) MOST_ROWS (see.before first.now none)
+    ensures { IfOk result (λ said. (x y : g.Grammar) → AreWithinPairLimits x y → IsLeastPlain (forward x y) MOST_ROWS (see.before first.now none)
         → IsAnswer (backward x y) MOST_ROWS back.now → (answer : a.Answer) × Says said answer × FindsEquality x y answer) }
 {
     match back {
@@ -298,7 +298,7 @@ fn tell_first(alloc: Global, first: &Node<'_>, back: &Cover<'_>) -> Result<Answe
 fn tell_smaller(alloc: Global, first: &Node<'_>, second: &Node<'_>) -> Result<Answer, NoMemory>
     requires first { node_count (see.before first.now none) ≤ MOST_SHOWN_NODES }
     requires second { node_count (see.before second.now none) ≤ MOST_SHOWN_NODES }
-    ensures { IfOk result (λ said. (x y : g.Grammar) → AreCompiled x y → IsLeastPlain (forward x y) MOST_ROWS (see.before first.now none)
+    ensures { IfOk result (λ said. (x y : g.Grammar) → AreWithinPairLimits x y → IsLeastPlain (forward x y) MOST_ROWS (see.before first.now none)
         → IsLeastPlain (backward x y) MOST_ROWS (see.before second.now none) → (answer : a.Answer) × Says said answer × FindsEquality x y answer) }
 {
     if count_nodes(&[*second]) < count_nodes(&[*first]) {

@@ -4,9 +4,9 @@
 mod certificates;
 mod check;
 mod compare;
-mod compile;
 mod demo;
 pub mod laws;
+mod machine;
 mod program;
 mod prove;
 mod run;

@@ -9,7 +9,7 @@ ghost use Rattle.tc_close.specs.Decisions.{IsCloseCause};
 ghost use Rattle.tc_rows.specs.Triples as t;
 ghost use Rattle.tc_top.specs.Causes.{Finds};
 ghost use Rattle.tc_top.specs.Certifying.{Proves, Certifies};
-ghost use Rattle.tc_top.specs.Checking.{IsCompiled};
+ghost use Rattle.tc_top.specs.Checking.{IsWithinTripleLimits};
 
 use crate::check::show;
 use crate::texts::{early_answer, machine_of_texts};
@@ -40,7 +40,7 @@ pub fn prove_texts(alloc: Global, most: u32, operands: &Operands<'_>) -> Result<
     }
 }
 
-/// Decides whether a stylesheet is safe, by what rows are worked out by.
+/// Decides by the machine whether its stylesheet is safe.
 fn certify<'b>(
     alloc: Global,
     arena: &'b Bump,
@@ -49,7 +49,7 @@ fn certify<'b>(
 ) -> Result<Answer, NoMemory>
     requires few { most ≤ 4000 }
     requires machine { IsMachine machine.now }
-    ensures { IfOk result (λ said. (x : t.Triple) → IsMachineOf x machine.now → IsCompiled x.input x.output (t.sheet x)
+    ensures { IfOk result (λ said. (x : t.Triple) → IsMachineOf x machine.now → IsWithinTripleLimits x.input x.output (t.sheet x)
         → (answer : a.Answer) × Says said answer × Certifies x.input x.output (t.sheet x) most answer) }
 {
     match tc_close::prove(arena, alloc, machine, most) {
@@ -63,7 +63,7 @@ fn certify<'b>(
 
 /// The answer by a certificate, unless its text is too long.
 fn write_certificate(alloc: Global, most: u32, held: &CertData) -> Result<Answer, NoMemory>
-    ensures { IfOk result (λ said. (x : t.Triple) → t.IsTriple x → IsCompiled x.input x.output (t.sheet x) → IsSafeWithin x most → IsLeastCertificate x held.now
+    ensures { IfOk result (λ said. (x : t.Triple) → t.IsTriple x → IsWithinTripleLimits x.input x.output (t.sheet x) → IsSafeWithin x most → IsLeastCertificate x held.now
         → (answer : a.Answer) × Says said answer × Certifies x.input x.output (t.sheet x) most answer) }
 {
     match write_cert(alloc, held) {
@@ -75,7 +75,7 @@ fn write_certificate(alloc: Global, most: u32, held: &CertData) -> Result<Answer
 
 /// The answer that a count of rows passes its limit.
 fn rows_limit(alloc: Global, most: u32, fault: CloseFault) -> Result<Answer, NoMemory>
-    ensures { IfOk result (λ said. (x : t.Triple) → t.IsTriple x → IsCompiled x.input x.output (t.sheet x) → IsCloseCause x most fault
+    ensures { IfOk result (λ said. (x : t.Triple) → t.IsTriple x → IsWithinTripleLimits x.input x.output (t.sheet x) → IsCloseCause x most fault
         → (answer : a.Answer) × Says said answer × Certifies x.input x.output (t.sheet x) most answer) }
 {
     match fault {

@@ -1,4 +1,4 @@
-// What `include` and `same` answer.
+// Reads the operands of `include` and `same`, and gives what both answer.
 ghost use Rattle.std.specs.Prelude.{◌≡◌, ◌≤◌, ℕ, List, IfOk};
 ghost use Rattle.tc_answer.specs.Words as w;
 ghost use Rattle.tc_answer.specs.Words.{Words};

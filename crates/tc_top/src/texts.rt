@@ -8,7 +8,7 @@ ghost use Rattle.tc_read.specs.Sheets.{IsSheetOf};
 ghost use Rattle.tc_top.specs.SchemaTexts.{IsRefusedText, IsSchemaOfText};
 ghost use Rattle.tc_top.specs.CertifyingSeen.{undecided_of, IsUndecided, IsRefusedBy, StopsTexts, IsMachineOfTexts};
 
-use crate::compile::{CompileFault, machine_of};
+use crate::machine::{LimitFault, machine_of};
 use crate::schema_texts::read_operand_schema;
 use bumpalo::Bump;
 use std::alloc::Global;
@@ -86,7 +86,7 @@ fn sheet_of<'b>(
     }
 }
 
-/// What rows are worked out by, of the texts of two schemas and a stylesheet.
+/// The machine of the texts of two schemas and a stylesheet.
 ///
 /// # Errors
 ///
@@ -109,9 +109,7 @@ pub(crate) fn machine_of_texts<'b>(
     let sheet = sheet_of(alloc, arena, &operands.sheet)?;
     match machine_of(alloc, &input, &output, &sheet) {
         Ok(machine) => Ok(machine),
-        Err(CompileFault::Passes(kind, number)) => {
-            Err(stops(Answer::limit(alloc, kind, number)))
-        }
-        Err(CompileFault::NoMemory) => Err(Undecided::NoMemory),
+        Err(LimitFault::Passes(kind, number)) => { Err(stops(Answer::limit(alloc, kind, number))) }
+        Err(LimitFault::NoMemory) => Err(Undecided::NoMemory),
     }
 }

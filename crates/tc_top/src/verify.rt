@@ -11,7 +11,7 @@ ghost use Rattle.tc_model.specs.Symbols.{symbol_count};
 ghost use Rattle.tc_rows.specs.Triples as t;
 ghost use Rattle.tc_top.specs.Certifying.{Verifies, Accepts, told_by};
 ghost use Rattle.tc_top.specs.CertifyingSeen.{ranges_of};
-ghost use Rattle.tc_top.specs.Checking.{IsCompiled};
+ghost use Rattle.tc_top.specs.Checking.{IsWithinTripleLimits};
 
 use crate::texts::{early_answer, machine_of_texts};
 use bumpalo::Bump;
@@ -62,7 +62,7 @@ fn ranges_by(shape: Shape) -> Ranges
 fn verify_text(alloc: Global, machine: &Machine<'_>, text: &[u8]) -> Result<Answer, NoMemory>
     requires machine { IsMachine machine.now }
     requires text { length text.now ≤ longest_text }
-    ensures { IfOk result (λ said. (x : t.Triple) → IsMachineOf x machine.now → IsCompiled x.input x.output (t.sheet x)
+    ensures { IfOk result (λ said. (x : t.Triple) → IsMachineOf x machine.now → IsWithinTripleLimits x.input x.output (t.sheet x)
         → (answer : a.Answer) × Says said answer × Accepts x.input x.output (t.sheet x) text.now answer) }
 {
     match first_unfit(alloc, text, ranges_by(machine.shape())) {
@@ -84,7 +84,7 @@ fn no_form(alloc: Global, line: u32) -> Result<Answer, NoMemory>
 fn verify_fitting(alloc: Global, machine: &Machine<'_>, text: &[u8]) -> Result<Answer, NoMemory>
     requires machine { IsMachine machine.now }
     requires text { length text.now ≤ longest_text }
-    ensures { IfOk result (λ said. (x : t.Triple) → IsMachineOf x machine.now → IsCompiled x.input x.output (t.sheet x)
+    ensures { IfOk result (λ said. (x : t.Triple) → IsMachineOf x machine.now → IsWithinTripleLimits x.input x.output (t.sheet x)
         → (answer : a.Answer) × Says said answer × Accepts x.input x.output (t.sheet x) text.now answer) }
 {
     match read_cert(alloc, text) {
@@ -98,7 +98,7 @@ fn verify_fitting(alloc: Global, machine: &Machine<'_>, text: &[u8]) -> Result<A
 fn verify_data(alloc: Global, machine: &Machine<'_>, held: &CertData) -> Result<Answer, NoMemory>
     requires machine { IsMachine machine.now }
     requires formed { IsFormed held.now }
-    ensures { IfOk result (λ said. (x : t.Triple) → IsMachineOf x machine.now → IsCompiled x.input x.output (t.sheet x) → (bytes : List ℕ) → CertificateText bytes held.now
+    ensures { IfOk result (λ said. (x : t.Triple) → IsMachineOf x machine.now → IsWithinTripleLimits x.input x.output (t.sheet x) → (bytes : List ℕ) → CertificateText bytes held.now
         → (answer : a.Answer) × Says said answer × Accepts x.input x.output (t.sheet x) bytes answer) }
 {
     match tc_verify::verify(alloc, machine, held) {

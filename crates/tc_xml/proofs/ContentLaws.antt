@@ -8,7 +8,7 @@ use Rattle.std.proofs.lemmas.List.{append_cancel_left}
 use Rattle.std.proofs.lemmas.Result.{err_from_is_err_and}
 use Rattle.tc_base.specs.Characters.{is_white}
 use Rattle.tc_base.specs.declared.reasons.Why.{Why}
-use Rattle.tc_base.specs.declared.reasons.Why.TheVariants.{N2, N4}
+use Rattle.tc_base.specs.declared.reasons.Why.TheVariants.{EntityReference, XmlSpace}
 use Rattle.tc_model.specs.Names.{ExpandedName}
 use Rattle.tc_model.specs.RawTrees.{Attribute, Bound, RawTrees}
 use Rattle.tc_model.specs.XmlTextBytes.{BeginsWithWhite, after_white, EqualsAt, place_of, RunAt}
@@ -152,12 +152,12 @@ is_name n m h =
 
 -- what is refused at the front of attributes
 pub space_stands : (text start behind : List ℕ) (name : QualifiedName) → BeginsWithWhite text → start ≡ after_white text → QNameAt start name behind → true ≡ same_written name xml_space
-    → (at : List ℕ) × (length start ≡ length at) × AttributesRefuse text N4 at
+    → (at : List ℕ) × (length start ≡ length at) × AttributesRefuse text XmlSpace at
 space_stands text start behind name w e q h =
     (after_white text, ap length e, space w (subst (λ n. QNameAt (after_white text) n behind) (is_name name xml_space h) (subst (λ z. QNameAt z name behind) e q)))
 
 pub value_stands : (text start behind equals : List ℕ) (name : QualifiedName) → BeginsWithWhite text → start ≡ after_white text → QNameAt start name behind → false ≡ same_written name xml_space
-    → EqualsAt behind equals → (why : Why) (at : List ℕ) → (why ≡ N2) × QuotedRefuses equals at → AttributesRefuse text why at
+    → EqualsAt behind equals → (why : Why) (at : List ℕ) → (why ≡ EntityReference) × QuotedRefuses equals at → AttributesRefuse text why at
 value_stands text start behind equals name w e q h f why at (is, k) =
     subst (λ z. AttributesRefuse text z at) (sym is) (value w (subst (λ z. QNameAt z name behind) e q) (sym h) f k)
 

@@ -3,7 +3,7 @@ use Rattle.std.proofs.Common.{◌≡◌, ℕ, Bool, false, List, [], ◌∷◌, 
 use Rattle.tc_model.specs.RawTrees.{RawTrees}
 use Rattle.tc_model.specs.XmlTextContent.{Piece, ElementAt}
 use Rattle.tc_base.specs.declared.reasons.Why.{Why}
-use Rattle.tc_base.specs.declared.reasons.Why.TheVariants.{N1}
+use Rattle.tc_base.specs.declared.reasons.Why.TheVariants.{DoctypeSubset}
 use Rattle.tc_model.specs.XmlText.{after_mark, Reads}
 use Rattle.tc_model.specs.XmlTextMisc.{DeclarationAt, MiscAt, DoctypeFrontAt, DoctypeAt}
 use Rattle.tc_model.specs.XmlTextScopes.{first_scope}
@@ -57,10 +57,10 @@ pub declaration_stands : (deep : ℕ) (text start : List ℕ) → start ≡ afte
 declaration_stands deep text start e why at k = refusals.declaration (subst (λ w. DeclarationRefuses w why at) e k)
 
 pub subset_stands : (deep : ℕ) (text start past behind : List ℕ) → start ≡ after_mark text → DeclarationAt start past → MiscAt past behind
-    → (why : Why) (at : List ℕ) → (why ≡ N1) × ((r : List ℕ) × (at ≡ 0x5B ∷ r)) × DoctypeFrontAt behind at → DocumentRefuses deep text (unsupported why) at
+    → (why : Why) (at : List ℕ) → (why ≡ DoctypeSubset) × ((r : List ℕ) × (at ≡ 0x5B ∷ r)) × DoctypeFrontAt behind at → DocumentRefuses deep text (unsupported why) at
 subset_stands deep text start past behind e a b why at (is, (r, same), k) =
-    let whole : DocumentRefuses deep text (unsupported N1) (0x5B ∷ r) = refusals.subset (subst (λ w. DeclarationAt w past) e a) b (subst (DoctypeFrontAt behind) same k) in
-    subst (λ w. DocumentRefuses deep text (unsupported w) at) (sym is) (subst (DocumentRefuses deep text (unsupported N1)) (sym same) whole)
+    let whole : DocumentRefuses deep text (unsupported DoctypeSubset) (0x5B ∷ r) = refusals.subset (subst (λ w. DeclarationAt w past) e a) b (subst (DoctypeFrontAt behind) same k) in
+    subst (λ w. DocumentRefuses deep text (unsupported w) at) (sym is) (subst (DocumentRefuses deep text (unsupported DoctypeSubset)) (sym same) whole)
 
 pub element_stands : (deep : ℕ) (text start past behind root : List ℕ) → start ≡ after_mark text → DeclarationAt start past → MiscAt past behind → DoctypeAt behind root
     → (cause : Cause) (at : List ℕ) → ElementRefuses (length text) first_scope deep root cause at → DocumentRefuses deep text cause at

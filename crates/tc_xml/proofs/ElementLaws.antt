@@ -1,7 +1,7 @@
 -- What the steps of reading content and elements show of the whole.
 use Rattle.std.proofs.Common.{◌≡◌, ◌≢◌, ℕ, suc, ◌-◌, Bool, false, List, ◌∷◌, ◌++◌, refl, ◌∙◌, sym, subst, arith, codes}
 use Rattle.tc_base.specs.declared.reasons.Why.{Why}
-use Rattle.tc_base.specs.declared.reasons.Why.TheVariants.{N2}
+use Rattle.tc_base.specs.declared.reasons.Why.TheVariants.{EntityReference}
 use Rattle.tc_model.specs.Names.{ExpandedName}
 use Rattle.tc_model.specs.RawTrees.{Attribute, Bound, RawTrees, none}
 use Rattle.tc_model.specs.XmlTextBytes.{place_of}
@@ -157,6 +157,6 @@ no_end_of_element o total scope depth d w rest start end k f e m g h after (fill
     let both = content_unique (content_loosened m) (subst (λ z. ContentAt o total scope d z h other) (same_others (sym q ∙ e)) n) in
     g after (subst (λ z. EndTagAt w z after) (sym both.1) a)
 
-pub entity_stands : (total : ℕ) (scope : List Bound) (depth : ℕ) (text : List ℕ) (why : Why) (at : List ℕ) → (why ≡ N2) × (at ≡ text) × OtherEntityAt at → ContentRefuses total scope depth text (unsupported why) at
+pub entity_stands : (total : ℕ) (scope : List Bound) (depth : ℕ) (text : List ℕ) (why : Why) (at : List ℕ) → (why ≡ EntityReference) × (at ≡ text) × OtherEntityAt at → ContentRefuses total scope depth text (unsupported why) at
 entity_stands total scope depth text why at (is, same, k) =
     subst (λ b. ContentRefuses total scope depth b (unsupported why) at) same (subst (λ w. ContentRefuses total scope depth at (unsupported w) at) (sym is) (entity k))

@@ -10,7 +10,7 @@ use Rattle.tc_model.specs.XmlTextBytes.{BeginsWithWhite, after_white, length_bef
 use Rattle.tc_model.specs.XmlTextNames.{NcNameAt, QualifiedName, QNameAt}
 use Rattle.tc_model.specs.XmlTextMisc.{CommentAt, InstructionAt, SettingAt, LacksWord, IsReadEncoding, EncodingAt, no_encoding, encoding, StandaloneAt, no_standalone, standalone, DeclarationAt, no_declaration, declaration, IsNoMisc, MiscAt, no_more, comment, instruction, ExternalIdAt, no_id, system, public, DoctypeFrontAt, DoctypeAt, no_doctype, doctype}
 use Rattle.tc_base.specs.declared.reasons.Why.{Why}
-use Rattle.tc_base.specs.declared.reasons.Why.TheVariants.{N3, N5}
+use Rattle.tc_base.specs.declared.reasons.Why.TheVariants.{Encoding, XmlVersion}
 use Rattle.tc_model.specs.XmlTextRefusals.{DeclarationRefuses}
 use Rattle.tc_model.specs.XmlTextRefusals as refusals
 use Rattle.tc_model.proofs.XmlTextPhrases.{same_first, same_others, ncname_unique, qname_unique, up_to_unique, literal_unique, equals_unique, setting_unique, encoding_unique, standalone_unique, comment_unique, instruction_unique, doctype_front_unique}
@@ -269,14 +269,14 @@ at_nothing {X} P Q o e h = subst (λ w. MatchOption w P Q) e h
 
 -- an XML declaration of another version
 pub version_stands : (text rest start value past : List ℕ) → text ≡ codes "<?xml" ++ rest → start ≡ after_white rest → SettingAt (codes "version") rest value past
-    → true ≡ not (bytes_eq value (codes "1.0")) → (at : List ℕ) × (length start ≡ length at) × DeclarationRefuses text N5 at
+    → true ≡ not (bytes_eq value (codes "1.0")) → (at : List ℕ) × (length start ≡ length at) × DeclarationRefuses text XmlVersion at
 version_stands text rest start value past e f s h =
     (after_white rest, ap length f, refusals.version e s (λ q. true≢false (h ∙ ap not ((bytes_decides value (codes "1.0")).1 q))))
 
 -- or with another encoding
 pub encoding_stands : (text rest value past : List ℕ) → text ≡ codes "<?xml" ++ rest → SettingAt (codes "version") rest value past → value ≡ codes "1.0"
-    → (why : Why) (at : List ℕ) → (why ≡ N3) × (at ≡ after_white past) × ((word : List ℕ) × (after : List ℕ) × SettingAt (codes "encoding") past word after × (IsReadEncoding word → ⊥))
+    → (why : Why) (at : List ℕ) → (why ≡ Encoding) × (at ≡ after_white past) × ((word : List ℕ) × (after : List ℕ) × SettingAt (codes "encoding") past word after × (IsReadEncoding word → ⊥))
     → DeclarationRefuses text why at
 encoding_stands text rest value past e s v why at (is, same, (word, after, k, n)) =
-    let whole : DeclarationRefuses text N3 (after_white past) = refusals.encoding e (subst (λ w. SettingAt (codes "version") rest w past) v s) k n in
-    subst (λ w. DeclarationRefuses text w at) (sym is) (subst (DeclarationRefuses text N3) (sym same) whole)
+    let whole : DeclarationRefuses text Encoding (after_white past) = refusals.encoding e (subst (λ w. SettingAt (codes "version") rest w past) v s) k n in
+    subst (λ w. DeclarationRefuses text w at) (sym is) (subst (DeclarationRefuses text Encoding) (sym same) whole)

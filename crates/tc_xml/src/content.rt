@@ -1,7 +1,7 @@
 // Elements and their content (XML 1.0, 3 and 3.1).
 ghost use Rattle.std.specs.Prelude.{◌≡◌, ◌<◌, ◌≤◌, ◌∷◌, ◌++◌, [], ℕ, List, true, false, map, IfOk, IfErr, OnOk, IsTrue, MatchBool, MatchOption, encode_utf8, codes, string_bytes};
 ghost use Rattle.tc_base.specs.declared.reasons.Why.{Why};
-ghost use Rattle.tc_base.specs.declared.reasons.Why.TheVariants.{N2};
+ghost use Rattle.tc_base.specs.declared.reasons.Why.TheVariants.{EntityReference};
 ghost use Rattle.tc_model.specs.Names.{ExpandedName};
 ghost use Rattle.tc_model.specs.RawTrees.{RawTrees, Attribute, Bound, none};
 ghost use Rattle.tc_model.specs.Views.{name, raw_trees, raw_tree, attribute as seen_attribute, place as see_place};
@@ -95,7 +95,7 @@ fn attribute<'b, 't>(
         return Err(Stop::Malformed(start.len()));
     };
     if is_xml_space(&name) {
-        return Err(Stop::Unsupported(start.len(), Why::N4));
+        return Err(Stop::Unsupported(start.len(), Why::XmlSpace));
     }
     let Some(equals) = after_equals(behind) else {
         return Err(Stop::Malformed(behind.len()));
@@ -310,7 +310,7 @@ fn characters<'t>(gathered: &mut Gathered<'_>, total: usize, text: &'t str) -> R
     requires no_markup { (r : List ℕ) → text.now ≡ 0x3C ∷ r → ⊥ }
     ensures ok { IfOk result (λ rest. (p : xml.Piece) × SmallItemAt total text.now p rest.now × AddsPiece gathered.old gathered.new p) }
     ensures no { IfErr result (λ e. Refuses e (LacksItem true total text.now) (LacksItem false total text.now)) }
-    ensures stands { IfErr result (λ e. UnsupportedAt e (λ why at. (why ≡ N2) × (at ≡ text.now) × refusals.OtherEntityAt at)) }
+    ensures stands { IfErr result (λ e. UnsupportedAt e (λ why at. (why ≡ EntityReference) × (at ≡ text.now) × refusals.OtherEntityAt at)) }
 {
     if begins(text, b'&') {
         let (character, rest) = reference(text)?;

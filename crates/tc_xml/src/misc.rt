@@ -6,7 +6,7 @@ ghost use Rattle.tc_model.specs.XmlTextBytes as bytes;
 ghost use Rattle.tc_model.specs.XmlTextMisc as xml;
 ghost use Rattle.tc_model.specs.XmlTextReferences as references;
 ghost use Rattle.tc_base.specs.declared.reasons.Why.{Why};
-ghost use Rattle.tc_base.specs.declared.reasons.Why.TheVariants.{N1, N3};
+ghost use Rattle.tc_base.specs.declared.reasons.Why.TheVariants.{DoctypeSubset, Encoding};
 ghost use Rattle.tc_model.specs.XmlTextRefusals as refusals;
 ghost use Rattle.tc_xml.specs.Refusals.{Refuses, UnsupportedAt, OnMalformed};
 ghost use Rattle.tc_xml.specs.Tags.{Breaks};
@@ -95,7 +95,7 @@ fn setting<'t>(text: &'t str, word: &str) -> Option<(&'t str, &'t str)>
 fn after_encoding(text: &str) -> Result<&str, Stop>
     ensures ok { IfOk result (λ r. xml.EncodingAt text.now r.now) }
     ensures no { IfErr result (λ e. Refuses e ((after : List ℕ) → xml.EncodingAt text.now after → ⊥) ((after : List ℕ) → xml.EncodingAt text.now after → ⊥)) }
-    ensures stands { IfErr result (λ e. UnsupportedAt e (λ why at. (why ≡ N3) × (at ≡ bytes.after_white text.now)
+    ensures stands { IfErr result (λ e. UnsupportedAt e (λ why at. (why ≡ Encoding) × (at ≡ bytes.after_white text.now)
         × ((value : List ℕ) × (after : List ℕ) × xml.SettingAt (codes "encoding") text.now value after × (xml.IsReadEncoding value → ⊥)))) }
     ensures malformed { IfErr result (λ e. OnMalformed e ((value after : List ℕ) → xml.SettingAt (codes "encoding") text.now value after → ⊥)) }
 {
@@ -109,7 +109,7 @@ fn after_encoding(text: &str) -> Result<&str, Stop>
     if is_read_encoding(value) {
         Ok(after)
     } else {
-        Err(Stop::Unsupported(start.len(), Why::N3))
+        Err(Stop::Unsupported(start.len(), Why::Encoding))
     }
 }
 
@@ -163,7 +163,7 @@ pub(crate) fn after_declaration(text: &str) -> Result<&str, Stop>
         return Err(Stop::Malformed(start.len()));
     };
     if version != "1.0" {
-        return Err(Stop::Unsupported(start.len(), Why::N5));
+        return Err(Stop::Unsupported(start.len(), Why::XmlVersion));
     }
     let past_encoding = after_encoding(behind)?;
     let past_standalone = match after_standalone(past_encoding) {
@@ -263,7 +263,7 @@ fn after_doctype_front(text: &str) -> Option<&str>
 pub(crate) fn after_doctype(text: &str) -> Result<&str, Stop>
     ensures ok { IfOk result (λ r. xml.DoctypeAt text.now r.now) }
     ensures no { IfErr result (λ e. Refuses e ((after : List ℕ) → xml.DoctypeAt text.now after → ⊥) ((after : List ℕ) → xml.DoctypeAt text.now after → ⊥)) }
-    ensures stands { IfErr result (λ e. UnsupportedAt e (λ why at. (why ≡ N1) × ((r : List ℕ) × (at ≡ 0x5B ∷ r)) × xml.DoctypeFrontAt text.now at)) }
+    ensures stands { IfErr result (λ e. UnsupportedAt e (λ why at. (why ≡ DoctypeSubset) × ((r : List ℕ) × (at ≡ 0x5B ∷ r)) × xml.DoctypeFrontAt text.now at)) }
     ensures malformed { IfErr result (λ e. OnMalformed e ((r : List ℕ) → xml.DoctypeFrontAt text.now (0x5B ∷ r) → ⊥)) }
 {
     if !begins(text, "<!DOCTYPE") {
@@ -275,7 +275,7 @@ pub(crate) fn after_doctype(text: &str) -> Result<&str, Stop>
     match after_byte(end, b'>') {
         Some(rest) => after_misc(rest),
         None => Err(if begins(end, "[") {
-            Stop::Unsupported(end.len(), Why::N1)
+            Stop::Unsupported(end.len(), Why::DoctypeSubset)
         } else {
             Stop::Malformed(end.len())
         }),

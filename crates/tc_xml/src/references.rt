@@ -3,7 +3,7 @@ ghost use Rattle.std.specs.Prelude.{◌≡◌, ◌<◌, ◌≤◌, ◌++◌, ◌
 ghost use Rattle.std.specs.List.{prefix_len};
 ghost use Rattle.std.specs.Str.Parse.{digits_value, AllDigits};
 ghost use Rattle.tc_base.specs.Characters as class;
-ghost use Rattle.tc_base.specs.declared.reasons.Why.TheVariants.{N2};
+ghost use Rattle.tc_base.specs.declared.reasons.Why.TheVariants.{EntityReference};
 ghost use Rattle.tc_model.specs.XmlTextBytes as xml_bytes;
 ghost use Rattle.tc_model.specs.XmlTextReferences as xml;
 ghost use Rattle.tc_xml.specs.Refusals.{Refuses, UnsupportedAt, OnMalformed};
@@ -87,7 +87,7 @@ pub(crate) fn reference(text: &str) -> Result<(char, &str), Stop>
     ensures no { IfErr result (λ e. Refuses e
         ((s after : List ℕ) → xml.ReferenceAt true text.now s after → ⊥)
         ((s after : List ℕ) → xml.ReferenceAt false text.now s after → ⊥)) }
-    ensures stands { IfErr result (λ e. UnsupportedAt e (λ why at. (why ≡ N2) × (at ≡ text.now) × refusals.OtherEntityAt at)) }
+    ensures stands { IfErr result (λ e. UnsupportedAt e (λ why at. (why ≡ EntityReference) × (at ≡ text.now) × refusals.OtherEntityAt at)) }
 {
     let malformed = Stop::Malformed(text.len());
     let Some(body) = after_byte(text, b'&') else {
@@ -113,7 +113,7 @@ pub(crate) fn reference(text: &str) -> Result<(char, &str), Stop>
     };
     match predefined(name) {
         Some(c) => Ok((c, after)),
-        None => Err(Stop::Unsupported(text.len(), Why::N2)),
+        None => Err(Stop::Unsupported(text.len(), Why::EntityReference)),
     }
 }
 
@@ -179,7 +179,7 @@ fn push_piece<'t>(value: &mut String<&Bump>, text: &'t str, quote: u8) -> Result
     ensures no { IfErr result (λ e. Refuses e
         ((piece rest : List ℕ) → PieceAt true quote text.now piece rest → ⊥)
         ((piece rest : List ℕ) → PieceAt false quote text.now piece rest → ⊥)) }
-    ensures stands { IfErr result (λ e. UnsupportedAt e (λ why at. (why ≡ N2) × (at ≡ text.now) × refusals.OtherEntityAt at)) }
+    ensures stands { IfErr result (λ e. UnsupportedAt e (λ why at. (why ≡ EntityReference) × (at ≡ text.now) × refusals.OtherEntityAt at)) }
 {
     let count = plain_len_within(text, quote);
     if count == 0 {
@@ -198,7 +198,7 @@ pub(crate) fn quoted<'b, 't>(arena: &'b Bump, text: &'t str) -> Result<(&'b str,
     ensures no { IfErr result (λ e. Refuses e
         ((v after : List ℕ) → xml.QuotedAt true text.now v after → ⊥)
         ((v after : List ℕ) → xml.QuotedAt false text.now v after → ⊥)) }
-    ensures stands { IfErr result (λ e. UnsupportedAt e (λ why at. (why ≡ N2) × refusals.QuotedRefuses text.now at)) }
+    ensures stands { IfErr result (λ e. UnsupportedAt e (λ why at. (why ≡ EntityReference) × refusals.QuotedRefuses text.now at)) }
     ensures malformed { IfErr result (λ e. OnMalformed e ((at : List ℕ) → refusals.QuotedRefuses text.now at → ⊥)) }
 {
     let Some((quote, inside)) = quote(text) else {

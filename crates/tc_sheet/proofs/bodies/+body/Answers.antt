@@ -58,11 +58,11 @@ otherwise-returns-in_err-only_attributes-clause-no t c = handed_on _ c.from_resi
 pub otherwise-returns-in_err-inner-clause-no : goal.otherwise-returns-in_err-inner-clause-no
 otherwise-returns-in_err-inner-clause-no t c = handed_on _ c.from_residual-in_err-inner.result c.in_err-inner.field-0.0 c.from_residual-in_err-inner.ensures.1 (otherwise_body_refuses c.args.element.now (raw_trees c.args.after.now) c.requires c.in_err-inner.field-0.0 c.in_err-inner.ensures.no)
 
-pub otherwise-returns-in_err-blank-clause-no : goal.otherwise-returns-in_err-blank-clause-no
-otherwise-returns-in_err-blank-clause-no t c = handed_on _ c.from_residual-in_err-blank.result c.in_err-blank.field-0.0 c.from_residual-in_err-blank.ensures.1 (otherwise_blank_refuses c.args.element.now (raw_trees c.args.after.now) c.requires c.in_err-blank.field-0.0 c.in_err-blank.ensures.no)
+pub otherwise-returns-in_err-check_blank-clause-no : goal.otherwise-returns-in_err-check_blank-clause-no
+otherwise-returns-in_err-check_blank-clause-no t c = handed_on _ c.from_residual-in_err-check_blank.result c.in_err-check_blank.field-0.0 c.from_residual-in_err-check_blank.ensures.1 (otherwise_blank_refuses c.args.element.now (raw_trees c.args.after.now) c.requires c.in_err-check_blank.field-0.0 c.in_err-check_blank.ensures.no)
 
 pub otherwise-returns-clause-ok : goal.otherwise-returns-clause-ok
-otherwise-returns-clause-ok t c = otherwise_read c.args.element.now (raw_trees c.args.after.now) c.requires (body c.in_ok-inner.inner.now) c.in_ok-only_attributes.ensures.ok c.in_ok-inner.ensures.ok c.in_ok-blank.ensures.ok
+otherwise-returns-clause-ok t c = otherwise_read c.args.element.now (raw_trees c.args.after.now) c.requires (body c.in_ok-inner.inner.now) c.in_ok-only_attributes.ensures.ok c.in_ok-inner.ensures.ok c.in_ok-check_blank.ensures.ok
 
 pub read_branches-loop-at-init : goal.read_branches-loop-at-init
 read_branches-loop-at-init t c = subst (BranchLoop (raw_trees c.args.kids.now) (raw_trees c.args.kids.now)) (sym c.new-found.ensures.items) (branches_begin (raw_trees c.args.kids.now))

@@ -26,8 +26,8 @@ returns-in_err-path-clause-no c = handed_on _ c.from_residual-in_err-path.result
 pub returns-in_err-mode-clause-no : goal.returns-in_err-mode-clause-no
 returns-in_err-mode-clause-no c = handed_on _ c.from_residual-in_err-mode.result c.in_err-mode.field-0.0 c.from_residual-in_err-mode.ensures.1 (of_apply_mode c.args.element.now c.in_err-mode.field-0.0 c.requires c.in_err-mode.ensures.no)
 
-pub returns-in_err-blank-clause-no : goal.returns-in_err-blank-clause-no
-returns-in_err-blank-clause-no c = handed_on _ c.from_residual-in_err-blank.result c.in_err-blank.field-0.0 c.from_residual-in_err-blank.ensures.1 (of_apply_blank c.args.element.now c.in_err-blank.field-0.0 c.requires c.in_err-blank.ensures.no)
+pub returns-in_err-check_blank-clause-no : goal.returns-in_err-check_blank-clause-no
+returns-in_err-check_blank-clause-no c = handed_on _ c.from_residual-in_err-check_blank.result c.in_err-check_blank.field-0.0 c.from_residual-in_err-check_blank.ensures.1 (of_apply_blank c.args.element.now c.in_err-check_blank.field-0.0 c.requires c.in_err-check_blank.ensures.no)
 
 pub returns-clause-ok : goal.returns-clause-ok
-returns-clause-ok c = apply_read c.args.element.now (option_map path c.in_ok-path.path) c.or_all_children.result c.in_ok-mode.mode c.in_ok-only_attributes.ensures.ok c.in_ok-path.ensures.ok c.in_ok-mode.ensures.ok c.in_ok-blank.ensures.ok c.or_all_children.ensures
+returns-clause-ok c = apply_read c.args.element.now (option_map path c.in_ok-path.path) c.or_all_children.result c.in_ok-mode.mode c.in_ok-only_attributes.ensures.ok c.in_ok-path.ensures.ok c.in_ok-mode.ensures.ok c.in_ok-check_blank.ensures.ok c.or_all_children.ensures

@@ -4,11 +4,11 @@ use Rattle.tc_sheet.proofs.BodyLaws.{literal_refuses, literal_around, begun_ok, 
 use Rattle.std.proofs.Common.{sym}
 use Rattle.tc_sheet.proofs.bodies.begin.Goals as goal
 
-pub returns-in_err-literal-clause-no : goal.returns-in_err-literal-clause-no
-returns-in_err-literal-clause-no c = handed_on _ c.from_residual.result c.in_err-literal.field-0.0 c.from_residual.ensures.1 (literal_refuses c.args.element.now c.if-not-is_xslt.ensures c.in_err-literal.field-0.0 c.in_err-literal.ensures.no)
+pub returns-in_err-check_literal_attributes-clause-no : goal.returns-in_err-check_literal_attributes-clause-no
+returns-in_err-check_literal_attributes-clause-no c = handed_on _ c.from_residual.result c.in_err-check_literal_attributes.field-0.0 c.from_residual.ensures.1 (literal_refuses c.args.element.now c.if-not-is_xslt.ensures c.in_err-check_literal_attributes.field-0.0 c.in_err-check_literal_attributes.ensures.no)
 
 pub returns-then-not-is_xslt-clause-ok : goal.returns-then-not-is_xslt-clause-ok
-returns-then-not-is_xslt-clause-ok c = literal_around c.args.element.now c.if-not-is_xslt.ensures c.in_ok-literal.ensures.ok
+returns-then-not-is_xslt-clause-ok c = literal_around c.args.element.now c.if-not-is_xslt.ensures c.in_ok-check_literal_attributes.ensures.ok
 
 pub returns-in-Some-clause-ok : goal.returns-in-Some-clause-ok
 returns-in-Some-clause-ok c = begun_ok c.args.element.now (instruction c.in-Some.instruction) (sym c.in-Some.ensures) c.begin_instruction.result c.begin_instruction.ensures.ok

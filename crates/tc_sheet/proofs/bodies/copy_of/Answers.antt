@@ -16,8 +16,8 @@ returns-in_err-only_attributes-clause-no c = handed_on _ c.from_residual.result 
 pub returns-in_err-required_attributes-clause-no : goal.returns-in_err-required_attributes-clause-no
 returns-in_err-required_attributes-clause-no c = handed_on _ c.from_residual-in_err-required_attributes.result c.in_err-required_attributes.field-0.0 c.from_residual-in_err-required_attributes.ensures.1 (of_copy_of_select c.args.element.now c.in_err-required_attributes.field-0.0 c.requires c.in_err-required_attributes.ensures.no)
 
-pub returns-in_err-blank-clause-no : goal.returns-in_err-blank-clause-no
-returns-in_err-blank-clause-no c = handed_on _ c.from_residual-in_err-blank.result c.in_err-blank.field-0.0 c.from_residual-in_err-blank.ensures.1 (of_copy_of_blank c.args.element.now c.in_err-blank.field-0.0 c.requires c.in_err-blank.ensures.no)
+pub returns-in_err-check_blank-clause-no : goal.returns-in_err-check_blank-clause-no
+returns-in_err-check_blank-clause-no c = handed_on _ c.from_residual-in_err-check_blank.result c.in_err-check_blank.field-0.0 c.from_residual-in_err-check_blank.ensures.1 (of_copy_of_blank c.args.element.now c.in_err-check_blank.field-0.0 c.requires c.in_err-check_blank.ensures.no)
 
 pub returns-clause-ok : goal.returns-clause-ok
-returns-clause-ok c = copy_of_read c.args.element.now c.in_ok-only_attributes.ensures.ok c.in_ok-required_attributes.ensures.ok c.in_ok-blank.ensures.ok
+returns-clause-ok c = copy_of_read c.args.element.now c.in_ok-only_attributes.ensures.ok c.in_ok-required_attributes.ensures.ok c.in_ok-check_blank.ensures.ok

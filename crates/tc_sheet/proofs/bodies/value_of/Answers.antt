@@ -20,11 +20,11 @@ required_value-requires c = of_value c.requires
 pub returns-in_err-value-clause-no : goal.returns-in_err-value-clause-no
 returns-in_err-value-clause-no c = handed_on _ c.from_residual-in_err-value.result c.in_err-value.field-0.0 c.from_residual-in_err-value.ensures.1 (of_value_select c.args.element.now c.in_err-value.field-0.0 c.requires c.in_err-value.ensures.no)
 
-pub returns-in_err-blank-clause-no : goal.returns-in_err-blank-clause-no
-returns-in_err-blank-clause-no c = handed_on _ c.from_residual-in_err-blank.result c.in_err-blank.field-0.0 c.from_residual-in_err-blank.ensures.1 (of_value_blank c.args.element.now c.in_err-blank.field-0.0 c.requires c.in_err-blank.ensures.no)
+pub returns-in_err-check_blank-clause-no : goal.returns-in_err-check_blank-clause-no
+returns-in_err-check_blank-clause-no c = handed_on _ c.from_residual-in_err-check_blank.result c.in_err-check_blank.field-0.0 c.from_residual-in_err-check_blank.ensures.1 (of_value_blank c.args.element.now c.in_err-check_blank.field-0.0 c.requires c.in_err-check_blank.ensures.no)
 
 pub returns-in-ValueOf-clause-ok : goal.returns-in-ValueOf-clause-ok
-returns-in-ValueOf-clause-ok c = path_read c.args.element.now c.in_ok-value.value c.in-ValueOf.path c.in-ValueOf.is c.in_ok-only_attributes.ensures.ok c.in_ok-value.ensures.ok c.in_ok-blank.ensures.ok
+returns-in-ValueOf-clause-ok c = path_read c.args.element.now c.in_ok-value.value c.in-ValueOf.path c.in-ValueOf.is c.in_ok-only_attributes.ensures.ok c.in_ok-value.ensures.ok c.in_ok-check_blank.ensures.ok
 
 pub returns-in_default : goal.returns-in_default
-returns-in_default c = record { ok = self_read c.args.element.now c.in_ok-value.value c.in_default.not-ValueOf c.in_ok-only_attributes.ensures.ok c.in_ok-value.ensures.ok c.in_ok-blank.ensures.ok; no = tt }
+returns-in_default c = record { ok = self_read c.args.element.now c.in_ok-value.value c.in_default.not-ValueOf c.in_ok-only_attributes.ensures.ok c.in_ok-value.ensures.ok c.in_ok-check_blank.ensures.ok; no = tt }

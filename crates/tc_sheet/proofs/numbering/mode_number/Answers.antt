@@ -5,10 +5,10 @@ use Rattle.tc_sheet.proofs.numbering.mode_number.Goals as goal
 
 pub returns-in-Some-get_index_of-clause-ok : goal.returns-in-Some-get_index_of-clause-ok
 returns-in-Some-get_index_of-clause-ok c =
-    if_ok c.after.result (λ n. n ≡ c.in-Some-get_index_of.index + 1) _
-    (λ n e. mode_found c.in-Some.name c.args.tables.now.modes.now.keys (names_seen c.args.tables.now.names.now) c.args.mode c.in-Some-get_index_of.index n c.in-Some.is c.in-Some-get_index_of.ensures.index e) c.after.ensures.ok
+    if_ok c.next_number.result (λ n. n ≡ c.in-Some-get_index_of.index + 1) _
+    (λ n e. mode_found c.in-Some.name c.args.tables.now.modes.now.keys (names_seen c.args.tables.now.names.now) c.args.mode c.in-Some-get_index_of.index n c.in-Some.is c.in-Some-get_index_of.ensures.index e) c.next_number.ensures.ok
 
 pub returns-in-None-clause-ok : goal.returns-in-None-clause-ok
 returns-in-None-clause-ok c =
-    if_ok c.after-in-None.result (λ n. n ≡ c.len.result + 1) _
-    (λ n e. mode_missing c.in-Some.name c.args.tables.now.modes.now.keys (names_seen c.args.tables.now.names.now) c.args.mode n c.in-Some.is c.in-None.ensures.found (e ∙ ap (λ k. k + 1) c.len.ensures.len)) c.after-in-None.ensures.ok
+    if_ok c.next_number-in-None.result (λ n. n ≡ c.len.result + 1) _
+    (λ n e. mode_missing c.in-Some.name c.args.tables.now.modes.now.keys (names_seen c.args.tables.now.names.now) c.args.mode n c.in-Some.is c.in-None.ensures.found (e ∙ ap (λ k. k + 1) c.len.ensures.len)) c.next_number-in-None.ensures.ok

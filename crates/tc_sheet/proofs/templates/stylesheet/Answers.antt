@@ -16,14 +16,14 @@ returns-in_err-only_attributes-clause-no c = handed_on _ c.from_residual.result 
 pub returns-in_err-only_attributes-clause-calls : goal.returns-in_err-only_attributes-clause-calls
 returns-in_err-only_attributes-clause-calls c = handed_on _ c.from_residual.result c.in_err-only_attributes.field-0.0 c.from_residual.ensures.1 (no_call (alone c.args.element.now) _ c.in_err-only_attributes.field-0.0 c.in_err-only_attributes.ensures.no)
 
-pub returns-in_err-version-clause-no : goal.returns-in_err-version-clause-no
-returns-in_err-version-clause-no c = handed_on _ c.from_residual-in_err-version.result c.in_err-version.field-0.0 c.from_residual-in_err-version.ensures.1 (root_version_refuses c.args.element.now c.if-not-is_root.ensures c.in_err-version.field-0.0 c.in_err-version.ensures.no)
+pub returns-in_err-check_version-clause-no : goal.returns-in_err-check_version-clause-no
+returns-in_err-check_version-clause-no c = handed_on _ c.from_residual-in_err-check_version.result c.in_err-check_version.field-0.0 c.from_residual-in_err-check_version.ensures.1 (root_version_refuses c.args.element.now c.if-not-is_root.ensures c.in_err-check_version.field-0.0 c.in_err-check_version.ensures.no)
 
-pub returns-in_err-version-clause-calls : goal.returns-in_err-version-clause-calls
-returns-in_err-version-clause-calls c = handed_on _ c.from_residual-in_err-version.result c.in_err-version.field-0.0 c.from_residual-in_err-version.ensures.1 (no_call (alone c.args.element.now) _ c.in_err-version.field-0.0 c.in_err-version.ensures.no)
+pub returns-in_err-check_version-clause-calls : goal.returns-in_err-check_version-clause-calls
+returns-in_err-check_version-clause-calls c = handed_on _ c.from_residual-in_err-check_version.result c.in_err-check_version.field-0.0 c.from_residual-in_err-check_version.ensures.1 (no_call (alone c.args.element.now) _ c.in_err-check_version.field-0.0 c.in_err-check_version.ensures.no)
 
 pub returns-clause-ok : goal.returns-clause-ok
-returns-clause-ok c = stylesheet_ok c.args.element.now c.templates.result c.if-not-is_root.ensures c.in_ok-only_attributes.ensures.ok c.in_ok-version.ensures.ok c.templates.ensures.ok
+returns-clause-ok c = stylesheet_ok c.args.element.now c.templates.result c.if-not-is_root.ensures c.in_ok-only_attributes.ensures.ok c.in_ok-check_version.ensures.ok c.templates.ensures.ok
 
 pub returns-clause-no : goal.returns-clause-no
 returns-clause-no c = stylesheet_no c.args.element.now c.if-not-is_root.ensures c.templates.result c.templates.ensures.no

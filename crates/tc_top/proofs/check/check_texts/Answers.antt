@@ -1,8 +1,8 @@
 use Rattle.std.proofs.Common.{subst}
 use Rattle.std.proofs.lemmas.Result.{IfOk-weaker}
-use Rattle.tc_top.specs.Causes.{Finds, passes_compile, all_three}
+use Rattle.tc_top.specs.Causes.{Finds, passes_before_rows, all_three}
 use Rattle.tc_top.specs.CertifyingSeen.{IsUndecided, StopsTexts}
-use Rattle.tc_top.specs.Checking.{IsCompiled}
+use Rattle.tc_top.specs.Checking.{IsWithinTripleLimits}
 use Rattle.tc_top.proofs.Checked.{of_triple, to_triple}
 use Rattle.tc_top.proofs.Undecided.{stopped}
 use Rattle.tc_top.proofs.check.check_texts.Goals as goal
@@ -14,7 +14,7 @@ pub returns-in-Ok : goal.returns-in-Ok
 returns-in-Ok c =
     let made = c.in-Ok.ensures.ok in
     IfOk-weaker c.decide.result _ _ (λ said h.
-    let found = h made.machine.triple made.machine.machine (to_triple IsCompiled made.machine.of made.machine.compiled) in
+    let found = h made.machine.triple made.machine.machine (to_triple IsWithinTripleLimits made.machine.of made.machine.within_limits) in
     (found.0, found.1, all_three made.input_spells made.output_spells made.sheet_spells (of_triple (λ i o s. Finds c.args.most i o s found.0) made.machine.of found.2))) c.decide.ensures
 
 pub returns : goal.returns
@@ -22,4 +22,4 @@ returns c =
     let o = c.args.operands.now in
     IfOk-weaker c.early_answer.result _ _ (λ said is.
     let why = subst (IsUndecided (StopsTexts o.input.name.now o.output.name.now o.sheet.name.now o.input.text.items o.output.text.items o.sheet.text.items)) is c.in-Err.ensures.no in
-    (why.0, why.1, stopped (λ i o s kind number p. passes_compile p) why.2)) c.early_answer.ensures
+    (why.0, why.1, stopped (λ i o s kind number p. passes_before_rows p) why.2)) c.early_answer.ensures

@@ -1,11 +1,11 @@
 use Rattle.std.proofs.Common.{subst, sym}
 use Rattle.std.proofs.lemmas.Result.{IfOk-weaker}
 use Rattle.tc_answer.specs.Answers as a
-use Rattle.tc_top.specs.Comparing.{FindsBoth, PassesCompiling}
-use Rattle.tc_top.specs.Compiled.{IsCauseBy}
+use Rattle.tc_top.specs.Comparing.{FindsBoth, PassesPairLimit}
+use Rattle.tc_top.specs.MachinesSeen.{IsCauseBy}
 use Rattle.tc_top.specs.Pairs.{question}
 use Rattle.tc_top.proofs.Compared.{passes_both, says_limit}
-use Rattle.tc_top.proofs.Compiling.{some_grammar}
+use Rattle.tc_top.proofs.MachineLimits.{some_grammar}
 use Rattle.tc_top.proofs.compare.compare_read.Goals as goal
 
 pub decide_inclusion-requires : goal.decide_inclusion-requires
@@ -35,5 +35,5 @@ returns-in-Ok c =
 pub returns-in-Err-Passes : goal.returns-in-Err-Passes
 returns-in-Err-Passes c =
     IfOk-weaker c.limit.result _ _ (λ said says x y read_one read_other.
-    let cause = subst (IsCauseBy (PassesCompiling x y)) c.in-Err-Passes.field-0-is (c.in-Err-Passes.ensures.err x y read_one read_other) in
+    let cause = subst (IsCauseBy (PassesPairLimit x y)) c.in-Err-Passes.field-0-is (c.in-Err-Passes.ensures.err x y read_one read_other) in
     (a.over_limit c.in-Err-Passes.kind c.in-Err-Passes.number, says_limit c.in-Err-Passes.kind-is c.in-Err-Passes.number-is says, passes_both x y (question c.args.question) cause)) c.limit.ensures

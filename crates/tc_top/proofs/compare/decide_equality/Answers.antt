@@ -11,16 +11,16 @@ tell_equality-requires-clause-back c = let (x, y, is) = c.requires.pair in few_n
 
 pub returns-in-Ok-back : goal.returns-in-Ok-back
 returns-in-Ok-back c =
-    IfOk-weaker c.tell_equality.result _ _ (λ said h x y is. h x y is.compiled (c.in-Ok.ensures.answer x y is) (c.in-Ok-back.ensures.answer x y is)) c.tell_equality.ensures
+    IfOk-weaker c.tell_equality.result _ _ (λ said h x y is. h x y is.within_limits (c.in-Ok.ensures.answer x y is) (c.in-Ok-back.ensures.answer x y is)) c.tell_equality.ensures
 
 pub returns-in-Err-back : goal.returns-in-Err-back
 returns-in-Err-back c =
     IfOk-weaker c.covers_limit.result _ _ (λ said h x y is.
     let (count, says, many) = h (backward x y) (c.in-Err-back.ensures.cause x y is) in
-    (_, says, equality_covers_backward count is.compiled (few_covers (forward x y) (kept_counts (forward x y) _ (c.in-Ok.ensures.answer x y is))) many)) c.covers_limit.ensures
+    (_, says, equality_covers_backward count is.within_limits (few_covers (forward x y) (kept_counts (forward x y) _ (c.in-Ok.ensures.answer x y is))) many)) c.covers_limit.ensures
 
 pub returns-in-Err : goal.returns-in-Err
 returns-in-Err c =
     IfOk-weaker c.covers_limit-in-Err.result _ _ (λ said h x y is.
     let (count, says, many) = h (forward x y) (c.in-Err.ensures.cause x y is) in
-    (_, says, equality_covers_forward count is.compiled many)) c.covers_limit-in-Err.ensures
+    (_, says, equality_covers_forward count is.within_limits many)) c.covers_limit-in-Err.ensures

@@ -14,28 +14,28 @@ show-requires-clause-document c =
 
 pub returns-in-Ok-Certified : goal.returns-in-Ok-Certified
 returns-in-Ok-Certified c =
-    IfOk-weaker c.write_certificate.result _ _ (λ said h x is compiled.
+    IfOk-weaker c.write_certificate.result _ _ (λ said h x is within_limits.
     let proved = subst (IsProved x c.args.most) c.in-Ok-Certified.field-0-is (c.in-Ok-Certified.ensures.proof x is) in
-    h x (triple_is is) compiled proved.0 proved.1) c.write_certificate.ensures
+    h x (triple_is is) within_limits proved.0 proved.1) c.write_certificate.ensures
 
 pub returns-in-Ok-TooLong : goal.returns-in-Ok-TooLong
 returns-in-Ok-TooLong c =
-    IfOk-weaker c.certificate_limit.result _ _ (λ said says x is compiled.
+    IfOk-weaker c.certificate_limit.result _ _ (λ said says x is within_limits.
     let proved = subst (IsProved x c.args.most) c.in-Ok-TooLong.field-0-is (c.in-Ok-TooLong.ensures.proof x is) in
-    (a.certificate_limit, says, long_unwritten x (triple_is is) compiled proved.0 proved.1)) c.certificate_limit.ensures
+    (a.certificate_limit, says, long_unwritten x (triple_is is) within_limits proved.0 proved.1)) c.certificate_limit.ensures
 
 pub returns-in-Ok-Unsafe : goal.returns-in-Ok-Unsafe
 returns-in-Ok-Unsafe c =
-    IfOk-weaker c.show.result _ _ (λ said h x is compiled.
+    IfOk-weaker c.show.result _ _ (λ said h x is within_limits.
     let decided = subst (IsProved x c.args.most) c.in-Ok-Unsafe.field-0-is (c.in-Ok-Unsafe.ensures.proof x is) in
     let shown = h x is in
-    (shown.0, shown.1, unsafe_run x (triple_is is) compiled decided shown.2)) c.show.ensures
+    (shown.0, shown.1, unsafe_run x (triple_is is) within_limits decided shown.2)) c.show.ensures
 
 pub returns-in-Ok-TooManyNodes : goal.returns-in-Ok-TooManyNodes
 returns-in-Ok-TooManyNodes c =
-    IfOk-weaker c.counterexample_limit.result _ _ (λ said says x is compiled.
+    IfOk-weaker c.counterexample_limit.result _ _ (λ said says x is within_limits.
     let decided = subst (IsProved x c.args.most) c.in-Ok-TooManyNodes.field-0-is (c.in-Ok-TooManyNodes.ensures.proof x is) in
-    (a.counterexample_limit, says, far x (triple_is is) compiled decided)) c.counterexample_limit.ensures
+    (a.counterexample_limit, says, far x (triple_is is) within_limits decided)) c.counterexample_limit.ensures
 
 pub returns-in-Err : goal.returns-in-Err
-returns-in-Err c = IfOk-weaker c.rows_limit.result _ _ (λ said h x is compiled. h x (triple_is is) compiled (c.in-Err.ensures.cause x is)) c.rows_limit.ensures
+returns-in-Err c = IfOk-weaker c.rows_limit.result _ _ (λ said h x is within_limits. h x (triple_is is) within_limits (c.in-Err.ensures.cause x is)) c.rows_limit.ensures

@@ -2,8 +2,8 @@ use Rattle.std.proofs.Common.{subst, sym}
 use Rattle.tc_answer.specs.Answers as a
 use Rattle.tc_model.specs.Views as see
 use Rattle.tc_top.specs.CertifyingSeen.{IsUndecided, StopsTexts}
-use Rattle.tc_top.specs.Checking.{PassesCompile}
-use Rattle.tc_top.specs.Compiled.{IsCauseBy}
+use Rattle.tc_top.specs.Checking.{PassesTripleLimit}
+use Rattle.tc_top.specs.MachinesSeen.{IsCauseBy}
 use Rattle.tc_top.proofs.Undecided.{undecided, stops_input, stops_output, stops_sheet, machine_of_all, passed_by_all}
 use Rattle.tc_top.proofs.texts.machine_of_texts.Goals as goal
 
@@ -41,5 +41,5 @@ returns-in-Err-Passes-clause-no c =
     let o = c.args.operands.now in
     let P = StopsTexts o.input.name.now o.output.name.now o.sheet.name.now o.input.text.items o.output.text.items o.sheet.text.items in
     let stops = passed_by_all o.input.name.now o.output.name.now o.sheet.name.now o.input.text.items o.output.text.items o.sheet.text.items _ _ _ c.in_ok-input.ensures.ok c.in_ok-output.ensures.ok c.in_ok-sheet.ensures.ok
-    c.in-Err-Passes.kind c.in-Err-Passes.number (λ i p read_in read_out. subst (IsCauseBy (PassesCompile i p _)) c.in-Err-Passes.field-0-is (c.in-Err-Passes.ensures.err i p read_in read_out)) in
+    c.in-Err-Passes.kind c.in-Err-Passes.number (λ i p read_in read_out. subst (IsCauseBy (PassesTripleLimit i p _)) c.in-Err-Passes.field-0-is (c.in-Err-Passes.ensures.err i p read_in read_out)) in
     subst (IsUndecided P) (sym c.stops.ensures) (undecided P (a.over_limit c.in-Err-Passes.kind c.in-Err-Passes.number) c.limit.result c.limit.ensures stops)

@@ -9,7 +9,7 @@ use Rattle.tc_verify.specs.declared.reject.RejectRule.{RejectRule}
 use Rattle.tc_top.proofs.verify.verify_data.Goals as goal
 
 pub returns-in-Ok : goal.returns-in-Ok
-returns-in-Ok c = λ x is compiled bytes means. (a.accepted, c.accepted.ensures, accepts compiled means (x, itself x (triple_is is), c.in-Ok.ensures.certificate x is))
+returns-in-Ok c = λ x is within_limits bytes means. (a.accepted, c.accepted.ensures, accepts within_limits means (x, itself x (triple_is is), c.in-Ok.ensures.certificate x is))
 
 pub reject_data-requires : goal.reject_data-requires
 reject_data-requires c = λ wrap.
@@ -22,6 +22,6 @@ reject_data-requires c = λ wrap.
 pub returns-in-Err-Rejected : goal.returns-in-Err-Rejected
 returns-in-Err-Rejected c =
     let r = c.in-Err-Rejected.reject in
-    IfOk-weaker c.reject_data.result _ _ (λ said says x is compiled bytes means.
+    IfOk-weaker c.reject_data.result _ _ (λ said says x is within_limits bytes means.
     let why = subst (IsCause x c.args.held.now) c.in-Err-Rejected.field-0-is (c.in-Err-Rejected.ensures.cause x is) in
-    (a.rejected (told_by c.args.machine.now.alphabet r.rule r.line r.other), says, no_certificate compiled means (x, r, itself x (triple_is is), why, ap (λ w. told_by w r.rule r.line r.other) is.parts.same_symbols))) c.reject_data.ensures
+    (a.rejected (told_by c.args.machine.now.alphabet r.rule r.line r.other), says, no_certificate within_limits means (x, r, itself x (triple_is is), why, ap (λ w. told_by w r.rule r.line r.other) is.parts.same_symbols))) c.reject_data.ensures

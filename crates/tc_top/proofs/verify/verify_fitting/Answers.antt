@@ -10,9 +10,9 @@ pub verify_data-requires-clause-formed : goal.verify_data-requires-clause-formed
 verify_data-requires-clause-formed c = c.in-Ok.ensures.ok.formed
 
 pub returns-in-Ok : goal.returns-in-Ok
-returns-in-Ok c = IfOk-weaker c.verify_data.result _ _ (λ said h x is compiled. h x is compiled c.args.text.now c.in-Ok.ensures.ok) c.verify_data.ensures
+returns-in-Ok c = IfOk-weaker c.verify_data.result _ _ (λ said h x is within_limits. h x is within_limits c.args.text.now c.in-Ok.ensures.ok) c.verify_data.ensures
 
 pub returns-in-Err-Form : goal.returns-in-Err-Form
 returns-in-Err-Form c =
     let fault = subst (IsUnread c.args.text.now) c.in-Err-Form.field-0-is c.in-Err-Form.ensures.fault in
-    IfOk-weaker c.no_form.result _ _ (λ said says x is compiled. (a.rejected (form_fails c.in-Err-Form.line), says, no_text compiled fault)) c.no_form.ensures
+    IfOk-weaker c.no_form.result _ _ (λ said says x is within_limits. (a.rejected (form_fails c.in-Err-Form.line), says, no_text within_limits fault)) c.no_form.ensures

@@ -17,10 +17,10 @@ returns-in-Ok-Some c =
     let (d, means, first) = c.in-Ok-Some.ensures.ok in
     let line = c.in-Ok-Some.line in
     let unfit = some_of (AllFit (sizes_of c.ranges_by.result) d) (λ n. IsFirstUnfit (sizes_of c.ranges_by.result) d n) c.in-Ok-Some.field-0 line first c.in-Ok-Some.field-0-is in
-    IfOk-weaker c.rejected.result _ _ (λ said says x is compiled.
-    (a.rejected (fit_fails line), says, unfit_line x (triple_is is) compiled c.shape.result (c.shape.ensures x is) c.args.text.now d line means (subst (λ (r : Ranges). IsFirstUnfit (sizes_of r) d line) c.ranges_by.ensures unfit))) c.rejected.ensures
+    IfOk-weaker c.rejected.result _ _ (λ said says x is within_limits.
+    (a.rejected (fit_fails line), says, unfit_line x (triple_is is) within_limits c.shape.result (c.shape.ensures x is) c.args.text.now d line means (subst (λ (r : Ranges). IsFirstUnfit (sizes_of r) d line) c.ranges_by.ensures unfit))) c.rejected.ensures
 
 pub returns-in-Err-Form : goal.returns-in-Err-Form
 returns-in-Err-Form c =
     let fault = subst (IsUnread c.args.text.now) c.in-Err-Form.field-0-is c.in-Err-Form.ensures.fault in
-    IfOk-weaker c.no_form.result _ _ (λ said says x is compiled. (a.rejected (form_fails c.in-Err-Form.line), says, no_text compiled fault)) c.no_form.ensures
+    IfOk-weaker c.no_form.result _ _ (λ said says x is within_limits. (a.rejected (form_fails c.in-Err-Form.line), says, no_text within_limits fault)) c.no_form.ensures
