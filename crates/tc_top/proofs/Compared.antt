@@ -1,7 +1,7 @@
 -- Two schemas that are compared: their automata and their symbols, and what is found of them by what rows tell.
 use Rattle.std.proofs.Common.{◌≡◌, ◌≤◌, ◌<◌, ◌⊎◌, ◌++◌, inl, inr, refl, sym, ap, subst, ◌∙◌, ℕ, List, [], Contains, Result, IfOk, flat_map, append-nil, arith}
 use Rattle.tc_alpha.proofs.Members.{has_from_contains}
-use Rattle.tc_answer.specs.Answers.{Answer, included, not_included, equal, first_only, second_only, counterexample_limit, over_limit, refused}
+use Rattle.tc_answer.specs.Answers.{Answer, included, not_included, equal, first_only, second_only, counterexample_limit, over_limit}
 use Rattle.tc_answer.specs.AnswersSeen.{Says}
 use Rattle.tc_answer.specs.declared.answer.Answer.{Answer as Said}
 use Rattle.tc_answer.specs.declared.limits.TheConstants.{MOST_ROWS, MOST_SHOWN_NODES}
@@ -21,7 +21,6 @@ use Rattle.tc_model.specs.Symbols.{Mention, mention_cmp, in_order, with_namespac
 use Rattle.tc_model.specs.Trees.{Trees, none, node_count}
 use Rattle.tc_model.specs.Views.{before}
 use Rattle.tc_model.specs.WellFormed.{ForEach, IsSheet, eaches_of}
-use Rattle.tc_read.specs.declared.faults.Reason.{Reason}
 use Rattle.tc_read.specs.declared.schemas.Schema.{Schema}
 use Rattle.tc_base.specs.declared.Limit.{Limit}
 use Rattle.tc_top.specs.Comparing.{Question, inclusion, equality, PassesPairLimit, FindsBoth, inclusion_passes, equality_passes, AreWithinPairLimits, HasManyCovers, many_trees, many_hedges, HasFewCovers, symbols_of_both, forward, backward, IsOfOne, FindsInclusion, finds_included, finds_not_included, finds_none_shown, FindsEquality, finds_equal, finds_first_only, finds_second_only, finds_no_one_shown}
@@ -169,6 +168,3 @@ passes_both g h equality p = equality_passes p
 -- an answer says the same of equal parts
 pub says_limit : {said : Said} {kind other : Limit} {number count : ℕ} → kind ≡ other → number ≡ count → Says said (over_limit kind number) → Says said (over_limit other count)
 says_limit {said} {kind} {other} {number} {count} p q h = subst (λ k. Says said (over_limit k count)) p (subst (λ n. Says said (over_limit kind n)) q h)
-
-pub says_refused : {said : Said} {name : List ℕ} {reason other : Reason} {place at : ℕ} → reason ≡ other → place ≡ at → Says said (refused name reason place) → Says said (refused name other at)
-says_refused {said} {name} {reason} {other} {place} {at} p q h = subst (λ r. Says said (refused name r at)) p (subst (λ n. Says said (refused name reason n)) q h)

@@ -19,5 +19,6 @@ pub mod RejectedAlike
 pub mod OneCertifying
 pub mod CertifiedTexts
 pub mod Undecided
+pub mod Unaccepted
 pub mod CertifiedExact
 pub mod CertifyingCalls

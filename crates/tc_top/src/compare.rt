@@ -19,6 +19,7 @@ ghost use Rattle.tc_top.specs.Pairs.{HasFewNodes, IsPairOf, SaysCovers, question
 
 use crate::machine::{LimitFault, grammar_within_limits, input_automaton};
 use crate::schema_texts::read_operand_schema;
+use crate::unread::answer_unaccepted;
 use bumpalo::Bump;
 use std::alloc::Global;
 use tc_alpha::{AlphaFault, Alphabet};
@@ -29,7 +30,7 @@ use tc_base::limits::MOST_SYMBOLS;
 use tc_base::{Limit, NoMemory};
 use tc_incl::{Cover, InclFault, included};
 use tc_model::{Node, Sheet};
-use tc_read::{Schema, TextFault};
+use tc_read::Schema;
 
 /// What is asked of two schemas.
 #[derive(Clone, Copy, Debug, PartialEq, Eq)]
@@ -63,10 +64,7 @@ pub fn compare_texts(
     let arena = Bump::new(alloc);
     match read_operand_schema(&arena, first) {
         Ok(read) => compare_second(alloc, &arena, question, &read, first, second),
-        Err(TextFault::Refused(reason, place)) => {
-            Answer::refused(alloc, first.name, reason, place)
-        }
-        Err(TextFault::NoMemory) => Err(NoMemory),
+        Err(fault) => answer_unaccepted(alloc, first.name, fault),
     }
 }
 
@@ -86,10 +84,7 @@ fn compare_second<'b>(
 {
     match read_operand_schema(arena, second) {
         Ok(other) => compare_read(alloc, arena, question, read, &other),
-        Err(TextFault::Refused(reason, place)) => {
-            Answer::refused(alloc, second.name, reason, place)
-        }
-        Err(TextFault::NoMemory) => Err(NoMemory),
+        Err(fault) => answer_unaccepted(alloc, second.name, fault),
     }
 }
 

@@ -17,7 +17,7 @@ ghost use Rattle.tc_top.specs.Limits.{AreFew, IsWithinSheetLimits, symbols_of_sh
 ghost use Rattle.tc_answer.specs.Words as w;
 ghost use Rattle.tc_answer.specs.Words.{Words};
 
-use crate::unread::answer_unread;
+use crate::unread::{answer_unaccepted, answer_unread};
 use bumpalo::Bump;
 use std::alloc::Global;
 use tc_alpha::{AlphaFault, Alphabet};
@@ -26,7 +26,7 @@ use tc_base::limits::{MOST_ANCESTORS, MOST_PREDICATES, MOST_SELECTS, MOST_SYMBOL
 use tc_base::{Limit, NoMemory};
 use tc_io::Store;
 use tc_model::{Grammar, Node, Pat, Sheet};
-use tc_read::{TextFault, read_document, read_sheet};
+use tc_read::{read_document, read_sheet};
 use tc_rules::{Rules, RulesFault};
 use tc_run::RunFault;
 
@@ -58,10 +58,7 @@ fn run_texts(alloc: Global, sheet: &Operand<'_>, document: &Operand<'_>) -> Resu
     let arena = Bump::new(alloc);
     match read_sheet(&arena, &sheet.text) {
         Ok(read) => run_on_text(alloc, &arena, &read, document),
-        Err(TextFault::Refused(reason, place)) => {
-            Answer::refused(alloc, sheet.name, reason, place)
-        }
-        Err(TextFault::NoMemory) => Err(NoMemory),
+        Err(fault) => answer_unaccepted(alloc, sheet.name, fault),
     }
 }
 
@@ -79,10 +76,7 @@ fn run_on_text<'b>(
 {
     match read_document(arena, &document.text) {
         Ok(root) => run_on(alloc, arena, sheet, &root),
-        Err(TextFault::Refused(reason, place)) => {
-            Answer::refused(alloc, document.name, reason, place)
-        }
-        Err(TextFault::NoMemory) => Err(NoMemory),
+        Err(fault) => answer_unaccepted(alloc, document.name, fault),
     }
 }
 

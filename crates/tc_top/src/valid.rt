@@ -18,7 +18,7 @@ ghost use Rattle.tc_answer.specs.Words as w;
 ghost use Rattle.tc_answer.specs.Words.{Words};
 
 use crate::schema_texts::read_operand_schema;
-use crate::unread::answer_unread;
+use crate::unread::{answer_unaccepted, answer_unread};
 use bumpalo::Bump;
 use std::alloc::Global;
 use tc_alpha::{AlphaFault, Alphabet};
@@ -29,7 +29,7 @@ use tc_base::{Limit, NoMemory};
 use tc_hedge::Hedge;
 use tc_io::Store;
 use tc_model::{Grammar, Node, Pat, Sheet};
-use tc_read::{Schema, TextFault, read_document};
+use tc_read::{Schema, read_document};
 
 /// Reads the operands, and tells whether the document is valid.
 pub fn valid<S: Store>(
@@ -68,10 +68,7 @@ fn valid_texts(
     let arena = Bump::new(alloc);
     match read_operand_schema(&arena, schema) {
         Ok(read) => valid_document(alloc, &arena, &read, document),
-        Err(TextFault::Refused(reason, place)) => {
-            Answer::refused(alloc, schema.name, reason, place)
-        }
-        Err(TextFault::NoMemory) => Err(NoMemory),
+        Err(fault) => answer_unaccepted(alloc, schema.name, fault),
     }
 }
 
@@ -92,10 +89,7 @@ fn valid_document(
             Schema::Small(grammar) => decide(alloc, grammar, &root),
             Schema::TooLarge(kind, number) => Answer::limit(alloc, *kind, *number),
         },
-        Err(TextFault::Refused(reason, place)) => {
-            Answer::refused(alloc, document.name, reason, place)
-        }
-        Err(TextFault::NoMemory) => Err(NoMemory),
+        Err(fault) => answer_unaccepted(alloc, document.name, fault),
     }
 }
 

@@ -7,6 +7,7 @@ use Rattle.tc_answer.specs.Answers as a
 use Rattle.tc_top.specs.Causes.{source_refused, sheet_and_source}
 use Rattle.tc_read.specs.Refusals.{IsRefusedDocument}
 use Rattle.tc_read.specs.Faults.{IsUnaccepted}
+use Rattle.tc_top.proofs.Unaccepted.{refused_as}
 use Rattle.tc_top.proofs.run.run_on_text.Goals as goal
 
 pub returns-in-Ok : goal.returns-in-Ok
@@ -14,12 +15,9 @@ returns-in-Ok c =
     let read = subst (λ w. IsReadAs w (see.before c.in-Ok.root none)) c.deref.ensures.value c.in-Ok.ensures.ok in
     IfOk-weaker c.run_on.result _ _ (λ said h. (h.0, h.1, λ other bytes is. sheet_and_source is read h.2)) c.run_on.ensures
 
-pub returns-in-Err-Refused : goal.returns-in-Err-Refused
-returns-in-Err-Refused c =
-    let why = subst (λ w. IsUnaccepted (IsRefusedDocument w) c.in-Err-Refused.field-0) c.deref.ensures.value c.in-Err-Refused.ensures.no in
-    let refused = subst (IsUnaccepted (IsRefusedDocument c.args.document.now.text.items)) c.in-Err-Refused.field-0-is why in
-    IfOk-weaker c.refused.result _ _ (λ said says. (
-      a.refused c.args.document.now.name.now c.in-Err-Refused.reason (see.place c.in-Err-Refused.place),
-      says,
-      λ other bytes is. source_refused is refused,
-    )) c.refused.ensures
+pub returns-in-Err : goal.returns-in-Err
+returns-in-Err c =
+    let why = subst (λ w. IsUnaccepted (IsRefusedDocument w) c.in-Err.fault) c.deref.ensures.value c.in-Err.ensures.no in
+    IfOk-weaker c.answer_unaccepted.result _ _ (λ said says.
+    let found = refused_as said (IsRefusedDocument c.args.document.now.text.items) c.args.document.now.name.now c.in-Err.fault says why in
+    (a.refused c.args.document.now.name.now found.0 found.1, found.2, λ other bytes is. source_refused is found.3)) c.answer_unaccepted.ensures

@@ -13,6 +13,7 @@ use Rattle.tc_read.specs.declared.schemas.Schema.TheVariants.{Small, TooLarge}
 use Rattle.tc_top.specs.Limits.{passes_size}
 use Rattle.tc_top.specs.SchemaTexts.{SchemaText, IsSchemaOfText}
 use Rattle.tc_top.proofs.SchemaTextLaws.{lawful_schema}
+use Rattle.tc_top.proofs.Unaccepted.{refused_as}
 use Rattle.tc_top.proofs.valid.valid_document.Goals as goal
 
 -- the schema has a grammar, whether it is small enough or not
@@ -37,12 +38,9 @@ returns-in-TooLarge c =
       λ word bytes is. let large = subst (IsSchemaOfText word bytes) c.in-TooLarge.is is in both_read large.1 read (passes (passes_size large.2)),
     )) c.limit.ensures
 
-pub returns-in-Err-Refused : goal.returns-in-Err-Refused
-returns-in-Err-Refused c =
-    let why = subst (λ w. IsUnaccepted (IsRefusedDocument w) c.in-Err-Refused.field-0) c.deref.ensures.value c.in-Err-Refused.ensures.no in
-    let refused = subst (IsUnaccepted (IsRefusedDocument c.args.document.now.text.items)) c.in-Err-Refused.field-0-is why in
-    IfOk-weaker c.refused.result _ _ (λ said says. (
-      a.refused c.args.document.now.name.now c.in-Err-Refused.reason (see.place c.in-Err-Refused.place),
-      says,
-      λ word bytes is. document_refused (has_grammar word bytes c.args.schema.now is).1 refused,
-    )) c.refused.ensures
+pub returns-in-Err : goal.returns-in-Err
+returns-in-Err c =
+    let why = subst (λ w. IsUnaccepted (IsRefusedDocument w) c.in-Err.fault) c.deref.ensures.value c.in-Err.ensures.no in
+    IfOk-weaker c.answer_unaccepted.result _ _ (λ said says.
+    let found = refused_as said (IsRefusedDocument c.args.document.now.text.items) c.args.document.now.name.now c.in-Err.fault says why in
+    (a.refused c.args.document.now.name.now found.0 found.1, found.2, λ word bytes is. document_refused (has_grammar word bytes c.args.schema.now is).1 found.3)) c.answer_unaccepted.ensures
