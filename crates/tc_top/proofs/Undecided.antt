@@ -1,13 +1,14 @@
 -- Answers that end a call early, and what ends every call on the same texts.
 use Rattle.std.proofs.Common.{◌≡◌, sym, subst, ℕ, List, Result, Ok, Err, IfOk, IfErr}
 use Rattle.std.specs.Result.{IsErrAnd}
-use Rattle.tc_answer.specs.Answers.{Answer}
+use Rattle.tc_answer.specs.Answers.{Answer, refused}
 use Rattle.tc_answer.specs.AnswersSeen.{Says}
 use Rattle.tc_answer.specs.declared.answer.Answer as made
 use Rattle.tc_base.specs.declared.NoMemory as memory
 use Rattle.tc_base.specs.declared.Limit as kinds
 use Rattle.tc_model.specs.Grammars.{Grammar}
 use Rattle.tc_model.specs.Sheets.{Sheet}
+use Rattle.tc_top.specs.AnswersSeen.{SaysRefused}
 use Rattle.tc_top.specs.Causes.{OfTexts, refuses_input, refuses_output, refuses_sheet, all_three}
 use Rattle.tc_top.specs.CertifyingSeen.{undecided_of, IsUndecided, IsPassed, is_passed, StopsTexts}
 use Rattle.tc_top.specs.Checking.{PassesTripleLimit}
@@ -15,8 +16,11 @@ use Rattle.tc_top.specs.declared.texts.Undecided.{Undecided}
 use Rattle.tc_top.specs.declared.texts.Undecided.TheVariants.{Stops, NoMemory}
 use Rattle.tc_answer.specs.Answers.{over_limit}
 use Rattle.tc_beh.specs.declared.machine.Machine.{Machine}
+use Rattle.tc_read.specs.Faults.{IsUnaccepted}
 use Rattle.tc_read.specs.Refusals.{IsRefusedSheet}
 use Rattle.tc_read.specs.Sheets.{IsSheetOf}
+use Rattle.tc_read.specs.declared.faults.Reason.{Reason}
+use Rattle.tc_read.specs.declared.faults.TextFault.{TextFault}
 use Rattle.tc_read.specs.declared.schemas.Schema.{Schema}
 use Rattle.tc_read.proofs.Exits.{err_is}
 use Rattle.tc_top.specs.CertifyingSeen.{IsRefusedBy, is_refused, IsMachineOfTexts}
@@ -25,11 +29,17 @@ use Rattle.tc_top.specs.MachinesSeen.{IsReadOf, IsMachineFor, IsCauseBy}
 use Rattle.tc_top.specs.declared.machine.LimitFault.{LimitFault}
 use Rattle.tc_top.specs.declared.machine.LimitFault.TheVariants.{Passes}
 use Rattle.tc_top.proofs.Checked.{read_of}
+use Rattle.tc_top.proofs.Unaccepted.{refused_as}
 
 -- an answer that says this
 pub undecided : (P : Answer → Type 0) (answer : Answer) (r : Result made.Answer memory.NoMemory) → IfOk r (λ said. Says said answer) → P answer → IsUndecided P (undecided_of r)
 undecided P answer (Ok said) says holds = (answer, says, holds)
 undecided P answer (Err want) says holds = tt
+
+-- an answer to a text that isn't accepted
+pub unaccepted : (refuses : Reason → ℕ → Type 0) (name : List ℕ) (fault : TextFault) (r : Result made.Answer memory.NoMemory) → IfOk r (SaysRefused name fault) → IsUnaccepted refuses fault → IsUndecided (IsRefusedBy name refuses) (undecided_of r)
+unaccepted refuses name fault (Ok said) says why = let found = refused_as said refuses name fault says why in (refused name found.0 found.1, found.2, is_refused found.3)
+unaccepted refuses name fault (Err want) says why = tt
 
 -- what ends every call on these texts ends this one
 pub stopped : {Decided : Grammar → Grammar → Sheet → Answer → Type 0} → ((i o : Grammar) (s : Sheet) (kind : kinds.Limit) (number : ℕ) → PassesTripleLimit i o s kind number → Decided i o s (over_limit kind number))

@@ -10,13 +10,14 @@ ghost use Rattle.tc_top.specs.CertifyingSeen.{undecided_of, IsUndecided, IsRefus
 
 use crate::machine::{LimitFault, machine_of};
 use crate::schema_texts::read_operand_schema;
+use crate::unread::answer_unaccepted;
 use bumpalo::Bump;
 use std::alloc::Global;
 use tc_answer::{Answer, Operand, Operands};
 use tc_base::NoMemory;
 use tc_beh::Machine;
 use tc_model::Sheet;
-use tc_read::{Schema, TextFault, read_sheet};
+use tc_read::{Schema, read_sheet};
 
 /// Why nothing is decided of texts.
 #[derive(Drop)]
@@ -59,10 +60,7 @@ fn schema_of<'b>(
 {
     match read_operand_schema(arena, operand) {
         Ok(schema) => Ok(schema),
-        Err(TextFault::Refused(reason, place)) => {
-            Err(stops(Answer::refused(alloc, operand.name, reason, place)))
-        }
-        Err(TextFault::NoMemory) => Err(Undecided::NoMemory),
+        Err(fault) => Err(stops(answer_unaccepted(alloc, operand.name, fault))),
     }
 }
 
@@ -79,10 +77,7 @@ fn sheet_of<'b>(
 {
     match read_sheet(arena, &operand.text) {
         Ok(sheet) => Ok(sheet),
-        Err(TextFault::Refused(reason, place)) => {
-            Err(stops(Answer::refused(alloc, operand.name, reason, place)))
-        }
-        Err(TextFault::NoMemory) => Err(Undecided::NoMemory),
+        Err(fault) => Err(stops(answer_unaccepted(alloc, operand.name, fault))),
     }
 }
 
