@@ -1,5 +1,5 @@
 // Patterns.
-ghost use Rattle.std.specs.Prelude.{◌≡◌, ◌⊎◌, ℕ, suc, false, List, [], None, Some, IfOk, IfErr, MatchBool, MatchOption};
+ghost use Rattle.std.specs.Prelude.{◌≡◌, ◌⊎◌, ◌++◌, ◌∷◌, ℕ, suc, false, List, [], None, Some, IfOk, IfErr, OnOk, MatchBool, MatchOption};
 ghost use Rattle.tc_model.specs.CompactSyntaxNames.{LacksMark};
 ghost use Rattle.tc_model.specs.CompactSyntaxUnread.{Unexpected};
 ghost use Rattle.tc_model.specs.CompactSyntaxPatterns as model;
@@ -119,6 +119,33 @@ fn next_item<'s, 't>(
     } else {
         Err(unexpected(tokens, end))
     }
+}
+
+/// One item, to which more may be added.
+fn begun<'b>(arena: &'b Bump, item: SPat<'b>) -> Result<Vec<SPat<'b>, &'b Bump>, RncFault>
+    ensures ok { IfOk result (λ all. all.items ≡ item.entry ∷ []) }
+    ensures no { IfErr result (λ e. e ≡ NoMemory) }
+{
+    let mut all = Vec::new(arena);
+    all.push(item)?;
+    Ok(all)
+}
+
+/// Puts an item behind the others, and gives what follows this connector behind it, where one stands there, or
+/// nothing, where none does.
+fn put_item<'b, 's, 't>(
+    all: &mut Vec<SPat<'b>, &'b Bump>,
+    item: SPat<'b>,
+    between: Connector,
+    tokens: &'s [Token<'t>],
+    end: End,
+) -> Result<Option<&'s [Token<'t>]>, RncFault>
+    ensures items { OnOk result (all.new.items ≡ all.old.items ++ item.entry ∷ []) }
+    ensures ok { IfOk result (λ o. MatchOption o (model.connector_at (seen.tokens tokens.now) ≡ None) (λ rest. reading.GoesOn (view.connector between) (seen.tokens tokens.now) (seen.tokens rest.now))) }
+    ensures no { IfErr result (Refuses (λ r. reading.GoesOnOtherwise (view.connector between) (seen.tokens tokens.now) × Unexpected (seen.end end) (seen.tokens tokens.now) r)) }
+{
+    all.push(item)?;
+    next_item(between, tokens, end)
 }
 
 /// What follows the brace or parenthesis that opens here, and how deep things may stand in it.
@@ -324,13 +351,11 @@ impl<'b> Parser<'b> {
             × model.ItemsAt false (scope_of self.now.scope) (view.connector between) deepest (seen.tokens tokens.now) ps (seen.tokens r.1.now)) }
         ensures no { IfErr result (Refuses (stops.ItemsStop (seen.end self.now.end) (scope_of self.now.scope) (view.connector between) deepest (seen.tokens tokens.now))) }
     {
-        let mut all = Vec::new(self.arena);
-        all.push(first)?;
+        let mut all = begun(self.arena, first)?;
         let mut rest = tokens.split_at(0).1;
         loop {
             let (next, after) = self.particle(rest, deepest)?;
-            all.push(next)?;
-            let Some(behind) = next_item(between, after, self.end)? else {
+            let Some(behind) = put_item(&mut all, next, between, after, self.end)? else {
                 return Ok((into_bump_slice(all), after));
             };
             rest = behind;

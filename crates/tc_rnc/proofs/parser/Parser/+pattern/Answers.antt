@@ -73,14 +73,14 @@ particle-returns-clause-ok t c =
     subst (λ z. ItemAt false (scope_of c.args.self.now.scope) c.args.deepest (seen.tokens c.args.tokens.now) z (seen.tokens c.in-Some.after.now)) (sym c.in_ok-whole.ensures.ok)
     (l.suffixed_item (scope_of c.args.self.now.scope) (view.suffix c.in-Some.suffix) c.args.deepest (seen.tokens c.args.tokens.now) (seen.tokens c.in_ok-inner.rest.now) (seen.tokens c.in-Some.after.now) (seen.pattern c.in_ok-inner.inner) c.in_ok-inner.ensures.ok c.in-Some.ensures)
 
-pub particles-returns-in_err-push-clause-no : goal.particles-returns-in_err-push-clause-no
-particles-returns-in_err-push-clause-no t c =
-    unmade _ _ c.from_residual.ensures.1
+pub particles-returns-in_err-all-clause-no : goal.particles-returns-in_err-all-clause-no
+particles-returns-in_err-all-clause-no t c =
+    unmade_by _ _ _ c.from_residual.ensures.1 c.in_err-all.ensures.no
 
 pub particles-loop-all-init : goal.particles-loop-all-init
 particles-loop-all-init t c =
-    subst (λ z. l.ItemsSoFar (seen.end c.args.self.now.end) (scope_of c.args.self.now.scope) (view.connector c.args.between) c.args.deepest (seen.tokens c.args.tokens.now) (seen.tokens z) c.args.first c.push.new.self.items) (sym c.split_at.ensures.back)
-    (l.no_items_yet (seen.end c.args.self.now.end) (scope_of c.args.self.now.scope) (view.connector c.args.between) c.args.deepest (seen.tokens c.args.tokens.now) c.args.first c.push.new.self.items (c.in_ok-push.ensures.items ∙ ap (λ z. z ++ c.args.first ∷ []) c.new-all.ensures.items))
+    subst (λ z. l.ItemsSoFar (seen.end c.args.self.now.end) (scope_of c.args.self.now.scope) (view.connector c.args.between) c.args.deepest (seen.tokens c.args.tokens.now) (seen.tokens z) c.args.first c.in_ok-all.all.items) (sym c.split_at.ensures.back)
+    (l.no_items_yet (seen.end c.args.self.now.end) (scope_of c.args.self.now.scope) (view.connector c.args.between) c.args.deepest (seen.tokens c.args.tokens.now) c.args.first c.in_ok-all.all.items c.in_ok-all.ensures.ok)
 
 pub particles-returns-in_err-next-clause-no : goal.particles-returns-in_err-next-clause-no
 particles-returns-in_err-next-clause-no t c =
@@ -88,12 +88,12 @@ particles-returns-in_err-next-clause-no t c =
 
 pub particles-returns-in_err-behind-clause-no : goal.particles-returns-in_err-behind-clause-no
 particles-returns-in_err-behind-clause-no t c =
-    passed _ _ c.from_residual-in_err-behind.ensures.1 c.in_err-behind.ensures.stands (λ x y. c.loop-all.invariant.stops x (l.other_connector c.in_ok-next.ensures.ok c.in_err-behind.ensures.no y))
+    passed _ _ c.from_residual-in_err-behind.ensures.1 c.in_err-behind.ensures.no (λ x y. c.loop-all.invariant.stops x (l.other_connector c.in_ok-next.ensures.ok y.0 y.1))
 
 pub particles-returns-in_default-clause-ok : goal.particles-returns-in_default-clause-ok
 particles-returns-in_default-clause-ok t c =
     l.items_done (seen.end c.args.self.now.end) (scope_of c.args.self.now.scope) (view.connector c.args.between) c.args.deepest (seen.tokens c.args.tokens.now) (seen.tokens c.loop-all.rest.now) (seen.tokens c.in_ok-next.after.now) c.args.first c.in_ok-next.next c.loop-all.all.items c.into_bump_slice.result.now c.loop-all.invariant
-    c.in_ok-next.ensures.ok (at_none _ _ c.in_ok-behind.field-0 c.in_default.is c.in_ok-behind.ensures.ok) (c.into_bump_slice.ensures ∙ c.in_ok-push-2.ensures.items)
+    c.in_ok-next.ensures.ok (at_none _ _ c.in_ok-behind.field-0 c.in_default.is c.in_ok-behind.ensures.ok) (c.into_bump_slice.ensures ∙ c.in_ok-behind.ensures.items)
 
 pub particles-loop-all-smaller : goal.particles-loop-all-smaller
 particles-loop-all-smaller t c =
@@ -102,8 +102,8 @@ particles-loop-all-smaller t c =
 
 pub particles-loop-all-preserved : goal.particles-loop-all-preserved
 particles-loop-all-preserved t c =
-    l.more_items (seen.end c.args.self.now.end) (scope_of c.args.self.now.scope) (view.connector c.args.between) c.args.deepest (seen.tokens c.args.tokens.now) (seen.tokens c.loop-all.rest.now) (seen.tokens c.in_ok-next.after.now) (seen.tokens c.in-Some.behind.now) c.args.first c.in_ok-next.next c.loop-all.all.items c.push-in-loop-all.new.self.items
-    c.loop-all.invariant c.in_ok-next.ensures.ok (at_some _ _ c.in_ok-behind.field-0 c.in-Some.behind c.in-Some.is c.in_ok-behind.ensures.ok) c.in_ok-push-2.ensures.items
+    l.more_items (seen.end c.args.self.now.end) (scope_of c.args.self.now.scope) (view.connector c.args.between) c.args.deepest (seen.tokens c.args.tokens.now) (seen.tokens c.loop-all.rest.now) (seen.tokens c.in_ok-next.after.now) (seen.tokens c.in-Some.behind.now) c.args.first c.in_ok-next.next c.loop-all.all.items c.put_item.new.all.items
+    c.loop-all.invariant c.in_ok-next.ensures.ok (at_some _ _ c.in_ok-behind.field-0 c.in-Some.behind c.in-Some.is c.in_ok-behind.ensures.ok) c.in_ok-behind.ensures.items
 
 pub mixed-returns-in_err-content-2-clause-no : goal.mixed-returns-in_err-content-2-clause-no
 mixed-returns-in_err-content-2-clause-no t c =
@@ -190,10 +190,6 @@ primary-returns-in_ok-found-in-Reference-clause-ok t c =
 pub primary-returns-in-Other-clause-no : goal.primary-returns-in-Other-clause-no
 primary-returns-in-Other-clause-no t c =
     refuses_map c.no_pattern.ensures (λ x y. st.no_pattern y)
-
-pub particles-returns-in_err-push-2-clause-no : goal.particles-returns-in_err-push-2-clause-no
-particles-returns-in_err-push-2-clause-no t c =
-    unmade _ _ c.from_residual-in_err-push-2.ensures.1
 
 pub mixed-returns-in_err-content-clause-no : goal.mixed-returns-in_err-content-clause-no
 mixed-returns-in_err-content-clause-no t c =
