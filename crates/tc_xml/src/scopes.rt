@@ -32,13 +32,21 @@ impl<'b> Scope<'b> {
         ensures ok { IfOk result (λ s. in_scope s ≡ named names.entry) }
         ensures no { IfErr result (λ e. Breaks e ⊥) }
     {
+        let names: &'b Names<'b> = arena.try_alloc(names)?;
+        let bindings = Scope::bindings_of(arena, names)?;
+        Ok(Scope { bindings, names })
+    }
+
+    /// The bindings of names, in their order.
+    fn bindings_of(arena: &'b Bump, names: &Names<'b>) -> Result<&'b [Binding<'b>], Stop>
+        ensures ok { IfOk result (λ r. map bound r.now ≡ named names.now) }
+        ensures no { IfErr result (λ e. Breaks e ⊥) }
+    {
         let mut bindings = Vec::new(arena);
-        for (prefix, uri) in &names {
+        for (prefix, uri) in names {
             bindings.push(Binding { prefix, uri })?;
         }
-        let bindings = into_bump_slice(bindings);
-        let names = arena.try_alloc(names)?;
-        Ok(Scope { bindings, names })
+        Ok(into_bump_slice(bindings))
     }
 
     /// A copy of the names, to which more may be added.

@@ -246,7 +246,7 @@ fn are_written_once(arena: &Bump, attributes: &[Written<'_, '_>]) -> Result<bool
     for attribute in attributes {
         names.push((attribute.name.prefix, attribute.name.local))?;
     }
-    all_differ(arena, &names)
+    all_differ(arena, into_bump_slice(names))
 }
 
 /// Whether no two attributes have one expanded name (Namespaces, 6.3).
@@ -260,7 +260,7 @@ fn are_expanded_once(arena: &Bump, attributes: &[RawAttr<'_>]) -> Result<bool, S
     for attribute in attributes {
         names.push((attribute.name.uri, attribute.name.local))?;
     }
-    all_differ(arena, &names)
+    all_differ(arena, into_bump_slice(names))
 }
 
 /// What a start tag with this name and these attributes means, none of them `xml:space`, where `outer` is in

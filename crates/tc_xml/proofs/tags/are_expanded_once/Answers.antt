@@ -5,6 +5,6 @@ use Rattle.tc_xml.proofs.tags.are_expanded_once.Goals as goal
 
 pub returns-clause-ok : goal.returns-clause-ok
 returns-clause-ok c =
-    all_expanded_once c.all_differ.result c.deref.result.now _
-    (ap (map pair_expanded) c.deref.ensures.value ∙ (c.loop-attribute.invariant ∙ ap (λ w. map (λ a. a.name) (map attribute w)) (take_all c.loop-attribute.attribute-index c.args.attributes.now c.loop-attribute-test.false)))
+    all_expanded_once c.all_differ.result c.into_bump_slice.result.now _
+    (ap (map pair_expanded) c.into_bump_slice.ensures ∙ (c.loop-attribute.invariant ∙ ap (λ w. map (λ a. a.name) (map attribute w)) (take_all c.loop-attribute.attribute-index c.args.attributes.now c.loop-attribute-test.false)))
     c.all_differ.ensures.ok

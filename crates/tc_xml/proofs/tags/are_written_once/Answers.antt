@@ -5,6 +5,6 @@ use Rattle.tc_xml.proofs.tags.are_written_once.Goals as goal
 
 pub returns-clause-ok : goal.returns-clause-ok
 returns-clause-ok c =
-    all_written_once c.all_differ.result c.deref.result.now _
-    (ap (map pair_name) c.deref.ensures.value ∙ (c.loop-attribute.invariant ∙ ap (λ w. map (λ a. a.name) (map written w)) (take_all c.loop-attribute.attribute-index c.args.attributes.now c.loop-attribute-test.false)))
+    all_written_once c.all_differ.result c.into_bump_slice.result.now _
+    (ap (map pair_name) c.into_bump_slice.ensures ∙ (c.loop-attribute.invariant ∙ ap (λ w. map (λ a. a.name) (map written w)) (take_all c.loop-attribute.attribute-index c.args.attributes.now c.loop-attribute-test.false)))
     c.all_differ.ensures.ok
