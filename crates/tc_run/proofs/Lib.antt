@@ -23,3 +23,4 @@ pub mod Templates
 pub mod Hitting
 pub mod Ends
 pub mod FoundLow
+pub mod Asking

@@ -5,4 +5,6 @@ pub mod Tasks
 pub mod Spent
 pub mod Limits
 pub mod Known
+pub mod Named
+pub mod Predicates
 pub mod Lawful

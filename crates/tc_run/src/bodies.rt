@@ -1,7 +1,7 @@
 // What bodies put out (XSLT 1.0, 5 to 9).
 //
 // A node is known by its children with their letters and by the ancestor state at it. Each function puts out into `output`, and is given
-// how many bodies and instructions stand around what it does, and the rules with what they answered before.
+// how many bodies and instructions stand around what it does, and which rules were found so far.
 ghost use Rattle.std.specs.Prelude.{◌≡◌, ◌≤◌, ◌<◌, ℕ, List, length, cond, Contains, Option, option_map, IfSome, OnOk};
 ghost use Rattle.tc_model.specs.Chains as c;
 ghost use Rattle.tc_model.specs.Letters as letters;

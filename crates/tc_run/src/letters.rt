@@ -7,10 +7,13 @@ ghost use Rattle.tc_model.specs.Machine.{holds_in};
 ghost use Rattle.tc_model.specs.Views as see;
 ghost use Rattle.tc_model.specs.Trees as t;
 ghost use Rattle.tc_run.specs.Lettered as l;
+ghost use Rattle.tc_run.specs.Named.{AreNamed};
+ghost use Rattle.tc_run.specs.Predicates.{AreAllAsked};
 ghost use Rattle.tc_run.specs.Running.{IsRunner, IsLetteredBy, lettered_by, looking, predicates_by};
 ghost use Rattle.tc_run.specs.Views.{trees, before};
 
-use crate::looks::holds;
+use crate::known_names::KnownNames;
+use crate::predicates::{Asked, is_met};
 use crate::runner::Runner;
 use bumpalo::Bump;
 use bumpalo::collections::{into_bump_slice, into_bump_str};
@@ -84,13 +87,18 @@ fn before_end<'b>(text: &'b str, end: &str) -> &'b str
 pub(crate) fn with_letters<'b>(
     arena: &'b Bump,
     runner: &Runner<'_, '_>,
+    asked: &[Asked<'_>],
     nodes: &[Node<'b>],
     text: &'b str,
     on_texts: Marks,
+    names: &mut KnownNames<'b>,
 ) -> Result<Below<'b>, NoMemory>
     requires runner { IsRunner runner.now }
     requires text { (rest : List ℕ) × (text.now ≡ joined_texts (see.trees nodes.now) ++ rest) }
     requires on_texts { on_texts.0 ≡ marks_of (map (λ p. holds_in (looking runner.now) p t.none) (predicates_by runner.now)) }
+    requires names { AreNamed runner.now.alphabet.now names.old }
+    requires asked { AreAllAsked runner.now asked.now }
+    ensures names { AreNamed runner.now.alphabet.now names.new }
     ensures nodes { IfOk result (λ b. trees b.nodes.now ≡ lettered_by runner.now (see.trees nodes.now)) }
     ensures rest { IfOk result (λ b. text.now ≡ joined_texts (see.trees nodes.now) ++ b.rest.now) }
 {
@@ -103,10 +111,10 @@ pub(crate) fn with_letters<'b>(
                 found.push(Lettered::Text(*piece, on_texts))?;
             }
             Node::Elem(name, kids) => {
-                let below = with_letters(arena, runner, kids, rest, on_texts)?;
+                let below = with_letters(arena, runner, asked, kids, rest, on_texts, names)?;
                 let string = before_end(rest, below.rest);
                 rest = below.rest;
-                found.push(lettered_element(runner, name, string, below.nodes))?;
+                found.push(lettered_element(runner, asked, names, name, string, below.nodes))?;
             }
         }
     }
@@ -119,6 +127,8 @@ pub(crate) fn with_letters<'b>(
 /// An element with its letter.
 fn lettered_element<'b>(
     runner: &Runner<'_, '_>,
+    asked: &[Asked<'_>],
+    names: &mut KnownNames<'b>,
     name: &Name<'b>,
     string: &'b str,
     kids: &'b [Lettered<'b>],
@@ -126,27 +136,30 @@ fn lettered_element<'b>(
     requires runner { IsRunner runner.now }
     requires kids { IsLetteredBy runner.now (trees kids.now) }
     requires string { string.now ≡ joined_texts (l.bare (trees kids.now)) }
-    ensures { (rest : t.Trees) → before result (lettered_by runner.now rest) ≡ lettered_by runner.now (t.element (see.name name.now) (l.bare (trees kids.now)) rest) }
+    requires names { AreNamed runner.now.alphabet.now names.old }
+    requires asked { AreAllAsked runner.now asked.now }
+    ensures names { AreNamed runner.now.alphabet.now names.new }
+    ensures lettered { (rest : t.Trees) → before result (lettered_by runner.now rest) ≡ lettered_by runner.now (t.element (see.name name.now) (l.bare (trees kids.now)) rest) }
 {
     let letter = Letter {
-        sym: runner.alphabet.sym_of(name),
-        marks: marks(runner, kids),
+        sym: names.sym_of(runner.alphabet, name),
+        marks: marks(runner, asked, kids),
     };
     Lettered::Elem(*name, letter, string, kids)
 }
 
 /// Which predicates hold on a node of these children.
-pub(crate) fn marks(runner: &Runner<'_, '_>, kids: &[Lettered<'_>]) -> Marks
+pub(crate) fn marks(runner: &Runner<'_, '_>, asked: &[Asked<'_>], kids: &[Lettered<'_>]) -> Marks
     requires runner { IsRunner runner.now }
     requires kids { IsLetteredBy runner.now (trees kids.now) }
+    requires asked { AreAllAsked runner.now asked.now }
     ensures { result.0 ≡ marks_of (map (λ p. holds_in (looking runner.now) p (l.bare (trees kids.now))) (predicates_by runner.now)) }
 {
     let mut marks = 0;
-    let mut number = runner.rules.predicates();
+    let mut number = asked.len();
     while number > 0 {
         number -= 1;
-        let predicate = runner.rules.predicate(number);
-        marks = 2 * marks + u32::from(holds(runner, predicate, kids));
+        marks = 2 * marks + u32::from(is_met(runner, asked[number], kids));
     }
     Marks(marks)
 }

@@ -13,17 +13,21 @@ ghost use Rattle.tc_run.specs.Lawful.{HasLawfulResults};
 ghost use Rattle.tc_run.specs.Limits.{KeepsLimits, IsCause};
 
 mod bodies;
+mod known_names;
 mod known_rules;
 mod letters;
 mod looks;
 mod output;
+mod predicates;
 mod runner;
 
 use bodies::root;
 use bumpalo::Bump;
+use known_names::KnownNames;
 use known_rules::KnownRules;
 use letters::{marks, text_of, with_letters};
 use output::Output;
+use predicates::all_asked;
 use runner::Runner;
 use std::slice::from_ref;
 use tc_alpha::Alphabet;
@@ -78,8 +82,10 @@ pub fn run<'b>(
     let nodes = from_ref(doc);
     let text = text_of(arena, nodes)?;
     let runner = Runner { rules, alphabet };
-    let on_texts = marks(&runner, &[]);
-    let document = with_letters(arena, &runner, nodes, text, on_texts)?;
+    let asked = all_asked(arena, &runner)?;
+    let on_texts = marks(&runner, asked, &[]);
+    let mut names = KnownNames::new(arena)?;
+    let document = with_letters(arena, &runner, asked, nodes, text, on_texts, &mut names)?;
     let mut known = KnownRules::new(arena)?;
     let mut output = Output::new(arena);
     root(&runner, document.nodes, text, &mut output, &mut known)?;

@@ -70,3 +70,14 @@ returns-in_err-known-clause-cause c =
 
 pub root-requires-clause-known : goal.root-requires-clause-known
 root-requires-clause-known c = c.in_ok-known.ensures c.args.rules.now
+
+pub returns-in_err-names-clause-cause : goal.returns-in_err-names-clause-cause
+returns-in_err-names-clause-cause c =
+    refused c.args.alphabet.now c.args.rules.now c.requires.rules (see.before c.args.doc.now none) c.from_residual-in_err-names.result c.from_residual-in_err-names.ensures.1
+
+pub with_letters-requires-clause-names : goal.with_letters-requires-clause-names
+with_letters-requires-clause-names c = c.in_ok-names.ensures c.args.alphabet.now
+
+pub returns-in_err-asked-clause-cause : goal.returns-in_err-asked-clause-cause
+returns-in_err-asked-clause-cause c =
+    refused c.args.alphabet.now c.args.rules.now c.requires.rules (see.before c.args.doc.now none) c.from_residual-in_err-asked.result c.from_residual-in_err-asked.ensures.1

@@ -3,6 +3,7 @@ use Rattle.std.proofs.lemmas.List.{drop_all}
 use Rattle.tc_model.specs.Chains.{joined_texts}
 use Rattle.tc_model.specs.Views as see
 use Rattle.tc_model.specs.declared.tree.Node.TheViews.{the_lemmas}
+use Rattle.tc_run.specs.Named.{AreNamed}
 use Rattle.tc_run.specs.Running.{lettered_by}
 use Rattle.tc_run.specs.Views.{trees}
 use Rattle.tc_run.specs.declared.letters.Lettered.TheVariants.{Text}
@@ -21,7 +22,7 @@ with_letters-requires t c =
     let rest = joined_texts (see.trees (drop (i + 1) ns)) in
     let cut = c.loop-node.invariant.cut in
     let first = has_front c.loop-node.rest.now (joined_texts (see.trees x.kids.now)) all rest cut.0 cut.1 (elem_joined ns i c.node-item.result x.name x.kids c.loop-node-test.true c.node-item.is x.is) in
-    (search (rules, the_lemmas), (c.requires.1.1.0, ((rest ++ cut.0, first), c.requires.1.1.1.1)))
+    (search (rules, the_lemmas), (c.requires.1.1.0, ((rest ++ cut.0, first), (c.requires.1.1.1.1.0, (c.loop-node.invariant.names, c.requires.1.1.1.1.1.1)))))
 
 pub lettered_element-requires-clause-kids : goal.lettered_element-requires-clause-kids
 lettered_element-requires-clause-kids t c =
@@ -51,10 +52,11 @@ loop-node-preserved t c =
             lettered =
                 ap (λ xs. joined (trees xs) (lettered_by r rest)) (ap (λ v. v.items) w.found-is ∙ w.in_ok-push-in-Text.ensures.items)
                 ∙ found_further r c.loop-node.found.items (Text w.in-Text.piece c.args.on_texts) h rest _
-                (text_found r ns i x w.in-Text.piece here c.node-item.is is (Text w.in-Text.piece c.args.on_texts) (λ more. text_lettered r c.requires.1.1.0 w.in-Text.piece c.args.on_texts more c.requires.1.1.1.1))
+                (text_found r ns i x w.in-Text.piece here c.node-item.is is (Text w.in-Text.piece c.args.on_texts) (λ more. text_lettered r c.requires.1.1.0 w.in-Text.piece c.args.on_texts more c.requires.1.1.1.1.0))
                 c.loop-node.invariant.lettered;
             cut = (cut.0, now ∙ cut_front c.loop-node.rest.now w.after-rest.result.now w.in-Text.piece.now (joined_texts h) (joined_texts rest) cut.0 cut.1 (text_joined ns i x w.in-Text.piece here c.node-item.is is) w.after-rest.ensures, cut.2);
             text = subst IsUtf8 (sym now) w.after-rest.utf8;
+            names = subst (AreNamed r.alphabet.now) (sym w.names-is) c.loop-node.invariant.names;
           }
       | in-Elem+in_ok-below-in-Elem+in_ok-push-in-Elem w ↦
           let below = w.in_ok-below-in-Elem.below in
@@ -66,10 +68,11 @@ loop-node-preserved t c =
             lettered =
                 ap (λ xs. joined (trees xs) (lettered_by r rest)) (ap (λ v. v.items) w.found-is ∙ w.in_ok-push-in-Elem.ensures.items)
                 ∙ found_further r c.loop-node.found.items w.lettered_element.result h rest _
-                (elem_found r ns i x n kids here c.node-item.is is w.lettered_element.result (trees below.nodes.now) (document_bare r (trees below.nodes.now) (see.trees kids.now) w.in_ok-below-in-Elem.ensures.nodes) w.lettered_element.ensures)
+                (elem_found r ns i x n kids here c.node-item.is is w.lettered_element.result (trees below.nodes.now) (document_bare r (trees below.nodes.now) (see.trees kids.now) w.in_ok-below-in-Elem.ensures.nodes) w.lettered_element.ensures.lettered)
                 c.loop-node.invariant.lettered;
             cut = (cut.0, now ∙ cut_front c.loop-node.rest.now below.rest.now (joined_texts (see.trees kids.now)) (joined_texts h) (joined_texts rest) cut.0 cut.1 (elem_joined ns i x n kids here c.node-item.is is) w.in_ok-below-in-Elem.ensures.rest, cut.2);
             text = subst IsUtf8 (sym now) (text_after c.loop-node.rest.now w.before_end-string.result.now below.rest.now c.loop-node.invariant.text w.before_end-string.utf8 w.before_end-string.ensures);
+            names = subst (AreNamed r.alphabet.now) (sym w.names-is) w.lettered_element.ensures.names;
           }
     ]
 

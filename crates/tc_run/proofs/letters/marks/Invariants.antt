@@ -8,7 +8,7 @@ use Rattle.tc_run.proofs.letters.marks.Given as goal
 
 abbrev pub invariant-loop-number : goal.invariant-loop-number
 invariant-loop-number l =
-    (l.number ≤ length (predicates_by l.runner))
+    (l.number ≤ length l.asked)
     × (l.marks ≡ marks_of (map (λ p. holds_in (looking l.runner) p (bare (trees l.kids))) (drop l.number (predicates_by l.runner))))
 
 abbrev pub decreases-loop-number : goal.decreases-loop-number
