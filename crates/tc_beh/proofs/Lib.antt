@@ -45,3 +45,8 @@ pub mod Lining
 pub mod Passing
 pub mod Nowhere
 pub mod Remembering
+pub mod TestSteps
+pub mod TestsUsed
+pub mod KeyLists
+pub mod AlikeLaws
+pub mod FirstAlike

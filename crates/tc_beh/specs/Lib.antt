@@ -23,3 +23,4 @@ pub mod Entries
 pub mod Listing
 pub mod Lines
 pub mod Remembered
+pub mod AlikeSymbols

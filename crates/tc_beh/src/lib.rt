@@ -6,6 +6,7 @@
 #![tactic(auto)]
 
 mod above;
+mod alike;
 mod append;
 mod bodies;
 mod calls;
@@ -19,6 +20,7 @@ mod looks;
 mod looks_above;
 mod machine;
 mod named;
+mod node_tests;
 mod outputs;
 mod patterns;
 mod rooms;
@@ -28,6 +30,7 @@ mod sets;
 mod templates;
 mod wrapping;
 
+pub use alike::{Alike, law_of_alike};
 pub use laws::{law_of_lines, law_of_rooms};
 pub use machine::{Machine, MachineFault, Shape};
 pub use outputs::RowFault;

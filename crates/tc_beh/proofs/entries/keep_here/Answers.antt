@@ -1,7 +1,6 @@
 use Rattle.std.proofs.Common.{◌<◌, ◌+◌, ◌*◌, length, sym, ◌∙◌, subst}
 use Rattle.tc_rows.specs.Triples.{moves}
 use Rattle.tc_beh.specs.Entries.{IsEntryAt}
-use Rattle.tc_beh.specs.Held.{set_at}
 use Rattle.tc_beh.specs.Places.{entries_by}
 use Rattle.tc_beh.proofs.Holding.{extends_kept, set_kept, grows_kept}
 use Rattle.tc_beh.proofs.Passing.{if_ok_map}

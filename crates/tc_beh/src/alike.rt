@@ -1,0 +1,179 @@
+// Symbols that nothing tells apart.
+ghost use Rattle.std.specs.Prelude.{◌≡◌, ◌<◌, ◌≤◌, ◌++◌, ℕ, List, Bool, IfOk, OnOk, length, map, slice_get, Some};
+ghost use Rattle.tc_hedge.specs.Stands as h;
+ghost use Rattle.tc_model.specs.Chains.{an_element};
+ghost use Rattle.tc_model.specs.Grammars.{Grammar};
+ghost use Rattle.tc_model.specs.Names as n;
+ghost use Rattle.tc_model.specs.Paths.{passes as passes_test};
+ghost use Rattle.tc_model.specs.States as s;
+ghost use Rattle.tc_model.specs.Symbols.{Mention, fresh_name, node_tests, symbol_count, symbol_of};
+ghost use Rattle.tc_model.specs.Trees.{none};
+ghost use Rattle.tc_model.specs.Views as see;
+ghost use Rattle.tc_rows.specs.Triples.{Triple, sheet};
+ghost use Rattle.tc_beh.specs.AlikeSymbols.{AlikeWrapAlike, AreKeys, AreSchemas, IsFirstPlace, classes_holding, key, seen, tests_passed};
+
+use crate::machine::Machine;
+use crate::node_tests::node_tests_of;
+use bumpalo::Bump;
+use std::alloc::Global;
+use tc_alpha::{Alphabet, Sym};
+use tc_base::NoMemory;
+use tc_hedge::Hedge;
+use tc_model::{Name, NodeTest};
+
+/// The law of symbols alike: where no class of the schemas and no node test of the stylesheet tells two symbols apart, no step of
+/// its paths does, and elements of them around the same trees are live together, and have the same rows.
+pub fn law_of_alike()
+    ensures { AlikeWrapAlike }
+{}
+
+/// Whether an element of a name passes a node test (XPath 1.0, 2.3).
+fn passes(test: &NodeTest<'_>, name: &Name<'_>) -> bool
+    ensures { result ≡ passes_test (see.node_test test.now) (an_element (see.name name.now) none) }
+{
+    match test {
+        NodeTest::Name(named) => named.uri == name.uri && named.local == name.local,
+        NodeTest::Ns(uri) => *uri == name.uri,
+        NodeTest::Any | NodeTest::Node => true,
+        NodeTest::Text => false,
+    }
+}
+
+/// Adds whether the class of each element pattern holds a symbol.
+fn add_classes(key: &mut Vec<bool>, schema: &Hedge<'_>, symbol: Sym) -> Result<(), NoMemory>
+    requires { symbol.0 < schema.now.symbols }
+    ensures { OnOk result ((side : s.Side) (g : Grammar) (symbols : List Mention) → h.Stands side g symbols schema.now → (name : n.ExpandedName) → symbol_of symbols name ≡ symbol.0 → key.new.items ≡ key.old.items ++ classes_holding g name) }
+{
+    for before in 0..schema.auto().patterns() {
+        let is_held = schema.allows(before + 1, symbol);
+        key.push(is_held)?;
+    }
+    Ok(())
+}
+
+/// Adds whether an element of a name passes each node test.
+fn add_passes(key: &mut Vec<bool>, tests: &[NodeTest<'_>], name: &Name<'_>) -> Result<(), NoMemory>
+    ensures { OnOk result (key.new.items ≡ key.old.items ++ tests_passed (seen tests.now) (see.name name.now)) }
+{
+    for test in tests {
+        let is_passed = passes(test, name);
+        key.push(is_passed)?;
+    }
+    Ok(())
+}
+
+/// What tells a symbol from others, a name that stands for it being given.
+fn key_of(
+    alloc: Global,
+    input: &Hedge<'_>,
+    output: &Hedge<'_>,
+    tests: &[NodeTest<'_>],
+    name: &Name<'_>,
+    symbol: Sym,
+) -> Result<Vec<bool>, NoMemory>
+    requires input { symbol.0 < input.now.symbols }
+    requires output { symbol.0 < output.now.symbols }
+    ensures { IfOk result (λ k. (x : Triple) → AreSchemas x input.now output.now → see.name name.now ≡ fresh_name x.symbols symbol.0 → symbol_of x.symbols (see.name name.now) ≡ symbol.0
+        → seen tests.now ≡ node_tests (sheet x) → k.items ≡ key x symbol.0) }
+{
+    let mut key = Vec::new(alloc);
+    add_classes(&mut key, input, symbol)?;
+    add_classes(&mut key, output, symbol)?;
+    add_passes(&mut key, tests, name)?;
+    Ok(key)
+}
+
+/// What tells each symbol from others.
+fn keys_of(
+    alloc: Global,
+    input: &Hedge<'_>,
+    output: &Hedge<'_>,
+    tests: &[NodeTest<'_>],
+    alphabet: &Alphabet,
+) -> Result<Vec<Vec<bool>>, NoMemory>
+    requires input { input.now.symbols ≡ symbol_count alphabet.now }
+    requires output { output.now.symbols ≡ symbol_count alphabet.now }
+    ensures count { IfOk result (λ v. length v.items ≡ symbol_count alphabet.now) }
+    ensures few { IfOk result (λ v. length v.items ≤ 1024) }
+    ensures keys { IfOk result (λ v. (x : Triple) → AreSchemas x input.now output.now → alphabet.now ≡ x.symbols → seen tests.now ≡ node_tests (sheet x) → AreKeys x (map (λ k. k.items) v.items)) }
+{
+    let arena = Bump::new(alloc);
+    let mut keys = Vec::new(alloc);
+    for number in 0..alphabet.count() {
+        let symbol = Sym(number);
+        let name = alphabet.fresh(&arena, symbol)?;
+        let key = key_of(alloc, input, output, tests, &name, symbol)?;
+        keys.push(key)?;
+    }
+    Ok(keys)
+}
+
+/// The first place at which a key stands.
+fn first_same(keys: &[Vec<bool>], place: u32) -> u32
+    requires { place < length keys.now }
+    ensures { IsFirstPlace (map (λ k. k.items) keys.now) place result }
+{
+    for before in 0..place {
+        if keys[before as usize] == keys[place as usize] {
+            return before;
+        }
+    }
+    place
+}
+
+/// The first place of each key.
+fn firsts_of(alloc: Global, keys: &[Vec<bool>]) -> Result<Vec<u32>, NoMemory>
+    requires { length keys.now ≤ 1024 }
+    ensures count { IfOk result (λ v. length v.items ≡ length keys.now) }
+    ensures firsts { IfOk result (λ v. (a first : ℕ) → slice_get v.items a ≡ Some first → IsFirstPlace (map (λ k. k.items) keys.now) a first) }
+{
+    let mut firsts = Vec::new(alloc);
+    for place in 0..keys.len() as u32 {
+        let first = first_same(keys, place);
+        firsts.push(first)?;
+    }
+    Ok(firsts)
+}
+
+/// Of each symbol of a machine the first that nothing tells from it.
+#[derive(Drop)]
+pub struct Alike {
+    firsts: Vec<u32>,
+}
+
+impl Alike {
+    ghost use Rattle.std.specs.Prelude.{◌≡◌, ◌<◌, IfOk, length};
+    ghost use Rattle.tc_rows.specs.Triples.{Triple};
+    ghost use Rattle.tc_beh.specs.AlikeSymbols.{AreFirstAlike, IsFirstAlike};
+    ghost use Rattle.tc_beh.specs.Machines.{IsMachine, IsMachineOf};
+
+    /// Finds out which symbols of a machine are alike: the same classes of both schemas hold them, and they pass the same node
+    /// tests of the stylesheet.
+    ///
+    /// # Errors
+    ///
+    /// There is no memory.
+    pub fn of(alloc: Global, machine: &Machine<'_>) -> Result<Alike, NoMemory>
+        requires { IsMachine machine.now }
+        ensures { IfOk result (λ r. (x : Triple) → IsMachineOf x machine.now → AreFirstAlike x r.firsts.items) }
+    {
+        let tests = node_tests_of(alloc, machine.rules.sheet())?;
+        let keys = keys_of(
+            alloc,
+            &machine.input,
+            &machine.output,
+            &tests,
+            &machine.alphabet,
+        )?;
+        let firsts = firsts_of(alloc, &keys)?;
+        Ok(Alike { firsts })
+    }
+
+    /// The first symbol that is alike. Elements of both around the same trees have the same rows.
+    pub fn first(&self, symbol: u32) -> u32
+        requires { symbol < length self.now.firsts.items }
+        ensures { (x : Triple) → AreFirstAlike x self.now.firsts.items → IsFirstAlike x symbol result }
+    {
+        self.firsts[symbol as usize]
+    }
+}
