@@ -12,12 +12,12 @@ use Rattle.tc_model.specs.Symbols.{Mention, fresh_name, node_tests, in_steps}
 use Rattle.tc_model.specs.Letters.{of_symbol, is_marked}
 use Rattle.tc_model.specs.Numberings.{Move, moves_of, looks_of}
 use Rattle.tc_model.specs.StateCounts.{PathUse, blocks_of}
-use Rattle.tc_alpha.proofs.Members.{Has, Every, every_member, every_from_all, all_from_every, every_from_members, has_either, has_from_contains}
+use Rattle.tc_alpha.proofs.Members.{Has, Every, every_member, every_from_all, all_from_every, every_from_members, has_either, has_from_contains, contains_from_has}
 use Rattle.tc_rules.specs.Graphs.{steps_fit, path_fits}
 use Rattle.tc_rows.specs.Alike as r
 use Rattle.tc_rows.specs.Triples.{Triple, sheet, predicates}
 use Rattle.tc_rows.proofs.Alike.{alike_wrap_alike}
-use Rattle.tc_beh.specs.AlikeSymbols.{AreAlike, AlikeWrapAlike, itself, no_test_of, classes_holding, tests_passed, key}
+use Rattle.tc_beh.specs.AlikeSymbols.{AreAlike, AlikeWrapAlike, AreAsked, Asks, itself, no_test_of, classes_holding, tests_passed, key}
 use Rattle.tc_beh.proofs.TestsUsed.{OfPath, OfMove, of_step, of_alternative, patterns_used, moves_used, looks_used}
 use Rattle.tc_beh.proofs.KeyLists.{map_same, same_map, two_same}
 
@@ -118,25 +118,43 @@ alike_alike x a b alike =
     let of = by_steps x b a (alike_back x a b alike) in
     (to, λ h. (λ u. ((alike_wrap_alike x a b to h).0 u, (alike_wrap_alike x b a of h).0 u), ((alike_wrap_alike x a b to h).1, (alike_wrap_alike x b a of h).1)))
 
+-- node tests that ask tell as much apart as all
+module _ (n m : ExpandedName) (tests asked : List NodeTest) (are : AreAsked tests asked) where
+  asked_same : Every (Same n m) tests → Every (Same n m) asked
+  asked_same all = every_from_members (Same n m) asked (λ t h. every_member (Same n m) tests t all (has_from_contains tests t (are.each t (contains_from_has asked t h))))
+
+  tests_same : Every (Same n m) asked → Every (Same n m) tests
+  tests_same all = every_from_members (Same n m) tests by
+    where
+      asks : (t : NodeTest) → Asks t → Has tests t → Same n m t
+      asks t a h = every_member (Same n m) asked t all (has_from_contains asked t (are.all t a (contains_from_has tests t h)))
+
+      by : (t : NodeTest) → Has tests t → Same n m t
+      by (s.of_name k) h = asks (s.of_name k) tt h
+      by (s.of_namespace u) h = asks (s.of_namespace u) tt h
+      by s.any_element h = refl
+      by s.any_text h = refl
+      by s.any_node h = refl
+
 -- symbols are alike exactly where their keys are equal
-pub key_of_alike : (x : Triple) (a b : ℕ) → AreAlike x a b → key x a ≡ key x b
-key_of_alike x a b alike =
+pub key_of_alike : (x : Triple) (ts : List NodeTest) (a b : ℕ) → AreAsked (node_tests (sheet x)) ts → AreAlike x a b → key x ts a ≡ key x ts b
+key_of_alike x ts a b are alike =
     let n = fresh_name x.symbols a in
     let m = fresh_name x.symbols b in
     let first = map_same (λ (e : ElementPattern). in_class e.names n) (λ (e : ElementPattern). in_class e.names m) x.input.elements (every_from_all (λ (e : ElementPattern). in_class e.names n ≡ in_class e.names m) x.input.elements alike.in_input) in
     let second = map_same (λ (e : ElementPattern). in_class e.names n) (λ (e : ElementPattern). in_class e.names m) x.output.elements (every_from_all (λ (e : ElementPattern). in_class e.names n ≡ in_class e.names m) x.output.elements alike.in_output) in
-    let third = map_same (λ t. passes t (an_element n none)) (λ t. passes t (an_element m none)) (node_tests (sheet x)) (all_tests x a b alike) in
+    let third = map_same (λ t. passes t (an_element n none)) (λ t. passes t (an_element m none)) ts (asked_same n m (node_tests (sheet x)) ts are (all_tests x a b alike)) in
     λ i. first i ++ (second i ++ third i)
 
-pub alike_of_key : (x : Triple) (a b : ℕ) → key x a ≡ key x b → AreAlike x a b
-alike_of_key x a b e =
+pub alike_of_key : (x : Triple) (ts : List NodeTest) (a b : ℕ) → AreAsked (node_tests (sheet x)) ts → key x ts a ≡ key x ts b → AreAlike x a b
+alike_of_key x ts a b are e =
     let n = fresh_name x.symbols a in
     let m = fresh_name x.symbols b in
     let f = λ (e : ElementPattern). in_class e.names n in
     let g = λ (e : ElementPattern). in_class e.names m in
-    let (first, rest) = two_same f g x.input.elements (classes_holding x.output n ++ tests_passed (node_tests (sheet x)) n) (classes_holding x.output m ++ tests_passed (node_tests (sheet x)) m) e in
-    let (second, third) = two_same f g x.output.elements (tests_passed (node_tests (sheet x)) n) (tests_passed (node_tests (sheet x)) m) rest in
-    let passed = same_map (λ t. passes t (an_element n none)) (λ t. passes t (an_element m none)) (node_tests (sheet x)) third in
+    let (first, rest) = two_same f g x.input.elements (classes_holding x.output n ++ tests_passed ts n) (classes_holding x.output m ++ tests_passed ts m) e in
+    let (second, third) = two_same f g x.output.elements (tests_passed ts n) (tests_passed ts m) rest in
+    let passed = tests_same n m (node_tests (sheet x)) ts are (same_map (λ t. passes t (an_element n none)) (λ t. passes t (an_element m none)) ts third) in
     record {
       in_input = all_from_every (λ (e : ElementPattern). in_class e.names n ≡ in_class e.names m) x.input.elements (same_map f g x.input.elements first);
       in_output = all_from_every (λ (e : ElementPattern). in_class e.names n ≡ in_class e.names m) x.output.elements (same_map f g x.output.elements second);

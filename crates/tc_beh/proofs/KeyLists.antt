@@ -1,9 +1,8 @@
 -- Lists of truth values, and places at which they stand.
-use Rattle.std.proofs.Common.{◌≡◌, ◌<◌, append_assoc, ℕ, zero, suc, List, [], ◌∷◌, ◌++◌, Bool, true, false, ◌&&◌, refl, ap, sym, subst, ◌∙◌, ◌⊎◌, inl, inr, map, length, Some, slice_get, get_or, arith}
+use Rattle.std.proofs.Common.{◌≡◌, append_assoc, ℕ, zero, suc, List, [], ◌∷◌, ◌++◌, Bool, true, false, ◌&&◌, refl, ap, sym, ◌∙◌, ◌⊎◌, inl, inr, map, length, Some, slice_get}
 use Rattle.std.proofs.lemmas.Bool.{true≢false}
 use Rattle.std.proofs.lemmas.Option.{same_Some}
 use Rattle.std.specs.Bool.{beq}
-use Rattle.std.specs.Global.{Vec}
 use Rattle.std.specs.Cmp.Lexicographic.{pointwise}
 use Rattle.tc_alpha.proofs.Members.{Every}
 
@@ -38,11 +37,6 @@ pub bits_itself : (xs : List Bool) → pointwise beq xs xs ≡ true
 bits_itself [] = refl
 bits_itself (x ∷ xs) = ap (λ b. b && pointwise beq xs xs) (beq_itself x) ∙ bits_itself xs
 
-pub items_at : (ks : List (Vec Bool)) (i : ℕ) (k : Vec Bool) → i < length ks → k ≡ get_or ks i k → slice_get (map (λ k. k.items) ks) i ≡ Some k.items
-items_at [] i k l e = absurd (omega (arith, l))
-items_at (j ∷ ks) zero k l e = ap (λ (w : Vec Bool). Some w.items) (sym e)
-items_at (j ∷ ks) (suc i) k l e = items_at ks i k (omega (arith, l)) e
-
 pub pushed_at : {X : Type 0} (xs : List X) (x : X) (i : ℕ) (y : X) → slice_get (xs ++ x ∷ []) i ≡ Some y → (slice_get xs i ≡ Some y) ⊎ ((i ≡ length xs) × (x ≡ y))
 pushed_at [] x zero y e = inr (refl, same_Some x y e)
 pushed_at [] x (suc i) y e = absurd (cc)
@@ -73,16 +67,6 @@ two_same f g (x ∷ xs) us vs e =
   where
     parts : {a b : Bool} {us vs : List Bool} → a ∷ us ≡ b ∷ vs → (a ≡ b) × (us ≡ vs)
     parts e = (cc, cc)
-
--- what is found equal stands at both places, and what isn't doesn't
-module _ (ks : List (Vec Bool)) (b p : ℕ) (x y : Vec Bool) (low : b < length ks) (high : p < length ks) (first : x ≡ get_or ks b x) (second : y ≡ get_or ks p y) where
-  pub agrees : pointwise beq x.items y.items ≡ true → slice_get (map (λ k. k.items) ks) b ≡ slice_get (map (λ k. k.items) ks) p
-  agrees same = items_at ks b x low first ∙ (ap Some (bits_exact x.items y.items same) ∙ sym (items_at ks p y high second))
-
-  pub differs : pointwise beq x.items y.items ≡ false → ¬ (slice_get (map (λ k. k.items) ks) b ≡ slice_get (map (λ k. k.items) ks) p)
-  differs other same =
-      let one : x.items ≡ y.items = same_Some x.items y.items (sym (items_at ks b x low first) ∙ (same ∙ items_at ks p y high second)) in
-      true≢false (sym (subst (λ w. pointwise beq x.items w ≡ true) one (bits_itself x.items)) ∙ other)
 
 -- three parts, one after the other
 pub three_put : (none xs ys zs a b c : List Bool) → none ≡ [] → a ≡ none ++ xs → b ≡ a ++ ys → c ≡ b ++ zs → c ≡ xs ++ (ys ++ zs)

@@ -47,6 +47,7 @@ pub mod Nowhere
 pub mod Remembering
 pub mod TestSteps
 pub mod TestsUsed
+pub mod AskedTests
 pub mod KeyLists
 pub mod AlikeLaws
 pub mod FirstAlike

@@ -1,25 +1,26 @@
 // Symbols that nothing tells apart.
-ghost use Rattle.std.specs.Prelude.{◌≡◌, ◌<◌, ◌≤◌, ◌++◌, ℕ, List, Bool, IfOk, OnOk, length, map, slice_get, Some};
+ghost use Rattle.std.specs.Prelude.{◌≡◌, ◌<◌, ◌++◌, ◌+◌, ℕ, List, Bool, IfOk, OnOk, length, slice_get, Some};
 ghost use Rattle.tc_hedge.specs.Stands as h;
 ghost use Rattle.tc_model.specs.Chains.{an_element};
 ghost use Rattle.tc_model.specs.Grammars.{Grammar};
 ghost use Rattle.tc_model.specs.Names as n;
 ghost use Rattle.tc_model.specs.Paths.{passes as passes_test};
 ghost use Rattle.tc_model.specs.States as s;
-ghost use Rattle.tc_model.specs.Symbols.{Mention, fresh_name, node_tests, symbol_count, symbol_of};
+ghost use Rattle.tc_model.specs.Symbols.{Mention, fresh_name, symbol_count, symbol_of};
 ghost use Rattle.tc_model.specs.Trees.{none};
 ghost use Rattle.tc_model.specs.Views as see;
-ghost use Rattle.tc_rows.specs.Triples.{Triple, sheet};
-ghost use Rattle.tc_beh.specs.AlikeSymbols.{AlikeWrapAlike, AreKeys, AreSchemas, IsFirstPlace, classes_holding, key, seen, tests_passed};
+ghost use Rattle.tc_rows.specs.Triples.{Triple};
+ghost use Rattle.tc_beh.specs.AlikeSymbols.{AlikeWrapAlike, AreFirstsKnown, AreSchemas, IsFirst, asked_test, asked_tests, classes_holding, key, tests_passed};
 
 use crate::machine::Machine;
-use crate::node_tests::node_tests_of;
+use crate::node_tests::{Asked, asked_of};
 use bumpalo::Bump;
+use indexmap::IndexMap;
 use std::alloc::Global;
 use tc_alpha::{Alphabet, Sym};
 use tc_base::NoMemory;
 use tc_hedge::Hedge;
-use tc_model::{Name, NodeTest};
+use tc_model::Name;
 
 /// The law of symbols alike: where no class of the schemas and no node test of the stylesheet tells two symbols apart, no step of
 /// its paths does, and elements of them around the same trees are live together, and have the same rows.
@@ -27,15 +28,13 @@ pub fn law_of_alike()
     ensures { AlikeWrapAlike }
 {}
 
-/// Whether an element of a name passes a node test (XPath 1.0, 2.3).
-fn passes(test: &NodeTest<'_>, name: &Name<'_>) -> bool
-    ensures { result ≡ passes_test (see.node_test test.now) (an_element (see.name name.now) none) }
+/// Whether an element of a name passes the node tests that ask something (XPath 1.0, 2.3).
+fn passes(asked: &Asked<'_>, name: &Name<'_>) -> bool
+    ensures { result ≡ passes_test (asked_test asked.now) (an_element (see.name name.now) none) }
 {
-    match test {
-        NodeTest::Name(named) => named.uri == name.uri && named.local == name.local,
-        NodeTest::Ns(uri) => *uri == name.uri,
-        NodeTest::Any | NodeTest::Node => true,
-        NodeTest::Text => false,
+    match asked {
+        Asked::Name(named) => named.uri == name.uri && named.local == name.local,
+        Asked::Namespace(uri) => *uri == name.uri,
     }
 }
 
@@ -51,12 +50,12 @@ fn add_classes(key: &mut Vec<bool>, schema: &Hedge<'_>, symbol: Sym) -> Result<(
     Ok(())
 }
 
-/// Adds whether an element of a name passes each node test.
-fn add_passes(key: &mut Vec<bool>, tests: &[NodeTest<'_>], name: &Name<'_>) -> Result<(), NoMemory>
-    ensures { OnOk result (key.new.items ≡ key.old.items ++ tests_passed (seen tests.now) (see.name name.now)) }
+/// Adds whether an element of a name passes the node tests that ask each of these.
+fn add_passes(key: &mut Vec<bool>, asked: &[Asked<'_>], name: &Name<'_>) -> Result<(), NoMemory>
+    ensures { OnOk result (key.new.items ≡ key.old.items ++ tests_passed (asked_tests asked.now) (see.name name.now)) }
 {
-    for test in tests {
-        let is_passed = passes(test, name);
+    for one in asked {
+        let is_passed = passes(one, name);
         key.push(is_passed)?;
     }
     Ok(())
@@ -67,69 +66,60 @@ fn key_of(
     alloc: Global,
     input: &Hedge<'_>,
     output: &Hedge<'_>,
-    tests: &[NodeTest<'_>],
+    asked: &[Asked<'_>],
     name: &Name<'_>,
     symbol: Sym,
 ) -> Result<Vec<bool>, NoMemory>
     requires input { symbol.0 < input.now.symbols }
     requires output { symbol.0 < output.now.symbols }
     ensures { IfOk result (λ k. (x : Triple) → AreSchemas x input.now output.now → see.name name.now ≡ fresh_name x.symbols symbol.0 → symbol_of x.symbols (see.name name.now) ≡ symbol.0
-        → seen tests.now ≡ node_tests (sheet x) → k.items ≡ key x symbol.0) }
+        → k.items ≡ key x (asked_tests asked.now) symbol.0) }
 {
     let mut key = Vec::new(alloc);
     add_classes(&mut key, input, symbol)?;
     add_classes(&mut key, output, symbol)?;
-    add_passes(&mut key, tests, name)?;
+    add_passes(&mut key, asked, name)?;
     Ok(key)
 }
 
-/// What tells each symbol from others.
-fn keys_of(
+/// The first symbol that has the key of one: that symbol itself, unless the key is known.
+fn first_of(
+    known: &mut IndexMap<Vec<bool>, u32>,
+    bits: Vec<bool>,
+    symbol: u32,
+) -> Result<u32, NoMemory>
+    ensures { IfOk result (λ r. (key_at : ℕ → List Bool) → AreFirstsKnown key_at known.old symbol → key_at symbol ≡ bits.items
+        → AreFirstsKnown key_at known.new (symbol + 1) × IsFirst key_at symbol r) }
+{
+    if let Some(first) = known.get(&bits).copied() {
+        return Ok(first);
+    }
+    known.insert(bits, symbol)?;
+    Ok(symbol)
+}
+
+/// Of each symbol the first that has its key.
+fn firsts_of(
     alloc: Global,
     input: &Hedge<'_>,
     output: &Hedge<'_>,
-    tests: &[NodeTest<'_>],
+    asked: &[Asked<'_>],
     alphabet: &Alphabet,
-) -> Result<Vec<Vec<bool>>, NoMemory>
+) -> Result<Vec<u32>, NoMemory>
     requires input { input.now.symbols ≡ symbol_count alphabet.now }
     requires output { output.now.symbols ≡ symbol_count alphabet.now }
     ensures count { IfOk result (λ v. length v.items ≡ symbol_count alphabet.now) }
-    ensures few { IfOk result (λ v. length v.items ≤ 1024) }
-    ensures keys { IfOk result (λ v. (x : Triple) → AreSchemas x input.now output.now → alphabet.now ≡ x.symbols → seen tests.now ≡ node_tests (sheet x) → AreKeys x (map (λ k. k.items) v.items)) }
+    ensures firsts { IfOk result (λ v. (x : Triple) → AreSchemas x input.now output.now → alphabet.now ≡ x.symbols
+        → (a first : ℕ) → slice_get v.items a ≡ Some first → IsFirst (key x (asked_tests asked.now)) a first) }
 {
     let arena = Bump::new(alloc);
-    let mut keys = Vec::new(alloc);
+    let mut known = IndexMap::new(alloc);
+    let mut firsts = Vec::new(alloc);
     for number in 0..alphabet.count() {
         let symbol = Sym(number);
         let name = alphabet.fresh(&arena, symbol)?;
-        let key = key_of(alloc, input, output, tests, &name, symbol)?;
-        keys.push(key)?;
-    }
-    Ok(keys)
-}
-
-/// The first place at which a key stands.
-fn first_same(keys: &[Vec<bool>], place: u32) -> u32
-    requires { place < length keys.now }
-    ensures { IsFirstPlace (map (λ k. k.items) keys.now) place result }
-{
-    for before in 0..place {
-        if keys[before as usize] == keys[place as usize] {
-            return before;
-        }
-    }
-    place
-}
-
-/// The first place of each key.
-fn firsts_of(alloc: Global, keys: &[Vec<bool>]) -> Result<Vec<u32>, NoMemory>
-    requires { length keys.now ≤ 1024 }
-    ensures count { IfOk result (λ v. length v.items ≡ length keys.now) }
-    ensures firsts { IfOk result (λ v. (a first : ℕ) → slice_get v.items a ≡ Some first → IsFirstPlace (map (λ k. k.items) keys.now) a first) }
-{
-    let mut firsts = Vec::new(alloc);
-    for place in 0..keys.len() as u32 {
-        let first = first_same(keys, place);
+        let bits = key_of(alloc, input, output, asked, &name, symbol)?;
+        let first = first_of(&mut known, bits, number)?;
         firsts.push(first)?;
     }
     Ok(firsts)
@@ -157,15 +147,14 @@ impl Alike {
         requires { IsMachine machine.now }
         ensures { IfOk result (λ r. (x : Triple) → IsMachineOf x machine.now → AreFirstAlike x r.firsts.items) }
     {
-        let tests = node_tests_of(alloc, machine.rules.sheet())?;
-        let keys = keys_of(
+        let asked = asked_of(alloc, machine.rules.sheet())?;
+        let firsts = firsts_of(
             alloc,
             &machine.input,
             &machine.output,
-            &tests,
+            asked.as_slice(),
             &machine.alphabet,
         )?;
-        let firsts = firsts_of(alloc, &keys)?;
         Ok(Alike { firsts })
     }
 

@@ -1,13 +1,21 @@
-// The node tests of a stylesheet.
-ghost use Rattle.std.specs.Prelude.{◌≡◌, ◌++◌, ◌∷◌, [], OnOk, IfOk};
+// The node tests of a stylesheet, and what they ask of the names of elements.
+ghost use Rattle.std.specs.Prelude.{◌≡◌, ◌++◌, ◌∷◌, [], MatchOption, OnOk, IfOk};
 ghost use Rattle.tc_model.specs.Sheets as s;
 ghost use Rattle.tc_model.specs.Symbols.{in_steps, in_path, in_test, in_tests, in_pattern, in_body, in_branches, node_tests};
 ghost use Rattle.tc_model.specs.Views as see;
-ghost use Rattle.tc_beh.specs.AlikeSymbols.{seen, itself, no_test_of};
+ghost use Rattle.tc_beh.specs.AlikeSymbols.{AreAsked, Asks, IsPut, asked_test, asked_tests, itself, no_test_of, seen};
 
+use indexmap::IndexSet;
 use std::alloc::Global;
 use tc_base::NoMemory;
-use tc_model::{Branch, Instr, NodeTest, Path, Pattern, Sheet, Step, Test};
+use tc_model::{Branch, Instr, Name, NodeTest, Path, Pattern, Sheet, Step, Test};
+
+/// What a node test asks of the name of an element: that it is a name, or that it is of a namespace.
+#[derive(Clone, Copy, PartialEq, Eq, Hash)]
+pub enum Asked<'b> {
+    Name(Name<'b>),
+    Namespace(&'b str),
+}
 
 /// One more node test.
 fn add<'b>(found: &mut Vec<NodeTest<'b>>, test: NodeTest<'b>) -> Result<(), NoMemory>
@@ -130,14 +138,46 @@ fn add_sheet<'b>(found: &mut Vec<NodeTest<'b>>, sheet: &Sheet<'b>) -> Result<(),
     Ok(())
 }
 
-/// The node tests of a stylesheet.
-pub(crate) fn node_tests_of<'b>(
+/// What a node test asks, if not all elements pass it, or none does.
+fn asked_by<'b>(test: &NodeTest<'b>) -> Option<Asked<'b>>
+    ensures { MatchOption result (¬ Asks (see.node_test test.now)) (λ a. asked_test a ≡ see.node_test test.now) }
+{
+    match test {
+        NodeTest::Name(name) => Some(Asked::Name(*name)),
+        NodeTest::Ns(uri) => Some(Asked::Namespace(uri)),
+        NodeTest::Any | NodeTest::Text | NodeTest::Node => None,
+    }
+}
+
+/// Puts what a node test asks, unless it is there already.
+fn put<'b>(found: &mut IndexSet<Asked<'b>>, test: &NodeTest<'b>) -> Result<(), NoMemory>
+    ensures { OnOk result (IsPut (asked_tests found.old.keys) (see.node_test test.now) (asked_tests found.new.keys)) }
+{
+    if let Some(asked) = asked_by(test) {
+        found.insert(asked)?;
+    }
+    Ok(())
+}
+
+/// What node tests ask, each once.
+fn each_once<'b>(alloc: Global, tests: &[NodeTest<'b>]) -> Result<IndexSet<Asked<'b>>, NoMemory>
+    ensures { IfOk result (λ r. AreAsked (seen tests.now) (asked_tests r.keys)) }
+{
+    let mut found = IndexSet::new(alloc);
+    for test in tests {
+        put(&mut found, test)?;
+    }
+    Ok(found)
+}
+
+/// What the node tests of a stylesheet ask, each once.
+pub(crate) fn asked_of<'b>(
     alloc: Global,
     sheet: &Sheet<'b>,
-) -> Result<Vec<NodeTest<'b>>, NoMemory>
-    ensures { IfOk result (λ v. seen v.items ≡ node_tests (see.sheet sheet.now)) }
+) -> Result<IndexSet<Asked<'b>>, NoMemory>
+    ensures { IfOk result (λ r. AreAsked (node_tests (see.sheet sheet.now)) (asked_tests r.keys)) }
 {
     let mut found = Vec::new(alloc);
     add_sheet(&mut found, sheet)?;
-    Ok(found)
+    each_once(alloc, &found)
 }

@@ -1,7 +1,7 @@
 use Rattle.std.proofs.Common.{◌≡◌, ◌++◌, drop}
 use Rattle.tc_model.specs.Views as see
-use Rattle.tc_beh.specs.AlikeSymbols.{seen, tests_passed}
+use Rattle.tc_beh.specs.AlikeSymbols.{asked_tests, tests_passed}
 use Rattle.tc_beh.proofs.alike.add_passes.Given as goal
 
-abbrev pub invariant-loop-test : goal.invariant-loop-test
-invariant-loop-test l = l.key.items ++ tests_passed (seen (drop l.test-index l.tests)) (see.name l.name) ≡ l.initial.key.items ++ tests_passed (seen l.tests) (see.name l.name)
+abbrev pub invariant-loop-one : goal.invariant-loop-one
+invariant-loop-one l = l.key.items ++ tests_passed (asked_tests (drop l.one-index l.asked)) (see.name l.name) ≡ l.initial.key.items ++ tests_passed (asked_tests l.asked) (see.name l.name)

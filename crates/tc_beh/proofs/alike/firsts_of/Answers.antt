@@ -1,16 +1,29 @@
-use Rattle.std.proofs.Common.{◌≡◌, inl, inr, map, slice_get, Some, ◌∙◌, sym, subst, arith}
-use Rattle.tc_beh.specs.AlikeSymbols.{IsFirstPlace}
-use Rattle.tc_beh.proofs.KeyLists.{pushed_at}
+use Rattle.std.proofs.Common.{◌≡◌, ◌∙◌, refl, sym, subst, List, Some, slice_get, ap, length, arith}
+use Rattle.std.proofs.lemmas.Option.{slice_get_within}
+use Rattle.tc_model.specs.Views as see
+use Rattle.tc_model.specs.Symbols.{Mention, fresh_name, symbol_of}
+use Rattle.tc_beh.specs.AlikeSymbols.{asked_tests, key}
+use Rattle.tc_beh.proofs.FirstAlike.{firsts_more, none_known}
 use Rattle.tc_beh.proofs.alike.firsts_of.Goals as goal
 
-pub loop-place-preserved : goal.loop-place-preserved
-loop-place-preserved c =
-    let inv = c.loop-place.invariant in (
+pub loop-number-init : goal.loop-number-init
+loop-number-init c = (
+  ap length c.new-firsts.ensures.items,
+  λ x is same. (
+    none_known (key x (asked_tests c.args.asked.now)) c.new-known.result c.new-known.ensures.empty,
+    λ a first at. let within = slice_get_within c.new-firsts.result.items a first at in absurd (omega (arith, within, ap length c.new-firsts.ensures.items)),
+  ),
+)
+
+pub loop-number-preserved : goal.loop-number-preserved
+loop-number-preserved c =
+    let inv = c.loop-number.invariant in (
       omega (arith, c.in_ok-push.ensures.len, inv.0),
-      λ a first at.
-          elim (pushed_at c.loop-place.firsts.items c.first_same-first.result a first (subst (λ w. slice_get w a ≡ Some first) c.in_ok-push.ensures.items at)) [
-            | inl e ↦ inv.1 a first e
-            | inr (place, e) ↦ subst (λ w. IsFirstPlace (map (λ k. k.items) c.args.keys.now) w first) (sym (place ∙ inv.0))
-                (subst (λ w. IsFirstPlace (map (λ k. k.items) c.args.keys.now) c.loop-place.place w) e c.first_same-first.ensures)
-          ],
+      λ x is same.
+          let fresh = c.in_ok-name.ensures.name ∙ subst (λ (s : List Mention). fresh_name c.args.alphabet.now c.loop-number.number ≡ fresh_name s c.loop-number.number) same refl in
+          let told = subst (λ (s : List Mention). symbol_of s (see.name c.in_ok-name.name) ≡ c.loop-number.number) same c.in_ok-name.ensures.symbol in
+          let by = key x (asked_tests c.args.asked.now) in
+          let before = inv.1 x is same in
+          let now = c.in_ok-first.ensures by before.0 (sym (c.in_ok-bits.ensures x is fresh told)) in
+          (now.0, firsts_more by c.loop-number.firsts.items c.push.new.self.items c.in_ok-first.first c.loop-number.number inv.0 c.in_ok-push.ensures.items before.1 now.1),
     )
