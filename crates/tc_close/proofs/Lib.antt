@@ -27,3 +27,4 @@ pub mod TooLong
 pub mod HeldLines
 pub mod Pushed
 pub mod NumberBytes
+pub mod Once

@@ -10,3 +10,4 @@ pub mod Orders
 pub mod Certified
 pub mod Lines
 pub mod Hashing
+pub mod Once

@@ -8,6 +8,7 @@ ghost use Rattle.tc_settle.specs.Closed.{IsClosure, IsCause};
 ghost use Rattle.tc_settle.specs.Held.{SameRows};
 
 use crate::held::HeldRows;
+use crate::once::OnceRows;
 use crate::over::Over;
 use bumpalo::Bump;
 use std::alloc::Global;
@@ -64,11 +65,7 @@ impl From<NoMemory> for CloseFault {
 }
 
 /// Which count passes its limit, where rows came to no end.
-pub(crate) fn close_fault<K: Over>(
-    rows: &HeldRows<'_, '_, K>,
-    most: u32,
-    fault: Unsettled,
-) -> CloseFault
+fn close_fault<K: Over>(rows: &HeldRows<'_, '_, K>, most: u32, fault: Unsettled) -> CloseFault
     requires { IsCause (IsFull K.is_of rows.now) most (held_of K.is_of rows.now) fault }
     ensures { (x : Triple) → K.is_of x → IsCloseCause x most result }
 {
@@ -115,6 +112,28 @@ pub(crate) fn verdict<'b, K: Over>(
     }
 }
 
+/// All rows over some triples that a machine stands for, and how they are made.
+pub(crate) fn settled<'m, 'b, K: Over>(
+    alloc: Global,
+    machine: &'m Machine<'b>,
+    most: u32,
+) -> Result<(HeldRows<'m, 'b, K>, Closed), CloseFault>
+    requires some { (x : Triple) × K.is_of x }
+    requires machine { (x : Triple) → K.is_of x → IsMachineOf x machine.now }
+    requires most { most ≤ 4000 }
+    ensures closure { IfOk result (λ r. IsClosure (held_of K.is_of r.0) r.1) }
+    ensures few { IfOk result (λ r. ((held_of K.is_of r.0).trees ≤ most) × ((held_of K.is_of r.0).hedges ≤ most)) }
+    ensures cause { IfErr result (λ e. (x : Triple) → K.is_of x → IsCloseCause x most e) }
+{
+    let mut once = OnceRows::<K>::new(alloc, machine)?;
+    let closed = close(alloc, &mut once, most);
+    let rows = once.into_rows();
+    match closed {
+        Ok(closed) => Ok((rows, closed)),
+        Err(fault) => Err(close_fault(&rows, most, fault)),
+    }
+}
+
 /// The decision over some triples that a machine stands for.
 fn decide_over<'b, K: Over>(
     arena: &'b Bump,
@@ -128,13 +147,10 @@ fn decide_over<'b, K: Over>(
     ensures decision { IfOk result (λ d. (x : Triple) → K.is_of x → IsDecided x most d) }
     ensures cause { IfErr result (λ e. (x : Triple) → K.is_of x → IsCloseCause x most e) }
 {
-    let mut rows = HeldRows::<K>::new(alloc, machine)?;
-    match close(alloc, &mut rows, most) {
-        Ok(closed) => match verdict(arena, machine.alphabet(), &mut rows, &closed, most) {
-            Ok(decision) => Ok(decision),
-            Err(NoMemory) => Err(CloseFault::NoMemory),
-        },
-        Err(fault) => Err(close_fault(&rows, most, fault)),
+    let (mut rows, closed) = settled::<K>(alloc, machine, most)?;
+    match verdict(arena, machine.alphabet(), &mut rows, &closed, most) {
+        Ok(decision) => Ok(decision),
+        Err(NoMemory) => Err(CloseFault::NoMemory),
     }
 }
 

@@ -9,11 +9,13 @@ mod kinds;
 pub mod laws;
 mod lists;
 mod number_hasher;
+mod once;
 mod order;
 mod over;
 mod pair_table;
 mod proof;
 mod rooms;
+mod wraps;
 
 pub use decision::{CloseFault, Counts, Decision, decide};
 pub use proof::{Proof, prove};

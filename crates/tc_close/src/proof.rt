@@ -8,7 +8,7 @@ ghost use Rattle.tc_rows.specs.Triples.{Triple};
 ghost use Rattle.tc_settle.specs.Closed.{IsClosure};
 
 use crate::certificate::cert_data;
-use crate::decision::{CloseFault, Decision, close_fault, verdict};
+use crate::decision::{CloseFault, Decision, settled, verdict};
 use crate::held::HeldRows;
 use crate::over::Over;
 use bumpalo::Bump;
@@ -17,7 +17,7 @@ use std::marker::Brand;
 use tc_base::NoMemory;
 use tc_beh::Machine;
 use tc_model::{CertData, Node};
-use tc_settle::{Closed, close};
+use tc_settle::Closed;
 
 /// What is told of a stylesheet between two schemas, with a certificate where it is safe.
 #[derive(Drop)]
@@ -90,13 +90,10 @@ fn prove_over<'b, K: Over>(
     ensures proof { IfOk result (λ p. (x : Triple) → K.is_of x → IsProved x most p) }
     ensures cause { IfErr result (λ e. (x : Triple) → K.is_of x → IsCloseCause x most e) }
 {
-    let mut rows = HeldRows::<K>::new(alloc, machine)?;
-    match close(alloc, &mut rows, most) {
-        Ok(closed) => match told(arena, alloc, machine, &mut rows, &closed, most) {
-            Ok(proof) => Ok(proof),
-            Err(NoMemory) => Err(CloseFault::NoMemory),
-        },
-        Err(fault) => Err(close_fault(&rows, most, fault)),
+    let (mut rows, closed) = settled::<K>(alloc, machine, most)?;
+    match told(arena, alloc, machine, &mut rows, &closed, most) {
+        Ok(proof) => Ok(proof),
+        Err(NoMemory) => Err(CloseFault::NoMemory),
     }
 }
 

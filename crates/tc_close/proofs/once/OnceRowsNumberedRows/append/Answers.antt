@@ -1,0 +1,32 @@
+use Rattle.std.proofs.Common.{◌≡◌, subst, length, IfOk, OnErr, MatchOption}
+use Rattle.tc_settle.specs.Held.{Grows, IsHeldAs, IsUnchanged, IsAppendAt}
+use Rattle.tc_close.specs.RowState.{RowState, held_of}
+use Rattle.tc_close.proofs.Once.{once_on}
+use Rattle.tc_close.proofs.once.OnceRowsNumberedRows.append.Goals as goal
+
+pub invariant_of-self : goal.invariant_of-self
+invariant_of-self g c = once_on g.K.Over.is_of c.self.inside.alike.firsts.items c.self.inside.wraps c.self.inside.rows c.append.new.self c.append.ensures.grows c.self.invariant
+
+pub returns-clause-grows : goal.returns-clause-grows
+returns-clause-grows g c =
+    let of = g.K.Over.is_of in
+    let new = c.append.new.self in
+    subst (λ (s : RowState). Grows (held_of of s) (held_of of new)) c.self.view_is c.append.ensures.grows
+
+pub returns-clause-trees : goal.returns-clause-trees
+returns-clause-trees g c =
+    let of = g.K.Over.is_of in
+    let new = c.append.new.self in
+    subst (λ (s : RowState). length new.trees ≡ length s.trees) c.self.view_is c.append.ensures.trees
+
+pub returns-clause-made : goal.returns-clause-made
+returns-clause-made g c =
+    let of = g.K.Over.is_of in
+    let new = c.append.new.self in
+    subst (λ (s : RowState). IfOk c.append.result (λ o. MatchOption o ((held_of of new).no_append c.args.hedge c.args.tree × IsUnchanged (held_of of s) (held_of of new)) (λ u. IsAppendAt (held_of of new) c.args.hedge c.args.tree u × IsHeldAs (length s.hedges) (length new.hedges) u))) c.self.view_is c.append.ensures.made
+
+pub returns-clause-fault : goal.returns-clause-fault
+returns-clause-fault g c =
+    let of = g.K.Over.is_of in
+    let new = c.append.new.self in
+    subst (λ (s : RowState). OnErr c.append.result (IsUnchanged (held_of of s) (held_of of new))) c.self.view_is c.append.ensures.fault
