@@ -27,3 +27,6 @@ loop-number-preserved c =
           let now = c.in_ok-first.ensures by before.0 (sym (c.in_ok-bits.ensures x is fresh told)) in
           (now.0, firsts_more by c.loop-number.firsts.items c.push.new.self.items c.in_ok-first.first c.loop-number.number inv.0 c.in_ok-push.ensures.items before.1 now.1),
     )
+
+pub returns-clause-firsts : goal.returns-clause-firsts
+returns-clause-firsts c = λ x is same a first at. (c.loop-number.invariant.1 x is same).1 a first at

@@ -1,5 +1,5 @@
 use Rattle.std.proofs.Common.{subst, sym}
-use Rattle.std.proofs.lemmas.List.{drop_all}
+use Rattle.std.proofs.lemmas.List.{drop_all, get_or_default}
 use Rattle.tc_beh.specs.AlikeSymbols.{asked_tests, seen}
 use Rattle.tc_beh.proofs.AskedTests.{AreSoFar, none_so_far, one_more, all_asked}
 use Rattle.tc_beh.proofs.node_tests.each_once.Goals as goal
@@ -9,7 +9,7 @@ loop-test-init c = subst (λ ks. AreSoFar (seen c.args.tests.now) (seen c.args.t
 
 pub loop-test-preserved : goal.loop-test-preserved
 loop-test-preserved c =
-    one_more c.args.tests.now c.loop-test.test-index c.test-item.result c.loop-test-test.true c.test-item.is (asked_tests c.loop-test.found.keys) (asked_tests c.put.new.found.keys) c.loop-test.invariant
+    one_more c.args.tests.now c.loop-test.test-index _ c.loop-test-test.true (get_or_default c.args.tests.now c.loop-test.test-index _ _ c.loop-test-test.true) (asked_tests c.loop-test.found.keys) (asked_tests c.put.new.found.keys) c.loop-test.invariant
     c.in_ok-put.ensures
 
 pub returns : goal.returns
