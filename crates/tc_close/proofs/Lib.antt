@@ -27,4 +27,4 @@ pub mod TooLong
 pub mod HeldLines
 pub mod Pushed
 pub mod NumberBytes
-pub mod Once
+pub mod OnceLaws

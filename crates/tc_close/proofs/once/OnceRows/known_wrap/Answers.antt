@@ -1,7 +1,7 @@
 use Rattle.std.proofs.Common.{◌<◌, ◌∙◌, ap, length, sym, subst, MatchOption}
 use Rattle.tc_close.specs.RowState.{RowState, held_of}
 use Rattle.tc_close.specs.Once.{IsWrapTold}
-use Rattle.tc_close.proofs.Once.{once_more, told_of_first}
+use Rattle.tc_close.proofs.OnceLaws.{once_more, told_of_first}
 use Rattle.tc_close.proofs.once.OnceRows.known_wrap.Goals as goal
 
 pub first-first-requires : goal.first-first-requires

@@ -1,7 +1,7 @@
 use Rattle.std.proofs.Common.{◌<◌, sym, subst, length}
 use Rattle.tc_close.specs.RowState.{RowState, held_of}
 use Rattle.tc_close.specs.Once.{IsWrapTold}
-use Rattle.tc_close.proofs.Once.{once_more}
+use Rattle.tc_close.proofs.OnceLaws.{once_more}
 use Rattle.tc_close.proofs.once.OnceRows.learn_wrap.Goals as goal
 
 pub invariant_of-self : goal.invariant_of-self

@@ -1,6 +1,6 @@
 use Rattle.std.proofs.Common.{◌∙◌, sym}
 use Rattle.tc_close.specs.RowState.{held_of}
-use Rattle.tc_close.proofs.Once.{none_known}
+use Rattle.tc_close.proofs.OnceLaws.{none_known}
 use Rattle.tc_close.proofs.once.OnceRows.new.Goals as goal
 
 pub of-requires : goal.of-requires

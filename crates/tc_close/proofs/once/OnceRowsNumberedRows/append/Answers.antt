@@ -1,7 +1,7 @@
 use Rattle.std.proofs.Common.{◌≡◌, subst, length, IfOk, OnErr, MatchOption}
 use Rattle.tc_settle.specs.Held.{Grows, IsHeldAs, IsUnchanged, IsAppendAt}
 use Rattle.tc_close.specs.RowState.{RowState, held_of}
-use Rattle.tc_close.proofs.Once.{once_on}
+use Rattle.tc_close.proofs.OnceLaws.{once_on}
 use Rattle.tc_close.proofs.once.OnceRowsNumberedRows.append.Goals as goal
 
 pub invariant_of-self : goal.invariant_of-self

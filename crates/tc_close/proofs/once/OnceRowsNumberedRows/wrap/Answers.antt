@@ -2,7 +2,7 @@ use Rattle.std.proofs.Common.{◌≡◌, ◌<◌, ◌∙◌, sym, subst, ap, len
 use Rattle.tc_settle.specs.Held.{Grows, IsHeldAs, IsUnchanged, IsWrapAt}
 use Rattle.tc_close.specs.RowState.{RowState, held_of}
 use Rattle.tc_close.proofs.Growing.{grows_self}
-use Rattle.tc_close.proofs.Once.{told_again, told_of}
+use Rattle.tc_close.proofs.OnceLaws.{told_again, told_of}
 use Rattle.tc_close.proofs.once.OnceRowsNumberedRows.wrap.Goals as goal
 
 -- what is known
