@@ -92,7 +92,7 @@ fn other_texts_are_malformed(rt: HostRuntime) {
 
 #[test]
 fn constructs_that_are_not_read_have_their_reasons(rt: HostRuntime) {
-    let table: [(&[u8], u32, Why); 32] = [
+    let table: [(&[u8], u32, Why); 16] = [
         (b"p:a", 0, Why::DataPattern),
         (b"element a { string }", 12, Why::DataPattern),
         (b"element a { token, \"b\" }", 12, Why::DataPattern),
@@ -117,6 +117,18 @@ fn constructs_that_are_not_read_have_their_reasons(rt: HostRuntime) {
         (b"[ a ] empty", 0, Why::Annotation),
         (b"empty >> a []", 6, Why::Annotation),
         (b"element \\x{41} { empty }", 8, Why::Escape),
+    ];
+    for (text, place, why) in table {
+        assert_eq!(rt;
+            fault(rt, text),
+            Some(RncFault::Unsupported(Place(place), why))
+        );
+    }
+}
+
+#[test]
+fn literals_that_are_not_read_have_their_reasons(rt: HostRuntime) {
+    let table: [(&[u8], u32, Why); 16] = [
         (b"namespace a = \"b\\x{41}\" empty", 16, Why::Escape),
         (b"element a { \"\\x{41}\" }", 13, Why::Escape),
         (b"element a { empty \"\\x{41}\" }", 19, Why::Escape),
