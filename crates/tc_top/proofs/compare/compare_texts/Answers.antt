@@ -5,8 +5,8 @@ use Rattle.tc_top.proofs.Unaccepted.{refused_as}
 use Rattle.tc_top.specs.SchemaTexts.{IsRefusedText}
 use Rattle.tc_top.proofs.compare.compare_texts.Goals as goal
 
-pub returns-in-Err : goal.returns-in-Err
-returns-in-Err c =
+pub returns : goal.returns
+returns c =
     let why = c.in-Err.ensures.no in
     IfOk-weaker c.answer_unaccepted.result _ _ (λ said says.
     let found = refused_as said (IsRefusedText c.args.first.now.name.now c.args.first.now.text.items) c.args.first.now.name.now c.in-Err.fault says why in

@@ -7,8 +7,8 @@ use Rattle.tc_read.specs.Faults.{IsUnaccepted}
 use Rattle.tc_top.proofs.Unaccepted.{refused_as}
 use Rattle.tc_top.proofs.run.run_texts.Goals as goal
 
-pub returns-in-Err : goal.returns-in-Err
-returns-in-Err c =
+pub returns : goal.returns
+returns c =
     let why = subst (λ w. IsUnaccepted (IsRefusedSheet w) c.in-Err.fault) c.deref.ensures.value c.in-Err.ensures.no in
     IfOk-weaker c.answer_unaccepted.result _ _ (λ said says.
     let found = refused_as said (IsRefusedSheet c.args.sheet.now.text.items) c.args.sheet.now.name.now c.in-Err.fault says why in

@@ -5,8 +5,8 @@ use Rattle.tc_top.specs.SchemaTexts.{IsRefusedText}
 use Rattle.tc_top.proofs.Unaccepted.{refused_as}
 use Rattle.tc_top.proofs.valid.valid_texts.Goals as goal
 
-pub returns-in-Err : goal.returns-in-Err
-returns-in-Err c =
+pub returns : goal.returns
+returns c =
     let why = c.in-Err.ensures.no in
     IfOk-weaker c.answer_unaccepted.result _ _ (λ said says.
     let found = refused_as said (IsRefusedText c.args.schema.now.name.now c.args.schema.now.text.items) c.args.schema.now.name.now c.in-Err.fault says why in
