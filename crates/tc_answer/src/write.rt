@@ -4,6 +4,7 @@ ghost use Rattle.tc_io.specs.Faults.{Rose};
 ghost use Rattle.tc_io.specs.Sink.{Appended, WroteFront};
 ghost use Rattle.tc_answer.specs.Lines.{IsPiece};
 
+use memchr::memchr;
 use tc_io::{Sink, WriteFault};
 
 /// Writes a text, each line of it by a write of its own.
@@ -29,7 +30,7 @@ fn split_piece(text: &[u8]) -> (&[u8], &[u8])
     ensures parts { result.0.now ++ result.1.now ≡ text.now }
     ensures shorter { length result.1.now < length text.now }
 {
-    match text.iter().position(|byte| *byte == b'\n') {
+    match memchr(b'\n', text) {
         Some(end) => text.split_at(end + 1),
         None => text.split_at(text.len()),
     }

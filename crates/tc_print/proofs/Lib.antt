@@ -1,4 +1,5 @@
 pub mod Runs
+pub mod Plain
 pub mod Names
 pub mod Trees
 mod ReadBackChars

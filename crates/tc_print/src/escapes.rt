@@ -1,9 +1,10 @@
 // Characters that are written as references (XML 1.0, 2.4, 2.11, 3.3.3).
-ghost use Rattle.std.specs.Prelude.{◌≡◌, ◌≤◌, [], ◌∷◌, OnOk, OnErr, IfSome, IfNone, flat_map};
+ghost use Rattle.std.specs.Prelude.{◌≡◌, ◌≤◌, [], ◌∷◌, OnOk, OnErr, IfSome, IfNone, IsTrue, flat_map};
 ghost use Rattle.tc_io.specs.Faults.{Rose};
 ghost use Rattle.tc_io.specs.Sink.{Appended, WroteFront};
 ghost use Rattle.tc_print.specs.Pieces.{escaped};
 
+use memchr::{memchr2, memchr3};
 use tc_io::{Sink, WriteFault};
 
 /// Where a character stands.
@@ -34,6 +35,24 @@ impl Within {
     }
 }
 
+/// Whether each byte is seen to stand for itself.
+fn is_plain(within: Within, bytes: &[u8]) -> bool
+    ensures { IsTrue result → flat_map (escaped within) bytes.now ≡ bytes.now }
+{
+    match within {
+        Within::Text => {
+            memchr3(b'&', b'<', b'>', bytes).is_none() && memchr2(b'\n', b'\r', bytes).is_none()
+        }
+        Within::Value => {
+            memchr3(b'&', b'<', b'"', bytes).is_none()
+                && memchr3(b'\t', b'\n', b'\r', bytes).is_none()
+        }
+    }
+}
+
+/// The bytes from which on a text is first looked at as a whole.
+const LONG: usize = 32;
+
 /// Writes bytes, with references for those that may not stand for themselves. All that stands between
 /// two references is one piece.
 pub fn write_escaped<K: Sink>(within: Within, bytes: &[u8], sink: &mut K) -> Result<(), WriteFault>
@@ -44,6 +63,9 @@ pub fn write_escaped<K: Sink>(within: Within, bytes: &[u8], sink: &mut K) -> Res
         (WroteFront (K.written sink.old) (K.written sink.new) (flat_map (escaped within) bytes.now)) }
     ensures rose { OnErr result (Rose (K.faults sink.old) (K.faults sink.new)) }
 {
+    if bytes.len() >= LONG && is_plain(within, bytes) {
+        return sink.write(bytes);
+    }
     let mut written = 0;
     for (place, byte) in bytes.iter().enumerate() {
         if let Some(reference) = within.reference(*byte) {

@@ -17,7 +17,7 @@ ghost use Rattle.tc_model.specs.Trees.{none};
 ghost use Rattle.tc_print.specs.ReadBack.{IsShallowDocument, IsReadAs};
 
 use escapes::{Within, write_escaped};
-use tags::{begin_tag, default_within, write_end_tag};
+use tags::{begin_tag, write_end_tag};
 use tc_io::{Sink, WriteFault};
 use tc_model::Node;
 
@@ -72,12 +72,12 @@ fn print_one<K: Sink>(default: &str, node: &Node<'_>, sink: &mut K) -> Result<()
     match node {
         Node::Text(text) => write_escaped(Within::Text, text.as_bytes(), sink),
         Node::Elem(name, kids) => {
-            begin_tag(default, name, sink)?;
+            let within = begin_tag(default, name, sink)?;
             if kids.is_empty() {
                 return sink.write(b"/>");
             }
             sink.write(b">")?;
-            print_within(default_within(default, name), kids, sink)?;
+            print_within(within, kids, sink)?;
             write_end_tag(name, sink)
         }
     }

@@ -1,5 +1,5 @@
 // Tags, and the default namespace that they declare (Namespaces in XML 1.0, 6.2).
-ghost use Rattle.std.specs.Prelude.{◌≡◌, ◌≤◌, ◌++◌, OnOk, OnErr};
+ghost use Rattle.std.specs.Prelude.{◌≡◌, ◌≤◌, ◌++◌, IfOk, OnOk, OnErr};
 ghost use Rattle.tc_io.specs.Faults.{Rose};
 ghost use Rattle.tc_io.specs.Sink.{Appended, WroteFront};
 ghost use Rattle.tc_model.specs.Printed as p;
@@ -20,24 +20,18 @@ fn needs_no_declaration(default: &str, of: &Name<'_>) -> bool
     of.uri == default || of.uri == XML_URI
 }
 
-/// The default namespace that is in force within an element of this name.
-pub fn default_within<'a>(default: &'a str, of: &Name<'a>) -> &'a str
-    ensures { result.now ≡ p.default_within default.now (name of.now) }
-{
-    if needs_no_declaration(default, of) {
-        default
-    } else {
-        of.uri
-    }
-}
-
-/// Writes a start tag, but for its end.
-pub fn begin_tag<K: Sink>(default: &str, of: &Name<'_>, sink: &mut K) -> Result<(), WriteFault>
+/// Writes a start tag, but for its end, and gives the default namespace that is in force within the element.
+pub fn begin_tag<'a, K: Sink>(
+    default: &'a str,
+    of: &Name<'a>,
+    sink: &mut K,
+) -> Result<&'a str, WriteFault>
     ensures count { K.faults sink.old ≤ K.faults sink.new }
     ensures ok { OnOk result
         (Appended (K.written sink.old) (K.written sink.new) (begun_tag default.now (name of.now))) }
     ensures fault { OnErr result
         (WroteFront (K.written sink.old) (K.written sink.new) (begun_tag default.now (name of.now))) }
+    ensures within { IfOk result (λ within. within.now ≡ p.default_within default.now (name of.now)) }
     ensures rose { OnErr result (Rose (K.faults sink.old) (K.faults sink.new)) }
 {
     sink.write(b"<")?;
@@ -74,19 +68,26 @@ fn write_tag_name<K: Sink>(of: &Name<'_>, sink: &mut K) -> Result<(), WriteFault
     sink.write(of.local.as_bytes())
 }
 
-/// Writes the declaration in a start tag, where one is needed.
-fn write_declaration<K: Sink>(default: &str, of: &Name<'_>, sink: &mut K) -> Result<(), WriteFault>
+/// Writes the declaration in a start tag, where one is needed, and gives the default namespace that is in force within
+/// the element.
+fn write_declaration<'a, K: Sink>(
+    default: &'a str,
+    of: &Name<'a>,
+    sink: &mut K,
+) -> Result<&'a str, WriteFault>
     ensures count { K.faults sink.old ≤ K.faults sink.new }
     ensures ok { OnOk result
         (Appended (K.written sink.old) (K.written sink.new) (p.declaration default.now (name of.now))) }
     ensures fault { OnErr result
         (WroteFront (K.written sink.old) (K.written sink.new) (p.declaration default.now (name of.now))) }
+    ensures within { IfOk result (λ within. within.now ≡ p.default_within default.now (name of.now)) }
     ensures rose { OnErr result (Rose (K.faults sink.old) (K.faults sink.new)) }
 {
     if needs_no_declaration(default, of) {
-        return Ok(());
+        return Ok(default);
     }
     sink.write(b" xmlns=\"")?;
     write_escaped(Within::Value, of.uri.as_bytes(), sink)?;
-    sink.write(b"\"")
+    sink.write(b"\"")?;
+    Ok(of.uri)
 }

@@ -8,12 +8,12 @@ use Rattle.tc_print.specs.Pieces.{begun_tag, end_tag}
 use Rattle.tc_print.proofs.Trees.{content, printed_left, element_alone, empty_alone, full_alone}
 use Rattle.tc_print.proofs.+print.Goals as goal
 
-pub print_one-returns-in_err-begin_tag-in-Elem-clause-fault : goal.print_one-returns-in_err-begin_tag-in-Elem-clause-fault
-print_one-returns-in_err-begin_tag-in-Elem-clause-fault g t c =
+pub print_one-returns-in_err-within-in-Elem-clause-fault : goal.print_one-returns-in_err-within-in-Elem-clause-fault
+print_one-returns-in_err-within-in-Elem-clause-fault g t c =
     let d = c.args.default.now in
     let n = name c.in-Elem.name in
     on_err c.from_residual.result (subst (WroteFront _ _) (element_alone d c.args.node.now c.in-Elem.name c.in-Elem.kids c.in-Elem.is)
-    (first_front _ _ (begun_tag d n) (content d n (trees c.in-Elem.kids.now)) c.in_err-begin_tag-in-Elem.ensures.fault))
+    (first_front _ _ (begun_tag d n) (content d n (trees c.in-Elem.kids.now)) c.in_err-within-in-Elem.ensures.fault))
 
 pub print_one-returns-then-is_empty-clause-ok : goal.print_one-returns-then-is_empty-clause-ok
 print_one-returns-then-is_empty-clause-ok g t c =
@@ -21,7 +21,7 @@ print_one-returns-then-is_empty-clause-ok g t c =
     let n = name c.in-Elem.name in
     let empty : length c.in-Elem.kids.now ≡ 0 = search rules in
     on_ok_map c.write.result (λ h. subst (Appended _ _) (empty_alone d c.args.node.now c.in-Elem.name c.in-Elem.kids c.in-Elem.is empty)
-    (appended_twice _ _ _ (begun_tag d n) (codes "/>") c.in_ok-begin_tag-in-Elem.ensures.ok h)) c.write.ensures.ok
+    (appended_twice _ _ _ (begun_tag d n) (codes "/>") c.in_ok-within-in-Elem.ensures.ok h)) c.write.ensures.ok
 
 pub print_one-returns-then-is_empty-clause-fault : goal.print_one-returns-then-is_empty-clause-fault
 print_one-returns-then-is_empty-clause-fault g t c =
@@ -29,7 +29,7 @@ print_one-returns-then-is_empty-clause-fault g t c =
     let n = name c.in-Elem.name in
     let empty : length c.in-Elem.kids.now ≡ 0 = search rules in
     on_err_map c.write.result (λ h. subst (WroteFront _ _) (empty_alone d c.args.node.now c.in-Elem.name c.in-Elem.kids c.in-Elem.is empty)
-    (next_front _ _ _ (begun_tag d n) (codes "/>") c.in_ok-begin_tag-in-Elem.ensures.ok h)) c.write.ensures.fault
+    (next_front _ _ _ (begun_tag d n) (codes "/>") c.in_ok-within-in-Elem.ensures.ok h)) c.write.ensures.fault
 
 pub print_one-returns-in_err-write-in-Elem-clause-fault : goal.print_one-returns-in_err-write-in-Elem-clause-fault
 print_one-returns-in_err-write-in-Elem-clause-fault g t c =
@@ -38,7 +38,7 @@ print_one-returns-in_err-write-in-Elem-clause-fault g t c =
     let inner = printed_in (default_within d n) (trees c.in-Elem.kids.now) in
     let some : 0 < length c.in-Elem.kids.now = search rules in
     on_err c.from_residual-in_err-write-in-Elem.result (subst (WroteFront _ _) (full_alone d c.args.node.now c.in-Elem.name c.in-Elem.kids c.in-Elem.is some)
-    (next_front _ _ _ (begun_tag d n) (codes ">" ++ inner ++ end_tag n) c.in_ok-begin_tag-in-Elem.ensures.ok
+    (next_front _ _ _ (begun_tag d n) (codes ">" ++ inner ++ end_tag n) c.in_ok-within-in-Elem.ensures.ok
     (first_front _ _ (codes ">") (inner ++ end_tag n) c.in_err-write-in-Elem.ensures.fault)))
 
 pub print_one-returns-in_err-print_within-in-Elem-clause-fault : goal.print_one-returns-in_err-print_within-in-Elem-clause-fault
@@ -48,9 +48,9 @@ print_one-returns-in_err-print_within-in-Elem-clause-fault g t c =
     let inner = printed_in (default_within d n) (trees c.in-Elem.kids.now) in
     let some : 0 < length c.in-Elem.kids.now = search rules in
     let part = subst (λ (x : List ℕ). WroteFront (g.K.Sink.written c.write-in-Elem.new.self) (g.K.Sink.written c.print_within.new.sink) (printed_in x (trees c.in-Elem.kids.now)))
-    c.default_within.ensures c.in_err-print_within-in-Elem.ensures.fault in
+    c.in_ok-within-in-Elem.ensures.within c.in_err-print_within-in-Elem.ensures.fault in
     on_err c.from_residual-in_err-print_within-in-Elem.result (subst (WroteFront _ _) (full_alone d c.args.node.now c.in-Elem.name c.in-Elem.kids c.in-Elem.is some)
-    (next_front _ _ _ (begun_tag d n) (codes ">" ++ inner ++ end_tag n) c.in_ok-begin_tag-in-Elem.ensures.ok
+    (next_front _ _ _ (begun_tag d n) (codes ">" ++ inner ++ end_tag n) c.in_ok-within-in-Elem.ensures.ok
     (next_front _ _ _ (codes ">") (inner ++ end_tag n) c.in_ok-write-in-Elem.ensures.ok (first_front _ _ inner (end_tag n) part))))
 
 pub print_one-returns-in_ok-print_within-in-Elem-clause-ok : goal.print_one-returns-in_ok-print_within-in-Elem-clause-ok
@@ -60,9 +60,9 @@ print_one-returns-in_ok-print_within-in-Elem-clause-ok g t c =
     let inner = printed_in (default_within d n) (trees c.in-Elem.kids.now) in
     let some : 0 < length c.in-Elem.kids.now = search rules in
     let within = subst (λ (x : List ℕ). Appended (g.K.Sink.written c.write-in-Elem.new.self) (g.K.Sink.written c.print_within.new.sink) (printed_in x (trees c.in-Elem.kids.now)))
-    c.default_within.ensures c.in_ok-print_within-in-Elem.ensures.ok in
+    c.in_ok-within-in-Elem.ensures.within c.in_ok-print_within-in-Elem.ensures.ok in
     on_ok_map c.write_end_tag.result (λ h. subst (Appended _ _) (full_alone d c.args.node.now c.in-Elem.name c.in-Elem.kids c.in-Elem.is some)
-    (appended_twice _ _ _ (begun_tag d n) (codes ">" ++ inner ++ end_tag n) c.in_ok-begin_tag-in-Elem.ensures.ok
+    (appended_twice _ _ _ (begun_tag d n) (codes ">" ++ inner ++ end_tag n) c.in_ok-within-in-Elem.ensures.ok
     (appended_twice _ _ _ (codes ">") (inner ++ end_tag n) c.in_ok-write-in-Elem.ensures.ok (appended_twice _ _ _ inner (end_tag n) within h)))) c.write_end_tag.ensures.ok
 
 pub print_one-returns-in_ok-print_within-in-Elem-clause-fault : goal.print_one-returns-in_ok-print_within-in-Elem-clause-fault
@@ -72,9 +72,9 @@ print_one-returns-in_ok-print_within-in-Elem-clause-fault g t c =
     let inner = printed_in (default_within d n) (trees c.in-Elem.kids.now) in
     let some : 0 < length c.in-Elem.kids.now = search rules in
     let within = subst (λ (x : List ℕ). Appended (g.K.Sink.written c.write-in-Elem.new.self) (g.K.Sink.written c.print_within.new.sink) (printed_in x (trees c.in-Elem.kids.now)))
-    c.default_within.ensures c.in_ok-print_within-in-Elem.ensures.ok in
+    c.in_ok-within-in-Elem.ensures.within c.in_ok-print_within-in-Elem.ensures.ok in
     on_err_map c.write_end_tag.result (λ h. subst (WroteFront _ _) (full_alone d c.args.node.now c.in-Elem.name c.in-Elem.kids c.in-Elem.is some)
-    (next_front _ _ _ (begun_tag d n) (codes ">" ++ inner ++ end_tag n) c.in_ok-begin_tag-in-Elem.ensures.ok
+    (next_front _ _ _ (begun_tag d n) (codes ">" ++ inner ++ end_tag n) c.in_ok-within-in-Elem.ensures.ok
     (next_front _ _ _ (codes ">") (inner ++ end_tag n) c.in_ok-write-in-Elem.ensures.ok (next_front _ _ _ inner (end_tag n) within h)))) c.write_end_tag.ensures.fault
 
 pub print_within-returns-in_err-print_one-clause-fault : goal.print_within-returns-in_err-print_one-clause-fault
