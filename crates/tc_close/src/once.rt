@@ -59,7 +59,7 @@ impl<'m, 'b, K: Over> OnceRows<'m, 'b, K> {
 
     /// The rows.
     pub(crate) fn into_rows(self) -> HeldRows<'m, 'b, K>
-        ensures { result ≡ self }
+        ensures { result ≡ self.entry }
     {
         self.rows
     }

@@ -1,4 +1,4 @@
-use Rattle.std.proofs.Common.{◌<◌, ◌∙◌, ap, length, sym, subst, MatchOption}
+use Rattle.std.proofs.Common.{◌<◌, ◌∙◌, Some, ap, length, sym, subst, MatchOption}
 use Rattle.tc_close.specs.RowState.{RowState, held_of}
 use Rattle.tc_close.specs.Once.{IsWrapTold}
 use Rattle.tc_close.proofs.OnceLaws.{once_more, told_of_first}
@@ -13,10 +13,10 @@ invariant_of-self g c =
     let firsts = c.self.inside.alike.firsts.items in
     once_more of firsts c.self.inside.wraps c.self.inside.rows c.self.invariant c.learn.new.self c.args.symbol c.args.hedge c.in-Some.made c.learn.ensures
     (subst (λ (s : RowState). c.args.symbol < s.symbols) (sym c.self.view_is) c.requires.symbol) (subst (λ (s : RowState). c.args.hedge < length s.hedges) (sym c.self.view_is) c.requires.hedge)
-    (told_of_first of firsts c.self.inside.wraps c.self.inside.rows c.self.invariant c.args.symbol c.args.hedge c.first-first.result c.first-first.ensures c.in-Some.made c.in-Some.ensures)
+    (told_of_first of firsts c.self.inside.wraps c.self.inside.rows c.self.invariant c.args.symbol c.args.hedge c.first-first.result c.first-first.ensures (Some c.in-Some.made) c.in-Some.ensures)
 
 pub returns-clause-told : goal.returns-clause-told
 returns-clause-told g c =
     let of = g.K.Over.is_of in
     subst (λ (s : RowState). IsWrapTold (held_of of s) c.args.symbol c.args.hedge c.in-Some.made) c.self.view_is
-    (told_of_first of c.self.inside.alike.firsts.items c.self.inside.wraps c.self.inside.rows c.self.invariant c.args.symbol c.args.hedge c.first-first.result c.first-first.ensures c.in-Some.made c.in-Some.ensures)
+    (told_of_first of c.self.inside.alike.firsts.items c.self.inside.wraps c.self.inside.rows c.self.invariant c.args.symbol c.args.hedge c.first-first.result c.first-first.ensures (Some c.in-Some.made) c.in-Some.ensures)
