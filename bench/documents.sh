@@ -21,16 +21,18 @@ document() {
   python3 "$top/bench/make_document.py" "$1" "$2" >"$work/document.xml"
 }
 
-# Names and commands, on an article and on a small one.
+# Names and commands, on an article and on a small one; those in `uncounted`, whose instructions can't be counted, on the
+# first alone.
 beside() {
   document article "$bytes"
   echo "an article of $bytes bytes"
-  measure "$runs" "$@"
+  measure "$runs" "$@" "${uncounted[@]}"
   document article "$small"
   echo "one of $small bytes"
   measure --instructions --bytes "$small" 1 "$@"
 }
 
+uncounted=('jing -c' "jing -c $top/bench/article.rnc $work/document.xml")
 beside \
   'xmllint --noout' "xmllint --noout $work/document.xml" \
   'xmllint --relaxng' "xmllint --noout --relaxng $work/article.rng $work/document.xml" \
@@ -38,9 +40,8 @@ beside \
   'typecheck valid' "$program valid $top/bench/article.rnc $work/document.xml" \
   'xmllint --dtdvalid' "xmllint --noout --dtdvalid $top/bench/article.dtd $work/document.xml" \
   'typecheck valid dtd:' "$program valid dtd:article:$top/bench/article.dtd $work/document.xml"
-document article "$bytes"
-measure "$runs" 'jing -c' "jing -c $top/bench/article.rnc $work/document.xml"
 
+uncounted=()
 beside \
   'xsltproc' "xsltproc -o $work/one.xml $top/bench/article.xsl $work/document.xml" \
   'typecheck run' "$program run $top/bench/article.xsl $work/document.xml"
