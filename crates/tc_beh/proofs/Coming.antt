@@ -38,6 +38,7 @@ module _ (x : Triple) (m : Machine) (a b : Held) (e : Extends a b) (w : Work) (n
       bears = ok.node.bears;
       count = ok.node.count;
     };
+    leads = ok.leads;
   }
 
   pub read_kept : entries_by b.matrices n.entries.now ≡ entries_by a.matrices n.entries.now

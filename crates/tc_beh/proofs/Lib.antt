@@ -38,6 +38,7 @@ pub mod Coming
 pub mod InOrder
 pub mod SameParts
 pub mod LeftOut
+mod Led
 pub mod TreeRows
 pub mod Wrapped
 pub mod WrapRows

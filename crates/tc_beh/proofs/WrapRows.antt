@@ -20,16 +20,20 @@ use Rattle.tc_rows.proofs.Sets.{past}
 use Rattle.tc_beh.specs.Above.{letter_of}
 use Rattle.tc_beh.specs.Around.{PutsPatterns}
 use Rattle.tc_beh.specs.Entries.{AreGrounds, IsNodeRow, ComesPartly}
+use Rattle.tc_beh.specs.Leads.{AreLeads}
 use Rattle.tc_beh.specs.Held.{Extends}
+use Rattle.tc_beh.specs.Machines.{IsMachineOf}
 use Rattle.tc_beh.specs.LooksAbove.{found_above}
 use Rattle.tc_beh.specs.Outs.{GrowsBy, IsLeftOut}
 use Rattle.tc_beh.specs.Places.{entries_by}
 use Rattle.tc_beh.specs.Rooms.{Layout, hedge_layout, tree_layout, count_of, flagged, flags_in, outputs_in, looks_in, flag_at, output_at, IsRoom, tree_row}
 use Rattle.tc_beh.specs.RoomsOf.{IsRoomOf, IsRoomBeside}
 use Rattle.tc_beh.specs.RowsOf.{IsWork, AreRowsOf, StandsForHedge, hedge_of}
+use Rattle.tc_beh.specs.declared.above.Letter.{Letter}
 use Rattle.tc_beh.specs.declared.entries.Node.{Node}
 use Rattle.tc_beh.specs.declared.rooms.HRow.{HRow}
 use Rattle.tc_beh.specs.declared.rooms.Room.{Room}
+use Rattle.tc_beh.specs.declared.machine.Machine.{Machine}
 use Rattle.tc_beh.specs.declared.rows.Rows.{Rows}
 use Rattle.tc_beh.specs.declared.rows.Work.{Work}
 use Rattle.tc_beh.proofs.Behind.{head_is, head_low}
@@ -92,7 +96,13 @@ module _ (x : Triple) (r : Rows) (rows : AreRowsOf x r) (h : HRow) (hedge : Stan
   pub flags_are : flagged 0 (flags_in h.room.flags hs) ≡ H.states
   flags_are = λ i. flagged 0 (flags_in (hedge.parted.flags i) hs)
 
-  module _ (n : Node) (letter : letter_of n.letter ≡ letter_around x a LooksOf) (outs : n.entries.now ≡ OutsOf) (looks_of : n.looks.now ≡ LooksOf) (bears : n.bears ≡ (get_or hs 1 0 == 1)) where
+  pub wrap_letter : (l : Letter) → letter_of l ≡ letter_around x a LooksOf → IsLetter x.symbols (predicates x) (letter_of l)
+  wrap_letter l e =
+      subst (IsLetter x.symbols (predicates x)) (sym (e ∙ ap (letter_around x a) looks_are))
+      (are_letters x (of_symbol a) _ (λ b e. subst (λ c. c < symbol_count x.symbols) (symbol_same a b e) low))
+
+  module _ (n : Node) (letter : letter_of n.letter ≡ letter_around x a LooksOf) (outs : n.entries.now ≡ OutsOf) (looks_of : n.looks.now ≡ LooksOf) (bears : n.bears ≡ (get_or hs 1 0 == 1))
+      (leads : AreLeads r.machine.now.rules n.letter n.leads.now) where
     kind : (letter_of n.letter).kind ≡ of_symbol a
     kind = ap (λ (l : letters.Letter). l.kind) letter
 
@@ -108,12 +118,13 @@ module _ (x : Triple) (r : Rows) (rows : AreRowsOf x r) (h : HRow) (hedge : Stan
       size = rows.size;
       work = rows.work;
       node = record {
-        letter = subst (IsLetter x.symbols (predicates x)) (sym here) (are_letters x (of_symbol a) _ (λ b e. subst (λ c. c < symbol_count x.symbols) (symbol_same a b e) low));
+        letter = wrap_letter n.letter letter;
         outs = subst (λ ks. All (λ k. k < length r.outputs.matrices) ks) (sym (outs ∙ outs_are)) (outs_low x r.outputs.matrices hs hedge.numbers);
         nothing = λ e. absurd (not_text e);
         bears = λ e. absurd (not_text e);
         count = λ f. ap (λ (ks : List ℕ). length ks) (outs ∙ outs_are) ∙ outputs_count (hedge_layout x) r.outputs.matrices hs hedge.numbers;
       };
+      leads = leads;
     }
 
     pub wrap_few : (i : ℕ) → get_or n.looks.now i 0 ≤ 2
@@ -161,7 +172,11 @@ module _ (x : Triple) (r : Rows) (rows : AreRowsOf x r) (h : HRow) (hedge : Stan
       }
 
 -- a text
-module _ (x : Triple) (r : Rows) (rows : AreRowsOf x r) (n : Node) (letter : letter_of n.letter ≡ letter_of_text x) (outs : n.entries.now ≡ []) (none : n.looks.now ≡ []) (bears : n.bears ≡ true) where
+pub text_letter : (x : Triple) (l : Letter) → letter_of l ≡ letter_of_text x → IsLetter x.symbols (predicates x) (letter_of l)
+text_letter x l e = subst (IsLetter x.symbols (predicates x)) (sym e) (are_letters x of_text _ (λ b e. absurd (let f : of_text ≡ of_symbol b = e in cc)))
+
+module _ (x : Triple) (r : Rows) (rows : AreRowsOf x r) (n : Node) (letter : letter_of n.letter ≡ letter_of_text x) (outs : n.entries.now ≡ []) (none : n.looks.now ≡ []) (bears : n.bears ≡ true)
+    (leads : AreLeads r.machine.now.rules n.letter n.leads.now) where
   is_text : (letter_of n.letter).kind ≡ of_text
   is_text = ap (λ (l : letters.Letter). l.kind) letter
 
@@ -171,12 +186,13 @@ module _ (x : Triple) (r : Rows) (rows : AreRowsOf x r) (n : Node) (letter : let
     size = rows.size;
     work = rows.work;
     node = record {
-      letter = subst (IsLetter x.symbols (predicates x)) (sym letter) (are_letters x of_text _ (λ b e. absurd (let f : of_text ≡ of_symbol b = e in cc)));
+      letter = text_letter x n.letter letter;
       outs = subst (λ ks. All (λ k. k < length r.outputs.matrices) ks) (sym outs) (λ k d l. absurd (omega (arith, l)));
       nothing = λ e. none;
       bears = λ e. bears;
       count = λ f. absurd (f is_text);
     };
+    leads = leads;
   }
 
   -- what a refused row leaves
@@ -225,8 +241,12 @@ beside_then a b c e f = record { flags = f.flags ∙ e.flags; entries = f.entrie
 
 -- rows go on
 pub rows_after : (x : Triple) (r : Rows) → AreRowsOf x r → (new : Held) → Extends r.outputs new → (w : Work) → IsWork x r.machine.now.depth w
-    → AreRowsOf x (record { machine = r.machine; is_fixed = r.is_fixed; outputs = new; work = w })
-rows_after x r rows new more w is = record { machine = rows.machine; size = more.size ∙ rows.size; work = is }
+    → (s : Rows) → s.machine.now ≡ r.machine.now → s.outputs ≡ new → s.work ≡ w → AreRowsOf x s
+rows_after x r rows new more w is s machine outs work = record {
+  machine = subst (IsMachineOf x) (sym machine) rows.machine;
+  size = ap (λ (h : Held). h.size) outs ∙ (more.size ∙ rows.size);
+  work = subst (IsWork x s.machine.now.depth) (sym work) (subst (λ (m : Machine). IsWork x m.depth w) (sym machine) is);
+}
 
 tree_flags : (x : Triple) (ns : List ℕ) → length ns ≡ count_of (tree_layout x) → length (flags_in (length x.input.elements) ns) ≡ length x.input.elements
 tree_flags x ns count = length-take-le (length x.input.elements) (drop 2 ns) (let l = length-drop 2 ns in omega (arith, l, count))

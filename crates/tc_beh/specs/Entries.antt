@@ -11,6 +11,7 @@ use Rattle.tc_rows.specs.PairSets.{HaveSamePairs}
 use Rattle.tc_rows.specs.Bodies.{Below}
 use Rattle.tc_beh.specs.Above.{letter_of, node_of, pairs_at}
 use Rattle.tc_beh.specs.Held.{Extends, Grows, set_at}
+use Rattle.tc_beh.specs.Leads.{AreLeads}
 use Rattle.tc_beh.specs.LooksAbove.{found_above}
 use Rattle.tc_beh.specs.Machines.{IsMachineOf}
 use Rattle.tc_beh.specs.Rooms.{output_at}
@@ -37,6 +38,7 @@ pub record AreGrounds (x : Triple) (m : Machine) (held : Held) (w : Work) (n : N
   pub size : held.size ≡ outputs x
   pub work : IsWork x m.depth w
   pub node : IsNode x held n
+  pub leads : AreLeads m.rules n.letter n.leads.now
 
 abbrev pub AreSomeGrounds : Machine → Held → Work → Node → Type 0
 AreSomeGrounds m held w n = (x : Triple) × AreGrounds x m held w n

@@ -19,6 +19,7 @@ pub mod Outs
 pub mod Emptying
 pub mod RoomLaws
 pub mod Above
+pub mod Leads
 pub mod Entries
 pub mod Listing
 pub mod Lines

@@ -12,6 +12,7 @@ ghost use Rattle.tc_rows.specs.Triples.{Triple, predicates, moves as moves_of, o
 ghost use Rattle.tc_beh.specs.Above.{letter_of, node_of};
 ghost use Rattle.tc_beh.specs.Entries.{IsNode, IsNothing, IsNewNothing, IsNewEntry, AreGrounds, AreSomeGrounds, AreCalledOn, IsUnder, IsMadeOf, IsEntryAt, Comes, ComesPartly};
 ghost use Rattle.tc_beh.specs.Held.{Extends, set_at};
+ghost use Rattle.tc_beh.specs.Leads.{AreLeads};
 ghost use Rattle.tc_beh.specs.Places.{kind_of, entries_by};
 ghost use Rattle.tc_beh.specs.Rooms.{output_at};
 ghost use Rattle.tc_beh.specs.RoomsOf.{IsRoomBeside};
@@ -21,6 +22,7 @@ ghost use Rattle.tc_beh.specs.Stands.{IsRulesIn};
 use crate::above::{Letter, put_entry_above};
 use crate::bodies::{At, Place, entry_place};
 use crate::held_sets::HeldSets;
+use crate::leads::{Lead, lead_at};
 use crate::machine::Machine;
 use crate::named::put_named;
 use crate::outputs::{RowFault, keep};
@@ -38,6 +40,8 @@ pub(crate) struct Node<'a> {
     pub(crate) bears: bool,
     pub(crate) entries: &'a [u32],
     pub(crate) looks: &'a [u32],
+    /// Where the states of moves go on it.
+    pub(crate) leads: &'a [Lead],
 }
 
 /// Where an entry of a node stands: the ancestor state above the node, that for what stands below it, and the state of a move.
@@ -158,6 +162,7 @@ fn put_entry_of(
 /// element. There is none where it hits the node or goes nowhere.
 fn passed_on(machine: &Machine<'_>, outputs: &HeldSets, node: Node<'_>, spot: Spot) -> Option<u32>
     requires node { (x : Triple) × IsRulesIn x machine.now.rules × IsNode x outputs.now node }
+    requires leads { AreLeads machine.now.rules node.letter node.leads.now }
     requires state { spot.state < move_count (told machine.now.rules) }
     requires above { spot.above < length (told machine.now.rules).ancestors.states }
     ensures low { IfSome result (λ k. k < length outputs.now.matrices) }
@@ -166,14 +171,14 @@ fn passed_on(machine: &Machine<'_>, outputs: &HeldSets, node: Node<'_>, spot: Sp
         → IsEntryAt x (entries_by outputs.now.matrices node.entry.entries.now) node.entry (spot.ancestor * moves_of x + spot.state) (set_at outputs.now k)) }
 {
     let rules = &machine.rules;
-    let marks = node.letter.marks;
-    let Kind::Elem(sym) = node.letter.kind else {
+    let Kind::Elem(_) = node.letter.kind else {
         return None;
     };
-    if rules.sel_hits(spot.state, Kind::Elem(sym), marks) {
+    let lead = lead_at(rules, node.letter, node.leads, spot.state);
+    if lead.hits {
         return None;
     }
-    match rules.sel_step(spot.state, sym, marks) {
+    match lead.below {
         None => None,
         Some(next) => {
             let _held = outputs.len();
@@ -185,17 +190,18 @@ fn passed_on(machine: &Machine<'_>, outputs: &HeldSets, node: Node<'_>, spot: Sp
 /// Whether a state of a move above puts nothing out on a node and below it: it doesn't hit the node, and goes nowhere.
 fn puts_nothing(machine: &Machine<'_>, node: Node<'_>, spot: Spot) -> bool
     requires node { (x : Triple) × IsRulesIn x machine.now.rules × IsLetter x.symbols (predicates x) (letter_of node.letter) }
+    requires leads { AreLeads machine.now.rules node.letter node.leads.now }
     requires state { spot.state < move_count (told machine.now.rules) }
     ensures { result ≡ true → (x : Triple) (es : List (List (ℕ × ℕ))) (m : Matrix) → IsRulesIn x machine.now.rules → IsLetter x.symbols (predicates x) (letter_of node.entry.letter)
         → IsIdentity m → m.size ≡ outputs_of x → IsEntryAt x es node.entry (spot.ancestor * moves_of x + spot.state) m }
 {
-    let rules = &machine.rules;
     let letter = node.letter;
-    if rules.sel_hits(spot.state, letter.kind, letter.marks) {
+    let lead = lead_at(&machine.rules, letter, node.leads, spot.state);
+    if lead.hits {
         return false;
     }
     match letter.kind {
-        Kind::Elem(sym) => match rules.sel_step(spot.state, sym, letter.marks) {
+        Kind::Elem(_) => match lead.below {
             None => true,
             Some(_) => false,
         },

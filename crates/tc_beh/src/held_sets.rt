@@ -4,6 +4,7 @@ ghost use Rattle.std.specs.Result.{IsErrOf};
 ghost use Rattle.tc_mat.specs.Held.{AreDifferent, AreMatrices, IsHeld};
 ghost use Rattle.tc_beh.specs.Remembered.{IsProduct};
 
+use crate::guesses::Guesses;
 use std::alloc::Global;
 use std::marker::Model;
 use tc_base::NoMemory;
@@ -26,6 +27,7 @@ struct Product {
 pub(crate) struct HeldSets {
     pool: Pool,
     products: Vec<Option<Product>>,
+    guesses: Guesses,
 }
 
 impl Model for HeldSets {
@@ -57,7 +59,12 @@ impl HeldSets {
         ensures { IfOk result (λ s. s ≡ pool) }
     {
         let products = vec![in alloc; None; REMEMBERED]?;
-        Ok(HeldSets { pool, products })
+        let guesses = Guesses::of(alloc, &pool)?;
+        Ok(HeldSets {
+            pool,
+            products,
+            guesses,
+        })
     }
 
     /// How many sets are held.
@@ -75,6 +82,10 @@ impl HeldSets {
         ensures { MatchOption result (¬ IsHeld self.now set.now)
             (λ id. slice_get self.now.matrices id.0 ≡ Some set.now) }
     {
+        let guess = self.guesses.number_of(set);
+        if guess < self.pool.len() && self.pool.get(MatId(guess)) == set {
+            return Some(MatId(guess));
+        }
         self.pool.find(set)
     }
 
@@ -101,6 +112,7 @@ impl HeldSets {
         ensures err { OnErr result (self.new ≡ self.old) }
         ensures full { IsErrOf result PoolFault.PoolFull → length self.old.matrices ≡ 65536 }
     {
+        self.guesses.keep(set, self.pool.len());
         self.pool.intern(set)
     }
 

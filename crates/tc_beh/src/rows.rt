@@ -8,6 +8,7 @@ ghost use Rattle.tc_rows.specs.Triples.{Triple};
 use crate::append::{put_append, put_kind};
 use crate::empty::put_empty;
 use crate::held_sets::HeldSets;
+use crate::leads::{Lead, NOWHERE};
 use crate::lists::{lists_of, pairs_of, pool_of};
 use crate::machine::Machine;
 use crate::outputs::RowFault;
@@ -24,6 +25,8 @@ pub struct Rows<'m, 'b> {
     pub(crate) is_fixed: bool,
     pub(crate) outputs: HeldSets,
     pub(crate) work: Work,
+    /// Where the states of moves go on the node whose row is worked out.
+    pub(crate) leads: Vec<Lead>,
 }
 
 /// Room for sets of pairs that are worked out.
@@ -107,11 +110,13 @@ impl<'m, 'b> Rows<'m, 'b> {
         let pool = Pool::new(alloc, machine.output.auto().states());
         let outputs = HeldSets::of(alloc, pool)?;
         let work = Work::new(alloc, machine)?;
+        let leads = vec![in alloc; NOWHERE; machine.rules.moves() as usize]?;
         Ok(Rows {
             machine,
             is_fixed: false,
             outputs,
             work,
+            leads,
         })
     }
 
@@ -137,11 +142,13 @@ impl<'m, 'b> Rows<'m, 'b> {
         let pool = pool_of(alloc, machine.output.auto().states(), outputs)?;
         let outputs = HeldSets::of(alloc, pool)?;
         let work = Work::new(alloc, machine)?;
+        let leads = vec![in alloc; NOWHERE; machine.rules.moves() as usize]?;
         Ok(Rows {
             machine,
             is_fixed: true,
             outputs,
             work,
+            leads,
         })
     }
 

@@ -16,6 +16,7 @@ ghost use Rattle.tc_beh.specs.Stands.{IsRulesIn, AreRules};
 use crate::above::Letter;
 use crate::entries::{Node, put_entries};
 use crate::held_sets::HeldSets;
+use crate::leads::{Lead, put_leads};
 use crate::looks::marks;
 use crate::looks_above::put_looks;
 use crate::machine::Machine;
@@ -65,44 +66,60 @@ fn put_node(
     put
 }
 
-/// The node of a text.
-fn text_node<'a>(machine: &Machine<'_>) -> Node<'a>
+/// The letter of a text.
+fn text_letter(machine: &Machine<'_>) -> Letter
     requires { AreRules machine.now.rules }
-    ensures letter { (x : Triple) → IsRulesIn x machine.now.rules → letter_of result.letter ≡ letter_of_text x }
+    ensures { (x : Triple) → IsRulesIn x machine.now.rules → letter_of result ≡ letter_of_text x }
+{
+    Letter {
+        kind: Kind::Text,
+        marks: marks(&machine.rules, &[]),
+    }
+}
+
+/// The node of a text.
+fn text_node<'a>(letter: Letter, leads: &'a [Lead]) -> Node<'a>
+    ensures letter { result.letter ≡ letter }
     ensures bears { result.bears ≡ true }
     ensures entries { result.entries.now ≡ [] }
     ensures looks { result.looks.now ≡ [] }
+    ensures leads { result.leads.now ≡ leads.now }
 {
-    let letter = Letter {
-        kind: Kind::Text,
-        marks: marks(&machine.rules, &[]),
-    };
     Node {
         letter,
         bears: true,
         entries: &[],
         looks: &[],
+        leads,
     }
 }
 
-/// The node of an element of a symbol around a list of trees.
-fn node_around<'a>(machine: &Machine<'_>, sym: Sym, hedge: &'a Room) -> Node<'a>
+/// The letter of an element of a symbol around a list of trees.
+fn element_letter(machine: &Machine<'_>, sym: Sym, hedge: &Room) -> Letter
     requires { AreRules machine.now.rules }
-    ensures letter { (x : Triple) → IsRulesIn x machine.now.rules → letter_of result.letter ≡ letter_around x sym.0 (looks_in hedge.now.flags hedge.now.entries hedge.now.numbers.items) }
+    ensures { (x : Triple) → IsRulesIn x machine.now.rules → letter_of result ≡ letter_around x sym.0 (looks_in hedge.now.flags hedge.now.entries hedge.now.numbers.items) }
+{
+    let looks = hedge.looks();
+    Letter {
+        kind: Kind::Elem(sym),
+        marks: marks(&machine.rules, looks),
+    }
+}
+
+/// The node of an element around a list of trees.
+fn node_around<'a>(letter: Letter, hedge: &'a Room, leads: &'a [Lead]) -> Node<'a>
+    ensures letter { result.letter ≡ letter }
     ensures bears { result.bears ≡ (get_or hedge.now.numbers.items 1 0 == 1) }
     ensures entries { result.entries.now ≡ outputs_in hedge.now.flags hedge.now.entries hedge.now.numbers.items }
     ensures looks { result.looks.now ≡ looks_in hedge.now.flags hedge.now.entries hedge.now.numbers.items }
+    ensures leads { result.leads.now ≡ leads.now }
 {
-    let looks = hedge.looks();
-    let letter = Letter {
-        kind: Kind::Elem(sym),
-        marks: marks(&machine.rules, looks),
-    };
     Node {
         letter,
         bears: hedge.bears(),
         entries: hedge.outputs(),
-        looks,
+        looks: hedge.looks(),
+        leads,
     }
 }
 
@@ -148,7 +165,9 @@ impl<'m, 'b> Rows<'m, 'b> {
         if !machine.input.auto().has_text() {
             return Ok(false);
         }
-        let node = text_node(machine);
+        let letter = text_letter(machine);
+        put_leads(&machine.rules, letter, self.leads.as_mut_slice());
+        let node = text_node(letter, self.leads.as_slice());
         out.room.set_heads(true, true);
         out.room.clear_flags();
         put_node(
@@ -193,7 +212,9 @@ impl<'m, 'b> Rows<'m, 'b> {
         if !put_patterns(&machine.input, sym, h.room.flags(), &mut out.room) {
             return Ok(false);
         }
-        let node = node_around(machine, sym, &h.room);
+        let letter = element_letter(machine, sym, &h.room);
+        put_leads(&machine.rules, letter, self.leads.as_mut_slice());
+        let node = node_around(letter, &h.room, self.leads.as_slice());
         out.room.set_heads(false, node.bears);
         put_node(
             machine,

@@ -1,10 +1,12 @@
-use Rattle.std.proofs.Common.{◌≡◌, ◌<◌, ◌+◌, inl, ℕ, length, get_or, sym, subst, ◌∙◌, refl, arith, true, false}
+use Rattle.std.proofs.Common.{◌≡◌, ◌<◌, ◌+◌, inl, ℕ, length, get_or, sym, subst, ap, ◌∙◌, refl, arith, true, false}
 use Rattle.tc_model.specs.States.{input}
 use Rattle.tc_auto.specs.Stands.{Stands}
 use Rattle.tc_auto.specs.declared.auto.Auto.{Auto}
+use Rattle.tc_beh.specs.Above.{letter_of}
 use Rattle.tc_beh.specs.Rooms.{tree_layout, flag_at}
 use Rattle.tc_beh.proofs.Holding.{on_err}
-use Rattle.tc_beh.proofs.WrapRows.{text_grounds, text_left_out, text_room, is_text_row, room_after, beside_then, rows_after}
+use Rattle.tc_beh.proofs.Led.{leads_back, leads_kept}
+use Rattle.tc_beh.proofs.WrapRows.{text_letter, text_grounds, text_left_out, text_room, is_text_row, room_after, beside_then, rows_after}
 use Rattle.tc_beh.proofs.rows.Rows.text_row.Goals as goal
 
 pub returns-then-not-has_text-clause-dead : goal.returns-then-not-has_text-clause-dead
@@ -16,11 +18,17 @@ returns-then-not-has_text-clause-dead c = λ e. (
       absurd (cc),
 )
 
+pub put_leads-requires : goal.put_leads-requires
+put_leads-requires c =
+    let (x, rows) = c.requires.rows in
+    let rules = rows.machine.parts.are_rules in
+    (x, rules, text_letter x c.text_letter-letter.result (c.text_letter-letter.ensures x rules))
+
 pub put_node-requires-clause-grounds : goal.put_node-requires-clause-grounds
 put_node-requires-clause-grounds c =
     let (x, rows) = c.requires.rows in
     let node = c.text_node-node.ensures in
-    (x, text_grounds x c.args.self.now rows c.text_node-node.result (node.letter x rows.machine.parts.are_rules) node.entries node.looks node.bears)
+    (x, text_grounds x c.args.self.now rows c.text_node-node.result (ap letter_of node.letter ∙ c.text_letter-letter.ensures x rows.machine.parts.are_rules) node.entries node.looks node.bears (leads_kept c.args.self.now.machine.now.rules c.text_letter-letter.result c.text_node-node.result.letter c.put_leads.new.leads c.text_node-node.result.leads.now c.put_leads.ensures node.letter (node.leads ∙ (c.as_slice.ensures.value ∙ leads_back c.args.self.now.leads c.put_leads.new.leads (c.put_leads.auto.leads ∙ ap length c.as_mut_slice.ensures.value)))))
 
 pub put_node-requires-clause-room : goal.put_node-requires-clause-room
 put_node-requires-clause-room c =
@@ -28,14 +36,14 @@ put_node-requires-clause-room c =
     let node = c.text_node-node.ensures in
     let heads = c.set_heads.ensures.beside in (
       x,
-      text_grounds x c.args.self.now rows c.text_node-node.result (node.letter x rows.machine.parts.are_rules) node.entries node.looks node.bears,
+      text_grounds x c.args.self.now rows c.text_node-node.result (ap letter_of node.letter ∙ c.text_letter-letter.ensures x rows.machine.parts.are_rules) node.entries node.looks node.bears (leads_kept c.args.self.now.machine.now.rules c.text_letter-letter.result c.text_node-node.result.letter c.put_leads.new.leads c.text_node-node.result.leads.now c.put_leads.ensures node.letter (node.leads ∙ (c.as_slice.ensures.value ∙ leads_back c.args.self.now.leads c.put_leads.new.leads (c.put_leads.auto.leads ∙ ap length c.as_mut_slice.ensures.value)))),
       room_after (tree_layout x) c.args.out.now.room c.clear_flags.new.self (c.requires.room x rows) (beside_then c.args.out.now.room c.set_heads.new.self c.clear_flags.new.self heads c.clear_flags.ensures.beside),
     )
 
 pub returns-in_err-put_node-clause-rows : goal.returns-in_err-put_node-clause-rows
 returns-in_err-put_node-clause-rows c = λ x rows.
     let node = c.text_node-node.ensures in
-    rows_after x c.args.self.now rows c.put_node.new.outputs c.put_node.ensures.held c.put_node.new.work (c.put_node.ensures.work x (text_grounds x c.args.self.now rows c.text_node-node.result (node.letter x rows.machine.parts.are_rules) node.entries node.looks node.bears))
+    rows_after x c.args.self.now rows c.put_node.new.outputs c.put_node.ensures.held c.put_node.new.work (c.put_node.ensures.work x (text_grounds x c.args.self.now rows c.text_node-node.result (ap letter_of node.letter ∙ c.text_letter-letter.ensures x rows.machine.parts.are_rules) node.entries node.looks node.bears (leads_kept c.args.self.now.machine.now.rules c.text_letter-letter.result c.text_node-node.result.letter c.put_leads.new.leads c.text_node-node.result.leads.now c.put_leads.ensures node.letter (node.leads ∙ (c.as_slice.ensures.value ∙ leads_back c.args.self.now.leads c.put_leads.new.leads (c.put_leads.auto.leads ∙ ap length c.as_mut_slice.ensures.value)))))) _ refl refl refl
 
 pub returns-in_err-put_node-clause-err : goal.returns-in_err-put_node-clause-err
 returns-in_err-put_node-clause-err c = on_err c.from_residual.result _ (λ x rows.
@@ -46,14 +54,14 @@ pub returns-in_err-put_node-clause-partly : goal.returns-in_err-put_node-clause-
 returns-in_err-put_node-clause-partly c = on_err c.from_residual.result _ (λ x u rows is.
     let node = c.text_node-node.ensures in
     let n = c.text_node-node.result in
-    let letter = node.letter x rows.machine.parts.are_rules in
-    let grounds = text_grounds x c.args.self.now rows n letter node.entries node.looks node.bears in
-    text_left_out x c.args.self.now rows n letter node.entries node.looks node.bears c.put_node.new.outputs c.put_node.ensures.sets c.put_node.ensures.held (c.in_err-put_node.ensures.partly x grounds) u is)
+    let letter = ap letter_of node.letter ∙ c.text_letter-letter.ensures x rows.machine.parts.are_rules in
+    let grounds = text_grounds x c.args.self.now rows n letter node.entries node.looks node.bears (leads_kept c.args.self.now.machine.now.rules c.text_letter-letter.result c.text_node-node.result.letter c.put_leads.new.leads c.text_node-node.result.leads.now c.put_leads.ensures node.letter (node.leads ∙ (c.as_slice.ensures.value ∙ leads_back c.args.self.now.leads c.put_leads.new.leads (c.put_leads.auto.leads ∙ ap length c.as_mut_slice.ensures.value)))) in
+    text_left_out x c.args.self.now rows n letter node.entries node.looks node.bears (leads_kept c.args.self.now.machine.now.rules c.text_letter-letter.result c.text_node-node.result.letter c.put_leads.new.leads c.text_node-node.result.leads.now c.put_leads.ensures node.letter (node.leads ∙ (c.as_slice.ensures.value ∙ leads_back c.args.self.now.leads c.put_leads.new.leads (c.put_leads.auto.leads ∙ ap length c.as_mut_slice.ensures.value)))) c.put_node.new.outputs c.put_node.ensures.sets c.put_node.ensures.held (c.in_err-put_node.ensures.partly x grounds) u is)
 
 pub returns-clause-rows : goal.returns-clause-rows
 returns-clause-rows c = λ x rows.
     let node = c.text_node-node.ensures in
-    rows_after x c.args.self.now rows c.put_node.new.outputs c.put_node.ensures.held c.put_node.new.work (c.put_node.ensures.work x (text_grounds x c.args.self.now rows c.text_node-node.result (node.letter x rows.machine.parts.are_rules) node.entries node.looks node.bears))
+    rows_after x c.args.self.now rows c.put_node.new.outputs c.put_node.ensures.held c.put_node.new.work (c.put_node.ensures.work x (text_grounds x c.args.self.now rows c.text_node-node.result (ap letter_of node.letter ∙ c.text_letter-letter.ensures x rows.machine.parts.are_rules) node.entries node.looks node.bears (leads_kept c.args.self.now.machine.now.rules c.text_letter-letter.result c.text_node-node.result.letter c.put_leads.new.leads c.text_node-node.result.leads.now c.put_leads.ensures node.letter (node.leads ∙ (c.as_slice.ensures.value ∙ leads_back c.args.self.now.leads c.put_leads.new.leads (c.put_leads.auto.leads ∙ ap length c.as_mut_slice.ensures.value)))))) _ refl refl refl
 
 pub returns-clause-live : goal.returns-clause-live
 returns-clause-live c = λ e x rows.
@@ -65,8 +73,8 @@ returns-clause-row c = λ e x rows.
     let r = c.args.self.now in
     let node = c.text_node-node.ensures in
     let n = c.text_node-node.result in
-    let letter = node.letter x rows.machine.parts.are_rules in
-    let grounds = text_grounds x r rows n letter node.entries node.looks node.bears in
+    let letter = ap letter_of node.letter ∙ c.text_letter-letter.ensures x rows.machine.parts.are_rules in
+    let grounds = text_grounds x r rows n letter node.entries node.looks node.bears (leads_kept c.args.self.now.machine.now.rules c.text_letter-letter.result c.text_node-node.result.letter c.put_leads.new.leads c.text_node-node.result.leads.now c.put_leads.ensures node.letter (node.leads ∙ (c.as_slice.ensures.value ∙ leads_back c.args.self.now.leads c.put_leads.new.leads (c.put_leads.auto.leads ∙ ap length c.as_mut_slice.ensures.value)))) in
     let room = c.requires.room x rows in
     let heads = c.set_heads.ensures in
     let clear = c.clear_flags.ensures in
@@ -81,6 +89,6 @@ returns-clause-row c = λ e x rows.
     let none : (i : ℕ) → i < length x.input.elements → flag_at us i ≡ 0 = λ i l.
     put.others (2 + i) (let s = mid.flags in omega (arith, l, s)) ∙ clear.flags i (let s = mid.flags in let t = clear.beside.flags in omega (arith, l, s, t))
     in (
-      record { parted = parted; numbers = text_room x r rows n letter node.entries node.looks node.bears c.put_node.new.outputs put.sets put.held us parted.count so head bears none },
-      is_text_row x r rows n letter node.entries node.looks node.bears c.put_node.new.outputs put.sets put.held us parted.count so head bears none,
+      record { parted = parted; numbers = text_room x r rows n letter node.entries node.looks node.bears (leads_kept c.args.self.now.machine.now.rules c.text_letter-letter.result c.text_node-node.result.letter c.put_leads.new.leads c.text_node-node.result.leads.now c.put_leads.ensures node.letter (node.leads ∙ (c.as_slice.ensures.value ∙ leads_back c.args.self.now.leads c.put_leads.new.leads (c.put_leads.auto.leads ∙ ap length c.as_mut_slice.ensures.value)))) c.put_node.new.outputs put.sets put.held us parted.count so head bears none },
+      is_text_row x r rows n letter node.entries node.looks node.bears (leads_kept c.args.self.now.machine.now.rules c.text_letter-letter.result c.text_node-node.result.letter c.put_leads.new.leads c.text_node-node.result.leads.now c.put_leads.ensures node.letter (node.leads ∙ (c.as_slice.ensures.value ∙ leads_back c.args.self.now.leads c.put_leads.new.leads (c.put_leads.auto.leads ∙ ap length c.as_mut_slice.ensures.value)))) c.put_node.new.outputs put.sets put.held us parted.count so head bears none,
     )

@@ -1,10 +1,12 @@
-use Rattle.std.proofs.Common.{◌≡◌, get_or, sym, subst, ◌∙◌, refl, arith, true, false}
+use Rattle.std.proofs.Common.{◌≡◌, length, get_or, sym, subst, ap, ◌∙◌, refl, arith, true, false}
 use Rattle.tc_hedge.proofs.Bounds.{patterns_of}
 use Rattle.tc_model.specs.States.{input}
 use Rattle.tc_beh.specs.Around.{PutsPatterns}
+use Rattle.tc_beh.specs.Above.{letter_of}
 use Rattle.tc_beh.specs.Rooms.{tree_layout}
 use Rattle.tc_beh.proofs.Holding.{on_err}
-use Rattle.tc_beh.proofs.WrapRows.{wrap_grounds, wrap_few, wrap_left_out, wrap_room, is_wrap, live_wrap, dead_wrap, patterns_kept, room_after, beside_then, rows_after}
+use Rattle.tc_beh.proofs.Led.{leads_back, leads_kept}
+use Rattle.tc_beh.proofs.WrapRows.{wrap_letter, wrap_grounds, wrap_few, wrap_left_out, wrap_room, is_wrap, live_wrap, dead_wrap, patterns_kept, room_after, beside_then, rows_after}
 use Rattle.tc_beh.proofs.rows.Rows.wrap.Goals as goal
 
 pub returns-then-not-put_patterns-clause-dead : goal.returns-then-not-put_patterns-clause-dead
@@ -19,24 +21,30 @@ returns-then-not-put_patterns-clause-dead c = λ e. (
       (λ some. let f : false ≡ true = sym c.if-not-put_patterns.true ∙ put.some.1 some in absurd (cc)),
 )
 
+pub put_leads-requires : goal.put_leads-requires
+put_leads-requires c =
+    let (x, rows) = c.requires.rows in
+    let rules = rows.machine.parts.are_rules in
+    (x, rules, wrap_letter x c.args.self.now rows c.args.h.now (c.requires.hedge x rows) c.args.sym.0 (c.requires.symbol x rows) c.element_letter-letter.result (c.element_letter-letter.ensures x rules))
+
 pub put_node-requires-clause-grounds : goal.put_node-requires-clause-grounds
 put_node-requires-clause-grounds c =
     let (x, rows) = c.requires.rows in
     let node = c.node_around-node.ensures in
-    (x, wrap_grounds x c.args.self.now rows c.args.h.now (c.requires.hedge x rows) c.args.sym.0 (c.requires.symbol x rows) c.node_around-node.result (node.letter x rows.machine.parts.are_rules) node.entries node.looks node.bears)
+    (x, wrap_grounds x c.args.self.now rows c.args.h.now (c.requires.hedge x rows) c.args.sym.0 (c.requires.symbol x rows) c.node_around-node.result (ap letter_of node.letter ∙ c.element_letter-letter.ensures x rows.machine.parts.are_rules) node.entries node.looks node.bears (leads_kept c.args.self.now.machine.now.rules c.element_letter-letter.result c.node_around-node.result.letter c.put_leads.new.leads c.node_around-node.result.leads.now c.put_leads.ensures node.letter (node.leads ∙ (c.as_slice.ensures.value ∙ leads_back c.args.self.now.leads c.put_leads.new.leads (c.put_leads.auto.leads ∙ ap length c.as_mut_slice.ensures.value)))))
 
 pub put_node-requires-clause-few : goal.put_node-requires-clause-few
 put_node-requires-clause-few c =
     let (x, rows) = c.requires.rows in
     let node = c.node_around-node.ensures in
-    wrap_few x c.args.self.now rows c.args.h.now (c.requires.hedge x rows) c.args.sym.0 (c.requires.symbol x rows) c.node_around-node.result (node.letter x rows.machine.parts.are_rules) node.entries node.looks node.bears
+    wrap_few x c.args.self.now rows c.args.h.now (c.requires.hedge x rows) c.args.sym.0 (c.requires.symbol x rows) c.node_around-node.result (ap letter_of node.letter ∙ c.element_letter-letter.ensures x rows.machine.parts.are_rules) node.entries node.looks node.bears (leads_kept c.args.self.now.machine.now.rules c.element_letter-letter.result c.node_around-node.result.letter c.put_leads.new.leads c.node_around-node.result.leads.now c.put_leads.ensures node.letter (node.leads ∙ (c.as_slice.ensures.value ∙ leads_back c.args.self.now.leads c.put_leads.new.leads (c.put_leads.auto.leads ∙ ap length c.as_mut_slice.ensures.value))))
 
 pub put_node-requires-clause-room : goal.put_node-requires-clause-room
 put_node-requires-clause-room c =
     let (x, rows) = c.requires.rows in
     let node = c.node_around-node.ensures in (
       x,
-      wrap_grounds x c.args.self.now rows c.args.h.now (c.requires.hedge x rows) c.args.sym.0 (c.requires.symbol x rows) c.node_around-node.result (node.letter x rows.machine.parts.are_rules) node.entries node.looks node.bears,
+      wrap_grounds x c.args.self.now rows c.args.h.now (c.requires.hedge x rows) c.args.sym.0 (c.requires.symbol x rows) c.node_around-node.result (ap letter_of node.letter ∙ c.element_letter-letter.ensures x rows.machine.parts.are_rules) node.entries node.looks node.bears (leads_kept c.args.self.now.machine.now.rules c.element_letter-letter.result c.node_around-node.result.letter c.put_leads.new.leads c.node_around-node.result.leads.now c.put_leads.ensures node.letter (node.leads ∙ (c.as_slice.ensures.value ∙ leads_back c.args.self.now.leads c.put_leads.new.leads (c.put_leads.auto.leads ∙ ap length c.as_mut_slice.ensures.value)))),
       room_after (tree_layout x) c.args.out.now.room c.set_heads.new.self (c.requires.room x rows) (beside_then c.args.out.now.room c.put_patterns.new.out c.set_heads.new.self c.put_patterns.ensures.beside c.set_heads.ensures.beside),
     )
 
@@ -44,7 +52,7 @@ pub returns-in_err-put_node-clause-rows : goal.returns-in_err-put_node-clause-ro
 returns-in_err-put_node-clause-rows c = λ x rows.
     let node = c.node_around-node.ensures in
     rows_after x c.args.self.now rows c.put_node.new.outputs c.put_node.ensures.held c.put_node.new.work
-    (c.put_node.ensures.work x (wrap_grounds x c.args.self.now rows c.args.h.now (c.requires.hedge x rows) c.args.sym.0 (c.requires.symbol x rows) c.node_around-node.result (node.letter x rows.machine.parts.are_rules) node.entries node.looks node.bears))
+    (c.put_node.ensures.work x (wrap_grounds x c.args.self.now rows c.args.h.now (c.requires.hedge x rows) c.args.sym.0 (c.requires.symbol x rows) c.node_around-node.result (ap letter_of node.letter ∙ c.element_letter-letter.ensures x rows.machine.parts.are_rules) node.entries node.looks node.bears (leads_kept c.args.self.now.machine.now.rules c.element_letter-letter.result c.node_around-node.result.letter c.put_leads.new.leads c.node_around-node.result.leads.now c.put_leads.ensures node.letter (node.leads ∙ (c.as_slice.ensures.value ∙ leads_back c.args.self.now.leads c.put_leads.new.leads (c.put_leads.auto.leads ∙ ap length c.as_mut_slice.ensures.value)))))) _ refl refl refl
 
 pub returns-in_err-put_node-clause-err : goal.returns-in_err-put_node-clause-err
 returns-in_err-put_node-clause-err c = on_err c.from_residual.result _ (λ x rows.
@@ -59,17 +67,17 @@ returns-in_err-put_node-clause-partly c = on_err c.from_residual.result _ (λ x 
     let r = c.args.self.now in
     let node = c.node_around-node.ensures in
     let n = c.node_around-node.result in
-    let letter = node.letter x rows.machine.parts.are_rules in
+    let letter = ap letter_of node.letter ∙ c.element_letter-letter.ensures x rows.machine.parts.are_rules in
     let hedge = c.requires.hedge x rows in
     let low = c.requires.symbol x rows in
-    let grounds = wrap_grounds x r rows c.args.h.now hedge c.args.sym.0 low n letter node.entries node.looks node.bears in
-    wrap_left_out x r rows c.args.h.now hedge c.args.sym.0 low n letter node.entries node.looks node.bears c.put_node.new.outputs c.put_node.ensures.sets c.put_node.ensures.held (c.in_err-put_node.ensures.partly x grounds) u is)
+    let grounds = wrap_grounds x r rows c.args.h.now hedge c.args.sym.0 low n letter node.entries node.looks node.bears (leads_kept c.args.self.now.machine.now.rules c.element_letter-letter.result c.node_around-node.result.letter c.put_leads.new.leads c.node_around-node.result.leads.now c.put_leads.ensures node.letter (node.leads ∙ (c.as_slice.ensures.value ∙ leads_back c.args.self.now.leads c.put_leads.new.leads (c.put_leads.auto.leads ∙ ap length c.as_mut_slice.ensures.value)))) in
+    wrap_left_out x r rows c.args.h.now hedge c.args.sym.0 low n letter node.entries node.looks node.bears (leads_kept c.args.self.now.machine.now.rules c.element_letter-letter.result c.node_around-node.result.letter c.put_leads.new.leads c.node_around-node.result.leads.now c.put_leads.ensures node.letter (node.leads ∙ (c.as_slice.ensures.value ∙ leads_back c.args.self.now.leads c.put_leads.new.leads (c.put_leads.auto.leads ∙ ap length c.as_mut_slice.ensures.value)))) c.put_node.new.outputs c.put_node.ensures.sets c.put_node.ensures.held (c.in_err-put_node.ensures.partly x grounds) u is)
 
 pub returns-clause-rows : goal.returns-clause-rows
 returns-clause-rows c = λ x rows.
     let node = c.node_around-node.ensures in
     rows_after x c.args.self.now rows c.put_node.new.outputs c.put_node.ensures.held c.put_node.new.work
-    (c.put_node.ensures.work x (wrap_grounds x c.args.self.now rows c.args.h.now (c.requires.hedge x rows) c.args.sym.0 (c.requires.symbol x rows) c.node_around-node.result (node.letter x rows.machine.parts.are_rules) node.entries node.looks node.bears))
+    (c.put_node.ensures.work x (wrap_grounds x c.args.self.now rows c.args.h.now (c.requires.hedge x rows) c.args.sym.0 (c.requires.symbol x rows) c.node_around-node.result (ap letter_of node.letter ∙ c.element_letter-letter.ensures x rows.machine.parts.are_rules) node.entries node.looks node.bears (leads_kept c.args.self.now.machine.now.rules c.element_letter-letter.result c.node_around-node.result.letter c.put_leads.new.leads c.node_around-node.result.leads.now c.put_leads.ensures node.letter (node.leads ∙ (c.as_slice.ensures.value ∙ leads_back c.args.self.now.leads c.put_leads.new.leads (c.put_leads.auto.leads ∙ ap length c.as_mut_slice.ensures.value)))))) _ refl refl refl
 
 pub returns-clause-live : goal.returns-clause-live
 returns-clause-live c = λ e x rows.
@@ -85,10 +93,10 @@ returns-clause-row c = λ e x rows.
     let a = c.args.sym.0 in
     let node = c.node_around-node.ensures in
     let n = c.node_around-node.result in
-    let letter = node.letter x rows.machine.parts.are_rules in
+    let letter = ap letter_of node.letter ∙ c.element_letter-letter.ensures x rows.machine.parts.are_rules in
     let hedge = c.requires.hedge x rows in
     let low = c.requires.symbol x rows in
-    let grounds = wrap_grounds x r rows c.args.h.now hedge a low n letter node.entries node.looks node.bears in
+    let grounds = wrap_grounds x r rows c.args.h.now hedge a low n letter node.entries node.looks node.bears (leads_kept c.args.self.now.machine.now.rules c.element_letter-letter.result c.node_around-node.result.letter c.put_leads.new.leads c.node_around-node.result.leads.now c.put_leads.ensures node.letter (node.leads ∙ (c.as_slice.ensures.value ∙ leads_back c.args.self.now.leads c.put_leads.new.leads (c.put_leads.auto.leads ∙ ap length c.as_mut_slice.ensures.value)))) in
     let first = c.put_patterns.ensures in
     let heads = c.set_heads.ensures in
     let put = c.put_node.ensures in
@@ -103,6 +111,6 @@ returns-clause-row c = λ e x rows.
     let kept = patterns_kept r.machine.now.input a _ c.put_patterns.new.out.numbers.items us c.set_heads.new.self.flags (mid.flags ∙ sym (patterns_of input x.input r.machine.now.input.auto rows.machine.parts.contents.auto))
     (λ k from to. put.others k to ∙ heads.change.others k from) puts
     in (
-      record { parted = parted; numbers = wrap_room x r rows c.args.h.now hedge a low n letter node.entries node.looks node.bears c.put_node.new.outputs put.sets put.held us parted.count so head bears kept },
-      is_wrap x r rows c.args.h.now hedge a low n letter node.entries node.looks node.bears c.put_node.new.outputs put.sets put.held us parted.count so head bears kept,
+      record { parted = parted; numbers = wrap_room x r rows c.args.h.now hedge a low n letter node.entries node.looks node.bears (leads_kept c.args.self.now.machine.now.rules c.element_letter-letter.result c.node_around-node.result.letter c.put_leads.new.leads c.node_around-node.result.leads.now c.put_leads.ensures node.letter (node.leads ∙ (c.as_slice.ensures.value ∙ leads_back c.args.self.now.leads c.put_leads.new.leads (c.put_leads.auto.leads ∙ ap length c.as_mut_slice.ensures.value)))) c.put_node.new.outputs put.sets put.held us parted.count so head bears kept },
+      is_wrap x r rows c.args.h.now hedge a low n letter node.entries node.looks node.bears (leads_kept c.args.self.now.machine.now.rules c.element_letter-letter.result c.node_around-node.result.letter c.put_leads.new.leads c.node_around-node.result.leads.now c.put_leads.ensures node.letter (node.leads ∙ (c.as_slice.ensures.value ∙ leads_back c.args.self.now.leads c.put_leads.new.leads (c.put_leads.auto.leads ∙ ap length c.as_mut_slice.ensures.value)))) c.put_node.new.outputs put.sets put.held us parted.count so head bears kept,
     )
