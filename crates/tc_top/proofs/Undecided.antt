@@ -1,4 +1,4 @@
--- Answers that end a call early, and what ends every call on the same texts.
+-- Answers that end a call early, and what ends every call on the same texts; and what the texts decide where there is a machine.
 use Rattle.std.proofs.Common.{◌≡◌, sym, subst, ℕ, List, Result, Ok, Err, IfOk, IfErr}
 use Rattle.std.specs.Result.{IsErrAnd}
 use Rattle.tc_answer.specs.Answers.{Answer, refused}
@@ -11,10 +11,11 @@ use Rattle.tc_model.specs.Sheets.{Sheet}
 use Rattle.tc_top.specs.AnswersSeen.{SaysRefused}
 use Rattle.tc_top.specs.Causes.{OfTexts, refuses_input, refuses_output, refuses_sheet, all_three}
 use Rattle.tc_top.specs.CertifyingSeen.{undecided_of, IsUndecided, IsPassed, is_passed, StopsTexts}
-use Rattle.tc_top.specs.Checking.{PassesTripleLimit}
+use Rattle.tc_top.specs.Checking.{IsWithinTripleLimits, PassesTripleLimit}
 use Rattle.tc_top.specs.declared.texts.Undecided.{Undecided}
 use Rattle.tc_top.specs.declared.texts.Undecided.TheVariants.{Stops, NoMemory}
 use Rattle.tc_answer.specs.Answers.{over_limit}
+use Rattle.tc_beh.specs.Machines.{IsMachineOf}
 use Rattle.tc_beh.specs.declared.machine.Machine.{Machine}
 use Rattle.tc_read.specs.Faults.{IsUnaccepted}
 use Rattle.tc_read.specs.Refusals.{IsRefusedSheet}
@@ -25,10 +26,11 @@ use Rattle.tc_read.specs.declared.schemas.Schema.{Schema}
 use Rattle.tc_read.proofs.Exits.{err_is}
 use Rattle.tc_top.specs.CertifyingSeen.{IsRefusedBy, is_refused, IsMachineOfTexts}
 use Rattle.tc_top.specs.SchemaTexts.{IsRefusedText, IsSchemaOfText}
+use Rattle.tc_rows.specs.Triples as t
 use Rattle.tc_top.specs.MachinesSeen.{IsReadOf, IsMachineFor, IsCauseBy}
 use Rattle.tc_top.specs.declared.machine.LimitFault.{LimitFault}
 use Rattle.tc_top.specs.declared.machine.LimitFault.TheVariants.{Passes}
-use Rattle.tc_top.proofs.Checked.{read_of}
+use Rattle.tc_top.proofs.Checked.{of_triple, read_of, to_triple}
 use Rattle.tc_top.proofs.Unaccepted.{refused_as}
 
 -- an answer that says this
@@ -48,6 +50,21 @@ stopped over (refuses_input r) = refuses_input r
 stopped over (refuses_output g r) = refuses_output g r
 stopped over (refuses_sheet g h r) = refuses_sheet g h r
 stopped over (all_three {i} {o} {s} g h z (is_passed {kind} {number} p)) = all_three g h z (over i o s kind number p)
+
+module _ {Decided : Grammar → Grammar → Sheet → Answer → Type 0} {input output b c d : List ℕ} (sheet : List ℕ) (said : made.Answer) where
+  -- an answer that ends the call early says what the texts lead to
+  pub stopped_early : ((i o : Grammar) (s : Sheet) (kind : kinds.Limit) (number : ℕ) → PassesTripleLimit i o s kind number → Decided i o s (over_limit kind number))
+      → (e : Undecided) → e ≡ Stops said → IsUndecided (StopsTexts input output sheet b c d) e → (answer : Answer) × Says said answer × OfTexts Decided input output sheet b c d answer
+  stopped_early over e is why = let found = subst (IsUndecided (StopsTexts input output sheet b c d)) is why in (found.0, found.1, stopped over found.2)
+
+  -- what is decided by the machine of the texts, they decide
+  pub by_machine : {m : Machine} → IsMachineOfTexts input output b c d m
+      → ((x : t.Triple) → IsMachineOf x m → IsWithinTripleLimits x.input x.output (t.sheet x) → (answer : Answer) × Says said answer × Decided x.input x.output (t.sheet x) answer)
+      → (answer : Answer) × Says said answer × OfTexts Decided input output sheet b c d answer
+  by_machine texts decided =
+      let made = texts.machine in
+      let found = decided made.triple made.machine (to_triple IsWithinTripleLimits made.of made.within_limits) in
+      (found.0, found.1, all_three texts.input_spells texts.output_spells texts.sheet_spells (of_triple (λ i o s. Decided i o s found.0) made.of found.2))
 
 -- a weaker reason
 pub undecided_weaker : (P Q : Answer → Type 0) → ((answer : Answer) → P answer → Q answer) → (e : Undecided) → IsUndecided P e → IsUndecided Q e
