@@ -1,5 +1,5 @@
 // Where states of moves go on a node, found out once for all ancestor states above it.
-ghost use Rattle.std.specs.Prelude.{◌<◌, IfOk};
+ghost use Rattle.std.specs.Prelude.{◌<◌};
 ghost use Rattle.tc_model.specs.Letters.{IsLetter};
 ghost use Rattle.tc_rules.specs.Kept.{told};
 ghost use Rattle.tc_rules.specs.RulesView.{move_count};

@@ -1,4 +1,4 @@
-use Rattle.std.proofs.Common.{◌≡◌, ◌<◌, ◌+◌, ◌*◌, length, get_or, false, sym, ap, ◌∙◌, subst}
+use Rattle.std.proofs.Common.{◌≡◌, ◌<◌, ◌+◌, ◌*◌, length, get_or, sym, ap, ◌∙◌, subst}
 use Rattle.tc_model.specs.Letters.{IsLetter}
 use Rattle.tc_model.specs.PathStates.{State}
 use Rattle.tc_model.specs.StateCounts.{PathUse}

@@ -1,4 +1,4 @@
-use Rattle.std.proofs.Common.{◌≡◌, ◌<◌, ℕ, length, get_or}
+use Rattle.std.proofs.Common.{◌<◌, ℕ, length, get_or}
 use Rattle.tc_beh.specs.Leads.{IsLead}
 use Rattle.tc_beh.specs.declared.leads.Lead.{Lead}
 use Rattle.tc_beh.proofs.leads.put_leads.Given as goal
