@@ -260,6 +260,8 @@ Of another clause the statement stands in `tc_top.Headline` too, or, of certific
 | `IfOk r (λ v. P)`, `OnOk r P`; `IfErr`, `OnErr`; `IfSome` | where r is `Ok v`, P of this v; where r is an `Ok`, P; so for `Err` and `Some`. Of the other variant nothing is said. |
 | `ℕ`; `List ℕ`; `codes "ab"`; `[]`, `x ∷ xs`, `xs ++ ys`; `IsTrue b` | a number from 0; a text, by its bytes; the bytes of this text; the empty list, x before xs, ys behind xs; the truth value b is true |
 | `Type 0` | the type of statements and of plain types: who has the type `A → Type 0` is a property of what is in A. |
+| `elim x [ A v ↦ e \| B ↦ f ]`; `if b then x else y` | e where x is `A v`, f where it is `B`; x where b is true, else y |
+| `record { a = e }`; `(e, f)`; `_` | the value whose part a is e; the pair; what the rest tells, or whatever it is |
 | `abbrev f : A` and lines `f x = ..` | f stands for the right side; of several lines the first that fits counts. |
 | `record R (x : A) .. where`, with fields | the statement that all its fields hold, of which later ones may speak of earlier ones; or a type of values with these parts |
 | `data D (x : A) .. where`, with constructors | the statement that holds where a constructor gives it, in finitely many steps, and nowhere else; or a type with these variants |
@@ -284,7 +286,7 @@ What `safe` reaches beside the first table: words of the command line, schemas, 
 
 $texts
 
-**A schema given as `dtd:ROOT:NAME`** is by `safe` the grammar of the declarations (`IsGrammarOfDtd` in `tc_dtd.DtdGrammar`), whose form is this project's choice. What XML 1.0 says of validity (3, Element Valid; 3.2) is `IsDtdValid` in [`tc_dtd.DtdValidity`](../crates/tc_dtd/specs/DtdValidity.antt), which no clause above reaches. That the same documents are valid by both is proved: the clause `valid` of `grammar` in [`crates/tc_dtd/src/schema.rt`](../crates/tc_dtd/src/schema.rt) says it of the grammar that is made, and rests on `law_of_validity`, which says it of each grammar that `IsGrammarOfDtd` tells of. So it is as good to read `DtdValidity` in place of `DtdGrammar`. It speaks of documents (`IsDocument`); of a result that is one, valid as an output (`IsValidOutput`) means the same as valid.
+**A schema given as `dtd:ROOT:NAME`** is by `safe` the grammar of the declarations (`IsGrammarOfDtd` in `tc_dtd.DtdGrammar`), whose form is this project's choice. What XML 1.0 says of validity (3, Element Valid; 3.2) is `IsDtdValid` in [`tc_dtd.DtdValidity`](../crates/tc_dtd/specs/DtdValidity.antt), which no clause above reaches. That the same documents are valid by both is proved: the clause `valid` of `grammar` in [`crates/tc_dtd/src/schema.rt`](../crates/tc_dtd/src/schema.rt) says it of the grammar that is made, and rests on the lemma `law_of_validity` in [`ValidLaws`](../crates/tc_dtd/proofs/ValidLaws.antt), which says it of each grammar that `IsGrammarOfDtd` tells of. So it is as good to read `DtdValidity` in place of `DtdGrammar`. It speaks of documents (`IsDocument`); of a result that is one, valid as an output (`IsValidOutput`) means the same as valid.
 
 ## What the other clauses add
 
