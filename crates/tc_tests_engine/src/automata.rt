@@ -1,6 +1,9 @@
 //! States, edges and runs of small schemas, by hand.
+ghost use Rattle.std.specs.Prelude.{◌≤◌};
+ghost use Rattle.tc_auto.specs.Stands.{patterns};
 
 use std::alloc::Global;
+use std::process::Abort;
 use std::test::Fail;
 use tc_auto::{Auto, AutoFault, Edge, Leaf};
 use tc_model::{ElemPat, Grammar, Name, NameClass, Pat};
@@ -11,6 +14,46 @@ fn one<'b>(local: &'b str, content: Pat<'b>) -> ElemPat<'b> {
     ElemPat { names, content }
 }
 
+const A: Name<'static> = Name {
+    uri: "",
+    local: "a",
+};
+
+const B: Name<'static> = Name {
+    uri: "",
+    local: "b",
+};
+
+const C: Name<'static> = Name {
+    uri: "",
+    local: "c",
+};
+
+/// The states to which an item leads some states.
+fn after(alloc: Global, auto: &Auto<'_>, states: &[u32], item: Leaf) -> Result<Vec<u32>, Fail> {
+    let mut next = Vec::new(alloc);
+    for state in states {
+        if *state < auto.states() {
+            for edge in auto.follow(*state) {
+                if edge.leaf == item {
+                    next.push(edge.to)?;
+                }
+            }
+        }
+    }
+    Ok(next)
+}
+
+/// Whether one of some states accepts.
+fn is_one_accepting(auto: &Auto<'_>, states: &[u32]) -> bool {
+    for state in states {
+        if *state < auto.states() && auto.accepts(*state) {
+            return true;
+        }
+    }
+    false
+}
+
 /// Whether the items lead from the first state of a part to an accepting one.
 fn runs(alloc: Global, auto: &Auto<'_>, part: u32, items: &[Leaf]) -> Result<bool, Fail> {
     let mut states: Vec<u32> = Vec::new(alloc);
@@ -18,63 +61,123 @@ fn runs(alloc: Global, auto: &Auto<'_>, part: u32, items: &[Leaf]) -> Result<boo
         states.push(auto.first(part))?;
     }
     for item in items {
-        let mut next = Vec::new(alloc);
-        for state in &states {
-            if *state < auto.states() {
-                for edge in auto.follow(*state) {
-                    if edge.leaf == *item {
-                        next.push(edge.to)?;
-                    }
-                }
-            }
-        }
-        states = next;
+        states = after(alloc, auto, &states, *item)?;
     }
-    for state in &states {
-        if *state < auto.states() && auto.accepts(*state) {
-            return Ok(true);
-        }
-    }
-    Ok(false)
+    Ok(is_one_accepting(auto, &states))
+}
+
+/// `element a { a, text }`.
+static GROUP: Grammar<'static> = Grammar {
+    start: Pat::Ref(1),
+    elements: &GROUP_ELEMENTS,
+};
+
+const GROUP_ELEMENTS: [ElemPat<'static>; 1] = [ElemPat {
+    names: NameClass::Name(A),
+    content: Pat::Group(&GROUP_MEMBERS),
+}];
+
+const GROUP_MEMBERS: [Pat<'static>; 2] = [Pat::Ref(1), Pat::Text];
+
+const TO_1: Edge = Edge {
+    to: 1,
+    leaf: Leaf::Ref(1),
+};
+
+const TO_3: Edge = Edge {
+    to: 3,
+    leaf: Leaf::Ref(1),
+};
+
+const TO_4: Edge = Edge {
+    to: 4,
+    leaf: Leaf::Text,
+};
+
+/// The states by their numbers, whether they accept, and the first edge of each.
+static GROUP_STATES: [(u32, bool, Option<Edge>); 5] = [
+    (0, false, Some(TO_1)),
+    (1, true, None),
+    (2, false, Some(TO_3)),
+    (3, true, Some(TO_4)),
+    (4, true, Some(TO_4)),
+];
+
+/// Asserts whether a state accepts, and its first edge.
+fn assert_state(
+    rt: &impl Abort,
+    auto: &Auto<'_>,
+    state: u32,
+    is_accepting: bool,
+    edge: Option<Edge>,
+) {
+    assert!(rt; state < auto.states(), "{state}");
+    assert_eq!(rt; auto.accepts(state), is_accepting, "{state}");
+    assert_eq!(rt; auto.follow(state).first().copied(), edge, "{state}");
 }
 
 /// The edges of one state after another, and which states accept.
 #[test]
 fn numbers_the_states_of_a_group(rt: HostRuntime) -> Result<(), Fail> {
-    let members = [Pat::Ref(1), Pat::Text];
-    let elements = [one("a", Pat::Group(&members))];
-    let grammar = Grammar {
-        start: Pat::Ref(1),
-        elements: &elements,
-    };
-    let auto = Auto::of(rt.alloc(), &grammar, 5)?;
+    let auto = Auto::of(rt.alloc(), &GROUP, 5)?;
     assert_eq!(rt; auto.states(), 5);
     assert_eq!(rt; auto.patterns(), 1);
     assert_eq!(rt; auto.first(0), 0);
     assert_eq!(rt; auto.first(1), 2);
-    let accepting = [false, true, false, true, true];
-    let edges = [
-        Some(Edge {
-            to: 1,
-            leaf: Leaf::Ref(1),
-        }),
-        None,
-        Some(Edge {
-            to: 3,
-            leaf: Leaf::Ref(1),
-        }),
-        Some(Edge {
-            to: 4,
-            leaf: Leaf::Text,
-        }),
-        Some(Edge {
-            to: 4,
-            leaf: Leaf::Text,
-        }),
-    ];
-    for state in 0..5u32 {
-        assert_eq!(rt; auto.accepts(state), accepting[state as usize]);
-        assert_eq!(rt; auto.follow(state).first().copied(), edges[state as usize]);
+    for (state, is_accepting, edge) in &GROUP_STATES {
+        assert_state(&rt, &auto, *state, *is_accepting, *edge);
+    }
+    Ok(())
+}
+
+static INTERLEAVED: Grammar<'static> = Grammar {
+    start: Pat::Ref(1),
+    elements: &INTERLEAVED_ELEMENTS,
+};
+
+const INTERLEAVED_ELEMENTS: [ElemPat<'static>; 3] = [
+    ElemPat {
+        names: NameClass::Name(A),
+        content: Pat::Interleave(&INTERLEAVED_MEMBERS),
+    },
+    ElemPat {
+        names: NameClass::Name(B),
+        content: Pat::Empty,
+    },
+    ElemPat {
+        names: NameClass::Name(C),
+        content: Pat::Empty,
+    },
+];
+
+const INTERLEAVED_MEMBERS: [Pat<'static>; 2] = [Pat::Ref(2), Pat::Ref(3)];
+
+const TO_B: Leaf = Leaf::Ref(2);
+
+const TO_C: Leaf = Leaf::Ref(3);
+
+/// Items of a part, and whether they lead from its first state to an accepting one.
+static INTERLEAVED_RUNS: [(u32, &[Leaf], bool); 5] = [
+    (1, &[TO_B, TO_C], true),
+    (1, &[TO_C, TO_B], true),
+    (1, &[TO_B], false),
+    (1, &[TO_B, TO_B], false),
+    (2, &[], true),
+];
+
+/// Asserts of items of parts whether they lead so.
+fn assert_runs(
+    rt: &impl Abort,
+    alloc: Global,
+    auto: &Auto<'_>,
+    all: &[(u32, &[Leaf], bool)],
+) -> Result<(), Fail> {
+    for (part, items, is_led) in all {
+        assert_eq!(rt;
+            runs(alloc, auto, *part, items)?,
+            *is_led,
+            "{part} {items:?}"
+        );
     }
     Ok(())
 }
@@ -82,25 +185,9 @@ fn numbers_the_states_of_a_group(rt: HostRuntime) -> Result<(), Fail> {
 /// `element a { element b { empty } & element c { empty } }`: in any order, and neither alone.
 #[test]
 fn takes_an_interleave_in_any_order(rt: HostRuntime) -> Result<(), Fail> {
-    let members = [Pat::Ref(2), Pat::Ref(3)];
-    let elements = [
-        one("a", Pat::Interleave(&members)),
-        one("b", Pat::Empty),
-        one("c", Pat::Empty),
-    ];
-    let grammar = Grammar {
-        start: Pat::Ref(1),
-        elements: &elements,
-    };
-    let auto = Auto::contents(rt.alloc(), &grammar, 6)?;
+    let auto = Auto::contents(rt.alloc(), &INTERLEAVED, 6)?;
     assert_eq!(rt; auto.states(), 6);
-    let (b, c) = (Leaf::Ref(2), Leaf::Ref(3));
-    assert!(rt; runs(rt.alloc(), &auto, 1, &[b, c])?);
-    assert!(rt; runs(rt.alloc(), &auto, 1, &[c, b])?);
-    assert!(rt; !runs(rt.alloc(), &auto, 1, &[b])?);
-    assert!(rt; !runs(rt.alloc(), &auto, 1, &[b, b])?);
-    assert!(rt; runs(rt.alloc(), &auto, 2, &[])?);
-    Ok(())
+    assert_runs(&rt, rt.alloc(), &auto, &INTERLEAVED_RUNS)
 }
 
 /// The contents of element patterns without a start.
@@ -129,86 +216,141 @@ fn takes_pairs_again_and_again(rt: HostRuntime) -> Result<(), Fail> {
     Ok(())
 }
 
+/// The content of `r` is 260 of `x`.
+static LARGE: Grammar<'static> = Grammar {
+    start: Pat::Ref(1),
+    elements: &LARGE_ELEMENTS,
+};
+
+const LARGE_ELEMENTS: [ElemPat<'static>; 2] = [
+    ElemPat {
+        names: NameClass::Name(Name {
+            uri: "",
+            local: "r",
+        }),
+        content: Pat::Group(&LARGE_MEMBERS),
+    },
+    ElemPat {
+        names: NameClass::Name(Name {
+            uri: "",
+            local: "x",
+        }),
+        content: Pat::Empty,
+    },
+];
+
+const LARGE_MEMBERS: [Pat<'static>; 260] = [Pat::Ref(2); 260];
+
+/// The content of `m` is 70 of it in any order.
+static WIDE: Grammar<'static> = Grammar {
+    start: Pat::Ref(1),
+    elements: &WIDE_ELEMENTS,
+};
+
+const WIDE_ELEMENTS: [ElemPat<'static>; 1] = [ElemPat {
+    names: NameClass::Name(Name {
+        uri: "",
+        local: "m",
+    }),
+    content: Pat::Interleave(&WIDE_MEMBERS),
+}];
+
+const WIDE_MEMBERS: [Pat<'static>; 70] = [Pat::Ref(1); 70];
+
+/// How many states a schema has, up to so many.
+fn states_of(alloc: Global, grammar: &Grammar<'_>, most: u32) -> Result<u32, AutoFault> {
+    let auto = Auto::of(alloc, grammar, most)?;
+    Ok(auto.states())
+}
+
+/// How many states the contents of its element patterns have.
+fn states_of_contents(alloc: Global, grammar: &Grammar<'_>, most: u32) -> Result<u32, AutoFault> {
+    let auto = Auto::contents(alloc, grammar, most)?;
+    Ok(auto.states())
+}
+
 /// Two states of the start, 261 of the content of `r` and one of that of `x`.
 #[test]
-fn counts_states_before_it_builds(rt: HostRuntime) -> Result<(), Fail> {
-    let members = [Pat::Ref(2); 260];
-    let elements = [one("r", Pat::Group(&members)), one("x", Pat::Empty)];
-    let grammar = Grammar {
-        start: Pat::Ref(1),
-        elements: &elements,
-    };
-    let refused = Auto::of(rt.alloc(), &grammar, 263);
-    assert!(rt; matches!(refused, Err(AutoFault::TooManyStates)));
-    let made = Auto::of(rt.alloc(), &grammar, 264)?;
-    assert_eq!(rt; made.states(), 264);
-    let contents = Auto::contents(rt.alloc(), &grammar, 262)?;
-    assert_eq!(rt; contents.states(), 262);
+fn counts_states_before_it_builds(rt: HostRuntime) {
+    let alloc = rt.alloc();
+    let refused = Err(AutoFault::TooManyStates);
+    assert_eq!(rt; states_of(alloc, &LARGE, 263), refused);
+    assert_eq!(rt; states_of(alloc, &LARGE, 264), Ok(264));
+    assert_eq!(rt; states_of_contents(alloc, &LARGE, 262), Ok(262));
+    assert_eq!(rt; states_of(alloc, &WIDE, 4_294_967_295), refused);
+}
 
-    let many = [Pat::Ref(1); 70];
-    let nested = [one("m", Pat::Interleave(&many))];
-    let wide = Grammar {
-        start: Pat::Ref(1),
-        elements: &nested,
-    };
-    let product = Auto::of(rt.alloc(), &wide, 4_294_967_295);
-    assert!(rt; matches!(product, Err(AutoFault::TooManyStates)));
-    Ok(())
+const A_OF_U: Name<'static> = Name {
+    uri: "u",
+    local: "a",
+};
+
+const B_OF_U: Name<'static> = Name {
+    uri: "u",
+    local: "b",
+};
+
+const A_OF_V: Name<'static> = Name {
+    uri: "v",
+    local: "a",
+};
+
+/// `(element a of u or b of v | notAllowed) | element u:* - u:a`, with an element of all names but `a` of `u` beside.
+static NAMED: Grammar<'static> = Grammar {
+    start: Pat::Choice(&NAMED_START),
+    elements: &NAMED_ELEMENTS,
+};
+
+const NAMED_START: [Pat<'static>; 2] = [Pat::Choice(&NAMED_INNER), Pat::Ref(1)];
+
+const NAMED_INNER: [Pat<'static>; 2] = [Pat::Ref(3), Pat::NotAllowed];
+
+const NAMED_ELEMENTS: [ElemPat<'static>; 3] = [
+    ElemPat {
+        names: NameClass::Ns("u", &EXCEPTED),
+        content: Pat::Empty,
+    },
+    ElemPat {
+        names: NameClass::Any(&EXCEPTED),
+        content: Pat::Empty,
+    },
+    ElemPat {
+        names: NameClass::Choice(&EITHER),
+        content: Pat::Empty,
+    },
+];
+
+const EXCEPTED: [NameClass<'static>; 1] = [NameClass::Name(A_OF_U)];
+
+const EITHER: [NameClass<'static>; 2] = [NameClass::Name(B_OF_U), NameClass::Name(A_OF_V)];
+
+/// Which of three names each element pattern allows.
+static NAMED_ALLOWED: [(u32, [bool; 3]); 3] = [
+    (1, [false, true, false]),
+    (2, [false, true, true]),
+    (3, [false, true, true]),
+];
+
+/// Which of them an element pattern allows.
+fn allowed(auto: &Auto<'_>, number: u32) -> [bool; 3]
+    requires from_one { 1 ≤ number }
+    requires within { number ≤ patterns auto.now }
+{
+    [
+        auto.allows(number, &A_OF_U),
+        auto.allows(number, &B_OF_U),
+        auto.allows(number, &A_OF_V),
+    ]
 }
 
 /// Wildcards with exceptions, and alternatives of the start in a choice within a choice.
 #[test]
 fn tells_names_and_alternatives(rt: HostRuntime) -> Result<(), Fail> {
-    let a = Name {
-        uri: "u",
-        local: "a",
-    };
-    let b = Name {
-        uri: "u",
-        local: "b",
-    };
-    let c = Name {
-        uri: "v",
-        local: "a",
-    };
-    let except = [NameClass::Name(a)];
-    let either = [NameClass::Name(b), NameClass::Name(c)];
-    let elements = [
-        ElemPat {
-            names: NameClass::Ns("u", &except),
-            content: Pat::Empty,
-        },
-        ElemPat {
-            names: NameClass::Any(&except),
-            content: Pat::Empty,
-        },
-        ElemPat {
-            names: NameClass::Choice(&either),
-            content: Pat::Empty,
-        },
-    ];
-    let inner = [Pat::Ref(3), Pat::NotAllowed];
-    let outer = [Pat::Choice(&inner), Pat::Ref(1)];
-    let grammar = Grammar {
-        start: Pat::Choice(&outer),
-        elements: &elements,
-    };
-    let auto = Auto::contents(rt.alloc(), &grammar, 3)?;
+    let auto = Auto::contents(rt.alloc(), &NAMED, 3)?;
     assert_eq!(rt; auto.patterns(), 3);
-    for (number, expected) in [
-        (1, [false, true, false]),
-        (2, [false, true, true]),
-        (3, [false, true, true]),
-    ] {
-        if number <= auto.patterns() {
-            assert_eq!(rt;
-                [
-                    auto.allows(number, &a),
-                    auto.allows(number, &b),
-                    auto.allows(number, &c)
-                ],
-                expected
-            );
+    for (number, expected) in &NAMED_ALLOWED {
+        if 1 <= *number && *number <= auto.patterns() {
+            assert_eq!(rt; allowed(&auto, *number), *expected, "{number}");
         }
     }
     assert!(rt; auto.starts(1) && !auto.starts(2) && auto.starts(3));

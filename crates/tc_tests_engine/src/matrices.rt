@@ -1,6 +1,7 @@
 //! The product beside a plain one over truth values, the places of bits, and the numbers of a pool.
 
 use std::alloc::{AllocError, Global};
+use std::process::Abort;
 use std::test::Fail;
 use tc_mat::{Mat, MatId, Pool, PoolFault};
 
@@ -65,43 +66,66 @@ fn multiply(a: &Mat, b: &Mat, out: &mut Mat) -> bool {
     fits
 }
 
+/// Asserts of each pair of numbers up to a size whether the product has it.
+fn assert_pairs(rt: &impl Abort, product: &Mat, a: &[Vec<bool>], b: &[Vec<bool>], n: u32) {
+    for i in 0..n {
+        for j in 0..n {
+            let plain = leads(a, b, i as usize, j as usize);
+            assert_eq!(rt; has(product, i, j), plain, "size {n}, pair {i} {j}");
+        }
+    }
+}
+
+/// The product of two rules' pairs, over what a matrix held.
+fn product_of(rt: &impl Abort, alloc: Global, left: u32, right: u32, n: u32) -> Result<Mat, Fail> {
+    let a = matrix_of(alloc, left, n)?;
+    let b = matrix_of(alloc, right, n)?;
+    let mut out = matrix_of(alloc, 6, n)?;
+    assert!(rt; multiply(&a, &b, &mut out), "sizes");
+    Ok(out)
+}
+
+/// Asserts that the product of two rules' pairs is the plain one.
+fn assert_product(
+    rt: &impl Abort,
+    alloc: Global,
+    left: u32,
+    right: u32,
+    n: u32,
+) -> Result<(), Fail> {
+    let product = product_of(rt, alloc, left, right, n)?;
+    let a = table_of(alloc, left, n)?;
+    let b = table_of(alloc, right, n)?;
+    assert_pairs(rt, &product, &a, &b, n);
+    Ok(())
+}
+
 /// Sizes beside a word's border, a full left and one whose blocks on the diagonal are zero, over what `out` held.
 #[test]
 fn product_is_the_plain_one(rt: HostRuntime) -> Result<(), Fail> {
-    let alloc = rt.alloc();
     for n in [1, 63, 64, 65, 130] {
         for (left, right) in [(0, 2), (1, 4)] {
-            let a = matrix_of(alloc, left, n)?;
-            let b = matrix_of(alloc, right, n)?;
-            let mut out = matrix_of(alloc, 6, n)?;
-            assert!(rt; multiply(&a, &b, &mut out), "sizes");
-            let plain_a = table_of(alloc, left, n)?;
-            let plain_b = table_of(alloc, right, n)?;
-            for i in 0..n {
-                for j in 0..n {
-                    let plain = leads(
-                        plain_a.as_slice(),
-                        plain_b.as_slice(),
-                        i as usize,
-                        j as usize,
-                    );
-                    assert_eq!(rt; has(&out, i, j), plain, "size {n}, pair {i} {j}");
-                }
-            }
+            assert_product(&rt, rt.alloc(), left, right, n)?;
         }
     }
     Ok(())
 }
 
-/// Two words a row at size 65: (0, 64) is in the second word of row 0, (64, 64) in the last word.
-#[test]
-fn bits_stand_at_their_places(rt: HostRuntime) -> Result<(), Fail> {
-    let mut mat = Mat::identity(rt.alloc(), 65)?;
+/// The identity with two pairs more.
+fn identity_with_two(alloc: Global) -> Result<Mat, Fail> {
+    let mut mat = Mat::identity(alloc, 65)?;
     for (i, j) in [(0, 64), (1, 63)] {
         if i < mat.size() && j < mat.size() {
             mat.set(i, j);
         }
     }
+    Ok(mat)
+}
+
+/// Two words a row at size 65: (0, 64) is in the second word of row 0, (64, 64) in the last word.
+#[test]
+fn bits_stand_at_their_places(rt: HostRuntime) -> Result<(), Fail> {
+    let mat = identity_with_two(rt.alloc())?;
     let words = mat.words();
     assert_eq!(rt; words.len(), 130);
     for (at, word) in [
@@ -115,6 +139,13 @@ fn bits_stand_at_their_places(rt: HostRuntime) -> Result<(), Fail> {
     ] {
         assert_eq!(rt; words.get(at).copied(), Some(word), "word {at}");
     }
+    Ok(())
+}
+
+/// A copy is equal, and stays what it was where the other is cleared.
+#[test]
+fn copies_stand_alone(rt: HostRuntime) -> Result<(), Fail> {
+    let mut mat = identity_with_two(rt.alloc())?;
     let copy = mat.copied(rt.alloc())?;
     assert!(rt; copy == mat);
     mat.clear();
@@ -131,28 +162,33 @@ fn number_of(pool: &mut Pool, mat: &Mat) -> Option<MatId> {
     }
 }
 
-/// Numbers count from 0, and a matrix that is held keeps its own.
-#[test]
-fn pool_numbers_in_order(rt: HostRuntime) -> Result<(), Fail> {
-    let alloc = rt.alloc();
-    let mut pool = Pool::new(alloc, 65);
+/// Asserts of the numbers of three matrices, put one after another into a pool.
+fn assert_numbers(rt: &impl Abort, pool: &mut Pool, first: &Mat, second: &Mat, third: &Mat) {
+    for (mat, number) in [(first, 0), (second, 1), (first, 0), (third, 2), (second, 1)] {
+        assert_eq!(rt; number_of(pool, mat), Some(MatId(number)), "{number}");
+    }
+    assert_eq!(rt; pool.len(), 3);
+    assert_eq!(rt; pool.find(second), Some(MatId(1)));
+    if pool.len() == 3 {
+        assert!(rt; *pool.get(MatId(2)) == *third);
+    }
+}
+
+/// Puts three matrices into a pool.
+fn assert_pool(rt: &impl Abort, alloc: Global, pool: &mut Pool) -> Result<(), Fail> {
     let first = matrix_of(alloc, 0, 65)?;
     let second = matrix_of(alloc, 1, 65)?;
     let third = Mat::identity(alloc, 65)?;
-    for (mat, number) in [
-        (&first, 0),
-        (&second, 1),
-        (&first, 0),
-        (&third, 2),
-        (&second, 1),
-    ] {
-        assert_eq!(rt; number_of(&mut pool, mat), Some(MatId(number)));
-    }
-    assert_eq!(rt; pool.len(), 3);
-    assert_eq!(rt; pool.find(&second), Some(MatId(1)));
-    assert_eq!(rt; pool.find(&Mat::zero(alloc, 65)?), None);
-    if pool.len() == 3 {
-        assert!(rt; *pool.get(MatId(2)) == third);
-    }
+    assert_numbers(rt, pool, &first, &second, &third);
+    Ok(())
+}
+
+/// Numbers count from 0, and a matrix that is held keeps its own.
+#[test]
+fn pool_numbers_in_order(rt: HostRuntime) -> Result<(), Fail> {
+    let mut pool = Pool::new(rt.alloc(), 65);
+    assert_pool(&rt, rt.alloc(), &mut pool)?;
+    let other = Mat::zero(rt.alloc(), 65)?;
+    assert_eq!(rt; pool.find(&other), None);
     Ok(())
 }

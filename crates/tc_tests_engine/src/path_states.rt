@@ -5,6 +5,7 @@ ghost use Rattle.tc_model.specs.WellFormed.{IsSheet};
 ghost use Rattle.tc_rules.specs.Kept.{IsRulesOf, told};
 
 use std::alloc::Global;
+use std::process::Abort;
 use std::test::Fail;
 use tc_alpha::{Alphabet, Sym};
 use tc_base::NoMemory;
@@ -43,11 +44,11 @@ fn rules_of<'b>(alloc: Global, sheet: &Sheet<'b>) -> Result<Rules<'b>, NoMemory>
     Ok(rules)
 }
 
-/// Built-in rules alone: one ancestor state, without items, and one select state, of the move to all children.
-#[test]
-fn built_in_rules(rt: HostRuntime) -> Result<(), Fail> {
-    let sheet = no_rules();
-    let rules = rules_of(rt.alloc(), &sheet)?;
+/// Asserts what built-in rules alone answer.
+fn assert_built_in(rt: &impl Abort, rules: &Rules<'_>)
+    requires modes { (told rules.now).sheet.modes ≡ 1 }
+    requires rules { (symbols : List Mention) × IsRulesOf symbols rules.now }
+{
     assert_eq!(rt; rules.sheet().modes, 1);
     assert_eq!(rt; rules.predicates(), 0);
     let root = rules.root_rule(0);
@@ -68,5 +69,13 @@ fn built_in_rules(rt: HostRuntime) -> Result<(), Fail> {
     assert!(rt; hit);
     let job = rules.mode_of(0);
     assert_eq!(rt; job, Job::Mode(0));
+}
+
+/// Built-in rules alone: one ancestor state, without items, and one select state, of the move to all children.
+#[test]
+fn built_in_rules(rt: HostRuntime) -> Result<(), Fail> {
+    let sheet = no_rules();
+    let rules = rules_of(rt.alloc(), &sheet)?;
+    assert_built_in(&rt, &rules);
     Ok(())
 }

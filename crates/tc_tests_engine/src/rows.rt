@@ -1,12 +1,14 @@
 //! Rows of small triples, by hand. A row is told by its numbers: two flags of the whole, a flag for each state of the input's
 //! contents or for each of its element patterns, the numbers of the outputs, the looks.
 ghost use Rattle.std.specs.Prelude.{◌≡◌, ◌≤◌, length, IfOk};
+ghost use Rattle.tc_beh.specs.Machines.{IsMachine};
 ghost use Rattle.tc_tests_engine.specs.Kept.{AreKept};
 
 use bumpalo::Bump;
 use std::alloc::Global;
+use std::process::Abort;
 use std::test::Fail;
-use tc_beh::{HRow, MachineFault, Rows, TRow};
+use tc_beh::{HRow, Machine, MachineFault, Rows, TRow};
 use tc_model::{Name, Pairs};
 use tc_tests_triples::{NoMachine, machine_of_texts, sheet_text};
 
@@ -204,142 +206,224 @@ fn outputs_text(alloc: Global, rows: &Rows<'_, '_>) -> Result<String, Fail> {
     Ok(text)
 }
 
-/// Lists of elements, for each of which one is put out: the rows in the order in which they are found.
-#[test]
-fn rows_of_lists(rt: HostRuntime) -> Result<(), Fail> {
-    let alloc = rt.alloc();
-    let arena = Bump::new(alloc);
-    let sheet = sheet_text(
-        alloc,
-        "<xsl:template match=\"/\"><r><xsl:apply-templates select=\"a/b\"/></r></xsl:template><xsl:template match=\"b\"><x/></xsl:template>",
-    )?;
-    let machine = machine_of_texts(
-        alloc,
-        &arena,
-        "element a{element b{empty}*}",
-        "element r{element x{empty}*}",
-        sheet.as_str(),
-    )?;
-    let mut rows = Rows::new(alloc, &machine)?;
-    let mut hedges = Vec::new(alloc);
-    let mut trees = Vec::new(alloc);
-    let steps = [
-        (Step::Empty, true),
-        (Step::Wrap("b", 0), true),
-        (Step::Append(0, 0), true),
-        (Step::Wrap("a", 0), true),
-        (Step::Wrap("a", 1), true),
-        (Step::Append(0, 1), false),
-    ];
-    assert!(rt; keep_all(alloc, &mut rows, &mut hedges, &mut trees, &steps)?);
-    assert!(rt; is_hedge(&hedges, 0, &[0, 0, 1, 0, 1, 0, 0, 0]));
-    assert!(rt; is_tree(&trees, 0, &[0, 0, 0, 1, 1, 0, 1]));
-    assert!(rt; is_hedge(&hedges, 1, &[0, 0, 0, 1, 0, 1, 0, 1]));
-    assert!(rt; is_tree(&trees, 1, &[0, 0, 1, 0, 0, 0, 0]));
-    assert!(rt; is_tree(&trees, 2, &[0, 0, 1, 0, 1, 1, 0]));
-    assert_eq!(rt; is_fine(&mut rows, &hedges, &trees, 0), (false, true));
-    assert_eq!(rt; is_fine(&mut rows, &hedges, &trees, 2), (true, true));
-    assert_eq!(rt;
-        outputs_text(alloc, &rows)?.as_str(),
-        "| 0>0 1>1 2>2 3>3 4>4| 2>3 3>3"
-    );
+/// Whether the sets that are held are these.
+fn are_outputs(alloc: Global, rows: &Rows<'_, '_>, text: &str) -> Result<bool, Fail> {
+    let held = outputs_text(alloc, rows)?;
+    Ok(held.as_str() == text)
+}
+
+/// What is told of kept rows, by their numbers.
+#[derive(Clone, Copy)]
+enum Told {
+    /// The numbers of a row of a list of trees.
+    Hedge(usize, &'static [u32]),
+    /// The numbers of a row of a tree.
+    Tree(usize, &'static [u32]),
+    /// The last look of a row of a list of trees.
+    LastOfHedge(usize, u32),
+    /// The last look of a row of a tree.
+    LastOfTree(usize, u32),
+    /// Whether a document of a row of a tree is a valid input, and its result a valid output.
+    Document(usize, bool, bool),
+    /// The sets that are held.
+    Outputs(&'static str),
+}
+
+/// Whether what is told of kept rows is so.
+fn is_so(
+    alloc: Global,
+    rows: &mut Rows<'_, '_>,
+    hedges: &Vec<HRow>,
+    trees: &Vec<TRow>,
+    told: Told,
+) -> Result<bool, Fail>
+    requires { AreKept rows.old hedges.now.items trees.now.items }
+    ensures { AreKept rows.new hedges.now.items trees.now.items }
+{
+    match told {
+        Told::Hedge(place, numbers) => Ok(is_hedge(hedges, place, numbers)),
+        Told::Tree(place, numbers) => Ok(is_tree(trees, place, numbers)),
+        Told::LastOfHedge(place, look) => Ok(last_of_hedge(hedges, place) == Some(look)),
+        Told::LastOfTree(place, look) => Ok(last_of_tree(trees, place) == Some(look)),
+        Told::Document(place, is_valid, is_fit) => {
+            Ok(is_fine(rows, hedges, trees, place) == (is_valid, is_fit))
+        }
+        Told::Outputs(text) => are_outputs(alloc, rows, text),
+    }
+}
+
+/// Asserts what is told of kept rows.
+fn assert_told(
+    rt: &impl Abort,
+    alloc: Global,
+    rows: &mut Rows<'_, '_>,
+    hedges: &Vec<HRow>,
+    trees: &Vec<TRow>,
+    all: &[(&str, Told)],
+) -> Result<(), Fail>
+    requires { AreKept rows.old hedges.now.items trees.now.items }
+{
+    for (name, told) in all {
+        assert!(rt; is_so(alloc, rows, hedges, trees, *told)?, "{name}");
+    }
     Ok(())
 }
+
+/// Asserts of steps over a machine which of their rows are live, and what is told of those that are kept.
+fn assert_rows(
+    rt: &impl Abort,
+    alloc: Global,
+    machine: &Machine<'_>,
+    steps: &[(Step, bool)],
+    all: &[(&str, Told)],
+) -> Result<(), Fail>
+    requires { IsMachine machine.now }
+{
+    let mut rows = Rows::new(alloc, machine)?;
+    let mut hedges = Vec::new(alloc);
+    let mut trees = Vec::new(alloc);
+    assert!(rt;
+        keep_all(alloc, &mut rows, &mut hedges, &mut trees, steps)?,
+        "steps"
+    );
+    assert_told(rt, alloc, &mut rows, &hedges, &trees, all)
+}
+
+/// The texts of two schemas, and the rules of a stylesheet.
+struct Triple {
+    input: &'static str,
+    output: &'static str,
+    rules: &'static str,
+}
+
+/// The machine of such texts.
+fn machine_with<'b>(alloc: Global, arena: &'b Bump, triple: &Triple) -> Result<Machine<'b>, Fail>
+    ensures { IfOk result (λ m. IsMachine m) }
+{
+    let sheet = sheet_text(alloc, triple.rules)?;
+    let (input, output) = (triple.input, triple.output);
+    let machine = machine_of_texts(alloc, arena, input, output, sheet.as_str())?;
+    Ok(machine)
+}
+
+/// The same over the machine of such texts.
+fn assert_rows_of(
+    rt: &impl Abort,
+    alloc: Global,
+    triple: &Triple,
+    steps: &[(Step, bool)],
+    all: &[(&str, Told)],
+) -> Result<(), Fail> {
+    let arena = Bump::new(alloc);
+    let machine = machine_with(alloc, &arena, triple)?;
+    assert_rows(rt, alloc, &machine, steps, all)
+}
+
+/// Lists of elements, for each of which one is put out.
+static LISTS: Triple = Triple {
+    input: "element a{element b{empty}*}",
+    output: "element r{element x{empty}*}",
+    rules: "<xsl:template match=\"/\"><r><xsl:apply-templates select=\"a/b\"/></r></xsl:template><xsl:template match=\"b\"><x/></xsl:template>",
+};
+
+/// The rows in the order in which they are found.
+static STEPS_OF_LISTS: [(Step, bool); 6] = [
+    (Step::Empty, true),
+    (Step::Wrap("b", 0), true),
+    (Step::Append(0, 0), true),
+    (Step::Wrap("a", 0), true),
+    (Step::Wrap("a", 1), true),
+    (Step::Append(0, 1), false),
+];
+
+static ROWS_OF_LISTS: [(&str, Told); 8] = [
+    ("no tree", Told::Hedge(0, &[0, 0, 1, 0, 1, 0, 0, 0])),
+    ("<b/>", Told::Tree(0, &[0, 0, 0, 1, 1, 0, 1])),
+    (
+        "<b/> behind no tree",
+        Told::Hedge(1, &[0, 0, 0, 1, 0, 1, 0, 1]),
+    ),
+    ("<a/>", Told::Tree(1, &[0, 0, 1, 0, 0, 0, 0])),
+    ("<a><b/></a>", Told::Tree(2, &[0, 0, 1, 0, 1, 1, 0])),
+    ("a document of <b/>", Told::Document(0, false, true)),
+    ("a document of <a><b/></a>", Told::Document(2, true, true)),
+    ("outputs", Told::Outputs("| 0>0 1>1 2>2 3>3 4>4| 2>3 3>3")),
+];
+
+#[test]
+fn rows_of_lists(rt: HostRuntime) -> Result<(), Fail> {
+    assert_rows_of(&rt, rt.alloc(), &LISTS, &STEPS_OF_LISTS, &ROWS_OF_LISTS)
+}
+
+/// The value of the first `b`.
+static FIRST_HITS: Triple = Triple {
+    input: "element a{element b{empty},element b{text}}",
+    output: "element x{empty}",
+    rules: "<xsl:template match=\"a\"><x><xsl:value-of select=\"b\"/></x></xsl:template>",
+};
+
+static STEPS_OF_FIRST_HITS: [(Step, bool); 7] = [
+    (Step::Empty, true),
+    (Step::Text, true),
+    (Step::Append(0, 0), true),
+    (Step::Wrap("b", 0), true),
+    (Step::Wrap("b", 1), true),
+    (Step::Append(0, 1), true),
+    (Step::Append(2, 2), true),
+];
+
+static LOOKS_OF_FIRST_HITS: [(&str, Told); 3] = [
+    ("<b/>", Told::LastOfTree(1, 1)),
+    ("<b>t</b>", Told::LastOfTree(2, 2)),
+    ("<b/><b>t</b>", Told::LastOfHedge(3, 1)),
+];
 
 /// A look is that of the first hit: it bears no text where that doesn't, whatever stands behind.
 #[test]
 fn looks_are_those_of_first_hits(rt: HostRuntime) -> Result<(), Fail> {
-    let alloc = rt.alloc();
-    let arena = Bump::new(alloc);
-    let sheet = sheet_text(
-        alloc,
-        "<xsl:template match=\"a\"><x><xsl:value-of select=\"b\"/></x></xsl:template>",
-    )?;
-    let machine = machine_of_texts(
-        alloc,
-        &arena,
-        "element a{element b{empty},element b{text}}",
-        "element x{empty}",
-        sheet.as_str(),
-    )?;
-    let mut rows = Rows::new(alloc, &machine)?;
-    let mut hedges = Vec::new(alloc);
-    let mut trees = Vec::new(alloc);
-    let steps = [
-        (Step::Empty, true),
-        (Step::Text, true),
-        (Step::Append(0, 0), true),
-        (Step::Wrap("b", 0), true),
-        (Step::Wrap("b", 1), true),
-        (Step::Append(0, 1), true),
-        (Step::Append(2, 2), true),
-    ];
-    assert!(rt; keep_all(alloc, &mut rows, &mut hedges, &mut trees, &steps)?);
-    assert_eq!(rt; last_of_tree(&trees, 1), Some(1));
-    assert_eq!(rt; last_of_tree(&trees, 2), Some(2));
-    assert_eq!(rt; last_of_hedge(&hedges, 3), Some(1));
-    Ok(())
+    assert_rows_of(
+        &rt,
+        rt.alloc(),
+        &FIRST_HITS,
+        &STEPS_OF_FIRST_HITS,
+        &LOOKS_OF_FIRST_HITS,
+    )
 }
+
+/// An element for each text on which a predicate holds that finds nothing.
+static BELOW_TEXTS: Triple = Triple {
+    input: "element a{text}",
+    output: "element r{element x{empty}?}",
+    rules: "<xsl:template match=\"/\"><r><xsl:apply-templates/></r></xsl:template><xsl:template match=\"text()[not(b)]\"><x/></xsl:template>",
+};
 
 /// On a text those predicates hold that hold where nothing is found.
 #[test]
 fn nothing_is_found_below_a_text(rt: HostRuntime) -> Result<(), Fail> {
-    let alloc = rt.alloc();
+    let steps = [(Step::Text, true)];
+    let all = [("outputs", Told::Outputs("| 2>3"))];
+    assert_rows_of(&rt, rt.alloc(), &BELOW_TEXTS, &steps, &all)
+}
+
+static WITHOUT_CONTENTS: Triple = Triple {
+    input: "start = notAllowed",
+    output: "start = notAllowed",
+    rules: "",
+};
+
+/// How many states the contents of the input of such texts have.
+fn inputs_of(alloc: Global, triple: &Triple) -> Result<u32, Fail> {
     let arena = Bump::new(alloc);
-    let sheet = sheet_text(
-        alloc,
-        "<xsl:template match=\"/\"><r><xsl:apply-templates/></r></xsl:template><xsl:template match=\"text()[not(b)]\"><x/></xsl:template>",
-    )?;
-    let machine = machine_of_texts(
-        alloc,
-        &arena,
-        "element a{text}",
-        "element r{element x{empty}?}",
-        sheet.as_str(),
-    )?;
-    let mut rows = Rows::new(alloc, &machine)?;
-    let mut hedges = Vec::new(alloc);
-    let mut trees = Vec::new(alloc);
-    assert!(rt;
-        keep_all(
-            alloc,
-            &mut rows,
-            &mut hedges,
-            &mut trees,
-            &[(Step::Text, true)]
-        )?
-    );
-    assert_eq!(rt; outputs_text(alloc, &rows)?.as_str(), "| 2>3");
-    Ok(())
+    let machine = machine_with(alloc, &arena, triple)?;
+    Ok(machine.shape().inputs)
 }
 
 /// The row of no tree has no states where a schema has no contents.
 #[test]
 fn schemas_without_contents_have_an_empty_row(rt: HostRuntime) -> Result<(), Fail> {
-    let alloc = rt.alloc();
-    let arena = Bump::new(alloc);
-    let sheet = sheet_text(alloc, "")?;
-    let machine = machine_of_texts(
-        alloc,
-        &arena,
-        "start = notAllowed",
-        "start = notAllowed",
-        sheet.as_str(),
-    )?;
-    let mut rows = Rows::new(alloc, &machine)?;
-    let mut hedges = Vec::new(alloc);
-    let mut trees = Vec::new(alloc);
-    assert!(rt;
-        keep_all(
-            alloc,
-            &mut rows,
-            &mut hedges,
-            &mut trees,
-            &[(Step::Empty, true), (Step::Text, false)]
-        )?
-    );
-    assert_eq!(rt; machine.shape().inputs, 0);
-    Ok(())
+    assert_eq!(rt; inputs_of(rt.alloc(), &WITHOUT_CONTENTS)?, 0);
+    let steps = [(Step::Empty, true), (Step::Text, false)];
+    assert_rows_of(&rt, rt.alloc(), &WITHOUT_CONTENTS, &steps, &[])
 }
 
 /// A path of so many steps.
@@ -351,13 +435,19 @@ fn steps_text(alloc: Global, count: u32) -> Result<String, Fail> {
     Ok(text)
 }
 
-/// A stylesheet of 64 ancestor states and 128 states of moves, whose root has the value of a path put out.
-fn sheet_of_entries(alloc: Global, value: &str) -> Result<String, Fail> {
+/// The rules of a stylesheet of 64 ancestor states and 128 states of moves, whose root has the value of a path put out.
+fn rules_of_entries(alloc: Global, value: &str) -> Result<String, Fail> {
     let pattern = steps_text(alloc, 63)?;
     let path = steps_text(alloc, 127)?;
     let rules = format!(in alloc;
         "<xsl:template match=\"/{pattern}\"/><xsl:template match=\"/\"><r><xsl:apply-templates select=\"{path}\"/><xsl:value-of select=\"{value}\"/></r></xsl:template>"
     )?;
+    Ok(rules)
+}
+
+/// That stylesheet.
+fn sheet_of_entries(alloc: Global, value: &str) -> Result<String, Fail> {
+    let rules = rules_of_entries(alloc, value)?;
     Ok(sheet_text(alloc, rules.as_str())?)
 }
 

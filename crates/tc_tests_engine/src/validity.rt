@@ -3,8 +3,9 @@
 use bumpalo::Bump;
 use bumpalo::collections::into_bump_slice;
 use std::alloc::Global;
+use std::process::Abort;
 use std::test::Fail;
-use tc_alpha::Alphabet;
+use tc_alpha::{Alphabet, Sym};
 use tc_auto::Auto;
 use tc_hedge::Hedge;
 use tc_mat::Mat;
@@ -45,34 +46,40 @@ const EMPTY_D: ElemPat<'static> = ElemPat {
     content: Pat::Empty,
 };
 
-const NOTHING: Grammar<'static> = Grammar {
+static NOTHING: Grammar<'static> = Grammar {
     start: Pat::NotAllowed,
     elements: &[],
 };
+
+/// A stylesheet without rules.
+static NO_RULES: Sheet<'static> = Sheet {
+    modes: 1,
+    eaches: 0,
+    rules: &[],
+    named: &[],
+};
+
+const LEAF_A: Node<'static> = Node::Elem(A, &[]);
+
+const LEAF_B: Node<'static> = Node::Elem(B, &[]);
+
+const LEAF_C: Node<'static> = Node::Elem(C, &[]);
+
+const LEAF_D: Node<'static> = Node::Elem(D, &[]);
 
 const X: Node<'static> = Node::Text("x");
 
 const WHITE: Node<'static> = Node::Text(" \n");
 
-/// An empty element without a namespace.
-fn leaf(local: &'static str) -> Node<'static> {
-    Node::Elem(Name { uri: "", local }, &[])
-}
+/// A tree as it is told where it isn't as it should be, the tree, and whether it is a valid document.
+type Document<'n> = (&'n str, Node<'n>, bool);
 
-/// An empty element of the namespace `u`.
-fn leaf_of_u(local: &'static str) -> Node<'static> {
-    Node::Elem(Name { uri: "u", local }, &[])
-}
+/// Trees as they are told, the trees, and whether they lead state 0 to an accepting state of the start.
+type Hedges<'n> = (&'n str, &'n [Node<'n>], bool);
 
 /// The symbols of one schema and no stylesheet.
 fn symbols_of(alloc: Global, grammar: &Grammar<'_>) -> Result<Alphabet, Fail> {
-    let sheet = Sheet {
-        modes: 1,
-        eaches: 0,
-        rules: &[],
-        named: &[],
-    };
-    let alphabet = Alphabet::of(alloc, grammar, &NOTHING, &sheet)?;
+    let alphabet = Alphabet::of(alloc, grammar, &NOTHING, &NO_RULES)?;
     Ok(alphabet)
 }
 
@@ -82,12 +89,6 @@ fn hedge_of<'b>(alloc: Global, grammar: &Grammar<'b>) -> Result<Hedge<'b>, Fail>
     let auto = Auto::of(alloc, grammar, 512)?;
     let hedge = Hedge::of(alloc, auto, &alphabet)?;
     Ok(hedge)
-}
-
-/// Whether an element `a` around such children is valid.
-fn takes(hedge: &Hedge<'_>, kids: &[Node<'_>]) -> Result<bool, Fail> {
-    let valid = hedge.valid(&Node::Elem(A, kids))?;
-    Ok(valid)
 }
 
 /// Whether trees lead state 0 to an accepting state of the start.
@@ -106,8 +107,28 @@ fn leads(hedge: &Hedge<'_>, nodes: &[Node<'_>]) -> Result<bool, Fail> {
     Ok(false)
 }
 
+/// Asserts of each tree whether it is a valid document of a schema.
+fn assert_documents(
+    rt: &impl Abort,
+    hedge: &Hedge<'_>,
+    documents: &[Document<'_>],
+) -> Result<(), Fail> {
+    for (text, node, is_valid) in documents {
+        assert_eq!(rt; hedge.valid(node)?, *is_valid, "{text}");
+    }
+    Ok(())
+}
+
+/// Asserts of each of some trees whether they lead so.
+fn assert_hedges(rt: &impl Abort, hedge: &Hedge<'_>, hedges: &[Hedges<'_>]) -> Result<(), Fail> {
+    for (text, nodes, is_led) in hedges {
+        assert_eq!(rt; leads(hedge, nodes)?, *is_led, "{text}");
+    }
+    Ok(())
+}
+
 /// `element a { element b { empty } & element c { empty } }`.
-const INTERLEAVED: Grammar<'static> = Grammar {
+static INTERLEAVED: Grammar<'static> = Grammar {
     start: Pat::Ref(1),
     elements: &INTERLEAVED_ELEMENTS,
 };
@@ -123,19 +144,26 @@ const INTERLEAVED_ELEMENTS: [ElemPat<'static>; 3] = [
 
 const BOTH: [Pat<'static>; 2] = [Pat::Ref(2), Pat::Ref(3)];
 
+static INTERLEAVED_DOCUMENTS: [Document<'static>; 5] = [
+    ("<a><b/><c/></a>", Node::Elem(A, &[LEAF_B, LEAF_C]), true),
+    ("<a><c/><b/></a>", Node::Elem(A, &[LEAF_C, LEAF_B]), true),
+    ("<a><b/></a>", Node::Elem(A, &[LEAF_B]), false),
+    (
+        "<a><b/><c/><b/></a>",
+        Node::Elem(A, &[LEAF_B, LEAF_C, LEAF_B]),
+        false,
+    ),
+    ("<b/>", LEAF_B, false),
+];
+
 #[test]
 fn takes_an_interleave_in_any_order(rt: HostRuntime) -> Result<(), Fail> {
     let hedge = hedge_of(rt.alloc(), &INTERLEAVED)?;
-    assert!(rt; takes(&hedge, &[leaf("b"), leaf("c")])?);
-    assert!(rt; takes(&hedge, &[leaf("c"), leaf("b")])?);
-    assert!(rt; !takes(&hedge, &[leaf("b")])?);
-    assert!(rt; !takes(&hedge, &[leaf("b"), leaf("c"), leaf("b")])?);
-    assert!(rt; !hedge.valid(&leaf("b"))?);
-    Ok(())
+    assert_documents(&rt, &hedge, &INTERLEAVED_DOCUMENTS)
 }
 
 /// `element a { element b { empty }, (element c { empty } | text), element d { empty }+ }`.
-const GROUPED: Grammar<'static> = Grammar {
+static GROUPED: Grammar<'static> = Grammar {
     start: Pat::Choice(&[Pat::NotAllowed, Pat::Ref(1)]),
     elements: &GROUPED_ELEMENTS,
 };
@@ -156,31 +184,45 @@ const MEMBERS: [Pat<'static>; 3] = [
     Pat::OneOrMore(&Pat::Ref(4)),
 ];
 
+static GROUPED_DOCUMENTS: [Document<'static>; 8] = [
+    (
+        "<a><b/><c/><d/></a>",
+        Node::Elem(A, &[LEAF_B, LEAF_C, LEAF_D]),
+        true,
+    ),
+    (
+        "<a><b/>x<d/><d/></a>",
+        Node::Elem(A, &[LEAF_B, X, LEAF_D, LEAF_D]),
+        true,
+    ),
+    ("a text may be none", Node::Elem(A, &[LEAF_B, LEAF_D]), true),
+    ("d is missing", Node::Elem(A, &[LEAF_B, LEAF_C]), false),
+    (
+        "the order counts",
+        Node::Elem(A, &[LEAF_C, LEAF_B, LEAF_D]),
+        false,
+    ),
+    (
+        "one of both",
+        Node::Elem(A, &[LEAF_B, LEAF_C, X, LEAF_D]),
+        false,
+    ),
+    (
+        "<a><b/><c/><d/><b/></a>",
+        Node::Elem(A, &[LEAF_B, LEAF_C, LEAF_D, LEAF_B]),
+        false,
+    ),
+    ("b is no start", LEAF_B, false),
+];
+
 #[test]
 fn takes_groups_choices_and_repeats(rt: HostRuntime) -> Result<(), Fail> {
     let hedge = hedge_of(rt.alloc(), &GROUPED)?;
-    assert!(rt; takes(&hedge, &[leaf("b"), leaf("c"), leaf("d")])?);
-    assert!(rt; takes(&hedge, &[leaf("b"), X, leaf("d"), leaf("d")])?);
-    assert!(rt;
-        takes(&hedge, &[leaf("b"), leaf("d")])?,
-        "a text may be none"
-    );
-    assert!(rt; !takes(&hedge, &[leaf("b"), leaf("c")])?, "d is missing");
-    assert!(rt;
-        !takes(&hedge, &[leaf("c"), leaf("b"), leaf("d")])?,
-        "the order counts"
-    );
-    assert!(rt;
-        !takes(&hedge, &[leaf("b"), leaf("c"), X, leaf("d")])?,
-        "one of both"
-    );
-    assert!(rt; !takes(&hedge, &[leaf("b"), leaf("c"), leaf("d"), leaf("b")])?);
-    assert!(rt; !hedge.valid(&leaf("b"))?, "b is no start");
-    Ok(())
+    assert_documents(&rt, &hedge, &GROUPED_DOCUMENTS)
 }
 
 /// `element a { mixed { element b { empty }* } }`.
-const MIXED: Grammar<'static> = Grammar {
+static MIXED: Grammar<'static> = Grammar {
     start: Pat::Ref(1),
     elements: &MIXED_ELEMENTS,
 };
@@ -205,23 +247,42 @@ const ONE_TEXT: [Node<'static>; 1] = [X];
 
 const AROUND_TEXT: Node<'static> = Node::Elem(B, &ONE_TEXT);
 
+static MIXED_DOCUMENTS: [Document<'static>; 6] = [
+    ("<a/>", LEAF_A, true),
+    (
+        "<a>x<b/>x<b/><b/>x</a>",
+        Node::Elem(A, &[X, LEAF_B, X, LEAF_B, LEAF_B, X]),
+        true,
+    ),
+    (
+        "not in normal form: two texts",
+        Node::Elem(A, &[X, X]),
+        false,
+    ),
+    (
+        "not in normal form: white space",
+        Node::Elem(A, &[LEAF_B, WHITE]),
+        false,
+    ),
+    ("<a><b>x</b></a>", Node::Elem(A, &[AROUND_TEXT]), false),
+    ("x", X, false),
+];
+
+static MIXED_HEDGES: [Hedges<'static>; 3] = [
+    ("white space beside", &[WHITE, AROUND_LOOSE, WHITE], true),
+    ("a text behind", &[WHITE, AROUND_LOOSE, X], false),
+    ("no tree", &[], false),
+];
+
 #[test]
 fn takes_mixed_content_and_white_space(rt: HostRuntime) -> Result<(), Fail> {
     let hedge = hedge_of(rt.alloc(), &MIXED)?;
-    assert!(rt; takes(&hedge, &[])?);
-    assert!(rt; takes(&hedge, &[X, leaf("b"), X, leaf("b"), leaf("b"), X])?);
-    assert!(rt; !takes(&hedge, &[X, X])?, "not in normal form");
-    assert!(rt; !takes(&hedge, &[leaf("b"), WHITE])?, "not in normal form");
-    assert!(rt; !takes(&hedge, &[AROUND_TEXT])?);
-    assert!(rt; !hedge.valid(&X)?);
-    assert!(rt; leads(&hedge, &[WHITE, AROUND_LOOSE, WHITE])?);
-    assert!(rt; !leads(&hedge, &[WHITE, AROUND_LOOSE, X])?);
-    assert!(rt; !leads(&hedge, &[])?);
-    Ok(())
+    assert_documents(&rt, &hedge, &MIXED_DOCUMENTS)?;
+    assert_hedges(&rt, &hedge, &MIXED_HEDGES)
 }
 
 /// `element * - (a | ns u:*) { element u:* - u:q { empty }? }`.
-const WILD: Grammar<'static> = Grammar {
+static WILD: Grammar<'static> = Grammar {
     start: Pat::Ref(1),
     elements: &WILD_ELEMENTS,
 };
@@ -246,26 +307,47 @@ const EXCEPTED_IN_U: [NameClass<'static>; 1] = [NameClass::Name(Name {
     local: "q",
 })];
 
-/// Whether an element `b` around such children is valid.
-fn takes_in_b(hedge: &Hedge<'_>, kids: &[Node<'_>]) -> Result<bool, Fail> {
-    let valid = hedge.valid(&Node::Elem(B, kids))?;
-    Ok(valid)
-}
+const LEAF_P_OF_U: Node<'static> = Node::Elem(
+    Name {
+        uri: "u",
+        local: "p",
+    },
+    &[],
+);
+
+const LEAF_Q_OF_U: Node<'static> = Node::Elem(
+    Name {
+        uri: "u",
+        local: "q",
+    },
+    &[],
+);
+
+const LEAF_P: Node<'static> = Node::Elem(
+    Name {
+        uri: "",
+        local: "p",
+    },
+    &[],
+);
+
+static WILD_DOCUMENTS: [Document<'static>; 6] = [
+    ("<b/>", LEAF_B, true),
+    ("<b><u:p/></b>", Node::Elem(B, &[LEAF_P_OF_U]), true),
+    ("<b><u:q/></b>", Node::Elem(B, &[LEAF_Q_OF_U]), false),
+    ("<b><p/></b>", Node::Elem(B, &[LEAF_P]), false),
+    ("<a/>", LEAF_A, false),
+    ("<u:p/>", LEAF_P_OF_U, false),
+];
 
 #[test]
 fn knows_wildcards_and_excepts(rt: HostRuntime) -> Result<(), Fail> {
     let hedge = hedge_of(rt.alloc(), &WILD)?;
-    assert!(rt; takes_in_b(&hedge, &[])?);
-    assert!(rt; takes_in_b(&hedge, &[leaf_of_u("p")])?);
-    assert!(rt; !takes_in_b(&hedge, &[leaf_of_u("q")])?);
-    assert!(rt; !takes_in_b(&hedge, &[leaf("p")])?);
-    assert!(rt; !hedge.valid(&leaf("a"))?);
-    assert!(rt; !hedge.valid(&leaf_of_u("p"))?);
-    Ok(())
+    assert_documents(&rt, &hedge, &WILD_DOCUMENTS)
 }
 
 /// `element * { text }`.
-const TEXTS: Grammar<'static> = Grammar {
+static TEXTS: Grammar<'static> = Grammar {
     start: Pat::Ref(1),
     elements: &[ElemPat {
         names: NameClass::Any(&[]),
@@ -273,19 +355,57 @@ const TEXTS: Grammar<'static> = Grammar {
     }],
 };
 
+/// A name of a letter beyond ASCII, a hyphen and a digit.
+const ACCENTED: Name<'static> = Name {
+    uri: "",
+    local: "é-1",
+};
+
+const NAMELESS: Name<'static> = Name { uri: "", local: "" };
+
+const DIGIT: Name<'static> = Name {
+    uri: "",
+    local: "1",
+};
+
+const COLON: Name<'static> = Name {
+    uri: "",
+    local: "a:b",
+};
+
+/// A name of the namespace of declarations of namespaces.
+const DECLARED: Name<'static> = Name {
+    uri: "http://www.w3.org/2000/xmlns/",
+    local: "a",
+};
+
+static TEXTS_DOCUMENTS: [Document<'static>; 8] = [
+    ("<é-1/>", Node::Elem(ACCENTED, &[]), true),
+    ("no name", Node::Elem(NAMELESS, &[]), false),
+    ("<1/>", Node::Elem(DIGIT, &[]), false),
+    ("<a:b/>", Node::Elem(COLON, &[]), false),
+    (
+        "the last character",
+        Node::Elem(A, &[Node::Text("\u{10FFFF}")]),
+        true,
+    ),
+    (
+        "no character of XML",
+        Node::Elem(A, &[Node::Text("\u{1}")]),
+        false,
+    ),
+    ("an empty text", Node::Elem(A, &[Node::Text("")]), false),
+    (
+        "the namespace of declarations",
+        Node::Elem(DECLARED, &[]),
+        false,
+    ),
+];
+
 #[test]
 fn knows_what_no_document_has(rt: HostRuntime) -> Result<(), Fail> {
     let hedge = hedge_of(rt.alloc(), &TEXTS)?;
-    assert!(rt; hedge.valid(&leaf("é-1"))?);
-    assert!(rt; !hedge.valid(&leaf(""))?);
-    assert!(rt; !hedge.valid(&leaf("1"))?);
-    assert!(rt; !hedge.valid(&leaf("a:b"))?);
-    assert!(rt; takes(&hedge, &[Node::Text("\u{10FFFF}")])?);
-    assert!(rt; !takes(&hedge, &[Node::Text("\u{1}")])?);
-    assert!(rt; !takes(&hedge, &[Node::Text("")])?);
-    let uri = "http://www.w3.org/2000/xmlns/";
-    assert!(rt; !hedge.valid(&Node::Elem(Name { uri, local: "a" }, &[]))?);
-    Ok(())
+    assert_documents(&rt, &hedge, &TEXTS_DOCUMENTS)
 }
 
 /// Elements `a` that stand within one another.
@@ -300,7 +420,7 @@ fn nested<'b>(arena: &'b Bump, depth: u32) -> Result<&'b [Node<'b>], Fail> {
 }
 
 /// `start = a`, where `a = element a { a? }`.
-const NESTED: Grammar<'static> = Grammar {
+static NESTED: Grammar<'static> = Grammar {
     start: Pat::Ref(1),
     elements: &NESTED_ELEMENTS,
 };
@@ -310,20 +430,25 @@ const NESTED_ELEMENTS: [ElemPat<'static>; 1] = [ElemPat {
     content: Pat::Choice(&[Pat::Ref(1), Pat::Empty]),
 }];
 
-#[test]
-fn goes_down_two_thousand_levels(rt: HostRuntime) -> Result<(), Fail> {
-    let hedge = hedge_of(rt.alloc(), &NESTED)?;
-    let arena = Bump::new(rt.alloc());
-    let nodes = nested(&arena, 2000)?;
-    if let Some(doc) = nodes.first() {
-        assert!(rt; hedge.valid(doc)?);
+/// Asserts that the first of some trees is a valid document, and that all lead to an accepting state.
+fn assert_deep(rt: &impl Abort, hedge: &Hedge<'_>, nodes: &[Node<'_>]) -> Result<(), Fail> {
+    if let Some(document) = nodes.first() {
+        assert!(rt; hedge.valid(document)?);
     }
-    assert!(rt; leads(&hedge, nodes)?);
+    assert!(rt; leads(hedge, nodes)?);
     Ok(())
 }
 
+#[test]
+fn goes_down_two_thousand_levels(rt: HostRuntime) -> Result<(), Fail> {
+    let arena = Bump::new(rt.alloc());
+    let nodes = nested(&arena, 2000)?;
+    let hedge = hedge_of(rt.alloc(), &NESTED)?;
+    assert_deep(&rt, &hedge, nodes)
+}
+
 /// `element a { element * { empty }, text }`.
-const AROUND: Grammar<'static> = Grammar {
+static AROUND: Grammar<'static> = Grammar {
     start: Pat::Ref(1),
     elements: &AROUND_ELEMENTS,
 };
@@ -339,22 +464,44 @@ const AROUND_ELEMENTS: [ElemPat<'static>; 2] = [
     },
 ];
 
-const KIDS: [Node<'static>; 2] = [Node::Elem(B, &[]), X];
+static KIDS: [Node<'static>; 2] = [Node::Elem(B, &[]), X];
+
+/// The symbol of a name without a namespace and stylesheet, over one schema.
+fn symbol_of(alloc: Global, grammar: &Grammar<'_>, name: &Name<'_>) -> Result<Sym, Fail> {
+    let alphabet = symbols_of(alloc, grammar)?;
+    Ok(alphabet.sym_of(name))
+}
+
+/// The pairs of an element of a symbol around trees.
+fn pairs_around(
+    alloc: Global,
+    hedge: &Hedge<'_>,
+    sym: Sym,
+    kids: &[Node<'_>],
+) -> Result<Mat, Fail> {
+    let states = hedge.auto().states();
+    let inner = hedge.matrix_of(kids)?;
+    let mut around = Mat::zero(alloc, states)?;
+    if sym.0 < hedge.symbols() && inner.size() == states {
+        hedge.element_into(sym, &inner, &mut around);
+    }
+    Ok(around)
+}
+
+/// Asserts that the pairs of an element of the symbol of `a` are those of the element.
+fn assert_pairs_around(rt: &impl Abort, alloc: Global, hedge: &Hedge<'_>) -> Result<(), Fail> {
+    let sym = symbol_of(alloc, &AROUND, &A)?;
+    let around = pairs_around(alloc, hedge, sym, &KIDS)?;
+    let led = hedge.matrix_of(&[Node::Elem(A, &KIDS)])?;
+    assert_eq!(rt; around.words(), led.words());
+    Ok(())
+}
 
 /// The pairs of an element of a symbol are those of the element of a name.
 #[test]
 fn knows_elements_by_their_symbols(rt: HostRuntime) -> Result<(), Fail> {
-    let alphabet = symbols_of(rt.alloc(), &AROUND)?;
     let hedge = hedge_of(rt.alloc(), &AROUND)?;
-    let states = hedge.auto().states();
-    let inner = hedge.matrix_of(&KIDS)?;
-    let mut around = Mat::zero(rt.alloc(), states)?;
-    let sym = alphabet.sym_of(&A);
-    if sym.0 < hedge.symbols() && inner.size() == states {
-        hedge.element_into(sym, &inner, &mut around);
-    }
-    let led = hedge.matrix_of(&[Node::Elem(A, &KIDS)])?;
-    assert_eq!(rt; around.words(), led.words());
+    assert_pairs_around(&rt, rt.alloc(), &hedge)?;
     assert_eq!(rt;
         hedge.symbols(),
         3,
