@@ -1,13 +1,13 @@
 -- Rows of words to which other rows are added.
-use Rattle.std.proofs.Common.{◌≡◌, ◌≢◌, ◌⊎◌, inl, inr, ℕ, ◌+◌, ◌*◌, ◌/◌, ◌%◌, ◌-◌, ◌<◌, ◌≤◌, ◌^◌, List, refl, sym, ap, subst, ◌∙◌, length, get_or, set, arith, bit_or, min}
+use Rattle.std.proofs.Common.{◌≡◌, ◌≢◌, ◌⊎◌, inl, inr, ℕ, ◌+◌, ◌*◌, ◌/◌, ◌%◌, ◌<◌, ◌≤◌, ◌^◌, List, refl, sym, ap, subst, ◌∙◌, length, get_or, set, arith, bit_or, bit_and, min}
 use Rattle.std.specs.Prelude.{◌↔◌}
-use Rattle.std.specs.Int.{bit_at, trailing_zeros, w64}
-use Rattle.std.proofs.lemmas.Bool.{cases_eq, cases_lt}
+use Rattle.std.specs.Int.{bit_at, bit_not, trailing_zeros, w64}
+use Rattle.std.proofs.lemmas.Bool.{cases_eq}
 use Rattle.std.proofs.lemmas.List.{get_or-set_same, get_or-set_other}
-use Rattle.std.proofs.lemmas.Nat.{mul-add-lt, same_from_place, shr-shr, shr_le}
-use Rattle.std.proofs.lemmas.Nat.Bits.{bit_at_or, bit_at-lt, bit_at-zero, bit_at-trailing_zeros}
+use Rattle.std.proofs.lemmas.Nat.{mul-add-lt, same_from_place, and_le_l, div_below, div-add-mod', mod_below}
+use Rattle.std.proofs.lemmas.Nat.Bits.{bit_at_or, bit_at_and, bit_at_clear_same, bit_at-lt, bit_at-zero, bit_at-pow_same, bit_at-pow_other, bit_at-trailing_zeros}
 use Rattle.tc_mat.specs.Matrix.{words_a_row}
-use Rattle.tc_mat.specs.Product.{IsSet, HasBits, GainsBits, Leads, IsPadded}
+use Rattle.tc_mat.specs.Product.{IsSet, HasBits, GainsBits, Leads, Told, IsPadded, IsUnit}
 
 -- ---- gains, one after another
 module _ (n : ℕ) (G H K : ℕ → ℕ → ℕ → Type 0) (joins : (x w p : ℕ) → x < n → w < words_a_row n → (G x w p ⊎ H x w p) ↔ K x w p) where
@@ -162,211 +162,190 @@ module _ (n : ℕ) (b : List ℕ) (from row : ℕ) (old new : List ℕ) (fits : 
           back (inl o) = ap (λ v. bit_at v p) same ∙ o
           back (inr o) = absurd (ne o.0)
 
--- ---- the rows that one word tells, as far as a bit
-abbrev pub Told : ℕ → List ℕ → ℕ → ℕ → ℕ → ℕ → ℕ → Type 0
-Told n b word by k w p = (t : ℕ) × (t < k) × (bit_at word t ≡ 1) × IsSet n b (64 * by + t) w p
+-- ---- the rows that one word tells, but for the bits of it that are left
+module _ (n : ℕ) (b old : List ℕ) (row by told : ℕ) where
+  -- what the bits lead to that are left no longer
+  abbrev pub ToldBut : ℕ → ℕ → ℕ → ℕ → Type 0
+  ToldBut rest x w p = (x ≡ row) × ((t : ℕ) × (bit_at told t ≡ 1) × (bit_at rest t ≡ 0) × IsSet n b (64 * by + t) w p)
 
-bit_of_rest : (word next i : ℕ) → bit_at (word / 2 ^ next) i ≡ bit_at word (next + i)
-bit_of_rest word next i = ap (λ v. v % 2) (shr-shr word next i)
+  pub told_none : GainsBits n old old (ToldBut told)
+  told_none = gains_none n old (ToldBut told) (λ x w p hx hw t. absurd (omega (arith, t.1.1, t.1.2)))
 
--- the lowest bit from a place on
-lowest : (word next far : ℕ) → 0 < word / 2 ^ next → word / 2 ^ next < 2 ^ 64 → far ≡ trailing_zeros w64 (word / 2 ^ next)
-    → (bit_at word (next + far) ≡ 1) × ((t : ℕ) → next ≤ t → t < next + far → bit_at word t ≡ 0)
-lowest word next far some fits is = (at, below)
-  where
-    low : (trailing_zeros w64 (word / 2 ^ next) < 64) × (bit_at (word / 2 ^ next) (trailing_zeros w64 (word / 2 ^ next)) ≡ 1) × ((i : ℕ) → i < trailing_zeros w64 (word / 2 ^ next) → bit_at (word / 2 ^ next) i ≡ 0)
-    low = bit_at-trailing_zeros w64 (word / 2 ^ next) some fits
-
-    at : bit_at word (next + far) ≡ 1
-    at = sym (bit_of_rest word next far) ∙ (ap (bit_at (word / 2 ^ next)) is ∙ low.1)
-
-    below : (t : ℕ) → next ≤ t → t < next + far → bit_at word t ≡ 0
-    below t l h =
-        let e : next + (t - next) ≡ t = omega arith in
-        sym (ap (bit_at word) e) ∙ (sym (bit_of_rest word next (t - next)) ∙ low.2 (t - next) (omega (arith, is)))
-
-module _ (n : ℕ) (a b old : List ℕ) (row by : ℕ) where
-  abbrev pub ToldOf : ℕ → ℕ → ℕ → ℕ → ℕ → Type 0
-  ToldOf word k x w p = (x ≡ row) × Told n b word by k w p
-
-  pub told_none : (word : ℕ) → GainsBits n old old (ToldOf word 0)
-  told_none word = gains_none n old (ToldOf word 0) (λ x w p hx hw t. absurd (omega (arith, t.1.1)))
-
-  pub told_more : (word next far : ℕ) (mid new : List ℕ) → GainsBits n old mid (ToldOf word next)
-      → 0 < word / 2 ^ next → word / 2 ^ next < 2 ^ 64 → far ≡ trailing_zeros w64 (word / 2 ^ next)
-      → GainsBits n mid new (λ x w p. (x ≡ row) × IsSet n b (64 * by + (next + far)) w p)
-      → GainsBits n old new (ToldOf word (next + far + 1))
-  told_more word next far mid new g some fits is h =
-      gains_more n (ToldOf word next) (λ x w p. (x ≡ row) × IsSet n b (64 * by + (next + far)) w p) (ToldOf word (next + far + 1)) (λ x w p hx hw. (forth x w p, back x w p)) old mid new g h
+  -- one bit is told and taken out of those that are left
+  pub told_more : (rest next place : ℕ) (mid new : List ℕ) → ((t : ℕ) → bit_at told t ≡ 1 → (t < 64) × (64 * by + t < n)) → GainsBits n old mid (ToldBut rest)
+      → bit_at rest place ≡ 1 → bit_at told place ≡ 1 → bit_at next place ≡ 0 → ((t : ℕ) → t < 64 → t ≢ place → bit_at next t ≡ bit_at rest t)
+      → GainsBits n mid new (λ x w p. (x ≡ row) × IsSet n b (64 * by + place) w p)
+      → GainsBits n old new (ToldBut next)
+  told_more rest next place mid new fits g at within off kept h =
+      gains_more n (ToldBut rest) (λ x w p. (x ≡ row) × IsSet n b (64 * by + place) w p) (ToldBut next) (λ x w p hx hw. (forth x w p, back x w p)) old mid new g h
     where
-      low : (bit_at word (next + far) ≡ 1) × ((t : ℕ) → next ≤ t → t < next + far → bit_at word t ≡ 0)
-      low = lowest word next far some fits is
+      apart : (t : ℕ) → bit_at rest t ≡ 0 → t ≢ place
+      apart t z e = absurd (omega (arith, z, at, ap (bit_at rest) e))
 
-      forth : (x w p : ℕ) → ToldOf word next x w p ⊎ ((x ≡ row) × IsSet n b (64 * by + (next + far)) w p) → ToldOf word (next + far + 1) x w p
-      forth x w p (inl t) = (t.0, (t.1.0, omega (arith, t.1.1), t.1.2, t.1.3))
-      forth x w p (inr t) = (t.0, (next + far, omega arith, low.0, t.1))
+      forth : (x w p : ℕ) → ToldBut rest x w p ⊎ ((x ≡ row) × IsSet n b (64 * by + place) w p) → ToldBut next x w p
+      forth x w p (inl t) = (t.0, (t.1.0, t.1.1, kept t.1.0 (fits t.1.0 t.1.1).0 (apart t.1.0 t.1.2) ∙ t.1.2, t.1.3))
+      forth x w p (inr t) = (t.0, (place, within, off, t.1))
 
-      place : (x w p t : ℕ) → x ≡ row → bit_at word t ≡ 1 → IsSet n b (64 * by + t) w p → (t < next) ⊎ (next ≤ t) → (t ≡ next + far) ⊎ (t ≡ next + far → ⊥) → t < next + far + 1
-          → ToldOf word next x w p ⊎ ((x ≡ row) × IsSet n b (64 * by + (next + far)) w p)
-      place x w p t e bit set (inl l) q h = inl (e, (t, l, bit, set))
-      place x w p t e bit set (inr l) (inl q) h = inr (e, subst (λ v. IsSet n b (64 * by + v) w p) q set)
-      place x w p t e bit set (inr l) (inr q) h =
-          let u : t ≢ next + far = q in
-          let z : bit_at word t ≡ 0 = low.1 t l (omega arith) in
-          absurd (omega (arith, bit, z))
+      pick : (x w p t : ℕ) → x ≡ row → bit_at told t ≡ 1 → bit_at next t ≡ 0 → IsSet n b (64 * by + t) w p → (t ≡ place) ⊎ (t ≡ place → ⊥)
+          → ToldBut rest x w p ⊎ ((x ≡ row) × IsSet n b (64 * by + place) w p)
+      pick x w p t e s z set (inl q) = inr (e, subst (λ v. IsSet n b (64 * by + v) w p) q set)
+      pick x w p t e s z set (inr ne) = inl (e, (t, s, sym (kept t (fits t s).0 ne) ∙ z, set))
 
-      back : (x w p : ℕ) → ToldOf word (next + far + 1) x w p → ToldOf word next x w p ⊎ ((x ≡ row) × IsSet n b (64 * by + (next + far)) w p)
-      back x w p t = place x w p t.1.0 t.0 t.1.2 t.1.3 (cases_lt t.1.0 next) (cases_eq t.1.0 (next + far)) t.1.1
+      back : (x w p : ℕ) → ToldBut next x w p → ToldBut rest x w p ⊎ ((x ≡ row) × IsSet n b (64 * by + place) w p)
+      back x w p t = pick x w p t.1.0 t.0 t.1.1 t.1.2 t.1.3 (cases_eq t.1.0 place)
 
   -- once no bit is left, the word has told all
-  pub told_all : (word next : ℕ) (new : List ℕ) → word ≡ get_or a (row * words_a_row n + by) 0 → GainsBits n old new (ToldOf word next)
-      → ((t : ℕ) → bit_at word t ≡ 1 → t < next)
-      → GainsBits n old new (λ x w p. (x ≡ row) × Leads n a b by x w p)
-  told_all word next new read g all =
-      gains_as n old new (ToldOf word next) (λ x w p. (x ≡ row) × Leads n a b by x w p) (λ x w p hx hw. (forth x w p, back x w p)) g
+  pub told_all : (rest : ℕ) (new : List ℕ) → rest ≡ 0 → GainsBits n old new (ToldBut rest) → GainsBits n old new (λ x w p. (x ≡ row) × Told n b told by w p)
+  told_all rest new none g =
+      gains_as n old new (ToldBut rest) (λ x w p. (x ≡ row) × Told n b told by w p) (λ x w p hx hw. (forth x w p, back x w p)) g
     where
-      same : (x t : ℕ) → x ≡ row → bit_at word t ≡ bit_at (get_or a (x * words_a_row n + by) 0) t
-      same x t e = ap (λ v. bit_at v t) (read ∙ sym (ap (λ r. get_or a (r * words_a_row n + by) 0) e))
+      forth : (x w p : ℕ) → ToldBut rest x w p → (x ≡ row) × Told n b told by w p
+      forth x w p t = (t.0, (t.1.0, t.1.1, t.1.3))
 
-      forth : (x w p : ℕ) → ToldOf word next x w p → (x ≡ row) × Leads n a b by x w p
-      forth x w p t = (t.0, (t.1.0, sym (same x t.1.0 t.0) ∙ t.1.2, t.1.3))
+      back : (x w p : ℕ) → (x ≡ row) × Told n b told by w p → ToldBut rest x w p
+      back x w p t = (t.0, (t.1.0, t.1.1, ap (λ v. bit_at v t.1.0) none ∙ bit_at-zero t.1.0, t.1.2))
 
-      back : (x w p : ℕ) → (x ≡ row) × Leads n a b by x w p → ToldOf word next x w p
-      back x w p t =
-          let bit : bit_at word t.1.0 ≡ 1 = same x t.1.0 t.0 ∙ t.1.1 in
-          (t.0, (t.1.0, all t.1.0 bit, bit, t.1.2))
-
--- no bit is set from a place on where the rest of the word is zero
-pub none_left : (word next : ℕ) → word / 2 ^ next ≡ 0 → (t : ℕ) → bit_at word t ≡ 1 → t < next
-none_left word next z t bit = by (cases_lt t next)
+-- the lowest bit of a word that isn't zero
+pub lowest : (rest place : ℕ) → (rest ≡ 0 → ⊥) → rest < 2 ^ 64 → place ≡ trailing_zeros w64 rest → (place < 64) × (bit_at rest place ≡ 1)
+lowest rest place some fits is = by (bit_at-trailing_zeros w64 rest (let u : rest ≢ 0 = some in omega arith) fits)
   where
-    by : (t < next) ⊎ (next ≤ t) → t < next
-    by (inl l) = l
-    by (inr l) =
-        let e : next + (t - next) ≡ t = omega arith in
-        let zero_bit : bit_at word t ≡ 0 = sym (ap (bit_at word) e) ∙ (sym (bit_of_rest word next (t - next)) ∙ (ap (λ v. bit_at v (t - next)) z ∙ bit_at-zero (t - next))) in
-        absurd (omega (arith, bit, zero_bit))
+    by : (trailing_zeros w64 rest < 64) × (bit_at rest (trailing_zeros w64 rest) ≡ 1) × ((i : ℕ) → i < trailing_zeros w64 rest → bit_at rest i ≡ 0)
+        → (place < 64) × (bit_at rest place ≡ 1)
+    by h = (omega (arith, h.0, is), ap (bit_at rest) is ∙ h.1)
 
-pub rest_some : {v : ℕ} → (v ≡ 0 → ⊥) → 0 < v
-rest_some {v} ne = let u : v ≢ 0 = ne in omega arith
+-- a word without one of its bits
+abbrev pub without : ℕ → ℕ → ℕ
+without rest place = bit_and rest (bit_not w64 (1 * 2 ^ place % 2 ^ 64))
 
-pub rest_fits : (word next : ℕ) → word < 2 ^ 64 → word / 2 ^ next < 2 ^ 64
-rest_fits word next fits = omega (arith, shr_le word next)
+-- the lesser of two bits
+both_bits : (a b r : ℕ) → r ≡ min a b → r ≡ 1 → a < 2 → a ≡ 1
+both_bits a b r is one low = omega arith
 
--- the next bit of a word of the left stands for a number below n
-pub next_place : (n : ℕ) (a : List ℕ) (row by width next : ℕ) → IsPadded n a → row < n → by < words_a_row n → width ≡ words_a_row n
-    → (get_or a (row * width + by) 0 / 2 ^ next ≡ 0 → ⊥) → get_or a (row * width + by) 0 < 2 ^ 64
-    → (next + trailing_zeros w64 (get_or a (row * width + by) 0 / 2 ^ next) < 64)
-    × (64 * by + (next + trailing_zeros w64 (get_or a (row * width + by) 0 / 2 ^ next)) < n)
-next_place n a row by width next padded hr hb wide some fits =
-    padded row by (next + trailing_zeros w64 (get_or a (row * width + by) 0 / 2 ^ next)) hr hb
-    (subst (λ v. bit_at (get_or a (row * v + by) 0) (next + trailing_zeros w64 (get_or a (row * width + by) 0 / 2 ^ next)) ≡ 1) wide
-    (lowest (get_or a (row * width + by) 0) next (trailing_zeros w64 (get_or a (row * width + by) 0 / 2 ^ next)) (rest_some some) (rest_fits (get_or a (row * width + by) 0) next fits) refl).0)
+pub without_bits : (rest place t : ℕ) → bit_at (without rest place) t ≡ 1 → bit_at rest t ≡ 1
+without_bits rest place t e = both_bits (bit_at rest t) (bit_at (bit_not w64 (1 * 2 ^ place % 2 ^ 64)) t) (bit_at (without rest place) t) (bit_at_and rest (bit_not w64 (1 * 2 ^ place % 2 ^ 64)) t) e (bit_at-lt rest t)
 
--- ---- a block of 64 rows
-module _ (n : ℕ) (a b old : List ℕ) (block by : ℕ) where
-  abbrev pub LedBefore : ℕ → ℕ → ℕ → ℕ → Type 0
-  LedBefore row x w p = (64 * block ≤ x) × (x < row) × Leads n a b by x w p
+pub without_less : (rest place : ℕ) → place < 64 → bit_at rest place ≡ 1 → without rest place < rest
+without_less rest place low at =
+    let off : bit_at (without rest place) place ≡ 0 = bit_at_clear_same w64 rest place low in
+    let ne : without rest place ≢ rest = (λ e. absurd (omega (arith, at, off, ap (λ v. bit_at v place) e))) in
+    omega (arith, and_le_l rest (bit_not w64 (1 * 2 ^ place % 2 ^ 64)))
 
-  abbrev pub LedByBlock : ℕ → ℕ → ℕ → Type 0
-  LedByBlock x w p = (x / 64 ≡ block) × Leads n a b by x w p
+-- ---- word after word
+-- there is a word in a row of words
+pub some_width : (n at len : ℕ) → at < len → len ≡ n * words_a_row n → 0 < words_a_row n
+some_width n at len low size = by (cases_eq n 0)
+  where
+    by : (n ≡ 0) ⊎ (n ≡ 0 → ⊥) → 0 < words_a_row n
+    by (inl e) = absurd (omega (arith, low, size, ap (λ k. k * words_a_row n) e))
+    by (inr ne) = let u : n ≢ 0 = ne in omega arith
 
-  pub rows_none : (row : ℕ) → row ≡ block * 64 → GainsBits n old old (LedBefore row)
-  rows_none row e = gains_none n old (LedBefore row) (λ x w p hx hw t. absurd (omega (arith, t.0, t.1)))
+-- the row of a word
+pub row_low : (n at len : ℕ) → at < len → len ≡ n * words_a_row n → at / words_a_row n < n
+row_low n at len low size = div_below at (words_a_row n) n (some_width n at len low size) (omega (arith, low, size))
 
-  pub rows_more : (row : ℕ) (mid new : List ℕ) → 64 * block ≤ row → GainsBits n old mid (LedBefore row)
-      → GainsBits n mid new (λ x w p. (x ≡ row) × Leads n a b by x w p) → GainsBits n old new (LedBefore (row + 1))
-  rows_more row mid new l g h =
-      gains_more n (LedBefore row) (λ x w p. (x ≡ row) × Leads n a b by x w p) (LedBefore (row + 1)) (λ x w p hx hw. (forth x w p, back x w p)) old mid new g h
-    where
-      forth : (x w p : ℕ) → LedBefore row x w p ⊎ ((x ≡ row) × Leads n a b by x w p) → LedBefore (row + 1) x w p
-      forth x w p (inl t) = (t.0, omega (arith, t.1), t.2)
-      forth x w p (inr t) = (omega (arith, t.0), omega (arith, t.0), t.1)
+-- the numbers that a word tells are low
+pub told_low : (n : ℕ) (a : List ℕ) (at : ℕ) → IsPadded n a → at < length a → length a ≡ n * words_a_row n
+    → (t : ℕ) → bit_at (get_or a at 0) t ≡ 1 → (t < 64) × (64 * (at % words_a_row n) + t < n)
+told_low n a at padded low size t bit =
+    let wide : 0 < words_a_row n = some_width n at (length a) low size in
+    let e : at / words_a_row n * words_a_row n + at % words_a_row n ≡ at = div-add-mod' at (words_a_row n) in
+    padded (at / words_a_row n) (at % words_a_row n) t (row_low n at (length a) low size) (mod_below at (words_a_row n) wide) (ap (λ k. bit_at (get_or a k 0) t) e ∙ bit)
 
-      pick : (x w p : ℕ) → LedBefore (row + 1) x w p → (x ≡ row) ⊎ (x ≡ row → ⊥) → LedBefore row x w p ⊎ ((x ≡ row) × Leads n a b by x w p)
-      pick x w p t (inl e) = inr (e, t.2)
-      pick x w p t (inr ne) = let u : x ≢ row = ne in inl (t.0, omega (arith, t.1), t.2)
-
-      back : (x w p : ℕ) → LedBefore (row + 1) x w p → LedBefore row x w p ⊎ ((x ≡ row) × Leads n a b by x w p)
-      back x w p t = pick x w p t (cases_eq x row)
-
-  pub rows_all : (row : ℕ) (new : List ℕ) → row ≡ min (block * 64 + 64) n → GainsBits n old new (LedBefore row) → GainsBits n old new LedByBlock
-  rows_all row new e g = gains_as n old new (LedBefore row) LedByBlock (λ x w p hx hw. (forth x w p, back x w p hx)) g
-    where
-      forth : (x w p : ℕ) → LedBefore row x w p → LedByBlock x w p
-      forth x w p t = (omega (arith, t.0, t.1), t.2)
-
-      back : (x w p : ℕ) → x < n → LedByBlock x w p → LedBefore row x w p
-      back x w p hx t = (omega (arith, t.0), omega (arith, t.0), t.1)
-
-  pub rows_zero : ((row : ℕ) → block * 64 ≤ row → row < min (block * 64 + 64) n → get_or a (row * words_a_row n + by) 0 ≡ 0) → GainsBits n old old LedByBlock
-  rows_zero zeros = gains_none n old LedByBlock none
-    where
-      none : (x w p : ℕ) → x < n → w < words_a_row n → LedByBlock x w p → ⊥
-      none x w p hx hw t =
-          let z : get_or a (x * words_a_row n + by) 0 ≡ 0 = zeros x (omega (arith, t.0)) (omega (arith, t.0)) in
-          let bit : bit_at (get_or a (x * words_a_row n + by) 0) t.1.0 ≡ 1 = t.1.1 in
-          omega (arith, sym bit ∙ ap (λ v. bit_at v t.1.0) z, bit_at-zero t.1.0)
-
--- ---- block after block
 module _ (n : ℕ) (a b : List ℕ) where
-  -- the blocks that were done: all of the rows of blocks before, and some of this one
-  abbrev pub Done : ℕ → ℕ → ℕ → ℕ → ℕ → Type 0
-  Done block by x w p = (c : ℕ) × (c < words_a_row n) × ((x / 64 < block) ⊎ ((x / 64 ≡ block) × (c < by))) × Leads n a b c x w p
+  -- what the words before one lead to
+  abbrev pub LedBefore : ℕ → ℕ → ℕ → ℕ → Type 0
+  LedBefore at x w p = (c : ℕ) × (c < words_a_row n) × (x * words_a_row n + c < at) × Leads n a b c x w p
 
-  pub done_none : (words : List ℕ) → ((x w p : ℕ) → x < n → w < words_a_row n → IsSet n words x w p → ⊥) → HasBits n words (Done 0 0)
-  done_none words none x w p hx hw = (λ s. absurd (none x w p hx hw s), λ d. absurd (never d.2))
+  pub led_none : (words : List ℕ) → ((x w p : ℕ) → x < n → w < words_a_row n → IsSet n words x w p → ⊥) → HasBits n words (LedBefore 0)
+  led_none words none x w p hx hw = (λ s. absurd (none x w p hx hw s), λ d. absurd (omega (arith, d.2)))
+
+  -- a word that is zero leads nowhere
+  pub led_zero : (at : ℕ) (words : List ℕ) → get_or a at 0 ≡ 0 → HasBits n words (LedBefore at) → HasBits n words (LedBefore (at + 1))
+  led_zero at words none = bits_as n words (LedBefore at) (LedBefore (at + 1)) (λ x w p hx hw. (forth x w p, back x w p))
     where
-      never : {c : ℕ} → ((x / 64 < 0) ⊎ ((x / 64 ≡ 0) × (c < 0))) → ⊥
-      never (inl l) = absurd (omega arith)
-      never (inr t) = absurd (omega (arith, t.1))
+      forth : (x w p : ℕ) → LedBefore at x w p → LedBefore (at + 1) x w p
+      forth x w p d = (d.0, d.1, omega (arith, d.2), d.3)
 
-  pub done_more : (block by : ℕ) (old new : List ℕ) → by < words_a_row n → HasBits n old (Done block by)
-      → GainsBits n old new (λ x w p. (x / 64 ≡ block) × Leads n a b by x w p) → HasBits n new (Done block (by + 1))
-  done_more block by old new hb g h =
-      bits_more n (Done block by) (λ x w p. (x / 64 ≡ block) × Leads n a b by x w p) (Done block (by + 1)) (λ x w p hx hw. (forth x w p, back x w p)) old new g h
-    where
-      later : (x c : ℕ) → (x / 64 < block) ⊎ ((x / 64 ≡ block) × (c < by)) → (x / 64 < block) ⊎ ((x / 64 ≡ block) × (c < by + 1))
-      later x c (inl l) = inl l
-      later x c (inr t) = inr (t.0, omega (arith, t.1))
+      pick : (x w p c : ℕ) → c < words_a_row n → x * words_a_row n + c < at + 1 → Leads n a b c x w p → (x * words_a_row n + c ≡ at) ⊎ (x * words_a_row n + c ≡ at → ⊥) → LedBefore at x w p
+      pick x w p c hc low d (inl e) =
+          let bit : bit_at 0 d.0 ≡ 1 = sym (ap (λ v. bit_at v d.0) (ap (λ k. get_or a k 0) e ∙ none)) ∙ d.1 in
+          absurd (omega (arith, bit, bit_at-zero d.0))
+      pick x w p c hc low d (inr ne) = let u : x * words_a_row n + c ≢ at = ne in (c, hc, omega (arith, low), d)
 
-      forth : (x w p : ℕ) → Done block by x w p ⊎ ((x / 64 ≡ block) × Leads n a b by x w p) → Done block (by + 1) x w p
-      forth x w p (inl d) = (d.0, d.1, later x d.0 d.2, d.3)
-      forth x w p (inr t) = (by, hb, inr (t.0, omega arith), t.1)
+      back : (x w p : ℕ) → LedBefore (at + 1) x w p → LedBefore at x w p
+      back x w p d = pick x w p d.0 d.1 d.2 d.3 (cases_eq (x * words_a_row n + d.0) at)
 
-      pick : (x w p c : ℕ) → c < words_a_row n → (x / 64 < block) ⊎ ((x / 64 ≡ block) × (c < by + 1)) → (c ≡ by) ⊎ (c ≡ by → ⊥) → Leads n a b c x w p
-          → Done block by x w p ⊎ ((x / 64 ≡ block) × Leads n a b by x w p)
-      pick x w p c hc (inl l) q d = inl (c, hc, inl l, d)
-      pick x w p c hc (inr t) (inl e) d = inr (t.0, subst (λ v. Leads n a b v x w p) e d)
-      pick x w p c hc (inr t) (inr ne) d = let u : c ≢ by = ne in inl (c, hc, inr (t.0, omega (arith, t.1)), d)
+  module _ (at width : ℕ) (low : at < length a) (size : length a ≡ n * words_a_row n) (is : width ≡ words_a_row n) where
+    abbrev Gained : ℕ → ℕ → ℕ → Type 0
+    Gained x w p = (x ≡ at / width) × Told n b (get_or a at 0) (at % width) w p
 
-      back : (x w p : ℕ) → Done block (by + 1) x w p → Done block by x w p ⊎ ((x / 64 ≡ block) × Leads n a b by x w p)
-      back x w p d = pick x w p d.0 d.1 d.2 (cases_eq d.0 by) d.3
+    wide : 0 < words_a_row n
+    wide = some_width n at (length a) low size
 
-  pub done_block : (block by : ℕ) (words : List ℕ) → by ≡ words_a_row n → HasBits n words (Done block by) → HasBits n words (Done (block + 1) 0)
-  done_block block by words e = bits_as n words (Done block by) (Done (block + 1) 0) (λ x w p hx hw. (forth x w p, back x w p))
-    where
-      pass : (x c : ℕ) → (x / 64 < block) ⊎ ((x / 64 ≡ block) × (c < by)) → (x / 64 < block + 1) ⊎ ((x / 64 ≡ block + 1) × (c < 0))
-      pass x c (inl l) = inl (omega arith)
-      pass x c (inr t) = inl (omega (arith, t.0))
+    whole : at / words_a_row n * words_a_row n + at % words_a_row n ≡ at
+    whole = div-add-mod' at (words_a_row n)
 
-      forth : (x w p : ℕ) → Done block by x w p → Done (block + 1) 0 x w p
-      forth x w p d = (d.0, d.1, pass x d.0 d.2, d.3)
+    led_forth : (x w p : ℕ) → LedBefore at x w p ⊎ Gained x w p → LedBefore (at + 1) x w p
+    led_forth x w p (inl d) = (d.0, d.1, omega (arith, d.2), d.3)
+    led_forth x w p (inr g) =
+        let row : x ≡ at / words_a_row n = g.0 ∙ ap (λ v. at / v) is in
+        let place : x * words_a_row n + at % words_a_row n ≡ at = ap (λ r. r * words_a_row n + at % words_a_row n) row ∙ whole in (
+          at % words_a_row n,
+          mod_below at (words_a_row n) wide,
+          omega (arith, place),
+          (g.1.0, ap (λ k. bit_at (get_or a k 0) g.1.0) place ∙ g.1.1, subst (λ v. IsSet n b (64 * (at % v) + g.1.0) w p) is g.1.2),
+        )
 
-      split : (x c : ℕ) → c < words_a_row n → (x / 64 ≡ block) ⊎ (x / 64 ≡ block → ⊥) → (x / 64 < block + 1) ⊎ ((x / 64 ≡ block + 1) × (c < 0)) → (x / 64 < block) ⊎ ((x / 64 ≡ block) × (c < by))
-      split x c hc q (inr t) = absurd (omega (arith, t.1))
-      split x c hc (inl q) (inl l) = inr (q, omega arith)
-      split x c hc (inr q) (inl l) = let u : x / 64 ≢ block = q in inl (omega arith)
+    led_pick : (x w p c : ℕ) → c < words_a_row n → x * words_a_row n + c < at + 1 → Leads n a b c x w p → (x * words_a_row n + c ≡ at) ⊎ (x * words_a_row n + c ≡ at → ⊥)
+        → LedBefore at x w p ⊎ Gained x w p
+    led_pick x w p c hc h d (inl e) =
+        let same = same_from_place x c (at / words_a_row n) (at % words_a_row n) (words_a_row n) hc (mod_below at (words_a_row n) wide) (e ∙ sym whole) in
+        inr (
+          same.0 ∙ sym (ap (λ v. at / v) is),
+          (
+            d.0,
+            sym (ap (λ k. bit_at (get_or a k 0) d.0) e) ∙ d.1,
+            subst (λ v. IsSet n b (64 * (at % v) + d.0) w p) (sym is) (subst (λ v. IsSet n b (64 * v + d.0) w p) same.1 d.2),
+          ),
+        )
+    led_pick x w p c hc h d (inr ne) = let u : x * words_a_row n + c ≢ at = ne in inl (c, hc, omega (arith, h), d)
 
-      back : (x w p : ℕ) → Done (block + 1) 0 x w p → Done block by x w p
-      back x w p d = (d.0, d.1, split x d.0 d.1 (cases_eq (x / 64) block) d.2, d.3)
+    led_back : (x w p : ℕ) → LedBefore (at + 1) x w p → LedBefore at x w p ⊎ Gained x w p
+    led_back x w p d = led_pick x w p d.0 d.1 d.2 d.3 (cases_eq (x * words_a_row n + d.0) at)
 
-  pub done_all : (block : ℕ) (words : List ℕ) → block ≡ words_a_row n → HasBits n words (Done block 0)
+    pub led_more : (old new : List ℕ) → HasBits n old (LedBefore at) → GainsBits n old new (λ x w p. (x ≡ at / width) × Told n b (get_or a at 0) (at % width) w p) → HasBits n new (LedBefore (at + 1))
+    led_more old new g h = bits_more n (LedBefore at) Gained (LedBefore (at + 1)) (λ x w p hx hw. (led_forth x w p, led_back x w p)) old new g h
+
+  pub led_all : (at : ℕ) (words : List ℕ) → n * words_a_row n ≤ at → HasBits n words (LedBefore at)
       → HasBits n words (λ x w p. (c : ℕ) × (c < words_a_row n) × Leads n a b c x w p)
-  done_all block words e = bits_as n words (Done block 0) (λ x w p. (c : ℕ) × (c < words_a_row n) × Leads n a b c x w p) (λ x w p hx hw. (forth x w p, back x w p hx))
+  led_all at words e = bits_as n words (LedBefore at) (λ x w p. (c : ℕ) × (c < words_a_row n) × Leads n a b c x w p) (λ x w p hx hw. (forth x w p, back x w p hx))
     where
-      forth : (x w p : ℕ) → Done block 0 x w p → (c : ℕ) × (c < words_a_row n) × Leads n a b c x w p
+      forth : (x w p : ℕ) → LedBefore at x w p → (c : ℕ) × (c < words_a_row n) × Leads n a b c x w p
       forth x w p d = (d.0, d.1, d.3)
 
-      back : (x w p : ℕ) → x < n → (c : ℕ) × (c < words_a_row n) × Leads n a b c x w p → Done block 0 x w p
-      back x w p hx d = (d.0, d.1, inl (omega arith), d.2)
+      back : (x w p : ℕ) → x < n → (c : ℕ) × (c < words_a_row n) × Leads n a b c x w p → LedBefore at x w p
+      back x w p hx d = (d.0, d.1, omega (arith, e, mul-add-lt x (words_a_row n) d.0 n hx d.1), d.2)
+
+  -- rows that have exactly their own numbers lead to the same rows
+  pub unit_rows : ((row : ℕ) → row < n → IsUnit n a row) → HasBits n b (λ x w p. (c : ℕ) × (c < words_a_row n) × Leads n a b c x w p)
+  unit_rows unit x w p hx hw = (forth, λ d. back d.0 d.1 d.2 (cases_eq d.0 (x / 64)))
+    where
+      forth : IsSet n b x w p → (c : ℕ) × (c < words_a_row n) × Leads n a b c x w p
+      forth s =
+          let hc : x / 64 < words_a_row n = omega arith in
+          let e : 64 * (x / 64) + x % 64 ≡ x = omega arith in
+          (x / 64, hc, (x % 64, ap (λ v. bit_at v (x % 64)) ((unit x hx (x / 64) hc).0 refl) ∙ bit_at-pow_same (x % 64), subst (λ v. IsSet n b v w p) (sym e) s))
+
+      at : (t : ℕ) → bit_at (2 ^ (x % 64)) t ≡ 1 → (t ≡ x % 64) ⊎ (t ≡ x % 64 → ⊥) → t ≡ x % 64
+      at t bit (inl e) = e
+      at t bit (inr ne) = absurd (omega (arith, bit, bit_at-pow_other (x % 64) t ne))
+
+      back : (c : ℕ) → c < words_a_row n → Leads n a b c x w p → (c ≡ x / 64) ⊎ (c ≡ x / 64 → ⊥) → IsSet n b x w p
+      back c hc d (inl e) =
+          let bit : bit_at (2 ^ (x % 64)) d.0 ≡ 1 = sym (ap (λ v. bit_at v d.0) ((unit x hx c hc).0 e)) ∙ d.1 in
+          let t : d.0 ≡ x % 64 = at d.0 bit (cases_eq d.0 (x % 64)) in
+          let same : 64 * c + d.0 ≡ x = omega (arith, e, t) in
+          subst (λ v. IsSet n b v w p) same d.2
+      back c hc d (inr ne) =
+          let bit : bit_at 0 d.0 ≡ 1 = sym (ap (λ v. bit_at v d.0) ((unit x hx c hc).1 ne)) ∙ d.1 in
+          absurd (omega (arith, bit, bit_at-zero d.0))

@@ -1,5 +1,5 @@
 -- The composition of two sets of pairs, by the words of their rows.
-use Rattle.std.specs.Prelude.{◌≡◌, ℕ, ◌+◌, ◌*◌, ◌<◌, ◌⊎◌, ◌↔◌, List, slice_index}
+use Rattle.std.specs.Prelude.{◌≡◌, ℕ, ◌+◌, ◌*◌, ◌/◌, ◌%◌, ◌^◌, ◌<◌, ◌⊎◌, ◌↔◌, List, slice_index}
 use Rattle.std.specs.Int.{bit_at}
 use Rattle.tc_mat.specs.Matrix.{words_a_row}
 
@@ -18,6 +18,10 @@ GainsBits n old new Gained =
     (row word place : ℕ) → row < n → word < words_a_row n
     → IsSet n new row word place ↔ (IsSet n old row word place ⊎ Gained row word place)
 
+-- a bit of a row that is led to by one of the 64 numbers that a word tells
+abbrev pub Told : ℕ → List ℕ → ℕ → ℕ → ℕ → ℕ → Type 0
+Told n b told by word place = (t : ℕ) × (bit_at told t ≡ 1) × IsSet n b (64 * by + t) word place
+
 -- a bit of a row of the composition by one of the 64 numbers that one word of the left tells
 abbrev pub Leads : ℕ → List ℕ → List ℕ → ℕ → ℕ → ℕ → ℕ → Type 0
 Leads n a b by row word place = (t : ℕ) × IsSet n a row by t × IsSet n b (64 * by + t) word place
@@ -27,3 +31,11 @@ abbrev pub IsPadded : ℕ → List ℕ → Type 0
 IsPadded n words =
     (row word place : ℕ) → row < n → word < words_a_row n → IsSet n words row word place
     → (place < 64) × (64 * word + place < n)
+
+-- a word of a row that has exactly its own number
+abbrev pub IsUnitWord : ℕ → ℕ → ℕ → Type 0
+IsUnitWord row word v = (word ≡ row / 64 → v ≡ 2 ^ (row % 64)) × ((word ≡ row / 64 → ⊥) → v ≡ 0)
+
+-- a row has exactly its own number
+abbrev pub IsUnit : ℕ → List ℕ → ℕ → Type 0
+IsUnit n words row = (word : ℕ) → word < words_a_row n → IsUnitWord row word (slice_index words (row * words_a_row n + word))

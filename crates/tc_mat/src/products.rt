@@ -1,8 +1,9 @@
-//! The composition of two sets of pairs, by blocks of 64 by 64.
+//! The composition of two sets of pairs, by the words of the left that aren't zero.
 
-ghost use Rattle.std.specs.Prelude.{◌≡◌, ◌≢◌, ◌⊎◌, ◌↔◌, ℕ, ◌+◌, ◌*◌, ◌/◌, ◌%◌, ◌^◌, ◌<◌, ◌≤◌, length, slice_index, IsTrue};
+ghost use Rattle.std.specs.Prelude.{◌≡◌, ◌≢◌, ◌⊎◌, ◌↔◌, ℕ, ◌+◌, ◌*◌, ◌/◌, ◌%◌, ◌^◌, ◌<◌, ◌≤◌, length, IsTrue};
+ghost use Rattle.std.specs.Int.{bit_at};
 ghost use Rattle.tc_mat.specs.Matrix.{words_a_row};
-ghost use Rattle.tc_mat.specs.Product.{IsSet, HasBits, GainsBits, Leads, IsPadded};
+ghost use Rattle.tc_mat.specs.Product.{IsSet, HasBits, GainsBits, Leads, Told, IsPadded, IsUnit, IsUnitWord};
 
 use crate::matrices::words_in_row;
 
@@ -15,73 +16,72 @@ pub(crate) fn multiply(n: u32, a: &[u64], b: &[u64], out: &mut [u64])
     ensures { HasBits n out.new
         (λ row word place. (by : ℕ) × (by < words_a_row n) × Leads n a.now b.now by row word place) }
 {
+    if is_identity(n, a) {
+        out.copy_from_slice(b);
+        return;
+    }
     out.fill(0);
-    for block in 0..words_in_row(n) {
-        for by in 0..words_in_row(n) {
-            add_block(n, a, b, out, block, by);
+    let width = words_in_row(n);
+    for (at, word) in a.iter().enumerate() {
+        if *word != 0 {
+            add_rows(n, *word, at % width, b, out, at / width);
         }
     }
 }
 
-/// Adds what the rows of one block of 64 by 64 of the left lead to.
-fn add_block(n: u32, a: &[u64], b: &[u64], out: &mut [u64], block: usize, by: usize)
+/// Whether each row has exactly its own number. It needn't find out where one doesn't.
+fn is_identity(n: u32, a: &[u64]) -> bool
     requires left { length a.now ≡ n * words_a_row n }
-    requires right { length b.now ≡ n * words_a_row n }
-    requires room { length out.old ≡ n * words_a_row n }
-    requires padded { IsPadded n a.now }
-    requires block { block < words_a_row n }
-    requires by { by < words_a_row n }
-    ensures { GainsBits n out.old out.new
-        (λ row word place. (row / 64 ≡ block) × Leads n a.now b.now by row word place) }
+    ensures { IsTrue result → (row : ℕ) → row < n → IsUnit n a.now row }
 {
-    let first = block * 64;
-    let end = (first + 64).min(n as usize);
-    if is_zero_block(n, a, first, end, by) {
-        return;
-    }
-    for row in first..end {
-        add_rows(n, a, b, out, row, by);
-    }
-}
-
-/// Whether one word of each of some rows is zero.
-fn is_zero_block(n: u32, a: &[u64], first: usize, end: usize, by: usize) -> bool
-    requires left { length a.now ≡ n * words_a_row n }
-    requires rows { end ≤ n }
-    requires by { by < words_a_row n }
-    ensures { IsTrue result → (row : ℕ) → first ≤ row → row < end
-        → slice_index a.now (row * words_a_row n + by) ≡ 0 }
-{
-    let width = words_in_row(n);
-    for row in first..end {
-        if a[row * width + by] != 0 {
+    for row in 0..n as usize {
+        if !is_unit(n, a, row) {
             return false;
         }
     }
     true
 }
 
-/// Adds what one word of a row of the left leads to.
-fn add_rows(n: u32, a: &[u64], b: &[u64], out: &mut [u64], row: usize, by: usize)
+/// Whether a row has exactly its own number.
+fn is_unit(n: u32, a: &[u64], row: usize) -> bool
     requires left { length a.now ≡ n * words_a_row n }
+    requires row { row < n }
+    ensures { IsTrue result → IsUnit n a.now row }
+{
+    let width = words_in_row(n);
+    for word in 0..width {
+        if a[row * width + word] != unit_word(row, word) {
+            return false;
+        }
+    }
+    true
+}
+
+/// A word of a row that has exactly its own number.
+fn unit_word(row: usize, word: usize) -> u64
+    ensures { IsUnitWord row word result }
+{
+    if word == row / 64 {
+        1u64 << (row % 64)
+    } else {
+        0
+    }
+}
+
+/// Adds what one word of the left leads to, which stands for 64 numbers, to a row.
+fn add_rows(n: u32, told: u64, by: usize, b: &[u64], out: &mut [u64], row: usize)
     requires right { length b.now ≡ n * words_a_row n }
     requires room { length out.old ≡ n * words_a_row n }
-    requires padded { IsPadded n a.now }
-    requires row { row < n }
     requires by { by < words_a_row n }
-    ensures { GainsBits n out.old out.new
-        (λ x word place. (x ≡ row) × Leads n a.now b.now by x word place) }
+    requires told { (t : ℕ) → bit_at told t ≡ 1 → (t < 64) × (64 * by + t < n) }
+    requires row { row < n }
+    ensures { GainsBits n out.old out.new (λ x word place. (x ≡ row) × Told n b.now told by word place) }
 {
-    let word = a[row * words_in_row(n) + by];
-    let mut next = 0;
-    while next < 64 {
-        let rest = word >> next;
-        if rest == 0 {
-            return;
-        }
-        let place = next + rest.trailing_zeros();
+    let mut rest = told;
+    while rest != 0 {
+        let place = rest.trailing_zeros();
         add_row(n, b, 64 * by + place as usize, out, row);
-        next = place + 1;
+        rest = rest & !(1u64 << place);
     }
 }
 

@@ -1,29 +1,35 @@
-use Rattle.std.proofs.Common.{◌+◌, ◌*◌, ◌/◌, ◌<◌, ◌^◌, ℕ, ap, get_or, arith, refl}
+use Rattle.std.proofs.Common.{ℕ, refl, arith}
 use Rattle.std.specs.Int.{trailing_zeros, w64}
-use Rattle.tc_mat.proofs.Rows.{told_all, told_more, none_left, next_place, rest_some, rest_fits}
+use Rattle.std.proofs.lemmas.Nat.Bits.{bit_at_clear_same, bit_at_clear_other}
+use Rattle.tc_mat.proofs.Rows.{told_none, told_more, told_all, lowest, without, without_bits, without_less}
 use Rattle.tc_mat.proofs.products.add_rows.Goals as goal
-
-pub returns-then-rest-eq0 : goal.returns-then-rest-eq0
-returns-then-rest-eq0 c =
-    let word : ℕ = get_or c.args.a.now (c.args.row * c.words_in_row.result + c.args.by) 0 in
-    told_all c.args.n c.args.a.now c.args.b.now c.args.out.now c.args.row c.args.by word c.loop-next.next c.loop-next.out
-    (ap (λ w. get_or c.args.a.now (c.args.row * w + c.args.by) 0) c.words_in_row.ensures)
-    c.loop-next.invariant.1 (none_left word c.loop-next.next c.if-rest-eq0.true)
 
 pub add_row-requires-clause-from : goal.add_row-requires-clause-from
 add_row-requires-clause-from c =
-    let fits : get_or c.args.a.now (c.args.row * c.words_in_row.result + c.args.by) 0 < 2 ^ 64 = omega (arith, c.type_inv.a (c.args.row * c.words_in_row.result + c.args.by)) in
-    (next_place c.args.n c.args.a.now c.args.row c.args.by c.words_in_row.result c.loop-next.next c.requires.padded c.requires.row c.requires.by c.words_in_row.ensures
-    c.if-rest-eq0.false fits).1
+    let rest : ℕ = c.loop-rest.rest in
+    let low = lowest rest (trailing_zeros w64 rest) c.loop-rest-test.true (omega (arith, c.ranges.told.fits, c.loop-rest.invariant.2)) refl in
+    (c.requires.told (trailing_zeros w64 rest) (c.loop-rest.invariant.0 (trailing_zeros w64 rest) low.1)).1
 
-pub loop-next-preserved : goal.loop-next-preserved
-loop-next-preserved c =
-    let word : ℕ = get_or c.args.a.now (c.args.row * c.words_in_row.result + c.args.by) 0 in
-    let next : ℕ = c.loop-next.next in
-    let fits : word < 2 ^ 64 = omega (arith, c.type_inv.a (c.args.row * c.words_in_row.result + c.args.by)) in
-    let below : next + trailing_zeros w64 (word / 2 ^ next) < 64 =
-    (next_place c.args.n c.args.a.now c.args.row c.args.by c.words_in_row.result next c.requires.padded c.requires.row c.requires.by c.words_in_row.ensures c.if-rest-eq0.false fits).0 in (
-      omega arith,
-      told_more c.args.n c.args.a.now c.args.b.now c.args.out.now c.args.row c.args.by word next (trailing_zeros w64 (word / 2 ^ next)) c.loop-next.out c.add_row.new.out
-          c.loop-next.invariant.1 (rest_some c.if-rest-eq0.false) (rest_fits word next fits) refl c.add_row.ensures,
+pub loop-rest-init : goal.loop-rest-init
+loop-rest-init c = (λ t e. e, told_none c.args.n c.args.b.now c.args.out.now c.args.row c.args.by c.args.told, omega arith)
+
+pub loop-rest-preserved : goal.loop-rest-preserved
+loop-rest-preserved c =
+    let rest : ℕ = c.loop-rest.rest in
+    let place : ℕ = trailing_zeros w64 rest in
+    let low = lowest rest (trailing_zeros w64 rest) c.loop-rest-test.true (omega (arith, c.ranges.told.fits, c.loop-rest.invariant.2)) refl in
+    let inv = c.loop-rest.invariant in (
+      λ t e. inv.0 t (without_bits rest (trailing_zeros w64 rest) t e),
+      told_more c.args.n c.args.b.now c.args.out.now c.args.row c.args.by c.args.told rest (without rest (trailing_zeros w64 rest)) (trailing_zeros w64 rest) c.loop-rest.out c.add_row.new.out
+          c.requires.told inv.1 low.1 (inv.0 (trailing_zeros w64 rest) low.1) (bit_at_clear_same w64 rest (trailing_zeros w64 rest) low.0) (bit_at_clear_other w64 rest (trailing_zeros w64 rest) low.0) c.add_row.ensures,
+      omega (arith, inv.2, without_less rest (trailing_zeros w64 rest) low.0 low.1),
     )
+
+pub loop-rest-smaller : goal.loop-rest-smaller
+loop-rest-smaller c =
+    let rest : ℕ = c.loop-rest.rest in
+    let low = lowest rest (trailing_zeros w64 rest) c.loop-rest-test.true (omega (arith, c.ranges.told.fits, c.loop-rest.invariant.2)) refl in
+    without_less rest (trailing_zeros w64 rest) low.0 low.1
+
+pub returns : goal.returns
+returns c = told_all c.args.n c.args.b.now c.args.out.now c.args.row c.args.by c.args.told c.loop-rest.rest c.loop-rest.out c.loop-rest-test.false c.loop-rest.invariant.1
