@@ -52,3 +52,4 @@ pub mod BodiesInTurn
 pub mod TreesInTurn
 pub mod SchemaStates
 pub mod TreesApart
+pub mod NormalLevels

@@ -67,3 +67,4 @@ pub mod SheetTextLaws
 pub mod CertificateLines
 pub mod CertificateData
 pub mod CertificateFits
+pub mod NormalLevels
