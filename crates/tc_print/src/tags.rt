@@ -1,5 +1,5 @@
 // Tags, and the default namespace that they declare (Namespaces in XML 1.0, 6.2).
-ghost use Rattle.std.specs.Prelude.{◌≡◌, ◌≤◌, ◌++◌, IfOk, OnOk, OnErr};
+ghost use Rattle.std.specs.Prelude.{◌≡◌, ◌≤◌, ◌++◌, codes, length, IfOk, IsTrue, OnOk, OnErr};
 ghost use Rattle.tc_io.specs.Faults.{Rose};
 ghost use Rattle.tc_io.specs.Sink.{Appended, WroteFront};
 ghost use Rattle.tc_model.specs.Printed as p;
@@ -7,6 +7,7 @@ ghost use Rattle.tc_model.specs.Views.{name};
 ghost use Rattle.tc_print.specs.Pieces.{begun_tag, end_tag};
 
 use crate::escapes::{Within, write_escaped};
+use arrayvec::ArrayString;
 use tc_io::{Sink, WriteFault};
 use tc_model::Name;
 
@@ -39,8 +40,64 @@ pub fn begin_tag<'a, K: Sink>(
     write_declaration(default, of, sink)
 }
 
+/// The most bytes of a name whose end tag is written at once.
+const SHORT: usize = 61;
+
+/// Whether an end tag is short, and its name has no prefix.
+fn is_short(of: &Name<'_>) -> bool
+    ensures local { IsTrue result → p.tag_name (name of.now) ≡ of.now.local.now }
+    ensures short { IsTrue result → length of.now.local.now ≤ 61 }
+{
+    if of.uri == XML_URI {
+        return false;
+    }
+    of.local.len() <= SHORT
+}
+
+/// An end tag, put together.
+fn short_end_tag(local: &str) -> ArrayString<64>
+    requires { length local.now ≤ 61 }
+    ensures { result.bytes ≡ codes "</" ++ local.now ++ codes ">" }
+{
+    let mut tag = ArrayString::new();
+    tag.push_str("</");
+    tag.push_str(local);
+    tag.push_str(">");
+    tag
+}
+
+/// Writes a short end tag at once.
+#[inline(never)]
+fn write_short_end_tag<K: Sink>(local: &str, sink: &mut K) -> Result<(), WriteFault>
+    requires { length local.now ≤ 61 }
+    ensures count { K.faults sink.old ≤ K.faults sink.new }
+    ensures ok { OnOk result
+        (Appended (K.written sink.old) (K.written sink.new) (codes "</" ++ local.now ++ codes ">")) }
+    ensures fault { OnErr result
+        (WroteFront (K.written sink.old) (K.written sink.new) (codes "</" ++ local.now ++ codes ">")) }
+    ensures rose { OnErr result (Rose (K.faults sink.old) (K.faults sink.new)) }
+{
+    let tag = short_end_tag(local);
+    sink.write(tag.as_str().as_bytes())
+}
+
 /// Writes an end tag.
 pub fn write_end_tag<K: Sink>(of: &Name<'_>, sink: &mut K) -> Result<(), WriteFault>
+    ensures count { K.faults sink.old ≤ K.faults sink.new }
+    ensures ok { OnOk result
+        (Appended (K.written sink.old) (K.written sink.new) (end_tag (name of.now))) }
+    ensures fault { OnErr result
+        (WroteFront (K.written sink.old) (K.written sink.new) (end_tag (name of.now))) }
+    ensures rose { OnErr result (Rose (K.faults sink.old) (K.faults sink.new)) }
+{
+    if is_short(of) {
+        return write_short_end_tag(of.local, sink);
+    }
+    write_long_end_tag(of, sink)
+}
+
+/// Writes an end tag piece by piece.
+fn write_long_end_tag<K: Sink>(of: &Name<'_>, sink: &mut K) -> Result<(), WriteFault>
     ensures count { K.faults sink.old ≤ K.faults sink.new }
     ensures ok { OnOk result
         (Appended (K.written sink.old) (K.written sink.new) (end_tag (name of.now))) }

@@ -1,22 +1,17 @@
-use Rattle.std.proofs.Common.{◌++◌, codes}
-use Rattle.tc_io.proofs.Fronts.{on_err, on_err_map, first_front, next_front}
-use Rattle.tc_model.specs.Printed.{tag_name}
-use Rattle.tc_model.specs.Views.{name}
+use Rattle.std.proofs.Common.{List, ℕ, ◌++◌, codes, sym, ap, subst}
+use Rattle.tc_io.specs.Sink.{Appended, WroteFront}
+use Rattle.tc_io.proofs.Fronts.{on_err_map, on_ok_map}
 use Rattle.tc_print.proofs.tags.write_end_tag.Goals as goal
 
-pub returns-in_err-write-clause-fault : goal.returns-in_err-write-clause-fault
-returns-in_err-write-clause-fault g c =
-    let tag = tag_name (name c.args.of.now) in
-    on_err c.from_residual.result (first_front _ _ (codes "</") (tag ++ codes ">") c.in_err-write.ensures.fault)
+pub write_short_end_tag-requires : goal.write_short_end_tag-requires
+write_short_end_tag-requires g c = c.is_short.ensures.short c.if-is_short.true
 
-pub returns-in_err-write_tag_name-clause-fault : goal.returns-in_err-write_tag_name-clause-fault
-returns-in_err-write_tag_name-clause-fault g c =
-    let tag = tag_name (name c.args.of.now) in
-    on_err c.from_residual-in_err-write_tag_name.result (next_front _ _ _ (codes "</") (tag ++ codes ">") c.in_ok-write.ensures.ok
-    (first_front _ _ tag (codes ">") c.in_err-write_tag_name.ensures.fault))
+pub returns-then-is_short-clause-ok : goal.returns-then-is_short-clause-ok
+returns-then-is_short-clause-ok g c =
+    let is = ap (λ (w : List ℕ). codes "</" ++ w ++ codes ">") (sym (c.is_short.ensures.local c.if-is_short.true)) in
+    on_ok_map c.write_short_end_tag.result (λ h. subst (Appended _ _) is h) c.write_short_end_tag.ensures.ok
 
-pub returns-clause-fault : goal.returns-clause-fault
-returns-clause-fault g c =
-    let tag = tag_name (name c.args.of.now) in
-    on_err_map c.write-2.result (λ h. next_front _ _ _ (codes "</") (tag ++ codes ">") c.in_ok-write.ensures.ok
-    (next_front _ _ _ tag (codes ">") c.in_ok-write_tag_name.ensures.ok h)) c.write-2.ensures.fault
+pub returns-then-is_short-clause-fault : goal.returns-then-is_short-clause-fault
+returns-then-is_short-clause-fault g c =
+    let is = ap (λ (w : List ℕ). codes "</" ++ w ++ codes ">") (sym (c.is_short.ensures.local c.if-is_short.true)) in
+    on_err_map c.write_short_end_tag.result (λ h. subst (WroteFront _ _) is h) c.write_short_end_tag.ensures.fault
