@@ -6,7 +6,7 @@ ghost use Rattle.tc_hedge.specs.Items.{IsOfSomeSchema};
 ghost use Rattle.tc_mat.specs.Matrix.{HasPair, IsComposition, IsMatrix};
 
 use crate::table::{push_allowed, table_of};
-use crate::valid::is_valid;
+use crate::valid::{is_valid, is_valid_document};
 use std::alloc::Global;
 use tc_alpha::{Alphabet, Sym};
 use tc_auto::{Arrow, Auto, Edge};
@@ -272,5 +272,18 @@ impl<'b> Hedge<'b> {
         ensures { IfOk result (λ b. (side : s.Side) (x : g.Grammar) → a.Stands side x self.now.auto → IsStart x.start → IsTrue b ↔ IsValid x (see.before doc.now t.none)) }
     {
         is_valid(self.alloc, &self.auto, doc)
+    }
+
+    /// Whether a document is valid for the schema, whose start is made of references and choices alone. What is
+    /// known to be a document, as what was read is, isn't looked at for that again.
+    ///
+    /// # Errors
+    ///
+    /// There is no memory for the sets of states.
+    pub fn valid_document(&self, doc: &Node<'_>) -> Result<bool, NoMemory>
+        requires { t.IsDocument (see.before doc.now t.none) }
+        ensures { IfOk result (λ b. (side : s.Side) (x : g.Grammar) → a.Stands side x self.now.auto → IsStart x.start → IsTrue b ↔ IsValid x (see.before doc.now t.none)) }
+    {
+        is_valid_document(self.alloc, &self.auto, doc)
     }
 }

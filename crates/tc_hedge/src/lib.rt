@@ -14,4 +14,4 @@ mod table;
 pub mod valid;
 
 pub use hedge::Hedge;
-pub use valid::is_valid;
+pub use valid::{is_valid, is_valid_document};

@@ -151,6 +151,27 @@ fn is_element_valid(
     Ok(!taken.is_empty())
 }
 
+/// Whether a document is valid for a schema, whose start is made of references and choices alone. That it is a
+/// document isn't looked at: its names and its characters are lawful. The automaton may be that of an input schema
+/// or of an output schema.
+///
+/// # Errors
+///
+/// There is no memory for the sets of states.
+pub fn is_valid_document(
+    alloc: Global,
+    automaton: &Auto<'_>,
+    doc: &Node<'_>,
+) -> Result<bool, NoMemory>
+    requires { t.IsDocument (see.before doc.now t.none) }
+    ensures { IfOk result (λ b. (side : s.Side) (x : g.Grammar) → a.Stands side x automaton.now → IsStart x.start → IsTrue b ↔ IsValid x (see.before doc.now t.none)) }
+{
+    match doc {
+        Node::Text(_) => Ok(false),
+        Node::Elem(name, kids) => is_element_valid(alloc, automaton, name, kids),
+    }
+}
+
 /// Whether a tree is a document that is valid for a schema, whose start is made of references and choices
 /// alone. The automaton may be that of an input schema or of an output schema.
 ///
@@ -160,13 +181,8 @@ fn is_element_valid(
 pub fn is_valid(alloc: Global, automaton: &Auto<'_>, doc: &Node<'_>) -> Result<bool, NoMemory>
     ensures { IfOk result (λ b. (side : s.Side) (x : g.Grammar) → a.Stands side x automaton.now → IsStart x.start → IsTrue b ↔ IsValid x (see.before doc.now t.none)) }
 {
-    match doc {
-        Node::Text(_) => Ok(false),
-        Node::Elem(name, kids) => {
-            if !is_document(doc) {
-                return Ok(false);
-            }
-            is_element_valid(alloc, automaton, name, kids)
-        }
+    if !is_document(doc) {
+        return Ok(false);
     }
+    is_valid_document(alloc, automaton, doc)
 }

@@ -1,18 +1,5 @@
-use Rattle.std.proofs.Common.{◌≡◌, ◌↔◌, IsTrue, true, ap, ◌∙◌, sym, subst, rules}
-use Rattle.tc_model.specs.Trees.{Trees, none}
-use Rattle.tc_model.specs.Matching.{Matches}
-use Rattle.tc_model.specs.Views as see
-use Rattle.tc_model.specs.declared.tree.Node.{Node}
-use Rattle.tc_model.proofs.Views.{before_elem}
-use Rattle.tc_hedge.proofs.Gathers.{for_ok}
+use Rattle.std.proofs.Common.{◌≡◌, true, rules}
 use Rattle.tc_hedge.proofs.valid.is_valid.Goals as goal
 
-pub returns-else-not-is_document : goal.returns-else-not-is_document
-returns-else-not-is_document c =
-    let is = ap (λ (n : Node). see.before n none) c.in-Elem.is ∙ before_elem c.in-Elem.name c.in-Elem.kids none in
-    let yes : c.is_document.result ≡ true = search rules in
-    let document = c.is_document.ensures.0 yes in
-    for_ok c.is_element_valid.result c.is_element_valid.ensures
-    (λ b told side x st start.
-    let here = subst (λ (h : Trees). IsTrue b ↔ Matches x.elements h x.start) (sym is) (told side x st start) in
-    (λ h. (document, here.0 h), λ v. here.1 v.1))
+pub is_valid_document-requires : goal.is_valid_document-requires
+is_valid_document-requires c = let yes : c.is_document.result ≡ true = search rules in c.is_document.ensures.0 yes
