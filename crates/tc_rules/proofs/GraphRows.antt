@@ -28,21 +28,6 @@ one_set numbered p m old r is k =
     ∙ (ap (λ x. marked_by numbered p m ++ x ∷ []) is
     ∙ (sym (map_push (λ m. path_having numbered p (Marked m)) (numbers_below m) m) ∙ ap (λ n. marked_by numbered p n) (sym (add-one m)))))
 
-pub led_by : (p : Path) (kind s : State) (all : List State) (old : List Row) (r : Row) (xs : List Row) (i : ℕ) (x : Row) → i < length xs → x ≡ get_or xs i x
-    → state r ≡ next_state p (both_states kind (state x)) s
-    → all ≡ states old ++ leads_by_class p kind (states (drop i xs)) s → all ≡ states (old ++ r ∷ []) ++ leads_by_class p kind (states (drop (i + 1) xs)) s
-led_by p kind s all old r xs i x h e is k =
-    one_more all (states old) _ _ _ (state r) (map_push state old r)
-    (ap (λ w. leads_by_class p kind (states w) s) (left_one xs i x h e) ∙ ap (λ w. w ∷ leads_by_class p kind (states (drop (i + 1) xs)) s) (sym is)) k
-
-pub numbered_set : (p : Path) (kind s : State) (known : List State) (all old now : List (Option ℕ)) (r : Row) (o : Option ℕ) (xs : List Row) (i : ℕ) (x : Row) → i < length xs → x ≡ get_or xs i x
-    → state r ≡ next_state p (both_states kind (state x)) s → o ≡ number_in known (state r) → now ≡ old ++ o ∷ []
-    → all ≡ old ++ map (number_in known) (leads_by_class p kind (states (drop i xs)) s) → all ≡ now ++ map (number_in known) (leads_by_class p kind (states (drop (i + 1) xs)) s)
-numbered_set p kind s known all old now r o xs i x h e is has put k =
-    one_more all old _ _ _ o put
-    (ap (λ w. map (number_in known) (leads_by_class p kind (states w) s)) (left_one xs i x h e)
-    ∙ ap (λ w. w ∷ map (number_in known) (leads_by_class p kind (states (drop (i + 1) xs)) s)) (sym (has ∙ ap (number_in known) is))) k
-
 -- the numbers of where a class leads, as numbers of where each of its letters leads
 numbers_mapped : (p : Path) (s : State) (known fits : List State) → map (number_in known) (map (λ f. next_state p f s) fits) ≡ map (λ f. number_in known (next_state p f s)) fits
 numbers_mapped p s known [] = refl

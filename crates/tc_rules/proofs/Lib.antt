@@ -17,6 +17,8 @@ pub mod Collected
 pub mod SameRows
 pub mod Rounds
 pub mod GraphRows
+pub mod HitRows
+pub mod SetsAlike
 pub mod SymbolKinds
 pub mod Pieces
 pub mod OfGraph

@@ -18,19 +18,19 @@ use Rattle.tc_rules.specs.Steps.{first_or_false, after_first, further, first_or_
 use Rattle.tc_rules.proofs.RowSteps.{element, one_more, map_push, first_at, after_at, first_alternative_at, after_alternative_at}
 
 -- the parts of what both have
-first_of_both : (a b : Items) → first_or_false (both_items a b) ≡ (first_or_false a && first_or_false b)
+pub first_of_both : (a b : Items) → first_or_false (both_items a b) ≡ (first_or_false a && first_or_false b)
 first_of_both [] b = refl
 first_of_both (x ∷ a) b = refl
 
-after_of_both : (a b : Items) → after_first (both_items a b) ≡ both_items (after_first a) (after_first b)
+pub after_of_both : (a b : Items) → after_first (both_items a b) ≡ both_items (after_first a) (after_first b)
 after_of_both [] b = refl
 after_of_both (x ∷ a) b = refl
 
-alternative_of_both : (x y : State) → first_or_none (both_states x y) ≡ both_items (first_or_none x) (first_or_none y)
+pub alternative_of_both : (x y : State) → first_or_none (both_states x y) ≡ both_items (first_or_none x) (first_or_none y)
 alternative_of_both [] y = refl
 alternative_of_both (items ∷ x) y = refl
 
-alternatives_of_both : (x y : State) → after_alternative (both_states x y) ≡ both_states (after_alternative x) (after_alternative y)
+pub alternatives_of_both : (x y : State) → after_alternative (both_states x y) ≡ both_states (after_alternative x) (after_alternative y)
 alternatives_of_both [] y = refl
 alternatives_of_both (items ∷ x) y = refl
 

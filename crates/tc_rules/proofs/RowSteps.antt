@@ -150,33 +150,13 @@ state_here [] i x h e = absurd (omega arith)
 state_here (y ∷ ys) zero x h e = ap (λ (w : Vec Bool). w.items ∷ map items_of ys) (sym e)
 state_here (y ∷ ys) (suc i) x h e = state_here ys i x (omega arith) e
 
-state_at : (xs : List (Vec Bool)) (i : ℕ) (x : Vec Bool) → i < length xs → x ≡ get_or xs i x → drop i (map items_of xs) ≡ x.items ∷ drop (i + 1) (map items_of xs)
+pub state_at : (xs : List (Vec Bool)) (i : ℕ) (x : Vec Bool) → i < length xs → x ≡ get_or xs i x → drop i (map items_of xs) ≡ x.items ∷ drop (i + 1) (map items_of xs)
 state_at xs i x h e = rw add-one (state_here xs i x h e)
 
 pub empty_alternative : (xs : List (Vec Bool)) (i : ℕ) (x : Vec Bool) → i < length xs → x ≡ get_or xs i x
     → p.is_empty_state (drop i (map items_of xs)) ≡ (not (list_any (λ b. b) x.items) && p.is_empty_state (drop (i + 1) (map items_of xs)))
 empty_alternative xs i x h e = ap p.is_empty_state (state_at xs i x h e)
 
-no_end : (row : List (List Bool)) → v.some_ends row [] ≡ false
+pub no_end : (row : List (List Bool)) → v.some_ends row [] ≡ false
 no_end [] = refl
 no_end (items ∷ row) = refl
-
-and_no : (b : Bool) → (b && false) ≡ false
-and_no true = refl
-and_no false = refl
-
-no_end_here : (b : Bool) (row : List (List Bool)) → false ≡ ((b && false) || v.some_ends row [])
-no_end_here b row = sym (ap (λ c. c || v.some_ends row []) (and_no b) ∙ no_end row)
-
-some_here : (row fits : List (List Bool)) (i : ℕ) (x : List Bool) (rest : List (List Bool)) → drop i row ≡ x ∷ rest
-    → v.some_ends (drop i row) (drop i fits) ≡ (v.ends_at row fits i || v.some_ends (drop (suc i) row) (drop (suc i) fits))
-some_here [] fits zero x rest e = cc
-some_here [] fits (suc i) x rest e = cc
-some_here (y ∷ row) [] zero x rest e = no_end_here (v.ends_true y) row
-some_here (y ∷ row) (f ∷ fits) zero x rest e = refl
-some_here (y ∷ row) [] (suc i) x rest e = no_end (drop i row) ∙ no_end_here (v.ends_true (get_or row i [])) (drop (suc i) row)
-some_here (y ∷ row) (f ∷ fits) (suc i) x rest e = some_here row fits i x rest e
-
-pub some_alternative : (xs : List (Vec Bool)) (fits : List (List Bool)) (i : ℕ) (x : Vec Bool) → i < length xs → x ≡ get_or xs i x
-    → v.some_ends (drop i (map items_of xs)) (drop i fits) ≡ (v.ends_at (map items_of xs) fits i || v.some_ends (drop (i + 1) (map items_of xs)) (drop (i + 1) fits))
-some_alternative xs fits i x h e = rw add-one (some_here (map items_of xs) fits i x.items (drop (i + 1) (map items_of xs)) (state_at xs i x h e))

@@ -112,6 +112,16 @@ module _ (p : Path) (x : State) where
         there = λ f counts s. there_next moves stays e h f counts s;
       }
 
+      -- the same by any states that are put alike
+      pub found_alike : (more next : List State) (now : Bool) → AreAlike more next → IsFound (kinds ++ k ∷ []) (found ++ next) now → IsFound (kinds ++ k ∷ []) (found ++ more) now
+      found_alike more next now a h = record {
+        alike = λ counts s. same counts s ∙ h.alike counts s;
+        there = λ e counts s. subst (λ w. AreThere same_state w (filter counts (again marked))) (sym (same counts s)) (h.there e counts s);
+      }
+        where
+          same : (counts : State → Bool) (s : List State) → put_all same_state s (filter counts (found ++ more)) ≡ put_all same_state s (filter counts (found ++ next))
+          same counts s = in_parts counts s more ∙ (a counts (put_all same_state s (filter counts found)) ∙ sym (in_parts counts s next))
+
 -- the sets that the code looks at
 pub looked_is : (p : Path) (x : State) (rows ms marked : List Row) (moves stays : Bool) → rows ≡ (if moves then ms else (if stays then [] else take 1 ms)) → ms ≡ marked → states rows ≡ looked_at p x (states marked) moves stays
 looked_is p x rows ms marked true stays e f = ap states (e ∙ f)
@@ -124,18 +134,19 @@ looked_is p x rows ms marked false false e f = ap states (e ∙ ap (take 1) f) �
 
 -- the same as the code goes
 module _ (p : Path) (x : State) (marked : List State) (xs ys : List Row) (same : ys ≡ xs) (i : ℕ) where
-  pub class_found : (row : Row) (found new seen : List State) (moves stays now : Bool) → i < length ys → row ≡ get_or ys i row → moves ≡ some_item_moves p (state row) x
-      → seen ≡ looked_at p x marked moves stays → new ≡ found ++ leads_by_class p (state row) seen x → now ≡ (stays || not moves)
+  pub class_found : (row : Row) (found new more seen : List State) (moves stays now : Bool) → i < length ys → row ≡ get_or ys i row → moves ≡ some_item_moves p (state row) x
+      → seen ≡ looked_at p x marked moves stays → new ≡ found ++ more → AreAlike more (leads_by_class p (state row) seen x) → now ≡ (stays || not moves)
       → IsFound p x marked (states (take i xs)) found stays → IsFound p x marked (states (take (i + 1) xs)) new now
-  class_found row found new seen moves stays now l e is looked put next h =
+  class_found row found new more seen moves stays now l e is looked put alike next h =
       let inside : i < length xs = subst (λ (w : List Row). i < length w) same l in
       let at : row ≡ get_or xs i row = e ∙ ap (λ (w : List Row). get_or w i row) same in
       let rows : states (take (i + 1) xs) ≡ states (take i xs) ++ state row ∷ [] =
       ap states (take_more xs i row inside ∙ ap (λ w. take i xs ++ w ∷ []) (sym at)) ∙ map_push state (take i xs) row in
       subst (λ w. IsFound p x marked w new now) (sym rows)
       (subst (λ w. IsFound p x marked (states (take i xs) ++ state row ∷ []) new w) (sym next)
-      (subst (λ w. IsFound p x marked (states (take i xs) ++ state row ∷ []) w (stays || not moves)) (sym (put ∙ ap (λ w. found ++ leads_by_class p (state row) w x) looked))
-      (found_next p x marked (states (take i xs)) found (state row) moves stays (sym is) h)))
+      (subst (λ w. IsFound p x marked (states (take i xs) ++ state row ∷ []) w (stays || not moves)) (sym put)
+      (found_alike p x marked (states (take i xs)) found (state row) more (leads_by_class p (state row) (looked_at p x marked moves stays) x) (stays || not moves)
+      (subst (λ w. AreAlike more (leads_by_class p (state row) w x)) looked alike) (found_next p x marked (states (take i xs)) found (state row) moves stays (sym is) h))))
 
   pub classes_found : (found : List State) (stays : Bool) → length ys ≤ i → IsFound p x marked (states (take i xs)) found stays → AreAlike found (leads_by p (fits_by (states xs) marked) x)
   classes_found found stays l h =

@@ -1,9 +1,9 @@
 -- What contracts see of rows and graphs: the same data without addresses.
-use Rattle.std.specs.Prelude.{ℕ, List, map, Option}
+use Rattle.std.specs.Prelude.{◌≡◌, ℕ, List, map, Option}
 use Rattle.std.specs.Global.{Vec}
 use Rattle.tc_model.specs.PathStates.{State}
 use Rattle.tc_rules.specs.Graphs as g
-use Rattle.tc_rules.specs.Steps.{both_states}
+use Rattle.tc_rules.specs.Steps.{both_states, ending_from}
 use Rattle.tc_rules.specs.declared.rows.Row.{Row}
 use Rattle.tc_rules.specs.declared.graph.Graph.{Graph}
 use Rattle.tc_rules.specs.declared.graph.Leads.{Leads}
@@ -37,6 +37,10 @@ leads_of_classes marked xs = map (leads marked) xs
 abbrev pub leads_of_states : List State → List (Vec Leads) → List (List (List (Option ℕ)))
 leads_of_states marked xs = map (λ v. leads_of_classes marked v.items) xs
 
+-- lists of numbers
+abbrev pub lists : List (Vec ℕ) → List (List ℕ)
+lists xs = map (λ v. v.items) xs
+
 abbrev pub graph : Graph → g.Graph
 graph x = record {
   states = states x.states.keys;
@@ -45,6 +49,22 @@ graph x = record {
   texts = texts x.letters;
   next = leads_of_states (states x.letters.marked.items) x.next.items;
 }
+
+-- the alternatives of which all steps but the last may have been taken: those that a graph keeps for its states are theirs
+abbrev pub endings_of : List State → List (List ℕ)
+endings_of xs = map (ending_from 0) xs
+
+abbrev pub ending : Graph → List (List ℕ)
+ending x = lists x.ending.items
+
+abbrev pub ending_by_states : Graph → List (List ℕ)
+ending_by_states x = endings_of (states x.states.keys)
+
+abbrev pub KnowsEnding : Graph → Type 0
+KnowsEnding x = ending x ≡ ending_by_states x
+
+abbrev pub KnowEnding : List Graph → Type 0
+KnowEnding xs = map ending xs ≡ map ending_by_states xs
 
 abbrev pub graphs : List Graph → List g.Graph
 graphs xs = map graph xs

@@ -1,11 +1,12 @@
 -- Path states by which steps fit a letter: what a step sees of a letter is this alone.
-use Rattle.std.specs.Prelude.{ℕ, List, [], ◌∷◌, Bool, true, false, ◌&&◌, ◌||◌, Option, Some, None, get_or, codes}
+use Rattle.std.specs.Prelude.{ℕ, suc, List, [], ◌∷◌, ◌++◌, Bool, true, false, ◌&&◌, ◌||◌, Option, Some, None, get_or, codes, if◌then◌else◌}
 use Rattle.std.specs.Borrow.{Bor}
 use Rattle.tc_model.specs.Trees.{none}
 use Rattle.tc_model.specs.Chains.{an_element, a_text, Tree}
 use Rattle.tc_model.specs.Sheets as s
 use Rattle.tc_model.specs.Sheets.{NodeTest, Steps, no_step, step, Path, no_alternative, alternative}
 use Rattle.tc_model.specs.Paths.{passes}
+use Rattle.tc_model.specs.SameTests.{same_truth}
 use Rattle.tc_model.specs.Views as see
 use Rattle.tc_model.specs.Letters.{is_marked}
 use Rattle.tc_model.specs.PathStates.{Items, State, first_items, no_items}
@@ -100,6 +101,27 @@ abbrev pub some_item_waits : Path → State → Bool
 some_item_waits no_alternative row = false
 some_item_waits (alternative ss p) row = item_waits ss (first_or_none row) || some_item_waits p (after_alternative row)
 
+-- the places, by alternative and by step, from which items move on, from an alternative and a step on
+abbrev pub moving_items : ℕ → ℕ → Steps → Items → Items → List (ℕ × ℕ)
+moving_items a k no_step fits items = []
+moving_items a k (step deep test when ss) fits items =
+    (if has_step ss && (first_or_false items && first_or_false fits) then (a, k) ∷ [] else []) ++ moving_items a (suc k) ss (after_first fits) (after_first items)
+
+abbrev pub moving_from : ℕ → Path → State → State → List (ℕ × ℕ)
+moving_from a no_alternative fits row = []
+moving_from a (alternative ss p) fits row = moving_items a 0 ss (first_or_none fits) (first_or_none row) ++ moving_from (suc a) p (after_alternative fits) (after_alternative row)
+
+-- what stands at a place, and whether the same stands at all of some places
+abbrev pub bit_at : State → ℕ × ℕ → Bool
+bit_at x at = get_or (get_or x at.0 []) at.1 false
+
+abbrev pub all_same : (ℕ × ℕ → Bool) → (ℕ × ℕ → Bool) → List (ℕ × ℕ) → Bool
+all_same f g [] = true
+all_same f g (at ∷ places) = same_truth (f at) (g at) && all_same f g places
+
+abbrev pub are_alike : List (ℕ × ℕ) → State → State → Bool
+are_alike places x y = all_same (bit_at x) (bit_at y) places
+
 -- what both have
 abbrev pub both_items : Items → Items → Items
 both_items [] cs = []
@@ -122,6 +144,11 @@ abbrev pub some_ends : State → State → Bool
 some_ends [] fits = false
 some_ends (items ∷ row) [] = false
 some_ends (items ∷ row) (f ∷ fits) = (ends_true items && ends_true f) || some_ends row fits
+
+-- the numbers, from one on, of the alternatives of which all steps but the last may have been taken
+abbrev pub ending_from : ℕ → State → List ℕ
+ending_from i [] = []
+ending_from i (items ∷ row) = (if ends_true items then i ∷ [] else []) ++ ending_from (suc i) row
 
 -- no step is taken: the items that are left, the first of them being left too or not
 abbrev pub items_left : Bool → Steps → Items

@@ -1,5 +1,5 @@
 // The states of a path by number, and how they lead to one another.
-ghost use Rattle.std.specs.Prelude.{◌≡◌, ◌<◌, ◌≤◌, ◌^◌, ◌++◌, ◌∷◌, ◌==◌, ℕ, List, [], Bool, not, ◌||◌, false, None, Option, Some, length, map, take, drop, slice_get, option_map, filter, if◌then◌else◌, IfOk, OnOk};
+ghost use Rattle.std.specs.Prelude.{◌≡◌, ◌<◌, ◌≤◌, ◌^◌, ◌++◌, ◌∷◌, ◌==◌, ℕ, List, [], Bool, not, ◌||◌, false, None, Option, Some, length, map, take, drop, slice_get, get_or, option_map, filter, if◌then◌else◌, IfOk, OnOk};
 ghost use Rattle.std.specs.List.{list_any};
 ghost use Rattle.std.specs.Option.{IsSomeAnd};
 ghost use Rattle.std.specs.Result.{IsErrOf};
@@ -15,10 +15,11 @@ ghost use Rattle.tc_rules.specs.Once.{put_once, put_all};
 ghost use Rattle.tc_rules.specs.Reached.{AreAlike, counted, leads_by, leads_by_class, leads_of, rounds, number_in, numbers_by, all_numbers_by, AreReached};
 ghost use Rattle.tc_rules.specs.Rows as seen;
 ghost use Rattle.tc_rules.specs.Views.{predicates};
-ghost use Rattle.tc_rules.specs.Steps.{both_states, path_having, next_state, some_item_waits, some_ends, ends_at};
+ghost use Rattle.tc_rules.specs.Steps.{both_states, path_having, next_state, some_item_waits, ends_at};
 
 use crate::rows::{
-    Row, Sought, first_row, next_row, no_fits, row_having, some_item_waits, waiting_item_moves,
+    Row, Sought, first_alike, first_row, moving_places, next_row, no_fits, row_having,
+    some_item_waits, waiting_item_moves,
 };
 use indexmap::IndexSet;
 use std::alloc::Global;
@@ -53,6 +54,8 @@ pub(crate) struct Graph {
     pub(crate) states: IndexSet<Row>,
     pub(crate) letters: Letters,
     pub(crate) next: Vec<Vec<Leads>>,
+    /// The alternatives of which all steps but the last may have been taken, for each state.
+    pub(crate) ending: Vec<Vec<usize>>,
 }
 
 /// Why there is no graph.
@@ -137,8 +140,28 @@ impl<'a, 'b> Source<'a, 'b> {
         })
     }
 
-    /// Adds the states to which a state leads by the letters of a class with these marks.
-    #[tactic(auto, using(crate::proofs::GraphRows::led_by))]
+    /// Adds the state to which a state leads by a letter, if that wasn't added before.
+    fn add_lead(
+        &self,
+        found: &mut Vec<Row>,
+        path: &[&[Step<'_>]],
+        kind: &Row,
+        marks: &Row,
+        state: &Row,
+        is_first: bool,
+    ) -> Result<(), NoMemory>
+        ensures { OnOk result (seen.states found.new.items ≡ seen.states found.old.items ++ (if is_first then next_state (see.alternatives path.now) (both_states (seen.state kind.now) (seen.state marks.now)) (seen.state state.now) ∷ [] else [])) }
+    {
+        if !is_first {
+            return Ok(());
+        }
+        let next = self.lead(path, kind, marks, state)?;
+        found.push(next)?;
+        Ok(())
+    }
+
+    /// Adds the states to which a state leads by the letters of a class with these marks, but not again that of a set by which
+    /// the same items move on as by one before it.
     fn add_leads(
         &self,
         found: &mut Vec<Row>,
@@ -147,11 +170,16 @@ impl<'a, 'b> Source<'a, 'b> {
         marked: &[Row],
         state: &Row,
     ) -> Result<(), NoMemory>
-        ensures { OnOk result (seen.states found.new.items ≡ seen.states found.old.items ++ leads_by_class (see.alternatives path.now) (seen.state kind.now) (seen.states marked.now) (seen.state state.now)) }
+        ensures { OnOk result ((more : List State) × (seen.states found.new.items ≡ seen.states found.old.items ++ more) × AreAlike more (leads_by_class (see.alternatives path.now) (seen.state kind.now) (seen.states marked.now) (seen.state state.now))) }
     {
-        for marks in marked {
-            let next = self.lead(path, kind, marks, state)?;
-            found.push(next)?;
+        if marked.is_empty() {
+            return Ok(());
+        }
+        let places = moving_places(self.alloc, path, kind, state)?;
+        for (number, marks) in marked.iter().enumerate() {
+            let before = first_alike(&places, marked, number);
+            let fresh = is_first(before, number);
+            self.add_lead(found, path, kind, marks, state, fresh)?;
         }
         Ok(())
     }
@@ -255,8 +283,28 @@ impl<'a, 'b> Source<'a, 'b> {
         Ok(states)
     }
 
+    /// The number of the state to which a state leads by a letter, if it isn't known.
+    fn number_by(
+        &self,
+        path: &[&[Step<'_>]],
+        kind: &Row,
+        marks: &Row,
+        states: &IndexSet<Row>,
+        state: &Row,
+        known: Option<Option<u32>>,
+    ) -> Result<Option<u32>, NoMemory>
+        requires few { length states.now.keys < 2 ^ 32 }
+        requires known { (k : Option ℕ) → known ≡ Some k → k ≡ number_in (seen.states states.now.keys) (next_state (see.alternatives path.now) (both_states (seen.state kind.now) (seen.state marks.now)) (seen.state state.now)) }
+        ensures { IfOk result (λ k. k ≡ number_in (seen.states states.now.keys) (next_state (see.alternatives path.now) (both_states (seen.state kind.now) (seen.state marks.now)) (seen.state state.now))) }
+    {
+        if let Some(number) = known {
+            return Ok(number);
+        }
+        let next = self.lead(path, kind, marks, state)?;
+        Ok(number_of(states, &next))
+    }
+
     /// The numbers of the states to which a state leads by the letters of a class, set by set.
-    #[tactic(auto, using(crate::proofs::GraphRows::numbered_set))]
     fn numbers_by_set(
         &self,
         path: &[&[Step<'_>]],
@@ -268,10 +316,13 @@ impl<'a, 'b> Source<'a, 'b> {
         requires { length states.now.keys < 2 ^ 32 }
         ensures { IfOk result (λ w. w.items ≡ map (number_in (seen.states states.now.keys)) (leads_by_class (see.alternatives path.now) (seen.state kind.now) (seen.states marked.now) (seen.state state.now))) }
     {
-        let mut leads = Vec::new(self.alloc);
-        for marks in marked {
-            let next = self.lead(path, kind, marks, state)?;
-            leads.push(number_of(states, &next))?;
+        let places = moving_places(self.alloc, path, kind, state)?;
+        let mut leads: Vec<Option<u32>> = Vec::new(self.alloc);
+        for (number, marks) in marked.iter().enumerate() {
+            let before = first_alike(&places, marked, number);
+            let known = known_at(&leads, before);
+            let lead = self.number_by(path, kind, marks, states, state, known)?;
+            leads.push(lead)?;
         }
         Ok(leads)
     }
@@ -364,6 +415,19 @@ impl<'a, 'b> Source<'a, 'b> {
         Ok(leads)
     }
 
+    /// The alternatives of which all steps but the last may have been taken, state by state.
+    #[tactic(auto, using(crate::proofs::HitRows::one_state_ending))]
+    fn endings(&self, states: &IndexSet<Row>) -> Result<Vec<Vec<usize>>, NoMemory>
+        ensures { IfOk result (λ w. seen.lists w.items ≡ seen.endings_of (seen.states states.now.keys)) }
+    {
+        let mut endings = Vec::new(self.alloc);
+        for state in states.as_slice() {
+            let ending = state.ending(self.alloc)?;
+            endings.push(ending)?;
+        }
+        Ok(endings)
+    }
+
     /// The graph of a path.
     ///
     /// # Errors
@@ -379,15 +443,18 @@ impl<'a, 'b> Source<'a, 'b> {
         requires most { most < 2 ^ 32 }
         ensures graph { IfOk result (λ g. (symbols : List Mention) → IsSourceOf symbols self.now → IsGraphOf symbols (predicates self.now.predicates.items) (counted counts) (see.alternatives path.now) (seen.graph g)) }
         ensures few { IfOk result (λ g. length (seen.graph g).states ≤ most) }
+        ensures ending { IfOk result (λ g. seen.KnowsEnding g) }
         ensures many { IsErrOf result GraphFault.TooManyStates → (symbols : List Mention) → IsSourceOf symbols self.now → (m : ℕ) × (most < length (n.rounds (counted counts) (p.next_state symbols (predicates self.now.predicates.items) (see.alternatives path.now)) (n.letters_of_elements symbols (predicates self.now.predicates.items)) m (filter (counted counts) (first_state (see.alternatives path.now) ∷ [])))) }
     {
         let letters = self.letters(path)?;
         let states = self.reached(path, &letters, counts, most)?;
         let next = self.numbers(path, &letters, &states)?;
+        let ending = self.endings(&states)?;
         Ok(Graph {
             states,
             letters,
             next,
+            ending,
         })
     }
 }
@@ -421,6 +488,21 @@ fn worth_looking_at(marked: &[Row], moves: bool, found: bool) -> &[Row]
         Some(first) => from_ref(first),
         None => &[],
     }
+}
+
+/// Whether none before a number was found.
+fn is_first(before: usize, number: usize) -> bool
+    requires { before ≤ number }
+    ensures { result ≡ false → before < number }
+{
+    before == number
+}
+
+/// What stands in a list, if it is as long.
+fn known_at(leads: &[Option<u32>], place: usize) -> Option<Option<u32>>
+    ensures { result ≡ slice_get leads.now place }
+{
+    leads.get(place).copied()
 }
 
 /// Which states count: all, or those with an item.
@@ -567,10 +649,24 @@ impl Graph {
         }
     }
 
-    /// Whether a node of a letter below a state is a hit.
-    pub(crate) fn hits(&self, number: u32, symbol: Option<u32>, marks: u32) -> bool
-        ensures { (x fit : State) → slice_get (seen.graph self.now).states number ≡ Some x → fits_at (seen.graph self.now) (record { kind = kind_at symbol; marks = marks }) ≡ Some fit → result ≡ some_ends x fit }
+    /// The alternatives of which all steps but the last may have been taken at a state.
+    fn ending_at(&self, number: u32) -> &[usize]
+        ensures { result.now ≡ get_or (seen.ending self.now) number [] }
     {
+        match self.ending.get(number as usize) {
+            Some(ending) => ending.as_slice(),
+            None => &[],
+        }
+    }
+
+    /// Whether a node of a letter below a state is a hit, by one of the alternatives that may end there.
+    pub(crate) fn hits(&self, number: u32, symbol: Option<u32>, marks: u32) -> bool
+        ensures { (x fit : State) → slice_get (seen.graph self.now).states number ≡ Some x → fits_at (seen.graph self.now) (record { kind = kind_at symbol; marks = marks }) ≡ Some fit → result ≡ list_any (ends_at x fit) (get_or (seen.ending self.now) number []) }
+    {
+        let ending = self.ending_at(number);
+        if ending.is_empty() {
+            return false;
+        }
         let Some(row) = self.states.get_index(number as usize) else {
             return false;
         };
@@ -580,7 +676,7 @@ impl Graph {
         let Some(marked) = self.marked(marks) else {
             return false;
         };
-        row.hits(kind, marked)
+        row.hits_by(ending, kind, marked)
     }
 
     /// Whether it is one by the alternative of this number.

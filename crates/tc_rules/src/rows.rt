@@ -1,10 +1,11 @@
 // Rows of truth values: path states, and which steps fit a letter.
-ghost use Rattle.std.specs.Prelude.{◌≡◌, ◌+◌, ◌<◌, ◌&&◌, ◌||◌, [], false, None, Some, drop, length, slice_get, get_or, IfOk, MatchOption};
+ghost use Rattle.std.specs.Prelude.{◌≡◌, ◌+◌, ◌<◌, ◌≤◌, ◌&&◌, ◌||◌, ◌++◌, ◌∷◌, [], true, false, None, Some, drop, length, slice_get, get_or, if◌then◌else◌, IfOk, OnOk, MatchOption};
 ghost use Rattle.std.specs.List.{list_any};
 ghost use Rattle.tc_model.specs.Letters as l;
 ghost use Rattle.tc_model.specs.PathStates as p;
+ghost use Rattle.tc_model.specs.SameTests.{same_truth};
 ghost use Rattle.tc_model.specs.Views as see;
-ghost use Rattle.tc_rules.specs.Rows.{state};
+ghost use Rattle.tc_rules.specs.Rows.{state, states};
 ghost use Rattle.tc_rules.specs.Steps as v;
 ghost use Rattle.tc_rules.specs.Views.{predicates};
 
@@ -248,6 +249,94 @@ fn some_item_moves(path: &[&[Step<'_>]], fits: &Row, row: &Row) -> bool
     false
 }
 
+/// One place more, if an item moves on from it.
+fn add_place(
+    found: &mut Vec<(usize, usize)>,
+    alternative: usize,
+    step: usize,
+    moves: bool,
+) -> Result<(), NoMemory>
+    ensures { OnOk result (found.new.items ≡ found.old.items ++ (if moves then (alternative, step) ∷ [] else [])) }
+{
+    if moves {
+        found.push((alternative, step))?;
+    }
+    Ok(())
+}
+
+/// The places of an alternative from which items move on, where these steps fit.
+fn add_places(
+    found: &mut Vec<(usize, usize)>,
+    alternative: usize,
+    steps: &[Step<'_>],
+    fits: &[bool],
+    items: &[bool],
+) -> Result<(), NoMemory>
+    ensures { OnOk result (found.new.items ≡ found.old.items ++ v.moving_items alternative 0 (see.steps steps.now) fits.now items.now) }
+{
+    for (k, _step) in steps.iter().enumerate() {
+        let moves = moves_from(steps, fits, items, k);
+        add_place(found, alternative, k, moves)?;
+    }
+    Ok(())
+}
+
+/// The places, by alternative and by step, from which items move on, where these steps fit.
+pub(crate) fn moving_places(
+    alloc: Global,
+    path: &[&[Step<'_>]],
+    fits: &Row,
+    row: &Row,
+) -> Result<Vec<(usize, usize)>, NoMemory>
+    ensures { IfOk result (λ w. w.items ≡ v.moving_from 0 (see.alternatives path.now) (state fits.now) (state row.now)) }
+{
+    let mut found = Vec::new(alloc);
+    for (i, steps) in path.iter().enumerate() {
+        add_places(
+            &mut found,
+            i,
+            steps,
+            fits.items_or_none(i),
+            row.items_or_none(i),
+        )?;
+    }
+    Ok(found)
+}
+
+/// Whether two truth values are the same.
+fn are_same(first: bool, second: bool) -> bool
+    ensures { result ≡ same_truth first second }
+{
+    if first { second } else { !second }
+}
+
+/// Whether two rows have the same at some places.
+#[tactic(auto, using(crate::proofs::SetsAlike::one_place, crate::proofs::SetsAlike::first_place))]
+fn are_alike(places: &[(usize, usize)], row: &Row, other: &Row) -> bool
+    ensures { result ≡ v.are_alike places.now (state row.now) (state other.now) }
+{
+    for at in places {
+        if !are_same(row.bit_at(*at), other.bit_at(*at)) {
+            return false;
+        }
+    }
+    true
+}
+
+/// The first set of predicates that has the same as one at some places, by its number.
+pub(crate) fn first_alike(places: &[(usize, usize)], marked: &[Row], number: usize) -> usize
+    requires { number < length marked.now }
+    ensures within { result ≤ number }
+    ensures alike { (x y : p.State) → slice_get (states marked.now) result ≡ Some x → slice_get (states marked.now) number ≡ Some y → result < number → v.are_alike places.now x y ≡ true }
+{
+    for before in 0..number {
+        if are_alike(places, &marked[before], &marked[number]) {
+            return before;
+        }
+    }
+    number
+}
+
 /// Whether the item of a step is there that another step follows.
 fn waits_at(steps: &[Step<'_>], items: &[bool], step: usize) -> bool
     requires { step < length steps.now }
@@ -310,6 +399,16 @@ fn is_last_of_both(items: &[bool], others: &[bool]) -> bool
     is_last(items) && bit(others, items.len().saturating_sub(1))
 }
 
+/// One alternative more, if its last value is true.
+fn add_ending(ending: &mut Vec<usize>, items: &[bool], alternative: usize) -> Result<(), NoMemory>
+    ensures { OnOk result (ending.new.items ≡ ending.old.items ++ (if v.ends_true items.now then alternative ∷ [] else [])) }
+{
+    if is_last(items) {
+        ending.push(alternative)?;
+    }
+    Ok(())
+}
+
 /// Whether some item is there.
 fn has_item(items: &[bool]) -> bool
     ensures { result ≡ list_any (λ b. b) items.now }
@@ -336,6 +435,13 @@ impl Row {
             Some(items) => items.as_slice(),
             None => &[],
         }
+    }
+
+    /// The value at a place.
+    fn bit_at(&self, at: (usize, usize)) -> bool
+        ensures { result ≡ v.bit_at (state self.now) at }
+    {
+        bit(self.items_or_none(at.0), at.1)
     }
 
     /// The truth values that both have.
@@ -376,13 +482,24 @@ impl Row {
         is_last(items) && is_last_of_both(fit, marked.items_or_none(alternative))
     }
 
-    /// Whether some alternative ends.
-    #[tactic(auto, using(crate::proofs::RowSteps::some_alternative))]
-    pub(crate) fn hits(&self, fits: &Row, marked: &Row) -> bool
-        ensures { result ≡ v.some_ends (state self.now) (v.both_states (state fits.now) (state marked.now)) }
+    /// The alternatives of which all steps but the last may have been taken.
+    pub(crate) fn ending(&self, alloc: Global) -> Result<Vec<usize>, NoMemory>
+        ensures { IfOk result (λ w. w.items ≡ v.ending_from 0 (state self.now)) }
     {
-        for (i, _items) in self.alternatives.iter().enumerate() {
-            if self.ends(fits, marked, i) {
+        let mut ending = Vec::new(alloc);
+        for (i, items) in self.alternatives.iter().enumerate() {
+            add_ending(&mut ending, items, i)?;
+        }
+        Ok(ending)
+    }
+
+    /// Whether one of these alternatives ends.
+    #[tactic(auto, using(crate::proofs::HitRows::one_ending))]
+    pub(crate) fn hits_by(&self, ending: &[usize], fits: &Row, marked: &Row) -> bool
+        ensures { result ≡ list_any (v.ends_at (state self.now) (v.both_states (state fits.now) (state marked.now))) ending.now }
+    {
+        for alternative in ending {
+            if self.ends(fits, marked, *alternative) {
                 return true;
             }
         }

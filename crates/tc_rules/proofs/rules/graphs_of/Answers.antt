@@ -1,5 +1,6 @@
 use Rattle.std.proofs.Common.{◌≡◌, ◌≤◌, length, arith}
 use Rattle.tc_rules.specs.Rows.{graph, graphs}
+use Rattle.tc_rules.proofs.HitRows.{know_more}
 use Rattle.tc_rules.proofs.Built.{graphs_at, left_at, cause_at, handed_on}
 use Rattle.tc_rules.proofs.rules.graphs_of.Goals as goal
 
@@ -8,8 +9,9 @@ loop-path-preserved c =
     let few : length (graph c.in_ok-graph.graph).states ≤ c.loop-path.left = c.in_ok-graph.ensures.few in
     let so_far = c.loop-path.invariant.0 in
     let size : c.len.result ≡ length (graph c.in_ok-graph.graph).states = c.len.ensures (omega (arith, few, so_far)) in (
-      left_at (graphs c.loop-path.graphs.items) (graphs c.keep_graph.new.graphs.items) (graph c.in_ok-graph.graph) c.loop-path.left c.len.result c.in_ok-keep_graph.ensures size (omega (arith, size, few)) so_far,
-      graphs_at c.args.source.now c.args.paths.now c.loop-path.path-index _ (graphs c.loop-path.graphs.items) (graphs c.keep_graph.new.graphs.items) (graph c.in_ok-graph.graph) (omega arith) c.in_ok-keep_graph.ensures c.loop-path.invariant.1 c.in_ok-graph.ensures.graph,
+      left_at (graphs c.loop-path.graphs.items) (graphs c.keep_graph.new.graphs.items) (graph c.in_ok-graph.graph) c.loop-path.left c.len.result c.in_ok-keep_graph.ensures.graphs size (omega (arith, size, few)) so_far,
+      graphs_at c.args.source.now c.args.paths.now c.loop-path.path-index _ (graphs c.loop-path.graphs.items) (graphs c.keep_graph.new.graphs.items) (graph c.in_ok-graph.graph) (omega arith) c.in_ok-keep_graph.ensures.graphs c.loop-path.invariant.1 c.in_ok-graph.ensures.graph,
+      know_more c.loop-path.graphs.items c.keep_graph.new.graphs.items c.in_ok-graph.graph c.in_ok-keep_graph.ensures.items c.loop-path.invariant.2 c.in_ok-graph.ensures.ending,
     )
 
 pub returns-in_err-graph-clause-cause : goal.returns-in_err-graph-clause-cause

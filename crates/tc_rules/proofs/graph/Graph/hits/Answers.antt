@@ -1,8 +1,15 @@
-use Rattle.std.proofs.Common.{◌≡◌, ◌∙◌, ap, sym, None, Some}
+use Rattle.std.proofs.Common.{◌≡◌, ◌∙◌, ◌≤◌, ap, sym, length, None, Some, arith}
+use Rattle.std.specs.List.{list_any}
 use Rattle.tc_rules.specs.Rows.{state}
-use Rattle.tc_rules.specs.Steps.{both_states, some_ends}
+use Rattle.tc_rules.specs.Steps.{both_states, ends_at}
+use Rattle.tc_rules.proofs.HitRows.{none_ends}
 use Rattle.tc_rules.proofs.RowPairs.{letter_parts, fit_is, state_is}
 use Rattle.tc_rules.proofs.graph.Graph.hits.Goals as goal
+
+pub returns-then-is_empty : goal.returns-then-is_empty
+returns-then-is_empty c = λ x fit e h.
+    let none : length c.ending_at-ending.result.now ≤ 0 = grind (arith, c.is_empty.ensures, c.if-is_empty.true) in
+    none_ends (ends_at x fit) c.ending_at-ending.result.now none ∙ ap (list_any (ends_at x fit)) c.ending_at-ending.ensures
 
 pub returns-in_default-kind : goal.returns-in_default-kind
 returns-in_default-kind c = λ x fit e h.
@@ -17,7 +24,10 @@ returns-in_default-marked c = λ x fit e h.
 pub returns : goal.returns
 returns c = λ x fit e h.
     let row = c.in-Some.row.now in
+    let ending = c.ending_at-ending.result.now in
+    let both = both_states (state c.in-Some-kind.kind.now) (state c.in-Some-marked.marked.now) in
     let at : state row ≡ x = state_is c.args.self.now.states.keys c.args.number row x (sym c.in-Some.ensures.key) e in
-    let fits : both_states (state c.in-Some-kind.kind.now) (state c.in-Some-marked.marked.now) ≡ fit =
+    let fits : both ≡ fit =
     fit_is c.args.self.now c.args.symbol c.args.marks fit c.in-Some-kind.kind c.in-Some-marked.marked c.in-Some-kind.ensures.element c.in-Some-kind.ensures.text c.in-Some-marked.ensures h in
-    c.hits.ensures ∙ (ap (λ w. some_ends w (both_states (state c.in-Some-kind.kind.now) (state c.in-Some-marked.marked.now))) at ∙ ap (λ w. some_ends x w) fits)
+    c.hits_by.ensures
+    ∙ (ap (λ w. list_any (ends_at w both) ending) at ∙ (ap (λ w. list_any (ends_at x w) ending) fits ∙ ap (list_any (ends_at x fit)) c.ending_at-ending.ensures))

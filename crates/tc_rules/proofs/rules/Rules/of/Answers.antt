@@ -67,7 +67,7 @@ returns-clause-rules c =
     c.in_ok-states.ensures.graphs in
     rules_built c.args.alphabet.now _ c.requires.sheet c.requires.symbols same c.in_ok-source.ensures.few c.in_ok-asked.ensures.bodies c.in_ok-asked.ensures.eaches above c.in_ok-states.ensures.few_above
     c.in_ok-asked.ensures.moves c.in_ok-asked.ensures.looks selected c.in_ok-states.ensures.few c.in_ok-asked.ensures.jobs c.in_ok-states.ensures.selects c.in_ok-states.ensures.starts
-    c.in_ok-asked.ensures.modes c.in_ok-asked.ensures.numbers
+    c.in_ok-asked.ensures.modes c.in_ok-asked.ensures.numbers c.in_ok-states.ensures.ending
 
 pub returns-clause-within : goal.returns-clause-within
 returns-clause-within c =
