@@ -10,6 +10,7 @@ pub mod Placed
 pub mod Depths
 pub mod Limits
 pub mod Instructed
+pub mod Alone
 pub mod Called
 pub mod Meant
 pub mod Sizes

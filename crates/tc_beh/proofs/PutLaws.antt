@@ -2,7 +2,7 @@
 use Rattle.std.proofs.Common.{◌≡◌, ◌<◌, ℕ, ◌+◌, Bool, true, false, not, refl, sym, subst}
 use Rattle.tc_model.specs.States.{output, first_state, a_content}
 use Rattle.tc_hedge.proofs.Leading.{first_below}
-use Rattle.tc_mat.specs.Matrix.{Matrix, HasPair, IsIdentity}
+use Rattle.tc_mat.specs.Matrix.{Matrix, HasPair, IsIdentity, IsComposition}
 use Rattle.tc_rows.specs.Triples.{Triple, outputs}
 use Rattle.tc_rows.specs.PairSets.{PairSet, HaveSamePairs, identity, product, chosen}
 use Rattle.tc_rows.specs.Bodies.{stay, around, text_edges}
@@ -26,6 +26,13 @@ put_same old new r s f e =
 pub has_low : (m : Matrix) (i j : ℕ) → HasPair m i j → (i < m.size) × (j < m.size)
 unfolding HasPair
 has_low m i j h = (h.0, h.1)
+
+-- behind each number with itself
+pub identity_first : (a b : Matrix) → IsIdentity a → b.size ≡ a.size → IsComposition a b b
+identity_first a b is e = λ i j. (
+  λ h. let low = has_low b i j h in (i, (is i i).1 (subst (λ k. i < k) e low.0, refl), h),
+  λ (k, here, h). subst (λ n. HasPair b n j) (sym ((is i k).0 here).1) h,
+)
 
 -- nothing is put
 pub put_nothing : (m : Matrix) (n : ℕ) → m.size ≡ n → HaveSamePairs (has m) (product (has m) (identity n))

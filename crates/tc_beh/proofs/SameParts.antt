@@ -2,11 +2,13 @@
 use Rattle.std.proofs.Common.{◌≡◌, ◌+◌, ℕ, List, length, subst, sym, ap, ap₂, ◌∙◌}
 use Rattle.tc_model.specs.Grammars.{Grammar, Pattern, ElementPattern}
 use Rattle.tc_model.specs.States.{Side, output, state_count, text_leaf, IsEdge}
+use Rattle.tc_model.specs.Symbols.{Mention}
 use Rattle.tc_auto.specs.Stands as a
 use Rattle.tc_auto.specs.declared.auto.Auto.{Auto}
 use Rattle.tc_rules.specs.RulesView.{RulesView}
 use Rattle.tc_rows.specs.Triples.{Triple, outputs}
 use Rattle.tc_rows.specs.PairSets.{HaveSamePairs}
+use Rattle.tc_beh.specs.Known.{AreKnown}
 use Rattle.tc_beh.specs.Machines.{IsMachineOf}
 use Rattle.tc_beh.specs.Places.{AreSpare}
 use Rattle.tc_beh.specs.Putting.{has}
@@ -26,6 +28,9 @@ module _ (m : Machine) (x y : Triple) (ox : IsMachineOf x m) (oy : IsMachineOf y
   pub same_rules : x.rules ≡ y.rules
   same_rules = sym ox.parts.are_rules.told ∙ oy.parts.are_rules.told
 
+  pub same_symbols : x.symbols ≡ y.symbols
+  same_symbols = sym ox.parts.same_symbols ∙ oy.parts.same_symbols
+
   pub same_outputs : outputs x ≡ outputs y
   same_outputs = ap (λ g. state_count g output) same_output
 
@@ -39,6 +44,7 @@ module _ (m : Machine) (x y : Triple) (ox : IsMachineOf x m) (oy : IsMachineOf y
     named = λ k d l. is.named k d l ∙ same_outputs;
     spare = subst (λ n. AreSpare n (depth + 2) w.spare.items) same_outputs is.spare;
     few = is.few;
+    known = subst (λ (v : RulesView). AreKnown y.symbols v w.rules) same_rules (subst (λ (symbols : List Mention). AreKnown symbols x.rules w.rules) same_symbols is.known);
   }
     where
       text_of : Grammar → ℕ → ℕ → Type 0

@@ -1,5 +1,6 @@
 // What a state of a move above a node puts out on the node and below it.
 ghost use Rattle.std.specs.Prelude.{◌≡◌, ◌≤◌, ◌<◌, ◌+◌, ℕ, length, All};
+ghost use Rattle.tc_mat.specs.Matrix.{IsIdentity};
 ghost use Rattle.tc_model.specs.Letters as letters;
 ghost use Rattle.tc_model.specs.Letters.{of_symbol};
 ghost use Rattle.tc_rules.specs.Asked as asked;
@@ -10,15 +11,18 @@ ghost use Rattle.tc_rules.specs.Tasks.{IsMoveAt};
 ghost use Rattle.tc_rows.specs.Triples.{Triple, predicates, number_below, moving};
 ghost use Rattle.tc_rows.specs.Arithmetic.{hit_pairs, pairs_from, step};
 ghost use Rattle.tc_beh.specs.Above.{letter_of, node_of, pairs_at};
+ghost use Rattle.tc_beh.specs.Known.{AreKnown};
 ghost use Rattle.tc_beh.specs.Places.{IsPlace, IsPlaceIn, AreSpare, kind_of, below_of, size_at, entries_by};
 ghost use Rattle.tc_beh.specs.Putting.{Extends};
-ghost use Rattle.tc_beh.specs.Templates.{depth_of_sheet, AreCalled};
+ghost use Rattle.tc_beh.specs.Stands.{IsRulesIn};
+ghost use Rattle.tc_beh.specs.Templates.{IsMeantAt, IsPartTemplate, depth_of, depth_of_sheet, AreCalled};
 
 use crate::bodies::{Place, put_entry};
-use crate::templates::{put_template, template_for};
+use crate::known_rules::KnownRules;
+use crate::templates::{Template, put_template, template_for};
 use tc_alpha::Sym;
 use tc_mat::Mat;
-use tc_rules::{Kind, Marks};
+use tc_rules::{Kind, Marks, Rules};
 
 /// The letter of a node that isn't the root: what it is, and the predicates that hold on it.
 #[derive(Clone, Copy)]
@@ -27,11 +31,32 @@ pub(crate) struct Letter {
     pub(crate) marks: Marks,
 }
 
-/// Puts what a state of a move puts out on a node, if the state hits it. The ancestor state is that above the node.
+/// What is to be done on a node that a state of a move above it hits. The ancestor state is that above the node.
+pub(crate) fn template_at<'b>(
+    rules: &Rules<'b>,
+    known: &mut KnownRules,
+    letter: Letter,
+    ancestor: u32,
+    state: u32,
+) -> Template<'b>
+    requires ancestor { ancestor < length (told rules.now).ancestors.states }
+    requires state { state < move_count (told rules.now) }
+    requires letter { (x : Triple) × IsRulesIn x rules.now × letters.IsLetter x.symbols (predicates x) (letter_of letter) × AreKnown x.symbols x.rules known.old }
+    ensures known { (x : Triple) → IsRulesIn x rules.now → letters.IsLetter x.symbols (predicates x) (letter_of letter) → AreKnown x.symbols x.rules known.old → AreKnown x.symbols x.rules known.new }
+    ensures part { IsPartTemplate (told rules.now).sheet result }
+    ensures depth { depth_of result ≤ depth_of_sheet (told rules.now).sheet }
+    ensures meant { (x : Triple) (g : Going) → IsRulesIn x rules.now → letters.IsLetter x.symbols (predicates x) (letter_of letter) → AreKnown x.symbols x.rules known.old → IsMoveAt x.rules state g
+        → IsMeantAt x g ancestor (letter_of letter) result }
+{
+    let job = rules.mode_of(state);
+    template_for(rules, known, job, ancestor, letter)
+}
+
+/// Puts what a state of a move puts out on a node, if the state hits it, by what is then to be done.
 fn put_hit(
     place: &Place<'_, '_>,
     letter: Letter,
-    ancestor: u32,
+    template: Template<'_>,
     state: u32,
     out: &mut Mat,
     spare: &mut [Mat],
@@ -39,21 +64,21 @@ fn put_hit(
     requires place { IsPlace place.now }
     requires node { kind_of place.now.node ≡ node_of (letter_of letter).kind }
     requires letter { (x : Triple) × IsPlaceIn x place.now × letters.IsLetter x.symbols (predicates x) (letter_of letter) }
-    requires ancestor { ancestor < length (told place.now.rules.now).ancestors.states }
+    requires part { IsPartTemplate (told place.now.rules.now).sheet template }
+    requires depth { depth_of template ≤ depth_of_sheet (told place.now.rules.now).sheet }
     requires state { state < move_count (told place.now.rules.now) }
     requires out { out.old.size ≡ size_at place.now }
     requires spare { AreSpare out.old.size (depth_of_sheet (told place.now.rules.now).sheet + 2) spare.old }
     requires few { length spare.old ≤ 8002 }
+    requires begun { IsIdentity out.old }
     ensures size { out.new.size ≡ out.old.size }
     ensures spare { All (λ m. m.size ≡ out.old.size) spare.new }
-    ensures pairs { (x : Triple) (g : Going) → IsPlaceIn x place.now → AreCalled x place.now → letters.IsLetter x.symbols (predicates x) (letter_of letter) → IsMoveAt x.rules state g
-        → Extends out.old out.new (hit_pairs x g ancestor (letter_of letter) (kind_of place.now.node) (below_of x place.now)) }
+    ensures pairs { (x : Triple) (g : Going) (q : ℕ) → IsPlaceIn x place.now → AreCalled x place.now → letters.IsLetter x.symbols (predicates x) (letter_of letter) → IsMoveAt x.rules state g
+        → IsMeantAt x g q (letter_of letter) template.entry → Extends out.old out.new (hit_pairs x g q (letter_of letter) (kind_of place.now.node) (below_of x place.now)) }
 {
     if !place.rules.sel_hits(state, letter.kind, letter.marks) {
         return;
     }
-    let job = place.rules.mode_of(state);
-    let template = template_for(place.rules, job, ancestor, letter.kind, letter.marks);
     put_template(place, template, out, spare)
 }
 
@@ -83,11 +108,11 @@ fn put_further(
     }
 }
 
-/// Puts what a state of a move above a node puts out on it and then below it. The ancestor state is that above the node.
+/// Puts what a state of a move above a node puts out on it, by what is to be done where the state hits it, and then below it.
 pub(crate) fn put_entry_above(
     place: &Place<'_, '_>,
     letter: Letter,
-    ancestor: u32,
+    template: Template<'_>,
     state: u32,
     out: &mut Mat,
     spare: &mut [Mat],
@@ -95,17 +120,20 @@ pub(crate) fn put_entry_above(
     requires place { IsPlace place.now }
     requires node { kind_of place.now.node ≡ node_of (letter_of letter).kind }
     requires letter { (x : Triple) × IsPlaceIn x place.now × letters.IsLetter x.symbols (predicates x) (letter_of letter) }
-    requires ancestor { ancestor < length (told place.now.rules.now).ancestors.states }
+    requires part { IsPartTemplate (told place.now.rules.now).sheet template }
+    requires depth { depth_of template ≤ depth_of_sheet (told place.now.rules.now).sheet }
     requires state { state < move_count (told place.now.rules.now) }
     requires out { out.old.size ≡ size_at place.now }
     requires spare { AreSpare out.old.size (depth_of_sheet (told place.now.rules.now).sheet + 2) spare.old }
     requires few { length spare.old ≤ 8002 }
+    requires begun { IsIdentity out.old }
     ensures size { out.new.size ≡ out.old.size }
     ensures spare { All (λ m. m.size ≡ out.old.size) spare.new }
-    ensures pairs { (x : Triple) (g : Going) (at : IsMoveAt x.rules state g) → IsPlaceIn x place.now → AreCalled x place.now → letters.IsLetter x.symbols (predicates x) (letter_of letter)
-        → Extends out.old out.new (pairs_at x place.now.bears (entries_by place.now.outputs.now.matrices place.now.entries.now) place.now.looks.now ancestor place.now.above at.mode g letter.marks.0 (letter_of letter).kind) }
+    ensures pairs { (x : Triple) (g : Going) (q : ℕ) (at : IsMoveAt x.rules state g) → IsPlaceIn x place.now → AreCalled x place.now → letters.IsLetter x.symbols (predicates x) (letter_of letter)
+        → IsMeantAt x g q (letter_of letter) template.entry
+        → Extends out.old out.new (pairs_at x place.now.bears (entries_by place.now.outputs.now.matrices place.now.entries.now) place.now.looks.now q place.now.above at.mode g letter.marks.0 (letter_of letter).kind) }
 {
-    put_hit(place, letter, ancestor, state, out, spare);
+    put_hit(place, letter, template, state, out, spare);
     match letter.kind {
         Kind::Elem(sym) => put_further(place, sym, letter.marks, state, out, spare),
         Kind::Text => {}

@@ -2,8 +2,8 @@
 //
 // A node is known by the row of what stands below it, and by the ancestor state at it. Each function puts its pairs behind those
 // that `out` holds, and works in spare sets.
-ghost use Rattle.std.specs.Prelude.{◌≡◌, ◌<◌, ◌≤◌, ◌+◌, ◌*◌, ℕ, List, length, Contains, map, All, not};
-ghost use Rattle.tc_mat.specs.Matrix.{IsMatrix, Matrix};
+ghost use Rattle.std.specs.Prelude.{◌≡◌, ◌<◌, ◌≤◌, ◌+◌, ◌*◌, ℕ, List, length, Contains, map, All, not, true, IfSome};
+ghost use Rattle.tc_mat.specs.Matrix.{IsMatrix, IsIdentity, Matrix};
 ghost use Rattle.tc_model.specs.Meaning.{all_children as all_children_of};
 ghost use Rattle.tc_model.specs.Numberings.{moves_of};
 ghost use Rattle.tc_model.specs.Sheets as s;
@@ -23,7 +23,7 @@ ghost use Rattle.tc_beh.specs.Places.{IsPlace, IsPlaceIn, AreSpare, kind_of, bel
 
 use crate::held_sets::HeldSets;
 use crate::looks::{holds, look};
-use crate::sets::{put_behind, put_identity};
+use crate::sets::{put_behind, put_identity, put_led};
 use tc_alpha::{Alphabet, Sym};
 use tc_hedge::Hedge;
 use tc_mat::{Mat, MatId};
@@ -98,31 +98,48 @@ pub(crate) fn put_text_if(place: &Place<'_, '_>, is_put: bool, out: &mut Mat, sp
     }
 }
 
-/// Puts the pairs of the instructions of a body, one after the other.
+/// Puts the pairs of the instructions of a body, one after the other. It may be told that `out` holds the pairs of each state
+/// with itself, behind which an element is put without a product.
 #[cycle(bodies)]
-pub(crate) fn put_body(place: &Place<'_, '_>, body: &[Instr<'_>], out: &mut Mat, spare: &mut [Mat])
+pub(crate) fn put_body(
+    place: &Place<'_, '_>,
+    body: &[Instr<'_>],
+    is_begun: bool,
+    out: &mut Mat,
+    spare: &mut [Mat],
+)
     requires place { IsPlace place.now }
     requires part { IsPart (told place.now.rules.now).sheet (see.body body.now) }
     requires out { out.old.size ≡ size_at place.now }
     requires spare { AreSpare out.old.size (depth_in (see.body body.now) + 2) spare.old }
     requires few { length spare.old ≤ 8002 }
+    requires begun { is_begun ≡ true → IsIdentity out.old }
     ensures size { out.new.size ≡ out.old.size }
     ensures spare { All (λ m. m.size ≡ out.old.size) spare.new }
     ensures pairs { (x : Triple) → IsPlaceIn x place.now → Extends out.old out.new (put_pairs x (kind_of place.now.node) (below_of x place.now) (called_by place.now) (see.body body.now)) }
 {
+    let mut is_first = is_begun;
     for instruction in body {
-        put_instruction(place, instruction, out, spare);
+        put_instruction(place, instruction, is_first, out, spare);
+        is_first = false;
     }
 }
 
 /// Puts the pairs of one instruction.
 #[cycle(bodies)]
-fn put_instruction(place: &Place<'_, '_>, instruction: &Instr<'_>, out: &mut Mat, spare: &mut [Mat])
+fn put_instruction(
+    place: &Place<'_, '_>,
+    instruction: &Instr<'_>,
+    is_begun: bool,
+    out: &mut Mat,
+    spare: &mut [Mat],
+)
     requires place { IsPlace place.now }
     requires part { IsPart (told place.now.rules.now).sheet (see.instruction instruction.now s.no_instruction) }
     requires out { out.old.size ≡ size_at place.now }
     requires spare { AreSpare out.old.size (depth_in (see.instruction instruction.now s.no_instruction) + 2) spare.old }
     requires few { length spare.old ≤ 8002 }
+    requires begun { is_begun ≡ true → IsIdentity out.old }
     ensures size { out.new.size ≡ out.old.size }
     ensures spare { All (λ m. m.size ≡ out.old.size) spare.new }
     ensures pairs { (x : Triple) (rest : s.Body) → IsPlaceIn x place.now → HaveSamePairs
@@ -133,9 +150,9 @@ fn put_instruction(place: &Place<'_, '_>, instruction: &Instr<'_>, out: &mut Mat
         Instr::Text(text) => put_text_if(place, !is_white_space_only(text), out, spare),
         Instr::Elem(name, inner) => {
             let sym = place.alphabet.sym_of(name);
-            put_element(place, sym, inner, out, spare)
+            put_element(place, sym, inner, is_begun, out, spare)
         }
-        Instr::Copy(inner) => put_copy(place, inner, out, spare),
+        Instr::Copy(inner) => put_copy(place, inner, is_begun, out, spare),
         Instr::Apply(path, mode) => put_selected(place, path, Job::Mode(*mode), out, spare),
         Instr::Call(number) => put_set(&place.named[*number as usize], out, spare),
         Instr::ValueOf(path) => {
@@ -144,15 +161,40 @@ fn put_instruction(place: &Place<'_, '_>, instruction: &Instr<'_>, out: &mut Mat
         }
         Instr::ValueOfSelf => put_text_if(place, place.bears, out, spare),
         Instr::Choose(branches, last) => {
-            if put_first(place, branches, out, spare) {
+            if put_first(place, branches, is_begun, out, spare) {
                 return;
             }
-            put_body(place, last, out, spare)
+            put_body(place, last, false, out, spare)
         }
         Instr::ForEach(number, path, _) => {
             put_selected(place, path, Job::Each(*number), out, spare)
         }
     }
+}
+
+/// Puts the pairs of an element of a symbol around a set of pairs.
+fn put_around(
+    place: &Place<'_, '_>,
+    sym: Sym,
+    set: &Mat,
+    is_begun: bool,
+    out: &mut Mat,
+    spare: &mut [Mat],
+)
+    requires place { IsPlace place.now }
+    requires symbol { sym.0 < symbol_count place.now.alphabet.now }
+    requires set { set.now.size ≡ out.old.size }
+    requires out { out.old.size ≡ size_at place.now }
+    requires spare { AreSpare out.old.size 2 spare.old }
+    requires begun { is_begun ≡ true → IsIdentity out.old }
+    ensures size { out.new.size ≡ out.old.size }
+    ensures spare { All (λ m. m.size ≡ out.old.size) spare.new }
+    ensures pairs { (x : Triple) → IsPlaceIn x place.now → Extends out.old out.new (around x sym.0 (has set.now)) }
+{
+    let (led, rest) = spare.split_at_mut(1);
+    let led = &mut led[0];
+    place.output.element_into(sym, set, led);
+    put_led(out, is_begun, led, &mut rest[0]);
 }
 
 /// Puts the pairs of an element of a symbol around what a body puts out.
@@ -161,6 +203,7 @@ fn put_element(
     place: &Place<'_, '_>,
     sym: Sym,
     inner: &[Instr<'_>],
+    is_begun: bool,
     out: &mut Mat,
     spare: &mut [Mat],
 )
@@ -170,34 +213,46 @@ fn put_element(
     requires out { out.old.size ≡ size_at place.now }
     requires spare { AreSpare out.old.size (depth_in (see.body inner.now) + 3) spare.old }
     requires few { length spare.old ≤ 8002 }
+    requires begun { is_begun ≡ true → IsIdentity out.old }
     ensures size { out.new.size ≡ out.old.size }
     ensures spare { All (λ m. m.size ≡ out.old.size) spare.new }
     ensures pairs { (x : Triple) → IsPlaceIn x place.now → Extends out.old out.new (around x sym.0 (put_pairs x (kind_of place.now.node) (below_of x place.now) (called_by place.now) (see.body inner.now))) }
 {
+    if let Some(set) = set_alone(place, inner) {
+        put_around(place, sym, set, is_begun, out, spare);
+        return;
+    }
     let (inside, rest) = spare.split_at_mut(1);
     let inside = &mut inside[0];
     put_identity(inside);
-    put_body(place, inner, inside, rest);
+    put_body(place, inner, true, inside, rest);
     let led = &mut rest[0];
     place.output.element_into(sym, inside, led);
-    put_behind(out, led, inside);
+    put_led(out, is_begun, led, inside);
 }
 
 /// Puts the pairs of the current node without its children, around what a body puts out (XSLT 1.0, 7.5).
 #[cycle(bodies)]
-fn put_copy(place: &Place<'_, '_>, inner: &[Instr<'_>], out: &mut Mat, spare: &mut [Mat])
+fn put_copy(
+    place: &Place<'_, '_>,
+    inner: &[Instr<'_>],
+    is_begun: bool,
+    out: &mut Mat,
+    spare: &mut [Mat],
+)
     requires place { IsPlace place.now }
     requires part { IsPart (told place.now.rules.now).sheet (see.body inner.now) }
     requires out { out.old.size ≡ size_at place.now }
     requires spare { AreSpare out.old.size (depth_in (see.body inner.now) + 3) spare.old }
     requires few { length spare.old ≤ 8002 }
+    requires begun { is_begun ≡ true → IsIdentity out.old }
     ensures size { out.new.size ≡ out.old.size }
     ensures spare { All (λ m. m.size ≡ out.old.size) spare.new }
     ensures pairs { (x : Triple) → IsPlaceIn x place.now → Extends out.old out.new (copied_pairs x (kind_of place.now.node) (put_pairs x (kind_of place.now.node) (below_of x place.now) (called_by place.now) (see.body inner.now))) }
 {
     match place.node {
-        At::Root => put_body(place, inner, out, spare),
-        At::Elem(sym) => put_element(place, sym, inner, out, spare),
+        At::Root => put_body(place, inner, is_begun, out, spare),
+        At::Elem(sym) => put_element(place, sym, inner, is_begun, out, spare),
         At::Text => put_set(place.text, out, spare),
     }
 }
@@ -207,6 +262,7 @@ fn put_copy(place: &Place<'_, '_>, inner: &[Instr<'_>], out: &mut Mat, spare: &m
 fn put_first(
     place: &Place<'_, '_>,
     branches: &[Branch<'_>],
+    is_begun: bool,
     out: &mut Mat,
     spare: &mut [Mat],
 ) -> bool
@@ -215,6 +271,7 @@ fn put_first(
     requires out { out.old.size ≡ size_at place.now }
     requires spare { AreSpare out.old.size (depth_in_branches (see.branches branches.now (s.otherwise s.no_instruction)) + 2) spare.old }
     requires few { length spare.old ≤ 8002 }
+    requires begun { is_begun ≡ true → IsIdentity out.old }
     ensures size { out.new.size ≡ out.old.size }
     ensures spare { All (λ m. m.size ≡ out.old.size) spare.new }
     ensures pairs { (x : Triple) (rest : s.Branches) → IsPlaceIn x place.now → HaveSamePairs
@@ -223,7 +280,7 @@ fn put_first(
 {
     for branch in branches {
         if holds(place.rules, place.looks, &branch.test) {
-            put_body(place, branch.body, out, spare);
+            put_body(place, branch.body, is_begun, out, spare);
             return true;
         }
     }
@@ -289,7 +346,77 @@ pub(crate) fn put_entry(place: &Place<'_, '_>, state: u32, out: &mut Mat, spare:
     ensures pairs { (x : Triple) → IsPlaceIn x place.now
         → Extends out.old out.new (listed (entry x (entries_by place.now.outputs.now.matrices place.now.entries.now) place.now.above state)) }
 {
+    put_set(entry_of(place, state), out, spare);
+}
+
+/// The set of pairs of the entry of a state of a move below.
+fn entry_of<'a>(place: &Place<'a, '_>, state: u32) -> &'a Mat
+    requires place { IsPlace place.now }
+    requires node { kind_of place.now.node ≡ on_text → ⊥ }
+    requires state { state < move_count (told place.now.rules.now) }
+    ensures size { result.now.size ≡ size_at place.now }
+    ensures pairs { (x : Triple) → IsPlaceIn x place.now
+        → HaveSamePairs (has result.now) (listed (entry x (entries_by place.now.outputs.now.matrices place.now.entries.now) place.now.above state)) }
+{
+    let outputs = place.outputs;
     let number = entry_place(place.above, place.rules.moves(), state);
     let output = place.entries[number];
-    put_set(place.outputs.get(MatId(output)), out, spare);
+    outputs.get(MatId(output))
+}
+
+/// The set of pairs of what a job puts out on all nodes that a path selects, if it is held.
+fn set_selected<'a>(place: &Place<'a, '_>, path: &Path<'_>, job: Job) -> Option<&'a Mat>
+    requires place { IsPlace place.now }
+    requires node { kind_of place.now.node ≡ on_text → ⊥ }
+    requires path { Contains (moves_of (told place.now.rules.now).sheet) (record { path = see.path path.now; mode = mode_of (told place.now.rules.now).sheet.modes job }) }
+    ensures size { IfSome result (λ m. m.now.size ≡ size_at place.now) }
+    ensures pairs { IfSome result (λ m. (x : Triple) → IsPlaceIn x place.now → HaveSamePairs (has m.now) ((below_of x place.now).pairs (mode_of (told place.now.rules.now).sheet.modes job) (see.path path.now))) }
+{
+    match place.rules.move_first(path, job) {
+        None => None,
+        Some(state) => Some(entry_of(place, state)),
+    }
+}
+
+/// The set of pairs of an instruction on a node that is no text, if it is held: of one that applies templates.
+fn set_of_instruction<'a>(place: &Place<'a, '_>, instruction: &Instr<'_>) -> Option<&'a Mat>
+    requires place { IsPlace place.now }
+    requires node { kind_of place.now.node ≡ on_text → ⊥ }
+    requires part { IsPart (told place.now.rules.now).sheet (see.instruction instruction.now s.no_instruction) }
+    ensures size { IfSome result (λ m. m.now.size ≡ size_at place.now) }
+    ensures pairs { IfSome result (λ m. (x : Triple) → IsPlaceIn x place.now → HaveSamePairs (has m.now) (put_pairs x (kind_of place.now.node) (below_of x place.now) (called_by place.now) (see.instruction instruction.now s.no_instruction))) }
+{
+    match instruction {
+        Instr::Apply(path, mode) => set_selected(place, path, Job::Mode(*mode)),
+        _ => None,
+    }
+}
+
+/// The set of pairs of a body on a node that is no text, if it is held: of one instruction alone.
+fn set_of_body<'a>(place: &Place<'a, '_>, body: &[Instr<'_>]) -> Option<&'a Mat>
+    requires place { IsPlace place.now }
+    requires node { kind_of place.now.node ≡ on_text → ⊥ }
+    requires part { IsPart (told place.now.rules.now).sheet (see.body body.now) }
+    ensures size { IfSome result (λ m. m.now.size ≡ size_at place.now) }
+    ensures pairs { IfSome result (λ m. (x : Triple) → IsPlaceIn x place.now → HaveSamePairs (has m.now) (put_pairs x (kind_of place.now.node) (below_of x place.now) (called_by place.now) (see.body body.now))) }
+{
+    if body.len() != 1 {
+        return None;
+    }
+    let instruction = &body[0];
+    set_of_instruction(place, instruction)
+}
+
+/// The set of pairs of a body, if it is held.
+fn set_alone<'a>(place: &Place<'a, '_>, body: &[Instr<'_>]) -> Option<&'a Mat>
+    requires place { IsPlace place.now }
+    requires part { IsPart (told place.now.rules.now).sheet (see.body body.now) }
+    ensures size { IfSome result (λ m. m.now.size ≡ size_at place.now) }
+    ensures pairs { IfSome result (λ m. (x : Triple) → IsPlaceIn x place.now → HaveSamePairs (has m.now) (put_pairs x (kind_of place.now.node) (below_of x place.now) (called_by place.now) (see.body body.now))) }
+{
+    match place.node {
+        At::Text => None,
+        At::Root => set_of_body(place, body),
+        At::Elem(_) => set_of_body(place, body),
+    }
 }

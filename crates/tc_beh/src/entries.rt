@@ -19,7 +19,7 @@ ghost use Rattle.tc_beh.specs.RoomsOf.{IsRoomBeside};
 ghost use Rattle.tc_beh.specs.RowsOf.{IsWork};
 ghost use Rattle.tc_beh.specs.Stands.{IsRulesIn};
 
-use crate::above::{Letter, put_entry_above};
+use crate::above::{Letter, put_entry_above, template_at};
 use crate::bodies::{At, Place, entry_place};
 use crate::held_sets::HeldSets;
 use crate::leads::{Lead, lead_at};
@@ -143,6 +143,14 @@ fn put_entry_of(
     ensures entry { (x : Triple) → AreGrounds x machine.now outputs.now work.old node.entry → IsUnder x (letter_of node.entry.letter) spot.ancestor spot.above → AreCalledOn x outputs.now node.entry spot.above work.old.named.items
         → IsEntryAt x (entries_by outputs.now.matrices node.entry.entries.now) node.entry (spot.ancestor * moves_of x + spot.state) work.new.set }
 {
+    let rules = &machine.rules;
+    let template = template_at(
+        rules,
+        &mut work.rules,
+        node.letter,
+        spot.ancestor,
+        spot.state,
+    );
     put_identity(&mut work.set);
     let named = work.named.as_slice();
     let place = place_of(machine, outputs, &work.text, named, node, spot.above);
@@ -150,7 +158,7 @@ fn put_entry_of(
     put_entry_above(
         &place,
         node.letter,
-        spot.ancestor,
+        template,
         spot.state,
         &mut work.set,
         spare,

@@ -77,6 +77,6 @@ fn put_one_named(
         looks: place.looks,
         above: place.above,
     };
-    put_body(&here, body, set, spare);
+    put_body(&here, body, true, set, spare);
     mem::swap(set, &mut named[number]);
 }

@@ -2,7 +2,7 @@
 ghost use Rattle.std.specs.Prelude.{◌≡◌, ◌≤◌, ◌+◌, ◌↔◌, ℕ, length, IsTrue, All};
 ghost use Rattle.std.specs.List.{list_any};
 ghost use Rattle.tc_auto.specs.Stands.{Stands, patterns as patterns_of, states as states_of};
-ghost use Rattle.tc_mat.specs.Matrix.{Matrix, HasPair};
+ghost use Rattle.tc_mat.specs.Matrix.{Matrix, HasPair, IsIdentity};
 ghost use Rattle.tc_model.specs.Grammars as g;
 ghost use Rattle.tc_model.specs.Machine.{in_mode};
 ghost use Rattle.tc_model.specs.States as s;
@@ -64,6 +64,7 @@ fn put_on_root(place: &Place<'_, '_>, out: &mut Mat, spare: &mut [Mat])
     requires out { out.old.size ≡ size_at place.now }
     requires spare { AreSpare out.old.size (depth_of_sheet (told place.now.rules.now).sheet + 2) spare.old }
     requires few { length spare.old ≤ 8002 }
+    requires begun { IsIdentity out.old }
     ensures size { out.new.size ≡ out.old.size }
     ensures spare { All (λ m. m.size ≡ out.old.size) spare.new }
     ensures pairs { (x : Triple) → IsPlaceIn x place.now → AreCalled x place.now

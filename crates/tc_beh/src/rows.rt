@@ -8,6 +8,7 @@ ghost use Rattle.tc_rows.specs.Triples.{Triple};
 use crate::append::{put_append, put_kind};
 use crate::empty::put_empty;
 use crate::held_sets::HeldSets;
+use crate::known_rules::KnownRules;
 use crate::leads::{Lead, NOWHERE};
 use crate::lists::{lists_of, pairs_of, pool_of};
 use crate::machine::Machine;
@@ -40,6 +41,8 @@ pub(crate) struct Work {
     pub(crate) named: Vec<Mat>,
     /// A set for each element that stands open in a body, and two more.
     pub(crate) spare: Vec<Mat>,
+    /// Some of the rules that were found for letters of nodes.
+    pub(crate) rules: KnownRules,
 }
 
 /// So many empty sets.
@@ -67,11 +70,13 @@ impl Work {
         let set = Mat::zero(alloc, size)?;
         let named = empty_sets(alloc, machine.rules.sheet().named.len(), size)?;
         let spare = empty_sets(alloc, machine.depth as usize + 2, size)?;
+        let rules = KnownRules::new(alloc)?;
         Ok(Work {
             text,
             set,
             named,
             spare,
+            rules,
         })
     }
 }

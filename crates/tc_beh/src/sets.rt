@@ -1,5 +1,5 @@
 // Sets of pairs in room that was taken before.
-ghost use Rattle.std.specs.Prelude.{◌≡◌, ◌<◌, length, All, List};
+ghost use Rattle.std.specs.Prelude.{◌≡◌, ◌<◌, length, All, List, true};
 ghost use Rattle.tc_mat.specs.Matrix.{IsMatrix, IsIdentity, IsComposition, Matrix};
 
 use std::mem;
@@ -29,4 +29,36 @@ pub(crate) fn put_behind(out: &mut Mat, behind: &Mat, room: &mut Mat)
 {
     Mat::mul_into(out, behind, room);
     mem::swap(out, room);
+}
+
+/// Puts a set of pairs behind another, and may leave any other in its place. Where the set behind which it is put is known to be
+/// that of each number with itself, the two only change places.
+pub(crate) fn put_led(out: &mut Mat, is_begun: bool, led: &mut Mat, room: &mut Mat)
+    requires led { led.old.size ≡ out.old.size }
+    requires room { room.old.size ≡ out.old.size }
+    requires begun { is_begun ≡ true → IsIdentity out.old }
+    ensures size { out.new.size ≡ out.old.size }
+    ensures led { led.new.size ≡ led.old.size }
+    ensures room { room.new.size ≡ room.old.size }
+    ensures matrix { IsMatrix out.new }
+    ensures pairs { IsComposition out.old led.old out.new }
+{
+    if is_begun {
+        put_first(out, led);
+    } else {
+        put_behind(out, led, room);
+    }
+}
+
+/// Puts a set of pairs behind that of each number with itself.
+fn put_first(out: &mut Mat, led: &mut Mat)
+    requires led { led.old.size ≡ out.old.size }
+    requires begun { IsIdentity out.old }
+    ensures size { out.new.size ≡ out.old.size }
+    ensures led { led.new.size ≡ led.old.size }
+    ensures matrix { IsMatrix out.new }
+    ensures pairs { IsComposition out.old led.old out.new }
+{
+    mem::swap(out, led);
+    let _size = out.size();
 }

@@ -1,28 +1,32 @@
 // What is to be instantiated on a node (XSLT 1.0, 5), and what it puts out.
 ghost use Rattle.std.specs.Prelude.{◌≡◌, ◌≤◌, ◌<◌, ◌+◌, ℕ, List, length, All, option_map, Option, IfSome};
-ghost use Rattle.tc_mat.specs.Matrix.{Matrix};
+ghost use Rattle.tc_mat.specs.Matrix.{Matrix, IsIdentity};
 ghost use Rattle.tc_model.specs.Letters as letters;
 ghost use Rattle.tc_model.specs.Machine.{CallFreeJob};
 ghost use Rattle.tc_model.specs.Sheets.{CallFreeBody};
-ghost use Rattle.tc_rules.specs.Asked.{letter as see_letter, found as found_of};
+ghost use Rattle.tc_rules.specs.Asked.{found as found_of};
 ghost use Rattle.tc_rules.specs.Jobs.{IsJob};
 ghost use Rattle.tc_rules.specs.Kept.{told};
-ghost use Rattle.tc_rules.specs.RulesView.{ancestor};
+ghost use Rattle.tc_rules.specs.RulesView.{ancestor as ancestor_of};
 ghost use Rattle.tc_rules.specs.States.{Chosen, built_in_at, plain_of, body_by};
 ghost use Rattle.tc_rules.specs.Tasks.{IsTaskOf};
 ghost use Rattle.tc_rules.specs.Views.{mode_of};
 ghost use Rattle.tc_rows.specs.Triples.{Triple, sheet, predicates};
 ghost use Rattle.tc_rows.specs.Bodies.{body_pairs};
+ghost use Rattle.tc_beh.specs.Above.{letter_of};
 ghost use Rattle.tc_beh.specs.Heights.{depth_in};
+ghost use Rattle.tc_beh.specs.Known.{AreKnown};
 ghost use Rattle.tc_beh.specs.Putting.{Extends};
 ghost use Rattle.tc_beh.specs.Places.{IsPlace, IsPlaceIn, AreSpare, kind_of, below_of, called_by, size_at};
 ghost use Rattle.tc_beh.specs.Stands.{IsRulesIn, AreRules};
 ghost use Rattle.tc_beh.specs.Templates.{IsTemplate, IsPartTemplate, depth_of, depth_of_sheet, built_in_on, AreCalled};
 
+use crate::above::Letter;
 use crate::bodies::{At, Place, all_children, put_body, put_selected, put_text_if};
+use crate::known_rules::KnownRules;
 use tc_mat::Mat;
 use tc_model::Instr;
-use tc_rules::{Found, Job, Kind, Marks, Rules};
+use tc_rules::{Found, Job, Rules};
 
 /// What is to be instantiated on a node: a body, or what the built-in rules say in a mode.
 #[derive(Clone, Copy)]
@@ -50,29 +54,30 @@ pub(crate) fn template_of<'b>(rules: &Rules<'b>, mode: u32, found: Found) -> Tem
 /// What is to be done on a node of a letter.
 pub(crate) fn template_for<'b>(
     rules: &Rules<'b>,
+    known: &mut KnownRules,
     job: Job,
-    above: u32,
-    kind: Kind,
-    marks: Marks,
+    ancestor: u32,
+    letter: Letter,
 ) -> Template<'b>
     requires job { IsJob (told rules.now).sheet job }
-    requires above { above < length (told rules.now).ancestors.states }
-    requires letter { (x : Triple) × IsRulesIn x rules.now × letters.IsLetter x.symbols (predicates x) (see_letter kind marks) }
+    requires ancestor { ancestor < length (told rules.now).ancestors.states }
+    requires letter { (x : Triple) × IsRulesIn x rules.now × letters.IsLetter x.symbols (predicates x) (letter_of letter) × AreKnown x.symbols x.rules known.old }
+    ensures known { (x : Triple) → IsRulesIn x rules.now → letters.IsLetter x.symbols (predicates x) (letter_of letter) → AreKnown x.symbols x.rules known.old → AreKnown x.symbols x.rules known.new }
     ensures part { IsPartTemplate (told rules.now).sheet result }
     ensures depth { depth_of result ≤ depth_of_sheet (told rules.now).sheet }
-    ensures meant { (x : Triple) (k : CallFreeJob) → IsRulesIn x rules.now → letters.IsLetter x.symbols (predicates x) (see_letter kind marks) → IsTaskOf (sheet x) (mode_of (sheet x).modes job) k →
-        IsTemplate (sheet x).named (λ m. built_in_at m (see_letter kind marks).kind) result (body_by x.symbols (predicates x) (sheet x).rules x.bodies k (ancestor x.rules above) (see_letter kind marks)) }
+    ensures meant { (x : Triple) (k : CallFreeJob) → IsRulesIn x rules.now → letters.IsLetter x.symbols (predicates x) (letter_of letter) → AreKnown x.symbols x.rules known.old → IsTaskOf (sheet x) (mode_of (sheet x).modes job) k →
+        IsTemplate (sheet x).named (λ m. built_in_at m (letter_of letter).kind) result (body_by x.symbols (predicates x) (sheet x).rules x.bodies k (ancestor_of x.rules ancestor) (letter_of letter)) }
 {
     match job {
         Job::Each(number) => Template::Body(rules.each_body(number)),
         Job::Mode(mode) => {
-            let found = rules.rule_for(mode, above, kind, marks);
+            let found = known.rule_for(rules, mode, ancestor, letter.kind, letter.marks);
             template_of(rules, mode, found)
         }
     }
 }
 
-/// Puts the pairs of a template.
+/// Puts the pairs of a template behind those of each state with itself.
 pub(crate) fn put_template(
     place: &Place<'_, '_>,
     template: Template<'_>,
@@ -84,13 +89,14 @@ pub(crate) fn put_template(
     requires out { out.old.size ≡ size_at place.now }
     requires spare { AreSpare out.old.size (depth_of template + 2) spare.old }
     requires few { length spare.old ≤ 8002 }
+    requires begun { IsIdentity out.old }
     ensures size { out.new.size ≡ out.old.size }
     ensures spare { All (λ m. m.size ≡ out.old.size) spare.new }
     ensures pairs { (x : Triple) (p : CallFreeBody) → IsPlaceIn x place.now → AreCalled x place.now → IsTemplate (sheet x).named (built_in_on (kind_of place.now.node)) template.entry p
         → Extends out.old out.new (body_pairs x p (kind_of place.now.node) (below_of x place.now)) }
 {
     match template {
-        Template::Body(inner) => put_body(place, inner, out, spare),
+        Template::Body(inner) => put_body(place, inner, true, out, spare),
         Template::BuiltIn(mode) => put_built_in(place, mode, out, spare),
     }
 }

@@ -8,15 +8,15 @@ use Rattle.tc_beh.proofs.Hitting.{element_put, text_put}
 use Rattle.tc_beh.proofs.above.put_entry_above.Goals as goal
 
 pub returns-in-Elem-clause-pairs : goal.returns-in-Elem-clause-pairs
-returns-in-Elem-clause-pairs c = λ x g at is called lx.
+returns-in-Elem-clause-pairs c = λ x g q at is called lx meant.
     let p = c.args.place.now in
     let l = c.args.letter in
-    element_put x p g c.args.ancestor at.mode l.marks.0 c.args.out.now c.put_hit.new.out c.put_further.new.out c.in-Elem.sym.0 (kind l.kind) (ap kind c.in-Elem.is) c.requires.node
-    (c.put_hit.ensures.pairs x g is called lx at)
+    element_put x p g q at.mode l.marks.0 c.args.out.now c.put_hit.new.out c.put_further.new.out c.in-Elem.sym.0 (kind l.kind) (ap kind c.in-Elem.is) c.requires.node
+    (c.put_hit.ensures.pairs x g q is called lx at meant)
     (c.put_further.ensures.pairs x g at is (subst (λ (k : Kind). IsLetter x.symbols (predicates x) (asked.letter k l.marks)) c.in-Elem.is lx))
 
 pub returns-in-Text-clause-pairs : goal.returns-in-Text-clause-pairs
-returns-in-Text-clause-pairs c = λ x g at is called lx.
+returns-in-Text-clause-pairs c = λ x g q at is called lx meant.
     let p = c.args.place.now in
     let l = c.args.letter in
-    text_put x p g c.args.ancestor at.mode l.marks.0 c.args.out.now c.put_hit.new.out (kind l.kind) (ap kind c.in-Text.is) c.requires.node (c.put_hit.ensures.pairs x g is called lx at)
+    text_put x p g q at.mode l.marks.0 c.args.out.now c.put_hit.new.out (kind l.kind) (ap kind c.in-Text.is) c.requires.node (c.put_hit.ensures.pairs x g q is called lx at meant)

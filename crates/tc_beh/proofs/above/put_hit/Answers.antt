@@ -1,46 +1,35 @@
 use Rattle.std.proofs.Common.{sym, ◌∙◌}
 use Rattle.tc_model.specs.StateCounts.{PathUse}
-use Rattle.tc_rules.specs.Kept.{told}
 use Rattle.tc_rules.specs.RulesView.{ancestor}
 use Rattle.tc_rules.specs.States.{body_by}
-use Rattle.tc_rules.specs.Views.{mode_of}
 use Rattle.tc_rows.specs.Triples.{sheet, predicates}
 use Rattle.tc_beh.specs.Above.{letter_of}
 use Rattle.tc_beh.specs.Places.{kind_of, below_of}
-use Rattle.tc_beh.proofs.Hitting.{of_move, select_low, some_move, state_told, hit_told, lettered, task_told, sheet_modes, hit_none, hit_some, meant_on}
+use Rattle.tc_beh.proofs.Hitting.{of_move, select_low, state_told, hit_told, lettered, hit_none, hit_some, meant_on}
 use Rattle.tc_beh.proofs.above.put_hit.Goals as goal
 
 pub sel_hits-requires : goal.sel_hits-requires
 sel_hits-requires c = let (x, is, lx) = c.requires.letter in select_low x c.args.place.now.rules.now is.rules c.args.state c.requires.state
 
-pub template_for-template-requires-clause-job : goal.template_for-template-requires-clause-job
-template_for-template-requires-clause-job c =
-    let r = c.args.place.now.rules.now in
-    let (x, is, lx) = c.requires.letter in
-    let (g, at) = some_move x r is.rules c.args.state c.requires.state in
-    c.mode_of-job.ensures.job x.symbols (of_move g.path at.mode) g.state is.rules.rules (state_told x r is.rules c.args.state (of_move g.path at.mode) g.state at.state)
-
 pub returns-then-not-sel_hits-clause-pairs : goal.returns-then-not-sel_hits-clause-pairs
-returns-then-not-sel_hits-clause-pairs c = λ x g is called lx at.
+returns-then-not-sel_hits-clause-pairs c = λ x g q is called lx at meant.
     let p = c.args.place.now in
     let r = p.rules.now in
     let l = letter_of c.args.letter in
     let b : PathUse = of_move g.path at.mode in
     let same = c.sel_hits.ensures x.symbols b g.state is.rules.rules (lettered x r is.rules l lx) (state_told x r is.rules c.args.state b g.state at.state) in
-    hit_none x p is c.args.out.now g c.args.ancestor l (kind_of p.node) (below_of x p) c.requires.out
+    hit_none x p is c.args.out.now g q l (kind_of p.node) (below_of x p) c.requires.out
     (sym (hit_told x r is.rules b g.state l) ∙ (sym same ∙ c.if-not-sel_hits.true))
 
 pub returns-clause-pairs : goal.returns-clause-pairs
-returns-clause-pairs c = λ x g is called lx at.
+returns-clause-pairs c = λ x g q is called lx at meant.
     let p = c.args.place.now in
     let r = p.rules.now in
     let l = letter_of c.args.letter in
     let b : PathUse = of_move g.path at.mode in
     let st = state_told x r is.rules c.args.state b g.state at.state in
     let same = c.sel_hits.ensures x.symbols b g.state is.rules.rules (lettered x r is.rules l lx) st in
-    let task = task_told x r is.rules at.mode (mode_of (told r).sheet.modes c.mode_of-job.result) g.task (c.mode_of-job.ensures.mode x.symbols b g.state is.rules.rules st) at.task in
-    let body = body_by x.symbols (predicates x) (sheet x).rules x.bodies g.task (ancestor x.rules c.args.ancestor) l in
-    hit_some x p is c.args.out.now c.put_template.new.out g c.args.ancestor l (kind_of p.node) (below_of x p)
+    let body = body_by x.symbols (predicates x) (sheet x).rules x.bodies g.task (ancestor x.rules q) l in
+    hit_some x p is c.args.out.now c.put_template.new.out g q l (kind_of p.node) (below_of x p)
     (sym (hit_told x r is.rules b g.state l) ∙ (sym same ∙ c.if-not-sel_hits.false))
-    (c.put_template.ensures.pairs x body is called
-    (meant_on (sheet x).named l.kind (kind_of p.node) c.template_for-template.result body c.requires.node (c.template_for-template.ensures.meant x g.task is.rules lx (sheet_modes x r is.rules c.mode_of-job.result g.task task))))
+    (c.put_template.ensures.pairs x body is called (meant_on (sheet x).named l.kind (kind_of p.node) c.args.template body c.requires.node meant))

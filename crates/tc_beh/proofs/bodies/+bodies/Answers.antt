@@ -1,7 +1,8 @@
 use Rattle.std.proofs.Common.{◌≡◌, ◌+◌, ◌<◌, List, drop, get_or, true, false, length, subst, sym, ap, ◌∙◌, refl, rules, arith}
+use Rattle.std.proofs.lemmas.Bool.{true≢false}
 use Rattle.std.proofs.lemmas.Grind.{common_steps}
 use Rattle.std.proofs.lemmas.List.{drop_all, get_or_default}
-use Rattle.tc_mat.specs.Matrix.{Matrix}
+use Rattle.tc_mat.specs.Matrix.{Matrix, IsIdentity}
 use Rattle.tc_model.specs.Sheets as s
 use Rattle.tc_model.specs.Symbols.{Mention, symbol_of, symbol_count, fresh_name}
 use Rattle.tc_model.specs.States.{output}
@@ -38,6 +39,7 @@ put_body-loop-instruction-preserved t c =
     let count = c.put_instruction.auto.spare in
     record {
       size = c.put_instruction.ensures.size ∙ c.loop-instruction.invariant.size;
+      begun = λ e. absurd (true≢false (sym e));
       part = (part_first (told p.rules.now).sheet i rest (subst (IsPart (told p.rules.now).sheet) (left_instruction is k i c.loop-instruction-test.true c.instruction-item.is) c.loop-instruction.invariant.part)).1;
       spare = record {
         sizes = λ n d low. c.put_instruction.ensures.spare n d low ∙ c.loop-instruction.invariant.size;
@@ -70,12 +72,23 @@ put_element-returns-clause-pairs t c = λ x ok.
     in
     let first : begun.size ≡ c.args.out.now.size = first_of (search rules, grind (arith, common_steps)) in
     let size : begun.size ≡ outputs x = first ∙ (c.requires.out ∙ ok.size) in
-    put_same c.args.out.now c.put_behind.new.out (has c.element_into.new.out) (around x a (P x p b))
+    put_same c.args.out.now c.put_led.new.out (has c.element_into.new.out) (around x a (P x p b))
     (same_on (has c.element_into.new.out) (around x a (has inside)) (around x a (P x p b)) led
     (same_on (around x a (has inside)) (around x a (product (has begun) (P x p b))) (around x a (P x p b))
     (around_same x a (has inside) (product (has begun) (P x p b)) (c.put_body.ensures.pairs x ok))
     (around_inside x a begun (P x p b) size c.put_identity.ensures.pairs)))
-    c.put_behind.ensures.pairs
+    c.put_led.ensures.pairs
+
+pub put_element-put_around-requires-clause-set : goal.put_element-put_around-requires-clause-set
+put_element-put_around-requires-clause-set t c = c.in-Some.ensures.size ∙ sym c.requires.out
+
+pub put_element-returns-in-Some-clause-pairs : goal.put_element-returns-in-Some-clause-pairs
+put_element-returns-in-Some-clause-pairs t c = λ x ok.
+    let p = c.args.place.now in
+    let a = c.args.sym.0 in
+    let b = see.body c.args.inner.now in
+    let set = c.in-Some.set.now in
+    put_same c.args.out.now c.put_around.new.out (around x a (has set)) (around x a (P x p b)) (around_same x a (has set) (P x p b) (c.in-Some.ensures.pairs x ok)) (c.put_around.ensures.pairs x ok)
 
 pub put_instruction-put_element-requires : goal.put_instruction-put_element-requires
 put_instruction-put_element-requires t c =
@@ -85,7 +98,7 @@ put_instruction-put_element-requires t c =
     let deep = subst (λ b. AreSpare c.args.out.now.size (depth_in b + 2) c.args.spare.now) e c.requires.spare in
     let all = deep.enough in (
       search (rules, the_lemmas),
-      (c.requires.place, (c.sym_of-sym.ensures.below, (part.0, (c.requires.out, (record { sizes = deep.sizes; enough = inner_depth (depth_in (see.body c.in-Elem.inner.now)) (length c.args.spare.now) (omega (arith, all)) c.requires.few }, c.requires.few))))),
+      (c.requires.place, (c.sym_of-sym.ensures.below, (part.0, (c.requires.out, (record { sizes = deep.sizes; enough = inner_depth (depth_in (see.body c.in-Elem.inner.now)) (length c.args.spare.now) (omega (arith, all)) c.requires.few }, (c.requires.few, c.requires.begun)))))),
     )
 
 pub put_instruction-put_copy-requires : goal.put_instruction-put_copy-requires
@@ -95,7 +108,7 @@ put_instruction-put_copy-requires t c =
     let deep = subst (λ b. AreSpare c.args.out.now.size (depth_in b + 2) c.args.spare.now) e c.requires.spare in
     let all = deep.enough in (
       search (rules, the_lemmas),
-      (c.requires.place, (part.0, (c.requires.out, (record { sizes = deep.sizes; enough = inner_depth (depth_in (see.body c.in-Copy.inner.now)) (length c.args.spare.now) (omega (arith, all)) c.requires.few }, c.requires.few)))),
+      (c.requires.place, (part.0, (c.requires.out, (record { sizes = deep.sizes; enough = inner_depth (depth_in (see.body c.in-Copy.inner.now)) (length c.args.spare.now) (omega (arith, all)) c.requires.few }, (c.requires.few, c.requires.begun))))),
     )
 
 pub put_instruction-put_selected-requires-clause-path : goal.put_instruction-put_selected-requires-clause-path
@@ -153,7 +166,7 @@ put_instruction-put_first-requires t c =
     let deep = subst (λ b. AreSpare c.args.out.now.size (depth_in b + 2) c.args.spare.now) e c.requires.spare in
     let all = deep.enough in (
       search (rules, the_lemmas),
-      (c.requires.place, ((branches_part (told c.args.place.now.rules.now).sheet bs last part.0).0, (c.requires.out, (record { sizes = deep.sizes; enough = omega (arith, all, branches_depth bs last) }, c.requires.few)))),
+      (c.requires.place, ((branches_part (told c.args.place.now.rules.now).sheet bs last part.0).0, (c.requires.out, (record { sizes = deep.sizes; enough = omega (arith, all, branches_depth bs last) }, (c.requires.few, c.requires.begun))))),
     )
 
 pub put_instruction-put_body-requires : goal.put_instruction-put_body-requires
@@ -166,7 +179,7 @@ put_instruction-put_body-requires t c =
     let all = deep.enough in
     let count = c.put_first.auto.spare in (
       search (rules, the_lemmas),
-      (c.requires.place, ((branches_part (told c.args.place.now.rules.now).sheet bs last part.0).1, (c.put_first.ensures.size ∙ c.requires.out, (record { sizes = λ n d low. c.put_first.ensures.spare n d low ∙ sym c.put_first.ensures.size; enough = omega (arith, all, branches_depth bs last, count) }, omega (arith, c.requires.few, count))))),
+      (c.requires.place, ((branches_part (told c.args.place.now.rules.now).sheet bs last part.0).1, (c.put_first.ensures.size ∙ c.requires.out, (record { sizes = λ n d low. c.put_first.ensures.spare n d low ∙ sym c.put_first.ensures.size; enough = omega (arith, all, branches_depth bs last, count) }, (omega (arith, c.requires.few, count), λ e. absurd (true≢false (sym e))))))),
     )
 
 pub put_first-put_body-requires : goal.put_first-put_body-requires
@@ -182,7 +195,7 @@ put_first-put_body-requires t c =
     let enough = c.requires.spare.enough in
     let room : AreSpare c.args.out.now.size (depth_in (see.body b.body.now) + 2) c.args.spare.now = record { sizes = c.requires.spare.sizes; enough = omega (arith, enough, inv.depth, deep) } in (
       search (rules, the_lemmas),
-      (c.requires.place, (part.1, (ap (λ (m : Matrix). m.size) inv.out ∙ c.requires.out, (subst (λ (m : Matrix). AreSpare m.size (depth_in (see.body b.body.now) + 2) c.loop-branch.spare) (sym inv.out) (subst (λ (ms : List Matrix). AreSpare c.args.out.now.size (depth_in (see.body b.body.now) + 2) ms) (sym inv.spare) room), omega (arith, c.requires.few, ap length inv.spare))))),
+      (c.requires.place, (part.1, (ap (λ (m : Matrix). m.size) inv.out ∙ c.requires.out, (subst (λ (m : Matrix). AreSpare m.size (depth_in (see.body b.body.now) + 2) c.loop-branch.spare) (sym inv.out) (subst (λ (ms : List Matrix). AreSpare c.args.out.now.size (depth_in (see.body b.body.now) + 2) ms) (sym inv.spare) room), (omega (arith, c.requires.few, ap length inv.spare), λ e. subst IsIdentity (sym inv.out) (c.requires.begun e)))))),
     )
 
 pub put_first-returns-then-holds-clause-pairs : goal.put_first-returns-then-holds-clause-pairs

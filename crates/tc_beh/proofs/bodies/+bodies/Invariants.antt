@@ -1,4 +1,5 @@
-use Rattle.std.proofs.Common.{◌≡◌, ◌≤◌, ◌+◌, drop}
+use Rattle.std.proofs.Common.{◌≡◌, ◌≤◌, ◌+◌, drop, true}
+use Rattle.tc_mat.specs.Matrix.{IsIdentity}
 use Rattle.tc_model.specs.Views as see
 use Rattle.tc_model.specs.Sheets as s
 use Rattle.tc_rules.specs.Kept.{told}
@@ -13,6 +14,7 @@ use Rattle.tc_beh.proofs.bodies.+bodies.Given as goal
 abbrev pub invariant-put_body-loop-instruction : goal.invariant-put_body-loop-instruction
 invariant-put_body-loop-instruction l = record {
   size : l.out.size ≡ l.fn.out.size;
+  begun : l.is_first ≡ true → IsIdentity l.out;
   part : IsPart (told l.place.rules.now).sheet (see.body (drop l.instruction-index l.body));
   spare : AreSpare l.fn.out.size (depth_in (see.body (drop l.instruction-index l.body)) + 2) l.spare;
   pairs : (x : Triple) → IsPlaceIn x l.place → HaveSamePairs

@@ -69,6 +69,7 @@ returns-clause-work c = λ x is.
         enough = omega (arith, enough, second, all);
       };
       few = omega (arith, few, second, all);
+      known = is.work.known;
     }
 
 pub returns-clause-pairs : goal.returns-clause-pairs

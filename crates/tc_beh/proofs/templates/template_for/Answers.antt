@@ -2,7 +2,7 @@ use Rattle.std.proofs.Common.{◌<◌, ◌+◌, subst, sym}
 use Rattle.tc_model.specs.Sheets.{Sheet}
 use Rattle.tc_model.specs.RuleStates.{IsRuleOf, fits_below}
 use Rattle.tc_model.specs.Numberings.{predicates_of}
-use Rattle.tc_rules.specs.Asked.{letter, found}
+use Rattle.tc_rules.specs.Asked.{found}
 use Rattle.tc_rules.specs.Jobs.{IsJob}
 use Rattle.tc_rules.specs.Kept.{told}
 use Rattle.tc_rules.specs.Views.{mode_of}
@@ -10,6 +10,8 @@ use Rattle.tc_rules.specs.RulesView.{RulesView, ancestor}
 use Rattle.tc_rules.specs.States.{built_in_at}
 use Rattle.tc_rules.specs.Tasks.{IsTaskOf}
 use Rattle.tc_rows.specs.Triples.{sheet}
+use Rattle.tc_beh.specs.Above.{letter_of}
+use Rattle.tc_beh.specs.Known.{AreKnown}
 use Rattle.tc_beh.proofs.Deepest.{each_body_low}
 use Rattle.tc_beh.proofs.Meant.{each_part_at, each_meant, mode_meant, sheet_told, rule_low}
 use Rattle.tc_beh.proofs.Marking.{predicates_told}
@@ -19,38 +21,47 @@ use Rattle.tc_beh.proofs.templates.template_for.Goals as goal
 pub returns-in-Each-clause-part : goal.returns-in-Each-clause-part
 returns-in-Each-clause-part c =
     let r = c.args.rules.now in
-    let (x, is, lx) = c.requires.letter in
+    let (x, is, lx, known) = c.requires.letter in
     let low : c.in-Each.number < (told r).sheet.eaches = subst (IsJob (told r).sheet) c.in-Each.is c.requires.job in
     each_part_at r x is c.in-Each.number c.each_body.result low c.each_body.ensures
 
 pub returns-in-Each-clause-meant : goal.returns-in-Each-clause-meant
-returns-in-Each-clause-meant c = λ x k is lx u.
+returns-in-Each-clause-meant c = λ x k is lx known u.
     let r = c.args.rules.now in
     let task : IsTaskOf (sheet x) ((sheet x).modes + c.in-Each.number) k = subst (λ j. IsTaskOf (sheet x) (mode_of (sheet x).modes j) k) c.in-Each.is u in
-    each_meant r x is c.in-Each.number c.each_body.result k (ancestor x.rules c.args.above) (letter c.args.kind c.args.marks) c.each_body.ensures task
+    each_meant r x is c.in-Each.number c.each_body.result k (ancestor x.rules c.args.ancestor) (letter_of c.args.letter) c.each_body.ensures task
 
 pub template_of-requires-clause-found : goal.template_of-requires-clause-found
 template_of-requires-clause-found c =
     let r = c.args.rules.now in
-    let (x, is, lx) = c.requires.letter in
-    let l = letter c.args.kind c.args.marks in
+    let (x, is, lx, known) = c.requires.letter in
+    let l = letter_of c.args.letter in
     let is_letter = subst (λ ps. IsLetter x.symbols ps l) (sym (predicates_told x r is)) lx in
-    rule_low (told r).sheet.rules c.in-Mode.mode (fits_below x.symbols (predicates_of (told r).sheet) (ancestor (told r) c.args.above) l) (found c.rule_for-found.result) (c.rule_for-found.ensures x.symbols is.rules is_letter)
+    let here = subst (λ (v : RulesView). AreKnown x.symbols v c.args.known.now) (sym is.told) known in
+    rule_low (told r).sheet.rules c.in-Mode.mode (fits_below x.symbols (predicates_of (told r).sheet) (ancestor (told r) c.args.ancestor) l) (found c.rule_for-found.result) (c.rule_for-found.ensures.rule x.symbols is.rules is_letter here)
 
 pub returns-in-Mode-clause-meant : goal.returns-in-Mode-clause-meant
-returns-in-Mode-clause-meant c = λ x k is lx u.
+returns-in-Mode-clause-meant c = λ x k is lx known u.
     let r = c.args.rules.now in
-    let l = letter c.args.kind c.args.marks in
+    let l = letter_of c.args.letter in
     let low : c.in-Mode.mode < (sheet x).modes = subst (λ (s : Sheet). c.in-Mode.mode < s.modes) (sheet_told r x is) (subst (IsJob (told r).sheet) c.in-Mode.is c.requires.job) in
     let task : IsTaskOf (sheet x) c.in-Mode.mode k = subst (λ j. IsTaskOf (sheet x) (mode_of (sheet x).modes j) k) c.in-Mode.is u in
     let is_letter = subst (λ ps. IsLetter x.symbols ps l) (sym (predicates_told x r is)) lx in
-    let ruled = subst (λ (t : RulesView). IsRuleOf t.sheet.rules c.in-Mode.mode (fits_below x.symbols (predicates_of t.sheet) (ancestor t c.args.above) l) (found c.rule_for-found.result)) is.told (c.rule_for-found.ensures x.symbols is.rules is_letter) in
-    mode_meant r x is c.in-Mode.mode (found c.rule_for-found.result) c.template_of.result (λ m. built_in_at m l.kind) k (ancestor x.rules c.args.above) l low task ruled
+    let here = subst (λ (v : RulesView). AreKnown x.symbols v c.args.known.now) (sym is.told) known in
+    let ruled = subst (λ (t : RulesView). IsRuleOf t.sheet.rules c.in-Mode.mode (fits_below x.symbols (predicates_of t.sheet) (ancestor t c.args.ancestor) l) (found c.rule_for-found.result)) is.told (c.rule_for-found.ensures.rule x.symbols is.rules is_letter here) in
+    mode_meant r x is c.in-Mode.mode (found c.rule_for-found.result) c.template_of.result (λ m. built_in_at m l.kind) k (ancestor x.rules c.args.ancestor) l low task ruled
     (λ o e. c.template_of.ensures.meant x (λ m. built_in_at m l.kind) o is e)
 
 pub returns-in-Each-clause-depth : goal.returns-in-Each-clause-depth
 returns-in-Each-clause-depth c =
     let r = c.args.rules.now in
-    let (x, is, lx) = c.requires.letter in
+    let (x, is, lx, known) = c.requires.letter in
     let low : c.in-Each.number < (told r).sheet.eaches = subst (IsJob (told r).sheet) c.in-Each.is c.requires.job in
     each_body_low r x is c.in-Each.number c.each_body.result low c.each_body.ensures
+
+pub returns-in-Mode-clause-known : goal.returns-in-Mode-clause-known
+returns-in-Mode-clause-known c = λ x is lx known.
+    let r = c.args.rules.now in
+    let is_letter = subst (λ ps. IsLetter x.symbols ps (letter_of c.args.letter)) (sym (predicates_told x r is)) lx in
+    let here = subst (λ (v : RulesView). AreKnown x.symbols v c.args.known.now) (sym is.told) known in
+    subst (λ (v : RulesView). AreKnown x.symbols v c.rule_for-found.new.self) is.told (c.rule_for-found.ensures.known x.symbols is.rules is_letter here)
