@@ -90,11 +90,11 @@ not_true : (x : Bool) → not x ≡ true → x ≡ false
 not_true true e = sym e
 not_true false e = refl
 
-from_false : (x : Bool) → x ≡ false → not x ≡ true
+pub from_false : (x : Bool) → x ≡ false → not x ≡ true
 from_false true e = sym e
 from_false false e = refl
 
-all_append : (p : WrittenAttribute → Bool) (xs : List WrittenAttribute) (x : WrittenAttribute) → list_all p xs ≡ true → p x ≡ true → list_all p (xs ++ x ∷ []) ≡ true
+pub all_append : (p : WrittenAttribute → Bool) (xs : List WrittenAttribute) (x : WrittenAttribute) → list_all p xs ≡ true → p x ≡ true → list_all p (xs ++ x ∷ []) ≡ true
 all_append p [] x h k = and_from (p x) true k refl
 all_append p (y ∷ xs) x h k =
     let (a, b) = and_parts (p y) (list_all p xs) h in and_from (p y) (list_all p (xs ++ x ∷ [])) a (all_append p xs x b k)
@@ -144,7 +144,7 @@ no_value o total text start behind equals name e q f h a after at =
     let starts = equals_unique (subst (λ w. EqualsAt w at.start) names.1 at.equals) f in
     h a.value after (subst (λ w. QuotedAt o w a.value after) starts at.quoted)
 
-is_name : (n m : QualifiedName) → true ≡ same_written n m → n ≡ m
+pub is_name : (n m : QualifiedName) → true ≡ same_written n m → n ≡ m
 is_name n m h =
     let (p, l) = and_parts (bytes_eq n.prefix m.prefix) (bytes_eq n.local m.local) (sym h) in
     let full : List ℕ → List ℕ → QualifiedName = λ a b. record { prefix = a; local = b } in
@@ -261,7 +261,7 @@ equals_within {bs} a = omega (arith, ap length a.sign, white_within bs, ap lengt
 pub attribute_within : {o : Bool} {total : ℕ} {bs r : List ℕ} {a : WrittenAttribute} → AttributeAt o total bs a r → length r < length bs
 attribute_within {bs = bs} at = omega (arith, white_within bs, qname_within at.names, equals_within at.equals, ap length at.quoted.opens, value_within at.quoted.closes)
 
-attributes_within : {o : Bool} {total : ℕ} {bs r : List ℕ} {l : List WrittenAttribute} → AttributesAt o total bs l r → length r ≤ length bs
+pub attributes_within : {o : Bool} {total : ℕ} {bs r : List ℕ} {l : List WrittenAttribute} → AttributesAt o total bs l r → length r ≤ length bs
 attributes_within {bs = bs} (no_more e) = white_within bs
 attributes_within {bs = bs} (attribute w b e q l) = omega (arith, white_within bs, qname_within b, equals_within e, ap length q.opens, value_within q.closes, attributes_within l)
 

@@ -4,6 +4,7 @@ pub mod ReferenceLaws
 pub mod PastLaws
 pub mod ValueLaws
 pub mod ScopeLaws
+pub mod BindingLaws
 pub mod TagLaws
 pub mod TwiceLaws
 pub mod GatherLaws
@@ -15,5 +16,7 @@ pub mod DocumentLaws
 pub mod FaultLaws
 pub mod MalformedLaws
 pub mod StripLaws
+pub mod PlainTagLaws
+pub mod OpenLaws
 pub mod TakingLaws
 pub mod BuildingLaws

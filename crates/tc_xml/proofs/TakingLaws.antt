@@ -1,5 +1,5 @@
 -- What is handed on of a text, step by step.
-use Rattle.std.proofs.Common.{◌≡◌, ◌≢◌, ℕ, suc, ◌<◌, ◌≤◌, Bool, true, false, cond, List, [], ◌∷◌, ◌++◌, refl, ap, ◌∙◌, sym, subst, length, arith, codes, append_assoc, append-nil, length-append}
+use Rattle.std.proofs.Common.{◌≡◌, ◌≢◌, ℕ, suc, ◌<◌, Bool, true, false, cond, List, [], ◌∷◌, ◌++◌, refl, ap, ◌∙◌, sym, subst, length, arith, codes, append_assoc, append-nil, length-append}
 use Rattle.tc_model.specs.Events.{Event, characters, start, end, Takes, nothing, event, events}
 use Rattle.tc_model.specs.Names.{ExpandedName}
 use Rattle.tc_model.specs.RawTrees.{RawTrees, none, text, element, Attribute, Bound}
@@ -15,18 +15,21 @@ use Rattle.tc_model.specs.XmlTextContent as c
 use Rattle.tc_model.specs.XmlTextScopes.{first_scope}
 use Rattle.tc_model.specs.Names.{IsChars}
 use Rattle.tc_model.proofs.NormalForm.{dropped_empty, joined_twice}
-use Rattle.std.specs.Prelude.{zero, map, reverse, Option, None, Some, MatchOption, IfSome}
-use Rattle.std.specs.List.{IsDistinct}
-use Rattle.std.proofs.lemmas.List.{reverse-append, length-map, length-reverse, nil_from_length}
-use Rattle.tc_model.specs.XmlTextBytes.{after_white}
-use Rattle.tc_model.specs.XmlTextNames.{QNameAt}
-use Rattle.tc_model.specs.XmlTextScopes.{ElementName, no_more}
-use Rattle.tc_model.specs.XmlTextContent.{EndsTag}
-use Rattle.tc_xml.specs.Taking.{started, all_started}
+use Rattle.std.specs.Prelude.{zero, reverse, Option, None, Some, MatchOption, IfSome}
+use Rattle.std.proofs.lemmas.List.{nil_from_length}
 use Rattle.tc_xml.specs.declared.taking.Open.{Open}
 use Rattle.tc_xml.proofs.ContentLaws.{qname_within, white_within}
-use Rattle.tc_xml.specs.Reading.{EndTagAt}
-use Rattle.tc_xml.specs.Taking.{waiting, Took, Started, Inside, Standing, before_root, within, Finished, After}
+use Rattle.tc_xml.specs.Reading.{EndTagAt, SmallItemAt}
+use Rattle.tc_xml.specs.Bindings.{Tells, TakesBack, now_bound, hidden}
+use Rattle.tc_xml.specs.PlainTags.{TagRead}
+use Rattle.tc_xml.specs.declared.bindings.Bindings.{Bindings}
+use Rattle.tc_xml.specs.declared.plain_tags.Tag.{Tag}
+use Rattle.tc_xml.specs.declared.taking.Levels.{Levels}
+use Rattle.tc_xml.proofs.BindingLaws.{tells_first}
+use Rattle.tc_xml.proofs.OpenLaws.{open_one, open_less, open_same, none_open, some_open, last_open, from_last_open}
+use Rattle.tc_model.specs.Views.{name}
+use Rattle.tc_scan.specs.Views.{written_name}
+use Rattle.tc_xml.specs.Taking.{waiting, Took, Started, Inside, Standing, before_root, within, Finished, After, AreOpen, IsWithin, StandsAt, StandsAfter}
 
 pub takes_both : {S : Type 0} {one : S → Event → S → Type 0} {a b d : S} {es fs : List Event} → Takes one a es b → Takes one b fs d → Takes one a (es ++ fs) d
 takes_both nothing k = k
@@ -87,11 +90,6 @@ inside_more {left = left} {p = p} i a k = record {
       ∙ (ap (λ w. i.handed ++ w) (append_assoc k.handed (waiting left j) (end ∷ waiting [] h))
       ∙ sym (append_assoc i.handed k.handed (waiting left j ++ end ∷ waiting [] h))));
 }
-
-pub stand_on : {S : Type 0} {one : S → Event → S → Type 0} {total deepest depth : ℕ} {root rest after run left : List ℕ} {begun old new : S} {e : Started} {es : List Started} {scope : List Bound} {p : Piece}
-    → Standing one total deepest root begun (e ∷ es) scope depth rest old run → ItemAt false total scope depth rest p after → Took one old run p new left
-    → Standing one total deepest root begun (e ∷ es) scope depth after new left
-stand_on (within s i) a k = within s (inside_more i a k)
 
 -- an element was taken whole
 pub past_element : {S : Type 0} {one : S → Event → S → Type 0} {total deepest depth : ℕ} {root before after waits : List ℕ} {begun mid new : S} {es : List Started} {scope : List Bound} {p : Piece}
@@ -193,14 +191,6 @@ white_run one old new run e same = subst (λ s. Takes one old (waiting run none)
 pub other_run : {S : Type 0} (one : S → Event → S → Type 0) (old new : S) (run : List ℕ) → is_white_space_only run ≡ false → one old (characters run) new → Takes one old (waiting run none) new
 other_run one old new run e o = subst (λ es. Takes one old es new) (sym (ap (λ b. events (cond b t.none (t.text run t.none))) e)) (takes_one o)
 
--- the elements that have started
-
-pub one_started : (old new : List Open) (o : Open) → old ≡ new ++ o ∷ [] → all_started old ≡ started o ∷ all_started new
-one_started old new o e = ap all_started e ∙ ap (map started) (reverse-append new (o ∷ []))
-
-some_started : (opens : List Open) → opens ≢ [] → all_started opens ≢ []
-some_started opens some e = some (nil_from_length opens (omega (arith, ap length e, length-map (reverse opens) started, length-reverse opens)))
-
 -- a step within the innermost element
 
 item_on : {S : Type 0} {one : S → Event → S → Type 0} {total deepest depth : ℕ} {root rest after run left : List ℕ} {begun old new : S} {es : List Started} {scope : List Bound} {p : Piece} → es ≢ []
@@ -209,57 +199,117 @@ item_on : {S : Type 0} {one : S → Event → S → Type 0} {total deepest depth
 item_on filled before_root a k = absurd (filled refl)
 item_on filled (within s i) a k = within s (inside_more i a k)
 
-pub step_within : {S : Type 0} (one : S → Event → S → Type 0) (total deepest depth : ℕ) (root rest after run left : List ℕ) (begun old new : S) (opens : List Open) (scope : List Bound) (p : Piece)
-    → opens ≢ [] → ItemAt false total scope depth rest p after → Took one old run p new left
-    → Standing one total deepest root begun (all_started opens) scope depth rest old run → After one total deepest root begun (all_started opens) scope depth after new left
-step_within one total deepest depth root rest after run left begun old new opens scope p some a k s = item_on (some_started opens some) s a k
+-- with what is kept of elements that have started
 
-pub standing_after : {S : Type 0} (one : S → Event → S → Type 0) (total deepest depth : ℕ) (root rest run : List ℕ) (begun new : S) (opens opens' : List Open) (e : Started) (scope scope' : List Bound)
-    → all_started opens' ≡ e ∷ all_started opens → scope' ≡ scope → Standing one total deepest root begun (e ∷ all_started opens) scope depth rest new run
-    → After one total deepest root begun (all_started opens') scope' depth rest new run
-standing_after one total deepest depth root rest run begun new opens opens' e scope scope' f g s =
-    subst (λ es. After one total deepest root begun es scope' depth rest new run) (sym f) (subst (λ z. Standing one total deepest root begun (e ∷ all_started opens) z depth rest new run) (sym g) s)
+pub step_within : {S : Type 0} {one : S → Event → S → Type 0} {total deepest : ℕ} {root rest after run left : List ℕ} {begun old new : S} {levels : Levels} {p : Piece}
+    → levels.open.items ≢ [] → SmallItemAt total rest p after → Took one old run p new left
+    → StandsAt one total deepest root begun levels rest old run → StandsAfter one total deepest root begun levels after new left
+step_within {levels = levels} some a k s = record {
+  started = s.started;
+  scope = s.scope;
+  shows = s.shows;
+  stands = item_on (some_open (hidden levels.bindings) (now_bound levels.bindings) levels.open.items s.started some s.shows.opens) s.stands (a s.scope levels.depth) k;
+}
 
-pub go_out_of : {S : Type 0} (one : S → Event → S → Type 0) (total deepest depth : ℕ) (root at after run left : List ℕ) (begun old flushed new : S) (opens opens' : List Open) (o : Open) (scope : List Bound)
-    → opens ≡ opens' ++ o ∷ [] → EndTagAt (started o).written at after → Takes one old (waiting run none) flushed → one flushed end new → left ≡ []
-    → Standing one total deepest root begun (all_started opens) scope depth at old run
-    → After one total deepest root begun (all_started opens') (started o).outer (started o).depth after new left
-go_out_of one total deepest depth root at after run left begun old flushed new opens opens' o scope e a f k empty s =
-    go_out one total deepest depth root at after run left begun old flushed new (started o) (all_started opens') scope
-    (subst (λ es. Standing one total deepest root begun es scope depth at old run) (one_started opens opens' o e) s) a f k empty
+-- an element without content was read
+pub passes : {S : Type 0} (one : S → Event → S → Type 0) (total deepest : ℕ) (root text after waits run : List ℕ) (begun mid flushed opened new : S) (levels : Levels) (tag : Tag) (between last : Bindings)
+    → StandsAt one total deepest root begun levels text mid waits → levels.depth ≢ 0 → TagRead total levels.bindings text tag between → tag.rest.now ≡ codes "/>" ++ after
+    → TakesBack between (length (hidden levels.bindings)) last
+    → Takes one mid (waiting waits none) flushed → one flushed (start (name tag.name)) opened → one opened end new → run ≡ []
+    → (es : List Started) × (scope : List Bound) × AreOpen (hidden last) (now_bound last) (reverse levels.open.items) es × Tells (now_bound last) scope
+    × After one total deepest root begun es scope levels.depth after new run
+passes one total deepest root before after waits run begun mid flushed opened new levels tag between last s some r e k f g h empty =
+    let (inner, x, told, a) = r.reads s.scope s.shows.tells in
+    let (opens, tells) = open_same {old = levels.bindings} {mid = between} {new = last} (reverse levels.open.items) s.started s.scope r.declares k s.shows.opens s.shows.tells in (
+      s.started,
+      s.scope,
+      opens,
+      tells,
+      pass one total deepest root before after waits run begun mid flushed opened new s.started s.scope inner (written_name tag.written) (name tag.name) x levels.depth s.stands some
+          (subst (λ z. TagAt false total s.scope before (written_name tag.written) inner (name tag.name) x z) e a) f g h empty,
+    )
 
-pub begin_at : {S : Type 0} (one : S → Event → S → Type 0) (total deepest : ℕ) (root run : List ℕ) (begun : S) (opens : List Open) (scope : List Bound) → opens ≡ [] → scope ≡ first_scope → run ≡ []
-    → Standing one total deepest root begun (all_started opens) scope deepest root begun run
-begin_at one total deepest root run begun opens scope e f g =
-    subst (λ os. Standing one total deepest root begun (all_started os) scope deepest root begun run) (sym e)
-    (subst (λ z. Standing one total deepest root begun [] z deepest root begun run) (sym f) (subst (λ r. Standing one total deepest root begun [] first_scope deepest root begun r) (sym g) before_root))
+-- an element has started, whose content comes
+pub goes_into : {S : Type 0} (one : S → Event → S → Type 0) (total deepest count : ℕ) (root text inside waits run : List ℕ) (begun mid flushed opened : S) (levels between new : Levels) (tag : Tag)
+    → StandsAt one total deepest root begun levels text mid waits → TagRead total levels.bindings text tag between.bindings
+    → between.open.items ≡ levels.open.items → between.depth ≡ levels.depth → count ≡ length (hidden levels.bindings)
+    → IsWithin between (written_name tag.written) count new → tag.rest.now ≡ 0x3E ∷ inside
+    → Takes one mid (waiting waits none) flushed → one flushed (start (name tag.name)) opened → run ≡ []
+    → StandsAfter one total deepest root begun new inside opened run
+goes_into one total deepest count root before inside waits run begun mid flushed opened levels between new tag s r same_opens same_depth counts k e f g empty =
+    let (inner, x, told, a) = r.reads s.scope s.shows.tells in
+    let w = written_name tag.written in
+    let o : Started = record { written = w; outer = s.scope; depth = levels.depth } in
+    let opens : AreOpen (hidden between.bindings) (now_bound between.bindings) (k.last ∷ reverse levels.open.items) (o ∷ s.started) =
+    open_one levels.bindings between.bindings k.last o (reverse levels.open.items) s.started r.declares (k.counts ∙ counts) k.named (k.deep ∙ same_depth) s.shows.tells s.shows.opens in
+    record {
+      started = o ∷ s.started;
+      scope = inner;
+      shows = record {
+        opens =
+            subst (λ z. AreOpen (hidden z) (now_bound z) (reverse new.open.items) (o ∷ s.started)) (sym k.bindings)
+            (from_last_open (hidden between.bindings) (now_bound between.bindings) new.open.items levels.open.items k.last (o ∷ s.started) (k.opens ∙ ap (λ z. z ++ k.last ∷ []) same_opens) opens);
+        tells = subst (λ z. Tells (now_bound z) inner) (sym k.bindings) told;
+      };
+      stands =
+          go_into one total deepest new.depth root before inside waits run begun mid flushed opened s.started s.scope inner w (name tag.name) x levels.depth s.stands (sym same_depth ∙ k.deeper)
+          (subst (λ z. TagAt false total s.scope before w inner (name tag.name) x z) e a) f g empty;
+    }
 
-pub after_some : {S : Type 0} (one : S → Event → S → Type 0) (total deepest depth : ℕ) (root rest run : List ℕ) (begun new : S) (opens : List Open) (scope : List Bound) → opens ≢ []
-    → After one total deepest root begun (all_started opens) scope depth rest new run → Standing one total deepest root begun (all_started opens) scope depth rest new run
-after_some one total deepest depth root rest run begun new opens scope some a = by (all_started opens) (some_started opens some) a
+-- the innermost element has ended
+pub goes_out : {S : Type 0} (one : S → Event → S → Type 0) (total deepest : ℕ) (root at after run left : List ℕ) (begun old flushed new : S) (levels : Levels) (front : List Open) (o : Open) (last : Bindings)
+    → StandsAt one total deepest root begun levels at old run → levels.open.items ≡ front ++ o ∷ [] → EndTagAt (written_name o.written) at after → TakesBack levels.bindings o.count last
+    → Takes one old (waiting run none) flushed → one flushed end new → left ≡ []
+    → (es : List Started) × (scope : List Bound) × AreOpen (hidden last) (now_bound last) (reverse front) es × Tells (now_bound last) scope × After one total deepest root begun es scope o.depth after new left
+goes_out one total deepest root at after run left begun old flushed new levels front o last s e a k f g empty = by s.started (last_open (hidden levels.bindings) (now_bound levels.bindings) levels.open.items front o s.started e s.shows.opens) s.stands
   where
-    by : (es : List Started) → es ≢ [] → After one total deepest root begun es scope depth rest new run → Standing one total deepest root begun es scope depth rest new run
+    by : (es : List Started) → AreOpen (hidden levels.bindings) (now_bound levels.bindings) (o ∷ reverse front) es → Standing one total deepest root begun es s.scope levels.depth at old run
+        → (es : List Started) × (scope : List Bound) × AreOpen (hidden last) (now_bound last) (reverse front) es × Tells (now_bound last) scope × After one total deepest root begun es scope o.depth after new left
+    by [] h st = absurd h
+    by (e ∷ es) h st =
+        let (opens, tells) = open_less levels.bindings last o e (reverse front) es k h in (
+          es,
+          e.outer,
+          opens,
+          tells,
+          subst (λ d. After one total deepest root begun es e.outer d after new left) (sym h.0.deep)
+              (go_out one total deepest levels.depth root at after run left begun old flushed new e es s.scope st (subst (λ w. EndTagAt w at after) h.0.named a) f g empty),
+        )
+
+-- before the root element
+pub begin_at : {S : Type 0} (one : S → Event → S → Type 0) (total deepest : ℕ) (root run : List ℕ) (begun : S) (levels : Levels) → levels.open.items ≡ [] → now_bound levels.bindings ≡ first_scope → levels.depth ≡ deepest
+    → run ≡ [] → StandsAt one total deepest root begun levels root begun run
+begin_at one total deepest root run begun levels e f g h = record {
+  started = [];
+  scope = first_scope;
+  shows = record {
+    opens = subst (λ os. AreOpen (hidden levels.bindings) (now_bound levels.bindings) (reverse os) []) (sym e) tt;
+    tells = tells_first (now_bound levels.bindings) f;
+  };
+  stands = subst (λ d. Standing one total deepest root begun [] first_scope d root begun run) (sym g) (subst (λ r. Standing one total deepest root begun [] first_scope deepest root begun r) (sym h) before_root);
+}
+
+-- where elements have started, reading stands within them
+pub still_stands : {S : Type 0} {one : S → Event → S → Type 0} {total deepest : ℕ} {root rest run : List ℕ} {begun new : S} {levels : Levels} → StandsAfter one total deepest root begun levels rest new run
+    → levels.open.items ≢ [] → StandsAt one total deepest root begun levels rest new run
+still_stands {one = one} {total = total} {deepest = deepest} {root = root} {rest = rest} {run = run} {begun = begun} {new = new} {levels = levels} s some = record {
+  started = s.started;
+  scope = s.scope;
+  shows = s.shows;
+  stands = by s.started (some_open (hidden levels.bindings) (now_bound levels.bindings) levels.open.items s.started some s.shows.opens) s.stands;
+}
+  where
+    by : (es : List Started) → es ≢ [] → After one total deepest root begun es s.scope levels.depth rest new run → Standing one total deepest root begun es s.scope levels.depth rest new run
     by [] filled a = absurd (filled refl)
     by (e ∷ es) filled a = a
 
-pub after_none : {S : Type 0} (one : S → Event → S → Type 0) (total deepest depth : ℕ) (root rest run : List ℕ) (begun new : S) (opens : List Open) (scope : List Bound) → opens ≡ []
-    → After one total deepest root begun (all_started opens) scope depth rest new run → Finished one total deepest root begun rest new
-after_none one total deepest depth root rest run begun new opens scope e a = subst (λ os. After one total deepest root begun (all_started os) scope depth rest new run) e a
+-- where none has, the root element was taken whole
+pub has_finished : {S : Type 0} {one : S → Event → S → Type 0} {total deepest : ℕ} {root rest run : List ℕ} {begun new : S} {levels : Levels} → StandsAfter one total deepest root begun levels rest new run
+    → levels.open.items ≡ [] → Finished one total deepest root begun rest new
+has_finished {one = one} {total = total} {deepest = deepest} {root = root} {rest = rest} {run = run} {begun = begun} {new = new} {levels = levels} s e =
+    subst (λ es. After one total deepest root begun es s.scope levels.depth rest new run) (none_open (hidden levels.bindings) (now_bound levels.bindings) levels.open.items s.started e s.shows.opens) s.stands
 
 -- tags
-
-pub a_bare_tag : (total : ℕ) (outer : List Bound) (bs behind past rest : List ℕ) (w : QualifiedName) (n : ExpandedName) → bs ≡ 0x3C ∷ behind → QNameAt behind w past → rest ≡ after_white past → EndsTag rest
-    → ElementName outer w n → TagAt false total outer bs w outer n [] rest
-unfolding IsDistinct
-a_bare_tag total outer bs behind past rest w n e q f ends named = record {
-  rest = behind;
-  past_name = past;
-  attributes = [];
-  opens = e;
-  names = q;
-  lists = subst (λ z. c.AttributesAt false total past [] z) (sym f) (c.no_more (subst EndsTag f ends));
-  means = record { once = tt; no_space = refl; scopes = refl; names = named; expands = no_more; expanded_once = tt };
-}
 
 pub end_within : {w : QualifiedName} {text after : List ℕ} → EndTagAt w text after → length after < length text
 end_within a = omega (arith, ap length a.opens, qname_within a.names, ap length a.closes, white_within a.past_name)

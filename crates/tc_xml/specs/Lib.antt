@@ -8,3 +8,5 @@ pub mod Views
 pub mod Reading
 pub mod Taking
 pub mod Building
+pub mod Bindings
+pub mod PlainTags

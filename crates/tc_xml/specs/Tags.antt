@@ -1,9 +1,10 @@
 -- What contracts see of the attributes of a tag, and of why a tag is refused.
-use Rattle.std.specs.Prelude.{Bool, not, List, map}
+use Rattle.std.specs.Prelude.{ℕ, Bool, ◌||◌, ◌&&◌, not, List, [], map, bytes_eq, codes, if◌then◌else◌}
 use Rattle.std.specs.List.{list_all}
 use Rattle.tc_model.specs.RawTrees.{Bound}
 use Rattle.tc_model.specs.Views.{place, bound}
-use Rattle.tc_model.specs.XmlTextScopes.{WrittenAttribute, is_xml_space}
+use Rattle.tc_model.specs.XmlTextNames.{QualifiedName}
+use Rattle.tc_model.specs.XmlTextScopes.{WrittenAttribute, is_empty, is_xml_space}
 use Rattle.tc_scan.specs.Views.{written_name}
 use Rattle.tc_xml.specs.declared.faults.Stop.{Stop}
 use Rattle.tc_xml.specs.declared.faults.Stop.TheVariants.{Malformed, Unsupported, TooDeep, NoMemory}
@@ -26,3 +27,13 @@ Breaks (Malformed left) broken = broken
 Breaks (Unsupported left why) broken = ⊥
 Breaks (TooDeep left) broken = ⊥
 Breaks NoMemory broken = Unit {0}
+
+-- whether an attribute with this name is a declaration, and of which prefix
+abbrev pub is_default_name : QualifiedName → Bool
+is_default_name n = is_empty n.prefix && bytes_eq n.local (codes "xmlns")
+
+abbrev pub is_declaring : QualifiedName → Bool
+is_declaring n = is_default_name n || bytes_eq n.prefix (codes "xmlns")
+
+abbrev pub declared_prefix : QualifiedName → List ℕ
+declared_prefix n = if is_default_name n then [] else n.local

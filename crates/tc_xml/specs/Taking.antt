@@ -1,16 +1,18 @@
 -- What is handed on of the trees of a text, in normal form.
-use Rattle.std.specs.Prelude.{◌≡◌, ℕ, suc, false, List, [], ◌∷◌, ◌++◌, map, reverse}
+use Rattle.std.specs.Prelude.{◌≡◌, ◌≤◌, ℕ, suc, false, List, [], ◌∷◌, ◌++◌, map, length, take, drop, reverse}
 use Rattle.tc_model.specs.Events.{Event, end, Takes, events}
 use Rattle.tc_model.specs.Names.{ExpandedName}
 use Rattle.tc_model.specs.RawTrees.{RawTrees, none, Attribute, Bound}
 use Rattle.tc_model.specs.Stripped.{bare}
 use Rattle.tc_model.specs.Trees.{joined_to, joined, dropped}
+use Rattle.tc_model.specs.Views.{bound}
+use Rattle.tc_model.specs.declared.tree.Binding.{Binding}
 use Rattle.tc_model.specs.XmlTextBytes.{place_of}
 use Rattle.tc_model.specs.XmlTextNames.{QualifiedName}
 use Rattle.tc_model.specs.XmlTextContent.{Piece, whole, piece_before, TagAt, ContentAt, ElementAt}
 use Rattle.tc_model.specs.XmlTextScopes.{first_scope}
 use Rattle.tc_scan.specs.Views.{written_name}
-use Rattle.tc_xml.specs.Tags.{in_scope}
+use Rattle.tc_xml.specs.Bindings.{Tells, now_bound, hidden}
 use Rattle.tc_xml.specs.declared.taking.Open.{Open}
 use Rattle.tc_xml.specs.declared.taking.Levels.{Levels}
 
@@ -30,18 +32,34 @@ pub record Started : Type 0 where
   pub outer : List Bound
   pub depth : ℕ
 
-abbrev pub started : Open → Started
-started o = record { written = written_name o.written; outer = in_scope o.outer; depth = o.depth }
-
--- the innermost one first
-abbrev pub all_started : List Open → List Started
-all_started opens = map started (reverse opens)
-
--- one element more has started, whose tag has this name and this scope
-pub record IsWithin (old : Levels) (written : QualifiedName) (scope : List Bound) (new : Levels) : Type 0 where
-  pub opens : all_started new.open.items ≡ record { written = written; outer = in_scope old.scope; depth = old.depth } ∷ all_started old.open.items
-  pub scopes : in_scope new.scope ≡ scope
+-- an element more has started, whose tag has this name, where so many declarations were in scope
+pub record IsWithin (old : Levels) (written : QualifiedName) (count : ℕ) (new : Levels) : Type 0 where
+  pub last : Open
+  pub opens : new.open.items ≡ old.open.items ++ last ∷ []
+  pub named : written_name last.written ≡ written
+  pub counts : last.count ≡ count
+  pub deep : last.depth ≡ old.depth
   pub deeper : old.depth ≡ suc new.depth
+  pub bindings : new.bindings ≡ old.bindings
+
+-- what is kept of an element that has started, where declarations hid these and this is bound: it comes from this one
+pub record IsOpen (hid : List Binding) (bounds : List Bound) (o : Open) (e : Started) : Type 0 where
+  pub within : o.count ≤ length hid
+  pub named : written_name o.written ≡ e.written
+  pub deep : o.depth ≡ e.depth
+  pub tells : Tells (map bound (drop o.count hid) ++ bounds) e.outer
+
+-- the same of all elements that have started, the innermost one first: once its declarations are taken back, of those around it
+abbrev pub AreOpen : List Binding → List Bound → List Open → List Started → Type 0
+AreOpen hid bounds [] [] = Unit {0}
+AreOpen hid bounds [] (e ∷ es) = ⊥
+AreOpen hid bounds (o ∷ opens) [] = ⊥
+AreOpen hid bounds (o ∷ opens) (e ∷ es) = IsOpen hid bounds o e × AreOpen (take o.count hid) (map bound (drop o.count hid) ++ bounds) opens es
+
+-- these elements have started, and this is in scope
+pub record Shows (levels : Levels) (es : List Started) (scope : List Bound) : Type 0 where
+  pub opens : AreOpen (hidden levels.bindings) (now_bound levels.bindings) (reverse levels.open.items) es
+  pub tells : Tells (now_bound levels.bindings) scope
 
 -- The content of an element that has started, from its tag to what is left of it. Over the whole element, with any further content, what was to be
 -- handed on is what was handed on, the run with that content, the end, and what follows.
@@ -76,3 +94,16 @@ pub record Finished {S : Type 0} (one : S → Event → S → Type 0) (total dee
 abbrev pub After : {S : Type 0} → (S → Event → S → Type 0) → ℕ → ℕ → List ℕ → S → List Started → List Bound → ℕ → List ℕ → S → List ℕ → Type 0
 After one total deepest root old [] scope depth rest new run = Finished one total deepest root old rest new
 After one total deepest root old (e ∷ es) scope depth rest new run = Standing one total deepest root old (e ∷ es) scope depth rest new run
+
+-- the same with what is kept of elements that have started: where reading stands, and where it stands when a tag was read
+pub record StandsAt {S : Type 0} (one : S → Event → S → Type 0) (total deepest : ℕ) (root : List ℕ) (old : S) (levels : Levels) (rest : List ℕ) (new : S) (run : List ℕ) : Type 0 where
+  pub started : List Started
+  pub scope : List Bound
+  pub shows : Shows levels started scope
+  pub stands : Standing one total deepest root old started scope levels.depth rest new run
+
+pub record StandsAfter {S : Type 0} (one : S → Event → S → Type 0) (total deepest : ℕ) (root : List ℕ) (old : S) (levels : Levels) (rest : List ℕ) (new : S) (run : List ℕ) : Type 0 where
+  pub started : List Started
+  pub scope : List Bound
+  pub shows : Shows levels started scope
+  pub stands : After one total deepest root old started scope levels.depth rest new run

@@ -68,7 +68,7 @@ pub(crate) fn ends_tag(text: &str) -> bool
 }
 
 /// Whether this is the name of the attribute `xml:space` (XML 1.0, 2.10).
-fn is_xml_space(name: &QualifiedName<'_>) -> bool
+pub(crate) fn is_xml_space(name: &QualifiedName<'_>) -> bool
     ensures { result ≡ xml_names.same_written (written_name name.now) refusals.xml_space }
 {
     name.prefix == "xml" && name.local == "space"

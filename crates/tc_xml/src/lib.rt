@@ -10,12 +10,14 @@ ghost use Rattle.tc_model.specs.XmlText.{XmlText};
 ghost use Rattle.tc_model.specs.XmlTextLaws.{AreLawfulWithin};
 ghost use Rattle.tc_xml.specs.Faults.{IsFaultOf};
 
+mod bindings;
 mod building;
 mod content;
 mod document;
 mod documents;
 mod faults;
 mod misc;
+mod plain_tags;
 mod references;
 mod scopes;
 mod stripping;

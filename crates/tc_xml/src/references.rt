@@ -1,5 +1,5 @@
 // References, character data and attribute values (XML 1.0, 2.3, 2.4, 3.3.3, 4.1).
-ghost use Rattle.std.specs.Prelude.{◌≡◌, ◌<◌, ◌≤◌, ◌++◌, ◌∷◌, ◌⊎◌, [], ℕ, List, Some, None, true, false, length, slice_index, option_map, string_bytes, encode_utf8, drop, IfOk, IfErr, OnOk, IsTrue, MatchOption};
+ghost use Rattle.std.specs.Prelude.{◌≡◌, ◌<◌, ◌≤◌, ◌++◌, ◌∷◌, ◌⊎◌, [], ℕ, List, Some, None, true, false, length, slice_index, option_map, string_bytes, encode_utf8, drop, IfOk, IfErr, IfSome, OnOk, IsTrue, MatchOption};
 ghost use Rattle.std.specs.List.{prefix_len};
 ghost use Rattle.std.specs.Str.Parse.{digits_value, AllDigits};
 ghost use Rattle.tc_base.specs.Characters as class;
@@ -211,5 +211,35 @@ pub(crate) fn quoted<'b, 't>(arena: &'b Bump, text: &'t str) -> Result<(&'b str,
             return Ok((into_bump_str(value), after));
         }
         rest = push_piece(&mut value, rest, quote)?;
+    }
+}
+
+/// What follows the run of characters or the reference at the front of what is left of a value.
+fn after_piece<'t>(text: &'t str, quote: u8) -> Option<&'t str>
+    requires { xml_bytes.IsQuote quote }
+    ensures { IfSome result (λ rest. (piece : List ℕ) × PieceAt false quote text.now piece rest.now) }
+{
+    let count = plain_len_within(text, quote);
+    if count == 0 {
+        return match reference(text) {
+            Ok((_, rest)) => Some(rest),
+            Err(_) => None,
+        };
+    }
+    let (_, rest) = text.split_at(count);
+    Some(rest)
+}
+
+/// What follows the attribute value in quotes at the front, which isn't made.
+pub(crate) fn after_quoted<'t>(text: &'t str) -> Option<&'t str>
+    ensures { IfSome result (λ rest. (value : List ℕ) × xml.QuotedAt false text.now value rest.now) }
+{
+    let (quote, inside) = quote(text)?;
+    let mut rest = inside;
+    'pieces: loop {
+        if let Some(after) = after_byte(rest, quote) {
+            return Some(after);
+        }
+        rest = after_piece(rest, quote)?;
     }
 }

@@ -9,7 +9,7 @@ ghost use Rattle.tc_model.specs.XmlTextNames as xml_names;
 ghost use Rattle.tc_model.specs.XmlTextScopes as xml;
 ghost use Rattle.tc_scan.specs.Views.{written_name};
 ghost use Rattle.tc_xml.specs.Bounds.{bound_to, named};
-ghost use Rattle.tc_xml.specs.Tags.{written, in_scope, lacks_space, Breaks};
+ghost use Rattle.tc_xml.specs.Tags.{written, in_scope, lacks_space, is_declaring, declared_prefix, Breaks};
 
 use crate::faults::Stop;
 use crate::scopes::{Names, Scope};
@@ -22,10 +22,10 @@ use tc_model::{Name, RawAttr};
 use tc_scan::QualifiedName;
 
 /// The namespace of the prefix `xml`.
-const XML: &str = "http://www.w3.org/XML/1998/namespace";
+pub(crate) const XML: &str = "http://www.w3.org/XML/1998/namespace";
 
 /// The namespace of namespace declarations.
-const XMLNS: &str = "http://www.w3.org/2000/xmlns/";
+pub(crate) const XMLNS: &str = "http://www.w3.org/2000/xmlns/";
 
 /// An attribute as it is written, with the place of its name's first byte.
 #[derive(Clone, Copy)]
@@ -54,12 +54,11 @@ pub(crate) fn first_scope<'b>(arena: &'b Bump) -> Result<Scope<'b>, Stop>
     Scope::of(arena, names)
 }
 
-/// The prefix that this attribute declares, where it is a declaration (Namespaces, 3, [1] to [3]).
-fn declared<'t>(attribute: &Written<'_, 't>) -> Option<&'t str>
-    ensures { MatchOption result (IsFalse (xml.is_declaration (written attribute.now)))
-        (λ prefix. IsTrue (xml.is_declaration (written attribute.now)) × (prefix.now ≡ (xml.binding_of (written attribute.now)).prefix)) }
+/// The prefix that an attribute with this name declares, where it is a declaration (Namespaces, 3, [1] to [3]).
+pub(crate) fn declared_by<'t>(name: QualifiedName<'t>) -> Option<&'t str>
+    ensures { MatchOption result (IsFalse (is_declaring (written_name name.entry)))
+        (λ prefix. IsTrue (is_declaring (written_name name.entry)) × (prefix.now ≡ declared_prefix (written_name name.entry))) }
 {
-    let name = attribute.name;
     if name.prefix == "" && name.local == "xmlns" {
         return Some("");
     }
@@ -69,8 +68,16 @@ fn declared<'t>(attribute: &Written<'_, 't>) -> Option<&'t str>
     None
 }
 
+/// The prefix that this attribute declares, where it is a declaration.
+fn declared<'t>(attribute: &Written<'_, 't>) -> Option<&'t str>
+    ensures { MatchOption result (IsFalse (xml.is_declaration (written attribute.now)))
+        (λ prefix. IsTrue (xml.is_declaration (written attribute.now)) × (prefix.now ≡ (xml.binding_of (written attribute.now)).prefix)) }
+{
+    declared_by(attribute.name)
+}
+
 /// Whether this prefix may be bound to this namespace name (Namespaces, 3 and 5).
-fn is_lawful(prefix: &str, uri: &str) -> bool
+pub(crate) fn is_lawful(prefix: &str, uri: &str) -> bool
     ensures { MatchBool result (xml.IsLawfulBinding (bound_to prefix.now uri.now)) (xml.IsLawfulBinding (bound_to prefix.now uri.now) → ⊥) }
 {
     prefix != "xmlns"

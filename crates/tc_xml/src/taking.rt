@@ -1,103 +1,35 @@
 // A document, handed on piece by piece in normal form (XML 1.0, 3 and 3.1; XSLT 1.0, 3.4). Where anything is
 // unusual this gives up, and what it gives is what the text means.
-ghost use Rattle.std.specs.Prelude.{◌≡◌, ◌≢◌, ◌<◌, ◌≤◌, ◌++◌, [], ℕ, List, false, length, IfSome, string_bytes, encode_utf8, IsTrue};
+ghost use Rattle.std.specs.Prelude.{◌≡◌, ◌≢◌, ◌<◌, ◌≤◌, ◌++◌, [], ℕ, List, length, IfSome, string_bytes, encode_utf8, IsTrue};
 ghost use Rattle.tc_model.specs.Events.{Takes, events};
-ghost use Rattle.tc_model.specs.RawTrees.{RawTrees, Attribute, none};
+ghost use Rattle.tc_model.specs.RawTrees.{RawTrees, none};
 ghost use Rattle.tc_model.specs.Runs.{run_text};
 ghost use Rattle.tc_model.specs.Stripped.{stripped};
-ghost use Rattle.tc_model.specs.Views.{name};
-ghost use Rattle.tc_model.specs.XmlText.{XmlText, after_mark};
+ghost use Rattle.tc_model.specs.XmlText.{XmlText, after_mark, deepest_element};
 ghost use Rattle.tc_model.specs.XmlTextMisc as misc;
 ghost use Rattle.tc_model.specs.XmlTextBytes as bytes;
 ghost use Rattle.tc_model.specs.XmlTextContent as xml;
-ghost use Rattle.tc_model.specs.XmlTextScopes as xml_scopes;
+ghost use Rattle.tc_model.specs.XmlTextScopes.{first_scope};
 ghost use Rattle.tc_scan.specs.Views.{written_name};
+ghost use Rattle.tc_xml.specs.Bindings.{now_bound};
 ghost use Rattle.tc_xml.specs.Reading.{SmallItemAt};
-ghost use Rattle.tc_xml.specs.Tags.{in_scope};
-ghost use Rattle.tc_xml.specs.Taking.{Took, Standing, After, IsWithin, all_started, waiting};
+ghost use Rattle.tc_xml.specs.Taking.{Took, StandsAt, StandsAfter, Finished, IsWithin, waiting};
 
-use crate::content::{after_end_tag, begins, character_data, ends_tag, open_tag};
+use crate::bindings::Bindings;
+use crate::content::{after_end_tag, begins, character_data};
 use crate::document::{DEEPEST, past_mark};
 use crate::misc::{
     after_comment, after_declaration, after_doctype, after_instruction, after_misc, cdata,
 };
+use crate::plain_tags::{AttributeNames, read_tag};
 use crate::references::{push_lines, reference};
-use crate::scopes::Scope;
-use crate::tags::first_scope;
 use bumpalo::Bump;
 use memchr::memchr;
 use std::mem;
 use tc_base::NoMemory;
 use tc_model::normal::{Run, extended, text_of};
-use tc_model::{Name, TakesTrees, is_white_space_only};
-use tc_scan::{
-    QualifiedName, after_byte, after_mark, after_white, begins as begins_mark, characters, qname,
-};
-
-/// A tag up to where it ends: its name as it is written and as it is meant, what is in scope within it, and what
-/// follows.
-#[derive(Clone, Copy)]
-struct Tag<'b> {
-    written: QualifiedName<'b>,
-    name: Name<'b>,
-    scope: Scope<'b>,
-    rest: &'b str,
-}
-
-/// The expanded name of an element (Namespaces in XML 1.0, 6.1 and 6.2), or none.
-fn name_within<'b>(scope: Scope<'b>, written: QualifiedName<'b>) -> Option<Name<'b>>
-    ensures { IfSome result (λ n. xml_scopes.ElementName (in_scope scope.entry) (written_name written.entry) (name n)) }
-{
-    let local = written.local;
-    match scope.uri_of(written.prefix) {
-        Some(uri) => Some(Name { uri, local }),
-        None => {
-            if written.prefix == "" {
-                Some(Name { uri: "", local })
-            } else {
-                None
-            }
-        }
-    }
-}
-
-/// The tag at the front, where it has no attributes.
-fn bare_tag<'b>(outer: Scope<'b>, total: usize, text: &'b str) -> Option<Tag<'b>>
-    ensures { IfSome result (λ t. xml.TagAt false total (in_scope outer.entry) text.now (written_name t.written) (in_scope t.scope) (name t.name) [] t.rest.now) }
-{
-    let start = after_byte(text, b'<')?;
-    let (written, behind) = qname(start)?;
-    let rest = after_white(behind);
-    if !ends_tag(rest) {
-        return None;
-    }
-    let name = name_within(outer, written)?;
-    Some(Tag {
-        written,
-        name,
-        scope: outer,
-        rest,
-    })
-}
-
-/// The tag at the front.
-fn read_tag<'b>(arena: &'b Bump, outer: Scope<'b>, total: usize, text: &'b str) -> Option<Tag<'b>>
-    requires { total ≤ 67108864 }
-    ensures { IfSome result (λ t. (x : List Attribute) × xml.TagAt false total (in_scope outer.entry) text.now (written_name t.written) (in_scope t.scope) (name t.name) x t.rest.now) }
-{
-    if let Some(found) = bare_tag(outer, total, text) {
-        return Some(found);
-    }
-    match open_tag(arena, total, outer, text) {
-        Ok(found) => Some(Tag {
-            written: found.written,
-            name: found.meaning.name,
-            scope: found.meaning.scope,
-            rest: found.rest,
-        }),
-        Err(_) => None,
-    }
-}
+use tc_model::{TakesTrees, is_white_space_only};
+use tc_scan::{QualifiedName, after_byte, after_mark, begins as begins_mark, characters};
 
 /// What takes a document's trees, and the run of characters that isn't handed on yet.
 #[derive(Drop)]
@@ -107,22 +39,40 @@ struct Reader<'b, T> {
     run: Run<'b>,
 }
 
-/// An element that has started: its name as it is written, what is in scope around it, and how many elements may
-/// stand within one another from it on.
+/// An element that has started: its name as it is written, how many declarations are in scope around it, and how
+/// many elements may stand within one another from it on.
 #[derive(Clone, Copy)]
 struct Open<'b> {
     written: QualifiedName<'b>,
-    outer: Scope<'b>,
+    count: usize,
     depth: u32,
 }
 
-/// The elements that have started, the innermost one last, with what is in scope there, and how many elements may
-/// stand within one another there.
+/// The elements that have started, the innermost one last, with what is bound there, and how many elements may
+/// stand within one another there; and room for the names in a tag.
 #[derive(Drop)]
 struct Levels<'b> {
     open: Vec<Open<'b>, &'b Bump>,
-    scope: Scope<'b>,
+    bindings: Bindings<'b>,
+    names: AttributeNames<'b>,
     depth: u32,
+}
+
+impl<'b> Levels<'b> {
+    /// No element has started yet.
+    fn first(arena: &'b Bump) -> Option<Levels<'b>>
+        ensures opens { IfSome result (λ levels. levels.open.items ≡ []) }
+        ensures bound { IfSome result (λ levels. now_bound levels.bindings ≡ first_scope) }
+        ensures deepest { IfSome result (λ levels. levels.depth ≡ deepest_element) }
+    {
+        let bindings = Bindings::first(arena)?;
+        Some(Levels {
+            open: Vec::new(arena),
+            bindings,
+            names: AttributeNames::new(arena),
+            depth: DEEPEST,
+        })
+    }
 }
 
 /// The characters of a run, to which more may be added.
@@ -240,36 +190,39 @@ fn start_tag<'b, T: TakesTrees<'b>>(
     text: &'b str,
 ) -> Option<&'b str>
     requires { total ≤ 67108864 }
-    ensures steps { IfSome result (λ rest. (deepest : ℕ) (root : List ℕ) (begun : T) → Standing T.takes total deepest root begun (all_started levels.old.open.items) (in_scope levels.old.scope) levels.old.depth text.now reader.old.taker (run_text reader.old.run) → After T.takes total deepest root begun (all_started levels.new.open.items) (in_scope levels.new.scope) levels.new.depth rest.now reader.new.taker (run_text reader.new.run)) }
+    ensures steps { IfSome result (λ rest. (deepest : ℕ) (root : List ℕ) (begun : T) → StandsAt T.takes total deepest root begun levels.old text.now reader.old.taker (run_text reader.old.run) → StandsAfter T.takes total deepest root begun levels.new rest.now reader.new.taker (run_text reader.new.run)) }
     ensures shorter { IfSome result (λ rest. length rest.now < length text.now) }
 {
     if levels.depth == 0 {
         return None;
     }
-    let tag = read_tag(reader.arena, levels.scope, total, text)?;
+    let outer_count = levels.bindings.count();
+    let tag = read_tag(reader.arena, &mut levels.bindings, &mut levels.names, text)?;
     end_run(reader)?;
     reader.taker.start(tag.name)?;
     if let Some(rest) = after_mark(tag.rest, "/>") {
         reader.taker.end()?;
+        levels.bindings.take_back(outer_count)?;
         return Some(rest);
     }
     let inside = after_byte(tag.rest, b'>')?;
-    enter(levels, tag.written, tag.scope)?;
+    enter(levels, tag.written, outer_count)?;
     Some(inside)
 }
 
-/// Goes into an element.
-fn enter<'b>(levels: &mut Levels<'b>, written: QualifiedName<'b>, scope: Scope<'b>) -> Option<()>
+/// Goes into an element, around which so many declarations are in scope.
+fn enter<'b>(levels: &mut Levels<'b>, written: QualifiedName<'b>, count: usize) -> Option<()>
     requires { 0 < levels.old.depth }
-    ensures { IfSome result (λ _. IsWithin levels.old (written_name written.entry) (in_scope scope.entry) levels.new) }
+    ensures { IfSome result (λ _. IsWithin levels.old (written_name written.entry) count levels.new) }
 {
     let open = Open {
         written,
-        outer: levels.scope,
+        count,
         depth: levels.depth,
     };
-    levels.open.push(open).ok()?;
-    levels.scope = scope;
+    let Ok(()) = levels.open.push(open) else {
+        return None;
+    };
     levels.depth -= 1;
     Some(())
 }
@@ -282,14 +235,14 @@ fn end_tag<'b, T: TakesTrees<'b>>(
     text: &'b str,
 ) -> Option<&'b str>
     requires { total ≤ 67108864 }
-    ensures steps { IfSome result (λ rest. (deepest : ℕ) (root : List ℕ) (begun : T) → Standing T.takes total deepest root begun (all_started levels.old.open.items) (in_scope levels.old.scope) levels.old.depth text.now reader.old.taker (run_text reader.old.run) → After T.takes total deepest root begun (all_started levels.new.open.items) (in_scope levels.new.scope) levels.new.depth rest.now reader.new.taker (run_text reader.new.run)) }
+    ensures steps { IfSome result (λ rest. (deepest : ℕ) (root : List ℕ) (begun : T) → StandsAt T.takes total deepest root begun levels.old text.now reader.old.taker (run_text reader.old.run) → StandsAfter T.takes total deepest root begun levels.new rest.now reader.new.taker (run_text reader.new.run)) }
     ensures shorter { IfSome result (λ rest. length rest.now < length text.now) }
 {
     let open = levels.open.pop()?;
     let rest = after_end_tag(text, &open.written)?;
     end_run(reader)?;
     reader.taker.end()?;
-    levels.scope = open.outer;
+    levels.bindings.take_back(open.count)?;
     levels.depth = open.depth;
     Some(rest)
 }
@@ -303,7 +256,7 @@ fn step<'b, T: TakesTrees<'b>>(
 ) -> Option<&'b str>
     requires total { total ≤ 67108864 }
     requires within { levels.old.open.items ≢ [] }
-    ensures steps { IfSome result (λ rest. (deepest : ℕ) (root : List ℕ) (begun : T) → Standing T.takes total deepest root begun (all_started levels.old.open.items) (in_scope levels.old.scope) levels.old.depth text.now reader.old.taker (run_text reader.old.run) → After T.takes total deepest root begun (all_started levels.new.open.items) (in_scope levels.new.scope) levels.new.depth rest.now reader.new.taker (run_text reader.new.run)) }
+    ensures steps { IfSome result (λ rest. (deepest : ℕ) (root : List ℕ) (begun : T) → StandsAt T.takes total deepest root begun levels.old text.now reader.old.taker (run_text reader.old.run) → StandsAfter T.takes total deepest root begun levels.new rest.now reader.new.taker (run_text reader.new.run)) }
     ensures shorter { IfSome result (λ rest. length rest.now < length text.now) }
 {
     if begins_mark(text, "</") {
@@ -319,6 +272,23 @@ fn step<'b, T: TakesTrees<'b>>(
         return after_instruction(text);
     }
     start_tag(reader, levels, total, text)
+}
+
+/// Takes what is left of the elements that have started, and gives what follows the outermost one.
+fn past_elements<'b, T: TakesTrees<'b>>(
+    reader: &mut Reader<'b, T>,
+    levels: &mut Levels<'b>,
+    total: usize,
+    text: &'b str,
+) -> Option<&'b str>
+    requires { total ≤ 67108864 }
+    ensures { IfSome result (λ rest. (deepest : ℕ) (root : List ℕ) (begun : T) → StandsAfter T.takes total deepest root begun levels.old text.now reader.old.taker (run_text reader.old.run) → Finished T.takes total deepest root begun rest.now reader.new.taker) }
+{
+    let mut rest = text;
+    'elements: while !levels.open.is_empty() {
+        rest = step(reader, levels, total, rest)?;
+    }
+    Some(rest)
 }
 
 /// The root element of a document, with what follows it (XML 1.0, 2.1).
@@ -358,23 +328,14 @@ pub fn take_document<'b, T: TakesTrees<'b>>(arena: &'b Bump, text: &'b [u8], tak
         return None;
     }
     let root = before_root(front)?;
-    let Ok(scope) = first_scope(arena) else {
-        return None;
-    };
+    let mut levels = Levels::first(arena)?;
     let mut reader = Reader {
         arena,
         taker,
         run: Run::Nothing,
     };
-    let mut levels = Levels {
-        open: Vec::new(arena),
-        scope,
-        depth: DEEPEST,
-    };
-    let mut rest = start_tag(&mut reader, &mut levels, front.len(), root)?;
-    while !levels.open.is_empty() {
-        rest = step(&mut reader, &mut levels, front.len(), rest)?;
-    }
+    let inside = start_tag(&mut reader, &mut levels, front.len(), root)?;
+    let rest = past_elements(&mut reader, &mut levels, front.len(), inside)?;
     if !is_misc(rest) {
         return None;
     }

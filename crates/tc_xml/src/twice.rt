@@ -1,7 +1,7 @@
 // Whether names of two parts differ from one another.
-ghost use Rattle.std.specs.Prelude.{IfOk, IfErr, MatchBool};
+ghost use Rattle.std.specs.Prelude.{IfOk, IfErr, IsTrue, MatchBool};
 ghost use Rattle.std.specs.List.{IsDistinct, AllByRecursion};
-ghost use Rattle.tc_xml.specs.Pairs.{Differs, same_pair};
+ghost use Rattle.tc_xml.specs.Pairs.{Differs, AreApart, same_pair};
 ghost use Rattle.tc_xml.specs.Tags.{Breaks};
 
 use crate::faults::Stop;
@@ -11,6 +11,9 @@ use std::hash::{BuildHasherDefault, FoldHasher};
 
 /// How many names are compared with one another; more of them go into a set.
 const FEW: usize = 8;
+
+/// How many names are put in order; of more of them a set is made, which is quicker and takes room of its own.
+const MANY: usize = 65_536;
 
 /// Whether this name is among these.
 fn occurs(names: &[(&str, &str)], name: &(&str, &str)) -> bool
@@ -62,5 +65,39 @@ pub(crate) fn all_differ(arena: &Bump, names: &[(&str, &str)]) -> Result<bool, S
         Ok(few_differ(names))
     } else {
         many_differ(arena, names)
+    }
+}
+
+/// Whether no name is the same as the one after it.
+fn neighbours_differ(names: &[(&str, &str)]) -> bool
+    ensures { IsTrue result → AreApart names.now }
+{
+    for at in 0..names.len().saturating_sub(1) {
+        if names[at] == names[at + 1] {
+            return false;
+        }
+    }
+    true
+}
+
+/// Whether no two of these names are the same; it puts them in order.
+fn sorted_differ(names: &mut Vec<(&str, &str), &Bump>) -> bool
+    ensures { IsTrue result → IsDistinct same_pair names.old.items }
+{
+    names.sort_unstable();
+    neighbours_differ(names.as_slice())
+}
+
+/// Whether no two names are the same, in room that is there already unless there are very many. It may put them
+/// in order.
+pub(crate) fn all_differ_sorted(arena: &Bump, names: &mut Vec<(&str, &str), &Bump>) -> bool
+    ensures { IsTrue result → IsDistinct same_pair names.old.items }
+{
+    if FEW < names.len() && names.len() <= MANY {
+        return sorted_differ(names);
+    }
+    match all_differ(arena, names.as_slice()) {
+        Ok(once) => once,
+        Err(_) => false,
     }
 }

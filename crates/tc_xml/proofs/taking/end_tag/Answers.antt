@@ -1,13 +1,14 @@
 use Rattle.tc_model.specs.Runs.{run_text}
-use Rattle.tc_xml.specs.Tags.{in_scope}
-use Rattle.tc_xml.proofs.TakingLaws.{go_out_of, end_within}
+use Rattle.tc_xml.proofs.TakingLaws.{goes_out, end_within}
 use Rattle.tc_xml.proofs.taking.end_tag.Goals as goal
 
 pub returns-clause-steps : goal.returns-clause-steps
 returns-clause-steps g c = λ deepest root begun s.
-    go_out_of _ c.args.total deepest c.args.levels.now.depth root c.args.text.now c.in_ok-rest.rest.now (run_text c.args.reader.now.run) (run_text c.end_run.new.reader.run) begun c.args.reader.now.taker c.end_run.new.reader.taker
-    c.end.new.self c.args.levels.now.open.items c.pop.new.self.items c.in_ok-open.open (in_scope c.args.levels.now.scope) c.in_ok-open.ensures.items c.in_ok-rest.ensures c.in_ok-end_run.ensures.taken c.in_ok-end.ensures
-    c.in_ok-end_run.ensures.ended s
+    let (es, scope, opens, tells, after) =
+    goes_out _ c.args.total deepest root c.args.text.now c.in_ok-rest.rest.now (run_text c.args.reader.now.run) (run_text c.end_run.new.reader.run) begun c.args.reader.now.taker c.end_run.new.reader.taker c.end.new.self
+    c.args.levels.now c.pop.new.self.items c.in_ok-open.open c.take_back.new.self s c.in_ok-open.ensures.items c.in_ok-rest.ensures c.in_ok-take_back.ensures c.in_ok-end_run.ensures.taken c.in_ok-end.ensures
+    c.in_ok-end_run.ensures.ended in
+    record { started = es; scope = scope; shows = record { opens = opens; tells = tells }; stands = after }
 
 pub returns-clause-shorter : goal.returns-clause-shorter
 returns-clause-shorter g c = end_within c.in_ok-rest.ensures

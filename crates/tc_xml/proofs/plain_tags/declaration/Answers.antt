@@ -1,0 +1,4 @@
+use Rattle.tc_xml.proofs.plain_tags.declaration.Goals as goal
+
+pub returns : goal.returns
+returns c = record { uri = c.in-Ok.uri.now; quoted = c.in-Ok.ensures.ok; lawful = c.if-not-is_lawful.ensures; binds = c.in_ok-bind.ensures }

@@ -1,0 +1,10 @@
+use Rattle.tc_scan.specs.Views.{written_name}
+use Rattle.tc_xml.proofs.PlainTagLaws.{an_attribute, one_noted}
+use Rattle.tc_xml.proofs.plain_tags.read_attribute.Goals as goal
+
+pub returns : goal.returns
+returns c = λ total.
+    let name = c.in_ok-name.name in
+    an_attribute total c.args.bindings.now c.read_value.new.bindings c.args.text.now c.in_ok-start.start.now c.in_ok-name.behind.now c.in_ok-equals.equals.now c.in_ok-rest.rest.now (written_name name) c.args.names.now.items
+    c.push.new.self.items c.in_ok-start.ensures.0 c.in_ok-start.ensures.1 c.in_ok-name.ensures c.if-is_xml_space.ensures c.in_ok-equals.ensures c.in_ok-rest.ensures
+    (one_noted c.args.names.now.items c.push.new.self.items (name.prefix, name.local) c.in-Ok.ensures.items)

@@ -1,0 +1,21 @@
+use Rattle.std.proofs.Common.{subst, rules}
+use Rattle.tc_model.specs.Views.{name}
+use Rattle.tc_scan.specs.Views.{written_name}
+use Rattle.tc_xml.specs.PlainTags.{AreExpanded}
+use Rattle.tc_xml.proofs.PlainTagLaws.{a_tag, tag_is_shorter}
+use Rattle.tc_xml.proofs.plain_tags.read_tag.Goals as goal
+
+pub returns : goal.returns
+returns c = λ total.
+    let bindings = c.read_attributes.new.bindings in
+    let read = c.in_ok-rest.ensures total in
+    let names = c.read_attributes.new.names.items in
+    let expanded = c.expand_all.new.expanded.items in
+    record {
+      shorter = tag_is_shorter c.in_ok-start.ensures c.in_ok-written.ensures read;
+      declares = read.parts.declares;
+      reads =
+          a_tag total c.args.bindings.now bindings c.args.text.now c.in_ok-start.start.now c.in_ok-written.behind.now c.in_ok-rest.rest.now (written_name c.in_ok-written.written) (name c.in_ok-name.name) names expanded
+          c.in_ok-start.ensures c.in_ok-written.ensures read c.in_ok-name.ensures (subst (λ w. AreExpanded bindings w expanded) c.as_slice.ensures.value c.in_ok-expand_all.ensures)
+          (c.all_differ_sorted.ensures (search rules));
+    }
