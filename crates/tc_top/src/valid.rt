@@ -7,7 +7,7 @@ ghost use Rattle.tc_model.specs.Views as see;
 ghost use Rattle.tc_model.specs.SimplifiesCounts.{IsWithinCounts};
 ghost use Rattle.tc_model.specs.SimplifiesLaws.{IsStart};
 ghost use Rattle.tc_model.specs.Symbols.{symbol_count};
-ghost use Rattle.tc_model.specs.Trees.{none};
+ghost use Rattle.tc_model.specs.Trees.{none, IsDocument};
 ghost use Rattle.tc_top.specs.SchemaTexts.{IsSchemaOfText};
 ghost use Rattle.tc_answer.specs.Answers as a;
 ghost use Rattle.tc_top.specs.Causes.{Decides, Validates};
@@ -93,10 +93,11 @@ fn valid_document(
     }
 }
 
-/// Tells whether a document is valid for a schema, unless that passes a limit.
+/// Tells whether a document, as it was read, is valid for a schema, unless that passes a limit.
 fn decide(alloc: Global, grammar: &Grammar<'_>, document: &Node<'_>) -> Result<Answer, NoMemory>
     requires small { IsWithinCounts (see.grammar grammar.now) }
     requires start { IsStart (see.grammar grammar.now).start }
+    requires document { IsDocument (see.before document.now none) }
     ensures { IfOk result (λ said. (answer : a.Answer) × Says said answer × Decides (see.grammar grammar.now) (see.before document.now none) answer) }
 {
     let auto = match Auto::contents(alloc, grammar, MOST_INPUT_STATES) {
@@ -114,7 +115,7 @@ fn decide(alloc: Global, grammar: &Grammar<'_>, document: &Node<'_>) -> Result<A
         Err(AlphaFault::NoMemory) => return Err(NoMemory),
     };
     let hedge = Hedge::of(alloc, auto, &alphabet)?;
-    if hedge.valid(document)? {
+    if hedge.valid_document(document)? {
         Ok(Answer::valid())
     } else {
         Ok(Answer::invalid())

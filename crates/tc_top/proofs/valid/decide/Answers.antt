@@ -30,8 +30,8 @@ returns-then-branch c =
     let states = few_states g input MOST_INPUT_STATES (within MOST_INPUT_STATES (state_count g input) (λ l. let e = c.in-Ok.ensures.told l in absurd (cc))) in
     let small : IsValidityWithin g = record { schema = record { counts = c.requires.small; states = states }; symbols = c.in-Ok-alphabet_of.ensures.few } in
     let stands = c.in_ok-hedge.ensures.stands input g c.in-Ok.ensures.stands g no_schema no_rules (c.in-Ok-alphabet_of.ensures.stands ∙ sym (schema_alone g)) (inl refl) in
-    let exact = c.in_ok-valid.ensures input g stands.auto c.requires.start in
-    (a.is_valid, c.valid-then-branch.ensures, decides_valid small (exact.0 c.if-branch.true))
+    let exact = c.in_ok-valid_document.ensures input g stands.auto c.requires.start in
+    (a.is_valid, c.valid.ensures, decides_valid small (exact.0 c.if-branch.true))
 
 pub returns : goal.returns
 returns c =
@@ -39,5 +39,5 @@ returns c =
     let states = few_states g input MOST_INPUT_STATES (within MOST_INPUT_STATES (state_count g input) (λ l. let e = c.in-Ok.ensures.told l in absurd (cc))) in
     let small : IsValidityWithin g = record { schema = record { counts = c.requires.small; states = states }; symbols = c.in-Ok-alphabet_of.ensures.few } in
     let stands = c.in_ok-hedge.ensures.stands input g c.in-Ok.ensures.stands g no_schema no_rules (c.in-Ok-alphabet_of.ensures.stands ∙ sym (schema_alone g)) (inl refl) in
-    let exact = c.in_ok-valid.ensures input g stands.auto c.requires.start in
+    let exact = c.in_ok-valid_document.ensures input g stands.auto c.requires.start in
     (a.is_invalid, c.invalid.ensures, decides_invalid small (λ v. true≢false (sym (exact.1 v) ∙ c.if-branch.false)))
