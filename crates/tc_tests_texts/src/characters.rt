@@ -2,72 +2,78 @@
 
 use std::alloc::Global;
 use std::test::Fail;
+use tc_base::limits::LONGEST_FILE;
 use tc_base::{Cursor, NoMemory, Place, Why, is_char, is_name_char, is_name_start, is_white};
+
+const OUTSIDE: &str = "\u{0}\u{8}\u{B}\u{C}\u{E}\u{1F}\u{FFFE}\u{FFFF}";
+
+const WHITE: &str = "\u{9}\u{A}\u{D}\u{20}";
+
+const OTHERS: &str =
+    "!,/;@[^`{\u{7F}\u{B6}\u{B8}\u{BF}\u{D7}\u{F7}\u{37E}\u{2000}\u{200B}\u{200E}\u{203E}\u{2041}\u{206F}\
+    \u{2190}\u{2BFF}\u{2FF0}\u{3000}\u{E000}\u{F8FF}\u{FDD0}\u{FDEF}\u{F0000}\u{10FFFF}";
+
+const STARTS: &str =
+    ":AZ_az\u{C0}\u{D6}\u{D8}\u{F6}\u{F8}\u{2FF}\u{370}\u{37D}\u{37F}\u{1FFF}\u{200C}\u{200D}\u{2070}\u{218F}\
+    \u{2C00}\u{2FEF}\u{3001}\u{D7FF}\u{F900}\u{FDCF}\u{FDF0}\u{FFFD}\u{10000}\u{EFFFF}";
+
+const INNER: &str = "-.09\u{B7}\u{300}\u{36F}\u{203F}\u{2040}";
+
+/// Characters, and which of them are: characters of XML, white space, starts of names, characters of names.
+static CLASSES: [(&str, [bool; 4]); 5] = [
+    (OUTSIDE, [false, false, false, false]),
+    (WHITE, [true, true, false, false]),
+    (OTHERS, [true, false, false, false]),
+    (STARTS, [true, false, true, true]),
+    (INNER, [true, false, false, true]),
+];
 
 /// Every end of every range, and the characters beside it, by what they may be.
 #[test]
 fn classes_at_the_ends_of_their_ranges(rt: HostRuntime) {
-    let outside = "\u{0}\u{8}\u{B}\u{C}\u{E}\u{1F}\u{FFFE}\u{FFFF}";
-    let white = "\u{9}\u{A}\u{D}\u{20}";
-    let others =
-        "!,/;@[^`{\u{7F}\u{B6}\u{B8}\u{BF}\u{D7}\u{F7}\u{37E}\u{2000}\u{200B}\u{200E}\u{203E}\u{2041}\u{206F}\
-        \u{2190}\u{2BFF}\u{2FF0}\u{3000}\u{E000}\u{F8FF}\u{FDD0}\u{FDEF}\u{F0000}\u{10FFFF}";
-    let starts =
-        ":AZ_az\u{C0}\u{D6}\u{D8}\u{F6}\u{F8}\u{2FF}\u{370}\u{37D}\u{37F}\u{1FFF}\u{200C}\u{200D}\u{2070}\u{218F}\
-        \u{2C00}\u{2FEF}\u{3001}\u{D7FF}\u{F900}\u{FDCF}\u{FDF0}\u{FFFD}\u{10000}\u{EFFFF}";
-    let inner = "-.09\u{B7}\u{300}\u{36F}\u{203F}\u{2040}";
-    let rows = [
-        (outside, [false, false, false, false]),
-        (white, [true, true, false, false]),
-        (others, [true, false, false, false]),
-        (starts, [true, false, true, true]),
-        (inner, [true, false, false, true]),
-    ];
-    for (characters, classes) in rows {
+    for (characters, classes) in &CLASSES {
         for c in characters.chars() {
             let found = [is_char(c), is_white(c), is_name_start(c), is_name_char(c)];
-            assert_eq!(rt; found, classes, "{c:?}");
+            assert_eq!(rt; found, *classes, "{c:?}");
         }
     }
 }
+
+/// Characters that are taken, the places behind them, and how many bytes are left.
+static TAKEN: [(char, u32, usize); 4] = [('a', 1, 9), ('é', 3, 7), ('€', 6, 4), ('😀', 10, 0)];
 
 /// Characters of one to four bytes, the last before the end.
 #[test]
 fn takes_characters_of_each_length(rt: HostRuntime) {
     let mut cursor = Cursor::new(b"a\xC3\xA9\xE2\x82\xAC\xF0\x9F\x98\x80");
-    let taken = [('a', 1, 9), ('é', 3, 7), ('€', 6, 4), ('😀', 10, 0)];
-    for (c, place, left) in taken {
-        assert_eq!(rt; cursor.next_char(), Ok(Some(c)));
-        assert_eq!(rt; cursor.place(), Place(place));
-        assert_eq!(rt; cursor.rest().len(), left);
+    for (c, place, left) in &TAKEN {
+        assert_eq!(rt; cursor.next_char(), Ok(Some(*c)));
+        assert_eq!(rt; cursor.place(), Place(*place));
+        assert_eq!(rt; cursor.rest().len(), *left);
     }
     assert_eq!(rt; cursor.next_char(), Ok(None));
     assert_eq!(rt; cursor.place(), Place(10));
 }
 
+/// Too long a form of two bytes and one of three, a surrogate, too large a number, a byte alone, a front, and a break.
+static BAD: [&[u8]; 7] = [
+    b"\xC0\x80",
+    b"\xE0\x9F\xBF",
+    b"\xED\xA0\x80",
+    b"\xF4\x90\x80\x80",
+    b"\x80a",
+    b"\xE2\x82",
+    b"\xF0\x9F\x98a",
+];
+
 /// A character that ends where the bytes go wrong is taken; what is no character stays.
 #[test]
 fn stays_where_no_character_begins(rt: HostRuntime) {
-    let overlong = b"\xC0\x80";
-    let overlong_of_three = b"\xE0\x9F\xBF";
-    let surrogate = b"\xED\xA0\x80";
-    let too_large = b"\xF4\x90\x80\x80";
-    let alone = b"\x80a";
-    let truncated = b"\xE2\x82";
-    let broken = b"\xF0\x9F\x98a";
-    let bad: [&[u8]; 7] = [
-        overlong,
-        overlong_of_three,
-        surrogate,
-        too_large,
-        alone,
-        truncated,
-        broken,
-    ];
-    for bytes in bad {
+    for bytes in &BAD {
+        assert!(rt; bytes.len() <= LONGEST_FILE);
         let mut cursor = Cursor::new(bytes);
         assert_eq!(rt; cursor.next_char(), Err(Place(0)), "{bytes:?}");
-        assert_eq!(rt; cursor.rest(), bytes);
+        assert_eq!(rt; cursor.rest(), *bytes);
     }
     let mut cursor = Cursor::new(b"\xC3\xA9\xFF");
     assert_eq!(rt; cursor.next_char(), Ok(Some('é')));
@@ -75,26 +81,27 @@ fn stays_where_no_character_begins(rt: HostRuntime) {
     assert_eq!(rt; cursor.next_char(), Err(Place(2)));
 }
 
+static REASONS: [(Why, u32, &str); 12] = [
+    (Why::DoctypeSubset, 1, "doctype-subset"),
+    (Why::XmlVersion, 5, "xml-version"),
+    (Why::DataPattern, 6, "data"),
+    (Why::Concatenation, 17, "concatenation"),
+    (Why::XslVariable, 18, "variable"),
+    (Why::XslPreserveSpace, 34, "preserve-space"),
+    (Why::ExtensionElements, 35, "extension"),
+    (Why::UnknownXslt, 42, "unknown-xslt"),
+    (Why::Axis, 43, "axis"),
+    (Why::StringLiteral, 52, "string"),
+    (Why::ParameterEntity, 53, "parameter-entity"),
+    (Why::QualifiedElementName, 55, "qualified-name"),
+];
+
 /// The first and the last reason of each standard.
 #[test]
 fn reasons_have_their_numbers_and_words(rt: HostRuntime) {
-    let rows = [
-        (Why::DoctypeSubset, 1, "doctype-subset"),
-        (Why::XmlVersion, 5, "xml-version"),
-        (Why::DataPattern, 6, "data"),
-        (Why::Concatenation, 17, "concatenation"),
-        (Why::XslVariable, 18, "variable"),
-        (Why::XslPreserveSpace, 34, "preserve-space"),
-        (Why::ExtensionElements, 35, "extension"),
-        (Why::UnknownXslt, 42, "unknown-xslt"),
-        (Why::Axis, 43, "axis"),
-        (Why::StringLiteral, 52, "string"),
-        (Why::ParameterEntity, 53, "parameter-entity"),
-        (Why::QualifiedElementName, 55, "qualified-name"),
-    ];
-    for (why, number, word) in rows {
-        assert_eq!(rt; why.number(), number);
-        assert_eq!(rt; why.word(), word);
+    for (why, number, word) in &REASONS {
+        assert_eq!(rt; why.number(), *number);
+        assert_eq!(rt; why.word(), *word);
     }
 }
 

@@ -4,17 +4,23 @@ use std::test::Fail;
 use tc_base::NoMemory;
 use tc_model::{Name, Node, normalise};
 
+/// Texts beside an element and in it.
+static TEXTS: [Node<'static>; 3] = [
+    Node::Text(" "),
+    Node::Elem(
+        Name {
+            uri: "",
+            local: "a",
+        },
+        &[Node::Text(" "), Node::Text("x"), Node::Text("\n")],
+    ),
+    Node::Text("\t"),
+];
+
 #[test]
 fn texts_join_and_white_space_goes(rt: HostRuntime) -> Result<(), Fail> {
     let arena = Bump::new(rt.alloc());
-    let name = Name {
-        uri: "",
-        local: "a",
-    };
-    let inner = [Node::Text(" "), Node::Text("x"), Node::Text("\n")];
-    let nodes = [Node::Text(" "), Node::Elem(name, &inner), Node::Text("\t")];
-
-    let normal = normalise(&arena, &nodes)?;
+    let normal = normalise(&arena, &TEXTS)?;
     assert_eq!(rt; normal.len(), 1);
     let Node::Elem(_, kids) = normal[0] else {
         panic!(rt; "an element");

@@ -8,7 +8,7 @@ use tc_path::{
     PathFault, read_pattern, read_priority, read_select, read_test, read_value, selects_attributes,
 };
 
-const SCOPE: [Binding<'static>; 2] = [
+static SCOPE: [Binding<'static>; 2] = [
     Binding {
         prefix: "",
         uri: "urn:default",
@@ -169,7 +169,7 @@ fn put_alternatives(out: &mut String, alternatives: &[Alt<'_>]) -> Result<(), Fa
     Ok(())
 }
 
-const SELECTS: [(&str, &str); 47] = [
+static SELECTS: [(&str, &str); 47] = [
     ("a", "</{}a|>"),
     (" a / p:b // * ", "</{}a/{urn:p}b//*|>"),
     (
@@ -224,13 +224,13 @@ const SELECTS: [(&str, &str); 47] = [
 
 #[test]
 fn selects(rt: HostRuntime) -> Result<(), Fail> {
-    for (text, expected) in SELECTS {
-        assert_eq!(rt; select_of(&rt, text)?.as_str(), expected, "{text}");
+    for (text, expected) in &SELECTS {
+        assert_eq!(rt; select_of(&rt, text)?.as_str(), *expected, "{text}");
     }
     Ok(())
 }
 
-const ATTRIBUTES: [(&str, Result<bool, PathFault>); 9] = [
+static ATTRIBUTES: [(&str, Result<bool, PathFault>); 9] = [
     ("@a", Ok(true)),
     (" a/@* | .//attribute::p:b ", Ok(true)),
     ("a[b]/@c", Ok(true)),
@@ -244,16 +244,16 @@ const ATTRIBUTES: [(&str, Result<bool, PathFault>); 9] = [
 
 #[test]
 fn attributes(rt: HostRuntime) {
-    for (text, expected) in ATTRIBUTES {
+    for (text, expected) in &ATTRIBUTES {
         let arena = Bump::new(rt.alloc());
         assert!(rt;
-            selects_attributes(&arena, text, &SCOPE) == expected,
+            selects_attributes(&arena, text, &SCOPE) == *expected,
             "{text}"
         );
     }
 }
 
-const VALUES: [(&str, &str); 9] = [
+static VALUES: [(&str, &str); 9] = [
     (" . ", "."),
     ("a|.//b", "</{}a|//{}b|>"),
     ("a/@b", "attribute"),
@@ -267,13 +267,13 @@ const VALUES: [(&str, &str); 9] = [
 
 #[test]
 fn values(rt: HostRuntime) -> Result<(), Fail> {
-    for (text, expected) in VALUES {
-        assert_eq!(rt; value_of(&rt, text)?.as_str(), expected, "{text}");
+    for (text, expected) in &VALUES {
+        assert_eq!(rt; value_of(&rt, text)?.as_str(), *expected, "{text}");
     }
     Ok(())
 }
 
-const TESTS: [(&str, &str); 22] = [
+static TESTS: [(&str, &str); 22] = [
     ("and and or", "all(</{}and|>,</{}or|>,)"),
     ("a or b and c", "any(</{}a|>,all(</{}b|>,</{}c|>,),)"),
     ("(a or b) and c", "all(any(</{}a|>,</{}b|>,),</{}c|>,)"),
@@ -300,13 +300,13 @@ const TESTS: [(&str, &str); 22] = [
 
 #[test]
 fn tests(rt: HostRuntime) -> Result<(), Fail> {
-    for (text, expected) in TESTS {
-        assert_eq!(rt; test_of(&rt, text)?.as_str(), expected, "{text}");
+    for (text, expected) in &TESTS {
+        assert_eq!(rt; test_of(&rt, text)?.as_str(), *expected, "{text}");
     }
     Ok(())
 }
 
-const PATTERNS: [(&str, &str); 24] = [
+static PATTERNS: [(&str, &str); 24] = [
     ("a|b/c|@x", "//{}a= //{}b/{}c+ "),
     ("/", "root+ "),
     ("/|a", "root+ //{}a= "),
@@ -338,13 +338,13 @@ const PATTERNS: [(&str, &str); 24] = [
 
 #[test]
 fn patterns(rt: HostRuntime) -> Result<(), Fail> {
-    for (text, expected) in PATTERNS {
-        assert_eq!(rt; pattern_of(&rt, text)?.as_str(), expected, "{text}");
+    for (text, expected) in &PATTERNS {
+        assert_eq!(rt; pattern_of(&rt, text)?.as_str(), *expected, "{text}");
     }
     Ok(())
 }
 
-const PRIORITIES: [(&str, Option<i64>); 17] = [
+static PRIORITIES: [(&str, Option<i64>); 17] = [
     ("-.5", Some(-5000)),
     ("1.25", Some(12500)),
     ("1.23456", None),
@@ -366,8 +366,8 @@ const PRIORITIES: [(&str, Option<i64>); 17] = [
 
 #[test]
 fn priorities(rt: HostRuntime) {
-    for (text, expected) in PRIORITIES {
-        assert_eq!(rt; read_priority(text), expected, "{text}");
+    for (text, expected) in &PRIORITIES {
+        assert_eq!(rt; read_priority(text), *expected, "{text}");
     }
 }
 
@@ -390,22 +390,30 @@ fn nested(
     Ok(out)
 }
 
+/// What such a test is read to.
+fn nested_test(rt: &HostRuntime, count: usize) -> Result<String, Fail> {
+    let text = nested(rt, count, "(", "true()", ")")?;
+    test_of(rt, text.as_str())
+}
+
 #[test]
 fn nesting(rt: HostRuntime) -> Result<(), Fail> {
-    let read = nested(&rt, 1999, "(", "true()", ")")?;
-    assert_eq!(rt; test_of(&rt, read.as_str())?.as_str(), "true");
-    let deep = nested(&rt, 2001, "(", "true()", ")")?;
-    assert_eq!(rt; test_of(&rt, deep.as_str())?.as_str(), "too-deep");
+    assert_eq!(rt; nested_test(&rt, 1999)?.as_str(), "true");
+    assert_eq!(rt; nested_test(&rt, 2001)?.as_str(), "too-deep");
     Ok(())
+}
+
+/// Whether a select with so many predicates within one another is read, and how it is refused otherwise.
+fn nested_select(rt: &HostRuntime, count: usize) -> Result<Option<PathFault>, Fail> {
+    let text = nested(rt, count, "a[", "a", "]")?;
+    let arena = Bump::new(rt.alloc());
+    Ok(read_select(&arena, text.as_str(), &SCOPE).err())
 }
 
 #[test]
 fn nesting_of_brackets(rt: HostRuntime) -> Result<(), Fail> {
-    let brackets = nested(&rt, 2001, "a[", "a", "]")?;
-    assert_eq!(rt; select_of(&rt, brackets.as_str())?.as_str(), "too-deep");
-    let good = nested(&rt, 2000, "a[", "a", "]")?;
-    let arena = Bump::new(rt.alloc());
-    assert!(rt; read_select(&arena, good.as_str(), &SCOPE).is_ok());
+    assert!(rt; nested_select(&rt, 2001)? == Some(PathFault::TooDeep));
+    assert!(rt; nested_select(&rt, 2000)?.is_none());
     Ok(())
 }
 
