@@ -1,11 +1,14 @@
 //! What the checker of certificates answers, by hand: the certificate of an element around any number of elements, for each of
 //! which one is put out, and changes of it.
 ghost use Rattle.std.specs.Prelude.{◌≡◌, ◌≤◌, length, IfOk};
+ghost use Rattle.tc_beh.specs.Machines.{IsMachine};
 ghost use Rattle.tc_model.specs.CertificateData.{IsFormed};
 
 use bumpalo::Bump;
 use std::alloc::Global;
+use std::process::Abort;
 use std::test::Fail;
+use tc_beh::Machine;
 use tc_cert::read_cert;
 use tc_model::{CertData, Name};
 use tc_tests_triples::{LONGEST, machine_of_texts, sheet_text};
@@ -37,6 +40,49 @@ const TREES: &str = "trees 3\nt 0 0 1 0,0,0 -\nt 0 0 1 1,1,0 -\nt 0 0 2 1,0,1 -\
 
 const HEDGES: &str = "hedges 2\nh 0 0 0,2 0,0,0 -\nh 0 0 1 1,0,1 -\nend\n";
 
+/// The texts of two schemas, and the rules of a stylesheet.
+#[derive(Clone, Copy)]
+struct Triple<'t> {
+    input: &'t str,
+    output: &'t str,
+    rules: &'t str,
+}
+
+/// The machine of such texts.
+fn machine_with<'b>(
+    alloc: Global,
+    arena: &'b Bump,
+    triple: &Triple<'_>,
+) -> Result<Machine<'b>, Fail>
+    ensures { IfOk result (λ m. IsMachine m) }
+{
+    let sheet = sheet_text(alloc, triple.rules)?;
+    let (input, output) = (triple.input, triple.output);
+    let machine = machine_of_texts(alloc, arena, input, output, sheet.as_str())?;
+    Ok(machine)
+}
+
+/// What is answered of a certificate for such texts.
+fn answer_of(
+    alloc: Global,
+    triple: &Triple<'_>,
+    cert: &CertData,
+) -> Result<Result<(), VerifyFault>, Fail>
+    requires { IsFormed cert.now }
+{
+    let arena = Bump::new(alloc);
+    let machine = machine_with(alloc, &arena, triple)?;
+    Ok(verify(alloc, &machine, cert))
+}
+
+/// The data of a certificate in three parts.
+fn data_of_parts(alloc: Global, front: &str, trees: &str, hedges: &str) -> Result<CertData, Fail>
+    ensures { IfOk result (λ d. IsFormed d) }
+{
+    let text = format!(in alloc; "{front}{trees}{hedges}")?;
+    data_of(alloc, text.as_str())
+}
+
 /// What is answered of a certificate in three parts, for the rules above and an output.
 fn answer(
     alloc: Global,
@@ -45,199 +91,318 @@ fn answer(
     trees: &str,
     hedges: &str,
 ) -> Result<Result<(), VerifyFault>, Fail> {
-    let arena = Bump::new(alloc);
-    let sheet = sheet_text(alloc, RULES)?;
-    let machine = machine_of_texts(alloc, &arena, INPUT, output, sheet.as_str())?;
-    let text = format!(in alloc; "{front}{trees}{hedges}")?;
-    let cert = data_of(alloc, text.as_str())?;
-    Ok(verify(alloc, &machine, &cert))
+    let cert = data_of_parts(alloc, front, trees, hedges)?;
+    let triple = Triple {
+        input: INPUT,
+        output,
+        rules: RULES,
+    };
+    answer_of(alloc, &triple, &cert)
 }
 
 fn rejected(line: u32, rule: RejectRule, other: u32) -> Result<(), VerifyFault> {
     Err(VerifyFault::Rejected(Reject { line, rule, other }))
 }
 
+/// The three parts of a certificate.
+type Parts<'t> = (&'t str, &'t str, &'t str);
+
 /// The certificate, in both versions, and one with a further row that is closed under the rules.
+static ACCEPTED: [Parts<'static>; 3] = [
+    (FRONT, TREES, HEDGES),
+    (
+        FRONT,
+        "trees 4\nt 0 0 1 0,0,0 -\nt 0 0 1 1,0,1 -\nt 0 0 1 1,1,0 -\nt 0 0 2 1,0,1 -\n",
+        HEDGES,
+    ),
+    (
+        "xslt-typecheck certificate 2\noutputs 2\nm 0>0 1>1 2>2 3>3 4>4\nm 2>3 3>3\n",
+        "trees 3\nt 0 0 1 0,0,0 -\nT 0 0 1 0:1,1:1 -\nT 0 0 2 1:0,2:1 -\n",
+        "hedges 2\nh 0 0 0,2 0,0,0 -\nH 0 0 1 0:1,2:1 -\nend\n",
+    ),
+];
+
 #[test]
 fn accepts_certificates(rt: HostRuntime) -> Result<(), Fail> {
-    let alloc = rt.alloc();
-    assert_eq!(rt; answer(alloc, OUTPUT, FRONT, TREES, HEDGES)?, Ok(()));
-    let more = "trees 4\nt 0 0 1 0,0,0 -\nt 0 0 1 1,0,1 -\nt 0 0 1 1,1,0 -\nt 0 0 2 1,0,1 -\n";
-    assert_eq!(rt; answer(alloc, OUTPUT, FRONT, more, HEDGES)?, Ok(()));
-    let front = "xslt-typecheck certificate 2\noutputs 2\nm 0>0 1>1 2>2 3>3 4>4\nm 2>3 3>3\n";
-    let trees = "trees 3\nt 0 0 1 0,0,0 -\nT 0 0 1 0:1,1:1 -\nT 0 0 2 1:0,2:1 -\n";
-    let hedges = "hedges 2\nh 0 0 0,2 0,0,0 -\nH 0 0 1 0:1,2:1 -\nend\n";
-    assert_eq!(rt; answer(alloc, OUTPUT, front, trees, hedges)?, Ok(()));
+    for (front, trees, hedges) in &ACCEPTED {
+        assert_eq!(rt;
+            answer(rt.alloc(), OUTPUT, front, trees, hedges)?,
+            Ok(()),
+            "{trees}"
+        );
+    }
     Ok(())
 }
+
+/// The parts of a certificate, and the line, the rule and the number by which it is rejected.
+type Rejection<'t> = (Parts<'t>, u32, RejectRule, u32);
 
 /// A row that is made of rows that are listed isn't listed.
-#[test]
-fn tells_what_is_not_listed(rt: HostRuntime) -> Result<(), Fail> {
-    let alloc = rt.alloc();
-    let no_start = "hedges 1\nh 0 0 1 1,0,1 -\nend\n";
-    assert_eq!(rt;
-        answer(alloc, OUTPUT, FRONT, TREES, no_start)?,
-        rejected(0, RejectRule::Empty, 0)
-    );
-    let no_end = "hedges 1\nh 0 0 0,2 0,0,0 -\nend\n";
-    assert_eq!(rt;
-        answer(alloc, OUTPUT, FRONT, TREES, no_end)?,
-        rejected(10, RejectRule::Append, 8)
-    );
-    Ok(())
-}
+static NOT_LISTED: [Rejection<'static>; 2] = [
+    (
+        (FRONT, TREES, "hedges 1\nh 0 0 1 1,0,1 -\nend\n"),
+        0,
+        RejectRule::Empty,
+        0,
+    ),
+    (
+        (FRONT, TREES, "hedges 1\nh 0 0 0,2 0,0,0 -\nend\n"),
+        10,
+        RejectRule::Append,
+        8,
+    ),
+];
 
 /// A number of a line is out of range, or a list has another length.
-#[test]
-fn tells_what_does_not_fit(rt: HostRuntime) -> Result<(), Fail> {
-    let alloc = rt.alloc();
-    let front = "xslt-typecheck certificate 1\noutputs 2\nm 0>0 1>1 2>2 3>3 4>4\nm 2>5 3>3\n";
-    assert_eq!(rt;
-        answer(alloc, OUTPUT, front, TREES, HEDGES)?,
-        rejected(4, RejectRule::Fit, 0)
-    );
-    for line in [
-        "t 0 0 1 0,0,4294967295 -",
-        "t 0 0 1 0,0 -",
-        "t 0 0 0 0,0,0 -",
-        "t 0 0 1 0,0,0 0",
-    ] {
-        let trees = format!(in alloc; "trees 3\n{line}\nt 0 0 1 1,1,0 -\nt 0 0 2 1,0,1 -\n")?;
+static NOT_FITTING: [Rejection<'static>; 6] = [
+    (
+        (
+            "xslt-typecheck certificate 1\noutputs 2\nm 0>0 1>1 2>2 3>3 4>4\nm 2>5 3>3\n",
+            TREES,
+            HEDGES,
+        ),
+        4,
+        RejectRule::Fit,
+        0,
+    ),
+    (
+        (
+            FRONT,
+            "trees 3\nt 0 0 1 0,0,4294967295 -\nt 0 0 1 1,1,0 -\nt 0 0 2 1,0,1 -\n",
+            HEDGES,
+        ),
+        6,
+        RejectRule::Fit,
+        0,
+    ),
+    (
+        (
+            FRONT,
+            "trees 3\nt 0 0 1 0,0 -\nt 0 0 1 1,1,0 -\nt 0 0 2 1,0,1 -\n",
+            HEDGES,
+        ),
+        6,
+        RejectRule::Fit,
+        0,
+    ),
+    (
+        (
+            FRONT,
+            "trees 3\nt 0 0 0 0,0,0 -\nt 0 0 1 1,1,0 -\nt 0 0 2 1,0,1 -\n",
+            HEDGES,
+        ),
+        6,
+        RejectRule::Fit,
+        0,
+    ),
+    (
+        (
+            FRONT,
+            "trees 3\nt 0 0 1 0,0,0 0\nt 0 0 1 1,1,0 -\nt 0 0 2 1,0,1 -\n",
+            HEDGES,
+        ),
+        6,
+        RejectRule::Fit,
+        0,
+    ),
+    (
+        (
+            FRONT,
+            "trees 3\nt 0 0 1 0,0,0 -\nt 0 0 1 1,1,0 -\nt 0 0 3 1,0,1 -\n",
+            HEDGES,
+        ),
+        8,
+        RejectRule::Fit,
+        0,
+    ),
+];
+
+/// The numbers of rows of lists of trees are in range too.
+static LISTS_NOT_FITTING: [Rejection<'static>; 4] = [
+    (
+        (
+            FRONT,
+            TREES,
+            "hedges 2\nh 0 0 0,2 0,0,0 -\nh 0 0 1 1,0,2 -\nend\n",
+        ),
+        11,
+        RejectRule::Fit,
+        0,
+    ),
+    (
+        (
+            FRONT,
+            TREES,
+            "hedges 2\nh 0 0 0,2 0,0,0 -\nh 0 0 1 1,0,1,0 -\nend\n",
+        ),
+        11,
+        RejectRule::Fit,
+        0,
+    ),
+    (
+        (
+            FRONT,
+            TREES,
+            "hedges 2\nh 0 0 0,2 0,0,0 -\nh 0 0 3 1,0,1 -\nend\n",
+        ),
+        11,
+        RejectRule::Fit,
+        0,
+    ),
+    (
+        (
+            FRONT,
+            TREES,
+            "hedges 2\nh 0 0 0,2 0,0,0 -\nh 0 0 1 1,0,1 2\nend\n",
+        ),
+        11,
+        RejectRule::Fit,
+        0,
+    ),
+];
+
+/// Asserts of each certificate, for an output, that it is rejected so.
+fn assert_rejected(
+    rt: &impl Abort,
+    alloc: Global,
+    output: &str,
+    all: &[Rejection<'_>],
+) -> Result<(), Fail> {
+    for (parts, line, rule, other) in all {
+        let (front, trees, hedges) = *parts;
+        let found = answer(alloc, output, front, trees, hedges)?;
         assert_eq!(rt;
-            answer(alloc, OUTPUT, FRONT, trees.as_str(), HEDGES)?,
-            rejected(6, RejectRule::Fit, 0)
+            found,
+            rejected(*line, *rule, *other),
+            "{front}{trees}{hedges}"
         );
     }
-    let last = "trees 3\nt 0 0 1 0,0,0 -\nt 0 0 1 1,1,0 -\nt 0 0 3 1,0,1 -\n";
-    assert_eq!(rt;
-        answer(alloc, OUTPUT, FRONT, last, HEDGES)?,
-        rejected(8, RejectRule::Fit, 0)
-    );
     Ok(())
 }
 
-/// The numbers of rows of lists of trees are in range too.
+#[test]
+fn tells_what_is_not_listed(rt: HostRuntime) -> Result<(), Fail> {
+    assert_rejected(&rt, rt.alloc(), OUTPUT, &NOT_LISTED)
+}
+
+#[test]
+fn tells_what_does_not_fit(rt: HostRuntime) -> Result<(), Fail> {
+    assert_rejected(&rt, rt.alloc(), OUTPUT, &NOT_FITTING)
+}
+
 #[test]
 fn tells_lists_that_do_not_fit(rt: HostRuntime) -> Result<(), Fail> {
-    let alloc = rt.alloc();
-    for line in [
-        "h 0 0 1 1,0,2 -",
-        "h 0 0 1 1,0,1,0 -",
-        "h 0 0 3 1,0,1 -",
-        "h 0 0 1 1,0,1 2",
-    ] {
-        let hedges = format!(in alloc; "hedges 2\nh 0 0 0,2 0,0,0 -\n{line}\nend\n")?;
-        assert_eq!(rt;
-            answer(alloc, OUTPUT, FRONT, TREES, hedges.as_str())?,
-            rejected(11, RejectRule::Fit, 0)
-        );
-    }
-    Ok(())
+    assert_rejected(&rt, rt.alloc(), OUTPUT, &LISTS_NOT_FITTING)
 }
 
 /// What a document of a row gives isn't valid.
 #[test]
 fn tells_what_fails_at_the_root(rt: HostRuntime) -> Result<(), Fail> {
-    let alloc = rt.alloc();
-    assert_eq!(rt;
-        answer(alloc, "element r{element x{empty}+}", FRONT, TREES, HEDGES)?,
-        rejected(6, RejectRule::Root, 0)
-    );
+    let output = "element r{element x{empty}+}";
+    let found = answer(rt.alloc(), output, FRONT, TREES, HEDGES)?;
+    assert_eq!(rt; found, rejected(6, RejectRule::Root, 0));
     Ok(())
+}
+
+/// The symbol of a name over such texts.
+fn symbol_over(alloc: Global, triple: &Triple<'_>, name: &Name<'_>) -> Result<u32, Fail> {
+    let arena = Bump::new(alloc);
+    let machine = machine_with(alloc, &arena, triple)?;
+    Ok(machine.alphabet().sym_of(name).0)
+}
+
+/// The symbol of a name without a namespace over the texts above.
+fn symbol_of(alloc: Global, local: &str) -> Result<u32, Fail> {
+    let triple = Triple {
+        input: INPUT,
+        output: OUTPUT,
+        rules: RULES,
+    };
+    symbol_over(alloc, &triple, &Name { uri: "", local })
 }
 
 /// What an element makes is told by the number of its symbol.
 #[test]
 fn tells_symbols(rt: HostRuntime) -> Result<(), Fail> {
-    let alloc = rt.alloc();
-    let arena = Bump::new(alloc);
-    let sheet = sheet_text(alloc, RULES)?;
-    let machine = machine_of_texts(alloc, &arena, INPUT, OUTPUT, sheet.as_str())?;
-    let a = machine
-        .alphabet()
-        .sym_of(&Name {
-            uri: "",
-            local: "a",
-        })
-        .0;
-    let b = machine
-        .alphabet()
-        .sym_of(&Name {
-            uri: "",
-            local: "b",
-        })
-        .0;
+    let b = symbol_of(rt.alloc(), "b")?;
     let no_b = "trees 2\nt 0 0 1 0,0,0 -\nt 0 0 1 1,1,0 -\n";
-    assert_eq!(rt;
-        answer(alloc, OUTPUT, FRONT, no_b, HEDGES)?,
-        rejected(9, RejectRule::Wrap, b)
-    );
+    let found = answer(rt.alloc(), OUTPUT, FRONT, no_b, HEDGES)?;
+    assert_eq!(rt; found, rejected(9, RejectRule::Wrap, b));
+    let a = symbol_of(rt.alloc(), "a")?;
     let other_a = "trees 3\nt 0 0 - 0,0,0 -\nt 0 0 1 1,1,0 -\nt 0 0 2 1,0,1 -\n";
-    assert_eq!(rt;
-        answer(alloc, OUTPUT, FRONT, other_a, HEDGES)?,
-        rejected(10, RejectRule::Wrap, a)
-    );
+    let found = answer(rt.alloc(), OUTPUT, FRONT, other_a, HEDGES)?;
+    assert_eq!(rt; found, rejected(10, RejectRule::Wrap, a));
     Ok(())
 }
+
+/// As many zeros as a row over such texts has entries, with commas between them.
+fn entries_over(alloc: Global, triple: &Triple<'_>) -> Result<String, Fail> {
+    let arena = Bump::new(alloc);
+    let machine = machine_with(alloc, &arena, triple)?;
+    zeros(alloc, machine.shape().entries)
+}
+
+/// So many zeros, with commas between them.
+fn zeros(alloc: Global, count: u32) -> Result<String, Fail> {
+    let mut entries = String::from_str(alloc, "0")?;
+    for _ in 1..count {
+        entries.push_str(",0")?;
+    }
+    Ok(entries)
+}
+
+/// The data of a certificate that has the row of no tree alone, of entries of no output.
+fn data_of_one(alloc: Global, front: &str, triple: &Triple<'_>) -> Result<CertData, Fail>
+    ensures { IfOk result (λ d. IsFormed d) }
+{
+    let entries = entries_over(alloc, triple)?;
+    let text = format!(in alloc; "{front}trees 0\nhedges 1\nh 0 0 0 {entries} -\nend\n")?;
+    data_of(alloc, text.as_str())
+}
+
+/// What is answered of it.
+fn answer_of_one(
+    alloc: Global,
+    front: &str,
+    triple: &Triple<'_>,
+) -> Result<Result<(), VerifyFault>, Fail> {
+    let cert = data_of_one(alloc, front, triple)?;
+    answer_of(alloc, triple, &cert)
+}
+
+/// An element for each text.
+static OF_TEXTS: Triple<'static> = Triple {
+    input: "element a{text}",
+    output: "element r{element x{empty}?}",
+    rules: "<xsl:template match=\"/\"><r><xsl:apply-templates/></r></xsl:template><xsl:template match=\"text()\"><x/></xsl:template>",
+};
 
 /// A text that may stand in the input has its row listed.
 #[test]
 fn tells_texts(rt: HostRuntime) -> Result<(), Fail> {
-    let alloc = rt.alloc();
-    let arena = Bump::new(alloc);
-    let sheet = sheet_text(
-        alloc,
-        "<xsl:template match=\"/\"><r><xsl:apply-templates/></r></xsl:template><xsl:template match=\"text()\"><x/></xsl:template>",
-    )?;
-    let machine = machine_of_texts(
-        alloc,
-        &arena,
-        "element a{text}",
-        "element r{element x{empty}?}",
-        sheet.as_str(),
-    )?;
-    let mut entries = String::from_str(alloc, "0")?;
-    for _ in 1..machine.shape().entries {
-        entries.push_str(",0")?;
-    }
-    let text = format!(in alloc;
-        "xslt-typecheck certificate 1\noutputs 1\nm 0>0 1>1 2>2 3>3 4>4\ntrees 0\nhedges 1\nh 0 0 0 {entries} -\nend\n"
-    )?;
-    let cert = data_of(alloc, text.as_str())?;
-    assert_eq!(rt;
-        verify(alloc, &machine, &cert),
-        rejected(0, RejectRule::Text, 0)
-    );
+    let front = "xslt-typecheck certificate 1\noutputs 1\nm 0>0 1>1 2>2 3>3 4>4\n";
+    let found = answer_of_one(rt.alloc(), front, &OF_TEXTS)?;
+    assert_eq!(rt; found, rejected(0, RejectRule::Text, 0));
     Ok(())
 }
+
+/// A copy of an element of any name.
+static OF_ANY: Triple<'static> = Triple {
+    input: "element *{empty}",
+    output: "element *{empty}",
+    rules: "<xsl:template match=\"*\"><xsl:copy><xsl:apply-templates/></xsl:copy></xsl:template>",
+};
 
 /// A name that nothing mentions has its symbol.
 #[test]
 fn tells_symbols_of_other_names(rt: HostRuntime) -> Result<(), Fail> {
-    let alloc = rt.alloc();
-    let arena = Bump::new(alloc);
-    let sheet = sheet_text(
-        alloc,
-        "<xsl:template match=\"*\"><xsl:copy><xsl:apply-templates/></xsl:copy></xsl:template>",
-    )?;
-    let schema = "element *{empty}";
-    let machine = machine_of_texts(alloc, &arena, schema, schema, sheet.as_str())?;
-    let mut entries = String::from_str(alloc, "0")?;
-    for _ in 1..machine.shape().entries {
-        entries.push_str(",0")?;
-    }
-    let text = format!(in alloc;
-        "xslt-typecheck certificate 1\noutputs 2\nm 0>0 1>1 2>2\nm 0>1\ntrees 0\nhedges 1\nh 0 0 0 {entries} -\nend\n"
-    )?;
-    let cert = data_of(alloc, text.as_str())?;
-    let other = machine.alphabet().sym_of(&Name {
+    let name = Name {
         uri: "urn:n",
         local: "n",
-    });
-    assert_eq!(rt;
-        verify(alloc, &machine, &cert),
-        rejected(7, RejectRule::Wrap, other.0)
-    );
+    };
+    let other = symbol_over(rt.alloc(), &OF_ANY, &name)?;
+    let front = "xslt-typecheck certificate 1\noutputs 2\nm 0>0 1>1 2>2\nm 0>1\n";
+    let found = answer_of_one(rt.alloc(), front, &OF_ANY)?;
+    assert_eq!(rt; found, rejected(7, RejectRule::Wrap, other));
     Ok(())
 }
