@@ -10,7 +10,7 @@ use tc_sheet::{SheetFault, read_sheet};
 
 const XSL: &str = "http://www.w3.org/1999/XSL/Transform";
 
-const SCOPE: [Binding<'static>; 3] = [
+static SCOPE: [Binding<'static>; 3] = [
     Binding {
         prefix: "xml",
         uri: "http://www.w3.org/XML/1998/namespace",
@@ -167,11 +167,8 @@ fn copying<'b>(arena: &'b Bump) -> Result<Raw<'b>, Fail> {
     stylesheet(arena, &[output, template])
 }
 
-#[test]
-fn copies_all(rt: HostRuntime) -> Result<(), Fail> {
-    let arena = Bump::new(rt.alloc());
-    let raw = copying(&arena)?;
-    let sheet = sheet_of(&arena, &raw)?;
+/// Asserts what the stylesheet that copies all has.
+fn assert_copying(rt: &impl Abort, sheet: &Sheet<'_>) {
     assert_eq!(rt; sheet.modes, 1);
     assert_eq!(rt; sheet.eaches, 0);
     assert_eq!(rt; sheet.named.len(), 0);
@@ -189,6 +186,14 @@ fn copies_all(rt: HostRuntime) -> Result<(), Fail> {
     };
     assert_eq!(rt; path.alts.len(), 1);
     assert_eq!(rt; *mode, 0);
+}
+
+#[test]
+fn copies_all(rt: HostRuntime) -> Result<(), Fail> {
+    let arena = Bump::new(rt.alloc());
+    let raw = copying(&arena)?;
+    let sheet = sheet_of(&arena, &raw)?;
+    assert_copying(&rt, &sheet);
     Ok(())
 }
 
@@ -221,23 +226,9 @@ fn numbered<'b>(arena: &'b Bump) -> Result<Raw<'b>, Fail> {
     stylesheet(arena, &[named, rule, dropped, last])
 }
 
-#[test]
-fn numbers_modes_names_and_for_eaches(rt: HostRuntime) -> Result<(), Fail> {
-    let arena = Bump::new(rt.alloc());
-    let raw = numbered(&arena)?;
-    let sheet = sheet_of(&arena, &raw)?;
-    assert_eq!(rt; sheet.modes, 3);
-    assert_eq!(rt; sheet.eaches, 3);
-    assert_eq!(rt; sheet.named.len(), 1);
-    assert_eq!(rt; sheet.rules.len(), 3);
-    assert_eq!(rt; sheet.rules[0].priority, 12500);
-    assert_eq!(rt; sheet.rules[1].priority, 12500);
-    assert_eq!(rt; sheet.rules[2].priority, 0);
-    assert_eq!(rt; sheet.rules[0].mode, 1);
-    assert_eq!(rt; sheet.rules[2].mode, 2);
-    assert!(rt; matches!(sheet.rules[1].pattern, Pattern::Root));
-    assert_eq!(rt; sheet.rules[0].body.len(), 3);
-    let body = sheet.rules[0].body;
+/// Asserts what the body of the first rule has.
+fn assert_body(rt: &impl Abort, body: &[Instr<'_>]) {
+    assert_eq!(rt; body.len(), 3);
     let Some(Instr::ForEach(outer, _, inside)) = body.first() else {
         panic!(rt; "a for-each");
     };
@@ -255,17 +246,44 @@ fn numbers_modes_names_and_for_eaches(rt: HostRuntime) -> Result<(), Fail> {
         panic!(rt; "a call");
     };
     assert_eq!(rt; *callee, 0);
-    let named = sheet.named[0];
+}
+
+/// Asserts what the named body has.
+fn assert_named(rt: &impl Abort, named: &[Instr<'_>]) {
     assert_eq!(rt; named.len(), 1);
     let Some(Instr::ForEach(of_named, _, _)) = named.first() else {
         panic!(rt; "a for-each");
     };
     assert_eq!(rt; *of_named, 2);
+}
+
+/// Asserts what that stylesheet has.
+fn assert_numbered(rt: &impl Abort, sheet: &Sheet<'_>) {
+    assert_eq!(rt; sheet.modes, 3);
+    assert_eq!(rt; sheet.eaches, 3);
+    assert_eq!(rt; sheet.named.len(), 1);
+    assert_eq!(rt; sheet.rules.len(), 3);
+    assert_eq!(rt; sheet.rules[0].priority, 12500);
+    assert_eq!(rt; sheet.rules[1].priority, 12500);
+    assert_eq!(rt; sheet.rules[2].priority, 0);
+    assert_eq!(rt; sheet.rules[0].mode, 1);
+    assert_eq!(rt; sheet.rules[2].mode, 2);
+    assert!(rt; matches!(sheet.rules[1].pattern, Pattern::Root));
+    assert_body(rt, sheet.rules[0].body);
+    assert_named(rt, sheet.named[0]);
+}
+
+#[test]
+fn numbers_modes_names_and_for_eaches(rt: HostRuntime) -> Result<(), Fail> {
+    let arena = Bump::new(rt.alloc());
+    let raw = numbered(&arena)?;
+    let sheet = sheet_of(&arena, &raw)?;
+    assert_numbered(&rt, &sheet);
     Ok(())
 }
 
 /// The elements that are not supported, with their reasons.
-const UNSUPPORTED: [(&str, Why); 18] = [
+static UNSUPPORTED: [(&str, Why); 18] = [
     ("variable", Why::XslVariable),
     ("param", Why::XslParam),
     ("with-param", Why::XslWithParam),
@@ -286,54 +304,66 @@ const UNSUPPORTED: [(&str, Why); 18] = [
     ("document", Why::UnknownXslt),
 ];
 
+/// Asserts that an element isn't supported in a body, at the top and within an instruction.
+fn assert_unsupported<'a>(
+    rt: &impl Abort,
+    arena: &'a Bump,
+    local: &'a str,
+    why: Why,
+) -> Result<(), Fail> {
+    let wanted = Some(SheetFault::Unsupported(Place(20), why));
+    let inner = xsl(arena, 20, local, &[], &[])?;
+    assert_eq!(rt; fault_in_body(arena, inner)?, wanted, "{local} in a body");
+    let top = stylesheet(arena, &[inner])?;
+    assert_eq!(rt; fault(arena, &top), wanted, "{local} at the top");
+    let apply = xsl(arena, 15, "apply-templates", &[], &[inner])?;
+    assert_eq!(rt;
+        fault_in_body(arena, apply)?,
+        wanted,
+        "{local} within apply-templates"
+    );
+    Ok(())
+}
+
 #[test]
 fn unsupported_elements(rt: HostRuntime) -> Result<(), Fail> {
     let arena = Bump::new(rt.alloc());
-    for (local, why) in UNSUPPORTED {
-        let wanted = Some(SheetFault::Unsupported(Place(20), why));
-        let inner = xsl(&arena, 20, local, &[], &[])?;
-        assert_eq!(rt; fault_in_body(&arena, inner)?, wanted, "{local} in a body");
-        let top = stylesheet(&arena, &[inner])?;
-        assert_eq!(rt; fault(&arena, &top), wanted, "{local} at the top");
-        let apply = xsl(&arena, 15, "apply-templates", &[], &[inner])?;
-        assert_eq!(rt;
-            fault_in_body(&arena, apply)?,
-            wanted,
-            "{local} within apply-templates"
-        );
+    for (local, why) in &UNSUPPORTED {
+        assert_unsupported(&rt, &arena, local, *why)?;
     }
+    Ok(())
+}
+
+/// Asserts that an element isn't looked at within an attribute and an output, and as a literal one.
+fn assert_passed<'a>(rt: &impl Abort, arena: &'a Bump, local: &'a str) -> Result<(), Fail> {
+    let inner = xsl(arena, 20, local, &[], &[])?;
+    let unseen = xsl(arena, 15, "attribute", &[("test", "a = b")], &[inner])?;
+    assert_eq!(rt;
+        fault_in_body(arena, unseen)?,
+        None,
+        "{local} within an attribute"
+    );
+    let output = xsl(arena, 15, "output", &[("method", "a = b")], &[inner])?;
+    let passed = stylesheet(arena, &[output])?;
+    assert_eq!(rt; fault(arena, &passed), None, "{local} within an output");
+    let plain = literal(arena, 20, local, &[], &[])?;
+    assert_eq!(rt; fault_in_body(arena, plain)?, None, "a literal {local}");
     Ok(())
 }
 
 #[test]
 fn elements_that_are_not_looked_at(rt: HostRuntime) -> Result<(), Fail> {
     let arena = Bump::new(rt.alloc());
-    for (local, _) in UNSUPPORTED {
-        let inner = xsl(&arena, 20, local, &[], &[])?;
-        let unseen = xsl(&arena, 15, "attribute", &[("test", "a = b")], &[inner])?;
-        assert_eq!(rt;
-            fault_in_body(&arena, unseen)?,
-            None,
-            "{local} within an attribute"
-        );
-        let output = xsl(&arena, 15, "output", &[("method", "a = b")], &[inner])?;
-        let passed = stylesheet(&arena, &[output])?;
-        assert_eq!(rt; fault(&arena, &passed), None, "{local} within an output");
-        let plain = literal(&arena, 20, local, &[], &[])?;
-        assert_eq!(rt; fault_in_body(&arena, plain)?, None, "a literal {local}");
+    for (local, _) in &UNSUPPORTED {
+        assert_passed(&rt, &arena, local)?;
     }
     Ok(())
 }
 
-/// The fault of an attribute at place 21 that is refused by this reason.
-fn refused(why: Why) -> Option<SheetFault> {
-    Some(SheetFault::Unsupported(Place(21), why))
-}
+/// The place of an attribute.
+const HERE: Place = Place(21);
 
-/// The fault of an attribute at place 21 that is malformed.
-fn malformed() -> Option<SheetFault> {
-    Some(SheetFault::Malformed(Place(21)))
-}
+const MALFORMED: Option<SheetFault> = Some(SheetFault::Malformed(HERE));
 
 /// An instruction, its one attribute with its value, and the fault of it.
 type Row<'r> = (&'r str, &'r str, &'r str, Option<SheetFault>);
@@ -352,83 +382,151 @@ fn assert_rows(rt: &impl Abort, arena: &Bump, rows: &[Row<'_>]) -> Result<(), Fa
     Ok(())
 }
 
+/// Attributes that must not be there.
+static MISPLACED: [Row<'static>; 6] = [
+    ("value-of", "version", "1.0", MALFORMED),
+    (
+        "value-of",
+        "xsl:version",
+        "1.0",
+        Some(SheetFault::Malformed(Place(20))),
+    ),
+    (
+        "text",
+        "disable-output-escaping",
+        "yes",
+        Some(SheetFault::Unsupported(HERE, Why::DisableOutputEscaping)),
+    ),
+    (
+        "copy",
+        "use-attribute-sets",
+        "a",
+        Some(SheetFault::Unsupported(HERE, Why::UseAttributeSets)),
+    ),
+    ("copy", "select", "a", MALFORMED),
+    (
+        "element",
+        "namespace",
+        "a",
+        Some(SheetFault::Unsupported(HERE, Why::ComputedName)),
+    ),
+];
+
 #[test]
 fn attributes_that_must_not_be_there(rt: HostRuntime) -> Result<(), Fail> {
     let arena = Bump::new(rt.alloc());
-    let no_select = Some(SheetFault::Malformed(Place(20)));
-    let rows = [
-        ("value-of", "version", "1.0", malformed()),
-        ("value-of", "xsl:version", "1.0", no_select),
-        (
-            "text",
-            "disable-output-escaping",
-            "yes",
-            refused(Why::DisableOutputEscaping),
-        ),
-        (
-            "copy",
-            "use-attribute-sets",
-            "a",
-            refused(Why::UseAttributeSets),
-        ),
-        ("copy", "select", "a", malformed()),
-        ("element", "namespace", "a", refused(Why::ComputedName)),
-    ];
-    assert_rows(&rt, &arena, &rows)
+    assert_rows(&rt, &arena, &MISPLACED)
 }
+
+/// Attributes that are names.
+static NAMES: [Row<'static>; 6] = [
+    ("element", "name", "a", None),
+    (
+        "element",
+        "name",
+        "a{b}",
+        Some(SheetFault::Unsupported(HERE, Why::ComputedName)),
+    ),
+    ("element", "name", "q:a", MALFORMED),
+    ("apply-templates", "mode", "xsl:m", None),
+    ("apply-templates", "mode", "q:m", MALFORMED),
+    (
+        "call-template",
+        "name",
+        "a",
+        Some(SheetFault::Undefined(Place(20))),
+    ),
+];
 
 #[test]
 fn attributes_that_are_names(rt: HostRuntime) -> Result<(), Fail> {
     let arena = Bump::new(rt.alloc());
-    let no_template = Some(SheetFault::Undefined(Place(20)));
-    let rows = [
-        ("element", "name", "a", None),
-        ("element", "name", "a{b}", refused(Why::ComputedName)),
-        ("element", "name", "q:a", malformed()),
-        ("apply-templates", "mode", "xsl:m", None),
-        ("apply-templates", "mode", "q:m", malformed()),
-        ("call-template", "name", "a", no_template),
-    ];
-    assert_rows(&rt, &arena, &rows)
+    assert_rows(&rt, &arena, &NAMES)
 }
+
+/// Attributes of XPath.
+static PATHS: [Row<'static>; 12] = [
+    ("value-of", "select", "a", None),
+    ("value-of", "select", ".", None),
+    (
+        "value-of",
+        "select",
+        "@a",
+        Some(SheetFault::Unsupported(HERE, Why::AttributeStep)),
+    ),
+    ("if", "test", "not(a)", None),
+    (
+        "if",
+        "test",
+        "a = b",
+        Some(SheetFault::Unsupported(HERE, Why::Comparison)),
+    ),
+    (
+        "for-each",
+        "select",
+        "a[1]",
+        Some(SheetFault::Unsupported(HERE, Why::Arithmetic)),
+    ),
+    (
+        "apply-templates",
+        "select",
+        ".",
+        Some(SheetFault::Unsupported(HERE, Why::Dot)),
+    ),
+    ("copy-of", "select", "a/@b|.//@*", None),
+    (
+        "copy-of",
+        "select",
+        "@a|comment()",
+        Some(SheetFault::Unsupported(HERE, Why::XslCopyOf)),
+    ),
+    (
+        "copy-of",
+        "select",
+        "a",
+        Some(SheetFault::Unsupported(HERE, Why::XslCopyOf)),
+    ),
+    ("copy-of", "select", "a)", MALFORMED),
+    (
+        "copy-of",
+        "select",
+        "a(",
+        Some(SheetFault::Unsupported(HERE, Why::FunctionCall)),
+    ),
+];
 
 #[test]
 fn attributes_of_xpath(rt: HostRuntime) -> Result<(), Fail> {
     let arena = Bump::new(rt.alloc());
-    let rows = [
-        ("value-of", "select", "a", None),
-        ("value-of", "select", ".", None),
-        ("value-of", "select", "@a", refused(Why::AttributeStep)),
-        ("if", "test", "not(a)", None),
-        ("if", "test", "a = b", refused(Why::Comparison)),
-        ("for-each", "select", "a[1]", refused(Why::Arithmetic)),
-        ("apply-templates", "select", ".", refused(Why::Dot)),
-        ("copy-of", "select", "a/@b|.//@*", None),
-        ("copy-of", "select", "@a|comment()", refused(Why::XslCopyOf)),
-        ("copy-of", "select", "a", refused(Why::XslCopyOf)),
-        ("copy-of", "select", "a)", malformed()),
-        ("copy-of", "select", "a(", refused(Why::FunctionCall)),
-    ];
-    assert_rows(&rt, &arena, &rows)
+    assert_rows(&rt, &arena, &PATHS)
+}
+
+/// Attributes of literal elements, and why they are refused.
+static LITERALS: [(&str, Option<SheetFault>); 5] = [
+    ("a", None),
+    ("select", None),
+    ("xsl:exclude-result-prefixes", None),
+    (
+        "xsl:use-attribute-sets",
+        Some(SheetFault::Unsupported(HERE, Why::UseAttributeSets)),
+    ),
+    (
+        "xsl:version",
+        Some(SheetFault::Unsupported(HERE, Why::UnknownXslt)),
+    ),
+];
+
+/// The fault of a literal element with this attribute.
+fn fault_of_literal<'b>(arena: &'b Bump, name: &'b str) -> Result<Option<SheetFault>, Fail> {
+    let inner = literal_with(arena, name, "b")?;
+    fault_in_body(arena, inner)
 }
 
 #[test]
 fn attributes_of_literal_elements(rt: HostRuntime) -> Result<(), Fail> {
     let arena = Bump::new(rt.alloc());
-    let rows = [
-        ("a", None),
-        ("select", None),
-        ("xsl:exclude-result-prefixes", None),
-        ("xsl:use-attribute-sets", Some(Why::UseAttributeSets)),
-        ("xsl:version", Some(Why::UnknownXslt)),
-    ];
-    for (name, why) in rows {
-        let inner = literal_with(&arena, name, "b")?;
-        let wanted = match why {
-            Some(why) => Some(SheetFault::Unsupported(Place(21), why)),
-            None => None,
-        };
-        assert_eq!(rt; fault_in_body(&arena, inner)?, wanted, "{name}");
+    for (name, wanted) in &LITERALS {
+        assert_eq!(rt; fault_of_literal(&arena, name)?, *wanted, "{name}");
     }
     Ok(())
 }
@@ -443,28 +541,33 @@ fn fault_of_root<'b>(
     Ok(fault(arena, &root))
 }
 
+/// The fault of a root.
+const AT_ROOT: Option<SheetFault> = Some(SheetFault::Malformed(Place(0)));
+
+/// The name of a root, its attributes, and the fault of it.
+static ROOTS: [(&str, &[(&str, &str)], Option<SheetFault>); 5] = [
+    ("transform", &[("version", "1.0"), ("id", "a")], None),
+    ("stylesheet", &[("id", "a")], AT_ROOT),
+    (
+        "stylesheet",
+        &[("id", "a"), ("version", "1.1")],
+        Some(SheetFault::Unsupported(Place(2), Why::XsltVersion)),
+    ),
+    (
+        "stylesheet",
+        &[("version", "1.0"), ("extension-element-prefixes", "a")],
+        Some(SheetFault::Unsupported(Place(2), Why::ExtensionElements)),
+    ),
+    ("variable", &[], AT_ROOT),
+];
+
 #[test]
 fn roots(rt: HostRuntime) -> Result<(), Fail> {
     let arena = Bump::new(rt.alloc());
-    let here = Some(SheetFault::Malformed(Place(0)));
-    let version = Some(SheetFault::Unsupported(Place(2), Why::XsltVersion));
-    let extension = Some(SheetFault::Unsupported(Place(2), Why::ExtensionElements));
-    // the name of a root, its attributes, and the fault of it
-    let rows: [(&str, &[(&str, &str)], Option<SheetFault>); 5] = [
-        ("transform", &[("version", "1.0"), ("id", "a")], None),
-        ("stylesheet", &[("id", "a")], here),
-        ("stylesheet", &[("id", "a"), ("version", "1.1")], version),
-        (
-            "stylesheet",
-            &[("version", "1.0"), ("extension-element-prefixes", "a")],
-            extension,
-        ),
-        ("variable", &[], here),
-    ];
-    for (local, attributes, wanted) in rows {
+    for (local, attributes, wanted) in &ROOTS {
         assert_eq!(rt;
             fault_of_root(&arena, local, attributes)?,
-            wanted,
+            *wanted,
             "{local}"
         );
     }
@@ -477,57 +580,70 @@ fn fault_of_literal_root<'b>(arena: &'b Bump, name: &'b str) -> Result<Option<Sh
     Ok(fault(arena, &root))
 }
 
+/// The attribute of a literal root, and the fault of it.
+static LITERAL_ROOTS: [(&str, Option<SheetFault>); 4] = [
+    (
+        "xsl:version",
+        Some(SheetFault::Unsupported(Place(0), Why::SimplifiedStylesheet)),
+    ),
+    ("version", AT_ROOT),
+    ("xsl:use-attribute-sets", AT_ROOT),
+    ("xsl:other", AT_ROOT),
+];
+
 #[test]
 fn literal_roots(rt: HostRuntime) -> Result<(), Fail> {
     let arena = Bump::new(rt.alloc());
-    let here = Some(SheetFault::Malformed(Place(0)));
-    let simplified = Some(SheetFault::Unsupported(Place(0), Why::SimplifiedStylesheet));
-    assert_eq!(rt; fault_of_literal_root(&arena, "xsl:version")?, simplified);
-    assert_eq!(rt; fault_of_literal_root(&arena, "version")?, here);
-    assert_eq!(rt;
-        fault_of_literal_root(&arena, "xsl:use-attribute-sets")?,
-        here
-    );
-    assert_eq!(rt; fault_of_literal_root(&arena, "xsl:other")?, here);
+    for (name, wanted) in &LITERAL_ROOTS {
+        assert_eq!(rt; fault_of_literal_root(&arena, name)?, *wanted, "{name}");
+    }
     Ok(())
+}
+
+/// The attributes of a template, and whether its head is good.
+static HEADS: [(&[(&str, &str)], bool); 8] = [
+    (&[("match", "a")], true),
+    (&[("name", "a")], true),
+    (&[("match", "a"), ("name", "b"), ("mode", "c")], true),
+    (&[("name", "a"), ("priority", "1")], true),
+    (&[("name", "a"), ("mode", "b")], false),
+    (&[("priority", "1")], false),
+    (&[("match", "a"), ("priority", "1.23456")], false),
+    (&[("match", "@a"), ("mode", "")], false),
+];
+
+/// The fault of a stylesheet with one template, of these attributes.
+fn fault_of_head<'b>(
+    arena: &'b Bump,
+    attributes: &[(&'b str, &'b str)],
+) -> Result<Option<SheetFault>, Fail> {
+    let template = xsl(arena, 10, "template", attributes, &[])?;
+    let raw = stylesheet(arena, &[template])?;
+    Ok(fault(arena, &raw))
 }
 
 #[test]
 fn heads_of_templates(rt: HostRuntime) -> Result<(), Fail> {
     let arena = Bump::new(rt.alloc());
-    // the attributes of a template, and whether its head is good
-    let heads: [(&[(&str, &str)], bool); 8] = [
-        (&[("match", "a")], true),
-        (&[("name", "a")], true),
-        (&[("match", "a"), ("name", "b"), ("mode", "c")], true),
-        (&[("name", "a"), ("priority", "1")], true),
-        (&[("name", "a"), ("mode", "b")], false),
-        (&[("priority", "1")], false),
-        (&[("match", "a"), ("priority", "1.23456")], false),
-        (&[("match", "@a"), ("mode", "")], false),
-    ];
-    for (attributes, good) in heads {
-        let template = xsl(&arena, 10, "template", attributes, &[])?;
-        let raw = stylesheet(&arena, &[template])?;
-        assert_eq!(rt; fault(&arena, &raw).is_none(), good);
+    for (attributes, good) in &HEADS {
+        assert_eq!(rt; fault_of_head(&arena, attributes)?.is_none(), *good);
     }
     Ok(())
+}
+
+/// Four templates, of which three have one name.
+fn of_one_name<'b>(arena: &'b Bump) -> Result<Raw<'b>, Fail> {
+    let first = xsl(arena, 10, "template", &[("name", "a")], &[])?;
+    let second = xsl(arena, 20, "template", &[("match", "b"), ("name", "a")], &[])?;
+    let other = xsl(arena, 15, "template", &[("name", "b")], &[])?;
+    let third = xsl(arena, 30, "template", &[("name", "a")], &[])?;
+    stylesheet(arena, &[other, first, second, third])
 }
 
 #[test]
 fn templates_of_one_name(rt: HostRuntime) -> Result<(), Fail> {
     let arena = Bump::new(rt.alloc());
-    let first = xsl(&arena, 10, "template", &[("name", "a")], &[])?;
-    let second = xsl(
-        &arena,
-        20,
-        "template",
-        &[("match", "b"), ("name", "a")],
-        &[],
-    )?;
-    let other = xsl(&arena, 15, "template", &[("name", "b")], &[])?;
-    let third = xsl(&arena, 30, "template", &[("name", "a")], &[])?;
-    let again = stylesheet(&arena, &[other, first, second, third])?;
+    let again = of_one_name(&arena)?;
     assert_eq!(rt;
         fault(&arena, &again),
         Some(SheetFault::Malformed(Place(20)))
@@ -535,32 +651,50 @@ fn templates_of_one_name(rt: HostRuntime) -> Result<(), Fail> {
     Ok(())
 }
 
-#[test]
-fn calls_of_templates(rt: HostRuntime) -> Result<(), Fail> {
-    let arena = Bump::new(rt.alloc());
-    // b calls c and c calls itself: the first call on a cycle is the second one
-    let call_c = xsl(&arena, 30, "call-template", &[("name", "c")], &[])?;
-    let calls_c = xsl(&arena, 25, "template", &[("name", "b")], &[call_c])?;
-    let call_again = xsl(&arena, 40, "call-template", &[("name", "c")], &[])?;
-    let calls_itself = xsl(&arena, 35, "template", &[("name", "c")], &[call_again])?;
-    let loops = stylesheet(&arena, &[calls_c, calls_itself])?;
+/// b calls c and c calls itself: the first call on a cycle is the second one.
+fn on_a_cycle<'b>(arena: &'b Bump) -> Result<(Raw<'b>, Raw<'b>), Fail> {
+    let call_c = xsl(arena, 30, "call-template", &[("name", "c")], &[])?;
+    let calls_c = xsl(arena, 25, "template", &[("name", "b")], &[call_c])?;
+    let call_again = xsl(arena, 40, "call-template", &[("name", "c")], &[])?;
+    let calls_itself = xsl(arena, 35, "template", &[("name", "c")], &[call_again])?;
+    Ok((calls_c, calls_itself))
+}
+
+/// A template for a pattern, which calls what there isn't.
+fn of_undefined<'b>(arena: &'b Bump, pattern: &'b str) -> Result<Raw<'b>, Fail> {
+    let undefined = xsl(arena, 60, "call-template", &[("name", "z")], &[])?;
+    xsl(arena, 50, "template", &[("match", pattern)], &[undefined])
+}
+
+/// The fault of a stylesheet of these templates.
+fn fault_of<'b>(arena: &'b Bump, templates: &[Raw<'b>]) -> Result<Option<SheetFault>, Fail> {
+    let raw = stylesheet(arena, templates)?;
+    Ok(fault(arena, &raw))
+}
+
+/// Asserts what calls are refused for.
+fn assert_calls(rt: &impl Abort, arena: &Bump) -> Result<(), Fail> {
+    let (calls_c, calls_itself) = on_a_cycle(arena)?;
     assert_eq!(rt;
-        fault(&arena, &loops),
+        fault_of(arena, &[calls_c, calls_itself])?,
         Some(SheetFault::CallLoop(Place(40)))
     );
     // an undefined call comes first
-    let undefined = xsl(&arena, 60, "call-template", &[("name", "z")], &[])?;
-    let rule = xsl(&arena, 50, "template", &[("match", "a")], &[undefined])?;
-    let both = stylesheet(&arena, &[calls_c, calls_itself, rule])?;
+    let rule = of_undefined(arena, "a")?;
     assert_eq!(rt;
-        fault(&arena, &both),
+        fault_of(arena, &[calls_c, calls_itself, rule])?,
         Some(SheetFault::Undefined(Place(60)))
     );
     // the calls of a dropped template count for nothing
-    let dropped = xsl(&arena, 50, "template", &[("match", "@a")], &[undefined])?;
-    let unused = stylesheet(&arena, &[dropped])?;
-    assert_eq!(rt; fault(&arena, &unused), None);
+    let dropped = of_undefined(arena, "@a")?;
+    assert_eq!(rt; fault_of(arena, &[dropped])?, None);
     Ok(())
+}
+
+#[test]
+fn calls_of_templates(rt: HostRuntime) -> Result<(), Fail> {
+    let arena = Bump::new(rt.alloc());
+    assert_calls(&rt, &arena)
 }
 
 /// This many elements within one another, all of this name.

@@ -89,48 +89,94 @@ const SELECT: [&str; 4] = [
     "\"/></xsl:template>",
 ];
 
+/// How many rules an article's stylesheet with this body of its lists has, or why there is none.
+fn rules_of_article(
+    rt: &HostRuntime,
+    body: &str,
+) -> Result<Option<Result<usize, TextFault>>, Fail> {
+    let text = article(rt, body)?;
+    Ok(rules(rt, text.as_str()))
+}
+
+/// The body of lists, of which each has eight rules with the others.
+static LISTS: [&str; 2] = [
+    "<ul><xsl:apply-templates/></ul>",
+    "<xsl:if test=\"item\"><ul><xsl:apply-templates/></ul></xsl:if>",
+];
+
 #[test]
 fn articles_and_copies_are_read(rt: HostRuntime) -> Result<(), Fail> {
-    let plain = article(&rt, "<ul><xsl:apply-templates/></ul>")?;
-    assert_eq!(rt; rules(&rt, plain.as_str()), Some(Ok(8)));
-    let safe = article(
-        &rt,
-        "<xsl:if test=\"item\"><ul><xsl:apply-templates/></ul></xsl:if>",
-    )?;
-    assert_eq!(rt; rules(&rt, safe.as_str()), Some(Ok(8)));
+    for body in &LISTS {
+        assert_eq!(rt; rules_of_article(&rt, body)?, Some(Ok(8)), "{body}");
+    }
     let copying =
         "<xsl:template match=\"@*|node()\"><xsl:copy><xsl:apply-templates select=\"@*|node()\"/></xsl:copy></xsl:template>";
     assert_eq!(rt; inside(&rt, copying)?, Some(Ok(1)));
     Ok(())
 }
 
+/// What stands between the tags of a stylesheet, and how many rules it has, or why there is none.
+static INSIDE: [(&str, Result<usize, TextFault>); 4] = [
+    (
+        "<xsl:template match=\"/\"><xsl:variable name=\"v\"/><r/></xsl:template>",
+        Err(TextFault::Refused(Reason::Unsupported(Why::XslVariable), Place(103))),
+    ),
+    (
+        "<xsl:template match=\"/\"><variable/></xsl:template>",
+        Ok(1),
+    ),
+    (
+        "<xsl:template match=\"/\">&nbsp;</xsl:template>",
+        Err(TextFault::Refused(Reason::Unsupported(Why::EntityReference), Place(103))),
+    ),
+    (
+        "<xsl:template match=\"p:a\"/>",
+        Err(TextFault::Refused(Reason::Malformed, Place(93))),
+    ),
+];
+
 #[test]
 fn what_is_not_read_is_told_at_its_place(rt: HostRuntime) -> Result<(), Fail> {
-    let variable = "<xsl:template match=\"/\"><xsl:variable name=\"v\"/><r/></xsl:template>";
-    let refused = TextFault::Refused(Reason::Unsupported(Why::XslVariable), Place(103));
-    assert_eq!(rt; inside(&rt, variable)?, Some(Err(refused)));
-    let literal = "<xsl:template match=\"/\"><variable/></xsl:template>";
-    assert_eq!(rt; inside(&rt, literal)?, Some(Ok(1)));
-    let entity = "<xsl:template match=\"/\">&nbsp;</xsl:template>";
-    let refused = TextFault::Refused(Reason::Unsupported(Why::EntityReference), Place(103));
-    assert_eq!(rt; inside(&rt, entity)?, Some(Err(refused)));
-    let unbound = "<xsl:template match=\"p:a\"/>";
-    let refused = TextFault::Refused(Reason::Malformed, Place(93));
-    assert_eq!(rt; inside(&rt, unbound)?, Some(Err(refused)));
+    for (inner, wanted) in &INSIDE {
+        assert_eq!(rt; inside(&rt, inner)?, Some(*wanted), "{inner}");
+    }
     Ok(())
 }
 
+/// How many rules the stylesheet of a nested text has, or why there is none.
+fn inside_nested(
+    rt: &HostRuntime,
+    times: u32,
+    ends: [&str; 4],
+) -> Result<Option<Result<usize, TextFault>>, Fail> {
+    let inner = nested(rt, times, ends)?;
+    inside(rt, inner.as_str())
+}
+
+/// How many times a text is repeated, what stands around, and how many rules there are, or why there are none.
+static NESTED: [(u32, [&str; 4], Result<usize, TextFault>); 4] = [
+    (1999, TEST, Ok(1)),
+    (
+        2001,
+        TEST,
+        Err(TextFault::Refused(Reason::TooDeep, Place(111))),
+    ),
+    (2000, SELECT, Ok(1)),
+    (
+        2001,
+        SELECT,
+        Err(TextFault::Refused(Reason::TooDeep, Place(124))),
+    ),
+];
+
 #[test]
 fn nesting_is_read_two_thousand_deep(rt: HostRuntime) -> Result<(), Fail> {
-    let read = nested(&rt, 1999, TEST)?;
-    assert_eq!(rt; inside(&rt, read.as_str())?, Some(Ok(1)));
-    let deep = nested(&rt, 2001, TEST)?;
-    let refused = TextFault::Refused(Reason::TooDeep, Place(111));
-    assert_eq!(rt; inside(&rt, deep.as_str())?, Some(Err(refused)));
-    let read = nested(&rt, 2000, SELECT)?;
-    assert_eq!(rt; inside(&rt, read.as_str())?, Some(Ok(1)));
-    let deep = nested(&rt, 2001, SELECT)?;
-    let refused = TextFault::Refused(Reason::TooDeep, Place(124));
-    assert_eq!(rt; inside(&rt, deep.as_str())?, Some(Err(refused)));
+    for (times, ends, wanted) in &NESTED {
+        assert_eq!(rt;
+            inside_nested(&rt, *times, *ends)?,
+            Some(*wanted),
+            "{times}"
+        );
+    }
     Ok(())
 }
