@@ -190,6 +190,18 @@ def print_list(clause, seen, order, whole):
         print(f"{file}, {len(names)}: {' '.join(names)}")
 
 
+def crates_of_the_kit():
+    """Returns the names of the toolchain's crates on which the program's stand."""
+    below = dict(line.split(":") for line in Path("crates.txt").read_text().splitlines() if line and not line.startswith("#"))
+    ours, left = set(), ["typecheck"]
+    while left:
+        name = left.pop()
+        if name not in ours:
+            ours.add(name)
+            left += below.get(name, "").split()
+    return ["std", *sorted(ours - {*below})]
+
+
 def write(found, order):
     named = {clause: group for group, listed in GROUPS.items() for clause in listed.split()}
     members = {group: [clause for clause in found if named.get(clause, "answers") == group] for group in GROUPS}
@@ -210,7 +222,7 @@ def write(found, order):
         first=table(["module", "what it says", "lines", "what `safe` reaches"], first),
         columns=table(["column", "clauses, each with its modules and lines", "together"], columns),
         texts=reading(TEXTS), others=reading(OTHERS), constants=table(["file", "constants", *GROUPS], numbers), code=quoted(sorted(code)),
-        std=quoted(sorted({name.split(".")[-1] for name in whole[""] if ".declared." not in name}))))
+        std=quoted(sorted({name.split(".")[-1] for name in whole[""] if ".declared." not in name})), kit=", ".join(f"`{name}`" for name in crates_of_the_kit())))
     readme = Path("README.md").read_text()
     for clause, seen in found.items():
         readme = re.sub(rf"(`{clause}` )\d+, \d+", rf"\g<1>{size(seen)}", readme)
@@ -303,7 +315,7 @@ $constants
 - **The ghost functions of the traits `Store` and `Sink`** ([`crates/tc_io/src/lib.rt`](../crates/tc_io/src/lib.rt)), as `holds` and `written`: what a store holds and a sink was given, where it tells. The store and the sink of memory tell it, and it is proved of them.
 - **The real store and sink.** A file system and a terminal can't tell what they hold: `RealStore` and `RealSink` say `None` ([`real.rt`](../crates/tc_io/src/real.rt)). So of the program on real files each clause that begins with `S.holds store.old ≡ Some files` promises nothing, and none says which bytes are written. There `ends` holds: the call made reads, each with what came of it, and its status is that of an answer which has its cause in the words and in the bytes that came, unless a write failed or memory was refused. Yes to a check has the cause that the stylesheet which these bytes spell is safe between the schemas which they spell. That they are the bytes of the files, and that the answer's bytes come out, is trusted and tested. The code is one for all stores and sinks.
 - **The toolchain**: that its check accepts no wrong proof, and that the program which it builds does what the checked code says.
-- **The C library and the operating system**, and the statements of the kit's crates that the program stands on (`std`, `bumpalo`, `indexmap`, `memchr`, `simdutf8`, `itoa`): their own proofs are the toolchain's.
+- **The C library and the operating system**, and the statements of the kit's crates that the program stands on ($kit): their own proofs are the toolchain's.
 - **`main`** of `crates/typecheck`: that it hands the arguments, the files of the system and the standard output to `run_program` of `tc_top`, and the code that this gives to the system. By its clause `ends`, `run_program` carries out the words behind the program's name as `typecheck` does.
 """
 
