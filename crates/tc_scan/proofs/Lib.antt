@@ -2,3 +2,4 @@ pub mod FrontLaws
 pub mod NamesLaws
 pub mod CharsLaws
 pub mod CharsFront
+pub mod ReferenceLaws

@@ -5,10 +5,12 @@
 mod chars;
 mod front;
 mod names;
+mod references;
 
 pub use chars::{are_chars, characters};
 pub use front::{
     after_byte, after_mark, after_some_white, after_white, begins, plain_len, plain_len_within,
     up_to,
 };
-pub use names::{QualifiedName, ncname, qname};
+pub use names::{QualifiedName, first_char, is_ncname_char, is_ncname_start, ncname, qname};
+pub use references::{NoReference, after_equals, predefined, quote, reference};

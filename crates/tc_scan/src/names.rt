@@ -18,7 +18,7 @@ pub struct QualifiedName<'t> {
 }
 
 /// The character at the front, and what follows it.
-pub(crate) fn first_char(text: &str) -> Option<(char, &str)>
+pub fn first_char(text: &str) -> Option<(char, &str)>
     ensures { MatchOption result (text.now ≡ []) (λ r. IsScalar r.0 × (text.now ≡ encode_utf8 r.0 ++ r.1.now)) }
 {
     let first = text.chars().next()?;
@@ -26,14 +26,14 @@ pub(crate) fn first_char(text: &str) -> Option<(char, &str)>
 }
 
 /// Whether an NCName may begin with this character.
-fn is_ncname_start(c: char) -> bool
+pub fn is_ncname_start(c: char) -> bool
     ensures { result ≡ names.is_ncname_start c }
 {
     c != ':' && is_name_start(c)
 }
 
 /// Whether an NCName may hold this character.
-fn is_ncname_char(c: char) -> bool
+pub fn is_ncname_char(c: char) -> bool
     ensures { result ≡ names.is_ncname_char c }
 {
     c != ':' && is_name_char(c)

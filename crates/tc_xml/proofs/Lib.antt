@@ -1,6 +1,5 @@
 pub mod MiscLaws
 pub mod LineLaws
-pub mod ReferenceLaws
 pub mod PastLaws
 pub mod ValueLaws
 pub mod ScopeLaws

@@ -24,8 +24,9 @@ as_written p = record { prefix = p.0.now; local = p.1.now }
 abbrev pub as_expanded : Pair → ExpandedName
 as_expanded p = record { uri = p.0.now; local = p.1.now }
 
--- The expanded name of an attribute with this name, if it has one. A declaration's is in the namespace of declarations, in which no other is:
--- so names that are written alike, and expanded names that are the same, are found in one list.
+-- The name by which an attribute with this name is told from others, if it has one: its expanded name, but that a declaration is put into the
+-- namespace of declarations, `xmlns` too, which by Namespaces 6.2 has none. In a lawful scope no other attribute is in it: so names that are written
+-- alike, and expanded names that are the same, are found in one list.
 abbrev pub expanded_name : List Bound → QualifiedName → Option ExpandedName
 expanded_name scope n =
     if is_declaring n then Some (record { uri = xmlns_uri; local = n.local })
@@ -60,7 +61,7 @@ pub record AttributeRead (total : ℕ) (old : Bindings) (names : List Pair) (tex
   pub declares : Declares old new
   pub tells : (scope : List Bound) → Tells (now_bound old) scope → Tells (now_bound new) (scope_within scope (written ∷ []))
 
--- some attributes are read, from the front of the text to what is left of it
+-- some attributes are read, from the front of the text to what is left of it: with any others behind them they are attributes of the text
 pub record AttributesRead (total : ℕ) (old : Bindings) (text : List ℕ) (new : Bindings) (names : List Pair) (rest : List ℕ) : Type 0 where
   pub written : List WrittenAttribute
   pub forth : (list : List WrittenAttribute) (after : List ℕ) → AttributesAt false total rest list after → AttributesAt false total text (written ++ list) after
@@ -76,7 +77,7 @@ pub record AllRead (total : ℕ) (old : Bindings) (text : List ℕ) (new : Bindi
   pub parts : AttributesRead total old text new names past
   pub ends : AttributesAt false total past [] rest
 
--- these are the expanded names of these attributes, whatever the scope that is told
+-- by these names these attributes are told from one another, whatever the scope that is told
 abbrev pub AreExpanded : Bindings → List Pair → List Pair → Type 0
 AreExpanded b names expanded = (scope : List Bound) → Tells (now_bound b) scope → map (expanded_name scope) (map as_written names) ≡ map Some (map as_expanded expanded)
 

@@ -28,12 +28,13 @@ Breaks (Unsupported left why) broken = ⊥
 Breaks (TooDeep left) broken = ⊥
 Breaks NoMemory broken = Unit {0}
 
--- whether an attribute with this name is a declaration, and of which prefix
-abbrev pub is_default_name : QualifiedName → Bool
-is_default_name n = is_empty n.prefix && bytes_eq n.local (codes "xmlns")
+-- whether an attribute with this name declares the default namespace, or is any declaration, and of which prefix: as tc_model's `is_default_declaration`,
+-- `is_declaration` and `binding_of`, by the name alone
+abbrev pub declares_default : QualifiedName → Bool
+declares_default n = is_empty n.prefix && bytes_eq n.local (codes "xmlns")
 
 abbrev pub is_declaring : QualifiedName → Bool
-is_declaring n = is_default_name n || bytes_eq n.prefix (codes "xmlns")
+is_declaring n = declares_default n || bytes_eq n.prefix (codes "xmlns")
 
 abbrev pub declared_prefix : QualifiedName → List ℕ
-declared_prefix n = if is_default_name n then [] else n.local
+declared_prefix n = if declares_default n then [] else n.local

@@ -42,7 +42,7 @@ pub record IsWithin (old : Levels) (written : QualifiedName) (count : ℕ) (new 
   pub deeper : old.depth ≡ suc new.depth
   pub bindings : new.bindings ≡ old.bindings
 
--- what is kept of an element that has started, where declarations hid these and this is bound: it comes from this one
+-- what is kept of an element that has started is true of the element, where declarations hid these and this is bound
 pub record IsOpen (hid : List Binding) (bounds : List Bound) (o : Open) (e : Started) : Type 0 where
   pub within : o.count ≤ length hid
   pub named : written_name o.written ≡ e.written

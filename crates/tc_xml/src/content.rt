@@ -1,4 +1,5 @@
-// Elements and their content (XML 1.0, 3 and 3.1).
+// Elements and their content (XML 1.0, 3 and 3.1). What the recursion over elements calls is kept out of line, so that its
+// frames stay small: elements nest 2,000 deep.
 ghost use Rattle.std.specs.Prelude.{◌≡◌, ◌<◌, ◌≤◌, ◌∷◌, ◌++◌, [], ℕ, List, true, false, map, IfOk, IfErr, OnOk, IsTrue, MatchBool, MatchOption, encode_utf8, codes, string_bytes};
 ghost use Rattle.tc_base.specs.declared.reasons.Why.{Why};
 ghost use Rattle.tc_base.specs.declared.reasons.Why.TheVariants.{EntityReference};
@@ -20,7 +21,7 @@ ghost use Rattle.tc_xml.specs.Views.{run_before, gathered_before};
 ghost use Rattle.tc_xml.specs.Tags.{written, in_scope, lacks_space, Breaks};
 
 use crate::faults::{Stop, place_of};
-use crate::misc::{after_comment, after_equals, after_instruction, cdata};
+use crate::misc::{after_comment, after_instruction, cdata};
 use crate::references::{push_lines, quoted, reference};
 use crate::scopes::Scope;
 use crate::tags::{Meaning, Written, first_scope, meaning_of};
@@ -31,8 +32,8 @@ use std::mem;
 use tc_base::{NoMemory, Place, Why};
 use tc_model::{Raw, RawElem};
 use tc_scan::{
-    QualifiedName, after_byte, after_mark, after_some_white, after_white, begins as begins_mark,
-    plain_len, qname, up_to,
+    QualifiedName, after_byte, after_equals, after_mark, after_some_white, after_white,
+    begins as begins_mark, plain_len, qname, up_to,
 };
 
 /// A tag up to where it ends: its name as it is written, what it means, and what follows.

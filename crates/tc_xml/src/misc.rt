@@ -14,7 +14,8 @@ ghost use Rattle.tc_xml.specs.Tags.{Breaks};
 use crate::faults::Stop;
 use tc_base::Why;
 use tc_scan::{
-    after_byte, after_mark, after_some_white, after_white, begins, ncname, qname, up_to,
+    after_byte, after_equals, after_mark, after_some_white, after_white, begins, ncname, qname,
+    up_to,
 };
 
 /// What follows the comment at the front (XML 1.0, 2.5).
@@ -72,13 +73,6 @@ fn literal(text: &str) -> Option<(&str, &str)>
         return up_to(inside, "\"");
     }
     up_to(after_byte(text, b'\'')?, "'")
-}
-
-/// What follows an equals sign and the white space around it (XML 1.0, 2.8).
-pub(crate) fn after_equals(text: &str) -> Option<&str>
-    ensures { MatchOption result ((after : List ℕ) → bytes.EqualsAt text.now after → ⊥) (λ r. bytes.EqualsAt text.now r.now) }
-{
-    Some(after_white(after_byte(after_white(text), b'=')?))
 }
 
 /// The literal that this word is set to, after white space, and what follows it.

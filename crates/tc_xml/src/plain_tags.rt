@@ -10,13 +10,12 @@ ghost use Rattle.tc_xml.specs.PlainTags.{DeclarationRead, ValueRead, AttributeRe
 
 use crate::bindings::Bindings;
 use crate::content::{ends_tag, is_xml_space};
-use crate::misc::after_equals;
 use crate::references::{after_quoted, quoted};
 use crate::tags::{XMLNS, declared_by, is_lawful};
 use crate::twice::all_differ_sorted;
 use bumpalo::Bump;
 use tc_model::Name;
-use tc_scan::{QualifiedName, after_byte, after_some_white, after_white, qname};
+use tc_scan::{QualifiedName, after_byte, after_equals, after_some_white, after_white, qname};
 
 /// A tag up to where it ends: its name as it is written and as it is meant, and what follows.
 #[derive(Clone, Copy)]
@@ -120,8 +119,8 @@ fn read_attributes<'b>(
     }
 }
 
-/// The expanded name of the attribute with this name: without a prefix it has no namespace (Namespaces, 6.2), and a
-/// declaration is in the namespace of declarations.
+/// The name by which the attribute with this name is told from others: its expanded name, which without a prefix has no
+/// namespace (Namespaces, 6.2). A declaration is put into the namespace of declarations, `xmlns` too, which has no prefix.
 fn expand<'b>(bindings: &Bindings<'b>, name: &(&'b str, &'b str)) -> Option<(&'b str, &'b str)>
     ensures { IfSome result (λ r. (scope : List Bound) → Tells (now_bound bindings.now) scope → expanded_name scope (as_written name.now) ≡ Some (as_expanded r)) }
 {
@@ -136,7 +135,7 @@ fn expand<'b>(bindings: &Bindings<'b>, name: &(&'b str, &'b str)) -> Option<(&'b
     Some((uri, local))
 }
 
-/// The expanded names of the attributes with these names.
+/// The same of the attributes with these names.
 fn expand_all<'b>(
     bindings: &Bindings<'b>,
     names: &[(&'b str, &'b str)],
@@ -154,8 +153,8 @@ fn expand_all<'b>(
     Some(())
 }
 
-/// The expanded name of an element: without a prefix it takes the default namespace, or none (Namespaces, 6.1
-/// and 6.2).
+/// The expanded name of an element, as `element_name` of `tags` over the bindings of a scope: without a prefix it takes
+/// the default namespace, or none (Namespaces, 6.1 and 6.2).
 fn name_within<'b>(bindings: &Bindings<'b>, written: QualifiedName<'b>) -> Option<Name<'b>>
     ensures { IfSome result (λ n. (scope : List Bound) → Tells (now_bound bindings.now) scope → ElementName scope (written_name written.entry) (seen_name n)) }
 {

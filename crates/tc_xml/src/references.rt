@@ -1,8 +1,5 @@
 // References, character data and attribute values (XML 1.0, 2.3, 2.4, 3.3.3, 4.1).
-ghost use Rattle.std.specs.Prelude.{◌≡◌, ◌<◌, ◌≤◌, ◌++◌, ◌∷◌, ◌⊎◌, [], ℕ, List, Some, None, true, false, length, slice_index, option_map, string_bytes, encode_utf8, drop, IfOk, IfErr, IfSome, OnOk, IsTrue, MatchOption};
-ghost use Rattle.std.specs.List.{prefix_len};
-ghost use Rattle.std.specs.Str.Parse.{digits_value, AllDigits};
-ghost use Rattle.tc_base.specs.Characters as class;
+ghost use Rattle.std.specs.Prelude.{◌≡◌, ◌<◌, ◌++◌, ℕ, List, true, false, length, slice_index, string_bytes, encode_utf8, IfOk, IfErr, IfSome, OnOk};
 ghost use Rattle.tc_base.specs.declared.reasons.Why.TheVariants.{EntityReference};
 ghost use Rattle.tc_model.specs.XmlTextBytes as xml_bytes;
 ghost use Rattle.tc_model.specs.XmlTextReferences as xml;
@@ -14,72 +11,8 @@ use crate::faults::Stop;
 use bumpalo::Bump;
 use bumpalo::collections::into_bump_str;
 use memchr::{memchr, memchr3};
-use tc_base::{NoMemory, Why, is_char};
-use tc_scan::{after_byte, after_mark, ncname, plain_len_within};
-
-/// The character of a predefined entity (XML 1.0, 4.6).
-fn predefined(name: &str) -> Option<char>
-    ensures { result ≡ xml.predefined name.now }
-{
-    match name {
-        "lt" => Some('<'),
-        "gt" => Some('>'),
-        "amp" => Some('&'),
-        "apos" => Some('\''),
-        "quot" => Some('"'),
-        _ => None,
-    }
-}
-
-/// The character with the number that the digits write, where XML has it.
-fn numbered(digits: &str, base: u32) -> Option<char>
-    requires base { (2 ≤ base) × (base ≤ 16) }
-    requires digits { AllDigits base digits.now }
-    ensures { MatchOption result (IsTrue (class.is_char (digits_value base digits.now)) → ⊥) (λ c. (c ≡ digits_value base digits.now) × IsTrue (class.is_char c)) }
-{
-    let mut number: u32 = 0;
-    for byte in digits.as_bytes() {
-        let digit = (*byte as char).to_digit(base)?;
-        number = number * base + digit;
-        if number > 0x10FFFF {
-            return None;
-        }
-    }
-    let c = char::from_u32(number)?;
-    if is_char(c) { Some(c) } else { None }
-}
-
-/// How many digits of this base the text begins with.
-fn digits_len(text: &str, base: u32) -> usize
-    requires { (2 ≤ base) × (base ≤ 16) }
-    ensures count { result ≡ prefix_len (xml.is_digit base) text.now }
-    ensures within { result ≤ length text.now }
-{
-    let mut count = 0;
-    for byte in text.as_bytes() {
-        if !(*byte as char).is_digit(base) {
-            return count;
-        }
-        count += 1;
-    }
-    count
-}
-
-/// The character to which digits and a `;` refer, and what follows.
-fn by_number(text: &str, base: u32) -> Option<(char, &str)>
-    requires { (2 ≤ base) × (base ≤ 16) }
-    ensures { MatchOption result
-        ((digits after : List ℕ) → xml_bytes.RunAt (xml.is_digit base) text.now digits (59 ∷ after) → IsTrue (class.is_char (digits_value base digits)) → ⊥)
-        (λ r. (digits : List ℕ) × xml_bytes.RunAt (xml.is_digit base) text.now digits (59 ∷ r.1.now) × (r.0 ≡ digits_value base digits) × IsTrue (class.is_char r.0)) }
-{
-    let count = digits_len(text, base);
-    if count == 0 {
-        return None;
-    }
-    let (digits, rest) = text.split_at(count);
-    let after = after_byte(rest, b';')?;
-    Some((numbered(digits, base)?, after))
-}
+use tc_base::{NoMemory, Why};
+use tc_scan::{NoReference, after_byte, after_mark, plain_len_within, quote};
 
 /// The character for which the reference at the front stands, and what follows it.
 pub(crate) fn reference(text: &str) -> Result<(char, &str), Stop>
@@ -89,31 +22,12 @@ pub(crate) fn reference(text: &str) -> Result<(char, &str), Stop>
         ((s after : List ℕ) → xml.ReferenceAt false text.now s after → ⊥)) }
     ensures stands { IfErr result (λ e. UnsupportedAt e (λ why at. (why ≡ EntityReference) × (at ≡ text.now) × refusals.OtherEntityAt at)) }
 {
-    let malformed = Stop::Malformed(text.len());
-    let Some(body) = after_byte(text, b'&') else {
-        return Err(malformed);
-    };
-    if let Some(digits) = after_mark(body, "#x") {
-        return match by_number(digits, 16) {
-            Some(found) => Ok(found),
-            None => Err(malformed),
-        };
-    }
-    if let Some(digits) = after_mark(body, "#") {
-        return match by_number(digits, 10) {
-            Some(found) => Ok(found),
-            None => Err(malformed),
-        };
-    }
-    let Some((name, rest)) = ncname(body) else {
-        return Err(malformed);
-    };
-    let Some(after) = after_byte(rest, b';') else {
-        return Err(malformed);
-    };
-    match predefined(name) {
-        Some(c) => Ok((c, after)),
-        None => Err(Stop::Unsupported(text.len(), Why::EntityReference)),
+    match tc_scan::reference(text) {
+        Ok(found) => Ok(found),
+        Err(NoReference::Malformed) => Err(Stop::Malformed(text.len())),
+        Err(NoReference::OtherEntity) => {
+            Err(Stop::Unsupported(text.len(), Why::EntityReference))
+        }
     }
 }
 
@@ -157,18 +71,6 @@ fn push_spaced(out: &mut String<&Bump>, run: &str) -> Result<(), NoMemory>
     }
     out.push_str(rest)?;
     Ok(())
-}
-
-/// The quote at the front, and what follows it.
-fn quote(text: &str) -> Option<(u8, &str)>
-    ensures { MatchOption result
-        ((q : ℕ) (rest : List ℕ) → xml_bytes.IsQuote q → text.now ≡ q ∷ rest → ⊥)
-        (λ r. xml_bytes.IsQuote r.0 × (text.now ≡ r.0 ∷ r.1.now)) }
-{
-    if let Some(rest) = after_byte(text, b'"') {
-        return Some((b'"', rest));
-    }
-    Some((b'\'', after_byte(text, b'\'')?))
 }
 
 /// Appends the run of characters or the reference at the front of what is left of a value, normalised, and

@@ -68,7 +68,7 @@ pub(crate) fn all_differ(arena: &Bump, names: &[(&str, &str)]) -> Result<bool, S
     }
 }
 
-/// Whether no name is the same as the one after it.
+/// True only where no name is the same as the one after it.
 fn neighbours_differ(names: &[(&str, &str)]) -> bool
     ensures { IsTrue result → AreApart names.now }
 {
@@ -80,7 +80,7 @@ fn neighbours_differ(names: &[(&str, &str)]) -> bool
     true
 }
 
-/// Whether no two of these names are the same; it puts them in order.
+/// True only where no two of these names are the same; it puts them in order.
 fn sorted_differ(names: &mut Vec<(&str, &str), &Bump>) -> bool
     ensures { IsTrue result → IsDistinct same_pair names.old.items }
 {
@@ -88,8 +88,8 @@ fn sorted_differ(names: &mut Vec<(&str, &str), &Bump>) -> bool
     neighbours_differ(names.as_slice())
 }
 
-/// Whether no two names are the same, in room that is there already unless there are very many. It may put them
-/// in order.
+/// True only where no two names are the same, in room that is there already unless there are very many; false also
+/// where memory is refused. It may put them in order.
 pub(crate) fn all_differ_sorted(arena: &Bump, names: &mut Vec<(&str, &str), &Bump>) -> bool
     ensures { IsTrue result → IsDistinct same_pair names.old.items }
 {

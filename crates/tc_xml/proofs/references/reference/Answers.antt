@@ -1,37 +1,17 @@
-use Rattle.std.proofs.Common.{refl, sym}
-use Rattle.tc_xml.proofs.ReferenceLaws.{no_hexadecimal, no_decimal, no_semicolon, no_predefined, is_hexadecimal, is_decimal, is_entity, other_entity}
+use Rattle.std.proofs.Common.{refl, subst}
+use Rattle.tc_model.proofs.XmlTextRefused.{other_no_reference}
+use Rattle.tc_model.specs.XmlTextRefusals.{OtherEntityAt}
+use Rattle.tc_scan.specs.References.{Lacks}
 use Rattle.tc_xml.proofs.references.reference.Goals as goal
 
-pub returns-in-Some-by_number-clause-ok : goal.returns-in-Some-by_number-clause-ok
-returns-in-Some-by_number-clause-ok c =
-    is_hexadecimal c.args.text.now c.in-Some.body.now c.in-Some-after_mark.digits.now _ _ c.in-Some.ensures c.in-Some-after_mark.ensures c.in-Some-by_number.ensures
+pub returns-in-Err-Malformed-clause-no : goal.returns-in-Err-Malformed-clause-no
+returns-in-Err-Malformed-clause-no c = subst (λ e. Lacks e c.args.text.now) c.in-Err-Malformed.field-0-is c.in-Err-Malformed.ensures.no
 
-pub returns-in-None-clause-no : goal.returns-in-None-clause-no
-returns-in-None-clause-no c = no_hexadecimal c.args.text.now c.in-Some.body.now c.in-Some-after_mark.digits.now c.in-Some.ensures c.in-Some-after_mark.ensures c.in-None.ensures
+pub returns-in-Err-OtherEntity-clause-no : goal.returns-in-Err-OtherEntity-clause-no
+returns-in-Err-OtherEntity-clause-no c = λ s after r.
+    let other : OtherEntityAt c.args.text.now = subst (λ e. Lacks e c.args.text.now) c.in-Err-OtherEntity.field-0-is c.in-Err-OtherEntity.ensures.no in
+    other_no_reference other r
 
-pub returns-in-Some-by_number-2-clause-ok : goal.returns-in-Some-by_number-2-clause-ok
-returns-in-Some-by_number-2-clause-ok c =
-    is_decimal c.args.text.now c.in-Some.body.now c.in-Some-after_mark-2.digits.now _ _ c.in-Some.ensures c.in-Some-after_mark-2.ensures c.in-Some-by_number-2.ensures
-
-pub returns-in-None-by_number-clause-no : goal.returns-in-None-by_number-clause-no
-returns-in-None-by_number-clause-no c =
-    no_decimal c.args.text.now c.in-Some.body.now c.in-Some-after_mark-2.digits.now c.in-Some.ensures c.in-Some-after_mark-2.ensures c.in_default-after_mark.ensures c.in-None-by_number.ensures
-
-pub returns-in_default-after_byte-clause-no : goal.returns-in_default-after_byte-clause-no
-returns-in_default-after_byte-clause-no c =
-    no_semicolon c.args.text.now c.in-Some.body.now c.in-Some-ncname.name.now c.in-Some-ncname.rest.now c.in-Some.ensures c.in_default-after_mark-2.ensures c.in-Some-ncname.ensures c.in_default-after_byte.ensures
-
-pub returns-in-Some-predefined-clause-ok : goal.returns-in-Some-predefined-clause-ok
-returns-in-Some-predefined-clause-ok c =
-    is_entity c.args.text.now c.in-Some.body.now c.in-Some-ncname.name.now c.in-Some-ncname.rest.now c.in-Some-after_byte.after.now c.in-Some-predefined.c c.in-Some.ensures c.in-Some-ncname.ensures c.in-Some-after_byte.ensures (sym c.in-Some-predefined.ensures)
-
-pub returns-in-None-predefined-clause-no : goal.returns-in-None-predefined-clause-no
-returns-in-None-predefined-clause-no c =
-    no_predefined c.args.text.now c.in-Some.body.now c.in-Some-ncname.name.now c.in-Some-ncname.rest.now c.in-Some-after_byte.after.now c.in-Some.ensures c.in_default-after_mark-2.ensures c.in-Some-ncname.ensures c.in-Some-after_byte.ensures (sym c.in-None-predefined.ensures)
-
-pub returns-in-None-predefined-clause-stands : goal.returns-in-None-predefined-clause-stands
-returns-in-None-predefined-clause-stands c = (
-  c.args.text.now,
-  refl,
-  (refl, refl, other_entity c.args.text.now c.in-Some.body.now c.in-Some-ncname.name.now c.in-Some-ncname.rest.now c.in-Some-after_byte.after.now c.in-Some.ensures c.in-Some-ncname.ensures c.in-Some-after_byte.ensures (sym c.in-None-predefined.ensures)),
-)
+pub returns-in-Err-OtherEntity-clause-stands : goal.returns-in-Err-OtherEntity-clause-stands
+returns-in-Err-OtherEntity-clause-stands c =
+    (c.args.text.now, refl, (refl, refl, subst (λ e. Lacks e c.args.text.now) c.in-Err-OtherEntity.field-0-is c.in-Err-OtherEntity.ensures.no))

@@ -1,5 +1,5 @@
-use Rattle.tc_xml.proofs.ReferenceLaws.{number_too_large}
-use Rattle.tc_xml.proofs.references.numbered.Goals as goal
+use Rattle.tc_scan.proofs.ReferenceLaws.{number_too_large}
+use Rattle.tc_scan.proofs.references.numbered.Goals as goal
 
 pub returns-then-number-gt1114111 : goal.returns-then-number-gt1114111
 returns-then-number-gt1114111 c =

@@ -1,6 +1,6 @@
 use Rattle.std.proofs.Common.{◌≡◌, ◌≤◌, drop}
 use Rattle.std.specs.Str.Parse.{digits_value, digits_value_after, AllDigits}
-use Rattle.tc_xml.proofs.references.numbered.Given as goal
+use Rattle.tc_scan.proofs.references.numbered.Given as goal
 
 -- the number so far, and the digits that are left
 abbrev pub invariant-loop-byte : goal.invariant-loop-byte

@@ -1,5 +1,5 @@
-use Rattle.tc_xml.proofs.ReferenceLaws.{cut_after_digits, all_digits}
-use Rattle.tc_xml.proofs.references.by_number.Goals as goal
+use Rattle.tc_scan.proofs.ReferenceLaws.{cut_after_digits, all_digits}
+use Rattle.tc_scan.proofs.references.by_number.Goals as goal
 
 pub split_at-requires : goal.split_at-requires
 split_at-requires c = cut_after_digits c.args.base c.digits_len-count.result c.args.text.now c.requires.1 c.digits_len-count.ensures.count c.utf8.text
