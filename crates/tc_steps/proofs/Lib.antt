@@ -1,0 +1,6 @@
+pub mod Found
+pub mod LedLaws
+pub mod Reaching
+pub mod ClassLaws
+pub mod OpenLaws
+pub mod ValidLaws

@@ -1,0 +1,14 @@
+use Rattle.std.proofs.Common.{◌<◌, arith, length, refl}
+use Rattle.std.proofs.lemmas.Option.{slice_get_read}
+use Rattle.tc_steps.proofs.ClassLaws.{class_of}
+use Rattle.tc_steps.proofs.table.Steps.is_started.Goals as goal
+
+pub returns : goal.returns
+returns c = λ x m inside f known is led.
+    let cs = c.args.self.now.classes.items in
+    let below = c.requires.symbol in
+    let counted = c.args.self.now.counted in
+    let low : c.args.symbol.0 < length cs = omega (arith, below, counted) in
+    let at = slice_get_read cs _ c.args.symbol.0 c.index.result.now refl low c.index.ensures in
+    let (allowed, firsts) = class_of x c.args.self.now.alphabet.now cs c.args.symbol.0 c.index.result.now f.classes_are at known m is in
+    c.is_started.ensures x m inside f.stands allowed led

@@ -1,0 +1,40 @@
+use Rattle.std.proofs.Common.{◌<◌, arith, length, refl}
+use Rattle.std.proofs.lemmas.Option.{slice_get_read}
+use Rattle.tc_model.specs.Views as see
+use Rattle.tc_steps.proofs.ClassLaws.{set_known, stays_known, met_classes}
+use Rattle.tc_steps.proofs.table.Steps.symbol.Goals as goal
+
+pub meet-requires-clause-numbers : goal.meet-requires-clause-numbers
+meet-requires-clause-numbers c =
+    let low : c.sym_of-symbol.result.0 < length c.args.self.now.classes.items = omega (arith, c.sym_of-symbol.ensures.below, c.args.self.now.counted) in
+    let at = slice_get_read c.args.self.now.classes.items _ c.sym_of-symbol.result.0 c.index_mut.result.now refl low c.index_mut.ensures.value in
+    (c.args.self.now.sized c.sym_of-symbol.result.0 c.index_mut.result.now at).numbers
+
+pub meet-requires-clause-firsts : goal.meet-requires-clause-firsts
+meet-requires-clause-firsts c =
+    let low : c.sym_of-symbol.result.0 < length c.args.self.now.classes.items = omega (arith, c.sym_of-symbol.ensures.below, c.args.self.now.counted) in
+    let at = slice_get_read c.args.self.now.classes.items _ c.sym_of-symbol.result.0 c.index_mut.result.now refl low c.index_mut.ensures.value in
+    (c.args.self.now.sized c.sym_of-symbol.result.0 c.index_mut.result.now at).firsts
+
+pub returns-clause-known : goal.returns-clause-known
+returns-clause-known c =
+    let low : c.sym_of-symbol.result.0 < length c.args.self.now.classes.items = omega (arith, c.sym_of-symbol.ensures.below, c.args.self.now.counted) in
+    set_known c.args.self.now.classes.items c.sym_of-symbol.result.0 c.meet.new.self low c.meet.ensures.known
+
+pub returns-clause-stays : goal.returns-clause-stays
+returns-clause-stays c =
+    let low : c.sym_of-symbol.result.0 < length c.args.self.now.classes.items = omega (arith, c.sym_of-symbol.ensures.below, c.args.self.now.counted) in
+    stays_known c.args.self.now.classes.items c.sym_of-symbol.result.0 c.meet.new.self low c.meet.ensures.known
+
+pub returns-clause-right : goal.returns-clause-right
+returns-clause-right c = λ x f.
+    let low : c.sym_of-symbol.result.0 < length c.args.self.now.classes.items = omega (arith, c.sym_of-symbol.ensures.below, c.args.self.now.counted) in
+    let at = slice_get_read c.args.self.now.classes.items _ c.sym_of-symbol.result.0 c.index_mut.result.now refl low c.index_mut.ensures.value in
+    record {
+      stands = f.stands;
+      other = f.other;
+      sheet = f.sheet;
+      symbols_are = f.symbols_are;
+      classes_are = met_classes x f.other f.sheet c.args.self.now.alphabet.now (see.name c.args.name.now) c.args.self.now.classes.items c.sym_of-symbol.result.0 c.index_mut.result.now c.meet.new.self at c.meet.ensures.known c.meet.ensures.stays
+          (λ u. c.meet.ensures.allowed u x f.stands) (λ u. c.meet.ensures.led u x f.stands) f.classes_are (λ m e. c.sym_of-symbol.ensures.alike x f.other f.sheet f.symbols_are m e);
+    }

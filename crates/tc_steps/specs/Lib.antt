@@ -1,0 +1,3 @@
+pub mod Led
+pub mod Classes
+pub mod Open

@@ -1,0 +1,14 @@
+//! Sets of states of a schema's contents, and the steps over children from one to another: into an element, over a text,
+//! over an element, and whether the start takes an element (RELAX NG, 6.2 and 6.3).
+#![tactic(auto)]
+
+mod arrows;
+mod classes;
+mod levels;
+mod patterns;
+mod steps;
+mod table;
+mod validity;
+
+pub use table::Steps;
+pub use validity::Validity;
