@@ -1,0 +1,313 @@
+-- How a reader goes on in a tag, and why it doesn't.
+use Rattle.std.proofs.Common.{◌≡◌, ◌≢◌, ℕ, ◌<◌, ◌≤◌, ◌+◌, ◌-◌, Bool, true, false, ◌==◌, if◌then◌else◌, List, [], ◌∷◌, ◌++◌, refl, ap, ◌∙◌, sym, subst, length, take, drop, get_or, arith, Option, None, Some, Result, Ok, Err, IsErrAnd, IsUtf8, IsCharBoundary, append_assoc, append-nil, length-append, take-append-drop, length-drop}
+use Rattle.std.specs.Prelude.{IfOk, IfErr, MatchBool, encode_utf8}
+use Rattle.std.proofs.Math.Seq.{take-append-add}
+use Rattle.std.proofs.lemmas.Bool.{eqb-true}
+use Rattle.std.proofs.lemmas.List.{length-take, length-take-le, take_rest}
+use Rattle.std.proofs.lemmas.Result.{err_from_is_err_and}
+use Rattle.std.proofs.lemmas.Str.{IsCharBoundary-after_ascii}
+use Rattle.tc_model.specs.Grammars.{Grammar}
+use Rattle.tc_model.specs.Names.{IsChars}
+use Rattle.tc_model.specs.RawTrees.{Bound}
+use Rattle.tc_model.specs.XmlTextBytes.{FrontOf, Lacks}
+use Rattle.tc_model.proofs.XmlTextChars.{cut_chars, no_chars}
+use Rattle.tc_stream.specs.XmlTextMeasures.{BeginsTag}
+use Rattle.tc_stream.specs.Cuts.{BeginsNoChar}
+use Rattle.tc_stream.specs.Goes.{Level}
+use Rattle.tc_stream.specs.Faults.{IsFaultOf, IsFaultOfFront}
+use Rattle.tc_stream.specs.Keeps.{AreSteps, Keeps}
+use Rattle.tc_stream.specs.Reading.{ReadsOn}
+use Rattle.tc_stream.specs.Scans.{ended, quoted, tag_scan}
+use Rattle.tc_stream.specs.Stands.{IsReading, ReadsTo}
+use Rattle.tc_stream.specs.TagEnds.{TellsTag}
+use Rattle.tc_stream.specs.TagStands.{TagStands, IsStartTag, IsEndTag, TagTold, EndTold}
+use Rattle.tc_stream.specs.declared.elements.Elements.{Elements}
+use Rattle.tc_stream.specs.declared.faults.StreamFault.{StreamFault}
+use Rattle.tc_stream.specs.declared.names.Room.{Room}
+use Rattle.tc_stream.specs.declared.parts.Part.TheVariants as parts
+use Rattle.tc_stream.specs.declared.reader.Reader.{Reader}
+use Rattle.tc_stream.specs.declared.tag_ends.TagEnd.TheVariants as tags
+use Rattle.tc_stream.proofs.EncodedLaws.{free_of}
+use Rattle.tc_stream.proofs.LongFaults.{FullFront, free_inside, free_kept, full_end_fault, full_fault, full_front, started_open, started_whole, two_bytes}
+use Rattle.tc_stream.proofs.StandsLaws.{KeptEnd, free_join, front_more, front_whole, begins_prefix, kept_end, kept_start, scan_on, stands_end, stands_start}
+use Rattle.tc_stream.proofs.RefusedLaws.{ended_is, no_end}
+use Rattle.tc_stream.proofs.TagEndLaws.{then_tag, tag_more}
+use Rattle.tc_stream.proofs.TagFaults.{ended_tag_fault}
+
+-- results
+
+pub if_ok : {T E : Type 0} (r : Result T E) (Q : T → Type 0) → ((v : T) → r ≡ Ok v → Q v) → IfOk r Q
+if_ok (Ok v) Q h = h v refl
+if_ok (Err e) Q h = tt
+
+pub at_ok : {T E : Type 0} (r : Result T E) (P : T → Type 0) (v : T) → r ≡ Ok v → IfOk r P → P v
+at_ok r P v is h = subst (λ z. IfOk z P) is h
+
+pub if_err : {T E : Type 0} (r : Result T E) (Q : E → Type 0) → ((e : E) → r ≡ Err e → Q e) → IfErr r Q
+if_err (Ok v) Q h = tt
+if_err (Err e) Q h = h e refl
+
+pub at_err : {T E : Type 0} (r : Result T E) (P : E → Type 0) (e : E) → r ≡ Err e → IfErr r P → P e
+at_err r P e is h = subst (λ z. IfErr z P) is h
+
+-- how far a tag goes, from one quote to the next
+
+pub record SoFar (quote within : Option ℕ) (bytes : List ℕ) (from : ℕ) : Type 0 where
+  pub low : from ≤ length bytes
+  pub front : tag_scan quote (take from bytes) ≡ quoted within
+
+pub none_so_far : (quote : Option ℕ) (bytes : List ℕ) → SoFar quote quote bytes 0
+none_so_far quote bytes = record { low = omega arith; front = refl }
+
+-- what is scanned of the rest stands in all
+pub slice_low : (bytes : List ℕ) (from count : ℕ) → from ≤ length bytes → count ≤ length (take (length bytes - from) (drop from bytes)) → from + count ≤ length bytes
+slice_low bytes from count low h = omega (arith, low, h, ap length (take_rest bytes from), length-drop from bytes)
+
+taken_more : (bytes : List ℕ) (from count : ℕ) → from ≤ length bytes → take (from + count) bytes ≡ take from bytes ++ take count (drop from bytes)
+taken_more bytes from count low =
+    let long : length (take from bytes) ≡ from = length-take-le from bytes low in
+    ap (take (from + count)) (sym (take-append-drop from bytes))
+    ∙ (ap (λ n. take (n + count) (take from bytes ++ drop from bytes)) (sym long) ∙ take-append-add (take from bytes) (drop from bytes) count)
+
+scanned_more : {quote within : Option ℕ} {bytes : List ℕ} {from : ℕ} (count : ℕ) → SoFar quote within bytes from → tag_scan quote (take (from + count) bytes) ≡ tag_scan within (take count (drop from bytes))
+scanned_more {quote} {within} {bytes} {from} count s =
+    ap (tag_scan quote) (taken_more bytes from count s.low) ∙ (tag_more quote (take from bytes) (take count (drop from bytes)) ∙ ap (λ y. then_tag y (take count (drop from bytes))) s.front)
+
+pub quoted_more : {quote within next : Option ℕ} {bytes : List ℕ} {from : ℕ} (count : ℕ) → SoFar quote within bytes from → TellsTag within (drop from bytes) (tags.Quoted next count) → SoFar quote next bytes (from + count)
+quoted_more {bytes = bytes} {from = from} count s h = record { low = omega (arith, s.low, h.1, length-drop from bytes); front = scanned_more count s ∙ h.3 }
+
+pub open_more : {quote within : Option ℕ} {bytes : List ℕ} {from : ℕ} → SoFar quote within bytes from → TellsTag within (drop from bytes) tags.Open → tag_scan quote bytes ≡ quoted within
+open_more {quote} {within} {bytes} {from} s h =
+    ap (tag_scan quote) (sym (take-append-drop from bytes)) ∙ (tag_more quote (take from bytes) (drop from bytes) ∙ (ap (λ y. then_tag y (drop from bytes)) s.front ∙ h))
+
+pub behind_more : {quote within : Option ℕ} {bytes : List ℕ} {from : ℕ} (count : ℕ) → SoFar quote within bytes from → TellsTag within (drop from bytes) (tags.Behind count)
+    → (0 < from + count) × (from + count ≤ length bytes) × (tag_scan quote (take (from + count) bytes) ≡ ended [])
+behind_more {bytes = bytes} {from = from} count s h = (omega (arith, h.0), omega (arith, s.low, h.1, length-drop from bytes), scanned_more count s ∙ h.3)
+
+pub tag_shorter : (within next : Option ℕ) (bytes : List ℕ) (from count : ℕ) → from ≤ length bytes → TellsTag within (drop from bytes) (tags.Quoted next count) → length bytes - (from + count) < length bytes - from
+tag_shorter within next bytes from count low h = omega (arith, low, h.0, h.1, length-drop from bytes)
+
+-- a tag ends with a `>`
+
+ends_with : (q : Option ℕ) (w : List ℕ) → tag_scan q w ≡ ended [] → (v : List ℕ) × (w ≡ v ++ 0x3E ∷ [])
+ends_with q [] e = absurd (no_end e)
+ends_with None (b ∷ w) e = by (b == 0x3E) (b == 0x22) (b == 0x27) refl e (λ i. ends_with (Some b) w i) (λ i. ends_with None w i)
+  where
+    more : (v : List ℕ) × (w ≡ v ++ 0x3E ∷ []) → (v : List ℕ) × (b ∷ w ≡ v ++ 0x3E ∷ [])
+    more (v, is) = (b ∷ v, ap (λ z. b ∷ z) is)
+
+    by : (x y z : Bool) → (b == 0x3E) ≡ x → (if x then ended w else (if y then tag_scan (Some b) w else (if z then tag_scan (Some b) w else tag_scan None w))) ≡ ended []
+        → (tag_scan (Some b) w ≡ ended [] → (v : List ℕ) × (w ≡ v ++ 0x3E ∷ [])) → (tag_scan None w ≡ ended [] → (v : List ℕ) × (w ≡ v ++ 0x3E ∷ [])) → (v : List ℕ) × (b ∷ w ≡ v ++ 0x3E ∷ [])
+    by true y z k i g h = ([], ap (λ c. c ∷ w) (eqb-true b 0x3E k) ∙ ap (λ c. 0x3E ∷ c) (ended_is i))
+    by false true z k i g h = more (g i)
+    by false false true k i g h = more (g i)
+    by false false false k i g h = more (h i)
+ends_with (Some a) (b ∷ w) e = by (b == a) e (λ i. ends_with None w i) (λ i. ends_with (Some a) w i)
+  where
+    more : (v : List ℕ) × (w ≡ v ++ 0x3E ∷ []) → (v : List ℕ) × (b ∷ w ≡ v ++ 0x3E ∷ [])
+    more (v, is) = (b ∷ v, ap (λ z. b ∷ z) is)
+
+    by : (x : Bool) → (if x then tag_scan None w else tag_scan (Some a) w) ≡ ended [] → (tag_scan None w ≡ ended [] → (v : List ℕ) × (w ≡ v ++ 0x3E ∷ [])) → (tag_scan (Some a) w ≡ ended [] → (v : List ℕ) × (w ≡ v ++ 0x3E ∷ []))
+        → (v : List ℕ) × (b ∷ w ≡ v ++ 0x3E ∷ [])
+    by true i g h = more (g i)
+    by false i g h = more (h i)
+
+-- so a text is cut there where a character begins
+
+pub cut_behind : (text v : List ℕ) (count : ℕ) → IsUtf8 text → count ≤ length text → take count text ≡ v ++ 0x3E ∷ [] → IsCharBoundary text count
+cut_behind text v count utf8 low is =
+    let long : length v + 1 ≡ count = omega (arith, length-take-le count text low, ap length is, length-append v (0x3E ∷ [])) in
+    let whole : text ≡ v ++ 0x3E ∷ drop count text = sym (take-append-drop count text) ∙ (ap (λ z. z ++ drop count text) is ∙ append_assoc v (0x3E ∷ []) (drop count text)) in
+    let here : get_or text (length v) 0 ≡ 0x3E = ap (λ z. get_or z (length v) 0) whole ∙ get_or_seam v 0x3E (drop count text) in
+    subst (IsCharBoundary text) long (IsCharBoundary-after_ascii text (length v) utf8 (omega (arith, long, low)) (omega (arith, here)))
+  where
+    get_or_seam : (v : List ℕ) (b : ℕ) (r : List ℕ) → get_or (v ++ b ∷ r) (length v) 0 ≡ b
+    get_or_seam [] b r = refl
+    get_or_seam (c ∷ v) b r = get_or_seam v b r
+
+pub cut_behind_tag : (text : List ℕ) (quote : Option ℕ) (count : ℕ) → IsUtf8 text → count ≤ length text → tag_scan quote (take count text) ≡ ended [] → IsCharBoundary text count
+cut_behind_tag text quote count utf8 low e = let (v, is) = ends_with quote (take count text) e in cut_behind text v count utf8 low is
+
+-- a start tag or an empty-element tag of which too much has come
+
+begins_more : {kept : List ℕ} (more : List ℕ) (b : BeginsTag kept) → (a : BeginsTag (kept ++ more)) × (a.next ≡ b.next)
+begins_more more b = (record { next = b.next; rest = b.rest ++ more; opens = ap (λ w. w ++ more) b.opens; no_mark = b.no_mark; no_instruction = b.no_instruction }, refl)
+
+pub kept_start_fault : (x : Grammar) (s : Reader) (chars text now tag : List ℕ) (most : ℕ) (q next : Option ℕ) (fault : StreamFault) → s.part ≡ parts.Tag q → tag_scan q text ≡ quoted next → IsChars text → ReadsTo x s chars
+    → most ≡ 65536 → now ≡ take most (s.tag.bytes.items ++ text) → most < length (s.tag.bytes.items ++ text) → FrontOf now tag → TagTold s.elements fault tag s.begun true → IsFaultOfFront (chars ++ text) fault
+kept_start_fault x s chars text now tag most q next fault is scan h r size bytes long front told =
+    let k = kept_start x s chars q r is in
+    let t = stands_start x s chars text q k is h in
+    let f = full_front (s.tag.bytes.items ++ text) tag t.item_chars (subst (λ m. m < length (s.tag.bytes.items ++ text)) size long) (subst (λ z. FrontOf z tag) (bytes ∙ ap (λ m. take m (s.tag.bytes.items ++ text)) size) front) in
+    let b = begins_more text k.begins in
+    full_fault t tag f (started_open f b.0 (λ e. k.apart (sym b.1 ∙ e)) next (scan_on s.tag.bytes.items text q k.scanned ∙ scan)) fault told
+
+pub whole_start_fault : (x : Grammar) (s : Reader) (chars text now tag : List ℕ) (most : ℕ) (q : Option ℕ) (fault : StreamFault) → s.part ≡ parts.Tag q → tag_scan q text ≡ ended [] → IsChars text → ReadsTo x s chars
+    → most ≡ 65536 → now ≡ take most (s.tag.bytes.items ++ text) → most < length (s.tag.bytes.items ++ text) → FrontOf now tag → TagTold s.elements fault tag s.begun true → IsFaultOfFront (chars ++ text) fault
+whole_start_fault x s chars text now tag most q fault is scan h r size bytes long front told =
+    let k = kept_start x s chars q r is in
+    let t = stands_start x s chars text q k is h in
+    let f = full_front (s.tag.bytes.items ++ text) tag t.item_chars (subst (λ m. m < length (s.tag.bytes.items ++ text)) size long) (subst (λ z. FrontOf z tag) (bytes ∙ ap (λ m. take m (s.tag.bytes.items ++ text)) size) front) in
+    let b = begins_more text k.begins in
+    full_fault t tag f (started_whole f b.0 (λ e. k.apart (sym b.1 ∙ e)) (scan_on s.tag.bytes.items text q k.scanned ∙ scan)) fault told
+
+-- and one that is whole
+pub whole_start : (x : Grammar) (s : Reader) (chars text now : List ℕ) (q : Option ℕ) → s.part ≡ parts.Tag q → tag_scan q text ≡ ended [] → IsChars text → ReadsTo x s chars → now ≡ s.tag.bytes.items ++ text
+    → IsStartTag now × TagStands x s.elements s.begun now (chars ++ text)
+whole_start x s chars text now q is scan h r bytes =
+    let k = kept_start x s chars q r is in
+    let b = begins_more text k.begins in
+    let w : IsStartTag (s.tag.bytes.items ++ text) = record { begins = b.0; apart = λ e. k.apart (sym b.1 ∙ e); ends = scan_on s.tag.bytes.items text q k.scanned ∙ scan } in
+    (subst IsStartTag (sym bytes) w, subst (λ z. TagStands x s.elements s.begun z (chars ++ text)) (sym bytes) (stands_start x s chars text q k is h))
+
+-- the text ends in one
+pub kept_start_ended : (x : Grammar) (s : Reader) (chars r tag : List ℕ) (q : Option ℕ) (is_long : Bool) (fault : StreamFault) → is_long ≡ false → ReadsTo x s chars → s.part ≡ parts.Tag q → BeginsNoChar r → FrontOf s.tag.bytes.items tag
+    → TagTold s.elements fault tag s.begun is_long → IsFaultOf (chars ++ r) fault
+kept_start_ended x s chars r tag q is_long fault short reads is last front told =
+    let k = kept_start x s chars q reads is in
+    let t = stands_start x s chars [] q k is no_chars in
+    let b = begins_more [] k.begins in
+    let same : tag ≡ s.tag.bytes.items ++ [] = front_whole (subst IsChars k.same k.reads.pending_chars) front ∙ sym (append-nil s.tag.bytes.items) in
+    let here : TagTold s.elements fault (s.tag.bytes.items ++ []) s.begun false = subst (λ z. TagTold s.elements fault z s.begun false) same (subst (λ z. TagTold s.elements fault tag s.begun z) short told) in
+    subst (λ z. IsFaultOf (z ++ r) fault) (append-nil chars)
+    (ended_tag_fault t b.0 (λ e. k.apart (sym b.1 ∙ e)) q (scan_on s.tag.bytes.items [] q k.scanned) (subst (λ z. length z ≤ 65536) (sym (append-nil s.tag.bytes.items)) k.low) r last fault here)
+
+-- the same of end tags
+
+end_fault_by : (x : Grammar) (s : Reader) (chars text now tag : List ℕ) (most : ℕ) (fault : StreamFault) (k : KeptEnd x s chars) → s.part ≡ parts.EndTag → IsChars text → ((f : FullFront (s.tag.bytes.items ++ text) tag) → free_of 0x3E tag ≡ true)
+    → most ≡ 65536 → now ≡ take most (s.tag.bytes.items ++ text) → most < length (s.tag.bytes.items ++ text) → FrontOf now tag
+    → ((l : Level) (ls : List Level) (scope : List Bound) → Keeps s.elements (l ∷ ls) scope → EndTold fault tag l.written.name s.begun true) → IsFaultOfFront (chars ++ text) fault
+end_fault_by x s chars text now tag most fault k is h free size bytes long front told =
+    let both = stands_end x s chars text k is h in
+    let f = full_front (s.tag.bytes.items ++ text) tag both.0.item_chars (subst (λ m. m < length (s.tag.bytes.items ++ text)) size long) (subst (λ z. FrontOf z tag) (bytes ∙ ap (λ m. take m (s.tag.bytes.items ++ text)) size) front) in
+    let b = begins_more text k.begins in
+    let a = begins_prefix tag (encode_utf8 f.char ++ f.more) b.0 (f.parts ∙ append_assoc tag (encode_utf8 f.char) f.more) (two_bytes f.full) in
+    full_end_fault both.0 tag f a.0 (a.1 ∙ (b.1 ∙ k.slash)) (free f) both.1 fault told
+
+pub kept_end_fault : (x : Grammar) (s : Reader) (chars text now tag : List ℕ) (most : ℕ) (fault : StreamFault) → s.part ≡ parts.EndTag → Lacks (0x3E ∷ []) text → IsChars text → ReadsTo x s chars
+    → most ≡ 65536 → now ≡ take most (s.tag.bytes.items ++ text) → most < length (s.tag.bytes.items ++ text) → FrontOf now tag
+    → ((l : Level) (ls : List Level) (scope : List Bound) → Keeps s.elements (l ∷ ls) scope → EndTold fault tag l.written.name s.begun true) → IsFaultOfFront (chars ++ text) fault
+kept_end_fault x s chars text now tag most fault is lacks h r size bytes long front told =
+    let k = kept_end x s chars r is in
+    end_fault_by x s chars text now tag most fault k is h (λ f. free_kept f (free_join s.tag.bytes.items text k.lacks lacks)) size bytes long front told
+
+inside_of : (kept text front : List ℕ) → text ≡ front ++ 0x3E ∷ [] → kept ++ text ≡ (kept ++ front) ++ 0x3E ∷ []
+inside_of kept text front is = ap (λ z. kept ++ z) is ∙ sym (append_assoc kept front (0x3E ∷ []))
+
+pub whole_end_long : (x : Grammar) (s : Reader) (chars text now tag front : List ℕ) (most : ℕ) (fault : StreamFault) → s.part ≡ parts.EndTag → text ≡ front ++ 0x3E ∷ [] → Lacks (0x3E ∷ []) front → IsChars text → ReadsTo x s chars
+    → most ≡ 65536 → now ≡ take most (s.tag.bytes.items ++ text) → most < length (s.tag.bytes.items ++ text) → FrontOf now tag
+    → ((l : Level) (ls : List Level) (scope : List Bound) → Keeps s.elements (l ∷ ls) scope → EndTold fault tag l.written.name s.begun true) → IsFaultOfFront (chars ++ text) fault
+whole_end_long x s chars text now tag front most fault is ends lacks h r size bytes long first told =
+    let k = kept_end x s chars r is in
+    end_fault_by x s chars text now tag most fault k is h
+    (λ f. free_inside f (s.tag.bytes.items ++ front) (inside_of s.tag.bytes.items text front ends) (free_join s.tag.bytes.items front k.lacks lacks)) size bytes long first told
+
+pub record WholeEnd (x : Grammar) (s : Reader) (now chars : List ℕ) : Type 0 where
+  pub is_end : IsEndTag now
+  pub stands : TagStands x s.elements s.begun now chars
+  pub some : stands.ls ≢ []
+
+pub whole_end : (x : Grammar) (s : Reader) (chars text now front : List ℕ) → s.part ≡ parts.EndTag → text ≡ front ++ 0x3E ∷ [] → Lacks (0x3E ∷ []) front → IsChars text → ReadsTo x s chars → now ≡ s.tag.bytes.items ++ text
+    → WholeEnd x s now (chars ++ text)
+whole_end x s chars text now front is ends lacks h r bytes =
+    let k = kept_end x s chars r is in
+    let both = stands_end x s chars text k is h in
+    let b = begins_more text k.begins in
+    let w : IsEndTag (s.tag.bytes.items ++ text) = record {
+      begins = b.0;
+      slash = b.1 ∙ k.slash;
+      inside = s.tag.bytes.items ++ front;
+      parts = inside_of s.tag.bytes.items text front ends;
+      free = free_join s.tag.bytes.items front k.lacks lacks;
+    } in
+    let here : WholeEnd x s (s.tag.bytes.items ++ text) (chars ++ text) = record { is_end = w; stands = both.0; some = both.1 } in
+    subst (λ z. WholeEnd x s z (chars ++ text)) (sym bytes) here
+
+-- what a method reads of a text
+
+pub reads_all : (old new : Reader) (text rest : List ℕ) (end : ℕ) → rest ≡ [] → IsReading new → ((x : Grammar) (chars : List ℕ) → IsChars text → ReadsTo x old chars → ReadsTo x new (chars ++ text)) → ReadsOn old new text rest end
+reads_all old new text rest end none ready reads = record {
+  used = text;
+  parts = sym (append-nil text) ∙ ap (λ z. text ++ z) (sym none);
+  ready = ready;
+  reads = λ x chars h e r. reads x chars h r;
+}
+
+pub reads_front : (old new : Reader) (text rest : List ℕ) (end count : ℕ) → rest ≡ drop count text → IsReading new
+    → ((x : Grammar) (chars : List ℕ) → IsChars text → ReadsTo x old chars → ReadsTo x new (chars ++ take count text)) → ReadsOn old new text rest end
+reads_front old new text rest end count behind ready reads = record {
+  used = take count text;
+  parts = sym (take-append-drop count text) ∙ ap (λ z. take count text ++ z) (sym behind);
+  ready = ready;
+  reads = λ x chars h e r. reads x chars h r;
+}
+
+-- the characters at the front of a text
+pub front_chars : (text front : List ℕ) (count : ℕ) → IsCharBoundary text count → front ≡ take count text → IsChars text → IsChars front
+front_chars text front count cut first h = subst IsChars (sym first) (cut_chars text count h cut).0
+
+-- the fault of a front of it
+pub front_fault : (chars text front : List ℕ) (count : ℕ) (e : StreamFault) → front ≡ take count text → IsFaultOfFront (chars ++ front) e → IsFaultOfFront (chars ++ text) e
+front_fault chars text front count e first f =
+    let whole : (chars ++ front) ++ drop count text ≡ chars ++ text = append_assoc chars front (drop count text) ∙ ap (λ z. chars ++ z) (ap (λ z. z ++ drop count text) first ∙ take-append-drop count text) in
+    subst (λ z. IsFaultOfFront z e) whole (front_more (chars ++ front) (drop count text) e f)
+
+pub shorter_by : (text rest : List ℕ) (count : ℕ) → rest ≡ drop count text → 0 < count → count ≤ length text → length rest < length text
+shorter_by text rest count is some low = omega (arith, ap length is, length-drop count text, some, low)
+
+-- an error that is passed on
+pub failed : {T E : Type 0} (r : Result T E) (e : E) (P : E → Type 0) → IsErrAnd r (λ x. x ≡ e) → P e → IfErr r P
+failed r e P h q = let p = err_from_is_err_and r h in subst (λ w. IfErr w P) (sym p.1) (subst P (sym p.2) q)
+
+-- what is kept of a tag, as it is read
+
+pub front_short : {w f : List ℕ} (n : ℕ) → FrontOf w f → length w ≤ n → length f ≤ n
+front_short {w} {f} n k low = omega (arith, low, ap length k.parts, length-append f k.after)
+
+-- as much of bytes as there is room for
+pub put_front : (b : Bool) (old mid new bytes front : List ℕ) (most room : ℕ) (now : ℕ) → mid ≡ old → now ≡ most → most < length old + length bytes → length mid + room ≡ now → front ≡ take room bytes
+    → MatchBool b (new ≡ mid ++ front) ((new ≡ mid) × (now < length mid + length front)) → (new ≡ take most (old ++ bytes)) × (most < length (old ++ bytes))
+put_front true old mid new bytes front most room now same size long sum first put =
+    let reach : length old + room ≡ most = omega (arith, sum, size, ap length same) in
+    let whole : new ≡ take most (old ++ bytes) = put ∙ (ap (λ z. z ++ front) same ∙ (ap (λ z. old ++ z) first ∙ (sym (take-append-add old bytes room) ∙ ap (λ n. take n (old ++ bytes)) reach))) in
+    (whole, omega (arith, long, length-append old bytes))
+put_front false old mid new bytes front most room now same size long sum first put = absurd (omega (arith, put.1, sum, ap length first, length-take room bytes))
+
+-- a tag stands where nothing of what it stands by changes
+pub stands_moved : {x : Grammar} {old : Elements} {place : ℕ} {item chars : List ℕ} (t : TagStands x old place item chars) (new : Elements) → ((ls : List Level) (scope : List Bound) → Keeps old ls scope → Keeps new ls scope)
+    → new.validity ≡ old.validity → TagStands x new place item chars
+stands_moved {x} t new keeps same = record {
+  before = t.before;
+  parts_are = t.parts_are;
+  stands = t.stands;
+  before_chars = t.before_chars;
+  item_chars = t.item_chars;
+  ls = t.ls;
+  scope = t.scope;
+  run = t.run;
+  keeps = keeps t.ls t.scope t.keeps;
+  steps = subst (λ v. AreSteps x v t.ls t.run) (sym same) t.steps;
+  comes = t.comes;
+}
+
+-- the same by the tag as it is read
+pub start_by : {x : Grammar} {e : Elements} {place : ℕ} {item chars tag : List ℕ} → FrontOf item tag → IsStartTag item → TagStands x e place item chars → IsStartTag tag × TagStands x e place tag chars
+start_by {x} {e} {place} {item} {chars} k w t =
+    let same = front_whole t.item_chars k in (subst IsStartTag (sym same) w, subst (λ z. TagStands x e place z chars) (sym same) t)
+
+pub record EndBy (x : Grammar) (e : Elements) (place : ℕ) (tag chars : List ℕ) : Type 0 where
+  pub is_end : IsEndTag tag
+  pub stands : TagStands x e place tag chars
+  pub some : stands.ls ≢ []
+
+pub end_by : {x : Grammar} {e : Elements} {place : ℕ} {item chars tag : List ℕ} → FrontOf item tag → IsEndTag item → (t : TagStands x e place item chars) → t.ls ≢ [] → EndBy x e place tag chars
+end_by {x} {e} {place} {item} {chars} k w t some =
+    let here : EndBy x e place item chars = record { is_end = w; stands = t; some = some } in subst (λ z. EndBy x e place z chars) (sym (front_whole t.item_chars k)) here
+
+pub nothing_left : {A : Type 0} (xs : List A) → length xs ≡ 0 → xs ≡ []
+nothing_left [] e = refl
+nothing_left (x ∷ xs) e = absurd (omega (arith, e))
+
+-- what is kept of a tag has room
+pub room_low : (r : Room) → r.most ≡ 65536 → length r.bytes.items ≤ 65536
+room_low r size = omega (arith, r.few, r.bytes.ok.0, size)

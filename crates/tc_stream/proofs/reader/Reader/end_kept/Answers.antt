@@ -1,0 +1,24 @@
+use Rattle.std.proofs.Common.{sym, subst}
+use Rattle.tc_model.specs.XmlTextBytes.{FrontOf}
+use Rattle.tc_stream.specs.Faults.{IsFaultOfFront}
+use Rattle.tc_stream.specs.Keeps.{IsReady}
+use Rattle.tc_stream.proofs.StandsLaws.{reads_behind}
+use Rattle.tc_stream.proofs.TagReads.{end_by, failed, front_short, room_low}
+use Rattle.tc_stream.proofs.reader.Reader.end_kept.Goals as goal
+
+pub end-requires-clause-short : goal.end-requires-clause-short
+end-requires-clause-short c =
+    let s = c.args.self.now in front_short 65536 (subst (λ z. FrontOf z c.characters-tag.result.now) c.bytes.ensures c.characters-tag.ensures) (room_low s.tag s.tag_room)
+
+pub returns-in_err-end-clause-fault : goal.returns-in_err-end-clause-fault
+returns-in_err-end-clause-fault c = λ x chars w t some.
+    let by = end_by (subst (λ z. FrontOf z c.characters-tag.result.now) c.bytes.ensures c.characters-tag.ensures) w t some in
+    failed c.from_residual.result c.in_err-end.field-0.0 (λ e. IsFaultOfFront chars e) c.from_residual.ensures.1 (c.in_err-end.ensures.fault x chars by.is_end by.stands by.some)
+
+pub returns-clause-ready : goal.returns-clause-ready
+returns-clause-ready c = subst IsReady (sym c.leave_tag.ensures.elements) c.in_ok-end.ensures.ready
+
+pub returns-clause-ok : goal.returns-clause-ok
+returns-clause-ok c = λ x chars w t some.
+    let by = end_by (subst (λ z. FrontOf z c.characters-tag.result.now) c.bytes.ensures c.characters-tag.ensures) w t some in
+    reads_behind x c.leave_tag.new.self c.end.new.elements chars (c.in_ok-end.ensures.ok x chars by.is_end by.stands by.some) c.leave_tag.ensures.elements c.leave_tag.ensures.part c.leave_tag.ensures.inside c.leave_tag.ensures.outside

@@ -1,0 +1,11 @@
+use Rattle.std.proofs.Common.{[], refl}
+use Rattle.tc_model.specs.XmlTextScopes.{first_scope}
+use Rattle.tc_stream.proofs.KeepsLaws.{ready}
+use Rattle.tc_stream.proofs.StandsLaws.{new_reads}
+use Rattle.tc_stream.proofs.reader.Reader.new.Goals as goal
+
+pub returns-clause-ready : goal.returns-clause-ready
+returns-clause-ready c = ready c.in_ok-elements.elements [] first_scope c.in_ok-elements.ensures.keeps
+
+pub returns-clause-reads : goal.returns-clause-reads
+returns-clause-reads c = λ x other sheet st same. new_reads x _ refl refl c.in_ok-elements.ensures.keeps (c.in_ok-elements.ensures.steps x other sheet st same)

@@ -1,0 +1,13 @@
+use Rattle.std.proofs.Common.{[], inl, refl, sym}
+use Rattle.tc_stream.proofs.stream.Stream.new.Goals as goal
+
+pub returns-clause-stands : goal.returns-clause-stands
+returns-clause-stands c = λ x other sheet st start same. record {
+  start = start;
+  no_fault = refl;
+  fed = refl;
+  chars = [];
+  reads = c.in_ok-reader.ensures.reads x other sheet st same;
+  parts_are = sym c.none.ensures.bytes;
+  cut_off = inl c.none.ensures.bytes;
+}

@@ -1,0 +1,15 @@
+use Rattle.tc_stream.proofs.TagBehind.{no_start_fault, starts_behind}
+use Rattle.tc_stream.proofs.TagFaults.{has_room}
+use Rattle.tc_stream.proofs.tag_reading.enter.Goals as goal
+
+pub returns-in-Ok-clause-ok : goal.returns-in-Ok-clause-ok
+returns-in-Ok-clause-ok c = λ x chars w t.
+    let (e, read, written) = c.requires.written in
+    starts_behind t c.start.new.self c.args.form.now e c.requires.short (has_room c.args.elements.now t.keeps c.requires.room) read
+    (c.in-Ok.ensures.starts e t.ls t.scope read written t.item_chars t.keeps)
+
+pub returns-in-Err-clause-fault : goal.returns-in-Err-clause-fault
+returns-in-Err-clause-fault c = λ x chars w t.
+    let (e, read, written) = c.requires.written in
+    no_start_fault t c.args.form.now e c.requires.short (has_room c.args.elements.now t.keeps c.requires.room) read c.in-Err.reason c.no_element_fault.result
+    (c.in-Err.ensures.no e t.ls t.scope read written t.item_chars t.keeps) c.no_element_fault.ensures

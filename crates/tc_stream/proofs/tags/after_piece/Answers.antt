@@ -1,0 +1,61 @@
+use Rattle.std.proofs.Common.{◌≡◌, IsTrue, IsFalse, arith}
+use Rattle.std.specs.Prelude.{encode_utf8}
+use Rattle.std.specs.List.{prefix_len}
+use Rattle.tc_model.specs.XmlTextBytes.{line_ends}
+use Rattle.tc_model.specs.XmlTextReferences.{spaced, is_plain_within}
+use Rattle.tc_stream.specs.Begun.{ValueBegun}
+use Rattle.tc_stream.specs.Missing.{NoPiece}
+use Rattle.tc_stream.specs.Values.{plain, reference}
+use Rattle.tc_stream.proofs.TagReadLaws.{stop_refuses, stop_stands}
+use Rattle.tc_stream.proofs.ValueLaws.{cut_after_plain, no_piece, run_at, lacks_reference}
+use Rattle.tc_stream.proofs.OpenLaws.{short_map, broken_map, no_reference_there, piece_short, piece_missing}
+use Rattle.tc_stream.proofs.tags.after_piece.Goals as goal
+
+pub split_at-requires : goal.split_at-requires
+split_at-requires c = cut_after_plain c.args.quote c.plain_len_within-count.result c.args.text.now c.requires.is_quote c.plain_len_within-count.ensures.count
+
+pub returns-then-count-gt0-clause-ok : goal.returns-then-count-gt0-clause-ok
+returns-then-count-gt0-clause-ok c =
+    let some = c.if-count-gt0.true in (
+      spaced (line_ends c.split_at.result.0.now),
+      plain (run_at c.args.quote c.plain_len_within-count.result c.args.text.now c.split_at.result.0.now c.split_at.result.1.now c.plain_len_within-count.ensures.count (λ e. omega (arith, e, some)) c.split_at.ensures.front c.split_at.ensures.back),
+    )
+
+pub returns-in-Ok-clause-ok : goal.returns-in-Ok-clause-ok
+returns-in-Ok-clause-ok c = (encode_utf8 c.in-Ok.field-0-0, reference c.in-Ok.ensures.ok)
+
+pub returns-in-Err-OtherEntity-clause-no : goal.returns-in-Err-OtherEntity-clause-no
+returns-in-Err-OtherEntity-clause-no c = λ piece rest a.
+    let count = c.plain_len_within-count.ensures.count in
+    let few = c.if-count-gt0.false in
+    let none : prefix_len (is_plain_within c.args.quote) c.args.text.now ≡ 0 = omega (arith, count, few) in
+    no_piece none (lacks_reference c.in-Err-OtherEntity.field-0 c.args.text.now c.in-Err-OtherEntity.ensures.no) piece rest a
+
+pub returns-in-Err-Malformed-clause-begun : goal.returns-in-Err-Malformed-clause-begun
+returns-in-Err-Malformed-clause-begun c =
+    let text = c.args.text.now in
+    let may = c.may_begin_reference.result in
+    short_map c.stopped.result (IsTrue may) (ValueBegun c.args.quote text) (piece_short c.args.quote text may c.may_begin_reference.ensures) c.stopped.ensures.short
+
+pub returns-in-Err-Malformed-clause-missing : goal.returns-in-Err-Malformed-clause-missing
+returns-in-Err-Malformed-clause-missing c = λ chars apart.
+    let text = c.args.text.now in
+    let may = c.may_begin_reference.result in
+    let count = c.plain_len_within-count.ensures.count in
+    let few = c.if-count-gt0.false in
+    let none : prefix_len (is_plain_within c.args.quote) text ≡ 0 = omega (arith, count, few) in
+    broken_map c.stopped.result (IsFalse may) (NoPiece c.args.quote text)
+    (λ h. piece_missing c.args.quote text may c.may_begin_reference.ensures h chars apart none
+    (no_reference_there c.in-Err-Malformed.field-0 text c.in-Err-Malformed.field-0-is c.in-Err-Malformed.ensures.no))
+    c.stopped.ensures.broken
+
+pub returns-in-Err-Malformed-clause-no : goal.returns-in-Err-Malformed-clause-no
+returns-in-Err-Malformed-clause-no c =
+    let text = c.args.text.now in
+    let count = c.plain_len_within-count.ensures.count in
+    let few = c.if-count-gt0.false in
+    let none : prefix_len (is_plain_within c.args.quote) text ≡ 0 = omega (arith, count, few) in
+    stop_refuses c.stopped.result _ _ c.stopped.ensures.stop (λ piece rest a. no_piece none (no_reference_there c.in-Err-Malformed.field-0 text c.in-Err-Malformed.field-0-is c.in-Err-Malformed.ensures.no) piece rest a)
+
+pub returns-in-Err-Malformed-clause-stands : goal.returns-in-Err-Malformed-clause-stands
+returns-in-Err-Malformed-clause-stands c = stop_stands c.args.total c.stopped.result _ c.stopped.ensures.stop

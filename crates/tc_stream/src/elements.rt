@@ -1,0 +1,255 @@
+// The elements that are open: their names, the prefixes in scope, and the validity of what has come.
+ghost use Rattle.std.specs.Prelude.{◌≡◌, ◌↔◌, ◌<◌, ◌≤◌, ◌+◌, ◌++◌, ◌∷◌, ℕ, List, [], true, false, length, IfOk, IfErr, OnOk, OnSome, IsTrue, IsFalse, MatchOption, codes, vec_capacity};
+ghost use Rattle.tc_auto.specs.Stands as a;
+ghost use Rattle.tc_base.specs.declared.reasons.Why.{Why as Reason};
+ghost use Rattle.tc_model.specs.Grammars as g;
+ghost use Rattle.tc_model.specs.Names.{IsChars};
+ghost use Rattle.tc_model.specs.RawTrees.{Bound};
+ghost use Rattle.tc_model.specs.Sheets.{Sheet};
+ghost use Rattle.tc_model.specs.States as s;
+ghost use Rattle.tc_model.specs.Symbols.{symbols_of};
+ghost use Rattle.tc_model.specs.Trees.{beside, is_white_space_only, kept, none};
+ghost use Rattle.tc_model.specs.XmlTextNames.{QNameAt, QualifiedName};
+ghost use Rattle.tc_model.specs.XmlTextRefusals.{TagRefuses};
+ghost use Rattle.tc_model.specs.XmlTextScopes.{first_scope};
+ghost use Rattle.tc_steps.specs.Led.{IsStarted};
+ghost use Rattle.tc_stream.specs.Begun.{TagBegun};
+ghost use Rattle.tc_stream.specs.Forms.{FormRead, IsNameAt, OnBroken, OnMalformed, OnShort, Refuses, UnsupportedAt};
+ghost use Rattle.tc_stream.specs.Goes as goes;
+ghost use Rattle.tc_stream.specs.Missing.{IsUnclosed, NoFront};
+ghost use Rattle.tc_stream.specs.Scoped.{chains_in};
+ghost use Rattle.tc_stream.specs.Written.{AreWritten};
+ghost use Rattle.tc_stream.specs.XmlTextTags.{TagFormAt, WrittenElement, written_length};
+ghost use Rattle.tc_stream.specs.declared.tags.TheConstants.{LONGEST_TAG};
+
+use crate::names::{Span, WrittenName};
+use crate::rooms::Rooms;
+use crate::tags::{Form, NoForm, form_of};
+use std::alloc::Global;
+use tc_alpha::Alphabet;
+use tc_auto::Auto;
+use tc_base::NoMemory;
+use tc_steps::Validity;
+
+/// How many elements may stand within one another.
+const DEEPEST: usize = 2_000;
+
+/// An element that is open: its name as it is written, and how many names and declarations there were before it.
+#[derive(Clone, Copy)]
+struct Level {
+    name: Span,
+    names: usize,
+    declared: usize,
+}
+
+/// Where the name of a tag stands as it is written, its colon with it: behind the `<`.
+fn whole(tag: &str, name: &WrittenName) -> Span
+    ensures start { result.start ≡ 1 }
+    ensures length { (n : QualifiedName) → IsNameAt tag.now name.now n → result.length ≡ written_length n }
+{
+    let bytes = tag.as_bytes();
+    let prefix = name.prefix.of(bytes);
+    let local = name.local.of(bytes);
+    if prefix == b"".as_slice() {
+        return Span {
+            start: 1,
+            length: local.len(),
+        };
+    }
+    Span {
+        start: 1,
+        length: prefix.len() + 1 + local.len(),
+    }
+}
+
+/// Why a tag whose form is read is given up.
+#[derive(Clone, Copy)]
+pub(crate) enum NoElement {
+    Malformed,
+    NamesTooLong,
+}
+
+/// The elements that are open, the innermost one last, and the validity of what has come.
+#[derive(Drop)]
+pub(crate) struct Elements<'h> {
+    validity: Validity<'h>,
+    rooms: Rooms,
+    levels: Vec<Level>,
+    ghost most: { rooms.names.most ≡ 65536 },
+    ghost room: { 2000 ≤ vec_capacity levels },
+    ghost all_levels: { length validity.levels.items ≡ 2000 },
+    ghost depth: { validity.depth ≡ length levels.items },
+}
+
+impl<'h> Elements<'h> {
+    ghost use Rattle.tc_stream.specs.Keeps.{AreSteps, Enters, GoesInto, IsMeaningless, IsReady, IsRefused, Keeps, Starts, written_bytes};
+
+    /// No element is open.
+    pub(crate) fn new(
+        alloc: Global,
+        auto: &'h Auto<'h>,
+        alphabet: &'h Alphabet,
+    ) -> Result<Elements<'h>, NoMemory>
+        ensures keeps { IfOk result (λ r. Keeps r [] first_scope) }
+        ensures steps { IfOk result (λ r. (x other : g.Grammar) (sheet : Sheet) → a.Stands s.input x auto.now → alphabet.now ≡ symbols_of x other sheet → AreSteps x r.validity [] []) }
+    {
+        let validity = Validity::new(alloc, auto, alphabet, DEEPEST)?;
+        let rooms = Rooms::new(alloc)?;
+        let levels = Vec::with_capacity(alloc, DEEPEST)?;
+        Ok(Elements {
+            validity,
+            rooms,
+            levels,
+        })
+    }
+
+    /// A start tag or an empty-element tag by its form, whose attributes are left in the table; nothing else of what is
+    /// kept changes.
+    pub(crate) fn form(&mut self, tag: &str, may_go_on: bool) -> Result<Form, NoForm>
+        requires { length tag.now ≤ LONGEST_TAG }
+        ensures names { self.new.rooms.names ≡ self.old.rooms.names }
+        ensures scopes { self.new.rooms.scopes ≡ self.old.rooms.scopes }
+        ensures levels { self.new.levels.items ≡ self.old.levels.items }
+        ensures validity { self.new.validity ≡ self.old.validity }
+        ensures keeps { (ls : List goes.Level) (scope : List Bound) → Keeps self.old ls scope → Keeps self.new ls scope }
+        ensures ready { IsReady self.old → IsReady self.new }
+        ensures ok { IfOk result (λ f. (e : WrittenElement) × FormRead tag.now f e × AreWritten tag.now self.new.rooms.attributes.list.items e.attributes) }
+        ensures no { IfErr result (λ x. Refuses x
+            ((e : WrittenElement) → TagFormAt true (length tag.now) tag.now e (codes ">") → ⊥)
+            ((e : WrittenElement) → TagFormAt false (length tag.now) tag.now e (codes ">") → ⊥)) }
+        ensures no_empty { IfErr result (λ x. Refuses x
+            ((e : WrittenElement) → TagFormAt true (length tag.now) tag.now e (codes "/>") → ⊥)
+            ((e : WrittenElement) → TagFormAt false (length tag.now) tag.now e (codes "/>") → ⊥)) }
+        ensures stands { IfErr result (λ x. UnsupportedAt (length tag.now) x (TagRefuses tag.now)) }
+        ensures malformed { IsFalse may_go_on → IfErr result (λ x. OnMalformed x ((why : Reason) (at : List ℕ) → TagRefuses tag.now why at → ⊥)) }
+        ensures begun { (rest : List ℕ) → tag.now ≡ 0x3C ∷ rest → IfErr result (λ x. OnShort x (TagBegun tag.now)) }
+        ensures refused { IsTrue may_go_on → IsChars tag.now → IfErr result (λ x. UnsupportedAt (length tag.now) x (λ why at. (more : List ℕ) → TagRefuses (tag.now ++ more) why (at ++ more))) }
+        ensures missing { (rest : List ℕ) → tag.now ≡ 0x3C ∷ rest → IsChars tag.now → IsUnclosed tag.now → IfErr result (λ x. OnBroken x (NoFront tag.now)) }
+    {
+        form_of(tag, &mut self.rooms.attributes, may_go_on)
+    }
+
+    /// Whether no element may stand within those that are open.
+    pub(crate) fn is_full(&self) -> bool
+        ensures full { IsTrue result ↔ (length self.now.levels.items ≡ 2000) }
+        ensures room { IsFalse result → length self.now.levels.items < 2000 }
+    {
+        self.levels.len() == DEEPEST
+    }
+
+    /// Whether none is open.
+    pub(crate) fn is_empty(&self) -> bool
+        ensures { IsTrue result ↔ (length self.now.levels.items ≡ 0) }
+    {
+        self.levels.is_empty()
+    }
+
+    /// Whether the document whose root element has ended is valid.
+    pub(crate) fn is_valid(&self) -> bool
+        ensures { result ≡ self.now.validity.is_valid }
+    {
+        self.validity.is_valid()
+    }
+
+    /// The name of the innermost element as it is written.
+    pub(crate) fn name(&self) -> &[u8]
+        ensures written { (l : goes.Level) (ls : List goes.Level) (scope : List Bound) → Keeps self.now (l ∷ ls) scope → result.now ≡ written_bytes l.written.name }
+        ensures named { (l : goes.Level) (ls : List goes.Level) (scope : List Bound) → Keeps self.now (l ∷ ls) scope → QNameAt result.now l.written.name [] }
+    {
+        match self.levels.last() {
+            Some(level) => level.name.of(self.rooms.names.bytes()),
+            None => &[],
+        }
+    }
+
+    /// Takes characters that aren't white space alone.
+    pub(crate) fn take_text(&mut self)
+        ensures keeps { (ls : List goes.Level) (scope : List Bound) → Keeps self.old ls scope → Keeps self.new ls scope }
+        ensures ready { IsReady self.old → IsReady self.new }
+        ensures steps { (x : g.Grammar) (ls : List goes.Level) (run text : List ℕ) → IsFalse (is_white_space_only text) → AreSteps x self.old.validity ls run → AreSteps x self.new.validity ls (run ++ text) }
+    {
+        self.validity.take_text();
+    }
+
+    /// Goes into the element of a tag whose names and declarations stand behind those that there were before its level,
+    /// if the tag means something.
+    fn step_into(&mut self, tag: &str, name: &WrittenName, level: Level) -> Option<()>
+        requires room { length self.old.levels.items < 2000 }
+        requires chained { self.old.rooms.scopes.chains.chains ≡ chains_in self.old.rooms.names.bytes.items self.old.rooms.scopes.declared.items }
+        ensures names { self.new.rooms.names ≡ self.old.rooms.names }
+        ensures scopes { self.new.rooms.scopes ≡ self.old.rooms.scopes }
+        ensures levels { OnSome result (self.new.levels.items ≡ self.old.levels.items ++ level ∷ []) }
+        ensures into { MatchOption result (IsMeaningless tag.now name.now level.declared self.old) (λ _. GoesInto tag.now name.now level.declared self.old self.new) }
+    {
+        let bytes = tag.as_bytes();
+        if !self.rooms.are_meant(bytes, level.declared) {
+            return None;
+        }
+        let Some(expanded) = self.rooms.expanded(bytes, name) else {
+            return None;
+        };
+        self.validity.start(&expanded);
+        let _is_pushed = self.levels.push(level).is_ok();
+        Some(())
+    }
+
+    /// Goes into the element of a tag.
+    fn enter(&mut self, tag: &str, form: &Form) -> Result<(), NoElement>
+        requires ready { IsReady self.old }
+        requires depth { length self.old.levels.items < 2000 }
+        requires written { (e : WrittenElement) × FormRead tag.now form.now e × AreWritten tag.now self.old.rooms.attributes.list.items e.attributes }
+        ensures ready { OnOk result (IsReady self.new) }
+        ensures enters { OnOk result ((e : WrittenElement) (ls : List goes.Level) (outer : List Bound) → FormRead tag.now form.now e → AreWritten tag.now self.old.rooms.attributes.list.items e.attributes
+            → IsChars tag.now → Keeps self.old ls outer → Enters self.old self.new ls outer e) }
+        ensures no { IfErr result (IsRefused tag.now form.now self.old) }
+    {
+        let names = self.rooms.names.len();
+        let declared = self.rooms.scopes.len();
+        let Some(name) = self.rooms.add_names(tag, whole(tag, &form.name)) else {
+            return Err(NoElement::NamesTooLong);
+        };
+        let level = Level {
+            name,
+            names,
+            declared,
+        };
+        let Some(()) = self.step_into(tag, &form.name, level) else {
+            return Err(NoElement::Malformed);
+        };
+        Ok(())
+    }
+
+    /// Goes into an element with this tag, and out of it again where it is empty.
+    pub(crate) fn start(&mut self, tag: &str, form: &Form) -> Result<(), NoElement>
+        requires ready { IsReady self.old }
+        requires depth { length self.old.levels.items < 2000 }
+        requires written { (e : WrittenElement) × FormRead tag.now form.now e × AreWritten tag.now self.old.rooms.attributes.list.items e.attributes }
+        ensures ready { OnOk result (IsReady self.new) }
+        ensures starts { OnOk result ((e : WrittenElement) (ls : List goes.Level) (outer : List Bound) → FormRead tag.now form.now e → AreWritten tag.now self.old.rooms.attributes.list.items e.attributes
+            → IsChars tag.now → Keeps self.old ls outer → Starts self.old self.new ls outer e form.now.is_empty) }
+        ensures no { IfErr result (IsRefused tag.now form.now self.old) }
+    {
+        self.enter(tag, form)?;
+        if !form.is_empty {
+            return Ok(());
+        }
+        self.end();
+        Ok(())
+    }
+
+    /// Goes out of the innermost element.
+    pub(crate) fn end(&mut self)
+        ensures keeps { (l : goes.Level) (ls : List goes.Level) (scope : List Bound) (run : List ℕ) → Keeps self.old (l ∷ ls) scope → Keeps self.new (goes.with_element l.name (beside l.kids (kept run none)) ls) l.outer }
+        ensures ready { IsReady self.old → IsReady self.new }
+        ensures steps { (x : g.Grammar) (l : goes.Level) (ls : List goes.Level) (run : List ℕ) → AreSteps x self.old.validity (l ∷ ls) run → length self.old.levels.items ≡ length ls + 1
+            → AreSteps x self.new.validity (goes.with_element l.name (beside l.kids (kept run none)) ls) [] }
+        ensures valid { (x : g.Grammar) (l : goes.Level) (run : List ℕ) → AreSteps x self.old.validity (l ∷ []) run → length self.old.levels.items ≡ 1 → IsTrue self.new.validity.is_valid ↔ IsStarted x l.name (beside l.kids (kept run none)) }
+    {
+        let Some(level) = self.levels.pop() else {
+            return;
+        };
+        self.validity.end();
+        self.rooms.names.keep(level.names);
+        self.rooms.scopes.keep(level.declared);
+    }
+}

@@ -1,0 +1,157 @@
+// A document that comes in pieces.
+ghost use Rattle.std.specs.Prelude.{◌≡◌, ◌≤◌, ◌<◌, length, slice_index, None};
+ghost use Rattle.tc_stream.specs.Cuts.{char_length, cut_bytes};
+ghost use Rattle.tc_stream.specs.Stands.{IsReading};
+
+use crate::cuts::Cut;
+use crate::faults::StreamFault;
+use crate::pieces::{finished, take};
+use crate::reader::Reader;
+use std::alloc::Global;
+use tc_alpha::Alphabet;
+use tc_auto::Auto;
+use tc_base::NoMemory;
+
+/// A document that comes in pieces, as far as it has come, and its validity for a schema. It keeps at most 2,000
+/// elements that are open with their names and the states to which their children lead, and one tag.
+///
+/// A text is good if it is of the form of XML that is read (XML 1.0, 2.1), none of its tags has more than 65,536 bytes,
+/// and the names of open elements, with what their tags declare, never have more.
+#[derive(Drop)]
+pub struct Stream<'h> {
+    reader: Reader<'h>,
+    cut: Cut,
+    fed: u32,
+    fault: Option<StreamFault>,
+    ghost fed_within: { fed ≤ 67108864 },
+    ghost cut_within: { length (cut_bytes cut) ≤ fed },
+    ghost cut_short: { 0 < length (cut_bytes cut) → length (cut_bytes cut) < char_length (slice_index (cut_bytes cut) 0) },
+    ghost ready: { fault ≡ None → IsReading reader },
+}
+
+impl<'h> Stream<'h> {
+    ghost use Rattle.std.specs.Prelude.{◌+◌, ◌++◌, ◌↔◌, ℕ, List, [], IfOk, IfErr, OnOk, OnErr, IsOk, IsTrue, Some, Err};
+    ghost use Rattle.tc_auto.specs.Stands as a;
+    ghost use Rattle.tc_model.specs.Grammars as g;
+    ghost use Rattle.tc_model.specs.RawTrees.{RawTrees};
+    ghost use Rattle.tc_model.specs.Sheets as sh;
+    ghost use Rattle.tc_model.specs.SimplifiesLaws.{IsStart};
+    ghost use Rattle.tc_model.specs.States as s;
+    ghost use Rattle.tc_model.specs.Stripped.{stripped};
+    ghost use Rattle.tc_model.specs.Symbols.{symbols_of};
+    ghost use Rattle.tc_model.specs.Validity.{IsValid};
+    ghost use Rattle.tc_model.specs.XmlText.{XmlText};
+    ghost use Rattle.tc_model.specs.XmlTextRefusals.{Cause, XmlTextRefuses};
+    ghost use Rattle.tc_stream.specs.Faults.{IsFaultOf, IsFaultOfFront, IsHopeless, IsLimit, fault_by, limit_of};
+    ghost use Rattle.tc_stream.specs.Streams.{StandsFor, fault_found, fed_of};
+    ghost use Rattle.tc_stream.specs.XmlTextMeasures.{IsGood, IsWithinMeasures, Measure, PassesFirst};
+    ghost use Rattle.tc_stream.specs.declared.faults.StreamFault.{StreamFault};
+
+    /// A stream of the empty text. The automaton is that of a schema's contents and has at most 512 states; the
+    /// alphabet is made with the same schema.
+    ///
+    /// # Errors
+    ///
+    /// There is no memory. All that the stream uses is taken here.
+    pub fn new(
+        alloc: Global,
+        auto: &'h Auto<'h>,
+        alphabet: &'h Alphabet,
+    ) -> Result<Stream<'h>, NoMemory>
+        requires { a.states auto.now ≤ 512 }
+        ensures none { IfOk result (λ r. (fed_of r ≡ 0) × (fault_found r ≡ None)) }
+        ensures stands { IfOk result (λ r. (x other : g.Grammar) (sheet : sh.Sheet) → a.Stands s.input x auto.now → IsStart x.start
+            → alphabet.now ≡ symbols_of x other sheet → StandsFor x r []) }
+    {
+        let reader = Reader::new(alloc, auto, alphabet)?;
+        Ok(Stream {
+            reader,
+            cut: Cut::none(),
+            fed: 0,
+            fault: None,
+        })
+    }
+
+    /// Adds a piece to the text of a stream without a fault.
+    fn advance(&mut self, piece: &[u8]) -> Result<(), StreamFault>
+        requires none { fault_found self.old ≡ None }
+        requires room { fed_of self.old + length piece.now ≤ 67108864 }
+        ensures ok { (x : g.Grammar) (text : List ℕ) → StandsFor x self.old text → OnOk result (StandsFor x self.new (text ++ piece.now)) }
+        ensures fault { (x : g.Grammar) (text : List ℕ) → StandsFor x self.old text → IfErr result (λ e. IsFaultOfFront (text ++ piece.now) e) }
+        ensures kept { IfErr result (λ e. fault_found self.new ≡ Some e) }
+        ensures fed_ok { OnOk result (fed_of self.new ≡ fed_of self.old + length piece.now) }
+        ensures fed_err { OnErr result (fed_of self.new ≡ fed_of self.old) }
+    {
+        match take(&mut self.reader, &mut self.cut, self.fed, piece) {
+            Ok(()) => {
+                self.fed += piece.len() as u32;
+                Ok(())
+            }
+            Err(fault) => {
+                self.fault = Some(fault);
+                Err(fault)
+            }
+        }
+    }
+
+    /// Adds a piece to the text, which may be cut anywhere, also within a character. All pieces together have at most
+    /// 67,108,864 bytes. It takes no memory.
+    ///
+    /// # Errors
+    ///
+    /// Whatever follows the piece, the text isn't good, for this reason. The piece isn't counted, and every later call
+    /// answers the same.
+    pub fn feed(&mut self, piece: &[u8]) -> Result<(), StreamFault>
+        requires { fed_of self.old + length piece.now ≤ 67108864 }
+        ensures ok { OnOk result ((x : g.Grammar) (text : List ℕ) → StandsFor x self.old text → StandsFor x self.new (text ++ piece.now)) }
+        ensures fault { IfErr result (λ e. (x : g.Grammar) (text : List ℕ) → StandsFor x self.old text → IsFaultOfFront (text ++ piece.now) e) }
+        ensures hopeless { OnErr result ((x : g.Grammar) (text : List ℕ) → StandsFor x self.old text → IsHopeless (text ++ piece.now)) }
+        ensures kept { IfErr result (λ e. fault_found self.new ≡ Some e) }
+        ensures none { OnErr result ((x : g.Grammar) (text : List ℕ) → StandsFor x self.new text → ⊥) }
+        ensures again { (e : StreamFault) → fault_found self.old ≡ Some e → result ≡ Err e }
+        ensures fed_ok { OnOk result (fed_of self.new ≡ fed_of self.old + length piece.now) }
+        ensures fed_err { OnErr result (fed_of self.new ≡ fed_of self.old) }
+    {
+        match self.fault {
+            Some(fault) => Err(fault),
+            None => self.advance(piece),
+        }
+    }
+
+    /// How many bytes the pieces have that were taken without a fault.
+    pub fn fed(&self) -> u32
+        ensures here { result ≡ fed_of self.now }
+        ensures text { (x : g.Grammar) (text : List ℕ) → StandsFor x self.now text → result ≡ length text }
+    {
+        self.fed
+    }
+
+    /// Ends the text, and tells whether its document is valid (RELAX NG, 6). It takes no memory.
+    ///
+    /// # Errors
+    ///
+    /// The text isn't good, for this reason.
+    pub fn finish(self) -> Result<bool, StreamFault>
+        ensures ok { IfOk result (λ b. (x : g.Grammar) (text : List ℕ) → StandsFor x self.entry text
+            → (h : RawTrees) × IsGood text h × (IsTrue b ↔ IsValid x (stripped h))) }
+        ensures good { (x : g.Grammar) (text : List ℕ) (h : RawTrees) → StandsFor x self.entry text → IsGood text h → IsOk result }
+        ensures fault { IfErr result (λ e. (x : g.Grammar) (text : List ℕ) → StandsFor x self.entry text → IsFaultOf text e) }
+        ensures passed { (x : g.Grammar) (text : List ℕ) (measure : Measure) (place : ℕ) → StandsFor x self.entry text
+            → PassesFirst text measure place → result ≡ Err (limit_of measure) }
+        ensures limit { (x : g.Grammar) (text : List ℕ) (h : RawTrees) → StandsFor x self.entry text → XmlText text h → IfErr result IsLimit }
+        ensures refused { (x : g.Grammar) (text : List ℕ) (cause : Cause) (place : ℕ) → StandsFor x self.entry text
+            → XmlTextRefuses text cause place → IsWithinMeasures text → result ≡ Err (fault_by cause place) }
+        ensures again { (e : StreamFault) → fault_found self.entry ≡ Some e → result ≡ Err e }
+    {
+        let Stream {
+            reader,
+            cut,
+            fed,
+            fault,
+        } = self;
+        match fault {
+            Some(fault) => Err(fault),
+            None => finished(reader, cut, fed),
+        }
+    }
+}
