@@ -1,7 +1,7 @@
--- The value of digits, and the size of a demonstration.
+-- The value of digits, the size of pieces and that of a demonstration.
 use Rattle.std.proofs.Common.{◌≡◌, ◌≤◌, ◌<◌, ◌+◌, ◌*◌, ◌-◌, ℕ, List, [], ◌∷◌, length, drop, get_or, arith, ap}
 use Rattle.std.proofs.lemmas.List.{drop_more}
-use Rattle.tc_answer.specs.Words.{value_from, Words, shows, demo}
+use Rattle.tc_answer.specs.Words.{value_from, Words, validates_in_pieces, shows, valid_in_pieces, demo}
 
 -- more digits never make it less
 pub value_from-le : (value : ℕ) (digits : List ℕ) → value ≤ value_from value digits
@@ -15,3 +15,7 @@ value_from-drop_more value digits i d h = ap (value_from value) (drop_more digit
 -- a demonstration has from 1 to 40 elements
 pub demo_size : {words : List (List ℕ)} {size : ℕ} → Words words (demo size) → (1 ≤ size) × (size ≤ 40)
 demo_size (shows p s) = (s.at_least, s.at_most)
+
+-- a piece has a byte at least
+pub piece_size : {words : List (List ℕ)} {size : ℕ} {schema document : List ℕ} → Words words (valid_in_pieces size schema document) → 1 ≤ size
+piece_size (validates_in_pieces p (numeral, parts, spelled) a x) = spelled.at_least

@@ -1,7 +1,7 @@
 -- What a call can answer: the status and the lines of each answer.
 use Rattle.std.specs.Prelude.{ℕ, List, ◌++◌, codes, decimal}
 use Rattle.tc_answer.specs.Lines.{RowCount, Rejection, line, limit_line, limit_word, count_word, safe_line, unsafe_lines, unsafe_large_lines, included_line, not_included_lines, different_lines, rejected_line}
-use Rattle.tc_answer.specs.declared.limits.TheConstants.{MOST_SHOWN_NODES, LONGEST_CERTIFICATE}
+use Rattle.tc_answer.specs.declared.limits.TheConstants.{MOST_SHOWN_NODES, LONGEST_CERTIFICATE, LONGEST_TAG, MOST_NAMES}
 use Rattle.tc_answer.specs.declared.status.Status.{Status}
 use Rattle.tc_answer.specs.declared.status.Status.TheVariants.{Yes, No, Usage, Refused, Limit, ReadFault}
 use Rattle.tc_base.specs.declared.Limit as kinds
@@ -44,6 +44,10 @@ pub data Answer : Type 0 where
   over_limit : (kind : kinds.Limit) (number : ℕ) → Answer
   is_valid : Answer
   is_invalid : Answer
+  -- a tag of a document that comes in pieces is too long
+  tag_limit : Answer
+  -- the names of the open elements of such a document have too many bytes
+  names_limit : Answer
   has_result : (result : Trees) → Answer
   -- a run instantiates and puts out too much
   work_limit : Answer
@@ -72,13 +76,15 @@ status_of (refused name reason place) = Refused
 status_of (over_limit kind number) = Limit
 status_of is_valid = Yes
 status_of is_invalid = No
+status_of tag_limit = Limit
+status_of names_limit = Limit
 status_of (has_result result) = Yes
 status_of work_limit = Limit
 status_of open_limit = Limit
 
 -- what an answer writes
 abbrev pub text_of : Answer → List ℕ
-text_of usage = line (codes "usage: check|prove [--limit N] IN OUT SHEET; verify IN OUT SHEET CERT; run SHEET DOC; valid SCHEMA DOC; demo N; upgrade CERT; include A B; same A B")
+text_of usage = line (codes "usage: check|prove [--limit N] IN OUT SHEET; verify IN OUT SHEET CERT; run SHEET DOC; valid SCHEMA DOC; demo N; upgrade CERT; include A B; same A B; valid --stream N SCHEMA DOC")
 text_of (cannot_read name) = line (codes "cannot read " ++ name)
 text_of file_limit = limit_line (codes "file") LONGEST_FILE
 text_of (safe tree_rows hedge_rows output_sets) = safe_line tree_rows hedge_rows output_sets
@@ -99,6 +105,8 @@ text_of (refused name reason place) = line (codes "refused " ++ name ++ codes " 
 text_of (over_limit kind number) = limit_line (limit_word kind) number
 text_of is_valid = line (codes "valid")
 text_of is_invalid = line (codes "invalid")
+text_of tag_limit = limit_line (codes "tag") LONGEST_TAG
+text_of names_limit = limit_line (codes "names") MOST_NAMES
 text_of (has_result result) = line (printed result)
 text_of work_limit = limit_line (codes "work") MOST_WORK
 text_of open_limit = limit_line (codes "open") MOST_OPEN

@@ -11,6 +11,7 @@ pub data Command : Type 0 where
   verify : (input output sheet certificate : List ℕ) → Command
   run : (sheet document : List ℕ) → Command
   valid : (schema document : List ℕ) → Command
+  valid_in_pieces : (size : ℕ) (schema document : List ℕ) → Command
   demo : (size : ℕ) → Command
   upgrade : (certificate : List ℕ) → Command
   include : (first second : List ℕ) → Command
@@ -47,6 +48,11 @@ abbrev pub Limits : List (List ℕ) → Option ℕ → List (List ℕ) → Type 
 Limits words None operands = words ≡ operands
 Limits words (Some limit) operands = (numeral : List ℕ) × (words ≡ codes "--limit" ∷ numeral ∷ operands) × IsNumeral 4000 numeral limit
 
+-- what stands behind `valid`: `--stream` and the size of pieces, or nothing, and then the operands
+abbrev pub PieceSizes : List (List ℕ) → Option ℕ → List (List ℕ) → Type 0
+PieceSizes words None operands = words ≡ operands
+PieceSizes words (Some size) operands = (numeral : List ℕ) × (words ≡ codes "--stream" ∷ numeral ∷ operands) × IsNumeral 65536 numeral size
+
 -- the words give the command
 pub data Words : List (List ℕ) → Command → Type 0 where
   checks : {words rest : List (List ℕ)} {limit : Option ℕ} {input output sheet : List ℕ} → words ≡ codes "check" ∷ rest → Limits rest limit (input ∷ output ∷ sheet ∷ [])
@@ -59,6 +65,8 @@ pub data Words : List (List ℕ) → Command → Type 0 where
       → AreOperands (sheet ∷ document ∷ []) → Words words (run sheet document)
   validates : {words : List (List ℕ)} {schema document : List ℕ} → words ≡ codes "valid" ∷ schema ∷ document ∷ []
       → AreOperands (schema ∷ document ∷ []) → AreSchemas (schema ∷ []) → Words words (valid schema document)
+  validates_in_pieces : {words rest : List (List ℕ)} {size : ℕ} {schema document : List ℕ} → words ≡ codes "valid" ∷ rest → PieceSizes rest (Some size) (schema ∷ document ∷ [])
+      → AreOperands (schema ∷ document ∷ []) → AreSchemas (schema ∷ []) → Words words (valid_in_pieces size schema document)
   shows : {words : List (List ℕ)} {numeral : List ℕ} {size : ℕ} → words ≡ codes "demo" ∷ numeral ∷ [] → IsNumeral 40 numeral size → Words words (demo size)
   upgrades : {words : List (List ℕ)} {certificate : List ℕ} → words ≡ codes "upgrade" ∷ certificate ∷ [] → AreOperands (certificate ∷ []) → Words words (upgrade certificate)
   includes : {words : List (List ℕ)} {first second : List ℕ} → words ≡ codes "include" ∷ first ∷ second ∷ []
@@ -81,6 +89,7 @@ name_of (prove limit input output sheet) = codes "prove"
 name_of (verify input output sheet certificate) = codes "verify"
 name_of (run sheet document) = codes "run"
 name_of (valid schema document) = codes "valid"
+name_of (valid_in_pieces size schema document) = codes "valid"
 name_of (demo size) = codes "demo"
 name_of (upgrade certificate) = codes "upgrade"
 name_of (include first second) = codes "include"
@@ -105,6 +114,7 @@ operands_of (prove limit input output sheet) = schema input ∷ schema output �
 operands_of (verify input output sheet certificate) = schema input ∷ schema output ∷ plain sheet ∷ plain certificate ∷ []
 operands_of (run sheet document) = plain sheet ∷ plain document ∷ []
 operands_of (valid first document) = schema first ∷ plain document ∷ []
+operands_of (valid_in_pieces size first document) = schema first ∷ plain document ∷ []
 operands_of (demo size) = []
 operands_of (upgrade certificate) = plain certificate ∷ []
 operands_of (include first second) = schema first ∷ schema second ∷ []

@@ -8,7 +8,7 @@ ghost use Rattle.tc_answer.specs.AnswersSeen.{text as see_text, row_count, rejec
 ghost use Rattle.tc_answer.specs.Lines.{line, limit_word, limit_line, count_word};
 
 use crate::buffer::Buffer;
-use crate::limits::{LONGEST_CERTIFICATE, MOST_SHOWN_NODES};
+use crate::limits::{LONGEST_CERTIFICATE, LONGEST_TAG, MOST_NAMES, MOST_SHOWN_NODES};
 use crate::status::Status;
 use std::alloc::Global;
 use tc_base::limits::{LONGEST_FILE, MOST_OPEN, MOST_WORK};
@@ -144,7 +144,7 @@ impl Answer {
         Answer {
             status: Status::Usage,
             text: Text::Fixed(
-                b"usage: check|prove [--limit N] IN OUT SHEET; verify IN OUT SHEET CERT; run SHEET DOC; valid SCHEMA DOC; demo N; upgrade CERT; include A B; same A B\n",
+                b"usage: check|prove [--limit N] IN OUT SHEET; verify IN OUT SHEET CERT; run SHEET DOC; valid SCHEMA DOC; demo N; upgrade CERT; include A B; same A B; valid --stream N SCHEMA DOC\n",
             ),
         }
     }
@@ -339,6 +339,20 @@ impl Answer {
             status: Status::No,
             text: Text::Fixed(b"invalid\n"),
         }
+    }
+
+    /// A tag of a document that comes in pieces has too many bytes.
+    pub fn tag_limit(alloc: Global) -> Result<Answer, NoMemory>
+        ensures { IfOk result (λ said. Says said a.tag_limit) }
+    {
+        over(alloc, "tag", LONGEST_TAG)
+    }
+
+    /// The names of the open elements of a document that comes in pieces have too many bytes.
+    pub fn names_limit(alloc: Global) -> Result<Answer, NoMemory>
+        ensures { IfOk result (λ said. Says said a.names_limit) }
+    {
+        over(alloc, "names", MOST_NAMES)
     }
 
     /// The result of a run.

@@ -1,7 +1,7 @@
 // The commands, and how the words of a command line give them.
-ghost use Rattle.std.specs.Prelude.{◌≡◌, ◌≤◌, ◌↔◌, ℕ, List, [], ◌∷◌, Option, length, IsTrue, MatchOption};
+ghost use Rattle.std.specs.Prelude.{◌≡◌, ◌≤◌, ◌↔◌, ℕ, List, [], ◌∷◌, Option, length, IsTrue, MatchOption, codes};
 ghost use Rattle.std.specs.List.{list_all};
-ghost use Rattle.tc_answer.specs.Words.{Limits, IsNumeral, Words, AreOperands, AreSchemas, IsNoCommand, is_operand};
+ghost use Rattle.tc_answer.specs.Words.{Limits, PieceSizes, IsNumeral, Words, AreOperands, AreSchemas, IsNoCommand, is_operand};
 ghost use Rattle.tc_answer.specs.WordsSeen.{texts, command};
 
 use crate::sources::is_schema_word;
@@ -27,6 +27,9 @@ pub enum Command<'w> {
     Run(&'w str, &'w str),
     /// Tell whether a document is valid for a schema.
     Valid(&'w str, &'w str),
+    /// Tell whether a document that comes in pieces of so many bytes, from 1 to 65,536, the last one perhaps shorter, is
+    /// valid for a schema.
+    ValidInPieces(u32, &'w str, &'w str),
     /// Check an example of this size.
     Demo(u32),
     /// Write the certificate of this name as it is written today.
@@ -39,6 +42,9 @@ pub enum Command<'w> {
 
 /// The greatest number of `--limit`.
 const MOST_LIMIT: u32 = 4000;
+
+/// The greatest number of `--stream`, in bytes.
+const LARGEST_PIECE: u32 = 65_536;
 
 /// The greatest number of `demo`.
 const MOST_DEMO: u32 = 40;
@@ -65,10 +71,7 @@ pub fn read_words(words: &[String]) -> Option<Command<'_>>
             let (sheet, document) = read_pair(rest)?;
             Some(Command::Run(sheet, document))
         }
-        "valid" => {
-            let (schema, document) = read_validation(rest)?;
-            Some(Command::Valid(schema, document))
-        }
+        "valid" => read_valid(rest),
         "demo" => Some(Command::Demo(read_size(rest)?)),
         "upgrade" => Some(Command::Upgrade(read_one(rest)?)),
         "include" => {
@@ -107,6 +110,18 @@ fn read_size(words: &[String]) -> Option<u32>
     read_number(numeral.as_str(), MOST_DEMO)
 }
 
+/// A validation: of a document that comes in pieces, where their size stands before the operands, or of a whole one.
+fn read_valid(words: &[String]) -> Option<Command<'_>>
+    ensures { MatchOption result (IsNoCommand (codes "valid" ∷ texts words.now)) (λ c. Words (codes "valid" ∷ texts words.now) (command c)) }
+{
+    let (size, operands) = read_piece_size(words)?;
+    let (schema, document) = read_validation(operands)?;
+    match size {
+        Some(size) => Some(Command::ValidInPieces(size, schema, document)),
+        None => Some(Command::Valid(schema, document)),
+    }
+}
+
 /// The limit before the operands, and the operands.
 fn read_limit(words: &[String]) -> Option<(Option<u32>, &[String])>
     ensures { MatchOption result
@@ -123,6 +138,24 @@ fn read_limit(words: &[String]) -> Option<(Option<u32>, &[String])>
     let (numeral, operands) = rest.split_first()?;
     let limit = read_number(numeral.as_str(), MOST_LIMIT)?;
     Some((Some(limit), operands))
+}
+
+/// The size of pieces before the operands, and the operands.
+fn read_piece_size(words: &[String]) -> Option<(Option<u32>, &[String])>
+    ensures { MatchOption result
+        ((size : Option ℕ) (operands : List (List ℕ)) → PieceSizes (texts words.now) size operands → AreOperands operands → ⊥)
+        (λ read. PieceSizes (texts words.now) read.0 (texts read.1.now)
+        × ((size : Option ℕ) (operands : List (List ℕ)) → PieceSizes (texts words.now) size operands → AreOperands operands → operands ≡ texts read.1.now)) }
+{
+    let Some((option, rest)) = words.split_first() else {
+        return Some((None, words));
+    };
+    if option.as_str() != "--stream" {
+        return Some((None, words));
+    }
+    let (numeral, operands) = rest.split_first()?;
+    let size = read_number(numeral.as_str(), LARGEST_PIECE)?;
+    Some((Some(size), operands))
 }
 
 /// Three operands, the first two schemas.
@@ -240,7 +273,7 @@ fn is_operand(word: &str) -> bool
 
 /// The number from 1 to `most` that the word spells, in decimal digits without a leading zero.
 fn read_number(word: &str, most: u32) -> Option<u32>
-    requires { most ≤ 4000 }
+    requires { most ≤ 65536 }
     ensures { MatchOption result ((number : ℕ) → IsNumeral most word.now number → ⊥) (IsNumeral most word.now) }
 {
     let digits = word.as_bytes();

@@ -14,7 +14,7 @@ use Rattle.tc_print.specs.ReadBack.{nesting, IsReadAs}
 use Rattle.tc_print.proofs.ReadBack.{read_back}
 use Rattle.tc_top.specs.Checking.{most_rows, IsWithinTripleLimits, HasFewRows, AreRowCounts, IsLeastCounter, HasSmallCounter, HasLargeCounters}
 use Rattle.tc_top.specs.Headline.{IsCutShort, ChecksFiles, ChecksShortFiles, ShowsCounterexample, shows_both, shows_document, ShowsRun, shows_result, shows_large, IsLimited, limited_before_rows, limited_in_rows, limited_in_nodes, DecidesSafety, ValidatesFiles, DecidesValidity, RunsFiles, GivesResult}
-use Rattle.tc_answer.specs.Answers.{Answer, usage, cannot_read, file_limit, safe, unsafe, unsafe_large, rows_limit, counterexample_limit, certificate, certificate_limit, accepted, rejected, included, not_included, equal, first_only, second_only, refused, over_limit, is_valid, is_invalid, has_result, work_limit, open_limit, status_of, text_of}
+use Rattle.tc_answer.specs.Answers.{Answer, usage, cannot_read, file_limit, safe, unsafe, unsafe_large, rows_limit, counterexample_limit, certificate, certificate_limit, accepted, rejected, included, not_included, equal, first_only, second_only, refused, over_limit, is_valid, is_invalid, tag_limit, names_limit, has_result, work_limit, open_limit, status_of, text_of}
 use Rattle.tc_top.specs.Answers.{IsAnswerTo, checked, ran, validated, shown, IsAnswer, Ends, KeepsToLimits}
 use Rattle.tc_top.specs.Causes.{Finds, passes_before_rows, passes_rows, finds_safe, finds_unsafe, finds_large, finds_none_small, Runs, sheet_passes, too_much_work, too_open, gives_result, Checks, Validates, RunsTexts}
 use Rattle.tc_top.specs.AnswersSeen.{IsRightFor}
@@ -59,6 +59,8 @@ cut_short status (refused name reason place) e h = absurd h
 cut_short status (over_limit kind number) e h = absurd h
 cut_short status is_valid e h = absurd h
 cut_short status is_invalid e h = absurd h
+cut_short status tag_limit e h = absurd h
+cut_short status names_limit e h = absurd h
 cut_short status (has_result result) e h = absurd h
 cut_short status work_limit e h = absurd h
 cut_short status open_limit e h = absurd h

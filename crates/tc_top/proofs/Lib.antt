@@ -10,11 +10,14 @@ pub mod MachineLimits
 pub mod Compared
 pub mod OneCheck
 pub mod OneComparison
+pub mod OneInPieces
+pub mod InPieces
 pub mod ComparingExact
 pub mod Exact
 pub mod OneAnswer
 pub mod Headline
 pub mod Comparisons
+pub mod FilesInPieces
 pub mod RejectedAlike
 pub mod OneCertifying
 pub mod CertifiedTexts

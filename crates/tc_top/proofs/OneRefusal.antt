@@ -127,7 +127,7 @@ one_construct bytes r q k m x y = same_coming (comes bytes r k x) (comes bytes q
 abbrev IsWritten : List ℕ → RawTrees → List Template → Type 0
 IsWritten bytes raw templates = XmlText bytes raw × IsStylesheet raw templates
 
-no_xml : {bytes : List ℕ} {raw : RawTrees} (reason : Reason) (place : ℕ) → IsRefusedDocument bytes reason place → XmlText bytes raw → ⊥
+pub no_xml : {bytes : List ℕ} {raw : RawTrees} (reason : Reason) (place : ℕ) → IsRefusedDocument bytes reason place → XmlText bytes raw → ⊥
 no_xml {raw = raw} Malformed place h x = h.1 _ raw (with_others x)
 no_xml {raw = raw} (Unsupported why) place h x = h.1 _ raw x
 no_xml {raw = raw} TooDeep place h x = h.1 raw (with_others x)

@@ -10,7 +10,7 @@ use Rattle.tc_model.specs.Sheets.{Sheet}
 use Rattle.tc_top.specs.Checking.{most_rows}
 use Rattle.tc_answer.specs.declared.limits.TheConstants.{MOST_ROWS}
 use Rattle.tc_top.specs.Demo.{demo_schema, demo_sheet, input_name, output_name, sheet_name}
-use Rattle.tc_answer.specs.Words.{Command, check, prove, verify, run, valid, demo, upgrade, include, same, Words, IsNoCommand, operands_of}
+use Rattle.tc_answer.specs.Words.{Command, check, prove, verify, run, valid, valid_in_pieces, demo, upgrade, include, same, Words, IsNoCommand, operands_of}
 use Rattle.tc_top.specs.Limits.{IsRunWithin}
 use Rattle.tc_answer.specs.Reading.{StopsAt, IsUnreadable, AreRead}
 use Rattle.tc_answer.specs.declared.status.Status.{Status}
@@ -18,6 +18,7 @@ use Rattle.tc_answer.specs.declared.status.Status.TheVariants.{Yes, Limit, Write
 use Rattle.tc_answer.specs.Answers.{Answer, usage, cannot_read, file_limit, status_of, text_of}
 use Rattle.tc_top.specs.Causes.{Checks, Validates, Runs, RunsTexts}
 use Rattle.tc_top.specs.Certifying.{Proves, Verifies, Upgrades}
+use Rattle.tc_top.specs.InPieces.{ValidatesInPieces}
 use Rattle.tc_top.specs.Comparing.{Compares, inclusion, equality}
 
 -- words of no command, and of a command that reads no file
@@ -36,6 +37,8 @@ pub data IsAnswerTo : Command → List (List ℕ) → Answer → Type 0 where
       → IsAnswerTo (run sheet document) (sheet_text ∷ document_text ∷ []) answer
   validated : {schema document schema_text document_text : List ℕ} {answer : Answer} → Validates schema document schema_text document_text answer
       → IsAnswerTo (valid schema document) (schema_text ∷ document_text ∷ []) answer
+  validated_in_pieces : {size : ℕ} {schema document schema_text document_text : List ℕ} {answer : Answer} → ValidatesInPieces schema document schema_text document_text answer
+      → IsAnswerTo (valid_in_pieces size schema document) (schema_text ∷ document_text ∷ []) answer
   shown : {size : ℕ} {answer : Answer} → Checks MOST_ROWS input_name output_name sheet_name (demo_schema size) (demo_schema size) demo_sheet answer
       → IsAnswerTo (demo size) [] answer
   upgraded : {certificate bytes : List ℕ} {answer : Answer} → length bytes ≤ longest_file → Upgrades bytes answer → IsAnswerTo (upgrade certificate) (bytes ∷ []) answer

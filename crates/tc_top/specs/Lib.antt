@@ -5,6 +5,9 @@ pub mod MachinesSeen
 pub mod Comparing
 pub mod Pairs
 pub mod ComparedFiles
+pub mod InPieces
+pub mod FilesInPieces
+pub mod PiecesSeen
 pub mod Demo
 pub mod Causes
 pub mod Headline

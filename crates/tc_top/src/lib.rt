@@ -7,6 +7,7 @@ mod compare;
 mod demo;
 pub mod laws;
 mod machine;
+mod pieces;
 mod program;
 mod prove;
 mod run;
@@ -38,6 +39,7 @@ ghost use Rattle.tc_answer.specs.declared.limits.TheConstants.{MOST_ROWS};
 ghost use Rattle.tc_top.specs.Headline.{IsCutShort, ChecksFiles, ChecksShortFiles, ShowsCounterexample, DecidesSafety, ValidatesFiles, DecidesValidity, RunsFiles, GivesResult};
 ghost use Rattle.tc_top.specs.OneAnswer.{GivesOneLike};
 ghost use Rattle.tc_top.specs.ComparedFiles.{ComparesFiles, DecidesComparison};
+ghost use Rattle.tc_top.specs.FilesInPieces.{ValidatesFilesInPieces, DecidesValidityInPieces};
 ghost use Rattle.tc_top.specs.Comparing.{inclusion, equality};
 ghost use Rattle.tc_answer.specs.Words as w;
 ghost use Rattle.tc_answer.specs.Words.{Words, IsNoCommand};
@@ -46,6 +48,7 @@ ghost use Rattle.tc_answer.specs.WordsSeen.{texts};
 use certificates::{prove, upgrade, verify};
 use check::check;
 use demo::demo;
+use pieces::valid_in_pieces;
 pub use program::run_program;
 use run::run;
 use schemas::{include, same};
@@ -127,6 +130,14 @@ pub fn typecheck<S: Store, K: Sink>(
         → IsCutShort result (Rose (S.faults store.old) (S.faults store.new))
         ⊎ DecidesValidity result (K.written sink.old) (K.written sink.new) g d }
 
+    // A validation of a held file in pieces, of whatever size, is yes or no exactly where the schema keeps to its limits and the file's bytes are a text of
+    // XML in which no tag and no names of open elements are too long, by whether its document is valid; it refuses the document exactly where the bytes are
+    // no text of XML that is read, and no tag and no names are too long before reading stops; and else it tells of a limit that is passed.
+    ensures validity_in_pieces { (files : Files) (g : Grammar) (name bytes : List ℕ) → S.holds store.old ≡ Some files
+        → ValidatesFilesInPieces words.now files g name bytes
+        → IsCutShort result (Rose (S.faults store.old) (S.faults store.new))
+        ⊎ DecidesValidityInPieces result (K.written sink.old) (K.written sink.new) g name bytes }
+
     // A run of a held stylesheet on a held document that is yes writes the document's result.
     ensures running { (files : Files) (s : Sheet) (d : Trees) → S.holds store.old ≡ Some files → RunsFiles words.now files s d
         → GivesResult result (K.written sink.old) (K.written sink.new) s d }
@@ -179,6 +190,9 @@ fn answer_words<S: Store>(
         Command::Check(limit, triple) => check(alloc, limit, triple, store),
         Command::Run(sheet, document) => run(alloc, sheet, document, store),
         Command::Valid(schema, document) => valid(alloc, schema, document, store),
+        Command::ValidInPieces(size, schema, document) => {
+            valid_in_pieces(alloc, size, schema, document, store)
+        }
         Command::Prove(limit, triple) => prove(alloc, limit, triple, store),
         Command::Verify(triple, certificate) => verify(alloc, triple, certificate, store),
         Command::Demo(size) => demo(alloc, size),

@@ -123,7 +123,7 @@ fn decide(alloc: Global, grammar: &Grammar<'_>, document: &Node<'_>) -> Result<A
 }
 
 /// The symbols of a schema alone.
-fn alphabet_of(alloc: Global, grammar: &Grammar<'_>) -> Result<Alphabet, AlphaFault>
+pub(crate) fn alphabet_of(alloc: Global, grammar: &Grammar<'_>) -> Result<Alphabet, AlphaFault>
     ensures stands { IfOk result (λ a. a ≡ symbols_of_schema (see.grammar grammar.now)) }
     ensures few { OnOk result (AreFew (symbols_of_schema (see.grammar grammar.now))) }
     ensures many { IfErr result (λ e. e ≡ AlphaFault.TooManySymbols → MOST_SYMBOLS < symbol_count (symbols_of_schema (see.grammar grammar.now))) }

@@ -7,7 +7,7 @@ use Rattle.tc_top.specs.Answers.{no_command, decided, shown, ReadsNothing}
 use Rattle.tc_answer.specs.Words.{Command as Given, Source, Words, operands_of}
 use Rattle.tc_answer.specs.WordsSeen.{command}
 use Rattle.tc_answer.specs.declared.command.Command.{Command}
-use Rattle.tc_answer.proofs.Numerals.{demo_size}
+use Rattle.tc_answer.proofs.Numerals.{piece_size, demo_size}
 use Rattle.tc_top.proofs.FewRows.{few_rows, few_rows_proved}
 use Rattle.tc_top.proofs.answer_words.Goals as goal
 
@@ -21,6 +21,9 @@ words_at {words} x y same are = subst (λ z. Words words (command z)) same are
 
 pub check-requires : goal.check-requires
 check-requires g c = let words = MatchOption-at_some _ _ _ c.in-Some.is c.read_words.ensures in record { few = few_rows (words_at _ _ c.in-Check.is words) }
+
+pub valid_in_pieces-requires : goal.valid_in_pieces-requires
+valid_in_pieces-requires g c = let words = MatchOption-at_some _ _ _ c.in-Some.is c.read_words.ensures in record { some = piece_size (words_at _ _ c.in-ValidInPieces.is words) }
 
 pub demo-requires-clause-some : goal.demo-requires-clause-some
 demo-requires-clause-some g c = let words = MatchOption-at_some _ _ _ c.in-Some.is c.read_words.ensures in (demo_size (words_at _ _ c.in-Demo.is words)).0
@@ -49,6 +52,9 @@ returns-in-Run-clause-unread g c = λ nothing. absurd (reads_some nothing (words
 
 pub returns-in-Valid-clause-unread : goal.returns-in-Valid-clause-unread
 returns-in-Valid-clause-unread g c = λ nothing. absurd (reads_some nothing (words_at _ _ c.in-Valid.is (MatchOption-at_some _ _ _ c.in-Some.is c.read_words.ensures)) refl)
+
+pub returns-in-ValidInPieces-clause-unread : goal.returns-in-ValidInPieces-clause-unread
+returns-in-ValidInPieces-clause-unread g c = λ nothing. absurd (reads_some nothing (words_at _ _ c.in-ValidInPieces.is (MatchOption-at_some _ _ _ c.in-Some.is c.read_words.ensures)) refl)
 
 pub returns-in-Include-clause-unread : goal.returns-in-Include-clause-unread
 returns-in-Include-clause-unread g c = λ nothing. absurd (reads_some nothing (words_at _ _ c.in-Include.is (MatchOption-at_some _ _ _ c.in-Some.is c.read_words.ensures)) refl)

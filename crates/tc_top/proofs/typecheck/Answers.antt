@@ -6,6 +6,7 @@ use Rattle.tc_top.proofs.Exact.{alike_at, exact, usage_only}
 use Rattle.tc_top.proofs.Headline.{at_words, at_told, gives, headline, safe_is_so, unsafe_is_shown, demo_is_safe, demo_is_shown, demonstrated, validity, running, limited}
 use Rattle.tc_top.proofs.CertifiedExact.{proof_of_files, accepted_is_safe, certificate_of_files, upgrade_of_files}
 use Rattle.tc_top.proofs.Comparisons.{includes, equals}
+use Rattle.tc_top.proofs.FilesInPieces.{validity_in_pieces}
 use Rattle.tc_answer.specs.Words.{Words}
 use Rattle.tc_top.proofs.typecheck.Goals as goal
 
@@ -76,6 +77,12 @@ returns-in-Ok-write_lines-clause-validity g c = λ files x d told validates.
     let right = at_words c.as_slice.ensures c.in-Ok.ensures.right in
     let written = subst (Appended (g.K.Sink.written c.args.sink.now) (g.K.Sink.written c.write_lines.new.sink)) (c.as_bytes.ensures ∙ right.2.1.written) c.in-Ok-write_lines.ensures.ok in
     validity files x d _ _ _ right.2.0 validates (at_told _ right.0 told right.1.true) right.2.2 right.2.1.status written
+
+pub returns-in-Ok-write_lines-clause-validity_in_pieces : goal.returns-in-Ok-write_lines-clause-validity_in_pieces
+returns-in-Ok-write_lines-clause-validity_in_pieces g c = λ files x name bytes told validates.
+    let right = at_words c.as_slice.ensures c.in-Ok.ensures.right in
+    let written = subst (Appended (g.K.Sink.written c.args.sink.now) (g.K.Sink.written c.write_lines.new.sink)) (c.as_bytes.ensures ∙ right.2.1.written) c.in-Ok-write_lines.ensures.ok in
+    validity_in_pieces files x name bytes _ _ _ right.2.0 validates (at_told _ right.0 told right.1.true) right.2.2 right.2.1.status written
 
 pub returns-in-Ok-write_lines-clause-running : goal.returns-in-Ok-write_lines-clause-running
 returns-in-Ok-write_lines-clause-running g c = λ files s d told runs.

@@ -1,5 +1,6 @@
-use Rattle.std.proofs.Common.{subst, codes}
-use Rattle.tc_answer.specs.Words.{AreOperands, checks, proves, verifies, runs, validates, shows, upgrades, includes, compares}
+use Rattle.std.proofs.Common.{subst, sym, codes, MatchOption}
+use Rattle.tc_answer.specs.Words.{AreOperands, Words, IsNoCommand, checks, proves, verifies, runs, shows, upgrades, includes, compares}
+use Rattle.tc_answer.specs.WordsSeen.{command}
 use Rattle.tc_answer.proofs.Named.{texts-first, texts-parts}
 use Rattle.tc_answer.proofs.command.read_words.Goals as goal
 
@@ -23,10 +24,10 @@ returns-in_ok-sheet-in-run c =
     let read = c.in_ok-sheet-in-run.ensures in
     runs (texts-parts _ _ _ _ (codes "run") _ c.in_ok-name.ensures.cases.0 c.as_str.ensures.value c.in-run.is read.0) (subst AreOperands read.0 read.1)
 
-pub returns-in_ok-schema-in-valid : goal.returns-in_ok-schema-in-valid
-returns-in_ok-schema-in-valid c =
-    let read = c.in_ok-schema-in-valid.ensures in
-    validates (texts-parts _ _ _ _ (codes "valid") _ c.in_ok-name.ensures.cases.0 c.as_str.ensures.value c.in-valid.is read.0) (subst AreOperands read.0 read.1) read.2
+pub returns-in-valid : goal.returns-in-valid
+returns-in-valid c =
+    let first = texts-first _ _ _ _ (codes "valid") c.in_ok-name.ensures.cases.0 c.as_str.ensures.value c.in-valid.is in
+    subst (λ ws. MatchOption c.read_valid.result (IsNoCommand ws) (λ k. Words ws (command k))) (sym first) c.read_valid.ensures
 
 pub returns-in_ok-read_size-in-demo : goal.returns-in_ok-read_size-in-demo
 returns-in_ok-read_size-in-demo c =
