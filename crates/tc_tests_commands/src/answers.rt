@@ -1,13 +1,15 @@
 // How commands end: their statuses, lines and faults.
-use crate::commands::{joined, sheet_of, store_answers, store_of, triple_store, words_of, written};
+use crate::commands::{
+    command_answers, joined, sheet_of, store_answers, store_of, triple_store, words_of,
+};
 use std::alloc::Global;
 use std::test::Fail;
 use tc_base::NoMemory;
 use tc_io::{MemSink, MemStore, Sink, WriteFault};
 use tc_top::{Status, typecheck};
 
-const USAGE: &[u8] =
-    b"usage: check|prove [--limit N] IN OUT SHEET; verify IN OUT SHEET CERT; run SHEET DOC; valid SCHEMA DOC; demo N; upgrade CERT; include A B; same A B\n";
+const USAGE: &str =
+    "usage: check|prove [--limit N] IN OUT SHEET; verify IN OUT SHEET CERT; run SHEET DOC; valid SCHEMA DOC; demo N; upgrade CERT; include A B; same A B; valid --stream N SCHEMA DOC\n";
 
 const CHECK: &[&str] = &["check", "I", "O", "S"];
 
@@ -48,61 +50,115 @@ fn failing_store(alloc: Global, failing: [u64; 2]) -> Result<MemStore, NoMemory>
     Ok(store)
 }
 
+/// Words, the numbers of the reads that fail, and what is written.
+static FAILING: [(&[&str], [u64; 2], &str); 4] = [
+    (&["run", "S", "D"], [1, 2], "cannot read S\n"),
+    (&["run", "S", "D"], [2, 3], "cannot read D\n"),
+    (&["valid", "I", "D"], [1, 2], "cannot read I\n"),
+    (&["valid", "I", "D"], [2, 3], "cannot read D\n"),
+];
+
 #[test]
 fn names_the_first_operand_whose_read_fails(rt: HostRuntime) -> Result<(), Fail> {
-    for (words, failing, line) in [
-        (["run", "S", "D"], [1, 2], "cannot read S\n"),
-        (["run", "S", "D"], [2, 3], "cannot read D\n"),
-        (["valid", "I", "D"], [1, 2], "cannot read I\n"),
-        (["valid", "I", "D"], [2, 3], "cannot read D\n"),
-    ] {
-        let mut store = failing_store(rt.alloc(), failing)?;
+    for (words, failing, line) in &FAILING {
+        let mut store = failing_store(rt.alloc(), *failing)?;
         assert!(rt;
-            store_answers(rt.alloc(), &words, &mut store, Status::ReadFault, line)?,
+            store_answers(rt.alloc(), words, &mut store, Status::ReadFault, line)?,
             "{line}"
         );
     }
     Ok(())
 }
 
+/// Documents with bytes that are no text behind the place where they are refused, and what is written: an encoding is refused
+/// where its word stands, and nothing behind a refusal is looked at.
+static BROKEN: [(&[u8], &str); 4] = [
+    (
+        b"<?xml version=\"1.0\" encoding=\"ISO-8859-1\"?><a>caf\xE9 \xE0 la carte</a>",
+        "refused D unsupported encoding at 20\n",
+    ),
+    (
+        b"<?xml version=\"1.0\" encoding=\"ISO-2022-JP\"?><a>\x1B$B$\"$$\x1B(B</a>",
+        "refused D unsupported encoding at 20\n",
+    ),
+    (b"<a>&nbsp;</a>\xFF", "refused D unsupported entity at 3\n"),
+    (b"<a>&nbsp;\xFF</a>", "refused D unsupported entity at 3\n"),
+];
+
+/// Whether `run` and `valid` both refuse this document with this line.
+fn both_refuse(alloc: Global, document: &[u8], line: &str) -> Result<bool, Fail> {
+    let mut store = store_with(alloc, "element a{text}", "", "<r/>")?;
+    store.put("D", document)?;
+    let refused = Status::Refused;
+    Ok(
+        store_answers(alloc, &["run", "S", "D"], &mut store, refused, line)?
+            && store_answers(alloc, &["valid", "I", "D"], &mut store, refused, line)?,
+    )
+}
+
+#[test]
+fn what_stands_behind_a_refusal_is_not_looked_at(rt: HostRuntime) -> Result<(), Fail> {
+    for (document, line) in &BROKEN {
+        assert!(rt; both_refuse(rt.alloc(), document, line)?, "{line}");
+    }
+    Ok(())
+}
+
+/// A sink whose second write fails.
+fn failing_sink(alloc: Global) -> Result<MemSink, NoMemory> {
+    let mut sink = MemSink::new(alloc, 200)?;
+    sink.fail_at(2)?;
+    Ok(sink)
+}
+
+/// What these words write of a store into such a sink, and their status.
+fn broken_off(
+    alloc: Global,
+    words: &[&str],
+    store: &mut MemStore,
+) -> Result<(Status, MemSink), NoMemory> {
+    let words = words_of(alloc, words)?;
+    let mut sink = failing_sink(alloc)?;
+    let status = typecheck(alloc, &words, store, &mut sink);
+    Ok((status, sink))
+}
+
 #[test]
 fn breaks_off_where_a_write_fails(rt: HostRuntime) -> Result<(), Fail> {
-    let words = words_of(rt.alloc(), CHECK)?;
     let (input, output) = ("element a { empty }", "element r { empty }");
     let mut store = store_with(rt.alloc(), input, output, "<r><x/></r>")?;
-    let mut sink = MemSink::new(rt.alloc(), 200)?;
-    sink.fail_at(2)?;
-    assert_eq!(rt;
-        typecheck(rt.alloc(), &words, &mut store, &mut sink),
-        Status::WriteFault
-    );
+    let (status, sink) = broken_off(rt.alloc(), CHECK, &mut store)?;
+    assert_eq!(rt; status, Status::WriteFault);
     assert_eq!(rt; sink.bytes(), b"unsafe\n".as_slice());
     Ok(())
 }
 
+/// Words that are no command.
+static WRONG: [&[&str]; 18] = [
+    &[],
+    &["check", "I", "O"],
+    &["check", "I", "O", "S", "C"],
+    &["check", "I", "-O", "S"],
+    &["check", "I", "", "S"],
+    &["check", "--limit", "0", "I", "O", "S"],
+    &["check", "--limit", "4001", "I", "O", "S"],
+    &["check", "--limit", "07", "I", "O", "S"],
+    &["check", "I", "O", "S", "--limit", "7"],
+    &["verify", "--limit", "7", "I", "O", "S", "C"],
+    &["valid", "--stream", "I", "D"],
+    &["valid", "--stream", "0", "I", "D"],
+    &["valid", "--stream", "01", "I", "D"],
+    &["valid", "--stream", "65537", "I", "D"],
+    &["valid", "I", "D", "--stream", "7"],
+    &["demo", "41"],
+    &["--help"],
+    &["upgrade", "I", "O", "S", "T"],
+];
+
 #[test]
 fn tells_the_usage(rt: HostRuntime) -> Result<(), Fail> {
-    let wrong: [&[&str]; 14] = [
-        &[],
-        &["check", "I", "O"],
-        &["check", "I", "O", "S", "C"],
-        &["check", "I", "-O", "S"],
-        &["check", "I", "", "S"],
-        &["check", "--limit", "0", "I", "O", "S"],
-        &["check", "--limit", "4001", "I", "O", "S"],
-        &["check", "--limit", "07", "I", "O", "S"],
-        &["check", "I", "O", "S", "--limit", "7"],
-        &["verify", "--limit", "7", "I", "O", "S", "C"],
-        &["valid", "--stream", "I", "D"],
-        &["demo", "41"],
-        &["--help"],
-        &["upgrade", "I", "O", "S", "T"],
-    ];
-    for words in wrong {
-        let mut store = MemStore::new(rt.alloc());
-        let (status, sink) = written(rt.alloc(), words, &mut store, 200)?;
-        assert_eq!(rt; status, Status::Usage);
-        assert_eq!(rt; sink.bytes(), USAGE);
+    for words in &WRONG {
+        assert!(rt; command_answers(rt.alloc(), words, &[], Status::Usage, USAGE)?);
     }
     Ok(())
 }
@@ -153,19 +209,21 @@ fn writes_each_line_by_itself(rt: HostRuntime) -> Result<(), Fail> {
     Ok(())
 }
 
+/// Statuses by their numbers.
+static NUMBERS: [(u8, Status); 8] = [
+    (0, Status::Yes),
+    (1, Status::No),
+    (2, Status::Usage),
+    (3, Status::Refused),
+    (4, Status::Limit),
+    (5, Status::ReadFault),
+    (6, Status::WriteFault),
+    (7, Status::NoMemory),
+];
+
 #[test]
 fn numbers_each_status(rt: HostRuntime) {
-    let all = [
-        Status::Yes,
-        Status::No,
-        Status::Usage,
-        Status::Refused,
-        Status::Limit,
-        Status::ReadFault,
-        Status::WriteFault,
-        Status::NoMemory,
-    ];
-    for (number, status) in (0u8..8).zip(all) {
-        assert_eq!(rt; status.number(), number);
+    for (number, status) in &NUMBERS {
+        assert_eq!(rt; status.number(), *number);
     }
 }

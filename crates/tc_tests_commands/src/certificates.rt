@@ -1,9 +1,10 @@
 // Tests of `prove`, `verify` and `upgrade`.
 use crate::commands::{joined, sheet_of, store_answers, triple_store, written};
 use std::alloc::Global;
+use std::process::Abort;
 use std::test::Fail;
 use tc_base::NoMemory;
-use tc_io::MemStore;
+use tc_io::{MemSink, MemStore};
 use tc_top::Status;
 
 const PROVE: &[&str] = &["prove", "I", "O", "S"];
@@ -146,29 +147,45 @@ fn verifies_with_two(
     writes_of(alloc, VERIFY, twice.as_str(), text)
 }
 
+/// The same certificate in both versions.
+static VERSIONS: [&str; 2] = [WHOLE, CHANGES];
+
+/// Whether `verify` accepts a certificate, and `upgrade` writes it as changes.
+fn is_accepted(alloc: Global, certificate: &str) -> Result<bool, Fail> {
+    Ok(
+        writes_of(alloc, VERIFY, certificate, "accepted\n")?
+            && writes_of(alloc, UPGRADE, certificate, CHANGES)?,
+    )
+}
+
 #[test]
 fn a_certificate_is_proved_verified_and_written_anew(rt: HostRuntime) -> Result<(), Fail> {
     assert!(rt; writes_of(rt.alloc(), PROVE, "", CHANGES)?);
-    for certificate in [WHOLE, CHANGES] {
-        assert!(rt; writes_of(rt.alloc(), VERIFY, certificate, "accepted\n")?);
-        assert!(rt; writes_of(rt.alloc(), UPGRADE, certificate, CHANGES)?);
+    for certificate in &VERSIONS {
+        assert!(rt; is_accepted(rt.alloc(), certificate)?);
     }
     Ok(())
 }
 
+/// The number of a line, and what stands in its place.
+type Line = (usize, &'static str);
+
+/// Two lines that are replaced, and what `verify` says.
+static LACKING: [(Line, Line, &str); 4] = [
+    ((5, "trees 2\n"), (8, ""), "rejected 9 wrap b\n"),
+    ((9, "hedges 1\n"), (10, ""), "rejected 0 empty\n"),
+    ((9, "hedges 1\n"), (11, ""), "rejected 10 append 8\n"),
+    (
+        (5, "trees 4\n"),
+        (6, "t 0 0 1 0,0,0 -\nt 0 0 1 1,0,1 -\n"),
+        "accepted\n",
+    ),
+];
+
 #[test]
 fn rows_that_lack_are_told(rt: HostRuntime) -> Result<(), Fail> {
-    for (one, other, text) in [
-        ((5, "trees 2\n"), (8, ""), "rejected 9 wrap b\n"),
-        ((9, "hedges 1\n"), (10, ""), "rejected 0 empty\n"),
-        ((9, "hedges 1\n"), (11, ""), "rejected 10 append 8\n"),
-        (
-            (5, "trees 4\n"),
-            (6, "t 0 0 1 0,0,0 -\nt 0 0 1 1,0,1 -\n"),
-            "accepted\n",
-        ),
-    ] {
-        assert!(rt; verifies_with_two(rt.alloc(), other, one, text)?);
+    for (one, other, text) in &LACKING {
+        assert!(rt; verifies_with_two(rt.alloc(), *other, *one, text)?);
     }
     Ok(())
 }
@@ -193,27 +210,35 @@ fn what_is_unsafe_is_not_proved(rt: HostRuntime) -> Result<(), Fail> {
     Ok(())
 }
 
+/// The number of a line that is replaced, what stands in its place, and what `verify` says.
+static WRONG: [(usize, &str, &str); 15] = [
+    (4, "m 2>5 3>3\n", "rejected 4 fit\n"),
+    (12, "", "rejected 12 form\n"),
+    (12, "end", "rejected 12 form\n"),
+    (12, "end\ne", "rejected 13 form\n"),
+    (1, "xslt-typecheck certificate 1\r\n", "rejected 1 form\n"),
+    (2, "outputs 02\n", "rejected 2 form\n"),
+    (2, "outputs 65537\n", "rejected 2 form\n"),
+    (2, "outputs 1\n", "rejected 4 form\n"),
+    (2, "outputs 3\n", "rejected 5 form\n"),
+    (6, "t 0 0 1 0,0,4294967295 -\n", "rejected 6 fit\n"),
+    (6, "t 0 0 1 0,0,4294967296 -\n", "rejected 6 form\n"),
+    (6, "t 0 0 1 0,0 -\n", "rejected 6 fit\n"),
+    (6, "t 0 0 0 0,0,0 -\n", "rejected 6 fit\n"),
+    (6, "t 0 0 2,1 0,0,0 -\n", "rejected 6 form\n"),
+    (6, "t 0 0 - 0,0,0 -\n", "rejected 10 wrap a\n"),
+];
+
 #[test]
 fn the_first_line_that_is_wrong_is_told(rt: HostRuntime) -> Result<(), Fail> {
-    for (number, other, text) in [
-        (4, "m 2>5 3>3\n", "rejected 4 fit\n"),
-        (12, "", "rejected 12 form\n"),
-        (12, "end", "rejected 12 form\n"),
-        (12, "end\ne", "rejected 13 form\n"),
-        (1, "xslt-typecheck certificate 1\r\n", "rejected 1 form\n"),
-        (2, "outputs 02\n", "rejected 2 form\n"),
-        (2, "outputs 65537\n", "rejected 2 form\n"),
-        (2, "outputs 1\n", "rejected 4 form\n"),
-        (2, "outputs 3\n", "rejected 5 form\n"),
-        (6, "t 0 0 1 0,0,4294967295 -\n", "rejected 6 fit\n"),
-        (6, "t 0 0 1 0,0,4294967296 -\n", "rejected 6 form\n"),
-        (6, "t 0 0 1 0,0 -\n", "rejected 6 fit\n"),
-        (6, "t 0 0 0 0,0,0 -\n", "rejected 6 fit\n"),
-        (6, "t 0 0 2,1 0,0,0 -\n", "rejected 6 form\n"),
-        (6, "t 0 0 - 0,0,0 -\n", "rejected 10 wrap a\n"),
-    ] {
-        assert!(rt; verifies_with(rt.alloc(), number, other, text)?);
+    for (number, other, text) in &WRONG {
+        assert!(rt; verifies_with(rt.alloc(), *number, other, text)?);
     }
+    Ok(())
+}
+
+#[test]
+fn lines_of_outputs_come_in_order(rt: HostRuntime) -> Result<(), Fail> {
     assert!(rt;
         verifies_with_two(
             rt.alloc(),
@@ -222,8 +247,20 @@ fn the_first_line_that_is_wrong_is_told(rt: HostRuntime) -> Result<(), Fail> {
             "rejected 4 form\n"
         )?
     );
-    assert!(rt; writes_of(rt.alloc(), VERIFY, "", "rejected 1 form\n")?);
-    assert!(rt; writes_of(rt.alloc(), UPGRADE, "", "rejected 1 form\n")?);
+    Ok(())
+}
+
+/// Whether `verify` and `upgrade` say this of a certificate.
+fn both_write(alloc: Global, certificate: &str, text: &str) -> Result<bool, Fail> {
+    Ok(
+        writes_of(alloc, VERIFY, certificate, text)?
+            && writes_of(alloc, UPGRADE, certificate, text)?,
+    )
+}
+
+#[test]
+fn nothing_is_no_certificate(rt: HostRuntime) -> Result<(), Fail> {
+    assert!(rt; both_write(rt.alloc(), "", "rejected 1 form\n")?);
     Ok(())
 }
 
@@ -257,16 +294,18 @@ fn fronts_of_version_2_lack_their_next_line(rt: HostRuntime) -> Result<(), Fail>
     Ok(())
 }
 
+/// The same of version 2, whose rows are written as changes; `upgrade` says the same.
+static WRONG_CHANGES: [(usize, &str, &str); 3] = [
+    (7, "T 0 0 1 0:0,1:1 -\n", "rejected 7 form\n"),
+    (7, "t 0 0 1 1,1,0 -\n", "rejected 7 form\n"),
+    (6, "T 0 0 1 - -\n", "rejected 6 form\n"),
+];
+
 #[test]
 fn changes_are_those_of_the_row_before(rt: HostRuntime) -> Result<(), Fail> {
-    for (number, other, text) in [
-        (7, "T 0 0 1 0:0,1:1 -\n", "rejected 7 form\n"),
-        (7, "t 0 0 1 1,1,0 -\n", "rejected 7 form\n"),
-        (6, "T 0 0 1 - -\n", "rejected 6 form\n"),
-    ] {
-        let certificate = with_line(rt.alloc(), CHANGES, number, other)?;
-        assert!(rt; writes_of(rt.alloc(), VERIFY, certificate.as_str(), text)?);
-        assert!(rt; writes_of(rt.alloc(), UPGRADE, certificate.as_str(), text)?);
+    for (number, other, text) in &WRONG_CHANGES {
+        let certificate = with_line(rt.alloc(), CHANGES, *number, other)?;
+        assert!(rt; both_write(rt.alloc(), certificate.as_str(), text)?);
     }
     Ok(())
 }
@@ -346,17 +385,31 @@ fn listed(alloc: Global, name: &str, count: u32) -> Result<String, NoMemory> {
     Ok(text)
 }
 
+/// So many of a name, with commas between them, between two texts.
+fn listed_within(
+    alloc: Global,
+    front: &str,
+    name: &str,
+    count: u32,
+    back: &str,
+) -> Result<String, NoMemory> {
+    let content = listed(alloc, name, count)?;
+    joined(alloc, &[front, content.as_str(), back])
+}
+
 /// An output of an `r` with so many `x`: a state before and behind each of them, one of what stands in an `x`, two of the root.
 fn output_of(alloc: Global, count: u32) -> Result<String, NoMemory> {
-    let content = listed(alloc, "x", count)?;
     let front = "x = element x{empty} start = element r{";
-    joined(alloc, &[front, content.as_str(), "}"])
+    listed_within(alloc, front, "x", count, "}")
 }
+
+/// How many `x` the output has, and what `verify` says.
+static LIMITED: [(u32, &str); 2] = [(252, "rejected 1 form\n"), (260, "limit states 256\n")];
 
 #[test]
 fn limits_of_schemas_come_before_the_certificate(rt: HostRuntime) -> Result<(), Fail> {
-    for (count, text) in [(252, "rejected 1 form\n"), (260, "limit states 256\n")] {
-        let output = output_of(rt.alloc(), count)?;
+    for (count, text) in &LIMITED {
+        let output = output_of(rt.alloc(), *count)?;
         let files = Files {
             output: output.as_str(),
             ..ANY_PARTS
@@ -409,12 +462,10 @@ fn rows_are_not_unfolded_before_they_fit(rt: HostRuntime) -> Result<(), Fail> {
 
 /// Any number of times 51 `b`; its results are any number of times 47 `x`, or any number of `x`.
 fn many_rows(alloc: Global) -> Result<(String, String), NoMemory> {
-    let of_b = listed(alloc, "b", 51)?;
     let front = "b = element b{empty} start = element a{(";
-    let input = joined(alloc, &[front, of_b.as_str(), ")*}"])?;
-    let of_x = listed(alloc, "x", 47)?;
+    let input = listed_within(alloc, front, "b", 51, ")*}")?;
     let front = "x = element x{empty} start = element r{(";
-    let output = joined(alloc, &[front, of_x.as_str(), ")*|x*}"])?;
+    let output = listed_within(alloc, front, "x", 47, ")*|x*}")?;
     Ok((input, output))
 }
 
@@ -430,6 +481,22 @@ fn many_rows_pass_the_limit(rt: HostRuntime) -> Result<(), Fail> {
     Ok(())
 }
 
+/// What `prove` writes of these files where its limit is the highest, and its status.
+fn proved(alloc: Global, files: Files<'_>) -> Result<(Status, MemSink), NoMemory> {
+    let mut store = store_with(alloc, files, None)?;
+    let most = &["prove", "--limit", "4000", "I", "O", "S"];
+    written(alloc, most, &mut store, 100_000)
+}
+
+/// Asserts that it proves these files, by a certificate that `verify` accepts.
+fn assert_proved(rt: &impl Abort, alloc: Global, files: Files<'_>) -> Result<(), Fail> {
+    let (status, sink) = proved(alloc, files)?;
+    assert_eq!(rt; status, Status::Yes);
+    assert_eq!(rt; sink.bytes().len(), 63_908);
+    assert!(rt; writes(alloc, VERIFY, files, Some(sink.bytes()), "accepted\n")?);
+    Ok(())
+}
+
 #[test]
 fn no_limit_on_rows_is_tried_of_a_certificate(rt: HostRuntime) -> Result<(), Fail> {
     let (input, output) = many_rows(rt.alloc())?;
@@ -438,11 +505,5 @@ fn no_limit_on_rows_is_tried_of_a_certificate(rt: HostRuntime) -> Result<(), Fai
         output: output.as_str(),
         rules: PARTS,
     };
-    let mut store = store_with(rt.alloc(), files, None)?;
-    let most = &["prove", "--limit", "4000", "I", "O", "S"];
-    let (status, sink) = written(rt.alloc(), most, &mut store, 100_000)?;
-    assert_eq!(rt; status, Status::Yes);
-    assert_eq!(rt; sink.bytes().len(), 63_908);
-    assert!(rt; writes(rt.alloc(), VERIFY, files, Some(sink.bytes()), "accepted\n")?);
-    Ok(())
+    assert_proved(&rt, rt.alloc(), files)
 }

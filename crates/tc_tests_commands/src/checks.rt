@@ -73,19 +73,22 @@ fn decides(alloc: Global, rules: &str, text: &str) -> Result<bool, Fail> {
     answers(alloc, "element a{empty}", "element r{empty}", rules, text)
 }
 
+/// Outputs, and what is written.
+static FIXED: [(&str, &str); 2] = [
+    (
+        "element r { element x { empty }* }",
+        "safe trees 1 hedges 1 outputs 1\n",
+    ),
+    (
+        "element r { empty }",
+        "unsafe\ndocument <a/>\noutput <r><x/></r>\n",
+    ),
+];
+
 #[test]
 fn fixed_results_are_decided(rt: HostRuntime) -> Result<(), Fail> {
     let rules = "<xsl:template match=\"/\"><r><x/></r></xsl:template>";
-    for (output, text) in [
-        (
-            "element r { element x { empty }* }",
-            "safe trees 1 hedges 1 outputs 1\n",
-        ),
-        (
-            "element r { empty }",
-            "unsafe\ndocument <a/>\noutput <r><x/></r>\n",
-        ),
-    ] {
+    for (output, text) in &FIXED {
         assert!(rt;
             answers(rt.alloc(), "element a { empty }", output, rules, text)?,
             "{text}"
@@ -94,19 +97,26 @@ fn fixed_results_are_decided(rt: HostRuntime) -> Result<(), Fail> {
     Ok(())
 }
 
+const SAFE: &str = "safe trees 3 hedges 2 outputs 2\n";
+
+const SOME_X: &str = "element r{element x{empty}+}";
+
+const SHOWN: &str = "unsafe\ndocument <a/>\noutput <r/>\n";
+
+const LIMIT: &str = "limit trees 2\n";
+
+/// Words, outputs, and what is written.
+static LIMITS: [(&[&str], &str, &str); 5] = [
+    (PLAIN, ANY_X, SAFE),
+    (WITH_THREE, ANY_X, SAFE),
+    (PLAIN, SOME_X, SHOWN),
+    (WITH_TWO, ANY_X, LIMIT),
+    (WITH_TWO, SOME_X, LIMIT),
+];
+
 #[test]
 fn limits_of_rows_are_told(rt: HostRuntime) -> Result<(), Fail> {
-    let safe = "safe trees 3 hedges 2 outputs 2\n";
-    let some_x = "element r{element x{empty}+}";
-    let shown = "unsafe\ndocument <a/>\noutput <r/>\n";
-    let limit = "limit trees 2\n";
-    for (words, output, text) in [
-        (PLAIN, ANY_X, safe),
-        (WITH_THREE, ANY_X, safe),
-        (PLAIN, some_x, shown),
-        (WITH_TWO, ANY_X, limit),
-        (WITH_TWO, some_x, limit),
-    ] {
+    for (words, output, text) in &LIMITS {
         assert!(rt;
             writes(rt.alloc(), words, ANY_B, output, PARTS, text)?,
             "{text}"
@@ -115,47 +125,56 @@ fn limits_of_rows_are_told(rt: HostRuntime) -> Result<(), Fail> {
     Ok(())
 }
 
+const ONE_X: &str = "element r{element x{empty}?}";
+
+const SEVEN: &str = "b = element b{empty} start = element a{(b,b,b,b,b,b,b)+}";
+
+const PAIRS: &str = "element r{(element x{empty},element x{empty})*}";
+
+/// Inputs, outputs, rules, and what is written.
+static COUNTED: [(&str, &str, &str, &str); 4] = [
+    (
+        "element a{text}",
+        ONE_X,
+        TEXTS,
+        "safe trees 3 hedges 2 outputs 2\n",
+    ),
+    (
+        "element a{(text|element b{empty})*}",
+        ONE_X,
+        TEXTS,
+        "unsafe\ndocument <a>t<b/>t</a>\noutput <r><x/><x/></r>\n",
+    ),
+    (
+        "element a{(element b{empty},element b{empty})*}",
+        PAIRS,
+        PARTS,
+        "safe trees 3 hedges 3 outputs 3\n",
+    ),
+    (
+        SEVEN,
+        PAIRS,
+        PARTS,
+        "unsafe\ndocument <a><b/><b/><b/><b/><b/><b/><b/></a>\n\
+         output <r><x/><x/><x/><x/><x/><x/><x/></r>\n",
+    ),
+];
+
 #[test]
 fn children_are_counted(rt: HostRuntime) -> Result<(), Fail> {
-    let one_x = "element r{element x{empty}?}";
-    let seven = "b = element b{empty} start = element a{(b,b,b,b,b,b,b)+}";
-    let pairs = "element r{(element x{empty},element x{empty})*}";
-    for (input, output, rules, text) in [
-        (
-            "element a{text}",
-            one_x,
-            TEXTS,
-            "safe trees 3 hedges 2 outputs 2\n",
-        ),
-        (
-            "element a{(text|element b{empty})*}",
-            one_x,
-            TEXTS,
-            "unsafe\ndocument <a>t<b/>t</a>\noutput <r><x/><x/></r>\n",
-        ),
-        (
-            "element a{(element b{empty},element b{empty})*}",
-            pairs,
-            PARTS,
-            "safe trees 3 hedges 3 outputs 3\n",
-        ),
-        (
-            seven,
-            pairs,
-            PARTS,
-            "unsafe\ndocument <a><b/><b/><b/><b/><b/><b/><b/></a>\n\
-             output <r><x/><x/><x/><x/><x/><x/><x/></r>\n",
-        ),
-    ] {
+    for (input, output, rules, text) in &COUNTED {
         assert!(rt; answers(rt.alloc(), input, output, rules, text)?, "{input}");
     }
     Ok(())
 }
 
+/// Schemas without documents.
+static NO_DOCUMENTS: [&str; 2] = ["start = notAllowed", "start = e e = element a{e}"];
+
 #[test]
 fn schemas_without_documents_are_safe(rt: HostRuntime) -> Result<(), Fail> {
     let safe = "safe trees 0 hedges 1 outputs 1\n";
-    for input in ["start = notAllowed", "start = e e = element a{e}"] {
+    for input in &NO_DOCUMENTS {
         assert!(rt; answers(rt.alloc(), input, ANY_X, PARTS, safe)?, "{input}");
     }
     Ok(())
@@ -169,19 +188,22 @@ fn names_that_nobody_mentions_count(rt: HostRuntime) -> Result<(), Fail> {
     Ok(())
 }
 
+/// Inputs, and what is written.
+static VALUES: [(&str, &str); 2] = [
+    (
+        "element a{element b{empty},element b{text}}",
+        "safe trees 5 hedges 5 outputs 3\n",
+    ),
+    (
+        "element a{element b{text},element b{empty}}",
+        "unsafe\ndocument <a><b>t</b><b/></a>\noutput <x>t</x>\n",
+    ),
+];
+
 #[test]
 fn values_are_of_the_first_node(rt: HostRuntime) -> Result<(), Fail> {
     let rules = "<xsl:template match=\"a\"><x><xsl:value-of select=\"b\"/></x></xsl:template>";
-    for (input, text) in [
-        (
-            "element a{element b{empty},element b{text}}",
-            "safe trees 5 hedges 5 outputs 3\n",
-        ),
-        (
-            "element a{element b{text},element b{empty}}",
-            "unsafe\ndocument <a><b>t</b><b/></a>\noutput <x>t</x>\n",
-        ),
-    ] {
+    for (input, text) in &VALUES {
         assert!(rt;
             answers(rt.alloc(), input, "element x{empty}", rules, text)?,
             "{input}"
@@ -190,54 +212,64 @@ fn values_are_of_the_first_node(rt: HostRuntime) -> Result<(), Fail> {
     Ok(())
 }
 
+const NONE_OR_SOME_X: &str = "element none{empty} | element r{element x{empty}+}";
+
+const CHOICE: &str =
+    "<xsl:template match=\"a\"><xsl:choose><xsl:when test=\"not(b/c)\"><none/></xsl:when>\
+    <xsl:otherwise><r><xsl:apply-templates select=\"b/c\"/></r></xsl:otherwise></xsl:choose></xsl:template>\
+    <xsl:template match=\"c\"><x/></xsl:template>";
+
+const WITH: &str =
+    "<xsl:template match=\"/\"><r><xsl:apply-templates select=\"a/b[c]\"/></r></xsl:template>\
+    <xsl:template match=\"b\"><y/></xsl:template><xsl:template match=\"b[c]\"><x/></xsl:template>";
+
+const WITHOUT: &str =
+    "<xsl:template match=\"/\"><r><xsl:apply-templates select=\"a/b\"/></r></xsl:template>\
+    <xsl:template match=\"b\"><y/></xsl:template><xsl:template match=\"b[c]\"><x/></xsl:template>";
+
+/// Outputs, rules, and what is written.
+static FOLLOWED: [(&str, &str, &str); 3] = [
+    (NONE_OR_SOME_X, CHOICE, "safe trees 5 hedges 4 outputs 4\n"),
+    (ANY_X, WITH, "safe trees 7 hedges 5 outputs 3\n"),
+    (
+        ANY_X,
+        WITHOUT,
+        "unsafe\ndocument <a><b/></a>\noutput <r><y/></r>\n",
+    ),
+];
+
 #[test]
 fn predicates_and_tests_are_followed(rt: HostRuntime) -> Result<(), Fail> {
     let input = "element a{element b{element c{empty}?}*}";
-    let some_x = "element none{empty} | element r{element x{empty}+}";
-    let choice =
-        "<xsl:template match=\"a\"><xsl:choose><xsl:when test=\"not(b/c)\"><none/></xsl:when>\
-        <xsl:otherwise><r><xsl:apply-templates select=\"b/c\"/></r></xsl:otherwise></xsl:choose></xsl:template>\
-        <xsl:template match=\"c\"><x/></xsl:template>";
-    let with =
-        "<xsl:template match=\"/\"><r><xsl:apply-templates select=\"a/b[c]\"/></r></xsl:template>\
-        <xsl:template match=\"b\"><y/></xsl:template><xsl:template match=\"b[c]\"><x/></xsl:template>";
-    let without =
-        "<xsl:template match=\"/\"><r><xsl:apply-templates select=\"a/b\"/></r></xsl:template>\
-        <xsl:template match=\"b\"><y/></xsl:template><xsl:template match=\"b[c]\"><x/></xsl:template>";
-    for (output, rules, text) in [
-        (some_x, choice, "safe trees 5 hedges 4 outputs 4\n"),
-        (ANY_X, with, "safe trees 7 hedges 5 outputs 3\n"),
-        (
-            ANY_X,
-            without,
-            "unsafe\ndocument <a><b/></a>\noutput <r><y/></r>\n",
-        ),
-    ] {
+    for (output, rules, text) in &FOLLOWED {
         assert!(rt; answers(rt.alloc(), input, output, rules, text)?, "{text}");
     }
     Ok(())
 }
 
+/// What the root puts out, and what is written.
+static PRINTED: [(&str, &str); 5] = [
+    ("<r/><r/>", "unsafe\ndocument <a/>\noutput <r/><r/>\n"),
+    (
+        "<xsl:text> </xsl:text><r/>",
+        "safe trees 1 hedges 1 outputs 1\n",
+    ),
+    ("<xsl:text> </xsl:text>", "unsafe\ndocument <a/>\noutput \n"),
+    (
+        "<r>x &amp; y</r>",
+        "unsafe\ndocument <a/>\noutput <r>x &amp; y</r>\n",
+    ),
+    (
+        "<q:r xmlns:q=\"u\"/>",
+        "unsafe\ndocument <a/>\noutput <r xmlns=\"u\"/>\n",
+    ),
+];
+
 #[test]
 fn roots_texts_and_namespaces_are_printed(rt: HostRuntime) -> Result<(), Fail> {
-    for (body, text) in [
-        ("<r/><r/>", "unsafe\ndocument <a/>\noutput <r/><r/>\n"),
-        (
-            "<xsl:text> </xsl:text><r/>",
-            "safe trees 1 hedges 1 outputs 1\n",
-        ),
-        ("<xsl:text> </xsl:text>", "unsafe\ndocument <a/>\noutput \n"),
-        (
-            "<r>x &amp; y</r>",
-            "unsafe\ndocument <a/>\noutput <r>x &amp; y</r>\n",
-        ),
-        (
-            "<q:r xmlns:q=\"u\"/>",
-            "unsafe\ndocument <a/>\noutput <r xmlns=\"u\"/>\n",
-        ),
-    ] {
+    for (body, text) in &PRINTED {
         let front = "<xsl:template match=\"/\">";
-        let rules = joined(rt.alloc(), &[front, body, "</xsl:template>"])?;
+        let rules = joined(rt.alloc(), &[front, *body, "</xsl:template>"])?;
         assert!(rt; decides(rt.alloc(), rules.as_str(), text)?, "{body}");
     }
     Ok(())
@@ -311,19 +343,22 @@ fn output_schemas_have_fewer_states(rt: HostRuntime) -> Result<(), Fail> {
     Ok(())
 }
 
+/// Outputs, and what is written.
+static INTERLEAVED: [(&str, &str); 2] = [
+    (
+        "element a{(element b{empty},element c{empty})|(element c{empty},element b{empty})}",
+        "safe trees 3 hedges 5 outputs 6\n",
+    ),
+    (
+        "element a{element b{empty},element c{empty}}",
+        "unsafe\ndocument <a><c/><b/></a>\noutput <a><c/><b/></a>\n",
+    ),
+];
+
 #[test]
 fn interleaved_children_come_in_any_order(rt: HostRuntime) -> Result<(), Fail> {
     let input = "element a{element b{empty}&element c{empty}}";
-    for (output, text) in [
-        (
-            "element a{(element b{empty},element c{empty})|(element c{empty},element b{empty})}",
-            "safe trees 3 hedges 5 outputs 6\n",
-        ),
-        (
-            "element a{element b{empty},element c{empty}}",
-            "unsafe\ndocument <a><c/><b/></a>\noutput <a><c/><b/></a>\n",
-        ),
-    ] {
+    for (output, text) in &INTERLEAVED {
         assert!(rt; answers(rt.alloc(), input, output, COPY, text)?, "{output}");
     }
     Ok(())
@@ -349,12 +384,17 @@ fn counters(alloc: Global, input: &str, element: &str, text: &str) -> Result<boo
     answers(alloc, input, "element r{empty}", rules.as_str(), text)
 }
 
+/// What is written of the document of ten levels.
+fn shown_levels(alloc: Global) -> Result<String, Fail> {
+    let tree = ten_levels(alloc)?;
+    let parts = ["unsafe\ndocument ", tree.as_str(), "\noutput <x/>\n"];
+    Ok(joined(alloc, &parts)?)
+}
+
 #[test]
 fn counterexamples_are_shown(rt: HostRuntime) -> Result<(), Fail> {
     let input = doubled(rt.alloc(), 10)?;
-    let tree = ten_levels(rt.alloc())?;
-    let parts = ["unsafe\ndocument ", tree.as_str(), "\noutput <x/>\n"];
-    let text = joined(rt.alloc(), &parts)?;
+    let text = shown_levels(rt.alloc())?;
     assert!(rt; counters(rt.alloc(), input.as_str(), "<x/>", text.as_str())?);
     Ok(())
 }
@@ -367,28 +407,37 @@ fn counterexamples_have_a_limit(rt: HostRuntime) -> Result<(), Fail> {
     Ok(())
 }
 
-/// A schema whose only document has 19 times 100 elements and so many more than one in its root.
-fn wide(alloc: Global, more: u32) -> Result<String, NoMemory> {
+/// The root of the schema that follows.
+fn wide_root(alloc: Global, more: u32) -> Result<String, NoMemory> {
     let groups = repeated(alloc, "g,", 19)?;
     let in_root = repeated(alloc, ",x", more)?;
+    let front = "start = r r = element r{";
+    joined(alloc, &[front, groups.as_str(), "x", in_root.as_str(), "}"])
+}
+
+/// A schema whose only document has 19 times 100 elements and so many more than one in its root.
+fn wide(alloc: Global, more: u32) -> Result<String, NoMemory> {
+    let root = wide_root(alloc, more)?;
     let in_group = repeated(alloc, ",x", 98)?;
     let parts = [
-        "start = r r = element r{",
-        groups.as_str(),
-        "x",
-        in_root.as_str(),
-        "} g = element g{x",
+        root.as_str(),
+        " g = element g{x",
         in_group.as_str(),
         "} x = element x{empty}",
     ];
     joined(alloc, &parts)
 }
 
+/// Its groups.
+fn groups_of(alloc: Global, many: &str) -> Result<String, NoMemory> {
+    let group = joined(alloc, &["<g>", many, "</g>"])?;
+    repeated(alloc, group.as_str(), 19)
+}
+
 /// The document of 2,000 elements, and its result.
 fn wide_text(alloc: Global) -> Result<String, NoMemory> {
     let many = repeated(alloc, "<x/>", 99)?;
-    let group = joined(alloc, &["<g>", many.as_str(), "</g>"])?;
-    let groups = repeated(alloc, group.as_str(), 19)?;
+    let groups = groups_of(alloc, many.as_str())?;
     let front = "unsafe\ndocument <r>";
     let back = "</r>\noutput <no/>\n";
     joined(alloc, &[front, groups.as_str(), many.as_str(), back])
@@ -421,14 +470,19 @@ fn deep(alloc: Global) -> Result<String, Fail> {
     Ok(input)
 }
 
+/// What is written of its document, whose result is too large.
+fn deep_text(alloc: Global) -> Result<String, NoMemory> {
+    let tree = nested(alloc, "<a>", 24, "<a/>", "</a>")?;
+    let parts = ["unsafe\ndocument ", tree.as_str(), "\noutput-too-large\n"];
+    joined(alloc, &parts)
+}
+
 #[test]
 fn large_results_are_not_shown(rt: HostRuntime) -> Result<(), Fail> {
     let rules = "<xsl:template match=\"/\"><r><xsl:apply-templates/></r></xsl:template>\
         <xsl:template match=\"a\"><x/><xsl:apply-templates/><xsl:apply-templates/></xsl:template>";
     let input = deep(rt.alloc())?;
-    let tree = nested(rt.alloc(), "<a>", 24, "<a/>", "</a>")?;
-    let parts = ["unsafe\ndocument ", tree.as_str(), "\noutput-too-large\n"];
-    let text = joined(rt.alloc(), &parts)?;
+    let text = deep_text(rt.alloc())?;
     let output = "element r{empty}";
     assert!(rt; answers(rt.alloc(), input.as_str(), output, rules, text.as_str())?);
     Ok(())

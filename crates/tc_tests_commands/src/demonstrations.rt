@@ -68,50 +68,50 @@ fn answers(
     command_answers(alloc, CHECK, &files, status, text)
 }
 
+/// The body of lists, the status, and what is written.
+static LISTS: [(&str, Status, &str); 2] = [
+    (
+        "<ul><xsl:apply-templates/></ul>",
+        Status::No,
+        "unsafe\ndocument <article><title/><section><title/><itemlist/></section></article>\n\
+         output <html xmlns=\"http://www.w3.org/1999/xhtml\"><head><title/></head><body><h1/><div><h1/><ul/></div></body></html>\n",
+    ),
+    (
+        "<xsl:if test=\"item\"><ul><xsl:apply-templates/></ul></xsl:if>",
+        Status::Yes,
+        "safe trees 16 hedges 27 outputs 10\n",
+    ),
+];
+
 #[test]
 fn articles_become_pages(rt: HostRuntime) -> Result<(), Fail> {
     let alloc = rt.alloc();
-    for (body, status, text) in [
-        (
-            "<ul><xsl:apply-templates/></ul>",
-            Status::No,
-            "unsafe\ndocument <article><title/><section><title/><itemlist/></section></article>\n\
-             output <html xmlns=\"http://www.w3.org/1999/xhtml\"><head><title/></head><body><h1/><div><h1/><ul/></div></body></html>\n",
-        ),
-        (
-            "<xsl:if test=\"item\"><ul><xsl:apply-templates/></ul></xsl:if>",
-            Status::Yes,
-            "safe trees 16 hedges 27 outputs 10\n",
-        ),
-    ] {
+    for (body, status, text) in &LISTS {
         let sheet = sheet_with(alloc, body)?;
         let (input, output) = (ARTICLE.as_bytes(), PAGE.as_bytes());
         assert!(rt;
-            answers(alloc, input, output, sheet.as_bytes(), status, text)?,
+            answers(alloc, input, output, sheet.as_bytes(), *status, text)?,
             "{body}"
         );
     }
     Ok(())
 }
 
+const GOOD: &[u8] = b"element a{empty}";
+
+const MANY: &[u8] = b"element a{empty|empty}";
+
+/// Inputs, outputs, and what is written.
+static REFUSED: [(&[u8], &[u8], &str); 4] = [
+    (b"\xFF", GOOD, "refused I malformed at 0\n"),
+    (b"\xFF", b"a b", "refused I malformed at 0\n"),
+    (GOOD, b"start = b", "refused O undefined at 8\n"),
+    (MANY, b"start = empty", "refused O bad-start at 0\n"),
+];
+
 #[test]
 fn operands_are_refused_in_order(rt: HostRuntime) -> Result<(), Fail> {
-    let good = b"element a{empty}".as_slice();
-    let many = b"element a{empty|empty}".as_slice();
-    for (input, output, text) in [
-        (b"\xFF".as_slice(), good, "refused I malformed at 0\n"),
-        (
-            b"\xFF".as_slice(),
-            b"a b".as_slice(),
-            "refused I malformed at 0\n",
-        ),
-        (good, b"start = b".as_slice(), "refused O undefined at 8\n"),
-        (
-            many,
-            b"start = empty".as_slice(),
-            "refused O bad-start at 0\n",
-        ),
-    ] {
+    for (input, output, text) in &REFUSED {
         assert!(rt;
             answers(rt.alloc(), input, output, NO_RULES, Status::Refused, text)?,
             "{text}"
@@ -120,22 +120,26 @@ fn operands_are_refused_in_order(rt: HostRuntime) -> Result<(), Fail> {
     Ok(())
 }
 
+/// Stylesheets, the status, and what is written.
+static SHEETS: [(&[u8], Status, &str); 2] = [
+    (NO_RULES, Status::Limit, "limit pattern 65536\n"),
+    (b"<r", Status::Refused, "refused S malformed at 2\n"),
+];
+
+/// A schema of a pattern with too many nodes.
+fn large_schema(alloc: Global) -> Result<String, NoMemory> {
+    let more = repeated(alloc, "|empty", 65_534)?;
+    joined(alloc, &["element a{empty", more.as_str(), "}"])
+}
+
 #[test]
 fn limits_wait_for_all_texts(rt: HostRuntime) -> Result<(), Fail> {
     let alloc = rt.alloc();
-    let more = repeated(alloc, "|empty", 65_534)?;
-    let large = joined(alloc, &["element a{empty", more.as_str(), "}"])?;
+    let large = large_schema(alloc)?;
     let output = b"element a{empty}".as_slice();
-    for (sheet, status, line) in [
-        (NO_RULES, Status::Limit, "limit pattern 65536\n"),
-        (
-            b"<r".as_slice(),
-            Status::Refused,
-            "refused S malformed at 2\n",
-        ),
-    ] {
+    for (sheet, status, line) in &SHEETS {
         assert!(rt;
-            answers(alloc, large.as_bytes(), output, sheet, status, line)?,
+            answers(alloc, large.as_bytes(), output, sheet, *status, line)?,
             "{line}"
         );
     }

@@ -74,7 +74,7 @@ fn tells_apart(alloc: Global, first: &str, second: &str, document: &str) -> Resu
 
 /// Pairs of schemas, of which the first is included in the second and not the other way round, and the only least document
 /// that shows it: one pair for each kind of pattern and of name class.
-const STRICTLY_INCLUDED: &[(&str, &str, &str)] = &[
+static STRICTLY_INCLUDED: [(&str, &str, &str); 19] = [
     ("element a{empty}", "element a{text}", "<a>t</a>"),
     ("start = notAllowed", "element a{empty}", "<a/>"),
     (
@@ -174,7 +174,7 @@ fn same_shows(alloc: Global, first: &str, second: &str, document: &str) -> Resul
 
 #[test]
 fn of_two_schemas_one_is_included(rt: HostRuntime) -> Result<(), Fail> {
-    for (smaller, larger, document) in STRICTLY_INCLUDED {
+    for (smaller, larger, document) in &STRICTLY_INCLUDED {
         let alloc = rt.alloc();
         assert!(rt; is_included(alloc, smaller, larger)?, "{smaller} {larger}");
         assert!(rt;
@@ -190,43 +190,46 @@ fn of_two_schemas_one_is_included(rt: HostRuntime) -> Result<(), Fail> {
     Ok(())
 }
 
+/// Two schemas, and what `include` writes.
+static ROWS: [(&str, &str, &str); 6] = [
+    (
+        "element a{element b{empty}}",
+        "element a{element b{empty}*}",
+        "included trees 2 hedges 2\n",
+    ),
+    (
+        "start = notAllowed",
+        "start = notAllowed",
+        "included trees 0 hedges 1\n",
+    ),
+    (
+        "start = notAllowed",
+        "element a{text}",
+        "included trees 0 hedges 1\n",
+    ),
+    // <a/> alone; no tree
+    (
+        "element a{empty}",
+        "element a{text}",
+        "included trees 1 hedges 1\n",
+    ),
+    // a text and <a/>; no tree and a text
+    (
+        "element a{text}",
+        "element a{text}",
+        "included trees 2 hedges 2\n",
+    ),
+    // <a/>, <b/>; no tree, <b/>, <b/><b/> and more, which the second tells from one alone
+    (
+        "element a{element b{empty}*}",
+        "element a{(element b{empty},element b{empty}+)?|element b{empty}}",
+        "included trees 2 hedges 3\n",
+    ),
+];
+
 #[test]
 fn inclusion_tells_how_many_rows_there_are(rt: HostRuntime) -> Result<(), Fail> {
-    for (first, second, text) in [
-        (
-            "element a{element b{empty}}",
-            "element a{element b{empty}*}",
-            "included trees 2 hedges 2\n",
-        ),
-        (
-            "start = notAllowed",
-            "start = notAllowed",
-            "included trees 0 hedges 1\n",
-        ),
-        (
-            "start = notAllowed",
-            "element a{text}",
-            "included trees 0 hedges 1\n",
-        ),
-        // <a/> alone; no tree
-        (
-            "element a{empty}",
-            "element a{text}",
-            "included trees 1 hedges 1\n",
-        ),
-        // a text and <a/>; no tree and a text
-        (
-            "element a{text}",
-            "element a{text}",
-            "included trees 2 hedges 2\n",
-        ),
-        // <a/>, <b/>; no tree, <b/>, <b/><b/> and more, which the second tells from one alone
-        (
-            "element a{element b{empty}*}",
-            "element a{(element b{empty},element b{empty}+)?|element b{empty}}",
-            "included trees 2 hedges 3\n",
-        ),
-    ] {
+    for (first, second, text) in &ROWS {
         assert!(rt;
             include_writes(rt.alloc(), first, second, text)?,
             "{first} {second}"
@@ -235,61 +238,84 @@ fn inclusion_tells_how_many_rows_there_are(rt: HostRuntime) -> Result<(), Fail> 
     Ok(())
 }
 
+const ANY: &str = "element *{empty}";
+
+const A_OR_ELSEWHERE: &str = "namespace q = \"\" element (a|(* - q:*)){empty}";
+
+const A_WITH_B: &str = "element a{element b{empty}}";
+
+const A: &str = "element a{empty}";
+
+const B: &str = "element b{empty}";
+
+/// Two schemas, and what `include` writes.
+static NOT_INCLUDED: [(&str, &str, &str); 3] = [
+    (ANY, A_OR_ELSEWHERE, "not-included\ndocument <n/>\n"),
+    (A_WITH_B, A, "not-included\ndocument <a><b/></a>\n"),
+    (A, A_WITH_B, "not-included\ndocument <a/>\n"),
+];
+
+/// Two schemas, and what `same` writes: of documents with as many nodes one of the first schema is told.
+static DIFFERENT: [(&str, &str, &str); 4] = [
+    (A_WITH_B, A, "different\nsecond-only <a/>\n"),
+    (A, A_WITH_B, "different\nfirst-only <a/>\n"),
+    (B, A, "different\nfirst-only <b/>\n"),
+    (A, B, "different\nfirst-only <a/>\n"),
+];
+
 #[test]
 fn schemas_differ_where_neither_is_included(rt: HostRuntime) -> Result<(), Fail> {
-    let alloc = rt.alloc();
-    let first = "element *{empty}";
-    let second = "namespace q = \"\" element (a|(* - q:*)){empty}";
-    assert!(rt; include_writes(alloc, first, second, "not-included\ndocument <n/>\n")?);
-    assert!(rt; tells_apart(alloc, first, second, "<n/>")?);
-
-    let first = "element a{element b{empty}}";
-    let second = "element a{empty}";
-    assert!(rt; include_writes(alloc, first, second, "not-included\ndocument <a><b/></a>\n")?);
-    assert!(rt; include_writes(alloc, second, first, "not-included\ndocument <a/>\n")?);
-    assert!(rt; same_writes(alloc, first, second, "different\nsecond-only <a/>\n")?);
-    assert!(rt; same_writes(alloc, second, first, "different\nfirst-only <a/>\n")?);
-
-    // of documents with as many nodes one of the first schema is told
-    let first = "element b{empty}";
-    let second = "element a{empty}";
-    assert!(rt; same_writes(alloc, first, second, "different\nfirst-only <b/>\n")?);
-    assert!(rt; same_writes(alloc, second, first, "different\nfirst-only <a/>\n")?);
+    for (first, second, text) in &NOT_INCLUDED {
+        assert!(rt;
+            include_writes(rt.alloc(), first, second, text)?,
+            "{first} {second}"
+        );
+    }
+    assert!(rt; tells_apart(rt.alloc(), ANY, A_OR_ELSEWHERE, "<n/>")?);
+    for (first, second, text) in &DIFFERENT {
+        assert!(rt;
+            same_writes(rt.alloc(), first, second, text)?,
+            "{first} {second}"
+        );
+    }
     Ok(())
 }
 
+/// Schemas that are the same.
+static SAME: [(&str, &str); 10] = [
+    (
+        "element a{element b{empty}&element c{empty}}",
+        "element a{(element b{empty},element c{empty})|(element c{empty},element b{empty})}",
+    ),
+    ("element a{text}", "element a{text*}"),
+    ("element a{notAllowed|text}", "element a{text,text}"),
+    (
+        "element a{mixed{element b{empty}}}",
+        "element a{text,element b{empty},text}",
+    ),
+    (
+        "element a{element b{element c{empty}?}}",
+        "element a{element b{empty}}|element a{element b{element c{empty}}}",
+    ),
+    (
+        "element a{(element b{empty},element c{empty}?)|element b{empty}}",
+        "element a{element b{empty},element c{empty}?}",
+    ),
+    (
+        "start = a a = element a{a*}",
+        "start = a|b a = element a{b*} b = element a{a*}",
+    ),
+    ("start = notAllowed", "start = a a = element a{a}"),
+    (
+        "element *{empty}",
+        "namespace q = \"\" element (q:*|(* - q:*)){empty}",
+    ),
+    ("element (a|b){empty}", "element a{empty}|element b{empty}"),
+];
+
 #[test]
 fn schemas_are_the_same_however_they_are_written(rt: HostRuntime) -> Result<(), Fail> {
-    for (first, second) in [
-        (
-            "element a{element b{empty}&element c{empty}}",
-            "element a{(element b{empty},element c{empty})|(element c{empty},element b{empty})}",
-        ),
-        ("element a{text}", "element a{text*}"),
-        ("element a{notAllowed|text}", "element a{text,text}"),
-        (
-            "element a{mixed{element b{empty}}}",
-            "element a{text,element b{empty},text}",
-        ),
-        (
-            "element a{element b{element c{empty}?}}",
-            "element a{element b{empty}}|element a{element b{element c{empty}}}",
-        ),
-        (
-            "element a{(element b{empty},element c{empty}?)|element b{empty}}",
-            "element a{element b{empty},element c{empty}?}",
-        ),
-        (
-            "start = a a = element a{a*}",
-            "start = a|b a = element a{b*} b = element a{a*}",
-        ),
-        ("start = notAllowed", "start = a a = element a{a}"),
-        (
-            "element *{empty}",
-            "namespace q = \"\" element (q:*|(* - q:*)){empty}",
-        ),
-        ("element (a|b){empty}", "element a{empty}|element b{empty}"),
-    ] {
+    for (first, second) in &SAME {
         let alloc = rt.alloc();
         assert!(rt;
             same_writes(alloc, first, second, "same\n")?,
@@ -443,19 +469,30 @@ fn many_states_are_built(rt: HostRuntime) -> Result<(), Fail> {
 }
 
 #[test]
+fn states_of_each_schema_are_limited(rt: HostRuntime) -> Result<(), Fail> {
+    let alloc = rt.alloc();
+    let states = many_b(alloc, 510)?;
+    let limit = "limit states 512\n";
+    assert!(rt; both_write(alloc, states.as_str(), SMALL, limit)?);
+    assert!(rt; both_write(alloc, SMALL, states.as_str(), limit)?);
+    Ok(())
+}
+
+/// A schema of an `a` or one of so many `b`, each an element of its own.
+fn many_elements(alloc: Global, count: u32) -> Result<String, NoMemory> {
+    let more = repeated(alloc, "|element b{empty}", count)?;
+    joined(alloc, &["start = element a{empty}", more.as_str()])
+}
+
+#[test]
 fn limits_are_tried_in_order(rt: HostRuntime) -> Result<(), Fail> {
     let alloc = rt.alloc();
     let states = many_b(alloc, 510)?;
-    let more = repeated(alloc, "|element b{empty}", 256)?;
-    let elements = joined(alloc, &["start = element a{empty}", more.as_str()])?;
-    for (first, second, text) in [
-        (states.as_str(), SMALL, "limit states 512\n"),
-        (SMALL, states.as_str(), "limit states 512\n"),
-        (elements.as_str(), states.as_str(), "limit elements 256\n"),
-        (states.as_str(), elements.as_str(), "limit states 512\n"),
-    ] {
-        assert!(rt; both_write(alloc, first, second, text)?, "{text}");
-    }
+    let elements = many_elements(alloc, 256)?;
+    let limit = "limit elements 256\n";
+    assert!(rt; both_write(alloc, elements.as_str(), states.as_str(), limit)?);
+    let limit = "limit states 512\n";
+    assert!(rt; both_write(alloc, states.as_str(), elements.as_str(), limit)?);
     Ok(())
 }
 
@@ -479,40 +516,37 @@ fn states_are_counted_before_symbols(rt: HostRuntime) -> Result<(), Fail> {
     Ok(())
 }
 
+/// Two schemas, and what both commands write.
+static REFUSED: [(&str, &str, &str); 2] = [
+    ("start = b", "element a{", "refused A undefined at 8\n"),
+    (SMALL, "start = b", "refused B undefined at 8\n"),
+];
+
 #[test]
-fn texts_are_refused_before_limits(rt: HostRuntime) -> Result<(), Fail> {
-    let alloc = rt.alloc();
-    let states = many_b(alloc, 510)?;
-    for (first, second, text) in [
-        ("start = b", "element a{", "refused A undefined at 8\n"),
-        (SMALL, "start = b", "refused B undefined at 8\n"),
-        (
-            states.as_str(),
-            "start = empty",
-            "refused B bad-start at 0\n",
-        ),
-    ] {
-        assert!(rt; both_write(alloc, first, second, text)?, "{text}");
+fn texts_are_refused_in_order(rt: HostRuntime) -> Result<(), Fail> {
+    for (first, second, text) in &REFUSED {
+        assert!(rt; both_write(rt.alloc(), first, second, text)?, "{text}");
     }
     Ok(())
 }
 
 #[test]
+fn texts_are_refused_before_limits(rt: HostRuntime) -> Result<(), Fail> {
+    let alloc = rt.alloc();
+    let states = many_b(alloc, 510)?;
+    let text = "refused B bad-start at 0\n";
+    assert!(rt; both_write(alloc, states.as_str(), "start = empty", text)?);
+    Ok(())
+}
+
+/// Commands of which the second operand is missing.
+static MISSING: [&[&str]; 2] = [&["include", "A", "C"], &["same", "A", "C"]];
+
+#[test]
 fn operands_are_read_before_texts(rt: HostRuntime) -> Result<(), Fail> {
-    let missing = "cannot read C\n";
-    for command in ["include", "same"] {
-        let words = &[command, "A", "C"];
-        assert!(rt;
-            answers(
-                rt.alloc(),
-                words,
-                "start = b",
-                SMALL,
-                Status::ReadFault,
-                missing
-            )?,
-            "{command}"
-        );
+    let (first, missing) = ("start = b", "cannot read C\n");
+    for words in &MISSING {
+        assert!(rt; answers(rt.alloc(), words, first, SMALL, Status::ReadFault, missing)?);
     }
     Ok(())
 }

@@ -16,6 +16,8 @@ mod dtd;
 #[cfg(test)]
 mod inclusion;
 #[cfg(test)]
+mod pieces;
+#[cfg(test)]
 mod runs;
 #[cfg(test)]
 mod validations;

@@ -1,0 +1,148 @@
+// What a document is, read in pieces and as a whole.
+ghost use Rattle.std.specs.Prelude.{◌<◌};
+
+use bumpalo::Bump;
+use std::alloc::Global;
+use std::test::Fail;
+use tc_alpha::Alphabet;
+use tc_auto::Auto;
+use tc_model::{Grammar, Pat, Raw, Sheet};
+use tc_stream::{Stream, StreamFault};
+use tc_xml::{XmlFault, read_raw};
+
+/// The longest text that is tried.
+const LONGEST: usize = 1_000_000;
+
+/// What is said of a document.
+#[derive(Clone, Copy, Debug, PartialEq, Eq)]
+pub(crate) enum Answer {
+    Valid,
+    Invalid,
+    Fault(StreamFault),
+    /// A call that answers otherwise than an earlier one.
+    Broken,
+}
+
+/// The answer of a text that has ended.
+fn answer_of(told: Result<bool, StreamFault>) -> Answer {
+    match told {
+        Ok(true) => Answer::Valid,
+        Ok(false) => Answer::Invalid,
+        Err(fault) => Answer::Fault(fault),
+    }
+}
+
+/// Feeds a piece, unless more came than is tried.
+fn feed(stream: &mut Stream<'_>, piece: &[u8]) -> Result<(), StreamFault> {
+    if piece.len() > LONGEST || stream.fed() as usize > LONGEST - piece.len() {
+        return Err(StreamFault::TagTooLong);
+    }
+    stream.feed(piece)
+}
+
+/// Feeds a text in pieces of so many bytes.
+fn feed_all(stream: &mut Stream<'_>, text: &[u8], size: usize) -> Result<(), StreamFault>
+    requires { 0 < size }
+{
+    for piece in text.chunks(size) {
+        feed(stream, piece)?;
+    }
+    Ok(())
+}
+
+/// What a stream tells of a text in pieces. It has to count the bytes, and to stay with a fault.
+fn told(begun: Stream<'_>, text: &[u8], size: usize) -> Answer
+    requires { 0 < size }
+{
+    let mut stream = begun;
+    match feed_all(&mut stream, text, size) {
+        Ok(()) => {
+            if stream.fed() as usize == text.len() {
+                answer_of(stream.finish())
+            } else {
+                Answer::Broken
+            }
+        }
+        Err(fault) => {
+            if feed(&mut stream, b"<") == Err(fault) {
+                answer_of(stream.finish())
+            } else {
+                Answer::Broken
+            }
+        }
+    }
+}
+
+/// The symbols of a schema alone.
+fn alphabet_of(alloc: Global, grammar: &Grammar<'_>) -> Result<Alphabet, Fail> {
+    let nothing = Grammar {
+        start: Pat::NotAllowed,
+        elements: &[],
+    };
+    let sheet = Sheet {
+        modes: 1,
+        eaches: 0,
+        rules: &[],
+        named: &[],
+    };
+    match Alphabet::of(alloc, grammar, &nothing, &sheet) {
+        Ok(alphabet) => Ok(alphabet),
+        Err(_) => Err(Fail::from("symbols")),
+    }
+}
+
+/// The answer of a text in pieces.
+pub(crate) fn in_pieces(
+    alloc: Global,
+    grammar: &Grammar<'_>,
+    text: &[u8],
+    size: usize,
+) -> Result<Answer, Fail> {
+    let Ok(auto) = Auto::contents(alloc, grammar, 512) else {
+        return Err(Fail::from("states"));
+    };
+    if size == 0 || auto.states() > 512 {
+        return Err(Fail::from("a piece and states"));
+    }
+    let alphabet = alphabet_of(alloc, grammar)?;
+    let stream = Stream::new(alloc, &auto, &alphabet)?;
+    Ok(told(stream, text, size))
+}
+
+/// The answer of a whole text, for a schema of `a` with anything in it.
+pub(crate) fn whole(alloc: Global, text: &[u8]) -> Result<Answer, Fail> {
+    if text.len() > LONGEST {
+        return Err(Fail::from("a short text"));
+    }
+    let arena = Bump::new(alloc);
+    match read_raw(&arena, text) {
+        Ok(Raw::Elem(root)) => Ok(if root.name.uri == "" && root.name.local == "a" {
+            Answer::Valid
+        } else {
+            Answer::Invalid
+        }),
+        Ok(Raw::Text(_, _)) => Err(Fail::from("an element")),
+        Err(XmlFault::Malformed(place)) => Ok(Answer::Fault(StreamFault::Malformed(place))),
+        Err(XmlFault::Unsupported(place, why)) => {
+            Ok(Answer::Fault(StreamFault::Unsupported(place, why)))
+        }
+        Err(XmlFault::TooDeep(place)) => Ok(Answer::Fault(StreamFault::TooDeep(place))),
+        Err(XmlFault::NoMemory) => Err(Fail::from("memory")),
+    }
+}
+
+/// A text of a front, so many of a middle, and a back.
+pub(crate) fn repeated(
+    alloc: Global,
+    front: &str,
+    middle: &str,
+    times: u32,
+    back: &str,
+) -> Result<String, Fail> {
+    let mut text = String::from_str(alloc, front)?;
+    for _ in 0..times {
+        text.push_str(middle)?;
+    }
+    text.push_str(back)?;
+    Ok(text)
+}

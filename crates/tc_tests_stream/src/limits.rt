@@ -1,0 +1,197 @@
+// Documents at the limits.
+
+use crate::answers::{Answer, in_pieces, repeated};
+use crate::schemas::{EMPTY, NAMED};
+use std::alloc::Global;
+use std::process::Abort;
+use std::test::Fail;
+use tc_base::{Place, Why};
+use tc_stream::StreamFault;
+
+const LONG: Answer = Answer::Fault(StreamFault::TagTooLong);
+
+const MANY: Answer = Answer::Fault(StreamFault::NamesTooLong);
+
+/// What a document begins with, what it repeats, how often, and what it ends with, and what it is for
+/// `element a { empty }`.
+type Row<'t> = (&'t str, &'t str, u32, &'t str, Answer);
+
+/// Asserts what documents are in pieces of each of these sizes.
+fn assert_rows(
+    rt: &impl Abort,
+    alloc: Global,
+    rows: &[Row<'_>],
+    sizes: &[usize],
+) -> Result<(), Fail> {
+    for (front, middle, times, back, answer) in rows {
+        let text = repeated(alloc, front, middle, *times, back)?;
+        for size in sizes {
+            let found = in_pieces(alloc, &EMPTY, text.as_bytes(), *size)?;
+            assert_eq!(rt; found, *answer, "{front} {middle} {times} {size}");
+        }
+    }
+    Ok(())
+}
+
+static TAGS: [Row<'static>; 23] = [
+    ("<a", " ", 65_532, "/>", Answer::Valid),
+    ("<a", " ", 65_533, "/>", LONG),
+    ("<a", " ", 65_535, "/>", LONG),
+    ("<a></a", " ", 65_532, ">", Answer::Valid),
+    ("<a></a", " ", 65_533, ">", LONG),
+    ("<a", " ", 65_533, "></a>", Answer::Valid),
+    ("<a", " ", 65_534, "></a>", LONG),
+    (
+        "<a b=<",
+        " ",
+        70_000,
+        "",
+        Answer::Fault(StreamFault::Malformed(Place(5))),
+    ),
+    (
+        "<a xml:space=''",
+        " ",
+        70_000,
+        "/>",
+        Answer::Fault(StreamFault::Unsupported(Place(3), Why::XmlSpace)),
+    ),
+    (
+        "<a b='&x;' c='",
+        " ",
+        70_000,
+        "'/>",
+        Answer::Fault(StreamFault::Unsupported(Place(6), Why::EntityReference)),
+    ),
+    (
+        "<a></b",
+        " ",
+        70_000,
+        ">",
+        Answer::Fault(StreamFault::Malformed(Place(3))),
+    ),
+    ("<a b='", " ", 70_000, "'/>", LONG),
+    ("<a b", " ", 70_000, "=''/>", LONG),
+    ("<a b=", " ", 70_000, "''/>", LONG),
+    ("<a b='' b='' xmlns:p='' ", " ", 70_000, "/>", LONG),
+    ("<a b=\"", "x", 70_000, "\">", LONG),
+    ("<a b=\"", "\u{1F600}", 70_000, "\">", LONG),
+    ("<", "a", 70_000, "/>", LONG),
+    ("<a:", "a", 70_000, "/>", LONG),
+    (
+        "<a></",
+        "a",
+        70_000,
+        ">",
+        Answer::Fault(StreamFault::Malformed(Place(3))),
+    ),
+    ("<a b='&", "a", 70_000, ";'/>", LONG),
+    ("<a b='&#", "0", 70_000, ";'/>", LONG),
+    (
+        "<a b='&#1",
+        "1",
+        70_000,
+        ";'/>",
+        Answer::Fault(StreamFault::Malformed(Place(6))),
+    ),
+];
+
+#[test]
+fn tags_have_a_longest(rt: HostRuntime) -> Result<(), Fail> {
+    assert_rows(&rt, rt.alloc(), &TAGS, &[3, 4096, 1_000_000])
+}
+
+static NO_TAGS: [Row<'static>; 15] = [
+    ("<a>", " ", 70_000, "</a>", Answer::Valid),
+    ("<a>", "x", 70_000, "</a>", Answer::Invalid),
+    ("<a><!--", "x- ", 70_000, "--></a>", Answer::Valid),
+    ("<a><?p ", "?", 70_000, "></a>", Answer::Valid),
+    ("<a><?", "p", 70_000, "?></a>", Answer::Valid),
+    ("<a><![CDATA[", " ", 70_000, "]]></a>", Answer::Valid),
+    ("<a><![CDATA[", "]", 70_000, "]]></a>", Answer::Invalid),
+    ("<a>&#", "0", 70_000, "32;</a>", Answer::Valid),
+    (
+        "<a>&",
+        "a",
+        70_000,
+        ";</a>",
+        Answer::Fault(StreamFault::Unsupported(Place(3), Why::EntityReference)),
+    ),
+    ("<!DOCTYPE ", "a", 70_000, "><a/>", Answer::Valid),
+    (
+        "<!DOCTYPE a SYSTEM '",
+        "\u{1F600}",
+        70_000,
+        "'><a/>",
+        Answer::Valid,
+    ),
+    ("<?xml ", " ", 70_000, "version='1.0'?><a/>", Answer::Valid),
+    (
+        "<?xml version='",
+        "1",
+        70_000,
+        "'?><a/>",
+        Answer::Fault(StreamFault::Unsupported(Place(6), Why::XmlVersion)),
+    ),
+    ("<a/>", " ", 70_000, "", Answer::Valid),
+    ("<a/><?p ", " ", 70_000, "?>", Answer::Valid),
+];
+
+#[test]
+fn what_is_no_tag_has_no_longest(rt: HostRuntime) -> Result<(), Fail> {
+    assert_rows(&rt, rt.alloc(), &NO_TAGS, &[1, 3, 4096, 1_000_000])
+}
+
+/// What so many nested elements with names of 700 letters are around a text, which is cut into pieces of 4,096 bytes.
+fn around(alloc: Global, depth: u32, inside: &str) -> Result<Answer, Fail> {
+    let name = repeated(alloc, "", "n", 700, "")?;
+    let begin = format!(in alloc; "<{name}>")?;
+    let end = format!(in alloc; "</{name}>")?;
+    let front = repeated(alloc, "", begin.as_str(), depth, inside)?;
+    let text = repeated(alloc, front.as_str(), end.as_str(), depth, "")?;
+    in_pieces(alloc, &NAMED, text.as_bytes(), 4096)
+}
+
+#[test]
+fn names_have_a_most(rt: HostRuntime) -> Result<(), Fail> {
+    assert_eq!(rt; around(rt.alloc(), 93, "")?, Answer::Valid);
+    assert_eq!(rt; around(rt.alloc(), 94, "")?, MANY);
+    Ok(())
+}
+
+/// What stands inside 93 elements with names of 700 letters, which leaves 436 bytes, and how often its last letter stands.
+static DECLARED: [(&str, u32, &str, Answer); 5] = [
+    ("<b xmlns='", 0, "'/>", Answer::Valid),
+    ("<p:b xmlns:p='&amp;", 0, "'/>", Answer::Valid),
+    // the name of `b` has a byte, and the prefix of the declaration one
+    ("<b xmlns:p='&#x0041;", 433, "'/>", Answer::Valid),
+    ("<b xmlns:p='&#x0041;", 434, "'/>", MANY),
+    // what is no declaration counts nothing
+    ("<b c='", 500, "'/>", Answer::Valid),
+];
+
+#[test]
+fn declarations_count_among_names(rt: HostRuntime) -> Result<(), Fail> {
+    for (front, times, back, answer) in &DECLARED {
+        let inside = repeated(rt.alloc(), front, "u", *times, back)?;
+        assert_eq!(rt;
+            around(rt.alloc(), 93, inside.as_str())?,
+            *answer,
+            "{front} {times}"
+        );
+    }
+    Ok(())
+}
+
+#[test]
+fn what_was_closed_counts_no_more(rt: HostRuntime) -> Result<(), Fail> {
+    let text = repeated(
+        rt.alloc(),
+        "<r>",
+        "<a xmlns:p='uuuuuuuuuuuuuuuuuuuu' b='uuuu'/>",
+        9000,
+        "</r>",
+    )?;
+    let found = in_pieces(rt.alloc(), &NAMED, text.as_bytes(), 4096)?;
+    assert_eq!(rt; found, Answer::Invalid);
+    Ok(())
+}
