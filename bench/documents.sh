@@ -35,9 +35,12 @@ beside() {
 uncounted=('jing -c' "jing -c $top/bench/article.rnc $work/document.xml")
 beside \
   'xmllint --noout' "xmllint --noout $work/document.xml" \
+  '  with --stream' "xmllint --noout --stream $work/document.xml" \
   'xmllint --relaxng' "xmllint --noout --relaxng $work/article.rng $work/document.xml" \
   '  with --stream' "xmllint --noout --stream --relaxng $work/article.rng $work/document.xml" \
   'typecheck valid' "$program valid $top/bench/article.rnc $work/document.xml" \
+  '  with --stream 65536' "$program valid --stream 65536 $top/bench/article.rnc $work/document.xml" \
+  '  with --stream 1' "$program valid --stream 1 $top/bench/article.rnc $work/document.xml" \
   'xmllint --dtdvalid' "xmllint --noout --dtdvalid $top/bench/article.dtd $work/document.xml" \
   'typecheck valid dtd:' "$program valid dtd:article:$top/bench/article.dtd $work/document.xml"
 
@@ -52,7 +55,8 @@ document attributes "$bytes"
 echo "attributes, references and namespaces, $bytes bytes"
 measure "$runs" \
   'xmllint --noout' "xmllint --noout $work/document.xml" \
-  'typecheck valid' "$program valid $top/bench/any.rnc $work/document.xml"
+  'typecheck valid' "$program valid $top/bench/any.rnc $work/document.xml" \
+  '  with --stream 65536' "$program valid --stream 65536 $top/bench/any.rnc $work/document.xml"
 
 echo "texts that cost much"
 document tag 33000000

@@ -16,7 +16,7 @@ GROUPS = {
     "decisions": "headline demonstrated",
     "certificates": "proved verified upgraded law_of_proofs",
     "comparisons": "inclusion equality",
-    "documents": "validity running limited",
+    "documents": "validity validity_in_pieces running limited",
     "answers": "",  # all others
 }
 FIRST = [f"tc_model.specs.{name}" for name in "Safety Validity Matching Grammars Trees Names Sheets Chains Paths Outcomes Meaning".split()]
@@ -256,7 +256,7 @@ Lines are those of the definitions that are reached, by whole blocks between bla
 
 $first
 
-Of another clause the statement stands in `tc_top.Headline` too, or, of certificates, in `tc_top.CertifiedFiles`, of comparisons in `tc_top.ComparedFiles`, of all answers in `tc_top.Answers`, of the laws in `tc_top.OneAnswer`. Then come these modules, as far as the clause reaches them.
+Of another clause the statement stands in `tc_top.Headline` too, or, of certificates, in `tc_top.CertifiedFiles`, of comparisons in `tc_top.ComparedFiles`, of documents in pieces in `tc_top.FilesInPieces`, of all answers in `tc_top.Answers`, of the laws in `tc_top.OneAnswer`. Then come these modules, as far as the clause reaches them.
 
 ## How a clause is read
 
