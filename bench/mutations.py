@@ -4,9 +4,9 @@
 mutations.py PROGRAM [SAMPLE]   SAMPLE is the greatest number of changes of one kind to one text (300)
 
 The certificates are those of four safe triples, in both versions: a small one, the article of examples/, the same with the
-declarations of elements beside this, and a report of make_triple.py. Changed is each byte, to some others or to none; each line is dropped, doubled, and exchanged with another,
-with the counts as they were and repaired; each number of the data is changed, each row and set dropped or doubled with a
-number changed, and the whole written again in its order. Of each text:
+declarations of elements beside this, and a report of make_triple.py. Changed is each byte, to some others or to none; each
+line is dropped, doubled, and exchanged with another, with the counts as they were and repaired; each number of the data is
+changed, each row and set dropped or doubled with a number changed, and the whole written again in its order. Of each text:
 
 - `verify` prints what the plain verifier prints, and `upgrade` the version 2 text of the plain reader's data or the line
   that it refuses;

@@ -23,7 +23,7 @@ use Rattle.tc_rows.proofs.PairLaws.{same_self, same_on, product_same}
 use Rattle.tc_beh.specs.Above.{letter_of, node_of, pairs_at}
 use Rattle.tc_beh.specs.Entries.{AreGrounds, below_node, AreCalledOn, IsUnder, IsMadeOf, IsEntryAt}
 use Rattle.tc_beh.specs.Grounds.{IsGroundIn, called_from}
-use Rattle.tc_beh.specs.Known.{AreKnown}
+use Rattle.tc_rules.specs.KnownRules.{AreKnown}
 use Rattle.tc_beh.specs.Places.{IsPlaceIn, AreSpare, kind_of, below_at, below_of, entries_by}
 use Rattle.tc_beh.specs.Putting.{has, Extends as Puts, IsCalled}
 use Rattle.tc_beh.specs.RowsOf.{IsWork}
@@ -31,7 +31,7 @@ use Rattle.tc_beh.specs.Stands.{IsRulesIn}
 use Rattle.tc_beh.specs.Templates.{AreCalled}
 use Rattle.tc_beh.specs.declared.bodies.Place.{Place}
 use Rattle.tc_beh.specs.declared.entries.Node.{Node}
-use Rattle.tc_beh.specs.declared.known_rules.KnownRules.{KnownRules}
+use Rattle.tc_rules.specs.declared.known_rules.KnownRules.{KnownRules}
 use Rattle.tc_beh.specs.declared.machine.Machine.{Machine}
 use Rattle.tc_beh.specs.declared.rows.Work.{Work}
 use Rattle.tc_beh.proofs.Starts.{StartsBelow, stay_first, identity_begun, chosen_starts, stay_starts, starts, below_starts}
@@ -143,14 +143,14 @@ module _ (x : Triple) (depth : ℕ) (w : Work) (is : IsWork x depth w) (set : Ma
   spare_few : length (with_items w.spare spare).items ≤ 8002
   spare_few = let f = is.few in subst (λ (ms : List Matrix). length ms ≤ 8002) (sym spare_back) (omega (arith, f, all))
 
-  pub work_kept : (rules : KnownRules) → AreKnown x.symbols x.rules rules → IsWork x depth (record { text = w.text; set = set; named = w.named; spare = with_items w.spare spare; rules = rules })
+  pub work_kept : (rules : KnownRules) → AreKnown x.symbols x.rules rules → IsWork x depth (record { text = w.text; set = set; named = w.named; spare = with_items w.spare spare; known = rules })
   work_kept rules known = record { text = is.text; text_size = is.text_size; set = set_size; named_count = is.named_count; named = is.named; spare = spare_room; few = spare_few; known = known }
 
   module _ (named : List Matrix) (count : length named ≡ length w.named.items) (named_sizes : All (λ (s : Matrix). s.size ≡ outputs x) named) where
     pub named_back : (with_items w.named named).items ≡ named
     named_back = with_items_is w.named named (let n = w.named.ok.0 in omega (arith, count, n))
 
-    pub work_filled : IsWork x depth (record { text = w.text; set = set; named = with_items w.named named; spare = with_items w.spare spare; rules = w.rules })
+    pub work_filled : IsWork x depth (record { text = w.text; set = set; named = with_items w.named named; spare = with_items w.spare spare; known = w.known })
     work_filled = record {
       text = is.text;
       text_size = is.text_size;

@@ -8,7 +8,7 @@ use Rattle.tc_auto.specs.declared.auto.Auto.{Auto}
 use Rattle.tc_rules.specs.RulesView.{RulesView}
 use Rattle.tc_rows.specs.Triples.{Triple, outputs}
 use Rattle.tc_rows.specs.PairSets.{HaveSamePairs}
-use Rattle.tc_beh.specs.Known.{AreKnown}
+use Rattle.tc_rules.specs.KnownRules.{AreKnown}
 use Rattle.tc_beh.specs.Machines.{IsMachineOf}
 use Rattle.tc_beh.specs.Places.{AreSpare}
 use Rattle.tc_beh.specs.Putting.{has}
@@ -44,7 +44,7 @@ module _ (m : Machine) (x y : Triple) (ox : IsMachineOf x m) (oy : IsMachineOf y
     named = λ k d l. is.named k d l ∙ same_outputs;
     spare = subst (λ n. AreSpare n (depth + 2) w.spare.items) same_outputs is.spare;
     few = is.few;
-    known = subst (λ (v : RulesView). AreKnown y.symbols v w.rules) same_rules (subst (λ (symbols : List Mention). AreKnown symbols x.rules w.rules) same_symbols is.known);
+    known = subst (λ (v : RulesView). AreKnown y.symbols v w.known) same_rules (subst (λ (symbols : List Mention). AreKnown symbols x.rules w.known) same_symbols is.known);
   }
     where
       text_of : Grammar → ℕ → ℕ → Type 0

@@ -6,7 +6,6 @@ pub mod Putting
 pub mod Places
 pub mod Machines
 pub mod Templates
-pub mod Known
 pub mod Grounds
 pub mod Rooms
 pub mod RoomsOf

@@ -5,7 +5,7 @@ use Rattle.tc_rows.specs.Triples.{Triple, sheet, outputs}
 use Rattle.tc_rows.specs.PairSets.{HaveSamePairs}
 use Rattle.tc_rows.specs.Bodies.{text_edges}
 use Rattle.tc_rows.specs.Rows.{HedgeRow, TreeRow}
-use Rattle.tc_beh.specs.Known.{AreKnown}
+use Rattle.tc_rules.specs.KnownRules.{AreKnown}
 use Rattle.tc_beh.specs.Putting.{has}
 use Rattle.tc_beh.specs.Places.{AreSpare}
 use Rattle.tc_beh.specs.Machines.{IsMachineOf}
@@ -16,7 +16,7 @@ use Rattle.tc_beh.specs.declared.rows.Work.{Work}
 use Rattle.tc_beh.specs.declared.rooms.HRow.{HRow}
 use Rattle.tc_beh.specs.declared.rooms.TRow.{TRow}
 
--- the room is that of a triple
+-- the room is that of a triple, and the rules that are remembered were found for it
 pub record IsWork (x : Triple) (depth : ℕ) (w : Work) : Type 0 where
   pub text : HaveSamePairs (has w.text) (text_edges x)
   pub text_size : w.text.size ≡ outputs x
@@ -25,7 +25,7 @@ pub record IsWork (x : Triple) (depth : ℕ) (w : Work) : Type 0 where
   pub named : All (λ (m : Matrix). m.size ≡ outputs x) w.named.items
   pub spare : AreSpare (outputs x) (depth + 2) w.spare.items
   pub few : length w.spare.items ≤ 8002
-  pub known : AreKnown x.symbols x.rules w.rules
+  pub known : AreKnown x.symbols x.rules w.known
 
 pub record AreRowsOf (x : Triple) (r : Rows) : Type 0 where
   pub machine : IsMachineOf x r.machine.now

@@ -5,24 +5,23 @@ ghost use Rattle.tc_model.specs.Letters as letters;
 ghost use Rattle.tc_model.specs.Letters.{of_symbol};
 ghost use Rattle.tc_rules.specs.Asked as asked;
 ghost use Rattle.tc_rules.specs.Kept.{told};
+ghost use Rattle.tc_rules.specs.KnownRules.{AreKnown};
 ghost use Rattle.tc_rules.specs.RulesView.{move_count};
 ghost use Rattle.tc_rules.specs.States.{Going};
 ghost use Rattle.tc_rules.specs.Tasks.{IsMoveAt};
 ghost use Rattle.tc_rows.specs.Triples.{Triple, predicates, number_below, moving};
 ghost use Rattle.tc_rows.specs.Arithmetic.{hit_pairs, pairs_from, step};
 ghost use Rattle.tc_beh.specs.Above.{letter_of, node_of, pairs_at};
-ghost use Rattle.tc_beh.specs.Known.{AreKnown};
 ghost use Rattle.tc_beh.specs.Places.{IsPlace, IsPlaceIn, AreSpare, kind_of, below_of, size_at, entries_by};
 ghost use Rattle.tc_beh.specs.Putting.{Extends};
 ghost use Rattle.tc_beh.specs.Stands.{IsRulesIn};
 ghost use Rattle.tc_beh.specs.Templates.{IsMeantAt, IsPartTemplate, depth_of, depth_of_sheet, AreCalled};
 
 use crate::bodies::{Place, put_entry};
-use crate::known_rules::KnownRules;
 use crate::templates::{Template, put_template, template_for};
 use tc_alpha::Sym;
 use tc_mat::Mat;
-use tc_rules::{Kind, Marks, Rules};
+use tc_rules::{Kind, KnownRules, Marks, Rules};
 
 /// The letter of a node that isn't the root: what it is, and the predicates that hold on it.
 #[derive(Clone, Copy)]
@@ -70,7 +69,7 @@ fn put_hit(
     requires out { out.old.size ≡ size_at place.now }
     requires spare { AreSpare out.old.size (depth_of_sheet (told place.now.rules.now).sheet + 2) spare.old }
     requires few { length spare.old ≤ 8002 }
-    requires begun { IsIdentity out.old }
+    requires untouched { IsIdentity out.old }
     ensures size { out.new.size ≡ out.old.size }
     ensures spare { All (λ m. m.size ≡ out.old.size) spare.new }
     ensures pairs { (x : Triple) (g : Going) (q : ℕ) → IsPlaceIn x place.now → AreCalled x place.now → letters.IsLetter x.symbols (predicates x) (letter_of letter) → IsMoveAt x.rules state g
@@ -126,7 +125,7 @@ pub(crate) fn put_entry_above(
     requires out { out.old.size ≡ size_at place.now }
     requires spare { AreSpare out.old.size (depth_of_sheet (told place.now.rules.now).sheet + 2) spare.old }
     requires few { length spare.old ≤ 8002 }
-    requires begun { IsIdentity out.old }
+    requires untouched { IsIdentity out.old }
     ensures size { out.new.size ≡ out.old.size }
     ensures spare { All (λ m. m.size ≡ out.old.size) spare.new }
     ensures pairs { (x : Triple) (g : Going) (q : ℕ) (at : IsMoveAt x.rules state g) → IsPlaceIn x place.now → AreCalled x place.now → letters.IsLetter x.symbols (predicates x) (letter_of letter)

@@ -2,7 +2,7 @@
 //
 // A node is known by the row of what stands below it, and by the ancestor state at it. Each function puts its pairs behind those
 // that `out` holds, and works in spare sets.
-ghost use Rattle.std.specs.Prelude.{◌≡◌, ◌<◌, ◌≤◌, ◌+◌, ◌*◌, ℕ, List, length, Contains, map, All, not, true, IfSome};
+ghost use Rattle.std.specs.Prelude.{◌≡◌, ◌<◌, ◌≤◌, ◌+◌, ◌*◌, ℕ, List, length, Contains, map, All, not, true, false, IfSome};
 ghost use Rattle.tc_mat.specs.Matrix.{IsMatrix, IsIdentity, Matrix};
 ghost use Rattle.tc_model.specs.Meaning.{all_children as all_children_of};
 ghost use Rattle.tc_model.specs.Numberings.{moves_of};
@@ -98,13 +98,14 @@ pub(crate) fn put_text_if(place: &Place<'_, '_>, is_put: bool, out: &mut Mat, sp
     }
 }
 
-/// Puts the pairs of the instructions of a body, one after the other. It may be told that `out` holds the pairs of each state
-/// with itself, behind which an element is put without a product.
+/// Puts the pairs of the instructions of a body, one after the other. It may be told that nothing was put yet: `out` holds the
+/// pairs of each state with itself, and an element that is put first takes their place. A product behind them gives the same, but
+/// looks at all of them to find out what they are, and copies.
 #[cycle(bodies)]
 pub(crate) fn put_body(
     place: &Place<'_, '_>,
     body: &[Instr<'_>],
-    is_begun: bool,
+    is_untouched: bool,
     out: &mut Mat,
     spare: &mut [Mat],
 )
@@ -113,12 +114,12 @@ pub(crate) fn put_body(
     requires out { out.old.size ≡ size_at place.now }
     requires spare { AreSpare out.old.size (depth_in (see.body body.now) + 2) spare.old }
     requires few { length spare.old ≤ 8002 }
-    requires begun { is_begun ≡ true → IsIdentity out.old }
+    requires untouched { is_untouched ≡ true → IsIdentity out.old }
     ensures size { out.new.size ≡ out.old.size }
     ensures spare { All (λ m. m.size ≡ out.old.size) spare.new }
     ensures pairs { (x : Triple) → IsPlaceIn x place.now → Extends out.old out.new (put_pairs x (kind_of place.now.node) (below_of x place.now) (called_by place.now) (see.body body.now)) }
 {
-    let mut is_first = is_begun;
+    let mut is_first = is_untouched;
     for instruction in body {
         put_instruction(place, instruction, is_first, out, spare);
         is_first = false;
@@ -130,7 +131,7 @@ pub(crate) fn put_body(
 fn put_instruction(
     place: &Place<'_, '_>,
     instruction: &Instr<'_>,
-    is_begun: bool,
+    is_untouched: bool,
     out: &mut Mat,
     spare: &mut [Mat],
 )
@@ -139,7 +140,7 @@ fn put_instruction(
     requires out { out.old.size ≡ size_at place.now }
     requires spare { AreSpare out.old.size (depth_in (see.instruction instruction.now s.no_instruction) + 2) spare.old }
     requires few { length spare.old ≤ 8002 }
-    requires begun { is_begun ≡ true → IsIdentity out.old }
+    requires untouched { is_untouched ≡ true → IsIdentity out.old }
     ensures size { out.new.size ≡ out.old.size }
     ensures spare { All (λ m. m.size ≡ out.old.size) spare.new }
     ensures pairs { (x : Triple) (rest : s.Body) → IsPlaceIn x place.now → HaveSamePairs
@@ -150,9 +151,9 @@ fn put_instruction(
         Instr::Text(text) => put_text_if(place, !is_white_space_only(text), out, spare),
         Instr::Elem(name, inner) => {
             let sym = place.alphabet.sym_of(name);
-            put_element(place, sym, inner, is_begun, out, spare)
+            put_element(place, sym, inner, is_untouched, out, spare)
         }
-        Instr::Copy(inner) => put_copy(place, inner, is_begun, out, spare),
+        Instr::Copy(inner) => put_copy(place, inner, is_untouched, out, spare),
         Instr::Apply(path, mode) => put_selected(place, path, Job::Mode(*mode), out, spare),
         Instr::Call(number) => put_set(&place.named[*number as usize], out, spare),
         Instr::ValueOf(path) => {
@@ -161,10 +162,10 @@ fn put_instruction(
         }
         Instr::ValueOfSelf => put_text_if(place, place.bears, out, spare),
         Instr::Choose(branches, last) => {
-            if put_first(place, branches, is_begun, out, spare) {
+            if put_first(place, branches, is_untouched, out, spare) {
                 return;
             }
-            put_body(place, last, false, out, spare)
+            put_body(place, last, is_untouched, out, spare)
         }
         Instr::ForEach(number, path, _) => {
             put_selected(place, path, Job::Each(*number), out, spare)
@@ -177,7 +178,7 @@ fn put_around(
     place: &Place<'_, '_>,
     sym: Sym,
     set: &Mat,
-    is_begun: bool,
+    is_untouched: bool,
     out: &mut Mat,
     spare: &mut [Mat],
 )
@@ -186,7 +187,7 @@ fn put_around(
     requires set { set.now.size ≡ out.old.size }
     requires out { out.old.size ≡ size_at place.now }
     requires spare { AreSpare out.old.size 2 spare.old }
-    requires begun { is_begun ≡ true → IsIdentity out.old }
+    requires untouched { is_untouched ≡ true → IsIdentity out.old }
     ensures size { out.new.size ≡ out.old.size }
     ensures spare { All (λ m. m.size ≡ out.old.size) spare.new }
     ensures pairs { (x : Triple) → IsPlaceIn x place.now → Extends out.old out.new (around x sym.0 (has set.now)) }
@@ -194,7 +195,7 @@ fn put_around(
     let (led, rest) = spare.split_at_mut(1);
     let led = &mut led[0];
     place.output.element_into(sym, set, led);
-    put_led(out, is_begun, led, &mut rest[0]);
+    put_led(out, is_untouched, led, &mut rest[0]);
 }
 
 /// Puts the pairs of an element of a symbol around what a body puts out.
@@ -203,7 +204,7 @@ fn put_element(
     place: &Place<'_, '_>,
     sym: Sym,
     inner: &[Instr<'_>],
-    is_begun: bool,
+    is_untouched: bool,
     out: &mut Mat,
     spare: &mut [Mat],
 )
@@ -213,13 +214,13 @@ fn put_element(
     requires out { out.old.size ≡ size_at place.now }
     requires spare { AreSpare out.old.size (depth_in (see.body inner.now) + 3) spare.old }
     requires few { length spare.old ≤ 8002 }
-    requires begun { is_begun ≡ true → IsIdentity out.old }
+    requires untouched { is_untouched ≡ true → IsIdentity out.old }
     ensures size { out.new.size ≡ out.old.size }
     ensures spare { All (λ m. m.size ≡ out.old.size) spare.new }
     ensures pairs { (x : Triple) → IsPlaceIn x place.now → Extends out.old out.new (around x sym.0 (put_pairs x (kind_of place.now.node) (below_of x place.now) (called_by place.now) (see.body inner.now))) }
 {
     if let Some(set) = set_alone(place, inner) {
-        put_around(place, sym, set, is_begun, out, spare);
+        put_around(place, sym, set, is_untouched, out, spare);
         return;
     }
     let (inside, rest) = spare.split_at_mut(1);
@@ -228,7 +229,7 @@ fn put_element(
     put_body(place, inner, true, inside, rest);
     let led = &mut rest[0];
     place.output.element_into(sym, inside, led);
-    put_led(out, is_begun, led, inside);
+    put_led(out, is_untouched, led, inside);
 }
 
 /// Puts the pairs of the current node without its children, around what a body puts out (XSLT 1.0, 7.5).
@@ -236,7 +237,7 @@ fn put_element(
 fn put_copy(
     place: &Place<'_, '_>,
     inner: &[Instr<'_>],
-    is_begun: bool,
+    is_untouched: bool,
     out: &mut Mat,
     spare: &mut [Mat],
 )
@@ -245,24 +246,25 @@ fn put_copy(
     requires out { out.old.size ≡ size_at place.now }
     requires spare { AreSpare out.old.size (depth_in (see.body inner.now) + 3) spare.old }
     requires few { length spare.old ≤ 8002 }
-    requires begun { is_begun ≡ true → IsIdentity out.old }
+    requires untouched { is_untouched ≡ true → IsIdentity out.old }
     ensures size { out.new.size ≡ out.old.size }
     ensures spare { All (λ m. m.size ≡ out.old.size) spare.new }
     ensures pairs { (x : Triple) → IsPlaceIn x place.now → Extends out.old out.new (copied_pairs x (kind_of place.now.node) (put_pairs x (kind_of place.now.node) (below_of x place.now) (called_by place.now) (see.body inner.now))) }
 {
     match place.node {
-        At::Root => put_body(place, inner, is_begun, out, spare),
-        At::Elem(sym) => put_element(place, sym, inner, is_begun, out, spare),
+        At::Root => put_body(place, inner, is_untouched, out, spare),
+        At::Elem(sym) => put_element(place, sym, inner, is_untouched, out, spare),
         At::Text => put_set(place.text, out, spare),
     }
 }
 
-/// Puts the pairs of the body of the first branch whose test holds (XSLT 1.0, 9). Tells whether there is one.
+/// Puts the pairs of the body of the first branch whose test holds (XSLT 1.0, 9). Tells whether there is one; where there is
+/// none, nothing is put.
 #[cycle(bodies)]
 fn put_first(
     place: &Place<'_, '_>,
     branches: &[Branch<'_>],
-    is_begun: bool,
+    is_untouched: bool,
     out: &mut Mat,
     spare: &mut [Mat],
 ) -> bool
@@ -271,16 +273,17 @@ fn put_first(
     requires out { out.old.size ≡ size_at place.now }
     requires spare { AreSpare out.old.size (depth_in_branches (see.branches branches.now (s.otherwise s.no_instruction)) + 2) spare.old }
     requires few { length spare.old ≤ 8002 }
-    requires begun { is_begun ≡ true → IsIdentity out.old }
+    requires untouched { is_untouched ≡ true → IsIdentity out.old }
     ensures size { out.new.size ≡ out.old.size }
     ensures spare { All (λ m. m.size ≡ out.old.size) spare.new }
+    ensures stays { result ≡ false → out.new ≡ out.old }
     ensures pairs { (x : Triple) (rest : s.Branches) → IsPlaceIn x place.now → HaveSamePairs
         (product (has out.new) (chosen result (stay x) (put_branch_pairs x (kind_of place.now.node) (below_of x place.now) (called_by place.now) rest)))
         (product (has out.old) (put_branch_pairs x (kind_of place.now.node) (below_of x place.now) (called_by place.now) (see.branches branches.now rest))) }
 {
     for branch in branches {
         if holds(place.rules, place.looks, &branch.test) {
-            put_body(place, branch.body, is_begun, out, spare);
+            put_body(place, branch.body, is_untouched, out, spare);
             return true;
         }
     }

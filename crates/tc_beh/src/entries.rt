@@ -146,7 +146,7 @@ fn put_entry_of(
     let rules = &machine.rules;
     let template = template_at(
         rules,
-        &mut work.rules,
+        &mut work.known,
         node.letter,
         spot.ancestor,
         spot.state,

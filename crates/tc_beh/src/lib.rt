@@ -14,7 +14,6 @@ mod empty;
 mod entries;
 mod guesses;
 mod held_sets;
-mod known_rules;
 mod laws;
 mod leads;
 mod lines;

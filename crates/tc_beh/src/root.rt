@@ -64,7 +64,7 @@ fn put_on_root(place: &Place<'_, '_>, out: &mut Mat, spare: &mut [Mat])
     requires out { out.old.size ≡ size_at place.now }
     requires spare { AreSpare out.old.size (depth_of_sheet (told place.now.rules.now).sheet + 2) spare.old }
     requires few { length spare.old ≤ 8002 }
-    requires begun { IsIdentity out.old }
+    requires untouched { IsIdentity out.old }
     ensures size { out.new.size ≡ out.old.size }
     ensures spare { All (λ m. m.size ≡ out.old.size) spare.new }
     ensures pairs { (x : Triple) → IsPlaceIn x place.now → AreCalled x place.now

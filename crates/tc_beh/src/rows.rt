@@ -8,7 +8,6 @@ ghost use Rattle.tc_rows.specs.Triples.{Triple};
 use crate::append::{put_append, put_kind};
 use crate::empty::put_empty;
 use crate::held_sets::HeldSets;
-use crate::known_rules::KnownRules;
 use crate::leads::{Lead, NOWHERE};
 use crate::lists::{lists_of, pairs_of, pool_of};
 use crate::machine::Machine;
@@ -18,6 +17,7 @@ use std::alloc::Global;
 use tc_base::NoMemory;
 use tc_mat::{Mat, MatId, Pool};
 use tc_model::{PairLists, Pairs};
+use tc_rules::KnownRules;
 
 /// What rows over one machine are worked out in: the sets of pairs that stand in rows, each with a number, and room.
 #[derive(Drop)]
@@ -42,7 +42,7 @@ pub(crate) struct Work {
     /// A set for each element that stands open in a body, and two more.
     pub(crate) spare: Vec<Mat>,
     /// Some of the rules that were found for letters of nodes.
-    pub(crate) rules: KnownRules,
+    pub(crate) known: KnownRules,
 }
 
 /// So many empty sets.
@@ -70,13 +70,13 @@ impl Work {
         let set = Mat::zero(alloc, size)?;
         let named = empty_sets(alloc, machine.rules.sheet().named.len(), size)?;
         let spare = empty_sets(alloc, machine.depth as usize + 2, size)?;
-        let rules = KnownRules::new(alloc)?;
+        let known = KnownRules::new(&machine.rules)?;
         Ok(Work {
             text,
             set,
             named,
             spare,
-            rules,
+            known,
         })
     }
 }

@@ -31,34 +31,35 @@ pub(crate) fn put_behind(out: &mut Mat, behind: &Mat, room: &mut Mat)
     mem::swap(out, room);
 }
 
-/// Puts a set of pairs behind another, and may leave any other in its place. Where the set behind which it is put is known to be
-/// that of each number with itself, the two only change places.
-pub(crate) fn put_led(out: &mut Mat, is_begun: bool, led: &mut Mat, room: &mut Mat)
+/// Puts a set of pairs behind another, and may leave any other in its place. Where it is known that nothing was put yet, the set
+/// behind which it is put being that of each number with itself, it need not be multiplied.
+pub(crate) fn put_led(out: &mut Mat, is_untouched: bool, led: &mut Mat, room: &mut Mat)
     requires led { led.old.size ≡ out.old.size }
     requires room { room.old.size ≡ out.old.size }
-    requires begun { is_begun ≡ true → IsIdentity out.old }
+    requires untouched { is_untouched ≡ true → IsIdentity out.old }
     ensures size { out.new.size ≡ out.old.size }
     ensures led { led.new.size ≡ led.old.size }
     ensures room { room.new.size ≡ room.old.size }
     ensures matrix { IsMatrix out.new }
     ensures pairs { IsComposition out.old led.old out.new }
 {
-    if is_begun {
-        put_first(out, led);
+    if is_untouched {
+        put_behind_identity(out, led);
     } else {
         put_behind(out, led, room);
     }
 }
 
-/// Puts a set of pairs behind that of each number with itself.
-fn put_first(out: &mut Mat, led: &mut Mat)
+/// Puts a set of pairs behind that of each number with itself: the two change places.
+fn put_behind_identity(out: &mut Mat, led: &mut Mat)
     requires led { led.old.size ≡ out.old.size }
-    requires begun { IsIdentity out.old }
+    requires untouched { IsIdentity out.old }
     ensures size { out.new.size ≡ out.old.size }
     ensures led { led.new.size ≡ led.old.size }
     ensures matrix { IsMatrix out.new }
     ensures pairs { IsComposition out.old led.old out.new }
 {
     mem::swap(out, led);
+    // Of a set that is asked its size it is known that it is a matrix.
     let _size = out.size();
 }

@@ -7,6 +7,7 @@ ghost use Rattle.tc_model.specs.Sheets.{CallFreeBody};
 ghost use Rattle.tc_rules.specs.Asked.{found as found_of};
 ghost use Rattle.tc_rules.specs.Jobs.{IsJob};
 ghost use Rattle.tc_rules.specs.Kept.{told};
+ghost use Rattle.tc_rules.specs.KnownRules.{AreKnown};
 ghost use Rattle.tc_rules.specs.RulesView.{ancestor as ancestor_of};
 ghost use Rattle.tc_rules.specs.States.{Chosen, built_in_at, plain_of, body_by};
 ghost use Rattle.tc_rules.specs.Tasks.{IsTaskOf};
@@ -15,7 +16,6 @@ ghost use Rattle.tc_rows.specs.Triples.{Triple, sheet, predicates};
 ghost use Rattle.tc_rows.specs.Bodies.{body_pairs};
 ghost use Rattle.tc_beh.specs.Above.{letter_of};
 ghost use Rattle.tc_beh.specs.Heights.{depth_in};
-ghost use Rattle.tc_beh.specs.Known.{AreKnown};
 ghost use Rattle.tc_beh.specs.Putting.{Extends};
 ghost use Rattle.tc_beh.specs.Places.{IsPlace, IsPlaceIn, AreSpare, kind_of, below_of, called_by, size_at};
 ghost use Rattle.tc_beh.specs.Stands.{IsRulesIn, AreRules};
@@ -23,10 +23,9 @@ ghost use Rattle.tc_beh.specs.Templates.{IsTemplate, IsPartTemplate, depth_of, d
 
 use crate::above::Letter;
 use crate::bodies::{At, Place, all_children, put_body, put_selected, put_text_if};
-use crate::known_rules::KnownRules;
 use tc_mat::Mat;
 use tc_model::Instr;
-use tc_rules::{Found, Job, Rules};
+use tc_rules::{Found, Job, KnownRules, Rules};
 
 /// What is to be instantiated on a node: a body, or what the built-in rules say in a mode.
 #[derive(Clone, Copy)]
@@ -89,7 +88,7 @@ pub(crate) fn put_template(
     requires out { out.old.size ≡ size_at place.now }
     requires spare { AreSpare out.old.size (depth_of template + 2) spare.old }
     requires few { length spare.old ≤ 8002 }
-    requires begun { IsIdentity out.old }
+    requires untouched { IsIdentity out.old }
     ensures size { out.new.size ≡ out.old.size }
     ensures spare { All (λ m. m.size ≡ out.old.size) spare.new }
     ensures pairs { (x : Triple) (p : CallFreeBody) → IsPlaceIn x place.now → AreCalled x place.now → IsTemplate (sheet x).named (built_in_on (kind_of place.now.node)) template.entry p

@@ -6,26 +6,11 @@ ghost use Rattle.tc_model.specs.Names as names;
 ghost use Rattle.tc_model.specs.Views as see;
 ghost use Rattle.tc_model.specs.Trees as t;
 
-use tc_base::{is_name_char, is_name_start};
 use tc_model::{Name, Node, is_white_space_only};
-use tc_scan::are_chars;
+use tc_scan::{are_chars, is_ncname_char, is_ncname_start};
 
 /// The namespace of namespace declarations, to which nothing may be bound (Namespaces in XML 1.0, 3).
 const XMLNS: &str = "http://www.w3.org/2000/xmlns/";
-
-/// Whether an NCName may begin with this character.
-fn is_ncname_start(c: char) -> bool
-    ensures { result ≡ names.is_ncname_start c }
-{
-    c != ':' && is_name_start(c)
-}
-
-/// Whether an NCName may hold this character.
-fn is_ncname_char(c: char) -> bool
-    ensures { result ≡ names.is_ncname_char c }
-{
-    c != ':' && is_name_char(c)
-}
 
 /// Whether a byte is a character of ASCII with which an NCName may begin.
 fn is_plain_start(byte: u8) -> bool

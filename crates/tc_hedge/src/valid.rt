@@ -152,8 +152,8 @@ fn is_element_valid(
 }
 
 /// Whether a document is valid for a schema, whose start is made of references and choices alone. That it is a
-/// document isn't looked at: its names and its characters are lawful. The automaton may be that of an input schema
-/// or of an output schema.
+/// document isn't looked at: one element in normal form, with lawful names and characters. The automaton may be that
+/// of an input schema or of an output schema.
 ///
 /// # Errors
 ///

@@ -22,9 +22,9 @@ GainsBits n old new Gained =
 abbrev pub Told : ℕ → List ℕ → ℕ → ℕ → ℕ → ℕ → Type 0
 Told n b told by word place = (t : ℕ) × (bit_at told t ≡ 1) × IsSet n b (64 * by + t) word place
 
--- a bit of a row of the composition by one of the 64 numbers that one word of the left tells
+-- a bit of a row of the composition by one of the 64 numbers that one word of the same row of the left tells
 abbrev pub Leads : ℕ → List ℕ → List ℕ → ℕ → ℕ → ℕ → ℕ → Type 0
-Leads n a b by row word place = (t : ℕ) × IsSet n a row by t × IsSet n b (64 * by + t) word place
+Leads n a b by row word place = Told n b (slice_index a (row * words_a_row n + by)) by word place
 
 -- a word has bits for numbers below n alone
 abbrev pub IsPadded : ℕ → List ℕ → Type 0

@@ -7,7 +7,7 @@ ghost use Rattle.tc_mat.specs.Product.{IsSet, HasBits, GainsBits, Leads, Told, I
 
 use crate::matrices::words_in_row;
 
-/// Leaves the composition of `a` and `b` in `out`, all three of `n` rows.
+/// Leaves the composition of `a` and `b` in `out`, all three of `n` rows. Behind each number with itself `b` is copied.
 pub(crate) fn multiply(n: u32, a: &[u64], b: &[u64], out: &mut [u64])
     requires left { length a.now ≡ n * words_a_row n }
     requires right { length b.now ≡ n * words_a_row n }
@@ -29,7 +29,7 @@ pub(crate) fn multiply(n: u32, a: &[u64], b: &[u64], out: &mut [u64])
     }
 }
 
-/// Whether each row has exactly its own number. It needn't find out where one doesn't.
+/// True only where each row has exactly its own number.
 fn is_identity(n: u32, a: &[u64]) -> bool
     requires left { length a.now ≡ n * words_a_row n }
     ensures { IsTrue result → (row : ℕ) → row < n → IsUnit n a.now row }
@@ -42,7 +42,7 @@ fn is_identity(n: u32, a: &[u64]) -> bool
     true
 }
 
-/// Whether a row has exactly its own number.
+/// True only of a row that has exactly its own number.
 fn is_unit(n: u32, a: &[u64], row: usize) -> bool
     requires left { length a.now ≡ n * words_a_row n }
     requires row { row < n }

@@ -53,3 +53,4 @@ pub mod TreesInTurn
 pub mod SchemaStates
 pub mod TreesApart
 pub mod NormalLevels
+pub mod XmlTextReadable

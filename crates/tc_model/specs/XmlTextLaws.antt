@@ -1,11 +1,11 @@
 -- Laws of XML texts and their raw trees.
-use Rattle.std.specs.Prelude.{◌≡◌, ◌⊎◌, ◌≤◌, ℕ, List, [], length}
+use Rattle.std.specs.Prelude.{◌≡◌, ◌⊎◌, ◌≤◌, ◌<◌, ℕ, Bool, List, [], length, IsTrue}
 use Rattle.std.specs.List.{AllByRecursion}
 use Rattle.tc_model.specs.Names.{IsChars, IsNcName, IsNamespaceName, IsName, IsText}
 use Rattle.tc_model.specs.Trees.{IsDocument}
 use Rattle.tc_model.specs.RawTrees.{Attribute, Bound, RawTrees, none, text, element}
-use Rattle.tc_model.specs.XmlText.{XmlText}
-use Rattle.tc_model.specs.XmlTextRefusals.{Cause, XmlTextRefuses}
+use Rattle.tc_model.specs.XmlText.{Reads, XmlText, deepest_element}
+use Rattle.tc_model.specs.XmlTextRefusals.{Cause, unsupported, too_deep, XmlTextRefuses}
 use Rattle.tc_model.specs.Stripped.{stripped}
 
 -- a lawful attribute of a text of so many bytes
@@ -47,3 +47,20 @@ HasOneRefusal = (bytes : List ℕ) (cause other : Cause) (place elsewhere : ℕ)
 -- and then it has no raw tree
 abbrev pub HasNoTreeWhereRefused : Type 0
 HasNoTreeWhereRefused = (bytes : List ℕ) (cause : Cause) (place : ℕ) (h : RawTrees) → XmlTextRefuses bytes cause place → XmlText bytes h → ⊥
+
+-- This cause is for what isn't read elsewhere: references to other entities, if `others` says that they are read here, or elements deeper than `least`, if
+-- they stand so deep here.
+abbrev pub IsBeyond : Bool → ℕ → ℕ → Cause → Type 0
+IsBeyond others deepest least (unsupported why) = IsTrue others
+IsBeyond others deepest least too_deep = least < deepest
+
+-- a text that is read with references to other entities, or with elements of any depth, has this raw tree, or is refused for one of these
+abbrev pub HasTreeOrRefusal : Type 0
+HasTreeOrRefusal = (others : Bool) (deepest : ℕ) (bytes : List ℕ) (h : RawTrees) → Reads others deepest bytes h
+    → XmlText bytes h ⊎ ((cause : Cause) × (place : ℕ) × XmlTextRefuses bytes cause place × IsBeyond others deepest deepest_element cause)
+
+-- So one that is refused for a construct isn't read without references to other entities, of whatever depth, and one that is refused for an element that
+-- stands too deep isn't read with them within this depth.
+abbrev pub IsRefusedForMore : Type 0
+IsRefusedForMore = (others : Bool) (deepest : ℕ) (bytes : List ℕ) (h : RawTrees) (cause : Cause) (place : ℕ) → Reads others deepest bytes h
+    → XmlTextRefuses bytes cause place → IsBeyond others deepest deepest_element cause

@@ -1,7 +1,7 @@
-// The normal form of trees (XSLT 1.0, 3.4).
-ghost use Rattle.std.specs.Prelude.{◌≡◌, ◌<◌, ◌++◌, ◌||◌, [], Some, option_map, IfOk, OnOk, MatchOption};
-ghost use Rattle.tc_model.specs.NormalLevels.{begins_with_text, changed_kids, AreKept, IsChanged, IsKept};
-ghost use Rattle.tc_model.specs.declared.normal.Changed.TheVariants.{Kids};
+// The normal form of trees (XSLT 1.0, 3.4). What the recursion over levels calls is kept out of line, so that its frames stay
+// small: trees nest thousands deep.
+ghost use Rattle.std.specs.Prelude.{◌≡◌, ◌<◌, ◌++◌, ◌||◌, [], Some, IfOk, OnOk, MatchOption};
+ghost use Rattle.tc_model.specs.NormalLevels.{begins_with_text, kids_change, known_kids, IsChange, KidsStay};
 ghost use Rattle.tc_model.specs.Views as see;
 ghost use Rattle.tc_model.specs.Runs.{run_text};
 ghost use Rattle.tc_model.specs.Views.{trees};
@@ -130,19 +130,21 @@ fn all_gathered<'b>(mut gathered: Gathered<'b>) -> Result<&'b [Node<'b>], NoMemo
     Ok(into_bump_slice(gathered.nodes))
 }
 
-/// By what a tree changes in the normal form of its level: a text is joined to another or dropped, or the children of an
-/// element are others.
+/// What the normal form of a level changes at one of its trees: nothing; a text, which is joined to the one before it or
+/// dropped; or the children of an element, of which these are the normal form.
 #[derive(Clone, Copy)]
-pub(crate) enum Changed<'b> {
+pub(crate) enum Change<'b> {
+    Nothing,
     Text,
     Kids(&'b [Node<'b>]),
 }
 
-/// The first tree of a level that changes, by its place.
+/// What is known of a level whose normal form is made: the children of the trees before a place are in normal form, and, where
+/// it is known, the normal form of those of the tree there.
 #[derive(Clone, Copy)]
-struct Change<'b> {
+struct Known<'b> {
     place: usize,
-    what: Changed<'b>,
+    kids: Option<&'b [Node<'b>]>,
 }
 
 /// Whether a tree is a text.
@@ -162,31 +164,27 @@ fn text_changes(text: &str, behind: bool) -> bool
     behind || is_white_space_only(text)
 }
 
-/// How children change, if they do.
-fn kids_changed<'b>(fresh: Option<&'b [Node<'b>]>) -> Option<Changed<'b>>
-    ensures { result ≡ option_map (λ k. Kids k) fresh.entry }
+/// What changes at an element with these new children, if there are new ones.
+fn kids_changed<'b>(fresh: Option<&'b [Node<'b>]>) -> Change<'b>
+    ensures { result ≡ kids_change fresh.entry }
 {
     match fresh {
-        Some(kids) => Some(Changed::Kids(kids)),
-        None => None,
+        Some(kids) => Change::Kids(kids),
+        None => Change::Nothing,
     }
 }
 
-/// How a tree changes that stands behind a text or not, if it does.
+/// What changes at a tree that stands behind a text or not.
 #[cycle(normal)]
-fn change_of<'b>(
-    arena: &'b Bump,
-    node: &Node<'b>,
-    behind: bool,
-) -> Result<Option<Changed<'b>>, NoMemory>
-    ensures { IfOk result (λ r. MatchOption r (IsKept behind node.now) (λ what. IsChanged node.now what)) }
+fn change_of<'b>(arena: &'b Bump, node: &Node<'b>, behind: bool) -> Result<Change<'b>, NoMemory>
+    ensures { IfOk result (λ change. IsChange behind node.now change) }
 {
     match node {
         Node::Text(text) => {
             if text_changes(text, behind) {
-                return Ok(Some(Changed::Text));
+                return Ok(Change::Text);
             }
-            Ok(None)
+            Ok(Change::Nothing)
         }
         Node::Elem(_, kids) => {
             let fresh = renewed(arena, kids)?;
@@ -195,53 +193,60 @@ fn change_of<'b>(
     }
 }
 
-/// The first tree that changes in the normal form of a level.
+/// What is known of a level where its normal form changes something, by the first tree at which it does.
 #[cycle(normal)]
-fn first_change<'b>(arena: &'b Bump, nodes: &[Node<'b>]) -> Result<Option<Change<'b>>, NoMemory>
-    ensures { IfOk result (λ r. MatchOption r (IsNormal (trees nodes.now)) (λ c. AreKept c.place (changed_kids c.what) (trees nodes.now))) }
+fn first_change<'b>(arena: &'b Bump, nodes: &[Node<'b>]) -> Result<Option<Known<'b>>, NoMemory>
+    ensures { IfOk result (λ r. MatchOption r (IsNormal (trees nodes.now)) (λ known. KidsStay known.place (known_kids known.kids) (trees nodes.now))) }
 {
     let mut behind = false;
     for (place, node) in nodes.iter().enumerate() {
-        match change_of(arena, node, behind)? {
-            Some(what) => return Ok(Some(Change { place, what })),
-            None => behind = is_text(node),
+        let change = change_of(arena, node, behind)?;
+        match change {
+            Change::Nothing => behind = is_text(node),
+            Change::Text => return Ok(Some(Known { place, kids: None })),
+            Change::Kids(fresh) => {
+                return Ok(Some(Known {
+                    place,
+                    kids: Some(fresh),
+                }));
+            }
         }
     }
     Ok(None)
 }
 
-/// The normal form of the children of an element, where it is known what changes first among the trees beside it.
+/// The normal form of the children of an element, by what is known of its level.
 #[cycle(normal)]
 fn kids_at<'b>(
     arena: &'b Bump,
     kids: &'b [Node<'b>],
     place: usize,
-    change: &Change<'b>,
+    known: &Known<'b>,
 ) -> Result<&'b [Node<'b>], NoMemory>
-    requires before { place < change.now.place → IsNormal (trees kids.now) }
-    requires here { place ≡ change.now.place → (k : t.Trees) → changed_kids change.now.what ≡ Some k → k ≡ normal_form (trees kids.now) }
+    requires before { place < known.now.place → IsNormal (trees kids.now) }
+    requires here { place ≡ known.now.place → (k : t.Trees) → known_kids known.now.kids ≡ Some k → k ≡ normal_form (trees kids.now) }
     ensures { IfOk result (λ out. trees out.now ≡ normal_form (trees kids.now)) }
 {
-    if place < change.place {
+    if place < known.place {
         return Ok(kids);
     }
-    if place > change.place {
+    if place > known.place {
         return normal_kids(arena, kids);
     }
-    match change.what {
-        Changed::Kids(fresh) => Ok(fresh),
-        Changed::Text => normal_kids(arena, kids),
+    match known.kids {
+        Some(fresh) => Ok(fresh),
+        None => normal_kids(arena, kids),
     }
 }
 
-/// The normal form of trees of which it is known what changes first.
+/// The normal form of trees, by what is known of them.
 #[cycle(normal)]
 fn normal_from<'b>(
     arena: &'b Bump,
     nodes: &[Node<'b>],
-    change: &Change<'b>,
+    known: &Known<'b>,
 ) -> Result<&'b [Node<'b>], NoMemory>
-    requires { AreKept change.now.place (changed_kids change.now.what) (trees nodes.now) }
+    requires { KidsStay known.now.place (known_kids known.now.kids) (trees nodes.now) }
     ensures { IfOk result (λ out. trees out.now ≡ normal_form (trees nodes.now)) }
 {
     let mut gathered = gathered_nothing(arena, nodes.len())?;
@@ -249,7 +254,7 @@ fn normal_from<'b>(
         match node {
             Node::Text(text) => gather_text(&mut gathered, text)?,
             Node::Elem(name, kids) => {
-                let kids = kids_at(arena, kids, place, change)?;
+                let kids = kids_at(arena, kids, place, known)?;
                 gather_element(&mut gathered, name, kids)?;
             }
         }
@@ -257,14 +262,14 @@ fn normal_from<'b>(
     all_gathered(gathered)
 }
 
-/// The normal form of trees, unless they are in normal form already.
+/// The normal form of trees, or none, only where they are in normal form already.
 #[cycle(normal)]
 fn renewed<'b>(arena: &'b Bump, nodes: &'b [Node<'b>]) -> Result<Option<&'b [Node<'b>]>, NoMemory>
     ensures { IfOk result (λ r. MatchOption r (IsNormal (trees nodes.now)) (λ out. trees out.now ≡ normal_form (trees nodes.now))) }
 {
     match first_change(arena, nodes)? {
-        Some(change) => {
-            let normal = normal_from(arena, nodes, &change)?;
+        Some(known) => {
+            let normal = normal_from(arena, nodes, &known)?;
             Ok(Some(normal))
         }
         None => Ok(None),
@@ -287,9 +292,9 @@ fn normal_kids<'b>(arena: &'b Bump, nodes: &'b [Node<'b>]) -> Result<&'b [Node<'
 pub fn normalise<'b>(arena: &'b Bump, nodes: &[Node<'b>]) -> Result<&'b [Node<'b>], NoMemory>
     ensures { IfOk result (λ out. trees out.now ≡ normal_form (trees nodes.now)) }
 {
-    let unknown = Change {
+    let nothing = Known {
         place: 0,
-        what: Changed::Text,
+        kids: None,
     };
-    normal_from(arena, nodes, &unknown)
+    normal_from(arena, nodes, &nothing)
 }

@@ -1,8 +1,6 @@
 -- What the tables of rules answer is what they tell.
-use Rattle.std.proofs.Common.{◌≡◌, ℕ, zero, suc, ◌+◌, ◌^◌, ◌<◌, List, [], ◌∷◌, Bool, get_or, ap, sym, ◌∙◌, subst, map, Option, Some, None, slice_get, length, take, arith}
-use Rattle.std.specs.List.{list_any}
+use Rattle.std.proofs.Common.{◌≡◌, ℕ, zero, suc, ◌+◌, ◌^◌, ◌<◌, List, [], ◌∷◌, Bool, ap, sym, ◌∙◌, subst, map, Option, Some, None, slice_get, length, take, arith}
 use Rattle.std.proofs.lemmas.List.{length-map}
-use Rattle.std.proofs.lemmas.Option.{get_or_from_slice_get}
 use Rattle.tc_model.specs.Symbols.{Mention, symbol_count}
 use Rattle.tc_model.specs.Letters.{Letter, of_symbol, IsLetter}
 use Rattle.tc_model.specs.PathStates.{State, next_state, path_of_rules}
@@ -10,14 +8,13 @@ use Rattle.tc_model.specs.Numberings.{predicates_of}
 use Rattle.tc_rules.specs.Graphs as g
 use Rattle.tc_rules.specs.Graphs.{fits_at, next_at, path_fits, LeadsTo}
 use Rattle.tc_rules.specs.Steps as v
-use Rattle.tc_rules.specs.Rows.{graph, graphs, ending, ending_by_states}
+use Rattle.tc_rules.specs.Rows.{graph, graphs, ending, ending_by_states, KeepsEndings}
 use Rattle.tc_rules.specs.RulesView.{IsStateOf, is_hit_of, select_below, count_states}
 use Rattle.tc_model.specs.StateCounts.{PathUse, some_item, all_count}
 use Rattle.tc_rules.specs.Kept.{told, IsRulesOf}
 use Rattle.tc_rules.specs.declared.graph.Graph.{Graph}
 use Rattle.tc_rules.specs.declared.rules.Rules.{Rules}
 use Rattle.tc_rules.specs.declared.rules.Select.{Select}
-use Rattle.tc_rules.proofs.HitRows.{hits_told}
 use Rattle.tc_rules.proofs.Queries.{graph_of, is_hit_told, step_told, above_told, within}
 
 some_is : {X : Type 0} {a b : X} → Some a ≡ Some b → a ≡ b
@@ -44,7 +41,7 @@ module _ (symbols : List Mention) (r : Rules) (h : IsRulesOf symbols r) (k : ℕ
       some_is (sym (mapped_at graph r.graphs.items y.graph x f) ∙ (ap (slice_get (graphs r.graphs.items)) (select_is y e).0 ∙ st.graph_is))
 
   pub hit_answered : (y : Select) (gr : Graph) (l : Letter) (answer : Bool) → slice_get r.selects.items k ≡ Some y → slice_get r.graphs.items y.graph ≡ Some gr → IsLetter symbols (predicates_of (told r).sheet) l
-      → ((u fit : State) → slice_get (graph gr).states y.state ≡ Some u → fits_at (graph gr) l ≡ Some fit → answer ≡ list_any (v.ends_at u fit) (get_or (ending gr) y.state [])) → answer ≡ is_hit_of symbols (told r) b x l
+      → (KeepsEndings gr → (u fit : State) → slice_get (graph gr).states y.state ≡ Some u → fits_at (graph gr) l ≡ Some fit → answer ≡ v.some_ends u fit) → answer ≡ is_hit_of symbols (told r) b x l
   hit_answered y gr l answer e f is says =
       let same : graph gr ≡ st.graph = graph_is y gr e f in
       let fit = path_fits symbols (predicates_of (told r).sheet) b.path l in
@@ -52,13 +49,9 @@ module _ (symbols : List Mention) (r : Rules) (h : IsRulesOf symbols r) (k : ℕ
       let fits : fits_at st.graph l ≡ Some fit = of_graph.fits l is in
       let here : slice_get (graph gr).states y.state ≡ Some x = ap (λ (w : g.Graph). slice_get w.states y.state) same ∙ (ap (slice_get st.graph.states) (select_is y e).1 ∙ st.state) in
       let fits_here : fits_at (graph gr) l ≡ Some fit = ap (λ (w : g.Graph). fits_at w l) same ∙ fits in
-      let known : ending gr ≡ ending_by_states gr =
+      let known : KeepsEndings gr =
       some_is (sym (mapped_at ending r.graphs.items y.graph gr f) ∙ (ap (λ w. slice_get w y.graph) h.ending ∙ mapped_at ending_by_states r.graphs.items y.graph gr f)) in
-      let asked : get_or (ending gr) y.state [] ≡ v.ending_from 0 x =
-      ap (λ w. get_or w y.state []) known
-      ∙ get_or_from_slice_get (ending_by_states gr) y.state (v.ending_from 0 x) [] (mapped_at (v.ending_from 0) (graph gr).states y.state x here) in
-      says x fit here fits_here
-      ∙ (ap (list_any (v.ends_at x fit)) asked ∙ (sym (hits_told x fit) ∙ is_hit_told symbols (told r) h.tells k b x fit l st is fits))
+      says known x fit here fits_here ∙ is_hit_told symbols (told r) h.tells k b x fit l st is fits
 
   -- where it leads: nowhere, or to a state of the same path
   pub step_answered : (y : Select) (gr : Graph) (s marks : ℕ) (lead : Option ℕ) → slice_get r.selects.items k ≡ Some y → slice_get r.graphs.items y.graph ≡ Some gr

@@ -22,7 +22,7 @@ use Rattle.tc_rules.specs.Gathered.{numbers}
 use Rattle.tc_rules.specs.Graphs.{Graph, IsGraphOf}
 use Rattle.tc_rules.specs.Jobs.{AreJobs}
 use Rattle.tc_rules.specs.Kept.{told, IsRulesOf, numbers_in_mode}
-use Rattle.tc_rules.specs.Rows.{graph, graphs, KnowEnding}
+use Rattle.tc_rules.specs.Rows.{graph, graphs, AllKeepEndings}
 use Rattle.tc_rules.specs.Views as seen
 use Rattle.tc_rules.specs.Selects.{paths_of, selects_from, starts_from, AreGraphs, states_by, count_by, all_states_by, IsAncestorCause, IsNextCause, IsSelectCause}
 use Rattle.tc_rules.specs.RulesView.{AreSymbolsWith, count_states}
@@ -203,7 +203,7 @@ module _ (symbols : List Mention) (r : Rules) where
       → AreGraphs symbols (predicates_of X) (paths_of X) (graphs r.graphs.items) → count_states (graphs r.graphs.items) ≤ 4096
       → AreJobs X r.moves.items → r.selects.items ≡ selects_from 0 (graphs r.graphs.items) → r.starts.items ≡ starts_from 0 (graphs r.graphs.items)
       → length r.modes.items ≡ r.sheet.modes → ((m : ℕ) → m < r.sheet.modes → get_or (numbers r.modes.items) m [] ≡ numbers_in_mode m 0 X.rules)
-      → KnowEnding r.graphs.items → IsRulesOf symbols r
+      → AllKeepEndings r.graphs.items → IsRulesOf symbols r
   rules_built sheet alphabet tests few bodies all_bodies above few_above moves looks selected few_selected jobs selects starts all_modes modes ending =
       let as_paths : map (λ (b : PathUse). b.path) (blocks_of X) ≡ paths_of X = block_paths X in
       record {

@@ -1,14 +1,16 @@
 -- What hits below states: which alternatives may end.
-use Rattle.std.proofs.Common.{◌≡◌, ℕ, suc, ◌+◌, ◌<◌, ◌≤◌, List, [], ◌∷◌, ◌++◌, Bool, true, false, ◌&&◌, ◌||◌, refl, ap, sym, ◌∙◌, subst, map, length, get_or, drop, append_assoc, add-one, arith, if◌then◌else◌}
+use Rattle.std.proofs.Common.{◌≡◌, ℕ, suc, ◌+◌, ◌<◌, ◌≤◌, List, [], ◌∷◌, ◌++◌, Bool, true, false, ◌&&◌, ◌||◌, refl, ap, sym, ◌∙◌, subst, map, length, get_or, drop, append_assoc, add-one, arith, Some, slice_get, if◌then◌else◌}
 use Rattle.std.specs.List.{list_any}
 use Rattle.std.specs.Global.{Vec}
 use Rattle.std.proofs.lemmas.List.{drop_more}
+use Rattle.std.proofs.lemmas.Option.{get_or_from_slice_get}
 use Rattle.tc_model.specs.PathStates.{State}
-use Rattle.tc_rules.specs.Rows.{state, states, lists, endings_of, ending, ending_by_states, KnowsEnding, KnowEnding}
-use Rattle.tc_rules.specs.Steps.{ends_true, ends_at, some_ends, ending_from}
+use Rattle.tc_rules.specs.Rows.{state, states, lists, endings_of, ending, ending_by_states, KeepsEndings, AllKeepEndings}
+use Rattle.tc_rules.specs.Steps.{ends_true, ends_at, some_ends, ending_alternatives}
 use Rattle.tc_rules.specs.declared.graph.Graph.{Graph}
 use Rattle.tc_rules.specs.declared.rows.Row.{Row}
 use Rattle.tc_rules.proofs.GraphRows.{left_one}
+use Rattle.tc_rules.proofs.Pieces.{mapped_at}
 use Rattle.tc_rules.proofs.RowSteps.{one_more, map_push, no_end, state_at}
 
 abbrev bits : Vec Bool → List Bool
@@ -17,15 +19,15 @@ bits v = v.items
 -- one alternative more that may end, or none
 module _ (all old now : List ℕ) (xs ys : List (Vec Bool)) (same : ys ≡ xs) (i : ℕ) (h : i < length ys) where
   pub ending_goes : (x : Vec Bool) (items : List Bool) → x ≡ get_or ys i x → items ≡ x.items → now ≡ old ++ (if ends_true items then i ∷ [] else [])
-      → all ≡ old ++ ending_from i (drop i (map bits xs)) → all ≡ now ++ ending_from (i + 1) (drop (i + 1) (map bits xs))
+      → all ≡ old ++ ending_alternatives i (drop i (map bits xs)) → all ≡ now ++ ending_alternatives (i + 1) (drop (i + 1) (map bits xs))
   ending_goes x items e of_x put k =
       let rest : List (List Bool) = drop (i + 1) (map bits xs) in
       let one : List ℕ = if ends_true items then i ∷ [] else [] in
       let left : drop i (map bits xs) ≡ x.items ∷ rest = state_at xs i x (subst (λ (l : List (Vec Bool)). i < length l) same h) (e ∙ ap (λ (l : List (Vec Bool)). get_or l i x) same) in
-      k ∙ (ap (λ w. old ++ ending_from i w) left
-      ∙ (ap (λ w. old ++ ((if ends_true w then i ∷ [] else []) ++ ending_from (suc i) rest)) (sym of_x)
-      ∙ (ap (λ n. old ++ (one ++ ending_from n rest)) (sym (add-one i))
-      ∙ (sym (append_assoc old one (ending_from (i + 1) rest)) ∙ ap (λ w. w ++ ending_from (i + 1) rest) (sym put)))))
+      k ∙ (ap (λ w. old ++ ending_alternatives i w) left
+      ∙ (ap (λ w. old ++ ((if ends_true w then i ∷ [] else []) ++ ending_alternatives (suc i) rest)) (sym of_x)
+      ∙ (ap (λ n. old ++ (one ++ ending_alternatives n rest)) (sym (add-one i))
+      ∙ (sym (append_assoc old one (ending_alternatives (i + 1) rest)) ∙ ap (λ w. w ++ ending_alternatives (i + 1) rest) (sym put)))))
 
 -- some alternative ends where one of those that may does
 one_or_none : (P : ℕ → Bool) (b : Bool) (i : ℕ) (rest : List ℕ) → list_any P ((if b then i ∷ [] else []) ++ rest) ≡ ((b && P i) || list_any P rest)
@@ -40,34 +42,42 @@ twice_none : (a : Bool) → (a && (a && false)) ≡ false
 twice_none true = refl
 twice_none false = refl
 
-ends_told : (P : ℕ → Bool) (i : ℕ) (row fit : State) → ((j : ℕ) → P (i + j) ≡ ends_at row fit j) → some_ends row fit ≡ list_any P (ending_from i row)
+ends_told : (P : ℕ → Bool) (i : ℕ) (row fit : State) → ((j : ℕ) → P (i + j) ≡ ends_at row fit j) → some_ends row fit ≡ list_any P (ending_alternatives i row)
 ends_told P i [] fit h = refl
 ends_told P i (items ∷ row) [] h =
     let at : i ≡ i + 0 = omega arith in
     let here : P i ≡ (ends_true items && false) = ap P at ∙ h 0 in
-    let rest : some_ends row [] ≡ list_any P (ending_from (suc i) row) =
+    let rest : some_ends row [] ≡ list_any P (ending_alternatives (suc i) row) =
     ends_told P (suc i) row [] (λ j. let next : suc i + j ≡ i + suc j = omega arith in ap P next ∙ h (suc j)) in
-    sym (one_or_none P (ends_true items) i (ending_from (suc i) row)
-    ∙ (ap (λ w. (ends_true items && w) || list_any P (ending_from (suc i) row)) here
-    ∙ (ap (λ w. w || list_any P (ending_from (suc i) row)) (twice_none (ends_true items)) ∙ (sym rest ∙ no_end row))))
+    sym (one_or_none P (ends_true items) i (ending_alternatives (suc i) row)
+    ∙ (ap (λ w. (ends_true items && w) || list_any P (ending_alternatives (suc i) row)) here
+    ∙ (ap (λ w. w || list_any P (ending_alternatives (suc i) row)) (twice_none (ends_true items)) ∙ (sym rest ∙ no_end row))))
 ends_told P i (items ∷ row) (f ∷ fit) h =
     let at : i ≡ i + 0 = omega arith in
     let here : P i ≡ (ends_true items && ends_true f) = ap P at ∙ h 0 in
-    let rest : some_ends row fit ≡ list_any P (ending_from (suc i) row) =
+    let rest : some_ends row fit ≡ list_any P (ending_alternatives (suc i) row) =
     ends_told P (suc i) row fit (λ j. let next : suc i + j ≡ i + suc j = omega arith in ap P next ∙ h (suc j)) in
     ap (λ w. (ends_true items && ends_true f) || w) rest
-    ∙ (ap (λ w. w || list_any P (ending_from (suc i) row)) (sym (twice (ends_true items) (ends_true f)))
-    ∙ (ap (λ w. (ends_true items && w) || list_any P (ending_from (suc i) row)) (sym here) ∙ sym (one_or_none P (ends_true items) i (ending_from (suc i) row))))
+    ∙ (ap (λ w. w || list_any P (ending_alternatives (suc i) row)) (sym (twice (ends_true items) (ends_true f)))
+    ∙ (ap (λ w. (ends_true items && w) || list_any P (ending_alternatives (suc i) row)) (sym here) ∙ sym (one_or_none P (ends_true items) i (ending_alternatives (suc i) row))))
 
-pub hits_told : (x fit : State) → some_ends x fit ≡ list_any (ends_at x fit) (ending_from 0 x)
+hits_told : (x fit : State) → some_ends x fit ≡ list_any (ends_at x fit) (ending_alternatives 0 x)
 hits_told x fit = ends_told (ends_at x fit) 0 x fit (λ j. let same : 0 + j ≡ j = omega arith in ap (ends_at x fit) same)
+
+-- so of a graph's state the alternatives tell it that are kept for it
+pub hits_kept : (g : Graph) (i : ℕ) (x fit : State) → KeepsEndings g → slice_get (states g.states.keys) i ≡ Some x → list_any (ends_at x fit) (get_or (ending g) i []) ≡ some_ends x fit
+hits_kept g i x fit known here =
+    let same : ending g ≡ ending_by_states g = known in
+    let asked : get_or (ending g) i [] ≡ ending_alternatives 0 x =
+    ap (λ (w : List (List ℕ)). get_or w i []) same ∙ get_or_from_slice_get (ending_by_states g) i (ending_alternatives 0 x) [] (mapped_at (ending_alternatives 0) (states g.states.keys) i x here) in
+    ap (list_any (ends_at x fit)) asked ∙ sym (hits_told x fit)
 
 pub one_ending : (row fit : State) (xs : List ℕ) (i : ℕ) → i < length xs
     → list_any (ends_at row fit) (drop i xs) ≡ (ends_at row fit (get_or xs i 0) || list_any (ends_at row fit) (drop (i + 1) xs))
 one_ending row fit xs i h = ap (list_any (ends_at row fit)) (drop_more xs i 0 h)
 
 -- one state more
-pub one_state_ending : (all : List (List ℕ)) (old : List (Vec ℕ)) (w : Vec ℕ) (xs : List Row) (i : ℕ) (x : Row) → i < length xs → x ≡ get_or xs i x → w.items ≡ ending_from 0 (state x)
+pub one_state_ending : (all : List (List ℕ)) (old : List (Vec ℕ)) (w : Vec ℕ) (xs : List Row) (i : ℕ) (x : Row) → i < length xs → x ≡ get_or xs i x → w.items ≡ ending_alternatives 0 (state x)
     → all ≡ lists old ++ endings_of (states (drop i xs)) → all ≡ lists (old ++ w ∷ []) ++ endings_of (states (drop (i + 1) xs))
 one_state_ending all old w xs i x h e is k =
     one_more all (lists old) _ _ _ w.items (map_push (λ (v : Vec ℕ). v.items) old w)
@@ -78,8 +88,8 @@ none_ends P [] h = refl
 none_ends P (x ∷ xs) h = absurd (omega (arith, h))
 
 -- one graph more
-pub know_more : (old new : List Graph) (g : Graph) → new ≡ old ++ g ∷ [] → KnowEnding old → KnowsEnding g → KnowEnding new
+pub know_more : (old new : List Graph) (g : Graph) → new ≡ old ++ g ∷ [] → AllKeepEndings old → KeepsEndings g → AllKeepEndings new
 know_more old new g put so_far here =
-    subst KnowEnding (sym put)
+    subst AllKeepEndings (sym put)
     (map_push ending old g
     ∙ (ap (λ w. w ++ ending g ∷ []) so_far ∙ (ap (λ w. map ending_by_states old ++ w ∷ []) here ∙ sym (map_push ending_by_states old g))))

@@ -12,7 +12,7 @@ use Rattle.tc_model.specs.PathStates.{Items, State, same_state}
 use Rattle.tc_model.proofs.ViewsPath.{left_step, left_alternative}
 use Rattle.tc_rules.specs.Once.{put_all}
 use Rattle.tc_rules.specs.Reached.{AreAlike, leads_by_class, number_in}
-use Rattle.tc_rules.specs.Steps.{first_or_false, after_first, further, first_or_none, after_alternative, next_state, has_step, both_items, both_states, moving_items, moving_from, bit_at, all_same, are_alike}
+use Rattle.tc_rules.specs.Steps.{first_or_false, after_first, further, first_or_none, after_alternative, next_state, has_step, both_items, both_states, moving_items, moving_from, value_at, all_same, are_alike}
 use Rattle.tc_rules.proofs.GraphRows.{left_one}
 use Rattle.tc_rules.proofs.Numbering.{AreThere, put_joined, put_absorbed, put_all_there}
 use Rattle.tc_rules.proofs.Pieces.{mapped_at, there_one}
@@ -116,7 +116,7 @@ module _ (f g : ℕ × ℕ → Bool) where
 
 pub sets_alike : (p : Path) (fits row m o : State) (places : List (ℕ × ℕ)) → places ≡ moving_from 0 p fits row → are_alike places m o ≡ true → next_state p (both_states fits m) row ≡ next_state p (both_states fits o) row
 sets_alike p fits row m o places is e =
-    paths_alike (bit_at m) (bit_at o) 0 p fits m o row (λ i j. let same : 0 + i ≡ i = omega arith in ap (λ n. bit_at m (n, j)) same) (λ i j. let same : 0 + i ≡ i = omega arith in ap (λ n. bit_at o (n, j)) same)
+    paths_alike (value_at m) (value_at o) 0 p fits m o row (λ i j. let same : 0 + i ≡ i = omega arith in ap (λ n. value_at m (n, j)) same) (λ i j. let same : 0 + i ≡ i = omega arith in ap (λ n. value_at o (n, j)) same)
     (subst (λ w. are_alike w m o ≡ true) is e)
 
 -- one state more, or none
@@ -138,11 +138,11 @@ below_number b n low e =
 
 -- the loops that gather places, and that compare at them
 pub one_place : (x y : State) (places : List (ℕ × ℕ)) (i : ℕ) (at : ℕ × ℕ) → i < length places → at ≡ get_or places i at
-    → are_alike (drop i places) x y ≡ (same_truth (bit_at x at) (bit_at y at) && are_alike (drop (i + 1) places) x y)
+    → are_alike (drop i places) x y ≡ (same_truth (value_at x at) (value_at y at) && are_alike (drop (i + 1) places) x y)
 one_place x y places i at h e = ap (λ w. are_alike w x y) (left_one places i at h e)
 
 pub first_place : (x y : State) (places : List (ℕ × ℕ)) (i : ℕ) → i < length places
-    → are_alike (drop i places) x y ≡ (same_truth (bit_at x (get_or places i (0, 0))) (bit_at y (get_or places i (0, 0))) && are_alike (drop (i + 1) places) x y)
+    → are_alike (drop i places) x y ≡ (same_truth (value_at x (get_or places i (0, 0))) (value_at y (get_or places i (0, 0))) && are_alike (drop (i + 1) places) x y)
 first_place x y places i h = ap (λ w. are_alike w x y) (drop_more places i (0, 0) h)
 
 pub step_placed : (all old now : List (ℕ × ℕ)) (a : ℕ) (fits items : Items) (xs : List Step) (k : ℕ) (moves : Bool) → k < length xs

@@ -5,7 +5,7 @@ use Rattle.tc_model.specs.Symbols.{Mention}
 use Rattle.tc_model.specs.Numberings.{moves_of, looks_of}
 use Rattle.tc_model.specs.Sheets.{Rule}
 use Rattle.tc_rules.specs.Graphs.{Graph}
-use Rattle.tc_rules.specs.Rows.{graph, graphs, KnowEnding}
+use Rattle.tc_rules.specs.Rows.{graph, graphs, AllKeepEndings}
 use Rattle.tc_rules.specs.Jobs.{AreJobs}
 use Rattle.tc_rules.specs.Views as seen
 use Rattle.tc_rules.specs.RulesView.{RulesView, IsTold, count_states}
@@ -34,6 +34,7 @@ pub record IsRulesOf (symbols : List Mention) (r : Rules) : Type 0 where
   pub starts : (i : ℕ) → i < length r.graphs.items + 1 → slice_get r.starts.items i ≡ Some (count_states (take i (told r).selects))
   -- where each select state stands
   pub places : (i : ℕ) (g : Graph) (j : ℕ) → slice_get (told r).selects i ≡ Some g → j < length g.states → slice_get r.selects.items (count_states (take i (told r).selects) + j) ≡ Some (record { graph = i; state = j })
-  pub ending : KnowEnding r.graphs.items
+  -- each graph of select states keeps the alternatives that may end at its states; that of ancestor states is asked rule by rule, and keeps them unread
+  pub ending : AllKeepEndings r.graphs.items
   -- the numbers of the rules of each mode, in order
   pub modes : (m : ℕ) → m < r.sheet.modes → slice_get (map (λ w. w.items) r.modes.items) m ≡ Some (numbers_in_mode m 0 (told r).sheet.rules)

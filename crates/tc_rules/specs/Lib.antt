@@ -9,6 +9,7 @@ pub mod Faults
 pub mod Asked
 pub mod Steps
 pub mod Kept
+pub mod KnownRules
 pub mod Eaches
 pub mod Usages
 pub mod Gathered

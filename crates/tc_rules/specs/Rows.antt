@@ -3,7 +3,7 @@ use Rattle.std.specs.Prelude.{◌≡◌, ℕ, List, map, Option}
 use Rattle.std.specs.Global.{Vec}
 use Rattle.tc_model.specs.PathStates.{State}
 use Rattle.tc_rules.specs.Graphs as g
-use Rattle.tc_rules.specs.Steps.{both_states, ending_from}
+use Rattle.tc_rules.specs.Steps.{both_states, ending_alternatives}
 use Rattle.tc_rules.specs.declared.rows.Row.{Row}
 use Rattle.tc_rules.specs.declared.graph.Graph.{Graph}
 use Rattle.tc_rules.specs.declared.graph.Leads.{Leads}
@@ -50,9 +50,9 @@ graph x = record {
   next = leads_of_states (states x.letters.marked.items) x.next.items;
 }
 
--- the alternatives of which all steps but the last may have been taken: those that a graph keeps for its states are theirs
+-- the alternatives of which all steps but the last may have been taken, for each state: those that a graph keeps, and those of its states
 abbrev pub endings_of : List State → List (List ℕ)
-endings_of xs = map (ending_from 0) xs
+endings_of xs = map (ending_alternatives 0) xs
 
 abbrev pub ending : Graph → List (List ℕ)
 ending x = lists x.ending.items
@@ -60,11 +60,12 @@ ending x = lists x.ending.items
 abbrev pub ending_by_states : Graph → List (List ℕ)
 ending_by_states x = endings_of (states x.states.keys)
 
-abbrev pub KnowsEnding : Graph → Type 0
-KnowsEnding x = ending x ≡ ending_by_states x
+-- they are the same: of one graph, and of each of these
+abbrev pub KeepsEndings : Graph → Type 0
+KeepsEndings x = ending x ≡ ending_by_states x
 
-abbrev pub KnowEnding : List Graph → Type 0
-KnowEnding xs = map ending xs ≡ map ending_by_states xs
+abbrev pub AllKeepEndings : List Graph → Type 0
+AllKeepEndings xs = map ending xs ≡ map ending_by_states xs
 
 abbrev pub graphs : List Graph → List g.Graph
 graphs xs = map graph xs

@@ -101,7 +101,8 @@ abbrev pub some_item_waits : Path → State → Bool
 some_item_waits no_alternative row = false
 some_item_waits (alternative ss p) row = item_waits ss (first_or_none row) || some_item_waits p (after_alternative row)
 
--- the places, by alternative and by step, from which items move on, from an alternative and a step on
+-- the places, by alternative and by step, from which items move on where these steps fit, counted on from an alternative and a step: `fits` may be
+-- by node tests alone, whatever predicates hold
 abbrev pub moving_items : ℕ → ℕ → Steps → Items → Items → List (ℕ × ℕ)
 moving_items a k no_step fits items = []
 moving_items a k (step deep test when ss) fits items =
@@ -112,15 +113,15 @@ moving_from a no_alternative fits row = []
 moving_from a (alternative ss p) fits row = moving_items a 0 ss (first_or_none fits) (first_or_none row) ++ moving_from (suc a) p (after_alternative fits) (after_alternative row)
 
 -- what stands at a place, and whether the same stands at all of some places
-abbrev pub bit_at : State → ℕ × ℕ → Bool
-bit_at x at = get_or (get_or x at.0 []) at.1 false
+abbrev pub value_at : State → ℕ × ℕ → Bool
+value_at x at = get_or (get_or x at.0 []) at.1 false
 
 abbrev pub all_same : (ℕ × ℕ → Bool) → (ℕ × ℕ → Bool) → List (ℕ × ℕ) → Bool
 all_same f g [] = true
 all_same f g (at ∷ places) = same_truth (f at) (g at) && all_same f g places
 
 abbrev pub are_alike : List (ℕ × ℕ) → State → State → Bool
-are_alike places x y = all_same (bit_at x) (bit_at y) places
+are_alike places x y = all_same (value_at x) (value_at y) places
 
 -- what both have
 abbrev pub both_items : Items → Items → Items
@@ -145,10 +146,10 @@ some_ends [] fits = false
 some_ends (items ∷ row) [] = false
 some_ends (items ∷ row) (f ∷ fits) = (ends_true items && ends_true f) || some_ends row fits
 
--- the numbers, from one on, of the alternatives of which all steps but the last may have been taken
-abbrev pub ending_from : ℕ → State → List ℕ
-ending_from i [] = []
-ending_from i (items ∷ row) = (if ends_true items then i ∷ [] else []) ++ ending_from (suc i) row
+-- the numbers of the alternatives of which all steps but the last may have been taken, counted on from a number
+abbrev pub ending_alternatives : ℕ → State → List ℕ
+ending_alternatives i [] = []
+ending_alternatives i (items ∷ row) = (if ends_true items then i ∷ [] else []) ++ ending_alternatives (suc i) row
 
 -- no step is taken: the items that are left, the first of them being left too or not
 abbrev pub items_left : Bool → Steps → Items

@@ -15,7 +15,7 @@ ghost use Rattle.tc_rules.specs.Once.{put_once, put_all};
 ghost use Rattle.tc_rules.specs.Reached.{AreAlike, counted, leads_by, leads_by_class, leads_of, rounds, number_in, numbers_by, all_numbers_by, AreReached};
 ghost use Rattle.tc_rules.specs.Rows as seen;
 ghost use Rattle.tc_rules.specs.Views.{predicates};
-ghost use Rattle.tc_rules.specs.Steps.{both_states, path_having, next_state, some_item_waits, ends_at};
+ghost use Rattle.tc_rules.specs.Steps.{both_states, path_having, next_state, some_item_waits, ends_at, some_ends};
 
 use crate::rows::{
     Row, Sought, first_alike, first_row, moving_places, next_row, no_fits, row_having,
@@ -443,7 +443,7 @@ impl<'a, 'b> Source<'a, 'b> {
         requires most { most < 2 ^ 32 }
         ensures graph { IfOk result (λ g. (symbols : List Mention) → IsSourceOf symbols self.now → IsGraphOf symbols (predicates self.now.predicates.items) (counted counts) (see.alternatives path.now) (seen.graph g)) }
         ensures few { IfOk result (λ g. length (seen.graph g).states ≤ most) }
-        ensures ending { IfOk result (λ g. seen.KnowsEnding g) }
+        ensures ending { IfOk result (λ g. seen.KeepsEndings g) }
         ensures many { IsErrOf result GraphFault.TooManyStates → (symbols : List Mention) → IsSourceOf symbols self.now → (m : ℕ) × (most < length (n.rounds (counted counts) (p.next_state symbols (predicates self.now.predicates.items) (see.alternatives path.now)) (n.letters_of_elements symbols (predicates self.now.predicates.items)) m (filter (counted counts) (first_state (see.alternatives path.now) ∷ [])))) }
     {
         let letters = self.letters(path)?;
@@ -490,7 +490,7 @@ fn worth_looking_at(marked: &[Row], moves: bool, found: bool) -> &[Row]
     }
 }
 
-/// Whether none before a number was found.
+/// False only where one before a number was found.
 fn is_first(before: usize, number: usize) -> bool
     requires { before ≤ number }
     ensures { result ≡ false → before < number }
@@ -498,7 +498,7 @@ fn is_first(before: usize, number: usize) -> bool
     before == number
 }
 
-/// What stands in a list, if it is as long.
+/// What stands at a place of a list, or nothing behind its end.
 fn known_at(leads: &[Option<u32>], place: usize) -> Option<Option<u32>>
     ensures { result ≡ slice_get leads.now place }
 {
@@ -659,9 +659,9 @@ impl Graph {
         }
     }
 
-    /// Whether a node of a letter below a state is a hit, by one of the alternatives that may end there.
+    /// Whether a node of a letter below a state is a hit, by some alternative.
     pub(crate) fn hits(&self, number: u32, symbol: Option<u32>, marks: u32) -> bool
-        ensures { (x fit : State) → slice_get (seen.graph self.now).states number ≡ Some x → fits_at (seen.graph self.now) (record { kind = kind_at symbol; marks = marks }) ≡ Some fit → result ≡ list_any (ends_at x fit) (get_or (seen.ending self.now) number []) }
+        ensures { seen.KeepsEndings self.now → (x fit : State) → slice_get (seen.graph self.now).states number ≡ Some x → fits_at (seen.graph self.now) (record { kind = kind_at symbol; marks = marks }) ≡ Some fit → result ≡ some_ends x fit }
     {
         let ending = self.ending_at(number);
         if ending.is_empty() {

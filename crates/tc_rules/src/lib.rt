@@ -7,6 +7,7 @@
 
 mod gather;
 mod graph;
+mod known_rules;
 pub mod laws;
 mod once;
 mod rows;
@@ -14,5 +15,6 @@ mod rules;
 mod same;
 mod walk;
 
+pub use known_rules::KnownRules;
 pub use rules::{Found, Kind, Marks, Rules, RulesFault};
 pub use walk::Job;

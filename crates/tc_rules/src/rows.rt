@@ -316,14 +316,14 @@ fn are_alike(places: &[(usize, usize)], row: &Row, other: &Row) -> bool
     ensures { result ≡ v.are_alike places.now (state row.now) (state other.now) }
 {
     for at in places {
-        if !are_same(row.bit_at(*at), other.bit_at(*at)) {
+        if !are_same(row.value_at(*at), other.value_at(*at)) {
             return false;
         }
     }
     true
 }
 
-/// The first set of predicates that has the same as one at some places, by its number.
+/// A set of predicates that has the same as one at some places, by its number: the first, or the one itself.
 pub(crate) fn first_alike(places: &[(usize, usize)], marked: &[Row], number: usize) -> usize
     requires { number < length marked.now }
     ensures within { result ≤ number }
@@ -438,8 +438,8 @@ impl Row {
     }
 
     /// The value at a place.
-    fn bit_at(&self, at: (usize, usize)) -> bool
-        ensures { result ≡ v.bit_at (state self.now) at }
+    fn value_at(&self, at: (usize, usize)) -> bool
+        ensures { result ≡ v.value_at (state self.now) at }
     {
         bit(self.items_or_none(at.0), at.1)
     }
@@ -484,7 +484,7 @@ impl Row {
 
     /// The alternatives of which all steps but the last may have been taken.
     pub(crate) fn ending(&self, alloc: Global) -> Result<Vec<usize>, NoMemory>
-        ensures { IfOk result (λ w. w.items ≡ v.ending_from 0 (state self.now)) }
+        ensures { IfOk result (λ w. w.items ≡ v.ending_alternatives 0 (state self.now)) }
     {
         let mut ending = Vec::new(alloc);
         for (i, items) in self.alternatives.iter().enumerate() {

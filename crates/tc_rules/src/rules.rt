@@ -16,7 +16,7 @@ ghost use Rattle.tc_rules.specs.Asked.{found, kind as see_kind, letter};
 ghost use Rattle.tc_rules.specs.Classes.{IsSourceOf};
 ghost use Rattle.tc_rules.specs.Graphs.{kind_at, IsGraphOf};
 ghost use Rattle.tc_rules.specs.Picked.{better, is_root_at, outranks};
-ghost use Rattle.tc_rules.specs.Rows.{KnowEnding, KnowsEnding, graph as see_graph, graphs as see_graphs};
+ghost use Rattle.tc_rules.specs.Rows.{AllKeepEndings, KeepsEndings, graph as see_graph, graphs as see_graphs};
 ghost use Rattle.tc_rules.specs.Selects.{AreGraphs, IsAncestorCause, IsNextCause, IsSelectCause, first_from, paths_of, selects_from, starts_from};
 ghost use Rattle.tc_rules.specs.Faults.{IsCause};
 ghost use Rattle.tc_model.specs.StateCounts.{PassNone};
@@ -107,7 +107,7 @@ pub struct Rules<'b> {
     looks: Vec<&'b Path<'b>>,
     eaches: Vec<&'b [Instr<'b>]>,
     /// The numbers of the rules of each mode.
-    modes: Vec<Vec<u32>>,
+    pub(crate) modes: Vec<Vec<u32>>,
     above: Graph,
     graphs: Vec<Graph>,
     selects: Vec<Select>,
@@ -527,7 +527,7 @@ fn states_of(
     ensures few_above { IfOk result (λ t. length (see_graph t.above).states ≤ 64) }
     ensures graphs { IfOk result (λ t. (symbols : List Mention) → IsSourceOf symbols source.now → AreGraphs symbols (predicates source.now.predicates.items) (map (λ m. see.path m.path.now) moves.now ++ see_paths looks.now) (see_graphs t.graphs.items)) }
     ensures few { IfOk result (λ t. count_states (see_graphs t.graphs.items) ≤ 4096) }
-    ensures ending { IfOk result (λ t. KnowEnding t.graphs.items) }
+    ensures ending { IfOk result (λ t. AllKeepEndings t.graphs.items) }
     ensures selects { IfOk result (λ t. t.selects.items ≡ selects_from 0 (see_graphs t.graphs.items)) }
     ensures starts { IfOk result (λ t. t.starts.items ≡ starts_from 0 (see_graphs t.graphs.items)) }
     ensures cause { IfErr result (λ e. (symbols : List Mention) → IsSourceOf symbols source.now → predicates source.now.predicates.items ≡ n.predicates_of (see.sheet sheet.now) → length (n.predicates_of (see.sheet sheet.now)) ≤ 6 →
@@ -590,7 +590,7 @@ fn graphs_of(source: &Source<'_, '_>, paths: &[&Path<'_>]) -> Result<Vec<Graph>,
     requires { source.now.sets ≡ 2 ^ length source.now.predicates.items }
     ensures graphs { IfOk result (λ v. (symbols : List Mention) → IsSourceOf symbols source.now → AreGraphs symbols (predicates source.now.predicates.items) (see_paths paths.now) (see_graphs v.items)) }
     ensures few { IfOk result (λ v. count_states (see_graphs v.items) ≤ 4096) }
-    ensures ending { IfOk result (λ v. KnowEnding v.items) }
+    ensures ending { IfOk result (λ v. AllKeepEndings v.items) }
     ensures cause { IfErr result (λ e. IsSelectCause source.now (see_paths paths.now) e) }
 {
     let mut graphs = Vec::new(source.alloc);
@@ -617,7 +617,7 @@ fn next_graph(source: &Source<'_, '_>, path: &Path<'_>, left: usize) -> Result<G
     requires few { left ≤ 4096 }
     ensures graph { IfOk result (λ g. (symbols : List Mention) → IsSourceOf symbols source.now → IsGraphOf symbols (predicates source.now.predicates.items) some_item (see.path path.now) (see_graph g)) }
     ensures few { IfOk result (λ g. length (see_graph g).states ≤ left) }
-    ensures ending { IfOk result (λ g. KnowsEnding g) }
+    ensures ending { IfOk result (λ g. KeepsEndings g) }
     ensures cause { IfErr result (λ e. IsNextCause source.now (see.path path.now) left e) }
 {
     match source.graph(path.alts, Counts::SomeItem, left) {

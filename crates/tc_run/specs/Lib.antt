@@ -4,7 +4,6 @@ pub mod Running
 pub mod Tasks
 pub mod Spent
 pub mod Limits
-pub mod Known
 pub mod Named
 pub mod Predicates
 pub mod Lawful

@@ -18,23 +18,21 @@ ghost use Rattle.tc_rules.specs.Jobs.{IsJob};
 ghost use Rattle.tc_rules.specs.Views.{mode_of};
 ghost use Rattle.tc_rules.specs.States.{Chosen, Going, built_in_at, plain_of};
 ghost use Rattle.tc_rules.specs.RulesView.{ancestor};
-ghost use Rattle.tc_run.specs.Known.{AreKnown};
 ghost use Rattle.tc_run.specs.Lettered as l;
 ghost use Rattle.tc_rules.specs.Parts.{IsPart, ArePartBranches};
-ghost use Rattle.tc_run.specs.Running.{IsRunner, IsLetteredBy, HasBodies, told_by, sheet_by, symbols_by, predicates_by, machine, looking};
+ghost use Rattle.tc_run.specs.Running.{AreFoundBy, IsRunner, IsLetteredBy, HasBodies, told_by, sheet_by, symbols_by, predicates_by, machine, looking};
 ghost use Rattle.tc_run.specs.Views.{trees, before, node, IsContext};
 ghost use Rattle.tc_run.specs.Spent.{Answers};
 ghost use Rattle.tc_rules.specs.Tasks.{IsTaskOf, IsMoveAt, IsSomeMove, going_from, looking_from};
 ghost use Rattle.tc_run.specs.Tasks.{IsMeantBy, IsPartTemplate, built_in as built_in_of, does, outputs_on};
 
 use crate::RunFault;
-use crate::known_rules::KnownRules;
 use crate::letters::{Letter, Lettered};
 use crate::looks::{first_hit, holds};
 use crate::output::{Output, deeper};
 use crate::runner::Runner;
 use tc_model::{Branch, Instr, Name, NodeTest, Path, Step, Test};
-use tc_rules::{Found, Job, Kind, Marks};
+use tc_rules::{Found, Job, Kind, KnownRules, Marks};
 
 /// All children of a node.
 static ALL_CHILDREN: Path<'static> = Path {
@@ -82,15 +80,15 @@ pub(crate) fn root<'b>(
     nodes: &'b [Lettered<'b>],
     string: &'b str,
     output: &mut Output<'b>,
-    known: &mut KnownRules<'_>,
+    known: &mut KnownRules,
 ) -> Result<(), RunFault>
     requires runner { IsRunner runner.now }
     requires nodes { IsLetteredBy runner.now (trees nodes.now) }
     requires string { string.now ≡ c.joined_texts (l.bare (trees nodes.now)) }
     requires work { output.old.work ≤ 4000000 }
-    requires known { AreKnown runner.now.rules.now known.old }
+    requires known { AreFoundBy runner.now known.old }
     ensures few { OnOk result (output.new.work ≤ 4000000) }
-    ensures known { AreKnown runner.now.rules.now known.new }
+    ensures known { AreFoundBy runner.now known.new }
     ensures outcome { (bodies : List CallFreeBody) → HasBodies runner.now bodies → Answers 0 output.old output.new result
         (counted (does_at (machine runner.now bodies) ((machine runner.now bodies).root_body (in_mode 0)) (c.top (l.bare (trees nodes.now))))) }
 {
@@ -123,18 +121,18 @@ fn template_of<'b>(runner: &Runner<'_, 'b>, mode: u32, found: Found) -> Template
 /// What is to be done on a node of a letter.
 fn template_for<'b>(
     runner: &Runner<'_, 'b>,
-    known: &mut KnownRules<'_>,
+    known: &mut KnownRules,
     job: Job,
     above: u32,
     kind: Kind,
     marks: Marks,
 ) -> Template<'b>
     requires runner { IsRunner runner.now }
-    requires known { AreKnown runner.now.rules.now known.old }
+    requires known { AreFoundBy runner.now known.old }
     requires job { IsJob (sheet_by runner.now) job }
     requires above { above < length (told_by runner.now).ancestors.states }
     requires letter { letters.IsLetter (symbols_by runner.now) (predicates_by runner.now) (see_letter kind marks) }
-    ensures known { AreKnown runner.now.rules.now known.new }
+    ensures known { AreFoundBy runner.now known.new }
     ensures part { IsPartTemplate (sheet_by runner.now) result }
     ensures meant { (bodies : List CallFreeBody) (n : c.Node) (k : CallFreeJob) → HasBodies runner.now bodies → IsTaskOf (sheet_by runner.now) (mode_of (sheet_by runner.now).modes job) k →
         ((m : ℕ) → built_in_at m (see_letter kind marks).kind ≡ built_in_of m n) →
@@ -157,16 +155,16 @@ fn instantiate<'b>(
     here: &Context<'b>,
     nesting: u32,
     output: &mut Output<'b>,
-    known: &mut KnownRules<'_>,
+    known: &mut KnownRules,
 ) -> Result<(), RunFault>
     requires runner { IsRunner runner.now }
     requires here { IsContext runner.now here.now }
     requires meant { IsPartTemplate (sheet_by runner.now) meant }
     requires nesting { nesting ≤ 8000 }
     requires work { output.old.work ≤ 4000000 }
-    requires known { AreKnown runner.now.rules.now known.old }
+    requires known { AreFoundBy runner.now known.old }
     ensures few { OnOk result (output.new.work ≤ 4000000) }
-    ensures known { AreKnown runner.now.rules.now known.new }
+    ensures known { AreFoundBy runner.now known.new }
     ensures outcome { (bodies : List CallFreeBody) (p : CallFreeBody) → HasBodies runner.now bodies → IsMeantBy (sheet_by runner.now).named (node here.now) meant.entry p → Answers nesting output.old output.new result
         (counted (does runner.now bodies p here.now)) }
 {
@@ -186,16 +184,16 @@ fn built_in<'b>(
     here: &Context<'b>,
     nesting: u32,
     output: &mut Output<'b>,
-    known: &mut KnownRules<'_>,
+    known: &mut KnownRules,
 ) -> Result<(), RunFault>
     requires runner { IsRunner runner.now }
     requires here { IsContext runner.now here.now }
     requires mode { mode < (sheet_by runner.now).modes }
     requires nesting { nesting ≤ 8000 }
     requires work { output.old.work ≤ 4000000 }
-    requires known { AreKnown runner.now.rules.now known.old }
+    requires known { AreFoundBy runner.now known.old }
     ensures few { OnOk result (output.new.work ≤ 4000000) }
-    ensures known { AreKnown runner.now.rules.now known.new }
+    ensures known { AreFoundBy runner.now known.new }
     ensures outcome { (bodies : List CallFreeBody) → HasBodies runner.now bodies → Answers nesting output.old output.new result
         (does runner.now bodies (built_in_of mode (node here.now)) here.now) }
 {
@@ -217,16 +215,16 @@ fn body<'b>(
     here: &Context<'b>,
     nesting: u32,
     output: &mut Output<'b>,
-    known: &mut KnownRules<'_>,
+    known: &mut KnownRules,
 ) -> Result<(), RunFault>
     requires runner { IsRunner runner.now }
     requires here { IsContext runner.now here.now }
     requires part { IsPart (sheet_by runner.now) (see.body body.now) }
     requires nesting { nesting ≤ 8000 }
     requires work { output.old.work ≤ 4000000 }
-    requires known { AreKnown runner.now.rules.now known.old }
+    requires known { AreFoundBy runner.now known.old }
     ensures few { OnOk result (output.new.work ≤ 4000000) }
-    ensures known { AreKnown runner.now.rules.now known.new }
+    ensures known { AreFoundBy runner.now known.new }
     ensures outcome { (bodies : List CallFreeBody) (p : CallFreeBody) → HasBodies runner.now bodies → Inlines (sheet_by runner.now).named (see.body body.now) p → Answers nesting output.old output.new result
         (does runner.now bodies p here.now) }
 {
@@ -244,16 +242,16 @@ fn instruction<'b>(
     here: &Context<'b>,
     nesting: u32,
     output: &mut Output<'b>,
-    known: &mut KnownRules<'_>,
+    known: &mut KnownRules,
 ) -> Result<(), RunFault>
     requires runner { IsRunner runner.now }
     requires here { IsContext runner.now here.now }
     requires part { IsPart (sheet_by runner.now) (see.instruction instruction.now no_instruction) }
     requires nesting { nesting ≤ 8000 }
     requires work { output.old.work ≤ 4000000 }
-    requires known { AreKnown runner.now.rules.now known.old }
+    requires known { AreFoundBy runner.now known.old }
     ensures few { OnOk result (output.new.work ≤ 4000000) }
-    ensures known { AreKnown runner.now.rules.now known.new }
+    ensures known { AreFoundBy runner.now known.new }
     ensures outcome { (bodies : List CallFreeBody) (p : CallFreeBody) → HasBodies runner.now bodies → Inlines (sheet_by runner.now).named (see.instruction instruction.now no_instruction) p → Answers nesting output.old output.new result
         (does runner.now bodies p here.now) }
 {
@@ -301,16 +299,16 @@ fn put_element<'b>(
     here: &Context<'b>,
     nesting: u32,
     output: &mut Output<'b>,
-    known: &mut KnownRules<'_>,
+    known: &mut KnownRules,
 ) -> Result<(), RunFault>
     requires runner { IsRunner runner.now }
     requires here { IsContext runner.now here.now }
     requires part { IsPart (sheet_by runner.now) (see.body inner.now) }
     requires nesting { nesting ≤ 8000 }
     requires work { output.old.work ≤ 4000000 }
-    requires known { AreKnown runner.now.rules.now known.old }
+    requires known { AreFoundBy runner.now known.old }
     ensures few { OnOk result (output.new.work ≤ 4000000) }
-    ensures known { AreKnown runner.now.rules.now known.new }
+    ensures known { AreFoundBy runner.now known.new }
     ensures outcome { (bodies : List CallFreeBody) (p : CallFreeBody) → HasBodies runner.now bodies → Inlines (sheet_by runner.now).named (see.body inner.now) p → Answers nesting output.old output.new result
         (put_around (see.name name.entry) (does runner.now bodies p here.now)) }
 {
@@ -327,16 +325,16 @@ fn copy<'b>(
     here: &Context<'b>,
     nesting: u32,
     output: &mut Output<'b>,
-    known: &mut KnownRules<'_>,
+    known: &mut KnownRules,
 ) -> Result<(), RunFault>
     requires runner { IsRunner runner.now }
     requires here { IsContext runner.now here.now }
     requires part { IsPart (sheet_by runner.now) (see.body inner.now) }
     requires nesting { nesting ≤ 8000 }
     requires work { output.old.work ≤ 4000000 }
-    requires known { AreKnown runner.now.rules.now known.old }
+    requires known { AreFoundBy runner.now known.old }
     ensures few { OnOk result (output.new.work ≤ 4000000) }
-    ensures known { AreKnown runner.now.rules.now known.new }
+    ensures known { AreFoundBy runner.now known.new }
     ensures outcome { (bodies : List CallFreeBody) (p : CallFreeBody) → HasBodies runner.now bodies → Inlines (sheet_by runner.now).named (see.body inner.now) p → Answers nesting output.old output.new result
         (copied (node here.now) (does runner.now bodies p here.now)) }
 {
@@ -392,16 +390,16 @@ fn selected<'b>(
     here: &Context<'b>,
     nesting: u32,
     output: &mut Output<'b>,
-    known: &mut KnownRules<'_>,
+    known: &mut KnownRules,
 ) -> Result<(), RunFault>
     requires runner { IsRunner runner.now }
     requires here { IsContext runner.now here.now }
     requires path { Contains (moves_of (sheet_by runner.now)) (record { path = see.path path.now; mode = mode_of (sheet_by runner.now).modes job }) }
     requires nesting { nesting ≤ 8000 }
     requires work { output.old.work ≤ 4000000 }
-    requires known { AreKnown runner.now.rules.now known.old }
+    requires known { AreFoundBy runner.now known.old }
     ensures few { OnOk result (output.new.work ≤ 4000000) }
-    ensures known { AreKnown runner.now.rules.now known.new }
+    ensures known { AreFoundBy runner.now known.new }
     ensures outcome { (bodies : List CallFreeBody) (k : CallFreeJob) → HasBodies runner.now bodies → IsTaskOf (sheet_by runner.now) (mode_of (sheet_by runner.now).modes job) k → Answers nesting output.old output.new result
         (outputs_on runner.now bodies (c.children (node here.now)) here.now.above (going_from k (see.path path.now))) }
 {
@@ -420,7 +418,7 @@ fn apply_to_trees<'b>(
     state: u32,
     nesting: u32,
     output: &mut Output<'b>,
-    known: &mut KnownRules<'_>,
+    known: &mut KnownRules,
 ) -> Result<(), RunFault>
     requires runner { IsRunner runner.now }
     requires nodes { IsLetteredBy runner.now (trees nodes.now) }
@@ -428,9 +426,9 @@ fn apply_to_trees<'b>(
     requires state { IsSomeMove (told_by runner.now) state }
     requires nesting { nesting ≤ 8000 }
     requires work { output.old.work ≤ 4000000 }
-    requires known { AreKnown runner.now.rules.now known.old }
+    requires known { AreFoundBy runner.now known.old }
     ensures few { OnOk result (output.new.work ≤ 4000000) }
-    ensures known { AreKnown runner.now.rules.now known.new }
+    ensures known { AreFoundBy runner.now known.new }
     ensures outcome { (bodies : List CallFreeBody) (g : Going) → HasBodies runner.now bodies → IsMoveAt (told_by runner.now) state g → Answers nesting output.old output.new result
         (outputs_on runner.now bodies (l.bare (trees nodes.now)) above g) }
 {
@@ -449,7 +447,7 @@ fn apply_to_tree<'b>(
     state: u32,
     nesting: u32,
     output: &mut Output<'b>,
-    known: &mut KnownRules<'_>,
+    known: &mut KnownRules,
 ) -> Result<(), RunFault>
     requires runner { IsRunner runner.now }
     requires node { IsLetteredBy runner.now (before node.now l.none) }
@@ -457,9 +455,9 @@ fn apply_to_tree<'b>(
     requires state { IsSomeMove (told_by runner.now) state }
     requires nesting { nesting ≤ 8000 }
     requires work { output.old.work ≤ 4000000 }
-    requires known { AreKnown runner.now.rules.now known.old }
+    requires known { AreFoundBy runner.now known.old }
     ensures few { OnOk result (output.new.work ≤ 4000000) }
-    ensures known { AreKnown runner.now.rules.now known.new }
+    ensures known { AreFoundBy runner.now known.new }
     ensures outcome { (bodies : List CallFreeBody) (g : Going) → HasBodies runner.now bodies → IsMoveAt (told_by runner.now) state g → Answers nesting output.old output.new result
         (outputs_on runner.now bodies (l.bare (before node.now l.none)) above g) }
 {
@@ -495,7 +493,7 @@ fn apply_to_text<'b>(
     state: u32,
     nesting: u32,
     output: &mut Output<'b>,
-    known: &mut KnownRules<'_>,
+    known: &mut KnownRules,
 ) -> Result<(), RunFault>
     requires runner { IsRunner runner.now }
     requires marks { see_letter Kind.Text marks ≡ letters.letter_of (symbols_by runner.now) (predicates_by runner.now) (c.a_text text.now) }
@@ -503,9 +501,9 @@ fn apply_to_text<'b>(
     requires state { IsSomeMove (told_by runner.now) state }
     requires nesting { nesting ≤ 8000 }
     requires work { output.old.work ≤ 4000000 }
-    requires known { AreKnown runner.now.rules.now known.old }
+    requires known { AreFoundBy runner.now known.old }
     ensures few { OnOk result (output.new.work ≤ 4000000) }
-    ensures known { AreKnown runner.now.rules.now known.new }
+    ensures known { AreFoundBy runner.now known.new }
     ensures outcome { (bodies : List CallFreeBody) (g : Going) → HasBodies runner.now bodies → IsMoveAt (told_by runner.now) state g → Answers nesting output.old output.new result
         (outputs_on runner.now bodies (t.text text.now t.none) above g) }
 {
@@ -533,7 +531,7 @@ fn apply_to_element<'b>(
     state: u32,
     nesting: u32,
     output: &mut Output<'b>,
-    known: &mut KnownRules<'_>,
+    known: &mut KnownRules,
 ) -> Result<(), RunFault>
     requires runner { IsRunner runner.now }
     requires here { IsContext runner.now here.now }
@@ -543,9 +541,9 @@ fn apply_to_element<'b>(
     requires state { IsSomeMove (told_by runner.now) state }
     requires nesting { nesting ≤ 8000 }
     requires work { output.old.work ≤ 4000000 }
-    requires known { AreKnown runner.now.rules.now known.old }
+    requires known { AreFoundBy runner.now known.old }
     ensures few { OnOk result (output.new.work ≤ 4000000) }
-    ensures known { AreKnown runner.now.rules.now known.new }
+    ensures known { AreFoundBy runner.now known.new }
     ensures outcome { (bodies : List CallFreeBody) (g : Going) → HasBodies runner.now bodies → IsMoveAt (told_by runner.now) state g → Answers nesting output.old output.new result
         (cond ((machine runner.now bodies).move_hits g (see_letter (Kind.Elem letter.sym) letter.marks))
         (counted (does runner.now bodies ((machine runner.now bodies).body_at g.task (ancestor (told_by runner.now) above) (see_letter (Kind.Elem letter.sym) letter.marks)) here.now)) nothing) }

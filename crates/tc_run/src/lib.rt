@@ -14,7 +14,6 @@ ghost use Rattle.tc_run.specs.Limits.{KeepsLimits, IsCause};
 
 mod bodies;
 mod known_names;
-mod known_rules;
 mod letters;
 mod looks;
 mod output;
@@ -24,7 +23,6 @@ mod runner;
 use bodies::root;
 use bumpalo::Bump;
 use known_names::KnownNames;
-use known_rules::KnownRules;
 use letters::{marks, text_of, with_letters};
 use output::Output;
 use predicates::all_asked;
@@ -33,7 +31,7 @@ use std::slice::from_ref;
 use tc_alpha::Alphabet;
 use tc_base::NoMemory;
 use tc_model::{Node, normalise};
-use tc_rules::Rules;
+use tc_rules::{KnownRules, Rules};
 
 /// Why there is no result. Where both limits are passed, either may be told.
 #[derive(Clone, Copy, Debug, PartialEq, Eq)]
@@ -86,7 +84,7 @@ pub fn run<'b>(
     let on_texts = marks(&runner, asked, &[]);
     let mut names = KnownNames::new(arena)?;
     let document = with_letters(arena, &runner, asked, nodes, text, on_texts, &mut names)?;
-    let mut known = KnownRules::new(arena)?;
+    let mut known = KnownRules::new(rules)?;
     let mut output = Output::new(arena);
     root(&runner, document.nodes, text, &mut output, &mut known)?;
     Ok(normalise(arena, &output.nodes)?)

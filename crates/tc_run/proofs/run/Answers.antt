@@ -3,6 +3,7 @@ use Rattle.tc_model.specs.Chains.{joined_texts}
 use Rattle.tc_model.specs.Safety.{IsResultOf}
 use Rattle.tc_model.specs.Views as see
 use Rattle.tc_model.specs.Trees.{Trees, none, normal_form}
+use Rattle.tc_rules.specs.Kept.{told}
 use Rattle.tc_run.specs.Lettered.{bare}
 use Rattle.tc_run.specs.Limits.{KeepsLimits, IsCause}
 use Rattle.tc_run.specs.Running.{sheet_by}
@@ -69,7 +70,7 @@ returns-in_err-known-clause-cause c =
     refused c.args.alphabet.now c.args.rules.now c.requires.rules (see.before c.args.doc.now none) c.from_residual-in_err-known.result c.from_residual-in_err-known.ensures.1
 
 pub root-requires-clause-known : goal.root-requires-clause-known
-root-requires-clause-known c = c.in_ok-known.ensures c.args.rules.now
+root-requires-clause-known c = record { known = c.in_ok-known.ensures c.args.alphabet.now (told c.args.rules.now) }
 
 pub returns-in_err-names-clause-cause : goal.returns-in_err-names-clause-cause
 returns-in_err-names-clause-cause c =

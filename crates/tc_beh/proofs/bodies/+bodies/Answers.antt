@@ -39,7 +39,7 @@ put_body-loop-instruction-preserved t c =
     let count = c.put_instruction.auto.spare in
     record {
       size = c.put_instruction.ensures.size ∙ c.loop-instruction.invariant.size;
-      begun = λ e. absurd (true≢false (sym e));
+      untouched = λ e. absurd (true≢false (sym e));
       part = (part_first (told p.rules.now).sheet i rest (subst (IsPart (told p.rules.now).sheet) (left_instruction is k i c.loop-instruction-test.true c.instruction-item.is) c.loop-instruction.invariant.part)).1;
       spare = record {
         sizes = λ n d low. c.put_instruction.ensures.spare n d low ∙ c.loop-instruction.invariant.size;
@@ -98,7 +98,7 @@ put_instruction-put_element-requires t c =
     let deep = subst (λ b. AreSpare c.args.out.now.size (depth_in b + 2) c.args.spare.now) e c.requires.spare in
     let all = deep.enough in (
       search (rules, the_lemmas),
-      (c.requires.place, (c.sym_of-sym.ensures.below, (part.0, (c.requires.out, (record { sizes = deep.sizes; enough = inner_depth (depth_in (see.body c.in-Elem.inner.now)) (length c.args.spare.now) (omega (arith, all)) c.requires.few }, (c.requires.few, c.requires.begun)))))),
+      (c.requires.place, (c.sym_of-sym.ensures.below, (part.0, (c.requires.out, (record { sizes = deep.sizes; enough = inner_depth (depth_in (see.body c.in-Elem.inner.now)) (length c.args.spare.now) (omega (arith, all)) c.requires.few }, (c.requires.few, c.requires.untouched)))))),
     )
 
 pub put_instruction-put_copy-requires : goal.put_instruction-put_copy-requires
@@ -108,7 +108,7 @@ put_instruction-put_copy-requires t c =
     let deep = subst (λ b. AreSpare c.args.out.now.size (depth_in b + 2) c.args.spare.now) e c.requires.spare in
     let all = deep.enough in (
       search (rules, the_lemmas),
-      (c.requires.place, (part.0, (c.requires.out, (record { sizes = deep.sizes; enough = inner_depth (depth_in (see.body c.in-Copy.inner.now)) (length c.args.spare.now) (omega (arith, all)) c.requires.few }, (c.requires.few, c.requires.begun))))),
+      (c.requires.place, (part.0, (c.requires.out, (record { sizes = deep.sizes; enough = inner_depth (depth_in (see.body c.in-Copy.inner.now)) (length c.args.spare.now) (omega (arith, all)) c.requires.few }, (c.requires.few, c.requires.untouched))))),
     )
 
 pub put_instruction-put_selected-requires-clause-path : goal.put_instruction-put_selected-requires-clause-path
@@ -166,7 +166,7 @@ put_instruction-put_first-requires t c =
     let deep = subst (λ b. AreSpare c.args.out.now.size (depth_in b + 2) c.args.spare.now) e c.requires.spare in
     let all = deep.enough in (
       search (rules, the_lemmas),
-      (c.requires.place, ((branches_part (told c.args.place.now.rules.now).sheet bs last part.0).0, (c.requires.out, (record { sizes = deep.sizes; enough = omega (arith, all, branches_depth bs last) }, (c.requires.few, c.requires.begun))))),
+      (c.requires.place, ((branches_part (told c.args.place.now.rules.now).sheet bs last part.0).0, (c.requires.out, (record { sizes = deep.sizes; enough = omega (arith, all, branches_depth bs last) }, (c.requires.few, c.requires.untouched))))),
     )
 
 pub put_instruction-put_body-requires : goal.put_instruction-put_body-requires
@@ -179,7 +179,7 @@ put_instruction-put_body-requires t c =
     let all = deep.enough in
     let count = c.put_first.auto.spare in (
       search (rules, the_lemmas),
-      (c.requires.place, ((branches_part (told c.args.place.now.rules.now).sheet bs last part.0).1, (c.put_first.ensures.size ∙ c.requires.out, (record { sizes = λ n d low. c.put_first.ensures.spare n d low ∙ sym c.put_first.ensures.size; enough = omega (arith, all, branches_depth bs last, count) }, (omega (arith, c.requires.few, count), λ e. absurd (true≢false (sym e))))))),
+      (c.requires.place, ((branches_part (told c.args.place.now.rules.now).sheet bs last part.0).1, (c.put_first.ensures.size ∙ c.requires.out, (record { sizes = λ n d low. c.put_first.ensures.spare n d low ∙ sym c.put_first.ensures.size; enough = omega (arith, all, branches_depth bs last, count) }, (omega (arith, c.requires.few, count), λ e. subst IsIdentity (sym (c.put_first.ensures.stays c.if-put_first.false)) (c.requires.untouched e)))))),
     )
 
 pub put_first-put_body-requires : goal.put_first-put_body-requires
@@ -195,7 +195,7 @@ put_first-put_body-requires t c =
     let enough = c.requires.spare.enough in
     let room : AreSpare c.args.out.now.size (depth_in (see.body b.body.now) + 2) c.args.spare.now = record { sizes = c.requires.spare.sizes; enough = omega (arith, enough, inv.depth, deep) } in (
       search (rules, the_lemmas),
-      (c.requires.place, (part.1, (ap (λ (m : Matrix). m.size) inv.out ∙ c.requires.out, (subst (λ (m : Matrix). AreSpare m.size (depth_in (see.body b.body.now) + 2) c.loop-branch.spare) (sym inv.out) (subst (λ (ms : List Matrix). AreSpare c.args.out.now.size (depth_in (see.body b.body.now) + 2) ms) (sym inv.spare) room), (omega (arith, c.requires.few, ap length inv.spare), λ e. subst IsIdentity (sym inv.out) (c.requires.begun e)))))),
+      (c.requires.place, (part.1, (ap (λ (m : Matrix). m.size) inv.out ∙ c.requires.out, (subst (λ (m : Matrix). AreSpare m.size (depth_in (see.body b.body.now) + 2) c.loop-branch.spare) (sym inv.out) (subst (λ (ms : List Matrix). AreSpare c.args.out.now.size (depth_in (see.body b.body.now) + 2) ms) (sym inv.spare) room), (omega (arith, c.requires.few, ap length inv.spare), λ e. subst IsIdentity (sym inv.out) (c.requires.untouched e)))))),
     )
 
 pub put_first-returns-then-holds-clause-pairs : goal.put_first-returns-then-holds-clause-pairs
@@ -210,6 +210,12 @@ put_first-returns-then-holds-clause-pairs t c = λ x rest ok.
     taken x c.put_body.new.out c.args.out.now (P x p (see.body b.body.now)) (Q x p (see.branches bs rest)) (Q x p rest) true refl (c.put_body.ensures.size ∙ (ap (λ (m : Matrix). m.size) inv.out ∙ (c.requires.out ∙ ok.size)))
     (same_on (P x p (see.body b.body.now)) (Q x p (see.branches (drop k bs) rest)) (Q x p (see.branches bs rest)) here (inv.chosen x rest ok))
     (subst (λ (m : Matrix). Extends m c.put_body.new.out (P x p (see.body b.body.now))) inv.out (c.put_body.ensures.pairs x ok))
+
+pub put_first-returns-then-holds-clause-stays : goal.put_first-returns-then-holds-clause-stays
+put_first-returns-then-holds-clause-stays t c = λ e. absurd (true≢false e)
+
+pub put_first-returns-clause-stays : goal.put_first-returns-clause-stays
+put_first-returns-clause-stays t c = λ e. c.loop-branch.invariant.out
 
 pub put_first-loop-branch-preserved : goal.put_first-loop-branch-preserved
 put_first-loop-branch-preserved t c =

@@ -14,7 +14,7 @@ use Rattle.tc_beh.proofs.bodies.+bodies.Given as goal
 abbrev pub invariant-put_body-loop-instruction : goal.invariant-put_body-loop-instruction
 invariant-put_body-loop-instruction l = record {
   size : l.out.size ≡ l.fn.out.size;
-  begun : l.is_first ≡ true → IsIdentity l.out;
+  untouched : l.is_first ≡ true → IsIdentity l.out;
   part : IsPart (told l.place.rules.now).sheet (see.body (drop l.instruction-index l.body));
   spare : AreSpare l.fn.out.size (depth_in (see.body (drop l.instruction-index l.body)) + 2) l.spare;
   pairs : (x : Triple) → IsPlaceIn x l.place → HaveSamePairs

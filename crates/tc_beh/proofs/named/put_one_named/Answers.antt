@@ -36,8 +36,8 @@ put_body-requires-clause-spare c =
       enough = omega (arith, same, low, enough);
     }
 
-pub put_body-requires-clause-begun : goal.put_body-requires-clause-begun
-put_body-requires-clause-begun c = λ e. c.put_identity.ensures.pairs
+pub put_body-requires-clause-untouched : goal.put_body-requires-clause-untouched
+put_body-requires-clause-untouched c = λ e. c.put_identity.ensures.pairs
 
 pub returns-clause-called : goal.returns-clause-called
 returns-clause-called c = λ x ok.

@@ -11,7 +11,7 @@ use Rattle.tc_rules.specs.States.{built_in_at}
 use Rattle.tc_rules.specs.Tasks.{IsTaskOf}
 use Rattle.tc_rows.specs.Triples.{sheet}
 use Rattle.tc_beh.specs.Above.{letter_of}
-use Rattle.tc_beh.specs.Known.{AreKnown}
+use Rattle.tc_rules.specs.KnownRules.{AreKnown}
 use Rattle.tc_beh.proofs.Deepest.{each_body_low}
 use Rattle.tc_beh.proofs.Meant.{each_part_at, each_meant, mode_meant, sheet_told, rule_low}
 use Rattle.tc_beh.proofs.Marking.{predicates_told}
@@ -38,7 +38,7 @@ template_of-requires-clause-found c =
     let l = letter_of c.args.letter in
     let is_letter = subst (λ ps. IsLetter x.symbols ps l) (sym (predicates_told x r is)) lx in
     let here = subst (λ (v : RulesView). AreKnown x.symbols v c.args.known.now) (sym is.told) known in
-    rule_low (told r).sheet.rules c.in-Mode.mode (fits_below x.symbols (predicates_of (told r).sheet) (ancestor (told r) c.args.ancestor) l) (found c.rule_for-found.result) (c.rule_for-found.ensures.rule x.symbols is.rules is_letter here)
+    rule_low (told r).sheet.rules c.in-Mode.mode (fits_below x.symbols (predicates_of (told r).sheet) (ancestor (told r) c.args.ancestor) l) (found c.rule_for-found.result) (c.rule_for-found.ensures.rule x.symbols is.rules here is_letter)
 
 pub returns-in-Mode-clause-meant : goal.returns-in-Mode-clause-meant
 returns-in-Mode-clause-meant c = λ x k is lx known u.
@@ -48,7 +48,7 @@ returns-in-Mode-clause-meant c = λ x k is lx known u.
     let task : IsTaskOf (sheet x) c.in-Mode.mode k = subst (λ j. IsTaskOf (sheet x) (mode_of (sheet x).modes j) k) c.in-Mode.is u in
     let is_letter = subst (λ ps. IsLetter x.symbols ps l) (sym (predicates_told x r is)) lx in
     let here = subst (λ (v : RulesView). AreKnown x.symbols v c.args.known.now) (sym is.told) known in
-    let ruled = subst (λ (t : RulesView). IsRuleOf t.sheet.rules c.in-Mode.mode (fits_below x.symbols (predicates_of t.sheet) (ancestor t c.args.ancestor) l) (found c.rule_for-found.result)) is.told (c.rule_for-found.ensures.rule x.symbols is.rules is_letter here) in
+    let ruled = subst (λ (t : RulesView). IsRuleOf t.sheet.rules c.in-Mode.mode (fits_below x.symbols (predicates_of t.sheet) (ancestor t c.args.ancestor) l) (found c.rule_for-found.result)) is.told (c.rule_for-found.ensures.rule x.symbols is.rules here is_letter) in
     mode_meant r x is c.in-Mode.mode (found c.rule_for-found.result) c.template_of.result (λ m. built_in_at m l.kind) k (ancestor x.rules c.args.ancestor) l low task ruled
     (λ o e. c.template_of.ensures.meant x (λ m. built_in_at m l.kind) o is e)
 
@@ -62,6 +62,5 @@ returns-in-Each-clause-depth c =
 pub returns-in-Mode-clause-known : goal.returns-in-Mode-clause-known
 returns-in-Mode-clause-known c = λ x is lx known.
     let r = c.args.rules.now in
-    let is_letter = subst (λ ps. IsLetter x.symbols ps (letter_of c.args.letter)) (sym (predicates_told x r is)) lx in
     let here = subst (λ (v : RulesView). AreKnown x.symbols v c.args.known.now) (sym is.told) known in
-    subst (λ (v : RulesView). AreKnown x.symbols v c.rule_for-found.new.self) is.told (c.rule_for-found.ensures.known x.symbols is.rules is_letter here)
+    subst (λ (v : RulesView). AreKnown x.symbols v c.rule_for-found.new.self) is.told (c.rule_for-found.ensures.known x.symbols is.rules here)

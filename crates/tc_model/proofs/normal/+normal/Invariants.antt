@@ -1,5 +1,5 @@
 use Rattle.std.proofs.Common.{◌≡◌, drop}
-use Rattle.tc_model.specs.NormalLevels.{changed_kids}
+use Rattle.tc_model.specs.NormalLevels.{known_kids}
 use Rattle.tc_model.specs.Trees.{beside, joined, joined_to, dropped, normal_form}
 use Rattle.tc_model.specs.Runs.{run_text}
 use Rattle.tc_model.specs.Views.{trees}
@@ -13,5 +13,5 @@ invariant-first_change-loop-place l = AreLooked l.nodes l.place l.behind
 abbrev pub invariant-normal_from-loop-place : goal.invariant-normal_from-loop-place
 invariant-normal_from-loop-place l = record {
   gathered : beside (trees l.gathered.nodes.items) (dropped (joined_to (run_text l.gathered.run) (joined (trees (drop l.place l.nodes))))) ≡ normal_form (trees l.nodes);
-  left : AreLeft l.change.place l.place (changed_kids l.change.what) (trees (drop l.place l.nodes));
+  left : AreLeft l.known.place l.place (known_kids l.known.kids) (trees (drop l.place l.nodes));
 }

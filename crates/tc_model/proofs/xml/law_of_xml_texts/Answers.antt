@@ -1,5 +1,6 @@
 use Rattle.tc_model.proofs.XmlTextTrees.{one_raw_tree, lawful_raw_tree}
 use Rattle.tc_model.proofs.XmlTextDocument.{document}
+use Rattle.tc_model.proofs.XmlTextReadable.{tree_or_refusal, refused_for_more}
 use Rattle.tc_model.proofs.XmlTextRefused.{one_refusal, no_tree_where_refused}
 use Rattle.tc_model.proofs.xml.law_of_xml_texts.Goals as goal
 
@@ -17,3 +18,9 @@ returns-clause-refusal c = one_refusal
 
 pub returns-clause-no_tree : goal.returns-clause-no_tree
 returns-clause-no_tree c = no_tree_where_refused
+
+pub returns-clause-readable : goal.returns-clause-readable
+returns-clause-readable c = tree_or_refusal
+
+pub returns-clause-more : goal.returns-clause-more
+returns-clause-more c = refused_for_more

@@ -3,10 +3,9 @@ use Rattle.tc_model.specs.Views as see
 use Rattle.tc_model.specs.Sheets.{CallFreeBody, Inlines}
 use Rattle.tc_rules.specs.States.{Going}
 use Rattle.tc_model.specs.Trees.{none}
-use Rattle.tc_run.specs.Known.{AreKnown}
 use Rattle.tc_run.specs.Lettered.{bare, none as no_tree}
 use Rattle.tc_rules.specs.Parts.{IsPart}
-use Rattle.tc_run.specs.Running.{IsLetteredBy, HasBodies, sheet_by, told_by}
+use Rattle.tc_run.specs.Running.{AreFoundBy, IsLetteredBy, HasBodies, sheet_by, told_by}
 use Rattle.tc_run.specs.Views.{before, trees}
 use Rattle.tc_rules.specs.Tasks.{IsMoveAt}
 use Rattle.tc_run.proofs.Progress.{BodySoFar, HitsSoFar, left_at}
@@ -14,13 +13,13 @@ use Rattle.tc_run.proofs.bodies.+bodies.Given as goal
 
 abbrev pub invariant-body-loop-one : goal.invariant-body-loop-one
 invariant-body-loop-one l =
-    ((l.output.work ≤ 4000000) × AreKnown l.runner.rules.now l.known) × IsPart (sheet_by l.runner) (see.body (drop l.one-index l.body))
+    ((l.output.work ≤ 4000000) × AreFoundBy l.runner l.known) × IsPart (sheet_by l.runner) (see.body (drop l.one-index l.body))
     × ((bodies : List CallFreeBody) (p : CallFreeBody) → HasBodies l.runner bodies → Inlines (sheet_by l.runner).named (see.body l.body) p
     → BodySoFar l.runner bodies l.here l.nesting l.initial.output l.output p (see.body (drop l.one-index l.body)))
 
 abbrev pub invariant-apply_to_trees-loop-node : goal.invariant-apply_to_trees-loop-node
 invariant-apply_to_trees-loop-node l =
-    ((l.output.work ≤ 4000000) × AreKnown l.runner.rules.now l.known) × IsLetteredBy l.runner (trees (drop l.node-index l.nodes))
+    ((l.output.work ≤ 4000000) × AreFoundBy l.runner l.known) × IsLetteredBy l.runner (trees (drop l.node-index l.nodes))
     × ((bodies : List CallFreeBody) (g : Going) → HasBodies l.runner bodies → IsMoveAt (told_by l.runner) l.state g
     → HitsSoFar l.runner bodies l.above l.nesting l.initial.output l.output g (bare (trees l.nodes)) (bare (trees (drop l.node-index l.nodes))))
 

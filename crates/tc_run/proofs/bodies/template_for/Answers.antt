@@ -24,7 +24,7 @@ returns-in-Each-clause-meant c = λ bodies n k u t b.
 pub template_of-requires-clause-found : goal.template_of-requires-clause-found
 template_of-requires-clause-found c =
     let r = c.args.runner.now in
-    rule_low (sheet_by r).rules c.in-Mode.mode _ (found c.rule_for-found.result) (c.rule_for-found.ensures.rule (symbols_by r) c.requires.runner c.requires.letter)
+    rule_low (sheet_by r).rules c.in-Mode.mode _ (found c.rule_for-found.result) (c.rule_for-found.ensures.rule (symbols_by r) c.requires.runner c.requires.known.known c.requires.letter)
 
 pub returns-in-Mode-clause-meant : goal.returns-in-Mode-clause-meant
 returns-in-Mode-clause-meant c = λ bodies n k u t b.
@@ -32,4 +32,7 @@ returns-in-Mode-clause-meant c = λ bodies n k u t b.
     let low : c.in-Mode.mode < (sheet_by r).modes = subst (IsJob (sheet_by r)) c.in-Mode.is c.requires.job in
     let task : IsTaskOf (sheet_by r) c.in-Mode.mode k = subst (λ j. IsTaskOf (sheet_by r) (mode_of (sheet_by r).modes j) k) c.in-Mode.is t in
     mode_meant r bodies c.in-Mode.mode (found c.rule_for-found.result) c.template_of.result n k (ancestor (told_by r) c.args.above) (letter c.args.kind c.args.marks) low task
-    (c.rule_for-found.ensures.rule (symbols_by r) c.requires.runner c.requires.letter) b (λ o e. c.template_of.ensures.meant bodies n o u e)
+    (c.rule_for-found.ensures.rule (symbols_by r) c.requires.runner c.requires.known.known c.requires.letter) b (λ o e. c.template_of.ensures.meant bodies n o u e)
+
+pub returns-in-Mode-clause-known : goal.returns-in-Mode-clause-known
+returns-in-Mode-clause-known c = record { known = c.rule_for-found.ensures.known (symbols_by c.args.runner.now) c.requires.runner c.requires.known.known }

@@ -28,5 +28,5 @@ returns c = λ x is.
       named = λ k d l. c.in_ok-named.ensures.sizes k d l ∙ size;
       spare = record { sizes = λ k d l. c.in_ok-spare.ensures.sizes k d l ∙ size; enough = omega (arith, count) };
       few = omega (arith, count, depth);
-      known = c.in_ok-rules.ensures x.symbols x.rules;
+      known = c.in_ok-known.ensures x.symbols x.rules;
     }

@@ -4,4 +4,4 @@ use Rattle.tc_rules.specs.Steps as v
 use Rattle.tc_rules.proofs.rows.Row.ending.Given as goal
 
 abbrev pub invariant-loop-i : goal.invariant-loop-i
-invariant-loop-i l = v.ending_from 0 (state l.self) ≡ l.ending.items ++ v.ending_from l.i (drop l.i (state l.self))
+invariant-loop-i l = v.ending_alternatives 0 (state l.self) ≡ l.ending.items ++ v.ending_alternatives l.i (drop l.i (state l.self))

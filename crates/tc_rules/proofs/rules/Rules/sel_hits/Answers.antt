@@ -7,4 +7,4 @@ use Rattle.tc_rules.proofs.rules.Rules.sel_hits.Goals as goal
 pub returns : goal.returns
 returns c = λ symbols b x h l st.
     hit_answered symbols c.args.self.now h c.args.sel b x st c.in-Some.select c.in-Some-graph.graph.now _ c.hits.result (sym c.select.ensures ∙ c.in-Some.is) c.in-Some-graph.ensures l
-    (λ u fit e f. c.hits.ensures u fit e (ap (λ k. fits_at (graph c.in-Some-graph.graph.now) (record { kind = k; marks = c.args.marks.0 })) c.symbol_of-symbol.ensures ∙ f))
+    (λ known u fit e f. c.hits.ensures known u fit e (ap (λ k. fits_at (graph c.in-Some-graph.graph.now) (record { kind = k; marks = c.args.marks.0 })) c.symbol_of-symbol.ensures ∙ f))

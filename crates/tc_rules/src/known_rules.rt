@@ -1,9 +1,12 @@
 // The rules that were found for letters: some of them are remembered, since many nodes have the same letter.
-ghost use Rattle.std.specs.Prelude.{◌≡◌, ◌<◌, true, length};
+ghost use Rattle.std.specs.Prelude.{◌≡◌, ◌<◌, true, List, length, IfOk, IfSome};
+ghost use Rattle.tc_model.specs.Symbols.{Mention};
+ghost use Rattle.tc_rules.specs.Kept.{IsRulesOf, told};
+ghost use Rattle.tc_rules.specs.KnownRules.{IsFound, AreKnown};
+ghost use Rattle.tc_rules.specs.RulesView.{RulesView};
 
-use std::alloc::Global;
+use crate::rules::{Found, Kind, Marks, Rules};
 use tc_base::NoMemory;
-use tc_rules::{Found, Kind, Marks, Rules};
 
 /// How many rules that were found are remembered.
 const REMEMBERED: usize = 4096;
@@ -18,11 +21,11 @@ struct Known {
     found: Found,
 }
 
-/// Some of the rules that were found. What was found is forgotten where something else comes to its place.
+/// Some of the rules that were found. What was found is forgotten where something else comes to its place, and no clause says
+/// that anything is remembered: what is remembered was found, so no answer depends on it.
 #[derive(Drop)]
-pub(crate) struct KnownRules {
+pub struct KnownRules {
     places: Vec<Option<Known>>,
-    ghost whole: { length places.items ≡ 4096 },
 }
 
 /// Where the rule of a mode, an ancestor state and a letter is remembered.
@@ -36,7 +39,7 @@ fn place_of(mode: u32, ancestor: u32, kind: Kind, marks: Marks) -> usize
     (symbol * 71 + ancestor as usize + mode as usize * 1021 + marks.0 as usize * 389) % REMEMBERED
 }
 
-/// Whether two kinds are the same.
+/// True only of kinds that are the same.
 fn same_kind(a: Kind, b: Kind) -> bool
     ensures { result ≡ true → a ≡ b }
 {
@@ -48,23 +51,15 @@ fn same_kind(a: Kind, b: Kind) -> bool
 }
 
 impl KnownRules {
-    ghost use Rattle.std.specs.Prelude.{◌<◌, List, length, IfOk, IfSome};
-    ghost use Rattle.tc_model.specs.Letters.{IsLetter};
-    ghost use Rattle.tc_model.specs.Numberings.{predicates_of};
-    ghost use Rattle.tc_model.specs.Symbols.{Mention};
-    ghost use Rattle.tc_rules.specs.Asked.{letter};
-    ghost use Rattle.tc_rules.specs.Kept.{IsRulesOf, told};
-    ghost use Rattle.tc_rules.specs.RulesView.{RulesView};
-    ghost use Rattle.tc_beh.specs.Known.{IsFound, AreKnown};
-
     /// None is remembered.
     ///
     /// # Errors
     ///
-    /// There is no memory for what will be remembered.
-    pub(crate) fn new(alloc: Global) -> Result<KnownRules, NoMemory>
+    /// There is no memory for what will be remembered, where the tables of the rules lie.
+    pub fn new(rules: &Rules<'_>) -> Result<KnownRules, NoMemory>
         ensures { IfOk result (λ k. (symbols : List Mention) (v : RulesView) → AreKnown symbols v k) }
     {
+        let alloc = *rules.modes.allocator();
         let places = vec![in alloc; None; REMEMBERED]?;
         Ok(KnownRules { places })
     }
@@ -73,7 +68,11 @@ impl KnownRules {
     fn remembered(&self, mode: u32, ancestor: u32, kind: Kind, marks: Marks) -> Option<Found>
         ensures { (symbols : List Mention) (v : RulesView) → AreKnown symbols v self.now → IfSome result (λ f. IsFound symbols v mode ancestor kind marks f) }
     {
-        let known = self.places[place_of(mode, ancestor, kind, marks)]?;
+        let place = place_of(mode, ancestor, kind, marks);
+        if place >= self.places.len() {
+            return None;
+        }
+        let known = self.places[place]?;
         if known.mode == mode
             && known.ancestor == ancestor
             && same_kind(known.kind, kind)
@@ -89,7 +88,11 @@ impl KnownRules {
     fn remember(&mut self, mode: u32, ancestor: u32, kind: Kind, marks: Marks, found: Found)
         ensures { (symbols : List Mention) (v : RulesView) → AreKnown symbols v self.old → IsFound symbols v mode ancestor kind marks found → AreKnown symbols v self.new }
     {
-        self.places[place_of(mode, ancestor, kind, marks)] = Some(Known {
+        let place = place_of(mode, ancestor, kind, marks);
+        if place >= self.places.len() {
+            return;
+        }
+        self.places[place] = Some(Known {
             mode,
             ancestor,
             kind,
@@ -99,7 +102,7 @@ impl KnownRules {
     }
 
     /// The rule in a mode of a node of a letter, the ancestor state of the node above it being given (XSLT 1.0, 5.5).
-    pub(crate) fn rule_for(
+    pub fn rule_for(
         &mut self,
         rules: &Rules<'_>,
         mode: u32,
@@ -109,8 +112,8 @@ impl KnownRules {
     ) -> Found
         requires mode { mode < (told rules.now).sheet.modes }
         requires state { ancestor < length (told rules.now).ancestors.states }
-        ensures known { (symbols : List Mention) → IsRulesOf symbols rules.now → IsLetter symbols (predicates_of (told rules.now).sheet) (letter kind marks) → AreKnown symbols (told rules.now) self.old → AreKnown symbols (told rules.now) self.new }
-        ensures rule { (symbols : List Mention) → IsRulesOf symbols rules.now → IsLetter symbols (predicates_of (told rules.now).sheet) (letter kind marks) → AreKnown symbols (told rules.now) self.old → IsFound symbols (told rules.now) mode ancestor kind marks result }
+        ensures known { (symbols : List Mention) → IsRulesOf symbols rules.now → AreKnown symbols (told rules.now) self.old → AreKnown symbols (told rules.now) self.new }
+        ensures rule { (symbols : List Mention) → IsRulesOf symbols rules.now → AreKnown symbols (told rules.now) self.old → IsFound symbols (told rules.now) mode ancestor kind marks result }
     {
         if let Some(found) = self.remembered(mode, ancestor, kind, marks) {
             return found;
