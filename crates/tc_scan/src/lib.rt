@@ -1,5 +1,5 @@
-//! What stands at the front of a text: marks, white space, runs and names (XML 1.0, Fifth Edition, 2.3; Namespaces in
-//! XML 1.0, 3 and 4). The readers of XML and of paths stand on these steps.
+//! What stands at the front of a text: marks, white space, runs, names and references (XML 1.0, Fifth Edition, 2.3 and
+//! 4.1; Namespaces in XML 1.0, 3 and 4). All readers of texts but that of certificates stand on these steps.
 #![tactic(auto)]
 
 mod chars;

@@ -6,7 +6,7 @@ use tc_base::{Place, Why};
 /// at. A place counts the bytes that stand before it, from the document's first one on.
 #[derive(Clone, Copy, Debug, PartialEq, Eq)]
 pub enum StreamFault {
-    /// It breaks XML 1.0 or Namespaces in XML 1.0, however it goes on; reading stops at the place.
+    /// It breaks XML 1.0 or Namespaces in XML 1.0, at the end of a piece however it goes on; reading stops at the place.
     Malformed(Place),
     /// It holds a construct that isn't read, which begins at the place.
     Unsupported(Place, Why),

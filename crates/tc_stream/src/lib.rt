@@ -34,5 +34,5 @@ mod values;
 mod words;
 
 pub use faults::StreamFault;
-pub use laws::{law_of_measures, law_of_outcomes};
+pub use laws::{law_of_faults, law_of_measures, law_of_outcomes};
 pub use stream::Stream;

@@ -1,4 +1,4 @@
-// Tags by their form (XML 1.0, 3.1, [40] to [44]).
+// Tags by their form (XML 1.0, 3.1, [40] to [42] and [44]).
 ghost use Rattle.std.specs.Prelude.{◌≡◌, ◌≢◌, ◌+◌, ◌-◌, ◌<◌, ◌≤◌, ◌∷◌, ◌++◌, ◌⊎◌, ◌&&◌, [], ℕ, List, true, false, length, map, IfOk, IfErr, IsTrue, IsFalse, IsUtf8, bytes_eq, MatchBool, MatchOption, MatchResult, codes, if◌then◌else◌};
 ghost use Rattle.tc_base.specs.declared.reasons.Why.{Why as Reason};
 ghost use Rattle.tc_base.specs.declared.reasons.Why.TheVariants.{EntityReference};

@@ -131,7 +131,7 @@ pub fn typecheck<S: Store, K: Sink>(
         ⊎ DecidesValidity result (K.written sink.old) (K.written sink.new) g d }
 
     // A validation of a held file in pieces, of whatever size, is yes or no exactly where the schema keeps to its limits and the file's bytes are a text of
-    // XML in which no tag and no names of open elements are too long, by whether its document is valid; it refuses the document exactly where the bytes are
+    // XML in which no tag, and never the names of open elements together, is too long, by whether its document is valid; it refuses the document exactly where the bytes are
     // no text of XML that is read, and no tag and no names are too long before reading stops; and else it tells of a limit that is passed.
     ensures validity_in_pieces { (files : Files) (g : Grammar) (name bytes : List ℕ) → S.holds store.old ≡ Some files
         → ValidatesFilesInPieces words.now files g name bytes
