@@ -10,7 +10,7 @@ pub enum Status {
     No,
     /// The words are no command.
     Usage,
-    /// An operand was refused, or the command isn't built.
+    /// The text of an operand isn't accepted.
     Refused,
     /// A limit was passed.
     Limit,

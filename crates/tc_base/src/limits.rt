@@ -33,7 +33,7 @@ pub const MOST_SELECTS: u32 = 4_096;
 /// How deep the instructions of a stylesheet stand within one another, a called body within its call.
 pub const DEEPEST_CALLS: u32 = 8_000;
 
-/// The most entries of a row: ancestor states times move states, and look states.
+/// The most entries and looks of a row together: ancestor states times move states, plus look states.
 pub const MOST_ENTRIES: u32 = 8_192;
 
 /// The most work of a run: bodies that are instantiated, and elements and texts that are put out.

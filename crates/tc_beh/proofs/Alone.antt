@@ -1,5 +1,5 @@
 -- What an instruction puts that stands alone.
-use Rattle.std.proofs.Common.{◌≡◌, ◌<◌, ◌≤◌, ◌+◌, ℕ, List, [], Option, None, Some, IfSome, drop, length, get_or, ap, ◌∙◌, arith}
+use Rattle.std.proofs.Common.{◌≡◌, ℕ, List, Option, None, Some, IfSome, length, get_or, ap, ◌∙◌, arith}
 use Rattle.std.proofs.lemmas.List.{drop_all}
 use Rattle.tc_mat.specs.Matrix.{Matrix}
 use Rattle.tc_model.specs.Sheets.{Path, no_instruction, apply}
@@ -7,8 +7,8 @@ use Rattle.tc_model.specs.Views as see
 use Rattle.tc_model.specs.declared.sheet.Instr.{Instr}
 use Rattle.tc_model.proofs.ViewsBody.{left_instruction}
 use Rattle.tc_rows.specs.Triples.{Triple, outputs}
-use Rattle.tc_rows.specs.PairSets.{PairSet, HaveSamePairs, product}
-use Rattle.tc_rows.specs.Bodies.{NodeKind, on_root, on_element, on_text, stay}
+use Rattle.tc_rows.specs.PairSets.{HaveSamePairs, product}
+use Rattle.tc_rows.specs.Bodies.{on_root, on_element, on_text, stay}
 use Rattle.tc_rows.proofs.PairLaws.{same_self, same_on, product_same}
 use Rattle.tc_beh.specs.Places.{IsPlaceIn, below_of, size_at}
 use Rattle.tc_beh.specs.Putting.{has}

@@ -1,6 +1,7 @@
 -- How many entries and looks there are, and what the calls of a stylesheet's bodies are.
-use Rattle.std.proofs.Common.{◌≡◌, ◌<◌, ◌≤◌, ◌+◌, ◌*◌, ℕ, max, List, [], ◌∷◌, length, map, get_or, Bor, subst, sym, ap, ◌∙◌, refl, arith, All, inl, inr}
+use Rattle.std.proofs.Common.{◌≡◌, ◌<◌, ◌≤◌, ◌+◌, ◌*◌, ℕ, max, List, [], ◌∷◌, length, map, get_or, Bor, subst, sym, ap, ◌∙◌, refl, arith, All, inl, inr, Result, Ok, Err, IfErr}
 use Rattle.std.specs.Prelude.{replicate}
+use Rattle.std.specs.Result.{IsErrAnd}
 use Rattle.std.proofs.lemmas.List.{length-map}
 use Rattle.std.proofs.lemmas.List.Elements.{Contains-get_or}
 use Rattle.tc_model.specs.Views as see
@@ -18,6 +19,7 @@ use Rattle.tc_beh.specs.Callees.{callees_in, AreCalleesFirst}
 use Rattle.tc_beh.specs.Orders.{AreComponentsInOrder}
 use Rattle.tc_beh.specs.Heights.{heights_in, highest, highest_rule, deepest, deepest_rule}
 use Rattle.tc_beh.specs.Stands.{IsRulesIn}
+use Rattle.tc_beh.specs.declared.machine.MachineFault.{MachineFault}
 use Rattle.tc_beh.proofs.Limits.{callees_low, too_high, high_enough, not_deep, comes_first}
 
 product_few : (a m : ℕ) → a ≤ 64 → m ≤ 4096 → a * m ≤ 262144
@@ -99,3 +101,8 @@ module _ (sh : SheetOf) (is : IsSheet (see.sheet sh)) where
 
     pub ordered : AreCalleesFirst (see.sheet sh).named order
     ordered = comes_first (see.sheet sh) is order same
+
+-- a fault that is handed on
+pub handed_on : {T : Type 0} (r : Result T MachineFault) (e : MachineFault) (P Q : MachineFault → Type 0) → IsErrAnd r (λ f. f ≡ e) → ((f : MachineFault) → P f → Q f) → P e → IfErr r Q
+handed_on (Ok v) e P Q h f g = tt
+handed_on (Err d) e P Q h f g = f d (subst P (sym h) g)

@@ -1,10 +1,13 @@
 // What rows are worked out by.
-ghost use Rattle.std.specs.Prelude.{◌≡◌, ◌≤◌, ◌+◌, ◌*◌, IfOk, OnOk, IfErr};
+ghost use Rattle.std.specs.Prelude.{◌≡◌, ◌≤◌, ◌+◌, ◌*◌, max, IfOk, OnOk, IfErr};
 ghost use Rattle.tc_model.specs.States as s;
 ghost use Rattle.tc_model.specs.Symbols.{symbol_count};
 ghost use Rattle.tc_rows.specs.Triples as t;
 ghost use Rattle.tc_rows.specs.Triples.{Triple};
 ghost use Rattle.tc_rules.specs.Kept.{told};
+ghost use Rattle.tc_beh.specs.Callees.{AreCalleesFirst};
+ghost use Rattle.tc_beh.specs.Heights.{deepest, deepest_rule};
+ghost use Rattle.tc_beh.specs.Machines.{IsMachineCause, KeepsLimits};
 ghost use Rattle.tc_beh.specs.Stands.{IsRulesIn, AreRules};
 
 use crate::calls::{TOO_MANY, callees_first, calls_of, depth_of_sheet};
@@ -87,6 +90,30 @@ fn looks_of(rules: &Rules<'_>) -> u32
     rules.looks()
 }
 
+/// The numbers of the bodies of named templates, each after those that it calls, where the limits of a machine are kept.
+///
+/// # Errors
+///
+/// Of the limits that are passed the first.
+fn order_of(alloc: Global, rules: &Rules<'_>) -> Result<Vec<usize>, MachineFault>
+    requires { AreRules rules.now }
+    ensures order { IfOk result (λ o. (x : Triple) → IsRulesIn x rules.now → AreCalleesFirst (t.sheet x).named o.items) }
+    ensures shallow { OnOk result ((x : Triple) → IsRulesIn x rules.now → max (deepest_rule (t.sheet x).rules) (deepest (t.sheet x).named) ≤ 8000) }
+    ensures within { OnOk result ((x : Triple) → IsRulesIn x rules.now → KeepsLimits x) }
+    ensures cause { IfErr result (λ e. (x : Triple) → IsRulesIn x rules.now → IsMachineCause x e) }
+{
+    let sheet = *rules.sheet();
+    let order = callees_first(alloc, sheet.named)?;
+    let calls = calls_of(alloc, &sheet, &order)?;
+    if calls >= TOO_MANY {
+        return Err(MachineFault::TooManyCalls);
+    }
+    if entries_of(rules) + looks_of(rules) > MOST_ENTRIES {
+        return Err(MachineFault::TooManyEntries);
+    }
+    Ok(order)
+}
+
 impl<'b> Machine<'b> {
     ghost use Rattle.std.specs.Prelude.{◌≡◌, IfOk, OnOk, IfErr};
     ghost use Rattle.tc_beh.specs.Machines.{AreParts, AreSomeParts, IsMachine, IsMachineOf, IsMachineCause, KeepsLimits, IsShapeOf};
@@ -110,24 +137,17 @@ impl<'b> Machine<'b> {
         ensures within { OnOk result ((x : Triple) → AreParts x input.entry output.entry rules.entry alphabet → KeepsLimits x) }
         ensures cause { IfErr result (λ e. (x : Triple) → AreParts x input.entry output.entry rules.entry alphabet → IsMachineCause x e) }
     {
-        let sheet = *rules.sheet();
-        let order = callees_first(alloc, sheet.named)?;
-        let calls = calls_of(alloc, &sheet, &order)?;
-        if calls >= TOO_MANY {
-            return Err(MachineFault::TooManyCalls);
-        }
-        if entries_of(&rules) + looks_of(&rules) > MOST_ENTRIES {
-            return Err(MachineFault::TooManyEntries);
-        }
-        let depth = depth_of_sheet(&sheet);
-        Ok(Machine {
+        let mut machine = Machine {
             input,
             output,
             rules,
             alphabet,
-            order,
-            depth,
-        })
+            order: Vec::new(alloc),
+            depth: 0,
+        };
+        machine.order = order_of(alloc, &machine.rules)?;
+        machine.depth = depth_of_sheet(machine.rules.sheet());
+        Ok(machine)
     }
 
     /// The rules that it was made of.

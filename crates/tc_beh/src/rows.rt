@@ -113,16 +113,7 @@ impl<'m, 'b> Rows<'m, 'b> {
         ensures machine { IfOk result (λ r. r.machine.now ≡ machine.now) }
     {
         let pool = Pool::new(alloc, machine.output.auto().states());
-        let outputs = HeldSets::of(alloc, pool)?;
-        let work = Work::new(alloc, machine)?;
-        let leads = vec![in alloc; NOWHERE; machine.rules.moves() as usize]?;
-        Ok(Rows {
-            machine,
-            is_fixed: false,
-            outputs,
-            work,
-            leads,
-        })
+        Rows::over(alloc, machine, pool, false)
     }
 
     /// Rows over these sets of pairs alone, each with its place as its number.
@@ -145,12 +136,32 @@ impl<'m, 'b> Rows<'m, 'b> {
         ensures machine { IfOk result (λ r. r.machine.now ≡ machine.now) }
     {
         let pool = pool_of(alloc, machine.output.auto().states(), outputs)?;
+        Rows::over(alloc, machine, pool, true)
+    }
+
+    /// Rows over the sets of pairs of a pool.
+    ///
+    /// # Errors
+    ///
+    /// There is no memory for the room.
+    fn over(
+        alloc: Global,
+        machine: &'m Machine<'b>,
+        pool: Pool,
+        is_fixed: bool,
+    ) -> Result<Rows<'m, 'b>, NoMemory>
+        requires { IsMachine machine.now }
+        ensures stands { IfOk result (λ r. (x : Triple) → IsMachineOf x machine.now → pool.size ≡ output_states x → AreRowsOf x r) }
+        ensures outputs { IfOk result (λ r. r.outputs ≡ pool) }
+        ensures fixed { IfOk result (λ r. r.is_fixed ≡ is_fixed) }
+        ensures machine { IfOk result (λ r. r.machine.now ≡ machine.now) }
+    {
         let outputs = HeldSets::of(alloc, pool)?;
-        let work = Work::new(alloc, machine)?;
         let leads = vec![in alloc; NOWHERE; machine.rules.moves() as usize]?;
+        let work = Work::new(alloc, machine)?;
         Ok(Rows {
             machine,
-            is_fixed: true,
+            is_fixed,
             outputs,
             work,
             leads,

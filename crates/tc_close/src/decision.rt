@@ -1,5 +1,5 @@
 // Whether a stylesheet is safe between two schemas, and a least counterexample where it isn't.
-ghost use Rattle.std.specs.Prelude.{◌≡◌, ◌≤◌, IfOk, IfErr};
+ghost use Rattle.std.specs.Prelude.{◌≡◌, ◌≤◌, [], IfOk, IfErr};
 ghost use Rattle.tc_beh.specs.Machines.{IsMachine, IsMachineOf};
 ghost use Rattle.tc_close.specs.Decisions.{IsDecided, IsCloseCause};
 ghost use Rattle.tc_close.specs.RowState.{held_of, IsFull};
@@ -112,6 +112,36 @@ pub(crate) fn verdict<'b, K: Over>(
     }
 }
 
+/// Which count passes its limit, where these rows came to no end.
+fn fault_of_rows<K: Over>(once: OnceRows<'_, '_, K>, most: u32, fault: Unsettled) -> CloseFault
+    requires { IsCause (IsFull K.is_of once) most (held_of K.is_of once) fault }
+    ensures { (x : Triple) → K.is_of x → IsCloseCause x most result }
+{
+    let rows = once.into_rows();
+    let fault = close_fault(&rows, most, fault);
+    drop(rows);
+    fault
+}
+
+/// All rows that come of none, and how they are made.
+fn all_rows<'m, 'b, K: Over>(
+    alloc: Global,
+    mut once: OnceRows<'m, 'b, K>,
+    most: u32,
+) -> Result<(HeldRows<'m, 'b, K>, Closed), CloseFault>
+    requires hedges { once.hedges ≡ [] }
+    requires trees { once.trees ≡ [] }
+    requires most { most ≤ 4000 }
+    ensures closure { IfOk result (λ r. IsClosure (held_of K.is_of r.0) r.1) }
+    ensures few { IfOk result (λ r. ((held_of K.is_of r.0).trees ≤ most) × ((held_of K.is_of r.0).hedges ≤ most)) }
+    ensures cause { IfErr result (λ e. (x : Triple) → K.is_of x → IsCloseCause x most e) }
+{
+    match close(alloc, &mut once, most) {
+        Ok(closed) => Ok((once.into_rows(), closed)),
+        Err(fault) => Err(fault_of_rows(once, most, fault)),
+    }
+}
+
 /// All rows over some triples that a machine stands for, and how they are made.
 pub(crate) fn settled<'m, 'b, K: Over>(
     alloc: Global,
@@ -125,13 +155,29 @@ pub(crate) fn settled<'m, 'b, K: Over>(
     ensures few { IfOk result (λ r. ((held_of K.is_of r.0).trees ≤ most) × ((held_of K.is_of r.0).hedges ≤ most)) }
     ensures cause { IfErr result (λ e. (x : Triple) → K.is_of x → IsCloseCause x most e) }
 {
-    let mut once = OnceRows::<K>::new(alloc, machine)?;
-    let closed = close(alloc, &mut once, most);
-    let rows = once.into_rows();
-    match closed {
-        Ok(closed) => Ok((rows, closed)),
-        Err(fault) => Err(close_fault(&rows, most, fault)),
+    match OnceRows::<K>::new(alloc, machine) {
+        Ok(once) => all_rows(alloc, once, most),
+        Err(NoMemory) => Err(CloseFault::NoMemory),
     }
+}
+
+/// The decision of all rows that are found.
+fn decided<'b, K: Over>(
+    arena: &'b Bump,
+    alphabet: &Alphabet,
+    mut rows: HeldRows<'_, 'b, K>,
+    closed: Closed,
+    most: u32,
+) -> Result<Decision<'b>, NoMemory>
+    requires alphabet { (x : Triple) → K.is_of x → alphabet.now ≡ x.symbols }
+    requires closure { IsClosure (held_of K.is_of rows) closed }
+    requires trees { (held_of K.is_of rows).trees ≤ most }
+    requires hedges { (held_of K.is_of rows).hedges ≤ most }
+    ensures { IfOk result (λ d. (x : Triple) → K.is_of x → IsDecided x most d) }
+{
+    let decision = verdict(arena, alphabet, &mut rows, &closed, most);
+    drop(rows);
+    decision
 }
 
 /// The decision over some triples that a machine stands for.
@@ -147,10 +193,9 @@ fn decide_over<'b, K: Over>(
     ensures decision { IfOk result (λ d. (x : Triple) → K.is_of x → IsDecided x most d) }
     ensures cause { IfErr result (λ e. (x : Triple) → K.is_of x → IsCloseCause x most e) }
 {
-    let (mut rows, closed) = settled::<K>(alloc, machine, most)?;
-    match verdict(arena, machine.alphabet(), &mut rows, &closed, most) {
-        Ok(decision) => Ok(decision),
-        Err(NoMemory) => Err(CloseFault::NoMemory),
+    match settled::<K>(alloc, machine, most) {
+        Ok((rows, closed)) => Ok(decided(arena, machine.alphabet(), rows, closed, most)?),
+        Err(fault) => Err(fault),
     }
 }
 

@@ -65,9 +65,9 @@ impl<'m, 'b, K: Over> HeldRows<'m, 'b, K> {
         ensures hedges { IfOk result (λ r. r.hedges ≡ []) }
         ensures trees { IfOk result (λ r. r.trees ≡ []) }
     {
-        let rows = Rows::new(alloc, machine)?;
         let rooms = Rooms::new(alloc, machine)?;
         let kinds = Kinds::new(alloc, machine.shape())?;
+        let rows = Rows::new(alloc, machine)?;
         Ok(HeldRows {
             rows,
             hedges: Lists::new(alloc),

@@ -112,11 +112,13 @@ impl Kinds {
     pub(crate) fn new(alloc: Global, shape: Shape) -> Result<Kinds, NoMemory>
         ensures { IfOk result (λ k. KnowsNothing shape.inputs shape.patterns k) }
     {
+        let appends = PairTable::new(alloc)?;
+        let wraps = PairTable::new(alloc)?;
         Ok(Kinds {
             hedges: Alike::new(alloc, shape.inputs),
             trees: Alike::new(alloc, shape.patterns),
-            appends: PairTable::new(alloc)?,
-            wraps: PairTable::new(alloc)?,
+            appends,
+            wraps,
         })
     }
 

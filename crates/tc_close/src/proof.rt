@@ -77,6 +77,27 @@ fn told<'b, K: Over>(
     }
 }
 
+/// The proof of all rows that are found.
+fn proved<'b, K: Over>(
+    arena: &'b Bump,
+    alloc: Global,
+    machine: &Machine<'b>,
+    mut rows: HeldRows<'_, 'b, K>,
+    closed: Closed,
+    most: u32,
+) -> Result<Proof<'b>, NoMemory>
+    requires machine { (x : Triple) → K.is_of x → IsMachineOf x machine.now }
+    requires closure { IsClosure (held_of K.is_of rows) closed }
+    requires trees { (held_of K.is_of rows).trees ≤ most }
+    requires hedges { (held_of K.is_of rows).hedges ≤ most }
+    requires most { most ≤ 4000 }
+    ensures { IfOk result (λ p. (x : Triple) → K.is_of x → IsProved x most p) }
+{
+    let proof = told(arena, alloc, machine, &mut rows, &closed, most);
+    drop(rows);
+    proof
+}
+
 /// The proof over some triples that a machine stands for.
 fn prove_over<'b, K: Over>(
     arena: &'b Bump,
@@ -90,10 +111,9 @@ fn prove_over<'b, K: Over>(
     ensures proof { IfOk result (λ p. (x : Triple) → K.is_of x → IsProved x most p) }
     ensures cause { IfErr result (λ e. (x : Triple) → K.is_of x → IsCloseCause x most e) }
 {
-    let (mut rows, closed) = settled::<K>(alloc, machine, most)?;
-    match told(arena, alloc, machine, &mut rows, &closed, most) {
-        Ok(proof) => Ok(proof),
-        Err(NoMemory) => Err(CloseFault::NoMemory),
+    match settled::<K>(alloc, machine, most) {
+        Ok((rows, closed)) => Ok(proved(arena, alloc, machine, rows, closed, most)?),
+        Err(fault) => Err(fault),
     }
 }
 

@@ -2,6 +2,8 @@
 ghost use Rattle.std.specs.Prelude.{IfOk};
 ghost use Rattle.tc_rows.specs.Triples.{Triple};
 ghost use Rattle.tc_beh.specs.Machines.{IsMachine, IsMachineOf};
+ghost use Rattle.tc_beh.specs.Rooms.{hedge_layout, tree_layout};
+ghost use Rattle.tc_beh.specs.RoomsOf.{IsRoomOf};
 
 use std::alloc::Global;
 use tc_base::NoMemory;
@@ -16,6 +18,16 @@ pub(crate) struct Rooms {
     pub(crate) new_tree: TRow,
 }
 
+/// Room for the row of a list of trees, and for that of a tree.
+fn pair(alloc: Global, machine: &Machine<'_>) -> Result<(HRow, TRow), NoMemory>
+    requires { IsMachine machine.now }
+    ensures { IfOk result (λ r. (x : Triple) → IsMachineOf x machine.now → IsRoomOf (hedge_layout x) r.0.room × IsRoomOf (tree_layout x) r.1.room) }
+{
+    let hedge = HRow::room(alloc, machine)?;
+    let tree = TRow::room(alloc, machine)?;
+    Ok((hedge, tree))
+}
+
 impl Rooms {
     ghost use Rattle.tc_close.specs.HeldRows.{AreRoomsOf};
 
@@ -23,10 +35,8 @@ impl Rooms {
         requires { IsMachine machine.now }
         ensures { IfOk result (λ r. (x : Triple) → IsMachineOf x machine.now → AreRoomsOf x r) }
     {
-        let hedge = HRow::room(alloc, machine)?;
-        let tree = TRow::room(alloc, machine)?;
-        let new_hedge = HRow::room(alloc, machine)?;
-        let new_tree = TRow::room(alloc, machine)?;
+        let (hedge, tree) = pair(alloc, machine)?;
+        let (new_hedge, new_tree) = pair(alloc, machine)?;
         Ok(Rooms {
             hedge,
             tree,

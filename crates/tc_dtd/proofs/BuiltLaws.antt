@@ -1,21 +1,23 @@
 -- What the steps of making a grammar show of the whole.
-use Rattle.std.proofs.Common.{◌≡◌, ◌+◌, ◌<◌, ◌≤◌, ℕ, zero, suc, Bool, true, false, cond, ◌||◌, List, [], ◌∷◌, ◌++◌, refl, ap, ◌∙◌, sym, arith, Option, Some, None, is_some, map, length, drop, take, get_or, bytes_eq, position, append_assoc, Bor}
+use Rattle.std.proofs.Common.{◌≡◌, ◌+◌, ◌^◌, ◌<◌, ◌≤◌, ℕ, zero, suc, Bool, true, false, cond, ◌||◌, List, [], ◌∷◌, ◌++◌, refl, ap, ◌∙◌, sym, arith, Option, Some, None, is_some, map, length, drop, take, get_or, bytes_eq, position, append_assoc, add-one, Bor}
 use Rattle.std.specs.List.{filter_map, list_any, IsDistinct, AllByRecursion}
 use Rattle.std.specs.Option.{option_map}
 use Rattle.std.proofs.lemmas.Bool.{true≢false, false_from_ne_true}
 use Rattle.std.proofs.lemmas.List.Elements.{filter_map-append}
-use Rattle.std.proofs.lemmas.List.{drop_more, drop_all, map-append, take_more, take_all}
+use Rattle.std.proofs.lemmas.List.{drop_more, drop_all, map-append, length-map, take_more, take_all}
 use Rattle.std.proofs.lemmas.List.Quantifiers.{position-Some}
 use Rattle.indexmap.specs.IndexSet.{insert_key}
 use Rattle.tc_graph.specs.Graph.{is_marked}
 use Rattle.tc_model.specs.Grammars as g
 use Rattle.tc_model.specs.Grammars.{ElementPattern}
 use Rattle.tc_model.specs.Views as seen
+use Rattle.tc_model.specs.declared.grammar.NameClass.TheVariants as classes
 use Rattle.tc_model.specs.declared.grammar.Pat.{Pat}
-use Rattle.tc_model.proofs.ViewsGrammar.{patterns_then, pushed_pattern, patterns_then_none, patterns_then_assoc}
+use Rattle.tc_model.specs.declared.tree.Name.{Name}
+use Rattle.tc_model.proofs.ViewsGrammar.{see_name, patterns_then, pushed_pattern, patterns_then_none, patterns_then_assoc}
 use Rattle.tc_dtd.specs.Declarations as t
 use Rattle.tc_dtd.specs.Built as built
-use Rattle.tc_dtd.specs.Numbers.{number_in, marked_from, AreApart}
+use Rattle.tc_dtd.specs.Numbers.{number_in, numbers_below, marked_from, AreApart}
 use Rattle.tc_dtd.specs.Views as see
 use Rattle.tc_dtd.specs.declared.declarations.Particle.{Particle}
 use Rattle.tc_dtd.specs.declared.declarations.Decl.{Decl}
@@ -98,6 +100,30 @@ pub names_all : (ds : List Decl) (i : ℕ) (keys : List (Bor (List ℕ))) → le
 names_all ds i keys l e = ap see.names (e ∙ ap (map (λ x. x.name)) (take_all i ds l)) ∙ names_seen ds
 
 -- links
+
+pub below_more : (n : ℕ) (out new : List ℕ) → out ≡ numbers_below n → new ≡ out ++ n ∷ [] → new ≡ numbers_below (n + 1)
+below_more n out new e more = rw add-one (more ∙ ap (λ w. w ++ n ∷ []) e)
+
+-- one more of the values that are made of items by two steps
+pub mapped_more : {A B C D : Type 0} (f : A → D) (h : C → D) (k : B → C) (xs : List B) (i : ℕ) (x : B) (out new : List A) (a : A) → i < length xs → map f out ≡ map h (map k (take i xs))
+    → new ≡ out ++ a ∷ [] → f a ≡ h (k (get_or xs i x)) → map f new ≡ map h (map k (take (i + 1) xs))
+mapped_more f h k xs i x out new a l e more same =
+    ap (map f) more
+    ∙ (map-append f out (a ∷ [])
+    ∙ (ap (λ w. w ++ f a ∷ []) e
+    ∙ (ap (λ w. map h (map k (take i xs)) ++ w ∷ []) same
+    ∙ sym (ap (λ w. map h (map k w)) (take_more xs i x l)
+    ∙ (ap (map h) (map-append k (take i xs) (get_or xs i x ∷ []))
+    ∙ map-append h (map k (take i xs)) (k (get_or xs i x) ∷ []))))))
+
+pub element_is : (ns : List (List ℕ)) (x : t.Declaration) (n : Name) (p : Pat) → seen.name n ≡ record { uri = []; local = x.name } → seen.pattern p ≡ built.content_pattern ns x.content
+    → seen.element_pattern (record { names = classes.Name n; content = p }) ≡ built.element_pattern ns x
+element_is ns x n p named same =
+    let make : g.NameClass → g.Pattern → ElementPattern = λ c q. record { names = c; content = q } in
+    ap (λ c. make c (seen.pattern p)) (see_name n ∙ ap g.of_name named) ∙ ap (make (g.of_name (record { uri = []; local = x.name }))) same
+
+pub few_names : (ds : List Decl) (keys : List (Bor (List ℕ))) → see.names keys ≡ map (λ x. x.name) (map see.declaration ds) → length ds ≤ 256 → length (see.names keys) < 2 ^ 31
+few_names ds keys e few = omega (arith, ap length e, length-map (map see.declaration ds) (λ (x : t.Declaration). x.name), length-map ds see.declaration)
 
 pub links_next : {X : Type 0} (f : List ℕ → Option X) (ps : List Particle) (i : ℕ) (x : Particle) (old new : List X) → i < length ps → x ≡ get_or ps i x → new ≡ old ++ filter_map f (t.names_in (see.particle x))
     → new ++ filter_map f (t.names_in_all (see.particles (drop (i + 1) ps))) ≡ old ++ filter_map f (t.names_in_all (see.particles (drop i ps)))

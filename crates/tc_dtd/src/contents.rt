@@ -147,9 +147,7 @@ fn list_of<'b>(
 ) -> Result<Vec<Particle<'b>, &'b Bump>, NoMemory>
     ensures { IfOk result (λ v. v.items ≡ first.entry ∷ []) }
 {
-    let mut all = Vec::new(arena);
-    all.reserve_exact(1)?;
-    all.push(first)?;
+    let all = Vec::from_slice(arena, &[first])?;
     Ok(all)
 }
 

@@ -23,7 +23,7 @@ pub enum DtdFault {
 }
 
 /// Why reading stops, with how many bytes are left there.
-#[derive(Clone, Copy, Debug)]
+#[derive(Clone, Copy)]
 pub(crate) enum Stop {
     Malformed(usize),
     Unsupported(usize, Why),

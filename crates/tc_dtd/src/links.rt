@@ -113,12 +113,12 @@ pub(crate) fn links<'b>(
     ensures { IfOk result (λ v. rows_of v.items ≡ link_rows (map see.declaration decls.now)) }
 {
     let count = decls.len();
+    let last = all_below(arena, count)?;
     let mut rows = Vec::new(arena);
     for decl in decls {
         let one = row(arena, found, &decl.content, count)?;
         rows.push(one)?;
     }
-    let last = all_below(arena, count)?;
     rows.push(last)?;
     Ok(rows)
 }

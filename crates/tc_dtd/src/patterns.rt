@@ -29,10 +29,8 @@ pub(crate) fn reference<'b>(found: &Names<'b>, name: &'b str) -> Pat<'b>
 fn two<'b>(arena: &'b Bump, first: Pat<'b>, second: Pat<'b>) -> Result<&'b [Pat<'b>], NoMemory>
     ensures { IfOk result (λ ps. seen.patterns ps.now ≡ both (seen.pattern first.entry) (seen.pattern second.entry)) }
 {
-    let mut out = Vec::new(arena);
-    out.push(first)?;
-    out.push(second)?;
-    Ok(into_bump_slice(out))
+    let ps: &'b [Pat<'b>] = arena.try_alloc_slice_copy(&[first, second])?;
+    Ok(ps)
 }
 
 /// One or more of a pattern.
@@ -110,8 +108,7 @@ fn text_and_references<'b>(
     requires { length (see.names found.now.keys) < 2 ^ 31 }
     ensures { IfOk result (λ ps. seen.patterns ps.now ≡ g.more g.text (built.references (see.names found.now.keys) (see.names names.now))) }
 {
-    let mut out = Vec::new(arena);
-    out.push(Pat::Text)?;
+    let mut out = Vec::from_slice(arena, &[Pat::Text])?;
     for name in names {
         out.push(reference(found, name))?;
     }
@@ -160,7 +157,6 @@ fn content_pattern<'b>(
 }
 
 /// The element patterns of declarations.
-#[tactic(auto, using(tc_model::proofs::ViewsGrammar::see_class))]
 pub(crate) fn element_patterns<'b>(
     arena: &'b Bump,
     found: &Names<'b>,

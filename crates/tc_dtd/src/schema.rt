@@ -12,7 +12,7 @@ ghost use Rattle.tc_dtd.specs.Views as see;
 
 use crate::declarations::{Decl, Dtd};
 use crate::links::{links, marked};
-use crate::numbers::{names_of, number_of};
+use crate::numbers::{Names, names_of, number_of};
 use crate::patterns::{element_patterns, reference};
 use crate::sizes::total;
 use bumpalo::Bump;
@@ -45,6 +45,25 @@ impl From<OutOfMemory> for DtdGrammarFault {
     }
 }
 
+/// The declarations of the elements that are reached from this one, in their order, by the numbers of their names.
+fn kept_by<'b>(
+    arena: &'b Bump,
+    decls: &'b [Decl<'b>],
+    found: &Names<'b>,
+    root: &'b str,
+) -> Result<&'b [Decl<'b>], OutOfMemory>
+    requires declarations { AreDeclarations (map see.declaration decls.now) }
+    requires found { see.names found.now.keys ≡ map (λ x. x.name) (map see.declaration decls.now) }
+    ensures { IfOk result (λ v. Keeps (map see.declaration decls.now) root.now (map see.declaration decls.now) (map see.declaration v.now)) }
+{
+    let Some(number) = number_of(found, root) else {
+        return Ok(&[]);
+    };
+    let rows = links(arena, found, decls)?;
+    let marks = reached(arena, rows.as_slice(), number)?;
+    marked(arena, decls, marks.as_slice())
+}
+
 /// The declarations of the elements that are reached from this one, in their order.
 fn kept<'b>(
     arena: &'b Bump,
@@ -55,12 +74,7 @@ fn kept<'b>(
     ensures { IfOk result (λ v. Keeps (map see.declaration decls.now) root.now (map see.declaration decls.now) (map see.declaration v.now)) }
 {
     let found = names_of(arena, decls)?;
-    let Some(number) = number_of(&found, root) else {
-        return Ok(&[]);
-    };
-    let rows = links(arena, &found, decls)?;
-    let marks = reached(arena, rows.as_slice(), number)?;
-    marked(arena, decls, marks.as_slice())
+    kept_by(arena, decls, &found, root)
 }
 
 /// Whether the grammar of these elements isn't too large.
@@ -98,8 +112,8 @@ fn built<'b>(arena: &'b Bump, decls: &[Decl<'b>], root: &'b str) -> Result<Gramm
     requires few { length decls.now ≤ 256 }
     ensures { IfOk result (λ g. seen.grammar g ≡ grammar_with (map see.declaration decls.now) root.now) }
 {
-    let found = names_of(arena, decls)?;
     let names = local_names(arena, decls)?;
+    let found = names_of(arena, decls)?;
     let elements = element_patterns(arena, &found, names, decls)?;
     let start = reference(&found, root);
     Ok(Grammar { start, elements })

@@ -1,5 +1,5 @@
 -- Alternatives, primaries, closed tests and single steps: what they are by what was found at the front.
-use Rattle.std.proofs.Common.{◌≡◌, ◌==◌, Bool, true, false, List, [], ◌∷◌, refl, ap, ◌∙◌, sym, subst, length, arith, Result, Ok, Err, IfErr}
+use Rattle.std.proofs.Common.{◌≡◌, ◌==◌, Bool, true, false, List, [], ◌∷◌, refl, ap, ◌∙◌, sym, subst, length, arith, Result, Ok, Err, IfOk, IfErr}
 use Rattle.std.specs.Prelude.{codes}
 use Rattle.std.specs.Result.{IsErrAnd}
 use Rattle.std.specs.Borrow.{Bor}
@@ -15,6 +15,7 @@ use Rattle.tc_model.specs.declared.sheet.Test.TheVariants as code_tests
 use Rattle.tc_model.proofs.ViewsPath.{see_not}
 use Rattle.tc_model.proofs.PathTextUnique.{same_others, child_unique, steps_open, no_path_dot, no_select_call, no_select_parenthesis, select_unique, or_unique}
 use Rattle.tc_path.specs.declared.PathFault.{PathFault}
+use Rattle.tc_path.specs.declared.PathFault.TheVariants.{NoMemory}
 use Rattle.tc_path.specs.Faults.{OrNoMemory}
 use Rattle.tc_path.specs.Phrases.{is_lone, IsStepAt, a_step, ClosedAt}
 use Rattle.tc_path.proofs.NodeTestLaws.{or_memory}
@@ -23,6 +24,15 @@ use Rattle.tc_path.proofs.NodeTestLaws.{or_memory}
 pub handed_on : {T : Type 0} {P Q : Type 0} (r : Result T PathFault) (x : PathFault) → IsErrAnd r (λ e. e ≡ x) → (P → Q) → OrNoMemory x P → IfErr r (λ e. OrNoMemory e Q)
 handed_on (Ok v) x h f g = tt
 handed_on {P = P} (Err e) x h f g = or_memory e f (subst (λ w. OrNoMemory w P) (sym h) g)
+
+-- an error is no value, and want of memory says nothing of the tokens
+pub not_ok : {T : Type 0} (P : T → Type 0) (Q : PathFault → Type 0) (r : Result T PathFault) → IsErrAnd r Q → IfOk r P
+not_ok P Q (Ok v) h = absurd h
+not_ok P Q (Err e) h = tt
+
+pub no_memory : {T : Type 0} (Q : Type 0) (r : Result T PathFault) → IsErrAnd r (λ e. e ≡ NoMemory) → IfErr r (λ e. OrNoMemory e Q)
+no_memory Q (Ok v) h = tt
+no_memory Q (Err e) h = subst (λ w. OrNoMemory w Q) (sym h) tt
 
 module _ (scope : List Bound) where
   -- alternatives

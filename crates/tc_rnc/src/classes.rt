@@ -84,8 +84,7 @@ impl<'b> Parser<'b> {
         ensures ok { IfOk result (λ r. (cs : trees.SyntaxClasses) × (seen.classes r.0.now ≡ trees.class (seen.class first.entry) cs) × names.ClassesAt (scope_of self.now.scope) deepest (seen.tokens tokens.now) cs (seen.tokens r.1.now)) }
         ensures no { IfErr result (Refuses (stops.ClassStops (seen.end self.now.end) (scope_of self.now.scope) deepest (seen.tokens tokens.now))) }
     {
-        let mut all = Vec::new(self.arena);
-        all.push(first)?;
+        let mut all = Vec::from_slice(self.arena, &[first])?;
         let mut rest = tokens.split_at(0).1;
         loop {
             let (next, after) = self.simple_name_class(rest, deepest)?;
@@ -171,12 +170,11 @@ impl<'b> Parser<'b> {
         ensures ok { IfOk result (λ r. names.ExceptAt (scope_of self.now.scope) deepest (seen.tokens tokens.now) (seen.classes r.0.now) (seen.tokens r.1.now)) }
         ensures no { IfErr result (Refuses (parts.ExceptStops (seen.end self.now.end) (scope_of self.now.scope) deepest (seen.tokens tokens.now))) }
     {
-        let mut classes = Vec::new(self.arena);
         let Some(behind) = after_mark(tokens, '-') else {
-            return Ok((into_bump_slice(classes), tokens));
+            return Ok((&[], tokens));
         };
         let (class, after) = self.simple_name_class(behind, deepest)?;
-        classes.push(class)?;
-        Ok((into_bump_slice(classes), after))
+        let classes: &'b [SClass<'b>] = self.arena.try_alloc_slice_copy(&[class])?;
+        Ok((classes, after))
     }
 }

@@ -24,7 +24,7 @@ use bumpalo::collections::into_bump_slice;
 use tc_base::Place;
 
 /// What stands between items.
-#[derive(Clone, Copy, Debug, PartialEq, Eq)]
+#[derive(Clone, Copy, PartialEq, Eq)]
 enum Connector {
     Comma,
     Bar,
@@ -126,8 +126,7 @@ fn begun<'b>(arena: &'b Bump, item: SPat<'b>) -> Result<Vec<SPat<'b>, &'b Bump>,
     ensures ok { IfOk result (λ all. all.items ≡ item.entry ∷ []) }
     ensures no { IfErr result (λ e. e ≡ NoMemory) }
 {
-    let mut all = Vec::new(arena);
-    all.push(item)?;
+    let all = Vec::from_slice(arena, &[item])?;
     Ok(all)
 }
 

@@ -80,14 +80,13 @@ fn start_alone<'b>(arena: &'b Bump, body: SPat<'b>) -> Result<&'b [Def<'b>], Rnc
     ensures ok { IfOk result (λ r. map seen.definition r.now ≡ model.one_definition [] trees.plain (seen.pattern body.entry) 0) }
     ensures no { IfErr result (λ e. e ≡ NoMemory) }
 {
-    let mut defs = Vec::new(arena);
-    defs.push(Def {
+    let defs: &'b [Def<'b>] = arena.try_alloc_slice_copy(&[Def {
         name: "",
         joins: Joins::Plain,
         body,
         place: Place(0),
-    })?;
-    Ok(into_bump_slice(defs))
+    }])?;
+    Ok(defs)
 }
 
 impl<'b> Parser<'b> {

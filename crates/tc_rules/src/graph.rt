@@ -59,7 +59,7 @@ pub(crate) struct Graph {
 }
 
 /// Why there is no graph.
-#[derive(Clone, Copy, Debug, PartialEq, Eq)]
+#[derive(Clone, Copy)]
 pub(crate) enum GraphFault {
     /// There are more states than there may be.
     TooManyStates,
@@ -506,7 +506,7 @@ fn known_at(leads: &[Option<u32>], place: usize) -> Option<Option<u32>>
 }
 
 /// Which states count: all, or those with an item.
-#[derive(Clone, Copy, Debug, PartialEq, Eq)]
+#[derive(Clone, Copy)]
 pub(crate) enum Counts {
     All,
     SomeItem,

@@ -15,7 +15,7 @@ use tc_base::NoMemory;
 use tc_model::{Name, NodeTest, Step, Test};
 
 /// For each alternative of a path a truth value for each of its steps: a path state, or which steps fit a letter.
-#[derive(Debug, PartialEq, Eq, Hash, Drop)]
+#[derive(PartialEq, Eq, Hash, Drop)]
 pub(crate) struct Row {
     pub(crate) alternatives: Vec<Vec<bool>>,
 }

@@ -13,6 +13,7 @@ pub mod TableKeys
 pub mod NamedAgain
 pub mod CallLaws
 pub mod CallChecks
+pub mod CallSteps
 pub mod TableLaws
 pub mod NumberLaws
 pub mod LawfulCalls

@@ -27,7 +27,7 @@ use Rattle.tc_sheet.specs.declared.written.Written.{Written}
 use Rattle.tc_sheet.specs.declared.written.Written.TheVariants as v
 use Rattle.tc_sheet.specs.declared.written.Template.{Template}
 use Rattle.tc_sheet.proofs.ViewsWritten.{see_text, see_elem, see_copy, see_apply, see_call, see_value_of, see_value_of_self, see_choose, see_for_each, left_written}
-use Rattle.tc_sheet.proofs.WrittenParts.{choose_eaches, next_branch, eaches_step, eaches_branch, no_body_left}
+use Rattle.tc_sheet.proofs.WrittenParts.{choose_eaches, next_branch, eaches_step, eaches_branch, eaches_end, eaches_branches_end, no_body_left}
 use Rattle.tc_sheet.proofs.TableKeys.{same_key, found_at, any_seen, number_past}
 
 module _ (modes names : List ExpandedName) where
@@ -127,18 +127,26 @@ module _ (modes names : List ExpandedName) where
       pushed_branch found x (numbered_branches modes names next left)
       ∙ (ap (see.branches found) (one ∙ ap (numbered_branches modes names from) (sym (next_branch bs k d h rest))) ∙ g rest)
 
-  pub branches_count : (bs : List WrittenBranch) (k : ℕ) (d : WrittenBranch) (h : k < length bs) (from next all : ℕ) → next ≡ from + eaches_in (body (get_or bs k d).body.now)
-      → from + eaches_in_branches (branches_of (drop k bs)) ≡ all → next + eaches_in_branches (branches_of (drop (k + 1) bs)) ≡ all
-  branches_count bs k d h from next all e f = omega (arith, e, f, eaches_branch bs k d h)
-
-  pub body_count : (is : List Written) (k : ℕ) (w : Written) (h : k < length is) → w ≡ get_or is k w → (from next all : ℕ) → next ≡ from + eaches_in (alone (written w)) → from + eaches_in (body (drop k is)) ≡ all
-      → next + eaches_in (body (drop (k + 1) is)) ≡ all
-  body_count is k w h e from next all f g = omega (arith, f, g, eaches_step is k w h e)
-
   pub branches_end : (bs : List WrittenBranch) (k : ℕ) (found : List Branch) (next start : ℕ) → length bs ≤ k
       → ((rest : WrittenBranches) → see.branches found (numbered_branches modes names next (branches (drop k bs) rest)) ≡ numbered_branches modes names start (branches bs rest)) → (rest : WrittenBranches)
       → see.branches found (numbered_branches modes names next rest) ≡ numbered_branches modes names start (branches bs rest)
   branches_end bs k found next start h g rest = ap (λ z. see.branches found (numbered_branches modes names next (branches z rest))) (sym (drop_all k bs h)) ∙ g rest
+
+-- one more is counted
+pub branches_count : (bs : List WrittenBranch) (k : ℕ) (d : WrittenBranch) (h : k < length bs) (from next all : ℕ) → next ≡ from + eaches_in (body (get_or bs k d).body.now)
+    → from + eaches_in_branches (branches_of (drop k bs)) ≡ all → next + eaches_in_branches (branches_of (drop (k + 1) bs)) ≡ all
+branches_count bs k d h from next all e f = omega (arith, e, f, eaches_branch bs k d h)
+
+pub body_count : (is : List Written) (k : ℕ) (w : Written) (h : k < length is) → w ≡ get_or is k w → (from next all : ℕ) → next ≡ from + eaches_in (alone (written w)) → from + eaches_in (body (drop k is)) ≡ all
+    → next + eaches_in (body (drop (k + 1) is)) ≡ all
+body_count is k w h e from next all f g = omega (arith, f, g, eaches_step is k w h e)
+
+-- nothing is left to count
+pub body_counted : (is : List Written) (k next all : ℕ) → length is ≤ k → next + eaches_in (body (drop k is)) ≡ all → next ≡ all
+body_counted is k next all h e = omega (arith, e, eaches_end is k h)
+
+pub branches_counted : (bs : List WrittenBranch) (k next all : ℕ) → length bs ≤ k → next + eaches_in_branches (branches_of (drop k bs)) ≡ all → next ≡ all
+branches_counted bs k next all h e = omega (arith, e, eaches_branches_end bs k h)
 
 pub if_ok : {T E : Type 0} (r : Result T E) (P Q : T → Type 0) → ((x : T) → P x → Q x) → IfOk r P → IfOk r Q
 if_ok (Ok x) P Q f h = f x h

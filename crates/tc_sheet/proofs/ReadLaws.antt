@@ -1,5 +1,5 @@
 -- Instructions that are read.
-use Rattle.std.proofs.Common.{◌≡◌, ◌⊎◌, inl, inr, ℕ, List, [], ◌∷◌, ◌++◌, refl, ap, ◌∙◌, sym, subst, Option, option_map, Bor}
+use Rattle.std.proofs.Common.{◌≡◌, ◌⊎◌, inl, inr, ℕ, List, [], ◌∷◌, refl, ap, ◌∙◌, sym, subst, Option, option_map, Bor}
 use Rattle.std.specs.Prelude.{codes}
 use Rattle.tc_model.specs.RawTrees.{Bound}
 use Rattle.tc_model.specs.Views.{name, path, test, instruction, raw_trees}
@@ -107,9 +107,9 @@ module _ (e : RawElem) where
   pub no_attribute_read : IsRead p.i_attribute e (λ b. b)
   no_attribute_read = λ rest. p.an_attribute
 
-pub if_made : (bs : Bor (List WrittenBranch)) (b : Bor (List Written)) (items new : List WrittenBranch) (x : WrittenBranch) → bs.now ≡ items → items ≡ new ++ x ∷ [] → new ≡ [] → b.now ≡ []
+pub if_made : (bs : Bor (List WrittenBranch)) (b : Bor (List Written)) (y x : WrittenBranch) → bs.now ≡ y ∷ [] → y ≡ x → b.now ≡ []
     → (rest : WrittenBody) → written (v.Choose bs b) rest ≡ t.w_choose (t.w_branch (test x.test) (body x.body.now) (t.w_otherwise t.w_nothing)) rest
-if_made bs b items new x e f g h rest =
+if_made bs b y x e f g rest =
     see_choose bs b rest
-    ∙ (ap (λ l. t.w_choose (branches l (t.w_otherwise (body b.now))) rest) (e ∙ (f ∙ ap (λ l. l ++ x ∷ []) g))
-    ∙ ap (λ l. t.w_choose (t.w_branch (test x.test) (body x.body.now) (t.w_otherwise (body l))) rest) h)
+    ∙ (ap (λ l. t.w_choose (branches l (t.w_otherwise (body b.now))) rest) (e ∙ ap (λ z. z ∷ []) f)
+    ∙ ap (λ l. t.w_choose (t.w_branch (test x.test) (body x.body.now) (t.w_otherwise (body l))) rest) g)

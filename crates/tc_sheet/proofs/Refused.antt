@@ -28,6 +28,9 @@ handed_on P (Ok v) x h a = tt
 handed_on P (Err e) x h a = subst P (sym h) a
 
 -- want of memory refuses nothing
+pub memory_refuses : (h : Item → Type 0) (P : Change → Type 0) {e : SheetFault} → e ≡ NoMemory → Refuses e h P
+memory_refuses h P a = subst (λ w. Refuses w h P) (sym a) tt
+
 pub no_memory : {T : Type 0} (P : Change → Type 0) (h : Item → Type 0) (r : Result T SheetFault) → IfErr r (λ e. e ≡ NoMemory) → IfErr r (λ e. Refuses e h P)
 no_memory P h (Ok v) a = tt
 no_memory P h (Err e) a = subst (λ w. Refuses w h P) (sym a) tt

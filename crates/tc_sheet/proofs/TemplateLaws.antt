@@ -319,6 +319,12 @@ pub stylesheet_calls : (e : RawElem) (r : Result (Bor (List Code)) SheetFault) �
 stylesheet_calls e (Ok ts) a = tt
 stylesheet_calls e (Err x) a = no_call (IsIn at_top (raw_trees e.kids.now)) (HasNoTemplates (raw_trees e.kids.now)) x a
 
+-- whether a template lacks something, by what was found
+tests_are : {A B : Type 0} (p q r : Bool) (a : Option A) (n m : Option B) → p ≡ is_some a → q ≡ is_some n → r ≡ is_some m → (p || (q && not r)) ≡ (is_some a || (is_some n && not (is_some m)))
+tests_are p q r a n m e f g = ap (λ (p : Bool). p || (q && not r)) e ∙ (ap (λ (q : Bool). is_some a || (q && not r)) f ∙ ap (λ (r : Bool). is_some a || (is_some n && not r)) g)
+
 pub lacks_by : {A B : Type 0} (p q r : Bool) (a : Option A) (n m : Option B) → p ≡ is_some a → q ≡ is_some n → r ≡ is_some m → (p || (q && not r)) ≡ false → (is_some a || (is_some n && not (is_some m))) ≡ false
-lacks_by p q r a n m e f g h =
-    sym (ap (λ (p : Bool). p || (q && not r)) e ∙ (ap (λ (q : Bool). is_some a || (q && not r)) f ∙ ap (λ (r : Bool). is_some a || (is_some n && not r)) g)) ∙ h
+lacks_by p q r a n m e f g h = sym (tests_are p q r a n m e f g) ∙ h
+
+pub has_by : {A B : Type 0} (p q r : Bool) (a : Option A) (n m : Option B) → p ≡ is_some a → q ≡ is_some n → r ≡ is_some m → (p || (q && not r)) ≡ true → (is_some a || (is_some n && not (is_some m))) ≡ true
+has_by p q r a n m e f g h = sym (tests_are p q r a n m e f g) ∙ h

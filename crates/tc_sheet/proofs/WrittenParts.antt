@@ -317,3 +317,13 @@ choose_puts_modes bs b i old middle new e f g =
     g
     ∙ (ap (λ z. puts z (modes_in_body (body b.now))) f
     ∙ (sym (puts_append old (modes_in_branches (branches_of bs.now)) (modes_in_body (body b.now))) ∙ ap (puts old) (sym (modes_of_choose bs b) ∙ ap (λ j. modes_in_body (alone (written j))) (sym e))))
+
+-- an instruction that is known
+pub calls_as : (i u : Written) {cs : List Call} (old new : List Call) → i ≡ u → calls_in_body (alone (written u)) ≡ cs → new ≡ old ++ cs → new ≡ old ++ calls_in_body (alone (written i))
+calls_as i u old new e f g = g ∙ ap (λ z. old ++ z) (sym (ap (λ j. calls_in_body (alone (written j))) e ∙ f))
+
+pub modes_as : (i u : Written) {ms : List ExpandedName} (old new : List ExpandedName) → i ≡ u → modes_in_body (alone (written u)) ≡ ms → new ≡ puts old ms → new ≡ puts old (modes_in_body (alone (written i)))
+modes_as i u old new e f g = g ∙ ap (puts old) (sym (ap (λ j. modes_in_body (alone (written j))) e ∙ f))
+
+pub eaches_as : (i u : Written) {k : ℕ} (n : ℕ) → i ≡ u → eaches_in (alone (written u)) ≡ k → n ≡ k → n ≡ eaches_in (alone (written i))
+eaches_as i u n e f g = g ∙ sym (ap (λ j. eaches_in (alone (written j))) e ∙ f)

@@ -23,6 +23,7 @@ use crate::faults::SheetFault;
 use crate::written::{Written, WrittenBranch};
 use bumpalo::Bump;
 use bumpalo::collections::{into_bump_slice, into_bump_str};
+use std::slice::from_ref;
 use tc_model::{Instr, Name, NodeTest, Path, Raw, RawElem, Step, Test, is_white_space_only};
 
 /// Checks that these are texts of white space alone (XSLT 1.0, 3.4).
@@ -268,13 +269,6 @@ fn begin<'b>(arena: &'b Bump, element: &RawElem<'b>) -> Result<Begun<'b>, SheetF
     }
 }
 
-/// A body of no instruction.
-fn no_instruction<'b>(arena: &'b Bump) -> &'b [Written<'b>]
-    ensures { result.now ≡ [] }
-{
-    into_bump_slice(Vec::new(arena))
-}
-
 /// What an element of this head makes of this body.
 fn instruction_with_body<'b>(
     arena: &'b Bump,
@@ -289,9 +283,11 @@ fn instruction_with_body<'b>(
         Head::Copy => Ok(Written::Copy(inner)),
         Head::ForEach(path) => Ok(Written::ForEach(path, inner)),
         Head::If(test) => {
-            let mut branches = Vec::new(arena);
-            branches.push(WrittenBranch { test, body: inner })?;
-            Ok(Written::Choose(into_bump_slice(branches), no_instruction(arena)))
+            let branch: &'b WrittenBranch<'b> = arena.try_alloc(WrittenBranch {
+                test,
+                body: inner,
+            })?;
+            Ok(Written::Choose(from_ref(branch), &[]))
         }
     }
 }
@@ -368,7 +364,7 @@ fn read_branches<'b>(
             }
         }
     }
-    Ok((into_bump_slice(found), no_instruction(arena)))
+    Ok((into_bump_slice(found), &[]))
 }
 
 /// What an `xsl:choose` of these branches and this last body makes, which has one branch at least (XSLT 1.0, 9.2).

@@ -52,11 +52,10 @@ pub(crate) fn names_of<'b>(
     ensures once { OnOk result (IsDistinct same_name (model.names_of (map template_seen templates.now))) }
     ensures no { IfErr result (IsTwice (map template_seen templates.now)) }
 {
-    let mut names: Names<'b> = IndexSet::new(arena);
+    let names: &'b mut Names<'b> = arena.try_alloc(IndexSet::new(arena))?;
     for template in templates {
-        put_name(&mut names, template)?;
+        put_name(names, template)?;
     }
-    let names: &'b Names<'b> = arena.try_alloc(names)?;
     Ok(names)
 }
 
@@ -140,10 +139,9 @@ pub(crate) fn modes_of<'b>(
     ensures ok { IfOk result (λ m. names_seen m.now ≡ model.modes_of (map template_seen templates.now)) }
     ensures no { IfErr result (λ e. e ≡ NoMemory) }
 {
-    let mut modes: Names<'b> = IndexSet::new(arena);
+    let modes: &'b mut Names<'b> = arena.try_alloc(IndexSet::new(arena))?;
     for template in templates {
-        put_modes_of_template(&mut modes, template)?;
+        put_modes_of_template(modes, template)?;
     }
-    let modes: &'b Names<'b> = arena.try_alloc(modes)?;
     Ok(modes)
 }

@@ -58,7 +58,7 @@ fn kept<'b>(
 {
     match pattern {
         Some(alternatives) => with_priority(arena, priority, alternatives),
-        None => Ok(into_bump_slice(Vec::new(arena))),
+        None => Ok(&[]),
     }
 }
 

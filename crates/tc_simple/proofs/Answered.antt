@@ -9,10 +9,15 @@ use Rattle.tc_model.specs.CompactSyntaxTrees.{SyntaxPattern, Definition}
 use Rattle.tc_model.specs.SimplifiesParts.{nodes_in, nodes_in_all}
 use Rattle.tc_model.specs.SimplifiesFaults.{first_answer, first_place, misplaced, misplaced_among}
 use Rattle.tc_rnc.specs.Views as see
-use Rattle.tc_model.specs.Simplifies.{Element}
-use Rattle.tc_model.specs.Views.{place}
+use Rattle.tc_model.specs.Simplifies.{Element, name_class}
+use Rattle.tc_model.specs.Views.{place, element_pattern}
+use Rattle.tc_model.specs.declared.grammar.Pat.{Pat}
+use Rattle.tc_model.specs.declared.grammar.ElemPat.{ElemPat}
 use Rattle.tc_base.specs.declared.Place.{Place}
-use Rattle.tc_simple.specs.Nodes.{nodes, nodes_of_all, elements_of, marked_elements, IsLeast, IsLesser}
+use Rattle.tc_simple.specs.Nodes.{nodes, nodes_of_all, elements_of, marked_elements, see_element, IsLeast, IsLesser}
+use Rattle.tc_simple.specs.Becoming.{becomes, made_in}
+use Rattle.tc_simple.specs.Totals.{element_patterns_of}
+use Rattle.tc_simple.specs.declared.elements.Elem.{Elem}
 use Rattle.tc_simple.specs.declared.groups.Table.{Table}
 use Rattle.tc_simple.proofs.Gathering.{more_definitions}
 use Rattle.tc_rnc.proofs.Views.{left_pattern, left_class}
@@ -132,6 +137,19 @@ elements_next t marks defs i d old new small e is =
     ∙ (ap (λ z. elements_of t marks (map see.definition (take i defs)) ++ z) (sym (append-nil (f one)))
     ∙ (sym (flat_map-append f (map see.definition (take i defs)) (one ∷ []))
     ∙ ap (λ z. elements_of t marks z) (sym (more_definitions defs i d small)))))
+
+-- what elements become, where one more does
+pub element_patterns_next : (t : Table) (made : List Pat) (numbered : List Element) (es : List Elem) (i : ℕ) (d : Elem) (p : ElemPat) (out new : List ElemPat) → i < length es
+    → map element_pattern out ≡ element_patterns_of t made numbered (map see_element (take i es)) → new ≡ out ++ p ∷ [] → element_pattern p ∷ [] ≡ element_patterns_of t made numbered (see_element (get_or es i d) ∷ [])
+    → map element_pattern new ≡ element_patterns_of t made numbered (map see_element (take (i + 1) es))
+element_patterns_next t made numbered es i d p out new small before e one =
+    let f = element_patterns_of t made numbered in
+    ap (map element_pattern) e
+    ∙ (map-append element_pattern out (p ∷ [])
+    ∙ (ap (λ z. z ++ element_pattern p ∷ []) before
+    ∙ (ap (λ z. f (map see_element (take i es)) ++ z) one
+    ∙ (sym (map-append (λ (x : Element). record { names = name_class x.names; content = becomes (made_in t made) numbered x.content }) (map see_element (take i es)) (see_element (get_or es i d) ∷ []))
+    ∙ ap f (sym (ap (map see_element) (take_more es i d small) ∙ map-append see_element (take i es) (get_or es i d ∷ [])))))))
 
 -- the least place where there is one more
 pub least_next : (ps : List Place) (i : ℕ) (d : Place) (first : Option ℕ) (p : ℕ) → i < length ps → IsLeast (map place (take i ps)) first → IsLesser first (place (get_or ps i d)) p

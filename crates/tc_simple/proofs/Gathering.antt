@@ -1,7 +1,7 @@
 -- How definitions are gathered by their names.
-use Rattle.std.proofs.Common.{◌≡◌, ◌⊎◌, inl, inr, ℕ, zero, suc, ◌+◌, ◌<◌, Bool, true, false, cond, ◌||◌, ◌&&◌, List, [], ◌∷◌, ◌++◌, refl, ap, ◌∙◌, sym, subst, arith, length, get_or, set, take, map, bytes_eq, Option, None, Some, slice_get}
+use Rattle.std.proofs.Common.{◌≡◌, ◌⊎◌, inl, inr, ℕ, zero, suc, ◌+◌, ◌<◌, Bool, true, false, cond, ◌||◌, ◌&&◌, List, [], ◌∷◌, ◌++◌, refl, ap, ◌∙◌, sym, subst, arith, length, get_or, set, take, map, length-append, bytes_eq, Option, None, Some, slice_get}
 use Rattle.std.proofs.lemmas.Bool.{true≢false}
-use Rattle.std.proofs.lemmas.List.{append-nil, length-map, take_more}
+use Rattle.std.proofs.lemmas.List.{append-nil, length-map, map-append, take_more}
 use Rattle.std.proofs.lemmas.List.Elements.{filter-append}
 use Rattle.std.proofs.lemmas.Slice.Eq.{bytes_eq-Decides}
 use Rattle.std.specs.List.{list_any}
@@ -128,6 +128,24 @@ group_first front d g none s =
       plain = s.plain ∙ sym (any is_plain);
       choice = s.choice ∙ sym (any is_choice);
       interleave = s.interleave ∙ sym (any is_interleave);
+    }
+
+-- a group of one definition more
+pub group_more : (front : List Definition) (d : Definition) (old new : Group) → IsGroup front old → old.name.now ≡ d.name → new.name ≡ old.name → map pattern new.bodies.items ≡ map pattern old.bodies.items ++ d.body ∷ []
+    → new.is_plain ≡ (old.is_plain || is_plain d.joins) → new.is_choice ≡ (old.is_choice || is_choice d.joins) → new.is_interleave ≡ (old.is_interleave || is_interleave d.joins) → IsGroup (front ++ d ∷ []) new
+group_more front d old new h named name bodies first second third =
+    let n : List ℕ = new.name.now in
+    let is : old.name.now ≡ n = sym (ap (λ z. z.now) name) in
+    let same : bytes_eq d.name n ≡ true = ap (λ z. bytes_eq z n) (sym named ∙ is) ∙ same_bytes n in
+    let any : (test : Joins → Bool) (b c : Bool) → b ≡ any_of test old.name.now front → c ≡ (b || test d.joins) → c ≡ any_of test n (front ++ d ∷ []) =
+    λ test b c e f. f ∙ (ap (λ z. z || test d.joins) (e ∙ ap (λ z. any_of test z front) is) ∙ sym (any_same test n front d same)) in
+    record {
+      some = omega (arith, sym (length-map new.bodies.items pattern) ∙ (ap length bodies ∙ length-append (map pattern old.bodies.items) (d.body ∷ [])));
+      bodies = bodies ∙ (ap (λ z. z ++ d.body ∷ []) (h.bodies ∙ ap (λ z. map (λ f. f.body) (definitions_of front z)) is)
+          ∙ (sym (map-append (λ f. f.body) (definitions_of front n) (d ∷ [])) ∙ ap (map (λ f. f.body)) (sym (same_name_push front d n same))));
+      plain = any is_plain old.is_plain new.is_plain h.plain first;
+      choice = any is_choice old.is_choice new.is_choice h.choice second;
+      interleave = any is_interleave old.is_interleave new.is_interleave h.interleave third;
     }
 
 the_value : {X : Type 0} {x y : X} → Some x ≡ Some y → x ≡ y
@@ -305,3 +323,12 @@ is_table s g t h e numbers clash = record {
   present = λ n k at. table_of s g t.patterns.items h e n k (ap (λ m. number_in m n) (sym numbers) ∙ at);
   first = ap maybe_place clash ∙ h.first;
 }
+
+-- a loop that makes one of each, where it makes one more
+pub pushed_map : {X Y Z : Type 0} (f : X → Z) (h : Y → Z) (out new : List X) (ys : List Y) (i : ℕ) (d : Y) (x : X) → i < length ys → map f out ≡ map h (take i ys) → new ≡ out ++ x ∷ [] → f x ≡ h (get_or ys i d)
+    → map f new ≡ map h (take (i + 1) ys)
+pushed_map f h out new ys i d x small before e same =
+    ap (map f) e
+    ∙ (map-append f out (x ∷ [])
+    ∙ (ap (λ z. z ++ f x ∷ []) before
+    ∙ (ap (λ z. map h (take i ys) ++ z ∷ []) same ∙ (sym (map-append h (take i ys) (get_or ys i d ∷ [])) ∙ ap (map h) (sym (take_more ys i d small))))))

@@ -1,6 +1,7 @@
 pub mod Gathering
 pub mod Answered
 pub mod Made
+pub mod Below
 pub mod Standing
 pub mod Reaching
 pub mod Ordered

@@ -1,5 +1,5 @@
 -- How lists of classes and patterns are made.
-use Rattle.std.proofs.Common.{◌≡◌, ℕ, zero, suc, ◌+◌, ◌<◌, ◌≤◌, List, [], ◌∷◌, ◌++◌, refl, ap, ◌∙◌, sym, arith, length, get_or, drop}
+use Rattle.std.proofs.Common.{◌≡◌, ℕ, zero, suc, ◌+◌, ◌<◌, ◌≤◌, List, [], ◌∷◌, ◌++◌, refl, ap, ◌∙◌, sym, arith, length, get_or, drop, Result, Ok, Err, IfOk}
 use Rattle.tc_model.specs.Grammars as g
 use Rattle.tc_model.specs.Views as seen
 use Rattle.tc_model.specs.Simplifies.{Element, name_class, name_classes}
@@ -48,3 +48,8 @@ pub patterns_end : (f : List ℕ → g.Pattern) (es : List Element) (ps : List S
     → patterns_then (seen.patterns out) (all_become f es (see.patterns (drop i ps))) ≡ all_become f es (see.patterns ps) → seen.patterns out ≡ all_become f es (see.patterns ps)
 patterns_end f es ps i out all h =
     sym (patterns_then_none (seen.patterns out)) ∙ (ap (λ z. patterns_then (seen.patterns out) (all_become f es (see.patterns z))) (sym (drop_all ps i all)) ∙ h)
+
+-- where a call's result is what another clause asks for
+pub made_so : {E : Type 0} (r : Result Pat E) (x y : g.Pattern) → IfOk r (λ p. seen.pattern p ≡ x) → x ≡ y → IfOk r (λ p. seen.pattern p ≡ y)
+made_so (Ok p) x y h e = h ∙ e
+made_so (Err n) x y h e = h

@@ -197,6 +197,14 @@ module _ (s : Syntax) (es : List Element) (t : Table) (marks : List Bool) (state
           let sized = sized_so s es (size_in t old) (see.pattern r) (given_size old h r mv found) in
           subst (λ z. IsSize s es z (get_or new k leaf)) (ap see.pattern same) (subst (λ z. IsSize s es (see.pattern r) z) (sym here_is) sized)
 
+pub size_put : (t : Table) (marks : List Bool) (k : ℕ) (p : SPat) (old new : List Size) → is_marked marks k ≡ true → pattern_at t k ≡ Some p → new ≡ set old k (size_of (size_in t old) (see.pattern p)) → PutsSize t marks k old new
+size_put t marks k p old new e at is = subst (λ b. MatchBool b ((p : SPat) × (pattern_at t k ≡ Some p) × (new ≡ set old k (size_of (size_in t old) (see.pattern p)))) (new ≡ old)) (sym e) (p, at, is)
+
+pub pattern_put : (t : Table) (marks : List Bool) (es : List Element) (k : ℕ) (p : SPat) (q : Pat) (old new : List Pat) → is_marked marks k ≡ true → pattern_at t k ≡ Some p → new ≡ set old k q
+    → seen.pattern q ≡ becomes (made_in t old) es (see.pattern p) → PutsPattern t marks es k old new
+pattern_put t marks es k p q old new e at is value =
+    subst (λ b. MatchBool b ((p : SPat) × (q : Pat) × (pattern_at t k ≡ Some p) × (new ≡ set old k q) × (seen.pattern q ≡ becomes (made_in t old) es (see.pattern p))) (new ≡ old)) (sym e) (p, q, at, is, value)
+
 pub puts_size_length : (t : Table) (marks : List Bool) (k : ℕ) (old new : List Size) → PutsSize t marks k old new → length new ≡ length old
 puts_size_length t marks k old new puts = by (is_marked marks k) puts
   where

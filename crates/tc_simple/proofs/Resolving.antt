@@ -1,5 +1,5 @@
 -- What the components and the marks of definitions say of a schema.
-use Rattle.std.proofs.Common.{◌≡◌, ◌⊎◌, inl, inr, ℕ, zero, suc, ◌<◌, ◌≤◌, Bool, true, false, cond, ◌&&◌, List, [], ◌∷◌, ◌++◌, refl, ap, ◌∙◌, sym, subst, arith, length, Option, None, Some, slice_index}
+use Rattle.std.proofs.Common.{◌≡◌, ◌⊎◌, inl, inr, ℕ, zero, suc, ◌+◌, ◌<◌, ◌≤◌, Bool, true, false, cond, ◌&&◌, List, [], ◌∷◌, ◌++◌, refl, ap, ◌∙◌, sym, subst, arith, length, Option, None, Some, slice_index, add-one}
 use Rattle.std.specs.List.{filter_map, list_all}
 use Rattle.std.proofs.lemmas.Bool.{cases_lt, eq-eqb, true≢false}
 use Rattle.std.proofs.lemmas.Option.{slice_get_within}
@@ -29,6 +29,9 @@ no_value e = absurd (some_none e refl)
 
 done_is : {c d : ℕ} → Done c ≡ Done d → c ≡ d
 done_is e = cc
+
+pub loops_more : (t : Table) (states : List State) (marks : List Bool) (k : ℕ) → loops_below t states marks (k + 1) ≡ loops_below t states marks k ++ marked_loops t states marks k
+loops_more t states marks k = rw add-one refl
 
 module _ (s : Syntax) (t : Table) (start : ℕ) (marks : List Bool) (states : List State) (order : List ℕ) (r : Resolves s t start marks states order) where
   abbrev open_rows : List (List ℕ)

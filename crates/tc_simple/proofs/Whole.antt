@@ -165,7 +165,7 @@ module _ (s : Syntax) (t : Table) (start : ℕ) (marks : List Bool) (states : Li
         let (p, b, k) = size_so x.content (m.content a) in
         let both : Size = two z (size_of (size_in t sizes) x.content) in
         let (ps, c, i, j) = total_so fs both (count + pattern_nodes p) (max deep (pattern_depth p)) h (omega (arith, e, k.nodes)) (omega (arith, f, k.depth)) in
-        (record { names = name_class x.names; content = p } ∷ ps, next b c, omega (arith, i, sum_by-cons (λ (n : ℕ). n) (pattern_nodes p) (map (λ (e : ElementPattern). pattern_nodes e.content) ps)), omega (arith, j))
+        (record { names = name_class x.names; content = p } ∷ ps, next {ps = ps} b c, omega (arith, i, sum_by-cons (λ (n : ℕ). n) (pattern_nodes p) (map (λ (e : ElementPattern). pattern_nodes e.content) ps)), omega (arith, j))
 
     pub has_grammar : (z : Size) → z ≡ total_of t sizes (get_or sizes start leaf) es
         → (grammar : Grammar) × Simplifies s grammar × (z.nodes ≡ capped (grammar_nodes grammar)) × (z.depth ≡ capped (grammar_depth grammar)) × (length grammar.elements ≡ length es)

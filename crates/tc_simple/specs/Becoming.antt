@@ -29,6 +29,19 @@ abbrev mutual
   all_become f es no_more = g.no_more
   all_become f es (more p ps) = g.more (becomes f es p) (all_become f es ps)
 
+-- what an operator makes of what its part became, and a connector of what its parts became
+abbrev pub around : SyntaxPattern → g.Pattern → g.Pattern
+around (mixed p) part = g.interleave (both g.text part)
+around (optional p) part = g.choice (both part g.empty)
+around (zero_or_more p) part = g.choice (both (g.one_or_more part) g.empty)
+around (one_or_more p) part = g.one_or_more part
+around _ part = part
+
+abbrev pub among : SyntaxPattern → g.Patterns → g.Pattern
+among (group ps) parts = g.group parts
+among (choice ps) parts = g.choice parts
+among _ parts = g.interleave parts
+
 -- what a name became
 abbrev pub made_in : Table → List Pat → List ℕ → g.Pattern
 made_in t made n = elim (number_of t n) [ Some k ↦ seen.pattern (slice_index_or made k NotAllowed) | None ↦ g.not_allowed ]

@@ -4,7 +4,7 @@ ghost use Rattle.tc_model.specs.Grammars as g;
 ghost use Rattle.tc_model.specs.Views as seen;
 ghost use Rattle.tc_model.specs.Simplifies.{both, name_class as name_class_of, name_classes as name_classes_of, number_at as number_in};
 ghost use Rattle.tc_rnc.specs.Views as see;
-ghost use Rattle.tc_simple.specs.Becoming.{all_become, becomes, made_in};
+ghost use Rattle.tc_simple.specs.Becoming.{all_become, among, around, becomes, made_in};
 ghost use Rattle.tc_simple.specs.Nodes.{see_element, HasNumbersBelow};
 
 use crate::elements::Elem;
@@ -17,7 +17,6 @@ use tc_rnc::{SClass, SPat};
 
 /// A name class without places.
 #[cycle(classes)]
-#[tactic(auto, using(tc_rnc::proofs::Views::see_class, tc_model::proofs::ViewsGrammar::see_class))]
 pub fn name_class<'b>(arena: &'b Bump, class: &SClass<'b>) -> Result<NameClass<'b>, NoMemory>
     ensures { IfOk result (λ c. seen.class c ≡ name_class_of (see.class class.now)) }
 {
@@ -72,14 +71,27 @@ fn number_at(elements: &[Elem<'_>], place: Place) -> u32
 fn two<'b>(arena: &'b Bump, first: Pat<'b>, second: Pat<'b>) -> Result<&'b [Pat<'b>], NoMemory>
     ensures { IfOk result (λ ps. seen.patterns ps.now ≡ both (seen.pattern first.entry) (seen.pattern second.entry)) }
 {
-    let mut out = Vec::new(arena);
-    out.push(first)?;
-    out.push(second)?;
-    Ok(into_bump_slice(out))
+    let both = arena.try_alloc_slice_copy(&[first, second])?;
+    Ok(both)
+}
+
+/// A pattern mixed with text.
+fn mixed<'b>(arena: &'b Bump, pattern: Pat<'b>) -> Result<Pat<'b>, NoMemory>
+    ensures { IfOk result (λ p. seen.pattern p ≡ g.interleave (both g.text (seen.pattern pattern.entry))) }
+{
+    let both = two(arena, Pat::Text, pattern)?;
+    Ok(Pat::Interleave(both))
+}
+
+/// A pattern, or nothing.
+fn optional<'b>(arena: &'b Bump, pattern: Pat<'b>) -> Result<Pat<'b>, NoMemory>
+    ensures { IfOk result (λ p. seen.pattern p ≡ g.choice (both (seen.pattern pattern.entry) g.empty)) }
+{
+    let either = two(arena, pattern, Pat::Empty)?;
+    Ok(Pat::Choice(either))
 }
 
 /// One or more of a pattern.
-#[tactic(auto, using(tc_model::proofs::ViewsGrammar::see_pattern))]
 fn repeated<'b>(arena: &'b Bump, pattern: Pat<'b>) -> Result<Pat<'b>, NoMemory>
     ensures { IfOk result (λ p. seen.pattern p ≡ g.one_or_more (seen.pattern pattern.entry)) }
 {
@@ -87,10 +99,45 @@ fn repeated<'b>(arena: &'b Bump, pattern: Pat<'b>) -> Result<Pat<'b>, NoMemory>
     Ok(Pat::OneOrMore(pattern))
 }
 
+/// What the definition of a name became, if it has one.
+fn referred<'b>(table: &Table<'b>, name: &'b str, made: &[Pat<'b>]) -> Pat<'b>
+    requires { HasNumbersBelow table.now (length made.now) }
+    ensures { seen.pattern result ≡ made_in table.now made.now name.now }
+{
+    match table.number(name) {
+        Some(number) => made[number],
+        None => Pat::NotAllowed,
+    }
+}
+
+/// What the operator of a pattern makes of what its part became.
+#[tactic(auto, using(tc_rnc::proofs::Views::see_pattern))]
+fn around<'b>(arena: &'b Bump, syntax: &SPat<'b>, part: Pat<'b>) -> Result<Pat<'b>, NoMemory>
+    ensures { IfOk result (λ p. seen.pattern p ≡ around (see.pattern syntax.now) (seen.pattern part.entry)) }
+{
+    match syntax {
+        SPat::Mixed(_) => mixed(arena, part),
+        SPat::Optional(_) => optional(arena, part),
+        SPat::ZeroOrMore(_) => optional(arena, repeated(arena, part)?),
+        SPat::OneOrMore(_) => repeated(arena, part),
+        _ => Ok(part),
+    }
+}
+
+/// What the connector of a pattern makes of what its parts became.
+fn among<'b>(syntax: &SPat<'b>, parts: &'b [Pat<'b>]) -> Pat<'b>
+    ensures { seen.pattern result ≡ among (see.pattern syntax.now) (seen.patterns parts.now) }
+{
+    match syntax {
+        SPat::Group(_) => Pat::Group(parts),
+        SPat::Choice(_) => Pat::Choice(parts),
+        _ => Pat::Interleave(parts),
+    }
+}
+
 /// What a pattern becomes, where it is known what the definitions become to which it refers. A reference
 /// shares that.
 #[cycle(made)]
-#[tactic(auto, using(tc_rnc::proofs::Views::see_pattern, tc_model::proofs::ViewsGrammar::see_pattern))]
 pub fn pattern<'b>(
     arena: &'b Bump,
     table: &Table<'b>,
@@ -106,34 +153,16 @@ pub fn pattern<'b>(
         SPat::Empty | SPat::Attribute => Ok(Pat::Empty),
         SPat::NotAllowed => Ok(Pat::NotAllowed),
         SPat::Text => Ok(Pat::Text),
-        SPat::Ref(name, _) => match table.number(name) {
-            Some(number) => Ok(made[number]),
-            None => Ok(Pat::NotAllowed),
-        },
+        SPat::Ref(name, _) => Ok(referred(table, name, made)),
         SPat::Element(place, _, _) => Ok(Pat::Ref(number_at(elements, *place))),
-        SPat::Mixed(p) => {
-            let p = pattern(arena, table, p, elements, made)?;
-            let ps = two(arena, Pat::Text, p)?;
-            Ok(Pat::Interleave(ps))
+        SPat::Mixed(p) | SPat::Optional(p) | SPat::ZeroOrMore(p) | SPat::OneOrMore(p) => {
+            let part = pattern(arena, table, p, elements, made)?;
+            around(arena, syntax, part)
         }
-        SPat::Optional(p) => {
-            let p = pattern(arena, table, p, elements, made)?;
-            let ps = two(arena, p, Pat::Empty)?;
-            Ok(Pat::Choice(ps))
+        SPat::Group(ps) | SPat::Choice(ps) | SPat::Interleave(ps) => {
+            let parts = patterns(arena, table, ps, elements, made)?;
+            Ok(among(syntax, parts))
         }
-        SPat::ZeroOrMore(p) => {
-            let p = pattern(arena, table, p, elements, made)?;
-            let p = repeated(arena, p)?;
-            let ps = two(arena, p, Pat::Empty)?;
-            Ok(Pat::Choice(ps))
-        }
-        SPat::OneOrMore(p) => {
-            let p = pattern(arena, table, p, elements, made)?;
-            repeated(arena, p)
-        }
-        SPat::Group(ps) => Ok(Pat::Group(patterns(arena, table, ps, elements, made)?)),
-        SPat::Choice(ps) => Ok(Pat::Choice(patterns(arena, table, ps, elements, made)?)),
-        SPat::Interleave(ps) => Ok(Pat::Interleave(patterns(arena, table, ps, elements, made)?)),
     }
 }
 

@@ -1,5 +1,5 @@
 // The grammar of a syntax tree without faults.
-ghost use Rattle.std.specs.Prelude.{◌≡◌, ◌<◌, ◌≤◌, IfErr, IfOk, length, map};
+ghost use Rattle.std.specs.Prelude.{◌≡◌, ◌<◌, ◌≤◌, ◌∷◌, [], IfErr, IfOk, OnOk, length, map};
 ghost use Rattle.std.specs.List.{All};
 ghost use Rattle.tc_model.specs.CompactSyntaxLawful.{IsLawfulSyntax};
 ghost use Rattle.tc_model.specs.CompactSyntaxTrees as t;
@@ -12,7 +12,7 @@ ghost use Rattle.tc_simple.specs.Refused.{Refuses};
 ghost use Rattle.tc_simple.specs.Resolves.{Resolves};
 ghost use Rattle.tc_model.specs.Views as seen;
 ghost use Rattle.tc_simple.specs.Nodes.{elements_of, see_element, HasNumbersBelow};
-ghost use Rattle.tc_simple.specs.Totals.{element_patterns_of, total_of};
+ghost use Rattle.tc_simple.specs.Totals.{element_patterns_of, total_of, IsSizeOf};
 
 use crate::becomes::{name_class, pattern};
 use crate::counts::{Size, measure};
@@ -46,6 +46,23 @@ fn total<'b>(table: &Table<'b>, sizes: &[Size], start: Size, elements: &[Elem<'b
     all
 }
 
+/// The element pattern of an element.
+fn element_pattern<'b>(
+    arena: &'b Bump,
+    table: &Table<'b>,
+    made: &[Pat<'b>],
+    elements: &[Elem<'b>],
+    element: &Elem<'b>,
+) -> Result<ElemPat<'b>, NoMemory>
+    requires few { length elements.now ≤ 256 }
+    requires numbers { HasNumbersBelow table.now (length made.now) }
+    ensures { IfOk result (λ e. seen.element_pattern e ∷ [] ≡ element_patterns_of table.now made.now (map see_element elements.now) (see_element element.now ∷ [])) }
+{
+    let names = name_class(arena, &element.names)?;
+    let content = pattern(arena, table, &element.content, elements, made)?;
+    Ok(ElemPat { names, content })
+}
+
 /// The element patterns of elements.
 fn element_patterns<'b>(
     arena: &'b Bump,
@@ -59,11 +76,46 @@ fn element_patterns<'b>(
 {
     let mut out = Vec::new(arena);
     for element in elements {
-        let names = name_class(arena, &element.names)?;
-        let content = pattern(arena, table, &element.content, elements, made)?;
-        out.push(ElemPat { names, content })?;
+        let pattern = element_pattern(arena, table, made, elements, element)?;
+        out.push(pattern)?;
     }
     Ok(into_bump_slice(out))
+}
+
+/// The size of the grammar whose elements these are.
+fn whole_size<'b>(
+    arena: &'b Bump,
+    table: &Table<'b>,
+    start: usize,
+    marks: &[bool],
+    walk: &Walk<'b>,
+    found: &[Elem<'b>],
+) -> Result<Size, NoMemory>
+    requires start { start < length table.now.patterns.items }
+    requires marks { length marks.now ≡ length table.now.patterns.items }
+    requires numbers { HasNumbersBelow table.now (length table.now.patterns.items) }
+    requires order { All (λ k. k < length table.now.patterns.items) walk.now.order.items }
+    ensures { IfOk result (λ size. (s : t.Syntax) → IsLawfulSyntax s → IsFaultless s → Resolves s table.now start marks.now walk.now.states.items walk.now.order.items → map see_element found.now ≡ elements_of table.now marks.now s.definitions → (grammar : g.Grammar) × Simplifies s grammar × IsSizeOf grammar size (length found.now)) }
+{
+    let sizes = all_sizes(arena, table, walk, marks)?;
+    Ok(total(table, &sizes, sizes[start], found))
+}
+
+/// Refuses a grammar that is too large, which has this size and so many element patterns.
+fn check_counts(size: Size, elements: usize) -> Result<(), SimpleFault>
+    ensures ok { OnOk result ((grammar : g.Grammar) → IsSizeOf grammar size elements → IsWithinCounts grammar) }
+    ensures err { IfErr result (λ e. (s : t.Syntax) (grammar : g.Grammar) → Simplifies s grammar → IsSizeOf grammar size elements → Refuses s e) }
+{
+    if size.nodes > MOST_NODES {
+        return Err(SimpleFault::TooManyNodes);
+    }
+    if size.depth > GREATEST_DEPTH {
+        return Err(SimpleFault::TooNested);
+    }
+    if elements > MOST_ELEMENTS {
+        return Err(SimpleFault::TooManyElements);
+    }
+    Ok(())
 }
 
 /// The elements that are reached, where the grammar isn't too large.
@@ -84,17 +136,8 @@ pub fn counted<'b>(
     ensures err { IfErr result (λ e. Refuses (see.syntax syntax.now) e) }
 {
     let found = elements(arena, table, marks, syntax)?;
-    let sizes = all_sizes(arena, table, walk, marks)?;
-    let size = total(table, &sizes, sizes[start], &found);
-    if size.nodes > MOST_NODES {
-        return Err(SimpleFault::TooManyNodes);
-    }
-    if size.depth > GREATEST_DEPTH {
-        return Err(SimpleFault::TooNested);
-    }
-    if found.len() > MOST_ELEMENTS {
-        return Err(SimpleFault::TooManyElements);
-    }
+    let size = whole_size(arena, table, start, marks, walk, &found)?;
+    check_counts(size, found.len())?;
     Ok(found)
 }
 

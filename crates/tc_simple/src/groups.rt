@@ -23,17 +23,17 @@ pub struct Group<'b> {
 }
 
 impl<'b> Group<'b> {
-    ghost use Rattle.tc_simple.specs.Groups.{IsGroup, StartsGroup, any_of, is_plain};
+    ghost use Rattle.std.specs.Prelude.{◌||◌};
+    ghost use Rattle.tc_model.specs.SimplifiesParts.{is_choice};
+    ghost use Rattle.tc_simple.specs.Groups.{IsGroup, StartsGroup, any_of, is_interleave, is_plain};
 
     /// The group of one definition.
     fn of(arena: &'b Bump, def: &Def<'b>) -> Result<Group<'b>, NoMemory>
         ensures { IfOk result (λ g. StartsGroup (definition def.now) g) }
     {
-        let mut bodies = Vec::new(arena);
-        bodies.push(def.body)?;
         Ok(Group {
             name: def.name,
-            bodies,
+            bodies: Vec::from_slice(arena, &[def.body])?,
             is_plain: def.joins == Joins::Plain,
             is_choice: def.joins == Joins::Choice,
             is_interleave: def.joins == Joins::Interleave,
@@ -51,17 +51,28 @@ impl<'b> Group<'b> {
         }
     }
 
+    /// Notes the operator of one more definition.
+    fn note(&mut self, joins: Joins)
+        ensures plain { self.new.is_plain ≡ (self.old.is_plain || is_plain (see_joins joins)) }
+        ensures choice { self.new.is_choice ≡ (self.old.is_choice || is_choice (see_joins joins)) }
+        ensures interleave { self.new.is_interleave ≡ (self.old.is_interleave || is_interleave (see_joins joins)) }
+        ensures name { self.new.name ≡ self.old.name }
+        ensures bodies { self.new.bodies ≡ self.old.bodies }
+    {
+        match joins {
+            Joins::Plain => self.is_plain = true,
+            Joins::Choice => self.is_choice = true,
+            Joins::Interleave => self.is_interleave = true,
+        }
+    }
+
     /// One more definition.
     fn add(&mut self, def: &Def<'b>) -> Result<(), NoMemory>
         ensures group { OnOk result ((front : List t.Definition) → IsGroup front self.old → self.old.name.now ≡ def.now.name.now → IsGroup (front ++ definition def.now ∷ []) self.new) }
         ensures name { self.new.name ≡ self.old.name }
     {
         self.bodies.push(def.body)?;
-        match def.joins {
-            Joins::Plain => self.is_plain = true,
-            Joins::Choice => self.is_choice = true,
-            Joins::Interleave => self.is_interleave = true,
-        }
+        self.note(def.joins);
         Ok(())
     }
 }

@@ -12,6 +12,7 @@ ghost use Rattle.tc_rnc.specs.Views as see;
 ghost use Rattle.tc_simple.specs.Laws.{HasGrammarOrFault};
 ghost use Rattle.tc_simple.specs.Refused.{Refuses};
 ghost use Rattle.tc_simple.specs.Resolves.{Resolves};
+ghost use Rattle.tc_simple.specs.Tables.{IsTable};
 
 mod becomes;
 mod checks;
@@ -46,10 +47,25 @@ pub fn simplify<'b>(arena: &'b Bump, syntax: &Syntax<'b>) -> Result<Grammar<'b>,
     ensures err { IfErr result (λ e. Refuses (see.syntax syntax.now) e) }
 {
     let table = Table::of(arena, syntax)?;
-    let start = defined_start(&table, syntax)?;
-    let marks = mark(arena, &table, start, true)?;
-    let walked = walk(arena, &table)?;
-    resolved(arena, syntax, &table, start, &marks, &walked)
+    of_table(arena, syntax, &table)
+}
+
+/// The grammar of a syntax tree whose definitions are joined.
+fn of_table<'b>(
+    arena: &'b Bump,
+    syntax: &Syntax<'b>,
+    table: &Table<'b>,
+) -> Result<Grammar<'b>, SimpleFault>
+    requires lawful { IsLawfulSyntax (see.syntax syntax.now) }
+    requires table { IsTable (see.syntax syntax.now) table.now }
+    ensures grammar { IfOk result (λ g. Simplifies (see.syntax syntax.now) (seen.grammar g)) }
+    ensures within { IfOk result (λ g. IsWithinCounts (seen.grammar g)) }
+    ensures err { IfErr result (λ e. Refuses (see.syntax syntax.now) e) }
+{
+    let start = defined_start(table, syntax)?;
+    let marks = mark(arena, table, start, true)?;
+    let walked = walk(arena, table)?;
+    resolved(arena, syntax, table, start, &marks, &walked)
 }
 
 /// The grammar of a syntax tree whose definitions are joined, and whose references are followed.

@@ -60,6 +60,20 @@ fn add_all_links<'b>(
     Ok(())
 }
 
+/// The numbers of the names to which a pattern refers; within its elements too, or not.
+fn links_of<'b>(
+    arena: &'b Bump,
+    table: &Table<'b>,
+    pattern: &SPat<'b>,
+    within: bool,
+) -> Result<&'b [usize], NoMemory>
+    ensures { IfOk result (λ ks. ks.now ≡ filter_map (target table.now) (nodes within (see.pattern pattern.now))) }
+{
+    let mut found = Vec::new(arena);
+    add_links(table, pattern, within, &mut found)?;
+    Ok(into_bump_slice(found))
+}
+
 /// Of each definition those to which it refers; within its elements too, or not.
 pub fn links<'b>(
     arena: &'b Bump,
@@ -70,9 +84,8 @@ pub fn links<'b>(
 {
     let mut rows = Vec::new(arena);
     for pattern in &table.patterns {
-        let mut found = Vec::new(arena);
-        add_links(table, pattern, within, &mut found)?;
-        rows.push(into_bump_slice(found))?;
+        let row = links_of(arena, table, pattern, within)?;
+        rows.push(row)?;
     }
     Ok(rows)
 }

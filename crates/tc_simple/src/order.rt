@@ -23,10 +23,11 @@ fn put_size(table: &Table<'_>, marks: &[bool], number: usize, sizes: &mut Vec<Si
     requires numbers { HasNumbersBelow table.now (length table.now.patterns.items) }
     ensures { PutsSize table.now marks.now number sizes.old.items sizes.new.items }
 {
-    if marks[number] {
-        let size = measure(table, sizes, &table.patterns[number]);
-        sizes[number] = size;
+    if !marks[number] {
+        return;
     }
+    let size = measure(table, sizes, &table.patterns[number]);
+    sizes[number] = size;
 }
 
 /// The sizes of the definitions that are marked.
@@ -64,10 +65,11 @@ fn put_pattern<'b>(
     requires few { length elements.now ≤ 256 }
     ensures { OnOk result (PutsPattern table.now marks.now (map see_element elements.now) number made.old.items made.new.items) }
 {
-    if marks[number] {
-        let p = pattern(arena, table, &table.patterns[number], elements, made)?;
-        made[number] = p;
+    if !marks[number] {
+        return Ok(());
     }
+    let p = pattern(arena, table, &table.patterns[number], elements, made)?;
+    made[number] = p;
     Ok(())
 }
 

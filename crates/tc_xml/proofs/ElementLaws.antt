@@ -150,6 +150,20 @@ body_stands total outer depth text rest w scope n x some t cause at k =
     let q : suc (depth - 1) ≡ depth = omega (arith, some) in
     subst (λ d. ElementRefuses total outer d text cause at) q (inside (subst (TagAt false total outer text w scope n x) k.opens t) k.refuses)
 
+pub no_body_end : (o : Bool) (total : ℕ) (scope : List Bound) (w : QualifiedName) (rest : List ℕ) → ((r : List ℕ) → rest ≡ codes "/>" ++ r → ⊥) → ((r : List ℕ) → rest ≡ 0x3E ∷ r → ⊥)
+    → (d : ℕ) (h : RawTrees) (after : List ℕ) → BodyAt o total scope d w rest h after → ⊥
+no_body_end o total scope w rest f g d h after (empty q) = f after q
+no_body_end o total scope w rest f g d h after (filled {inside = i} q n a) = g i q
+
+pub no_inside : (o : Bool) (total : ℕ) (scope : List Bound) (w : QualifiedName) (rest start : List ℕ) → ((r : List ℕ) → rest ≡ codes "/>" ++ r → ⊥) → rest ≡ 0x3E ∷ start
+    → (d : ℕ) → ((h : RawTrees) (after : List ℕ) → ContentAt o total scope d start h after → ⊥) → (h : RawTrees) (after : List ℕ) → BodyAt o total scope d w rest h after → ⊥
+no_inside o total scope w rest start f e d k h after (empty q) = f after q
+no_inside o total scope w rest start f e d k h after (filled {end = end} q n a) = k h end (subst (λ z. ContentAt o total scope d z h end) (same_others (sym q ∙ e)) n)
+
+pub inside_stands : (total : ℕ) (scope : List Bound) (depth : ℕ) (rest start : List ℕ) → rest ≡ 0x3E ∷ start
+    → (cause : Cause) (at : List ℕ) → ContentRefuses total scope depth start cause at → BodyRefuses total scope depth rest cause at
+inside_stands total scope depth rest start e cause at k = record { inside = start; opens = e; refuses = k }
+
 pub no_end_of_element : (o : Bool) (total : ℕ) (scope : List Bound) (depth d : ℕ) (w : QualifiedName) (rest start end : List ℕ) (k : RawTrees) → ((r : List ℕ) → rest ≡ codes "/>" ++ r → ⊥) → rest ≡ 0x3E ∷ start
     → ContentAt false total scope depth start k end → ((after : List ℕ) → EndTagAt w end after → ⊥) → (h : RawTrees) (after : List ℕ) → BodyAt o total scope d w rest h after → ⊥
 no_end_of_element o total scope depth d w rest start end k f e m g h after (empty q) = f after q

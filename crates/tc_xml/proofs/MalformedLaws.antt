@@ -213,9 +213,8 @@ no_encoding_refused text rest v past e s is h why at (encoding {past_version = p
     let same = (setting_unique (subst (λ z. SettingAt (codes "version") z (codes "1.0") p) (start_same f e) u) s).1 in
     h w a (subst (λ z. SettingAt (codes "encoding") z w a) same t) n
 
-pub read_encoding_not_refused : (text rest v past after : List ℕ) → text ≡ codes "<?xml" ++ rest → SettingAt (codes "version") rest v past → v ≡ codes "1.0" → EncodingAt past after
-    → (why : Why) (at : List ℕ) → DeclarationRefuses text why at → ⊥
-read_encoding_not_refused text rest v past after e s is x = no_encoding_refused text rest v past e s is (λ value end t n. encoding_no_encoding t n x)
+pub read_encoding_not_refused : (past after : List ℕ) → EncodingAt past after → (value end : List ℕ) → SettingAt (codes "encoding") past value end → (IsReadEncoding value → ⊥) → ⊥
+read_encoding_not_refused past after x word end t n = encoding_no_encoding t n x
 
 pub no_subset_at : (text end : List ℕ) → DoctypeFrontAt text end → ((r : List ℕ) → end ≡ 0x5B ∷ r → ⊥) → (r : List ℕ) → DoctypeFrontAt text (0x5B ∷ r) → ⊥
 no_subset_at text end a h r b = h r (doctype_front_unique a b)

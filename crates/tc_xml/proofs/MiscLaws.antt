@@ -104,30 +104,28 @@ declared text rest after e w (declaration {rest = r} {past_version = n} {past_en
 pub not_declared : (text rest : List ℕ) → text ≡ codes "<?xml" ++ rest → (BeginsWithWhite rest → ⊥) → DeclarationAt text text
 not_declared text rest e h = no_declaration (λ r q w. h (subst BeginsWithWhite (append_cancel_left (codes "<?xml") r rest (sym q ∙ e)) w))
 
-pub a_declaration : (text rest version n m k end after : List ℕ) → text ≡ codes "<?xml" ++ rest → SettingAt (codes "version") rest version n → version ≡ codes "1.0" → EncodingAt n m → StandaloneAt m k
-    → end ≡ after_white k → end ≡ codes "?>" ++ after → DeclarationAt text after
-a_declaration text rest version n m k end after e v is x t q f =
-    declaration e (subst (λ w. SettingAt (codes "version") rest w n) is v) x t (sym q ∙ f)
+pub a_declaration : (text rest version n after : List ℕ) → text ≡ codes "<?xml" ++ rest → SettingAt (codes "version") rest version n → version ≡ codes "1.0"
+    → (m k : List ℕ) × EncodingAt n m × StandaloneAt m k × (after_white k ≡ codes "?>" ++ after) → DeclarationAt text after
+a_declaration text rest version n after e v is (m, k, x, t, q) = declaration e (subst (λ w. SettingAt (codes "version") rest w n) is v) x t q
 
 pub no_version : (text rest : List ℕ) → text ≡ codes "<?xml" ++ rest → BeginsWithWhite rest → ((v a : List ℕ) → SettingAt (codes "version") rest v a → ⊥) → (after : List ℕ) → DeclarationAt text after → ⊥
 no_version text rest e w h after a = let d = declared text rest after e w a in h (codes "1.0") d.past_version d.version
 
-pub same_encoding : (text rest version n m : List ℕ) → text ≡ codes "<?xml" ++ rest → BeginsWithWhite rest → SettingAt (codes "version") rest version n → EncodingAt n m
-    → (after : List ℕ) (d : Declared rest after) → d.past_encoding ≡ m
-same_encoding text rest version n m e w v x after d = encoding_unique (subst (λ z. EncodingAt z d.past_encoding) (setting_unique d.version v).1 d.encodings) x
-
-pub no_standing : (text rest version n m : List ℕ) → text ≡ codes "<?xml" ++ rest → BeginsWithWhite rest → SettingAt (codes "version") rest version n → EncodingAt n m
-    → ((a : List ℕ) → StandaloneAt m a → ⊥) → (after : List ℕ) → DeclarationAt text after → ⊥
-no_standing text rest version n m e w v x h after a =
+pub no_behind_version : (text rest version n : List ℕ) → text ≡ codes "<?xml" ++ rest → BeginsWithWhite rest → SettingAt (codes "version") rest version n
+    → ((m k after : List ℕ) → EncodingAt n m → StandaloneAt m k → after_white k ≡ codes "?>" ++ after → ⊥) → (after : List ℕ) → DeclarationAt text after → ⊥
+no_behind_version text rest version n e w v h after a =
     let d = declared text rest after e w a in
-    h d.past_standalone (subst (λ z. StandaloneAt z d.past_standalone) (same_encoding text rest version n m e w v x after d) d.standing)
+    h d.past_encoding d.past_standalone after (subst (λ z. EncodingAt z d.past_encoding) (setting_unique d.version v).1 d.encodings) d.standing d.ends
 
-pub no_declaration_end : (text rest version n m k end : List ℕ) → text ≡ codes "<?xml" ++ rest → BeginsWithWhite rest → SettingAt (codes "version") rest version n → EncodingAt n m → StandaloneAt m k
-    → end ≡ after_white k → ((r : List ℕ) → end ≡ codes "?>" ++ r → ⊥) → (after : List ℕ) → DeclarationAt text after → ⊥
-no_declaration_end text rest version n m k end e w v x t q h after a =
-    let d = declared text rest after e w a in
-    let same = standalone_unique (subst (λ z. StandaloneAt z d.past_standalone) (same_encoding text rest version n m e w v x after d) d.standing) t in
-    h after (q ∙ (ap after_white (sym same) ∙ d.ends))
+-- behind its version
+pub no_standing : (n m : List ℕ) → EncodingAt n m → ((a : List ℕ) → StandaloneAt m a → ⊥)
+    → (x k after : List ℕ) → EncodingAt n x → StandaloneAt x k → after_white k ≡ codes "?>" ++ after → ⊥
+no_standing n m x h y k after z t q = h k (subst (λ w. StandaloneAt w k) (encoding_unique z x) t)
+
+pub no_declaration_end : (n m k end : List ℕ) → EncodingAt n m → StandaloneAt m k → end ≡ after_white k → ((r : List ℕ) → end ≡ codes "?>" ++ r → ⊥)
+    → (x l after : List ℕ) → EncodingAt n x → StandaloneAt x l → after_white l ≡ codes "?>" ++ after → ⊥
+no_declaration_end n m k end x t q h y l after z u e =
+    let same = standalone_unique (subst (λ w. StandaloneAt w l) (encoding_unique z x) u) t in h after (q ∙ (ap after_white (sym same) ∙ e))
 
 pub broken_comment : (start r : List ℕ) → start ≡ codes "<!--" ++ r → ((a : List ℕ) → CommentAt start a → ⊥) → (text after : List ℕ) → after_white text ≡ start → MiscAt text after → ⊥
 broken_comment start r e h text after q (no_more k) = k.0 r (q ∙ e)

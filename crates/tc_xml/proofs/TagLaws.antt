@@ -199,12 +199,21 @@ not_distinct : (b : Bool) (P : Type 0) → b ≡ false → MatchBool b P (P → 
 not_distinct true P e h p = not_both refl e
 not_distinct false P e h p = h p
 
-pub not_expanded_once : {outer scope inner : List Bound} {tag : QualifiedName} {ws : List WrittenAttribute} {name : ExpandedName} {expanded : List Attribute} (found : List Attribute) (b : Bool)
-    → inner ≡ scope_within outer ws → Expands inner ws found → b ≡ false
-    → MatchBool b (IsDistinct same_name (map (λ a. a.name) found)) (IsDistinct same_name (map (λ a. a.name) found) → ⊥) → TagMeans outer tag ws scope name expanded → ⊥
-not_expanded_once {ws = ws} {expanded = expanded} found b e h is k t =
-    let there : Expands _ ws found = subst (λ s. Expands s ws found) (e ∙ sym t.scopes) h in
-    not_distinct b _ is k (subst (λ w. IsDistinct same_name (map (λ a. a.name) w)) (sym (expands_unique there t.expands)) t.expanded_once)
+pub is_distinct : (b : Bool) (P : Type 0) → b ≡ true → MatchBool b P (P → ⊥) → P
+is_distinct true P e h = h
+is_distinct false P e h = absurd (not_both e refl)
+
+pub not_expanded_once : {inner : List Bound} {ws : List WrittenAttribute} (found : List Attribute) (b : Bool) → Expands inner ws found → b ≡ false
+    → MatchBool b (IsDistinct same_name (map (λ a. a.name) found)) (IsDistinct same_name (map (λ a. a.name) found) → ⊥)
+    → (expanded : List Attribute) → Expands inner ws expanded → IsDistinct same_name (map (λ a. a.name) expanded) → ⊥
+not_expanded_once found b h is k expanded x d = not_distinct b _ is k (subst (λ w. IsDistinct same_name (map (λ a. a.name) w)) (sym (expands_unique h x)) d)
+
+-- a tag's meaning is that within its scope
+pub in_its_scope : {outer : List Bound} {tag : QualifiedName} {ws : List WrittenAttribute} (inner : List Bound) → inner ≡ scope_within outer ws
+    → ((name : ExpandedName) (expanded : List Attribute) → ElementName inner tag name → Expands inner ws expanded → IsDistinct same_name (map (λ a. a.name) expanded) → ⊥)
+    → (scope : List Bound) (name : ExpandedName) (expanded : List Attribute) → TagMeans outer tag ws scope name expanded → ⊥
+in_its_scope {tag = tag} {ws = ws} inner e k scope name expanded t =
+    let same = t.scopes ∙ sym e in k name expanded (subst (λ s. ElementName s tag name) same t.names) (subst (λ s. Expands s ws expanded) same t.expands) t.expanded_once
 
 -- what a slice of attributes gives past its end
 abbrev pub blank_written : Written

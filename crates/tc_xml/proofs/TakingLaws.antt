@@ -99,12 +99,12 @@ past_element {p = p} before_root a k = record { piece = p; reads = a; took = k }
 past_element (within s i) a k = within s (inside_more i (child a) k)
 
 -- an element starts
-pub go_into : {S : Type 0} (one : S → Event → S → Type 0) (total deepest depth : ℕ) (root before inside waits run : List ℕ) (begun mid flushed new : S) (es : List Started) (outer scope : List Bound)
+pub go_into : {S : Type 0} (one : S → Event → S → Type 0) (total deepest depth : ℕ) (root before inside waits run : List ℕ) (begun mid new : S) (es : List Started) (outer scope : List Bound)
     (w : QualifiedName) (n : ExpandedName) (x : List Attribute) (d : ℕ)
     → Standing one total deepest root begun es outer d before mid waits → d ≡ suc depth → TagAt false total outer before w scope n x (0x3E ∷ inside)
-    → Takes one mid (waiting waits none) flushed → one flushed (start n) new → run ≡ []
+    → Takes one mid (waiting waits none ++ start n ∷ []) new → run ≡ []
     → Standing one total deepest root begun (record { written = w; outer = outer; depth = d } ∷ es) scope depth inside new run
-go_into one total deepest depth root before inside waits run begun mid flushed new es outer scope w n x d s e a f g empty =
+go_into one total deepest depth root before inside waits run begun mid new es outer scope w n x d s e a f empty =
     subst (λ r. Standing one total deepest root begun (record { written = w; outer = outer; depth = d } ∷ es) scope depth inside new r) (sym empty)
     (within s (record {
       name = n;
@@ -115,23 +115,26 @@ go_into one total deepest depth root before inside waits run begun mid flushed n
       grows = λ h. h;
       forth = λ h after m. m;
       handed = waiting waits none ++ start n ∷ [];
-      takes = takes_both f (takes_one g);
+      takes = f;
       tells = λ k h. waiting_element waits n x scope (place_of total before) k h ∙ sym (append_assoc (waiting waits none) (start n ∷ []) (waiting [] k ++ end ∷ waiting [] h));
     }))
 
 -- an element without content
-pub pass : {S : Type 0} (one : S → Event → S → Type 0) (total deepest : ℕ) (root before after waits run : List ℕ) (begun mid flushed opened new : S) (es : List Started) (outer scope : List Bound)
+pub pass : {S : Type 0} (one : S → Event → S → Type 0) (total deepest : ℕ) (root before after waits run : List ℕ) (begun mid opened new : S) (es : List Started) (outer scope : List Bound)
     (w : QualifiedName) (n : ExpandedName) (x : List Attribute) (d : ℕ)
-    → Standing one total deepest root begun es outer d before mid waits → d ≢ 0 → TagAt false total outer before w scope n x (codes "/>" ++ after)
-    → Takes one mid (waiting waits none) flushed → one flushed (start n) opened → one opened end new → run ≡ []
+    → Standing one total deepest root begun es outer d before mid waits → 0 < d → TagAt false total outer before w scope n x (codes "/>" ++ after)
+    → Takes one mid (waiting waits none ++ start n ∷ []) opened → one opened end new → run ≡ []
     → After one total deepest root begun es outer d after new run
-pass one total deepest root before after waits run begun mid flushed opened new es outer scope w n x zero s some a f g k empty = absurd (some refl)
-pass one total deepest root before after waits run begun mid flushed opened new es outer scope w n x (suc d) s some a f g k empty =
+pass one total deepest root before after waits run begun mid opened new es outer scope w n x zero s some a f k empty = absurd (omega (arith, some))
+pass one total deepest root before after waits run begun mid opened new es outer scope w n x (suc d) s some a f k empty =
     subst (λ r. After one total deepest root begun es outer (suc d) after new r) (sym empty)
     (past_element s (empty_tag a) (record {
-      handed = waiting waits none ++ start n ∷ end ∷ [];
-      takes = takes_both f (event g (takes_one k));
-      tells = λ h. waiting_element waits n x scope (place_of total before) none h ∙ sym (append_assoc (waiting waits none) (start n ∷ end ∷ []) (waiting [] h));
+      handed = (waiting waits none ++ start n ∷ []) ++ end ∷ [];
+      takes = takes_both f (takes_one k);
+      tells = λ h.
+          waiting_element waits n x scope (place_of total before) none h
+          ∙ (sym (append_assoc (waiting waits none) (start n ∷ []) (end ∷ waiting [] h))
+          ∙ sym (append_assoc (waiting waits none ++ start n ∷ []) (end ∷ []) (waiting [] h)));
     }))
 
 -- an element ends
@@ -212,31 +215,36 @@ step_within {levels = levels} some a k s = record {
 }
 
 -- an element without content was read
-pub passes : {S : Type 0} (one : S → Event → S → Type 0) (total deepest : ℕ) (root text after waits run : List ℕ) (begun mid flushed opened new : S) (levels : Levels) (tag : Tag) (between last : Bindings)
-    → StandsAt one total deepest root begun levels text mid waits → levels.depth ≢ 0 → TagRead total levels.bindings text tag between → tag.rest.now ≡ codes "/>" ++ after
-    → TakesBack between (length (hidden levels.bindings)) last
-    → Takes one mid (waiting waits none) flushed → one flushed (start (name tag.name)) opened → one opened end new → run ≡ []
-    → (es : List Started) × (scope : List Bound) × AreOpen (hidden last) (now_bound last) (reverse levels.open.items) es × Tells (now_bound last) scope
-    × After one total deepest root begun es scope levels.depth after new run
-passes one total deepest root before after waits run begun mid flushed opened new levels tag between last s some r e k f g h empty =
+pub passes : {S : Type 0} (one : S → Event → S → Type 0) (total deepest count : ℕ) (root text after waits run : List ℕ) (begun mid opened closed : S) (levels between new : Levels) (tag : Tag)
+    → StandsAt one total deepest root begun levels text mid waits → 0 < levels.depth → TagRead total levels.bindings text tag between.bindings → tag.rest.now ≡ codes "/>" ++ after
+    → count ≡ length (hidden levels.bindings) → TakesBack between.bindings count new.bindings → new.open.items ≡ levels.open.items → new.depth ≡ levels.depth
+    → Takes one mid (waiting waits none ++ start (name tag.name) ∷ []) opened → one opened end closed → run ≡ []
+    → StandsAfter one total deepest root begun new after closed run
+passes one total deepest count root before after waits run begun mid opened closed levels between new tag s some r e counts k same_opens same_depth f h empty =
     let (inner, x, told, a) = r.reads s.scope s.shows.tells in
-    let (opens, tells) = open_same {old = levels.bindings} {mid = between} {new = last} (reverse levels.open.items) s.started s.scope r.declares k s.shows.opens s.shows.tells in (
-      s.started,
-      s.scope,
-      opens,
-      tells,
-      pass one total deepest root before after waits run begun mid flushed opened new s.started s.scope inner (written_name tag.written) (name tag.name) x levels.depth s.stands some
-          (subst (λ z. TagAt false total s.scope before (written_name tag.written) inner (name tag.name) x z) e a) f g h empty,
-    )
+    let back : TakesBack between.bindings (length (hidden levels.bindings)) new.bindings = subst (λ n. TakesBack between.bindings n new.bindings) counts k in
+    let (opens, tells) = open_same {old = levels.bindings} {mid = between.bindings} {new = new.bindings} (reverse levels.open.items) s.started s.scope r.declares back s.shows.opens s.shows.tells in
+    record {
+      started = s.started;
+      scope = s.scope;
+      shows = record {
+        opens = subst (λ os. AreOpen (hidden new.bindings) (now_bound new.bindings) (reverse os) s.started) (sym same_opens) opens;
+        tells = tells;
+      };
+      stands =
+          subst (λ d. After one total deepest root begun s.started s.scope d after closed run) (sym same_depth)
+          (pass one total deepest root before after waits run begun mid opened closed s.started s.scope inner (written_name tag.written) (name tag.name) x levels.depth s.stands some
+          (subst (λ z. TagAt false total s.scope before (written_name tag.written) inner (name tag.name) x z) e a) f h empty);
+    }
 
 -- an element has started, whose content comes
-pub goes_into : {S : Type 0} (one : S → Event → S → Type 0) (total deepest count : ℕ) (root text inside waits run : List ℕ) (begun mid flushed opened : S) (levels between new : Levels) (tag : Tag)
+pub goes_into : {S : Type 0} (one : S → Event → S → Type 0) (total deepest count : ℕ) (root text inside waits run : List ℕ) (begun mid opened : S) (levels between new : Levels) (tag : Tag)
     → StandsAt one total deepest root begun levels text mid waits → TagRead total levels.bindings text tag between.bindings
     → between.open.items ≡ levels.open.items → between.depth ≡ levels.depth → count ≡ length (hidden levels.bindings)
     → IsWithin between (written_name tag.written) count new → tag.rest.now ≡ 0x3E ∷ inside
-    → Takes one mid (waiting waits none) flushed → one flushed (start (name tag.name)) opened → run ≡ []
+    → Takes one mid (waiting waits none ++ start (name tag.name) ∷ []) opened → run ≡ []
     → StandsAfter one total deepest root begun new inside opened run
-goes_into one total deepest count root before inside waits run begun mid flushed opened levels between new tag s r same_opens same_depth counts k e f g empty =
+goes_into one total deepest count root before inside waits run begun mid opened levels between new tag s r same_opens same_depth counts k e f empty =
     let (inner, x, told, a) = r.reads s.scope s.shows.tells in
     let w = written_name tag.written in
     let o : Started = record { written = w; outer = s.scope; depth = levels.depth } in
@@ -252,8 +260,8 @@ goes_into one total deepest count root before inside waits run begun mid flushed
         tells = subst (λ z. Tells (now_bound z) inner) (sym k.bindings) told;
       };
       stands =
-          go_into one total deepest new.depth root before inside waits run begun mid flushed opened s.started s.scope inner w (name tag.name) x levels.depth s.stands (sym same_depth ∙ k.deeper)
-          (subst (λ z. TagAt false total s.scope before w inner (name tag.name) x z) e a) f g empty;
+          go_into one total deepest new.depth root before inside waits run begun mid opened s.started s.scope inner w (name tag.name) x levels.depth s.stands (sym same_depth ∙ k.deeper)
+          (subst (λ z. TagAt false total s.scope before w inner (name tag.name) x z) e a) f empty;
     }
 
 -- the innermost element has ended

@@ -13,7 +13,7 @@ use Rattle.std.proofs.lemmas.List.Sorted.{IsPermutation-sym}
 use Rattle.std.proofs.lemmas.Map.Keys.{IsDistinct-from_sorted, IsDistinct-IsPermutation}
 use Rattle.std.proofs.lemmas.Map.Text.{is_eq-slice_cmp}
 use Rattle.std.proofs.lemmas.Bool.{true≢false}
-use Rattle.std.proofs.lemmas.List.{drop_more, drop_all}
+use Rattle.std.proofs.lemmas.List.{drop_more, drop_all, take_more}
 use Rattle.tc_xml.specs.Pairs.{Pair, Differs, AreApart, same_pair}
 use Rattle.tc_xml.proofs.ScopeLaws.{bytes_eq_turned}
 
@@ -69,6 +69,19 @@ all_none P names i l = subst (AllByRecursion P) (sym (drop_all i names l)) tt
 pub found_before : (b r : Bool) → r ≡ not b → r ≡ false → b ≡ true
 found_before true r e f = refl
 found_before false r e f = absurd (true≢false (sym e ∙ f))
+
+pub none_seen : (seen : List Pair) → seen ≡ [] → IsDistinct same_pair seen
+unfolding IsDistinct
+none_seen seen e = subst (IsDistinct same_pair) (sym e) tt
+
+-- one more name that was not seen
+pub one_more_key : (seen names new : List Pair) (i : ℕ) (d : Pair) (r : Bool) → i < length names → seen ≡ take i names → r ≡ not (list_any (same_pair (get_or names i d)) seen) → r ≡ true
+    → new ≡ cond (list_any (same_pair (get_or names i d)) seen) seen (seen ++ get_or names i d ∷ []) → new ≡ take (i + 1) names
+one_more_key seen names new i d r l e f g h = by (list_any (same_pair (get_or names i d)) seen) (sym g ∙ f) h
+  where
+    by : (b : Bool) → true ≡ not b → new ≡ cond b seen (seen ++ get_or names i d ∷ []) → new ≡ take (i + 1) names
+    by true q k = absurd (true≢false q)
+    by false q k = k ∙ (ap (λ w. w ++ get_or names i d ∷ []) e ∙ sym (take_more names i d l))
 
 -- names each of which differs from the one after it
 

@@ -7,9 +7,8 @@ ghost use Rattle.tc_xml.specs.Bindings.{Binds, TakesBack, unless_empty, shown, n
 ghost use Rattle.tc_xml.specs.Bounds.{bound_to, named};
 
 use crate::scopes::Names;
-use crate::tags::XML;
+use crate::tags::first_names;
 use bumpalo::Bump;
-use indexmap::IndexMap;
 use tc_model::Binding;
 
 /// Namespace names by prefix, an empty one where a prefix is bound to none; and for each declaration in scope,
@@ -55,8 +54,7 @@ impl<'b> Bindings<'b> {
         ensures bound { IfSome result (λ b. now_bound b ≡ xml.first_scope) }
         ensures kept { IfSome result (λ b. hidden b ≡ []) }
     {
-        let mut newest = IndexMap::new(arena);
-        let Ok(_) = newest.insert("xml", XML) else {
+        let Ok(newest) = first_names(arena) else {
             return None;
         };
         Some(Bindings {

@@ -548,8 +548,8 @@ pub(crate) fn root_element<'b, 't>(
     ensures stands { IfErr result (λ e. RefusedAt e (refusals.ElementRefuses total xml_scopes.first_scope depth text.now)) }
     ensures malformed { IfErr result (λ e. OnMalformed e ((cause : refusals.Cause) (at : List ℕ) → refusals.ElementRefuses total xml_scopes.first_scope depth text.now cause at → ⊥)) }
 {
-    let mut gathered = gathered_nothing(arena);
     let scope = first_scope(arena)?;
+    let mut gathered = gathered_nothing(arena);
     let rest = element(&mut gathered, total, scope, text, depth)?;
     let trees = all_gathered(gathered)?;
     match trees.first() {

@@ -19,7 +19,7 @@ pub enum XmlFault {
 }
 
 /// Why reading stops, with how many bytes are left there.
-#[derive(Clone, Copy, Debug)]
+#[derive(Clone, Copy)]
 pub(crate) enum Stop {
     Malformed(usize),
     Unsupported(usize, Why),

@@ -1,6 +1,6 @@
 // What stands around the root element: the XML declaration, comments, processing instructions, a doctype
 // (XML 1.0, 2.5 to 2.8).
-ghost use Rattle.std.specs.Prelude.{◌≡◌, ◌∷◌, ◌⊎◌, ◌||◌, [], ℕ, List, IfOk, IfErr, MatchOption, MatchBool, codes};
+ghost use Rattle.std.specs.Prelude.{◌≡◌, ◌∷◌, ◌++◌, ◌⊎◌, ◌||◌, [], ℕ, List, IfOk, IfErr, MatchOption, MatchBool, codes};
 ghost use Rattle.std.specs.Str.{str_eq_ignore_ascii_case};
 ghost use Rattle.tc_model.specs.XmlTextBytes as bytes;
 ghost use Rattle.tc_model.specs.XmlTextMisc as xml;
@@ -140,6 +140,28 @@ fn after_standalone(text: &str) -> Result<&str, Stop>
     }
 }
 
+/// What follows an XML declaration, from the settings behind its version on (XML 1.0, 2.8).
+fn after_settings(text: &str) -> Result<&str, Stop>
+    ensures ok { IfOk result (λ r. (encoding standalone : List ℕ) × xml.EncodingAt text.now encoding × xml.StandaloneAt encoding standalone × (bytes.after_white standalone ≡ codes "?>" ++ r.now)) }
+    ensures no { IfErr result (λ e. Refuses e
+        ((encoding standalone after : List ℕ) → xml.EncodingAt text.now encoding → xml.StandaloneAt encoding standalone → bytes.after_white standalone ≡ codes "?>" ++ after → ⊥)
+        ((encoding standalone after : List ℕ) → xml.EncodingAt text.now encoding → xml.StandaloneAt encoding standalone → bytes.after_white standalone ≡ codes "?>" ++ after → ⊥)) }
+    ensures stands { IfErr result (λ e. UnsupportedAt e (λ why at. (why ≡ Encoding) × (at ≡ bytes.after_white text.now)
+        × ((value : List ℕ) × (after : List ℕ) × xml.SettingAt (codes "encoding") text.now value after × (xml.IsReadEncoding value → ⊥)))) }
+    ensures malformed { IfErr result (λ e. OnMalformed e ((value after : List ℕ) → xml.SettingAt (codes "encoding") text.now value after → (xml.IsReadEncoding value → ⊥) → ⊥)) }
+{
+    let past_encoding = after_encoding(text)?;
+    let past_standalone = match after_standalone(past_encoding) {
+        Ok(past) => past,
+        Err(stop) => return Err(stop),
+    };
+    let end = after_white(past_standalone);
+    match after_mark(end, "?>") {
+        Some(after) => Ok(after),
+        None => Err(Stop::Malformed(end.len())),
+    }
+}
+
 /// What follows an XML declaration, if there is one (XML 1.0, 2.8).
 pub(crate) fn after_declaration(text: &str) -> Result<&str, Stop>
     ensures ok { IfOk result (λ r. xml.DeclarationAt text.now r.now) }
@@ -159,16 +181,7 @@ pub(crate) fn after_declaration(text: &str) -> Result<&str, Stop>
     if version != "1.0" {
         return Err(Stop::Unsupported(start.len(), Why::XmlVersion));
     }
-    let past_encoding = after_encoding(behind)?;
-    let past_standalone = match after_standalone(past_encoding) {
-        Ok(past) => past,
-        Err(stop) => return Err(stop),
-    };
-    let end = after_white(past_standalone);
-    match after_mark(end, "?>") {
-        Some(after) => Ok(after),
-        None => Err(Stop::Malformed(end.len())),
-    }
+    after_settings(behind)
 }
 
 /// What follows the comment or processing instruction at the front, if there is one.

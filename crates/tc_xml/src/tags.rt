@@ -17,12 +17,12 @@ use crate::twice::all_differ;
 use bumpalo::Bump;
 use bumpalo::collections::into_bump_slice;
 use indexmap::IndexMap;
-use tc_base::Place;
+use tc_base::{NoMemory, Place};
 use tc_model::{Name, RawAttr};
 use tc_scan::QualifiedName;
 
 /// The namespace of the prefix `xml`.
-pub(crate) const XML: &str = "http://www.w3.org/XML/1998/namespace";
+const XML: &str = "http://www.w3.org/XML/1998/namespace";
 
 /// The namespace of namespace declarations.
 pub(crate) const XMLNS: &str = "http://www.w3.org/2000/xmlns/";
@@ -44,13 +44,21 @@ pub(crate) struct Meaning<'b> {
     pub(crate) scope: Scope<'b>,
 }
 
+/// The prefixes that are bound before any declaration.
+pub(crate) fn first_names<'b>(arena: &'b Bump) -> Result<Names<'b>, NoMemory>
+    ensures { IfOk result (λ names. named names ≡ xml.first_scope) }
+{
+    let mut names = IndexMap::new(arena);
+    names.insert("xml", XML)?;
+    Ok(names)
+}
+
 /// What is in scope before any declaration.
 pub(crate) fn first_scope<'b>(arena: &'b Bump) -> Result<Scope<'b>, Stop>
     ensures ok { IfOk result (λ s. in_scope s ≡ xml.first_scope) }
     ensures no { IfErr result (λ e. Breaks e ⊥) }
 {
-    let mut names = IndexMap::new(arena);
-    names.insert("xml", XML)?;
+    let names = first_names(arena)?;
     Scope::of(arena, names)
 }
 
@@ -270,6 +278,30 @@ fn are_expanded_once(arena: &Bump, attributes: &[RawAttr<'_>]) -> Result<bool, S
     all_differ(arena, into_bump_slice(names))
 }
 
+/// What a tag with this name and these attributes means, where this scope is within it. The fault says how many
+/// bytes are left at the tag.
+fn meaning_within<'b>(
+    arena: &'b Bump,
+    scope: Scope<'b>,
+    tag: QualifiedName<'_>,
+    attributes: &[Written<'b, '_>],
+    left: usize,
+) -> Result<Meaning<'b>, Stop>
+    ensures ok { IfOk result (λ m. (in_scope m.scope ≡ in_scope scope.entry) × xml.ElementName (in_scope scope.entry) (written_name tag.entry) (seen.name m.name)
+        × xml.Expands (in_scope scope.entry) (map written attributes.now) (map seen.attribute m.attrs.now) × IsDistinct same_name (map (λ a. a.name) (map seen.attribute m.attrs.now))) }
+    ensures no { IfErr result (λ e. Breaks e ((name : ExpandedName) (expanded : List Attribute)
+        → xml.ElementName (in_scope scope.entry) (written_name tag.entry) name → xml.Expands (in_scope scope.entry) (map written attributes.now) expanded
+        → IsDistinct same_name (map (λ a. a.name) expanded) → ⊥)) }
+{
+    let name = element_name(arena, scope, tag, left)?;
+    let attrs = all_expanded(arena, scope, attributes, left)?;
+    let expanded_once = are_expanded_once(arena, attrs)?;
+    if !expanded_once {
+        return Err(Stop::Malformed(left));
+    }
+    Ok(Meaning { name, attrs, scope })
+}
+
 /// What a start tag with this name and these attributes means, none of them `xml:space`, where `outer` is in
 /// scope. The fault says how many bytes are left at the tag.
 pub(crate) fn meaning_of<'b>(
@@ -291,11 +323,5 @@ pub(crate) fn meaning_of<'b>(
         return Err(Stop::Malformed(left));
     }
     let scope = scope_within(arena, outer, attributes)?;
-    let name = element_name(arena, scope, tag, left)?;
-    let attrs = all_expanded(arena, scope, attributes, left)?;
-    let expanded_once = are_expanded_once(arena, attrs)?;
-    if !expanded_once {
-        return Err(Stop::Malformed(left));
-    }
-    Ok(Meaning { name, attrs, scope })
+    meaning_within(arena, scope, tag, attributes, left)
 }

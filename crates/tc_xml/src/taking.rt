@@ -1,34 +1,34 @@
 // A document, handed on piece by piece in normal form (XML 1.0, 3 and 3.1; XSLT 1.0, 3.4). Where anything is
 // unusual this gives up, and what it gives is what the text means.
-ghost use Rattle.std.specs.Prelude.{◌≡◌, ◌≢◌, ◌<◌, ◌≤◌, ◌++◌, [], ℕ, List, length, IfSome, string_bytes, encode_utf8, IsTrue};
-ghost use Rattle.tc_model.specs.Events.{Takes, events};
+ghost use Rattle.std.specs.Prelude.{◌≡◌, ◌≢◌, ◌<◌, ◌≤◌, ◌∷◌, ◌++◌, [], ℕ, List, length, IfSome, string_bytes, encode_utf8, IsTrue};
+ghost use Rattle.tc_model.specs.Events.{Takes, start as started, end as ended, events};
 ghost use Rattle.tc_model.specs.RawTrees.{RawTrees, none};
 ghost use Rattle.tc_model.specs.Runs.{run_text};
 ghost use Rattle.tc_model.specs.Stripped.{stripped};
-ghost use Rattle.tc_model.specs.XmlText.{XmlText, after_mark, deepest_element};
+ghost use Rattle.tc_model.specs.Views.{name as seen_name};
+ghost use Rattle.tc_model.specs.XmlText.{XmlText, deepest_element};
 ghost use Rattle.tc_model.specs.XmlTextMisc as misc;
 ghost use Rattle.tc_model.specs.XmlTextBytes as bytes;
 ghost use Rattle.tc_model.specs.XmlTextContent as xml;
 ghost use Rattle.tc_model.specs.XmlTextScopes.{first_scope};
 ghost use Rattle.tc_scan.specs.Views.{written_name};
-ghost use Rattle.tc_xml.specs.Bindings.{now_bound};
+ghost use Rattle.tc_xml.specs.Bindings.{TakesBack, now_bound};
+ghost use Rattle.tc_xml.specs.PlainTags.{TagRead};
 ghost use Rattle.tc_xml.specs.Reading.{SmallItemAt};
 ghost use Rattle.tc_xml.specs.Taking.{Took, StandsAt, StandsAfter, Finished, IsWithin, waiting};
 
 use crate::bindings::Bindings;
 use crate::content::{after_end_tag, begins, character_data};
-use crate::document::{DEEPEST, past_mark};
-use crate::misc::{
-    after_comment, after_declaration, after_doctype, after_instruction, after_misc, cdata,
-};
-use crate::plain_tags::{AttributeNames, read_tag};
+use crate::document::{DEEPEST, before_root};
+use crate::misc::{after_comment, after_instruction, after_misc, cdata};
+use crate::plain_tags::{AttributeNames, Tag, read_tag};
 use crate::references::{push_lines, reference};
 use bumpalo::Bump;
 use memchr::memchr;
 use std::mem;
 use tc_base::NoMemory;
 use tc_model::normal::{Run, extended, text_of};
-use tc_model::{TakesTrees, is_white_space_only};
+use tc_model::{Name, TakesTrees, is_white_space_only};
 use tc_scan::{QualifiedName, after_byte, after_mark, begins as begins_mark, characters};
 
 /// What takes a document's trees, and the run of characters that isn't handed on yet.
@@ -72,6 +72,19 @@ impl<'b> Levels<'b> {
             names: AttributeNames::new(arena),
             depth: DEEPEST,
         })
+    }
+
+    /// Reads the tag at the front, where an element may start, up to where it ends, and binds what it declares.
+    fn read_tag(&mut self, arena: &'b Bump, text: &'b str) -> Option<Tag<'b>>
+        ensures deep { IfSome result (λ _. 0 < self.old.depth) }
+        ensures reads { IfSome result (λ tag. (total : ℕ) → TagRead total self.old.bindings text.now tag self.new.bindings) }
+        ensures opens { self.new.open.items ≡ self.old.open.items }
+        ensures depth { self.new.depth ≡ self.old.depth }
+    {
+        if self.depth == 0 {
+            return None;
+        }
+        read_tag(arena, &mut self.bindings, &mut self.names, text)
     }
 }
 
@@ -182,6 +195,31 @@ fn marked_item<'b, T: TakesTrees<'b>>(
     Some(rest)
 }
 
+/// Hands on the run, and the start of an element with this name.
+fn start_element<'b, T: TakesTrees<'b>>(reader: &mut Reader<'b, T>, name: Name<'b>) -> Option<()>
+    ensures taken { IfSome result (λ _. Takes T.takes reader.old.taker (waiting (run_text reader.old.run) none ++ started (seen_name name.entry) ∷ []) reader.new.taker) }
+    ensures ended { IfSome result (λ _. run_text reader.new.run ≡ []) }
+{
+    end_run(reader)?;
+    reader.taker.start(name)
+}
+
+/// Hands on the end of an element, around which so many declarations are in scope, and takes back those in it.
+fn leave<'b, T: TakesTrees<'b>>(
+    reader: &mut Reader<'b, T>,
+    levels: &mut Levels<'b>,
+    count: usize,
+) -> Option<()>
+    ensures taken { IfSome result (λ _. T.takes reader.old.taker ended reader.new.taker) }
+    ensures run { reader.new.run ≡ reader.old.run }
+    ensures bindings { IfSome result (λ _. TakesBack levels.old.bindings count levels.new.bindings) }
+    ensures opens { levels.new.open.items ≡ levels.old.open.items }
+    ensures depth { levels.new.depth ≡ levels.old.depth }
+{
+    reader.taker.end()?;
+    levels.bindings.take_back(count)
+}
+
 /// Takes the start tag or the empty-element tag at the front, and gives what follows it.
 fn start_tag<'b, T: TakesTrees<'b>>(
     reader: &mut Reader<'b, T>,
@@ -193,16 +231,11 @@ fn start_tag<'b, T: TakesTrees<'b>>(
     ensures steps { IfSome result (λ rest. (deepest : ℕ) (root : List ℕ) (begun : T) → StandsAt T.takes total deepest root begun levels.old text.now reader.old.taker (run_text reader.old.run) → StandsAfter T.takes total deepest root begun levels.new rest.now reader.new.taker (run_text reader.new.run)) }
     ensures shorter { IfSome result (λ rest. length rest.now < length text.now) }
 {
-    if levels.depth == 0 {
-        return None;
-    }
     let outer_count = levels.bindings.count();
-    let tag = read_tag(reader.arena, &mut levels.bindings, &mut levels.names, text)?;
-    end_run(reader)?;
-    reader.taker.start(tag.name)?;
+    let tag = levels.read_tag(reader.arena, text)?;
+    start_element(reader, tag.name)?;
     if let Some(rest) = after_mark(tag.rest, "/>") {
-        reader.taker.end()?;
-        levels.bindings.take_back(outer_count)?;
+        leave(reader, levels, outer_count)?;
         return Some(rest);
     }
     let inside = after_byte(tag.rest, b'>')?;
@@ -241,8 +274,7 @@ fn end_tag<'b, T: TakesTrees<'b>>(
     let open = levels.open.pop()?;
     let rest = after_end_tag(text, &open.written)?;
     end_run(reader)?;
-    reader.taker.end()?;
-    levels.bindings.take_back(open.count)?;
+    leave(reader, levels, open.count)?;
     levels.depth = open.depth;
     Some(rest)
 }
@@ -291,22 +323,6 @@ fn past_elements<'b, T: TakesTrees<'b>>(
     Some(rest)
 }
 
-/// The root element of a document, with what follows it (XML 1.0, 2.1).
-fn before_root(text: &str) -> Option<&str>
-    ensures { IfSome result (λ root. (d m : List ℕ) × misc.DeclarationAt (after_mark text.now) d × misc.MiscAt d m × misc.DoctypeAt m root.now) }
-{
-    let Ok(past_declaration) = after_declaration(past_mark(text)) else {
-        return None;
-    };
-    let Ok(past_misc) = after_misc(past_declaration) else {
-        return None;
-    };
-    match after_doctype(past_misc) {
-        Ok(root) => Some(root),
-        Err(_) => None,
-    }
-}
-
 /// Whether nothing but misc follows (XML 1.0, 2.8).
 fn is_misc(text: &str) -> bool
     ensures { IsTrue result → misc.MiscAt text.now [] }
@@ -317,27 +333,52 @@ fn is_misc(text: &str) -> bool
     }
 }
 
+/// Takes the root element at the front, where nothing was taken yet, and gives what follows it.
+fn take_root<'b, T: TakesTrees<'b>>(
+    reader: &mut Reader<'b, T>,
+    total: usize,
+    root: &'b str,
+) -> Option<&'b str>
+    requires total { total ≤ 67108864 }
+    requires run { run_text reader.old.run ≡ [] }
+    ensures { IfSome result (λ rest. Finished T.takes total deepest_element root.now reader.old.taker rest.now reader.new.taker) }
+{
+    let mut levels = Levels::first(reader.arena)?;
+    let inside = start_tag(reader, &mut levels, total, root)?;
+    past_elements(reader, &mut levels, total, inside)
+}
+
+/// Takes the document of a text, where nothing was taken yet.
+fn take_text<'b, T: TakesTrees<'b>>(reader: &mut Reader<'b, T>, text: &'b [u8]) -> Option<()>
+    requires total { length text.now ≤ 67108864 }
+    requires run { run_text reader.old.run ≡ [] }
+    ensures { IfSome result (λ _. (h : RawTrees) × XmlText text.now h × Takes T.takes reader.old.taker (events (stripped h)) reader.new.taker) }
+{
+    let front = characters(text);
+    if front.len() != text.len() {
+        return None;
+    }
+    let Ok(root) = before_root(front) else {
+        return None;
+    };
+    let rest = take_root(reader, front.len(), root)?;
+    if !is_misc(rest) {
+        return None;
+    }
+    Some(())
+}
+
 /// What takes the document of a text, with all of it taken, piece by piece in normal form: where the text is read
 /// and nothing in it is unusual. The pieces last as long as the text and the arena. Takes at most 64 MiB of text.
 pub fn take_document<'b, T: TakesTrees<'b>>(arena: &'b Bump, text: &'b [u8], taker: T) -> Option<T>
     requires { length text.now ≤ 67108864 }
     ensures { IfSome result (λ new. (h : RawTrees) × XmlText text.now h × Takes T.takes taker (events (stripped h)) new) }
 {
-    let front = characters(text);
-    if front.len() != text.len() {
-        return None;
-    }
-    let root = before_root(front)?;
-    let mut levels = Levels::first(arena)?;
     let mut reader = Reader {
         arena,
         taker,
         run: Run::Nothing,
     };
-    let inside = start_tag(&mut reader, &mut levels, front.len(), root)?;
-    let rest = past_elements(&mut reader, &mut levels, front.len(), inside)?;
-    if !is_misc(rest) {
-        return None;
-    }
+    take_text(&mut reader, text)?;
     Some(reader.taker)
 }

@@ -1,5 +1,5 @@
 // Whether names of two parts differ from one another.
-ghost use Rattle.std.specs.Prelude.{IfOk, IfErr, IsTrue, MatchBool};
+ghost use Rattle.std.specs.Prelude.{◌≡◌, [], IfOk, IfErr, IsTrue, MatchBool};
 ghost use Rattle.std.specs.List.{IsDistinct, AllByRecursion};
 ghost use Rattle.tc_xml.specs.Pairs.{Differs, AreApart, same_pair};
 ghost use Rattle.tc_xml.specs.Tags.{Breaks};
@@ -39,14 +39,15 @@ fn few_differ(names: &[(&str, &str)]) -> bool
     true
 }
 
-/// Whether no two of many names are the same.
-fn many_differ(arena: &Bump, names: &[(&str, &str)]) -> Result<bool, Stop>
+/// Names that were seen.
+type Seen<'n, 'b> = IndexSet<(&'n str, &'n str), BuildHasherDefault<FoldHasher>, &'b Bump>;
+
+/// Whether no two names are the same, where none was seen yet.
+fn none_recurs<'n>(seen: &mut Seen<'n, '_>, names: &[(&'n str, &'n str)]) -> Result<bool, Stop>
+    requires { seen.old.keys ≡ [] }
     ensures ok { IfOk result (λ once. MatchBool once (IsDistinct same_pair names.now) (IsDistinct same_pair names.now → ⊥)) }
     ensures no { IfErr result (λ e. Breaks e ⊥) }
 {
-    let mut seen: IndexSet<(&str, &str), BuildHasherDefault<FoldHasher>, &Bump> = IndexSet::new(
-        arena,
-    );
     for name in names {
         let is_new = seen.insert(*name)?;
         if !is_new {
@@ -54,6 +55,15 @@ fn many_differ(arena: &Bump, names: &[(&str, &str)]) -> Result<bool, Stop>
         }
     }
     Ok(true)
+}
+
+/// Whether no two of many names are the same.
+fn many_differ(arena: &Bump, names: &[(&str, &str)]) -> Result<bool, Stop>
+    ensures ok { IfOk result (λ once. MatchBool once (IsDistinct same_pair names.now) (IsDistinct same_pair names.now → ⊥)) }
+    ensures no { IfErr result (λ e. Breaks e ⊥) }
+{
+    let mut seen = IndexSet::new(arena);
+    none_recurs(&mut seen, names)
 }
 
 /// Whether no two names are the same.

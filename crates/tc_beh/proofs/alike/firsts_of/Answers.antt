@@ -1,4 +1,4 @@
-use Rattle.std.proofs.Common.{◌≡◌, ◌∙◌, refl, sym, subst, List, Some, slice_get, ap, length, arith}
+use Rattle.std.proofs.Common.{◌≡◌, ◌∙◌, refl, sym, subst, List, ap, length, arith}
 use Rattle.std.proofs.lemmas.Option.{slice_get_within}
 use Rattle.tc_model.specs.Views as see
 use Rattle.tc_model.specs.Symbols.{Mention, fresh_name, symbol_of}

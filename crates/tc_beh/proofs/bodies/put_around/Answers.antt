@@ -1,4 +1,4 @@
-use Rattle.std.proofs.Common.{◌≡◌, ◌<◌, List, All, set, subst, sym, ap, ◌∙◌, arith}
+use Rattle.std.proofs.Common.{◌≡◌, ◌<◌, List, All, set, subst, sym, ap, arith}
 use Rattle.std.proofs.lemmas.List.Elements.{All-append, All-set, All-take, All-drop}
 use Rattle.tc_mat.specs.Matrix.{Matrix}
 use Rattle.tc_model.specs.States.{output}

@@ -34,6 +34,25 @@ returns-in_err-put_row-clause-work c = λ x ok.
     let so_far = c.loop-ancestor.invariant in
     c.put_row.ensures.work x (grounds_kept x c.args.machine.now c.args.outputs.now c.loop-ancestor.outputs so_far.held c.args.work.now c.args.node ok c.loop-ancestor.work (so_far.work x ok))
 
+pub returns-in_err-put_row-clause-beside : goal.returns-in_err-put_row-clause-beside
+returns-in_err-put_row-clause-beside c =
+    let so_far = c.loop-ancestor.invariant.beside in
+    let put = c.put_row.ensures.beside in
+    record { flags = put.flags ∙ so_far.flags; entries = put.entries ∙ so_far.entries; count = put.count ∙ so_far.count }
+
+pub returns-in_err-put_row-clause-others : goal.returns-in_err-put_row-clause-others
+returns-in_err-put_row-clause-others c = λ k h.
+    let so_far = c.loop-ancestor.invariant in
+    let flags = so_far.beside.flags in
+    let entries = so_far.beside.entries in
+    c.put_row.ensures.others k (elim h [ inl l ↦ inl (omega (arith, l, flags)) | inr l ↦ inr (omega (arith, l, flags, entries)) ]) ∙ so_far.others k h
+
+pub returns-in_err-put_row-clause-held : goal.returns-in_err-put_row-clause-held
+returns-in_err-put_row-clause-held c = extends_then c.args.outputs.now c.loop-ancestor.outputs c.put_row.new.outputs c.loop-ancestor.invariant.held c.put_row.ensures.held
+
+pub returns-in_err-put_row-clause-fixed : goal.returns-in_err-put_row-clause-fixed
+returns-in_err-put_row-clause-fixed c = λ e. c.put_row.ensures.fixed e ∙ c.loop-ancestor.invariant.fixed e
+
 pub returns-in_err-put_row-clause-partly : goal.returns-in_err-put_row-clause-partly
 returns-in_err-put_row-clause-partly c = on_err c.from_residual.result _ (λ x ok.
     let m = c.args.machine.now in

@@ -35,6 +35,9 @@ returns-in_err-number-clause-work c = λ x ok.
     let so_far = c.loop-state.invariant in
     c.keep_entry.ensures.work x (grounds_kept x c.args.machine.now c.args.outputs.now c.loop-state.outputs so_far.held c.args.work.now c.args.node ok c.loop-state.work (so_far.work x ok))
 
+pub returns-in_err-number-clause-held : goal.returns-in_err-number-clause-held
+returns-in_err-number-clause-held c = extends_then c.args.outputs.now c.loop-state.outputs c.keep_entry.new.outputs c.loop-state.invariant.held c.keep_entry.ensures.held
+
 pub returns-in_err-number-clause-partly : goal.returns-in_err-number-clause-partly
 returns-in_err-number-clause-partly c = on_err c.from_residual.result _ (λ x es begun ok e so.
     let m = c.args.machine.now in

@@ -1,5 +1,8 @@
-use Rattle.std.proofs.Common.{◌<◌, ℕ, List, All, length, subst, sym, ap, arith}
+use Rattle.std.proofs.Common.{◌<◌, ◌∙◌, ℕ, List, All, length, map, subst, sym, ap, arith}
 use Rattle.std.proofs.lemmas.List.Elements.{All-weaker}
+use Rattle.std.proofs.lemmas.Result.{IfOk-weaker}
+use Rattle.tc_close.specs.Lines.{hedge_ranked}
+use Rattle.tc_close.specs.Orders.{IsOrder}
 use Rattle.tc_close.specs.RowState.{RowState}
 use Rattle.tc_close.proofs.certificate.hedges_in_order.Goals as goal
 
@@ -10,3 +13,20 @@ hedges_at-requires-clause-within g c =
     let order = c.in_ok-numbers.ensures in
     subst (λ (ns : List ℕ). All (λ n. n < length c.hedge_lines.new.rows.hedges) ns) (sym c.deref.ensures.value)
     (All-weaker (λ p. p < length c.in_ok-lines.lines) (λ p. p < length c.hedge_lines.new.rows.hedges) (λ p l. omega (arith, l, count, same)) c.in_ok-numbers.numbers.items order.within)
+
+pub hedges_at-requires-clause-ranks : goal.hedges_at-requires-clause-ranks
+hedges_at-requires-clause-ranks g c = c.requires ∙ sym (ap (λ (s : RowState). length s.outputs.matrices) c.hedge_lines.ensures.same)
+
+pub returns-clause-same : goal.returns-clause-same
+returns-clause-same g c = c.hedges_at.ensures.same ∙ c.hedge_lines.ensures.same
+
+pub returns-clause-hedges : goal.returns-clause-hedges
+returns-clause-hedges g c =
+    let old = c.args.rows.now in
+    let ranks : List ℕ = c.args.ranks.now in
+    let numbers : List ℕ = c.in_ok-numbers.numbers.items in
+    IfOk-weaker c.hedges_at.result _ _ (λ hedges made x o. record {
+      numbers = numbers;
+      order = subst (λ (lines : List (List ℕ)). IsOrder lines numbers) (c.in_ok-lines.ensures.lines x o) c.in_ok-numbers.ensures;
+      all = made x o ∙ (ap (λ (s : RowState). map (hedge_ranked x s ranks) c.deref.result.now) c.hedge_lines.ensures.same ∙ ap (map (hedge_ranked x old ranks)) c.deref.ensures.value);
+    }) c.hedges_at.ensures.hedges

@@ -1,5 +1,8 @@
-use Rattle.std.proofs.Common.{◌<◌, ℕ, List, All, length, subst, sym, ap, arith}
+use Rattle.std.proofs.Common.{◌<◌, ◌∙◌, ℕ, List, All, length, map, subst, sym, ap, arith}
 use Rattle.std.proofs.lemmas.List.Elements.{All-weaker}
+use Rattle.std.proofs.lemmas.Result.{IfOk-weaker}
+use Rattle.tc_close.specs.Lines.{tree_ranked}
+use Rattle.tc_close.specs.Orders.{IsOrder}
 use Rattle.tc_close.specs.RowState.{RowState}
 use Rattle.tc_close.proofs.certificate.trees_in_order.Goals as goal
 
@@ -10,3 +13,20 @@ trees_at-requires-clause-within g c =
     let order = c.in_ok-numbers.ensures in
     subst (λ (ns : List ℕ). All (λ n. n < length c.tree_lines.new.rows.trees) ns) (sym c.deref.ensures.value)
     (All-weaker (λ p. p < length c.in_ok-lines.lines) (λ p. p < length c.tree_lines.new.rows.trees) (λ p l. omega (arith, l, count, same)) c.in_ok-numbers.numbers.items order.within)
+
+pub trees_at-requires-clause-ranks : goal.trees_at-requires-clause-ranks
+trees_at-requires-clause-ranks g c = c.requires ∙ sym (ap (λ (s : RowState). length s.outputs.matrices) c.tree_lines.ensures.same)
+
+pub returns-clause-same : goal.returns-clause-same
+returns-clause-same g c = c.trees_at.ensures.same ∙ c.tree_lines.ensures.same
+
+pub returns-clause-trees : goal.returns-clause-trees
+returns-clause-trees g c =
+    let old = c.args.rows.now in
+    let ranks : List ℕ = c.args.ranks.now in
+    let numbers : List ℕ = c.in_ok-numbers.numbers.items in
+    IfOk-weaker c.trees_at.result _ _ (λ trees made x o. record {
+      numbers = numbers;
+      order = subst (λ (lines : List (List ℕ)). IsOrder lines numbers) (c.in_ok-lines.ensures.lines x o) c.in_ok-numbers.ensures;
+      all = made x o ∙ (ap (λ (s : RowState). map (tree_ranked x s ranks) c.deref.result.now) c.tree_lines.ensures.same ∙ ap (map (tree_ranked x old ranks)) c.deref.ensures.value);
+    }) c.trees_at.ensures.trees

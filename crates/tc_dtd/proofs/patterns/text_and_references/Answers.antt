@@ -6,7 +6,7 @@ use Rattle.tc_dtd.proofs.patterns.text_and_references.Goals as goal
 
 pub loop-name-preserved : goal.loop-name-preserved
 loop-name-preserved c =
-    references_more (see.names c.args.found.now.keys) c.args.names.now c.loop-name.name-index _ c.reference.result c.loop-name.out.items c.push-in-loop-name.new.self.items c.loop-name-test.true c.reference.ensures c.in_ok-push-2.ensures.items
+    references_more (see.names c.args.found.now.keys) c.args.names.now c.loop-name.name-index _ c.reference.result c.loop-name.out.items c.push.new.self.items c.loop-name-test.true c.reference.ensures c.in_ok-push.ensures.items
     ∙ c.loop-name.invariant
 
 pub returns : goal.returns

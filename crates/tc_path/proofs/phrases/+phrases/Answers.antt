@@ -7,7 +7,7 @@ use Rattle.tc_path.specs.Views.{mark, form, tokens_of}
 use Rattle.tc_path.proofs.NodeTestLaws.{map_ok, map_no, shorter_by, shorter_by_two, shorter_by_three, attribute_shorter, other_shorter}
 use Rattle.tc_path.proofs.Loops.{tests_pushed, ands_start, ands_read, ands_behind, ands_end, ands_fail, ors_start, ors_read, ors_behind, ors_end, ors_fail, predicates_start, predicates_next, predicates_end, predicates_fail}
 use Rattle.tc_path.proofs.StepLoops.{steps_pushed, steps_start, steps_next, steps_attribute, steps_end, steps_fail, alternatives_kept, selects_start, selects_read, selects_behind, selects_end, selects_refused}
-use Rattle.tc_path.proofs.PhraseLaws.{handed_on, other_alternative, descendant_alternative, no_child_alternative, no_dot_alternative, no_descendant_alternative, truth_at, falsehood_at, parentheses_at, negation_at, no_select_primary, no_dropped_primary, no_parentheses, no_negation, not_closed, step_at, no_predicates}
+use Rattle.tc_path.proofs.PhraseLaws.{handed_on, not_ok, no_memory, other_alternative, descendant_alternative, no_child_alternative, no_dot_alternative, no_descendant_alternative, truth_at, falsehood_at, parentheses_at, negation_at, no_select_primary, no_dropped_primary, no_parentheses, no_negation, not_closed, step_at, no_predicates}
 use Rattle.tc_path.proofs.phrases.+phrases.Goals as goal
 
 pub all_tests-loop-found-init : goal.all_tests-loop-found-init
@@ -39,25 +39,25 @@ pub all_tests-returns-in_default-clause-shorter : goal.all_tests-returns-in_defa
 all_tests-returns-in_default-clause-shorter t c = omega (arith, c.in_ok-test.ensures.shorter, c.loop-found.invariant.within)
 
 pub all_tests-returns-in_default-clause-no : goal.all_tests-returns-in_default-clause-no
-all_tests-returns-in_default-clause-no t c = search rules
+all_tests-returns-in_default-clause-no t c = tt
 
 pub all_tests-returns-in_err-test-clause-no : goal.all_tests-returns-in_err-test-clause-no
 all_tests-returns-in_err-test-clause-no t c = handed_on c.from_residual.result c.in_err-test.field-0.0 c.from_residual.ensures.1 (ands_fail (map bound c.args.scope.now) c.loop-found.invariant.read) c.in_err-test.ensures.no
 
 pub all_tests-returns-in_err-test-clause-ok : goal.all_tests-returns-in_err-test-clause-ok
-all_tests-returns-in_err-test-clause-ok t c = search rules
+all_tests-returns-in_err-test-clause-ok t c = not_ok _ _ c.from_residual.result c.from_residual.ensures.1
 
 pub all_tests-returns-in_err-test-clause-shorter : goal.all_tests-returns-in_err-test-clause-shorter
-all_tests-returns-in_err-test-clause-shorter t c = search rules
+all_tests-returns-in_err-test-clause-shorter t c = not_ok _ _ c.from_residual.result c.from_residual.ensures.1
 
 pub all_tests-returns-in_err-push-clause-no : goal.all_tests-returns-in_err-push-clause-no
-all_tests-returns-in_err-push-clause-no t c = search rules
+all_tests-returns-in_err-push-clause-no t c = no_memory _ c.from_residual-in_err-push.result c.from_residual-in_err-push.ensures.1
 
 pub all_tests-returns-in_err-push-clause-ok : goal.all_tests-returns-in_err-push-clause-ok
-all_tests-returns-in_err-push-clause-ok t c = search rules
+all_tests-returns-in_err-push-clause-ok t c = not_ok _ _ c.from_residual-in_err-push.result c.from_residual-in_err-push.ensures.1
 
 pub all_tests-returns-in_err-push-clause-shorter : goal.all_tests-returns-in_err-push-clause-shorter
-all_tests-returns-in_err-push-clause-shorter t c = search rules
+all_tests-returns-in_err-push-clause-shorter t c = not_ok _ _ c.from_residual-in_err-push.result c.from_residual-in_err-push.ensures.1
 
 pub any_tests-loop-found-init : goal.any_tests-loop-found-init
 any_tests-loop-found-init t c = record {
@@ -88,25 +88,25 @@ pub any_tests-returns-in_default-clause-shorter : goal.any_tests-returns-in_defa
 any_tests-returns-in_default-clause-shorter t c = omega (arith, c.in_ok-tests.ensures.shorter, c.loop-found.invariant.within)
 
 pub any_tests-returns-in_default-clause-no : goal.any_tests-returns-in_default-clause-no
-any_tests-returns-in_default-clause-no t c = search rules
+any_tests-returns-in_default-clause-no t c = tt
 
 pub any_tests-returns-in_err-tests-clause-no : goal.any_tests-returns-in_err-tests-clause-no
 any_tests-returns-in_err-tests-clause-no t c = handed_on c.from_residual.result c.in_err-tests.field-0.0 c.from_residual.ensures.1 (ors_fail (map bound c.args.scope.now) c.loop-found.invariant.read) c.in_err-tests.ensures.no
 
 pub any_tests-returns-in_err-tests-clause-ok : goal.any_tests-returns-in_err-tests-clause-ok
-any_tests-returns-in_err-tests-clause-ok t c = search rules
+any_tests-returns-in_err-tests-clause-ok t c = not_ok _ _ c.from_residual.result c.from_residual.ensures.1
 
 pub any_tests-returns-in_err-tests-clause-shorter : goal.any_tests-returns-in_err-tests-clause-shorter
-any_tests-returns-in_err-tests-clause-shorter t c = search rules
+any_tests-returns-in_err-tests-clause-shorter t c = not_ok _ _ c.from_residual.result c.from_residual.ensures.1
 
 pub any_tests-returns-in_err-push-clause-no : goal.any_tests-returns-in_err-push-clause-no
-any_tests-returns-in_err-push-clause-no t c = search rules
+any_tests-returns-in_err-push-clause-no t c = no_memory _ c.from_residual-in_err-push.result c.from_residual-in_err-push.ensures.1
 
 pub any_tests-returns-in_err-push-clause-ok : goal.any_tests-returns-in_err-push-clause-ok
-any_tests-returns-in_err-push-clause-ok t c = search rules
+any_tests-returns-in_err-push-clause-ok t c = not_ok _ _ c.from_residual-in_err-push.result c.from_residual-in_err-push.ensures.1
 
 pub any_tests-returns-in_err-push-clause-shorter : goal.any_tests-returns-in_err-push-clause-shorter
-any_tests-returns-in_err-push-clause-shorter t c = search rules
+any_tests-returns-in_err-push-clause-shorter t c = not_ok _ _ c.from_residual-in_err-push.result c.from_residual-in_err-push.ensures.1
 
 pub select-loop-found-init : goal.select-loop-found-init
 select-loop-found-init t c = record {
@@ -140,25 +140,25 @@ pub select-returns-in_default-clause-shorter : goal.select-returns-in_default-cl
 select-returns-in_default-clause-shorter t c = omega (arith, c.in_ok-steps.ensures.shorter, c.loop-found.invariant.within)
 
 pub select-returns-in_default-clause-no : goal.select-returns-in_default-clause-no
-select-returns-in_default-clause-no t c = search rules
+select-returns-in_default-clause-no t c = tt
 
 pub select-returns-in_err-steps-clause-no : goal.select-returns-in_err-steps-clause-no
 select-returns-in_err-steps-clause-no t c = handed_on c.from_residual.result c.in_err-steps.field-0.0 c.from_residual.ensures.1 (selects_refused (map bound c.args.scope.now) c.loop-found.invariant.read) c.in_err-steps.ensures.no
 
 pub select-returns-in_err-steps-clause-ok : goal.select-returns-in_err-steps-clause-ok
-select-returns-in_err-steps-clause-ok t c = search rules
+select-returns-in_err-steps-clause-ok t c = not_ok _ _ c.from_residual.result c.from_residual.ensures.1
 
 pub select-returns-in_err-steps-clause-shorter : goal.select-returns-in_err-steps-clause-shorter
-select-returns-in_err-steps-clause-shorter t c = search rules
+select-returns-in_err-steps-clause-shorter t c = not_ok _ _ c.from_residual.result c.from_residual.ensures.1
 
 pub select-returns-in_err-drops-clause-no : goal.select-returns-in_err-drops-clause-no
 select-returns-in_err-drops-clause-no t c = search rules
 
 pub select-returns-in_err-drops-clause-ok : goal.select-returns-in_err-drops-clause-ok
-select-returns-in_err-drops-clause-ok t c = search rules
+select-returns-in_err-drops-clause-ok t c = not_ok _ _ c.from_residual-in_err-drops.result c.from_residual-in_err-drops.ensures.1
 
 pub select-returns-in_err-drops-clause-shorter : goal.select-returns-in_err-drops-clause-shorter
-select-returns-in_err-drops-clause-shorter t c = search rules
+select-returns-in_err-drops-clause-shorter t c = not_ok _ _ c.from_residual-in_err-drops.result c.from_residual-in_err-drops.ensures.1
 
 pub steps-loop-after-init : goal.steps-loop-after-init
 steps-loop-after-init t c = record {
@@ -188,7 +188,7 @@ pub steps-returns-in-Some-clause-shorter : goal.steps-returns-in-Some-clause-sho
 steps-returns-in-Some-clause-shorter t c = omega (arith, attribute_shorter c.loop-after.rest.now c.in-Some.after.now c.in-Some.ensures, c.loop-after.invariant.within)
 
 pub steps-returns-in-Some-clause-no : goal.steps-returns-in-Some-clause-no
-steps-returns-in-Some-clause-no t c = search rules
+steps-returns-in-Some-clause-no t c = tt
 
 pub steps-returns-in_default-after_separator-clause-ok : goal.steps-returns-in_default-after_separator-clause-ok
 steps-returns-in_default-after_separator-clause-ok t c = subst (λ w. p.StepsAt (map bound c.args.scope.now) c.args.is_deep (tokens_of c.args.tokens.now) (steps w) (form c.form_of.result) (tokens_of c.in_ok-next.after.now)) (sym c.into_bump_slice-in_default-after_separator.ensures)
@@ -198,25 +198,25 @@ pub steps-returns-in_default-after_separator-clause-shorter : goal.steps-returns
 steps-returns-in_default-after_separator-clause-shorter t c = omega (arith, c.in_ok-next.ensures.shorter, c.loop-after.invariant.within)
 
 pub steps-returns-in_default-after_separator-clause-no : goal.steps-returns-in_default-after_separator-clause-no
-steps-returns-in_default-after_separator-clause-no t c = search rules
+steps-returns-in_default-after_separator-clause-no t c = tt
 
 pub steps-returns-in_err-next-clause-no : goal.steps-returns-in_err-next-clause-no
 steps-returns-in_err-next-clause-no t c = handed_on c.from_residual.result c.in_err-next.field-0.0 c.from_residual.ensures.1 (steps_fail (map bound c.args.scope.now) c.loop-after.invariant.read c.in_default.ensures) c.in_err-next.ensures.no
 
 pub steps-returns-in_err-next-clause-ok : goal.steps-returns-in_err-next-clause-ok
-steps-returns-in_err-next-clause-ok t c = search rules
+steps-returns-in_err-next-clause-ok t c = not_ok _ _ c.from_residual.result c.from_residual.ensures.1
 
 pub steps-returns-in_err-next-clause-shorter : goal.steps-returns-in_err-next-clause-shorter
-steps-returns-in_err-next-clause-shorter t c = search rules
+steps-returns-in_err-next-clause-shorter t c = not_ok _ _ c.from_residual.result c.from_residual.ensures.1
 
 pub steps-returns-in_err-push-clause-no : goal.steps-returns-in_err-push-clause-no
-steps-returns-in_err-push-clause-no t c = search rules
+steps-returns-in_err-push-clause-no t c = no_memory _ c.from_residual-in_err-push.result c.from_residual-in_err-push.ensures.1
 
 pub steps-returns-in_err-push-clause-ok : goal.steps-returns-in_err-push-clause-ok
-steps-returns-in_err-push-clause-ok t c = search rules
+steps-returns-in_err-push-clause-ok t c = not_ok _ _ c.from_residual-in_err-push.result c.from_residual-in_err-push.ensures.1
 
 pub steps-returns-in_err-push-clause-shorter : goal.steps-returns-in_err-push-clause-shorter
-steps-returns-in_err-push-clause-shorter t c = search rules
+steps-returns-in_err-push-clause-shorter t c = not_ok _ _ c.from_residual-in_err-push.result c.from_residual-in_err-push.ensures.1
 
 pub closed_test-returns-clause-shorter : goal.closed_test-returns-clause-shorter
 closed_test-returns-clause-shorter t c = omega (arith, shorter_by c.in_ok-tests.after.now c.in-Some.rest.now c.in-Some.ensures, c.in_ok-tests.ensures.shorter)
@@ -329,7 +329,7 @@ step-returns-clause-ok t c = step_at (map bound c.args.scope.now) c.loop-inside.
     (predicates_end (map bound c.args.scope.now) c.loop-inside.invariant.read c.in_default.ensures) c.into_bump_slice-predicates.ensures c.conjunction.ensures c.is_empty.ensures
 
 pub alternative-returns-in_default-after_mark-clause-shorter : goal.alternative-returns-in_default-after_mark-clause-shorter
-alternative-returns-in_default-after_mark-clause-shorter t c = search rules
+alternative-returns-in_default-after_mark-clause-shorter t c = c.steps.ensures.shorter
 
 pub alternative-slice_bounds-result-end : goal.alternative-slice_bounds-result-end
 alternative-slice_bounds-result-end t c = search rules
@@ -347,64 +347,64 @@ pub closed_test-returns-in_err-tests-clause-no : goal.closed_test-returns-in_err
 closed_test-returns-in_err-tests-clause-no t c = search rules
 
 pub closed_test-returns-in_err-tests-clause-ok : goal.closed_test-returns-in_err-tests-clause-ok
-closed_test-returns-in_err-tests-clause-ok t c = search rules
+closed_test-returns-in_err-tests-clause-ok t c = not_ok _ _ c.from_residual.result c.from_residual.ensures.1
 
 pub closed_test-returns-in_err-tests-clause-shorter : goal.closed_test-returns-in_err-tests-clause-shorter
-closed_test-returns-in_err-tests-clause-shorter t c = search rules
+closed_test-returns-in_err-tests-clause-shorter t c = not_ok _ _ c.from_residual.result c.from_residual.ensures.1
 
 pub primary-returns-clause-shorter : goal.primary-returns-clause-shorter
-primary-returns-clause-shorter t c = search rules
+primary-returns-clause-shorter t c = c.in_ok-path.ensures.shorter
 
 pub primary-returns-in_err-path-clause-ok : goal.primary-returns-in_err-path-clause-ok
-primary-returns-in_err-path-clause-ok t c = search rules
+primary-returns-in_err-path-clause-ok t c = not_ok _ _ c.from_residual-in_err-path.result c.from_residual-in_err-path.ensures.1
 
 pub primary-returns-in_err-path-clause-shorter : goal.primary-returns-in_err-path-clause-shorter
-primary-returns-in_err-path-clause-shorter t c = search rules
+primary-returns-in_err-path-clause-shorter t c = not_ok _ _ c.from_residual-in_err-path.result c.from_residual-in_err-path.ensures.1
 
 pub primary-returns-in_err-test-clause-ok : goal.primary-returns-in_err-test-clause-ok
-primary-returns-in_err-test-clause-ok t c = search rules
+primary-returns-in_err-test-clause-ok t c = not_ok _ _ c.from_residual.result c.from_residual.ensures.1
 
 pub primary-returns-in_err-test-clause-shorter : goal.primary-returns-in_err-test-clause-shorter
-primary-returns-in_err-test-clause-shorter t c = search rules
+primary-returns-in_err-test-clause-shorter t c = not_ok _ _ c.from_residual.result c.from_residual.ensures.1
 
 pub primary-returns-in_err-try_alloc-clause-no : goal.primary-returns-in_err-try_alloc-clause-no
 primary-returns-in_err-try_alloc-clause-no t c = search rules
 
 pub primary-returns-in_err-try_alloc-clause-ok : goal.primary-returns-in_err-try_alloc-clause-ok
-primary-returns-in_err-try_alloc-clause-ok t c = search rules
+primary-returns-in_err-try_alloc-clause-ok t c = not_ok _ _ c.from_residual-in_err-try_alloc.result c.from_residual-in_err-try_alloc.ensures.1
 
 pub primary-returns-in_err-try_alloc-clause-shorter : goal.primary-returns-in_err-try_alloc-clause-shorter
-primary-returns-in_err-try_alloc-clause-shorter t c = search rules
+primary-returns-in_err-try_alloc-clause-shorter t c = not_ok _ _ c.from_residual-in_err-try_alloc.result c.from_residual-in_err-try_alloc.ensures.1
 
 pub primary-select-requires : goal.primary-select-requires
 primary-select-requires t c = search rules
 
 pub step-returns-clause-shorter : goal.step-returns-clause-shorter
-step-returns-clause-shorter t c = search rules
+step-returns-clause-shorter t c = c.loop-inside.invariant.shorter
 
 pub step-returns-in_err-predicate-clause-ok : goal.step-returns-in_err-predicate-clause-ok
-step-returns-in_err-predicate-clause-ok t c = search rules
+step-returns-in_err-predicate-clause-ok t c = not_ok _ _ c.from_residual-in_err-predicate.result c.from_residual-in_err-predicate.ensures.1
 
 pub step-returns-in_err-predicate-clause-shorter : goal.step-returns-in_err-predicate-clause-shorter
-step-returns-in_err-predicate-clause-shorter t c = search rules
+step-returns-in_err-predicate-clause-shorter t c = not_ok _ _ c.from_residual-in_err-predicate.result c.from_residual-in_err-predicate.ensures.1
 
 pub step-returns-in_err-push-clause-no : goal.step-returns-in_err-push-clause-no
-step-returns-in_err-push-clause-no t c = search rules
+step-returns-in_err-push-clause-no t c = no_memory _ c.from_residual-in_err-push.result c.from_residual-in_err-push.ensures.1
 
 pub step-returns-in_err-push-clause-ok : goal.step-returns-in_err-push-clause-ok
-step-returns-in_err-push-clause-ok t c = search rules
+step-returns-in_err-push-clause-ok t c = not_ok _ _ c.from_residual-in_err-push.result c.from_residual-in_err-push.ensures.1
 
 pub step-returns-in_err-push-clause-shorter : goal.step-returns-in_err-push-clause-shorter
-step-returns-in_err-push-clause-shorter t c = search rules
+step-returns-in_err-push-clause-shorter t c = not_ok _ _ c.from_residual-in_err-push.result c.from_residual-in_err-push.ensures.1
 
 pub step-returns-in_err-test-clause-no : goal.step-returns-in_err-test-clause-no
 step-returns-in_err-test-clause-no t c = search rules
 
 pub step-returns-in_err-test-clause-ok : goal.step-returns-in_err-test-clause-ok
-step-returns-in_err-test-clause-ok t c = search rules
+step-returns-in_err-test-clause-ok t c = not_ok _ _ c.from_residual.result c.from_residual.ensures.1
 
 pub step-returns-in_err-test-clause-shorter : goal.step-returns-in_err-test-clause-shorter
-step-returns-in_err-test-clause-shorter t c = search rules
+step-returns-in_err-test-clause-shorter t c = not_ok _ _ c.from_residual.result c.from_residual.ensures.1
 
 pub all_tests-split_at-requires : goal.all_tests-split_at-requires
 all_tests-split_at-requires t c = omega arith

@@ -1,13 +1,15 @@
 use Rattle.tc_model.specs.SheetTextPhrases.{AreBranches}
-use Rattle.std.proofs.Common.{ap, ◌∙◌, sym, subst, ◌+◌, drop}
+use Rattle.std.proofs.Common.{ap, ◌∙◌, sym, subst, ◌+◌, drop, []}
+use Rattle.std.specs.Prelude.{codes}
 use Rattle.std.proofs.lemmas.List.{at_drop_all}
 use Rattle.tc_model.specs.Views.{name, place, raw_trees, raw_before, raw_element}
-use Rattle.tc_model.specs.SheetTextTrees.{w_otherwise}
+use Rattle.tc_model.specs.SheetTextTrees.{w_otherwise, w_nothing}
 use Rattle.tc_model.specs.declared.tree.Raw.{Raw}
-use Rattle.tc_sheet.specs.LookedAt.{in_choose, IsIn}
+use Rattle.tc_model.specs.RawTrees.{none}
+use Rattle.tc_sheet.specs.LookedAt.{in_body, in_choose, IsIn}
 use Rattle.tc_sheet.specs.Constructs.{of_when}
 use Rattle.tc_sheet.specs.Begun.{IsBegun}
-use Rattle.tc_sheet.specs.Readings.{Refuses, HasNoBranches}
+use Rattle.tc_sheet.specs.Readings.{Refuses, HasNoBody, HasNoBranches, HasNoElementItem}
 use Rattle.std.proofs.Common.{rules}
 use Rattle.tc_model.specs.declared.tree.Raw.TheViews.{the_lemmas}
 use Rattle.tc_sheet.proofs.bodies.+body.Goals.{read_branches-in-Text+else-not-is_white_space_only, read_branches-in-Elem+in_ok-ends-in-Elem+else-ends+in_ok-branch-in-Elem+in_ok-push-in-Elem}
@@ -15,9 +17,10 @@ use Rattle.tc_sheet.specs.Views.{body, branches, put}
 use Rattle.tc_sheet.specs.declared.written.Written.TheVariants as v
 use Rattle.tc_model.proofs.ViewsRaw.{left_one, left_elem, left_text, before_elem, before_text}
 use Rattle.tc_sheet.proofs.ViewsWritten.{see_text}
-use Rattle.tc_sheet.proofs.Refused.{handed_on}
-use Rattle.tc_sheet.proofs.BodyLaws.{BodyLoop, body_begins, body_goes_on, body_ends, item_of_body_refuses, item_white, item_text, item_ok, item_no, body_refuses}
+use Rattle.tc_sheet.proofs.Refused.{handed_on, memory_refuses}
+use Rattle.tc_sheet.proofs.BodyLaws.{BodyLoop, around_reads, body_begins, body_goes_on, body_ends, item_of_body_refuses, item_white, item_text, item_ok, item_no, body_refuses}
 use Rattle.tc_sheet.proofs.BranchLaws.{BranchLoop, branches_begin, past_blank, past_when, when_refuses, all_read, otherwise_refuses, none_left, black_refuses, odd_refuses, is_when, is_last, rest_whole, choose_refuses, otherwise_only_refuses, otherwise_body_refuses, otherwise_blank_refuses, otherwise_read, when_test_refuses, when_body_refuses}
+use Rattle.tc_sheet.proofs.Unrefused.{weighed_among}
 use Rattle.tc_sheet.proofs.bodies.+body.Goals as goal
 
 pub body-loop-kid-init : goal.body-loop-kid-init
@@ -99,7 +102,7 @@ read_branches-loop-at-preserved t c =
     ]
 
 pub read_branches-returns-clause-ok : goal.read_branches-returns-clause-ok
-read_branches-returns-clause-ok t c = subst (λ bs. AreBranches (raw_trees c.args.kids.now) (branches bs (w_otherwise (body c.no_instruction.result.now)))) (sym c.into_bump_slice-2.ensures) (subst (λ is. AreBranches (raw_trees c.args.kids.now) (branches c.loop-at.found.items (w_otherwise (body is)))) (sym c.no_instruction.ensures) (none_left c.loop-at.invariant (at_drop_all raw_trees c.args.kids.now c.loop-at.at c.loop-at-test.false)))
+read_branches-returns-clause-ok t c = subst (λ bs. AreBranches (raw_trees c.args.kids.now) (branches bs (w_otherwise w_nothing))) (sym c.into_bump_slice-2.ensures) (none_left c.loop-at.invariant (at_drop_all raw_trees c.args.kids.now c.loop-at.at c.loop-at-test.false))
 
 pub when-test_of-requires-clause-test : goal.when-test_of-requires-clause-test
 when-test_of-requires-clause-test t c = of_when c.requires
@@ -109,3 +112,27 @@ when-returns-in_err-test-clause-no t c = handed_on _ c.from_residual.result c.in
 
 pub when-returns-in_err-body-clause-no : goal.when-returns-in_err-body-clause-no
 when-returns-in_err-body-clause-no t c = handed_on _ c.from_residual-in_err-body.result c.in_err-body.field-0.0 c.from_residual-in_err-body.ensures.1 (when_body_refuses c.args.element.now c.requires c.in_err-body.field-0.0 c.in_err-body.ensures.no)
+
+pub when-returns-clause-ok : goal.when-returns-clause-ok
+when-returns-clause-ok t c = record { only = c.in_ok-test.ensures.ok.only; test = c.in_ok-test.ensures.ok.test; body = c.in_ok-body.ensures.ok }
+
+pub otherwise-only_attributes-requires-clause-weighed : goal.otherwise-only_attributes-requires-clause-weighed
+otherwise-only_attributes-requires-clause-weighed t c = weighed_among (name c.args.element.now.name) (codes "otherwise") [] tt c.requires
+
+pub element_of_body-returns-in-Whole-clause-ok : goal.element_of_body-returns-in-Whole-clause-ok
+element_of_body-returns-in-Whole-clause-ok t c = subst (IsBegun c.args.element.now) c.in-Whole.is c.in_ok-begun.ensures.ok
+
+pub element_of_body-returns-in_err-written-in-Around-clause-no : goal.element_of_body-returns-in_err-written-in-Around-clause-no
+element_of_body-returns-in_err-written-in-Around-clause-no t c =
+    handed_on _ c.from_residual-in_err-written-in-Around.result c.in_err-written-in-Around.field-0.0 c.from_residual-in_err-written-in-Around.ensures.1
+    (memory_refuses (IsIn in_body (raw_element c.args.element.now none)) (HasNoElementItem c.args.element.now) c.in_err-written-in-Around.ensures.no)
+
+pub element_of_body-returns-in_ok-written-in-Around-clause-ok : goal.element_of_body-returns-in_ok-written-in-Around-clause-ok
+element_of_body-returns-in_ok-written-in-Around-clause-ok t c =
+    around_reads c.args.element.now c.in-Around.head c.in_ok-written-in-Around.written (body c.in_ok-inner-in-Around.inner.now) (subst (IsBegun c.args.element.now) c.in-Around.is c.in_ok-begun.ensures.ok)
+    c.in_ok-inner-in-Around.ensures.ok c.in_ok-written-in-Around.ensures.ok
+
+pub body-returns-in_err-put_read-clause-no : goal.body-returns-in_err-put_read-clause-no
+body-returns-in_err-put_read-clause-no t c =
+    handed_on _ c.from_residual-in_err-put_read.result c.in_err-put_read.field-0.0 c.from_residual-in_err-put_read.ensures.1
+    (memory_refuses (IsIn in_body (raw_trees c.args.kids.now)) (HasNoBody (raw_trees c.args.kids.now)) c.in_err-put_read.ensures.no)

@@ -1,4 +1,4 @@
-use Rattle.std.proofs.Common.{ap, ◌∙◌, sym}
+use Rattle.std.proofs.Common.{ap, ◌∙◌, refl, sym}
 use Rattle.tc_sheet.specs.Views.{body}
 use Rattle.tc_sheet.specs.Begun.{around as around_seen}
 use Rattle.tc_sheet.specs.declared.bodies.Head.{Head}
@@ -15,5 +15,5 @@ returns-in-Copy-clause-ok c = λ rest. see_copy c.args.inner rest ∙ ap (λ (h 
 pub returns-in-ForEach-clause-ok : goal.returns-in-ForEach-clause-ok
 returns-in-ForEach-clause-ok c = λ rest. see_for_each c.in-ForEach.path c.args.inner rest ∙ ap (λ (h : Head). around_seen h (body c.args.inner.now) rest) (sym c.in-ForEach.is)
 
-pub returns-in_ok-push-in-If-clause-ok : goal.returns-in_ok-push-in-If-clause-ok
-returns-in_ok-push-in-If-clause-ok c = λ rest. if_made c.into_bump_slice.result c.no_instruction.result c.push.new.self.items c.new-branches.result.items _ c.into_bump_slice.ensures c.in_ok-push-in-If.ensures.items c.new-branches.ensures.items c.no_instruction.ensures rest ∙ ap (λ (h : Head). around_seen h (body c.args.inner.now) rest) (sym c.in-If.is)
+pub returns-in_ok-branch-in-If-clause-ok : goal.returns-in_ok-branch-in-If-clause-ok
+returns-in_ok-branch-in-If-clause-ok c = λ rest. if_made c.from_ref.result _ _ _ c.from_ref.ensures.value c.in_ok-branch-in-If.ensures refl rest ∙ ap (λ (h : Head). around_seen h (body c.args.inner.now) rest) (sym c.in-If.is)

@@ -1,8 +1,27 @@
-use Rattle.std.proofs.Common.{map}
+use Rattle.std.proofs.Common.{◌≡◌, ◌∙◌, ap, map}
+use Rattle.std.proofs.lemmas.List.{map_push}
 use Rattle.tc_graph.proofs.Tops.{on_ok}
 use Rattle.tc_sheet.specs.SeenCalls.{site}
-use Rattle.tc_sheet.proofs.WrittenParts.{choose_puts}
+use Rattle.tc_sheet.specs.declared.faults.SheetFault.TheVariants.{NoMemory}
+use Rattle.tc_sheet.specs.declared.written.Written.TheVariants as v
+use Rattle.tc_sheet.proofs.Refused.{handed_on}
+use Rattle.tc_sheet.proofs.WrittenParts.{calls_as, calls_of_call, choose_puts, calls_step, calls_end, calls_branch, calls_branches_end}
 use Rattle.tc_sheet.proofs.calls.+calls.Goals as goal
+
+pub put_calls-loop-instruction-preserved : goal.put_calls-loop-instruction-preserved
+put_calls-loop-instruction-preserved t c =
+    calls_step c.args.body.now c.loop-instruction.instruction-index c.instruction-item.result c.loop-instruction-test.true c.instruction-item.is (map site c.loop-instruction.sites.items)
+    (map site c.put_calls_of_one.new.sites.items) _ c.in_ok-put_calls_of_one.ensures.ok c.loop-instruction.invariant
+
+pub put_calls-returns-clause-ok : goal.put_calls-returns-clause-ok
+put_calls-returns-clause-ok t c = calls_end c.args.body.now c.loop-instruction.instruction-index (map site c.loop-instruction.sites.items) _ c.loop-instruction-test.false c.loop-instruction.invariant
+
+pub put_calls_of_branches-loop-branch-preserved : goal.put_calls_of_branches-loop-branch-preserved
+put_calls_of_branches-loop-branch-preserved t c =
+    calls_branch c.args.branches.now c.loop-branch.branch-index _ c.loop-branch-test.true (map site c.loop-branch.sites.items) (map site c.put_calls.new.sites.items) _ c.in_ok-put_calls.ensures.ok c.loop-branch.invariant
+
+pub put_calls_of_branches-returns-clause-ok : goal.put_calls_of_branches-returns-clause-ok
+put_calls_of_branches-returns-clause-ok t c = calls_branches_end c.args.branches.now c.loop-branch.branch-index (map site c.loop-branch.sites.items) _ c.loop-branch-test.false c.loop-branch.invariant
 
 pub put_calls_of_one-returns-in_ok-put_calls_of_branches-in-Choose-clause-ok : goal.put_calls_of_one-returns-in_ok-put_calls_of_branches-in-Choose-clause-ok
 put_calls_of_one-returns-in_ok-put_calls_of_branches-in-Choose-clause-ok t c =
@@ -10,3 +29,17 @@ put_calls_of_one-returns-in_ok-put_calls_of_branches-in-Choose-clause-ok t c =
     (choose_puts c.in-Choose.branches c.in-Choose.last c.args.instruction.now (map site c.args.sites.now.items) (map site c.put_calls_of_branches.new.sites.items) (map site c.put_calls.new.sites.items)
     c.in-Choose.is c.in_ok-put_calls_of_branches-in-Choose.ensures.ok)
     c.put_calls.ensures.ok
+
+pub put_calls_of_one-returns-in_ok-push-in-Call-clause-ok : goal.put_calls_of_one-returns-in_ok-push-in-Call-clause-ok
+put_calls_of_one-returns-in_ok-push-in-Call-clause-ok t c =
+    calls_as c.args.instruction.now (v.Call c.in-Call.name c.in-Call.place) (map site c.args.sites.now.items) (map site c.push.new.self.items) c.in-Call.is (calls_of_call c.in-Call.name c.in-Call.place)
+    (ap (map site) c.in_ok-push-in-Call.ensures.items ∙ map_push site c.args.sites.now.items _)
+
+pub put_calls-returns-in_err-put_calls_of_one-clause-no : goal.put_calls-returns-in_err-put_calls_of_one-clause-no
+put_calls-returns-in_err-put_calls_of_one-clause-no t c = handed_on (λ e. e ≡ NoMemory) c.from_residual.result c.in_err-put_calls_of_one.field-0.0 c.from_residual.ensures.1 c.in_err-put_calls_of_one.ensures.no
+
+pub put_calls_of_branches-returns-in_err-put_calls-clause-no : goal.put_calls_of_branches-returns-in_err-put_calls-clause-no
+put_calls_of_branches-returns-in_err-put_calls-clause-no t c = handed_on (λ e. e ≡ NoMemory) c.from_residual.result c.in_err-put_calls.field-0.0 c.from_residual.ensures.1 c.in_err-put_calls.ensures.no
+
+pub put_calls_of_one-returns-in_err-put_calls_of_branches-in-Choose-clause-no : goal.put_calls_of_one-returns-in_err-put_calls_of_branches-in-Choose-clause-no
+put_calls_of_one-returns-in_err-put_calls_of_branches-in-Choose-clause-no t c = handed_on (λ e. e ≡ NoMemory) c.from_residual-in_err-put_calls_of_branches-in-Choose.result c.in_err-put_calls_of_branches-in-Choose.field-0.0 c.from_residual-in_err-put_calls_of_branches-in-Choose.ensures.1 c.in_err-put_calls_of_branches-in-Choose.ensures.no

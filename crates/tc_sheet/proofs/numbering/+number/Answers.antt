@@ -1,11 +1,13 @@
-use Rattle.std.proofs.Common.{◌+◌, ◌∙◌, ap, arith, refl, drop}
+use Rattle.std.proofs.Common.{◌≡◌, ◌+◌, ◌∙◌, ap, arith, refl, drop}
 use Rattle.tc_model.specs.Views as see
 use Rattle.tc_model.specs.SheetText.{numbered, numbered_branches}
 use Rattle.tc_model.proofs.ViewsBody.{body_then}
 use Rattle.tc_sheet.specs.Views.{body, branches}
 use Rattle.tc_sheet.specs.SeenCalls.{names_seen}
 use Rattle.tc_sheet.specs.declared.written.Written.TheVariants as v
-use Rattle.tc_sheet.proofs.NumberLaws.{body_count, body_end, body_step, branches_count, branches_step, counted_by, number_apply, number_call, number_choose, number_copy, number_each, number_elem, number_self, number_text, number_value}
+use Rattle.tc_sheet.specs.declared.faults.SheetFault.TheVariants.{NoMemory}
+use Rattle.tc_sheet.proofs.Refused.{handed_on}
+use Rattle.tc_sheet.proofs.NumberLaws.{body_count, body_counted, body_end, body_step, branches_count, branches_counted, branches_end, branches_step, counted_by, number_apply, number_call, number_choose, number_copy, number_each, number_elem, number_self, number_text, number_value}
 use Rattle.tc_sheet.proofs.WrittenParts.{eaches_of_apply, eaches_of_call, eaches_of_choose, eaches_of_copy, eaches_of_each, eaches_of_elem, eaches_of_self, eaches_of_text, eaches_of_value}
 use Rattle.tc_sheet.proofs.numbering.+number.Goals as goal
 
@@ -27,7 +29,7 @@ numbered-loop-instruction-preserved t c =
           ∙ body_step modes names is k c.instruction-item.result c.loop-instruction-test.true c.instruction-item.is c.loop-instruction.found.items c.in_ok-numbered.numbered c.loop-instruction.next c.numbered_one.new.next _
           c.in_ok-numbered.ensures.ok c.loop-instruction.invariant.means;
       counted =
-          body_count modes names is k c.instruction-item.result c.loop-instruction-test.true c.instruction-item.is c.loop-instruction.next c.numbered_one.new.next _ c.in_ok-numbered.ensures.counted
+          body_count is k c.instruction-item.result c.loop-instruction-test.true c.instruction-item.is c.loop-instruction.next c.numbered_one.new.next _ c.in_ok-numbered.ensures.counted
           c.loop-instruction.invariant.counted;
     }
 
@@ -48,7 +50,7 @@ numbered_branches-loop-branch-preserved t c =
           ap (λ z. see.branches z (numbered_branches modes names c.numbered.new.next (branches (drop (k + 1) bs) rest))) c.in_ok-push.ensures.items
           ∙ branches_step modes names bs k _ c.loop-branch-test.true c.loop-branch.found.items _ c.loop-branch.next c.numbered.new.next c.args.next.now refl c.in_ok-body.ensures.ok c.in_ok-body.ensures.counted
           c.loop-branch.invariant.means rest;
-      counted = branches_count modes names bs k _ c.loop-branch-test.true c.loop-branch.next c.numbered.new.next _ c.in_ok-body.ensures.counted c.loop-branch.invariant.counted;
+      counted = branches_count bs k _ c.loop-branch-test.true c.loop-branch.next c.numbered.new.next _ c.in_ok-body.ensures.counted c.loop-branch.invariant.counted;
     }
 
 pub numbered_one-returns-in-Text-clause-ok : goal.numbered_one-returns-in-Text-clause-ok
@@ -101,3 +103,46 @@ numbered_one-returns-in_ok-repeated-in-ForEach-clause-counted t c = counted_by (
 
 pub numbered_one-returns-in_ok-otherwise-in-Choose-clause-counted : goal.numbered_one-returns-in_ok-otherwise-in-Choose-clause-counted
 numbered_one-returns-in_ok-otherwise-in-Choose-clause-counted t c = counted_by (names_seen c.args.tables.now.modes.now) (names_seen c.args.tables.now.names.now) c.args.instruction.now c.args.next.now c.numbered-in-Choose.new.next (v.Choose c.in-Choose.branches c.in-Choose.last) _ c.in-Choose.is (eaches_of_choose c.in-Choose.branches c.in-Choose.last) (omega (arith, c.in_ok-chosen-in-Choose.ensures.counted, c.in_ok-otherwise-in-Choose.ensures.counted))
+
+pub numbered_one-returns-in_err-content-in-Elem-clause-no : goal.numbered_one-returns-in_err-content-in-Elem-clause-no
+numbered_one-returns-in_err-content-in-Elem-clause-no t c = handed_on (λ e. e ≡ NoMemory) c.from_residual.result c.in_err-content-in-Elem.field-0.0 c.from_residual.ensures.1 c.in_err-content-in-Elem.ensures.no
+
+pub numbered_one-returns-in_err-copied-in-Copy-clause-no : goal.numbered_one-returns-in_err-copied-in-Copy-clause-no
+numbered_one-returns-in_err-copied-in-Copy-clause-no t c = handed_on (λ e. e ≡ NoMemory) c.from_residual-in_err-copied-in-Copy.result c.in_err-copied-in-Copy.field-0.0 c.from_residual-in_err-copied-in-Copy.ensures.1 c.in_err-copied-in-Copy.ensures.no
+
+pub numbered_one-returns-in_err-number_of_mode-in-Apply-clause-no : goal.numbered_one-returns-in_err-number_of_mode-in-Apply-clause-no
+numbered_one-returns-in_err-number_of_mode-in-Apply-clause-no t c = handed_on (λ e. e ≡ NoMemory) c.from_residual-in_err-number_of_mode-in-Apply.result c.in_err-number_of_mode-in-Apply.field-0.0 c.from_residual-in_err-number_of_mode-in-Apply.ensures.1 c.in_err-number_of_mode-in-Apply.ensures.no
+
+pub numbered_one-returns-in_err-callee-in-Call-clause-no : goal.numbered_one-returns-in_err-callee-in-Call-clause-no
+numbered_one-returns-in_err-callee-in-Call-clause-no t c = handed_on (λ e. e ≡ NoMemory) c.from_residual-in_err-callee-in-Call.result c.in_err-callee-in-Call.field-0.0 c.from_residual-in_err-callee-in-Call.ensures.1 c.in_err-callee-in-Call.ensures.no
+
+pub numbered_one-returns-in_err-chosen-in-Choose-clause-no : goal.numbered_one-returns-in_err-chosen-in-Choose-clause-no
+numbered_one-returns-in_err-chosen-in-Choose-clause-no t c = handed_on (λ e. e ≡ NoMemory) c.from_residual-in_err-chosen-in-Choose.result c.in_err-chosen-in-Choose.field-0.0 c.from_residual-in_err-chosen-in-Choose.ensures.1 c.in_err-chosen-in-Choose.ensures.no
+
+pub numbered_one-returns-in_err-otherwise-in-Choose-clause-no : goal.numbered_one-returns-in_err-otherwise-in-Choose-clause-no
+numbered_one-returns-in_err-otherwise-in-Choose-clause-no t c = handed_on (λ e. e ≡ NoMemory) c.from_residual-in_err-otherwise-in-Choose.result c.in_err-otherwise-in-Choose.field-0.0 c.from_residual-in_err-otherwise-in-Choose.ensures.1 c.in_err-otherwise-in-Choose.ensures.no
+
+pub numbered_one-returns-in_err-number-in-ForEach-clause-no : goal.numbered_one-returns-in_err-number-in-ForEach-clause-no
+numbered_one-returns-in_err-number-in-ForEach-clause-no t c = handed_on (λ e. e ≡ NoMemory) c.from_residual-in_err-number-in-ForEach.result c.in_err-number-in-ForEach.field-0.0 c.from_residual-in_err-number-in-ForEach.ensures.1 c.in_err-number-in-ForEach.ensures.no
+
+pub numbered_one-returns-in_err-repeated-in-ForEach-clause-no : goal.numbered_one-returns-in_err-repeated-in-ForEach-clause-no
+numbered_one-returns-in_err-repeated-in-ForEach-clause-no t c = handed_on (λ e. e ≡ NoMemory) c.from_residual-in_err-repeated-in-ForEach.result c.in_err-repeated-in-ForEach.field-0.0 c.from_residual-in_err-repeated-in-ForEach.ensures.1 c.in_err-repeated-in-ForEach.ensures.no
+
+pub numbered-returns-in_err-numbered-clause-no : goal.numbered-returns-in_err-numbered-clause-no
+numbered-returns-in_err-numbered-clause-no t c = handed_on (λ e. e ≡ NoMemory) c.from_residual.result c.in_err-numbered.field-0.0 c.from_residual.ensures.1 c.in_err-numbered.ensures.no
+
+pub numbered_branches-returns-in_err-body-clause-no : goal.numbered_branches-returns-in_err-body-clause-no
+numbered_branches-returns-in_err-body-clause-no t c = handed_on (λ e. e ≡ NoMemory) c.from_residual.result c.in_err-body.field-0.0 c.from_residual.ensures.1 c.in_err-body.ensures.no
+
+pub numbered-returns-clause-counted : goal.numbered-returns-clause-counted
+numbered-returns-clause-counted t c = body_counted c.args.body.now c.loop-instruction.instruction-index c.loop-instruction.next _ c.loop-instruction-test.false c.loop-instruction.invariant.counted
+
+pub numbered_branches-returns-clause-ok : goal.numbered_branches-returns-clause-ok
+numbered_branches-returns-clause-ok t c =
+    let modes = names_seen c.args.tables.now.modes.now in
+    let names = names_seen c.args.tables.now.names.now in
+    λ rest. ap (λ z. see.branches z (numbered_branches modes names c.loop-branch.next rest)) c.into_bump_slice.ensures
+    ∙ branches_end modes names c.args.branches.now c.loop-branch.branch-index c.loop-branch.found.items c.loop-branch.next c.args.next.now c.loop-branch-test.false c.loop-branch.invariant.means rest
+
+pub numbered_branches-returns-clause-counted : goal.numbered_branches-returns-clause-counted
+numbered_branches-returns-clause-counted t c = branches_counted c.args.branches.now c.loop-branch.branch-index c.loop-branch.next _ c.loop-branch-test.false c.loop-branch.invariant.counted

@@ -1,10 +1,11 @@
-use Rattle.std.proofs.Common.{◌+◌, ◌++◌, ◌∙◌, ap, get_or, map, flat_map}
+use Rattle.std.proofs.Common.{◌≡◌, ◌+◌, ◌++◌, ◌∙◌, ap, arith, get_or, length, map, flat_map}
+use Rattle.std.proofs.lemmas.List.{length-map}
 use Rattle.tc_model.specs.Views as see
 use Rattle.tc_model.specs.SheetText as model
 use Rattle.tc_sheet.specs.Numbers.{bodies, numbered_template}
 use Rattle.tc_sheet.specs.Views.{template}
 use Rattle.tc_sheet.specs.SeenCalls.{names_seen}
-use Rattle.tc_sheet.proofs.NumberLaws.{all_counted, named_are, numbers_step, others_of, others_step, rules_are}
+use Rattle.tc_sheet.proofs.NumberLaws.{all_counted, named_are, numbers_end, numbers_step, others_end, others_of, others_step, rules_are}
 use Rattle.tc_sheet.proofs.TableKeys.{blank}
 use Rattle.tc_sheet.proofs.numbering.sheet_of.Goals as goal
 
@@ -40,3 +41,18 @@ loop-template-preserved c =
           (named_are modes names (model.modes_of all) (model.names_of all) c.requires.modes c.requires.names (numbered_template old.in_rules old.others (template (get_or ts k blank))) (bodies old.named.items) (bodies new.named.items) put.named) c.loop-template.invariant.named;
       others = others_step ts k blank c.loop-template-test.true old.others new.others _ put.counted_others c.loop-template.invariant.others;
     }
+
+pub returns-clause-ok : goal.returns-clause-ok
+returns-clause-ok c =
+    let ts = c.args.templates.now in
+    let all = map template ts in
+    let k = c.loop-template.template-index in
+    let parts = c.loop-template.parts in
+    let modes : c.finished.result.modes ≡ 1 + length (model.modes_of all) =
+    omega (arith, c.finished.ensures.modes, c.in_ok-modes.ensures.ok, c.len.ensures.len, length-map c.args.tables.now.modes.now.keys see.name, ap length c.requires.modes) in
+    let eaches : c.finished.result.eaches ≡ model.eaches_of all = c.finished.ensures.eaches ∙ others_end ts k parts.others (model.eaches_of all) c.loop-template-test.false c.loop-template.invariant.others in
+    let rules : map see.rule c.finished.result.rules.now ≡ flat_map (model.rules_of all) (model.numbered_templates all) =
+    ap (map see.rule) c.finished.ensures.rules ∙ numbers_end (model.rules_of all) ts k parts.in_rules parts.others (map see.rule parts.rules.items) _ c.loop-template-test.false c.loop-template.invariant.rules in
+    let named : bodies c.finished.result.named.now ≡ flat_map (model.named_of all) (model.numbered_templates all) =
+    ap bodies c.finished.ensures.named ∙ numbers_end (model.named_of all) ts k parts.in_rules parts.others (bodies parts.named.items) _ c.loop-template-test.false c.loop-template.invariant.named in
+    λ i. record { modes = modes i; eaches = eaches i; rules = rules i; named = named i }

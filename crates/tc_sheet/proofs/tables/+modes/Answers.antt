@@ -1,6 +1,9 @@
+use Rattle.std.proofs.Common.{◌≡◌}
 use Rattle.tc_graph.proofs.Tops.{on_ok}
 use Rattle.tc_sheet.specs.SeenCalls.{names_seen}
-use Rattle.tc_sheet.proofs.WrittenParts.{choose_puts_modes, modes_step, modes_branch}
+use Rattle.tc_sheet.specs.declared.faults.SheetFault.TheVariants.{NoMemory}
+use Rattle.tc_sheet.proofs.Refused.{handed_on}
+use Rattle.tc_sheet.proofs.WrittenParts.{choose_puts_modes, modes_branch, modes_branches_end, modes_end, modes_step}
 use Rattle.tc_sheet.proofs.tables.+modes.Goals as goal
 
 pub put_modes_of_one-returns-in_ok-put_modes_of_branches-in-Choose-clause-ok : goal.put_modes_of_one-returns-in_ok-put_modes_of_branches-in-Choose-clause-ok
@@ -19,3 +22,18 @@ pub put_modes_of_branches-loop-branch-preserved : goal.put_modes_of_branches-loo
 put_modes_of_branches-loop-branch-preserved t c =
     modes_branch c.args.branches.now c.loop-branch.branch-index _ c.loop-branch-test.true (names_seen c.loop-branch.modes) (names_seen c.put_modes.new.modes) _
     c.in_ok-put_modes.ensures.ok c.loop-branch.invariant
+
+pub put_modes-returns-clause-ok : goal.put_modes-returns-clause-ok
+put_modes-returns-clause-ok t c = modes_end c.args.body.now c.loop-instruction.instruction-index (names_seen c.loop-instruction.modes) _ c.loop-instruction-test.false c.loop-instruction.invariant
+
+pub put_modes_of_branches-returns-clause-ok : goal.put_modes_of_branches-returns-clause-ok
+put_modes_of_branches-returns-clause-ok t c = modes_branches_end c.args.branches.now c.loop-branch.branch-index (names_seen c.loop-branch.modes) _ c.loop-branch-test.false c.loop-branch.invariant
+
+pub put_modes-returns-in_err-put_modes_of_one-clause-no : goal.put_modes-returns-in_err-put_modes_of_one-clause-no
+put_modes-returns-in_err-put_modes_of_one-clause-no t c = handed_on (λ e. e ≡ NoMemory) c.from_residual.result c.in_err-put_modes_of_one.field-0.0 c.from_residual.ensures.1 c.in_err-put_modes_of_one.ensures.no
+
+pub put_modes_of_branches-returns-in_err-put_modes-clause-no : goal.put_modes_of_branches-returns-in_err-put_modes-clause-no
+put_modes_of_branches-returns-in_err-put_modes-clause-no t c = handed_on (λ e. e ≡ NoMemory) c.from_residual.result c.in_err-put_modes.field-0.0 c.from_residual.ensures.1 c.in_err-put_modes.ensures.no
+
+pub put_modes_of_one-returns-in_err-put_modes_of_branches-in-Choose-clause-no : goal.put_modes_of_one-returns-in_err-put_modes_of_branches-in-Choose-clause-no
+put_modes_of_one-returns-in_err-put_modes_of_branches-in-Choose-clause-no t c = handed_on (λ e. e ≡ NoMemory) c.from_residual.result c.in_err-put_modes_of_branches-in-Choose.field-0.0 c.from_residual.ensures.1 c.in_err-put_modes_of_branches-in-Choose.ensures.no

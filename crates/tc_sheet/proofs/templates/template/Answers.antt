@@ -4,8 +4,8 @@ use Rattle.tc_sheet.proofs.Unrefused.{template_unrefused, weighed_among, never_r
 use Rattle.tc_sheet.proofs.Refusals.{element_at}
 use Rattle.tc_sheet.specs.Changes.{both}
 use Rattle.tc_sheet.proofs.Refused.{handed_on}
-use Rattle.tc_sheet.proofs.TemplateLaws.{template_only_refuses, template_pattern_refuses, template_priority_refuses, template_name_refuses, template_mode_refuses, template_body_refuses, template_incomplete, lacks_by}
-use Rattle.std.proofs.Common.{[], ◌∷◌, sym, refl, map}
+use Rattle.tc_sheet.proofs.TemplateLaws.{template_only_refuses, template_pattern_refuses, template_priority_refuses, template_name_refuses, template_mode_refuses, template_body_refuses, template_incomplete, has_by, lacks_by, mode_with_pattern, pattern_or_name}
+use Rattle.std.proofs.Common.{[], ◌∷◌, sym, refl, map, option_map}
 use Rattle.std.specs.Prelude.{codes}
 use Rattle.tc_model.specs.Views.{name}
 use Rattle.tc_path.specs.Views.{alternative}
@@ -40,3 +40,22 @@ returns-then-not-is_complete-clause-no c = (element_at at_top c.args.element.now
 
 pub returns-in_err-body-clause-no : goal.returns-in_err-body-clause-no
 returns-in_err-body-clause-no c = handed_on _ c.from_residual-in_err-body.result c.in_err-body.field-0.0 c.from_residual-in_err-body.ensures.1 (template_body_refuses c.args.element.now c.in_err-body.field-0.0 c.requires c.in_err-body.ensures.no)
+
+pub returns-clause-ok : goal.returns-clause-ok
+returns-clause-ok c =
+    let has =
+    has_by c.is_some.result c.is_some-2.result c.is_some-3.result c.in_ok-pattern.pattern c.in_ok-name.name c.in_ok-mode.mode c.is_some.ensures c.is_some-2.ensures c.is_some-3.ensures (sym c.if-not-is_complete.ensures) in
+    record {
+      alternatives = option_map (λ xs. map alternative xs.now) c.in_ok-pattern.pattern;
+      priority = c.in_ok-priority.priority;
+      is_template = record { name = c.requires; only = c.in_ok-only_attributes.ensures.ok };
+      pattern = c.in_ok-pattern.ensures.ok;
+      priorities = c.in_ok-priority.ensures.ok;
+      kept = c.in_ok-alternatives.ensures.ok;
+      name = c.in_ok-name.ensures.ok;
+      mode = c.in_ok-mode.ensures.ok;
+      pattern_or_name = pattern_or_name (λ xs. map alternative xs.now) name c.in_ok-pattern.pattern c.in_ok-name.name c.in_ok-mode.mode has;
+      mode_with_pattern = mode_with_pattern (λ xs. map alternative xs.now) name c.in_ok-pattern.pattern c.in_ok-name.name c.in_ok-mode.mode has;
+      body = c.in_ok-body.ensures.ok;
+      place = refl;
+    }

@@ -1,93 +1,52 @@
-use Rattle.std.proofs.Common.{◌≡◌, ◌∙◌, ◌<◌, ap, sym, subst, arith, length, map, get_or, false}
-use Rattle.std.proofs.lemmas.List.{get_or_read, length-map}
+use Rattle.std.proofs.Common.{◌≡◌, ◌∙◌, sym, ap, subst, arith, length, map, true, false, Result, Ok, Err, IfErr}
+use Rattle.std.specs.Result.{IsErrAnd}
 use Rattle.tc_rnc.specs.Views.{syntax}
 use Rattle.tc_simple.specs.Nodes.{HasNumbersBelow, elements_of, see_element}
-use Rattle.tc_simple.specs.Sizes.{leaf}
-use Rattle.tc_simple.specs.Totals.{total_of}
-use Rattle.tc_simple.proofs.Checked.{count_links, numbers_below, order_within, start_within, total_is}
-use Rattle.tc_simple.proofs.Whole.{has_grammar, is_orderly}
+use Rattle.tc_simple.proofs.Checked.{count_links, numbers_below, order_within, start_within}
+use Rattle.tc_simple.specs.declared.faults.SimpleFault.{SimpleFault}
+use Rattle.tc_simple.specs.Refused.{Refuses}
+use Rattle.tc_model.specs.CompactSyntaxTrees.{Syntax}
 use Rattle.tc_simple.proofs.grammar.counted.Goals as goal
 
-pub all_sizes-requires-clause-order : goal.all_sizes-requires-clause-order
-all_sizes-requires-clause-order c = order_within (length c.args.table.now.patterns.items) c.requires.resolves.components (count_links c.args.table.now false)
+refused_so : {T : Type 0} (s : Syntax) (r : Result T SimpleFault) (x : SimpleFault) → IsErrAnd r (λ e. e ≡ x) → Refuses s x → IfErr r (λ e. Refuses s e)
+refused_so s (Ok y) x e h = tt
+refused_so s (Err y) x e h = subst (Refuses s) (sym e) h
 
-pub index-requires : goal.index-requires
-index-requires c =
-    omega (arith, start_within (syntax c.args.syntax.now) c.args.table.now c.args.start c.requires.resolves.table c.requires.resolves.begins, c.in_ok-sizes.ensures.0, c.in_ok-sizes.sizes.ok.0)
+pub elements-requires : goal.elements-requires
+elements-requires c =
+    subst (HasNumbersBelow c.args.table.now) (sym (c.requires.resolves.reach.size ∙ count_links c.args.table.now true)) (numbers_below (syntax c.args.syntax.now) c.args.table.now c.requires.resolves.table)
 
-pub total-size-requires : goal.total-size-requires
-total-size-requires c =
-    subst (HasNumbersBelow c.args.table.now) (sym (ap length c.deref.ensures.value ∙ c.in_ok-sizes.ensures.0)) (numbers_below (syntax c.args.syntax.now) c.args.table.now c.requires.resolves.table)
+pub whole_size-requires-clause-start : goal.whole_size-requires-clause-start
+whole_size-requires-clause-start c = start_within (syntax c.args.syntax.now) c.args.table.now c.args.start c.requires.resolves.table c.requires.resolves.begins
 
-pub returns-then-size-gt-MOST_NODES-clause-err : goal.returns-then-size-gt-MOST_NODES-clause-err
-returns-then-size-gt-MOST_NODES-clause-err c =
-    let s = syntax c.args.syntax.now in
-    let t = c.args.table.now in
-    let w = c.args.walk.now in
-    let marks = c.args.marks.now in
-    let r = c.requires.resolves in
-    let sizes = c.in_ok-sizes.sizes.items in
-    let small : c.args.start < length sizes = omega (arith, start_within s t c.args.start r.table r.begins, c.in_ok-sizes.ensures.0) in
-    let are = c.in_ok-sizes.ensures.1 s (elements_of t marks s.definitions) (is_orderly s t c.args.start marks w.states.items w.order.items r c.requires.lawful c.requires.faultless) in
-    let is : c.total-size.result ≡ total_of t sizes (get_or sizes c.args.start leaf) (elements_of t marks s.definitions) =
-    total_is t c.deref.result.now sizes c.index.result.now (get_or sizes c.args.start leaf) (map see_element c.deref-2.result.now) (elements_of t marks s.definitions) c.total-size.result c.deref.ensures.value
-    (get_or_read sizes c.args.start c.index.result.now small c.index.ensures leaf) (ap (map see_element) c.deref-2.ensures.value ∙ c.in_ok-found.ensures) c.total-size.ensures in
-    let (grammar, simplifies, nodes, depth, count) = has_grammar s t c.args.start marks w.states.items w.order.items r c.requires.lawful c.requires.faultless sizes are c.total-size.result is in
-    (grammar, simplifies, omega (arith, nodes, c.if-size-gt-MOST_NODES.true))
+pub whole_size-requires-clause-marks : goal.whole_size-requires-clause-marks
+whole_size-requires-clause-marks c = c.requires.resolves.reach.size ∙ count_links c.args.table.now true
 
-pub returns-then-size-gt-GREATEST_DEPTH-clause-err : goal.returns-then-size-gt-GREATEST_DEPTH-clause-err
-returns-then-size-gt-GREATEST_DEPTH-clause-err c =
-    let s = syntax c.args.syntax.now in
-    let t = c.args.table.now in
-    let w = c.args.walk.now in
-    let marks = c.args.marks.now in
-    let r = c.requires.resolves in
-    let sizes = c.in_ok-sizes.sizes.items in
-    let small : c.args.start < length sizes = omega (arith, start_within s t c.args.start r.table r.begins, c.in_ok-sizes.ensures.0) in
-    let are = c.in_ok-sizes.ensures.1 s (elements_of t marks s.definitions) (is_orderly s t c.args.start marks w.states.items w.order.items r c.requires.lawful c.requires.faultless) in
-    let is : c.total-size.result ≡ total_of t sizes (get_or sizes c.args.start leaf) (elements_of t marks s.definitions) =
-    total_is t c.deref.result.now sizes c.index.result.now (get_or sizes c.args.start leaf) (map see_element c.deref-2.result.now) (elements_of t marks s.definitions) c.total-size.result c.deref.ensures.value
-    (get_or_read sizes c.args.start c.index.result.now small c.index.ensures leaf) (ap (map see_element) c.deref-2.ensures.value ∙ c.in_ok-found.ensures) c.total-size.ensures in
-    let (grammar, simplifies, nodes, depth, count) = has_grammar s t c.args.start marks w.states.items w.order.items r c.requires.lawful c.requires.faultless sizes are c.total-size.result is in
-    (grammar, simplifies, (omega (arith, nodes, c.if-size-gt-MOST_NODES.false), omega (arith, depth, c.if-size-gt-GREATEST_DEPTH.true)))
+pub whole_size-requires-clause-numbers : goal.whole_size-requires-clause-numbers
+whole_size-requires-clause-numbers c = numbers_below (syntax c.args.syntax.now) c.args.table.now c.requires.resolves.table
 
-pub returns-then-len-gt-MOST_ELEMENTS-clause-err : goal.returns-then-len-gt-MOST_ELEMENTS-clause-err
-returns-then-len-gt-MOST_ELEMENTS-clause-err c =
-    let s = syntax c.args.syntax.now in
-    let t = c.args.table.now in
-    let w = c.args.walk.now in
-    let marks = c.args.marks.now in
-    let r = c.requires.resolves in
-    let sizes = c.in_ok-sizes.sizes.items in
-    let small : c.args.start < length sizes = omega (arith, start_within s t c.args.start r.table r.begins, c.in_ok-sizes.ensures.0) in
-    let are = c.in_ok-sizes.ensures.1 s (elements_of t marks s.definitions) (is_orderly s t c.args.start marks w.states.items w.order.items r c.requires.lawful c.requires.faultless) in
-    let is : c.total-size.result ≡ total_of t sizes (get_or sizes c.args.start leaf) (elements_of t marks s.definitions) =
-    total_is t c.deref.result.now sizes c.index.result.now (get_or sizes c.args.start leaf) (map see_element c.deref-2.result.now) (elements_of t marks s.definitions) c.total-size.result c.deref.ensures.value
-    (get_or_read sizes c.args.start c.index.result.now small c.index.ensures leaf) (ap (map see_element) c.deref-2.ensures.value ∙ c.in_ok-found.ensures) c.total-size.ensures in
-    let (grammar, simplifies, nodes, depth, count) = has_grammar s t c.args.start marks w.states.items w.order.items r c.requires.lawful c.requires.faultless sizes are c.total-size.result is in
-    let all : length grammar.elements ≡ length c.in_ok-found.found.items = count ∙ (sym (ap length c.in_ok-found.ensures) ∙ length-map c.in_ok-found.found.items see_element) in
-    (grammar, simplifies, (omega (arith, nodes, c.if-size-gt-MOST_NODES.false), omega (arith, depth, c.if-size-gt-GREATEST_DEPTH.false), omega (arith, all, c.len.ensures, c.in_ok-found.found.ok.0, c.if-len-gt-MOST_ELEMENTS.true)))
+pub whole_size-requires-clause-order : goal.whole_size-requires-clause-order
+whole_size-requires-clause-order c = order_within (length c.args.table.now.patterns.items) c.requires.resolves.components (count_links c.args.table.now false)
+
+pub returns-clause-few : goal.returns-clause-few
+returns-clause-few c =
+    let elements : map see_element c.deref.result.now ≡ elements_of c.args.table.now c.args.marks.now (syntax c.args.syntax.now).definitions = ap (map see_element) c.deref.ensures.value ∙ c.in_ok-found.ensures in
+    let (grammar, simplifies, is) = c.in_ok-size.ensures (syntax c.args.syntax.now) c.requires.lawful c.requires.faultless c.requires.resolves elements in
+    let count : c.len.result ≡ length grammar.elements = omega (arith, is.elements, ap length c.deref.ensures.value, c.len.ensures, c.in_ok-found.found.ok.0) in
+    let within = c.in_ok-check_counts.ensures.ok grammar (record { nodes = is.nodes; depth = is.depth; elements = count }) in
+    omega (arith, within.elements, is.elements, ap length c.deref.ensures.value)
 
 pub returns-clause-within : goal.returns-clause-within
 returns-clause-within c =
+    let elements : map see_element c.deref.result.now ≡ elements_of c.args.table.now c.args.marks.now (syntax c.args.syntax.now).definitions = ap (map see_element) c.deref.ensures.value ∙ c.in_ok-found.ensures in
+    let (grammar, simplifies, is) = c.in_ok-size.ensures (syntax c.args.syntax.now) c.requires.lawful c.requires.faultless c.requires.resolves elements in
+    let count : c.len.result ≡ length grammar.elements = omega (arith, is.elements, ap length c.deref.ensures.value, c.len.ensures, c.in_ok-found.found.ok.0) in
+    (grammar, simplifies, c.in_ok-check_counts.ensures.ok grammar (record { nodes = is.nodes; depth = is.depth; elements = count }))
+
+pub returns-in_err-check_counts-clause-err : goal.returns-in_err-check_counts-clause-err
+returns-in_err-check_counts-clause-err c =
     let s = syntax c.args.syntax.now in
-    let t = c.args.table.now in
-    let w = c.args.walk.now in
-    let marks = c.args.marks.now in
-    let r = c.requires.resolves in
-    let sizes = c.in_ok-sizes.sizes.items in
-    let small : c.args.start < length sizes = omega (arith, start_within s t c.args.start r.table r.begins, c.in_ok-sizes.ensures.0) in
-    let are = c.in_ok-sizes.ensures.1 s (elements_of t marks s.definitions) (is_orderly s t c.args.start marks w.states.items w.order.items r c.requires.lawful c.requires.faultless) in
-    let is : c.total-size.result ≡ total_of t sizes (get_or sizes c.args.start leaf) (elements_of t marks s.definitions) =
-    total_is t c.deref.result.now sizes c.index.result.now (get_or sizes c.args.start leaf) (map see_element c.deref-2.result.now) (elements_of t marks s.definitions) c.total-size.result c.deref.ensures.value
-    (get_or_read sizes c.args.start c.index.result.now small c.index.ensures leaf) (ap (map see_element) c.deref-2.ensures.value ∙ c.in_ok-found.ensures) c.total-size.ensures in
-    let (grammar, simplifies, nodes, depth, count) = has_grammar s t c.args.start marks w.states.items w.order.items r c.requires.lawful c.requires.faultless sizes are c.total-size.result is in
-    let all : length grammar.elements ≡ length c.in_ok-found.found.items = count ∙ (sym (ap length c.in_ok-found.ensures) ∙ length-map c.in_ok-found.found.items see_element) in (
-      grammar,
-      simplifies,
-      record {
-        nodes = omega (arith, nodes, c.if-size-gt-MOST_NODES.false);
-        depth = omega (arith, depth, c.if-size-gt-GREATEST_DEPTH.false);
-        elements = omega (arith, all, c.len.ensures, c.in_ok-found.found.ok.0, c.if-len-gt-MOST_ELEMENTS.false);
-      },
-    )
+    let elements : map see_element c.deref.result.now ≡ elements_of c.args.table.now c.args.marks.now s.definitions = ap (map see_element) c.deref.ensures.value ∙ c.in_ok-found.ensures in
+    let (grammar, simplifies, is) = c.in_ok-size.ensures s c.requires.lawful c.requires.faultless c.requires.resolves elements in
+    let count : c.len.result ≡ length grammar.elements = omega (arith, is.elements, ap length c.deref.ensures.value, c.len.ensures, c.in_ok-found.found.ok.0) in
+    refused_so s _ _ c.from_residual-in_err-check_counts.ensures.1 (c.in_err-check_counts.ensures.err s grammar simplifies (record { nodes = is.nodes; depth = is.depth; elements = count }))

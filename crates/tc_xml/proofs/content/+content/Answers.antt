@@ -5,14 +5,15 @@ use Rattle.tc_model.specs.Views.{name, attribute, place}
 use Rattle.tc_model.specs.XmlTextContent.{Piece, nothing, whole, ContentAt, ItemAt, child, instruction, ElementAt}
 use Rattle.tc_model.specs.XmlTextRefusals as refusals
 use Rattle.tc_scan.specs.Views.{written_name}
-use Rattle.tc_xml.specs.Reading.{empty, filled, AddsPiece}
+use Rattle.tc_xml.specs.Reading.{BodyAt, empty, filled, BodyRefuses, AddsPiece}
 use Rattle.tc_xml.specs.Refusals.{RefusesWithin, RefusedAt, OnMalformed}
 use Rattle.tc_xml.specs.Views.{gathered_before}
 use Rattle.tc_xml.specs.Tags.{in_scope}
 use Rattle.tc_xml.proofs.ContentLaws.{failed, item_within, item_loosened}
-use Rattle.tc_xml.proofs.MalformedLaws.{of_malformed, of_refuses, of_breaks, of_both, of_both_within, err_both, no_characters_refused, no_bang_refused, no_question_refused, no_child_refused, no_tag_refused, no_body_refused, no_closing_refused}
+use Rattle.tc_xml.proofs.MalformedLaws.{of_malformed, of_refuses, of_breaks, of_both, of_both_within, err_both, no_characters_refused, no_bang_refused, no_question_refused, no_child_refused, no_tag_refused, no_body_refused, no_inside_refused, no_closing_refused}
 use Rattle.tc_xml.proofs.ItemLaws.{lacks_instruction, is_child}
-use Rattle.tc_xml.proofs.ElementLaws.{content_begin, content_more, no_content, all_content, refuse_within, refused_map, refuse_shallow, refused_shallow, an_element, no_body, no_shallow_body, no_tag, tag_stands, body_stands, no_end_of_element, entity_stands}
+use Rattle.tc_xml.proofs.ElementLaws.{content_begin, content_more, no_content, all_content, refuse_within, refused_map, refuse_shallow, refused_shallow, an_element, no_body, no_shallow_body, no_tag, tag_stands, body_stands, no_body_end, no_inside, inside_stands, no_end_of_element, entity_stands}
+use Rattle.tc_xml.proofs.DocumentLaws.{breaks_within, breaks_shallow}
 use Rattle.tc_xml.proofs.content.+content.Goals as goal
 
 pub body-returns-in-Some-clause-ok : goal.body-returns-in-Some-clause-ok
@@ -240,3 +241,127 @@ item-returns-clause-malformed t c =
     let Q = (cause : refusals.Cause) (at : List ℕ) → refusals.ContentRefuses n s depth text cause at → ⊥ in
     err_both c.element.result _ _ (λ e. OnMalformed e Q)
     (λ e. of_both_within e _ _ _ _ Q (λ k h. no_child_refused n s depth text m c.in-Some.ensures (λ p after a. k depth p after (only p after (item_loosened a))) h)) c.element.ensures.no c.element.ensures.malformed
+
+pub body-returns-in_default-after_byte-clause-no : goal.body-returns-in_default-after_byte-clause-no
+body-returns-in_default-after_byte-clause-no t c =
+    let n = c.args.total in
+    let tag = c.args.tag.now in
+    let s = in_scope tag.meaning.scope in
+    let w = written_name tag.written in
+    let rest = tag.rest.now in
+    no_body_end true n s w rest c.in_default.ensures c.in_default-after_byte.ensures
+
+pub body-returns-in_default-after_byte-clause-malformed : goal.body-returns-in_default-after_byte-clause-malformed
+body-returns-in_default-after_byte-clause-malformed t c =
+    λ cause at b. c.in_default-after_byte.ensures b.inside b.opens
+
+pub body-returns-in_err-end-clause-no : goal.body-returns-in_err-end-clause-no
+body-returns-in_err-end-clause-no t c =
+    let n = c.args.total in
+    let tag = c.args.tag.now in
+    let s = in_scope tag.meaning.scope in
+    let w = written_name tag.written in
+    let rest = tag.rest.now in
+    let inside = c.in-Some-after_byte.inside.now in
+    let e = c.in_err-end.field-0.0 in
+    let A = (d : ℕ) (h : RawTrees) (after : List ℕ) → BodyAt true n s d w rest h after → ⊥ in
+    let B = (d : ℕ) (h : RawTrees) (after : List ℕ) → BodyAt false n s d w rest h after → ⊥ in
+    let C = (h : RawTrees) (after : List ℕ) → BodyAt true n s c.args.depth w rest h after → ⊥ in
+    failed c.from_residual.result (λ e. RefusesWithin e A B C) e c.from_residual.ensures.1
+    (refuse_within e _ _ _ A B C
+    (λ k d. no_inside true n s w rest inside c.in_default.ensures c.in-Some-after_byte.ensures d (k d))
+    (λ k d. no_inside false n s w rest inside c.in_default.ensures c.in-Some-after_byte.ensures d (k d))
+    (no_inside true n s w rest inside c.in_default.ensures c.in-Some-after_byte.ensures c.args.depth)
+    c.in_err-end.ensures.no)
+
+pub body-returns-in_err-end-clause-stands : goal.body-returns-in_err-end-clause-stands
+body-returns-in_err-end-clause-stands t c =
+    let tag = c.args.tag.now in
+    let e = c.in_err-end.field-0.0 in
+    let P = BodyRefuses c.args.total (in_scope tag.meaning.scope) c.args.depth tag.rest.now in
+    failed c.from_residual.result (λ e. RefusedAt e P) e c.from_residual.ensures.1
+    (refused_map e _ P (inside_stands c.args.total (in_scope tag.meaning.scope) c.args.depth tag.rest.now c.in-Some-after_byte.inside.now c.in-Some-after_byte.ensures) c.in_err-end.ensures.stands)
+
+pub body-returns-in_err-end-clause-malformed : goal.body-returns-in_err-end-clause-malformed
+body-returns-in_err-end-clause-malformed t c =
+    let tag = c.args.tag.now in
+    let e = c.in_err-end.field-0.0 in
+    let Q = (cause : refusals.Cause) (at : List ℕ) → BodyRefuses c.args.total (in_scope tag.meaning.scope) c.args.depth tag.rest.now cause at → ⊥ in
+    failed c.from_residual.result (λ e. OnMalformed e Q) e c.from_residual.ensures.1
+    (of_malformed e _ Q (no_inside_refused c.args.total (in_scope tag.meaning.scope) c.args.depth tag.rest.now c.in-Some-after_byte.inside.now c.in-Some-after_byte.ensures) c.in_err-end.ensures.malformed)
+
+pub content-returns-in_err-rest-clause-stands : goal.content-returns-in_err-rest-clause-stands
+content-returns-in_err-rest-clause-stands t c =
+    let e = c.in_err-rest.field-0.0 in
+    let P = refusals.ContentRefuses c.args.total (in_scope c.args.scope) c.args.depth c.args.text.now in
+    failed c.from_residual.result (λ e. RefusedAt e P) e c.from_residual.ensures.1 (refused_map e _ P c.loop-gathered.invariant.1.stands c.in_err-rest.ensures.stands)
+
+pub content-returns-in_err-rest-clause-malformed : goal.content-returns-in_err-rest-clause-malformed
+content-returns-in_err-rest-clause-malformed t c =
+    let e = c.in_err-rest.field-0.0 in
+    let Q = (cause : refusals.Cause) (at : List ℕ) → refusals.ContentRefuses c.args.total (in_scope c.args.scope) c.args.depth c.args.text.now cause at → ⊥ in
+    failed c.from_residual.result (λ e. OnMalformed e Q) e c.from_residual.ensures.1
+    (of_malformed e _ Q (λ k cause at r. k cause at (c.loop-gathered.invariant.1.comes cause at r)) c.in_err-rest.ensures.malformed)
+
+pub element-returns-then-depth-eq0-clause-no : goal.element-returns-then-depth-eq0-clause-no
+element-returns-then-depth-eq0-clause-no t c =
+    let n = c.args.total in
+    let o = in_scope c.args.outer in
+    let text = c.args.text.now in
+    let A = (d : ℕ) (p : Piece) (after : List ℕ) → ElementAt true n o d text p after → ⊥ in
+    let B = (d : ℕ) (p : Piece) (after : List ℕ) → ElementAt false n o d text p after → ⊥ in
+    subst (λ d. RefusesWithin c.too_deep.result A B ((p : Piece) (after : List ℕ) → ElementAt true n o d text p after → ⊥)) (sym c.if-depth-eq0.true) (c.too_deep.ensures.no n o)
+
+pub element-returns-then-depth-eq0-clause-stands : goal.element-returns-then-depth-eq0-clause-stands
+element-returns-then-depth-eq0-clause-stands t c =
+    let n = c.args.total in
+    let o = in_scope c.args.outer in
+    let text = c.args.text.now in
+    subst (λ d. RefusedAt c.too_deep.result (refusals.ElementRefuses n o d text)) (sym c.if-depth-eq0.true) (c.too_deep.ensures.stands n o)
+
+pub element-returns-then-depth-eq0-clause-malformed : goal.element-returns-then-depth-eq0-clause-malformed
+element-returns-then-depth-eq0-clause-malformed t c =
+    let n = c.args.total in
+    let o = in_scope c.args.outer in
+    let text = c.args.text.now in
+    subst (λ d. OnMalformed c.too_deep.result ((cause : refusals.Cause) (at : List ℕ) → refusals.ElementRefuses n o d text cause at → ⊥)) (sym c.if-depth-eq0.true) (c.too_deep.ensures.malformed n o)
+
+pub item-returns-in_default-clause-ok : goal.item-returns-in_default-clause-ok
+item-returns-in_default-clause-ok t c =
+    let n = c.args.total in
+    let s = in_scope c.args.scope in
+    let text = c.args.text.now in
+    IfOk-weaker c.characters.result _ (λ rest. (p : Piece) × ItemAt false n s c.args.depth text p rest.now × AddsPiece c.args.gathered.now c.characters.new.gathered p) (λ rest (p, a, adds). (p, a s c.args.depth, adds)) c.characters.ensures.ok
+
+pub item-returns-in_default-clause-no : goal.item-returns-in_default-clause-no
+item-returns-in_default-clause-no t c =
+    let n = c.args.total in
+    let s = in_scope c.args.scope in
+    let text = c.args.text.now in
+    let A = (d : ℕ) (p : Piece) (after : List ℕ) → ItemAt true n s d text p after → ⊥ in
+    let B = (d : ℕ) (p : Piece) (after : List ℕ) → ItemAt false n s d text p after → ⊥ in
+    let C = (p : Piece) (after : List ℕ) → ItemAt true n s c.args.depth text p after → ⊥ in
+    IfErr-weaker c.characters.result _ (λ e. RefusesWithin e A B C) (λ e. refuse_shallow e _ _ A B C (λ k d. k s d) (λ k d. k s d)) c.characters.ensures.no
+
+pub item-returns-then-begins-clause-ok : goal.item-returns-then-begins-clause-ok
+item-returns-then-begins-clause-ok t c =
+    let n = c.args.total in
+    let s = in_scope c.args.scope in
+    let text = c.args.text.now in
+    IfOk-weaker c.comment_or_cdata.result _ (λ rest. (p : Piece) × ItemAt false n s c.args.depth text p rest.now × AddsPiece c.args.gathered.now c.comment_or_cdata.new.gathered p) (λ rest (p, a, adds). (p, a s c.args.depth, adds)) c.comment_or_cdata.ensures.ok
+
+pub item-returns-then-begins-clause-no : goal.item-returns-then-begins-clause-no
+item-returns-then-begins-clause-no t c =
+    let n = c.args.total in
+    let s = in_scope c.args.scope in
+    let text = c.args.text.now in
+    let A = (d : ℕ) (p : Piece) (after : List ℕ) → ItemAt true n s d text p after → ⊥ in
+    let B = (d : ℕ) (p : Piece) (after : List ℕ) → ItemAt false n s d text p after → ⊥ in
+    let C = (p : Piece) (after : List ℕ) → ItemAt true n s c.args.depth text p after → ⊥ in
+    IfErr-weaker c.comment_or_cdata.result _ (λ e. RefusesWithin e A B C)
+    (λ e. breaks_within e _ A B C (λ k d. k s d) (λ k d p after a. k s d p after (item_loosened a)) (λ k. k s c.args.depth)) c.comment_or_cdata.ensures.no
+
+pub item-returns-then-begins-clause-stands : goal.item-returns-then-begins-clause-stands
+item-returns-then-begins-clause-stands t c =
+    let P = refusals.ContentRefuses c.args.total (in_scope c.args.scope) c.args.depth c.args.text.now in
+    IfErr-weaker c.comment_or_cdata.result _ (λ e. RefusedAt e P) (λ e. breaks_shallow e _ P) c.comment_or_cdata.ensures.no

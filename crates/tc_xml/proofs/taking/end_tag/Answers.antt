@@ -1,13 +1,15 @@
+use Rattle.std.proofs.Common.{[], ◌∷◌, ◌++◌, ap, ◌∙◌, sym}
 use Rattle.tc_model.specs.Runs.{run_text}
 use Rattle.tc_xml.proofs.TakingLaws.{goes_out, end_within}
 use Rattle.tc_xml.proofs.taking.end_tag.Goals as goal
 
 pub returns-clause-steps : goal.returns-clause-steps
 returns-clause-steps g c = λ deepest root begun s.
+    let last = c.in_ok-open.open in
     let (es, scope, opens, tells, after) =
-    goes_out _ c.args.total deepest root c.args.text.now c.in_ok-rest.rest.now (run_text c.args.reader.now.run) (run_text c.end_run.new.reader.run) begun c.args.reader.now.taker c.end_run.new.reader.taker c.end.new.self
-    c.args.levels.now c.pop.new.self.items c.in_ok-open.open c.take_back.new.self s c.in_ok-open.ensures.items c.in_ok-rest.ensures c.in_ok-take_back.ensures c.in_ok-end_run.ensures.taken c.in_ok-end.ensures
-    c.in_ok-end_run.ensures.ended in
+    goes_out _ c.args.total deepest root c.args.text.now c.in_ok-rest.rest.now (run_text c.args.reader.now.run) (run_text c.leave.new.reader.run) begun c.args.reader.now.taker c.end_run.new.reader.taker c.leave.new.reader.taker
+    c.args.levels.now c.leave.new.levels.open.items last c.leave.new.levels.bindings s (c.in_ok-open.ensures.items ∙ ap (λ os. os ++ last ∷ []) (sym c.leave.ensures.opens)) c.in_ok-rest.ensures c.in_ok-leave.ensures.bindings
+    c.in_ok-end_run.ensures.taken c.in_ok-leave.ensures.taken (ap run_text c.leave.ensures.run ∙ c.in_ok-end_run.ensures.ended) in
     record { started = es; scope = scope; shows = record { opens = opens; tells = tells }; stands = after }
 
 pub returns-clause-shorter : goal.returns-clause-shorter

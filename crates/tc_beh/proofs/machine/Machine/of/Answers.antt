@@ -1,64 +1,35 @@
-use Rattle.std.proofs.Common.{◌≡◌, ℕ, List, max, length, sym, ap, ◌∙◌, subst, arith}
-use Rattle.std.specs.Prelude.{replicate}
+use Rattle.std.proofs.Common.{◌≡◌, max, ap, ◌∙◌, arith}
 use Rattle.tc_model.specs.Sheets.{Sheet}
-use Rattle.tc_model.specs.Views as see
-use Rattle.tc_model.specs.WellFormed.{IsSheet}
-use Rattle.tc_rows.specs.Counts.{PassCalls}
-use Rattle.tc_beh.specs.Callees.{AreCalleesFirst}
-use Rattle.tc_beh.specs.Heights.{heights_in, highest, highest_rule, deepest, deepest_rule}
-use Rattle.tc_beh.proofs.Sizes.{calls_low, passes, keeps, shallow, ordered, sheet_is}
+use Rattle.tc_rows.specs.Triples.{sheet}
+use Rattle.tc_beh.specs.Heights.{deepest, deepest_rule}
+use Rattle.tc_beh.proofs.Sizes.{handed_on, sheet_is}
+use Rattle.tc_beh.specs.Machines.{AreParts, IsMachineCause}
+use Rattle.tc_beh.specs.Stands.{IsRulesIn}
+use Rattle.tc_rows.specs.Triples.{Triple}
 use Rattle.tc_beh.proofs.machine.Machine.of.Goals as goal
 
-pub callees_first-requires : goal.callees_first-requires
-callees_first-requires c =
+pub order_of-requires : goal.order_of-requires
+order_of-requires c =
     let (x, p) = c.requires in
-    calls_low c.sheet.result.now (subst IsSheet (sym c.sheet.ensures) p.are_rules.rules.tells.well_formed)
+    (x, p.are_rules)
 
-pub returns-then-calls-ge-TOO_MANY-clause-cause : goal.returns-then-calls-ge-TOO_MANY-clause-cause
-returns-then-calls-ge-TOO_MANY-clause-cause c = λ x p.
-    let sh = c.sheet.result.now in
-    let well : IsSheet (see.sheet sh) = subst IsSheet (sym c.sheet.ensures) p.are_rules.rules.tells.well_formed in
-    let height = λ (o : List ℕ). max (highest (heights_in (see.sheet sh).named (replicate (length sh.named.now) 0) o)) (highest_rule (heights_in (see.sheet sh).named (replicate (length sh.named.now) 0) o) (see.sheet sh).rules) in
-    let calls_are : c.in_ok-calls.calls ≡ height c.in_ok-order.order.items = c.in_ok-calls.ensures ∙ ap height c.deref.ensures.value in
-    subst (λ s. PassCalls s 8000) (sheet_is x c.args.rules sh p.are_rules c.sheet.ensures)
-    (passes sh well c.in_ok-order.order.items c.in_ok-order.ensures.order c.in_ok-calls.calls calls_are c.if-calls-ge-TOO_MANY.true)
-
-pub returns-then-entries_of-looks_of-gt-MOST_ENTRIES-clause-cause : goal.returns-then-entries_of-looks_of-gt-MOST_ENTRIES-clause-cause
-returns-then-entries_of-looks_of-gt-MOST_ENTRIES-clause-cause c = λ x p.
-    let sh = c.sheet.result.now in
-    let well : IsSheet (see.sheet sh) = subst IsSheet (sym c.sheet.ensures) p.are_rules.rules.tells.well_formed in
-    let height = λ (o : List ℕ). max (highest (heights_in (see.sheet sh).named (replicate (length sh.named.now) 0) o)) (highest_rule (heights_in (see.sheet sh).named (replicate (length sh.named.now) 0) o) (see.sheet sh).rules) in
-    let calls_are : c.in_ok-calls.calls ≡ height c.in_ok-order.order.items = c.in_ok-calls.ensures ∙ ap height c.deref.ensures.value in
-    let same = sheet_is x c.args.rules sh p.are_rules c.sheet.ensures in (
-      λ h. keeps sh well c.in_ok-order.order.items c.in_ok-order.ensures.order c.in_ok-calls.calls calls_are c.if-calls-ge-TOO_MANY.false (subst (λ s. PassCalls s 8000) (sym same) h),
-      omega (arith, c.entries_of.ensures.exact x p.are_rules, c.looks_of.ensures.exact x p.are_rules, c.if-entries_of-looks_of-gt-MOST_ENTRIES.true),
-    )
+pub returns-in_err-machine-clause-cause : goal.returns-in_err-machine-clause-cause
+returns-in_err-machine-clause-cause c =
+    handed_on c.from_residual.result c.in_err-machine.field-0.0 (λ e. (x : Triple) → IsRulesIn x c.args.rules → IsMachineCause x e)
+    (λ e. (x : Triple) → AreParts x c.args.input c.args.output c.args.rules c.args.alphabet → IsMachineCause x e) c.from_residual.ensures.1 (λ e k x p. k x p.are_rules) c.in_err-machine.ensures.cause
 
 pub returns-clause-stands : goal.returns-clause-stands
 returns-clause-stands c = λ x p.
-    let sh = c.sheet.result.now in
-    let well : IsSheet (see.sheet sh) = subst IsSheet (sym c.sheet.ensures) p.are_rules.rules.tells.well_formed in
-    let height = λ (o : List ℕ). max (highest (heights_in (see.sheet sh).named (replicate (length sh.named.now) 0) o)) (highest_rule (heights_in (see.sheet sh).named (replicate (length sh.named.now) 0) o) (see.sheet sh).rules) in
-    let calls_are : c.in_ok-calls.calls ≡ height c.in_ok-order.order.items = c.in_ok-calls.ensures ∙ ap height c.deref.ensures.value in
-    let same = sheet_is x c.args.rules sh p.are_rules c.sheet.ensures in
+    let depth : c.depth_of_sheet.result ≡ max (deepest_rule (sheet x).rules) (deepest (sheet x).named) =
+    c.depth_of_sheet.ensures ∙ ap (λ (s : Sheet). max (deepest_rule s.rules) (deepest s.named)) (sheet_is x c.args.rules c.sheet.result.now p.are_rules c.sheet.ensures) in
+    let shallow = c.in_ok-machine.ensures.shallow x p.are_rules in
     record {
       parts = p;
-      limits = (
-        λ h. keeps sh well c.in_ok-order.order.items c.in_ok-order.ensures.order c.in_ok-calls.calls calls_are c.if-calls-ge-TOO_MANY.false (subst (λ s. PassCalls s 8000) (sym same) h),
-        λ h. absurd (omega (arith, c.entries_of.ensures.exact x p.are_rules, c.looks_of.ensures.exact x p.are_rules, c.if-entries_of-looks_of-gt-MOST_ENTRIES.false, h)),
-      );
-      order = subst (λ (s : Sheet). AreCalleesFirst s.named c.in_ok-order.order.items) same (ordered sh well c.in_ok-order.order.items c.in_ok-order.ensures.order);
-      depth = c.depth_of_sheet-depth.ensures ∙ ap (λ (s : Sheet). max (deepest_rule s.rules) (deepest s.named)) same;
-      shallow = shallow sh well c.in_ok-order.order.items c.in_ok-order.ensures.order c.in_ok-calls.calls c.depth_of_sheet-depth.result calls_are c.if-calls-ge-TOO_MANY.false c.depth_of_sheet-depth.ensures;
+      limits = c.in_ok-machine.ensures.within x p.are_rules;
+      order = c.in_ok-machine.ensures.order x p.are_rules;
+      depth = depth;
+      shallow = omega (arith, depth, shallow);
     }
 
 pub returns-clause-within : goal.returns-clause-within
-returns-clause-within c = λ x p.
-    let sh = c.sheet.result.now in
-    let well : IsSheet (see.sheet sh) = subst IsSheet (sym c.sheet.ensures) p.are_rules.rules.tells.well_formed in
-    let height = λ (o : List ℕ). max (highest (heights_in (see.sheet sh).named (replicate (length sh.named.now) 0) o)) (highest_rule (heights_in (see.sheet sh).named (replicate (length sh.named.now) 0) o) (see.sheet sh).rules) in
-    let calls_are : c.in_ok-calls.calls ≡ height c.in_ok-order.order.items = c.in_ok-calls.ensures ∙ ap height c.deref.ensures.value in
-    let same = sheet_is x c.args.rules sh p.are_rules c.sheet.ensures in (
-      λ h. keeps sh well c.in_ok-order.order.items c.in_ok-order.ensures.order c.in_ok-calls.calls calls_are c.if-calls-ge-TOO_MANY.false (subst (λ s. PassCalls s 8000) (sym same) h),
-      λ h. absurd (omega (arith, c.entries_of.ensures.exact x p.are_rules, c.looks_of.ensures.exact x p.are_rules, c.if-entries_of-looks_of-gt-MOST_ENTRIES.false, h)),
-    )
+returns-clause-within c = λ x p. c.in_ok-machine.ensures.within x p.are_rules

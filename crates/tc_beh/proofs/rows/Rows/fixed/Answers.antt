@@ -5,6 +5,8 @@ use Rattle.tc_auto.specs.declared.auto.Auto.{Auto}
 use Rattle.tc_mat.specs.Held.{Held}
 use Rattle.tc_rows.specs.Triples.{outputs}
 use Rattle.tc_rows.specs.PairSets.{IsPairs}
+use Rattle.tc_beh.specs.Outs.{sets_of}
+use Rattle.tc_beh.proofs.Passing.{if_ok_map}
 use Rattle.tc_beh.proofs.rows.Rows.fixed.Goals as goal
 
 pub pool_of-requires-clause-pairs : goal.pool_of-requires-clause-pairs
@@ -15,11 +17,12 @@ pool_of-requires-clause-pairs c = λ k d low.
     subst (λ n. IsPairs n (get_or c.args.outputs.now k d)) (sym size) (c.requires.pairs x is k d low)
 
 pub returns-clause-stands : goal.returns-clause-stands
-returns-clause-stands c = λ x is.
-    let stands : a.Stands output x.output c.auto.result.now = subst (λ (b : Auto). a.Stands output x.output b) (sym c.auto.ensures) is.parts.states.auto in
-    let size : c.states.result ≡ outputs x = c.states.ensures.schema output x.output stands in
-    record {
-      machine = is;
-      size = ap (λ (h : Held). h.size) c.in_ok-outputs.ensures ∙ (c.in_ok-pool.ensures.size ∙ size);
-      work = c.in_ok-work.ensures x is;
-    }
+returns-clause-stands c =
+    if_ok_map c.over.result _ _ (λ r stands x is.
+    let auto : a.Stands output x.output c.auto.result.now = subst (λ (b : Auto). a.Stands output x.output b) (sym c.auto.ensures) is.parts.states.auto in
+    stands x is (c.in_ok-pool.ensures.size ∙ c.states.ensures.schema output x.output auto))
+    c.over.ensures.stands
+
+pub returns-clause-sets : goal.returns-clause-sets
+returns-clause-sets c =
+    if_ok_map c.over.result _ _ (λ r e. ap (λ (h : Held). sets_of h.matrices) e ∙ c.in_ok-pool.ensures.sets) c.over.ensures.outputs

@@ -5,8 +5,11 @@ use Rattle.tc_close.specs.Kinds.{AreTrue}
 use Rattle.tc_close.proofs.KindLaws.{nothing_true}
 use Rattle.tc_close.proofs.held.HeldRows.new.Goals as goal
 
-pub new-requires-2 : goal.new-requires-2
-new-requires-2 g c = let (x, o) = c.requires.some in (x, c.requires.machine x o)
+pub new-requires : goal.new-requires
+new-requires g c = let (x, o) = c.requires.some in (x, c.requires.machine x o)
+
+pub new-requires-3 : goal.new-requires-3
+new-requires-3 g c = let (x, o) = c.requires.some in (x, c.requires.machine x o)
 
 pub shape-requires : goal.shape-requires
 shape-requires g c = let (x, o) = c.requires.some in (x, c.requires.machine x o)

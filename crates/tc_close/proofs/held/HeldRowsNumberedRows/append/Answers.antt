@@ -3,7 +3,7 @@ use Rattle.tc_settle.specs.Held.{IsHeldAs, Grows}
 use Rattle.tc_rows.specs.Arithmetic.{IsLiveAppend}
 use Rattle.tc_close.specs.RowState.{RowState, held_of, hedge_at, tree_at}
 use Rattle.tc_close.specs.HeldRows.{state_of, AreHeld}
-use Rattle.tc_close.proofs.Growing.{Keeps, keeps}
+use Rattle.tc_close.proofs.Growing.{Keeps, keeps, grows_self}
 use Rattle.tc_close.proofs.Holding.{Worked, whole_held, whole_state, same_room, are_rows, refused, grows_as, grows_hedge, hedge_came, new_hedge_parted, full_append, made_append, taken, dead, dead_append, hedge_fits, hedge_stands, tree_fits, tree_stands}
 use Rattle.tc_close.specs.Kinds.{IsDeadAppend, AreTrue}
 use Rattle.tc_close.proofs.KindLaws.{known_append, live_over, learned_append, true_hedge}
@@ -180,3 +180,10 @@ returns-then-is_dead_append-clause-made g c =
     let t = c.args.tree in
     let dead_always = known_append c.self.invariant.1 h t (c.is_dead_append.ensures c.if-is_dead_append.true) in
     (λ x o. subst (λ (s : RowState). IsLiveAppend x (hedge_at x s h) (tree_at x s t) → ⊥) c.self.view_is (dead_always x o c.self.inside.rows.outputs.matrices), (refl, refl))
+
+-- a row was refused before
+pub returns-then-not-self-clause-grows : goal.returns-then-not-self-clause-grows
+returns-then-not-self-clause-grows g c = grows_self (held_of g.K.Over.is_of c.args.self.now)
+
+pub returns-then-is_dead_append-clause-grows : goal.returns-then-is_dead_append-clause-grows
+returns-then-is_dead_append-clause-grows g c = grows_self (held_of g.K.Over.is_of c.args.self.now)

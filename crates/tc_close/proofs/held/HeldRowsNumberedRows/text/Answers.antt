@@ -2,7 +2,7 @@ use Rattle.std.proofs.Common.{◌≡◌, ◌⊎◌, ◌++◌, ◌∷◌, [], ℕ
 use Rattle.tc_settle.specs.Held.{IsHeldAs, Grows}
 use Rattle.tc_close.specs.RowState.{held_of}
 use Rattle.tc_close.specs.HeldRows.{state_of, AreHeld}
-use Rattle.tc_close.proofs.Growing.{Keeps, keeps}
+use Rattle.tc_close.proofs.Growing.{Keeps, keeps, grows_self}
 use Rattle.tc_close.proofs.Holding.{Worked, whole_held, whole_state, same_room, are_rows, refused, grows_as, grows_tree, tree_came, new_tree_parted, full_text, made_text, dead}
 use Rattle.tc_close.specs.Kinds.{AreTrue}
 use Rattle.tc_close.proofs.KindLaws.{true_tree}
@@ -115,3 +115,7 @@ returns-clause-made g c =
     let keep : Keeps c.self.inside.trees c.keep.new.self c.in-Ok.number out.numbers.items = keeps c.self.inside.trees c.keep.new.self c.in-Ok.number out.numbers.items at (subst (λ ns. (c.keep.new.self ≡ c.self.inside.trees) ⊎ ((c.in-Ok.number ≡ length c.self.inside.trees) × (c.keep.new.self ≡ c.self.inside.trees ++ ns ∷ []))) c.numbers.ensures more) in
     let made = made_text w keep (c.in-Ok-true.ensures.live c.in-Ok-true.field-0-test) (λ x i. (row x i).1) in
     (made, subst (λ n. IsHeldAs n (length c.keep.new.self) c.in-Ok.number) (ap (λ s. length s.trees) old) keep.held)
+
+-- a row was refused before
+pub returns-then-not-self-clause-grows : goal.returns-then-not-self-clause-grows
+returns-then-not-self-clause-grows g c = grows_self (held_of g.K.Over.is_of c.args.self.now)

@@ -3,7 +3,7 @@ use Rattle.tc_settle.specs.Held.{IsHeldAs, Grows}
 use Rattle.tc_rows.specs.Arithmetic.{IsLiveWrap}
 use Rattle.tc_close.specs.RowState.{RowState, held_of, hedge_at}
 use Rattle.tc_close.specs.HeldRows.{state_of, AreHeld}
-use Rattle.tc_close.proofs.Growing.{Keeps, keeps}
+use Rattle.tc_close.proofs.Growing.{Keeps, keeps, grows_self}
 use Rattle.tc_close.proofs.Holding.{Worked, whole_held, whole_state, same_room, are_rows, refused, grows_as, grows_tree, tree_came, new_tree_parted, full_wrap, made_wrap, taken, dead, dead_wrap, hedge_fits, hedge_stands, low_symbol}
 use Rattle.tc_close.specs.Kinds.{IsDeadWrap, AreTrue}
 use Rattle.tc_close.proofs.KindLaws.{known_wrap, around_over, learned_wrap, true_tree}
@@ -163,3 +163,10 @@ returns-then-is_dead_wrap-clause-made g c =
     let h = c.args.hedge in
     let dead_always = known_wrap c.self.invariant.1 a h (c.is_dead_wrap.ensures c.if-is_dead_wrap.true) in
     (λ x o. subst (λ (s : RowState). IsLiveWrap x a (hedge_at x s h) → ⊥) c.self.view_is (dead_always x o c.self.inside.rows.outputs.matrices), (refl, refl))
+
+-- a row was refused before
+pub returns-then-not-self-clause-grows : goal.returns-then-not-self-clause-grows
+returns-then-not-self-clause-grows g c = grows_self (held_of g.K.Over.is_of c.args.self.now)
+
+pub returns-then-is_dead_wrap-clause-grows : goal.returns-then-is_dead_wrap-clause-grows
+returns-then-is_dead_wrap-clause-grows g c = grows_self (held_of g.K.Over.is_of c.args.self.now)

@@ -1,4 +1,4 @@
-use Rattle.std.proofs.Common.{[], ◌∷◌, ◌++◌, ap, ◌∙◌, sym, subst, length, arith}
+use Rattle.std.proofs.Common.{ap, ◌∙◌, sym, subst, length, arith}
 use Rattle.tc_model.specs.CompactSyntaxNames.{alone, nothing, ClassAt, SimpleAt, ExceptAt}
 use Rattle.tc_model.specs.CompactSyntaxStops as st
 use Rattle.tc_model.specs.CompactSyntaxTrees.{one_of}
@@ -33,14 +33,14 @@ name_class-returns-clause-ok t c =
     subst (λ z. ClassAt (scope_of c.args.self.now.scope) c.args.deepest (seen.tokens c.args.tokens.now) z (seen.tokens c.in_ok-all.after.now)) (sym (see_one_of c.in_ok-all.all ∙ ap one_of is))
     (l.several_classes (scope_of c.args.self.now.scope) c.args.deepest (seen.tokens c.args.tokens.now) (seen.tokens c.in_ok-first.rest.now) (seen.tokens c.in-Some.behind.now) (seen.tokens c.in_ok-all.after.now) (seen.class c.in_ok-first.first) cs c.in_ok-first.ensures.ok c.in-Some.ensures m)
 
-pub name_classes-returns-in_err-push-clause-no : goal.name_classes-returns-in_err-push-clause-no
-name_classes-returns-in_err-push-clause-no t c =
+pub name_classes-returns-in_err-all-clause-no : goal.name_classes-returns-in_err-all-clause-no
+name_classes-returns-in_err-all-clause-no t c =
     unmade _ _ c.from_residual.ensures.1
 
 pub name_classes-loop-all-init : goal.name_classes-loop-all-init
 name_classes-loop-all-init t c =
-    subst (λ z. l.ClassesSoFar (seen.end c.args.self.now.end) (scope_of c.args.self.now.scope) c.args.deepest (seen.tokens c.args.tokens.now) (seen.tokens z) c.args.first c.push.new.self.items) (sym c.split_at.ensures.back)
-    (l.no_classes_yet (seen.end c.args.self.now.end) (scope_of c.args.self.now.scope) c.args.deepest (seen.tokens c.args.tokens.now) c.args.first c.push.new.self.items (c.in_ok-push.ensures.items ∙ ap (λ z. z ++ c.args.first ∷ []) c.new-all.ensures.items))
+    subst (λ z. l.ClassesSoFar (seen.end c.args.self.now.end) (scope_of c.args.self.now.scope) c.args.deepest (seen.tokens c.args.tokens.now) (seen.tokens z) c.args.first c.in_ok-all.all.items) (sym c.split_at.ensures.back)
+    (l.no_classes_yet (seen.end c.args.self.now.end) (scope_of c.args.self.now.scope) c.args.deepest (seen.tokens c.args.tokens.now) c.args.first c.in_ok-all.all.items c.in_ok-all.ensures.items)
 
 pub name_classes-simple_name_class-requires : goal.name_classes-simple_name_class-requires
 name_classes-simple_name_class-requires t c = (omega (arith, c.decreases, c.loop-all.invariant.shorter), tt)
@@ -52,7 +52,7 @@ name_classes-returns-in_err-next-clause-no t c =
 pub name_classes-returns-in_default-clause-ok : goal.name_classes-returns-in_default-clause-ok
 name_classes-returns-in_default-clause-ok t c =
     l.classes_done (seen.end c.args.self.now.end) (scope_of c.args.self.now.scope) c.args.deepest (seen.tokens c.args.tokens.now) (seen.tokens c.loop-all.rest.now) (seen.tokens c.in_ok-next.after.now) c.args.first c.in_ok-next.next c.loop-all.all.items
-    c.into_bump_slice.result.now c.loop-all.invariant c.in_ok-next.ensures.ok c.in_default.ensures (c.into_bump_slice.ensures ∙ c.in_ok-push-2.ensures.items)
+    c.into_bump_slice.result.now c.loop-all.invariant c.in_ok-next.ensures.ok c.in_default.ensures (c.into_bump_slice.ensures ∙ c.in_ok-push.ensures.items)
 
 pub name_classes-loop-all-smaller : goal.name_classes-loop-all-smaller
 name_classes-loop-all-smaller t c = omega (arith, behind_shorter (simple_behind c.in_ok-next.ensures.ok), l.begins_shorter c.in-Some.ensures)
@@ -60,7 +60,7 @@ name_classes-loop-all-smaller t c = omega (arith, behind_shorter (simple_behind 
 pub name_classes-loop-all-preserved : goal.name_classes-loop-all-preserved
 name_classes-loop-all-preserved t c =
     l.more_classes (seen.end c.args.self.now.end) (scope_of c.args.self.now.scope) c.args.deepest (seen.tokens c.args.tokens.now) (seen.tokens c.loop-all.rest.now) (seen.tokens c.in_ok-next.after.now) (seen.tokens c.in-Some.behind.now) c.args.first c.in_ok-next.next
-    c.loop-all.all.items c.push-in-loop-all.new.self.items c.loop-all.invariant c.in_ok-next.ensures.ok c.in-Some.ensures c.in_ok-push-2.ensures.items
+    c.loop-all.all.items c.push.new.self.items c.loop-all.invariant c.in_ok-next.ensures.ok c.in-Some.ensures c.in_ok-push.ensures.items
 
 pub closed_name_class-returns-in_err-inner-clause-no : goal.closed_name_class-returns-in_err-inner-clause-no
 closed_name_class-returns-in_err-inner-clause-no t c =
@@ -75,8 +75,7 @@ closed_name_class-returns-clause-ok t c =
     l.a_closed_class (scope_of c.args.self.now.scope) c.args.deepest (seen.tokens c.args.tokens.now) (seen.tokens c.in_ok-inner.closing.now) (seen.tokens c.in_ok-after.after.now) (seen.class c.in_ok-inner.inner) c.in_ok-inner.ensures.ok c.in_ok-after.ensures.ok
 
 pub except_name_class-returns-in_default-clause-ok : goal.except_name_class-returns-in_default-clause-ok
-except_name_class-returns-in_default-clause-ok t c =
-    subst (λ z. ExceptAt (scope_of c.args.self.now.scope) c.args.deepest (seen.tokens c.args.tokens.now) (seen.classes z) (seen.tokens c.args.tokens.now)) (sym (c.into_bump_slice.ensures ∙ c.new-classes.ensures.items)) (nothing c.in_default.ensures)
+except_name_class-returns-in_default-clause-ok t c = nothing c.in_default.ensures
 
 pub except_name_class-simple_name_class-requires : goal.except_name_class-simple_name_class-requires
 except_name_class-simple_name_class-requires t c = (omega (arith, c.decreases, l.begins_shorter c.in-Some.ensures), tt)
@@ -85,14 +84,14 @@ pub except_name_class-returns-in_err-class-clause-no : goal.except_name_class-re
 except_name_class-returns-in_err-class-clause-no t c =
     passed _ _ c.from_residual.ensures.1 c.in_err-class.ensures.no (λ v y. l.except_stops c.in-Some.ensures y)
 
-pub except_name_class-returns-in_err-push-clause-no : goal.except_name_class-returns-in_err-push-clause-no
-except_name_class-returns-in_err-push-clause-no t c =
-    unmade _ _ c.from_residual-in_err-push.ensures.1
+pub except_name_class-returns-in_err-classes-clause-no : goal.except_name_class-returns-in_err-classes-clause-no
+except_name_class-returns-in_err-classes-clause-no t c =
+    unmade _ _ c.from_residual-in_err-classes.ensures.1
 
 pub except_name_class-returns-clause-ok : goal.except_name_class-returns-clause-ok
 except_name_class-returns-clause-ok t c =
     subst (λ z. ExceptAt (scope_of c.args.self.now.scope) c.args.deepest (seen.tokens c.args.tokens.now) (seen.classes z) (seen.tokens c.in_ok-class.after.now))
-    (sym (c.into_bump_slice-2.ensures ∙ (c.in_ok-push.ensures.items ∙ ap (λ z. z ++ c.in_ok-class.class ∷ []) c.new-classes.ensures.items)))
+    (sym c.in_ok-classes.ensures)
     (l.one_except (scope_of c.args.self.now.scope) c.args.deepest (seen.tokens c.args.tokens.now) (seen.tokens c.in-Some.behind.now) (seen.tokens c.in_ok-class.after.now) (seen.class c.in_ok-class.class) c.in-Some.ensures c.in_ok-class.ensures.ok)
 
 pub simple_name_class-returns-in_default-clause-no : goal.simple_name_class-returns-in_default-clause-no
@@ -156,6 +155,6 @@ pub simple_name_class-returns-in-None-clause-no : goal.simple_name_class-returns
 simple_name_class-returns-in-None-clause-no t c =
     refuses_map c.unexpected-in-None.ensures (λ v y. l.nothing_stops c.in-Some.ensures (l.no_simple (scope_of c.args.self.now.scope) (seen.token c.in-Some.first.now) c.if-is_mark.ensures c.if-is_mark-2.ensures c.in_default-prefix_of_all.ensures (at_none _ _ c.in_ok-name.field-0 c.in-None.is c.in_ok-name.ensures.ok)) y)
 
-pub name_classes-returns-in_err-push-2-clause-no : goal.name_classes-returns-in_err-push-2-clause-no
-name_classes-returns-in_err-push-2-clause-no t c =
-    unmade _ _ c.from_residual-in_err-push-2.ensures.1
+pub name_classes-returns-in_err-push-clause-no : goal.name_classes-returns-in_err-push-clause-no
+name_classes-returns-in_err-push-clause-no t c =
+    unmade _ _ c.from_residual-in_err-push.ensures.1

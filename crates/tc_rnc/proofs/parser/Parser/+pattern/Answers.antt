@@ -1,4 +1,4 @@
-use Rattle.std.proofs.Common.{[], ◌∷◌, ◌++◌, ◌∙◌, ap, sym, subst, arith, false, Bor}
+use Rattle.std.proofs.Common.{◌∙◌, ap, sym, subst, arith, false, Bor}
 use Rattle.tc_model.specs.Views.{place}
 use Rattle.tc_model.specs.CompactSyntaxTrees as tree
 use Rattle.tc_model.specs.CompactSyntaxPatterns as p
@@ -108,6 +108,11 @@ particles-loop-all-preserved t c =
 pub mixed-returns-in_err-content-2-clause-no : goal.mixed-returns-in_err-content-2-clause-no
 mixed-returns-in_err-content-2-clause-no t c =
     unmade _ _ c.from_residual-in_err-content-2.ensures.1
+
+pub mixed-returns-clause-ok : goal.mixed-returns-clause-ok
+mixed-returns-clause-ok t c =
+    let box : Bor SPat = record { ref_ptr = c.in_ok-content-2.field-0.ref_ptr; now = c.in_ok-content-2.field-0.now } in
+    (seen.pattern c.in_ok-content.content, v.see_mixed box ∙ ap (λ z. tree.mixed (seen.pattern z)) c.in_ok-content-2.ensures, c.in_ok-content.ensures.ok)
 
 pub pattern-returns-in_err-first-clause-no : goal.pattern-returns-in_err-first-clause-no
 pattern-returns-in_err-first-clause-no t c =

@@ -1,0 +1,10 @@
+use Rattle.std.proofs.Common.{ℕ, List, Bor, refl}
+use Rattle.tc_dtd.specs.Declarations.{Declaration}
+use Rattle.tc_dtd.specs.Views as see
+use Rattle.tc_dtd.proofs.BuiltLaws.{mapped_more}
+use Rattle.tc_dtd.proofs.schema.local_names.Goals as goal
+
+pub loop-decl-preserved : goal.loop-decl-preserved
+loop-decl-preserved c =
+    mapped_more (λ (n : Bor (List ℕ)). n.now) (λ (x : Declaration). x.name) see.declaration c.args.decls.now c.loop-decl.decl-index _ c.loop-decl.out.items c.push.new.self.items _
+    c.loop-decl-test.true c.loop-decl.invariant c.in_ok-push.ensures.items refl

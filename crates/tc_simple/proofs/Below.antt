@@ -1,0 +1,182 @@
+-- What is found in a pattern that is found in its parts alone.
+use Rattle.std.proofs.Common.{◌≡◌, ◌⊎◌, inl, inr, ℕ, Bool, false, List, [], ◌∷◌, refl, ap, ◌∙◌, sym, subst, Option, None, Bor}
+use Rattle.std.specs.List.{filter_map, cons_option}
+use Rattle.tc_model.specs.Grammars as g
+use Rattle.tc_model.specs.Views as seen
+use Rattle.tc_model.specs.declared.grammar.Pat.TheVariants as made_variants
+use Rattle.tc_model.proofs.ViewsGrammar as made
+use Rattle.tc_model.specs.CompactSyntaxTrees.{SyntaxClass, SyntaxPattern, empty, not_allowed, text, attribute, ref, element, mixed, optional, zero_or_more, one_or_more, group, choice, interleave, SyntaxPatterns}
+use Rattle.tc_model.specs.Simplifies.{Element, both}
+use Rattle.tc_rnc.specs.Views as see
+use Rattle.tc_base.specs.declared.Place.{Place}
+use Rattle.tc_model.specs.Views.{place as at}
+use Rattle.tc_rnc.specs.declared.syntax.SClass.{SClass}
+use Rattle.tc_rnc.specs.declared.syntax.SPat.{SPat, SPat-F}
+use Rattle.tc_rnc.specs.declared.syntax.SPat.TheOpen as parts
+use Rattle.tc_rnc.specs.declared.syntax.SPat.TheViews.{roll-SPat, out-SPat, roll-out-SPat}
+use Rattle.tc_rnc.specs.declared.syntax.SPat.TheVariants as v
+use Rattle.tc_rnc.proofs.Views.{see_empty, see_not_allowed, see_text, see_attribute, see_ref, see_element, see_mixed, see_optional, see_zero_or_more, see_one_or_more, see_group, see_choice, see_interleave}
+use Rattle.tc_simple.specs.Becoming.{all_become, among, around, becomes}
+use Rattle.tc_simple.specs.Nodes.{nodes, nodes_of_all, target, element_of, loop_at}
+use Rattle.tc_simple.specs.declared.groups.Table.{Table}
+use Rattle.tc_graph.specs.declared.cycles.State.{State}
+
+-- a pattern with one part, with several, and with none
+abbrev pub HasPart : SPat → Bor SPat → Type 0
+HasPart x q = (x ≡ v.Mixed q) ⊎ ((x ≡ v.Optional q) ⊎ ((x ≡ v.ZeroOrMore q) ⊎ (x ≡ v.OneOrMore q)))
+
+abbrev pub HasParts : SPat → Bor (List SPat) → Type 0
+HasParts x qs = (x ≡ v.Group qs) ⊎ ((x ≡ v.Choice qs) ⊎ (x ≡ v.Interleave qs))
+
+abbrev pub HasNone : SPat → Type 0
+HasNone x = (x ≡ v.Empty) ⊎ ((x ≡ v.NotAllowed) ⊎ ((x ≡ v.Text) ⊎ (x ≡ v.Attribute)))
+
+abbrev pub IsElement : SPat → Type 0
+IsElement x = (place : Place) × (c : SClass) × (q : Bor SPat) × (x ≡ v.Element place c q)
+
+abbrev pub IsReference : SPat → Type 0
+IsReference x = (n : Bor (List ℕ)) × (place : Place) × (x ≡ v.Ref n place)
+
+-- nothing is found at these patterns themselves
+pub record Skips {X : Type 0} (f : SyntaxPattern → Option X) : Type 0 where
+  pub empty : f empty ≡ None
+  pub not_allowed : f not_allowed ≡ None
+  pub text : f text ≡ None
+  pub attribute : f attribute ≡ None
+  pub mixed : (p : SyntaxPattern) → f (mixed p) ≡ None
+  pub optional : (p : SyntaxPattern) → f (optional p) ≡ None
+  pub zero_or_more : (p : SyntaxPattern) → f (zero_or_more p) ≡ None
+  pub one_or_more : (p : SyntaxPattern) → f (one_or_more p) ≡ None
+  pub group : (ps : SyntaxPatterns) → f (group ps) ≡ None
+  pub choice : (ps : SyntaxPatterns) → f (choice ps) ≡ None
+  pub interleave : (ps : SyntaxPatterns) → f (interleave ps) ≡ None
+
+module _ {X : Type 0} (f : SyntaxPattern → Option X) (skips : Skips f) (within : Bool) where
+  skipped : (x : SPat) (p : SyntaxPattern) (rest : List SyntaxPattern) → see.pattern x ≡ p → nodes within p ≡ p ∷ rest → f p ≡ None → filter_map f (nodes within (see.pattern x)) ≡ filter_map f rest
+  skipped x p rest e is none = ap (λ z. filter_map f (nodes within z)) e ∙ (ap (filter_map f) is ∙ ap (λ o. cons_option o (filter_map f rest)) none)
+
+  pub in_part : (x : SPat) (q : Bor SPat) → HasPart x q → filter_map f (nodes within (see.pattern x)) ≡ filter_map f (nodes within (see.pattern q.now))
+  in_part x q (inl e) = skipped x (mixed (see.pattern q.now)) _ (ap see.pattern e ∙ see_mixed q) refl (skips.mixed (see.pattern q.now))
+  in_part x q (inr (inl e)) = skipped x (optional (see.pattern q.now)) _ (ap see.pattern e ∙ see_optional q) refl (skips.optional (see.pattern q.now))
+  in_part x q (inr (inr (inl e))) = skipped x (zero_or_more (see.pattern q.now)) _ (ap see.pattern e ∙ see_zero_or_more q) refl (skips.zero_or_more (see.pattern q.now))
+  in_part x q (inr (inr (inr e))) = skipped x (one_or_more (see.pattern q.now)) _ (ap see.pattern e ∙ see_one_or_more q) refl (skips.one_or_more (see.pattern q.now))
+
+  pub in_parts : (x : SPat) (qs : Bor (List SPat)) → HasParts x qs → filter_map f (nodes within (see.pattern x)) ≡ filter_map f (nodes_of_all within (see.patterns qs.now))
+  in_parts x qs (inl e) = skipped x (group (see.patterns qs.now)) _ (ap see.pattern e ∙ see_group qs) refl (skips.group (see.patterns qs.now))
+  in_parts x qs (inr (inl e)) = skipped x (choice (see.patterns qs.now)) _ (ap see.pattern e ∙ see_choice qs) refl (skips.choice (see.patterns qs.now))
+  in_parts x qs (inr (inr e)) = skipped x (interleave (see.patterns qs.now)) _ (ap see.pattern e ∙ see_interleave qs) refl (skips.interleave (see.patterns qs.now))
+
+  pub in_none : (x : SPat) → HasNone x → filter_map f (nodes within (see.pattern x)) ≡ []
+  in_none x (inl e) = skipped x empty _ (ap see.pattern e ∙ see_empty) refl skips.empty
+  in_none x (inr (inl e)) = skipped x not_allowed _ (ap see.pattern e ∙ see_not_allowed) refl skips.not_allowed
+  in_none x (inr (inr (inl e))) = skipped x text _ (ap see.pattern e ∙ see_text) refl skips.text
+  in_none x (inr (inr (inr e))) = skipped x attribute _ (ap see.pattern e ∙ see_attribute) refl skips.attribute
+
+-- and where elements are passed over, or references
+pub past_elements : {X : Type 0} (f : SyntaxPattern → Option X) → Skips f → ((place : ℕ) (c : SyntaxClass) (p : SyntaxPattern) → f (element place c p) ≡ None) → (x : SPat)
+    → (x ≡ v.Empty) ⊎ ((x ≡ v.NotAllowed) ⊎ ((x ≡ v.Text) ⊎ ((x ≡ v.Attribute) ⊎ IsElement x))) → filter_map f (nodes false (see.pattern x)) ≡ []
+past_elements f skips none x (inl e) = in_none f skips false x (inl e)
+past_elements f skips none x (inr (inl e)) = in_none f skips false x (inr (inl e))
+past_elements f skips none x (inr (inr (inl e))) = in_none f skips false x (inr (inr (inl e)))
+past_elements f skips none x (inr (inr (inr (inl e)))) = in_none f skips false x (inr (inr (inr e)))
+past_elements f skips none x (inr (inr (inr (inr (place, c, q, e))))) =
+    skipped f skips false x (element (at place) (see.class c) (see.pattern q.now)) [] (ap see.pattern e ∙ see_element place c q) refl (none (at place) (see.class c) (see.pattern q.now))
+
+pub past_references : {X : Type 0} (f : SyntaxPattern → Option X) → Skips f → ((n : List ℕ) (place : ℕ) → f (ref n place) ≡ None) → (within : Bool) (x : SPat)
+    → (x ≡ v.Empty) ⊎ ((x ≡ v.NotAllowed) ⊎ ((x ≡ v.Text) ⊎ ((x ≡ v.Attribute) ⊎ IsReference x))) → filter_map f (nodes within (see.pattern x)) ≡ []
+past_references f skips none within x (inl e) = in_none f skips within x (inl e)
+past_references f skips none within x (inr (inl e)) = in_none f skips within x (inr (inl e))
+past_references f skips none within x (inr (inr (inl e))) = in_none f skips within x (inr (inr (inl e)))
+past_references f skips none within x (inr (inr (inr (inl e)))) = in_none f skips within x (inr (inr (inr e)))
+past_references f skips none within x (inr (inr (inr (inr (n, place, e))))) =
+    skipped f skips within x (ref n.now (at place)) [] (ap see.pattern e ∙ see_ref n place) refl (none n.now (at place))
+
+pub target_skips : (t : Table) → Skips (target t)
+target_skips t = record {
+  empty = refl;
+  not_allowed = refl;
+  text = refl;
+  attribute = refl;
+  mixed = λ p. refl;
+  optional = λ p. refl;
+  zero_or_more = λ p. refl;
+  one_or_more = λ p. refl;
+  group = λ ps. refl;
+  choice = λ ps. refl;
+  interleave = λ ps. refl;
+}
+
+pub element_skips : Skips element_of
+element_skips = record {
+  empty = refl;
+  not_allowed = refl;
+  text = refl;
+  attribute = refl;
+  mixed = λ p. refl;
+  optional = λ p. refl;
+  zero_or_more = λ p. refl;
+  one_or_more = λ p. refl;
+  group = λ ps. refl;
+  choice = λ ps. refl;
+  interleave = λ ps. refl;
+}
+
+pub loop_skips : (t : Table) (states : List State) (k : ℕ) → Skips (loop_at t states k)
+loop_skips t states k = record {
+  empty = refl;
+  not_allowed = refl;
+  text = refl;
+  attribute = refl;
+  mixed = λ p. refl;
+  optional = λ p. refl;
+  zero_or_more = λ p. refl;
+  one_or_more = λ p. refl;
+  group = λ ps. refl;
+  choice = λ ps. refl;
+  interleave = λ ps. refl;
+}
+
+-- what a pattern becomes without parts, and one whose parts became so
+pub empty_becomes : (f : List ℕ → g.Pattern) (es : List Element) (x : SPat) → (x ≡ v.Empty) ⊎ (x ≡ v.Attribute) → seen.pattern made_variants.Empty ≡ becomes f es (see.pattern x)
+empty_becomes f es x (inl e) = made.see_empty ∙ ap (becomes f es) (sym (ap see.pattern e ∙ see_empty))
+empty_becomes f es x (inr e) = made.see_empty ∙ ap (becomes f es) (sym (ap see.pattern e ∙ see_attribute))
+
+pub around_becomes : (f : List ℕ → g.Pattern) (es : List Element) (x : SPat) (q : Bor SPat) (p : g.Pattern) → HasPart x q → p ≡ becomes f es (see.pattern q.now) → around (see.pattern x) p ≡ becomes f es (see.pattern x)
+around_becomes f es x q p (inl e) h =
+    let is = ap see.pattern e ∙ see_mixed q in ap (λ z. around z p) is ∙ (ap (λ z. g.interleave (both g.text z)) h ∙ ap (becomes f es) (sym is))
+around_becomes f es x q p (inr (inl e)) h =
+    let is = ap see.pattern e ∙ see_optional q in ap (λ z. around z p) is ∙ (ap (λ z. g.choice (both z g.empty)) h ∙ ap (becomes f es) (sym is))
+around_becomes f es x q p (inr (inr (inl e))) h =
+    let is = ap see.pattern e ∙ see_zero_or_more q in ap (λ z. around z p) is ∙ (ap (λ z. g.choice (both (g.one_or_more z) g.empty)) h ∙ ap (becomes f es) (sym is))
+around_becomes f es x q p (inr (inr (inr e))) h =
+    let is = ap see.pattern e ∙ see_one_or_more q in ap (λ z. around z p) is ∙ (ap (λ z. g.one_or_more z) h ∙ ap (becomes f es) (sym is))
+
+pub among_becomes : (f : List ℕ → g.Pattern) (es : List Element) (x : SPat) (qs : Bor (List SPat)) (ps : g.Patterns) → HasParts x qs → ps ≡ all_become f es (see.patterns qs.now) → among (see.pattern x) ps ≡ becomes f es (see.pattern x)
+among_becomes f es x qs ps (inl e) h = let is = ap see.pattern e ∙ see_group qs in ap (λ z. among z ps) is ∙ (ap (λ z. g.group z) h ∙ ap (becomes f es) (sym is))
+among_becomes f es x qs ps (inr (inl e)) h = let is = ap see.pattern e ∙ see_choice qs in ap (λ z. among z ps) is ∙ (ap (λ z. g.choice z) h ∙ ap (becomes f es) (sym is))
+among_becomes f es x qs ps (inr (inr e)) h = let is = ap see.pattern e ∙ see_interleave qs in ap (λ z. among z ps) is ∙ (ap (λ z. g.interleave z) h ∙ ap (becomes f es) (sym is))
+
+-- a connector that is neither of a group nor of a choice
+abbrev pub IsOther : g.Patterns → SPat → Type 0
+IsOther ps x = ((qs : Bor (List SPat)) → x ≡ v.Group qs → ⊥) → ((qs : Bor (List SPat)) → x ≡ v.Choice qs → ⊥) → among (see.pattern x) ps ≡ g.interleave ps
+
+is_other : (ps : g.Patterns) (x : SPat) (p : SyntaxPattern) → see.pattern x ≡ p → among p ps ≡ g.interleave ps → IsOther ps x
+is_other ps x p e h = λ a b. ap (λ z. among z ps) e ∙ h
+
+other_layer : (ps : g.Patterns) (f : SPat-F SPat) → IsOther ps (roll-SPat f)
+other_layer ps parts.Empty = subst (IsOther ps) (sym v.rolls-Empty) (is_other ps v.Empty empty see_empty refl)
+other_layer ps parts.NotAllowed = subst (IsOther ps) (sym v.rolls-NotAllowed) (is_other ps v.NotAllowed not_allowed see_not_allowed refl)
+other_layer ps parts.Text = subst (IsOther ps) (sym v.rolls-Text) (is_other ps v.Text text see_text refl)
+other_layer ps parts.Attribute = subst (IsOther ps) (sym v.rolls-Attribute) (is_other ps v.Attribute attribute see_attribute refl)
+other_layer ps (parts.Ref n place) = subst (IsOther ps) (sym (v.rolls-Ref n place)) (is_other ps (v.Ref n place) (ref n.now (at place)) (see_ref n place) refl)
+other_layer ps (parts.Element place c q) = subst (IsOther ps) (sym (v.rolls-Element place c q)) (is_other ps (v.Element place c q) (element (at place) (see.class c) (see.pattern q.now)) (see_element place c q) refl)
+other_layer ps (parts.Mixed q) = subst (IsOther ps) (sym (v.rolls-Mixed q)) (is_other ps (v.Mixed q) (mixed (see.pattern q.now)) (see_mixed q) refl)
+other_layer ps (parts.Optional q) = subst (IsOther ps) (sym (v.rolls-Optional q)) (is_other ps (v.Optional q) (optional (see.pattern q.now)) (see_optional q) refl)
+other_layer ps (parts.ZeroOrMore q) = subst (IsOther ps) (sym (v.rolls-ZeroOrMore q)) (is_other ps (v.ZeroOrMore q) (zero_or_more (see.pattern q.now)) (see_zero_or_more q) refl)
+other_layer ps (parts.OneOrMore q) = subst (IsOther ps) (sym (v.rolls-OneOrMore q)) (is_other ps (v.OneOrMore q) (one_or_more (see.pattern q.now)) (see_one_or_more q) refl)
+other_layer ps (parts.Group qs) = λ a b. absurd (a qs (v.rolls-Group qs))
+other_layer ps (parts.Choice qs) = λ a b. absurd (b qs (v.rolls-Choice qs))
+other_layer ps (parts.Interleave qs) = subst (IsOther ps) (sym (v.rolls-Interleave qs)) (is_other ps (v.Interleave qs) (interleave (see.patterns qs.now)) (see_interleave qs) refl)
+
+pub among_others : (ps : g.Patterns) (x : SPat) → IsOther ps x
+among_others ps x = subst (IsOther ps) (roll-out-SPat x) (other_layer ps (out-SPat x))
