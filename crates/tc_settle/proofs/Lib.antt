@@ -6,6 +6,5 @@ pub mod Grown
 pub mod Kept
 pub mod AtOneCost
 pub mod Lists
-pub mod Sampled
 pub mod Tried
 pub mod Whole

@@ -9,8 +9,6 @@ mod levels;
 mod rows;
 mod runs;
 mod settling;
-#[cfg(test)]
-mod tests;
 mod trying;
 
 pub use building::{BuildFault, build};

@@ -1,133 +1,123 @@
 // How commands end: their statuses, lines and faults.
-use crate::commands::{
-    command_answers, joined, sheet_of, store_answers, store_of, triple_store, words_of,
-};
+use crate::commands::{assert_usage, command_answers, status_into, store_answers, store_of};
 use std::alloc::Global;
 use std::test::Fail;
 use tc_base::NoMemory;
 use tc_io::{MemSink, MemStore, Sink, WriteFault};
-use tc_top::{Status, typecheck};
-
-const USAGE: &str =
-    "usage: check|prove [--limit N] IN OUT SHEET; verify IN OUT SHEET CERT; run SHEET DOC; valid SCHEMA DOC; demo N; upgrade CERT; include A B; same A B; valid --stream N SCHEMA DOC\n";
+use tc_top::Status;
 
 const CHECK: &[&str] = &["check", "I", "O", "S"];
 
-/// A store with two schemas, and a stylesheet with this body.
-fn store_with(alloc: Global, input: &str, output: &str, body: &str) -> Result<MemStore, NoMemory> {
-    let rules = joined(
-        alloc,
-        &["<xsl:template match=\"/\">", body, "</xsl:template>"],
-    )?;
-    let sheet = sheet_of(alloc, rules.as_str())?;
-    triple_store(alloc, input.as_bytes(), output.as_bytes(), sheet.as_bytes())
-}
+const EMPTY: &[u8] = b"element a{empty}";
 
-#[test]
-fn stops_at_the_first_operand_that_is_missing(rt: HostRuntime) -> Result<(), Fail> {
-    let mut store = store_of(rt.alloc(), &[("I", b"of no form".as_slice())])?;
-    let line = "cannot read O\n";
-    assert!(rt; store_answers(rt.alloc(), CHECK, &mut store, Status::ReadFault, line)?);
-    Ok(())
-}
+const RESULT: &[u8] = b"element r{empty}";
 
-#[test]
-fn stops_at_the_first_operand_that_cannot_be_read(rt: HostRuntime) -> Result<(), Fail> {
-    let mut store = store_with(rt.alloc(), "of no form", "element r{empty}", "<r/>")?;
-    store.fail_at(2)?;
-    let line = "cannot read O\n";
-    assert!(rt; store_answers(rt.alloc(), CHECK, &mut store, Status::ReadFault, line)?);
-    Ok(())
-}
+/// A stylesheet that puts an `r` out.
+const SHEET: &[u8] =
+    b"<xsl:stylesheet version=\"1.0\" xmlns:xsl=\"http://www.w3.org/1999/XSL/Transform\">\
+    <xsl:template match=\"/\"><r/></xsl:template></xsl:stylesheet>";
 
-/// A store whose reads of these numbers fail.
-fn failing_store(alloc: Global, failing: [u64; 2]) -> Result<MemStore, NoMemory> {
-    let mut store = store_with(alloc, "element a{empty}", "", "<r/>")?;
-    store.put("D", b"<a/>")?;
+/// Words, files, the numbers of the reads that fail, and what is written.
+type Unread<'t> = (&'t [&'t str], &'t [(&'t str, &'t [u8])], &'t [u64], &'t str);
+
+const ALL: &[(&str, &[u8])] = &[("I", EMPTY), ("O", b""), ("S", SHEET), ("D", b"<a/>")];
+
+/// Files of which one is missing or cannot be read.
+static FAILING: [Unread<'static>; 6] = [
+    // operands are read before any text is looked at: one is missing, and of one the read fails
+    (CHECK, &[("I", b"of no form")], &[], "cannot read O\n"),
+    (
+        CHECK,
+        &[("I", b"of no form"), ("O", RESULT), ("S", SHEET)],
+        &[2],
+        "cannot read O\n",
+    ),
+    // of several reads that fail the first is told
+    (&["run", "S", "D"], ALL, &[1, 2], "cannot read S\n"),
+    (&["run", "S", "D"], ALL, &[2, 3], "cannot read D\n"),
+    (&["valid", "I", "D"], ALL, &[1, 2], "cannot read I\n"),
+    (&["valid", "I", "D"], ALL, &[2, 3], "cannot read D\n"),
+];
+
+/// A store with these files whose reads of these numbers fail.
+fn failing_store(
+    alloc: Global,
+    files: &[(&str, &[u8])],
+    failing: &[u64],
+) -> Result<MemStore, NoMemory> {
+    let mut store = store_of(alloc, files)?;
     for number in failing {
-        store.fail_at(number)?;
+        store.fail_at(*number)?;
     }
     Ok(store)
 }
 
-/// Words, the numbers of the reads that fail, and what is written.
-static FAILING: [(&[&str], [u64; 2], &str); 4] = [
-    (&["run", "S", "D"], [1, 2], "cannot read S\n"),
-    (&["run", "S", "D"], [2, 3], "cannot read D\n"),
-    (&["valid", "I", "D"], [1, 2], "cannot read I\n"),
-    (&["valid", "I", "D"], [2, 3], "cannot read D\n"),
+/// Whether a command tells what it could not read.
+fn tells_unread(alloc: Global, case: &Unread<'_>) -> Result<bool, NoMemory> {
+    let (words, files, failing, line) = case;
+    let mut store = failing_store(alloc, files, failing)?;
+    store_answers(alloc, words, &mut store, Status::ReadFault, line)
+}
+
+#[test]
+fn stops_at_the_first_operand_that_cannot_be_read(rt: HostRuntime) -> Result<(), Fail> {
+    for case in &FAILING {
+        let (words, line) = (case.0, case.3);
+        assert!(rt; tells_unread(rt.alloc(), case)?, "{words:?} {line}");
+    }
+    Ok(())
+}
+
+const LATIN: &[u8] = b"<?xml version=\"1.0\" encoding=\"ISO-8859-1\"?><a>caf\xE9 \xE0 la carte</a>";
+
+const JAPANESE: &[u8] = b"<?xml version=\"1.0\" encoding=\"ISO-2022-JP\"?><a>\x1B$B$\"$$\x1B(B</a>";
+
+const ENCODING: &str = "refused D unsupported encoding at 20\n";
+
+const ENTITY: &str = "refused D unsupported entity at 3\n";
+
+/// Words, documents with bytes that are no text behind the place where they are refused, and what is written: an encoding is
+/// refused where its word stands, and nothing behind a refusal is looked at.
+static BROKEN: [(&[&str], &[u8], &str); 8] = [
+    (&["run", "S", "D"], LATIN, ENCODING),
+    (&["valid", "I", "D"], LATIN, ENCODING),
+    (&["run", "S", "D"], JAPANESE, ENCODING),
+    (&["valid", "I", "D"], JAPANESE, ENCODING),
+    (&["run", "S", "D"], b"<a>&nbsp;</a>\xFF", ENTITY),
+    (&["valid", "I", "D"], b"<a>&nbsp;</a>\xFF", ENTITY),
+    (&["run", "S", "D"], b"<a>&nbsp;\xFF</a>", ENTITY),
+    (&["valid", "I", "D"], b"<a>&nbsp;\xFF</a>", ENTITY),
 ];
 
 #[test]
-fn names_the_first_operand_whose_read_fails(rt: HostRuntime) -> Result<(), Fail> {
-    for (words, failing, line) in &FAILING {
-        let mut store = failing_store(rt.alloc(), *failing)?;
+fn what_stands_behind_a_refusal_is_not_looked_at(rt: HostRuntime) -> Result<(), Fail> {
+    for (words, document, line) in &BROKEN {
+        let files: [(&str, &[u8]); 3] = [("I", b"element a{text}"), ("S", SHEET), ("D", *document)];
         assert!(rt;
-            store_answers(rt.alloc(), words, &mut store, Status::ReadFault, line)?,
-            "{line}"
+            command_answers(rt.alloc(), words, &files, Status::Refused, line)?,
+            "{words:?} {line}"
         );
     }
     Ok(())
 }
 
-/// Documents with bytes that are no text behind the place where they are refused, and what is written: an encoding is refused
-/// where its word stands, and nothing behind a refusal is looked at.
-static BROKEN: [(&[u8], &str); 4] = [
-    (
-        b"<?xml version=\"1.0\" encoding=\"ISO-8859-1\"?><a>caf\xE9 \xE0 la carte</a>",
-        "refused D unsupported encoding at 20\n",
-    ),
-    (
-        b"<?xml version=\"1.0\" encoding=\"ISO-2022-JP\"?><a>\x1B$B$\"$$\x1B(B</a>",
-        "refused D unsupported encoding at 20\n",
-    ),
-    (b"<a>&nbsp;</a>\xFF", "refused D unsupported entity at 3\n"),
-    (b"<a>&nbsp;\xFF</a>", "refused D unsupported entity at 3\n"),
-];
+/// A stylesheet that puts an `x` in an `r` out.
+const WITHIN: &[u8] =
+    b"<xsl:stylesheet version=\"1.0\" xmlns:xsl=\"http://www.w3.org/1999/XSL/Transform\">\
+    <xsl:template match=\"/\"><r><x/></r></xsl:template></xsl:stylesheet>";
 
-/// Whether `run` and `valid` both refuse this document with this line.
-fn both_refuse(alloc: Global, document: &[u8], line: &str) -> Result<bool, Fail> {
-    let mut store = store_with(alloc, "element a{text}", "", "<r/>")?;
-    store.put("D", document)?;
-    let refused = Status::Refused;
-    Ok(
-        store_answers(alloc, &["run", "S", "D"], &mut store, refused, line)?
-            && store_answers(alloc, &["valid", "I", "D"], &mut store, refused, line)?,
-    )
-}
-
-#[test]
-fn what_stands_behind_a_refusal_is_not_looked_at(rt: HostRuntime) -> Result<(), Fail> {
-    for (document, line) in &BROKEN {
-        assert!(rt; both_refuse(rt.alloc(), document, line)?, "{line}");
-    }
-    Ok(())
-}
-
-/// A sink whose second write fails.
-fn failing_sink(alloc: Global) -> Result<MemSink, NoMemory> {
+/// What `check` writes of an unsafe stylesheet into a sink whose second write fails, and its status.
+fn broken_off(alloc: Global) -> Result<(Status, MemSink), NoMemory> {
+    let mut store = store_of(alloc, &[("I", EMPTY), ("O", RESULT), ("S", WITHIN)])?;
     let mut sink = MemSink::new(alloc, 200)?;
     sink.fail_at(2)?;
-    Ok(sink)
-}
-
-/// What these words write of a store into such a sink, and their status.
-fn broken_off(
-    alloc: Global,
-    words: &[&str],
-    store: &mut MemStore,
-) -> Result<(Status, MemSink), NoMemory> {
-    let words = words_of(alloc, words)?;
-    let mut sink = failing_sink(alloc)?;
-    let status = typecheck(alloc, &words, store, &mut sink);
+    let status = status_into(alloc, CHECK, &mut store, &mut sink)?;
     Ok((status, sink))
 }
 
 #[test]
 fn breaks_off_where_a_write_fails(rt: HostRuntime) -> Result<(), Fail> {
-    let (input, output) = ("element a { empty }", "element r { empty }");
-    let mut store = store_with(rt.alloc(), input, output, "<r><x/></r>")?;
-    let (status, sink) = broken_off(rt.alloc(), CHECK, &mut store)?;
+    let (status, sink) = broken_off(rt.alloc())?;
     assert_eq!(rt; status, Status::WriteFault);
     assert_eq!(rt; sink.bytes(), b"unsafe\n".as_slice());
     Ok(())
@@ -157,10 +147,7 @@ static WRONG: [&[&str]; 18] = [
 
 #[test]
 fn tells_the_usage(rt: HostRuntime) -> Result<(), Fail> {
-    for words in &WRONG {
-        assert!(rt; command_answers(rt.alloc(), words, &[], Status::Usage, USAGE)?);
-    }
-    Ok(())
+    assert_usage(&rt, rt.alloc(), &[], &WRONG)
 }
 
 /// Counts the pieces that it is given, and those that reach past a line feed.
@@ -187,25 +174,39 @@ impl Sink for Pieces {
     }
 }
 
-/// What these words write of a store with an unsafe stylesheet, and their status.
-fn pieces_of(alloc: Global, words: &[&str]) -> Result<(Status, Pieces), NoMemory> {
-    let words = words_of(alloc, words)?;
-    let (input, output) = ("element a { empty }", "element r { empty }");
-    let mut store = store_with(alloc, input, output, "<r/><r/>")?;
+/// A stylesheet that puts two `r` out.
+const TWO: &[u8] =
+    b"<xsl:stylesheet version=\"1.0\" xmlns:xsl=\"http://www.w3.org/1999/XSL/Transform\">\
+    <xsl:template match=\"/\"><r/><r/></xsl:template></xsl:stylesheet>";
+
+/// Words, their status on a store with that stylesheet, and how many lines they write, where that is asked.
+static LINES: [(&[&str], Status, Option<u64>); 2] = [
+    (CHECK, Status::No, Some(3)),
+    (&["check", "no\nfile", "O", "S"], Status::ReadFault, None),
+];
+
+/// Whether these words have this status, and write so many lines, each by itself.
+fn writes_lines(
+    alloc: Global,
+    words: &[&str],
+    status: Status,
+    lines: Option<u64>,
+) -> Result<bool, NoMemory> {
+    let mut store = store_of(alloc, &[("I", EMPTY), ("O", RESULT), ("S", TWO)])?;
     let mut sink = Pieces { count: 0, past: 0 };
-    let status = typecheck(alloc, &words, &mut store, &mut sink);
-    Ok((status, sink))
+    let answered = status_into(alloc, words, &mut store, &mut sink)?;
+    let as_many = lines.unwrap_or(sink.count) == sink.count;
+    Ok(answered == status && as_many && sink.past == 0)
 }
 
 #[test]
 fn writes_each_line_by_itself(rt: HostRuntime) -> Result<(), Fail> {
-    let (status, sink) = pieces_of(rt.alloc(), CHECK)?;
-    assert_eq!(rt; status, Status::No);
-    assert_eq!(rt; sink.count, 3);
-    assert_eq!(rt; sink.past, 0);
-    let (status, sink) = pieces_of(rt.alloc(), &["check", "no\nfile", "O", "S"])?;
-    assert_eq!(rt; status, Status::ReadFault);
-    assert_eq!(rt; sink.past, 0);
+    for (words, status, lines) in &LINES {
+        assert!(rt;
+            writes_lines(rt.alloc(), words, *status, *lines)?,
+            "{words:?}"
+        );
+    }
     Ok(())
 }
 

@@ -1,10 +1,13 @@
 // Tests of `prove`, `verify` and `upgrade`.
-use crate::commands::{joined, sheet_of, store_answers, triple_store, written};
+use crate::commands::Part::{Each, Once, Times};
+use crate::commands::{
+    BACK, Case, FRONT, Text, assert_cases, command_answers, status_of, store_answers, store_of,
+    text_of, written,
+};
 use std::alloc::Global;
-use std::process::Abort;
 use std::test::Fail;
 use tc_base::NoMemory;
-use tc_io::{MemSink, MemStore};
+use tc_io::MemStore;
 use tc_top::Status;
 
 const PROVE: &[&str] = &["prove", "I", "O", "S"];
@@ -52,74 +55,53 @@ const CHANGES: &str = "xslt-typecheck certificate 2\n\
     H 0 0 1 0:1,2:1 -\n\
     end\n";
 
-/// Two schemas and the rules of a stylesheet.
-#[derive(Clone, Copy)]
-struct Files<'t> {
-    input: &'t str,
-    output: &'t str,
-    rules: &'t str,
-}
+/// The stylesheet of [`PARTS`].
+const SHEET: &[u8] =
+    b"<xsl:stylesheet version=\"1.0\" xmlns:xsl=\"http://www.w3.org/1999/XSL/Transform\">\
+    <xsl:template match=\"/\"><r><xsl:apply-templates select=\"a/b\"/></r></xsl:template>\
+    <xsl:template match=\"b\"><x/></xsl:template></xsl:stylesheet>";
 
-const ANY_PARTS: Files<'static> = Files {
-    input: ANY_B,
-    output: ANY_X,
-    rules: PARTS,
-};
-
-/// A store with these files as `I`, `O`, `S`, and with a certificate, where there is one, as `C`.
-fn store_with(
+/// Whether each of these commands writes this text of a certificate of [`PARTS`] between [`ANY_B`] and [`ANY_X`].
+fn all_write(
     alloc: Global,
-    files: Files<'_>,
-    certificate: Option<&[u8]>,
-) -> Result<MemStore, NoMemory> {
-    let sheet = sheet_of(alloc, files.rules)?;
-    let (input, output) = (files.input.as_bytes(), files.output.as_bytes());
-    let mut store = triple_store(alloc, input, output, sheet.as_bytes())?;
-    if let Some(bytes) = certificate {
-        store.put("C", bytes)?;
-    }
-    Ok(store)
-}
-
-/// The status that goes with an answer's text.
-fn status_of(text: &str) -> Status {
-    if text.starts_with("xslt-typecheck") || text.starts_with("accepted") {
-        Status::Yes
-    } else if text.starts_with("rejected") || text.starts_with("unsafe") {
-        Status::No
-    } else if text.starts_with("refused") {
-        Status::Refused
-    } else if text.starts_with("cannot") {
-        Status::ReadFault
-    } else {
-        Status::Limit
-    }
-}
-
-/// Whether these words write this text of these files, with its status.
-fn writes(
-    alloc: Global,
-    words: &[&str],
-    files: Files<'_>,
-    certificate: Option<&[u8]>,
+    commands: &[&[&str]],
+    certificate: &[u8],
     text: &str,
-) -> Result<bool, Fail> {
-    let mut store = store_with(alloc, files, certificate)?;
-    store_answers(alloc, words, &mut store, status_of(text), text)
+) -> Result<bool, NoMemory> {
+    let files = [
+        ("I", ANY_B.as_bytes()),
+        ("O", ANY_X.as_bytes()),
+        ("S", SHEET),
+        ("C", certificate),
+    ];
+    for words in commands {
+        if !command_answers(alloc, words, &files, status_of(text), text)? {
+            return Ok(false);
+        }
+    }
+    Ok(true)
 }
 
-/// Whether they do so of a certificate for [`ANY_PARTS`].
-fn writes_of(alloc: Global, words: &[&str], certificate: &str, text: &str) -> Result<bool, Fail> {
-    writes(alloc, words, ANY_PARTS, Some(certificate.as_bytes()), text)
+/// The number of a line, from 1, and what stands in its place, with its own line feed where it has any.
+type Line<'t> = (usize, &'t str);
+
+/// What stands in the place of the line of this number.
+fn in_place<'t>(lines: &[Line<'t>], number: usize) -> Option<&'t str> {
+    for (place, other) in lines {
+        if *place == number {
+            return Some(*other);
+        }
+    }
+    None
 }
 
-/// A text whose line of this number, from 1, is replaced by another text, which ends with its own line feed where it has any.
-fn with_line(alloc: Global, text: &str, number: usize, other: &str) -> Result<String, Fail> {
+/// A text some of whose lines are replaced.
+fn with_lines(alloc: Global, text: &str, lines: &[Line<'_>]) -> Result<String, NoMemory> {
     let mut changed = String::new(alloc);
-    let mut place = 0usize;
+    let mut number = 0usize;
     for line in text.lines() {
-        place = place.saturating_add(1);
-        if place == number {
+        number = number.saturating_add(1);
+        if let Some(other) = in_place(lines, number) {
             changed.push_str(other)?;
         } else {
             changed.push_str(line)?;
@@ -129,138 +111,143 @@ fn with_line(alloc: Global, text: &str, number: usize, other: &str) -> Result<St
     Ok(changed)
 }
 
-/// Whether `verify` says this of the certificate with one line replaced.
-fn verifies_with(alloc: Global, number: usize, other: &str, text: &str) -> Result<bool, Fail> {
-    let certificate = with_line(alloc, WHOLE, number, other)?;
-    writes_of(alloc, VERIFY, certificate.as_str(), text)
-}
+/// Commands, a certificate, the lines of it that are replaced, and what is written.
+type Row<'t> = (&'t [&'t [&'t str]], &'t str, &'t [Line<'t>], &'t str);
 
-/// Whether `verify` says this of the certificate with two lines replaced.
-fn verifies_with_two(
-    alloc: Global,
-    one: (usize, &str),
-    other: (usize, &str),
-    text: &str,
-) -> Result<bool, Fail> {
-    let once = with_line(alloc, WHOLE, one.0, one.1)?;
-    let twice = with_line(alloc, once.as_str(), other.0, other.1)?;
-    writes_of(alloc, VERIFY, twice.as_str(), text)
-}
+const BOTH: &[&[&str]] = &[VERIFY, UPGRADE];
 
-/// The same certificate in both versions.
-static VERSIONS: [&str; 2] = [WHOLE, CHANGES];
-
-/// Whether `verify` accepts a certificate, and `upgrade` writes it as changes.
-fn is_accepted(alloc: Global, certificate: &str) -> Result<bool, Fail> {
-    Ok(
-        writes_of(alloc, VERIFY, certificate, "accepted\n")?
-            && writes_of(alloc, UPGRADE, certificate, CHANGES)?,
-    )
-}
-
-#[test]
-fn a_certificate_is_proved_verified_and_written_anew(rt: HostRuntime) -> Result<(), Fail> {
-    assert!(rt; writes_of(rt.alloc(), PROVE, "", CHANGES)?);
-    for certificate in &VERSIONS {
-        assert!(rt; is_accepted(rt.alloc(), certificate)?);
-    }
-    Ok(())
-}
-
-/// The number of a line, and what stands in its place.
-type Line = (usize, &'static str);
-
-/// Two lines that are replaced, and what `verify` says.
-static LACKING: [(Line, Line, &str); 4] = [
-    ((5, "trees 2\n"), (8, ""), "rejected 9 wrap b\n"),
-    ((9, "hedges 1\n"), (10, ""), "rejected 0 empty\n"),
-    ((9, "hedges 1\n"), (11, ""), "rejected 10 append 8\n"),
+/// Certificates of [`PARTS`], some with lines replaced, and what is written.
+static ROWS: [Row<'static>; 29] = [
+    // a certificate is proved, verified and written anew
+    (&[PROVE], "", &[], CHANGES),
+    (&[VERIFY], WHOLE, &[], "accepted\n"),
+    (&[UPGRADE], WHOLE, &[], CHANGES),
+    (&[VERIFY], CHANGES, &[], "accepted\n"),
+    (&[UPGRADE], CHANGES, &[], CHANGES),
+    // rows that lack are told
     (
-        (5, "trees 4\n"),
-        (6, "t 0 0 1 0,0,0 -\nt 0 0 1 1,0,1 -\n"),
+        &[VERIFY],
+        WHOLE,
+        &[(5, "trees 2\n"), (8, "")],
+        "rejected 9 wrap b\n",
+    ),
+    (
+        &[VERIFY],
+        WHOLE,
+        &[(9, "hedges 1\n"), (10, "")],
+        "rejected 0 empty\n",
+    ),
+    (
+        &[VERIFY],
+        WHOLE,
+        &[(9, "hedges 1\n"), (11, "")],
+        "rejected 10 append 8\n",
+    ),
+    (
+        &[VERIFY],
+        WHOLE,
+        &[(5, "trees 4\n"), (6, "t 0 0 1 0,0,0 -\nt 0 0 1 1,0,1 -\n")],
         "accepted\n",
     ),
+    // the first line that is wrong is told
+    (&[VERIFY], WHOLE, &[(4, "m 2>5 3>3\n")], "rejected 4 fit\n"),
+    (&[VERIFY], WHOLE, &[(12, "")], "rejected 12 form\n"),
+    (&[VERIFY], WHOLE, &[(12, "end")], "rejected 12 form\n"),
+    (&[VERIFY], WHOLE, &[(12, "end\ne")], "rejected 13 form\n"),
+    (
+        &[VERIFY],
+        WHOLE,
+        &[(1, "xslt-typecheck certificate 1\r\n")],
+        "rejected 1 form\n",
+    ),
+    (
+        &[VERIFY],
+        WHOLE,
+        &[(2, "outputs 02\n")],
+        "rejected 2 form\n",
+    ),
+    (
+        &[VERIFY],
+        WHOLE,
+        &[(2, "outputs 65537\n")],
+        "rejected 2 form\n",
+    ),
+    (&[VERIFY], WHOLE, &[(2, "outputs 1\n")], "rejected 4 form\n"),
+    (&[VERIFY], WHOLE, &[(2, "outputs 3\n")], "rejected 5 form\n"),
+    (
+        &[VERIFY],
+        WHOLE,
+        &[(6, "t 0 0 1 0,0,4294967295 -\n")],
+        "rejected 6 fit\n",
+    ),
+    (
+        &[VERIFY],
+        WHOLE,
+        &[(6, "t 0 0 1 0,0,4294967296 -\n")],
+        "rejected 6 form\n",
+    ),
+    (
+        &[VERIFY],
+        WHOLE,
+        &[(6, "t 0 0 1 0,0 -\n")],
+        "rejected 6 fit\n",
+    ),
+    (
+        &[VERIFY],
+        WHOLE,
+        &[(6, "t 0 0 0 0,0,0 -\n")],
+        "rejected 6 fit\n",
+    ),
+    (
+        &[VERIFY],
+        WHOLE,
+        &[(6, "t 0 0 2,1 0,0,0 -\n")],
+        "rejected 6 form\n",
+    ),
+    (
+        &[VERIFY],
+        WHOLE,
+        &[(6, "t 0 0 - 0,0,0 -\n")],
+        "rejected 10 wrap a\n",
+    ),
+    // lines of outputs come in order
+    (
+        &[VERIFY],
+        WHOLE,
+        &[(3, "m 2>3 3>3\n"), (4, "m 0>0 1>1 2>2 3>3 4>4\n")],
+        "rejected 4 form\n",
+    ),
+    // nothing is no certificate
+    (BOTH, "", &[], "rejected 1 form\n"),
+    // changes are those of the row before
+    (
+        BOTH,
+        CHANGES,
+        &[(7, "T 0 0 1 0:0,1:1 -\n")],
+        "rejected 7 form\n",
+    ),
+    (
+        BOTH,
+        CHANGES,
+        &[(7, "t 0 0 1 1,1,0 -\n")],
+        "rejected 7 form\n",
+    ),
+    (BOTH, CHANGES, &[(6, "T 0 0 1 - -\n")], "rejected 6 form\n"),
 ];
 
+/// Whether a certificate with some lines replaced is answered so.
+fn row_writes(alloc: Global, row: &Row<'_>) -> Result<bool, NoMemory> {
+    let (commands, certificate, lines, text) = row;
+    let changed = with_lines(alloc, certificate, lines)?;
+    all_write(alloc, commands, changed.as_bytes(), text)
+}
+
 #[test]
-fn rows_that_lack_are_told(rt: HostRuntime) -> Result<(), Fail> {
-    for (one, other, text) in &LACKING {
-        assert!(rt; verifies_with_two(rt.alloc(), *other, *one, text)?);
+fn certificates_are_proved_verified_and_written_anew(rt: HostRuntime) -> Result<(), Fail> {
+    for row in &ROWS {
+        let (lines, text) = (row.2, row.3);
+        assert!(rt; row_writes(rt.alloc(), row)?, "{lines:?} {text}");
     }
-    Ok(())
-}
-
-#[test]
-fn what_is_unsafe_is_not_proved(rt: HostRuntime) -> Result<(), Fail> {
-    let files = Files {
-        output: SOME_X,
-        ..ANY_PARTS
-    };
-    let whole = Some(WHOLE.as_bytes());
-    assert!(rt; writes(rt.alloc(), VERIFY, files, whole, "rejected 6 root\n")?);
-    assert!(rt;
-        writes(
-            rt.alloc(),
-            PROVE,
-            files,
-            None,
-            "unsafe\ndocument <a/>\noutput <r/>\n"
-        )?
-    );
-    Ok(())
-}
-
-/// The number of a line that is replaced, what stands in its place, and what `verify` says.
-static WRONG: [(usize, &str, &str); 15] = [
-    (4, "m 2>5 3>3\n", "rejected 4 fit\n"),
-    (12, "", "rejected 12 form\n"),
-    (12, "end", "rejected 12 form\n"),
-    (12, "end\ne", "rejected 13 form\n"),
-    (1, "xslt-typecheck certificate 1\r\n", "rejected 1 form\n"),
-    (2, "outputs 02\n", "rejected 2 form\n"),
-    (2, "outputs 65537\n", "rejected 2 form\n"),
-    (2, "outputs 1\n", "rejected 4 form\n"),
-    (2, "outputs 3\n", "rejected 5 form\n"),
-    (6, "t 0 0 1 0,0,4294967295 -\n", "rejected 6 fit\n"),
-    (6, "t 0 0 1 0,0,4294967296 -\n", "rejected 6 form\n"),
-    (6, "t 0 0 1 0,0 -\n", "rejected 6 fit\n"),
-    (6, "t 0 0 0 0,0,0 -\n", "rejected 6 fit\n"),
-    (6, "t 0 0 2,1 0,0,0 -\n", "rejected 6 form\n"),
-    (6, "t 0 0 - 0,0,0 -\n", "rejected 10 wrap a\n"),
-];
-
-#[test]
-fn the_first_line_that_is_wrong_is_told(rt: HostRuntime) -> Result<(), Fail> {
-    for (number, other, text) in &WRONG {
-        assert!(rt; verifies_with(rt.alloc(), *number, other, text)?);
-    }
-    Ok(())
-}
-
-#[test]
-fn lines_of_outputs_come_in_order(rt: HostRuntime) -> Result<(), Fail> {
-    assert!(rt;
-        verifies_with_two(
-            rt.alloc(),
-            (3, "m 2>3 3>3\n"),
-            (4, "m 0>0 1>1 2>2 3>3 4>4\n"),
-            "rejected 4 form\n"
-        )?
-    );
-    Ok(())
-}
-
-/// Whether `verify` and `upgrade` say this of a certificate.
-fn both_write(alloc: Global, certificate: &str, text: &str) -> Result<bool, Fail> {
-    Ok(
-        writes_of(alloc, VERIFY, certificate, text)?
-            && writes_of(alloc, UPGRADE, certificate, text)?,
-    )
-}
-
-#[test]
-fn nothing_is_no_certificate(rt: HostRuntime) -> Result<(), Fail> {
-    assert!(rt; both_write(rt.alloc(), "", "rejected 1 form\n")?);
     Ok(())
 }
 
@@ -271,8 +258,7 @@ fn fronts_lack_their_next_line(alloc: Global, certificate: &str) -> Result<bool,
     let mut line = 1u32;
     for end in 0..bytes.len() {
         let text = format!(in alloc; "rejected {line} form\n")?;
-        let front = Some(&bytes[..end]);
-        if !writes(alloc, VERIFY, ANY_PARTS, front, text.as_str())? {
+        if !all_write(alloc, &[VERIFY], &bytes[..end], text.as_str())? {
             return Ok(false);
         }
         if bytes[end] == b'\n' {
@@ -282,228 +268,265 @@ fn fronts_lack_their_next_line(alloc: Global, certificate: &str) -> Result<bool,
     Ok(true)
 }
 
-#[test]
-fn fronts_of_version_1_lack_their_next_line(rt: HostRuntime) -> Result<(), Fail> {
-    assert!(rt; fronts_lack_their_next_line(rt.alloc(), WHOLE)?);
-    Ok(())
-}
+/// The same certificate in both versions.
+static VERSIONS: [&str; 2] = [WHOLE, CHANGES];
 
 #[test]
-fn fronts_of_version_2_lack_their_next_line(rt: HostRuntime) -> Result<(), Fail> {
-    assert!(rt; fronts_lack_their_next_line(rt.alloc(), CHANGES)?);
-    Ok(())
-}
-
-/// The same of version 2, whose rows are written as changes; `upgrade` says the same.
-static WRONG_CHANGES: [(usize, &str, &str); 3] = [
-    (7, "T 0 0 1 0:0,1:1 -\n", "rejected 7 form\n"),
-    (7, "t 0 0 1 1,1,0 -\n", "rejected 7 form\n"),
-    (6, "T 0 0 1 - -\n", "rejected 6 form\n"),
-];
-
-#[test]
-fn changes_are_those_of_the_row_before(rt: HostRuntime) -> Result<(), Fail> {
-    for (number, other, text) in &WRONG_CHANGES {
-        let certificate = with_line(rt.alloc(), CHANGES, *number, other)?;
-        assert!(rt; both_write(rt.alloc(), certificate.as_str(), text)?);
-    }
-    Ok(())
-}
-
-#[test]
-fn all_is_read_before_anything_is_told(rt: HostRuntime) -> Result<(), Fail> {
-    let broken = Files {
-        input: "element a{",
-        ..ANY_PARTS
-    };
-    let refused = "refused I malformed at 10\n";
-    assert!(rt; writes(rt.alloc(), VERIFY, broken, Some(b""), refused)?);
-    assert!(rt; writes(rt.alloc(), VERIFY, broken, None, "cannot read C\n")?);
-    assert!(rt; writes(rt.alloc(), UPGRADE, broken, None, "cannot read C\n")?);
-    Ok(())
-}
-
-#[test]
-fn a_text_that_may_stand_is_asked_for(rt: HostRuntime) -> Result<(), Fail> {
-    let files = Files {
-        input: "element a{text}",
-        output: "element r{element x{empty}?}",
-        rules: "<xsl:template match=\"/\"><r><xsl:apply-templates/></r></xsl:template>\
-            <xsl:template match=\"text()\"><x/></xsl:template>",
-    };
-    let certificate = "xslt-typecheck certificate 1\n\
-        outputs 2\n\
-        m 0>0 1>1 2>2 3>3 4>4\n\
-        m 2>3\n\
-        trees 2\n\
-        t 0 0 1 0 -\n\
-        t 0 1 1 1 -\n\
-        hedges 2\n\
-        h 0 0 0 0 -\n\
-        h 1 1 1 1 -\n\
-        end\n";
-    let bytes = Some(certificate.as_bytes());
-    assert!(rt; writes(rt.alloc(), VERIFY, files, bytes, "rejected 0 text\n")?);
-    Ok(())
-}
-
-#[test]
-fn names_that_nothing_mentions_are_asked_for(rt: HostRuntime) -> Result<(), Fail> {
-    let files = Files {
-        input: "element *{empty}",
-        output: "element *{empty}",
-        rules: "<xsl:template match=\"*\"><xsl:copy><xsl:apply-templates/></xsl:copy></xsl:template>",
-    };
-    let certificate = "xslt-typecheck certificate 1\n\
-        outputs 2\n\
-        m 0>0 1>1 2>2\n\
-        m 0>1\n\
-        trees 0\n\
-        hedges 1\n\
-        h 0 0 0 0 -\n\
-        end\n";
-    let bytes = Some(certificate.as_bytes());
-    assert!(rt;
-        writes(
-            rt.alloc(),
-            VERIFY,
-            files,
-            bytes,
-            "rejected 7 wrap {urn:n}n\n"
-        )?
-    );
-    Ok(())
-}
-
-/// So many of a name, with commas between them.
-fn listed(alloc: Global, name: &str, count: u32) -> Result<String, NoMemory> {
-    let mut text = String::from_str(alloc, name)?;
-    for _ in 1..count {
-        text.push_str(",")?;
-        text.push_str(name)?;
-    }
-    Ok(text)
-}
-
-/// So many of a name, with commas between them, between two texts.
-fn listed_within(
-    alloc: Global,
-    front: &str,
-    name: &str,
-    count: u32,
-    back: &str,
-) -> Result<String, NoMemory> {
-    let content = listed(alloc, name, count)?;
-    joined(alloc, &[front, content.as_str(), back])
-}
-
-/// An output of an `r` with so many `x`: a state before and behind each of them, one of what stands in an `x`, two of the root.
-fn output_of(alloc: Global, count: u32) -> Result<String, NoMemory> {
-    let front = "x = element x{empty} start = element r{";
-    listed_within(alloc, front, "x", count, "}")
-}
-
-/// How many `x` the output has, and what `verify` says.
-static LIMITED: [(u32, &str); 2] = [(252, "rejected 1 form\n"), (260, "limit states 256\n")];
-
-#[test]
-fn limits_of_schemas_come_before_the_certificate(rt: HostRuntime) -> Result<(), Fail> {
-    for (count, text) in &LIMITED {
-        let output = output_of(rt.alloc(), *count)?;
-        let files = Files {
-            output: output.as_str(),
-            ..ANY_PARTS
-        };
+fn fronts_of_both_versions_lack_their_next_line(rt: HostRuntime) -> Result<(), Fail> {
+    for certificate in &VERSIONS {
         assert!(rt;
-            writes(rt.alloc(), VERIFY, files, Some(b""), text)?,
-            "{count}"
+            fronts_lack_their_next_line(rt.alloc(), certificate)?,
+            "{certificate}"
         );
     }
     Ok(())
 }
 
-/// A million zeros, with commas between them.
-fn million_zeros(alloc: Global) -> Result<String, NoMemory> {
-    let thousand = listed(alloc, "0", 1_000)?;
-    listed(alloc, thousand.as_str(), 1_000)
+const B: Text<'static> = &[Once(ANY_B)];
+
+const X: Text<'static> = &[Once(ANY_X)];
+
+const S: Text<'static> = &[FRONT, Once(PARTS), BACK];
+
+const BROKEN: Text<'static> = &[Once("element a{")];
+
+/// What is asked of other files.
+static FILES: [Case<'static>; 9] = [
+    Case {
+        what: "what is unsafe is not verified",
+        words: VERIFY,
+        files: &[
+            ("I", B),
+            ("O", &[Once(SOME_X)]),
+            ("S", S),
+            ("C", &[Once(WHOLE)]),
+        ],
+        status: Status::No,
+        text: &[Once("rejected 6 root\n")],
+    },
+    Case {
+        what: "what is unsafe is not proved",
+        words: PROVE,
+        files: &[("I", B), ("O", &[Once(SOME_X)]), ("S", S)],
+        status: Status::No,
+        text: &[Once("unsafe\ndocument <a/>\noutput <r/>\n")],
+    },
+    Case {
+        what: "a schema is refused before the certificate",
+        words: VERIFY,
+        files: &[("I", BROKEN), ("O", X), ("S", S), ("C", &[])],
+        status: Status::Refused,
+        text: &[Once("refused I malformed at 10\n")],
+    },
+    Case {
+        what: "all is read before anything is told by verify",
+        words: VERIFY,
+        files: &[("I", BROKEN), ("O", X), ("S", S)],
+        status: Status::ReadFault,
+        text: &[Once("cannot read C\n")],
+    },
+    Case {
+        what: "all is read before anything is told by upgrade",
+        words: UPGRADE,
+        files: &[("I", BROKEN), ("O", X), ("S", S)],
+        status: Status::ReadFault,
+        text: &[Once("cannot read C\n")],
+    },
+    Case {
+        what: "a text that may stand is asked for",
+        words: VERIFY,
+        files: &[
+            ("I", &[Once("element a{text}")]),
+            ("O", &[Once("element r{element x{empty}?}")]),
+            (
+                "S",
+                &[
+                    FRONT,
+                    Once("<xsl:template match=\"/\"><r><xsl:apply-templates/></r></xsl:template>"),
+                    Once("<xsl:template match=\"text()\"><x/></xsl:template>"),
+                    BACK,
+                ],
+            ),
+            (
+                "C",
+                &[
+                    Once("xslt-typecheck certificate 1\n"),
+                    Once("outputs 2\nm 0>0 1>1 2>2 3>3 4>4\nm 2>3\n"),
+                    Once("trees 2\nt 0 0 1 0 -\nt 0 1 1 1 -\n"),
+                    Once("hedges 2\nh 0 0 0 0 -\nh 1 1 1 1 -\nend\n"),
+                ],
+            ),
+        ],
+        status: Status::No,
+        text: &[Once("rejected 0 text\n")],
+    },
+    Case {
+        what: "names that nothing mentions are asked for",
+        words: VERIFY,
+        files: &[
+            ("I", &[Once("element *{empty}")]),
+            ("O", &[Once("element *{empty}")]),
+            (
+                "S",
+                &[
+                    FRONT,
+                    Once(
+                        "<xsl:template match=\"*\"><xsl:copy><xsl:apply-templates/></xsl:copy></xsl:template>",
+                    ),
+                    BACK,
+                ],
+            ),
+            (
+                "C",
+                &[
+                    Once("xslt-typecheck certificate 1\n"),
+                    Once("outputs 2\nm 0>0 1>1 2>2\nm 0>1\n"),
+                    Once("trees 0\nhedges 1\nh 0 0 0 0 -\nend\n"),
+                ],
+            ),
+        ],
+        status: Status::No,
+        text: &[Once("rejected 7 wrap {urn:n}n\n")],
+    },
+    // an `r` with so many `x` has a state before and behind each of them, one of what stands in an `x`, two of the root
+    Case {
+        what: "an output has states enough",
+        words: VERIFY,
+        files: &[
+            ("I", B),
+            (
+                "O",
+                &[
+                    Once("x = element x{empty} start = element r{x"),
+                    Times(",x", 251),
+                    Once("}"),
+                ],
+            ),
+            ("S", S),
+            ("C", &[]),
+        ],
+        status: Status::No,
+        text: &[Once("rejected 1 form\n")],
+    },
+    Case {
+        what: "limits of schemas come before the certificate",
+        words: VERIFY,
+        files: &[
+            ("I", B),
+            (
+                "O",
+                &[
+                    Once("x = element x{empty} start = element r{x"),
+                    Times(",x", 259),
+                    Once("}"),
+                ],
+            ),
+            ("S", S),
+            ("C", &[]),
+        ],
+        status: Status::Limit,
+        text: &[Once("limit states 256\n")],
+    },
+];
+
+#[test]
+fn files_are_asked_for_what_certificates_say(rt: HostRuntime) -> Result<(), Fail> {
+    assert_cases(&rt, rt.alloc(), &FILES)
 }
 
-/// Rows of trees of version 2, each but for one number like the one before.
-fn like_rows(alloc: Global) -> Result<String, Fail> {
-    let mut text = String::new(alloc);
-    for number in 10_001..14_000 {
-        write!(text, "T 0 0 {number} - -\n")?;
-    }
-    Ok(text)
+/// Two megabytes whose rows, written whole, would take eight gigabytes: a row of a million zeros, and rows of trees of version 2,
+/// each but for one number like the one before.
+const UNFOLDING: Text<'static> = &[
+    Once("xslt-typecheck certificate 2\noutputs 0\ntrees 4000\nt 0 0 10000 0"),
+    Times(",0", 999_999),
+    Once(" -\n"),
+    Each("T 0 0 # - -\n", 10_001, 13_999),
+    Once("hedges 0\nend\n"),
+];
+
+/// Any number of times 51 `b`.
+const MANY_B: Text<'static> = &[
+    Once("b = element b{empty} start = element a{(b"),
+    Times(",b", 50),
+    Once(")*}"),
+];
+
+/// Any number of times 47 `x`, or any number of `x`.
+const MANY_X: Text<'static> = &[
+    Once("x = element x{empty} start = element r{(x"),
+    Times(",x", 46),
+    Once(")*|x*}"),
+];
+
+/// Large certificates and triples of many rows.
+static LARGE: [Case<'static>; 3] = [
+    Case {
+        what: "rows are not unfolded before they fit",
+        words: VERIFY,
+        files: &[("I", B), ("O", X), ("S", S), ("C", UNFOLDING)],
+        status: Status::No,
+        text: &[Once("rejected 4 fit\n")],
+    },
+    Case {
+        what: "rows are not unfolded to be written anew",
+        words: UPGRADE,
+        files: &[("I", B), ("O", X), ("S", S), ("C", UNFOLDING)],
+        status: Status::Yes,
+        text: UNFOLDING,
+    },
+    Case {
+        what: "many rows pass the limit",
+        words: PROVE,
+        files: &[("I", MANY_B), ("O", MANY_X), ("S", S)],
+        status: Status::Limit,
+        text: &[Once("limit hedges 2000\n")],
+    },
+];
+
+#[test]
+fn rows_are_limited_and_not_unfolded(rt: HostRuntime) -> Result<(), Fail> {
+    assert_cases(&rt, rt.alloc(), &LARGE)
 }
 
-/// A text of two megabytes whose rows, written whole, would take eight gigabytes.
-fn text_that_unfolds(alloc: Global) -> Result<String, Fail> {
-    let zeros = million_zeros(alloc)?;
-    let rows = like_rows(alloc)?;
-    let head = "xslt-typecheck certificate 2\noutputs 0\ntrees 4000\nt 0 0 10000 ";
-    let parts = [
-        head,
-        zeros.as_str(),
-        " -\n",
-        rows.as_str(),
-        "hedges 0\nend\n",
+/// A store with a triple of many rows.
+fn store_of_many(alloc: Global) -> Result<MemStore, Fail> {
+    let input = text_of(alloc, MANY_B)?;
+    let output = text_of(alloc, MANY_X)?;
+    let files = [
+        ("I", input.as_bytes()),
+        ("O", output.as_bytes()),
+        ("S", SHEET),
     ];
-    Ok(joined(alloc, &parts)?)
+    let store = store_of(alloc, &files)?;
+    Ok(store)
 }
 
-#[test]
-fn rows_are_not_unfolded_before_they_fit(rt: HostRuntime) -> Result<(), Fail> {
-    let text = text_that_unfolds(rt.alloc())?;
-    assert!(rt; writes_of(rt.alloc(), VERIFY, text.as_str(), "rejected 4 fit\n")?);
-    assert!(rt; writes_of(rt.alloc(), UPGRADE, text.as_str(), text.as_str())?);
-    Ok(())
+/// Whether `verify` accepts a certificate of a store's triple.
+fn is_accepted(alloc: Global, store: &mut MemStore, certificate: &[u8]) -> Result<bool, NoMemory> {
+    store.put("C", certificate)?;
+    store_answers(alloc, VERIFY, store, Status::Yes, "accepted\n")
 }
 
-/// Any number of times 51 `b`; its results are any number of times 47 `x`, or any number of `x`.
-fn many_rows(alloc: Global) -> Result<(String, String), NoMemory> {
-    let front = "b = element b{empty} start = element a{(";
-    let input = listed_within(alloc, front, "b", 51, ")*}")?;
-    let front = "x = element x{empty} start = element r{(";
-    let output = listed_within(alloc, front, "x", 47, ")*|x*}")?;
-    Ok((input, output))
-}
-
-#[test]
-fn many_rows_pass_the_limit(rt: HostRuntime) -> Result<(), Fail> {
-    let (input, output) = many_rows(rt.alloc())?;
-    let files = Files {
-        input: input.as_str(),
-        output: output.as_str(),
-        rules: PARTS,
-    };
-    assert!(rt; writes(rt.alloc(), PROVE, files, None, "limit hedges 2000\n")?);
-    Ok(())
-}
-
-/// What `prove` writes of these files where its limit is the highest, and its status.
-fn proved(alloc: Global, files: Files<'_>) -> Result<(Status, MemSink), NoMemory> {
-    let mut store = store_with(alloc, files, None)?;
+/// The status of `prove` on a store where its limit is the highest, how long its certificate is, and whether `verify` accepts it.
+fn proved(alloc: Global, store: &mut MemStore) -> Result<(Status, usize, bool), NoMemory> {
     let most = &["prove", "--limit", "4000", "I", "O", "S"];
-    written(alloc, most, &mut store, 100_000)
+    let (status, sink) = written(alloc, most, store, 100_000)?;
+    let accepted = is_accepted(alloc, store, sink.bytes())?;
+    Ok((status, sink.bytes().len(), accepted))
 }
 
-/// Asserts that it proves these files, by a certificate that `verify` accepts.
-fn assert_proved(rt: &impl Abort, alloc: Global, files: Files<'_>) -> Result<(), Fail> {
-    let (status, sink) = proved(alloc, files)?;
-    assert_eq!(rt; status, Status::Yes);
-    assert_eq!(rt; sink.bytes().len(), 63_908);
-    assert!(rt; writes(alloc, VERIFY, files, Some(sink.bytes()), "accepted\n")?);
-    Ok(())
+/// The same of the triple of many rows.
+fn proved_of_many(alloc: Global) -> Result<(Status, usize, bool), Fail> {
+    let mut store = store_of_many(alloc)?;
+    let proof = proved(alloc, &mut store)?;
+    Ok(proof)
 }
 
 #[test]
 fn no_limit_on_rows_is_tried_of_a_certificate(rt: HostRuntime) -> Result<(), Fail> {
-    let (input, output) = many_rows(rt.alloc())?;
-    let files = Files {
-        input: input.as_str(),
-        output: output.as_str(),
-        rules: PARTS,
-    };
-    assert_proved(&rt, rt.alloc(), files)
+    let (status, length, accepted) = proved_of_many(rt.alloc())?;
+    assert_eq!(rt; status, Status::Yes);
+    assert_eq!(rt; length, 63_908);
+    assert!(rt; accepted);
+    Ok(())
 }

@@ -1,5 +1,6 @@
 // Tests of `check` on an article, on texts that are refused, and of `demo`.
-use crate::commands::{command_answers, joined, repeated};
+use crate::commands::Part::{Once, Times};
+use crate::commands::{Case, Text, assert_cases, command_answers, status_of};
 use std::alloc::Global;
 use std::test::Fail;
 use tc_base::NoMemory;
@@ -7,8 +8,8 @@ use tc_top::Status;
 
 const CHECK: &[&str] = &["check", "I", "O", "S"];
 
-const NO_RULES: &[u8] =
-    b"<xsl:stylesheet version=\"1.0\" xmlns:xsl=\"http://www.w3.org/1999/XSL/Transform\"/>";
+const NO_RULES: &str =
+    "<xsl:stylesheet version=\"1.0\" xmlns:xsl=\"http://www.w3.org/1999/XSL/Transform\"/>";
 
 const ARTICLE: &str = "datatypes xsd = \"http://www.w3.org/2001/XMLSchema-datatypes\"
 start = article
@@ -48,53 +49,95 @@ const TO_PAGE: &str = "<?xml version=\"1.0\" encoding=\"UTF-8\"?>
 <xsl:template match=\"emph\"><em><xsl:apply-templates/></em></xsl:template>
 ";
 
-/// The stylesheet with a rule of lists, of this body.
-fn sheet_with(alloc: Global, body: &str) -> Result<String, NoMemory> {
-    let front = "<xsl:template match=\"itemlist\">";
-    let back = "</xsl:template>\n</xsl:stylesheet>\n";
-    joined(alloc, &[TO_PAGE, front, body, back])
+const END: &str = "</xsl:template>\n</xsl:stylesheet>\n";
+
+/// A pattern with too many nodes.
+const LARGE: Text<'static> = &[Once("element a{empty"), Times("|empty", 65_534), Once("}")];
+
+/// An article that becomes a page, by two rules of its lists, and a limit that waits for all texts.
+static CASES: [Case<'static>; 4] = [
+    Case {
+        what: "lists may be without items",
+        words: CHECK,
+        files: &[
+            ("I", &[Once(ARTICLE)]),
+            ("O", &[Once(PAGE)]),
+            (
+                "S",
+                &[
+                    Once(TO_PAGE),
+                    Once("<xsl:template match=\"itemlist\">"),
+                    Once("<ul><xsl:apply-templates/></ul>"),
+                    Once(END),
+                ],
+            ),
+        ],
+        status: Status::No,
+        text: &[
+            Once("unsafe\n"),
+            Once("document <article><title/><section><title/><itemlist/></section></article>\n"),
+            Once("output <html xmlns=\"http://www.w3.org/1999/xhtml\"><head><title/></head>"),
+            Once("<body><h1/><div><h1/><ul/></div></body></html>\n"),
+        ],
+    },
+    Case {
+        what: "lists without items are left out",
+        words: CHECK,
+        files: &[
+            ("I", &[Once(ARTICLE)]),
+            ("O", &[Once(PAGE)]),
+            (
+                "S",
+                &[
+                    Once(TO_PAGE),
+                    Once("<xsl:template match=\"itemlist\">"),
+                    Once("<xsl:if test=\"item\"><ul><xsl:apply-templates/></ul></xsl:if>"),
+                    Once(END),
+                ],
+            ),
+        ],
+        status: Status::Yes,
+        text: &[Once("safe trees 16 hedges 27 outputs 10\n")],
+    },
+    Case {
+        what: "a pattern is too large",
+        words: CHECK,
+        files: &[
+            ("I", LARGE),
+            ("O", &[Once("element a{empty}")]),
+            ("S", &[Once(NO_RULES)]),
+        ],
+        status: Status::Limit,
+        text: &[Once("limit pattern 65536\n")],
+    },
+    Case {
+        what: "limits wait for all texts",
+        words: CHECK,
+        files: &[
+            ("I", LARGE),
+            ("O", &[Once("element a{empty}")]),
+            ("S", &[Once("<r")]),
+        ],
+        status: Status::Refused,
+        text: &[Once("refused S malformed at 2\n")],
+    },
+];
+
+#[test]
+fn articles_become_pages_and_limits_wait(rt: HostRuntime) -> Result<(), Fail> {
+    assert_cases(&rt, rt.alloc(), &CASES)
 }
 
-/// Whether `check I O S` of these files has this status and writes this text.
+/// Whether `check I O S` of these files writes this text, with its status.
 fn answers(
     alloc: Global,
     input: &[u8],
     output: &[u8],
     sheet: &[u8],
-    status: Status,
     text: &str,
-) -> Result<bool, Fail> {
+) -> Result<bool, NoMemory> {
     let files = [("I", input), ("O", output), ("S", sheet)];
-    command_answers(alloc, CHECK, &files, status, text)
-}
-
-/// The body of lists, the status, and what is written.
-static LISTS: [(&str, Status, &str); 2] = [
-    (
-        "<ul><xsl:apply-templates/></ul>",
-        Status::No,
-        "unsafe\ndocument <article><title/><section><title/><itemlist/></section></article>\n\
-         output <html xmlns=\"http://www.w3.org/1999/xhtml\"><head><title/></head><body><h1/><div><h1/><ul/></div></body></html>\n",
-    ),
-    (
-        "<xsl:if test=\"item\"><ul><xsl:apply-templates/></ul></xsl:if>",
-        Status::Yes,
-        "safe trees 16 hedges 27 outputs 10\n",
-    ),
-];
-
-#[test]
-fn articles_become_pages(rt: HostRuntime) -> Result<(), Fail> {
-    let alloc = rt.alloc();
-    for (body, status, text) in &LISTS {
-        let sheet = sheet_with(alloc, body)?;
-        let (input, output) = (ARTICLE.as_bytes(), PAGE.as_bytes());
-        assert!(rt;
-            answers(alloc, input, output, sheet.as_bytes(), *status, text)?,
-            "{body}"
-        );
-    }
-    Ok(())
+    command_answers(alloc, CHECK, &files, status_of(text), text)
 }
 
 const GOOD: &[u8] = b"element a{empty}";
@@ -113,34 +156,8 @@ static REFUSED: [(&[u8], &[u8], &str); 4] = [
 fn operands_are_refused_in_order(rt: HostRuntime) -> Result<(), Fail> {
     for (input, output, text) in &REFUSED {
         assert!(rt;
-            answers(rt.alloc(), input, output, NO_RULES, Status::Refused, text)?,
+            answers(rt.alloc(), input, output, NO_RULES.as_bytes(), text)?,
             "{text}"
-        );
-    }
-    Ok(())
-}
-
-/// Stylesheets, the status, and what is written.
-static SHEETS: [(&[u8], Status, &str); 2] = [
-    (NO_RULES, Status::Limit, "limit pattern 65536\n"),
-    (b"<r", Status::Refused, "refused S malformed at 2\n"),
-];
-
-/// A schema of a pattern with too many nodes.
-fn large_schema(alloc: Global) -> Result<String, NoMemory> {
-    let more = repeated(alloc, "|empty", 65_534)?;
-    joined(alloc, &["element a{empty", more.as_str(), "}"])
-}
-
-#[test]
-fn limits_wait_for_all_texts(rt: HostRuntime) -> Result<(), Fail> {
-    let alloc = rt.alloc();
-    let large = large_schema(alloc)?;
-    let output = b"element a{empty}".as_slice();
-    for (sheet, status, line) in &SHEETS {
-        assert!(rt;
-            answers(alloc, large.as_bytes(), output, sheet, *status, line)?,
-            "{line}"
         );
     }
     Ok(())
@@ -150,8 +167,7 @@ fn limits_wait_for_all_texts(rt: HostRuntime) -> Result<(), Fail> {
 fn files_have_a_limit(rt: HostRuntime) -> Result<(), Fail> {
     let long = vec![in rt.alloc(); b' '; 67_108_865]?;
     let other = b"of no form".as_slice();
-    let line = "limit file 67108864\n";
-    assert!(rt; answers(rt.alloc(), &long, other, other, Status::Limit, line)?);
+    assert!(rt; answers(rt.alloc(), &long, other, other, "limit file 67108864\n")?);
     Ok(())
 }
 
@@ -161,7 +177,8 @@ fn is_safe(alloc: Global, size: u32) -> Result<bool, Fail> {
     let more = size.saturating_add(2);
     let line = format!(in alloc; "safe trees {size} hedges {more} outputs {more}\n")?;
     let words = ["demo", number.as_str()];
-    command_answers(alloc, &words, &[], Status::Yes, line.as_str())
+    let safe = command_answers(alloc, &words, &[], Status::Yes, line.as_str())?;
+    Ok(safe)
 }
 
 #[test]

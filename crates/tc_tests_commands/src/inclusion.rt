@@ -1,74 +1,84 @@
 // Tests of `include` and `same`.
-use crate::commands::{command_answers, doubled, joined, repeated, store_of, ten_levels, written};
+use crate::commands::Part::{Each, Once, Times};
+use crate::commands::{
+    OF_ELEVEN_LEVELS, OF_TEN_LEVELS, Text, command_answers, joined, status_of, store_of,
+    ten_levels, text_of, written,
+};
 use std::alloc::Global;
+use std::process::Abort;
 use std::test::Fail;
 use tc_base::NoMemory;
 use tc_top::Status;
 
-/// Whether a command on these two texts has this status and writes this text. The files are `A` and `B`.
-fn answers(
+const INCLUDE: &[&str] = &["include", "A", "B"];
+
+const SAME: &[&str] = &["same", "A", "B"];
+
+const VALID: &[&str] = &["valid", "A", "B"];
+
+/// Whether these words, of two texts as `A` and `B`, write this text, with its status.
+fn writes(
     alloc: Global,
-    command: &[&str],
+    words: &[&str],
     first: &str,
     second: &str,
-    status: Status,
     text: &str,
-) -> Result<bool, Fail> {
+) -> Result<bool, NoMemory> {
     let files = [("A", first.as_bytes()), ("B", second.as_bytes())];
-    command_answers(alloc, command, &files, status, text)
+    command_answers(alloc, words, &files, status_of(text), text)
+}
+
+/// Whether these words write this document behind such a word.
+fn shows(
+    alloc: Global,
+    words: &[&str],
+    schemas: (&str, &str),
+    word: &str,
+    document: &str,
+) -> Result<bool, NoMemory> {
+    let text = joined(alloc, &[word, document, "\n"])?;
+    writes(alloc, words, schemas.0, schemas.1, text.as_str())
 }
 
 /// Whether `include A B` says that the first is included in the second, whatever it counts.
-fn is_included(alloc: Global, first: &str, second: &str) -> Result<bool, Fail> {
+fn is_included(alloc: Global, first: &str, second: &str) -> Result<bool, NoMemory> {
     let files = [("A", first.as_bytes()), ("B", second.as_bytes())];
     let mut store = store_of(alloc, &files)?;
-    let (status, sink) = written(alloc, &["include", "A", "B"], &mut store, 200)?;
+    let (status, sink) = written(alloc, INCLUDE, &mut store, 200)?;
     Ok(status == Status::Yes && sink.bytes().starts_with(b"included trees "))
 }
 
-/// Whether `include A B` writes this text, with its status.
-fn include_writes(alloc: Global, first: &str, second: &str, text: &str) -> Result<bool, Fail> {
-    answers(
-        alloc,
-        &["include", "A", "B"],
-        first,
-        second,
-        status_of(text),
-        text,
-    )
-}
-
-/// Whether `same A B` writes this text, with its status.
-fn same_writes(alloc: Global, first: &str, second: &str, text: &str) -> Result<bool, Fail> {
-    answers(
-        alloc,
-        &["same", "A", "B"],
-        first,
-        second,
-        status_of(text),
-        text,
-    )
-}
-
-/// The status that goes with an answer's text.
-fn status_of(text: &str) -> Status {
-    if text.starts_with("included") || text.starts_with("same") {
-        Status::Yes
-    } else if text.starts_with("not-included") || text.starts_with("different") {
-        Status::No
-    } else if text.starts_with("refused") {
-        Status::Refused
-    } else {
-        Status::Limit
-    }
-}
-
-/// Whether `valid` finds a document valid for the first schema and not for the second.
-fn tells_apart(alloc: Global, first: &str, second: &str, document: &str) -> Result<bool, Fail> {
-    let command = &["valid", "A", "B"];
+/// Whether `valid` finds a document valid for the first schema and not for the second, and `include` shows it.
+fn tells_apart(alloc: Global, first: &str, second: &str, document: &str) -> Result<bool, NoMemory> {
     Ok(
-        answers(alloc, command, first, document, Status::Yes, "valid\n")?
-            && answers(alloc, command, second, document, Status::No, "invalid\n")?,
+        writes(alloc, VALID, first, document, "valid\n")?
+            && writes(alloc, VALID, second, document, "invalid\n")?
+            && shows(
+                alloc,
+                INCLUDE,
+                (first, second),
+                "not-included\ndocument ",
+                document,
+            )?,
+    )
+}
+
+/// Whether `same` shows a document as one of the first schema alone, also where the schemas are exchanged.
+fn same_shows(alloc: Global, first: &str, second: &str, document: &str) -> Result<bool, NoMemory> {
+    Ok(
+        shows(
+            alloc,
+            SAME,
+            (first, second),
+            "different\nfirst-only ",
+            document,
+        )? && shows(
+            alloc,
+            SAME,
+            (second, first),
+            "different\nsecond-only ",
+            document,
+        )?,
     )
 }
 
@@ -156,83 +166,26 @@ static STRICTLY_INCLUDED: [(&str, &str, &str); 19] = [
     ),
 ];
 
-/// Whether `include` writes this document of the first schema, which is not included in the second.
-fn include_shows(alloc: Global, first: &str, second: &str, document: &str) -> Result<bool, Fail> {
-    let text = joined(alloc, &["not-included\ndocument ", document, "\n"])?;
-    include_writes(alloc, first, second, text.as_str())
-}
-
-/// Whether `same` writes this document of the first schema alone, also where the schemas are exchanged.
-fn same_shows(alloc: Global, first: &str, second: &str, document: &str) -> Result<bool, Fail> {
-    let text = joined(alloc, &["different\nfirst-only ", document, "\n"])?;
-    let turned = joined(alloc, &["different\nsecond-only ", document, "\n"])?;
+/// Whether the first schema is included in the second, and the document shows in all ways that it isn't the other way round.
+fn is_strictly_included(
+    alloc: Global,
+    smaller: &str,
+    larger: &str,
+    document: &str,
+) -> Result<bool, NoMemory> {
     Ok(
-        same_writes(alloc, first, second, text.as_str())?
-            && same_writes(alloc, second, first, turned.as_str())?,
+        is_included(alloc, smaller, larger)?
+            && tells_apart(alloc, larger, smaller, document)?
+            && same_shows(alloc, larger, smaller, document)?,
     )
 }
 
 #[test]
 fn of_two_schemas_one_is_included(rt: HostRuntime) -> Result<(), Fail> {
     for (smaller, larger, document) in &STRICTLY_INCLUDED {
-        let alloc = rt.alloc();
-        assert!(rt; is_included(alloc, smaller, larger)?, "{smaller} {larger}");
         assert!(rt;
-            tells_apart(alloc, larger, smaller, document)?,
-            "{larger} {document}"
-        );
-        assert!(rt;
-            include_shows(alloc, larger, smaller, document)?,
-            "{larger}"
-        );
-        assert!(rt; same_shows(alloc, larger, smaller, document)?, "{larger}");
-    }
-    Ok(())
-}
-
-/// Two schemas, and what `include` writes.
-static ROWS: [(&str, &str, &str); 6] = [
-    (
-        "element a{element b{empty}}",
-        "element a{element b{empty}*}",
-        "included trees 2 hedges 2\n",
-    ),
-    (
-        "start = notAllowed",
-        "start = notAllowed",
-        "included trees 0 hedges 1\n",
-    ),
-    (
-        "start = notAllowed",
-        "element a{text}",
-        "included trees 0 hedges 1\n",
-    ),
-    // <a/> alone; no tree
-    (
-        "element a{empty}",
-        "element a{text}",
-        "included trees 1 hedges 1\n",
-    ),
-    // a text and <a/>; no tree and a text
-    (
-        "element a{text}",
-        "element a{text}",
-        "included trees 2 hedges 2\n",
-    ),
-    // <a/>, <b/>; no tree, <b/>, <b/><b/> and more, which the second tells from one alone
-    (
-        "element a{element b{empty}*}",
-        "element a{(element b{empty},element b{empty}+)?|element b{empty}}",
-        "included trees 2 hedges 3\n",
-    ),
-];
-
-#[test]
-fn inclusion_tells_how_many_rows_there_are(rt: HostRuntime) -> Result<(), Fail> {
-    for (first, second, text) in &ROWS {
-        assert!(rt;
-            include_writes(rt.alloc(), first, second, text)?,
-            "{first} {second}"
+            is_strictly_included(rt.alloc(), smaller, larger, document)?,
+            "{smaller} {larger} {document}"
         );
     }
     Ok(())
@@ -248,41 +201,96 @@ const A: &str = "element a{empty}";
 
 const B: &str = "element b{empty}";
 
-/// Two schemas, and what `include` writes.
-static NOT_INCLUDED: [(&str, &str, &str); 3] = [
-    (ANY, A_OR_ELSEWHERE, "not-included\ndocument <n/>\n"),
-    (A_WITH_B, A, "not-included\ndocument <a><b/></a>\n"),
-    (A, A_WITH_B, "not-included\ndocument <a/>\n"),
-];
+const SMALL: &str = "element z{empty}";
 
-/// Two schemas, and what `same` writes: of documents with as many nodes one of the first schema is told.
-static DIFFERENT: [(&str, &str, &str); 4] = [
-    (A_WITH_B, A, "different\nsecond-only <a/>\n"),
-    (A, A_WITH_B, "different\nfirst-only <a/>\n"),
-    (B, A, "different\nfirst-only <b/>\n"),
-    (A, B, "different\nfirst-only <a/>\n"),
+/// Words, two texts, and what is written.
+static WRITTEN: [(&[&str], &str, &str, &str); 19] = [
+    // how many rows there are
+    (
+        INCLUDE,
+        "element a{element b{empty}}",
+        "element a{element b{empty}*}",
+        "included trees 2 hedges 2\n",
+    ),
+    (
+        INCLUDE,
+        "start = notAllowed",
+        "start = notAllowed",
+        "included trees 0 hedges 1\n",
+    ),
+    (
+        INCLUDE,
+        "start = notAllowed",
+        "element a{text}",
+        "included trees 0 hedges 1\n",
+    ),
+    // <a/> alone; no tree
+    (
+        INCLUDE,
+        "element a{empty}",
+        "element a{text}",
+        "included trees 1 hedges 1\n",
+    ),
+    // a text and <a/>; no tree and a text
+    (
+        INCLUDE,
+        "element a{text}",
+        "element a{text}",
+        "included trees 2 hedges 2\n",
+    ),
+    // <a/>, <b/>; no tree, <b/>, <b/><b/> and more, which the second tells from one alone
+    (
+        INCLUDE,
+        "element a{element b{empty}*}",
+        "element a{(element b{empty},element b{empty}+)?|element b{empty}}",
+        "included trees 2 hedges 3\n",
+    ),
+    // neither is included in the other
+    (
+        INCLUDE,
+        ANY,
+        A_OR_ELSEWHERE,
+        "not-included\ndocument <n/>\n",
+    ),
+    (VALID, ANY, "<n/>", "valid\n"),
+    (VALID, A_OR_ELSEWHERE, "<n/>", "invalid\n"),
+    (INCLUDE, A_WITH_B, A, "not-included\ndocument <a><b/></a>\n"),
+    (INCLUDE, A, A_WITH_B, "not-included\ndocument <a/>\n"),
+    // of documents with as many nodes one of the first schema is told
+    (SAME, A_WITH_B, A, "different\nsecond-only <a/>\n"),
+    (SAME, A, A_WITH_B, "different\nfirst-only <a/>\n"),
+    (SAME, B, A, "different\nfirst-only <b/>\n"),
+    (SAME, A, B, "different\nfirst-only <a/>\n"),
+    // texts are refused in order
+    (
+        INCLUDE,
+        "start = b",
+        "element a{",
+        "refused A undefined at 8\n",
+    ),
+    (
+        SAME,
+        "start = b",
+        "element a{",
+        "refused A undefined at 8\n",
+    ),
+    (INCLUDE, SMALL, "start = b", "refused B undefined at 8\n"),
+    (SAME, SMALL, "start = b", "refused B undefined at 8\n"),
 ];
 
 #[test]
-fn schemas_differ_where_neither_is_included(rt: HostRuntime) -> Result<(), Fail> {
-    for (first, second, text) in &NOT_INCLUDED {
+fn inclusion_and_equality_are_told(rt: HostRuntime) -> Result<(), Fail> {
+    for (words, first, second, text) in &WRITTEN {
         assert!(rt;
-            include_writes(rt.alloc(), first, second, text)?,
-            "{first} {second}"
-        );
-    }
-    assert!(rt; tells_apart(rt.alloc(), ANY, A_OR_ELSEWHERE, "<n/>")?);
-    for (first, second, text) in &DIFFERENT {
-        assert!(rt;
-            same_writes(rt.alloc(), first, second, text)?,
-            "{first} {second}"
+            writes(rt.alloc(), words, first, second, text)?,
+            "{words:?} {first} {second}"
         );
     }
     Ok(())
 }
 
 /// Schemas that are the same.
-static SAME: [(&str, &str); 10] = [
+static ALIKE: [(&str, &str); 10] = [
     (
         "element a{element b{empty}&element c{empty}}",
         "element a{(element b{empty},element c{empty})|(element c{empty},element b{empty})}",
@@ -313,229 +321,19 @@ static SAME: [(&str, &str); 10] = [
     ("element (a|b){empty}", "element a{empty}|element b{empty}"),
 ];
 
+/// Whether `same` says so of two schemas, also where they are exchanged.
+fn are_same(alloc: Global, first: &str, second: &str) -> Result<bool, NoMemory> {
+    Ok(
+        writes(alloc, SAME, first, second, "same\n")?
+            && writes(alloc, SAME, second, first, "same\n")?,
+    )
+}
+
 #[test]
 fn schemas_are_the_same_however_they_are_written(rt: HostRuntime) -> Result<(), Fail> {
-    for (first, second) in &SAME {
-        let alloc = rt.alloc();
-        assert!(rt;
-            same_writes(alloc, first, second, "same\n")?,
-            "{first} {second}"
-        );
-        assert!(rt;
-            same_writes(alloc, second, first, "same\n")?,
-            "{second} {first}"
-        );
+    for (first, second) in &ALIKE {
+        assert!(rt; are_same(rt.alloc(), first, second)?, "{first} {second}");
     }
-    Ok(())
-}
-
-const NOTHING: &str = "start = notAllowed";
-
-const SMALL: &str = "element z{empty}";
-
-/// Whether both commands write this text of these schemas.
-fn both_write(alloc: Global, first: &str, second: &str, text: &str) -> Result<bool, Fail> {
-    Ok(include_writes(alloc, first, second, text)? && same_writes(alloc, first, second, text)?)
-}
-
-#[test]
-fn a_document_has_two_thousand_nodes_at_most(rt: HostRuntime) -> Result<(), Fail> {
-    let alloc = rt.alloc();
-    let large = doubled(alloc, 11)?;
-    let limit = "limit counterexample 2000\n";
-    assert!(rt; both_write(alloc, large.as_str(), NOTHING, limit)?);
-    assert!(rt; same_writes(alloc, NOTHING, large.as_str(), limit)?);
-    assert!(rt; same_shows(alloc, SMALL, large.as_str(), "<z/>")?);
-    Ok(())
-}
-
-#[test]
-fn a_document_of_many_nodes_is_shown(rt: HostRuntime) -> Result<(), Fail> {
-    let alloc = rt.alloc();
-    let schema = doubled(alloc, 10)?;
-    let document = ten_levels(alloc)?;
-    assert!(rt; include_shows(alloc, schema.as_str(), NOTHING, document.as_str())?);
-    assert!(rt; tells_apart(alloc, schema.as_str(), NOTHING, document.as_str())?);
-    Ok(())
-}
-
-#[test]
-fn a_document_of_fewer_nodes_is_shown(rt: HostRuntime) -> Result<(), Fail> {
-    let schema = doubled(rt.alloc(), 10)?;
-    assert!(rt; same_shows(rt.alloc(), SMALL, schema.as_str(), "<z/>")?);
-    Ok(())
-}
-
-/// The start and the rules of a schema with so many element patterns of one kind that trees match by their names, and as many
-/// that they match by what stands in them: each pair of one of both is a row.
-fn many_parts(alloc: Global, count: u32) -> Result<(String, String), Fail> {
-    let mut start = String::new(alloc);
-    let mut rules = String::new(alloc);
-    for number in 0..count {
-        write!(start, "|n{number}|p{number}")?;
-        write!(
-            rules,
-            "n{number} = element n{number}{{k}}\n\
-            p{number} = element *{{element k{number}{{empty}}}}\n"
-        )?;
-    }
-    Ok((start, rules))
-}
-
-/// That schema.
-fn many_trees(alloc: Global, count: u32) -> Result<String, Fail> {
-    let (start, rules) = many_parts(alloc, count)?;
-    let parts = [
-        "start = notAllowed",
-        start.as_str(),
-        "\nk = element *{empty}\n",
-        rules.as_str(),
-    ];
-    Ok(joined(alloc, &parts)?)
-}
-
-#[test]
-fn there_are_two_thousand_rows_of_trees_at_most(rt: HostRuntime) -> Result<(), Fail> {
-    let alloc = rt.alloc();
-    let trees = many_trees(alloc, 45)?;
-    let limit = "limit trees 2000\n";
-    assert!(rt; both_write(alloc, trees.as_str(), SMALL, limit)?);
-    assert!(rt; same_writes(alloc, SMALL, trees.as_str(), limit)?);
-    Ok(())
-}
-
-#[test]
-fn many_rows_of_trees_are_told(rt: HostRuntime) -> Result<(), Fail> {
-    let few = many_trees(rt.alloc(), 40)?;
-    let text = "included trees 1721 hedges 42\n";
-    assert!(rt; include_writes(rt.alloc(), few.as_str(), few.as_str(), text)?);
-    Ok(())
-}
-
-/// A schema whose rows tell which of the last eleven children are an `x`.
-fn many_hedges(alloc: Global) -> Result<String, NoMemory> {
-    let last = repeated(alloc, ",(x|y)", 10)?;
-    let front = "start = element a{(x|y)*,x";
-    joined(
-        alloc,
-        &[
-            front,
-            last.as_str(),
-            "} x = element x{empty} y = element y{empty}",
-        ],
-    )
-}
-
-/// Live trees are those of the first schema alone.
-#[test]
-fn there_are_two_thousand_rows_of_hedges_at_most(rt: HostRuntime) -> Result<(), Fail> {
-    let alloc = rt.alloc();
-    let hedges = many_hedges(alloc)?;
-    let limit = "limit hedges 2000\n";
-    assert!(rt; both_write(alloc, hedges.as_str(), SMALL, limit)?);
-    assert!(rt; same_writes(alloc, SMALL, hedges.as_str(), limit)?);
-    assert!(rt; include_shows(alloc, "element b{empty}", hedges.as_str(), "<b/>")?);
-    Ok(())
-}
-
-/// An element of so many names, all with one beginning.
-fn named(alloc: Global, front: &str, count: u32) -> Result<String, Fail> {
-    let mut text = String::from_str(alloc, "element (x")?;
-    for number in 0..count {
-        write!(text, "|{front}{number}")?;
-    }
-    text.push_str("){empty}")?;
-    Ok(text)
-}
-
-/// A schema of an `a` with one `b` and so many more: it has a state before and behind each `b`, and one of what stands in a `b`.
-fn many_b(alloc: Global, more: u32) -> Result<String, NoMemory> {
-    let rest = repeated(alloc, ",b", more)?;
-    joined(
-        alloc,
-        &[
-            "start = element a{b",
-            rest.as_str(),
-            "} b = element b{empty}",
-        ],
-    )
-}
-
-#[test]
-fn many_states_are_built(rt: HostRuntime) -> Result<(), Fail> {
-    let within = many_b(rt.alloc(), 509)?;
-    assert!(rt; same_writes(rt.alloc(), within.as_str(), within.as_str(), "same\n")?);
-    Ok(())
-}
-
-#[test]
-fn states_of_each_schema_are_limited(rt: HostRuntime) -> Result<(), Fail> {
-    let alloc = rt.alloc();
-    let states = many_b(alloc, 510)?;
-    let limit = "limit states 512\n";
-    assert!(rt; both_write(alloc, states.as_str(), SMALL, limit)?);
-    assert!(rt; both_write(alloc, SMALL, states.as_str(), limit)?);
-    Ok(())
-}
-
-/// A schema of an `a` or one of so many `b`, each an element of its own.
-fn many_elements(alloc: Global, count: u32) -> Result<String, NoMemory> {
-    let more = repeated(alloc, "|element b{empty}", count)?;
-    joined(alloc, &["start = element a{empty}", more.as_str()])
-}
-
-#[test]
-fn limits_are_tried_in_order(rt: HostRuntime) -> Result<(), Fail> {
-    let alloc = rt.alloc();
-    let states = many_b(alloc, 510)?;
-    let elements = many_elements(alloc, 256)?;
-    let limit = "limit elements 256\n";
-    assert!(rt; both_write(alloc, elements.as_str(), states.as_str(), limit)?);
-    let limit = "limit states 512\n";
-    assert!(rt; both_write(alloc, states.as_str(), elements.as_str(), limit)?);
-    Ok(())
-}
-
-#[test]
-fn symbols_of_both_schemas_are_limited(rt: HostRuntime) -> Result<(), Fail> {
-    let alloc = rt.alloc();
-    let one = named(alloc, "p", 600)?;
-    let other = named(alloc, "q", 600)?;
-    let limit = "limit symbols 1024\n";
-    assert!(rt; same_writes(alloc, one.as_str(), one.as_str(), "same\n")?);
-    assert!(rt; both_write(alloc, one.as_str(), other.as_str(), limit)?);
-    Ok(())
-}
-
-#[test]
-fn states_are_counted_before_symbols(rt: HostRuntime) -> Result<(), Fail> {
-    let alloc = rt.alloc();
-    let one = named(alloc, "p", 600)?;
-    let states = many_b(alloc, 510)?;
-    assert!(rt; include_writes(alloc, one.as_str(), states.as_str(), "limit states 512\n")?);
-    Ok(())
-}
-
-/// Two schemas, and what both commands write.
-static REFUSED: [(&str, &str, &str); 2] = [
-    ("start = b", "element a{", "refused A undefined at 8\n"),
-    (SMALL, "start = b", "refused B undefined at 8\n"),
-];
-
-#[test]
-fn texts_are_refused_in_order(rt: HostRuntime) -> Result<(), Fail> {
-    for (first, second, text) in &REFUSED {
-        assert!(rt; both_write(rt.alloc(), first, second, text)?, "{text}");
-    }
-    Ok(())
-}
-
-#[test]
-fn texts_are_refused_before_limits(rt: HostRuntime) -> Result<(), Fail> {
-    let alloc = rt.alloc();
-    let states = many_b(alloc, 510)?;
-    let text = "refused B bad-start at 0\n";
-    assert!(rt; both_write(alloc, states.as_str(), "start = empty", text)?);
     Ok(())
 }
 
@@ -544,9 +342,207 @@ static MISSING: [&[&str]; 2] = [&["include", "A", "C"], &["same", "A", "C"]];
 
 #[test]
 fn operands_are_read_before_texts(rt: HostRuntime) -> Result<(), Fail> {
-    let (first, missing) = ("start = b", "cannot read C\n");
     for words in &MISSING {
-        assert!(rt; answers(rt.alloc(), words, first, SMALL, Status::ReadFault, missing)?);
+        assert!(rt;
+            writes(rt.alloc(), words, "start = b", SMALL, "cannot read C\n")?,
+            "{words:?}"
+        );
     }
+    Ok(())
+}
+
+/// Commands, the parts of two schemas, and what each of the commands writes.
+type Large<'t> = (&'t [&'t [&'t str]], Text<'t>, Text<'t>, &'t str);
+
+const BOTH: &[&[&str]] = &[INCLUDE, SAME];
+
+const NOTHING: Text<'static> = &[Once("start = notAllowed")];
+
+const Z: Text<'static> = &[Once(SMALL)];
+
+/// As many element patterns that trees match by their names as such that they match by what stands in them: each pair of one of
+/// both is a row.
+const PAIRS_OF_45: Text<'static> = &[
+    Once("start = notAllowed"),
+    Each("|n#|p#", 0, 44),
+    Once("\nk = element *{empty}\n"),
+    Each(
+        "n# = element n#{k}\np# = element *{element k#{empty}}\n",
+        0,
+        44,
+    ),
+];
+
+const PAIRS_OF_40: Text<'static> = &[
+    Once("start = notAllowed"),
+    Each("|n#|p#", 0, 39),
+    Once("\nk = element *{empty}\n"),
+    Each(
+        "n# = element n#{k}\np# = element *{element k#{empty}}\n",
+        0,
+        39,
+    ),
+];
+
+/// Rows tell which of the last eleven children are an `x`.
+const HEDGES: Text<'static> = &[
+    Once("start = element a{(x|y)*,x"),
+    Times(",(x|y)", 10),
+    Once("} x = element x{empty} y = element y{empty}"),
+];
+
+/// An `a` with 510 `b`: it has a state before and behind each `b`, and one of what stands in a `b`.
+const STATES: Text<'static> = &[
+    Once("start = element a{b"),
+    Times(",b", 509),
+    Once("} b = element b{empty}"),
+];
+
+/// One `b` more.
+const MORE_STATES: Text<'static> = &[
+    Once("start = element a{b"),
+    Times(",b", 510),
+    Once("} b = element b{empty}"),
+];
+
+/// An `a` or one of 256 `b`, each an element of its own.
+const ELEMENTS: Text<'static> = &[
+    Once("start = element a{empty}"),
+    Times("|element b{empty}", 256),
+];
+
+/// An element of 601 names.
+const P_NAMES: Text<'static> = &[Once("element (x"), Each("|p#", 0, 599), Once("){empty}")];
+
+const Q_NAMES: Text<'static> = &[Once("element (x"), Each("|q#", 0, 599), Once("){empty}")];
+
+/// How many nodes a document has at most, and that one of fewer nodes is shown.
+static NODES: [Large<'static>; 6] = [
+    // a document has two thousand nodes at most
+    (
+        BOTH,
+        OF_ELEVEN_LEVELS,
+        NOTHING,
+        "limit counterexample 2000\n",
+    ),
+    (
+        &[SAME],
+        NOTHING,
+        OF_ELEVEN_LEVELS,
+        "limit counterexample 2000\n",
+    ),
+    // a document of fewer nodes is shown
+    (&[SAME], Z, OF_ELEVEN_LEVELS, "different\nfirst-only <z/>\n"),
+    (
+        &[SAME],
+        OF_ELEVEN_LEVELS,
+        Z,
+        "different\nsecond-only <z/>\n",
+    ),
+    (&[SAME], Z, OF_TEN_LEVELS, "different\nfirst-only <z/>\n"),
+    (&[SAME], OF_TEN_LEVELS, Z, "different\nsecond-only <z/>\n"),
+];
+
+/// How many rows there are at most.
+static ROWS: [Large<'static>; 6] = [
+    // of trees
+    (BOTH, PAIRS_OF_45, Z, "limit trees 2000\n"),
+    (&[SAME], Z, PAIRS_OF_45, "limit trees 2000\n"),
+    (
+        &[INCLUDE],
+        PAIRS_OF_40,
+        PAIRS_OF_40,
+        "included trees 1721 hedges 42\n",
+    ),
+    // of hedges; live trees are those of the first schema alone
+    (BOTH, HEDGES, Z, "limit hedges 2000\n"),
+    (&[SAME], Z, HEDGES, "limit hedges 2000\n"),
+    (
+        &[INCLUDE],
+        &[Once(B)],
+        HEDGES,
+        "not-included\ndocument <b/>\n",
+    ),
+];
+
+/// How many states, elements and symbols schemas have at most.
+static SCHEMAS: [Large<'static>; 9] = [
+    // states of each schema
+    (&[SAME], STATES, STATES, "same\n"),
+    (BOTH, MORE_STATES, Z, "limit states 512\n"),
+    (BOTH, Z, MORE_STATES, "limit states 512\n"),
+    // limits are tried in order
+    (BOTH, ELEMENTS, MORE_STATES, "limit elements 256\n"),
+    (BOTH, MORE_STATES, ELEMENTS, "limit states 512\n"),
+    // symbols of both schemas; states are counted before
+    (&[SAME], P_NAMES, P_NAMES, "same\n"),
+    (BOTH, P_NAMES, Q_NAMES, "limit symbols 1024\n"),
+    (&[INCLUDE], P_NAMES, MORE_STATES, "limit states 512\n"),
+    // texts are refused before
+    (
+        BOTH,
+        MORE_STATES,
+        &[Once("start = empty")],
+        "refused B bad-start at 0\n",
+    ),
+];
+
+/// Whether each of these commands writes this text.
+fn all_write(
+    alloc: Global,
+    commands: &[&[&str]],
+    first: &str,
+    second: &str,
+    text: &str,
+) -> Result<bool, NoMemory> {
+    for words in commands {
+        if !writes(alloc, words, first, second, text)? {
+            return Ok(false);
+        }
+    }
+    Ok(true)
+}
+
+/// Whether large schemas are answered so.
+fn large_writes(alloc: Global, large: &Large<'_>) -> Result<bool, Fail> {
+    let (commands, first, second, text) = large;
+    let first = text_of(alloc, first)?;
+    let second = text_of(alloc, second)?;
+    let all = all_write(alloc, commands, first.as_str(), second.as_str(), text)?;
+    Ok(all)
+}
+
+/// Asserts of each pair of large schemas what is written.
+fn assert_large(rt: &impl Abort, alloc: Global, all: &[Large<'_>]) -> Result<(), Fail> {
+    let mut number = 0u32;
+    for large in all {
+        let text = large.3;
+        assert!(rt; large_writes(alloc, large)?, "{number} {text}");
+        number = number.saturating_add(1);
+    }
+    Ok(())
+}
+
+#[test]
+fn documents_have_two_thousand_nodes_at_most(rt: HostRuntime) -> Result<(), Fail> {
+    assert_large(&rt, rt.alloc(), &NODES)
+}
+
+#[test]
+fn there_are_two_thousand_rows_at_most(rt: HostRuntime) -> Result<(), Fail> {
+    assert_large(&rt, rt.alloc(), &ROWS)
+}
+
+#[test]
+fn states_elements_and_symbols_are_limited(rt: HostRuntime) -> Result<(), Fail> {
+    assert_large(&rt, rt.alloc(), &SCHEMAS)
+}
+
+#[test]
+fn a_document_of_many_nodes_is_shown(rt: HostRuntime) -> Result<(), Fail> {
+    let schema = text_of(rt.alloc(), OF_TEN_LEVELS)?;
+    let document = ten_levels(rt.alloc())?;
+    let nothing = "start = notAllowed";
+    assert!(rt; tells_apart(rt.alloc(), schema.as_str(), nothing, document.as_str())?);
     Ok(())
 }

@@ -1,18 +1,9 @@
 //! States, edges and runs of small schemas, by hand.
-ghost use Rattle.std.specs.Prelude.{◌≤◌};
-ghost use Rattle.tc_auto.specs.Stands.{patterns};
-
 use std::alloc::Global;
 use std::process::Abort;
 use std::test::Fail;
 use tc_auto::{Auto, AutoFault, Edge, Leaf};
 use tc_model::{ElemPat, Grammar, Name, NameClass, Pat};
-
-/// An element pattern of one name, without a namespace.
-fn one<'b>(local: &'b str, content: Pat<'b>) -> ElemPat<'b> {
-    let names = NameClass::Name(Name { uri: "", local });
-    ElemPat { names, content }
-}
 
 const A: Name<'static> = Name {
     uri: "",
@@ -112,25 +103,26 @@ fn assert_state(
     edge: Option<Edge>,
 ) {
     assert!(rt; state < auto.states(), "{state}");
-    assert_eq!(rt; auto.accepts(state), is_accepting, "{state}");
-    assert_eq!(rt; auto.follow(state).first().copied(), edge, "{state}");
+    assert!(rt; auto.accepts(state) == is_accepting, "{state}");
+    assert!(rt; auto.follow(state).first().copied() == edge, "{state}");
 }
 
 /// The edges of one state after another, and which states accept.
 #[test]
 fn numbers_the_states_of_a_group(rt: HostRuntime) -> Result<(), Fail> {
     let auto = Auto::of(rt.alloc(), &GROUP, 5)?;
-    assert_eq!(rt; auto.states(), 5);
-    assert_eq!(rt; auto.patterns(), 1);
-    assert_eq!(rt; auto.first(0), 0);
-    assert_eq!(rt; auto.first(1), 2);
+    assert!(rt; auto.states() == 5);
+    assert!(rt; auto.patterns() == 1);
+    assert!(rt; auto.first(0) == 0);
+    assert!(rt; auto.first(1) == 2);
     for (state, is_accepting, edge) in &GROUP_STATES {
         assert_state(&rt, &auto, *state, *is_accepting, *edge);
     }
     Ok(())
 }
 
-static INTERLEAVED: Grammar<'static> = Grammar {
+/// `element a { element b { empty } & element c { empty } }`.
+const INTERLEAVED: Grammar<'static> = Grammar {
     start: Pat::Ref(1),
     elements: &INTERLEAVED_ELEMENTS,
 };
@@ -156,13 +148,54 @@ const TO_B: Leaf = Leaf::Ref(2);
 
 const TO_C: Leaf = Leaf::Ref(3);
 
+/// `element b { (b, b)* }`, without a start.
+const PAIRS: Grammar<'static> = Grammar {
+    start: Pat::NotAllowed,
+    elements: &PAIRS_ELEMENTS,
+};
+
+const PAIRS_ELEMENTS: [ElemPat<'static>; 1] = [ElemPat {
+    names: NameClass::Name(B),
+    content: Pat::Choice(&PAIRS_MEMBERS),
+}];
+
+const PAIRS_MEMBERS: [Pat<'static>; 2] = [Pat::OneOrMore(&Pat::Group(&PAIR)), Pat::Empty];
+
+const PAIR: [Pat<'static>; 2] = [Pat::Ref(1), Pat::Ref(1)];
+
+const TO_ITSELF: Leaf = Leaf::Ref(1);
+
 /// Items of a part, and whether they lead from its first state to an accepting one.
-static INTERLEAVED_RUNS: [(u32, &[Leaf], bool); 5] = [
-    (1, &[TO_B, TO_C], true),
-    (1, &[TO_C, TO_B], true),
-    (1, &[TO_B], false),
-    (1, &[TO_B, TO_B], false),
-    (2, &[], true),
+type Runs = &'static [(u32, &'static [Leaf], bool)];
+
+/// Schemas, how many states their contents have, and what leads from the first state of a content to an accepting one.
+static CONTENTS: [(&Grammar<'static>, u32, Runs); 2] = [
+    // An interleave takes both in any order, and neither alone.
+    (
+        &INTERLEAVED,
+        6,
+        &[
+            (1, &[TO_B, TO_C], true),
+            (1, &[TO_C, TO_B], true),
+            (1, &[TO_B], false),
+            (1, &[TO_B, TO_B], false),
+            (2, &[], true),
+        ],
+    ),
+    // Pairs again and again are an even number.
+    (
+        &PAIRS,
+        3,
+        &[
+            (1, &[], true),
+            (1, &[TO_ITSELF; 1], false),
+            (1, &[TO_ITSELF; 2], true),
+            (1, &[TO_ITSELF; 3], false),
+            (1, &[TO_ITSELF; 4], true),
+            (1, &[TO_ITSELF; 5], false),
+            (1, &[TO_ITSELF; 6], true),
+        ],
+    ),
 ];
 
 /// Asserts of items of parts whether they lead so.
@@ -173,45 +206,18 @@ fn assert_runs(
     all: &[(u32, &[Leaf], bool)],
 ) -> Result<(), Fail> {
     for (part, items, is_led) in all {
-        assert_eq!(rt;
-            runs(alloc, auto, *part, items)?,
-            *is_led,
-            "{part} {items:?}"
-        );
+        let found = runs(alloc, auto, *part, items)?;
+        assert!(rt; found == *is_led, "{part} {items:?}");
     }
     Ok(())
 }
 
-/// `element a { element b { empty } & element c { empty } }`: in any order, and neither alone.
 #[test]
-fn takes_an_interleave_in_any_order(rt: HostRuntime) -> Result<(), Fail> {
-    let auto = Auto::contents(rt.alloc(), &INTERLEAVED, 6)?;
-    assert_eq!(rt; auto.states(), 6);
-    assert_runs(&rt, rt.alloc(), &auto, &INTERLEAVED_RUNS)
-}
-
-/// The contents of element patterns without a start.
-fn contents_alone<'b>(alloc: Global, elements: &'b [ElemPat<'b>]) -> Result<Auto<'b>, AutoFault> {
-    let start = Pat::NotAllowed;
-    Auto::contents(alloc, &Grammar { start, elements }, 3)
-}
-
-/// Whether `(b, b)*`, made of `(b, b)`, takes so many.
-fn takes<'b>(alloc: Global, pairs: &'b Pat<'b>, items: &[Leaf]) -> Result<bool, Fail> {
-    let members = [Pat::OneOrMore(pairs), Pat::Empty];
-    let elements = [one("b", Pat::Choice(&members))];
-    let auto = contents_alone(alloc, &elements)?;
-    runs(alloc, &auto, 1, items)
-}
-
-/// `(b, b)*`: an even number.
-#[test]
-fn takes_pairs_again_and_again(rt: HostRuntime) -> Result<(), Fail> {
-    let pair = [Pat::Ref(1), Pat::Ref(1)];
-    let pairs = Pat::Group(&pair);
-    let b = [Leaf::Ref(1); 6];
-    for count in 0..7usize {
-        assert_eq!(rt; takes(rt.alloc(), &pairs, &b[..count])?, count % 2 == 0);
+fn contents_take_what_is_told(rt: HostRuntime) -> Result<(), Fail> {
+    for (grammar, states, all) in &CONTENTS {
+        let auto = Auto::contents(rt.alloc(), grammar, *states)?;
+        assert!(rt; auto.states() == *states);
+        assert_runs(&rt, rt.alloc(), &auto, all)?;
     }
     Ok(())
 }
@@ -257,15 +263,18 @@ const WIDE_ELEMENTS: [ElemPat<'static>; 1] = [ElemPat {
 
 const WIDE_MEMBERS: [Pat<'static>; 70] = [Pat::Ref(1); 70];
 
-/// How many states a schema has, up to so many.
-fn states_of(alloc: Global, grammar: &Grammar<'_>, most: u32) -> Result<u32, AutoFault> {
-    let auto = Auto::of(alloc, grammar, most)?;
-    Ok(auto.states())
-}
-
-/// How many states the contents of its element patterns have.
-fn states_of_contents(alloc: Global, grammar: &Grammar<'_>, most: u32) -> Result<u32, AutoFault> {
-    let auto = Auto::contents(alloc, grammar, most)?;
+/// How many states a schema has, up to so many, or the contents of its element patterns alone.
+fn states_of(
+    alloc: Global,
+    grammar: &Grammar<'_>,
+    most: u32,
+    has_start: bool,
+) -> Result<u32, AutoFault> {
+    let auto = if has_start {
+        Auto::of(alloc, grammar, most)?
+    } else {
+        Auto::contents(alloc, grammar, most)?
+    };
     Ok(auto.states())
 }
 
@@ -274,10 +283,10 @@ fn states_of_contents(alloc: Global, grammar: &Grammar<'_>, most: u32) -> Result
 fn counts_states_before_it_builds(rt: HostRuntime) {
     let alloc = rt.alloc();
     let refused = Err(AutoFault::TooManyStates);
-    assert_eq!(rt; states_of(alloc, &LARGE, 263), refused);
-    assert_eq!(rt; states_of(alloc, &LARGE, 264), Ok(264));
-    assert_eq!(rt; states_of_contents(alloc, &LARGE, 262), Ok(262));
-    assert_eq!(rt; states_of(alloc, &WIDE, 4_294_967_295), refused);
+    assert!(rt; states_of(alloc, &LARGE, 263, true) == refused);
+    assert!(rt; states_of(alloc, &LARGE, 264, true) == Ok(264));
+    assert!(rt; states_of(alloc, &LARGE, 262, false) == Ok(262));
+    assert!(rt; states_of(alloc, &WIDE, 4_294_967_295, true) == refused);
 }
 
 const A_OF_U: Name<'static> = Name {
@@ -331,27 +340,19 @@ static NAMED_ALLOWED: [(u32, [bool; 3]); 3] = [
     (3, [false, true, true]),
 ];
 
-/// Which of them an element pattern allows.
-fn allowed(auto: &Auto<'_>, number: u32) -> [bool; 3]
-    requires from_one { 1 ≤ number }
-    requires within { number ≤ patterns auto.now }
-{
-    [
-        auto.allows(number, &A_OF_U),
-        auto.allows(number, &B_OF_U),
-        auto.allows(number, &A_OF_V),
-    ]
-}
-
 /// Wildcards with exceptions, and alternatives of the start in a choice within a choice.
 #[test]
 fn tells_names_and_alternatives(rt: HostRuntime) -> Result<(), Fail> {
     let auto = Auto::contents(rt.alloc(), &NAMED, 3)?;
-    assert_eq!(rt; auto.patterns(), 3);
+    assert!(rt; auto.patterns() == 3);
     for (number, expected) in &NAMED_ALLOWED {
-        if 1 <= *number && *number <= auto.patterns() {
-            assert_eq!(rt; allowed(&auto, *number), *expected, "{number}");
-        }
+        assert!(rt; 1 <= *number && *number <= auto.patterns());
+        let allowed = [
+            auto.allows(*number, &A_OF_U),
+            auto.allows(*number, &B_OF_U),
+            auto.allows(*number, &A_OF_V),
+        ];
+        assert!(rt; allowed == *expected, "{number}");
     }
     assert!(rt; auto.starts(1) && !auto.starts(2) && auto.starts(3));
     Ok(())

@@ -1,4 +1,4 @@
-//! The tests of symbols, automata, matrices and sets, validity, path states, runs and rows, by public calls alone.
+//! The tests of symbols, automata, matrices and sets, validity, path states, runs, rows and their closure, by public calls alone.
 #![tactic(auto)]
 
 #[cfg(test)]
@@ -17,6 +17,8 @@ mod rows;
 mod runs;
 #[cfg(test)]
 mod sets;
+#[cfg(test)]
+mod settling;
 #[cfg(test)]
 mod symbols;
 #[cfg(test)]

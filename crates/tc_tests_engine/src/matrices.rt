@@ -24,54 +24,23 @@ fn matrix_of(alloc: Global, seed: u32, n: u32) -> Result<Mat, Fail> {
     Ok(mat)
 }
 
-/// The pairs of a rule, as truth values.
-fn table_of(alloc: Global, seed: u32, n: u32) -> Result<Vec<Vec<bool>>, Fail> {
-    let mut table = Vec::new(alloc);
-    for i in 0..n {
-        let mut row = Vec::new(alloc);
-        for j in 0..n {
-            row.push(is_pair(seed, i, j))?;
-        }
-        table.push(row)?;
-    }
-    Ok(table)
-}
-
-fn holds(table: &[Vec<bool>], i: usize, j: usize) -> bool {
-    match table.get(i) {
-        Some(row) => row.get(j).copied() == Some(true),
-        None => false,
-    }
-}
-
-/// Whether two tables lead from i to j, by trying each number between.
-fn leads(a: &[Vec<bool>], b: &[Vec<bool>], i: usize, j: usize) -> bool {
-    for k in 0..a.len() {
-        if holds(a, i, k) && holds(b, k, j) {
+/// Whether the pairs of two rules lead from i to j, by trying each number between.
+fn leads(left: u32, right: u32, n: u32, i: u32, j: u32) -> bool {
+    for k in 0..n {
+        if is_pair(left, i, k) && is_pair(right, k, j) {
             return true;
         }
     }
     false
 }
 
-fn has(mat: &Mat, i: u32, j: u32) -> bool {
-    i < mat.size() && j < mat.size() && mat.has(i, j)
-}
-
-fn multiply(a: &Mat, b: &Mat, out: &mut Mat) -> bool {
-    let fits = a.size() == out.size() && b.size() == out.size();
-    if fits {
-        Mat::mul_into(a, b, out);
-    }
-    fits
-}
-
-/// Asserts of each pair of numbers up to a size whether the product has it.
-fn assert_pairs(rt: &impl Abort, product: &Mat, a: &[Vec<bool>], b: &[Vec<bool>], n: u32) {
+/// Asserts that a matrix has the pairs of the product of two rules' pairs.
+fn assert_pairs(rt: &impl Abort, product: &Mat, left: u32, right: u32, n: u32) {
+    assert!(rt; product.size() == n, "size {n}");
     for i in 0..n {
         for j in 0..n {
-            let plain = leads(a, b, i as usize, j as usize);
-            assert_eq!(rt; has(product, i, j), plain, "size {n}, pair {i} {j}");
+            let plain = leads(left, right, n, i, j);
+            assert!(rt; product.has(i, j) == plain, "size {n}, pair {i} {j}");
         }
     }
 }
@@ -81,23 +50,9 @@ fn product_of(rt: &impl Abort, alloc: Global, left: u32, right: u32, n: u32) -> 
     let a = matrix_of(alloc, left, n)?;
     let b = matrix_of(alloc, right, n)?;
     let mut out = matrix_of(alloc, 6, n)?;
-    assert!(rt; multiply(&a, &b, &mut out), "sizes");
+    assert!(rt; a.size() == out.size() && b.size() == out.size(), "sizes");
+    Mat::mul_into(&a, &b, &mut out);
     Ok(out)
-}
-
-/// Asserts that the product of two rules' pairs is the plain one.
-fn assert_product(
-    rt: &impl Abort,
-    alloc: Global,
-    left: u32,
-    right: u32,
-    n: u32,
-) -> Result<(), Fail> {
-    let product = product_of(rt, alloc, left, right, n)?;
-    let a = table_of(alloc, left, n)?;
-    let b = table_of(alloc, right, n)?;
-    assert_pairs(rt, &product, &a, &b, n);
-    Ok(())
 }
 
 /// Sizes beside a word's border, a full left and one whose blocks on the diagonal are zero, over what `out` held.
@@ -105,7 +60,8 @@ fn assert_product(
 fn product_is_the_plain_one(rt: HostRuntime) -> Result<(), Fail> {
     for n in [1, 63, 64, 65, 130] {
         for (left, right) in [(0, 2), (1, 4)] {
-            assert_product(&rt, rt.alloc(), left, right, n)?;
+            let product = product_of(&rt, rt.alloc(), left, right, n)?;
+            assert_pairs(&rt, &product, left, right, n);
         }
     }
     Ok(())
@@ -122,22 +78,25 @@ fn identity_with_two(alloc: Global) -> Result<Mat, Fail> {
     Ok(mat)
 }
 
-/// Two words a row at size 65: (0, 64) is in the second word of row 0, (64, 64) in the last word.
+/// Places of words, and the words there: two words a row at size 65, so that (0, 64) is in the second word of row 0, (64, 64) in
+/// the last word.
+static WORDS: [(usize, u64); 7] = [
+    (0, 1),
+    (1, 1),
+    (2, 2 + (1u64 << 63)),
+    (3, 0),
+    (4, 4),
+    (128, 0),
+    (129, 1),
+];
+
 #[test]
 fn bits_stand_at_their_places(rt: HostRuntime) -> Result<(), Fail> {
     let mat = identity_with_two(rt.alloc())?;
     let words = mat.words();
-    assert_eq!(rt; words.len(), 130);
-    for (at, word) in [
-        (0, 1),
-        (1, 1),
-        (2, 2 + (1u64 << 63)),
-        (3, 0),
-        (4, 4),
-        (128, 0),
-        (129, 1),
-    ] {
-        assert_eq!(rt; words.get(at).copied(), Some(word), "word {at}");
+    assert!(rt; words.len() == 130);
+    for (at, word) in &WORDS {
+        assert!(rt; words.get(*at).copied() == Some(*word), "word {at}");
     }
     Ok(())
 }
@@ -165,10 +124,10 @@ fn number_of(pool: &mut Pool, mat: &Mat) -> Option<MatId> {
 /// Asserts of the numbers of three matrices, put one after another into a pool.
 fn assert_numbers(rt: &impl Abort, pool: &mut Pool, first: &Mat, second: &Mat, third: &Mat) {
     for (mat, number) in [(first, 0), (second, 1), (first, 0), (third, 2), (second, 1)] {
-        assert_eq!(rt; number_of(pool, mat), Some(MatId(number)), "{number}");
+        assert!(rt; number_of(pool, mat) == Some(MatId(number)), "{number}");
     }
-    assert_eq!(rt; pool.len(), 3);
-    assert_eq!(rt; pool.find(second), Some(MatId(1)));
+    assert!(rt; pool.len() == 3);
+    assert!(rt; pool.find(second) == Some(MatId(1)));
     if pool.len() == 3 {
         assert!(rt; *pool.get(MatId(2)) == *third);
     }
@@ -189,6 +148,6 @@ fn pool_numbers_in_order(rt: HostRuntime) -> Result<(), Fail> {
     let mut pool = Pool::new(rt.alloc(), 65);
     assert_pool(&rt, rt.alloc(), &mut pool)?;
     let other = Mat::zero(rt.alloc(), 65)?;
-    assert_eq!(rt; pool.find(&other), None);
+    assert!(rt; pool.find(&other).is_none());
     Ok(())
 }

@@ -13,7 +13,7 @@ use tc_model::{Grammar, Pat, Sheet};
 use tc_rules::{Found, Job, Kind, Marks, Rules};
 
 /// A stylesheet of one mode without rules.
-fn no_rules<'b>() -> Sheet<'b>
+pub(crate) fn no_rules<'b>() -> Sheet<'b>
     ensures sheet { IsSheet (see.sheet result) }
     ensures modes { (see.sheet result).modes ≡ 1 }
 {
@@ -49,26 +49,21 @@ fn assert_built_in(rt: &impl Abort, rules: &Rules<'_>)
     requires modes { (told rules.now).sheet.modes ≡ 1 }
     requires rules { (symbols : List Mention) × IsRulesOf symbols rules.now }
 {
-    assert_eq!(rt; rules.sheet().modes, 1);
-    assert_eq!(rt; rules.predicates(), 0);
-    let root = rules.root_rule(0);
-    assert_eq!(rt; root, Found::BuiltIn);
+    assert!(rt; rules.sheet().modes == 1 && rules.predicates() == 0);
     let ancestors = rules.ancestors();
-    assert_eq!(rt; ancestors, 1);
+    assert!(rt; ancestors == 1);
+    let root = rules.root_rule(0);
     let rule = rules.rule_for(0, 0, Kind::Text, Marks(0));
-    assert_eq!(rt; rule, Found::BuiltIn);
+    assert!(rt; root == Found::BuiltIn && rule == Found::BuiltIn);
     let below = rules.anc_step(0, Sym(0), Marks(0));
-    assert_eq!(rt; below, 0);
     let looks = rules.looks();
-    assert_eq!(rt; looks, 0);
+    assert!(rt; looks == 0);
     let moves = rules.moves();
-    assert_eq!(rt; moves, 1);
+    assert!(rt; moves == 1);
     let next = rules.sel_step(0, Sym(0), Marks(0));
-    assert_eq!(rt; next, None);
+    assert!(rt; below == 0 && next.is_none());
     let hit = rules.sel_hits(0, Kind::Text, Marks(0));
-    assert!(rt; hit);
-    let job = rules.mode_of(0);
-    assert_eq!(rt; job, Job::Mode(0));
+    assert!(rt; hit && rules.mode_of(0) == Job::Mode(0));
 }
 
 /// Built-in rules alone: one ancestor state, without items, and one select state, of the move to all children.

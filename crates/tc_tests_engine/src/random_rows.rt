@@ -26,7 +26,7 @@ const TRIPLES: u32 = 50;
 const STEPS: u32 = 24;
 
 /// What is told of a tree.
-#[derive(Clone, Copy, Debug, PartialEq, Eq)]
+#[derive(Clone, Copy, PartialEq, Eq)]
 enum Told {
     /// It matches no element pattern of the input.
     Dead,
@@ -34,7 +34,8 @@ enum Told {
     Live { is_valid: bool, is_fit: bool },
 }
 
-/// How often what was told.
+/// How often what was told of elements, and how many triples have valid documents all of whose results are valid, or one whose
+/// result isn't.
 #[derive(Clone, Copy)]
 struct Tally {
     /// What a row tells isn't so.
@@ -43,6 +44,8 @@ struct Tally {
     invalid: u32,
     fit: u32,
     unfit: u32,
+    safe: u32,
+    not_safe: u32,
 }
 
 impl Tally {
@@ -53,6 +56,8 @@ impl Tally {
             invalid: 0,
             fit: 0,
             unfit: 0,
+            safe: 0,
+            not_safe: 0,
         }
     }
 
@@ -70,15 +75,6 @@ impl Tally {
             Told::Live { is_fit: true, .. } => self.fit = self.fit.saturating_add(1),
             Told::Live { .. } => self.unfit = self.unfit.saturating_add(1),
         }
-    }
-
-    /// Adds what was counted elsewhere.
-    fn add(&mut self, other: Tally) {
-        self.wrong = self.wrong.saturating_add(other.wrong);
-        self.dead = self.dead.saturating_add(other.dead);
-        self.invalid = self.invalid.saturating_add(other.invalid);
-        self.fit = self.fit.saturating_add(other.fit);
-        self.unfit = self.unfit.saturating_add(other.unfit);
     }
 }
 
@@ -284,7 +280,7 @@ fn told_of_step<'b>(
 }
 
 /// Does random steps, and counts what is told of the elements that they make.
-fn told_of_steps<'b>(
+fn tell_of_steps<'b>(
     alloc: Global,
     arena: &'b Bump,
     dice: &mut Dice,
@@ -294,11 +290,11 @@ fn told_of_steps<'b>(
     hedges: &mut Vec<HRow>,
     trees: &mut Vec<TRow>,
     texts: &mut Texts,
-) -> Result<Tally, Fail>
+    tally: &mut Tally,
+) -> Result<(), Fail>
     requires machine { IsMachine machine.now }
     requires kept { AreKept rows.old hedges.old.items trees.old.items }
 {
-    let mut tally = Tally::new();
     for _ in 0..STEPS {
         let told = told_of_step(
             alloc, arena, dice, machine, schemas, rows, hedges, trees, texts,
@@ -307,17 +303,18 @@ fn told_of_steps<'b>(
             tally.count(by_row, by_definition);
         }
     }
-    Ok(tally)
+    Ok(())
 }
 
 /// The same over a machine.
-fn told_over<'b>(
+fn tell_over<'b>(
     alloc: Global,
     arena: &'b Bump,
     dice: &mut Dice,
     machine: &Machine<'b>,
     schemas: &Schemas<'_>,
-) -> Result<Tally, Fail>
+    tally: &mut Tally,
+) -> Result<(), Fail>
     requires { IsMachine machine.now }
 {
     let mut rows = Rows::new(alloc, machine)?;
@@ -328,7 +325,7 @@ fn told_over<'b>(
         trees: Vec::new(alloc),
     };
     keep_first(alloc, &mut rows, &mut hedges, &mut trees, &mut texts)?;
-    told_of_steps(
+    tell_of_steps(
         alloc,
         arena,
         dice,
@@ -338,85 +335,58 @@ fn told_over<'b>(
         &mut hedges,
         &mut trees,
         &mut texts,
+        tally,
     )
 }
 
 /// The same over the machine of three texts.
-fn told_of_texts(alloc: Global, dice: &mut Dice, texts: &TripleTexts) -> Result<Tally, Fail> {
+fn tell_of_texts(
+    alloc: Global,
+    dice: &mut Dice,
+    texts: &TripleTexts,
+    tally: &mut Tally,
+) -> Result<(), Fail> {
     let arena = Bump::new(alloc);
     let input = texts.input.as_str();
     let output = texts.output.as_str();
     let machine = machine_of_texts(alloc, &arena, input, output, texts.sheet.as_str())?;
     let schemas = schemas_of(alloc, &arena, texts)?;
-    told_over(alloc, &arena, dice, &machine, &schemas)
-}
-
-/// The same of a random triple.
-fn told_of_one(alloc: Global, dice: &mut Dice) -> Result<Tally, Fail> {
-    let texts = random_texts(alloc, dice)?;
-    told_of_texts(alloc, dice, &texts)
-}
-
-/// What is told of elements over many triples, and how many of these have valid documents all of whose results are valid, or
-/// one whose result isn't.
-#[derive(Clone, Copy)]
-struct Seen {
-    all: Tally,
-    safe: u32,
-    not_safe: u32,
+    tell_over(alloc, &arena, dice, &machine, &schemas, tally)
 }
 
 /// The same over many random triples.
-fn told_of_many(alloc: Global, seed: u32) -> Result<Seen, Fail> {
+fn told_of_many(alloc: Global, seed: u32) -> Result<Tally, Fail> {
     let mut dice = Dice::new(seed);
-    let mut seen = Seen {
-        all: Tally::new(),
-        safe: 0,
-        not_safe: 0,
-    };
+    let mut tally = Tally::new();
     for _ in 0..TRIPLES {
-        let one = told_of_one(alloc, &mut dice)?;
-        if one.unfit > 0 {
-            seen.not_safe = seen.not_safe.saturating_add(1);
-        } else if one.fit > 0 {
-            seen.safe = seen.safe.saturating_add(1);
+        let (fit, unfit) = (tally.fit, tally.unfit);
+        let texts = random_texts(alloc, &mut dice)?;
+        tell_of_texts(alloc, &mut dice, &texts, &mut tally)?;
+        if tally.unfit > unfit {
+            tally.not_safe = tally.not_safe.saturating_add(1);
+        } else if tally.fit > fit {
+            tally.safe = tally.safe.saturating_add(1);
         }
-        seen.all.add(one);
     }
-    Ok(seen)
+    Ok(tally)
 }
 
 /// Whether each thing that can be told is told often.
-fn are_many(seen: Seen) -> bool {
-    let all = seen.all;
-    all.dead > 50
-        && all.invalid > 50
-        && all.fit > 50
-        && all.unfit > 50
-        && seen.safe > 10
-        && seen.not_safe > 10
+fn are_many(tally: Tally) -> bool {
+    tally.dead > 50
+        && tally.invalid > 50
+        && tally.fit > 50
+        && tally.unfit > 50
+        && tally.safe > 10
+        && tally.not_safe > 10
 }
 
 #[test]
-fn rows_of_fifty_triples_tell_what_is_so(rt: HostRuntime) -> Result<(), Fail> {
-    let seen = told_of_many(rt.alloc(), 1)?;
-    assert_eq!(rt; seen.all.wrong, 0);
-    assert!(rt; are_many(seen));
-    Ok(())
-}
-
-#[test]
-fn rows_of_fifty_others_do(rt: HostRuntime) -> Result<(), Fail> {
-    let seen = told_of_many(rt.alloc(), 2)?;
-    assert_eq!(rt; seen.all.wrong, 0);
-    assert!(rt; are_many(seen));
-    Ok(())
-}
-
-#[test]
-fn rows_of_fifty_more_do(rt: HostRuntime) -> Result<(), Fail> {
-    let seen = told_of_many(rt.alloc(), 3)?;
-    assert_eq!(rt; seen.all.wrong, 0);
-    assert!(rt; are_many(seen));
+fn rows_of_random_triples_tell_what_is_so(rt: HostRuntime) -> Result<(), Fail> {
+    for seed in [1, 2, 3] {
+        let tally = told_of_many(rt.alloc(), seed)?;
+        assert!(rt; tally.wrong == 0, "{seed}");
+        assert!(rt; are_many(tally), "{seed}");
+    }
     Ok(())
 }

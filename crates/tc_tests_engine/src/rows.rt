@@ -9,7 +9,7 @@ use std::alloc::Global;
 use std::process::Abort;
 use std::test::Fail;
 use tc_beh::{HRow, Machine, MachineFault, Rows, TRow};
-use tc_model::{Name, Pairs};
+use tc_model::{Name, PairLists};
 use tc_tests_triples::{NoMachine, machine_of_texts, sheet_text};
 
 /// Keeps the row of no tree.
@@ -141,30 +141,20 @@ fn keep_all(
     Ok(are_as_told)
 }
 
-/// Whether a kept row of a list of trees has these numbers.
-fn is_hedge(hedges: &[HRow], place: usize, numbers: &[u32]) -> bool {
+/// The numbers of a kept row of a list of trees, or none.
+fn numbers_of_hedge(hedges: &[HRow], place: usize) -> &[u32] {
     match hedges.get(place) {
-        Some(row) => row.numbers() == numbers,
-        None => false,
+        Some(row) => row.numbers(),
+        None => &[],
     }
 }
 
-/// Whether a kept row of a tree has these numbers.
-fn is_tree(trees: &[TRow], place: usize, numbers: &[u32]) -> bool {
+/// The numbers of a kept row of a tree, or none.
+fn numbers_of_tree(trees: &[TRow], place: usize) -> &[u32] {
     match trees.get(place) {
-        Some(row) => row.numbers() == numbers,
-        None => false,
+        Some(row) => row.numbers(),
+        None => &[],
     }
-}
-
-/// The last look of a kept row of a list of trees.
-fn last_of_hedge(hedges: &[HRow], place: usize) -> Option<u32> {
-    hedges.get(place)?.numbers().last().copied()
-}
-
-/// The last look of a kept row of a tree.
-fn last_of_tree(trees: &[TRow], place: usize) -> Option<u32> {
-    trees.get(place)?.numbers().last().copied()
 }
 
 /// Whether a document of a kept row is a valid input, and its result a valid output.
@@ -186,29 +176,24 @@ pub(crate) fn is_fine(
     }
 }
 
-/// Pairs, as a line of a certificate has them.
-fn put_pairs(text: &mut String, pairs: &Pairs) -> Result<(), Fail> {
-    for place in 0..pairs.len() {
-        let (from, to) = *pairs.get(place);
-        write!(text, " {from}>{to}")?;
+/// Sets of pairs, each behind a stroke, as a line of a certificate has them.
+fn put_outputs(text: &mut String, outputs: &PairLists) -> Result<(), Fail> {
+    for number in 0..outputs.len() {
+        text.push_str("|")?;
+        let pairs = outputs.get(number);
+        for place in 0..pairs.len() {
+            let (from, to) = *pairs.get(place);
+            write!(text, " {from}>{to}")?;
+        }
     }
     Ok(())
 }
 
-/// The sets that are held, each behind a stroke.
-fn outputs_text(alloc: Global, rows: &Rows<'_, '_>) -> Result<String, Fail> {
-    let outputs = rows.outputs(alloc)?;
-    let mut text = String::new(alloc);
-    for number in 0..outputs.len() {
-        text.push_str("|")?;
-        put_pairs(&mut text, outputs.get(number))?;
-    }
-    Ok(text)
-}
-
 /// Whether the sets that are held are these.
 fn are_outputs(alloc: Global, rows: &Rows<'_, '_>, text: &str) -> Result<bool, Fail> {
-    let held = outputs_text(alloc, rows)?;
+    let outputs = rows.outputs(alloc)?;
+    let mut held = String::new(alloc);
+    put_outputs(&mut held, &outputs)?;
     Ok(held.as_str() == text)
 }
 
@@ -227,6 +212,8 @@ enum Told {
     Document(usize, bool, bool),
     /// The sets that are held.
     Outputs(&'static str),
+    /// How many states the contents of the input have.
+    Inputs(u32),
 }
 
 /// Whether what is told of kept rows is so.
@@ -241,14 +228,19 @@ fn is_so(
     ensures { AreKept rows.new hedges.now.items trees.now.items }
 {
     match told {
-        Told::Hedge(place, numbers) => Ok(is_hedge(hedges, place, numbers)),
-        Told::Tree(place, numbers) => Ok(is_tree(trees, place, numbers)),
-        Told::LastOfHedge(place, look) => Ok(last_of_hedge(hedges, place) == Some(look)),
-        Told::LastOfTree(place, look) => Ok(last_of_tree(trees, place) == Some(look)),
+        Told::Hedge(place, numbers) => Ok(numbers_of_hedge(hedges, place) == numbers),
+        Told::Tree(place, numbers) => Ok(numbers_of_tree(trees, place) == numbers),
+        Told::LastOfHedge(place, look) => Ok(
+            numbers_of_hedge(hedges, place).last().copied() == Some(look),
+        ),
+        Told::LastOfTree(place, look) => Ok(
+            numbers_of_tree(trees, place).last().copied() == Some(look),
+        ),
         Told::Document(place, is_valid, is_fit) => {
             Ok(is_fine(rows, hedges, trees, place) == (is_valid, is_fit))
         }
         Told::Outputs(text) => are_outputs(alloc, rows, text),
+        Told::Inputs(count) => Ok(rows.machine().shape().inputs == count),
     }
 }
 
@@ -259,42 +251,123 @@ fn assert_told(
     rows: &mut Rows<'_, '_>,
     hedges: &Vec<HRow>,
     trees: &Vec<TRow>,
+    title: &str,
     all: &[(&str, Told)],
 ) -> Result<(), Fail>
     requires { AreKept rows.old hedges.now.items trees.now.items }
 {
     for (name, told) in all {
-        assert!(rt; is_so(alloc, rows, hedges, trees, *told)?, "{name}");
+        let is_so = is_so(alloc, rows, hedges, trees, *told)?;
+        assert!(rt; is_so, "{title}: {name}");
     }
     Ok(())
 }
 
-/// Asserts of steps over a machine which of their rows are live, and what is told of those that are kept.
+/// Asserts of a triple's steps over its machine which of their rows are live, and what is told of those that are kept.
 fn assert_rows(
     rt: &impl Abort,
     alloc: Global,
     machine: &Machine<'_>,
-    steps: &[(Step, bool)],
-    all: &[(&str, Told)],
+    triple: &Triple,
 ) -> Result<(), Fail>
     requires { IsMachine machine.now }
 {
     let mut rows = Rows::new(alloc, machine)?;
     let mut hedges = Vec::new(alloc);
     let mut trees = Vec::new(alloc);
-    assert!(rt;
-        keep_all(alloc, &mut rows, &mut hedges, &mut trees, steps)?,
-        "steps"
-    );
-    assert_told(rt, alloc, &mut rows, &hedges, &trees, all)
+    let are_live = keep_all(alloc, &mut rows, &mut hedges, &mut trees, triple.steps)?;
+    assert!(rt; are_live, "{}: steps", triple.title);
+    assert_told(
+        rt,
+        alloc,
+        &mut rows,
+        &hedges,
+        &trees,
+        triple.title,
+        triple.told,
+    )
 }
 
-/// The texts of two schemas, and the rules of a stylesheet.
+/// The texts of two schemas and the rules of a stylesheet; steps over their machine, whether the row of each is live, and what is
+/// told of the rows that are kept.
 struct Triple {
+    title: &'static str,
     input: &'static str,
     output: &'static str,
     rules: &'static str,
+    steps: &'static [(Step, bool)],
+    told: &'static [(&'static str, Told)],
 }
+
+static TRIPLES: [Triple; 4] = [
+    // Of a list of elements one is put out for each: the rows in the order in which they are found.
+    Triple {
+        title: "lists",
+        input: "element a{element b{empty}*}",
+        output: "element r{element x{empty}*}",
+        rules: "<xsl:template match=\"/\"><r><xsl:apply-templates select=\"a/b\"/></r></xsl:template><xsl:template match=\"b\"><x/></xsl:template>",
+        steps: &[
+            (Step::Empty, true),
+            (Step::Wrap("b", 0), true),
+            (Step::Append(0, 0), true),
+            (Step::Wrap("a", 0), true),
+            (Step::Wrap("a", 1), true),
+            (Step::Append(0, 1), false),
+        ],
+        told: &[
+            ("no tree", Told::Hedge(0, &[0, 0, 1, 0, 1, 0, 0, 0])),
+            ("<b/>", Told::Tree(0, &[0, 0, 0, 1, 1, 0, 1])),
+            (
+                "<b/> behind no tree",
+                Told::Hedge(1, &[0, 0, 0, 1, 0, 1, 0, 1]),
+            ),
+            ("<a/>", Told::Tree(1, &[0, 0, 1, 0, 0, 0, 0])),
+            ("<a><b/></a>", Told::Tree(2, &[0, 0, 1, 0, 1, 1, 0])),
+            ("a document of <b/>", Told::Document(0, false, true)),
+            ("a document of <a><b/></a>", Told::Document(2, true, true)),
+            ("outputs", Told::Outputs("| 0>0 1>1 2>2 3>3 4>4| 2>3 3>3")),
+        ],
+    },
+    // The value of the first `b`. A look is that of the first hit: it bears no text where that doesn't, whatever stands behind.
+    Triple {
+        title: "first hits",
+        input: "element a{element b{empty},element b{text}}",
+        output: "element x{empty}",
+        rules: "<xsl:template match=\"a\"><x><xsl:value-of select=\"b\"/></x></xsl:template>",
+        steps: &[
+            (Step::Empty, true),
+            (Step::Text, true),
+            (Step::Append(0, 0), true),
+            (Step::Wrap("b", 0), true),
+            (Step::Wrap("b", 1), true),
+            (Step::Append(0, 1), true),
+            (Step::Append(2, 2), true),
+        ],
+        told: &[
+            ("<b/>", Told::LastOfTree(1, 1)),
+            ("<b>t</b>", Told::LastOfTree(2, 2)),
+            ("<b/><b>t</b>", Told::LastOfHedge(3, 1)),
+        ],
+    },
+    // An element for each text on which a predicate holds that finds nothing: on a text those hold that hold where nothing is found.
+    Triple {
+        title: "below texts",
+        input: "element a{text}",
+        output: "element r{element x{empty}?}",
+        rules: "<xsl:template match=\"/\"><r><xsl:apply-templates/></r></xsl:template><xsl:template match=\"text()[not(b)]\"><x/></xsl:template>",
+        steps: &[(Step::Text, true)],
+        told: &[("outputs", Told::Outputs("| 2>3"))],
+    },
+    // The row of no tree has no states where a schema has no contents.
+    Triple {
+        title: "without contents",
+        input: "start = notAllowed",
+        output: "start = notAllowed",
+        rules: "",
+        steps: &[(Step::Empty, true), (Step::Text, false)],
+        told: &[("states", Told::Inputs(0))],
+    },
+];
 
 /// The machine of such texts.
 fn machine_with<'b>(alloc: Global, arena: &'b Bump, triple: &Triple) -> Result<Machine<'b>, Fail>
@@ -306,148 +379,40 @@ fn machine_with<'b>(alloc: Global, arena: &'b Bump, triple: &Triple) -> Result<M
     Ok(machine)
 }
 
-/// The same over the machine of such texts.
-fn assert_rows_of(
-    rt: &impl Abort,
-    alloc: Global,
-    triple: &Triple,
-    steps: &[(Step, bool)],
-    all: &[(&str, Told)],
-) -> Result<(), Fail> {
+/// The same over the machine of a triple.
+fn assert_rows_of(rt: &impl Abort, alloc: Global, triple: &Triple) -> Result<(), Fail> {
     let arena = Bump::new(alloc);
     let machine = machine_with(alloc, &arena, triple)?;
-    assert_rows(rt, alloc, &machine, steps, all)
+    assert_rows(rt, alloc, &machine, triple)
 }
-
-/// Lists of elements, for each of which one is put out.
-static LISTS: Triple = Triple {
-    input: "element a{element b{empty}*}",
-    output: "element r{element x{empty}*}",
-    rules: "<xsl:template match=\"/\"><r><xsl:apply-templates select=\"a/b\"/></r></xsl:template><xsl:template match=\"b\"><x/></xsl:template>",
-};
-
-/// The rows in the order in which they are found.
-static STEPS_OF_LISTS: [(Step, bool); 6] = [
-    (Step::Empty, true),
-    (Step::Wrap("b", 0), true),
-    (Step::Append(0, 0), true),
-    (Step::Wrap("a", 0), true),
-    (Step::Wrap("a", 1), true),
-    (Step::Append(0, 1), false),
-];
-
-static ROWS_OF_LISTS: [(&str, Told); 8] = [
-    ("no tree", Told::Hedge(0, &[0, 0, 1, 0, 1, 0, 0, 0])),
-    ("<b/>", Told::Tree(0, &[0, 0, 0, 1, 1, 0, 1])),
-    (
-        "<b/> behind no tree",
-        Told::Hedge(1, &[0, 0, 0, 1, 0, 1, 0, 1]),
-    ),
-    ("<a/>", Told::Tree(1, &[0, 0, 1, 0, 0, 0, 0])),
-    ("<a><b/></a>", Told::Tree(2, &[0, 0, 1, 0, 1, 1, 0])),
-    ("a document of <b/>", Told::Document(0, false, true)),
-    ("a document of <a><b/></a>", Told::Document(2, true, true)),
-    ("outputs", Told::Outputs("| 0>0 1>1 2>2 3>3 4>4| 2>3 3>3")),
-];
 
 #[test]
-fn rows_of_lists(rt: HostRuntime) -> Result<(), Fail> {
-    assert_rows_of(&rt, rt.alloc(), &LISTS, &STEPS_OF_LISTS, &ROWS_OF_LISTS)
-}
-
-/// The value of the first `b`.
-static FIRST_HITS: Triple = Triple {
-    input: "element a{element b{empty},element b{text}}",
-    output: "element x{empty}",
-    rules: "<xsl:template match=\"a\"><x><xsl:value-of select=\"b\"/></x></xsl:template>",
-};
-
-static STEPS_OF_FIRST_HITS: [(Step, bool); 7] = [
-    (Step::Empty, true),
-    (Step::Text, true),
-    (Step::Append(0, 0), true),
-    (Step::Wrap("b", 0), true),
-    (Step::Wrap("b", 1), true),
-    (Step::Append(0, 1), true),
-    (Step::Append(2, 2), true),
-];
-
-static LOOKS_OF_FIRST_HITS: [(&str, Told); 3] = [
-    ("<b/>", Told::LastOfTree(1, 1)),
-    ("<b>t</b>", Told::LastOfTree(2, 2)),
-    ("<b/><b>t</b>", Told::LastOfHedge(3, 1)),
-];
-
-/// A look is that of the first hit: it bears no text where that doesn't, whatever stands behind.
-#[test]
-fn looks_are_those_of_first_hits(rt: HostRuntime) -> Result<(), Fail> {
-    assert_rows_of(
-        &rt,
-        rt.alloc(),
-        &FIRST_HITS,
-        &STEPS_OF_FIRST_HITS,
-        &LOOKS_OF_FIRST_HITS,
-    )
-}
-
-/// An element for each text on which a predicate holds that finds nothing.
-static BELOW_TEXTS: Triple = Triple {
-    input: "element a{text}",
-    output: "element r{element x{empty}?}",
-    rules: "<xsl:template match=\"/\"><r><xsl:apply-templates/></r></xsl:template><xsl:template match=\"text()[not(b)]\"><x/></xsl:template>",
-};
-
-/// On a text those predicates hold that hold where nothing is found.
-#[test]
-fn nothing_is_found_below_a_text(rt: HostRuntime) -> Result<(), Fail> {
-    let steps = [(Step::Text, true)];
-    let all = [("outputs", Told::Outputs("| 2>3"))];
-    assert_rows_of(&rt, rt.alloc(), &BELOW_TEXTS, &steps, &all)
-}
-
-static WITHOUT_CONTENTS: Triple = Triple {
-    input: "start = notAllowed",
-    output: "start = notAllowed",
-    rules: "",
-};
-
-/// How many states the contents of the input of such texts have.
-fn inputs_of(alloc: Global, triple: &Triple) -> Result<u32, Fail> {
-    let arena = Bump::new(alloc);
-    let machine = machine_with(alloc, &arena, triple)?;
-    Ok(machine.shape().inputs)
-}
-
-/// The row of no tree has no states where a schema has no contents.
-#[test]
-fn schemas_without_contents_have_an_empty_row(rt: HostRuntime) -> Result<(), Fail> {
-    assert_eq!(rt; inputs_of(rt.alloc(), &WITHOUT_CONTENTS)?, 0);
-    let steps = [(Step::Empty, true), (Step::Text, false)];
-    assert_rows_of(&rt, rt.alloc(), &WITHOUT_CONTENTS, &steps, &[])
-}
-
-/// A path of so many steps.
-fn steps_text(alloc: Global, count: u32) -> Result<String, Fail> {
-    let mut text = String::from_str(alloc, "a")?;
-    for _ in 1..count {
-        text.push_str("/a")?;
+fn rows_of_each_triple_are_as_told(rt: HostRuntime) -> Result<(), Fail> {
+    for triple in &TRIPLES {
+        assert_rows_of(&rt, rt.alloc(), triple)?;
     }
-    Ok(text)
+    Ok(())
 }
 
-/// The rules of a stylesheet of 64 ancestor states and 128 states of moves, whose root has the value of a path put out.
-fn rules_of_entries(alloc: Global, value: &str) -> Result<String, Fail> {
-    let pattern = steps_text(alloc, 63)?;
-    let path = steps_text(alloc, 127)?;
-    let rules = format!(in alloc;
-        "<xsl:template match=\"/{pattern}\"/><xsl:template match=\"/\"><r><xsl:apply-templates select=\"{path}\"/><xsl:value-of select=\"{value}\"/></r></xsl:template>"
-    )?;
-    Ok(rules)
-}
-
-/// That stylesheet.
+/// A stylesheet of 64 ancestor states and 128 states of moves, whose root has the value of a path put out.
 fn sheet_of_entries(alloc: Global, value: &str) -> Result<String, Fail> {
-    let rules = rules_of_entries(alloc, value)?;
+    let mut rules = String::new(alloc);
+    for (part, count) in [
+        ("<xsl:template match=\"", 1),
+        ("/a", 63),
+        (
+            "\"/><xsl:template match=\"/\"><r><xsl:apply-templates select=\"a",
+            1,
+        ),
+        ("/a", 126),
+        ("\"/><xsl:value-of select=\"", 1),
+        (value, 1),
+        ("\"/></r></xsl:template>", 1),
+    ] {
+        for _ in 0..count {
+            rules.push_str(part)?;
+        }
+    }
     Ok(sheet_text(alloc, rules.as_str())?)
 }
 
@@ -486,7 +451,7 @@ fn entries_and_looks_are_limited(rt: HostRuntime) -> Result<(), Fail> {
         ("a", Some(NoMachine::Fault(MachineFault::TooManyEntries))),
     ] {
         let sheet = sheet_of_entries(alloc, value)?;
-        assert_eq!(rt; fault_of(alloc, sheet.as_str()), fault);
+        assert!(rt; fault_of(alloc, sheet.as_str()) == fault, "{value}");
     }
     Ok(())
 }
@@ -500,7 +465,7 @@ fn calls_within_one_another_are_limited(rt: HostRuntime) -> Result<(), Fail> {
         (8000, Some(NoMachine::Fault(MachineFault::TooManyCalls))),
     ] {
         let sheet = sheet_of_calls(alloc, count)?;
-        assert_eq!(rt; fault_of(alloc, sheet.as_str()), fault);
+        assert!(rt; fault_of(alloc, sheet.as_str()) == fault, "{count}");
     }
     Ok(())
 }

@@ -3,6 +3,7 @@ ghost use Rattle.tc_model.specs.Views.{before, sheet as see_sheet};
 ghost use Rattle.tc_model.specs.Trees.{IsDocument, none};
 ghost use Rattle.tc_model.specs.WellFormed.{IsSheet};
 
+use crate::path_states::no_rules;
 use bumpalo::Bump;
 use std::alloc::Global;
 use std::test::Fail;
@@ -31,18 +32,6 @@ fn document<'b>() -> &'b Node<'b>
     ensures { IsDocument (before result.now none) }
 {
     &DOCUMENT
-}
-
-/// A stylesheet without rules.
-fn no_rules<'b>() -> Sheet<'b>
-    ensures { IsSheet (see_sheet result) }
-{
-    Sheet {
-        modes: 1,
-        eaches: 0,
-        rules: &[],
-        named: &[],
-    }
 }
 
 /// The result of a document by a stylesheet, if there is one.
@@ -78,14 +67,6 @@ fn texts_are_copied_where_no_rule_fits(rt: HostRuntime) -> Result<(), Fail> {
     let sheet = no_rules();
     let document = document();
     let result = result_of(rt.alloc(), &arena, &sheet, document)?;
-    assert_eq!(rt; result.len(), 1);
-    match result[0] {
-        Node::Text(text) => {
-            assert_eq!(rt; text, "x");
-        }
-        Node::Elem(_, _) => {
-            assert!(rt; false);
-        }
-    }
+    assert!(rt; matches!(result, [Node::Text("x")]));
     Ok(())
 }

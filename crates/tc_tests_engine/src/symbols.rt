@@ -71,9 +71,9 @@ static SYMBOLS: [(Name<'static>, u32); 3] = [(A, 0), (B, 1), (ELSEWHERE, 2)];
 #[test]
 fn a_wildcard_class_and_a_name_that_nobody_mentions(rt: HostRuntime) -> Result<(), Fail> {
     let alphabet = Alphabet::of(rt.alloc(), &ANY, &ONE_OR_ELSEWHERE, &NO_NAMES).or(Err(NoMemory))?;
-    assert_eq!(rt; alphabet.count(), 3);
+    assert!(rt; alphabet.count() == 3);
     for (name, number) in &SYMBOLS {
-        assert_eq!(rt; alphabet.sym_of(name), Sym(*number), "{number}");
+        assert!(rt; alphabet.sym_of(name) == Sym(*number), "{number}");
     }
     Ok(())
 }
@@ -124,8 +124,7 @@ fn assert_fresh(
     assert!(rt; sym.0 < alphabet.count());
     let arena = Bump::new(alloc);
     let name = alphabet.fresh(&arena, sym)?;
-    assert_eq!(rt; name.uri, uri);
-    assert_eq!(rt; name.local, local);
+    assert!(rt; name.uri == uri && name.local == local);
     Ok(())
 }
 
@@ -135,7 +134,7 @@ static FRESH: [(u32, &str, &str); 3] = [(0, "urn:n", "n"), (1, "urn:n", "nn"), (
 #[test]
 fn names_in_predicates_of_bodies_that_are_never_called(rt: HostRuntime) -> Result<(), Fail> {
     let alphabet = Alphabet::of(rt.alloc(), &NOTHING, &NOTHING, &NEVER_CALLED).or(Err(NoMemory))?;
-    assert_eq!(rt; alphabet.count(), 3);
+    assert!(rt; alphabet.count() == 3);
     for (number, uri, local) in &FRESH {
         assert_fresh(&rt, rt.alloc(), &alphabet, Sym(*number), uri, local)?;
     }
@@ -144,26 +143,19 @@ fn names_in_predicates_of_bodies_that_are_never_called(rt: HostRuntime) -> Resul
 
 /// A schema of one element pattern, of so many names without a namespace.
 fn schema_of_names<'b>(arena: &'b Bump, count: u32) -> Result<Grammar<'b>, NoMemory> {
-    let names = names(arena, count)?;
-    let mut elements = Vec::new(arena);
-    elements.push(ElemPat {
-        names,
-        content: Pat::Empty,
-    })?;
-    Ok(Grammar {
-        start: Pat::Ref(1),
-        elements: into_bump_slice(elements),
-    })
-}
-
-/// So many names without a namespace.
-fn names<'b>(arena: &'b Bump, count: u32) -> Result<NameClass<'b>, NoMemory> {
     let mut classes = Vec::new(arena);
     for number in 0..count {
         let local = into_bump_str(format!(in arena; "n{number}")?);
         classes.push(NameClass::Name(Name { uri: "", local }))?;
     }
-    Ok(NameClass::Choice(into_bump_slice(classes)))
+    let element = ElemPat {
+        names: NameClass::Choice(into_bump_slice(classes)),
+        content: Pat::Empty,
+    };
+    Ok(Grammar {
+        start: Pat::Ref(1),
+        elements: arena.try_alloc_slice_copy(&[element])?,
+    })
 }
 
 /// How many symbols two schemas of so many names have.
@@ -177,11 +169,18 @@ fn count_of(alloc: Global, input: u32, output: u32) -> Result<Result<u32, AlphaF
     }
 }
 
-/// Beside each name the other names without a namespace, and all names of other namespaces.
+/// How many names an input and an output have, and how many symbols there are: beside each name the other names without a
+/// namespace, and all names of other namespaces.
+static COUNTS: [(u32, u32, Result<u32, AlphaFault>); 2] = [
+    (1022, 1022, Ok(1024)),
+    (1022, 1023, Err(AlphaFault::TooManySymbols)),
+];
+
 #[test]
 fn symbols_up_to_the_limit(rt: HostRuntime) -> Result<(), Fail> {
-    assert_eq!(rt; count_of(rt.alloc(), 1022, 1022)?, Ok(1024));
-    let refused = Err(AlphaFault::TooManySymbols);
-    assert_eq!(rt; count_of(rt.alloc(), 1022, 1023)?, refused);
+    for (input, output, symbols) in &COUNTS {
+        let found = count_of(rt.alloc(), *input, *output)?;
+        assert!(rt; found == *symbols, "{input} {output}");
+    }
     Ok(())
 }

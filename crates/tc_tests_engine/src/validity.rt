@@ -1,7 +1,6 @@
 //! Pairs and validity of small trees, by hand.
 
 use bumpalo::Bump;
-use bumpalo::collections::into_bump_slice;
 use std::alloc::Global;
 use std::process::Abort;
 use std::test::Fail;
@@ -111,24 +110,30 @@ fn leads(hedge: &Hedge<'_>, nodes: &[Node<'_>]) -> Result<bool, Fail> {
 fn assert_documents(
     rt: &impl Abort,
     hedge: &Hedge<'_>,
+    name: &str,
     documents: &[Document<'_>],
 ) -> Result<(), Fail> {
     for (text, node, is_valid) in documents {
-        assert_eq!(rt; hedge.valid(node)?, *is_valid, "{text}");
+        assert!(rt; hedge.valid(node)? == *is_valid, "{name}: {text}");
     }
     Ok(())
 }
 
 /// Asserts of each of some trees whether they lead so.
-fn assert_hedges(rt: &impl Abort, hedge: &Hedge<'_>, hedges: &[Hedges<'_>]) -> Result<(), Fail> {
+fn assert_hedges(
+    rt: &impl Abort,
+    hedge: &Hedge<'_>,
+    name: &str,
+    hedges: &[Hedges<'_>],
+) -> Result<(), Fail> {
     for (text, nodes, is_led) in hedges {
-        assert_eq!(rt; leads(hedge, nodes)?, *is_led, "{text}");
+        assert!(rt; leads(hedge, nodes)? == *is_led, "{name}: {text}");
     }
     Ok(())
 }
 
 /// `element a { element b { empty } & element c { empty } }`.
-static INTERLEAVED: Grammar<'static> = Grammar {
+const INTERLEAVED: Grammar<'static> = Grammar {
     start: Pat::Ref(1),
     elements: &INTERLEAVED_ELEMENTS,
 };
@@ -144,7 +149,7 @@ const INTERLEAVED_ELEMENTS: [ElemPat<'static>; 3] = [
 
 const BOTH: [Pat<'static>; 2] = [Pat::Ref(2), Pat::Ref(3)];
 
-static INTERLEAVED_DOCUMENTS: [Document<'static>; 5] = [
+const INTERLEAVED_DOCUMENTS: [Document<'static>; 5] = [
     ("<a><b/><c/></a>", Node::Elem(A, &[LEAF_B, LEAF_C]), true),
     ("<a><c/><b/></a>", Node::Elem(A, &[LEAF_C, LEAF_B]), true),
     ("<a><b/></a>", Node::Elem(A, &[LEAF_B]), false),
@@ -156,14 +161,8 @@ static INTERLEAVED_DOCUMENTS: [Document<'static>; 5] = [
     ("<b/>", LEAF_B, false),
 ];
 
-#[test]
-fn takes_an_interleave_in_any_order(rt: HostRuntime) -> Result<(), Fail> {
-    let hedge = hedge_of(rt.alloc(), &INTERLEAVED)?;
-    assert_documents(&rt, &hedge, &INTERLEAVED_DOCUMENTS)
-}
-
 /// `element a { element b { empty }, (element c { empty } | text), element d { empty }+ }`.
-static GROUPED: Grammar<'static> = Grammar {
+const GROUPED: Grammar<'static> = Grammar {
     start: Pat::Choice(&[Pat::NotAllowed, Pat::Ref(1)]),
     elements: &GROUPED_ELEMENTS,
 };
@@ -184,7 +183,7 @@ const MEMBERS: [Pat<'static>; 3] = [
     Pat::OneOrMore(&Pat::Ref(4)),
 ];
 
-static GROUPED_DOCUMENTS: [Document<'static>; 8] = [
+const GROUPED_DOCUMENTS: [Document<'static>; 8] = [
     (
         "<a><b/><c/><d/></a>",
         Node::Elem(A, &[LEAF_B, LEAF_C, LEAF_D]),
@@ -215,14 +214,8 @@ static GROUPED_DOCUMENTS: [Document<'static>; 8] = [
     ("b is no start", LEAF_B, false),
 ];
 
-#[test]
-fn takes_groups_choices_and_repeats(rt: HostRuntime) -> Result<(), Fail> {
-    let hedge = hedge_of(rt.alloc(), &GROUPED)?;
-    assert_documents(&rt, &hedge, &GROUPED_DOCUMENTS)
-}
-
 /// `element a { mixed { element b { empty }* } }`.
-static MIXED: Grammar<'static> = Grammar {
+const MIXED: Grammar<'static> = Grammar {
     start: Pat::Ref(1),
     elements: &MIXED_ELEMENTS,
 };
@@ -247,7 +240,7 @@ const ONE_TEXT: [Node<'static>; 1] = [X];
 
 const AROUND_TEXT: Node<'static> = Node::Elem(B, &ONE_TEXT);
 
-static MIXED_DOCUMENTS: [Document<'static>; 6] = [
+const MIXED_DOCUMENTS: [Document<'static>; 6] = [
     ("<a/>", LEAF_A, true),
     (
         "<a>x<b/>x<b/><b/>x</a>",
@@ -268,21 +261,14 @@ static MIXED_DOCUMENTS: [Document<'static>; 6] = [
     ("x", X, false),
 ];
 
-static MIXED_HEDGES: [Hedges<'static>; 3] = [
+const MIXED_HEDGES: [Hedges<'static>; 3] = [
     ("white space beside", &[WHITE, AROUND_LOOSE, WHITE], true),
     ("a text behind", &[WHITE, AROUND_LOOSE, X], false),
     ("no tree", &[], false),
 ];
 
-#[test]
-fn takes_mixed_content_and_white_space(rt: HostRuntime) -> Result<(), Fail> {
-    let hedge = hedge_of(rt.alloc(), &MIXED)?;
-    assert_documents(&rt, &hedge, &MIXED_DOCUMENTS)?;
-    assert_hedges(&rt, &hedge, &MIXED_HEDGES)
-}
-
 /// `element * - (a | ns u:*) { element u:* - u:q { empty }? }`.
-static WILD: Grammar<'static> = Grammar {
+const WILD: Grammar<'static> = Grammar {
     start: Pat::Ref(1),
     elements: &WILD_ELEMENTS,
 };
@@ -331,7 +317,7 @@ const LEAF_P: Node<'static> = Node::Elem(
     &[],
 );
 
-static WILD_DOCUMENTS: [Document<'static>; 6] = [
+const WILD_DOCUMENTS: [Document<'static>; 6] = [
     ("<b/>", LEAF_B, true),
     ("<b><u:p/></b>", Node::Elem(B, &[LEAF_P_OF_U]), true),
     ("<b><u:q/></b>", Node::Elem(B, &[LEAF_Q_OF_U]), false),
@@ -340,14 +326,8 @@ static WILD_DOCUMENTS: [Document<'static>; 6] = [
     ("<u:p/>", LEAF_P_OF_U, false),
 ];
 
-#[test]
-fn knows_wildcards_and_excepts(rt: HostRuntime) -> Result<(), Fail> {
-    let hedge = hedge_of(rt.alloc(), &WILD)?;
-    assert_documents(&rt, &hedge, &WILD_DOCUMENTS)
-}
-
 /// `element * { text }`.
-static TEXTS: Grammar<'static> = Grammar {
+const TEXTS: Grammar<'static> = Grammar {
     start: Pat::Ref(1),
     elements: &[ElemPat {
         names: NameClass::Any(&[]),
@@ -379,7 +359,7 @@ const DECLARED: Name<'static> = Name {
     local: "a",
 };
 
-static TEXTS_DOCUMENTS: [Document<'static>; 8] = [
+const TEXTS_DOCUMENTS: [Document<'static>; 8] = [
     ("<é-1/>", Node::Elem(ACCENTED, &[]), true),
     ("no name", Node::Elem(NAMELESS, &[]), false),
     ("<1/>", Node::Elem(DIGIT, &[]), false),
@@ -402,21 +382,54 @@ static TEXTS_DOCUMENTS: [Document<'static>; 8] = [
     ),
 ];
 
-#[test]
-fn knows_what_no_document_has(rt: HostRuntime) -> Result<(), Fail> {
-    let hedge = hedge_of(rt.alloc(), &TEXTS)?;
-    assert_documents(&rt, &hedge, &TEXTS_DOCUMENTS)
+/// What a test is about, a schema, trees that are valid documents of it or aren't, and trees that lead so or don't.
+type Schema = (
+    &'static str,
+    &'static Grammar<'static>,
+    &'static [Document<'static>],
+    &'static [Hedges<'static>],
+);
+
+static SCHEMAS: [Schema; 5] = [
+    ("any order", &INTERLEAVED, &INTERLEAVED_DOCUMENTS, &[]),
+    (
+        "groups, choices, repeats",
+        &GROUPED,
+        &GROUPED_DOCUMENTS,
+        &[],
+    ),
+    (
+        "mixed content, white space",
+        &MIXED,
+        &MIXED_DOCUMENTS,
+        &MIXED_HEDGES,
+    ),
+    ("wildcards and exceptions", &WILD, &WILD_DOCUMENTS, &[]),
+    ("what no document has", &TEXTS, &TEXTS_DOCUMENTS, &[]),
+];
+
+/// Asserts of the trees of each schema whether they are valid, and whether they lead so.
+fn assert_schemas(rt: &impl Abort, alloc: Global, schemas: &[Schema]) -> Result<(), Fail> {
+    for (name, grammar, documents, hedges) in schemas {
+        let hedge = hedge_of(alloc, grammar)?;
+        assert_documents(rt, &hedge, name, documents)?;
+        assert_hedges(rt, &hedge, name, hedges)?;
+    }
+    Ok(())
 }
 
-/// Elements `a` that stand within one another.
-fn nested<'b>(arena: &'b Bump, depth: u32) -> Result<&'b [Node<'b>], Fail> {
-    let mut nodes: &'b [Node<'b>] = into_bump_slice(Vec::new(arena));
-    for _ in 0..depth {
-        let mut level = Vec::new(arena);
-        level.push(Node::Elem(A, nodes))?;
-        nodes = into_bump_slice(level);
+#[test]
+fn trees_of_each_schema_are_valid_as_told(rt: HostRuntime) -> Result<(), Fail> {
+    assert_schemas(&rt, rt.alloc(), &SCHEMAS)
+}
+
+/// So many elements `a` within one another.
+fn nested<'b>(arena: &'b Bump, depth: u32) -> Result<Node<'b>, Fail> {
+    let mut node = LEAF_A;
+    for _ in 1..depth {
+        node = Node::Elem(A, arena.try_alloc_slice_copy(&[node])?);
     }
-    Ok(nodes)
+    Ok(node)
 }
 
 /// `start = a`, where `a = element a { a? }`.
@@ -430,21 +443,13 @@ const NESTED_ELEMENTS: [ElemPat<'static>; 1] = [ElemPat {
     content: Pat::Choice(&[Pat::Ref(1), Pat::Empty]),
 }];
 
-/// Asserts that the first of some trees is a valid document, and that all lead to an accepting state.
-fn assert_deep(rt: &impl Abort, hedge: &Hedge<'_>, nodes: &[Node<'_>]) -> Result<(), Fail> {
-    if let Some(document) = nodes.first() {
-        assert!(rt; hedge.valid(document)?);
-    }
-    assert!(rt; leads(hedge, nodes)?);
-    Ok(())
-}
-
 #[test]
 fn goes_down_two_thousand_levels(rt: HostRuntime) -> Result<(), Fail> {
     let arena = Bump::new(rt.alloc());
-    let nodes = nested(&arena, 2000)?;
+    let node = nested(&arena, 2000)?;
     let hedge = hedge_of(rt.alloc(), &NESTED)?;
-    assert_deep(&rt, &hedge, nodes)
+    assert_documents(&rt, &hedge, "2,000 levels", &[("a document", node, true)])?;
+    assert_hedges(&rt, &hedge, "2,000 levels", &[("a tree", &[node], true)])
 }
 
 /// `element a { element * { empty }, text }`.
@@ -488,35 +493,39 @@ fn pairs_around(
     Ok(around)
 }
 
-/// Asserts that the pairs of an element of the symbol of `a` are those of the element.
-fn assert_pairs_around(rt: &impl Abort, alloc: Global, hedge: &Hedge<'_>) -> Result<(), Fail> {
-    let sym = symbol_of(alloc, &AROUND, &A)?;
-    let around = pairs_around(alloc, hedge, sym, &KIDS)?;
-    let led = hedge.matrix_of(&[Node::Elem(A, &KIDS)])?;
-    assert_eq!(rt; around.words(), led.words());
+/// The pairs of a text.
+fn pairs_of_text(alloc: Global, hedge: &Hedge<'_>) -> Result<Mat, Fail> {
+    let mut pairs = Mat::identity(alloc, hedge.auto().states())?;
+    hedge.text_into(&mut pairs);
+    Ok(pairs)
+}
+
+/// Asserts that these are the pairs of some trees.
+fn assert_pairs(
+    rt: &impl Abort,
+    hedge: &Hedge<'_>,
+    pairs: &Mat,
+    nodes: &[Node<'_>],
+) -> Result<(), Fail> {
+    let led = hedge.matrix_of(nodes)?;
+    assert!(rt; pairs.words() == led.words());
     Ok(())
 }
 
-/// The pairs of an element of a symbol are those of the element of a name.
+/// The pairs of an element of the symbol of `a` are those of the element of that name.
 #[test]
 fn knows_elements_by_their_symbols(rt: HostRuntime) -> Result<(), Fail> {
     let hedge = hedge_of(rt.alloc(), &AROUND)?;
-    assert_pairs_around(&rt, rt.alloc(), &hedge)?;
-    assert_eq!(rt;
-        hedge.symbols(),
-        3,
-        "a, other names without a namespace, others"
-    );
-    Ok(())
+    let symbols = hedge.symbols();
+    assert!(rt; symbols == 3, "a, other names without a namespace, others");
+    let sym = symbol_of(rt.alloc(), &AROUND, &A)?;
+    let pairs = pairs_around(rt.alloc(), &hedge, sym, &KIDS)?;
+    assert_pairs(&rt, &hedge, &pairs, &[Node::Elem(A, &KIDS)])
 }
 
-/// The pairs of a text.
 #[test]
 fn knows_texts(rt: HostRuntime) -> Result<(), Fail> {
     let hedge = hedge_of(rt.alloc(), &AROUND)?;
-    let mut pairs = Mat::identity(rt.alloc(), hedge.auto().states())?;
-    hedge.text_into(&mut pairs);
-    let led = hedge.matrix_of(&ONE_TEXT)?;
-    assert_eq!(rt; pairs.words(), led.words());
-    Ok(())
+    let pairs = pairs_of_text(rt.alloc(), &hedge)?;
+    assert_pairs(&rt, &hedge, &pairs, &ONE_TEXT)
 }

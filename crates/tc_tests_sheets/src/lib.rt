@@ -2,6 +2,8 @@
 #![tactic(auto)]
 
 #[cfg(test)]
+mod constructs;
+#[cfg(test)]
 mod raw_sheets;
 #[cfg(test)]
 mod sheet_texts;

@@ -1,8 +1,7 @@
 //! Stylesheets, by hand.
-
+use crate::constructs::UNSUPPORTED;
 use bumpalo::Bump;
 use bumpalo::collections::{into_bump_slice, into_bump_str};
-use std::process::Abort;
 use std::test::Fail;
 use tc_base::{Place, Why};
 use tc_model::{Binding, Instr, Name, Pattern, Raw, RawAttr, RawElem, Sheet};
@@ -10,7 +9,7 @@ use tc_sheet::{SheetFault, read_sheet};
 
 const XSL: &str = "http://www.w3.org/1999/XSL/Transform";
 
-static SCOPE: [Binding<'static>; 3] = [
+const SCOPE: &[Binding<'static>] = &[
     Binding {
         prefix: "xml",
         uri: "http://www.w3.org/XML/1998/namespace",
@@ -25,102 +24,86 @@ static SCOPE: [Binding<'static>; 3] = [
     },
 ];
 
-/// An attribute: `xsl:` before its name puts it into the namespace of XSLT.
-fn attribute<'b>(name: &'b str, value: &'b str, place: u32) -> RawAttr<'b> {
-    let name = match name.strip_prefix("xsl:") {
-        Some(local) => Name { uri: XSL, local },
-        None => Name {
-            uri: "",
-            local: name,
-        },
+/// An attribute without a namespace, at a place.
+macro_rules! plain {
+    ($place:expr, $local:expr, $value:expr) => {
+        RawAttr {
+            name: Name {
+                uri: "",
+                local: $local,
+            },
+            value: $value,
+            place: Place($place),
+        }
     };
-    RawAttr {
-        name,
-        value,
-        place: Place(place),
-    }
 }
 
-/// An element at a place, whose attributes stand at the places that follow.
-fn element<'b>(
-    arena: &'b Bump,
-    place: u32,
-    name: Name<'b>,
-    attributes: &[(&'b str, &'b str)],
-    kids: &[Raw<'b>],
-) -> Result<Raw<'b>, Fail> {
-    let mut attrs = Vec::new(arena);
-    let mut next = place;
-    for pair in attributes {
-        let (name, value) = *pair;
-        next = next.saturating_add(1);
-        attrs.push(attribute(name, value, next))?;
-    }
-    let mut inner = Vec::new(arena);
-    for kid in kids {
-        inner.push(*kid)?;
-    }
-    Ok(Raw::Elem(RawElem {
-        name,
-        attrs: into_bump_slice(attrs),
-        scope: &SCOPE,
-        place: Place(place),
-        kids: into_bump_slice(inner),
-    }))
+/// An attribute of the namespace of XSLT, at a place.
+macro_rules! of_xslt {
+    ($place:expr, $local:expr, $value:expr) => {
+        RawAttr {
+            name: Name {
+                uri: XSL,
+                local: $local,
+            },
+            value: $value,
+            place: Place($place),
+        }
+    };
+}
+
+/// An element at a place, with these attributes and children.
+macro_rules! element {
+    ($place:expr, $uri:expr, $local:expr, $attributes:expr, $kids:expr) => {
+        Raw::Elem(RawElem {
+            name: Name {
+                uri: $uri,
+                local: $local,
+            },
+            attrs: $attributes,
+            scope: SCOPE,
+            place: Place($place),
+            kids: $kids,
+        })
+    };
 }
 
 /// An element of XSLT.
-fn xsl<'b>(
-    arena: &'b Bump,
-    place: u32,
-    local: &'b str,
-    attributes: &[(&'b str, &'b str)],
-    kids: &[Raw<'b>],
-) -> Result<Raw<'b>, Fail> {
-    element(arena, place, Name { uri: XSL, local }, attributes, kids)
+macro_rules! xsl {
+    ($place:expr, $local:expr, $attributes:expr, $kids:expr) => {
+        element!($place, XSL, $local, $attributes, $kids)
+    };
 }
 
 /// A literal element without a namespace.
-fn literal<'b>(
-    arena: &'b Bump,
-    place: u32,
-    local: &'b str,
-    attributes: &[(&'b str, &'b str)],
-    kids: &[Raw<'b>],
-) -> Result<Raw<'b>, Fail> {
-    element(arena, place, Name { uri: "", local }, attributes, kids)
-}
-
-/// An element of XSLT at place 20 with one attribute.
-fn xsl_with<'b>(
-    arena: &'b Bump,
-    local: &'b str,
-    name: &'b str,
-    value: &'b str,
-) -> Result<Raw<'b>, Fail> {
-    xsl(arena, 20, local, &[(name, value)], &[])
-}
-
-/// A literal element at place 20 with one attribute.
-fn literal_with<'b>(arena: &'b Bump, name: &'b str, value: &'b str) -> Result<Raw<'b>, Fail> {
-    literal(arena, 20, "a", &[(name, value)], &[])
-}
-
-/// An `xsl:for-each` that holds this.
-fn for_each<'b>(arena: &'b Bump, place: u32, kids: &[Raw<'b>]) -> Result<Raw<'b>, Fail> {
-    xsl(arena, place, "for-each", &[("select", "a")], kids)
-}
-
-/// An `xsl:copy` that holds white space and this.
-fn copy_of_kids<'b>(arena: &'b Bump, inner: Raw<'b>) -> Result<Raw<'b>, Fail> {
-    let white: Raw<'b> = Raw::Text("\n  ", Place(21));
-    xsl(arena, 20, "copy", &[], &[white, inner])
+macro_rules! literal {
+    ($place:expr, $local:expr, $attributes:expr, $kids:expr) => {
+        element!($place, "", $local, $attributes, $kids)
+    };
 }
 
 /// A stylesheet of version 1.0 at place 0.
-fn stylesheet<'b>(arena: &'b Bump, kids: &[Raw<'b>]) -> Result<Raw<'b>, Fail> {
-    xsl(arena, 0, "stylesheet", &[("version", "1.0")], kids)
+macro_rules! stylesheet {
+    ($kids:expr) => {
+        xsl!(0, "stylesheet", VERSION, $kids)
+    };
 }
+
+/// A template for a pattern, which calls what there isn't.
+macro_rules! of_undefined {
+    ($pattern:expr) => {
+        xsl!(
+            50,
+            "template",
+            &[plain!(51, "match", $pattern)],
+            &[xsl!(60, "call-template", &[plain!(61, "name", "z")], &[])]
+        )
+    };
+}
+
+const VERSION: &[RawAttr<'static>] = &[plain!(1, "version", "1.0")];
+
+const FOR_ROOT: &[RawAttr<'static>] = &[plain!(11, "match", "/")];
 
 /// What a stylesheet gives.
 fn read<'b>(arena: &'b Bump, raw: &Raw<'b>) -> Option<Result<Sheet<'b>, SheetFault>> {
@@ -138,11 +121,15 @@ fn fault<'b>(arena: &'b Bump, raw: &Raw<'b>) -> Option<SheetFault> {
     }
 }
 
+/// The fault of a stylesheet that holds this.
+fn fault_at_top<'b>(arena: &'b Bump, kids: &'b [Raw<'b>]) -> Option<SheetFault> {
+    fault(arena, &stylesheet!(kids))
+}
+
 /// The fault of a stylesheet with one template, for `/`, that holds this.
-fn fault_in_body<'b>(arena: &'b Bump, inner: Raw<'b>) -> Result<Option<SheetFault>, Fail> {
-    let template = xsl(arena, 10, "template", &[("match", "/")], &[inner])?;
-    let raw = stylesheet(arena, &[template])?;
-    Ok(fault(arena, &raw))
+fn fault_in_body<'b>(arena: &'b Bump, inner: &'b [Raw<'b>]) -> Option<SheetFault> {
+    let template = [xsl!(10, "template", FOR_ROOT, inner)];
+    fault_at_top(arena, &template)
 }
 
 /// The sheet of a raw tree that is one.
@@ -153,209 +140,230 @@ fn sheet_of<'b>(arena: &'b Bump, raw: &Raw<'b>) -> Result<Sheet<'b>, Fail> {
 }
 
 /// The stylesheet that copies all.
-fn copying<'b>(arena: &'b Bump) -> Result<Raw<'b>, Fail> {
-    let apply = xsl(
-        arena,
-        30,
-        "apply-templates",
-        &[("select", "@*|node()")],
-        &[],
-    )?;
-    let copy = copy_of_kids(arena, apply)?;
-    let template = xsl(arena, 10, "template", &[("match", "@*|node()")], &[copy])?;
-    let output = xsl(arena, 5, "output", &[("method", "xml")], &[])?;
-    stylesheet(arena, &[output, template])
-}
+static COPYING: Raw<'static> = stylesheet!(&[
+    xsl!(5, "output", &[plain!(6, "method", "xml")], &[]),
+    xsl!(
+        10,
+        "template",
+        &[plain!(11, "match", "@*|node()")],
+        &[xsl!(
+            20,
+            "copy",
+            &[],
+            &[
+                Raw::Text("\n  ", Place(21)),
+                xsl!(
+                    30,
+                    "apply-templates",
+                    &[plain!(31, "select", "@*|node()")],
+                    &[]
+                ),
+            ]
+        )]
+    ),
+]);
 
-/// Asserts what the stylesheet that copies all has.
-fn assert_copying(rt: &impl Abort, sheet: &Sheet<'_>) {
-    assert_eq!(rt; sheet.modes, 1);
-    assert_eq!(rt; sheet.eaches, 0);
-    assert_eq!(rt; sheet.named.len(), 0);
-    assert_eq!(rt; sheet.rules.len(), 1);
-    assert_eq!(rt; sheet.rules[0].priority, -5000);
-    assert_eq!(rt; sheet.rules[0].mode, 0);
-    assert_eq!(rt; sheet.rules[0].body.len(), 1);
-    let body = sheet.rules[0].body;
-    let Some(Instr::Copy(inner)) = body.first() else {
-        panic!(rt; "a copy");
+/// Of a stylesheet whose first rule copies and applies: the priority; how many named bodies, rules, instructions of the rule and
+/// of the copy, and alternatives there are; how many modes and for-eaches, and the modes of the rule and of the apply.
+fn copied(sheet: &Sheet<'_>) -> Option<(i64, [usize; 5], [u32; 4])> {
+    let rule = sheet.rules.first()?;
+    let Some(Instr::Copy(inner)) = rule.body.first() else {
+        return None;
     };
-    assert_eq!(rt; inner.len(), 1);
     let Some(Instr::Apply(path, mode)) = inner.first() else {
-        panic!(rt; "an apply");
+        return None;
     };
-    assert_eq!(rt; path.alts.len(), 1);
-    assert_eq!(rt; *mode, 0);
+    let (named, rules, body) = (sheet.named.len(), sheet.rules.len(), rule.body.len());
+    Some((
+        rule.priority,
+        [named, rules, body, inner.len(), path.alts.len()],
+        [sheet.modes, sheet.eaches, rule.mode, *mode],
+    ))
 }
 
 #[test]
 fn copies_all(rt: HostRuntime) -> Result<(), Fail> {
     let arena = Bump::new(rt.alloc());
-    let raw = copying(&arena)?;
-    let sheet = sheet_of(&arena, &raw)?;
-    assert_copying(&rt, &sheet);
+    let sheet = sheet_of(&arena, &COPYING)?;
+    let wanted = Some((-5000, [0, 1, 1, 1, 1], [1, 0, 0, 0]));
+    assert_eq!(rt; copied(&sheet), wanted);
     Ok(())
 }
 
-/// A stylesheet of modes, a name and for-eaches.
-fn numbered<'b>(arena: &'b Bump) -> Result<Raw<'b>, Fail> {
-    // a named template with a for-each, and then a rule for two alternatives with two for-eaches, of which one
-    // stands in the other
-    let named_each = for_each(arena, 20, &[])?;
-    let named = xsl(arena, 10, "template", &[("name", "n")], &[named_each])?;
-    let inner_each = for_each(arena, 50, &[])?;
-    let outer_each = for_each(arena, 40, &[inner_each])?;
-    let apply = xsl(arena, 60, "apply-templates", &[("mode", "k")], &[])?;
-    let call = xsl(arena, 70, "call-template", &[("name", "n")], &[])?;
-    let rule = xsl(
-        arena,
+/// A stylesheet of modes, a name and for-eaches: a named template with a for-each, and then a rule for two alternatives with two
+/// for-eaches, of which one stands in the other. All alternatives of the third template are dropped, so its mode counts for
+/// nothing.
+static NUMBERED: Raw<'static> = stylesheet!(&[
+    xsl!(
+        10,
+        "template",
+        &[plain!(11, "name", "n")],
+        &[xsl!(20, "for-each", &[plain!(21, "select", "a")], &[])]
+    ),
+    xsl!(
         30,
         "template",
-        &[("match", "a|/"), ("mode", "m"), ("priority", "1.25")],
-        &[outer_each, apply, call],
-    )?;
-    // all its alternatives are dropped, so its mode counts for nothing
-    let dropped = xsl(
-        arena,
+        &[
+            plain!(31, "match", "a|/"),
+            plain!(32, "mode", "m"),
+            plain!(33, "priority", "1.25"),
+        ],
+        &[
+            xsl!(
+                40,
+                "for-each",
+                &[plain!(41, "select", "a")],
+                &[xsl!(50, "for-each", &[plain!(51, "select", "a")], &[])]
+            ),
+            xsl!(60, "apply-templates", &[plain!(61, "mode", "k")], &[]),
+            xsl!(70, "call-template", &[plain!(71, "name", "n")], &[]),
+        ]
+    ),
+    xsl!(
         80,
         "template",
-        &[("match", "@x"), ("mode", "z")],
-        &[],
-    )?;
-    let last = xsl(arena, 90, "template", &[("match", "b"), ("mode", "k")], &[])?;
-    stylesheet(arena, &[named, rule, dropped, last])
+        &[plain!(81, "match", "@x"), plain!(82, "mode", "z")],
+        &[]
+    ),
+    xsl!(
+        90,
+        "template",
+        &[plain!(91, "match", "b"), plain!(92, "mode", "k")],
+        &[]
+    ),
+]);
+
+/// The numbers of named bodies and of rules; of modes, of for-eaches, and the modes of the first rule and the third; the
+/// priorities of three rules.
+fn numbers(sheet: &Sheet<'_>) -> Option<([usize; 2], [u32; 4], [i64; 3])> {
+    let (first, second, third) = (
+        sheet.rules.first()?,
+        sheet.rules.get(1)?,
+        sheet.rules.get(2)?,
+    );
+    Some((
+        [sheet.named.len(), sheet.rules.len()],
+        [sheet.modes, sheet.eaches, first.mode, third.mode],
+        [first.priority, second.priority, third.priority],
+    ))
 }
 
-/// Asserts what the body of the first rule has.
-fn assert_body(rt: &impl Abort, body: &[Instr<'_>]) {
-    assert_eq!(rt; body.len(), 3);
+/// Of the first rule's body: how many instructions it has and its for-each has; the numbers of its for-each, of the one within it,
+/// of the mode of its apply, and of what it calls.
+fn numbers_of_body(sheet: &Sheet<'_>) -> Option<([usize; 2], [u32; 4])> {
+    let body = sheet.rules.first()?.body;
     let Some(Instr::ForEach(outer, _, inside)) = body.first() else {
-        panic!(rt; "a for-each");
+        return None;
     };
-    assert_eq!(rt; *outer, 0);
-    assert_eq!(rt; inside.len(), 1);
     let Some(Instr::ForEach(inner, _, _)) = inside.first() else {
-        panic!(rt; "a for-each");
+        return None;
     };
-    assert_eq!(rt; *inner, 1);
-    let Some(Instr::Apply(_, mode)) = body.get(1) else {
-        panic!(rt; "an apply");
+    let (Some(Instr::Apply(_, mode)), Some(Instr::Call(callee))) = (body.get(1), body.get(2)) else {
+        return None;
     };
-    assert_eq!(rt; *mode, 2);
-    let Some(Instr::Call(callee)) = body.get(2) else {
-        panic!(rt; "a call");
-    };
-    assert_eq!(rt; *callee, 0);
+    Some(([body.len(), inside.len()], [*outer, *inner, *mode, *callee]))
 }
 
-/// Asserts what the named body has.
-fn assert_named(rt: &impl Abort, named: &[Instr<'_>]) {
-    assert_eq!(rt; named.len(), 1);
-    let Some(Instr::ForEach(of_named, _, _)) = named.first() else {
-        panic!(rt; "a for-each");
-    };
-    assert_eq!(rt; *of_named, 2);
+/// How many instructions the first named body has, and the number of its for-each.
+fn number_of_named(sheet: &Sheet<'_>) -> Option<(usize, u32)> {
+    let named = sheet.named.first()?;
+    match named.first() {
+        Some(Instr::ForEach(number, _, _)) => Some((named.len(), *number)),
+        _ => None,
+    }
 }
 
-/// Asserts what that stylesheet has.
-fn assert_numbered(rt: &impl Abort, sheet: &Sheet<'_>) {
-    assert_eq!(rt; sheet.modes, 3);
-    assert_eq!(rt; sheet.eaches, 3);
-    assert_eq!(rt; sheet.named.len(), 1);
-    assert_eq!(rt; sheet.rules.len(), 3);
-    assert_eq!(rt; sheet.rules[0].priority, 12500);
-    assert_eq!(rt; sheet.rules[1].priority, 12500);
-    assert_eq!(rt; sheet.rules[2].priority, 0);
-    assert_eq!(rt; sheet.rules[0].mode, 1);
-    assert_eq!(rt; sheet.rules[2].mode, 2);
-    assert!(rt; matches!(sheet.rules[1].pattern, Pattern::Root));
-    assert_body(rt, sheet.rules[0].body);
-    assert_named(rt, sheet.named[0]);
+/// Whether the second rule is for the root.
+fn is_for_root(sheet: &Sheet<'_>) -> bool {
+    match sheet.rules.get(1) {
+        Some(rule) => matches!(rule.pattern, Pattern::Root),
+        None => false,
+    }
 }
 
 #[test]
 fn numbers_modes_names_and_for_eaches(rt: HostRuntime) -> Result<(), Fail> {
     let arena = Bump::new(rt.alloc());
-    let raw = numbered(&arena)?;
-    let sheet = sheet_of(&arena, &raw)?;
-    assert_numbered(&rt, &sheet);
+    let sheet = sheet_of(&arena, &NUMBERED)?;
+    let wanted = Some(([1, 3], [3, 3, 1, 2], [12500, 12500, 0]));
+    assert_eq!(rt; numbers(&sheet), wanted);
+    assert_eq!(rt; numbers_of_body(&sheet), Some(([3, 1], [0, 1, 2, 0])));
+    assert_eq!(rt; number_of_named(&sheet), Some((1, 2)));
+    assert!(rt; is_for_root(&sheet));
     Ok(())
 }
 
-/// The elements that are not supported, with their reasons.
-static UNSUPPORTED: [(&str, Why); 18] = [
-    ("variable", Why::XslVariable),
-    ("param", Why::XslParam),
-    ("with-param", Why::XslWithParam),
-    ("import", Why::XslImport),
-    ("include", Why::XslInclude),
-    ("sort", Why::XslSort),
-    ("number", Why::XslNumber),
-    ("key", Why::XslKey),
-    ("message", Why::XslMessage),
-    ("comment", Why::XslComment),
-    ("processing-instruction", Why::XslProcessingInstruction),
-    ("apply-imports", Why::XslApplyImports),
-    ("attribute-set", Why::XslAttributeSet),
-    ("namespace-alias", Why::XslNamespaceAlias),
-    ("decimal-format", Why::XslDecimalFormat),
-    ("fallback", Why::XslFallback),
-    ("preserve-space", Why::XslPreserveSpace),
-    ("document", Why::UnknownXslt),
-];
+/// The fault of this within an `xsl:apply-templates`.
+fn fault_in_apply<'b>(arena: &'b Bump, inner: &'b [Raw<'b>]) -> Option<SheetFault> {
+    let kids = [xsl!(15, "apply-templates", &[], inner)];
+    fault_in_body(arena, &kids)
+}
 
-/// Asserts that an element isn't supported in a body, at the top and within an instruction.
-fn assert_unsupported<'a>(
-    rt: &impl Abort,
-    arena: &'a Bump,
-    local: &'a str,
-    why: Why,
-) -> Result<(), Fail> {
-    let wanted = Some(SheetFault::Unsupported(Place(20), why));
-    let inner = xsl(arena, 20, local, &[], &[])?;
-    assert_eq!(rt; fault_in_body(arena, inner)?, wanted, "{local} in a body");
-    let top = stylesheet(arena, &[inner])?;
-    assert_eq!(rt; fault(arena, &top), wanted, "{local} at the top");
-    let apply = xsl(arena, 15, "apply-templates", &[], &[inner])?;
-    assert_eq!(rt;
-        fault_in_body(arena, apply)?,
-        wanted,
-        "{local} within apply-templates"
-    );
-    Ok(())
+/// The faults of an element in a body, at the top, and within an instruction.
+fn faults_of<'b>(arena: &'b Bump, local: &'b str) -> [Option<SheetFault>; 3] {
+    let kids = [xsl!(20, local, &[], &[])];
+    [
+        fault_in_body(arena, &kids),
+        fault_at_top(arena, &kids),
+        fault_in_apply(arena, &kids),
+    ]
 }
 
 #[test]
 fn unsupported_elements(rt: HostRuntime) -> Result<(), Fail> {
     let arena = Bump::new(rt.alloc());
     for (local, why) in &UNSUPPORTED {
-        assert_unsupported(&rt, &arena, local, *why)?;
+        let wanted = Some(SheetFault::Unsupported(Place(20), *why));
+        assert_eq!(rt;
+            faults_of(&arena, local),
+            [wanted, wanted, wanted],
+            "{local} in a body, at the top, within apply-templates"
+        );
     }
     Ok(())
 }
 
-/// Asserts that an element isn't looked at within an attribute and an output, and as a literal one.
-fn assert_passed<'a>(rt: &impl Abort, arena: &'a Bump, local: &'a str) -> Result<(), Fail> {
-    let inner = xsl(arena, 20, local, &[], &[])?;
-    let unseen = xsl(arena, 15, "attribute", &[("test", "a = b")], &[inner])?;
-    assert_eq!(rt;
-        fault_in_body(arena, unseen)?,
-        None,
-        "{local} within an attribute"
-    );
-    let output = xsl(arena, 15, "output", &[("method", "a = b")], &[inner])?;
-    let passed = stylesheet(arena, &[output])?;
-    assert_eq!(rt; fault(arena, &passed), None, "{local} within an output");
-    let plain = literal(arena, 20, local, &[], &[])?;
-    assert_eq!(rt; fault_in_body(arena, plain)?, None, "a literal {local}");
-    Ok(())
+const TEST: &[RawAttr<'static>] = &[plain!(16, "test", "a = b")];
+
+const METHOD: &[RawAttr<'static>] = &[plain!(16, "method", "a = b")];
+
+/// The fault of this within an `xsl:attribute`, which isn't read.
+fn fault_in_attribute<'b>(arena: &'b Bump, inner: &'b [Raw<'b>]) -> Option<SheetFault> {
+    let kids = [xsl!(15, "attribute", TEST, inner)];
+    fault_in_body(arena, &kids)
+}
+
+/// The fault of this within an output.
+fn fault_in_output<'b>(arena: &'b Bump, inner: &'b [Raw<'b>]) -> Option<SheetFault> {
+    let kids = [xsl!(15, "output", METHOD, inner)];
+    fault_at_top(arena, &kids)
+}
+
+/// The fault of a literal element.
+fn fault_of_literal<'b>(arena: &'b Bump, local: &'b str) -> Option<SheetFault> {
+    let kids = [literal!(20, local, &[], &[])];
+    fault_in_body(arena, &kids)
+}
+
+/// The faults of an element where it isn't looked at, within an attribute and an output, and of a literal one.
+fn faults_of_unseen<'b>(arena: &'b Bump, local: &'b str) -> [Option<SheetFault>; 3] {
+    let kids = [xsl!(20, local, &[], &[])];
+    [
+        fault_in_attribute(arena, &kids),
+        fault_in_output(arena, &kids),
+        fault_of_literal(arena, local),
+    ]
 }
 
 #[test]
 fn elements_that_are_not_looked_at(rt: HostRuntime) -> Result<(), Fail> {
     let arena = Bump::new(rt.alloc());
     for (local, _) in &UNSUPPORTED {
-        assert_passed(&rt, &arena, local)?;
+        assert_eq!(rt;
+            faults_of_unseen(&arena, local),
+            [None, None, None],
+            "{local} within an attribute, within an output, a literal one"
+        );
     }
     Ok(())
 }
@@ -368,29 +376,10 @@ const MALFORMED: Option<SheetFault> = Some(SheetFault::Malformed(HERE));
 /// An instruction, its one attribute with its value, and the fault of it.
 type Row<'r> = (&'r str, &'r str, &'r str, Option<SheetFault>);
 
-/// Asserts that each instruction has its fault.
-fn assert_rows(rt: &impl Abort, arena: &Bump, rows: &[Row<'_>]) -> Result<(), Fail> {
-    for row in rows {
-        let (local, name, value, wanted) = *row;
-        let inner = xsl_with(arena, local, name, value)?;
-        assert_eq!(rt;
-            fault_in_body(arena, inner)?,
-            wanted,
-            "{local} {name} {value}"
-        );
-    }
-    Ok(())
-}
-
-/// Attributes that must not be there.
-static MISPLACED: [Row<'static>; 6] = [
+/// Instructions with one attribute.
+static INSTRUCTIONS: [Row<'static>; 23] = [
+    // attributes that must not be there
     ("value-of", "version", "1.0", MALFORMED),
-    (
-        "value-of",
-        "xsl:version",
-        "1.0",
-        Some(SheetFault::Malformed(Place(20))),
-    ),
     (
         "text",
         "disable-output-escaping",
@@ -410,16 +399,7 @@ static MISPLACED: [Row<'static>; 6] = [
         "a",
         Some(SheetFault::Unsupported(HERE, Why::ComputedName)),
     ),
-];
-
-#[test]
-fn attributes_that_must_not_be_there(rt: HostRuntime) -> Result<(), Fail> {
-    let arena = Bump::new(rt.alloc());
-    assert_rows(&rt, &arena, &MISPLACED)
-}
-
-/// Attributes that are names.
-static NAMES: [Row<'static>; 6] = [
+    // attributes that are names
     ("element", "name", "a", None),
     (
         "element",
@@ -436,16 +416,7 @@ static NAMES: [Row<'static>; 6] = [
         "a",
         Some(SheetFault::Undefined(Place(20))),
     ),
-];
-
-#[test]
-fn attributes_that_are_names(rt: HostRuntime) -> Result<(), Fail> {
-    let arena = Bump::new(rt.alloc());
-    assert_rows(&rt, &arena, &NAMES)
-}
-
-/// Attributes of XPath.
-static PATHS: [Row<'static>; 12] = [
+    // attributes of XPath
     ("value-of", "select", "a", None),
     ("value-of", "select", ".", None),
     (
@@ -495,78 +466,124 @@ static PATHS: [Row<'static>; 12] = [
     ),
 ];
 
-#[test]
-fn attributes_of_xpath(rt: HostRuntime) -> Result<(), Fail> {
-    let arena = Bump::new(rt.alloc());
-    assert_rows(&rt, &arena, &PATHS)
+/// The fault of an instruction with one attribute without a namespace.
+fn fault_of<'b>(
+    arena: &'b Bump,
+    local: &'b str,
+    name: &'b str,
+    value: &'b str,
+) -> Option<SheetFault> {
+    let attributes = [plain!(21, name, value)];
+    let inner = [xsl!(20, local, &attributes, &[])];
+    fault_in_body(arena, &inner)
 }
 
-/// Attributes of literal elements, and why they are refused.
-static LITERALS: [(&str, Option<SheetFault>); 5] = [
-    ("a", None),
-    ("select", None),
-    ("xsl:exclude-result-prefixes", None),
+/// The fault of an `xsl:value-of` with an attribute of XSLT.
+fn fault_of_xslt<'b>(arena: &'b Bump, name: &'b str) -> Option<SheetFault> {
+    let attributes = [of_xslt!(21, name, "1.0")];
+    let inner = [xsl!(20, "value-of", &attributes, &[])];
+    fault_in_body(arena, &inner)
+}
+
+#[test]
+fn attributes_of_xslt_must_not_be_there(rt: HostRuntime) -> Result<(), Fail> {
+    let arena = Bump::new(rt.alloc());
+    let wanted = Some(SheetFault::Malformed(Place(20)));
+    assert_eq!(rt; fault_of_xslt(&arena, "version"), wanted);
+    Ok(())
+}
+
+#[test]
+fn attributes_of_instructions(rt: HostRuntime) -> Result<(), Fail> {
+    let arena = Bump::new(rt.alloc());
+    for (local, name, value, wanted) in &INSTRUCTIONS {
+        assert_eq!(rt;
+            fault_of(&arena, local, name, value),
+            *wanted,
+            "{local} {name} {value}"
+        );
+    }
+    Ok(())
+}
+
+/// An attribute of literal elements, and why they are refused.
+static LITERALS: [(&str, &[RawAttr<'static>], Option<SheetFault>); 5] = [
+    ("a", &[plain!(21, "a", "b")], None),
+    ("select", &[plain!(21, "select", "b")], None),
+    (
+        "xsl:exclude-result-prefixes",
+        &[of_xslt!(21, "exclude-result-prefixes", "b")],
+        None,
+    ),
     (
         "xsl:use-attribute-sets",
+        &[of_xslt!(21, "use-attribute-sets", "b")],
         Some(SheetFault::Unsupported(HERE, Why::UseAttributeSets)),
     ),
     (
         "xsl:version",
+        &[of_xslt!(21, "version", "b")],
         Some(SheetFault::Unsupported(HERE, Why::UnknownXslt)),
     ),
 ];
 
-/// The fault of a literal element with this attribute.
-fn fault_of_literal<'b>(arena: &'b Bump, name: &'b str) -> Result<Option<SheetFault>, Fail> {
-    let inner = literal_with(arena, name, "b")?;
-    fault_in_body(arena, inner)
+/// The fault of a literal element with these attributes.
+fn fault_of_attributes<'b>(arena: &'b Bump, attributes: &'b [RawAttr<'b>]) -> Option<SheetFault> {
+    let inner = [literal!(20, "a", attributes, &[])];
+    fault_in_body(arena, &inner)
 }
 
 #[test]
 fn attributes_of_literal_elements(rt: HostRuntime) -> Result<(), Fail> {
     let arena = Bump::new(rt.alloc());
-    for (name, wanted) in &LITERALS {
-        assert_eq!(rt; fault_of_literal(&arena, name)?, *wanted, "{name}");
+    for (name, attributes, wanted) in &LITERALS {
+        assert_eq!(rt; fault_of_attributes(&arena, attributes), *wanted, "{name}");
     }
     Ok(())
-}
-
-/// The fault of a root of XSLT with these attributes, which holds nothing.
-fn fault_of_root<'b>(
-    arena: &'b Bump,
-    local: &'b str,
-    attributes: &[(&'b str, &'b str)],
-) -> Result<Option<SheetFault>, Fail> {
-    let root = xsl(arena, 0, local, attributes, &[])?;
-    Ok(fault(arena, &root))
 }
 
 /// The fault of a root.
 const AT_ROOT: Option<SheetFault> = Some(SheetFault::Malformed(Place(0)));
 
-/// The name of a root, its attributes, and the fault of it.
-static ROOTS: [(&str, &[(&str, &str)], Option<SheetFault>); 5] = [
-    ("transform", &[("version", "1.0"), ("id", "a")], None),
-    ("stylesheet", &[("id", "a")], AT_ROOT),
+/// The name of a root of XSLT, its attributes, and the fault of it.
+static ROOTS: [(&str, &[RawAttr<'static>], Option<SheetFault>); 5] = [
+    (
+        "transform",
+        &[plain!(1, "version", "1.0"), plain!(2, "id", "a")],
+        None,
+    ),
+    ("stylesheet", &[plain!(1, "id", "a")], AT_ROOT),
     (
         "stylesheet",
-        &[("id", "a"), ("version", "1.1")],
+        &[plain!(1, "id", "a"), plain!(2, "version", "1.1")],
         Some(SheetFault::Unsupported(Place(2), Why::XsltVersion)),
     ),
     (
         "stylesheet",
-        &[("version", "1.0"), ("extension-element-prefixes", "a")],
+        &[
+            plain!(1, "version", "1.0"),
+            plain!(2, "extension-element-prefixes", "a"),
+        ],
         Some(SheetFault::Unsupported(Place(2), Why::ExtensionElements)),
     ),
     ("variable", &[], AT_ROOT),
 ];
+
+/// The fault of a root of XSLT with these attributes, which holds nothing.
+fn fault_of_root<'b>(
+    arena: &'b Bump,
+    local: &'b str,
+    attributes: &'b [RawAttr<'b>],
+) -> Option<SheetFault> {
+    fault(arena, &xsl!(0, local, attributes, &[]))
+}
 
 #[test]
 fn roots(rt: HostRuntime) -> Result<(), Fail> {
     let arena = Bump::new(rt.alloc());
     for (local, attributes, wanted) in &ROOTS {
         assert_eq!(rt;
-            fault_of_root(&arena, local, attributes)?,
+            fault_of_root(&arena, local, attributes),
             *wanted,
             "{local}"
         );
@@ -574,134 +591,150 @@ fn roots(rt: HostRuntime) -> Result<(), Fail> {
     Ok(())
 }
 
-/// The fault of a literal root with this attribute.
-fn fault_of_literal_root<'b>(arena: &'b Bump, name: &'b str) -> Result<Option<SheetFault>, Fail> {
-    let root = literal(arena, 0, "html", &[(name, "1.0")], &[])?;
-    Ok(fault(arena, &root))
-}
-
 /// The attribute of a literal root, and the fault of it.
-static LITERAL_ROOTS: [(&str, Option<SheetFault>); 4] = [
+static LITERAL_ROOTS: [(&str, &[RawAttr<'static>], Option<SheetFault>); 4] = [
     (
         "xsl:version",
+        &[of_xslt!(1, "version", "1.0")],
         Some(SheetFault::Unsupported(Place(0), Why::SimplifiedStylesheet)),
     ),
-    ("version", AT_ROOT),
-    ("xsl:use-attribute-sets", AT_ROOT),
-    ("xsl:other", AT_ROOT),
+    ("version", &[plain!(1, "version", "1.0")], AT_ROOT),
+    (
+        "xsl:use-attribute-sets",
+        &[of_xslt!(1, "use-attribute-sets", "1.0")],
+        AT_ROOT,
+    ),
+    ("xsl:other", &[of_xslt!(1, "other", "1.0")], AT_ROOT),
 ];
+
+/// The fault of a literal root with these attributes.
+fn fault_of_literal_root<'b>(arena: &'b Bump, attributes: &'b [RawAttr<'b>]) -> Option<SheetFault> {
+    fault(arena, &literal!(0, "html", attributes, &[]))
+}
 
 #[test]
 fn literal_roots(rt: HostRuntime) -> Result<(), Fail> {
     let arena = Bump::new(rt.alloc());
-    for (name, wanted) in &LITERAL_ROOTS {
-        assert_eq!(rt; fault_of_literal_root(&arena, name)?, *wanted, "{name}");
+    for (name, attributes, wanted) in &LITERAL_ROOTS {
+        assert_eq!(rt;
+            fault_of_literal_root(&arena, attributes),
+            *wanted,
+            "{name}"
+        );
     }
     Ok(())
 }
 
 /// The attributes of a template, and whether its head is good.
-static HEADS: [(&[(&str, &str)], bool); 8] = [
-    (&[("match", "a")], true),
-    (&[("name", "a")], true),
-    (&[("match", "a"), ("name", "b"), ("mode", "c")], true),
-    (&[("name", "a"), ("priority", "1")], true),
-    (&[("name", "a"), ("mode", "b")], false),
-    (&[("priority", "1")], false),
-    (&[("match", "a"), ("priority", "1.23456")], false),
-    (&[("match", "@a"), ("mode", "")], false),
+static HEADS: [(&[RawAttr<'static>], bool); 8] = [
+    (&[plain!(11, "match", "a")], true),
+    (&[plain!(11, "name", "a")], true),
+    (
+        &[
+            plain!(11, "match", "a"),
+            plain!(12, "name", "b"),
+            plain!(13, "mode", "c"),
+        ],
+        true,
+    ),
+    (
+        &[plain!(11, "name", "a"), plain!(12, "priority", "1")],
+        true,
+    ),
+    (&[plain!(11, "name", "a"), plain!(12, "mode", "b")], false),
+    (&[plain!(11, "priority", "1")], false),
+    (
+        &[plain!(11, "match", "a"), plain!(12, "priority", "1.23456")],
+        false,
+    ),
+    (&[plain!(11, "match", "@a"), plain!(12, "mode", "")], false),
 ];
 
 /// The fault of a stylesheet with one template, of these attributes.
-fn fault_of_head<'b>(
-    arena: &'b Bump,
-    attributes: &[(&'b str, &'b str)],
-) -> Result<Option<SheetFault>, Fail> {
-    let template = xsl(arena, 10, "template", attributes, &[])?;
-    let raw = stylesheet(arena, &[template])?;
-    Ok(fault(arena, &raw))
+fn fault_of_head<'b>(arena: &'b Bump, attributes: &'b [RawAttr<'b>]) -> Option<SheetFault> {
+    let template = [xsl!(10, "template", attributes, &[])];
+    fault_at_top(arena, &template)
 }
 
 #[test]
 fn heads_of_templates(rt: HostRuntime) -> Result<(), Fail> {
     let arena = Bump::new(rt.alloc());
     for (attributes, good) in &HEADS {
-        assert_eq!(rt; fault_of_head(&arena, attributes)?.is_none(), *good);
+        assert_eq!(rt; fault_of_head(&arena, attributes).is_none(), *good);
     }
     Ok(())
 }
 
-/// Four templates, of which three have one name.
-fn of_one_name<'b>(arena: &'b Bump) -> Result<Raw<'b>, Fail> {
-    let first = xsl(arena, 10, "template", &[("name", "a")], &[])?;
-    let second = xsl(arena, 20, "template", &[("match", "b"), ("name", "a")], &[])?;
-    let other = xsl(arena, 15, "template", &[("name", "b")], &[])?;
-    let third = xsl(arena, 30, "template", &[("name", "a")], &[])?;
-    stylesheet(arena, &[other, first, second, third])
-}
+const CALLS_C: Raw<'static> = xsl!(
+    25,
+    "template",
+    &[plain!(26, "name", "b")],
+    &[xsl!(30, "call-template", &[plain!(31, "name", "c")], &[])]
+);
+
+const CALLS_ITSELF: Raw<'static> = xsl!(
+    35,
+    "template",
+    &[plain!(36, "name", "c")],
+    &[xsl!(40, "call-template", &[plain!(41, "name", "c")], &[])]
+);
+
+/// What the templates of a stylesheet are, and the fault of it.
+static TEMPLATES: [(&str, &[Raw<'static>], Option<SheetFault>); 4] = [
+    (
+        "four templates, of which three have one name",
+        &[
+            xsl!(15, "template", &[plain!(16, "name", "b")], &[]),
+            xsl!(10, "template", &[plain!(11, "name", "a")], &[]),
+            xsl!(
+                20,
+                "template",
+                &[plain!(21, "match", "b"), plain!(22, "name", "a")],
+                &[]
+            ),
+            xsl!(30, "template", &[plain!(31, "name", "a")], &[]),
+        ],
+        Some(SheetFault::Malformed(Place(20))),
+    ),
+    // b calls c and c calls itself: the first call on a cycle is the second one
+    (
+        "calls on a cycle",
+        &[CALLS_C, CALLS_ITSELF],
+        Some(SheetFault::CallLoop(Place(40))),
+    ),
+    (
+        "an undefined call, which comes before calls on a cycle",
+        &[CALLS_C, CALLS_ITSELF, of_undefined!("a")],
+        Some(SheetFault::Undefined(Place(60))),
+    ),
+    (
+        "calls of a dropped template, which count for nothing",
+        &[of_undefined!("@a")],
+        None,
+    ),
+];
 
 #[test]
-fn templates_of_one_name(rt: HostRuntime) -> Result<(), Fail> {
+fn names_and_calls_of_templates(rt: HostRuntime) -> Result<(), Fail> {
     let arena = Bump::new(rt.alloc());
-    let again = of_one_name(&arena)?;
-    assert_eq!(rt;
-        fault(&arena, &again),
-        Some(SheetFault::Malformed(Place(20)))
-    );
+    for (what, templates, wanted) in &TEMPLATES {
+        assert_eq!(rt; fault_at_top(&arena, templates), *wanted, "{what}");
+    }
     Ok(())
 }
 
-/// b calls c and c calls itself: the first call on a cycle is the second one.
-fn on_a_cycle<'b>(arena: &'b Bump) -> Result<(Raw<'b>, Raw<'b>), Fail> {
-    let call_c = xsl(arena, 30, "call-template", &[("name", "c")], &[])?;
-    let calls_c = xsl(arena, 25, "template", &[("name", "b")], &[call_c])?;
-    let call_again = xsl(arena, 40, "call-template", &[("name", "c")], &[])?;
-    let calls_itself = xsl(arena, 35, "template", &[("name", "c")], &[call_again])?;
-    Ok((calls_c, calls_itself))
-}
-
-/// A template for a pattern, which calls what there isn't.
-fn of_undefined<'b>(arena: &'b Bump, pattern: &'b str) -> Result<Raw<'b>, Fail> {
-    let undefined = xsl(arena, 60, "call-template", &[("name", "z")], &[])?;
-    xsl(arena, 50, "template", &[("match", pattern)], &[undefined])
-}
-
-/// The fault of a stylesheet of these templates.
-fn fault_of<'b>(arena: &'b Bump, templates: &[Raw<'b>]) -> Result<Option<SheetFault>, Fail> {
-    let raw = stylesheet(arena, templates)?;
-    Ok(fault(arena, &raw))
-}
-
-/// Asserts what calls are refused for.
-fn assert_calls(rt: &impl Abort, arena: &Bump) -> Result<(), Fail> {
-    let (calls_c, calls_itself) = on_a_cycle(arena)?;
-    assert_eq!(rt;
-        fault_of(arena, &[calls_c, calls_itself])?,
-        Some(SheetFault::CallLoop(Place(40)))
-    );
-    // an undefined call comes first
-    let rule = of_undefined(arena, "a")?;
-    assert_eq!(rt;
-        fault_of(arena, &[calls_c, calls_itself, rule])?,
-        Some(SheetFault::Undefined(Place(60)))
-    );
-    // the calls of a dropped template count for nothing
-    let dropped = of_undefined(arena, "@a")?;
-    assert_eq!(rt; fault_of(arena, &[dropped])?, None);
-    Ok(())
-}
-
-#[test]
-fn calls_of_templates(rt: HostRuntime) -> Result<(), Fail> {
-    let arena = Bump::new(rt.alloc());
-    assert_calls(&rt, &arena)
+/// One tree, by itself.
+fn only<'b>(arena: &'b Bump, raw: Raw<'b>) -> Result<&'b [Raw<'b>], Fail> {
+    let mut kids = Vec::new(arena);
+    kids.push(raw)?;
+    Ok(into_bump_slice(kids))
 }
 
 /// This many elements within one another, all of this name.
-fn nested<'b>(arena: &'b Bump, depth: u32) -> Result<Raw<'b>, Fail> {
-    let mut inner = literal(arena, 20, "a", &[], &[])?;
+fn nested<'b>(arena: &'b Bump, depth: u32) -> Result<&'b [Raw<'b>], Fail> {
+    let mut inner = only(arena, literal!(20, "a", &[], &[]))?;
     for _ in 1..depth {
-        inner = literal(arena, 20, "a", &[], &[inner])?;
+        inner = only(arena, literal!(20, "a", &[], inner))?;
     }
     Ok(inner)
 }
@@ -710,7 +743,7 @@ fn nested<'b>(arena: &'b Bump, depth: u32) -> Result<Raw<'b>, Fail> {
 fn elements_nest_two_thousand_deep(rt: HostRuntime) -> Result<(), Fail> {
     let arena = Bump::new(rt.alloc());
     let inner = nested(&arena, 2000)?;
-    assert_eq!(rt; fault_in_body(&arena, inner)?, None);
+    assert_eq!(rt; fault_in_body(&arena, inner), None);
     Ok(())
 }
 
@@ -725,18 +758,35 @@ fn name_of<'b>(arena: &'b Bump, number: u32) -> Result<&'b str, Fail> {
     Ok(into_bump_str(name))
 }
 
+/// An attribute `name`, by itself.
+fn name_attribute<'b>(arena: &'b Bump, name: &'b str) -> Result<&'b [RawAttr<'b>], Fail> {
+    let mut attributes = Vec::new(arena);
+    attributes.push(plain!(2, "name", name))?;
+    Ok(into_bump_slice(attributes))
+}
+
+/// A template of this name, which calls another one.
+fn calling<'b>(arena: &'b Bump, name: &'b str, callee: &'b str) -> Result<Raw<'b>, Fail> {
+    let call = xsl!(1, "call-template", name_attribute(arena, callee)?, &[]);
+    let kids = only(arena, call)?;
+    let attributes = name_attribute(arena, name)?;
+    Ok(xsl!(1, "template", attributes, kids))
+}
+
+/// The first template of a chain.
+const FIRST: Raw<'static> = xsl!(1, "template", &[plain!(2, "name", "first")], &[]);
+
 /// So many named templates, each of which calls the one before it.
 fn chain<'b>(arena: &'b Bump, count: u32) -> Result<Raw<'b>, Fail> {
     let mut templates = Vec::new(arena);
-    templates.push(xsl(arena, 1, "template", &[("name", "first")], &[])?)?;
+    templates.push(FIRST)?;
     let mut before = "first";
     for number in 0..count {
         let name = name_of(arena, number)?;
-        let call = xsl(arena, 1, "call-template", &[("name", before)], &[])?;
-        templates.push(xsl(arena, 1, "template", &[("name", name)], &[call])?)?;
+        templates.push(calling(arena, name, before)?)?;
         before = name;
     }
-    stylesheet(arena, &templates)
+    Ok(stylesheet!(into_bump_slice(templates)))
 }
 
 #[test]

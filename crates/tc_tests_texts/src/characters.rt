@@ -32,27 +32,35 @@ static CLASSES: [(&str, [bool; 4]); 5] = [
 #[test]
 fn classes_at_the_ends_of_their_ranges(rt: HostRuntime) {
     for (characters, classes) in &CLASSES {
+        let [of_xml, white, start, inner] = *classes;
         for c in characters.chars() {
-            let found = [is_char(c), is_white(c), is_name_start(c), is_name_char(c)];
-            assert_eq!(rt; found, *classes, "{c:?}");
+            let is_as_told = is_char(c) == of_xml
+                && is_white(c) == white
+                && is_name_start(c) == start
+                && is_name_char(c) == inner;
+            assert!(rt; is_as_told, "{c:?}");
         }
     }
 }
 
-/// Characters that are taken, the places behind them, and how many bytes are left.
-static TAKEN: [(char, u32, usize); 4] = [('a', 1, 9), ('é', 3, 7), ('€', 6, 4), ('😀', 10, 0)];
+/// Characters that are taken up to the end, the places behind them, and how many bytes are left.
+static TAKEN: [(Option<char>, u32, usize); 5] = [
+    (Some('a'), 1, 9),
+    (Some('é'), 3, 7),
+    (Some('€'), 6, 4),
+    (Some('😀'), 10, 0),
+    (None, 10, 0),
+];
 
 /// Characters of one to four bytes, the last before the end.
 #[test]
 fn takes_characters_of_each_length(rt: HostRuntime) {
     let mut cursor = Cursor::new(b"a\xC3\xA9\xE2\x82\xAC\xF0\x9F\x98\x80");
     for (c, place, left) in &TAKEN {
-        assert_eq!(rt; cursor.next_char(), Ok(Some(*c)));
-        assert_eq!(rt; cursor.place(), Place(*place));
-        assert_eq!(rt; cursor.rest().len(), *left);
+        assert!(rt; cursor.next_char() == Ok(*c));
+        assert!(rt; cursor.place() == Place(*place), "{c:?}");
+        assert!(rt; cursor.rest().len() == *left, "{c:?}");
     }
-    assert_eq!(rt; cursor.next_char(), Ok(None));
-    assert_eq!(rt; cursor.place(), Place(10));
 }
 
 /// Too long a form of two bytes and one of three, a surrogate, too large a number, a byte alone, a front, and a break.
@@ -66,19 +74,23 @@ static BAD: [&[u8]; 7] = [
     b"\xF0\x9F\x98a",
 ];
 
-/// A character that ends where the bytes go wrong is taken; what is no character stays.
 #[test]
 fn stays_where_no_character_begins(rt: HostRuntime) {
     for bytes in &BAD {
         assert!(rt; bytes.len() <= LONGEST_FILE);
         let mut cursor = Cursor::new(bytes);
-        assert_eq!(rt; cursor.next_char(), Err(Place(0)), "{bytes:?}");
-        assert_eq!(rt; cursor.rest(), *bytes);
+        assert!(rt; cursor.next_char() == Err(Place(0)), "{bytes:?}");
+        assert!(rt; cursor.rest() == *bytes, "{bytes:?}");
     }
+}
+
+/// A character that ends where the bytes go wrong is taken; what is no character stays.
+#[test]
+fn takes_the_character_before_what_is_none(rt: HostRuntime) {
     let mut cursor = Cursor::new(b"\xC3\xA9\xFF");
-    assert_eq!(rt; cursor.next_char(), Ok(Some('é')));
-    assert_eq!(rt; cursor.next_char(), Err(Place(2)));
-    assert_eq!(rt; cursor.next_char(), Err(Place(2)));
+    assert!(rt; cursor.next_char() == Ok(Some('é')));
+    assert!(rt; cursor.next_char() == Err(Place(2)));
+    assert!(rt; cursor.next_char() == Err(Place(2)));
 }
 
 static REASONS: [(Why, u32, &str); 12] = [
@@ -100,25 +112,28 @@ static REASONS: [(Why, u32, &str); 12] = [
 #[test]
 fn reasons_have_their_numbers_and_words(rt: HostRuntime) {
     for (why, number, word) in &REASONS {
-        assert_eq!(rt; why.number(), *number);
-        assert_eq!(rt; why.word(), *word);
+        assert!(rt; why.number() == *number && why.word() == *word, "{word}");
     }
 }
 
-/// Two bytes, in a box and in a list.
-fn bytes_twice(alloc: Global) -> Result<(Box<u8>, Vec<u8>), NoMemory> {
-    let boxed = Box::new(alloc, 7)?;
+/// A byte that was in a box.
+fn boxed(alloc: Global) -> Result<u8, NoMemory> {
+    let byte = Box::new(alloc, 7)?;
+    Ok(*byte)
+}
+
+/// A byte in a list.
+fn listed(alloc: Global) -> Result<Vec<u8>, NoMemory> {
     let mut list = Vec::new(alloc);
     list.reserve(1)?;
     list.push(7)?;
-    Ok((boxed, list))
+    Ok(list)
 }
 
 /// With memory left, what may be refused for want of it is not.
 #[test]
 fn errors_of_the_allocator_become_want_of_memory(rt: HostRuntime) -> Result<(), Fail> {
-    let (boxed, list) = bytes_twice(rt.alloc())?;
-    assert_eq!(rt; *boxed, 7);
-    assert_eq!(rt; list.as_slice(), [7].as_slice());
+    assert!(rt; boxed(rt.alloc())? == 7);
+    assert!(rt; listed(rt.alloc())?.as_slice() == [7].as_slice());
     Ok(())
 }

@@ -6,35 +6,41 @@ fn the_front_of_a_text_is_found(rt: HostRuntime) {
     assert!(rt; after_mark("<!-a-->", "<!--").is_none());
     assert!(rt; after_some_white(" \t\r\nb") == Some("b"));
     assert!(rt; after_some_white("b").is_none());
+}
+
+#[test]
+fn plain_text_and_what_stands_before_a_mark_are_found(rt: HostRuntime) {
     assert!(rt; plain_len("ab&lt;") == 2);
     assert!(rt; plain_len_within("a\"b'", b'\'') == 3);
     assert!(rt; up_to("a-b-->c", "-->") == Some(("a-b", "c")));
     assert!(rt; up_to("a-b--c", "-->").is_none());
 }
 
-fn is_read(text: &str, prefix: &str, local: &str, after: &str) -> bool {
-    match qname(text) {
-        Some((name, rest)) => name.prefix == prefix && name.local == local && rest == after,
-        None => false,
-    }
+/// Texts, and what is read in front of each, if it begins with a name: the prefix, the local part, and what follows.
+static NAMES: [(&str, Option<(&str, &str, &str)>); 9] = [
+    ("a=", Some(("", "a", "="))),
+    ("p:a-1.b >", Some(("p", "a-1.b", " >"))),
+    ("\u{3b1}:\u{3b2}/", Some(("\u{3b1}", "\u{3b2}", "/"))),
+    (
+        "a\u{3b2}c:d\u{b7}e-1\u{d7}",
+        Some(("a\u{3b2}c", "d\u{b7}e-1", "\u{d7}")),
+    ),
+    ("a:b:c", Some(("a", "b", ":c"))),
+    ("1a", None),
+    (":a", None),
+    ("a:", None),
+    ("", None),
+];
+
+/// What is read in front of a text.
+fn read_name(text: &str) -> Option<(&str, &str, &str)> {
+    let (name, after) = qname(text)?;
+    Some((name.prefix, name.local, after))
 }
 
 #[test]
 fn names_are_read_as_long_as_they_go(rt: HostRuntime) {
-    assert!(rt; is_read("a=", "", "a", "="));
-    assert!(rt; is_read("p:a-1.b >", "p", "a-1.b", " >"));
-    assert!(rt; is_read("\u{3b1}:\u{3b2}/", "\u{3b1}", "\u{3b2}", "/"));
-    assert!(rt;
-        is_read(
-            "a\u{3b2}c:d\u{b7}e-1\u{d7}",
-            "a\u{3b2}c",
-            "d\u{b7}e-1",
-            "\u{d7}"
-        )
-    );
-    assert!(rt; is_read("a:b:c", "a", "b", ":c"));
-    assert!(rt; qname("1a").is_none());
-    assert!(rt; qname(":a").is_none());
-    assert!(rt; qname("a:").is_none());
-    assert!(rt; qname("").is_none());
+    for (text, expected) in &NAMES {
+        assert!(rt; read_name(text) == *expected, "{text}");
+    }
 }

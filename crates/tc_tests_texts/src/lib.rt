@@ -17,6 +17,8 @@ mod paths;
 #[cfg(test)]
 mod printed;
 #[cfg(test)]
+mod repeated;
+#[cfg(test)]
 mod simplified;
 #[cfg(test)]
 mod stores;

@@ -1,7 +1,6 @@
 ghost use Rattle.std.specs.Prelude.{◌≡◌, ◌∷◌, [], IfOk};
 
 use std::alloc::Global;
-use std::process::Abort;
 use std::test::Fail;
 use tc_base::NoMemory;
 use tc_model::{HedgeLine, HedgeLines, Numbers, PairLists, Pairs, TreeLine, TreeLines};
@@ -15,28 +14,11 @@ fn numbers(alloc: Global, first: u32, second: u32) -> Result<Numbers, NoMemory>
     Ok(numbers)
 }
 
-/// Asserts of two numbers that they are kept.
-fn assert_numbers(rt: &impl Abort, alloc: Global) -> Result<(), NoMemory> {
-    let numbers = numbers(alloc, 7, 4294967295)?;
-    assert_eq!(rt; numbers.len(), 2);
-    assert_eq!(rt; *numbers.get(0), 7);
-    assert_eq!(rt; *numbers.get(1), 4294967295);
-    Ok(())
-}
-
 fn pairs(alloc: Global) -> Result<Pairs, NoMemory> {
     let mut pairs = Pairs::new(alloc);
     pairs.push((2, 3))?;
     pairs.push((3, 3))?;
     Ok(pairs)
-}
-
-/// Asserts of two pairs that they are kept.
-fn assert_pairs(rt: &impl Abort, alloc: Global) -> Result<(), NoMemory> {
-    let pairs = pairs(alloc)?;
-    assert_eq!(rt; pairs.len(), 2);
-    assert_eq!(rt; *pairs.get(0), (2, 3));
-    Ok(())
 }
 
 /// No pair, and two pairs.
@@ -49,18 +31,27 @@ fn outputs(alloc: Global) -> Result<PairLists, NoMemory> {
 }
 
 #[test]
-fn numbers_and_pairs_are_kept(rt: HostRuntime) -> Result<(), Fail> {
-    assert_numbers(&rt, rt.alloc())?;
-    assert_pairs(&rt, rt.alloc())?;
-    let outputs = outputs(rt.alloc())?;
-    assert_eq!(rt; outputs.len(), 2);
-    assert_eq!(rt; outputs.get(0).len(), 0);
-    assert_eq!(rt; outputs.get(1).len(), 2);
+fn numbers_are_kept(rt: HostRuntime) -> Result<(), Fail> {
+    let numbers = numbers(rt.alloc(), 7, 4294967295)?;
+    assert!(rt; numbers.len() == 2);
+    assert!(rt; *numbers.get(0) == 7);
+    assert!(rt; *numbers.get(1) == 4294967295);
     Ok(())
 }
 
-/// Asserts of the row of a tree that it is kept.
-fn assert_tree(rt: &impl Abort, alloc: Global) -> Result<(), NoMemory> {
+#[test]
+fn pairs_are_kept(rt: HostRuntime) -> Result<(), Fail> {
+    let outputs = outputs(rt.alloc())?;
+    assert!(rt; outputs.len() == 2);
+    assert!(rt; outputs.get(0).len() == 0);
+    let pairs = outputs.get(1);
+    assert!(rt; pairs.len() == 2);
+    assert!(rt; *pairs.get(0) == (2, 3));
+    Ok(())
+}
+
+/// The row of a tree.
+fn trees(alloc: Global) -> Result<TreeLines, NoMemory> {
     let outs = numbers(alloc, 1, 0)?;
     let mut trees = TreeLines::new(alloc);
     trees.push(TreeLine {
@@ -70,14 +61,20 @@ fn assert_tree(rt: &impl Abort, alloc: Global) -> Result<(), NoMemory> {
         outs,
         looks: Numbers::new(alloc),
     })?;
-    assert_eq!(rt; trees.len(), 1);
-    assert!(rt; trees.get(0).bears);
-    assert_eq!(rt; trees.get(0).outs.len(), 2);
+    Ok(trees)
+}
+
+#[test]
+fn rows_of_trees_are_kept(rt: HostRuntime) -> Result<(), Fail> {
+    let trees = trees(rt.alloc())?;
+    assert!(rt; trees.len() == 1);
+    let tree = trees.get(0);
+    assert!(rt; tree.bears && tree.outs.len() == 2);
     Ok(())
 }
 
-/// Asserts of the row of a list of trees that it is kept.
-fn assert_hedge(rt: &impl Abort, alloc: Global) -> Result<(), NoMemory> {
+/// The row of a list of trees.
+fn hedges(alloc: Global) -> Result<HedgeLines, NoMemory> {
     let states = numbers(alloc, 0, 2)?;
     let mut hedges = HedgeLines::new(alloc);
     hedges.push(HedgeLine {
@@ -87,15 +84,14 @@ fn assert_hedge(rt: &impl Abort, alloc: Global) -> Result<(), NoMemory> {
         outs: Numbers::new(alloc),
         looks: Numbers::new(alloc),
     })?;
-    assert_eq!(rt; hedges.len(), 1);
-    assert!(rt; hedges.get(0).ends);
-    assert_eq!(rt; hedges.get(0).states.len(), 2);
-    Ok(())
+    Ok(hedges)
 }
 
 #[test]
-fn rows_are_kept(rt: HostRuntime) -> Result<(), Fail> {
-    assert_tree(&rt, rt.alloc())?;
-    assert_hedge(&rt, rt.alloc())?;
+fn rows_of_lists_of_trees_are_kept(rt: HostRuntime) -> Result<(), Fail> {
+    let hedges = hedges(rt.alloc())?;
+    assert!(rt; hedges.len() == 1);
+    let hedge = hedges.get(0);
+    assert!(rt; hedge.ends && hedge.states.len() == 2);
     Ok(())
 }

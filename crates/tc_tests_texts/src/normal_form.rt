@@ -1,7 +1,6 @@
+use crate::repeated::nested_tree;
 use bumpalo::Bump;
-use bumpalo::collections::into_bump_slice;
 use std::test::Fail;
-use tc_base::NoMemory;
 use tc_model::{Name, Node, normalise};
 
 /// Texts beside an element and in it.
@@ -21,31 +20,8 @@ static TEXTS: [Node<'static>; 3] = [
 fn texts_join_and_white_space_goes(rt: HostRuntime) -> Result<(), Fail> {
     let arena = Bump::new(rt.alloc());
     let normal = normalise(&arena, &TEXTS)?;
-    assert_eq!(rt; normal.len(), 1);
-    let Node::Elem(_, kids) = normal[0] else {
-        panic!(rt; "an element");
-    };
-    assert_eq!(rt; kids.len(), 1);
-    let Node::Text(text) = kids[0] else {
-        panic!(rt; "a text");
-    };
-    assert_eq!(rt; text, " x\n");
+    assert!(rt; matches!(normal, [Node::Elem(_, [Node::Text(" x\n")])]));
     Ok(())
-}
-
-/// Elements that stand within one another.
-fn nested<'b>(arena: &'b Bump, depth: u32) -> Result<&'b [Node<'b>], NoMemory> {
-    let mut nodes: &'b [Node<'b>] = into_bump_slice(Vec::new(arena));
-    for _ in 0..depth {
-        let name = Name {
-            uri: "",
-            local: "a",
-        };
-        let mut level = Vec::new(arena);
-        level.push(Node::Elem(name, nodes))?;
-        nodes = into_bump_slice(level);
-    }
-    Ok(nodes)
 }
 
 /// The children of the first tree.
@@ -56,12 +32,12 @@ fn children_of_first<'b>(nodes: &'b [Node<'b>]) -> &'b [Node<'b>] {
     &nodes[..0]
 }
 
-/// How many elements stand within one another, counted up to `most`.
+/// How many elements stand within one another, each the first child of the one around it, counted up to `most`.
 fn depth_of<'b>(nodes: &'b [Node<'b>], most: u32) -> u32 {
     let mut level = nodes;
     let mut depth = 0;
     for above in 0..most {
-        if !level.is_empty() {
+        if matches!(level.first(), Some(Node::Elem(_, _))) {
             depth = above + 1;
         }
         level = children_of_first(level);
@@ -72,8 +48,8 @@ fn depth_of<'b>(nodes: &'b [Node<'b>], most: u32) -> u32 {
 #[test]
 fn elements_nest_eight_thousand_deep(rt: HostRuntime) -> Result<(), Fail> {
     let arena = Bump::new(rt.alloc());
-    let nodes = nested(&arena, 8000)?;
-    let normal = normalise(&arena, nodes)?;
-    assert_eq!(rt; depth_of(normal, 9000), 8000);
+    let node = nested_tree(&arena, 8000)?;
+    let normal = normalise(&arena, &[node])?;
+    assert!(rt; depth_of(normal, 9000) == 8000);
     Ok(())
 }

@@ -1,6 +1,9 @@
 //! Rows of the grammar, by hand.
 
+use crate::repeated::{Parts, nested};
 use bumpalo::Bump;
+use std::alloc::Global;
+use std::process::Abort;
 use std::test::Fail;
 use tc_base::Why;
 use tc_model::{Alt, Binding, Instr, NodeTest, Path, Pattern, Step, Test};
@@ -19,157 +22,178 @@ static SCOPE: [Binding<'static>; 2] = [
     },
 ];
 
-/// A node test, spelled with its namespace name.
-fn put_node_test(out: &mut String, test: &NodeTest<'_>) -> Result<(), Fail> {
-    match test {
-        NodeTest::Name(name) => {
-            out.push_str("{")?;
-            out.push_str(name.uri)?;
-            out.push_str("}")?;
-            out.push_str(name.local)?;
-        }
-        NodeTest::Ns(uri) => {
-            out.push_str("{")?;
-            out.push_str(uri)?;
-            out.push_str("}*")?;
-        }
-        NodeTest::Any => out.push_str("*")?,
-        NodeTest::Text => out.push_str("text()")?,
-        NodeTest::Node => out.push_str("node()")?,
+/// Writes texts one after another.
+fn put_texts(out: &mut String, texts: &[&str]) -> Result<(), Fail> {
+    for text in texts {
+        out.push_str(text)?;
     }
     Ok(())
+}
+
+/// The texts of a node test, which is spelled with its namespace name.
+fn node_test<'t>(test: &NodeTest<'t>) -> [&'t str; 4] {
+    match test {
+        NodeTest::Name(name) => ["{", name.uri, "}", name.local],
+        NodeTest::Ns(uri) => ["{", uri, "}", "*"],
+        NodeTest::Any => ["*", "", "", ""],
+        NodeTest::Text => ["text()", "", "", ""],
+        NodeTest::Node => ["node()", "", "", ""],
+    }
 }
 
 /// Steps: `//` before each deep one, `/` before another, and its predicates in brackets.
 #[cycle(put)]
 fn put_steps(out: &mut String, steps: &[Step<'_>]) -> Result<(), Fail> {
     for step in steps {
-        out.push_str(if step.deep { "//" } else { "/" })?;
-        put_node_test(out, &step.test)?;
+        put_texts(out, &[if step.deep { "//" } else { "/" }])?;
+        put_texts(out, &node_test(&step.test))?;
         match step.when {
             Test::True => (),
             when => {
-                out.push_str("[")?;
+                put_texts(out, &["["])?;
                 put_test(out, &when)?;
-                out.push_str("]")?;
+                put_texts(out, &["]"])?;
             }
         }
     }
     Ok(())
 }
 
+/// Paths, each followed by a stroke.
 #[cycle(put)]
 fn put_path(out: &mut String, path: &Path<'_>) -> Result<(), Fail> {
-    out.push_str("<")?;
+    put_texts(out, &["<"])?;
     for steps in path.alts {
         put_steps(out, steps)?;
-        out.push_str("|")?;
+        put_texts(out, &["|"])?;
     }
-    out.push_str(">")?;
-    Ok(())
+    put_texts(out, &[">"])
 }
 
+/// Tests in parentheses behind a word, each followed by a comma.
 #[cycle(put)]
 fn put_tests(out: &mut String, word: &str, tests: &[Test<'_>]) -> Result<(), Fail> {
-    out.push_str(word)?;
-    out.push_str("(")?;
+    put_texts(out, &[word, "("])?;
     for test in tests {
         put_test(out, test)?;
-        out.push_str(",")?;
+        put_texts(out, &[","])?;
     }
-    out.push_str(")")?;
-    Ok(())
+    put_texts(out, &[")"])
 }
 
 #[cycle(put)]
 fn put_test(out: &mut String, test: &Test<'_>) -> Result<(), Fail> {
     match test {
-        Test::True => out.push_str("true")?,
-        Test::False => out.push_str("false")?,
-        Test::Has(path) => put_path(out, path)?,
+        Test::True => put_texts(out, &["true"]),
+        Test::False => put_texts(out, &["false"]),
+        Test::Has(path) => put_path(out, path),
         Test::Not(inner) => {
-            out.push_str("not ")?;
-            put_test(out, inner)?;
+            put_texts(out, &["not "])?;
+            put_test(out, inner)
         }
-        Test::And(tests) => put_tests(out, "all", tests)?,
-        Test::Or(tests) => put_tests(out, "any", tests)?,
+        Test::And(tests) => put_tests(out, "all", tests),
+        Test::Or(tests) => put_tests(out, "any", tests),
     }
-    Ok(())
-}
-
-/// What stands for a fault in a row.
-fn put_fault(out: &mut String, fault: PathFault) -> Result<(), Fail> {
-    match fault {
-        PathFault::Malformed => out.push_str("malformed")?,
-        PathFault::Unsupported(why) => out.push_str(why.word())?,
-        PathFault::TooDeep => out.push_str("too-deep")?,
-        PathFault::NoMemory => out.push_str("no-memory")?,
-    }
-    Ok(())
-}
-
-fn select_of(rt: &HostRuntime, text: &str) -> Result<String, Fail> {
-    let arena = Bump::new(rt.alloc());
-    let mut out = String::new(rt.alloc());
-    match read_select(&arena, text, &SCOPE) {
-        Ok(path) => put_path(&mut out, &path)?,
-        Err(fault) => put_fault(&mut out, fault)?,
-    }
-    Ok(out)
-}
-
-fn value_of(rt: &HostRuntime, text: &str) -> Result<String, Fail> {
-    let arena = Bump::new(rt.alloc());
-    let mut out = String::new(rt.alloc());
-    match read_value(&arena, text, &SCOPE) {
-        Ok(Instr::ValueOf(path)) => put_path(&mut out, &path)?,
-        Ok(Instr::ValueOfSelf) => out.push_str(".")?,
-        Ok(_) => out.push_str("?")?,
-        Err(fault) => put_fault(&mut out, fault)?,
-    }
-    Ok(out)
-}
-
-fn test_of(rt: &HostRuntime, text: &str) -> Result<String, Fail> {
-    let arena = Bump::new(rt.alloc());
-    let mut out = String::new(rt.alloc());
-    match read_test(&arena, text, &SCOPE) {
-        Ok(test) => put_test(&mut out, &test)?,
-        Err(fault) => put_fault(&mut out, fault)?,
-    }
-    Ok(out)
 }
 
 /// The alternatives, each with what stands for its priority: `=` for 0, `-` for -2500, `--` for -5000, `+` for 5000.
-fn pattern_of(rt: &HostRuntime, text: &str) -> Result<String, Fail> {
-    let arena = Bump::new(rt.alloc());
-    let mut out = String::new(rt.alloc());
-    match read_pattern(&arena, text, &SCOPE) {
-        Ok(alternatives) => put_alternatives(&mut out, alternatives)?,
-        Err(fault) => put_fault(&mut out, fault)?,
-    }
-    Ok(out)
-}
-
 fn put_alternatives(out: &mut String, alternatives: &[Alt<'_>]) -> Result<(), Fail> {
     for alternative in alternatives {
         match alternative.pattern {
-            Pattern::Root => out.push_str("root")?,
+            Pattern::Root => put_texts(out, &["root"])?,
             Pattern::Steps(steps) => put_steps(out, steps)?,
         }
-        out.push_str(match alternative.priority {
+        let priority = match alternative.priority {
             0 => "=",
             -2500 => "-",
             -5000 => "--",
             5000 => "+",
             _ => "?",
-        })?;
-        out.push_str(" ")?;
+        };
+        put_texts(out, &[priority, " "])?;
     }
     Ok(())
 }
 
-static SELECTS: [(&str, &str); 47] = [
+/// What stands for a fault in a row.
+fn word_of(fault: PathFault) -> &'static str {
+    match fault {
+        PathFault::Malformed => "malformed",
+        PathFault::Unsupported(why) => why.word(),
+        PathFault::TooDeep => "too-deep",
+        PathFault::NoMemory => "no-memory",
+    }
+}
+
+/// What a text is read as.
+#[derive(Clone, Copy)]
+enum Form {
+    Select,
+    Value,
+    Test,
+    Pattern,
+}
+
+/// The word of a form, for messages.
+fn name_of(form: Form) -> &'static str {
+    match form {
+        Form::Select => "select",
+        Form::Value => "value",
+        Form::Test => "test",
+        Form::Pattern => "pattern",
+    }
+}
+
+/// What a text is read to.
+#[derive(Clone, Copy)]
+enum Meaning<'b> {
+    Path(Path<'b>),
+    Value(Instr<'b>),
+    Test(Test<'b>),
+    Pattern(&'b [Alt<'b>]),
+}
+
+/// Reads a text of a form.
+fn read<'b>(arena: &'b Bump, form: Form, text: &str) -> Result<Meaning<'b>, PathFault> {
+    Ok(match form {
+        Form::Select => Meaning::Path(read_select(arena, text, &SCOPE)?),
+        Form::Value => Meaning::Value(read_value(arena, text, &SCOPE)?),
+        Form::Test => Meaning::Test(read_test(arena, text, &SCOPE)?),
+        Form::Pattern => Meaning::Pattern(read_pattern(arena, text, &SCOPE)?),
+    })
+}
+
+/// What a text is read to, or the word of its fault.
+fn put_read(out: &mut String, read: &Result<Meaning<'_>, PathFault>) -> Result<(), Fail> {
+    match read {
+        Ok(Meaning::Path(path) | Meaning::Value(Instr::ValueOf(path))) => put_path(out, path),
+        Ok(Meaning::Value(Instr::ValueOfSelf)) => put_texts(out, &["."]),
+        Ok(Meaning::Value(_)) => put_texts(out, &["?"]),
+        Ok(Meaning::Test(test)) => put_test(out, test),
+        Ok(Meaning::Pattern(alternatives)) => put_alternatives(out, alternatives),
+        Err(fault) => put_texts(out, &[word_of(*fault)]),
+    }
+}
+
+/// Asserts what a text of a form is read to.
+fn assert_read(
+    rt: &impl Abort,
+    alloc: Global,
+    form: Form,
+    text: &str,
+    expected: &str,
+) -> Result<(), Fail> {
+    let arena = Bump::new(alloc);
+    let mut out = String::new(alloc);
+    put_read(&mut out, &read(&arena, form, text))?;
+    assert!(rt; out.as_str() == expected, "{} {text}", name_of(form));
+    Ok(())
+}
+
+/// A text, and what it is read to.
+type Row = (&'static str, &'static str);
+
+static SELECTS: [Row; 47] = [
     ("a", "</{}a|>"),
     (" a / p:b // * ", "</{}a/{urn:p}b//*|>"),
     (
@@ -222,38 +246,7 @@ static SELECTS: [(&str, &str); 47] = [
     ("a['b']", "string"),
 ];
 
-#[test]
-fn selects(rt: HostRuntime) -> Result<(), Fail> {
-    for (text, expected) in &SELECTS {
-        assert_eq!(rt; select_of(&rt, text)?.as_str(), *expected, "{text}");
-    }
-    Ok(())
-}
-
-static ATTRIBUTES: [(&str, Result<bool, PathFault>); 9] = [
-    ("@a", Ok(true)),
-    (" a/@* | .//attribute::p:b ", Ok(true)),
-    ("a[b]/@c", Ok(true)),
-    ("@a|comment()", Ok(false)),
-    ("@a|b", Ok(false)),
-    ("processing-instruction()", Ok(false)),
-    ("@a[b]", Err(PathFault::Unsupported(Why::Predicate))),
-    ("@q:a", Err(PathFault::Malformed)),
-    ("@a|/@b", Err(PathFault::Unsupported(Why::AbsolutePath))),
-];
-
-#[test]
-fn attributes(rt: HostRuntime) {
-    for (text, expected) in &ATTRIBUTES {
-        let arena = Bump::new(rt.alloc());
-        assert!(rt;
-            selects_attributes(&arena, text, &SCOPE) == *expected,
-            "{text}"
-        );
-    }
-}
-
-static VALUES: [(&str, &str); 9] = [
+static VALUES: [Row; 9] = [
     (" . ", "."),
     ("a|.//b", "</{}a|//{}b|>"),
     ("a/@b", "attribute"),
@@ -265,15 +258,7 @@ static VALUES: [(&str, &str); 9] = [
     ("string(.)", "function"),
 ];
 
-#[test]
-fn values(rt: HostRuntime) -> Result<(), Fail> {
-    for (text, expected) in &VALUES {
-        assert_eq!(rt; value_of(&rt, text)?.as_str(), *expected, "{text}");
-    }
-    Ok(())
-}
-
-static TESTS: [(&str, &str); 22] = [
+static TESTS: [Row; 22] = [
     ("and and or", "all(</{}and|>,</{}or|>,)"),
     ("a or b and c", "any(</{}a|>,all(</{}b|>,</{}c|>,),)"),
     ("(a or b) and c", "all(any(</{}a|>,</{}b|>,),</{}c|>,)"),
@@ -298,15 +283,7 @@ static TESTS: [(&str, &str); 22] = [
     ("comment()", "malformed"),
 ];
 
-#[test]
-fn tests(rt: HostRuntime) -> Result<(), Fail> {
-    for (text, expected) in &TESTS {
-        assert_eq!(rt; test_of(&rt, text)?.as_str(), *expected, "{text}");
-    }
-    Ok(())
-}
-
-static PATTERNS: [(&str, &str); 24] = [
+static PATTERNS: [Row; 24] = [
     ("a|b/c|@x", "//{}a= //{}b/{}c+ "),
     ("/", "root+ "),
     ("/|a", "root+ //{}a= "),
@@ -336,12 +313,45 @@ static PATTERNS: [(&str, &str); 24] = [
     ("a/..", "axis"),
 ];
 
-#[test]
-fn patterns(rt: HostRuntime) -> Result<(), Fail> {
-    for (text, expected) in &PATTERNS {
-        assert_eq!(rt; pattern_of(&rt, text)?.as_str(), *expected, "{text}");
+/// Asserts what texts of a form are read to.
+fn assert_rows(rt: &impl Abort, alloc: Global, form: Form, rows: &[Row]) -> Result<(), Fail> {
+    for (text, expected) in rows {
+        assert_read(rt, alloc, form, text, expected)?;
     }
     Ok(())
+}
+
+#[test]
+fn texts_of_each_form_are_read_as_told(rt: HostRuntime) -> Result<(), Fail> {
+    assert_rows(&rt, rt.alloc(), Form::Select, &SELECTS)?;
+    assert_rows(&rt, rt.alloc(), Form::Value, &VALUES)?;
+    assert_rows(&rt, rt.alloc(), Form::Test, &TESTS)?;
+    assert_rows(&rt, rt.alloc(), Form::Pattern, &PATTERNS)
+}
+
+static ATTRIBUTES: [(&str, Result<bool, PathFault>); 9] = [
+    ("@a", Ok(true)),
+    (" a/@* | .//attribute::p:b ", Ok(true)),
+    ("a[b]/@c", Ok(true)),
+    ("@a|comment()", Ok(false)),
+    ("@a|b", Ok(false)),
+    ("processing-instruction()", Ok(false)),
+    ("@a[b]", Err(PathFault::Unsupported(Why::Predicate))),
+    ("@q:a", Err(PathFault::Malformed)),
+    ("@a|/@b", Err(PathFault::Unsupported(Why::AbsolutePath))),
+];
+
+#[test]
+fn attributes_and_a_predicate_of_one(rt: HostRuntime) {
+    let arena = Bump::new(rt.alloc());
+    for (text, expected) in &ATTRIBUTES {
+        assert!(rt;
+            selects_attributes(&arena, text, &SCOPE) == *expected,
+            "{text}"
+        );
+    }
+    let predicate = read_select(&arena, "@a[b]", &SCOPE).err();
+    assert!(rt; predicate == Some(PathFault::Unsupported(Why::Predicate)));
 }
 
 static PRIORITIES: [(&str, Option<i64>); 17] = [
@@ -367,63 +377,33 @@ static PRIORITIES: [(&str, Option<i64>); 17] = [
 #[test]
 fn priorities(rt: HostRuntime) {
     for (text, expected) in &PRIORITIES {
-        assert_eq!(rt; read_priority(text), *expected, "{text}");
+        assert!(rt; read_priority(text) == *expected, "{text}");
     }
 }
 
-/// This text so many times before and behind `middle`.
-fn nested(
-    rt: &HostRuntime,
-    count: usize,
-    open: &str,
-    middle: &str,
-    close: &str,
-) -> Result<String, Fail> {
-    let mut out = String::new(rt.alloc());
-    for _ in 0..count {
-        out.push_str(open)?;
-    }
-    out.push_str(middle)?;
-    for _ in 0..count {
-        out.push_str(close)?;
-    }
-    Ok(out)
-}
-
-/// What such a test is read to.
-fn nested_test(rt: &HostRuntime, count: usize) -> Result<String, Fail> {
-    let text = nested(rt, count, "(", "true()", ")")?;
-    test_of(rt, text.as_str())
-}
+const PARENTHESES: Parts = ["", "(", "true()", ")", ""];
 
 #[test]
-fn nesting(rt: HostRuntime) -> Result<(), Fail> {
-    assert_eq!(rt; nested_test(&rt, 1999)?.as_str(), "true");
-    assert_eq!(rt; nested_test(&rt, 2001)?.as_str(), "too-deep");
+fn parentheses_nest_2000_deep(rt: HostRuntime) -> Result<(), Fail> {
+    for (times, expected) in [(1999, "true"), (2001, "too-deep")] {
+        let text = nested(rt.alloc(), &PARENTHESES, times)?;
+        assert_read(&rt, rt.alloc(), Form::Test, text.as_str(), expected)?;
+    }
     Ok(())
 }
 
+const BRACKETS: Parts = ["", "a[", "a", "]", ""];
+
 /// Whether a select with so many predicates within one another is read, and how it is refused otherwise.
-fn nested_select(rt: &HostRuntime, count: usize) -> Result<Option<PathFault>, Fail> {
-    let text = nested(rt, count, "a[", "a", "]")?;
-    let arena = Bump::new(rt.alloc());
+fn fault_of_brackets(alloc: Global, times: usize) -> Result<Option<PathFault>, Fail> {
+    let text = nested(alloc, &BRACKETS, times)?;
+    let arena = Bump::new(alloc);
     Ok(read_select(&arena, text.as_str(), &SCOPE).err())
 }
 
 #[test]
-fn nesting_of_brackets(rt: HostRuntime) -> Result<(), Fail> {
-    assert!(rt; nested_select(&rt, 2001)? == Some(PathFault::TooDeep));
-    assert!(rt; nested_select(&rt, 2000)?.is_none());
+fn brackets_nest_2000_deep(rt: HostRuntime) -> Result<(), Fail> {
+    assert!(rt; fault_of_brackets(rt.alloc(), 2000)?.is_none());
+    assert!(rt; fault_of_brackets(rt.alloc(), 2001)? == Some(PathFault::TooDeep));
     Ok(())
-}
-
-#[test]
-fn reasons_by_number(rt: HostRuntime) {
-    let arena = Bump::new(rt.alloc());
-    assert!(rt;
-        matches!(
-            read_select(&arena, "@a[b]", &SCOPE),
-            Err(PathFault::Unsupported(Why::Predicate))
-        )
-    );
 }

@@ -1,5 +1,6 @@
 //! Texts of trees, by hand, and what a fault leaves of them.
 
+use crate::repeated::{nested, nested_tree};
 use bumpalo::Bump;
 use std::alloc::Global;
 use std::process::Abort;
@@ -30,7 +31,8 @@ const B: Name<'static> = Name {
 };
 
 /// Trees and their texts.
-static DECLARED: [(Node<'static>, &str); 3] = [
+static PRINTED: [(Node<'static>, &str); 6] = [
+    // A namespace is declared where it changes.
     (
         Node::Elem(A_OF_U, &[Node::Text("x < y"), Node::Elem(B, &[])]),
         "<a xmlns=\"u\">x &lt; y<b xmlns=\"\"/></a>",
@@ -64,9 +66,7 @@ static DECLARED: [(Node<'static>, &str); 3] = [
         ),
         "<xml:a><c xmlns=\"u\"><xml:d/><c/></c></xml:a>",
     ),
-];
-
-static ESCAPED: [(Node<'static>, &str); 3] = [
+    // Some characters are references.
     (
         Node::Text("<>&\n\r\"\t'\u{e9}"),
         "&lt;&gt;&amp;&#10;&#13;\"\t'\u{e9}",
@@ -84,104 +84,66 @@ static ESCAPED: [(Node<'static>, &str); 3] = [
     ),
 ];
 
-fn prints(alloc: Global, node: Node<'_>, text: &str) -> Result<bool, Fail> {
-    let mut sink = MemSink::new(alloc, 200)?;
-    let printed = print(&[node], &mut sink);
-    Ok(printed.is_ok() && sink.bytes() == text.as_bytes())
-}
-
-/// Asserts of each tree that its text is printed.
-fn assert_printed(rt: &impl Abort, alloc: Global, rows: &[(Node<'_>, &str)]) -> Result<(), Fail> {
-    for (node, text) in rows {
-        assert!(rt; prints(alloc, *node, text)?, "{text}");
+/// A sink of so much room, whose write of a number fails if one is given.
+fn sink_of(alloc: Global, room: usize, failing: Option<u64>) -> Result<MemSink, Fail> {
+    let mut sink = MemSink::new(alloc, room)?;
+    if let Some(number) = failing {
+        sink.fail_at(number)?;
     }
-    Ok(())
+    Ok(sink)
 }
 
-#[test]
-fn a_namespace_is_declared_where_it_changes(rt: HostRuntime) -> Result<(), Fail> {
-    assert_printed(&rt, rt.alloc(), &DECLARED)
-}
-
-#[test]
-fn some_characters_are_references(rt: HostRuntime) -> Result<(), Fail> {
-    assert_printed(&rt, rt.alloc(), &ESCAPED)
-}
-
-/// An empty element of the namespace `u`.
-static LEAF: [Node<'static>; 1] = [Node::Elem(A_OF_U, &[])];
-
-/// A plain text is one write, and a reference is one.
-static TEXTS: [Node<'static>; 2] = [Node::Text("plain text"), Node::Text("a&b")];
-
-/// Asserts what is printed of some trees into so much room before the fault.
-fn assert_front(rt: &impl Abort, nodes: &[Node<'_>], sink: &mut MemSink, front: &[u8]) {
-    assert!(rt; print(nodes, sink).is_err());
-    assert_eq!(rt; sink.bytes(), front);
-}
-
-/// Asserts what is printed of some trees before the write of a number, which fails.
-fn assert_front_before(
+/// Asserts what is printed of trees into such a sink: their whole text, or the front of it that a fault leaves.
+fn assert_printed(
     rt: &impl Abort,
     alloc: Global,
     nodes: &[Node<'_>],
-    failing: u64,
-    front: &[u8],
+    room: usize,
+    failing: Option<u64>,
+    expected: Result<&str, &str>,
 ) -> Result<(), Fail> {
-    let mut sink = MemSink::new(alloc, 200)?;
-    sink.fail_at(failing)?;
-    assert_front(rt, nodes, &mut sink, front);
+    let mut sink = sink_of(alloc, room, failing)?;
+    let is_whole = print(nodes, &mut sink).is_ok();
+    let (Ok(text) | Err(text)) = expected;
+    assert!(rt; is_whole == expected.is_ok(), "{text}");
+    assert!(rt; sink.bytes() == text.as_bytes(), "{text}");
     Ok(())
 }
 
 #[test]
-fn a_fault_leaves_a_front(rt: HostRuntime) -> Result<(), Fail> {
-    // The second write is that of the name.
-    assert_front_before(&rt, rt.alloc(), &LEAF, 2, b"<")?;
-    assert_front_before(&rt, rt.alloc(), &TEXTS, 3, b"plain texta")?;
-    let mut sink = MemSink::new(rt.alloc(), 4)?;
-    assert_front(&rt, &LEAF, &mut sink, b"<a x");
+fn namespaces_are_declared_and_characters_are_references(rt: HostRuntime) -> Result<(), Fail> {
+    for (node, text) in &PRINTED {
+        assert_printed(&rt, rt.alloc(), &[*node], 200, None, Ok(text))?;
+    }
     Ok(())
 }
 
-/// A text within so many elements.
-fn nested<'b>(arena: &'b Bump, depth: u32) -> Result<Node<'b>, Fail> {
-    let mut node = Node::Text("x");
-    let name = Name {
-        uri: "",
-        local: "a",
-    };
-    for _ in 0..depth {
-        node = Node::Elem(name, arena.try_alloc_slice_copy(&[node])?);
-    }
-    Ok(node)
-}
+/// An empty element of the namespace `u`.
+const LEAF: [Node<'static>; 1] = [Node::Elem(A_OF_U, &[])];
 
-/// Its text.
-fn nested_text(alloc: Global, depth: u32) -> Result<Vec<u8>, Fail> {
-    let mut text = Vec::new(alloc);
-    for _ in 0..depth {
-        text.extend_from_slice(b"<a>")?;
-    }
-    text.extend_from_slice(b"x")?;
-    for _ in 0..depth {
-        text.extend_from_slice(b"</a>")?;
-    }
-    Ok(text)
-}
+/// A plain text is one write, and a reference is one.
+const TEXTS: [Node<'static>; 2] = [Node::Text("plain text"), Node::Text("a&b")];
 
-/// Asserts that such a text is printed.
-fn assert_nested(rt: &impl Abort, alloc: Global, node: Node<'_>) -> Result<(), Fail> {
-    let expected = nested_text(alloc, 8_000)?;
-    let mut sink = MemSink::new(alloc, 100_000)?;
-    assert!(rt; print(&[node], &mut sink).is_ok());
-    assert!(rt; sink.bytes() == expected.as_slice());
+/// Trees, the room for their text, the write that fails, and what is printed before the fault.
+static FRONTS: [(&[Node<'static>], usize, Option<u64>, &str); 3] = [
+    // The second write is that of the name.
+    (&LEAF, 200, Some(2), "<"),
+    (&TEXTS, 200, Some(3), "plain texta"),
+    (&LEAF, 4, None, "<a x"),
+];
+
+#[test]
+fn a_fault_leaves_a_front(rt: HostRuntime) -> Result<(), Fail> {
+    for (nodes, room, failing, front) in &FRONTS {
+        assert_printed(&rt, rt.alloc(), nodes, *room, *failing, Err(front))?;
+    }
     Ok(())
 }
 
 #[test]
 fn elements_nest_eight_thousand_deep(rt: HostRuntime) -> Result<(), Fail> {
     let arena = Bump::new(rt.alloc());
-    let node = nested(&arena, 8_000)?;
-    assert_nested(&rt, rt.alloc(), node)
+    let node = nested_tree(&arena, 8_000)?;
+    let text = nested(rt.alloc(), &["", "<a>", "x", "</a>", ""], 8_000)?;
+    assert_printed(&rt, rt.alloc(), &[node], 100_000, None, Ok(text.as_str()))
 }

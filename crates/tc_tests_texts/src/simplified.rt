@@ -1,8 +1,8 @@
 //! Grammars of schemas, by hand.
 
+use crate::repeated::{Parts, chain, nested};
 use bumpalo::Bump;
 use std::alloc::Global;
-use std::fmt::Write;
 use std::test::Fail;
 use tc_base::Place;
 use tc_model::Grammar;
@@ -81,90 +81,58 @@ static GRAMMARS: [(&str, Result<usize, SimpleFault>); 15] = [
 ];
 
 #[test]
-fn faults_have_their_places(rt: HostRuntime) -> Result<(), Fail> {
+fn faults_have_their_places(rt: HostRuntime) {
     for (text, wanted) in &GRAMMARS {
-        assert_eq!(rt; elements(rt.alloc(), text), *wanted, "{text}");
+        assert!(rt; elements(rt.alloc(), text) == *wanted, "{text}");
+    }
+}
+
+/// Texts of parts that are repeated so many times, and the same of each.
+static REPEATED: [(Parts, usize, Result<usize, SimpleFault>); 5] = [
+    // Nodes are counted, whatever becomes of them.
+    (MANY_NODES, 65533, Ok(1)),
+    (MANY_NODES, 65534, Err(SimpleFault::TooManyNodes)),
+    // So are element patterns.
+    (MANY_ELEMENTS, 255, Ok(256)),
+    (MANY_ELEMENTS, 256, Err(SimpleFault::TooManyElements)),
+    // A definition that is referred to often is one element pattern.
+    (
+        [
+            "start = element a { b",
+            ", b",
+            " } b = element b { empty }",
+            "",
+            "",
+        ],
+        9999,
+        Ok(2),
+    ),
+];
+
+const MANY_NODES: Parts = ["element a { empty", "|empty", "}", "", ""];
+
+const MANY_ELEMENTS: Parts = ["element a{empty}", "|element a{empty}", "", "", ""];
+
+#[test]
+fn nodes_and_elements_are_counted(rt: HostRuntime) -> Result<(), Fail> {
+    for (parts, times, wanted) in &REPEATED {
+        let text = nested(rt.alloc(), parts, *times)?;
+        assert!(rt; elements(rt.alloc(), text.as_str()) == *wanted, "{times}");
     }
     Ok(())
 }
 
-/// So many times a text, between two others.
-fn repeated(
-    alloc: Global,
-    before: &str,
-    text: &str,
-    times: usize,
-    after: &str,
-) -> Result<String, Fail> {
-    let mut all = String::from_str(alloc, before)?;
-    for _ in 0..times {
-        all.push_str(text)?;
-    }
-    all.push_str(after)?;
-    Ok(all)
-}
-
-/// The number of element patterns of such a text, or its fault.
-fn elements_of_repeated(
-    alloc: Global,
-    before: &str,
-    text: &str,
-    times: usize,
-    after: &str,
-) -> Result<Result<usize, SimpleFault>, Fail> {
-    let all = repeated(alloc, before, text, times, after)?;
-    Ok(elements(alloc, all.as_str()))
-}
-
-#[test]
-fn nodes_are_counted(rt: HostRuntime) -> Result<(), Fail> {
-    let (before, text, after) = ("element a { empty", "|empty", "}");
-    let most = elements_of_repeated(rt.alloc(), before, text, 65533, after)?;
-    assert_eq!(rt; most, Ok(1));
-    let more = elements_of_repeated(rt.alloc(), before, text, 65534, after)?;
-    assert_eq!(rt; more, Err(SimpleFault::TooManyNodes));
-    Ok(())
-}
-
-#[test]
-fn elements_are_counted(rt: HostRuntime) -> Result<(), Fail> {
-    let (before, text) = ("element a{empty}", "|element a{empty}");
-    let most = elements_of_repeated(rt.alloc(), before, text, 255, "")?;
-    assert_eq!(rt; most, Ok(256));
-    let more = elements_of_repeated(rt.alloc(), before, text, 256, "")?;
-    assert_eq!(rt; more, Err(SimpleFault::TooManyElements));
-    Ok(())
-}
-
-#[test]
-fn a_shared_definition_is_one_element(rt: HostRuntime) -> Result<(), Fail> {
-    let before = "start = element a { b";
-    let after = " } b = element b { empty }";
-    let found = elements_of_repeated(rt.alloc(), before, ", b", 9999, after)?;
-    assert_eq!(rt; found, Ok(2));
-    Ok(())
-}
-
-/// A chain of 100,000 definitions, of which the last is given.
-fn chain(alloc: Global, last: &str) -> Result<String, Fail> {
-    let mut all = String::from_str(alloc, "start = a1\n")?;
-    for i in 1..100000u32 {
-        write!(all, "a{i} = a{}\n", i + 1)?;
-    }
-    write!(all, "a100000 = {last}\n")?;
-    Ok(all)
-}
-
-/// The number of element patterns of such a chain, or its fault.
-fn elements_of_chain(alloc: Global, last: &str) -> Result<Result<usize, SimpleFault>, Fail> {
-    let text = chain(alloc, last)?;
-    Ok(elements(alloc, text.as_str()))
-}
+/// The last definitions of chains, and the same of each chain.
+static CHAINS: [(&str, Result<usize, SimpleFault>); 2] = [
+    ("element x{empty}", Ok(1)),
+    ("a1", Err(SimpleFault::Loop(Place(16)))),
+];
 
 #[test]
 fn chains_are_followed(rt: HostRuntime) -> Result<(), Fail> {
-    assert_eq!(rt; elements_of_chain(rt.alloc(), "element x{empty}")?, Ok(1));
-    let loops = Err(SimpleFault::Loop(Place(16)));
-    assert_eq!(rt; elements_of_chain(rt.alloc(), "a1")?, loops);
+    for (last, wanted) in &CHAINS {
+        let text = chain(rt.alloc(), last)?;
+        assert!(rt; elements(rt.alloc(), text.as_str()) == *wanted, "{last}");
+    }
     Ok(())
 }

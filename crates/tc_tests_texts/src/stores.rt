@@ -7,77 +7,90 @@ use std::test::Fail;
 use std::{env, fs, io, process};
 use tc_io::{MemSink, MemStore, RealSink, RealStore, Sink, Store, StoreFault};
 
-/// Asserts that a store gives these bytes for a name.
-fn assert_given(rt: &impl Abort, alloc: Global, store: &mut MemStore, name: &str, bytes: &[u8]) {
-    match store.read(alloc, name) {
-        Ok(found) => assert_eq!(rt; found.as_slice(), bytes, "{name}"),
-        Err(_) => panic!(rt; "{name}"),
+/// Files that are put into a store one after another, the reads that fail, and what each read of a name gives.
+type Stored = (
+    &'static [(&'static str, &'static [u8])],
+    &'static [u64],
+    &'static [(&'static str, Result<&'static [u8], StoreFault>)],
+);
+
+static STORES: [Stored; 2] = [
+    // A store holds what was put, where a name was put twice what was put last.
+    (
+        &[("one", b"1"), ("two", b"2"), ("one", b"first")],
+        &[],
+        &[
+            ("one", Ok(b"first")),
+            ("two", Ok(b"2")),
+            ("on", Err(StoreFault::Missing)),
+        ],
+    ),
+    // It fails where it is told to.
+    (
+        &[("held", b"bytes")],
+        &[2, 3],
+        &[
+            ("held", Ok(b"bytes")),
+            ("held", Err(StoreFault::Failed)),
+            ("other", Err(StoreFault::Missing)),
+            ("held", Ok(b"bytes")),
+        ],
+    ),
+];
+
+/// A store of such files, of which such reads fail.
+fn store_of(alloc: Global, files: &[(&str, &[u8])], failing: &[u64]) -> Result<MemStore, Fail> {
+    let mut store = MemStore::new(alloc);
+    for (name, bytes) in files {
+        store.put(name, bytes)?;
     }
+    for read in failing {
+        store.fail_at(*read)?;
+    }
+    Ok(store)
 }
 
-/// Asserts how a store refuses a name.
-fn assert_refused(
+/// Asserts what a store gives for a name.
+fn assert_given(
     rt: &impl Abort,
     alloc: Global,
     store: &mut MemStore,
     name: &str,
-    fault: StoreFault,
+    expected: Result<&[u8], StoreFault>,
 ) {
-    assert_eq!(rt; store.read(alloc, name).err(), Some(fault), "{name}");
-}
-
-/// A store of two files, of which the first was put twice.
-fn store_of_two(alloc: Global) -> Result<MemStore, Fail> {
-    let mut store = MemStore::new(alloc);
-    store.put("one", b"1")?;
-    store.put("two", b"2")?;
-    store.put("one", b"first")?;
-    Ok(store)
+    match store.read(alloc, name) {
+        Ok(found) => assert!(rt; Ok(found.as_slice()) == expected, "{name}"),
+        Err(fault) => assert!(rt; Err(fault) == expected, "{name}"),
+    }
 }
 
 #[test]
-fn a_store_holds_what_was_put(rt: HostRuntime) -> Result<(), Fail> {
-    let mut store = store_of_two(rt.alloc())?;
-    assert_given(&rt, rt.alloc(), &mut store, "one", b"first");
-    assert_given(&rt, rt.alloc(), &mut store, "two", b"2");
-    assert_refused(&rt, rt.alloc(), &mut store, "on", StoreFault::Missing);
+fn a_store_holds_what_was_put_and_fails_where_it_is_told_to(rt: HostRuntime) -> Result<(), Fail> {
+    for (files, failing, reads) in &STORES {
+        let mut store = store_of(rt.alloc(), files, failing)?;
+        for (name, expected) in *reads {
+            assert_given(&rt, rt.alloc(), &mut store, name, *expected);
+        }
+    }
     Ok(())
 }
 
-/// A store of one file, whose second and third reads fail.
-fn failing_store(alloc: Global) -> Result<MemStore, Fail> {
-    let mut store = MemStore::new(alloc);
-    store.put("held", b"bytes")?;
-    store.fail_at(2)?;
-    store.fail_at(3)?;
-    Ok(store)
-}
-
-#[test]
-fn a_store_fails_where_it_is_told_to(rt: HostRuntime) -> Result<(), Fail> {
-    let mut store = failing_store(rt.alloc())?;
-    assert!(rt; store.read(rt.alloc(), "held").is_ok());
-    assert_refused(&rt, rt.alloc(), &mut store, "held", StoreFault::Failed);
-    assert_refused(&rt, rt.alloc(), &mut store, "other", StoreFault::Missing);
-    assert_given(&rt, rt.alloc(), &mut store, "held", b"bytes");
-    Ok(())
-}
-
-/// Asserts what a sink for seven bytes takes whose second write fails.
-fn assert_taken(rt: &impl Abort, sink: &mut MemSink) {
-    assert!(rt; sink.write(b"abc").is_ok());
-    assert!(rt; sink.write(b"d").is_err());
-    assert_eq!(rt; sink.bytes(), b"abc".as_slice());
-    assert!(rt; sink.write(b"defgh").is_err());
-    assert_eq!(rt; sink.bytes(), b"abcdefg".as_slice());
-    assert!(rt; sink.write(b"").is_ok());
-}
+/// What is written into a sink for seven bytes whose second write fails, whether it is taken, and what the sink has then.
+static WRITES: [(&[u8], bool, &[u8]); 4] = [
+    (b"abc", true, b"abc"),
+    (b"d", false, b"abc"),
+    (b"defgh", false, b"abcdefg"),
+    (b"", true, b"abcdefg"),
+];
 
 #[test]
 fn a_sink_takes_what_fits(rt: HostRuntime) -> Result<(), Fail> {
     let mut sink = MemSink::new(rt.alloc(), 7)?;
     sink.fail_at(2)?;
-    assert_taken(&rt, &mut sink);
+    for (bytes, is_taken, taken) in &WRITES {
+        assert!(rt; sink.write(bytes).is_ok() == *is_taken, "{bytes:?}");
+        assert!(rt; sink.bytes() == *taken, "{bytes:?}");
+    }
     Ok(())
 }
 
@@ -102,10 +115,10 @@ fn a_file_is_read(rt: HostRuntime) -> Result<(), Fail> {
     let path = new_path(&rt)?;
     let mut store = RealStore::new(&rt);
     let before = store.read(rt.alloc(), path.as_str()).err();
-    assert_eq!(rt; before, Some(StoreFault::Missing));
+    assert!(rt; before == Some(StoreFault::Missing));
     let bytes = read_back(&rt, path.as_str())?;
-    assert_eq!(rt; bytes.as_slice(), b"<a/>\n".as_slice());
-    assert_eq!(rt; store.read(rt.alloc(), "/").err(), Some(StoreFault::Failed));
+    assert!(rt; bytes.as_slice() == b"<a/>\n".as_slice());
+    assert!(rt; store.read(rt.alloc(), "/").err() == Some(StoreFault::Failed));
     Ok(())
 }
 
@@ -162,7 +175,7 @@ fn assert_listed(rt: &impl Abort, alloc: Global) {
     let mut sink = RealSink::new(&mut bytes);
     assert!(rt; sink.write(b"safe").is_ok());
     assert!(rt; sink.write(b"\n").is_ok());
-    assert_eq!(rt; bytes.as_slice(), b"safe\n".as_slice());
+    assert!(rt; bytes.as_slice() == b"safe\n".as_slice());
 }
 
 /// What the end, the piece and the outcome are, and which bytes are taken.
@@ -178,7 +191,7 @@ fn a_piece_is_written_whole(rt: HostRuntime) {
     for (end, piece, whole, taken) in &PIECES {
         let mut slow = Slow::new(*end);
         let mut sink = RealSink::new(&mut slow);
-        assert_eq!(rt; sink.write(piece.as_bytes()).is_ok(), *whole, "{piece}");
-        assert_eq!(rt; slow.taken.as_slice(), *taken, "{piece}");
+        assert!(rt; sink.write(piece.as_bytes()).is_ok() == *whole, "{piece}");
+        assert!(rt; slow.taken.as_slice() == *taken, "{piece}");
     }
 }

@@ -1,192 +1,253 @@
 //! Documents of texts, by hand.
 
+use crate::repeated::{Parts, nested};
 use bumpalo::Bump;
 use std::alloc::Global;
 use std::fmt::Write;
+use std::process::Abort;
 use std::test::Fail;
 use tc_base::{Place, Why};
 use tc_model::{Node, Raw, RawElem};
+use tc_xml::XmlFault::{Malformed, TooDeep, Unsupported};
 use tc_xml::{XmlFault, read_document, read_raw, strip};
 
 /// Whether the text is read, and how it is refused otherwise.
-fn outcome(rt: &HostRuntime, text: &[u8]) -> Option<XmlFault> {
-    let arena = Bump::new(rt.alloc());
+fn outcome(alloc: Global, text: &[u8]) -> Option<XmlFault> {
+    let arena = Bump::new(alloc);
     if text.len() > 1000000 {
         return None;
     }
     read_raw(&arena, text).err()
 }
 
+/// A text is malformed, wherever.
+const MALFORMED: Option<XmlFault> = Some(Malformed(Place(0)));
+
+/// The same, but for the place in a malformed text.
+fn outcome_anywhere(alloc: Global, text: &[u8]) -> Option<XmlFault> {
+    match outcome(alloc, text) {
+        Some(Malformed(_)) => MALFORMED,
+        found => found,
+    }
+}
+
+/// A text, and how it is refused, if it is.
+type Text = (&'static str, Option<XmlFault>);
+
 /// Texts that are read.
-static GOOD: [&str; 28] = [
-    "<a/>",
-    "<a></a>",
-    "<a ></a >",
-    "\u{FEFF}<a/>",
-    "<?xml version='1.0'?><a/>",
-    "<?xml version=\"1.0\" encoding=\"utf-8\" standalone = 'yes' ?>\n<!-- c --><?p?><a/> <?q x?>",
-    "<!DOCTYPE a><a/>",
-    "<!DOCTYPE p:a SYSTEM 'x'><a/>",
-    "<!DOCTYPE a PUBLIC 'x' \"y\" ><!----><a/>",
-    "<a b='1' c=\"'\"/>",
-    "<a xmlns='u'><b xmlns=''/></a>",
-    "<p:a xmlns:p='u' p:b='1' b='2'/>",
-    "<a xml:lang='en'/>",
-    "<a>&lt;&gt;&amp;&apos;&quot;&#9;&#x1F600;</a>",
-    "<a><![CDATA[<&]] >]]></a>",
-    "<a>]]&gt;</a>",
-    "<a>]] ></a>",
-    "<a><![CDATA[]]]]><![CDATA[>]]></a>",
-    "<a b='>&#x9;&#xD;&#x10FFFF;'/>",
-    "<a\r\n\tb = '1'\n/>",
-    "<a><?p?><?p ?><?xml-stylesheet href='x'?></a>",
-    "<a><!-- - -> --></a>",
-    "<?xml version='1.0' encoding='us-ascii'?><a/>",
-    "<?xml version='1.0' standalone='no'?><a/>",
-    "<a xmlns:xml='http://www.w3.org/XML/1998/namespace'/>",
-    "<xml:a/>",
-    "<a xmlns='' xmlns:p='u' xmlns:q='u' p:b='1' q:c='2'/>",
-    "<a xmlns='u' b='1'><p:a xmlns:p='u' p:b='1' b='2'/></a>",
+static GOOD: [Text; 28] = [
+    ("<a/>", None),
+    ("<a></a>", None),
+    ("<a ></a >", None),
+    ("\u{FEFF}<a/>", None),
+    ("<?xml version='1.0'?><a/>", None),
+    (
+        "<?xml version=\"1.0\" encoding=\"utf-8\" standalone = 'yes' ?>\n<!-- c --><?p?><a/> <?q x?>",
+        None,
+    ),
+    ("<!DOCTYPE a><a/>", None),
+    ("<!DOCTYPE p:a SYSTEM 'x'><a/>", None),
+    ("<!DOCTYPE a PUBLIC 'x' \"y\" ><!----><a/>", None),
+    ("<a b='1' c=\"'\"/>", None),
+    ("<a xmlns='u'><b xmlns=''/></a>", None),
+    ("<p:a xmlns:p='u' p:b='1' b='2'/>", None),
+    ("<a xml:lang='en'/>", None),
+    ("<a>&lt;&gt;&amp;&apos;&quot;&#9;&#x1F600;</a>", None),
+    ("<a><![CDATA[<&]] >]]></a>", None),
+    ("<a>]]&gt;</a>", None),
+    ("<a>]] ></a>", None),
+    ("<a><![CDATA[]]]]><![CDATA[>]]></a>", None),
+    ("<a b='>&#x9;&#xD;&#x10FFFF;'/>", None),
+    ("<a\r\n\tb = '1'\n/>", None),
+    ("<a><?p?><?p ?><?xml-stylesheet href='x'?></a>", None),
+    ("<a><!-- - -> --></a>", None),
+    ("<?xml version='1.0' encoding='us-ascii'?><a/>", None),
+    ("<?xml version='1.0' standalone='no'?><a/>", None),
+    (
+        "<a xmlns:xml='http://www.w3.org/XML/1998/namespace'/>",
+        None,
+    ),
+    ("<xml:a/>", None),
+    (
+        "<a xmlns='' xmlns:p='u' xmlns:q='u' p:b='1' q:c='2'/>",
+        None,
+    ),
+    (
+        "<a xmlns='u' b='1'><p:a xmlns:p='u' p:b='1' b='2'/></a>",
+        None,
+    ),
 ];
 
 /// Texts that are malformed.
-static BAD: [&str; 64] = [
-    "",
-    "a",
-    "<a>",
-    "<a></b>",
-    "<a/><b/>",
-    "<a/>x",
-    " <?xml version='1.0'?><a/>",
-    "<a b='1' b='2'/>",
-    "<p:a xmlns:p='u' xmlns:q='u' p:b='1' q:b='2'/>",
-    "<p:a/>",
-    "<a p:b=''/>",
-    "<xmlns:a/>",
-    "<a xmlns:p=''/>",
-    "<a xmlns:xml='u'/>",
-    "<a xmlns:p='http://www.w3.org/XML/1998/namespace'/>",
-    "<a xmlns='http://www.w3.org/2000/xmlns/'/>",
-    "<a b='<'/>",
-    "<a b='1'c='2'/>",
-    "<a b/>",
-    "<a>]]></a>",
-    "<a>&#0;</a>",
-    "<a>&#xFFFE;</a>",
-    "<a>&#;</a>",
-    "<a>& </a>",
-    "<a>&a:b;</a>",
-    "<a><!-- -- --></a>",
-    "<a><!-- ---></a>",
-    "<a><?xml?></a>",
-    "<a><?p:q?></a>",
-    "<a:b:c/>",
-    "<1/>",
-    "<a>\u{1}</a>",
-    "<a>\u{FFFE}</a>",
-    "<a>&#xD800;</a>",
-    "<a>&#x110000;</a>",
-    "<a>&#65</a>",
-    "<a>&#x;</a>",
-    "<a>&lt</a>",
-    "<a><![CDATA[x]]</a>",
-    "<a><![CDATA[x]></a>",
-    "<a><!x></a>",
-    "<a><!-></a>",
-    "<a></a ",
-    "<a></A>",
-    "</a>",
-    "<a b=1/>",
-    "<a b='1'",
-    "<a b='1\"/>",
-    "<a:/>",
-    "<:a/>",
-    "<-a/>",
-    "<p:a xmlns:p='u'></a>",
-    "<a><b xmlns:p='u'/><p:b/></a>",
-    "<a xmlns='http://www.w3.org/XML/1998/namespace'/>",
-    "<a xmlns:xmlns='http://www.w3.org/2000/xmlns/'/>",
-    "<a p:b='1' q:b='2' xmlns:p='u' xmlns:q='u'/>",
-    "<a/><!DOCTYPE a>",
-    "<!DOCTYPE a><!DOCTYPE a><a/>",
-    "<!DOCTYPE a 'x'><a/>",
-    "<!DOCTYPE a PUBLIC 'x'><a/>",
-    "<?xml version='1.0' standalone='maybe'?><a/>",
-    "<?xml encoding='UTF-8'?><a/>",
-    "<?xml version='1.0' encoding='UTF-8'standalone='yes'?><a/>",
-    "\u{FEFF}\u{FEFF}<a/>",
+static MALFORMED_TEXTS: [Text; 29] = [
+    ("", MALFORMED),
+    ("a", MALFORMED),
+    ("<a>", MALFORMED),
+    ("<a></b>", MALFORMED),
+    ("<a/><b/>", MALFORMED),
+    ("<a/>x", MALFORMED),
+    (" <?xml version='1.0'?><a/>", MALFORMED),
+    ("<a b='1' b='2'/>", MALFORMED),
+    ("<p:a xmlns:p='u' xmlns:q='u' p:b='1' q:b='2'/>", MALFORMED),
+    ("<p:a/>", MALFORMED),
+    ("<a p:b=''/>", MALFORMED),
+    ("<xmlns:a/>", MALFORMED),
+    ("<a xmlns:p=''/>", MALFORMED),
+    ("<a xmlns:xml='u'/>", MALFORMED),
+    (
+        "<a xmlns:p='http://www.w3.org/XML/1998/namespace'/>",
+        MALFORMED,
+    ),
+    ("<a xmlns='http://www.w3.org/2000/xmlns/'/>", MALFORMED),
+    ("<a b='<'/>", MALFORMED),
+    ("<a b='1'c='2'/>", MALFORMED),
+    ("<a b/>", MALFORMED),
+    ("<a>]]></a>", MALFORMED),
+    ("<a>&#0;</a>", MALFORMED),
+    ("<a>&#xFFFE;</a>", MALFORMED),
+    ("<a>&#;</a>", MALFORMED),
+    ("<a>& </a>", MALFORMED),
+    ("<a>&a:b;</a>", MALFORMED),
+    ("<a><!-- -- --></a>", MALFORMED),
+    ("<a><!-- ---></a>", MALFORMED),
+    ("<a><?xml?></a>", MALFORMED),
+    ("<a><?p:q?></a>", MALFORMED),
 ];
 
-#[test]
-fn lines_of_the_grammar(rt: HostRuntime) {
-    for text in &GOOD {
-        assert_eq!(rt; outcome(&rt, text.as_bytes()), None, "{text}");
-    }
-    for text in &BAD {
-        assert!(rt;
-            matches!(outcome(&rt, text.as_bytes()), Some(XmlFault::Malformed(_))),
-            "{text}"
-        );
-    }
-}
+/// More of them: two tables are proved sooner than one of all.
+static MORE_MALFORMED_TEXTS: [Text; 35] = [
+    ("<a:b:c/>", MALFORMED),
+    ("<1/>", MALFORMED),
+    ("<a>\u{1}</a>", MALFORMED),
+    ("<a>\u{FFFE}</a>", MALFORMED),
+    ("<a>&#xD800;</a>", MALFORMED),
+    ("<a>&#x110000;</a>", MALFORMED),
+    ("<a>&#65</a>", MALFORMED),
+    ("<a>&#x;</a>", MALFORMED),
+    ("<a>&lt</a>", MALFORMED),
+    ("<a><![CDATA[x]]</a>", MALFORMED),
+    ("<a><![CDATA[x]></a>", MALFORMED),
+    ("<a><!x></a>", MALFORMED),
+    ("<a><!-></a>", MALFORMED),
+    ("<a></a ", MALFORMED),
+    ("<a></A>", MALFORMED),
+    ("</a>", MALFORMED),
+    ("<a b=1/>", MALFORMED),
+    ("<a b='1'", MALFORMED),
+    ("<a b='1\"/>", MALFORMED),
+    ("<a:/>", MALFORMED),
+    ("<:a/>", MALFORMED),
+    ("<-a/>", MALFORMED),
+    ("<p:a xmlns:p='u'></a>", MALFORMED),
+    ("<a><b xmlns:p='u'/><p:b/></a>", MALFORMED),
+    (
+        "<a xmlns='http://www.w3.org/XML/1998/namespace'/>",
+        MALFORMED,
+    ),
+    (
+        "<a xmlns:xmlns='http://www.w3.org/2000/xmlns/'/>",
+        MALFORMED,
+    ),
+    ("<a p:b='1' q:b='2' xmlns:p='u' xmlns:q='u'/>", MALFORMED),
+    ("<a/><!DOCTYPE a>", MALFORMED),
+    ("<!DOCTYPE a><!DOCTYPE a><a/>", MALFORMED),
+    ("<!DOCTYPE a 'x'><a/>", MALFORMED),
+    ("<!DOCTYPE a PUBLIC 'x'><a/>", MALFORMED),
+    ("<?xml version='1.0' standalone='maybe'?><a/>", MALFORMED),
+    ("<?xml encoding='UTF-8'?><a/>", MALFORMED),
+    (
+        "<?xml version='1.0' encoding='UTF-8'standalone='yes'?><a/>",
+        MALFORMED,
+    ),
+    ("\u{FEFF}\u{FEFF}<a/>", MALFORMED),
+];
 
-/// A text or its front, where it has what isn't read, and why it isn't.
-type Unsupported<'t> = (&'t str, u32, Why);
-
-static UNSUPPORTED: [Unsupported<'static>; 12] = [
-    ("<a>&nbsp;</a>", 3, Why::EntityReference),
-    ("<a>x<b/>&eacute;</a>", 8, Why::EntityReference),
-    ("<a b='x&nbsp;'/>", 7, Why::EntityReference),
-    ("\u{FEFF}<a>&x;</a>", 6, Why::EntityReference),
-    ("<a xml:space='preserve'/>", 3, Why::XmlSpace),
-    ("<a><b c='' xml:space='&x;'/></a>", 11, Why::XmlSpace),
+/// Texts that have what isn't read, where, and why it isn't.
+static UNSUPPORTED: [Text; 12] = [
+    (
+        "<a>&nbsp;</a>",
+        Some(Unsupported(Place(3), Why::EntityReference)),
+    ),
+    (
+        "<a>x<b/>&eacute;</a>",
+        Some(Unsupported(Place(8), Why::EntityReference)),
+    ),
+    (
+        "<a b='x&nbsp;'/>",
+        Some(Unsupported(Place(7), Why::EntityReference)),
+    ),
+    (
+        "\u{FEFF}<a>&x;</a>",
+        Some(Unsupported(Place(6), Why::EntityReference)),
+    ),
+    (
+        "<a xml:space='preserve'/>",
+        Some(Unsupported(Place(3), Why::XmlSpace)),
+    ),
+    (
+        "<a><b c='' xml:space='&x;'/></a>",
+        Some(Unsupported(Place(11), Why::XmlSpace)),
+    ),
     (
         "<!DOCTYPE a [<!ELEMENT a ANY>]><a/>",
-        12,
-        Why::DoctypeSubset,
+        Some(Unsupported(Place(12), Why::DoctypeSubset)),
     ),
-    ("<!DOCTYPE a SYSTEM 'x'[]><a/>", 22, Why::DoctypeSubset),
-    ("<?xml version='1.1'?><a/>", 6, Why::XmlVersion),
+    (
+        "<!DOCTYPE a SYSTEM 'x'[]><a/>",
+        Some(Unsupported(Place(22), Why::DoctypeSubset)),
+    ),
+    (
+        "<?xml version='1.1'?><a/>",
+        Some(Unsupported(Place(6), Why::XmlVersion)),
+    ),
     (
         "<?xml  version='1.1' encoding='x'?><a/>",
-        7,
-        Why::XmlVersion,
+        Some(Unsupported(Place(7), Why::XmlVersion)),
     ),
     (
         "<?xml version='1.0' encoding='latin1'?><a/>",
-        20,
-        Why::Encoding,
+        Some(Unsupported(Place(20), Why::Encoding)),
     ),
     (
         "<?xml version='1.0' encoding='utf8'?><a/>",
-        20,
-        Why::Encoding,
+        Some(Unsupported(Place(20), Why::Encoding)),
     ),
 ];
 
-#[test]
-fn places_of_refusals(rt: HostRuntime) {
-    for (text, place, why) in &UNSUPPORTED {
-        let answer = Some(XmlFault::Unsupported(Place(*place), *why));
-        assert_eq!(rt; outcome(&rt, text.as_bytes()), answer, "{text}");
+/// Asserts of each text how it is refused, if it is.
+fn assert_outcomes(rt: &impl Abort, alloc: Global, texts: &[Text]) {
+    for (text, expected) in texts {
+        let found = outcome_anywhere(alloc, text.as_bytes());
+        assert!(rt; found == *expected, "{text}");
     }
-    assert_eq!(rt; outcome(&rt, b"\xFF"), Some(XmlFault::Malformed(Place(0))));
 }
 
-static FRONTS: [Unsupported<'static>; 6] = [
-    ("<a>&nbsp;</a>", 3, Why::EntityReference),
-    ("<a xml:space='", 3, Why::XmlSpace),
-    ("<!DOCTYPE a [", 12, Why::DoctypeSubset),
-    ("<?xml version='1.1'", 6, Why::XmlVersion),
+#[test]
+fn texts_are_read_or_have_their_faults(rt: HostRuntime) {
+    assert_outcomes(&rt, rt.alloc(), &GOOD);
+    assert_outcomes(&rt, rt.alloc(), &MALFORMED_TEXTS);
+    assert_outcomes(&rt, rt.alloc(), &MORE_MALFORMED_TEXTS);
+    assert_outcomes(&rt, rt.alloc(), &UNSUPPORTED);
+    let found = outcome(rt.alloc(), b"\xFF");
+    assert!(rt; found == Some(Malformed(Place(0))));
+}
+
+/// Fronts of texts, and how each text of such a front is refused.
+static FRONTS: [(&str, XmlFault); 6] = [
+    ("<a>&nbsp;</a>", Unsupported(Place(3), Why::EntityReference)),
+    ("<a xml:space='", Unsupported(Place(3), Why::XmlSpace)),
+    ("<!DOCTYPE a [", Unsupported(Place(12), Why::DoctypeSubset)),
+    (
+        "<?xml version='1.1'",
+        Unsupported(Place(6), Why::XmlVersion),
+    ),
     (
         "<?xml version='1.0' encoding='ISO-8859-1'?><a>",
-        20,
-        Why::Encoding,
+        Unsupported(Place(20), Why::Encoding),
     ),
     (
         "<?xml version='1.0' encoding='ISO-2022-JP'?><a>",
-        20,
-        Why::Encoding,
+        Unsupported(Place(20), Why::Encoding),
     ),
 ];
 
@@ -203,81 +264,79 @@ static BROKEN: [&[u8]; 5] = [
 ];
 
 /// How a text in two parts is refused.
-fn outcome_of_both(
-    rt: &HostRuntime,
-    front: &[u8],
-    behind: &[u8],
-) -> Result<Option<XmlFault>, Fail> {
-    let mut text = Vec::new(rt.alloc());
-    text.extend_from_slice(front)?;
-    text.extend_from_slice(behind)?;
-    Ok(outcome(rt, &text))
+fn outcome_of_both(alloc: Global, front: &[u8], behind: &[u8]) -> Result<Option<XmlFault>, Fail> {
+    let mut text = Vec::new(alloc);
+    for part in [front, behind] {
+        text.extend_from_slice(part)?;
+    }
+    Ok(outcome(alloc, &text))
 }
 
 /// What follows the place of a refusal, be it no characters.
 #[test]
 fn what_stands_behind_is_not_looked_at(rt: HostRuntime) -> Result<(), Fail> {
-    for (front, place, why) in &FRONTS {
-        let answer = Some(XmlFault::Unsupported(Place(*place), *why));
+    for (front, fault) in &FRONTS {
         for bytes in &BEHIND {
-            let found = outcome_of_both(&rt, front.as_bytes(), bytes)?;
-            assert_eq!(rt; found, answer, "{front}");
+            let found = outcome_of_both(rt.alloc(), front.as_bytes(), bytes)?;
+            assert!(rt; found == Some(*fault), "{front}");
         }
     }
     for text in &BROKEN {
-        assert!(rt; matches!(outcome(&rt, text), Some(XmlFault::Malformed(_))));
+        assert!(rt; outcome_anywhere(rt.alloc(), text) == MALFORMED, "{text:?}");
     }
     Ok(())
 }
 
-/// Whether a text is malformed, no later than at its end.
-fn is_malformed_within(rt: &HostRuntime, text: &[u8]) -> bool {
-    match outcome(rt, text) {
-        Some(XmlFault::Malformed(place)) => place.0 as usize <= text.len(),
-        _ => false,
-    }
-}
-
+/// They are malformed no later than at their end.
 #[test]
 fn prefixes_are_malformed(rt: HostRuntime) {
     let text = b"<a><b/><c><b/></c></a>";
     for end in 0..text.len() {
-        assert!(rt; is_malformed_within(&rt, &text[..end]), "{end}");
+        assert!(rt;
+            matches!(
+                outcome(rt.alloc(), &text[..end]),
+                Some(Malformed(place)) if place.0 as usize <= end
+            ),
+            "{end}"
+        );
     }
 }
 
-/// So many elements within one another.
-fn nested(alloc: Global, depth: usize) -> Result<Vec<u8>, Fail> {
-    let mut text = Vec::new(alloc);
-    for _ in 0..depth {
-        text.extend_from_slice(b"<a>")?;
-    }
-    for _ in 0..depth {
-        text.extend_from_slice(b"</a>")?;
-    }
-    Ok(text)
-}
-
-/// How many children the document element of a text has.
-fn children(rt: &HostRuntime, text: &[u8]) -> Result<usize, Fail> {
+/// The document of a text, by its raw tree.
+fn stripped<'b>(arena: &'b Bump, text: &[u8]) -> Result<Node<'b>, Fail> {
     if text.len() > 1000000 {
         return Err(Fail::from("a short text"));
     }
+    let raw = read_raw(arena, text)?;
+    Ok(strip(arena, &raw)?)
+}
+
+#[test]
+fn documents_are_stripped(rt: HostRuntime) -> Result<(), Fail> {
     let arena = Bump::new(rt.alloc());
-    let raw = read_raw(&arena, text)?;
-    match strip(&arena, &raw)? {
-        Node::Elem(_, kids) => Ok(kids.len()),
-        Node::Text(_) => Err(Fail::from("an element")),
-    }
+    let document = stripped(&arena, b"<a> <b/>x<!--c-->y </a>")?;
+    assert!(rt; matches!(document, Node::Elem(_, [_, Node::Text("xy ")])));
+    Ok(())
+}
+
+/// Elements within one another.
+const NESTED: Parts = ["", "<a>", "", "</a>", ""];
+
+/// Whether so many elements within one another are a document whose element has one child.
+fn is_nested(alloc: Global, depth: usize) -> Result<bool, Fail> {
+    let text = nested(alloc, &NESTED, depth)?;
+    let arena = Bump::new(alloc);
+    let document = stripped(&arena, text.as_bytes())?;
+    Ok(matches!(document, Node::Elem(_, [_])))
 }
 
 #[test]
 fn nesting_is_bounded(rt: HostRuntime) -> Result<(), Fail> {
-    let most = nested(rt.alloc(), 2000)?;
-    assert_eq!(rt; outcome(&rt, &most), None);
-    assert_eq!(rt; children(&rt, &most)?, 1);
-    let more = nested(rt.alloc(), 2001)?;
-    assert_eq!(rt; outcome(&rt, &more), Some(XmlFault::TooDeep(Place(6000))));
+    assert!(rt; is_nested(rt.alloc(), 2000)?);
+    for (depth, fault) in [(2000, None), (2001, Some(TooDeep(Place(6000))))] {
+        let text = nested(rt.alloc(), &NESTED, depth)?;
+        assert!(rt; outcome(rt.alloc(), text.as_bytes()) == fault, "{depth}");
+    }
     Ok(())
 }
 
@@ -295,31 +354,16 @@ fn put_attributes(out: &mut String, element: &RawElem<'_>) -> Result<(), Fail> {
 /// The children of an element, with their places.
 fn put_children(out: &mut String, element: &RawElem<'_>) -> Result<(), Fail> {
     for kid in element.kids {
-        match kid {
-            Raw::Text(text, place) => write!(out, "{}@{};", text, place.0)?,
-            Raw::Elem(elem) => write!(out, "<{}>@{};", elem.name.local, elem.place.0)?,
-        }
+        let (before, shown, behind, place) = match kid {
+            Raw::Text(text, place) => ("", *text, "", place.0),
+            Raw::Elem(inner) => ("<", inner.name.local, ">", inner.place.0),
+        };
+        write!(out, "{before}{shown}{behind}@{place};")?;
     }
     Ok(())
 }
 
-/// What an element shows: its attributes, the prefixes in scope, and its children with their places.
-fn shown(rt: &HostRuntime, element: &RawElem<'_>) -> Result<String, Fail> {
-    let mut out = String::new(rt.alloc());
-    put_attributes(&mut out, element)?;
-    put_children(&mut out, element)?;
-    Ok(out)
-}
-
-/// What a tree shows, where it is an element.
-fn shown_of(rt: &HostRuntime, tree: &Raw<'_>) -> Result<String, Fail> {
-    match tree {
-        Raw::Elem(element) => shown(rt, element),
-        Raw::Text(_, _) => Ok(String::new(rt.alloc())),
-    }
-}
-
-/// Texts, and what their roots show, or the only children of these.
+/// Texts, and what their roots show, or the only children of these: attributes, prefixes in scope, and children with their places.
 static SHOWN: [(&str, &str); 3] = [
     (
         "<a b=' x\ty\r\nz&#10;&lt;'>q\r\nr<!--c-->s<b/><![CDATA[]]>t</a>",
@@ -336,41 +380,33 @@ static SHOWN: [(&str, &str); 3] = [
 ];
 
 /// What the root of a text shows, or its only child.
-fn shown_of_text(rt: &HostRuntime, text: &[u8]) -> Result<String, Fail> {
+fn put_shown_of_text(out: &mut String, arena: &Bump, text: &[u8]) -> Result<(), Fail> {
     if text.len() > 1000000 {
         return Err(Fail::from("a short text"));
     }
-    let arena = Bump::new(rt.alloc());
-    let Raw::Elem(root) = read_raw(&arena, text)? else {
+    let tree = read_raw(arena, text)?;
+    let Raw::Elem(root) = &tree else {
         return Err(Fail::from("an element"));
     };
-    match root.kids {
-        [kid] => shown_of(rt, kid),
-        _ => shown(rt, &root),
-    }
-}
-
-#[test]
-fn trees_as_they_are_read(rt: HostRuntime) -> Result<(), Fail> {
-    for (text, answer) in &SHOWN {
-        let shows = shown_of_text(&rt, text.as_bytes())?;
-        assert_eq!(rt; shows.as_str(), *answer);
+    let shown = match root.kids {
+        [kid] => kid,
+        _ => &tree,
+    };
+    if let Raw::Elem(element) = shown {
+        put_attributes(out, element)?;
+        put_children(out, element)?;
     }
     Ok(())
 }
 
 #[test]
-fn documents_are_stripped(rt: HostRuntime) -> Result<(), Fail> {
+fn trees_as_they_are_read(rt: HostRuntime) -> Result<(), Fail> {
     let arena = Bump::new(rt.alloc());
-    let raw = read_raw(&arena, b"<a> <b/>x<!--c-->y </a>")?;
-    let Node::Elem(_, kids) = strip(&arena, &raw)? else {
-        panic!(rt; "an element");
-    };
-    assert_eq!(rt; kids.len(), 2);
-    let Node::Text(text) = kids[1] else {
-        panic!(rt; "a text");
-    };
-    assert_eq!(rt; text, "xy ");
+    for (text, answer) in &SHOWN {
+        let mut shown = String::new(rt.alloc());
+        put_shown_of_text(&mut shown, &arena, text.as_bytes())?;
+        assert!(rt; shown.as_str() == *answer);
+    }
     Ok(())
 }
 
@@ -389,55 +425,52 @@ fn written(node: &Node<'_>, out: &mut String) -> Result<(), Fail> {
     Ok(())
 }
 
-/// Texts, and their documents as they are written above.
-static DOCUMENTS: [(&str, &str); 6] = [
-    ("<a/>", "|a()"),
-    ("<a> <b/>x<!--c-->y </a>", "|a(|b()[xy ])"),
+/// Texts, and their documents as they are written above, or how they are refused.
+static DOCUMENTS: [(&str, Result<&str, XmlFault>); 8] = [
+    ("<a/>", Ok("|a()")),
+    ("<a> <b/>x<!--c-->y </a>", Ok("|a(|b()[xy ])")),
     (
         "<a>\r\nx&amp;\ry<?p?><![CDATA[]]>z&#10;</a>",
-        "|a([\nx&\nyz\n])",
+        Ok("|a([\nx&\nyz\n])"),
     ),
-    ("<a c='1'><b d='&lt;'>\t</b></a >", "|a(|b())"),
+    ("<a c='1'><b d='&lt;'>\t</b></a >", Ok("|a(|b())")),
     (
         "<a xmlns='u'><b xmlns=''/><p:c xmlns:p='v'/>t</a>",
-        "u|a(|b()v|c()[t])",
+        Ok("u|a(|b()v|c()[t])"),
     ),
     (
         "<!DOCTYPE a><!--x--><a><b>1</b><b>2</b></a><?p?>\n",
-        "|a(|b([1])|b([2]))",
+        Ok("|a(|b([1])|b([2]))"),
     ),
-];
-
-static REFUSED: [(&str, XmlFault); 2] = [
     (
         "<a>&nbsp;</a>",
-        XmlFault::Unsupported(Place(3), Why::EntityReference),
+        Err(Unsupported(Place(3), Why::EntityReference)),
     ),
-    ("<a><b></a>", XmlFault::Malformed(Place(6))),
+    ("<a><b></a>", Err(Malformed(Place(6)))),
 ];
 
-/// The document of a text, as it is written above, or why there is none.
-fn document_of(rt: &HostRuntime, text: &str) -> Result<Result<String, XmlFault>, Fail> {
+/// Writes the document of a text as above. How the text is refused, if it is.
+fn put_document(out: &mut String, arena: &Bump, text: &str) -> Result<Option<XmlFault>, Fail> {
     if text.len() > 1000000 {
         return Err(Fail::from("a short text"));
     }
-    let arena = Bump::new(rt.alloc());
-    let mut out = String::new(rt.alloc());
-    match read_document(&arena, text.as_bytes()) {
-        Ok(document) => written(&document, &mut out)?,
-        Err(fault) => return Ok(Err(fault)),
+    match read_document(arena, text.as_bytes()) {
+        Ok(document) => written(&document, out)?,
+        Err(fault) => return Ok(Some(fault)),
     }
-    Ok(Ok(out))
+    Ok(None)
 }
 
 #[test]
 fn documents_are_read(rt: HostRuntime) -> Result<(), Fail> {
+    let arena = Bump::new(rt.alloc());
     for (text, answer) in &DOCUMENTS {
-        let out = document_of(&rt, text)??;
-        assert_eq!(rt; out.as_str(), *answer, "{text}");
-    }
-    for (text, fault) in &REFUSED {
-        assert_eq!(rt; document_of(&rt, text)?.err(), Some(*fault), "{text}");
+        let mut out = String::new(rt.alloc());
+        let found = match put_document(&mut out, &arena, text)? {
+            None => Ok(out.as_str()),
+            Some(fault) => Err(fault),
+        };
+        assert!(rt; found == *answer, "{text}");
     }
     Ok(())
 }

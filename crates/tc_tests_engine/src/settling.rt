@@ -1,12 +1,12 @@
+//! The closure of rows that are made up: lists of one and the same tree.
 ghost use Rattle.std.specs.Prelude.{◌≡◌, ◌<◌, ◌≤◌, ℕ};
-ghost use Rattle.tc_settle.specs.Samples.{lists_up_to};
+ghost use Rattle.tc_tests_engine.specs.Samples.{lists_up_to};
 
-use crate::rows::{HoldFault, NumberedRows};
-use crate::{CloseFault, build, close, first_failing};
 use bumpalo::Bump;
 use std::test::Fail;
 use tc_alpha::Alphabet;
 use tc_model::{Grammar, Name, Node, Pat, Sheet};
+use tc_settle::{CloseFault, HoldFault, NumberedRows, build, close, first_failing};
 
 /// Lists of elements around no tree, up to a longest one; all rows fail.
 #[derive(Drop)]
@@ -19,7 +19,7 @@ struct Lists {
 
 impl NumberedRows for Lists {
     ghost use Rattle.std.specs.Prelude.{◌≡◌, ◌<◌, ◌≤◌, ℕ};
-    ghost use Rattle.tc_settle.specs.Samples.{lists_up_to};
+    ghost use Rattle.tc_tests_engine.specs.Samples.{lists_up_to};
 
     ghost held = { λ l. lists_up_to l.longest l.trees l.hedges };
 

@@ -1,5 +1,5 @@
 use Rattle.tc_tests_engine.proofs.Keeping.{none_kept}
-use Rattle.tc_tests_engine.proofs.random_rows.told_over.Goals as goal
+use Rattle.tc_tests_engine.proofs.random_rows.tell_over.Goals as goal
 
 pub keep_first-requires : goal.keep_first-requires
 keep_first-requires c =

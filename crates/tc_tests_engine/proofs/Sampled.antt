@@ -1,7 +1,7 @@
 -- The rows of a test stay while they come on.
 use Rattle.std.proofs.Common.{◌≤◌, ℕ, refl, ◌∙◌, sym, arith}
 use Rattle.tc_settle.specs.Held.{Grows, IsExact}
-use Rattle.tc_settle.specs.Samples.{lists_up_to}
+use Rattle.tc_tests_engine.specs.Samples.{lists_up_to}
 
 pub samples_grow : (longest trees hedges more_trees more_hedges : ℕ) → trees ≤ more_trees → hedges ≤ more_hedges → Grows (lists_up_to longest trees hedges) (lists_up_to longest more_trees more_hedges)
 samples_grow longest trees hedges more_trees more_hedges t h = record {

@@ -1,0 +1,51 @@
+//! Long texts and deep trees, of parts that are repeated.
+
+use bumpalo::Bump;
+use std::alloc::Global;
+use std::fmt::Write;
+use std::test::Fail;
+use tc_model::{Name, Node};
+
+/// Five parts of a text, of which the second and the fourth stand in it any number of times.
+pub(crate) type Parts = [&'static str; 5];
+
+/// The text of some parts, the second and the fourth so many times.
+pub(crate) fn nested(alloc: Global, parts: &Parts, times: usize) -> Result<String, Fail> {
+    let [first, opening, middle, closing, last] = *parts;
+    let mut text = String::new(alloc);
+    for (part, count) in [
+        (first, 1),
+        (opening, times),
+        (middle, 1),
+        (closing, times),
+        (last, 1),
+    ] {
+        for _ in 0..count {
+            text.push_str(part)?;
+        }
+    }
+    Ok(text)
+}
+
+/// A schema of a chain of 100,000 definitions, of which the last is given.
+pub(crate) fn chain(alloc: Global, last: &str) -> Result<String, Fail> {
+    let mut text = String::from_str(alloc, "start = a1\n")?;
+    for i in 1..100000u32 {
+        write!(text, "a{i} = a{}\n", i + 1)?;
+    }
+    write!(text, "a100000 = {last}\n")?;
+    Ok(text)
+}
+
+/// A text within so many elements.
+pub(crate) fn nested_tree<'b>(arena: &'b Bump, depth: u32) -> Result<Node<'b>, Fail> {
+    let mut node = Node::Text("x");
+    let name = Name {
+        uri: "",
+        local: "a",
+    };
+    for _ in 0..depth {
+        node = Node::Elem(name, arena.try_alloc_slice_copy(&[node])?);
+    }
+    Ok(node)
+}
