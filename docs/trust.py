@@ -44,13 +44,14 @@ def uses(text):
 
 
 class Block:
-    """Definitions between blank lines: the names that they define, of which `titles` aren't constructors, their words and lines."""
+    """Definitions between blank lines: the names that they define, of which `titles` aren't constructors, their lines, and their words but for the
+    names of fields, which mean the fields there."""
 
     def __init__(self, text):
         self.text = text.strip("\n")
         plain = re.sub(r'--.*|"[^"]*"', "", text)
-        self.words, self.lines = WORD.findall(plain), sum(1 for line in plain.split("\n") if line.strip())
-        self.names, self.titles, inside = set(), [], ""
+        self.lines = sum(1 for line in plain.split("\n") if line.strip())
+        self.names, self.titles, fields, inside = set(), [], set(), ""
         for item in filter(None, map(ITEM.match, plain.split("\n"))):
             mark, kind, name = item.groups()
             if kind or inside != "record ":
@@ -58,6 +59,9 @@ class Block:
                 if kind or mark or inside != "data ":
                     self.titles.append(name)
                     inside = kind or ""
+            else:
+                fields.add(name)
+        self.words = [word for word in WORD.findall(plain) if word not in fields]
 
 
 @cache
@@ -241,7 +245,7 @@ TEXT = """# What a reader has to believe
 
 This page is written by `docs/trust.py`; don't edit it.
 
-The theorem is the contract of `typecheck` in [`crates/tc_top/src/lib.rt`](../crates/tc_top/src/lib.rt), which the program reaches through `run_program` ([`program.rt`](../crates/tc_top/src/program.rt)); two laws of its answers stand in [`laws.rt`](../crates/tc_top/src/laws.rt). Each clause there is a statement in words of the modules below. Whoever has read the definitions that a clause reaches, and finds that they say what the standards say, has read all of the project's own text on which it rests: code, proofs and the other clauses are checked against them by machine. Clauses that speak of held files promise nothing of real ones, whose store tells none; of these `ends` speaks (at the end of this page).
+The theorem is the contract of `typecheck` in [`crates/tc_top/src/lib.rt`](../crates/tc_top/src/lib.rt), which the program reaches through `run_program` ([`program.rt`](../crates/tc_top/src/program.rt)); two laws of its answers stand in [`laws.rt`](../crates/tc_top/src/laws.rt). Each clause there is a statement in words of the modules below. Whoever has read the definitions that a clause reaches, and finds that they say what the standards say, has read all of the project's definitions on which it rests; code, proofs and the other clauses are checked against them by machine. What has to be believed beside them stands at the end of this page. Clauses that speak of held files promise nothing of real ones, whose store tells none; of these `ends` speaks (at the end of this page).
 
 **Begin with `safe`**: the clause itself, then the modules of the first table from the top down. They carry the meaning, in $carrying of the $most lines of `safe`: the statement, valid documents down to trees, and stylesheets from what is written up to what is put out on a node. The second table says what the texts mean that the clause speaks of, the third what the other clauses add; in both a module comes after those on which it stands. This is the one reading order of the repository, and
 
