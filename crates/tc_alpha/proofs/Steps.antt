@@ -1,5 +1,5 @@
 -- What a loop over a part of a schema or a stylesheet has found, one step at a time.
-use Rattle.std.proofs.Common.{◌≡◌, ℕ, ◌+◌, ◌<◌, List, ◌++◌, refl, ap, ◌∙◌, sym, map, Bor, length, get_or, drop, append_assoc, flat_map, Result, Ok, Err, OnOk}
+use Rattle.std.proofs.Common.{◌≡◌, ℕ, zero, suc, [], ◌∷◌, arith, ◌+◌, ◌<◌, List, ◌++◌, refl, ap, ◌∙◌, sym, map, Bor, length, get_or, drop, append_assoc, flat_map, Result, Ok, Err, OnOk}
 use Rattle.std.proofs.lemmas.List.{drop_more}
 use Rattle.tc_model.specs.Sheets as s
 use Rattle.tc_model.specs.Views as see
@@ -87,3 +87,35 @@ instruction_step is i x h e = ap body_in (left_instruction is i x h e)
 pub branch_step : (bs : List Branch) (i : ℕ) (x : Branch) (rest : s.Branches) → i < length bs → x ≡ get_or bs i x
     → branches_in (see.branches (drop i bs) rest) ≡ test_in (see.test x.test) ++ (body_in (see.body x.body.now) ++ branches_in (see.branches (drop (i + 1) bs) rest))
 branch_step bs i x rest h e = ap branches_in (left_branch bs i x rest h e)
+
+-- what stands at a place, whatever would be read behind the end
+same_item : {X : Type 0} (xs : List X) (i : ℕ) (d : X) → i < length xs → get_or xs i d ≡ get_or xs i (get_or xs i d)
+same_item [] i d h = absurd (omega (arith, h))
+same_item (x ∷ xs) zero d h = refl
+same_item (x ∷ xs) (suc i) d h = same_item xs i d (omega (arith, h))
+
+-- what is found at a place goes from what is left to what was found
+pub step_moved : (xs : List Step) (i : ℕ) (d : Step) (old mid new whole : List Mention) → i < length xs
+    → mid ≡ old ++ mentions_of_test (see.node_test (get_or xs i d).test) → new ≡ mid ++ test_in (see.test (get_or xs i d).when)
+    → old ++ steps_in (see.steps (drop i xs)) ≡ whole → new ++ steps_in (see.steps (drop (i + 1) xs)) ≡ whole
+step_moved xs i d old mid new whole h put again so_far =
+    let x = get_or xs i d in
+    moved_twice old mid new (mentions_of_test (see.node_test x.test)) (test_in (see.test x.when)) _ _ whole put again (step_step xs i x h (same_item xs i d h)) so_far
+
+pub alternative_moved : (ws : List (Bor (List Step))) (i : ℕ) (d : Bor (List Step)) (old new whole : List Mention) → i < length ws → new ≡ old ++ steps_in (see.steps (get_or ws i d).now)
+    → old ++ path_in (see.alternatives (drop i ws)) ≡ whole → new ++ path_in (see.alternatives (drop (i + 1) ws)) ≡ whole
+alternative_moved ws i d old new whole h put so_far =
+    let x = get_or ws i d in
+    moved old new (steps_in (see.steps x.now)) _ _ whole put (alternative_step ws i x h (same_item ws i d h)) so_far
+
+pub branch_moved : (bs : List Branch) (i : ℕ) (d : Branch) (rest : s.Branches) (old mid new whole : List Mention) → i < length bs
+    → mid ≡ old ++ test_in (see.test (get_or bs i d).test) → new ≡ mid ++ body_in (see.body (get_or bs i d).body.now)
+    → old ++ branches_in (see.branches (drop i bs) rest) ≡ whole → new ++ branches_in (see.branches (drop (i + 1) bs) rest) ≡ whole
+branch_moved bs i d rest old mid new whole h put again so_far =
+    let x = get_or bs i d in
+    moved_twice old mid new (test_in (see.test x.test)) (body_in (see.body x.body.now)) _ _ whole put again (branch_step bs i x rest h (same_item bs i d h)) so_far
+
+pub mapped_moved : {X Y : Type 0} (f : X → Y) (g : Y → List Mention) (xs : List X) (i : ℕ) (d : X) (old new whole : List Mention) → i < length xs → new ≡ old ++ g (f (get_or xs i d))
+    → old ++ flat_map g (map f (drop i xs)) ≡ whole → new ++ flat_map g (map f (drop (i + 1) xs)) ≡ whole
+mapped_moved f g xs i d old new whole h put so_far =
+    moved old new (g (f (get_or xs i d))) _ _ whole put (mapped_step f g xs i (get_or xs i d) h (same_item xs i d h)) so_far

@@ -1,11 +1,11 @@
 -- What the lists in loops hold.
-use Rattle.std.proofs.Common.{◌≡◌, ◌<◌, ◌≤◌, ℕ, ◌+◌, ◌*◌, List, [], ◌++◌, length, get_or, drop, mul_comm, refl, sym, ap, ◌∙◌, subst, arith, append-nil}
+use Rattle.std.proofs.Common.{◌≡◌, ◌<◌, ◌≤◌, ℕ, ◌+◌, ◌*◌, List, [], ◌++◌, length, get_or, drop, mul_comm, refl, sym, ap, ◌∙◌, ◌∷◌, subst, add-one, append_assoc, arith, append-nil}
 use Rattle.std.proofs.lemmas.List.{drop_all}
 use Rattle.std.specs.List.{Contains}
 use Rattle.std.proofs.lemmas.List.Elements.{Contains-get_or}
 use Rattle.std.proofs.lemmas.Nat.{mul-add-lt}
 use Rattle.tc_auto.specs.declared.nfa.Transition.{Transition}
-use Rattle.tc_auto.specs.Steps.{IsWithin}
+use Rattle.tc_auto.specs.Steps.{IsWithin, beside_first, beside_second}
 use Rattle.tc_auto.specs.declared.nfa.Nfa.{Nfa}
 
 pub end_inside : (p : Nfa) → IsWithin p → (xs : List ℕ) → xs ≡ p.accepting.items → (i d : ℕ) → i < length xs → get_or xs i d < p.count
@@ -20,3 +20,25 @@ pair_inside x y m n top a b h = omega (arith, mul-add-lt x n y m a b, mul_comm n
 -- at the end nothing is left to put
 pub all_put : {X Y : Type 0} (f : List X → List Y) → f [] ≡ [] → (xs : List X) (i : ℕ) (put : List Y) → length xs ≤ i → put ++ f (drop i xs) ≡ f xs → (ys : List X) → xs ≡ ys → put ≡ f ys
 all_put f none xs i put h e ys is = sym (append-nil put) ∙ (ap (λ w. put ++ w) (sym none) ∙ (ap (λ w. put ++ f w) (sym (drop_all i xs h)) ∙ (e ∙ ap f is)))
+
+-- an edge of another's leaf
+abbrev pub edge_as : Transition → ℕ → ℕ → Transition
+edge_as x from to = record { from = from; leaf = x.leaf; to = to }
+
+-- one more pair of states
+put_more : (x : Transition) (from to i j : ℕ) (start before old new : List Transition) → i ≡ from → j ≡ to → old ≡ start ++ before → new ≡ old ++ edge_as x i j ∷ [] → new ≡ start ++ (before ++ edge_as x from to ∷ [])
+put_more x from to i j start before old new is_from is_to so_far pushed =
+    pushed
+    ∙ (ap (λ w. w ++ edge_as x i j ∷ []) so_far
+    ∙ (append_assoc start before (edge_as x i j ∷ [])
+    ∙ ap (λ w. start ++ (before ++ w ∷ [])) (ap (λ w. edge_as x w j) is_from ∙ ap (edge_as x from) is_to)))
+
+pub second_more : (x : Transition) (count y i j : ℕ) (start old new : List Transition) → i ≡ x.from * count + y → j ≡ x.to * count + y → old ≡ start ++ beside_second x count y → new ≡ old ++ edge_as x i j ∷ []
+    → new ≡ start ++ beside_second x count (y + 1)
+second_more x count y i j start old new is_from is_to so_far pushed =
+    put_more x (x.from * count + y) (x.to * count + y) i j start (beside_second x count y) old new is_from is_to so_far pushed ∙ ap (λ n. start ++ beside_second x count n) (sym (add-one y))
+
+pub first_more : (x : Transition) (count k i j : ℕ) (start old new : List Transition) → i ≡ k * count + x.from → j ≡ k * count + x.to → old ≡ start ++ beside_first x count k → new ≡ old ++ edge_as x i j ∷ []
+    → new ≡ start ++ beside_first x count (k + 1)
+first_more x count k i j start old new is_from is_to so_far pushed =
+    put_more x (k * count + x.from) (k * count + x.to) i j start (beside_first x count k) old new is_from is_to so_far pushed ∙ ap (λ n. start ++ beside_first x count n) (sym (add-one k))

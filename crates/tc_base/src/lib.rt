@@ -28,12 +28,12 @@ impl<T: Drop> From<AllocFailed<T>> for NoMemory {
 }
 
 /// A place in a text: the number of bytes before it.
-#[derive(Clone, Copy, Debug, PartialEq, Eq, PartialOrd, Ord, Hash)]
+#[derive(Clone, Copy, Debug, PartialEq, Eq)]
 pub struct Place(pub u32);
 
 /// A bound on the sizes of what two schemas and a stylesheet lead to, in the order in which the bounds are tried. Their
 /// numbers stand in [`limits`].
-#[derive(Clone, Copy, Debug, PartialEq, Eq, Hash)]
+#[derive(Clone, Copy, Debug, PartialEq, Eq)]
 pub enum Limit {
     /// Nodes of patterns in one schema.
     Pattern,

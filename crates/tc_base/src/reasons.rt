@@ -11,7 +11,7 @@ use crate::Place;
 /// 1 to 5 are constructs of a document, 6 to 17 of a schema in the compact syntax of RELAX NG
 /// (ISO/IEC 19757-2, Annex C), 18 to 42 of a stylesheet, 43 to 52 of its paths, patterns and tests, and 53 to 55
 /// of a document type definition. Each is named by its construct, those that are elements of XSLT with `Xsl` before.
-#[derive(Clone, Copy, Debug, PartialEq, Eq, Hash)]
+#[derive(Clone, Copy, Debug, PartialEq, Eq)]
 pub enum Why {
     /// `doctype-subset`: a document type declaration with an internal subset (XML 1.0, 2.8).
     DoctypeSubset = 1,
@@ -203,7 +203,7 @@ impl Why {
 }
 
 /// A construct that is refused, and where it stands.
-#[derive(Clone, Copy, Debug, PartialEq, Eq, Hash)]
+#[derive(Clone, Copy, Debug, PartialEq, Eq)]
 pub struct Refusal {
     /// The first byte of the construct.
     pub place: Place,

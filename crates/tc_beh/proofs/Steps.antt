@@ -1,5 +1,6 @@
 -- One piece of a list, and one number of several.
-use Rattle.std.proofs.Common.{◌≡◌, ℕ, List, ◌++◌, ap, ◌∙◌, sym, max, append_assoc, Result, Ok, Err, OnOk, arith}
+use Rattle.std.proofs.Common.{◌≡◌, ℕ, List, [], ◌++◌, ap, ◌∙◌, sym, max, append_assoc, Result, Ok, Err, OnOk, arith}
+use Rattle.std.proofs.lemmas.List.{append-nil}
 
 -- what follows from a result that is `Ok`
 pub then_on_ok : {T E : Type 0} (r : Result T E) (P Q : Type 0) → (P → Q) → OnOk r P → OnOk r Q
@@ -9,6 +10,10 @@ then_on_ok (Err e) P Q f h = h
 -- one piece, and then the rest
 pub after_one : {X : Type 0} (old new piece rest whole : List X) → new ≡ old ++ piece → whole ≡ piece ++ rest → new ++ rest ≡ old ++ whole
 after_one old new piece rest whole put is = ap (λ l. l ++ rest) put ∙ (append_assoc old piece rest ∙ ap (λ l. old ++ l) (sym is))
+
+-- nothing is left
+pub ended : {X : Type 0} (old left whole : List X) → old ++ left ≡ whole → left ≡ [] → old ≡ whole
+ended old left whole so_far none = sym (append-nil old) ∙ (ap (λ l. old ++ l) (sym none) ∙ so_far)
 
 pub max_assoc : (a b c : ℕ) → max (max a b) c ≡ max a (max b c)
 max_assoc a b c = omega arith

@@ -1,6 +1,6 @@
 -- What a loop over a part of a stylesheet has found, one step at a time.
-use Rattle.std.proofs.Common.{◌≡◌, ℕ, ◌+◌, ◌<◌, List, ◌++◌, refl, ap, ◌∙◌, sym, map, Bor, length, get_or, drop, append_assoc, flat_map, Result, Ok, Err, OnOk}
-use Rattle.std.proofs.lemmas.List.{drop_more}
+use Rattle.std.proofs.Common.{◌≡◌, ℕ, ◌+◌, ◌<◌, List, [], ◌++◌, refl, ap, ◌∙◌, sym, map, Bor, length, get_or, drop, append_assoc, flat_map, Result, Ok, Err, OnOk}
+use Rattle.std.proofs.lemmas.List.{append-nil, drop_more}
 use Rattle.tc_model.specs.Sheets as s
 use Rattle.tc_model.specs.Views as see
 use Rattle.tc_model.specs.Symbols.{in_steps, in_path, in_test, in_tests, in_body, in_branches}
@@ -82,3 +82,7 @@ instruction_step is i x h e = ap body_in (left_instruction is i x h e)
 pub branch_step : (bs : List Branch) (i : ℕ) (x : Branch) (rest : s.Branches) → i < length bs → x ≡ get_or bs i x
     → branches_in (see.branches (drop i bs) rest) ≡ test_in (see.test x.test) ++ (body_in (see.body x.body.now) ++ branches_in (see.branches (drop (i + 1) bs) rest))
 branch_step bs i x rest h e = ap branches_in (left_branch bs i x rest h e)
+
+-- nothing is left
+pub ended : (old left whole : List s.NodeTest) → old ++ left ≡ whole → left ≡ [] → old ≡ whole
+ended old left whole so_far none = sym (append-nil old) ∙ (ap (λ l. old ++ l) (sym none) ∙ so_far)

@@ -119,3 +119,7 @@ module _ (key_at : ℕ → List Bool) where
   -- of each key the first of so many symbols is known
   abbrev pub AreFirstsKnown : {S : Type 0} → IndexMap (Vec Bool) ℕ S → ℕ → Type 0
   AreFirstsKnown known count = (k : Vec Bool) → IsToldFirst count k.items (get same_key known k)
+
+  -- and each entry of the list is the first of the symbol at its place
+  abbrev pub AreFirsts : {S : Type 0} → IndexMap (Vec Bool) ℕ S → List ℕ → ℕ → Type 0
+  AreFirsts known firsts count = AreFirstsKnown known count × ((a first : ℕ) → slice_get firsts a ≡ Some first → IsFirst a first)

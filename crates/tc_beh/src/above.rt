@@ -5,7 +5,6 @@ ghost use Rattle.tc_model.specs.Letters as letters;
 ghost use Rattle.tc_model.specs.Letters.{of_symbol};
 ghost use Rattle.tc_rules.specs.Asked as asked;
 ghost use Rattle.tc_rules.specs.Kept.{told};
-ghost use Rattle.tc_rules.specs.KnownRules.{AreKnown};
 ghost use Rattle.tc_rules.specs.RulesView.{move_count};
 ghost use Rattle.tc_rules.specs.States.{Going};
 ghost use Rattle.tc_rules.specs.Tasks.{IsMoveAt};
@@ -14,41 +13,19 @@ ghost use Rattle.tc_rows.specs.Arithmetic.{hit_pairs, pairs_from, step};
 ghost use Rattle.tc_beh.specs.Above.{letter_of, node_of, pairs_at};
 ghost use Rattle.tc_beh.specs.Places.{IsPlace, IsPlaceIn, AreSpare, kind_of, below_of, size_at, entries_by};
 ghost use Rattle.tc_beh.specs.Putting.{Extends};
-ghost use Rattle.tc_beh.specs.Stands.{IsRulesIn};
 ghost use Rattle.tc_beh.specs.Templates.{IsMeantAt, IsPartTemplate, depth_of, depth_of_sheet, AreCalled};
 
 use crate::bodies::{Place, put_entry};
-use crate::templates::{Template, put_template, template_for};
+use crate::templates::{Template, put_template};
 use tc_alpha::Sym;
 use tc_mat::Mat;
-use tc_rules::{Kind, KnownRules, Marks, Rules};
+use tc_rules::{Kind, Marks};
 
 /// The letter of a node that isn't the root: what it is, and the predicates that hold on it.
 #[derive(Clone, Copy)]
 pub(crate) struct Letter {
     pub(crate) kind: Kind,
     pub(crate) marks: Marks,
-}
-
-/// What is to be done on a node that a state of a move above it hits. The ancestor state is that above the node.
-pub(crate) fn template_at<'b>(
-    rules: &Rules<'b>,
-    known: &mut KnownRules,
-    letter: Letter,
-    ancestor: u32,
-    state: u32,
-) -> Template<'b>
-    requires ancestor { ancestor < length (told rules.now).ancestors.states }
-    requires state { state < move_count (told rules.now) }
-    requires letter { (x : Triple) × IsRulesIn x rules.now × letters.IsLetter x.symbols (predicates x) (letter_of letter) × AreKnown x.symbols x.rules known.old }
-    ensures known { (x : Triple) → IsRulesIn x rules.now → letters.IsLetter x.symbols (predicates x) (letter_of letter) → AreKnown x.symbols x.rules known.old → AreKnown x.symbols x.rules known.new }
-    ensures part { IsPartTemplate (told rules.now).sheet result }
-    ensures depth { depth_of result ≤ depth_of_sheet (told rules.now).sheet }
-    ensures meant { (x : Triple) (g : Going) → IsRulesIn x rules.now → letters.IsLetter x.symbols (predicates x) (letter_of letter) → AreKnown x.symbols x.rules known.old → IsMoveAt x.rules state g
-        → IsMeantAt x g ancestor (letter_of letter) result }
-{
-    let job = rules.mode_of(state);
-    template_for(rules, known, job, ancestor, letter)
 }
 
 /// Puts what a state of a move puts out on a node, if the state hits it, by what is then to be done.

@@ -6,11 +6,11 @@ ghost use Rattle.tc_model.specs.Grammars.{Grammar};
 ghost use Rattle.tc_model.specs.Names as n;
 ghost use Rattle.tc_model.specs.Paths.{passes as passes_test};
 ghost use Rattle.tc_model.specs.States as s;
-ghost use Rattle.tc_model.specs.Symbols.{Mention, fresh_name, symbol_count, symbol_of};
+ghost use Rattle.tc_model.specs.Symbols.{Mention, symbol_count, symbol_of};
 ghost use Rattle.tc_model.specs.Trees.{none};
 ghost use Rattle.tc_model.specs.Views as see;
 ghost use Rattle.tc_rows.specs.Triples.{Triple};
-ghost use Rattle.tc_beh.specs.AlikeSymbols.{AlikeWrapAlike, AreFirstsKnown, AreSchemas, IsFirst, asked_test, asked_tests, classes_holding, key, tests_passed};
+ghost use Rattle.tc_beh.specs.AlikeSymbols.{AlikeWrapAlike, AreFirsts, AreSchemas, IsFirst, asked_test, asked_tests, classes_holding, key, tests_passed};
 
 use crate::machine::Machine;
 use crate::node_tests::{Asked, asked_of};
@@ -61,41 +61,47 @@ fn add_passes(key: &mut Vec<bool>, asked: &[Asked<'_>], name: &Name<'_>) -> Resu
     Ok(())
 }
 
-/// What tells a symbol from others, a name that stands for it being given.
+/// What tells a symbol from others, by a name that stands for it.
 fn key_of(
     alloc: Global,
+    arena: &Bump,
     input: &Hedge<'_>,
     output: &Hedge<'_>,
     asked: &[Asked<'_>],
-    name: &Name<'_>,
+    alphabet: &Alphabet,
     symbol: Sym,
 ) -> Result<Vec<bool>, NoMemory>
     requires input { symbol.0 < input.now.symbols }
     requires output { symbol.0 < output.now.symbols }
-    ensures { IfOk result (λ k. (x : Triple) → AreSchemas x input.now output.now → see.name name.now ≡ fresh_name x.symbols symbol.0 → symbol_of x.symbols (see.name name.now) ≡ symbol.0
-        → k.items ≡ key x (asked_tests asked.now) symbol.0) }
+    requires symbol { symbol.0 < symbol_count alphabet.now }
+    ensures { IfOk result (λ k. (x : Triple) → AreSchemas x input.now output.now → alphabet.now ≡ x.symbols → k.items ≡ key x (asked_tests asked.now) symbol.0) }
 {
+    let name = alphabet.fresh(arena, symbol)?;
     let mut key = Vec::new(alloc);
     add_classes(&mut key, input, symbol)?;
     add_classes(&mut key, output, symbol)?;
-    add_passes(&mut key, asked, name)?;
+    add_passes(&mut key, asked, &name)?;
     Ok(key)
 }
 
-/// The first symbol that has the key of one: that symbol itself, unless the key is known.
-fn first_of(
+/// Adds the first symbol that has the key of one: that symbol itself, unless the key is known.
+fn put_first(
     known: &mut IndexMap<Vec<bool>, u32>,
+    firsts: &mut Vec<u32>,
     bits: Vec<bool>,
     symbol: u32,
-) -> Result<u32, NoMemory>
-    ensures { IfOk result (λ r. (key_at : ℕ → List Bool) → AreFirstsKnown key_at known.old symbol → key_at symbol ≡ bits.items
-        → AreFirstsKnown key_at known.new (symbol + 1) × IsFirst key_at symbol r) }
+) -> Result<(), NoMemory>
+    requires { length firsts.old.items ≡ symbol }
+    ensures count { OnOk result (length firsts.new.items ≡ symbol + 1) }
+    ensures firsts { OnOk result ((key_at : ℕ → List Bool) → AreFirsts key_at known.old firsts.old.items symbol → key_at symbol ≡ bits.items → AreFirsts key_at known.new firsts.new.items (symbol + 1)) }
 {
     if let Some(first) = known.get(&bits).copied() {
-        return Ok(first);
+        firsts.push(first)?;
+        return Ok(());
     }
     known.insert(bits, symbol)?;
-    Ok(symbol)
+    firsts.push(symbol)?;
+    Ok(())
 }
 
 /// Of each symbol the first that has its key.
@@ -117,10 +123,8 @@ fn firsts_of(
     let mut firsts = Vec::new(alloc);
     for number in 0..alphabet.count() {
         let symbol = Sym(number);
-        let name = alphabet.fresh(&arena, symbol)?;
-        let bits = key_of(alloc, input, output, asked, &name, symbol)?;
-        let first = first_of(&mut known, bits, number)?;
-        firsts.push(first)?;
+        let bits = key_of(alloc, &arena, input, output, asked, alphabet, symbol)?;
+        put_first(&mut known, &mut firsts, bits, number)?;
     }
     Ok(firsts)
 }

@@ -1,5 +1,5 @@
 // Which bodies of named templates call which, and how many instructions stand within one another.
-ghost use Rattle.std.specs.Prelude.{◌≡◌, ◌<◌, ◌≤◌, ◌++◌, ◌∷◌, ℕ, List, [], length, map, max, get_or, IfOk, OnOk, ◌^◌};
+ghost use Rattle.std.specs.Prelude.{◌≡◌, ◌<◌, ◌≤◌, ◌++◌, ◌∷◌, ℕ, List, [], length, map, max, IfOk, OnOk, ◌^◌};
 ghost use Rattle.std.specs.Borrow.{Bor};
 ghost use Rattle.tc_model.specs.declared.sheet.Instr.{Instr};
 ghost use Rattle.tc_graph.specs.Graph.{rows_of};
@@ -11,6 +11,7 @@ ghost use Rattle.tc_beh.specs.Heights.{one_more as one_more_of, height_in, heigh
 ghost use Rattle.tc_model.specs.Sheets as s;
 ghost use Rattle.tc_model.specs.Views as see;
 
+use crate::looks::number_at;
 use bumpalo::Bump;
 use bumpalo::collections::into_bump_slice;
 use std::alloc::Global;
@@ -150,7 +151,7 @@ fn height_of_one(heights: &[u32], instruction: &Instr<'_>) -> u32
     ensures { (rest : s.Body) → height_in heights.now (see.instruction instruction.now rest) ≡ max result (height_in heights.now rest) }
 {
     match instruction {
-        Instr::Call(number) => one_more(height_at(heights, *number)),
+        Instr::Call(number) => one_more(number_at(heights, *number)),
         Instr::Elem(_, inner) => one_more(height(heights, inner)),
         Instr::Copy(inner) => one_more(height(heights, inner)),
         Instr::ForEach(_, _, inner) => one_more(height(heights, inner)),
@@ -159,15 +160,6 @@ fn height_of_one(heights: &[u32], instruction: &Instr<'_>) -> u32
             one_more(most.max(height(heights, last)))
         }
         Instr::Text(_) | Instr::Apply(_, _) | Instr::ValueOf(_) | Instr::ValueOfSelf => 1,
-    }
-}
-
-fn height_at(heights: &[u32], number: u32) -> u32
-    ensures { result ≡ get_or heights.now number 0 }
-{
-    match heights.get(number as usize) {
-        Some(height) => *height,
-        None => 0,
     }
 }
 
@@ -189,13 +181,16 @@ pub(crate) fn heights_of(
     Ok(heights)
 }
 
-/// The greatest of these.
-fn highest(heights: &[u32]) -> u32
-    ensures { result ≡ highest_of heights.now }
+/// The greatest of these, and of those of the bodies of rules.
+fn highest(heights: &[u32], rules: &[Rule<'_>]) -> u32
+    ensures { result ≡ max (highest_of heights.now) (highest_rule heights.now (map see.rule rules.now)) }
 {
     let mut most = 0;
     for here in heights {
         most = most.max(*here);
+    }
+    for rule in rules {
+        most = most.max(height(heights, rule.body));
     }
     most
 }
@@ -206,18 +201,7 @@ pub(crate) fn calls_of(alloc: Global, sheet: &Sheet<'_>, order: &[usize]) -> Res
     ensures { IfOk result (λ n. let heights = heights_in (see.sheet sheet.now).named (replicate (length sheet.now.named.now) 0) order.now in n ≡ max (highest_of heights) (highest_rule heights (see.sheet sheet.now).rules)) }
 {
     let heights = heights_of(alloc, sheet.named, order)?;
-    let named = highest(&heights);
-    Ok(named.max(highest_of_rules(&heights, sheet.rules)))
-}
-
-fn highest_of_rules(heights: &[u32], rules: &[Rule<'_>]) -> u32
-    ensures { result ≡ highest_rule heights.now (map see.rule rules.now) }
-{
-    let mut most = 0;
-    for rule in rules {
-        most = most.max(height(heights, rule.body));
-    }
-    most
+    Ok(highest(&heights, sheet.rules))
 }
 
 /// How many elements and copies stand within one another in the text of a body.
@@ -264,30 +248,16 @@ fn depth_of_one(instruction: &Instr<'_>) -> u32
     }
 }
 
-fn deepest_of_rules(rules: &[Rule<'_>]) -> u32
-    ensures { result ≡ deepest_rule (map see.rule rules.now) }
-{
-    let mut most = 0;
-    for rule in rules {
-        most = most.max(depth(rule.body));
-    }
-    most
-}
-
-fn deepest_of_bodies(bodies: &[&[Instr<'_>]]) -> u32
-    ensures { result ≡ deepest (map (λ b. see.body b.now) bodies.now) }
-{
-    let mut most = 0;
-    for body in bodies {
-        most = most.max(depth(body));
-    }
-    most
-}
-
 /// How many elements stand open at most in the text of a body of a stylesheet.
 pub(crate) fn depth_of_sheet(sheet: &Sheet<'_>) -> u32
     ensures { result ≡ max (deepest_rule (see.sheet sheet.now).rules) (deepest (see.sheet sheet.now).named) }
 {
-    let rules = deepest_of_rules(sheet.rules);
-    rules.max(deepest_of_bodies(sheet.named))
+    let mut most = 0;
+    for rule in sheet.rules {
+        most = most.max(depth(rule.body));
+    }
+    for body in sheet.named {
+        most = most.max(depth(body));
+    }
+    most
 }

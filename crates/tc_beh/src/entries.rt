@@ -19,7 +19,7 @@ ghost use Rattle.tc_beh.specs.RoomsOf.{IsRoomBeside};
 ghost use Rattle.tc_beh.specs.RowsOf.{IsWork};
 ghost use Rattle.tc_beh.specs.Stands.{IsRulesIn};
 
-use crate::above::{Letter, put_entry_above, template_at};
+use crate::above::{Letter, put_entry_above};
 use crate::bodies::{At, Place, entry_place};
 use crate::held_sets::HeldSets;
 use crate::leads::{Lead, lead_at};
@@ -29,6 +29,7 @@ use crate::outputs::{RowFault, keep};
 use crate::rooms::Room;
 use crate::rows::Work;
 use crate::sets::put_identity;
+use crate::templates::template_at;
 use tc_mat::Mat;
 use tc_rules::{Kind, Rules};
 
@@ -246,37 +247,6 @@ fn keep_nothing(
     Ok(number)
 }
 
-/// The number of an entry of a node, whose set is worked out.
-fn keep_here(
-    machine: &Machine<'_>,
-    outputs: &mut HeldSets,
-    is_fixed: bool,
-    work: &mut Work,
-    node: Node<'_>,
-    spot: Spot,
-) -> Result<u32, RowFault>
-    requires grounds { AreSomeGrounds machine.now outputs.old work.old node }
-    requires ancestor { spot.ancestor < length (told machine.now.rules).ancestors.states }
-    requires state { spot.state < move_count (told machine.now.rules) }
-    requires above { spot.above < length (told machine.now.rules).ancestors.states }
-    ensures work { (x : Triple) → AreGrounds x machine.now outputs.old work.old node.entry → IsWork x machine.now.depth work.new }
-    ensures named { work.new.named.items ≡ work.old.named.items }
-    ensures held { Extends outputs.old outputs.new }
-    ensures low { IfOk result (λ k. k < length outputs.new.matrices) }
-    ensures grows { IfOk result (λ k. ((k < length outputs.old.matrices) × (outputs.new ≡ outputs.old)) ⊎ ((k ≡ length outputs.old.matrices) × (length outputs.new.matrices ≡ length outputs.old.matrices + 1))) }
-    ensures entry { IfOk result (λ k. (x : Triple) → AreGrounds x machine.now outputs.old work.old node.entry → IsUnder x (letter_of node.entry.letter) spot.ancestor spot.above → AreCalledOn x outputs.old node.entry spot.above work.old.named.items
-        → IsEntryAt x (entries_by outputs.old.matrices node.entry.entries.now) node.entry (spot.ancestor * moves_of x + spot.state) (set_at outputs.new k)) }
-    ensures err { OnErr result ((outputs.new ≡ outputs.old) × ((x : Triple) → AreGrounds x machine.now outputs.old work.old node.entry → IsUnder x (letter_of node.entry.letter) spot.ancestor spot.above → AreCalledOn x outputs.old node.entry spot.above work.old.named.items
-        → IsNewEntry x (entries_by outputs.old.matrices node.entry.entries.now) node.entry outputs.old (spot.ancestor * moves_of x + spot.state))) }
-    ensures fixed { is_fixed ≡ true → outputs.new ≡ outputs.old }
-    ensures full { IsErrOf result RowFault.TooManyOutputs → (is_fixed ≡ false) × (length outputs.old.matrices ≡ 65536) }
-    ensures fresh { IsErrOf result RowFault.NewOutput → is_fixed ≡ true }
-    ensures memory { IsErrOf result RowFault.NoMemory → is_fixed ≡ false }
-{
-    put_entry_of(machine, outputs, work, node, spot);
-    keep(outputs, is_fixed, &work.set)
-}
-
 /// The number of an entry of a node.
 fn keep_entry(
     machine: &Machine<'_>,
@@ -312,7 +282,10 @@ fn keep_entry(
     }
     match passed_on(machine, outputs, node, spot) {
         Some(number) => Ok(number),
-        None => keep_here(machine, outputs, is_fixed, work, node, spot),
+        None => {
+            put_entry_of(machine, outputs, work, node, spot);
+            keep(outputs, is_fixed, &work.set)
+        }
     }
 }
 

@@ -28,18 +28,13 @@ impl Model for Guesses {
     ghost invariant = { λ g. length g.numbers.items ≡ 4096 };
 }
 
-/// What comes of what was mixed before by one word more.
-fn mixed_with(mixed: u64, word: u64) -> u64 {
-    (mixed.rotate_left(5) ^ word).wrapping_mul(MULTIPLIER)
-}
-
 /// The place of the words of a set.
 fn place_of(set: &Mat) -> usize
     ensures { result < 4096 }
 {
-    let mut mixed = 0;
+    let mut mixed = 0u64;
     for word in set.words() {
-        mixed = mixed_with(mixed, *word);
+        mixed = (mixed.rotate_left(5) ^ *word).wrapping_mul(MULTIPLIER);
     }
     (mixed >> 52) as usize % GUESSES
 }

@@ -8,10 +8,9 @@ ghost use Rattle.tc_beh.specs.Places.{pairs_of as list_of};
 ghost use Rattle.tc_beh.specs.Outs.{sets_of};
 ghost use Rattle.tc_beh.specs.Listing.{row_pairs, AreDistinct, HasPairs};
 
-use crate::held_sets::HeldSets;
 use std::alloc::Global;
 use tc_base::NoMemory;
-use tc_mat::{Mat, MatId, Pool};
+use tc_mat::{Mat, Pool};
 use tc_model::{PairLists, Pairs};
 
 /// Leaves these pairs.
@@ -90,16 +89,4 @@ pub(crate) fn pairs_of(alloc: Global, set: &Mat) -> Result<Pairs, NoMemory>
         put_row(set, from, &mut pairs)?;
     }
     Ok(pairs)
-}
-
-/// The pairs of the sets of a pool, by their numbers.
-pub(crate) fn lists_of(alloc: Global, outputs: &HeldSets) -> Result<PairLists, NoMemory>
-    ensures { IfOk result (λ l. l ≡ sets_of outputs.now.matrices) }
-{
-    let mut lists = PairLists::new(alloc);
-    for number in 0..outputs.len() {
-        let pairs = pairs_of(alloc, outputs.get(MatId(number)))?;
-        lists.push(pairs)?;
-    }
-    Ok(lists)
 }

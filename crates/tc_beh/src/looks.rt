@@ -22,17 +22,17 @@ pub(crate) fn look(rules: &Rules<'_>, looks: &[u32], path: &Path<'_>) -> u32
 {
     match rules.look_first(path) {
         None => 0,
-        Some(state) => look_at(looks, state.saturating_sub(rules.moves())),
+        Some(state) => number_at(looks, state.saturating_sub(rules.moves())),
     }
 }
 
-/// The value of a look, or that of nothing.
-pub(crate) fn look_at(looks: &[u32], place: u32) -> u32
-    ensures { result ≡ get_or looks.now place 0 }
+/// The number at a place; 0, as the value of a look that finds nothing, where there is none.
+pub(crate) fn number_at(numbers: &[u32], place: u32) -> u32
+    ensures { result ≡ get_or numbers.now place 0 }
 {
-    match looks.get(place as usize) {
+    match numbers.get(place as usize) {
         None => 0,
-        Some(value) => *value,
+        Some(number) => *number,
     }
 }
 

@@ -11,7 +11,7 @@ ghost use Rattle.tc_beh.specs.LooksAbove.{found_below, found_above};
 ghost use Rattle.tc_beh.specs.RoomsOf.{IsRoomBeside};
 ghost use Rattle.tc_beh.specs.Stands.{IsRulesIn};
 
-use crate::looks::look_at;
+use crate::looks::number_at;
 use crate::rooms::Room;
 use tc_alpha::Sym;
 use tc_rules::{Kind, Marks, Rules};
@@ -26,7 +26,7 @@ fn look_below(rules: &Rules<'_>, looks: &[u32], sym: Sym, marks: Marks, state: u
 {
     match rules.sel_step(state, sym, marks) {
         None => 0,
-        Some(next) => look_at(looks, next.saturating_sub(rules.moves())),
+        Some(next) => number_at(looks, next.saturating_sub(rules.moves())),
     }
 }
 

@@ -81,15 +81,6 @@ fn entries_of(rules: &Rules<'_>) -> u32
     rules.ancestors() * rules.moves()
 }
 
-/// How many look states there are.
-fn looks_of(rules: &Rules<'_>) -> u32
-    requires { AreRules rules.now }
-    ensures exact { (x : Triple) → IsRulesIn x rules.now → result ≡ t.looks x }
-    ensures few { result ≤ 4096 }
-{
-    rules.looks()
-}
-
 /// The numbers of the bodies of named templates, each after those that it calls, where the limits of a machine are kept.
 ///
 /// # Errors
@@ -108,7 +99,7 @@ fn order_of(alloc: Global, rules: &Rules<'_>) -> Result<Vec<usize>, MachineFault
     if calls >= TOO_MANY {
         return Err(MachineFault::TooManyCalls);
     }
-    if entries_of(rules) + looks_of(rules) > MOST_ENTRIES {
+    if entries_of(rules) + rules.looks() > MOST_ENTRIES {
         return Err(MachineFault::TooManyEntries);
     }
     Ok(order)
@@ -137,17 +128,16 @@ impl<'b> Machine<'b> {
         ensures within { OnOk result ((x : Triple) → AreParts x input.entry output.entry rules.entry alphabet → KeepsLimits x) }
         ensures cause { IfErr result (λ e. (x : Triple) → AreParts x input.entry output.entry rules.entry alphabet → IsMachineCause x e) }
     {
-        let mut machine = Machine {
+        let order = order_of(alloc, &rules)?;
+        let depth = depth_of_sheet(rules.sheet());
+        Ok(Machine {
             input,
             output,
             rules,
             alphabet,
-            order: Vec::new(alloc),
-            depth: 0,
-        };
-        machine.order = order_of(alloc, &machine.rules)?;
-        machine.depth = depth_of_sheet(machine.rules.sheet());
-        Ok(machine)
+            order,
+            depth,
+        })
     }
 
     /// The rules that it was made of.
@@ -175,7 +165,7 @@ impl<'b> Machine<'b> {
             outputs: self.output.auto().states(),
             patterns: self.input.auto().patterns(),
             entries: entries_of(&self.rules),
-            looks: looks_of(&self.rules),
+            looks: self.rules.looks(),
         }
     }
 }

@@ -46,31 +46,6 @@ pub(crate) fn keep(outputs: &mut HeldSets, is_fixed: bool, set: &Mat) -> Result<
     }
 }
 
-/// The number of the set that leads by one and then by another, which is worked out.
-fn keep_new_product(
-    outputs: &mut HeldSets,
-    is_fixed: bool,
-    set: &mut Mat,
-    first: u32,
-    second: u32,
-) -> Result<u32, RowFault>
-    requires set { set.old.size ≡ outputs.old.size }
-    requires first { first < length outputs.old.matrices }
-    requires second { second < length outputs.old.matrices }
-    ensures set { set.new.size ≡ set.old.size }
-    ensures held { Extends outputs.old outputs.new }
-    ensures pairs { IfOk result (λ k. (k < length outputs.new.matrices) × IsComposition (set_at outputs.old first) (set_at outputs.old second) (set_at outputs.new k)) }
-    ensures grows { IfOk result (λ k. ((k < length outputs.old.matrices) × (outputs.new ≡ outputs.old)) ⊎ ((k ≡ length outputs.old.matrices) × (length outputs.new.matrices ≡ length outputs.old.matrices + 1))) }
-    ensures err { OnErr result ((outputs.new ≡ outputs.old) × IsNew outputs.old (set_at outputs.old first) (set_at outputs.old second)) }
-    ensures fixed { is_fixed ≡ true → outputs.new ≡ outputs.old }
-    ensures full { IsErrOf result RowFault.TooManyOutputs → (is_fixed ≡ false) × (length outputs.old.matrices ≡ 65536) }
-    ensures fresh { IsErrOf result RowFault.NewOutput → is_fixed ≡ true }
-    ensures memory { IsErrOf result RowFault.NoMemory → is_fixed ≡ false }
-{
-    Mat::mul_into(outputs.get(MatId(first)), outputs.get(MatId(second)), set);
-    keep(outputs, is_fixed, set)
-}
-
 /// The number of the set that leads by one and then by another.
 fn keep_product(
     outputs: &mut HeldSets,
@@ -95,7 +70,8 @@ fn keep_product(
     if let Some(number) = outputs.product(first, second) {
         return Ok(number);
     }
-    let number = keep_new_product(outputs, is_fixed, set, first, second)?;
+    Mat::mul_into(outputs.get(MatId(first)), outputs.get(MatId(second)), set);
+    let number = keep(outputs, is_fixed, set)?;
     outputs.remember(first, second, number);
     Ok(number)
 }

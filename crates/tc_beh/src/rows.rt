@@ -9,7 +9,7 @@ use crate::append::{put_append, put_kind};
 use crate::empty::put_empty;
 use crate::held_sets::HeldSets;
 use crate::leads::{Lead, NOWHERE};
-use crate::lists::{lists_of, pairs_of, pool_of};
+use crate::lists::{pairs_of, pool_of};
 use crate::machine::Machine;
 use crate::outputs::RowFault;
 use crate::rooms::{HRow, TRow};
@@ -185,7 +185,12 @@ impl<'m, 'b> Rows<'m, 'b> {
     pub fn outputs(&self, alloc: Global) -> Result<PairLists, NoMemory>
         ensures { IfOk result (λ l. l ≡ sets_of self.now.outputs.matrices) }
     {
-        lists_of(alloc, &self.outputs)
+        let mut lists = PairLists::new(alloc);
+        for number in 0..self.outputs.len() {
+            let pairs = pairs_of(alloc, self.outputs.get(MatId(number)))?;
+            lists.push(pairs)?;
+        }
+        Ok(lists)
     }
 
     /// The pairs of the set of a number, in order.

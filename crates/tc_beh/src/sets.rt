@@ -44,22 +44,10 @@ pub(crate) fn put_led(out: &mut Mat, is_untouched: bool, led: &mut Mat, room: &m
     ensures pairs { IsComposition out.old led.old out.new }
 {
     if is_untouched {
-        put_behind_identity(out, led);
+        mem::swap(out, led);
+        // Of a set that is asked its size it is known that it is a matrix.
+        let _size = out.size();
     } else {
         put_behind(out, led, room);
     }
-}
-
-/// Puts a set of pairs behind that of each number with itself: the two change places.
-fn put_behind_identity(out: &mut Mat, led: &mut Mat)
-    requires led { led.old.size ≡ out.old.size }
-    requires untouched { IsIdentity out.old }
-    ensures size { out.new.size ≡ out.old.size }
-    ensures led { led.new.size ≡ led.old.size }
-    ensures matrix { IsMatrix out.new }
-    ensures pairs { IsComposition out.old led.old out.new }
-{
-    mem::swap(out, led);
-    // Of a set that is asked its size it is known that it is a matrix.
-    let _size = out.size();
 }

@@ -2,16 +2,13 @@
 ghost use Rattle.std.specs.Prelude.{◌≡◌, ◌≤◌, ◌<◌, ◌+◌, ℕ, List, length, All, option_map, Option, IfSome};
 ghost use Rattle.tc_mat.specs.Matrix.{Matrix, IsIdentity};
 ghost use Rattle.tc_model.specs.Letters as letters;
-ghost use Rattle.tc_model.specs.Machine.{CallFreeJob};
 ghost use Rattle.tc_model.specs.Sheets.{CallFreeBody};
 ghost use Rattle.tc_rules.specs.Asked.{found as found_of};
-ghost use Rattle.tc_rules.specs.Jobs.{IsJob};
 ghost use Rattle.tc_rules.specs.Kept.{told};
 ghost use Rattle.tc_rules.specs.KnownRules.{AreKnown};
-ghost use Rattle.tc_rules.specs.RulesView.{ancestor as ancestor_of};
-ghost use Rattle.tc_rules.specs.States.{Chosen, built_in_at, plain_of, body_by};
-ghost use Rattle.tc_rules.specs.Tasks.{IsTaskOf};
-ghost use Rattle.tc_rules.specs.Views.{mode_of};
+ghost use Rattle.tc_rules.specs.RulesView.{move_count};
+ghost use Rattle.tc_rules.specs.States.{Chosen, Going, plain_of};
+ghost use Rattle.tc_rules.specs.Tasks.{IsMoveAt};
 ghost use Rattle.tc_rows.specs.Triples.{Triple, sheet, predicates};
 ghost use Rattle.tc_rows.specs.Bodies.{body_pairs};
 ghost use Rattle.tc_beh.specs.Above.{letter_of};
@@ -19,7 +16,7 @@ ghost use Rattle.tc_beh.specs.Heights.{depth_in};
 ghost use Rattle.tc_beh.specs.Putting.{Extends};
 ghost use Rattle.tc_beh.specs.Places.{IsPlace, IsPlaceIn, AreSpare, kind_of, below_of, called_by, size_at};
 ghost use Rattle.tc_beh.specs.Stands.{IsRulesIn, AreRules};
-ghost use Rattle.tc_beh.specs.Templates.{IsTemplate, IsPartTemplate, depth_of, depth_of_sheet, built_in_on, AreCalled};
+ghost use Rattle.tc_beh.specs.Templates.{IsMeantAt, IsTemplate, IsPartTemplate, depth_of, depth_of_sheet, built_in_on, AreCalled};
 
 use crate::above::Letter;
 use crate::bodies::{At, Place, all_children, put_body, put_selected, put_text_if};
@@ -50,24 +47,24 @@ pub(crate) fn template_of<'b>(rules: &Rules<'b>, mode: u32, found: Found) -> Tem
     }
 }
 
-/// What is to be done on a node of a letter.
-pub(crate) fn template_for<'b>(
+/// What is to be done on a node that a state of a move above it hits. The ancestor state is that above the node.
+pub(crate) fn template_at<'b>(
     rules: &Rules<'b>,
     known: &mut KnownRules,
-    job: Job,
-    ancestor: u32,
     letter: Letter,
+    ancestor: u32,
+    state: u32,
 ) -> Template<'b>
-    requires job { IsJob (told rules.now).sheet job }
     requires ancestor { ancestor < length (told rules.now).ancestors.states }
+    requires state { state < move_count (told rules.now) }
     requires letter { (x : Triple) × IsRulesIn x rules.now × letters.IsLetter x.symbols (predicates x) (letter_of letter) × AreKnown x.symbols x.rules known.old }
     ensures known { (x : Triple) → IsRulesIn x rules.now → letters.IsLetter x.symbols (predicates x) (letter_of letter) → AreKnown x.symbols x.rules known.old → AreKnown x.symbols x.rules known.new }
     ensures part { IsPartTemplate (told rules.now).sheet result }
     ensures depth { depth_of result ≤ depth_of_sheet (told rules.now).sheet }
-    ensures meant { (x : Triple) (k : CallFreeJob) → IsRulesIn x rules.now → letters.IsLetter x.symbols (predicates x) (letter_of letter) → AreKnown x.symbols x.rules known.old → IsTaskOf (sheet x) (mode_of (sheet x).modes job) k →
-        IsTemplate (sheet x).named (λ m. built_in_at m (letter_of letter).kind) result (body_by x.symbols (predicates x) (sheet x).rules x.bodies k (ancestor_of x.rules ancestor) (letter_of letter)) }
+    ensures meant { (x : Triple) (g : Going) → IsRulesIn x rules.now → letters.IsLetter x.symbols (predicates x) (letter_of letter) → AreKnown x.symbols x.rules known.old → IsMoveAt x.rules state g
+        → IsMeantAt x g ancestor (letter_of letter) result }
 {
-    match job {
+    match rules.mode_of(state) {
         Job::Each(number) => Template::Body(rules.each_body(number)),
         Job::Mode(mode) => {
             let found = known.rule_for(rules, mode, ancestor, letter.kind, letter.marks);

@@ -6,7 +6,9 @@ ghost use Rattle.tc_dtd.specs.Outcomes.{Past};
 ghost use Rattle.tc_dtd.specs.Stops.{Stops, Breaks};
 
 use crate::faults::Stop;
-use tc_scan::{after_byte, after_mark, after_some_white, after_white, begins, ncname, up_to};
+use tc_scan::{
+    after_byte, after_equals, after_mark, after_some_white, after_white, begins, ncname, up_to,
+};
 
 /// What follows the comment at the front (XML 1.0, 2.5).
 fn after_comment(text: &str) -> Option<&str>
@@ -87,13 +89,6 @@ fn literal(text: &str) -> Option<(&str, &str)>
         return up_to(inside, "\"");
     }
     up_to(after_byte(text, b'\'')?, "'")
-}
-
-/// What follows an equals sign and the white space around it (XML 1.0, 2.8).
-fn after_equals(text: &str) -> Option<&str>
-    ensures { MatchOption result ((after : List ℕ) → bytes.EqualsAt text.now after → ⊥) (λ r. bytes.EqualsAt text.now r.now) }
-{
-    Some(after_white(after_byte(after_white(text), b'=')?))
 }
 
 /// The literal that this word is set to, after white space, and what follows it.

@@ -250,3 +250,12 @@ marks_by {row} {old} {new} {new'} {before} {after} {after'} e f m = subst (λ z.
 pub none_left : {X : Type 0} (xs : List X) → length xs ≡ 0 → xs ≡ []
 none_left [] e = refl
 none_left (x ∷ xs) e = absurd (omega (arith, e))
+
+-- at first the number itself waits, and nothing else is marked
+pub walked_init : (rows : List (Bor (List ℕ))) (from : ℕ) (marks : List Bool) (none waits : List ℕ) → from < length rows → marks ≡ replicate (length rows) false → none ≡ [] → waits ≡ none ++ from ∷ []
+    → IsWalked (rows_of rows) from (set marks from true) waits
+walked_init rows from marks none waits low all empty pushed =
+    let count = count_rows rows in
+    subst (IsWalked (rows_of rows) from (set marks from true)) (sym (pushed ∙ ap (λ w. w ++ from ∷ []) empty))
+    (subst (λ w. IsWalked (rows_of rows) from (set w from true) (from ∷ [])) (sym (all ∙ ap (λ n. replicate n false) (sym count)))
+    (walked_first (rows_of rows) from (subst (λ n. from < n) (sym count) low)))

@@ -1,12 +1,13 @@
 -- What holds all along a walk from number to number.
-use Rattle.std.proofs.Common.{◌≡◌, ◌≢◌, ◌⊎◌, inl, inr, ℕ, zero, suc, ◌+◌, ◌-◌, ◌*◌, ◌<◌, ◌≤◌, Bool, true, false, List, [], ◌∷◌, ◌++◌, refl, ap, ◌∙◌, sym, subst, arith, length, get_or, set, take, drop, eqb, slice_index, length-append, get_or-set_other, get_or-set_same, length-set, length-take-le, length-drop, replicate}
+use Rattle.std.proofs.Common.{◌≡◌, ◌≢◌, ◌⊎◌, inl, inr, ℕ, zero, suc, ◌+◌, ◌-◌, ◌*◌, ◌<◌, ◌≤◌, Bool, true, false, List, [], ◌∷◌, ◌++◌, refl, ap, ◌∙◌, sym, subst, arith, length, get_or, set, take, drop, eqb, slice_index, length-append, get_or-set_other, get_or-set_same, length-set, length-take-le, length-drop, replicate, Bor}
 use Rattle.std.proofs.lemmas.Bool.{cases_lt, eqb-true, eqb-false}
 use Rattle.std.proofs.lemmas.List.{get_or-append-add, get_or_append_left, get_or-take, get_or-drop, take_more}
 use Rattle.std.proofs.lemmas.List.Sums.{sum_by-set}
 use Rattle.std.proofs.lemmas.List.Elements.{Contains-append_left, Contains-append_cases, Contains-get_or, Contains-push, Contains-push_cases, All-push, All-contains}
 use Rattle.std.specs.List.{All, Contains, sum_by}
 use Rattle.std.proofs.Math.Nat.{mul-le-mul_right}
-use Rattle.tc_graph.specs.Graph.{Edge, Path, edge, further}
+use Rattle.tc_graph.specs.Graph.{Edge, Path, edge, further, rows_of}
+use Rattle.tc_graph.proofs.Marks.{count_rows}
 use Rattle.tc_graph.specs.Walks.{Stacks, state_at, entered, joined, stepped, IsStarted, IsClosedState, IsClosed, AreFinished, IsAscending, IsPending, IsFinished, IsStanding, HasSource, IsWalk, KeepsOld, longest, weight, cost, AreComponents}
 use Rattle.tc_graph.specs.declared.cycles.State.{State}
 use Rattle.tc_graph.specs.declared.cycles.State.TheVariants.{New, Open, Done}
@@ -769,3 +770,13 @@ stands_within {rows} {s} w i d h =
     by : (get_or s.stack i d < length s.states) ⊎ (length s.states ≤ get_or s.stack i d) → get_or s.stack i d ≡ slice_index s.stack i → get_or s.stack i d < length s.states
     by (inl l) e = l
     by (inr l) e = absurd (new_open (sym (past s.states (get_or s.stack i d) l) ∙ (ap (state_at s.states) e ∙ w.stands i h)))
+
+pub walk_begun : (rows : List (Bor (List ℕ))) (states : List State) (stack : List ℕ) (starts : List Start) (steps order : List ℕ)
+    → states ≡ replicate (length rows) New → stack ≡ [] → starts ≡ [] → steps ≡ [] → order ≡ []
+    → IsWalk (rows_of rows) (record { states = states; stack = stack; starts = starts; steps = steps; order = order })
+walk_begun rows states stack starts steps order all a b c d =
+    subst (λ w. IsWalk (rows_of rows) (record { states = states; stack = w; starts = starts; steps = steps; order = order })) (sym a)
+    (subst (λ w. IsWalk (rows_of rows) (record { states = states; stack = []; starts = w; steps = steps; order = order })) (sym b)
+    (subst (λ w. IsWalk (rows_of rows) (record { states = states; stack = []; starts = []; steps = w; order = order })) (sym c)
+    (subst (λ w. IsWalk (rows_of rows) (record { states = states; stack = []; starts = []; steps = []; order = w })) (sym d)
+    (walk_first (rows_of rows) states (all ∙ ap (λ n. replicate n New) (sym (count_rows rows)))))))

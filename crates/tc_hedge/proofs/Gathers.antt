@@ -110,3 +110,7 @@ for_ok (Err e) p f = tt
 pub for_both : {X E G : Type 0} {P R : X → Type 0} (r : Result X E) → OnOk r G → IfOk r P → ((x : X) → G → P x → R x) → IfOk r R
 for_both (Ok x) g p f = f x g p
 for_both (Err e) g p f = tt
+
+pub on_ok : {X E P R : Type 0} (r : Result X E) → OnOk r P → (P → R) → OnOk r R
+on_ok (Ok x) p f = f p
+on_ok (Err e) p f = tt

@@ -95,6 +95,24 @@ fn after_trees<'n>(
     Ok(number)
 }
 
+/// Those of some element patterns whose content the children match, by what is known already.
+fn matched_by<'n>(
+    alloc: Global,
+    automaton: &Auto<'_>,
+    memo: &mut Memo<'n>,
+    numbers: &[u32],
+    kids: &[Node<'n>],
+) -> Result<Vec<u32>, NoMemory>
+    requires knows { Knows automaton.now memo.old }
+    requires numbers { AreNumbers (a.patterns automaton.now) numbers.now }
+    ensures { IfOk result (λ v. (side : s.Side) (x : g.Grammar) → a.Stands side x automaton.now → IsMade v.items (λ k. Contains numbers.now k × IsMatched x (see.trees kids.now) k)) }
+{
+    let starts = firsts(alloc, automaton, numbers)?;
+    let first = memo.put(starts)?;
+    let ends = after_trees(alloc, automaton, memo, first, kids)?;
+    reached(alloc, automaton, memo.set(ends), numbers)
+}
+
 /// Those of some element patterns whose content the children match.
 fn matched(
     alloc: Global,
@@ -105,11 +123,8 @@ fn matched(
     requires numbers { AreNumbers (a.patterns automaton.now) numbers.now }
     ensures { IfOk result (λ v. (side : s.Side) (x : g.Grammar) → a.Stands side x automaton.now → IsMade v.items (λ k. Contains numbers.now k × IsMatched x (see.trees kids.now) k)) }
 {
-    let starts = firsts(alloc, automaton, numbers)?;
     let mut memo = Memo::new(alloc);
-    let first = memo.put(starts)?;
-    let ends = after_trees(alloc, automaton, &mut memo, first, kids)?;
-    reached(alloc, automaton, memo.set(ends), numbers)
+    matched_by(alloc, automaton, &mut memo, numbers, kids)
 }
 
 /// Whether an element pattern is an alternative of the start, and a name is in its class.

@@ -103,3 +103,7 @@ one_more files name i file h differ none =
     ∙ (ap (λ x. file_of x name) (entries_more files i file h)
     ∙ (file_of-after (entries (take i files)) (entry file ∷ []) name none
     ∙ file_of-next name (string_bytes file.name) file.bytes.items [] differ))
+
+-- what is told isn't untold
+pub not_told : {X : Type 0} {P : Type 0} (x : X) → Some x ≡ None → P
+not_told x e = absurd (cc)

@@ -32,18 +32,20 @@ KidsStay (suc p) o (element n kids rest) = (normal_form kids ≡ kids) × KidsSt
 abbrev pub known_kids : Option (Bor (List Node)) → Option Trees
 known_kids o = option_map (λ (k : Bor (List Node)). trees k.now) o
 
--- the normal form changes nothing at a tree that stands behind a text or not, whatever stands after it
+-- a tree that stands behind a text or not leaves a level in normal form: if the trees after it are so behind it, they are so with it, and the children
+-- of one tree more are known to be in normal form (what a text behind a text comes to is told where that one stands)
 abbrev pub IsUnchanged : Bool → Node → Type 0
 IsUnchanged behind x =
     (rest : Trees) → (IsLevelNormal (begins_with_text (before x none)) rest → IsLevelNormal behind (before x rest)) × ((p : ℕ) (o : Option Trees) → KidsStay p o rest → KidsStay (suc p) o (before x rest))
 
--- the first tree is a text, which is joined to the one before it or dropped
+-- the first tree is a text that stands behind another, or is white space alone
 abbrev pub IsTextChanged : Bool → Trees → Type 0
 IsTextChanged behind none = ⊥
 IsTextChanged behind (text s rest) = (behind || is_white_space_only s) ≡ true
 IsTextChanged behind (element n kids rest) = ⊥
 
--- what it changes at a tree is told: nothing; a text; or the children of an element, of which these are the normal form
+-- what the normal form changes at a tree, perhaps, is told: nothing; a text; or the children of an element, of which these are the normal form, be they that already
+-- or not
 abbrev pub IsChange : Bool → Node → Change → Type 0
 IsChange behind x Nothing = IsUnchanged behind x
 IsChange behind x Text = IsTextChanged behind (before x none)

@@ -48,8 +48,8 @@ HasOneRefusal = (bytes : List ℕ) (cause other : Cause) (place elsewhere : ℕ)
 abbrev pub HasNoTreeWhereRefused : Type 0
 HasNoTreeWhereRefused = (bytes : List ℕ) (cause : Cause) (place : ℕ) (h : RawTrees) → XmlTextRefuses bytes cause place → XmlText bytes h → ⊥
 
--- This cause is for what isn't read elsewhere: references to other entities, if `others` says that they are read here, or elements deeper than `least`, if
--- they stand so deep here.
+-- This cause is for what isn't read elsewhere: a construct that isn't read, if `others` says that references to other entities are read here, or elements
+-- deeper than `least`, if they may stand deeper here.
 abbrev pub IsBeyond : Bool → ℕ → ℕ → Cause → Type 0
 IsBeyond others deepest least (unsupported why) = IsTrue others
 IsBeyond others deepest least too_deep = least < deepest

@@ -130,8 +130,8 @@ fn all_gathered<'b>(mut gathered: Gathered<'b>) -> Result<&'b [Node<'b>], NoMemo
     Ok(into_bump_slice(gathered.nodes))
 }
 
-/// What the normal form of a level changes at one of its trees: nothing; a text, which is joined to the one before it or
-/// dropped; or the children of an element, of which these are the normal form.
+/// What the normal form of a level changes at one of its trees: nothing; a text that stands behind another or is white
+/// space alone; or the children of an element, of which these are the normal form.
 #[derive(Clone, Copy)]
 pub(crate) enum Change<'b> {
     Nothing,
@@ -157,7 +157,7 @@ fn is_text(node: &Node<'_>) -> bool
     }
 }
 
-/// Whether a text is joined to one before it, or dropped.
+/// Whether a text stands behind another, or is white space alone.
 fn text_changes(text: &str, behind: bool) -> bool
     ensures { result ≡ (behind || t.is_white_space_only text.now) }
 {

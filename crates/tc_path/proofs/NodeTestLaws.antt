@@ -1,6 +1,6 @@
 -- Node tests and attribute steps at the front of tokens.
-use Rattle.std.proofs.Common.{◌≡◌, ℕ, ◌<◌, true, false, ◌==◌, List, [], ◌∷◌, refl, ap, ◌∙◌, sym, subst, length, map, arith, Option, None, Some, Result, Ok, Err, IfOk, IfErr}
-use Rattle.std.specs.Prelude.{codes}
+use Rattle.std.proofs.Common.{◌≡◌, ℕ, ◌<◌, true, false, ◌==◌, List, [], ◌∷◌, refl, ap, ◌∙◌, sym, subst, length, map, arith, Option, None, Some, Result, Ok, Err}
+use Rattle.std.specs.Prelude.{codes, MatchResult}
 use Rattle.std.proofs.lemmas.Bool.{true≢false, eqb-true}
 use Rattle.std.proofs.lemmas.List.{length-map}
 use Rattle.tc_model.specs.Names.{ExpandedName}
@@ -31,19 +31,16 @@ pub same_tail : {t u : Token} {ts us : List Token} → t ∷ ts ≡ u ∷ us →
 unfolding tail
 same_tail e = ap tail e
 
-pub map_ok : {T E : Type 0} {P Q : T → Type 0} (r : Result T E) → ((x : T) → P x → Q x) → IfOk r P → IfOk r Q
-map_ok (Ok x) f h = f x h
-map_ok (Err e) f h = tt
-
 pub or_memory : {P Q : Type 0} (e : PathFault) → (P → Q) → OrNoMemory e P → OrNoMemory e Q
 or_memory faults.Malformed f h = f h
 or_memory (faults.Unsupported why) f h = f h
 or_memory faults.TooDeep f h = f h
 or_memory faults.NoMemory f h = tt
 
-pub map_no : {T : Type 0} {P Q : Type 0} (r : Result T PathFault) → (P → Q) → IfErr r (λ e. OrNoMemory e P) → IfErr r (λ e. OrNoMemory e Q)
-map_no (Ok x) f h = tt
-map_no (Err e) f h = or_memory e f h
+-- the same of what is read and of what is refused
+pub map_read : {T : Type 0} {R S : T → Type 0} {P Q : Type 0} (r : Result T PathFault) → ((x : T) → R x → S x) → (P → Q) → MatchResult r R (λ e. OrNoMemory e P) → MatchResult r S (λ e. OrNoMemory e Q)
+map_read (Ok v) f g h = f v h
+map_read (Err e) f g h = or_memory e g h
 
 pub first_seen : (ts rest : List CodeToken) (first : CodeToken) {x : Token} → ts ≡ first ∷ rest → token first ≡ x → map token ts ≡ x ∷ map token rest
 first_seen ts rest first e f = ap (map token) e ∙ ap (λ w. w ∷ map token rest) f

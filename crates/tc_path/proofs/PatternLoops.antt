@@ -1,5 +1,5 @@
 -- The alternatives of a pattern, which are read in a loop: what was read so far stands before a pattern of the rest.
-use Rattle.std.proofs.Common.{◌≡◌, Bool, true, false, MatchBool, List, [], ◌∷◌, ◌++◌, ◌==◌, map, refl, ap, ◌∙◌, sym, subst, length, append_assoc, arith}
+use Rattle.std.proofs.Common.{◌≡◌, ◌<◌, ◌≤◌, Bool, true, false, MatchBool, List, [], ◌∷◌, ◌++◌, ◌==◌, map, refl, ap, ◌∙◌, sym, subst, length, append_assoc, arith}
 use Rattle.std.proofs.lemmas.Bool.{true≢false, eqb-true}
 use Rattle.tc_model.specs.RawTrees.{Bound}
 use Rattle.tc_model.specs.Sheets.{Steps, root_pattern}
@@ -9,6 +9,8 @@ use Rattle.tc_model.specs.PathTextPhrases.{Lacks, OtherNodeAt, Form, StepsAt, En
 use Rattle.tc_model.proofs.PathTextUnique.{same_others, slash_is_not_slashes, steps_open, no_path_slash, no_path_slashes, alternative_of_pattern_unique}
 use Rattle.tc_path.specs.declared.token.Token.{Token as CodeToken}
 use Rattle.tc_path.specs.Views.{token}
+use Rattle.tc_path.specs.Phrases.{StartsAt, behind_slash, behind_slashes, at_once, priority_from}
+use Rattle.std.proofs.lemmas.List.{length-map}
 use Rattle.tc_path.proofs.TokenLaws.{no_length}
 
 module _ (scope : List Bound) where
@@ -80,33 +82,66 @@ module _ (scope : List Bound) where
   no_steps_slashes : {ts rest r : List Token} {deep : Bool} {ss : Steps} {f : Form} → ts ≡ mark slashes ∷ rest → StepsAt scope deep ts ss f r → ⊥
   no_steps_slashes {r = r} {deep = deep} {ss = ss} {f = f} e a = no_path_slashes (steps_open (subst (λ w. StepsAt scope deep w ss f r) e a))
 
-  pub no_steps_from_root : {ts rest : List Token} → ((r : List Token) → OtherNodeAt ts r → ⊥) → ts ≡ mark slash ∷ rest → (EndsAlternative rest → ⊥)
+  no_steps_from_root : {ts rest : List Token} → ((r : List Token) → OtherNodeAt ts r → ⊥) → ts ≡ mark slash ∷ rest → (EndsAlternative rest → ⊥)
       → ((ss : Steps) (f : Form) (r : List Token) → StepsAt scope false rest ss f r → ⊥) → (xs : List Alternative) (r : List Token) → PatternAlternativeAt scope ts xs r → ⊥
   no_steps_from_root {rest = rest} o e h k xs r a =
       no_alternative o (λ q f b. h (subst EndsAlternative (same_others (sym f ∙ e)) b)) (λ q z ss g f b. k ss g z (subst (λ w. StepsAt scope false w ss g z) (same_others (sym f ∙ e)) b))
       (λ q z ss g f b. slash_is_not_slashes (sym e ∙ f)) (λ z ss g b. no_steps_slash e b) a
 
-  pub no_steps_below_root : {ts rest : List Token} → ((r : List Token) → OtherNodeAt ts r → ⊥) → ts ≡ mark slashes ∷ rest → ((ss : Steps) (f : Form) (r : List Token) → StepsAt scope true rest ss f r → ⊥)
+  no_steps_below_root : {ts rest : List Token} → ((r : List Token) → OtherNodeAt ts r → ⊥) → ts ≡ mark slashes ∷ rest → ((ss : Steps) (f : Form) (r : List Token) → StepsAt scope true rest ss f r → ⊥)
       → (xs : List Alternative) (r : List Token) → PatternAlternativeAt scope ts xs r → ⊥
   no_steps_below_root {rest = rest} o e k xs r a =
       no_alternative o (λ q f b. slash_is_not_slashes (sym f ∙ e)) (λ q z ss g f b. slash_is_not_slashes (sym f ∙ e))
       (λ q z ss g f b. k ss g z (subst (λ w. StepsAt scope true w ss g z) (same_others (sym f ∙ e)) b)) (λ z ss g b. no_steps_slashes e b) a
 
-  pub no_relative_steps : {ts : List Token} → ((r : List Token) → OtherNodeAt ts r → ⊥) → Lacks (mark slash) ts → Lacks (mark slashes) ts → ((ss : Steps) (f : Form) (r : List Token) → StepsAt scope true ts ss f r → ⊥)
+  no_relative_steps : {ts : List Token} → ((r : List Token) → OtherNodeAt ts r → ⊥) → Lacks (mark slash) ts → Lacks (mark slashes) ts → ((ss : Steps) (f : Form) (r : List Token) → StepsAt scope true ts ss f r → ⊥)
       → (xs : List Alternative) (r : List Token) → PatternAlternativeAt scope ts xs r → ⊥
   no_relative_steps o h l k xs r a = no_alternative o (λ q f b. h q f) (λ q z ss g f b. h q f) (λ q z ss g f b. l q f) (λ z ss g b. k ss g z b) a
 
-  pub root_at : {ts rest : List Token} → ts ≡ mark slash ∷ rest → EndsAlternative rest → PatternAlternativeAt scope ts (record { pattern = root_pattern; priority = p.priority_otherwise } ∷ []) rest
+  root_at : {ts rest : List Token} → ts ≡ mark slash ∷ rest → EndsAlternative rest → PatternAlternativeAt scope ts (record { pattern = root_pattern; priority = p.priority_otherwise } ∷ []) rest
   root_at {rest = rest} e a = subst (λ w. PatternAlternativeAt scope w (record { pattern = root_pattern; priority = p.priority_otherwise } ∷ []) rest) (sym e) (p.PatternAlternativeAt.root_alone a)
 
-  pub from_root_at : {ts rest after : List Token} {ss : Steps} {f : Form} → ts ≡ mark slash ∷ rest → StepsAt scope false rest ss f after → PatternAlternativeAt scope ts (p.unless_dropped f ss p.priority_otherwise) after
+  from_root_at : {ts rest after : List Token} {ss : Steps} {f : Form} → ts ≡ mark slash ∷ rest → StepsAt scope false rest ss f after → PatternAlternativeAt scope ts (p.unless_dropped f ss p.priority_otherwise) after
   from_root_at {after = after} {ss = ss} {f = f} e a = subst (λ w. PatternAlternativeAt scope w (p.unless_dropped f ss p.priority_otherwise) after) (sym e) (p.PatternAlternativeAt.from_root a)
 
-  pub below_root_at : {ts rest after : List Token} {ss : Steps} {f : Form} → ts ≡ mark slashes ∷ rest → StepsAt scope true rest ss f after → PatternAlternativeAt scope ts (p.unless_dropped f ss p.priority_otherwise) after
+  below_root_at : {ts rest after : List Token} {ss : Steps} {f : Form} → ts ≡ mark slashes ∷ rest → StepsAt scope true rest ss f after → PatternAlternativeAt scope ts (p.unless_dropped f ss p.priority_otherwise) after
   below_root_at {after = after} {ss = ss} {f = f} e a = subst (λ w. PatternAlternativeAt scope w (p.unless_dropped f ss p.priority_otherwise) after) (sym e) (p.PatternAlternativeAt.below_root a)
 
-  pub relative_at : {ts after : List Token} {ss : Steps} {f : Form} → StepsAt scope true ts ss f after → PatternAlternativeAt scope ts (p.unless_dropped f ss (p.default_priority f ss)) after
+  relative_at : {ts after : List Token} {ss : Steps} {f : Form} → StepsAt scope true ts ss f after → PatternAlternativeAt scope ts (p.unless_dropped f ss (p.default_priority f ss)) after
   relative_at a = p.PatternAlternativeAt.relative a
+
+  -- where the steps begin
+  pub start_root : {ts rest : List Token} {b d : Bool} → StartsAt ts b d rest → (d ≡ false) × EndsAlternative rest → PatternAlternativeAt scope ts (record { pattern = root_pattern; priority = p.priority_otherwise } ∷ []) rest
+  start_root (behind_slash e) (f, a) = root_at e a
+  start_root (behind_slashes e) (f, a) = absurd (true≢false f)
+  start_root (at_once h l) (f, a) = absurd (true≢false f)
+
+  pub start_steps : {ts rest after : List Token} {b d : Bool} {ss : Steps} {f : Form} → StartsAt ts b d rest → StepsAt scope d rest ss f after → PatternAlternativeAt scope ts (p.unless_dropped f ss (priority_from b f ss)) after
+  start_steps (behind_slash e) a = from_root_at e a
+  start_steps (behind_slashes e) a = below_root_at e a
+  start_steps (at_once h l) a = relative_at a
+
+  pub no_start : {ts rest : List Token} {b d : Bool} → ((r : List Token) → OtherNodeAt ts r → ⊥) → StartsAt ts b d rest → (d ≡ false → EndsAlternative rest → ⊥)
+      → ((ss : Steps) (f : Form) (r : List Token) → StepsAt scope d rest ss f r → ⊥) → (xs : List Alternative) (r : List Token) → PatternAlternativeAt scope ts xs r → ⊥
+  no_start o (behind_slash e) h k = no_steps_from_root o e (h refl) k
+  no_start o (behind_slashes e) h k = no_steps_below_root o e k
+  no_start o (at_once g l) h k = no_relative_steps o g l k
+
+start_less : {ts rest : List Token} {b d : Bool} → StartsAt ts b d rest → length rest ≤ length ts
+start_less (behind_slash e) = omega (arith, ap length e)
+start_less (behind_slashes e) = omega (arith, ap length e)
+start_less (at_once h l) = omega arith
+
+root_less : {ts rest : List Token} {b d : Bool} → StartsAt ts b d rest → d ≡ false → length rest < length ts
+root_less (behind_slash e) f = omega (arith, ap length e)
+root_less (behind_slashes e) f = absurd (true≢false f)
+root_less (at_once h l) f = absurd (true≢false f)
+
+pub start_within : (ts rest : List CodeToken) {b d : Bool} → StartsAt (map token ts) b d (map token rest) → length rest ≤ length ts
+start_within ts rest a = omega (arith, start_less a, length-map ts token, length-map rest token)
+
+pub start_shorter : (ts rest : List CodeToken) {b d : Bool} → StartsAt (map token ts) b d (map token rest) → d ≡ false → length rest < length ts
+start_shorter ts rest a f = omega (arith, root_less a f, length-map ts token, length-map rest token)
 
 pub ends_if_none : (ts : List Token) → ts ≡ [] → EndsAlternative ts
 ends_if_none ts e = subst EndsAlternative (sym e) at_end

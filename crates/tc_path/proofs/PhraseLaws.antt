@@ -1,6 +1,6 @@
 -- Alternatives, primaries, closed tests and single steps: what they are by what was found at the front.
-use Rattle.std.proofs.Common.{◌≡◌, ◌==◌, Bool, true, false, List, [], ◌∷◌, refl, ap, ◌∙◌, sym, subst, length, arith, Result, Ok, Err, IfOk, IfErr}
-use Rattle.std.specs.Prelude.{codes}
+use Rattle.std.proofs.Common.{◌≡◌, ◌==◌, Bool, true, false, List, [], ◌∷◌, refl, ap, ◌∙◌, sym, subst, length, arith, Result, Ok, Err, IfErr}
+use Rattle.std.specs.Prelude.{codes, MatchResult}
 use Rattle.std.specs.Result.{IsErrAnd}
 use Rattle.std.specs.Borrow.{Bor}
 use Rattle.std.proofs.lemmas.Bool.{true≢false, eqb-true, false_from_ne_true}
@@ -25,14 +25,19 @@ pub handed_on : {T : Type 0} {P Q : Type 0} (r : Result T PathFault) (x : PathFa
 handed_on (Ok v) x h f g = tt
 handed_on {P = P} (Err e) x h f g = or_memory e f (subst (λ w. OrNoMemory w P) (sym h) g)
 
--- an error is no value, and want of memory says nothing of the tokens
-pub not_ok : {T : Type 0} (P : T → Type 0) (Q : PathFault → Type 0) (r : Result T PathFault) → IsErrAnd r Q → IfOk r P
-not_ok P Q (Ok v) h = absurd h
-not_ok P Q (Err e) h = tt
+-- an error that is handed on, of what is read and of what is refused
+pub passed_on : {T : Type 0} {P Q : Type 0} (R : T → Type 0) (r : Result T PathFault) (x : PathFault) → IsErrAnd r (λ e. e ≡ x) → (P → Q) → OrNoMemory x P → MatchResult r R (λ e. OrNoMemory e Q)
+passed_on R (Ok v) x h f g = absurd h
+passed_on {P = P} R (Err e) x h f g = or_memory e f (subst (λ w. OrNoMemory w P) (sym h) g)
 
-pub no_memory : {T : Type 0} (Q : Type 0) (r : Result T PathFault) → IsErrAnd r (λ e. e ≡ NoMemory) → IfErr r (λ e. OrNoMemory e Q)
-no_memory Q (Ok v) h = tt
-no_memory Q (Err e) h = subst (λ w. OrNoMemory w Q) (sym h) tt
+-- want of memory says nothing of the tokens
+pub out_of_memory : {T : Type 0} (R : T → Type 0) (Q : Type 0) (r : Result T PathFault) → IsErrAnd r (λ e. e ≡ NoMemory) → MatchResult r R (λ e. OrNoMemory e Q)
+out_of_memory R Q (Ok v) h = absurd h
+out_of_memory R Q (Err e) h = subst (λ w. OrNoMemory w Q) (sym h) tt
+
+pub memory_passed_on : {T : Type 0} (R : T → Type 0) (Q : Type 0) (r : Result T PathFault) (x : PathFault) → IsErrAnd r (λ e. e ≡ x) → x ≡ NoMemory → MatchResult r R (λ e. OrNoMemory e Q)
+memory_passed_on R Q (Ok v) x h g = absurd h
+memory_passed_on R Q (Err e) x h g = subst (λ w. OrNoMemory w Q) (sym (h ∙ g)) tt
 
 module _ (scope : List Bound) where
   -- alternatives
@@ -118,10 +123,16 @@ module _ (scope : List Bound) where
   no_negation e h t r a = let (u, b) = negation_opens (subst (λ w. PrimaryAt scope w t r) e a) in h u r b
 
   -- tests up to a mark
+  pub never_closed : {ts : List Token} (close : Mark) → ((us : Tests) (r : List Token) → OrAt scope ts us r → ⊥) → (t : Test) (r : List Token) → ClosedAt scope ts close t r → ⊥
+  never_closed close h t r a = h a.tests (mark close ∷ r) a.inside
+
   pub not_closed : {ts after : List Token} {us : Tests} (close : Mark) → OrAt scope ts us after → Lacks (mark close) after → (t : Test) (r : List Token) → ClosedAt scope ts close t r → ⊥
   not_closed close a h t r b = h r (or_unique scope a b.inside).1
 
   -- single steps
+  pub no_child_step : {ts : List Token} {deep : Bool} → ((t : NodeTest) (r : List Token) → ChildAt scope ts t r → ⊥) → (ss : Steps) (b : Bool) (r : List Token) → IsStepAt scope deep ts ss b r → ⊥
+  no_child_step h ss b r (a_step {rest = behind} {t = t} a u) = h t behind a
+
   lone_is : (found : List CodeTest) → (length found == 0) ≡ is_lone (seen.tests found)
   lone_is [] = refl
   lone_is (x ∷ xs) = false_from_ne_true (length (x ∷ xs) == 0) (λ e. absurd (omega (arith, eqb-true (length (x ∷ xs)) 0 e)))

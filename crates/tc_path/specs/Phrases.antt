@@ -1,9 +1,9 @@
 -- Parts of phrases that functions read.
-use Rattle.std.specs.Prelude.{◌≡◌, MatchBool, Bool, true, false, List, ◌∷◌}
+use Rattle.std.specs.Prelude.{◌≡◌, ℤ, MatchBool, Bool, true, false, List, ◌∷◌}
 use Rattle.tc_model.specs.RawTrees.{Bound}
 use Rattle.tc_model.specs.Sheets.{NodeTest, Steps, no_step, step, Test, Tests, no_test, test}
-use Rattle.tc_model.specs.PathTextTokens.{Mark, Token, mark}
-use Rattle.tc_model.specs.PathTextPhrases.{ChildAt, PredicatesAt, AlternativeAt, AttributesAlternativeAt, OrAt, Form, lone, longer, conjunction, disjunction}
+use Rattle.tc_model.specs.PathTextTokens.{Mark, Token, mark, slash, slashes}
+use Rattle.tc_model.specs.PathTextPhrases.{ChildAt, PredicatesAt, AlternativeAt, AttributesAlternativeAt, OrAt, Lacks, Form, lone, longer, conjunction, disjunction, default_priority, priority_otherwise}
 
 -- whether there is no predicate
 abbrev pub is_lone : Tests → Bool
@@ -32,3 +32,14 @@ pub record EndsIn (scope : List Bound) (ts : List Token) (ends : Bool) (after : 
   pub form : Form
   pub read : AlternativeAt scope ts steps form after
   pub told : MatchBool ends (AttributesAlternativeAt scope ts after) (AttributesAlternativeAt scope ts after → ⊥)
+
+-- whether an alternative of a pattern begins at the root, whether its first step is deep, and where its steps begin, if it has some
+pub data StartsAt : List Token → Bool → Bool → List Token → Type 0 where
+  behind_slash : {ts rest : List Token} → ts ≡ mark slash ∷ rest → StartsAt ts true false rest
+  behind_slashes : {ts rest : List Token} → ts ≡ mark slashes ∷ rest → StartsAt ts true true rest
+  at_once : {ts : List Token} → Lacks (mark slash) ts → Lacks (mark slashes) ts → StartsAt ts false true ts
+
+-- the default priority of steps from the root, or of relative ones
+abbrev pub priority_from : Bool → Form → Steps → ℤ
+priority_from true f ss = priority_otherwise
+priority_from false f ss = default_priority f ss

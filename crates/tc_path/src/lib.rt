@@ -77,9 +77,9 @@ pub fn read_select<'b>(
     ensures renamed { (v : sheets.Path) → FormsOnceRenamed (texts.IsSelect (map seen.bound scope.now) v) text.now → IfErr result IsUnsupported }
 {
     let tokens = shallow_tokens(arena, text)?;
-    match whole_select(arena, scope, &tokens) {
+    match whole_select(arena, scope, tokens) {
         Ok((path, _)) => Ok(path),
-        Err(fault) => Err(refusal(Context::Select, &tokens, fault)),
+        Err(fault) => Err(refusal(Context::Select, tokens, fault)),
     }
 }
 
@@ -97,9 +97,9 @@ pub fn selects_attributes(
     ensures renamed { (v : sheets.Path) → FormsOnceRenamed (texts.IsSelect (map seen.bound scope.now) v) text.now → IfErr result IsUnsupported }
 {
     let tokens = shallow_tokens(arena, text)?;
-    match are_attributes(arena, scope, &tokens) {
+    match are_attributes(arena, scope, tokens) {
         Ok(all) => Ok(all),
-        Err(fault) => Err(refusal(Context::Select, &tokens, fault)),
+        Err(fault) => Err(refusal(Context::Select, tokens, fault)),
     }
 }
 
@@ -115,9 +115,9 @@ pub fn read_value<'b>(
     ensures renamed { (v : sheets.Body) → FormsOnceRenamed (texts.IsValue (map seen.bound scope.now) v) text.now → IfErr result IsUnsupported }
 {
     let tokens = shallow_tokens(arena, text)?;
-    match whole_value(arena, scope, &tokens) {
+    match whole_value(arena, scope, tokens) {
         Ok(value) => Ok(value),
-        Err(fault) => Err(refusal(Context::Value, &tokens, fault)),
+        Err(fault) => Err(refusal(Context::Value, tokens, fault)),
     }
 }
 
@@ -133,9 +133,9 @@ pub fn read_pattern<'b>(
     ensures renamed { (v : List p.Alternative) → FormsOnceRenamed (texts.IsPattern (map seen.bound scope.now) v) text.now → IfErr result IsUnsupported }
 {
     let tokens = shallow_tokens(arena, text)?;
-    match patterns::pattern(arena, scope, &tokens) {
+    match patterns::pattern(arena, scope, tokens) {
         Ok(alternatives) => Ok(alternatives),
-        Err(fault) => Err(refusal(Context::Pattern, &tokens, fault)),
+        Err(fault) => Err(refusal(Context::Pattern, tokens, fault)),
     }
 }
 
@@ -151,8 +151,8 @@ pub fn read_test<'b>(
     ensures renamed { (v : sheets.Test) → FormsOnceRenamed (texts.IsTest (map seen.bound scope.now) v) text.now → IfErr result IsUnsupported }
 {
     let tokens = shallow_tokens(arena, text)?;
-    match whole_test(arena, scope, &tokens) {
+    match whole_test(arena, scope, tokens) {
         Ok(test) => Ok(test),
-        Err(fault) => Err(refusal(Context::Test, &tokens, fault)),
+        Err(fault) => Err(refusal(Context::Test, tokens, fault)),
     }
 }

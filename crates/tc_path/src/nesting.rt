@@ -38,16 +38,16 @@ fn is_too_deep(tokens: &[Token<'_>]) -> bool
 }
 
 /// The tokens of a text in which parentheses and brackets don't stand too deep.
-pub(crate) fn shallow_tokens<'b, 't>(
-    arena: &'b Bump,
+pub(crate) fn shallow_tokens<'t>(
+    arena: &'t Bump,
     text: &'t str,
-) -> Result<Vec<Token<'t>, &'b Bump>, PathFault>
-    ensures tokens { IfOk result (λ r. path.Tokens text.now (tokens_of r.items)) }
-    ensures shallow { IfOk result (λ r. path.IsTooDeep (tokens_of r.items) → ⊥) }
+) -> Result<&'t [Token<'t>], PathFault>
+    ensures tokens { IfOk result (λ r. path.Tokens text.now (tokens_of r.now)) }
+    ensures shallow { IfOk result (λ r. path.IsTooDeep (tokens_of r.now) → ⊥) }
     ensures no { IfErr result (IsUnread text.now) }
 {
     let found = tokens(arena, text)?;
-    if is_too_deep(&found) {
+    if is_too_deep(found) {
         return Err(PathFault::TooDeep);
     }
     Ok(found)

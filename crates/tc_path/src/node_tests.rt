@@ -1,5 +1,5 @@
 // Node tests and attribute steps (XPath 1.0, 2.1, 2.3, 2.5).
-ghost use Rattle.std.specs.Prelude.{◌≡◌, ◌<◌, [], ◌∷◌, IfOk, IfErr, None, Some, ℕ, List, length, map, codes, MatchOption, MatchBool};
+ghost use Rattle.std.specs.Prelude.{◌≡◌, ◌<◌, [], ◌∷◌, None, Some, ℕ, List, length, map, codes, MatchOption, MatchResult, MatchBool};
 ghost use Rattle.tc_model.specs.Names.{ExpandedName};
 ghost use Rattle.tc_model.specs.PathTextTokens as path;
 ghost use Rattle.tc_model.specs.PathTextPhrases as p;
@@ -69,9 +69,7 @@ fn name_test<'a, 'b, 't>(
 ) -> Result<(NodeTest<'b>, &'a [Token<'t>]), PathFault>
     requires no_text { (r : List path.Token) → (tokens_of tokens.now) ≡ p.word (codes "text") ∷ path.mark path.open_parenthesis ∷ path.mark path.close_parenthesis ∷ r → ⊥ }
     requires no_node { (r : List path.Token) → (tokens_of tokens.now) ≡ p.word (codes "node") ∷ path.mark path.open_parenthesis ∷ path.mark path.close_parenthesis ∷ r → ⊥ }
-    ensures ok { IfOk result (λ r. p.NodeTestAt (map seen.bound scope.now) (tokens_of tokens.now) (seen.node_test r.0) (tokens_of r.1.now)) }
-    ensures no { IfErr result (λ e. OrNoMemory e ((t : sheets.NodeTest) (after : List path.Token) → p.NodeTestAt (map seen.bound scope.now) (tokens_of tokens.now) t after → ⊥)) }
-    ensures shorter { IfOk result (λ r. length r.1.now < length tokens.now) }
+    ensures { MatchResult result (λ r. p.NodeTestAt (map seen.bound scope.now) (tokens_of tokens.now) (seen.node_test r.0) (tokens_of r.1.now) × (length r.1.now < length tokens.now)) (λ e. OrNoMemory e ((t : sheets.NodeTest) (after : List path.Token) → p.NodeTestAt (map seen.bound scope.now) (tokens_of tokens.now) t after → ⊥)) }
 {
     if let Some(rest) = after_mark(tokens, Mark::Star) {
         return Ok((NodeTest::Any, rest));
@@ -101,9 +99,7 @@ fn node_test_at<'a, 'b, 't>(
     scope: &[Binding<'b>],
     tokens: &'a [Token<'t>],
 ) -> Result<(NodeTest<'b>, &'a [Token<'t>]), PathFault>
-    ensures ok { IfOk result (λ r. p.NodeTestAt (map seen.bound scope.now) (tokens_of tokens.now) (seen.node_test r.0) (tokens_of r.1.now)) }
-    ensures no { IfErr result (λ e. OrNoMemory e ((t : sheets.NodeTest) (after : List path.Token) → p.NodeTestAt (map seen.bound scope.now) (tokens_of tokens.now) t after → ⊥)) }
-    ensures shorter { IfOk result (λ r. length r.1.now < length tokens.now) }
+    ensures { MatchResult result (λ r. p.NodeTestAt (map seen.bound scope.now) (tokens_of tokens.now) (seen.node_test r.0) (tokens_of r.1.now) × (length r.1.now < length tokens.now)) (λ e. OrNoMemory e ((t : sheets.NodeTest) (after : List path.Token) → p.NodeTestAt (map seen.bound scope.now) (tokens_of tokens.now) t after → ⊥)) }
 {
     if let Some(rest) = after_call(tokens, "text") {
         return Ok((NodeTest::Text, rest));
@@ -120,9 +116,7 @@ pub(crate) fn child_test<'a, 'b, 't>(
     scope: &[Binding<'b>],
     tokens: &'a [Token<'t>],
 ) -> Result<(NodeTest<'b>, &'a [Token<'t>]), PathFault>
-    ensures ok { IfOk result (λ r. p.ChildAt (map seen.bound scope.now) (tokens_of tokens.now) (seen.node_test r.0) (tokens_of r.1.now)) }
-    ensures no { IfErr result (λ e. OrNoMemory e ((t : sheets.NodeTest) (after : List path.Token) → p.ChildAt (map seen.bound scope.now) (tokens_of tokens.now) t after → ⊥)) }
-    ensures shorter { IfOk result (λ r. length r.1.now < length tokens.now) }
+    ensures { MatchResult result (λ r. p.ChildAt (map seen.bound scope.now) (tokens_of tokens.now) (seen.node_test r.0) (tokens_of r.1.now) × (length r.1.now < length tokens.now)) (λ e. OrNoMemory e ((t : sheets.NodeTest) (after : List path.Token) → p.ChildAt (map seen.bound scope.now) (tokens_of tokens.now) t after → ⊥)) }
 {
     match after_axis(tokens, "child") {
         Some(rest) => node_test_at(arena, scope, rest),

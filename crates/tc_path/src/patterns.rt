@@ -1,10 +1,11 @@
 // Patterns with their default priorities (XSLT 1.0, 5.2, 5.5).
-ghost use Rattle.std.specs.Prelude.{◌≡◌, ◌<◌, ◌++◌, [], ◌∷◌, IfOk, IfErr, None, Some, List, length, map, MatchBool};
+ghost use Rattle.std.specs.Prelude.{◌≡◌, ◌<◌, ◌++◌, [], ◌∷◌, IfOk, IfErr, None, Some, List, length, map, false, MatchBool, MatchResult};
 ghost use Rattle.tc_model.specs.PathTextTokens as path;
 ghost use Rattle.tc_model.specs.PathTextPhrases as p;
 ghost use Rattle.tc_model.specs.Views as seen;
 ghost use Rattle.tc_path.specs.Views as see;
 ghost use Rattle.tc_path.specs.Views.{form, tokens_of, kept_alternative};
+ghost use Rattle.tc_path.specs.Phrases.{StartsAt, priority_from};
 ghost use Rattle.tc_path.specs.Faults.{OrNoMemory};
 
 use crate::PathFault;
@@ -40,28 +41,26 @@ fn default_priority(steps: &[Step<'_>], written: Form) -> i64
     }
 }
 
-/// These steps as an alternative from the root, unless it is dropped.
-fn from_root<'b>(steps: &'b [Step<'b>], written: Form) -> Option<Alt<'b>>
-    ensures { kept_alternative result ≡ p.unless_dropped (form written) (seen.steps steps.now) p.priority_otherwise }
+/// The default priority of a pattern, from the root or relative, in ten-thousandths.
+fn priority_of(from_root: bool, steps: &[Step<'_>], written: Form) -> i64
+    ensures { result ≡ priority_from from_root (form written) (seen.steps steps.now) }
 {
-    match written {
-        Form::Dropped => None,
-        Form::Lone | Form::Longer => Some(Alt {
-            pattern: Pattern::Steps(steps),
-            priority: OTHERWISE,
-        }),
+    if from_root {
+        OTHERWISE
+    } else {
+        default_priority(steps, written)
     }
 }
 
-/// These steps as a relative alternative, unless it is dropped.
-fn relative<'b>(steps: &'b [Step<'b>], written: Form) -> Option<Alt<'b>>
-    ensures { kept_alternative result ≡ p.unless_dropped (form written) (seen.steps steps.now) (p.default_priority (form written) (seen.steps steps.now)) }
+/// These steps as an alternative, from the root or relative, unless it is dropped.
+fn kept<'b>(from_root: bool, steps: &'b [Step<'b>], written: Form) -> Option<Alt<'b>>
+    ensures { kept_alternative result ≡ p.unless_dropped (form written) (seen.steps steps.now) (priority_from from_root (form written) (seen.steps steps.now)) }
 {
     match written {
         Form::Dropped => None,
         Form::Lone | Form::Longer => Some(Alt {
             pattern: Pattern::Steps(steps),
-            priority: default_priority(steps, written),
+            priority: priority_of(from_root, steps, written),
         }),
     }
 }
@@ -73,38 +72,49 @@ fn ends_alternative(tokens: &[Token<'_>]) -> bool
     tokens.is_empty() || begins_with(tokens, Mark::Bar)
 }
 
+/// Whether an alternative is the root alone, by whether its first step is deep and by what follows.
+fn is_root(deep: bool, tokens: &[Token<'_>]) -> bool
+    ensures { MatchBool result ((deep ≡ false) × p.EndsAlternative (tokens_of tokens.now)) (deep ≡ false → p.EndsAlternative (tokens_of tokens.now) → ⊥) }
+{
+    !deep && ends_alternative(tokens)
+}
+
+/// Whether steps begin at the root, whether the first of them is deep, and where they begin.
+fn start<'a, 't>(tokens: &'a [Token<'t>]) -> (bool, bool, &'a [Token<'t>])
+    ensures { StartsAt (tokens_of tokens.now) result.0 result.1 (tokens_of result.2.now) }
+{
+    if let Some(rest) = after_mark(tokens, Mark::Slash) {
+        return (true, false, rest);
+    }
+    match after_mark(tokens, Mark::Slashes) {
+        Some(rest) => (true, true, rest),
+        None => (false, true, tokens),
+    }
+}
+
 /// The alternative of a pattern at the front, none where it is dropped, and what follows it.
 fn alternative<'a, 'b, 't>(
     arena: &'b Bump,
     scope: &[Binding<'b>],
     tokens: &'a [Token<'t>],
 ) -> Result<(Option<Alt<'b>>, &'a [Token<'t>]), PathFault>
-    ensures ok { IfOk result (λ r. p.PatternAlternativeAt (map seen.bound scope.now) (tokens_of tokens.now) (kept_alternative r.0) (tokens_of r.1.now)) }
-    ensures no { IfErr result (λ e. OrNoMemory e ((xs : List p.Alternative) (after : List path.Token) → p.PatternAlternativeAt (map seen.bound scope.now) (tokens_of tokens.now) xs after → ⊥)) }
-    ensures shorter { IfOk result (λ r. length r.1.now < length tokens.now) }
+    ensures { MatchResult result (λ r. p.PatternAlternativeAt (map seen.bound scope.now) (tokens_of tokens.now) (kept_alternative r.0) (tokens_of r.1.now) × (length r.1.now < length tokens.now)) (λ e. OrNoMemory e ((xs : List p.Alternative) (after : List path.Token) → p.PatternAlternativeAt (map seen.bound scope.now) (tokens_of tokens.now) xs after → ⊥)) }
 {
     if let Some(rest) = after_other_node(tokens) {
         return Ok((None, rest));
     }
-    if let Some(rest) = after_mark(tokens, Mark::Slash) {
-        if ends_alternative(rest) {
-            return Ok((
-                Some(Alt {
-                    pattern: Pattern::Root,
-                    priority: OTHERWISE,
-                }),
-                rest,
-            ));
-        }
-        let (steps, form, after) = steps(arena, scope, rest, false)?;
-        return Ok((from_root(steps, form), after));
+    let (from_root, deep, rest) = start(tokens);
+    if is_root(deep, rest) {
+        return Ok((
+            Some(Alt {
+                pattern: Pattern::Root,
+                priority: OTHERWISE,
+            }),
+            rest,
+        ));
     }
-    if let Some(rest) = after_mark(tokens, Mark::Slashes) {
-        let (steps, form, after) = steps(arena, scope, rest, true)?;
-        return Ok((from_root(steps, form), after));
-    }
-    let (steps, form, after) = steps(arena, scope, tokens, true)?;
-    Ok((relative(steps, form), after))
+    let (steps, form, after) = steps(arena, scope, rest, deep)?;
+    Ok((kept(from_root, steps, form), after))
 }
 
 /// Puts an alternative behind the others, if there is one.

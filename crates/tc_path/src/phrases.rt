@@ -1,7 +1,7 @@
 // Selects and tests (XPath 1.0, 2 and 3).
 #![tactic(none)]
 
-ghost use Rattle.std.specs.Prelude.{◌<◌, [], ◌∷◌, IfOk, IfErr, Bool, List, length, map};
+ghost use Rattle.std.specs.Prelude.{◌<◌, [], ◌∷◌, MatchResult, Bool, List, length, map};
 ghost use Rattle.tc_model.specs.PathTextTokens as path;
 ghost use Rattle.tc_model.specs.PathTextPhrases as p;
 ghost use Rattle.tc_model.specs.Sheets as sheets;
@@ -29,9 +29,7 @@ fn step<'a, 'b, 't>(
     tokens: &'a [Token<'t>],
     deep: bool,
 ) -> Result<(Step<'b>, bool, &'a [Token<'t>]), PathFault>
-    ensures ok { IfOk result (λ r. IsStepAt (map seen.bound scope.now) deep (tokens_of tokens.now) (seen.steps (r.0 ∷ [])) r.1 (tokens_of r.2.now)) }
-    ensures no { IfErr result (λ e. OrNoMemory e ((ss : sheets.Steps) (lone : Bool) (after : List path.Token) → IsStepAt (map seen.bound scope.now) deep (tokens_of tokens.now) ss lone after → ⊥)) }
-    ensures shorter { IfOk result (λ r. length r.2.now < length tokens.now) }
+    ensures { MatchResult result (λ r. IsStepAt (map seen.bound scope.now) deep (tokens_of tokens.now) (seen.steps (r.0 ∷ [])) r.1 (tokens_of r.2.now) × (length r.2.now < length tokens.now)) (λ e. OrNoMemory e ((ss : sheets.Steps) (lone : Bool) (after : List path.Token) → IsStepAt (map seen.bound scope.now) deep (tokens_of tokens.now) ss lone after → ⊥)) }
 {
     let (test, mut rest) = child_test(arena, scope, tokens)?;
     let mut found = Vec::new(arena);
@@ -57,9 +55,7 @@ pub(crate) fn steps<'a, 'b, 't>(
     tokens: &'a [Token<'t>],
     is_deep: bool,
 ) -> Result<(&'b [Step<'b>], Form, &'a [Token<'t>]), PathFault>
-    ensures ok { IfOk result (λ r. p.StepsAt (map seen.bound scope.now) is_deep (tokens_of tokens.now) (seen.steps r.0.now) (form r.1) (tokens_of r.2.now)) }
-    ensures no { IfErr result (λ e. OrNoMemory e ((ss : sheets.Steps) (f : p.Form) (after : List path.Token) → p.StepsAt (map seen.bound scope.now) is_deep (tokens_of tokens.now) ss f after → ⊥)) }
-    ensures shorter { IfOk result (λ r. length r.2.now < length tokens.now) }
+    ensures { MatchResult result (λ r. p.StepsAt (map seen.bound scope.now) is_deep (tokens_of tokens.now) (seen.steps r.0.now) (form r.1) (tokens_of r.2.now) × (length r.2.now < length tokens.now)) (λ e. OrNoMemory e ((ss : sheets.Steps) (f : p.Form) (after : List path.Token) → p.StepsAt (map seen.bound scope.now) is_deep (tokens_of tokens.now) ss f after → ⊥)) }
 {
     let mut found = Vec::new(arena);
     let mut longer = false;
@@ -87,9 +83,7 @@ pub(crate) fn alternative<'a, 'b, 't>(
     scope: &[Binding<'b>],
     tokens: &'a [Token<'t>],
 ) -> Result<(&'b [Step<'b>], Form, &'a [Token<'t>]), PathFault>
-    ensures ok { IfOk result (λ r. p.AlternativeAt (map seen.bound scope.now) (tokens_of tokens.now) (seen.steps r.0.now) (form r.1) (tokens_of r.2.now)) }
-    ensures no { IfErr result (λ e. OrNoMemory e ((ss : sheets.Steps) (f : p.Form) (after : List path.Token) → p.AlternativeAt (map seen.bound scope.now) (tokens_of tokens.now) ss f after → ⊥)) }
-    ensures shorter { IfOk result (λ r. length r.2.now < length tokens.now) }
+    ensures { MatchResult result (λ r. p.AlternativeAt (map seen.bound scope.now) (tokens_of tokens.now) (seen.steps r.0.now) (form r.1) (tokens_of r.2.now) × (length r.2.now < length tokens.now)) (λ e. OrNoMemory e ((ss : sheets.Steps) (f : p.Form) (after : List path.Token) → p.AlternativeAt (map seen.bound scope.now) (tokens_of tokens.now) ss f after → ⊥)) }
 {
     if let Some(rest) = after_other_node(tokens) {
         return Ok((&[], Form::Dropped, rest));
@@ -110,9 +104,7 @@ pub(crate) fn select<'a, 'b, 't>(
     scope: &[Binding<'b>],
     tokens: &'a [Token<'t>],
 ) -> Result<(Path<'b>, bool, &'a [Token<'t>]), PathFault>
-    ensures ok { IfOk result (λ r. p.SelectAt (map seen.bound scope.now) (tokens_of tokens.now) (seen.path r.0) r.1 (tokens_of r.2.now)) }
-    ensures no { IfErr result (λ e. OrNoMemory e ((q : sheets.Path) (drops : Bool) (after : List path.Token) → p.SelectAt (map seen.bound scope.now) (tokens_of tokens.now) q drops after → ⊥)) }
-    ensures shorter { IfOk result (λ r. length r.2.now < length tokens.now) }
+    ensures { MatchResult result (λ r. p.SelectAt (map seen.bound scope.now) (tokens_of tokens.now) (seen.path r.0) r.1 (tokens_of r.2.now) × (length r.2.now < length tokens.now)) (λ e. OrNoMemory e ((q : sheets.Path) (drops : Bool) (after : List path.Token) → p.SelectAt (map seen.bound scope.now) (tokens_of tokens.now) q drops after → ⊥)) }
 {
     let mut found = Vec::new(arena);
     let mut drops = false;
@@ -135,9 +127,7 @@ fn primary<'a, 'b, 't>(
     scope: &[Binding<'b>],
     tokens: &'a [Token<'t>],
 ) -> Result<(Test<'b>, &'a [Token<'t>]), PathFault>
-    ensures ok { IfOk result (λ r. p.PrimaryAt (map seen.bound scope.now) (tokens_of tokens.now) (seen.test r.0) (tokens_of r.1.now)) }
-    ensures no { IfErr result (λ e. OrNoMemory e ((t : sheets.Test) (after : List path.Token) → p.PrimaryAt (map seen.bound scope.now) (tokens_of tokens.now) t after → ⊥)) }
-    ensures shorter { IfOk result (λ r. length r.1.now < length tokens.now) }
+    ensures { MatchResult result (λ r. p.PrimaryAt (map seen.bound scope.now) (tokens_of tokens.now) (seen.test r.0) (tokens_of r.1.now) × (length r.1.now < length tokens.now)) (λ e. OrNoMemory e ((t : sheets.Test) (after : List path.Token) → p.PrimaryAt (map seen.bound scope.now) (tokens_of tokens.now) t after → ⊥)) }
 {
     if let Some(rest) = after_call(tokens, "true") {
         return Ok((Test::True, rest));
@@ -167,9 +157,7 @@ fn closed_test<'a, 'b, 't>(
     tokens: &'a [Token<'t>],
     close: Mark,
 ) -> Result<(Test<'b>, &'a [Token<'t>]), PathFault>
-    ensures ok { IfOk result (λ r. ClosedAt (map seen.bound scope.now) (tokens_of tokens.now) (mark close) (seen.test r.0) (tokens_of r.1.now)) }
-    ensures no { IfErr result (λ e. OrNoMemory e ((t : sheets.Test) (after : List path.Token) → ClosedAt (map seen.bound scope.now) (tokens_of tokens.now) (mark close) t after → ⊥)) }
-    ensures shorter { IfOk result (λ r. length r.1.now < length tokens.now) }
+    ensures { MatchResult result (λ r. ClosedAt (map seen.bound scope.now) (tokens_of tokens.now) (mark close) (seen.test r.0) (tokens_of r.1.now) × (length r.1.now < length tokens.now)) (λ e. OrNoMemory e ((t : sheets.Test) (after : List path.Token) → ClosedAt (map seen.bound scope.now) (tokens_of tokens.now) (mark close) t after → ⊥)) }
 {
     let (tests, after) = any_tests(arena, scope, tokens)?;
     let Some(rest) = after_mark(after, close) else {
@@ -185,9 +173,7 @@ fn all_tests<'a, 'b, 't>(
     scope: &[Binding<'b>],
     tokens: &'a [Token<'t>],
 ) -> Result<(&'b [Test<'b>], &'a [Token<'t>]), PathFault>
-    ensures ok { IfOk result (λ r. p.AndAt (map seen.bound scope.now) (tokens_of tokens.now) (seen.tests r.0.now) (tokens_of r.1.now)) }
-    ensures no { IfErr result (λ e. OrNoMemory e ((us : sheets.Tests) (after : List path.Token) → p.AndAt (map seen.bound scope.now) (tokens_of tokens.now) us after → ⊥)) }
-    ensures shorter { IfOk result (λ r. length r.1.now < length tokens.now) }
+    ensures { MatchResult result (λ r. p.AndAt (map seen.bound scope.now) (tokens_of tokens.now) (seen.tests r.0.now) (tokens_of r.1.now) × (length r.1.now < length tokens.now)) (λ e. OrNoMemory e ((us : sheets.Tests) (after : List path.Token) → p.AndAt (map seen.bound scope.now) (tokens_of tokens.now) us after → ⊥)) }
 {
     let mut found = Vec::new(arena);
     let mut rest = tokens.split_at(0).1;
@@ -208,9 +194,7 @@ pub(crate) fn any_tests<'a, 'b, 't>(
     scope: &[Binding<'b>],
     tokens: &'a [Token<'t>],
 ) -> Result<(&'b [Test<'b>], &'a [Token<'t>]), PathFault>
-    ensures ok { IfOk result (λ r. p.OrAt (map seen.bound scope.now) (tokens_of tokens.now) (seen.tests r.0.now) (tokens_of r.1.now)) }
-    ensures no { IfErr result (λ e. OrNoMemory e ((us : sheets.Tests) (after : List path.Token) → p.OrAt (map seen.bound scope.now) (tokens_of tokens.now) us after → ⊥)) }
-    ensures shorter { IfOk result (λ r. length r.1.now < length tokens.now) }
+    ensures { MatchResult result (λ r. p.OrAt (map seen.bound scope.now) (tokens_of tokens.now) (seen.tests r.0.now) (tokens_of r.1.now) × (length r.1.now < length tokens.now)) (λ e. OrNoMemory e ((us : sheets.Tests) (after : List path.Token) → p.OrAt (map seen.bound scope.now) (tokens_of tokens.now) us after → ⊥)) }
 {
     let mut found = Vec::new(arena);
     let mut rest = tokens.split_at(0).1;

@@ -1,5 +1,5 @@
 // The constructs for which a text is refused by a reason of their own.
-ghost use Rattle.std.specs.Prelude.{◌≡◌, ◌<◌, List, [], ◌∷◌, codes, length};
+ghost use Rattle.std.specs.Prelude.{◌≡◌, ◌<◌, ◌≤◌, ◌+◌, List, [], ◌∷◌, codes, length};
 ghost use Rattle.tc_path.specs.Reasons as reasons;
 ghost use Rattle.tc_path.specs.Views.{mark, token, tokens_of};
 ghost use Rattle.tc_scan.specs.Views.{written_name};
@@ -207,7 +207,8 @@ fn reason_at(context: Context, before: Before, first: &Token<'_>, rest: &[Token<
 /// How many brackets are open behind this token.
 fn brackets_behind(brackets: usize, first: &Token<'_>) -> usize
     requires { brackets < usize.MAX }
-    ensures { result ≡ reasons.brackets_behind brackets (token first.now) }
+    ensures same { result ≡ reasons.brackets_behind brackets (token first.now) }
+    ensures few { result ≤ brackets + 1 }
 {
     match first {
         Token::Mark(Mark::OpenBracket) => brackets + 1,

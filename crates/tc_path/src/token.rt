@@ -8,9 +8,10 @@ ghost use Rattle.tc_path.specs.NameTokens.{NameTokenAt, VariableAt};
 use crate::PathFault;
 use crate::front::{after_digits, after_literal};
 use bumpalo::Bump;
+use bumpalo::collections::into_bump_slice;
 use tc_scan::{QualifiedName, after_byte, after_white, begins, ncname, qname};
 
-#[derive(Clone, Copy, Debug, PartialEq, Eq)]
+#[derive(Clone, Copy, PartialEq, Eq)]
 pub(crate) enum Mark {
     Star,
     Slash,
@@ -184,11 +185,8 @@ fn token_at(text: &str) -> Option<(Token<'_>, &str)>
 }
 
 /// The tokens of a text.
-pub(crate) fn tokens<'b, 't>(
-    arena: &'b Bump,
-    text: &'t str,
-) -> Result<Vec<Token<'t>, &'b Bump>, PathFault>
-    ensures ok { IfOk result (λ r. path.Tokens text.now (tokens_of r.items)) }
+pub(crate) fn tokens<'t>(arena: &'t Bump, text: &'t str) -> Result<&'t [Token<'t>], PathFault>
+    ensures ok { IfOk result (λ r. path.Tokens text.now (tokens_of r.now)) }
     ensures no { IfErr result (λ e. OrNoMemory e ((e ≡ PathFault.Malformed) × ((ts : List path.Token) → path.Tokens text.now ts → ⊥))) }
 {
     let mut found = Vec::new(arena);
@@ -196,7 +194,7 @@ pub(crate) fn tokens<'b, 't>(
     loop {
         let front = after_white(rest);
         if front.is_empty() {
-            return Ok(found);
+            return Ok(into_bump_slice(found));
         }
         let Some((token, after)) = token_at(front) else {
             return Err(PathFault::Malformed);

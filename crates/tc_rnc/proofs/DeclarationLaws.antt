@@ -178,16 +178,11 @@ datatypes_read {end} {scope} (t, e, k) h s y = by h (subst (λ w. DeclarationSto
     by h (datatypes_prefix a y) = h s y
     by h z = absurd (omega (arith, declaration_stops_at z, datatypes_kind k))
 
-pub datatypes_first : (t : Token) (ts rest : List Token) → ts ≡ t ∷ rest → BeginsDeclaration ts → LacksWord (codes "namespace") ts → LacksWord (codes "default") ts → StartsWith (codes "datatypes") ts rest
-datatypes_first t ts rest e b n d = (t, e, by (subst BeginsDeclaration e b) (subst (LacksWord (codes "namespace")) e n) (subst (LacksWord (codes "default")) e d))
-  where
-    by : BeginsDeclaration (t ∷ rest) → LacksWord (codes "namespace") (t ∷ rest) → LacksWord (codes "default") (t ∷ rest) → IsWord (codes "datatypes") t
-    by (inl k) n d = absurd (n k)
-    by (inr (inl k)) n d = absurd (d k)
-    by (inr (inr k)) n d = k
-
-pub none_declared : {ts : List Token} → ts ≡ [] → BeginsDeclaration ts → ⊥
-none_declared e b = subst BeginsDeclaration e b
+pub undeclared : (ts : List Token) → BeginsDeclaration ts → LacksWord (codes "namespace") ts → LacksWord (codes "default") ts → LacksWord (codes "datatypes") ts → ⊥
+undeclared [] b n d k = b
+undeclared (t ∷ ts) (inl a) n d k = n a
+undeclared (t ∷ ts) (inr (inl a)) n d k = d a
+undeclared (t ∷ ts) (inr (inr a)) n d k = k a
 
 -- `default namespace`
 pub default_stops : {end : End} {scope : List Bound} {ts mid : List Token} {r : Refusal} → StartsWith (codes "default") ts mid → LacksWord (codes "namespace") mid → Unexpected end mid r → DeclarationStops end scope ts r

@@ -1,5 +1,5 @@
 -- Where the escape of a character stands.
-use Rattle.std.proofs.Common.{◌≡◌, ◌≢◌, ◌⊎◌, inl, inr, ℕ, ◌+◌, ◌≤◌, ◌==◌, Bool, true, false, cond, List, [], ◌∷◌, refl, ap, ◌∙◌, sym, subst, length, take, drop, arith, Option, None, Some, MatchOption}
+use Rattle.std.proofs.Common.{◌≡◌, ◌≢◌, ◌⊎◌, inl, inr, ℕ, ◌+◌, ◌<◌, ◌≤◌, ◌==◌, Bool, true, false, cond, List, [], ◌∷◌, refl, ap, ◌∙◌, sym, subst, length, take, drop, arith, length-drop, length-take, Option, None, Some, MatchOption}
 use Rattle.std.proofs.lemmas.Bool.Decides.{eqb_tells}
 use Rattle.tc_base.specs.declared.Place.{Place}
 use Rattle.tc_model.specs.Views.{place}
@@ -27,6 +27,18 @@ lacks_mark text bs h = by (length_before text bs) refl (eqb_tells (length_before
     by n is (inr e) = absurd (h (take n bs) (drop (n + length text) bs)
         (found text bs (take n bs) (drop (n + length text) bs) n is refl
         (stands_at text bs n is (omega (arith, is, before_within text bs)) (λ f. e.1 (sym is ∙ f))) refl))
+
+-- where the mark of an escape stands
+pub mark_within : (bs inside after : List ℕ) (n : ℕ) → UpTo escape_mark bs inside after → n ≡ length inside → (n ≡ length_before escape_mark bs) × (n < length bs)
+mark_within bs inside after n u e =
+    let k = length_before escape_mark bs in
+    (omega (arith, e, ap length u.front, length-take k bs, before_within escape_mark bs), omega (arith, e, ap length u.front, length-take k bs, before_within escape_mark bs, ap length u.back, length-drop k bs))
+
+pub no_literal : (t : Token) → quoted_text t.word ≡ None → LacksEscape t
+no_literal t h q s e = absurd (some_none e h)
+
+pub text_lacks : (t : Token) {q : ℕ} {s : List ℕ} → quoted_text t.word ≡ Some (q, s) → Lacks escape_mark s → LacksEscape t
+text_lacks t e h p r f = subst (Lacks escape_mark) (ap (λ z. z.1) (same_some e f)) h
 
 pub text_escape : {t : Token} {ts us : List Token} → us ≡ t ∷ ts → IsEscapeText t ts → EscapeAt us t.place
 text_escape {t} {ts} {us} e h =

@@ -19,6 +19,9 @@ use Rattle.tc_rnc.specs.declared.syntax.SPat.{SPat}
 pub goes_on_shorter : {c : Connector} {ts rest : List Token} → GoesOn c ts rest → length rest < length ts
 goes_on_shorter (t, e, k) = omega (arith, ap length e)
 
+pub goes_on_at : {c : Connector} {ts rest : List Token} → GoesOn c ts rest → connector_at ts ≡ Some c
+goes_on_at (t, e, k) = ap connector_at e ∙ k
+
 -- Items.
 
 -- those that were gathered, before others

@@ -1,5 +1,5 @@
 -- How a refusal of a part is one of the whole.
-use Rattle.std.proofs.Common.{◌≡◌, subst, sym, Result, Ok, Err, IfOk, IfErr, Option, None, Some, MatchOption}
+use Rattle.std.proofs.Common.{◌≡◌, List, [], ◌∷◌, subst, sym, Result, Ok, Err, IfOk, IfErr, Option, None, Some, MatchOption}
 use Rattle.std.specs.Result.{IsErrAnd}
 use Rattle.tc_model.specs.Views.{place}
 use Rattle.tc_model.specs.CompactSyntaxUnread as m
@@ -36,6 +36,15 @@ unmade Q (Err y) e = subst (Refuses Q) (sym e) no_memory
 
 pub unmade_by : {T : Type 0} (Q : Refusal → Type 0) (r : Result T RncFault) (x : RncFault) → IsErrAnd r (λ e. e ≡ x) → x ≡ NoMemory → IfErr r (Refuses Q)
 unmade_by Q r x e is = unmade Q r (subst (λ z. IsErrAnd r (λ e. e ≡ z)) is e)
+
+-- the same of a call whose result is the result
+pub unmade_as : {T : Type 0} (Q : Refusal → Type 0) (r : Result T RncFault) → IfErr r (λ e. e ≡ NoMemory) → IfErr r (Refuses Q)
+unmade_as Q (Ok y) h = tt
+unmade_as Q (Err y) h = subst (Refuses Q) (sym h) no_memory
+
+-- what begins with something isn't at its end
+pub more : {A : Type 0} {x : A} {xs ys : List A} → ys ≡ x ∷ xs → ys ≡ [] → ⊥
+more e f = cc
 
 pub map_ok : {T E : Type 0} (P Q : T → Type 0) (r : Result T E) → ((x : T) → P x → Q x) → IfOk r P → IfOk r Q
 map_ok P Q (Ok x) f h = f x h

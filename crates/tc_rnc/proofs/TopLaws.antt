@@ -1,5 +1,5 @@
 -- Why a schema is read, or not, where its parts are.
-use Rattle.std.proofs.Common.{◌≡◌, ℕ, false, List, [], ◌∷◌, ◌++◌, refl, ap, ◌∙◌, sym, subst, map, codes}
+use Rattle.std.proofs.Common.{◌≡◌, ℕ, false, List, [], ◌∷◌, ◌++◌, refl, sym, subst, codes}
 use Rattle.tc_model.specs.RawTrees.{Bound}
 use Rattle.tc_model.specs.CompactSyntaxTrees.{SyntaxPattern, plain, Definition}
 use Rattle.tc_model.specs.CompactSyntaxTokens.{Token}
@@ -9,8 +9,6 @@ use Rattle.tc_model.specs.CompactSyntax.{one_definition, DefinitionsAt, SchemaAt
 use Rattle.tc_model.specs.CompactSyntaxUnread.{Refusal, End, Unexpected}
 use Rattle.tc_model.specs.CompactSyntaxStops.{PatternStops, LacksWord, BeginsDefinitions, BeginsOnePattern, BlockAt, block, GoesOnAsPattern, SchemaStops, past_grammar, past_definitions, in_pattern, past_pattern}
 use Rattle.tc_rnc.specs.Schemas.{LacksDeclaration, LacksDefinitions}
-use Rattle.tc_rnc.specs.Views as seen
-use Rattle.tc_rnc.specs.declared.syntax.Def.{Def}
 
 -- One pattern.
 
@@ -63,9 +61,3 @@ block_whole {scope} n t ts after es full k m e f = subst (SchemaAt false scope n
   where
     by : {d : ℕ} {rest : List Token} → BlockAt false scope d rest es [] → SchemaAt false scope d (t ∷ rest) es
     by (block a m c) = grammar k a m c
-
-pub one_made : (xs ys : List Def) (d : Def) (e : Definition) → xs ≡ [] → ys ≡ xs ++ d ∷ [] → seen.definition d ≡ e → map seen.definition ys ≡ e ∷ []
-one_made xs ys d e a b f = ap (map seen.definition) (b ∙ ap (λ z. z ++ d ∷ []) a) ∙ ap (λ z. z ∷ []) f
-
-pub moved : {end end' : End} {scope scope' : List Bound} {n : ℕ} {ts : List Token} {r : Refusal} → end ≡ end' → scope ≡ scope' → SchemaStops end scope n ts r → SchemaStops end' scope' n ts r
-moved {end' = end'} {scope = scope} {n = n} {ts} {r} e f y = subst (λ z. SchemaStops end' z n ts r) f (subst (λ z. SchemaStops z scope n ts r) e y)

@@ -1,5 +1,5 @@
 -- Which word stands at the front of a text.
-use Rattle.std.proofs.Common.{◌≡◌, ℕ, false, List, [], ◌∷◌, ◌++◌, refl, ap, ◌∙◌, sym, subst, length, take, drop, inl, inr, IsTrue, arith, length-append}
+use Rattle.std.proofs.Common.{◌≡◌, ℕ, Option, None, Some, MatchOption, false, List, [], ◌∷◌, ◌++◌, refl, ap, ◌∙◌, sym, subst, length, take, drop, inl, inr, IsTrue, arith, length-append}
 use Rattle.std.specs.Prelude.{encode_utf8, codes}
 use Rattle.std.specs.List.{list_all}
 use Rattle.std.proofs.Math.Seq.{take-length, drop-length, drop-nil}
@@ -108,3 +108,7 @@ no_word h k g l m w r (quoted {value = v} a e n) = k v r a e
 no_word h k g l m w r (quoted_long {value = v} a) = g v r a
 no_word h k g l m w r (backslash e) = m.no_backslash r refl
 no_word h k g l m w r (other {c = c} e i) = m.no_mark c r e i
+
+pub none_map : {T : Type 0} {P R : Type 0} (Q : T → Type 0) (o : Option T) → (P → R) → MatchOption o P Q → MatchOption o R Q
+none_map Q None f h = f h
+none_map Q (Some x) f h = h

@@ -14,7 +14,7 @@ ghost use Rattle.tc_rnc.specs.Views as seen;
 ghost use Rattle.tc_rnc.specs.declared.faults.RncFault.TheVariants.{NoMemory};
 
 use crate::faults::{RncFault, first_of, unexpected};
-use crate::marks::{after_mark, expect_mark};
+use crate::marks::after_mark;
 use crate::parser::Parser;
 use crate::scopes::Scope;
 use crate::syntax::SClass;
@@ -156,7 +156,9 @@ impl<'b> Parser<'b> {
         ensures no { IfErr result (Refuses (parts.ClosedClassStops (seen.end self.now.end) (scope_of self.now.scope) deepest (seen.tokens tokens.now))) }
     {
         let (inner, closing) = self.name_class(tokens, deepest)?;
-        let after = expect_mark(closing, ')', self.end)?;
+        let Some(after) = after_mark(closing, ')') else {
+            return Err(unexpected(closing, self.end));
+        };
         Ok((inner, after))
     }
 

@@ -1,5 +1,5 @@
 // Declarations of prefixes (OASIS, RELAX NG Compact Syntax, 2002: decl).
-ghost use Rattle.std.specs.Prelude.{◌≡◌, ◌≢◌, ℕ, List, [], ◌∷◌, Bool, None, Some, IfOk, IfErr, OnOk, IsTrue, MatchBool, MatchOption, codes};
+ghost use Rattle.std.specs.Prelude.{◌≢◌, ℕ, List, [], Bool, None, Some, IfOk, IfErr, IsTrue, MatchBool, MatchOption, codes};
 ghost use Rattle.tc_model.specs.CompactSyntaxNames as names;
 ghost use Rattle.tc_model.specs.CompactSyntaxStops as stops;
 ghost use Rattle.tc_model.specs.CompactSyntaxUnread as unread;
@@ -8,13 +8,12 @@ ghost use Rattle.tc_rnc.specs.Refusals.{Refuses};
 ghost use Rattle.tc_rnc.specs.Schemas as schemas;
 ghost use Rattle.tc_rnc.specs.Scopes.{scope_of};
 ghost use Rattle.tc_rnc.specs.Views as seen;
-ghost use Rattle.tc_rnc.specs.declared.faults.RncFault.TheVariants.{NoMemory};
 
 use crate::faults::{RncFault, first_of, unexpected, unread_literal};
-use crate::marks::{after_mark, after_word, expect_mark};
-use crate::parser::Parser;
+use crate::marks::{after_mark, after_word};
 use crate::scopes::Scope;
 use crate::tokens::{End, Token};
+use bumpalo::Bump;
 use tc_base::{Place, Why};
 
 /// The namespace of namespace declarations, to which nothing may be bound (Namespaces in XML 1.0, 3).
@@ -77,9 +76,10 @@ fn uri<'s, 't>(
     ensures whole { IfOk result (λ r. (s : unread.Refusal) → stops.UriStops (seen.end end) may_inherit (seen.tokens tokens.now) s → ⊥) }
     ensures no { IfErr result (Refuses (stops.UriStops (seen.end end) may_inherit (seen.tokens tokens.now))) }
 {
-    let rest = expect_mark(tokens, '=', end)?;
-    let (value, after) = literal(rest, end, may_inherit)?;
-    Ok((value, after))
+    let Some(rest) = after_mark(tokens, '=') else {
+        return Err(unexpected(tokens, end));
+    };
+    literal(rest, end, may_inherit)
 }
 
 /// A prefix with a namespace name after an equals sign, and what follows them.
@@ -128,155 +128,139 @@ fn begins_declaration(tokens: &[Token<'_>]) -> bool
     first.is_name("datatypes")
 }
 
-impl<'b> Parser<'b> {
-    /// Binds a prefix to a namespace name.
-    fn bind(&mut self, prefix: &str, uri: &str) -> Result<(), RncFault>
-        ensures ok { OnOk result (scope_of self.new.scope ≡ names.bound_to prefix.now uri.now ∷ scope_of self.old.scope) }
-        ensures same { self.new.end ≡ self.old.end }
-        ensures no { IfErr result (λ e. e ≡ NoMemory) }
-    {
-        self.scope.bind(self.arena, prefix, uri)?;
-        Ok(())
+/// Reads a declaration of a prefix, of which `rest` is what follows its word, and gives what follows it.
+fn namespace<'b, 's, 't>(
+    arena: &'b Bump,
+    scope: &mut Scope<'b>,
+    tokens: &'s [Token<'t>],
+    rest: &'s [Token<'t>],
+    end: End,
+) -> Result<&'s [Token<'t>], RncFault>
+    requires { schemas.StartsWith (codes "namespace") (seen.tokens tokens.now) (seen.tokens rest.now) }
+    ensures ok { IfOk result (λ r. names.DeclarationAt (scope_of scope.old) (seen.tokens tokens.now) (scope_of scope.new) (seen.tokens r.now)) }
+    ensures whole { IfOk result (λ r. (s : unread.Refusal) → stops.DeclarationStops (seen.end end) (scope_of scope.old) (seen.tokens tokens.now) s → ⊥) }
+    ensures no { IfErr result (Refuses (stops.DeclarationStops (seen.end end) (scope_of scope.old) (seen.tokens tokens.now))) }
+{
+    let (prefix, value, after) = prefix_uri(rest, end, true)?;
+    if !may_bind(scope, prefix, value) {
+        return Err(unexpected(tokens, end));
     }
+    scope.bind(arena, prefix, value)?;
+    Ok(after)
+}
 
-    /// Reads a declaration of a prefix, of which `rest` is what follows its word, and gives what follows it.
-    fn namespace<'s, 't>(
-        &mut self,
-        tokens: &'s [Token<'t>],
-        rest: &'s [Token<'t>],
-    ) -> Result<&'s [Token<'t>], RncFault>
-        requires { schemas.StartsWith (codes "namespace") (seen.tokens tokens.now) (seen.tokens rest.now) }
-        ensures ok { IfOk result (λ r. names.DeclarationAt (scope_of self.old.scope) (seen.tokens tokens.now) (scope_of self.new.scope) (seen.tokens r.now)) }
-        ensures whole { IfOk result (λ r. (s : unread.Refusal) → stops.DeclarationStops (seen.end self.old.end) (scope_of self.old.scope) (seen.tokens tokens.now) s → ⊥) }
-        ensures same { self.new.end ≡ self.old.end }
-        ensures no { IfErr result (Refuses (stops.DeclarationStops (seen.end self.old.end) (scope_of self.old.scope) (seen.tokens tokens.now))) }
-    {
-        let (prefix, value, after) = prefix_uri(rest, self.end, true)?;
-        if !may_bind(&self.scope, prefix, value) {
-            return Err(unexpected(tokens, self.end));
-        }
-        self.bind(prefix, value)?;
-        Ok(after)
+/// Reads a declaration of the default namespace alone, of which `rest` is what follows its words, and gives
+/// what follows it.
+fn default_alone<'b, 's, 't>(
+    arena: &'b Bump,
+    scope: &mut Scope<'b>,
+    tokens: &'s [Token<'t>],
+    rest: &'s [Token<'t>],
+    end: End,
+) -> Result<&'s [Token<'t>], RncFault>
+    requires words { schemas.StartsWithBoth (codes "default") (codes "namespace") (seen.tokens tokens.now) (seen.tokens rest.now) }
+    requires alone { schemas.BeginsEquals (seen.tokens rest.now) }
+    ensures ok { IfOk result (λ r. names.DeclarationAt (scope_of scope.old) (seen.tokens tokens.now) (scope_of scope.new) (seen.tokens r.now)) }
+    ensures whole { IfOk result (λ r. (s : unread.Refusal) → stops.DeclarationStops (seen.end end) (scope_of scope.old) (seen.tokens tokens.now) s → ⊥) }
+    ensures no { IfErr result (Refuses (stops.DeclarationStops (seen.end end) (scope_of scope.old) (seen.tokens tokens.now))) }
+{
+    let (value, after) = uri(rest, end, true)?;
+    if !may_bind(scope, "", value) {
+        return Err(unexpected(tokens, end));
     }
+    scope.bind(arena, "", value)?;
+    Ok(after)
+}
 
-    /// Reads a declaration of the default namespace alone, of which `rest` is what follows its words, and gives
-    /// what follows it.
-    fn default_alone<'s, 't>(
-        &mut self,
-        tokens: &'s [Token<'t>],
-        rest: &'s [Token<'t>],
-    ) -> Result<&'s [Token<'t>], RncFault>
-        requires words { schemas.StartsWithBoth (codes "default") (codes "namespace") (seen.tokens tokens.now) (seen.tokens rest.now) }
-        requires alone { schemas.BeginsEquals (seen.tokens rest.now) }
-        ensures ok { IfOk result (λ r. names.DeclarationAt (scope_of self.old.scope) (seen.tokens tokens.now) (scope_of self.new.scope) (seen.tokens r.now)) }
-        ensures whole { IfOk result (λ r. (s : unread.Refusal) → stops.DeclarationStops (seen.end self.old.end) (scope_of self.old.scope) (seen.tokens tokens.now) s → ⊥) }
-        ensures same { self.new.end ≡ self.old.end }
-        ensures no { IfErr result (Refuses (stops.DeclarationStops (seen.end self.old.end) (scope_of self.old.scope) (seen.tokens tokens.now))) }
-    {
-        let (value, after) = uri(rest, self.end, true)?;
-        if !may_bind(&self.scope, "", value) {
-            return Err(unexpected(tokens, self.end));
-        }
-        self.bind("", value)?;
-        Ok(after)
+/// Reads a declaration of the default namespace that binds a prefix too, of which `rest` is what follows its
+/// words, and gives what follows it.
+fn default_and_prefix<'b, 's, 't>(
+    arena: &'b Bump,
+    scope: &mut Scope<'b>,
+    tokens: &'s [Token<'t>],
+    rest: &'s [Token<'t>],
+    end: End,
+) -> Result<&'s [Token<'t>], RncFault>
+    requires words { schemas.StartsWithBoth (codes "default") (codes "namespace") (seen.tokens tokens.now) (seen.tokens rest.now) }
+    requires both { names.LacksMark 61 (seen.tokens rest.now) }
+    ensures ok { IfOk result (λ r. names.DeclarationAt (scope_of scope.old) (seen.tokens tokens.now) (scope_of scope.new) (seen.tokens r.now)) }
+    ensures whole { IfOk result (λ r. (s : unread.Refusal) → stops.DeclarationStops (seen.end end) (scope_of scope.old) (seen.tokens tokens.now) s → ⊥) }
+    ensures no { IfErr result (Refuses (stops.DeclarationStops (seen.end end) (scope_of scope.old) (seen.tokens tokens.now))) }
+{
+    let (prefix, value, after) = prefix_uri(rest, end, true)?;
+    if !may_bind(scope, "", value) {
+        return Err(unexpected(tokens, end));
     }
+    if !may_bind(scope, prefix, value) {
+        return Err(unexpected(tokens, end));
+    }
+    scope.bind(arena, prefix, value)?;
+    scope.bind(arena, "", value)?;
+    Ok(after)
+}
 
-    /// Reads a declaration of the default namespace that binds a prefix too, of which `rest` is what follows its
-    /// words, and gives what follows it.
-    fn default_and_prefix<'s, 't>(
-        &mut self,
-        tokens: &'s [Token<'t>],
-        rest: &'s [Token<'t>],
-    ) -> Result<&'s [Token<'t>], RncFault>
-        requires words { schemas.StartsWithBoth (codes "default") (codes "namespace") (seen.tokens tokens.now) (seen.tokens rest.now) }
-        requires both { names.LacksMark 61 (seen.tokens rest.now) }
-        ensures ok { IfOk result (λ r. names.DeclarationAt (scope_of self.old.scope) (seen.tokens tokens.now) (scope_of self.new.scope) (seen.tokens r.now)) }
-        ensures whole { IfOk result (λ r. (s : unread.Refusal) → stops.DeclarationStops (seen.end self.old.end) (scope_of self.old.scope) (seen.tokens tokens.now) s → ⊥) }
-        ensures same { self.new.end ≡ self.old.end }
-        ensures no { IfErr result (Refuses (stops.DeclarationStops (seen.end self.old.end) (scope_of self.old.scope) (seen.tokens tokens.now))) }
-    {
-        let (prefix, value, after) = prefix_uri(rest, self.end, true)?;
-        if !may_bind(&self.scope, "", value) {
-            return Err(unexpected(tokens, self.end));
-        }
-        if !may_bind(&self.scope, prefix, value) {
-            return Err(unexpected(tokens, self.end));
-        }
-        self.bind(prefix, value)?;
-        self.bind("", value)?;
-        Ok(after)
+/// Reads a declaration that begins with `default`, of which `behind` is what follows that word, and gives what follows it.
+fn default_namespace<'b, 's, 't>(
+    arena: &'b Bump,
+    scope: &mut Scope<'b>,
+    tokens: &'s [Token<'t>],
+    behind: &'s [Token<'t>],
+    end: End,
+) -> Result<&'s [Token<'t>], RncFault>
+    requires { schemas.StartsWith (codes "default") (seen.tokens tokens.now) (seen.tokens behind.now) }
+    ensures ok { IfOk result (λ r. names.DeclarationAt (scope_of scope.old) (seen.tokens tokens.now) (scope_of scope.new) (seen.tokens r.now)) }
+    ensures whole { IfOk result (λ r. (s : unread.Refusal) → stops.DeclarationStops (seen.end end) (scope_of scope.old) (seen.tokens tokens.now) s → ⊥) }
+    ensures no { IfErr result (Refuses (stops.DeclarationStops (seen.end end) (scope_of scope.old) (seen.tokens tokens.now))) }
+{
+    let Some(rest) = after_word(behind, "namespace") else {
+        return Err(unexpected(behind, end));
+    };
+    match after_mark(rest, '=') {
+        Some(_) => default_alone(arena, scope, tokens, rest, end),
+        None => default_and_prefix(arena, scope, tokens, rest, end),
     }
+}
 
-    /// Reads a declaration that begins with `default`, of which `behind` is what follows that word, and gives what follows it.
-    fn default_namespace<'s, 't>(
-        &mut self,
-        tokens: &'s [Token<'t>],
-        behind: &'s [Token<'t>],
-    ) -> Result<&'s [Token<'t>], RncFault>
-        requires { schemas.StartsWith (codes "default") (seen.tokens tokens.now) (seen.tokens behind.now) }
-        ensures ok { IfOk result (λ r. names.DeclarationAt (scope_of self.old.scope) (seen.tokens tokens.now) (scope_of self.new.scope) (seen.tokens r.now)) }
-        ensures whole { IfOk result (λ r. (s : unread.Refusal) → stops.DeclarationStops (seen.end self.old.end) (scope_of self.old.scope) (seen.tokens tokens.now) s → ⊥) }
-        ensures same { self.new.end ≡ self.old.end }
-        ensures no { IfErr result (Refuses (stops.DeclarationStops (seen.end self.old.end) (scope_of self.old.scope) (seen.tokens tokens.now))) }
-    {
-        let Some(rest) = after_word(behind, "namespace") else {
-            return Err(unexpected(behind, self.end));
-        };
-        match after_mark(rest, '=') {
-            Some(_) => self.default_alone(tokens, rest),
-            None => self.default_and_prefix(tokens, rest),
-        }
+/// Reads a declaration, and gives what follows it; that of a datatype library has no effect.
+fn declaration<'b, 's, 't>(
+    arena: &'b Bump,
+    scope: &mut Scope<'b>,
+    tokens: &'s [Token<'t>],
+    end: End,
+) -> Result<&'s [Token<'t>], RncFault>
+    requires { schemas.BeginsDeclaration (seen.tokens tokens.now) }
+    ensures ok { IfOk result (λ r. names.DeclarationAt (scope_of scope.old) (seen.tokens tokens.now) (scope_of scope.new) (seen.tokens r.now)) }
+    ensures whole { IfOk result (λ r. (s : unread.Refusal) → stops.DeclarationStops (seen.end end) (scope_of scope.old) (seen.tokens tokens.now) s → ⊥) }
+    ensures no { IfErr result (Refuses (stops.DeclarationStops (seen.end end) (scope_of scope.old) (seen.tokens tokens.now))) }
+{
+    if let Some(rest) = after_word(tokens, "namespace") {
+        return namespace(arena, scope, tokens, rest, end);
     }
+    if let Some(behind) = after_word(tokens, "default") {
+        return default_namespace(arena, scope, tokens, behind, end);
+    }
+    let Some(rest) = after_word(tokens, "datatypes") else {
+        return Err(unexpected(tokens, end));
+    };
+    let (_, _, after) = prefix_uri(rest, end, false)?;
+    Ok(after)
+}
 
-    /// Reads a declaration of a datatype library, which has no effect, and gives what follows it.
-    fn datatypes<'s, 't>(&mut self, tokens: &'s [Token<'t>]) -> Result<&'s [Token<'t>], RncFault>
-        requires begins { schemas.BeginsDeclaration (seen.tokens tokens.now) }
-        requires no_namespace { stops.LacksWord (codes "namespace") (seen.tokens tokens.now) }
-        requires no_default { stops.LacksWord (codes "default") (seen.tokens tokens.now) }
-        ensures ok { IfOk result (λ r. names.DeclarationAt (scope_of self.old.scope) (seen.tokens tokens.now) (scope_of self.new.scope) (seen.tokens r.now)) }
-        ensures whole { IfOk result (λ r. (s : unread.Refusal) → stops.DeclarationStops (seen.end self.old.end) (scope_of self.old.scope) (seen.tokens tokens.now) s → ⊥) }
-        ensures same { self.new.end ≡ self.old.end }
-        ensures no { IfErr result (Refuses (stops.DeclarationStops (seen.end self.old.end) (scope_of self.old.scope) (seen.tokens tokens.now))) }
-    {
-        let Some((_, rest)) = first_of(tokens) else {
-            return Err(unexpected(tokens, self.end));
-        };
-        let (_, _, after) = prefix_uri(rest, self.end, false)?;
-        Ok(after)
+/// Reads the declarations at the front, and gives what follows them.
+pub fn declarations<'b, 's, 't>(
+    arena: &'b Bump,
+    scope: &mut Scope<'b>,
+    tokens: &'s [Token<'t>],
+    end: End,
+) -> Result<&'s [Token<'t>], RncFault>
+    ensures ok { IfOk result (λ r. schemas.Declares (seen.end end) (scope_of scope.old) (scope_of scope.new) (seen.tokens tokens.now) (seen.tokens r.now)) }
+    ensures all { IfOk result (λ r. schemas.LacksDeclaration (seen.tokens r.now)) }
+    ensures no { IfErr result (Refuses (stops.SchemaStops (seen.end end) (scope_of scope.old) 2000 (seen.tokens tokens.now))) }
+{
+    let mut rest = tokens.split_at(0).1;
+    while begins_declaration(rest) {
+        let after = declaration(arena, scope, rest, end)?;
+        rest = after;
     }
-
-    /// Reads a declaration, and gives what follows it.
-    fn declaration<'s, 't>(&mut self, tokens: &'s [Token<'t>]) -> Result<&'s [Token<'t>], RncFault>
-        requires { schemas.BeginsDeclaration (seen.tokens tokens.now) }
-        ensures ok { IfOk result (λ r. names.DeclarationAt (scope_of self.old.scope) (seen.tokens tokens.now) (scope_of self.new.scope) (seen.tokens r.now)) }
-        ensures whole { IfOk result (λ r. (s : unread.Refusal) → stops.DeclarationStops (seen.end self.old.end) (scope_of self.old.scope) (seen.tokens tokens.now) s → ⊥) }
-        ensures same { self.new.end ≡ self.old.end }
-        ensures no { IfErr result (Refuses (stops.DeclarationStops (seen.end self.old.end) (scope_of self.old.scope) (seen.tokens tokens.now))) }
-    {
-        if let Some(rest) = after_word(tokens, "namespace") {
-            return self.namespace(tokens, rest);
-        }
-        if let Some(behind) = after_word(tokens, "default") {
-            return self.default_namespace(tokens, behind);
-        }
-        self.datatypes(tokens)
-    }
-
-    /// Reads the declarations at the front, and gives what follows them.
-    pub fn declarations<'s, 't>(
-        &mut self,
-        tokens: &'s [Token<'t>],
-    ) -> Result<&'s [Token<'t>], RncFault>
-        ensures ok { IfOk result (λ r. schemas.Declares (seen.end self.old.end) (scope_of self.old.scope) (scope_of self.new.scope) (seen.tokens tokens.now) (seen.tokens r.now)) }
-        ensures all { IfOk result (λ r. schemas.LacksDeclaration (seen.tokens r.now)) }
-        ensures same { self.new.end ≡ self.old.end }
-        ensures no { IfErr result (Refuses (stops.SchemaStops (seen.end self.old.end) (scope_of self.old.scope) 2000 (seen.tokens tokens.now))) }
-    {
-        let mut rest = tokens.split_at(0).1;
-        while begins_declaration(rest) {
-            let after = self.declaration(rest)?;
-            rest = after;
-        }
-        Ok(rest)
-    }
+    Ok(rest)
 }

@@ -15,7 +15,7 @@ ghost use Rattle.tc_rnc.specs.Views as seen;
 ghost use Rattle.tc_rnc.specs.declared.faults.RncFault.TheVariants.{NoMemory};
 
 use crate::faults::{RncFault, first_of, unexpected};
-use crate::marks::{after_word, expect_mark};
+use crate::marks::{after_mark, after_word};
 use crate::parser::Parser;
 use crate::patterns::opened;
 use crate::syntax::{Def, Joins, SPat};
@@ -210,7 +210,9 @@ impl<'b> Parser<'b> {
     {
         let (inside, deeper) = opened('{', tokens, self.end, deepest)?;
         let closing = self.definitions(defs, inside, deeper)?;
-        let after = expect_mark(closing, '}', self.end)?;
-        Ok(after)
+        match after_mark(closing, '}') {
+            Some(after) => Ok(after),
+            None => Err(unexpected(closing, self.end)),
+        }
     }
 }

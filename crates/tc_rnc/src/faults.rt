@@ -52,7 +52,6 @@ pub fn first_of<'s, 't>(tokens: &'s [Token<'t>]) -> Option<(&'s Token<'t>, &'s [
 }
 
 /// Where the escape of a character begins in the text of a literal, in bytes.
-#[tactic(auto, using(crate::proofs::Escapes::lacks_mark))]
 pub fn escape_in(value: &str) -> Option<usize>
     ensures { MatchOption result (Lacks unread.escape_mark value.now) (λ n. (n ≡ length_before unread.escape_mark value.now) × (n < length value.now)) }
 {

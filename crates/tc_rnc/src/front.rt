@@ -1,6 +1,5 @@
-// The front of a text: a character, a line, and what separates tokens.
-ghost use Rattle.std.specs.Prelude.{◌≡◌, ◌≤◌, ◌++◌, [], length, MatchOption, encode_utf8};
-ghost use Rattle.std.specs.Char.{IsScalar};
+// The front of a text: a line, and what separates tokens.
+ghost use Rattle.std.specs.Prelude.{◌≡◌, ◌≤◌, length};
 ghost use Rattle.std.specs.List.{prefix_len};
 ghost use Rattle.tc_model.specs.CompactSyntaxRefused as refused;
 ghost use Rattle.tc_model.specs.CompactSyntaxTokens as model;
@@ -8,14 +7,6 @@ ghost use Rattle.tc_rnc.specs.Fronts.{Skips, is_in_line};
 
 use memchr::memchr2;
 use tc_scan::{after_byte, after_white};
-
-/// The character at the front, and what follows it.
-pub fn first_char(text: &str) -> Option<(char, &str)>
-    ensures { MatchOption result (text.now ≡ []) (λ r. IsScalar r.0 × (text.now ≡ encode_utf8 r.0 ++ r.1.now)) }
-{
-    let first = text.chars().next()?;
-    Some((first, &text[first.len_utf8()..]))
-}
 
 /// How many bytes of the line at the front there are.
 fn line_len(text: &str) -> usize

@@ -1,5 +1,5 @@
 // All tokens of a text.
-ghost use Rattle.std.specs.Prelude.{◌≡◌, ◌+◌, ◌≤◌, ◌∷◌, ℕ, List, None, Some, length, IfOk, MatchBool, MatchOption};
+ghost use Rattle.std.specs.Prelude.{◌≡◌, ◌+◌, ◌≤◌, ℕ, List, None, Some, length, IfOk, MatchBool, MatchOption};
 ghost use Rattle.tc_model.specs.CompactSyntaxRefused as refused;
 ghost use Rattle.tc_model.specs.CompactSyntaxTokens as model;
 ghost use Rattle.tc_model.specs.XmlText as xml_text;
@@ -15,7 +15,7 @@ use crate::words::word_at;
 use bumpalo::Bump;
 use std::alloc::AllocFailed;
 use tc_base::Place;
-use tc_scan::{after_byte, after_mark, characters};
+use tc_scan::{after_mark, characters, quote};
 
 /// The tokens of a text up to its end, or up to where it goes on with none.
 #[derive(Drop)]
@@ -35,24 +35,13 @@ fn after_byte_order_mark(text: &str) -> &str
     }
 }
 
-/// What follows the quote at the front.
-fn after_quote(text: &str) -> Option<&str>
-    ensures { MatchOption result ((quote : ℕ) (rest : List ℕ) → xml.IsQuote quote → text.now ≡ quote ∷ rest → ⊥) (λ rest. (quote : ℕ) × (xml.IsQuote quote × (text.now ≡ quote ∷ rest.now))) }
-{
-    if let Some(rest) = after_byte(text, b'"') {
-        return Some(rest);
-    }
-    let rest = after_byte(text, b'\'')?;
-    Some(rest)
-}
-
 /// Where the escape of a character begins in a literal that isn't closed on its line.
 fn unclosed_escape(total: usize, text: &str) -> Option<Place>
     requires within { length text.now ≤ total }
     requires bounded { total ≤ 67108864 }
     ensures { MatchOption result (refused.unclosed_escape total text.now ≡ None) (λ p. refused.unclosed_escape total text.now ≡ Some p.0) }
 {
-    let inside = after_quote(text)?;
+    let (_, inside) = quote(text)?;
     let line = line(inside);
     let before = escape_in(line)?;
     Some(Place((total - inside.len() + before) as u32))

@@ -1,15 +1,13 @@
 // The mark or the keyword that stands first among tokens.
-ghost use Rattle.std.specs.Prelude.{◌≡◌, [], ◌∷◌, ℕ, List, MatchOption, IfOk, IfErr};
+ghost use Rattle.std.specs.Prelude.{MatchOption};
 ghost use Rattle.tc_model.specs.CompactSyntaxNames.{LacksMark};
 ghost use Rattle.tc_rnc.specs.Readings.{BeginsWith};
-ghost use Rattle.tc_model.specs.CompactSyntaxUnread.{Unexpected};
-ghost use Rattle.tc_rnc.specs.Refusals.{Refuses};
 ghost use Rattle.tc_model.specs.CompactSyntaxStops.{LacksWord};
 ghost use Rattle.tc_rnc.specs.Schemas.{StartsWith};
 ghost use Rattle.tc_rnc.specs.Views as seen;
 
-use crate::faults::{RncFault, first_of, unexpected};
-use crate::tokens::{End, Token};
+use crate::faults::first_of;
+use crate::tokens::Token;
 
 /// What follows this mark, where it stands first.
 pub fn after_mark<'s, 't>(tokens: &'s [Token<'t>], mark: char) -> Option<&'s [Token<'t>]>
@@ -20,22 +18,6 @@ pub fn after_mark<'s, 't>(tokens: &'s [Token<'t>], mark: char) -> Option<&'s [To
         Some(rest)
     } else {
         None
-    }
-}
-
-/// What follows this mark, which must stand first.
-pub fn expect_mark<'s, 't>(
-    tokens: &'s [Token<'t>],
-    mark: char,
-    end: End,
-) -> Result<&'s [Token<'t>], RncFault>
-    ensures ok { IfOk result (λ rest. BeginsWith mark (seen.tokens tokens.now) (seen.tokens rest.now)) }
-    ensures no { IfErr result (λ e. LacksMark mark (seen.tokens tokens.now)) }
-    ensures stands { IfErr result (Refuses (Unexpected (seen.end end) (seen.tokens tokens.now))) }
-{
-    match after_mark(tokens, mark) {
-        Some(rest) => Ok(rest),
-        None => Err(unexpected(tokens, end)),
     }
 }
 

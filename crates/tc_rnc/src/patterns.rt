@@ -15,7 +15,7 @@ ghost use Rattle.tc_model.specs.Views.{place as seen_place};
 ghost use Rattle.tc_rnc.specs.declared.faults.RncFault.TheVariants.{NoMemory};
 
 use crate::faults::{RncFault, first_of, no_pattern, unexpected};
-use crate::marks::{after_mark, expect_mark};
+use crate::marks::after_mark;
 use crate::parser::Parser;
 use crate::syntax::SPat;
 use crate::tokens::{End, Token};
@@ -101,26 +101,6 @@ fn suffix_at<'s, 't>(tokens: &'s [Token<'t>]) -> Option<(Suffix, &'s [Token<'t>]
     Some((suffix, rest))
 }
 
-/// What follows this connector, where one stands first, or nothing, where none does.
-fn next_item<'s, 't>(
-    between: Connector,
-    tokens: &'s [Token<'t>],
-    end: End,
-) -> Result<Option<&'s [Token<'t>]>, RncFault>
-    ensures ok { IfOk result (λ o. MatchOption o (model.connector_at (seen.tokens tokens.now) ≡ None) (λ rest. reading.GoesOn (view.connector between) (seen.tokens tokens.now) (seen.tokens rest.now))) }
-    ensures no { IfErr result (λ e. reading.GoesOnOtherwise (view.connector between) (seen.tokens tokens.now)) }
-    ensures stands { IfErr result (Refuses (Unexpected (seen.end end) (seen.tokens tokens.now))) }
-{
-    let Some((connector, rest)) = connector_at(tokens) else {
-        return Ok(None);
-    };
-    if connector == between {
-        Ok(Some(rest))
-    } else {
-        Err(unexpected(tokens, end))
-    }
-}
-
 /// One item, to which more may be added.
 fn begun<'b>(arena: &'b Bump, item: SPat<'b>) -> Result<Vec<SPat<'b>, &'b Bump>, RncFault>
     ensures ok { IfOk result (λ all. all.items ≡ item.entry ∷ []) }
@@ -144,7 +124,14 @@ fn put_item<'b, 's, 't>(
     ensures no { IfErr result (Refuses (λ r. reading.GoesOnOtherwise (view.connector between) (seen.tokens tokens.now) × Unexpected (seen.end end) (seen.tokens tokens.now) r)) }
 {
     all.push(item)?;
-    next_item(between, tokens, end)
+    let Some((connector, rest)) = connector_at(tokens) else {
+        return Ok(None);
+    };
+    if connector == between {
+        Ok(Some(rest))
+    } else {
+        Err(unexpected(tokens, end))
+    }
 }
 
 /// What follows the brace or parenthesis that opens here, and how deep things may stand in it.
@@ -393,7 +380,9 @@ impl<'b> Parser<'b> {
     {
         let (inside, deeper) = opened(left, tokens, self.end, deepest)?;
         let (inner, closing) = self.pattern(inside, deeper)?;
-        let after = expect_mark(closing, right, self.end)?;
+        let Some(after) = after_mark(closing, right) else {
+            return Err(unexpected(closing, self.end));
+        };
         Ok((inner, after))
     }
 

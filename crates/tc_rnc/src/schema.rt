@@ -1,10 +1,9 @@
 // Whole schemas, as tokens (OASIS, RELAX NG Compact Syntax, 2002: topLevel).
-ghost use Rattle.std.specs.Prelude.{◌≡◌, List, [], ◌∷◌, false, map, OnOk, OnErr, IfOk, IfErr, MatchBool, MatchOption, codes};
+ghost use Rattle.std.specs.Prelude.{◌≡◌, List, [], ◌∷◌, false, map, IfOk, IfErr, MatchBool, MatchOption, codes};
 ghost use Rattle.tc_model.specs.CompactSyntax as model;
 ghost use Rattle.tc_model.specs.CompactSyntaxNames as names;
 ghost use Rattle.tc_model.specs.CompactSyntaxStops as stops;
 ghost use Rattle.tc_model.specs.CompactSyntaxTrees as trees;
-ghost use Rattle.tc_model.specs.CompactSyntaxUnread.{Unexpected};
 ghost use Rattle.tc_model.specs.XmlTextScopes.{first_scope};
 ghost use Rattle.tc_rnc.specs.Refusals.{Refuses};
 ghost use Rattle.tc_rnc.specs.Schemas as schemas;
@@ -12,10 +11,12 @@ ghost use Rattle.tc_rnc.specs.Scopes.{scope_of};
 ghost use Rattle.tc_rnc.specs.Views as seen;
 ghost use Rattle.tc_rnc.specs.declared.faults.RncFault.TheVariants.{NoMemory};
 
+use crate::declarations::declarations;
 use crate::definitions::operator;
 use crate::faults::{RncFault, first_of, unexpected};
 use crate::parser::Parser;
 use crate::patterns::goes_on;
+use crate::scopes::Scope;
 use crate::syntax::{Def, Joins, SPat};
 use crate::tokens::{End, Token};
 use bumpalo::Bump;
@@ -63,18 +64,6 @@ fn grammar_at<'s, 't>(tokens: &'s [Token<'t>]) -> Option<(&'s Token<'t>, &'s [To
     }
 }
 
-/// Whether the tokens end here.
-fn expect_end(tokens: &[Token<'_>], end: End) -> Result<(), RncFault>
-    ensures ok { OnOk result (seen.tokens tokens.now ≡ []) }
-    ensures no { OnErr result (seen.tokens tokens.now ≡ [] → ⊥) }
-    ensures stands { IfErr result (Refuses (Unexpected (seen.end end) (seen.tokens tokens.now))) }
-{
-    match first_of(tokens) {
-        None => Ok(()),
-        Some(_) => Err(unexpected(tokens, end)),
-    }
-}
-
 /// The definition of `start` by a pattern that is the whole schema.
 fn start_alone<'b>(arena: &'b Bump, body: SPat<'b>) -> Result<&'b [Def<'b>], RncFault>
     ensures ok { IfOk result (λ r. map seen.definition r.now ≡ model.one_definition [] trees.plain (seen.pattern body.entry) 0) }
@@ -99,9 +88,10 @@ impl<'b> Parser<'b> {
         ensures no { IfErr result (Refuses (stops.SchemaStops (seen.end self.now.end) (scope_of self.now.scope) 2000 (seen.tokens tokens.now))) }
     {
         let (body, rest) = self.pattern(tokens, DEEPEST)?;
-        expect_end(rest, self.end)?;
-        let defs = start_alone(self.arena, body)?;
-        Ok(defs)
+        if let Some(_) = first_of(rest) {
+            return Err(unexpected(rest, self.end));
+        }
+        start_alone(self.arena, body)
     }
 
     /// Reads definitions, up to the end.
@@ -112,7 +102,9 @@ impl<'b> Parser<'b> {
     {
         let mut defs = Vec::new(self.arena);
         let rest = self.definitions(&mut defs, tokens, DEEPEST)?;
-        expect_end(rest, self.end)?;
+        if let Some(_) = first_of(rest) {
+            return Err(unexpected(rest, self.end));
+        }
         Ok(into_bump_slice(defs))
     }
 
@@ -131,7 +123,9 @@ impl<'b> Parser<'b> {
         if goes_on(after) {
             return Err(RncFault::Unsupported(word.place, Why::NestedGrammar));
         }
-        expect_end(after, self.end)?;
+        if let Some(_) = first_of(after) {
+            return Err(unexpected(after, self.end));
+        }
         Ok(into_bump_slice(defs))
     }
 
@@ -160,7 +154,8 @@ pub fn top_level<'b, 's, 't>(
     ensures ok { IfOk result (λ r. model.SchemaAt false first_scope 2000 (seen.tokens tokens.now) (map seen.definition r.now)) }
     ensures no { IfErr result (Refuses (stops.SchemaStops (seen.end end) first_scope 2000 (seen.tokens tokens.now))) }
 {
-    let mut parser = Parser::new(arena, end)?;
-    let rest = parser.declarations(tokens)?;
+    let mut scope = Scope::first(arena)?;
+    let rest = declarations(arena, &mut scope, tokens, end)?;
+    let parser = Parser { arena, scope, end };
     parser.top_level_body(rest)
 }

@@ -32,7 +32,7 @@ pub enum SPat<'b> {
 }
 
 /// The operator of a definition: `=`, `|=` or `&=`.
-#[derive(Clone, Copy, Debug, PartialEq, Eq)]
+#[derive(Clone, Copy, PartialEq, Eq)]
 pub enum Joins {
     Plain,
     Choice,

@@ -8,10 +8,9 @@ ghost use Rattle.tc_rnc.specs.Extents.{extent};
 ghost use Rattle.tc_rnc.specs.Fronts.{IsNoMark, is_in_line};
 ghost use Rattle.tc_rnc.specs.Views as seen;
 
-use crate::front::first_char;
 use crate::tokens::Word;
 use tc_base::{is_name_start, is_white};
-use tc_scan::{after_byte, after_mark, begins, ncname, up_to};
+use tc_scan::{after_byte, after_mark, begins, first_char, ncname, up_to};
 
 /// A literal in single quotes at the front, and what follows it.
 fn literal(text: &str) -> Option<(&str, &str)>
@@ -141,6 +140,5 @@ pub fn word_at(text: &str) -> Option<(Word<'_>, &str)>
     if let Some((name, after)) = escaped(text) {
         return Some((Word::Escaped(name), after));
     }
-    let (word, after) = marked(text)?;
-    Some((word, after))
+    marked(text)
 }

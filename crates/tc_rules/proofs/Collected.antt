@@ -1,14 +1,15 @@
 -- The numbers of the rules of modes, and the bodies of for-eaches at their numbers.
-use Rattle.std.proofs.Common.{◌≡◌, ◌≢◌, ℕ, zero, suc, ◌+◌, ◌<◌, ◌≤◌, List, [], ◌∷◌, ◌++◌, refl, ap, sym, ◌∙◌, subst, Bool, true, false, nat_eq, map, flat_map, take, get_or, length, set, slice_get, Some, Contains, ◌⊎◌, inl, inr, arith}
+use Rattle.std.proofs.Common.{◌≡◌, ◌≢◌, ℕ, zero, suc, ◌+◌, ◌<◌, ◌≤◌, List, [], ◌∷◌, ◌++◌, refl, ap, sym, ◌∙◌, subst, Bool, true, false, nat_eq, map, flat_map, take, drop, append_assoc, add-one, get_or, length, set, slice_get, Some, Contains, ◌⊎◌, inl, inr, arith}
+use Rattle.std.specs.List.{AllByRecursion}
 use Rattle.std.proofs.Math.ListN.{get_or-map}
 use Rattle.std.proofs.lemmas.List.{get_or-map as map_at}
 use Rattle.std.specs.Global.{Vec}
 use Rattle.std.specs.Borrow.{Bor}
 use Rattle.tc_model.specs.declared.sheet.Instr.{Instr}
 use Rattle.std.proofs.lemmas.Bool.{true≢false, eqb-true, eq-eqb}
-use Rattle.std.proofs.lemmas.List.{take_more, map-append, map-set, get_or_default, length-map, length-set, get_or-set_same, get_or-set_other}
+use Rattle.std.proofs.lemmas.List.{append-nil, map-append, map-set, get_or_default, length-map, length-set, get_or-set_same, get_or-set_other}
 use Rattle.std.proofs.lemmas.Option.{get_or_from_slice_get, slice_get-get_or, slice_get_within}
-use Rattle.tc_alpha.proofs.Members.{Has, has_from_contains, contains_from_has, has_either, Every, every_append, every_member, every_from_all}
+use Rattle.tc_alpha.proofs.Members.{Has, has_from_contains, contains_from_has, has_either, has_front, has_back, Every, every_append, every_member, every_from_all, every_from_members}
 use Rattle.tc_model.specs.Sheets as s
 use Rattle.tc_model.specs.Sheets.{no_instruction, put_text, put_element, copy, apply, call, for_each, value, value_of_self, choose, otherwise, branch}
 use Rattle.tc_model.specs.Views as see
@@ -16,9 +17,11 @@ use Rattle.tc_model.specs.WellFormed.{IsSheet, IsBody, AreBranches, IsRule, ForE
 use Rattle.tc_model.specs.declared.sheet.Rule.{Rule}
 use Rattle.tc_model.specs.declared.sheet.Sheet.{Sheet}
 use Rattle.tc_rules.specs.Eaches.{Each, bodies_in, bodies_in_branches, bodies_of_eaches}
-use Rattle.tc_rules.specs.Gathered.{numbers, bodies}
-use Rattle.tc_rules.specs.Views.{each, eaches}
-use Rattle.tc_rules.specs.declared.walk.Each.{Each as EachOf}
+use Rattle.tc_rules.specs.Gathered.{numbers, bodies, bodies_with}
+use Rattle.tc_rules.specs.Usages.{usages_of, eaches_in_usage}
+use Rattle.tc_rules.specs.Views.{usage, usages}
+use Rattle.tc_rules.specs.declared.walk.Usage.{Usage as UsageOf}
+use Rattle.tc_rules.proofs.UsagesOf.{eaches_are}
 
 -- a rule's mode is one of the sheet
 pub rule_mode : (x : Sheet) (i : ℕ) (r : Rule) → IsSheet (see.sheet x) → i < length x.rules.now → r ≡ get_or x.rules.now i r → r.mode < x.modes
@@ -125,16 +128,6 @@ module _ (x : s.Sheet) (h : IsSheet x) where
       (every_append IsNumber (flat_map (λ (r : s.Rule). bodies_in r.body) x.rules) (flat_map bodies_in x.named) (rules_numbers x.rules (every_from_all (IsRule x) x.rules h.rules))
       (named_numbers x.named (every_from_all (IsBody x) x.named h.named))) k
 
-at_place : {X : Type 0} (xs : List X) (i : ℕ) (x : X) → i < length xs → x ≡ get_or xs i x → Has xs x
-at_place xs i x l e = has_from_contains xs x (i, l, sym e)
-
-has_take : {X : Type 0} (xs : List X) (i : ℕ) (x : X) → Has (take i xs) x → Has xs x
-has_take [] zero x h = h
-has_take [] (suc i) x h = h
-has_take (y ∷ xs) zero x h = absurd h
-has_take (y ∷ xs) (suc i) x (inl e) = inl e
-has_take (y ∷ xs) (suc i) x (inr h) = inr (has_take xs i x h)
-
 -- a body is put at its number, where those put before are kept
 abbrev pub ArePut : List s.Body → List Each → Type 0
 ArePut bodies done = (x : Each) → Has done x → slice_get bodies x.number ≡ Some x.body
@@ -148,42 +141,44 @@ got_other xs i j x y n e =
     let inside : j < length xs = slice_get_within xs j y e in
     slice_get-get_or (set xs i x) j y (omega (arith, inside, length-set xs i x)) ∙ ap Some (get_or-set_other xs i j x y n ∙ get_or_from_slice_get xs j y y e)
 
-pub put_step : (z : s.Sheet) → IsSheet z → (found : List Each) → found ≡ bodies_of_eaches z → (old new : List s.Body) (i : ℕ) (y : Each) → i < length found → y ≡ get_or found i y
-    → y.number < length old → new ≡ set old y.number y.body → ArePut old (take i found) → ArePut new (take (i + 1) found)
-put_step z h found is old new i y l e inside put done x k = by (nat_eq x.number y.number) refl
+-- one body more, and more of them
+put_one : (z : s.Sheet) → IsSheet z → (front back : List Each) (y : Each) → front ++ y ∷ back ≡ bodies_of_eaches z → (old : List s.Body) → y.number < length old → ArePut old front → ArePut (set old y.number y.body) (front ++ y ∷ [])
+put_one z h front back y is old inside done x k = by (nat_eq x.number y.number) refl
   where
     y_there : Has (bodies_of_eaches z) y
-    y_there = subst (λ w. Has w y) is (at_place found i y l e)
+    y_there = subst (λ w. Has w y) is (has_back front (y ∷ back) y (inl refl))
 
-    x_there : Has (bodies_of_eaches z) x
-    x_there = subst (λ w. Has w x) is (has_take found (i + 1) x k)
+    among : Has front x ⊎ Has (y ∷ []) x → Has (front ++ y ∷ back) x
+    among (inl a) = has_front front (y ∷ back) x a
+    among (inr (inl g)) = has_back front (y ∷ back) x (inl g)
+    among (inr (inr a)) = absurd a
 
-    split : Has (take i found ++ y ∷ []) x
-    split = subst (λ w. Has w x) (take_more found i y l ∙ ap (λ w. take i found ++ w ∷ []) (sym e)) k
-
-    other : (x.number ≡ y.number → ⊥) → Has (take i found) x ⊎ Has (y ∷ []) x → slice_get (set old y.number y.body) x.number ≡ Some x.body
+    other : (x.number ≡ y.number → ⊥) → Has front x ⊎ Has (y ∷ []) x → slice_get (set old y.number y.body) x.number ≡ Some x.body
     other n (inl a) = got_other old y.number x.number y.body x.body n (done x a)
     other n (inr (inl g)) = absurd (n (ap (λ (w : Each). w.number) (sym g)))
     other n (inr (inr a)) = absurd a
 
-    by : (b : Bool) → nat_eq x.number y.number ≡ b → slice_get new x.number ≡ Some x.body
+    by : (b : Bool) → nat_eq x.number y.number ≡ b → slice_get (set old y.number y.body) x.number ≡ Some x.body
     by true f =
+        let x_there : Has (bodies_of_eaches z) x = subst (λ w. Has w x) is (among (has_either front (y ∷ []) x k)) in
         let same : x ≡ y = one_each z h x y x_there y_there (eqb-true x.number y.number f) in
-        subst (λ (w : Each). slice_get new w.number ≡ Some w.body) (sym same) (ap (λ w. slice_get w y.number) put ∙ got_same old y.number y.body inside)
-    by false f =
-        ap (λ w. slice_get w x.number) put ∙ other (λ g. true≢false (sym (eq-eqb x.number y.number g) ∙ f)) (has_either (take i found) (y ∷ []) x split)
+        subst (λ (w : Each). slice_get (set old y.number y.body) w.number ≡ Some w.body) (sym same) (got_same old y.number y.body inside)
+    by false f = other (λ g. true≢false (sym (eq-eqb x.number y.number g) ∙ f)) (has_either front (y ∷ []) x k)
 
--- all are put
-pub all_put : (z : s.Sheet) (found : List Each) → found ≡ bodies_of_eaches z → (bodies : List s.Body) (i : ℕ) → length found ≤ i → ArePut bodies (take i found)
-    → (f : ForEach) → Contains (eaches_of z) f → slice_get bodies f.number ≡ Some f.body
-all_put z found is bodies i l done f k =
-    done (without_path f) (subst (λ w. Has w (without_path f)) (in_sheet z ∙ (sym is ∙ sym (all_of found i l))) (map_has without_path (eaches_of z) f (has_from_contains (eaches_of z) f k)))
-  where
-    all_of : {X : Type 0} (xs : List X) (i : ℕ) → length xs ≤ i → take i xs ≡ xs
-    all_of [] zero l = refl
-    all_of [] (suc i) l = refl
-    all_of (x ∷ xs) zero l = absurd (omega arith)
-    all_of (x ∷ xs) (suc i) l = ap (λ w. x ∷ w) (all_of xs i (omega arith))
+abbrev AreBelow : ℕ → List Each → Type 0
+AreBelow n xs = Every (λ (x : Each). x.number < n) xs
+
+put_more : (z : s.Sheet) → IsSheet z → (front more back : List Each) → front ++ (more ++ back) ≡ bodies_of_eaches z → (old : List s.Body) → AreBelow (length old) more → ArePut old front → ArePut (bodies_with old more) (front ++ more)
+put_more z h front [] back is old low done = subst (ArePut old) (sym (append-nil front)) done
+put_more z h front (y ∷ more) back is old low done =
+    let now = set old y.number y.body in
+    let lower : AreBelow (length now) more = subst (λ n. AreBelow n more) (sym (length-set old y.number y.body)) low.1 in
+    subst (ArePut (bodies_with now more)) (append_assoc front (y ∷ []) more)
+    (put_more z h (front ++ y ∷ []) more back (append_assoc front (y ∷ []) (more ++ back) ∙ is) now lower (put_one z h front (more ++ back) y is old low.0 done))
+
+as_many : (old : List s.Body) (more : List Each) → length (bodies_with old more) ≡ length old
+as_many old [] = refl
+as_many old (y ∷ more) = as_many (set old y.number y.body) more ∙ length-set old y.number y.body
 
 -- one number more in the list of a mode
 pub number_put : (lists : List (Vec ℕ)) (i n : ℕ) (v d : Vec ℕ) → i < length lists → v.items ≡ (get_or lists i d).items ++ n ∷ [] → get_or (numbers (set lists i v)) i [] ≡ get_or (numbers lists) i [] ++ n ∷ []
@@ -200,27 +195,64 @@ pub rule_fits : (x : Sheet) (i : ℕ) (d : Rule) (lists : List (Vec ℕ)) → Is
 rule_fits x i d lists h l e =
     subst (λ n. (get_or x.rules.now i d).mode < n) (sym e) (rule_mode x i (get_or x.rules.now i d) h l (get_or_default x.rules.now i d (get_or x.rules.now i d) l))
 
-each_at : (found : List EachOf) (i : ℕ) (d : EachOf) → i < length found → each (get_or found i d) ≡ get_or (eaches found) i (each (get_or found i d))
-each_at found i d l = sym (get_or-map each found i (get_or found i d) ∙ ap each (sym (get_or_default found i d (get_or found i d) l)))
+-- the for-eaches of some usages, before one of them, at it, and behind it
+abbrev found_in : List UsageOf → List Each
+found_in us = flat_map eaches_in_usage (usages us)
 
-pub each_fits : (z : s.Sheet) → IsSheet z → (found : List EachOf) → eaches found ≡ bodies_of_eaches z → (i : ℕ) (d : EachOf) (n : ℕ) → i < length found → n ≡ z.eaches → (get_or found i d).number < n
-each_fits z h found is i d n l e =
-    let inside : i < length (eaches found) = omega (arith, l, length-map found each) in
-    let there : Has (bodies_of_eaches z) (each (get_or found i d)) = subst (λ w. Has w (each (get_or found i d))) is (at_place (eaches found) i (each (get_or found i d)) inside (each_at found i d l)) in
-    subst (λ k. (get_or found i d).number < k) (sym e) (each_number z h (each (get_or found i d)) there)
+taken : (us : List UsageOf) (i : ℕ) (d : UsageOf) → i < length us → found_in (take (suc i) us) ≡ found_in (take i us) ++ eaches_in_usage (usage (get_or us i d))
+taken [] i d l = absurd (omega (arith, l))
+taken (u ∷ us) zero d l = append-nil (eaches_in_usage (usage u))
+taken (u ∷ us) (suc i) d l =
+    ap (λ w. eaches_in_usage (usage u) ++ w) (taken us i d (omega (arith, l)))
+    ∙ sym (append_assoc (eaches_in_usage (usage u)) (found_in (take i us)) (eaches_in_usage (usage (get_or us i d))))
 
-pub none_put : (now : List s.Body) (xs : List Each) → ArePut now (take 0 xs)
-none_put now [] x h = absurd h
-none_put now (y ∷ xs) x h = absurd h
+parted : (us : List UsageOf) (i : ℕ) (d : UsageOf) → i < length us → found_in us ≡ found_in (take i us) ++ (eaches_in_usage (usage (get_or us i d)) ++ found_in (drop (suc i) us))
+parted [] i d l = absurd (omega (arith, l))
+parted (u ∷ us) zero d l = refl
+parted (u ∷ us) (suc i) d l =
+    ap (λ w. eaches_in_usage (usage u) ++ w) (parted us i d (omega (arith, l)))
+    ∙ sym (append_assoc (eaches_in_usage (usage u)) (found_in (take i us)) (eaches_in_usage (usage (get_or us i d)) ++ found_in (drop (suc i) us)))
 
-pub put_at : (z : s.Sheet) → IsSheet z → (found : List EachOf) → eaches found ≡ bodies_of_eaches z → (old new : List (Bor (List Instr))) (i : ℕ) (d : EachOf) → i < length found → length old ≡ z.eaches
-    → bodies new ≡ set (bodies old) (get_or found i d).number (see.body (get_or found i d).body.now)
-    → ArePut (bodies old) (take i (eaches found)) → (length new ≡ z.eaches) × ArePut (bodies new) (take (i + 1) (eaches found))
-put_at z h found is old new i d l e put done =
-    let inside : i < length (eaches found) = omega (arith, l, length-map found each) in
-    let small : (get_or found i d).number < length old = each_fits z h found is i d (length old) l e in
-    let few : (get_or found i d).number < length (bodies old) = omega (arith, small, length-map old (λ (b : Bor (List Instr)). see.body b.now)) in
-    let as_many : length (bodies new) ≡ length (bodies old) = ap length put ∙ length-set (bodies old) (get_or found i d).number (see.body (get_or found i d).body.now) in (
-      omega (arith, e, as_many, length-map old (λ (b : Bor (List Instr)). see.body b.now), length-map new (λ (b : Bor (List Instr)). see.body b.now)),
-      put_step z h (eaches found) is (bodies old) (bodies new) i (each (get_or found i d)) inside (each_at found i d l) few put done,
-    )
+module _ (z : s.Sheet) (h : IsSheet z) (us : List UsageOf) (is : usages us ≡ usages_of z) where
+  found_is : found_in us ≡ bodies_of_eaches z
+  found_is = eaches_are z (usages us) is
+
+  pub each_fits : (i : ℕ) (u : UsageOf) (n : ℕ) → i < length us → u ≡ get_or us i u → n ≡ z.eaches → AllByRecursion (λ (x : Each). x.number < n) (eaches_in_usage (usage u))
+  each_fits i u n l at e =
+      let more = eaches_in_usage (usage (get_or us i u)) in
+      subst (λ w. AreBelow n (eaches_in_usage (usage w))) (sym at)
+      (every_from_members (λ (x : Each). x.number < n) more
+      (λ x k. subst (λ m. x.number < m) (sym e)
+      (each_number z h x (subst (λ w. Has w x) (sym (parted us i u l) ∙ found_is) (has_back (found_in (take i us)) (more ++ found_in (drop (suc i) us)) x (has_front more (found_in (drop (suc i) us)) x k))))))
+
+  pub put_at : (old new : List (Bor (List Instr))) (i : ℕ) (u : UsageOf) → i < length us → u ≡ get_or us i u → length old ≡ z.eaches
+      → bodies new ≡ bodies_with (bodies old) (eaches_in_usage (usage u))
+      → ArePut (bodies old) (found_in (take i us)) → (length new ≡ z.eaches) × ArePut (bodies new) (found_in (take (i + 1) us))
+  put_at old new i u l at e put done =
+      let more = eaches_in_usage (usage u) in
+      let of_old = length-map old (λ (b : Bor (List Instr)). see.body b.now) in
+      let few : AreBelow (length (bodies old)) more = each_fits i u (length (bodies old)) l at (of_old ∙ e) in
+      let count : length (bodies new) ≡ length (bodies old) = ap length put ∙ as_many (bodies old) more in
+      let here : found_in (take (i + 1) us) ≡ found_in (take i us) ++ more =
+      ap (λ n. found_in (take n us)) (add-one i) ∙ (taken us i u l ∙ ap (λ w. found_in (take i us) ++ eaches_in_usage (usage w)) (sym at)) in
+      let all : found_in (take i us) ++ (more ++ found_in (drop (suc i) us)) ≡ bodies_of_eaches z =
+      ap (λ w. found_in (take i us) ++ (eaches_in_usage (usage w) ++ found_in (drop (suc i) us))) at ∙ (sym (parted us i u l) ∙ found_is) in (
+        omega (arith, e, count, of_old, length-map new (λ (b : Bor (List Instr)). see.body b.now)),
+        subst (ArePut (bodies new)) (sym here)
+            (subst (λ w. ArePut w (found_in (take i us) ++ more)) (sym put)
+            (put_more z h (found_in (take i us)) more (found_in (drop (suc i) us)) all (bodies old) few done)),
+      )
+
+  -- all are put
+  pub all_put : (bs : List s.Body) (i : ℕ) → length us ≤ i → ArePut bs (found_in (take i us)) → (f : ForEach) → Contains (eaches_of z) f → slice_get bs f.number ≡ Some f.body
+  all_put bs i l done f k =
+      done (without_path f) (subst (λ w. Has w (without_path f)) (in_sheet z ∙ (sym found_is ∙ sym (ap found_in (all_of us i l)))) (map_has without_path (eaches_of z) f (has_from_contains (eaches_of z) f k)))
+    where
+      all_of : {X : Type 0} (xs : List X) (i : ℕ) → length xs ≤ i → take i xs ≡ xs
+      all_of [] zero l = refl
+      all_of [] (suc i) l = refl
+      all_of (x ∷ xs) zero l = absurd (omega (arith, l))
+      all_of (x ∷ xs) (suc i) l = ap (λ w. x ∷ w) (all_of xs i (omega (arith, l)))
+
+pub none_put : (bs : List s.Body) → ArePut bs []
+none_put bs x h = absurd h

@@ -2,7 +2,7 @@
 use Rattle.std.proofs.Common.{◌≡◌, ℕ, suc, ◌+◌, ◌<◌, ◌≤◌, List, [], ◌∷◌, ◌++◌, Bool, true, false, ◌&&◌, ◌||◌, refl, ap, sym, ◌∙◌, subst, map, length, get_or, drop, append_assoc, add-one, arith, Some, slice_get, if◌then◌else◌}
 use Rattle.std.specs.List.{list_any}
 use Rattle.std.specs.Global.{Vec}
-use Rattle.std.proofs.lemmas.List.{drop_more}
+use Rattle.std.proofs.lemmas.List.{drop_more, drop_all}
 use Rattle.std.proofs.lemmas.Option.{get_or_from_slice_get}
 use Rattle.tc_model.specs.PathStates.{State}
 use Rattle.tc_rules.specs.Rows.{state, states, lists, endings_of, ending, ending_by_states, KeepsEndings, AllKeepEndings}
@@ -72,9 +72,18 @@ hits_kept g i x fit known here =
     ap (λ (w : List (List ℕ)). get_or w i []) same ∙ get_or_from_slice_get (ending_by_states g) i (ending_alternatives 0 x) [] (mapped_at (ending_alternatives 0) (states g.states.keys) i x here) in
     ap (list_any (ends_at x fit)) asked ∙ sym (hits_told x fit)
 
-pub one_ending : (row fit : State) (xs : List ℕ) (i : ℕ) → i < length xs
-    → list_any (ends_at row fit) (drop i xs) ≡ (ends_at row fit (get_or xs i 0) || list_any (ends_at row fit) (drop (i + 1) xs))
-one_ending row fit xs i h = ap (list_any (ends_at row fit)) (drop_more xs i 0 h)
+module _ (P : ℕ → Bool) (xs : List ℕ) (i d : ℕ) (r all : Bool) (l : i < length xs) (h : r ≡ P (get_or xs i d)) (k : all ≡ list_any P (drop i xs)) where
+  any_goes : all ≡ (r || list_any P (drop (i + 1) xs))
+  any_goes = k ∙ (ap (list_any P) (drop_more xs i d l) ∙ ap (λ b. b || list_any P (drop (i + 1) xs)) (sym h))
+
+  pub any_here : r ≡ true → true ≡ all
+  any_here e = sym (any_goes ∙ ap (λ b. b || list_any P (drop (i + 1) xs)) e)
+
+  pub any_later : r ≡ false → all ≡ list_any P (drop (i + 1) xs)
+  any_later e = any_goes ∙ ap (λ b. b || list_any P (drop (i + 1) xs)) e
+
+pub any_none : (P : ℕ → Bool) (xs : List ℕ) (i : ℕ) (all : Bool) → length xs ≤ i → all ≡ list_any P (drop i xs) → false ≡ all
+any_none P xs i all l k = sym (k ∙ ap (list_any P) (drop_all i xs l))
 
 -- one state more
 pub one_state_ending : (all : List (List ℕ)) (old : List (Vec ℕ)) (w : Vec ℕ) (xs : List Row) (i : ℕ) (x : Row) → i < length xs → x ≡ get_or xs i x → w.items ≡ ending_alternatives 0 (state x)

@@ -1,5 +1,5 @@
 -- Where no item is left, nothing is selected any more.
-use Rattle.std.proofs.Common.{◌≡◌, List, [], true, None}
+use Rattle.std.proofs.Common.{◌≡◌, List, true, None}
 use Rattle.tc_model.specs.Trees.{Trees}
 use Rattle.tc_model.specs.Sheets.{Test, Rule, CallFreeBody}
 use Rattle.tc_model.specs.Outcomes.{nothing}

@@ -1,12 +1,15 @@
 -- What loops over rows keep, where no name is given to what stands at a place.
-use Rattle.std.proofs.Common.{◌≡◌, ℕ, zero, suc, ◌+◌, ◌<◌, List, [], ◌∷◌, ◌++◌, Bool, false, refl, ap, sym, ◌∙◌, subst, map, Bor, length, get_or, drop, filter, Option, Some, None, slice_get, arith}
+use Rattle.std.proofs.Common.{◌≡◌, ℕ, ◌+◌, ◌<◌, ◌≤◌, min, refl, inl, inr, arith, List, [], ◌∷◌, ◌++◌, Bool, false, ap, sym, ◌∙◌, subst, map, Bor, length, get_or, drop, filter, Option, Some, slice_get}
 use Rattle.std.specs.Global.{Vec}
-use Rattle.std.proofs.lemmas.List.{get_or_default}
+use Rattle.std.proofs.lemmas.Bool.{cases_lt}
+use Rattle.std.proofs.lemmas.List.{drop_all, get_or_default}
 use Rattle.std.proofs.lemmas.List.Elements.{filter-append}
 use Rattle.tc_model.specs.declared.sheet.Step.{Step}
+use Rattle.tc_model.specs.declared.sheet.Test.{Test}
+use Rattle.tc_rules.specs.declared.rows.Sought.{Sought}
 use Rattle.tc_model.specs.Views as see
-use Rattle.tc_model.specs.Sheets.{Path}
-use Rattle.tc_model.specs.PathStates.{State, same_state}
+use Rattle.tc_model.specs.Sheets.{Path, no_alternative, alternative}
+use Rattle.tc_model.specs.PathStates.{State, same_state, first_items, first_state}
 use Rattle.tc_rules.specs.Once.{put_all}
 use Rattle.tc_rules.specs.Reached.{leads_by_class, number_in, numbers_by}
 use Rattle.tc_rules.specs.Rows.{state, states, fits_by, leads, leads_of_classes}
@@ -16,17 +19,13 @@ use Rattle.tc_rules.specs.declared.graph.Leads.{Leads}
 use Rattle.tc_rules.specs.declared.rows.Row.{Row}
 use Rattle.tc_rules.proofs.GraphRows.{numbered_class}
 use Rattle.tc_rules.proofs.Numbering.{put_joined}
-use Rattle.tc_rules.proofs.RowSteps.{element, first_step, next_alternative, no_items_left, map_push}
+use Rattle.tc_rules.proofs.RowSteps.{element, ended, first_step, next_alternative, map_push, one_step_having, one_alternative_having, first_alternative}
 
 pub first_goes : (first : Bool) (all old now : List Bool) (xs : List Step) (i : ℕ) → i < length xs → now ≡ old ++ first ∷ []
     → all ≡ old ++ v.items_left first (see.steps (drop i xs)) → all ≡ now ++ v.items_left false (see.steps (drop (i + 1) xs))
 first_goes first all old now xs i h put k = let x = element xs i h in first_step first all old now xs i x.0 h x.1 put k
 
 module _ (all fits row : State) (xs : List (Bor (List Step))) (i : ℕ) (h : i < length xs) where
-  pub next_left : (old : List (Vec Bool)) → slice_get row i ≡ None
-      → all ≡ map (λ (w : Vec Bool). w.items) old ++ next_state (see.alternatives (drop i xs)) (drop i fits) (drop i row) → map (λ (w : Vec Bool). w.items) old ≡ all
-  next_left old b k = let x = element xs i h in no_items_left all (map (λ (w : Vec Bool). w.items) old) fits row xs i x.0 h x.1 b k
-
   pub next_goes : (d : Bor (List Step)) (f items : List Bool) (old now : List (Vec Bool)) (w : Vec Bool) → f ≡ get_or fits i [] → slice_get row i ≡ Some items
       → w.items ≡ v.further (see.steps (get_or xs i d).now) f false items → now ≡ old ++ w ∷ []
       → all ≡ map (λ (w : Vec Bool). w.items) old ++ next_state (see.alternatives (drop i xs)) (drop i fits) (drop i row)
@@ -35,6 +34,23 @@ module _ (all fits row : State) (xs : List (Bor (List Step))) (i : ℕ) (h : i <
       let x = get_or xs i d in
       subst (λ (l : List (Vec Bool)). all ≡ map (λ (w : Vec Bool). w.items) l ++ next_state (see.alternatives (drop (i + 1) xs)) (drop (i + 1) fits) (drop (i + 1) row)) (sym put)
       (next_alternative all fits row items old w xs i x h (get_or_default xs i d x h) b (is ∙ ap (λ g. v.further (see.steps x.now) g false items) a) k)
+
+next_none : (p : Path) (fits : State) → next_state p fits [] ≡ []
+next_none no_alternative fits = refl
+next_none (alternative ss p) fits = refl
+
+pub next_over : (all fits row : State) (old : List (Vec Bool)) (xs : List (Bor (List Step))) (i : ℕ) → min (length xs) (length row) ≤ i
+    → all ≡ map (λ (w : Vec Bool). w.items) old ++ next_state (see.alternatives (drop i xs)) (drop i fits) (drop i row) → map (λ (w : Vec Bool). w.items) old ≡ all
+next_over all fits row old xs i over k = ended all (map (λ (w : Vec Bool). w.items) old) (next_state (see.alternatives (drop i xs)) (drop i fits) (drop i row)) none k
+  where
+    none : next_state (see.alternatives (drop i xs)) (drop i fits) (drop i row) ≡ []
+    none =
+        elim (cases_lt i (length xs)) [
+          | inl l ↦
+              let past : length row ≤ i = omega (arith, l, over) in
+              ap (λ w. next_state (see.alternatives (drop i xs)) (drop i fits) w) (drop_all i row past) ∙ next_none (see.alternatives (drop i xs)) (drop i fits)
+          | inr g ↦ ap (λ w. next_state (see.alternatives w) (drop i fits) (drop i row)) (drop_all i xs g)
+        ]
 
 pub class_goes : (q : Path) (s : State) (known marked : List State) (all : List (List (Option ℕ))) (old now : List Leads) (w : Leads) (xs ys : List Row) (i : ℕ) (x : Row)
     → ys ≡ xs → i < length ys → x ≡ get_or ys i x → leads marked w ≡ map (number_in known) (leads_by_class q (state x) marked s) → now ≡ old ++ w ∷ []
@@ -50,3 +66,33 @@ kept_more counts start old new rows r put k =
     put ∙ (ap (λ w. put_all same_state w (filter counts (state r ∷ []))) k
     ∙ (sym (put_joined same_state start (filter counts (states rows)) (filter counts (state r ∷ [])))
     ∙ ap (put_all same_state start) (sym (filter-append counts (states rows) (state r ∷ [])) ∙ ap (filter counts) (sym (map_push state rows r)))))
+
+-- one step more, and one alternative more
+abbrev bits : Vec Bool → List Bool
+bits w = w.items
+
+module _ (numbered : List (Bor Test)) (sought : Sought) where
+  pub step_had : (all old now : List Bool) (has : Bool) (xs : List Step) (i : ℕ) (d : Step) → i < length xs → has ≡ v.step_has numbered (see.node_test (get_or xs i d).test) (see.test (get_or xs i d).when) sought → now ≡ old ++ has ∷ []
+      → all ≡ old ++ v.steps_having numbered (see.steps (drop i xs)) sought → all ≡ now ++ v.steps_having numbered (see.steps (drop (i + 1) xs)) sought
+  step_had all old now has xs i d h is put k = one_step_having numbered sought all old now xs i (get_or xs i d) h (get_or_default xs i d (get_or xs i d) h) (put ∙ ap (λ b. old ++ b ∷ []) is) k
+
+  pub steps_had : (all old : List Bool) (xs : List Step) (i : ℕ) → length xs ≤ i → all ≡ old ++ v.steps_having numbered (see.steps (drop i xs)) sought → old ≡ all
+  steps_had all old xs i h k = ended all old (v.steps_having numbered (see.steps (drop i xs)) sought) (ap (λ ys. v.steps_having numbered (see.steps ys) sought) (drop_all i xs h)) k
+
+  pub alternative_had : (all : State) (old now : List (Vec Bool)) (w : Vec Bool) (xs : List (Bor (List Step))) (i : ℕ) (d : Bor (List Step)) → i < length xs → w.items ≡ v.steps_having numbered (see.steps (get_or xs i d).now) sought → now ≡ old ++ w ∷ []
+      → all ≡ map bits old ++ v.path_having numbered (see.alternatives (drop i xs)) sought → all ≡ map bits now ++ v.path_having numbered (see.alternatives (drop (i + 1) xs)) sought
+  alternative_had all old now w xs i d h is put k =
+      subst (λ (l : List (Vec Bool)). all ≡ map bits l ++ v.path_having numbered (see.alternatives (drop (i + 1) xs)) sought) (sym put)
+      (one_alternative_having numbered sought all old w xs i (get_or xs i d) h (get_or_default xs i d (get_or xs i d) h) is k)
+
+  pub alternatives_had : (all : State) (old : List (Vec Bool)) (xs : List (Bor (List Step))) (i : ℕ) → length xs ≤ i → all ≡ map bits old ++ v.path_having numbered (see.alternatives (drop i xs)) sought → map bits old ≡ all
+  alternatives_had all old xs i h k = ended all (map bits old) (v.path_having numbered (see.alternatives (drop i xs)) sought) (ap (λ ys. v.path_having numbered (see.alternatives ys) sought) (drop_all i xs h)) k
+
+pub first_more : (all : State) (old now : List (Vec Bool)) (w : Vec Bool) (xs : List (Bor (List Step))) (i : ℕ) (d : Bor (List Step)) → i < length xs → w.items ≡ first_items (see.steps (get_or xs i d).now) → now ≡ old ++ w ∷ []
+    → all ≡ map bits old ++ first_state (see.alternatives (drop i xs)) → all ≡ map bits now ++ first_state (see.alternatives (drop (i + 1) xs))
+first_more all old now w xs i d h is put k =
+    subst (λ (l : List (Vec Bool)). all ≡ map bits l ++ first_state (see.alternatives (drop (i + 1) xs))) (sym put)
+    (first_alternative all old w xs i (get_or xs i d) h (get_or_default xs i d (get_or xs i d) h) is k)
+
+pub first_all : (all : State) (old : List (Vec Bool)) (xs : List (Bor (List Step))) (i : ℕ) → length xs ≤ i → all ≡ map bits old ++ first_state (see.alternatives (drop i xs)) → map bits old ≡ all
+first_all all old xs i h k = ended all (map bits old) (first_state (see.alternatives (drop i xs))) (ap (λ ys. first_state (see.alternatives ys)) (drop_all i xs h)) k

@@ -1,7 +1,7 @@
 -- Rows of what two rows have, and where no item moves on.
 use Rattle.std.proofs.Common.{◌≡◌, ℕ, zero, suc, ◌+◌, ◌-◌, ◌<◌, ◌≤◌, List, [], ◌∷◌, ◌++◌, Bool, true, false, ◌&&◌, ◌||◌, refl, ap, sym, ◌∙◌, map, length, get_or, drop, add-one, subst, Option, Some, None, option_map, slice_get, Bor, arith}
 use Rattle.std.specs.Global.{Vec}
-use Rattle.std.proofs.lemmas.List.{drop_more, drop_all}
+use Rattle.std.proofs.lemmas.List.{drop_more, drop_all, length-map}
 use Rattle.std.proofs.lemmas.Option.{get_or_from_slice_get, slice_get-get_or}
 use Rattle.tc_model.specs.declared.sheet.Step.{Step}
 use Rattle.tc_model.specs.Views as see
@@ -15,7 +15,7 @@ use Rattle.tc_rules.specs.declared.graph.Leads.{Leads}
 use Rattle.tc_rules.specs.declared.rows.Row.{Row}
 use Rattle.tc_rules.proofs.Pieces.{mapped_at, unmapped_at}
 use Rattle.tc_rules.specs.Steps.{first_or_false, after_first, further, first_or_none, after_alternative, next_state, has_step, item_moves, some_item_moves, item_waits, some_item_waits, both_items, both_states, ends_true}
-use Rattle.tc_rules.proofs.RowSteps.{element, one_more, map_push, first_at, after_at, first_alternative_at, after_alternative_at}
+use Rattle.tc_rules.proofs.RowSteps.{element, one_more, ended, map_push, first_at, after_at, first_alternative_at, after_alternative_at}
 
 -- the parts of what both have
 pub first_of_both : (a b : Items) → first_or_false (both_items a b) ≡ (first_or_false a && first_or_false b)
@@ -107,6 +107,24 @@ module _ (all other : State) (old now xs ys : List (Vec Bool)) (same : ys ≡ xs
       ∙ ap (λ a. w.items ∷ both_states (drop (i + 1) (map bits xs)) a) (after_alternative_at other i)))))
       k
 
+pub none_some : {X : Type 0} (x : X) → None ≡ Some x → ⊥
+none_some x e = cc
+
+-- one more of what both have is put
+pub both_put : (all old now items others : List Bool) (i : ℕ) (a b has : Bool) → i < length items → a ≡ get_or items i false → b ≡ get_or others i false → has ≡ (a && b) → now ≡ old ++ has ∷ []
+    → all ≡ old ++ both_items (drop i items) (drop i others) → all ≡ now ++ both_items (drop (i + 1) items) (drop (i + 1) others)
+both_put all old now items others i a b has h of_a of_b is put k =
+    both_item all old now items others i h (put ∙ ap (λ w. old ++ w ∷ []) (is ∙ (ap (λ w. w && b) of_a ∙ ap (λ w. get_or items i false && w) of_b))) k
+
+-- nothing is left of what both have
+pub both_over : (all old items others : List Bool) (i : ℕ) → length items ≤ i → all ≡ old ++ both_items (drop i items) (drop i others) → old ≡ all
+both_over all old items others i h k = ended all old _ (ap (λ w. both_items w (drop i others)) (drop_all i items h)) k
+
+pub alternatives_over : (all other : State) (old xs ys : List (Vec Bool)) (i : ℕ) → ys ≡ xs → length ys ≤ i → all ≡ map bits old ++ both_states (drop i (map bits xs)) (drop i other) → map bits old ≡ all
+alternatives_over all other old xs ys i same h k =
+    let over : length (map bits xs) ≤ i = omega (arith, h, length-map xs bits, ap length same) in
+    ended all (map bits old) _ (ap (λ w. both_states w (drop i other)) (drop_all i (map bits xs) over)) k
+
 -- what both have at a place
 pub both_there : (x y : State) (i : ℕ) (items : Items) → slice_get x i ≡ Some items → slice_get (both_states x y) i ≡ Some (both_items items (get_or y i []))
 both_there [] y i items e = absurd (cc)
@@ -163,22 +181,22 @@ moves_here fits items xs k h =
     ∙ (ap (λ w. (has_step rest && (get_or items k false && get_or fits k false)) || item_moves rest w (after_first (drop k items))) (after_at fits k)
     ∙ ap (λ w. (has_step rest && (get_or items k false && get_or fits k false)) || item_moves rest (drop (k + 1) fits) w) (after_at items k))))
 
-pub waits_here : (items : List Bool) (xs : List Step) (k : ℕ) → k < length xs
-    → item_waits (see.steps (drop k xs)) (drop k items) ≡ ((has_step (see.steps (drop (k + 1) xs)) && get_or items k false) || item_waits (see.steps (drop (k + 1) xs)) (drop (k + 1) items))
-waits_here items xs k h =
-    let rest = see.steps (drop (k + 1) xs) in
-    let x = element xs k h in
-    ap (λ w. item_waits w (drop k items)) (left_step xs k x.0 h x.1)
-    ∙ (ap (λ w. (has_step rest && w) || item_waits rest (after_first (drop k items))) (first_at items k)
-    ∙ ap (λ w. (has_step rest && get_or items k false) || item_waits rest w) (after_at items k))
+-- an item may move on where its own step fits
+itself : (h x : Bool) → (h && (x && x)) ≡ (h && x)
+itself h true = refl
+itself h false = refl
 
-pub alternatives_wait : (row : State) (ws : List (Bor (List Step))) (i : ℕ) (w : Bor (List Step)) → i < length ws → w ≡ get_or ws i w
-    → some_item_waits (see.alternatives (drop i ws)) (drop i row) ≡ (item_waits (see.steps w.now) (get_or row i []) || some_item_waits (see.alternatives (drop (i + 1) ws)) (drop (i + 1) row))
-alternatives_wait row ws i w h e =
-    let rest = see.alternatives (drop (i + 1) ws) in
-    ap (λ p. some_item_waits p (drop i row)) (left_alternative ws i w h e)
-    ∙ (ap (λ x. item_waits (see.steps w.now) x || some_item_waits rest (after_alternative (drop i row))) (first_alternative_at row i)
-    ∙ ap (λ x. item_waits (see.steps w.now) (get_or row i []) || some_item_waits rest x) (after_alternative_at row i))
+items_themselves : (ss : Steps) (items : Items) → item_moves ss items items ≡ item_waits ss items
+items_themselves no_step items = refl
+items_themselves (step d t w ss) items =
+    ap (λ b. b || item_moves ss (after_first items) (after_first items)) (itself (has_step ss) (first_or_false items))
+    ∙ ap (λ b. (has_step ss && first_or_false items) || b) (items_themselves ss (after_first items))
+
+pub moves_itself : (p : Path) (row : State) → some_item_moves p row row ≡ some_item_waits p row
+moves_itself no_alternative row = refl
+moves_itself (alternative ss p) row =
+    ap (λ b. b || some_item_moves p (after_alternative row) (after_alternative row)) (items_themselves ss (first_or_none row))
+    ∙ ap (λ b. item_waits ss (first_or_none row) || b) (moves_itself p (after_alternative row))
 
 -- none moves on where none may
 neither : (a b : Bool) → a ≡ false → b ≡ false → (a || b) ≡ false

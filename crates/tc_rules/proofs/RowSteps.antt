@@ -1,6 +1,7 @@
 -- Rows are written and read one by one.
-use Rattle.std.proofs.Common.{◌≡◌, ℕ, zero, suc, ◌+◌, ◌<◌, List, [], ◌∷◌, ◌++◌, Bool, true, false, ◌&&◌, ◌||◌, not, refl, ap, sym, ◌∙◌, map, Bor, length, get_or, drop, append_assoc, add-one, Some, None, slice_get, arith}
+use Rattle.std.proofs.Common.{◌≡◌, ℕ, zero, suc, ◌+◌, ◌<◌, ◌≤◌, List, [], ◌∷◌, ◌++◌, Bool, true, false, ◌&&◌, ◌||◌, not, refl, ap, sym, ◌∙◌, map, Bor, length, get_or, drop, append_assoc, add-one, Some, slice_get, arith}
 use Rattle.std.specs.List.{list_any}
+use Rattle.std.proofs.lemmas.List.{drop_all, get_or_default}
 use Rattle.std.specs.Global.{Vec}
 use Rattle.tc_model.specs.declared.sheet.Step.{Step}
 use Rattle.tc_model.specs.declared.sheet.Test.{Test}
@@ -29,15 +30,16 @@ module _ {X : Type 0} where
   pub drop_at : (xs : List X) (i : ℕ) (x : X) → slice_get xs i ≡ Some x → drop i xs ≡ x ∷ drop (i + 1) xs
   drop_at xs i x e = rw add-one (drop_here xs i x e)
 
-  pub drop_past : (xs : List X) (i : ℕ) → slice_get xs i ≡ None → drop i xs ≡ []
-  drop_past [] zero e = refl
-  drop_past [] (suc i) e = refl
-  drop_past (y ∷ xs) zero e = cc
-  drop_past (y ∷ xs) (suc i) e = drop_past xs i e
-
   nothing_after : (xs : List X) → xs ++ [] ≡ xs
   nothing_after [] = refl
   nothing_after (x ∷ xs) = ap (λ w. x ∷ w) (nothing_after xs)
+
+  -- nothing is written yet, and nothing is left
+  pub begun : (all old : List X) → old ≡ [] → all ≡ old ++ all
+  begun all old is = sym (ap (λ w. w ++ all) is)
+
+  pub ended : (all old rest : List X) → rest ≡ [] → all ≡ old ++ rest → old ≡ all
+  ended all old rest is k = sym (k ∙ (ap (λ w. old ++ w) is ∙ nothing_after old))
 
 -- what stands at a place
 pub element : {X : Type 0} (xs : List X) (i : ℕ) → i < length xs → (x : X) × (x ≡ get_or xs i x)
@@ -104,6 +106,20 @@ further_step all old now fits items comes xs i x h e put k =
         ∙ (ap (λ f. ((get_or items i false && x.deep) || comes) ∷ v.further (see.steps (drop (i + 1) xs)) f (get_or items i false && get_or fits i false) (v.after_first (drop i items))) (after_at fits i)
         ∙ ap (λ b. ((get_or items i false && x.deep) || comes) ∷ v.further (see.steps (drop (i + 1) xs)) (drop (i + 1) fits) (get_or items i false && get_or fits i false) b) (after_at items i))))
 
+pub further_at : (all old now fits items : List Bool) (comes here fit put next : Bool) (xs : List Step) (i : ℕ) (d : Step) → i < length xs → here ≡ get_or items i false → fit ≡ get_or fits i false
+    → put ≡ ((here && (get_or xs i d).deep) || comes) → next ≡ (here && fit) → now ≡ old ++ put ∷ []
+    → all ≡ old ++ v.further (see.steps (drop i xs)) (drop i fits) comes (drop i items)
+    → all ≡ now ++ v.further (see.steps (drop (i + 1) xs)) (drop (i + 1) fits) next (drop (i + 1) items)
+further_at all old now fits items comes here fit put next xs i d h of_here of_fit of_put of_next is k =
+    let x = get_or xs i d in
+    further_step all old now fits items comes xs i x h (get_or_default xs i d x h)
+    (is ∙ ap (λ b. old ++ b ∷ []) (of_put ∙ ap (λ b. (b && x.deep) || comes) of_here)) k
+    ∙ ap (λ b. now ++ v.further (see.steps (drop (i + 1) xs)) (drop (i + 1) fits) b (drop (i + 1) items)) (sym (of_next ∙ (ap (λ b. b && fit) of_here ∙ ap (λ b. get_or items i false && b) of_fit)))
+
+pub further_over : (all old fits items : List Bool) (comes : Bool) (xs : List Step) (i : ℕ) → length xs ≤ i
+    → all ≡ old ++ v.further (see.steps (drop i xs)) (drop i fits) comes (drop i items) → old ≡ all
+further_over all old fits items comes xs i h k = ended all old _ (ap (λ w. v.further (see.steps w) (drop i fits) comes (drop i items)) (drop_all i xs h)) k
+
 -- the same of alternatives
 first_here : (x : List (List Bool)) (i : ℕ) → v.first_or_none (drop i x) ≡ get_or x i []
 first_here [] zero = refl
@@ -136,14 +152,6 @@ next_alternative all fits row items old w xs i x h e b is k =
     ∙ (ap (λ r. r ∷ v.next_state rest (v.after_alternative (drop i fits)) (drop (i + 1) row)) (sym is)
     ∙ ap (λ t. w.items ∷ v.next_state rest t (drop (i + 1) row)) (after_alternative_at fits i)))))
     k
-
-pub no_items_left : (all old fits row : List (List Bool)) (xs : List (Bor (List Step))) (i : ℕ) (x : Bor (List Step)) → i < length xs → x ≡ get_or xs i x
-    → slice_get row i ≡ None → all ≡ old ++ v.next_state (see.alternatives (drop i xs)) (drop i fits) (drop i row) → old ≡ all
-no_items_left all old fits row xs i x h e b k =
-    sym (k ∙ (ap (λ w. old ++ w)
-    (ap (λ t. v.next_state t (drop i fits) (drop i row)) (left_alternative xs i x h e)
-    ∙ ap (λ t. v.next_state (s.alternative (see.steps x.now) (see.alternatives (drop (i + 1) xs))) (drop i fits) t) (drop_past row i b))
-    ∙ nothing_after old))
 
 state_here : (xs : List (Vec Bool)) (i : ℕ) (x : Vec Bool) → i < length xs → x ≡ get_or xs i x → drop i (map items_of xs) ≡ x.items ∷ drop (suc i) (map items_of xs)
 state_here [] i x h e = absurd (omega arith)

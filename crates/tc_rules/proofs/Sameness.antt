@@ -1,9 +1,9 @@
 -- The tests of sameness tell what is equal, and what is numbered is found by its number.
-use Rattle.std.proofs.Common.{◌≡◌, ℕ, List, [], ◌∷◌, ◌++◌, refl, ap, ◌∙◌, sym, Bool, true, false, ◌&&◌, ◌||◌, nat_eq, Some, slice_get, bytes_eq, if◌then◌else◌, subst, ◌+◌, ◌<◌, suc, map, length, drop, get_or, append_assoc, ◌⊎◌, inl, inr, arith}
+use Rattle.std.proofs.Common.{◌≡◌, ℕ, List, [], ◌∷◌, ◌++◌, refl, ap, ◌∙◌, sym, Bool, true, false, ◌&&◌, ◌||◌, nat_eq, Some, slice_get, bytes_eq, if◌then◌else◌, subst, ◌+◌, ◌<◌, ◌≤◌, suc, map, length, drop, get_or, append_assoc, ◌⊎◌, inl, inr, arith}
 use Rattle.std.specs.List.{list_any}
 use Rattle.std.proofs.lemmas.Bool.{true≢false, eqb-true, eq-eqb}
 use Rattle.std.proofs.lemmas.Slice.Eq.{bytes_eq-Decides}
-use Rattle.std.proofs.lemmas.List.{drop_more}
+use Rattle.std.proofs.lemmas.List.{append-nil, drop_more, drop_all, length-map, map-append}
 use Rattle.tc_model.specs.Names.{ExpandedName, same_name}
 use Rattle.tc_model.specs.Sheets.{NodeTest, of_name, of_namespace, any_element, any_text, any_node, Steps, no_step, step, Path, no_alternative, alternative, Test, always, never, has, negated, all_of, any_of, Tests, no_test, test}
 use Rattle.tc_model.specs.Numbered.{each_once, each_once_after, number_of}
@@ -290,3 +290,38 @@ module _ {X : Type 0} (same : X → X → Bool) where
       k ∙ (ap (λ w. s ++ each_once_after same s (map f w)) (drop_more ys i y l)
       ∙ (ap (λ z. s ++ each_once_after same s (f z ∷ map f (drop (i + 1) ys))) (sym e)
       ∙ (put_next s (map f (drop (i + 1) ys)) (f y) ∙ ap (λ w. w ++ each_once_after same w (map f (drop (i + 1) ys))) (sym h))))
+
+  -- what has a number in a list is there
+  numbered_there : (x : X) (ys : List X) → number_of same x ys < length ys → list_any (same x) ys ≡ true
+  numbered_there x [] l = absurd (omega (arith, l))
+  numbered_there x (y ∷ ys) l = by (same x y) l (numbered_there x ys)
+    where
+      by : (b : Bool) → (if b then 0 else (number_of same x ys + 1)) < suc (length ys) → (number_of same x ys < length ys → list_any (same x) ys ≡ true) → (b || list_any (same x) ys) ≡ true
+      by true l k = refl
+      by false l k = k (omega (arith, l))
+
+  numbered_new : (x : X) (ys : List X) → length ys ≤ number_of same x ys → list_any (same x) ys ≡ false
+  numbered_new x [] l = refl
+  numbered_new x (y ∷ ys) l = by (same x y) l (numbered_new x ys)
+    where
+      by : (b : Bool) → suc (length ys) ≤ (if b then 0 else (number_of same x ys + 1)) → (length ys ≤ number_of same x ys → list_any (same x) ys ≡ false) → (b || list_any (same x) ys) ≡ false
+      by true l k = absurd (omega (arith, l))
+      by false l k = k (omega (arith, l))
+
+  pub stays_there : {Y : Type 0} (f : Y → X) (kept : List Y) (x : X) (k : ℕ) → k ≡ number_of same x (map f kept) → k < length kept → map f kept ≡ put_once same (map f kept) x
+  stays_there f kept x k e l =
+      let inside : number_of same x (map f kept) < length (map f kept) = omega (arith, e, l, length-map kept f) in
+      sym (ap (λ b. if b then map f kept else (map f kept ++ x ∷ [])) (numbered_there x (map f kept) inside))
+
+  pub put_last : {Y : Type 0} (f : Y → X) (kept now : List Y) (y : Y) (k : ℕ) → k ≡ number_of same (f y) (map f kept) → length kept ≤ k → now ≡ kept ++ y ∷ [] → map f now ≡ put_once same (map f kept) (f y)
+  put_last f kept now y k e l put =
+      let outside : length (map f kept) ≤ number_of same (f y) (map f kept) = omega (arith, e, l, length-map kept f) in
+      ap (map f) put ∙ (map-append f kept (y ∷ []) ∙ sym (ap (λ b. if b then map f kept else (map f kept ++ f y ∷ [])) (numbered_new (f y) (map f kept) outside)))
+
+  -- nothing is looked at yet, and all are
+  pub once_begun : {Y : Type 0} (f : Y → X) (all : List X) (old : List Y) → old ≡ [] → each_once same all ≡ map f old ++ each_once_after same (map f old) all
+  once_begun {Y = Y} f all old is = sym (ap (λ (w : List Y). map f w ++ each_once_after same (map f w) all) is)
+
+  pub once_ended : {Y : Type 0} (f : Y → X) (all : List X) (old ys : List Y) (i : ℕ) → length ys ≤ i → all ≡ map f old ++ each_once_after same (map f old) (map f (drop i ys)) → map f old ≡ all
+  once_ended {Y = Y} f all old ys i l k =
+      sym (k ∙ (ap (λ (w : List Y). map f old ++ each_once_after same (map f old) (map f w)) (drop_all i ys l) ∙ append-nil (map f old)))

@@ -1,5 +1,5 @@
 -- Sets of predicates that have the same where items move on lead to the same states.
-use Rattle.std.proofs.Common.{◌≡◌, ℕ, zero, suc, ◌+◌, ◌<◌, ◌≤◌, ◌==◌, List, [], ◌∷◌, ◌++◌, Bool, true, false, ◌&&◌, ◌||◌, not, refl, ap, sym, ◌∙◌, subst, map, filter, length, get_or, take, drop, inl, inr, append_assoc, add-one, Option, None, Some, slice_get, Bor, arith, if◌then◌else◌}
+use Rattle.std.proofs.Common.{◌≡◌, ℕ, zero, suc, ◌+◌, ◌<◌, ◌≤◌, ◌==◌, List, [], ◌∷◌, ◌++◌, Bool, true, false, ◌&&◌, ◌||◌, refl, ap, sym, ◌∙◌, subst, map, filter, length, get_or, take, drop, inl, inr, append_assoc, add-one, Option, Some, slice_get, Bor, arith, if◌then◌else◌}
 use Rattle.std.proofs.lemmas.Bool.{cases_lt, eqb-false}
 use Rattle.std.proofs.lemmas.List.{append-nil, drop_more, get_or_default, take_more}
 use Rattle.std.proofs.lemmas.List.Elements.{filter-append}
@@ -16,7 +16,7 @@ use Rattle.tc_rules.specs.Steps.{first_or_false, after_first, further, first_or_
 use Rattle.tc_rules.proofs.GraphRows.{left_one}
 use Rattle.tc_rules.proofs.Numbering.{AreThere, put_joined, put_absorbed, put_all_there}
 use Rattle.tc_rules.proofs.Pieces.{mapped_at, there_one}
-use Rattle.tc_rules.proofs.RowPairs.{got_at, state_is, first_of_both, after_of_both, alternative_of_both, alternatives_of_both}
+use Rattle.tc_rules.proofs.RowPairs.{state_is, first_of_both, after_of_both, alternative_of_both, alternatives_of_both}
 use Rattle.tc_rules.proofs.SameRows.{state_self}
 use Rattle.tc_rules.specs.Rows.{state, states}
 use Rattle.tc_rules.specs.declared.rows.Row.{Row}

@@ -1,13 +1,13 @@
 -- Where a state leads, class by class: where no item moves on by the node tests of a class, all its letters lead to one state, whatever the class is.
-use Rattle.std.proofs.Common.{◌≡◌, ℕ, ◌+◌, ◌<◌, ◌≤◌, List, [], ◌∷◌, ◌++◌, Bool, true, false, not, ◌||◌, refl, ap, sym, ◌∙◌, subst, map, filter, take, drop, length, get_or, append_assoc, if◌then◌else◌}
-use Rattle.std.proofs.lemmas.List.{append-nil, take_all, take_more, get_or_default}
+use Rattle.std.proofs.Common.{◌≡◌, ℕ, ◌+◌, ◌<◌, ◌≤◌, List, [], ◌∷◌, ◌++◌, Bool, true, false, not, ◌||◌, refl, ap, sym, ◌∙◌, subst, map, filter, take, length, get_or, append_assoc, if◌then◌else◌}
+use Rattle.std.proofs.lemmas.List.{append-nil, take_all, take_more}
 use Rattle.std.proofs.lemmas.List.Elements.{filter-append}
 use Rattle.tc_model.specs.Sheets.{Path}
 use Rattle.tc_model.specs.PathStates.{State, same_state}
 use Rattle.tc_rules.specs.Once.{put_all}
 use Rattle.tc_rules.specs.Reached.{AreAlike, leads_by, leads_by_class}
 use Rattle.tc_rules.specs.Rows.{state, states, fits_by}
-use Rattle.tc_rules.specs.Steps.{both_states, next_state, some_item_moves}
+use Rattle.tc_rules.specs.Steps.{next_state, some_item_moves}
 use Rattle.tc_rules.specs.declared.rows.Row.{Row}
 use Rattle.tc_rules.proofs.Numbering.{put_joined, AreThere, put_absorbed, there_kept, put_all_there}
 use Rattle.tc_rules.proofs.RowPairs.{row_stays}
@@ -147,8 +147,3 @@ module _ (p : Path) (x : State) (marked : List State) (xs ys : List Row) (same :
       (subst (λ w. IsFound p x marked (states (take i xs) ++ state row ∷ []) w (stays || not moves)) (sym put)
       (found_alike p x marked (states (take i xs)) found (state row) more (leads_by_class p (state row) (looked_at p x marked moves stays) x) (stays || not moves)
       (subst (λ w. AreAlike more (leads_by_class p (state row) w x)) looked alike) (found_next p x marked (states (take i xs)) found (state row) moves stays (sym is) h))))
-
-  pub classes_found : (found : List State) (stays : Bool) → length ys ≤ i → IsFound p x marked (states (take i xs)) found stays → AreAlike found (leads_by p (fits_by (states xs) marked) x)
-  classes_found found stays l h =
-      let past : length xs ≤ i = subst (λ (w : List Row). length w ≤ i) same l in
-      subst (λ (w : List Row). AreAlike found (leads_by p (fits_by (states w) marked) x)) (take_all i xs past) h.alike

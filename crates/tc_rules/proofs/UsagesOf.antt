@@ -1,16 +1,15 @@
 -- What the usages of a stylesheet tell of is what the stylesheet has.
-use Rattle.std.proofs.Common.{◌≡◌, ℕ, ◌+◌, List, [], ◌∷◌, ◌++◌, refl, ap, sym, ◌∙◌, map, flat_map, append_assoc}
+use Rattle.std.proofs.Common.{◌≡◌, ℕ, ◌+◌, List, [], ◌∷◌, ◌++◌, refl, ap, ◌∙◌, flat_map, append_assoc}
 use Rattle.std.proofs.lemmas.Grind.{flat_map-append}
 use Rattle.tc_model.specs.Sheets as s
 use Rattle.tc_model.specs.Sheets.{no_instruction, put_text, put_element, copy, apply, call, for_each, value, value_of_self, choose, otherwise, branch}
-use Rattle.tc_model.specs.Meaning.{all_children}
-use Rattle.tc_model.specs.Numbered.{numbers_below, each_once}
-use Rattle.tc_model.specs.Numberings.{Move, same_move, predicates_in_path, predicates_in_test, predicates_in_pattern, predicates_in_body, predicates_in_branches, predicates_of, looks_in_test, looks_in_body, looks_in_branches, looks_of, moves_in_body, moves_in_branches, moves_of}
+use Rattle.tc_model.specs.Numbered.{each_once}
+use Rattle.tc_model.specs.Numberings.{predicates_in_path, predicates_in_test, predicates_in_body, predicates_in_branches, predicates_of, looks_in_test, looks_in_body, looks_in_branches, looks_of, moves_in_body, moves_in_branches}
 use Rattle.tc_model.specs.SameTests.{same_path, same_test}
-use Rattle.tc_rules.specs.Eaches.{Each, bodies_in, bodies_in_branches, bodies_of_eaches}
+use Rattle.tc_rules.specs.Eaches.{bodies_in, bodies_in_branches, bodies_of_eaches}
 use Rattle.tc_rules.specs.Jobs.{written_moves}
 use Rattle.tc_rules.specs.Gathered.{built_in_moves}
-use Rattle.tc_rules.specs.Usages.{Usage, of_pattern, of_test, of_value, of_apply, of_each, usages_in, usages_in_branches, usages_of_rules, usages_of, predicates_in_usage, looks_in_usage, moves_in_usage, eaches_in_usage}
+use Rattle.tc_rules.specs.Usages.{Usage, of_pattern, usages_in, usages_in_branches, usages_of_rules, usages_of, predicates_in_usage, looks_in_usage, moves_in_usage, eaches_in_usage}
 
 -- two parts, each told of
 module _ {X : Type 0} (f : Usage → List X) where

@@ -34,7 +34,8 @@ pub record IsRulesOf (symbols : List Mention) (r : Rules) : Type 0 where
   pub starts : (i : ℕ) → i < length r.graphs.items + 1 → slice_get r.starts.items i ≡ Some (count_states (take i (told r).selects))
   -- where each select state stands
   pub places : (i : ℕ) (g : Graph) (j : ℕ) → slice_get (told r).selects i ≡ Some g → j < length g.states → slice_get r.selects.items (count_states (take i (told r).selects) + j) ≡ Some (record { graph = i; state = j })
-  -- each graph of select states keeps the alternatives that may end at its states; that of ancestor states is asked rule by rule, and keeps them unread
+  -- each graph of select states keeps the alternatives of which all steps but the last may have been taken at its states; that of ancestor states is asked
+  -- rule by rule, and keeps them unread
   pub ending : AllKeepEndings r.graphs.items
   -- the numbers of the rules of each mode, in order
   pub modes : (m : ℕ) → m < r.sheet.modes → slice_get (map (λ w. w.items) r.modes.items) m ≡ Some (numbers_in_mode m 0 (told r).sheet.rules)

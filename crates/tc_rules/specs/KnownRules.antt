@@ -13,7 +13,7 @@ use Rattle.tc_rules.specs.declared.rules.Kind.{Kind}
 use Rattle.tc_rules.specs.declared.rules.Marks.{Marks}
 
 module _ (symbols : List Mention) (v : RulesView) where
-  -- the rule in a mode of a node of a letter, by the ancestor state of the node above it
+  -- if it is a letter of these symbols and predicates: the rule in a mode of its node, by the ancestor state of the node above it
   abbrev pub IsFound : ℕ → ℕ → Kind → Marks → Found → Type 0
   IsFound mode q kind marks f =
       IsLetter symbols (predicates_of v.sheet) (letter kind marks) → IsRuleOf v.sheet.rules mode (fits_below symbols (predicates_of v.sheet) (ancestor v q) (letter kind marks)) (found f)

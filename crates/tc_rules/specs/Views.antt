@@ -9,8 +9,6 @@ use Rattle.tc_model.specs.declared.sheet.Path.{Path}
 use Rattle.tc_rules.specs.declared.walk.Job.{Job}
 use Rattle.tc_rules.specs.declared.walk.Job.TheVariants as jobs
 use Rattle.tc_rules.specs.declared.walk.Move.{Move}
-use Rattle.tc_rules.specs.declared.walk.Each.{Each}
-use Rattle.tc_rules.specs.Eaches as e
 use Rattle.tc_rules.specs.Usages as u
 use Rattle.tc_rules.specs.declared.walk.Usage.{Usage}
 use Rattle.tc_rules.specs.declared.walk.Usage.TheVariants as of
@@ -31,12 +29,6 @@ move modes m = record { path = see.path m.path.now; mode = mode_of modes m.job }
 
 abbrev pub moves : ℕ → List Move → List n.Move
 moves modes xs = map (move modes) xs
-
-abbrev pub each : Each → e.Each
-each x = record { number = x.number; body = see.body x.body.now }
-
-abbrev pub eaches : List Each → List e.Each
-eaches xs = map each xs
 
 abbrev pub usage : Usage → u.Usage
 usage (of.Pattern p) = u.of_pattern (see.match_pattern p.now)

@@ -1,5 +1,6 @@
 // What a stylesheet has, each in its order: predicates, moves, looks, for-eaches, and the rules of each mode.
-ghost use Rattle.std.specs.Prelude.{◌≡◌, ◌≢◌, ◌<◌, ◌++◌, ◌∷◌, ℕ, [], Some, length, map, flat_map, get_or, slice_get, slice_set, Contains, IfOk, OnOk};
+ghost use Rattle.std.specs.Prelude.{◌≡◌, ◌≢◌, ◌<◌, ◌++◌, ◌∷◌, ℕ, [], Some, length, map, flat_map, get_or, slice_get, Contains, IfOk, OnOk};
+ghost use Rattle.std.specs.List.{AllByRecursion};
 ghost use Rattle.tc_model.specs.Meaning.{all_children};
 ghost use Rattle.tc_model.specs.Numbered.{numbers_below};
 ghost use Rattle.tc_model.specs.Numberings as n;
@@ -8,16 +9,16 @@ ghost use Rattle.tc_model.specs.Views as see;
 ghost use Rattle.tc_model.specs.Sheets as s;
 ghost use Rattle.tc_model.specs.Symbols.{fresh_name, symbol_count};
 ghost use Rattle.tc_model.specs.WellFormed.{IsSheet, ForEach, eaches_of};
-ghost use Rattle.tc_rules.specs.Gathered.{built_in_moves, numbers, bodies as see_bodies};
+ghost use Rattle.tc_rules.specs.Gathered.{bodies_with, built_in_moves, numbers, bodies as see_bodies};
 ghost use Rattle.tc_rules.specs.Jobs.{AreJobs, written_moves};
 ghost use Rattle.tc_rules.specs.Kept.{numbers_in_mode};
 ghost use Rattle.tc_rules.specs.Usages.{usages_in, usages_of, usages_of_rules, predicates_in_usage, looks_in_usage, moves_in_usage, eaches_in_usage};
-ghost use Rattle.tc_rules.specs.Views.{eaches, predicates, looks, moves, usage as see_usage, usages};
+ghost use Rattle.tc_rules.specs.Views.{predicates, looks, moves, usage as see_usage, usages};
 
 use crate::once::{looks_once, moves_once, predicates_once};
 use crate::walk::{
-    Each, Job, Move, Usage, add_usage, eaches_in_usage, looks_in_test, looks_in_usage,
-    moves_in_usage, predicates_in_usage, usages_in_body,
+    Job, Move, Usage, add_usage, looks_in_test, looks_in_usage, moves_in_usage,
+    predicates_in_usage, usages_in_body,
 };
 use bumpalo::Bump;
 use std::alloc::Global;
@@ -182,7 +183,6 @@ pub(crate) fn all_looks<'b>(
 }
 
 /// The steps of all rules' patterns; `/` has none.
-#[tactic(auto, using(crate::proofs::Gathered::rule_pushed))]
 pub(crate) fn paths_of_rules<'b>(
     alloc: Global,
     sheet: &Sheet<'b>,
@@ -262,17 +262,6 @@ pub(crate) fn modes_of_rules(alloc: Global, sheet: &Sheet<'_>) -> Result<Vec<Vec
     Ok(lists)
 }
 
-/// The for-eaches of usages.
-fn found_eaches<'b>(alloc: Global, used: &[Usage<'b>]) -> Result<Vec<Each<'b>>, NoMemory>
-    ensures { IfOk result (λ v. eaches v.items ≡ flat_map eaches_in_usage (usages used.now)) }
-{
-    let mut found = Vec::new(alloc);
-    for usage in used {
-        eaches_in_usage(&mut found, usage)?;
-    }
-    Ok(found)
-}
-
 /// So many empty bodies.
 fn no_bodies<'b>(alloc: Global, eaches: u32) -> Result<Vec<&'b [Instr<'b>]>, NoMemory>
     ensures { IfOk result (λ v. length v.items ≡ eaches) }
@@ -284,12 +273,15 @@ fn no_bodies<'b>(alloc: Global, eaches: u32) -> Result<Vec<&'b [Instr<'b>]>, NoM
     Ok(bodies)
 }
 
-/// A for-each's body goes to its number.
-fn put_body<'b>(bodies: &mut Vec<&'b [Instr<'b>]>, each: &Each<'b>)
-    requires { each.now.number < length bodies.old.items }
-    ensures { see_bodies bodies.new.items ≡ slice_set (see_bodies bodies.old.items) each.now.number (see.body each.now.body.now) }
+/// Where a usage is that of a for-each, its body goes to its number.
+fn put_body<'b>(bodies: &mut Vec<&'b [Instr<'b>]>, usage: &Usage<'b>)
+    requires { AllByRecursion (λ x. x.number < length bodies.old.items) (eaches_in_usage (see_usage usage.now)) }
+    ensures { see_bodies bodies.new.items ≡ bodies_with (see_bodies bodies.old.items) (eaches_in_usage (see_usage usage.now)) }
 {
-    bodies[each.number as usize] = each.body;
+    let Usage::Each(number, _, body) = usage else {
+        return;
+    };
+    bodies[*number as usize] = body;
 }
 
 /// The bodies of for-eaches, each at its number.
@@ -303,10 +295,9 @@ pub(crate) fn all_eaches<'b>(
     ensures count { IfOk result (λ v. length v.items ≡ sheet.now.eaches) }
     ensures bodies { IfOk result (λ v. (f : ForEach) → Contains (eaches_of (see.sheet sheet.now)) f → slice_get (see_bodies v.items) f.number ≡ Some f.body) }
 {
-    let found = found_eaches(alloc, used)?;
     let mut bodies = no_bodies(alloc, sheet.eaches)?;
-    for each in &found {
-        put_body(&mut bodies, each);
+    for usage in used {
+        put_body(&mut bodies, usage);
     }
     Ok(bodies)
 }

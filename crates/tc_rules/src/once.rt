@@ -1,6 +1,5 @@
 // Predicates, looks and moves, each once.
 ghost use Rattle.std.specs.Prelude.{◌≡◌, ◌≤◌, ℕ, length, IfOk, OnOk};
-ghost use Rattle.std.specs.List.{list_any};
 ghost use Rattle.tc_model.specs.Numbered.{each_once, number_of};
 ghost use Rattle.tc_model.specs.Numberings.{same_move};
 ghost use Rattle.tc_model.specs.SameTests as same;
@@ -16,24 +15,14 @@ use std::alloc::Global;
 use tc_base::NoMemory;
 use tc_model::{Path, Test};
 
-fn has_test(kept: &[&Test<'_>], test: &Test<'_>) -> bool
-    ensures { result ≡ list_any (same.same_test (see.test test.now)) (predicates kept.now) }
-{
-    for other in kept {
-        if same_test(test, other) {
-            return true;
-        }
-    }
-    false
-}
-
 /// One more predicate, unless it is there.
 fn keep_test<'b>(kept: &mut Vec<&'b Test<'b>>, test: &'b Test<'b>) -> Result<(), NoMemory>
     ensures { OnOk result (predicates kept.new.items ≡ put_once same.same_test (predicates kept.old.items) (see.test test.now)) }
 {
-    if !has_test(kept, test) {
-        kept.push(test)?;
+    if number_of_test(kept, test) < kept.len() {
+        return Ok(());
     }
+    kept.push(test)?;
     Ok(())
 }
 
@@ -64,24 +53,14 @@ pub(crate) fn number_of_test(numbered: &[&Test<'_>], test: &Test<'_>) -> usize
     numbered.len()
 }
 
-fn has_path(kept: &[&Path<'_>], path: &Path<'_>) -> bool
-    ensures { result ≡ list_any (same.same_path (see.path path.now)) (looks kept.now) }
-{
-    for other in kept {
-        if same_path(path, other) {
-            return true;
-        }
-    }
-    false
-}
-
 /// One more look, unless it is there.
 fn keep_path<'b>(kept: &mut Vec<&'b Path<'b>>, path: &'b Path<'b>) -> Result<(), NoMemory>
     ensures { OnOk result (looks kept.new.items ≡ put_once same.same_path (looks kept.old.items) (see.path path.now)) }
 {
-    if !has_path(kept, path) {
-        kept.push(path)?;
+    if number_of_path(kept, path) < kept.len() {
+        return Ok(());
     }
+    kept.push(path)?;
     Ok(())
 }
 
@@ -131,26 +110,16 @@ fn same_job(modes: u32, a: &Move<'_>, b: &Move<'_>) -> bool
     mode == other && same_path(a.path, b.path)
 }
 
-fn has_move(modes: u32, kept: &[Move<'_>], other: &Move<'_>) -> bool
-    ensures { result ≡ list_any (same_move (see_move modes other.now)) (moves modes kept.now) }
-{
-    for known in kept {
-        if same_job(modes, other, known) {
-            return true;
-        }
-    }
-    false
-}
-
 /// One more move, unless it is there.
 #[tactic(auto, using(crate::proofs::JobsOf::one_more_job))]
 fn keep_move<'b>(modes: u32, kept: &mut Vec<Move<'b>>, other: &Move<'b>) -> Result<(), NoMemory>
     ensures kept { OnOk result (moves modes kept.new.items ≡ put_once same_move (moves modes kept.old.items) (see_move modes other.now)) }
     ensures jobs { OnOk result ((x : s.Sheet) → AreJobs x kept.old.items → IsJob x other.now.job → AreJobs x kept.new.items) }
 {
-    if !has_move(modes, kept, other) {
-        kept.push(*other)?;
+    if number_of_move(modes, kept, other) < kept.len() {
+        return Ok(());
     }
+    kept.push(*other)?;
     Ok(())
 }
 

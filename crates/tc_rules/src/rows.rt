@@ -69,7 +69,6 @@ fn step_has(numbered: &[&Test<'_>], step: &Step<'_>, sought: &Sought<'_>) -> boo
 }
 
 /// Which of the steps have what is asked.
-#[tactic(auto, using(crate::proofs::RowSteps::one_step_having))]
 fn steps_having(
     alloc: Global,
     numbered: &[&Test<'_>],
@@ -87,7 +86,6 @@ fn steps_having(
 }
 
 /// Which steps of all alternatives have what is asked.
-#[tactic(auto, using(crate::proofs::RowSteps::one_alternative_having))]
 pub(crate) fn row_having(
     alloc: Global,
     numbered: &[&Test<'_>],
@@ -128,7 +126,6 @@ fn first_items(alloc: Global, steps: &[Step<'_>]) -> Result<Vec<bool>, NoMemory>
 }
 
 /// The first state of a path.
-#[tactic(auto, using(crate::proofs::RowSteps::first_alternative))]
 pub(crate) fn first_row(alloc: Global, path: &[&[Step<'_>]]) -> Result<Row, NoMemory>
     ensures { IfOk result (λ r. state r ≡ p.first_state (see.alternatives path.now)) }
 {
@@ -161,7 +158,6 @@ fn is_last(bits: &[bool]) -> bool
 }
 
 /// The items of an alternative one element further down, where these steps fit it.
-#[tactic(auto, using(crate::proofs::RowSteps::further_step))]
 fn next_items(
     alloc: Global,
     steps: &[Step<'_>],
@@ -205,11 +201,8 @@ pub(crate) fn next_row(
     ensures { IfOk result (λ r. state r ≡ v.next_state (see.alternatives path.now) (state fits.now) (state row.now)) }
 {
     let mut alternatives = Vec::new(alloc);
-    for (i, steps) in path.iter().enumerate() {
-        let Some(items) = row.items_at(i) else {
-            return Ok(Row { alternatives });
-        };
-        let next = next_items(alloc, steps, fits.items_or_none(i), items)?;
+    for i in 0..path.len().min(row.alternatives.len()) {
+        let next = next_items(alloc, path[i], fits.items_or_none(i), row.items_or_none(i))?;
         alternatives.push(next)?;
     }
     Ok(Row { alternatives })
@@ -337,38 +330,11 @@ pub(crate) fn first_alike(places: &[(usize, usize)], marked: &[Row], number: usi
     number
 }
 
-/// Whether the item of a step is there that another step follows.
-fn waits_at(steps: &[Step<'_>], items: &[bool], step: usize) -> bool
-    requires { step < length steps.now }
-    ensures { result ≡ (v.has_step (see.steps (drop (step + 1) steps.now)) && get_or items.now step false) }
-{
-    step + 1 < steps.len() && bit(items, step)
-}
-
-/// Whether an item is there that may move on to a next step.
-#[tactic(auto, using(crate::proofs::RowPairs::waits_here))]
-fn item_waits(steps: &[Step<'_>], items: &[bool]) -> bool
-    ensures { result ≡ v.item_waits (see.steps steps.now) items.now }
-{
-    for (k, _step) in steps.iter().enumerate() {
-        if waits_at(steps, items, k) {
-            return true;
-        }
-    }
-    false
-}
-
-/// Whether an item of some alternative may move on.
-#[tactic(auto, using(crate::proofs::RowPairs::alternatives_wait))]
+/// Whether an item of some alternative may move on: the row stands for the steps that fit too, so each item that is there fits.
 pub(crate) fn some_item_waits(path: &[&[Step<'_>]], row: &Row) -> bool
     ensures { result ≡ v.some_item_waits (see.alternatives path.now) (state row.now) }
 {
-    for (i, steps) in path.iter().enumerate() {
-        if item_waits(steps, row.items_or_none(i)) {
-            return true;
-        }
-    }
-    false
+    some_item_moves(path, row, row)
 }
 
 /// Whether an item of some alternative moves on, if it is known whether one may.
@@ -380,7 +346,6 @@ pub(crate) fn waiting_item_moves(waits: bool, path: &[&[Step<'_>]], fits: &Row, 
 }
 
 /// The truth values that both have.
-#[tactic(auto, using(crate::proofs::RowPairs::both_item))]
 fn both_items(alloc: Global, items: &[bool], others: &[bool]) -> Result<Vec<bool>, NoMemory>
     ensures { IfOk result (λ w. w.items ≡ v.both_items items.now others.now) }
 {
@@ -494,7 +459,6 @@ impl Row {
     }
 
     /// Whether one of these alternatives ends.
-    #[tactic(auto, using(crate::proofs::HitRows::one_ending))]
     pub(crate) fn hits_by(&self, ending: &[usize], fits: &Row, marked: &Row) -> bool
         ensures { result ≡ list_any (v.ends_at (state self.now) (v.both_states (state fits.now) (state marked.now))) ending.now }
     {

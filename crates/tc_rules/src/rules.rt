@@ -534,12 +534,41 @@ fn states_of(
         map (λ m. see.path m.path.now) moves.now ++ see_paths looks.now ≡ paths_of (see.sheet sheet.now) → IsCause symbols (see.sheet sheet.now) e) }
 {
     let above = ancestors_of(source, sheet)?;
+    let selected = selected_of(source, moves, looks)?;
+    Ok(States {
+        above,
+        graphs: selected.graphs,
+        selects: selected.selects,
+        starts: selected.starts,
+    })
+}
+
+/// The select states: the graph of each path, where each state stands, and where each graph begins.
+#[derive(Drop)]
+struct Selected {
+    graphs: Vec<Graph>,
+    selects: Vec<Select>,
+    starts: Vec<u32>,
+}
+
+fn selected_of(
+    source: &Source<'_, '_>,
+    moves: &[Move<'_>],
+    looks: &[&Path<'_>],
+) -> Result<Selected, RulesFault>
+    requires { source.now.sets ≡ 2 ^ length source.now.predicates.items }
+    ensures graphs { IfOk result (λ t. (symbols : List Mention) → IsSourceOf symbols source.now → AreGraphs symbols (predicates source.now.predicates.items) (map (λ m. see.path m.path.now) moves.now ++ see_paths looks.now) (see_graphs t.graphs.items)) }
+    ensures few { IfOk result (λ t. count_states (see_graphs t.graphs.items) ≤ 4096) }
+    ensures ending { IfOk result (λ t. AllKeepEndings t.graphs.items) }
+    ensures selects { IfOk result (λ t. t.selects.items ≡ selects_from 0 (see_graphs t.graphs.items)) }
+    ensures starts { IfOk result (λ t. t.starts.items ≡ starts_from 0 (see_graphs t.graphs.items)) }
+    ensures cause { IfErr result (λ e. IsSelectCause source.now (map (λ m. see.path m.path.now) moves.now ++ see_paths looks.now) e) }
+{
     let paths = select_paths(source.alloc, moves, looks)?;
     let graphs = graphs_of(source, &paths)?;
     let selects = selects_of(source.alloc, &graphs)?;
     let starts = starts_of(source.alloc, &graphs)?;
-    Ok(States {
-        above,
+    Ok(Selected {
         graphs,
         selects,
         starts,

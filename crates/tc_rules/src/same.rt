@@ -27,40 +27,38 @@ fn same_step(a: &Step<'_>, b: &Step<'_>) -> bool
 }
 
 #[cycle(paths)]
-#[tactic(auto, using(crate::proofs::Compared::steps_short, crate::proofs::Compared::steps_over, tc_model::proofs::ViewsPath::left_step))]
 fn same_steps(a: &[Step<'_>], b: &[Step<'_>]) -> bool
     ensures { result ≡ same.same_steps (see.steps a.now) (see.steps b.now) }
 {
+    if a.len() != b.len() {
+        return false;
+    }
     let mut at = 0;
     for step in a {
-        let Some(other) = b.get(at) else {
-            return false;
-        };
-        if !same_step(step, other) {
+        if !same_step(step, &b[at]) {
             return false;
         }
         at += 1;
     }
-    at == b.len()
+    true
 }
 
 /// Whether two paths are the same.
 #[cycle(paths)]
-#[tactic(auto, using(crate::proofs::Compared::alternatives_short, crate::proofs::Compared::alternatives_over, crate::proofs::Compared::alternatives_next))]
 pub(crate) fn same_path(a: &Path<'_>, b: &Path<'_>) -> bool
     ensures { result ≡ same.same_path (see.path a.now) (see.path b.now) }
 {
+    if a.alts.len() != b.alts.len() {
+        return false;
+    }
     let mut at = 0;
     for steps in a.alts {
-        let Some(other) = b.alts.get(at) else {
-            return false;
-        };
-        if !same_steps(steps, other) {
+        if !same_steps(steps, b.alts[at]) {
             return false;
         }
         at += 1;
     }
-    at == b.alts.len()
+    true
 }
 
 /// Whether two tests are the same.
@@ -79,19 +77,18 @@ pub(crate) fn same_test(a: &Test<'_>, b: &Test<'_>) -> bool
 }
 
 #[cycle(paths)]
-#[tactic(auto, using(crate::proofs::Compared::tests_short, crate::proofs::Compared::tests_over, crate::proofs::Compared::tests_next))]
 fn same_tests(a: &[Test<'_>], b: &[Test<'_>]) -> bool
     ensures { result ≡ same.same_tests (see.tests a.now) (see.tests b.now) }
 {
+    if a.len() != b.len() {
+        return false;
+    }
     let mut at = 0;
     for test in a {
-        let Some(other) = b.get(at) else {
-            return false;
-        };
-        if !same_test(test, other) {
+        if !same_test(test, &b[at]) {
             return false;
         }
         at += 1;
     }
-    at == b.len()
+    true
 }

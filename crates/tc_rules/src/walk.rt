@@ -3,8 +3,8 @@ ghost use Rattle.std.specs.Prelude.{◌≡◌, ◌++◌, ◌∷◌, ℕ, [], OnO
 ghost use Rattle.tc_model.specs.Numberings as n;
 ghost use Rattle.tc_model.specs.Views as see;
 ghost use Rattle.tc_model.specs.Sheets as s;
-ghost use Rattle.tc_rules.specs.Usages.{usages_in, usages_in_branches, predicates_in_usage, looks_in_usage, moves_in_usage, eaches_in_usage};
-ghost use Rattle.tc_rules.specs.Views.{eaches, predicates, looks, moves, mode_of, usage as see_usage, usages};
+ghost use Rattle.tc_rules.specs.Usages.{usages_in, usages_in_branches, predicates_in_usage, looks_in_usage, moves_in_usage};
+ghost use Rattle.tc_rules.specs.Views.{predicates, looks, moves, mode_of, usage as see_usage, usages};
 
 use tc_base::NoMemory;
 use tc_model::{Branch, Instr, Path, Pattern, Step, Test};
@@ -251,35 +251,4 @@ fn add_move<'b>(found: &mut Vec<Move<'b>>, path: &'b Path<'b>, job: Job) -> Resu
 {
     found.push(Move { path, job })?;
     Ok(())
-}
-
-/// A for-each, by its number.
-#[derive(Clone, Copy)]
-pub(crate) struct Each<'b> {
-    pub(crate) number: u32,
-    pub(crate) body: &'b [Instr<'b>],
-}
-
-fn add_each<'b>(
-    found: &mut Vec<Each<'b>>,
-    number: u32,
-    body: &'b [Instr<'b>],
-) -> Result<(), NoMemory>
-    ensures { OnOk result (eaches found.new.items ≡ eaches found.old.items ++ record { number = number; body = see.body body.now } ∷ []) }
-{
-    found.push(Each { number, body })?;
-    Ok(())
-}
-
-/// The for-each of a usage.
-pub(crate) fn eaches_in_usage<'b>(
-    found: &mut Vec<Each<'b>>,
-    usage: &Usage<'b>,
-) -> Result<(), NoMemory>
-    ensures { OnOk result (eaches found.new.items ≡ eaches found.old.items ++ eaches_in_usage (see_usage usage.now)) }
-{
-    match usage {
-        Usage::Each(each, _, body) => add_each(found, *each, body),
-        Usage::Pattern(_) | Usage::Test(_) | Usage::Value(_) | Usage::Apply(_, _) => Ok(()),
-    }
 }

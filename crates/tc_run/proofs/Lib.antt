@@ -24,3 +24,4 @@ pub mod Hitting
 pub mod Ends
 pub mod FoundLow
 pub mod Asking
+pub mod Tested

@@ -2,6 +2,7 @@ pub mod Begun
 pub mod Derived
 pub mod Far
 pub mod Going
+pub mod Exits
 pub mod Grown
 pub mod Kept
 pub mod AtOneCost

@@ -1,5 +1,6 @@
 -- What stands in a body, and what no change of it is.
 use Rattle.std.proofs.Common.{◌≡◌, ◌≢◌, ℕ, List, [], ◌∷◌, ◌++◌, refl, ap, ◌∙◌, sym, subst, Option, None, Some, IsTrue, IsFalse, Result, Ok, Err, IfOk, IfErr}
+use Rattle.std.specs.Prelude.{MatchResult}
 use Rattle.tc_model.specs.Names.{ExpandedName}
 use Rattle.tc_model.specs.RawTrees.{Attribute, Bound, RawTrees, none, text, element}
 use Rattle.tc_model.specs.Trees.{is_white_space_only}
@@ -220,17 +221,13 @@ pub body_stays : (found now : List Written) (read : Option Written) → now ≡ 
 body_stays found now read e f b = ap (λ is. written_before is b) e ∙ ap (λ o. written_before found (put o b)) (sym f)
 
 -- an element that holds a body
-pub around_reads : (e : RawElem) (h : _) (x : Written) (inner : WrittenBody) → IsAround e h → IsBody (raw_trees e.kids.now) inner → ((rest : WrittenBody) → written x rest ≡ around h inner rest) → IsElementItem e (put (Some x))
+pub around_reads : (e : RawElem) (h : _) (x : Option Written) (inner : WrittenBody) → IsAround e h → IsBody (raw_trees e.kids.now) inner → ((rest : WrittenBody) → put x rest ≡ around h inner rest) → IsElementItem e (put x)
 around_reads e h x inner a i f = λ rest b y. subst (IsBody (raw_element e rest)) (sym (f b)) (a.makes rest inner b i y)
 
-pub item_ok : (t : Raw) (e : RawElem) → ((rest : RawTrees) → raw_before t rest ≡ raw_element e rest) → (r : Result (Option Written) SheetFault) → IfOk r (λ w. IsElementItem e (put w)) → IfOk r (λ w. IsItem t (put w))
-item_ok t e is (Ok w) a = item_elem t e (put w) is a
-item_ok t e is (Err x) a = tt
-
-pub item_no : (t : Raw) (e : RawElem) → ((rest : RawTrees) → raw_before t rest ≡ raw_element e rest) → (r : Result (Option Written) SheetFault) → IfErr r (λ x. Refuses x (IsIn in_body (raw_element e none)) (HasNoElementItem e))
-    → IfErr r (λ x. Refuses x (IsIn in_body (raw_before t none)) (HasNoItem t))
-item_no t e is (Ok w) a = tt
-item_no t e is (Err x) a = item_elem_refuses t e is x a
+pub item_read : (t : Raw) (e : RawElem) → ((rest : RawTrees) → raw_before t rest ≡ raw_element e rest) → (r : Result (Option Written) SheetFault)
+    → MatchResult r (λ w. IsElementItem e (put w)) (λ x. Refuses x (IsIn in_body (raw_element e none)) (HasNoElementItem e)) → MatchResult r (λ w. IsItem t (put w)) (λ x. Refuses x (IsIn in_body (raw_before t none)) (HasNoItem t))
+item_read t e is (Ok w) a = item_elem t e (put w) is a
+item_read t e is (Err x) a = item_elem_refuses t e is x a
 
 pub begun_ok : (e : RawElem) (i : Instruction) → instruction_of (name e.name) ≡ Some i → (r : Result Begun SheetFault) → IfOk r (IsBegunBy i e) → IfOk r (IsBegun e)
 begun_ok e i is (Ok w) a = begun_of e i w is a

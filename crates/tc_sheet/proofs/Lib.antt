@@ -32,3 +32,5 @@ pub mod ElementLaws
 pub mod ReadLaws
 pub mod SheetLaws
 pub mod WholeSheets
+pub mod Passed
+pub mod PutLaws

@@ -1,6 +1,6 @@
 -- Templates with numbers for modes, named templates and for-eaches, by the lists of modes and names.
 use Rattle.std.specs.Borrow.{Bor}
-use Rattle.std.specs.Prelude.{ℕ, List, map, if◌then◌else◌}
+use Rattle.std.specs.Prelude.{◌≡◌, ◌+◌, ◌++◌, ℕ, List, map, if◌then◌else◌}
 use Rattle.tc_model.specs.Names.{ExpandedName}
 use Rattle.tc_model.specs.PathTextPhrases.{Alternative}
 use Rattle.tc_model.specs.Views.{body}
@@ -37,3 +37,16 @@ module _ (modes names : List ExpandedName) where
 
   abbrev pub named_with : NumberedTemplate → List Body
   named_with t = map (λ n. body_with t) (one_name t.template.name)
+
+-- a template's body with numbers, and the next numbers of for-eaches in rules and in others behind it
+pub record IsNumberedBody (modes names : List ExpandedName) (t : Template) (b : Body) (old_in new_in old_others new_others : ℕ) : Type 0 where
+  pub is_body : b ≡ body_with modes names (numbered_template old_in old_others t)
+  pub counted_rules : new_in ≡ old_in + eaches_with_rules t
+  pub counted_others : new_others ≡ old_others + eaches_without t
+
+-- a template that is put behind the rules and the named bodies, and the next numbers of for-eaches
+pub record IsPut (modes names : List ExpandedName) (t : Template) (old_rules new_rules : List Rule) (old_named new_named : List Body) (old_in new_in old_others new_others : ℕ) : Type 0 where
+  pub rules : new_rules ≡ old_rules ++ rules_with modes names (numbered_template old_in old_others t)
+  pub named : new_named ≡ old_named ++ named_with modes names (numbered_template old_in old_others t)
+  pub counted_rules : new_in ≡ old_in + eaches_with_rules t
+  pub counted_others : new_others ≡ old_others + eaches_without t

@@ -1,5 +1,5 @@
 // Bodies of templates: texts, literal elements and instructions (XSLT 1.0, 5 to 9).
-ghost use Rattle.std.specs.Prelude.{◌≡◌, ◌≢◌, [], Some, IfOk, IfErr, OnOk, MatchBool, codes, option_map};
+ghost use Rattle.std.specs.Prelude.{◌≡◌, ◌≢◌, [], Some, IfOk, IfErr, OnOk, MatchBool, MatchResult, codes, option_map};
 ghost use Rattle.tc_model.specs.Meaning as meaning;
 ghost use Rattle.tc_model.specs.RawTrees as raws;
 ghost use Rattle.tc_model.specs.Views as see;
@@ -11,7 +11,7 @@ ghost use Rattle.tc_sheet.specs.Constructs.{MustHave, plain};
 ghost use Rattle.tc_sheet.specs.Constructs as forms;
 ghost use Rattle.tc_sheet.specs.LookedAt.{IsIn, in_body, in_choose, in_blank};
 ghost use Rattle.tc_sheet.specs.Readings.{Refuses, IsNotBlank, HasNoCharacters, HasNoInstruction, HasTest, HasNoTest, IsTested, HasNoTested, HasNoBody, IsItem, HasNoItem, IsElementItem, HasNoElementItem, HasNoBranches, alone, attributes_of, scope_of};
-ghost use Rattle.tc_sheet.specs.Views.{written, written_before, put, tag_of, body as body_of, branches as branches_before, instruction as instruction_seen};
+ghost use Rattle.tc_sheet.specs.Views.{written_before, put, tag_of, body as body_of, branches as branches_before, instruction as instruction_seen};
 ghost use Rattle.tc_sheet.specs.declared.faults.SheetFault.TheVariants as faults;
 
 use crate::attributes::{
@@ -274,20 +274,20 @@ fn instruction_with_body<'b>(
     arena: &'b Bump,
     head: Head<'b>,
     inner: &'b [Written<'b>],
-) -> Result<Written<'b>, SheetFault>
-    ensures ok { IfOk result (λ w. (rest : trees.WrittenBody) → written w rest ≡ around_seen head.entry (body_of inner.now) rest) }
+) -> Result<Option<Written<'b>>, SheetFault>
+    ensures ok { IfOk result (λ w. (rest : trees.WrittenBody) → put w rest ≡ around_seen head.entry (body_of inner.now) rest) }
     ensures no { IfErr result (λ e. e ≡ faults.NoMemory) }
 {
     match head {
-        Head::Element(name) => Ok(Written::Elem(name, inner)),
-        Head::Copy => Ok(Written::Copy(inner)),
-        Head::ForEach(path) => Ok(Written::ForEach(path, inner)),
+        Head::Element(name) => Ok(Some(Written::Elem(name, inner))),
+        Head::Copy => Ok(Some(Written::Copy(inner))),
+        Head::ForEach(path) => Ok(Some(Written::ForEach(path, inner))),
         Head::If(test) => {
             let branch: &'b WrittenBranch<'b> = arena.try_alloc(WrittenBranch {
                 test,
                 body: inner,
             })?;
-            Ok(Written::Choose(from_ref(branch), &[]))
+            Ok(Some(Written::Choose(from_ref(branch), &[])))
         }
     }
 }
@@ -296,8 +296,7 @@ fn instruction_with_body<'b>(
 #[cycle(body)]
 fn when<'b>(arena: &'b Bump, element: &RawElem<'b>) -> Result<WrittenBranch<'b>, SheetFault>
     requires { IsXsl (codes "when") (see.name element.now.name) }
-    ensures ok { IfOk result (λ b. IsTested (tag_of element.now) (see.raw_trees element.now.kids.now) (see.test b.test) (body_of b.body.now)) }
-    ensures no { IfErr result (λ e. Refuses e (IsIn in_choose (see.raw_element element.now raws.none)) (HasNoTested element.now)) }
+    ensures { MatchResult result (λ b. IsTested (tag_of element.now) (see.raw_trees element.now.kids.now) (see.test b.test) (body_of b.body.now)) (λ e. Refuses e (IsIn in_choose (see.raw_element element.now raws.none)) (HasNoTested element.now)) }
 {
     let test = test_of(arena, element)?;
     let body = body(arena, element.kids)?;
@@ -312,8 +311,7 @@ fn otherwise<'b>(
     after: &[Raw<'b>],
 ) -> Result<&'b [Written<'b>], SheetFault>
     requires { IsXsl (codes "otherwise") (see.name element.now.name) }
-    ensures ok { IfOk result (λ b. phrases.AreBranches (see.raw_element element.now (see.raw_trees after.now)) (trees.w_otherwise (body_of b.now))) }
-    ensures no { IfErr result (λ e. Refuses e (IsIn in_choose (see.raw_element element.now (see.raw_trees after.now))) (HasNoBranches (see.raw_element element.now (see.raw_trees after.now)))) }
+    ensures { MatchResult result (λ b. phrases.AreBranches (see.raw_element element.now (see.raw_trees after.now)) (trees.w_otherwise (body_of b.now))) (λ e. Refuses e (IsIn in_choose (see.raw_element element.now (see.raw_trees after.now))) (HasNoBranches (see.raw_element element.now (see.raw_trees after.now)))) }
 {
     only_attributes(element, &[])?;
     let inner = body(arena, element.kids)?;
@@ -335,16 +333,17 @@ fn is_otherwise(element: &RawElem<'_>) -> Result<bool, SheetFault>
     }
 }
 
-/// Reads the `xsl:when` elements and the body of the `xsl:otherwise`, which is empty where there is none.
+/// Reads the `xsl:when` elements, of which none was found before, and the body of the `xsl:otherwise`, which is
+/// empty where there is none.
 #[cycle(body)]
 fn read_branches<'b>(
     arena: &'b Bump,
     kids: &[Raw<'b>],
-) -> Result<(&'b [WrittenBranch<'b>], &'b [Written<'b>]), SheetFault>
-    ensures ok { IfOk result (λ r. phrases.AreBranches (see.raw_trees kids.now) (branches_before r.0.now (trees.w_otherwise (body_of r.1.now)))) }
-    ensures no { IfErr result (λ e. Refuses e (IsIn in_choose (see.raw_trees kids.now)) (HasNoBranches (see.raw_trees kids.now))) }
+    found: &mut Vec<WrittenBranch<'b>, &'b Bump>,
+) -> Result<&'b [Written<'b>], SheetFault>
+    requires { found.old.items ≡ [] }
+    ensures { MatchResult result (λ r. phrases.AreBranches (see.raw_trees kids.now) (branches_before found.new.items (trees.w_otherwise (body_of r.now)))) (λ e. Refuses e (IsIn in_choose (see.raw_trees kids.now)) (HasNoBranches (see.raw_trees kids.now))) }
 {
-    let mut found = Vec::new(arena);
     for at in 0..kids.len() {
         let kid = &kids[at];
         match kid {
@@ -356,15 +355,14 @@ fn read_branches<'b>(
             Raw::Elem(element) => {
                 let ends = is_otherwise(element)?;
                 if ends {
-                    let last = otherwise(arena, element, &kids[at + 1..])?;
-                    return Ok((into_bump_slice(found), last));
+                    return otherwise(arena, element, &kids[at + 1..]);
                 }
                 let branch = when(arena, element)?;
                 found.push(branch)?;
             }
         }
     }
-    Ok((into_bump_slice(found), &[]))
+    Ok(&[])
 }
 
 /// What an `xsl:choose` of these branches and this last body makes, which has one branch at least (XSLT 1.0, 9.2).
@@ -390,11 +388,11 @@ fn chosen<'b>(
 fn choose<'b>(arena: &'b Bump, element: &RawElem<'b>) -> Result<Option<Written<'b>>, SheetFault>
     requires choose { phrases.instruction_of (see.name element.now.name) ≡ Some phrases.i_choose }
     requires only { phrases.HasOnly [] (attributes_of element.now) }
-    ensures ok { IfOk result (λ w. IsElementItem element.now (put w)) }
-    ensures no { IfErr result (λ e. Refuses e (IsIn in_body (see.raw_element element.now raws.none)) (HasNoElementItem element.now)) }
+    ensures { MatchResult result (λ w. IsElementItem element.now (put w)) (λ e. Refuses e (IsIn in_body (see.raw_element element.now raws.none)) (HasNoElementItem element.now)) }
 {
-    let (branches, last) = read_branches(arena, element.kids)?;
-    chosen(element, branches, last)
+    let mut found = Vec::new(arena);
+    let last = read_branches(arena, element.kids, &mut found)?;
+    chosen(element, into_bump_slice(found), last)
 }
 
 /// Reads an element of a body.
@@ -403,16 +401,14 @@ fn element_of_body<'b>(
     arena: &'b Bump,
     element: &RawElem<'b>,
 ) -> Result<Option<Written<'b>>, SheetFault>
-    ensures ok { IfOk result (λ w. IsElementItem element.now (put w)) }
-    ensures no { IfErr result (λ e. Refuses e (IsIn in_body (see.raw_element element.now raws.none)) (HasNoElementItem element.now)) }
+    ensures { MatchResult result (λ w. IsElementItem element.now (put w)) (λ e. Refuses e (IsIn in_body (see.raw_element element.now raws.none)) (HasNoElementItem element.now)) }
 {
     let begun = begin(arena, element)?;
     match begun {
         Begun::Whole(written) => Ok(written),
         Begun::Around(head) => {
             let inner = body(arena, element.kids)?;
-            let written = instruction_with_body(arena, head, inner)?;
-            Ok(Some(written))
+            instruction_with_body(arena, head, inner)
         }
         Begun::Choose => choose(arena, element),
     }
@@ -421,8 +417,7 @@ fn element_of_body<'b>(
 /// Reads what stands in a body, which makes nothing where it is white space or of attributes.
 #[cycle(body)]
 fn item<'b>(arena: &'b Bump, kid: &Raw<'b>) -> Result<Option<Written<'b>>, SheetFault>
-    ensures ok { IfOk result (λ w. IsItem kid.now (put w)) }
-    ensures no { IfErr result (λ e. Refuses e (IsIn in_body (see.raw_tree kid.now)) (HasNoItem kid.now)) }
+    ensures { MatchResult result (λ w. IsItem kid.now (put w)) (λ e. Refuses e (IsIn in_body (see.raw_tree kid.now)) (HasNoItem kid.now)) }
 {
     match kid {
         Raw::Text(text, _) => {
@@ -456,8 +451,7 @@ fn put_read<'b>(
 /// Reads a body.
 #[cycle(body)]
 pub(crate) fn body<'b>(arena: &'b Bump, kids: &[Raw<'b>]) -> Result<&'b [Written<'b>], SheetFault>
-    ensures ok { IfOk result (λ b. phrases.IsBody (see.raw_trees kids.now) (body_of b.now)) }
-    ensures no { IfErr result (λ e. Refuses e (IsIn in_body (see.raw_trees kids.now)) (HasNoBody (see.raw_trees kids.now))) }
+    ensures { MatchResult result (λ b. phrases.IsBody (see.raw_trees kids.now) (body_of b.now)) (λ e. Refuses e (IsIn in_body (see.raw_trees kids.now)) (HasNoBody (see.raw_trees kids.now))) }
 {
     let mut found = Vec::new(arena);
     for kid in kids {

@@ -1,5 +1,5 @@
 // Bodies with numbers for modes, named templates and for-eaches.
-ghost use Rattle.std.specs.Prelude.{◌≡◌, ◌+◌, ◌++◌, filter, map, option_map, IfOk, IfErr, OnOk};
+ghost use Rattle.std.specs.Prelude.{◌≡◌, ◌+◌, ◌++◌, filter, map, option_map, IfOk, IfErr, MatchResult, OnOk};
 ghost use Rattle.tc_model.specs.Names.{same_name};
 ghost use Rattle.tc_model.specs.Numbered.{number_of};
 ghost use Rattle.tc_model.specs.Views as see;
@@ -7,7 +7,7 @@ ghost use Rattle.tc_model.specs.SheetText as model;
 ghost use Rattle.tc_model.specs.SheetTextTrees as trees;
 ghost use Rattle.tc_path.specs.Views.{alternative};
 ghost use Rattle.tc_sheet.specs.Graphs.{alone};
-ghost use Rattle.tc_sheet.specs.Numbers.{bodies, body_with, eaches_with_rules as with_rules, eaches_without, named_with, numbered_template, rule_from, rules_with};
+ghost use Rattle.tc_sheet.specs.Numbers.{IsNumberedBody, IsPut, bodies, eaches_with_rules as with_rules, rule_from};
 ghost use Rattle.tc_sheet.specs.Views.{body as body_seen, branches as branches_before, branches_of, written, template as template_seen};
 ghost use Rattle.tc_sheet.specs.SeenCalls.{names_seen};
 ghost use Rattle.tc_sheet.specs.declared.faults.SheetFault.TheVariants.{NoMemory};
@@ -169,9 +169,7 @@ fn numbered_branches<'b>(
     branches: &[WrittenBranch<'b>],
     next: &mut u32,
 ) -> Result<&'b [Branch<'b>], SheetFault>
-    ensures ok { IfOk result (λ r. (rest : trees.WrittenBranches) → see.branches r.now (model.numbered_branches (names_seen tables.now.modes.now) (names_seen tables.now.names.now) next.new rest) ≡ model.numbered_branches (names_seen tables.now.modes.now) (names_seen tables.now.names.now) next.old (branches_before branches.now rest)) }
-    ensures counted { OnOk result (next.new ≡ next.old + model.eaches_in_branches (branches_of branches.now)) }
-    ensures no { IfErr result (λ e. e ≡ NoMemory) }
+    ensures { MatchResult result (λ r. ((rest : trees.WrittenBranches) → see.branches r.now (model.numbered_branches (names_seen tables.now.modes.now) (names_seen tables.now.names.now) next.new rest) ≡ model.numbered_branches (names_seen tables.now.modes.now) (names_seen tables.now.names.now) next.old (branches_before branches.now rest)) × (next.new ≡ next.old + model.eaches_in_branches (branches_of branches.now))) (λ e. e ≡ NoMemory) }
 {
     let mut found = Vec::new(arena);
     for branch in branches {
@@ -204,9 +202,7 @@ fn numbered_one<'b>(
     instruction: &Written<'b>,
     next: &mut u32,
 ) -> Result<Instr<'b>, SheetFault>
-    ensures ok { IfOk result (λ r. (rest : trees.WrittenBody) → see.instruction r (model.numbered (names_seen tables.now.modes.now) (names_seen tables.now.names.now) next.new rest) ≡ model.numbered (names_seen tables.now.modes.now) (names_seen tables.now.names.now) next.old (written instruction.now rest)) }
-    ensures counted { OnOk result (next.new ≡ next.old + model.eaches_in (alone (written instruction.now))) }
-    ensures no { IfErr result (λ e. e ≡ NoMemory) }
+    ensures { MatchResult result (λ r. ((rest : trees.WrittenBody) → see.instruction r (model.numbered (names_seen tables.now.modes.now) (names_seen tables.now.names.now) next.new rest) ≡ model.numbered (names_seen tables.now.modes.now) (names_seen tables.now.names.now) next.old (written instruction.now rest)) × (next.new ≡ next.old + model.eaches_in (alone (written instruction.now)))) (λ e. e ≡ NoMemory) }
 {
     match instruction {
         Written::Text(text) => Ok(Instr::Text(text)),
@@ -249,9 +245,7 @@ fn numbered<'b>(
     body: &[Written<'b>],
     next: &mut u32,
 ) -> Result<&'b [Instr<'b>], SheetFault>
-    ensures ok { IfOk result (λ r. see.body r.now ≡ model.numbered (names_seen tables.now.modes.now) (names_seen tables.now.names.now) next.old (body_seen body.now)) }
-    ensures counted { OnOk result (next.new ≡ next.old + model.eaches_in (body_seen body.now)) }
-    ensures no { IfErr result (λ e. e ≡ NoMemory) }
+    ensures { MatchResult result (λ r. (see.body r.now ≡ model.numbered (names_seen tables.now.modes.now) (names_seen tables.now.names.now) next.old (body_seen body.now)) × (next.new ≡ next.old + model.eaches_in (body_seen body.now))) (λ e. e ≡ NoMemory) }
 {
     let mut found = Vec::new(arena);
     for instruction in body {
@@ -290,10 +284,7 @@ fn body_of<'b>(
     in_rules: &mut u32,
     others: &mut u32,
 ) -> Result<&'b [Instr<'b>], SheetFault>
-    ensures ok { IfOk result (λ r. see.body r.now ≡ body_with (names_seen tables.now.modes.now) (names_seen tables.now.names.now) (numbered_template in_rules.old others.old (template_seen template.now))) }
-    ensures counted_rules { OnOk result (in_rules.new ≡ in_rules.old + with_rules (template_seen template.now)) }
-    ensures counted_others { OnOk result (others.new ≡ others.old + eaches_without (template_seen template.now)) }
-    ensures no { IfErr result (λ e. e ≡ NoMemory) }
+    ensures { MatchResult result (λ r. IsNumberedBody (names_seen tables.now.modes.now) (names_seen tables.now.names.now) (template_seen template.now) (see.body r.now) in_rules.old in_rules.new others.old others.new) (λ e. e ≡ NoMemory) }
 {
     if template.makes_rules() {
         numbered(arena, tables, template.body, in_rules)
@@ -308,8 +299,7 @@ fn put_named<'b>(
     template: &Template<'b>,
     body: &'b [Instr<'b>],
 ) -> Result<(), SheetFault>
-    ensures ok { OnOk result (bodies named.new.items ≡ bodies named.old.items ++ map (λ n. see.body body.now) (model.one_name (template_seen template.now).name)) }
-    ensures no { IfErr result (λ e. e ≡ NoMemory) }
+    ensures { MatchResult result (λ _. bodies named.new.items ≡ bodies named.old.items ++ map (λ n. see.body body.now) (model.one_name (template_seen template.now).name)) (λ e. e ≡ NoMemory) }
 {
     if template.name.is_some() {
         named.push(body)?;
@@ -335,11 +325,7 @@ impl<'b> Parts<'b> {
         tables: &Tables<'_, 'b>,
         template: &Template<'b>,
     ) -> Result<(), SheetFault>
-        ensures rules { OnOk result (map see.rule self.new.rules.items ≡ map see.rule self.old.rules.items ++ rules_with (names_seen tables.now.modes.now) (names_seen tables.now.names.now) (numbered_template self.old.in_rules self.old.others (template_seen template.now))) }
-        ensures named { OnOk result (bodies self.new.named.items ≡ bodies self.old.named.items ++ named_with (names_seen tables.now.modes.now) (names_seen tables.now.names.now) (numbered_template self.old.in_rules self.old.others (template_seen template.now))) }
-        ensures counted_rules { OnOk result (self.new.in_rules ≡ self.old.in_rules + with_rules (template_seen template.now)) }
-        ensures counted_others { OnOk result (self.new.others ≡ self.old.others + eaches_without (template_seen template.now)) }
-        ensures no { IfErr result (λ e. e ≡ NoMemory) }
+        ensures { MatchResult result (λ _. IsPut (names_seen tables.now.modes.now) (names_seen tables.now.names.now) (template_seen template.now) (map see.rule self.old.rules.items) (map see.rule self.new.rules.items) (bodies self.old.named.items) (bodies self.new.named.items) self.old.in_rules self.new.in_rules self.old.others self.new.others) (λ e. e ≡ NoMemory) }
     {
         let body = body_of(
             arena,

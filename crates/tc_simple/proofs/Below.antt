@@ -1,5 +1,6 @@
 -- What is found in a pattern that is found in its parts alone.
-use Rattle.std.proofs.Common.{◌≡◌, ◌⊎◌, inl, inr, ℕ, Bool, false, List, [], ◌∷◌, refl, ap, ◌∙◌, sym, subst, Option, None, Bor}
+use Rattle.std.proofs.Common.{◌≡◌, ◌⊎◌, inl, inr, ℕ, Bool, true, false, List, [], ◌∷◌, ◌++◌, refl, ap, ◌∙◌, sym, subst, map, append_assoc, Option, None, Bor}
+use Rattle.std.proofs.lemmas.List.{map-append}
 use Rattle.std.specs.List.{filter_map, cons_option}
 use Rattle.tc_model.specs.Grammars as g
 use Rattle.tc_model.specs.Views as seen
@@ -17,7 +18,10 @@ use Rattle.tc_rnc.specs.declared.syntax.SPat.TheViews.{roll-SPat, out-SPat, roll
 use Rattle.tc_rnc.specs.declared.syntax.SPat.TheVariants as v
 use Rattle.tc_rnc.proofs.Views.{see_empty, see_not_allowed, see_text, see_attribute, see_ref, see_element, see_mixed, see_optional, see_zero_or_more, see_one_or_more, see_group, see_choice, see_interleave}
 use Rattle.tc_simple.specs.Becoming.{all_become, among, around, becomes}
-use Rattle.tc_simple.specs.Nodes.{nodes, nodes_of_all, target, element_of, loop_at}
+use Rattle.tc_simple.specs.Nodes.{nodes, nodes_of_all, target, element_of, loop_at, see_element as see_elem}
+use Rattle.tc_simple.specs.Sizes.{above, leaf, size_of, sizes_of, two}
+use Rattle.tc_simple.specs.declared.counts.Size.{Size}
+use Rattle.tc_simple.specs.declared.elements.Elem.{Elem}
 use Rattle.tc_simple.specs.declared.groups.Table.{Table}
 use Rattle.tc_graph.specs.declared.cycles.State.{State}
 
@@ -135,6 +139,48 @@ loop_skips t states k = record {
   choice = λ ps. refl;
   interleave = λ ps. refl;
 }
+
+-- an element is found before those in it
+element_first : (x : SPat) (place : Place) (c : SClass) (q : Bor SPat) → x ≡ v.Element place c q
+    → filter_map element_of (nodes true (see.pattern x)) ≡ see_elem (record { place = place; names = c; content = q.now }) ∷ filter_map element_of (nodes true (see.pattern q.now))
+element_first x place c q e = ap (λ z. filter_map element_of (nodes true z)) (ap see.pattern e ∙ see_element place c q)
+
+pub element_found : {out : List Element} (old found : List Elem) (x : SPat) (place : Place) (c : SClass) (q : Bor SPat) → x ≡ v.Element place c q → found ≡ old ++ record { place = place; names = c; content = q.now } ∷ []
+    → out ≡ map see_elem found ++ filter_map element_of (nodes true (see.pattern q.now)) → out ≡ map see_elem old ++ filter_map element_of (nodes true (see.pattern x))
+element_found old found x place c q e f h =
+    let one : Elem = record { place = place; names = c; content = q.now } in
+    let below = filter_map element_of (nodes true (see.pattern q.now)) in
+    h
+    ∙ (ap (λ z. map see_elem z ++ below) f
+    ∙ (ap (λ z. z ++ below) (map-append see_elem old (one ∷ []))
+    ∙ (append_assoc (map see_elem old) (see_elem one ∷ []) below ∙ ap (λ z. map see_elem old ++ z) (sym (element_first x place c q e)))))
+
+-- what counts as one node
+pub one_node : (f : List ℕ → Size) (x : SPat) → (x ≡ v.Empty) ⊎ ((x ≡ v.NotAllowed) ⊎ ((x ≡ v.Text) ⊎ ((x ≡ v.Attribute) ⊎ IsElement x))) → leaf ≡ size_of f (see.pattern x)
+one_node f x (inl e) = ap (size_of f) (sym (ap see.pattern e ∙ see_empty))
+one_node f x (inr (inl e)) = ap (size_of f) (sym (ap see.pattern e ∙ see_not_allowed))
+one_node f x (inr (inr (inl e))) = ap (size_of f) (sym (ap see.pattern e ∙ see_text))
+one_node f x (inr (inr (inr (inl e)))) = ap (size_of f) (sym (ap see.pattern e ∙ see_attribute))
+one_node f x (inr (inr (inr (inr (place, c, q, e))))) = ap (size_of f) (sym (ap see.pattern e ∙ see_element place c q))
+
+pub mixed_size : (f : List ℕ → Size) (x : SPat) (q : Bor SPat) {a b c d : Size} → x ≡ v.Mixed q → a ≡ above b → b ≡ two d c → c ≡ size_of f (see.pattern q.now) → d ≡ leaf → a ≡ size_of f (see.pattern x)
+mixed_size f x q {c = c} {d = d} e g h k l =
+    g ∙ (ap above h ∙ (ap (λ z. above (two d z)) k ∙ (ap (λ z. above (two z (size_of f (see.pattern q.now)))) l ∙ ap (size_of f) (sym (ap see.pattern e ∙ see_mixed q)))))
+
+pub optional_size : (f : List ℕ → Size) (x : SPat) (q : Bor SPat) {a b c d : Size} → x ≡ v.Optional q → a ≡ above b → b ≡ two c d → c ≡ size_of f (see.pattern q.now) → d ≡ leaf → a ≡ size_of f (see.pattern x)
+optional_size f x q {c = c} {d = d} e g h k l =
+    g ∙ (ap above h ∙ (ap (λ z. above (two z d)) k ∙ (ap (λ z. above (two (size_of f (see.pattern q.now)) z)) l ∙ ap (size_of f) (sym (ap see.pattern e ∙ see_optional q)))))
+
+pub repeated_size : (f : List ℕ → Size) (x : SPat) (q : Bor SPat) {a b c d m : Size} → x ≡ v.ZeroOrMore q → a ≡ above b → b ≡ two c d → c ≡ above m → m ≡ size_of f (see.pattern q.now) → d ≡ leaf → a ≡ size_of f (see.pattern x)
+repeated_size f x q {d = d} e g h k m l =
+    g
+    ∙ (ap above h
+    ∙ (ap (λ z. above (two z d)) (k ∙ ap above m) ∙ (ap (λ z. above (two (above (size_of f (see.pattern q.now))) z)) l ∙ ap (size_of f) (sym (ap see.pattern e ∙ see_zero_or_more q)))))
+
+pub several_sizes : (f : List ℕ → Size) (x : SPat) (qs : Bor (List SPat)) → HasParts x qs → above (sizes_of f (see.patterns qs.now)) ≡ size_of f (see.pattern x)
+several_sizes f x qs (inl e) = ap (size_of f) (sym (ap see.pattern e ∙ see_group qs))
+several_sizes f x qs (inr (inl e)) = ap (size_of f) (sym (ap see.pattern e ∙ see_choice qs))
+several_sizes f x qs (inr (inr e)) = ap (size_of f) (sym (ap see.pattern e ∙ see_interleave qs))
 
 -- what a pattern becomes without parts, and one whose parts became so
 pub empty_becomes : (f : List ℕ → g.Pattern) (es : List Element) (x : SPat) → (x ≡ v.Empty) ⊎ (x ≡ v.Attribute) → seen.pattern made_variants.Empty ≡ becomes f es (see.pattern x)

@@ -29,7 +29,8 @@ abbrev mutual
   all_become f es no_more = g.no_more
   all_become f es (more p ps) = g.more (becomes f es p) (all_become f es ps)
 
--- what an operator makes of what its part became, and a connector of what its parts became
+-- what an operator makes of what its part became (any other pattern: the part), and a connector of what its parts became (any other pattern: an
+-- interleave)
 abbrev pub around : SyntaxPattern → g.Pattern → g.Pattern
 around (mixed p) part = g.interleave (both g.text part)
 around (optional p) part = g.choice (both part g.empty)

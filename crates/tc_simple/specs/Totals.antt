@@ -18,7 +18,7 @@ total_of t sizes all (e ∷ es) = total_of t sizes (two all (size_of (size_in t 
 abbrev pub element_patterns_of : Table → List Pat → List Element → List Element → List ElementPattern
 element_patterns_of t made numbered es = map (λ e. record { names = name_class e.names; content = becomes (made_in t made) numbered e.content }) es
 
--- a size and a number of element patterns are those of a grammar
+-- a size and a number of element patterns are those of a grammar (of nodes and depth beyond 64 bits, the greatest number)
 pub record IsSizeOf (grammar : Grammar) (z : Size) (count : ℕ) : Type 0 where
   pub nodes : z.nodes ≡ capped (grammar_nodes grammar)
   pub depth : z.depth ≡ capped (grammar_depth grammar)

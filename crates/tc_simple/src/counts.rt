@@ -65,7 +65,8 @@ pub fn measure<'b>(table: &Table<'b>, sizes: &[Size], pattern: &SPat<'b>) -> Siz
             .under(),
         SPat::OneOrMore(p) => measure(table, sizes, p).under(),
         SPat::Group(ps) | SPat::Choice(ps) | SPat::Interleave(ps) => measure_all(table, sizes, ps),
-        _ => Size::leaf(),
+        SPat::Empty | SPat::NotAllowed | SPat::Text | SPat::Attribute | SPat::Element(_, _, _) =>
+            Size::leaf(),
     }
 }
 

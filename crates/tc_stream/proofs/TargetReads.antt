@@ -23,7 +23,7 @@ use Rattle.tc_stream.specs.Scans.{instruction_scan, going}
 use Rattle.tc_stream.specs.Stands.{ReadsTo}
 use Rattle.tc_stream.specs.Targeting.{IsTargeting}
 use Rattle.tc_stream.specs.Targeting as kept
-use Rattle.tc_stream.specs.Targets.{more, then_white, then_question, untargeted, targeted_next}
+use Rattle.tc_stream.specs.Targets.{Targeted, more, then_white, then_question, untargeted, targeted_next}
 use Rattle.tc_stream.specs.declared.faults.StreamFault.{StreamFault}
 use Rattle.tc_stream.specs.declared.faults.StreamFault.TheVariants as faults
 use Rattle.tc_stream.specs.declared.parts.Part.TheVariants as parts
@@ -65,27 +65,62 @@ xml_name = (0x78, codes "ml", mark_encoded (codes "xml") [] refl, refl, refl)
 
 -- what a character says of a target
 
+-- of a part that goes on, or ends before one of two
+abbrev Next : Bool → Bool → Bool → List ℕ → List ℕ → Targeted
+Next x y z longer so_far = cond x (more longer) (cond y (then_white so_far) (cond z (then_question so_far) untargeted))
+
+goes_on : (x : Bool) (w : List ℕ) {v : List ℕ} → cond x (more w) untargeted ≡ more v → (x ≡ true) × (w ≡ v)
+goes_on true w k = (refl, cc)
+goes_on false w k = absurd (cc)
+
+no_white_first : (x : Bool) (w : List ℕ) {v : List ℕ} → cond x (more w) untargeted ≡ then_white v → ⊥
+no_white_first true w k = cc
+no_white_first false w k = cc
+
+no_question_first : (x : Bool) (w : List ℕ) {v : List ℕ} → cond x (more w) untargeted ≡ then_question v → ⊥
+no_question_first true w k = cc
+no_question_first false w k = cc
+
+none_first : (x : Bool) (w : List ℕ) → cond x (more w) untargeted ≡ untargeted → x ≡ false
+none_first true w k = absurd (cc)
+none_first false w k = refl
+
+more_next : (x y z : Bool) (w s : List ℕ) {v : List ℕ} → Next x y z w s ≡ more v → (x ≡ true) × (w ≡ v)
+more_next true y z w s k = (refl, cc)
+more_next false true z w s k = absurd (cc)
+more_next false false true w s k = absurd (cc)
+more_next false false false w s k = absurd (cc)
+
+white_next : (x y z : Bool) (w s : List ℕ) {v : List ℕ} → Next x y z w s ≡ then_white v → (x ≡ false) × (y ≡ true) × (s ≡ v)
+white_next true y z w s k = absurd (cc)
+white_next false true z w s k = (refl, refl, cc)
+white_next false false true w s k = absurd (cc)
+white_next false false false w s k = absurd (cc)
+
+question_next : (x y z : Bool) (w s : List ℕ) {v : List ℕ} → Next x y z w s ≡ then_question v → (x ≡ false) × (z ≡ true) × (s ≡ v)
+question_next true y z w s k = absurd (cc)
+question_next false true z w s k = absurd (cc)
+question_next false false true w s k = (refl, refl, cc)
+question_next false false false w s k = absurd (cc)
+
+none_next : (x y z : Bool) (w s : List ℕ) → Next x y z w s ≡ untargeted → (x ≡ false) × (y ≡ false) × (z ≡ false)
+none_next true y z w s k = absurd (cc)
+none_next false true z w s k = absurd (cc)
+none_next false false true w s k = absurd (cc)
+none_next false false false w s k = (refl, refl, refl)
+
 -- the name goes on
 record Longer (name written : List ℕ) (c : ℕ) : Type 0 where
   is : written ≡ name ++ encode_utf8 c
   lawful : IsNcName written
 
 longer_of : (state : Option (List ℕ)) (name : List ℕ) (c : ℕ) (written : List ℕ) → IsTargetSoFar state name → targeted_next state c ≡ more written → Longer name written c
-longer_of None name c written empty e = by (is_ncname_start c) refl e
-  where
-    by : (x : Bool) → is_ncname_start c ≡ x → cond x (more (encode_utf8 c)) untargeted ≡ more written → Longer name written c
-    by true h k =
-        let same : encode_utf8 c ≡ written = cc in record { is = sym same ∙ sym (ap (λ z. z ++ encode_utf8 c) empty); lawful = subst (λ z. IsNcName z) same (first_name c h) }
-    by false h k = absurd (cc)
-longer_of (Some so_far) name c written (same, lawful) e = by (is_ncname_char c) (is_white c) (c == 0x3F) refl e
-  where
-    by : (x y z : Bool) → is_ncname_char c ≡ x → cond x (more (so_far ++ encode_utf8 c)) (cond y (then_white so_far) (cond z (then_question so_far) untargeted)) ≡ more written → Longer name written c
-    by true y z h k =
-        let is : so_far ++ encode_utf8 c ≡ written = cc in
-        record { is = sym is ∙ ap (λ w. w ++ encode_utf8 c) (sym same); lawful = subst (λ w. IsNcName w) is (longer_name so_far c lawful h) }
-    by false true z h k = absurd (cc)
-    by false false true h k = absurd (cc)
-    by false false false h k = absurd (cc)
+longer_of None name c written empty e =
+    let both = goes_on (is_ncname_start c) (encode_utf8 c) e in
+    record { is = sym both.1 ∙ sym (ap (λ z. z ++ encode_utf8 c) empty); lawful = subst (λ z. IsNcName z) both.1 (first_name c both.0) }
+longer_of (Some so_far) name c written (same, lawful) e =
+    let both = more_next (is_ncname_char c) (is_white c) (c == 0x3F) (so_far ++ encode_utf8 c) so_far e in
+    record { is = sym both.1 ∙ ap (λ w. w ++ encode_utf8 c) (sym same); lawful = subst (λ w. IsNcName w) both.1 (longer_name so_far c lawful both.0) }
 
 -- it has ended, and this follows
 pub record Ended (name written : List ℕ) (c : ℕ) (is_next : ℕ → Bool) : Type 0 where
@@ -95,37 +130,19 @@ pub record Ended (name written : List ℕ) (c : ℕ) (is_next : ℕ → Bool) : 
   pub no_char : is_ncname_char c ≡ false
 
 pub white_of : (state : Option (List ℕ)) (name : List ℕ) (c : ℕ) (written : List ℕ) → IsTargetSoFar state name → targeted_next state c ≡ then_white written → Ended name written c is_white
-white_of None name c written empty e = by (is_ncname_start c) e
-  where
-    by : (x : Bool) → cond x (more (encode_utf8 c)) untargeted ≡ then_white written → Ended name written c is_white
-    by true k = absurd (cc)
-    by false k = absurd (cc)
-white_of (Some so_far) name c written (same, lawful) e = by (is_ncname_char c) (is_white c) (c == 0x3F) refl refl e
-  where
-    by : (x y z : Bool) → is_ncname_char c ≡ x → is_white c ≡ y → cond x (more (so_far ++ encode_utf8 c)) (cond y (then_white so_far) (cond z (then_question so_far) untargeted)) ≡ then_white written
-        → Ended name written c is_white
-    by true y z h i k = absurd (cc)
-    by false true z h i k = let is : so_far ≡ written = cc in record { is = sym is ∙ sym same; lawful = subst (λ w. IsNcName w) (sym same) lawful; next = i; no_char = h }
-    by false false true h i k = absurd (cc)
-    by false false false h i k = absurd (cc)
+white_of None name c written empty e = absurd (no_white_first (is_ncname_start c) (encode_utf8 c) e)
+white_of (Some so_far) name c written (same, lawful) e =
+    let all = white_next (is_ncname_char c) (is_white c) (c == 0x3F) (so_far ++ encode_utf8 c) so_far e in
+    record { is = sym all.2 ∙ sym same; lawful = subst (λ w. IsNcName w) (sym same) lawful; next = all.1; no_char = all.0 }
 
 abbrev is_question : ℕ → Bool
 is_question c = c == 0x3F
 
 question_of : (state : Option (List ℕ)) (name : List ℕ) (c : ℕ) (written : List ℕ) → IsTargetSoFar state name → targeted_next state c ≡ then_question written → Ended name written c is_question
-question_of None name c written empty e = by (is_ncname_start c) e
-  where
-    by : (x : Bool) → cond x (more (encode_utf8 c)) untargeted ≡ then_question written → Ended name written c is_question
-    by true k = absurd (cc)
-    by false k = absurd (cc)
-question_of (Some so_far) name c written (same, lawful) e = by (is_ncname_char c) (is_white c) (c == 0x3F) refl refl e
-  where
-    by : (x y z : Bool) → is_ncname_char c ≡ x → (c == 0x3F) ≡ z → cond x (more (so_far ++ encode_utf8 c)) (cond y (then_white so_far) (cond z (then_question so_far) untargeted)) ≡ then_question written
-        → Ended name written c is_question
-    by true y z h i k = absurd (cc)
-    by false true z h i k = absurd (cc)
-    by false false true h i k = let is : so_far ≡ written = cc in record { is = sym is ∙ sym same; lawful = subst (λ w. IsNcName w) (sym same) lawful; next = i; no_char = h }
-    by false false false h i k = absurd (cc)
+question_of None name c written empty e = absurd (no_question_first (is_ncname_start c) (encode_utf8 c) e)
+question_of (Some so_far) name c written (same, lawful) e =
+    let all = question_next (is_ncname_char c) (is_white c) (c == 0x3F) (so_far ++ encode_utf8 c) so_far e in
+    record { is = sym all.2 ∙ sym same; lawful = subst (λ w. IsNcName w) (sym same) lawful; next = all.1; no_char = all.0 }
 
 -- there is no such target
 data Broken (name : List ℕ) (c : ℕ) : Type 0 where
@@ -133,18 +150,10 @@ data Broken (name : List ℕ) (c : ℕ) : Type 0 where
   no_end : IsNcName name → is_ncname_char c ≡ false → is_white c ≡ false → (c == 0x3F) ≡ false → Broken name c
 
 broken_of : (state : Option (List ℕ)) (name : List ℕ) (c : ℕ) → IsTargetSoFar state name → targeted_next state c ≡ untargeted → Broken name c
-broken_of None name c empty e = by (is_ncname_start c) refl e
-  where
-    by : (x : Bool) → is_ncname_start c ≡ x → cond x (more (encode_utf8 c)) untargeted ≡ untargeted → Broken name c
-    by true h k = absurd (cc)
-    by false h k = no_start empty h
-broken_of (Some so_far) name c (same, lawful) e = by (is_ncname_char c) (is_white c) (c == 0x3F) refl refl refl e
-  where
-    by : (x y z : Bool) → is_ncname_char c ≡ x → is_white c ≡ y → (c == 0x3F) ≡ z → cond x (more (so_far ++ encode_utf8 c)) (cond y (then_white so_far) (cond z (then_question so_far) untargeted)) ≡ untargeted → Broken name c
-    by true y z h i j k = absurd (cc)
-    by false true z h i j k = absurd (cc)
-    by false false true h i j k = absurd (cc)
-    by false false false h i j k = no_end (subst (λ w. IsNcName w) (sym same) lawful) h i j
+broken_of None name c empty e = no_start empty (none_first (is_ncname_start c) (encode_utf8 c) e)
+broken_of (Some so_far) name c (same, lawful) e =
+    let all = none_next (is_ncname_char c) (is_white c) (c == 0x3F) (so_far ++ encode_utf8 c) so_far e in
+    no_end (subst (λ w. IsNcName w) (sym same) lawful) all.0 all.1 all.2
 
 -- no XML declaration
 

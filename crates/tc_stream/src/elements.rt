@@ -93,9 +93,9 @@ impl<'h> Elements<'h> {
         ensures keeps { IfOk result (λ r. Keeps r [] first_scope) }
         ensures steps { IfOk result (λ r. (x other : g.Grammar) (sheet : Sheet) → a.Stands s.input x auto.now → alphabet.now ≡ symbols_of x other sheet → AreSteps x r.validity [] []) }
     {
-        let validity = Validity::new(alloc, auto, alphabet, DEEPEST)?;
-        let rooms = Rooms::new(alloc)?;
         let levels = Vec::with_capacity(alloc, DEEPEST)?;
+        let rooms = Rooms::new(alloc)?;
+        let validity = Validity::new(alloc, auto, alphabet, DEEPEST)?;
         Ok(Elements {
             validity,
             rooms,

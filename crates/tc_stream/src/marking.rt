@@ -88,23 +88,9 @@ impl Reader<'_> {
         ensures ok { OnOk result (ReadsChar self.old self.new next) }
         ensures fault { IfErr result (λ e. FaultsAtChar self.old next e) }
     {
-        match self.phase {
-            Phase::End => Err(malformed(self.begun)),
-            _ => self.begin_name(next),
+        if let Phase::End = self.phase {
+            return Err(malformed(self.begun));
         }
-    }
-
-    /// Begins a start tag or an empty-element tag with the first character of its name.
-    fn begin_name(&mut self, next: char) -> Result<(), StreamFault>
-        requires ready { IsReading self.old }
-        requires part { self.old.part ≡ Part.Markup }
-        requires not_end { self.old.phase ≢ Phase.End }
-        requires no_mark { next ≢ 0x21 }
-        requires no_target { next ≢ 0x3F }
-        requires no_slash { next ≢ 0x2F }
-        ensures ok { OnOk result (ReadsChar self.old self.new next) }
-        ensures fault { IfErr result (λ e. FaultsAtChar self.old next e) }
-    {
         if !is_ncname_start(next) {
             return Err(malformed(self.no_tag()));
         }

@@ -189,35 +189,19 @@ pub(crate) fn take(
     take_cut(reader, cut, at, piece)
 }
 
-/// The end of a text behind whole characters, at a place.
-fn ended(reader: Reader<'_>, place: u32) -> Result<bool, StreamFault>
-    requires { place ≤ 67108864 }
-    ensures ok { (x : g.Grammar) (chars : List ℕ) → IsStart x.start → length chars ≡ place → ReadsTo x reader.entry chars
-        → IfOk result (λ b. (h : RawTrees) × IsGood chars h × (IsTrue b ↔ IsValid x (stripped h))) }
-    ensures fault { (x : g.Grammar) (chars : List ℕ) → length chars ≡ place → ReadsTo x reader.entry chars → IfErr result (λ e. IsFaultOf chars e) }
-{
-    let mut reader = reader;
-    if reader.is_at_end() {
-        Ok(reader.elements.is_valid())
-    } else {
-        Err(reader.stopped(place))
-    }
-}
-
 /// The end of a text at a place.
-pub(crate) fn finished(reader: Reader<'_>, cut: Cut, fed: u32) -> Result<bool, StreamFault>
+pub(crate) fn finished(reader: &mut Reader<'_>, cut: Cut, fed: u32) -> Result<bool, StreamFault>
     requires within { length (cut_bytes cut) ≤ fed }
     requires room { fed ≤ 67108864 }
-    ensures ok { (x : g.Grammar) (chars : List ℕ) → IsStart x.start → length chars + length (cut_bytes cut) ≡ fed → ReadsTo x reader.entry chars
+    ensures ok { (x : g.Grammar) (chars : List ℕ) → IsStart x.start → length chars + length (cut_bytes cut) ≡ fed → ReadsTo x reader.old chars
         → IfOk result (λ b. (h : RawTrees) × IsGood (chars ++ cut_bytes cut) h × (IsTrue b ↔ IsValid x (stripped h))) }
-    ensures fault { (x : g.Grammar) (chars : List ℕ) → length chars + length (cut_bytes cut) ≡ fed → BeginsNoChar (cut_bytes cut) → ReadsTo x reader.entry chars
+    ensures fault { (x : g.Grammar) (chars : List ℕ) → length chars + length (cut_bytes cut) ≡ fed → BeginsNoChar (cut_bytes cut) → ReadsTo x reader.old chars
         → IfErr result (λ e. IsFaultOf (chars ++ cut_bytes cut) e) }
 {
     let left = cut.bytes().len() as u32;
-    if left == 0 {
-        return ended(reader, fed);
+    if left == 0 && reader.is_at_end() {
+        return Ok(reader.elements.is_valid());
     }
-    let mut reader = reader;
     let place = fed - left;
     Err(reader.stopped(place))
 }

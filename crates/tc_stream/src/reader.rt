@@ -45,8 +45,8 @@ impl<'h> Reader<'h> {
         ensures reads { IfOk result (λ r. (x other : g.Grammar) (sheet : sh.Sheet) → a.Stands s.input x auto.now
             → alphabet.now ≡ symbols_of x other sheet → ReadsTo x r []) }
     {
-        let elements = Elements::new(alloc, auto, alphabet)?;
         let tag = Room::new(alloc, LONGEST_TAG)?;
+        let elements = Elements::new(alloc, auto, alphabet)?;
         Ok(Reader {
             elements,
             tag,

@@ -73,22 +73,15 @@ fn behind_number_sign(next: char) -> Referred
     }
 }
 
-/// What a reference comes to whose digits have ended.
-fn numbered(number: Number) -> Referred
-    ensures { TellsReferred result (scan.of_number number.value) }
-{
-    match number.character() {
-        Some(c) => Referred::Character(c),
-        None => Referred::Malformed,
-    }
-}
-
 /// What the character behind some digits makes of a reference.
 fn behind_digits(number: Number, next: char) -> Referred
     ensures { TellsReferred result (scan.referred_next (scan.digits number.base number.value) next) }
 {
     if next == ';' {
-        return numbered(number);
+        return match number.character() {
+            Some(c) => Referred::Character(c),
+            None => Referred::Malformed,
+        };
     }
     match number.and(next) {
         Some(number) => Referred::More(Reference::Digits(number)),

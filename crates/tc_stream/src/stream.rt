@@ -144,14 +144,14 @@ impl<'h> Stream<'h> {
         ensures again { (e : StreamFault) → fault_found self.entry ≡ Some e → result ≡ Err e }
     {
         let Stream {
-            reader,
+            mut reader,
             cut,
             fed,
             fault,
         } = self;
         match fault {
             Some(fault) => Err(fault),
-            None => finished(reader, cut, fed),
+            None => finished(&mut reader, cut, fed),
         }
     }
 }

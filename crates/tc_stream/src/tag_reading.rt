@@ -269,23 +269,7 @@ impl Reader<'_> {
         Ok(())
     }
 
-    /// Keeps the last characters of a start tag or an empty-element tag, and goes into its element.
-    fn end_of_start(&mut self, text: &str) -> Result<(), StreamFault>
-        requires { IsReading self.old }
-        ensures ready { IfOk result (λ _. IsReading self.new) }
-        ensures ok { (x : g.Grammar) (chars : List ℕ) (within : Option ℕ) → self.old.part ≡ Part.Tag within → tag_scan within text.now ≡ ended [] → IsChars text.now
-            → ReadsTo x self.old chars → IfOk result (λ _. ReadsTo x self.new (chars ++ text.now)) }
-        ensures fault { (x : g.Grammar) (chars : List ℕ) (within : Option ℕ) → self.old.part ≡ Part.Tag within → tag_scan within text.now ≡ ended [] → IsChars text.now
-            → ReadsTo x self.old chars → IfErr result (λ e. IsFaultOfFront (chars ++ text.now) e) }
-    {
-        if put(&mut self.tag, text) {
-            self.start_kept()
-        } else {
-            Err(self.fault_of_tag(true))
-        }
-    }
-
-    /// Reads a start tag or an empty-element tag to its end, which stands behind so many bytes.
+    /// Reads a start tag or an empty-element tag to its end, which stands behind so many bytes, and goes into its element.
     fn pass_tag<'t>(&mut self, text: &'t str, count: usize) -> Result<&'t str, StreamFault>
         requires ready { IsReading self.old }
         requires count { (0 < count) × (count ≤ length text.now) }
@@ -298,7 +282,10 @@ impl Reader<'_> {
             → ReadsTo x self.old chars → IfErr result (λ e. IsFaultOfFront (chars ++ text.now) e) }
     {
         let (front, rest) = text.split_at(count);
-        self.end_of_start(front)?;
+        if !put(&mut self.tag, front) {
+            return Err(self.fault_of_tag(true));
+        }
+        self.start_kept()?;
         Ok(rest)
     }
 

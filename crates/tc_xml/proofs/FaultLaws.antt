@@ -1,5 +1,5 @@
 -- What a fault says, from why reading stops.
-use Rattle.std.proofs.Common.{◌≡◌, ◌≢◌, ℕ, ◌-◌, ◌≤◌, Bool, true, false, List, ap, sym, subst, length, arith, length-append}
+use Rattle.std.proofs.Common.{◌≡◌, ◌≢◌, ℕ, ◌-◌, ◌≤◌, Bool, true, false, List, [], ◌∷◌, ◌++◌, ap, ◌∙◌, sym, subst, length, arith, length-append, append-nil}
 use Rattle.tc_model.specs.RawTrees.{RawTrees, IsOneElement}
 use Rattle.tc_model.specs.XmlText.{Reads, deepest_element}
 use Rattle.tc_model.specs.XmlTextBytes.{FrontOf}
@@ -15,7 +15,7 @@ use Rattle.tc_xml.proofs.RootLaws.{element_alone}
 
 -- a text is its own front
 
-front_within : {bytes front : List ℕ} → FrontOf bytes front → length front ≤ length bytes
+pub front_within : {bytes front : List ℕ} → FrontOf bytes front → length front ≤ length bytes
 front_within {front = front} f = omega (arith, ap length f.parts, length-append front f.after)
 
 front_read : {o : Bool} {d : ℕ} {bytes front : List ℕ} {h : RawTrees} → FrontOf bytes front → Reads o d bytes h → bytes ≡ front
@@ -42,6 +42,14 @@ fault_is bytes front NoMemory f k s n = tt
 pub others_behind : (bytes front : List ℕ) (h : RawTrees) (p : Place) → FrontOf bytes front → Reads false deepest_element front h → length front ≢ length bytes → p.0 ≡ length front - 0
     → IsFaultOf bytes (faults.Malformed p)
 others_behind bytes front h p f m other e = (omega (arith, front_within f, e), (λ d k r. other (ap length (sym (front_read f r)))), not_refused f (λ cause at x. document_no_reading x m))
+
+-- a text that is its own front
+pub whole_read : {bytes front : List ℕ} {h : RawTrees} → FrontOf bytes front → length front ≡ length bytes → Reads false deepest_element front h → Reads false deepest_element bytes h
+whole_read {bytes} {front} {h} f e m = subst (λ w. Reads false deepest_element w h) (sym (f.parts ∙ none_behind f.after (omega (arith, ap length f.parts, length-append front f.after)))) m
+  where
+    none_behind : (after : List ℕ) → length after ≡ 0 → front ++ after ≡ front
+    none_behind [] k = append-nil front
+    none_behind (x ∷ xs) k = absurd (omega arith)
 
 pub reads_element : {d : ℕ} {bytes : List ℕ} {h : RawTrees} → Reads false d bytes h → IsOneElement h
 reads_element m = subst IsOneElement (sym m.is_tree) (element_alone m.element)

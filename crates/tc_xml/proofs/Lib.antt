@@ -8,6 +8,7 @@ pub mod TagLaws
 pub mod TwiceLaws
 pub mod GatherLaws
 pub mod ContentLaws
+pub mod FailedLaws
 pub mod ItemLaws
 pub mod ElementLaws
 pub mod RootLaws

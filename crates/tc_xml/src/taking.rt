@@ -306,7 +306,8 @@ fn step<'b, T: TakesTrees<'b>>(
     start_tag(reader, levels, total, text)
 }
 
-/// Takes what is left of the elements that have started, and gives what follows the outermost one.
+/// Takes the element at the front with all that stands in it, piece by piece, where none has started yet, and gives
+/// what follows it.
 fn past_elements<'b, T: TakesTrees<'b>>(
     reader: &mut Reader<'b, T>,
     levels: &mut Levels<'b>,
@@ -314,9 +315,10 @@ fn past_elements<'b, T: TakesTrees<'b>>(
     text: &'b str,
 ) -> Option<&'b str>
     requires { total ≤ 67108864 }
-    ensures { IfSome result (λ rest. (deepest : ℕ) (root : List ℕ) (begun : T) → StandsAfter T.takes total deepest root begun levels.old text.now reader.old.taker (run_text reader.old.run) → Finished T.takes total deepest root begun rest.now reader.new.taker) }
+    ensures { IfSome result (λ rest. (deepest : ℕ) (root : List ℕ) (begun : T) → StandsAt T.takes total deepest root begun levels.old text.now reader.old.taker (run_text reader.old.run) → Finished T.takes total deepest root begun rest.now reader.new.taker) }
 {
-    let mut rest = text;
+    let inside = start_tag(reader, levels, total, text)?;
+    let mut rest = inside;
     'elements: while !levels.open.is_empty() {
         rest = step(reader, levels, total, rest)?;
     }
@@ -344,8 +346,7 @@ fn take_root<'b, T: TakesTrees<'b>>(
     ensures { IfSome result (λ rest. Finished T.takes total deepest_element root.now reader.old.taker rest.now reader.new.taker) }
 {
     let mut levels = Levels::first(reader.arena)?;
-    let inside = start_tag(reader, &mut levels, total, root)?;
-    past_elements(reader, &mut levels, total, inside)
+    past_elements(reader, &mut levels, total, root)
 }
 
 /// Takes the document of a text, where nothing was taken yet.

@@ -1,11 +1,8 @@
-use Rattle.std.proofs.Common.{map, ap, ◌∙◌, sym, subst}
+use Rattle.std.proofs.Common.{map}
 use Rattle.tc_model.specs.Sheets as sheets
 use Rattle.tc_model.specs.PathText as texts
 use Rattle.tc_model.specs.Views.{bound}
 use Rattle.tc_path.specs.declared.reasons.Context.TheVariants as contexts
-use Rattle.tc_path.specs.Views.{tokens_of}
-use Rattle.tc_path.specs.Faults.{refused_as}
-use Rattle.tc_path.proofs.NodeTestLaws.{or_memory}
 use Rattle.tc_path.proofs.Refusals.{unread_no, unread_cause, unread_renamed, refused_no, refused_cause, refused_renamed, same_error}
 use Rattle.tc_path.proofs.read_value.Goals as goal
 
@@ -21,19 +18,19 @@ pub returns-in_err-tokens-clause-renamed : goal.returns-in_err-tokens-clause-ren
 returns-in_err-tokens-clause-renamed c = λ v r.
     same_error _ c.from_residual.result c.in_err-tokens.field-0.0 c.from_residual.ensures.1 (unread_renamed contexts.Value c.args.text.now sheets.Body (texts.IsValue (map bound c.args.scope.now)) v c.in_err-tokens.field-0.0 c.in_err-tokens.ensures.no r)
 
-pub returns-clause-no : goal.returns-clause-no
-returns-clause-no c =
+pub returns-in-Err-clause-no : goal.returns-in-Err-clause-no
+returns-in-Err-clause-no c =
     refused_no contexts.Value c.args.text.now sheets.Body (texts.IsValue (map bound c.args.scope.now)) c.in_ok-tokens.ensures.tokens c.in-Err.fault c.refusal.result
-    (c.refusal.ensures ∙ ap (λ w. refused_as contexts.Value (tokens_of w) c.in-Err.fault) c.deref-in-Err.ensures.value)
-    (or_memory c.in-Err.fault (λ h v a. h v (subst (λ w. texts.IsValue (map bound c.args.scope.now) v (tokens_of w)) (sym c.deref.ensures.value) a)) c.in-Err.ensures.no)
+    c.refusal.ensures
+    c.in-Err.ensures.no
 
-pub returns-clause-cause : goal.returns-clause-cause
-returns-clause-cause c =
+pub returns-in-Err-clause-cause : goal.returns-in-Err-clause-cause
+returns-in-Err-clause-cause c =
     refused_cause contexts.Value c.args.text.now c.in_ok-tokens.ensures.tokens c.in_ok-tokens.ensures.shallow c.in-Err.fault c.refusal.result
-    (c.refusal.ensures ∙ ap (λ w. refused_as contexts.Value (tokens_of w) c.in-Err.fault) c.deref-in-Err.ensures.value)
+    c.refusal.ensures
 
-pub returns-clause-renamed : goal.returns-clause-renamed
-returns-clause-renamed c = λ v r.
+pub returns-in-Err-clause-renamed : goal.returns-in-Err-clause-renamed
+returns-in-Err-clause-renamed c = λ v r.
     refused_renamed contexts.Value c.args.text.now sheets.Body (texts.IsValue (map bound c.args.scope.now)) v c.in_ok-tokens.ensures.tokens c.in-Err.fault c.refusal.result
-    (c.refusal.ensures ∙ ap (λ w. refused_as contexts.Value (tokens_of w) c.in-Err.fault) c.deref-in-Err.ensures.value)
-    (or_memory c.in-Err.fault (λ h v a. h v (subst (λ w. texts.IsValue (map bound c.args.scope.now) v (tokens_of w)) (sym c.deref.ensures.value) a)) c.in-Err.ensures.no) r
+    c.refusal.ensures
+    c.in-Err.ensures.no r

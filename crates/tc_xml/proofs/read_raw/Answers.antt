@@ -1,11 +1,26 @@
-use Rattle.std.proofs.Common.{sym, subst}
+use Rattle.std.proofs.Common.{arith, sym, subst}
 use Rattle.tc_model.specs.Views.{raw_tree}
 use Rattle.tc_model.specs.XmlTextLaws.{AreLawfulWithin}
 use Rattle.tc_model.proofs.XmlTextTrees.{lawful_raw_tree}
 use Rattle.tc_model.proofs.XmlTextDocument.{document}
 use Rattle.tc_xml.specs.Faults.{IsFaultOf}
-use Rattle.tc_xml.proofs.FaultLaws.{fault_is, others_behind, reads_element}
+use Rattle.tc_xml.proofs.FaultLaws.{fault_is, front_within, others_behind, reads_element, whole_read}
 use Rattle.tc_xml.proofs.read_raw.Goals as goal
+
+pub document-requires-clause-total : goal.document-requires-clause-total
+document-requires-clause-total c = omega (arith, front_within c.characters-front.ensures)
+
+pub document-requires-clause-characters : goal.document-requires-clause-characters
+document-requires-clause-characters c = c.characters-front.ensures.characters
+
+pub place_of-requires : goal.place_of-requires
+place_of-requires c = omega (arith, front_within c.characters-front.ensures)
+
+pub fault-requires : goal.fault-requires
+fault-requires c = omega (arith, front_within c.characters-front.ensures)
+
+pub returns-then-front-text-clause-ok : goal.returns-then-front-text-clause-ok
+returns-then-front-text-clause-ok c = whole_read c.characters-front.ensures c.if-front-text.true c.in-Ok.ensures.ok
 
 pub returns-then-front-text-clause-element : goal.returns-then-front-text-clause-element
 returns-then-front-text-clause-element c = reads_element c.in-Ok.ensures.ok

@@ -1,4 +1,4 @@
-use Rattle.std.proofs.Common.{◌≡◌, ℕ, ◌++◌, ◌⊎◌, inl, inr, ap, ◌∙◌}
+use Rattle.std.proofs.Common.{◌≡◌, ℕ, ◌++◌, ◌⊎◌, ◌+◌, inl, inr, ap, sym, drop, ◌∙◌}
 use Rattle.tc_alpha.specs.Views.{seen}
 use Rattle.tc_model.specs.Views as see
 use Rattle.tc_model.specs.Sheets as s
@@ -6,7 +6,7 @@ use Rattle.tc_model.specs.Symbols.{mentions_of_name}
 use Rattle.tc_model.specs.declared.sheet.Instr.{Instr, Apply, ValueOf}
 use Rattle.tc_model.specs.declared.sheet.Path.{Path}
 use Rattle.tc_model.proofs.ViewsBody.{see_elem, see_copy, see_apply, see_value_of, see_choose, see_for_each}
-use Rattle.tc_alpha.proofs.Steps.{then_on_ok, after_one, after_two, body_in, branches_in, path_in}
+use Rattle.tc_alpha.proofs.Steps.{then_on_ok, after_one, after_two, body_in, branch_moved, branches_in, instruction_step, path_in}
 use Rattle.tc_alpha.proofs.mentions.+bodies.Goals as goal
 
 -- an instruction that selects by a path, or puts out the value of what it selects
@@ -55,3 +55,15 @@ mention_instruction-returns-in-Apply t c =
     after_one (seen c.args.found.now.items) (seen c.mention_path-in-Apply.new.found.items) (path_in (see.path c.in-Apply.path)) (body_in rest) _
     put (selects c.args.instruction.now c.in-Apply.path c.in-Apply.is rest))
     c.mention_path-in-Apply.ensures
+
+pub mention_body-loop-instruction-preserved : goal.mention_body-loop-instruction-preserved
+mention_body-loop-instruction-preserved t c =
+    let body = c.args.body.now in
+    let i = c.loop-instruction.instruction-index in
+    c.in_ok-mention_instruction.ensures (see.body (drop (i + 1) body))
+    ∙ (ap (λ l. seen c.loop-instruction.found.items ++ l) (sym (instruction_step body i c.instruction-item.result c.loop-instruction-test.true c.instruction-item.is)) ∙ c.loop-instruction.invariant)
+
+pub mention_branches-loop-branch-preserved : goal.mention_branches-loop-branch-preserved
+mention_branches-loop-branch-preserved t c = λ rest.
+    branch_moved c.args.branches.now c.loop-branch.branch-index _ rest (seen c.loop-branch.found.items) (seen c.mention_test.new.found.items) (seen c.mention_body.new.found.items) _ c.loop-branch-test.true
+    c.in_ok-mention_test.ensures c.in_ok-mention_body.ensures (c.loop-branch.invariant rest)

@@ -1,4 +1,5 @@
-use Rattle.std.proofs.Common.{◌≡◌, ◌<◌, ◌*◌, ap, ◌∙◌, sym, subst, take, arith, rules}
+use Rattle.std.proofs.Common.{◌≡◌, ◌<◌, ◌*◌, ap, ◌∙◌, sym, subst, take, arith, rules, IfOk, List}
+use Rattle.std.proofs.lemmas.List.{take_all}
 use Rattle.tc_model.specs.Grammars as g
 use Rattle.tc_model.specs.Grammars.{Pattern}
 use Rattle.tc_model.specs.Views.{pattern, patterns}
@@ -6,7 +7,8 @@ use Rattle.tc_model.specs.States.{Automaton, automaton}
 use Rattle.tc_model.specs.declared.grammar.Pat.TheViews.{the_lemmas}
 use Rattle.tc_model.proofs.StatesExact.{sound}
 use Rattle.tc_model.proofs.ViewsGrammar.{see_group, see_choice, see_interleave}
-use Rattle.tc_auto.specs.Steps.{Shown}
+use Rattle.tc_model.specs.declared.grammar.Pat.{Pat}
+use Rattle.tc_auto.specs.Steps.{Shown, Shows}
 use Rattle.tc_auto.proofs.Folds.{group_more, choice_more, interleave_more, group_room, choice_room, interleave_room, some_before, some_before_choice, member_below}
 use Rattle.tc_auto.proofs.Shown.{within}
 use Rattle.tc_auto.proofs.build.+build.Goals as goal
@@ -61,3 +63,27 @@ interleave_of-loop-member-preserved t c =
 
 pub part_of-interleave_of-requires : goal.part_of-interleave_of-requires
 part_of-interleave_of-requires t c = (search (rules, the_lemmas), subst (λ (w : Pattern). (automaton w).count < 4294967296) (ap pattern c.in-Interleave.is ∙ see_interleave c.in-Interleave.members) c.requires)
+
+pub part_of-returns-in-Group : goal.part_of-returns-in-Group
+part_of-returns-in-Group t c = subst (λ (w : Pattern). IfOk c.group_of.result (λ r. Shows r (automaton w))) (sym (ap pattern c.in-Group.is ∙ see_group c.in-Group.members)) c.group_of.ensures
+
+pub group_of-returns : goal.group_of-returns
+group_of-returns t c =
+    subst (λ (w : List Pat). Shown c.loop-member.whole.count c.loop-member.whole.steps.items c.loop-member.whole.accepting.items (automaton (g.group (patterns w))))
+    (take_all c.loop-member.member-index c.args.members.now c.loop-member-test.false) c.loop-member.invariant
+
+pub part_of-returns-in-Choice : goal.part_of-returns-in-Choice
+part_of-returns-in-Choice t c = subst (λ (w : Pattern). IfOk c.choice_of.result (λ r. Shows r (automaton w))) (sym (ap pattern c.in-Choice.is ∙ see_choice c.in-Choice.members)) c.choice_of.ensures
+
+pub choice_of-returns : goal.choice_of-returns
+choice_of-returns t c =
+    subst (λ (w : List Pat). Shown c.loop-member.whole.count c.loop-member.whole.steps.items c.loop-member.whole.accepting.items (automaton (g.choice (patterns w))))
+    (take_all c.loop-member.member-index c.args.members.now c.loop-member-test.false) c.loop-member.invariant
+
+pub part_of-returns-in-Interleave : goal.part_of-returns-in-Interleave
+part_of-returns-in-Interleave t c = subst (λ (w : Pattern). IfOk c.interleave_of.result (λ r. Shows r (automaton w))) (sym (ap pattern c.in-Interleave.is ∙ see_interleave c.in-Interleave.members)) c.interleave_of.ensures
+
+pub interleave_of-returns : goal.interleave_of-returns
+interleave_of-returns t c =
+    subst (λ (w : List Pat). Shown c.loop-member.whole.count c.loop-member.whole.steps.items c.loop-member.whole.accepting.items (automaton (g.interleave (patterns w))))
+    (take_all c.loop-member.member-index c.args.members.now c.loop-member-test.false) c.loop-member.invariant

@@ -1,14 +1,17 @@
-use Rattle.std.proofs.Common.{◌++◌, ap, ◌∙◌}
+use Rattle.std.proofs.Common.{◌≡◌, ◌++◌, List, ap, ◌∙◌, refl, subst}
 use Rattle.tc_model.specs.States.{input, output}
+use Rattle.tc_model.specs.Symbols.{Mention, fresh_name, symbol_of}
 use Rattle.tc_model.specs.Views as see
 use Rattle.tc_beh.specs.AlikeSymbols.{asked_tests, classes_holding, tests_passed}
 use Rattle.tc_beh.proofs.KeyLists.{three_put}
 use Rattle.tc_beh.proofs.alike.key_of.Goals as goal
 
 pub returns : goal.returns
-returns c = λ x is fresh same.
-    let n = see.name c.args.name.now in
+returns c = λ x is symbols.
+    let n = see.name c.in_ok-name.name in
     let ts = asked_tests c.args.asked.now in
+    let fresh = c.in_ok-name.ensures.name ∙ subst (λ (s : List Mention). fresh_name c.args.alphabet.now c.args.symbol.0 ≡ fresh_name s c.args.symbol.0) symbols refl in
+    let same = subst (λ (s : List Mention). symbol_of s n ≡ c.args.symbol.0) symbols c.in_ok-name.ensures.symbol in
     let first = c.in_ok-add_classes.ensures input x.input x.symbols is.contents n same in
     let second = c.in_ok-add_classes-2.ensures output x.output x.symbols is.states n same in
     let whole = three_put c.new-key.result.items (classes_holding x.input n) (classes_holding x.output n) (tests_passed ts n) _ _ _ c.new-key.ensures.items first second c.in_ok-add_passes.ensures in

@@ -1,4 +1,6 @@
-use Rattle.std.proofs.Common.{◌≡◌, ◌∙◌, ◌||◌, ◌==◌, get_or, sym}
+use Rattle.std.proofs.Common.{◌≡◌, ◌<◌, ◌∙◌, ◌||◌, ◌==◌, length, get_or, ap, sym, subst, arith}
+use Rattle.tc_beh.specs.Rooms.{output_at}
+use Rattle.tc_beh.proofs.RoomRows.{output_is}
 use Rattle.tc_beh.proofs.Together.{on_ok_map, on_err_map, or_true, or_false, products_together, new_together, numbers_together}
 use Rattle.tc_beh.proofs.append.put_append.Goals.{then-bears, else-bears}
 use Rattle.tc_beh.proofs.append.put_append.Goals as goal
@@ -41,3 +43,21 @@ returns-clause-err c =
     (new_together c.args.outputs.now c.put_products-put.new.outputs h.flags t.flags c.args.out.now.flags c.args.out.now.entries h.entries t.entries h.numbers.items t.numbers.items c.outputs.result.now c.outputs-2.result.now
     c.requires.hedge c.requires.tree c.outputs.ensures.value c.outputs-2.ensures.value c.put_first_looks.new.out.entries (c.put_first_looks.ensures.beside.entries ∙ c.set_heads.ensures.beside.entries))
     c.put_products-put.ensures.err
+
+pub put_products-put-requires-clause-first : goal.put_products-put-requires-clause-first
+put_products-put-requires-clause-first c = λ i low.
+    let r = c.args.hedge.now in
+    let count = c.outputs.ensures.count in
+    let inside : i < r.entries = omega (arith, low, count) in
+    let same = c.requires.hedge in
+    let is : get_or c.outputs.result.now i 0 ≡ output_at r.flags r.numbers.items i = ap (λ l. get_or l i 0) c.outputs.ensures.value ∙ output_is r.flags r.entries r.numbers.items i inside in
+    subst (λ n. n < length c.args.outputs.now.matrices) (sym is) (c.requires.first i (omega (arith, inside, same)))
+
+pub put_products-put-requires-clause-second : goal.put_products-put-requires-clause-second
+put_products-put-requires-clause-second c = λ i low.
+    let r = c.args.tree.now in
+    let count = c.outputs-2.ensures.count in
+    let inside : i < r.entries = omega (arith, low, count) in
+    let same = c.requires.tree in
+    let is : get_or c.outputs-2.result.now i 0 ≡ output_at r.flags r.numbers.items i = ap (λ l. get_or l i 0) c.outputs-2.ensures.value ∙ output_is r.flags r.entries r.numbers.items i inside in
+    subst (λ n. n < length c.args.outputs.now.matrices) (sym is) (c.requires.second i (omega (arith, inside, same)))

@@ -1,4 +1,4 @@
-use Rattle.std.proofs.Common.{◌≡◌, ◌+◌, ◌<◌, List, drop, get_or, true, false, length, subst, sym, ap, ◌∙◌, refl, rules, arith}
+use Rattle.std.proofs.Common.{◌≡◌, ◌+◌, ◌<◌, List, drop, get_or, true, false, not, length, subst, sym, ap, ◌∙◌, refl, rules, arith}
 use Rattle.std.proofs.lemmas.Bool.{true≢false}
 use Rattle.std.proofs.lemmas.Grind.{common_steps}
 use Rattle.std.proofs.lemmas.List.{drop_all, get_or_default}
@@ -8,14 +8,14 @@ use Rattle.tc_model.specs.Symbols.{Mention, symbol_of, symbol_count, fresh_name}
 use Rattle.tc_model.specs.States.{output}
 use Rattle.tc_model.specs.Views as see
 use Rattle.tc_model.specs.declared.sheet.Instr.TheViews.{the_lemmas}
-use Rattle.tc_model.proofs.ViewsBody.{left_instruction, see_elem, see_copy, see_apply, see_call, see_value_of, see_value_of_self, see_choose, see_for_each}
+use Rattle.tc_model.proofs.ViewsBody.{left_instruction, see_text, see_elem, see_copy, see_apply, see_call, see_value_of, see_value_of_self, see_choose, see_for_each}
 use Rattle.tc_rules.specs.Kept.{told}
 use Rattle.tc_rules.specs.Parts.{IsPart}
 use Rattle.tc_rules.proofs.PartsOf.{part_first}
 use Rattle.tc_rows.specs.Triples.{outputs, sheet}
-use Rattle.tc_rows.specs.PairSets.{HaveSamePairs, product}
+use Rattle.tc_rows.specs.PairSets.{HaveSamePairs, chosen, product}
 use Rattle.tc_rows.specs.Rows.{bears_value}
-use Rattle.tc_rows.specs.Bodies.{around, copied_pairs, value_pairs, self_bears}
+use Rattle.tc_rows.specs.Bodies.{around, copied_pairs, stay, text_edges, text_pairs, value_pairs, self_bears}
 use Rattle.tc_rows.proofs.PairLaws.{same_on}
 use Rattle.tc_beh.specs.Heights.{depth_in}
 use Rattle.tc_beh.specs.Putting.{has, Extends}
@@ -24,7 +24,7 @@ use Rattle.tc_beh.specs.Places.{AreSpare, kind_of, below_of, called_by, no_matri
 use Rattle.tc_beh.proofs.Depths.{depth_next, inner_depth}
 use Rattle.tc_beh.proofs.Instructed.{P, Q, arm, put_end, no_branch, branch_is, branch_part_at, branch_depth_at, branches_part, branches_depth, branch_taken, branch_passed, taken, not_taken, first_taken, last_taken}
 use Rattle.tc_beh.proofs.Placed.{fresh_symbol, look_is, bears_is}
-use Rattle.tc_beh.proofs.PutLaws.{then_put, put_same, around_same, around_inside}
+use Rattle.tc_beh.proofs.PutLaws.{then_put, put_same, text_put, around_same, around_inside}
 use Rattle.tc_beh.proofs.bodies.+bodies.Goals as goal
 
 pub put_body-loop-instruction-preserved : goal.put_body-loop-instruction-preserved
@@ -281,3 +281,67 @@ put_instruction-returns-in-Call-clause-pairs t c = λ x rest ok.
     let set : get_or p.named.now n m ≡ get_or p.named.now n no_matrix = get_or_default p.named.now n m no_matrix low in
     arm x p c.args.instruction.now rest (s.call n rest) c.args.out.now new (ap (λ i. see.instruction i rest) c.in-Call.is ∙ see_call n rest)
     (then_put new c.args.out.now (called_by p n) (P x p rest) (subst (λ (w : Matrix). Extends c.args.out.now new (has w)) set c.put_set.ensures.pairs))
+
+pub put_body-put_instruction-requires : goal.put_body-put_instruction-requires
+put_body-put_instruction-requires t c =
+    let p = c.args.place.now in
+    let is = c.args.body.now in
+    let k = c.loop-instruction.instruction-index in
+    let i = c.instruction-item.result in
+    let so_far = c.loop-instruction.invariant in
+    let next = depth_next is k i c.loop-instruction-test.true c.instruction-item.is in
+    let enough = so_far.spare.enough in
+    let count = c.loop-instruction.auto.spare in
+    let few = c.requires.few in
+    let part = part_first (told p.rules.now).sheet i (see.body (drop (k + 1) is)) (subst (IsPart (told p.rules.now).sheet) (left_instruction is k i c.loop-instruction-test.true c.instruction-item.is) so_far.part) in (
+      search (rules, the_lemmas),
+      (c.requires.place, (part.0, (so_far.size ∙ c.requires.out, (record { sizes = λ n d low. so_far.spare.sizes n d low ∙ sym so_far.size; enough = omega (arith, next.0, enough) }, (omega (arith, few, count), so_far.untouched))))),
+    )
+
+pub put_copy-put_body-requires : goal.put_copy-put_body-requires
+put_copy-put_body-requires t c =
+    let enough = c.requires.spare.enough in (
+      search (rules, the_lemmas),
+      (c.requires.place, (c.requires.part, (c.requires.out, (record { sizes = c.requires.spare.sizes; enough = omega (arith, enough) }, (c.requires.few, c.requires.untouched))))),
+    )
+
+pub put_instruction-look-found-requires-clause-path : goal.put_instruction-look-found-requires-clause-path
+put_instruction-look-found-requires-clause-path t c =
+    let e = ap (λ i. see.instruction i s.no_instruction) c.in-ValueOf.is ∙ see_value_of c.in-ValueOf.path s.no_instruction in
+    let part = subst (IsPart (told c.args.place.now.rules.now).sheet) e c.requires.part in
+    part.0
+
+pub put_instruction-bounds-place-number : goal.put_instruction-bounds-place-number
+put_instruction-bounds-place-number t c =
+    let (x, ok) = c.requires.place in
+    let p = c.args.place.now in
+    let n = c.in-Call.number in
+    let e = ap (λ i. see.instruction i s.no_instruction) c.in-Call.is ∙ see_call n s.no_instruction in
+    let part = subst (IsPart (told p.rules.now).sheet) e c.requires.part in
+    let names : length (told p.rules.now).sheet.named ≡ length (sheet x).named = ap (λ (v : RulesView). length v.sheet.named) ok.rules.told in
+    let w = part.0 in
+    omega (arith, w, names, ok.named_count)
+
+pub put_instruction-returns-in-Text-clause-pairs : goal.put_instruction-returns-in-Text-clause-pairs
+put_instruction-returns-in-Text-clause-pairs t c = λ x rest ok.
+    let p = c.args.place.now in
+    let new = c.put_text_if.new.out in
+    let w = c.in-Text.text.now in
+    arm x p c.args.instruction.now rest (s.put_text w rest) c.args.out.now new (ap (λ i. see.instruction i rest) c.in-Text.is ∙ see_text c.in-Text.text rest)
+    (then_put new c.args.out.now (text_pairs x w) (P x p rest)
+    (put_same c.args.out.now new (value_pairs x (not c.is_white_space_only.result)) (text_pairs x w)
+    (subst (λ b. HaveSamePairs (value_pairs x (not c.is_white_space_only.result)) (chosen b (stay x) (text_edges x))) c.is_white_space_only.ensures (text_put x c.is_white_space_only.result)) (c.put_text_if.ensures.pairs x ok)))
+
+pub put_instruction-returns-in-Apply-clause-pairs : goal.put_instruction-returns-in-Apply-clause-pairs
+put_instruction-returns-in-Apply-clause-pairs t c = λ x rest ok.
+    let p = c.args.place.now in
+    let new = c.put_selected.new.out in
+    let w = see.path c.in-Apply.path in
+    arm x p c.args.instruction.now rest (s.apply w c.in-Apply.mode rest) c.args.out.now new (ap (λ i. see.instruction i rest) c.in-Apply.is ∙ see_apply c.in-Apply.path c.in-Apply.mode rest)
+    (then_put new c.args.out.now ((below_of x p).pairs c.in-Apply.mode w) (P x p rest) (c.put_selected.ensures.pairs x ok))
+
+pub put_first-holds-requires-clause-test : goal.put_first-holds-requires-clause-test
+put_first-holds-requires-clause-test t c =
+    let bs = c.args.branches.now in
+    let k = c.loop-branch.branch-index in
+    (branch_part_at (told c.args.place.now.rules.now).sheet bs k (get_or bs k no_branch) (s.otherwise s.no_instruction) c.loop-branch-test.true (branch_is bs k no_branch c.loop-branch-test.true) c.loop-branch.invariant.part).0

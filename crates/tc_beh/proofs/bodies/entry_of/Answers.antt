@@ -22,3 +22,24 @@ returns-clause-pairs c = λ x is.
     let low : i < length p.entries.now = subst (λ n. n < length p.entries.now) (sym place) (entry_low x p is c.requires.node k c.requires.state) in
     let got : c.get.result.now ≡ get_or ms v no_matrix = same_Some _ _ (sym c.get.ensures.matrix ∙ slice_get-get_or ms v no_matrix (output_low x p is i 0 low)) in
     entry_is x p is k i v c.get.result.now place low (get_or_default p.entries.now i 0 v low) got
+
+pub get-requires : goal.get-requires
+get-requires c =
+    let (x, is) = c.requires.place in
+    let p = c.args.place.now in
+    let i = c.entry_place-number.result in
+    let k = c.args.state in
+    let count = moves_told x p.rules.now is.rules c.moves.result (c.moves.ensures x.symbols is.rules.rules) in
+    let place : i ≡ p.above * moves x + k = c.entry_place-number.ensures ∙ ap (λ n. p.above * n + k) count in
+    let low : i < length p.entries.now = subst (λ n. n < length p.entries.now) (sym place) (entry_low x p is c.requires.node k c.requires.state) in
+    output_low x p is i 0 low
+
+pub bounds-place-number : goal.bounds-place-number
+bounds-place-number c =
+    let (x, is) = c.requires.place in
+    let p = c.args.place.now in
+    let i = c.entry_place-number.result in
+    let k = c.args.state in
+    let count = moves_told x p.rules.now is.rules c.moves.result (c.moves.ensures x.symbols is.rules.rules) in
+    let place : i ≡ p.above * moves x + k = c.entry_place-number.ensures ∙ ap (λ n. p.above * n + k) count in
+    subst (λ n. n < length p.entries.now) (sym place) (entry_low x p is c.requires.node k c.requires.state)

@@ -1,4 +1,5 @@
-use Rattle.std.proofs.Common.{◌≡◌, ◌+◌, ◌*◌, inl, inr, length, subst, sym, ap, ◌∙◌, refl, arith}
+use Rattle.std.proofs.Common.{◌≡◌, ◌≤◌, ◌+◌, ◌*◌, inl, inr, length, subst, sym, ap, ◌∙◌, refl, arith}
+use Rattle.std.proofs.Math.Nat.{mul-le-mul_right}
 use Rattle.tc_rules.specs.Kept.{told}
 use Rattle.tc_rules.specs.RulesView.{move_count}
 use Rattle.tc_rows.specs.Triples.{moves}
@@ -102,3 +103,15 @@ returns-clause-comes c = λ x ok.
     in
     comes_same x (entries_by c.args.outputs.now.matrices c.args.node.entries.now) c.args.node c.args.outputs.now c.loop-ancestor.outputs (output_at c.args.out.now.flags c.loop-ancestor.out.numbers.items) (c.loop-ancestor.ancestor * moves x) c.args.out.now.entries same
     (c.loop-ancestor.invariant.comes x ok)
+
+pub put_row-requires-clause-room : goal.put_row-requires-clause-room
+put_row-requires-clause-room c =
+    let (x, ok) = c.requires.grounds in
+    let rules = told c.args.machine.now.rules in
+    let low = c.loop-ancestor-test.true in
+    let count = c.ancestors-ancestor-end.ensures.count x.symbols ok.machine.parts.are_rules.rules in
+    let up : c.loop-ancestor.ancestor + 1 ≤ length rules.ancestors.states = omega (arith, low, count) in
+    let fit : (c.loop-ancestor.ancestor + 1) * move_count rules ≤ length rules.ancestors.states * move_count rules = mul-le-mul_right (move_count rules) up in
+    let room = c.requires.room in
+    let same = c.loop-ancestor.invariant.beside.entries in
+    omega (arith, fit, room, same)

@@ -36,3 +36,10 @@ returns-clause-called c = λ x ok k.
     in
     subst (λ (ms : List Matrix). IsCalled x (node_of (letter_of n.letter).kind) (below_node x held n c.args.above) (called_from ms) k) (sym back)
     (called_on x c.args.machine.now held w n ok _ _ c.args.above c.place_of-place.result c.place_of-place.ensures c.put_named.new.named k (put.called x k ground))
+
+pub put_named-requires-clause-set : goal.put_named-requires-clause-set
+put_named-requires-clause-set c =
+    let (x, ok) = c.requires.grounds in
+    let low = subst (λ (t : RulesView). c.args.above < length t.ancestors.states) ok.machine.parts.are_rules.told c.requires.above in
+    let ground = is_ground x c.args.machine.now c.args.outputs.now c.args.work.now c.args.node ok _ _ c.args.above c.place_of-place.result c.place_of-place.ensures (λ i. c.args.work.now.text) low in
+    ok.work.set ∙ sym ground.size

@@ -112,3 +112,14 @@ returns-clause-comes c = λ x es begun ok e so.
     let end : c.loop-state.state ≡ moves x = let t = c.loop-state-test.false in let l = c.loop-state.auto.state-end in omega (arith, t, l, count) in
     comes_same x es c.args.node begun c.loop-state.outputs (output_at c.args.out.now.flags c.loop-state.out.numbers.items) (q * moves x + c.loop-state.state) (q * moves x + moves x) (ap (λ j. q * moves x + j) end)
     (c.loop-state.invariant.comes x es begun ok e so)
+
+pub set_output-requires : goal.set_output-requires
+set_output-requires c =
+    let (y, fit) = c.requires.grounds in
+    let room = c.args.out.now.entries in
+    let many = c.moves-moves.ensures y.symbols fit.machine.parts.are_rules.rules in
+    let same = c.loop-state.invariant.beside.entries in
+    let inside : c.entry_place.result < room =
+    subst (λ j. j < room) (sym c.entry_place.ensures) (row_within c.args.ancestor c.loop-state.state c.moves-moves.result (move_count (told c.args.machine.now.rules)) room many c.loop-state-test.true c.requires.room)
+    in
+    omega (arith, inside, same)

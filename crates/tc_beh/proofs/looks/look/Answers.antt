@@ -10,6 +10,6 @@ pub returns-in-Some : goal.returns-in-Some
 returns-in-Some c = λ x is.
     let vs = c.args.looks.now in
     let moves = moves_told x c.args.rules.now is c.moves.result (c.moves.ensures x.symbols is.rules) in
-    c.look_at.ensures
+    c.number_at.ensures
     ∙ (ap (λ k. get_or vs k 0) (c.saturating_sub.ensures ∙ ap (λ m. c.in-Some.state - m) moves)
     ∙ sym (found_at x c.args.rules.now is vs (see.path c.args.path.now) c.in-Some.state (c.in-Some.ensures x.symbols is.rules)))

@@ -17,6 +17,6 @@ returns-in-Some-clause-value c = λ x s is l at.
     let vs = c.args.looks.now in
     let here = letter (Elem c.args.sym) c.args.marks in
     let moves = moves_told x r is c.moves.result (c.moves.ensures x.symbols is.rules) in
-    c.look_at.ensures
+    c.number_at.ensures
     ∙ (ap (λ k. get_or vs k 0) (c.saturating_sub.ensures ∙ ap (λ m. c.in-Some.next - m) moves)
     ∙ some_below x r is vs s here c.in-Some.next (c.in-Some.ensures x.symbols (of_look s.path) s.state is.rules (letter_told x r is here l) (look_told x r is c.args.state s at)))

@@ -6,7 +6,7 @@ use Rattle.tc_model.specs.WellFormed.{IsSheet}
 use Rattle.tc_rows.specs.Counts.{PassCalls}
 use Rattle.tc_beh.specs.Callees.{AreCalleesFirst}
 use Rattle.tc_beh.specs.Heights.{heights_in, highest, highest_rule, deepest, deepest_rule}
-use Rattle.tc_beh.proofs.Sizes.{calls_low, passes, keeps, shallow, ordered, sheet_is}
+use Rattle.tc_beh.proofs.Sizes.{looks_are, calls_low, passes, keeps, shallow, ordered, sheet_is}
 use Rattle.tc_beh.proofs.machine.order_of.Goals as goal
 
 pub callees_first-requires : goal.callees_first-requires
@@ -23,15 +23,15 @@ returns-then-calls-ge-TOO_MANY-clause-cause c = λ x p.
     subst (λ s. PassCalls s 8000) (sheet_is x c.args.rules.now sh p c.sheet.ensures)
     (passes sh well c.in_ok-order.order.items c.in_ok-order.ensures.order c.in_ok-calls.calls calls_are c.if-calls-ge-TOO_MANY.true)
 
-pub returns-then-entries_of-looks_of-gt-MOST_ENTRIES-clause-cause : goal.returns-then-entries_of-looks_of-gt-MOST_ENTRIES-clause-cause
-returns-then-entries_of-looks_of-gt-MOST_ENTRIES-clause-cause c = λ x p.
+pub returns-then-entries_of-looks-gt-MOST_ENTRIES-clause-cause : goal.returns-then-entries_of-looks-gt-MOST_ENTRIES-clause-cause
+returns-then-entries_of-looks-gt-MOST_ENTRIES-clause-cause c = λ x p.
     let sh = c.sheet.result.now in
     let well : IsSheet (see.sheet sh) = subst IsSheet (sym c.sheet.ensures) p.rules.tells.well_formed in
     let height = λ (o : List ℕ). max (highest (heights_in (see.sheet sh).named (replicate (length sh.named.now) 0) o)) (highest_rule (heights_in (see.sheet sh).named (replicate (length sh.named.now) 0) o) (see.sheet sh).rules) in
     let calls_are : c.in_ok-calls.calls ≡ height c.in_ok-order.order.items = c.in_ok-calls.ensures ∙ ap height c.deref.ensures.value in
     let same = sheet_is x c.args.rules.now sh p c.sheet.ensures in (
       λ h. keeps sh well c.in_ok-order.order.items c.in_ok-order.ensures.order c.in_ok-calls.calls calls_are c.if-calls-ge-TOO_MANY.false (subst (λ s. PassCalls s 8000) (sym same) h),
-      omega (arith, c.entries_of.ensures.exact x p, c.looks_of.ensures.exact x p, c.if-entries_of-looks_of-gt-MOST_ENTRIES.true),
+      omega (arith, c.entries_of.ensures.exact x p, looks_are x c.args.rules.now p c.looks.result (c.looks.ensures x.symbols p.rules), c.if-entries_of-looks-gt-MOST_ENTRIES.true),
     )
 
 pub returns-clause-order : goal.returns-clause-order
@@ -57,5 +57,5 @@ returns-clause-within c = λ x p.
     let calls_are : c.in_ok-calls.calls ≡ height c.in_ok-order.order.items = c.in_ok-calls.ensures ∙ ap height c.deref.ensures.value in
     let same = sheet_is x c.args.rules.now sh p c.sheet.ensures in (
       λ h. keeps sh well c.in_ok-order.order.items c.in_ok-order.ensures.order c.in_ok-calls.calls calls_are c.if-calls-ge-TOO_MANY.false (subst (λ s. PassCalls s 8000) (sym same) h),
-      λ h. absurd (omega (arith, c.entries_of.ensures.exact x p, c.looks_of.ensures.exact x p, c.if-entries_of-looks_of-gt-MOST_ENTRIES.false, h)),
+      λ h. absurd (omega (arith, c.entries_of.ensures.exact x p, looks_are x c.args.rules.now p c.looks.result (c.looks.ensures x.symbols p.rules), c.if-entries_of-looks-gt-MOST_ENTRIES.false, h)),
     )

@@ -42,3 +42,8 @@ returns-clause-called c = λ x n ok.
     let first : AreCalleesFirst (sheet x).named order = subst (λ (v : RulesView). AreCalleesFirst v.sheet.named order) ok.rules.told c.requires.order in
     let past : length order ≤ i = let ends = c.loop-number-test.false in omega (arith, ends) in
     all_ready x (kind_of p.node) (below_of x p) order first i c.loop-number.named past (c.loop-number.invariant.ready x first ok) n
+
+pub put_one_named-requires-clause-number : goal.put_one_named-requires-clause-number
+put_one_named-requires-clause-number c =
+    let i = c.loop-number.number-index in
+    c.requires.order.within i (get_or c.args.order.now i 0) (slice_get-get_or c.args.order.now i 0 c.loop-number-test.true)

@@ -57,3 +57,8 @@ returns-clause-called c = λ x ok.
     (subst (λ d. HaveSamePairs (has made) (product (stay x) (put d))) (sym (named_is s sh n c.sheet.ensures c.requires.number))
     (same_on (has made) (product (has begun) (put b)) (product (stay x) (put b)) (c.put_body.ensures.pairs x (with_named x p _ ok c.requires.named))
     (product_same (has begun) (stay x) (put b) (put b) (identity_begun begun (outputs x) size c.put_identity.ensures.pairs) (same_self (put b)))))
+
+pub put_body-requires-clause-place : goal.put_body-requires-clause-place
+put_body-requires-clause-place c =
+    let (x, ok) = c.requires.place in
+    (x, with_named x c.args.place.now _ ok c.requires.named)

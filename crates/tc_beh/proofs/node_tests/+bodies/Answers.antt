@@ -1,4 +1,5 @@
-use Rattle.std.proofs.Common.{◌≡◌, ℕ, List, Bor, ◌++◌, ◌⊎◌, inl, inr, ap, ◌∙◌}
+use Rattle.std.proofs.Common.{◌≡◌, ℕ, ◌+◌, List, Bor, ◌++◌, ◌⊎◌, inl, inr, ap, ◌∙◌, sym, drop, get_or}
+use Rattle.std.proofs.lemmas.List.{drop_all}
 use Rattle.tc_beh.specs.AlikeSymbols.{seen}
 use Rattle.tc_model.specs.Views as see
 use Rattle.tc_model.specs.Sheets as s
@@ -6,7 +7,8 @@ use Rattle.tc_model.specs.declared.sheet.Instr.{Instr, Elem, Copy, Apply, ValueO
 use Rattle.tc_model.specs.declared.sheet.Path.{Path}
 use Rattle.tc_model.specs.declared.tree.Name.{Name}
 use Rattle.tc_model.proofs.ViewsBody.{see_elem, see_copy, see_apply, see_value_of, see_choose, see_for_each}
-use Rattle.tc_beh.proofs.TestSteps.{then_on_ok, after_one, after_two, body_in, branches_in, path_in}
+use Rattle.tc_beh.proofs.Instructed.{no_branch, branch_is}
+use Rattle.tc_beh.proofs.TestSteps.{then_on_ok, after_one, after_two, ended, moved_twice, instruction_step, branch_step, body_in, branches_in, path_in, test_in}
 use Rattle.tc_beh.proofs.node_tests.+bodies.Goals as goal
 
 -- an instruction that selects by a path, or puts out the value of what it selects
@@ -52,3 +54,25 @@ add_instruction-returns-in-Apply t c =
     after_one (seen c.args.found.now.items) (seen c.add_path-in-Apply.new.found.items) (path_in (see.path c.in-Apply.path)) (body_in rest) _
     put (selects c.args.instruction.now c.in-Apply.path c.in-Apply.is rest))
     c.add_path-in-Apply.ensures
+
+pub add_body-loop-instruction-preserved : goal.add_body-loop-instruction-preserved
+add_body-loop-instruction-preserved t c =
+    let is = c.args.body.now in
+    let k = c.loop-instruction.instruction-index in
+    let x = c.instruction-item.result in
+    c.in_ok-add_instruction.ensures (see.body (drop (k + 1) is)) ∙ (ap (λ l. seen c.loop-instruction.found.items ++ l) (sym (instruction_step is k x c.loop-instruction-test.true c.instruction-item.is)) ∙ c.loop-instruction.invariant)
+
+pub add_body-returns : goal.add_body-returns
+add_body-returns t c = ended (seen c.loop-instruction.found.items) _ _ c.loop-instruction.invariant (ap (λ l. body_in (see.body l)) (drop_all c.loop-instruction.instruction-index c.args.body.now c.loop-instruction-test.false))
+
+pub add_branches-loop-branch-preserved : goal.add_branches-loop-branch-preserved
+add_branches-loop-branch-preserved t c = λ rest.
+    let bs = c.args.branches.now in
+    let k = c.loop-branch.branch-index in
+    let x = get_or bs k no_branch in
+    moved_twice (seen c.loop-branch.found.items) (seen c.add_test.new.found.items) (seen c.add_body.new.found.items) (test_in (see.test x.test)) (body_in (see.body x.body.now)) _ _ _
+    c.in_ok-add_test.ensures c.in_ok-add_body.ensures (branch_step bs k x rest c.loop-branch-test.true (branch_is bs k no_branch c.loop-branch-test.true)) (c.loop-branch.invariant rest)
+
+pub add_branches-returns : goal.add_branches-returns
+add_branches-returns t c = λ rest.
+    ap (λ l. seen c.loop-branch.found.items ++ branches_in (see.branches l rest)) (sym (drop_all c.loop-branch.branch-index c.args.branches.now c.loop-branch-test.false)) ∙ c.loop-branch.invariant rest

@@ -2,7 +2,7 @@ use Rattle.std.proofs.Common.{◌≡◌, ◌<◌, inl, inr, ◌+◌, ◌∙◌, 
 use Rattle.tc_mat.specs.Held.{Held}
 use Rattle.tc_beh.specs.Rooms.{output_at}
 use Rattle.tc_beh.specs.Held.{set_at, IsNew, AreProducts}
-use Rattle.tc_beh.proofs.Holding.{grows_step, on_err, new_before, pairs_step, products_found}
+use Rattle.tc_beh.proofs.Holding.{extends_count, grows_step, on_err, new_before, pairs_step, products_found}
 use Rattle.tc_beh.proofs.outputs.put_products.Goals as goal
 
 pub returns-in_err-number-clause-err : goal.returns-in_err-number-clause-err
@@ -60,3 +60,20 @@ loop-place-preserved c =
       pairs = pairs_step old mid new before after i k (λ n. get_or c.args.first.now n 0) (λ n. get_or c.args.second.now n 0) so_far.grows stays here now.held (c.requires.first i first_low) (c.requires.second i second_low) now.pairs.1 so_far.pairs;
       fixed = λ e. now.fixed e ∙ so_far.fixed e;
     }
+
+pub keep_product-requires-clause-first : goal.keep_product-requires-clause-first
+keep_product-requires-clause-first c =
+    let here : c.loop-place.place < length c.args.first.now = let t = c.loop-place-test.true in let n = c.requires.first_count in omega (arith, t, n) in
+    let low = c.requires.first c.loop-place.place here in
+    let more = extends_count c.args.outputs.now c.loop-place.outputs c.loop-place.invariant.grows.held in
+    omega (arith, low, more)
+
+pub keep_product-requires-clause-second : goal.keep_product-requires-clause-second
+keep_product-requires-clause-second c =
+    let here : c.loop-place.place < length c.args.second.now = let t = c.loop-place-test.true in let n = c.requires.second_count in omega (arith, t, n) in
+    let low = c.requires.second c.loop-place.place here in
+    let more = extends_count c.args.outputs.now c.loop-place.outputs c.loop-place.invariant.grows.held in
+    omega (arith, low, more)
+
+pub keep_product-requires-clause-set : goal.keep_product-requires-clause-set
+keep_product-requires-clause-set c = c.loop-place.invariant.set ∙ (c.requires.set ∙ sym c.loop-place.invariant.grows.held.size)

@@ -28,3 +28,6 @@ put_entries-put-requires-clause-room c =
     let same : length (told r).ancestors.states ≡ ancestors x = ap (λ (t : RulesView). length t.ancestors.states) ok.machine.parts.are_rules.told in
     let count : move_count (told r) ≡ moves x = ap move_count ok.machine.parts.are_rules.told in
     (λ i. same i * count i) ∙ sym (c.put_looks.ensures.beside.entries ∙ room.entries)
+
+pub put_looks-requires-clause-letter : goal.put_looks-requires-clause-letter
+put_looks-requires-clause-letter c = let (x, ok) = c.requires.grounds in (x, ok.machine.parts.are_rules, ok.node.letter)

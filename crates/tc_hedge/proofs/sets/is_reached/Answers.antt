@@ -1,6 +1,7 @@
-use Rattle.std.proofs.Common.{◌<◌, ◌≤◌, length, get_or, refl, sym, ◌∙◌, arith}
+use Rattle.std.proofs.Common.{◌<◌, ◌≤◌, length, get_or, take, refl, sym, ◌∙◌, arith}
 use Rattle.std.proofs.lemmas.Bool.{true≢false}
 use Rattle.tc_model.specs.States.{IsAccepting}
+use Rattle.tc_hedge.proofs.Gathers.{contains_none}
 use Rattle.tc_hedge.proofs.SetSteps.{member, no_end_more, no_end_at_all}
 use Rattle.tc_hedge.proofs.sets.is_reached.Goals as goal
 
@@ -20,3 +21,6 @@ returns c = λ side x st. (
       (no_end_at_all (λ i. (c.first-first.result ≤ i) × (i < c.end-end.result) × IsAccepting x side i) c.args.states.now c.loop-state.state-index c.loop-state-test.false
       (λ i h p. c.loop-state.invariant side x st i h p.0 p.1 p.2) j among (omega (arith, low, c.first-first.ensures.exact side x st), omega (arith, high, c.end-end.ensures.exact side x st), accepts)),
 )
+
+pub loop-state-init : goal.loop-state-init
+loop-state-init c = λ side x st j among low high accepts. contains_none (take 0 c.args.states.now) j refl among

@@ -2,6 +2,9 @@ use Rattle.std.proofs.Common.{◌≡◌, ◌<◌, ℕ, Vec, Global, length, get_
 use Rattle.std.proofs.lemmas.Bool.{true≢false}
 use Rattle.tc_auto.specs.declared.auto.Edge.{Edge}
 use Rattle.tc_auto.specs.declared.auto.Leaf.TheVariants.{Text}
+use Rattle.tc_auto.specs.Steps.{leaf}
+use Rattle.tc_hedge.specs.Sets.{Passes}
+use Rattle.tc_hedge.proofs.Gathers.{gather_first}
 use Rattle.tc_hedge.proofs.SetSteps.{all_grown, edge_put, edge_skip, edges_put, grown_as, same_members}
 use Rattle.tc_hedge.proofs.sets.put_steps.Goals.{then-passes+in_ok-put_number, else-passes}
 use Rattle.tc_hedge.proofs.sets.put_steps.Goals as goal
@@ -34,3 +37,9 @@ loop-edge-preserved c =
 pub returns-clause-made : goal.returns-clause-made
 returns-clause-made c = λ side x st.
     edges_put x side c.args.passage.now c.follow-edge-items.result.now c.args.state c.loop-edge.edge-index c.args.next.now.items c.loop-edge.next.items c.loop-edge-test.false (c.follow-edge-items.ensures.exact side x st) (c.loop-edge.invariant.0 side x st)
+
+pub loop-edge-init : goal.loop-edge-init
+loop-edge-init c = (λ side x st. gather_first (λ (e : Edge) (j : ℕ). Passes c.args.passage.now (leaf e.leaf) × (j ≡ e.to)) c.follow-edge-items.result.now c.args.next.now.items, λ below. below)
+
+pub returns-clause-below : goal.returns-clause-below
+returns-clause-below c = c.loop-edge.invariant.1

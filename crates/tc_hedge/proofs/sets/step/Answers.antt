@@ -1,6 +1,6 @@
 use Rattle.std.proofs.Common.{◌<◌, length, get_or, refl}
 use Rattle.tc_hedge.specs.Sets.{Steps}
-use Rattle.tc_hedge.proofs.Gathers.{gather}
+use Rattle.tc_hedge.proofs.Gathers.{contains_none, gather, gather_first}
 use Rattle.tc_hedge.proofs.SetSteps.{member, states_made}
 use Rattle.tc_hedge.proofs.sets.step.Goals as goal
 
@@ -17,3 +17,12 @@ loop-state-preserved c = (
 
 pub returns-clause-made : goal.returns-clause-made
 returns-clause-made c = λ side x st. states_made (Steps x side c.args.passage.now) c.args.states.now c.loop-state.state-index c.new-next.result.items c.loop-state.next.items c.loop-state-test.false c.new-next.ensures.items (c.loop-state.invariant.0 side x st)
+
+pub loop-state-init : goal.loop-state-init
+loop-state-init c = (
+  λ side x st. gather_first (Steps x side c.args.passage.now) c.args.states.now c.new-next.result.items,
+  λ j among. absurd (contains_none c.new-next.result.items j c.new-next.ensures.items among),
+)
+
+pub returns-clause-below : goal.returns-clause-below
+returns-clause-below c = c.loop-state.invariant.1

@@ -2,7 +2,7 @@ use Rattle.std.proofs.Common.{◌≡◌, List, ℕ, length, refl, subst, sym}
 use Rattle.tc_model.specs.Views as see
 use Rattle.tc_model.specs.States.{first_state}
 use Rattle.tc_hedge.specs.Sets.{AreNumbers, IsMade, IsNamed, Leaves, Makes}
-use Rattle.tc_hedge.proofs.Remembered.{both_made, knows_grown, knows_entry, states_below}
+use Rattle.tc_hedge.proofs.Remembered.{both_made, knows_grown, knows_entry, number_held, states_below}
 use Rattle.tc_hedge.proofs.steps.learn_entry.Goals as goal
 
 pub leaving-requires : goal.leaving-requires
@@ -30,3 +30,9 @@ returns-clause-knows c =
     let once = knows_grown c.args.automaton.now c.args.memo.now c.put.new.self c.in_ok-numbers.ensures.grown c.requires.knows c.in_ok-numbers.ensures.texts c.in_ok-numbers.ensures.entries c.in_ok-numbers.ensures.passings in
     let twice = knows_grown c.args.automaton.now c.put.new.self c.put-2.new.self c.in_ok-first.ensures.grown once c.in_ok-first.ensures.texts c.in_ok-first.ensures.entries c.in_ok-first.ensures.passings in
     knows_entry c.args.automaton.now c.put-2.new.self (record c.put-2.new.self { entries = c.insert.new.self }) (λ i xs at. at) twice c.args.entry.now _ c.in_ok-insert.ensures.updates refl refl (returns-clause-steps c)
+
+pub set-requires : goal.set-requires
+set-requires c = number_held c.args.automaton.now c.args.memo.now.sets.keys c.args.entry.now.from c.requires.from
+
+pub returns-clause-grown : goal.returns-clause-grown
+returns-clause-grown c = λ i xs at. c.in_ok-first.ensures.grown i xs (c.in_ok-numbers.ensures.grown i xs at)

@@ -1,4 +1,5 @@
 use Rattle.std.proofs.Common.{refl}
+use Rattle.std.proofs.lemmas.Option.{slice_get_within}
 use Rattle.tc_hedge.proofs.Remembered.{knows_grown, knows_passing, number_held, numbers_within, states_below}
 use Rattle.tc_hedge.proofs.SetsRuns.{made_from}
 use Rattle.tc_hedge.proofs.steps.learn_passing.Goals as goal
@@ -33,3 +34,12 @@ pub returns-clause-knows : goal.returns-clause-knows
 returns-clause-knows c =
     let before = knows_grown c.args.automaton.now c.args.memo.now c.put.new.self c.in_ok-next.ensures.grown c.requires.knows c.in_ok-next.ensures.texts c.in_ok-next.ensures.entries c.in_ok-next.ensures.passings in
     knows_passing c.args.automaton.now c.put.new.self (record c.put.new.self { passings = c.insert.new.self }) (λ i xs at. at) before c.args.passing c.in_ok-next.next c.in_ok-insert.ensures.updates refl refl (returns-clause-steps c)
+
+pub set-requires : goal.set-requires
+set-requires c = number_held c.args.automaton.now c.args.memo.now.sets.keys c.args.passing.ends c.requires.ends
+
+pub set-requires-2 : goal.set-requires-2
+set-requires-2 c = slice_get_within c.args.memo.now.sets.keys c.args.passing.numbers c.requires.numbers.0 c.requires.numbers.1
+
+pub returns-clause-grown : goal.returns-clause-grown
+returns-clause-grown c = c.in_ok-next.ensures.grown

@@ -1,5 +1,5 @@
 use Rattle.std.proofs.Common.{refl}
-use Rattle.tc_hedge.proofs.Remembered.{knows_grown, knows_text, states_below}
+use Rattle.tc_hedge.proofs.Remembered.{knows_grown, knows_text, number_held, states_below}
 use Rattle.tc_hedge.proofs.steps.learn_text.Goals as goal
 
 pub step-requires : goal.step-requires
@@ -19,3 +19,9 @@ pub returns-clause-knows : goal.returns-clause-knows
 returns-clause-knows c =
     let before = knows_grown c.args.automaton.now c.args.memo.now c.put.new.self c.in_ok-next.ensures.grown c.requires.knows c.in_ok-next.ensures.texts c.in_ok-next.ensures.entries c.in_ok-next.ensures.passings in
     knows_text c.args.automaton.now c.put.new.self (record c.put.new.self { texts = c.insert.new.self }) (λ i xs at. at) before c.args.from c.in_ok-next.next c.in_ok-insert.ensures.updates refl refl (returns-clause-steps c)
+
+pub set-requires : goal.set-requires
+set-requires c = number_held c.args.automaton.now c.args.memo.now.sets.keys c.args.from c.requires.from
+
+pub returns-clause-grown : goal.returns-clause-grown
+returns-clause-grown c = c.in_ok-next.ensures.grown

@@ -4,8 +4,8 @@ use Rattle.tc_model.specs.Views as see
 use Rattle.tc_model.specs.declared.tree.Node.{Node}
 use Rattle.tc_model.proofs.Views.{before_text, before_elem}
 use Rattle.tc_hedge.specs.Memos.{PassesTrees}
-use Rattle.tc_hedge.proofs.Gathers.{for_both, for_ok}
-use Rattle.tc_hedge.proofs.Passed.{element_passed, inside_numbers, more_passed, none_passed, text_passed}
+use Rattle.tc_hedge.proofs.Gathers.{for_both, for_ok, on_ok}
+use Rattle.tc_hedge.proofs.Passed.{element_passed, inside_numbers, more_passed, none_passed, text_passed, trees_states}
 use Rattle.tc_hedge.proofs.Remembered.{entry_grown, grown_twice, numbers_grown, states_grown, trees_grown}
 use Rattle.tc_hedge.proofs.valid.+valid.Goals as goal
 
@@ -58,3 +58,26 @@ after_trees-loop-node-preserved t c =
       more_passed a new c.args.from c.args.nodes.now c.loop-node.node-index c.node-item.result c.loop-node.number c.in_ok-next.next c.loop-node-test.true c.node-item.is
           (trees_grown a old new c.in_ok-next.ensures.grown c.args.from _ c.loop-node.number c.loop-node.invariant.2) c.in_ok-next.ensures.steps,
     )
+
+pub after_element-after_passing-requires-clause-ends : goal.after_element-after_passing-requires-clause-ends
+after_element-after_passing-requires-clause-ends t c =
+    trees_states c.args.automaton.now c.after_trees.new.memo.sets.keys c.in_ok-inside.inside.first (see.trees c.args.kids.now) c.in_ok-ends.ends c.in_ok-ends.ensures.steps
+
+pub after_element-returns-clause-knows : goal.after_element-returns-clause-knows
+after_element-returns-clause-knows t c = c.after_passing.ensures.knows
+
+pub after_element-returns-clause-grown : goal.after_element-returns-clause-grown
+after_element-returns-clause-grown t c =
+    on_ok c.after_passing.result c.after_passing.ensures.grown
+    (λ grown.
+    grown_twice c.args.memo.now.sets.keys c.inside_of.new.memo.sets.keys c.after_passing.new.memo.sets.keys c.in_ok-inside.ensures.grown
+    (grown_twice c.inside_of.new.memo.sets.keys c.after_trees.new.memo.sets.keys c.after_passing.new.memo.sets.keys c.in_ok-ends.ensures.grown grown))
+
+pub after_tree-returns-in-Text-clause-grown : goal.after_tree-returns-in-Text-clause-grown
+after_tree-returns-in-Text-clause-grown t c = c.after_text.ensures.grown
+
+pub after_tree-returns-in-Elem-clause-grown : goal.after_tree-returns-in-Elem-clause-grown
+after_tree-returns-in-Elem-clause-grown t c = c.after_element.ensures.grown
+
+pub after_trees-returns-clause-grown : goal.after_trees-returns-clause-grown
+after_trees-returns-clause-grown t c = c.loop-node.invariant.1

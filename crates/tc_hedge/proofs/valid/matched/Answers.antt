@@ -1,37 +1,5 @@
-use Rattle.std.proofs.Common.{◌≡◌, List, ℕ, subst}
-use Rattle.tc_model.specs.Views as see
-use Rattle.tc_hedge.specs.Memos.{PassesTrees}
-use Rattle.tc_hedge.specs.Sets.{IsMade, Makes, Runs}
-use Rattle.tc_hedge.proofs.Gathers.{for_ok}
-use Rattle.tc_hedge.proofs.Passed.{trees_states}
-use Rattle.tc_hedge.proofs.Remembered.{knows_grown, knows_nothing, number_held, one_set, states_below}
-use Rattle.tc_hedge.proofs.SetsRuns.{matched_told}
+use Rattle.tc_hedge.proofs.Remembered.{knows_nothing}
 use Rattle.tc_hedge.proofs.valid.matched.Goals as goal
 
-pub after_trees-requires-clause-knows : goal.after_trees-requires-clause-knows
-after_trees-requires-clause-knows c =
-    let nothing = knows_nothing c.args.automaton.now c.new-memo.result c.new-memo.ensures.texts c.new-memo.ensures.entries c.new-memo.ensures.passings in
-    knows_grown c.args.automaton.now c.new-memo.result c.put.new.self c.in_ok-first.ensures.grown nothing c.in_ok-first.ensures.texts c.in_ok-first.ensures.entries c.in_ok-first.ensures.passings
-
-pub set-requires : goal.set-requires
-set-requires c =
-    let sets = c.after_trees.new.memo.sets.keys in
-    number_held c.args.automaton.now sets c.in_ok-ends.ends (trees_states c.args.automaton.now sets c.in_ok-first.first (see.trees c.args.kids.now) c.in_ok-ends.ends c.in_ok-ends.ensures.steps)
-
-pub reached-requires-clause-below : goal.reached-requires-clause-below
-reached-requires-clause-below c =
-    let sets = c.after_trees.new.memo.sets.keys in
-    states_below c.args.automaton.now sets c.in_ok-ends.ends c.set.result.now (trees_states c.args.automaton.now sets c.in_ok-first.first (see.trees c.args.kids.now) c.in_ok-ends.ends c.in_ok-ends.ensures.steps) c.set.ensures
-
-pub returns : goal.returns
-returns c =
-    let sets = c.after_trees.new.memo.sets.keys in
-    let kids : PassesTrees c.args.automaton.now sets c.in_ok-first.first (see.trees c.args.kids.now) c.in_ok-ends.ends = c.in_ok-ends.ensures.steps in
-    let from : kids.from ≡ c.in_ok-starts.starts.items = one_set sets c.in_ok-first.first kids.from c.in_ok-starts.starts.items kids.from_at (c.in_ok-ends.ensures.grown c.in_ok-first.first c.in_ok-starts.starts.items c.in_ok-first.ensures.set) in
-    let to : kids.to ≡ c.set.result.now = one_set sets c.in_ok-ends.ends kids.to c.set.result.now kids.to_at c.set.ensures in
-    for_ok c.reached.result c.reached.ensures.made
-    (λ v made side x st.
-    matched_told x side (see.trees c.args.kids.now) c.args.automaton.now st c.args.numbers.now c.in_ok-starts.starts.items c.set.result.now v.items c.requires.numbers
-    (c.in_ok-starts.ensures.made side x st)
-    (subst (λ (w : List ℕ). IsMade w (Makes (Runs x side (see.trees c.args.kids.now)) c.in_ok-starts.starts.items)) to (subst (λ (w : List ℕ). IsMade kids.to (Makes (Runs x side (see.trees c.args.kids.now)) w)) from (kids.made side x st)))
-    (made side x st))
+pub matched_by-requires-clause-knows : goal.matched_by-requires-clause-knows
+matched_by-requires-clause-knows c = knows_nothing c.args.automaton.now c.new-memo.result c.new-memo.ensures.texts c.new-memo.ensures.entries c.new-memo.ensures.passings

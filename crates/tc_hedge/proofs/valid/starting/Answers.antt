@@ -4,7 +4,7 @@ use Rattle.tc_model.specs.Views as see
 use Rattle.tc_model.specs.States.{is_alternative}
 use Rattle.tc_hedge.specs.Sets.{IsMade, IsNamed}
 use Rattle.tc_hedge.proofs.Bounds.{patterns_of}
-use Rattle.tc_hedge.proofs.Gathers.{grows_push}
+use Rattle.tc_hedge.proofs.Gathers.{contains_none, grows_push}
 use Rattle.tc_hedge.proofs.SetSteps.{all_grown, same_members, range_put, range_skip}
 use Rattle.tc_hedge.proofs.valid.starting.Goals as goal
 use Rattle.tc_hedge.proofs.valid.starting.Goals.{then-may_start+in_ok-push, else-may_start}
@@ -33,3 +33,12 @@ pub returns-clause-made : goal.returns-clause-made
 returns-clause-made c = λ side x st.
     let all : c.loop-before.before ≡ length x.elements = omega (arith, c.loop-before-test.false, c.loop-before.auto.before-end, c.patterns-before-end.ensures.here, patterns_of side x c.args.automaton.now st) in
     subst (λ n. IsMade c.loop-before.numbers.items (λ (k : ℕ). (1 ≤ k) × (k ≤ n) × IsTrue (is_alternative k x.start) × IsNamed x (see.name c.args.name.now) k)) all (c.loop-before.invariant.0 side x st)
+
+pub loop-before-init : goal.loop-before-init
+loop-before-init c = (
+  λ side x st k. (λ among. absurd (contains_none c.new-numbers.result.items k c.new-numbers.ensures.items among), λ (low, high, alternative, named). absurd (omega (arith, low, high))),
+  λ k among. absurd (contains_none c.new-numbers.result.items k c.new-numbers.ensures.items among),
+)
+
+pub returns-clause-within : goal.returns-clause-within
+returns-clause-within c = c.loop-before.invariant.1

@@ -4,4 +4,4 @@ use Rattle.tc_path.proofs.AttributeLoops.{told_so}
 use Rattle.tc_path.proofs.attributes.ends_in_attribute.Goals as goal
 
 pub returns-clause-ok : goal.returns-clause-ok
-returns-clause-ok c = told_so (map bound c.args.scope.now) c.is_other_node-other.result c.ends_so.result c.in_ok-form.ensures.ok c.is_other_node-other.ensures c.ends_so.ensures
+returns-clause-ok c = told_so (map bound c.args.scope.now) c.is_other_node-other.result c.ends_so.result c.in_ok-form.ensures.0 c.is_other_node-other.ensures c.ends_so.ensures

@@ -11,20 +11,20 @@ pub loop-found-init : goal.loop-found-init
 loop-found-init c = patterns_start (map bound c.args.scope.now) (tokens_of c.args.tokens.now) _ _ (ap (map alternative) c.new-found.ensures.items) (ap tokens_of c.split_at.ensures.back)
 
 pub loop-found-preserved : goal.loop-found-preserved
-loop-found-preserved c = patterns_behind (map bound c.args.scope.now) (patterns_read (map bound c.args.scope.now) c.loop-found.invariant c.in_ok-more.ensures.ok c.in_ok-keep.ensures.kept) c.in-Some.ensures
+loop-found-preserved c = patterns_behind (map bound c.args.scope.now) (patterns_read (map bound c.args.scope.now) c.loop-found.invariant c.in_ok-more.ensures.0 c.in_ok-keep.ensures.kept) c.in-Some.ensures
 
 pub loop-found-smaller : goal.loop-found-smaller
-loop-found-smaller c = omega (arith, shorter_by c.in_ok-more.after.now c.in-Some.next.now c.in-Some.ensures, c.in_ok-more.ensures.shorter)
+loop-found-smaller c = omega (arith, shorter_by c.in_ok-more.after.now c.in-Some.next.now c.in-Some.ensures, c.in_ok-more.ensures.1)
 
 pub returns-in_err-more-clause-no : goal.returns-in_err-more-clause-no
-returns-in_err-more-clause-no c = handed_on c.from_residual.result c.in_err-more.field-0.0 c.from_residual.ensures.1 (patterns_fail (map bound c.args.scope.now) c.loop-found.invariant) c.in_err-more.ensures.no
+returns-in_err-more-clause-no c = handed_on c.from_residual.result c.in_err-more.field-0.0 c.from_residual.ensures.1 (patterns_fail (map bound c.args.scope.now) c.loop-found.invariant) c.in_err-more.ensures
 
 pub returns-then-is_empty-clause-ok : goal.returns-then-is_empty-clause-ok
 returns-then-is_empty-clause-ok c =
     subst (λ w. p.PatternAt (map bound c.args.scope.now) (tokens_of c.args.tokens.now) (map alternative w)) (sym c.into_bump_slice.ensures)
-    (patterns_end (map bound c.args.scope.now) (patterns_read (map bound c.args.scope.now) c.loop-found.invariant c.in_ok-more.ensures.ok c.in_ok-keep.ensures.kept) (no_tokens c.in_ok-more.after.now (sym c.is_empty.ensures ∙ c.if-is_empty.true)))
+    (patterns_end (map bound c.args.scope.now) (patterns_read (map bound c.args.scope.now) c.loop-found.invariant c.in_ok-more.ensures.0 c.in_ok-keep.ensures.kept) (no_tokens c.in_ok-more.after.now (sym c.is_empty.ensures ∙ c.if-is_empty.true)))
 
 pub returns-in_default-clause-no : goal.returns-in_default-clause-no
 returns-in_default-clause-no c =
-    patterns_go_on (map bound c.args.scope.now) (patterns_read (map bound c.args.scope.now) c.loop-found.invariant c.in_ok-more.ensures.ok c.in_ok-keep.ensures.kept)
+    patterns_go_on (map bound c.args.scope.now) (patterns_read (map bound c.args.scope.now) c.loop-found.invariant c.in_ok-more.ensures.0 c.in_ok-keep.ensures.kept)
     (some_tokens c.in_ok-more.after.now (sym c.is_empty.ensures ∙ c.if-is_empty.false)) c.in_default.ensures

@@ -1,5 +1,7 @@
-use Rattle.std.proofs.Common.{rules, arith, refl, ap, length, sym, ◌∙◌, ◌==◌, List, ℕ}
+use Rattle.std.proofs.Common.{rules, arith, refl, ap, length, sym, subst, ◌∙◌, ◌==◌, List, ℕ}
 use Rattle.std.proofs.lemmas.Bool.{true≢false, eqb-true}
+use Rattle.tc_model.specs.PathTextTokens.{Tokens}
+use Rattle.tc_path.specs.Views.{tokens_of}
 use Rattle.tc_path.proofs.TokenLaws.{no_length, no_tokens_yet, token_behind, tokens_end, tokens_fail, token_shorter, white_shorter}
 use Rattle.tc_path.proofs.token.tokens.Goals as goal
 
@@ -19,8 +21,9 @@ loop-front-preserved c = record {
 
 pub returns-then-is_empty-clause-ok : goal.returns-then-is_empty-clause-ok
 returns-then-is_empty-clause-ok c =
-    tokens_end c.args.text.now c.loop-front.rest.now c.after_white-front.result.now c.loop-front.found.items c.loop-front.invariant.so_far c.after_white-front.ensures
-    (no_length c.after_white-front.result.now (eqb-true (length c.after_white-front.result.now) 0 (sym c.is_empty.ensures ∙ c.if-is_empty.true)))
+    subst (λ w. Tokens c.args.text.now (tokens_of w)) (sym c.into_bump_slice.ensures)
+    (tokens_end c.args.text.now c.loop-front.rest.now c.after_white-front.result.now c.loop-front.found.items c.loop-front.invariant.so_far c.after_white-front.ensures
+    (no_length c.after_white-front.result.now (eqb-true (length c.after_white-front.result.now) 0 (sym c.is_empty.ensures ∙ c.if-is_empty.true))))
 
 pub returns-in_default-clause-no : goal.returns-in_default-clause-no
 returns-in_default-clause-no c = (

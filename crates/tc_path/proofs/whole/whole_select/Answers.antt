@@ -5,4 +5,4 @@ use Rattle.tc_path.proofs.PatternLoops.{some_tokens}
 use Rattle.tc_path.proofs.whole.whole_select.Goals as goal
 
 pub returns-else-is_empty-clause-no : goal.returns-else-is_empty-clause-no
-returns-else-is_empty-clause-no c = λ q drops a. some_tokens c.in_ok-path.rest.now (sym c.is_empty.ensures ∙ c.if-is_empty.false) (select_unique (map bound c.args.scope.now) c.in_ok-path.ensures.ok a).2
+returns-else-is_empty-clause-no c = λ q drops a. some_tokens c.in_ok-path.rest.now (sym c.is_empty.ensures ∙ c.if-is_empty.false) (select_unique (map bound c.args.scope.now) c.in_ok-path.ensures.0 a).2

@@ -15,7 +15,7 @@ more_tokens : {scope : List Bound} {ts rest : List Token} {us : Tests} {t : Test
 more_tokens {scope} a h (of_tests b) = h (or_unique scope a b).1
 
 pub returns-then-is_empty-clause-ok : goal.returns-then-is_empty-clause-ok
-returns-then-is_empty-clause-ok c = whole_test_is _ c.in_ok-tests.ensures.ok (no_tokens c.in_ok-tests.rest.now (sym c.is_empty.ensures ∙ c.if-is_empty.true)) c.disjunction.ensures
+returns-then-is_empty-clause-ok c = whole_test_is _ c.in_ok-tests.ensures.0 (no_tokens c.in_ok-tests.rest.now (sym c.is_empty.ensures ∙ c.if-is_empty.true)) c.disjunction.ensures
 
 pub returns-else-is_empty-clause-no : goal.returns-else-is_empty-clause-no
-returns-else-is_empty-clause-no c = λ t a. more_tokens c.in_ok-tests.ensures.ok (some_tokens c.in_ok-tests.rest.now (sym c.is_empty.ensures ∙ c.if-is_empty.false)) a
+returns-else-is_empty-clause-no c = λ t a. more_tokens c.in_ok-tests.ensures.0 (some_tokens c.in_ok-tests.rest.now (sym c.is_empty.ensures ∙ c.if-is_empty.false)) a

@@ -9,8 +9,8 @@ returns-in_err-inside c =
 
 pub returns-in_err-before : goal.returns-in_err-before
 returns-in_err-before c =
-    at_none _ c.from_residual-in_err-before.ensures (lacks_escape c.args.total c.args.text.now c.in_ok-inside.inside.now c.line-line.result.now c.in_ok-inside.ensures c.line-line.ensures c.in_err-before.ensures)
+    at_none _ c.from_residual-in_err-before.ensures (lacks_escape c.args.total c.args.text.now c.in_ok-inside.inside.now c.line-line.result.now (_, c.in_ok-inside.ensures) c.line-line.ensures c.in_err-before.ensures)
 
 pub returns : goal.returns
 returns c =
-    has_escape c.args.total c.args.text.now c.in_ok-inside.inside.now c.line-line.result.now c.in_ok-before.before _ c.in_ok-inside.ensures c.line-line.ensures c.in_ok-before.ensures refl
+    has_escape c.args.total c.args.text.now c.in_ok-inside.inside.now c.line-line.result.now c.in_ok-before.before _ (_, c.in_ok-inside.ensures) c.line-line.ensures c.in_ok-before.ensures refl

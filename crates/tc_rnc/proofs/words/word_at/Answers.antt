@@ -1,6 +1,5 @@
 use Rattle.tc_model.specs.CompactSyntaxTokens.{quoted, quoted_long, escaped_name}
-use Rattle.tc_scan.proofs.NamesLaws.{at_none}
-use Rattle.tc_rnc.proofs.WordLaws.{no_word}
+use Rattle.tc_rnc.proofs.WordLaws.{no_word, none_map}
 use Rattle.tc_rnc.proofs.words.word_at.Goals as goal
 
 pub returns-in-Some-long_literal : goal.returns-in-Some-long_literal
@@ -12,5 +11,5 @@ returns-in-Some-quoted c = quoted c.in-Some-quoted.ensures.0 c.in-Some-quoted.en
 pub returns-in-Some-escaped : goal.returns-in-Some-escaped
 returns-in-Some-escaped c = escaped_name c.in-Some-escaped.ensures
 
-pub returns-in_err-word : goal.returns-in_err-word
-returns-in_err-word c = at_none _ c.from_residual.ensures (no_word c.in_default.ensures c.in_default-quoted.ensures c.in_default-long_literal.ensures c.in_default-escaped.ensures c.in_err-word.ensures)
+pub returns : goal.returns
+returns c = none_map _ c.marked.result (no_word c.in_default.ensures c.in_default-quoted.ensures c.in_default-long_literal.ensures c.in_default-escaped.ensures) c.marked.ensures

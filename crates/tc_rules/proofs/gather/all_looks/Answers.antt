@@ -1,4 +1,4 @@
-use Rattle.std.proofs.Common.{List, [], ◌∙◌, ◌++◌, ap, flat_map}
+use Rattle.std.proofs.Common.{List, ◌∙◌, ◌++◌, ap, flat_map}
 use Rattle.std.specs.Borrow.{Bor}
 use Rattle.tc_model.specs.Numbered.{each_once}
 use Rattle.tc_model.specs.Numberings.{looks_in_test}

@@ -1,4 +1,4 @@
-use Rattle.std.proofs.Common.{List, ◌∙◌, ap, sym}
+use Rattle.std.proofs.Common.{List, ◌∙◌, ap}
 use Rattle.std.specs.Borrow.{Bor}
 use Rattle.tc_model.specs.Numbered.{each_once}
 use Rattle.tc_model.specs.SameTests.{same_test}

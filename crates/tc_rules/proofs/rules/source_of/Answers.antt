@@ -1,4 +1,4 @@
-use Rattle.std.proofs.Common.{◌≡◌, ◌≤◌, length, arith}
+use Rattle.std.proofs.Common.{◌≡◌, length, arith}
 use Rattle.tc_rules.proofs.Built.{source_is}
 use Rattle.tc_rules.proofs.rules.source_of.Goals as goal
 

@@ -503,3 +503,18 @@ apply_to_tree-returns-in-Some-clause-outcome t c = λ bodies g hb at.
     subst (Answers n c.args.output.now c.apply_to_trees.new.output c.apply_to_trees.result) (sym whole)
     (answers_then n c.args.output.now c.apply_to_element.new.output c.apply_to_trees.new.output c.apply_to_trees.result first below (c.in_ok-apply_to_element-in-Elem.ensures.outcome bodies g hb at)
     (c.apply_to_trees.ensures.outcome bodies next hb (going_below r bodies c.args.state c.in-Some.below g x at c.requires.runner lx c.in-Some.ensures)))
+
+pub copy-body-requires : goal.copy-body-requires
+copy-body-requires t c = (omega (arith, c.decreases), (c.requires.runner, (c.requires.here, (c.requires.part, (c.requires.nesting, (c.requires.work, c.requires.known))))))
+
+pub copy-put_element-requires : goal.copy-put_element-requires
+copy-put_element-requires t c = (omega (arith, c.decreases), (c.requires.runner, (c.requires.here, (c.requires.part, (c.requires.nesting, (c.requires.work, c.requires.known))))))
+
+pub put_element-body-requires : goal.put_element-body-requires
+put_element-body-requires t c = (omega (arith, c.decreases), (c.requires.runner, (c.requires.here, (c.requires.part, (c.requires.nesting, (c.in_ok-before.ensures.work.1, c.requires.known))))))
+
+pub body-instruction-requires : goal.body-instruction-requires
+body-instruction-requires t c =
+    let r = c.args.runner.now in
+    let part = part_at (sheet_by r) c.args.body.now c.loop-one.one-index c.one-item.result c.loop-one-test.true c.one-item.is c.loop-one.invariant.1 in
+    (omega (arith, c.decreases), (c.requires.runner, (c.requires.here, (part.0, (c.requires.nesting, (c.loop-one.invariant.0.0, c.loop-one.invariant.0.1))))))

@@ -1,4 +1,4 @@
-use Rattle.std.proofs.Common.{is_some, ap, ◌∙◌, sym, subst, rules}
+use Rattle.std.proofs.Common.{is_some, refl, ap, ◌∙◌, sym, subst, rules}
 use Rattle.tc_model.specs.Machine as machine
 use Rattle.tc_model.specs.Views as see
 use Rattle.tc_model.specs.declared.sheet.Test.TheViews.{the_lemmas}
@@ -9,6 +9,7 @@ use Rattle.tc_run.specs.Running.{looking, sheet_by, symbols_by}
 use Rattle.tc_run.specs.Views.{trees}
 use Rattle.tc_rules.specs.Tasks.{looking_from}
 use Rattle.tc_run.proofs.FirstHits.{none_first, answered_some}
+use Rattle.tc_run.proofs.Tested.{part_next, hold_further, one_fails, fail_further, one_holds, all_held, all_failed}
 use Rattle.tc_run.proofs.looks.+tests.Goals as goal
 
 pub holds-look_first-requires : goal.holds-look_first-requires
@@ -45,3 +46,41 @@ holds-returns-in-And t c =
 pub holds-returns-in-Or : goal.holds-returns-in-Or
 holds-returns-in-Or t c =
     c.some_holds.ensures ∙ sym (ap (λ w. machine.holds_in (looking c.args.runner.now) w (l.bare (trees c.args.kids.now))) (ap see.test c.in-Or.is ∙ see_or c.in-Or.tests))
+
+pub all_hold-loop-test-init : goal.all_hold-loop-test-init
+all_hold-loop-test-init t c = (c.requires.tests, refl)
+
+pub all_hold-holds-requires : goal.all_hold-holds-requires
+all_hold-holds-requires t c =
+    let part = part_next (sheet_by c.args.runner.now) c.args.tests.now c.loop-test.test-index c.test-item.result c.loop-test-test.true c.test-item.is c.loop-test.invariant.0 in
+    (search (rules, the_lemmas), (c.requires.runner, (c.requires.kids, part.0)))
+
+pub all_hold-loop-test-preserved : goal.all_hold-loop-test-preserved
+all_hold-loop-test-preserved t c =
+    let part = part_next (sheet_by c.args.runner.now) c.args.tests.now c.loop-test.test-index c.test-item.result c.loop-test-test.true c.test-item.is c.loop-test.invariant.0 in
+    (part.1, hold_further (looking c.args.runner.now) (l.bare (trees c.args.kids.now)) c.args.tests.now c.loop-test.test-index c.test-item.result c.holds.result _ c.loop-test-test.true c.test-item.is c.holds.ensures c.loop-test.invariant.1 c.if-not-holds.false)
+
+pub all_hold-returns-then-not-holds : goal.all_hold-returns-then-not-holds
+all_hold-returns-then-not-holds t c = one_fails (looking c.args.runner.now) (l.bare (trees c.args.kids.now)) c.args.tests.now c.loop-test.test-index c.test-item.result c.holds.result _ c.loop-test-test.true c.test-item.is c.holds.ensures c.loop-test.invariant.1 c.if-not-holds.true
+
+pub all_hold-returns : goal.all_hold-returns
+all_hold-returns t c = all_held (looking c.args.runner.now) (l.bare (trees c.args.kids.now)) c.args.tests.now c.loop-test.test-index _ c.loop-test-test.false c.loop-test.invariant.1
+
+pub some_holds-loop-test-init : goal.some_holds-loop-test-init
+some_holds-loop-test-init t c = (c.requires.tests, refl)
+
+pub some_holds-holds-requires : goal.some_holds-holds-requires
+some_holds-holds-requires t c =
+    let part = part_next (sheet_by c.args.runner.now) c.args.tests.now c.loop-test.test-index c.test-item.result c.loop-test-test.true c.test-item.is c.loop-test.invariant.0 in
+    (search (rules, the_lemmas), (c.requires.runner, (c.requires.kids, part.0)))
+
+pub some_holds-loop-test-preserved : goal.some_holds-loop-test-preserved
+some_holds-loop-test-preserved t c =
+    let part = part_next (sheet_by c.args.runner.now) c.args.tests.now c.loop-test.test-index c.test-item.result c.loop-test-test.true c.test-item.is c.loop-test.invariant.0 in
+    (part.1, fail_further (looking c.args.runner.now) (l.bare (trees c.args.kids.now)) c.args.tests.now c.loop-test.test-index c.test-item.result c.holds.result _ c.loop-test-test.true c.test-item.is c.holds.ensures c.loop-test.invariant.1 c.if-holds.false)
+
+pub some_holds-returns-then-holds : goal.some_holds-returns-then-holds
+some_holds-returns-then-holds t c = one_holds (looking c.args.runner.now) (l.bare (trees c.args.kids.now)) c.args.tests.now c.loop-test.test-index c.test-item.result c.holds.result _ c.loop-test-test.true c.test-item.is c.holds.ensures c.loop-test.invariant.1 c.if-holds.true
+
+pub some_holds-returns : goal.some_holds-returns
+some_holds-returns t c = all_failed (looking c.args.runner.now) (l.bare (trees c.args.kids.now)) c.args.tests.now c.loop-test.test-index _ c.loop-test-test.false c.loop-test.invariant.1

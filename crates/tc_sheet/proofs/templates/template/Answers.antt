@@ -39,7 +39,7 @@ pub returns-then-not-is_complete-clause-no : goal.returns-then-not-is_complete-c
 returns-then-not-is_complete-clause-no c = (element_at at_top c.args.element.now none (template_unrefused (name c.args.element.now.name) c.requires), template_incomplete (λ xs. map alternative xs.now) name c.args.element.now c.in_ok-pattern.pattern c.in_ok-name.name c.in_ok-mode.mode (lacks_by c.is_some.result c.is_some-2.result c.is_some-3.result c.in_ok-pattern.pattern c.in_ok-name.name c.in_ok-mode.mode c.is_some.ensures c.is_some-2.ensures c.is_some-3.ensures (sym c.if-not-is_complete.ensures)) c.in_ok-pattern.ensures.ok c.in_ok-name.ensures.ok c.in_ok-mode.ensures.ok both)
 
 pub returns-in_err-body-clause-no : goal.returns-in_err-body-clause-no
-returns-in_err-body-clause-no c = handed_on _ c.from_residual-in_err-body.result c.in_err-body.field-0.0 c.from_residual-in_err-body.ensures.1 (template_body_refuses c.args.element.now c.in_err-body.field-0.0 c.requires c.in_err-body.ensures.no)
+returns-in_err-body-clause-no c = handed_on _ c.from_residual-in_err-body.result c.in_err-body.field-0.0 c.from_residual-in_err-body.ensures.1 (template_body_refuses c.args.element.now c.in_err-body.field-0.0 c.requires c.in_err-body.ensures)
 
 pub returns-clause-ok : goal.returns-clause-ok
 returns-clause-ok c =
@@ -56,6 +56,6 @@ returns-clause-ok c =
       mode = c.in_ok-mode.ensures.ok;
       pattern_or_name = pattern_or_name (λ xs. map alternative xs.now) name c.in_ok-pattern.pattern c.in_ok-name.name c.in_ok-mode.mode has;
       mode_with_pattern = mode_with_pattern (λ xs. map alternative xs.now) name c.in_ok-pattern.pattern c.in_ok-name.name c.in_ok-mode.mode has;
-      body = c.in_ok-body.ensures.ok;
+      body = c.in_ok-body.ensures;
       place = refl;
     }

@@ -3,7 +3,7 @@ use Rattle.std.proofs.lemmas.List.{append-nil}
 use Rattle.tc_graph.proofs.Tops.{on_ok}
 use Rattle.tc_simple.specs.Nodes.{element_of, see_element}
 use Rattle.tc_simple.proofs.Answered.{found_next}
-use Rattle.tc_simple.proofs.Below.{past_references, in_part, in_parts, element_skips}
+use Rattle.tc_simple.proofs.Below.{past_references, in_part, in_parts, element_found, element_skips}
 use Rattle.tc_simple.proofs.elements.+elements.Goals as goal
 
 pub add_all_elements-loop-pattern-preserved : goal.add_all_elements-loop-pattern-preserved
@@ -14,6 +14,10 @@ add_all_elements-loop-pattern-preserved t c =
 
 pub add_elements-returns-in-Empty : goal.add_elements-returns-in-Empty
 add_elements-returns-in-Empty t c = sym (ap (λ z. map see_element c.args.found.now.items ++ z) (past_references element_of element_skips (λ n k. refl) true c.args.pattern.now c.in-Empty.is) ∙ append-nil (map see_element c.args.found.now.items))
+
+pub add_elements-returns-in_ok-push-in-Element : goal.add_elements-returns-in_ok-push-in-Element
+add_elements-returns-in_ok-push-in-Element t c =
+    on_ok c.add_elements.result (element_found c.args.found.now.items c.push.new.self.items c.args.pattern.now _ _ _ c.in-Element.is c.in_ok-push-in-Element.ensures.items) c.add_elements.ensures
 
 pub add_elements-returns-in-Mixed : goal.add_elements-returns-in-Mixed
 add_elements-returns-in-Mixed t c =

@@ -22,6 +22,9 @@ returns-in_err-read_all-clause-within c = omega (arith, ap length c.requires.non
 pub returns-in_err-read_all-clause-short : goal.returns-in_err-read_all-clause-short
 returns-in_err-read_all-clause-short c = λ some. absurd (omega (arith, some, ap length c.requires.none))
 
+pub slice_bounds-take_behind-count : goal.slice_bounds-take_behind-count
+slice_bounds-take_behind-count c = omega (arith, front_within c.args.bytes.now c.characters-text.result.now c.characters-text.ensures)
+
 pub take_behind-requires-clause-low : goal.take_behind-requires-clause-low
 take_behind-requires-clause-low c = omega (arith, front_within c.args.bytes.now c.characters-text.result.now c.characters-text.ensures, c.requires.room)
 

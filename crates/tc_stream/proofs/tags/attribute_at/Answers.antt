@@ -222,3 +222,10 @@ returns-in_err-value-clause-missing c = λ chars.
     (broken_map x (NoQuoted equals) (NoAttribute t)
     (no_value_there_open t c.in-Some.start.now c.in_ok-name.behind.now n c.in-Some.ensures.1 c.in_ok-name.ensures.ok chars equals c.in-Some-after_equals.ensures space)
     (c.in_err-value.ensures.missing (value_chars t c.in-Some.start.now c.in_ok-name.behind.now equals n c.in-Some.ensures.1 c.in_ok-name.ensures.ok c.in-Some-after_equals.ensures chars)))
+
+pub overflow_sub-result : goal.overflow_sub-result
+overflow_sub-result c = let same = ap length c.in-Some.ensures.1 in let fits = c.requires in omega (arith, same, white_within c.args.text.now, fits)
+
+pub overflow_sub-total : goal.overflow_sub-total
+overflow_sub-total c =
+    let same = ap length c.in-Some.ensures.1 in let fits = c.requires in omega (arith, same, white_within c.args.text.now, fits, qname_within c.in_ok-name.ensures.ok)

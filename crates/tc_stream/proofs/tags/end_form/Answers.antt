@@ -1,14 +1,18 @@
-use Rattle.std.proofs.Common.{◌≡◌, ◌++◌, ◌-◌, [], List, ℕ, IsTrue, IsFalse, ◌∙◌, sym, ap, refl, take, length, bytes_eq, codes}
+use Rattle.std.proofs.Common.{◌≡◌, ◌++◌, ◌-◌, [], List, ℕ, IsTrue, IsFalse, ◌∙◌, sym, ap, refl, take, length, arith, bytes_eq, codes}
 use Rattle.std.specs.Cmp.Lexicographic.{bytes_decides}
 use Rattle.std.proofs.lemmas.Bool.{true≢false}
 use Rattle.tc_model.specs.XmlTextBytes.{after_white}
 use Rattle.tc_scan.specs.Views.{written_name}
 use Rattle.tc_stream.specs.XmlTextTags.{EndTagAt}
+use Rattle.tc_stream.proofs.FormLaws.{qname_within}
 use Rattle.tc_stream.proofs.OpenLaws.{short_map, broken_map}
 use Rattle.tc_stream.proofs.EndOpen.{end_short, end_missing}
 use Rattle.tc_stream.proofs.NameBytes.{an_end, no_end, no_end_mark, no_end_name}
 use Rattle.tc_stream.proofs.tags.end_form.Goals as goal
 use Rattle.tc_stream.proofs.tags.end_form.Goals.{else-eq-via-then-eq+else-eq-2, else-eq-via-else-eq}
+
+pub slice_bounds-found-count : goal.slice_bounds-found-count
+slice_bounds-found-count c = omega (arith, qname_within c.in-Some-qname.ensures, ap length c.as_bytes.ensures.value)
 
 pub returns-in_default-clause-told : goal.returns-in_default-clause-told
 returns-in_default-clause-told c = λ written from w e. (c.stopped.ensures.stop, no_end_mark c.args.tag.now c.in_default.ensures written)

@@ -9,6 +9,7 @@ use Rattle.tc_xml.specs.Reading.{BodyAt, empty, filled, BodyRefuses, AddsPiece}
 use Rattle.tc_xml.specs.Refusals.{RefusesWithin, RefusedAt, OnMalformed}
 use Rattle.tc_xml.specs.Views.{gathered_before}
 use Rattle.tc_xml.specs.Tags.{in_scope}
+use Rattle.tc_xml.proofs.FailedLaws.{failed_ok}
 use Rattle.tc_xml.proofs.ContentLaws.{failed, item_within, item_loosened}
 use Rattle.tc_xml.proofs.MalformedLaws.{of_malformed, of_refuses, of_breaks, of_both, of_both_within, err_both, no_characters_refused, no_bang_refused, no_question_refused, no_child_refused, no_tag_refused, no_body_refused, no_inside_refused, no_closing_refused}
 use Rattle.tc_xml.proofs.ItemLaws.{lacks_instruction, is_child}
@@ -365,3 +366,15 @@ pub item-returns-then-begins-clause-stands : goal.item-returns-then-begins-claus
 item-returns-then-begins-clause-stands t c =
     let P = refusals.ContentRefuses c.args.total (in_scope c.args.scope) c.args.depth c.args.text.now in
     IfErr-weaker c.comment_or_cdata.result _ (λ e. RefusedAt e P) (λ e. breaks_shallow e _ P) c.comment_or_cdata.ensures.no
+
+pub body-returns-in_err-end-clause-ok : goal.body-returns-in_err-end-clause-ok
+body-returns-in_err-end-clause-ok t c = failed_ok _ _ _ c.from_residual.ensures.1
+
+pub content-returns-in_err-rest-clause-ok : goal.content-returns-in_err-rest-clause-ok
+content-returns-in_err-rest-clause-ok t c = failed_ok _ _ _ c.from_residual.ensures.1
+
+pub element-returns-in_err-tag-clause-ok : goal.element-returns-in_err-tag-clause-ok
+element-returns-in_err-tag-clause-ok t c = failed_ok _ _ _ c.from_residual.ensures.1
+
+pub element-returns-in_err-rest-clause-ok : goal.element-returns-in_err-rest-clause-ok
+element-returns-in_err-rest-clause-ok t c = failed_ok _ _ _ c.from_residual-in_err-rest.ensures.1

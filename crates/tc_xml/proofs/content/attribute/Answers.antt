@@ -1,13 +1,38 @@
-use Rattle.std.proofs.Common.{true, false, List, ℕ}
+use Rattle.std.proofs.Common.{◌≡◌, ℕ, ◌-◌, true, false, List, ap, ◌∙◌, sym, subst, length}
 use Rattle.tc_model.specs.XmlTextScopes.{WrittenAttribute}
-use Rattle.tc_model.specs.XmlTextRefusals.{AttributesRefuse}
+use Rattle.tc_model.specs.XmlTextBytes.{BeginsWithWhite, after_white}
+use Rattle.tc_model.specs.XmlTextNames.{QualifiedName, QNameAt}
+use Rattle.tc_model.specs.XmlTextRefusals.{xml_space, AttributesRefuse, space, value, past_attribute}
 use Rattle.tc_scan.specs.Views.{written_name}
 use Rattle.tc_xml.specs.Refusals.{Refuses, UnsupportedAt, OnMalformed}
 use Rattle.tc_xml.specs.Reading.{AttributeAt}
 use Rattle.tc_base.specs.declared.reasons.Why.{Why}
+use Rattle.tc_xml.proofs.FailedLaws.{failed_ok}
 use Rattle.tc_xml.proofs.MalformedLaws.{of_both, no_equals_refused, no_value_refused}
 use Rattle.tc_xml.proofs.ContentLaws.{not_xml_space, no_equals, no_value, space_stands, value_stands, failed, refuse_both, unsupported_map}
 use Rattle.tc_xml.proofs.content.attribute.Goals as goal
+
+no_white_refused : {text at : List ℕ} {why : Why} → (BeginsWithWhite text → ⊥) → AttributesRefuse text why at → ⊥
+no_white_refused h (space w n) = h w
+no_white_refused h (value w n f e q) = h w
+no_white_refused h (past_attribute w n f e q l) = h w
+
+no_name_refused : {text start at : List ℕ} {why : Why} → start ≡ after_white text → ((name : QualifiedName) (after : List ℕ) → QNameAt start name after → ⊥) → AttributesRefuse text why at → ⊥
+no_name_refused is h (space {past_name = p} w n) = h xml_space p (subst (λ z. QNameAt z xml_space p) (sym is) n)
+no_name_refused is h (value {past_name = p} {name = m} w n f e q) = h m p (subst (λ z. QNameAt z m p) (sym is) n)
+no_name_refused is h (past_attribute {past_name = p} {name = m} w n f e q l) = h m p (subst (λ z. QNameAt z m p) (sym is) n)
+
+pub returns-in_default-clause-no : goal.returns-in_default-clause-no
+returns-in_default-clause-no c = λ a after at. c.in_default.ensures at.white
+
+pub returns-in_default-clause-malformed : goal.returns-in_default-clause-malformed
+returns-in_default-clause-malformed c = λ why at a. no_white_refused c.in_default.ensures a
+
+pub returns-in_default-qname-clause-no : goal.returns-in_default-qname-clause-no
+returns-in_default-qname-clause-no c = λ a after at. c.in_default-qname.ensures a.name at.past_name (subst (λ z. QNameAt z a.name at.past_name) (sym c.in-Some.ensures.1) at.names)
+
+pub returns-in_default-qname-clause-malformed : goal.returns-in_default-qname-clause-malformed
+returns-in_default-qname-clause-malformed c = λ why at a. no_name_refused c.in-Some.ensures.1 c.in_default-qname.ensures a
 
 pub returns-then-is_xml_space-clause-no : goal.returns-then-is_xml_space-clause-no
 returns-then-is_xml_space-clause-no c =
@@ -56,3 +81,18 @@ returns-in_err-value-clause-malformed c =
     (no_value_refused c.args.text.now c.in-Some.start.now c.in-Some-qname.behind.now c.in-Some-after_equals.equals.now (written_name c.in-Some-qname.name) c.in-Some.ensures.1 c.in-Some-qname.ensures
     c.if-is_xml_space.ensures c.in-Some-after_equals.ensures)
     c.in_err-value.ensures.no c.in_err-value.ensures.malformed)
+
+pub returns-clause-ok : goal.returns-clause-ok
+returns-clause-ok c = record {
+  past_name = c.in-Some-qname.behind.now;
+  start = c.in-Some-after_equals.equals.now;
+  white = c.in-Some.ensures.0;
+  names = subst (λ z. QNameAt z (written_name c.in-Some-qname.name) c.in-Some-qname.behind.now) c.in-Some.ensures.1 c.in-Some-qname.ensures;
+  equals = c.in-Some-after_equals.ensures;
+  quoted = c.in_ok-value.ensures.ok;
+  stands = c.place_of-place.ensures ∙ ap (λ w. c.args.total - length w) c.in-Some.ensures.1;
+  no_space = sym c.if-is_xml_space.ensures;
+}
+
+pub returns-in_err-value-clause-ok : goal.returns-in_err-value-clause-ok
+returns-in_err-value-clause-ok c = failed_ok _ _ _ c.from_residual.ensures.1

@@ -6,6 +6,7 @@ use Rattle.tc_model.specs.XmlTextBytes.{after_white}
 use Rattle.tc_model.specs.XmlTextRefusals.{AttributesRefuse}
 use Rattle.tc_xml.specs.Refusals.{Refuses, UnsupportedAt}
 use Rattle.tc_xml.specs.Tags.{written, lacks_space}
+use Rattle.tc_xml.proofs.FailedLaws.{failed_ok}
 use Rattle.tc_xml.proofs.ContentLaws.{attributes_more, no_attributes, all_attributes, attribute_within, failed, refuse_both, unsupported_map, Attributes}
 use Rattle.tc_xml.proofs.content.attributes.Goals as goal
 
@@ -47,3 +48,15 @@ returns-clause-ok c =
     let rest = c.loop-rest.rest.now in
     all_attributes c.args.total c.args.text.now rest c.after_white-2.result.now (map written c.loop-rest.found.items) c.loop-rest.invariant.so_far
     (subst EndsTag c.after_white.ensures c.loop-rest-test.ensures) c.after_white-2.ensures
+
+pub returns-in_err-written-clause-ok : goal.returns-in_err-written-clause-ok
+returns-in_err-written-clause-ok c = failed_ok _ _ _ c.from_residual.ensures.1
+
+pub returns-in_err-written-clause-no_space : goal.returns-in_err-written-clause-no_space
+returns-in_err-written-clause-no_space c = failed_ok _ _ _ c.from_residual.ensures.1
+
+pub returns-in_err-push-clause-ok : goal.returns-in_err-push-clause-ok
+returns-in_err-push-clause-ok c = failed_ok _ _ _ c.from_residual-in_err-push.ensures.1
+
+pub returns-in_err-push-clause-no_space : goal.returns-in_err-push-clause-no_space
+returns-in_err-push-clause-no_space c = failed_ok _ _ _ c.from_residual-in_err-push.ensures.1

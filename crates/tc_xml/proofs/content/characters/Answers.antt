@@ -4,6 +4,7 @@ use Rattle.tc_model.specs.XmlTextBytes.{line_ends}
 use Rattle.tc_model.specs.XmlTextContent.{characters}
 use Rattle.tc_xml.specs.Refusals.{Refuses}
 use Rattle.tc_xml.specs.Reading.{LacksItem}
+use Rattle.tc_xml.proofs.FailedLaws.{failed_ok}
 use Rattle.tc_xml.proofs.ContentLaws.{failed, refuse_both}
 use Rattle.tc_xml.proofs.ItemLaws.{lacks_reference, lacks_characters, reference_item, data_item}
 use Rattle.tc_xml.proofs.content.characters.Goals as goal
@@ -31,3 +32,12 @@ returns-clause-ok c = (
   data_item c.args.total c.args.text.now c.in-Some.run'.now c.in-Some.rest.now (place c.place_of-2.result) c.in-Some.ensures c.place_of-2.ensures,
   c.in_ok-gather_characters.ensures,
 )
+
+pub returns-in_err-character-clause-ok : goal.returns-in_err-character-clause-ok
+returns-in_err-character-clause-ok c = failed_ok _ _ _ c.from_residual.ensures.1
+
+pub returns-in_err-gather_character-clause-ok : goal.returns-in_err-gather_character-clause-ok
+returns-in_err-gather_character-clause-ok c = failed_ok _ _ _ c.from_residual-in_err-gather_character.ensures.1
+
+pub returns-in_err-gather_characters-clause-ok : goal.returns-in_err-gather_characters-clause-ok
+returns-in_err-gather_characters-clause-ok c = failed_ok _ _ _ c.from_residual-in_err-gather_characters.ensures.1

@@ -2,6 +2,7 @@ use Rattle.std.proofs.Common.{refl, true}
 use Rattle.tc_model.specs.Views.{place}
 use Rattle.tc_model.specs.XmlTextBytes.{line_ends}
 use Rattle.tc_model.specs.XmlTextContent.{nothing, characters, comment}
+use Rattle.tc_xml.proofs.FailedLaws.{failed_ok}
 use Rattle.tc_xml.proofs.ItemLaws.{lacks_bang, cdata_item}
 use Rattle.tc_xml.proofs.content.comment_or_cdata.Goals as goal
 
@@ -18,3 +19,6 @@ returns-clause-ok c = (
   cdata_item c.args.total c.args.text.now c.in-Some-cdata.inside.now c.in-Some-cdata.rest.now (place c.place_of.result) c.in-Some-cdata.ensures c.place_of.ensures,
   c.in_ok-gather_characters.ensures,
 )
+
+pub returns-in_err-gather_characters-clause-ok : goal.returns-in_err-gather_characters-clause-ok
+returns-in_err-gather_characters-clause-ok c = failed_ok _ _ _ c.from_residual.ensures.1

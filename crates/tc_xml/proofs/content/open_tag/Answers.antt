@@ -8,6 +8,7 @@ use Rattle.tc_xml.specs.Refusals.{Refuses, UnsupportedAt, OnMalformed}
 use Rattle.tc_xml.specs.Tags.{written, in_scope}
 use Rattle.tc_base.specs.declared.reasons.Why.{Why}
 use Rattle.tc_model.specs.XmlTextRefusals.{TagRefuses}
+use Rattle.tc_xml.proofs.FailedLaws.{failed_ok}
 use Rattle.tc_xml.proofs.MalformedLaws.{of_malformed, of_breaks, no_opening_refused, no_tag_name_refused, no_list_refused, read_list_not_refused}
 use Rattle.tc_xml.proofs.ContentLaws.{no_list, no_meaning, broken, failed, refuse_both, unsupported_map}
 use Rattle.tc_xml.proofs.DocumentLaws.{list_stands, breaks_nowhere}
@@ -103,3 +104,9 @@ returns-clause-ok c = record {
   lists = subst (λ l. AttributesAt false c.args.total c.in-Some-qname.behind.now (map written l) c.in_ok-list.rest.now) (sym c.as_slice.ensures.value) c.in_ok-list.ensures.ok;
   means = c.in_ok-meaning.ensures.ok;
 }
+
+pub returns-in_err-list-clause-ok : goal.returns-in_err-list-clause-ok
+returns-in_err-list-clause-ok c = failed_ok _ _ _ c.from_residual.ensures.1
+
+pub returns-in_err-meaning-clause-ok : goal.returns-in_err-meaning-clause-ok
+returns-in_err-meaning-clause-ok c = failed_ok _ _ _ c.from_residual-in_err-meaning.ensures.1

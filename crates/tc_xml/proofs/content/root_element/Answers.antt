@@ -5,6 +5,7 @@ use Rattle.tc_model.specs.XmlTextContent.{Piece, piece_before, ElementAt}
 use Rattle.tc_model.specs.XmlTextRefusals.{Cause, ElementRefuses}
 use Rattle.tc_model.specs.XmlTextScopes.{first_scope}
 use Rattle.tc_xml.specs.Refusals.{RefusesWithin, RefusedAt, OnMalformed}
+use Rattle.tc_xml.proofs.FailedLaws.{failed_ok}
 use Rattle.tc_xml.proofs.ContentLaws.{failed}
 use Rattle.tc_xml.proofs.DocumentLaws.{breaks_within, breaks_shallow}
 use Rattle.tc_xml.proofs.MalformedLaws.{of_breaks}
@@ -76,3 +77,12 @@ returns-in_err-rest-clause-malformed c =
     let e = c.in_err-rest.field-0.0 in
     failed c.from_residual-in_err-rest.result (λ e. OnMalformed e Q) e c.from_residual-in_err-rest.ensures.1
     (subst (λ s. OnMalformed e ((cause : Cause) (at : List ℕ) → ElementRefuses c.args.total s c.args.depth c.args.text.now cause at → ⊥)) c.in_ok-scope.ensures.ok c.in_err-rest.ensures.malformed)
+
+pub returns-in_err-scope-clause-ok : goal.returns-in_err-scope-clause-ok
+returns-in_err-scope-clause-ok c = failed_ok _ _ _ c.from_residual.ensures.1
+
+pub returns-in_err-rest-clause-ok : goal.returns-in_err-rest-clause-ok
+returns-in_err-rest-clause-ok c = failed_ok _ _ _ c.from_residual-in_err-rest.ensures.1
+
+pub returns-in_err-trees-clause-ok : goal.returns-in_err-trees-clause-ok
+returns-in_err-trees-clause-ok c = failed_ok _ _ _ c.from_residual-in_err-trees.ensures.1

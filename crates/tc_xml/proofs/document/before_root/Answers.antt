@@ -4,6 +4,7 @@ use Rattle.tc_model.specs.XmlText.{after_mark, deepest_element}
 use Rattle.tc_model.specs.XmlTextMisc.{DeclarationAt, MiscAt, DoctypeAt}
 use Rattle.tc_model.specs.XmlTextRefusals.{Cause, unsupported, DocumentRefuses}
 use Rattle.tc_xml.specs.Refusals.{Refuses, UnsupportedAt, OnMalformed}
+use Rattle.tc_xml.proofs.FailedLaws.{failed_ok}
 use Rattle.tc_xml.proofs.ContentLaws.{broken, failed, refuse_both, unsupported_map}
 use Rattle.tc_xml.proofs.DocumentLaws.{no_declaration_before, no_misc_before, no_doctype_before, declaration_stands, subset_stands, breaks_nowhere}
 use Rattle.tc_xml.proofs.MalformedLaws.{of_breaks, of_both, err_both, no_declaration_refused, no_misc_refused, no_doctype_refused}
@@ -82,3 +83,9 @@ returns-clause-malformed c =
     let Q = (cause : Cause) (at : List ℕ) → DocumentRefuses deepest_element t cause at → ⊥ in
     err_both c.after_doctype.result _ _ (λ e. OnMalformed e Q)
     (λ e h k. of_both e _ _ _ Q (no_doctype_refused deepest_element t c.past_mark-start.result.now c.in_ok-past_declaration.past_declaration.now c.past_mark-start.ensures c.in_ok-past_declaration.ensures.ok c.in_ok-past_misc.past_misc.now c.in_ok-past_misc.ensures.ok) h k) c.after_doctype.ensures.no c.after_doctype.ensures.malformed
+
+pub returns-in_err-past_declaration-clause-ok : goal.returns-in_err-past_declaration-clause-ok
+returns-in_err-past_declaration-clause-ok c = failed_ok _ _ _ c.from_residual.ensures.1
+
+pub returns-in_err-past_misc-clause-ok : goal.returns-in_err-past_misc-clause-ok
+returns-in_err-past_misc-clause-ok c = failed_ok _ _ _ c.from_residual-in_err-past_misc.ensures.1

@@ -2,15 +2,29 @@ use Rattle.std.proofs.Common.{◌≡◌, ℕ, true, false, [], refl, sym, subst,
 use Rattle.std.proofs.lemmas.Bool.{true≢false, eqb-true}
 use Rattle.std.proofs.lemmas.List.{nil_from_length}
 use Rattle.tc_model.specs.RawTrees.{RawTrees}
+use Rattle.tc_model.specs.Views.{raw_tree}
 use Rattle.tc_model.specs.XmlText as xml
 use Rattle.tc_model.specs.XmlTextMisc.{MiscAt}
 use Rattle.tc_model.specs.XmlTextRefusals.{Cause, DocumentRefuses}
 use Rattle.tc_xml.specs.Refusals.{RefusesWithin, RefusedAt, OnMalformed}
 use Rattle.tc_xml.proofs.ContentLaws.{failed}
+use Rattle.tc_xml.proofs.FailedLaws.{failed_ok}
 use Rattle.tc_xml.proofs.ElementLaws.{refuse_within, refused_map, refuse_shallow, refused_shallow}
 use Rattle.tc_xml.proofs.DocumentLaws.{no_root_here, no_element_here, no_end_here, no_more_here, element_stands, breaks_within, breaks_shallow}
 use Rattle.tc_xml.proofs.MalformedLaws.{of_malformed, of_breaks, no_root_refused, root_not_refused}
 use Rattle.tc_xml.proofs.document.document.Goals as goal
+
+pub returns-in_err-root-clause-ok : goal.returns-in_err-root-clause-ok
+returns-in_err-root-clause-ok c = failed_ok c.from_residual.result (λ r. xml.XmlText c.args.text.now (raw_tree r)) c.in_err-root.field-0.0 c.from_residual.ensures.1
+
+pub returns-in_err-tree-clause-ok : goal.returns-in_err-tree-clause-ok
+returns-in_err-tree-clause-ok c = failed_ok c.from_residual-in_err-tree.result (λ r. xml.XmlText c.args.text.now (raw_tree r)) c.in_err-tree.field-0.0 c.from_residual-in_err-tree.ensures.1
+
+pub returns-in_err-end-clause-ok : goal.returns-in_err-end-clause-ok
+returns-in_err-end-clause-ok c = failed_ok c.from_residual-in_err-end.result (λ r. xml.XmlText c.args.text.now (raw_tree r)) c.in_err-end.field-0.0 c.from_residual-in_err-end.ensures.1
+
+pub root_element-requires : goal.root_element-requires
+root_element-requires c = c.requires.total
 
 pub returns-in_err-root-clause-no : goal.returns-in_err-root-clause-no
 returns-in_err-root-clause-no c =

@@ -4,6 +4,7 @@ use Rattle.tc_base.specs.declared.reasons.Why.TheVariants.{Encoding}
 use Rattle.tc_model.specs.XmlTextBytes.{after_white}
 use Rattle.tc_model.specs.XmlTextMisc.{SettingAt, IsReadEncoding, EncodingAt, StandaloneAt}
 use Rattle.tc_xml.specs.Refusals.{Refuses, UnsupportedAt, OnMalformed}
+use Rattle.tc_xml.proofs.FailedLaws.{failed_ok}
 use Rattle.tc_xml.proofs.MiscLaws.{no_standing, no_declaration_end}
 use Rattle.tc_xml.proofs.MalformedLaws.{of_malformed, of_breaks, read_encoding_not_refused}
 use Rattle.tc_xml.proofs.DocumentLaws.{breaks_nowhere}
@@ -59,3 +60,6 @@ returns-in-None-clause-no c =
 pub returns-in-None-clause-malformed : goal.returns-in-None-clause-malformed
 returns-in-None-clause-malformed c =
     read_encoding_not_refused c.args.text.now c.in_ok-past_encoding.past_encoding.now c.in_ok-past_encoding.ensures.ok
+
+pub returns-in_err-past_encoding-clause-ok : goal.returns-in_err-past_encoding-clause-ok
+returns-in_err-past_encoding-clause-ok c = failed_ok _ _ _ c.from_residual.ensures.1

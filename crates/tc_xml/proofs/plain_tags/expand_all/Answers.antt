@@ -1,5 +1,6 @@
 use Rattle.std.proofs.Common.{◌∙◌, sym, ap, map, take_all, Some}
 use Rattle.tc_xml.specs.PlainTags.{as_written, as_expanded, expanded_name}
+use Rattle.tc_xml.proofs.FailedLaws.{failed_some}
 use Rattle.tc_xml.proofs.PlainTagLaws.{expanded_more}
 use Rattle.tc_xml.proofs.TwiceLaws.{blank}
 use Rattle.tc_xml.proofs.plain_tags.expand_all.Goals as goal
@@ -15,3 +16,6 @@ loop-name-preserved c = λ scope t.
 pub returns : goal.returns
 returns c = λ scope t.
     ap (λ w. map (expanded_name scope) (map as_written w)) (sym (take_all c.loop-name.name-index c.args.names.now c.loop-name-test.false)) ∙ c.loop-name.invariant scope t
+
+pub returns-in_err-meant : goal.returns-in_err-meant
+returns-in_err-meant c = failed_some _ _ c.from_residual.ensures

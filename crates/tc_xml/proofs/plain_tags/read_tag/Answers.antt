@@ -2,6 +2,7 @@ use Rattle.std.proofs.Common.{subst, rules}
 use Rattle.tc_model.specs.Views.{name}
 use Rattle.tc_scan.specs.Views.{written_name}
 use Rattle.tc_xml.specs.PlainTags.{AreExpanded}
+use Rattle.tc_xml.proofs.FailedLaws.{failed_some}
 use Rattle.tc_xml.proofs.PlainTagLaws.{a_tag, tag_is_shorter}
 use Rattle.tc_xml.proofs.plain_tags.read_tag.Goals as goal
 
@@ -19,3 +20,18 @@ returns c = λ total.
           c.in_ok-start.ensures c.in_ok-written.ensures read c.in_ok-name.ensures (subst (λ w. AreExpanded bindings w expanded) c.as_slice.ensures.value c.in_ok-expand_all.ensures)
           (c.all_differ_sorted.ensures (search rules));
     }
+
+pub returns-in_err-start : goal.returns-in_err-start
+returns-in_err-start c = failed_some _ _ c.from_residual.ensures
+
+pub returns-in_err-written : goal.returns-in_err-written
+returns-in_err-written c = failed_some _ _ c.from_residual-in_err-written.ensures
+
+pub returns-in_err-rest : goal.returns-in_err-rest
+returns-in_err-rest c = failed_some _ _ c.from_residual-in_err-rest.ensures
+
+pub returns-in_err-name : goal.returns-in_err-name
+returns-in_err-name c = failed_some _ _ c.from_residual-in_err-name.ensures
+
+pub returns-in_err-expand_all : goal.returns-in_err-expand_all
+returns-in_err-expand_all c = failed_some _ _ c.from_residual-in_err-expand_all.ensures

@@ -1,5 +1,6 @@
 use Rattle.std.proofs.Common.{[], rules}
 use Rattle.tc_model.specs.XmlTextReferences.{closed}
+use Rattle.tc_xml.proofs.FailedLaws.{failed_some}
 use Rattle.tc_xml.proofs.ValueLaws.{value_before, piece_shorter, text_past_piece}
 use Rattle.tc_xml.proofs.references.after_quoted.Goals as goal
 
@@ -29,3 +30,9 @@ returns-in-Some c =
         closes = v;
       },
     )
+
+pub returns-in_err-quote : goal.returns-in_err-quote
+returns-in_err-quote c = failed_some _ _ c.from_residual.ensures
+
+pub returns-in_err-rest : goal.returns-in_err-rest
+returns-in_err-rest c = failed_some _ _ c.from_residual-in_err-rest.ensures

@@ -3,6 +3,7 @@ use Rattle.std.specs.Prelude.{encode_utf8}
 use Rattle.tc_model.specs.XmlTextBytes.{line_ends}
 use Rattle.tc_model.specs.XmlTextReferences.{spaced}
 use Rattle.tc_xml.specs.Values.{plain, reference}
+use Rattle.tc_xml.proofs.FailedLaws.{failed_ok}
 use Rattle.tc_xml.proofs.ValueLaws.{cut_after_plain, no_piece, run_at, err_refuses}
 use Rattle.tc_xml.proofs.references.push_piece.Goals as goal
 
@@ -23,3 +24,12 @@ returns-clause-ok c = (
   plain (run_at c.args.quote c.plain_len_within-count.result c.args.text.now c.split_at.result.0.now _ c.plain_len_within-count.ensures.count c.if-count-eq0.false c.split_at.ensures.front c.split_at.ensures.back),
   c.in_ok-push_spaced.ensures,
 )
+
+pub returns-in_err-c-clause-ok : goal.returns-in_err-c-clause-ok
+returns-in_err-c-clause-ok c = failed_ok _ _ _ c.from_residual.ensures.1
+
+pub returns-in_err-push-clause-ok : goal.returns-in_err-push-clause-ok
+returns-in_err-push-clause-ok c = failed_ok _ _ _ c.from_residual-in_err-push.ensures.1
+
+pub returns-in_err-push_spaced-clause-ok : goal.returns-in_err-push_spaced-clause-ok
+returns-in_err-push_spaced-clause-ok c = failed_ok _ _ _ c.from_residual-in_err-push_spaced.ensures.1

@@ -1,6 +1,7 @@
 use Rattle.std.proofs.Common.{string_bytes, List, ℕ}
 use Rattle.tc_model.specs.XmlTextRefusals.{QuotedRefuses}
 use Rattle.tc_xml.specs.Refusals.{OnMalformed}
+use Rattle.tc_xml.proofs.FailedLaws.{failed_ok}
 use Rattle.tc_xml.proofs.ContentLaws.{failed}
 use Rattle.tc_xml.proofs.MalformedLaws.{of_refuses, no_quoted_refused}
 use Rattle.tc_xml.proofs.ValueLaws.{no_quoted, read_whole, step_more, piece_shorter, text_past_piece, err_refuses, err_stands, quoted_refuses}
@@ -37,3 +38,6 @@ returns-in_err-rest-clause-malformed c =
     let Q = (at : List ℕ) → QuotedRefuses c.args.text.now at → ⊥ in
     failed c.from_residual.result (λ e. OnMalformed e Q) e c.from_residual.ensures.1
     (of_refuses e _ _ Q (no_quoted_refused c.in-Some.quote c.args.text.now c.in-Some.inside.now c.loop-after.rest.now c.in-Some.ensures.1 c.loop-after.invariant.step.comes) c.in_err-rest.ensures.no)
+
+pub returns-in_err-rest-clause-ok : goal.returns-in_err-rest-clause-ok
+returns-in_err-rest-clause-ok c = failed_ok _ _ _ c.from_residual.ensures.1

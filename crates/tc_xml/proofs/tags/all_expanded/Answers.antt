@@ -3,6 +3,7 @@ use Rattle.std.specs.Option.{option_to_list}
 use Rattle.tc_model.specs.Views.{attribute}
 use Rattle.tc_model.specs.XmlTextScopes.{Expands, no_more}
 use Rattle.tc_xml.specs.Tags.{in_scope}
+use Rattle.tc_xml.proofs.FailedLaws.{failed_ok}
 use Rattle.tc_xml.proofs.TagLaws.{all_more, no_expansion, err_breaks, blank_written}
 use Rattle.tc_xml.proofs.tags.all_expanded.Goals as goal
 use Rattle.tc_xml.proofs.tags.all_expanded.Goals.{in-Some+in_ok-push-in-Some, in-None}
@@ -24,3 +25,6 @@ loop-attribute-preserved c =
       | in-Some+in_ok-push-in-Some w ↦ step (ap (λ v. v.items) w.found-is ∙ (w.in_ok-push-in-Some.ensures.items ∙ ap (λ o. old ++ option_to_list o) (sym w.in-Some.is)))
       | in-None w ↦ step (ap (λ v. v.items) w.found-is ∙ (sym (append-nil old) ∙ ap (λ o. old ++ option_to_list o) (sym w.in-None.is)))
     ]
+
+pub returns-in_err-attr-clause-ok : goal.returns-in_err-attr-clause-ok
+returns-in_err-attr-clause-ok c = failed_ok _ _ _ c.from_residual.ensures.1

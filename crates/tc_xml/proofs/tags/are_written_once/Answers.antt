@@ -1,5 +1,6 @@
 use Rattle.std.proofs.Common.{◌∙◌, ap, map, take_all}
 use Rattle.tc_xml.specs.Tags.{written}
+use Rattle.tc_xml.proofs.FailedLaws.{failed_ok}
 use Rattle.tc_xml.proofs.TagLaws.{all_written_once, pair_name}
 use Rattle.tc_xml.proofs.tags.are_written_once.Goals as goal
 
@@ -8,3 +9,6 @@ returns-clause-ok c =
     all_written_once c.all_differ.result c.into_bump_slice.result.now _
     (ap (map pair_name) c.into_bump_slice.ensures ∙ (c.loop-attribute.invariant ∙ ap (λ w. map (λ a. a.name) (map written w)) (take_all c.loop-attribute.attribute-index c.args.attributes.now c.loop-attribute-test.false)))
     c.all_differ.ensures.ok
+
+pub returns-in_err-push-clause-ok : goal.returns-in_err-push-clause-ok
+returns-in_err-push-clause-ok c = failed_ok _ _ _ c.from_residual.ensures.1

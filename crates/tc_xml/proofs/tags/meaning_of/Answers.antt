@@ -5,6 +5,7 @@ use Rattle.tc_model.specs.Views.{name, attribute}
 use Rattle.tc_model.specs.XmlTextScopes.{ElementName, Expands, TagMeans}
 use Rattle.tc_scan.specs.Views.{written_name}
 use Rattle.tc_xml.specs.Tags.{in_scope, written, Breaks}
+use Rattle.tc_xml.proofs.FailedLaws.{failed_ok}
 use Rattle.tc_xml.proofs.MiscLaws.{map_ok, map_err}
 use Rattle.tc_xml.proofs.TagLaws.{breaks_too, is_distinct, in_its_scope}
 use Rattle.tc_xml.proofs.tags.meaning_of.Goals as goal
@@ -28,3 +29,9 @@ pub returns-clause-no : goal.returns-clause-no
 returns-clause-no c =
     let A = (scope : List Bound) (name : ExpandedName) (expanded : List Attribute) → TagMeans (in_scope c.args.outer) (written_name c.args.tag) (map written c.args.attributes.now) scope name expanded → ⊥ in
     map_err _ (λ e. Breaks e A) c.meaning_within.result (λ e k. breaks_too e _ A (in_its_scope (in_scope c.in_ok-scope.scope) c.in_ok-scope.ensures.ok) k) c.meaning_within.ensures.no
+
+pub returns-in_err-written_once-clause-ok : goal.returns-in_err-written_once-clause-ok
+returns-in_err-written_once-clause-ok c = failed_ok _ _ _ c.from_residual.ensures.1
+
+pub returns-in_err-scope-clause-ok : goal.returns-in_err-scope-clause-ok
+returns-in_err-scope-clause-ok c = failed_ok _ _ _ c.from_residual-in_err-scope.ensures.1

@@ -6,6 +6,7 @@ use Rattle.tc_model.specs.Views.{attribute}
 use Rattle.tc_model.specs.XmlTextScopes.{ElementName, Expands}
 use Rattle.tc_scan.specs.Views.{written_name}
 use Rattle.tc_xml.specs.Tags.{in_scope, written}
+use Rattle.tc_xml.proofs.FailedLaws.{failed_ok}
 use Rattle.tc_xml.proofs.TagLaws.{err_breaks, is_distinct, not_expanded_once}
 use Rattle.tc_xml.proofs.tags.meaning_within.Goals as goal
 
@@ -38,3 +39,12 @@ returns-then-not-expanded_once-clause-no c =
 pub returns-clause-ok : goal.returns-clause-ok
 returns-clause-ok c =
     (refl, c.in_ok-name.ensures.ok, c.in_ok-attrs.ensures.ok, is_distinct c.in_ok-expanded_once.expanded_once _ c.if-not-expanded_once.false c.in_ok-expanded_once.ensures.ok)
+
+pub returns-in_err-name-clause-ok : goal.returns-in_err-name-clause-ok
+returns-in_err-name-clause-ok c = failed_ok _ _ _ c.from_residual.ensures.1
+
+pub returns-in_err-attrs-clause-ok : goal.returns-in_err-attrs-clause-ok
+returns-in_err-attrs-clause-ok c = failed_ok _ _ _ c.from_residual-in_err-attrs.ensures.1
+
+pub returns-in_err-expanded_once-clause-ok : goal.returns-in_err-expanded_once-clause-ok
+returns-in_err-expanded_once-clause-ok c = failed_ok _ _ _ c.from_residual-in_err-expanded_once.ensures.1

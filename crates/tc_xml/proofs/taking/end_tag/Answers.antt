@@ -1,5 +1,6 @@
 use Rattle.std.proofs.Common.{[], ◌∷◌, ◌++◌, ap, ◌∙◌, sym}
 use Rattle.tc_model.specs.Runs.{run_text}
+use Rattle.tc_xml.proofs.FailedLaws.{failed_some}
 use Rattle.tc_xml.proofs.TakingLaws.{goes_out, end_within}
 use Rattle.tc_xml.proofs.taking.end_tag.Goals as goal
 
@@ -14,3 +15,27 @@ returns-clause-steps g c = λ deepest root begun s.
 
 pub returns-clause-shorter : goal.returns-clause-shorter
 returns-clause-shorter g c = end_within c.in_ok-rest.ensures
+
+pub returns-in_err-open-clause-steps : goal.returns-in_err-open-clause-steps
+returns-in_err-open-clause-steps g c = failed_some _ _ c.from_residual.ensures
+
+pub returns-in_err-open-clause-shorter : goal.returns-in_err-open-clause-shorter
+returns-in_err-open-clause-shorter g c = failed_some _ _ c.from_residual.ensures
+
+pub returns-in_err-rest-clause-steps : goal.returns-in_err-rest-clause-steps
+returns-in_err-rest-clause-steps g c = failed_some _ _ c.from_residual-in_err-rest.ensures
+
+pub returns-in_err-rest-clause-shorter : goal.returns-in_err-rest-clause-shorter
+returns-in_err-rest-clause-shorter g c = failed_some _ _ c.from_residual-in_err-rest.ensures
+
+pub returns-in_err-end_run-clause-steps : goal.returns-in_err-end_run-clause-steps
+returns-in_err-end_run-clause-steps g c = failed_some _ _ c.from_residual-in_err-end_run.ensures
+
+pub returns-in_err-end_run-clause-shorter : goal.returns-in_err-end_run-clause-shorter
+returns-in_err-end_run-clause-shorter g c = failed_some _ _ c.from_residual-in_err-end_run.ensures
+
+pub returns-in_err-leave-clause-steps : goal.returns-in_err-leave-clause-steps
+returns-in_err-leave-clause-steps g c = failed_some _ _ c.from_residual-in_err-leave.ensures
+
+pub returns-in_err-leave-clause-shorter : goal.returns-in_err-leave-clause-shorter
+returns-in_err-leave-clause-shorter g c = failed_some _ _ c.from_residual-in_err-leave.ensures

@@ -1,5 +1,6 @@
 use Rattle.std.proofs.Common.{arith, ap, ◌∙◌, length}
 use Rattle.tc_model.specs.Runs.{run_text}
+use Rattle.tc_xml.proofs.FailedLaws.{failed_some}
 use Rattle.tc_xml.proofs.TakingLaws.{passes, goes_into}
 use Rattle.tc_xml.proofs.taking.start_tag.Goals as goal
 
@@ -24,3 +25,33 @@ returns-clause-steps g c = λ deepest root begun s.
 
 pub returns-clause-shorter : goal.returns-clause-shorter
 returns-clause-shorter g c = omega (arith, (c.in_ok-tag.ensures.reads c.args.total).shorter, ap length c.in_ok-inside.ensures)
+
+pub returns-in_err-tag-clause-steps : goal.returns-in_err-tag-clause-steps
+returns-in_err-tag-clause-steps g c = failed_some _ _ c.from_residual.ensures
+
+pub returns-in_err-tag-clause-shorter : goal.returns-in_err-tag-clause-shorter
+returns-in_err-tag-clause-shorter g c = failed_some _ _ c.from_residual.ensures
+
+pub returns-in_err-start_element-clause-steps : goal.returns-in_err-start_element-clause-steps
+returns-in_err-start_element-clause-steps g c = failed_some _ _ c.from_residual-in_err-start_element.ensures
+
+pub returns-in_err-start_element-clause-shorter : goal.returns-in_err-start_element-clause-shorter
+returns-in_err-start_element-clause-shorter g c = failed_some _ _ c.from_residual-in_err-start_element.ensures
+
+pub returns-in_err-leave-clause-steps : goal.returns-in_err-leave-clause-steps
+returns-in_err-leave-clause-steps g c = failed_some _ _ c.from_residual-in_err-leave.ensures
+
+pub returns-in_err-leave-clause-shorter : goal.returns-in_err-leave-clause-shorter
+returns-in_err-leave-clause-shorter g c = failed_some _ _ c.from_residual-in_err-leave.ensures
+
+pub returns-in_err-inside-clause-steps : goal.returns-in_err-inside-clause-steps
+returns-in_err-inside-clause-steps g c = failed_some _ _ c.from_residual-in_err-inside.ensures
+
+pub returns-in_err-inside-clause-shorter : goal.returns-in_err-inside-clause-shorter
+returns-in_err-inside-clause-shorter g c = failed_some _ _ c.from_residual-in_err-inside.ensures
+
+pub returns-in_err-enter-clause-steps : goal.returns-in_err-enter-clause-steps
+returns-in_err-enter-clause-steps g c = failed_some _ _ c.from_residual-in_err-enter.ensures
+
+pub returns-in_err-enter-clause-shorter : goal.returns-in_err-enter-clause-shorter
+returns-in_err-enter-clause-shorter g c = failed_some _ _ c.from_residual-in_err-enter.ensures

@@ -2,6 +2,7 @@ use Rattle.std.proofs.Common.{refl, encode_utf8}
 use Rattle.tc_model.specs.Runs.{run_text}
 use Rattle.tc_model.specs.XmlTextBytes.{line_ends, place_of}
 use Rattle.tc_model.specs.XmlTextContent.{characters}
+use Rattle.tc_xml.proofs.FailedLaws.{failed_some}
 use Rattle.tc_xml.proofs.ItemLaws.{reference_item, data_item}
 use Rattle.tc_xml.proofs.TakingLaws.{took_characters}
 use Rattle.tc_xml.proofs.taking.text_item.Goals as goal
@@ -25,3 +26,12 @@ returns g c =
       data_item c.args.total text run c.in_ok-run.rest.now p c.in_ok-run.ensures refl,
       took_characters _ c.args.reader.now.taker _ (run_text c.args.reader.now.run) (line_ends run) _ p c.in_ok-add_characters.ensures.taker c.in_ok-add_characters.ensures.run,
     )
+
+pub returns-in_err-add_character : goal.returns-in_err-add_character
+returns-in_err-add_character g c = failed_some _ _ c.from_residual.ensures
+
+pub returns-in_err-run : goal.returns-in_err-run
+returns-in_err-run g c = failed_some _ _ c.from_residual-in_err-run.ensures
+
+pub returns-in_err-add_characters : goal.returns-in_err-add_characters
+returns-in_err-add_characters g c = failed_some _ _ c.from_residual-in_err-add_characters.ensures

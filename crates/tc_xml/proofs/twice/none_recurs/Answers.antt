@@ -1,6 +1,7 @@
 use Rattle.std.proofs.Common.{◌∙◌, sym, ap, get_or}
 use Rattle.std.specs.List.{list_any}
 use Rattle.tc_xml.specs.Pairs.{same_pair}
+use Rattle.tc_xml.proofs.FailedLaws.{failed_ok}
 use Rattle.tc_xml.proofs.TwiceLaws.{seen_at, blank, found_before, none_seen, one_more_key}
 use Rattle.tc_xml.proofs.twice.none_recurs.Goals as goal
 
@@ -18,3 +19,6 @@ loop-name-preserved c = record {
 
 pub loop-name-init : goal.loop-name-init
 loop-name-init c = record { keys = c.requires; differ = none_seen c.args.seen.now.keys c.requires }
+
+pub returns-in_err-is_new-clause-ok : goal.returns-in_err-is_new-clause-ok
+returns-in_err-is_new-clause-ok c = failed_ok _ _ _ c.from_residual.ensures.1

@@ -6,6 +6,7 @@ use Rattle.tc_hedge.proofs.Bounds.{patterns_of}
 use Rattle.tc_beh.specs.Rooms.{output_at}
 use Rattle.tc_beh.proofs.Holding.{on_err}
 use Rattle.tc_beh.proofs.Appends.{is_live, isnt_live, appended, refused}
+use Rattle.tc_beh.proofs.WrapRows.{beside_then, rows_after}
 use Rattle.tc_beh.proofs.rows.Rows.append.Goals as goal
 
 pub put_kind-requires-clause-patterns : goal.put_kind-requires-clause-patterns
@@ -124,3 +125,19 @@ returns-in_err-put_append-clause-partly c =
     refused x c.args.h.now.room.numbers.items c.args.t.now.room.numbers.items c.args.h.now.room.flags c.args.t.now.room.flags c.put_kind.new.out.flags hedge.parted.flags tree.parted.flags (kind.beside.flags ∙ out.flags)
     c.auto.result.now (subst (λ (a : Auto). Stands input x.input a) (sym c.auto.ensures) is.machine.parts.contents.auto) c.args.self.now.outputs c.put_append.new.outputs put.held put.matrices is.size
     c.put_kind.new.out.entries (kind.beside.entries ∙ out.entries) hedge.numbers tree.numbers r row put.partly put.err)
+
+pub returns-clause-rows : goal.returns-clause-rows
+returns-clause-rows c = λ x is.
+    rows_after x c.args.self.now is c.put_append.new.outputs c.put_append.ensures.held (record c.args.self.now.work { set = c.put_append.new.set })
+    (record { text = is.work.text; text_size = is.work.text_size; set = c.put_append.ensures.set ∙ is.work.set; named_count = is.work.named_count; named = is.work.named; spare = is.work.spare; few = is.work.few; known = is.work.known }) _ refl refl refl
+
+pub returns-in_err-put_append-clause-rows : goal.returns-in_err-put_append-clause-rows
+returns-in_err-put_append-clause-rows c = λ x is.
+    rows_after x c.args.self.now is c.put_append.new.outputs c.put_append.ensures.held (record c.args.self.now.work { set = c.put_append.new.set })
+    (record { text = is.work.text; text_size = is.work.text_size; set = c.put_append.ensures.set ∙ is.work.set; named_count = is.work.named_count; named = is.work.named; spare = is.work.spare; few = is.work.few; known = is.work.known }) _ refl refl refl
+
+pub returns-clause-room : goal.returns-clause-room
+returns-clause-room c = beside_then c.args.out.now.room c.put_kind.new.out c.put_append.new.out c.put_kind.ensures.beside c.put_append.ensures.beside
+
+pub returns-in_err-put_append-clause-room : goal.returns-in_err-put_append-clause-room
+returns-in_err-put_append-clause-room c = beside_then c.args.out.now.room c.put_kind.new.out c.put_append.new.out c.put_kind.ensures.beside c.put_append.ensures.beside

@@ -92,3 +92,13 @@ returns-clause-row c = λ e x rows.
       record { parted = parted; numbers = text_room x r rows n letter node.entries node.looks node.bears (leads_kept c.args.self.now.machine.now.rules c.text_letter-letter.result c.text_node-node.result.letter c.put_leads.new.leads c.text_node-node.result.leads.now c.put_leads.ensures node.letter (node.leads ∙ (c.as_slice.ensures.value ∙ leads_back c.args.self.now.leads c.put_leads.new.leads (c.put_leads.auto.leads ∙ ap length c.as_mut_slice.ensures.value)))) c.put_node.new.outputs put.sets put.held us parted.count so head bears none },
       is_text_row x r rows n letter node.entries node.looks node.bears (leads_kept c.args.self.now.machine.now.rules c.text_letter-letter.result c.text_node-node.result.letter c.put_leads.new.leads c.text_node-node.result.leads.now c.put_leads.ensures node.letter (node.leads ∙ (c.as_slice.ensures.value ∙ leads_back c.args.self.now.leads c.put_leads.new.leads (c.put_leads.auto.leads ∙ ap length c.as_mut_slice.ensures.value)))) c.put_node.new.outputs put.sets put.held us parted.count so head bears none,
     )
+
+pub returns-clause-room : goal.returns-clause-room
+returns-clause-room c =
+    beside_then c.args.out.now.room c.clear_flags.new.self c.put_node.new.out
+    (beside_then c.args.out.now.room c.set_heads.new.self c.clear_flags.new.self c.set_heads.ensures.beside c.clear_flags.ensures.beside) c.put_node.ensures.beside
+
+pub returns-in_err-put_node-clause-room : goal.returns-in_err-put_node-clause-room
+returns-in_err-put_node-clause-room c =
+    beside_then c.args.out.now.room c.clear_flags.new.self c.put_node.new.out
+    (beside_then c.args.out.now.room c.set_heads.new.self c.clear_flags.new.self c.set_heads.ensures.beside c.clear_flags.ensures.beside) c.put_node.ensures.beside

@@ -114,3 +114,20 @@ returns-clause-row c = λ e x rows.
       record { parted = parted; numbers = wrap_room x r rows c.args.h.now hedge a low n letter node.entries node.looks node.bears (leads_kept c.args.self.now.machine.now.rules c.element_letter-letter.result c.node_around-node.result.letter c.put_leads.new.leads c.node_around-node.result.leads.now c.put_leads.ensures node.letter (node.leads ∙ (c.as_slice.ensures.value ∙ leads_back c.args.self.now.leads c.put_leads.new.leads (c.put_leads.auto.leads ∙ ap length c.as_mut_slice.ensures.value)))) c.put_node.new.outputs put.sets put.held us parted.count so head bears kept },
       is_wrap x r rows c.args.h.now hedge a low n letter node.entries node.looks node.bears (leads_kept c.args.self.now.machine.now.rules c.element_letter-letter.result c.node_around-node.result.letter c.put_leads.new.leads c.node_around-node.result.leads.now c.put_leads.ensures node.letter (node.leads ∙ (c.as_slice.ensures.value ∙ leads_back c.args.self.now.leads c.put_leads.new.leads (c.put_leads.auto.leads ∙ ap length c.as_mut_slice.ensures.value)))) c.put_node.new.outputs put.sets put.held us parted.count so head bears kept,
     )
+
+pub returns-clause-room : goal.returns-clause-room
+returns-clause-room c =
+    beside_then c.args.out.now.room c.set_heads.new.self c.put_node.new.out
+    (beside_then c.args.out.now.room c.put_patterns.new.out c.set_heads.new.self c.put_patterns.ensures.beside c.set_heads.ensures.beside) c.put_node.ensures.beside
+
+pub returns-in_err-put_node-clause-room : goal.returns-in_err-put_node-clause-room
+returns-in_err-put_node-clause-room c =
+    beside_then c.args.out.now.room c.set_heads.new.self c.put_node.new.out
+    (beside_then c.args.out.now.room c.put_patterns.new.out c.set_heads.new.self c.put_patterns.ensures.beside c.set_heads.ensures.beside) c.put_node.ensures.beside
+
+pub put_patterns-requires-clause-symbol : goal.put_patterns-requires-clause-symbol
+put_patterns-requires-clause-symbol c =
+    let (x, rows) = c.requires.rows in
+    let low = c.requires.symbol x rows in
+    let count = rows.machine.parts.contents.counted in
+    omega (arith, low, count)

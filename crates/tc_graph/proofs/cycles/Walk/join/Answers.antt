@@ -1,4 +1,4 @@
-use Rattle.std.proofs.Common.{◌≡◌, ◌∙◌, ◌-◌, ◌∷◌, List, ap, sym, length, slice_get, take}
+use Rattle.std.proofs.Common.{◌≡◌, ◌∙◌, ◌-◌, [], ◌∷◌, List, ap, append-nil, arith, refl, sym, length, slice_get, take}
 use Rattle.tc_graph.specs.Walks.{Stacks}
 use Rattle.tc_graph.specs.declared.cycles.Start.{Start}
 use Rattle.tc_graph.proofs.Tops.{one_gone}
@@ -12,3 +12,6 @@ loop-start-preserved c =
     let rest : c.pop.new.self.items ≡ take (length now - 1) now = c.pop.ensures.rest ∙ ap (λ n. take (n - 1) now) c.loop-start.self.starts.ok.0 in
     let more = one_gone c.args.place c.args.self.now.starts.items now c.pop.new.self.items old.0 c.in-Some.start old.1 old.2 last rest c.if-start-place.false in
     (c.in-Some.start ∷ old.0, more.0, more.1, ap (λ (z : Stacks). record z { starts = c.pop.new.self.items }) old.3)
+
+pub loop-start-init : goal.loop-start-init
+loop-start-init c = ([], sym (append-nil c.args.self.now.starts.items), λ k d h. absurd (omega (arith, h)), refl)

@@ -43,3 +43,27 @@ matrix_of_tree-returns-in_ok-inner-in-Elem-clause-pairs t c =
     (λ m around side x st.
     subst (λ h. ArePairsOf x side h m) (sym is)
     (pairs_surround x side (see.name c.in-Elem.name) (see.trees c.in-Elem.kids.now) c.in_ok-inner-in-Elem.inner m (c.in_ok-inner-in-Elem.ensures.pairs side x st) (around side x st)))
+
+pub matrix_of-composition-requires : goal.matrix_of-composition-requires
+matrix_of-composition-requires t c = c.loop-node.invariant.0 ∙ sym c.in_ok-one.ensures.size
+
+pub matrix_of-returns-clause-size : goal.matrix_of-returns-clause-size
+matrix_of-returns-clause-size t c = c.loop-node.invariant.0
+
+pub matrix_of-returns-clause-matrix : goal.matrix_of-returns-clause-matrix
+matrix_of-returns-clause-matrix t c = c.loop-node.invariant.1
+
+pub matrix_of_tree-returns-in-Text-clause-size : goal.matrix_of_tree-returns-in-Text-clause-size
+matrix_of_tree-returns-in-Text-clause-size t c = c.matrix_of_text.ensures.size
+
+pub matrix_of_tree-returns-in-Text-clause-matrix : goal.matrix_of_tree-returns-in-Text-clause-matrix
+matrix_of_tree-returns-in-Text-clause-matrix t c = c.matrix_of_text.ensures.matrix
+
+pub matrix_of_tree-matrix_around-requires : goal.matrix_of_tree-matrix_around-requires
+matrix_of_tree-matrix_around-requires t c = c.in_ok-inner-in-Elem.ensures.size
+
+pub matrix_of_tree-returns-in_ok-inner-in-Elem-clause-size : goal.matrix_of_tree-returns-in_ok-inner-in-Elem-clause-size
+matrix_of_tree-returns-in_ok-inner-in-Elem-clause-size t c = c.matrix_around.ensures.size
+
+pub matrix_of_tree-returns-in_ok-inner-in-Elem-clause-matrix : goal.matrix_of_tree-returns-in_ok-inner-in-Elem-clause-matrix
+matrix_of_tree-returns-in_ok-inner-in-Elem-clause-matrix t c = c.matrix_around.ensures.matrix

@@ -10,3 +10,12 @@ returns-clause-pairs c = λ side x st.
     (pushed_tell x (see.name c.args.name.now) _
     (c.deref.ensures.value ∙ (c.in_ok-push_allowed.ensures.told side x st ∙ ap (λ (w : List Bool). w ++ map (λ (e : ElementPattern). in_class e.names (see.name c.args.name.now)) x.elements) c.new-allowed.ensures.items)))
     (c.put_around.ensures.pairs side x st)
+
+pub put_around-requires-clause-out : goal.put_around-requires-clause-out
+put_around-requires-clause-out c = c.in_ok-led.ensures.size ∙ c.states.ensures.here
+
+pub returns-clause-size : goal.returns-clause-size
+returns-clause-size c = c.put_around.ensures.size ∙ (c.in_ok-led.ensures.size ∙ c.states.ensures.here)
+
+pub returns-clause-matrix : goal.returns-clause-matrix
+returns-clause-matrix c = c.put_around.ensures.matrix

@@ -1,4 +1,5 @@
 use Rattle.std.proofs.Common.{rules, ◌∙◌}
+use Rattle.tc_hedge.proofs.Gathers.{for_ok}
 use Rattle.tc_hedge.proofs.Sides.{both_of, nothing_led, white_led, text_led}
 use Rattle.tc_hedge.proofs.hedge.Hedge.matrix_of_text.Goals as goal
 
@@ -9,3 +10,9 @@ returns-then-is_white_space_only-clause-pairs c =
 
 pub returns-clause-pairs : goal.returns-clause-pairs
 returns-clause-pairs c = λ side x st. text_led x side c.args.text.now c.text_into.new.out (search rules) (c.text_into.ensures.pairs side x st)
+
+pub returns-then-is_white_space_only-clause-size : goal.returns-then-is_white_space_only-clause-size
+returns-then-is_white_space_only-clause-size c = for_ok c.identity.result c.identity.ensures.size (λ m size. size ∙ c.states-states.ensures.here)
+
+pub returns-then-is_white_space_only-clause-matrix : goal.returns-then-is_white_space_only-clause-matrix
+returns-then-is_white_space_only-clause-matrix c = c.identity.ensures.matrix

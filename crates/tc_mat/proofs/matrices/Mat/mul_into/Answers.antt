@@ -1,5 +1,5 @@
-use Rattle.std.proofs.Common.{◌≡◌, ap, sym, ◌∙◌}
-use Rattle.tc_mat.specs.Matrix.{Matrix}
+use Rattle.std.proofs.Common.{◌≡◌, ◌*◌, ap, length, sym, ◌∙◌}
+use Rattle.tc_mat.specs.Matrix.{Matrix, words_a_row}
 use Rattle.tc_mat.proofs.Composed.{composed_back}
 use Rattle.tc_mat.proofs.matrices.Mat.mul_into.Goals as goal
 
@@ -12,3 +12,18 @@ returns-clause-pairs c =
     c.a.view_is c.b.view_is (ap size c.a.view_is ∙ (c.requires.left ∙ out)) (ap size c.b.view_is ∙ (c.requires.right ∙ out))
     c.as_slice.ensures.value c.as_slice-2.ensures.value c.a.invariant c.b.invariant
     c.as_mut_slice.ensures.value c.as_mut_slice.ensures.len c.multiply.auto.out c.out.invariant.whole c.multiply.ensures
+
+pub multiply-requires-clause-left : goal.multiply-requires-clause-left
+multiply-requires-clause-left c =
+    let size = λ (m : Matrix). m.size in
+    let same : c.a.inside.n ≡ c.out.inside.n = ap size c.a.view_is ∙ (c.requires.left ∙ sym (ap size c.out.view_is)) in
+    ap length c.as_slice.ensures.value ∙ (c.a.invariant.whole ∙ ap (λ n. n * words_a_row n) same)
+
+pub multiply-requires-clause-right : goal.multiply-requires-clause-right
+multiply-requires-clause-right c =
+    let size = λ (m : Matrix). m.size in
+    let same : c.b.inside.n ≡ c.out.inside.n = ap size c.b.view_is ∙ (c.requires.right ∙ sym (ap size c.out.view_is)) in
+    ap length c.as_slice-2.ensures.value ∙ (c.b.invariant.whole ∙ ap (λ n. n * words_a_row n) same)
+
+pub multiply-requires-clause-room : goal.multiply-requires-clause-room
+multiply-requires-clause-room c = ap length c.as_mut_slice.ensures.value ∙ c.out.invariant.whole

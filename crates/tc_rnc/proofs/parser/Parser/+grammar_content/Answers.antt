@@ -2,7 +2,7 @@ use Rattle.std.proofs.Common.{sym, subst, arith}
 use Rattle.tc_model.specs.CompactSyntaxStops as st
 use Rattle.tc_rnc.specs.Scopes.{scope_of}
 use Rattle.tc_rnc.specs.Views as seen
-use Rattle.tc_rnc.proofs.RefusalLaws.{passed, passes, map_ok}
+use Rattle.tc_rnc.proofs.RefusalLaws.{refuses_map, passed, passes, map_ok}
 use Rattle.tc_rnc.proofs.PatternLaws.{opening_block}
 use Rattle.tc_rnc.proofs.DefinitionLaws as l
 use Rattle.tc_rnc.proofs.parser.Parser.+grammar_content.Goals as goal
@@ -14,18 +14,18 @@ pub braced_definitions-returns-in_err-closing-clause-no : goal.braced_definition
 braced_definitions-returns-in_err-closing-clause-no t c =
     passed _ _ c.from_residual-in_err-closing.ensures.1 c.in_err-closing.ensures.no (λ x y. l.block_stops c.in_ok-inside.ensures.depth c.in_ok-inside.ensures.ok y)
 
-pub braced_definitions-returns-in_err-after-clause-no : goal.braced_definitions-returns-in_err-after-clause-no
-braced_definitions-returns-in_err-after-clause-no t c =
+pub braced_definitions-returns-in-None-clause-no : goal.braced_definitions-returns-in-None-clause-no
+braced_definitions-returns-in-None-clause-no t c =
     let (ds, e, m) = c.in_ok-closing.ensures.ok in
-    passed _ _ c.from_residual-in_err-after.ensures.1 c.in_err-after.ensures.stands (λ x y. l.unclosed_block c.in_ok-inside.ensures.depth c.in_ok-inside.ensures.ok m c.in_err-after.ensures.no y)
+    refuses_map c.unexpected.ensures (λ x y. l.unclosed_block c.in_ok-inside.ensures.depth c.in_ok-inside.ensures.ok m c.in-None.ensures y)
 
-pub braced_definitions-returns-clause-ok : goal.braced_definitions-returns-clause-ok
-braced_definitions-returns-clause-ok t c =
+pub braced_definitions-returns-in-Some-clause-ok : goal.braced_definitions-returns-in-Some-clause-ok
+braced_definitions-returns-in-Some-clause-ok t c =
     let (ds, e, m) = c.in_ok-closing.ensures.ok in (
       ds,
       e,
-      l.a_block (scope_of c.args.self.now.scope) c.args.deepest c.in_ok-inside.deeper (seen.tokens c.args.tokens.now) (seen.tokens c.in_ok-inside.inside.now) (seen.tokens c.in_ok-closing.closing.now) (seen.tokens c.in_ok-after.after.now) ds
-          c.in_ok-inside.ensures.depth c.in_ok-inside.ensures.ok m c.in_ok-after.ensures.ok,
+      l.a_block (scope_of c.args.self.now.scope) c.args.deepest c.in_ok-inside.deeper (seen.tokens c.args.tokens.now) (seen.tokens c.in_ok-inside.inside.now) (seen.tokens c.in_ok-closing.closing.now) (seen.tokens c.in-Some.after.now) ds
+          c.in_ok-inside.ensures.depth c.in_ok-inside.ensures.ok m c.in-Some.ensures,
     )
 
 pub definitions-loop-rest-init : goal.definitions-loop-rest-init

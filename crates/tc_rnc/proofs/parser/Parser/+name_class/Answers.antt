@@ -66,13 +66,13 @@ pub closed_name_class-returns-in_err-inner-clause-no : goal.closed_name_class-re
 closed_name_class-returns-in_err-inner-clause-no t c =
     passed _ _ c.from_residual.ensures.1 c.in_err-inner.ensures.no (λ v y. within y)
 
-pub closed_name_class-returns-in_err-after-clause-no : goal.closed_name_class-returns-in_err-after-clause-no
-closed_name_class-returns-in_err-after-clause-no t c =
-    passed _ _ c.from_residual-in_err-after.ensures.1 c.in_err-after.ensures.stands (λ v y. unclosed c.in_ok-inner.ensures.ok c.in_err-after.ensures.no y)
+pub closed_name_class-returns-in_default-clause-no : goal.closed_name_class-returns-in_default-clause-no
+closed_name_class-returns-in_default-clause-no t c =
+    refuses_map c.unexpected.ensures (λ v y. unclosed c.in_ok-inner.ensures.ok c.in_default.ensures y)
 
 pub closed_name_class-returns-clause-ok : goal.closed_name_class-returns-clause-ok
 closed_name_class-returns-clause-ok t c =
-    l.a_closed_class (scope_of c.args.self.now.scope) c.args.deepest (seen.tokens c.args.tokens.now) (seen.tokens c.in_ok-inner.closing.now) (seen.tokens c.in_ok-after.after.now) (seen.class c.in_ok-inner.inner) c.in_ok-inner.ensures.ok c.in_ok-after.ensures.ok
+    l.a_closed_class (scope_of c.args.self.now.scope) c.args.deepest (seen.tokens c.args.tokens.now) (seen.tokens c.in_ok-inner.closing.now) (seen.tokens c.in-Some.after.now) (seen.class c.in_ok-inner.inner) c.in_ok-inner.ensures.ok c.in-Some.ensures
 
 pub except_name_class-returns-in_default-clause-ok : goal.except_name_class-returns-in_default-clause-ok
 except_name_class-returns-in_default-clause-ok t c = nothing c.in_default.ensures

@@ -47,14 +47,14 @@ pub enclosed-returns-in_err-inner-clause-no : goal.enclosed-returns-in_err-inner
 enclosed-returns-in_err-inner-clause-no t c =
     passed _ _ c.from_residual-in_err-inner.ensures.1 c.in_err-inner.ensures.no (λ x y. q.enclosed_stops c.in_ok-inside.ensures.depth c.in_ok-inside.ensures.ok y)
 
-pub enclosed-returns-in_err-after-clause-no : goal.enclosed-returns-in_err-after-clause-no
-enclosed-returns-in_err-after-clause-no t c =
-    passed _ _ c.from_residual-in_err-after.ensures.1 c.in_err-after.ensures.stands (λ x y. q.unclosed_stops c.in_ok-inside.ensures.depth c.in_ok-inside.ensures.ok c.in_ok-inner.ensures.ok c.in_err-after.ensures.no y)
+pub enclosed-returns-in_default-clause-no : goal.enclosed-returns-in_default-clause-no
+enclosed-returns-in_default-clause-no t c =
+    refuses_map c.unexpected.ensures (λ x y. q.unclosed_stops c.in_ok-inside.ensures.depth c.in_ok-inside.ensures.ok c.in_ok-inner.ensures.ok c.in_default.ensures y)
 
 pub enclosed-returns-clause-ok : goal.enclosed-returns-clause-ok
 enclosed-returns-clause-ok t c =
-    q.an_enclosed (scope_of c.args.self.now.scope) c.args.left c.args.right c.args.deepest c.in_ok-inside.deeper (seen.tokens c.args.tokens.now) (seen.tokens c.in_ok-inside.inside.now) (seen.tokens c.in_ok-inner.closing.now) (seen.tokens c.in_ok-after.after.now)
-    (seen.pattern c.in_ok-inner.inner) c.in_ok-inside.ensures.depth c.in_ok-inside.ensures.ok c.in_ok-inner.ensures.ok c.in_ok-after.ensures.ok
+    q.an_enclosed (scope_of c.args.self.now.scope) c.args.left c.args.right c.args.deepest c.in_ok-inside.deeper (seen.tokens c.args.tokens.now) (seen.tokens c.in_ok-inside.inside.now) (seen.tokens c.in_ok-inner.closing.now) (seen.tokens c.in-Some.after.now)
+    (seen.pattern c.in_ok-inner.inner) c.in_ok-inside.ensures.depth c.in_ok-inside.ensures.ok c.in_ok-inner.ensures.ok c.in-Some.ensures
 
 pub particle-returns-in_err-inner-clause-no : goal.particle-returns-in_err-inner-clause-no
 particle-returns-in_err-inner-clause-no t c =

@@ -2,7 +2,7 @@ use Rattle.std.proofs.Common.{◌++◌, ◌∙◌, map, ap}
 use Rattle.tc_model.specs.CompactSyntaxStops.{in_grammar, inner_grammar}
 use Rattle.tc_rnc.specs.Refusals.{unsupported}
 use Rattle.tc_rnc.specs.Views as seen
-use Rattle.tc_rnc.proofs.RefusalLaws.{passed}
+use Rattle.tc_rnc.proofs.RefusalLaws.{refuses_map, passed, more}
 use Rattle.tc_rnc.proofs.TopLaws as l
 use Rattle.tc_rnc.proofs.parser.Parser.whole_grammar.Goals as goal
 
@@ -15,13 +15,13 @@ returns-then-goes_on-clause-no c =
     let (es, is, m) = c.in_ok-after.ensures.ok in
     unsupported (inner_grammar c.requires m c.if-goes_on.ensures)
 
-pub returns-in_err-expect_end-clause-no : goal.returns-in_err-expect_end-clause-no
-returns-in_err-expect_end-clause-no c =
+pub returns-in-Some-clause-no : goal.returns-in-Some-clause-no
+returns-in-Some-clause-no c =
     let (es, is, m) = c.in_ok-after.ensures.ok in
-    passed _ _ c.from_residual-in_err-expect_end.ensures.1 c.in_err-expect_end.ensures.stands (λ x y. l.grammar_past (seen.tokens c.in_ok-after.after.now) c.requires m c.if-goes_on.ensures c.in_err-expect_end.ensures.no y)
+    refuses_map c.unexpected.ensures (λ x y. l.grammar_past (seen.tokens c.in_ok-after.after.now) c.requires m c.if-goes_on.ensures (more c.in-Some.ensures) y)
 
 pub returns-clause-ok : goal.returns-clause-ok
 returns-clause-ok c =
     let (es, is, m) = c.in_ok-after.ensures.ok in
-    l.block_whole 2000 (seen.token c.args.word.now) (seen.tokens c.args.rest.now) (seen.tokens c.in_ok-after.after.now) es (map seen.definition c.into_bump_slice.result.now) c.requires m c.in_ok-expect_end.ensures.ok
+    l.block_whole 2000 (seen.token c.args.word.now) (seen.tokens c.args.rest.now) (seen.tokens c.in_ok-after.after.now) es (map seen.definition c.into_bump_slice.result.now) c.requires m c.in_default.ensures
     (ap (map seen.definition) c.into_bump_slice.ensures ∙ (is ∙ ap (λ z. map seen.definition z ++ es) c.new-defs.ensures.items))

@@ -4,7 +4,7 @@ use Rattle.tc_rules.specs.Rows.{state}
 use Rattle.tc_rules.specs.Steps.{both_states, ends_at}
 use Rattle.tc_rules.proofs.HitRows.{none_ends, hits_kept}
 use Rattle.tc_rules.proofs.Pieces.{unmapped_at}
-use Rattle.tc_rules.proofs.RowPairs.{letter_parts, fit_is, state_is}
+use Rattle.tc_rules.proofs.RowPairs.{letter_parts, fit_is, none_some, state_is}
 use Rattle.tc_rules.proofs.graph.Graph.hits.Goals as goal
 
 pub returns-then-is_empty : goal.returns-then-is_empty
@@ -15,17 +15,17 @@ returns-then-is_empty c =
 pub returns-in_default : goal.returns-in_default
 returns-in_default c = λ _ x fit e h.
     let row = unmapped_at state c.args.self.now.states.keys c.args.number x e in
-    absurd (let none = c.in_default.ensures.key ∙ row.1 in cc)
+    absurd (none_some _ (c.in_default.ensures.key ∙ row.1))
 
 pub returns-in_default-kind : goal.returns-in_default-kind
 returns-in_default-kind c = λ _ x fit e h.
     let p = letter_parts c.args.self.now c.args.symbol c.args.marks fit None c.in_default-kind.ensures.element c.in_default-kind.ensures.text h in
-    absurd (let none = p.2 in cc)
+    absurd (none_some _ p.2)
 
 pub returns-in_default-marked : goal.returns-in_default-marked
 returns-in_default-marked c = λ _ x fit e h.
     let p = letter_parts c.args.self.now c.args.symbol c.args.marks fit (Some c.in-Some-kind.kind) c.in-Some-kind.ensures.element c.in-Some-kind.ensures.text h in
-    absurd (let none = c.in_default-marked.ensures ∙ p.3 in cc)
+    absurd (none_some _ (c.in_default-marked.ensures ∙ p.3))
 
 pub returns : goal.returns
 returns c = λ known x fit e h.

@@ -1,4 +1,4 @@
-use Rattle.std.proofs.Common.{◌≡◌, ◌++◌, ◌∷◌, ◌∙◌, [], List, refl, ap, sym, subst, take, length, append_assoc, ◌≤◌, arith, if◌then◌else◌}
+use Rattle.std.proofs.Common.{◌++◌, ◌∷◌, ◌∙◌, [], List, refl, ap, sym, subst, length, append_assoc, ◌≤◌, arith, if◌then◌else◌}
 use Rattle.std.proofs.lemmas.List.{append-nil, take_all}
 use Rattle.tc_model.specs.PathStates.{State}
 use Rattle.tc_model.specs.Views as see

@@ -3,7 +3,7 @@ use Rattle.tc_model.specs.Views as see
 use Rattle.tc_model.specs.PathStates.{same_state}
 use Rattle.tc_rules.specs.Once.{put_all}
 use Rattle.tc_rules.specs.Reached.{counted, leads_by}
-use Rattle.tc_rules.specs.Rows.{state, states, fits}
+use Rattle.tc_rules.specs.Rows.{states, fits}
 use Rattle.tc_rules.specs.declared.rows.Row.{Row}
 use Rattle.tc_rules.proofs.RowPairs.{got_at, state_is}
 use Rattle.tc_rules.proofs.Steps.{then_on_ok}

@@ -1,6 +1,6 @@
 use Rattle.tc_model.specs.Views as see
 use Rattle.tc_rules.specs.Rows.{state, states}
-use Rattle.tc_rules.proofs.Staying.{class_found, classes_found, looked_is}
+use Rattle.tc_rules.proofs.Staying.{class_found, looked_is}
 use Rattle.tc_rules.proofs.graph.Source.leads_of.Goals as goal
 
 pub loop-kind-preserved : goal.loop-kind-preserved

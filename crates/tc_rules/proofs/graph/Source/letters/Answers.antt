@@ -1,6 +1,6 @@
 use Rattle.std.proofs.Common.{◌∙◌, ap, map, None}
 use Rattle.tc_model.specs.Views as see
-use Rattle.tc_rules.specs.Rows.{state, states}
+use Rattle.tc_rules.specs.Rows.{states}
 use Rattle.tc_rules.specs.Steps.{both_states, path_having}
 use Rattle.tc_rules.specs.declared.rows.Sought.TheVariants.{Passes}
 use Rattle.tc_rules.proofs.SymbolKinds.{classes_are, sets_both}

@@ -2,20 +2,33 @@ use Rattle.std.proofs.Common.{◌++◌, ap, ◌∙◌, subst}
 use Rattle.tc_stream.specs.Faults.{IsFaultOfFront}
 use Rattle.tc_stream.specs.Scans.{tag_scan}
 use Rattle.tc_stream.specs.Stands.{ReadsTo}
-use Rattle.tc_stream.proofs.TagReads.{failed, front_chars, front_fault}
+use Rattle.tc_stream.proofs.TagReads.{failed, front_chars, front_fault, whole_start, whole_start_fault}
 use Rattle.tc_stream.proofs.reader.Reader.pass_tag.Goals as goal
 
-pub returns-in_err-end_of_start-clause-fault : goal.returns-in_err-end_of_start-clause-fault
-returns-in_err-end_of_start-clause-fault c = λ x chars within is scan h r.
+pub returns-then-not-put-clause-fault : goal.returns-then-not-put-clause-fault
+returns-then-not-put-clause-fault c = λ x chars within is scan h r.
+    let s = c.args.self.now in
     let text = c.args.text.now in
     let front = c.split_at.result.0.now in
-    failed c.from_residual.result c.in_err-end_of_start.field-0.0 (λ e. IsFaultOfFront (chars ++ text) e) c.from_residual.ensures.1
-    (front_fault chars text front c.args.count c.in_err-end_of_start.field-0.0 c.split_at.ensures.front
-    (c.in_err-end_of_start.ensures.fault x chars within is (ap (tag_scan within) c.split_at.ensures.front ∙ scan) (front_chars text front c.args.count c.requires.cut c.split_at.ensures.front h) r))
+    let first = c.split_at.ensures.front in
+    let (tag, begun, told) = c.fault_of_tag.ensures.told in
+    front_fault chars text front c.args.count c.fault_of_tag.result first
+    (whole_start_fault x s chars front c.put.new.tag.bytes.items tag s.tag.most within c.fault_of_tag.result is (ap (tag_scan within) first ∙ scan) (front_chars text front c.args.count c.requires.cut first h) r s.tag_room c.if-not-put.ensures.bytes.0
+    c.if-not-put.ensures.bytes.1 begun told)
+
+pub returns-in_err-start_kept-clause-fault : goal.returns-in_err-start_kept-clause-fault
+returns-in_err-start_kept-clause-fault c = λ x chars within is scan h r.
+    let text = c.args.text.now in
+    let front = c.split_at.result.0.now in
+    let first = c.split_at.ensures.front in
+    let both = whole_start x c.args.self.now chars front c.put.new.tag.bytes.items within is (ap (tag_scan within) first ∙ scan) (front_chars text front c.args.count c.requires.cut first h) r c.if-not-put.ensures.bytes in
+    failed c.from_residual.result c.in_err-start_kept.field-0.0 (λ e. IsFaultOfFront (chars ++ text) e) c.from_residual.ensures.1
+    (front_fault chars text front c.args.count c.in_err-start_kept.field-0.0 first (c.in_err-start_kept.ensures.fault x _ both.0 both.1))
 
 pub returns-clause-ok : goal.returns-clause-ok
 returns-clause-ok c = λ x chars within is scan h r.
     let text = c.args.text.now in
     let front = c.split_at.result.0.now in
-    subst (λ z. ReadsTo x c.end_of_start.new.self (chars ++ z)) c.split_at.ensures.front
-    (c.in_ok-end_of_start.ensures.ok x chars within is (ap (tag_scan within) c.split_at.ensures.front ∙ scan) (front_chars text front c.args.count c.requires.cut c.split_at.ensures.front h) r)
+    let first = c.split_at.ensures.front in
+    let both = whole_start x c.args.self.now chars front c.put.new.tag.bytes.items within is (ap (tag_scan within) first ∙ scan) (front_chars text front c.args.count c.requires.cut first h) r c.if-not-put.ensures.bytes in
+    subst (λ z. ReadsTo x c.start_kept.new.self (chars ++ z)) first (c.in_ok-start_kept.ensures.ok x _ both.0 both.1)

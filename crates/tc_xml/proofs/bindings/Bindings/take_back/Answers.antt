@@ -3,6 +3,7 @@ use Rattle.tc_model.specs.Views.{bound}
 use Rattle.tc_model.specs.XmlTextScopes.{uri_of}
 use Rattle.tc_xml.specs.Bounds.{bounds}
 use Rattle.tc_xml.specs.Bindings.{now_bound, hidden}
+use Rattle.tc_xml.proofs.FailedLaws.{failed_some}
 use Rattle.tc_xml.proofs.BindingLaws.{uri_inserted, back_one, front_one, all_back}
 use Rattle.tc_xml.proofs.bindings.Bindings.take_back.Goals as goal
 
@@ -34,3 +35,6 @@ returns c =
       keeps = sym all ∙ c.back.invariant.keeps;
       binds = λ p. ap (λ w. uri_of (map bound w ++ now_bound c.back.self) p) (sym none) ∙ c.back.invariant.binds p;
     }
+
+pub returns-in_err-last : goal.returns-in_err-last
+returns-in_err-last c = failed_some _ _ c.from_residual.ensures

@@ -3,9 +3,13 @@ use Rattle.std.specs.Map.Iter.{deref_pair}
 use Rattle.std.proofs.lemmas.Map.Iter.{iter_end}
 use Rattle.tc_model.specs.Views.{bound}
 use Rattle.tc_xml.specs.Bounds.{bounds}
+use Rattle.tc_xml.proofs.FailedLaws.{failed_ok}
 use Rattle.tc_xml.proofs.scopes.Scope.bindings_of.Goals as goal
 
 pub returns-clause-ok : goal.returns-clause-ok
 returns-clause-ok c =
     let e : map deref_pair c.loop-prefix.yielded ≡ c.args.names.now.entries = search (rules, iter_end) in
     ap (map bound) c.into_bump_slice.ensures ∙ (c.loop-prefix.invariant ∙ ap bounds e)
+
+pub returns-in_err-push-clause-ok : goal.returns-in_err-push-clause-ok
+returns-in_err-push-clause-ok c = failed_ok _ _ _ c.from_residual.ensures.1

@@ -1,0 +1,8 @@
+use Rattle.tc_xml.proofs.FailedLaws.{failed_ok}
+use Rattle.tc_xml.proofs.tags.scope_within.Goals as goal
+
+pub returns-in_err-names-clause-ok : goal.returns-in_err-names-clause-ok
+returns-in_err-names-clause-ok c = failed_ok _ _ _ c.from_residual.ensures.1
+
+pub returns-in_err-declare_all-clause-ok : goal.returns-in_err-declare_all-clause-ok
+returns-in_err-declare_all-clause-ok c = failed_ok _ _ _ c.from_residual-in_err-declare_all.ensures.1
