@@ -6,7 +6,6 @@ ghost use Rattle.tc_model.specs.CertificateData.{IsFormed};
 
 use bumpalo::Bump;
 use std::alloc::Global;
-use std::process::Abort;
 use std::test::Fail;
 use tc_beh::Machine;
 use tc_cert::read_cert;
@@ -100,207 +99,163 @@ fn answer(
     answer_of(alloc, &triple, &cert)
 }
 
-fn rejected(line: u32, rule: RejectRule, other: u32) -> Result<(), VerifyFault> {
-    Err(VerifyFault::Rejected(Reject { line, rule, other }))
+/// The line, the rule and the number by which a certificate is rejected, if it is.
+type Rejection = Option<(u32, RejectRule, u32)>;
+
+/// What is answered by such a rejection.
+fn rejected(rejection: Rejection) -> Result<(), VerifyFault> {
+    match rejection {
+        Some((line, rule, other)) => Err(VerifyFault::Rejected(Reject { line, rule, other })),
+        None => Ok(()),
+    }
 }
 
 /// The three parts of a certificate.
 type Parts<'t> = (&'t str, &'t str, &'t str);
 
-/// The certificate, in both versions, and one with a further row that is closed under the rules.
-static ACCEPTED: [Parts<'static>; 3] = [
-    (FRONT, TREES, HEDGES),
+/// An output, the parts of a certificate, and its rejection.
+static ANSWERS: [(&str, Parts<'static>, Rejection); 16] = [
+    // the certificate, one with a further row that is closed under the rules, and the certificate in version 2
+    (OUTPUT, (FRONT, TREES, HEDGES), None),
     (
-        FRONT,
-        "trees 4\nt 0 0 1 0,0,0 -\nt 0 0 1 1,0,1 -\nt 0 0 1 1,1,0 -\nt 0 0 2 1,0,1 -\n",
-        HEDGES,
+        OUTPUT,
+        (
+            FRONT,
+            "trees 4\nt 0 0 1 0,0,0 -\nt 0 0 1 1,0,1 -\nt 0 0 1 1,1,0 -\nt 0 0 2 1,0,1 -\n",
+            HEDGES,
+        ),
+        None,
     ),
     (
-        "xslt-typecheck certificate 2\noutputs 2\nm 0>0 1>1 2>2 3>3 4>4\nm 2>3 3>3\n",
-        "trees 3\nt 0 0 1 0,0,0 -\nT 0 0 1 0:1,1:1 -\nT 0 0 2 1:0,2:1 -\n",
-        "hedges 2\nh 0 0 0,2 0,0,0 -\nH 0 0 1 0:1,2:1 -\nend\n",
+        OUTPUT,
+        (
+            "xslt-typecheck certificate 2\noutputs 2\nm 0>0 1>1 2>2 3>3 4>4\nm 2>3 3>3\n",
+            "trees 3\nt 0 0 1 0,0,0 -\nT 0 0 1 0:1,1:1 -\nT 0 0 2 1:0,2:1 -\n",
+            "hedges 2\nh 0 0 0,2 0,0,0 -\nH 0 0 1 0:1,2:1 -\nend\n",
+        ),
+        None,
     ),
-];
-
-#[test]
-fn accepts_certificates(rt: HostRuntime) -> Result<(), Fail> {
-    for (front, trees, hedges) in &ACCEPTED {
-        assert_eq!(rt;
-            answer(rt.alloc(), OUTPUT, front, trees, hedges)?,
-            Ok(()),
-            "{trees}"
-        );
-    }
-    Ok(())
-}
-
-/// The parts of a certificate, and the line, the rule and the number by which it is rejected.
-type Rejection<'t> = (Parts<'t>, u32, RejectRule, u32);
-
-/// A row that is made of rows that are listed isn't listed.
-static NOT_LISTED: [Rejection<'static>; 2] = [
+    // a row that is made of rows that are listed isn't listed
     (
+        OUTPUT,
         (FRONT, TREES, "hedges 1\nh 0 0 1 1,0,1 -\nend\n"),
-        0,
-        RejectRule::Empty,
-        0,
+        Some((0, RejectRule::Empty, 0)),
     ),
     (
+        OUTPUT,
         (FRONT, TREES, "hedges 1\nh 0 0 0,2 0,0,0 -\nend\n"),
-        10,
-        RejectRule::Append,
-        8,
+        Some((10, RejectRule::Append, 8)),
     ),
-];
-
-/// A number of a line is out of range, or a list has another length.
-static NOT_FITTING: [Rejection<'static>; 6] = [
+    // a number of a line is out of range, or a list has another length
     (
+        OUTPUT,
         (
             "xslt-typecheck certificate 1\noutputs 2\nm 0>0 1>1 2>2 3>3 4>4\nm 2>5 3>3\n",
             TREES,
             HEDGES,
         ),
-        4,
-        RejectRule::Fit,
-        0,
+        Some((4, RejectRule::Fit, 0)),
     ),
     (
+        OUTPUT,
         (
             FRONT,
             "trees 3\nt 0 0 1 0,0,4294967295 -\nt 0 0 1 1,1,0 -\nt 0 0 2 1,0,1 -\n",
             HEDGES,
         ),
-        6,
-        RejectRule::Fit,
-        0,
+        Some((6, RejectRule::Fit, 0)),
     ),
     (
+        OUTPUT,
         (
             FRONT,
             "trees 3\nt 0 0 1 0,0 -\nt 0 0 1 1,1,0 -\nt 0 0 2 1,0,1 -\n",
             HEDGES,
         ),
-        6,
-        RejectRule::Fit,
-        0,
+        Some((6, RejectRule::Fit, 0)),
     ),
     (
+        OUTPUT,
         (
             FRONT,
             "trees 3\nt 0 0 0 0,0,0 -\nt 0 0 1 1,1,0 -\nt 0 0 2 1,0,1 -\n",
             HEDGES,
         ),
-        6,
-        RejectRule::Fit,
-        0,
+        Some((6, RejectRule::Fit, 0)),
     ),
     (
+        OUTPUT,
         (
             FRONT,
             "trees 3\nt 0 0 1 0,0,0 0\nt 0 0 1 1,1,0 -\nt 0 0 2 1,0,1 -\n",
             HEDGES,
         ),
-        6,
-        RejectRule::Fit,
-        0,
+        Some((6, RejectRule::Fit, 0)),
     ),
     (
+        OUTPUT,
         (
             FRONT,
             "trees 3\nt 0 0 1 0,0,0 -\nt 0 0 1 1,1,0 -\nt 0 0 3 1,0,1 -\n",
             HEDGES,
         ),
-        8,
-        RejectRule::Fit,
-        0,
+        Some((8, RejectRule::Fit, 0)),
     ),
-];
-
-/// The numbers of rows of lists of trees are in range too.
-static LISTS_NOT_FITTING: [Rejection<'static>; 4] = [
+    // the numbers of rows of lists of trees are in range too
     (
+        OUTPUT,
         (
             FRONT,
             TREES,
             "hedges 2\nh 0 0 0,2 0,0,0 -\nh 0 0 1 1,0,2 -\nend\n",
         ),
-        11,
-        RejectRule::Fit,
-        0,
+        Some((11, RejectRule::Fit, 0)),
     ),
     (
+        OUTPUT,
         (
             FRONT,
             TREES,
             "hedges 2\nh 0 0 0,2 0,0,0 -\nh 0 0 1 1,0,1,0 -\nend\n",
         ),
-        11,
-        RejectRule::Fit,
-        0,
+        Some((11, RejectRule::Fit, 0)),
     ),
     (
+        OUTPUT,
         (
             FRONT,
             TREES,
             "hedges 2\nh 0 0 0,2 0,0,0 -\nh 0 0 3 1,0,1 -\nend\n",
         ),
-        11,
-        RejectRule::Fit,
-        0,
+        Some((11, RejectRule::Fit, 0)),
     ),
     (
+        OUTPUT,
         (
             FRONT,
             TREES,
             "hedges 2\nh 0 0 0,2 0,0,0 -\nh 0 0 1 1,0,1 2\nend\n",
         ),
-        11,
-        RejectRule::Fit,
-        0,
+        Some((11, RejectRule::Fit, 0)),
+    ),
+    // what a document of a row gives isn't valid
+    (
+        "element r{element x{empty}+}",
+        (FRONT, TREES, HEDGES),
+        Some((6, RejectRule::Root, 0)),
     ),
 ];
 
-/// Asserts of each certificate, for an output, that it is rejected so.
-fn assert_rejected(
-    rt: &impl Abort,
-    alloc: Global,
-    output: &str,
-    all: &[Rejection<'_>],
-) -> Result<(), Fail> {
-    for (parts, line, rule, other) in all {
+#[test]
+fn answers_certificates(rt: HostRuntime) -> Result<(), Fail> {
+    for (output, parts, rejection) in &ANSWERS {
         let (front, trees, hedges) = *parts;
-        let found = answer(alloc, output, front, trees, hedges)?;
         assert_eq!(rt;
-            found,
-            rejected(*line, *rule, *other),
-            "{front}{trees}{hedges}"
+            answer(rt.alloc(), output, front, trees, hedges)?,
+            rejected(*rejection),
+            "{output} {front}{trees}{hedges}"
         );
     }
-    Ok(())
-}
-
-#[test]
-fn tells_what_is_not_listed(rt: HostRuntime) -> Result<(), Fail> {
-    assert_rejected(&rt, rt.alloc(), OUTPUT, &NOT_LISTED)
-}
-
-#[test]
-fn tells_what_does_not_fit(rt: HostRuntime) -> Result<(), Fail> {
-    assert_rejected(&rt, rt.alloc(), OUTPUT, &NOT_FITTING)
-}
-
-#[test]
-fn tells_lists_that_do_not_fit(rt: HostRuntime) -> Result<(), Fail> {
-    assert_rejected(&rt, rt.alloc(), OUTPUT, &LISTS_NOT_FITTING)
-}
-
-/// What a document of a row gives isn't valid.
-#[test]
-fn tells_what_fails_at_the_root(rt: HostRuntime) -> Result<(), Fail> {
-    let output = "element r{element x{empty}+}";
-    let found = answer(rt.alloc(), output, FRONT, TREES, HEDGES)?;
-    assert_eq!(rt; found, rejected(6, RejectRule::Root, 0));
     Ok(())
 }
 
@@ -321,17 +276,27 @@ fn symbol_of(alloc: Global, local: &str) -> Result<u32, Fail> {
     symbol_over(alloc, &triple, &Name { uri: "", local })
 }
 
+/// Names, and the trees and the line of a certificate in which what an element of this name makes isn't listed.
+static WRAPPED: [(&str, &str, u32); 2] = [
+    ("b", "trees 2\nt 0 0 1 0,0,0 -\nt 0 0 1 1,1,0 -\n", 9),
+    (
+        "a",
+        "trees 3\nt 0 0 - 0,0,0 -\nt 0 0 1 1,1,0 -\nt 0 0 2 1,0,1 -\n",
+        10,
+    ),
+];
+
 /// What an element makes is told by the number of its symbol.
 #[test]
 fn tells_symbols(rt: HostRuntime) -> Result<(), Fail> {
-    let b = symbol_of(rt.alloc(), "b")?;
-    let no_b = "trees 2\nt 0 0 1 0,0,0 -\nt 0 0 1 1,1,0 -\n";
-    let found = answer(rt.alloc(), OUTPUT, FRONT, no_b, HEDGES)?;
-    assert_eq!(rt; found, rejected(9, RejectRule::Wrap, b));
-    let a = symbol_of(rt.alloc(), "a")?;
-    let other_a = "trees 3\nt 0 0 - 0,0,0 -\nt 0 0 1 1,1,0 -\nt 0 0 2 1,0,1 -\n";
-    let found = answer(rt.alloc(), OUTPUT, FRONT, other_a, HEDGES)?;
-    assert_eq!(rt; found, rejected(10, RejectRule::Wrap, a));
+    for (name, trees, line) in &WRAPPED {
+        let symbol = symbol_of(rt.alloc(), name)?;
+        assert_eq!(rt;
+            answer(rt.alloc(), OUTPUT, FRONT, trees, HEDGES)?,
+            rejected(Some((*line, RejectRule::Wrap, symbol))),
+            "{name}"
+        );
+    }
     Ok(())
 }
 
@@ -382,7 +347,7 @@ static OF_TEXTS: Triple<'static> = Triple {
 fn tells_texts(rt: HostRuntime) -> Result<(), Fail> {
     let front = "xslt-typecheck certificate 1\noutputs 1\nm 0>0 1>1 2>2 3>3 4>4\n";
     let found = answer_of_one(rt.alloc(), front, &OF_TEXTS)?;
-    assert_eq!(rt; found, rejected(0, RejectRule::Text, 0));
+    assert_eq!(rt; found, rejected(Some((0, RejectRule::Text, 0))));
     Ok(())
 }
 
@@ -403,6 +368,6 @@ fn tells_symbols_of_other_names(rt: HostRuntime) -> Result<(), Fail> {
     let other = symbol_over(rt.alloc(), &OF_ANY, &name)?;
     let front = "xslt-typecheck certificate 1\noutputs 2\nm 0>0 1>1 2>2\nm 0>1\n";
     let found = answer_of_one(rt.alloc(), front, &OF_ANY)?;
-    assert_eq!(rt; found, rejected(7, RejectRule::Wrap, other));
+    assert_eq!(rt; found, rejected(Some((7, RejectRule::Wrap, other))));
     Ok(())
 }

@@ -1,4 +1,7 @@
 //! States, edges and runs of small schemas, by hand.
+ghost use Rattle.std.specs.Prelude.{◌≤◌};
+ghost use Rattle.tc_auto.specs.Stands.{patterns};
+
 use std::alloc::Global;
 use std::process::Abort;
 use std::test::Fail;
@@ -107,14 +110,18 @@ fn assert_state(
     assert!(rt; auto.follow(state).first().copied() == edge, "{state}");
 }
 
+/// Asserts how many states and parts there are, and from which states the parts begin.
+fn assert_parts(rt: &impl Abort, auto: &Auto<'_>) {
+    assert!(rt; auto.states() == 5);
+    assert!(rt; auto.patterns() == 1);
+    assert!(rt; auto.first(0) == 0 && auto.first(1) == 2);
+}
+
 /// The edges of one state after another, and which states accept.
 #[test]
 fn numbers_the_states_of_a_group(rt: HostRuntime) -> Result<(), Fail> {
     let auto = Auto::of(rt.alloc(), &GROUP, 5)?;
-    assert!(rt; auto.states() == 5);
-    assert!(rt; auto.patterns() == 1);
-    assert!(rt; auto.first(0) == 0);
-    assert!(rt; auto.first(1) == 2);
+    assert_parts(&rt, &auto);
     for (state, is_accepting, edge) in &GROUP_STATES {
         assert_state(&rt, &auto, *state, *is_accepting, *edge);
     }
@@ -165,21 +172,21 @@ const PAIR: [Pat<'static>; 2] = [Pat::Ref(1), Pat::Ref(1)];
 
 const TO_ITSELF: Leaf = Leaf::Ref(1);
 
-/// Items of a part, and whether they lead from its first state to an accepting one.
-type Runs = &'static [(u32, &'static [Leaf], bool)];
+/// Items as they are told, their part, the items, and whether they lead from its first state to an accepting one.
+type Run = (&'static str, u32, &'static [Leaf], bool);
 
 /// Schemas, how many states their contents have, and what leads from the first state of a content to an accepting one.
-static CONTENTS: [(&Grammar<'static>, u32, Runs); 2] = [
+static CONTENTS: [(&Grammar<'static>, u32, &[Run]); 2] = [
     // An interleave takes both in any order, and neither alone.
     (
         &INTERLEAVED,
         6,
         &[
-            (1, &[TO_B, TO_C], true),
-            (1, &[TO_C, TO_B], true),
-            (1, &[TO_B], false),
-            (1, &[TO_B, TO_B], false),
-            (2, &[], true),
+            ("b, c in a", 1, &[TO_B, TO_C], true),
+            ("c, b in a", 1, &[TO_C, TO_B], true),
+            ("b in a", 1, &[TO_B], false),
+            ("b, b in a", 1, &[TO_B, TO_B], false),
+            ("nothing in b", 2, &[], true),
         ],
     ),
     // Pairs again and again are an even number.
@@ -187,27 +194,22 @@ static CONTENTS: [(&Grammar<'static>, u32, Runs); 2] = [
         &PAIRS,
         3,
         &[
-            (1, &[], true),
-            (1, &[TO_ITSELF; 1], false),
-            (1, &[TO_ITSELF; 2], true),
-            (1, &[TO_ITSELF; 3], false),
-            (1, &[TO_ITSELF; 4], true),
-            (1, &[TO_ITSELF; 5], false),
-            (1, &[TO_ITSELF; 6], true),
+            ("no b", 1, &[], true),
+            ("one b", 1, &[TO_ITSELF; 1], false),
+            ("two b", 1, &[TO_ITSELF; 2], true),
+            ("three b", 1, &[TO_ITSELF; 3], false),
+            ("four b", 1, &[TO_ITSELF; 4], true),
+            ("five b", 1, &[TO_ITSELF; 5], false),
+            ("six b", 1, &[TO_ITSELF; 6], true),
         ],
     ),
 ];
 
 /// Asserts of items of parts whether they lead so.
-fn assert_runs(
-    rt: &impl Abort,
-    alloc: Global,
-    auto: &Auto<'_>,
-    all: &[(u32, &[Leaf], bool)],
-) -> Result<(), Fail> {
-    for (part, items, is_led) in all {
+fn assert_runs(rt: &impl Abort, alloc: Global, auto: &Auto<'_>, all: &[Run]) -> Result<(), Fail> {
+    for (name, part, items, is_led) in all {
         let found = runs(alloc, auto, *part, items)?;
-        assert!(rt; found == *is_led, "{part} {items:?}");
+        assert!(rt; found == *is_led, "{name}");
     }
     Ok(())
 }
@@ -221,47 +223,6 @@ fn contents_take_what_is_told(rt: HostRuntime) -> Result<(), Fail> {
     }
     Ok(())
 }
-
-/// The content of `r` is 260 of `x`.
-static LARGE: Grammar<'static> = Grammar {
-    start: Pat::Ref(1),
-    elements: &LARGE_ELEMENTS,
-};
-
-const LARGE_ELEMENTS: [ElemPat<'static>; 2] = [
-    ElemPat {
-        names: NameClass::Name(Name {
-            uri: "",
-            local: "r",
-        }),
-        content: Pat::Group(&LARGE_MEMBERS),
-    },
-    ElemPat {
-        names: NameClass::Name(Name {
-            uri: "",
-            local: "x",
-        }),
-        content: Pat::Empty,
-    },
-];
-
-const LARGE_MEMBERS: [Pat<'static>; 260] = [Pat::Ref(2); 260];
-
-/// The content of `m` is 70 of it in any order.
-static WIDE: Grammar<'static> = Grammar {
-    start: Pat::Ref(1),
-    elements: &WIDE_ELEMENTS,
-};
-
-const WIDE_ELEMENTS: [ElemPat<'static>; 1] = [ElemPat {
-    names: NameClass::Name(Name {
-        uri: "",
-        local: "m",
-    }),
-    content: Pat::Interleave(&WIDE_MEMBERS),
-}];
-
-const WIDE_MEMBERS: [Pat<'static>; 70] = [Pat::Ref(1); 70];
 
 /// How many states a schema has, up to so many, or the contents of its element patterns alone.
 fn states_of(
@@ -278,15 +239,39 @@ fn states_of(
     Ok(auto.states())
 }
 
+/// An element pattern of one name, without a namespace.
+fn one<'b>(local: &'b str, content: Pat<'b>) -> ElemPat<'b> {
+    let names = NameClass::Name(Name { uri: "", local });
+    ElemPat { names, content }
+}
+
+/// How many states a schema has whose content of `r` is 260 of `x`, up to so many, or its contents alone.
+fn states_of_large(alloc: Global, most: u32, has_start: bool) -> Result<u32, AutoFault> {
+    let members = [Pat::Ref(2); 260];
+    let elements = [one("r", Pat::Group(&members)), one("x", Pat::Empty)];
+    let start = Pat::Ref(1);
+    let elements = &elements;
+    states_of(alloc, &Grammar { start, elements }, most, has_start)
+}
+
+/// The same of a schema whose content of `m` is 70 of it in any order.
+fn states_of_wide(alloc: Global, most: u32) -> Result<u32, AutoFault> {
+    let members = [Pat::Ref(1); 70];
+    let elements = [one("m", Pat::Interleave(&members))];
+    let start = Pat::Ref(1);
+    let elements = &elements;
+    states_of(alloc, &Grammar { start, elements }, most, true)
+}
+
 /// Two states of the start, 261 of the content of `r` and one of that of `x`.
 #[test]
 fn counts_states_before_it_builds(rt: HostRuntime) {
     let alloc = rt.alloc();
     let refused = Err(AutoFault::TooManyStates);
-    assert!(rt; states_of(alloc, &LARGE, 263, true) == refused);
-    assert!(rt; states_of(alloc, &LARGE, 264, true) == Ok(264));
-    assert!(rt; states_of(alloc, &LARGE, 262, false) == Ok(262));
-    assert!(rt; states_of(alloc, &WIDE, 4_294_967_295, true) == refused);
+    assert!(rt; states_of_large(alloc, 263, true) == refused);
+    assert!(rt; states_of_large(alloc, 264, true) == Ok(264));
+    assert!(rt; states_of_large(alloc, 262, false) == Ok(262));
+    assert!(rt; states_of_wide(alloc, 4_294_967_295) == refused);
 }
 
 const A_OF_U: Name<'static> = Name {
@@ -340,19 +325,26 @@ static NAMED_ALLOWED: [(u32, [bool; 3]); 3] = [
     (3, [false, true, true]),
 ];
 
+/// Which of them an element pattern allows.
+fn allowed(auto: &Auto<'_>, number: u32) -> [bool; 3]
+    requires from_one { 1 ≤ number }
+    requires within { number ≤ patterns auto.now }
+{
+    [
+        auto.allows(number, &A_OF_U),
+        auto.allows(number, &B_OF_U),
+        auto.allows(number, &A_OF_V),
+    ]
+}
+
 /// Wildcards with exceptions, and alternatives of the start in a choice within a choice.
 #[test]
 fn tells_names_and_alternatives(rt: HostRuntime) -> Result<(), Fail> {
     let auto = Auto::contents(rt.alloc(), &NAMED, 3)?;
     assert!(rt; auto.patterns() == 3);
     for (number, expected) in &NAMED_ALLOWED {
-        assert!(rt; 1 <= *number && *number <= auto.patterns());
-        let allowed = [
-            auto.allows(*number, &A_OF_U),
-            auto.allows(*number, &B_OF_U),
-            auto.allows(*number, &A_OF_V),
-        ];
-        assert!(rt; allowed == *expected, "{number}");
+        assert!(rt; 1 <= *number && *number <= auto.patterns(), "{number}");
+        assert!(rt; allowed(&auto, *number) == *expected, "{number}");
     }
     assert!(rt; auto.starts(1) && !auto.starts(2) && auto.starts(3));
     Ok(())

@@ -45,13 +45,18 @@ fn assert_pairs(rt: &impl Abort, product: &Mat, left: u32, right: u32, n: u32) {
     }
 }
 
+/// Multiplies matrices of one size into another.
+fn multiply(rt: &impl Abort, a: &Mat, b: &Mat, out: &mut Mat) {
+    assert!(rt; a.size() == out.size() && b.size() == out.size(), "sizes");
+    Mat::mul_into(a, b, out);
+}
+
 /// The product of two rules' pairs, over what a matrix held.
 fn product_of(rt: &impl Abort, alloc: Global, left: u32, right: u32, n: u32) -> Result<Mat, Fail> {
     let a = matrix_of(alloc, left, n)?;
     let b = matrix_of(alloc, right, n)?;
     let mut out = matrix_of(alloc, 6, n)?;
-    assert!(rt; a.size() == out.size() && b.size() == out.size(), "sizes");
-    Mat::mul_into(&a, &b, &mut out);
+    multiply(rt, &a, &b, &mut out);
     Ok(out)
 }
 
@@ -90,14 +95,18 @@ static WORDS: [(usize, u64); 7] = [
     (129, 1),
 ];
 
-#[test]
-fn bits_stand_at_their_places(rt: HostRuntime) -> Result<(), Fail> {
-    let mat = identity_with_two(rt.alloc())?;
-    let words = mat.words();
+/// Asserts of each of these places which word stands there.
+fn assert_words(rt: &impl Abort, words: &[u64]) {
     assert!(rt; words.len() == 130);
     for (at, word) in &WORDS {
         assert!(rt; words.get(*at).copied() == Some(*word), "word {at}");
     }
+}
+
+#[test]
+fn bits_stand_at_their_places(rt: HostRuntime) -> Result<(), Fail> {
+    let mat = identity_with_two(rt.alloc())?;
+    assert_words(&rt, mat.words());
     Ok(())
 }
 
@@ -142,12 +151,17 @@ fn assert_pool(rt: &impl Abort, alloc: Global, pool: &mut Pool) -> Result<(), Fa
     Ok(())
 }
 
+/// Asserts that a pool has no matrix of zeros.
+fn assert_without_zero(rt: &impl Abort, alloc: Global, pool: &Pool) -> Result<(), Fail> {
+    let other = Mat::zero(alloc, 65)?;
+    assert!(rt; pool.find(&other).is_none());
+    Ok(())
+}
+
 /// Numbers count from 0, and a matrix that is held keeps its own.
 #[test]
 fn pool_numbers_in_order(rt: HostRuntime) -> Result<(), Fail> {
     let mut pool = Pool::new(rt.alloc(), 65);
     assert_pool(&rt, rt.alloc(), &mut pool)?;
-    let other = Mat::zero(rt.alloc(), 65)?;
-    assert!(rt; pool.find(&other).is_none());
-    Ok(())
+    assert_without_zero(&rt, rt.alloc(), &pool)
 }

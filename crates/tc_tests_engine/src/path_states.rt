@@ -44,8 +44,8 @@ fn rules_of<'b>(alloc: Global, sheet: &Sheet<'b>) -> Result<Rules<'b>, NoMemory>
     Ok(rules)
 }
 
-/// Asserts what built-in rules alone answer.
-fn assert_built_in(rt: &impl Abort, rules: &Rules<'_>)
+/// Asserts which rules and which ancestor states there are.
+fn assert_found(rt: &impl Abort, rules: &Rules<'_>)
     requires modes { (told rules.now).sheet.modes ≡ 1 }
     requires rules { (symbols : List Mention) × IsRulesOf symbols rules.now }
 {
@@ -56,14 +56,23 @@ fn assert_built_in(rt: &impl Abort, rules: &Rules<'_>)
     let rule = rules.rule_for(0, 0, Kind::Text, Marks(0));
     assert!(rt; root == Found::BuiltIn && rule == Found::BuiltIn);
     let below = rules.anc_step(0, Sym(0), Marks(0));
+    assert!(rt; below == 0);
+}
+
+/// Asserts which select states there are, and what follows from them.
+fn assert_selected(rt: &impl Abort, rules: &Rules<'_>)
+    requires modes { (told rules.now).sheet.modes ≡ 1 }
+    requires rules { (symbols : List Mention) × IsRulesOf symbols rules.now }
+{
     let looks = rules.looks();
     assert!(rt; looks == 0);
     let moves = rules.moves();
     assert!(rt; moves == 1);
     let next = rules.sel_step(0, Sym(0), Marks(0));
-    assert!(rt; below == 0 && next.is_none());
     let hit = rules.sel_hits(0, Kind::Text, Marks(0));
-    assert!(rt; hit && rules.mode_of(0) == Job::Mode(0));
+    assert!(rt; next.is_none() && hit);
+    let job = rules.mode_of(0);
+    assert!(rt; job == Job::Mode(0));
 }
 
 /// Built-in rules alone: one ancestor state, without items, and one select state, of the move to all children.
@@ -71,6 +80,7 @@ fn assert_built_in(rt: &impl Abort, rules: &Rules<'_>)
 fn built_in_rules(rt: HostRuntime) -> Result<(), Fail> {
     let sheet = no_rules();
     let rules = rules_of(rt.alloc(), &sheet)?;
-    assert_built_in(&rt, &rules);
+    assert_found(&rt, &rules);
+    assert_selected(&rt, &rules);
     Ok(())
 }

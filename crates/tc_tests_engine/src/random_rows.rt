@@ -279,7 +279,7 @@ fn told_of_step<'b>(
     Ok(Some((by_row, by_definition)))
 }
 
-/// Does random steps, and counts what is told of the elements that they make.
+/// Keeps the first rows, does random steps, and counts what is told of the elements that they make.
 fn tell_of_steps<'b>(
     alloc: Global,
     arena: &'b Bump,
@@ -295,6 +295,7 @@ fn tell_of_steps<'b>(
     requires machine { IsMachine machine.now }
     requires kept { AreKept rows.old hedges.old.items trees.old.items }
 {
+    keep_first(alloc, rows, hedges, trees, texts)?;
     for _ in 0..STEPS {
         let told = told_of_step(
             alloc, arena, dice, machine, schemas, rows, hedges, trees, texts,
@@ -324,7 +325,6 @@ fn tell_over<'b>(
         hedges: Vec::new(alloc),
         trees: Vec::new(alloc),
     };
-    keep_first(alloc, &mut rows, &mut hedges, &mut trees, &mut texts)?;
     tell_of_steps(
         alloc,
         arena,
@@ -339,6 +339,21 @@ fn tell_over<'b>(
     )
 }
 
+/// The same beside the schemas of the triple's texts.
+fn tell_by_schemas<'b>(
+    alloc: Global,
+    arena: &'b Bump,
+    dice: &mut Dice,
+    machine: &Machine<'b>,
+    texts: &TripleTexts,
+    tally: &mut Tally,
+) -> Result<(), Fail>
+    requires { IsMachine machine.now }
+{
+    let schemas = schemas_of(alloc, arena, texts)?;
+    tell_over(alloc, arena, dice, machine, &schemas, tally)
+}
+
 /// The same over the machine of three texts.
 fn tell_of_texts(
     alloc: Global,
@@ -350,8 +365,7 @@ fn tell_of_texts(
     let input = texts.input.as_str();
     let output = texts.output.as_str();
     let machine = machine_of_texts(alloc, &arena, input, output, texts.sheet.as_str())?;
-    let schemas = schemas_of(alloc, &arena, texts)?;
-    tell_over(alloc, &arena, dice, &machine, &schemas, tally)
+    tell_by_schemas(alloc, &arena, dice, &machine, texts, tally)
 }
 
 /// The same over many random triples.

@@ -263,7 +263,23 @@ fn assert_told(
     Ok(())
 }
 
-/// Asserts of a triple's steps over its machine which of their rows are live, and what is told of those that are kept.
+/// Asserts of a triple's steps which of their rows are live, and what is told of those that are kept.
+fn assert_steps(
+    rt: &impl Abort,
+    alloc: Global,
+    rows: &mut Rows<'_, '_>,
+    hedges: &mut Vec<HRow>,
+    trees: &mut Vec<TRow>,
+    triple: &Triple,
+) -> Result<(), Fail>
+    requires { AreKept rows.old hedges.old.items trees.old.items }
+{
+    let are_live = keep_all(alloc, rows, hedges, trees, triple.steps)?;
+    assert!(rt; are_live, "{}: steps", triple.title);
+    assert_told(rt, alloc, rows, hedges, trees, triple.title, triple.told)
+}
+
+/// The same over its machine.
 fn assert_rows(
     rt: &impl Abort,
     alloc: Global,
@@ -275,17 +291,7 @@ fn assert_rows(
     let mut rows = Rows::new(alloc, machine)?;
     let mut hedges = Vec::new(alloc);
     let mut trees = Vec::new(alloc);
-    let are_live = keep_all(alloc, &mut rows, &mut hedges, &mut trees, triple.steps)?;
-    assert!(rt; are_live, "{}: steps", triple.title);
-    assert_told(
-        rt,
-        alloc,
-        &mut rows,
-        &hedges,
-        &trees,
-        triple.title,
-        triple.told,
-    )
+    assert_steps(rt, alloc, &mut rows, &mut hedges, &mut trees, triple)
 }
 
 /// The texts of two schemas and the rules of a stylesheet; steps over their machine, whether the row of each is live, and what is
@@ -379,7 +385,7 @@ fn machine_with<'b>(alloc: Global, arena: &'b Bump, triple: &Triple) -> Result<M
     Ok(machine)
 }
 
-/// The same over the machine of a triple.
+/// The same of a triple.
 fn assert_rows_of(rt: &impl Abort, alloc: Global, triple: &Triple) -> Result<(), Fail> {
     let arena = Bump::new(alloc);
     let machine = machine_with(alloc, &arena, triple)?;
@@ -436,10 +442,7 @@ fn sheet_of_calls(alloc: Global, count: u32) -> Result<String, Fail> {
 /// Why there is no machine of a stylesheet over small schemas.
 fn fault_of(alloc: Global, sheet: &str) -> Option<NoMachine> {
     let arena = Bump::new(alloc);
-    match machine_of_texts(alloc, &arena, "element a{empty}", "element r{empty}", sheet) {
-        Ok(_) => None,
-        Err(fault) => Some(fault),
-    }
+    machine_of_texts(alloc, &arena, "element a{empty}", "element r{empty}", sheet).err()
 }
 
 /// Ancestor states times states of moves, and one look more than 8,192.

@@ -60,6 +60,17 @@ fn result_of<'b>(
     Ok(result)
 }
 
+/// The text of a tree that is one and stands alone.
+fn only_text<'b>(nodes: &[Node<'b>]) -> Option<&'b str> {
+    match nodes {
+        [node] => match node {
+            Node::Text(text) => Some(text),
+            Node::Elem(_, _) => None,
+        },
+        _ => None,
+    }
+}
+
 /// Where no rule fits, the built-in ones copy the texts (XSLT 1.0, 5.8).
 #[test]
 fn texts_are_copied_where_no_rule_fits(rt: HostRuntime) -> Result<(), Fail> {
@@ -67,6 +78,6 @@ fn texts_are_copied_where_no_rule_fits(rt: HostRuntime) -> Result<(), Fail> {
     let sheet = no_rules();
     let document = document();
     let result = result_of(rt.alloc(), &arena, &sheet, document)?;
-    assert!(rt; matches!(result, [Node::Text("x")]));
+    assert!(rt; only_text(result) == Some("x"));
     Ok(())
 }

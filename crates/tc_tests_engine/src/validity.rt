@@ -133,7 +133,7 @@ fn assert_hedges(
 }
 
 /// `element a { element b { empty } & element c { empty } }`.
-const INTERLEAVED: Grammar<'static> = Grammar {
+static INTERLEAVED: Grammar<'static> = Grammar {
     start: Pat::Ref(1),
     elements: &INTERLEAVED_ELEMENTS,
 };
@@ -149,7 +149,7 @@ const INTERLEAVED_ELEMENTS: [ElemPat<'static>; 3] = [
 
 const BOTH: [Pat<'static>; 2] = [Pat::Ref(2), Pat::Ref(3)];
 
-const INTERLEAVED_DOCUMENTS: [Document<'static>; 5] = [
+static INTERLEAVED_DOCUMENTS: [Document<'static>; 5] = [
     ("<a><b/><c/></a>", Node::Elem(A, &[LEAF_B, LEAF_C]), true),
     ("<a><c/><b/></a>", Node::Elem(A, &[LEAF_C, LEAF_B]), true),
     ("<a><b/></a>", Node::Elem(A, &[LEAF_B]), false),
@@ -162,7 +162,7 @@ const INTERLEAVED_DOCUMENTS: [Document<'static>; 5] = [
 ];
 
 /// `element a { element b { empty }, (element c { empty } | text), element d { empty }+ }`.
-const GROUPED: Grammar<'static> = Grammar {
+static GROUPED: Grammar<'static> = Grammar {
     start: Pat::Choice(&[Pat::NotAllowed, Pat::Ref(1)]),
     elements: &GROUPED_ELEMENTS,
 };
@@ -183,7 +183,7 @@ const MEMBERS: [Pat<'static>; 3] = [
     Pat::OneOrMore(&Pat::Ref(4)),
 ];
 
-const GROUPED_DOCUMENTS: [Document<'static>; 8] = [
+static GROUPED_DOCUMENTS: [Document<'static>; 8] = [
     (
         "<a><b/><c/><d/></a>",
         Node::Elem(A, &[LEAF_B, LEAF_C, LEAF_D]),
@@ -215,7 +215,7 @@ const GROUPED_DOCUMENTS: [Document<'static>; 8] = [
 ];
 
 /// `element a { mixed { element b { empty }* } }`.
-const MIXED: Grammar<'static> = Grammar {
+static MIXED: Grammar<'static> = Grammar {
     start: Pat::Ref(1),
     elements: &MIXED_ELEMENTS,
 };
@@ -240,7 +240,7 @@ const ONE_TEXT: [Node<'static>; 1] = [X];
 
 const AROUND_TEXT: Node<'static> = Node::Elem(B, &ONE_TEXT);
 
-const MIXED_DOCUMENTS: [Document<'static>; 6] = [
+static MIXED_DOCUMENTS: [Document<'static>; 6] = [
     ("<a/>", LEAF_A, true),
     (
         "<a>x<b/>x<b/><b/>x</a>",
@@ -261,14 +261,14 @@ const MIXED_DOCUMENTS: [Document<'static>; 6] = [
     ("x", X, false),
 ];
 
-const MIXED_HEDGES: [Hedges<'static>; 3] = [
+static MIXED_HEDGES: [Hedges<'static>; 3] = [
     ("white space beside", &[WHITE, AROUND_LOOSE, WHITE], true),
     ("a text behind", &[WHITE, AROUND_LOOSE, X], false),
     ("no tree", &[], false),
 ];
 
 /// `element * - (a | ns u:*) { element u:* - u:q { empty }? }`.
-const WILD: Grammar<'static> = Grammar {
+static WILD: Grammar<'static> = Grammar {
     start: Pat::Ref(1),
     elements: &WILD_ELEMENTS,
 };
@@ -317,7 +317,7 @@ const LEAF_P: Node<'static> = Node::Elem(
     &[],
 );
 
-const WILD_DOCUMENTS: [Document<'static>; 6] = [
+static WILD_DOCUMENTS: [Document<'static>; 6] = [
     ("<b/>", LEAF_B, true),
     ("<b><u:p/></b>", Node::Elem(B, &[LEAF_P_OF_U]), true),
     ("<b><u:q/></b>", Node::Elem(B, &[LEAF_Q_OF_U]), false),
@@ -327,7 +327,7 @@ const WILD_DOCUMENTS: [Document<'static>; 6] = [
 ];
 
 /// `element * { text }`.
-const TEXTS: Grammar<'static> = Grammar {
+static TEXTS: Grammar<'static> = Grammar {
     start: Pat::Ref(1),
     elements: &[ElemPat {
         names: NameClass::Any(&[]),
@@ -359,7 +359,7 @@ const DECLARED: Name<'static> = Name {
     local: "a",
 };
 
-const TEXTS_DOCUMENTS: [Document<'static>; 8] = [
+static TEXTS_DOCUMENTS: [Document<'static>; 8] = [
     ("<é-1/>", Node::Elem(ACCENTED, &[]), true),
     ("no name", Node::Elem(NAMELESS, &[]), false),
     ("<1/>", Node::Elem(DIGIT, &[]), false),
@@ -382,45 +382,60 @@ const TEXTS_DOCUMENTS: [Document<'static>; 8] = [
     ),
 ];
 
-/// What a test is about, a schema, trees that are valid documents of it or aren't, and trees that lead so or don't.
-type Schema = (
-    &'static str,
-    &'static Grammar<'static>,
-    &'static [Document<'static>],
-    &'static [Hedges<'static>],
-);
+/// Asserts of trees whether they are valid, and whether they lead so.
+fn assert_trees(
+    rt: &impl Abort,
+    hedge: &Hedge<'_>,
+    name: &str,
+    documents: &[Document<'_>],
+    hedges: &[Hedges<'_>],
+) -> Result<(), Fail> {
+    assert_documents(rt, hedge, name, documents)?;
+    assert_hedges(rt, hedge, name, hedges)
+}
 
-static SCHEMAS: [Schema; 5] = [
-    ("any order", &INTERLEAVED, &INTERLEAVED_DOCUMENTS, &[]),
-    (
-        "groups, choices, repeats",
-        &GROUPED,
-        &GROUPED_DOCUMENTS,
-        &[],
-    ),
-    (
-        "mixed content, white space",
-        &MIXED,
-        &MIXED_DOCUMENTS,
-        &MIXED_HEDGES,
-    ),
-    ("wildcards and exceptions", &WILD, &WILD_DOCUMENTS, &[]),
-    ("what no document has", &TEXTS, &TEXTS_DOCUMENTS, &[]),
-];
-
-/// Asserts of the trees of each schema whether they are valid, and whether they lead so.
-fn assert_schemas(rt: &impl Abort, alloc: Global, schemas: &[Schema]) -> Result<(), Fail> {
-    for (name, grammar, documents, hedges) in schemas {
-        let hedge = hedge_of(alloc, grammar)?;
-        assert_documents(rt, &hedge, name, documents)?;
-        assert_hedges(rt, &hedge, name, hedges)?;
-    }
-    Ok(())
+/// Asserts it of the trees of a schema.
+fn assert_schema(
+    rt: &impl Abort,
+    alloc: Global,
+    grammar: &Grammar<'_>,
+    name: &str,
+    documents: &[Document<'_>],
+    hedges: &[Hedges<'_>],
+) -> Result<(), Fail> {
+    let hedge = hedge_of(alloc, grammar)?;
+    assert_trees(rt, &hedge, name, documents, hedges)
 }
 
 #[test]
 fn trees_of_each_schema_are_valid_as_told(rt: HostRuntime) -> Result<(), Fail> {
-    assert_schemas(&rt, rt.alloc(), &SCHEMAS)
+    let alloc = rt.alloc();
+    assert_schema(
+        &rt,
+        alloc,
+        &INTERLEAVED,
+        "any order",
+        &INTERLEAVED_DOCUMENTS,
+        &[],
+    )?;
+    assert_schema(
+        &rt,
+        alloc,
+        &GROUPED,
+        "groups, repeats",
+        &GROUPED_DOCUMENTS,
+        &[],
+    )?;
+    assert_schema(
+        &rt,
+        alloc,
+        &MIXED,
+        "mixed content",
+        &MIXED_DOCUMENTS,
+        &MIXED_HEDGES,
+    )?;
+    assert_schema(&rt, alloc, &WILD, "wildcards", &WILD_DOCUMENTS, &[])?;
+    assert_schema(&rt, alloc, &TEXTS, "no document", &TEXTS_DOCUMENTS, &[])
 }
 
 /// So many elements `a` within one another.
@@ -447,9 +462,17 @@ const NESTED_ELEMENTS: [ElemPat<'static>; 1] = [ElemPat {
 fn goes_down_two_thousand_levels(rt: HostRuntime) -> Result<(), Fail> {
     let arena = Bump::new(rt.alloc());
     let node = nested(&arena, 2000)?;
-    let hedge = hedge_of(rt.alloc(), &NESTED)?;
-    assert_documents(&rt, &hedge, "2,000 levels", &[("a document", node, true)])?;
-    assert_hedges(&rt, &hedge, "2,000 levels", &[("a tree", &[node], true)])
+    let nodes = [node];
+    let documents = [("a document", node, true)];
+    let hedges: [Hedges<'_>; 1] = [("a tree", &nodes, true)];
+    assert_schema(
+        &rt,
+        rt.alloc(),
+        &NESTED,
+        "2,000 levels",
+        &documents,
+        &hedges,
+    )
 }
 
 /// `element a { element * { empty }, text }`.
@@ -493,13 +516,6 @@ fn pairs_around(
     Ok(around)
 }
 
-/// The pairs of a text.
-fn pairs_of_text(alloc: Global, hedge: &Hedge<'_>) -> Result<Mat, Fail> {
-    let mut pairs = Mat::identity(alloc, hedge.auto().states())?;
-    hedge.text_into(&mut pairs);
-    Ok(pairs)
-}
-
 /// Asserts that these are the pairs of some trees.
 fn assert_pairs(
     rt: &impl Abort,
@@ -512,20 +528,30 @@ fn assert_pairs(
     Ok(())
 }
 
-/// The pairs of an element of the symbol of `a` are those of the element of that name.
+/// Asserts that the pairs of an element of the symbol of `a` are those of the element of that name.
+fn assert_pairs_around(rt: &impl Abort, alloc: Global, hedge: &Hedge<'_>) -> Result<(), Fail> {
+    let sym = symbol_of(alloc, &AROUND, &A)?;
+    let around = pairs_around(alloc, hedge, sym, &KIDS)?;
+    assert_pairs(rt, hedge, &around, &[Node::Elem(A, &KIDS)])
+}
+
 #[test]
 fn knows_elements_by_their_symbols(rt: HostRuntime) -> Result<(), Fail> {
     let hedge = hedge_of(rt.alloc(), &AROUND)?;
     let symbols = hedge.symbols();
     assert!(rt; symbols == 3, "a, other names without a namespace, others");
-    let sym = symbol_of(rt.alloc(), &AROUND, &A)?;
-    let pairs = pairs_around(rt.alloc(), &hedge, sym, &KIDS)?;
-    assert_pairs(&rt, &hedge, &pairs, &[Node::Elem(A, &KIDS)])
+    assert_pairs_around(&rt, rt.alloc(), &hedge)
+}
+
+/// Asserts what the pairs of a text are.
+fn assert_pairs_of_text(rt: &impl Abort, alloc: Global, hedge: &Hedge<'_>) -> Result<(), Fail> {
+    let mut pairs = Mat::identity(alloc, hedge.auto().states())?;
+    hedge.text_into(&mut pairs);
+    assert_pairs(rt, hedge, &pairs, &ONE_TEXT)
 }
 
 #[test]
 fn knows_texts(rt: HostRuntime) -> Result<(), Fail> {
     let hedge = hedge_of(rt.alloc(), &AROUND)?;
-    let pairs = pairs_of_text(rt.alloc(), &hedge)?;
-    assert_pairs(&rt, &hedge, &pairs, &ONE_TEXT)
+    assert_pairs_of_text(&rt, rt.alloc(), &hedge)
 }

@@ -1,6 +1,6 @@
 use Rattle.tc_tests_engine.proofs.Keeping.{none_kept}
 use Rattle.tc_tests_engine.proofs.random_rows.tell_over.Goals as goal
 
-pub keep_first-requires : goal.keep_first-requires
-keep_first-requires c =
+pub tell_of_steps-requires-clause-kept : goal.tell_of_steps-requires-clause-kept
+tell_of_steps-requires-clause-kept c =
     none_kept c.in_ok-rows.rows c.new-hedges.result.items c.new-trees.result.items c.args.machine.now c.requires c.in_ok-rows.ensures.stands c.new-hedges.ensures.items c.new-trees.ensures.items
