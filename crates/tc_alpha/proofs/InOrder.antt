@@ -1,10 +1,6 @@
 -- The only list in order of what mentions hold.
-use Rattle.std.proofs.Common.{◌≡◌, ◌↔◌, ◌⊎◌, inl, inr, List, [], ◌∷◌, ◌++◌, flat_map, sym, subst}
-use Rattle.std.specs.List.{Contains}
-use Rattle.std.specs.List.Sorted.{IsStrictlySortedBy}
-use Rattle.tc_model.specs.Grammars.{Grammar}
-use Rattle.tc_model.specs.Sheets.{Sheet}
-use Rattle.tc_model.specs.Symbols.{Mention, mention_cmp, mentions_in_grammar, mentions_in_sheet, mentions_in, with_namespace, in_order, symbols_of, symbols_of_schema, IsInOrder, IsOnlyInOrder, SchemasHaveTheirSymbols}
+use Rattle.std.proofs.Common.{◌⊎◌, inl, inr, List, [], ◌∷◌, ◌++◌, flat_map, sym, subst}
+use Rattle.tc_model.specs.Symbols.{Mention, mention_cmp, mentions_in_grammar, mentions_in_sheet, mentions_in, with_namespace, in_order, symbols_of, IsInOrder, IsOnlyInOrder, SchemasHaveTheirSymbols}
 use Rattle.tc_alpha.proofs.Orders.{total, same}
 use Rattle.tc_alpha.proofs.Members.{Has, has_from_contains, contains_from_has, has_front, has_back, has_either, has_from_in_order, in_order_has, in_order_rises, is_in_order}
 

@@ -1,6 +1,6 @@
 -- What a loop over a part of a schema or a stylesheet has found, one step at a time.
 use Rattle.std.proofs.Common.{◌≡◌, ℕ, zero, suc, [], ◌∷◌, arith, ◌+◌, ◌<◌, List, ◌++◌, refl, ap, ◌∙◌, sym, map, Bor, length, get_or, drop, append_assoc, flat_map, Result, Ok, Err, OnOk}
-use Rattle.std.proofs.lemmas.List.{drop_more}
+use Rattle.std.proofs.lemmas.List.{append-nil, drop_more}
 use Rattle.tc_model.specs.Sheets as s
 use Rattle.tc_model.specs.Views as see
 use Rattle.tc_model.specs.Symbols.{Mention, mentions_of_name, mentions_of_test, mentions_in_class, mentions_in_classes, in_steps, in_path, in_test, in_tests, in_body, in_branches}
@@ -41,6 +41,18 @@ moved old new piece left rest whole put front so_far =
 pub moved_twice : (old mid new first second left rest whole : List Mention) → mid ≡ old ++ first → new ≡ mid ++ second → left ≡ first ++ (second ++ rest) → old ++ left ≡ whole → new ++ rest ≡ whole
 moved_twice old mid new first second left rest whole put again front so_far =
     moved mid new second (second ++ rest) rest whole again refl (moved old mid first left (second ++ rest) whole put front so_far)
+
+-- nothing is left
+pub nothing_left : (now rest whole : List Mention) → rest ≡ [] → now ++ rest ≡ whole → now ≡ whole
+nothing_left now rest whole is k = sym (append-nil now) ∙ (sym (ap (λ l. now ++ l) is) ∙ k)
+
+-- nothing was found
+pub nothing_found : (old whole : List Mention) → whole ≡ [] → old ≡ old ++ whole
+nothing_found old whole is = sym (ap (λ l. old ++ l) is ∙ append-nil old)
+
+-- what one call found is all that was to be found
+pub all_found : (old new piece whole : List Mention) → whole ≡ piece → new ≡ old ++ piece → new ≡ old ++ whole
+all_found old new piece whole is put = put ∙ ap (λ l. old ++ l) (sym is)
 
 pub class_step : (cs : List NameClass) (i : ℕ) (x : NameClass) → i < length cs → x ≡ get_or cs i x
     → mentions_in_classes (see.classes (drop i cs)) ≡ mentions_in_class (see.class x) ++ mentions_in_classes (see.classes (drop (i + 1) cs))

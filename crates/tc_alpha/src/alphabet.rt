@@ -1,12 +1,13 @@
 // Symbols in order, by name and back.
 ghost use Rattle.std.specs.Prelude.{◌≡◌, ◌<◌, ◌≤◌, length, slice_get, IfOk, IfErr, OnOk, MatchOption};
+ghost use Rattle.tc_alpha.specs.Free.{mention_by};
 ghost use Rattle.tc_alpha.specs.Kept.{known, all_known};
 ghost use Rattle.tc_alpha.specs.Views.{seen, mention as see_mention};
 ghost use Rattle.tc_model.specs.Grammars as g;
 ghost use Rattle.tc_model.specs.Names.{ExpandedName, IsName};
 ghost use Rattle.tc_model.specs.Views as see;
 ghost use Rattle.tc_model.specs.Sheets as s;
-ghost use Rattle.tc_model.specs.Symbols.{AreAlike, AreFirstFree, AreSymbols, GiveSymbols, IsAlikeBySymbol, IsOnlyInOrder, IsSymbolOfFresh, SchemasHaveTheirSymbols, free_local, free_namespace, fresh_name, in_order, mention_cmp, place_of, symbol_count, symbol_of, symbols_of, symbols_of_schema};
+ghost use Rattle.tc_model.specs.Symbols.{AreAlike, AreFirstFree, AreSymbols, GiveSymbols, IsAlikeBySymbol, IsOnlyInOrder, IsSymbolOfFresh, SchemasHaveTheirSymbols, fresh_name, in_order, is_mentioned, lengthened, mention_cmp, place_of, symbol_count, symbol_of, symbols_of, symbols_of_schema};
 ghost use Rattle.tc_model.specs.WellFormed.{IsSheet};
 
 use crate::mentions::{Mention, mention_grammar, mention_sheet, with_namespaces};
@@ -144,11 +145,7 @@ impl Alphabet {
         ensures many { IfErr result (λ e. e ≡ AlphaFault.TooManySymbols → 1024 < symbol_count (symbols_of (see.grammar input.now) (see.grammar output.now) (see.sheet sheet.now))) }
     {
         let mentions = mentions_of(alloc, input, output, sheet)?;
-        if mentions.len() >= MOST_SYMBOLS {
-            return Err(AlphaFault::TooManySymbols);
-        }
-        let symbols = all_kept(alloc, &mentions)?;
-        Ok(Alphabet { symbols })
+        of_mentions(alloc, &mentions)
     }
 
     /// How many symbols there are.
@@ -183,7 +180,10 @@ impl Alphabet {
         ensures found { MatchOption result (slice_get self.now place ≡ None) (λ m. slice_get self.now place ≡ Some (see_mention m)) }
         ensures symbols { AreSymbols self.now }
     {
-        self.symbols.get(place).map(|known| known.lent())
+        match self.symbols.get(place) {
+            Some(known) => Some(known.lent()),
+            None => None,
+        }
     }
 
     /// The symbol of a name. Names of one symbol are in the same name classes and pass the same node tests.
@@ -214,48 +214,59 @@ impl Alphabet {
             }),
             Some(Mention::Namespace(uri)) => Ok(Name {
                 uri: arena.try_alloc_str(uri)?,
-                local: self.free_local(arena, uri)?,
+                local: self.free_text(arena, Some(uri), "n")?,
             }),
             None => Ok(Name {
-                uri: self.free_namespace(arena)?,
+                uri: self.free_text(arena, None, "urn:n")?,
                 local: "n",
             }),
         }
     }
 
-    /// The shortest of `n`, `nn`, .. that is not mentioned in the namespace.
-    fn free_local<'b>(&self, arena: &'b Bump, uri: &str) -> Result<&'b str, NoMemory>
-        ensures { IfOk result (λ text. text.now ≡ free_local self.now uri.now) }
+    /// The shortest of a text, the same with one `n` more, .. that is not mentioned: as a local name in a
+    /// namespace, or as a namespace where none is given.
+    fn free_text<'b>(
+        &self,
+        arena: &'b Bump,
+        within: Option<&str>,
+        first: &str,
+    ) -> Result<&'b str, NoMemory>
+        ensures { IfOk result (λ text. text.now ≡ lengthened (λ t. is_mentioned (mention_by within.entry t) self.now) (length self.now) first.now) }
     {
         let most = self.own();
-        let mut local = String::from_str(arena, "n")?;
+        let mut text = String::from_str(arena, first)?;
         for _tried in 0..most {
-            let name = Name {
-                uri,
-                local: local.as_str(),
-            };
-            if self.place(&Mention::Name(name)) == most {
-                return Ok(into_bump_str(local));
+            if self.place(&mention_by(within, text.as_str())) == most {
+                return Ok(into_bump_str(text));
             }
-            local.push('n')?;
+            text.push('n')?;
         }
-        Ok(into_bump_str(local))
+        Ok(into_bump_str(text))
     }
+}
 
-    /// The shortest of `urn:n`, `urn:nn`, .. that is not mentioned.
-    fn free_namespace<'b>(&self, arena: &'b Bump) -> Result<&'b str, NoMemory>
-        ensures { IfOk result (λ text. text.now ≡ free_namespace self.now) }
-    {
-        let most = self.own();
-        let mut uri = String::from_str(arena, "urn:n")?;
-        for _tried in 0..most {
-            if self.place(&Mention::Namespace(uri.as_str())) == most {
-                return Ok(into_bump_str(uri));
-            }
-            uri.push('n')?;
-        }
-        Ok(into_bump_str(uri))
+/// The mention of a local name in a namespace, or of a namespace where none is given.
+fn mention_by<'u: 'm, 'm>(within: Option<&'u str>, text: &'m str) -> Mention<'m>
+    ensures { see_mention result ≡ mention_by within.entry text.now }
+{
+    match within {
+        Some(uri) => Mention::Name(Name { uri, local: text }),
+        None => Mention::Namespace(text),
     }
+}
+
+/// The alphabet of what is mentioned, in order, each once.
+fn of_mentions(alloc: Global, mentions: &[Mention<'_>]) -> Result<Alphabet, AlphaFault>
+    requires { AreSymbols (seen mentions.now) }
+    ensures stands { IfOk result (λ a. a ≡ seen mentions.now) }
+    ensures few { OnOk result (symbol_count (seen mentions.now) ≤ 1024) }
+    ensures many { IfErr result (λ e. e ≡ AlphaFault.TooManySymbols → 1024 < symbol_count (seen mentions.now)) }
+{
+    if mentions.len() >= MOST_SYMBOLS {
+        return Err(AlphaFault::TooManySymbols);
+    }
+    let symbols = all_kept(alloc, mentions)?;
+    Ok(Alphabet { symbols })
 }
 
 /// How many symbols a schema has by itself.
@@ -274,12 +285,12 @@ pub fn count_of_schema(alloc: Global, grammar: &Grammar<'_>) -> Result<usize, No
 }
 
 /// What is mentioned, in order, each once.
-fn mentions_of<'b>(
+fn mentions_of<'i: 'f, 'o: 'f, 's: 'f, 'f>(
     alloc: Global,
-    input: &Grammar<'b>,
-    output: &Grammar<'b>,
-    sheet: &Sheet<'b>,
-) -> Result<Vec<Mention<'b>>, NoMemory>
+    input: &Grammar<'i>,
+    output: &Grammar<'o>,
+    sheet: &Sheet<'s>,
+) -> Result<Vec<Mention<'f>>, NoMemory>
     ensures { IfOk result (λ v. seen v.items ≡ symbols_of (see.grammar input.now) (see.grammar output.now) (see.sheet sheet.now)) }
 {
     let mut found = Vec::new(alloc);

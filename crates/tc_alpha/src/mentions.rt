@@ -29,7 +29,10 @@ fn add<'b>(found: &mut Vec<Mention<'b>>, mention: Mention<'b>) -> Result<(), NoM
 /// What a name class mentions, the excepted class included.
 #[cycle(classes)]
 #[tactic(auto, using(tc_model::proofs::ViewsGrammar::see_class))]
-fn mention_class<'b>(found: &mut Vec<Mention<'b>>, class: &NameClass<'b>) -> Result<(), NoMemory>
+fn mention_class<'b: 'f, 'f>(
+    found: &mut Vec<Mention<'f>>,
+    class: &NameClass<'b>,
+) -> Result<(), NoMemory>
     ensures { OnOk result (seen found.new.items ≡ seen found.old.items ++ mentions_in_class (see.class class.now)) }
 {
     match class {
@@ -44,8 +47,8 @@ fn mention_class<'b>(found: &mut Vec<Mention<'b>>, class: &NameClass<'b>) -> Res
 }
 
 #[cycle(classes)]
-fn mention_classes<'b>(
-    found: &mut Vec<Mention<'b>>,
+fn mention_classes<'b: 'f, 'f>(
+    found: &mut Vec<Mention<'f>>,
     classes: &[NameClass<'b>],
 ) -> Result<(), NoMemory>
     ensures { OnOk result (seen found.new.items ≡ seen found.old.items ++ mentions_in_classes (see.classes classes.now)) }
@@ -57,8 +60,8 @@ fn mention_classes<'b>(
 }
 
 /// What the name classes of a schema mention.
-pub fn mention_grammar<'b>(
-    found: &mut Vec<Mention<'b>>,
+pub fn mention_grammar<'b: 'f, 'f>(
+    found: &mut Vec<Mention<'f>>,
     grammar: &Grammar<'b>,
 ) -> Result<(), NoMemory>
     ensures { OnOk result (seen found.new.items ≡ seen found.old.items ++ mentions_in_grammar (see.grammar grammar.now)) }
@@ -69,7 +72,10 @@ pub fn mention_grammar<'b>(
     Ok(())
 }
 
-fn mention_node_test<'b>(found: &mut Vec<Mention<'b>>, test: &NodeTest<'b>) -> Result<(), NoMemory>
+fn mention_node_test<'b: 'f, 'f>(
+    found: &mut Vec<Mention<'f>>,
+    test: &NodeTest<'b>,
+) -> Result<(), NoMemory>
     ensures { OnOk result (seen found.new.items ≡ seen found.old.items ++ mentions_of_test (see.node_test test.now)) }
 {
     match test {
@@ -81,7 +87,10 @@ fn mention_node_test<'b>(found: &mut Vec<Mention<'b>>, test: &NodeTest<'b>) -> R
 
 /// What steps mention, in their predicates too.
 #[cycle(paths)]
-fn mention_steps<'b>(found: &mut Vec<Mention<'b>>, steps: &[Step<'b>]) -> Result<(), NoMemory>
+fn mention_steps<'b: 'f, 'f>(
+    found: &mut Vec<Mention<'f>>,
+    steps: &[Step<'b>],
+) -> Result<(), NoMemory>
     ensures { OnOk result (seen found.new.items ≡ seen found.old.items ++ in_steps mentions_of_test mentions_of_name (see.steps steps.now)) }
 {
     for step in steps {
@@ -92,7 +101,7 @@ fn mention_steps<'b>(found: &mut Vec<Mention<'b>>, steps: &[Step<'b>]) -> Result
 }
 
 #[cycle(paths)]
-fn mention_path<'b>(found: &mut Vec<Mention<'b>>, path: &Path<'b>) -> Result<(), NoMemory>
+fn mention_path<'b: 'f, 'f>(found: &mut Vec<Mention<'f>>, path: &Path<'b>) -> Result<(), NoMemory>
     ensures { OnOk result (seen found.new.items ≡ seen found.old.items ++ in_path mentions_of_test mentions_of_name (see.path path.now)) }
 {
     for steps in path.alts {
@@ -103,7 +112,7 @@ fn mention_path<'b>(found: &mut Vec<Mention<'b>>, path: &Path<'b>) -> Result<(),
 
 #[cycle(paths)]
 #[tactic(auto, using(tc_model::proofs::ViewsPath::see_test))]
-fn mention_test<'b>(found: &mut Vec<Mention<'b>>, test: &Test<'b>) -> Result<(), NoMemory>
+fn mention_test<'b: 'f, 'f>(found: &mut Vec<Mention<'f>>, test: &Test<'b>) -> Result<(), NoMemory>
     ensures { OnOk result (seen found.new.items ≡ seen found.old.items ++ in_test mentions_of_test mentions_of_name (see.test test.now)) }
 {
     match test {
@@ -115,7 +124,10 @@ fn mention_test<'b>(found: &mut Vec<Mention<'b>>, test: &Test<'b>) -> Result<(),
 }
 
 #[cycle(paths)]
-fn mention_tests<'b>(found: &mut Vec<Mention<'b>>, tests: &[Test<'b>]) -> Result<(), NoMemory>
+fn mention_tests<'b: 'f, 'f>(
+    found: &mut Vec<Mention<'f>>,
+    tests: &[Test<'b>],
+) -> Result<(), NoMemory>
     ensures { OnOk result (seen found.new.items ≡ seen found.old.items ++ in_tests mentions_of_test mentions_of_name (see.tests tests.now)) }
 {
     for test in tests {
@@ -124,7 +136,10 @@ fn mention_tests<'b>(found: &mut Vec<Mention<'b>>, tests: &[Test<'b>]) -> Result
     Ok(())
 }
 
-fn mention_pattern<'b>(found: &mut Vec<Mention<'b>>, pattern: &Pattern<'b>) -> Result<(), NoMemory>
+fn mention_pattern<'b: 'f, 'f>(
+    found: &mut Vec<Mention<'f>>,
+    pattern: &Pattern<'b>,
+) -> Result<(), NoMemory>
     ensures { OnOk result (seen found.new.items ≡ seen found.old.items ++ in_pattern mentions_of_test mentions_of_name (see.match_pattern pattern.now)) }
 {
     match pattern {
@@ -135,7 +150,10 @@ fn mention_pattern<'b>(found: &mut Vec<Mention<'b>>, pattern: &Pattern<'b>) -> R
 
 /// What instructions mention: the names of their elements, and what their paths and tests do.
 #[cycle(bodies)]
-fn mention_body<'b>(found: &mut Vec<Mention<'b>>, body: &[Instr<'b>]) -> Result<(), NoMemory>
+fn mention_body<'b: 'f, 'f>(
+    found: &mut Vec<Mention<'f>>,
+    body: &[Instr<'b>],
+) -> Result<(), NoMemory>
     ensures { OnOk result (seen found.new.items ≡ seen found.old.items ++ in_body mentions_of_test mentions_of_name (see.body body.now)) }
 {
     for instruction in body {
@@ -146,8 +164,8 @@ fn mention_body<'b>(found: &mut Vec<Mention<'b>>, body: &[Instr<'b>]) -> Result<
 
 #[cycle(bodies)]
 #[tactic(auto, using(tc_model::proofs::ViewsBody::see_instruction))]
-fn mention_instruction<'b>(
-    found: &mut Vec<Mention<'b>>,
+fn mention_instruction<'b: 'f, 'f>(
+    found: &mut Vec<Mention<'f>>,
     instruction: &Instr<'b>,
 ) -> Result<(), NoMemory>
     ensures { OnOk result ((rest : s.Body) → seen found.new.items ++ in_body mentions_of_test mentions_of_name rest ≡ seen found.old.items ++ in_body mentions_of_test mentions_of_name (see.instruction instruction.now rest)) }
@@ -172,8 +190,8 @@ fn mention_instruction<'b>(
 }
 
 #[cycle(bodies)]
-fn mention_branches<'b>(
-    found: &mut Vec<Mention<'b>>,
+fn mention_branches<'b: 'f, 'f>(
+    found: &mut Vec<Mention<'f>>,
     branches: &[Branch<'b>],
 ) -> Result<(), NoMemory>
     ensures { OnOk result ((rest : s.Branches) → seen found.new.items ++ in_branches mentions_of_test mentions_of_name rest ≡ seen found.old.items ++ in_branches mentions_of_test mentions_of_name (see.branches branches.now rest)) }
@@ -186,7 +204,10 @@ fn mention_branches<'b>(
 }
 
 /// What a stylesheet mentions, in bodies that are never called too.
-pub fn mention_sheet<'b>(found: &mut Vec<Mention<'b>>, sheet: &Sheet<'b>) -> Result<(), NoMemory>
+pub fn mention_sheet<'b: 'f, 'f>(
+    found: &mut Vec<Mention<'f>>,
+    sheet: &Sheet<'b>,
+) -> Result<(), NoMemory>
     ensures { OnOk result (seen found.new.items ≡ seen found.old.items ++ mentions_in_sheet (see.sheet sheet.now)) }
 {
     for rule in sheet.rules {

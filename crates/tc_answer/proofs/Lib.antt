@@ -6,3 +6,5 @@ pub mod OneCommand
 pub mod Validations
 pub mod ReadsOnce
 pub mod SchemaWordsLaws
+pub mod Options
+pub mod NoCommand

@@ -1,5 +1,6 @@
 pub mod SchemaWords
 pub mod Words
+pub mod Numbered
 pub mod WordsSeen
 pub mod Reading
 pub mod Lines

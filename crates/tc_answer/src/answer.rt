@@ -1,11 +1,12 @@
 // Answers, in memory.
-ghost use Rattle.std.specs.Prelude.{◌≡◌, ◌++◌, IfOk};
+ghost use Rattle.std.specs.Prelude.{◌≡◌, ◌++◌, IfOk, codes, decimal};
+ghost use Rattle.std.specs.List.{flat_map};
 ghost use Rattle.tc_model.specs.Printed.{printed};
 ghost use Rattle.tc_model.specs.Views as see;
 ghost use Rattle.tc_model.specs.Views.{trees};
 ghost use Rattle.tc_answer.specs.Answers as a;
 ghost use Rattle.tc_answer.specs.AnswersSeen.{text as see_text, row_count, rejection};
-ghost use Rattle.tc_answer.specs.Lines.{line, limit_word, limit_line, count_word};
+ghost use Rattle.tc_answer.specs.Lines.{line, limit_word, limit_line, count_word, namespace_text};
 
 use crate::buffer::Buffer;
 use crate::limits::{LONGEST_CERTIFICATE, LONGEST_TAG, MOST_NAMES, MOST_SHOWN_NODES};
@@ -46,7 +47,7 @@ pub struct Answer {
 }
 
 /// What is counted of rows.
-#[derive(Clone, Copy, Debug, PartialEq, Eq)]
+#[derive(Clone, Copy)]
 pub enum RowCount {
     /// Rows of live trees.
     Trees,
@@ -57,7 +58,7 @@ pub enum RowCount {
 }
 
 /// The first rule of certificates that fails. Lines have the numbers of a certificate's text, from 1.
-#[derive(Clone, Copy, Debug, PartialEq, Eq)]
+#[derive(Clone, Copy)]
 pub enum Rejection<'w> {
     /// The text isn't a certificate's: the first line that isn't as it must be.
     Form(u32),
@@ -104,32 +105,118 @@ fn word_of(kind: Limit) -> &'static str
     }
 }
 
+/// The answer by the pieces of its text.
+fn answer_of(alloc: Global, status: Status, pieces: &[&str]) -> Result<Answer, NoMemory>
+    ensures { IfOk result (λ said. (said.status ≡ status) × (see_text said.text ≡ flat_map (λ piece. piece.now) pieces.now)) }
+{
+    let text = pieces.concat(alloc)?;
+    Ok(Answer {
+        status,
+        text: Text::Made(text.into_bytes()),
+    })
+}
+
 /// The answer that a limit is passed, by its word and its number.
 fn over(alloc: Global, word: &str, number: u32) -> Result<Answer, NoMemory>
     ensures { IfOk result (λ said. (said.status ≡ Status.Limit) × (see_text said.text ≡ limit_line word.now number)) }
 {
     let mut digits = itoa::Buffer::new();
-    let mut text = Vec::from_slice(alloc, b"limit ")?;
-    text.extend_from_slice(word.as_bytes())?;
-    text.extend_from_slice(b" ")?;
-    text.extend_from_slice(digits.format(number).as_bytes())?;
-    text.extend_from_slice(b"\n")?;
-    Ok(Answer {
-        status: Status::Limit,
-        text: Text::Made(text),
-    })
+    answer_of(
+        alloc,
+        Status::Limit,
+        &["limit ", word, " ", digits.format(number), "\n"],
+    )
 }
 
-/// The answer no, by some lines whose last one ends with a document.
-fn showing(alloc: Global, front: &[u8], last: &[Node<'_>]) -> Result<Answer, NoMemory>
-    ensures { IfOk result (λ said. (said.status ≡ Status.No) × (see_text said.text ≡ line (front.now ++ printed (trees last.now)))) }
+/// The answer that the text of an operand is refused, by the two parts of the reason's words.
+fn refused_by<'w>(
+    alloc: Global,
+    name: &'w str,
+    front: &'w str,
+    word: &'w str,
+    place: u32,
+) -> Result<Answer, NoMemory>
+    ensures { IfOk result (λ said. (said.status ≡ Status.Refused)
+        × (see_text said.text ≡ line (codes "refused " ++ name.now ++ codes " " ++ (front.now ++ word.now) ++ codes " at " ++ decimal place))) }
+{
+    let mut digits = itoa::Buffer::new();
+    answer_of(
+        alloc,
+        Status::Refused,
+        &[
+            "refused ",
+            name,
+            " ",
+            front,
+            word,
+            " at ",
+            digits.format(place),
+            "\n",
+        ],
+    )
+}
+
+/// The answer that a certificate isn't one, by the number of a line, the rule that fails there, and what stands behind it.
+fn rejected_at<'w>(
+    alloc: Global,
+    number: u32,
+    rule: &'w str,
+    behind: &'w str,
+) -> Result<Answer, NoMemory>
+    ensures { IfOk result (λ said. (said.status ≡ Status.No)
+        × (see_text said.text ≡ line (codes "rejected " ++ (decimal number ++ (rule.now ++ behind.now))))) }
+{
+    let mut digits = itoa::Buffer::new();
+    answer_of(
+        alloc,
+        Status::No,
+        &["rejected ", digits.format(number), rule, behind, "\n"],
+    )
+}
+
+/// The answer that a certificate isn't one, by the number of a line, and the name of the element around its lists.
+fn rejected_around<'w>(
+    alloc: Global,
+    number: u32,
+    uri: &'w str,
+    local: &'w str,
+) -> Result<Answer, NoMemory>
+    ensures { IfOk result (λ said. (said.status ≡ Status.No)
+        × (see_text said.text ≡ line (codes "rejected " ++ (decimal number ++ (codes " wrap " ++ (namespace_text uri.now ++ local.now)))))) }
+{
+    if uri.is_empty() {
+        return rejected_at(alloc, number, " wrap ", local);
+    }
+    let mut digits = itoa::Buffer::new();
+    answer_of(
+        alloc,
+        Status::No,
+        &[
+            "rejected ",
+            digits.format(number),
+            " wrap {",
+            uri,
+            "}",
+            local,
+            "\n",
+        ],
+    )
+}
+
+/// The answer by a text with trees in it.
+fn showing(
+    alloc: Global,
+    status: Status,
+    front: &[u8],
+    shown: &[Node<'_>],
+    behind: &[u8],
+) -> Result<Answer, NoMemory>
+    ensures { IfOk result (λ said. (said.status ≡ status) × (see_text said.text ≡ front.now ++ (printed (trees shown.now) ++ behind.now))) }
 {
     let mut text = Buffer::new(alloc);
-    text.put(front)?;
-    text.put_trees(last)?;
-    text.put(b"\n")?;
+    text.put_shown(front, shown, behind)?;
     Ok(Answer {
-        status: Status::No,
+        status,
         text: Text::Made(text.into_bytes()),
     })
 }
@@ -153,13 +240,7 @@ impl Answer {
     pub fn cannot_read(alloc: Global, name: &str) -> Result<Answer, NoMemory>
         ensures { IfOk result (λ said. Says said (a.cannot_read name.now)) }
     {
-        let mut text = Vec::from_slice(alloc, b"cannot read ")?;
-        text.extend_from_slice(name.as_bytes())?;
-        text.extend_from_slice(b"\n")?;
-        Ok(Answer {
-            status: Status::ReadFault,
-            text: Text::Made(text),
-        })
+        answer_of(alloc, Status::ReadFault, &["cannot read ", name, "\n"])
     }
 
     /// A file has more bytes than a file may have.
@@ -173,18 +254,22 @@ impl Answer {
     pub fn safe(alloc: Global, trees: u32, hedges: u32, outputs: u32) -> Result<Answer, NoMemory>
         ensures { IfOk result (λ said. Says said (a.safe trees hedges outputs)) }
     {
-        let mut digits = itoa::Buffer::new();
-        let mut text = Vec::from_slice(alloc, b"safe trees ")?;
-        text.extend_from_slice(digits.format(trees).as_bytes())?;
-        text.extend_from_slice(b" hedges ")?;
-        text.extend_from_slice(digits.format(hedges).as_bytes())?;
-        text.extend_from_slice(b" outputs ")?;
-        text.extend_from_slice(digits.format(outputs).as_bytes())?;
-        text.extend_from_slice(b"\n")?;
-        Ok(Answer {
-            status: Status::Yes,
-            text: Text::Made(text),
-        })
+        let mut tree_digits = itoa::Buffer::new();
+        let mut hedge_digits = itoa::Buffer::new();
+        let mut output_digits = itoa::Buffer::new();
+        answer_of(
+            alloc,
+            Status::Yes,
+            &[
+                "safe trees ",
+                tree_digits.format(trees),
+                " hedges ",
+                hedge_digits.format(hedges),
+                " outputs ",
+                output_digits.format(outputs),
+                "\n",
+            ],
+        )
     }
 
     /// There are more rows, or sets of pairs in them, than there may be.
@@ -232,37 +317,56 @@ impl Answer {
     pub fn rejected(alloc: Global, why: Rejection<'_>) -> Result<Answer, NoMemory>
         ensures { IfOk result (λ said. Says said (a.rejected (rejection why.entry))) }
     {
-        let mut text = Buffer::new(alloc);
-        text.put(b"rejected ")?;
-        text.put_rejection(why)?;
-        text.put(b"\n")?;
-        Ok(Answer {
-            status: Status::No,
-            text: Text::Made(text.into_bytes()),
-        })
+        match why {
+            Rejection::Form(line) => rejected_at(alloc, line, " form", ""),
+            Rejection::Fit(line) => rejected_at(alloc, line, " fit", ""),
+            Rejection::Empty => Ok(Answer {
+                status: Status::No,
+                text: Text::Fixed(b"rejected 0 empty\n"),
+            }),
+            Rejection::Text => Ok(Answer {
+                status: Status::No,
+                text: Text::Fixed(b"rejected 0 text\n"),
+            }),
+            Rejection::Append(line, other) => {
+                let mut digits = itoa::Buffer::new();
+                rejected_at(alloc, line, " append ", digits.format(other))
+            }
+            Rejection::Wrap(line, name) => rejected_around(alloc, line, name.uri, name.local),
+            Rejection::Root(line) => rejected_at(alloc, line, " root", ""),
+        }
     }
 
     /// A schema is included in another, and there are so many rows of its trees, and of its lists of trees.
     pub fn included(alloc: Global, trees: u32, hedges: u32) -> Result<Answer, NoMemory>
         ensures { IfOk result (λ said. Says said (a.included trees hedges)) }
     {
-        let mut text = Buffer::new(alloc);
-        text.put(b"included trees ")?;
-        text.put_number(trees)?;
-        text.put(b" hedges ")?;
-        text.put_number(hedges)?;
-        text.put(b"\n")?;
-        Ok(Answer {
-            status: Status::Yes,
-            text: Text::Made(text.into_bytes()),
-        })
+        let mut tree_digits = itoa::Buffer::new();
+        let mut hedge_digits = itoa::Buffer::new();
+        answer_of(
+            alloc,
+            Status::Yes,
+            &[
+                "included trees ",
+                tree_digits.format(trees),
+                " hedges ",
+                hedge_digits.format(hedges),
+                "\n",
+            ],
+        )
     }
 
     /// A document is valid for the first of two schemas alone, so that it isn't included in the second.
     pub fn not_included(alloc: Global, document: &[Node<'_>]) -> Result<Answer, NoMemory>
         ensures { IfOk result (λ said. Says said (a.not_included (trees document.now))) }
     {
-        showing(alloc, b"not-included\ndocument ", document)
+        showing(
+            alloc,
+            Status::No,
+            b"not-included\ndocument ",
+            document,
+            b"\n",
+        )
     }
 
     /// The same documents are valid for two schemas.
@@ -279,14 +383,26 @@ impl Answer {
     pub fn first_only(alloc: Global, document: &[Node<'_>]) -> Result<Answer, NoMemory>
         ensures { IfOk result (λ said. Says said (a.first_only (trees document.now))) }
     {
-        showing(alloc, b"different\nfirst-only ", document)
+        showing(
+            alloc,
+            Status::No,
+            b"different\nfirst-only ",
+            document,
+            b"\n",
+        )
     }
 
     /// A document is valid for the second of two schemas alone.
     pub fn second_only(alloc: Global, document: &[Node<'_>]) -> Result<Answer, NoMemory>
         ensures { IfOk result (λ said. Says said (a.second_only (trees document.now))) }
     {
-        showing(alloc, b"different\nsecond-only ", document)
+        showing(
+            alloc,
+            Status::No,
+            b"different\nsecond-only ",
+            document,
+            b"\n",
+        )
     }
 
     /// The text of an operand is refused at a place.
@@ -299,19 +415,7 @@ impl Answer {
         ensures { IfOk result (λ said. Says said (a.refused name.now reason (see.place place))) }
     {
         let (front, word) = reason.words();
-        let mut number = itoa::Buffer::new();
-        let mut text = Vec::from_slice(alloc, b"refused ")?;
-        text.extend_from_slice(name.as_bytes())?;
-        text.extend_from_slice(b" ")?;
-        text.extend_from_slice(front.as_bytes())?;
-        text.extend_from_slice(word.as_bytes())?;
-        text.extend_from_slice(b" at ")?;
-        text.extend_from_slice(number.format(place.0).as_bytes())?;
-        text.extend_from_slice(b"\n")?;
-        Ok(Answer {
-            status: Status::Refused,
-            text: Text::Made(text),
-        })
+        refused_by(alloc, name, front, word, place.0)
     }
 
     /// A limit is passed, which has this number.
@@ -359,13 +463,7 @@ impl Answer {
     pub fn result(alloc: Global, nodes: &[Node<'_>]) -> Result<Answer, NoMemory>
         ensures { IfOk result (λ said. Says said (a.has_result (trees nodes.now))) }
     {
-        let mut text = Buffer::new(alloc);
-        text.put_trees(nodes)?;
-        text.put(b"\n")?;
-        Ok(Answer {
-            status: Status::Yes,
-            text: Text::Made(text.into_bytes()),
-        })
+        showing(alloc, Status::Yes, b"", nodes, b"\n")
     }
 
     /// A run instantiates and puts out too much.
@@ -391,11 +489,8 @@ impl Answer {
         ensures { IfOk result (λ said. Says said (a.unsafe (trees document.now) (trees output.now))) }
     {
         let mut text = Buffer::new(alloc);
-        text.put(b"unsafe\ndocument ")?;
-        text.put_trees(document)?;
-        text.put(b"\noutput ")?;
-        text.put_trees(output)?;
-        text.put(b"\n")?;
+        text.put_shown(b"unsafe\ndocument ", document, b"\noutput ")?;
+        text.put_shown(b"", output, b"\n")?;
         Ok(Answer {
             status: Status::No,
             text: Text::Made(text.into_bytes()),
@@ -406,13 +501,12 @@ impl Answer {
     pub fn not_safe_large(alloc: Global, shown: &[Node<'_>]) -> Result<Answer, NoMemory>
         ensures { IfOk result (λ said. Says said (a.unsafe_large (trees shown.now))) }
     {
-        let mut text = Buffer::new(alloc);
-        text.put(b"unsafe\ndocument ")?;
-        text.put_trees(shown)?;
-        text.put(b"\noutput-too-large\n")?;
-        Ok(Answer {
-            status: Status::No,
-            text: Text::Made(text.into_bytes()),
-        })
+        showing(
+            alloc,
+            Status::No,
+            b"unsafe\ndocument ",
+            shown,
+            b"\noutput-too-large\n",
+        )
     }
 }

@@ -1,16 +1,12 @@
 // Bytes that are put together in memory.
-ghost use Rattle.std.specs.Prelude.{◌≡◌, ◌++◌, [], Some, OnOk, decimal};
-ghost use Rattle.tc_answer.specs.AnswersSeen.{rejection};
-ghost use Rattle.tc_answer.specs.Lines.{name_text, rejection_text};
+ghost use Rattle.std.specs.Prelude.{◌≡◌, ◌++◌, [], Some, OnOk};
 ghost use Rattle.tc_model.specs.Printed.{printed};
-ghost use Rattle.tc_model.specs.Views as see;
 ghost use Rattle.tc_model.specs.Views.{trees};
 
-use crate::answer::Rejection;
 use std::alloc::Global;
 use tc_base::NoMemory;
 use tc_io::{Sink, WriteFault};
-use tc_model::{Name, Node};
+use tc_model::Node;
 use tc_print::print;
 
 /// Bytes in memory, which grow. As a sink they fail where memory is refused, and nothing of the piece is written then.
@@ -46,7 +42,7 @@ impl Buffer {
     }
 
     /// Puts bytes at the end.
-    pub fn put(&mut self, piece: &[u8]) -> Result<(), NoMemory>
+    fn put(&mut self, piece: &[u8]) -> Result<(), NoMemory>
         ensures { OnOk result (self.new.bytes.items ≡ self.old.bytes.items ++ piece.now) }
     {
         self.bytes.extend_from_slice(piece)?;
@@ -54,7 +50,7 @@ impl Buffer {
     }
 
     /// Puts the text of trees at the end.
-    pub fn put_trees(&mut self, nodes: &[Node<'_>]) -> Result<(), NoMemory>
+    fn put_trees(&mut self, nodes: &[Node<'_>]) -> Result<(), NoMemory>
         ensures { OnOk result (self.new.bytes.items ≡ self.old.bytes.items ++ printed (trees nodes.now)) }
     {
         match print(nodes, self) {
@@ -63,53 +59,18 @@ impl Buffer {
         }
     }
 
-    /// Puts a number in decimal digits at the end.
-    pub fn put_number(&mut self, number: u32) -> Result<(), NoMemory>
-        ensures { OnOk result (self.new.bytes.items ≡ self.old.bytes.items ++ decimal number) }
+    /// Puts bytes, the text of trees, and bytes behind it at the end.
+    pub fn put_shown(
+        &mut self,
+        front: &[u8],
+        nodes: &[Node<'_>],
+        behind: &[u8],
+    ) -> Result<(), NoMemory>
+        ensures { OnOk result (self.new.bytes.items ≡ self.old.bytes.items ++ (front.now ++ (printed (trees nodes.now) ++ behind.now))) }
     {
-        let mut digits = itoa::Buffer::new();
-        self.put(digits.format(number).as_bytes())
-    }
-
-    /// Puts a name at the end, behind its namespace in braces where it has one.
-    pub fn put_name(&mut self, name: Name<'_>) -> Result<(), NoMemory>
-        ensures { OnOk result (self.new.bytes.items ≡ self.old.bytes.items ++ name_text (see.name name.entry)) }
-    {
-        if !name.uri.is_empty() {
-            self.put(b"{")?;
-            self.put(name.uri.as_bytes())?;
-            self.put(b"}")?;
-        }
-        self.put(name.local.as_bytes())
-    }
-
-    /// Puts the rule that fails at the end, with the number of its line.
-    pub fn put_rejection(&mut self, why: Rejection<'_>) -> Result<(), NoMemory>
-        ensures { OnOk result (self.new.bytes.items ≡ self.old.bytes.items ++ rejection_text (rejection why.entry)) }
-    {
-        match why {
-            Rejection::Form(line) => self.put_line_rule(line, b" form"),
-            Rejection::Fit(line) => self.put_line_rule(line, b" fit"),
-            Rejection::Empty => self.put(b"0 empty"),
-            Rejection::Text => self.put(b"0 text"),
-            Rejection::Append(line, other) => {
-                self.put_line_rule(line, b" append ")?;
-                self.put_number(other)
-            }
-            Rejection::Wrap(line, name) => {
-                self.put_line_rule(line, b" wrap ")?;
-                self.put_name(name)
-            }
-            Rejection::Root(line) => self.put_line_rule(line, b" root"),
-        }
-    }
-
-    /// Puts the number of a line at the end, and a rule behind it.
-    fn put_line_rule(&mut self, line: u32, rule: &[u8]) -> Result<(), NoMemory>
-        ensures { OnOk result (self.new.bytes.items ≡ self.old.bytes.items ++ (decimal line ++ rule.now)) }
-    {
-        self.put_number(line)?;
-        self.put(rule)
+        self.put(front)?;
+        self.put_trees(nodes)?;
+        self.put(behind)
     }
 
     /// The bytes.

@@ -1,7 +1,8 @@
 // The commands, and how the words of a command line give them.
-ghost use Rattle.std.specs.Prelude.{◌≡◌, ◌≤◌, ◌↔◌, ℕ, List, [], ◌∷◌, Option, length, IsTrue, MatchOption, codes};
+ghost use Rattle.std.specs.Prelude.{◌≡◌, ◌≤◌, ◌↔◌, ℕ, List, [], ◌∷◌, Option, false, length, IsTrue, MatchOption, codes};
 ghost use Rattle.std.specs.List.{list_all};
-ghost use Rattle.tc_answer.specs.Words.{Limits, PieceSizes, IsNumeral, Words, AreOperands, AreSchemas, IsNoCommand, is_operand};
+ghost use Rattle.tc_answer.specs.Words.{Limits, IsNumeral, Words, AreOperands, AreSchemas, IsNoCommand, is_operand};
+ghost use Rattle.tc_answer.specs.Numbered.{Numbered};
 ghost use Rattle.tc_answer.specs.WordsSeen.{texts, command};
 
 use crate::sources::is_schema_word;
@@ -93,7 +94,7 @@ fn read_limited(words: &[String]) -> Option<(Option<u32>, Triple<'_>)>
         (λ read. Limits (texts words.now) read.0 (read.1.input.now ∷ read.1.output.now ∷ read.1.sheet.now ∷ [])
         × AreOperands (read.1.input.now ∷ read.1.output.now ∷ read.1.sheet.now ∷ []) × AreSchemas (read.1.input.now ∷ read.1.output.now ∷ [])) }
 {
-    let (limit, operands) = read_limit(words)?;
+    let (limit, operands) = read_option(words, "--limit", MOST_LIMIT)?;
     Some((limit, read_triple(operands)?))
 }
 
@@ -114,7 +115,7 @@ fn read_size(words: &[String]) -> Option<u32>
 fn read_valid(words: &[String]) -> Option<Command<'_>>
     ensures { MatchOption result (IsNoCommand (codes "valid" ∷ texts words.now)) (λ c. Words (codes "valid" ∷ texts words.now) (command c)) }
 {
-    let (size, operands) = read_piece_size(words)?;
+    let (size, operands) = read_option(words, "--stream", LARGEST_PIECE)?;
     let (schema, document) = read_validation(operands)?;
     match size {
         Some(size) => Some(Command::ValidInPieces(size, schema, document)),
@@ -122,40 +123,28 @@ fn read_valid(words: &[String]) -> Option<Command<'_>>
     }
 }
 
-/// The limit before the operands, and the operands.
-fn read_limit(words: &[String]) -> Option<(Option<u32>, &[String])>
+/// The number before the operands, where this mark stands before it, and the operands.
+fn read_option<'w>(
+    words: &'w [String],
+    mark: &str,
+    most: u32,
+) -> Option<(Option<u32>, &'w [String])>
+    requires mark { is_operand mark.now ≡ false }
+    requires most { most ≤ 65536 }
     ensures { MatchOption result
-        ((limit : Option ℕ) (operands : List (List ℕ)) → Limits (texts words.now) limit operands → AreOperands operands → ⊥)
-        (λ read. Limits (texts words.now) read.0 (texts read.1.now)
-        × ((limit : Option ℕ) (operands : List (List ℕ)) → Limits (texts words.now) limit operands → AreOperands operands → operands ≡ texts read.1.now)) }
+        ((number : Option ℕ) (operands : List (List ℕ)) → Numbered mark.now most (texts words.now) number operands → AreOperands operands → ⊥)
+        (λ read. Numbered mark.now most (texts words.now) read.0 (texts read.1.now)
+        × ((number : Option ℕ) (operands : List (List ℕ)) → Numbered mark.now most (texts words.now) number operands → AreOperands operands → operands ≡ texts read.1.now)) }
 {
     let Some((option, rest)) = words.split_first() else {
         return Some((None, words));
     };
-    if option.as_str() != "--limit" {
+    if option.as_str() != mark {
         return Some((None, words));
     }
     let (numeral, operands) = rest.split_first()?;
-    let limit = read_number(numeral.as_str(), MOST_LIMIT)?;
-    Some((Some(limit), operands))
-}
-
-/// The size of pieces before the operands, and the operands.
-fn read_piece_size(words: &[String]) -> Option<(Option<u32>, &[String])>
-    ensures { MatchOption result
-        ((size : Option ℕ) (operands : List (List ℕ)) → PieceSizes (texts words.now) size operands → AreOperands operands → ⊥)
-        (λ read. PieceSizes (texts words.now) read.0 (texts read.1.now)
-        × ((size : Option ℕ) (operands : List (List ℕ)) → PieceSizes (texts words.now) size operands → AreOperands operands → operands ≡ texts read.1.now)) }
-{
-    let Some((option, rest)) = words.split_first() else {
-        return Some((None, words));
-    };
-    if option.as_str() != "--stream" {
-        return Some((None, words));
-    }
-    let (numeral, operands) = rest.split_first()?;
-    let size = read_number(numeral.as_str(), LARGEST_PIECE)?;
-    Some((Some(size), operands))
+    let number = read_number(numeral.as_str(), most)?;
+    Some((Some(number), operands))
 }
 
 /// Three operands, the first two schemas.

@@ -1,5 +1,5 @@
 -- The arrows of an automaton that stands for a schema.
-use Rattle.std.proofs.Common.{◌≡◌, ◌<◌, ◌≤◌, ◌↔◌, ℕ, zero, suc, List, Vec, Global, slice_get, Some, refl, sym, ap, ◌∙◌, subst, arith}
+use Rattle.std.proofs.Common.{◌≡◌, ◌≤◌, ◌↔◌, ℕ, zero, suc, List, Vec, Global, slice_get, Some, refl, sym, subst, arith}
 use Rattle.std.specs.List.{Contains}
 use Rattle.tc_model.specs.Grammars as g
 use Rattle.tc_model.specs.States as s

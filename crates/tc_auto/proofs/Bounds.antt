@@ -1,8 +1,8 @@
 -- Where the states of a schema end.
-use Rattle.std.proofs.Common.{◌≡◌, ◌<◌, ◌≤◌, ◌⊎◌, inl, inr, ℕ, zero, suc, List, length, get_or, slice_get, Some, None, All, arith}
+use Rattle.std.proofs.Common.{◌<◌, ◌≤◌, inl, inr, ℕ, zero, suc, List, length, get_or, All, arith}
 use Rattle.std.proofs.lemmas.Option.{slice_get-get_or, slice_get_cases}
 use Rattle.std.proofs.lemmas.List.Elements.{Contains-get_or}
-use Rattle.tc_model.specs.Grammars.{Grammar, ElementPattern}
+use Rattle.tc_model.specs.Grammars.{Grammar}
 use Rattle.tc_model.specs.States.{Side, a_content, first_state, state_count}
 use Rattle.tc_model.proofs.StatesExact.{sound}
 use Rattle.tc_model.proofs.StatesParts.{next_first, first_within, edge_within}

@@ -1,11 +1,11 @@
 -- What the lists of edges and of accepting states have.
-use Rattle.std.proofs.Common.{◌≡◌, ◌≢◌, ◌<◌, ◌⊎◌, inl, inr, ◌↔◌, ℕ, zero, suc, ◌+◌, ◌*◌, ◌==◌, Bool, true, false, List, [], ◌∷◌, ◌++◌, length, if◌then◌else◌, slice_index_or, refl, sym, ap, ◌∙◌, subst, arith}
+use Rattle.std.proofs.Common.{◌≡◌, ◌<◌, ◌⊎◌, inl, inr, ℕ, zero, suc, ◌+◌, ◌*◌, ◌==◌, false, List, [], ◌∷◌, ◌++◌, if◌then◌else◌, refl, sym, ap, ◌∙◌, subst, arith}
 use Rattle.std.specs.List.{Contains}
 use Rattle.std.proofs.lemmas.Bool.Decides.{nat_tests}
 use Rattle.tc_model.specs.States as s
 use Rattle.tc_auto.specs.declared.auto.Leaf.{Leaf}
 use Rattle.tc_auto.specs.declared.nfa.Transition.{Transition}
-use Rattle.tc_auto.specs.Steps.{leaf, HasStep, first_step, later_step, Has, has_first, has_later, from_each, moved, carried, unless_start, later, beside_first, beside_second, all_beside_first, all_beside_second, pairs, all_pairs}
+use Rattle.tc_auto.specs.Steps.{leaf, HasStep, first_step, later_step, Has, has_first, has_later, from_each, moved, carried, later, beside_first, beside_second, all_beside_first, all_beside_second, pairs, all_pairs}
 
 pub step_left : (xs ys : List Transition) {i j : ℕ} {l : s.Leaf} → HasStep xs i l j → HasStep (xs ++ ys) i l j
 step_left [] ys h = elim h [ ]

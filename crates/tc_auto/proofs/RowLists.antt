@@ -1,15 +1,12 @@
 -- The rows of parts, put together to those of a schema.
-use Rattle.std.proofs.Common.{◌≡◌, ◌≢◌, ◌<◌, ◌≤◌, ◌⊎◌, inl, inr, ◌↔◌, ℕ, zero, suc, ◌+◌, ◌==◌, Bool, true, false, if◌then◌else◌, IsTrue, List, [], ◌∷◌, ◌++◌, length, map, get_or, slice_get, slice_index_or, Some, refl, sym, ap, ◌∙◌, subst, arith, length-append}
+use Rattle.std.proofs.Common.{◌≡◌, ◌<◌, ◌⊎◌, inl, inr, ℕ, zero, suc, ◌+◌, ◌==◌, Bool, if◌then◌else◌, List, [], ◌∷◌, ◌++◌, length, map, get_or, slice_get, Some, refl, sym, ap, ◌∙◌, subst, arith, length-append}
 use Rattle.std.specs.List.{Contains}
 use Rattle.std.proofs.lemmas.List.Elements.{Contains-append_left, Contains-append_right, Contains-append_cases}
 use Rattle.std.proofs.lemmas.Bool.Decides.{eqb_tells}
-use Rattle.tc_model.specs.Grammars.{Grammar, Pattern, ElementPattern, element_at}
+use Rattle.tc_model.specs.Grammars.{Grammar, Pattern, ElementPattern}
 use Rattle.tc_model.specs.Views.{element_pattern}
 use Rattle.tc_model.specs.declared.grammar.ElemPat.{ElemPat}
-use Rattle.tc_model.specs.States as s
-use Rattle.tc_model.specs.States.{Automaton, automaton, Side, IsPart, a_content, first_state, IsEdge, IsAccepting}
-use Rattle.tc_model.proofs.StatesJoins.{IsSound}
-use Rattle.tc_model.proofs.StatesExact.{sound}
+use Rattle.tc_model.specs.States.{Automaton, automaton, Side, IsPart, a_content, first_state}
 use Rattle.tc_model.proofs.StatesParts.{next_first, edge_of_part, accepting_of_part}
 use Rattle.tc_auto.specs.declared.auto.Leaf.{Leaf}
 use Rattle.tc_auto.specs.declared.auto.Leaf.TheVariants.{Text, Ref}

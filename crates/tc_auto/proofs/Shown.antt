@@ -8,7 +8,7 @@ use Rattle.tc_auto.specs.declared.auto.Leaf.TheVariants.{Text, Ref}
 use Rattle.tc_auto.specs.declared.nfa.Nfa.{Nfa}
 use Rattle.tc_auto.specs.declared.nfa.Transition.{Transition}
 use Rattle.tc_auto.specs.Steps.{leaf, HasStep, first_step, later_step, Has, has_first, has_later, Shown, Shows, IsWithin, carried, later, all_beside_first, all_beside_second, all_pairs}
-use Rattle.tc_auto.proofs.Lists.{step_left, step_right, step_cases, has_left, has_right, has_cases, step_of, has_of, Carried, carried_to, carried_of, later_to, later_of, all_second_to, all_second_of, all_first_to, all_first_of, all_pairs_to, all_pairs_of}
+use Rattle.tc_auto.proofs.Lists.{step_left, step_right, step_cases, has_left, has_right, has_cases, step_of, has_of, carried_to, carried_of, later_to, later_of, all_second_to, all_second_of, all_first_to, all_first_of, all_pairs_to, all_pairs_of}
 
 -- the edges, and the accepting states, of a part that shows an automaton stay within its states
 pub steps_within : (a : Automaton) → IsSound a → (n : ℕ) (xs : List Transition) (es : List ℕ) → Shown n xs es a → (x : Transition) → Contains xs x → (x.from < n) × (x.to < n)

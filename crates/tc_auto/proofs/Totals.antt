@@ -1,8 +1,8 @@
 -- The states of a side of a schema, part after part.
-use Rattle.std.proofs.Common.{◌≡◌, ◌<◌, ◌≤◌, ◌⊎◌, inl, inr, ◌↔◌, ℕ, zero, suc, ◌+◌, ◌-◌, Bool, true, false, List, [], ◌∷◌, ◌++◌, length, map, get_or, slice_get, Some, min, refl, sym, ap, ◌∙◌, subst, arith}
+use Rattle.std.proofs.Common.{◌≡◌, ◌<◌, ◌≤◌, inl, inr, ◌↔◌, ℕ, zero, suc, ◌+◌, ◌-◌, Bool, true, false, List, [], ◌∷◌, ◌++◌, length, map, get_or, slice_get, Some, min, refl, sym, ap, ◌∙◌, subst, arith}
 use Rattle.std.specs.List.{Contains}
 use Rattle.std.proofs.lemmas.List.{length-map, get_or_default}
-use Rattle.std.proofs.Math.Nat.{min-eq_left, min-eq_right}
+use Rattle.std.proofs.Math.Nat.{min-eq_right}
 use Rattle.tc_model.specs.Grammars as g
 use Rattle.tc_model.specs.Views as see
 use Rattle.tc_model.specs.declared.grammar.ElemPat.{ElemPat}
@@ -15,7 +15,7 @@ use Rattle.tc_auto.specs.declared.auto.Edge.{Edge}
 use Rattle.tc_auto.specs.declared.rows.Row.{Row}
 use Rattle.tc_auto.specs.Steps.{leaf}
 use Rattle.tc_auto.specs.Rows.{AreRowsFor}
-use Rattle.tc_auto.specs.Stands.{side_of, IsRow, Built, Stands}
+use Rattle.tc_auto.specs.Stands.{side_of, Built, Stands}
 use Rattle.tc_auto.proofs.Folds.{min_cases}
 use Rattle.tc_auto.proofs.RowLists.{content_part, rows_and, built_more}
 

@@ -9,7 +9,7 @@ use std::alloc::Global;
 use tc_base::NoMemory;
 
 /// An edge from a state to a state.
-#[derive(Clone, Copy, Debug, PartialEq, Eq)]
+#[derive(Clone, Copy)]
 pub struct Arrow {
     pub from: u32,
     pub to: u32,

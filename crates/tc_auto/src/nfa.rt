@@ -108,16 +108,6 @@ fn push_later(ends: &mut Vec<u32>, second: &Nfa, by: u32) -> Result<(), NoMemory
     Ok(())
 }
 
-/// Adds states.
-fn push_all(ends: &mut Vec<u32>, more: &[u32]) -> Result<(), NoMemory>
-    ensures { IfOk result (λ _. ends.new.items ≡ ends.old.items ++ more.now) }
-{
-    for end in more {
-        ends.push(*end)?;
-    }
-    Ok(())
-}
-
 /// Whether state 0 is one of them.
 fn has_start(ends: &[u32]) -> bool
     ensures { IsTrue result ↔ Contains ends.now 0 }
@@ -213,7 +203,7 @@ pub fn group(alloc: Global, first: Nfa, second: Nfa) -> Result<Nfa, NoMemory>
     let mut ends = Vec::new(alloc);
     push_later(&mut ends, &second, by)?;
     if has_start(&second.accepting) {
-        push_all(&mut ends, &first.accepting)?;
+        ends.extend_from_slice(&first.accepting)?;
     }
     Ok(Nfa {
         count: by + second.count,

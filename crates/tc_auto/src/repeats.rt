@@ -24,11 +24,11 @@ fn first_steps(alloc: Global, part: &Nfa) -> Result<Vec<Transition>, NoMemory>
     Ok(firsts)
 }
 
-/// For each state below a count its place among some states, or their number where it is none of them.
-fn places_of(alloc: Global, count: u32, states: &[u32]) -> Result<Vec<usize>, NoMemory> {
-    let mut places = vec![in alloc; states.len(); count as usize]?;
-    for (place, state) in states.iter().enumerate() {
-        let at = *state as usize;
+/// For each state below a count which first edge leads there, or the number of first edges where none does.
+fn places_of(alloc: Global, count: u32, firsts: &[Transition]) -> Result<Vec<usize>, NoMemory> {
+    let mut places = vec![in alloc; firsts.len(); count as usize]?;
+    for (place, first) in firsts.iter().enumerate() {
+        let at = first.to as usize;
         if at < places.len() {
             places[at] = place;
         }
@@ -43,24 +43,28 @@ fn note(hints: &mut [Vec<usize>], end: usize, first: usize, place: usize) {
     }
 }
 
-/// For each accepting state and each first edge a place at which the edge from the one to where the other
-/// leads may stand: whoever takes it looks whether it does.
-fn hints_of(alloc: Global, part: &Nfa, firsts: &[Transition]) -> Result<Vec<Vec<usize>>, NoMemory> {
-    let mut targets = Vec::new(alloc);
-    for first in firsts {
-        targets.push(first.to)?;
-    }
-    let end_places = places_of(alloc, part.count, &part.accepting)?;
-    let first_places = places_of(alloc, part.count, &targets)?;
+/// For each state a row with no hint yet: for each first edge where the state accepts, and empty elsewhere.
+fn no_hints(alloc: Global, part: &Nfa, firsts: usize) -> Result<Vec<Vec<usize>>, NoMemory> {
     let mut hints = Vec::new(alloc);
-    for _end in &part.accepting {
-        hints.push(vec![in alloc; part.steps.len(); firsts.len()]?)?;
+    for _state in 0..part.count {
+        hints.push(Vec::new(alloc))?;
     }
+    for state in &part.accepting {
+        if let Some(row) = hints.get_mut(*state as usize) {
+            *row = vec![in alloc; part.steps.len(); firsts]?;
+        }
+    }
+    Ok(hints)
+}
+
+/// For each state, where it accepts, and each first edge a place at which the edge from the one to where the
+/// other leads may stand: whoever takes it looks whether it does.
+fn hints_of(alloc: Global, part: &Nfa, firsts: &[Transition]) -> Result<Vec<Vec<usize>>, NoMemory> {
+    let places = places_of(alloc, part.count, firsts)?;
+    let mut hints = no_hints(alloc, part, firsts.len())?;
     for (place, step) in part.steps.iter().enumerate() {
-        let end = end_places.get(step.from as usize);
-        let first = first_places.get(step.to as usize);
-        if let (Some(end), Some(first)) = (end, first) {
-            note(&mut hints, *end, *first, place);
+        if let Some(first) = places.get(step.to as usize) {
+            note(&mut hints, step.from as usize, *first, place);
         }
     }
     Ok(hints)
@@ -126,8 +130,8 @@ fn push_from_all(
 ) -> Result<(), NoMemory>
     ensures { OnOk result (Gains steps.old.items steps.new.items (LeadsFromSome states.now firsts.now)) }
 {
-    for (place, state) in states.iter().enumerate() {
-        match hints.get(place) {
+    for state in states {
+        match hints.get(*state as usize) {
             Some(row) => push_from(steps, *state, firsts, row)?,
             None => push_from(steps, *state, firsts, &[])?,
         }

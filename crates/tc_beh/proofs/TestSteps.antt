@@ -1,6 +1,6 @@
 -- What a loop over a part of a stylesheet has found, one step at a time.
 use Rattle.std.proofs.Common.{◌≡◌, ℕ, ◌+◌, ◌<◌, List, [], ◌++◌, refl, ap, ◌∙◌, sym, map, Bor, length, get_or, drop, append_assoc, flat_map, Result, Ok, Err, OnOk}
-use Rattle.std.proofs.lemmas.List.{append-nil, drop_more}
+use Rattle.std.proofs.lemmas.List.{append-nil, drop_more, get_or_default}
 use Rattle.tc_model.specs.Sheets as s
 use Rattle.tc_model.specs.Views as see
 use Rattle.tc_model.specs.Symbols.{in_steps, in_path, in_test, in_tests, in_body, in_branches}
@@ -86,3 +86,27 @@ branch_step bs i x rest h e = ap branches_in (left_branch bs i x rest h e)
 -- nothing is left
 pub ended : (old left whole : List s.NodeTest) → old ++ left ≡ whole → left ≡ [] → old ≡ whole
 ended old left whole so_far none = sym (append-nil old) ∙ (ap (λ l. old ++ l) (sym none) ∙ so_far)
+
+-- an item that is read whatever stands for none
+same_item : {X : Type 0} (xs : List X) (i : ℕ) (d : X) → i < length xs → get_or xs i d ≡ get_or xs i (get_or xs i d)
+same_item xs i d h = get_or_default xs i d (get_or xs i d) h
+
+-- what one item gives goes from what is left to what was found
+pub mapped_moved : {X Y : Type 0} (f : X → Y) (g : Y → List s.NodeTest) (xs : List X) (i : ℕ) (d : X) (old new whole : List s.NodeTest) → i < length xs → new ≡ old ++ g (f (get_or xs i d))
+    → old ++ flat_map g (map f (drop i xs)) ≡ whole → new ++ flat_map g (map f (drop (i + 1) xs)) ≡ whole
+mapped_moved f g xs i d old new whole h put so_far =
+    moved old new (g (f (get_or xs i d))) _ _ whole put (mapped_step f g xs i (get_or xs i d) h (same_item xs i d h)) so_far
+
+-- what is found at a place goes from what is left to what was found
+pub step_moved : (xs : List Step) (i : ℕ) (d : Step) (old mid new whole : List s.NodeTest) → i < length xs
+    → mid ≡ old ++ itself (see.node_test (get_or xs i d).test) → new ≡ mid ++ test_in (see.test (get_or xs i d).when)
+    → old ++ steps_in (see.steps (drop i xs)) ≡ whole → new ++ steps_in (see.steps (drop (i + 1) xs)) ≡ whole
+step_moved xs i d old mid new whole h put again so_far =
+    let x = get_or xs i d in
+    moved_twice old mid new (itself (see.node_test x.test)) (test_in (see.test x.when)) _ _ whole put again (step_step xs i x h (same_item xs i d h)) so_far
+
+pub alternative_moved : (ws : List (Bor (List Step))) (i : ℕ) (d : Bor (List Step)) (old new whole : List s.NodeTest) → i < length ws → new ≡ old ++ steps_in (see.steps (get_or ws i d).now)
+    → old ++ path_in (see.alternatives (drop i ws)) ≡ whole → new ++ path_in (see.alternatives (drop (i + 1) ws)) ≡ whole
+alternative_moved ws i d old new whole h put so_far =
+    let x = get_or ws i d in
+    moved old new (steps_in (see.steps x.now)) _ _ whole put (alternative_step ws i x h (same_item ws i d h)) so_far

@@ -82,24 +82,21 @@ pub(crate) fn callees_first(alloc: Global, named: &[&[Instr<'_>]]) -> Result<Vec
 {
     let arena = Bump::new(alloc);
     let rows = rows_of_calls(&arena, named)?;
-    let walk = components(&arena, &rows)?;
+    let walk = components(&arena, rows)?;
     let order = Vec::from_slice(alloc, &walk.order)?;
     Ok(order)
 }
 
 /// For each named body the numbers of those that it calls.
-fn rows_of_calls<'a>(
-    arena: &'a Bump,
-    named: &[&[Instr<'_>]],
-) -> Result<Vec<&'a [usize], &'a Bump>, NoMemory>
-    ensures { IfOk result (λ v. rows_of v.items ≡ map (λ b. callees_in (see.body b.now)) named.now) }
+fn rows_of_calls<'a>(arena: &'a Bump, named: &[&[Instr<'_>]]) -> Result<&'a [&'a [usize]], NoMemory>
+    ensures { IfOk result (λ v. rows_of v.now ≡ map (λ b. callees_in (see.body b.now)) named.now) }
 {
     let mut rows = Vec::new(arena);
     for body in named {
         let row = row_of_calls(arena, body)?;
         rows.push(row)?;
     }
-    Ok(rows)
+    Ok(into_bump_slice(rows))
 }
 
 /// The numbers of the named bodies that a body calls.

@@ -1,6 +1,7 @@
 pub mod Puts
 pub mod Loops
 pub mod Steps
+pub mod Ends
 pub mod Fronts
 pub mod Fields
 pub mod Apart

@@ -24,6 +24,16 @@ use Rattle.tc_cert.proofs.RowLines.{three_of_line, three_of_changes, whole_one, 
 abbrev AnyWhole : Kind → List ℕ → Type 0
 AnyWhole k bytes = (f : Fields) × (rest : List ℕ) × IsWholeAt k bytes f rest
 
+pub whole_no_front : (k : Kind) (bytes : List ℕ) (l : ℕ) → l ≡ letter k → ((one : Bool) × (other : Bool) × (ms : List ℕ) × (r : List ℕ) × IsFrontAt l bytes one other ms r → ⊥) → AnyWhole k bytes → ⊥
+whole_no_front k bytes l is bar w =
+    bar (
+      w.0.one,
+      w.0.other,
+      w.0.members,
+      numbers w.0.outs ++ 32 ∷ (numbers w.0.looks ++ 10 ∷ w.1),
+      subst (λ c. IsFrontAt c bytes w.0.one w.0.other w.0.members (numbers w.0.outs ++ 32 ∷ (numbers w.0.looks ++ 10 ∷ w.1))) (sym is) (front_of decimal IsNumber plain_numbers (three_of_line k w.0 bytes w.1 w.2.formed w.2.spelled)),
+    )
+
 module _ (k : Kind) (bytes : List ℕ) (l : ℕ) (is : l ≡ letter k) (a b : Bool) (ms r : List ℕ) (h : IsFrontAt l bytes a b ms r) where
   head : IsFrontAt (letter k) bytes a b ms r
   head = subst (λ c. IsFrontAt c bytes a b ms r) is h
@@ -38,6 +48,12 @@ module _ (k : Kind) (bytes : List ℕ) (l : ℕ) (is : l ≡ letter k) (a b : Bo
   whole_not_small os s ls t p q bar w =
       let o : IsOneRow a w.0.one b w.0.other ms w.0.members os w.0.outs ls w.0.looks t w.1 = one_row decimal IsNumber plain_numbers head p q (three_of_line k w.0 bytes w.1 w.2.formed w.2.spelled) in
       bar (subst (All (λ n. n ≤ 2)) (sym o.second) w.2.formed.looks)
+
+  pub whole_ok : (os s ls t : List ℕ) → AreNumbersAt 32 r os s → AreNumbersAt 10 s ls t → All (λ n. n ≤ 2) ls → IsWholeAt k bytes (record { one = a; other = b; members = ms; outs = os; looks = ls }) t
+  whole_ok os s ls t p q small = record {
+    formed = record { members = h.allowed; outs = p.allowed; looks = small };
+    spelled = (made decimal IsNumber plain_numbers head p q).spelled;
+  }
 
 -- a row behind another, written whole
 pub not_whole : (s : Style) (k : Kind) (b f : Fields) (bytes rest : List ℕ) → IsFormedRow b → IsWholeAt k bytes f rest → (MayBeWhole s b f → ⊥) → ((g : Fields) × (after : List ℕ) × IsWholeBehind s k b bytes g after) → ⊥

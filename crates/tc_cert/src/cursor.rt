@@ -15,13 +15,6 @@ pub(crate) struct Reader<'t> {
 }
 
 impl<'t> Reader<'t> {
-    /// How many lines were read.
-    pub(crate) fn lines(&self) -> u32
-        ensures { result ≡ self.now.lines }
-    {
-        self.lines
-    }
-
     /// Goes on behind a line.
     pub(crate) fn pass(&mut self, rest: &'t [u8])
         requires { length rest.now < length self.old.rest.now }

@@ -86,7 +86,7 @@ impl From<CertWriteFault> for UpgradeFault {
 }
 
 /// Why a piece of a line isn't read.
-#[derive(Clone, Copy, Debug, PartialEq, Eq)]
+#[derive(Clone, Copy)]
 pub(crate) enum PieceFault {
     /// It doesn't stand there.
     Form,

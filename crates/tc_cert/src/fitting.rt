@@ -86,7 +86,7 @@ fn first_output(
     let mut done = 0;
     while done < count {
         let pairs = reader.output(alloc, before.as_ref())?;
-        told = first_of(told, do_pairs_fit(states, &pairs), reader.lines());
+        told = first_of(told, do_pairs_fit(states, &pairs), reader.lines);
         before = Some(pairs);
         done += 1;
     }
@@ -112,11 +112,7 @@ fn first_row(
     let mut done = 0;
     while done < count {
         let row = reader.row(alloc, kind, before)?;
-        told = first_of(
-            told,
-            does_row_fit(ranges, listed, kind, &row),
-            reader.lines(),
-        );
+        told = first_of(told, does_row_fit(ranges, listed, kind, &row), reader.lines);
         before = Some(row);
         done += 1;
     }

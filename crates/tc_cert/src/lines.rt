@@ -48,6 +48,21 @@ pub(crate) fn put_field(text: &mut Text, numbers: &Numbers) -> Result<(), CertWr
     put_numbers(text, numbers)
 }
 
+/// Puts the three lists of a row, each behind a space.
+fn put_lists(
+    text: &mut Text,
+    members: &Numbers,
+    outs: &Numbers,
+    looks: &Numbers,
+) -> Result<(), CertWriteFault>
+    ensures ok { OnOk result (IsPut text.old text.new (lines.field (lines.numbers members.now) ++ lines.field (lines.numbers outs.now) ++ lines.field (lines.numbers looks.now))) }
+    ensures cause { IfErr result (IsCause text.old (lines.field (lines.numbers members.now) ++ lines.field (lines.numbers outs.now) ++ lines.field (lines.numbers looks.now))) }
+{
+    put_field(text, members)?;
+    put_field(text, outs)?;
+    put_field(text, looks)
+}
+
 /// Puts the letter of a row's kind, and its two truth values.
 pub(crate) fn put_front(
     text: &mut Text,
@@ -90,9 +105,7 @@ pub(crate) fn put_tree_line(text: &mut Text, line: &TreeLine) -> Result<(), Cert
     ensures cause { IfErr result (IsCause text.old (lines.tree_line line.now)) }
 {
     put_front(text, b't', line.text, line.bears)?;
-    put_field(text, &line.patterns)?;
-    put_field(text, &line.outs)?;
-    put_field(text, &line.looks)
+    put_lists(text, &line.patterns, &line.outs, &line.looks)
 }
 
 /// Puts the line of the row of a list of trees.
@@ -101,9 +114,7 @@ pub(crate) fn put_hedge_line(text: &mut Text, line: &HedgeLine) -> Result<(), Ce
     ensures cause { IfErr result (IsCause text.old (lines.hedge_line line.now)) }
 {
     put_front(text, b'h', line.ends, line.bears)?;
-    put_field(text, &line.states)?;
-    put_field(text, &line.outs)?;
-    put_field(text, &line.looks)
+    put_lists(text, &line.states, &line.outs, &line.looks)
 }
 
 /// The line of an output in version 1, without a line feed.

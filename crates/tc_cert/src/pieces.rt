@@ -19,7 +19,9 @@ use tc_model::Pairs;
 pub(crate) fn after_byte(bytes: &[u8], byte: u8) -> Option<&[u8]>
     ensures { MatchOption result ((r : List ℕ) → bytes.now ≡ byte ∷ r → ⊥) (λ rest. bytes.now ≡ byte ∷ rest.now) }
 {
-    let (first, rest) = bytes.split_first()?;
+    let Some((first, rest)) = bytes.split_first() else {
+        return None;
+    };
     if *first == byte { Some(rest) } else { None }
 }
 
@@ -98,7 +100,10 @@ fn two(bytes: &[u8], between: u8) -> Option<((u32, u32), &[u8])>
 fn after_dash(bytes: &[u8], end: u8) -> Option<&[u8]>
     ensures { MatchOption result ((r : List ℕ) → bytes.now ≡ 45 ∷ end ∷ r → ⊥) (λ rest. bytes.now ≡ 45 ∷ end ∷ rest.now) }
 {
-    after_byte(after_byte(bytes, b'-')?, end)
+    let Some(behind) = after_byte(bytes, b'-') else {
+        return None;
+    };
+    after_byte(behind, end)
 }
 
 /// The list of numbers at the front up to this byte, which ends a field or a line, and what follows it.
@@ -162,7 +167,10 @@ fn pair(bytes: &[u8]) -> Option<((u32, u32), &[u8])>
     ensures { MatchOption result ((p : ℕ × ℕ) (before rest : List ℕ) → bytes.now ≡ 32 ∷ before → IsTwoAt 62 before p rest → ⊥)
         (λ r. (before : List ℕ) × (bytes.now ≡ 32 ∷ before) × IsTwoAt 62 before r.0 r.1.now) }
 {
-    two(after_byte(bytes, b' ')?, b'>')
+    let Some(behind) = after_byte(bytes, b' ') else {
+        return None;
+    };
+    two(behind, b'>')
 }
 
 /// The pairs at the front up to the end of the line, and the next line.
@@ -189,23 +197,37 @@ pub(crate) fn pairs(alloc: Global, bytes: &[u8]) -> Result<(Pairs, &[u8]), Piece
 fn flag(bytes: &[u8]) -> Option<(bool, &[u8])>
     ensures { MatchOption result ((holds : Bool) (rest : List ℕ) → bytes.now ≡ lines.flag holds ∷ 32 ∷ rest → ⊥) (λ r. bytes.now ≡ lines.flag r.0 ∷ 32 ∷ r.1.now) }
 {
-    let (first, rest) = bytes.split_first()?;
+    let Some((first, rest)) = bytes.split_first() else {
+        return None;
+    };
     let holds = match *first {
         b'0' => false,
         b'1' => true,
         _ => return None,
     };
-    Some((holds, after_byte(rest, b' ')?))
+    match after_byte(rest, b' ') {
+        Some(behind) => Some((holds, behind)),
+        None => None,
+    }
 }
 
 /// The letter of a row and its two truth values at the front, and what follows them.
 fn flags(bytes: &[u8], letter: u8) -> Option<(bool, bool, &[u8])>
     ensures { MatchOption result ((one other : Bool) (rest : List ℕ) → FlagsAt letter bytes.now one other rest → ⊥) (λ r. FlagsAt letter bytes.now r.0 r.1 r.2.now) }
 {
-    let rest = after_byte(after_byte(bytes, letter)?, b' ')?;
-    let (one, rest) = flag(rest)?;
-    let (other, rest) = flag(rest)?;
-    Some((one, other, rest))
+    let Some(behind) = after_byte(bytes, letter) else {
+        return None;
+    };
+    let Some(rest) = after_byte(behind, b' ') else {
+        return None;
+    };
+    let Some((one, rest)) = flag(rest) else {
+        return None;
+    };
+    match flag(rest) {
+        Some((other, rest)) => Some((one, other, rest)),
+        None => None,
+    }
 }
 
 /// Whether numbers ascend strictly.

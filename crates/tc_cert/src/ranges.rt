@@ -1,7 +1,7 @@
 // How many numbers of each sort two schemas and a stylesheet have.
 
 /// The ranges and lengths into which the numbers of a certificate's lines have to fit.
-#[derive(Clone, Copy, Debug)]
+#[derive(Clone, Copy)]
 pub struct Ranges {
     /// The number of the output's states, counted from 0.
     pub output_states: u32,

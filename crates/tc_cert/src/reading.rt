@@ -1,5 +1,5 @@
 // Reading a certificate.
-ghost use Rattle.std.specs.Prelude.{◌≡◌, ◌≤◌, ◌<◌, ℕ, List, [], length, IfOk, IfErr, MatchOption, MatchResult, Some, None};
+ghost use Rattle.std.specs.Prelude.{◌≡◌, ◌≤◌, ◌<◌, ◌∷◌, ◌++◌, ℕ, List, [], length, IfOk, IfErr, OnOk, MatchOption, MatchResult, Some, None};
 ghost use Rattle.tc_cert.specs.Fields.{fields_of, last_of, tree_of, hedge_of};
 ghost use Rattle.tc_cert.specs.Fronts.{begun, in_outputs, in_trees, in_hedges};
 ghost use Rattle.tc_cert.specs.NextRows.{IsShort};
@@ -27,15 +27,16 @@ fn numbers_of(alloc: Global, numbers: &[u32]) -> Result<Numbers, NoMemory>
     Ok(list)
 }
 
-/// The row as that of trees.
-fn tree_of(alloc: Global, row: &Row) -> Result<TreeLine, NoMemory>
-    requires { IsShort (fields_of row.now) }
-    ensures { IfOk result (λ line. line ≡ tree_of (fields_of row.now)) }
+/// Puts a row at the end of those of trees.
+fn push_tree(alloc: Global, trees: &mut TreeLines, row: &Row) -> Result<(), NoMemory>
+    requires few { length trees.old < 4294967295 }
+    requires short { IsShort (fields_of row.now) }
+    ensures { OnOk result (trees.new ≡ trees.old ++ tree_of (fields_of row.now) ∷ []) }
 {
     let patterns = numbers_of(alloc, &row.members)?;
     let outs = numbers_of(alloc, &row.outs)?;
     let looks = numbers_of(alloc, &row.looks)?;
-    Ok(TreeLine {
+    trees.push(TreeLine {
         text: row.one,
         bears: row.other,
         patterns,
@@ -44,15 +45,16 @@ fn tree_of(alloc: Global, row: &Row) -> Result<TreeLine, NoMemory>
     })
 }
 
-/// The row as that of lists of trees.
-fn hedge_of(alloc: Global, row: &Row) -> Result<HedgeLine, NoMemory>
-    requires { IsShort (fields_of row.now) }
-    ensures { IfOk result (λ line. line ≡ hedge_of (fields_of row.now)) }
+/// Puts a row at the end of those of lists of trees.
+fn push_hedge(alloc: Global, hedges: &mut HedgeLines, row: &Row) -> Result<(), NoMemory>
+    requires few { length hedges.old < 4294967295 }
+    requires short { IsShort (fields_of row.now) }
+    ensures { OnOk result (hedges.new ≡ hedges.old ++ hedge_of (fields_of row.now) ∷ []) }
 {
     let states = numbers_of(alloc, &row.members)?;
     let outs = numbers_of(alloc, &row.outs)?;
     let looks = numbers_of(alloc, &row.looks)?;
-    Ok(HedgeLine {
+    hedges.push(HedgeLine {
         ends: row.one,
         bears: row.other,
         states,
@@ -109,7 +111,7 @@ fn read_tree_lines(
     let mut before = None;
     while trees.len() < count {
         let row = reader.row(alloc, Kind::Tree, before)?;
-        trees.push(tree_of(alloc, &row)?)?;
+        push_tree(alloc, &mut trees, &row)?;
         before = Some(row);
     }
     Ok(trees)
@@ -136,7 +138,7 @@ fn read_hedge_lines(
     let mut before = None;
     while hedges.len() < count {
         let row = reader.row(alloc, Kind::Hedge, before)?;
-        hedges.push(hedge_of(alloc, &row)?)?;
+        push_hedge(alloc, &mut hedges, &row)?;
         before = Some(row);
     }
     Ok(hedges)

@@ -14,21 +14,13 @@ use std::alloc::Global;
 use std::cmp::Ordering;
 
 /// Of what a row tells: of trees, or of lists of trees.
-#[derive(Clone, Copy, Debug)]
+#[derive(Clone, Copy)]
 pub(crate) enum Kind {
     Tree,
     Hedge,
 }
 
 impl Kind {
-    /// The word that counts the rows.
-    pub(crate) fn word(self) -> &'static [u8] {
-        match self {
-            Kind::Tree => b"trees",
-            Kind::Hedge => b"hedges",
-        }
-    }
-
     /// The letter of rows that are written whole.
     fn letter(self) -> u8
         ensures { result ≡ fields.letter self }
@@ -182,7 +174,7 @@ fn changed(alloc: Global, bytes: &[u8], kind: Kind, before: Row) -> Result<(Row,
 }
 
 /// How rows are written: each whole, or as changes of the row before.
-#[derive(Clone, Copy, Debug, PartialEq, Eq)]
+#[derive(Clone, Copy)]
 pub(crate) enum Style {
     Whole,
     ByChanges,

@@ -86,6 +86,24 @@ fn put_changed(
     put_changes(text, &changes)
 }
 
+/// Puts the members of a row, and the changes from the other lists of another row to its own, each behind a space.
+fn put_changed_lists(
+    alloc: Global,
+    text: &mut Text,
+    members: &Numbers,
+    old_outs: &Numbers,
+    outs: &Numbers,
+    old_looks: &Numbers,
+    looks: &Numbers,
+) -> Result<(), CertWriteFault>
+    ensures ok { OnOk result (IsPut text.old text.new (lines.field (lines.numbers members.now) ++ lines.field (lines.changed old_outs.now outs.now) ++ lines.field (lines.changed old_looks.now looks.now))) }
+    ensures cause { IfErr result (IsCause text.old (lines.field (lines.numbers members.now) ++ lines.field (lines.changed old_outs.now outs.now) ++ lines.field (lines.changed old_looks.now looks.now))) }
+{
+    put_field(text, members)?;
+    put_changed(alloc, text, old_outs, outs)?;
+    put_changed(alloc, text, old_looks, looks)
+}
+
 /// Puts a tree's row as changes of another.
 fn put_tree_changes(
     alloc: Global,
@@ -97,9 +115,15 @@ fn put_tree_changes(
     ensures cause { IfErr result (IsCause text.old (lines.tree_changes before.now line.now)) }
 {
     put_front(text, b'T', line.text, line.bears)?;
-    put_field(text, &line.patterns)?;
-    put_changed(alloc, text, &before.outs, &line.outs)?;
-    put_changed(alloc, text, &before.looks, &line.looks)
+    put_changed_lists(
+        alloc,
+        text,
+        &line.patterns,
+        &before.outs,
+        &line.outs,
+        &before.looks,
+        &line.looks,
+    )
 }
 
 /// Puts the row of a list of trees as changes of another.
@@ -113,9 +137,15 @@ fn put_hedge_changes(
     ensures cause { IfErr result (IsCause text.old (lines.hedge_changes before.now line.now)) }
 {
     put_front(text, b'H', line.ends, line.bears)?;
-    put_field(text, &line.states)?;
-    put_changed(alloc, text, &before.outs, &line.outs)?;
-    put_changed(alloc, text, &before.looks, &line.looks)
+    put_changed_lists(
+        alloc,
+        text,
+        &line.states,
+        &before.outs,
+        &line.outs,
+        &before.looks,
+        &line.looks,
+    )
 }
 
 /// Whether two rows have as many outputs and as many looks.

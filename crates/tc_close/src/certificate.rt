@@ -296,7 +296,8 @@ pub(crate) fn cert_data<K: Over>(
     requires whole { rows.old.is_whole ≡ true }
     requires trees { length rows.old.trees ≤ 4000 }
     requires hedges { length rows.old.hedges ≤ 4000 }
-    ensures { IfOk result (λ o. (x : Triple) → K.is_of x → MatchOption o (IsTooLong x) (IsLeastCertificate x)) }
+    ensures same { rows.new ≡ rows.old }
+    ensures data { IfOk result (λ o. (x : Triple) → K.is_of x → MatchOption o (IsTooLong x) (IsLeastCertificate x)) }
 {
     let _outputs = rows.output_count();
     let _shape = rows.shape();

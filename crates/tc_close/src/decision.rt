@@ -1,7 +1,7 @@
 // Whether a stylesheet is safe between two schemas, and a least counterexample where it isn't.
-ghost use Rattle.std.specs.Prelude.{◌≡◌, ◌≤◌, [], IfOk, IfErr};
+ghost use Rattle.std.specs.Prelude.{◌≡◌, ◌<◌, ◌≤◌, ℕ, [], IfOk, IfErr};
 ghost use Rattle.tc_beh.specs.Machines.{IsMachine, IsMachineOf};
-ghost use Rattle.tc_close.specs.Decisions.{IsDecided, IsCloseCause};
+ghost use Rattle.tc_close.specs.Decisions.{IsDecided, IsCloseCause, KeepsCounts};
 ghost use Rattle.tc_close.specs.RowState.{held_of, IsFull};
 ghost use Rattle.tc_rows.specs.Triples.{Triple};
 ghost use Rattle.tc_settle.specs.Closed.{IsClosure, IsCause};
@@ -78,6 +78,31 @@ fn close_fault<K: Over>(rows: &HeldRows<'_, '_, K>, most: u32, fault: Unsettled)
     }
 }
 
+/// What the first row that fails tells, where no count passes its limit.
+fn verdict_of_failing<'b, K: Over>(
+    arena: &'b Bump,
+    alphabet: &Alphabet,
+    rows: &HeldRows<'_, 'b, K>,
+    closed: &Closed,
+    tree: u32,
+    most: u32,
+) -> Result<Decision<'b>, NoMemory>
+    requires alphabet { (x : Triple) → K.is_of x → alphabet.now ≡ x.symbols }
+    requires closure { IsClosure (held_of K.is_of rows.now) closed.now }
+    requires keeps { (x : Triple) → K.is_of x → KeepsCounts x most }
+    requires low { tree < (held_of K.is_of rows.now).trees }
+    requires fails { (held_of K.is_of rows.now).fails tree }
+    requires passed { (t : ℕ) → t < tree → (held_of K.is_of rows.now).passes t }
+    ensures { IfOk result (λ d. (x : Triple) → K.is_of x → IsDecided x most d) }
+{
+    let _outputs = rows.output_count();
+    match build(arena, alphabet, rows, closed, tree) {
+        Ok(node) => Ok(Decision::Unsafe(node)),
+        Err(BuildFault::TooManyNodes) => Ok(Decision::TooManyNodes),
+        Err(BuildFault::NoMemory) => Err(NoMemory),
+    }
+}
+
 /// What all rows tell.
 pub(crate) fn verdict<'b, K: Over>(
     arena: &'b Bump,
@@ -104,80 +129,46 @@ pub(crate) fn verdict<'b, K: Over>(
     let Some(tree) = first_failing(rows, closed) else {
         return Ok(Decision::Safe(counts));
     };
-    let _outputs = rows.output_count();
-    match build(arena, alphabet, rows, closed, tree) {
-        Ok(node) => Ok(Decision::Unsafe(node)),
-        Err(BuildFault::TooManyNodes) => Ok(Decision::TooManyNodes),
-        Err(BuildFault::NoMemory) => Err(NoMemory),
-    }
+    verdict_of_failing(arena, alphabet, rows, closed, tree, most)
 }
 
-/// Which count passes its limit, where these rows came to no end.
-fn fault_of_rows<K: Over>(once: OnceRows<'_, '_, K>, most: u32, fault: Unsettled) -> CloseFault
-    requires { IsCause (IsFull K.is_of once) most (held_of K.is_of once) fault }
-    ensures { (x : Triple) → K.is_of x → IsCloseCause x most result }
-{
-    let rows = once.into_rows();
-    let fault = close_fault(&rows, most, fault);
-    drop(rows);
-    fault
-}
-
-/// All rows that come of none, and how they are made.
-fn all_rows<'m, 'b, K: Over>(
+/// Finds all rows that come of none, and how they are made.
+pub(crate) fn settle<K: Over>(
     alloc: Global,
-    mut once: OnceRows<'m, 'b, K>,
+    once: &mut OnceRows<'_, '_, K>,
     most: u32,
-) -> Result<(HeldRows<'m, 'b, K>, Closed), CloseFault>
-    requires hedges { once.hedges ≡ [] }
-    requires trees { once.trees ≡ [] }
+) -> Result<Closed, CloseFault>
+    requires hedges { once.old.hedges ≡ [] }
+    requires trees { once.old.trees ≡ [] }
     requires most { most ≤ 4000 }
-    ensures closure { IfOk result (λ r. IsClosure (held_of K.is_of r.0) r.1) }
-    ensures few { IfOk result (λ r. ((held_of K.is_of r.0).trees ≤ most) × ((held_of K.is_of r.0).hedges ≤ most)) }
+    ensures closure { IfOk result (λ closed. IsClosure (held_of K.is_of once.new) closed) }
+    ensures few { IfOk result (λ closed. ((held_of K.is_of once.new).trees ≤ most) × ((held_of K.is_of once.new).hedges ≤ most)) }
     ensures cause { IfErr result (λ e. (x : Triple) → K.is_of x → IsCloseCause x most e) }
 {
-    match close(alloc, &mut once, most) {
-        Ok(closed) => Ok((once.into_rows(), closed)),
-        Err(fault) => Err(fault_of_rows(once, most, fault)),
+    match close(alloc, once, most) {
+        Ok(closed) => Ok(closed),
+        Err(fault) => Err(close_fault(&once.rows, most, fault)),
     }
 }
 
-/// All rows over some triples that a machine stands for, and how they are made.
-pub(crate) fn settled<'m, 'b, K: Over>(
-    alloc: Global,
-    machine: &'m Machine<'b>,
-    most: u32,
-) -> Result<(HeldRows<'m, 'b, K>, Closed), CloseFault>
-    requires some { (x : Triple) × K.is_of x }
-    requires machine { (x : Triple) → K.is_of x → IsMachineOf x machine.now }
-    requires most { most ≤ 4000 }
-    ensures closure { IfOk result (λ r. IsClosure (held_of K.is_of r.0) r.1) }
-    ensures few { IfOk result (λ r. ((held_of K.is_of r.0).trees ≤ most) × ((held_of K.is_of r.0).hedges ≤ most)) }
-    ensures cause { IfErr result (λ e. (x : Triple) → K.is_of x → IsCloseCause x most e) }
-{
-    match OnceRows::<K>::new(alloc, machine) {
-        Ok(once) => all_rows(alloc, once, most),
-        Err(NoMemory) => Err(CloseFault::NoMemory),
-    }
-}
-
-/// The decision of all rows that are found.
+/// The decision of rows of which none is held yet.
 fn decided<'b, K: Over>(
     arena: &'b Bump,
-    alphabet: &Alphabet,
-    mut rows: HeldRows<'_, 'b, K>,
-    closed: Closed,
+    alloc: Global,
+    machine: &Machine<'b>,
+    once: &mut OnceRows<'_, 'b, K>,
     most: u32,
-) -> Result<Decision<'b>, NoMemory>
-    requires alphabet { (x : Triple) → K.is_of x → alphabet.now ≡ x.symbols }
-    requires closure { IsClosure (held_of K.is_of rows) closed }
-    requires trees { (held_of K.is_of rows).trees ≤ most }
-    requires hedges { (held_of K.is_of rows).hedges ≤ most }
-    ensures { IfOk result (λ d. (x : Triple) → K.is_of x → IsDecided x most d) }
+) -> Result<Decision<'b>, CloseFault>
+    requires machine { (x : Triple) → K.is_of x → IsMachineOf x machine.now }
+    requires hedges { once.old.hedges ≡ [] }
+    requires trees { once.old.trees ≡ [] }
+    requires most { most ≤ 4000 }
+    ensures decision { IfOk result (λ d. (x : Triple) → K.is_of x → IsDecided x most d) }
+    ensures cause { IfErr result (λ e. (x : Triple) → K.is_of x → IsCloseCause x most e) }
 {
-    let decision = verdict(arena, alphabet, &mut rows, &closed, most);
-    drop(rows);
-    decision
+    let closed = settle(alloc, once, most)?;
+    let decision = verdict(arena, machine.alphabet(), &mut once.rows, &closed, most)?;
+    Ok(decision)
 }
 
 /// The decision over some triples that a machine stands for.
@@ -193,10 +184,10 @@ fn decide_over<'b, K: Over>(
     ensures decision { IfOk result (λ d. (x : Triple) → K.is_of x → IsDecided x most d) }
     ensures cause { IfErr result (λ e. (x : Triple) → K.is_of x → IsCloseCause x most e) }
 {
-    match settled::<K>(alloc, machine, most) {
-        Ok((rows, closed)) => Ok(decided(arena, machine.alphabet(), rows, closed, most)?),
-        Err(fault) => Err(fault),
-    }
+    let mut once = OnceRows::<K>::new(alloc, machine)?;
+    let decision = decided(arena, alloc, machine, &mut once, most);
+    drop(once);
+    decision
 }
 
 /// Decides whether a stylesheet is safe between two schemas, with at most so many rows of trees, and of lists of trees.

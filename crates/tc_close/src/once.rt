@@ -11,7 +11,7 @@ use tc_settle::{HoldFault, NumberedRows};
 /// Rows over a machine. Around a list of trees one element for each kind of symbols is worked out, if they are tried in order.
 #[derive(Drop)]
 pub(crate) struct OnceRows<'m, 'b, K: Over> {
-    rows: HeldRows<'m, 'b, K>,
+    pub(crate) rows: HeldRows<'m, 'b, K>,
     /// Of each symbol the first that is alike.
     alike: Alike,
     /// What came of elements around the list of trees that was tried last.
@@ -55,13 +55,6 @@ impl<'m, 'b, K: Over> OnceRows<'m, 'b, K> {
             alike,
             wraps: Wraps::new(alloc),
         })
-    }
-
-    /// The rows.
-    pub(crate) fn into_rows(self) -> HeldRows<'m, 'b, K>
-        ensures { result ≡ self.entry }
-    {
-        self.rows
     }
 
     /// What came of an element of the first symbol that is alike around a list of trees, if it is known. It is known of the

@@ -1,15 +1,17 @@
 // Whether a stylesheet is safe between two schemas, with a certificate where it is, and a least counterexample where it isn't.
-ghost use Rattle.std.specs.Prelude.{◌≡◌, ◌≤◌, IfOk, IfErr, MatchOption, length};
+ghost use Rattle.std.specs.Prelude.{◌≡◌, ◌≤◌, [], IfOk, IfErr, MatchOption, length};
 ghost use Rattle.tc_beh.specs.Machines.{IsMachine, IsMachineOf};
 ghost use Rattle.tc_close.specs.Certified.{IsProved, IsLeastCertificate, IsTooLong};
 ghost use Rattle.tc_close.specs.Decisions.{IsCloseCause};
 ghost use Rattle.tc_close.specs.RowState.{held_of};
 ghost use Rattle.tc_rows.specs.Triples.{Triple};
 ghost use Rattle.tc_settle.specs.Closed.{IsClosure};
+ghost use Rattle.tc_settle.specs.Held.{SameRows};
 
 use crate::certificate::cert_data;
-use crate::decision::{CloseFault, Decision, settled, verdict};
+use crate::decision::{CloseFault, Decision, settle, verdict};
 use crate::held::HeldRows;
+use crate::once::OnceRows;
 use crate::over::Over;
 use bumpalo::Bump;
 use std::alloc::Global;
@@ -41,7 +43,8 @@ fn certified<'b, K: Over>(
     requires closure { IsClosure (held_of K.is_of rows.old) closed.now }
     requires trees { (held_of K.is_of rows.old).trees ≤ 4000 }
     requires hedges { (held_of K.is_of rows.old).hedges ≤ 4000 }
-    ensures { IfOk result (λ o. (x : Triple) → K.is_of x → MatchOption o (IsTooLong x) (IsLeastCertificate x)) }
+    ensures same { rows.new ≡ rows.old }
+    ensures data { IfOk result (λ o. (x : Triple) → K.is_of x → MatchOption o (IsTooLong x) (IsLeastCertificate x)) }
 {
     if !rows.is_whole() {
         return Err(NoMemory);
@@ -63,7 +66,8 @@ fn told<'b, K: Over>(
     requires trees { (held_of K.is_of rows.old).trees ≤ most }
     requires hedges { (held_of K.is_of rows.old).hedges ≤ most }
     requires most { most ≤ 4000 }
-    ensures { IfOk result (λ p. (x : Triple) → K.is_of x → IsProved x most p) }
+    ensures same { SameRows (held_of K.is_of rows.old) (held_of K.is_of rows.new) }
+    ensures proof { IfOk result (λ p. (x : Triple) → K.is_of x → IsProved x most p) }
 {
     match verdict(arena, machine.alphabet(), rows, closed, most) {
         Ok(Decision::Safe(_)) => match certified(alloc, rows, closed) {
@@ -77,25 +81,24 @@ fn told<'b, K: Over>(
     }
 }
 
-/// The proof of all rows that are found.
+/// The proof of rows of which none is held yet.
 fn proved<'b, K: Over>(
     arena: &'b Bump,
     alloc: Global,
     machine: &Machine<'b>,
-    mut rows: HeldRows<'_, 'b, K>,
-    closed: Closed,
+    once: &mut OnceRows<'_, 'b, K>,
     most: u32,
-) -> Result<Proof<'b>, NoMemory>
+) -> Result<Proof<'b>, CloseFault>
     requires machine { (x : Triple) → K.is_of x → IsMachineOf x machine.now }
-    requires closure { IsClosure (held_of K.is_of rows) closed }
-    requires trees { (held_of K.is_of rows).trees ≤ most }
-    requires hedges { (held_of K.is_of rows).hedges ≤ most }
+    requires hedges { once.old.hedges ≡ [] }
+    requires trees { once.old.trees ≡ [] }
     requires most { most ≤ 4000 }
-    ensures { IfOk result (λ p. (x : Triple) → K.is_of x → IsProved x most p) }
+    ensures proof { IfOk result (λ p. (x : Triple) → K.is_of x → IsProved x most p) }
+    ensures cause { IfErr result (λ e. (x : Triple) → K.is_of x → IsCloseCause x most e) }
 {
-    let proof = told(arena, alloc, machine, &mut rows, &closed, most);
-    drop(rows);
-    proof
+    let closed = settle(alloc, once, most)?;
+    let proof = told(arena, alloc, machine, &mut once.rows, &closed, most)?;
+    Ok(proof)
 }
 
 /// The proof over some triples that a machine stands for.
@@ -111,10 +114,10 @@ fn prove_over<'b, K: Over>(
     ensures proof { IfOk result (λ p. (x : Triple) → K.is_of x → IsProved x most p) }
     ensures cause { IfErr result (λ e. (x : Triple) → K.is_of x → IsCloseCause x most e) }
 {
-    match settled::<K>(alloc, machine, most) {
-        Ok((rows, closed)) => Ok(proved(arena, alloc, machine, rows, closed, most)?),
-        Err(fault) => Err(fault),
-    }
+    let mut once = OnceRows::<K>::new(alloc, machine)?;
+    let proof = proved(arena, alloc, machine, &mut once, most);
+    drop(once);
+    proof
 }
 
 /// Decides whether a stylesheet is safe between two schemas, as [`decide`](crate::decide) does, and gives the certificate where

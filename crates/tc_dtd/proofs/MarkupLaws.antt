@@ -1,7 +1,7 @@
 -- What the steps of reading declarations show of the whole.
-use Rattle.std.proofs.Common.{◌≡◌, ◌≢◌, ◌⊎◌, inl, inr, ℕ, suc, ◌+◌, ◌<◌, ◌≤◌, Bool, true, false, not, ◌||◌, ◌&&◌, ◌==◌, List, [], ◌∷◌, ◌++◌, refl, ap, ◌∙◌, sym, subst, length, arith, codes, drop, get_or, IsUtf8, IsCharBoundary, length-drop}
+use Rattle.std.proofs.Common.{◌≡◌, ◌≢◌, ◌⊎◌, inl, inr, ℕ, suc, ◌+◌, ◌<◌, ◌≤◌, Bool, true, false, not, ◌||◌, ◌&&◌, ◌==◌, List, [], ◌∷◌, ◌++◌, refl, ap, ◌∙◌, sym, subst, length, arith, codes, drop, get_or, IsUtf8, IsCharBoundary, length-drop, eq-eqb}
 use Rattle.std.specs.List.{prefix_len}
-use Rattle.std.proofs.lemmas.Bool.{true≢false, eqb-true}
+use Rattle.std.proofs.lemmas.Bool.{true≢false, eqb-true, ne_eqb, cond-true, cond-false}
 use Rattle.std.proofs.lemmas.List.{append_cancel_left, drop_more}
 use Rattle.std.proofs.lemmas.Str.{IsCharBoundary-after_ascii}
 use Rattle.tc_base.specs.declared.reasons.Why.TheVariants.{ParameterEntity, ConditionalSection}
@@ -401,3 +401,52 @@ module _ (deepest : ℕ) (bytes start : List ℕ) (e : start ≡ after_mark byte
 
   pub a_text : (mid first : List ℕ) (found : List Placed) → t.TextDeclarationAt start (read tt mid) → MiscAt mid first → All first (read found []) → TextAt deepest bytes (read found [])
   a_text mid first found a m k = subst (λ w. Then t.TextDeclarationAt (λ _. Then (Past MiscAt) (λ _. All)) w (read found [])) e (goes_on a (goes_on (past m) k))
+
+-- a run ends at a byte, or goes on with it
+pub run_ends : (test : ℕ → Bool) (text bs : List ℕ) (count i : ℕ) → count + prefix_len test (drop i text) ≡ prefix_len test text → bs ≡ text → i < length bs → test (get_or bs i 0) ≡ false → count ≡ prefix_len test text
+run_ends test text bs count i e same l stops =
+    let at : drop i text ≡ get_or bs i 0 ∷ drop (i + 1) text = subst (λ w. drop i w ≡ get_or bs i 0 ∷ drop (i + 1) w) same (drop_more bs i 0 l) in
+    let none : prefix_len test (drop i text) ≡ 0 = ap (prefix_len test) at ∙ cond-false (test (get_or bs i 0)) (1 + prefix_len test (drop (i + 1) text)) 0 stops in
+    omega (arith, e, none)
+
+pub run_goes_on : (test : ℕ → Bool) (text bs : List ℕ) (count i : ℕ) → count + prefix_len test (drop i text) ≡ prefix_len test text → bs ≡ text → i < length bs → test (get_or bs i 0) ≡ true
+    → (count + 1) + prefix_len test (drop (i + 1) text) ≡ prefix_len test text
+run_goes_on test text bs count i e same l passes =
+    let at : drop i text ≡ get_or bs i 0 ∷ drop (i + 1) text = subst (λ w. drop i w ≡ get_or bs i 0 ∷ drop (i + 1) w) same (drop_more bs i 0 l) in
+    let one : prefix_len test (drop i text) ≡ 1 + prefix_len test (drop (i + 1) text) = ap (prefix_len test) at ∙ cond-true (test (get_or bs i 0)) (1 + prefix_len test (drop (i + 1) text)) 0 passes in
+    omega (arith, e, one)
+
+pub run_over : (test : ℕ → Bool) (text bs : List ℕ) (count i : ℕ) → count + prefix_len test (drop i text) ≡ prefix_len test text → bs ≡ text → length bs ≤ i → count ≡ prefix_len test text
+run_over test text bs count i e same l =
+    let none : prefix_len test (drop i text) ≡ 0 = ap (prefix_len test) (drop_all text i (omega (arith, ap length same, l))) in
+    omega (arith, e, none)
+  where
+    drop_all : (xs : List ℕ) (n : ℕ) → length xs ≤ n → drop n xs ≡ []
+    drop_all xs n h = empty (drop n xs) (omega (arith, length-drop n xs, h))
+      where
+        empty : (ys : List ℕ) → length ys ≤ 0 → ys ≡ []
+        empty [] k = refl
+        empty (y ∷ ys) k = absurd (omega (arith, k))
+
+pub quote_ends : (references : Bool) (quote b : ℕ) → b ≡ quote → is_within references quote b ≡ false
+quote_ends references quote b e = ap (λ x. not (x || (references && b == 0x25))) (eq-eqb b quote e)
+
+pub reference_ends : (references : Bool) (quote b : ℕ) → (references && b == 0x25) ≡ true → is_within references quote b ≡ false
+reference_ends references quote b e = ap (λ y. not ((b == quote) || y)) e ∙ by (b == quote)
+  where
+    by : (x : Bool) → not (x || true) ≡ false
+    by true = refl
+    by false = refl
+
+pub stays_within : (references : Bool) (quote b : ℕ) → (b ≡ quote → ⊥) → (references && b == 0x25) ≡ false → is_within references quote b ≡ true
+stays_within references quote b differs e = ap (λ x. not (x || (references && b == 0x25))) (ne_eqb b quote differs) ∙ ap (λ y. not (false || y)) e
+
+pub is_reference : (references value : Bool) (b : ℕ) → value ≡ true → ((references ≡ true) × (value ≡ (b == 0x25))) ⊎ (value ≡ false) → (references && b == 0x25) ≡ true
+is_reference references value b e (inl (r, v)) = ap (λ u. u && b == 0x25) r ∙ (sym v ∙ e)
+is_reference references value b e (inr v) = absurd (true≢false (sym e ∙ v))
+
+pub skip_ends : (b : ℕ) → (b ≡ 34) ⊎ ((b ≡ 37) ⊎ ((b ≡ 39) ⊎ (b ≡ 62))) → is_skipped b ≡ false
+skip_ends b (inl e) = subst (λ x. is_skipped x ≡ false) (sym e) refl
+skip_ends b (inr (inl e)) = subst (λ x. is_skipped x ≡ false) (sym e) refl
+skip_ends b (inr (inr (inl e))) = subst (λ x. is_skipped x ≡ false) (sym e) refl
+skip_ends b (inr (inr (inr e))) = subst (λ x. is_skipped x ≡ false) (sym e) refl

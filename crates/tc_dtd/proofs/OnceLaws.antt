@@ -37,6 +37,11 @@ again_at found i d keys l e apart h =
 abbrev pub same_key : Bor (List ℕ) → Bor (List ℕ) → Bool
 same_key a b = bytes_eq a.now b.now
 
+pub none_alike : (keys : List (Bor (List ℕ))) → keys ≡ [] → IsDistinct same_key keys
+unfolding IsDistinct
+none_alike [] e = tt
+none_alike (k ∷ ks) e = absurd (cc)
+
 pub not_new : (b r : Bool) → r ≡ not b → r ≡ true → b ≡ false
 not_new true r e f = absurd (true≢false (sym f ∙ e))
 not_new false r e f = refl

@@ -132,12 +132,13 @@ fn list<'b, 't>(
     ensures no { IfErr result (λ e. Stops e (form.ListAt deepest text.now)) }
 {
     let (first, rest) = particle(arena, deepest, text)?;
+    let mut all = list_of(arena, first)?;
     if begins(after_white(rest), "|") {
-        let (all, after) = joined(arena, deepest, b'|', first, rest)?;
-        return Ok((Particle::Choice(all), after));
+        let after = join(arena, deepest, b'|', first, rest, &mut all)?;
+        return Ok((Particle::Choice(into_bump_slice(all)), after));
     }
-    let (all, after) = joined(arena, deepest, b',', first, rest)?;
-    Ok((Particle::Seq(all), after))
+    let after = join(arena, deepest, b',', first, rest, &mut all)?;
+    Ok((Particle::Seq(into_bump_slice(all)), after))
 }
 
 /// This particle alone, in room for itself alone, since many parentheses hold one.
@@ -151,22 +152,24 @@ fn list_of<'b>(
     Ok(all)
 }
 
-/// A particle and those that this byte joins to it, and what follows the parenthesis that closes them.
+/// Puts the particles that this byte joins behind the first one, which stands alone, and gives what follows the parenthesis
+/// that closes them.
 #[cycle(particles)]
 #[inline(never)]
-fn joined<'b, 't>(
+fn join<'b, 't>(
     arena: &'b Bump,
     deepest: u32,
     connector: u8,
     first: Particle<'b>,
     text: &'t str,
-) -> Result<(&'b [Particle<'b>], &'t str), Stop>
+    all: &mut Vec<Particle<'b>, &'b Bump>,
+) -> Result<&'t str, Stop>
     requires above { 0x29 < connector }
     requires ascii { connector < 128 }
-    ensures ok { IfOk result (λ r. (ps : t.Particles) × (see.particles r.0.now ≡ t.more (see.particle first.entry) ps) × form.RestAt connector deepest text.now (read ps r.1.now)) }
+    requires alone { all.old.items ≡ first ∷ [] }
+    ensures ok { IfOk result (λ r. (ps : t.Particles) × (see.particles all.new.items ≡ t.more (see.particle first.entry) ps) × form.RestAt connector deepest text.now (read ps r.now)) }
     ensures no { IfErr result (λ e. Stops e (form.RestAt connector deepest text.now)) }
 {
-    let mut all = list_of(arena, first)?;
     let mut rest = text;
     while let Some(next) = after_byte(after_white(rest), connector) {
         let (one, after) = particle(arena, deepest, after_white(next))?;
@@ -177,7 +180,7 @@ fn joined<'b, 't>(
     let Some(after) = after_byte(end, b')') else {
         return Err(unexpected(end));
     };
-    Ok((into_bump_slice(all), after))
+    Ok(after)
 }
 
 /// The names of mixed content, and what follows the parenthesis that closes it (XML 1.0, 3.2.2, [51]).
@@ -186,6 +189,20 @@ fn mixed_names<'b, 't>(arena: &'b Bump, text: &'t str) -> Result<(&'b [&'b str],
     ensures no { IfErr result (λ e. Stops e (form.NamesAt text.now)) }
 {
     let mut all: Vec<&'b str, &'b Bump> = Vec::new(arena);
+    let after = put_mixed_names(arena, text, &mut all)?;
+    Ok((into_bump_slice(all), after))
+}
+
+/// Puts the names of mixed content where none is yet, and gives what follows the parenthesis that closes it.
+fn put_mixed_names<'b, 't>(
+    arena: &'b Bump,
+    text: &'t str,
+    all: &mut Vec<&'b str, &'b Bump>,
+) -> Result<&'t str, Stop>
+    requires { all.old.items ≡ [] }
+    ensures ok { IfOk result (λ r. form.NamesAt text.now (read (see.names all.new.items) r.now)) }
+    ensures no { IfErr result (λ e. Stops e (form.NamesAt text.now)) }
+{
     let mut rest = text;
     while let Some(next) = after_byte(after_white(rest), b'|') {
         let (name, after) = element_name(arena, after_white(next))?;
@@ -196,7 +213,7 @@ fn mixed_names<'b, 't>(arena: &'b Bump, text: &'t str) -> Result<(&'b [&'b str],
     let Some(after) = after_byte(end, b')') else {
         return Err(unexpected(end));
     };
-    Ok((into_bump_slice(all), after))
+    Ok(after)
 }
 
 /// Mixed content from behind `#PCDATA` on, and what follows it (XML 1.0, 3.2.2, [51]).

@@ -103,24 +103,25 @@ fn all_below<'b>(arena: &'b Bump, count: usize) -> Result<&'b [usize], NoMemory>
     Ok(into_bump_slice(out))
 }
 
-/// Of each element those that it may hold, and of the number that stands for all of them all.
-pub(crate) fn links<'b>(
+/// Puts of each element those that it may hold, and of the number that stands for all of them all, where none are yet.
+pub(crate) fn put_links<'b>(
     arena: &'b Bump,
     found: &Names<'b>,
     decls: &[Decl<'b>],
-) -> Result<Vec<&'b [usize], &'b Bump>, NoMemory>
-    requires { see.names found.now.keys ≡ n.names_of (map see.declaration decls.now) }
-    ensures { IfOk result (λ v. rows_of v.items ≡ link_rows (map see.declaration decls.now)) }
+    rows: &mut Vec<&'b [usize], &'b Bump>,
+) -> Result<(), NoMemory>
+    requires found { see.names found.now.keys ≡ n.names_of (map see.declaration decls.now) }
+    requires none { rows.old.items ≡ [] }
+    ensures { OnOk result (rows_of rows.new.items ≡ link_rows (map see.declaration decls.now)) }
 {
     let count = decls.len();
     let last = all_below(arena, count)?;
-    let mut rows = Vec::new(arena);
     for decl in decls {
         let one = row(arena, found, &decl.content, count)?;
         rows.push(one)?;
     }
     rows.push(last)?;
-    Ok(rows)
+    Ok(())
 }
 
 /// Puts a declaration behind the others, if it is kept.

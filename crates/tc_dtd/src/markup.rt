@@ -1,5 +1,5 @@
 // Declarations one after the other, and whole texts (XML 1.0, 2.8 and 3.2).
-ghost use Rattle.std.specs.Prelude.{◌≡◌, ◌≤◌, ◌++◌, [], ℕ, List, map, length, IfOk, IfErr};
+ghost use Rattle.std.specs.Prelude.{◌≡◌, ◌≤◌, ◌++◌, [], ℕ, List, map, length, IfOk, IfErr, OnOk};
 ghost use Rattle.tc_model.specs.XmlText.{after_mark as past_mark_of};
 ghost use Rattle.tc_dtd.specs.DtdText as whole;
 ghost use Rattle.tc_dtd.specs.DtdTextDeclarations as form;
@@ -79,23 +79,24 @@ fn after_markup<'b, 't>(
     after_unread(text)
 }
 
-/// All declarations of elements up to the end of a text of so many bytes (XML 1.0, 2.8, [29]).
-fn all_markup<'b>(
+/// Puts all declarations of elements up to the end of a text of so many bytes where none is yet (XML 1.0, 2.8, [29]).
+fn put_markup<'b>(
     arena: &'b Bump,
     total: usize,
     text: &str,
-) -> Result<Vec<Placed<'b>, &'b Bump>, Stop>
-    requires { total ≤ 67108864 }
-    ensures ok { IfOk result (λ v. form.DeclarationsAt whole.deepest_parenthesis total text.now (read (map placed v.items) [])) }
+    found: &mut Vec<Placed<'b>, &'b Bump>,
+) -> Result<(), Stop>
+    requires low { total ≤ 67108864 }
+    requires none { found.old.items ≡ [] }
+    ensures ok { OnOk result (form.DeclarationsAt whole.deepest_parenthesis total text.now (read (map placed found.new.items) [])) }
     ensures no { IfErr result (λ e. Stops e (form.DeclarationsAt whole.deepest_parenthesis total text.now)) }
 {
-    let mut found = Vec::new(arena);
     let mut rest = text;
     while !rest.is_empty() {
-        let after = after_markup(arena, total, rest, &mut found)?;
+        let after = after_markup(arena, total, rest, found)?;
         rest = after_misc(after)?;
     }
-    Ok(found)
+    Ok(())
 }
 
 /// What follows a byte order mark, if there is one (XML 1.0, 4.3.3).
@@ -117,5 +118,7 @@ pub(crate) fn all_placed<'b>(arena: &'b Bump, text: &str) -> Result<Vec<Placed<'
     let start = past_mark(text);
     let past_declaration = after_declaration(start)?;
     let first = after_misc(past_declaration)?;
-    all_markup(arena, text.len(), first)
+    let mut found = Vec::new(arena);
+    put_markup(arena, text.len(), first, &mut found)?;
+    Ok(found)
 }

@@ -1,5 +1,5 @@
 // Names and their numbers.
-ghost use Rattle.std.specs.Prelude.{◌≡◌, map, IfOk};
+ghost use Rattle.std.specs.Prelude.{◌≡◌, [], map, IfOk, OnOk};
 ghost use Rattle.tc_dtd.specs.Numbers.{number_in, AreApart};
 ghost use Rattle.tc_dtd.specs.Views.{declaration, names};
 
@@ -18,10 +18,20 @@ pub(crate) fn names_of<'b>(arena: &'b Bump, decls: &[Decl<'b>]) -> Result<Names<
     ensures { IfOk result (λ s. names s.keys ≡ map (λ x. x.name) (map declaration decls.now)) }
 {
     let mut found: Names<'b> = IndexSet::new(arena);
+    put_names(&mut found, decls)?;
+    Ok(found)
+}
+
+/// Puts the names of declarations, of which no two have one name, where none is yet.
+fn put_names<'b>(found: &mut Names<'b>, decls: &[Decl<'b>]) -> Result<(), NoMemory>
+    requires none { found.old.keys ≡ [] }
+    requires apart { AreApart (map (λ x. x.name) (map declaration decls.now)) }
+    ensures { OnOk result (names found.new.keys ≡ map (λ x. x.name) (map declaration decls.now)) }
+{
     for decl in decls {
         let _is_new = found.insert(decl.name)?;
     }
-    Ok(found)
+    Ok(())
 }
 
 /// The number of a name.

@@ -11,7 +11,7 @@ ghost use Rattle.tc_dtd.specs.Refused.{Refuses, FitsCounts, FaultFits, AllowsThe
 ghost use Rattle.tc_dtd.specs.Views as see;
 
 use crate::declarations::{Decl, Dtd};
-use crate::links::{links, marked};
+use crate::links::{marked, put_links};
 use crate::numbers::{Names, names_of, number_of};
 use crate::patterns::{element_patterns, reference};
 use crate::sizes::total;
@@ -59,7 +59,8 @@ fn kept_by<'b>(
     let Some(number) = number_of(found, root) else {
         return Ok(&[]);
     };
-    let rows = links(arena, found, decls)?;
+    let mut rows = Vec::new(arena);
+    put_links(arena, found, decls, &mut rows)?;
     let marks = reached(arena, rows.as_slice(), number)?;
     marked(arena, decls, marks.as_slice())
 }

@@ -1,13 +1,12 @@
 -- Names whose bytes show that they are lawful.
-use lib.Utf8.{encode, encodes, scalar, scalars, scalar_cases}
-use Rattle.std.proofs.Common.{◌≡◌, ◌<◌, ◌≤◌, ◌⊎◌, inl, inr, ℕ, List, [], ◌∷◌, ◌++◌, Bool, true, false, ◌||◌, ◌==◌, not, IsUtf8, chars, refl, sym, ap, ◌∙◌, subst, arith}
+use lib.Utf8.{encodes}
+use Rattle.std.proofs.Common.{◌≡◌, ◌<◌, ◌⊎◌, inl, inr, ℕ, List, [], ◌∷◌, ◌++◌, Bool, true, false, ◌||◌, ◌==◌, not, refl, sym, ap, ◌∙◌, subst, arith}
 use Rattle.std.specs.List.{list_all}
-use Rattle.std.proofs.lemmas.Bool.{cases_lt, eqb-true, true≢false, and_parts, and_from}
+use Rattle.std.proofs.lemmas.Bool.{eqb-true, true≢false, and_parts, and_from}
 use Rattle.std.proofs.lemmas.Bool.Decides.{nat_tests}
-use Rattle.std.proofs.lemmas.List.Folds.{list_all-append}
-use Rattle.std.proofs.lemmas.Str.{encode_ascii, encodes-chars, scalars-chars}
-use Rattle.tc_base.specs.Characters.{is_between, is_char, is_name_start, is_name_char}
-use Rattle.tc_model.specs.Names.{IsChars, IsNcName, is_ncname_start, is_ncname_char}
+use Rattle.std.proofs.lemmas.Str.{encode_ascii}
+use Rattle.tc_base.specs.Characters.{is_between, is_name_start, is_name_char}
+use Rattle.tc_model.specs.Names.{IsNcName, is_ncname_start, is_ncname_char}
 use Rattle.tc_hedge.specs.Documents.{is_plain_name, is_plain_name_char, is_plain_start_char}
 
 or_cases : (x y : Bool) → (x || y) ≡ true → (x ≡ true) ⊎ (y ≡ true)

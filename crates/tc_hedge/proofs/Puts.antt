@@ -1,5 +1,5 @@
 -- Pairs put edge by edge and element pattern by element pattern.
-use Rattle.std.proofs.Common.{◌≡◌, ◌≢◌, ◌<◌, ◌≤◌, ◌↔◌, ◌⊎◌, inl, inr, ℕ, zero, suc, ◌+◌, ◌-◌, List, [], ◌∷◌, ◌++◌, length, take, get_or, Bool, true, IsTrue, Some, slice_get, refl, sym, ap, ◌∙◌, subst, arith, add-one}
+use Rattle.std.proofs.Common.{◌≡◌, ◌≢◌, ◌<◌, ◌≤◌, ◌↔◌, ◌⊎◌, inl, inr, ℕ, zero, suc, ◌+◌, ◌-◌, List, [], ◌∷◌, ◌++◌, length, take, get_or, Bool, true, IsTrue, Some, slice_get, refl, sym, ap, ◌∙◌, subst, arith}
 use Rattle.std.specs.List.{Contains}
 use Rattle.std.proofs.lemmas.Option.{slice_get_within}
 use Rattle.std.proofs.lemmas.List.Elements.{Contains-push, Contains-push_cases, Contains-append_left}
@@ -10,7 +10,7 @@ use Rattle.tc_model.specs.Grammars.{Grammar, ElementPattern, element_at}
 use Rattle.tc_model.specs.States as s
 use Rattle.tc_model.specs.States.{Side, automaton, IsPart, a_content, first_state, state_count, IsEdge, IsAccepting}
 use Rattle.tc_model.proofs.StatesExact.{sound}
-use Rattle.tc_model.proofs.StatesParts.{accepting_of_part, edge_within, next_first}
+use Rattle.tc_model.proofs.StatesParts.{accepting_of_part, next_first}
 use Rattle.tc_auto.specs.Stands as held
 use Rattle.tc_auto.specs.declared.auto.Auto.{Auto}
 use Rattle.tc_auto.specs.Steps.{leaf}

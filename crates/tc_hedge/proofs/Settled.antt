@@ -4,8 +4,7 @@ use Rattle.std.specs.Prelude.{encode_utf8, encode_utf8_all}
 use Rattle.std.specs.List.{list_all}
 use Rattle.std.proofs.lemmas.Bool.{true≢false}
 use Rattle.std.proofs.lemmas.Str.{encodes-chars, encodes_same, length-encode, len_utf8_bounds}
-use Rattle.tc_base.specs.Characters.{is_char}
-use Rattle.tc_model.specs.Names.{ExpandedName, IsName, IsChars, IsNcName, is_ncname_start, is_ncname_char}
+use Rattle.tc_model.specs.Names.{ExpandedName, IsName, IsNcName, is_ncname_start, is_ncname_char}
 use Rattle.tc_model.specs.Trees.{Trees, none, text, element, is_white_space_only, joined_to, joined, kept, dropped, normal_form, IsNormal, AreLawful, IsDocument}
 use Rattle.tc_model.specs.Views as see
 use Rattle.tc_model.specs.declared.tree.Name.{Name}

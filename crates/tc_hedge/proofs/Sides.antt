@@ -11,7 +11,7 @@ use Rattle.tc_model.specs.Views as see
 use Rattle.tc_model.specs.declared.tree.Node.{Node}
 use Rattle.tc_model.specs.Grammars.{Grammar, ElementPattern, element_at, in_class, InClass}
 use Rattle.tc_model.specs.Validity.{IsValidOutput}
-use Rattle.tc_model.specs.States.{Side, output, Leaf, text_leaf, ref_leaf, automaton, state_count, IsEdge, Leads, at_end, past_white, by_text, the_start}
+use Rattle.tc_model.specs.States.{Side, output, text_leaf, ref_leaf, automaton, state_count, IsEdge, Leads, at_end, past_white, by_text, the_start}
 use Rattle.tc_model.specs.Symbols.{Mention, symbol_of}
 use Rattle.tc_model.proofs.Views.{trees_append}
 use Rattle.tc_auto.specs.Stands as held
@@ -19,7 +19,7 @@ use Rattle.tc_auto.specs.declared.auto.Auto.{Auto}
 use Rattle.tc_hedge.specs.Leading.{ArePairsOf, ArePairsOfText, ArePairsAround, IsTaken}
 use Rattle.tc_hedge.specs.declared.hedge.Hedge.{Hedge}
 use Rattle.tc_hedge.specs.Stands.{Stands}
-use Rattle.tc_hedge.specs.Items.{IsTakenAround, IsAround}
+use Rattle.tc_hedge.specs.Items.{IsAround}
 use Rattle.tc_model.proofs.StatesParts.{edge_within}
 use Rattle.tc_hedge.proofs.Bounds.{states_of, patterns_of}
 use Rattle.tc_hedge.proofs.TableRows.{get_map}

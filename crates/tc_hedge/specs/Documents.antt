@@ -1,5 +1,5 @@
 -- Lawful trees in normal form, tree by tree.
-use Rattle.std.specs.Prelude.{◌≡◌, ℕ, List, Bool, true, false, [], ◌∷◌, ◌||◌, ◌&&◌, ◌==◌, not, nat_le}
+use Rattle.std.specs.Prelude.{◌≡◌, ℕ, List, Bool, true, false, [], ◌∷◌, ◌||◌, ◌&&◌, ◌==◌}
 use Rattle.std.specs.List.{list_all}
 use Rattle.tc_base.specs.Characters.{is_between}
 use Rattle.tc_model.specs.Names.{IsName, IsChars}

@@ -1,5 +1,5 @@
 -- Sets that are known by numbers, and what follows from them.
-use Rattle.std.specs.Prelude.{◌≡◌, ℕ, List, length, Bool, Some, nat_eq, slice_get}
+use Rattle.std.specs.Prelude.{◌≡◌, ℕ, List, Bool, Some, nat_eq, slice_get}
 use Rattle.std.specs.List.{Contains}
 use Rattle.std.specs.Ordering.{on, eq_of_both}
 use Rattle.std.specs.Cmp.Lexicographic.{pointwise}
@@ -46,6 +46,13 @@ pub record Enters (a : Auto) (sets : List (List ℕ)) (i : ℕ) (n : ExpandedNam
   pub first_at : slice_get sets w.first ≡ Some first
   pub within : AreNumbers (held.patterns a) numbers
   pub named : (side : Side) (x : Grammar) → held.Stands side x a → IsMade numbers (λ k. Makes (Leaves x side) from k × IsNamed x n k)
+  pub below : AreBelow (held.states a) first
+  pub begins : (side : Side) (x : Grammar) → held.Stands side x a → IsMade first (Makes (λ k m. m ≡ first_state x side k) numbers)
+
+-- the set of a number is that of the first states of the contents of the element patterns of some numbers
+pub record Begins (a : Auto) (sets : List (List ℕ)) (numbers : List ℕ) (i : ℕ) : Type 0 where
+  pub first : List ℕ
+  pub first_at : slice_get sets i ≡ Some first
   pub below : AreBelow (held.states a) first
   pub begins : (side : Side) (x : Grammar) → held.Stands side x a → IsMade first (Makes (λ k m. m ≡ first_state x side k) numbers)
 

@@ -16,8 +16,8 @@ ghost use Rattle.tc_model.specs.Validity.{IsValid};
 use crate::documents::is_document;
 use crate::keys::{EnterKey, LeaveKey};
 use crate::memo::Memo;
-use crate::sets::{firsts, reached};
-use crate::steps::{after_passing, after_text, inside_of};
+use crate::sets::reached;
+use crate::steps::{after_passing, after_text, inside_of, put_firsts};
 use std::alloc::Global;
 use tc_auto::Auto;
 use tc_base::NoMemory;
@@ -107,8 +107,7 @@ fn matched_by<'n>(
     requires numbers { AreNumbers (a.patterns automaton.now) numbers.now }
     ensures { IfOk result (λ v. (side : s.Side) (x : g.Grammar) → a.Stands side x automaton.now → IsMade v.items (λ k. Contains numbers.now k × IsMatched x (see.trees kids.now) k)) }
 {
-    let starts = firsts(alloc, automaton, numbers)?;
-    let first = memo.put(starts)?;
+    let first = put_firsts(alloc, automaton, memo, numbers)?;
     let ends = after_trees(alloc, automaton, memo, first, kids)?;
     reached(alloc, automaton, memo.set(ends), numbers)
 }

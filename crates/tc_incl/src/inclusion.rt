@@ -1,5 +1,5 @@
 // Whether one schema is included in another, and a least difference where it isn't.
-ghost use Rattle.std.specs.Prelude.{◌≡◌, ◌<◌, ◌≤◌, IfOk, IfErr, MatchOption};
+ghost use Rattle.std.specs.Prelude.{◌≡◌, ◌<◌, ◌≤◌, [], IfOk, IfErr, MatchOption};
 ghost use Rattle.tc_incl.specs.Answers.{IsAnswer, IsCause};
 ghost use Rattle.tc_incl.specs.Covers.{AreOf, IsFirstFailing, PassBefore, held_of};
 ghost use Rattle.tc_incl.specs.Schemas.{Schemas};
@@ -82,13 +82,14 @@ fn verdict<'b, K: Over>(
     covers: &Covers<'_, '_, K>,
     closed: &Closed,
     most: u32,
-) -> Result<Cover<'b>, NoMemory>
+) -> Result<Cover<'b>, InclFault>
     requires few { most < 4294967295 }
     requires alphabet { (x : Schemas) → K.is_of x → alphabet.now ≡ x.symbols }
     requires closure { settled.IsClosure (held_of K.is_of covers.now) closed.now }
     requires trees { (held_of K.is_of covers.now).trees ≤ most }
     requires hedges { (held_of K.is_of covers.now).hedges ≤ most }
-    ensures { IfOk result (λ c. (x : Schemas) → K.is_of x → IsAnswer x most c) }
+    ensures answer { IfOk result (λ c. (x : Schemas) → K.is_of x → IsAnswer x most c) }
+    ensures cause { IfErr result (λ e. (x : Schemas) → K.is_of x → IsCause x most e) }
 {
     covers.see();
     let hedges = covers.hedge_count();
@@ -99,7 +100,28 @@ fn verdict<'b, K: Over>(
     match build(arena, alphabet, covers, closed, tree) {
         Ok(node) => Ok(Cover::Not(node)),
         Err(BuildFault::TooManyNodes) => Ok(Cover::NotLarge),
-        Err(BuildFault::NoMemory) => Err(NoMemory),
+        Err(BuildFault::NoMemory) => Err(InclFault::NoMemory),
+    }
+}
+
+/// The answer by all rows, of which none is held yet.
+fn answered<'b, K: Over>(
+    arena: &'b Bump,
+    alloc: Global,
+    alphabet: &Alphabet,
+    covers: &mut Covers<'_, '_, K>,
+    most: u32,
+) -> Result<Cover<'b>, InclFault>
+    requires alphabet { (x : Schemas) → K.is_of x → alphabet.now ≡ x.symbols }
+    requires hedges { covers.old.hedges ≡ [] }
+    requires trees { covers.old.trees ≡ [] }
+    requires most { most < 4294967295 }
+    ensures answer { IfOk result (λ c. (x : Schemas) → K.is_of x → IsAnswer x most c) }
+    ensures cause { IfErr result (λ e. (x : Schemas) → K.is_of x → IsCause x most e) }
+{
+    match close(alloc, covers, most) {
+        Ok(closed) => verdict(arena, alphabet, covers, &closed, most),
+        Err(fault) => Err(cause(covers, most, fault)),
     }
 }
 
@@ -119,10 +141,9 @@ fn included_over<'b, K: Over>(
     ensures cause { IfErr result (λ e. (x : Schemas) → K.is_of x → IsCause x most e) }
 {
     let mut covers = Covers::<K>::new(alloc, first, second, alphabet)?;
-    match close(alloc, &mut covers, most) {
-        Ok(closed) => Ok(verdict(arena, alphabet, &covers, &closed, most)?),
-        Err(fault) => Err(cause(&covers, most, fault)),
-    }
+    let answer = answered(arena, alloc, alphabet, &mut covers, most);
+    drop(covers);
+    answer
 }
 
 /// Whether each document that is valid for a first schema is valid for a second, by the automata of their contents and

@@ -1,6 +1,7 @@
 // Kinds of symbols.
-ghost use Rattle.std.specs.Prelude.{◌≡◌, ◌<◌, IfOk, length};
+ghost use Rattle.std.specs.Prelude.{◌≡◌, ◌<◌, ◌⊎◌, ◌++◌, ◌∷◌, [], length, slice_get, Some, IfOk};
 ghost use Rattle.tc_incl.specs.Alike.{AreKinds, IsCopyAt};
+ghost use Rattle.tc_incl.specs.declared.rows.Row.{Row};
 
 use crate::rows::{Row, hold};
 use crate::sides::Side;
@@ -8,20 +9,29 @@ use indexmap::IndexSet;
 use std::alloc::Global;
 use tc_base::NoMemory;
 
-/// The element patterns of two schemas whose classes hold a symbol.
-fn classes_of(first: &Side<'_, '_>, second: &Side<'_, '_>, symbol: u32) -> Result<Row, NoMemory>
+/// The kind of a symbol: the place, among rows that are held, of the element patterns of two schemas whose classes hold it.
+fn kind_of(
+    held: &mut IndexSet<Row>,
+    first: &Side<'_, '_>,
+    second: &Side<'_, '_>,
+    symbol: u32,
+) -> Result<u32, NoMemory>
     requires first { symbol < length first.now.allowed.items }
     requires second { symbol < length second.now.allowed.items }
-    ensures first { IfOk result (λ r. IsCopyAt first.now.allowed.items symbol r.first) }
-    ensures second { IfOk result (λ r. IsCopyAt second.now.allowed.items symbol r.second) }
+    requires room { length held.old.keys < 4294967295 }
+    ensures { IfOk result (λ u. (row : Row) × IsCopyAt first.now.allowed.items symbol row.first × IsCopyAt second.now.allowed.items symbol row.second × (slice_get held.new.keys u ≡ Some row)
+        × (((u < length held.old.keys) × (held.new.keys ≡ held.old.keys)) ⊎ ((u ≡ length held.old.keys) × (held.new.keys ≡ held.old.keys ++ row ∷ [])))) }
 {
     let of_first = first.allowing(symbol)?;
     let of_second = second.allowing(symbol)?;
-    Ok(Row {
-        text: false,
-        first: of_first,
-        second: of_second,
-    })
+    hold(
+        held,
+        Row {
+            text: false,
+            first: of_first,
+            second: of_second,
+        },
+    )
 }
 
 /// The kinds of so many symbols: those that the same classes of two schemas hold are of one.
@@ -39,8 +49,7 @@ pub(crate) fn kinds_of(
     let mut held = IndexSet::new(alloc);
     let mut kinds = Vec::new(alloc);
     for symbol in 0..symbols {
-        let row = classes_of(first, second, symbol)?;
-        let kind = hold(&mut held, row)?;
+        let kind = kind_of(&mut held, first, second, symbol)?;
         kinds.push(kind)?;
     }
     Ok(kinds)

@@ -1,6 +1,7 @@
 -- Several reads and several writes together, at bytes that a reader or a writer may tell.
-use Rattle.std.proofs.Common.{◌≡◌, ◌-◌, ℕ, List, [], ◌++◌, length, take, drop, arith, sym, ap, ◌∙◌, refl, append_assoc, append-nil, Option, None, Some}
+use Rattle.std.proofs.Common.{◌≡◌, ◌<◌, ◌+◌, ◌-◌, ℕ, List, [], ◌++◌, length, length-append, take, drop, arith, sym, ap, ◌∙◌, refl, append_assoc, append-nil, Option, None, Some}
 use Rattle.std.proofs.lemmas.Grind.{common_steps}
+use Rattle.std.specs.Option.{IfSome}
 use Rattle.std.specs.Io.KnownBytes.{Appends, Consumes, Keeps}
 
 pub consumes_nothing : (old : Option (List ℕ)) → Consumes old old []
@@ -18,6 +19,13 @@ consumes_kept None mid new a p q = tt
 consumes_kept (Some xs) None new a p q = absurd p
 consumes_kept (Some xs) (Some ys) None a p q = absurd q
 consumes_kept (Some xs) (Some ys) (Some zs) a p q = p ∙ ap (λ x. a ++ x) (sym q)
+
+-- two reads that gave more than n bytes together left more than n to read
+pub consumed_longer : (old mid new : Option (List ℕ)) (a b : List ℕ) (n : ℕ) → Consumes old mid a → Consumes mid new b → n < length a + length b → IfSome old (λ left. n < length left)
+consumed_longer None mid new a b n p q low = tt
+consumed_longer (Some xs) None new a b n p q low = absurd p
+consumed_longer (Some xs) (Some ys) None a b n p q low = absurd q
+consumed_longer (Some xs) (Some ys) (Some zs) a b n p q low = omega (arith, simp length-append at (ap length p), simp length-append at (ap length q))
 
 pub appends_nothing : (old : Option (List ℕ)) → Appends old old []
 appends_nothing None = tt

@@ -73,3 +73,13 @@ composed_back n na nb len ma mb a b la lb kept lent new va vb ea eb ta tb pa pb 
     (composed n a b new (subst (λ v. IsMatrix (matrix v a)) ea pa) (subst (λ v. IsMatrix (matrix v b)) eb pb) (same ∙ (ap length lends ∙ size))
     (subst (λ v. HasBits n new (λ x w p. (c : ℕ) × (c < words_a_row n) × Leads n v b c x w p)) ta
     (subst (λ v. HasBits n new (λ x w p. (c : ℕ) × (c < words_a_row n) × Leads n la v c x w p)) tb has)))))
+
+pub composed_whole : (n na nb len : ℕ) (a b la lb kept lent new : List ℕ) → na ≡ n → nb ≡ n → la ≡ a → lb ≡ b
+    → IsMatrix (matrix na a) → IsMatrix (matrix nb b) → lent ≡ kept → length lent ≡ len → length new ≡ length lent → length kept ≡ n * words_a_row n
+    → HasBits n new (λ x w p. (c : ℕ) × (c < words_a_row n) × Leads n la lb c x w p)
+    → IsMatrix (matrix n (take len (new ++ drop (length new) kept)))
+composed_whole n na nb len a b la lb kept lent new ea eb ta tb pa pb lends lens same size has =
+    subst (λ ws. IsMatrix (matrix n ws)) (sym (written_back kept new len (sym lens ∙ ap length lends) (same ∙ ap length lends)))
+    (composed_is_matrix n a b new (subst (λ v. IsMatrix (matrix v a)) ea pa) (subst (λ v. IsMatrix (matrix v b)) eb pb) (same ∙ (ap length lends ∙ size))
+    (subst (λ v. HasBits n new (λ x w p. (c : ℕ) × (c < words_a_row n) × Leads n v b c x w p)) ta
+    (subst (λ v. HasBits n new (λ x w p. (c : ℕ) × (c < words_a_row n) × Leads n la v c x w p)) tb has)))

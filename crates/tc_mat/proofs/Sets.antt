@@ -138,6 +138,16 @@ zeros_have_none n k words e i j h = by (cases_lt at k)
     by (inl l) = none (ap (λ ws. get_or ws at 0) e ∙ get_or-replicate k at 0 0 l)
     by (inr l) = none (ap (λ ws. get_or ws at 0) e ∙ get_or_past (replicate k 0) at 0 (omega (arith, length-replicate {A = ℕ} k 0)))
 
+-- words that are all zero are a matrix, where the rows are whole
+pub zeros_are_matrix : (n : ℕ) (words : List ℕ) → words ≡ replicate (n * words_a_row n) 0 → IsMatrix (matrix n words)
+zeros_are_matrix n words e = record {
+  whole = ap length e ∙ length-replicate {A = ℕ} (n * words_a_row n) 0;
+  padding = λ x w p hx hw out. ap (λ v. bit_at v p) (zero x w hx hw) ∙ bit_at-zero p;
+}
+  where
+    zero : (x w : ℕ) → x < n → w < words_a_row n → get_or words (x * words_a_row n + w) 0 ≡ 0
+    zero x w hx hw = ap (λ ws. get_or ws (x * words_a_row n + w) 0) e ∙ get_or-replicate (n * words_a_row n) (x * words_a_row n + w) 0 0 (omega (arith, mul-add-lt x (words_a_row n) w n hx hw))
+
 -- the test of a bit is the test of its pair
 pub has_by_bit : (T : Type 0) (m : Matrix) (n w i j : ℕ) (words kept : List ℕ) → matrix n kept ≡ m → words ≡ kept → w ≡ words_a_row n
     → i < m.size → j < m.size → T ↔ (bit_at (get_or words (i * w + j / 64) 0) (j % 64) ≡ 1) → T ↔ HasPair m i j

@@ -18,7 +18,7 @@ use tc_base::NoMemory;
 /// A set of pairs of numbers below its size.
 ///
 /// The bit of the pair (i, j) stands in row i, word j / 64, place j % 64; all other bits are zero.
-#[derive(Debug, Drop)]
+#[derive(Drop)]
 pub struct Mat {
     n: u32,
     rows: Vec<u64>,

@@ -13,7 +13,7 @@ use std::marker::Model;
 const MOST: usize = 65536;
 
 /// The number of a matrix in its pool, counted from 0 in the order in which they were first held.
-#[derive(Clone, Copy, Debug, PartialEq, Eq, PartialOrd, Ord, Hash)]
+#[derive(Clone, Copy, Debug, PartialEq, Eq)]
 pub struct MatId(pub u32);
 
 /// Why a pool doesn't take a matrix.

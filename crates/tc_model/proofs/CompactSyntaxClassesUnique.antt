@@ -7,7 +7,7 @@ use Rattle.tc_model.specs.XmlTextScopes.{uri_of}
 use Rattle.tc_model.specs.CompactSyntaxTrees.{SyntaxClass, of_name, of_namespace, any_name, one_of, SyntaxClasses, no_class, class}
 use Rattle.tc_model.specs.CompactSyntaxTokens.{Word, a_name, escaped, prefixed, all_of, literal, long_literal, mark, Token}
 use Rattle.tc_model.specs.CompactSyntaxPatterns.{is_datum}
-use Rattle.std.proofs.lemmas.Bool.{false≢true}
+use Rattle.std.proofs.lemmas.Bool.{false≢true, eq-eqb}
 use Rattle.std.proofs.lemmas.Slice.Eq.{bytes_eq-Decides}
 use Rattle.tc_model.specs.CompactSyntaxNames.{is_keyword, IsMark, identifier, identifier_or_keyword, IsLiteral, bound_to, DeclarationAt, namespace, default_namespace, both, datatypes, name_in, LacksMark, ClassAt, alone, several, ClassesAt, last, more, SimpleAt, name, whole_namespace, any, parentheses, ExceptAt, nothing, except}
 
@@ -16,6 +16,10 @@ same_some p q = cc
 
 pub some_none : {X : Type 0} {c : X} {o : Option X} → o ≡ Some c → o ≡ None → ⊥
 some_none p q = cc
+
+-- one number isn't two
+pub apart : {n k l : ℕ} → n ≡ k → n ≡ l → (k == l) ≡ false → ⊥
+apart {n} {k} {l} e f differ = false≢true (sym differ ∙ eq-eqb k l (sym e ∙ f))
 
 -- the first of equal tokens, and the others
 head : Token → List Token → Token
@@ -178,7 +182,7 @@ declaration_unique (both a' b' c' d' e' f' g') (default_namespace a b c d e) = a
 declaration_unique {scope} (both {uri = u} a b c d e f g) (both {prefix = q} a' b' c' d' e' f' g') =
     (ap (λ p. bound_to [] u ∷ bound_to p u ∷ scope) (same_some c c') ∙ ap (λ w. bound_to [] w ∷ bound_to q w ∷ scope) (literal_unique e e'), refl)
 declaration_unique (datatypes a b c d) (datatypes a' b' c' d') = (refl, refl)
-declaration_unique a b = absurd (omega (arith, declared_kind a, declared_kind b))
+declaration_unique a b = absurd (apart (declared_kind a) (declared_kind b) refl)
 
 -- what begins with a word in a name class: 1 a name, 2 a namespace, 40 a parenthesis, 42 an asterisk
 unfoldable pub simple_word : Word → ℕ
@@ -257,7 +261,7 @@ mutual
       (ap (λ z. of_namespace t.place z x) same ∙ ap (of_namespace t.place v) rest.0, rest.1)
   simple_unique (any {t = t} a m) (any b n) = let rest = except_unique m n in (ap (any_name t.place) rest.0, rest.1)
   simple_unique (parentheses a m b) (parentheses a' n b') = let both = class_unique m n in (both.0, same_tail both.1)
-  simple_unique a b = absurd (omega (arith, simple_is a, simple_is b))
+  simple_unique a b = absurd (apart (simple_is a) (simple_is b) refl)
 
   pub except_unique : {scope : List Bound} {d d' : ℕ} {ts r s : List Token} {c k : SyntaxClasses} → ExceptAt scope d ts c r → ExceptAt scope d' ts k s → (c ≡ k) × (r ≡ s)
   except_unique (nothing h) (nothing k) = (refl, refl)

@@ -17,7 +17,7 @@ use Rattle.tc_model.specs.CompactSyntaxUnread as u
 use Rattle.tc_model.specs.CompactSyntaxStops as st
 use Rattle.tc_model.specs.CompactSyntaxStops.{ClassStops, SimpleStops, BalancedStops, BracedTextStops, PatternStops, ItemsStop, PrimaryStops, EnclosedStops, DefinitionsStop, DefinitionStops, BlockStops, BeginsDefinition}
 use Rattle.tc_model.specs.CompactSyntaxRefusedLaws.{Excludes}
-use Rattle.tc_model.proofs.CompactSyntaxClassesUnique.{some_none, same_tail, keyword_kind, word_kind, kind_at, element_kind, attribute_kind, mixed_kind, start_kind, div_kind, identifier_kind, simple_word, simple_at, simple_rule, simple_is, lacks_no, simple_unique, class_unique}
+use Rattle.tc_model.proofs.CompactSyntaxClassesUnique.{apart, some_none, same_tail, keyword_kind, word_kind, kind_at, element_kind, attribute_kind, mixed_kind, start_kind, div_kind, identifier_kind, simple_word, simple_at, simple_rule, simple_is, lacks_no, simple_unique, class_unique}
 use Rattle.tc_model.proofs.CompactSyntaxUnique.{no_braces, balanced_unique, lacks_connector, same_connector, rule, primary_kind, item_unique, pattern_unique, operator_unique, definition_unique, definitions_unique, brace_kind, no_definition_at_brace, no_definition_at_end}
 use Rattle.tc_model.proofs.CompactSyntaxBehind.{item_with, pattern_with, definition_with, definitions_with}
 use Rattle.tc_model.proofs.CompactSyntaxUnread.{name_no_mark, unread_kind}
@@ -92,7 +92,7 @@ mutual
   simple_excludes (n.parentheses a l b) (st.deep a') x = not_so_deep x
   simple_excludes {r = r} (n.parentheses a l b) (st.inside a' q) x = class_excludes l q (excludes_inside r x)
   simple_excludes (n.parentheses a l b) (st.unclosed a' l' h y) x = lacks_no h (class_unique l' l).1 b
-  simple_excludes a b x = absurd (omega (arith, simple_is a, simple_stops_at b))
+  simple_excludes a b x = apart (simple_is a) (simple_stops_at b) refl
 
   except_excludes : {end : End} {scope : List Bound} {d m : ℕ} {o : Bool} {t : Token} {ts after : List Token} {cs : SyntaxClasses} {r : Refusal} → IsMark 0x2D t → ExceptAt scope d (t ∷ ts) cs after
       → SimpleStops end scope m ts r → Excluding r m o d → ⊥
@@ -269,7 +269,7 @@ mutual
       braced_text_excludes k b (subst (λ z. BracedTextStops end m z r) (class_unique l' l).1 q) x
   primary_excludes (p.a_mixed a k b g) (st.mixed_content a' q) x = enclosed_excludes k b g (λ i y z. pattern_excludes b y z) q x
   primary_excludes (p.parentheses a b g) (st.parentheses a' q) x = enclosed_excludes a b g (λ i y z. pattern_excludes b y z) q x
-  primary_excludes a b x = absurd (omega (arith, primary_kind a, primary_stops_at b))
+  primary_excludes a b x = apart (primary_kind a) (primary_stops_at b) refl
 
 -- Definitions.
 

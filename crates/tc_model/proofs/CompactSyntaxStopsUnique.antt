@@ -8,7 +8,7 @@ use Rattle.tc_model.specs.CompactSyntaxUnread.{Refusal, End, NoPattern, NoDefini
 use Rattle.tc_model.specs.CompactSyntaxUnread as u
 use Rattle.tc_model.specs.CompactSyntaxStops as st
 use Rattle.tc_model.specs.CompactSyntaxStops.{ClassStops, SimpleStops, BalancedStops, BracedTextStops, PatternStops, ItemsStop, PrimaryStops, EnclosedStops, BeginsDefinition, DefinitionsStop, DefinitionStops, BlockStops, UriStops, no_equals, no_namespace_name, PrefixStops, no_prefix, uri, DeclarationStops, namespace_prefix, namespace_bound, datatypes_prefix, default_word, default_uri, default_bound, both_prefix, both_bound, BeginsDefinitions, BeginsOnePattern, GoesOnAsPattern, SchemaStops, in_declaration, past_declaration, in_grammar, inner_grammar, past_grammar, in_definitions, past_definitions, in_pattern, past_pattern}
-use Rattle.tc_model.proofs.CompactSyntaxClassesUnique.{same_some, some_none, same_tail, kind_at, word_kind, keyword_kind, namespace_kind, default_kind, datatypes_kind, grammar_kind, start_kind, div_kind, identifier_kind, simple_word, simple_at, simple_unique, class_unique, declaration_unique}
+use Rattle.tc_model.proofs.CompactSyntaxClassesUnique.{apart, same_some, some_none, same_tail, kind_at, word_kind, keyword_kind, namespace_kind, default_kind, datatypes_kind, grammar_kind, start_kind, div_kind, identifier_kind, simple_word, simple_at, simple_unique, class_unique, declaration_unique}
 use Rattle.tc_model.proofs.CompactSyntaxClassesUnique as q
 use Rattle.tc_model.proofs.CompactSyntaxUnique.{balanced_unique, same_connector, item_unique, pattern_unique, operator_unique, definition_unique, definitions_unique}
 use Rattle.tc_model.proofs.CompactSyntaxUnread.{unexpected_unique, unexpected_one, no_pattern_unique, no_definition_unique, no_namespace_name_unique}
@@ -46,7 +46,7 @@ mutual
   simple_once {r = r} (st.inside {deepest = m} a y) (st.unclosed b l h z) = absurd (class_excludes l y (excludes_same r m))
   simple_once {v = v} (st.unclosed b l h z) (st.inside {deepest = m} a y) = absurd (class_excludes l y (excludes_same v m))
   simple_once (st.unclosed a l h y) (st.unclosed b l' h' z) = unexpected_one (class_unique l l').1 y z
-  simple_once a b = absurd (omega (arith, simple_stops_at a, simple_stops_at b))
+  simple_once a b = absurd (apart (simple_stops_at a) (simple_stops_at b) refl)
 
 -- The text of an attribute.
 
@@ -125,7 +125,7 @@ mutual
       braced_text_once y (subst (λ w. BracedTextStops end m w v) (sym (class_unique l l').1) z)
   primary_once (st.mixed_content a y) (st.mixed_content b z) = enclosed_once y z
   primary_once (st.parentheses a y) (st.parentheses b z) = enclosed_once y z
-  primary_once a b = absurd (omega (arith, primary_stops_at a, primary_stops_at b))
+  primary_once a b = absurd (apart (primary_stops_at a) (primary_stops_at b) refl)
 
   enclosed_once : {end : End} {scope : List Bound} {left right m : ℕ} {ts : List Token} {r v : Refusal} → EnclosedStops end scope left right m ts r → EnclosedStops end scope left right m ts v → r ≡ v
   enclosed_once (st.no_mark h y) (st.no_mark k z) = unexpected_unique y z
@@ -251,7 +251,7 @@ declaration_once (both_bound a' b' d e f h n z) (default_uri a b c y) = absurd (
 declaration_once (both_bound a' b' e f g k m z) (default_bound a b c d h n y) = absurd (q.no_equals c e)
 declaration_once (both_bound a' b' c d e k n z) (both_prefix a b h y) = absurd (read_prefix c d k y)
 declaration_once (both_bound a b c d e h n y) (both_bound a' b' c' d' e' h' n' z) = unexpected_unique y z
-declaration_once a b = absurd (omega (arith, declaration_stops_at a, declaration_stops_at b))
+declaration_once a b = absurd (apart (declaration_stops_at a) (declaration_stops_at b) refl)
 
 -- Schemas, by what they begin with: 1 a declaration, 2 a grammar, 3 definitions, 4 a pattern.
 
@@ -378,4 +378,4 @@ schema_once (in_pattern b y) (in_pattern c z) = pattern_once y z
 schema_once {m = m} {r = r} (in_pattern b y) (past_pattern c l z) = absurd (pattern_excludes l y (excludes_same r m))
 schema_once {m = m} {v = v} (past_pattern c l z) (in_pattern b y) = absurd (pattern_excludes l y (excludes_same v m))
 schema_once (past_pattern b l y) (past_pattern c l' z) = unexpected_one (pattern_unique l l').1 y z
-schema_once a b = absurd (omega (arith, begins_same (begins_as a) (begins_as b)))
+schema_once a b = absurd (apart refl (begins_same (begins_as a) (begins_as b)) refl)

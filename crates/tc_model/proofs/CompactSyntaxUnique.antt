@@ -9,7 +9,7 @@ use Rattle.tc_model.specs.CompactSyntaxNames.{IsMark, identifier}
 use Rattle.tc_model.specs.CompactSyntaxPatterns.{Connector, joined_by, connector_of, connector_at, Suffix, suffixed, suffix_of, suffix_at, BalancedAt, closed, nested, other, PatternAt, alone, several, ItemsAt, last, and_more, ItemAt, bare, with_suffix, PrimaryAt, an_element, an_attribute, a_mixed, an_empty, a_text, a_not_allowed, reference, parentheses, a_datum}
 use Rattle.tc_model.specs.CompactSyntax.{OperatorAt, equals, bar_equals, ampersand_equals, one_definition, DefinitionAt, of_start, of_name, div, DefinitionsAt, at_end, at_brace, more, SchemaAt, declaration, one_pattern, definitions, grammar, Spells}
 use Rattle.tc_model.proofs.CompactSyntaxTokensUnique.{tokens_unique}
-use Rattle.tc_model.proofs.CompactSyntaxClassesUnique.{same_some, some_none, same_head, same_tail, word_kind, kind_at, element_kind, attribute_kind, mixed_kind, empty_kind, text_kind, not_allowed_kind, start_kind, div_kind, grammar_kind, identifier_kind, datum_kind, declaration_kind, declaration_unique, class_unique}
+use Rattle.tc_model.proofs.CompactSyntaxClassesUnique.{apart, same_some, some_none, same_head, same_tail, word_kind, kind_at, element_kind, attribute_kind, mixed_kind, empty_kind, text_kind, not_allowed_kind, start_kind, div_kind, grammar_kind, identifier_kind, datum_kind, declaration_kind, declaration_unique, class_unique}
 
 unfoldable pub mark_in : Word → ℕ
 mark_in (mark c) = c
@@ -127,7 +127,7 @@ mutual
   primary_unique (reference {t = t} a) (reference b) = (ap (λ n. ref n t.place) (same_some a b), refl)
   primary_unique (parentheses a m b) (parentheses a' m' b') = let inner = pattern_unique m m' in (inner.0, same_tail inner.1)
   primary_unique (a_datum h a) (a_datum k b) = (refl, refl)
-  primary_unique a b = absurd (omega (arith, primary_kind a, primary_kind b))
+  primary_unique a b = absurd (apart (primary_kind a) (primary_kind b) refl)
 
 -- how an operator begins
 unfoldable pub operator_mark : {ts r : List Token} {j : Joins} → OperatorAt ts j r → ℕ
@@ -150,7 +150,7 @@ unfolding operator_mark
 operator_unique (equals e) (equals f) = (refl, refl)
 operator_unique (bar_equals a b c) (bar_equals e f g) = (refl, refl)
 operator_unique (ampersand_equals a b c) (ampersand_equals e f g) = (refl, refl)
-operator_unique a b = absurd (omega (arith, operator_is a, operator_is b))
+operator_unique a b = absurd (apart (operator_is a) (operator_is b) refl)
 
 -- the kind of a definition by its rule
 unfoldable pub defines : {o : Bool} {scope : List Bound} {d : ℕ} {ts r : List Token} {ds : List Definition} → DefinitionAt o scope d ts ds r → ℕ
@@ -198,7 +198,7 @@ mutual
       let both = pattern_unique m (subst (λ z. PatternAt o scope d' z q s) (sym operators.1) n) in
       (one_is t.place (same_some a b) operators.0 both.0, both.1)
   definition_unique (div a b m c) (div a' b' m' c') = let inner = definitions_unique m m' in (inner.0, same_tail inner.1)
-  definition_unique a b = absurd (omega (arith, definition_kind a, definition_kind b))
+  definition_unique a b = absurd (apart (definition_kind a) (definition_kind b) refl)
 
   pub definitions_unique : {o : Bool} {scope : List Bound} {d d' : ℕ} {ts r s : List Token} {ds es : List Definition} → DefinitionsAt o scope d ts ds r → DefinitionsAt o scope d' ts es s → (ds ≡ es) × (r ≡ s)
   definitions_unique at_end at_end = (refl, refl)

@@ -9,3 +9,4 @@ pub mod PhraseLaws
 pub mod Refusals
 pub mod PriorityLaws
 pub mod AttributeLoops
+pub mod ReasonLaws

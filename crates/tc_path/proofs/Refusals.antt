@@ -1,5 +1,5 @@
 -- What the fault of a text says of it.
-use Rattle.std.proofs.Common.{◌≡◌, ◌⊎◌, inl, inr, ℕ, ◌<◌, List, ◌∷◌, refl, ap, ◌∙◌, sym, subst, max, Option, None, Some, Result, Ok, Err, IfErr}
+use Rattle.std.proofs.Common.{◌≡◌, ◌⊎◌, inl, inr, ℕ, ◌<◌, List, ◌∷◌, refl, ap, ◌∙◌, sym, subst, max, Option, None, Some, Result, Ok, Err, IfErr, IfOk}
 use Rattle.std.specs.Result.{IsErrAnd}
 use Rattle.tc_base.specs.declared.reasons.Why.{Why}
 use Rattle.tc_base.specs.declared.reasons.Why.TheVariants.{Arithmetic, VariableReference, StringLiteral}
@@ -108,3 +108,10 @@ module _ (c : Context) (text : List ℕ) where
 pub same_error : {T : Type 0} (P : PathFault → Type 0) (r : Result T PathFault) (x : PathFault) → IsErrAnd r (λ e. e ≡ x) → P x → IfErr r P
 same_error P (Ok v) x h a = tt
 same_error P (Err e) x h a = subst P (sym h) a
+
+pub failed_ok : {T : Type 0} (r : Result T PathFault) (P : T → Type 0) (x : PathFault) → IsErrAnd r (λ e. e ≡ x) → IfOk r P
+failed_ok (Ok v) P x h = absurd h
+failed_ok (Err e) P x h = tt
+
+pub no_memory : (e : PathFault) (P : Type 0) → e ≡ NoMemory → OrNoMemory e P
+no_memory e P h = subst (λ w. OrNoMemory w P) (sym h) tt

@@ -14,8 +14,6 @@ use Rattle.tc_model.proofs.XmlTextPhrases.{same_others, ncname_unique}
 use Rattle.tc_model.proofs.PathTextLexing.{token_unique, no_token}
 use Rattle.tc_base.specs.Characters.{is_white}
 use Rattle.tc_path.specs.declared.token.Token.{Token as CodeToken}
-use Rattle.tc_path.specs.declared.token.Token.TheVariants as code_tokens
-use Rattle.tc_scan.specs.declared.names.QualifiedName.{QualifiedName as CodeName}
 use Rattle.tc_path.specs.Views.{token}
 use Rattle.tc_path.specs.NameTokens.{NameTokenAt, unprefixed, prefixed, with_star, VariableAt}
 
@@ -203,11 +201,3 @@ match_map (Some x) f g h = g x h
 pub no_length : {X : Type 0} (xs : List X) → length xs ≡ 0 → xs ≡ []
 no_length [] e = refl
 no_length (x ∷ xs) e = absurd (omega arith)
-
-pub word_first : (ts rest : List CodeToken) (first : CodeToken) (n : CodeName) (word : List ℕ) → ts ≡ first ∷ rest → first ≡ code_tokens.Name n → (length n.prefix.now == 0) ≡ true → n.local.now ≡ word
-    → map token ts ≡ name (record { prefix = []; local = word }) ∷ map token rest
-word_first ts rest first n word e f g h =
-    ap (map token) e
-    ∙ (ap (λ w. token w ∷ map token rest) f
-    ∙ (ap (λ (w : List ℕ). name (record { prefix = w; local = n.local.now }) ∷ map token rest) (no_length n.prefix.now (eqb-true (length n.prefix.now) 0 g))
-    ∙ ap (λ (w : List ℕ). name (record { prefix = []; local = w }) ∷ map token rest) h))

@@ -29,20 +29,15 @@ pub(crate) fn after_digits(text: &str) -> &str
     &text[count..]
 }
 
-/// What follows the literal in quotes at the front (XML 1.0, 2.3).
-pub(crate) fn after_literal(text: &str) -> Option<&str>
-    ensures { MatchOption result ((value after : List ℕ) → xml.LiteralAt text.now value after → ⊥) (λ r. (value : List ℕ) × xml.LiteralAt text.now value r.now) }
-{
-    let (_, rest) = literal(text)?;
-    Some(rest)
-}
-
-/// The literal in quotes at the front, and what follows it.
-fn literal(text: &str) -> Option<(&str, &str)>
+/// The literal in quotes at the front, and what follows it (XML 1.0, 2.3).
+pub(crate) fn literal(text: &str) -> Option<(&str, &str)>
     ensures { MatchOption result ((value after : List ℕ) → xml.LiteralAt text.now value after → ⊥) (λ r. xml.LiteralAt text.now r.0.now r.1.now) }
 {
     if let Some(inside) = after_byte(text, b'"') {
         return up_to(inside, "\"");
     }
-    up_to(after_byte(text, b'\'')?, "'")
+    match after_byte(text, b'\'') {
+        Some(inside) => up_to(inside, "'"),
+        None => None,
+    }
 }

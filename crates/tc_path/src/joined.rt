@@ -65,7 +65,10 @@ pub(crate) fn after_separator<'a, 't>(tokens: &'a [Token<'t>]) -> Option<(bool, 
 {
     match after_mark(tokens, Mark::Slash) {
         Some(rest) => Some((false, rest)),
-        None => Some((true, after_mark(tokens, Mark::Slashes)?)),
+        None => match after_mark(tokens, Mark::Slashes) {
+            Some(rest) => Some((true, rest)),
+            None => None,
+        },
     }
 }
 
@@ -76,7 +79,10 @@ pub(crate) fn after_open_call<'a, 't>(
 ) -> Option<&'a [Token<'t>]>
     ensures { MatchOption result ((r : List path.Token) → (tokens_of tokens.now) ≡ p.word word.now ∷ path.mark path.open_parenthesis ∷ r → ⊥) (λ rest. (tokens_of tokens.now) ≡ p.word word.now ∷ path.mark path.open_parenthesis ∷ tokens_of rest.now) }
 {
-    after_mark(after_word(tokens, word)?, Mark::OpenParenthesis)
+    match after_word(tokens, word) {
+        Some(rest) => after_mark(rest, Mark::OpenParenthesis),
+        None => None,
+    }
 }
 
 /// Puts these steps behind the alternatives, unless they are dropped, and says whether they or others

@@ -11,6 +11,7 @@ ghost use Rattle.tc_scan.specs.Views.{written_name};
 ghost use Rattle.tc_path.specs.Faults.{OrNoMemory};
 
 use crate::PathFault;
+use crate::joined::after_open_call;
 use crate::token::{Mark, Token, after_mark, after_word, begins_with};
 use bumpalo::Bump;
 use tc_model::{Binding, Name, NodeTest};
@@ -43,15 +44,20 @@ fn namespace_of_name<'b>(scope: &[Binding<'b>], name: &QualifiedName<'_>) -> Opt
 pub(crate) fn after_call<'a, 't>(tokens: &'a [Token<'t>], word: &str) -> Option<&'a [Token<'t>]>
     ensures { MatchOption result ((r : List path.Token) → (tokens_of tokens.now) ≡ p.word word.now ∷ path.mark path.open_parenthesis ∷ path.mark path.close_parenthesis ∷ r → ⊥) (λ rest. (tokens_of tokens.now) ≡ p.word word.now ∷ path.mark path.open_parenthesis ∷ path.mark path.close_parenthesis ∷ tokens_of rest.now) }
 {
-    let inside = after_mark(after_word(tokens, word)?, Mark::OpenParenthesis)?;
-    after_mark(inside, Mark::CloseParenthesis)
+    match after_open_call(tokens, word) {
+        Some(inside) => after_mark(inside, Mark::CloseParenthesis),
+        None => None,
+    }
 }
 
 /// What follows `WORD::`.
 fn after_axis<'a, 't>(tokens: &'a [Token<'t>], word: &str) -> Option<&'a [Token<'t>]>
     ensures { MatchOption result ((r : List path.Token) → (tokens_of tokens.now) ≡ p.word word.now ∷ path.mark path.colons ∷ r → ⊥) (λ rest. (tokens_of tokens.now) ≡ p.word word.now ∷ path.mark path.colons ∷ tokens_of rest.now) }
 {
-    after_mark(after_word(tokens, word)?, Mark::Colons)
+    match after_word(tokens, word) {
+        Some(rest) => after_mark(rest, Mark::Colons),
+        None => None,
+    }
 }
 
 /// Whether a name before these tokens is a name test.
@@ -137,12 +143,16 @@ fn after_attribute_test<'a, 't>(
     let (first, rest) = tokens.split_first()?;
     match first {
         Token::AllOfPrefix(prefix) => {
-            namespace_of(scope, prefix)?;
-            Some(rest)
+            match namespace_of(scope, prefix) {
+                Some(_) => Some(rest),
+                None => None,
+            }
         }
         Token::Name(name) => {
-            namespace_of_name(scope, name)?;
-            Some(rest)
+            match namespace_of_name(scope, name) {
+                Some(_) => Some(rest),
+                None => None,
+            }
         }
         Token::Mark(_) | Token::Number | Token::Literal | Token::Variable => None,
     }
@@ -158,7 +168,10 @@ pub(crate) fn after_attribute<'a, 't>(
     if let Some(rest) = after_mark(tokens, Mark::At) {
         return after_attribute_test(scope, rest);
     }
-    after_attribute_test(scope, after_axis(tokens, "attribute")?)
+    match after_axis(tokens, "attribute") {
+        Some(rest) => after_attribute_test(scope, rest),
+        None => None,
+    }
 }
 
 /// What follows `comment()` or `processing-instruction()`.

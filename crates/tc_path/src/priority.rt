@@ -93,13 +93,13 @@ pub fn read_priority(text: &str) -> Option<i64>
 {
     let start = after_white(text);
     match after_byte(start, b'-') {
-        Some(rest) => {
-            let value = unsigned(after_white(rest))?;
-            Some(-(value as i64))
-        }
-        None => {
-            let value = unsigned(start)?;
-            Some(value as i64)
-        }
+        Some(rest) => match unsigned(after_white(rest)) {
+            Some(value) => Some(-(value as i64)),
+            None => None,
+        },
+        None => match unsigned(start) {
+            Some(value) => Some(value as i64),
+            None => None,
+        },
     }
 }

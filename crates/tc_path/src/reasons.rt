@@ -1,5 +1,5 @@
 // The constructs for which a text is refused by a reason of their own.
-ghost use Rattle.std.specs.Prelude.{◌≡◌, ◌<◌, ◌≤◌, ◌+◌, List, [], ◌∷◌, codes, length};
+ghost use Rattle.std.specs.Prelude.{◌≡◌, ◌<◌, ◌≤◌, ◌+◌, ◌||◌, List, [], ◌∷◌, codes, length};
 ghost use Rattle.tc_path.specs.Reasons as reasons;
 ghost use Rattle.tc_path.specs.Views.{mark, token, tokens_of};
 ghost use Rattle.tc_scan.specs.Views.{written_name};
@@ -30,17 +30,24 @@ enum Before {
 }
 
 /// Whether a name is this word, without a prefix.
-fn is_word(name: &QualifiedName<'_>, word: &str) -> bool
+pub(crate) fn is_word(name: &QualifiedName<'_>, word: &str) -> bool
     ensures { result ≡ reasons.is_word (written_name name.now) word.now }
 {
     name.prefix.is_empty() && name.local == word
+}
+
+/// Whether a name is one of these two words, without a prefix.
+fn is_either(name: &QualifiedName<'_>, word: &str, other: &str) -> bool
+    ensures { result ≡ (reasons.is_word (written_name name.now) word.now || reasons.is_word (written_name name.now) other.now) }
+{
+    is_word(name, word) || is_word(name, other)
 }
 
 /// Whether a name that follows an operand is an operator (XPath 1.0, 3.7).
 fn is_operator(name: &QualifiedName<'_>) -> bool
     ensures { result ≡ reasons.is_operator (written_name name.now) }
 {
-    is_word(name, "and") || is_word(name, "or") || is_word(name, "div") || is_word(name, "mod")
+    is_either(name, "and", "or") || is_either(name, "div", "mod")
 }
 
 /// What stands before the token that follows this one.
@@ -79,15 +86,12 @@ fn attribute_reason(context: Context, tokens: &[Token<'_>]) -> Option<Why>
 {
     match context {
         Context::Test | Context::Value => Some(Why::AttributeStep),
-        Context::Select | Context::Pattern => {
-            let (first, rest) = tokens.split_first()?;
-            match first {
-                Token::Name(_) | Token::AllOfPrefix(_) | Token::Mark(Mark::Star) => bracket_reason(
-                    rest,
-                ),
-                _ => None,
+        Context::Select | Context::Pattern => match tokens.split_first() {
+            Some((Token::Name(_) | Token::AllOfPrefix(_) | Token::Mark(Mark::Star), rest)) => {
+                bracket_reason(rest)
             }
-        }
+            _ => None,
+        },
     }
 }
 
@@ -95,8 +99,10 @@ fn attribute_reason(context: Context, tokens: &[Token<'_>]) -> Option<Why>
 fn bracket_reason(tokens: &[Token<'_>]) -> Option<Why>
     ensures { result ≡ reasons.bracket_reason (tokens_of tokens.now) }
 {
-    after_mark(tokens, Mark::OpenBracket)?;
-    Some(Why::Predicate)
+    match after_mark(tokens, Mark::OpenBracket) {
+        Some(_) => Some(Why::Predicate),
+        None => None,
+    }
 }
 
 /// The reason of an axis of this name, before these tokens (XPath 1.0, 2.2).
@@ -116,15 +122,17 @@ fn axis_reason(context: Context, name: &QualifiedName<'_>, tokens: &[Token<'_>])
 fn call_reason(context: Context, name: &QualifiedName<'_>, tokens: &[Token<'_>]) -> Option<Why>
     ensures { result ≡ reasons.call_reason context (written_name name.now) (tokens_of tokens.now) }
 {
-    if is_word(name, "comment") || is_word(name, "processing-instruction") {
-        return bracket_reason(after_mark(tokens, Mark::CloseParenthesis)?);
+    if is_either(name, "comment", "processing-instruction") {
+        return match after_mark(tokens, Mark::CloseParenthesis) {
+            Some(rest) => bracket_reason(rest),
+            None => None,
+        };
     }
-    if is_word(name, "text") || is_word(name, "node") {
+    if is_either(name, "text", "node") {
         return None;
     }
     match context {
-        Context::Test if is_word(name, "not") || is_word(name, "true") || is_word(name, "false") =>
-            None,
+        Context::Test if is_word(name, "not") || is_either(name, "true", "false") => None,
         _ => Some(Why::FunctionCall),
     }
 }
@@ -139,7 +147,7 @@ fn name_reason(
     ensures { result ≡ reasons.name_reason context before (written_name name.now) (tokens_of tokens.now) }
 {
     if let Before::Operand = before {
-        return if is_word(name, "div") || is_word(name, "mod") {
+        return if is_either(name, "div", "mod") {
             Some(Why::Arithmetic)
         } else {
             None
@@ -148,7 +156,10 @@ fn name_reason(
     if let Some(rest) = after_mark(tokens, Mark::Colons) {
         return axis_reason(context, name, rest);
     }
-    call_reason(context, name, after_mark(tokens, Mark::OpenParenthesis)?)
+    match after_mark(tokens, Mark::OpenParenthesis) {
+        Some(rest) => call_reason(context, name, rest),
+        None => None,
+    }
 }
 
 /// The reason of a `.` before these tokens.

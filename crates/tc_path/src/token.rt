@@ -6,7 +6,8 @@ ghost use Rattle.tc_path.specs.Faults.{OrNoMemory};
 ghost use Rattle.tc_path.specs.NameTokens.{NameTokenAt, VariableAt};
 
 use crate::PathFault;
-use crate::front::{after_digits, after_literal};
+use crate::front::{after_digits, literal};
+use crate::reasons::is_word;
 use bumpalo::Bump;
 use bumpalo::collections::into_bump_slice;
 use tc_scan::{QualifiedName, after_byte, after_white, begins, ncname, qname};
@@ -83,8 +84,10 @@ fn double_at(text: &str) -> Option<(Mark, &str)>
 {
     let (first, others) = text.as_bytes().split_first()?;
     let (second, _) = others.split_first()?;
-    let mark = double(*first, *second)?;
-    Some((mark, &text[2..]))
+    match double(*first, *second) {
+        Some(mark) => Some((mark, &text[2..])),
+        None => None,
+    }
 }
 
 /// The mark of one character at the front, and what follows it.
@@ -92,8 +95,10 @@ fn single_at(text: &str) -> Option<(Mark, &str)>
     ensures { MatchOption result ((a : ℕ) (after : List ℕ) → text.now ≡ a ∷ after → path.single_in path.singles a ≡ None) (λ r. (a : ℕ) × (text.now ≡ a ∷ r.1.now) × (path.single_in path.singles a ≡ Some (mark r.0))) }
 {
     let (first, _) = text.as_bytes().split_first()?;
-    let mark = single(*first)?;
-    Some((mark, &text[1..]))
+    match single(*first) {
+        Some(mark) => Some((mark, &text[1..])),
+        None => None,
+    }
 }
 
 /// The longest mark at the front, and what follows it.
@@ -148,21 +153,26 @@ fn name_token(text: &str) -> Option<(Token<'_>, &str)>
     if let Some(after) = after_byte(behind, b'*') {
         return Some((Token::AllOfPrefix(first), after));
     }
-    let (local, after) = ncname(behind)?;
-    let name = QualifiedName {
-        prefix: first,
-        local,
-    };
-    Some((Token::Name(name), after))
+    match ncname(behind) {
+        Some((local, after)) => {
+            let name = QualifiedName {
+                prefix: first,
+                local,
+            };
+            Some((Token::Name(name), after))
+        }
+        None => None,
+    }
 }
 
 /// What follows the variable reference at the front (XPath 1.0, 3.7).
 fn after_variable(text: &str) -> Option<&str>
     ensures { MatchOption result ((after : List ℕ) → VariableAt text.now after → ⊥) (λ r. VariableAt text.now r.now) }
 {
-    let name = after_byte(text, b'$')?;
-    let (_, after) = qname(name)?;
-    Some(after)
+    match qname(after_byte(text, b'$')?) {
+        Some((_, after)) => Some(after),
+        None => None,
+    }
 }
 
 /// The longest token at the front, and what follows it.
@@ -175,7 +185,7 @@ fn token_at(text: &str) -> Option<(Token<'_>, &str)>
     if let Some((mark, rest)) = mark_at(text) {
         return Some((Token::Mark(mark), rest));
     }
-    if let Some(rest) = after_literal(text) {
+    if let Some((_, rest)) = literal(text) {
         return Some((Token::Literal, rest));
     }
     if let Some(rest) = after_variable(text) {
@@ -209,9 +219,8 @@ pub(crate) fn after_mark<'a, 't>(tokens: &'a [Token<'t>], wanted: Mark) -> Optio
     ensures { MatchOption result ((r : List path.Token) → tokens_of tokens.now ≡ path.mark (mark wanted) ∷ r → ⊥)
         (λ rest. tokens_of tokens.now ≡ path.mark (mark wanted) ∷ tokens_of rest.now) }
 {
-    let (first, rest) = tokens.split_first()?;
-    match first {
-        Token::Mark(mark) if *mark == wanted => Some(rest),
+    match tokens.split_first() {
+        Some((Token::Mark(mark), rest)) if *mark == wanted => Some(rest),
         _ => None,
     }
 }
@@ -231,9 +240,11 @@ pub(crate) fn after_word<'a, 't>(tokens: &'a [Token<'t>], word: &str) -> Option<
     ensures { MatchOption result ((r : List path.Token) → tokens_of tokens.now ≡ path.name (record { prefix = []; local = word.now }) ∷ r → ⊥)
         (λ rest. tokens_of tokens.now ≡ path.name (record { prefix = []; local = word.now }) ∷ tokens_of rest.now) }
 {
-    let (first, rest) = tokens.split_first()?;
-    match first {
-        Token::Name(name) if name.prefix.is_empty() && name.local == word => Some(rest),
-        _ => None,
+    match tokens.split_first() {
+        Some((first, rest)) => match first {
+            Token::Name(name) if is_word(name, word) => Some(rest),
+            _ => None,
+        },
+        None => None,
     }
 }

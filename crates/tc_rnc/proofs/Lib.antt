@@ -6,6 +6,7 @@ pub mod AnswerLaws
 pub mod Escapes
 pub mod Constructs
 pub mod RefusalLaws
+pub mod UnreadLaws
 pub mod ScopeLaws
 pub mod ClassLaws
 pub mod DefinitionLaws

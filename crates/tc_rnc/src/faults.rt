@@ -150,20 +150,13 @@ pub fn unexpected(tokens: &[Token<'_>], end: End) -> RncFault
 fn unread_keyword(name: &str) -> Option<Why>
     ensures { result ≡ unread.unread_keyword name.now }
 {
-    if name == "string" {
-        Some(Why::DataPattern)
-    } else if name == "token" {
-        Some(Why::DataPattern)
-    } else if name == "list" {
-        Some(Why::ListPattern)
-    } else if name == "external" {
-        Some(Why::ExternalPattern)
-    } else if name == "grammar" {
-        Some(Why::NestedGrammar)
-    } else if name == "parent" {
-        Some(Why::ParentReference)
-    } else {
-        None
+    match name {
+        "string" | "token" => Some(Why::DataPattern),
+        "list" => Some(Why::ListPattern),
+        "external" => Some(Why::ExternalPattern),
+        "grammar" => Some(Why::NestedGrammar),
+        "parent" => Some(Why::ParentReference),
+        _ => None,
     }
 }
 

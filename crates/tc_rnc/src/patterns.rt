@@ -145,14 +145,14 @@ pub fn opened<'s, 't>(
     ensures depth { IfOk result (λ r. deepest ≡ suc r.1) }
     ensures no { IfErr result (Refuses (parts.OpeningStops (seen.end end) mark deepest (seen.tokens tokens.now))) }
 {
-    let Some((first, rest)) = first_of(tokens) else {
+    let Some((opening, rest)) = first_of(tokens) else {
         return Err(unexpected(tokens, end));
     };
-    if !first.is_mark(mark) {
+    if !opening.is_mark(mark) {
         return Err(unexpected(tokens, end));
     }
     if deepest == 0 {
-        return Err(RncFault::TooDeep(first.place));
+        return Err(RncFault::TooDeep(opening.place));
     }
     Ok((rest, deepest - 1))
 }

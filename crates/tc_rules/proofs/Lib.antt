@@ -6,7 +6,6 @@ pub mod Chosen
 pub mod States
 pub mod Compared
 pub mod Steps
-pub mod Looked
 pub mod RowSteps
 pub mod Fits
 pub mod Queries

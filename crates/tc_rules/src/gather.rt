@@ -10,7 +10,7 @@ ghost use Rattle.tc_model.specs.Sheets as s;
 ghost use Rattle.tc_model.specs.Symbols.{fresh_name, symbol_count};
 ghost use Rattle.tc_model.specs.WellFormed.{IsSheet, ForEach, eaches_of};
 ghost use Rattle.tc_rules.specs.Gathered.{bodies_with, built_in_moves, numbers, bodies as see_bodies};
-ghost use Rattle.tc_rules.specs.Jobs.{AreJobs, written_moves};
+ghost use Rattle.tc_rules.specs.Jobs.{AreJobs};
 ghost use Rattle.tc_rules.specs.Kept.{numbers_in_mode};
 ghost use Rattle.tc_rules.specs.Usages.{usages_in, usages_of, usages_of_rules, predicates_in_usage, looks_in_usage, moves_in_usage, eaches_in_usage};
 ghost use Rattle.tc_rules.specs.Views.{predicates, looks, moves, usage as see_usage, usages};
@@ -74,17 +74,6 @@ pub(crate) fn all_usages<'b>(alloc: Global, sheet: &Sheet<'b>) -> Result<Vec<Usa
     Ok(found)
 }
 
-/// The predicates of usages, as they are written.
-fn written_predicates<'b>(alloc: Global, used: &[Usage<'b>]) -> Result<Vec<&'b Test<'b>>, NoMemory>
-    ensures { IfOk result (λ v. predicates v.items ≡ flat_map predicates_in_usage (usages used.now)) }
-{
-    let mut found = Vec::new(alloc);
-    for usage in used {
-        predicates_in_usage(&mut found, usage)?;
-    }
-    Ok(found)
-}
-
 /// The predicates, each once, in their order.
 pub(crate) fn all_predicates<'b>(
     alloc: Global,
@@ -92,7 +81,10 @@ pub(crate) fn all_predicates<'b>(
 ) -> Result<Vec<&'b Test<'b>>, NoMemory>
     ensures { IfOk result (λ v. (x : s.Sheet) → usages used.now ≡ usages_of x → predicates v.items ≡ n.predicates_of x) }
 {
-    let found = written_predicates(alloc, used)?;
+    let mut found = Vec::new(alloc);
+    for usage in used {
+        predicates_in_usage(&mut found, usage)?;
+    }
     predicates_once(alloc, &found)
 }
 
@@ -117,22 +109,7 @@ fn moves_of_usages<'b>(found: &mut Vec<Move<'b>>, used: &[Usage<'b>]) -> Result<
     Ok(())
 }
 
-/// The moves as they are written: those of the built-in rules, of all rules, and of the named bodies.
-fn written_moves<'b>(
-    alloc: Global,
-    sheet: &Sheet<'b>,
-    used: &[Usage<'b>],
-) -> Result<Vec<Move<'b>>, NoMemory>
-    requires { usages used.now ≡ usages_of (see.sheet sheet.now) }
-    ensures { IfOk result (λ v. (k : ℕ) → moves k v.items ≡ written_moves k (see.sheet sheet.now)) }
-{
-    let mut found = Vec::new(alloc);
-    built_in_moves(&mut found, sheet.modes)?;
-    moves_of_usages(&mut found, used)?;
-    Ok(found)
-}
-
-/// The moves, each once, in their order.
+/// The moves, each once, in their order: those of the built-in rules, of all rules, and of the named bodies.
 pub(crate) fn all_moves<'b>(
     alloc: Global,
     sheet: &Sheet<'b>,
@@ -143,7 +120,9 @@ pub(crate) fn all_moves<'b>(
     ensures moves { IfOk result (λ v. moves sheet.now.modes v.items ≡ n.moves_of (see.sheet sheet.now)) }
     ensures jobs { IfOk result (λ v. AreJobs (see.sheet sheet.now) v.items) }
 {
-    let found = written_moves(alloc, sheet, used)?;
+    let mut found = Vec::new(alloc);
+    built_in_moves(&mut found, sheet.modes)?;
+    moves_of_usages(&mut found, used)?;
     moves_once(alloc, sheet.modes, &found)
 }
 
@@ -262,17 +241,6 @@ pub(crate) fn modes_of_rules(alloc: Global, sheet: &Sheet<'_>) -> Result<Vec<Vec
     Ok(lists)
 }
 
-/// So many empty bodies.
-fn no_bodies<'b>(alloc: Global, eaches: u32) -> Result<Vec<&'b [Instr<'b>]>, NoMemory>
-    ensures { IfOk result (λ v. length v.items ≡ eaches) }
-{
-    let mut bodies: Vec<&'b [Instr<'b>]> = Vec::new(alloc);
-    for _each in 0..eaches {
-        bodies.push(&[])?;
-    }
-    Ok(bodies)
-}
-
 /// Where a usage is that of a for-each, its body goes to its number.
 fn put_body<'b>(bodies: &mut Vec<&'b [Instr<'b>]>, usage: &Usage<'b>)
     requires { AllByRecursion (λ x. x.number < length bodies.old.items) (eaches_in_usage (see_usage usage.now)) }
@@ -295,7 +263,8 @@ pub(crate) fn all_eaches<'b>(
     ensures count { IfOk result (λ v. length v.items ≡ sheet.now.eaches) }
     ensures bodies { IfOk result (λ v. (f : ForEach) → Contains (eaches_of (see.sheet sheet.now)) f → slice_get (see_bodies v.items) f.number ≡ Some f.body) }
 {
-    let mut bodies = no_bodies(alloc, sheet.eaches)?;
+    let none: &'b [Instr<'b>] = &[];
+    let mut bodies = vec![in alloc; none; sheet.eaches as usize]?;
     for usage in used {
         put_body(&mut bodies, usage);
     }

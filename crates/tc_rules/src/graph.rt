@@ -98,7 +98,6 @@ impl<'a, 'b> Source<'a, 'b> {
     }
 
     /// Which steps have predicates in a set, set by set.
-    #[tactic(auto, using(crate::proofs::GraphRows::one_set))]
     fn marked(&self, path: &[&[Step<'_>]]) -> Result<Vec<Row>, NoMemory>
         ensures { IfOk result (λ w. seen.states w.items ≡ marked_by self.now.predicates.items (see.alternatives path.now) self.now.sets) }
     {
@@ -369,7 +368,6 @@ impl<'a, 'b> Source<'a, 'b> {
     }
 
     /// The numbers of the states to which a state leads, class by class.
-    #[tactic(auto, using(crate::proofs::GraphRows::numbered_class))]
     fn numbers_of_state(
         &self,
         path: &[&[Step<'_>]],
@@ -397,7 +395,6 @@ impl<'a, 'b> Source<'a, 'b> {
     }
 
     /// Where each state leads.
-    #[tactic(auto, using(crate::proofs::GraphRows::numbered_state))]
     fn numbers(
         &self,
         path: &[&[Step<'_>]],
@@ -416,7 +413,6 @@ impl<'a, 'b> Source<'a, 'b> {
     }
 
     /// The alternatives of which all steps but the last may have been taken, state by state.
-    #[tactic(auto, using(crate::proofs::HitRows::one_state_ending))]
     fn endings(&self, states: &IndexSet<Row>) -> Result<Vec<Vec<usize>>, NoMemory>
         ensures { IfOk result (λ w. seen.lists w.items ≡ seen.endings_of (seen.states states.now.keys)) }
     {

@@ -1,12 +1,11 @@
 // Predicates, looks and moves, each once.
-ghost use Rattle.std.specs.Prelude.{◌≡◌, ◌≤◌, ℕ, length, IfOk, OnOk};
+ghost use Rattle.std.specs.Prelude.{◌≡◌, ◌≤◌, ℕ, length, IfOk};
 ghost use Rattle.tc_model.specs.Numbered.{each_once, number_of};
 ghost use Rattle.tc_model.specs.Numberings.{same_move};
 ghost use Rattle.tc_model.specs.SameTests as same;
 ghost use Rattle.tc_model.specs.Views as see;
 ghost use Rattle.tc_model.specs.Sheets as s;
-ghost use Rattle.tc_rules.specs.Jobs.{AreJobs, IsJob};
-ghost use Rattle.tc_rules.specs.Once.{put_once};
+ghost use Rattle.tc_rules.specs.Jobs.{AreJobs};
 ghost use Rattle.tc_rules.specs.Views.{predicates, looks, moves, move as see_move, mode_of};
 
 use crate::same::{same_path, same_test};
@@ -14,17 +13,6 @@ use crate::walk::{Job, Move};
 use std::alloc::Global;
 use tc_base::NoMemory;
 use tc_model::{Path, Test};
-
-/// One more predicate, unless it is there.
-fn keep_test<'b>(kept: &mut Vec<&'b Test<'b>>, test: &'b Test<'b>) -> Result<(), NoMemory>
-    ensures { OnOk result (predicates kept.new.items ≡ put_once same.same_test (predicates kept.old.items) (see.test test.now)) }
-{
-    if number_of_test(kept, test) < kept.len() {
-        return Ok(());
-    }
-    kept.push(test)?;
-    Ok(())
-}
 
 /// The different predicates, in their order.
 pub(crate) fn predicates_once<'b>(
@@ -35,7 +23,9 @@ pub(crate) fn predicates_once<'b>(
 {
     let mut kept = Vec::new(alloc);
     for test in found {
-        keep_test(&mut kept, test)?;
+        if number_of_test(&kept, test) >= kept.len() {
+            kept.push(*test)?;
+        }
     }
     Ok(kept)
 }
@@ -53,17 +43,6 @@ pub(crate) fn number_of_test(numbered: &[&Test<'_>], test: &Test<'_>) -> usize
     numbered.len()
 }
 
-/// One more look, unless it is there.
-fn keep_path<'b>(kept: &mut Vec<&'b Path<'b>>, path: &'b Path<'b>) -> Result<(), NoMemory>
-    ensures { OnOk result (looks kept.new.items ≡ put_once same.same_path (looks kept.old.items) (see.path path.now)) }
-{
-    if number_of_path(kept, path) < kept.len() {
-        return Ok(());
-    }
-    kept.push(path)?;
-    Ok(())
-}
-
 /// The different looks, in their order.
 pub(crate) fn looks_once<'b>(
     alloc: Global,
@@ -73,7 +52,9 @@ pub(crate) fn looks_once<'b>(
 {
     let mut kept = Vec::new(alloc);
     for path in found {
-        keep_path(&mut kept, path)?;
+        if number_of_path(&kept, path) >= kept.len() {
+            kept.push(*path)?;
+        }
     }
     Ok(kept)
 }
@@ -110,19 +91,6 @@ fn same_job(modes: u32, a: &Move<'_>, b: &Move<'_>) -> bool
     mode == other && same_path(a.path, b.path)
 }
 
-/// One more move, unless it is there.
-#[tactic(auto, using(crate::proofs::JobsOf::one_more_job))]
-fn keep_move<'b>(modes: u32, kept: &mut Vec<Move<'b>>, other: &Move<'b>) -> Result<(), NoMemory>
-    ensures kept { OnOk result (moves modes kept.new.items ≡ put_once same_move (moves modes kept.old.items) (see_move modes other.now)) }
-    ensures jobs { OnOk result ((x : s.Sheet) → AreJobs x kept.old.items → IsJob x other.now.job → AreJobs x kept.new.items) }
-{
-    if number_of_move(modes, kept, other) < kept.len() {
-        return Ok(());
-    }
-    kept.push(*other)?;
-    Ok(())
-}
-
 /// The different moves, in their order.
 pub(crate) fn moves_once<'b>(
     alloc: Global,
@@ -134,7 +102,9 @@ pub(crate) fn moves_once<'b>(
 {
     let mut kept = Vec::new(alloc);
     for other in found {
-        keep_move(modes, &mut kept, other)?;
+        if number_of_move(modes, &kept, other) >= kept.len() {
+            kept.push(*other)?;
+        }
     }
     Ok(kept)
 }

@@ -112,7 +112,6 @@ pub(crate) fn no_fits(alloc: Global) -> Row
 }
 
 /// No step of an alternative is taken.
-#[tactic(auto, using(crate::proofs::RowSteps::first_step))]
 fn first_items(alloc: Global, steps: &[Step<'_>]) -> Result<Vec<bool>, NoMemory>
     ensures { IfOk result (λ w. w.items ≡ p.first_items (see.steps steps.now)) }
 {

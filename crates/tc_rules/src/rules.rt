@@ -49,18 +49,18 @@ const MOST_ANCESTORS: usize = 64;
 const MOST_SELECTS: usize = 4096;
 
 /// A set of predicates, to which the predicate of number i adds 2 to the power i.
-#[derive(Clone, Copy, Debug, PartialEq, Eq, PartialOrd, Ord, Hash)]
+#[derive(Clone, Copy)]
 pub struct Marks(pub u32);
 
 /// What a node test sees of a node: the symbol of an element, or that it is a text (XPath 1.0, 2.3).
-#[derive(Clone, Copy, Debug, PartialEq, Eq, Hash)]
+#[derive(Clone, Copy)]
 pub enum Kind {
     Elem(Sym),
     Text,
 }
 
 /// The rule of a node, by its number in the stylesheet, or that a built-in one is meant (XSLT 1.0, 5.8).
-#[derive(Clone, Copy, Debug, PartialEq, Eq, Hash)]
+#[derive(Clone, Copy, Debug, PartialEq, Eq)]
 pub enum Found {
     Rule(u32),
     BuiltIn,
@@ -179,7 +179,7 @@ impl<'b> Rules<'b> {
         ensures { (symbols : List Mention) → IsRulesOf symbols self.now → result + move_count (told self.now) ≡ select_count (told self.now) }
     {
         let all = self.start(self.graphs.len());
-        rest_of(all, self.moves())
+        all.saturating_sub(self.moves())
     }
 
     /// How many predicates there are.
@@ -250,7 +250,7 @@ impl<'b> Rules<'b> {
         let start = self.start(select.graph);
         let lead = graph.step(select.state, sym.0, marks.0);
         match lead {
-            Some(number) => Some(place_after(start, number)),
+            Some(number) => Some(start.saturating_add(number)),
             None => None,
         }
     }
@@ -417,20 +417,6 @@ impl<'b> Rules<'b> {
         }
         Some(self.start(place))
     }
-}
-
-/// The number that comes so many after a start.
-fn place_after(start: u32, number: u32) -> u32
-    ensures { start + number < 2 ^ 32 → result ≡ start + number }
-{
-    start.saturating_add(number)
-}
-
-/// How many are left without a part of them.
-fn rest_of(all: u32, part: u32) -> u32
-    ensures { part ≤ all → result + part ≡ all }
-{
-    all.saturating_sub(part)
 }
 
 /// The symbol of a kind, or that it is a text.

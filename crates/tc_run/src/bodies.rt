@@ -80,15 +80,12 @@ pub(crate) fn root<'b>(
     nodes: &'b [Lettered<'b>],
     string: &'b str,
     output: &mut Output<'b>,
-    known: &mut KnownRules,
 ) -> Result<(), RunFault>
     requires runner { IsRunner runner.now }
     requires nodes { IsLetteredBy runner.now (trees nodes.now) }
     requires string { string.now ≡ c.joined_texts (l.bare (trees nodes.now)) }
     requires work { output.old.work ≤ 4000000 }
-    requires known { AreFoundBy runner.now known.old }
     ensures few { OnOk result (output.new.work ≤ 4000000) }
-    ensures known { AreFoundBy runner.now known.new }
     ensures outcome { (bodies : List CallFreeBody) → HasBodies runner.now bodies → Answers 0 output.old output.new result
         (counted (does_at (machine runner.now bodies) ((machine runner.now bodies).root_body (in_mode 0)) (c.top (l.bare (trees nodes.now))))) }
 {
@@ -100,7 +97,10 @@ pub(crate) fn root<'b>(
     };
     let found = runner.rules.root_rule(0);
     let rule = template_of(runner, 0, found);
-    instantiate(runner, rule, &here, 0, output, known)
+    let mut known = KnownRules::new(runner.rules)?;
+    let done = instantiate(runner, rule, &here, 0, output, &mut known);
+    drop(known);
+    done
 }
 
 /// What a rule says, or the built-in ones in a mode.

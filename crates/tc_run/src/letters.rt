@@ -13,7 +13,7 @@ ghost use Rattle.tc_run.specs.Running.{IsRunner, IsLetteredBy, lettered_by, look
 ghost use Rattle.tc_run.specs.Views.{trees, before};
 
 use crate::known_names::KnownNames;
-use crate::predicates::{Asked, is_met};
+use crate::predicates::{Asked, all_asked, is_met};
 use crate::runner::Runner;
 use bumpalo::Bump;
 use bumpalo::collections::{into_bump_slice, into_bump_str};
@@ -38,8 +38,8 @@ pub(crate) enum Lettered<'b> {
 
 /// Trees with their letters, and what text stands after theirs.
 #[derive(Clone, Copy)]
-pub(crate) struct Below<'b> {
-    pub(crate) nodes: &'b [Lettered<'b>],
+struct Below<'b> {
+    nodes: &'b [Lettered<'b>],
     rest: &'b str,
 }
 
@@ -83,8 +83,27 @@ fn before_end<'b>(text: &'b str, end: &str) -> &'b str
     front
 }
 
+/// The trees of a document with their letters. Their text is given.
+pub(crate) fn lettered_document<'b>(
+    arena: &'b Bump,
+    runner: &Runner<'_, 'b>,
+    nodes: &[Node<'b>],
+    text: &'b str,
+) -> Result<&'b [Lettered<'b>], NoMemory>
+    requires runner { IsRunner runner.now }
+    requires text { text.now ≡ joined_texts (see.trees nodes.now) }
+    ensures { IfOk result (λ d. trees d.now ≡ lettered_by runner.now (see.trees nodes.now)) }
+{
+    let asked = all_asked(arena, runner)?;
+    let on_texts = marks(runner, asked, &[]);
+    let mut names = KnownNames::new(arena)?;
+    let document = with_letters(arena, runner, asked, nodes, text, on_texts, &mut names);
+    drop(names);
+    Ok(document?.nodes)
+}
+
 /// Trees with their letters. Their text stands in front of the one given, and which predicates hold on a text is given, too.
-pub(crate) fn with_letters<'b>(
+fn with_letters<'b>(
     arena: &'b Bump,
     runner: &Runner<'_, '_>,
     asked: &[Asked<'_>],
@@ -105,18 +124,19 @@ pub(crate) fn with_letters<'b>(
     let mut found = Vec::with_capacity(arena, nodes.len())?;
     let mut rest = text;
     for node in nodes {
-        match node {
+        let tree = match node {
             Node::Text(piece) => {
                 rest = after(rest, piece);
-                found.push(Lettered::Text(*piece, on_texts))?;
+                Lettered::Text(*piece, on_texts)
             }
             Node::Elem(name, kids) => {
                 let below = with_letters(arena, runner, asked, kids, rest, on_texts, names)?;
                 let string = before_end(rest, below.rest);
                 rest = below.rest;
-                found.push(lettered_element(runner, asked, names, name, string, below.nodes))?;
+                lettered_element(runner, asked, names, name, string, below.nodes)
             }
-        }
+        };
+        found.push(tree)?;
     }
     Ok(Below {
         nodes: into_bump_slice(found),

@@ -22,16 +22,14 @@ mod runner;
 
 use bodies::root;
 use bumpalo::Bump;
-use known_names::KnownNames;
-use letters::{marks, text_of, with_letters};
+use letters::{lettered_document, text_of};
 use output::Output;
-use predicates::all_asked;
 use runner::Runner;
 use std::slice::from_ref;
 use tc_alpha::Alphabet;
 use tc_base::NoMemory;
 use tc_model::{Node, normalise};
-use tc_rules::{KnownRules, Rules};
+use tc_rules::Rules;
 
 /// Why there is no result. Where both limits are passed, either may be told.
 #[derive(Clone, Copy, Debug, PartialEq, Eq)]
@@ -80,12 +78,8 @@ pub fn run<'b>(
     let nodes = from_ref(doc);
     let text = text_of(arena, nodes)?;
     let runner = Runner { rules, alphabet };
-    let asked = all_asked(arena, &runner)?;
-    let on_texts = marks(&runner, asked, &[]);
-    let mut names = KnownNames::new(arena)?;
-    let document = with_letters(arena, &runner, asked, nodes, text, on_texts, &mut names)?;
-    let mut known = KnownRules::new(rules)?;
+    let document = lettered_document(arena, &runner, nodes, text)?;
     let mut output = Output::new(arena);
-    root(&runner, document.nodes, text, &mut output, &mut known)?;
+    root(&runner, document, text, &mut output)?;
     Ok(normalise(arena, &output.nodes)?)
 }

@@ -29,7 +29,7 @@ pub fn first_char(text: &str) -> Option<(char, &str)>
 pub fn is_ncname_start(c: char) -> bool
     ensures { result ≡ names.is_ncname_start c }
 {
-    c != ':' && is_name_start(c)
+    is_name_start(c) && c != ':'
 }
 
 /// Whether an NCName may hold this character.

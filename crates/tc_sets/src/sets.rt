@@ -16,7 +16,7 @@ use tc_base::NoMemory;
 /// A set of numbers below its size.
 ///
 /// The bit of number j stands in word j / 64, place j % 64; all other bits are zero.
-#[derive(Debug, Drop)]
+#[derive(Drop)]
 pub struct Set {
     n: u32,
     words: Vec<u64>,

@@ -1,5 +1,6 @@
 pub mod Begun
 pub mod Derived
+pub mod FirstFailing
 pub mod Far
 pub mod Going
 pub mod Exits

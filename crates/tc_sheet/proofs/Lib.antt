@@ -28,6 +28,7 @@ pub mod BranchLaws
 pub mod TemplateLaws
 pub mod KidLaws
 pub mod NameLaws
+pub mod Missing
 pub mod ElementLaws
 pub mod ReadLaws
 pub mod SheetLaws

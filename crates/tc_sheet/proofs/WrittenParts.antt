@@ -1,5 +1,5 @@
 -- The modes, the calls and the for-eaches of an instruction, and of those after it.
-use Rattle.std.proofs.Common.{◌≡◌, ℕ, ◌+◌, ◌<◌, ◌≤◌, List, [], ◌∷◌, ◌++◌, refl, ap, ◌∙◌, sym, subst, arith, length, get_or, drop, append-nil, append_assoc, Bor, Option, option_map}
+use Rattle.std.proofs.Common.{◌≡◌, ℕ, ◌+◌, ◌<◌, ◌≤◌, List, [], ◌∷◌, ◌++◌, refl, ap, ◌∙◌, sym, subst, arith, length, get_or, drop, append-nil, append_assoc, Bor, Option, option_map, ◌⊎◌, inl, inr}
 use Rattle.std.proofs.lemmas.List.{drop_all, get_or_default}
 use Rattle.tc_base.specs.declared.Place.{Place}
 use Rattle.tc_model.specs.Names.{ExpandedName, same_name}
@@ -325,5 +325,36 @@ calls_as i u old new e f g = g ∙ ap (λ z. old ++ z) (sym (ap (λ j. calls_in_
 pub modes_as : (i u : Written) {ms : List ExpandedName} (old new : List ExpandedName) → i ≡ u → modes_in_body (alone (written u)) ≡ ms → new ≡ puts old ms → new ≡ puts old (modes_in_body (alone (written i)))
 modes_as i u old new e f g = g ∙ ap (puts old) (sym (ap (λ j. modes_in_body (alone (written j))) e ∙ f))
 
-pub eaches_as : (i u : Written) {k : ℕ} (n : ℕ) → i ≡ u → eaches_in (alone (written u)) ≡ k → n ≡ k → n ≡ eaches_in (alone (written i))
-eaches_as i u n e f g = g ∙ sym (ap (λ j. eaches_in (alone (written j))) e ∙ f)
+-- instructions that hold nothing, and those that hold a body alone
+pub no_modes : (i : Written) → (((x : Bor (List ℕ)) × (i ≡ v.Text x)) ⊎ (((n : Name) × (p : Place) × (i ≡ v.Call n p)) ⊎ (((p : Path) × (i ≡ v.ValueOf p)) ⊎ (i ≡ v.ValueOfSelf)))) → modes_in_body (alone (written i)) ≡ []
+no_modes i (inl (x, e)) = ap (λ j. modes_in_body (alone (written j))) e ∙ modes_of_text x
+no_modes i (inr (inl (n, p, e))) = ap (λ j. modes_in_body (alone (written j))) e ∙ modes_of_call n p
+no_modes i (inr (inr (inl (p, e)))) = ap (λ j. modes_in_body (alone (written j))) e ∙ modes_of_value p
+no_modes i (inr (inr (inr e))) = ap (λ j. modes_in_body (alone (written j))) e ∙ modes_of_self
+
+pub inner_modes : (i : Written) (b : Bor (List Written)) → (((n : Name) × (i ≡ v.Elem n b)) ⊎ ((i ≡ v.Copy b) ⊎ ((p : Path) × (i ≡ v.ForEach p b)))) → modes_in_body (alone (written i)) ≡ modes_in_body (body b.now)
+inner_modes i b (inl (n, e)) = ap (λ j. modes_in_body (alone (written j))) e ∙ modes_of_elem n b
+inner_modes i b (inr (inl e)) = ap (λ j. modes_in_body (alone (written j))) e ∙ modes_of_copy b
+inner_modes i b (inr (inr (p, e))) = ap (λ j. modes_in_body (alone (written j))) e ∙ modes_of_each p b
+
+pub no_calls : (i : Written) → (((x : Bor (List ℕ)) × (i ≡ v.Text x)) ⊎ (((p : Path) × (m : Option Name) × (i ≡ v.Apply p m)) ⊎ (((p : Path) × (i ≡ v.ValueOf p)) ⊎ (i ≡ v.ValueOfSelf)))) → calls_in_body (alone (written i)) ≡ []
+no_calls i (inl (x, e)) = ap (λ j. calls_in_body (alone (written j))) e ∙ calls_of_text x
+no_calls i (inr (inl (p, m, e))) = ap (λ j. calls_in_body (alone (written j))) e ∙ calls_of_apply p m
+no_calls i (inr (inr (inl (p, e)))) = ap (λ j. calls_in_body (alone (written j))) e ∙ calls_of_value p
+no_calls i (inr (inr (inr e))) = ap (λ j. calls_in_body (alone (written j))) e ∙ calls_of_self
+
+pub inner_calls : (i : Written) (b : Bor (List Written)) → (((n : Name) × (i ≡ v.Elem n b)) ⊎ ((i ≡ v.Copy b) ⊎ ((p : Path) × (i ≡ v.ForEach p b)))) → calls_in_body (alone (written i)) ≡ calls_in_body (body b.now)
+inner_calls i b (inl (n, e)) = ap (λ j. calls_in_body (alone (written j))) e ∙ calls_of_elem n b
+inner_calls i b (inr (inl e)) = ap (λ j. calls_in_body (alone (written j))) e ∙ calls_of_copy b
+inner_calls i b (inr (inr (p, e))) = ap (λ j. calls_in_body (alone (written j))) e ∙ calls_of_each p b
+
+pub no_eaches : (i : Written) → (((x : Bor (List ℕ)) × (i ≡ v.Text x)) ⊎ (((p : Path) × (m : Option Name) × (i ≡ v.Apply p m)) ⊎ (((n : Name) × (p : Place) × (i ≡ v.Call n p)) ⊎ (((p : Path) × (i ≡ v.ValueOf p)) ⊎ (i ≡ v.ValueOfSelf))))) → eaches_in (alone (written i)) ≡ 0
+no_eaches i (inl (x, e)) = ap (λ j. eaches_in (alone (written j))) e ∙ eaches_of_text x
+no_eaches i (inr (inl (p, m, e))) = ap (λ j. eaches_in (alone (written j))) e ∙ eaches_of_apply p m
+no_eaches i (inr (inr (inl (n, p, e)))) = ap (λ j. eaches_in (alone (written j))) e ∙ eaches_of_call n p
+no_eaches i (inr (inr (inr (inl (p, e))))) = ap (λ j. eaches_in (alone (written j))) e ∙ eaches_of_value p
+no_eaches i (inr (inr (inr (inr e)))) = ap (λ j. eaches_in (alone (written j))) e ∙ eaches_of_self
+
+pub inner_eaches : (i : Written) (b : Bor (List Written)) → (((n : Name) × (i ≡ v.Elem n b)) ⊎ (i ≡ v.Copy b)) → eaches_in (alone (written i)) ≡ eaches_in (body b.now)
+inner_eaches i b (inl (n, e)) = ap (λ j. eaches_in (alone (written j))) e ∙ eaches_of_elem n b
+inner_eaches i b (inr e) = ap (λ j. eaches_in (alone (written j))) e ∙ eaches_of_copy b

@@ -14,11 +14,11 @@ ghost use Rattle.tc_model.specs.XmlTextScopes.{is_empty, uri_of};
 ghost use Rattle.tc_path.specs.Views.{alternative};
 ghost use Rattle.tc_scan.specs.Views.{written_name};
 ghost use Rattle.tc_sheet.specs.Changes.{exchanged};
-ghost use Rattle.tc_sheet.specs.Constructs.{IsRoot, MustHave, IsWeighed, AreWeighedAmong, IsNeverRefused, IsUnrefusedElement, plain};
+ghost use Rattle.tc_sheet.specs.Constructs.{IsRoot, MustHave, IsWeighed, AreWeighedAmong, IsNeverRefused, plain};
 ghost use Rattle.tc_sheet.specs.Constructs as forms;
 ghost use Rattle.tc_sheet.specs.Readings.{Refuses, IsFaultOf, IsAttribute, HasAttributesText, HasNoAttributes, HasNoOptional, HasNoRequired, alone, attributes_of, scope_of};
 
-use crate::elements::{XSL, is_xsl};
+use crate::elements::{XSL, is_among, is_xsl};
 use crate::faults::{SheetFault, fault_at};
 use bumpalo::Bump;
 use tc_base::Why;
@@ -45,18 +45,6 @@ pub(crate) fn attribute_of<'e, 'b>(element: &'e RawElem<'b>, local: &str) -> Opt
         }
     }
     None
-}
-
-/// Whether this is among these words.
-fn is_among(word: &str, words: &[&str]) -> bool
-    ensures { result ≡ list_any (bytes_eq word.now) (map (λ w. w.now) words.now) }
-{
-    for other in words {
-        if word == *other {
-            return true;
-        }
-    }
-    false
 }
 
 /// The refusal of an attribute that an XSLT element must not have.
@@ -178,18 +166,6 @@ pub(crate) fn check_literal_attributes(element: &RawElem<'_>) -> Result<(), Shee
     Ok(())
 }
 
-/// The attribute of this local name that has no namespace, which must be there.
-fn required<'e, 'b>(element: &'e RawElem<'b>, local: &str) -> Result<&'e RawAttr<'b>, SheetFault>
-    requires { IsUnrefusedElement (see.name element.now.name) }
-    ensures ok { IfOk result (λ a. IsAttribute element.now local.now a.now) }
-    ensures no { IfErr result (λ e. Refuses e (alone element.now) (HasNoAttributes element.now (λ olds. (s : List ℕ) × (phrases.value_of local.now olds ≡ Some s)))) }
-{
-    match attribute_of(element, local) {
-        Some(attribute) => Ok(attribute),
-        None => Err(SheetFault::Malformed(element.place)),
-    }
-}
-
 /// The `select`, if there is one (XSLT 1.0, 5.4).
 pub(crate) fn optional_select<'b>(
     arena: &'b Bump,
@@ -217,7 +193,9 @@ pub(crate) fn required_select<'b>(
     ensures ok { IfOk result (λ p. phrases.Required (texts.SelectText (scope_of element.now)) (phrases.value_of (codes "select") (attributes_of element.now)) (see.path p)) }
     ensures no { IfErr result (λ e. Refuses e (alone element.now) (HasNoRequired element.now (codes "select") (texts.SelectText (scope_of element.now)))) }
 {
-    let attribute = required(element, "select")?;
+    let Some(attribute) = attribute_of(element, "select") else {
+        return Err(SheetFault::Malformed(element.place));
+    };
     match read_select(arena, attribute.value, element.scope) {
         Ok(path) => Ok(path),
         Err(fault) => Err(fault_at(attribute.place, fault)),
@@ -233,7 +211,9 @@ pub(crate) fn required_value<'b>(
     ensures ok { IfOk result (λ i. phrases.Required (texts.ValueText (scope_of element.now)) (phrases.value_of (codes "select") (attributes_of element.now)) (see.instruction i sheets.no_instruction)) }
     ensures no { IfErr result (λ e. Refuses e (alone element.now) (HasNoRequired element.now (codes "select") (texts.ValueText (scope_of element.now)))) }
 {
-    let attribute = required(element, "select")?;
+    let Some(attribute) = attribute_of(element, "select") else {
+        return Err(SheetFault::Malformed(element.place));
+    };
     match read_value(arena, attribute.value, element.scope) {
         Ok(value) => Ok(value),
         Err(fault) => Err(fault_at(attribute.place, fault)),
@@ -249,7 +229,9 @@ pub(crate) fn required_test<'b>(
     ensures ok { IfOk result (λ t. phrases.Required (texts.TestText (scope_of element.now)) (phrases.value_of (codes "test") (attributes_of element.now)) (see.test t)) }
     ensures no { IfErr result (λ e. Refuses e (alone element.now) (HasNoRequired element.now (codes "test") (texts.TestText (scope_of element.now)))) }
 {
-    let attribute = required(element, "test")?;
+    let Some(attribute) = attribute_of(element, "test") else {
+        return Err(SheetFault::Malformed(element.place));
+    };
     match read_test(arena, attribute.value, element.scope) {
         Ok(test) => Ok(test),
         Err(fault) => Err(fault_at(attribute.place, fault)),
@@ -262,7 +244,9 @@ pub(crate) fn required_attributes(arena: &Bump, element: &RawElem<'_>) -> Result
     ensures ok { OnOk result (HasAttributesText (scope_of element.now) (attributes_of element.now)) }
     ensures no { IfErr result (λ e. Refuses e (alone element.now) (HasNoAttributes element.now (HasAttributesText (scope_of element.now)))) }
 {
-    let attribute = required(element, "select")?;
+    let Some(attribute) = attribute_of(element, "select") else {
+        return Err(SheetFault::Malformed(element.place));
+    };
     match selects_attributes(arena, attribute.value, element.scope) {
         Ok(all) => {
             if all {
@@ -337,8 +321,10 @@ fn name_of<'b>(scope: &[Binding<'b>], text: &'b str) -> Option<Name<'b>>
     if prefix.is_empty() {
         return Some(Name { uri: "", local });
     }
-    let uri = namespace_of(scope, prefix)?;
-    Some(Name { uri, local })
+    match namespace_of(scope, prefix) {
+        Some(uri) => Some(Name { uri, local }),
+        None => None,
+    }
 }
 
 /// The name of an element: without a prefix it takes the default namespace (XSLT 1.0, 7.1.2).
@@ -378,7 +364,9 @@ pub(crate) fn required_name<'b>(element: &RawElem<'b>) -> Result<Name<'b>, Sheet
     ensures ok { IfOk result (λ n. phrases.Required (phrases.NameText (scope_of element.now)) (phrases.value_of (codes "name") (attributes_of element.now)) (see.name n)) }
     ensures no { IfErr result (λ e. Refuses e (alone element.now) (HasNoRequired element.now (codes "name") (phrases.NameText (scope_of element.now)))) }
 {
-    let attribute = required(element, "name")?;
+    let Some(attribute) = attribute_of(element, "name") else {
+        return Err(SheetFault::Malformed(element.place));
+    };
     match name_of(element.scope, attribute.value) {
         Some(name) => Ok(name),
         None => Err(SheetFault::Malformed(attribute.place)),
@@ -403,7 +391,9 @@ pub(crate) fn required_element_name<'b>(element: &RawElem<'b>) -> Result<Name<'b
     ensures ok { IfOk result (λ n. phrases.Required (phrases.ElementNameText (scope_of element.now)) (phrases.value_of (codes "name") (attributes_of element.now)) (see.name n)) }
     ensures no { IfErr result (λ e. Refuses e (alone element.now) (HasNoRequired element.now (codes "name") (phrases.ElementNameText (scope_of element.now)))) }
 {
-    let attribute = required(element, "name")?;
+    let Some(attribute) = attribute_of(element, "name") else {
+        return Err(SheetFault::Malformed(element.place));
+    };
     match element_name_of(element.scope, attribute.value) {
         Some(name) => Ok(name),
         None if has_brace(attribute.value) => {

@@ -1,5 +1,5 @@
 // The elements of XSLT (XSLT 1.0, 2.1 and the element syntax summary).
-ghost use Rattle.std.specs.Prelude.{◌≡◌, ◌≢◌, MatchBool, option_map, bytes_eq};
+ghost use Rattle.std.specs.Prelude.{◌≡◌, ◌≢◌, MatchBool, map, option_map, bytes_eq};
 ghost use Rattle.std.specs.List.{list_any};
 ghost use Rattle.tc_model.specs.Views as see;
 ghost use Rattle.tc_model.specs.SheetTextPhrases as phrases;
@@ -102,13 +102,33 @@ fn reason_of(local: &str) -> Option<Why>
     }
 }
 
+/// Whether this is among these words.
+pub(crate) fn is_among(word: &str, words: &[&str]) -> bool
+    ensures { result ≡ list_any (bytes_eq word.now) (map (λ w. w.now) words.now) }
+{
+    for other in words {
+        if word == *other {
+            return true;
+        }
+    }
+    false
+}
+
 /// Whether an XSLT element of this local name is read where it may stand, but is no instruction.
 fn is_part(local: &str) -> bool
     ensures { result ≡ list_any (bytes_eq local.now) constructs.parts }
 {
-    matches!(
+    is_among(
         local,
-        "stylesheet" | "transform" | "template" | "output" | "strip-space" | "when" | "otherwise"
+        &[
+            "stylesheet",
+            "transform",
+            "template",
+            "output",
+            "strip-space",
+            "when",
+            "otherwise",
+        ],
     )
 }
 

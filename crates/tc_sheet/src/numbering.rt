@@ -46,16 +46,15 @@ fn next_number(count: usize) -> Result<u32, SheetFault>
     sum(number, 1)
 }
 
-/// How many for-eaches stand in branches.
+/// How many for-eaches stand in branches and before them.
 #[cycle(eaches)]
-fn eaches_in_branches(branches: &[WrittenBranch<'_>]) -> Result<u32, SheetFault>
-    ensures ok { IfOk result (λ n. n ≡ model.eaches_in_branches (branches_of branches.now)) }
+fn eaches_in_branches(before: u32, branches: &[WrittenBranch<'_>]) -> Result<u32, SheetFault>
+    ensures ok { IfOk result (λ n. n ≡ before + model.eaches_in_branches (branches_of branches.now)) }
     ensures no { IfErr result (λ e. e ≡ NoMemory) }
 {
-    let mut count = 0;
+    let mut count = before;
     for branch in branches {
-        let more = eaches_in(branch.body)?;
-        count = sum(count, more)?;
+        count = eaches_in(count, branch.body)?;
     }
     Ok(count)
 }
@@ -71,55 +70,53 @@ fn sum(first: u32, second: u32) -> Result<u32, SheetFault>
     }
 }
 
-/// How many for-eaches an instruction is or has.
+/// How many for-eaches an instruction is or has, and stand before it.
 #[cycle(eaches)]
 #[tactic(auto, using(crate::proofs::WrittenParts::eaches_alone))]
-fn eaches_in_one(instruction: &Written<'_>) -> Result<u32, SheetFault>
-    ensures ok { IfOk result (λ n. n ≡ model.eaches_in (alone (written instruction.now))) }
+fn eaches_in_one(before: u32, instruction: &Written<'_>) -> Result<u32, SheetFault>
+    ensures ok { IfOk result (λ n. n ≡ before + model.eaches_in (alone (written instruction.now))) }
     ensures no { IfErr result (λ e. e ≡ NoMemory) }
 {
     match instruction {
         Written::ForEach(_, inner) => {
-            let more = eaches_in(inner)?;
-            sum(1, more)
+            let outer = sum(before, 1)?;
+            eaches_in(outer, inner)
         }
-        Written::Elem(_, inner) | Written::Copy(inner) => eaches_in(inner),
+        Written::Elem(_, inner) | Written::Copy(inner) => eaches_in(before, inner),
         Written::Choose(branches, last) => {
-            let before = eaches_in_branches(branches)?;
-            let more = eaches_in(last)?;
-            sum(before, more)
+            let chosen = eaches_in_branches(before, branches)?;
+            eaches_in(chosen, last)
         }
         Written::Text(_)
         | Written::Apply(_, _)
         | Written::Call(_, _)
         | Written::ValueOf(_)
-        | Written::ValueOfSelf => Ok(0),
+        | Written::ValueOfSelf => Ok(before),
     }
 }
 
-/// How many for-eaches stand in a body.
+/// How many for-eaches stand in a body and before it.
 #[cycle(eaches)]
-fn eaches_in(body: &[Written<'_>]) -> Result<u32, SheetFault>
-    ensures ok { IfOk result (λ n. n ≡ model.eaches_in (body_seen body.now)) }
+fn eaches_in(before: u32, body: &[Written<'_>]) -> Result<u32, SheetFault>
+    ensures ok { IfOk result (λ n. n ≡ before + model.eaches_in (body_seen body.now)) }
     ensures no { IfErr result (λ e. e ≡ NoMemory) }
 {
-    let mut count = 0;
+    let mut count = before;
     for instruction in body {
-        let more = eaches_in_one(instruction)?;
-        count = sum(count, more)?;
+        count = eaches_in_one(count, instruction)?;
     }
     Ok(count)
 }
 
-/// How many for-eaches stand in a template, if it makes rules.
-fn eaches_with_rules(template: &Template<'_>) -> Result<u32, SheetFault>
-    ensures ok { IfOk result (λ n. n ≡ with_rules (template_seen template.now)) }
+/// How many for-eaches stand in a template, if it makes rules, and before it.
+fn eaches_with_rules(before: u32, template: &Template<'_>) -> Result<u32, SheetFault>
+    ensures ok { IfOk result (λ n. n ≡ before + with_rules (template_seen template.now)) }
     ensures no { IfErr result (λ e. e ≡ NoMemory) }
 {
     if template.makes_rules() {
-        eaches_in(template.body)
+        eaches_in(before, template.body)
     } else {
-        Ok(0)
+        Ok(before)
     }
 }
 
@@ -130,8 +127,7 @@ fn eaches_in_rules(templates: &[Template<'_>]) -> Result<u32, SheetFault>
 {
     let mut count = 0;
     for template in templates {
-        let more = eaches_with_rules(template)?;
-        count = sum(count, more)?;
+        count = eaches_with_rules(count, template)?;
     }
     Ok(count)
 }

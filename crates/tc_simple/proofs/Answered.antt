@@ -1,8 +1,9 @@
 -- The first answer that patterns, classes and definitions give, one after the other.
-use Rattle.std.proofs.Common.{◌≡◌, ℕ, zero, suc, ◌+◌, ◌<◌, List, [], ◌∷◌, ◌++◌, refl, ap, ◌∙◌, sym, subst, arith, length, get_or, drop, map, Option, None, Some, Bool, append_assoc, take, ◌≤◌, ◌⊎◌, inl, inr}
+use Rattle.std.proofs.Common.{◌≡◌, ℕ, zero, suc, ◌+◌, ◌<◌, List, [], ◌∷◌, ◌++◌, refl, ap, ◌∙◌, sym, subst, arith, length, get_or, drop, map, Option, None, Some, Bool, append_assoc, take, ◌≤◌, ◌⊎◌, inl, inr, Result, Ok, Err, IfOk}
+use Rattle.std.specs.Result.{OnOk, IsErrAnd}
 use Rattle.std.specs.List.{flat_map, filter_map}
 use Rattle.std.proofs.lemmas.List.Elements.{Contains-append_left, Contains-push, Contains-push_cases, filter_map-append}
-use Rattle.std.proofs.lemmas.List.{append-nil, drop_more, map-append, take_more}
+use Rattle.std.proofs.lemmas.List.{append-nil, drop_all, drop_more, map-append, take_more}
 use Rattle.std.proofs.lemmas.Grind.{flat_map-append}
 use Rattle.std.specs.List.{Contains}
 use Rattle.tc_model.specs.CompactSyntaxTrees.{SyntaxPattern, Definition}
@@ -183,3 +184,17 @@ least_next ps i d first p small h k =
         at : (q : ℕ) → Contains front q ⊎ (x ≡ q) → p ≤ q
         at q (inl m) = omega (arith, is, least q m)
         at q (inr e) = omega (arith, is, low, e)
+
+-- an error that is handed on says nothing of what is read
+pub failed_ok : {T E : Type 0} (r : Result T E) (P : T → Type 0) (Q : E → Type 0) → IsErrAnd r Q → IfOk r P
+failed_ok (Ok v) P Q h = absurd h
+failed_ok (Err e) P Q h = tt
+
+pub failed_on : {T E : Type 0} (r : Result T E) (P : Type 0) (Q : E → Type 0) → IsErrAnd r Q → OnOk r P
+failed_on (Ok v) P Q h = absurd h
+failed_on (Err e) P Q h = tt
+
+-- what is found once all are looked at
+pub found_all : {X : Type 0} (f : SyntaxPattern → Option X) (within : Bool) (ps : List SPat) (i : ℕ) (new all : List X) → length ps ≤ i → new ++ filter_map f (nodes_of_all within (see.patterns (drop i ps))) ≡ all → new ≡ all
+found_all f within ps i new all past e =
+    sym (append-nil new) ∙ (sym (ap (λ (w : List SPat). new ++ filter_map f (nodes_of_all within (see.patterns w))) (drop_all i ps past)) ∙ e)

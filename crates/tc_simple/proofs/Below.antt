@@ -1,7 +1,10 @@
 -- What is found in a pattern that is found in its parts alone.
-use Rattle.std.proofs.Common.{◌≡◌, ◌⊎◌, inl, inr, ℕ, Bool, true, false, List, [], ◌∷◌, ◌++◌, refl, ap, ◌∙◌, sym, subst, map, append_assoc, Option, None, Bor}
+use Rattle.std.proofs.Common.{◌≡◌, ◌⊎◌, inl, inr, ℕ, Bool, true, false, List, [], ◌∷◌, ◌++◌, refl, ap, ◌∙◌, sym, subst, map, append_assoc, Option, None, Some, Bor, if◌then◌else◌}
 use Rattle.std.proofs.lemmas.List.{map-append}
-use Rattle.std.specs.List.{filter_map, cons_option}
+use Rattle.std.specs.List.{filter_map, cons_option, list_all}
+use Rattle.tc_graph.specs.Walks.{same_component, state_at}
+use Rattle.tc_model.specs.SimplifiesFaults.{may_start}
+use Rattle.tc_simple.specs.Tables.{number_of}
 use Rattle.tc_model.specs.Grammars as g
 use Rattle.tc_model.specs.Views as seen
 use Rattle.tc_model.specs.declared.grammar.Pat.TheVariants as made_variants
@@ -226,3 +229,61 @@ other_layer ps (parts.Interleave qs) = subst (IsOther ps) (sym (v.rolls-Interlea
 
 pub among_others : (ps : g.Patterns) (x : SPat) → IsOther ps x
 among_others ps x = subst (IsOther ps) (roll-out-SPat x) (other_layer ps (out-SPat x))
+
+-- what a reference adds, and an element
+module _ (x : SPat) (n : Bor (List ℕ)) (place : Place) (is : x ≡ v.Ref n place) where
+  pub target_seen : (t : Table) (within : Bool) → filter_map (target t) (nodes within (see.pattern x)) ≡ cons_option (number_of t n.now) []
+  target_seen t within = ap (λ z. filter_map (target t) (nodes within z)) (ap see.pattern is ∙ see_ref n place)
+
+  abbrev looped : List State → ℕ → Option ℕ → List ℕ
+  looped states k o = cons_option (elim o [ Some j ↦ (if same_component (state_at states k) (state_at states j) then Some (at place) else None) | None ↦ None ]) []
+
+  module _ (t : Table) (states : List State) (k : ℕ) where
+    loop_seen : filter_map (loop_at t states k) (nodes false (see.pattern x)) ≡ looped states k (number_of t n.now)
+    loop_seen = ap (λ z. filter_map (loop_at t states k) (nodes false z)) (ap see.pattern is ∙ see_ref n place)
+
+    pub loop_taken : (j : ℕ) → number_of t n.now ≡ Some j → same_component (state_at states k) (state_at states j) ≡ true → filter_map (loop_at t states k) (nodes false (see.pattern x)) ≡ at place ∷ []
+    loop_taken j e f = loop_seen ∙ (ap (looped states k) e ∙ ap (λ (b : Bool). cons_option (if b then Some (at place) else None) []) f)
+
+    pub loop_passed : (j : ℕ) → number_of t n.now ≡ Some j → same_component (state_at states k) (state_at states j) ≡ false → filter_map (loop_at t states k) (nodes false (see.pattern x)) ≡ []
+    loop_passed j e f = loop_seen ∙ (ap (looped states k) e ∙ ap (λ (b : Bool). cons_option (if b then Some (at place) else None) []) f)
+
+    pub loop_nowhere : number_of t n.now ≡ None → filter_map (loop_at t states k) (nodes false (see.pattern x)) ≡ []
+    loop_nowhere e = loop_seen ∙ ap (looped states k) e
+
+pub targets_within : (t : Table) (within b : Bool) (x : SPat) (place : Place) (c : SClass) (q : Bor SPat) → x ≡ v.Element place c q → within ≡ b
+    → filter_map (target t) (nodes within (see.pattern x)) ≡ filter_map (target t) (if b then nodes within (see.pattern q.now) else [])
+targets_within t within b x place c q e f =
+    ap (λ z. filter_map (target t) (nodes within z)) (ap see.pattern e ∙ see_element place c q) ∙ ap (λ (a : Bool). filter_map (target t) (if a then nodes within (see.pattern q.now) else [])) f
+
+-- what may stand at the start
+pub starts_there : (x : SPat) → (x ≡ v.NotAllowed) ⊎ (IsReference x ⊎ IsElement x) → true ≡ list_all may_start (nodes false (see.pattern x))
+starts_there x (inl e) = sym (ap (λ z. list_all may_start (nodes false z)) (ap see.pattern e ∙ see_not_allowed))
+starts_there x (inr (inl (n, place, e))) = sym (ap (λ z. list_all may_start (nodes false z)) (ap see.pattern e ∙ see_ref n place))
+starts_there x (inr (inr (place, c, q, e))) = sym (ap (λ z. list_all may_start (nodes false z)) (ap see.pattern e ∙ see_element place c q))
+
+abbrev pub NeverStarts : SPat → Type 0
+NeverStarts x =
+    (x ≡ v.NotAllowed → ⊥) → ((n : Bor (List ℕ)) (place : Place) → x ≡ v.Ref n place → ⊥) → ((place : Place) (c : SClass) (q : Bor SPat) → x ≡ v.Element place c q → ⊥)
+    → ((qs : Bor (List SPat)) → x ≡ v.Choice qs → ⊥) → false ≡ list_all may_start (nodes false (see.pattern x))
+
+never : (x : SPat) (p : SyntaxPattern) → see.pattern x ≡ p → list_all may_start (nodes false p) ≡ false → NeverStarts x
+never x p e h = λ a b c d. sym (ap (λ z. list_all may_start (nodes false z)) e ∙ h)
+
+never_layer : (f : SPat-F SPat) → NeverStarts (roll-SPat f)
+never_layer parts.Empty = subst NeverStarts (sym v.rolls-Empty) (never v.Empty empty see_empty refl)
+never_layer parts.NotAllowed = λ a b c d. absurd (a v.rolls-NotAllowed)
+never_layer parts.Text = subst NeverStarts (sym v.rolls-Text) (never v.Text text see_text refl)
+never_layer parts.Attribute = subst NeverStarts (sym v.rolls-Attribute) (never v.Attribute attribute see_attribute refl)
+never_layer (parts.Ref n place) = λ a b c d. absurd (b n place (v.rolls-Ref n place))
+never_layer (parts.Element place k q) = λ a b c d. absurd (c place k q (v.rolls-Element place k q))
+never_layer (parts.Mixed q) = subst NeverStarts (sym (v.rolls-Mixed q)) (never (v.Mixed q) (mixed (see.pattern q.now)) (see_mixed q) refl)
+never_layer (parts.Optional q) = subst NeverStarts (sym (v.rolls-Optional q)) (never (v.Optional q) (optional (see.pattern q.now)) (see_optional q) refl)
+never_layer (parts.ZeroOrMore q) = subst NeverStarts (sym (v.rolls-ZeroOrMore q)) (never (v.ZeroOrMore q) (zero_or_more (see.pattern q.now)) (see_zero_or_more q) refl)
+never_layer (parts.OneOrMore q) = subst NeverStarts (sym (v.rolls-OneOrMore q)) (never (v.OneOrMore q) (one_or_more (see.pattern q.now)) (see_one_or_more q) refl)
+never_layer (parts.Group qs) = subst NeverStarts (sym (v.rolls-Group qs)) (never (v.Group qs) (group (see.patterns qs.now)) (see_group qs) refl)
+never_layer (parts.Choice qs) = λ a b c d. absurd (d qs (v.rolls-Choice qs))
+never_layer (parts.Interleave qs) = subst NeverStarts (sym (v.rolls-Interleave qs)) (never (v.Interleave qs) (interleave (see.patterns qs.now)) (see_interleave qs) refl)
+
+pub never_starts : (x : SPat) → NeverStarts x
+never_starts x = subst NeverStarts (roll-out-SPat x) (never_layer (out-SPat x))

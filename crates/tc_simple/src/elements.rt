@@ -6,6 +6,7 @@ ghost use Rattle.tc_simple.specs.Nodes.{element_of, elements_of, is_marked_name,
 
 use crate::groups::Table;
 use bumpalo::Bump;
+use bumpalo::collections::into_bump_slice;
 use tc_base::{NoMemory, Place};
 use tc_rnc::{Def, SClass, SPat, Syntax};
 
@@ -86,13 +87,13 @@ pub fn elements<'b>(
     table: &Table<'b>,
     marks: &[bool],
     syntax: &Syntax<'b>,
-) -> Result<Vec<Elem<'b>, &'b Bump>, NoMemory>
+) -> Result<&'b [Elem<'b>], NoMemory>
     requires { HasNumbersBelow table.now (length marks.now) }
-    ensures { IfOk result (λ v. map see_element v.items ≡ elements_of table.now marks.now (see.syntax syntax.now).definitions) }
+    ensures { IfOk result (λ v. map see_element v.now ≡ elements_of table.now marks.now (see.syntax syntax.now).definitions) }
 {
     let mut found = Vec::new(arena);
     for def in syntax.defs {
         add_marked(table, marks, def, &mut found)?;
     }
-    Ok(found)
+    Ok(into_bump_slice(found))
 }

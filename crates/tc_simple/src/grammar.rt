@@ -98,7 +98,7 @@ fn whole_size<'b>(
     ensures { IfOk result (λ size. (s : t.Syntax) → IsLawfulSyntax s → IsFaultless s → Resolves s table.now start marks.now walk.now.states.items walk.now.order.items → map see_element found.now ≡ elements_of table.now marks.now s.definitions → (grammar : g.Grammar) × Simplifies s grammar × IsSizeOf grammar size (length found.now)) }
 {
     let sizes = all_sizes(arena, table, walk, marks)?;
-    Ok(total(table, &sizes, sizes[start], found))
+    Ok(total(table, sizes, sizes[start], found))
 }
 
 /// Refuses a grammar that is too large, which has this size and so many element patterns.
@@ -126,17 +126,17 @@ pub fn counted<'b>(
     start: usize,
     marks: &[bool],
     walk: &Walk<'b>,
-) -> Result<Vec<Elem<'b>, &'b Bump>, SimpleFault>
+) -> Result<&'b [Elem<'b>], SimpleFault>
     requires lawful { IsLawfulSyntax (see.syntax syntax.now) }
     requires faultless { IsFaultless (see.syntax syntax.now) }
     requires resolves { Resolves (see.syntax syntax.now) table.now start marks.now walk.now.states.items walk.now.order.items }
-    ensures elements { IfOk result (λ v. map see_element v.items ≡ elements_of table.now marks.now (see.syntax syntax.now).definitions) }
-    ensures few { IfOk result (λ v. length v.items ≤ 256) }
+    ensures elements { IfOk result (λ v. map see_element v.now ≡ elements_of table.now marks.now (see.syntax syntax.now).definitions) }
+    ensures few { IfOk result (λ v. length v.now ≤ 256) }
     ensures within { IfOk result (λ v. (grammar : g.Grammar) × Simplifies (see.syntax syntax.now) grammar × IsWithinCounts grammar) }
     ensures err { IfErr result (λ e. Refuses (see.syntax syntax.now) e) }
 {
     let found = elements(arena, table, marks, syntax)?;
-    let size = whole_size(arena, table, start, marks, walk, &found)?;
+    let size = whole_size(arena, table, start, marks, walk, found)?;
     check_counts(size, found.len())?;
     Ok(found)
 }
@@ -158,7 +158,7 @@ pub fn built<'b>(
     ensures { IfOk result (λ grammar. (s : t.Syntax) → IsLawfulSyntax s → IsFaultless s → Resolves s table.now start marks.now walk.now.states.items walk.now.order.items → map see_element found.now ≡ elements_of table.now marks.now s.definitions → Simplifies s (seen.grammar grammar)) }
 {
     let patterns = all_patterns(arena, table, walk, marks, found)?;
-    let elements = element_patterns(arena, table, &patterns, found)?;
+    let elements = element_patterns(arena, table, patterns, found)?;
     Ok(Grammar {
         start: patterns[start],
         elements,

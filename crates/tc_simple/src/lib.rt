@@ -87,7 +87,7 @@ fn resolved<'b>(
 {
     check(arena, syntax, table, start, marks, walked)?;
     let found = counted(arena, syntax, table, start, marks, walked)?;
-    let grammar = built(arena, table, start, marks, walked, &found)?;
+    let grammar = built(arena, table, start, marks, walked, found)?;
     Ok(grammar)
 }
 

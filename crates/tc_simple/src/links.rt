@@ -79,13 +79,13 @@ pub fn links<'b>(
     arena: &'b Bump,
     table: &Table<'b>,
     within: bool,
-) -> Result<Vec<&'b [usize], &'b Bump>, NoMemory>
-    ensures { IfOk result (λ v. rows_of v.items ≡ map (λ p. filter_map (target table.now) (nodes within (see.pattern p))) table.now.patterns.items) }
+) -> Result<&'b [&'b [usize]], NoMemory>
+    ensures { IfOk result (λ v. rows_of v.now ≡ map (λ p. filter_map (target table.now) (nodes within (see.pattern p))) table.now.patterns.items) }
 {
     let mut rows = Vec::new(arena);
     for pattern in &table.patterns {
         let row = links_of(arena, table, pattern, within)?;
         rows.push(row)?;
     }
-    Ok(rows)
+    Ok(into_bump_slice(rows))
 }

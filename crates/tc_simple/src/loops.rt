@@ -9,6 +9,7 @@ ghost use Rattle.tc_simple.specs.Places.{maybe_place};
 
 use crate::groups::Table;
 use bumpalo::Bump;
+use bumpalo::collections::into_bump_slice;
 use tc_base::{NoMemory, Place};
 use tc_graph::Walk;
 use tc_rnc::SPat;
@@ -119,17 +120,17 @@ fn loops<'b>(
     table: &Table<'b>,
     walk: &Walk<'b>,
     marks: &[bool],
-) -> Result<Vec<Place, &'b Bump>, NoMemory>
+) -> Result<&'b [Place], NoMemory>
     requires marks { length marks.now ≡ length table.now.patterns.items }
     requires states { length walk.now.states.items ≡ length table.now.patterns.items }
     requires numbers { HasNumbersBelow table.now (length walk.now.states.items) }
-    ensures { IfOk result (λ v. map see_place v.items ≡ loops_below table.now walk.now.states.items marks.now (length table.now.patterns.items)) }
+    ensures { IfOk result (λ v. map see_place v.now ≡ loops_below table.now walk.now.states.items marks.now (length table.now.patterns.items)) }
 {
     let mut found = Vec::new(arena);
     for number in 0..table.patterns.len() {
         add_marked(table, walk, marks, number, &mut found)?;
     }
-    Ok(found)
+    Ok(into_bump_slice(found))
 }
 
 /// Adds those of one definition, if it is marked.
@@ -165,7 +166,7 @@ pub fn first_loop<'b>(
     ensures { IfOk result (λ o. IsFirstLoop table.now walk.now.states.items marks.now (maybe_place o)) }
 {
     let places = loops(arena, table, walk, marks)?;
-    Ok(least(&places))
+    Ok(least(places))
 }
 
 /// Whether all that stands in the definitions that are marked, outside their elements, may stand below

@@ -16,12 +16,12 @@ use tc_graph::Walk;
 use tc_model::Pat;
 
 /// Works out the size of a definition, if it is marked.
-fn put_size(table: &Table<'_>, marks: &[bool], number: usize, sizes: &mut Vec<Size, &Bump>)
+fn put_size(table: &Table<'_>, marks: &[bool], number: usize, sizes: &mut [Size])
     requires within { number < length table.now.patterns.items }
     requires marks { length marks.now ≡ length table.now.patterns.items }
-    requires sizes { length sizes.old.items ≡ length table.now.patterns.items }
+    requires sizes { length sizes.old ≡ length table.now.patterns.items }
     requires numbers { HasNumbersBelow table.now (length table.now.patterns.items) }
-    ensures { PutsSize table.now marks.now number sizes.old.items sizes.new.items }
+    ensures { PutsSize table.now marks.now number sizes.old sizes.new }
 {
     if !marks[number] {
         return;
@@ -36,15 +36,18 @@ pub fn all_sizes<'b>(
     table: &Table<'b>,
     walk: &Walk<'b>,
     marks: &[bool],
-) -> Result<Vec<Size, &'b Bump>, NoMemory>
+) -> Result<&'b [Size], NoMemory>
     requires marks { length marks.now ≡ length table.now.patterns.items }
     requires numbers { HasNumbersBelow table.now (length table.now.patterns.items) }
     requires order { All (λ k. k < length table.now.patterns.items) walk.now.order.items }
-    ensures { IfOk result (λ v. (length v.items ≡ length table.now.patterns.items) × ((s : t.Syntax) (es : List Element) → IsOrderly s table.now marks.now walk.now.states.items walk.now.order.items → AreSized s es table.now marks.now walk.now.states.items (length walk.now.order.items) v.items)) }
+    ensures { IfOk result (λ v. (length v.now ≡ length table.now.patterns.items) × ((s : t.Syntax) (es : List Element) → IsOrderly s table.now marks.now walk.now.states.items walk.now.order.items → AreSized s es table.now marks.now walk.now.states.items (length walk.now.order.items) v.now)) }
 {
-    let mut sizes = vec![in arena; Size { nodes: 1, depth: 1 }; table.patterns.len()]?;
+    let sizes: &'b mut [Size] = arena.try_alloc_slice_fill_clone(
+        table.patterns.len(),
+        Size { nodes: 1, depth: 1 },
+    )?;
     for number in &walk.order {
-        put_size(table, marks, *number, &mut sizes);
+        put_size(table, marks, *number, sizes);
     }
     Ok(sizes)
 }
@@ -56,14 +59,14 @@ fn put_pattern<'b>(
     marks: &[bool],
     number: usize,
     elements: &[Elem<'b>],
-    made: &mut Vec<Pat<'b>, &'b Bump>,
+    made: &mut [Pat<'b>],
 ) -> Result<(), NoMemory>
     requires within { number < length table.now.patterns.items }
     requires marks { length marks.now ≡ length table.now.patterns.items }
-    requires made { length made.old.items ≡ length table.now.patterns.items }
+    requires made { length made.old ≡ length table.now.patterns.items }
     requires numbers { HasNumbersBelow table.now (length table.now.patterns.items) }
     requires few { length elements.now ≤ 256 }
-    ensures { OnOk result (PutsPattern table.now marks.now (map see_element elements.now) number made.old.items made.new.items) }
+    ensures { OnOk result (PutsPattern table.now marks.now (map see_element elements.now) number made.old made.new) }
 {
     if !marks[number] {
         return Ok(());
@@ -80,16 +83,19 @@ pub fn all_patterns<'b>(
     walk: &Walk<'b>,
     marks: &[bool],
     elements: &[Elem<'b>],
-) -> Result<Vec<Pat<'b>, &'b Bump>, NoMemory>
+) -> Result<&'b [Pat<'b>], NoMemory>
     requires marks { length marks.now ≡ length table.now.patterns.items }
     requires numbers { HasNumbersBelow table.now (length table.now.patterns.items) }
     requires order { All (λ k. k < length table.now.patterns.items) walk.now.order.items }
     requires few { length elements.now ≤ 256 }
-    ensures { IfOk result (λ v. (length v.items ≡ length table.now.patterns.items) × ((s : t.Syntax) → IsOrderly s table.now marks.now walk.now.states.items walk.now.order.items → AreMade s (map see_element elements.now) table.now marks.now walk.now.states.items (length walk.now.order.items) v.items)) }
+    ensures { IfOk result (λ v. (length v.now ≡ length table.now.patterns.items) × ((s : t.Syntax) → IsOrderly s table.now marks.now walk.now.states.items walk.now.order.items → AreMade s (map see_element elements.now) table.now marks.now walk.now.states.items (length walk.now.order.items) v.now)) }
 {
-    let mut made = vec![in arena; Pat::NotAllowed; table.patterns.len()]?;
+    let made: &'b mut [Pat<'b>] = arena.try_alloc_slice_fill_clone(
+        table.patterns.len(),
+        Pat::NotAllowed,
+    )?;
     for number in &walk.order {
-        put_pattern(arena, table, marks, *number, elements, &mut made)?;
+        put_pattern(arena, table, marks, *number, elements, made)?;
     }
     Ok(made)
 }

@@ -54,7 +54,7 @@ pub fn mark<'b>(
     ensures { IfOk result (λ v. IsReached (link_rows table.now within) start v.items) }
 {
     let rows = links(arena, table, within)?;
-    reached(arena, &rows, start)
+    reached(arena, rows, start)
 }
 
 /// The components of the definitions.
@@ -63,7 +63,7 @@ pub fn walk<'b>(arena: &'b Bump, table: &Table<'b>) -> Result<Walk<'b>, NoMemory
     ensures { IfOk result (λ w. AreComponents (link_rows table.now false) w.states.items w.order.items) }
 {
     let rows = links(arena, table, false)?;
-    components(arena, &rows)
+    components(arena, rows)
 }
 
 /// The place of the first definition of `start`; 0 where there is none.

@@ -1,8 +1,8 @@
 -- Chains of entries: what a walk along one finds is what a search of all finds.
-use Rattle.std.proofs.Common.{◌≡◌, ℕ, zero, suc, ◌-◌, ◌<◌, ◌≤◌, Bool, true, false, cond, ◌==◌, List, [], ◌∷◌, ◌++◌, refl, ap, ◌∙◌, sym, subst, map, length, take, drop, reverse, get_or, None, Some, arith, length-take, take-append-drop, take_all}
-use Rattle.std.proofs.Math.Seq.{take-suc}
+use Rattle.std.proofs.Common.{◌≡◌, ℕ, zero, suc, ◌+◌, ◌-◌, ◌<◌, ◌≤◌, Bool, true, false, cond, ◌==◌, List, [], ◌∷◌, ◌++◌, refl, ap, ◌∙◌, sym, subst, map, length, take, drop, reverse, get_or, None, Some, arith, length-take, length-append, take-append-drop, take_all, append-nil, set, slice_index}
+use Rattle.std.proofs.Math.Seq.{take-suc, take-append_seam}
 use Rattle.std.proofs.lemmas.Bool.{true≢false, eqb-true, eq-eqb}
-use Rattle.std.proofs.lemmas.List.{reverse-append, map-append, take-map, get_or-map, length-reverse, get_or_read, get_or-replicate, length-map}
+use Rattle.std.proofs.lemmas.List.{reverse-append, map-append, take-map, get_or-map, length-reverse, get_or_read, get_or-replicate, get_or-set_same, get_or-set_other, length-map}
 use Rattle.std.specs.Prelude.{replicate}
 use Rattle.tc_stream.specs.Chained.{newest, chains_of, AreLinked, AreNewest, first_such}
 use Rattle.tc_stream.specs.declared.chains.Link.{Link}
@@ -147,3 +147,61 @@ newest_within chain k chains l = let len = back_length chains k l in let w = wit
         by : (b : Bool) → newest chain cs ≤ length cs → cond b (suc (length cs)) (newest chain cs) ≤ suc (length cs)
         by true h = omega arith
         by false h = omega arith
+
+-- another newest entry of one chain
+changed : (entries : List ℕ) (at new : ℕ) (before after : ℕ → ℕ) → length entries ≡ 4096 → at < 4096 → new ≡ after at → ((chain : ℕ) → (at == chain) ≡ false → before chain ≡ after chain)
+    → ((chain : ℕ) → chain < 4096 → slice_index entries chain ≡ before chain) → (chain : ℕ) → chain < 4096 → slice_index (set entries at new) chain ≡ after chain
+changed entries at new before after len l here there h chain m = by (at == chain) refl
+  where
+    by : (b : Bool) → (at == chain) ≡ b → slice_index (set entries at new) chain ≡ after chain
+    by true e = subst (λ k. slice_index (set entries at new) k ≡ after k) (eqb-true at chain e) (get_or-set_same entries at new 0 (omega (arith, len, l)) ∙ here)
+    by false e = get_or-set_other entries at chain new 0 (λ s. true≢false (sym (eq-eqb at chain (sym s)) ∙ e)) ∙ (h chain m ∙ there chain e)
+
+passed : (at chain : ℕ) (cs : List ℕ) → (at == chain) ≡ false → newest chain (at ∷ cs) ≡ newest chain cs
+passed at chain cs e = ap (λ b. cond b (suc (length cs)) (newest chain cs)) e
+
+-- the newest entry is taken away
+pub forgotten : (links rest : List Link) (link : Link) (entries : List ℕ) → links ≡ rest ++ link ∷ [] → length entries ≡ 4096 → AreLinked (reverse links) → AreNewest (reverse links) entries
+    → (link.chain < 4096) × AreLinked (reverse rest) × AreNewest (reverse rest) (set entries link.chain link.older)
+forgotten links rest link entries e len h n =
+    let back : reverse links ≡ link ∷ reverse rest = ap reverse e ∙ reverse-append rest (link ∷ []) in
+    let cs = chains_of (reverse rest) in
+    let linked : (link.chain < 4096) × (link.older ≡ newest link.chain cs) × AreLinked (reverse rest) = subst AreLinked back h in (
+      linked.0,
+      linked.2,
+      changed entries link.chain link.older (λ chain. newest chain (link.chain ∷ cs)) (λ chain. newest chain cs) len linked.0 linked.1 (λ chain q. passed link.chain chain cs q)
+          (subst (λ w. AreNewest w entries) back n),
+    )
+
+pub fewer_chains : (links rest : List Link) (link : Link) (chains : List ℕ) → links ≡ rest ++ link ∷ [] → chains_of links ≡ chains → chains_of rest ≡ take (length chains - 1) chains
+fewer_chains links rest link chains e same =
+    let both : chains ≡ chains_of rest ++ link.chain ∷ [] = sym same ∙ (ap chains_of e ∙ map-append (λ m. m.chain) rest (link ∷ [])) in
+    let less : length (chains_of rest) ≡ length chains - 1 = omega (arith, ap length both, length-append (chains_of rest) (link.chain ∷ [])) in
+    sym (take-append_seam (chains_of rest) (link.chain ∷ [])) ∙ (ap (λ n. take n (chains_of rest ++ link.chain ∷ [])) less ∙ ap (take (length chains - 1)) (sym both))
+
+pub no_chains : (links rest : List Link) (chains : List ℕ) → links ≡ rest ++ [] → length links ≡ 0 → chains_of links ≡ chains → chains_of rest ≡ take (length chains - 1) chains
+no_chains links rest chains e none same =
+    let same_rest : chains_of rest ≡ chains = ap chains_of (sym (append-nil rest) ∙ sym e) ∙ same in
+    let few : length chains ≤ 0 = omega (arith, ap length same, length-map links (λ m. m.chain), none) in
+    same_rest ∙ (sym (empty chains few))
+  where
+    empty : (cs : List ℕ) → length cs ≤ 0 → take (length cs - 1) cs ≡ cs
+    empty [] l = refl
+    empty (c ∷ cs) l = absurd (omega (arith, l))
+
+-- another entry is added
+pub added : (links : List Link) (link : Link) (entries : List ℕ) → length entries ≡ 4096 → link.chain < 4096 → link.older ≡ get_or entries link.chain link.older → AreLinked (reverse links) → AreNewest (reverse links) entries
+    → AreLinked (reverse (links ++ link ∷ [])) × AreNewest (reverse (links ++ link ∷ [])) (set entries link.chain (length links + 1))
+added links link entries len l is h n =
+    let back : link ∷ reverse links ≡ reverse (links ++ link ∷ []) = sym (reverse-append links (link ∷ [])) in
+    let cs = chains_of (reverse links) in
+    let older : link.older ≡ newest link.chain cs = get_or_read entries link.chain link.older (omega (arith, len, l)) is 0 ∙ n link.chain l in
+    let count : length links + 1 ≡ suc (length cs) = omega (arith, length-map (reverse links) (λ m. m.chain), length-reverse links) in
+    let here : length links + 1 ≡ newest link.chain (link.chain ∷ cs) = count ∙ ap (λ b. cond b (suc (length cs)) (newest link.chain cs)) (sym (eq-eqb link.chain link.chain refl)) in (
+      subst AreLinked back (l, older, h),
+      subst (λ w. AreNewest w (set entries link.chain (length links + 1))) back
+          (changed entries link.chain (length links + 1) (λ chain. newest chain cs) (λ chain. newest chain (link.chain ∷ cs)) len l here (λ chain q. sym (passed link.chain chain cs q)) n),
+    )
+
+pub more_chains : (links : List Link) (link : Link) (chains : List ℕ) → chains_of links ≡ chains → chains_of (links ++ link ∷ []) ≡ chains ++ link.chain ∷ []
+more_chains links link chains same = map-append (λ m. m.chain) links (link ∷ []) ∙ ap (λ w. w ++ link.chain ∷ []) same

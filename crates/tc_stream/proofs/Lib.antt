@@ -25,6 +25,7 @@ pub mod InstructionLaws
 pub mod FrontExists
 pub mod FinalSteps
 pub mod RootOpens
+pub mod FailedLaws
 pub mod FaultLaws
 pub mod NamesSteps
 pub mod SplitLaws

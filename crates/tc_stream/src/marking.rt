@@ -114,11 +114,13 @@ impl Reader<'_> {
     pub(crate) fn no_tag(&self) -> u32
         ensures { result ≤ self.now.begun + 1 }
     {
-        if self.phase == Phase::End || self.elements.is_full() {
-            self.begun
-        } else {
-            self.begun + 1
+        if let Phase::End = self.phase {
+            return self.begun;
         }
+        if self.elements.is_full() {
+            return self.begun;
+        }
+        self.begun + 1
     }
 
     /// Tells by the character behind `<!` what has begun.

@@ -8,7 +8,7 @@ use std::alloc::{AllocError, Global};
 pub(crate) const MOST_NAMES: usize = 65_536;
 
 /// Where bytes stand: their first place, and how many they are.
-#[derive(Clone, Copy, Debug, PartialEq, Eq)]
+#[derive(Clone, Copy)]
 pub(crate) struct Span {
     pub(crate) start: usize,
     pub(crate) length: usize,

@@ -3,7 +3,7 @@ ghost use Rattle.std.specs.Prelude.{◌≡◌};
 ghost use Rattle.tc_stream.specs.Phases as after;
 
 /// Which part of a document is read (XML 1.0, 2.1, [1]; 2.8, [22]).
-#[derive(Clone, Copy, PartialEq, Eq)]
+#[derive(Clone, Copy)]
 pub(crate) enum Phase {
     /// Nothing, not even a byte order mark.
     Mark,

@@ -29,7 +29,7 @@ use Rattle.tc_top.specs.Limits.{IsWithinLimits, AreFew}
 use Rattle.tc_top.specs.Pairs.{HasFewNodes, IsPairOf}
 use Rattle.tc_top.specs.declared.compare.Pair.{Pair}
 use Rattle.tc_top.proofs.MachineLimits.{lawful}
-use Rattle.tc_top.proofs.Nothing.{no_rules}
+use Rattle.tc_top.specs.Nothing.{no_rules}
 
 -- a stylesheet without rules is well-formed
 no_each : (e : ForEach) → Contains (eaches_of no_rules) e → ⊥

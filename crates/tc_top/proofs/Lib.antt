@@ -1,5 +1,6 @@
 pub mod FewRows
 pub mod Nothing
+pub mod CutShort
 pub mod DemoSizes
 pub mod OneRefusal
 pub mod SchemaTextLaws

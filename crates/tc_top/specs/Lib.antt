@@ -1,4 +1,5 @@
 pub mod Limits
+pub mod Nothing
 pub mod SchemaTexts
 pub mod Checking
 pub mod MachinesSeen
@@ -17,4 +18,5 @@ pub mod OneAnswer
 pub mod Program
 pub mod Certifying
 pub mod CertifyingSeen
+pub mod Tasks
 pub mod CertifiedFiles

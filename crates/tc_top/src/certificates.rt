@@ -7,10 +7,9 @@ ghost use Rattle.tc_top.specs.AnswersSeen.{IsRightFor};
 ghost use Rattle.tc_top.specs.Checking.{most_rows};
 
 use crate::check::row_limit;
-use crate::prove::prove_texts;
+use crate::task::{Task, decide_texts};
 use crate::unread::answer_unread;
 use crate::upgrade::upgrade_text;
-use crate::verify::verify_texts;
 use std::alloc::Global;
 use tc_answer::{Answer, Source, Triple, read_operand, read_triple, read_verified};
 use tc_base::NoMemory;
@@ -32,7 +31,7 @@ pub fn prove<S: Store>(
         → IsRightFor words (Happened S.read_gives S.holds S.faults store.old store.new) said) }
 {
     match read_triple(alloc, triple, store) {
-        Ok(operands) => prove_texts(alloc, row_limit(limit), &operands),
+        Ok(operands) => decide_texts(alloc, Task::Prove(row_limit(limit)), &operands),
         Err(unread) => answer_unread(alloc, unread),
     }
 }
@@ -51,7 +50,9 @@ pub fn verify<S: Store>(
         → IsRightFor words (Happened S.read_gives S.holds S.faults store.old store.new) said) }
 {
     match read_verified(alloc, triple, certificate, store) {
-        Ok((operands, certificate)) => verify_texts(alloc, &operands, &certificate),
+        Ok((operands, certificate)) => {
+            decide_texts(alloc, Task::Verify(&certificate), &operands)
+        }
         Err(unread) => answer_unread(alloc, unread),
     }
 }

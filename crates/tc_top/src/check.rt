@@ -1,25 +1,24 @@
 // What `check` answers.
-ghost use Rattle.std.specs.Prelude.{◌≡◌, ◌≤◌, ℕ, List, IfOk, length};
-ghost use Rattle.tc_base.specs.Reading.{longest_text};
+ghost use Rattle.std.specs.Prelude.{◌≡◌, ◌≤◌, ℕ, List, IfOk};
 ghost use Rattle.tc_beh.specs.Machines.{IsMachine, IsMachineOf};
 ghost use Rattle.tc_io.specs.Reads.{Happened};
 ghost use Rattle.tc_model.specs.Trees.{none, IsDocument};
 ghost use Rattle.tc_model.specs.Views as see;
 ghost use Rattle.tc_rows.specs.Triples as t;
 ghost use Rattle.tc_answer.specs.Answers as a;
-ghost use Rattle.tc_top.specs.Causes.{Checks, Finds};
+ghost use Rattle.tc_top.specs.Causes.{Finds};
 ghost use Rattle.tc_answer.specs.AnswersSeen.{Says};
 ghost use Rattle.tc_top.specs.AnswersSeen.{IsRightFor, IsRunOf};
 ghost use Rattle.tc_top.specs.Checking.{IsWithinTripleLimits, most_rows};
 ghost use Rattle.tc_answer.specs.Words as w;
 ghost use Rattle.tc_answer.specs.Words.{Words};
 
-use crate::texts::{early_answer, machine_of_texts};
+use crate::task::{Task, decide_texts};
 use crate::unread::answer_unread;
 use bumpalo::Bump;
 use std::alloc::Global;
 use tc_answer::limits::{MOST_OUTPUTS, MOST_ROWS};
-use tc_answer::{Answer, Operands, RowCount, Triple, read_triple};
+use tc_answer::{Answer, RowCount, Triple, read_triple};
 use tc_base::NoMemory;
 use tc_beh::Machine;
 use tc_close::{CloseFault, Decision};
@@ -43,7 +42,7 @@ pub fn check<S: Store>(
         → IsRightFor words (Happened S.read_gives S.holds S.faults store.old store.new) said) }
 {
     match read_triple(alloc, triple, store) {
-        Ok(operands) => check_texts(alloc, row_limit(limit), &operands),
+        Ok(operands) => decide_texts(alloc, Task::Check(row_limit(limit)), &operands),
         Err(unread) => answer_unread(alloc, unread),
     }
 }
@@ -58,25 +57,8 @@ pub(crate) fn row_limit(limit: Option<u32>) -> u32
     }
 }
 
-/// Decides by the texts of the operands whether the stylesheet is safe.
-pub fn check_texts(alloc: Global, most: u32, operands: &Operands<'_>) -> Result<Answer, NoMemory>
-    requires few { most ≤ 4000 }
-    requires input { length operands.now.input.text.items ≤ longest_text }
-    requires output { length operands.now.output.text.items ≤ longest_text }
-    requires sheet { length operands.now.sheet.text.items ≤ longest_text }
-    ensures { IfOk result (λ said. (answer : a.Answer) × Says said answer
-        × Checks most operands.now.input.name.now operands.now.output.name.now operands.now.sheet.name.now
-        operands.now.input.text.items operands.now.output.text.items operands.now.sheet.text.items answer) }
-{
-    let arena = Bump::new(alloc);
-    match machine_of_texts(alloc, &arena, operands) {
-        Ok(machine) => decide(alloc, &arena, most, &machine),
-        Err(undecided) => early_answer(undecided),
-    }
-}
-
 /// Decides by the machine whether its stylesheet is safe.
-fn decide<'b>(
+pub(crate) fn decide<'b>(
     alloc: Global,
     arena: &'b Bump,
     most: u32,

@@ -17,6 +17,7 @@ ghost use Rattle.tc_answer.specs.declared.limits.TheConstants.{MOST_ROWS, MOST_S
 ghost use Rattle.tc_top.specs.SchemaTexts.{IsSchemaOfText};
 ghost use Rattle.tc_top.specs.Pairs.{HasFewNodes, IsPairOf, SaysCovers, question as asked};
 
+use crate::empty::no_rules;
 use crate::machine::{LimitFault, grammar_within_limits, input_automaton};
 use crate::schema_texts::read_operand_schema;
 use crate::unread::answer_unaccepted;
@@ -29,11 +30,11 @@ use tc_auto::Auto;
 use tc_base::limits::MOST_SYMBOLS;
 use tc_base::{Limit, NoMemory};
 use tc_incl::{Cover, InclFault, included};
-use tc_model::{Node, Sheet};
+use tc_model::Node;
 use tc_read::Schema;
 
 /// What is asked of two schemas.
-#[derive(Clone, Copy, Debug, PartialEq, Eq)]
+#[derive(Clone, Copy)]
 pub enum Question {
     /// Whether each document that is valid for the first is valid for the second.
     Inclusion,
@@ -147,14 +148,9 @@ fn symbols_of(
     ensures err { IfErr result (λ e. (x y : g.Grammar) → IsReadOf x first.now → IsReadOf y second.now
         → IsWithinLimits x input MOST_INPUT_STATES → IsWithinLimits y input MOST_INPUT_STATES → IsCauseBy (PassesPairLimit x y) e) }
 {
-    let nothing = Sheet {
-        modes: 1,
-        eaches: 0,
-        rules: &[],
-        named: &[],
-    };
     let first = grammar_within_limits(first)?;
     let second = grammar_within_limits(second)?;
+    let nothing = no_rules();
     match Alphabet::of(alloc, first, second, &nothing) {
         Ok(alphabet) => Ok(alphabet),
         Err(AlphaFault::TooManySymbols) => Err(LimitFault::Passes(Limit::Symbols, MOST_SYMBOLS)),

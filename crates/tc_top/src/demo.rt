@@ -7,7 +7,7 @@ ghost use Rattle.tc_answer.specs.AnswersSeen.{Says};
 ghost use Rattle.tc_top.specs.Demo.{demo_line, demo_schema, demo_sheet, input_name, output_name, sheet_name};
 ghost use Rattle.tc_answer.specs.declared.limits.TheConstants.{MOST_ROWS};
 
-use crate::check::check_texts;
+use crate::task::{Task, decide_texts};
 use std::alloc::Global;
 use tc_answer::limits::MOST_ROWS;
 use tc_answer::{Answer, Operand, Operands};
@@ -41,7 +41,7 @@ pub fn demo(alloc: Global, size: u32) -> Result<Answer, NoMemory>
             text: sheet,
         },
     };
-    check_texts(alloc, MOST_ROWS, &operands)
+    decide_texts(alloc, Task::Check(MOST_ROWS), &operands)
 }
 
 /// The text of a schema of so many elements.

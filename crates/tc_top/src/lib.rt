@@ -5,6 +5,7 @@ mod certificates;
 mod check;
 mod compare;
 mod demo;
+mod empty;
 pub mod laws;
 mod machine;
 mod pieces;
@@ -13,6 +14,7 @@ mod prove;
 mod run;
 mod schema_texts;
 mod schemas;
+mod task;
 mod texts;
 mod unread;
 mod upgrade;
@@ -47,11 +49,12 @@ ghost use Rattle.tc_answer.specs.WordsSeen.{texts};
 
 use certificates::{prove, upgrade, verify};
 use check::check;
+use compare::Question;
 use demo::demo;
 use pieces::valid_in_pieces;
 pub use program::run_program;
 use run::run;
-use schemas::{include, same};
+use schemas::compare;
 use std::alloc::Global;
 use tc_answer::{Answer, Command, read_words, write_lines};
 pub use tc_answer::{Status, WordList};
@@ -197,7 +200,9 @@ fn answer_words<S: Store>(
         Command::Verify(triple, certificate) => verify(alloc, triple, certificate, store),
         Command::Demo(size) => demo(alloc, size),
         Command::Upgrade(certificate) => upgrade(alloc, certificate, store),
-        Command::Include(first, second) => include(alloc, first, second, store),
-        Command::Same(first, second) => same(alloc, first, second, store),
+        Command::Include(first, second) => {
+            compare(alloc, Question::Inclusion, first, second, store)
+        }
+        Command::Same(first, second) => { compare(alloc, Question::Equality, first, second, store) }
     }
 }

@@ -32,7 +32,7 @@ use tc_read::Schema;
 use tc_rules::{Rules, RulesFault};
 
 /// Why there is no machine, or no automaton.
-#[derive(Clone, Copy, Debug, PartialEq, Eq)]
+#[derive(Clone, Copy)]
 pub enum LimitFault {
     /// This limit is passed, which has this number, and none that is tried before it.
     Passes(Limit, u32),

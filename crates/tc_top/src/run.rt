@@ -17,6 +17,7 @@ ghost use Rattle.tc_top.specs.Limits.{AreFew, IsWithinSheetLimits, symbols_of_sh
 ghost use Rattle.tc_answer.specs.Words as w;
 ghost use Rattle.tc_answer.specs.Words.{Words};
 
+use crate::empty::no_schema;
 use crate::unread::{answer_unaccepted, answer_unread};
 use bumpalo::Bump;
 use std::alloc::Global;
@@ -25,7 +26,7 @@ use tc_answer::{Answer, Operand, Source, read_pair};
 use tc_base::limits::{MOST_ANCESTORS, MOST_PREDICATES, MOST_SELECTS, MOST_SYMBOLS};
 use tc_base::{Limit, NoMemory};
 use tc_io::Store;
-use tc_model::{Grammar, Node, Pat, Sheet};
+use tc_model::{Node, Sheet};
 use tc_read::{read_document, read_sheet};
 use tc_rules::{Rules, RulesFault};
 use tc_run::RunFault;
@@ -138,10 +139,7 @@ fn alphabet_of(alloc: Global, sheet: &Sheet<'_>) -> Result<Alphabet, AlphaFault>
     ensures few { OnOk result (AreFew (symbols_of_sheet (see.sheet sheet.now))) }
     ensures many { IfErr result (λ e. e ≡ AlphaFault.TooManySymbols → MOST_SYMBOLS < symbol_count (symbols_of_sheet (see.sheet sheet.now))) }
 {
-    let nothing = Grammar {
-        start: Pat::NotAllowed,
-        elements: &[],
-    };
+    let nothing = no_schema();
     let twin = nothing;
     Alphabet::of(alloc, &nothing, &twin, sheet)
 }

@@ -17,6 +17,7 @@ ghost use Rattle.tc_top.specs.Limits.{AreFew, symbols_of_schema};
 ghost use Rattle.tc_answer.specs.Words as w;
 ghost use Rattle.tc_answer.specs.Words.{Words};
 
+use crate::empty::{no_rules, no_schema};
 use crate::schema_texts::read_operand_schema;
 use crate::unread::{answer_unaccepted, answer_unread};
 use bumpalo::Bump;
@@ -28,7 +29,7 @@ use tc_base::limits::{MOST_INPUT_STATES, MOST_SYMBOLS};
 use tc_base::{Limit, NoMemory};
 use tc_hedge::Hedge;
 use tc_io::Store;
-use tc_model::{Grammar, Node, Pat, Sheet};
+use tc_model::{Grammar, Node};
 use tc_read::{Schema, read_document};
 
 /// Reads the operands, and tells whether the document is valid.
@@ -128,15 +129,7 @@ pub(crate) fn alphabet_of(alloc: Global, grammar: &Grammar<'_>) -> Result<Alphab
     ensures few { OnOk result (AreFew (symbols_of_schema (see.grammar grammar.now))) }
     ensures many { IfErr result (λ e. e ≡ AlphaFault.TooManySymbols → MOST_SYMBOLS < symbol_count (symbols_of_schema (see.grammar grammar.now))) }
 {
-    let nothing = Grammar {
-        start: Pat::NotAllowed,
-        elements: &[],
-    };
-    let sheet = Sheet {
-        modes: 1,
-        eaches: 0,
-        rules: &[],
-        named: &[],
-    };
+    let nothing = no_schema();
+    let sheet = no_rules();
     Alphabet::of(alloc, grammar, &nothing, &sheet)
 }

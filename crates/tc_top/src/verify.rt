@@ -9,41 +9,19 @@ ghost use Rattle.tc_cert.specs.Texts.{CertificateText};
 ghost use Rattle.tc_model.specs.CertificateData.{IsFormed};
 ghost use Rattle.tc_model.specs.Symbols.{symbol_count};
 ghost use Rattle.tc_rows.specs.Triples as t;
-ghost use Rattle.tc_top.specs.Certifying.{Verifies, Accepts, told_by};
+ghost use Rattle.tc_top.specs.Certifying.{Accepts, told_by};
 ghost use Rattle.tc_top.specs.CertifyingSeen.{ranges_of};
 ghost use Rattle.tc_top.specs.Checking.{IsWithinTripleLimits};
 
-use crate::texts::{early_answer, machine_of_texts};
 use bumpalo::Bump;
 use std::alloc::Global;
 use tc_alpha::Sym;
-use tc_answer::{Answer, Operand, Operands, Rejection};
+use tc_answer::{Answer, Rejection};
 use tc_base::NoMemory;
 use tc_beh::{Machine, Shape};
 use tc_cert::{CertFault, Ranges, first_unfit, read_cert};
 use tc_model::CertData;
 use tc_verify::{Reject, RejectRule, VerifyFault};
-
-/// Decides by the texts of the operands whether a certificate holds.
-pub fn verify_texts(
-    alloc: Global,
-    operands: &Operands<'_>,
-    certificate: &Operand<'_>,
-) -> Result<Answer, NoMemory>
-    requires input { length operands.now.input.text.items ≤ longest_text }
-    requires output { length operands.now.output.text.items ≤ longest_text }
-    requires sheet { length operands.now.sheet.text.items ≤ longest_text }
-    requires certificate { length certificate.now.text.items ≤ longest_text }
-    ensures { IfOk result (λ said. (answer : a.Answer) × Says said answer
-        × Verifies operands.now.input.name.now operands.now.output.name.now operands.now.sheet.name.now
-        operands.now.input.text.items operands.now.output.text.items operands.now.sheet.text.items certificate.now.text.items answer) }
-{
-    let arena = Bump::new(alloc);
-    match machine_of_texts(alloc, &arena, operands) {
-        Ok(machine) => verify_text(alloc, &machine, &certificate.text),
-        Err(undecided) => early_answer(undecided),
-    }
-}
 
 /// The ranges of the numbers of a certificate.
 fn ranges_by(shape: Shape) -> Ranges
@@ -59,7 +37,11 @@ fn ranges_by(shape: Shape) -> Ranges
 }
 
 /// Decides by the bytes of a certificate whether it holds: only what fits is unfolded.
-fn verify_text(alloc: Global, machine: &Machine<'_>, text: &[u8]) -> Result<Answer, NoMemory>
+pub(crate) fn verify_text(
+    alloc: Global,
+    machine: &Machine<'_>,
+    text: &[u8],
+) -> Result<Answer, NoMemory>
     requires machine { IsMachine machine.now }
     requires text { length text.now ≤ longest_text }
     ensures { IfOk result (λ said. (x : t.Triple) → IsMachineOf x machine.now → IsWithinTripleLimits x.input x.output (t.sheet x)

@@ -4,12 +4,15 @@ use Rattle.std.specs.List.{Contains}
 use Rattle.tc_mat.specs.Held.{AreDifferent}
 use Rattle.tc_rows.specs.Triples.{Triple}
 use Rattle.tc_beh.specs.Machines.{IsMachine, IsMachineOf}
+use Rattle.tc_beh.specs.Outs.{sets_of}
 use Rattle.tc_beh.specs.Rooms.{hedge_layout, tree_layout}
 use Rattle.tc_beh.specs.RoomsOf.{IsRoomOf}
 use Rattle.tc_beh.specs.RowsOf.{AreRowsOf}
+use Rattle.tc_beh.specs.declared.machine.Machine.{Machine}
 use Rattle.tc_beh.specs.declared.rows.Rows.{Rows}
 use Rattle.tc_beh.specs.declared.rooms.HRow.{HRow}
 use Rattle.tc_beh.specs.declared.rooms.TRow.{TRow}
+use Rattle.tc_model.specs.declared.lists.CertData.{CertData}
 use Rattle.tc_verify.specs.Listings.{Listing}
 use Rattle.tc_verify.specs.declared.checker.Checker.{Checker}
 use Rattle.tc_verify.specs.Rooms.{HedgeStands, TreeStands, hedge_numbers, tree_numbers}
@@ -38,3 +41,12 @@ AreChecked c = IsChecker c.rows c.hedges.items c.trees.items c.hedge_lists c.tre
 
 abbrev pub view_of : Checker → Listing
 view_of c = listing_of c.rows c.hedges.items c.trees.items
+
+-- rows over the sets of a certificate, and rooms for what is made of them
+pub record AreBegun (m : Machine) (c : CertData) (r : Rows) (new_hedge : HRow) (new_tree : TRow) : Type 0 where
+  pub machine : r.machine.now ≡ m
+  pub stand : (x : Triple) → IsMachineOf x m → AreRowsOf x r
+  pub sets : sets_of r.outputs.matrices ≡ c.outputs
+  pub fixed : r.is_fixed ≡ true
+  pub room : (x : Triple) → IsMachineOf x m → IsRoomOf (hedge_layout x) new_hedge.room
+  pub tree_room : (x : Triple) → IsMachineOf x m → IsRoomOf (tree_layout x) new_tree.room

@@ -1,5 +1,6 @@
 -- Rooms of the rows of a certificate's lines.
-use Rattle.std.specs.Prelude.{◌≡◌, ℕ, List, map, slice_get, Some}
+use Rattle.std.specs.Prelude.{◌≡◌, ◌↔◌, ℕ, List, length, map, slice_get, Some}
+use Rattle.std.specs.List.{Contains}
 use Rattle.tc_mat.specs.Held.{Held}
 use Rattle.tc_rows.specs.Triples.{Triple}
 use Rattle.tc_rows.specs.Rows.{IsHedgeRow, IsTreeRow}
@@ -42,3 +43,14 @@ hedge_numbers rooms = map (λ h. h.room.numbers.items) rooms
 
 abbrev pub tree_numbers : List TRow → List (List ℕ)
 tree_numbers rooms = map (λ t. t.room.numbers.items) rooms
+
+-- the rooms of all lines, and their numbers
+pub record AreReadHedges (m : Machine) (c : CertData) (rooms : List HRow) (lists : List (List ℕ)) : Type 0 where
+  pub count : length rooms ≡ length c.hedges
+  pub each : (k : ℕ) (h : HRow) → slice_get rooms k ≡ Some h → IsReadHedge m c k h
+  pub held : (ns : List ℕ) → Contains lists ns ↔ Contains (hedge_numbers rooms) ns
+
+pub record AreReadTrees (m : Machine) (c : CertData) (rooms : List TRow) (lists : List (List ℕ)) : Type 0 where
+  pub count : length rooms ≡ length c.trees
+  pub each : (k : ℕ) (t : TRow) → slice_get rooms k ≡ Some t → IsReadTree m c k t
+  pub held : (ns : List ℕ) → Contains lists ns ↔ Contains (tree_numbers rooms) ns

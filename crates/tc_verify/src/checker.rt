@@ -1,8 +1,10 @@
 // The rows of a certificate, and whether what comes of them is listed.
+ghost use Rattle.std.specs.Prelude.{◌≡◌, [], IfOk};
 ghost use Rattle.tc_beh.specs.Machines.{IsMachine, IsMachineOf};
 ghost use Rattle.tc_rows.specs.Triples.{Triple};
 ghost use Rattle.tc_model.specs.CertificateData.{IsFormed};
 ghost use Rattle.tc_model.specs.CertificateFits.{AllFit};
+ghost use Rattle.tc_verify.specs.Checkers.{AreBegun};
 ghost use Rattle.tc_verify.specs.Fits.{sizes};
 
 use crate::lists::Lists;
@@ -25,11 +27,45 @@ pub(crate) struct Checker<'m, 'b> {
     new_tree: TRow,
 }
 
+/// Rows over the sets of pairs of a certificate whose numbers fit, and rooms for what is made of rows, with no line read.
+///
+/// # Errors
+///
+/// There is no memory for them.
+fn begun<'m, 'b>(
+    alloc: Global,
+    machine: &'m Machine<'b>,
+    cert: &CertData,
+) -> Result<Checker<'m, 'b>, NoMemory>
+    requires machine { IsMachine machine.now }
+    requires formed { IsFormed cert.now }
+    requires fit { (x : Triple) → IsMachineOf x machine.now → AllFit (sizes x) cert.now }
+    ensures begun { IfOk result (λ c. AreBegun machine.now cert.now c.rows c.new_hedge c.new_tree) }
+    ensures hedges { IfOk result (λ c. c.hedges.items ≡ []) }
+    ensures trees { IfOk result (λ c. c.trees.items ≡ []) }
+    ensures hedge_lists { IfOk result (λ c. c.hedge_lists ≡ []) }
+    ensures tree_lists { IfOk result (λ c. c.tree_lists ≡ []) }
+{
+    let new_hedge = HRow::room(alloc, machine)?;
+    let new_tree = TRow::room(alloc, machine)?;
+    let rows = Rows::fixed(alloc, machine, &cert.outputs)?;
+    Ok(Checker {
+        rows,
+        hedges: Vec::new(alloc),
+        trees: Vec::new(alloc),
+        hedge_lists: Lists::new(alloc),
+        tree_lists: Lists::new(alloc),
+        new_hedge,
+        new_tree,
+    })
+}
+
 impl<'m, 'b> Checker<'m, 'b> {
-    ghost use Rattle.std.specs.Prelude.{◌≡◌, ◌<◌, IfOk, length, MatchBool};
+    ghost use Rattle.std.specs.Prelude.{◌<◌, length, MatchBool, OnOk};
     ghost use Rattle.tc_model.specs.Symbols.{symbol_count};
     ghost use Rattle.tc_rows.specs.CertificateRows.{hedges_of, trees_of};
     ghost use Rattle.tc_verify.specs.Checkers.{AreChecked, view_of};
+    ghost use Rattle.tc_verify.specs.Rooms.{AreReadHedges, AreReadTrees};
     ghost use Rattle.tc_verify.specs.Listings.{hedge_rows, tree_rows, EmptyHolds, EmptyBreaks, TextHolds, TextBreaks, AppendHolds, AppendBreaks, WrapHolds, WrapBreaks, RootHolds, RootBreaks};
 
     /// The rows of a certificate whose numbers fit.
@@ -50,20 +86,49 @@ impl<'m, 'b> Checker<'m, 'b> {
         ensures hedges { IfOk result (λ c. (x : Triple) → IsMachineOf x machine.now → hedge_rows (view_of c) x ≡ hedges_of cert.now) }
         ensures trees { IfOk result (λ c. (x : Triple) → IsMachineOf x machine.now → tree_rows (view_of c) x ≡ trees_of cert.now) }
     {
-        let rows = Rows::fixed(alloc, machine, &cert.outputs)?;
-        let (hedges, hedge_lists) = read_hedges(alloc, machine, cert)?;
-        let (trees, tree_lists) = read_trees(alloc, machine, cert)?;
-        let new_hedge = HRow::room(alloc, machine)?;
-        let new_tree = TRow::room(alloc, machine)?;
-        Ok(Checker {
-            rows,
-            hedges,
-            trees,
-            hedge_lists,
-            tree_lists,
-            new_hedge,
-            new_tree,
-        })
+        let mut checker = begun(alloc, machine, cert)?;
+        let read = checker.read(alloc, machine, cert);
+        match read {
+            Ok(()) => Ok(checker),
+            Err(fault) => {
+                drop(checker);
+                Err(fault)
+            }
+        }
+    }
+
+    /// Reads the lines of a certificate, where none was read.
+    ///
+    /// # Errors
+    ///
+    /// There is no memory for the rooms.
+    fn read(
+        &mut self,
+        alloc: Global,
+        machine: &Machine<'_>,
+        cert: &CertData,
+    ) -> Result<(), NoMemory>
+        requires machine { IsMachine machine.now }
+        requires formed { IsFormed cert.now }
+        requires fit { (x : Triple) → IsMachineOf x machine.now → AllFit (sizes x) cert.now }
+        requires begun { AreBegun machine.now cert.now self.old.rows self.old.new_hedge self.old.new_tree }
+        requires hedges { self.old.hedges.items ≡ [] }
+        requires trees { self.old.trees.items ≡ [] }
+        requires hedge_lists { self.old.hedge_lists ≡ [] }
+        requires tree_lists { self.old.tree_lists ≡ [] }
+        ensures begun { AreBegun machine.now cert.now self.new.rows self.new.new_hedge self.new.new_tree }
+        ensures hedges { OnOk result (AreReadHedges machine.now cert.now self.new.hedges.items self.new.hedge_lists) }
+        ensures trees { OnOk result (AreReadTrees machine.now cert.now self.new.trees.items self.new.tree_lists) }
+    {
+        read_hedges(
+            alloc,
+            machine,
+            cert,
+            &mut self.hedges,
+            &mut self.hedge_lists,
+        )?;
+        read_trees(alloc, machine, cert, &mut self.trees, &mut self.tree_lists)?;
+        Ok(())
     }
 
     /// How many rows of lists of trees there are.

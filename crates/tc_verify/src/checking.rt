@@ -61,7 +61,9 @@ pub fn verify(alloc: Global, machine: &Machine<'_>, cert: &CertData) -> Result<(
         return Err(VerifyFault::Rejected(told(RejectRule::Fit, line, 0)));
     }
     let mut checker = Checker::new(alloc, machine, cert)?;
-    match try_rules(&mut checker) {
+    let tried = try_rules(&mut checker);
+    drop(checker);
+    match tried {
         Ok(()) => Ok(()),
         Err(broken) => Err(VerifyFault::Rejected(reject_of(cert, broken))),
     }

@@ -6,7 +6,7 @@ ghost use Rattle.tc_verify.specs.Firsts.{ListsHold, RowsHold, WrapsToo, AllHold,
 use crate::checker::Checker;
 
 /// A rule that is broken, by the places of rows and the numbers of symbols.
-#[derive(Clone, Copy, Debug, PartialEq, Eq)]
+#[derive(Clone, Copy)]
 pub(crate) enum Broken {
     /// The row of no tree isn't listed.
     Empty,

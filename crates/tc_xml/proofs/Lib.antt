@@ -9,6 +9,7 @@ pub mod TwiceLaws
 pub mod GatherLaws
 pub mod ContentLaws
 pub mod FailedLaws
+pub mod MemoryLaws
 pub mod ItemLaws
 pub mod ElementLaws
 pub mod RootLaws

@@ -67,13 +67,11 @@ pub(crate) fn declared_by<'t>(name: QualifiedName<'t>) -> Option<&'t str>
     ensures { MatchOption result (IsFalse (is_declaring (written_name name.entry)))
         (λ prefix. IsTrue (is_declaring (written_name name.entry)) × (prefix.now ≡ declared_prefix (written_name name.entry))) }
 {
-    if name.prefix == "" && name.local == "xmlns" {
-        return Some("");
+    match (name.prefix, name.local) {
+        ("", "xmlns") => Some(""),
+        ("xmlns", prefix) => Some(prefix),
+        _ => None,
     }
-    if name.prefix == "xmlns" {
-        return Some(name.local);
-    }
-    None
 }
 
 /// The prefix that this attribute declares, where it is a declaration.

@@ -1,9 +1,8 @@
-use Rattle.std.proofs.Common.{◌≡◌, [], ap, ◌∙◌, sym, subst, append-nil}
+use Rattle.std.proofs.Common.{◌≡◌, ap, ◌∙◌, sym, subst}
 use Rattle.tc_model.specs.Chains.{joined_texts}
 use Rattle.tc_model.specs.Safety.{IsResultOf}
 use Rattle.tc_model.specs.Views as see
 use Rattle.tc_model.specs.Trees.{Trees, none, normal_form}
-use Rattle.tc_rules.specs.Kept.{told}
 use Rattle.tc_run.specs.Lettered.{bare}
 use Rattle.tc_run.specs.Limits.{KeepsLimits, IsCause}
 use Rattle.tc_run.specs.Running.{sheet_by}
@@ -17,8 +16,11 @@ pub returns-in_err-text-clause-cause : goal.returns-in_err-text-clause-cause
 returns-in_err-text-clause-cause c =
     refused c.args.alphabet.now c.args.rules.now c.requires.rules (see.before c.args.doc.now none) c.from_residual.result c.from_residual.ensures.1
 
-pub with_letters-requires-clause-text : goal.with_letters-requires-clause-text
-with_letters-requires-clause-text c = ([], c.in_ok-text.ensures ∙ sym (append-nil (joined_texts (see.trees c.from_ref-nodes.result.now))))
+pub lettered_document-requires-clause-runner : goal.lettered_document-requires-clause-runner
+lettered_document-requires-clause-runner c = c.requires.rules
+
+pub lettered_document-requires-clause-text : goal.lettered_document-requires-clause-text
+lettered_document-requires-clause-text c = c.in_ok-text.ensures
 
 pub returns-in_err-document-clause-cause : goal.returns-in_err-document-clause-cause
 returns-in_err-document-clause-cause c =
@@ -27,18 +29,18 @@ returns-in_err-document-clause-cause c =
 pub root-requires-clause-nodes : goal.root-requires-clause-nodes
 root-requires-clause-nodes c =
     let r : Runner = record { rules = c.args.rules; alphabet = c.args.alphabet } in
-    document_lettered r (trees c.in_ok-document.document.nodes.now) (see.trees c.from_ref-nodes.result.now) c.in_ok-document.ensures.nodes
+    document_lettered r (trees c.in_ok-document.document.now) (see.trees c.from_ref-nodes.result.now) c.in_ok-document.ensures
 
 pub root-requires-clause-string : goal.root-requires-clause-string
 root-requires-clause-string c =
     let r : Runner = record { rules = c.args.rules; alphabet = c.args.alphabet } in
-    c.in_ok-text.ensures ∙ sym (ap joined_texts (document_bare r (trees c.in_ok-document.document.nodes.now) (see.trees c.from_ref-nodes.result.now) c.in_ok-document.ensures.nodes))
+    c.in_ok-text.ensures ∙ sym (ap joined_texts (document_bare r (trees c.in_ok-document.document.now) (see.trees c.from_ref-nodes.result.now) c.in_ok-document.ensures))
 
 pub returns-in_err-root-clause-cause : goal.returns-in_err-root-clause-cause
 returns-in_err-root-clause-cause c =
     let r : Runner = record { rules = c.args.rules; alphabet = c.args.alphabet } in
-    let given = trees c.in_ok-document.document.nodes.now in
-    let same : bare given ≡ see.before c.args.doc.now none = document_bare r given (see.trees c.from_ref-nodes.result.now) c.in_ok-document.ensures.nodes ∙ ap see.trees c.from_ref-nodes.ensures.value in
+    let given = trees c.in_ok-document.document.now in
+    let same : bare given ≡ see.before c.args.doc.now none = document_bare r given (see.trees c.from_ref-nodes.result.now) c.in_ok-document.ensures ∙ ap see.trees c.from_ref-nodes.ensures.value in
     let cause = subst (λ d. IsCause (sheet_by r) d c.in_err-root.field-0.0) same
     (passes r c.requires.rules (bare given) c.new-output.result c.root.new.output c.new-output.ensures.nodes c.new-output.ensures.work c.in_err-root.field-0.0 c.in_err-root.ensures.outcome) in
     told_as c.from_residual-in_err-root.result c.in_err-root.field-0.0 (λ e. IsCause (sheet_by r) (see.before c.args.doc.now none) e) c.from_residual-in_err-root.ensures.1 cause
@@ -50,8 +52,8 @@ returns-in_err-normalise-clause-cause c =
 pub returns-clause-result : goal.returns-clause-result
 returns-clause-result c =
     let r : Runner = record { rules = c.args.rules; alphabet = c.args.alphabet } in
-    let given = trees c.in_ok-document.document.nodes.now in
-    let same : bare given ≡ see.before c.args.doc.now none = document_bare r given (see.trees c.from_ref-nodes.result.now) c.in_ok-document.ensures.nodes ∙ ap see.trees c.from_ref-nodes.ensures.value in
+    let given = trees c.in_ok-document.document.now in
+    let same : bare given ≡ see.before c.args.doc.now none = document_bare r given (see.trees c.from_ref-nodes.result.now) c.in_ok-document.ensures ∙ ap see.trees c.from_ref-nodes.ensures.value in
     let result : Trees = see.trees c.in_ok-normalise.field-0.now in
     subst (λ d. IsResultOf (sheet_by r) d result) same
     (result_is r c.requires.rules (bare given) c.new-output.result c.root.new.output c.new-output.ensures.nodes c.new-output.ensures.work c.in_ok-root.ensures.outcome result
@@ -60,25 +62,7 @@ returns-clause-result c =
 pub returns-clause-within : goal.returns-clause-within
 returns-clause-within c =
     let r : Runner = record { rules = c.args.rules; alphabet = c.args.alphabet } in
-    let given = trees c.in_ok-document.document.nodes.now in
-    let same : bare given ≡ see.before c.args.doc.now none = document_bare r given (see.trees c.from_ref-nodes.result.now) c.in_ok-document.ensures.nodes ∙ ap see.trees c.from_ref-nodes.ensures.value in
+    let given = trees c.in_ok-document.document.now in
+    let same : bare given ≡ see.before c.args.doc.now none = document_bare r given (see.trees c.from_ref-nodes.result.now) c.in_ok-document.ensures ∙ ap see.trees c.from_ref-nodes.ensures.value in
     subst (λ d. KeepsLimits (sheet_by r) d) same
     (keeps_limits r c.requires.rules (bare given) c.new-output.result c.root.new.output c.new-output.ensures.nodes c.new-output.ensures.work c.in_ok-root.ensures.outcome)
-
-pub returns-in_err-known-clause-cause : goal.returns-in_err-known-clause-cause
-returns-in_err-known-clause-cause c =
-    refused c.args.alphabet.now c.args.rules.now c.requires.rules (see.before c.args.doc.now none) c.from_residual-in_err-known.result c.from_residual-in_err-known.ensures.1
-
-pub root-requires-clause-known : goal.root-requires-clause-known
-root-requires-clause-known c = record { known = c.in_ok-known.ensures c.args.alphabet.now (told c.args.rules.now) }
-
-pub returns-in_err-names-clause-cause : goal.returns-in_err-names-clause-cause
-returns-in_err-names-clause-cause c =
-    refused c.args.alphabet.now c.args.rules.now c.requires.rules (see.before c.args.doc.now none) c.from_residual-in_err-names.result c.from_residual-in_err-names.ensures.1
-
-pub with_letters-requires-clause-names : goal.with_letters-requires-clause-names
-with_letters-requires-clause-names c = c.in_ok-names.ensures c.args.alphabet.now
-
-pub returns-in_err-asked-clause-cause : goal.returns-in_err-asked-clause-cause
-returns-in_err-asked-clause-cause c =
-    refused c.args.alphabet.now c.args.rules.now c.requires.rules (see.before c.args.doc.now none) c.from_residual-in_err-asked.result c.from_residual-in_err-asked.ensures.1

@@ -1,8 +1,12 @@
-use Rattle.std.proofs.Common.{map}
+use Rattle.std.proofs.Common.{map, subst, sym}
+use Rattle.std.specs.List.{IsDistinct}
+use Rattle.std.proofs.lemmas.Result.{IfErr-weaker}
+use Rattle.tc_model.specs.Names.{same_name}
 use Rattle.tc_model.specs.RawTrees.{none}
 use Rattle.tc_model.specs.Views.{raw_element}
 use Rattle.tc_sheet.specs.Views.{template}
 use Rattle.tc_sheet.specs.SeenCalls.{names_seen}
+use Rattle.tc_sheet.proofs.Passed.{no_value}
 use Rattle.tc_sheet.proofs.Refused.{handed_on}
 use Rattle.tc_sheet.proofs.WholeSheets.{names_used, told, told_calls, told_memory, told_twice, whole_read}
 use Rattle.tc_sheet.proofs.sheet_in.Goals as goal
@@ -41,3 +45,27 @@ pub returns-clause-ok : goal.returns-clause-ok
 returns-clause-ok c =
     whole_read (raw_element c.args.element.now none) (map template c.in_ok-written.written.now) c.in_ok-written.ensures.ok c.in_ok-names.ensures.once (map template c.in_ok-templates.templates.now) (map template c.in_ok-templates.templates.now) c.in_ok-templates.ensures.ok c.in_ok-templates.ensures.ok
     c.in_ok-check_calls.ensures.defined c.in_ok-check_calls.ensures.no_loop c.sheet_of.result c.sheet_of.ensures.ok
+
+pub returns-in_err-written-clause-ok : goal.returns-in_err-written-clause-ok
+returns-in_err-written-clause-ok c = no_value c.from_residual.result _ _ c.from_residual.ensures.1
+
+pub returns-in_err-names-clause-ok : goal.returns-in_err-names-clause-ok
+returns-in_err-names-clause-ok c = no_value c.from_residual-in_err-names.result _ _ c.from_residual-in_err-names.ensures.1
+
+pub returns-in_err-templates-clause-ok : goal.returns-in_err-templates-clause-ok
+returns-in_err-templates-clause-ok c = no_value c.from_residual-in_err-templates.result _ _ c.from_residual-in_err-templates.ensures.1
+
+pub returns-in_err-check_calls-clause-ok : goal.returns-in_err-check_calls-clause-ok
+returns-in_err-check_calls-clause-ok c = no_value c.from_residual-in_err-check_calls.result _ _ c.from_residual-in_err-check_calls.ensures.1
+
+pub returns-in_err-modes-clause-ok : goal.returns-in_err-modes-clause-ok
+returns-in_err-modes-clause-ok c = no_value c.from_residual-in_err-modes.result _ _ c.from_residual-in_err-modes.ensures.1
+
+pub check_calls-requires-clause-once : goal.check_calls-requires-clause-once
+check_calls-requires-clause-once c = subst (IsDistinct same_name) (sym c.in_ok-names.ensures.ok) c.in_ok-names.ensures.once
+
+pub sheet_of-requires-clause-modes : goal.sheet_of-requires-clause-modes
+sheet_of-requires-clause-modes c = c.in_ok-modes.ensures.ok
+
+pub returns-clause-no : goal.returns-clause-no
+returns-clause-no c = IfErr-weaker c.sheet_of.result _ _ (λ x e. told_memory (raw_element c.args.element.now none) x e) c.sheet_of.ensures.no

@@ -1,4 +1,4 @@
-use Rattle.std.proofs.Common.{◌≡◌, ◌∙◌, ap, map, subst, length, true, false}
+use Rattle.std.proofs.Common.{◌≡◌, ◌∙◌, map, subst, length, true, false}
 use Rattle.tc_model.specs.SimplifiesCounts.{IsWithinCounts}
 use Rattle.tc_model.proofs.SimplifiesUnique.{simplifies_unique}
 use Rattle.tc_rnc.specs.Views.{syntax}
@@ -21,7 +21,7 @@ built-requires-clause-order c = order_within (length c.args.table.now.patterns.i
 pub returns-clause-within : goal.returns-clause-within
 returns-clause-within c =
     let s = syntax c.args.syntax.now in
-    let elements : map see_element c.deref.result.now ≡ elements_of c.args.table.now c.args.marks.now s.definitions = ap (map see_element) c.deref.ensures.value ∙ c.in_ok-found.ensures.elements in
+    let elements : map see_element c.in_ok-found.found.now ≡ elements_of c.args.table.now c.args.marks.now s.definitions = c.in_ok-found.ensures.elements in
     let simplifies = c.in_ok-grammar.ensures s c.requires.lawful c.in_ok-check.ensures.ok c.requires.resolves elements in
     let (grammar, also, within) = c.in_ok-found.ensures.within in
     subst IsWithinCounts (simplifies_unique also simplifies) within

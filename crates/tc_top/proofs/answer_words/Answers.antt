@@ -1,4 +1,4 @@
-use Rattle.std.proofs.Common.{◌≡◌, ◌∷◌, [], ◌∙◌, refl, sym, ap, subst, codes, ℕ, List}
+use Rattle.std.proofs.Common.{◌≡◌, ◌∷◌, [], ◌∙◌, refl, sym, ap, subst, codes, ℕ, List, Result, Ok, Err, OnErr}
 use Rattle.std.proofs.lemmas.Result.{IfOk-weaker}
 use Rattle.std.proofs.lemmas.Option.{MatchOption-at_none, MatchOption-at_some}
 use Rattle.tc_io.proofs.ReadsInOrder.{happened_nothing}
@@ -73,3 +73,70 @@ returns-in-Upgrade-clause-unread g c = λ nothing. absurd (reads_some nothing (w
 
 pub prove-requires : goal.prove-requires
 prove-requires g c = let words = MatchOption-at_some _ _ _ c.in-Some.is c.read_words.ensures in record { few = few_rows_proved (words_at _ _ c.in-Prove.is words) }
+
+-- what a command that reads files answers
+
+pub returns-in-Check-clause-right : goal.returns-in-Check-clause-right
+returns-in-Check-clause-right g c =
+    IfOk-weaker c.check.result _ _ (λ said right. right _ (words_at _ _ c.in-Check.is (MatchOption-at_some _ _ _ c.in-Some.is c.read_words.ensures))) c.check.ensures.ok
+
+pub returns-in-Run-clause-right : goal.returns-in-Run-clause-right
+returns-in-Run-clause-right g c =
+    IfOk-weaker c.run.result _ _ (λ said right. right _ (words_at _ _ c.in-Run.is (MatchOption-at_some _ _ _ c.in-Some.is c.read_words.ensures))) c.run.ensures.ok
+
+pub returns-in-Valid-clause-right : goal.returns-in-Valid-clause-right
+returns-in-Valid-clause-right g c =
+    IfOk-weaker c.valid.result _ _ (λ said right. right _ (words_at _ _ c.in-Valid.is (MatchOption-at_some _ _ _ c.in-Some.is c.read_words.ensures))) c.valid.ensures.ok
+
+pub returns-in-ValidInPieces-clause-right : goal.returns-in-ValidInPieces-clause-right
+returns-in-ValidInPieces-clause-right g c =
+    IfOk-weaker c.valid_in_pieces.result _ _ (λ said right. right _ (words_at _ _ c.in-ValidInPieces.is (MatchOption-at_some _ _ _ c.in-Some.is c.read_words.ensures))) c.valid_in_pieces.ensures.ok
+
+pub returns-in-Prove-clause-right : goal.returns-in-Prove-clause-right
+returns-in-Prove-clause-right g c =
+    IfOk-weaker c.prove.result _ _ (λ said right. right _ (words_at _ _ c.in-Prove.is (MatchOption-at_some _ _ _ c.in-Some.is c.read_words.ensures))) c.prove.ensures.ok
+
+pub returns-in-Verify-clause-right : goal.returns-in-Verify-clause-right
+returns-in-Verify-clause-right g c =
+    IfOk-weaker c.verify.result _ _ (λ said right. right _ (words_at _ _ c.in-Verify.is (MatchOption-at_some _ _ _ c.in-Some.is c.read_words.ensures))) c.verify.ensures.ok
+
+pub returns-in-Upgrade-clause-right : goal.returns-in-Upgrade-clause-right
+returns-in-Upgrade-clause-right g c =
+    IfOk-weaker c.upgrade.result _ _ (λ said right. right _ (words_at _ _ c.in-Upgrade.is (MatchOption-at_some _ _ _ c.in-Some.is c.read_words.ensures))) c.upgrade.ensures.ok
+
+pub returns-in-Include-clause-right : goal.returns-in-Include-clause-right
+returns-in-Include-clause-right g c =
+    IfOk-weaker c.compare.result _ _ (λ said right. right _ (words_at _ _ c.in-Include.is (MatchOption-at_some _ _ _ c.in-Some.is c.read_words.ensures))) c.compare.ensures.ok
+
+-- memory is only wanted for a command
+
+for_command : {T E : Type 0} (r : Result T E) {words : List (List ℕ)} {given : Given} → Words words given → OnErr r ((command : Given) × Words words command)
+for_command (Ok value) are = tt
+for_command (Err fault) {given = given} are = (given, are)
+
+pub returns-in-Check-clause-no_memory : goal.returns-in-Check-clause-no_memory
+returns-in-Check-clause-no_memory g c = for_command c.check.result (words_at _ _ c.in-Check.is (MatchOption-at_some _ _ _ c.in-Some.is c.read_words.ensures))
+
+pub returns-in-Run-clause-no_memory : goal.returns-in-Run-clause-no_memory
+returns-in-Run-clause-no_memory g c = for_command c.run.result (words_at _ _ c.in-Run.is (MatchOption-at_some _ _ _ c.in-Some.is c.read_words.ensures))
+
+pub returns-in-Valid-clause-no_memory : goal.returns-in-Valid-clause-no_memory
+returns-in-Valid-clause-no_memory g c = for_command c.valid.result (words_at _ _ c.in-Valid.is (MatchOption-at_some _ _ _ c.in-Some.is c.read_words.ensures))
+
+pub returns-in-ValidInPieces-clause-no_memory : goal.returns-in-ValidInPieces-clause-no_memory
+returns-in-ValidInPieces-clause-no_memory g c = for_command c.valid_in_pieces.result (words_at _ _ c.in-ValidInPieces.is (MatchOption-at_some _ _ _ c.in-Some.is c.read_words.ensures))
+
+pub returns-in-Prove-clause-no_memory : goal.returns-in-Prove-clause-no_memory
+returns-in-Prove-clause-no_memory g c = for_command c.prove.result (words_at _ _ c.in-Prove.is (MatchOption-at_some _ _ _ c.in-Some.is c.read_words.ensures))
+
+pub returns-in-Verify-clause-no_memory : goal.returns-in-Verify-clause-no_memory
+returns-in-Verify-clause-no_memory g c = for_command c.verify.result (words_at _ _ c.in-Verify.is (MatchOption-at_some _ _ _ c.in-Some.is c.read_words.ensures))
+
+pub returns-in-Upgrade-clause-no_memory : goal.returns-in-Upgrade-clause-no_memory
+returns-in-Upgrade-clause-no_memory g c = for_command c.upgrade.result (words_at _ _ c.in-Upgrade.is (MatchOption-at_some _ _ _ c.in-Some.is c.read_words.ensures))
+
+pub returns-in-Include-clause-no_memory : goal.returns-in-Include-clause-no_memory
+returns-in-Include-clause-no_memory g c = for_command c.compare.result (words_at _ _ c.in-Include.is (MatchOption-at_some _ _ _ c.in-Some.is c.read_words.ensures))
+
+pub returns-in-Demo-clause-no_memory : goal.returns-in-Demo-clause-no_memory
+returns-in-Demo-clause-no_memory g c = for_command c.demo.result (words_at _ _ c.in-Demo.is (MatchOption-at_some _ _ _ c.in-Some.is c.read_words.ensures))

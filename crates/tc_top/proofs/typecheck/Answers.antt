@@ -6,6 +6,7 @@ use Rattle.tc_top.proofs.Exact.{alike_at, exact, usage_only}
 use Rattle.tc_top.proofs.Headline.{at_words, at_told, gives, headline, safe_is_so, unsafe_is_shown, demo_is_safe, demo_is_shown, demonstrated, validity, running, limited}
 use Rattle.tc_top.proofs.CertifiedExact.{proof_of_files, accepted_is_safe, certificate_of_files, upgrade_of_files}
 use Rattle.tc_top.proofs.Comparisons.{includes, equals}
+use Rattle.tc_top.proofs.CutShort.{by_fault, by_memory, fault_not_no, fault_not_yes, memory_not_no, memory_not_yes}
 use Rattle.tc_top.proofs.FilesInPieces.{validity_in_pieces}
 use Rattle.tc_answer.specs.Words.{Words}
 use Rattle.tc_top.proofs.typecheck.Goals as goal
@@ -130,3 +131,113 @@ returns-in-Ok-write_lines-clause-upgraded g c = λ files bytes told upgrades.
     let right = at_words c.as_slice.ensures c.in-Ok.ensures.right in
     let written = subst (Appended (g.K.Sink.written c.args.sink.now) (g.K.Sink.written c.write_lines.new.sink)) (c.as_bytes.ensures ∙ right.2.1.written) c.in-Ok-write_lines.ensures.ok in
     upgrade_of_files files bytes _ _ _ right.2.0 upgrades (at_told _ right.0 told right.1.true) right.2.2 right.2.1.status written
+
+-- ways out on which nothing is written, or not all
+
+pub returns-in-Ok-clause-usage : goal.returns-in-Ok-clause-usage
+returns-in-Ok-clause-usage g c = λ _. by_fault
+
+pub returns-in-Ok-clause-exactly : goal.returns-in-Ok-clause-exactly
+returns-in-Ok-clause-exactly g c = λ _ _ _ _. by_fault
+
+pub returns-in-Ok-clause-headline : goal.returns-in-Ok-clause-headline
+returns-in-Ok-clause-headline g c = λ _ _ _ _ _ _ _. by_fault
+
+pub returns-in-Ok-clause-demonstrated : goal.returns-in-Ok-clause-demonstrated
+returns-in-Ok-clause-demonstrated g c = λ _ _ _ _ _ _. by_fault
+
+pub returns-in-Ok-clause-proved : goal.returns-in-Ok-clause-proved
+returns-in-Ok-clause-proved g c = λ _ _ _ _ _ _ _. by_fault
+
+pub returns-in-Ok-clause-verified : goal.returns-in-Ok-clause-verified
+returns-in-Ok-clause-verified g c = λ _ _ _ _ _ _ _. by_fault
+
+pub returns-in-Ok-clause-upgraded : goal.returns-in-Ok-clause-upgraded
+returns-in-Ok-clause-upgraded g c = λ _ _ _ _. by_fault
+
+pub returns-in-Ok-clause-validity : goal.returns-in-Ok-clause-validity
+returns-in-Ok-clause-validity g c = λ _ _ _ _ _. by_fault
+
+pub returns-in-Ok-clause-validity_in_pieces : goal.returns-in-Ok-clause-validity_in_pieces
+returns-in-Ok-clause-validity_in_pieces g c = λ _ _ _ _ _ _. by_fault
+
+pub returns-in-Ok-clause-limited : goal.returns-in-Ok-clause-limited
+returns-in-Ok-clause-limited g c = λ _ _ _ _ _. by_fault
+
+pub returns-in-Ok-clause-inclusion : goal.returns-in-Ok-clause-inclusion
+returns-in-Ok-clause-inclusion g c = λ _ _ _ _ _. by_fault
+
+pub returns-in-Ok-clause-equality : goal.returns-in-Ok-clause-equality
+returns-in-Ok-clause-equality g c = λ _ _ _ _ _. by_fault
+
+pub returns-in-Ok-clause-safe : goal.returns-in-Ok-clause-safe
+returns-in-Ok-clause-safe g c = λ _ _ _ _ _ _ _ e. fault_not_yes e
+
+pub returns-in-Ok-clause-shown : goal.returns-in-Ok-clause-shown
+returns-in-Ok-clause-shown g c = λ _ _ _ _ _ _ _ e. fault_not_no e
+
+pub returns-in-Ok-clause-demo_safe : goal.returns-in-Ok-clause-demo_safe
+returns-in-Ok-clause-demo_safe g c = λ _ _ _ _ _ _ e. fault_not_yes e
+
+pub returns-in-Ok-clause-demo_shown : goal.returns-in-Ok-clause-demo_shown
+returns-in-Ok-clause-demo_shown g c = λ _ _ _ _ _ _ e. fault_not_no e
+
+pub returns-in-Ok-clause-accepted_safe : goal.returns-in-Ok-clause-accepted_safe
+returns-in-Ok-clause-accepted_safe g c = λ _ _ _ _ _ _ _ e. fault_not_yes e
+
+pub returns-in-Ok-clause-running : goal.returns-in-Ok-clause-running
+returns-in-Ok-clause-running g c = λ _ _ _ _ _ e. fault_not_yes e
+
+pub returns-clause-usage : goal.returns-clause-usage
+returns-clause-usage g c = λ _. by_memory
+
+pub returns-clause-exactly : goal.returns-clause-exactly
+returns-clause-exactly g c = λ _ _ _ _. by_memory
+
+pub returns-clause-headline : goal.returns-clause-headline
+returns-clause-headline g c = λ _ _ _ _ _ _ _. by_memory
+
+pub returns-clause-demonstrated : goal.returns-clause-demonstrated
+returns-clause-demonstrated g c = λ _ _ _ _ _ _. by_memory
+
+pub returns-clause-proved : goal.returns-clause-proved
+returns-clause-proved g c = λ _ _ _ _ _ _ _. by_memory
+
+pub returns-clause-verified : goal.returns-clause-verified
+returns-clause-verified g c = λ _ _ _ _ _ _ _. by_memory
+
+pub returns-clause-upgraded : goal.returns-clause-upgraded
+returns-clause-upgraded g c = λ _ _ _ _. by_memory
+
+pub returns-clause-validity : goal.returns-clause-validity
+returns-clause-validity g c = λ _ _ _ _ _. by_memory
+
+pub returns-clause-validity_in_pieces : goal.returns-clause-validity_in_pieces
+returns-clause-validity_in_pieces g c = λ _ _ _ _ _ _. by_memory
+
+pub returns-clause-limited : goal.returns-clause-limited
+returns-clause-limited g c = λ _ _ _ _ _. by_memory
+
+pub returns-clause-inclusion : goal.returns-clause-inclusion
+returns-clause-inclusion g c = λ _ _ _ _ _. by_memory
+
+pub returns-clause-equality : goal.returns-clause-equality
+returns-clause-equality g c = λ _ _ _ _ _. by_memory
+
+pub returns-clause-safe : goal.returns-clause-safe
+returns-clause-safe g c = λ _ _ _ _ _ _ _ e. memory_not_yes e
+
+pub returns-clause-shown : goal.returns-clause-shown
+returns-clause-shown g c = λ _ _ _ _ _ _ _ e. memory_not_no e
+
+pub returns-clause-demo_safe : goal.returns-clause-demo_safe
+returns-clause-demo_safe g c = λ _ _ _ _ _ _ e. memory_not_yes e
+
+pub returns-clause-demo_shown : goal.returns-clause-demo_shown
+returns-clause-demo_shown g c = λ _ _ _ _ _ _ e. memory_not_no e
+
+pub returns-clause-accepted_safe : goal.returns-clause-accepted_safe
+returns-clause-accepted_safe g c = λ _ _ _ _ _ _ _ e. memory_not_yes e
+
+pub returns-clause-running : goal.returns-clause-running
+returns-clause-running g c = λ _ _ _ _ _ e. memory_not_yes e

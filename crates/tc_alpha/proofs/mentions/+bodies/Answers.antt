@@ -1,12 +1,15 @@
-use Rattle.std.proofs.Common.{◌≡◌, ℕ, ◌++◌, ◌⊎◌, ◌+◌, inl, inr, ap, sym, drop, ◌∙◌}
+use Rattle.std.proofs.Common.{◌≡◌, ℕ, ◌++◌, ◌⊎◌, ◌+◌, inl, inr, ap, sym, drop, refl, ◌∙◌, Bor, List}
+use Rattle.std.proofs.lemmas.List.{drop_all}
 use Rattle.tc_alpha.specs.Views.{seen}
 use Rattle.tc_model.specs.Views as see
 use Rattle.tc_model.specs.Sheets as s
 use Rattle.tc_model.specs.Symbols.{mentions_of_name}
 use Rattle.tc_model.specs.declared.sheet.Instr.{Instr, Apply, ValueOf}
+use Rattle.tc_model.specs.declared.sheet.Branch.{Branch}
+use Rattle.tc_model.specs.declared.sheet.Instr.TheVariants as v
 use Rattle.tc_model.specs.declared.sheet.Path.{Path}
-use Rattle.tc_model.proofs.ViewsBody.{see_elem, see_copy, see_apply, see_value_of, see_choose, see_for_each}
-use Rattle.tc_alpha.proofs.Steps.{then_on_ok, after_one, after_two, body_in, branch_moved, branches_in, instruction_step, path_in}
+use Rattle.tc_model.proofs.ViewsBody.{see_text, see_call, see_value_of_self, see_elem, see_copy, see_apply, see_value_of, see_choose, see_for_each}
+use Rattle.tc_alpha.proofs.Steps.{then_on_ok, after_one, after_two, body_in, branch_moved, branches_in, instruction_step, nothing_left, path_in}
 use Rattle.tc_alpha.proofs.mentions.+bodies.Goals as goal
 
 -- an instruction that selects by a path, or puts out the value of what it selects
@@ -67,3 +70,26 @@ pub mention_branches-loop-branch-preserved : goal.mention_branches-loop-branch-p
 mention_branches-loop-branch-preserved t c = λ rest.
     branch_moved c.args.branches.now c.loop-branch.branch-index _ rest (seen c.loop-branch.found.items) (seen c.mention_test.new.found.items) (seen c.mention_body.new.found.items) _ c.loop-branch-test.true
     c.in_ok-mention_test.ensures c.in_ok-mention_body.ensures (c.loop-branch.invariant rest)
+
+-- an instruction that mentions nothing
+silent : (i : Instr) → ((x : Bor (List ℕ)) × (i ≡ v.Text x)) ⊎ (((n : ℕ) × (i ≡ v.Call n)) ⊎ (i ≡ v.ValueOfSelf)) → (rest : s.Body) → body_in (see.instruction i rest) ≡ body_in rest
+silent i (inl is) rest = ap (λ x. body_in (see.instruction x rest)) is.1 ∙ ap body_in (see_text is.0 rest)
+silent i (inr (inl is)) rest = ap (λ x. body_in (see.instruction x rest)) is.1 ∙ ap body_in (see_call is.0 rest)
+silent i (inr (inr is)) rest = ap (λ x. body_in (see.instruction x rest)) is ∙ ap body_in (see_value_of_self rest)
+
+pub mention_instruction-returns-in-Text : goal.mention_instruction-returns-in-Text
+mention_instruction-returns-in-Text t c = λ rest. ap (λ l. seen c.args.found.now.items ++ l) (sym (silent c.args.instruction.now c.in-Text.is rest))
+
+pub mention_body-loop-instruction-init : goal.mention_body-loop-instruction-init
+mention_body-loop-instruction-init t c = refl
+
+pub mention_body-returns : goal.mention_body-returns
+mention_body-returns t c =
+    nothing_left (seen c.loop-instruction.found.items) _ _ (ap (λ (l : List Instr). body_in (see.body l)) (drop_all c.loop-instruction.instruction-index c.args.body.now c.loop-instruction-test.false)) c.loop-instruction.invariant
+
+pub mention_branches-loop-branch-init : goal.mention_branches-loop-branch-init
+mention_branches-loop-branch-init t c = λ rest. refl
+
+pub mention_branches-returns : goal.mention_branches-returns
+mention_branches-returns t c = λ rest.
+    ap (λ (l : List Branch). seen c.loop-branch.found.items ++ branches_in (see.branches l rest)) (sym (drop_all c.loop-branch.branch-index c.args.branches.now c.loop-branch-test.false)) ∙ c.loop-branch.invariant rest

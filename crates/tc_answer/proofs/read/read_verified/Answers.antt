@@ -1,4 +1,4 @@
-use Rattle.std.proofs.Common.{◌∷◌, [], ◌∙◌, ap, subst, Ok, Err}
+use Rattle.std.proofs.Common.{◌∷◌, [], ◌∙◌, ap, subst}
 use Rattle.tc_io.specs.Reads.{Happened}
 use Rattle.tc_io.proofs.ReadsInOrder.{happened_both}
 use Rattle.tc_read.proofs.Exits.{err_is}

@@ -1,4 +1,4 @@
-use Rattle.std.proofs.Common.{◌≡◌, ◌<◌, ◌*◌, ap, ◌∙◌, sym, subst, take, arith, rules, IfOk, List}
+use Rattle.std.proofs.Common.{◌<◌, ◌*◌, ap, ◌∙◌, sym, subst, take, arith, rules, IfOk, List}
 use Rattle.std.proofs.lemmas.List.{take_all}
 use Rattle.tc_model.specs.Grammars as g
 use Rattle.tc_model.specs.Grammars.{Pattern}
@@ -6,7 +6,7 @@ use Rattle.tc_model.specs.Views.{pattern, patterns}
 use Rattle.tc_model.specs.States.{Automaton, automaton}
 use Rattle.tc_model.specs.declared.grammar.Pat.TheViews.{the_lemmas}
 use Rattle.tc_model.proofs.StatesExact.{sound}
-use Rattle.tc_model.proofs.ViewsGrammar.{see_group, see_choice, see_interleave}
+use Rattle.tc_model.proofs.ViewsGrammar.{see_empty, see_not_allowed, see_text, see_ref, see_group, see_choice, see_interleave}
 use Rattle.tc_model.specs.declared.grammar.Pat.{Pat}
 use Rattle.tc_auto.specs.Steps.{Shown, Shows}
 use Rattle.tc_auto.proofs.Folds.{group_more, choice_more, interleave_more, group_room, choice_room, interleave_room, some_before, some_before_choice, member_below}
@@ -87,3 +87,27 @@ pub interleave_of-returns : goal.interleave_of-returns
 interleave_of-returns t c =
     subst (λ (w : List Pat). Shown c.loop-member.whole.count c.loop-member.whole.steps.items c.loop-member.whole.accepting.items (automaton (g.interleave (patterns w))))
     (take_all c.loop-member.member-index c.args.members.now c.loop-member-test.false) c.loop-member.invariant
+
+pub part_of-returns-in-Empty : goal.part_of-returns-in-Empty
+part_of-returns-in-Empty t c = subst (λ (w : Pattern). IfOk c.nothing_more.result (λ r. Shows r (automaton w))) (sym (ap pattern c.in-Empty.is ∙ see_empty)) c.nothing_more.ensures
+
+pub part_of-returns-in-NotAllowed : goal.part_of-returns-in-NotAllowed
+part_of-returns-in-NotAllowed t c = subst (λ (w : Pattern). Shows c.never.result (automaton w)) (sym (ap pattern c.in-NotAllowed.is ∙ see_not_allowed)) c.never.ensures
+
+pub part_of-returns-in-Text : goal.part_of-returns-in-Text
+part_of-returns-in-Text t c = subst (λ (w : Pattern). IfOk c.texts.result (λ r. Shows r (automaton w))) (sym (ap pattern c.in-Text.is ∙ see_text)) c.texts.ensures
+
+pub part_of-returns-in-Ref : goal.part_of-returns-in-Ref
+part_of-returns-in-Ref t c = subst (λ (w : Pattern). IfOk c.one_element.result (λ r. Shows r (automaton w))) (sym (ap pattern c.in-Ref.is ∙ see_ref c.in-Ref.number)) c.one_element.ensures
+
+pub part_of-again-requires : goal.part_of-again-requires
+part_of-again-requires t c = c.in_ok-part_of-in-OneOrMore.ensures
+
+pub group_of-loop-member-init : goal.group_of-loop-member-init
+group_of-loop-member-init t c = c.in_ok-whole.ensures
+
+pub choice_of-loop-member-init : goal.choice_of-loop-member-init
+choice_of-loop-member-init t c = c.never-whole.ensures
+
+pub interleave_of-loop-member-init : goal.interleave_of-loop-member-init
+interleave_of-loop-member-init t c = c.in_ok-whole.ensures

@@ -1,10 +1,10 @@
-use Rattle.std.proofs.Common.{◌≡◌, ◌<◌, List, length, get_or, refl, subst, arith, rules}
+use Rattle.std.proofs.Common.{◌≡◌, ◌<◌, ℕ, List, [], ◌∷◌, ◌++◌, ap, sym, ◌∙◌, length, get_or, refl, subst, arith, rules}
 use Rattle.std.proofs.lemmas.Option.{slice_get-get_or}
 use Rattle.tc_auto.specs.declared.rows.Row.{Row}
 use Rattle.tc_auto.specs.Arrows.{AreArrows, leaf_at}
 use Rattle.tc_auto.proofs.ArrowLists.{arrows_within}
 use Rattle.tc_model.specs.Views.{grammar}
-use Rattle.tc_auto.specs.Stands.{side_of}
+use Rattle.tc_auto.specs.Stands.{Built, side_of}
 use Rattle.tc_auto.proofs.Bounds.{edges_within, begun_within, begun_below}
 use Rattle.tc_auto.proofs.Totals.{rows_within, elements_within, part_fits, built_step_as, built_all}
 use Rattle.tc_auto.proofs.make.built.Goals as goal
@@ -21,6 +21,10 @@ overflow_cast-grammar c =
     let few = elements_within c.args.grammar.now (side_of c.args.with_start) c.args.grammar.now.elements.now refl in
     let small : length c.args.grammar.now.elements.now < 4294967296 = omega (arith, few, c.requires) in
     search rules
+
+pub loop-element-init : goal.loop-element-init
+loop-element-init c =
+    subst (λ (w : List ℕ). Built (grammar c.args.grammar.now) (side_of c.args.with_start) 1 w c.in_ok-rows.rows.items) (sym (c.in_ok-push.ensures.items ∙ ap (λ (w : List ℕ). w ++ 0 ∷ []) c.new-firsts.ensures.items)) c.in_ok-rows.ensures
 
 pub push_part-requires : goal.push_part-requires
 push_part-requires c =
@@ -53,3 +57,9 @@ invariant_of-result c =
 
 pub returns : goal.returns
 returns c = record { start = refl; elements = refl; built = built_all c.args.grammar.now (side_of c.args.with_start) c.args.grammar.now.elements.now refl c.loop-element.element-index c.loop-element.firsts.items c.loop-element.rows.items c.loop-element-test.false c.loop-element.auto.element-index-end c.loop-element.invariant; arrows = subst (λ (w : List Row). AreArrows w c.in_ok-arrows.arrows.items) c.deref.ensures.value c.in_ok-arrows.ensures.arrows }
+
+pub all_arrows-requires : goal.all_arrows-requires
+all_arrows-requires c =
+    let low = rows_within c.args.grammar.now (side_of c.args.with_start) c.args.grammar.now.elements.now refl c.loop-element.element-index c.loop-element.firsts.items c.loop-element.rows.items c.loop-element.invariant in
+    let few : length c.loop-element.rows.items < 4294967296 = omega (arith, low, c.requires) in
+    subst (λ (w : List Row). length w < 4294967296) (sym c.deref.ensures.value) few

@@ -1,4 +1,4 @@
-use Rattle.std.proofs.Common.{◌≡◌, ◌++◌, ℕ, List, IsTrue, sym, subst, rules, arith}
+use Rattle.std.proofs.Common.{rules}
 use Rattle.std.specs.List.{Contains}
 use Rattle.tc_model.specs.States.{automaton}
 use Rattle.tc_model.proofs.StatesExact.{sound}

@@ -1,8 +1,6 @@
-use Rattle.std.proofs.Common.{◌≡◌, ◌++◌, ℕ, List, IsTrue, sym, subst, rules, arith}
-use Rattle.std.specs.List.{Contains}
+use Rattle.std.proofs.Common.{rules}
 use Rattle.tc_model.specs.States.{automaton}
 use Rattle.tc_model.proofs.StatesExact.{sound}
-use Rattle.tc_auto.proofs.Lists.{has_of, contains_of}
 use Rattle.tc_auto.proofs.Shown.{shown_as, interleave_shown}
 use Rattle.tc_auto.proofs.nfa.interleave.Goals as goal
 

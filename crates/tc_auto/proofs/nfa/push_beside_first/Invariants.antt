@@ -1,4 +1,4 @@
-use Rattle.std.proofs.Common.{◌≡◌, ◌++◌, drop}
+use Rattle.std.proofs.Common.{◌≡◌, ◌++◌}
 use Rattle.tc_auto.specs.Steps.{beside_first}
 use Rattle.tc_auto.proofs.nfa.push_beside_first.Given as goal
 

@@ -1,4 +1,4 @@
-use Rattle.std.proofs.Common.{refl, rules}
+use Rattle.std.proofs.Common.{refl}
 use Rattle.tc_model.specs.Views.{pattern}
 use Rattle.tc_model.specs.States.{automaton}
 use Rattle.tc_model.proofs.StatesExact.{sound}

@@ -1,7 +1,7 @@
-use Rattle.std.proofs.Common.{◌≡◌, ◌+◌, ◌<◌, List, drop, get_or, true, false, not, length, subst, sym, ap, ◌∙◌, refl, rules, arith}
+use Rattle.std.proofs.Common.{◌≡◌, ◌+◌, ◌<◌, ℕ, List, All, set, take, drop, get_or, true, false, not, length, subst, sym, ap, ◌∙◌, refl, rules, arith}
 use Rattle.std.proofs.lemmas.Bool.{true≢false}
-use Rattle.std.proofs.lemmas.Grind.{common_steps}
 use Rattle.std.proofs.lemmas.List.{drop_all, get_or_default}
+use Rattle.std.proofs.lemmas.List.Elements.{All-append, All-set, All-take, All-drop}
 use Rattle.tc_mat.specs.Matrix.{Matrix, IsIdentity}
 use Rattle.tc_model.specs.Sheets as s
 use Rattle.tc_model.specs.Symbols.{Mention, symbol_of, symbol_count, fresh_name}
@@ -16,7 +16,7 @@ use Rattle.tc_rows.specs.Triples.{outputs, sheet}
 use Rattle.tc_rows.specs.PairSets.{HaveSamePairs, chosen, product}
 use Rattle.tc_rows.specs.Rows.{bears_value}
 use Rattle.tc_rows.specs.Bodies.{around, copied_pairs, stay, text_edges, text_pairs, value_pairs, self_bears}
-use Rattle.tc_rows.proofs.PairLaws.{same_on}
+use Rattle.tc_rows.proofs.PairLaws.{same_on, same_self}
 use Rattle.tc_beh.specs.Heights.{depth_in}
 use Rattle.tc_beh.specs.Putting.{has, Extends}
 use Rattle.tc_rules.specs.RulesView.{RulesView}
@@ -26,6 +26,10 @@ use Rattle.tc_beh.proofs.Instructed.{P, Q, arm, put_end, no_branch, branch_is, b
 use Rattle.tc_beh.proofs.Placed.{fresh_symbol, look_is, bears_is}
 use Rattle.tc_beh.proofs.PutLaws.{then_put, put_same, text_put, around_same, around_inside}
 use Rattle.tc_beh.proofs.bodies.+bodies.Goals as goal
+
+-- the first of some sets of one size
+first_size : (n : ℕ) (ms front : List Matrix) (m : Matrix) → All (λ (w : Matrix). w.size ≡ n) ms → front ≡ take 1 ms → length front ≡ 1 → (get_or front 0 m).size ≡ n
+first_size n ms front m sizes is one = subst (λ (ws : List Matrix). All (λ (w : Matrix). w.size ≡ n) ws) (sym is) (All-take (λ (w : Matrix). w.size ≡ n) 1 ms sizes) 0 m (omega (arith, one))
 
 pub put_body-loop-instruction-preserved : goal.put_body-loop-instruction-preserved
 put_body-loop-instruction-preserved t c =
@@ -70,7 +74,7 @@ put_element-returns-clause-pairs t c = λ x ok.
     let led : HaveSamePairs (has c.element_into.new.out) (around x a (has inside)) =
     c.element_into.ensures.pairs output x.output x.symbols ok.hedge (fresh_name x.symbols a) (fresh_symbol x ok.rules.triple.symbols a low)
     in
-    let first : begun.size ≡ c.args.out.now.size = first_of (search rules, grind (arith, common_steps)) in
+    let first : begun.size ≡ c.args.out.now.size = omega (arith, c.put_identity.ensures.size, ap (λ (m : Matrix). m.size) c.index-inside-0.is, first_size c.args.out.now.size c.args.spare.now c.split_at_mut-inside.result.0.now c.index-inside-0.result c.requires.spare.sizes c.split_at_mut-inside.ensures.front c.split_at_mut-inside.ensures.front_len) in
     let size : begun.size ≡ outputs x = first ∙ (c.requires.out ∙ ok.size) in
     put_same c.args.out.now c.put_led.new.out (has c.element_into.new.out) (around x a (P x p b))
     (same_on (has c.element_into.new.out) (around x a (has inside)) (around x a (P x p b)) led
@@ -345,3 +349,242 @@ put_first-holds-requires-clause-test t c =
     let bs = c.args.branches.now in
     let k = c.loop-branch.branch-index in
     (branch_part_at (told c.args.place.now.rules.now).sheet bs k (get_or bs k no_branch) (s.otherwise s.no_instruction) c.loop-branch-test.true (branch_is bs k no_branch c.loop-branch-test.true) c.loop-branch.invariant.part).0
+
+pub put_body-loop-instruction-init : goal.put_body-loop-instruction-init
+put_body-loop-instruction-init t c =
+    let enough = c.requires.spare.enough in
+    record {
+      size = refl;
+      untouched = c.requires.untouched;
+      part = c.requires.part;
+      spare = record { sizes = c.requires.spare.sizes; enough = omega (arith, enough) };
+      pairs = λ x ok. same_self (product (has c.args.out.now) (P x c.args.place.now (see.body c.args.body.now)));
+    }
+
+pub put_body-returns-clause-size : goal.put_body-returns-clause-size
+put_body-returns-clause-size t c = c.loop-instruction.invariant.size
+
+pub put_body-returns-clause-spare : goal.put_body-returns-clause-spare
+put_body-returns-clause-spare t c = c.loop-instruction.invariant.spare.sizes
+
+pub put_copy-put_element-requires : goal.put_copy-put_element-requires
+put_copy-put_element-requires t c =
+    let (x, ok) = c.requires.place in
+    let low = ok.symbol c.in-Elem.sym.0 (ap kind_of c.in-Elem.is) in (
+      search (rules, the_lemmas),
+      (c.requires.place, (subst (λ (ms : List Mention). c.in-Elem.sym.0 < symbol_count ms) (sym ok.symbols) low, (c.requires.part, (c.requires.out, (c.requires.spare, (c.requires.few, c.requires.untouched)))))),
+    )
+
+pub put_copy-put_set-requires-clause-set : goal.put_copy-put_set-requires-clause-set
+put_copy-put_set-requires-clause-set t c = sym c.requires.out
+
+pub put_copy-put_set-requires-clause-spare : goal.put_copy-put_set-requires-clause-spare
+put_copy-put_set-requires-clause-spare t c =
+    let enough = c.requires.spare.enough in
+    record { sizes = c.requires.spare.sizes; enough = omega (arith, enough) }
+
+pub put_copy-returns-in-Root-clause-size : goal.put_copy-returns-in-Root-clause-size
+put_copy-returns-in-Root-clause-size t c = c.put_body.ensures.size
+
+pub put_copy-returns-in-Root-clause-spare : goal.put_copy-returns-in-Root-clause-spare
+put_copy-returns-in-Root-clause-spare t c = c.put_body.ensures.spare
+
+pub put_copy-returns-in-Root-clause-pairs : goal.put_copy-returns-in-Root-clause-pairs
+put_copy-returns-in-Root-clause-pairs t c = λ x ok.
+    subst (λ k. Extends c.args.out.now c.put_body.new.out (copied_pairs x k (P x c.args.place.now (see.body c.args.inner.now)))) (sym (ap kind_of c.in-Root.is)) (c.put_body.ensures.pairs x ok)
+
+pub put_copy-returns-in-Elem-clause-size : goal.put_copy-returns-in-Elem-clause-size
+put_copy-returns-in-Elem-clause-size t c = c.put_element.ensures.size
+
+pub put_copy-returns-in-Elem-clause-spare : goal.put_copy-returns-in-Elem-clause-spare
+put_copy-returns-in-Elem-clause-spare t c = c.put_element.ensures.spare
+
+pub put_copy-returns-in-Elem-clause-pairs : goal.put_copy-returns-in-Elem-clause-pairs
+put_copy-returns-in-Elem-clause-pairs t c = λ x ok.
+    subst (λ k. Extends c.args.out.now c.put_element.new.out (copied_pairs x k (P x c.args.place.now (see.body c.args.inner.now)))) (sym (ap kind_of c.in-Elem.is)) (c.put_element.ensures.pairs x ok)
+
+pub put_copy-returns-in-Text-clause-size : goal.put_copy-returns-in-Text-clause-size
+put_copy-returns-in-Text-clause-size t c = c.put_set.ensures.size
+
+pub put_copy-returns-in-Text-clause-spare : goal.put_copy-returns-in-Text-clause-spare
+put_copy-returns-in-Text-clause-spare t c = c.put_set.ensures.spare
+
+pub put_copy-returns-in-Text-clause-pairs : goal.put_copy-returns-in-Text-clause-pairs
+put_copy-returns-in-Text-clause-pairs t c = λ x ok.
+    let p = c.args.place.now in
+    subst (λ k. Extends c.args.out.now c.put_set.new.out (copied_pairs x k (P x p (see.body c.args.inner.now)))) (sym (ap kind_of c.in-Text.is))
+    (put_same c.args.out.now c.put_set.new.out (has p.text.now) (text_edges x) ok.text c.put_set.ensures.pairs)
+
+pub put_element-put_around-requires-clause-spare : goal.put_element-put_around-requires-clause-spare
+put_element-put_around-requires-clause-spare t c =
+    let enough = c.requires.spare.enough in
+    record { sizes = c.requires.spare.sizes; enough = omega (arith, enough) }
+
+pub put_element-returns-in-Some-clause-size : goal.put_element-returns-in-Some-clause-size
+put_element-returns-in-Some-clause-size t c = c.put_around.ensures.size
+
+pub put_element-returns-in-Some-clause-spare : goal.put_element-returns-in-Some-clause-spare
+put_element-returns-in-Some-clause-spare t c = c.put_around.ensures.spare
+
+pub put_element-put_body-requires : goal.put_element-put_body-requires
+put_element-put_body-requires t c =
+    let n = c.args.out.now.size in
+    let split = c.split_at_mut-inside.ensures in
+    let front = c.split_at_mut-inside.result.0.now in
+    let back = c.split_at_mut-inside.result.1.now in
+    let second : All (λ (m : Matrix). m.size ≡ n) back = subst (λ (ms : List Matrix). All (λ (m : Matrix). m.size ≡ n) ms) (sym split.back) (All-drop (λ (m : Matrix). m.size ≡ n) 1 c.args.spare.now c.requires.spare.sizes) in
+    let begun : c.put_identity.new.out.size ≡ n = omega (arith, c.put_identity.ensures.size, ap (λ (m : Matrix). m.size) c.index-inside-0.is, first_size n c.args.spare.now front c.index-inside-0.result c.requires.spare.sizes split.front split.front_len) in
+    let enough = c.requires.spare.enough in (
+      search (rules, the_lemmas),
+      (c.requires.place, (c.requires.part, (begun ∙ c.requires.out, (record { sizes = λ k d low. second k d low ∙ sym begun; enough = omega (arith, enough, split.back_len) }, (omega (arith, c.requires.few, split.back_len), λ e. c.put_identity.ensures.pairs))))),
+    )
+
+pub put_element-returns-clause-spare : goal.put_element-returns-clause-spare
+put_element-returns-clause-spare t c =
+    let n = c.args.out.now.size in
+    let split = c.split_at_mut-inside.ensures in
+    let front = c.split_at_mut-inside.result.0.now in
+    let rest = c.put_body.new.spare in
+    let first : All (λ (m : Matrix). m.size ≡ n) front = subst (λ (ms : List Matrix). All (λ (m : Matrix). m.size ≡ n) ms) (sym split.front) (All-take (λ (m : Matrix). m.size ≡ n) 1 c.args.spare.now c.requires.spare.sizes) in
+    let begun : c.put_identity.new.out.size ≡ n = omega (arith, c.put_identity.ensures.size, ap (λ (m : Matrix). m.size) c.index-inside-0.is, first_size n c.args.spare.now front c.index-inside-0.result c.requires.spare.sizes split.front split.front_len) in
+    let second : All (λ (m : Matrix). m.size ≡ n) rest = λ k d low. c.put_body.ensures.spare k d low ∙ begun in
+    let enough = c.requires.spare.enough in
+    let in_rest = second 0 c.index-rest-0.result (omega (arith, enough, split.back_len, c.put_body.auto.spare)) in
+    let led : c.put_led.new.led.size ≡ n = omega (arith, c.put_led.ensures.led, c.element_into.ensures.size, ap (λ (m : Matrix). m.size) c.index-rest-0.is, in_rest) in
+    let room : c.put_led.new.room.size ≡ n = omega (arith, c.put_led.ensures.room, c.put_body.ensures.size, begun) in
+    All-append (λ (m : Matrix). m.size ≡ n) (set front 0 c.put_led.new.room) (set rest 0 c.put_led.new.led) (All-set (λ (m : Matrix). m.size ≡ n) front 0 c.put_led.new.room room first) (All-set (λ (m : Matrix). m.size ≡ n) rest 0 c.put_led.new.led led second)
+
+pub put_element-returns-clause-size : goal.put_element-returns-clause-size
+put_element-returns-clause-size t c = c.put_led.ensures.size
+
+pub put_first-loop-branch-init : goal.put_first-loop-branch-init
+put_first-loop-branch-init t c = record {
+  out = refl;
+  spare = refl;
+  part = c.requires.part;
+  depth = omega arith;
+  chosen = λ x rest ok. same_self (Q x c.args.place.now (see.branches c.args.branches.now rest));
+}
+
+pub put_instruction-put_text_if-requires-clause-spare : goal.put_instruction-put_text_if-requires-clause-spare
+put_instruction-put_text_if-requires-clause-spare t c =
+    let enough = c.requires.spare.enough in
+    record { sizes = c.requires.spare.sizes; enough = omega (arith, enough) }
+
+pub put_instruction-put_text_if-requires-in-ValueOf-clause-spare : goal.put_instruction-put_text_if-requires-in-ValueOf-clause-spare
+put_instruction-put_text_if-requires-in-ValueOf-clause-spare t c =
+    let enough = c.requires.spare.enough in
+    record { sizes = c.requires.spare.sizes; enough = omega (arith, enough) }
+
+pub put_instruction-put_text_if-requires-in-ValueOfSelf-clause-spare : goal.put_instruction-put_text_if-requires-in-ValueOfSelf-clause-spare
+put_instruction-put_text_if-requires-in-ValueOfSelf-clause-spare t c =
+    let enough = c.requires.spare.enough in
+    record { sizes = c.requires.spare.sizes; enough = omega (arith, enough) }
+
+pub put_instruction-put_selected-requires-clause-spare : goal.put_instruction-put_selected-requires-clause-spare
+put_instruction-put_selected-requires-clause-spare t c =
+    let enough = c.requires.spare.enough in
+    record { sizes = c.requires.spare.sizes; enough = omega (arith, enough) }
+
+pub put_instruction-put_selected-requires-in-ForEach-clause-spare : goal.put_instruction-put_selected-requires-in-ForEach-clause-spare
+put_instruction-put_selected-requires-in-ForEach-clause-spare t c =
+    let enough = c.requires.spare.enough in
+    record { sizes = c.requires.spare.sizes; enough = omega (arith, enough) }
+
+pub put_instruction-put_set-requires-clause-spare : goal.put_instruction-put_set-requires-clause-spare
+put_instruction-put_set-requires-clause-spare t c =
+    let enough = c.requires.spare.enough in
+    record { sizes = c.requires.spare.sizes; enough = omega (arith, enough) }
+
+pub put_instruction-put_set-requires-clause-set : goal.put_instruction-put_set-requires-clause-set
+put_instruction-put_set-requires-clause-set t c =
+    let (x, ok) = c.requires.place in
+    let p = c.args.place.now in
+    let n = c.in-Call.number in
+    let e = ap (λ i. see.instruction i s.no_instruction) c.in-Call.is ∙ see_call n s.no_instruction in
+    let part = subst (IsPart (told p.rules.now).sheet) e c.requires.part in
+    let names : length (told p.rules.now).sheet.named ≡ length (sheet x).named = ap (λ (v : RulesView). length v.sheet.named) ok.rules.told in
+    let low : n < length p.named.now = let w = part.0 in omega (arith, w, names, ok.named_count) in
+    ok.named n c.index-place-number.result low ∙ sym (c.requires.out ∙ ok.size)
+
+pub put_instruction-returns-in-ForEach-clause-pairs : goal.put_instruction-returns-in-ForEach-clause-pairs
+put_instruction-returns-in-ForEach-clause-pairs t c = λ x rest ok.
+    let p = c.args.place.now in
+    let n = c.in-ForEach.number in
+    let new = c.put_selected-in-ForEach.new.out in
+    let w = see.path c.in-ForEach.path in
+    let modes : (told p.rules.now).sheet.modes ≡ (sheet x).modes = ap (λ (v : RulesView). v.sheet.modes) ok.rules.told in
+    arm x p c.args.instruction.now rest (s.for_each n w (see.body c.in-ForEach.field-2.now) rest) c.args.out.now new (ap (λ i. see.instruction i rest) c.in-ForEach.is ∙ see_for_each n c.in-ForEach.path c.in-ForEach.field-2 rest)
+    (then_put new c.args.out.now ((below_of x p).pairs ((sheet x).modes + n) w) (P x p rest) (subst (λ m. Extends c.args.out.now new ((below_of x p).pairs (m + n) w)) modes (c.put_selected-in-ForEach.ensures.pairs x ok)))
+
+pub put_instruction-returns-then-put_first-clause-size : goal.put_instruction-returns-then-put_first-clause-size
+put_instruction-returns-then-put_first-clause-size t c = c.put_first.ensures.size
+
+pub put_instruction-returns-then-put_first-clause-spare : goal.put_instruction-returns-then-put_first-clause-spare
+put_instruction-returns-then-put_first-clause-spare t c = c.put_first.ensures.spare
+
+pub put_instruction-returns-else-put_first-clause-size : goal.put_instruction-returns-else-put_first-clause-size
+put_instruction-returns-else-put_first-clause-size t c = c.put_body.ensures.size ∙ c.put_first.ensures.size
+
+pub put_instruction-returns-else-put_first-clause-spare : goal.put_instruction-returns-else-put_first-clause-spare
+put_instruction-returns-else-put_first-clause-spare t c = λ k d low. c.put_body.ensures.spare k d low ∙ c.put_first.ensures.size
+
+pub put_instruction-returns-in-Text-clause-size : goal.put_instruction-returns-in-Text-clause-size
+put_instruction-returns-in-Text-clause-size t c = c.put_text_if.ensures.size
+
+pub put_instruction-returns-in-Text-clause-spare : goal.put_instruction-returns-in-Text-clause-spare
+put_instruction-returns-in-Text-clause-spare t c = c.put_text_if.ensures.spare
+
+pub put_instruction-returns-in-Elem-clause-size : goal.put_instruction-returns-in-Elem-clause-size
+put_instruction-returns-in-Elem-clause-size t c = c.put_element.ensures.size
+
+pub put_instruction-returns-in-Elem-clause-spare : goal.put_instruction-returns-in-Elem-clause-spare
+put_instruction-returns-in-Elem-clause-spare t c = c.put_element.ensures.spare
+
+pub put_instruction-returns-in-Copy-clause-size : goal.put_instruction-returns-in-Copy-clause-size
+put_instruction-returns-in-Copy-clause-size t c = c.put_copy.ensures.size
+
+pub put_instruction-returns-in-Copy-clause-spare : goal.put_instruction-returns-in-Copy-clause-spare
+put_instruction-returns-in-Copy-clause-spare t c = c.put_copy.ensures.spare
+
+pub put_instruction-returns-in-Apply-clause-size : goal.put_instruction-returns-in-Apply-clause-size
+put_instruction-returns-in-Apply-clause-size t c = c.put_selected.ensures.size
+
+pub put_instruction-returns-in-Apply-clause-spare : goal.put_instruction-returns-in-Apply-clause-spare
+put_instruction-returns-in-Apply-clause-spare t c = c.put_selected.ensures.spare
+
+pub put_instruction-returns-in-Call-clause-size : goal.put_instruction-returns-in-Call-clause-size
+put_instruction-returns-in-Call-clause-size t c = c.put_set.ensures.size
+
+pub put_instruction-returns-in-Call-clause-spare : goal.put_instruction-returns-in-Call-clause-spare
+put_instruction-returns-in-Call-clause-spare t c = c.put_set.ensures.spare
+
+pub put_instruction-returns-in-ValueOf-clause-size : goal.put_instruction-returns-in-ValueOf-clause-size
+put_instruction-returns-in-ValueOf-clause-size t c = c.put_text_if-in-ValueOf.ensures.size
+
+pub put_instruction-returns-in-ValueOf-clause-spare : goal.put_instruction-returns-in-ValueOf-clause-spare
+put_instruction-returns-in-ValueOf-clause-spare t c = c.put_text_if-in-ValueOf.ensures.spare
+
+pub put_instruction-returns-in-ValueOfSelf-clause-size : goal.put_instruction-returns-in-ValueOfSelf-clause-size
+put_instruction-returns-in-ValueOfSelf-clause-size t c = c.put_text_if-in-ValueOfSelf.ensures.size
+
+pub put_instruction-returns-in-ValueOfSelf-clause-spare : goal.put_instruction-returns-in-ValueOfSelf-clause-spare
+put_instruction-returns-in-ValueOfSelf-clause-spare t c = c.put_text_if-in-ValueOfSelf.ensures.spare
+
+pub put_instruction-returns-in-ForEach-clause-size : goal.put_instruction-returns-in-ForEach-clause-size
+put_instruction-returns-in-ForEach-clause-size t c = c.put_selected-in-ForEach.ensures.size
+
+pub put_instruction-returns-in-ForEach-clause-spare : goal.put_instruction-returns-in-ForEach-clause-spare
+put_instruction-returns-in-ForEach-clause-spare t c = c.put_selected-in-ForEach.ensures.spare
+
+pub put_first-returns-then-holds-clause-size : goal.put_first-returns-then-holds-clause-size
+put_first-returns-then-holds-clause-size t c = c.put_body.ensures.size ∙ ap (λ (m : Matrix). m.size) c.loop-branch.invariant.out
+
+pub put_first-returns-then-holds-clause-spare : goal.put_first-returns-then-holds-clause-spare
+put_first-returns-then-holds-clause-spare t c = λ k d low. c.put_body.ensures.spare k d low ∙ ap (λ (m : Matrix). m.size) c.loop-branch.invariant.out
+
+pub put_first-returns-clause-size : goal.put_first-returns-clause-size
+put_first-returns-clause-size t c = ap (λ (m : Matrix). m.size) c.loop-branch.invariant.out
+
+pub put_first-returns-clause-spare : goal.put_first-returns-clause-spare
+put_first-returns-clause-spare t c = subst (λ (ms : List Matrix). All (λ (m : Matrix). m.size ≡ c.args.out.now.size) ms) (sym c.loop-branch.invariant.spare) c.requires.spare.sizes

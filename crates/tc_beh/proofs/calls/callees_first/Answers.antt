@@ -9,20 +9,20 @@ use Rattle.tc_beh.proofs.calls.callees_first.Goals as goal
 
 pub components-requires : goal.components-requires
 components-requires c =
-    subst IsGraph (sym (ap rows_of c.deref.ensures.value ∙ c.in_ok-rows.ensures)) (calls_are_graph c.args.named.now c.requires)
+    subst IsGraph (sym c.in_ok-rows.ensures) (calls_are_graph c.args.named.now c.requires)
 
 pub returns-clause-low : goal.returns-clause-low
 returns-clause-low c =
     let w = c.in_ok-walk.walk in
-    let rows : rows_of c.deref.result.now ≡ map (λ b. callees_in (see.body b.now)) c.args.named.now = ap rows_of c.deref.ensures.value ∙ c.in_ok-rows.ensures in
-    let count : length (rows_of c.deref.result.now) ≡ length c.args.named.now = ap length rows ∙ length-map c.args.named.now (λ b. callees_in (see.body b.now)) in
-    let list : c.in_ok-order.order.items ≡ w.order.items = c.in_ok-order.ensures.items ∙ c.deref-2.ensures.value in
+    let rows : rows_of c.in_ok-rows.rows.now ≡ map (λ b. callees_in (see.body b.now)) c.args.named.now = c.in_ok-rows.ensures in
+    let count : length (rows_of c.in_ok-rows.rows.now) ≡ length c.args.named.now = ap length rows ∙ length-map c.args.named.now (λ b. callees_in (see.body b.now)) in
+    let list : c.in_ok-order.order.items ≡ w.order.items = c.in_ok-order.ensures.items ∙ c.deref.ensures.value in
     subst (λ (xs : List ℕ). All (λ n. n < length c.args.named.now) xs) (sym list)
-    (λ k d low. let few = order_low (rows_of c.deref.result.now) w.states.items w.order.items c.in_ok-walk.ensures k d low in omega (arith, few, count))
+    (λ k d low. let few = order_low (rows_of c.in_ok-rows.rows.now) w.states.items w.order.items c.in_ok-walk.ensures k d low in omega (arith, few, count))
 
 pub returns-clause-order : goal.returns-clause-order
 returns-clause-order c =
     let w = c.in_ok-walk.walk in
-    let rows : rows_of c.deref.result.now ≡ map (λ b. callees_in (see.body b.now)) c.args.named.now = ap rows_of c.deref.ensures.value ∙ c.in_ok-rows.ensures in
-    let list : c.in_ok-order.order.items ≡ w.order.items = c.in_ok-order.ensures.items ∙ c.deref-2.ensures.value in
+    let rows : rows_of c.in_ok-rows.rows.now ≡ map (λ b. callees_in (see.body b.now)) c.args.named.now = c.in_ok-rows.ensures in
+    let list : c.in_ok-order.order.items ≡ w.order.items = c.in_ok-order.ensures.items ∙ c.deref.ensures.value in
     record { states = w.states.items; are = subst (λ (xs : List ℕ). AreComponents (map (λ b. callees_in (see.body b.now)) c.args.named.now) w.states.items xs) (sym list) (subst (λ rs. AreComponents rs w.states.items w.order.items) rows c.in_ok-walk.ensures) }

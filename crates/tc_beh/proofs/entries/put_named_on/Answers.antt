@@ -1,6 +1,12 @@
-use Rattle.std.proofs.Common.{◌<◌, length, List, sym, ap, ◌∙◌, subst}
+use Rattle.std.proofs.Common.{◌≡◌, ◌<◌, ℕ, length, List, All, sym, ap, ◌∙◌, subst, arith}
 use Rattle.tc_mat.specs.Matrix.{Matrix}
+use Rattle.tc_model.specs.Sheets.{Body}
+use Rattle.tc_rules.specs.Kept.{told}
 use Rattle.tc_rules.specs.RulesView.{RulesView}
+use Rattle.tc_rules.specs.declared.rules.Rules.{Rules}
+use Rattle.tc_rows.specs.Triples.{sheet}
+use Rattle.tc_beh.specs.Callees.{AreCalleesFirst}
+use Rattle.tc_beh.specs.Heights.{deepest}
 use Rattle.tc_beh.specs.Entries.{below_node}
 use Rattle.tc_beh.specs.Above.{letter_of, node_of}
 use Rattle.tc_beh.specs.Putting.{IsCalled}
@@ -43,3 +49,44 @@ put_named-requires-clause-set c =
     let low = subst (λ (t : RulesView). c.args.above < length t.ancestors.states) ok.machine.parts.are_rules.told c.requires.above in
     let ground = is_ground x c.args.machine.now c.args.outputs.now c.args.work.now c.args.node ok _ _ c.args.above c.place_of-place.result c.place_of-place.ensures (λ i. c.args.work.now.text) low in
     ok.work.set ∙ sym ground.size
+
+pub put_named-requires-clause-order : goal.put_named-requires-clause-order
+put_named-requires-clause-order c =
+    let (x, ok) = c.requires.grounds in
+    let names : (told c.place_of-place.result.rules.now).sheet.named ≡ (sheet x).named = ap (λ (r : Rules). (told r).sheet.named) c.place_of-place.ensures.rules ∙ ap (λ (v : RulesView). v.sheet.named) ok.machine.parts.are_rules.told in
+    subst (λ (os : List ℕ). AreCalleesFirst (told c.place_of-place.result.rules.now).sheet.named os) (sym c.as_slice.ensures.value) (subst (λ (bs : List Body). AreCalleesFirst bs c.args.machine.now.order.items) (sym names) ok.machine.order)
+
+pub put_named-requires-clause-named : goal.put_named-requires-clause-named
+put_named-requires-clause-named c =
+    let (x, ok) = c.requires.grounds in
+    let names : (told c.place_of-place.result.rules.now).sheet.named ≡ (sheet x).named = ap (λ (r : Rules). (told r).sheet.named) c.place_of-place.ensures.rules ∙ ap (λ (v : RulesView). v.sheet.named) ok.machine.parts.are_rules.told in
+    let low = subst (λ (t : RulesView). c.args.above < length t.ancestors.states) ok.machine.parts.are_rules.told c.requires.above in
+    let ground = is_ground x c.args.machine.now c.args.outputs.now c.args.work.now c.args.node ok _ _ c.args.above c.place_of-place.result c.place_of-place.ensures (λ i. c.args.work.now.text) low in
+    let n = c.place_of-place.result.text.now.size in
+    record {
+      count = ap length c.as_mut_slice.ensures.value ∙ (ok.work.named_count ∙ ap length (sym names));
+      sizes = subst (λ (ms : List Matrix). All (λ (m : Matrix). m.size ≡ n) ms) (sym c.as_mut_slice.ensures.value) (λ k d l. ok.work.named k d l ∙ sym ground.size);
+    }
+
+pub put_named-requires-clause-spare : goal.put_named-requires-clause-spare
+put_named-requires-clause-spare c =
+    let (x, ok) = c.requires.grounds in
+    let names : (told c.place_of-place.result.rules.now).sheet.named ≡ (sheet x).named = ap (λ (r : Rules). (told r).sheet.named) c.place_of-place.ensures.rules ∙ ap (λ (v : RulesView). v.sheet.named) ok.machine.parts.are_rules.told in
+    let low = subst (λ (t : RulesView). c.args.above < length t.ancestors.states) ok.machine.parts.are_rules.told c.requires.above in
+    let ground = is_ground x c.args.machine.now c.args.outputs.now c.args.work.now c.args.node ok _ _ c.args.above c.place_of-place.result c.place_of-place.ensures (λ i. c.args.work.now.text) low in
+    let n = c.place_of-place.result.text.now.size in
+    let deep = ap deepest names in
+    let depth = ok.machine.depth in
+    let enough = ok.work.spare.enough in
+    let count = ap length c.as_mut_slice-2.ensures.value in
+    record {
+      sizes = subst (λ (ms : List Matrix). All (λ (m : Matrix). m.size ≡ n) ms) (sym c.as_mut_slice-2.ensures.value) (λ k d l. ok.work.spare.sizes k d l ∙ sym ground.size);
+      enough = omega (arith, deep, depth, enough, count);
+    }
+
+pub put_named-requires-clause-few : goal.put_named-requires-clause-few
+put_named-requires-clause-few c =
+    let (x, ok) = c.requires.grounds in
+    let few = ok.work.few in
+    let count = ap length c.as_mut_slice-2.ensures.value in
+    omega (arith, few, count)

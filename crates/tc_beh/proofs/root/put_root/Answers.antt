@@ -2,8 +2,12 @@ use Rattle.std.proofs.Common.{◌≡◌, ℕ, List, length, All, ap, ◌∙◌, 
 use Rattle.std.specs.Vec.{with_items}
 use Rattle.std.proofs.lemmas.List.{with_items_is}
 use Rattle.tc_mat.specs.Matrix.{Matrix}
+use Rattle.tc_model.specs.Sheets.{Body}
+use Rattle.tc_rules.specs.Kept.{told}
 use Rattle.tc_rules.specs.RulesView.{RulesView}
-use Rattle.tc_rows.specs.Triples.{outputs}
+use Rattle.tc_rows.specs.Triples.{outputs, sheet}
+use Rattle.tc_beh.specs.Callees.{AreCalleesFirst}
+use Rattle.tc_beh.specs.Heights.{deepest}
 use Rattle.tc_rows.specs.Bodies.{on_root}
 use Rattle.tc_rows.specs.Arithmetic.{below}
 use Rattle.tc_beh.specs.Grounds.{called_from}
@@ -93,3 +97,45 @@ returns-clause-pairs c = λ x is.
     (c.put_named.ensures.called x n (is_ground x m held w c.args.tree.now is _ refl refl c.bears.ensures c.outputs.ensures.value c.looks.ensures.value refl all refl refl refl refl))) in
     root_put x m held w c.args.tree.now is all c.bears.result os vs c.bears.ensures c.outputs.ensures.value c.looks.ensures.value c.put_identity.new.out c.put_on_root.new.out
     (c.put_identity.ensures.size ∙ (c.put_named.ensures.set ∙ is.work.text_size)) c.put_identity.ensures.pairs put
+
+pub put_named-requires-clause-order : goal.put_named-requires-clause-order
+put_named-requires-clause-order c =
+    let (x, is) = c.requires in
+    let names : (told c.args.machine.now.rules).sheet.named ≡ (sheet x).named = ap (λ (v : RulesView). v.sheet.named) is.machine.parts.are_rules.told in
+    subst (λ (os : List ℕ). AreCalleesFirst (told c.args.machine.now.rules).sheet.named os) (sym c.as_slice.ensures.value) (subst (λ (bs : List Body). AreCalleesFirst bs c.args.machine.now.order.items) (sym names) is.machine.order)
+
+pub put_named-requires-clause-named : goal.put_named-requires-clause-named
+put_named-requires-clause-named c =
+    let (x, is) = c.requires in
+    let names : (told c.args.machine.now.rules).sheet.named ≡ (sheet x).named = ap (λ (v : RulesView). v.sheet.named) is.machine.parts.are_rules.told in
+    let n = c.args.work.now.text.size in
+    record {
+      count = ap count_of c.as_mut_slice.ensures.value ∙ (is.work.named_count ∙ ap length (sym names));
+      sizes = subst (λ (l : List Matrix). All (λ (e : Matrix). e.size ≡ n) l) (sym c.as_mut_slice.ensures.value) (λ k d l. is.work.named k d l ∙ sym is.work.text_size);
+    }
+
+pub put_named-requires-clause-set : goal.put_named-requires-clause-set
+put_named-requires-clause-set c =
+    let (x, is) = c.requires in
+    is.work.set ∙ sym is.work.text_size
+
+pub put_named-requires-clause-spare : goal.put_named-requires-clause-spare
+put_named-requires-clause-spare c =
+    let (x, is) = c.requires in
+    let names : (told c.args.machine.now.rules).sheet.named ≡ (sheet x).named = ap (λ (v : RulesView). v.sheet.named) is.machine.parts.are_rules.told in
+    let n = c.args.work.now.text.size in
+    let deep = ap deepest names in
+    let depth = is.machine.depth in
+    let enough = is.work.spare.enough in
+    let count = ap count_of c.as_mut_slice-2.ensures.value in
+    record {
+      sizes = subst (λ (l : List Matrix). All (λ (e : Matrix). e.size ≡ n) l) (sym c.as_mut_slice-2.ensures.value) (λ k d l. is.work.spare.sizes k d l ∙ sym is.work.text_size);
+      enough = omega (arith, deep, depth, enough, count);
+    }
+
+pub put_named-requires-clause-few : goal.put_named-requires-clause-few
+put_named-requires-clause-few c =
+    let (x, is) = c.requires in
+    let few = is.work.few in
+    let count = ap count_of c.as_mut_slice-2.ensures.value in
+    omega (arith, few, count)

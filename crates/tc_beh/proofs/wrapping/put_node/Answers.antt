@@ -1,9 +1,10 @@
-use Rattle.std.proofs.Common.{◌≡◌, ◌-◌, ◌*◌, length, ap, ◌∙◌, sym, arith}
+use Rattle.std.proofs.Common.{◌≡◌, ◌-◌, ◌*◌, inl, length, ap, ◌∙◌, sym, arith}
 use Rattle.tc_rules.specs.Kept.{told}
 use Rattle.tc_rules.specs.RulesView.{RulesView, move_count, select_count}
 use Rattle.tc_rows.specs.Triples.{looks, moves, ancestors}
 use Rattle.tc_beh.proofs.Together.{on_ok_map}
 use Rattle.tc_beh.proofs.Wrapped.{node_row}
+use Rattle.tc_beh.proofs.WrapRows.{beside_then}
 use Rattle.tc_beh.proofs.wrapping.put_node.Goals as goal
 
 pub returns-clause-row : goal.returns-clause-row
@@ -31,3 +32,41 @@ put_entries-put-requires-clause-room c =
 
 pub put_looks-requires-clause-letter : goal.put_looks-requires-clause-letter
 put_looks-requires-clause-letter c = let (x, ok) = c.requires.grounds in (x, ok.machine.parts.are_rules, ok.node.letter)
+
+pub put_looks-requires-clause-few : goal.put_looks-requires-clause-few
+put_looks-requires-clause-few c = c.requires.few
+
+pub put_entries-put-requires-clause-grounds : goal.put_entries-put-requires-clause-grounds
+put_entries-put-requires-clause-grounds c = c.requires.grounds
+
+pub returns-clause-beside : goal.returns-clause-beside
+returns-clause-beside c = beside_then c.args.out.now c.put_looks.new.out c.put_entries-put.new.out c.put_looks.ensures.beside c.put_entries-put.ensures.beside
+
+pub returns-clause-others : goal.returns-clause-others
+returns-clause-others c = λ k low.
+    let same = c.put_looks.ensures.beside.flags in
+    c.put_entries-put.ensures.others k (inl (omega (arith, low, same))) ∙ c.put_looks.ensures.others k (omega (arith, low))
+
+pub returns-clause-work : goal.returns-clause-work
+returns-clause-work c = c.put_entries-put.ensures.work
+
+pub returns-clause-held : goal.returns-clause-held
+returns-clause-held c = c.put_entries-put.ensures.held
+
+pub returns-clause-partly : goal.returns-clause-partly
+returns-clause-partly c = c.put_entries-put.ensures.partly
+
+pub returns-clause-fixed : goal.returns-clause-fixed
+returns-clause-fixed c = c.put_entries-put.ensures.fixed
+
+pub returns-clause-full : goal.returns-clause-full
+returns-clause-full c = c.put_entries-put.ensures.full
+
+pub returns-clause-fresh : goal.returns-clause-fresh
+returns-clause-fresh c = c.put_entries-put.ensures.fresh
+
+pub returns-clause-memory : goal.returns-clause-memory
+returns-clause-memory c = c.put_entries-put.ensures.memory
+
+pub returns-clause-sets : goal.returns-clause-sets
+returns-clause-sets c = c.len-held.ensures.matrices

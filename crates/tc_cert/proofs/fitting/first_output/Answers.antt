@@ -31,8 +31,8 @@ loop-done-preserved c = record {
       let fits : (IsTrue c.do_pairs_fit.result → PairsFit s.output_states c.in_ok-pairs.pairs) × (PairsFit s.output_states c.in_ok-pairs.pairs → IsTrue c.do_pairs_fit.result)
       = subst (λ n. (IsTrue c.do_pairs_fit.result → PairsFit n c.in_ok-pairs.pairs) × (PairsFit n c.in_ok-pairs.pairs → IsTrue c.do_pairs_fit.result)) (sym q) c.do_pairs_fit.ensures in
       subst (λ t. OutputsSoFar v bytes s c.args.count (c.loop-done.done + 1) (Some c.in_ok-pairs.pairs) t c.output.new.self) (sym c.first_of-told.ensures)
-      (outputs_more v bytes s c.args.count c.loop-done.done c.loop-done.before c.loop-done.told c.loop-done.reader c.output.new.self c.in_ok-pairs.pairs c.do_pairs_fit.result c.lines.result o c.loop-done-test.true
-      c.in_ok-pairs.ensures.ok.0 (behind_of o.outputs c.in_ok-pairs.pairs c.as_ref.result (lent o.outputs c.loop-done.before c.as_ref.result o.last c.as_ref.ensures.value) c.in_ok-pairs.ensures.ok.1) c.in_ok-pairs.ensures.ok.2 fits c.lines.ensures);
+      (outputs_more v bytes s c.args.count c.loop-done.done c.loop-done.before c.loop-done.told c.loop-done.reader c.output.new.self c.in_ok-pairs.pairs c.do_pairs_fit.result c.output.new.self.lines o c.loop-done-test.true
+      c.in_ok-pairs.ensures.ok.0 (behind_of o.outputs c.in_ok-pairs.pairs c.as_ref.result (lent o.outputs c.loop-done.before c.as_ref.result o.last c.as_ref.ensures.value) c.in_ok-pairs.ensures.ok.1) c.in_ok-pairs.ensures.ok.2 fits refl);
   few = omega (arith, c.loop-done-test.true);
   formed = c.in_ok-pairs.ensures.ok.0;
 }

@@ -34,7 +34,7 @@ loop-done-preserved c = record {
       let fits : (IsTrue c.does_row_fit.result → RowFitsIn (sizes_of c.args.ranges) (length os) c.args.kind f) × (RowFitsIn (sizes_of c.args.ranges) (length os) c.args.kind f → IsTrue c.does_row_fit.result)
       = subst (λ n. (IsTrue c.does_row_fit.result → RowFitsIn (sizes_of c.args.ranges) n c.args.kind f) × (RowFitsIn (sizes_of c.args.ranges) n c.args.kind f → IsTrue c.does_row_fit.result)) (sym q) c.does_row_fit.ensures in
       subst (λ u. RowsSoFar c.args.kind v bytes (sizes_of c.args.ranges) os ts c.args.count (c.loop-done.done + 1) (Some f) u c.row.new.self) (sym c.first_of-told.ensures)
-      (rows_more c.args.kind v bytes (sizes_of c.args.ranges) os ts c.args.count c.loop-done.done (option_map fields_of c.loop-done.before) c.loop-done.told c.loop-done.reader c.row.new.self f c.does_row_fit.result c.lines.result o c.loop-done-test.true passes fits c.lines.ensures);
+      (rows_more c.args.kind v bytes (sizes_of c.args.ranges) os ts c.args.count c.loop-done.done (option_map fields_of c.loop-done.before) c.loop-done.told c.loop-done.reader c.row.new.self f c.does_row_fit.result c.row.new.self.lines o c.loop-done-test.true passes fits refl);
   few = omega (arith, c.loop-done-test.true);
   good = (c.in_ok-row.ensures.ok.0.formed, c.in_ok-row.ensures.short);
 }

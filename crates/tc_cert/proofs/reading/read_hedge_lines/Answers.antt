@@ -22,7 +22,7 @@ pub loop-alloc-preserved : goal.loop-alloc-preserved
 loop-alloc-preserved c =
     let few : length c.loop-alloc.hedges < c.args.count = omega (arith, c.loop-alloc-test.true, c.len.ensures) in
     let f : Fields = fields_of c.in_ok-row.row in
-    let pushed : c.push.new.self ≡ c.loop-alloc.hedges ++ hedge_of f ∷ [] = c.in_ok-push.ensures.ok ∙ ap (λ t. c.loop-alloc.hedges ++ t ∷ []) c.in_ok-hedge_of.ensures in
+    let pushed : c.push_hedge.new.hedges ≡ c.loop-alloc.hedges ++ hedge_of f ∷ [] = c.in_ok-push_hedge.ensures in
     record {
       stands = λ v bytes os ts s.
           let here : Stands v bytes (in_hedges v os ts c.args.count c.loop-alloc.hedges) c.loop-alloc.reader = c.loop-alloc.invariant.stands v bytes os ts s in

@@ -22,7 +22,7 @@ pub loop-alloc-preserved : goal.loop-alloc-preserved
 loop-alloc-preserved c =
     let few : length c.loop-alloc.trees < c.args.count = omega (arith, c.loop-alloc-test.true, c.len.ensures) in
     let f : Fields = fields_of c.in_ok-row.row in
-    let pushed : c.push.new.self ≡ c.loop-alloc.trees ++ tree_of f ∷ [] = c.in_ok-push.ensures.ok ∙ ap (λ t. c.loop-alloc.trees ++ t ∷ []) c.in_ok-tree_of.ensures in
+    let pushed : c.push_tree.new.trees ≡ c.loop-alloc.trees ++ tree_of f ∷ [] = c.in_ok-push_tree.ensures in
     record {
       stands = λ v bytes os s.
           let here : Stands v bytes (in_trees v os c.args.count c.loop-alloc.trees) c.loop-alloc.reader = c.loop-alloc.invariant.stands v bytes os s in

@@ -8,14 +8,17 @@ use Rattle.tc_close.proofs.Certified.{least_certificate, too_long}
 use Rattle.tc_close.proofs.Pushed.{none_of, some_of}
 use Rattle.tc_close.proofs.certificate.cert_data.Goals as goal
 
-pub returns-in_default : goal.returns-in_default
-returns-in_default g c = λ x o.
+pub returns-in_default-clause-data : goal.returns-in_default-clause-data
+returns-in_default-clause-data g c = λ x o.
     let s = c.args.rows.now in
     too_long x s g.K.Over.is_of o c.output_count-outputs.ensures.known c.shape-shape.result (c.shape-shape.ensures.stands x o) c.shape-shape.ensures.fits c.requires.closed c.requires.derive c.requires.whole c.requires.trees c.requires.hedges
     (none_of (LONGEST_FILE < length (flat_map output_text (sets_of s.outputs.matrices))) (λ (all : List (List ℕ)). all ≡ output_lines s) c.in_ok-lines.field-0 c.in_ok-lines.ensures c.in_default.is)
 
-pub returns : goal.returns
-returns g c = λ x o.
+pub returns-clause-same : goal.returns-clause-same
+returns-clause-same g c = c.data_by.ensures.same
+
+pub returns-clause-data : goal.returns-clause-data
+returns-clause-data g c = λ x o.
     let s = c.args.rows.now in
     let lines : c.in-Some.lines ≡ output_lines s =
     some_of (LONGEST_FILE < length (flat_map output_text (sets_of s.outputs.matrices))) (λ (all : List (List ℕ)). all ≡ output_lines s) c.in_ok-lines.field-0 c.in-Some.lines c.in_ok-lines.ensures c.in-Some.is in

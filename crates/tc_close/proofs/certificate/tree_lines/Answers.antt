@@ -1,5 +1,6 @@
-use Rattle.std.proofs.Common.{◌∷◌, [], length, ap, ◌∙◌, arith, length-append}
+use Rattle.std.proofs.Common.{◌≡◌, ◌∷◌, [], ℕ, length, map, refl, ap, ◌∙◌, arith, length-append}
 use Rattle.tc_model.specs.CertificateLines.{tree_line}
+use Rattle.tc_model.specs.Numbered.{numbers_below}
 use Rattle.tc_close.specs.Lines.{tree_ranked}
 use Rattle.tc_close.specs.RowState.{RowState}
 use Rattle.tc_close.proofs.Pushed.{pushed_below}
@@ -15,3 +16,15 @@ loop-place-preserved g c = (
       (c.in_ok-line.ensures.line x o ∙ ap (λ (s : RowState). tree_line (tree_ranked x s c.args.ranks.now c.loop-place.place)) c.loop-place.invariant.0),
   (let a = ap length c.in_ok-push.ensures in let b = length-append c.loop-place.all (c.in_ok-line.line.items ∷ []) in let e = c.loop-place.invariant.2 in omega (arith, a, b, e)),
 )
+
+pub loop-place-init : goal.loop-place-init
+loop-place-init g c = (refl, λ x o. c.new-all.ensures, ap length c.new-all.ensures)
+
+pub returns-clause-lines : goal.returns-clause-lines
+returns-clause-lines g c = λ x o.
+    let f = λ (p : ℕ). tree_line (tree_ranked x c.args.rows.now c.args.ranks.now p) in
+    let all : c.loop-place.place ≡ length c.args.rows.now.trees = omega (arith, c.loop-place-test.false, c.tree_count-place-end.ensures) in
+    c.loop-place.invariant.1 x o ∙ ap (λ n. map f (numbers_below n)) all
+
+pub returns-clause-count : goal.returns-clause-count
+returns-clause-count g c = let e = c.loop-place.invariant.2 in omega (arith, e, c.loop-place-test.false, c.tree_count-place-end.ensures)

@@ -1,8 +1,9 @@
-use Rattle.std.proofs.Common.{subst}
+use Rattle.std.proofs.Common.{subst, sym}
 use Rattle.tc_model.specs.declared.lists.CertData.{CertData}
+use Rattle.tc_settle.specs.Held.{SameRows}
 use Rattle.tc_close.specs.Certified.{IsLeastCertificate, IsTooLong}
 use Rattle.tc_close.specs.Decisions.{IsDecided}
-use Rattle.tc_close.specs.RowState.{held_of}
+use Rattle.tc_close.specs.RowState.{RowState, held_of}
 use Rattle.tc_close.proofs.Carried.{closure_on}
 use Rattle.tc_close.proofs.LeastHolds.{least_holds}
 use Rattle.tc_close.proofs.Pushed.{none_of, some_of}
@@ -11,20 +12,32 @@ use Rattle.tc_close.proofs.proof.told.Goals as goal
 pub certified-requires-clause-closure : goal.certified-requires-clause-closure
 certified-requires-clause-closure g c = closure_on (held_of g.K.Over.is_of c.args.rows.now) (held_of g.K.Over.is_of c.verdict.new.rows) c.args.closed.now c.verdict.ensures.same c.requires.closure
 
-pub returns-in-Ok-Some : goal.returns-in-Ok-Some
-returns-in-Ok-Some g c = λ x o.
+pub returns-in-Ok-Some-clause-proof : goal.returns-in-Ok-Some-clause-proof
+returns-in-Ok-Some-clause-proof g c = λ x o.
     let decided = subst (IsDecided x c.args.most) c.in-Ok-Safe.field-0-is (c.in-Ok-Safe.ensures.decision x o) in
     let d : CertData = c.in-Ok-Some.data in
-    let least : IsLeastCertificate x d = some_of (IsTooLong x) (IsLeastCertificate x) c.in-Ok-Some.field-0 d (c.in-Ok-Some.ensures x o) c.in-Ok-Some.field-0-is in
+    let least : IsLeastCertificate x d = some_of (IsTooLong x) (IsLeastCertificate x) c.in-Ok-Some.field-0 d (c.in-Ok-Some.ensures.data x o) c.in-Ok-Some.field-0-is in
     (record { safe = decided.safe; keeps = decided.keeps }, least, least_holds x (c.requires.machine x o).parts.are_rules.triple decided.safe d least)
 
-pub returns-in-Ok-None : goal.returns-in-Ok-None
-returns-in-Ok-None g c = λ x o.
+pub returns-in-Ok-None-clause-proof : goal.returns-in-Ok-None-clause-proof
+returns-in-Ok-None-clause-proof g c = λ x o.
     let decided = subst (IsDecided x c.args.most) c.in-Ok-Safe.field-0-is (c.in-Ok-Safe.ensures.decision x o) in
-    (record { safe = decided.safe; keeps = decided.keeps }, none_of (IsTooLong x) (IsLeastCertificate x) c.in-Ok-None.field-0 (c.in-Ok-None.ensures x o) c.in-Ok-None.field-0-is)
+    (record { safe = decided.safe; keeps = decided.keeps }, none_of (IsTooLong x) (IsLeastCertificate x) c.in-Ok-None.field-0 (c.in-Ok-None.ensures.data x o) c.in-Ok-None.field-0-is)
 
-pub returns-in-Ok-Unsafe : goal.returns-in-Ok-Unsafe
-returns-in-Ok-Unsafe g c = λ x o. subst (IsDecided x c.args.most) c.in-Ok-Unsafe.field-0-is (c.in-Ok-Unsafe.ensures.decision x o)
+pub returns-in-Ok-Unsafe-clause-proof : goal.returns-in-Ok-Unsafe-clause-proof
+returns-in-Ok-Unsafe-clause-proof g c = λ x o. subst (IsDecided x c.args.most) c.in-Ok-Unsafe.field-0-is (c.in-Ok-Unsafe.ensures.decision x o)
 
-pub returns-in-Ok-TooManyNodes : goal.returns-in-Ok-TooManyNodes
-returns-in-Ok-TooManyNodes g c = λ x o. subst (IsDecided x c.args.most) c.in-Ok-TooManyNodes.field-0-is (c.in-Ok-TooManyNodes.ensures.decision x o)
+pub returns-in-Ok-TooManyNodes-clause-proof : goal.returns-in-Ok-TooManyNodes-clause-proof
+returns-in-Ok-TooManyNodes-clause-proof g c = λ x o. subst (IsDecided x c.args.most) c.in-Ok-TooManyNodes.field-0-is (c.in-Ok-TooManyNodes.ensures.decision x o)
+
+pub returns-in-Ok-Some-clause-same : goal.returns-in-Ok-Some-clause-same
+returns-in-Ok-Some-clause-same g c = subst (λ (s : RowState). SameRows (held_of g.K.Over.is_of c.args.rows.now) (held_of g.K.Over.is_of s)) (sym c.certified.ensures.same) c.verdict.ensures.same
+
+pub returns-in-Ok-None-clause-same : goal.returns-in-Ok-None-clause-same
+returns-in-Ok-None-clause-same g c = subst (λ (s : RowState). SameRows (held_of g.K.Over.is_of c.args.rows.now) (held_of g.K.Over.is_of s)) (sym c.certified.ensures.same) c.verdict.ensures.same
+
+pub returns-in-Ok-Unsafe-clause-same : goal.returns-in-Ok-Unsafe-clause-same
+returns-in-Ok-Unsafe-clause-same g c = c.verdict.ensures.same
+
+pub returns-in-Ok-TooManyNodes-clause-same : goal.returns-in-Ok-TooManyNodes-clause-same
+returns-in-Ok-TooManyNodes-clause-same g c = c.verdict.ensures.same

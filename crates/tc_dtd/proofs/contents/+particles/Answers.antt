@@ -1,5 +1,4 @@
-use Rattle.std.proofs.Common.{◌≡◌, subst, sym, ap, ◌∙◌, arith, rules}
-use Rattle.tc_dtd.specs.Declarations as d
+use Rattle.std.proofs.Common.{sym, ap, ◌∙◌, arith, rules}
 use Rattle.tc_dtd.specs.DtdTextContents.{ParticleAt, a_group, GroupAt, ListAt, RestAt}
 use Rattle.tc_dtd.specs.Outcomes.{read}
 use Rattle.tc_dtd.specs.Stops.{Stops}
@@ -51,63 +50,64 @@ list-returns-in_err-first-clause-no t c =
     let e = c.in_err-first.field-0.0 in
     failed c.from_residual.result (λ e. Stops e (ListAt c.args.deepest c.args.text.now)) e c.from_residual.ensures.1 (first_stops c.args.deepest c.args.text.now e c.in_err-first.ensures.no)
 
-pub list-returns-in_err-all-clause-no : goal.list-returns-in_err-all-clause-no
-list-returns-in_err-all-clause-no t c =
-    let e = c.in_err-all.field-0.0 in
+pub list-returns-in_err-after-clause-no : goal.list-returns-in_err-after-clause-no
+list-returns-in_err-after-clause-no t c =
+    let e = c.in_err-after.field-0.0 in
     let (r, f) = c.if-begins.ensures in
-    failed c.from_residual-in_err-all.result (λ e. Stops e (ListAt c.args.deepest c.args.text.now)) e c.from_residual-in_err-all.ensures.1
-    (choice_stops c.args.deepest c.args.text.now c.in_ok-first.rest.now c.after_white.result.now r (particle c.in_ok-first.first) e c.in_ok-first.ensures.ok c.after_white.ensures f c.in_err-all.ensures.no)
+    failed c.from_residual-in_err-after.result (λ e. Stops e (ListAt c.args.deepest c.args.text.now)) e c.from_residual-in_err-after.ensures.1
+    (choice_stops c.args.deepest c.args.text.now c.in_ok-first.rest.now c.after_white.result.now r (particle c.in_ok-first.first) e c.in_ok-first.ensures.ok c.after_white.ensures f c.in_err-after.ensures.no)
 
 pub list-returns-then-begins-clause-ok : goal.list-returns-then-begins-clause-ok
 list-returns-then-begins-clause-ok t c =
     let (r, f) = c.if-begins.ensures in
-    of_choice c.args.deepest c.args.text.now c.in_ok-first.rest.now c.after_white.result.now r c.in_ok-all.after.now (particle c.in_ok-first.first) _ (particles c.in_ok-all.all.now) c.in_ok-first.ensures.ok
-    c.after_white.ensures f c.in_ok-all.ensures.ok (see_choice c.in_ok-all.all)
+    let (ps, i, a) = c.in_ok-after.ensures.ok in
+    of_choice c.args.deepest c.args.text.now c.in_ok-first.rest.now c.after_white.result.now r c.in_ok-after.after.now (particle c.in_ok-first.first) _ (particles c.into_bump_slice.result.now) c.in_ok-first.ensures.ok
+    c.after_white.ensures f (ps, ap particles c.into_bump_slice.ensures ∙ i, a) (see_choice c.into_bump_slice.result)
 
-pub list-returns-in_err-all-2-clause-no : goal.list-returns-in_err-all-2-clause-no
-list-returns-in_err-all-2-clause-no t c =
-    let e = c.in_err-all-2.field-0.0 in
-    failed c.from_residual-in_err-all-2.result (λ e. Stops e (ListAt c.args.deepest c.args.text.now)) e c.from_residual-in_err-all-2.ensures.1
-    (sequence_stops c.args.deepest c.args.text.now c.in_ok-first.rest.now c.after_white.result.now (particle c.in_ok-first.first) e c.in_ok-first.ensures.ok c.after_white.ensures c.if-begins.ensures c.in_err-all-2.ensures.no)
+pub list-returns-in_err-after-2-clause-no : goal.list-returns-in_err-after-2-clause-no
+list-returns-in_err-after-2-clause-no t c =
+    let e = c.in_err-after-2.field-0.0 in
+    failed c.from_residual-in_err-after-2.result (λ e. Stops e (ListAt c.args.deepest c.args.text.now)) e c.from_residual-in_err-after-2.ensures.1
+    (sequence_stops c.args.deepest c.args.text.now c.in_ok-first.rest.now c.after_white.result.now (particle c.in_ok-first.first) e c.in_ok-first.ensures.ok c.after_white.ensures c.if-begins.ensures c.in_err-after-2.ensures.no)
 
 pub list-returns-clause-ok : goal.list-returns-clause-ok
 list-returns-clause-ok t c =
-    of_sequence c.args.deepest c.args.text.now c.in_ok-first.rest.now c.in_ok-all-2.after.now (particle c.in_ok-first.first) _ (particles c.in_ok-all-2.all.now) c.in_ok-first.ensures.ok
-    c.in_ok-all-2.ensures.ok (see_seq c.in_ok-all-2.all)
+    let (ps, i, a) = c.in_ok-after-2.ensures.ok in
+    of_sequence c.args.deepest c.args.text.now c.in_ok-first.rest.now c.in_ok-after-2.after.now (particle c.in_ok-first.first) _ (particles c.into_bump_slice-2.result.now) c.in_ok-first.ensures.ok
+    (ps, ap particles c.into_bump_slice-2.ensures ∙ i, a) (see_seq c.into_bump_slice-2.result)
 
-pub joined-loop-next-init : goal.joined-loop-next-init
-joined-loop-next-init t c = (
+pub join-loop-next-init : goal.join-loop-next-init
+join-loop-next-init t c = (
   search rules,
-  joins_first c.args.connector c.args.deepest c.args.text.now (particle c.args.first) _ (ap particles c.in_ok-all.ensures),
+  joins_first c.args.connector c.args.deepest c.args.text.now (particle c.args.first) _ (ap particles c.requires.1.1.1.1),
 )
 
-pub joined-returns-in_err-one-clause-no : goal.joined-returns-in_err-one-clause-no
-joined-returns-in_err-one-clause-no t c =
+pub join-returns-in_err-one-clause-no : goal.join-returns-in_err-one-clause-no
+join-returns-in_err-one-clause-no t c =
     let e = c.in_err-one.field-0.0 in
-    failed c.from_residual-in_err-one.result (λ e. Stops e (RestAt c.args.connector c.args.deepest c.args.text.now)) e c.from_residual-in_err-one.ensures.1
+    failed c.from_residual.result (λ e. Stops e (RestAt c.args.connector c.args.deepest c.args.text.now)) e c.from_residual.ensures.1
     (joins_stops c.args.connector c.args.deepest c.args.text.now c.loop-next.rest.now c.after_white.result.now c.in-Some.next.now c.after_white-in-Some.result.now (particle c.args.first) (particles c.loop-next.all.items) e
     c.loop-next.invariant.1 (omega (arith, c.requires.1)) c.after_white.ensures c.in-Some.ensures c.after_white-in-Some.ensures c.in_err-one.ensures.no)
 
-pub joined-loop-next-smaller : goal.joined-loop-next-smaller
-joined-loop-next-smaller t c =
+pub join-loop-next-smaller : goal.join-loop-next-smaller
+join-loop-next-smaller t c =
     joins_shorter c.args.connector c.args.deepest c.loop-next.rest.now c.after_white.result.now c.in-Some.next.now c.after_white-in-Some.result.now c.in_ok-one.after.now (particle c.in_ok-one.one)
     c.after_white.ensures c.in-Some.ensures c.after_white-in-Some.ensures c.in_ok-one.ensures.ok
 
-pub joined-loop-next-preserved : goal.joined-loop-next-preserved
-joined-loop-next-preserved t c = (
+pub join-loop-next-preserved : goal.join-loop-next-preserved
+join-loop-next-preserved t c = (
   search rules,
   joins_more c.args.connector c.args.deepest c.args.text.now c.loop-next.rest.now c.after_white.result.now c.in-Some.next.now c.after_white-in-Some.result.now c.in_ok-one.after.now (particle c.args.first) (particle c.in_ok-one.one)
       (particles c.loop-next.all.items) _ c.loop-next.invariant.1 (omega (arith, c.requires.1)) c.after_white.ensures c.in-Some.ensures c.after_white-in-Some.ensures c.in_ok-one.ensures.ok
       (ap particles c.in_ok-push.ensures.items ∙ pushed_particle c.loop-next.all.items c.in_ok-one.one),
 )
 
-pub joined-returns-in_default-after_byte-clause-no : goal.joined-returns-in_default-after_byte-clause-no
-joined-returns-in_default-after_byte-clause-no t c =
+pub join-returns-in_default-after_byte-clause-no : goal.join-returns-in_default-after_byte-clause-no
+join-returns-in_default-after_byte-clause-no t c =
     joins_unexpected c.args.connector c.args.deepest c.args.text.now c.loop-next.rest.now c.after_white-end.result.now (particle c.args.first) (particles c.loop-next.all.items) c.unexpected.result
     c.loop-next.invariant.1 c.after_white-end.ensures (λ r e. c.in_default.ensures r (c.after_white.ensures ∙ (sym c.after_white-end.ensures ∙ e))) c.in_default-after_byte.ensures c.unexpected.ensures
 
-pub joined-returns-clause-ok : goal.joined-returns-clause-ok
-joined-returns-clause-ok t c =
-    subst (λ w. (ps : d.Particles) × (particles w ≡ d.more (particle c.args.first) ps) × RestAt c.args.connector c.args.deepest c.args.text.now (read ps c.in-Some-after_byte.after.now)) (sym c.into_bump_slice.ensures)
-    (joins_end c.args.connector c.args.deepest c.args.text.now c.loop-next.rest.now c.after_white-end.result.now c.in-Some-after_byte.after.now (particle c.args.first) (particles c.loop-next.all.items)
-    c.loop-next.invariant.1 c.after_white-end.ensures c.in-Some-after_byte.ensures)
+pub join-returns-clause-ok : goal.join-returns-clause-ok
+join-returns-clause-ok t c =
+    joins_end c.args.connector c.args.deepest c.args.text.now c.loop-next.rest.now c.after_white-end.result.now c.in-Some-after_byte.after.now (particle c.args.first) (particles c.loop-next.all.items)
+    c.loop-next.invariant.1 c.after_white-end.ensures c.in-Some-after_byte.ensures

@@ -1,4 +1,4 @@
-use Rattle.std.proofs.Common.{◌≡◌, ◌+◌, [], List, Bool, ◌∙◌, ap, drop, refl, sym, subst}
+use Rattle.std.proofs.Common.{◌+◌, List, Bool, ◌∙◌, ap, drop, refl, sym, subst}
 use Rattle.std.proofs.lemmas.Bool.{true≢false}
 use Rattle.std.proofs.lemmas.List.{drop_all}
 use Rattle.tc_model.specs.Trees.{Trees}

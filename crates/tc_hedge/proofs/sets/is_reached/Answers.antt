@@ -1,5 +1,6 @@
 use Rattle.std.proofs.Common.{◌<◌, ◌≤◌, length, get_or, take, refl, sym, ◌∙◌, arith}
 use Rattle.std.proofs.lemmas.Bool.{true≢false}
+use Rattle.std.proofs.lemmas.List.Elements.{Contains-get_or}
 use Rattle.tc_model.specs.States.{IsAccepting}
 use Rattle.tc_hedge.proofs.Gathers.{contains_none}
 use Rattle.tc_hedge.proofs.SetSteps.{member, no_end_more, no_end_at_all}
@@ -24,3 +25,17 @@ returns c = λ side x st. (
 
 pub loop-state-init : goal.loop-state-init
 loop-state-init c = λ side x st j among low high accepts. contains_none (take 0 c.args.states.now) j refl among
+
+pub returns-then-is_end : goal.returns-then-is_end
+returns-then-is_end c = λ side x st. (
+  λ h.
+      let (low, high, accepts) = (c.is_end.ensures side x st).0 c.if-is_end.true in
+      let i = c.loop-state.state-index in (
+        get_or c.args.states.now i 0,
+        Contains-get_or c.args.states.now i 0 c.loop-state-test.true,
+        omega (arith, low, c.first-first.ensures.exact side x st),
+        omega (arith, high, c.end-end.ensures.exact side x st),
+        accepts,
+      ),
+  λ h. refl,
+)

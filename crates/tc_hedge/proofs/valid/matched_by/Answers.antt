@@ -4,13 +4,14 @@ use Rattle.tc_hedge.specs.Memos.{PassesTrees}
 use Rattle.tc_hedge.specs.Sets.{IsMade, Makes, Runs}
 use Rattle.tc_hedge.proofs.Gathers.{for_ok}
 use Rattle.tc_hedge.proofs.Passed.{trees_states}
-use Rattle.tc_hedge.proofs.Remembered.{knows_grown, number_held, one_set, states_below}
+use Rattle.tc_hedge.proofs.Remembered.{number_held, one_set, states_below}
 use Rattle.tc_hedge.proofs.SetsRuns.{matched_told}
 use Rattle.tc_hedge.proofs.valid.matched_by.Goals as goal
 
-pub after_trees-requires-clause-knows : goal.after_trees-requires-clause-knows
-after_trees-requires-clause-knows c =
-    knows_grown c.args.automaton.now c.args.memo.now c.put.new.self c.in_ok-first.ensures.grown c.requires.knows c.in_ok-first.ensures.texts c.in_ok-first.ensures.entries c.in_ok-first.ensures.passings
+pub after_trees-requires-clause-from : goal.after_trees-requires-clause-from
+after_trees-requires-clause-from c =
+    let begun = c.in_ok-first.ensures.first in
+    (begun.first, begun.first_at, begun.below)
 
 pub set-requires : goal.set-requires
 set-requires c =
@@ -25,12 +26,13 @@ reached-requires-clause-below c =
 pub returns : goal.returns
 returns c =
     let sets = c.after_trees.new.memo.sets.keys in
+    let begun = c.in_ok-first.ensures.first in
     let kids : PassesTrees c.args.automaton.now sets c.in_ok-first.first (see.trees c.args.kids.now) c.in_ok-ends.ends = c.in_ok-ends.ensures.steps in
-    let from : kids.from ≡ c.in_ok-starts.starts.items = one_set sets c.in_ok-first.first kids.from c.in_ok-starts.starts.items kids.from_at (c.in_ok-ends.ensures.grown c.in_ok-first.first c.in_ok-starts.starts.items c.in_ok-first.ensures.set) in
+    let from : kids.from ≡ begun.first = one_set sets c.in_ok-first.first kids.from begun.first kids.from_at (c.in_ok-ends.ensures.grown c.in_ok-first.first begun.first begun.first_at) in
     let to : kids.to ≡ c.set.result.now = one_set sets c.in_ok-ends.ends kids.to c.set.result.now kids.to_at c.set.ensures in
     for_ok c.reached.result c.reached.ensures.made
     (λ v made side x st.
-    matched_told x side (see.trees c.args.kids.now) c.args.automaton.now st c.args.numbers.now c.in_ok-starts.starts.items c.set.result.now v.items c.requires.numbers
-    (c.in_ok-starts.ensures.made side x st)
-    (subst (λ (w : List ℕ). IsMade w (Makes (Runs x side (see.trees c.args.kids.now)) c.in_ok-starts.starts.items)) to (subst (λ (w : List ℕ). IsMade kids.to (Makes (Runs x side (see.trees c.args.kids.now)) w)) from (kids.made side x st)))
+    matched_told x side (see.trees c.args.kids.now) c.args.automaton.now st c.args.numbers.now begun.first c.set.result.now v.items c.requires.numbers
+    (begun.begins side x st)
+    (subst (λ (w : List ℕ). IsMade w (Makes (Runs x side (see.trees c.args.kids.now)) begun.first)) to (subst (λ (w : List ℕ). IsMade kids.to (Makes (Runs x side (see.trees c.args.kids.now)) w)) from (kids.made side x st)))
     (made side x st))

@@ -7,15 +7,15 @@ use Rattle.tc_incl.specs.Covers.{held_of}
 use Rattle.tc_incl.proofs.Decided.{all_derive, is_included, is_least, is_far}
 use Rattle.tc_incl.proofs.inclusion.verdict.Goals as goal
 
-pub returns-in_default : goal.returns-in_default
-returns-in_default g c = λ x o.
+pub returns-in_default-clause-answer : goal.returns-in_default-clause-answer
+returns-in_default-clause-answer g c = λ x o.
     let of = g.K.Over.is_of in
     let s = c.args.covers.now in
     let closure = c.requires.closure in
     is_included x s of o c.see.ensures.known (all_derive (held_of of s) c.args.closed.now closure) closure.closed c.args.most c.tree_count-trees.result c.hedge_count-hedges.result c.requires.trees c.requires.hedges c.tree_count-trees.ensures c.hedge_count-hedges.ensures c.in_default.ensures
 
-pub returns-in-Ok : goal.returns-in-Ok
-returns-in-Ok g c = λ x o.
+pub returns-in-Ok-clause-answer : goal.returns-in-Ok-clause-answer
+returns-in-Ok-clause-answer g c = λ x o.
     let of = g.K.Over.is_of in
     let s = c.args.covers.now in
     let closure = c.requires.closure in
@@ -23,8 +23,8 @@ returns-in-Ok g c = λ x o.
     c.args.most c.requires.trees c.requires.hedges (before c.in-Ok.node none)
     (subst (λ symbols. IsOneMade (held_of of s) symbols (before c.in-Ok.node none) c.in-Some.tree (tree_cost c.args.closed.now c.in-Some.tree)) (c.requires.alphabet x o) c.in-Ok.ensures.made) c.in-Ok.ensures.near
 
-pub returns-in-Err-TooManyNodes : goal.returns-in-Err-TooManyNodes
-returns-in-Err-TooManyNodes g c = λ x o.
+pub returns-in-Err-TooManyNodes-clause-answer : goal.returns-in-Err-TooManyNodes-clause-answer
+returns-in-Err-TooManyNodes-clause-answer g c = λ x o.
     let of = g.K.Over.is_of in
     let s = c.args.covers.now in
     let closure = c.requires.closure in

@@ -13,12 +13,12 @@ loop-symbol-preserved c =
     let inv = c.loop-symbol.invariant in
     let first = c.args.first.now.allowed.items in
     let second = c.args.second.now.allowed.items in
-    let row = c.in_ok-row.row in
+    let (row, of_first, of_second, held, kept) = c.in_ok-kind.ensures in
     let place : c.loop-symbol.symbol ≡ length c.loop-symbol.kinds.items = sym inv.0 in (
       omega (arith, c.in_ok-push.ensures.len, inv.0),
-      one_more c.loop-symbol.held.keys c.hold.new.rows.keys row c.in_ok-kind.kind c.loop-symbol.symbol inv.1 c.in_ok-kind.ensures.kept,
-      rows_more first second c.loop-symbol.held.keys c.hold.new.rows.keys c.loop-symbol.kinds.items c.push.new.self.items c.in_ok-kind.kind row inv.2 c.in_ok-kind.ensures.held c.in_ok-kind.ensures.kept c.in_ok-push.ensures.items
-          (subst (λ n. IsCopyAt first n row.first) place c.in_ok-row.ensures.first) (subst (λ n. IsCopyAt second n row.second) place c.in_ok-row.ensures.second),
+      one_more c.loop-symbol.held.keys c.kind_of.new.held.keys row c.in_ok-kind.kind c.loop-symbol.symbol inv.1 kept,
+      rows_more first second c.loop-symbol.held.keys c.kind_of.new.held.keys c.loop-symbol.kinds.items c.push.new.self.items c.in_ok-kind.kind row inv.2 held kept c.in_ok-push.ensures.items
+          (subst (λ n. IsCopyAt first n row.first) place of_first) (subst (λ n. IsCopyAt second n row.second) place of_second),
     )
 
 pub returns-clause-kinds : goal.returns-clause-kinds

@@ -3,6 +3,9 @@ use Rattle.tc_io.proofs.KnownBytes.{appends_twice, appends_kept, left_after}
 use Rattle.tc_io.proofs.real.write_all.Goals as goal
 use Rattle.tc_io.proofs.real.write_all.Goals.{in-Ok, in-Err}
 
+pub returns-in-Ok-eq0-clause-reaches : goal.returns-in-Ok-eq0-clause-reaches
+returns-in-Ok-eq0-clause-reaches g c = tt
+
 pub loop-preserved : goal.loop-preserved
 loop-preserved g c =
     let so_far = c.loop.invariant in

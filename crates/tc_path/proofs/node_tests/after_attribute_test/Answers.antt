@@ -8,12 +8,12 @@ use Rattle.tc_path.proofs.node_tests.after_attribute_test.Goals as goal
 pub returns-in-Some : goal.returns-in-Some
 returns-in-Some c = attribute_star (map bound c.args.scope.now) (tokens_of c.args.tokens.now) (tokens_of c.in-Some.rest.now) c.in-Some.ensures
 
-pub returns-in_ok-namespace_of-in-AllOfPrefix : goal.returns-in_ok-namespace_of-in-AllOfPrefix
-returns-in_ok-namespace_of-in-AllOfPrefix c =
-    attribute_namespace (map bound c.args.scope.now) (tokens_of c.args.tokens.now) (tokens_of c.in_ok-first.rest.now) c.in-AllOfPrefix.prefix.now c.in_ok-namespace_of-in-AllOfPrefix.field-0.now
-    (first_seen c.args.tokens.now c.in_ok-first.rest.now c.in_ok-first.first.now c.in_ok-first.ensures.cases.0 (ap token c.in-AllOfPrefix.is)) c.in_ok-namespace_of-in-AllOfPrefix.ensures
+pub returns-in-Some-namespace_of : goal.returns-in-Some-namespace_of
+returns-in-Some-namespace_of c =
+    attribute_namespace (map bound c.args.scope.now) (tokens_of c.args.tokens.now) (tokens_of c.in_ok-first.rest.now) c.in-AllOfPrefix.prefix.now c.in-Some-namespace_of.field-0.now
+    (first_seen c.args.tokens.now c.in_ok-first.rest.now c.in_ok-first.first.now c.in_ok-first.ensures.cases.0 (ap token c.in-AllOfPrefix.is)) c.in-Some-namespace_of.ensures
 
-pub returns-in_ok-namespace_of_name-in-Name : goal.returns-in_ok-namespace_of_name-in-Name
-returns-in_ok-namespace_of_name-in-Name c =
+pub returns-in-Some-namespace_of_name : goal.returns-in-Some-namespace_of_name
+returns-in-Some-namespace_of_name c =
     attribute_name (map bound c.args.scope.now) (tokens_of c.args.tokens.now) (tokens_of c.in_ok-first.rest.now) (written_name c.in-Name.name) _
-    (first_seen c.args.tokens.now c.in_ok-first.rest.now c.in_ok-first.first.now c.in_ok-first.ensures.cases.0 (ap token c.in-Name.is)) c.in_ok-namespace_of_name-in-Name.ensures
+    (first_seen c.args.tokens.now c.in_ok-first.rest.now c.in_ok-first.first.now c.in_ok-first.ensures.cases.0 (ap token c.in-Name.is)) c.in-Some-namespace_of_name.ensures

@@ -6,4 +6,4 @@ pub range_from-requires : goal.range_from-requires
 range_from-requires c =
     let is : c.args.text.now ≡ c.in_ok-first.first.now ∷ c.in_ok-second.second.now ∷ c.in_ok-second.field-0-1.now =
     sym c.as_bytes.ensures.value ∙ (c.in_ok-first.ensures.cases.0 ∙ ap (λ w. c.in_ok-first.first.now ∷ w) c.in_ok-second.ensures.cases.0) in
-    λ _. cut_after_double c.args.text.now _ _ _ is c.utf8.text c.in_ok-mark.ensures
+    λ _. cut_after_double c.args.text.now _ _ _ is c.utf8.text c.in-Some.ensures

@@ -7,14 +7,13 @@ use Rattle.tc_path.proofs.token.name_token.Goals as goal
 pub returns-in_err-first : goal.returns-in_err-first
 returns-in_err-first c = at_none _ c.from_residual.ensures (no_name_token c.in_err-first.ensures)
 
-pub returns-in_err-local : goal.returns-in_err-local
-returns-in_err-local c =
-    at_none _ c.from_residual-in_err-local.ensures
-    (no_local_part c.args.text.now c.in_ok-first.first.now c.in_ok-first.rest.now c.in-Some.behind.now c.in_ok-first.ensures c.in-Some.ensures c.if-begins.ensures c.in_default-after_byte.ensures c.in_err-local.ensures)
+pub returns-in-None : goal.returns-in-None
+returns-in-None c =
+    (no_local_part c.args.text.now c.in_ok-first.first.now c.in_ok-first.rest.now c.in-Some.behind.now c.in_ok-first.ensures c.in-Some.ensures c.if-begins.ensures c.in_default-after_byte.ensures c.in-None.ensures)
 
-pub returns : goal.returns
-returns c =
-    name_with_prefix c.args.text.now c.in_ok-first.first.now c.in_ok-first.rest.now c.in-Some.behind.now c.in_ok-local.local.now c.in_ok-local.after.now c.in_ok-first.ensures c.in-Some.ensures c.in_ok-local.ensures
+pub returns-in-Some-ncname : goal.returns-in-Some-ncname
+returns-in-Some-ncname c =
+    name_with_prefix c.args.text.now c.in_ok-first.first.now c.in_ok-first.rest.now c.in-Some.behind.now c.in-Some-ncname.local.now c.in-Some-ncname.after.now c.in_ok-first.ensures c.in-Some.ensures c.in-Some-ncname.ensures
 
 pub returns-in_default : goal.returns-in_default
 returns-in_default c =

@@ -10,8 +10,8 @@ returns-then-begins_with_number c =
 pub returns-in-Some : goal.returns-in-Some
 returns-in-Some c = path.TokenAt.a_mark (sym c.begins_with_number.ensures ∙ c.if-begins_with_number.false) c.in-Some.ensures
 
-pub returns-in-Some-after_literal : goal.returns-in-Some-after_literal
-returns-in-Some-after_literal c = path.TokenAt.a_literal c.in-Some-after_literal.ensures.1
+pub returns-in-Some-literal : goal.returns-in-Some-literal
+returns-in-Some-literal c = path.TokenAt.a_literal c.in-Some-literal.ensures
 
 pub returns-in-Some-after_variable : goal.returns-in-Some-after_variable
 returns-in-Some-after_variable c = token_of_variable c.in-Some-after_variable.ensures
@@ -19,5 +19,5 @@ returns-in-Some-after_variable c = token_of_variable c.in-Some-after_variable.en
 pub returns : goal.returns
 returns c =
     match_map c.name_token.result
-    (λ h. no_token_here (sym c.begins_with_number.ensures ∙ c.if-begins_with_number.false) c.in_default.ensures c.in_default-after_literal.ensures c.in_default-after_variable.ensures h)
+    (λ h. no_token_here (sym c.begins_with_number.ensures ∙ c.if-begins_with_number.false) c.in_default.ensures c.in_default-literal.ensures c.in_default-after_variable.ensures h)
     (λ r h. token_of_name h) c.name_token.ensures

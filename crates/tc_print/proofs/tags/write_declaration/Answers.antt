@@ -1,4 +1,4 @@
-use Rattle.std.proofs.Common.{◌++◌, List, ℕ, codes, subst, sym, ◌∙◌}
+use Rattle.std.proofs.Common.{◌++◌, List, ℕ, codes, subst, sym, ◌∙◌, rules}
 use Rattle.std.specs.List.{flat_map}
 use Rattle.tc_io.specs.Sink.{Appended, WroteFront}
 use Rattle.tc_io.proofs.Fronts.{on_err, first_front, next_front}
@@ -31,3 +31,6 @@ returns-in_err-write-2-clause-fault g c =
     let written = subst (λ (w : List ℕ). Appended (g.K.Sink.written c.write.new.self) (g.K.Sink.written c.write_escaped.new.sink) (flat_map escaped_in_value w)) c.as_bytes.ensures.value c.in_ok-write_escaped.ensures.ok in
     on_err c.from_residual-in_err-write-2.result (subst (WroteFront _ _) is
     (next_front _ _ _ (codes " xmlns=\"") (value ++ codes "\"") c.in_ok-write.ensures.ok (next_front _ _ _ value (codes "\"") written c.in_err-write-2.ensures.fault)))
+
+pub returns-clause-within : goal.returns-clause-within
+returns-clause-within g c = search rules

@@ -1,4 +1,4 @@
-use Rattle.std.proofs.Common.{subst}
+use Rattle.std.proofs.Common.{subst, rules}
 use Rattle.tc_simple.specs.Refused.{Refuses}
 use Rattle.tc_read.specs.Schemas.{passes_pattern, passes_depth, passes_elements}
 use Rattle.tc_read.proofs.schemas.of_fault.Goals as goal
@@ -14,3 +14,6 @@ returns-in-TooNested-clause-ok c = λ bytes s spelled f.
 pub returns-in-TooManyElements-clause-ok : goal.returns-in-TooManyElements-clause-ok
 returns-in-TooManyElements-clause-ok c = λ bytes s spelled f.
     let large = subst (Refuses s) c.in-TooManyElements.is f in (large.0, (s, spelled, large.1), passes_elements large.2)
+
+pub returns-in-Loop-clause-no : goal.returns-in-Loop-clause-no
+returns-in-Loop-clause-no c = search rules

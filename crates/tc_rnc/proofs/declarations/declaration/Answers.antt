@@ -1,6 +1,7 @@
 use Rattle.tc_rnc.specs.Scopes.{scope_of}
 use Rattle.tc_rnc.specs.Views as seen
 use Rattle.tc_rnc.proofs.RefusalLaws.{passed}
+use Rattle.tc_rnc.proofs.UnreadLaws.{unread_ok}
 use Rattle.tc_rnc.proofs.DeclarationLaws as l
 use Rattle.tc_rnc.proofs.declarations.declaration.Goals as goal
 
@@ -19,3 +20,6 @@ returns-clause-ok c =
 pub returns-clause-whole : goal.returns-clause-whole
 returns-clause-whole c =
     l.datatypes_read c.in-Some-after_word-2.ensures c.in_ok-after.ensures.whole
+
+pub returns-in_err-after-clause-ok : goal.returns-in_err-after-clause-ok
+returns-in_err-after-clause-ok c = unread_ok _ _ _ c.from_residual.ensures.1

@@ -4,6 +4,7 @@ use Rattle.tc_rnc.specs.Schemas.{Declares}
 use Rattle.tc_rnc.specs.Scopes.{scope_of}
 use Rattle.tc_rnc.specs.Views as seen
 use Rattle.tc_rnc.proofs.RefusalLaws.{passed}
+use Rattle.tc_rnc.proofs.UnreadLaws.{unread_ok}
 use Rattle.tc_rnc.proofs.DeclarationLaws as l
 use Rattle.tc_rnc.proofs.declarations.declarations.Goals as goal
 
@@ -24,3 +25,6 @@ loop-end-preserved c =
 
 pub returns-clause-ok : goal.returns-clause-ok
 returns-clause-ok c = c.loop-end.invariant
+
+pub returns-in_err-after-clause-ok : goal.returns-in_err-after-clause-ok
+returns-in_err-after-clause-ok c = unread_ok _ _ _ c.from_residual.ensures.1

@@ -3,6 +3,7 @@ use Rattle.tc_model.specs.CompactSyntaxNames.{DeclarationAt}
 use Rattle.tc_rnc.specs.Scopes.{scope_of}
 use Rattle.tc_rnc.specs.Views as seen
 use Rattle.tc_rnc.proofs.RefusalLaws.{refuses_map, passed, unmade_by}
+use Rattle.tc_rnc.proofs.UnreadLaws.{unread_ok}
 use Rattle.tc_rnc.proofs.DeclarationLaws as l
 use Rattle.tc_rnc.proofs.declarations.namespace.Goals as goal
 
@@ -26,3 +27,9 @@ returns-clause-ok c =
 pub returns-clause-whole : goal.returns-clause-whole
 returns-clause-whole c =
     l.namespace_read c.requires c.in_ok-prefix.ensures.ok c.in_ok-prefix.ensures.whole c.if-not-may_bind.ensures
+
+pub returns-in_err-prefix-clause-ok : goal.returns-in_err-prefix-clause-ok
+returns-in_err-prefix-clause-ok c = unread_ok _ _ _ c.from_residual.ensures.1
+
+pub returns-in_err-bind-clause-ok : goal.returns-in_err-bind-clause-ok
+returns-in_err-bind-clause-ok c = unread_ok _ _ _ c.from_residual-in_err-bind.ensures.1

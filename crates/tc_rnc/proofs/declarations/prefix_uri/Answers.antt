@@ -1,5 +1,6 @@
 use Rattle.tc_rnc.specs.Views as seen
 use Rattle.tc_rnc.proofs.RefusalLaws.{refuses_map, passed}
+use Rattle.tc_rnc.proofs.UnreadLaws.{unread_ok}
 use Rattle.tc_rnc.proofs.DeclarationLaws as l
 use Rattle.tc_rnc.proofs.declarations.prefix_uri.Goals as goal
 
@@ -22,3 +23,6 @@ returns-clause-ok c =
 pub returns-clause-whole : goal.returns-clause-whole
 returns-clause-whole c =
     l.prefix_read c.in-Some.ensures c.in-Some-identifier_or_keyword.ensures c.in_ok-value.ensures.whole
+
+pub returns-in_err-value-clause-ok : goal.returns-in_err-value-clause-ok
+returns-in_err-value-clause-ok c = unread_ok _ _ _ c.from_residual.ensures.1

@@ -2,6 +2,7 @@ use Rattle.std.proofs.Common.{sym, subst}
 use Rattle.tc_rnc.specs.Refusals.{malformed, too_deep}
 use Rattle.tc_rnc.specs.Views as seen
 use Rattle.tc_rnc.proofs.RefusalLaws.{passed, passes, map_ok}
+use Rattle.tc_rnc.proofs.UnreadLaws.{unread_ok}
 use Rattle.tc_rnc.proofs.PatternLaws as l
 use Rattle.tc_rnc.proofs.patterns.+balanced.Goals as goal
 
@@ -39,3 +40,6 @@ balanced_part-returns-clause-ok t c =
 pub balanced_part-returns-clause-no : goal.balanced_part-returns-clause-no
 balanced_part-returns-clause-no t c =
     passes c.balanced.result c.balanced.ensures.no (λ v y. l.braces_stop c.args.deepest c.if-deepest-eq0.false c.in-Some.ensures c.if-not-is_mark.ensures y)
+
+pub balanced-returns-in_err-after-clause-ok : goal.balanced-returns-in_err-after-clause-ok
+balanced-returns-in_err-after-clause-ok t c = unread_ok _ _ _ c.from_residual.ensures.1

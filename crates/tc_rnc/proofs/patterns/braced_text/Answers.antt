@@ -1,5 +1,6 @@
 use Rattle.tc_rnc.specs.Views as seen
 use Rattle.tc_rnc.proofs.RefusalLaws.{passed, passes, map_ok}
+use Rattle.tc_rnc.proofs.UnreadLaws.{unread_ok}
 use Rattle.tc_rnc.proofs.PatternLaws.{a_braced_text, opening_text, text_stops}
 use Rattle.tc_rnc.proofs.patterns.braced_text.Goals as goal
 
@@ -13,3 +14,6 @@ returns-clause-ok c =
 
 pub returns-clause-no : goal.returns-clause-no
 returns-clause-no c = passes c.balanced.result c.balanced.ensures.no (λ v y. text_stops c.in_ok-inside.ensures.depth c.in_ok-inside.ensures.ok y)
+
+pub returns-in_err-inside-clause-ok : goal.returns-in_err-inside-clause-ok
+returns-in_err-inside-clause-ok c = unread_ok _ _ _ c.from_residual.ensures.1

@@ -11,7 +11,7 @@ returns-in_default-clause-no c = refuses_map c.unexpected.ensures (λ v y. no_ma
 pub returns-then-not-is_mark-clause-no : goal.returns-then-not-is_mark-clause-no
 returns-then-not-is_mark-clause-no c =
     refuses_map c.unexpected-then-not-is_mark.ensures
-    (λ v y. no_mark (lacks_first c.args.mark (seen.token c.in-Some.first.now) (seen.tokens c.args.tokens.now) (seen.tokens c.in-Some.rest.now) c.in-Some.ensures c.if-not-is_mark.ensures) y)
+    (λ v y. no_mark (lacks_first c.args.mark (seen.token c.in-Some.opening.now) (seen.tokens c.args.tokens.now) (seen.tokens c.in-Some.rest.now) c.in-Some.ensures c.if-not-is_mark.ensures) y)
 
 pub returns-then-deepest-eq0-clause-no : goal.returns-then-deepest-eq0-clause-no
 returns-then-deepest-eq0-clause-no c = too_deep (deep_opening c.in-Some.ensures c.if-not-is_mark.ensures c.if-deepest-eq0.true)

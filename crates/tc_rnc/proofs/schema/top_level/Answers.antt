@@ -3,6 +3,7 @@ use Rattle.tc_model.specs.CompactSyntax.{SchemaAt}
 use Rattle.tc_model.specs.CompactSyntaxStops.{SchemaStops}
 use Rattle.tc_rnc.specs.Views as seen
 use Rattle.tc_rnc.proofs.RefusalLaws.{passed, passes, unmade_by, map_ok}
+use Rattle.tc_rnc.proofs.UnreadLaws.{unread_ok}
 use Rattle.tc_rnc.proofs.schema.top_level.Goals as goal
 
 pub returns-in_err-scope-clause-no : goal.returns-in_err-scope-clause-no
@@ -22,3 +23,9 @@ pub returns-clause-no : goal.returns-clause-no
 returns-clause-no c =
     passes c.top_level_body.result c.top_level_body.ensures.no
     (λ x y. subst (λ z. SchemaStops (seen.end c.args.end) z 2000 (seen.tokens c.args.tokens.now) x) c.in_ok-scope.ensures.ok (c.in_ok-rest.ensures.ok.stops 2000 x y))
+
+pub returns-in_err-scope-clause-ok : goal.returns-in_err-scope-clause-ok
+returns-in_err-scope-clause-ok c = unread_ok _ _ _ c.from_residual.ensures.1
+
+pub returns-in_err-rest-clause-ok : goal.returns-in_err-rest-clause-ok
+returns-in_err-rest-clause-ok c = unread_ok _ _ _ c.from_residual-in_err-rest.ensures.1

@@ -1,10 +1,11 @@
+use Rattle.std.proofs.Common.{arith}
 use Rattle.tc_model.specs.Views as see
 use Rattle.tc_rules.specs.Gathered.{bodies}
 use Rattle.tc_rules.proofs.Collected.{each_fits, none_put, put_at, all_put}
 use Rattle.tc_rules.proofs.gather.all_eaches.Goals as goal
 
 pub loop-usage-init : goal.loop-usage-init
-loop-usage-init c = (c.in_ok-bodies.ensures, none_put (bodies c.in_ok-bodies.bodies.items))
+loop-usage-init c = (omega (arith, c.in_ok-bodies.ensures.len), none_put (bodies c.in_ok-bodies.bodies.items))
 
 pub put_body-requires : goal.put_body-requires
 put_body-requires c =

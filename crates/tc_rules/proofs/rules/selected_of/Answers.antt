@@ -23,3 +23,12 @@ returns-clause-selects c = c.in_ok-selects.ensures ∙ ap (λ (gs : List Graph).
 
 pub returns-clause-starts : goal.returns-clause-starts
 returns-clause-starts c = c.in_ok-starts.ensures ∙ ap (λ (gs : List Graph). starts_from 0 (graphs gs)) c.deref-3.ensures.value
+
+pub returns-clause-few : goal.returns-clause-few
+returns-clause-few c = c.in_ok-graphs.ensures.few
+
+pub returns-clause-ending : goal.returns-clause-ending
+returns-clause-ending c = c.in_ok-graphs.ensures.ending
+
+pub returns-clause-cause : goal.returns-clause-cause
+returns-clause-cause c = tt

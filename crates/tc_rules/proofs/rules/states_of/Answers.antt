@@ -18,3 +18,27 @@ returns-in_err-selected-clause-cause c =
     (λ e k symbols src same few ps. select_cause symbols x c.args.source.now src same few (graph c.in_ok-above.above) (c.in_ok-above.ensures.graph symbols src) c.in_ok-above.ensures.few
     (map (λ m. see.path m.path.now) c.args.moves.now ++ looks c.args.looks.now) ps e k)
     c.in_err-selected.ensures.cause
+
+pub returns-clause-above : goal.returns-clause-above
+returns-clause-above c = c.in_ok-above.ensures.graph
+
+pub returns-clause-few_above : goal.returns-clause-few_above
+returns-clause-few_above c = c.in_ok-above.ensures.few
+
+pub returns-clause-graphs : goal.returns-clause-graphs
+returns-clause-graphs c = c.in_ok-selected.ensures.graphs
+
+pub returns-clause-few : goal.returns-clause-few
+returns-clause-few c = c.in_ok-selected.ensures.few
+
+pub returns-clause-ending : goal.returns-clause-ending
+returns-clause-ending c = c.in_ok-selected.ensures.ending
+
+pub returns-clause-selects : goal.returns-clause-selects
+returns-clause-selects c = c.in_ok-selected.ensures.selects
+
+pub returns-clause-starts : goal.returns-clause-starts
+returns-clause-starts c = c.in_ok-selected.ensures.starts
+
+pub returns-clause-cause : goal.returns-clause-cause
+returns-clause-cause c = tt

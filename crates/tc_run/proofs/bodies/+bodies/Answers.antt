@@ -1,4 +1,5 @@
-use Rattle.std.proofs.Common.{◌+◌, [], ap, ◌∙◌, sym, subst, refl, drop, get_or, Bor, List, Some, cond, Contains, arith}
+use Rattle.std.proofs.Common.{◌+◌, [], ap, ◌∙◌, sym, subst, refl, drop, get_or, Bor, List, Some, Result, Ok, Err, OnOk, cond, Contains, arith}
+use Rattle.std.specs.Result.{IsErrAnd}
 use Rattle.tc_model.specs.Chains.{children, an_element, a_text, one}
 use Rattle.tc_model.specs.Machine.{in_mode, in_body, outputs}
 use Rattle.tc_model.specs.Meaning.{all_children}
@@ -16,7 +17,7 @@ use Rattle.tc_run.specs.Running.{told_by, sheet_by, symbols_by, predicates_by, m
 use Rattle.tc_run.specs.Views.{before, trees, node}
 use Rattle.tc_run.specs.Spent.{Spends, Answers}
 use Rattle.tc_rules.specs.Tasks.{of_mode, of_each, going_from}
-use Rattle.tc_run.specs.Tasks.{built_in, does, outputs_on}
+use Rattle.tc_run.specs.Tasks.{IsPartTemplate, built_in, does, outputs_on}
 use Rattle.tc_run.specs.declared.letters.Lettered.{Lettered}
 use Rattle.tc_run.proofs.Alone.{text_alone, element_alone, copy_alone, call_alone, apply_alone, value_alone, self_alone, choose_alone, each_alone}
 use Rattle.tc_run.proofs.BuiltIn.{built_in_children, one_deep, value_same, copy_root, copy_elem}
@@ -518,3 +519,207 @@ body-instruction-requires t c =
     let r = c.args.runner.now in
     let part = part_at (sheet_by r) c.args.body.now c.loop-one.one-index c.one-item.result c.loop-one-test.true c.one-item.is c.loop-one.invariant.1 in
     (omega (arith, c.decreases), (c.requires.runner, (c.requires.here, (part.0, (c.requires.nesting, (c.loop-one.invariant.0.0, c.loop-one.invariant.0.1))))))
+
+pub apply_to_element-instantiate-requires : goal.apply_to_element-instantiate-requires
+apply_to_element-instantiate-requires t c =
+    (omega (arith, c.decreases), (c.requires.runner, (c.requires.here, (c.template_for-rule.ensures.part, (c.requires.nesting, (c.requires.work, c.template_for-rule.ensures.known))))))
+
+pub instantiate-body-requires : goal.instantiate-body-requires
+instantiate-body-requires t c = (
+  omega (arith, c.decreases, deeper_less c.args.nesting c.in_ok-nesting.nesting (bare (trees c.args.here.now.kids.now)) 7 1 c.in_ok-nesting.ensures.ok (omega arith)),
+  (c.requires.runner, (c.requires.here, (subst (IsPartTemplate (sheet_by c.args.runner.now)) c.in-Body.is c.requires.meant, (c.in_ok-nesting.ensures.ok.1, (c.in_ok-count.ensures.ok.1, c.requires.known))))),
+)
+
+pub instantiate-built_in-requires : goal.instantiate-built_in-requires
+instantiate-built_in-requires t c = (
+  omega (arith, c.decreases, deeper_less c.args.nesting c.in_ok-nesting.nesting (bare (trees c.args.here.now.kids.now)) 1 1 c.in_ok-nesting.ensures.ok (omega arith)),
+  (c.requires.runner, (c.requires.here, (subst (IsPartTemplate (sheet_by c.args.runner.now)) c.in-BuiltIn.is c.requires.meant, (c.in_ok-nesting.ensures.ok.1, (c.in_ok-count.ensures.ok.1, c.requires.known))))),
+)
+
+pub instruction-selected-requires : goal.instruction-selected-requires
+instruction-selected-requires t c = (
+  omega (arith, c.decreases, deeper_less c.args.nesting c.in_ok-nesting.nesting (bare (trees c.args.here.now.kids.now)) 3 6 c.in_ok-nesting.ensures.ok (omega arith)),
+  (c.requires.runner, (c.requires.here, ((apply_part (sheet_by c.args.runner.now) c.args.instruction.now c.in-Apply.path c.in-Apply.mode c.in-Apply.is c.requires.part).0, (c.in_ok-nesting.ensures.ok.1, (c.requires.work, c.requires.known))))),
+)
+
+pub instruction-body-requires : goal.instruction-body-requires
+instruction-body-requires t c = (
+  omega (arith, c.decreases, deeper_less c.args.nesting c.in_ok-nesting.nesting (bare (trees c.args.here.now.kids.now)) 7 6 c.in_ok-nesting.ensures.ok (omega arith)),
+  (c.requires.runner, (c.requires.here, (c.chosen_branch-chosen.ensures.part, (c.in_ok-nesting.ensures.ok.1, (c.requires.work, c.requires.known))))),
+)
+
+pub instruction-selected-requires-in-ForEach : goal.instruction-selected-requires-in-ForEach
+instruction-selected-requires-in-ForEach t c = (
+  omega (arith, c.decreases, deeper_less c.args.nesting c.in_ok-nesting.nesting (bare (trees c.args.here.now.kids.now)) 3 6 c.in_ok-nesting.ensures.ok (omega arith)),
+  (c.requires.runner, (c.requires.here, ((for_each_part (sheet_by c.args.runner.now) c.args.instruction.now c.in-ForEach.number c.in-ForEach.path c.in-ForEach.field-2 c.in-ForEach.is c.requires.part).0, (c.in_ok-nesting.ensures.ok.1, (c.requires.work, c.requires.known))))),
+)
+
+-- what fails has no value
+failed : {T E : Type 0} (r : Result T E) (P : Type 0) (Q : E → Type 0) → IsErrAnd r Q → OnOk r P
+failed (Ok v) P Q h = absurd h
+failed (Err e) P Q h = tt
+
+pub copy-returns-in-Root-clause-few : goal.copy-returns-in-Root-clause-few
+copy-returns-in-Root-clause-few t c = c.body.ensures.few
+
+pub copy-returns-in-Root-clause-known : goal.copy-returns-in-Root-clause-known
+copy-returns-in-Root-clause-known t c = c.body.ensures.known
+
+pub copy-returns-in-Elem-clause-few : goal.copy-returns-in-Elem-clause-few
+copy-returns-in-Elem-clause-few t c = c.put_element.ensures.few
+
+pub copy-returns-in-Elem-clause-known : goal.copy-returns-in-Elem-clause-known
+copy-returns-in-Elem-clause-known t c = c.put_element.ensures.known
+
+pub apply_to_element-returns-clause-few : goal.apply_to_element-returns-clause-few
+apply_to_element-returns-clause-few t c = c.instantiate.ensures.few
+
+pub apply_to_element-returns-clause-known : goal.apply_to_element-returns-clause-known
+apply_to_element-returns-clause-known t c = c.instantiate.ensures.known
+
+pub apply_to_text-returns-clause-few : goal.apply_to_text-returns-clause-few
+apply_to_text-returns-clause-few t c = c.instantiate.ensures.few
+
+pub apply_to_text-returns-clause-known : goal.apply_to_text-returns-clause-known
+apply_to_text-returns-clause-known t c = c.instantiate.ensures.known
+
+pub instantiate-returns-in-Body-clause-few : goal.instantiate-returns-in-Body-clause-few
+instantiate-returns-in-Body-clause-few t c = c.body.ensures.few
+
+pub instantiate-returns-in-Body-clause-known : goal.instantiate-returns-in-Body-clause-known
+instantiate-returns-in-Body-clause-known t c = c.body.ensures.known
+
+pub instantiate-returns-in-BuiltIn-clause-few : goal.instantiate-returns-in-BuiltIn-clause-few
+instantiate-returns-in-BuiltIn-clause-few t c = c.built_in.ensures.few
+
+pub instantiate-returns-in-BuiltIn-clause-known : goal.instantiate-returns-in-BuiltIn-clause-known
+instantiate-returns-in-BuiltIn-clause-known t c = c.built_in.ensures.known
+
+pub instruction-returns-in-Text-clause-few : goal.instruction-returns-in-Text-clause-few
+instruction-returns-in-Text-clause-few t c = c.put.ensures.few
+
+pub instruction-returns-in-Text-clause-known : goal.instruction-returns-in-Text-clause-known
+instruction-returns-in-Text-clause-known t c = c.requires.known
+
+pub instruction-returns-in-Elem-clause-few : goal.instruction-returns-in-Elem-clause-few
+instruction-returns-in-Elem-clause-few t c = c.put_element.ensures.few
+
+pub instruction-returns-in-Elem-clause-known : goal.instruction-returns-in-Elem-clause-known
+instruction-returns-in-Elem-clause-known t c = c.put_element.ensures.known
+
+pub instruction-returns-in-Copy-clause-few : goal.instruction-returns-in-Copy-clause-few
+instruction-returns-in-Copy-clause-few t c = c.copy.ensures.few
+
+pub instruction-returns-in-Copy-clause-known : goal.instruction-returns-in-Copy-clause-known
+instruction-returns-in-Copy-clause-known t c = c.copy.ensures.known
+
+pub instruction-returns-in-Apply-clause-few : goal.instruction-returns-in-Apply-clause-few
+instruction-returns-in-Apply-clause-few t c = c.selected.ensures.few
+
+pub instruction-returns-in-Apply-clause-known : goal.instruction-returns-in-Apply-clause-known
+instruction-returns-in-Apply-clause-known t c = c.selected.ensures.known
+
+pub instruction-returns-in-Call-clause-few : goal.instruction-returns-in-Call-clause-few
+instruction-returns-in-Call-clause-few t c = c.instantiate.ensures.few
+
+pub instruction-returns-in-Call-clause-known : goal.instruction-returns-in-Call-clause-known
+instruction-returns-in-Call-clause-known t c = c.instantiate.ensures.known
+
+pub instruction-returns-in-ValueOf-clause-few : goal.instruction-returns-in-ValueOf-clause-few
+instruction-returns-in-ValueOf-clause-few t c = c.put-in-ValueOf.ensures.few
+
+pub instruction-returns-in-ValueOf-clause-known : goal.instruction-returns-in-ValueOf-clause-known
+instruction-returns-in-ValueOf-clause-known t c = c.requires.known
+
+pub instruction-returns-in-ValueOfSelf-clause-few : goal.instruction-returns-in-ValueOfSelf-clause-few
+instruction-returns-in-ValueOfSelf-clause-few t c = c.put-in-ValueOfSelf.ensures.few
+
+pub instruction-returns-in-ValueOfSelf-clause-known : goal.instruction-returns-in-ValueOfSelf-clause-known
+instruction-returns-in-ValueOfSelf-clause-known t c = c.requires.known
+
+pub instruction-returns-in-Choose-clause-few : goal.instruction-returns-in-Choose-clause-few
+instruction-returns-in-Choose-clause-few t c = c.body.ensures.few
+
+pub instruction-returns-in-Choose-clause-known : goal.instruction-returns-in-Choose-clause-known
+instruction-returns-in-Choose-clause-known t c = c.body.ensures.known
+
+pub instruction-returns-in-ForEach-clause-few : goal.instruction-returns-in-ForEach-clause-few
+instruction-returns-in-ForEach-clause-few t c = c.selected-in-ForEach.ensures.few
+
+pub instruction-returns-in-ForEach-clause-known : goal.instruction-returns-in-ForEach-clause-known
+instruction-returns-in-ForEach-clause-known t c = c.selected-in-ForEach.ensures.known
+
+pub selected-returns-in-Some-clause-few : goal.selected-returns-in-Some-clause-few
+selected-returns-in-Some-clause-few t c = c.apply_to_trees.ensures.few
+
+pub selected-returns-in-Some-clause-known : goal.selected-returns-in-Some-clause-known
+selected-returns-in-Some-clause-known t c = c.apply_to_trees.ensures.known
+
+pub selected-returns-in-None-clause-few : goal.selected-returns-in-None-clause-few
+selected-returns-in-None-clause-few t c = c.requires.work
+
+pub selected-returns-in-None-clause-known : goal.selected-returns-in-None-clause-known
+selected-returns-in-None-clause-known t c = c.requires.known
+
+pub apply_to_element-returns-then-not-sel_hits-clause-few : goal.apply_to_element-returns-then-not-sel_hits-clause-few
+apply_to_element-returns-then-not-sel_hits-clause-few t c = c.requires.work
+
+pub apply_to_element-returns-then-not-sel_hits-clause-known : goal.apply_to_element-returns-then-not-sel_hits-clause-known
+apply_to_element-returns-then-not-sel_hits-clause-known t c = c.requires.known
+
+pub apply_to_tree-returns-in-Some-clause-few : goal.apply_to_tree-returns-in-Some-clause-few
+apply_to_tree-returns-in-Some-clause-few t c = c.apply_to_trees.ensures.few
+
+pub apply_to_tree-returns-in-Some-clause-known : goal.apply_to_tree-returns-in-Some-clause-known
+apply_to_tree-returns-in-Some-clause-known t c = c.apply_to_trees.ensures.known
+
+pub apply_to_tree-returns-in-None-clause-few : goal.apply_to_tree-returns-in-None-clause-few
+apply_to_tree-returns-in-None-clause-few t c = c.in_ok-apply_to_element-in-Elem.ensures.few
+
+pub apply_to_tree-returns-in-None-clause-known : goal.apply_to_tree-returns-in-None-clause-known
+apply_to_tree-returns-in-None-clause-known t c = c.in_ok-apply_to_element-in-Elem.ensures.known
+
+pub put_element-returns-in_err-body-clause-few : goal.put_element-returns-in_err-body-clause-few
+put_element-returns-in_err-body-clause-few t c = failed c.from_residual-in_err-body.result _ _ c.from_residual-in_err-body.ensures.1
+
+pub put_element-returns-in_err-body-clause-known : goal.put_element-returns-in_err-body-clause-known
+put_element-returns-in_err-body-clause-known t c = c.in_err-body.ensures.known
+
+pub body-returns-in_err-instruction-clause-few : goal.body-returns-in_err-instruction-clause-few
+body-returns-in_err-instruction-clause-few t c = failed c.from_residual.result _ _ c.from_residual.ensures.1
+
+pub body-returns-in_err-instruction-clause-known : goal.body-returns-in_err-instruction-clause-known
+body-returns-in_err-instruction-clause-known t c = c.in_err-instruction.ensures.known
+
+pub apply_to_trees-returns-in_err-apply_to_tree-clause-few : goal.apply_to_trees-returns-in_err-apply_to_tree-clause-few
+apply_to_trees-returns-in_err-apply_to_tree-clause-few t c = failed c.from_residual.result _ _ c.from_residual.ensures.1
+
+pub apply_to_trees-returns-in_err-apply_to_tree-clause-known : goal.apply_to_trees-returns-in_err-apply_to_tree-clause-known
+apply_to_trees-returns-in_err-apply_to_tree-clause-known t c = c.in_err-apply_to_tree.ensures.known
+
+pub instruction-returns-in_err-nesting-clause-few : goal.instruction-returns-in_err-nesting-clause-few
+instruction-returns-in_err-nesting-clause-few t c = failed c.from_residual.result _ _ c.from_residual.ensures.1
+
+pub instruction-returns-in_err-nesting-clause-known : goal.instruction-returns-in_err-nesting-clause-known
+instruction-returns-in_err-nesting-clause-known t c = c.requires.known
+
+pub apply_to_tree-returns-in_err-apply_to_element-in-Elem-clause-few : goal.apply_to_tree-returns-in_err-apply_to_element-in-Elem-clause-few
+apply_to_tree-returns-in_err-apply_to_element-in-Elem-clause-few t c = failed c.from_residual.result _ _ c.from_residual.ensures.1
+
+pub apply_to_tree-returns-in_err-apply_to_element-in-Elem-clause-known : goal.apply_to_tree-returns-in_err-apply_to_element-in-Elem-clause-known
+apply_to_tree-returns-in_err-apply_to_element-in-Elem-clause-known t c = c.in_err-apply_to_element-in-Elem.ensures.known
+
+pub put_element-returns-clause-known : goal.put_element-returns-clause-known
+put_element-returns-clause-known t c = c.in_ok-body.ensures.known
+
+pub body-returns-clause-few : goal.body-returns-clause-few
+body-returns-clause-few t c = c.loop-one.invariant.0.0
+
+pub body-returns-clause-known : goal.body-returns-clause-known
+body-returns-clause-known t c = c.loop-one.invariant.0.1
+
+pub apply_to_trees-returns-clause-few : goal.apply_to_trees-returns-clause-few
+apply_to_trees-returns-clause-few t c = c.loop-node.invariant.0.0
+
+pub apply_to_trees-returns-clause-known : goal.apply_to_trees-returns-clause-known
+apply_to_trees-returns-clause-known t c = c.loop-node.invariant.0.1

@@ -1,7 +1,22 @@
-use Rattle.std.proofs.Common.{get_or}
+use Rattle.std.proofs.Common.{◌≡◌, List, Option, None, Some, option_map, refl, ap, ◌∙◌, get_or}
+use Rattle.tc_model.specs.Sheets.{CallFreeBody}
+use Rattle.tc_rules.specs.Asked.{found}
+use Rattle.tc_rules.specs.States.{Chosen, plain_of}
 use Rattle.tc_run.specs.Running.{sheet_by}
+use Rattle.tc_run.specs.Tasks.{built_in}
 use Rattle.tc_run.proofs.Templates.{no_rule, found_low, found_number, rule_got, rule_part_at, rule_meant}
 use Rattle.tc_run.proofs.bodies.template_of.Goals as goal
+
+-- where no rule fits, the built-in body is meant
+none_meant : (bodies : List CallFreeBody) (p : CallFreeBody) (o : Option Chosen) → option_map (λ w. w.number) o ≡ None → plain_of bodies p o ≡ p
+none_meant bodies p None e = refl
+none_meant bodies p (Some w) e = cc
+
+pub returns-in-BuiltIn-clause-part : goal.returns-in-BuiltIn-clause-part
+returns-in-BuiltIn-clause-part c = c.requires.mode
+
+pub returns-in-BuiltIn-clause-meant : goal.returns-in-BuiltIn-clause-meant
+returns-in-BuiltIn-clause-meant c = λ bodies n o u e. none_meant bodies (built_in c.args.mode n) o (e ∙ ap found c.in-BuiltIn.is)
 
 pub returns-in-Rule-clause-part : goal.returns-in-Rule-clause-part
 returns-in-Rule-clause-part c =

@@ -5,13 +5,13 @@ use Rattle.tc_model.specs.Views as see
 use Rattle.tc_model.specs.declared.tree.Node.TheViews.{the_lemmas}
 use Rattle.tc_run.specs.Named.{AreNamed}
 use Rattle.tc_run.specs.Running.{lettered_by}
-use Rattle.tc_run.specs.Views.{trees}
+use Rattle.tc_run.specs.Views.{before, trees}
 use Rattle.tc_run.specs.declared.letters.Lettered.TheVariants.{Text}
 use Rattle.tc_run.proofs.Marking.{text_lettered}
 use Rattle.tc_run.proofs.Texts.{text_joined, elem_joined, cut_front, has_front, cut_end, text_found, elem_found, found_further, joined_none, text_after, document_lettered, document_bare}
 use Rattle.tc_run.proofs.Views.{joined}
 use Rattle.tc_run.proofs.letters.+with_letters.Goals as goal
-use Rattle.tc_run.proofs.letters.+with_letters.Goals.{in-Text+in_ok-push-in-Text, in-Elem+in_ok-below-in-Elem+in_ok-push-in-Elem}
+use Rattle.tc_run.proofs.letters.+with_letters.Goals.{in-Text, in-Elem+in_ok-below-in-Elem}
 
 pub with_letters-requires : goal.with_letters-requires
 with_letters-requires t c =
@@ -24,15 +24,31 @@ with_letters-requires t c =
     let first = has_front c.loop-node.rest.now (joined_texts (see.trees x.kids.now)) all rest cut.0 cut.1 (elem_joined ns i c.node-item.result x.name x.kids c.loop-node-test.true c.node-item.is x.is) in
     (search (rules, the_lemmas), (c.requires.1.1.0, ((rest ++ cut.0, first), (c.requires.1.1.1.1.0, (c.loop-node.invariant.names, c.requires.1.1.1.1.1.1)))))
 
-pub lettered_element-requires-clause-kids : goal.lettered_element-requires-clause-kids
-lettered_element-requires-clause-kids t c =
+pub after-rest-requires : goal.after-rest-requires
+after-rest-requires t c =
+    let ns = c.args.nodes.now in
+    let i = c.loop-node.node-index in
+    let x = c.in-Text in
+    let all = joined_texts (see.trees (drop i ns)) in
+    let rest = joined_texts (see.trees (drop (i + 1) ns)) in
+    let cut = c.loop-node.invariant.cut in
+    (rest ++ cut.0, has_front c.loop-node.rest.now x.piece.now all rest cut.0 cut.1 (text_joined ns i c.node-item.result x.piece c.loop-node-test.true c.node-item.is x.is))
+
+pub before_end-string-requires : goal.before_end-string-requires
+before_end-string-requires t c = (joined_texts (see.trees c.in-Elem.kids.now), c.in_ok-below-in-Elem.ensures.rest)
+
+pub lettered_element-tree-requires-clause-kids : goal.lettered_element-tree-requires-clause-kids
+lettered_element-tree-requires-clause-kids t c =
     document_lettered c.args.runner.now (trees c.in_ok-below-in-Elem.below.nodes.now) (see.trees c.in-Elem.kids.now) c.in_ok-below-in-Elem.ensures.nodes
 
-pub lettered_element-requires-clause-string : goal.lettered_element-requires-clause-string
-lettered_element-requires-clause-string t c =
+pub lettered_element-tree-requires-clause-string : goal.lettered_element-tree-requires-clause-string
+lettered_element-tree-requires-clause-string t c =
     let below = c.in_ok-below-in-Elem.below in
     cut_end c.loop-node.rest.now c.before_end-string.result.now (joined_texts (see.trees c.in-Elem.kids.now)) below.rest.now c.in_ok-below-in-Elem.ensures.rest c.before_end-string.ensures
     ∙ sym (ap joined_texts (document_bare c.args.runner.now (trees below.nodes.now) (see.trees c.in-Elem.kids.now) c.in_ok-below-in-Elem.ensures.nodes))
+
+pub lettered_element-tree-requires-clause-names : goal.lettered_element-tree-requires-clause-names
+lettered_element-tree-requires-clause-names t c = c.in_ok-below-in-Elem.ensures.names
 
 pub loop-node-preserved : goal.loop-node-preserved
 loop-node-preserved t c =
@@ -44,21 +60,26 @@ loop-node-preserved t c =
     let rest = see.trees (drop (i + 1) ns) in
     let cut = c.loop-node.invariant.cut in
     let here = c.loop-node-test.true in
+    let found = c.loop-node.found.items in
+    let tree = c.match-node.tree in
+    let found_next = λ (e : before tree (lettered_by r rest) ≡ lettered_by r h).
+    ap (λ xs. joined (trees xs) (lettered_by r rest)) c.in_ok-push.ensures.items ∙ found_further r found tree h rest (lettered_by r (see.trees ns)) e c.loop-node.invariant.lettered
+    in
     elim c.match-node.branch [
-      | in-Text+in_ok-push-in-Text w ↦
+      | in-Text w ↦
+          let piece = w.in-Text.piece in
           let is = w.in-Text.is in
           let now : c.match-node.rest.now ≡ w.after-rest.result.now = ap (λ (b : Bor (List ℕ)). b.now) w.rest-is in
           record {
             lettered =
-                ap (λ xs. joined (trees xs) (lettered_by r rest)) (ap (λ v. v.items) w.found-is ∙ w.in_ok-push-in-Text.ensures.items)
-                ∙ found_further r c.loop-node.found.items (Text w.in-Text.piece c.args.on_texts) h rest _
-                (text_found r ns i x w.in-Text.piece here c.node-item.is is (Text w.in-Text.piece c.args.on_texts) (λ more. text_lettered r c.requires.1.1.0 w.in-Text.piece c.args.on_texts more c.requires.1.1.1.1.0))
-                c.loop-node.invariant.lettered;
-            cut = (cut.0, now ∙ cut_front c.loop-node.rest.now w.after-rest.result.now w.in-Text.piece.now (joined_texts h) (joined_texts rest) cut.0 cut.1 (text_joined ns i x w.in-Text.piece here c.node-item.is is) w.after-rest.ensures, cut.2);
+                found_next
+                (ap (λ x. before x (lettered_by r rest)) w.tree-is
+                ∙ text_found r ns i x piece here c.node-item.is is (Text piece c.args.on_texts) (λ more. text_lettered r c.requires.1.1.0 piece c.args.on_texts more c.requires.1.1.1.1.0));
+            cut = (cut.0, now ∙ cut_front c.loop-node.rest.now w.after-rest.result.now piece.now (joined_texts h) (joined_texts rest) cut.0 cut.1 (text_joined ns i x piece here c.node-item.is is) w.after-rest.ensures, cut.2);
             text = subst IsUtf8 (sym now) w.after-rest.utf8;
             names = subst (AreNamed r.alphabet.now) (sym w.names-is) c.loop-node.invariant.names;
           }
-      | in-Elem+in_ok-below-in-Elem+in_ok-push-in-Elem w ↦
+      | in-Elem+in_ok-below-in-Elem w ↦
           let below = w.in_ok-below-in-Elem.below in
           let n = w.in-Elem.name in
           let kids = w.in-Elem.kids in
@@ -66,15 +87,23 @@ loop-node-preserved t c =
           let now : c.match-node.rest.now ≡ below.rest.now = ap (λ (b : Bor (List ℕ)). b.now) w.rest-is in
           record {
             lettered =
-                ap (λ xs. joined (trees xs) (lettered_by r rest)) (ap (λ v. v.items) w.found-is ∙ w.in_ok-push-in-Elem.ensures.items)
-                ∙ found_further r c.loop-node.found.items w.lettered_element.result h rest _
-                (elem_found r ns i x n kids here c.node-item.is is w.lettered_element.result (trees below.nodes.now) (document_bare r (trees below.nodes.now) (see.trees kids.now) w.in_ok-below-in-Elem.ensures.nodes) w.lettered_element.ensures.lettered)
-                c.loop-node.invariant.lettered;
+                found_next
+                (ap (λ x. before x (lettered_by r rest)) w.tree-is
+                ∙ elem_found r ns i x n kids here c.node-item.is is w.lettered_element-tree.result (trees below.nodes.now) (document_bare r (trees below.nodes.now) (see.trees kids.now) w.in_ok-below-in-Elem.ensures.nodes) w.lettered_element-tree.ensures.lettered);
             cut = (cut.0, now ∙ cut_front c.loop-node.rest.now below.rest.now (joined_texts (see.trees kids.now)) (joined_texts h) (joined_texts rest) cut.0 cut.1 (elem_joined ns i x n kids here c.node-item.is is) w.in_ok-below-in-Elem.ensures.rest, cut.2);
             text = subst IsUtf8 (sym now) (text_after c.loop-node.rest.now w.before_end-string.result.now below.rest.now c.loop-node.invariant.text w.before_end-string.utf8 w.before_end-string.ensures);
-            names = subst (AreNamed r.alphabet.now) (sym w.names-is) w.lettered_element.ensures.names;
+            names = subst (AreNamed r.alphabet.now) (sym w.names-is) w.lettered_element-tree.ensures.names;
           }
     ]
+
+pub returns-clause-rest : goal.returns-clause-rest
+returns-clause-rest t c =
+    let ns = c.args.nodes.now in
+    let cut = c.loop-node.invariant.cut in
+    cut.2 ∙ ap (λ x. joined_texts (see.trees ns) ++ x) (sym (cut.1 ∙ ap (λ xs. joined_texts (see.trees xs) ++ cut.0) (drop_all c.loop-node.node-index ns c.loop-node-test.false)))
+
+pub returns-clause-names : goal.returns-clause-names
+returns-clause-names t c = c.loop-node.invariant.names
 
 pub returns-clause-nodes : goal.returns-clause-nodes
 returns-clause-nodes t c =

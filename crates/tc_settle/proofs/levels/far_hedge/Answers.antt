@@ -109,3 +109,18 @@ pub returns-in_err-append_trees-clause-cause : goal.returns-in_err-append_trees-
 returns-in_err-append_trees-clause-cause g c =
     let rows = c.append_trees.new.rows in
     err_is c.from_residual-in_err-append_trees.result _ (IsCause (g.R.NumberedRows.is_full rows) c.args.most (g.R.NumberedRows.held rows)) c.from_residual-in_err-append_trees.ensures.1 c.in_err-append_trees.ensures.cause
+
+pub wrap_far-requires-clause-kept : goal.wrap_far-requires-clause-kept
+wrap_far-requires-clause-kept g c = c.requires.far.kept
+
+pub wrap_far-requires-clause-few : goal.wrap_far-requires-clause-few
+wrap_far-requires-clause-few g c = c.requires.far.few
+
+pub wrap_far-requires-clause-up_to : goal.wrap_far-requires-clause-up_to
+wrap_far-requires-clause-up_to g c = c.requires.far.up_to
+
+pub index-requires : goal.index-requires
+index-requires g c = omega (arith, c.requires.hedge, c.in_ok-wrap_far.ensures.steps.goes.grows.hedges, c.in_ok-append_before.ensures.steps.goes.grows.hedges, c.in_ok-append_before.ensures.steps.kept.hedge_count)
+
+pub returns-clause-cause : goal.returns-clause-cause
+returns-clause-cause g c = tt

@@ -30,3 +30,18 @@ returns-clause-done g c = c.wrap_symbols.ensures.done
 
 pub returns-clause-cause : goal.returns-clause-cause
 returns-clause-cause g c = c.wrap_symbols.ensures.cause
+
+pub index-requires : goal.index-requires
+index-requires g c = omega (arith, c.requires.hedge, c.requires.kept.hedge_count)
+
+pub overflow_add-index : goal.overflow_add-index
+overflow_add-index g c =
+    let d = c.args.closed.now in
+    let x : c.index.result.now ≡ hedge_cost d c.args.hedge = get_or_read d.hedge_costs.items _ _ (omega (arith, c.requires.hedge, c.requires.kept.hedge_count)) c.index.ensures 0 in
+    omega (arith, x, c.requires.up_to.hedges c.args.hedge c.requires.hedge)
+
+pub returns-then-index-lt-FAR-clause-hedges : goal.returns-then-index-lt-FAR-clause-hedges
+returns-then-index-lt-FAR-clause-hedges g c = refl
+
+pub returns-then-index-lt-FAR-clause-cause : goal.returns-then-index-lt-FAR-clause-cause
+returns-then-index-lt-FAR-clause-cause g c = tt

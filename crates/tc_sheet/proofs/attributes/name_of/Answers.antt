@@ -6,8 +6,8 @@ use Rattle.tc_sheet.proofs.attributes.name_of.Goals as goal
 pub returns-then-is_empty : goal.returns-then-is_empty
 returns-then-is_empty c = name_without (map bound c.args.scope.now) c.in_ok-prefix.ensures (sym c.if-is_empty.ensures)
 
-pub returns-in_err-uri : goal.returns-in_err-uri
-returns-in_err-uri c = rw c.from_residual-in_err-uri.ensures (name_nothing (map bound c.args.scope.now) c.in_ok-prefix.ensures (sym c.if-is_empty.ensures) c.in_err-uri.ensures)
+pub returns-in-None : goal.returns-in-None
+returns-in-None c = name_nothing (map bound c.args.scope.now) c.in_ok-prefix.ensures (sym c.if-is_empty.ensures) c.in-None.ensures
 
-pub returns : goal.returns
-returns c = name_with (map bound c.args.scope.now) c.in_ok-prefix.ensures c.in_ok-uri.uri.now (sym c.if-is_empty.ensures) c.in_ok-uri.ensures
+pub returns-in-Some : goal.returns-in-Some
+returns-in-Some c = name_with (map bound c.args.scope.now) c.in_ok-prefix.ensures c.in-Some.uri.now (sym c.if-is_empty.ensures) c.in-Some.ensures

@@ -153,3 +153,9 @@ element_of_body-returns-in_ok-inner-in-Around t c =
     (λ w f. around_reads c.args.element.now c.in-Around.head w (body c.in_ok-inner-in-Around.inner.now) (subst (IsBegun c.args.element.now) c.in-Around.is c.in_ok-begun.ensures.ok) c.in_ok-inner-in-Around.ensures f)
     c.instruction_with_body.ensures.ok)
     (no_memory (HasNoElementItem c.args.element.now) (IsIn in_body (raw_element c.args.element.now none)) c.instruction_with_body.result c.instruction_with_body.ensures.no)
+
+pub choose-chosen-requires-clause-choose : goal.choose-chosen-requires-clause-choose
+choose-chosen-requires-clause-choose t c = c.requires.choose
+
+pub choose-chosen-requires-clause-only : goal.choose-chosen-requires-clause-only
+choose-chosen-requires-clause-only t c = c.requires.only

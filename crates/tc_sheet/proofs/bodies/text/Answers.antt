@@ -5,6 +5,7 @@ use Rattle.tc_sheet.proofs.Unrefused.{weighed_among}
 use Rattle.tc_sheet.proofs.Refused.{handed_on}
 use Rattle.tc_sheet.proofs.LeafLaws.{of_text_only, of_text_characters}
 use Rattle.tc_sheet.proofs.ReadLaws.{text_read}
+use Rattle.tc_sheet.proofs.Passed.{no_value}
 use Rattle.tc_sheet.proofs.bodies.text.Goals as goal
 
 pub only_attributes-requires-clause-weighed : goal.only_attributes-requires-clause-weighed
@@ -18,3 +19,9 @@ returns-in_err-text-clause-no c = handed_on _ c.from_residual-in_err-text.result
 
 pub returns-clause-ok : goal.returns-clause-ok
 returns-clause-ok c = text_read c.args.element.now c.in_ok-text.text c.in_ok-only_attributes.ensures.ok c.in_ok-text.ensures.ok
+
+pub returns-in_err-only_attributes-clause-ok : goal.returns-in_err-only_attributes-clause-ok
+returns-in_err-only_attributes-clause-ok c = no_value c.from_residual.result _ _ c.from_residual.ensures.1
+
+pub returns-in_err-text-clause-ok : goal.returns-in_err-text-clause-ok
+returns-in_err-text-clause-ok c = no_value c.from_residual-in_err-text.result _ _ c.from_residual-in_err-text.ensures.1

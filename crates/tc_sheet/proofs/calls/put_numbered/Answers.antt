@@ -4,6 +4,7 @@ use Rattle.tc_sheet.specs.Graphs.{callee_of, numbered_from, first_undefined, IsF
 use Rattle.tc_sheet.specs.SeenCalls.{call, site, names_seen}
 use Rattle.tc_sheet.proofs.Refused.{handed_on}
 use Rattle.tc_sheet.proofs.CallSteps.{first_step, put_step, row_step, undefined_here}
+use Rattle.tc_sheet.proofs.Passed.{no_value}
 use Rattle.tc_sheet.proofs.calls.put_numbered.Goals as goal
 
 pub loop-site-preserved : goal.loop-site-preserved
@@ -38,3 +39,12 @@ returns-clause-put c =
 
 pub returns-clause-first : goal.returns-clause-first
 returns-clause-first c = sym (ap (λ z. first_undefined (names_seen c.args.names.now) (map site z)) (sym (drop_all c.loop-site.site-index c.args.sites.now c.loop-site-test.false)) ∙ c.loop-site.invariant.first)
+
+pub returns-in_err-callee-clause-row : goal.returns-in_err-callee-clause-row
+returns-in_err-callee-clause-row c = no_value c.from_residual.result _ _ c.from_residual.ensures.1
+
+pub returns-in_err-callee-clause-put : goal.returns-in_err-callee-clause-put
+returns-in_err-callee-clause-put c = no_value c.from_residual.result _ _ c.from_residual.ensures.1
+
+pub returns-in_err-callee-clause-first : goal.returns-in_err-callee-clause-first
+returns-in_err-callee-clause-first c = no_value c.from_residual.result _ _ c.from_residual.ensures.1

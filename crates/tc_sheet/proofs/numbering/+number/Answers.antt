@@ -147,3 +147,21 @@ numbered-returns-in_err-push t c = passed_on _ (λ e. e ≡ NoMemory) c.from_res
 
 pub numbered_branches-returns-in_err-push : goal.numbered_branches-returns-in_err-push
 numbered_branches-returns-in_err-push t c = passed_on _ (λ e. e ≡ NoMemory) c.from_residual-in_err-push.result NoMemory c.from_residual-in_err-push.ensures.1 refl
+
+pub numbered-loop-instruction-init : goal.numbered-loop-instruction-init
+numbered-loop-instruction-init t c =
+    let modes = names_seen c.args.tables.now.modes.now in
+    let names = names_seen c.args.tables.now.names.now in
+    record {
+      means = ap (λ z. body_then (see.body z) (numbered modes names c.args.next.now (body c.args.body.now))) c.new-found.ensures.items;
+      counted = refl;
+    }
+
+pub numbered_branches-loop-branch-init : goal.numbered_branches-loop-branch-init
+numbered_branches-loop-branch-init t c =
+    let modes = names_seen c.args.tables.now.modes.now in
+    let names = names_seen c.args.tables.now.names.now in
+    record {
+      means = λ rest. ap (λ z. see.branches z (numbered_branches modes names c.args.next.now (branches c.args.branches.now rest))) c.new-found.ensures.items;
+      counted = refl;
+    }

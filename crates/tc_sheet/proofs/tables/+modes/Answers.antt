@@ -1,9 +1,11 @@
-use Rattle.std.proofs.Common.{◌≡◌}
+use Rattle.std.proofs.Common.{◌≡◌, ◌∙◌, ap, append-nil, refl, sym}
 use Rattle.tc_graph.proofs.Tops.{on_ok}
 use Rattle.tc_sheet.specs.SeenCalls.{names_seen}
+use Rattle.tc_sheet.specs.Tables.{puts}
 use Rattle.tc_sheet.specs.declared.faults.SheetFault.TheVariants.{NoMemory}
+use Rattle.tc_sheet.specs.declared.written.Written.TheVariants as v
 use Rattle.tc_sheet.proofs.Refused.{handed_on}
-use Rattle.tc_sheet.proofs.WrittenParts.{choose_puts_modes, modes_branch, modes_branches_end, modes_end, modes_step}
+use Rattle.tc_sheet.proofs.WrittenParts.{choose_puts_modes, inner_modes, modes_as, modes_branch, modes_branches_end, modes_end, modes_of_apply, modes_step, no_modes}
 use Rattle.tc_sheet.proofs.tables.+modes.Goals as goal
 
 pub put_modes_of_one-returns-in_ok-put_modes_of_branches-in-Choose-clause-ok : goal.put_modes_of_one-returns-in_ok-put_modes_of_branches-in-Choose-clause-ok
@@ -37,3 +39,54 @@ put_modes_of_branches-returns-in_err-put_modes-clause-no t c = handed_on (λ e. 
 
 pub put_modes_of_one-returns-in_err-put_modes_of_branches-in-Choose-clause-no : goal.put_modes_of_one-returns-in_err-put_modes_of_branches-in-Choose-clause-no
 put_modes_of_one-returns-in_err-put_modes_of_branches-in-Choose-clause-no t c = handed_on (λ e. e ≡ NoMemory) c.from_residual.result c.in_err-put_modes_of_branches-in-Choose.field-0.0 c.from_residual.ensures.1 c.in_err-put_modes_of_branches-in-Choose.ensures.no
+
+pub put_modes_of_one-returns-in-Text-clause-ok : goal.put_modes_of_one-returns-in-Text-clause-ok
+put_modes_of_one-returns-in-Text-clause-ok t c = sym (ap (puts (names_seen c.args.modes.now)) (no_modes c.args.instruction.now c.in-Text.is) ∙ append-nil (names_seen c.args.modes.now))
+
+pub put_modes_of_one-returns-in-Text-2-clause-ok : goal.put_modes_of_one-returns-in-Text-2-clause-ok
+put_modes_of_one-returns-in-Text-2-clause-ok t c = sym (ap (puts (names_seen c.args.modes.now)) (no_modes c.args.instruction.now c.in-Text.is) ∙ append-nil (names_seen c.args.modes.now))
+
+pub put_modes_of_one-returns-in-Text-3-clause-ok : goal.put_modes_of_one-returns-in-Text-3-clause-ok
+put_modes_of_one-returns-in-Text-3-clause-ok t c = sym (ap (puts (names_seen c.args.modes.now)) (no_modes c.args.instruction.now c.in-Text.is) ∙ append-nil (names_seen c.args.modes.now))
+
+pub put_modes_of_one-returns-in-Text-4-clause-ok : goal.put_modes_of_one-returns-in-Text-4-clause-ok
+put_modes_of_one-returns-in-Text-4-clause-ok t c = sym (ap (puts (names_seen c.args.modes.now)) (no_modes c.args.instruction.now c.in-Text.is) ∙ append-nil (names_seen c.args.modes.now))
+
+pub put_modes_of_one-returns-in-Elem-clause-ok : goal.put_modes_of_one-returns-in-Elem-clause-ok
+put_modes_of_one-returns-in-Elem-clause-ok t c = on_ok c.put_modes-in-Elem.result (λ e. e ∙ ap (puts (names_seen c.args.modes.now)) (sym (inner_modes c.args.instruction.now c.in-Elem.inner c.in-Elem.is))) c.put_modes-in-Elem.ensures.ok
+
+pub put_modes-loop-instruction-init : goal.put_modes-loop-instruction-init
+put_modes-loop-instruction-init t c = refl
+
+pub put_modes_of_branches-loop-branch-init : goal.put_modes_of_branches-loop-branch-init
+put_modes_of_branches-loop-branch-init t c = refl
+
+pub put_modes_of_one-returns-in_ok-put_modes_of_branches-in-Choose-clause-no : goal.put_modes_of_one-returns-in_ok-put_modes_of_branches-in-Choose-clause-no
+put_modes_of_one-returns-in_ok-put_modes_of_branches-in-Choose-clause-no t c = c.put_modes.ensures.no
+
+pub put_modes_of_one-returns-in-Elem-clause-no : goal.put_modes_of_one-returns-in-Elem-clause-no
+put_modes_of_one-returns-in-Elem-clause-no t c = c.put_modes-in-Elem.ensures.no
+
+pub put_modes_of_one-returns-in-Text-clause-no : goal.put_modes_of_one-returns-in-Text-clause-no
+put_modes_of_one-returns-in-Text-clause-no t c = tt
+
+pub put_modes_of_one-returns-in-Text-2-clause-no : goal.put_modes_of_one-returns-in-Text-2-clause-no
+put_modes_of_one-returns-in-Text-2-clause-no t c = tt
+
+pub put_modes_of_one-returns-in-Text-3-clause-no : goal.put_modes_of_one-returns-in-Text-3-clause-no
+put_modes_of_one-returns-in-Text-3-clause-no t c = tt
+
+pub put_modes_of_one-returns-in-Text-4-clause-no : goal.put_modes_of_one-returns-in-Text-4-clause-no
+put_modes_of_one-returns-in-Text-4-clause-no t c = tt
+
+pub put_modes-returns-clause-no : goal.put_modes-returns-clause-no
+put_modes-returns-clause-no t c = tt
+
+pub put_modes_of_branches-returns-clause-no : goal.put_modes_of_branches-returns-clause-no
+put_modes_of_branches-returns-clause-no t c = tt
+
+pub put_modes_of_one-returns-in-Apply-clause-ok : goal.put_modes_of_one-returns-in-Apply-clause-ok
+put_modes_of_one-returns-in-Apply-clause-ok t c = on_ok c.put_mode.result (modes_as c.args.instruction.now (v.Apply c.in-Apply.field-0 c.in-Apply.mode) (names_seen c.args.modes.now) (names_seen c.put_mode.new.modes) c.in-Apply.is (modes_of_apply c.in-Apply.field-0 c.in-Apply.mode)) c.put_mode.ensures.ok
+
+pub put_modes_of_one-returns-in-Apply-clause-no : goal.put_modes_of_one-returns-in-Apply-clause-no
+put_modes_of_one-returns-in-Apply-clause-no t c = c.put_mode.ensures.no

@@ -36,3 +36,6 @@ pub returns-clause-once : goal.returns-clause-once
 returns-clause-once c =
     subst (IsDistinct same_name) (flat_end (λ (t : Template). model.one_name t.name) c.args.templates.now c.loop-template.template-index (names_seen c.loop-template.names) _ c.loop-template-test.false c.loop-template.invariant.names)
     c.loop-template.invariant.once
+
+pub returns-clause-ok : goal.returns-clause-ok
+returns-clause-ok c = flat_end (λ (t : Template). model.one_name t.name) c.args.templates.now c.loop-template.template-index (names_seen c.loop-template.names) _ c.loop-template-test.false c.loop-template.invariant.names

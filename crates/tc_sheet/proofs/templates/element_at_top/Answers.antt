@@ -1,6 +1,7 @@
 use Rattle.std.proofs.Common.{inl, inr}
 use Rattle.tc_sheet.proofs.Refused.{handed_on}
 use Rattle.tc_sheet.proofs.TemplateLaws.{top_template, top_template_refuses, top_declaration, top_misplaced, top_other}
+use Rattle.tc_sheet.proofs.Passed.{no_value}
 use Rattle.tc_sheet.proofs.templates.element_at_top.Goals as goal
 
 pub returns-in_err-template-clause-no : goal.returns-in_err-template-clause-no
@@ -20,3 +21,6 @@ returns-then-is_bare-clause-no c = top_misplaced c.args.element.now c.if-is_xsl.
 
 pub returns-clause-ok : goal.returns-clause-ok
 returns-clause-ok c = top_other c.args.element.now c.if-is_xslt.ensures c.if-is_bare.ensures
+
+pub returns-in_err-template-clause-ok : goal.returns-in_err-template-clause-ok
+returns-in_err-template-clause-ok c = no_value c.from_residual.result _ _ c.from_residual.ensures.1

@@ -5,6 +5,7 @@ use Rattle.tc_sheet.proofs.Refused.{handed_on}
 use Rattle.tc_sheet.proofs.TemplateLaws.{root_only_refuses, root_version_refuses, no_call, stylesheet_ok, stylesheet_no, stylesheet_calls}
 use Rattle.tc_sheet.specs.Readings.{alone}
 use Rattle.tc_sheet.proofs.Unrefused.{root_weighed_among}
+use Rattle.tc_sheet.proofs.Passed.{no_value}
 use Rattle.tc_sheet.proofs.templates.stylesheet.Goals as goal
 
 pub only_attributes-requires-clause-weighed : goal.only_attributes-requires-clause-weighed
@@ -30,3 +31,9 @@ returns-clause-no c = stylesheet_no c.args.element.now c.if-not-is_root.ensures 
 
 pub returns-clause-calls : goal.returns-clause-calls
 returns-clause-calls c = stylesheet_calls c.args.element.now c.templates.result c.templates.ensures.no
+
+pub returns-in_err-only_attributes-clause-ok : goal.returns-in_err-only_attributes-clause-ok
+returns-in_err-only_attributes-clause-ok c = no_value c.from_residual.result _ _ c.from_residual.ensures.1
+
+pub returns-in_err-check_version-clause-ok : goal.returns-in_err-check_version-clause-ok
+returns-in_err-check_version-clause-ok c = no_value c.from_residual-in_err-check_version.result _ _ c.from_residual-in_err-check_version.ensures.1

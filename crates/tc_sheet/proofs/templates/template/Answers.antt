@@ -9,6 +9,7 @@ use Rattle.std.proofs.Common.{[], ◌∷◌, sym, refl, map, option_map}
 use Rattle.std.specs.Prelude.{codes}
 use Rattle.tc_model.specs.Views.{name}
 use Rattle.tc_path.specs.Views.{alternative}
+use Rattle.tc_sheet.proofs.Passed.{no_value}
 use Rattle.tc_sheet.proofs.templates.template.Goals as goal
 
 pub only_attributes-requires-clause-weighed : goal.only_attributes-requires-clause-weighed
@@ -59,3 +60,24 @@ returns-clause-ok c =
       body = c.in_ok-body.ensures;
       place = refl;
     }
+
+pub returns-in_err-only_attributes-clause-ok : goal.returns-in_err-only_attributes-clause-ok
+returns-in_err-only_attributes-clause-ok c = no_value c.from_residual.result _ _ c.from_residual.ensures.1
+
+pub returns-in_err-pattern-clause-ok : goal.returns-in_err-pattern-clause-ok
+returns-in_err-pattern-clause-ok c = no_value c.from_residual-in_err-pattern.result _ _ c.from_residual-in_err-pattern.ensures.1
+
+pub returns-in_err-priority-clause-ok : goal.returns-in_err-priority-clause-ok
+returns-in_err-priority-clause-ok c = no_value c.from_residual-in_err-priority.result _ _ c.from_residual-in_err-priority.ensures.1
+
+pub returns-in_err-name-clause-ok : goal.returns-in_err-name-clause-ok
+returns-in_err-name-clause-ok c = no_value c.from_residual-in_err-name.result _ _ c.from_residual-in_err-name.ensures.1
+
+pub returns-in_err-mode-clause-ok : goal.returns-in_err-mode-clause-ok
+returns-in_err-mode-clause-ok c = no_value c.from_residual-in_err-mode.result _ _ c.from_residual-in_err-mode.ensures.1
+
+pub returns-in_err-body-clause-ok : goal.returns-in_err-body-clause-ok
+returns-in_err-body-clause-ok c = no_value c.from_residual-in_err-body.result _ _ c.from_residual-in_err-body.ensures.1
+
+pub returns-in_err-alternatives-clause-ok : goal.returns-in_err-alternatives-clause-ok
+returns-in_err-alternatives-clause-ok c = no_value c.from_residual-in_err-alternatives.result _ _ c.from_residual-in_err-alternatives.ensures.1

@@ -6,6 +6,7 @@ use Rattle.tc_model.proofs.ViewsRaw.{left_one}
 use Rattle.tc_sheet.proofs.Refused.{handed_on}
 use Rattle.tc_sheet.proofs.TemplateLaws.{TopLoop, top_goes_on, top_pushed, top_stays, top_ends, item_at_top_refuses}
 use Rattle.tc_sheet.proofs.templates.templates.Goals.{in-Some+in_ok-push-in-Some, in-None}
+use Rattle.tc_sheet.proofs.Passed.{no_value}
 use Rattle.tc_sheet.proofs.templates.templates.Goals as goal
 
 pub returns-in_err-read-clause-no : goal.returns-in_err-read-clause-no
@@ -21,3 +22,6 @@ loop-kid-preserved c =
 
 pub returns-clause-ok : goal.returns-clause-ok
 returns-clause-ok c = top_ends c.loop-kid.invariant (at_drop_all raw_trees c.args.kids.now c.loop-kid.kid-index c.loop-kid-test.false) (ap (λ v. v) c.into_bump_slice.ensures)
+
+pub returns-in_err-read-clause-ok : goal.returns-in_err-read-clause-ok
+returns-in_err-read-clause-ok c = no_value c.from_residual.result _ _ c.from_residual.ensures.1

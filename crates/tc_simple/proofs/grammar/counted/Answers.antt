@@ -1,4 +1,4 @@
-use Rattle.std.proofs.Common.{◌≡◌, ◌∙◌, sym, ap, subst, arith, length, map, true, false, Result, Ok, Err, IfErr}
+use Rattle.std.proofs.Common.{◌≡◌, ◌∙◌, sym, subst, arith, length, map, true, false, Result, Ok, Err, IfErr}
 use Rattle.std.specs.Result.{IsErrAnd}
 use Rattle.tc_rnc.specs.Views.{syntax}
 use Rattle.tc_simple.specs.Nodes.{HasNumbersBelow, elements_of, see_element}
@@ -30,23 +30,20 @@ whole_size-requires-clause-order c = order_within (length c.args.table.now.patte
 
 pub returns-clause-few : goal.returns-clause-few
 returns-clause-few c =
-    let elements : map see_element c.deref.result.now ≡ elements_of c.args.table.now c.args.marks.now (syntax c.args.syntax.now).definitions = ap (map see_element) c.deref.ensures.value ∙ c.in_ok-found.ensures in
+    let elements : map see_element c.in_ok-found.found.now ≡ elements_of c.args.table.now c.args.marks.now (syntax c.args.syntax.now).definitions = c.in_ok-found.ensures in
     let (grammar, simplifies, is) = c.in_ok-size.ensures (syntax c.args.syntax.now) c.requires.lawful c.requires.faultless c.requires.resolves elements in
-    let count : c.len.result ≡ length grammar.elements = omega (arith, is.elements, ap length c.deref.ensures.value, c.len.ensures, c.in_ok-found.found.ok.0) in
-    let within = c.in_ok-check_counts.ensures.ok grammar (record { nodes = is.nodes; depth = is.depth; elements = count }) in
-    omega (arith, within.elements, is.elements, ap length c.deref.ensures.value)
+    let within = c.in_ok-check_counts.ensures.ok grammar (record { nodes = is.nodes; depth = is.depth; elements = omega (arith, is.elements) }) in
+    omega (arith, within.elements, is.elements)
 
 pub returns-clause-within : goal.returns-clause-within
 returns-clause-within c =
-    let elements : map see_element c.deref.result.now ≡ elements_of c.args.table.now c.args.marks.now (syntax c.args.syntax.now).definitions = ap (map see_element) c.deref.ensures.value ∙ c.in_ok-found.ensures in
+    let elements : map see_element c.in_ok-found.found.now ≡ elements_of c.args.table.now c.args.marks.now (syntax c.args.syntax.now).definitions = c.in_ok-found.ensures in
     let (grammar, simplifies, is) = c.in_ok-size.ensures (syntax c.args.syntax.now) c.requires.lawful c.requires.faultless c.requires.resolves elements in
-    let count : c.len.result ≡ length grammar.elements = omega (arith, is.elements, ap length c.deref.ensures.value, c.len.ensures, c.in_ok-found.found.ok.0) in
-    (grammar, simplifies, c.in_ok-check_counts.ensures.ok grammar (record { nodes = is.nodes; depth = is.depth; elements = count }))
+    (grammar, simplifies, c.in_ok-check_counts.ensures.ok grammar (record { nodes = is.nodes; depth = is.depth; elements = omega (arith, is.elements) }))
 
 pub returns-in_err-check_counts-clause-err : goal.returns-in_err-check_counts-clause-err
 returns-in_err-check_counts-clause-err c =
     let s = syntax c.args.syntax.now in
-    let elements : map see_element c.deref.result.now ≡ elements_of c.args.table.now c.args.marks.now s.definitions = ap (map see_element) c.deref.ensures.value ∙ c.in_ok-found.ensures in
+    let elements : map see_element c.in_ok-found.found.now ≡ elements_of c.args.table.now c.args.marks.now s.definitions = c.in_ok-found.ensures in
     let (grammar, simplifies, is) = c.in_ok-size.ensures s c.requires.lawful c.requires.faultless c.requires.resolves elements in
-    let count : c.len.result ≡ length grammar.elements = omega (arith, is.elements, ap length c.deref.ensures.value, c.len.ensures, c.in_ok-found.found.ok.0) in
-    refused_so s _ _ c.from_residual-in_err-check_counts.ensures.1 (c.in_err-check_counts.ensures.err s grammar simplifies (record { nodes = is.nodes; depth = is.depth; elements = count }))
+    refused_so s _ _ c.from_residual-in_err-check_counts.ensures.1 (c.in_err-check_counts.ensures.err s grammar simplifies (record { nodes = is.nodes; depth = is.depth; elements = omega (arith, is.elements) }))

@@ -1,5 +1,7 @@
-use Rattle.std.proofs.Common.{◌∙◌, ◌++◌, ap, sym}
-use Rattle.tc_simple.specs.Nodes.{marked_loops}
+use Rattle.tc_model.specs.Views.{place}
+use Rattle.tc_simple.proofs.Answered.{failed_ok}
+use Rattle.std.proofs.Common.{◌∙◌, ◌++◌, ap, sym, ◌≡◌, map, length, arith}
+use Rattle.tc_simple.specs.Nodes.{marked_loops, loops_below}
 use Rattle.tc_simple.proofs.Resolving.{loops_more}
 use Rattle.tc_simple.proofs.loops.loops.Goals as goal
 
@@ -8,3 +10,23 @@ loop-number-preserved c =
     c.in_ok-add_marked.ensures
     ∙ (ap (λ z. z ++ marked_loops c.args.table.now c.args.walk.now.states.items c.args.marks.now c.loop-number.number) c.loop-number.invariant
     ∙ sym (loops_more c.args.table.now c.args.walk.now.states.items c.args.marks.now c.loop-number.number))
+
+pub loop-number-init : goal.loop-number-init
+loop-number-init c = ap (map place) c.new-found.ensures.items
+
+pub add_marked-requires-clause-marks : goal.add_marked-requires-clause-marks
+add_marked-requires-clause-marks c = c.requires.marks
+
+pub add_marked-requires-clause-states : goal.add_marked-requires-clause-states
+add_marked-requires-clause-states c = c.requires.states
+
+pub add_marked-requires-clause-numbers : goal.add_marked-requires-clause-numbers
+add_marked-requires-clause-numbers c = c.requires.numbers
+
+pub returns-in_err-add_marked : goal.returns-in_err-add_marked
+returns-in_err-add_marked c = failed_ok c.from_residual.result _ _ c.from_residual.ensures.1
+
+pub returns : goal.returns
+returns c =
+    let all : c.loop-number.number ≡ length c.args.table.now.patterns.items = omega arith in
+    ap (map place) c.into_bump_slice.ensures ∙ (c.loop-number.invariant ∙ ap (loops_below c.args.table.now c.args.walk.now.states.items c.args.marks.now) all)

@@ -6,6 +6,6 @@ use Rattle.tc_simple.proofs.order.all_patterns.Given as goal
 
 abbrev pub invariant-loop-number : goal.invariant-loop-number
 invariant-loop-number l = record {
-  size : length l.made.items ≡ length l.table.patterns.items;
-  made : (s : Syntax) → IsOrderly s l.table l.marks l.walk.states.items l.walk.order.items → AreMade s (map see_element l.elements) l.table l.marks l.walk.states.items l.number-index l.made.items;
+  size : length l.made ≡ length l.table.patterns.items;
+  made : (s : Syntax) → IsOrderly s l.table l.marks l.walk.states.items l.walk.order.items → AreMade s (map see_element l.elements) l.table l.marks l.walk.states.items l.number-index l.made;
 }

@@ -1,8 +1,5 @@
-use Rattle.std.proofs.Common.{◌∙◌, List, refl, ap, set}
+use Rattle.std.proofs.Common.{refl, ap, set}
 use Rattle.std.proofs.lemmas.Option.{slice_get_read}
-use Rattle.tc_rnc.specs.Views as see
-use Rattle.tc_simple.specs.Sizes.{size_of, size_in}
-use Rattle.tc_simple.specs.declared.counts.Size.{Size}
 use Rattle.tc_simple.proofs.Ordered.{size_put}
 use Rattle.tc_simple.proofs.order.put_size.Goals as goal
 
@@ -10,7 +7,7 @@ pub returns : goal.returns
 returns c =
     let t = c.args.table.now in
     let k = c.args.number in
-    let old = c.args.sizes.now.items in
+    let old = c.args.sizes.now in
     let one = c.index.result.now in
     size_put t c.args.marks.now k one old (set old k c.measure-size.result) c.if-not-marks-number.false (slice_get_read t.patterns.items _ k one refl c.requires.within c.index.ensures)
-    (ap (set old k) (c.measure-size.ensures ∙ ap (λ (z : List Size). size_of (size_in t z) (see.pattern one)) c.deref.ensures.value))
+    (ap (set old k) c.measure-size.ensures)

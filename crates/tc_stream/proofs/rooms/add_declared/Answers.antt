@@ -65,3 +65,21 @@ returns-clause-added c = λ w h.
     let d : Declared = record { prefix = record { start = c.len-start.result; length = length c.in-Some.declared.now }; uri = record { start = c.len-start-2.result; length = c.len.result - c.len-start-2.result } } in
     adds_one c.args.tag.now a is c.in-Some.declared.now prefix c.args.names.now.bytes.items c.push_all.new.self.bytes.items c.push_value.new.names.bytes.items c.args.scopes.now.declared.items c.declare.new.self.declared.items d w h
     c.if-not-push_all.ensures.bytes (c.if-not-push_value.ensures.bytes w.value h.after (subst (λ z. ValueAt false c.args.attribute.now.quote z w.value h.after) (sym c.range_from.ensures.value) h.value)) c.len-start.ensures refl c.len-start-2.ensures (omega (arith, c.len.ensures, c.len-start-2.ensures)) c.declare.ensures.declared
+
+pub returns-in_default-clause-most : goal.returns-in_default-clause-most
+returns-in_default-clause-most c = refl
+
+pub returns-in_default-clause-kept : goal.returns-in_default-clause-kept
+returns-in_default-clause-kept c = λ _. c.requires.kept
+
+pub returns-then-not-push_all-clause-most : goal.returns-then-not-push_all-clause-most
+returns-then-not-push_all-clause-most c = c.push_all.ensures.most
+
+pub returns-then-not-push_value-clause-most : goal.returns-then-not-push_value-clause-most
+returns-then-not-push_value-clause-most c = c.push_value.ensures.most ∙ c.push_all.ensures.most
+
+pub declare-requires-clause-room : goal.declare-requires-clause-room
+declare-requires-clause-room c = c.requires.room
+
+pub returns-clause-most : goal.returns-clause-most
+returns-clause-most c = c.push_value.ensures.most ∙ c.push_all.ensures.most

@@ -59,3 +59,39 @@ returns-in-Err-Malformed-clause-no c =
 
 pub returns-in-Err-Malformed-clause-stands : goal.returns-in-Err-Malformed-clause-stands
 returns-in-Err-Malformed-clause-stands c = stop_stands c.args.total c.stopped.result _ c.stopped.ensures.stop
+
+pub returns-then-count-gt0-clause-no : goal.returns-then-count-gt0-clause-no
+returns-then-count-gt0-clause-no c = tt
+
+pub returns-then-count-gt0-clause-stands : goal.returns-then-count-gt0-clause-stands
+returns-then-count-gt0-clause-stands c = tt
+
+pub returns-then-count-gt0-clause-begun : goal.returns-then-count-gt0-clause-begun
+returns-then-count-gt0-clause-begun c = tt
+
+pub returns-then-count-gt0-clause-missing : goal.returns-then-count-gt0-clause-missing
+returns-then-count-gt0-clause-missing c = λ chars other. tt
+
+pub returns-in-Ok-clause-no : goal.returns-in-Ok-clause-no
+returns-in-Ok-clause-no c = tt
+
+pub returns-in-Ok-clause-stands : goal.returns-in-Ok-clause-stands
+returns-in-Ok-clause-stands c = tt
+
+pub returns-in-Ok-clause-begun : goal.returns-in-Ok-clause-begun
+returns-in-Ok-clause-begun c = tt
+
+pub returns-in-Ok-clause-missing : goal.returns-in-Ok-clause-missing
+returns-in-Ok-clause-missing c = λ chars other. tt
+
+pub returns-in-Err-OtherEntity-clause-ok : goal.returns-in-Err-OtherEntity-clause-ok
+returns-in-Err-OtherEntity-clause-ok c = tt
+
+pub returns-in-Err-OtherEntity-clause-begun : goal.returns-in-Err-OtherEntity-clause-begun
+returns-in-Err-OtherEntity-clause-begun c = tt
+
+pub returns-in-Err-OtherEntity-clause-missing : goal.returns-in-Err-OtherEntity-clause-missing
+returns-in-Err-OtherEntity-clause-missing c = λ chars other. tt
+
+pub returns-in-Err-Malformed-clause-ok : goal.returns-in-Err-Malformed-clause-ok
+returns-in-Err-Malformed-clause-ok c = tt

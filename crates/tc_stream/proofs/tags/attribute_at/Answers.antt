@@ -11,6 +11,7 @@ use Rattle.tc_stream.specs.Begun.{NameBegun, QuotedBegun, AttributesBegun, Attri
 use Rattle.tc_stream.specs.Begun as b
 use Rattle.tc_stream.specs.Forms.{AttributeAt, Refuses, UnsupportedAt, OnMalformed, OnShort, OnBroken}
 use Rattle.tc_stream.specs.Missing.{NoName, NoQuoted, NoAttribute}
+use Rattle.tc_stream.proofs.FailedLaws.{failed_ok}
 use Rattle.tc_stream.proofs.FormLaws.{failed, refuse_both, unsupported_map, of_both, not_xml_space, no_equals, no_value, value_stands, no_name_refused, no_equals_refused, no_value_refused, refused_white, white_within, qname_within, equals_within}
 use Rattle.tc_stream.proofs.ShortLaws.{named_short}
 use Rattle.tc_stream.proofs.MissingLaws.{no_name_there_open, no_value_there_open}
@@ -229,3 +230,45 @@ overflow_sub-result c = let same = ap length c.in-Some.ensures.1 in let fits = c
 pub overflow_sub-total : goal.overflow_sub-total
 overflow_sub-total c =
     let same = ap length c.in-Some.ensures.1 in let fits = c.requires in omega (arith, same, white_within c.args.text.now, fits, qname_within c.in_ok-name.ensures.ok)
+
+pub returns-in_default-clause-ok : goal.returns-in_default-clause-ok
+returns-in_default-clause-ok c = tt
+
+pub returns-in_err-name-clause-ok : goal.returns-in_err-name-clause-ok
+returns-in_err-name-clause-ok c = failed_ok _ _ _ c.from_residual.ensures.1
+
+pub returns-then-is_refused-clause-ok : goal.returns-then-is_refused-clause-ok
+returns-then-is_refused-clause-ok c = tt
+
+pub returns-then-is_refused-clause-malformed : goal.returns-then-is_refused-clause-malformed
+returns-then-is_refused-clause-malformed c = λ _. tt
+
+pub returns-then-is_refused-clause-begun : goal.returns-then-is_refused-clause-begun
+returns-then-is_refused-clause-begun c = tt
+
+pub returns-then-is_refused-clause-missing : goal.returns-then-is_refused-clause-missing
+returns-then-is_refused-clause-missing c = λ _. tt
+
+pub returns-in_default-after_equals-clause-ok : goal.returns-in_default-after_equals-clause-ok
+returns-in_default-after_equals-clause-ok c = tt
+
+pub returns-in_err-value-clause-ok : goal.returns-in_err-value-clause-ok
+returns-in_err-value-clause-ok c = failed_ok _ _ _ c.from_residual-in_err-value.ensures.1
+
+pub returns-clause-no : goal.returns-clause-no
+returns-clause-no c = tt
+
+pub returns-clause-stands : goal.returns-clause-stands
+returns-clause-stands c = tt
+
+pub returns-clause-malformed : goal.returns-clause-malformed
+returns-clause-malformed c = λ _. tt
+
+pub returns-clause-begun : goal.returns-clause-begun
+returns-clause-begun c = tt
+
+pub returns-clause-refused : goal.returns-clause-refused
+returns-clause-refused c = λ _. tt
+
+pub returns-clause-missing : goal.returns-clause-missing
+returns-clause-missing c = λ _. tt

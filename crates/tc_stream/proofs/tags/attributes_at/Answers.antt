@@ -11,6 +11,7 @@ use Rattle.tc_stream.proofs.FormLaws.{failed, refuse_both, unsupported_map, of_m
 use Rattle.tc_stream.proofs.MissingLaws.{no_attributes_open}
 use Rattle.tc_stream.proofs.OpenLaws.{short_map, broken_map, attributes_kept_none, attributes_kept_more}
 use Rattle.tc_stream.proofs.TagReadLaws.{taken_none, taken_more, taken_room, taken_all}
+use Rattle.tc_stream.proofs.FailedLaws.{failed_ok}
 use Rattle.tc_stream.proofs.tags.attributes_at.Goals as goal
 
 pub loop-rest-init : goal.loop-rest-init
@@ -85,3 +86,24 @@ returns-in_err-attribute-clause-missing c = λ chars.
     let ends : EndsTag (after_white rest) → ⊥ = λ k. c.loop-rest-test.ensures (subst EndsTag (sym c.after_white.ensures) k) in
     failed c.from_residual.result (λ e. OnBroken e (NoAttributes t)) x c.from_residual.ensures.1
     (broken_map x (NoAttribute rest) (NoAttributes t) (no_attributes_open t rest kept.stays ends) (c.in_err-attribute.ensures.missing (kept.chars chars)))
+
+pub returns-in_err-attribute-clause-ok : goal.returns-in_err-attribute-clause-ok
+returns-in_err-attribute-clause-ok c = failed_ok _ _ _ c.from_residual.ensures.1
+
+pub returns-clause-no : goal.returns-clause-no
+returns-clause-no c = tt
+
+pub returns-clause-stands : goal.returns-clause-stands
+returns-clause-stands c = tt
+
+pub returns-clause-malformed : goal.returns-clause-malformed
+returns-clause-malformed c = λ _. tt
+
+pub returns-clause-begun : goal.returns-clause-begun
+returns-clause-begun c = tt
+
+pub returns-clause-refused : goal.returns-clause-refused
+returns-clause-refused c = λ _. tt
+
+pub returns-clause-missing : goal.returns-clause-missing
+returns-clause-missing c = λ _. tt

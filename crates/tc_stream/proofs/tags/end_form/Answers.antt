@@ -78,3 +78,9 @@ returns-else-eq-clause-missing c = λ rest opens written from w e lacks.
     broken_map c.stopped-else-eq.result (IsFalse c.may_end-else-eq.result) ((more after : List ℕ) → EndTagAt written (tag ++ more) after → ⊥)
     (λ h. end_missing c.may_end-else-eq.result c.args.name.now tag rest written from c.may_end-else-eq.ensures h opens w e lacks)
     c.stopped-else-eq.ensures.broken
+
+pub returns-then-eq-2-clause-begun : goal.returns-then-eq-2-clause-begun
+returns-then-eq-2-clause-begun c = λ written from w e. tt
+
+pub returns-then-eq-2-clause-missing : goal.returns-then-eq-2-clause-missing
+returns-then-eq-2-clause-missing c = λ rest e written from w f lacks. tt

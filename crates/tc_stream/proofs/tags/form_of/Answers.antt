@@ -16,6 +16,7 @@ use Rattle.tc_stream.proofs.ShortLaws.{tag_begun}
 use Rattle.tc_stream.proofs.MissingLaws.{some_begun, nameless_front, listless_front, ends_otherwise}
 use Rattle.tc_stream.proofs.OpenLaws.{short_map, broken_map, list_begun, tag_refused, start_chars}
 use Rattle.tc_stream.specs.declared.tags.Form.{Form}
+use Rattle.tc_stream.proofs.FailedLaws.{failed_ok}
 use Rattle.tc_stream.proofs.tags.form_of.Goals as goal
 
 pub attributes_at-requires-clause-within : goal.attributes_at-requires-clause-within
@@ -215,3 +216,33 @@ returns-in-None-clause-missing c = λ rest e chars un.
     (λ h. ends_otherwise t start c.in_ok-name.behind.now name opens q (start_chars t start opens chars) (begun_of (attributes_low list)) list space un
     (λ f. true≢false (sym ((bytes_decides end (codes "/")).1 f) ∙ (sym c.eq.ensures ∙ h))))
     c.stopped.ensures.broken
+
+pub returns-in_err-name-clause-ok : goal.returns-in_err-name-clause-ok
+returns-in_err-name-clause-ok c = failed_ok _ _ _ c.from_residual.ensures.1
+
+pub returns-in_err-end-clause-ok : goal.returns-in_err-end-clause-ok
+returns-in_err-end-clause-ok c = failed_ok _ _ _ c.from_residual-in_err-end.ensures.1
+
+pub returns-in-Some-clause-no : goal.returns-in-Some-clause-no
+returns-in-Some-clause-no c = tt
+
+pub returns-in-Some-clause-no_empty : goal.returns-in-Some-clause-no_empty
+returns-in-Some-clause-no_empty c = tt
+
+pub returns-in-Some-clause-stands : goal.returns-in-Some-clause-stands
+returns-in-Some-clause-stands c = tt
+
+pub returns-in-Some-clause-malformed : goal.returns-in-Some-clause-malformed
+returns-in-Some-clause-malformed c = λ _. tt
+
+pub returns-in-Some-clause-begun : goal.returns-in-Some-clause-begun
+returns-in-Some-clause-begun c = λ rest e. tt
+
+pub returns-in-Some-clause-refused : goal.returns-in-Some-clause-refused
+returns-in-Some-clause-refused c = λ g chars. tt
+
+pub returns-in-Some-clause-missing : goal.returns-in-Some-clause-missing
+returns-in-Some-clause-missing c = λ rest e chars unclosed. tt
+
+pub returns-in-None-clause-ok : goal.returns-in-None-clause-ok
+returns-in-None-clause-ok c = tt

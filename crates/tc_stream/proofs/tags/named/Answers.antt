@@ -6,6 +6,7 @@ use Rattle.tc_scan.specs.Views.{written_name}
 use Rattle.tc_stream.specs.Begun.{IsNamed, IsUncertain}
 use Rattle.tc_stream.specs.Missing.{NoName}
 use Rattle.tc_stream.proofs.OpenLaws.{short_map, broken_map, name_short, name_missing, name_uncertain, bare_uncertain, stays_named}
+use Rattle.std.proofs.lemmas.Bool.{true≢false}
 use Rattle.tc_stream.proofs.tags.named.Goals as goal
 
 pub returns-in_default-clause-no : goal.returns-in_default-clause-no
@@ -54,3 +55,63 @@ returns-else-is_bare-clause-ok c = λ rest e.
 
 pub returns-else-is_bare-clause-stays : goal.returns-else-is_bare-clause-stays
 returns-else-is_bare-clause-stays c = λ rest e m. subst IsNamed (same_others (sym c.in-Some.ensures ∙ e)) (stays_named c.in-Some-qname.behind.now c.in-Some-qname.ensures c.if-is_bare.ensures)
+
+pub returns-in_default-clause-ok : goal.returns-in_default-clause-ok
+returns-in_default-clause-ok c = λ rest e. tt
+
+pub returns-in_default-clause-stays : goal.returns-in_default-clause-stays
+returns-in_default-clause-stays c = λ rest e g. tt
+
+pub returns-in_default-clause-stop : goal.returns-in_default-clause-stop
+returns-in_default-clause-stop c = c.stopped.ensures.stop
+
+pub returns-in_default-qname-clause-ok : goal.returns-in_default-qname-clause-ok
+returns-in_default-qname-clause-ok c = λ rest e. tt
+
+pub returns-in_default-qname-clause-stays : goal.returns-in_default-qname-clause-stays
+returns-in_default-qname-clause-stays c = λ rest e g. tt
+
+pub returns-in_default-qname-clause-stop : goal.returns-in_default-qname-clause-stop
+returns-in_default-qname-clause-stop c = c.stopped-in_default-qname.ensures.stop
+
+pub returns-then-not-may_go_on-clause-stays : goal.returns-then-not-may_go_on-clause-stays
+returns-then-not-may_go_on-clause-stays c = λ rest e g. absurd (true≢false (sym g ∙ c.if-not-may_go_on.true))
+
+pub returns-then-not-may_go_on-clause-stop : goal.returns-then-not-may_go_on-clause-stop
+returns-then-not-may_go_on-clause-stop c = tt
+
+pub returns-then-not-may_go_on-clause-no : goal.returns-then-not-may_go_on-clause-no
+returns-then-not-may_go_on-clause-no c = λ rest e f. tt
+
+pub returns-then-not-may_go_on-clause-begun : goal.returns-then-not-may_go_on-clause-begun
+returns-then-not-may_go_on-clause-begun c = λ rest e. tt
+
+pub returns-then-not-may_go_on-clause-missing : goal.returns-then-not-may_go_on-clause-missing
+returns-then-not-may_go_on-clause-missing c = λ rest e chars. tt
+
+pub returns-then-is_bare-clause-ok : goal.returns-then-is_bare-clause-ok
+returns-then-is_bare-clause-ok c = λ rest e. tt
+
+pub returns-then-is_bare-clause-stays : goal.returns-then-is_bare-clause-stays
+returns-then-is_bare-clause-stays c = λ rest e g. tt
+
+pub returns-then-is_bare-clause-stop : goal.returns-then-is_bare-clause-stop
+returns-then-is_bare-clause-stop c = tt
+
+pub returns-then-is_bare-clause-no : goal.returns-then-is_bare-clause-no
+returns-then-is_bare-clause-no c = λ rest e f. absurd (true≢false (sym c.if-not-may_go_on.false ∙ f))
+
+pub returns-then-is_bare-clause-missing : goal.returns-then-is_bare-clause-missing
+returns-then-is_bare-clause-missing c = λ rest e chars. tt
+
+pub returns-else-is_bare-clause-stop : goal.returns-else-is_bare-clause-stop
+returns-else-is_bare-clause-stop c = tt
+
+pub returns-else-is_bare-clause-no : goal.returns-else-is_bare-clause-no
+returns-else-is_bare-clause-no c = λ rest e f. tt
+
+pub returns-else-is_bare-clause-begun : goal.returns-else-is_bare-clause-begun
+returns-else-is_bare-clause-begun c = λ rest e. tt
+
+pub returns-else-is_bare-clause-missing : goal.returns-else-is_bare-clause-missing
+returns-else-is_bare-clause-missing c = λ rest e chars. tt

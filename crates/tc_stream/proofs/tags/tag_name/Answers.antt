@@ -8,6 +8,7 @@ use Rattle.tc_stream.specs.Forms.{IsNameAt, IsStop, OnShort, OnBroken}
 use Rattle.tc_stream.specs.Missing.{NoName}
 use Rattle.tc_stream.proofs.FormLaws.{failed}
 use Rattle.tc_stream.proofs.OpenLaws.{short_map, broken_map}
+use Rattle.tc_stream.proofs.FailedLaws.{failed_ok}
 use Rattle.tc_stream.proofs.tags.tag_name.Goals as goal
 
 pub returns-in_default-clause-no : goal.returns-in_default-clause-no
@@ -50,3 +51,18 @@ returns-in_err-name-clause-missing c = λ rest e chars.
     let same : c.in-Some.start.now ≡ rest = same_others (sym c.in-Some.ensures ∙ e) in
     failed c.from_residual.result (λ y. OnBroken y (NoName rest)) x c.from_residual.ensures.1
     (broken_map x (NoName c.in-Some.start.now) (NoName rest) (subst NoName same) (c.in_err-name.ensures.missing (subst IsChars (sym same) chars)))
+
+pub returns-in_default-clause-ok : goal.returns-in_default-clause-ok
+returns-in_default-clause-ok c = tt
+
+pub returns-in_err-name-clause-ok : goal.returns-in_err-name-clause-ok
+returns-in_err-name-clause-ok c = failed_ok _ _ _ c.from_residual.ensures.1
+
+pub returns-clause-no : goal.returns-clause-no
+returns-clause-no c = tt
+
+pub returns-clause-begun : goal.returns-clause-begun
+returns-clause-begun c = λ rest e. tt
+
+pub returns-clause-missing : goal.returns-clause-missing
+returns-clause-missing c = λ rest e chars. tt

@@ -11,6 +11,7 @@ use Rattle.tc_stream.proofs.MissingLaws.{no_value_open}
 use Rattle.tc_stream.proofs.OpenLaws.{short_map, broken_map, value_kept_none, value_kept_more, no_quote_there, inside_chars}
 use Rattle.tc_stream.proofs.TagReadLaws.{stop_refuses, stop_stands, stop_malformed}
 use Rattle.tc_stream.proofs.ValueLaws.{piece_shorter, text_past_piece}
+use Rattle.tc_stream.proofs.FailedLaws.{failed_ok}
 use Rattle.tc_stream.proofs.tags.value_at.Goals as goal
 
 pub returns-in_default-clause-no : goal.returns-in_default-clause-no
@@ -115,3 +116,27 @@ returns-in_err-rest-clause-missing c = λ chars.
     failed c.from_residual.result (λ e. OnBroken e (NoQuoted t)) x c.from_residual.ensures.1
     (broken_map x (NoPiece c.in-Some.quote c.loop-after.rest.now) (NoQuoted t) (no_value_open c.in-Some.quote t c.in-Some.inside.now c.loop-after.rest.now c.in-Some.ensures.1 kept.stays)
     (c.in_err-rest.ensures.missing (kept.chars (inside_chars c.in-Some.quote t c.in-Some.inside.now c.in-Some.ensures.0 c.in-Some.ensures.1 chars)) c.in_default-after_byte.ensures))
+
+pub returns-in_default-clause-ok : goal.returns-in_default-clause-ok
+returns-in_default-clause-ok c = tt
+
+pub returns-in-Some-after_byte-clause-no : goal.returns-in-Some-after_byte-clause-no
+returns-in-Some-after_byte-clause-no c = tt
+
+pub returns-in-Some-after_byte-clause-stands : goal.returns-in-Some-after_byte-clause-stands
+returns-in-Some-after_byte-clause-stands c = tt
+
+pub returns-in-Some-after_byte-clause-malformed : goal.returns-in-Some-after_byte-clause-malformed
+returns-in-Some-after_byte-clause-malformed c = tt
+
+pub returns-in-Some-after_byte-clause-begun : goal.returns-in-Some-after_byte-clause-begun
+returns-in-Some-after_byte-clause-begun c = tt
+
+pub returns-in-Some-after_byte-clause-missing : goal.returns-in-Some-after_byte-clause-missing
+returns-in-Some-after_byte-clause-missing c = λ _. tt
+
+pub returns-in_err-rest-clause-ok : goal.returns-in_err-rest-clause-ok
+returns-in_err-rest-clause-ok c = failed_ok _ _ _ c.from_residual.ensures.1
+
+pub lacking-requires : goal.lacking-requires
+lacking-requires c = c.requires

@@ -1,4 +1,4 @@
-use Rattle.std.proofs.Common.{sym, ◌∙◌, length}
+use Rattle.std.proofs.Common.{sym, ◌∙◌, length, refl}
 use Rattle.std.specs.Prelude.{encode_utf8}
 use Rattle.tc_model.specs.XmlTextBytes.{line_ends}
 use Rattle.tc_model.specs.XmlTextReferences.{spaced}
@@ -32,3 +32,18 @@ returns-else-push_spaced-clause-piece c = λ piece rest a.
     no_room_for_piece c.args.names.now.most (length c.args.names.now.bytes.items)
     (plain (run_at c.args.quote c.plain_len_within-count.result c.args.text.now c.split_at.result.0.now c.split_at.result.1.now c.plain_len_within-count.ensures.count c.if-count-eq0.false c.split_at.ensures.front c.split_at.ensures.back))
     c.if-push_spaced.ensures.bytes piece rest a
+
+pub returns-then-push_char-clause-most : goal.returns-then-push_char-clause-most
+returns-then-push_char-clause-most c = c.push_char.ensures.most
+
+pub returns-else-push_char-clause-most : goal.returns-else-push_char-clause-most
+returns-else-push_char-clause-most c = c.push_char.ensures.most
+
+pub returns-in-Err-clause-most : goal.returns-in-Err-clause-most
+returns-in-Err-clause-most c = refl
+
+pub returns-then-push_spaced-clause-most : goal.returns-then-push_spaced-clause-most
+returns-then-push_spaced-clause-most c = c.push_spaced.ensures.most
+
+pub returns-else-push_spaced-clause-most : goal.returns-else-push_spaced-clause-most
+returns-else-push_spaced-clause-most c = c.push_spaced.ensures.most

@@ -56,3 +56,15 @@ returns-clause-bytes c =
     spaced_last c.push_str-2.result c.loop-at.names.bytes.items c.args.names.now.bytes.items (spaced (line_ends c.args.run.now)) rest c.push_str-2.new.self.bytes.items c.loop-at.names.most c.args.names.now.most
     (spaces_end rest (run_to_none (is_byte3 13 10 9) not_break c.as_bytes.result.now rest c.memchr3.result (λ b. refl) c.as_bytes.ensures.value c.memchr3.ensures c.in_default.is))
     c.loop-at.invariant.so_far c.loop-at.invariant.most c.push_str-2.ensures.bytes
+
+pub loop-at-init : goal.loop-at-init
+loop-at-init c = record { most = refl; so_far = refl; text = c.utf8.run }
+
+pub returns-then-not-push_str-clause-most : goal.returns-then-not-push_str-clause-most
+returns-then-not-push_str-clause-most c = c.push_str.ensures.most ∙ c.loop-at.invariant.most
+
+pub returns-then-not-push-clause-most : goal.returns-then-not-push-clause-most
+returns-then-not-push-clause-most c = c.push.ensures.most ∙ (c.push_str.ensures.most ∙ c.loop-at.invariant.most)
+
+pub returns-clause-most : goal.returns-clause-most
+returns-clause-most c = c.push_str-2.ensures.most ∙ c.loop-at.invariant.most

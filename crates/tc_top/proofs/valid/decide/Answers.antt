@@ -9,7 +9,8 @@ use Rattle.tc_answer.specs.Answers as a
 use Rattle.tc_top.specs.Causes.{passes, too_many_symbols, decides_valid, decides_invalid}
 use Rattle.tc_top.specs.Limits.{IsValidityWithin, passes_states}
 use Rattle.tc_top.proofs.MachineLimits.{within, few_states, many_states}
-use Rattle.tc_top.proofs.Nothing.{no_schema, no_rules, schema_alone}
+use Rattle.tc_top.specs.Nothing.{no_schema, no_rules}
+use Rattle.tc_top.proofs.Nothing.{schema_alone}
 use Rattle.tc_top.proofs.valid.decide.Goals as goal
 
 pub returns-in-Err-TooManyStates : goal.returns-in-Err-TooManyStates

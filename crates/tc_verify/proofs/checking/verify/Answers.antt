@@ -37,7 +37,7 @@ reject_of-requires-clause-places c =
     are_in c.args.machine.now c.args.cert.now c.requires.formed (λ x is. all_fit x c.shape.result c.args.cert.now (c.shape.ensures x is) c.in_default.ensures) (view_of c.in_ok-checker.checker) c.in_ok-checker.ensures.machine
     c.in_ok-checker.ensures.hedges c.in_ok-checker.ensures.trees c.requires.machine c.in-Err.broken c.in-Err.ensures.first
 
-pub returns-clause-cause : goal.returns-clause-cause
-returns-clause-cause c =
+pub returns-in-Err-clause-cause : goal.returns-in-Err-clause-cause
+returns-in-Err-clause-cause c =
     is_rejected c.args.machine.now c.args.cert.now c.requires.formed (λ x is. all_fit x c.shape.result c.args.cert.now (c.shape.ensures x is) c.in_default.ensures) (view_of c.in_ok-checker.checker) c.in_ok-checker.ensures.machine
     c.in_ok-checker.ensures.hedges c.in_ok-checker.ensures.trees c.in-Err.broken c.reject_of.result c.in-Err.ensures.first c.reject_of.ensures

@@ -1,4 +1,4 @@
-use Rattle.std.proofs.Common.{ℕ, List, subst}
+use Rattle.std.proofs.Common.{ℕ, List, subst, arith}
 use Rattle.tc_verify.specs.Listings.{HasMore}
 use Rattle.tc_beh.specs.declared.rooms.TRow.{TRow}
 use Rattle.tc_verify.specs.Rooms.{IsReadTree}
@@ -16,3 +16,6 @@ loop-place-preserved c =
     let all = one_read (λ (r : TRow). r.room.numbers.items) (IsReadTree c.args.machine.now c.args.cert.now) c.loop-place.rooms.items c.push.new.self.items c.read.new.self c.loop-place.place c.loop-place.lists c.keep.new.self c.in_ok-push.ensures.items
     c.loop-place.invariant.count c.loop-place.invariant.each row c.loop-place.invariant.held more in
     record { count = all.count; each = all.each; held = all.held }
+
+pub returns : goal.returns
+returns c = record { count = grind arith; each = c.loop-place.invariant.each; held = c.loop-place.invariant.held }

@@ -7,6 +7,7 @@ use Rattle.tc_model.specs.XmlTextRefusals.{AttributesRefuse}
 use Rattle.tc_xml.specs.Refusals.{Refuses, UnsupportedAt}
 use Rattle.tc_xml.specs.Tags.{written, lacks_space}
 use Rattle.tc_xml.proofs.FailedLaws.{failed_ok}
+use Rattle.tc_xml.proofs.MemoryLaws.{out_malformed, out_refuses, out_stands}
 use Rattle.tc_xml.proofs.ContentLaws.{attributes_more, no_attributes, all_attributes, attribute_within, failed, refuse_both, unsupported_map, Attributes}
 use Rattle.tc_xml.proofs.content.attributes.Goals as goal
 
@@ -60,3 +61,12 @@ returns-in_err-push-clause-ok c = failed_ok _ _ _ c.from_residual-in_err-push.en
 
 pub returns-in_err-push-clause-no_space : goal.returns-in_err-push-clause-no_space
 returns-in_err-push-clause-no_space c = failed_ok _ _ _ c.from_residual-in_err-push.ensures.1
+
+pub returns-in_err-push-clause-no : goal.returns-in_err-push-clause-no
+returns-in_err-push-clause-no c = out_refuses _ _ _ c.from_residual-in_err-push.ensures.1
+
+pub returns-in_err-push-clause-stands : goal.returns-in_err-push-clause-stands
+returns-in_err-push-clause-stands c = out_stands _ _ c.from_residual-in_err-push.ensures.1
+
+pub returns-in_err-push-clause-malformed : goal.returns-in_err-push-clause-malformed
+returns-in_err-push-clause-malformed c = out_malformed _ _ c.from_residual-in_err-push.ensures.1

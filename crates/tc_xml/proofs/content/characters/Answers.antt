@@ -5,6 +5,7 @@ use Rattle.tc_model.specs.XmlTextContent.{characters}
 use Rattle.tc_xml.specs.Refusals.{Refuses}
 use Rattle.tc_xml.specs.Reading.{LacksItem}
 use Rattle.tc_xml.proofs.FailedLaws.{failed_ok}
+use Rattle.tc_xml.proofs.MemoryLaws.{out_refuses, out_stands}
 use Rattle.tc_xml.proofs.ContentLaws.{failed, refuse_both}
 use Rattle.tc_xml.proofs.ItemLaws.{lacks_reference, lacks_characters, reference_item, data_item}
 use Rattle.tc_xml.proofs.content.characters.Goals as goal
@@ -41,3 +42,15 @@ returns-in_err-gather_character-clause-ok c = failed_ok _ _ _ c.from_residual-in
 
 pub returns-in_err-gather_characters-clause-ok : goal.returns-in_err-gather_characters-clause-ok
 returns-in_err-gather_characters-clause-ok c = failed_ok _ _ _ c.from_residual-in_err-gather_characters.ensures.1
+
+pub returns-in_err-gather_character-clause-no : goal.returns-in_err-gather_character-clause-no
+returns-in_err-gather_character-clause-no c = out_refuses _ _ _ c.from_residual-in_err-gather_character.ensures.1
+
+pub returns-in_err-gather_character-clause-stands : goal.returns-in_err-gather_character-clause-stands
+returns-in_err-gather_character-clause-stands c = out_stands _ _ c.from_residual-in_err-gather_character.ensures.1
+
+pub returns-in_err-gather_characters-clause-no : goal.returns-in_err-gather_characters-clause-no
+returns-in_err-gather_characters-clause-no c = out_refuses _ _ _ c.from_residual-in_err-gather_characters.ensures.1
+
+pub returns-in_err-gather_characters-clause-stands : goal.returns-in_err-gather_characters-clause-stands
+returns-in_err-gather_characters-clause-stands c = out_stands _ _ c.from_residual-in_err-gather_characters.ensures.1

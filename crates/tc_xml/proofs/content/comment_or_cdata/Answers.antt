@@ -3,6 +3,7 @@ use Rattle.tc_model.specs.Views.{place}
 use Rattle.tc_model.specs.XmlTextBytes.{line_ends}
 use Rattle.tc_model.specs.XmlTextContent.{nothing, characters, comment}
 use Rattle.tc_xml.proofs.FailedLaws.{failed_ok}
+use Rattle.tc_xml.proofs.MemoryLaws.{out_breaks}
 use Rattle.tc_xml.proofs.ItemLaws.{lacks_bang, cdata_item}
 use Rattle.tc_xml.proofs.content.comment_or_cdata.Goals as goal
 
@@ -22,3 +23,6 @@ returns-clause-ok c = (
 
 pub returns-in_err-gather_characters-clause-ok : goal.returns-in_err-gather_characters-clause-ok
 returns-in_err-gather_characters-clause-ok c = failed_ok _ _ _ c.from_residual.ensures.1
+
+pub returns-in_err-gather_characters-clause-no : goal.returns-in_err-gather_characters-clause-no
+returns-in_err-gather_characters-clause-no c = out_breaks _ _ c.from_residual.ensures.1

@@ -4,7 +4,8 @@ use Rattle.tc_model.specs.XmlTextBytes.{line_ends}
 use Rattle.tc_model.specs.XmlTextReferences.{spaced}
 use Rattle.tc_xml.specs.Values.{plain, reference}
 use Rattle.tc_xml.proofs.FailedLaws.{failed_ok}
-use Rattle.tc_xml.proofs.ValueLaws.{cut_after_plain, no_piece, run_at, err_refuses}
+use Rattle.tc_xml.proofs.MemoryLaws.{out_refuses, out_stands}
+use Rattle.tc_xml.proofs.ValueLaws.{cut_after_plain, no_piece, run_at, err_refuses, err_stands}
 use Rattle.tc_xml.proofs.references.push_piece.Goals as goal
 
 pub split_at-requires : goal.split_at-requires
@@ -33,3 +34,18 @@ returns-in_err-push-clause-ok c = failed_ok _ _ _ c.from_residual-in_err-push.en
 
 pub returns-in_err-push_spaced-clause-ok : goal.returns-in_err-push_spaced-clause-ok
 returns-in_err-push_spaced-clause-ok c = failed_ok _ _ _ c.from_residual-in_err-push_spaced.ensures.1
+
+pub returns-in_err-push-clause-no : goal.returns-in_err-push-clause-no
+returns-in_err-push-clause-no c = out_refuses _ _ _ c.from_residual-in_err-push.ensures.1
+
+pub returns-in_err-push-clause-stands : goal.returns-in_err-push-clause-stands
+returns-in_err-push-clause-stands c = out_stands _ _ c.from_residual-in_err-push.ensures.1
+
+pub returns-in_err-push_spaced-clause-no : goal.returns-in_err-push_spaced-clause-no
+returns-in_err-push_spaced-clause-no c = out_refuses _ _ _ c.from_residual-in_err-push_spaced.ensures.1
+
+pub returns-in_err-push_spaced-clause-stands : goal.returns-in_err-push_spaced-clause-stands
+returns-in_err-push_spaced-clause-stands c = out_stands _ _ c.from_residual-in_err-push_spaced.ensures.1
+
+pub returns-in_err-c-clause-stands : goal.returns-in_err-c-clause-stands
+returns-in_err-c-clause-stands c = err_stands c.from_residual.result c.in_err-c.field-0.0 _ _ c.from_residual.ensures.1 c.in_err-c.ensures.stands (λ why at h. h)

@@ -1,6 +1,6 @@
 use Rattle.std.proofs.Common.{◌≡◌, Bool, List, [], ◌∷◌, ◌||◌, map, refl, ap, ◌∙◌}
 use Rattle.std.specs.List.{list_any}
-use Rattle.tc_model.specs.Grammars.{ElementPattern, has_text, some_content_has_text}
+use Rattle.tc_model.specs.Grammars.{has_text, some_content_has_text}
 use Rattle.tc_model.specs.Views as see
 use Rattle.tc_model.specs.declared.grammar.ElemPat.{ElemPat}
 use Rattle.tc_auto.proofs.auto.Auto.has_text.Goals as goal

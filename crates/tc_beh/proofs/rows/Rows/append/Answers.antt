@@ -3,6 +3,7 @@ use Rattle.tc_model.specs.States.{input}
 use Rattle.tc_auto.specs.Stands.{Stands}
 use Rattle.tc_auto.specs.declared.auto.Auto.{Auto}
 use Rattle.tc_hedge.proofs.Bounds.{patterns_of}
+use Rattle.tc_beh.specs.Held.{Grows}
 use Rattle.tc_beh.specs.Rooms.{output_at}
 use Rattle.tc_beh.proofs.Holding.{on_err}
 use Rattle.tc_beh.proofs.Appends.{is_live, isnt_live, appended, refused}
@@ -141,3 +142,11 @@ returns-clause-room c = beside_then c.args.out.now.room c.put_kind.new.out c.put
 
 pub returns-in_err-put_append-clause-room : goal.returns-in_err-put_append-clause-room
 returns-in_err-put_append-clause-room c = beside_then c.args.out.now.room c.put_kind.new.out c.put_append.new.out c.put_kind.ensures.beside c.put_append.ensures.beside
+
+pub returns-clause-grows : goal.returns-clause-grows
+returns-clause-grows c = λ e.
+    let old = c.args.self.now.outputs in
+    let new = c.put_append.new.outputs in
+    let us = c.put_append.new.out.numbers.items in
+    let beside = c.put_append.ensures.beside in
+    subst (λ n. Grows old new (output_at c.put_append.new.out.flags us) n) (sym beside.entries) (subst (λ f. Grows old new (output_at f us) c.put_kind.new.out.entries) (sym beside.flags) c.in_ok-put_append.ensures.grows)

@@ -3,7 +3,8 @@ use Rattle.tc_model.specs.States.{input}
 use Rattle.tc_auto.specs.Stands.{Stands}
 use Rattle.tc_auto.specs.declared.auto.Auto.{Auto}
 use Rattle.tc_beh.specs.Above.{letter_of}
-use Rattle.tc_beh.specs.Rooms.{tree_layout, flag_at}
+use Rattle.tc_beh.specs.Held.{Grows}
+use Rattle.tc_beh.specs.Rooms.{tree_layout, flag_at, output_at}
 use Rattle.tc_beh.proofs.Holding.{on_err}
 use Rattle.tc_beh.proofs.Led.{leads_back, leads_kept}
 use Rattle.tc_beh.proofs.WrapRows.{text_letter, text_grounds, text_left_out, text_room, is_text_row, room_after, beside_then, rows_after}
@@ -102,3 +103,11 @@ pub returns-in_err-put_node-clause-room : goal.returns-in_err-put_node-clause-ro
 returns-in_err-put_node-clause-room c =
     beside_then c.args.out.now.room c.clear_flags.new.self c.put_node.new.out
     (beside_then c.args.out.now.room c.set_heads.new.self c.clear_flags.new.self c.set_heads.ensures.beside c.clear_flags.ensures.beside) c.put_node.ensures.beside
+
+pub returns-clause-grows : goal.returns-clause-grows
+returns-clause-grows c = λ e.
+    let old = c.args.self.now.outputs in
+    let new = c.put_node.new.outputs in
+    let us = c.put_node.new.out.numbers.items in
+    let beside = c.put_node.ensures.beside in
+    subst (λ n. Grows old new (output_at c.put_node.new.out.flags us) n) (sym beside.entries) (subst (λ f. Grows old new (output_at f us) c.clear_flags.new.self.entries) (sym beside.flags) c.in_ok-put_node.ensures.grows)

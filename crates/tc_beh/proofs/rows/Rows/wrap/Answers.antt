@@ -3,7 +3,8 @@ use Rattle.tc_hedge.proofs.Bounds.{patterns_of}
 use Rattle.tc_model.specs.States.{input}
 use Rattle.tc_beh.specs.Around.{PutsPatterns}
 use Rattle.tc_beh.specs.Above.{letter_of}
-use Rattle.tc_beh.specs.Rooms.{tree_layout}
+use Rattle.tc_beh.specs.Held.{Grows}
+use Rattle.tc_beh.specs.Rooms.{tree_layout, output_at}
 use Rattle.tc_beh.proofs.Holding.{on_err}
 use Rattle.tc_beh.proofs.Led.{leads_back, leads_kept}
 use Rattle.tc_beh.proofs.WrapRows.{wrap_letter, wrap_grounds, wrap_few, wrap_left_out, wrap_room, is_wrap, live_wrap, dead_wrap, patterns_kept, room_after, beside_then, rows_after}
@@ -131,3 +132,11 @@ put_patterns-requires-clause-symbol c =
     let low = c.requires.symbol x rows in
     let count = rows.machine.parts.contents.counted in
     omega (arith, low, count)
+
+pub returns-clause-grows : goal.returns-clause-grows
+returns-clause-grows c = λ e.
+    let old = c.args.self.now.outputs in
+    let new = c.put_node.new.outputs in
+    let us = c.put_node.new.out.numbers.items in
+    let beside = c.put_node.ensures.beside in
+    subst (λ n. Grows old new (output_at c.put_node.new.out.flags us) n) (sym beside.entries) (subst (λ f. Grows old new (output_at f us) c.set_heads.new.self.entries) (sym beside.flags) c.in_ok-put_node.ensures.grows)

@@ -187,3 +187,30 @@ returns-then-not-self-clause-grows g c = grows_self (held_of g.K.Over.is_of c.ar
 
 pub returns-then-is_dead_append-clause-grows : goal.returns-then-is_dead_append-clause-grows
 returns-then-is_dead_append-clause-grows g c = grows_self (held_of g.K.Over.is_of c.args.self.now)
+
+pub returns-in-Ok-false-clause-trees : goal.returns-in-Ok-false-clause-trees
+returns-in-Ok-false-clause-trees g c = ap (λ (s : RowState). length s.trees) c.self.view_is
+
+pub returns-in-Err-clause-trees : goal.returns-in-Err-clause-trees
+returns-in-Err-clause-trees g c = ap (λ (s : RowState). length s.trees) c.self.view_is
+
+pub returns-in-Err-clause-fault : goal.returns-in-Err-clause-fault
+returns-in-Err-clause-fault g c = (ap (λ (s : RowState). length s.trees) c.self.view_is, ap (λ (s : RowState). length s.hedges) c.self.view_is)
+
+pub returns-in_default-clause-trees : goal.returns-in_default-clause-trees
+returns-in_default-clause-trees g c = ap (λ (s : RowState). length s.trees) c.self.view_is
+
+pub returns-in_default-clause-fault : goal.returns-in_default-clause-fault
+returns-in_default-clause-fault g c = (ap (λ (s : RowState). length s.trees) c.self.view_is, ap length c.in_default.ensures.err ∙ ap (λ (s : RowState). length s.hedges) c.self.view_is)
+
+pub returns-clause-trees : goal.returns-clause-trees
+returns-clause-trees g c = ap (λ (s : RowState). length s.trees) c.self.view_is
+
+pub returns-then-not-self-clause-trees : goal.returns-then-not-self-clause-trees
+returns-then-not-self-clause-trees g c = refl
+
+pub returns-then-not-self-clause-fault : goal.returns-then-not-self-clause-fault
+returns-then-not-self-clause-fault g c = (refl, refl)
+
+pub returns-then-is_dead_append-clause-trees : goal.returns-then-is_dead_append-clause-trees
+returns-then-is_dead_append-clause-trees g c = refl

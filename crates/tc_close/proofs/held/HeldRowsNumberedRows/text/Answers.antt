@@ -1,6 +1,6 @@
-use Rattle.std.proofs.Common.{◌≡◌, ◌⊎◌, ◌++◌, ◌∷◌, [], ℕ, List, length, true, false, slice_get, Some, Err, subst, sym, ap, ◌∙◌}
+use Rattle.std.proofs.Common.{◌≡◌, ◌⊎◌, ◌++◌, ◌∷◌, [], ℕ, List, length, true, false, slice_get, Some, Err, subst, sym, ap, ◌∙◌, refl}
 use Rattle.tc_settle.specs.Held.{IsHeldAs, Grows}
-use Rattle.tc_close.specs.RowState.{held_of}
+use Rattle.tc_close.specs.RowState.{RowState, held_of}
 use Rattle.tc_close.specs.HeldRows.{state_of, AreHeld}
 use Rattle.tc_close.proofs.Growing.{Keeps, keeps, grows_self}
 use Rattle.tc_close.proofs.Holding.{Worked, whole_held, whole_state, same_room, are_rows, refused, grows_as, grows_tree, tree_came, new_tree_parted, full_text, made_text, dead}
@@ -119,3 +119,27 @@ returns-clause-made g c =
 -- a row was refused before
 pub returns-then-not-self-clause-grows : goal.returns-then-not-self-clause-grows
 returns-then-not-self-clause-grows g c = grows_self (held_of g.K.Over.is_of c.args.self.now)
+
+pub returns-in-Ok-false-clause-hedges : goal.returns-in-Ok-false-clause-hedges
+returns-in-Ok-false-clause-hedges g c = ap (λ (s : RowState). length s.hedges) c.self.view_is
+
+pub returns-in-Err-clause-hedges : goal.returns-in-Err-clause-hedges
+returns-in-Err-clause-hedges g c = ap (λ (s : RowState). length s.hedges) c.self.view_is
+
+pub returns-in-Err-clause-fault : goal.returns-in-Err-clause-fault
+returns-in-Err-clause-fault g c = (ap (λ (s : RowState). length s.trees) c.self.view_is, ap (λ (s : RowState). length s.hedges) c.self.view_is)
+
+pub returns-in_default-clause-hedges : goal.returns-in_default-clause-hedges
+returns-in_default-clause-hedges g c = ap (λ (s : RowState). length s.hedges) c.self.view_is
+
+pub returns-in_default-clause-fault : goal.returns-in_default-clause-fault
+returns-in_default-clause-fault g c = (ap length c.in_default.ensures.err ∙ ap (λ (s : RowState). length s.trees) c.self.view_is, ap (λ (s : RowState). length s.hedges) c.self.view_is)
+
+pub returns-clause-hedges : goal.returns-clause-hedges
+returns-clause-hedges g c = ap (λ (s : RowState). length s.hedges) c.self.view_is
+
+pub returns-then-not-self-clause-hedges : goal.returns-then-not-self-clause-hedges
+returns-then-not-self-clause-hedges g c = refl
+
+pub returns-then-not-self-clause-fault : goal.returns-then-not-self-clause-fault
+returns-then-not-self-clause-fault g c = (refl, refl)

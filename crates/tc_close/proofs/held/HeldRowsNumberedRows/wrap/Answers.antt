@@ -170,3 +170,30 @@ returns-then-not-self-clause-grows g c = grows_self (held_of g.K.Over.is_of c.ar
 
 pub returns-then-is_dead_wrap-clause-grows : goal.returns-then-is_dead_wrap-clause-grows
 returns-then-is_dead_wrap-clause-grows g c = grows_self (held_of g.K.Over.is_of c.args.self.now)
+
+pub returns-in-Ok-false-clause-hedges : goal.returns-in-Ok-false-clause-hedges
+returns-in-Ok-false-clause-hedges g c = ap (λ (s : RowState). length s.hedges) c.self.view_is
+
+pub returns-in-Err-clause-hedges : goal.returns-in-Err-clause-hedges
+returns-in-Err-clause-hedges g c = ap (λ (s : RowState). length s.hedges) c.self.view_is
+
+pub returns-in-Err-clause-fault : goal.returns-in-Err-clause-fault
+returns-in-Err-clause-fault g c = (ap (λ (s : RowState). length s.trees) c.self.view_is, ap (λ (s : RowState). length s.hedges) c.self.view_is)
+
+pub returns-in_default-clause-hedges : goal.returns-in_default-clause-hedges
+returns-in_default-clause-hedges g c = ap (λ (s : RowState). length s.hedges) c.self.view_is
+
+pub returns-in_default-clause-fault : goal.returns-in_default-clause-fault
+returns-in_default-clause-fault g c = (ap length c.in_default.ensures.err ∙ ap (λ (s : RowState). length s.trees) c.self.view_is, ap (λ (s : RowState). length s.hedges) c.self.view_is)
+
+pub returns-clause-hedges : goal.returns-clause-hedges
+returns-clause-hedges g c = ap (λ (s : RowState). length s.hedges) c.self.view_is
+
+pub returns-then-not-self-clause-hedges : goal.returns-then-not-self-clause-hedges
+returns-then-not-self-clause-hedges g c = refl
+
+pub returns-then-not-self-clause-fault : goal.returns-then-not-self-clause-fault
+returns-then-not-self-clause-fault g c = (refl, refl)
+
+pub returns-then-is_dead_wrap-clause-hedges : goal.returns-then-is_dead_wrap-clause-hedges
+returns-then-is_dead_wrap-clause-hedges g c = refl

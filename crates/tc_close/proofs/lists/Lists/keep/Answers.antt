@@ -1,4 +1,4 @@
-use Rattle.std.proofs.Common.{◌≡◌, ◌++◌, ◌∷◌, [], Some, slice_get, length, map, List, ℕ, ap, sym, ◌∙◌, subst}
+use Rattle.std.proofs.Common.{◌≡◌, ◌++◌, ◌∷◌, [], inr, Some, slice_get, length, map, List, ℕ, ap, sym, ◌∙◌, subst}
 use Rattle.std.specs.List.{Contains}
 use Rattle.std.proofs.lemmas.List.{length-map}
 use Rattle.tc_close.proofs.Keys.{last_at, grown}
@@ -20,3 +20,8 @@ returns-clause-place c =
     let ns = c.args.numbers.now in
     let k : c.len-place.result ≡ length old = c.len-place.ensures.len ∙ (sym (length-map c.self.inside.keys.keys (λ v. v.items)) ∙ ap length c.self.view_is) in
     subst (λ (l : List (List ℕ)). slice_get l c.len-place.result ≡ Some ns) (sym (last c)) (subst (λ n. slice_get (old ++ ns ∷ []) n ≡ Some ns) (sym k) (last_at ns old))
+
+pub returns-clause-grows : goal.returns-clause-grows
+returns-clause-grows c =
+    let k : c.len-place.result ≡ length c.args.self.now = c.len-place.ensures.len ∙ (sym (length-map c.self.inside.keys.keys (λ v. v.items)) ∙ ap length c.self.view_is) in
+    inr (k, last c)

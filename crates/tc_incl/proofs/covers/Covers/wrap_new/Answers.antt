@@ -1,15 +1,21 @@
-use Rattle.std.proofs.Common.{◌≡◌, ◌<◌, subst, sym, ◌∙◌, ap, refl, length, MatchOption, Some, slice_get}
+use Rattle.std.proofs.Common.{◌≡◌, ◌<◌, subst, sym, ◌∙◌, ap, refl, length, MatchOption, Some, slice_get, Result, Ok, Err, OnErr}
+use Rattle.std.specs.List.{All}
+use Rattle.std.proofs.lemmas.List.{length-map}
 use Rattle.std.proofs.lemmas.Option.{slice_get-get_or}
 use Rattle.tc_incl.specs.declared.rows.Row.{Row}
 use Rattle.tc_incl.specs.declared.steps.BothSteps.{BothSteps}
 use Rattle.tc_incl.specs.Covers.{AreHeld, State, held_of, state_of}
-use Rattle.tc_incl.specs.Held.{IsTreeFit, IsWrapped, NoWrapped}
+use Rattle.tc_incl.specs.Held.{IsHedgeFit, IsTreeFit, IsWrapped, NoWrapped, tree_row}
 use Rattle.tc_incl.specs.Stepped.{AreStepped}
 use Rattle.tc_incl.specs.Wraps.{AreKnown}
 use Rattle.tc_incl.proofs.Alike.{known_on}
 use Rattle.tc_incl.proofs.Holding.{as_tree, hedge_fit_at, hedge_low, more_trees, no_wrap_at, same_trees, tree_grows, tree_held, wrap_at}
 use Rattle.tc_incl.proofs.Stepped.{stepped_at}
 use Rattle.tc_incl.proofs.covers.Covers.wrap_new.Goals as goal
+
+on_err : {T E X : Type 0} (r : Result T E) → X → OnErr r X
+on_err (Ok t) x = tt
+on_err (Err e) x = x
 
 pub step_to-requires-clause-hedge : goal.step_to-requires-clause-hedge
 step_to-requires-clause-hedge g c =
@@ -122,3 +128,71 @@ returns-clause-made g c =
     let fit = hedge_fit_at b hs c.args.hedge p there c.self.invariant.0.hedges_fit in
     let fact : IsTreeFit b c.in-Some.row × IsWrapped b c.args.symbol p c.in-Some.row = subst (λ o. MatchOption o (NoWrapped b c.args.symbol p) (λ (r : Row). IsTreeFit b r × IsWrapped b c.args.symbol p r)) c.in-Some.is (c.in_ok-made.ensures.made p fit are) in
     (wrap_at of b hs ts c.self.invariant.0 ks u c.in-Some.row held.held held.kept c.args.symbol c.args.hedge p there fact.1, as_tree of b hs ts c.self.invariant.0 c.args.self.now c.self.view_is ks u c.in-Some.row held.held held.kept)
+
+pub step_to-requires-clause-fit : goal.step_to-requires-clause-fit
+step_to-requires-clause-fit g c =
+    subst (λ l. All (IsHedgeFit c.self.inside.both) l) (sym c.as_slice.ensures.keys) c.self.invariant.0.hedges_fit
+
+pub step_to-requires-clause-stepped : goal.step_to-requires-clause-stepped
+step_to-requires-clause-stepped g c =
+    subst (λ w. AreStepped c.self.inside.both w c.self.inside.steps.items) (sym c.as_slice.ensures.keys) c.self.invariant.1
+
+pub invariant_of-self : goal.invariant_of-self
+invariant_of-self g c =
+    (c.self.invariant.0, subst (λ w. AreStepped c.self.inside.both w c.step_to.new.steps.items) c.as_slice.ensures.keys c.in_err-step_to.ensures.stepped, c.self.invariant.2)
+
+pub invariant_of-self-in_err-made : goal.invariant_of-self-in_err-made
+invariant_of-self-in_err-made g c =
+    (c.self.invariant.0, subst (λ w. AreStepped c.self.inside.both w c.step_to.new.steps.items) c.as_slice.ensures.keys c.in_ok-step_to.ensures.stepped, c.self.invariant.2)
+
+pub invariant_of-self-in_default : goal.invariant_of-self-in_default
+invariant_of-self-in_default g c =
+    (c.self.invariant.0, subst (λ w. AreStepped c.self.inside.both w c.step_to.new.steps.items) c.as_slice.ensures.keys c.in_ok-step_to.ensures.stepped, c.self.invariant.2)
+
+pub returns-in_err-step_to-clause-hedges : goal.returns-in_err-step_to-clause-hedges
+returns-in_err-step_to-clause-hedges g c =
+    ap (λ (s : State). length s.hedges) c.self.view_is
+
+pub returns-in_err-made-clause-hedges : goal.returns-in_err-made-clause-hedges
+returns-in_err-made-clause-hedges g c =
+    ap (λ (s : State). length s.hedges) c.self.view_is
+
+pub returns-in_err-number-clause-hedges : goal.returns-in_err-number-clause-hedges
+returns-in_err-number-clause-hedges g c =
+    ap (λ (s : State). length s.hedges) c.self.view_is
+
+pub returns-in_default-clause-hedges : goal.returns-in_default-clause-hedges
+returns-in_default-clause-hedges g c =
+    ap (λ (s : State). length s.hedges) c.self.view_is
+
+pub returns-clause-hedges : goal.returns-clause-hedges
+returns-clause-hedges g c =
+    ap (λ (s : State). length s.hedges) c.self.view_is
+
+pub returns-in_err-step_to-clause-fault : goal.returns-in_err-step_to-clause-fault
+returns-in_err-step_to-clause-fault g c =
+    on_err c.from_residual.result (ap (λ (s : State). length s.trees) c.self.view_is, ap (λ (s : State). length s.hedges) c.self.view_is)
+
+pub returns-in_err-made-clause-fault : goal.returns-in_err-made-clause-fault
+returns-in_err-made-clause-fault g c =
+    on_err c.from_residual-in_err-made.result (ap (λ (s : State). length s.trees) c.self.view_is, ap (λ (s : State). length s.hedges) c.self.view_is)
+
+pub returns-in_err-number-clause-fault : goal.returns-in_err-number-clause-fault
+returns-in_err-number-clause-fault g c =
+    on_err c.from_residual-in_err-number.result (ap (λ ks. length (state_of c.self.inside.both c.self.inside.hedges.keys ks).trees) c.in_err-number.ensures.err ∙ ap (λ (s : State). length s.trees) c.self.view_is, ap (λ (s : State). length s.hedges) c.self.view_is)
+
+pub returns-in_default-clause-fault : goal.returns-in_default-clause-fault
+returns-in_default-clause-fault g c =
+    tt
+
+pub returns-clause-fault : goal.returns-clause-fault
+returns-clause-fault g c =
+    tt
+
+pub wrapped-requires-clause-symbol : goal.wrapped-requires-clause-symbol
+wrapped-requires-clause-symbol g c =
+    subst (λ (s : State). c.args.symbol < s.symbols) (sym c.self.view_is) c.requires.symbol
+
+pub hold-requires : goal.hold-requires
+hold-requires g c =
+    record { room = subst (λ n. n < 4294967295) (length-map c.self.inside.trees.keys tree_row) (subst (λ (s : State). length s.trees < 4294967295) (sym c.self.view_is) c.requires.room) }

@@ -1,6 +1,7 @@
-use Rattle.std.proofs.Common.{◌≡◌, ◌*◌, ap, length, sym, ◌∙◌}
+use Rattle.std.proofs.Common.{◌≡◌, ◌*◌, ℕ, List, ap, length, subst, sym, ◌∙◌, rules}
 use Rattle.tc_mat.specs.Matrix.{Matrix, words_a_row}
-use Rattle.tc_mat.proofs.Composed.{composed_back}
+use Rattle.tc_mat.specs.Product.{IsPadded}
+use Rattle.tc_mat.proofs.Composed.{composed_back, composed_whole, is_padded}
 use Rattle.tc_mat.proofs.matrices.Mat.mul_into.Goals as goal
 
 pub returns-clause-pairs : goal.returns-clause-pairs
@@ -27,3 +28,26 @@ multiply-requires-clause-right c =
 
 pub multiply-requires-clause-room : goal.multiply-requires-clause-room
 multiply-requires-clause-room c = ap length c.as_mut_slice.ensures.value ∙ c.out.invariant.whole
+
+pub multiply-requires-clause-padded : goal.multiply-requires-clause-padded
+multiply-requires-clause-padded c =
+    let size = λ (m : Matrix). m.size in
+    let same : c.a.inside.n ≡ c.out.inside.n = ap size c.a.view_is ∙ (c.requires.left ∙ sym (ap size c.out.view_is)) in
+    subst (λ (n : ℕ). IsPadded n c.as_slice.result.now) same
+    (subst (λ (ws : List ℕ). IsPadded c.a.inside.n ws) (sym c.as_slice.ensures.value) (is_padded c.a.inside.n c.a.inside.rows.items c.a.invariant))
+
+pub invariant_of-out : goal.invariant_of-out
+invariant_of-out c =
+    let size = λ (m : Matrix). m.size in
+    let out : c.args.out.now.size ≡ c.out.inside.n = sym (ap size c.out.view_is) in
+    composed_whole c.out.inside.n c.a.inside.n c.b.inside.n c.out.inside.rows.len c.a.inside.rows.items c.b.inside.rows.items
+    c.as_slice.result.now c.as_slice-2.result.now c.out.inside.rows.items c.as_mut_slice.result.now c.multiply.new.out
+    (ap size c.a.view_is ∙ (c.requires.left ∙ out)) (ap size c.b.view_is ∙ (c.requires.right ∙ out))
+    c.as_slice.ensures.value c.as_slice-2.ensures.value c.a.invariant c.b.invariant
+    c.as_mut_slice.ensures.value c.as_mut_slice.ensures.len c.multiply.auto.out c.out.invariant.whole c.multiply.ensures
+
+pub returns-clause-matrix : goal.returns-clause-matrix
+returns-clause-matrix c = invariant_of-out c
+
+pub returns-clause-size : goal.returns-clause-size
+returns-clause-size c = search rules

@@ -1,4 +1,4 @@
-use Rattle.std.proofs.Common.{◌≡◌, ◌∙◌, ap, sym, subst, List, ◌++◌, ◌∷◌, [], slice_get, length, ◌+◌, arith}
+use Rattle.std.proofs.Common.{◌≡◌, ◌∙◌, ap, sym, subst, List, ◌++◌, ◌∷◌, [], slice_get, length, ◌+◌, arith, rules}
 use Rattle.std.proofs.lemmas.List.{length_push}
 use Rattle.std.proofs.lemmas.List.Elements.{All-same, All-push}
 use Rattle.tc_mat.specs.Matrix.{Matrix, IsMatrix}
@@ -35,3 +35,6 @@ invariant_of-self-2 c =
     let fits : Fits c.args.mat.now = (size, subst IsMatrix c.in-Ok.ensures.same c.in-Ok.ensures.matrix) in
     let count : length c.insert.new.self.keys ≡ length keys + 1 = ap length (last c) ∙ length_push keys c.args.mat.now in
     (omega (arith, c.len-id.ensures.len), All-same Fits c.insert.new.self.keys (keys ++ c.args.mat.now ∷ []) (last c) (All-push Fits keys c.args.mat.now c.self.invariant.1 fits))
+
+pub returns-then-id-ge-MOST-clause-full : goal.returns-then-id-ge-MOST-clause-full
+returns-then-id-ge-MOST-clause-full c = search rules

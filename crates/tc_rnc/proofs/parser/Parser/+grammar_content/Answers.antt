@@ -3,6 +3,7 @@ use Rattle.tc_model.specs.CompactSyntaxStops as st
 use Rattle.tc_rnc.specs.Scopes.{scope_of}
 use Rattle.tc_rnc.specs.Views as seen
 use Rattle.tc_rnc.proofs.RefusalLaws.{refuses_map, passed, passes, map_ok}
+use Rattle.tc_rnc.proofs.UnreadLaws.{unread_ok}
 use Rattle.tc_rnc.proofs.PatternLaws.{opening_block}
 use Rattle.tc_rnc.proofs.DefinitionLaws as l
 use Rattle.tc_rnc.proofs.parser.Parser.+grammar_content.Goals as goal
@@ -59,3 +60,12 @@ grammar_content-returns-in-Some-clause-ok t c =
 
 pub grammar_content-returns-in-Some-clause-no : goal.grammar_content-returns-in-Some-clause-no
 grammar_content-returns-in-Some-clause-no t c = passes c.braced_definitions.result c.braced_definitions.ensures.no (λ x y. l.div_stops c.in-Some.ensures y)
+
+pub braced_definitions-returns-in_err-inside-clause-ok : goal.braced_definitions-returns-in_err-inside-clause-ok
+braced_definitions-returns-in_err-inside-clause-ok t c = unread_ok _ _ _ c.from_residual.ensures.1
+
+pub braced_definitions-returns-in_err-closing-clause-ok : goal.braced_definitions-returns-in_err-closing-clause-ok
+braced_definitions-returns-in_err-closing-clause-ok t c = unread_ok _ _ _ c.from_residual-in_err-closing.ensures.1
+
+pub definitions-returns-in_err-after-clause-ok : goal.definitions-returns-in_err-after-clause-ok
+definitions-returns-in_err-after-clause-ok t c = unread_ok _ _ _ c.from_residual.ensures.1

@@ -9,6 +9,7 @@ use Rattle.tc_rnc.specs.Stops.{within, unclosed}
 use Rattle.tc_rnc.specs.Scopes.{scope_of}
 use Rattle.tc_rnc.specs.Views as seen
 use Rattle.tc_rnc.proofs.RefusalLaws.{refuses_map, passed, passes, unmade, unmade_by, map_ok, at_some, at_none}
+use Rattle.tc_rnc.proofs.UnreadLaws.{unread_ok}
 use Rattle.tc_rnc.proofs.ClassLaws as l
 use Rattle.tc_rnc.proofs.Views.{see_name, see_ns, see_any, see_one_of}
 use Rattle.tc_rnc.proofs.parser.Parser.+name_class.Goals as goal
@@ -158,3 +159,36 @@ simple_name_class-returns-in-None-clause-no t c =
 pub name_classes-returns-in_err-push-clause-no : goal.name_classes-returns-in_err-push-clause-no
 name_classes-returns-in_err-push-clause-no t c =
     unmade _ _ c.from_residual-in_err-push.ensures.1
+
+pub name_class-returns-in_err-first-clause-ok : goal.name_class-returns-in_err-first-clause-ok
+name_class-returns-in_err-first-clause-ok t c = unread_ok _ _ _ c.from_residual.ensures.1
+
+pub name_class-returns-in_err-all-clause-ok : goal.name_class-returns-in_err-all-clause-ok
+name_class-returns-in_err-all-clause-ok t c = unread_ok _ _ _ c.from_residual-in_err-all.ensures.1
+
+pub name_classes-returns-in_err-all-clause-ok : goal.name_classes-returns-in_err-all-clause-ok
+name_classes-returns-in_err-all-clause-ok t c = unread_ok _ _ _ c.from_residual.ensures.1
+
+pub name_classes-returns-in_err-next-clause-ok : goal.name_classes-returns-in_err-next-clause-ok
+name_classes-returns-in_err-next-clause-ok t c = unread_ok _ _ _ c.from_residual-in_err-next.ensures.1
+
+pub closed_name_class-returns-in_err-inner-clause-ok : goal.closed_name_class-returns-in_err-inner-clause-ok
+closed_name_class-returns-in_err-inner-clause-ok t c = unread_ok _ _ _ c.from_residual.ensures.1
+
+pub except_name_class-returns-in_err-class-clause-ok : goal.except_name_class-returns-in_err-class-clause-ok
+except_name_class-returns-in_err-class-clause-ok t c = unread_ok _ _ _ c.from_residual.ensures.1
+
+pub except_name_class-returns-in_err-classes-clause-ok : goal.except_name_class-returns-in_err-classes-clause-ok
+except_name_class-returns-in_err-classes-clause-ok t c = unread_ok _ _ _ c.from_residual-in_err-classes.ensures.1
+
+pub simple_name_class-returns-in_err-excepted-clause-ok : goal.simple_name_class-returns-in_err-excepted-clause-ok
+simple_name_class-returns-in_err-excepted-clause-ok t c = unread_ok _ _ _ c.from_residual.ensures.1
+
+pub simple_name_class-returns-in_err-excepted-2-clause-ok : goal.simple_name_class-returns-in_err-excepted-2-clause-ok
+simple_name_class-returns-in_err-excepted-2-clause-ok t c = unread_ok _ _ _ c.from_residual-in_err-excepted-2.ensures.1
+
+pub simple_name_class-returns-in_err-name-clause-ok : goal.simple_name_class-returns-in_err-name-clause-ok
+simple_name_class-returns-in_err-name-clause-ok t c = unread_ok _ _ _ c.from_residual-in_err-name.ensures.1
+
+pub name_classes-returns-in_err-push-clause-ok : goal.name_classes-returns-in_err-push-clause-ok
+name_classes-returns-in_err-push-clause-ok t c = unread_ok _ _ _ c.from_residual-in_err-push.ensures.1

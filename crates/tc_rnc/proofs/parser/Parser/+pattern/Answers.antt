@@ -13,6 +13,7 @@ use Rattle.tc_rnc.specs.Scopes.{scope_of}
 use Rattle.tc_rnc.specs.Views as seen
 use Rattle.tc_rnc.specs.declared.syntax.SPat.{SPat}
 use Rattle.tc_rnc.proofs.RefusalLaws.{refuses_map, passed, passes, unmade, unmade_by, at_some, at_none, map_ok}
+use Rattle.tc_rnc.proofs.UnreadLaws.{unread_ok}
 use Rattle.tc_rnc.proofs.PatternLaws as q
 use Rattle.tc_rnc.proofs.ItemLaws as l
 use Rattle.tc_rnc.proofs.Views as v
@@ -203,3 +204,51 @@ mixed-returns-in_err-content-clause-no t c =
 pub primary-no_pattern-requires : goal.primary-no_pattern-requires
 primary-no_pattern-requires t c =
     (subst BeginsNoneRead (sym c.in-Some.ensures) c.in-Other.ensures)
+
+pub element-returns-in_err-names-clause-ok : goal.element-returns-in_err-names-clause-ok
+element-returns-in_err-names-clause-ok t c = unread_ok _ _ _ c.from_residual.ensures.1
+
+pub element-returns-in_err-content-clause-ok : goal.element-returns-in_err-content-clause-ok
+element-returns-in_err-content-clause-ok t c = unread_ok _ _ _ c.from_residual-in_err-content.ensures.1
+
+pub element-returns-in_err-content-2-clause-ok : goal.element-returns-in_err-content-2-clause-ok
+element-returns-in_err-content-2-clause-ok t c = unread_ok _ _ _ c.from_residual-in_err-content-2.ensures.1
+
+pub enclosed-returns-in_err-inside-clause-ok : goal.enclosed-returns-in_err-inside-clause-ok
+enclosed-returns-in_err-inside-clause-ok t c = unread_ok _ _ _ c.from_residual.ensures.1
+
+pub enclosed-returns-in_err-inner-clause-ok : goal.enclosed-returns-in_err-inner-clause-ok
+enclosed-returns-in_err-inner-clause-ok t c = unread_ok _ _ _ c.from_residual-in_err-inner.ensures.1
+
+pub particle-returns-in_err-inner-clause-ok : goal.particle-returns-in_err-inner-clause-ok
+particle-returns-in_err-inner-clause-ok t c = unread_ok _ _ _ c.from_residual.ensures.1
+
+pub particle-returns-in_err-whole-clause-ok : goal.particle-returns-in_err-whole-clause-ok
+particle-returns-in_err-whole-clause-ok t c = unread_ok _ _ _ c.from_residual-in_err-whole.ensures.1
+
+pub particles-returns-in_err-all-clause-ok : goal.particles-returns-in_err-all-clause-ok
+particles-returns-in_err-all-clause-ok t c = unread_ok _ _ _ c.from_residual.ensures.1
+
+pub particles-returns-in_err-next-clause-ok : goal.particles-returns-in_err-next-clause-ok
+particles-returns-in_err-next-clause-ok t c = unread_ok _ _ _ c.from_residual-in_err-next.ensures.1
+
+pub particles-returns-in_err-behind-clause-ok : goal.particles-returns-in_err-behind-clause-ok
+particles-returns-in_err-behind-clause-ok t c = unread_ok _ _ _ c.from_residual-in_err-behind.ensures.1
+
+pub mixed-returns-in_err-content-2-clause-ok : goal.mixed-returns-in_err-content-2-clause-ok
+mixed-returns-in_err-content-2-clause-ok t c = unread_ok _ _ _ c.from_residual-in_err-content-2.ensures.1
+
+pub pattern-returns-in_err-first-clause-ok : goal.pattern-returns-in_err-first-clause-ok
+pattern-returns-in_err-first-clause-ok t c = unread_ok _ _ _ c.from_residual.ensures.1
+
+pub pattern-returns-in_err-all-clause-ok : goal.pattern-returns-in_err-all-clause-ok
+pattern-returns-in_err-all-clause-ok t c = unread_ok _ _ _ c.from_residual-in_err-all.ensures.1
+
+pub primary-returns-in_err-after-in-Attribute-clause-ok : goal.primary-returns-in_err-after-in-Attribute-clause-ok
+primary-returns-in_err-after-in-Attribute-clause-ok t c = unread_ok _ _ _ c.from_residual.ensures.1
+
+pub primary-returns-in_err-found-in-Reference-clause-ok : goal.primary-returns-in_err-found-in-Reference-clause-ok
+primary-returns-in_err-found-in-Reference-clause-ok t c = unread_ok _ _ _ c.from_residual-in_err-found-in-Reference.ensures.1
+
+pub mixed-returns-in_err-content-clause-ok : goal.mixed-returns-in_err-content-clause-ok
+mixed-returns-in_err-content-clause-ok t c = unread_ok _ _ _ c.from_residual.ensures.1

@@ -1,6 +1,7 @@
 use Rattle.tc_rnc.specs.Blocks.{assigned}
 use Rattle.tc_rnc.specs.Stops.{no_operator, body}
 use Rattle.tc_rnc.proofs.RefusalLaws.{refuses_map, passed}
+use Rattle.tc_rnc.proofs.UnreadLaws.{unread_ok}
 use Rattle.tc_rnc.proofs.parser.Parser.assigned.Goals as goal
 
 pub returns-in_default-clause-no : goal.returns-in_default-clause-no
@@ -11,3 +12,6 @@ returns-in_err-body-clause-no c = passed _ _ c.from_residual.ensures.1 c.in_err-
 
 pub returns-clause-ok : goal.returns-clause-ok
 returns-clause-ok c = assigned c.in-Some.ensures c.in_ok-body.ensures.ok
+
+pub returns-in_err-body-clause-ok : goal.returns-in_err-body-clause-ok
+returns-in_err-body-clause-ok c = unread_ok _ _ _ c.from_residual.ensures.1

@@ -6,6 +6,7 @@ use Rattle.tc_model.specs.Views.{place}
 use Rattle.tc_rnc.specs.Scopes.{scope_of}
 use Rattle.tc_rnc.specs.Views as seen
 use Rattle.tc_rnc.proofs.RefusalLaws.{refuses_map, passed, unmade, unmade_by}
+use Rattle.tc_rnc.proofs.UnreadLaws.{unread_ok}
 use Rattle.tc_rnc.proofs.DefinitionLaws.{not_ended, assigned_stops, a_definition, pushed}
 use Rattle.tc_rnc.proofs.parser.Parser.definition.Goals as goal
 
@@ -41,3 +42,12 @@ returns-clause-ok c = (
   a_definition (scope_of c.args.self.now.scope) c.args.deepest (seen.token c.in-Some.first.now) (seen.tokens c.args.tokens.now) (seen.tokens c.in-Some.rest.now) (seen.tokens c.in_ok-joins.after.now) c.in-Some-defined_name.name.now
       (seen.joins c.in_ok-joins.joins) (seen.pattern c.in_ok-joins.body) c.in-Some.ensures c.in-Some-defined_name.ensures c.in_ok-joins.ensures.ok,
 )
+
+pub returns-in_err-joins-clause-ok : goal.returns-in_err-joins-clause-ok
+returns-in_err-joins-clause-ok c = unread_ok _ _ _ c.from_residual.ensures.1
+
+pub returns-in_err-def-clause-ok : goal.returns-in_err-def-clause-ok
+returns-in_err-def-clause-ok c = unread_ok _ _ _ c.from_residual-in_err-def.ensures.1
+
+pub returns-in_err-push-clause-ok : goal.returns-in_err-push-clause-ok
+returns-in_err-push-clause-ok c = unread_ok _ _ _ c.from_residual-in_err-push.ensures.1

@@ -3,6 +3,7 @@ use Rattle.tc_model.specs.CompactSyntaxStops.{in_grammar, inner_grammar}
 use Rattle.tc_rnc.specs.Refusals.{unsupported}
 use Rattle.tc_rnc.specs.Views as seen
 use Rattle.tc_rnc.proofs.RefusalLaws.{refuses_map, passed, more}
+use Rattle.tc_rnc.proofs.UnreadLaws.{unread_ok}
 use Rattle.tc_rnc.proofs.TopLaws as l
 use Rattle.tc_rnc.proofs.parser.Parser.whole_grammar.Goals as goal
 
@@ -25,3 +26,6 @@ returns-clause-ok c =
     let (es, is, m) = c.in_ok-after.ensures.ok in
     l.block_whole 2000 (seen.token c.args.word.now) (seen.tokens c.args.rest.now) (seen.tokens c.in_ok-after.after.now) es (map seen.definition c.into_bump_slice.result.now) c.requires m c.in_default.ensures
     (ap (map seen.definition) c.into_bump_slice.ensures ∙ (is ∙ ap (λ z. map seen.definition z ++ es) c.new-defs.ensures.items))
+
+pub returns-in_err-after-clause-ok : goal.returns-in_err-after-clause-ok
+returns-in_err-after-clause-ok c = unread_ok _ _ _ c.from_residual.ensures.1

@@ -2,6 +2,7 @@ use Rattle.std.proofs.Common.{◌≡◌, ◌+◌, inl, refl, arith, sym, ◌∙�
 use Rattle.tc_stream.specs.Reading.{FaultsOn}
 use Rattle.tc_stream.proofs.DataReads.{at_front, at_front_less, begun_text, begun_text_faults, cut_at_mark}
 use Rattle.tc_stream.proofs.ReadingLaws.{failed}
+use Rattle.tc_stream.proofs.FailedLaws.{failed_ok}
 use Rattle.tc_stream.proofs.reader.Reader.begin_data.Goals as goal
 
 pub begin_reference-requires-clause-open_here : goal.begin_reference-requires-clause-open_here
@@ -34,3 +35,33 @@ returns-clause-ok c =
 
 pub returns-clause-less : goal.returns-clause-less
 returns-clause-less c = at_front_less (at_front c.plain_len-count.result c.plain_len-count.ensures.count c.if-count-eq0.false c.split_at.ensures.front c.split_at.ensures.back)
+
+pub begin_reference-requires-clause-ready : goal.begin_reference-requires-clause-ready
+begin_reference-requires-clause-ready c = c.requires.ready
+
+pub begin_reference-requires-clause-some : goal.begin_reference-requires-clause-some
+begin_reference-requires-clause-some c = c.requires.some
+
+pub begin_reference-requires-clause-within : goal.begin_reference-requires-clause-within
+begin_reference-requires-clause-within c = c.requires.within
+
+pub begin_reference-requires-clause-low : goal.begin_reference-requires-clause-low
+begin_reference-requires-clause-low c = c.requires.low
+
+pub returns-then-count-eq0-clause-ok : goal.returns-then-count-eq0-clause-ok
+returns-then-count-eq0-clause-ok c = c.begin_reference.ensures.ok
+
+pub returns-then-count-eq0-clause-less : goal.returns-then-count-eq0-clause-less
+returns-then-count-eq0-clause-less c = c.begin_reference.ensures.less
+
+pub returns-then-count-eq0-clause-fault : goal.returns-then-count-eq0-clause-fault
+returns-then-count-eq0-clause-fault c = c.begin_reference.ensures.fault
+
+pub returns-in_err-read_run-clause-ok : goal.returns-in_err-read_run-clause-ok
+returns-in_err-read_run-clause-ok c = failed_ok _ _ _ c.from_residual.ensures.1
+
+pub returns-in_err-read_run-clause-less : goal.returns-in_err-read_run-clause-less
+returns-in_err-read_run-clause-less c = failed_ok _ _ _ c.from_residual.ensures.1
+
+pub returns-clause-fault : goal.returns-clause-fault
+returns-clause-fault c = tt

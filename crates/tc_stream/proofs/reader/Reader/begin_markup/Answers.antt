@@ -14,3 +14,12 @@ returns-in-Some-clause-less c = omega (arith, ap length c.in-Some.ensures)
 
 pub returns-in-None-clause-fault : goal.returns-in-None-clause-fault
 returns-in-None-clause-fault c = absurd (plain_or_mark c.args.text.now c.requires.some c.requires.bare c.requires.no_reference c.in-None.ensures)
+
+pub returns-in-Some-clause-fault : goal.returns-in-Some-clause-fault
+returns-in-Some-clause-fault c = tt
+
+pub returns-in-None-clause-ok : goal.returns-in-None-clause-ok
+returns-in-None-clause-ok c = tt
+
+pub returns-in-None-clause-less : goal.returns-in-None-clause-less
+returns-in-None-clause-less c = tt

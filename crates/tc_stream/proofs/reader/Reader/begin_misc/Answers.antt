@@ -20,3 +20,12 @@ returns-in-None-clause-fault c =
     let fits : c.place_of-place.result + length c.args.text.now ≡ c.args.end = omega (arith, place, within) in
     subst (FaultsOn c.args.self.now c.args.text.now c.args.end) (sym c.malformed.ensures)
     (stray_faults c.args.end c.place_of-place.result refl c.requires.bare c.requires.some c.in-None.ensures c.requires.part c.requires.around c.requires.no_mark fits)
+
+pub returns-in-Some-clause-fault : goal.returns-in-Some-clause-fault
+returns-in-Some-clause-fault c = tt
+
+pub returns-in-None-clause-ok : goal.returns-in-None-clause-ok
+returns-in-None-clause-ok c = tt
+
+pub returns-in-None-clause-less : goal.returns-in-None-clause-less
+returns-in-None-clause-less c = tt

@@ -4,6 +4,7 @@ use Rattle.tc_stream.specs.Faults.{IsFaultOfFront}
 use Rattle.tc_stream.specs.Keeps.{IsReady}
 use Rattle.tc_stream.proofs.StandsLaws.{reads_behind}
 use Rattle.tc_stream.proofs.TagReads.{end_by, failed, front_short, room_low}
+use Rattle.tc_stream.proofs.FailedLaws.{failed_ok}
 use Rattle.tc_stream.proofs.reader.Reader.end_kept.Goals as goal
 
 pub end-requires-clause-short : goal.end-requires-clause-short
@@ -22,3 +23,12 @@ pub returns-clause-ok : goal.returns-clause-ok
 returns-clause-ok c = λ x chars w t some.
     let by = end_by (subst (λ z. FrontOf z c.characters-tag.result.now) c.bytes.ensures c.characters-tag.ensures) w t some in
     reads_behind x c.leave_tag.new.self c.end.new.elements chars (c.in_ok-end.ensures.ok x chars by.is_end by.stands by.some) c.leave_tag.ensures.elements c.leave_tag.ensures.part c.leave_tag.ensures.inside c.leave_tag.ensures.outside
+
+pub returns-in_err-end-clause-ready : goal.returns-in_err-end-clause-ready
+returns-in_err-end-clause-ready c = failed_ok _ _ _ c.from_residual.ensures.1
+
+pub returns-in_err-end-clause-ok : goal.returns-in_err-end-clause-ok
+returns-in_err-end-clause-ok c = λ x chars w t n. failed_ok _ _ _ c.from_residual.ensures.1
+
+pub returns-clause-fault : goal.returns-clause-fault
+returns-clause-fault c = λ x chars w t n. tt

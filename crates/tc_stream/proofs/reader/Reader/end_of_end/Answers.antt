@@ -14,3 +14,12 @@ returns-else-put-clause-fault c = λ x chars inside is ends lacks h r.
     let s = c.args.self.now in
     let (tag, front, told) = c.fault_of_end_tag.ensures in
     whole_end_long x s chars c.args.text.now c.put.new.tag.bytes.items tag inside s.tag.most c.fault_of_end_tag.result is ends lacks h r s.tag_room c.if-put.ensures.bytes.0 c.if-put.ensures.bytes.1 front told
+
+pub returns-then-put-clause-ready : goal.returns-then-put-clause-ready
+returns-then-put-clause-ready c = c.end_kept.ensures.ready
+
+pub returns-else-put-clause-ready : goal.returns-else-put-clause-ready
+returns-else-put-clause-ready c = tt
+
+pub returns-else-put-clause-ok : goal.returns-else-put-clause-ok
+returns-else-put-clause-ok c = λ x chars front is e lacks h r. tt

@@ -13,3 +13,18 @@ pub returns-clause-ok : goal.returns-clause-ok
 returns-clause-ok c = λ x chars within is scan h r.
     let s = c.args.self.now in
     grown_start x s _ chars c.args.text.now within c.args.quote (kept_start x s chars within r is) is refl refl refl refl c.if-not-put.ensures.bytes (room_low c.put.new.tag (c.put.ensures.most ∙ s.tag_room)) scan h
+
+pub returns-then-not-put-clause-ready : goal.returns-then-not-put-clause-ready
+returns-then-not-put-clause-ready c = tt
+
+pub returns-then-not-put-clause-rest : goal.returns-then-not-put-clause-rest
+returns-then-not-put-clause-rest c = tt
+
+pub returns-then-not-put-clause-ok : goal.returns-then-not-put-clause-ok
+returns-then-not-put-clause-ok c = λ x chars within is scan h r. tt
+
+pub returns-clause-rest : goal.returns-clause-rest
+returns-clause-rest c = refl
+
+pub returns-clause-fault : goal.returns-clause-fault
+returns-clause-fault c = λ x chars within is scan h r. tt

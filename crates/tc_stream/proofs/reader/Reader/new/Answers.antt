@@ -1,4 +1,4 @@
-use Rattle.std.proofs.Common.{[], refl}
+use Rattle.std.proofs.Common.{[], refl, arith}
 use Rattle.tc_model.specs.XmlTextScopes.{first_scope}
 use Rattle.tc_stream.proofs.KeepsLaws.{ready}
 use Rattle.tc_stream.proofs.StandsLaws.{new_reads}
@@ -9,3 +9,6 @@ returns-clause-ready c = ready c.in_ok-elements.elements [] first_scope c.in_ok-
 
 pub returns-clause-reads : goal.returns-clause-reads
 returns-clause-reads c = λ x other sheet st same. new_reads x _ refl refl c.in_ok-elements.ensures.keeps (c.in_ok-elements.ensures.steps x other sheet st same)
+
+pub invariant_of-result : goal.invariant_of-result
+invariant_of-result c = record { begun_within = omega arith; tag_room = c.in_ok-tag.ensures.most; counted = refl }

@@ -3,6 +3,7 @@ use Rattle.tc_stream.specs.Faults.{IsFaultOfFront}
 use Rattle.tc_stream.specs.Scans.{tag_scan}
 use Rattle.tc_stream.specs.Stands.{ReadsTo}
 use Rattle.tc_stream.proofs.TagReads.{failed, front_chars, front_fault, whole_start, whole_start_fault}
+use Rattle.tc_stream.proofs.FailedLaws.{failed_ok}
 use Rattle.tc_stream.proofs.reader.Reader.pass_tag.Goals as goal
 
 pub returns-then-not-put-clause-fault : goal.returns-then-not-put-clause-fault
@@ -32,3 +33,30 @@ returns-clause-ok c = λ x chars within is scan h r.
     let first = c.split_at.ensures.front in
     let both = whole_start x c.args.self.now chars front c.put.new.tag.bytes.items within is (ap (tag_scan within) first ∙ scan) (front_chars text front c.args.count c.requires.cut first h) r c.if-not-put.ensures.bytes in
     subst (λ z. ReadsTo x c.start_kept.new.self (chars ++ z)) first (c.in_ok-start_kept.ensures.ok x _ both.0 both.1)
+
+pub returns-then-not-put-clause-ready : goal.returns-then-not-put-clause-ready
+returns-then-not-put-clause-ready c = tt
+
+pub returns-then-not-put-clause-rest : goal.returns-then-not-put-clause-rest
+returns-then-not-put-clause-rest c = tt
+
+pub returns-then-not-put-clause-ok : goal.returns-then-not-put-clause-ok
+returns-then-not-put-clause-ok c = λ x chars within is scan h r. tt
+
+pub returns-in_err-start_kept-clause-ready : goal.returns-in_err-start_kept-clause-ready
+returns-in_err-start_kept-clause-ready c = failed_ok _ _ _ c.from_residual.ensures.1
+
+pub returns-in_err-start_kept-clause-rest : goal.returns-in_err-start_kept-clause-rest
+returns-in_err-start_kept-clause-rest c = failed_ok _ _ _ c.from_residual.ensures.1
+
+pub returns-in_err-start_kept-clause-ok : goal.returns-in_err-start_kept-clause-ok
+returns-in_err-start_kept-clause-ok c = λ x chars within is scan h r. failed_ok _ _ _ c.from_residual.ensures.1
+
+pub returns-clause-ready : goal.returns-clause-ready
+returns-clause-ready c = c.in_ok-start_kept.ensures.ready
+
+pub returns-clause-rest : goal.returns-clause-rest
+returns-clause-rest c = c.split_at.ensures.back
+
+pub returns-clause-fault : goal.returns-clause-fault
+returns-clause-fault c = λ x chars within is scan h r. tt

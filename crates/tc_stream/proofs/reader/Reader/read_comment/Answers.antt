@@ -38,3 +38,18 @@ pub returns-in-Broken-clause-fault : goal.returns-in-Broken-clause-fault
 returns-in-Broken-clause-fault c = λ end.
     let told = comment_told ends.Broken c.args.hyphens c.as_bytes.ensures.value c.in-Broken.ensures in
     subst (FaultsOn c.args.self.now c.args.text.now end) (sym c.malformed.ensures) (comment_faults end c.args.hyphens c.requires.part (told_broken c.args.text.now (comment_scan c.args.hyphens c.args.text.now) told))
+
+pub returns-in-Before-clause-fault : goal.returns-in-Before-clause-fault
+returns-in-Before-clause-fault c = λ end. tt
+
+pub returns-in-Not-clause-less : goal.returns-in-Not-clause-less
+returns-in-Not-clause-less c = c.requires.some
+
+pub returns-in-Not-clause-fault : goal.returns-in-Not-clause-fault
+returns-in-Not-clause-fault c = λ end. tt
+
+pub returns-in-Broken-clause-ok : goal.returns-in-Broken-clause-ok
+returns-in-Broken-clause-ok c = λ end. tt
+
+pub returns-in-Broken-clause-less : goal.returns-in-Broken-clause-less
+returns-in-Broken-clause-less c = tt

@@ -4,6 +4,7 @@ use Rattle.tc_stream.specs.Reading.{FaultsOn, ReadsOn}
 use Rattle.tc_stream.specs.Stands.{IsReading, ReadsTo}
 use Rattle.tc_stream.specs.TagEnds.{TellsEndTag}
 use Rattle.tc_stream.proofs.TagReads.{at_err, at_ok, cut_behind, failed, front_chars, front_fault, if_err, if_ok, reads_all, reads_front, shorter_by}
+use Rattle.tc_stream.proofs.FailedLaws.{failed_ok}
 use Rattle.tc_stream.proofs.reader.Reader.read_end_tag.Goals as goal
 
 pub returns-in_default-clause-ok : goal.returns-in_default-clause-ok
@@ -61,3 +62,12 @@ pub returns-clause-less : goal.returns-clause-less
 returns-clause-less c =
     let (front, is, lacks, some, low) = subst (λ z. TellsEndTag z (Some c.in-Some.count)) c.as_bytes.ensures.value c.in-Some.ensures in
     shorter_by c.args.text.now c.split_at.result.1.now c.in-Some.count c.split_at.ensures.back some low
+
+pub returns-in_err-end_of_end-clause-ok : goal.returns-in_err-end_of_end-clause-ok
+returns-in_err-end_of_end-clause-ok c = λ end. failed_ok _ _ _ c.from_residual.ensures.1
+
+pub returns-in_err-end_of_end-clause-less : goal.returns-in_err-end_of_end-clause-less
+returns-in_err-end_of_end-clause-less c = failed_ok _ _ _ c.from_residual.ensures.1
+
+pub returns-clause-fault : goal.returns-clause-fault
+returns-clause-fault c = λ end. tt

@@ -36,3 +36,18 @@ returns-in-Not-clause-ok c = λ end.
 pub returns-in-Broken-clause-fault : goal.returns-in-Broken-clause-fault
 returns-in-Broken-clause-fault c = λ end.
     absurd (instruction_unbroken c.args.question c.as_bytes.result.now (told_broken c.as_bytes.result.now (instruction_scan c.args.question c.as_bytes.result.now) c.in-Broken.ensures))
+
+pub returns-in-Before-clause-fault : goal.returns-in-Before-clause-fault
+returns-in-Before-clause-fault c = λ end. tt
+
+pub returns-in-Not-clause-less : goal.returns-in-Not-clause-less
+returns-in-Not-clause-less c = c.requires.some
+
+pub returns-in-Not-clause-fault : goal.returns-in-Not-clause-fault
+returns-in-Not-clause-fault c = λ end. tt
+
+pub returns-in-Broken-clause-ok : goal.returns-in-Broken-clause-ok
+returns-in-Broken-clause-ok c = λ end. tt
+
+pub returns-in-Broken-clause-less : goal.returns-in-Broken-clause-less
+returns-in-Broken-clause-less c = tt

@@ -18,3 +18,24 @@ returns-clause-ok c =
 
 pub returns-clause-elements : goal.returns-clause-elements
 returns-clause-elements c = subst (λ (b : Bool). TakesText b c.args.self.now.elements c.take_text.new.self.elements) c.is_white_space_only.ensures c.take_text.ensures.elements
+
+pub returns-in_default-clause-ok : goal.returns-in_default-clause-ok
+returns-in_default-clause-ok c = tt
+
+pub returns-in_default-clause-elements : goal.returns-in_default-clause-elements
+returns-in_default-clause-elements c = tt
+
+pub returns-in_default-clause-phase : goal.returns-in_default-clause-phase
+returns-in_default-clause-phase c = tt
+
+pub returns-in_default-clause-begun : goal.returns-in_default-clause-begun
+returns-in_default-clause-begun c = tt
+
+pub returns-clause-phase : goal.returns-clause-phase
+returns-clause-phase c = c.take_text.ensures.phase
+
+pub returns-clause-begun : goal.returns-clause-begun
+returns-clause-begun c = c.take_text.ensures.begun
+
+pub returns-clause-no : goal.returns-clause-no
+returns-clause-no c = tt

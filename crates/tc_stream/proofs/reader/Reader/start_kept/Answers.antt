@@ -4,6 +4,7 @@ use Rattle.tc_stream.specs.Faults.{IsFaultOfFront}
 use Rattle.tc_stream.specs.Keeps.{IsReady}
 use Rattle.tc_stream.proofs.StandsLaws.{reads_behind}
 use Rattle.tc_stream.proofs.TagReads.{failed, front_short, room_low, start_by}
+use Rattle.tc_stream.proofs.FailedLaws.{failed_ok}
 use Rattle.tc_stream.proofs.reader.Reader.start_kept.Goals as goal
 
 pub start-requires-clause-short : goal.start-requires-clause-short
@@ -22,3 +23,12 @@ pub returns-clause-ok : goal.returns-clause-ok
 returns-clause-ok c = λ x chars w t.
     let both = start_by (subst (λ z. FrontOf z c.characters-tag.result.now) c.bytes.ensures c.characters-tag.ensures) w t in
     reads_behind x c.leave_tag.new.self c.start.new.elements chars (c.in_ok-start.ensures.ok x chars both.0 both.1) c.leave_tag.ensures.elements c.leave_tag.ensures.part c.leave_tag.ensures.inside c.leave_tag.ensures.outside
+
+pub returns-in_err-start-clause-ready : goal.returns-in_err-start-clause-ready
+returns-in_err-start-clause-ready c = failed_ok _ _ _ c.from_residual.ensures.1
+
+pub returns-in_err-start-clause-ok : goal.returns-in_err-start-clause-ok
+returns-in_err-start-clause-ok c = λ x chars w t. failed_ok _ _ _ c.from_residual.ensures.1
+
+pub returns-clause-fault : goal.returns-clause-fault
+returns-clause-fault c = λ x chars w t. tt

@@ -41,3 +41,33 @@ returns-else-add_all-clause-added c = λ ws are.
     let long = ap length c.if-not-push_all.ensures.bytes ∙ length-append old c.of-written.result.now in
     let same = ap length (c.of-written.ensures ∙ ap (at_span c.args.name) c.as_bytes.ensures.value) in
     omega (arith, full, most, long, same)
+
+pub returns-then-not-push_all-clause-most : goal.returns-then-not-push_all-clause-most
+returns-then-not-push_all-clause-most c = c.push_all.ensures.most
+
+pub returns-then-not-push_all-clause-attributes : goal.returns-then-not-push_all-clause-attributes
+returns-then-not-push_all-clause-attributes c = refl
+
+pub returns-then-not-push_all-clause-kept : goal.returns-then-not-push_all-clause-kept
+returns-then-not-push_all-clause-kept c = tt
+
+pub returns-then-not-push_all-clause-name : goal.returns-then-not-push_all-clause-name
+returns-then-not-push_all-clause-name c = tt
+
+pub returns-then-add_all-clause-most : goal.returns-then-add_all-clause-most
+returns-then-add_all-clause-most c = c.add_all.ensures.most ∙ c.push_all.ensures.most
+
+pub returns-then-add_all-clause-attributes : goal.returns-then-add_all-clause-attributes
+returns-then-add_all-clause-attributes c = refl
+
+pub returns-else-add_all-clause-most : goal.returns-else-add_all-clause-most
+returns-else-add_all-clause-most c = c.add_all.ensures.most ∙ c.push_all.ensures.most
+
+pub returns-else-add_all-clause-attributes : goal.returns-else-add_all-clause-attributes
+returns-else-add_all-clause-attributes c = refl
+
+pub returns-else-add_all-clause-kept : goal.returns-else-add_all-clause-kept
+returns-else-add_all-clause-kept c = tt
+
+pub returns-else-add_all-clause-name : goal.returns-else-add_all-clause-name
+returns-else-add_all-clause-name c = tt

@@ -1,4 +1,5 @@
-use Rattle.std.proofs.Common.{◌≡◌, ◌+◌, ◌++◌, ap, sym, ◌∙◌, subst, length, length-append, arith}
+use Rattle.std.proofs.Common.{◌≡◌, ◌+◌, ◌++◌, ap, sym, ◌∙◌, subst, length, length-append, arith, refl}
+use Rattle.std.proofs.lemmas.Option.{none-some}
 use Rattle.tc_stream.specs.Cuts.{cut_bytes}
 use Rattle.tc_stream.specs.Faults.{IsFaultOfFront}
 use Rattle.tc_stream.proofs.PieceLaws.{cut_is}
@@ -25,3 +26,14 @@ pub returns-in-Err-clause-fault : goal.returns-in-Err-clause-fault
 returns-in-Err-clause-fault c = λ x text s.
     let at : length s.chars + length (cut_bytes c.args.self.now.cut) ≡ c.args.self.now.fed = omega (arith, s.fed, ap length s.parts_are, length-append s.chars (cut_bytes c.args.self.now.cut)) in
     subst (λ z. IsFaultOfFront (z ++ c.args.piece.now) c.in-Err.fault) (sym s.parts_are) (c.in-Err.ensures.fault x s.chars at s.reads)
+
+pub invariant_of-self-in-Err : goal.invariant_of-self-in-Err
+invariant_of-self-in-Err c = record {
+  fed_within = c.args.self.now.fed_within;
+  cut_within = grind (arith, c.in-Err.ensures.kept, c.args.self.now.cut_within);
+  cut_short = c.in-Err.ensures.short;
+  ready = λ e. absurd (none-some c.in-Err.fault (sym e));
+}
+
+pub returns-in-Err-clause-kept : goal.returns-in-Err-clause-kept
+returns-in-Err-clause-kept c = refl

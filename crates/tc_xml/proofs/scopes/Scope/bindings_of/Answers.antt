@@ -4,6 +4,7 @@ use Rattle.std.proofs.lemmas.Map.Iter.{iter_end}
 use Rattle.tc_model.specs.Views.{bound}
 use Rattle.tc_xml.specs.Bounds.{bounds}
 use Rattle.tc_xml.proofs.FailedLaws.{failed_ok}
+use Rattle.tc_xml.proofs.MemoryLaws.{out_breaks}
 use Rattle.tc_xml.proofs.scopes.Scope.bindings_of.Goals as goal
 
 pub returns-clause-ok : goal.returns-clause-ok
@@ -13,3 +14,9 @@ returns-clause-ok c =
 
 pub returns-in_err-push-clause-ok : goal.returns-in_err-push-clause-ok
 returns-in_err-push-clause-ok c = failed_ok _ _ _ c.from_residual.ensures.1
+
+pub returns-in_err-push-clause-no : goal.returns-in_err-push-clause-no
+returns-in_err-push-clause-no c = out_breaks _ _ c.from_residual.ensures.1
+
+pub loop-prefix-init : goal.loop-prefix-init
+loop-prefix-init c = ap (map bound) c.new-bindings.ensures.items

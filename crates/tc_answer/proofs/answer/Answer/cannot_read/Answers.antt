@@ -1,0 +1,5 @@
+use Rattle.std.proofs.lemmas.Result.{IfOk-weaker}
+use Rattle.tc_answer.proofs.answer.Answer.cannot_read.Goals as goal
+
+pub returns : goal.returns
+returns c = IfOk-weaker c.answer_of.result _ _ (λ said h. record { status = h.0; written = h.1 }) c.answer_of.ensures

@@ -1,0 +1,8 @@
+use Rattle.std.proofs.Common.{◌∙◌}
+use Rattle.std.proofs.lemmas.Result.{IfOk-weaker}
+use Rattle.tc_answer.proofs.Lined.{refused_pieces}
+use Rattle.tc_answer.proofs.answer.refused_by.Goals as goal
+
+pub returns : goal.returns
+returns c =
+    IfOk-weaker c.answer_of.result _ _ (λ said h. (h.0, h.1 ∙ refused_pieces c.args.name.now c.args.front.now c.args.word.now c.format.result.now c.args.place c.format.ensures.text)) c.answer_of.ensures

@@ -1,0 +1,8 @@
+use Rattle.std.proofs.Common.{◌∙◌}
+use Rattle.std.proofs.lemmas.Result.{IfOk-weaker}
+use Rattle.tc_answer.proofs.Lined.{rule_pieces}
+use Rattle.tc_answer.proofs.answer.rejected_at.Goals as goal
+
+pub returns : goal.returns
+returns c =
+    IfOk-weaker c.answer_of.result _ _ (λ said h. (h.0, h.1 ∙ rule_pieces c.format.result.now c.args.rule.now c.args.behind.now c.args.number c.format.ensures.text)) c.answer_of.ensures

@@ -1,0 +1,11 @@
+use Rattle.tc_cert.proofs.Ends.{stops_first, last_put, last_fault}
+use Rattle.tc_cert.proofs.writing.put_output.Goals as goal
+
+pub returns-in_err-put_pairs_line-clause-cause : goal.returns-in_err-put_pairs_line-clause-cause
+returns-in_err-put_pairs_line-clause-cause c = stops_first c.args.text.now _ _ c.from_residual.result c.in_err-put_pairs_line.field-0.0 c.from_residual.ensures.1 c.in_err-put_pairs_line.ensures.cause
+
+pub returns-clause-ok : goal.returns-clause-ok
+returns-clause-ok c = last_put c.args.text.now c.put_pairs_line.new.text c.put.new.self _ _ c.put.result c.in_ok-put_pairs_line.ensures.ok c.put.ensures.ok
+
+pub returns-clause-cause : goal.returns-clause-cause
+returns-clause-cause c = last_fault c.args.text.now c.put_pairs_line.new.text _ _ c.put.result c.in_ok-put_pairs_line.ensures.ok c.put.ensures.cause

@@ -1,0 +1,40 @@
+use Rattle.std.proofs.Common.{◌≤◌, length, subst, sym}
+use Rattle.tc_rows.specs.Triples.{Triple}
+use Rattle.tc_settle.specs.Closed.{IsClosure}
+use Rattle.tc_settle.proofs.Exits.{no_ok, err_is}
+use Rattle.tc_close.specs.Certified.{IsProved}
+use Rattle.tc_close.specs.Decisions.{IsCloseCause}
+use Rattle.tc_close.specs.RowState.{RowState, held_of}
+use Rattle.tc_close.specs.declared.decision.CloseFault.TheVariants.{NoMemory}
+use Rattle.tc_close.proofs.OnceLaws.{once_on}
+use Rattle.tc_close.proofs.proof.proved.Goals as goal
+
+pub told-requires-clause-closure : goal.told-requires-clause-closure
+told-requires-clause-closure g c = subst (λ (s : RowState). IsClosure (held_of g.K.Over.is_of s) c.in_ok-closed.closed) (sym c.once.view_is) c.in_ok-closed.ensures.closure
+
+pub told-requires-clause-trees : goal.told-requires-clause-trees
+told-requires-clause-trees g c = subst (λ (s : RowState). length s.trees ≤ c.args.most) (sym c.once.view_is) c.in_ok-closed.ensures.few.0
+
+pub told-requires-clause-hedges : goal.told-requires-clause-hedges
+told-requires-clause-hedges g c = subst (λ (s : RowState). length s.hedges ≤ c.args.most) (sym c.once.view_is) c.in_ok-closed.ensures.few.1
+
+pub invariant_of-once : goal.invariant_of-once
+invariant_of-once g c = once_on g.K.Over.is_of c.once.inside.alike.firsts.items c.once.inside.wraps c.once.inside.rows c.told.new.rows c.told.ensures.same.0 c.once.invariant
+
+pub invariant_of-once-2 : goal.invariant_of-once-2
+invariant_of-once-2 g c = once_on g.K.Over.is_of c.once.inside.alike.firsts.items c.once.inside.wraps c.once.inside.rows c.told.new.rows c.told.ensures.same.0 c.once.invariant
+
+pub returns-in_err-closed-clause-proof : goal.returns-in_err-closed-clause-proof
+returns-in_err-closed-clause-proof g c = no_ok c.from_residual.result _ (λ d. (x : Triple) → g.K.Over.is_of x → IsProved x c.args.most d) c.from_residual.ensures.1
+
+pub returns-in_err-closed-clause-cause : goal.returns-in_err-closed-clause-cause
+returns-in_err-closed-clause-cause g c = err_is c.from_residual.result _ (λ e. (x : Triple) → g.K.Over.is_of x → IsCloseCause x c.args.most e) c.from_residual.ensures.1 c.in_err-closed.ensures.cause
+
+pub returns-in_err-proof-clause-proof : goal.returns-in_err-proof-clause-proof
+returns-in_err-proof-clause-proof g c = no_ok c.from_residual-in_err-proof.result _ (λ d. (x : Triple) → g.K.Over.is_of x → IsProved x c.args.most d) c.from_residual-in_err-proof.ensures.1
+
+pub returns-in_err-proof-clause-cause : goal.returns-in_err-proof-clause-cause
+returns-in_err-proof-clause-cause g c = err_is c.from_residual-in_err-proof.result NoMemory (λ e. (x : Triple) → g.K.Over.is_of x → IsCloseCause x c.args.most e) c.from_residual-in_err-proof.ensures.1 (λ x o. tt)
+
+pub returns-clause-proof : goal.returns-clause-proof
+returns-clause-proof g c = c.in_ok-proof.ensures.proof

@@ -1,0 +1,15 @@
+use Rattle.std.proofs.Common.{arith}
+use Rattle.tc_simple.proofs.Answered.{failed_on}
+use Rattle.tc_simple.proofs.loops.add_marked.Goals as goal
+
+pub bounds-marks-number : goal.bounds-marks-number
+bounds-marks-number c = omega (arith, c.requires.within, c.requires.marks)
+
+pub add_loops-requires-clause-within : goal.add_loops-requires-clause-within
+add_loops-requires-clause-within c = omega (arith, c.requires.within, c.requires.states)
+
+pub add_loops-requires-clause-numbers : goal.add_loops-requires-clause-numbers
+add_loops-requires-clause-numbers c = c.requires.numbers
+
+pub returns-in_err-add_loops : goal.returns-in_err-add_loops
+returns-in_err-add_loops c = failed_on c.from_residual.result _ _ c.from_residual.ensures.1
