@@ -349,8 +349,11 @@ fn is_read_well(defs: &[Def<'_>]) -> bool {
                 && members(first.body) == 2
                 && second.name == "div"
                 && second.joins == Joins::Interleave
-                && second.place == Place(36)
-                && places_of_wildcard(second.body, "u") == Some((Place(44), Place(52)))
+                && second.place.0 == 36
+                && matches!(
+                    places_of_wildcard(second.body, "u"),
+                    Some((Place(44), Place(52)))
+                )
         }
         _ => false,
     }
