@@ -6,6 +6,7 @@ use Rattle.tc_sheet.specs.Constructs.{of_apply}
 use Rattle.std.proofs.Common.{[], ◌∷◌, refl, option_map}
 use Rattle.std.specs.Prelude.{codes}
 use Rattle.tc_model.specs.Views.{name, path}
+use Rattle.tc_sheet.proofs.Passed.{no_value}
 use Rattle.tc_sheet.proofs.bodies.apply_templates.Goals as goal
 
 pub only_attributes-requires-clause-weighed : goal.only_attributes-requires-clause-weighed
@@ -31,3 +32,15 @@ returns-in_err-check_blank-clause-no c = handed_on _ c.from_residual-in_err-chec
 
 pub returns-clause-ok : goal.returns-clause-ok
 returns-clause-ok c = apply_read c.args.element.now (option_map path c.in_ok-path.path) c.or_all_children.result c.in_ok-mode.mode c.in_ok-only_attributes.ensures.ok c.in_ok-path.ensures.ok c.in_ok-mode.ensures.ok c.in_ok-check_blank.ensures.ok c.or_all_children.ensures
+
+pub returns-in_err-only_attributes-clause-ok : goal.returns-in_err-only_attributes-clause-ok
+returns-in_err-only_attributes-clause-ok c = no_value c.from_residual.result _ _ c.from_residual.ensures.1
+
+pub returns-in_err-path-clause-ok : goal.returns-in_err-path-clause-ok
+returns-in_err-path-clause-ok c = no_value c.from_residual-in_err-path.result _ _ c.from_residual-in_err-path.ensures.1
+
+pub returns-in_err-mode-clause-ok : goal.returns-in_err-mode-clause-ok
+returns-in_err-mode-clause-ok c = no_value c.from_residual-in_err-mode.result _ _ c.from_residual-in_err-mode.ensures.1
+
+pub returns-in_err-check_blank-clause-ok : goal.returns-in_err-check_blank-clause-ok
+returns-in_err-check_blank-clause-ok c = no_value c.from_residual-in_err-check_blank.result _ _ c.from_residual-in_err-check_blank.ensures.1

@@ -2,6 +2,7 @@ use Rattle.tc_sheet.proofs.Refused.{handed_on}
 use Rattle.tc_sheet.proofs.LeafLaws.{of_if_test}
 use Rattle.tc_sheet.proofs.ReadLaws.{if_head}
 use Rattle.tc_sheet.specs.Constructs.{of_if}
+use Rattle.tc_sheet.proofs.Passed.{no_value}
 use Rattle.tc_sheet.proofs.bodies.begin_if.Goals as goal
 
 pub test_of-requires-clause-test : goal.test_of-requires-clause-test
@@ -12,3 +13,6 @@ returns-in_err-test-clause-no c = handed_on _ c.from_residual.result c.in_err-te
 
 pub returns-clause-ok : goal.returns-clause-ok
 returns-clause-ok c = if_head c.args.element.now c.in_ok-test.test c.in_ok-test.ensures.ok
+
+pub returns-in_err-test-clause-ok : goal.returns-in_err-test-clause-ok
+returns-in_err-test-clause-ok c = no_value c.from_residual.result _ _ c.from_residual.ensures.1

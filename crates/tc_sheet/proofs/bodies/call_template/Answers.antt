@@ -5,6 +5,7 @@ use Rattle.tc_sheet.proofs.Unrefused.{weighed_among}
 use Rattle.tc_sheet.proofs.Refused.{handed_on}
 use Rattle.tc_sheet.proofs.LeafLaws.{of_call_only, of_call_name, of_call_blank}
 use Rattle.tc_sheet.proofs.ReadLaws.{call_read}
+use Rattle.tc_sheet.proofs.Passed.{no_value}
 use Rattle.tc_sheet.proofs.bodies.call_template.Goals as goal
 
 pub only_attributes-requires-clause-weighed : goal.only_attributes-requires-clause-weighed
@@ -21,3 +22,12 @@ returns-in_err-check_blank-clause-no c = handed_on _ c.from_residual-in_err-chec
 
 pub returns-clause-ok : goal.returns-clause-ok
 returns-clause-ok c = call_read c.args.element.now c.in_ok-name.name c.in_ok-only_attributes.ensures.ok c.in_ok-name.ensures.ok c.in_ok-check_blank.ensures.ok
+
+pub returns-in_err-only_attributes-clause-ok : goal.returns-in_err-only_attributes-clause-ok
+returns-in_err-only_attributes-clause-ok c = no_value c.from_residual.result _ _ c.from_residual.ensures.1
+
+pub returns-in_err-name-clause-ok : goal.returns-in_err-name-clause-ok
+returns-in_err-name-clause-ok c = no_value c.from_residual-in_err-name.result _ _ c.from_residual-in_err-name.ensures.1
+
+pub returns-in_err-check_blank-clause-ok : goal.returns-in_err-check_blank-clause-ok
+returns-in_err-check_blank-clause-ok c = no_value c.from_residual-in_err-check_blank.result _ _ c.from_residual-in_err-check_blank.ensures.1

@@ -6,6 +6,7 @@ use Rattle.tc_sheet.proofs.Refused.{handed_on}
 use Rattle.tc_sheet.proofs.LeafLaws.{of_each_only, of_each_select}
 use Rattle.tc_sheet.proofs.ReadLaws.{each_head}
 use Rattle.tc_sheet.specs.Constructs.{of_each}
+use Rattle.tc_sheet.proofs.Passed.{no_value}
 use Rattle.tc_sheet.proofs.bodies.for_each.Goals as goal
 
 pub only_attributes-requires-clause-weighed : goal.only_attributes-requires-clause-weighed
@@ -22,3 +23,9 @@ returns-in_err-path-clause-no c = handed_on _ c.from_residual-in_err-path.result
 
 pub returns-clause-ok : goal.returns-clause-ok
 returns-clause-ok c = each_head c.args.element.now c.in_ok-path.path c.in_ok-only_attributes.ensures.ok c.in_ok-path.ensures.ok
+
+pub returns-in_err-only_attributes-clause-ok : goal.returns-in_err-only_attributes-clause-ok
+returns-in_err-only_attributes-clause-ok c = no_value c.from_residual.result _ _ c.from_residual.ensures.1
+
+pub returns-in_err-path-clause-ok : goal.returns-in_err-path-clause-ok
+returns-in_err-path-clause-ok c = no_value c.from_residual-in_err-path.result _ _ c.from_residual-in_err-path.ensures.1

@@ -6,6 +6,7 @@ use Rattle.tc_sheet.proofs.Refused.{handed_on}
 use Rattle.tc_sheet.proofs.LeafLaws.{of_value_only, of_value_select, of_value_blank}
 use Rattle.tc_sheet.proofs.ReadLaws.{path_read, self_read}
 use Rattle.tc_sheet.specs.Constructs.{of_value}
+use Rattle.tc_sheet.proofs.Passed.{no_value}
 use Rattle.tc_sheet.proofs.bodies.value_of.Goals as goal
 
 pub only_attributes-requires-clause-weighed : goal.only_attributes-requires-clause-weighed
@@ -28,3 +29,12 @@ returns-in-ValueOf-clause-ok c = path_read c.args.element.now c.in_ok-value.valu
 
 pub returns-in_default : goal.returns-in_default
 returns-in_default c = record { ok = self_read c.args.element.now c.in_ok-value.value c.in_default.not-ValueOf c.in_ok-only_attributes.ensures.ok c.in_ok-value.ensures.ok c.in_ok-check_blank.ensures.ok; no = tt }
+
+pub returns-in_err-only_attributes-clause-ok : goal.returns-in_err-only_attributes-clause-ok
+returns-in_err-only_attributes-clause-ok c = no_value c.from_residual.result _ _ c.from_residual.ensures.1
+
+pub returns-in_err-value-clause-ok : goal.returns-in_err-value-clause-ok
+returns-in_err-value-clause-ok c = no_value c.from_residual-in_err-value.result _ _ c.from_residual-in_err-value.ensures.1
+
+pub returns-in_err-check_blank-clause-ok : goal.returns-in_err-check_blank-clause-ok
+returns-in_err-check_blank-clause-ok c = no_value c.from_residual-in_err-check_blank.result _ _ c.from_residual-in_err-check_blank.ensures.1
