@@ -1,4 +1,4 @@
-use Rattle.std.proofs.Common.{◌≡◌, ℕ, ◌+◌, ◌<◌, ◌∙◌, Bool, true, false, Option, Some, List, if◌then◌else◌, ap, bytes_eq, drop, get_or, length, map, refl, sym}
+use Rattle.std.proofs.Common.{◌≡◌, ℕ, ◌+◌, ◌<◌, ◌∙◌, Bool, true, false, Some, List, if◌then◌else◌, ap, bytes_eq, drop, get_or, length, map, refl, sym}
 use Rattle.std.proofs.lemmas.List.{drop_all, drop_more}
 use Rattle.tc_model.specs.Views.{bound}
 use Rattle.tc_model.specs.XmlTextScopes.{uri_of}

@@ -1,9 +1,8 @@
-use Rattle.std.proofs.Common.{[], ◌∷◌, ◌++◌, ◌∙◌, ◌+◌, ap, append-nil, append_assoc, get_or, map, refl, sym, take}
-use Rattle.std.proofs.lemmas.List.{map_push, take_all, take_more}
+use Rattle.std.proofs.Common.{◌++◌, ◌∙◌, ap, append-nil, map, sym}
+use Rattle.std.proofs.lemmas.List.{take_all}
 use Rattle.tc_model.specs.Views as see
 use Rattle.tc_path.specs.Views.{alternative}
 use Rattle.tc_sheet.specs.Numbers.{rule_from}
-use Rattle.tc_sheet.proofs.Refused.{handed_on}
 use Rattle.tc_sheet.proofs.numbering.put_rules.Goals as goal
 
 pub loop-alternative-init : goal.loop-alternative-init
