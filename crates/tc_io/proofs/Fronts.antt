@@ -1,5 +1,5 @@
 -- What several writes wrote together, and when the counts of several calls rose.
-use Rattle.std.proofs.Common.{◌≤◌, ℕ, List, [], ◌++◌, sym, ap, ◌∙◌, refl, subst, take, drop, take-append-drop, append_assoc, append-nil, Option, None, Some, Result, Ok, Err, OnErr, OnOk, arith, inl, inr}
+use Rattle.std.proofs.Common.{◌≤◌, ℕ, List, [], ◌++◌, sym, ap, ◌∙◌, refl, subst, take, drop, take-append-drop, append_assoc, append-nil, Option, None, Some, Result, Ok, Err, OnErr, OnOk, IsErrAnd, is_err, ◌≡◌, true, false, arith, inl, inr}
 use Rattle.std.proofs.lemmas.Bool.{cases_lt}
 use Rattle.tc_io.specs.Faults.{Rose}
 use Rattle.tc_io.specs.Sink.{Appended, WroteFront}
@@ -42,6 +42,19 @@ on_err (Err e) p = p
 pub on_ok : {T E : Type 0} {P : Type 0} (r : Result T E) → P → OnOk r P
 on_ok (Ok x) p = p
 on_ok (Err e) p = tt
+
+-- an error says nothing of what succeeds
+pub error_not_ok : {T E : Type 0} (r : Result T E) (P : Type 0) (Q : E → Type 0) → IsErrAnd r Q → OnOk r P
+error_not_ok (Ok x) P Q h = absurd h
+error_not_ok (Err e) P Q h = tt
+
+pub error_says_nothing : {T E : Type 0} (r : Result T E) (P : Type 0) → is_err r ≡ true → OnOk r P
+error_says_nothing (Ok x) P h = absurd (cc h)
+error_says_nothing (Err e) P h = tt
+
+pub success_says_nothing : {T E : Type 0} (r : Result T E) (P : Type 0) → is_err r ≡ false → OnErr r P
+success_says_nothing (Ok x) P h = tt
+success_says_nothing (Err e) P h = absurd (cc h)
 
 pub on_err_map : {T E : Type 0} {P Q : Type 0} (r : Result T E) → (P → Q) → OnErr r P → OnErr r Q
 on_err_map (Ok x) f p = tt

@@ -1,9 +1,11 @@
-use Rattle.std.proofs.Common.{◌≡◌, Some, None, ap, ◌∙◌, refl, subst, string_bytes}
-use Rattle.std.proofs.lemmas.Option.{get_or_from_slice_get}
+use Rattle.std.proofs.Common.{◌≡◌, ◌<◌, Some, None, ap, ◌∙◌, refl, subst, string_bytes}
+use Rattle.std.proofs.lemmas.Option.{get_or_from_slice_get, slice_get_within}
 use Rattle.tc_io.specs.MemStore.{file_of}
 use Rattle.tc_io.specs.HeldFile.{entries, IsPlace}
 use Rattle.tc_io.specs.declared.memory.HeldFile.{HeldFile}
 use Rattle.tc_io.proofs.Files.{replaced, others_stay, added, others_stay_beside}
+use Rattle.tc_io.proofs.Fronts.{on_err, error_not_ok}
+use Rattle.tc_io.proofs.HeldFacts.{store_is_seen}
 use Rattle.tc_io.proofs.memory.MemStore.put.Goals as goal
 
 pub returns-in-Some-clause-ok : goal.returns-in-Some-clause-ok
@@ -35,3 +37,24 @@ returns-in_ok-push-in-None-clause-ok c =
       failing = refl;
       faults = refl;
     })
+
+pub returns-in_err-copy-clause-ok : goal.returns-in_err-copy-clause-ok
+returns-in_err-copy-clause-ok c = error_not_ok c.from_residual.result _ _ c.from_residual.ensures.1
+
+pub returns-in_err-copy-clause-err : goal.returns-in_err-copy-clause-err
+returns-in_err-copy-clause-err c = on_err c.from_residual.result refl
+
+pub returns-in_err-name-in-None-clause-ok : goal.returns-in_err-name-in-None-clause-ok
+returns-in_err-name-in-None-clause-ok c = error_not_ok c.from_residual-in_err-name-in-None.result _ _ c.from_residual-in_err-name-in-None.ensures.1
+
+pub returns-in_err-name-in-None-clause-err : goal.returns-in_err-name-in-None-clause-err
+returns-in_err-name-in-None-clause-err c = on_err c.from_residual-in_err-name-in-None.result refl
+
+pub returns-in_err-push-in-None-clause-ok : goal.returns-in_err-push-in-None-clause-ok
+returns-in_err-push-in-None-clause-ok c = error_not_ok c.from_residual-in_err-push-in-None.result _ _ c.from_residual-in_err-push-in-None.ensures.1
+
+pub index_mut-requires : goal.index_mut-requires
+index_mut-requires c = subst (λ n. c.in-Some.place < n) c.as_slice.ensures.len (slice_get_within c.as_slice.result.now c.in-Some.place c.in-Some.ensures.place.file c.in-Some.ensures.place.at_place)
+
+pub returns-in_err-push-in-None-clause-err : goal.returns-in_err-push-in-None-clause-err
+returns-in_err-push-in-None-clause-err c = on_err c.from_residual-in_err-push-in-None.result (store_is_seen c.self.view_is (ap (λ x. entries x) c.in_err-push-in-None.ensures.items))
