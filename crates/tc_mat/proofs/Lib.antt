@@ -3,3 +3,4 @@ pub mod Rows
 pub mod Composed
 pub mod Keys
 pub mod CallerLemmas
+mod Causes

@@ -1,4 +1,4 @@
-use Rattle.std.proofs.Common.{◌+◌, ◌*◌, ◌/◌, ◌%◌, ◌<◌, ℕ, List, length, refl, subst, sym, ap, arith}
+use Rattle.std.proofs.Common.{◌+◌, ◌*◌, ◌/◌, ◌%◌, ◌<◌, ℕ, List, length, refl, subst, sym, ap, ◌∙◌, ◌≡◌, arith}
 use Rattle.std.proofs.lemmas.Nat.{mod_below}
 use Rattle.tc_mat.specs.Matrix.{words_a_row}
 use Rattle.tc_mat.specs.Product.{HasBits, Leads}
@@ -45,3 +45,21 @@ loop-at-preserved c =
 
 pub returns : goal.returns
 returns c = led_all c.args.n c.args.a.now c.args.b.now c.loop-at.at c.loop-at.out (omega (arith, c.loop-at-test.false, c.requires.left)) c.loop-at.invariant
+
+pub is_identity-requires : goal.is_identity-requires
+is_identity-requires c = record { left = c.requires.left }
+
+pub copy_from_slice-requires : goal.copy_from_slice-requires
+copy_from_slice-requires c = c.requires.room ∙ sym c.requires.right
+
+pub bounds-a-at : goal.bounds-a-at
+bounds-a-at c = c.loop-at-test.true
+
+pub add_rows-requires-clause-right : goal.add_rows-requires-clause-right
+add_rows-requires-clause-right c = c.requires.right
+
+pub nonzero_rem-at : goal.nonzero_rem-at
+nonzero_rem-at c = subst (λ v. 0 < v) (sym c.words_in_row-width.ensures) (some_width c.args.n c.loop-at.at (length c.args.a.now) c.loop-at-test.true c.requires.left)
+
+pub nonzero_div-at : goal.nonzero_div-at
+nonzero_div-at c = subst (λ v. 0 < v) (sym c.words_in_row-width.ensures) (some_width c.args.n c.loop-at.at (length c.args.a.now) c.loop-at-test.true c.requires.left)
