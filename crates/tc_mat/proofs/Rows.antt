@@ -1,9 +1,9 @@
 -- Rows of words to which other rows are added.
-use Rattle.std.proofs.Common.{◌≡◌, ◌≢◌, ◌⊎◌, inl, inr, ℕ, ◌+◌, ◌*◌, ◌/◌, ◌%◌, ◌<◌, ◌≤◌, ◌^◌, List, refl, sym, ap, subst, ◌∙◌, length, get_or, set, arith, bit_or, bit_and, min}
+use Rattle.std.proofs.Common.{◌≡◌, ◌≢◌, ◌⊎◌, inl, inr, ℕ, ◌+◌, ◌*◌, ◌/◌, ◌%◌, ◌<◌, ◌≤◌, ◌^◌, List, refl, sym, ap, subst, ◌∙◌, length, get_or, set, arith, bit_or, bit_and, min, replicate}
 use Rattle.std.specs.Prelude.{◌↔◌}
 use Rattle.std.specs.Int.{bit_at, bit_not, trailing_zeros, w64}
-use Rattle.std.proofs.lemmas.Bool.{cases_eq}
-use Rattle.std.proofs.lemmas.List.{get_or-set_same, get_or-set_other}
+use Rattle.std.proofs.lemmas.Bool.{cases_eq, cases_lt}
+use Rattle.std.proofs.lemmas.List.{get_or-set_same, get_or-set_other, get_or-replicate, get_or_past, length-replicate}
 use Rattle.std.proofs.lemmas.Nat.{mul-add-lt, same_from_place, and_le_l, div_below, div-add-mod', mod_below}
 use Rattle.std.proofs.lemmas.Nat.Bits.{bit_at_or, bit_at_and, bit_at_clear_same, bit_at-lt, bit_at-zero, bit_at-pow_same, bit_at-pow_other, bit_at-trailing_zeros}
 use Rattle.tc_mat.specs.Matrix.{words_a_row}
@@ -205,6 +205,14 @@ module _ (n : ℕ) (b old : List ℕ) (row by told : ℕ) where
       back : (x w p : ℕ) → (x ≡ row) × Told n b told by w p → ToldBut rest x w p
       back x w p t = (t.0, (t.1.0, t.1.1, ap (λ v. bit_at v t.1.0) none ∙ bit_at-zero t.1.0, t.1.2))
 
+-- words that are all zero
+zeros_are : (k : ℕ) (words : List ℕ) → words ≡ replicate k 0 → (w : ℕ) → get_or words w 0 ≡ 0
+zeros_are k words e w = ap (λ ws. get_or ws w 0) e ∙ by (cases_lt w k)
+  where
+    by : (w < k) ⊎ (k ≤ w) → get_or {A = ℕ} (replicate k 0) w 0 ≡ 0
+    by (inl l) = get_or-replicate k w 0 0 l
+    by (inr l) = get_or_past (replicate k 0) w 0 (omega (arith, length-replicate {A = ℕ} k 0))
+
 -- the lowest bit of a word that isn't zero
 pub lowest : (rest place : ℕ) → (rest ≡ 0 → ⊥) → rest < 2 ^ 64 → place ≡ trailing_zeros w64 rest → (place < 64) × (bit_at rest place ≡ 1)
 lowest rest place some fits is = by (bit_at-trailing_zeros w64 rest (let u : rest ≢ 0 = some in omega arith) fits)
@@ -258,6 +266,9 @@ module _ (n : ℕ) (a b : List ℕ) where
 
   pub led_none : (words : List ℕ) → ((x w p : ℕ) → x < n → w < words_a_row n → IsSet n words x w p → ⊥) → HasBits n words (LedBefore 0)
   led_none words none x w p hx hw = (λ s. absurd (none x w p hx hw s), λ d. absurd (omega (arith, d.2)))
+
+  pub led_zeros : (k : ℕ) (words : List ℕ) → words ≡ replicate k 0 → HasBits n words (LedBefore 0)
+  led_zeros k words e = led_none words (λ x w p hx hw s. absurd (omega (arith, sym s ∙ ap (λ v. bit_at v p) (zeros_are k words e (x * words_a_row n + w)), bit_at-zero p)))
 
   -- a word that is zero leads nowhere
   pub led_zero : (at : ℕ) (words : List ℕ) → get_or a at 0 ≡ 0 → HasBits n words (LedBefore at) → HasBits n words (LedBefore (at + 1))

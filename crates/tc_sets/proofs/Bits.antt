@@ -1,5 +1,5 @@
 -- Sets of numbers and the bits that keep them.
-use Rattle.std.proofs.Common.{◌≡◌, ◌≢◌, ◌⊎◌, inl, inr, ◌↔◌, Bool, true, false, IsTrue, ℕ, ◌+◌, ◌*◌, ◌/◌, ◌%◌, ◌<◌, ◌≤◌, ◌^◌, List, refl, sym, ap, subst, ◌∙◌, length, get_or, set, arith, bit_and, bit_or, take, drop, ◌++◌, replicate, min, max}
+use Rattle.std.proofs.Common.{Result, Ok, Err, IfOk, IsErrAnd, ◌≡◌, ◌≢◌, ◌⊎◌, inl, inr, ◌↔◌, Bool, true, false, IsTrue, ℕ, ◌+◌, ◌*◌, ◌/◌, ◌%◌, ◌<◌, ◌≤◌, ◌^◌, List, refl, sym, ap, subst, ◌∙◌, length, get_or, set, arith, bit_and, bit_or, take, drop, ◌++◌, replicate, min, max}
 use Rattle.std.specs.Int.{bit_at}
 use Rattle.std.proofs.lemmas.Bool.{cases_eq, cases_lt}
 use Rattle.std.proofs.lemmas.List.{ext_get_or, get_or-set_same, get_or-set_other, length-set, take_at, get_or-replicate, get_or_past, length-replicate}
@@ -43,8 +43,8 @@ word_of_none s ok none w = same_from_bits (get_or s.words w 0) 0 (λ k. by k (ca
 pub none_in_zeros : (words : List ℕ) (n : ℕ) → ((w : ℕ) → get_or words w 0 ≡ 0) → HasNone (numbers n words)
 none_in_zeros words n zeros j has = omega (arith, sym has ∙ ap (λ v. bit_at v (j % 64)) (zeros (j / 64)), bit_at-zero (j % 64))
 
-pub zeros_are : (n k : ℕ) (words : List ℕ) → words ≡ replicate k 0 → (w : ℕ) → get_or words w 0 ≡ 0
-zeros_are n k words e w = ap (λ ws. get_or ws w 0) e ∙ by (cases_lt w k)
+pub zeros_are : (k : ℕ) (words : List ℕ) → words ≡ replicate k 0 → (w : ℕ) → get_or words w 0 ≡ 0
+zeros_are k words e w = ap (λ ws. get_or ws w 0) e ∙ by (cases_lt w k)
   where
     by : (w < k) ⊎ (k ≤ w) → get_or {A = ℕ} (replicate k 0) w 0 ≡ 0
     by (inl l) = get_or-replicate k w 0 0 l
@@ -265,3 +265,8 @@ apart_told b s t xs ys a c size ok also none met = (λ h. words_apart s t ok siz
     by apart (inr is) =
         let (w, some) = met is in
         absurd (some (ap (λ us. bit_and (get_or us w 0) (get_or ys w 0)) a ∙ (ap (λ us. bit_and (get_or s.words w 0) (get_or us w 0)) c ∙ apart_words s t ok also apart w)))
+
+-- nothing is said of the value of an error
+pub error_no_value : {T E : Type 0} (r : Result T E) (P : T → Type 0) (Q : E → Type 0) → IsErrAnd r Q → IfOk r P
+error_no_value (Ok v) P Q h = absurd h
+error_no_value (Err e) P Q h = tt

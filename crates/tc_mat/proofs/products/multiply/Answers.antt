@@ -2,9 +2,10 @@ use Rattle.std.proofs.Common.{◌+◌, ◌*◌, ◌/◌, ◌%◌, ◌<◌, ℕ, 
 use Rattle.std.proofs.lemmas.Nat.{mod_below}
 use Rattle.tc_mat.specs.Matrix.{words_a_row}
 use Rattle.tc_mat.specs.Product.{HasBits, Leads}
-use Rattle.tc_mat.proofs.Rows.{LedBefore, led_zero, led_more, led_all, unit_rows, told_low, row_low, some_width}
+use Rattle.tc_mat.proofs.Rows.{LedBefore, led_zero, led_zeros, led_more, led_all, unit_rows, told_low, row_low, some_width}
 use Rattle.tc_mat.proofs.products.multiply.Goals.{then-word-ne0, else-word-ne0}
 use Rattle.tc_mat.proofs.products.multiply.Goals as goal
+use borrow.Author.Count.{falls}
 
 pub returns-then-is_identity : goal.returns-then-is_identity
 returns-then-is_identity c =
@@ -63,3 +64,12 @@ nonzero_rem-at c = subst (λ v. 0 < v) (sym c.words_in_row-width.ensures) (some_
 
 pub nonzero_div-at : goal.nonzero_div-at
 nonzero_div-at c = subst (λ v. 0 < v) (sym c.words_in_row-width.ensures) (some_width c.args.n c.loop-at.at (length c.args.a.now) c.loop-at-test.true c.requires.left)
+
+pub add_rows-requires-clause-room : goal.add_rows-requires-clause-room
+add_rows-requires-clause-room c = c.loop-at.auto.out ∙ (c.fill.auto.self ∙ c.requires.room)
+
+pub loop-at-smaller : goal.loop-at-smaller
+loop-at-smaller c = falls _ c.loop-at.at c.loop-at-test.true
+
+pub loop-at-init : goal.loop-at-init
+loop-at-init c = led_zeros c.args.n c.args.a.now c.args.b.now _ c.fill.new.self (c.fill.ensures.after (λ y e. e))
