@@ -3,3 +3,4 @@ pub mod NamesLaws
 pub mod CharsLaws
 pub mod CharsFront
 pub mod ReferenceLaws
+mod Prefixes

@@ -1,13 +1,13 @@
 -- References, runs of digits and line ends.
-use Rattle.std.proofs.Common.{◌≡◌, ℕ, zero, suc, ◌+◌, ◌*◌, ◌<◌, ◌≤◌, Bool, true, false, cond, List, [], ◌∷◌, ◌++◌, refl, ap, ◌∙◌, sym, subst, length, take, drop, get_or, arith, Option, None, Some, IsTrue, IsUtf8, IsCharBoundary, bytes_eq}
+use Rattle.std.proofs.Common.{◌≡◌, ℕ, zero, suc, ◌+◌, ◌*◌, ◌^◌, ◌<◌, ◌≤◌, Bool, true, false, cond, List, [], ◌∷◌, ◌++◌, refl, ap, ◌∙◌, sym, subst, length, take, drop, get_or, arith, Option, None, Some, IsTrue, IsUtf8, IsCharBoundary, bytes_eq}
 use Rattle.std.specs.Prelude.{encode_utf8, codes}
 use Rattle.std.specs.Char.{digit_value}
 use Rattle.std.specs.List.{prefix_len}
 use Rattle.std.specs.Str.Parse.{digits_value, digits_value_after, AllDigits}
-use Rattle.std.proofs.Math.Nat.{le-mul_of_pos_right}
+use Rattle.std.proofs.Math.Nat.{le-mul_of_pos_right, mul-le-mul}
 use Rattle.std.proofs.lemmas.Bool.{true≢false}
 use Rattle.std.proofs.lemmas.Bool.Decides.{nat_tests}
-use Rattle.std.proofs.lemmas.List.{drop_more}
+use Rattle.std.proofs.lemmas.List.{drop_more, drop_all}
 use Rattle.std.proofs.lemmas.List.Sums.{prefix_len_passes, prefix_len-le-length}
 use Rattle.std.proofs.lemmas.Str.{IsCharBoundary-after_ascii, IsCharBoundary-start, encode_ascii}
 use Rattle.tc_base.specs.Characters.{is_char}
@@ -115,15 +115,6 @@ no_semicolon {o} text body name rest e x n h s after r = by (body_of body e r)
     by (hexadecimal_body {rest = rest} g a k) = x (0x78 ∷ rest) g
     by (entity_body a k) = h after (ncname_unique n a).1
 
-pub no_predefined : (text body name rest after : List ℕ) → text ≡ 0x26 ∷ body → ((r : List ℕ) → body ≡ codes "#" ++ r → ⊥) → NcNameAt body name rest
-    → rest ≡ 0x3B ∷ after → predefined name ≡ None → (s after : List ℕ) → ReferenceAt false text s after → ⊥
-no_predefined text body name rest after e x n f p s after' r = by (body_of body e r)
-  where
-    by : Body false body after' → ⊥
-    by (decimal_body {rest = rest} g a k) = x rest g
-    by (hexadecimal_body {rest = rest} g a k) = x (0x78 ∷ rest) g
-    by (entity_body a k) = true≢false (sym (k (ap predefined (sym (ncname_unique n a).0) ∙ p)))
-
 pub is_hexadecimal : (text body digits after : List ℕ) (c : ℕ) → text ≡ 0x26 ∷ body → body ≡ codes "#x" ++ digits
     → ((ds : List ℕ) × RunAt (is_digit 16) digits ds (0x3B ∷ after) × (c ≡ digits_value 16 ds) × IsTrue (is_char c)) → ReferenceAt false text (encode_utf8 c) after
 is_hexadecimal text body digits after c e f (ds, run, is, k) =
@@ -160,11 +151,33 @@ is_entity text body name rest after c e n f p =
 pub other_entity : (text body name rest after : List ℕ) → text ≡ 0x26 ∷ body → NcNameAt body name rest → rest ≡ 0x3B ∷ after → predefined name ≡ None → OtherEntityAt text
 other_entity text body name rest after e n f p = record { name = name; after = after; refers = entity_at text body name rest after e n f; not_predefined = p }
 
+-- one digit more
+pub number_goes_on : (base number d i : ℕ) (digits items : List ℕ) → i < length items → items ≡ digits → d ≡ digit_value (get_or items i 0)
+    → digits_value_after base number (drop i digits) ≡ digits_value base digits → digits_value_after base (number * base + d) (drop (i + 1) digits) ≡ digits_value base digits
+number_goes_on base number d i digits items l same is v =
+    let here : d ≡ digit_value (get_or digits i 0) = is ∙ ap (λ w. digit_value (get_or w i 0)) same in
+    ap (λ x. digits_value_after base (number * base + x) (drop (i + 1) digits)) here ∙ (ap (digits_value_after base number) (sym (drop_more digits i 0 (subst (λ w. i < length w) same l))) ∙ v)
+
+pub digits_left : (base i : ℕ) (digits items : List ℕ) → i < length items → items ≡ digits → AllDigits base (drop i digits) → AllDigits base (drop (i + 1) digits)
+digits_left base i digits items l same all = (subst (λ w. AllDigits base w) (drop_more digits i 0 (subst (λ w. i < length w) same l)) all).1
+
+pub digit_here : (base i : ℕ) (digits items : List ℕ) → i < length items → items ≡ digits → AllDigits base (drop i digits) → digit_value (get_or items i 0) < base
+digit_here base i digits items l same all =
+    subst (λ w. digit_value (get_or w i 0) < base) (sym same) (subst (λ w. AllDigits base w) (drop_more digits i 0 (subst (λ w. i < length w) same l)) all).0
+
+-- the number after the last digit
+pub number_whole : (base number i : ℕ) (digits items : List ℕ) → items ≡ digits → length items ≤ i → digits_value_after base number (drop i digits) ≡ digits_value base digits → number ≡ digits_value base digits
+number_whole base number i digits items same end v = sym (ap (digits_value_after base number) (drop_all i digits (subst (λ w. length w ≤ i) same end))) ∙ v
+
+-- a number that XML can have, and a digit more, fit
+pub number_fits : (number base : ℕ) → number ≤ 0x10FFFF → base ≤ 16 → number * base < 2 ^ 32
+number_fits number base low small = omega (arith, mul-le-mul low small)
+
+pub longer_fits : (number base d v : ℕ) → number ≤ 0x10FFFF → base ≤ 16 → v < base → d ≡ v → number * base + d < 2 ^ 32
+longer_fits number base d v low small below is = omega (arith, mul-le-mul low small)
+
 -- the digits so far are too many
 pub number_too_large : (base number d i : ℕ) (digits items : List ℕ) → (2 ≤ base) × (base ≤ 16) → i < length items → items ≡ digits → d ≡ digit_value (get_or items i 0)
     → digits_value_after base number (drop i digits) ≡ digits_value base digits → 0x10FFFF < number * base + d → IsTrue (is_char (digits_value base digits)) → ⊥
 number_too_large base number d i digits items b l same is v h =
-    let here : d ≡ digit_value (get_or digits i 0) = is ∙ ap (λ w. digit_value (get_or w i 0)) same in
-    let step : digits_value_after base (number * base + d) (drop (i + 1) digits) ≡ digits_value base digits =
-    ap (λ x. digits_value_after base (number * base + x) (drop (i + 1) digits)) here ∙ (ap (digits_value_after base number) (sym (drop_more digits i 0 (subst (λ w. i < length w) same l))) ∙ v) in
-    too_large base (number * base + d) (drop (i + 1) digits) digits (omega arith) step h
+    too_large base (number * base + d) (drop (i + 1) digits) digits (omega arith) (number_goes_on base number d i digits items l same is v) h
