@@ -23,10 +23,6 @@ abbrev Within : ℕ → ℕ → List ℕ → Type 0
 Within low high [] = low ≤ high
 Within low high (n ∷ ns) = (low ≤ n) × Within (n + 1) high ns
 
-within_order : (low high : ℕ) (ns : List ℕ) → Within low high ns → low ≤ high
-within_order low high [] h = h
-within_order low high (n ∷ ns) (a, h) = let k = within_order (n + 1) high ns h in omega (arith, k, a)
-
 within_from : (low least high : ℕ) (ns : List ℕ) → low ≤ least → Within least high ns → Within low high ns
 within_from low least high [] a h = omega (arith, a, h)
 within_from low least high (n ∷ ns) a (b, h) = (omega (arith, a, b), h)

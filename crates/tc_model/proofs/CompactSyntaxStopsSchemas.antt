@@ -4,10 +4,9 @@ use Rattle.std.proofs.lemmas.Bool.{false≢true}
 use Rattle.tc_model.specs.RawTrees.{Bound}
 use Rattle.tc_model.specs.XmlTextBytes.{Lacks, length_before}
 use Rattle.tc_model.specs.CompactSyntaxTrees.{SyntaxPattern, Definition}
-use Rattle.tc_model.specs.CompactSyntaxTokens.{literal, Token}
+use Rattle.tc_model.specs.CompactSyntaxTokens.{Token}
 use Rattle.tc_model.specs.CompactSyntaxNames.{IsWord, IsMark, identifier_or_keyword, IsLiteral, MayBind, DeclarationAt, namespace, default_namespace, both, datatypes}
-use Rattle.tc_model.specs.CompactSyntaxPatterns.{connector_at, suffix_at, PatternAt, ItemAt, PrimaryAt}
-use Rattle.tc_model.specs.CompactSyntaxPatterns as p
+use Rattle.tc_model.specs.CompactSyntaxPatterns.{connector_at, suffix_at, PatternAt}
 use Rattle.tc_model.specs.CompactSyntax.{OperatorAt, DefinitionAt, DefinitionsAt, SchemaAt, declaration, one_pattern, definitions, grammar}
 use Rattle.tc_model.specs.CompactSyntax as s
 use Rattle.tc_model.specs.CompactSyntaxUnread.{Refusal, End, EscapeAt, in_text, in_literal, in_long_literal, escape_mark, LiteralStops, escape_within, three_quotes, NoNamespaceName, inherit, concatenation}
@@ -15,7 +14,7 @@ use Rattle.tc_model.specs.CompactSyntaxUnread as u
 use Rattle.tc_model.specs.CompactSyntaxStops.{BlockStops, UriStops, no_equals, no_namespace_name, PrefixStops, no_prefix, uri, DeclarationStops, namespace_prefix, namespace_bound, datatypes_prefix, default_word, default_uri, default_bound, both_prefix, both_bound, BeginsDefinitions, BeginsOnePattern, BlockAt, block, GoesOnAsPattern, SchemaStops, in_declaration, past_declaration, in_grammar, inner_grammar, past_grammar, in_definitions, past_definitions, in_pattern, past_pattern}
 use Rattle.tc_model.proofs.CompactSyntaxClassesUnique.{same_some, some_none, same_head, same_tail, keyword_kind, word_kind, kind_at, namespace_kind, default_kind, datatypes_kind, grammar_kind, start_kind, div_kind, identifier_kind, literal_unique, declares, declared_kind, declaration_kind, declaration_unique}
 use Rattle.tc_model.proofs.CompactSyntaxClassesUnique as q
-use Rattle.tc_model.proofs.CompactSyntaxUnique.{rule, primary_kind, defines, pattern_kind, pattern_unique, definitions_kind, definitions_unique, no_pattern_before_operator}
+use Rattle.tc_model.proofs.CompactSyntaxUnique.{pattern_kind, pattern_unique, definitions_kind, definitions_unique, no_pattern_before_operator}
 use Rattle.tc_model.proofs.CompactSyntaxBehind.{pattern_with, definitions_with}
 use Rattle.tc_model.proofs.CompactSyntaxUnread.{mark_no_literal, name_no_literal, literal_no_long, same_literal}
 use Rattle.tc_model.proofs.CompactSyntaxStopsExclude.{Excluding, pattern_excludes, definitions_excludes, block_excludes, include_kind}
@@ -41,34 +40,6 @@ schema_kind (grammar a b m c) = omega (arith, grammar_kind a)
 no_schema_at_tilde : {o : Bool} {scope : List Bound} {d : ℕ} {t : Token} {rest : List Token} {ds : List Definition} → IsMark 0x7E t → SchemaAt o scope d (t ∷ rest) ds → ⊥
 unfolding kind_at word_kind
 no_schema_at_tilde k m = omega (arith, schema_kind m, ap word_kind k)
-
--- nor with a literal, unless data are read
-no_primary_at_literal : {scope : List Bound} {d : ℕ} {t : Token} {rest after : List Token} {x : SyntaxPattern} {v : List ℕ} → t.word ≡ literal v → PrimaryAt false scope d (t ∷ rest) x after → ⊥
-unfolding rule kind_at word_kind
-no_primary_at_literal k (p.a_datum h a) = absurd (false≢true h)
-no_primary_at_literal k m = omega (arith, primary_kind m, ap word_kind k)
-
-no_pattern_at_literal : {scope : List Bound} {d : ℕ} {t : Token} {rest after : List Token} {x : SyntaxPattern} {v : List ℕ} → t.word ≡ literal v → PatternAt false scope d (t ∷ rest) x after → ⊥
-no_pattern_at_literal k (p.alone (p.bare m h) g) = no_primary_at_literal k m
-no_pattern_at_literal k (p.alone (p.with_suffix m h) g) = no_primary_at_literal k m
-no_pattern_at_literal k (p.several (p.bare m h) g n) = no_primary_at_literal k m
-no_pattern_at_literal k (p.several (p.with_suffix m h) g n) = no_primary_at_literal k m
-
-no_definitions_at_literal : {scope : List Bound} {d : ℕ} {t : Token} {rest : List Token} {ds : List Definition} {v : List ℕ} → t.word ≡ literal v → DefinitionsAt false scope d (t ∷ rest) ds [] → ⊥
-unfolding kind_at word_kind defines
-no_definitions_at_literal k (s.more (s.of_start a x m) n) = omega (arith, start_kind a, ap word_kind k)
-no_definitions_at_literal k (s.more (s.of_name {t = t} a x m) n) = omega (arith, identifier_kind t.word a, ap word_kind k)
-no_definitions_at_literal k (s.more (s.div a b m e) n) = omega (arith, div_kind a, ap word_kind k)
-
-no_plain_schema_at_literal : {scope : List Bound} {d : ℕ} {t : Token} {rest : List Token} {ds : List Definition} {v : List ℕ} → t.word ≡ literal v → SchemaAt false scope d (t ∷ rest) ds → ⊥
-unfolding kind_at word_kind
-no_plain_schema_at_literal k (declaration a m) = omega (arith, (declared_bounds a).0, ap word_kind k)
-no_plain_schema_at_literal k (one_pattern m) = no_pattern_at_literal k m
-no_plain_schema_at_literal k (definitions m) = no_definitions_at_literal k m
-no_plain_schema_at_literal k (grammar a b m c) = name_no_literal a k
-
-no_schema_at_literal : {o : Bool} {scope : List Bound} {d : ℕ} {t : Token} {rest : List Token} {ds : List Definition} {v : List ℕ} → t.word ≡ literal v → o ≡ false → SchemaAt o scope d (t ∷ rest) ds → ⊥
-no_schema_at_literal {scope = scope} {d} {t} {rest} {ds} k e m = no_plain_schema_at_literal k (subst (λ z. SchemaAt z scope d (t ∷ rest) ds) e m)
 
 -- A namespace name.
 

@@ -8,7 +8,7 @@ use Rattle.tc_model.specs.RawTrees.{Bound}
 use Rattle.tc_model.specs.Sheets.{NodeTest, of_name, of_namespace, Steps, no_step, step, Path, no_alternative, Test, has, negated, Tests, no_test, test, Body, no_instruction, value}
 use Rattle.tc_model.specs.XmlTextBytes.{after_white}
 use Rattle.tc_model.specs.XmlTextNames.{QualifiedName}
-use Rattle.tc_model.specs.PathTextTokens.{Mark, star, slash, slashes, bar, open_parenthesis, close_parenthesis, dot, colons, Token, name, all_of_prefix, mark}
+use Rattle.tc_model.specs.PathTextTokens.{slash, slashes, bar, open_parenthesis, close_parenthesis, dot, colons, Token, name, all_of_prefix, mark}
 use Rattle.tc_model.specs.PathTextPhrases.{word, Lacks, EndsNameTest, NameMeans, without_prefix, with_prefix, NodeTestAt, a_name, a_namespace, a_star, a_text, a_node, ChildAt, abbreviated, spelled, AttributeTestAt, AttributeAt, OtherNodeAt, a_comment, an_instruction, Form, lone, longer, dropped, lengthened, form_with, conjunction, disjunction, alternative_before, is_dropped, StepsAt, attribute_step, last_step, child_step, descendant_step, PredicatesAt, no_predicate, predicate, AlternativeAt, from_children, from_descendants, other_node, SelectAt, last_alternative, one_alternative, AttributesAlternativeAt, attributes_of_children, attributes_of_descendants, AttributesAt, last_attributes, one_attributes, PrimaryAt, a_path, a_negation, a_truth, a_falsehood, in_parentheses, AndAt, last_primary, one_primary, OrAt, last_conjunction, one_conjunction, Alternative, priority_otherwise, default_priority, unless_dropped, EndsAlternative, at_end, at_bar, PatternAlternativeAt, root_alone, relative, from_root, below_root, PatternAt}
 use Rattle.tc_model.specs.PathTextPhrases as p
 use Rattle.tc_model.specs.PathText.{IsValue, of_self, of_path, IsTest, of_tests, SelectText, AttributesText, ValueText, PatternText, TestText}
@@ -94,9 +94,6 @@ steps_open (attribute_step a) = attribute_opens a
 steps_open (last_step a u h k) = child_opens a
 steps_open (child_step a u s) = child_opens a
 steps_open (descendant_step a u s) = child_opens a
-
-pub no_child_mark : {scope : List Bound} {m : Mark} {ts r : List Token} {t : NodeTest} → ChildAt scope (mark m ∷ ts) t r → m ≡ star
-no_child_mark (abbreviated a_star) = refl
 
 -- a call is no step
 pub no_child_call : {scope : List Bound} {w : List ℕ} {ts r : List Token} {t : NodeTest} → ChildAt scope (word w ∷ mark open_parenthesis ∷ ts) t r → (w ≡ codes "text") ⊎ (w ≡ codes "node")

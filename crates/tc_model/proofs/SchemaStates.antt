@@ -1,9 +1,9 @@
 -- The states that a schema's limit counts are those of its automata.
-use Rattle.std.proofs.Common.{◌≡◌, ◌<◌, ℕ, zero, suc, ◌+◌, ◌-◌, ◌*◌, List, [], ◌∷◌, length, sum_by, mul_assoc, refl, sym, ap, ◌∙◌, arith}
+use Rattle.std.proofs.Common.{◌≡◌, ◌<◌, ℕ, ◌+◌, ◌*◌, List, [], ◌∷◌, length, sum_by, mul_assoc, refl, ap, ◌∙◌, arith}
 use Rattle.std.proofs.lemmas.List.Sums.{sum_by-cons}
-use Rattle.tc_model.specs.Grammars.{Pattern, Patterns, Grammar, ElementPattern, empty, not_allowed, text, ref, group, choice, interleave, one_or_more, no_more, more}
-use Rattle.tc_model.specs.States.{Automaton, automaton, grouped, chosen, interleaved, group_of, choice_of, interleave_of, empty_automaton, nothing_automaton, states_of_contents, input, output, state_count}
-use Rattle.tc_model.specs.SchemaStates.{states_in, later_states_in, pairs_of_states_in, states_of_input, states_of_output, StateCountsAgree}
+use Rattle.tc_model.specs.Grammars.{Pattern, Patterns, ElementPattern, empty, not_allowed, text, ref, group, choice, interleave, one_or_more, no_more, more}
+use Rattle.tc_model.specs.States.{Automaton, automaton, grouped, chosen, interleaved, group_of, choice_of, interleave_of, empty_automaton, nothing_automaton, states_of_contents}
+use Rattle.tc_model.specs.SchemaStates.{states_in, later_states_in, pairs_of_states_in, StateCountsAgree}
 use Rattle.tc_model.proofs.StatesExact.{sound}
 
 some : (q : Pattern) → 0 < (automaton q).count

@@ -18,17 +18,6 @@ contents_before (e ∷ es) zero (suc m) d at low = let same : e ≡ d = cc in om
 contents_before (e ∷ es) (suc k) zero d at low = absurd (omega arith)
 contents_before (e ∷ es) (suc k) (suc m) d at low = omega (arith, contents_before es k m d at (omega arith))
 
-some_content : (es : List ElementPattern) (k : ℕ) (e : ElementPattern) → slice_get es k ≡ Some e → k < length es
-some_content [] k e at = absurd (cc)
-some_content (d ∷ es) zero e at = omega arith
-some_content (d ∷ es) (suc k) e at = omega (arith, some_content es k e at)
-
--- a part's number is that of a content at most
-pub part_number : (g : Grammar) (side : Side) {k : ℕ} {q : Pattern} → IsPart g side k q → k ≤ length g.elements
-part_number g side the_start = omega arith
-part_number g side (a_content {k = zero} at) = absurd (cc)
-part_number g side (a_content {k = suc k} {e = e} at) = omega (arith, some_content g.elements k e at)
-
 -- the states of a part end before those of a later one begin
 pub part_before : (g : Grammar) (side : Side) {k m : ℕ} {q r : Pattern} → IsPart g side k q → IsPart g side m r → k < m → first_state g side k + (automaton q).count ≤ first_state g side m
 part_before g side the_start the_start low = absurd (omega arith)
@@ -146,6 +135,3 @@ pub edge_within : (g : Grammar) (side : Side) (i j : ℕ) (l : Leaf) → IsEdge 
 edge_within g side i j l (k, q, x, y, part, is, goes, e) =
     let s = sound q in
     (omega (arith, next_first g side part, first_within g side k, s.from x y l e), omega (arith, next_first g side part, first_within g side k, s.below x y l e))
-
-pub accepting_within : (g : Grammar) (side : Side) (j : ℕ) → IsAccepting g side j → j < state_count g side
-accepting_within g side j (k, q, y, part, is, acc) = let s = sound q in omega (arith, next_first g side part, first_within g side k, s.accepted y acc)

@@ -1,10 +1,10 @@
 -- Trees one after the other in a machine: what tasks put out on them, and the first hit in them.
-use Rattle.std.proofs.Common.{◌≡◌, List, refl, ap, ◌∙◌, sym, Bool, true, false, cond, Option, Some, None}
+use Rattle.std.proofs.Common.{◌≡◌, refl, ap, ◌∙◌, sym, Bool, true, false, cond, Option, Some, None}
 use Rattle.tc_model.specs.Trees.{Trees, none, text, element, beside}
-use Rattle.tc_model.specs.Chains.{Tree, an_element, a_text, Node, one}
+use Rattle.tc_model.specs.Chains.{an_element, a_text, Node, one}
 use Rattle.tc_model.specs.Outcomes.{Outcome, nothing, join, counted}
 use Rattle.tc_model.specs.Machine.{CallFreeJob, Machine, or_else, first_hit, does_in, outputs}
-use Rattle.tc_model.proofs.TotalJoin.{join_assoc, join_none, none_join}
+use Rattle.tc_model.proofs.TotalJoin.{join_assoc, none_join}
 
 -- the first of three
 pub or_else_assoc : (a b c : Option Node) → or_else (or_else a b) c ≡ or_else a (or_else b c)

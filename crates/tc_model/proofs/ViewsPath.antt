@@ -84,9 +84,6 @@ pub steps_append : (xs ys : List Step) → steps (xs ++ ys) ≡ steps_then (step
 steps_append [] ys = refl
 steps_append (x ∷ xs) ys = ap (s.step x.deep (node_test x.test) (test x.when)) (steps_append xs ys)
 
-pub pushed_step : (xs : List Step) (x : Step) → steps (xs ++ x ∷ []) ≡ steps_then (steps xs) (s.step x.deep (node_test x.test) (test x.when) s.no_step)
-pushed_step xs x = steps_append xs (x ∷ [])
-
 pub steps_then_none : (xs : s.Steps) → steps_then xs s.no_step ≡ xs
 steps_then_none s.no_step = refl
 steps_then_none (s.step deep n when xs) = ap (s.step deep n when) (steps_then_none xs)
@@ -103,13 +100,6 @@ alternatives_then (s.alternative x p) q = s.alternative x (alternatives_then p q
 pub alternatives_append : (vs ws : List (Bor (List Step))) → alternatives (vs ++ ws) ≡ alternatives_then (alternatives vs) (alternatives ws)
 alternatives_append [] ws = refl
 alternatives_append (x ∷ vs) ws = ap (s.alternative (steps x.now)) (alternatives_append vs ws)
-
-pub pushed_alternative : (ws : List (Bor (List Step))) (x : Bor (List Step)) → alternatives (ws ++ x ∷ []) ≡ alternatives_then (alternatives ws) (s.alternative (steps x.now) s.no_alternative)
-pushed_alternative ws x = alternatives_append ws (x ∷ [])
-
-pub alternatives_then_none : (p : s.Path) → alternatives_then p s.no_alternative ≡ p
-alternatives_then_none s.no_alternative = refl
-alternatives_then_none (s.alternative x p) = ap (s.alternative x) (alternatives_then_none p)
 
 pub alternatives_then_assoc : (a b d : s.Path) → alternatives_then (alternatives_then a b) d ≡ alternatives_then a (alternatives_then b d)
 alternatives_then_assoc s.no_alternative b d = refl

@@ -1,6 +1,6 @@
 -- A text that is read with references to other entities, or with elements deeper than they may stand, has the same raw tree, or reading comes to the first
 -- of these and it is refused there.
-use Rattle.std.proofs.Common.{◌≡◌, ◌⊎◌, inl, inr, ℕ, zero, suc, ◌<◌, Bool, true, false, not, List, [], ◌∷◌, refl, sym, subst, length, arith, IsTrue, IsFalse}
+use Rattle.std.proofs.Common.{◌≡◌, ◌⊎◌, inl, inr, ℕ, zero, suc, ◌<◌, Bool, true, false, not, List, refl, sym, subst, length, arith, IsTrue, IsFalse}
 use Rattle.std.specs.List.{list_all}
 use Rattle.std.proofs.lemmas.Bool.{true≢false, and_parts}
 use Rattle.tc_base.specs.declared.reasons.Why.{Why}

@@ -1,14 +1,14 @@
 -- The numbers of a stylesheet's predicates, moves and looks, and of the path states on which they go. They are in the order of the stylesheet, but for
 -- the moves of built-in rules, which come first, and the looks of predicates, which come last: its rules, each with its pattern and then its body, and
 -- then the named bodies; in a body the instructions as they stand, each before those inside it, and in a branch the test before the body.
-use Rattle.std.specs.Prelude.{◌≡◌, ℕ, zero, suc, ◌+◌, ◌^◌, List, [], ◌∷◌, ◌++◌, length, map, filter, flat_map, Bool, true, ◌&&◌, not, nat_eq}
+use Rattle.std.specs.Prelude.{◌≡◌, ℕ, zero, suc, ◌+◌, ◌^◌, List, [], ◌∷◌, ◌++◌, length, map, filter, flat_map, Bool, ◌&&◌, nat_eq}
 use Rattle.tc_model.specs.Sheets.{Steps, no_step, step, Path, no_alternative, alternative, Test, always, never, has, negated, all_of, any_of, Tests, no_test, test, MatchPattern, root_pattern, steps_pattern, Body, no_instruction, put_text, put_element, copy, apply, call, for_each, value, value_of_self, choose, Branches, otherwise, branch, Sheet}
 use Rattle.tc_model.specs.Meaning.{all_children}
 use Rattle.tc_model.specs.Symbols.{Mention, symbol_count}
 use Rattle.tc_model.specs.SameTests.{same_path, same_test}
 use Rattle.tc_model.specs.Numbered.{numbers_below, each_once}
 use Rattle.tc_model.specs.Letters.{Letter, of_symbol}
-use Rattle.tc_model.specs.PathStates.{State, same_state, is_empty_state, first_state, next_state, path_of_rules}
+use Rattle.tc_model.specs.PathStates.{State, same_state}
 
 -- a predicate that says something
 abbrev pub as_predicate : Test → List Test
