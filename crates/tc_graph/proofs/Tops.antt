@@ -1,5 +1,5 @@
 -- The last of a list, and what is left without it.
-use Rattle.std.proofs.Common.{◌≡◌, ◌⊎◌, inr, ℕ, zero, suc, ◌-◌, ◌<◌, ◌≤◌, List, [], ◌∷◌, ◌++◌, refl, ap, ◌∙◌, sym, subst, arith, length, get_or, take, slice_index, length-append, append_assoc, Some, None, slice_get, Result, Ok, Err, OnOk}
+use Rattle.std.proofs.Common.{◌≡◌, ◌⊎◌, inr, ℕ, zero, suc, ◌-◌, ◌<◌, ◌≤◌, List, [], ◌∷◌, ◌++◌, refl, ap, ◌∙◌, sym, subst, arith, length, get_or, take, slice_index, length-append, append_assoc, Some, None, slice_get, Result, Ok, Err, OnOk, IsErrAnd}
 use Rattle.std.proofs.lemmas.List.{get_or_read}
 use Rattle.std.proofs.lemmas.List.Elements.{Contains-push, All-cons}
 use Rattle.std.specs.List.{All, Contains}
@@ -69,6 +69,14 @@ has_last xs front x e = subst (λ z. Contains z x) (sym e) (Contains-push front 
 pub on_ok : {T E P Q : Type 0} (r : Result T E) → (P → Q) → OnOk r P → OnOk r Q
 on_ok (Ok x) f h = f h
 on_ok (Err e) f h = h
+
+-- an error says nothing of what succeeds
+pub error_not_ok : {T E : Type 0} (r : Result T E) (P : Type 0) (Q : E → Type 0) → IsErrAnd r Q → OnOk r P
+error_not_ok (Ok x) P Q h = absurd h
+error_not_ok (Err e) P Q h = tt
+
+pub below_lent : {place : ℕ} {items lent : List ℕ} → lent ≡ items → place < length items → place ≤ length lent
+below_lent {place} {items} {lent} e h = let same = ap length e in omega (arith, h)
 
 pub target_is : (xs : List ℕ) (n x : ℕ) → n ≡ length xs → 0 < length xs → x ≡ get_or xs (n - 1) x → slice_index xs (length xs - 1) ≡ x
 target_is xs n x is some e =

@@ -15,3 +15,16 @@ returns-in-New-clause-walk c =
     let new = state_is s.states c.args.number _ _ states c.index.ensures c.in-New.is in
     let walks = walk_enter (rows_of rows) s c.args.number c.requires.walk small new (λ i h. absurd (omega (arith, h, ap length c.requires.empty))) in
     on_ok c.enter.result (λ e. subst (IsWalk (rows_of rows)) (sym (e ∙ ap (λ r. entered c.args.number r s) (sym (row_at rows c.args.number _ c.requires.within)))) walks) c.enter.ensures
+
+pub bounds-rows-number : goal.bounds-rows-number
+bounds-rows-number c = c.requires.within
+
+pub enter-requires : goal.enter-requires
+enter-requires c =
+    let small : c.args.number < length (rows_of c.args.rows.now) = subst (λ n. c.args.number < n) (sym (count_rows c.args.rows.now)) c.requires.within in
+    subst (λ n. c.args.number < n) (sym c.requires.walk.size) small
+
+pub index-requires : goal.index-requires
+index-requires c =
+    let small : c.args.number < length (rows_of c.args.rows.now) = subst (λ n. c.args.number < n) (sym (count_rows c.args.rows.now)) c.requires.within in
+    subst (λ n. c.args.number < n) (sym (c.args.self.now.states.ok.0 ∙ c.requires.walk.size)) small

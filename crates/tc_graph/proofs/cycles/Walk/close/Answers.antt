@@ -1,5 +1,6 @@
-use Rattle.std.proofs.Common.{arith, refl}
+use Rattle.std.proofs.Common.{◌<◌, arith, refl, subst, sym}
 use Rattle.std.proofs.lemmas.Grind.{common_steps}
+use Rattle.tc_graph.proofs.Tops.{error_not_ok, below_lent}
 use Rattle.tc_graph.proofs.cycles.Walk.close.Goals as goal
 
 pub returns : goal.returns
@@ -10,3 +11,12 @@ returns c = record {
   steps = refl;
   order = grind (arith, common_steps);
 }
+
+pub index-requires : goal.index-requires
+index-requires c = subst (λ n. c.args.start.place < n) (sym c.args.self.now.stack.ok.0) c.requires.within
+
+pub returns-in_err-push : goal.returns-in_err-push
+returns-in_err-push c = error_not_ok c.from_residual.result _ _ c.from_residual.ensures.1
+
+pub slice_bounds-finish-count : goal.slice_bounds-finish-count
+slice_bounds-finish-count c = below_lent c.deref.ensures.value c.requires.within

@@ -1,7 +1,7 @@
-use Rattle.std.proofs.Common.{◌≡◌, ◌∙◌, ◌-◌, [], ◌∷◌, List, ap, append-nil, arith, refl, sym, length, slice_get, take}
+use Rattle.std.proofs.Common.{◌≡◌, ◌∙◌, ◌-◌, [], ◌∷◌, List, ap, append-nil, arith, inl, refl, sym, length, slice_get, take}
 use Rattle.tc_graph.specs.Walks.{Stacks}
 use Rattle.tc_graph.specs.declared.cycles.Start.{Start}
-use Rattle.tc_graph.proofs.Tops.{one_gone}
+use Rattle.tc_graph.proofs.Tops.{left_last, nothing_last, one_gone}
 use Rattle.tc_graph.proofs.cycles.Walk.join.Goals as goal
 
 pub loop-start-preserved : goal.loop-start-preserved
@@ -15,3 +15,21 @@ loop-start-preserved c =
 
 pub loop-start-init : goal.loop-start-init
 loop-start-init c = ([], sym (append-nil c.args.self.now.starts.items), λ k d h. absurd (omega (arith, h)), refl)
+
+pub returns-then-start-place-clause-joined : goal.returns-then-start-place-clause-joined
+returns-then-start-place-clause-joined c = c.loop-start.invariant.3
+
+pub returns-clause-joined : goal.returns-clause-joined
+returns-clause-joined c = c.loop-start.invariant.3
+
+pub returns-then-start-place-clause-started : goal.returns-then-start-place-clause-started
+returns-then-start-place-clause-started c =
+    let last = ap (λ (z : List Start). slice_get z (length z - 1)) (sym c.deref.ensures.value) ∙ (sym c.last.ensures.value ∙ (sym c.copied.ensures ∙ c.in-Some.is)) in
+    let old = c.loop-start.invariant in
+    record { gone = old.0; parts = old.1; after = old.2; last = left_last c.args.place c.loop-start.self.starts.items c.in-Some.start last c.if-start-place.true }
+
+pub returns-clause-started : goal.returns-clause-started
+returns-clause-started c =
+    let last = ap (λ (z : List Start). slice_get z (length z - 1)) (sym c.deref.ensures.value) ∙ (sym c.last.ensures.value ∙ (sym c.copied.ensures ∙ c.in_default.is)) in
+    let old = c.loop-start.invariant in
+    record { gone = old.0; parts = old.1; after = old.2; last = inl (nothing_last c.loop-start.self.starts.items last) }
