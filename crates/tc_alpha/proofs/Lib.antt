@@ -8,3 +8,4 @@ pub mod Fresh
 pub mod Sorting
 pub mod Compared
 pub mod InOrder
+mod Errors

@@ -1,6 +1,7 @@
 use Rattle.std.proofs.Common.{ap, ◌∙◌, Some, refl}
 use Rattle.tc_alpha.specs.Views.{mention as see_mention}
 use Rattle.tc_model.specs.Views as see
+use Rattle.tc_alpha.proofs.Errors.{error_no_value}
 use Rattle.tc_alpha.proofs.Orders.{same_parts}
 use Rattle.tc_alpha.proofs.Fresh.{named, spaced, last, lawful_told, symbol_told}
 use Rattle.tc_alpha.proofs.alphabet.Alphabet.fresh.Goals as goal
@@ -62,3 +63,48 @@ returns-in_ok-free_text-in-Some-Namespace-clause-name c =
 
 pub returns-in_ok-free_text-in-None-clause-name : goal.returns-in_ok-free_text-in-None-clause-name
 returns-in_ok-free_text-in-None-clause-name c = last c.args.self.now c.args.sym.0 _ c.in-None.ensures.found c.in_ok-free_text-in-None.ensures refl
+
+pub returns-in_err-try_alloc_str-in-Some-Name-clause-name : goal.returns-in_err-try_alloc_str-in-Some-Name-clause-name
+returns-in_err-try_alloc_str-in-Some-Name-clause-name c = error_no_value c.from_residual.result _ _ c.from_residual.ensures.1
+
+pub returns-in_err-try_alloc_str-in-Some-Name-clause-lawful : goal.returns-in_err-try_alloc_str-in-Some-Name-clause-lawful
+returns-in_err-try_alloc_str-in-Some-Name-clause-lawful c = error_no_value c.from_residual.result _ _ c.from_residual.ensures.1
+
+pub returns-in_err-try_alloc_str-in-Some-Name-clause-symbol : goal.returns-in_err-try_alloc_str-in-Some-Name-clause-symbol
+returns-in_err-try_alloc_str-in-Some-Name-clause-symbol c = error_no_value c.from_residual.result _ _ c.from_residual.ensures.1
+
+pub returns-in_err-try_alloc_str-in-Some-Name-2-clause-name : goal.returns-in_err-try_alloc_str-in-Some-Name-2-clause-name
+returns-in_err-try_alloc_str-in-Some-Name-2-clause-name c = error_no_value c.from_residual-in_err-try_alloc_str-in-Some-Name-2.result _ _ c.from_residual-in_err-try_alloc_str-in-Some-Name-2.ensures.1
+
+pub returns-in_err-try_alloc_str-in-Some-Name-2-clause-lawful : goal.returns-in_err-try_alloc_str-in-Some-Name-2-clause-lawful
+returns-in_err-try_alloc_str-in-Some-Name-2-clause-lawful c = error_no_value c.from_residual-in_err-try_alloc_str-in-Some-Name-2.result _ _ c.from_residual-in_err-try_alloc_str-in-Some-Name-2.ensures.1
+
+pub returns-in_err-try_alloc_str-in-Some-Name-2-clause-symbol : goal.returns-in_err-try_alloc_str-in-Some-Name-2-clause-symbol
+returns-in_err-try_alloc_str-in-Some-Name-2-clause-symbol c = error_no_value c.from_residual-in_err-try_alloc_str-in-Some-Name-2.result _ _ c.from_residual-in_err-try_alloc_str-in-Some-Name-2.ensures.1
+
+pub returns-in_err-try_alloc_str-in-Some-Namespace-clause-name : goal.returns-in_err-try_alloc_str-in-Some-Namespace-clause-name
+returns-in_err-try_alloc_str-in-Some-Namespace-clause-name c = error_no_value c.from_residual-in_err-try_alloc_str-in-Some-Namespace.result _ _ c.from_residual-in_err-try_alloc_str-in-Some-Namespace.ensures.1
+
+pub returns-in_err-try_alloc_str-in-Some-Namespace-clause-lawful : goal.returns-in_err-try_alloc_str-in-Some-Namespace-clause-lawful
+returns-in_err-try_alloc_str-in-Some-Namespace-clause-lawful c = error_no_value c.from_residual-in_err-try_alloc_str-in-Some-Namespace.result _ _ c.from_residual-in_err-try_alloc_str-in-Some-Namespace.ensures.1
+
+pub returns-in_err-try_alloc_str-in-Some-Namespace-clause-symbol : goal.returns-in_err-try_alloc_str-in-Some-Namespace-clause-symbol
+returns-in_err-try_alloc_str-in-Some-Namespace-clause-symbol c = error_no_value c.from_residual-in_err-try_alloc_str-in-Some-Namespace.result _ _ c.from_residual-in_err-try_alloc_str-in-Some-Namespace.ensures.1
+
+pub returns-in_err-free_text-in-Some-Namespace-clause-name : goal.returns-in_err-free_text-in-Some-Namespace-clause-name
+returns-in_err-free_text-in-Some-Namespace-clause-name c = error_no_value c.from_residual-in_err-free_text-in-Some-Namespace.result _ _ c.from_residual-in_err-free_text-in-Some-Namespace.ensures.1
+
+pub returns-in_err-free_text-in-Some-Namespace-clause-lawful : goal.returns-in_err-free_text-in-Some-Namespace-clause-lawful
+returns-in_err-free_text-in-Some-Namespace-clause-lawful c = error_no_value c.from_residual-in_err-free_text-in-Some-Namespace.result _ _ c.from_residual-in_err-free_text-in-Some-Namespace.ensures.1
+
+pub returns-in_err-free_text-in-Some-Namespace-clause-symbol : goal.returns-in_err-free_text-in-Some-Namespace-clause-symbol
+returns-in_err-free_text-in-Some-Namespace-clause-symbol c = error_no_value c.from_residual-in_err-free_text-in-Some-Namespace.result _ _ c.from_residual-in_err-free_text-in-Some-Namespace.ensures.1
+
+pub returns-in_err-free_text-in-None-clause-name : goal.returns-in_err-free_text-in-None-clause-name
+returns-in_err-free_text-in-None-clause-name c = error_no_value c.from_residual-in_err-free_text-in-None.result _ _ c.from_residual-in_err-free_text-in-None.ensures.1
+
+pub returns-in_err-free_text-in-None-clause-lawful : goal.returns-in_err-free_text-in-None-clause-lawful
+returns-in_err-free_text-in-None-clause-lawful c = error_no_value c.from_residual-in_err-free_text-in-None.result _ _ c.from_residual-in_err-free_text-in-None.ensures.1
+
+pub returns-in_err-free_text-in-None-clause-symbol : goal.returns-in_err-free_text-in-None-clause-symbol
+returns-in_err-free_text-in-None-clause-symbol c = error_no_value c.from_residual-in_err-free_text-in-None.result _ _ c.from_residual-in_err-free_text-in-None.ensures.1
