@@ -1,4 +1,4 @@
-use Rattle.std.proofs.Common.{◌∙◌, ◌<◌, ap, sym, subst, arith, length}
+use Rattle.std.proofs.Common.{◌∙◌, ◌<◌, refl, ap, sym, subst, arith, length}
 use Rattle.tc_graph.specs.Graph.{rows_of}
 use Rattle.tc_graph.specs.Walks.{IsWalk, entered, seen}
 use Rattle.tc_graph.proofs.Marks.{count_rows, row_at}
@@ -28,3 +28,13 @@ pub index-requires : goal.index-requires
 index-requires c =
     let small : c.args.number < length (rows_of c.args.rows.now) = subst (λ n. c.args.number < n) (sym (count_rows c.args.rows.now)) c.requires.within in
     subst (λ n. c.args.number < n) (sym (c.args.self.now.states.ok.0 ∙ c.requires.walk.size)) small
+
+pub returns-in_default : goal.returns-in_default
+returns-in_default c =
+    let small : c.args.number < length (rows_of c.args.rows.now) = subst (λ n. c.args.number < n) (sym (count_rows c.args.rows.now)) c.requires.within in
+    let states : c.args.number < length c.args.self.now.states.items = subst (λ n. c.args.number < n) (sym c.requires.walk.size) small in
+    record {
+      walk = c.requires.walk;
+      old = λ v come. come;
+      here = λ new. c.in_default.not-New (sym (state_is c.args.self.now.states.items c.args.number _ _ states c.index.ensures refl) ∙ new);
+    }
