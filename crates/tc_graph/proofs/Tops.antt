@@ -1,5 +1,5 @@
 -- The last of a list, and what is left without it.
-use Rattle.std.proofs.Common.{◌≡◌, ◌⊎◌, inr, ℕ, zero, suc, ◌-◌, ◌<◌, ◌≤◌, List, [], ◌∷◌, ◌++◌, refl, ap, ◌∙◌, sym, subst, arith, length, get_or, take, slice_index, length-append, append_assoc, Some, None, slice_get, Result, Ok, Err, OnOk, IsErrAnd}
+use Rattle.std.proofs.Common.{◌≡◌, ◌≢◌, ◌⊎◌, inr, ℕ, zero, suc, ◌-◌, ◌<◌, ◌≤◌, List, [], ◌∷◌, ◌++◌, refl, ap, ◌∙◌, sym, subst, arith, length, get_or, take, slice_index, length-append, append_assoc, Some, None, slice_get, Result, Ok, Err, OnOk, IsErrAnd}
 use Rattle.std.proofs.lemmas.List.{get_or_read}
 use Rattle.std.proofs.lemmas.List.Elements.{Contains-push, All-cons}
 use Rattle.std.specs.List.{All, Contains}
@@ -77,6 +77,16 @@ error_not_ok (Err e) P Q h = tt
 
 pub below_lent : {place : ℕ} {items lent : List ℕ} → lent ≡ items → place < length items → place ≤ length lent
 below_lent {place} {items} {lent} e h = let same = ap length e in omega (arith, h)
+
+-- steps of the last component are left
+pub step_left : {step told len items : ℕ} → step ≤ items → (told ≡ step → ⊥) → told ≡ len → len ≡ items → step < items
+step_left {step} {told} high other e f = let u : told ≢ step = other in omega arith
+
+pub some_of : {k n : ℕ} → k < n → 0 < n
+some_of h = omega arith
+
+pub below_same : {v n m : ℕ} → v < n → m ≡ n → v < m
+below_same {v} h e = subst (λ k. v < k) (sym e) h
 
 pub target_is : (xs : List ℕ) (n x : ℕ) → n ≡ length xs → 0 < length xs → x ≡ get_or xs (n - 1) x → slice_index xs (length xs - 1) ≡ x
 target_is xs n x is some e =

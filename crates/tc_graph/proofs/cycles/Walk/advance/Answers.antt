@@ -2,7 +2,7 @@ use Rattle.std.proofs.Common.{◌≡◌, ◌∙◌, ◌<◌, ◌-◌, ap, sym, s
 use Rattle.tc_graph.specs.Graph.{Path, rows_of}
 use Rattle.tc_graph.specs.Walks.{IsWalk, cost, entered, joined, seen, state_at, stepped}
 use Rattle.tc_graph.proofs.Marks.{count_rows, row_at}
-use Rattle.tc_graph.proofs.Tops.{has_last, on_ok, state_is, target_is, target_within}
+use Rattle.tc_graph.proofs.Tops.{below_same, has_last, some_of, step_left, on_ok, state_is, target_is, target_within}
 use Rattle.tc_graph.proofs.Walks.{stands_within, step_reach, walk_enter, walk_join, walk_skip, walk_close, close_old, enter_less, skip_less, join_less}
 use Rattle.tc_graph.proofs.cycles.Walk.advance.Goals as goal
 
@@ -35,67 +35,67 @@ index-to-requires c =
 pub index-requires : goal.index-requires
 index-requires c =
     let high = (c.requires.walk.within c.args.start (has_last c.args.self.now.starts.items c.requires.last.0 c.args.start c.requires.last.1)).1 in
-    let some : 0 < length c.args.self.now.steps.items = omega (arith, high, c.if-len-start.false, c.len.ensures, c.args.self.now.steps.ok.0) in
-    let is = target_is c.args.self.now.steps.items c.len-2.result c.index-to.result.now (omega (arith, c.len-2.ensures, c.args.self.now.steps.ok.0)) some c.index-to.ensures in
-    omega (arith, target_within c.index-to.result.now c.requires.walk c.requires.graph some is, c.requires.walk.size, c.args.self.now.states.ok.0)
+    let some : 0 < length c.args.self.now.steps.items = some_of (step_left high c.if-len-start.false c.len.ensures c.args.self.now.steps.ok.0) in
+    let is = target_is c.args.self.now.steps.items c.len-2.result c.index-to.result.now (c.len-2.ensures ∙ c.args.self.now.steps.ok.0) some c.index-to.ensures in
+    below_same (target_within c.index-to.result.now c.requires.walk c.requires.graph some is) (c.args.self.now.states.ok.0 ∙ c.requires.walk.size)
 
 pub offset_bounds-rows-to : goal.offset_bounds-rows-to
 offset_bounds-rows-to c =
     let high = (c.requires.walk.within c.args.start (has_last c.args.self.now.starts.items c.requires.last.0 c.args.start c.requires.last.1)).1 in
-    let some : 0 < length c.args.self.now.steps.items = omega (arith, high, c.if-len-start.false, c.len.ensures, c.args.self.now.steps.ok.0) in
-    let is = target_is c.args.self.now.steps.items c.len-2.result c.index-to.result.now (omega (arith, c.len-2.ensures, c.args.self.now.steps.ok.0)) some c.index-to.ensures in
-    let small : c.index-to.result.now < length c.args.rows.now = omega (arith, target_within c.index-to.result.now c.requires.walk c.requires.graph some is, count_rows c.args.rows.now) in
+    let some : 0 < length c.args.self.now.steps.items = some_of (step_left high c.if-len-start.false c.len.ensures c.args.self.now.steps.ok.0) in
+    let is = target_is c.args.self.now.steps.items c.len-2.result c.index-to.result.now (c.len-2.ensures ∙ c.args.self.now.steps.ok.0) some c.index-to.ensures in
+    let small : c.index-to.result.now < length c.args.rows.now = below_same (target_within c.index-to.result.now c.requires.walk c.requires.graph some is) (sym (count_rows c.args.rows.now)) in
     search rules
 
 pub bounds-rows-to : goal.bounds-rows-to
 bounds-rows-to c =
     let high = (c.requires.walk.within c.args.start (has_last c.args.self.now.starts.items c.requires.last.0 c.args.start c.requires.last.1)).1 in
-    let some : 0 < length c.args.self.now.steps.items = omega (arith, high, c.if-len-start.false, c.len.ensures, c.args.self.now.steps.ok.0) in
-    let is = target_is c.args.self.now.steps.items c.len-2.result c.index-to.result.now (omega (arith, c.len-2.ensures, c.args.self.now.steps.ok.0)) some c.index-to.ensures in
-    omega (arith, target_within c.index-to.result.now c.requires.walk c.requires.graph some is, count_rows c.args.rows.now)
+    let some : 0 < length c.args.self.now.steps.items = some_of (step_left high c.if-len-start.false c.len.ensures c.args.self.now.steps.ok.0) in
+    let is = target_is c.args.self.now.steps.items c.len-2.result c.index-to.result.now (c.len-2.ensures ∙ c.args.self.now.steps.ok.0) some c.index-to.ensures in
+    below_same (target_within c.index-to.result.now c.requires.walk c.requires.graph some is) (sym (count_rows c.args.rows.now))
 
 pub enter-requires : goal.enter-requires
 enter-requires c =
     let high = (c.requires.walk.within c.args.start (has_last c.args.self.now.starts.items c.requires.last.0 c.args.start c.requires.last.1)).1 in
-    let some : 0 < length c.args.self.now.steps.items = omega (arith, high, c.if-len-start.false, c.len.ensures, c.args.self.now.steps.ok.0) in
-    let is = target_is c.args.self.now.steps.items c.len-2.result c.index-to.result.now (omega (arith, c.len-2.ensures, c.args.self.now.steps.ok.0)) some c.index-to.ensures in
-    omega (arith, target_within c.index-to.result.now c.requires.walk c.requires.graph some is, c.requires.walk.size)
+    let some : 0 < length c.args.self.now.steps.items = some_of (step_left high c.if-len-start.false c.len.ensures c.args.self.now.steps.ok.0) in
+    let is = target_is c.args.self.now.steps.items c.len-2.result c.index-to.result.now (c.len-2.ensures ∙ c.args.self.now.steps.ok.0) some c.index-to.ensures in
+    below_same (target_within c.index-to.result.now c.requires.walk c.requires.graph some is) c.requires.walk.size
 
 pub returns-in-New-clause-walk : goal.returns-in-New-clause-walk
 returns-in-New-clause-walk c =
     let rows = c.args.rows.now in
     let s = seen c.args.self.now in
     let high = (c.requires.walk.within c.args.start (has_last s.starts c.requires.last.0 c.args.start c.requires.last.1)).1 in
-    let some : c.args.start.step < length s.steps = omega (arith, high, c.if-len-start.false, c.len.ensures, c.args.self.now.steps.ok.0) in
-    let is = target_is s.steps c.len-2.result c.index-to.result.now (omega (arith, c.len-2.ensures, c.args.self.now.steps.ok.0)) (omega (arith, some)) c.index-to.ensures in
-    let small = target_within c.index-to.result.now c.requires.walk c.requires.graph (omega (arith, some)) is in
-    let new = state_is s.states c.index-to.result.now _ _ (omega (arith, small, c.requires.walk.size)) c.index.ensures c.in-New.is in
+    let some : c.args.start.step < length s.steps = step_left high c.if-len-start.false c.len.ensures c.args.self.now.steps.ok.0 in
+    let is = target_is s.steps c.len-2.result c.index-to.result.now (c.len-2.ensures ∙ c.args.self.now.steps.ok.0) (some_of some) c.index-to.ensures in
+    let small = target_within c.index-to.result.now c.requires.walk c.requires.graph (some_of some) is in
+    let new = state_is s.states c.index-to.result.now _ _ (below_same small c.requires.walk.size) c.index.ensures c.in-New.is in
     let reach = step_reach (rows_of rows) s c.requires.last.0 c.args.start c.requires.walk c.requires.last.1 some in
     let walks = walk_enter (rows_of rows) s c.index-to.result.now c.requires.walk small new (λ i h. subst (λ z. Path (rows_of rows) (slice_index s.stack i) z) is (reach i h)) in
-    on_ok c.enter.result (λ e. subst (IsWalk (rows_of rows)) (sym (e ∙ ap (λ r. entered c.index-to.result.now r s) (sym (row_at rows c.index-to.result.now _ (omega (arith, small, count_rows rows)))))) walks) c.enter.ensures
+    on_ok c.enter.result (λ e. subst (IsWalk (rows_of rows)) (sym (e ∙ ap (λ r. entered c.index-to.result.now r s) (sym (row_at rows c.index-to.result.now _ (below_same small (sym (count_rows rows))))))) walks) c.enter.ensures
 
 pub returns-in-New-clause-less : goal.returns-in-New-clause-less
 returns-in-New-clause-less c =
     let rows = c.args.rows.now in
     let s = seen c.args.self.now in
     let high = (c.requires.walk.within c.args.start (has_last s.starts c.requires.last.0 c.args.start c.requires.last.1)).1 in
-    let some : c.args.start.step < length s.steps = omega (arith, high, c.if-len-start.false, c.len.ensures, c.args.self.now.steps.ok.0) in
-    let is = target_is s.steps c.len-2.result c.index-to.result.now (omega (arith, c.len-2.ensures, c.args.self.now.steps.ok.0)) (omega (arith, some)) c.index-to.ensures in
-    let small = target_within c.index-to.result.now c.requires.walk c.requires.graph (omega (arith, some)) is in
-    let states : c.index-to.result.now < length s.states = omega (arith, small, c.requires.walk.size) in
+    let some : c.args.start.step < length s.steps = step_left high c.if-len-start.false c.len.ensures c.args.self.now.steps.ok.0 in
+    let is = target_is s.steps c.len-2.result c.index-to.result.now (c.len-2.ensures ∙ c.args.self.now.steps.ok.0) (some_of some) c.index-to.ensures in
+    let small = target_within c.index-to.result.now c.requires.walk c.requires.graph (some_of some) is in
+    let states : c.index-to.result.now < length s.states = below_same small c.requires.walk.size in
     let new = state_is s.states c.index-to.result.now _ _ states c.index.ensures c.in-New.is in
     let less = enter_less (rows_of rows) s c.index-to.result.now states new in
-    on_ok c.enter.result (λ e. subst (λ z. cost (rows_of rows) z < cost (rows_of rows) s) (sym (e ∙ ap (λ r. entered c.index-to.result.now r s) (sym (row_at rows c.index-to.result.now _ (omega (arith, small, count_rows rows)))))) less) c.enter.ensures
+    on_ok c.enter.result (λ e. subst (λ z. cost (rows_of rows) z < cost (rows_of rows) s) (sym (e ∙ ap (λ r. entered c.index-to.result.now r s) (sym (row_at rows c.index-to.result.now _ (below_same small (sym (count_rows rows))))))) less) c.enter.ensures
 
 pub returns-in-Open-clause-walk : goal.returns-in-Open-clause-walk
 returns-in-Open-clause-walk c =
     let rows = c.args.rows.now in
     let s = seen c.args.self.now in
     let high = (c.requires.walk.within c.args.start (has_last s.starts c.requires.last.0 c.args.start c.requires.last.1)).1 in
-    let some : c.args.start.step < length s.steps = omega (arith, high, c.if-len-start.false, c.len.ensures, c.args.self.now.steps.ok.0) in
-    let is = target_is s.steps c.len-2.result c.index-to.result.now (omega (arith, c.len-2.ensures, c.args.self.now.steps.ok.0)) (omega (arith, some)) c.index-to.ensures in
-    let small = target_within c.index-to.result.now c.requires.walk c.requires.graph (omega (arith, some)) is in
-    let there = state_is s.states c.index-to.result.now _ _ (omega (arith, small, c.requires.walk.size)) c.index.ensures c.in-Open.is in
+    let some : c.args.start.step < length s.steps = step_left high c.if-len-start.false c.len.ensures c.args.self.now.steps.ok.0 in
+    let is = target_is s.steps c.len-2.result c.index-to.result.now (c.len-2.ensures ∙ c.args.self.now.steps.ok.0) (some_of some) c.index-to.ensures in
+    let small = target_within c.index-to.result.now c.requires.walk c.requires.graph (some_of some) is in
+    let there = state_is s.states c.index-to.result.now _ _ (below_same small c.requires.walk.size) c.index.ensures c.in-Open.is in
     let walks = walk_join (rows_of rows) s c.requires.last.0 c.args.start c.requires.walk c.requires.last.1 some c.in-Open.place c.join.new.self.starts.items (ap (state_at s.states) is ∙ there) c.join.ensures.started in
     let e : c.pop.new.self.items ≡ take (length s.steps - 1) s.steps = c.pop.ensures.rest ∙ ap (λ n. take (n - 1) s.steps) c.args.self.now.steps.ok.0 in
     let all : seen c.join.new.self ≡ joined c.join.new.self.starts.items (stepped s) = c.join.ensures.joined ∙ ap (λ z. joined c.join.new.self.starts.items (record s { steps = z })) e in
@@ -105,7 +105,7 @@ pub returns-in-Open-clause-less : goal.returns-in-Open-clause-less
 returns-in-Open-clause-less c =
     let s = seen c.args.self.now in
     let high = (c.requires.walk.within c.args.start (has_last s.starts c.requires.last.0 c.args.start c.requires.last.1)).1 in
-    let some : 0 < length s.steps = omega (arith, high, c.if-len-start.false, c.len.ensures, c.args.self.now.steps.ok.0) in
+    let some : 0 < length s.steps = some_of (step_left high c.if-len-start.false c.len.ensures c.args.self.now.steps.ok.0) in
     let e : c.pop.new.self.items ≡ take (length s.steps - 1) s.steps = c.pop.ensures.rest ∙ ap (λ n. take (n - 1) s.steps) c.args.self.now.steps.ok.0 in
     let all : seen c.join.new.self ≡ joined c.join.new.self.starts.items (stepped s) = c.join.ensures.joined ∙ ap (λ z. joined c.join.new.self.starts.items (record s { steps = z })) e in
     subst (λ z. cost (rows_of c.args.rows.now) z < cost (rows_of c.args.rows.now) s) (sym all) (join_less (rows_of c.args.rows.now) s c.in-Open.place c.join.new.self.starts.items c.join.ensures.started some)
@@ -115,10 +115,10 @@ returns-in-Done-clause-walk c =
     let rows = c.args.rows.now in
     let s = seen c.args.self.now in
     let high = (c.requires.walk.within c.args.start (has_last s.starts c.requires.last.0 c.args.start c.requires.last.1)).1 in
-    let some : c.args.start.step < length s.steps = omega (arith, high, c.if-len-start.false, c.len.ensures, c.args.self.now.steps.ok.0) in
-    let is = target_is s.steps c.len-2.result c.index-to.result.now (omega (arith, c.len-2.ensures, c.args.self.now.steps.ok.0)) (omega (arith, some)) c.index-to.ensures in
-    let small = target_within c.index-to.result.now c.requires.walk c.requires.graph (omega (arith, some)) is in
-    let there = state_is s.states c.index-to.result.now _ _ (omega (arith, small, c.requires.walk.size)) c.index.ensures c.in-Done.is in
+    let some : c.args.start.step < length s.steps = step_left high c.if-len-start.false c.len.ensures c.args.self.now.steps.ok.0 in
+    let is = target_is s.steps c.len-2.result c.index-to.result.now (c.len-2.ensures ∙ c.args.self.now.steps.ok.0) (some_of some) c.index-to.ensures in
+    let small = target_within c.index-to.result.now c.requires.walk c.requires.graph (some_of some) is in
+    let there = state_is s.states c.index-to.result.now _ _ (below_same small c.requires.walk.size) c.index.ensures c.in-Done.is in
     let walks = walk_skip (rows_of rows) s c.requires.last.0 c.args.start c.requires.walk c.requires.last.1 some (c.in-Done.field-0, ap (state_at s.states) is ∙ there) in
     let e : c.pop-in-Done.new.self.items ≡ take (length s.steps - 1) s.steps = c.pop-in-Done.ensures.rest ∙ ap (λ n. take (n - 1) s.steps) c.args.self.now.steps.ok.0 in
     subst (λ z. IsWalk (rows_of rows) (record s { steps = z })) (sym e) walks
@@ -127,6 +127,6 @@ pub returns-in-Done-clause-less : goal.returns-in-Done-clause-less
 returns-in-Done-clause-less c =
     let s = seen c.args.self.now in
     let high = (c.requires.walk.within c.args.start (has_last s.starts c.requires.last.0 c.args.start c.requires.last.1)).1 in
-    let some : 0 < length s.steps = omega (arith, high, c.if-len-start.false, c.len.ensures, c.args.self.now.steps.ok.0) in
+    let some : 0 < length s.steps = some_of (step_left high c.if-len-start.false c.len.ensures c.args.self.now.steps.ok.0) in
     let e : c.pop-in-Done.new.self.items ≡ take (length s.steps - 1) s.steps = c.pop-in-Done.ensures.rest ∙ ap (λ n. take (n - 1) s.steps) c.args.self.now.steps.ok.0 in
     subst (λ z. cost (rows_of c.args.rows.now) (record s { steps = z }) < cost (rows_of c.args.rows.now) s) (sym e) (skip_less (rows_of c.args.rows.now) s some)
