@@ -1,5 +1,5 @@
 -- The characters of XML at the front of bytes.
-use Rattle.std.proofs.Common.{◌≡◌, ℕ, ◌+◌, ◌-◌, ◌<◌, true, false, List, [], ◌∷◌, ◌++◌, refl, ap, ◌∙◌, sym, subst, length, take, drop, arith, IsTrue, IsUtf8, IsCharBoundary, take-append-drop, length-append, append_assoc, append-nil}
+use Rattle.std.proofs.Common.{◌≡◌, ℕ, ◌+◌, ◌-◌, ◌<◌, true, false, List, [], ◌++◌, refl, ap, ◌∙◌, sym, subst, length, take, drop, arith, IsTrue, IsUtf8, IsCharBoundary, take-append-drop, length-append, append_assoc, append-nil}
 use Rattle.std.specs.Prelude.{encode_utf8}
 use Rattle.std.specs.List.{list_all}
 use Rattle.std.specs.Str.{IsValidUpTo}

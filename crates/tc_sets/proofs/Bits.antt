@@ -4,7 +4,7 @@ use Rattle.std.specs.Int.{bit_at}
 use Rattle.std.proofs.lemmas.Bool.{cases_eq, cases_lt}
 use Rattle.std.proofs.lemmas.List.{ext_get_or, get_or-set_same, get_or-set_other, length-set, take_at, get_or-replicate, get_or_past, length-replicate}
 use Rattle.std.proofs.lemmas.Nat.Bits.{bit_at_and, bit_at_or, bit_at-pow_same, bit_at-pow_other, same_from_bits, bit_at-lt, bit_at-zero}
-use Rattle.tc_sets.specs.Numbers.{Numbers, words_for, bit_of, Has, IsSet, HasNone, AreApart, HaveSameNumbers, SetsHaveOneForm}
+use Rattle.tc_sets.specs.Numbers.{Numbers, words_for, bit_of, Has, IsSet, HasNone, AreApart, SetsHaveOneForm}
 
 abbrev pub numbers : ℕ → List ℕ → Numbers
 numbers n words = record { size = n; words = words }

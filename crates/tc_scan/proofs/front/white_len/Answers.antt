@@ -1,4 +1,4 @@
-use Rattle.std.proofs.Common.{◌≡◌, refl, arith}
+use Rattle.std.proofs.Common.{refl, arith}
 use Rattle.std.proofs.lemmas.Grind.{common_steps}
 use Rattle.tc_base.specs.Characters.{is_white}
 use Rattle.tc_scan.proofs.Prefixes.{none_counted, counted_all, counted_within}

@@ -1,4 +1,4 @@
-use Rattle.std.proofs.Common.{◌≡◌, ◌+◌, refl, ap, sym, ◌∙◌}
+use Rattle.std.proofs.Common.{◌+◌, refl, ap, sym, ◌∙◌}
 use Rattle.tc_model.specs.XmlTextReferences.{is_digit}
 use Rattle.tc_scan.proofs.Prefixes.{none_counted, one_counted, counted_to, counted_all, counted_within}
 use borrow.Author.Count.{falls}

@@ -1,4 +1,4 @@
-use Rattle.std.proofs.Common.{◌≡◌, refl, ap, sym, ◌∙◌, arith}
+use Rattle.std.proofs.Common.{refl, ap, sym, ◌∙◌, arith}
 use Rattle.std.proofs.lemmas.Bool.{true≢false}
 use Rattle.tc_base.specs.Characters.{is_char}
 use Rattle.tc_scan.proofs.ReferenceLaws.{number_too_large, number_goes_on, digits_left, digit_here, number_whole, number_fits, longer_fits}

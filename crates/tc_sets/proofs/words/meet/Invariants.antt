@@ -1,4 +1,4 @@
-use Rattle.std.proofs.Common.{◌≡◌, ℕ, ◌<◌, ◌≤◌, get_or, length, bit_and}
+use Rattle.std.proofs.Common.{◌≡◌, ℕ, ◌<◌, ◌≤◌, get_or, bit_and}
 use Rattle.tc_sets.proofs.words.meet.Given as goal
 
 abbrev pub invariant-loop-k : goal.invariant-loop-k

@@ -1,6 +1,6 @@
-use Rattle.std.proofs.Common.{◌≡◌, ◌⊎◌, ◌↔◌, ◌++◌, List, ℕ, take, drop, length, subst, sym, ap, ◌∙◌, arith}
-use Rattle.tc_sets.specs.Numbers.{Numbers, IsSet, Has}
-use Rattle.tc_sets.proofs.Bits.{numbers, join_set, join_has, lengths_agree}
+use Rattle.std.proofs.Common.{◌≡◌, ◌⊎◌, ◌↔◌, ◌++◌, List, ℕ, take, drop, length, subst, sym, ap, ◌∙◌}
+use Rattle.tc_sets.specs.Numbers.{Numbers, Has}
+use Rattle.tc_sets.proofs.Bits.{numbers, join_set, join_has}
 use Rattle.tc_sets.proofs.sets.Set.add_all.Goals as goal
 
 same_size : (c : goal.After-self-1) → c.other.inside.n ≡ c.self.inside.n

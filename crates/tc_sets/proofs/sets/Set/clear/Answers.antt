@@ -1,4 +1,4 @@
-use Rattle.std.proofs.Common.{◌≡◌, ℕ, List, ◌++◌, length, take, drop, ap, sym, subst, ◌∙◌}
+use Rattle.std.proofs.Common.{ℕ, List, ◌++◌, length, take, drop, ap, sym, subst, ◌∙◌}
 use Rattle.tc_sets.specs.Numbers.{Numbers, IsSet}
 use Rattle.tc_sets.proofs.Bits.{numbers, none_in_zeros, zeros_are, zeros_are_set, written_back}
 use Rattle.tc_sets.proofs.sets.Set.clear.Goals as goal
