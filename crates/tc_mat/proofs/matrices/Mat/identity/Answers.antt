@@ -1,4 +1,4 @@
-use Rattle.std.proofs.Common.{◌≡◌, ◌<◌, sym, subst}
+use Rattle.std.proofs.Common.{◌<◌, sym, subst}
 use Rattle.tc_mat.proofs.Causes.{error_no_value}
 use Rattle.tc_mat.proofs.matrices.Mat.identity.Goals as goal
 
