@@ -51,6 +51,19 @@ fault_none : {P : Type 0} (o : Option Why) → P → OrNoMemory (fault_of o) P
 fault_none None a = a
 fault_none (Some why) a = a
 
+not_malformed : {why : Why} → Unsupported why ≡ Malformed → ⊥
+not_malformed e = cc
+
+not_too_deep : TooDeep ≡ Malformed → ⊥
+not_too_deep e = cc
+
+-- a text without tokens is unread
+pub unread_tokens : (text : List ℕ) (e : PathFault) → OrNoMemory e ((e ≡ Malformed) × ((ts : List Token) → Tokens text ts → ⊥)) → IsUnread text e
+unread_tokens text Malformed h = h.1
+unread_tokens text (Unsupported why) h = not_malformed h.0
+unread_tokens text TooDeep h = absurd (not_too_deep h.0)
+unread_tokens text NoMemory h = tt
+
 module _ (c : Context) (text : List ℕ) where
   pub unread_cause : (e : PathFault) → IsUnread text e → IsCause c text e
   unread_cause Malformed h = (λ d. h d.tokens d.are_tokens, λ why s. h s.tokens s.are_tokens)

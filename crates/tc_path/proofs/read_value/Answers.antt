@@ -3,7 +3,8 @@ use Rattle.tc_model.specs.Sheets as sheets
 use Rattle.tc_model.specs.PathText as texts
 use Rattle.tc_model.specs.Views.{bound}
 use Rattle.tc_path.specs.declared.reasons.Context.TheVariants as contexts
-use Rattle.tc_path.proofs.Refusals.{unread_no, unread_cause, unread_renamed, refused_no, refused_cause, refused_renamed, same_error}
+use Rattle.tc_path.proofs.Refusals.{unread_no, unread_cause, unread_renamed, refused_no, refused_cause, refused_renamed, same_error, failed_ok}
+use Rattle.tc_path.specs.Views.{tokens_of}
 use Rattle.tc_path.proofs.read_value.Goals as goal
 
 pub returns-in_err-tokens-clause-no : goal.returns-in_err-tokens-clause-no
@@ -34,3 +35,12 @@ returns-in-Err-clause-renamed c = λ v r.
     refused_renamed contexts.Value c.args.text.now sheets.Body (texts.IsValue (map bound c.args.scope.now)) v c.in_ok-tokens.ensures.tokens c.in-Err.fault c.refusal.result
     c.refusal.ensures
     c.in-Err.ensures.no r
+
+pub returns-in_err-tokens-clause-ok : goal.returns-in_err-tokens-clause-ok
+returns-in_err-tokens-clause-ok c = failed_ok c.from_residual.result _ _ c.from_residual.ensures.1
+
+pub returns-in-Ok-clause-ok : goal.returns-in-Ok-clause-ok
+returns-in-Ok-clause-ok c = record { tokens = tokens_of c.in_ok-tokens.tokens.now; are_tokens = c.in_ok-tokens.ensures.tokens; not_too_deep = c.in_ok-tokens.ensures.shallow; phrase = c.in-Ok.ensures.ok }
+
+pub returns-in-Ok-clause-renamed : goal.returns-in-Ok-clause-renamed
+returns-in-Ok-clause-renamed c = λ v r. tt

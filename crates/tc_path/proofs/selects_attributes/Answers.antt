@@ -6,7 +6,7 @@ use Rattle.tc_path.specs.declared.reasons.Context.TheVariants as contexts
 use Rattle.tc_path.specs.Views.{tokens_of}
 use Rattle.tc_path.proofs.NodeTestLaws.{or_memory}
 use Rattle.tc_path.proofs.AttributeLoops.{attributes_text}
-use Rattle.tc_path.proofs.Refusals.{unread_no, unread_cause, unread_renamed, refused_no, refused_cause, refused_renamed, same_error}
+use Rattle.tc_path.proofs.Refusals.{unread_no, unread_cause, unread_renamed, refused_no, refused_cause, refused_renamed, same_error, failed_ok}
 use Rattle.tc_path.proofs.selects_attributes.Goals as goal
 
 pub returns-in_err-tokens-clause-no : goal.returns-in_err-tokens-clause-no
@@ -54,3 +54,12 @@ returns-in-Ok-clause-select c =
         phrase = record { drops = drops; select = a };
       },
     )
+
+pub returns-in_err-tokens-clause-ok : goal.returns-in_err-tokens-clause-ok
+returns-in_err-tokens-clause-ok c = failed_ok c.from_residual.result _ _ c.from_residual.ensures.1
+
+pub returns-in_err-tokens-clause-select : goal.returns-in_err-tokens-clause-select
+returns-in_err-tokens-clause-select c = failed_ok c.from_residual.result _ _ c.from_residual.ensures.1
+
+pub returns-in-Ok-clause-renamed : goal.returns-in-Ok-clause-renamed
+returns-in-Ok-clause-renamed c = λ v r. tt

@@ -4,6 +4,7 @@ use Rattle.tc_path.specs.Views.{tokens_of}
 use Rattle.tc_path.proofs.PhraseLaws.{handed_on}
 use Rattle.tc_path.proofs.PatternLoops.{no_tokens, some_tokens}
 use Rattle.tc_path.proofs.AttributeLoops.{AttributesRead, attributes_first, attributes_more, attributes_end, attributes_select_end, attributes_fail, attributes_go_on}
+use Rattle.tc_path.proofs.Refusals.{failed_ok}
 use Rattle.tc_path.proofs.attributes.are_attributes.Goals as goal
 
 pub loop-next-init : goal.loop-next-init
@@ -29,3 +30,15 @@ returns-then-is_empty-clause-select c = attributes_select_end (map bound c.args.
 pub returns-else-is_empty-clause-no : goal.returns-else-is_empty-clause-no
 returns-else-is_empty-clause-no c =
     attributes_go_on (map bound c.args.scope.now) c.loop-next.invariant c.in_default.ensures (some_tokens c.loop-next.rest.now (sym c.is_empty.ensures ∙ c.if-is_empty.false))
+
+pub returns-in_err-first-clause-ok : goal.returns-in_err-first-clause-ok
+returns-in_err-first-clause-ok c = failed_ok c.from_residual.result _ _ c.from_residual.ensures.1
+
+pub returns-in_err-first-clause-select : goal.returns-in_err-first-clause-select
+returns-in_err-first-clause-select c = failed_ok c.from_residual.result _ _ c.from_residual.ensures.1
+
+pub returns-in_err-more-clause-ok : goal.returns-in_err-more-clause-ok
+returns-in_err-more-clause-ok c = failed_ok c.from_residual-in_err-more.result _ _ c.from_residual-in_err-more.ensures.1
+
+pub returns-in_err-more-clause-select : goal.returns-in_err-more-clause-select
+returns-in_err-more-clause-select c = failed_ok c.from_residual-in_err-more.result _ _ c.from_residual-in_err-more.ensures.1

@@ -3,6 +3,7 @@ use Rattle.std.proofs.lemmas.Bool.{true≢false, eqb-true}
 use Rattle.tc_model.specs.PathTextTokens.{Tokens}
 use Rattle.tc_path.specs.Views.{tokens_of}
 use Rattle.tc_path.proofs.TokenLaws.{no_length, no_tokens_yet, token_behind, tokens_end, tokens_fail, token_shorter, white_shorter}
+use Rattle.tc_path.proofs.Refusals.{failed_ok}
 use Rattle.tc_path.proofs.token.tokens.Goals as goal
 
 pub loop-front-init : goal.loop-front-init
@@ -31,3 +32,6 @@ returns-in_default-clause-no c = (
   tokens_fail c.args.text.now c.loop-front.rest.now c.after_white-front.result.now c.loop-front.found.items c.loop-front.invariant.so_far c.after_white-front.ensures
       (λ e. true≢false (sym (ap (λ (w : List ℕ). length w == 0) e) ∙ (sym c.is_empty.ensures ∙ c.if-is_empty.false))) c.in_default.ensures,
 )
+
+pub returns-in_err-push-clause-ok : goal.returns-in_err-push-clause-ok
+returns-in_err-push-clause-ok c = failed_ok c.from_residual.result _ _ c.from_residual.ensures.1

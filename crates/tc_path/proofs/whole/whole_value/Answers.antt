@@ -7,6 +7,7 @@ use Rattle.tc_model.specs.PathTextPhrases.{SelectAt}
 use Rattle.tc_model.specs.PathText.{IsValue, of_self, of_path}
 use Rattle.tc_model.proofs.PathTextUnique.{select_unique}
 use Rattle.tc_model.proofs.ViewsBody.{see_value_of, see_value_of_self}
+use Rattle.tc_path.proofs.Refusals.{failed_ok}
 use Rattle.tc_path.proofs.whole.whole_value.Goals as goal
 
 self_is : {scope : List Bound} {ts : List Token} (b : Body) → ts ≡ mark dot ∷ [] → b ≡ value_of_self no_instruction → IsValue scope b ts
@@ -31,3 +32,6 @@ returns-then-drops-clause-no c = λ v a. no_dropped c.if-is_dot.ensures c.in_ok-
 
 pub returns-clause-ok : goal.returns-clause-ok
 returns-clause-ok c = path_is _ c.in_ok-path.ensures.ok c.if-drops.false (see_value_of c.in_ok-path.path no_instruction)
+
+pub returns-in_err-path-clause-ok : goal.returns-in_err-path-clause-ok
+returns-in_err-path-clause-ok c = failed_ok c.from_residual.result _ _ c.from_residual.ensures.1

@@ -69,3 +69,15 @@ braced_definitions-returns-in_err-closing-clause-ok t c = unread_ok _ _ _ c.from
 
 pub definitions-returns-in_err-after-clause-ok : goal.definitions-returns-in_err-after-clause-ok
 definitions-returns-in_err-after-clause-ok t c = unread_ok _ _ _ c.from_residual.ensures.1
+
+pub grammar_content-braced_definitions-requires : goal.grammar_content-braced_definitions-requires
+grammar_content-braced_definitions-requires t c = (omega (arith, c.decreases), tt)
+
+pub braced_definitions-definitions-requires : goal.braced_definitions-definitions-requires
+braced_definitions-definitions-requires t c = (omega (arith, c.decreases, c.in_ok-inside.ensures.depth), tt)
+
+pub grammar_content-returns-clause-ok : goal.grammar_content-returns-clause-ok
+grammar_content-returns-clause-ok t c = c.definition.ensures.ok
+
+pub grammar_content-returns-clause-no : goal.grammar_content-returns-clause-no
+grammar_content-returns-clause-no t c = c.definition.ensures.no

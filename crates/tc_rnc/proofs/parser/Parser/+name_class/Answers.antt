@@ -192,3 +192,9 @@ simple_name_class-returns-in_err-name-clause-ok t c = unread_ok _ _ _ c.from_res
 
 pub name_classes-returns-in_err-push-clause-ok : goal.name_classes-returns-in_err-push-clause-ok
 name_classes-returns-in_err-push-clause-ok t c = unread_ok _ _ _ c.from_residual-in_err-push.ensures.1
+
+pub name_class-simple_name_class-requires : goal.name_class-simple_name_class-requires
+name_class-simple_name_class-requires t c = (omega (arith, c.decreases), tt)
+
+pub closed_name_class-name_class-requires : goal.closed_name_class-name_class-requires
+closed_name_class-name_class-requires t c = (omega (arith, c.decreases), tt)

@@ -252,3 +252,33 @@ primary-returns-in_err-found-in-Reference-clause-ok t c = unread_ok _ _ _ c.from
 
 pub mixed-returns-in_err-content-clause-ok : goal.mixed-returns-in_err-content-clause-ok
 mixed-returns-in_err-content-clause-ok t c = unread_ok _ _ _ c.from_residual.ensures.1
+
+pub pattern-particle-requires : goal.pattern-particle-requires
+pattern-particle-requires t c = (omega (arith, c.decreases), tt)
+
+pub pattern-particles-requires : goal.pattern-particles-requires
+pattern-particles-requires t c = (omega (arith, c.decreases), tt)
+
+pub particles-particle-requires : goal.particles-particle-requires
+particles-particle-requires t c = (omega (arith, c.decreases), tt)
+
+pub particle-primary-requires : goal.particle-primary-requires
+particle-primary-requires t c = (omega (arith, c.decreases), tt)
+
+pub element-enclosed-requires : goal.element-enclosed-requires
+element-enclosed-requires t c = (omega (arith, c.decreases), tt)
+
+pub mixed-enclosed-requires : goal.mixed-enclosed-requires
+mixed-enclosed-requires t c = (omega (arith, c.decreases), tt)
+
+pub primary-element-requires : goal.primary-element-requires
+primary-element-requires t c = (omega (arith, c.decreases), tt)
+
+pub primary-mixed-requires : goal.primary-mixed-requires
+primary-mixed-requires t c = (omega (arith, c.decreases), tt)
+
+pub primary-enclosed-requires : goal.primary-enclosed-requires
+primary-enclosed-requires t c = (omega (arith, c.decreases), tt)
+
+pub enclosed-pattern-requires : goal.enclosed-pattern-requires
+enclosed-pattern-requires t c = (omega (arith, c.decreases, c.in_ok-inside.ensures.depth), tt)
