@@ -1,5 +1,5 @@
 -- Why a phrase around the root element is not at the front of a text, where one of its parts is missing.
-use Rattle.std.proofs.Common.{bytes_eq, ◌≡◌, ◌⊎◌, inl, inr, ℕ, ◌+◌, ◌<◌, true, false, not, List, [], ◌∷◌, ◌++◌, ap, ◌∙◌, sym, subst, length, arith, Option, None, Some, MatchOption, Result, Ok, Err, IfOk, IfErr, codes, ◌≤◌, length-append, length-drop}
+use Rattle.std.proofs.Common.{bytes_eq, ◌||◌, ◌≡◌, ◌⊎◌, inl, inr, ℕ, ◌+◌, ◌<◌, true, false, not, List, [], ◌∷◌, ◌++◌, ap, ◌∙◌, sym, subst, length, arith, Option, None, Some, MatchOption, Result, Ok, Err, IfOk, IfErr, codes, ◌≤◌, length-append, length-drop}
 use Rattle.std.specs.Str.{str_eq_ignore_ascii_case, str_to_ascii_lowercase}
 use Rattle.std.specs.List.{prefix_len}
 use Rattle.std.specs.Cmp.Lexicographic.{bytes_decides}
@@ -73,6 +73,13 @@ pub no_encoding_here : (text start r : List ℕ) → start ≡ after_white text 
 no_encoding_here text start r e f h after (no_encoding k) = k r (sym e ∙ f)
 no_encoding_here text start r e f h after (encoding {value = v} a k) = h v after a
 
+-- nor a word in another encoding
+pub no_other_encoding : (text start value past : List ℕ) → start ≡ after_white text → SettingAt (codes "encoding") text value past
+    → false ≡ (str_eq_ignore_ascii_case value (codes "UTF-8") || str_eq_ignore_ascii_case value (codes "US-ASCII"))
+    → (r : List ℕ) × (start ≡ codes "encoding" ++ r) → (after : List ℕ) → EncodingAt text after → ⊥
+no_other_encoding text start value past e s h (r, f) after (no_encoding k) = k r (sym e ∙ f)
+no_other_encoding text start value past e s h f after (encoding a k) = true≢false (sym (subst IsReadEncoding (setting_unique a s).0 k) ∙ sym h)
+
 pub no_standalone_here : (text start r : List ℕ) → start ≡ after_white text → start ≡ codes "standalone" ++ r
     → ((v a : List ℕ) → SettingAt (codes "standalone") text v a → (v ≡ codes "yes") ⊎ (v ≡ codes "no") → ⊥) → (after : List ℕ) → StandaloneAt text after → ⊥
 no_standalone_here text start r e f h after (no_standalone k) = k r (sym e ∙ f)
@@ -110,6 +117,12 @@ a_declaration text rest version n after e v is (m, k, x, t, q) = declaration e (
 
 pub no_version : (text rest : List ℕ) → text ≡ codes "<?xml" ++ rest → BeginsWithWhite rest → ((v a : List ℕ) → SettingAt (codes "version") rest v a → ⊥) → (after : List ℕ) → DeclarationAt text after → ⊥
 no_version text rest e w h after a = let d = declared text rest after e w a in h (codes "1.0") d.past_version d.version
+
+pub no_other_version : (text rest value past : List ℕ) → text ≡ codes "<?xml" ++ rest → BeginsWithWhite rest → SettingAt (codes "version") rest value past
+    → true ≡ not (bytes_eq value (codes "1.0")) → (after : List ℕ) → DeclarationAt text after → ⊥
+no_other_version text rest value past e w s h after a =
+    let d = declared text rest after e w a in
+    true≢false (h ∙ ap not ((bytes_decides value (codes "1.0")).1 (setting_unique s d.version).0))
 
 pub no_behind_version : (text rest version n : List ℕ) → text ≡ codes "<?xml" ++ rest → BeginsWithWhite rest → SettingAt (codes "version") rest version n
     → ((m k after : List ℕ) → EncodingAt n m → StandaloneAt m k → after_white k ≡ codes "?>" ++ after → ⊥) → (after : List ℕ) → DeclarationAt text after → ⊥
@@ -215,6 +228,15 @@ pub a_public : (text start behind second after : List ℕ) → BeginsWithWhite t
     → BeginsWithWhite behind × ((v : List ℕ) × LiteralAt (after_white behind) v second)
     → BeginsWithWhite second × ((v : List ℕ) × LiteralAt (after_white second) v after) → ExternalIdAt text after
 a_public text start behind second after w e f (k, (v, l)) (m, (y, n)) = public w (sym e ∙ f) k l m n
+
+pub no_white_front : (text rest : List ℕ) → text ≡ codes "<!DOCTYPE" ++ rest → (BeginsWithWhite rest → ⊥) → (after : List ℕ) → DoctypeFrontAt text after → ⊥
+no_white_front text rest e h after a = h (subst BeginsWithWhite (append_cancel_left (codes "<!DOCTYPE") a.rest rest (sym a.opens ∙ e)) a.white)
+
+pub no_name_front : (text rest start : List ℕ) → text ≡ codes "<!DOCTYPE" ++ rest → start ≡ after_white rest → ((name : QualifiedName) (behind : List ℕ) → QNameAt start name behind → ⊥)
+    → (after : List ℕ) → DoctypeFrontAt text after → ⊥
+no_name_front text rest start e f h after a =
+    let same = append_cancel_left (codes "<!DOCTYPE") a.rest rest (sym a.opens ∙ e) in
+    h a.name a.past_name (subst (λ z. QNameAt z a.name a.past_name) (ap after_white same ∙ sym f) a.names)
 
 pub no_external : (text rest start behind : List ℕ) (name : QualifiedName) → text ≡ codes "<!DOCTYPE" ++ rest → start ≡ after_white rest → QNameAt start name behind
     → ((a : List ℕ) → ExternalIdAt behind a → ⊥) → (after : List ℕ) → DoctypeFrontAt text after → ⊥

@@ -378,3 +378,15 @@ element-returns-in_err-tag-clause-ok t c = failed_ok _ _ _ c.from_residual.ensur
 
 pub element-returns-in_err-rest-clause-ok : goal.element-returns-in_err-rest-clause-ok
 element-returns-in_err-rest-clause-ok t c = failed_ok _ _ _ c.from_residual-in_err-rest.ensures.1
+
+pub body-content-requires : goal.body-content-requires
+body-content-requires t c = (omega (arith, c.decreases), c.requires)
+
+pub content-item-requires : goal.content-item-requires
+content-item-requires t c = (omega arith, omega arith)
+
+pub item-element-requires : goal.item-element-requires
+item-element-requires t c = (omega arith, omega arith)
+
+pub element-body-requires : goal.element-body-requires
+element-body-requires t c = (omega arith, omega arith)

@@ -5,7 +5,7 @@ use Rattle.tc_base.specs.declared.reasons.Why.{Why}
 use Rattle.tc_model.specs.XmlTextMisc.{no_declaration, DeclarationAt}
 use Rattle.tc_model.specs.XmlTextRefusals.{DeclarationRefuses}
 use Rattle.tc_xml.specs.Refusals.{Refuses, UnsupportedAt, OnMalformed}
-use Rattle.tc_xml.proofs.MiscLaws.{map_ok, map_err, not_declared, no_version, a_declaration, no_behind_version, version_stands, encoding_stands}
+use Rattle.tc_xml.proofs.MiscLaws.{map_ok, map_err, not_declared, no_version, a_declaration, no_behind_version, version_stands, encoding_stands, no_other_version}
 use Rattle.tc_xml.proofs.MalformedLaws.{of_malformed, no_version_refused, no_encoding_refused}
 use Rattle.tc_xml.proofs.ContentLaws.{refuse_both, unsupported_map}
 use Rattle.tc_xml.proofs.misc.after_declaration.Goals as goal
@@ -51,3 +51,6 @@ returns-clause-malformed c =
     let Q = (why : Why) (at : List ℕ) → DeclarationRefuses c.args.text.now why at → ⊥ in
     map_err _ (λ e. OnMalformed e Q) c.after_settings.result
     (λ e k. of_malformed e _ Q (no_encoding_refused c.args.text.now c.in-Some.rest.now c.in-Some-setting.version.now c.in-Some-setting.behind.now c.in-Some.ensures c.in-Some-setting.ensures is) k) c.after_settings.ensures.malformed
+
+pub returns-then-ne-clause-no : goal.returns-then-ne-clause-no
+returns-then-ne-clause-no c = no_other_version c.args.text.now c.in-Some.rest.now c.in-Some-setting.version.now c.in-Some-setting.behind.now c.in-Some.ensures c.in-Some-after_some_white.ensures.0 c.in-Some-setting.ensures c.if-ne.ensures

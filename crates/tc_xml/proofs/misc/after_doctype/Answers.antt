@@ -1,10 +1,13 @@
-use Rattle.std.proofs.Common.{sym, subst, List, ℕ, ◌∷◌, ◌∙◌, arith}
+use Rattle.std.proofs.Common.{sym, subst, List, ℕ, ◌∷◌, ◌∙◌, arith, ◌≡◌, refl}
 use Rattle.tc_model.specs.XmlTextMisc.{no_doctype, doctype, DoctypeFrontAt, DoctypeAt}
-use Rattle.tc_xml.specs.Refusals.{Refuses, OnMalformed}
+use Rattle.tc_xml.specs.Refusals.{Refuses, OnMalformed, UnsupportedAt}
 use Rattle.tc_model.proofs.XmlTextPhrases.{same_first}
 use Rattle.tc_xml.proofs.ContentLaws.{broken}
 use Rattle.tc_xml.proofs.MalformedLaws.{of_breaks, no_subset_at}
 use Rattle.tc_xml.proofs.MiscLaws.{map_ok, map_err, no_front, no_misc_behind, no_close}
+use Rattle.tc_xml.proofs.DocumentLaws.{breaks_nowhere}
+use Rattle.tc_base.specs.declared.reasons.Why.{Why}
+use Rattle.tc_base.specs.declared.reasons.Why.TheVariants.{DoctypeSubset}
 use Rattle.tc_xml.proofs.misc.after_doctype.Goals as goal
 use Rattle.tc_xml.proofs.misc.after_doctype.Goals.{then-begins, else-begins}
 
@@ -48,4 +51,15 @@ returns-after-begins-clause-malformed c =
       | then-begins w ↦ subst (λ e. OnMalformed e ((r : List ℕ) → DoctypeFrontAt c.args.text.now (0x5B ∷ r) → ⊥)) (sym w.result-is) tt
       | else-begins w ↦ subst (λ e. OnMalformed e ((r : List ℕ) → DoctypeFrontAt c.args.text.now (0x5B ∷ r) → ⊥)) (sym w.result-is)
           (no_subset_at c.args.text.now c.in-Some.end.now c.in-Some.ensures w.if-begins.ensures)
+    ]
+
+pub returns-in-Some-after_byte-clause-stands : goal.returns-in-Some-after_byte-clause-stands
+returns-in-Some-after_byte-clause-stands c = map_err _ _ c.after_misc.result (λ e m. breaks_nowhere e _ _ m) c.after_misc.ensures.no
+
+pub returns-after-begins-clause-stands : goal.returns-after-begins-clause-stands
+returns-after-begins-clause-stands c =
+    let P = λ (why : Why) (at : List ℕ). (why ≡ DoctypeSubset) × ((r : List ℕ) × (at ≡ 0x5B ∷ r)) × DoctypeFrontAt c.args.text.now at in
+    elim c.if-begins.branch [
+      | then-begins w ↦ subst (λ e. UnsupportedAt e P) (sym w.result-is) (c.in-Some.end.now, refl, (refl, w.if-begins.ensures, c.in-Some.ensures))
+      | else-begins w ↦ subst (λ e. UnsupportedAt e P) (sym w.result-is) tt
     ]
