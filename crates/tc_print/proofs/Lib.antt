@@ -6,3 +6,4 @@ mod ReadBackChars
 mod ReadBackText
 mod ReadBackTrees
 pub mod ReadBack
+pub mod Failed

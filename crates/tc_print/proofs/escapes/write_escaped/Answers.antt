@@ -1,9 +1,10 @@
 use Rattle.std.proofs.Common.{◌+◌, get_or, take, length, subst, sym, ap, ◌∙◌, arith}
 use Rattle.std.specs.List.{flat_map}
 use Rattle.tc_io.specs.Sink.{Appended, WroteFront}
-use Rattle.tc_io.proofs.Fronts.{on_err, on_err_map, on_ok_map, appended_twice, next_front}
+use Rattle.tc_io.proofs.Fronts.{on_err, on_err_map, on_ok_map, appended_twice, next_front, then_rose}
 use Rattle.tc_print.specs.Pieces.{escaped}
 use Rattle.tc_print.proofs.Runs.{between, none_between, run_written, run_longer, flat_next, front_of_all, all_written}
+use Rattle.tc_print.proofs.Failed.{no_ok}
 use Rattle.tc_print.proofs.escapes.write_escaped.Goals as goal
 use Rattle.tc_print.proofs.escapes.write_escaped.Goals.{in-Some+in_ok-write_run+in_ok-write, in_default}
 
@@ -73,3 +74,27 @@ returns-clause-fault g c =
     let kept = c.loop-place.invariant in
     on_err_map c.write_run-2.result (λ h. subst (WroteFront _ _) (all_written f xs w c.loop-place.place kept.in_order (omega arith) kept.plain)
     (next_front _ _ _ (flat_map f (take w xs)) (between xs w (length xs)) kept.so_far h)) c.write_run-2.ensures.fault
+
+pub returns-then-is_plain-clause-count : goal.returns-then-is_plain-clause-count
+returns-then-is_plain-clause-count g c = c.write.ensures.count
+
+pub returns-then-is_plain-clause-rose : goal.returns-then-is_plain-clause-rose
+returns-then-is_plain-clause-rose g c = c.write.ensures.rose
+
+pub returns-in_err-write_run-clause-count : goal.returns-in_err-write_run-clause-count
+returns-in_err-write_run-clause-count g c = omega (arith, c.loop-place.invariant.count, c.in_err-write_run.ensures.count)
+
+pub returns-in_err-write_run-clause-ok : goal.returns-in_err-write_run-clause-ok
+returns-in_err-write_run-clause-ok g c = no_ok c.from_residual.result _ _ c.from_residual.ensures.1
+
+pub returns-in_err-write_run-clause-rose : goal.returns-in_err-write_run-clause-rose
+returns-in_err-write_run-clause-rose g c = on_err c.from_residual.result (then_rose _ _ _ c.loop-place.invariant.count c.in_err-write_run.ensures.rose)
+
+pub returns-in_err-write-clause-count : goal.returns-in_err-write-clause-count
+returns-in_err-write-clause-count g c = omega (arith, c.loop-place.invariant.count, c.in_ok-write_run.ensures.count, c.in_err-write.ensures.count)
+
+pub returns-in_err-write-clause-ok : goal.returns-in_err-write-clause-ok
+returns-in_err-write-clause-ok g c = no_ok c.from_residual-in_err-write.result _ _ c.from_residual-in_err-write.ensures.1
+
+pub returns-in_err-write-clause-rose : goal.returns-in_err-write-clause-rose
+returns-in_err-write-clause-rose g c = on_err c.from_residual-in_err-write.result (then_rose _ _ _ c.loop-place.invariant.count (then_rose _ _ _ c.in_ok-write_run.ensures.count c.in_err-write.ensures.rose))

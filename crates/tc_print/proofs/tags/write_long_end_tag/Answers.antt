@@ -1,7 +1,8 @@
-use Rattle.std.proofs.Common.{◌++◌, codes}
-use Rattle.tc_io.proofs.Fronts.{on_err, on_err_map, first_front, next_front}
+use Rattle.std.proofs.Common.{◌++◌, codes, arith}
+use Rattle.tc_io.proofs.Fronts.{on_err, on_err_map, first_front, next_front, on_ok_map, appended_twice, then_rose}
 use Rattle.tc_model.specs.Printed.{tag_name}
 use Rattle.tc_model.specs.Views.{name}
+use Rattle.tc_print.proofs.Failed.{no_ok}
 use Rattle.tc_print.proofs.tags.write_long_end_tag.Goals as goal
 
 pub returns-in_err-write-clause-fault : goal.returns-in_err-write-clause-fault
@@ -20,3 +21,33 @@ returns-clause-fault g c =
     let tag = tag_name (name c.args.of.now) in
     on_err_map c.write-2.result (λ h. next_front _ _ _ (codes "</") (tag ++ codes ">") c.in_ok-write.ensures.ok
     (next_front _ _ _ tag (codes ">") c.in_ok-write_tag_name.ensures.ok h)) c.write-2.ensures.fault
+
+pub returns-in_err-write-clause-count : goal.returns-in_err-write-clause-count
+returns-in_err-write-clause-count g c = c.in_err-write.ensures.count
+
+pub returns-in_err-write-clause-ok : goal.returns-in_err-write-clause-ok
+returns-in_err-write-clause-ok g c = no_ok c.from_residual.result _ _ c.from_residual.ensures.1
+
+pub returns-in_err-write-clause-rose : goal.returns-in_err-write-clause-rose
+returns-in_err-write-clause-rose g c = on_err c.from_residual.result c.in_err-write.ensures.rose
+
+pub returns-in_err-write_tag_name-clause-count : goal.returns-in_err-write_tag_name-clause-count
+returns-in_err-write_tag_name-clause-count g c = omega (arith, c.in_ok-write.ensures.count, c.in_err-write_tag_name.ensures.count)
+
+pub returns-in_err-write_tag_name-clause-ok : goal.returns-in_err-write_tag_name-clause-ok
+returns-in_err-write_tag_name-clause-ok g c = no_ok c.from_residual-in_err-write_tag_name.result _ _ c.from_residual-in_err-write_tag_name.ensures.1
+
+pub returns-in_err-write_tag_name-clause-rose : goal.returns-in_err-write_tag_name-clause-rose
+returns-in_err-write_tag_name-clause-rose g c = on_err c.from_residual-in_err-write_tag_name.result (then_rose _ _ _ c.in_ok-write.ensures.count c.in_err-write_tag_name.ensures.rose)
+
+pub returns-clause-count : goal.returns-clause-count
+returns-clause-count g c = omega (arith, c.in_ok-write.ensures.count, c.in_ok-write_tag_name.ensures.count, c.write-2.ensures.count)
+
+pub returns-clause-rose : goal.returns-clause-rose
+returns-clause-rose g c = on_err_map c.write-2.result (λ h. then_rose _ _ _ c.in_ok-write.ensures.count (then_rose _ _ _ c.in_ok-write_tag_name.ensures.count h)) c.write-2.ensures.rose
+
+pub returns-clause-ok : goal.returns-clause-ok
+returns-clause-ok g c =
+    let tag = tag_name (name c.args.of.now) in
+    on_ok_map c.write-2.result (λ h. appended_twice _ _ _ (codes "</") (tag ++ codes ">") c.in_ok-write.ensures.ok
+    (appended_twice _ _ _ tag (codes ">") c.in_ok-write_tag_name.ensures.ok h)) c.write-2.ensures.ok

@@ -4,6 +4,7 @@ use Rattle.tc_io.proofs.Fronts.{on_err, on_err_map, on_ok_map, appended_twice, f
 use Rattle.tc_model.specs.Printed.{xml_uri}
 use Rattle.tc_model.specs.Views.{name}
 use Rattle.tc_print.proofs.Names.{with_prefix, without_prefix}
+use Rattle.tc_print.proofs.Failed.{no_ok}
 use Rattle.tc_print.proofs.tags.write_tag_name.Goals as goal
 use Rattle.tc_print.proofs.tags.write_tag_name.Goals.{then-eq+in_ok-write, else-eq}
 
@@ -42,3 +43,12 @@ returns-clause-fault g c =
           let xml : bytes_eq n.uri xml_uri ≡ false = search rules in
           on_err_map c.write-2.result (λ h. subst (WroteFront _ _) (without_prefix n xml) (rw (← w.sink-is) (last h))) c.write-2.ensures.fault
     ]
+
+pub returns-in_err-write-clause-count : goal.returns-in_err-write-clause-count
+returns-in_err-write-clause-count g c = c.in_err-write.ensures.count
+
+pub returns-in_err-write-clause-ok : goal.returns-in_err-write-clause-ok
+returns-in_err-write-clause-ok g c = no_ok c.from_residual.result _ _ c.from_residual.ensures.1
+
+pub returns-in_err-write-clause-rose : goal.returns-in_err-write-clause-rose
+returns-in_err-write-clause-rose g c = on_err c.from_residual.result c.in_err-write.ensures.rose
