@@ -58,6 +58,10 @@ pub number_is : (o : Option ℕ) (ks : List (Bor (List ℕ))) (n : Bor (List ℕ
 number_is (Some i) ks n e f = let (l, at, before) = position-Some (same_key n) ks i n (sym e) in sym (first_place ks n n i l at before)
 number_is None ks n e f = sym (no_place ks n (sym f))
 
+-- a name that isn't declared
+pub undeclared : (ns : List (List ℕ)) (n : List ℕ) → number_in ns n ≡ None → g.not_allowed ≡ built.reference ns n
+undeclared ns n e = sym (ap (λ (o : Option ℕ). elim o [ Some k ↦ g.ref (k + 1) | None ↦ g.not_allowed ]) e)
+
 pub number_within : (ns : List (List ℕ)) (n : List ℕ) (k : ℕ) → number_in ns n ≡ Some k → k < length ns
 number_within [] n k e = absurd (cc)
 number_within (m ∷ ms) n k e = by (bytes_eq m n) (λ j i. number_within ms n j i) (number_in ms n) refl e

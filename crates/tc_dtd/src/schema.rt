@@ -107,17 +107,31 @@ fn local_names<'b>(arena: &'b Bump, decls: &[Decl<'b>]) -> Result<&'b [&'b str],
     Ok(into_bump_slice(out))
 }
 
+/// The grammar of these elements, by the numbers of their names.
+fn built_by<'b>(
+    arena: &'b Bump,
+    decls: &[Decl<'b>],
+    found: &Names<'b>,
+    root: &'b str,
+) -> Result<Grammar<'b>, OutOfMemory>
+    requires few { length decls.now ≤ 256 }
+    requires found { see.names found.now.keys ≡ map (λ x. x.name) (map see.declaration decls.now) }
+    ensures { IfOk result (λ g. seen.grammar g ≡ grammar_with (map see.declaration decls.now) root.now) }
+{
+    let names = local_names(arena, decls)?;
+    let elements = element_patterns(arena, found, names, decls)?;
+    let start = reference(found, root);
+    Ok(Grammar { start, elements })
+}
+
 /// The grammar of these elements.
 fn built<'b>(arena: &'b Bump, decls: &[Decl<'b>], root: &'b str) -> Result<Grammar<'b>, OutOfMemory>
     requires once { AreApart (map (λ x. x.name) (map see.declaration decls.now)) }
     requires few { length decls.now ≤ 256 }
     ensures { IfOk result (λ g. seen.grammar g ≡ grammar_with (map see.declaration decls.now) root.now) }
 {
-    let names = local_names(arena, decls)?;
     let found = names_of(arena, decls)?;
-    let elements = element_patterns(arena, &found, names, decls)?;
-    let start = reference(&found, root);
-    Ok(Grammar { start, elements })
+    built_by(arena, decls, &found, root)
 }
 
 /// The schema of the declarations of a document type definition, with `root` as the document's element: for it those

@@ -111,3 +111,15 @@ pub join-returns-clause-ok : goal.join-returns-clause-ok
 join-returns-clause-ok t c =
     joins_end c.args.connector c.args.deepest c.args.text.now c.loop-next.rest.now c.after_white-end.result.now c.in-Some-after_byte.after.now (particle c.args.first) (particles c.loop-next.all.items)
     c.loop-next.invariant.1 c.after_white-end.ensures c.in-Some-after_byte.ensures
+
+pub particle-group-requires : goal.particle-group-requires
+particle-group-requires t c = omega arith
+
+pub group-list-requires : goal.group-list-requires
+group-list-requires t c = omega arith
+
+pub list-particle-requires : goal.list-particle-requires
+list-particle-requires t c = omega arith
+
+pub join-particle-requires : goal.join-particle-requires
+join-particle-requires t c = omega arith
