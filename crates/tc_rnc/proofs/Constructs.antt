@@ -10,7 +10,6 @@ use Rattle.tc_model.specs.CompactSyntaxUnread as u
 use Rattle.tc_rnc.specs.Connectors.{BeginsNone, BeginsNoneRead}
 use Rattle.tc_rnc.specs.Escapes.{IsTwoSigns, StopsAtLiteral, ReadsLiteral}
 use Rattle.tc_rnc.specs.Blocks.{DefinesNothing, IsEndOfDefinitions, IsFirst}
-use Rattle.tc_model.proofs.CompactSyntaxClassesUnique.{same_head}
 
 -- `>>` with what follows it
 pub signs : {t : Token} {ts : List Token} → IsTwoSigns t ts → AnnotationAt (t ∷ ts)
@@ -88,12 +87,6 @@ three_stop {t} {ts} e k h l =
 
 pub reads_in_none : {us : List Token} → us ≡ [] → ReadsLiteral us
 reads_in_none e t ts f k = absurd (omega (arith, ap length (sym e ∙ f)))
-
-pub reads_other : {t : Token} {ts us : List Token} → us ≡ t ∷ ts → is_literal t.word ≡ false → ReadsLiteral us
-reads_other e h t ts f k = absurd (false≢true (sym h ∙ (ap (λ z. is_literal z.word) (same_head (sym e ∙ f)) ∙ k)))
-
-pub reads_plain : {t : Token} {ts us : List Token} {s : List ℕ} → us ≡ t ∷ ts → NoEscape us → t.word ≡ literal s → ReadsLiteral us
-reads_plain {s = s} e h k t ts f x = record { value = s; word = ap (λ z. z.word) (same_head (sym f ∙ e)) ∙ k; no_escape = subst NoEscape f h }
 
 -- where a definition should begin
 pub include_first : {end : End} {t : Token} {us : List Token} → IsFirst t us → IsWord (codes "include") t → NoDefinition end us (unsupported Include t.place)

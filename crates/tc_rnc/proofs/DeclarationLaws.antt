@@ -103,9 +103,6 @@ prefix_read {end} {i} {t} {rest = rest} e k h v y = by (subst (λ z. PrefixStops
 
 -- Words.
 
-pub two_words : {s r : List ℕ} {ts us vs : List Token} → StartsWith s ts us → StartsWith r us vs → (t u : Token) × (ts ≡ t ∷ u ∷ vs) × IsWord s t × IsWord r u
-two_words (t, e, k) (u, f, l) = (t, u, e ∙ ap (λ z. t ∷ z) f, k, l)
-
 -- Declarations.
 
 pub declares_namespace : (scope : List Bound) (ts rest after : List Token) (prefix uri : List ℕ) → StartsWith (codes "namespace") ts rest → PrefixUriAt rest prefix uri after → MayBind scope prefix uri

@@ -7,28 +7,10 @@ use Rattle.std.proofs.lemmas.Bool.{true≢false}
 use Rattle.std.proofs.lemmas.Str.{encode_same, length-encode, len_utf8_bounds}
 use Rattle.tc_model.specs.XmlTextBytes.{IsQuote, length_before, UpTo, LiteralAt}
 use Rattle.tc_model.specs.XmlTextNames.{NcNameAt}
-use Rattle.tc_model.specs.CompactSyntaxTokens.{Word, a_name, prefixed, all_of, mark, three, LongLiteralAt, EscapedAt, is_mark, WordAt, plain_name, prefixed_name, namespace_name, escaped_name, quoted, quoted_long, backslash, other}
-use Rattle.tc_model.proofs.XmlTextPhrases.{same_first, same_others, ncname_unique}
+use Rattle.tc_model.specs.CompactSyntaxTokens.{Word, a_name, prefixed, all_of, mark, LongLiteralAt, EscapedAt, is_mark, WordAt, plain_name, prefixed_name, namespace_name, escaped_name, quoted, quoted_long, backslash, other}
+use Rattle.tc_model.proofs.XmlTextPhrases.{same_others, ncname_unique}
 use Rattle.tc_rnc.specs.Fronts.{IsNoMark, is_in_line}
 use Rattle.tc_rnc.proofs.Escapes.{lacks_mark}
-
-pub double_quoted : {text rest value after : List ℕ} → text ≡ 0x22 ∷ rest → UpTo (0x22 ∷ []) rest value after → LiteralAt text value after
-double_quoted {rest = rest} e u = record { quote = 0x22; rest = rest; is_quote = inl refl; opens = e; closes = u }
-
-pub single_quoted : {text rest value after : List ℕ} → text ≡ 0x27 ∷ rest → UpTo (0x27 ∷ []) rest value after → LiteralAt text value after
-single_quoted {rest = rest} e u = record { quote = 0x27; rest = rest; is_quote = inr refl; opens = e; closes = u }
-
-pub no_double_quoted : {text rest : List ℕ} → text ≡ 0x22 ∷ rest → ((value after : List ℕ) → UpTo (0x22 ∷ []) rest value after → ⊥) → (value after : List ℕ) → LiteralAt text value after → ⊥
-no_double_quoted e h value after a =
-    let is = sym e ∙ a.opens in
-    let q : a.quote ≡ 0x22 = sym (same_first is) in
-    h value after (subst (λ w. UpTo (0x22 ∷ []) w value after) (sym (same_others is)) (subst (λ x. UpTo (x ∷ []) a.rest value after) q a.closes))
-
-pub no_single_quoted : {text rest : List ℕ} → text ≡ 0x27 ∷ rest → ((value after : List ℕ) → UpTo (0x27 ∷ []) rest value after → ⊥) → (value after : List ℕ) → LiteralAt text value after → ⊥
-no_single_quoted e h value after a =
-    let is = sym e ∙ a.opens in
-    let q : a.quote ≡ 0x27 = sym (same_first is) in
-    h value after (subst (λ w. UpTo (0x27 ∷ []) w value after) (sym (same_others is)) (subst (λ x. UpTo (x ∷ []) a.rest value after) q a.closes))
 
 pub no_quote : {text : List ℕ} → ((r : List ℕ) → text ≡ 0x22 ∷ r → ⊥) → ((r : List ℕ) → text ≡ 0x27 ∷ r → ⊥) → (value after : List ℕ) → LiteralAt text value after → ⊥
 no_quote {text} h k value after a = by a.is_quote
@@ -36,21 +18,6 @@ no_quote {text} h k value after a = by a.is_quote
     by : IsQuote a.quote → ⊥
     by (inl e) = h a.rest (a.opens ∙ ap (λ q. q ∷ a.rest) e)
     by (inr e) = k a.rest (a.opens ∙ ap (λ q. q ∷ a.rest) e)
-
-pub three_double : {text rest value after : List ℕ} → text ≡ three 0x22 ++ rest → value ≡ take (length_before (three 0x22) rest) rest
-    → after ≡ drop 3 (drop (length_before (three 0x22) rest) rest) → LongLiteralAt text value after
-three_double {rest = rest} e f b = record { quote = 0x22; rest = rest; is_quote = inl refl; opens = e; front = f; back = b }
-
-pub three_single : {text rest value after : List ℕ} → text ≡ three 0x27 ++ rest → value ≡ take (length_before (three 0x27) rest) rest
-    → after ≡ drop 3 (drop (length_before (three 0x27) rest) rest) → LongLiteralAt text value after
-three_single {rest = rest} e f b = record { quote = 0x27; rest = rest; is_quote = inr refl; opens = e; front = f; back = b }
-
-pub no_three : {text : List ℕ} → ((r : List ℕ) → text ≡ three 0x22 ++ r → ⊥) → ((r : List ℕ) → text ≡ three 0x27 ++ r → ⊥) → (value after : List ℕ) → LongLiteralAt text value after → ⊥
-no_three {text} h k value after a = by a.is_quote
-  where
-    by : IsQuote a.quote → ⊥
-    by (inl e) = h a.rest (a.opens ∙ ap (λ q. three q ++ a.rest) e)
-    by (inr e) = k a.rest (a.opens ∙ ap (λ q. three q ++ a.rest) e)
 
 -- what stands nowhere has all before it, and nothing behind
 pub all_before : (quotes text : List ℕ) → ((inside after : List ℕ) → UpTo quotes text inside after → ⊥) → text ≡ take (length_before quotes text) text

@@ -23,3 +23,24 @@ returns-clause-whole c =
 
 pub returns-in_err-after-clause-ok : goal.returns-in_err-after-clause-ok
 returns-in_err-after-clause-ok c = unread_ok _ _ _ c.from_residual.ensures.1
+
+pub returns-in_err-after-clause-whole : goal.returns-in_err-after-clause-whole
+returns-in_err-after-clause-whole c = unread_ok _ _ _ c.from_residual.ensures.1
+
+pub returns-in-Some-clause-ok : goal.returns-in-Some-clause-ok
+returns-in-Some-clause-ok c = c.namespace.ensures.ok
+
+pub returns-in-Some-clause-whole : goal.returns-in-Some-clause-whole
+returns-in-Some-clause-whole c = c.namespace.ensures.whole
+
+pub returns-in-Some-clause-no : goal.returns-in-Some-clause-no
+returns-in-Some-clause-no c = c.namespace.ensures.no
+
+pub returns-in-Some-after_word-clause-ok : goal.returns-in-Some-after_word-clause-ok
+returns-in-Some-after_word-clause-ok c = c.default_namespace.ensures.ok
+
+pub returns-in-Some-after_word-clause-whole : goal.returns-in-Some-after_word-clause-whole
+returns-in-Some-after_word-clause-whole c = c.default_namespace.ensures.whole
+
+pub returns-in-Some-after_word-clause-no : goal.returns-in-Some-after_word-clause-no
+returns-in-Some-after_word-clause-no c = c.default_namespace.ensures.no

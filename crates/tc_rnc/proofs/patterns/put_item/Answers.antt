@@ -1,7 +1,7 @@
 use Rattle.std.proofs.Common.{rules}
 use Rattle.tc_rnc.specs.Connectors as view
 use Rattle.tc_rnc.proofs.RefusalLaws.{refuses_map, unmade}
-use Rattle.tc_rnc.proofs.UnreadLaws.{unread_ok}
+use Rattle.tc_rnc.proofs.UnreadLaws.{unread_ok, unread_on}
 use Rattle.tc_rnc.proofs.ItemLaws.{goes_on_at}
 use Rattle.tc_rnc.proofs.patterns.put_item.Goals as goal
 
@@ -17,3 +17,15 @@ returns-then-eq-clause-ok c = search rules
 
 pub returns-in_err-push-clause-ok : goal.returns-in_err-push-clause-ok
 returns-in_err-push-clause-ok c = unread_ok _ _ _ c.from_residual.ensures.1
+
+pub returns-in_err-push-clause-items : goal.returns-in_err-push-clause-items
+returns-in_err-push-clause-items c = unread_on c.from_residual.result _ _ c.from_residual.ensures.1
+
+pub returns-in_default-clause-items : goal.returns-in_default-clause-items
+returns-in_default-clause-items c = c.in_ok-push.ensures.items
+
+pub returns-in_default-clause-ok : goal.returns-in_default-clause-ok
+returns-in_default-clause-ok c = c.in_default.ensures
+
+pub returns-then-eq-clause-items : goal.returns-then-eq-clause-items
+returns-then-eq-clause-items c = c.in_ok-push.ensures.items
