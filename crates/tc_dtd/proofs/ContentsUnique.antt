@@ -42,9 +42,6 @@ no_parenthesis bs r o e (prefix {n = n} {r = s} a) = not_named 0x28 bs r n (0x3A
 no_parenthesis bs r o e (colon f) = omega (arith, other_byte e f)
 no_parenthesis bs r o e (t.reference f) = omega (arith, other_byte e f)
 
-suffix_whole : (p : Particle) (bs r s : List ℕ) (w v : Particle) → w ≡ v → r ≡ s → read w r ≡ read v s
-suffix_whole p bs r s w v e f = ap (λ x. read x r) e ∙ ap (read v) f
-
 pub suffix_unique : (p : Particle) (bs : List ℕ) (w v : Particle) (r s : List ℕ) → SuffixAt p bs w r → SuffixAt p bs v s → read w r ≡ read v s
 suffix_unique p bs w v r s (no_suffix h) (no_suffix k) = refl
 suffix_unique p bs w v r s (no_suffix h) (question e) = absurd (h s (inl e))

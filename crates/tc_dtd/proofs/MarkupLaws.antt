@@ -81,9 +81,6 @@ pub passed_at : (test : ℕ → Bool) (text bs rest : List ℕ) (n : ℕ) → n 
 passed_at test text bs rest n e l other i r =
     ap (λ k. drop k text) (sym e) ∙ (drop_more text n 0 (omega (arith, l, other)) ∙ (ap (λ w. get_or w n 0 ∷ drop (n + 1) text) (sym i) ∙ ap (λ w. get_or bs n 0 ∷ w) (sym r)))
 
-pub passed_none : (test : ℕ → Bool) (bs : List ℕ) (n : ℕ) → n ≡ prefix_len test bs → length bs ≤ n → (b : ℕ) (r : List ℕ) → passed test bs ≡ b ∷ r → ⊥
-passed_none test bs n e l b r f = omega (arith, e, l, ap length f, length-drop (prefix_len test bs) bs)
-
 -- the byte that ends a run
 ends_run : (test : ℕ → Bool) (bs : List ℕ) (b : ℕ) (r : List ℕ) → passed test bs ≡ b ∷ r → test b ≡ false
 ends_run test [] b r e = absurd (cc)

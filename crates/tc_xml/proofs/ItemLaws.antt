@@ -12,7 +12,7 @@ use Rattle.tc_model.specs.XmlTextMisc.{CommentAt, InstructionAt}
 use Rattle.tc_model.specs.XmlTextContent.{Piece, characters, ItemAt, character_data, reference, cdata, comment, instruction, child, ElementAt, empty_tag, with_content}
 use Rattle.tc_model.proofs.XmlTextPhrases.{reference_first}
 use Rattle.tc_model.proofs.XmlTextUnique.{bang, markup, kind, character_data_kind, reference_kind, cdata_kind, comment_kind, instruction_kind, child_kind}
-use Rattle.tc_scan.proofs.FrontLaws.{stands_at, found, not_found, run_to_none}
+use Rattle.tc_scan.proofs.FrontLaws.{stands_at, found, run_to_none}
 use Rattle.tc_xml.specs.Reading.{SmallItemAt, LacksItem}
 
 pub lacks_reference : (o : Bool) (total : ℕ) (text r : List ℕ) → text ≡ 0x26 ∷ r → ((s after : List ℕ) → ReferenceAt o text s after → ⊥) → LacksItem o total text
@@ -200,12 +200,3 @@ a_clear_run text run after n e some f g h = record {
   };
   lacks_end = h;
 }
-
-pub no_run : (text : List ℕ) (n : ℕ) → n ≡ prefix_len is_plain text → n ≡ 0 → (run after : List ℕ) → CharacterDataAt text run after → ⊥
-no_run text n e z run after a = omega (arith, e, z, a.plain.some)
-
-pub no_end_within : (text run after : List ℕ) (n : ℕ) → n ≡ prefix_len is_plain text → run ≡ take n text → (inside rest : List ℕ) → UpTo (codes "]]>") run inside rest
-    → (run' after' : List ℕ) → CharacterDataAt text run' after' → ⊥
-no_end_within text run after n e f inside rest u run' after' a =
-    let same : run' ≡ run = a.plain.front ∙ (ap (λ m. take m text) (sym e) ∙ sym f) in
-    not_found (codes "]]>") run (length_before (codes "]]>") run) (omega arith) refl (subst (λ w. Lacks (codes "]]>") w) same a.lacks_end) inside rest u

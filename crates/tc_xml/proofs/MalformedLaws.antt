@@ -17,7 +17,7 @@ use Rattle.tc_model.proofs.XmlTextUnique.{tag_unique, item_unique, no_item_at_en
 use Rattle.tc_model.proofs.XmlTextRefused.{Begins, as_reference, quoted_no_quoted, not_space, attributes_no_list, tag_no_tag, element_begins, other_no_item, element_no_item, content_no_content, element_no_element, start_same, encoding_no_encoding, declaration_no_declaration, front_same, subset_no_doctype}
 use Rattle.tc_xml.specs.declared.faults.Stop.{Stop}
 use Rattle.tc_xml.specs.declared.faults.Stop.TheVariants.{Malformed, Unsupported, TooDeep, NoMemory}
-use Rattle.tc_xml.specs.Reading.{AttributeAt, OpensElement, BodyRefuses, LacksItem}
+use Rattle.tc_xml.specs.Reading.{AttributeAt, BodyRefuses, LacksItem}
 use Rattle.tc_xml.specs.Refusals.{Refuses, RefusesWithin, OnMalformed}
 use Rattle.tc_xml.specs.Tags.{lacks_space, Breaks}
 use Rattle.tc_xml.specs.Values as pieces
@@ -170,9 +170,6 @@ no_child_refused total outer d bs rest e h g cause at (child k) = g cause at k
 no_child_refused total outer d bs rest e h g cause at (past_item a k) = h _ _ a
 
 -- elements
-
-pub no_element_begins : (total : ℕ) (outer : List Bound) (d : ℕ) (text : List ℕ) → (OpensElement text → ⊥) → (cause : Cause) (at : List ℕ) → ElementRefuses total outer d text cause at → ⊥
-no_element_begins total outer d text h cause at k = let b = element_begins k in h (record { rest = b.rest; name = b.name; past_name = b.past_name; opens = b.opens; names = b.names })
 
 pub no_tag_refused : (total : ℕ) (outer : List Bound) (d : ℕ) (text : List ℕ) → d ≢ 0
     → ((w : QualifiedName) (scope : List Bound) (n : ExpandedName) (x : List Attribute) (after : List ℕ) → TagAt true total outer text w scope n x after → ⊥)
