@@ -16,3 +16,4 @@ pub mod SizeLaws
 pub mod OnceLaws
 pub mod BuiltLaws
 pub mod GrammarLaws
+pub mod Failed
