@@ -1,6 +1,7 @@
 -- What the tables of rules answer is what they tell.
-use Rattle.std.proofs.Common.{◌≡◌, ℕ, zero, suc, ◌+◌, ◌^◌, ◌<◌, List, [], ◌∷◌, Bool, ap, sym, ◌∙◌, subst, map, Option, Some, None, slice_get, length, take, arith}
+use Rattle.std.proofs.Common.{◌≡◌, ℕ, zero, suc, ◌+◌, ◌^◌, ◌<◌, List, [], ◌∷◌, Bool, ap, sym, ◌∙◌, subst, map, Option, Some, None, option_map, slice_get, length, take, arith}
 use Rattle.std.proofs.lemmas.List.{length-map}
+use Rattle.std.proofs.lemmas.Option.{slice_get-map}
 use Rattle.tc_model.specs.Symbols.{Mention, symbol_count}
 use Rattle.tc_model.specs.Letters.{Letter, of_symbol, IsLetter}
 use Rattle.tc_model.specs.PathStates.{State, next_state, path_of_rules}
@@ -30,15 +31,18 @@ module _ (symbols : List Mention) (r : Rules) (h : IsRulesOf symbols r) (k : ℕ
   pub stands_at : slice_get r.selects.items k ≡ Some (record { graph = st.place; state = st.number })
   stands_at = ap (slice_get r.selects.items) st.number_is ∙ h.places st.place st.graph st.number st.graph_is (within st.graph.states st.number x st.state)
 
-  pub not_absent : slice_get r.selects.items k ≡ None → ⊥
-  not_absent e = let f = sym e ∙ stands_at in cc
-
   pub select_is : (y : Select) → slice_get r.selects.items k ≡ Some y → (y.graph ≡ st.place) × (y.state ≡ st.number)
   select_is y e = let f : y ≡ record { graph = st.place; state = st.number } = some_is (sym e ∙ stands_at) in (ap (λ (z : Select). z.graph) f, ap (λ (z : Select). z.state) f)
 
   pub graph_is : (y : Select) (x : Graph) → slice_get r.selects.items k ≡ Some y → slice_get r.graphs.items y.graph ≡ Some x → graph x ≡ st.graph
   graph_is y x e f =
       some_is (sym (mapped_at graph r.graphs.items y.graph x f) ∙ (ap (slice_get (graphs r.graphs.items)) (select_is y e).0 ∙ st.graph_is))
+
+  pub graph_never : (y : Select) → slice_get r.selects.items k ≡ Some y → slice_get r.graphs.items y.graph ≡ None → ⊥
+  graph_never y e f =
+      let here : slice_get r.graphs.items st.place ≡ None = ap (slice_get r.graphs.items) (sym (select_is y e).0) ∙ f in
+      let no : Some st.graph ≡ None = sym st.graph_is ∙ (slice_get-map graph r.graphs.items st.place ∙ ap (option_map graph) here) in
+      cc
 
   pub hit_answered : (y : Select) (gr : Graph) (l : Letter) (answer : Bool) → slice_get r.selects.items k ≡ Some y → slice_get r.graphs.items y.graph ≡ Some gr → IsLetter symbols (predicates_of (told r).sheet) l
       → (KeepsEndings gr → (u fit : State) → slice_get (graph gr).states y.state ≡ Some u → fits_at (graph gr) l ≡ Some fit → answer ≡ v.some_ends u fit) → answer ≡ is_hit_of symbols (told r) b x l

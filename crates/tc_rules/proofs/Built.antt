@@ -187,11 +187,6 @@ source_is symbols y n names sets size = record { names = names; sets = sets ∙ 
 pub few_tests : (x : s.Sheet) (ts : List (Bor TestOf)) → seen.predicates ts ≡ predicates_of x → length ts ≤ 6 → length (predicates_of x) ≤ 6
 few_tests x ts e l = omega (arith, l, ap length e, length-map ts (λ (t : Bor TestOf). see.test t.now))
 
-pub written_paths : (ps : List (Bor PathOf)) (found : List (Bor PathOf)) (ms moves : List MoveOf) (ls looks : List (Bor PathOf)) → ps ≡ found → seen.looks found ≡ map (λ (m : MoveOf). see.path m.path.now) ms ++ seen.looks ls → ms ≡ moves → ls ≡ looks
-    → seen.looks ps ≡ map (λ (m : MoveOf). see.path m.path.now) moves ++ seen.looks looks
-written_paths ps found ms moves ls looks e f g h =
-    ap seen.looks e ∙ (f ∙ (ap (λ (w : List MoveOf). map (λ (m : MoveOf). see.path m.path.now) w ++ seen.looks ls) g ∙ ap (λ (w : List (Bor PathOf)). map (λ (m : MoveOf). see.path m.path.now) moves ++ seen.looks w) h))
-
 module _ (symbols : List Mention) (r : Rules) where
   abbrev X : s.Sheet
   X = (told r).sheet

@@ -1,5 +1,5 @@
 -- The numbers of the rules of modes, and the bodies of for-eaches at their numbers.
-use Rattle.std.proofs.Common.{◌≡◌, ◌≢◌, ℕ, zero, suc, ◌+◌, ◌<◌, ◌≤◌, List, [], ◌∷◌, ◌++◌, refl, ap, sym, ◌∙◌, subst, Bool, true, false, nat_eq, map, flat_map, take, drop, append_assoc, add-one, get_or, length, set, slice_get, Some, Contains, ◌⊎◌, inl, inr, arith}
+use Rattle.std.proofs.Common.{◌≡◌, ◌≢◌, ℕ, zero, suc, ◌+◌, ◌<◌, ◌≤◌, List, [], ◌∷◌, ◌++◌, refl, ap, sym, ◌∙◌, subst, Bool, true, false, nat_eq, map, flat_map, take, drop, append_assoc, add-one, get_or, length, set, slice_get, Some, Contains, ◌⊎◌, inl, inr, arith, if◌then◌else◌}
 use Rattle.std.specs.List.{AllByRecursion}
 use Rattle.std.proofs.Math.ListN.{get_or-map}
 use Rattle.std.proofs.lemmas.List.{get_or-map as map_at}
@@ -7,7 +7,7 @@ use Rattle.std.specs.Global.{Vec}
 use Rattle.std.specs.Borrow.{Bor}
 use Rattle.tc_model.specs.declared.sheet.Instr.{Instr}
 use Rattle.std.proofs.lemmas.Bool.{true≢false, eqb-true, eq-eqb}
-use Rattle.std.proofs.lemmas.List.{append-nil, map-append, map-set, get_or_default, length-map, length-set, get_or-set_same, get_or-set_other}
+use Rattle.std.proofs.lemmas.List.{append-nil, drop_more, map-append, map-set, get_or_default, length-map, length-set, get_or-set_same, get_or-set_other}
 use Rattle.std.proofs.lemmas.Option.{get_or_from_slice_get, slice_get-get_or, slice_get_within}
 use Rattle.tc_alpha.proofs.Members.{Has, has_from_contains, contains_from_has, has_either, has_front, has_back, Every, every_append, every_member, every_from_all, every_from_members}
 use Rattle.tc_model.specs.Sheets as s
@@ -21,6 +21,8 @@ use Rattle.tc_rules.specs.Gathered.{numbers, bodies, bodies_with}
 use Rattle.tc_rules.specs.Usages.{usages_of, eaches_in_usage}
 use Rattle.tc_rules.specs.Views.{usage, usages}
 use Rattle.tc_rules.specs.declared.walk.Usage.{Usage as UsageOf}
+use Rattle.tc_rules.specs.Kept.{numbers_in_mode}
+use Rattle.tc_rules.proofs.Steps.{moved}
 use Rattle.tc_rules.proofs.UsagesOf.{eaches_are}
 
 -- a rule's mode is one of the sheet
@@ -194,6 +196,30 @@ number_kept lists i m v n = ap (λ w. get_or w m []) (map-set (λ (w : Vec ℕ).
 pub rule_fits : (x : Sheet) (i : ℕ) (d : Rule) (lists : List (Vec ℕ)) → IsSheet (see.sheet x) → i < length x.rules.now → length lists ≡ x.modes → (get_or x.rules.now i d).mode < length lists
 rule_fits x i d lists h l e =
     subst (λ n. (get_or x.rules.now i d).mode < n) (sym e) (rule_mode x i (get_or x.rules.now i d) h l (get_or_default x.rules.now i d (get_or x.rules.now i d) l))
+
+-- one rule more has its number in the list of its mode
+pub rule_numbered : (old now : List (List ℕ)) (whole : List ℕ) (rules : List Rule) (i m : ℕ) (d : Rule) → i < length rules
+    → get_or now (get_or rules i d).mode [] ≡ get_or old (get_or rules i d).mode [] ++ i ∷ [] → ((k : ℕ) → k ≢ (get_or rules i d).mode → get_or now k [] ≡ get_or old k [])
+    → get_or old m [] ++ numbers_in_mode m i (map see.rule (drop i rules)) ≡ whole → get_or now m [] ++ numbers_in_mode m (i + 1) (map see.rule (drop (i + 1) rules)) ≡ whole
+rule_numbered old now whole rules i m d l put kept k =
+    by (nat_eq (get_or rules i d).mode m) refl
+  where
+    left : (b : Bool) → nat_eq (get_or rules i d).mode m ≡ b
+        → numbers_in_mode m i (map see.rule (drop i rules))
+        ≡ (if b then (i ∷ numbers_in_mode m (i + 1) (map see.rule (drop (i + 1) rules))) else numbers_in_mode m (i + 1) (map see.rule (drop (i + 1) rules)))
+    left b e =
+        ap (λ (w : List Rule). numbers_in_mode m i (map see.rule w)) (drop_more rules i d l)
+        ∙ (ap (λ (n : ℕ). if nat_eq (get_or rules i d).mode m then (i ∷ numbers_in_mode m n (map see.rule (drop (i + 1) rules))) else numbers_in_mode m n (map see.rule (drop (i + 1) rules))) (sym (add-one i))
+        ∙ ap (λ (c : Bool). if c then (i ∷ numbers_in_mode m (i + 1) (map see.rule (drop (i + 1) rules))) else numbers_in_mode m (i + 1) (map see.rule (drop (i + 1) rules))) e)
+
+    by : (b : Bool) → nat_eq (get_or rules i d).mode m ≡ b → get_or now m [] ++ numbers_in_mode m (i + 1) (map see.rule (drop (i + 1) rules)) ≡ whole
+    by true e =
+        let same : (get_or rules i d).mode ≡ m = eqb-true (get_or rules i d).mode m e in
+        moved (get_or old m []) (get_or now m []) (i ∷ []) (numbers_in_mode m i (map see.rule (drop i rules))) (numbers_in_mode m (i + 1) (map see.rule (drop (i + 1) rules))) whole
+        (subst (λ n. get_or now n [] ≡ get_or old n [] ++ i ∷ []) same put) (left true e) k
+    by false e =
+        let differ : m ≢ (get_or rules i d).mode = λ f. true≢false (sym (eq-eqb (get_or rules i d).mode m (sym f)) ∙ e) in
+        ap (λ w. w ++ numbers_in_mode m (i + 1) (map see.rule (drop (i + 1) rules))) (kept m differ) ∙ (ap (λ w. get_or old m [] ++ w) (sym (left false e)) ∙ k)
 
 -- the for-eaches of some usages, before one of them, at it, and behind it
 abbrev found_in : List UsageOf → List Each

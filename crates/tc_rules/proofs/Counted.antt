@@ -177,6 +177,9 @@ module _ (symbols : List Mention) (r : Rules) (h : IsRulesOf symbols r) where
   pub all_told : get_or r.starts.items (length r.graphs.items) 0 ≡ select_count T
   all_told = start_is (length r.graphs.items) (omega arith) ∙ count_all T.selects (length r.graphs.items) (omega (arith, length-map r.graphs.items graph))
 
+  pub moves_told : (n : ℕ) → n ≡ length r.moves.items → get_or r.starts.items n 0 ≡ move_count T
+  moves_told n e = ap (λ i. get_or r.starts.items i 0) (e ∙ moves_length) ∙ start_is (length (moves_of T.sheet)) (omega (arith, graphs_length))
+
   pub fewer_moves : move_count T ≤ select_count T
   fewer_moves = count_taken T.selects (length (moves_of T.sheet))
 

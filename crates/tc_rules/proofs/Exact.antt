@@ -171,12 +171,6 @@ module _ (symbols : List Mention) (predicates : List Test) where
   state_at p (top doc) = first_state p
   state_at p (under c t) = next_state symbols predicates p (state_at p c) (letter_of symbols predicates t)
 
-  chain_reach : (p : Path) → IsCovered symbols predicates p → (c : Chain) (t : Tree) (ts : List Tree) → any_reach p (state_at p c) c (t ∷ ts) ≡ any_along p (root_of c) (down c ++ t ∷ ts)
-  chain_reach p v (top doc) t ts = any_first p (top doc) t ts
-  chain_reach p v (under c u) t ts =
-      any_step p v (state_at p c) c u t ts
-      ∙ (chain_reach p v c u (t ∷ ts) ∙ ap (any_along p (root_of c)) (sym (append_assoc (down c) (u ∷ []) (t ∷ ts))))
-
   -- the items of one alternative at a node, from the root
   abbrev pub items_at : Steps → Chain → Items
   items_at ss (top doc) = first_items ss

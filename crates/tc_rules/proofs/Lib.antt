@@ -1,3 +1,5 @@
+pub mod Passed
+pub mod Searched
 pub mod Exact
 pub mod Sameness
 pub mod Covered

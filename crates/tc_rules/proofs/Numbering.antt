@@ -100,15 +100,6 @@ module _ (counts : State → Bool) (next : State → Letter → State) (letters 
   pub round_puts : (xs : List State) → IsOnce same_state xs → one_round counts next letters xs ≡ put_all same_state xs (leads_of xs)
   round_puts xs h = sym (put_is same_state [] (xs ++ leads_of xs)) ∙ (put_joined same_state [] xs (leads_of xs) ∙ ap (λ w. put_all same_state w (leads_of xs)) h)
 
-  -- of a round only the states that the round before found lead further
-  pub round_by_fresh : (old fresh : List State) → IsOnce same_state (old ++ fresh) → leads_of (old ++ fresh) ≡ leads_of old ++ leads_of fresh → AreThere same_state (old ++ fresh) (leads_of old)
-      → one_round counts next letters (old ++ fresh) ≡ put_all same_state (old ++ fresh) (leads_of fresh)
-  round_by_fresh old fresh once split there =
-      round_puts (old ++ fresh) once
-      ∙ (ap (put_all same_state (old ++ fresh)) split
-      ∙ (put_joined same_state (old ++ fresh) (leads_of old) (leads_of fresh)
-      ∙ ap (λ w. put_all same_state w (leads_of fresh)) (put_absorbed same_state (old ++ fresh) (leads_of old) there)))
-
   -- the round after some rounds
   pub round_after : (n : ℕ) (xs : List State) → one_round counts next letters (rounds counts next letters n xs) ≡ rounds counts next letters (suc n) xs
   round_after zero xs = refl

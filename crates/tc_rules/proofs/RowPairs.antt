@@ -1,7 +1,7 @@
 -- Rows of what two rows have, and where no item moves on.
 use Rattle.std.proofs.Common.{◌≡◌, ℕ, zero, suc, ◌+◌, ◌-◌, ◌<◌, ◌≤◌, List, [], ◌∷◌, ◌++◌, Bool, true, false, ◌&&◌, ◌||◌, refl, ap, sym, ◌∙◌, map, length, get_or, drop, add-one, subst, Option, Some, None, option_map, slice_get, Bor, arith}
 use Rattle.std.specs.Global.{Vec}
-use Rattle.std.proofs.lemmas.List.{drop_more, drop_all, length-map}
+use Rattle.std.proofs.lemmas.List.{get_or_default, drop_more, drop_all, length-map}
 use Rattle.std.proofs.lemmas.Option.{get_or_from_slice_get, slice_get-get_or}
 use Rattle.tc_model.specs.declared.sheet.Step.{Step}
 use Rattle.tc_model.specs.Views as see
@@ -249,6 +249,17 @@ fit_parts (k ∷ kinds) marked zero m fit e = let s = unmapped_at (both_states k
 fit_parts (k ∷ kinds) marked (suc c) m fit e = fit_parts kinds marked c m fit e
 
 -- what stands at a place of a list, and its state
+-- the same, as the code goes
+pub alternative_moves : (fits row : State) (ws : List (Bor (List Step))) (i : ℕ) (d : Bor (List Step)) (f r : List Bool) (b : Bool) → i < length ws → f ≡ get_or fits i [] → r ≡ get_or row i []
+    → b ≡ item_moves (see.steps (get_or ws i d).now) f r
+    → some_item_moves (see.alternatives (drop i ws)) (drop i fits) (drop i row) ≡ (b || some_item_moves (see.alternatives (drop (i + 1) ws)) (drop (i + 1) fits) (drop (i + 1) row))
+alternative_moves fits row ws i d f r b l of_fits of_row is =
+    let w = get_or ws i d in
+    let rest = some_item_moves (see.alternatives (drop (i + 1) ws)) (drop (i + 1) fits) (drop (i + 1) row) in
+    alternatives_move fits row ws i w l (get_or_default ws i d w l)
+    ∙ (ap (λ y. item_moves (see.steps w.now) y (get_or row i []) || rest) (sym of_fits)
+    ∙ (ap (λ y. item_moves (see.steps w.now) f y || rest) (sym of_row) ∙ ap (λ y. y || rest) (sym is)))
+
 pub got_at : {X : Type 0} (xs ys : List X) (i : ℕ) (x : X) → ys ≡ xs → i < length ys → x ≡ get_or ys i x → slice_get xs i ≡ Some x
 got_at xs ys i x same h e = sym (ap (λ w. slice_get w i) same) ∙ (slice_get-get_or ys i x h ∙ ap Some (sym e))
 

@@ -95,10 +95,6 @@ state_same = pointwise_same (pointwise same_truth) (pointwise_same same_truth tr
 pub state_self : (x : State) → same_state x x ≡ true
 state_self = pointwise_self (pointwise same_truth) (pointwise_self same_truth truth_self)
 
--- what is put can be found
-pub put_found : (xs : List State) (x : State) → list_any (same_state x) xs ≡ false → put_once same_state xs x ≡ xs ++ x ∷ []
-put_found xs x e = ap (λ (b : Bool). if b then xs else (xs ++ x ∷ [])) e
-
 row_at : (xs : List Row) (i : ℕ) (x : Row) → slice_get xs i ≡ Some x → slice_get (states xs) i ≡ Some (state x)
 row_at [] i x e = absurd (cc)
 row_at (y ∷ xs) zero x e = let f : y ≡ x = cc in ap (λ (w : Row). Some (state w)) f

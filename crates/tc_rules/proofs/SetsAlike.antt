@@ -137,13 +137,12 @@ below_number b n low e =
     ]
 
 -- the loops that gather places, and that compare at them
-pub one_place : (x y : State) (places : List (ℕ × ℕ)) (i : ℕ) (at : ℕ × ℕ) → i < length places → at ≡ get_or places i at
-    → are_alike (drop i places) x y ≡ (same_truth (value_at x at) (value_at y at) && are_alike (drop (i + 1) places) x y)
-one_place x y places i at h e = ap (λ w. are_alike w x y) (left_one places i at h e)
-
-pub first_place : (x y : State) (places : List (ℕ × ℕ)) (i : ℕ) → i < length places
-    → are_alike (drop i places) x y ≡ (same_truth (value_at x (get_or places i (0, 0))) (value_at y (get_or places i (0, 0))) && are_alike (drop (i + 1) places) x y)
-first_place x y places i h = ap (λ w. are_alike w x y) (drop_more places i (0, 0) h)
+pub placed : (x y : State) (places : List (ℕ × ℕ)) (i : ℕ) (d : ℕ × ℕ) (p q b : Bool) → i < length places → p ≡ value_at x (get_or places i d) → q ≡ value_at y (get_or places i d) → b ≡ same_truth p q
+    → are_alike (drop i places) x y ≡ (b && are_alike (drop (i + 1) places) x y)
+placed x y places i d p q b h of_x of_y is =
+    let rest = are_alike (drop (i + 1) places) x y in
+    ap (λ w. are_alike w x y) (drop_more places i d h)
+    ∙ (ap (λ w. same_truth w (value_at y (get_or places i d)) && rest) (sym of_x) ∙ (ap (λ w. same_truth p w && rest) (sym of_y) ∙ ap (λ w. w && rest) (sym is)))
 
 pub step_placed : (all old now : List (ℕ × ℕ)) (a : ℕ) (fits items : Items) (xs : List Step) (k : ℕ) (moves : Bool) → k < length xs
     → moves ≡ (has_step (see.steps (drop (k + 1) xs)) && (get_or items k false && get_or fits k false)) → now ≡ old ++ (if moves then (a, k) ∷ [] else [])

@@ -1,6 +1,6 @@
 -- Where a state leads, class by class: where no item moves on by the node tests of a class, all its letters lead to one state, whatever the class is.
-use Rattle.std.proofs.Common.{◌≡◌, ℕ, ◌+◌, ◌<◌, ◌≤◌, List, [], ◌∷◌, ◌++◌, Bool, true, false, not, ◌||◌, refl, ap, sym, ◌∙◌, subst, map, filter, take, length, get_or, append_assoc, if◌then◌else◌}
-use Rattle.std.proofs.lemmas.List.{append-nil, take_all, take_more}
+use Rattle.std.proofs.Common.{◌≡◌, ℕ, ◌+◌, ◌<◌, List, [], ◌∷◌, ◌++◌, Bool, true, false, not, ◌||◌, refl, ap, sym, ◌∙◌, subst, map, filter, take, length, get_or, append_assoc, if◌then◌else◌}
+use Rattle.std.proofs.lemmas.List.{append-nil, take_more}
 use Rattle.std.proofs.lemmas.List.Elements.{filter-append}
 use Rattle.tc_model.specs.Sheets.{Path}
 use Rattle.tc_model.specs.PathStates.{State, same_state}

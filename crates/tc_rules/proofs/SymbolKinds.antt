@@ -2,7 +2,7 @@
 use Rattle.std.proofs.Common.{◌≡◌, ℕ, zero, suc, ◌+◌, ◌<◌, ◌≤◌, List, [], ◌∷◌, ◌++◌, Bool, true, false, ◌&&◌, ◌||◌, refl, ap, sym, ◌∙◌, subst, map, length, take, get_or, add-one, nat_eq, Option, Some, slice_get, Bor, if◌then◌else◌, inl, inr, arith}
 use Rattle.std.specs.List.{list_any}
 use Rattle.std.proofs.lemmas.Bool.{cases_lt, eq-eqb, eqb-true}
-use Rattle.std.proofs.lemmas.List.{length-map, take_all, take_more, length_push, get_or_default}
+use Rattle.std.proofs.lemmas.List.{length-map, take_more, length_push, get_or_default}
 use Rattle.std.proofs.lemmas.Option.{slice_get_within, get_or_from_slice_get}
 use Rattle.std.proofs.lemmas.Simd.{map-map}
 use Rattle.tc_model.specs.Sheets.{Steps, no_step, step, Path, no_alternative, alternative}
@@ -159,26 +159,26 @@ module _ (numbered : List (Bor Test)) (p : Path) where
       order = h.order ∙ ap numbers_below (sym (length-map kinds (λ k. map (both_states k) marked)));
     }
 
-  module _ (xs ys : List Name) (same : ys ≡ xs) (i : ℕ) where
-    -- one symbol more, as the code goes
-    pub kind_goes : (d : Name) (kind : State) (kinds more : List State) (classes now : List ℕ) (place : ℕ)
-        → i < length ys → kind ≡ kind_of (get_or ys i d)
-        → more ≡ put_once same_state kinds kind → slice_get more place ≡ Some kind → (list_any (same_state kind) kinds ≡ false → place ≡ length kinds) → now ≡ classes ++ place ∷ []
-        → AreKinds numbered p (take i xs) kinds classes → AreKinds numbered p (take (i + 1) xs) more now
-    kind_goes d kind kinds more classes now place l is put got last pushed h =
-        let n = get_or ys i d in
-        let inside : i < length xs = subst (λ (w : List Name). i < length w) same l in
-        let at : n ≡ get_or xs i n = get_or_default ys i d n l ∙ ap (λ (w : List Name). get_or w i n) same in
-        let names : take (i + 1) xs ≡ take i xs ++ n ∷ [] = take_more xs i n inside ∙ ap (λ w. take i xs ++ w ∷ []) (sym at) in
-        subst (λ w. AreKinds numbered p w more now) (sym names)
-        (subst (AreKinds numbered p (take i xs ++ n ∷ []) more) (sym pushed)
-        (one_kind (take i xs) kinds more classes n place (list_any (same_state (kind_of n)) kinds) refl
-        (put ∙ ap (put_once same_state kinds) is) (got ∙ ap Some is) (λ e. last (ap (λ (x : State). list_any (same_state x) kinds) is ∙ e)) h))
+  -- one symbol more is put among the kinds
+  pub kind_put : (names : List Name) (n : Name) (kind : State) (kinds more : List State) (classes now : List ℕ) (place : ℕ)
+      → kind ≡ kind_of n
+      → more ≡ put_once same_state kinds kind → slice_get more place ≡ Some kind → (list_any (same_state kind) kinds ≡ false → place ≡ length kinds) → now ≡ classes ++ place ∷ []
+      → AreKinds numbered p names kinds classes → AreKinds numbered p (names ++ n ∷ []) more now
+  kind_put names n kind kinds more classes now place is put got last pushed h =
+      subst (AreKinds numbered p (names ++ n ∷ []) more) (sym pushed)
+      (one_kind names kinds more classes n place (list_any (same_state (kind_of n)) kinds) refl
+      (put ∙ ap (put_once same_state kinds) is) (got ∙ ap Some is) (λ e. last (ap (λ (x : State). list_any (same_state x) kinds) is ∙ e)) h)
 
-    pub kinds_done : (kinds : List State) (classes : List ℕ) → length ys ≤ i → AreKinds numbered p (take i xs) kinds classes → AreKinds numbered p xs kinds classes
-    kinds_done kinds classes l h =
-        let past : length xs ≤ i = subst (λ (w : List Name). length w ≤ i) same l in
-        subst (λ (w : List Name). AreKinds numbered p w kinds classes) (take_all i xs past) h
+  -- one symbol more, as the code goes
+  pub kind_goes : (xs ys : List Name) (same : ys ≡ xs) (i : ℕ) (d : Name) (kinds more : List State) (classes now : List ℕ) → i < length ys
+      → ((names : List Name) → AreKinds numbered p names kinds classes → AreKinds numbered p (names ++ get_or ys i d ∷ []) more now)
+      → AreKinds numbered p (take i xs) kinds classes → AreKinds numbered p (take (i + 1) xs) more now
+  kind_goes xs ys same i d kinds more classes now l put h =
+      let n = get_or ys i d in
+      let inside : i < length xs = subst (λ (w : List Name). i < length w) same l in
+      let at : n ≡ get_or xs i n = get_or_default ys i d n l ∙ ap (λ (w : List Name). get_or w i n) same in
+      let names : take (i + 1) xs ≡ take i xs ++ n ∷ [] = take_more xs i n inside ∙ ap (λ w. take i xs ++ w ∷ []) (sym at) in
+      subst (λ w. AreKinds numbered p w more now) (sym names) (put (take i xs) h)
 
 pub no_kinds : (numbered : List (Bor Test)) (p : Path) → AreKinds numbered p [] [] []
 no_kinds numbered p = record { at = tt; order = refl }

@@ -9,6 +9,7 @@ ghost use Rattle.tc_model.specs.PathStates as p;
 ghost use Rattle.tc_model.specs.PathStates.{State, same_state, first_state};
 ghost use Rattle.tc_model.specs.Views as see;
 ghost use Rattle.tc_model.specs.Symbols.{Mention};
+ghost use Rattle.tc_model.specs.declared.tree.Name.{Name as NameOf};
 ghost use Rattle.tc_rules.specs.Classes.{fits_of, marked_by, AreKinds, AreClasses, IsSourceOf};
 ghost use Rattle.tc_rules.specs.Graphs.{class_of, fits_at, kind_at, next_at, IsGraphOf};
 ghost use Rattle.tc_rules.specs.Once.{put_once, put_all};
@@ -109,18 +110,33 @@ impl<'a, 'b> Source<'a, 'b> {
         Ok(marked)
     }
 
+    /// One symbol more, by a name of it: its class is the one that passes the same node tests, or a new one.
+    fn add_kind(
+        &self,
+        found: &mut Kinds,
+        path: &[&[Step<'_>]],
+        name: Name<'_>,
+    ) -> Result<(), NoMemory>
+        ensures { OnOk result ((names : List NameOf) → AreKinds self.now.predicates.items (see.alternatives path.now) names (seen.states found.old.kinds.keys) found.old.classes.items → AreKinds self.now.predicates.items (see.alternatives path.now) (names ++ name.entry ∷ []) (seen.states found.new.kinds.keys) found.new.classes.items) }
+    {
+        let kind = self.row(path, Sought::Passes(Some(name)))?;
+        let class = insert_row(&mut found.kinds, kind)?;
+        found.classes.push(class)?;
+        Ok(())
+    }
+
     /// The class of each symbol, and which node tests each class passes.
     fn kinds(&self, path: &[&[Step<'_>]]) -> Result<Kinds, NoMemory>
         ensures { IfOk result (λ k. AreKinds self.now.predicates.items (see.alternatives path.now) self.now.names.items (seen.states k.kinds.keys) k.classes.items) }
     {
-        let mut kinds = IndexSet::new(self.alloc);
-        let mut classes = Vec::new(self.alloc);
+        let mut found = Kinds {
+            classes: Vec::new(self.alloc),
+            kinds: IndexSet::new(self.alloc),
+        };
         for name in &self.names {
-            let kind = self.row(path, Sought::Passes(Some(*name)))?;
-            let class = insert_row(&mut kinds, kind)?;
-            classes.push(class)?;
+            self.add_kind(&mut found, path, *name)?;
         }
-        Ok(Kinds { classes, kinds })
+        Ok(found)
     }
 
     /// What the states of a path see of letters.
@@ -255,6 +271,16 @@ impl<'a, 'b> Source<'a, 'b> {
         Ok(())
     }
 
+    /// The first state, if it counts.
+    fn first_states(&self, path: &[&[Step<'_>]], counts: Counts) -> Result<IndexSet<Row>, NoMemory>
+        ensures { IfOk result (λ x. seen.states x.keys ≡ put_all same_state [] (filter (counted counts) (first_state (see.alternatives path.now) ∷ []))) }
+    {
+        let first = first_row(self.alloc, path)?;
+        let mut states = IndexSet::new(self.alloc);
+        keep_row(&mut states, first, counts)?;
+        Ok(states)
+    }
+
     /// The states that are reached, at most so many.
     fn reached(
         &self,
@@ -267,9 +293,7 @@ impl<'a, 'b> Source<'a, 'b> {
         ensures few { IfOk result (λ x. length x.keys ≤ most) }
         ensures many { IsErrOf result GraphFault.TooManyStates → (m : ℕ) × (most < length (rounds (counted counts) (leads_by (see.alternatives path.now) (seen.fits letters.now)) m (filter (counted counts) (first_state (see.alternatives path.now) ∷ [])))) }
     {
-        let mut states = IndexSet::new(self.alloc);
-        let first = first_row(self.alloc, path)?;
-        keep_row(&mut states, first, counts)?;
+        let mut states = self.first_states(path, counts)?;
         let mut from = 0;
         while from < states.len() {
             let end = states.len();
@@ -424,6 +448,31 @@ impl<'a, 'b> Source<'a, 'b> {
         Ok(endings)
     }
 
+    /// The states, where each of them leads, and what may have been taken at each.
+    fn led(
+        &self,
+        path: &[&[Step<'_>]],
+        letters: &Letters,
+        counts: Counts,
+        most: usize,
+    ) -> Result<Led, GraphFault>
+        requires { most < 2 ^ 32 }
+        ensures all { IfOk result (λ l. AreReached (counted counts) (leads_by (see.alternatives path.now) (seen.fits letters.now)) (first_state (see.alternatives path.now)) (seen.states l.states.keys)) }
+        ensures few { IfOk result (λ l. length l.states.keys ≤ most) }
+        ensures next { IfOk result (λ l. seen.leads_of_states (seen.states letters.now.marked.items) l.next.items ≡ all_numbers_by (see.alternatives path.now) (seen.fits letters.now) (seen.states l.states.keys)) }
+        ensures ending { IfOk result (λ l. seen.lists l.ending.items ≡ seen.endings_of (seen.states l.states.keys)) }
+        ensures many { IsErrOf result GraphFault.TooManyStates → (m : ℕ) × (most < length (rounds (counted counts) (leads_by (see.alternatives path.now) (seen.fits letters.now)) m (filter (counted counts) (first_state (see.alternatives path.now) ∷ [])))) }
+    {
+        let states = self.reached(path, letters, counts, most)?;
+        let next = self.numbers(path, letters, &states)?;
+        let ending = self.endings(&states)?;
+        Ok(Led {
+            states,
+            next,
+            ending,
+        })
+    }
+
     /// The graph of a path.
     ///
     /// # Errors
@@ -443,14 +492,12 @@ impl<'a, 'b> Source<'a, 'b> {
         ensures many { IsErrOf result GraphFault.TooManyStates → (symbols : List Mention) → IsSourceOf symbols self.now → (m : ℕ) × (most < length (n.rounds (counted counts) (p.next_state symbols (predicates self.now.predicates.items) (see.alternatives path.now)) (n.letters_of_elements symbols (predicates self.now.predicates.items)) m (filter (counted counts) (first_state (see.alternatives path.now) ∷ [])))) }
     {
         let letters = self.letters(path)?;
-        let states = self.reached(path, &letters, counts, most)?;
-        let next = self.numbers(path, &letters, &states)?;
-        let ending = self.endings(&states)?;
+        let led = self.led(path, &letters, counts, most)?;
         Ok(Graph {
-            states,
+            states: led.states,
             letters,
-            next,
-            ending,
+            next: led.next,
+            ending: led.ending,
         })
     }
 }
@@ -467,6 +514,14 @@ struct Staying {
 struct Kinds {
     classes: Vec<usize>,
     kinds: IndexSet<Row>,
+}
+
+/// The states of a path, where each of them leads, and the alternatives of which all steps but the last may have been taken.
+#[derive(Drop)]
+struct Led {
+    states: IndexSet<Row>,
+    next: Vec<Vec<Leads>>,
+    ending: Vec<Vec<usize>>,
 }
 
 /// The sets of predicates that a class is looked at with: where no item of a state moves on, all lead to the same state, and one is

@@ -216,7 +216,6 @@ fn moves_from(steps: &[Step<'_>], fits: &[bool], items: &[bool], step: usize) ->
 }
 
 /// Whether an item moves on from one of the steps to the next, where these steps fit.
-#[tactic(auto, using(crate::proofs::RowPairs::moves_here))]
 fn item_moves(steps: &[Step<'_>], fits: &[bool], items: &[bool]) -> bool
     ensures { result ≡ v.item_moves (see.steps steps.now) fits.now items.now }
 {
@@ -229,7 +228,6 @@ fn item_moves(steps: &[Step<'_>], fits: &[bool], items: &[bool]) -> bool
 }
 
 /// Whether an item of some alternative moves on from a step to the next, where these steps fit.
-#[tactic(auto, using(crate::proofs::RowPairs::alternatives_move))]
 fn some_item_moves(path: &[&[Step<'_>]], fits: &Row, row: &Row) -> bool
     ensures { result ≡ v.some_item_moves (see.alternatives path.now) (state fits.now) (state row.now) }
 {
@@ -303,7 +301,6 @@ fn are_same(first: bool, second: bool) -> bool
 }
 
 /// Whether two rows have the same at some places.
-#[tactic(auto, using(crate::proofs::SetsAlike::one_place, crate::proofs::SetsAlike::first_place))]
 fn are_alike(places: &[(usize, usize)], row: &Row, other: &Row) -> bool
     ensures { result ≡ v.are_alike places.now (state row.now) (state other.now) }
 {

@@ -34,7 +34,7 @@ use crate::gather::{
 };
 use crate::graph::{Counts, Graph, GraphFault, Source, as_u32};
 use crate::once::{number_of_move, number_of_path};
-use crate::walk::{Job, Move, Usage};
+use crate::walk::{Job, Move, Usage, add_look};
 use bumpalo::Bump;
 use std::alloc::Global;
 use tc_alpha::{Alphabet, Sym};
@@ -136,7 +136,26 @@ impl<'b> Rules<'b> {
         let used = all_usages(alloc, sheet)?;
         let arena = Bump::new(alloc);
         let source = source_of(alloc, &arena, alphabet, &used)?;
-        let asked = asked_of(alloc, sheet, &used, &source.predicates)?;
+        Rules::over(sheet, &used, source)
+    }
+
+    /// The same, its usages being given, and what the states of its paths are made of.
+    fn over(
+        sheet: &Sheet<'b>,
+        used: &[Usage<'b>],
+        source: Source<'_, 'b>,
+    ) -> Result<Rules<'b>, RulesFault>
+        requires sheet { IsSheet (see.sheet sheet.now) }
+        requires used { usages used.now ≡ usages_of (see.sheet sheet.now) }
+        requires predicates { predicates source.predicates.items ≡ n.predicates_of (see.sheet sheet.now) }
+        requires few { length source.predicates.items ≤ 6 }
+        requires sets { source.sets ≡ 2 ^ length source.predicates.items }
+        ensures sheet { IfOk result (λ r. (told r).sheet ≡ see.sheet sheet.now) }
+        ensures rules { (symbols : List Mention) → IsSourceOf symbols source.entry → AreSymbolsWith symbols (see.sheet sheet.now) → IfOk result (λ r. IsRulesOf symbols r) }
+        ensures within { (symbols : List Mention) → IsSourceOf symbols source.entry → OnOk result (PassNone symbols (see.sheet sheet.now)) }
+        ensures cause { (symbols : List Mention) → IsSourceOf symbols source.entry → IfErr result (λ e. IsCause symbols (see.sheet sheet.now) e) }
+    {
+        let asked = asked_of(source.alloc, sheet, used, &source.predicates)?;
         let states = states_of(&source, sheet, &asked.moves, &asked.looks)?;
         Ok(Rules {
             sheet: *sheet,
@@ -550,8 +569,7 @@ fn selected_of(
     ensures starts { IfOk result (λ t. t.starts.items ≡ starts_from 0 (see_graphs t.graphs.items)) }
     ensures cause { IfErr result (λ e. IsSelectCause source.now (map (λ m. see.path m.path.now) moves.now ++ see_paths looks.now) e) }
 {
-    let paths = select_paths(source.alloc, moves, looks)?;
-    let graphs = graphs_of(source, &paths)?;
+    let graphs = select_graphs(source, moves, looks)?;
     let selects = selects_of(source.alloc, &graphs)?;
     let starts = starts_of(source.alloc, &graphs)?;
     Ok(Selected {
@@ -594,10 +612,28 @@ fn select_paths<'b>(
 {
     let mut paths = Vec::new(alloc);
     for found in moves {
-        paths.push(found.path)?;
+        add_look(&mut paths, found.path)?;
     }
-    paths.extend_from_slice(looks)?;
+    for path in looks {
+        add_look(&mut paths, path)?;
+    }
     Ok(paths)
+}
+
+/// The graphs of the select states.
+fn select_graphs(
+    source: &Source<'_, '_>,
+    moves: &[Move<'_>],
+    looks: &[&Path<'_>],
+) -> Result<Vec<Graph>, RulesFault>
+    requires { source.now.sets ≡ 2 ^ length source.now.predicates.items }
+    ensures graphs { IfOk result (λ v. (symbols : List Mention) → IsSourceOf symbols source.now → AreGraphs symbols (predicates source.now.predicates.items) (map (λ m. see.path m.path.now) moves.now ++ see_paths looks.now) (see_graphs v.items)) }
+    ensures few { IfOk result (λ v. count_states (see_graphs v.items) ≤ 4096) }
+    ensures ending { IfOk result (λ v. AllKeepEndings v.items) }
+    ensures cause { IfErr result (λ e. IsSelectCause source.now (map (λ m. see.path m.path.now) moves.now ++ see_paths looks.now) e) }
+{
+    let paths = select_paths(source.alloc, moves, looks)?;
+    graphs_of(source, &paths)
 }
 
 /// The graphs of the select states of paths.

@@ -211,7 +211,11 @@ fn looks_in_tests<'b>(found: &mut Vec<&'b Path<'b>>, tests: &'b [Test<'b>]) -> R
     Ok(())
 }
 
-fn add_look<'b>(found: &mut Vec<&'b Path<'b>>, path: &'b Path<'b>) -> Result<(), NoMemory>
+/// One look more.
+pub(crate) fn add_look<'b>(
+    found: &mut Vec<&'b Path<'b>>,
+    path: &'b Path<'b>,
+) -> Result<(), NoMemory>
     ensures { OnOk result (looks found.new.items ≡ looks found.old.items ++ see.path path.now ∷ []) }
 {
     found.push(path)?;

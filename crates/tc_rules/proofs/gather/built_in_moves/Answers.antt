@@ -1,4 +1,4 @@
-use Rattle.std.proofs.Common.{◌≡◌, ◌+◌, ◌++◌, ◌∷◌, ◌∙◌, ℕ, List, [], ap, map, sym, refl, append_assoc, add-one, arith}
+use Rattle.std.proofs.Common.{◌≡◌, ◌+◌, ◌++◌, ◌∷◌, ◌∙◌, ℕ, List, [], ap, sym, refl, append_assoc, add-one, arith}
 use Rattle.std.proofs.lemmas.List.{append-nil}
 use Rattle.tc_model.specs.Meaning.{all_children}
 use Rattle.tc_model.specs.Numbered.{numbers_below}

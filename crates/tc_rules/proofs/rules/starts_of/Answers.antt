@@ -1,5 +1,5 @@
 use Rattle.std.proofs.Common.{◌≡◌, ◌+◌, ◌<◌, ◌≤◌, ◌^◌, ◌++◌, ◌∷◌, ◌∙◌, ℕ, List, [], ap, append_assoc, drop, get_or, length, subst, sym, arith}
-use Rattle.std.proofs.lemmas.List.{append-nil, drop_all, drop_more}
+use Rattle.std.proofs.lemmas.List.{drop_all, drop_more}
 use Rattle.tc_rules.specs.RulesView.{count_states}
 use Rattle.tc_rules.specs.Rows.{graph, graphs}
 use Rattle.tc_rules.specs.Selects.{starts_from}

@@ -1,4 +1,5 @@
 use Rattle.std.proofs.Common.{◌++◌, map}
+use Rattle.std.proofs.lemmas.Result.{IfOk-from_err}
 use Rattle.tc_model.specs.Views as see
 use Rattle.tc_rules.specs.Rows.{graph}
 use Rattle.tc_rules.specs.Views.{looks}
@@ -42,3 +43,51 @@ returns-clause-starts c = c.in_ok-selected.ensures.starts
 
 pub returns-clause-cause : goal.returns-clause-cause
 returns-clause-cause c = tt
+
+pub returns-in_err-above-clause-above : goal.returns-in_err-above-clause-above
+returns-in_err-above-clause-above c = IfOk-from_err c.from_residual.result _ c.from_residual.ensures.0
+
+pub returns-in_err-above-clause-few_above : goal.returns-in_err-above-clause-few_above
+returns-in_err-above-clause-few_above c = IfOk-from_err c.from_residual.result _ c.from_residual.ensures.0
+
+pub returns-in_err-above-clause-graphs : goal.returns-in_err-above-clause-graphs
+returns-in_err-above-clause-graphs c = IfOk-from_err c.from_residual.result _ c.from_residual.ensures.0
+
+pub returns-in_err-above-clause-few : goal.returns-in_err-above-clause-few
+returns-in_err-above-clause-few c = IfOk-from_err c.from_residual.result _ c.from_residual.ensures.0
+
+pub returns-in_err-above-clause-ending : goal.returns-in_err-above-clause-ending
+returns-in_err-above-clause-ending c = IfOk-from_err c.from_residual.result _ c.from_residual.ensures.0
+
+pub returns-in_err-above-clause-selects : goal.returns-in_err-above-clause-selects
+returns-in_err-above-clause-selects c = IfOk-from_err c.from_residual.result _ c.from_residual.ensures.0
+
+pub returns-in_err-above-clause-starts : goal.returns-in_err-above-clause-starts
+returns-in_err-above-clause-starts c = IfOk-from_err c.from_residual.result _ c.from_residual.ensures.0
+
+pub returns-in_err-selected-clause-above : goal.returns-in_err-selected-clause-above
+returns-in_err-selected-clause-above c = IfOk-from_err c.from_residual-in_err-selected.result _ c.from_residual-in_err-selected.ensures.0
+
+pub returns-in_err-selected-clause-few_above : goal.returns-in_err-selected-clause-few_above
+returns-in_err-selected-clause-few_above c = IfOk-from_err c.from_residual-in_err-selected.result _ c.from_residual-in_err-selected.ensures.0
+
+pub returns-in_err-selected-clause-graphs : goal.returns-in_err-selected-clause-graphs
+returns-in_err-selected-clause-graphs c = IfOk-from_err c.from_residual-in_err-selected.result _ c.from_residual-in_err-selected.ensures.0
+
+pub returns-in_err-selected-clause-few : goal.returns-in_err-selected-clause-few
+returns-in_err-selected-clause-few c = IfOk-from_err c.from_residual-in_err-selected.result _ c.from_residual-in_err-selected.ensures.0
+
+pub returns-in_err-selected-clause-ending : goal.returns-in_err-selected-clause-ending
+returns-in_err-selected-clause-ending c = IfOk-from_err c.from_residual-in_err-selected.result _ c.from_residual-in_err-selected.ensures.0
+
+pub returns-in_err-selected-clause-selects : goal.returns-in_err-selected-clause-selects
+returns-in_err-selected-clause-selects c = IfOk-from_err c.from_residual-in_err-selected.result _ c.from_residual-in_err-selected.ensures.0
+
+pub returns-in_err-selected-clause-starts : goal.returns-in_err-selected-clause-starts
+returns-in_err-selected-clause-starts c = IfOk-from_err c.from_residual-in_err-selected.result _ c.from_residual-in_err-selected.ensures.0
+
+pub ancestors_of-requires : goal.ancestors_of-requires
+ancestors_of-requires c = c.requires
+
+pub selected_of-requires : goal.selected_of-requires
+selected_of-requires c = c.requires

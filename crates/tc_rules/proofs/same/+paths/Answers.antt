@@ -1,4 +1,9 @@
-use Rattle.std.proofs.Common.{◌+◌, ◌∙◌, ap, sym}
+use Rattle.std.proofs.Common.{◌≡◌, ◌+◌, ◌∙◌, Bool, ap, refl, sym}
+use Rattle.tc_model.proofs.ViewsPath.{see_true, see_has, see_not}
+use Rattle.tc_model.specs.SameTests.{same_test}
+use Rattle.tc_model.specs.Sheets.{Test as TestOf}
+use Rattle.tc_model.specs.Views as see
+use Rattle.tc_model.specs.declared.sheet.Test.{Test}
 use Rattle.tc_rules.proofs.Compared.{steps_differ, steps_kept, steps_broken, steps_over, alternatives_differ, alternatives_kept, alternatives_broken, alternatives_over, tests_differ, tests_kept, tests_broken, tests_over}
 use Rattle.tc_rules.proofs.same.+paths.Goals as goal
 
@@ -37,3 +42,16 @@ same_tests-returns-then-not-same_test t c = tests_broken c.args.a.now c.args.b.n
 
 pub same_tests-returns : goal.same_tests-returns
 same_tests-returns t c = sym (c.loop-test.invariant.1 ∙ tests_over c.args.a.now c.args.b.now c.loop-test.test-index c.loop-test-test.false c.if-a-b.false)
+
+-- two tests, seen as plain data
+seen : (a b : Test) (x y : TestOf) (r : Bool) → see.test a ≡ x → see.test b ≡ y → r ≡ same_test x y → r ≡ same_test (see.test a) (see.test b)
+seen a b x y r e f g = g ∙ (ap (λ t. same_test t y) (sym e) ∙ ap (λ u. same_test (see.test a) u) (sym f))
+
+pub same_test-returns-in-True-True : goal.same_test-returns-in-True-True
+same_test-returns-in-True-True t c = seen c.args.a.now c.args.b.now _ _ _ (ap see.test c.in-True-True.is-0 ∙ see_true) (ap see.test c.in-True-True.is-1 ∙ see_true) refl
+
+pub same_test-returns-in-Has-Has : goal.same_test-returns-in-Has-Has
+same_test-returns-in-Has-Has t c = seen c.args.a.now c.args.b.now _ _ _ (ap see.test c.in-Has-Has.is-0 ∙ see_has c.in-Has-Has.p) (ap see.test c.in-Has-Has.is-1 ∙ see_has c.in-Has-Has.q) c.same_path.ensures
+
+pub same_test-returns-in-Not-Not : goal.same_test-returns-in-Not-Not
+same_test-returns-in-Not-Not t c = seen c.args.a.now c.args.b.now _ _ _ (ap see.test c.in-Not-Not.is-0 ∙ see_not c.in-Not-Not.t) (ap see.test c.in-Not-Not.is-1 ∙ see_not c.in-Not-Not.u) c.same_test.ensures

@@ -5,4 +5,4 @@ use Rattle.tc_rules.specs.Rows.{states}
 use Rattle.tc_rules.proofs.graph.Source.kinds.Given as goal
 
 abbrev pub invariant-loop-name : goal.invariant-loop-name
-invariant-loop-name l = AreKinds l.self.predicates.items (see.alternatives l.path) (take l.name-index l.self.names.items) (states l.kinds.keys) l.classes.items
+invariant-loop-name l = AreKinds l.self.predicates.items (see.alternatives l.path) (take l.name-index l.self.names.items) (states l.found.kinds.keys) l.found.classes.items

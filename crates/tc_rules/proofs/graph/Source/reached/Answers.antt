@@ -1,12 +1,12 @@
-use Rattle.std.proofs.Common.{◌≡◌, ◌≤◌, ◌<◌, ◌∙◌, List, [], ◌∷◌, ap, filter, sym, subst, length, drop, arith}
+use Rattle.std.proofs.Common.{◌≡◌, ◌≤◌, ◌<◌, ◌∙◌, sym, subst, length, drop, arith}
 use Rattle.std.proofs.lemmas.List.{length-map}
+use Rattle.std.proofs.lemmas.Result.{IfOk-from_err}
 use Rattle.tc_model.specs.Views as see
-use Rattle.tc_model.specs.PathStates.{State, first_state, same_state}
-use Rattle.tc_rules.specs.Once.{put_all}
+use Rattle.tc_model.specs.PathStates.{first_state}
 use Rattle.tc_rules.specs.Reached.{counted, leads_by, leads_of}
 use Rattle.tc_rules.specs.Rows.{state, states, fits}
-use Rattle.tc_rules.specs.declared.rows.Row.{Row}
 use Rattle.tc_rules.proofs.Rounds.{IsSoFar, so_far_first, so_far_next, so_far_all, so_far_many, put_grows}
+use Rattle.tc_rules.proofs.Passed.{none_many, not_many}
 use Rattle.tc_rules.proofs.graph.Source.reached.Goals as goal
 
 pub loop-from-preserved : goal.loop-from-preserved
@@ -31,15 +31,11 @@ returns-clause-all c =
     so_far_all (counted c.args.counts) (leads_by (see.alternatives c.args.path.now) (fits c.args.letters.now)) (first_state (see.alternatives c.args.path.now)) xs c.loop-from.from past c.loop-from.invariant.so_far
 
 pub loop-from-init : goal.loop-from-init
-loop-from-init c =
-    let counts = counted c.args.counts in
-    let one = λ (x : State). put_all same_state [] (filter counts (x ∷ [])) in
-    record {
-      so_far = so_far_first counts (leads_by (see.alternatives c.args.path.now) (fits c.args.letters.now)) (first_state (see.alternatives c.args.path.now)) (states c.keep_row.new.states.keys)
-          (c.in_ok-keep_row.ensures ∙ (ap (λ (l : List Row). put_all same_state (states l) (filter counts (state c.in_ok-first.first ∷ []))) c.new-states.ensures.empty ∙ ap one c.in_ok-first.ensures));
-      few = omega arith;
-      within = omega arith;
-    }
+loop-from-init c = record {
+  so_far = so_far_first (counted c.args.counts) (leads_by (see.alternatives c.args.path.now) (fits c.args.letters.now)) (first_state (see.alternatives c.args.path.now)) (states c.in_ok-states.states.keys) c.in_ok-states.ensures;
+  few = omega arith;
+  within = omega arith;
+}
 
 pub expand_from-requires : goal.expand_from-requires
 expand_from-requires c = c.loop-from.invariant.within
@@ -55,3 +51,30 @@ returns-then-end-most-clause-many c = λ e.
     let xs = states c.loop-from.states.keys in
     let many : c.args.most < length xs = omega (arith, c.if-end-most.true, c.len-end.ensures.len, length-map c.loop-from.states.keys state) in
     so_far_many (counted c.args.counts) (leads_by (see.alternatives c.args.path.now) (fits c.args.letters.now)) (first_state (see.alternatives c.args.path.now)) xs c.loop-from.from c.args.most many c.loop-from.invariant.so_far
+
+pub returns-in_err-states-clause-all : goal.returns-in_err-states-clause-all
+returns-in_err-states-clause-all c = IfOk-from_err c.from_residual.result _ c.from_residual.ensures.0
+
+pub returns-in_err-states-clause-few : goal.returns-in_err-states-clause-few
+returns-in_err-states-clause-few c = IfOk-from_err c.from_residual.result _ c.from_residual.ensures.0
+
+pub returns-in_err-states-clause-many : goal.returns-in_err-states-clause-many
+returns-in_err-states-clause-many c = not_many c.from_residual.result c.from_residual.ensures.1
+
+pub returns-in_err-expand_from-clause-all : goal.returns-in_err-expand_from-clause-all
+returns-in_err-expand_from-clause-all c = IfOk-from_err c.from_residual-in_err-expand_from.result _ c.from_residual-in_err-expand_from.ensures.0
+
+pub returns-in_err-expand_from-clause-few : goal.returns-in_err-expand_from-clause-few
+returns-in_err-expand_from-clause-few c = IfOk-from_err c.from_residual-in_err-expand_from.result _ c.from_residual-in_err-expand_from.ensures.0
+
+pub returns-in_err-expand_from-clause-many : goal.returns-in_err-expand_from-clause-many
+returns-in_err-expand_from-clause-many c = not_many c.from_residual-in_err-expand_from.result c.from_residual-in_err-expand_from.ensures.1
+
+pub returns-then-end-most-clause-all : goal.returns-then-end-most-clause-all
+returns-then-end-most-clause-all c = tt
+
+pub returns-then-end-most-clause-few : goal.returns-then-end-most-clause-few
+returns-then-end-most-clause-few c = tt
+
+pub returns-clause-many : goal.returns-clause-many
+returns-clause-many c = none_many c.loop-from.states

@@ -1,4 +1,4 @@
-use Rattle.std.proofs.Common.{◌≡◌, ◌≤◌, List, Bool, ap, drop, length, subst, arith}
+use Rattle.std.proofs.Common.{◌≤◌, List, Bool, ap, drop, length, subst, arith}
 use Rattle.std.proofs.lemmas.List.{drop_all, length-map}
 use Rattle.std.specs.Global.{Vec}
 use Rattle.tc_rules.specs.Rows.{state}

@@ -1,7 +1,7 @@
 use Rattle.std.proofs.Common.{sym, ap, ◌∙◌}
 use Rattle.tc_rules.specs.Graphs.{fits_at}
 use Rattle.tc_rules.specs.Rows.{graph}
-use Rattle.tc_rules.proofs.Answered.{hit_answered, stands_at}
+use Rattle.tc_rules.proofs.Answered.{graph_never, hit_answered, stands_at}
 use Rattle.tc_rules.proofs.rules.Rules.sel_hits.Goals as goal
 
 pub returns : goal.returns
@@ -12,3 +12,6 @@ returns c = λ symbols b x h l st.
 pub returns-in_default : goal.returns-in_default
 returns-in_default c = λ symbols b x h l st.
     absurd (c.in_default.not-Some (record { graph = st.place; state = st.number }) (c.select.ensures ∙ stands_at symbols c.args.self.now h c.args.sel b x st))
+
+pub returns-in_default-graph : goal.returns-in_default-graph
+returns-in_default-graph c = λ symbols b x h l st. absurd (graph_never symbols c.args.self.now h c.args.sel b x st c.in-Some.select (sym c.select.ensures ∙ c.in-Some.is) c.in_default-graph.ensures)

@@ -1,5 +1,5 @@
 use Rattle.std.proofs.Common.{refl, sym, ◌∙◌, arith}
-use Rattle.tc_rules.proofs.Answered.{stands_at}
+use Rattle.tc_rules.proofs.Answered.{graph_never, stands_at}
 use Rattle.tc_rules.proofs.Counted.{select_stepped, select_ended}
 use Rattle.tc_rules.proofs.rules.Rules.sel_step.Goals as goal
 
@@ -16,3 +16,6 @@ returns-in-None c = λ symbols b x h l st.
 pub returns-in_default : goal.returns-in_default
 returns-in_default c = λ symbols b x h l st.
     absurd (c.in_default.not-Some (record { graph = st.place; state = st.number }) (c.select.ensures ∙ stands_at symbols c.args.self.now h c.args.sel b x st))
+
+pub returns-in_default-graph : goal.returns-in_default-graph
+returns-in_default-graph c = λ symbols b x h l st. absurd (graph_never symbols c.args.self.now h c.args.sel b x st c.in-Some.select (sym c.select.ensures ∙ c.in-Some.is) c.in_default-graph.ensures)
