@@ -128,38 +128,6 @@ module _ (a b : Automaton) (sa : IsSound a) (sb : IsSound b) (m n : ℕ) (xs ys 
     accepting = λ j. (pair_ends_to j, pair_ends_of j);
   }
 
-module _ (a : Automaton) (m : ℕ) (xs : List Transition) (es : List ℕ) (one : Shown m xs es a) where
-  again_from : (i : ℕ) → Has (0 ∷ later 0 es) i → (i ≡ 0) ⊎ a.accepting i
-  again_from i (has_first e) = inl (sym e)
-  again_from i (has_later h) = let r = later_to 0 es h in let same : r.0 ≡ i = omega (arith, r.1) in inr (subst a.accepting same ((one.accepting r.0).0 r.3))
-
-  again_to : (i j : ℕ) (l : s.Leaf) → HasStep (carried 0 (0 ∷ later 0 es) xs) i l j → (repeat_of a).edge i l j
-  again_to i j l h = elim (carried_to 0 (0 ∷ later 0 es) xs h) [
-    | inl (p, q, is, goes, low, e) ↦
-        let x : p ≡ i = omega arith in
-        let y : q ≡ j = omega arith in
-        inl (subst (λ w. a.edge i l w) y (subst (λ w. a.edge w l q) x ((one.edge p q l).0 e)))
-    | inr (q, from, goes, e) ↦
-        let y : q ≡ j = omega arith in
-        let first = subst (λ w. a.edge 0 l w) y ((one.edge 0 q l).0 e) in
-        elim (again_from i from) [ inl z ↦ inl (subst (λ w. a.edge w l j) (sym z) first) | inr acc ↦ inr (acc, first) ]
-  ]
-
-  again_start : (i : ℕ) → a.accepting i → Has (0 ∷ later 0 es) i
-  again_start zero acc = has_first refl
-  again_start (suc i) acc = has_later (later_of 0 es (suc i) (omega arith) (omega arith) ((one.accepting (suc i)).1 acc))
-
-  again_edge : (i j : ℕ) (l : s.Leaf) → a.edge i l j → HasStep (carried 0 (0 ∷ later 0 es) xs) i l j
-  again_edge zero j l e = carried_of 0 (0 ∷ later 0 es) xs (inr (j, has_first refl, omega arith, (one.edge 0 j l).1 e))
-  again_edge (suc i) j l e = carried_of 0 (0 ∷ later 0 es) xs (inl (suc i, j, omega arith, omega arith, omega arith, (one.edge (suc i) j l).1 e))
-
-  again_of : (i j : ℕ) (l : s.Leaf) → (repeat_of a).edge i l j → HasStep (carried 0 (0 ∷ later 0 es) xs) i l j
-  again_of i j l (inl e) = again_edge i j l e
-  again_of i j l (inr (acc, e)) = carried_of 0 (0 ∷ later 0 es) xs (inr (j, again_start i acc, omega arith, (one.edge 0 j l).1 e))
-
-  pub repeat_shown : Shown m (carried 0 (0 ∷ later 0 es) xs) es (repeat_of a)
-  repeat_shown = record { counted = one.counted; edge = λ i j l. (again_to i j l, again_of i j l); accepting = one.accepting }
-
 pub shown_as : (a : Automaton) (n : ℕ) (xs zs : List Transition) (es fs : List ℕ) → Shown n xs es a → zs ≡ xs → fs ≡ es → Shown n zs fs a
 shown_as a n xs zs es fs s e f = subst (λ (ws : List Transition). Shown n ws fs a) (sym e) (subst (λ (ws : List ℕ). Shown n xs ws a) (sym f) s)
 
@@ -214,16 +182,3 @@ within a sa p shown = record {
   steps = steps_within a sa p.count p.steps.items p.accepting.items shown;
   ends = ends_within a sa p.count p.steps.items p.accepting.items shown;
 }
-
--- one or more of one or more are one or more
-pub repeat_twice : (a : Automaton) (n : ℕ) (xs : List Transition) (es : List ℕ) → Shown n xs es (repeat_of a) → Shown n xs es (repeat_of (repeat_of a))
-repeat_twice a n xs es one = record {
-  counted = one.counted;
-  edge = λ i j l. (λ h. inl ((one.edge i j l).0 h), λ e. (one.edge i j l).1 (once i j l e));
-  accepting = one.accepting;
-}
-  where
-    once : (i j : ℕ) (l : s.Leaf) → (repeat_of (repeat_of a)).edge i l j → (repeat_of a).edge i l j
-    once i j l (inl e) = e
-    once i j l (inr (acc, inl e)) = inr (acc, e)
-    once i j l (inr (acc, inr (start, e))) = inr (acc, e)

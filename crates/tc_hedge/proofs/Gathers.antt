@@ -77,14 +77,6 @@ grows_push old new n is j = (λ c. by (Contains-push_cases old n j (subst (λ w.
     of (inl c) = subst (λ w. Contains w j) (sym is) (Contains-append_left old (n ∷ []) j c)
     of (inr same) = subst (λ w. Contains w j) (sym is) (subst (λ w. Contains (old ++ n ∷ []) w) (sym same) (Contains-push old n))
 
--- a number that is there already may stay
-pub grows_not : (xs : List ℕ) (n : ℕ) → Contains xs n → Grows xs xs (λ j. j ≡ n)
-grows_not xs n here j = (λ c. inl c, of)
-  where
-    of : Contains xs j ⊎ (j ≡ n) → Contains xs j
-    of (inl c) = c
-    of (inr same) = subst (λ w. Contains xs w) (sym same) here
-
 -- at first nothing is gathered
 pub gather_first : {X : Type 0} (H : X → ℕ → Type 0) (xs : List X) (start : List ℕ) → Grows start start (Makes H (take 0 xs))
 gather_first H xs start = grows_none start start (Makes H (take 0 xs)) refl (λ j (x, among, h). contains_none (take 0 xs) x refl among)

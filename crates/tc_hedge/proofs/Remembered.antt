@@ -66,9 +66,6 @@ put_at sets i k (x, at, same) = at ∙ ap Some (sym (same_numbers k x same))
 pub grown_twice : (a b c : List (List ℕ)) → Grown a b → Grown b c → Grown a c
 grown_twice a b c f g i xs at = g i xs (f i xs at)
 
-pub same_grown : (a b : List (List ℕ)) → b ≡ a → Grown a b
-same_grown a b same i xs at = ap (λ w. slice_get w i) same ∙ at
-
 pub one_set : (sets : List (List ℕ)) (i : ℕ) (xs ys : List ℕ) → slice_get sets i ≡ Some xs → slice_get sets i ≡ Some ys → xs ≡ ys
 one_set sets i xs ys a b = cc
 

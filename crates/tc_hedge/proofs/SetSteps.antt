@@ -1,7 +1,5 @@
 -- What loops over edges, states and numbers gather.
-use Rattle.std.proofs.Common.{◌≡◌, ◌<◌, ◌≤◌, ◌↔◌, ◌⊎◌, inl, inr, ℕ, suc, ◌+◌, List, [], ◌∷◌, ◌++◌, length, take, get_or, Bool, true, Some, refl, sym, ap, ◌∙◌, subst, arith}
-use Rattle.std.proofs.Math.Logic.{∥∥₁_elim}
-use Rattle.std.proofs.Math.Bridge.{le_prop}
+use Rattle.std.proofs.Common.{◌≡◌, ◌<◌, ◌≤◌, ◌↔◌, ◌⊎◌, inl, inr, ℕ, ◌+◌, List, [], ◌∷◌, ◌++◌, length, take, get_or, Bool, true, Some, refl, sym, ap, ◌∙◌, subst, arith}
 use Rattle.std.specs.List.{Contains}
 use Rattle.std.proofs.lemmas.List.{take_all}
 use Rattle.std.proofs.lemmas.List.Elements.{Contains-push, Contains-push_cases, Contains-append_left, Contains-get_or}
@@ -16,11 +14,8 @@ use Rattle.tc_auto.specs.declared.auto.Auto.{Auto}
 use Rattle.tc_auto.specs.declared.auto.Edge.{Edge}
 use Rattle.tc_auto.specs.declared.auto.Leaf as leaves
 use Rattle.tc_auto.specs.declared.auto.Leaf.TheVariants.{Text, Ref}
-use Rattle.tc_hedge.specs.Items.{IsOfSomeSchema}
 use Rattle.tc_hedge.specs.Sets.{Grows, IsMade, IsNamed, Leaves, Makes, Passes, Steps}
 use Rattle.tc_hedge.specs.declared.children.Child.{Child}
-use Rattle.tc_hedge.proofs.Bounds.{states_of}
-use Rattle.tc_hedge.proofs.Leading.{first_below}
 use Rattle.tc_hedge.proofs.Puts.{code_leaf, some_pattern}
 use Rattle.tc_hedge.proofs.Gathers.{contains_none, take_more, gather, gather_last, grows_none, grows_as, grows_push, made_from_none}
 
@@ -123,18 +118,6 @@ named_told side g a st n number patterns {b} some count low told = (to, of)
     of : IsNamed g n number → b ≡ true
     of (e, at, inside) = told e at ∙ inside
 
--- the first state of a content is one of the states
-pub content_begins : (a : Auto) → ∥ IsOfSomeSchema a ∥₁ → (number first : ℕ) → 1 ≤ number → number ≤ length a.elements.now → ((side : Side) (g : Grammar) → held.Stands side g a → first ≡ first_state g side number) → first < length a.rows.items
-content_begins a some number first low high is = let most = bound in omega (arith, most)
-  where
-    by : (side : Side) (g : Grammar) → held.Stands side g a → suc first ≤ length a.rows.items
-    by side g st =
-        let (e, at) = some_pattern side g a st number low high in
-        omega (arith, is side g st, states_of side g a st, first_below g side (a_content at))
-
-    bound : suc first ≤ length a.rows.items
-    bound = ∥∥₁_elim some le_prop (λ (s : IsOfSomeSchema a). by s.0 s.1 s.2)
-
 -- one state more that is no end
 pub no_end_more : (P : ℕ → Type 0) (xs : List ℕ) (i n : ℕ) → i < length xs → n ≡ get_or xs i 0 → ((j : ℕ) → Contains (take i xs) j → P j → ⊥) → (P n → ⊥) → (j : ℕ) → Contains (take (i + 1) xs) j → P j → ⊥
 no_end_more P xs i n low is before none j c p = by (Contains-push_cases (take i xs) n j (subst (λ w. Contains w j) (take_more xs i 0 n low is) c))
@@ -174,6 +157,3 @@ module _ (A B : ℕ → Type 0) (old new : List ℕ) (before : ℕ) (made : IsMa
       of : 1 ≤ k → k ≤ before + 1 → A k → B k → (before < k) ⊎ (k ≤ before) → Contains new k
       of low high x y (inl l) = let one : k ≡ before + 1 = omega arith in absurd (never (subst A one x) (subst B one y))
       of low high x y (inr l) = subst (λ w. Contains w k) (sym same) ((made k).1 (low, l, x, y))
-
-pub range_none : (A B : ℕ → Type 0) (xs : List ℕ) → xs ≡ [] → IsMade xs (λ k. (1 ≤ k) × (k ≤ 0) × A k × B k)
-range_none A B xs e k = (λ c. absurd (contains_none xs k e c), λ (low, high, a, b). absurd (omega (arith, low, high)))

@@ -1,9 +1,11 @@
 -- The pairs of trees, tree by tree.
 use Rattle.std.proofs.Common.{◌≡◌, ◌<◌, ◌≤◌, ◌↔◌, ℕ, zero, suc, ◌+◌, ◌*◌, List, [], ◌∷◌, ◌++◌, length, take, drop, get_or, map, ◌-◌, Result, Ok, Err, IfOk, Bool, true, false, Some, slice_get, refl, sym, ap, ◌∙◌, subst, arith, add-one}
 use Rattle.std.specs.List.{slice_range}
+use Rattle.std.proofs.Math.Nat.{mul_comm}
 use Rattle.std.proofs.Math.Seq.{take-suc}
-use Rattle.std.proofs.lemmas.Option.{slice_get_within}
+use Rattle.std.proofs.lemmas.Option.{slice_get_read, slice_get_within}
 use Rattle.std.proofs.lemmas.List.{take_all}
+use Rattle.std.proofs.lemmas.Nat.{mul-add-lt}
 use Rattle.tc_mat.specs.Matrix.{Matrix, HasPair, IsIdentity, IsComposition}
 use Rattle.tc_model.specs.Names.{ExpandedName}
 use Rattle.tc_model.specs.Trees.{Trees, none, text, is_white_space_only}
@@ -145,3 +147,22 @@ symbol_row_tells side g symbols h st n symbol is items same patterns count =
     ap (λ w. slice_get w (symbol * patterns + k)) same
     ∙ (ap (λ w. slice_get h.allowed.items (w * patterns + k)) (sym is)
     ∙ (ap (λ w. slice_get h.allowed.items (symbol_of symbols n * w + k)) all ∙ st.tells n k e at)))
+
+-- the place of a symbol and of an element pattern in the table
+pub class_within : (h : Hedge) (symbol count number : ℕ) → count ≡ length h.auto.elements.now → symbol < h.symbols → 1 ≤ number → number ≤ length h.auto.elements.now → symbol * count + (number - 1) < length h.allowed.items
+class_within h symbol count number all low from within =
+    let n = length h.auto.elements.now in
+    let place : symbol * n + (number - 1) < n * h.symbols = mul-add-lt symbol n (number - 1) h.symbols low (omega (arith, from, within)) in
+    subst (λ w. symbol * w + (number - 1) < length h.allowed.items) (sym all) (omega (arith, place, h.tabled, mul_comm n h.symbols))
+
+-- what stands there
+pub class_told : (side : Side) (x : Grammar) (symbols : List Mention) (h : Hedge) → Stands side x symbols h → (name : ExpandedName) (symbol : ℕ) → symbol_of symbols name ≡ symbol
+    → (count : ℕ) → count ≡ length h.auto.elements.now → (number : ℕ) (e : ElementPattern) → element_at x.elements number ≡ Some e
+    → (b : Bool) (place : ℕ) → place ≡ symbol * count + (number - 1) → place < length h.allowed.items → b ≡ get_or h.allowed.items place b → b ≡ in_class e.names name
+class_told side x symbols h st name symbol is count all zero e at b place here low got = absurd (cc)
+class_told side x symbols h st name symbol is count all (suc k) e at b place here low got =
+    let n : count ≡ length x.elements = all ∙ patterns_of side x h.auto st.auto in
+    let before : suc k - 1 ≡ k = omega arith in
+    let same : place ≡ symbol_of symbols name * length x.elements + k = here ∙ (ap (λ w. symbol * count + w) before ∙ (ap (λ w. w * count + k) (sym is) ∙ ap (λ w. symbol_of symbols name * w + k) n)) in
+    let found : Some b ≡ Some (in_class e.names name) = sym (slice_get_read h.allowed.items (length h.allowed.items) place b refl low got) ∙ (ap (slice_get h.allowed.items) same ∙ st.tells name k e at) in
+    cc

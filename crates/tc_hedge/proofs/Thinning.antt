@@ -118,9 +118,6 @@ some_element {l = l} {n} {c} e (same_element {n = a} {c = d} {h = h} {k = w} x) 
 some_element e (text_less x) f = text_less (some_element e x f)
 some_element e (text_again x) f = absurd (cc)
 
-thin_nothing : {h k : Trees} → k ≡ none → Thins h k → Thins h none
-thin_nothing {h} e x = subst (λ w. Thins h w) e x
-
 pub thin_twice : {h k l : Trees} → Thins k l → Thins h k → Thins h l
 thin_twice thin_end x = x
 thin_twice (same_element y) x = some_element refl x (λ a z. thin_twice y z)

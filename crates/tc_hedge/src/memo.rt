@@ -54,6 +54,20 @@ impl<'n> Memo<'n> {
         Ok(number)
     }
 
+    /// Keeps what is known of a step into an element.
+    pub(crate) fn keep_entry(
+        &mut self,
+        entry: EnterKey<'n>,
+        inside: Entered,
+    ) -> Result<(), NoMemory>
+        ensures entries { OnOk result (Updates same_enter_key self.old.entries self.new.entries entry.entry (Some inside)) }
+        ensures sets { OnOk result (self.new.sets.keys ≡ self.old.sets.keys) }
+        ensures others { OnOk result ((self.new.texts ≡ self.old.texts) × (self.new.passings ≡ self.old.passings)) }
+    {
+        self.entries.insert(entry, inside)?;
+        Ok(())
+    }
+
     /// What is known of a text behind the states of a number.
     pub(crate) fn text(&self, from: usize) -> Option<usize>
         ensures { result ≡ get nat_eq self.now.texts from }

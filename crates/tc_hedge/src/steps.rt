@@ -104,7 +104,7 @@ fn learn_entry<'n>(
     let first = put_firsts(alloc, automaton, memo, &taking)?;
     let numbers = memo.put(taking)?;
     let inside = Entered { numbers, first };
-    memo.entries.insert(*entry, inside)?;
+    memo.keep_entry(*entry, inside)?;
     Ok(inside)
 }
 

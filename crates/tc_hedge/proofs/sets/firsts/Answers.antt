@@ -1,4 +1,5 @@
 use Rattle.std.proofs.Common.{◌≡◌, ◌<◌, ◌≤◌, ℕ, length, get_or, refl}
+use Rattle.std.proofs.lemmas.Result.{IfOk-from_err}
 use Rattle.tc_model.specs.States.{first_state}
 use Rattle.tc_hedge.proofs.Gathers.{grows_push}
 use Rattle.tc_hedge.proofs.SetSteps.{all_grown, map_put, member, states_made}
@@ -20,3 +21,9 @@ loop-number-preserved c = (
 pub returns-clause-made : goal.returns-clause-made
 returns-clause-made c = λ side x st.
     states_made (λ (k i : ℕ). i ≡ first_state x side k) c.args.numbers.now c.loop-number.number-index c.new-states.result.items c.loop-number.states.items c.loop-number-test.false c.new-states.ensures.items (c.loop-number.invariant.0 side x st)
+
+pub returns-in_err-push-clause-made : goal.returns-in_err-push-clause-made
+returns-in_err-push-clause-made c = IfOk-from_err c.from_residual.result _ c.from_residual.ensures.0
+
+pub returns-in_err-push-clause-below : goal.returns-in_err-push-clause-below
+returns-in_err-push-clause-below c = IfOk-from_err c.from_residual.result _ c.from_residual.ensures.0

@@ -1,5 +1,6 @@
 use Rattle.std.proofs.Common.{refl}
 use Rattle.std.proofs.lemmas.Option.{slice_get_within}
+use Rattle.std.proofs.lemmas.Result.{IfOk-from_err}
 use Rattle.tc_hedge.proofs.Remembered.{knows_grown, knows_passing, number_held, numbers_within, states_below}
 use Rattle.tc_hedge.proofs.steps.learn_passing.Goals as goal
 
@@ -42,3 +43,30 @@ returns-clause-knows c =
 
 pub returns-clause-grown : goal.returns-clause-grown
 returns-clause-grown c = c.in_ok-next.ensures.grown
+
+pub returns-in_err-states-clause-knows : goal.returns-in_err-states-clause-knows
+returns-in_err-states-clause-knows c = IfOk-from_err c.from_residual.result _ c.from_residual.ensures.0
+
+pub returns-in_err-states-clause-grown : goal.returns-in_err-states-clause-grown
+returns-in_err-states-clause-grown c = IfOk-from_err c.from_residual.result _ c.from_residual.ensures.0
+
+pub returns-in_err-states-clause-steps : goal.returns-in_err-states-clause-steps
+returns-in_err-states-clause-steps c = IfOk-from_err c.from_residual.result _ c.from_residual.ensures.0
+
+pub returns-in_err-next-clause-knows : goal.returns-in_err-next-clause-knows
+returns-in_err-next-clause-knows c = IfOk-from_err c.from_residual-in_err-next.result _ c.from_residual-in_err-next.ensures.0
+
+pub returns-in_err-next-clause-grown : goal.returns-in_err-next-clause-grown
+returns-in_err-next-clause-grown c = IfOk-from_err c.from_residual-in_err-next.result _ c.from_residual-in_err-next.ensures.0
+
+pub returns-in_err-next-clause-steps : goal.returns-in_err-next-clause-steps
+returns-in_err-next-clause-steps c = IfOk-from_err c.from_residual-in_err-next.result _ c.from_residual-in_err-next.ensures.0
+
+pub returns-in_err-insert-clause-knows : goal.returns-in_err-insert-clause-knows
+returns-in_err-insert-clause-knows c = IfOk-from_err c.from_residual-in_err-insert.result _ c.from_residual-in_err-insert.ensures.0
+
+pub returns-in_err-insert-clause-grown : goal.returns-in_err-insert-clause-grown
+returns-in_err-insert-clause-grown c = IfOk-from_err c.from_residual-in_err-insert.result _ c.from_residual-in_err-insert.ensures.0
+
+pub returns-in_err-insert-clause-steps : goal.returns-in_err-insert-clause-steps
+returns-in_err-insert-clause-steps c = IfOk-from_err c.from_residual-in_err-insert.result _ c.from_residual-in_err-insert.ensures.0

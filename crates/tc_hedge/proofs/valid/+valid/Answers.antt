@@ -1,11 +1,12 @@
-use Rattle.std.proofs.Common.{ap, ◌∙◌, sym, subst, refl}
+use Rattle.std.proofs.Common.{ap, ◌∙◌, sym, subst, refl, arith}
+use Rattle.std.proofs.lemmas.Result.{IfOk-from_err}
 use Rattle.tc_model.specs.Trees.{Trees, none}
 use Rattle.tc_model.specs.Views as see
 use Rattle.tc_model.specs.declared.tree.Node.{Node}
 use Rattle.tc_model.proofs.Views.{before_text, before_elem}
 use Rattle.tc_hedge.specs.Memos.{PassesTrees}
 use Rattle.tc_hedge.proofs.Gathers.{for_both, for_ok, on_ok}
-use Rattle.tc_hedge.proofs.Passed.{element_passed, inside_numbers, more_passed, none_passed, text_passed, trees_states}
+use Rattle.tc_hedge.proofs.Passed.{element_passed, all_passed, inside_numbers, inside_states, more_passed, none_passed, text_passed, trees_states}
 use Rattle.tc_hedge.proofs.Remembered.{entry_grown, grown_twice, numbers_grown, states_grown, trees_grown}
 use Rattle.tc_hedge.proofs.valid.+valid.Goals as goal
 
@@ -81,3 +82,63 @@ after_tree-returns-in-Elem-clause-grown t c = c.after_element.ensures.grown
 
 pub after_trees-returns-clause-grown : goal.after_trees-returns-clause-grown
 after_trees-returns-clause-grown t c = c.loop-node.invariant.1
+
+pub after_element-returns-in_err-inside-clause-knows : goal.after_element-returns-in_err-inside-clause-knows
+after_element-returns-in_err-inside-clause-knows t c = IfOk-from_err c.from_residual.result _ c.from_residual.ensures.0
+
+pub after_element-returns-in_err-inside-clause-grown : goal.after_element-returns-in_err-inside-clause-grown
+after_element-returns-in_err-inside-clause-grown t c = IfOk-from_err c.from_residual.result _ c.from_residual.ensures.0
+
+pub after_element-returns-in_err-inside-clause-steps : goal.after_element-returns-in_err-inside-clause-steps
+after_element-returns-in_err-inside-clause-steps t c = IfOk-from_err c.from_residual.result _ c.from_residual.ensures.0
+
+pub after_element-returns-in_err-ends-clause-knows : goal.after_element-returns-in_err-ends-clause-knows
+after_element-returns-in_err-ends-clause-knows t c = IfOk-from_err c.from_residual-in_err-ends.result _ c.from_residual-in_err-ends.ensures.0
+
+pub after_element-returns-in_err-ends-clause-grown : goal.after_element-returns-in_err-ends-clause-grown
+after_element-returns-in_err-ends-clause-grown t c = IfOk-from_err c.from_residual-in_err-ends.result _ c.from_residual-in_err-ends.ensures.0
+
+pub after_element-returns-in_err-ends-clause-steps : goal.after_element-returns-in_err-ends-clause-steps
+after_element-returns-in_err-ends-clause-steps t c = IfOk-from_err c.from_residual-in_err-ends.result _ c.from_residual-in_err-ends.ensures.0
+
+pub after_trees-returns-in_err-next-clause-knows : goal.after_trees-returns-in_err-next-clause-knows
+after_trees-returns-in_err-next-clause-knows t c = IfOk-from_err c.from_residual.result _ c.from_residual.ensures.0
+
+pub after_trees-returns-in_err-next-clause-grown : goal.after_trees-returns-in_err-next-clause-grown
+after_trees-returns-in_err-next-clause-grown t c = IfOk-from_err c.from_residual.result _ c.from_residual.ensures.0
+
+pub after_trees-returns-in_err-next-clause-steps : goal.after_trees-returns-in_err-next-clause-steps
+after_trees-returns-in_err-next-clause-steps t c = IfOk-from_err c.from_residual.result _ c.from_residual.ensures.0
+
+pub after_element-inside_of-requires-clause-knows : goal.after_element-inside_of-requires-clause-knows
+after_element-inside_of-requires-clause-knows t c = c.requires.knows
+
+pub after_element-inside_of-requires-clause-from : goal.after_element-inside_of-requires-clause-from
+after_element-inside_of-requires-clause-from t c = c.requires.from
+
+pub after_element-after_passing-requires-clause-knows : goal.after_element-after_passing-requires-clause-knows
+after_element-after_passing-requires-clause-knows t c = c.in_ok-ends.ensures.knows
+
+pub after_tree-after_text-requires-clause-knows : goal.after_tree-after_text-requires-clause-knows
+after_tree-after_text-requires-clause-knows t c = c.requires.knows
+
+pub after_tree-after_text-requires-clause-from : goal.after_tree-after_text-requires-clause-from
+after_tree-after_text-requires-clause-from t c = c.requires.from
+
+pub after_tree-returns-in-Text-clause-knows : goal.after_tree-returns-in-Text-clause-knows
+after_tree-returns-in-Text-clause-knows t c = c.after_text.ensures.knows
+
+pub after_tree-returns-in-Elem-clause-knows : goal.after_tree-returns-in-Elem-clause-knows
+after_tree-returns-in-Elem-clause-knows t c = c.after_element.ensures.knows
+
+pub after_trees-returns-clause-knows : goal.after_trees-returns-clause-knows
+after_trees-returns-clause-knows t c = c.loop-node.invariant.0
+
+pub after_trees-returns-clause-steps : goal.after_trees-returns-clause-steps
+after_trees-returns-clause-steps t c = all_passed c.args.automaton.now c.loop-node.memo.sets.keys c.args.from c.args.nodes.now c.loop-node.node-index c.loop-node.number c.loop-node-test.false c.loop-node.invariant.2
+
+pub after_element-after_trees-requires : goal.after_element-after_trees-requires
+after_element-after_trees-requires t c = (
+  omega (arith, c.decreases),
+  (c.in_ok-inside.ensures.knows, inside_states c.args.automaton.now c.inside_of.new.memo.sets.keys c.args.entry.now.from (see.name c.args.entry.now.name) c.in_ok-inside.inside c.in_ok-inside.ensures.steps),
+)

@@ -1,4 +1,5 @@
 use Rattle.std.proofs.Common.{ap, ◌∙◌, sym, subst}
+use Rattle.std.proofs.lemmas.Result.{IfOk-from_err}
 use Rattle.tc_model.specs.Trees.{none}
 use Rattle.tc_model.specs.Views as see
 use Rattle.tc_model.specs.States.{output}
@@ -67,3 +68,48 @@ matrix_of_tree-returns-in_ok-inner-in-Elem-clause-size t c = c.matrix_around.ens
 
 pub matrix_of_tree-returns-in_ok-inner-in-Elem-clause-matrix : goal.matrix_of_tree-returns-in_ok-inner-in-Elem-clause-matrix
 matrix_of_tree-returns-in_ok-inner-in-Elem-clause-matrix t c = c.matrix_around.ensures.matrix
+
+pub matrix_of-returns-in_err-led-clause-size : goal.matrix_of-returns-in_err-led-clause-size
+matrix_of-returns-in_err-led-clause-size t c = IfOk-from_err c.from_residual.result _ c.from_residual.ensures.0
+
+pub matrix_of-returns-in_err-led-clause-matrix : goal.matrix_of-returns-in_err-led-clause-matrix
+matrix_of-returns-in_err-led-clause-matrix t c = IfOk-from_err c.from_residual.result _ c.from_residual.ensures.0
+
+pub matrix_of-returns-in_err-led-clause-pairs : goal.matrix_of-returns-in_err-led-clause-pairs
+matrix_of-returns-in_err-led-clause-pairs t c = IfOk-from_err c.from_residual.result _ c.from_residual.ensures.0
+
+pub matrix_of-returns-in_err-led-clause-output : goal.matrix_of-returns-in_err-led-clause-output
+matrix_of-returns-in_err-led-clause-output t c = IfOk-from_err c.from_residual.result _ c.from_residual.ensures.0
+
+pub matrix_of-returns-in_err-one-clause-size : goal.matrix_of-returns-in_err-one-clause-size
+matrix_of-returns-in_err-one-clause-size t c = IfOk-from_err c.from_residual-in_err-one.result _ c.from_residual-in_err-one.ensures.0
+
+pub matrix_of-returns-in_err-one-clause-matrix : goal.matrix_of-returns-in_err-one-clause-matrix
+matrix_of-returns-in_err-one-clause-matrix t c = IfOk-from_err c.from_residual-in_err-one.result _ c.from_residual-in_err-one.ensures.0
+
+pub matrix_of-returns-in_err-one-clause-pairs : goal.matrix_of-returns-in_err-one-clause-pairs
+matrix_of-returns-in_err-one-clause-pairs t c = IfOk-from_err c.from_residual-in_err-one.result _ c.from_residual-in_err-one.ensures.0
+
+pub matrix_of-returns-in_err-one-clause-output : goal.matrix_of-returns-in_err-one-clause-output
+matrix_of-returns-in_err-one-clause-output t c = IfOk-from_err c.from_residual-in_err-one.result _ c.from_residual-in_err-one.ensures.0
+
+pub matrix_of-returns-in_err-led-2-clause-size : goal.matrix_of-returns-in_err-led-2-clause-size
+matrix_of-returns-in_err-led-2-clause-size t c = IfOk-from_err c.from_residual-in_err-led-2.result _ c.from_residual-in_err-led-2.ensures.0
+
+pub matrix_of-returns-in_err-led-2-clause-matrix : goal.matrix_of-returns-in_err-led-2-clause-matrix
+matrix_of-returns-in_err-led-2-clause-matrix t c = IfOk-from_err c.from_residual-in_err-led-2.result _ c.from_residual-in_err-led-2.ensures.0
+
+pub matrix_of-returns-in_err-led-2-clause-pairs : goal.matrix_of-returns-in_err-led-2-clause-pairs
+matrix_of-returns-in_err-led-2-clause-pairs t c = IfOk-from_err c.from_residual-in_err-led-2.result _ c.from_residual-in_err-led-2.ensures.0
+
+pub matrix_of-returns-in_err-led-2-clause-output : goal.matrix_of-returns-in_err-led-2-clause-output
+matrix_of-returns-in_err-led-2-clause-output t c = IfOk-from_err c.from_residual-in_err-led-2.result _ c.from_residual-in_err-led-2.ensures.0
+
+pub matrix_of_tree-returns-in_err-inner-in-Elem-clause-size : goal.matrix_of_tree-returns-in_err-inner-in-Elem-clause-size
+matrix_of_tree-returns-in_err-inner-in-Elem-clause-size t c = IfOk-from_err c.from_residual.result _ c.from_residual.ensures.0
+
+pub matrix_of_tree-returns-in_err-inner-in-Elem-clause-matrix : goal.matrix_of_tree-returns-in_err-inner-in-Elem-clause-matrix
+matrix_of_tree-returns-in_err-inner-in-Elem-clause-matrix t c = IfOk-from_err c.from_residual.result _ c.from_residual.ensures.0
+
+pub matrix_of_tree-returns-in_err-inner-in-Elem-clause-pairs : goal.matrix_of_tree-returns-in_err-inner-in-Elem-clause-pairs
+matrix_of_tree-returns-in_err-inner-in-Elem-clause-pairs t c = IfOk-from_err c.from_residual.result _ c.from_residual.ensures.0

@@ -10,3 +10,6 @@ returns-then-is_set c = λ side x st.
 pub returns-else-is_set : goal.returns-else-is_set
 returns-else-is_set c = λ side x st.
     (λ h. absurd (true≢false (sym h ∙ c.if-is_set.false)), λ t. c.is_set.ensures.1 t.2)
+
+pub is_taken-requires-clause-size : goal.is_taken-requires-clause-size
+is_taken-requires-clause-size c = c.requires

@@ -1,4 +1,5 @@
 use Rattle.std.proofs.Common.{refl}
+use Rattle.std.proofs.lemmas.Result.{IfOk-from_err}
 use Rattle.tc_hedge.proofs.TableRows.{made_stands}
 use Rattle.tc_hedge.proofs.hedge.Hedge.of.Goals as goal
 
@@ -11,3 +12,12 @@ returns-clause-automaton c = refl
 
 pub returns-clause-symbols : goal.returns-clause-symbols
 returns-clause-symbols c = c.count-symbols.ensures.number
+
+pub returns-in_err-allowed-clause-automaton : goal.returns-in_err-allowed-clause-automaton
+returns-in_err-allowed-clause-automaton c = IfOk-from_err c.from_residual.result _ c.from_residual.ensures.0
+
+pub returns-in_err-allowed-clause-symbols : goal.returns-in_err-allowed-clause-symbols
+returns-in_err-allowed-clause-symbols c = IfOk-from_err c.from_residual.result _ c.from_residual.ensures.0
+
+pub returns-in_err-allowed-clause-stands : goal.returns-in_err-allowed-clause-stands
+returns-in_err-allowed-clause-stands c = IfOk-from_err c.from_residual.result _ c.from_residual.ensures.0

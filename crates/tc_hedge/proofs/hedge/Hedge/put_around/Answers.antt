@@ -39,3 +39,15 @@ pub returns-clause-pairs : goal.returns-clause-pairs
 returns-clause-pairs c = λ side x st.
     around_all x side c.args.allowed.now c.args.inner.now c.loop-before.before c.loop-before.out
     (omega (arith, c.loop-before-test.false, c.patterns-before-end.ensures.here, patterns_of side x c.args.self.now.auto st)) (c.loop-before.invariant.2 side x st)
+
+pub returns-clause-size : goal.returns-clause-size
+returns-clause-size c = c.loop-before.invariant.0 ∙ sym c.requires.out
+
+pub returns-clause-matrix : goal.returns-clause-matrix
+returns-clause-matrix c = c.loop-before.invariant.1
+
+pub is_taken_around-requires : goal.is_taken_around-requires
+is_taken_around-requires c = c.requires.inner
+
+pub put_arrows-requires-clause-matrix : goal.put_arrows-requires-clause-matrix
+put_arrows-requires-clause-matrix c = c.loop-before.invariant.1
