@@ -147,12 +147,20 @@ fault_cause full most s r c hold.NoMemory kept g same is = tt
 pub at_none : (P : Type 0) (Q : ℕ → Type 0) (o : Option ℕ) → o ≡ None → MatchOption o P Q → P
 at_none P Q o e m = subst (λ w. MatchOption w P Q) e m
 
-pub at_some : (P : Type 0) (Q : ℕ → Type 0) (o : Option ℕ) (u : ℕ) → o ≡ Some u → MatchOption o P Q → Q u
-at_some P Q o u e m = subst (λ w. MatchOption w P Q) e m
-
-pub is_new : (old new u : ℕ) → IsHeldAs old new u → u ≡ old → new ≡ suc old
+is_new : (old new u : ℕ) → IsHeldAs old new u → u ≡ old → new ≡ suc old
 is_new old new u is e = grind arith
 
-pub is_known : (old new u : ℕ) → IsHeldAs old new u → (u ≡ old → ⊥) → (u < old) × (new ≡ old)
+is_known : (old new u : ℕ) → IsHeldAs old new u → (u ≡ old → ⊥) → (u < old) × (new ≡ old)
 is_known old new u (inl known) not = known
 is_known old new u (inr (same, one)) not = absurd (not same)
+
+-- a number that was told: it came on as the last, or was held before
+module _ (P : Type 0) (At : ℕ → Type 0) (old new : ℕ) (o : Option ℕ) (u : ℕ) (is : o ≡ Some u) (told : MatchOption o P (λ v. At v × IsHeldAs old new v)) where
+  told_at : At u × IsHeldAs old new u
+  told_at = subst (λ w. MatchOption w P (λ v. At v × IsHeldAs old new v)) is told
+
+  pub told_new : u ≡ old → (new ≡ suc old) × At old
+  told_new last = (is_new old new u told_at.1 last, subst At last told_at.0)
+
+  pub told_known : (u ≡ old → ⊥) → At u × (u < old) × (new ≡ old)
+  told_known not = let known = is_known old new u told_at.1 not in (told_at.0, known.0, known.1)

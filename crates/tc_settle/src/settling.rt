@@ -72,6 +72,29 @@ fn first_starts(alloc: Global) -> Result<Vec<u32>, NoMemory>
     Ok(starts)
 }
 
+/// Goes on from there, cost by cost.
+fn settle<R: NumberedRows>(
+    alloc: Global,
+    rows: &mut R,
+    closed: &mut Closed,
+    most: u32,
+) -> Result<(), CloseFault>
+    requires most { most < 4294967295 }
+    requires begun { IsBegun most (R.held rows.old) closed.old }
+    ensures whole { OnOk result (IsWhole most (R.held rows.new) closed.new) }
+    ensures cause { IfErr result (λ e. IsCause (R.is_full rows.new) most (R.held rows.new) e) }
+{
+    let mut starts = first_starts(alloc)?;
+    let mut wrapped = 0;
+    for cost in 1..FAR {
+        wrapped = level(rows, closed, &mut starts, wrapped, cost, most)?;
+        if closed.reach() <= cost {
+            return Ok(());
+        }
+    }
+    all_far(rows, closed, starts.as_slice(), most)
+}
+
 /// Finds all rows that are derived, each at its least cost, and at most so many of each kind.
 fn find<R: NumberedRows>(alloc: Global, rows: &mut R, most: u32) -> Result<Closed, CloseFault>
     requires trees { (R.held rows.old).trees ≡ 0 }
@@ -81,14 +104,6 @@ fn find<R: NumberedRows>(alloc: Global, rows: &mut R, most: u32) -> Result<Close
     ensures cause { IfErr result (λ e. IsCause (R.is_full rows.new) most (R.held rows.new) e) }
 {
     let mut closed = begin(alloc, rows, most)?;
-    let mut starts = first_starts(alloc)?;
-    let mut wrapped = 0;
-    for cost in 1..FAR {
-        wrapped = level(rows, &mut closed, &mut starts, wrapped, cost, most)?;
-        if closed.reach() <= cost {
-            return Ok(closed);
-        }
-    }
-    all_far(rows, &mut closed, starts.as_slice(), most)?;
+    settle(alloc, rows, &mut closed, most)?;
     Ok(closed)
 }

@@ -1,9 +1,9 @@
-use Rattle.std.proofs.Common.{◌≡◌, inl, refl, subst, arith}
+use Rattle.std.proofs.Common.{◌≡◌, inl, refl, arith}
 use Rattle.tc_settle.specs.Held.{IsHeldAs, IsUnchanged, IsTextAt}
 use Rattle.tc_settle.specs.Closed.{IsCause}
 use Rattle.tc_settle.specs.declared.closed.CloseFault.TheVariants.{NoMemory}
 use Rattle.tc_settle.proofs.Exits.{no_ok, err_is}
-use Rattle.tc_settle.proofs.Tried.{all_derive, at_none, at_some, is_new, is_known, fault_cause, steps_unchanged, text_kept, text_steps, text_done, text_known}
+use Rattle.tc_settle.proofs.Tried.{all_derive, at_none, told_new, told_known, fault_cause, steps_unchanged, text_kept, text_steps, text_done, text_known}
 use Rattle.tc_settle.proofs.trying.try_text.Goals as goal
 
 pub returns-in_err-number-clause-cause : goal.returns-in_err-number-clause-cause
@@ -23,31 +23,29 @@ pub returns-then-number-most-clause-cause : goal.returns-then-number-most-clause
 returns-then-number-most-clause-cause g c =
     let s = g.R.NumberedRows.held c.args.rows.now in
     let r = g.R.NumberedRows.held c.text.new.self in
-    let found = at_some (r.no_text × IsUnchanged s r) (λ u. IsTextAt r u × IsHeldAs s.trees r.trees u) c.in_ok-number.field-0 c.in-Some.number c.in-Some.is c.in_ok-number.ensures.made in
     let last : c.in-Some.number ≡ s.trees = omega (arith, c.if-number-len.true, c.len.ensures, c.requires.kept.tree_count) in
-    let one = is_new s.trees r.trees c.in-Some.number found.1 last in
+    let found = told_new (r.no_text × IsUnchanged s r) (IsTextAt r) s.trees r.trees c.in_ok-number.field-0 c.in-Some.number c.in-Some.is c.in_ok-number.ensures.made last in
     let kept = text_kept s r c.args.closed.now c.args.most 1 c.in_ok-number.ensures.grows c.requires.kept c.requires.few c.requires.up_to c.keep_tree.new.self
-    refl c.in_ok-number.ensures.hedges one c.in_ok-keep_tree.ensures (subst (λ u. IsTextAt r u) last found.0) in
-    (omega (arith, one, last, c.if-number-most.true), all_derive r c.keep_tree.new.self kept)
+    refl c.in_ok-number.ensures.hedges found.0 c.in_ok-keep_tree.ensures found.1 in
+    (omega (arith, found.0, last, c.if-number-most.true), all_derive r c.keep_tree.new.self kept)
 
 pub returns-else-number-most-clause-steps : goal.returns-else-number-most-clause-steps
 returns-else-number-most-clause-steps g c =
     let s = g.R.NumberedRows.held c.args.rows.now in
     let r = g.R.NumberedRows.held c.text.new.self in
-    let found = at_some (r.no_text × IsUnchanged s r) (λ u. IsTextAt r u × IsHeldAs s.trees r.trees u) c.in_ok-number.field-0 c.in-Some.number c.in-Some.is c.in_ok-number.ensures.made in
     let last : c.in-Some.number ≡ s.trees = omega (arith, c.if-number-len.true, c.len.ensures, c.requires.kept.tree_count) in
-    let one = is_new s.trees r.trees c.in-Some.number found.1 last in
+    let found = told_new (r.no_text × IsUnchanged s r) (IsTextAt r) s.trees r.trees c.in_ok-number.field-0 c.in-Some.number c.in-Some.is c.in_ok-number.ensures.made last in
     text_steps s r c.args.closed.now c.args.most 1 c.in_ok-number.ensures.grows c.requires.kept c.requires.few c.requires.up_to c.keep_tree.new.self
-    refl c.in_ok-number.ensures.hedges one c.in_ok-keep_tree.ensures (subst (λ u. IsTextAt r u) last found.0)
+    refl c.in_ok-number.ensures.hedges found.0 c.in_ok-keep_tree.ensures found.1
     (omega (arith, last, c.if-number-most.false))
 
 pub returns-else-number-len-clause-steps : goal.returns-else-number-len-clause-steps
 returns-else-number-len-clause-steps g c =
     let s = g.R.NumberedRows.held c.args.rows.now in
     let r = g.R.NumberedRows.held c.text.new.self in
-    let found = at_some (r.no_text × IsUnchanged s r) (λ u. IsTextAt r u × IsHeldAs s.trees r.trees u) c.in_ok-number.field-0 c.in-Some.number c.in-Some.is c.in_ok-number.ensures.made in
-    let known = is_known s.trees r.trees c.in-Some.number found.1 (λ last. c.if-number-len.false (omega (arith, last, c.len.ensures, c.requires.kept.tree_count))) in
-    steps_unchanged s r c.args.closed.now c.args.most 1 c.in_ok-number.ensures.grows c.requires.kept c.requires.few c.requires.up_to (known.1, c.in_ok-number.ensures.hedges)
+    let known = told_known (r.no_text × IsUnchanged s r) (IsTextAt r) s.trees r.trees c.in_ok-number.field-0 c.in-Some.number c.in-Some.is c.in_ok-number.ensures.made
+    (λ last. c.if-number-len.false (omega (arith, last, c.len.ensures, c.requires.kept.tree_count))) in
+    steps_unchanged s r c.args.closed.now c.args.most 1 c.in_ok-number.ensures.grows c.requires.kept c.requires.few c.requires.up_to (known.2, c.in_ok-number.ensures.hedges)
 
 pub returns-in_err-number-clause-steps : goal.returns-in_err-number-clause-steps
 returns-in_err-number-clause-steps g c = no_ok c.from_residual.result _ _ c.from_residual.ensures.1
@@ -90,20 +88,19 @@ pub returns-else-number-most-clause-done : goal.returns-else-number-most-clause-
 returns-else-number-most-clause-done g c =
     let s = g.R.NumberedRows.held c.args.rows.now in
     let r = g.R.NumberedRows.held c.text.new.self in
-    let found = at_some (r.no_text × IsUnchanged s r) (λ u. IsTextAt r u × IsHeldAs s.trees r.trees u) c.in_ok-number.field-0 c.in-Some.number c.in-Some.is c.in_ok-number.ensures.made in
     let last : c.in-Some.number ≡ s.trees = omega (arith, c.if-number-len.true, c.len.ensures, c.requires.kept.tree_count) in
-    let one = is_new s.trees r.trees c.in-Some.number found.1 last in
+    let found = told_new (r.no_text × IsUnchanged s r) (IsTextAt r) s.trees r.trees c.in_ok-number.field-0 c.in-Some.number c.in-Some.is c.in_ok-number.ensures.made last in
     text_done s r c.args.closed.now c.args.most 1 c.in_ok-number.ensures.grows c.requires.kept c.requires.few c.requires.up_to c.keep_tree.new.self
-    refl c.in_ok-number.ensures.hedges one c.in_ok-keep_tree.ensures (subst (λ u. IsTextAt r u) last found.0)
+    refl c.in_ok-number.ensures.hedges found.0 c.in_ok-keep_tree.ensures found.1
 
 pub returns-else-number-len-clause-done : goal.returns-else-number-len-clause-done
 returns-else-number-len-clause-done g c =
     let s = g.R.NumberedRows.held c.args.rows.now in
     let r = g.R.NumberedRows.held c.text.new.self in
-    let found = at_some (r.no_text × IsUnchanged s r) (λ u. IsTextAt r u × IsHeldAs s.trees r.trees u) c.in_ok-number.field-0 c.in-Some.number c.in-Some.is c.in_ok-number.ensures.made in
-    let known = is_known s.trees r.trees c.in-Some.number found.1 (λ last. c.if-number-len.false (omega (arith, last, c.len.ensures, c.requires.kept.tree_count))) in
+    let known = told_known (r.no_text × IsUnchanged s r) (IsTextAt r) s.trees r.trees c.in_ok-number.field-0 c.in-Some.number c.in-Some.is c.in_ok-number.ensures.made
+    (λ last. c.if-number-len.false (omega (arith, last, c.len.ensures, c.requires.kept.tree_count))) in
     text_known s r c.args.closed.now c.args.most 1 c.in_ok-number.ensures.grows c.requires.kept c.requires.few c.requires.up_to c.args.closed.now
-    refl c.in-Some.number found.0 known.0
+    refl c.in-Some.number known.0 known.1
 
 pub returns-in_default-clause-cause : goal.returns-in_default-clause-cause
 returns-in_default-clause-cause g c = tt
