@@ -24,7 +24,7 @@ use Rattle.tc_run.proofs.BuiltIn.{built_in_children, one_deep, value_same, copy_
 use Rattle.tc_rules.proofs.Counts.{some_move_low, some_move_counted}
 use Rattle.tc_rules.proofs.NothingBelow.{outputs_none}
 use Rattle.tc_run.proofs.Ends.{no_instruction_left, body_end, left_around}
-use Rattle.tc_run.proofs.Handing.{handed, open_deep, counted_within, instructed}
+use Rattle.tc_run.proofs.Handing.{handed, open_deep, counted_deep, counted_long, around_long, counted_within, instructed}
 use Rattle.tc_run.proofs.Hitting.{is_letter, task_is, hit_is, first_going, move_below, going_below, text_missed, text_met, outs_next, missed, met, element_built_in, no_tree_left, spends_none}
 use Rattle.tc_run.proofs.Instructions.{text_seen, self_seen, elem_seen, copy_seen, apply_seen, call_seen, value_of_seen, choose_seen, for_each_seen, elem_part, copy_part, apply_part, call_part, choose_part, for_each_part}
 use Rattle.tc_run.proofs.Loops.{body_begin, body_further, body_fail, hits_begin, hits_further, hits_end, hits_fail}
@@ -723,3 +723,46 @@ apply_to_trees-returns-clause-few t c = c.loop-node.invariant.0.0
 
 pub apply_to_trees-returns-clause-known : goal.apply_to_trees-returns-clause-known
 apply_to_trees-returns-clause-known t c = c.loop-node.invariant.0.1
+
+pub instantiate-returns-in_err-nesting-clause-few : goal.instantiate-returns-in_err-nesting-clause-few
+instantiate-returns-in_err-nesting-clause-few t c = failed c.from_residual.result _ _ c.from_residual.ensures.1
+
+pub instantiate-returns-in_err-nesting-clause-known : goal.instantiate-returns-in_err-nesting-clause-known
+instantiate-returns-in_err-nesting-clause-known t c = c.requires.known
+
+pub instantiate-returns-in_err-nesting-clause-outcome : goal.instantiate-returns-in_err-nesting-clause-outcome
+instantiate-returns-in_err-nesting-clause-outcome t c = λ bodies p hb m.
+    let n = c.args.nesting in
+    let x = c.args.output.now in
+    let e = c.in_err-nesting.field-0.0 in
+    let a = does c.args.runner.now bodies p c.args.here.now in
+    handed n x x c.from_residual.result e (counted a) c.from_residual.ensures.1 (counted_deep n x e a c.in_err-nesting.ensures.err)
+
+pub instantiate-returns-in_err-count-clause-few : goal.instantiate-returns-in_err-count-clause-few
+instantiate-returns-in_err-count-clause-few t c = failed c.from_residual-in_err-count.result _ _ c.from_residual-in_err-count.ensures.1
+
+pub instantiate-returns-in_err-count-clause-known : goal.instantiate-returns-in_err-count-clause-known
+instantiate-returns-in_err-count-clause-known t c = c.requires.known
+
+pub instantiate-returns-in_err-count-clause-outcome : goal.instantiate-returns-in_err-count-clause-outcome
+instantiate-returns-in_err-count-clause-outcome t c = λ bodies p hb m.
+    let n = c.args.nesting in
+    let x = c.args.output.now in
+    let e = c.in_err-count.field-0.0 in
+    let a = does c.args.runner.now bodies p c.args.here.now in
+    handed n x c.count.new.self c.from_residual-in_err-count.result e (counted a) c.from_residual-in_err-count.ensures.1 (counted_long n x e a c.in_err-count.ensures.err)
+
+pub put_element-returns-in_err-before-clause-few : goal.put_element-returns-in_err-before-clause-few
+put_element-returns-in_err-before-clause-few t c = failed c.from_residual.result _ _ c.from_residual.ensures.1
+
+pub put_element-returns-in_err-before-clause-known : goal.put_element-returns-in_err-before-clause-known
+put_element-returns-in_err-before-clause-known t c = c.requires.known
+
+pub put_element-returns-in_err-before-clause-outcome : goal.put_element-returns-in_err-before-clause-outcome
+put_element-returns-in_err-before-clause-outcome t c = λ bodies p hb u.
+    let n = c.args.nesting in
+    let x = c.args.output.now in
+    let name = see.name c.args.name in
+    let e = c.in_err-before.field-0.0 in
+    let a = does c.args.runner.now bodies p c.args.here.now in
+    handed n x c.enter.new.self c.from_residual.result e (put_around name a) c.from_residual.ensures.1 (around_long n x name e a c.in_err-before.ensures.err)
