@@ -1,4 +1,5 @@
-use Rattle.std.proofs.Common.{subst}
+use Rattle.std.proofs.Common.{subst, arith}
+use Rattle.std.proofs.lemmas.Result.{IfOk-from_err}
 use Rattle.tc_model.specs.Chains.{top, whole}
 use Rattle.tc_model.specs.Outcomes.{counted}
 use Rattle.tc_model.specs.Paths.{fits}
@@ -50,3 +51,12 @@ returns-in_err-known-clause-outcome c = λ bodies hb. handed 0 c.args.output.now
 
 pub returns-clause-few : goal.returns-clause-few
 returns-clause-few c = c.instantiate-done.ensures.few
+
+pub returns-in_err-known-clause-few : goal.returns-in_err-known-clause-few
+returns-in_err-known-clause-few c = IfOk-from_err c.from_residual.result _ c.from_residual.ensures.0
+
+pub instantiate-done-requires-clause-nesting : goal.instantiate-done-requires-clause-nesting
+instantiate-done-requires-clause-nesting c = omega arith
+
+pub template_of-rule-requires-clause-runner : goal.template_of-rule-requires-clause-runner
+template_of-rule-requires-clause-runner c = c.requires.runner

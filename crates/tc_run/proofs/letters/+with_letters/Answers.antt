@@ -1,5 +1,6 @@
 use Rattle.std.proofs.Common.{◌≡◌, ◌+◌, ◌++◌, List, ℕ, Bor, drop, ap, ◌∙◌, sym, subst, IsUtf8, rules}
 use Rattle.std.proofs.lemmas.List.{drop_all}
+use Rattle.std.proofs.lemmas.Result.{IfOk-from_err}
 use Rattle.tc_model.specs.Chains.{joined_texts}
 use Rattle.tc_model.specs.Views as see
 use Rattle.tc_model.specs.declared.tree.Node.TheViews.{the_lemmas}
@@ -111,3 +112,52 @@ returns-clause-nodes t c =
     let found = c.loop-node.found.items in
     ap trees c.into_bump_slice.ensures
     ∙ (sym (joined_none (trees found)) ∙ (sym (ap (λ xs. joined (trees found) (lettered_by r (see.trees xs))) (drop_all c.loop-node.node-index c.args.nodes.now c.loop-node-test.false)) ∙ c.loop-node.invariant.lettered))
+
+pub loop-node-init : goal.loop-node-init
+loop-node-init t c =
+    let r = c.args.runner.now in
+    let cut = c.requires.1.1.1.0 in
+    record {
+      lettered = ap (λ xs. joined (trees xs) (lettered_by r (see.trees c.args.nodes.now))) c.in_ok-found.ensures.items;
+      cut = (cut.0, cut.1, cut.1);
+      text = search rules;
+      names = c.requires.1.1.1.1.1.0;
+    }
+
+pub returns-in_err-found-clause-names : goal.returns-in_err-found-clause-names
+returns-in_err-found-clause-names t c = c.requires.1.1.1.1.1.0
+
+pub returns-in_err-found-clause-nodes : goal.returns-in_err-found-clause-nodes
+returns-in_err-found-clause-nodes t c = IfOk-from_err c.from_residual.result _ c.from_residual.ensures.0
+
+pub returns-in_err-found-clause-rest : goal.returns-in_err-found-clause-rest
+returns-in_err-found-clause-rest t c = IfOk-from_err c.from_residual.result _ c.from_residual.ensures.0
+
+pub returns-in_err-below-in-Elem-clause-nodes : goal.returns-in_err-below-in-Elem-clause-nodes
+returns-in_err-below-in-Elem-clause-nodes t c = IfOk-from_err c.from_residual-in_err-below-in-Elem.result _ c.from_residual-in_err-below-in-Elem.ensures.0
+
+pub returns-in_err-below-in-Elem-clause-rest : goal.returns-in_err-below-in-Elem-clause-rest
+returns-in_err-below-in-Elem-clause-rest t c = IfOk-from_err c.from_residual-in_err-below-in-Elem.result _ c.from_residual-in_err-below-in-Elem.ensures.0
+
+pub returns-in_err-push-clause-nodes : goal.returns-in_err-push-clause-nodes
+returns-in_err-push-clause-nodes t c = IfOk-from_err c.from_residual-in_err-push.result _ c.from_residual-in_err-push.ensures.0
+
+pub returns-in_err-push-clause-rest : goal.returns-in_err-push-clause-rest
+returns-in_err-push-clause-rest t c = IfOk-from_err c.from_residual-in_err-push.result _ c.from_residual-in_err-push.ensures.0
+
+pub returns-in_err-below-in-Elem-clause-names : goal.returns-in_err-below-in-Elem-clause-names
+returns-in_err-below-in-Elem-clause-names t c = c.in_err-below-in-Elem.ensures.names
+
+pub returns-in_err-push-clause-names : goal.returns-in_err-push-clause-names
+returns-in_err-push-clause-names t c =
+    let r = c.args.runner.now in
+    elim c.match-node.branch [
+      | in-Text w ↦ subst (AreNamed r.alphabet.now) (sym w.names-is) c.loop-node.invariant.names
+      | in-Elem+in_ok-below-in-Elem w ↦ subst (AreNamed r.alphabet.now) (sym w.names-is) w.lettered_element-tree.ensures.names
+    ]
+
+pub lettered_element-tree-requires-clause-runner : goal.lettered_element-tree-requires-clause-runner
+lettered_element-tree-requires-clause-runner t c = c.requires.1.1.0
+
+pub lettered_element-tree-requires-clause-asked : goal.lettered_element-tree-requires-clause-asked
+lettered_element-tree-requires-clause-asked t c = c.requires.1.1.1.1.1.1

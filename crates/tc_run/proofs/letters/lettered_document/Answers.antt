@@ -1,4 +1,5 @@
 use Rattle.std.proofs.Common.{[], ◌∙◌, sym, append-nil}
+use Rattle.std.proofs.lemmas.Result.{IfOk-from_err}
 use Rattle.tc_model.specs.Chains.{joined_texts}
 use Rattle.tc_model.specs.Views as see
 use Rattle.tc_run.proofs.letters.lettered_document.Goals as goal
@@ -8,3 +9,27 @@ with_letters-document-requires-clause-text c = ([], c.requires.text ∙ sym (app
 
 pub with_letters-document-requires-clause-names : goal.with_letters-document-requires-clause-names
 with_letters-document-requires-clause-names c = c.in_ok-names.ensures c.args.runner.now.alphabet.now
+
+pub returns-in_err-asked : goal.returns-in_err-asked
+returns-in_err-asked c = IfOk-from_err c.from_residual.result _ c.from_residual.ensures.0
+
+pub returns-in_err-names : goal.returns-in_err-names
+returns-in_err-names c = IfOk-from_err c.from_residual-in_err-names.result _ c.from_residual-in_err-names.ensures.0
+
+pub returns-in_err-document : goal.returns-in_err-document
+returns-in_err-document c = IfOk-from_err c.from_residual-in_err-document.result _ c.from_residual-in_err-document.ensures.0
+
+pub marks-on_texts-requires-clause-runner : goal.marks-on_texts-requires-clause-runner
+marks-on_texts-requires-clause-runner c = c.requires.runner
+
+pub marks-on_texts-requires-clause-asked : goal.marks-on_texts-requires-clause-asked
+marks-on_texts-requires-clause-asked c = c.in_ok-asked.ensures
+
+pub with_letters-document-requires-clause-runner : goal.with_letters-document-requires-clause-runner
+with_letters-document-requires-clause-runner c = c.requires.runner
+
+pub with_letters-document-requires-clause-asked : goal.with_letters-document-requires-clause-asked
+with_letters-document-requires-clause-asked c = c.in_ok-asked.ensures
+
+pub returns : goal.returns
+returns c = c.in_ok-document.ensures.nodes

@@ -40,3 +40,9 @@ loop-number-preserved c =
       mark_more (λ p. holds_in (looking r) p (bare (trees c.args.kids.now))) (predicates_by r) c.loop-number.number t c.is_met.result c.loop-number.marks c.from.result
           c.loop-number-test.true there.0 (c.is_met.ensures t (subst (IsAskedBy r t) (sym c.index-asked-number.is) there.1)) c.from.ensures c.loop-number.invariant.1,
     )
+
+pub is_met-requires-clause-runner : goal.is_met-requires-clause-runner
+is_met-requires-clause-runner c = c.requires.runner
+
+pub is_met-requires-clause-kids : goal.is_met-requires-clause-kids
+is_met-requires-clause-kids c = c.requires.kids
