@@ -2,7 +2,7 @@ use Rattle.std.proofs.Common.{is_some, refl, ap, ◌∙◌, sym, subst, rules}
 use Rattle.tc_model.specs.Machine as machine
 use Rattle.tc_model.specs.Views as see
 use Rattle.tc_model.specs.declared.sheet.Test.TheViews.{the_lemmas}
-use Rattle.tc_model.proofs.ViewsPath.{see_has, see_and, see_or}
+use Rattle.tc_model.proofs.ViewsPath.{see_true, see_false, see_has, see_and, see_or}
 use Rattle.tc_run.specs.Lettered as l
 use Rattle.tc_rules.specs.Parts.{IsPartTest}
 use Rattle.tc_run.specs.Running.{looking, sheet_by, symbols_by}
@@ -84,3 +84,9 @@ some_holds-returns-then-holds t c = one_holds (looking c.args.runner.now) (l.bar
 
 pub some_holds-returns : goal.some_holds-returns
 some_holds-returns t c = all_failed (looking c.args.runner.now) (l.bare (trees c.args.kids.now)) c.args.tests.now c.loop-test.test-index _ c.loop-test-test.false c.loop-test.invariant.1
+
+pub holds-returns-in-True : goal.holds-returns-in-True
+holds-returns-in-True t c = sym (ap (λ w. machine.holds_in (looking c.args.runner.now) w (l.bare (trees c.args.kids.now))) (ap see.test c.in-True.is ∙ see_true))
+
+pub holds-returns-in-False : goal.holds-returns-in-False
+holds-returns-in-False t c = sym (ap (λ w. machine.holds_in (looking c.args.runner.now) w (l.bare (trees c.args.kids.now))) (ap see.test c.in-False.is ∙ see_false))
