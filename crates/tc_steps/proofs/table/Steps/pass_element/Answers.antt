@@ -12,3 +12,24 @@ returns-clause-led c = λ x n m kids inside f known is ended led.
     let at = slice_get_read cs _ c.args.symbol.0 c.index.result.now refl low c.index.ensures in
     let (allowed, firsts) = class_of x c.args.self.now.alphabet.now cs c.args.symbol.0 c.index.result.now f.classes_are at known m is in
     c.pass_element.ensures.led x n m kids inside f.stands allowed ended led
+
+pub index-requires : goal.index-requires
+index-requires c = omega (arith, c.requires.symbol, c.args.self.now.counted)
+
+pub pass_element-requires-clause-numbers : goal.pass_element-requires-clause-numbers
+pass_element-requires-clause-numbers c =
+    let low : c.args.symbol.0 < length c.args.self.now.classes.items = omega (arith, c.requires.symbol, c.args.self.now.counted) in
+    let at = slice_get_read c.args.self.now.classes.items _ c.args.symbol.0 c.index.result.now refl low c.index.ensures in
+    (c.args.self.now.sized c.args.symbol.0 c.index.result.now at).numbers
+
+pub pass_element-requires-clause-ends : goal.pass_element-requires-clause-ends
+pass_element-requires-clause-ends c = c.requires.ends
+
+pub pass_element-requires-clause-size : goal.pass_element-requires-clause-size
+pass_element-requires-clause-size c = c.requires.size
+
+pub pass_element-requires-clause-next : goal.pass_element-requires-clause-next
+pass_element-requires-clause-next c = c.args.self.now.next_sized
+
+pub returns-clause-size : goal.returns-clause-size
+returns-clause-size c = c.pass_element.ensures.size
