@@ -13,3 +13,6 @@ add_loops-requires-clause-numbers c = c.requires.numbers
 
 pub returns-in_err-add_loops : goal.returns-in_err-add_loops
 returns-in_err-add_loops c = failed_on c.from_residual.result _ _ c.from_residual.ensures.1
+
+pub index-requires : goal.index-requires
+index-requires c = omega (arith, c.requires.within, c.args.table.now.patterns.ok.0)

@@ -1,5 +1,5 @@
 use Rattle.tc_simple.proofs.Answered.{failed_ok}
-use Rattle.std.proofs.Common.{◌≡◌, ◌∙◌, ◌<◌, ℕ, List, ap, arith, length, map, subst, slice_index}
+use Rattle.std.proofs.Common.{◌≡◌, ◌∙◌, ◌<◌, ℕ, List, ap, arith, length, map, subst, slice_index, sym}
 use Rattle.tc_simple.specs.Nodes.{see_element}
 use Rattle.tc_simple.specs.Orders.{AreMade, PutsPattern}
 use Rattle.tc_simple.proofs.Ordered.{puts_pattern_length, made_step}
@@ -40,3 +40,13 @@ put_pattern-requires-clause-few c = c.requires.few
 
 pub returns-in_err-put_pattern : goal.returns-in_err-put_pattern
 returns-in_err-put_pattern c = failed_ok c.from_residual-in_err-put_pattern.result _ _ c.from_residual-in_err-put_pattern.ensures.1
+
+pub returns-in_err-made : goal.returns-in_err-made
+returns-in_err-made c = failed_ok c.from_residual.result _ _ c.from_residual.ensures.1
+
+pub put_pattern-requires-clause-within : goal.put_pattern-requires-clause-within
+put_pattern-requires-clause-within c =
+    let order = c.args.walk.now.order.items in
+    let i = c.loop-number.number-index in
+    let small : i < length order = subst (λ (z : List ℕ). i < length z) c.deref-number-items.ensures.value c.loop-number-test.true in
+    subst (λ (z : List ℕ). slice_index z i < length c.args.table.now.patterns.items) (sym c.deref-number-items.ensures.value) (c.requires.order i 0 small)

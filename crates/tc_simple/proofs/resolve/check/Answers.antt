@@ -5,6 +5,7 @@ use Rattle.tc_rnc.specs.Views.{syntax}
 use Rattle.tc_simple.specs.Nodes.{HasNumbersBelow, IsFirstLoop, StartsBadly, StartsWell}
 use Rattle.tc_simple.specs.Places.{maybe_place}
 use Rattle.tc_model.specs.SimplifiesParts.{definitions_of}
+use Rattle.tc_simple.proofs.Answered.{failed_on}
 use Rattle.tc_simple.proofs.Checked.{count_links, first_exists, numbers_below, start_within}
 use Rattle.tc_simple.proofs.Resolving.{badly_is, first_is_loop, none_is_loop, well_is}
 use Rattle.tc_simple.proofs.resolve.check.Goals as goal
@@ -73,3 +74,24 @@ returns-clause-err c =
       badly_is s t c.requires.resolves.table c.args.start c.requires.resolves.begins c.in_ok-below.below.items c.in_ok-below.ensures (place c.start_place.result)
           (subst (λ (m : List Bool). StartsBadly t m) c.deref.ensures.value c.if-starts.ensures) (e ∙ ap Some (sym (c.start_place.ensures first e))),
     )
+
+pub returns-in_err-place-clause-ok : goal.returns-in_err-place-clause-ok
+returns-in_err-place-clause-ok c = failed_on c.from_residual.result _ _ c.from_residual.ensures.1
+
+pub returns-in_err-below-clause-ok : goal.returns-in_err-below-clause-ok
+returns-in_err-below-clause-ok c = failed_on c.from_residual-in_err-below.result _ _ c.from_residual-in_err-below.ensures.1
+
+pub returns-in-Some-clause-ok : goal.returns-in-Some-clause-ok
+returns-in-Some-clause-ok c = tt
+
+pub returns-in-Some-bad_except-clause-ok : goal.returns-in-Some-bad_except-clause-ok
+returns-in-Some-bad_except-clause-ok c = tt
+
+pub returns-then-starts-clause-err : goal.returns-then-starts-clause-err
+returns-then-starts-clause-err c = tt
+
+pub returns-clause-ok : goal.returns-clause-ok
+returns-clause-ok c = tt
+
+pub starts_well-starts-requires : goal.starts_well-starts-requires
+starts_well-starts-requires c = ap (λ (m : List Bool). length m) c.deref.ensures.value ∙ (c.in_ok-below.ensures.size ∙ count_links c.args.table.now false)
