@@ -10,3 +10,6 @@ returns-then-count-word-clause-told c place bytes =
     let all : length (scan.word_of setting) ≤ c.args.count = omega (arith, ap length c.word-word.ensures.word, c.if-count-word.true) in
     let none : left_of c.args.setting c.args.count ≡ [] = drop_none c.args.count (scan.word_of setting) all in
     subst (λ left. TellsDeclared c.next_behind_word.result (scan.declared_next (scan.in_word setting left c.args.at) place c.args.next bytes)) (sym none) (c.next_behind_word.ensures.told place bytes)
+
+pub returns-then-count-word-clause-place : goal.returns-then-count-word-clause-place
+returns-then-count-word-clause-place c = c.next_behind_word.ensures.place

@@ -51,3 +51,15 @@ returns-clause-ok c = λ x chars at r. c.take_cut.ensures.ok x chars (omega (ari
 
 pub returns-clause-fault : goal.returns-clause-fault
 returns-clause-fault c = λ x chars at r. c.take_cut.ensures.fault x chars (omega (arith, at, ap length c.bytes.ensures)) r
+
+pub returns-then-known-eq0-clause-ready : goal.returns-then-known-eq0-clause-ready
+returns-then-known-eq0-clause-ready c = c.take_whole.ensures.ready
+
+pub returns-then-known-eq0-clause-short : goal.returns-then-known-eq0-clause-short
+returns-then-known-eq0-clause-short c = c.take_whole.ensures.short
+
+pub returns-clause-ready : goal.returns-clause-ready
+returns-clause-ready c = c.take_cut.ensures.ready
+
+pub returns-clause-short : goal.returns-clause-short
+returns-clause-short c = c.take_cut.ensures.short

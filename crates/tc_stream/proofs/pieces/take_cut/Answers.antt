@@ -85,3 +85,36 @@ pub returns-in-Whole-clause-kept : goal.returns-in-Whole-clause-kept
 returns-in-Whole-clause-kept c =
     if_err c.take_joined.result (λ _. length (cut_bytes c.take_joined.new.cut) ≤ length (cut_bytes c.args.cut.now))
     (λ e is. let none = at_err c.take_joined.result (λ _. cut_bytes c.take_joined.new.cut ≡ []) e is c.take_joined.ensures.none in omega (arith, ap length none))
+
+pub returns-in-Whole-clause-ready : goal.returns-in-Whole-clause-ready
+returns-in-Whole-clause-ready c = c.take_joined.ensures.ready
+
+pub returns-in-Whole-clause-short : goal.returns-in-Whole-clause-short
+returns-in-Whole-clause-short c = c.take_joined.ensures.short
+
+pub returns-in-Short-clause-ready : goal.returns-in-Short-clause-ready
+returns-in-Short-clause-ready c = c.requires.ready
+
+pub returns-in-Short-clause-kept : goal.returns-in-Short-clause-kept
+returns-in-Short-clause-kept c = tt
+
+pub returns-in-Short-clause-fault : goal.returns-in-Short-clause-fault
+returns-in-Short-clause-fault c = λ _ _ _ _. tt
+
+pub returns-in-Bad-clause-ready : goal.returns-in-Bad-clause-ready
+returns-in-Bad-clause-ready c = tt
+
+pub returns-in-Bad-clause-kept : goal.returns-in-Bad-clause-kept
+returns-in-Bad-clause-kept c = omega arith
+
+pub returns-in-Bad-clause-ok : goal.returns-in-Bad-clause-ok
+returns-in-Bad-clause-ok c = λ _ _ _ _. tt
+
+pub returns-in-Bad-clause-within : goal.returns-in-Bad-clause-within
+returns-in-Bad-clause-within c = omega arith
+
+pub returns-in-Bad-clause-short : goal.returns-in-Bad-clause-short
+returns-in-Bad-clause-short c = c.requires.short
+
+pub take_joined-requires-clause-ready : goal.take_joined-requires-clause-ready
+take_joined-requires-clause-ready c = c.requires.ready

@@ -5,6 +5,7 @@ use Rattle.tc_stream.specs.Faults.{IsFaultOfFront}
 use Rattle.tc_stream.specs.Pieces.{ReadsPiece}
 use Rattle.tc_stream.proofs.PieceLaws.{front_split, front_within, no_char_behind, read_text, rest_low, text_fault}
 use Rattle.tc_stream.proofs.TagReads.{failed}
+use Rattle.tc_stream.proofs.FailedLaws.{failed_ok}
 use Rattle.tc_stream.proofs.pieces.take_whole.Goals as goal
 
 pub overflow_cast-end : goal.overflow_cast-end
@@ -56,3 +57,24 @@ returns-clause-fault c = λ x chars at r.
     subst (λ z. IfErr c.take_behind.result (λ e. IsFaultOfFront z e)) (front_split bytes text chars (length text) c.characters-text.ensures refl)
     (c.take_behind.ensures.fault x (chars ++ text) (omega (arith, long, length-append chars text)) (no_char_behind bytes text (length text) c.characters-text.ensures refl)
     (read_text x c.args.reader.now c.read_all.new.self text chars (c.args.at + length text) c.in_ok-read_all.ensures.ok c.characters-text.ensures.characters long r))
+
+pub returns-in_err-read_all-clause-ready : goal.returns-in_err-read_all-clause-ready
+returns-in_err-read_all-clause-ready c = failed_ok _ _ _ c.from_residual.ensures.1
+
+pub returns-in_err-read_all-clause-ok : goal.returns-in_err-read_all-clause-ok
+returns-in_err-read_all-clause-ok c = λ _ _ _ _. failed_ok _ _ _ c.from_residual.ensures.1
+
+pub returns-clause-ready : goal.returns-clause-ready
+returns-clause-ready c = c.take_behind.ensures.ready
+
+pub returns-clause-short : goal.returns-clause-short
+returns-clause-short c = c.take_behind.ensures.short
+
+pub returns-clause-none : goal.returns-clause-none
+returns-clause-none c = c.take_behind.ensures.none
+
+pub read_all-requires-clause-ready : goal.read_all-requires-clause-ready
+read_all-requires-clause-ready c = c.requires.ready
+
+pub take_behind-requires-clause-none : goal.take_behind-requires-clause-none
+take_behind-requires-clause-none c = c.requires.none

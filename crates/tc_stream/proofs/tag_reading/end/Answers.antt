@@ -15,3 +15,12 @@ pub returns-in-Err-clause-fault : goal.returns-in-Err-clause-fault
 returns-in-Err-clause-fault c = λ x chars w t some.
     whole_end_fault t w c.requires.short some c.in-Err.stop c.fault_of.result c.fault_of.ensures
     (λ l os scope k. c.in-Err.ensures.told l.written.name c.name.result.now (c.name.ensures.named l os scope k) refl)
+
+pub returns-in-Ok-clause-fault : goal.returns-in-Ok-clause-fault
+returns-in-Ok-clause-fault c = λ x chars w t some. tt
+
+pub returns-in-Err-clause-ready : goal.returns-in-Err-clause-ready
+returns-in-Err-clause-ready c = tt
+
+pub returns-in-Err-clause-ok : goal.returns-in-Err-clause-ok
+returns-in-Err-clause-ok c = λ _ _ _ _ _. tt

@@ -13,3 +13,15 @@ returns-in-Err-clause-fault c = λ x chars w t.
     let (e, read, written) = c.requires.written in
     no_start_fault t c.args.form.now e c.requires.short (has_room c.args.elements.now t.keeps c.requires.room) read c.in-Err.reason c.no_element_fault.result
     (c.in-Err.ensures.no e t.ls t.scope read written t.item_chars t.keeps) c.no_element_fault.ensures
+
+pub returns-in-Ok-clause-ready : goal.returns-in-Ok-clause-ready
+returns-in-Ok-clause-ready c = c.in-Ok.ensures.ready
+
+pub returns-in-Ok-clause-fault : goal.returns-in-Ok-clause-fault
+returns-in-Ok-clause-fault c = λ _ _ _ _. tt
+
+pub returns-in-Err-clause-ready : goal.returns-in-Err-clause-ready
+returns-in-Err-clause-ready c = tt
+
+pub returns-in-Err-clause-ok : goal.returns-in-Err-clause-ok
+returns-in-Err-clause-ok c = λ _ _ _ _. tt

@@ -15,3 +15,6 @@ returns-clause-bytes c =
       both.0 ∙ ap (λ w. take most (old ++ w)) c.as_bytes-bytes.ensures.value,
       subst (λ w. most < length (old ++ w)) c.as_bytes-bytes.ensures.value both.1,
     )
+
+pub returns-then-push_all-clause-most : goal.returns-then-push_all-clause-most
+returns-then-push_all-clause-most c = c.if-push_all.ensures.most

@@ -35,3 +35,24 @@ returns-in-Err-clause-fault c = λ x chars w t.
       refused = c.in-Err.ensures.refused;
       missing = c.in-Err.ensures.missing;
     })
+
+pub returns-then-is_full-clause-ready : goal.returns-then-is_full-clause-ready
+returns-then-is_full-clause-ready c = tt
+
+pub returns-then-is_full-clause-ok : goal.returns-then-is_full-clause-ok
+returns-then-is_full-clause-ok c = λ _ _ _ _. tt
+
+pub returns-in-Ok-clause-ready : goal.returns-in-Ok-clause-ready
+returns-in-Ok-clause-ready c = c.enter.ensures.ready
+
+pub returns-in-Err-clause-ready : goal.returns-in-Err-clause-ready
+returns-in-Err-clause-ready c = tt
+
+pub returns-in-Err-clause-ok : goal.returns-in-Err-clause-ok
+returns-in-Err-clause-ok c = λ _ _ _ _. tt
+
+pub enter-requires-clause-short : goal.enter-requires-clause-short
+enter-requires-clause-short c = c.requires.short
+
+pub enter-requires-clause-written : goal.enter-requires-clause-written
+enter-requires-clause-written c = c.in-Ok.ensures.ok

@@ -15,3 +15,6 @@ returns-in-None-clause-missing c = λ chars.
     let text = c.args.text.now in
     let may = c.may_begin_name.result in
     broken_map c.stopped.result (IsFalse may) (NoName text) (λ h. name_missing may text c.may_begin_name.ensures h chars c.in-None.ensures) c.stopped.ensures.broken
+
+pub returns-in-None-clause-ok : goal.returns-in-None-clause-ok
+returns-in-None-clause-ok c = tt

@@ -62,3 +62,9 @@ returns c =
     let none = c.loop-at-test.false in
     not_found c.args.self tag names ds c.args.attribute.now p seen c.in-Some.ensures
     (miss (λ b. has_parts p (parts c.args.self tag names ds b)) seen c.args.chains.now.chains (chain_of p.0 p.1) blank c.loop-at.at c.loop-at.invariant (omega (arith, none)))
+
+pub name-requires : goal.name-requires
+name-requires c = c.requires.scopes
+
+pub has-requires : goal.has-requires
+has-requires c = c.requires.scopes

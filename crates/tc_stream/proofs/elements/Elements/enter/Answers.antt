@@ -88,3 +88,18 @@ returns-clause-enters c = λ e ls outer r are chars k.
           c.in-Some-step_into.ensures.levels (tag_open n u into.meant c.requires.depth) texts;
       steps = λ x run w. steps_entered x c.step_into.new.self.validity e n outer run ls (into.steps x (path_of ls) run w);
     }
+
+pub returns-in_default-clause-ready : goal.returns-in_default-clause-ready
+returns-in_default-clause-ready c = tt
+
+pub returns-in_default-clause-enters : goal.returns-in_default-clause-enters
+returns-in_default-clause-enters c = tt
+
+pub returns-in_default-step_into-clause-ready : goal.returns-in_default-step_into-clause-ready
+returns-in_default-step_into-clause-ready c = tt
+
+pub returns-in_default-step_into-clause-enters : goal.returns-in_default-step_into-clause-enters
+returns-in_default-step_into-clause-enters c = tt
+
+pub returns-clause-no : goal.returns-clause-no
+returns-clause-no c = tt

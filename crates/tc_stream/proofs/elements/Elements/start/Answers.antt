@@ -53,3 +53,9 @@ returns-clause-starts c = λ e ls outer r are chars k.
           let on = subst (λ z. AreSteps x c.args.self.now.validity z run → AreSteps x c.enter.new.self.validity (l ∷ with_text run z) []) none (o.steps x run) in
           c.end.ensures.valid x l [] (on w) (omega (arith, many, root));
     }
+
+pub returns-then-not-form-clause-no : goal.returns-then-not-form-clause-no
+returns-then-not-form-clause-no c = tt
+
+pub returns-clause-no : goal.returns-clause-no
+returns-clause-no c = tt

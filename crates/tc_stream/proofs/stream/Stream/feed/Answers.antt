@@ -44,3 +44,18 @@ returns-in-None-clause-none c =
 
 pub returns-in-None-clause-again : goal.returns-in-None-clause-again
 returns-in-None-clause-again c = λ e is. absurd (some_fault (sym is ∙ c.in-None.is))
+
+pub returns-in-Some-clause-ok : goal.returns-in-Some-clause-ok
+returns-in-Some-clause-ok c = tt
+
+pub returns-in-Some-clause-fed_ok : goal.returns-in-Some-clause-fed_ok
+returns-in-Some-clause-fed_ok c = tt
+
+pub returns-in-None-clause-kept : goal.returns-in-None-clause-kept
+returns-in-None-clause-kept c = c.advance.ensures.kept
+
+pub returns-in-None-clause-fed_ok : goal.returns-in-None-clause-fed_ok
+returns-in-None-clause-fed_ok c = c.advance.ensures.fed_ok
+
+pub returns-in-None-clause-fed_err : goal.returns-in-None-clause-fed_err
+returns-in-None-clause-fed_err c = c.advance.ensures.fed_err

@@ -57,3 +57,6 @@ returns-clause-refused c = λ x text cause place s refuses within.
 
 pub returns-clause-again : goal.returns-clause-again
 returns-clause-again c = λ e is. absurd (some_fault (sym is ∙ c.in-None.is))
+
+pub returns-in-Some-clause-ok : goal.returns-in-Some-clause-ok
+returns-in-Some-clause-ok c = tt
