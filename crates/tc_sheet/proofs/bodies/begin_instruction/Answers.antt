@@ -81,3 +81,6 @@ returns-in-CopyOf-clause-ok c = begun c.args.element.now c.args.instruction _ c.
 
 pub returns-in-CopyOf-clause-no : goal.returns-in-CopyOf-clause-no
 returns-in-CopyOf-clause-no c = refused c.args.element.now c.args.instruction _ c.copy_of.result c.in-CopyOf.is c.copy_of.ensures.no
+
+pub returns-in-Attribute-clause-no : goal.returns-in-Attribute-clause-no
+returns-in-Attribute-clause-no c = tt

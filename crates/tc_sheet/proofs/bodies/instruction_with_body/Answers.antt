@@ -17,3 +17,15 @@ returns-in-ForEach-clause-ok c = λ rest. see_for_each c.in-ForEach.path c.args.
 
 pub returns-in_ok-branch-in-If-clause-ok : goal.returns-in_ok-branch-in-If-clause-ok
 returns-in_ok-branch-in-If-clause-ok c = λ rest. if_made c.from_ref.result _ _ _ c.from_ref.ensures.value c.in_ok-branch-in-If.ensures refl rest ∙ ap (λ (h : Head). around_seen h (body c.args.inner.now) rest) (sym c.in-If.is)
+
+pub returns-in-Element-clause-no : goal.returns-in-Element-clause-no
+returns-in-Element-clause-no c = tt
+
+pub returns-in-Copy-clause-no : goal.returns-in-Copy-clause-no
+returns-in-Copy-clause-no c = tt
+
+pub returns-in-ForEach-clause-no : goal.returns-in-ForEach-clause-no
+returns-in-ForEach-clause-no c = tt
+
+pub returns-in_ok-branch-in-If-clause-no : goal.returns-in_ok-branch-in-If-clause-no
+returns-in_ok-branch-in-If-clause-no c = tt

@@ -75,3 +75,12 @@ returns-clause-no_loop c =
     c.in_ok-walk.walk.states.items c.in_ok-walk.walk.order.items c.in_ok-walk.ensures
     c.into_bump_slice-calls.result.now (ap (map call) c.into_bump_slice-calls.ensures ∙ flat_end (calls_from names) ts k (map call c.loop-template.calls.items) _ c.loop-template-test.false c.loop-template.invariant.put)
     c.in-None.ensures
+
+pub returns-in-Some-clause-defined : goal.returns-in-Some-clause-defined
+returns-in-Some-clause-defined c = tt
+
+pub returns-in-Some-clause-no_loop : goal.returns-in-Some-clause-no_loop
+returns-in-Some-clause-no_loop c = tt
+
+pub returns-clause-no : goal.returns-clause-no
+returns-clause-no c = tt

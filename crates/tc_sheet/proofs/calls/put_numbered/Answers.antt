@@ -48,3 +48,6 @@ returns-in_err-callee-clause-put c = no_value c.from_residual.result _ _ c.from_
 
 pub returns-in_err-callee-clause-first : goal.returns-in_err-callee-clause-first
 returns-in_err-callee-clause-first c = no_value c.from_residual.result _ _ c.from_residual.ensures.1
+
+pub returns-clause-no : goal.returns-clause-no
+returns-clause-no c = tt

@@ -12,3 +12,6 @@ pub returns-clause-ok : goal.returns-clause-ok
 returns-clause-ok c =
     let from = rule_from c.args.mode (see.body c.args.body.now) in
     c.loop-alternative.invariant ∙ ap (λ z. map see.rule c.args.rules.now.items ++ map from (map alternative z)) (take_all c.loop-alternative.alternative-index c.args.template.now.alternatives.now c.loop-alternative-test.false)
+
+pub returns-clause-no : goal.returns-clause-no
+returns-clause-no c = tt

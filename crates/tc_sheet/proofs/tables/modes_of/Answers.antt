@@ -17,3 +17,6 @@ loop-template-preserved c =
 
 pub returns-clause-ok : goal.returns-clause-ok
 returns-clause-ok c = modes_done c.args.templates.now c.loop-template.template-index (names_seen c.loop-template.modes) _ c.loop-template-test.false c.loop-template.invariant
+
+pub returns-clause-no : goal.returns-clause-no
+returns-clause-no c = tt

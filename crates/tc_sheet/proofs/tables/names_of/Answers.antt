@@ -7,6 +7,7 @@ use Rattle.tc_model.specs.Names.{same_name}
 use Rattle.tc_model.specs.SheetTextTrees.{Template}
 use Rattle.tc_model.specs.SheetText as model
 use Rattle.tc_sheet.proofs.TableKeys.{again_twice, flat_end, flat_step, handed, distinct_nothing, no_keys}
+use Rattle.tc_sheet.proofs.Passed.{no_value}
 use Rattle.tc_sheet.proofs.tables.names_of.Goals as goal
 
 pub loop-template-init : goal.loop-template-init
@@ -39,3 +40,9 @@ returns-clause-once c =
 
 pub returns-clause-ok : goal.returns-clause-ok
 returns-clause-ok c = flat_end (λ (t : Template). model.one_name t.name) c.args.templates.now c.loop-template.template-index (names_seen c.loop-template.names) _ c.loop-template-test.false c.loop-template.invariant.names
+
+pub returns-in_err-put_name-clause-ok : goal.returns-in_err-put_name-clause-ok
+returns-in_err-put_name-clause-ok c = no_value c.from_residual-in_err-put_name.result _ _ c.from_residual-in_err-put_name.ensures.1
+
+pub returns-clause-no : goal.returns-clause-no
+returns-clause-no c = tt

@@ -24,3 +24,18 @@ returns-clause-ok c = top_other c.args.element.now c.if-is_xslt.ensures c.if-is_
 
 pub returns-in_err-template-clause-ok : goal.returns-in_err-template-clause-ok
 returns-in_err-template-clause-ok c = no_value c.from_residual.result _ _ c.from_residual.ensures.1
+
+pub returns-then-is_xsl-clause-no : goal.returns-then-is_xsl-clause-no
+returns-then-is_xsl-clause-no c = tt
+
+pub returns-then-is_declaration-clause-no : goal.returns-then-is_declaration-clause-no
+returns-then-is_declaration-clause-no c = tt
+
+pub returns-then-is_xslt-clause-ok : goal.returns-then-is_xslt-clause-ok
+returns-then-is_xslt-clause-ok c = tt
+
+pub returns-then-is_bare-clause-ok : goal.returns-then-is_bare-clause-ok
+returns-then-is_bare-clause-ok c = tt
+
+pub returns-clause-no : goal.returns-clause-no
+returns-clause-no c = tt

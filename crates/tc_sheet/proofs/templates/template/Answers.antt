@@ -81,3 +81,9 @@ returns-in_err-body-clause-ok c = no_value c.from_residual-in_err-body.result _ 
 
 pub returns-in_err-alternatives-clause-ok : goal.returns-in_err-alternatives-clause-ok
 returns-in_err-alternatives-clause-ok c = no_value c.from_residual-in_err-alternatives.result _ _ c.from_residual-in_err-alternatives.ensures.1
+
+pub returns-then-not-is_complete-clause-ok : goal.returns-then-not-is_complete-clause-ok
+returns-then-not-is_complete-clause-ok c = tt
+
+pub returns-clause-no : goal.returns-clause-no
+returns-clause-no c = tt

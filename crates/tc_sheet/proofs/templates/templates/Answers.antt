@@ -25,3 +25,6 @@ returns-clause-ok c = top_ends c.loop-kid.invariant (at_drop_all raw_trees c.arg
 
 pub returns-in_err-read-clause-ok : goal.returns-in_err-read-clause-ok
 returns-in_err-read-clause-ok c = no_value c.from_residual.result _ _ c.from_residual.ensures.1
+
+pub returns-clause-no : goal.returns-clause-no
+returns-clause-no c = tt

@@ -40,3 +40,6 @@ pub returns-clause-ok : goal.returns-clause-ok
 returns-clause-ok c =
     whole c.args.alternatives.now c.loop-alternative.alternative-index c.args.priority _ c.in-Some.priority c.loop-alternative.changed.items _ c.loop-alternative-test.false (search (rules, to_z-of_z)) c.in-Some.is
     c.into_bump_slice.ensures c.loop-alternative.invariant
+
+pub returns-clause-no : goal.returns-clause-no
+returns-clause-no c = tt
