@@ -4,3 +4,4 @@ pub mod Reaching
 pub mod ClassLaws
 pub mod OpenLaws
 pub mod ValidLaws
+pub mod FailedLaws
