@@ -174,8 +174,9 @@ module _ (s : Syntax) (t : Table) (start : ℕ) (marks : List Bool) (states : Li
         let (c, done, small) = state_of s t start marks states order r start p got in
         let (q, b, k) = are start c p ((r.reach.exact start).1 (inl refl)) done small got in
         let all = elements_reached s t start marks states order r es (λ e h. h) in
-        let (ps, rest, i, j) = total_so es (get_or sizes start leaf) (pattern_nodes q) (pattern_depth q) all k.nodes k.depth in (
-          record { start = q; elements = ps },
+        let (ps, rest, i, j) = total_so es (get_or sizes start leaf) (pattern_nodes q) (pattern_depth q) all k.nodes k.depth in
+        let grammar : Grammar = record { start = q; elements = ps } in (
+          grammar,
           record {
             numbered = es;
             start = see.pattern p;
@@ -187,8 +188,8 @@ module _ (s : Syntax) (t : Table) (start : ℕ) (marks : List Bool) (states : Li
             start_becomes = b;
             elements_become = rest;
           },
-          ap (λ y. y.nodes) is ∙ i,
-          ap (λ y. y.depth) is ∙ j,
+          ◌∙◌ {c = capped (grammar_nodes grammar)} (ap (λ y. y.nodes) is) i,
+          ◌∙◌ {c = capped (grammar_depth grammar)} (ap (λ y. y.depth) is) j,
           counted rest,
         )
       where
