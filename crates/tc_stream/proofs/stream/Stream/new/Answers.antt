@@ -1,4 +1,5 @@
 use Rattle.std.proofs.Common.{[], inl, refl, sym}
+use Rattle.tc_stream.proofs.FailedLaws.{no_value}
 use Rattle.tc_stream.proofs.stream.Stream.new.Goals as goal
 
 pub returns-clause-stands : goal.returns-clause-stands
@@ -11,3 +12,9 @@ returns-clause-stands c = λ x other sheet st start same. record {
   parts_are = sym c.none.ensures.bytes;
   cut_off = inl c.none.ensures.bytes;
 }
+
+pub returns-in_err-reader-clause-none : goal.returns-in_err-reader-clause-none
+returns-in_err-reader-clause-none c = no_value c.from_residual.result _ _ c.from_residual.ensures.1
+
+pub returns-in_err-reader-clause-stands : goal.returns-in_err-reader-clause-stands
+returns-in_err-reader-clause-stands c = no_value c.from_residual.result _ _ c.from_residual.ensures.1
