@@ -8,6 +8,7 @@ use Rattle.tc_simple.specs.Becoming.{around, becomes, made_in}
 use Rattle.tc_simple.specs.Nodes.{see_element}
 use Rattle.tc_simple.proofs.Made.{made_so, patterns_end, patterns_more}
 use Rattle.tc_simple.proofs.Below.{among_becomes, around_becomes, empty_becomes}
+use Rattle.tc_simple.proofs.Answered.{failed_ok}
 use Rattle.tc_simple.proofs.becomes.+made.Goals as goal
 
 pub patterns-loop-one-preserved : goal.patterns-loop-one-preserved
@@ -49,3 +50,15 @@ pattern-returns-in_ok-parts-in-Group t c =
     let f = made_in c.args.table.now c.args.made.now in
     let es = map see_element c.args.elements.now in
     c.among.ensures ∙ among_becomes f es c.args.syntax.now c.in-Group.ps (seen.patterns c.in_ok-parts-in-Group.parts.now) c.in-Group.is c.in_ok-parts-in-Group.ensures
+
+pub pattern-returns-in_err-parts-in-Group : goal.pattern-returns-in_err-parts-in-Group
+pattern-returns-in_err-parts-in-Group t c = failed_ok c.from_residual.result _ _ c.from_residual.ensures.1
+
+pub pattern-returns-in_err-part-in-Mixed : goal.pattern-returns-in_err-part-in-Mixed
+pattern-returns-in_err-part-in-Mixed t c = failed_ok c.from_residual-in_err-part-in-Mixed.result _ _ c.from_residual-in_err-part-in-Mixed.ensures.1
+
+pub patterns-returns-in_err-p : goal.patterns-returns-in_err-p
+patterns-returns-in_err-p t c = failed_ok c.from_residual.result _ _ c.from_residual.ensures.1
+
+pub patterns-returns-in_err-push : goal.patterns-returns-in_err-push
+patterns-returns-in_err-push t c = failed_ok c.from_residual-in_err-push.result _ _ c.from_residual-in_err-push.ensures.1

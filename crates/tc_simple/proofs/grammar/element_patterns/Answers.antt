@@ -24,3 +24,9 @@ pub returns : goal.returns
 returns c =
     ap (map element_pattern) c.into_bump_slice.ensures
     ∙ (c.loop-element.invariant ∙ ap (λ (es : List Elem). element_patterns_of c.args.table.now c.args.made.now (map see_element c.args.elements.now) (map see_element es)) (take_all c.loop-element.element-index c.args.elements.now c.loop-element-test.false))
+
+pub element_pattern-requires-clause-few : goal.element_pattern-requires-clause-few
+element_pattern-requires-clause-few c = c.requires.few
+
+pub element_pattern-requires-clause-numbers : goal.element_pattern-requires-clause-numbers
+element_pattern-requires-clause-numbers c = c.requires.numbers

@@ -1,6 +1,7 @@
 use Rattle.std.proofs.Common.{◌≡◌, ◌∙◌, ◌<◌, ℕ, List, ap, arith, length, subst, slice_index}
 use Rattle.tc_simple.specs.Orders.{AreSized, PutsSize}
 use Rattle.tc_simple.proofs.Ordered.{puts_size_length, size_step}
+use Rattle.tc_simple.proofs.Answered.{failed_ok}
 use Rattle.tc_simple.proofs.order.all_sizes.Goals as goal
 
 pub loop-number-preserved : goal.loop-number-preserved
@@ -31,3 +32,6 @@ put_size-requires-clause-sizes c = c.loop-number.invariant.size
 
 pub put_size-requires-clause-numbers : goal.put_size-requires-clause-numbers
 put_size-requires-clause-numbers c = c.requires.numbers
+
+pub returns-in_err-sizes : goal.returns-in_err-sizes
+returns-in_err-sizes c = failed_ok c.from_residual.result _ _ c.from_residual.ensures.1

@@ -2,6 +2,7 @@ use Rattle.std.proofs.Common.{◌∙◌, ℕ, List, ap, cond, Bool, refl, Some, 
 use Rattle.std.proofs.lemmas.Map.Text.{btree_map_updates_str}
 use Rattle.tc_simple.specs.Gathered.{number_in}
 use Rattle.tc_simple.proofs.Gathering.{same_bytes}
+use Rattle.tc_simple.proofs.Answered.{failed_on}
 use Rattle.tc_simple.proofs.groups.Gathered.begin.Goals as goal
 
 pub returns : goal.returns
@@ -16,3 +17,12 @@ returns c =
       others = λ n e. all n ∙ ap (λ b. choice b n) e;
       first = refl;
     }
+
+pub returns-in_err-group : goal.returns-in_err-group
+returns-in_err-group c = failed_on c.from_residual.result _ _ c.from_residual.ensures.1
+
+pub returns-in_err-push : goal.returns-in_err-push
+returns-in_err-push c = failed_on c.from_residual-in_err-push.result _ _ c.from_residual-in_err-push.ensures.1
+
+pub returns-in_err-insert : goal.returns-in_err-insert
+returns-in_err-insert c = failed_on c.from_residual-in_err-insert.result _ _ c.from_residual-in_err-insert.ensures.1
