@@ -1,4 +1,5 @@
-use Rattle.std.proofs.Common.{◌<◌, ◌-◌, [], arith, length, refl}
+use Rattle.std.proofs.Common.{◌<◌, ◌-◌, ◌∙◌, [], arith, length, refl}
+use Rattle.std.proofs.lemmas.List.{length-set}
 use Rattle.std.proofs.lemmas.Option.{slice_get_read}
 use Rattle.tc_model.specs.Trees.{none, beside, kept}
 use Rattle.tc_steps.specs.Open.{Open}
@@ -45,3 +46,33 @@ returns-clause-valid c = λ x o run w.
     let counted = out.counted in
     let some = c.if-self-eq0.false in
     absurd (omega (arith, counted, some))
+
+pub leave-symbol-requires : goal.leave-symbol-requires
+leave-symbol-requires c = omega (arith, c.end_text.ensures.depth, c.requires)
+
+pub is_started-self-requires-clause-symbol : goal.is_started-self-requires-clause-symbol
+is_started-self-requires-clause-symbol c = c.leave-symbol.ensures.symbol
+
+pub is_started-self-requires-clause-ends : goal.is_started-self-requires-clause-ends
+is_started-self-requires-clause-ends c = c.leave-symbol.new.self.ended_sized
+
+pub returns-then-self-eq0-clause-room : goal.returns-then-self-eq0-clause-room
+returns-then-self-eq0-clause-room c = c.leave-symbol.ensures.room ∙ c.end_text.ensures.room
+
+pub returns-then-self-eq0-clause-depth : goal.returns-then-self-eq0-clause-depth
+returns-then-self-eq0-clause-depth c = c.leave-symbol.ensures.depth ∙ c.end_text.ensures.depth
+
+pub index_mut-requires : goal.index_mut-requires
+index_mut-requires c = omega (arith, c.if-self-eq0.false, c.leave-symbol.new.self.within)
+
+pub pass_element-requires-clause-symbol : goal.pass_element-requires-clause-symbol
+pass_element-requires-clause-symbol c = c.leave-symbol.ensures.symbol
+
+pub pass_element-requires-clause-ends : goal.pass_element-requires-clause-ends
+pass_element-requires-clause-ends c = c.leave-symbol.new.self.ended_sized
+
+pub returns-clause-room : goal.returns-clause-room
+returns-clause-room c = length-set _ _ _ ∙ (c.leave-symbol.ensures.room ∙ c.end_text.ensures.room)
+
+pub returns-clause-depth : goal.returns-clause-depth
+returns-clause-depth c = c.leave-symbol.ensures.depth ∙ c.end_text.ensures.depth
