@@ -17,3 +17,12 @@ returns-clause-ok c = record {
   reads = λ x chars char r.
       start_tag_begins c.args.next (record { begun = refl; elements = refl; phase = refl }) c.requires.part refl c.in_default.not-End (sym c.is_ncname_start.ensures ∙ c.if-not-is_ncname_start.false) c.keep_first.ensures.bytes char r;
 }
+
+pub returns-in-End-clause-ok : goal.returns-in-End-clause-ok
+returns-in-End-clause-ok c = tt
+
+pub returns-then-not-is_ncname_start-clause-ok : goal.returns-then-not-is_ncname_start-clause-ok
+returns-then-not-is_ncname_start-clause-ok c = tt
+
+pub returns-clause-fault : goal.returns-clause-fault
+returns-clause-fault c = tt

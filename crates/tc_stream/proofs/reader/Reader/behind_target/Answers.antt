@@ -27,3 +27,12 @@ returns-clause-ok c = record {
   reads = λ x chars char r.
       instruction_begins c.args.name c.args.next (record { begun = refl; elements = refl; phase = c.past_front-phase.ensures }) c.requires.part refl c.requires.told (λ written keeps. sym (c.is_in_any_case.ensures written keeps) ∙ c.if-is_in_any_case.false) char r;
 }
+
+pub returns-then-declares-clause-fault : goal.returns-then-declares-clause-fault
+returns-then-declares-clause-fault c = tt
+
+pub returns-then-is_in_any_case-clause-ok : goal.returns-then-is_in_any_case-clause-ok
+returns-then-is_in_any_case-clause-ok c = tt
+
+pub returns-clause-fault : goal.returns-clause-fault
+returns-clause-fault c = tt

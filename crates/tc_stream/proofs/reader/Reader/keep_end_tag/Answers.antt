@@ -28,3 +28,6 @@ returns-else-put-clause-rest c = tt
 
 pub returns-else-put-clause-ok : goal.returns-else-put-clause-ok
 returns-else-put-clause-ok c = λ x chars is lacks h r. tt
+
+pub returns-then-put-clause-ready : goal.returns-then-put-clause-ready
+returns-then-put-clause-ready c = c.requires

@@ -28,3 +28,6 @@ returns-clause-rest c = refl
 
 pub returns-clause-fault : goal.returns-clause-fault
 returns-clause-fault c = λ x chars within is scan h r. tt
+
+pub returns-clause-ready : goal.returns-clause-ready
+returns-clause-ready c = c.requires

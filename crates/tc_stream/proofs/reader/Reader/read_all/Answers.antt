@@ -1,6 +1,7 @@
 use Rattle.std.proofs.Common.{List, ℕ, subst, arith, rules}
 use Rattle.tc_stream.specs.Reading.{ReadsOn, FaultsOn}
 use Rattle.tc_stream.proofs.ReadingLaws.{read_none, read_then, fault_then, failed, none_left}
+use Rattle.tc_stream.proofs.FailedLaws.{failed_ok}
 use Rattle.tc_stream.proofs.reader.Reader.read_all.Goals as goal
 
 pub loop-rest-init : goal.loop-rest-init
@@ -20,3 +21,18 @@ loop-rest-preserved c =
 pub returns-clause-ok : goal.returns-clause-ok
 returns-clause-ok c =
     subst (λ (w : List ℕ). ReadsOn c.args.self.now c.loop-rest.self c.args.text.now w c.args.end) (none_left c.loop-rest.rest.now c.loop-rest-test.ensures) c.loop-rest.invariant.reads
+
+pub returns-in_err-rest-clause-ok : goal.returns-in_err-rest-clause-ok
+returns-in_err-rest-clause-ok c = failed_ok _ _ _ c.from_residual.ensures.1
+
+pub returns-clause-fault : goal.returns-clause-fault
+returns-clause-fault c = tt
+
+pub read-requires-clause-ready : goal.read-requires-clause-ready
+read-requires-clause-ready c = c.loop-rest.invariant.ready
+
+pub read-requires-clause-within : goal.read-requires-clause-within
+read-requires-clause-within c = c.loop-rest.invariant.within
+
+pub read-requires-clause-low : goal.read-requires-clause-low
+read-requires-clause-low c = c.requires.low

@@ -17,3 +17,24 @@ returns-in-Ok-clause-less c = rest_shorter c.in-Some.rest.now c.in-Some.next c.i
 
 pub returns-in-Err-clause-fault : goal.returns-in-Err-clause-fault
 returns-in-Err-clause-fault c = char_faults_at c.in-Some.rest.now c.in-Err.fault c.args.end c.place_of.result c.in-Some.next c.in-Some.ensures.1 c.place_of.ensures c.in-Err.ensures.fault
+
+pub returns-in_default-clause-fault : goal.returns-in_default-clause-fault
+returns-in_default-clause-fault c = tt
+
+pub returns-in-Ok-clause-fault : goal.returns-in-Ok-clause-fault
+returns-in-Ok-clause-fault c = tt
+
+pub returns-in-Err-clause-ok : goal.returns-in-Err-clause-ok
+returns-in-Err-clause-ok c = tt
+
+pub returns-in-Err-clause-less : goal.returns-in-Err-clause-less
+returns-in-Err-clause-less c = tt
+
+pub take_char-requires-clause-ready : goal.take_char-requires-clause-ready
+take_char-requires-clause-ready c = c.requires.ready
+
+pub take_char-requires-clause-part : goal.take_char-requires-clause-part
+take_char-requires-clause-part c = c.requires.part
+
+pub take_char-requires-clause-by_char : goal.take_char-requires-clause-by_char
+take_char-requires-clause-by_char c = c.requires.by_char

@@ -21,3 +21,15 @@ returns-in-Malformed-clause-fault c = λ x chars char here r.
 pub returns-in-Unsupported-clause-fault : goal.returns-in-Unsupported-clause-fault
 returns-in-Unsupported-clause-fault c = λ x chars char here r.
     declaration_refuses (record { 0 = c.in-Unsupported.at }) c.args.next c.args.place c.requires.part here c.in-Unsupported.ensures.told char r
+
+pub returns-in-More-clause-fault : goal.returns-in-More-clause-fault
+returns-in-More-clause-fault c = tt
+
+pub returns-in-Whole-clause-fault : goal.returns-in-Whole-clause-fault
+returns-in-Whole-clause-fault c = tt
+
+pub returns-in-Malformed-clause-ok : goal.returns-in-Malformed-clause-ok
+returns-in-Malformed-clause-ok c = tt
+
+pub returns-in-Unsupported-clause-ok : goal.returns-in-Unsupported-clause-ok
+returns-in-Unsupported-clause-ok c = tt

@@ -20,3 +20,15 @@ returns-in-Malformed-clause-fault c = λ x chars char here r.
 
 pub returns-in-Subset-clause-fault : goal.returns-in-Subset-clause-fault
 returns-in-Subset-clause-fault c = λ x chars char here r. doctype_refuses (record { 0 = c.args.place }) c.args.next c.requires.part here c.in-Subset.ensures char r
+
+pub returns-in-More-clause-fault : goal.returns-in-More-clause-fault
+returns-in-More-clause-fault c = tt
+
+pub returns-in-Whole-clause-fault : goal.returns-in-Whole-clause-fault
+returns-in-Whole-clause-fault c = tt
+
+pub returns-in-Malformed-clause-ok : goal.returns-in-Malformed-clause-ok
+returns-in-Malformed-clause-ok c = tt
+
+pub returns-in-Subset-clause-ok : goal.returns-in-Subset-clause-ok
+returns-in-Subset-clause-ok c = tt

@@ -29,3 +29,12 @@ returns-clause-ok c = record {
 
 pub invariant_of-self-clause-counted : goal.invariant_of-self-clause-counted
 invariant_of-self-clause-counted c = c.begun_by-part.ensures.counted
+
+pub returns-in_default-clause-ok : goal.returns-in_default-clause-ok
+returns-in_default-clause-ok c = tt
+
+pub returns-then-is_whole-clause-fault : goal.returns-then-is_whole-clause-fault
+returns-then-is_whole-clause-fault c = tt
+
+pub returns-clause-fault : goal.returns-clause-fault
+returns-clause-fault c = tt

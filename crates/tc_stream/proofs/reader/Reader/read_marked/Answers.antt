@@ -13,3 +13,9 @@ returns-in-None-clause-fault c = λ x chars char r. marked_breaks c.args.next c.
 
 pub invariant_of-self-clause-counted : goal.invariant_of-self-clause-counted
 invariant_of-self-clause-counted c = counted_three c.in-Some.mark
+
+pub returns-in-Some-clause-fault : goal.returns-in-Some-clause-fault
+returns-in-Some-clause-fault c = tt
+
+pub returns-in-None-clause-ok : goal.returns-in-None-clause-ok
+returns-in-None-clause-ok c = tt

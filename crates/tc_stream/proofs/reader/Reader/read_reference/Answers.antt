@@ -22,3 +22,15 @@ pub returns-in-Malformed-clause-fault : goal.returns-in-Malformed-clause-fault
 returns-in-Malformed-clause-fault c = λ x chars char r.
     let low : c.args.self.now.begun ≤ c.args.self.now.begun + 1 = omega arith in
     reference_breaks c.args.next c.requires.part c.in-Malformed.ensures c.malformed.ensures low char r
+
+pub returns-in-More-clause-fault : goal.returns-in-More-clause-fault
+returns-in-More-clause-fault c = tt
+
+pub returns-in-Character-clause-fault : goal.returns-in-Character-clause-fault
+returns-in-Character-clause-fault c = tt
+
+pub returns-in-OtherEntity-clause-ok : goal.returns-in-OtherEntity-clause-ok
+returns-in-OtherEntity-clause-ok c = tt
+
+pub returns-in-Malformed-clause-ok : goal.returns-in-Malformed-clause-ok
+returns-in-Malformed-clause-ok c = tt

@@ -18,3 +18,33 @@ pub returns-in-Malformed-clause-fault : goal.returns-in-Malformed-clause-fault
 returns-in-Malformed-clause-fault c = λ x chars char r.
     let low : c.args.self.now.begun ≤ c.args.self.now.begun + 1 = omega arith in
     target_breaks c.args.next c.requires.part c.in-Malformed.ensures c.malformed.ensures low char r
+
+pub returns-in-More-clause-fault : goal.returns-in-More-clause-fault
+returns-in-More-clause-fault c = tt
+
+pub returns-in-Malformed-clause-ok : goal.returns-in-Malformed-clause-ok
+returns-in-Malformed-clause-ok c = tt
+
+pub returns-in-White-clause-ok : goal.returns-in-White-clause-ok
+returns-in-White-clause-ok c = c.behind_target.ensures.ok
+
+pub returns-in-White-clause-fault : goal.returns-in-White-clause-fault
+returns-in-White-clause-fault c = c.behind_target.ensures.fault
+
+pub returns-in-Question-clause-ok : goal.returns-in-Question-clause-ok
+returns-in-Question-clause-ok c = c.end_target.ensures.ok
+
+pub returns-in-Question-clause-fault : goal.returns-in-Question-clause-fault
+returns-in-Question-clause-fault c = c.end_target.ensures.fault
+
+pub behind_target-requires-clause-ready : goal.behind_target-requires-clause-ready
+behind_target-requires-clause-ready c = c.requires.ready
+
+pub behind_target-requires-clause-part : goal.behind_target-requires-clause-part
+behind_target-requires-clause-part c = c.requires.part
+
+pub end_target-requires-clause-ready : goal.end_target-requires-clause-ready
+end_target-requires-clause-ready c = c.requires.ready
+
+pub end_target-requires-clause-part : goal.end_target-requires-clause-part
+end_target-requires-clause-part c = c.requires.part

@@ -66,3 +66,30 @@ pub returns-in_default-clause-ok : goal.returns-in_default-clause-ok
 returns-in_default-clause-ok c =
     absurd (no_other c.args.part c.requires.by_char c.in_default.not-Markup c.in_default.not-Marked c.in_default.not-Mark c.in_default.not-Reference c.in_default.not-Target c.in_default.not-Targeted c.in_default.not-Declaration
     c.in_default.not-Doctype)
+
+pub returns-in_default-clause-fault : goal.returns-in_default-clause-fault
+returns-in_default-clause-fault c = tt
+
+pub read_markup-requires-clause-ready : goal.read_markup-requires-clause-ready
+read_markup-requires-clause-ready c = c.requires.ready
+
+pub read_marked-requires-clause-ready : goal.read_marked-requires-clause-ready
+read_marked-requires-clause-ready c = c.requires.ready
+
+pub read_mark-requires-clause-ready : goal.read_mark-requires-clause-ready
+read_mark-requires-clause-ready c = c.requires.ready
+
+pub read_reference-requires-clause-ready : goal.read_reference-requires-clause-ready
+read_reference-requires-clause-ready c = c.requires.ready
+
+pub read_target-requires-clause-ready : goal.read_target-requires-clause-ready
+read_target-requires-clause-ready c = c.requires.ready
+
+pub read_targeted-requires-clause-ready : goal.read_targeted-requires-clause-ready
+read_targeted-requires-clause-ready c = c.requires.ready
+
+pub read_declaration-requires-clause-ready : goal.read_declaration-requires-clause-ready
+read_declaration-requires-clause-ready c = c.requires.ready
+
+pub read_doctype-requires-clause-ready : goal.read_doctype-requires-clause-ready
+read_doctype-requires-clause-ready c = c.requires.ready
