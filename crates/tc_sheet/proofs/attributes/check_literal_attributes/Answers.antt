@@ -13,3 +13,6 @@ loop-attribute-preserved c = literal_step c.args.element.now.attrs.now c.loop-at
 
 pub returns-clause-ok : goal.returns-clause-ok
 returns-clause-ok c = literal_end c.args.element.now.attrs.now c.loop-attribute.attribute-index c.loop-attribute-test.false c.loop-attribute.invariant
+
+pub returns-clause-no : goal.returns-clause-no
+returns-clause-no c = tt

@@ -14,3 +14,12 @@ pub returns-in-None-clause-no : goal.returns-in-None-clause-no
 returns-in-None-clause-no c =
     optional_malformed (NameText (scope_of c.args.element.now)) c.requires.kept c.in-Some.ensures c.in-None.ensures
     (λ why r. c.requires.unrefused (scope_of c.args.element.now) (attribute c.in-Some.attribute.now) why c.in-Some.ensures.name r)
+
+pub returns-in_default-clause-no : goal.returns-in_default-clause-no
+returns-in_default-clause-no c = tt
+
+pub returns-in-Some-name_of-clause-no : goal.returns-in-Some-name_of-clause-no
+returns-in-Some-name_of-clause-no c = tt
+
+pub returns-in-None-clause-ok : goal.returns-in-None-clause-ok
+returns-in-None-clause-ok c = tt

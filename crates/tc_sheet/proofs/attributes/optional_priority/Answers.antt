@@ -17,3 +17,12 @@ returns-then-is_none-clause-no c =
 
 pub returns-clause-ok : goal.returns-clause-ok
 returns-clause-ok c = optional_read PriorityText c.read_priority-priority.result c.in-Some.ensures c.if-is_none.ensures c.read_priority-priority.ensures
+
+pub returns-in_default-clause-no : goal.returns-in_default-clause-no
+returns-in_default-clause-no c = tt
+
+pub returns-then-is_none-clause-ok : goal.returns-then-is_none-clause-ok
+returns-then-is_none-clause-ok c = tt
+
+pub returns-clause-no : goal.returns-clause-no
+returns-clause-no c = tt

@@ -16,3 +16,12 @@ returns-in-Ok-clause-ok c = optional_some (SelectText (scope_of c.args.element.n
 
 pub returns-in-Err-clause-no : goal.returns-in-Err-clause-no
 returns-in-Err-clause-no c = subst (λ w. Refuses w (alone c.args.element.now) (HasNoOptional c.args.element.now (codes "select") (SelectText (scope_of c.args.element.now)))) (sym c.fault_at.ensures) (path_refused_optional (IsSelect (scope_of c.args.element.now)) forms.select c.args.element.now (codes "select") c.in-Some.attribute.now c.requires c.in-Some.ensures (λ f. f) c.in-Err.fault c.in-Err.ensures.no c.in-Err.ensures.cause (λ v f. c.in-Err.ensures.renamed v f))
+
+pub returns-in_default-clause-no : goal.returns-in_default-clause-no
+returns-in_default-clause-no c = tt
+
+pub returns-in-Ok-clause-no : goal.returns-in-Ok-clause-no
+returns-in-Ok-clause-no c = tt
+
+pub returns-in-Err-clause-ok : goal.returns-in-Err-clause-ok
+returns-in-Err-clause-ok c = tt

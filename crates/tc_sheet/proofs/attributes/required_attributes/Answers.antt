@@ -22,3 +22,12 @@ returns-else-all-clause-no c = not_attributes c.args.element.now c.in-Some.attri
 
 pub returns-in-Err-clause-no : goal.returns-in-Err-clause-no
 returns-in-Err-clause-no c = subst (λ w. Refuses w (alone c.args.element.now) (HasNoAttributes c.args.element.now (HasAttributesText (scope_of c.args.element.now)))) (sym c.fault_at.ensures) (attributes_refused c.args.element.now (path_fault_at c.in-Some.attribute.now.place c.in-Err.fault) (path_refused (IsSelect (scope_of c.args.element.now)) forms.select c.args.element.now (codes "select") c.in-Some.attribute.now (of_copy c.requires) c.in-Some.ensures (λ f. f) c.in-Err.fault c.in-Err.ensures.no c.in-Err.ensures.cause (λ v f. c.in-Err.ensures.renamed v f)))
+
+pub returns-in_default-clause-ok : goal.returns-in_default-clause-ok
+returns-in_default-clause-ok c = tt
+
+pub returns-else-all-clause-ok : goal.returns-else-all-clause-ok
+returns-else-all-clause-ok c = tt
+
+pub returns-in-Err-clause-ok : goal.returns-in-Err-clause-ok
+returns-in-Err-clause-ok c = tt

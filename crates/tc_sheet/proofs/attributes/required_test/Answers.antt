@@ -18,3 +18,12 @@ returns-in-Ok-clause-ok c = required_one (TestText (scope_of c.args.element.now)
 
 pub returns-in-Err-clause-no : goal.returns-in-Err-clause-no
 returns-in-Err-clause-no c = subst (λ w. Refuses w (alone c.args.element.now) (HasNoRequired c.args.element.now (codes "test") (TestText (scope_of c.args.element.now)))) (sym c.fault_at.ensures) (path_refused (IsTest (scope_of c.args.element.now)) forms.test c.args.element.now (codes "test") c.in-Some.attribute.now c.requires c.in-Some.ensures (λ f. f) c.in-Err.fault c.in-Err.ensures.no c.in-Err.ensures.cause (λ v f. c.in-Err.ensures.renamed v f))
+
+pub returns-in_default-clause-ok : goal.returns-in_default-clause-ok
+returns-in_default-clause-ok c = tt
+
+pub returns-in-Ok-clause-no : goal.returns-in-Ok-clause-no
+returns-in-Ok-clause-no c = tt
+
+pub returns-in-Err-clause-ok : goal.returns-in-Err-clause-ok
+returns-in-Err-clause-ok c = tt

@@ -44,3 +44,6 @@ returns-in_err-mode-clause-ok c = no_value c.from_residual-in_err-mode.result _ 
 
 pub returns-in_err-check_blank-clause-ok : goal.returns-in_err-check_blank-clause-ok
 returns-in_err-check_blank-clause-ok c = no_value c.from_residual-in_err-check_blank.result _ _ c.from_residual-in_err-check_blank.ensures.1
+
+pub returns-clause-no : goal.returns-clause-no
+returns-clause-no c = tt

@@ -19,3 +19,6 @@ returns-clause-ok c = copy_head c.args.element.now c.in_ok-only_attributes.ensur
 
 pub returns-in_err-only_attributes-clause-ok : goal.returns-in_err-only_attributes-clause-ok
 returns-in_err-only_attributes-clause-ok c = no_value c.from_residual.result _ _ c.from_residual.ensures.1
+
+pub returns-clause-no : goal.returns-clause-no
+returns-clause-no c = tt

@@ -25,3 +25,6 @@ returns-in_err-only_attributes-clause-ok c = no_value c.from_residual.result _ _
 
 pub returns-in_err-name-clause-ok : goal.returns-in_err-name-clause-ok
 returns-in_err-name-clause-ok c = no_value c.from_residual-in_err-name.result _ _ c.from_residual-in_err-name.ensures.1
+
+pub returns-clause-no : goal.returns-clause-no
+returns-clause-no c = tt

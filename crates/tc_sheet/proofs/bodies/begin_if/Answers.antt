@@ -16,3 +16,6 @@ returns-clause-ok c = if_head c.args.element.now c.in_ok-test.test c.in_ok-test.
 
 pub returns-in_err-test-clause-ok : goal.returns-in_err-test-clause-ok
 returns-in_err-test-clause-ok c = no_value c.from_residual.result _ _ c.from_residual.ensures.1
+
+pub returns-clause-no : goal.returns-clause-no
+returns-clause-no c = tt

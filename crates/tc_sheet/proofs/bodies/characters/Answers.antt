@@ -13,3 +13,9 @@ loop-kid-preserved c = one_more_text c.loop-kid.invariant c.in-Text.text.now (st
 
 pub returns-clause-ok : goal.returns-clause-ok
 returns-clause-ok c = texts_end c.into_bump_str.result.now c.loop-kid.invariant (at_drop_all raw_trees c.args.kids.now c.loop-kid.kid-index c.loop-kid-test.false) c.into_bump_str.ensures
+
+pub returns-in-Elem-clause-ok : goal.returns-in-Elem-clause-ok
+returns-in-Elem-clause-ok c = tt
+
+pub returns-clause-no : goal.returns-clause-no
+returns-clause-no c = tt

@@ -16,3 +16,12 @@ loop-kid-preserved c = past_blank_text c.loop-kid.invariant c.in-Text.text.now (
 
 pub returns-clause-ok : goal.returns-clause-ok
 returns-clause-ok c = blank_ends c.loop-kid.invariant (at_drop_all raw_trees c.args.kids.now c.loop-kid.kid-index c.loop-kid-test.false)
+
+pub returns-then-not-is_white_space_only-clause-ok : goal.returns-then-not-is_white_space_only-clause-ok
+returns-then-not-is_white_space_only-clause-ok c = tt
+
+pub returns-in-Elem-clause-ok : goal.returns-in-Elem-clause-ok
+returns-in-Elem-clause-ok c = tt
+
+pub returns-clause-no : goal.returns-clause-no
+returns-clause-no c = tt

@@ -21,3 +21,9 @@ pub returns-clause-ok : goal.returns-clause-ok
 returns-clause-ok c = λ rest b y.
     subst (IsBody (raw_element c.args.element.now rest)) (sym (see_choose c.args.branches c.args.last b))
     (choose_item c.args.element.now c.requires.choose c.args.branches.now (body c.args.last.now) (sym c.if-is_empty.ensures) c.requires.only c.requires.held rest b y)
+
+pub returns-then-is_empty-clause-ok : goal.returns-then-is_empty-clause-ok
+returns-then-is_empty-clause-ok c = tt
+
+pub returns-clause-no : goal.returns-clause-no
+returns-clause-no c = tt

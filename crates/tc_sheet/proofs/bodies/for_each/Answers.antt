@@ -29,3 +29,6 @@ returns-in_err-only_attributes-clause-ok c = no_value c.from_residual.result _ _
 
 pub returns-in_err-path-clause-ok : goal.returns-in_err-path-clause-ok
 returns-in_err-path-clause-ok c = no_value c.from_residual-in_err-path.result _ _ c.from_residual-in_err-path.ensures.1
+
+pub returns-clause-no : goal.returns-clause-no
+returns-clause-no c = tt

@@ -38,3 +38,6 @@ returns-in_err-value-clause-ok c = no_value c.from_residual-in_err-value.result 
 
 pub returns-in_err-check_blank-clause-ok : goal.returns-in_err-check_blank-clause-ok
 returns-in_err-check_blank-clause-ok c = no_value c.from_residual-in_err-check_blank.result _ _ c.from_residual-in_err-check_blank.ensures.1
+
+pub returns-in-ValueOf-clause-no : goal.returns-in-ValueOf-clause-no
+returns-in-ValueOf-clause-no c = tt

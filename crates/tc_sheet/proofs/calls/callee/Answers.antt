@@ -14,3 +14,12 @@ returns-in-Some-clause-first c =
 pub returns-in-None-clause-no : goal.returns-in-None-clause-no
 returns-in-None-clause-no c =
     undefined_here (names_seen c.args.names.now) (site c.args.site.now) (sym (any_seen c.args.site.now.name c.args.names.now.keys) ∙ sym c.in-None.ensures.found)
+
+pub returns-in-Some-clause-no : goal.returns-in-Some-clause-no
+returns-in-Some-clause-no c = tt
+
+pub returns-in-None-clause-ok : goal.returns-in-None-clause-ok
+returns-in-None-clause-ok c = tt
+
+pub returns-in-None-clause-first : goal.returns-in-None-clause-first
+returns-in-None-clause-first c = tt

@@ -10,3 +10,6 @@ loop-template-preserved c = rules_step c.args.templates.now c.loop-template.temp
 
 pub returns-clause-ok : goal.returns-clause-ok
 returns-clause-ok c = rules_end c.args.templates.now c.loop-template.template-index c.loop-template.count _ c.loop-template-test.false c.loop-template.invariant
+
+pub returns-clause-no : goal.returns-clause-no
+returns-clause-no c = tt

@@ -13,3 +13,6 @@ returns-clause-ok c = refl
 
 pub returns-clause-counted : goal.returns-clause-counted
 returns-clause-counted c = c.in_ok-next.ensures.ok
+
+pub returns-clause-no : goal.returns-clause-no
+returns-clause-no c = tt

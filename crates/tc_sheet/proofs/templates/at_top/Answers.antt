@@ -16,3 +16,9 @@ returns-in-Elem-clause-ok c = top_ok c.args.kid.now c.in-Elem.element (λ rest. 
 
 pub returns-in-Elem-clause-no : goal.returns-in-Elem-clause-no
 returns-in-Elem-clause-no c = top_no c.args.kid.now c.in-Elem.element (λ rest. ap (λ (y : Raw). raw_before y rest) c.in-Elem.is ∙ before_elem c.in-Elem.element rest) c.element_at_top.result c.element_at_top.ensures.no
+
+pub returns-then-is_white_space_only-clause-no : goal.returns-then-is_white_space_only-clause-no
+returns-then-is_white_space_only-clause-no c = tt
+
+pub returns-else-is_white_space_only-clause-ok : goal.returns-else-is_white_space_only-clause-ok
+returns-else-is_white_space_only-clause-ok c = tt

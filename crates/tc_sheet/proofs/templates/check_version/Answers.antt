@@ -13,3 +13,9 @@ returns-in_default-clause-no c = (itself_at c.args.element.now (root_unrefused (
 
 pub returns-else-eq-clause-no : goal.returns-else-eq-clause-no
 returns-else-eq-clause-no c = version_refused c.args.element.now c.in-Some.attribute.now c.requires c.in-Some.ensures (sym c.if-eq.ensures)
+
+pub returns-in_default-clause-ok : goal.returns-in_default-clause-ok
+returns-in_default-clause-ok c = tt
+
+pub returns-else-eq-clause-ok : goal.returns-else-eq-clause-ok
+returns-else-eq-clause-ok c = tt
