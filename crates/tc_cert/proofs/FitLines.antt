@@ -60,9 +60,6 @@ module _ {X : Type 0} (P : X → Type 0) where
   pub unfit_below : (base : ℕ) (xs : List X) (line : ℕ) → UnfitIn base P xs line → line < base + length xs
   unfit_below base xs line (k, x, e, g, bar) = omega (arith, e, get_within xs k x g)
 
-  pub unfit_from : (base : ℕ) (xs : List X) (line : ℕ) → UnfitIn base P xs line → base ≤ line
-  unfit_from base xs line (k, x, e, g, bar) = omega (arith, e)
-
   pub unfit_more : (base : ℕ) (xs : List X) (x : X) (line : ℕ) → UnfitIn base P xs line → UnfitIn base P (xs ++ x ∷ []) line
   unfit_more base xs x line (k, y, e, g, bar) = (k, y, e, get_more xs x y k g, bar)
 
@@ -263,10 +260,3 @@ row_told s Hedge os ts rows f told fits h t =
     let long : length (map hedge_of rows) ≡ length rows = length-map rows hedge_of in
     subst (λ xs. Told s (data_of os ts xs) (told_with told fits (5 + length os + length ts + length rows))) (sym (map-append hedge_of rows (f ∷ [])))
     (subst (λ n. Told s (data_of os ts (map hedge_of rows ++ hedge_of f ∷ [])) (told_with told fits (5 + length os + length ts + n))) long (hedge_told s os ts (map hedge_of rows) (hedge_of f) told fits h t))
-
--- rows that were told of are behind what was told before
-pub told_trees : (s : Sizes) (os : List (List (ℕ × ℕ))) (ts : List TreeLine) (told : Option ℕ) → Told s (data_of os [] []) told → Told s (rows_data Tree os ts []) told
-told_trees s os ts told t = t
-
-pub told_hedges : (s : Sizes) (os : List (List (ℕ × ℕ))) (rows : List Fields) (told : Option ℕ) → Told s (rows_data Tree os [] rows) told → Told s (rows_data Hedge os (map tree_of rows) []) told
-told_hedges s os rows told t = t

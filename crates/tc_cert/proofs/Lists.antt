@@ -187,13 +187,6 @@ no_second {between = between} {behind = behind} bar first e none p rest at =
     let k : between ∷ behind ≡ between ∷ (decimal p.1 ++ rest) = sym e ∙ (second_of bar first p rest at).1 in
     none p.1 rest (record { number = at.numbers.1; whole = at.whole; spelled = ap (drop 1) k })
 
-pub are_two : {between : ℕ} {bytes middle behind rest : List ℕ} {n m : ℕ} → IsNumberAt bytes n middle → middle ≡ between ∷ behind → IsNumberAt behind m rest → IsTwoAt between bytes (n, m) rest
-are_two {between = between} {n = n} first e second = record {
-  numbers = (first.number, second.number);
-  whole = second.whole;
-  spelled = first.spelled ∙ ap (λ l. decimal n ++ l) (e ∙ ap (λ l. between ∷ l) second.spelled);
-}
-
 -- pairs, one by one
 arrow : digit_value 62 < 10 → ⊥
 arrow h = absurd (omega (arith, h))

@@ -116,6 +116,24 @@ module _ (bs ds rest : List ℕ) (k : ℕ) (count : k ≡ prefix_len is_ascii_di
         spelled = sym (take-append-drop k bs) ∙ (λ i. sym front i ++ sym back i) ∙ ap (λ l. l ++ rest) (sym written ∙ ap decimal (sym value));
       }
 
+-- one more digit at the front, or none
+pub prefix_more : (bs : List ℕ) (i : ℕ) → i < length bs → is_ascii_digit (get_or bs i 0) ≡ true → prefix_len is_ascii_digit (drop i bs) ≡ 1 + prefix_len is_ascii_digit (drop (i + 1) bs)
+prefix_more bs i h e = ap (prefix_len is_ascii_digit) (drop_more bs i 0 h) ∙ ap (λ b. cond b (1 + prefix_len is_ascii_digit (drop (i + 1) bs)) 0) e
+
+pub prefix_none : (bs : List ℕ) (i : ℕ) → i < length bs → is_ascii_digit (get_or bs i 0) ≡ false → prefix_len is_ascii_digit (drop i bs) ≡ 0
+prefix_none bs i h e = ap (prefix_len is_ascii_digit) (drop_more bs i 0 h) ∙ ap (λ b. cond b (1 + prefix_len is_ascii_digit (drop (i + 1) bs)) 0) e
+
+-- the digit at a place, and the value behind it
+pub digit_there : (ds : List ℕ) (i : ℕ) → i < length ds → AllDigits 10 (drop i ds) → (48 ≤ get_or ds i 0) × (get_or ds i 0 ≤ 57)
+digit_there ds i h all = digit_from_value (get_or ds i 0) (subst (AllDigits 10) (drop_more ds i 0 h) all).0
+
+pub value_more : (value total d : ℕ) (ds : List ℕ) (i : ℕ) → i < length ds → AllDigits 10 (drop i ds) → digits_value_after 10 value (drop i ds) ≡ total → d ≡ get_or ds i 0 - 48
+    → (digits_value_after 10 (value * 10 + d) (drop (i + 1) ds) ≡ total) × AllDigits 10 (drop (i + 1) ds)
+value_more value total d ds i h all is e =
+    let cut : drop i ds ≡ get_or ds i 0 ∷ drop (i + 1) ds = drop_more ds i 0 h in
+    let same : d ≡ digit_value (get_or ds i 0) = omega (arith, e, digit_value_digit (get_or ds i 0) (digit_there ds i h all)) in
+    (ap (λ n. digits_value_after 10 (value * 10 + n) (drop (i + 1) ds)) same ∙ sym (ap (digits_value_after 10 value) cut) ∙ is, (subst (AllDigits 10) cut all).1)
+
 -- more digits never make it less
 value_le : (n : ℕ) (ds : List ℕ) → n ≤ digits_value_after 10 n ds
 value_le n [] = omega arith

@@ -17,7 +17,7 @@ use Rattle.tc_model.specs.declared.lists.CertData.{CertData}
 use Rattle.tc_model.specs.CertificateLines.{pairs_line, tree_line, hedge_line}
 use Rattle.tc_model.specs.CertificateData.{ArePairs, IsFormedTree, IsFormedHedge, IsFormed}
 use Rattle.tc_cert.specs.Texts.{Version, whole, by_changes, heading, counted, tree_in, hedge_in, CertificateText}
-use Rattle.tc_cert.specs.Fronts.{Front, nothing, begun, in_outputs, in_trees, in_hedges, finished, line_count, AreOutputs, AreTrees, AreHedges, IsGood, BeginsWith, IsFirstFault}
+use Rattle.tc_cert.specs.Fronts.{Front, begun, in_outputs, in_trees, in_hedges, finished, line_count, AreOutputs, AreTrees, AreHedges, IsGood, BeginsWith, IsFirstFault}
 use Rattle.tc_cert.specs.Fields.{Fields, IsFormedRow, IsBehind, IsNextRow, row_line, row_in, line_behind, last_of, tree_of, hedge_of, fields_of}
 use Rattle.tc_cert.specs.Readings.{IsUnread}
 use Rattle.tc_cert.specs.Standing.{Passes, Stands, IsAfterLent, IsNextFault, IsEndFault}
@@ -76,9 +76,6 @@ hedges_apart v w os ts count hs d e = cc
 
 begun_apart : (v w : Version) (d : CertData) → begun v ≡ finished w d → ⊥
 begun_apart v w d e = cc
-
-nothing_apart : (w : Version) (d : CertData) → nothing ≡ finished w d → ⊥
-nothing_apart w d e = cc
 
 abbrev pub AnOutput : List (List (ℕ × ℕ)) → List ℕ → Type 0
 AnOutput os bytes = (ps : List (ℕ × ℕ)) × (rest : List ℕ) × ArePairs ps × IsBehind pairs_line (last_of os) ps × (bytes ≡ pairs_line ps ++ 10 ∷ rest)
@@ -241,13 +238,6 @@ hedge_fault v bytes os ts count hs r e few s h = next_fault v bytes (in_hedges v
     go : CanGo (in_hedges v os ts count hs) r.rest.now → ARow v Hedge (option_map of_hedge (last_of hs)) r.rest.now
     go c = by c.line c.to c.after c.next c.good c.spelled
 
--- the first line
-pub first_stands : (v : Version) (bytes : List ℕ) (r : Reader) → length bytes ≤ 67108864 → bytes ≡ heading v ++ 10 ∷ r.rest.now → r.lines ≡ 1 → version_of r.style ≡ v → Stands v bytes (begun v) r
-first_stands v bytes r h e l s = record { short = h; begins = record { good = tt; spelled = e ∙ sym (append_assoc (heading v) (10 ∷ []) r.rest.now) }; lines = l; style = s }
-
-pub first_fault : (bytes : List ℕ) → length bytes ≤ 67108864 → ((v : Version) (rest : List ℕ) → bytes ≡ heading v ++ 10 ∷ rest → ⊥) → IsFirstFault bytes 1
-first_fault bytes h bar = is_fault bytes nothing bytes h (record { good = tt; spelled = refl }) (λ c. bar c.next.version c.after (c.spelled ∙ ap (λ w. w ++ 10 ∷ c.after) c.next.line)) (λ w d e _. nothing_apart w d e)
-
 -- the end
 end_next : (v : Version) (os : List (List (ℕ × ℕ))) (ts : List TreeLine) (hs : List HedgeLine) → Next (in_hedges v os ts (length hs) hs) (codes "end") (finished v (record { outputs = os; trees = ts; hedges = hs }))
 end_next v os ts hs = inr (record { all = refl; line = refl; to = refl })
@@ -303,10 +293,6 @@ last_get (y ∷ (z ∷ zs)) x h e = last_get (z ∷ zs) x (omega arith) (ap (sli
   where
     places : (n : ℕ) → suc (suc n - 1) ≡ suc (suc n) - 1
     places n = omega arith
-
-pub last_none : {X : Type 0} (xs : List X) → length xs ≤ 0 → last_of xs ≡ None
-last_none [] h = refl
-last_none (x ∷ xs) h = absurd (omega (arith, h))
 
 -- what stands at the front of a line that counts
 pub count_behind : (kind bytes behind : List ℕ) (n : ℕ) (rest : List ℕ) → bytes ≡ kind ++ behind → bytes ≡ counted kind n ++ 10 ∷ rest → behind ≡ 32 ∷ (decimal n ++ 10 ∷ rest)

@@ -1,13 +1,17 @@
 -- One more piece or row of a list that is written from the front.
-use Rattle.std.proofs.Common.{◌≡◌, ◌≤◌, ◌<◌, ◌⊎◌, inl, inr, ℕ, zero, suc, ◌+◌, ◌-◌, get_or, ap, List, ◌++◌, drop, flat_map, Some, slice_get, Result, Ok, Err, IfErr, OnOk, IsErrAnd, sym, subst, arith}
+use Rattle.std.proofs.Common.{◌≡◌, ◌≤◌, ◌<◌, ◌⊎◌, inl, inr, ℕ, zero, suc, ◌+◌, ◌-◌, get_or, ap, List, ◌++◌, drop, flat_map, Some, slice_get, Result, Ok, Err, IfOk, IfErr, OnOk, IsErrAnd, codes, refl, sym, subst, arith}
 use Rattle.tc_cert.specs.declared.text.Text.{Text}
 use Rattle.tc_cert.specs.declared.text.CertWriteFault.{CertWriteFault}
+use Rattle.tc_cert.specs.declared.faults.CertFault.{CertFault}
 use Rattle.tc_cert.specs.declared.faults.PieceFault.{PieceFault}
+use Rattle.tc_cert.specs.declared.faults.PieceFault.TheVariants.{Form, NoMemory}
+use Rattle.tc_model.specs.CertificateLines.{listed}
 use Rattle.tc_cert.specs.Pieces.{IsMissing}
-use Rattle.tc_cert.specs.Texts.{ended, rows_left}
+use Rattle.tc_cert.specs.Texts.{ended, rows_in, rows_left}
+use Rattle.tc_cert.specs.Standing.{IsNextFault, fault_behind}
 use Rattle.tc_cert.specs.Puts.{IsPut, IsCause, IsOn}
-use Rattle.tc_cert.proofs.Puts.{both, further, at_further}
-use Rattle.tc_cert.proofs.Loops.{next_piece, next_row}
+use Rattle.tc_cert.proofs.Puts.{both, begun, further, at_first, at_further}
+use Rattle.tc_cert.proofs.Loops.{next_piece, first_listed, first_row, next_row}
 
 pub piece_step : {X : Type 0} {s t u : Text} {goal : List ℕ} (f : X → List ℕ) (xs : List X) (i : ℕ) (x : X) → slice_get xs i ≡ Some x
     → IsOn s t (flat_map f (drop i xs)) goal → IsPut t u (f x) → IsOn s u (flat_map f (drop (i + 1) xs)) goal
@@ -36,6 +40,43 @@ row_cause later xs i b x some e d o c = at_further (rows_left later (drop (i + 1
 pub same_error : {T E : Type 0} (P : E → Type 0) (r : Result T E) (x : E) → IsErrAnd r (λ e. e ≡ x) → P x → IfErr r P
 same_error P (Ok v) x h a = tt
 same_error P (Err e) x h a = subst P (sym h) a
+
+-- nothing is said of the value of an error, nor of what was done
+pub no_value : {T E : Type 0} (r : Result T E) (P : T → Type 0) (Q : E → Type 0) → IsErrAnd r Q → IfOk r P
+no_value (Ok v) P Q h = absurd h
+no_value (Err e) P Q h = tt
+
+pub not_done : {T E : Type 0} (r : Result T E) (P : Type 0) (Q : E → Type 0) → IsErrAnd r Q → OnOk r P
+not_done (Ok v) P Q h = absurd h
+not_done (Err e) P Q h = tt
+
+-- what is told of a value is what else it tells
+pub value_as : {T E : Type 0} {A B : T → Type 0} (r : Result T E) → ((x : T) → A x → B x) → IfOk r A → IfOk r B
+value_as (Ok v) f h = f v h
+value_as (Err e) f h = tt
+
+-- no piece is missing where memory is
+no_form : (e : PieceFault) → e ≡ NoMemory → e ≡ Form → ⊥
+no_form e p q = cc
+
+pub no_memory : {T : Type 0} (A : Type 0) (r : Result T PieceFault) → IsErrAnd r (λ e. e ≡ NoMemory) → IfErr r (IsMissing A)
+no_memory A (Ok v) h = tt
+no_memory A (Err e) h = λ f p. no_form e h f
+
+-- what is missing at the next line
+pub at_next_line : (A : Type 0) (lines : ℕ) (f : PieceFault) (e : CertFault) → e ≡ fault_behind lines f → IsMissing A f → IsNextFault lines A e
+at_next_line A lines Form e is h = subst (IsNextFault lines A) (sym is) (refl, h refl)
+at_next_line A lines NoMemory e is h = subst (IsNextFault lines A) (sym is) tt
+
+-- the first of a list, and what is written behind it
+pub listed_begun : {X : Type 0} {s t : Text} (f : X → List ℕ) (xs : List X) (x : X) → slice_get xs 0 ≡ Some x → IsPut s t (f x) → IsOn s t (flat_map (λ y. codes "," ++ f y) (drop 1 xs)) (listed f xs)
+listed_begun f xs x e a = begun a (first_listed f xs x e)
+
+pub listed_cause : {X : Type 0} {s : Text} {fault : CertWriteFault} (f : X → List ℕ) (xs : List X) (x : X) → slice_get xs 0 ≡ Some x → IsCause s (f x) fault → IsCause s (listed f xs) fault
+listed_cause {s = s} {fault = fault} f xs x e c = subst (λ l. IsCause s l fault) (first_listed f xs x e) (at_first (flat_map (λ y. codes "," ++ f y) (drop 1 xs)) c)
+
+pub rows_cause : {X : Type 0} {s : Text} {fault : CertWriteFault} (first : X → List ℕ) (later : X → X → List ℕ) (xs : List X) (x : X) → slice_get xs 0 ≡ Some x → IsCause s (ended (first x)) fault → IsCause s (rows_in first later xs) fault
+rows_cause {s = s} {fault = fault} first later xs x e c = subst (λ l. IsCause s l fault) (first_row first later xs x e) (at_first (rows_left later xs) c)
 
 pub three : {T : Type 0} {s t u : Text} {p q : List ℕ} (v : Text) (r : List ℕ) (result : Result T CertWriteFault) → IsPut s t p → IsPut t u q → OnOk result (IsPut u v r) → OnOk result (IsPut s v (p ++ (q ++ r)))
 three v r (Ok x) a b c = both a (both b c)

@@ -2,7 +2,7 @@ use Rattle.std.proofs.Common.{[], map, refl}
 use Rattle.tc_cert.specs.Fields.{tree_of, hedge_of}
 use Rattle.tc_cert.specs.Fits.{sizes_of}
 use Rattle.tc_cert.specs.Readings.{IsUnread}
-use Rattle.tc_cert.proofs.Steps.{same_error}
+use Rattle.tc_cert.proofs.Steps.{same_error, no_value}
 use Rattle.tc_cert.proofs.ReadLines.{outputs_on, outputs_fault, trees_on, trees_fault, hedges_on, hedges_fault, end_fault, whole_text}
 use Rattle.tc_cert.proofs.ToldSoFar.{outputs_whole, trees_whole, hedges_whole}
 use Rattle.tc_cert.proofs.fitting.first_unfit.Goals as goal
@@ -84,3 +84,30 @@ returns-clause-ok c =
     let h = c.in_ok-told.ensures c.in_ok-reader.ensures.0 c.args.text.now o.0 (map tree_of t.0) o.1 s5 t.3 in
     let s6 = hedges_whole c.in_ok-reader.ensures.0 c.args.text.now o.0 (map tree_of t.0) c.in_ok-hedges.hedges h.0 _ h.1 h.2 in
     (record { outputs = o.0; trees = map tree_of t.0; hedges = map hedge_of h.0 }, whole_text c.in_ok-reader.ensures.0 c.args.text.now o.0 (map tree_of t.0) (map hedge_of h.0) _ s6 c.in_ok-end.ensures, h.3)
+
+pub returns-in_err-reader-clause-ok : goal.returns-in_err-reader-clause-ok
+returns-in_err-reader-clause-ok c = no_value c.from_residual.result _ _ c.from_residual.ensures.1
+
+pub returns-in_err-outputs-clause-ok : goal.returns-in_err-outputs-clause-ok
+returns-in_err-outputs-clause-ok c = no_value c.from_residual-in_err-outputs.result _ _ c.from_residual-in_err-outputs.ensures.1
+
+pub returns-in_err-of_outputs-clause-ok : goal.returns-in_err-of_outputs-clause-ok
+returns-in_err-of_outputs-clause-ok c = no_value c.from_residual-in_err-of_outputs.result _ _ c.from_residual-in_err-of_outputs.ensures.1
+
+pub returns-in_err-trees-clause-ok : goal.returns-in_err-trees-clause-ok
+returns-in_err-trees-clause-ok c = no_value c.from_residual-in_err-trees.result _ _ c.from_residual-in_err-trees.ensures.1
+
+pub returns-in_err-of_trees-clause-ok : goal.returns-in_err-of_trees-clause-ok
+returns-in_err-of_trees-clause-ok c = no_value c.from_residual-in_err-of_trees.result _ _ c.from_residual-in_err-of_trees.ensures.1
+
+pub returns-in_err-hedges-clause-ok : goal.returns-in_err-hedges-clause-ok
+returns-in_err-hedges-clause-ok c = no_value c.from_residual-in_err-hedges.result _ _ c.from_residual-in_err-hedges.ensures.1
+
+pub returns-in_err-told-clause-ok : goal.returns-in_err-told-clause-ok
+returns-in_err-told-clause-ok c = no_value c.from_residual-in_err-told.result _ _ c.from_residual-in_err-told.ensures.1
+
+pub returns-in_err-end-clause-ok : goal.returns-in_err-end-clause-ok
+returns-in_err-end-clause-ok c = no_value c.from_residual-in_err-end.result _ _ c.from_residual-in_err-end.ensures.1
+
+pub new-requires : goal.new-requires
+new-requires c = c.requires

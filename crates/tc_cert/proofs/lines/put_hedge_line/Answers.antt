@@ -1,4 +1,5 @@
 use Rattle.tc_cert.proofs.Ends.{stops_first, last_put, last_fault}
+use Rattle.tc_cert.proofs.Steps.{not_done}
 use Rattle.tc_cert.proofs.lines.put_hedge_line.Goals as goal
 
 pub returns-in_err-put_front-clause-cause : goal.returns-in_err-put_front-clause-cause
@@ -9,3 +10,6 @@ returns-clause-ok c = last_put c.args.text.now c.put_front.new.text c.put_lists.
 
 pub returns-clause-cause : goal.returns-clause-cause
 returns-clause-cause c = last_fault c.args.text.now c.put_front.new.text _ _ c.put_lists.result c.in_ok-put_front.ensures.ok c.put_lists.ensures.cause
+
+pub returns-in_err-put_front-clause-ok : goal.returns-in_err-put_front-clause-ok
+returns-in_err-put_front-clause-ok c = not_done c.from_residual.result _ _ c.from_residual.ensures.1

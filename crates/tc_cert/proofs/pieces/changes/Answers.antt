@@ -2,6 +2,7 @@ use Rattle.std.proofs.Common.{subst, sym}
 use Rattle.tc_model.specs.CertificateLines.{change}
 use Rattle.tc_cert.specs.Pieces.{AreNumbers, AreChangesAt}
 use Rattle.tc_cert.proofs.Lists.{plain_changes, GoesOn, begun, none, stuck, next, done, change_item, item_change}
+use Rattle.tc_cert.proofs.Steps.{no_value, no_memory}
 use Rattle.tc_cert.proofs.pieces.changes.Goals as goal
 
 pub loop-next-init : goal.loop-next-init
@@ -25,3 +26,9 @@ pub loop-next-preserved : goal.loop-next-preserved
 loop-next-preserved c =
     subst (λ l. GoesOn change AreNumbers c.args.end c.args.bytes.now l c.in-Some-after_byte-2.behind.now) (sym c.in_ok-push.ensures.items)
     (next change AreNumbers plain_changes c.args.end c.requires c.loop-next.invariant (change_item c.in-Some-two.ensures) c.in-Some-after_byte-2.ensures)
+
+pub returns-in_err-push-clause-ok : goal.returns-in_err-push-clause-ok
+returns-in_err-push-clause-ok c = no_value c.from_residual.result _ _ c.from_residual.ensures.1
+
+pub returns-in_err-push-clause-no : goal.returns-in_err-push-clause-no
+returns-in_err-push-clause-no c = no_memory _ c.from_residual.result c.from_residual.ensures.1

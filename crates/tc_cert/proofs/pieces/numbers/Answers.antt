@@ -3,6 +3,7 @@ use Rattle.tc_model.specs.CertificateData.{IsNumber}
 use Rattle.tc_cert.specs.Pieces.{AreNumbersAt}
 use Rattle.tc_cert.proofs.Fields.{plain_numbers}
 use Rattle.tc_cert.proofs.Lists.{GoesOn, begun, none, stuck, next, done, number_item, item_number}
+use Rattle.tc_cert.proofs.Steps.{no_value, no_memory}
 use Rattle.tc_cert.proofs.pieces.numbers.Goals as goal
 
 pub loop-next-init : goal.loop-next-init
@@ -26,3 +27,9 @@ pub loop-next-preserved : goal.loop-next-preserved
 loop-next-preserved c =
     subst (λ l. GoesOn decimal IsNumber c.args.end c.args.bytes.now l c.in-Some-after_byte-2.behind.now) (sym c.in_ok-push.ensures.items)
     (next decimal IsNumber plain_numbers c.args.end c.requires c.loop-next.invariant (number_item c.in-Some-number.ensures) c.in-Some-after_byte-2.ensures)
+
+pub returns-in_err-push-clause-ok : goal.returns-in_err-push-clause-ok
+returns-in_err-push-clause-ok c = no_value c.from_residual.result _ _ c.from_residual.ensures.1
+
+pub returns-in_err-push-clause-no : goal.returns-in_err-push-clause-no
+returns-in_err-push-clause-no c = no_memory _ c.from_residual.result c.from_residual.ensures.1

@@ -3,7 +3,7 @@ use Rattle.std.specs.List.Sorted.{IsStrictlySortedBy}
 use Rattle.tc_model.specs.CertificateData.{ArePairs, pair_cmp}
 use Rattle.tc_cert.specs.Standing.{IsAfterLent}
 use Rattle.tc_cert.specs.Pieces.{IsMissing}
-use Rattle.tc_cert.proofs.Steps.{same_error}
+use Rattle.tc_cert.proofs.Steps.{same_error, no_value}
 use Rattle.tc_cert.proofs.Numbers.{bool_apart}
 use Rattle.tc_cert.proofs.ReadLines.{AnOutputLine, pairs_of_line, line_of_pairs, same_pairs_at}
 use Rattle.tc_cert.proofs.reader.output_line.Goals as goal
@@ -35,3 +35,9 @@ pub returns-clause-ok : goal.returns-clause-ok
 returns-clause-ok c =
     let pairs : ArePairs c.in_ok-pairs.pairs = record { numbers = c.in_ok-pairs.ensures.ok.allowed; ascending = c.do_pairs_ascend.ensures.0 c.if-not-do_pairs_ascend.false } in
     (pairs, c.in_ok-behind.ensures.ok.0 c.if-not-behind.false, line_of_pairs c.args.bytes.now c.in-Some.inside.now c.in_ok-pairs.pairs c.in_ok-pairs.rest.now c.in-Some.ensures c.in_ok-pairs.ensures.ok)
+
+pub returns-in_err-pairs-clause-ok : goal.returns-in_err-pairs-clause-ok
+returns-in_err-pairs-clause-ok c = no_value c.from_residual.result _ _ c.from_residual.ensures.1
+
+pub returns-in_err-behind-clause-ok : goal.returns-in_err-behind-clause-ok
+returns-in_err-behind-clause-ok c = no_value c.from_residual-in_err-behind.result _ _ c.from_residual-in_err-behind.ensures.1

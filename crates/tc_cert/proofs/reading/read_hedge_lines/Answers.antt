@@ -37,3 +37,19 @@ loop-alloc-preserved c =
       last = sym (ap (λ ts. option_map of_hedge (last_of ts)) pushed ∙ ap (option_map of_hedge) (last_snoc c.loop-alloc.hedges (hedge_of f)));
       good = (c.in_ok-row.ensures.ok.0.formed, c.in_ok-row.ensures.short);
     }
+
+pub loop-alloc-init : goal.loop-alloc-init
+loop-alloc-init c = record {
+  stands = λ v bytes os ts s. subst (λ l. Stands v bytes (in_hedges v os ts c.args.count l) c.args.reader.now) (sym c.new-hedges.ensures) s;
+  few = omega (arith, ap length c.new-hedges.ensures);
+  last = sym (ap (λ l. option_map of_hedge (last_of l)) c.new-hedges.ensures);
+  good = tt;
+}
+
+pub row-requires : goal.row-requires
+row-requires c = c.loop-alloc.invariant.good
+
+pub returns : goal.returns
+returns c = λ v bytes os ts s.
+    let all : length c.loop-alloc.hedges ≡ c.args.count = omega (arith, c.loop-alloc.invariant.few, c.loop-alloc-test.false, c.len.ensures) in
+    (all, c.loop-alloc.invariant.stands v bytes os ts s)

@@ -37,3 +37,19 @@ loop-alloc-preserved c =
       last = sym (ap (λ ts. option_map of_tree (last_of ts)) pushed ∙ ap (option_map of_tree) (last_snoc c.loop-alloc.trees (tree_of f)));
       good = (c.in_ok-row.ensures.ok.0.formed, c.in_ok-row.ensures.short);
     }
+
+pub loop-alloc-init : goal.loop-alloc-init
+loop-alloc-init c = record {
+  stands = λ v bytes os s. subst (λ l. Stands v bytes (in_trees v os c.args.count l) c.args.reader.now) (sym c.new-trees.ensures) s;
+  few = omega (arith, ap length c.new-trees.ensures);
+  last = sym (ap (λ l. option_map of_tree (last_of l)) c.new-trees.ensures);
+  good = tt;
+}
+
+pub row-requires : goal.row-requires
+row-requires c = c.loop-alloc.invariant.good
+
+pub returns : goal.returns
+returns c = λ v bytes os s.
+    let all : length c.loop-alloc.trees ≡ c.args.count = omega (arith, c.loop-alloc.invariant.few, c.loop-alloc-test.false, c.len.ensures) in
+    (all, c.loop-alloc.invariant.stands v bytes os s)

@@ -2,7 +2,7 @@ use Rattle.std.proofs.Common.{List, ℕ, Some, subst, sym}
 use Rattle.tc_cert.specs.Fields.{Fields, fields_of, IsBehind, row_line}
 use Rattle.tc_cert.specs.NextRows.{IsChangedAt, IsMade, IsMadeBehind}
 use Rattle.tc_cert.specs.Pieces.{IsMissing}
-use Rattle.tc_cert.proofs.Steps.{same_error}
+use Rattle.tc_cert.proofs.Steps.{same_error, no_value}
 use Rattle.tc_cert.proofs.ReadRows.{changed_no_front, changed_no_outs, changed_no_looks, changed_not_behind, changed_not_made, changed_ok}
 use Rattle.tc_cert.proofs.rows.changed.Goals as goal
 
@@ -55,3 +55,12 @@ returns-clause-no c = λ _.
     (λ f m. c.in-None.ensures f
     (subst (λ l. IsMade (fields_of c.args.before) c.in_ok-front.front.one c.in_ok-front.front.other c.in_ok-front.front.members.items l c.deref-4.result.now f) (sym c.deref-3.ensures.value)
     (subst (λ l. IsMade (fields_of c.args.before) c.in_ok-front.front.one c.in_ok-front.front.other c.in_ok-front.front.members.items c.in_ok-outs.outs.items l f) (sym c.deref-4.ensures.value) m)))
+
+pub returns-in_err-front-clause-ok : goal.returns-in_err-front-clause-ok
+returns-in_err-front-clause-ok c = no_value c.from_residual.result _ _ c.from_residual.ensures.1
+
+pub returns-in_err-outs-clause-ok : goal.returns-in_err-outs-clause-ok
+returns-in_err-outs-clause-ok c = no_value c.from_residual-in_err-outs.result _ _ c.from_residual-in_err-outs.ensures.1
+
+pub returns-in_err-looks-clause-ok : goal.returns-in_err-looks-clause-ok
+returns-in_err-looks-clause-ok c = no_value c.from_residual-in_err-looks.result _ _ c.from_residual-in_err-looks.ensures.1

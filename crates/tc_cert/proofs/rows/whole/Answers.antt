@@ -3,7 +3,7 @@ use Rattle.tc_cert.specs.Fields.{Fields}
 use Rattle.tc_cert.specs.NextRows.{IsWholeAt}
 use Rattle.tc_cert.specs.Pieces.{IsMissing}
 use Rattle.tc_cert.proofs.Numbers.{bool_apart}
-use Rattle.tc_cert.proofs.Steps.{same_error}
+use Rattle.tc_cert.proofs.Steps.{same_error, no_value}
 use Rattle.tc_cert.proofs.ReadRows.{whole_no_front, whole_no_outs, whole_no_looks, whole_not_small, whole_ok}
 use Rattle.tc_cert.proofs.rows.whole.Goals as goal
 
@@ -34,3 +34,12 @@ returns-clause-ok c =
     whole_ok c.args.kind c.args.bytes.now c.letter.result c.letter.ensures c.in_ok-front.front.one c.in_ok-front.front.other c.in_ok-front.front.members.items c.in_ok-front.rest.now c.in_ok-front.ensures.ok
     c.in_ok-outs.outs.items c.in_ok-outs.rest.now c.in_ok-looks.looks.items c.in_ok-looks.rest.now c.in_ok-outs.ensures.ok c.in_ok-looks.ensures.ok
     (subst (All (λ n. n ≤ 2)) c.deref.ensures.value (c.are_looks.ensures.0 c.if-not-are_looks.false))
+
+pub returns-in_err-front-clause-ok : goal.returns-in_err-front-clause-ok
+returns-in_err-front-clause-ok c = no_value c.from_residual.result _ _ c.from_residual.ensures.1
+
+pub returns-in_err-outs-clause-ok : goal.returns-in_err-outs-clause-ok
+returns-in_err-outs-clause-ok c = no_value c.from_residual-in_err-outs.result _ _ c.from_residual-in_err-outs.ensures.1
+
+pub returns-in_err-looks-clause-ok : goal.returns-in_err-looks-clause-ok
+returns-in_err-looks-clause-ok c = no_value c.from_residual-in_err-looks.result _ _ c.from_residual-in_err-looks.ensures.1

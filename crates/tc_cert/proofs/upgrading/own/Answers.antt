@@ -1,6 +1,6 @@
 use Rattle.std.proofs.Common.{◌≡◌, ◌∙◌, ◌++◌, length, ap, arith}
 use Rattle.tc_cert.specs.Readings.{IsNotUpgraded, upgrade_fault}
-use Rattle.tc_cert.proofs.Steps.{same_error}
+use Rattle.tc_cert.proofs.Steps.{same_error, no_value}
 use Rattle.tc_cert.proofs.Upgrades.{own_of, not_read}
 use Rattle.tc_cert.proofs.upgrading.own.Goals as goal
 
@@ -17,3 +17,9 @@ returns-clause-ok c =
       spelled = same ∙ own_of c.args.text.now c.in_ok-first_unfit.ensures.ok.0 c.requires.begins c.in_ok-first_unfit.ensures.ok.1;
       within = omega (arith, ap length same, c.requires.short);
     }
+
+pub returns-in_err-first_unfit-clause-ok : goal.returns-in_err-first_unfit-clause-ok
+returns-in_err-first_unfit-clause-ok c = no_value c.from_residual.result _ _ c.from_residual.ensures.1
+
+pub returns-in_err-extend_from_slice-clause-ok : goal.returns-in_err-extend_from_slice-clause-ok
+returns-in_err-extend_from_slice-clause-ok c = no_value c.from_residual-in_err-extend_from_slice.result _ _ c.from_residual-in_err-extend_from_slice.ensures.1

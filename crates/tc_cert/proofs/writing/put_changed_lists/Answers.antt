@@ -1,4 +1,5 @@
 use Rattle.tc_cert.proofs.Ends.{first_of_three, second_of_three, third_put, third_fault}
+use Rattle.tc_cert.proofs.Steps.{not_done}
 use Rattle.tc_cert.proofs.writing.put_changed_lists.Goals as goal
 
 pub returns-in_err-put_field-clause-cause : goal.returns-in_err-put_field-clause-cause
@@ -12,3 +13,9 @@ returns-clause-ok c = third_put c.args.text.now c.put_field.new.text c.put_chang
 
 pub returns-clause-cause : goal.returns-clause-cause
 returns-clause-cause c = third_fault c.args.text.now c.put_field.new.text c.put_changed.new.text _ _ _ c.put_changed-2.result c.in_ok-put_field.ensures.ok c.in_ok-put_changed.ensures.ok c.put_changed-2.ensures.cause
+
+pub returns-in_err-put_field-clause-ok : goal.returns-in_err-put_field-clause-ok
+returns-in_err-put_field-clause-ok c = not_done c.from_residual.result _ _ c.from_residual.ensures.1
+
+pub returns-in_err-put_changed-clause-ok : goal.returns-in_err-put_changed-clause-ok
+returns-in_err-put_changed-clause-ok c = not_done c.from_residual-in_err-put_changed.result _ _ c.from_residual-in_err-put_changed.ensures.1

@@ -1,7 +1,9 @@
-use Rattle.std.proofs.Common.{◌++◌, codes}
+use Rattle.std.proofs.Common.{◌++◌, codes, arith}
 use Rattle.tc_model.specs.CertificateLines as lines
 use Rattle.tc_cert.specs.Puts.{IsCause}
-use Rattle.tc_cert.proofs.Steps.{piece_step, piece_cause, same_error}
+use Rattle.tc_cert.proofs.Steps.{piece_step, piece_cause, same_error, not_done, listed_begun, listed_cause}
+use Rattle.tc_cert.proofs.Puts.{ended}
+use Rattle.tc_cert.proofs.Loops.{no_piece}
 use Rattle.tc_cert.proofs.writing.put_changes.Goals as goal
 
 pub returns-in_err-put_next_change-clause-cause : goal.returns-in_err-put_next_change-clause-cause
@@ -11,3 +13,23 @@ returns-in_err-put_next_change-clause-cause c =
 
 pub loop-i-preserved : goal.loop-i-preserved
 loop-i-preserved c = piece_step (λ n. codes "," ++ lines.change n) c.args.changes.now c.loop-i.i c.get-in-loop-i.result.now c.get-in-loop-i.ensures c.loop-i.invariant c.in_ok-put_next_change.ensures.ok
+
+pub returns-in_err-put_change-clause-ok : goal.returns-in_err-put_change-clause-ok
+returns-in_err-put_change-clause-ok c = not_done c.from_residual.result _ _ c.from_residual.ensures.1
+
+pub returns-in_err-put_next_change-clause-ok : goal.returns-in_err-put_next_change-clause-ok
+returns-in_err-put_next_change-clause-ok c = not_done c.from_residual-in_err-put_next_change.result _ _ c.from_residual-in_err-put_next_change.ensures.1
+
+pub returns-in_err-put_change-clause-cause : goal.returns-in_err-put_change-clause-cause
+returns-in_err-put_change-clause-cause c =
+    same_error (IsCause c.args.text.now (lines.listed lines.change c.args.changes.now)) c.from_residual.result c.in_err-put_change.field-0.0 c.from_residual.ensures.1
+    (listed_cause lines.change c.args.changes.now c.get.result.now c.get.ensures c.in_err-put_change.ensures.cause)
+
+pub loop-i-init : goal.loop-i-init
+loop-i-init c = listed_begun lines.change c.args.changes.now c.get.result.now c.get.ensures c.in_ok-put_change.ensures.ok
+
+pub returns-clause-ok : goal.returns-clause-ok
+returns-clause-ok c = ended c.loop-i.invariant (no_piece (λ n. codes "," ++ lines.change n) c.args.changes.now c.loop-i.i (omega arith))
+
+pub returns-clause-cause : goal.returns-clause-cause
+returns-clause-cause c = tt

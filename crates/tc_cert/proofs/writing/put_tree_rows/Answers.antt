@@ -2,9 +2,9 @@ use Rattle.std.proofs.Common.{arith, suc, ◌-◌, ◌≤◌, length}
 use Rattle.tc_model.specs.CertificateLines as lines
 use Rattle.tc_cert.specs.Texts as texts
 use Rattle.tc_cert.specs.Puts.{IsCause}
-use Rattle.tc_cert.proofs.Puts.{ended}
-use Rattle.tc_cert.proofs.Loops.{no_row}
-use Rattle.tc_cert.proofs.Steps.{row_step, row_cause, same_error}
+use Rattle.tc_cert.proofs.Puts.{ended, begun}
+use Rattle.tc_cert.proofs.Loops.{no_row, first_row}
+use Rattle.tc_cert.proofs.Steps.{row_step, row_cause, same_error, not_done, rows_cause}
 use Rattle.tc_cert.proofs.writing.put_tree_rows.Goals as goal
 
 pub returns-in_err-put_next_tree-clause-cause : goal.returns-in_err-put_next_tree-clause-cause
@@ -19,3 +19,20 @@ pub returns-clause-ok : goal.returns-clause-ok
 returns-clause-ok c =
     let past : length c.args.trees.now ≤ suc (c.loop-i.i - 1) = omega arith in
     ended c.loop-i.invariant (no_row lines.tree_behind c.args.trees.now (c.loop-i.i - 1) past)
+
+pub returns-in_err-put_first_tree-clause-ok : goal.returns-in_err-put_first_tree-clause-ok
+returns-in_err-put_first_tree-clause-ok c = not_done c.from_residual.result _ _ c.from_residual.ensures.1
+
+pub returns-in_err-put_next_tree-clause-ok : goal.returns-in_err-put_next_tree-clause-ok
+returns-in_err-put_next_tree-clause-ok c = not_done c.from_residual-in_err-put_next_tree.result _ _ c.from_residual-in_err-put_next_tree.ensures.1
+
+pub returns-in_err-put_first_tree-clause-cause : goal.returns-in_err-put_first_tree-clause-cause
+returns-in_err-put_first_tree-clause-cause c =
+    same_error (IsCause c.args.text.now (texts.rows_in lines.tree_line lines.tree_behind c.args.trees.now)) c.from_residual.result c.in_err-put_first_tree.field-0.0 c.from_residual.ensures.1
+    (rows_cause lines.tree_line lines.tree_behind c.args.trees.now c.get-first.result.now c.get-first.ensures c.in_err-put_first_tree.ensures.cause)
+
+pub loop-i-init : goal.loop-i-init
+loop-i-init c = begun c.in_ok-put_first_tree.ensures.ok (first_row lines.tree_line lines.tree_behind c.args.trees.now c.get-first.result.now c.get-first.ensures)
+
+pub returns-clause-cause : goal.returns-clause-cause
+returns-clause-cause c = tt

@@ -1,0 +1,8 @@
+use Rattle.tc_cert.proofs.Steps.{no_value}
+use Rattle.tc_cert.proofs.order.pair_order.Goals as goal
+
+pub returns-in_err-first : goal.returns-in_err-first
+returns-in_err-first c = no_value c.from_residual.result _ _ c.from_residual.ensures.1
+
+pub returns-in_err-second : goal.returns-in_err-second
+returns-in_err-second c = no_value c.from_residual-in_err-second.result _ _ c.from_residual-in_err-second.ensures.1
