@@ -27,15 +27,24 @@ fn numbers_of(alloc: Global, numbers: &[u32]) -> Result<Numbers, NoMemory>
     Ok(list)
 }
 
+/// The members of a row, its outputs and its looks.
+fn lists_of(alloc: Global, row: &Row) -> Result<(Numbers, Numbers, Numbers), NoMemory>
+    requires { IsShort (fields_of row.now) }
+    ensures { IfOk result (λ l. (l.0 ≡ (fields_of row.now).members) × (l.1 ≡ (fields_of row.now).outs) × (l.2 ≡ (fields_of row.now).looks)) }
+{
+    let members = numbers_of(alloc, &row.members)?;
+    let outs = numbers_of(alloc, &row.outs)?;
+    let looks = numbers_of(alloc, &row.looks)?;
+    Ok((members, outs, looks))
+}
+
 /// Puts a row at the end of those of trees.
 fn push_tree(alloc: Global, trees: &mut TreeLines, row: &Row) -> Result<(), NoMemory>
     requires few { length trees.old < 4294967295 }
     requires short { IsShort (fields_of row.now) }
     ensures { OnOk result (trees.new ≡ trees.old ++ tree_of (fields_of row.now) ∷ []) }
 {
-    let patterns = numbers_of(alloc, &row.members)?;
-    let outs = numbers_of(alloc, &row.outs)?;
-    let looks = numbers_of(alloc, &row.looks)?;
+    let (patterns, outs, looks) = lists_of(alloc, row)?;
     trees.push(TreeLine {
         text: row.one,
         bears: row.other,
@@ -51,9 +60,7 @@ fn push_hedge(alloc: Global, hedges: &mut HedgeLines, row: &Row) -> Result<(), N
     requires short { IsShort (fields_of row.now) }
     ensures { OnOk result (hedges.new ≡ hedges.old ++ hedge_of (fields_of row.now) ∷ []) }
 {
-    let states = numbers_of(alloc, &row.members)?;
-    let outs = numbers_of(alloc, &row.outs)?;
-    let looks = numbers_of(alloc, &row.looks)?;
+    let (states, outs, looks) = lists_of(alloc, row)?;
     hedges.push(HedgeLine {
         ends: row.one,
         bears: row.other,
