@@ -4,6 +4,7 @@ use Rattle.tc_model.specs.Grammars.{ElementPattern, in_class}
 use Rattle.tc_auto.specs.Stands.{patterns}
 use Rattle.tc_hedge.proofs.Bounds.{patterns_of}
 use Rattle.tc_hedge.proofs.TableRows.{allowed_more}
+use Rattle.tc_beh.proofs.Steps.{not_done}
 use Rattle.tc_beh.proofs.alike.add_classes.Goals as goal
 
 pub loop-before-preserved : goal.loop-before-preserved
@@ -20,3 +21,6 @@ returns c = λ side g symbols st name same.
     let auto : patterns c.auto.result.now ≡ patterns c.args.schema.now.auto = ap patterns c.auto.ensures in
     let all = take_all c.loop-before.before g.elements (omega (arith, c.loop-before-test.false, c.patterns-before-end.ensures.here, auto, patterns_of side g c.args.schema.now.auto st.auto)) in
     c.loop-before.invariant side g symbols st name same ∙ ap (λ es. c.args.key.now.items ++ map (λ (e : ElementPattern). in_class e.names name) es) all
+
+pub returns-in_err-push : goal.returns-in_err-push
+returns-in_err-push c = not_done c.from_residual.result _ _ c.from_residual.ensures.1

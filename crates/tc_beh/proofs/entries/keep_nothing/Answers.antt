@@ -4,6 +4,7 @@ use Rattle.tc_beh.specs.Entries.{IsNothing}
 use Rattle.tc_beh.specs.Held.{set_at}
 use Rattle.tc_beh.proofs.Holding.{extends_kept, set_kept, grows_kept, on_err}
 use Rattle.tc_beh.proofs.Nowhere.{nothing_kept}
+use Rattle.tc_beh.proofs.Steps.{no_value}
 use Rattle.tc_beh.proofs.entries.keep_nothing.Goals as goal
 
 pub returns-in-Some-clause-number : goal.returns-in-Some-clause-number
@@ -50,3 +51,9 @@ returns-clause-held c = extends_kept c.args.outputs.now c.keep.new.outputs c.put
 
 pub returns-clause-grows : goal.returns-clause-grows
 returns-clause-grows c = grows_kept c.args.outputs.now c.keep.new.outputs c.put_identity.new.out (Ok c.in_ok-number.number) c.in_ok-number.ensures.number c.in_ok-number.ensures.grows
+
+pub returns-in_err-number-clause-number : goal.returns-in_err-number-clause-number
+returns-in_err-number-clause-number c = no_value c.from_residual.result _ _ c.from_residual.ensures.1
+
+pub returns-in_err-number-clause-grows : goal.returns-in_err-number-clause-grows
+returns-in_err-number-clause-grows c = no_value c.from_residual.result _ _ c.from_residual.ensures.1

@@ -8,6 +8,7 @@ use Rattle.tc_beh.specs.Places.{entries_by}
 use Rattle.tc_beh.specs.Rooms.{output_at}
 use Rattle.tc_beh.proofs.Holding.{extends_self, extends_then, on_err}
 use Rattle.tc_beh.proofs.Coming.{grounds_kept, read_kept, comes_none, comes_same, next_row}
+use Rattle.tc_beh.proofs.Steps.{not_done}
 use Rattle.tc_beh.proofs.entries.put_entries.Goals as goal
 
 pub loop-ancestor-init : goal.loop-ancestor-init
@@ -115,3 +116,6 @@ put_row-requires-clause-room c =
     let room = c.requires.room in
     let same = c.loop-ancestor.invariant.beside.entries in
     omega (arith, fit, room, same)
+
+pub returns-in_err-put_row-clause-comes : goal.returns-in_err-put_row-clause-comes
+returns-in_err-put_row-clause-comes c = not_done c.from_residual.result _ _ c.from_residual.ensures.1

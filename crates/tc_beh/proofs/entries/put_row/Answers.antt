@@ -10,6 +10,7 @@ use Rattle.tc_beh.specs.Rooms.{output_at}
 use Rattle.tc_beh.proofs.Looking.{moves_told}
 use Rattle.tc_beh.proofs.Holding.{extends_self, extends_then, on_err}
 use Rattle.tc_beh.proofs.Coming.{grounds_kept, read_kept, called_kept, row_within, comes_step, comes_partly, comes_same}
+use Rattle.tc_beh.proofs.Steps.{not_done}
 use Rattle.tc_beh.proofs.entries.put_row.Goals as goal
 
 pub loop-state-init : goal.loop-state-init
@@ -123,3 +124,6 @@ set_output-requires c =
     subst (λ j. j < room) (sym c.entry_place.ensures) (row_within c.args.ancestor c.loop-state.state c.moves-moves.result (move_count (told c.args.machine.now.rules)) room many c.loop-state-test.true c.requires.room)
     in
     omega (arith, inside, same)
+
+pub returns-in_err-number-clause-comes : goal.returns-in_err-number-clause-comes
+returns-in_err-number-clause-comes c = not_done c.from_residual.result _ _ c.from_residual.ensures.1

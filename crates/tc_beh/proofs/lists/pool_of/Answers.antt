@@ -4,6 +4,7 @@ use Rattle.tc_mat.specs.Held.{Held}
 use Rattle.tc_rows.specs.PairSets.{IsPairs}
 use Rattle.tc_beh.proofs.Holding.{low_got}
 use Rattle.tc_beh.proofs.InOrder.{listed_as, not_yet_held, holds_one_more}
+use Rattle.tc_beh.proofs.Steps.{no_value}
 use Rattle.tc_beh.proofs.lists.pool_of.Goals as goal
 
 pub put_pairs-requires : goal.put_pairs-requires
@@ -43,3 +44,15 @@ loop-number-preserved c =
       set = size;
       held = holds_one_more c.loop-number.outputs c.hold.new.outputs lists n m low c.loop-number.invariant.held (listed_as m c.args.size r size are c.put_pairs.ensures.pairs ∙ sym at) (ap (λ (h : Held). h.matrices) c.in_ok-hold.ensures);
     }
+
+pub returns-in_err-set-clause-size : goal.returns-in_err-set-clause-size
+returns-in_err-set-clause-size c = no_value c.from_residual.result _ _ c.from_residual.ensures.1
+
+pub returns-in_err-set-clause-sets : goal.returns-in_err-set-clause-sets
+returns-in_err-set-clause-sets c = no_value c.from_residual.result _ _ c.from_residual.ensures.1
+
+pub returns-in_err-hold-clause-size : goal.returns-in_err-hold-clause-size
+returns-in_err-hold-clause-size c = no_value c.from_residual-in_err-hold.result _ _ c.from_residual-in_err-hold.ensures.1
+
+pub returns-in_err-hold-clause-sets : goal.returns-in_err-hold-clause-sets
+returns-in_err-hold-clause-sets c = no_value c.from_residual-in_err-hold.result _ _ c.from_residual-in_err-hold.ensures.1

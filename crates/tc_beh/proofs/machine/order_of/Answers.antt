@@ -7,6 +7,7 @@ use Rattle.tc_rows.specs.Counts.{PassCalls}
 use Rattle.tc_beh.specs.Callees.{AreCalleesFirst}
 use Rattle.tc_beh.specs.Heights.{heights_in, highest, highest_rule, deepest, deepest_rule}
 use Rattle.tc_beh.proofs.Sizes.{looks_are, calls_low, passes, keeps, shallow, ordered, sheet_is}
+use Rattle.tc_beh.proofs.Steps.{no_value, not_done}
 use Rattle.tc_beh.proofs.machine.order_of.Goals as goal
 
 pub callees_first-requires : goal.callees_first-requires
@@ -59,3 +60,21 @@ returns-clause-within c = λ x p.
       λ h. keeps sh well c.in_ok-order.order.items c.in_ok-order.ensures.order c.in_ok-calls.calls calls_are c.if-calls-ge-TOO_MANY.false (subst (λ s. PassCalls s 8000) (sym same) h),
       λ h. absurd (omega (arith, c.entries_of.ensures.exact x p, looks_are x c.args.rules.now p c.looks.result (c.looks.ensures x.symbols p.rules), c.if-entries_of-looks-gt-MOST_ENTRIES.false, h)),
     )
+
+pub returns-in_err-order-clause-order : goal.returns-in_err-order-clause-order
+returns-in_err-order-clause-order c = no_value c.from_residual.result _ _ c.from_residual.ensures.1
+
+pub returns-in_err-order-clause-shallow : goal.returns-in_err-order-clause-shallow
+returns-in_err-order-clause-shallow c = not_done c.from_residual.result _ _ c.from_residual.ensures.1
+
+pub returns-in_err-order-clause-within : goal.returns-in_err-order-clause-within
+returns-in_err-order-clause-within c = not_done c.from_residual.result _ _ c.from_residual.ensures.1
+
+pub returns-in_err-calls-clause-order : goal.returns-in_err-calls-clause-order
+returns-in_err-calls-clause-order c = no_value c.from_residual-in_err-calls.result _ _ c.from_residual-in_err-calls.ensures.1
+
+pub returns-in_err-calls-clause-shallow : goal.returns-in_err-calls-clause-shallow
+returns-in_err-calls-clause-shallow c = not_done c.from_residual-in_err-calls.result _ _ c.from_residual-in_err-calls.ensures.1
+
+pub returns-in_err-calls-clause-within : goal.returns-in_err-calls-clause-within
+returns-in_err-calls-clause-within c = not_done c.from_residual-in_err-calls.result _ _ c.from_residual-in_err-calls.ensures.1

@@ -2,6 +2,7 @@ use Rattle.std.proofs.Common.{subst, sym}
 use Rattle.std.proofs.lemmas.List.{drop_all, get_or_default}
 use Rattle.tc_beh.specs.AlikeSymbols.{asked_tests, seen}
 use Rattle.tc_beh.proofs.AskedTests.{AreSoFar, none_so_far, one_more, all_asked}
+use Rattle.tc_beh.proofs.Steps.{no_value}
 use Rattle.tc_beh.proofs.node_tests.each_once.Goals as goal
 
 pub loop-test-init : goal.loop-test-init
@@ -14,3 +15,6 @@ loop-test-preserved c =
 
 pub returns : goal.returns
 returns c = all_asked (seen c.args.tests.now) (asked_tests c.loop-test.found.keys) (subst (λ l. AreSoFar (seen c.args.tests.now) (seen l) (asked_tests c.loop-test.found.keys)) (drop_all c.loop-test.test-index c.args.tests.now c.loop-test-test.false) c.loop-test.invariant)
+
+pub returns-in_err-put : goal.returns-in_err-put
+returns-in_err-put c = no_value c.from_residual.result _ _ c.from_residual.ensures.1

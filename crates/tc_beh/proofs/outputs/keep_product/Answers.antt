@@ -6,6 +6,7 @@ use Rattle.tc_beh.specs.Places.{no_matrix}
 use Rattle.tc_beh.specs.Held.{Extends, set_at}
 use Rattle.tc_beh.proofs.Holding.{extends_kept, set_kept, grows_kept, on_err, pairs_kept, new_kept}
 use Rattle.tc_beh.proofs.Remembering.{product_of}
+use Rattle.tc_beh.proofs.Steps.{no_value}
 use Rattle.tc_beh.proofs.outputs.keep_product.Goals as goal
 
 pub remember-requires : goal.remember-requires
@@ -50,3 +51,9 @@ returns-in_err-number-clause-err c =
     let first : set_at old c.args.first ≡ c.get.result.now = get_or_from_slice_get old.matrices c.args.first c.get.result.now no_matrix c.get.ensures.matrix in
     let second : set_at old c.args.second ≡ c.get-2.result.now = get_or_from_slice_get old.matrices c.args.second c.get-2.result.now no_matrix c.get-2.ensures.matrix in
     on_err c.from_residual.result _ (new_kept old c.keep.new.outputs c.mul_into.new.out (set_at old c.args.first) (set_at old c.args.second) c.get.result.now c.get-2.result.now (Err c.in_err-number.field-0.0) c.in_err-number.ensures.err (c.mul_into.ensures.size ∙ c.requires.set) c.mul_into.ensures.matrix first second c.mul_into.ensures.pairs)
+
+pub returns-in_err-number-clause-pairs : goal.returns-in_err-number-clause-pairs
+returns-in_err-number-clause-pairs c = no_value c.from_residual.result _ _ c.from_residual.ensures.1
+
+pub returns-in_err-number-clause-grows : goal.returns-in_err-number-clause-grows
+returns-in_err-number-clause-grows c = no_value c.from_residual.result _ _ c.from_residual.ensures.1

@@ -3,6 +3,7 @@ use Rattle.tc_mat.specs.Held.{Held}
 use Rattle.tc_beh.specs.Rooms.{output_at}
 use Rattle.tc_beh.specs.Held.{set_at, IsNew, AreProducts}
 use Rattle.tc_beh.proofs.Holding.{extends_count, grows_step, on_err, new_before, pairs_step, products_found}
+use Rattle.tc_beh.proofs.Steps.{not_done}
 use Rattle.tc_beh.proofs.outputs.put_products.Goals as goal
 
 pub returns-in_err-number-clause-err : goal.returns-in_err-number-clause-err
@@ -77,3 +78,9 @@ keep_product-requires-clause-second c =
 
 pub keep_product-requires-clause-set : goal.keep_product-requires-clause-set
 keep_product-requires-clause-set c = c.loop-place.invariant.set ∙ (c.requires.set ∙ sym c.loop-place.invariant.grows.held.size)
+
+pub returns-in_err-number-clause-grows : goal.returns-in_err-number-clause-grows
+returns-in_err-number-clause-grows c = not_done c.from_residual.result _ _ c.from_residual.ensures.1
+
+pub returns-in_err-number-clause-pairs : goal.returns-in_err-number-clause-pairs
+returns-in_err-number-clause-pairs c = not_done c.from_residual.result _ _ c.from_residual.ensures.1

@@ -5,6 +5,7 @@ use Rattle.tc_rules.specs.RulesView.{RulesView}
 use Rattle.tc_rows.specs.Triples.{sheet}
 use Rattle.tc_beh.specs.AlikeSymbols.{AreAsked, asked_tests}
 use Rattle.tc_beh.proofs.FirstAlike.{first_alike}
+use Rattle.tc_beh.proofs.Steps.{no_value}
 use Rattle.tc_beh.proofs.alike.Alike.of.Goals as goal
 
 pub firsts_of-requires-clause-input : goal.firsts_of-requires-clause-input
@@ -24,3 +25,9 @@ returns c = λ x is.
       count = c.in_ok-firsts.ensures.count ∙ ap symbol_count is.parts.same_symbols;
       each = λ a first at. first_alike x asked a first are (firsts a first at);
     }
+
+pub returns-in_err-asked : goal.returns-in_err-asked
+returns-in_err-asked c = no_value c.from_residual.result _ _ c.from_residual.ensures.1
+
+pub returns-in_err-firsts : goal.returns-in_err-firsts
+returns-in_err-firsts c = no_value c.from_residual-in_err-firsts.result _ _ c.from_residual-in_err-firsts.ensures.1

@@ -6,6 +6,7 @@ use Rattle.tc_beh.proofs.Sizes.{handed_on, sheet_is}
 use Rattle.tc_beh.specs.Machines.{AreParts, IsMachineCause}
 use Rattle.tc_beh.specs.Stands.{IsRulesIn}
 use Rattle.tc_rows.specs.Triples.{Triple}
+use Rattle.tc_beh.proofs.Steps.{no_value, not_done}
 use Rattle.tc_beh.proofs.machine.Machine.of.Goals as goal
 
 pub order_of-requires : goal.order_of-requires
@@ -33,3 +34,9 @@ returns-clause-stands c = λ x p.
 
 pub returns-clause-within : goal.returns-clause-within
 returns-clause-within c = λ x p. c.in_ok-order.ensures.within x p.are_rules
+
+pub returns-in_err-order-clause-stands : goal.returns-in_err-order-clause-stands
+returns-in_err-order-clause-stands c = no_value c.from_residual.result _ _ c.from_residual.ensures.1
+
+pub returns-in_err-order-clause-within : goal.returns-in_err-order-clause-within
+returns-in_err-order-clause-within c = not_done c.from_residual.result _ _ c.from_residual.ensures.1

@@ -8,6 +8,7 @@ use Rattle.tc_beh.specs.Rooms.{output_at}
 use Rattle.tc_beh.proofs.Holding.{on_err}
 use Rattle.tc_beh.proofs.Appends.{is_live, isnt_live, appended, refused}
 use Rattle.tc_beh.proofs.WrapRows.{beside_then, rows_after}
+use Rattle.tc_beh.proofs.Steps.{no_value}
 use Rattle.tc_beh.proofs.rows.Rows.append.Goals as goal
 
 pub put_kind-requires-clause-patterns : goal.put_kind-requires-clause-patterns
@@ -150,3 +151,15 @@ returns-clause-grows c = λ e.
     let us = c.put_append.new.out.numbers.items in
     let beside = c.put_append.ensures.beside in
     subst (λ n. Grows old new (output_at c.put_append.new.out.flags us) n) (sym beside.entries) (subst (λ f. Grows old new (output_at f us) c.put_kind.new.out.entries) (sym beside.flags) c.in_ok-put_append.ensures.grows)
+
+pub returns-in_err-put_append-clause-dead : goal.returns-in_err-put_append-clause-dead
+returns-in_err-put_append-clause-dead c = no_value c.from_residual.result _ _ c.from_residual.ensures.1
+
+pub returns-in_err-put_append-clause-live : goal.returns-in_err-put_append-clause-live
+returns-in_err-put_append-clause-live c = no_value c.from_residual.result _ _ c.from_residual.ensures.1
+
+pub returns-in_err-put_append-clause-row : goal.returns-in_err-put_append-clause-row
+returns-in_err-put_append-clause-row c = no_value c.from_residual.result _ _ c.from_residual.ensures.1
+
+pub returns-in_err-put_append-clause-grows : goal.returns-in_err-put_append-clause-grows
+returns-in_err-put_append-clause-grows c = no_value c.from_residual.result _ _ c.from_residual.ensures.1

@@ -7,6 +7,7 @@ use Rattle.tc_rows.specs.Triples.{outputs}
 use Rattle.tc_rows.specs.PairSets.{IsPairs}
 use Rattle.tc_beh.specs.Outs.{sets_of}
 use Rattle.tc_beh.proofs.Passing.{if_ok_map}
+use Rattle.tc_beh.proofs.Steps.{no_value}
 use Rattle.tc_beh.proofs.rows.Rows.fixed.Goals as goal
 
 pub pool_of-requires-clause-pairs : goal.pool_of-requires-clause-pairs
@@ -26,3 +27,15 @@ returns-clause-stands c =
 pub returns-clause-sets : goal.returns-clause-sets
 returns-clause-sets c =
     if_ok_map c.over.result _ _ (λ r e. ap (λ (h : Held). sets_of h.matrices) e ∙ c.in_ok-pool.ensures.sets) c.over.ensures.outputs
+
+pub returns-in_err-pool-clause-stands : goal.returns-in_err-pool-clause-stands
+returns-in_err-pool-clause-stands c = no_value c.from_residual.result _ _ c.from_residual.ensures.1
+
+pub returns-in_err-pool-clause-sets : goal.returns-in_err-pool-clause-sets
+returns-in_err-pool-clause-sets c = no_value c.from_residual.result _ _ c.from_residual.ensures.1
+
+pub returns-in_err-pool-clause-fixed : goal.returns-in_err-pool-clause-fixed
+returns-in_err-pool-clause-fixed c = no_value c.from_residual.result _ _ c.from_residual.ensures.1
+
+pub returns-in_err-pool-clause-machine : goal.returns-in_err-pool-clause-machine
+returns-in_err-pool-clause-machine c = no_value c.from_residual.result _ _ c.from_residual.ensures.1

@@ -8,6 +8,7 @@ use Rattle.tc_beh.specs.Rooms.{tree_layout, flag_at, output_at}
 use Rattle.tc_beh.proofs.Holding.{on_err}
 use Rattle.tc_beh.proofs.Led.{leads_back, leads_kept}
 use Rattle.tc_beh.proofs.WrapRows.{text_letter, text_grounds, text_left_out, text_room, is_text_row, room_after, beside_then, rows_after}
+use Rattle.tc_beh.proofs.Steps.{no_value}
 use Rattle.tc_beh.proofs.rows.Rows.text_row.Goals as goal
 
 pub returns-then-not-has_text-clause-dead : goal.returns-then-not-has_text-clause-dead
@@ -111,3 +112,15 @@ returns-clause-grows c = λ e.
     let us = c.put_node.new.out.numbers.items in
     let beside = c.put_node.ensures.beside in
     subst (λ n. Grows old new (output_at c.put_node.new.out.flags us) n) (sym beside.entries) (subst (λ f. Grows old new (output_at f us) c.clear_flags.new.self.entries) (sym beside.flags) c.in_ok-put_node.ensures.grows)
+
+pub returns-in_err-put_node-clause-dead : goal.returns-in_err-put_node-clause-dead
+returns-in_err-put_node-clause-dead c = no_value c.from_residual.result _ _ c.from_residual.ensures.1
+
+pub returns-in_err-put_node-clause-live : goal.returns-in_err-put_node-clause-live
+returns-in_err-put_node-clause-live c = no_value c.from_residual.result _ _ c.from_residual.ensures.1
+
+pub returns-in_err-put_node-clause-row : goal.returns-in_err-put_node-clause-row
+returns-in_err-put_node-clause-row c = no_value c.from_residual.result _ _ c.from_residual.ensures.1
+
+pub returns-in_err-put_node-clause-grows : goal.returns-in_err-put_node-clause-grows
+returns-in_err-put_node-clause-grows c = no_value c.from_residual.result _ _ c.from_residual.ensures.1

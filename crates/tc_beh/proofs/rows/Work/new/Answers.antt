@@ -7,6 +7,7 @@ use Rattle.tc_auto.specs.Stands as a
 use Rattle.tc_auto.specs.declared.auto.Auto.{Auto}
 use Rattle.tc_rows.specs.Triples.{outputs, sheet}
 use Rattle.tc_beh.proofs.Sizes.{sheet_is}
+use Rattle.tc_beh.proofs.Steps.{no_value}
 use Rattle.tc_beh.proofs.rows.Work.new.Goals as goal
 
 pub returns : goal.returns
@@ -30,3 +31,18 @@ returns c = λ x is.
       few = omega (arith, count, depth);
       known = c.in_ok-known.ensures x.symbols x.rules;
     }
+
+pub returns-in_err-text : goal.returns-in_err-text
+returns-in_err-text c = no_value c.from_residual.result _ _ c.from_residual.ensures.1
+
+pub returns-in_err-set : goal.returns-in_err-set
+returns-in_err-set c = no_value c.from_residual-in_err-set.result _ _ c.from_residual-in_err-set.ensures.1
+
+pub returns-in_err-named : goal.returns-in_err-named
+returns-in_err-named c = no_value c.from_residual-in_err-named.result _ _ c.from_residual-in_err-named.ensures.1
+
+pub returns-in_err-spare : goal.returns-in_err-spare
+returns-in_err-spare c = no_value c.from_residual-in_err-spare.result _ _ c.from_residual-in_err-spare.ensures.1
+
+pub returns-in_err-known : goal.returns-in_err-known
+returns-in_err-known c = no_value c.from_residual-in_err-known.result _ _ c.from_residual-in_err-known.ensures.1
