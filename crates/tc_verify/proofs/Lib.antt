@@ -12,3 +12,4 @@ pub mod Verified
 pub mod Rejecting
 pub mod Unfit
 pub mod Stepping
+pub mod HandedOn

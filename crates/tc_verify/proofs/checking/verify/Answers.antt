@@ -3,6 +3,7 @@ use Rattle.tc_beh.specs.Machines.{IsMachineOf}
 use Rattle.tc_verify.specs.Rejects.{IsCause}
 use Rattle.tc_verify.specs.Checkers.{view_of}
 use Rattle.tc_verify.proofs.Verified.{all_fit, unfit_rejected, lacks, is_certified, is_safe, is_all_live, is_rejected, are_in}
+use Rattle.tc_verify.proofs.HandedOn.{not_done}
 use Rattle.tc_verify.proofs.checking.verify.Goals as goal
 
 pub returns-in-Some-clause-cause : goal.returns-in-Some-clause-cause
@@ -41,3 +42,12 @@ pub returns-in-Err-clause-cause : goal.returns-in-Err-clause-cause
 returns-in-Err-clause-cause c =
     is_rejected c.args.machine.now c.args.cert.now c.requires.formed (λ x is. all_fit x c.shape.result c.args.cert.now (c.shape.ensures x is) c.in_default.ensures) (view_of c.in_ok-checker.checker) c.in_ok-checker.ensures.machine
     c.in_ok-checker.ensures.hedges c.in_ok-checker.ensures.trees c.in-Err.broken c.reject_of.result c.in-Err.ensures.first c.reject_of.ensures
+
+pub returns-in_err-checker-clause-certificate : goal.returns-in_err-checker-clause-certificate
+returns-in_err-checker-clause-certificate c = not_done c.from_residual.result _ _ c.from_residual.ensures.1
+
+pub returns-in_err-checker-clause-safe : goal.returns-in_err-checker-clause-safe
+returns-in_err-checker-clause-safe c = not_done c.from_residual.result _ _ c.from_residual.ensures.1
+
+pub returns-in_err-checker-clause-all_live : goal.returns-in_err-checker-clause-all_live
+returns-in_err-checker-clause-all_live c = not_done c.from_residual.result _ _ c.from_residual.ensures.1

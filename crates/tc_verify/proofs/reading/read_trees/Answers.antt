@@ -4,6 +4,7 @@ use Rattle.tc_beh.specs.declared.rooms.TRow.{TRow}
 use Rattle.tc_verify.specs.Rooms.{IsReadTree}
 use Rattle.tc_verify.proofs.LinesRead.{tree_fits_room}
 use Rattle.tc_verify.proofs.Looping.{tree_read, one_read}
+use Rattle.tc_verify.proofs.HandedOn.{not_done}
 use Rattle.tc_verify.proofs.reading.read_trees.Goals as goal
 
 pub read-requires : goal.read-requires
@@ -19,3 +20,12 @@ loop-place-preserved c =
 
 pub returns : goal.returns
 returns c = record { count = grind arith; each = c.loop-place.invariant.each; held = c.loop-place.invariant.held }
+
+pub returns-in_err-room : goal.returns-in_err-room
+returns-in_err-room c = not_done c.from_residual.result _ _ c.from_residual.ensures.1
+
+pub returns-in_err-keep : goal.returns-in_err-keep
+returns-in_err-keep c = not_done c.from_residual-in_err-keep.result _ _ c.from_residual-in_err-keep.ensures.1
+
+pub returns-in_err-push : goal.returns-in_err-push
+returns-in_err-push c = not_done c.from_residual-in_err-push.result _ _ c.from_residual-in_err-push.ensures.1
