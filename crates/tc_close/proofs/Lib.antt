@@ -28,3 +28,4 @@ pub mod HeldLines
 pub mod Pushed
 pub mod NumberBytes
 pub mod OnceLaws
+pub mod HandedOn

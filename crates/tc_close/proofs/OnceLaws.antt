@@ -1,5 +1,5 @@
 -- What is known of a symbol holds of those alike, and goes on holding where more rows are held.
-use Rattle.std.proofs.Common.{◌≡◌, ◌⊎◌, inl, inr, ◌<◌, ℕ, List, [], Option, None, Some, length, slice_get, MatchOption, refl, sym, subst, ◌∙◌, ap, arith}
+use Rattle.std.proofs.Common.{◌≡◌, ◌⊎◌, inl, inr, ◌<◌, ℕ, List, [], Option, None, Some, length, MatchOption, refl, sym, subst, ◌∙◌, ap, arith}
 use Rattle.std.proofs.lemmas.Option.{slice_get_within}
 use Rattle.tc_rows.specs.Triples.{Triple}
 use Rattle.tc_beh.specs.AlikeSymbols.{AreFirstAlike, IsFirstAlike}

@@ -6,6 +6,7 @@ use Rattle.tc_close.specs.Lines.{output_lines}
 use Rattle.tc_close.specs.Orders.{IsOrder}
 use Rattle.tc_close.proofs.Certified.{least_certificate, too_long}
 use Rattle.tc_close.proofs.Pushed.{none_of, some_of}
+use Rattle.tc_close.proofs.HandedOn.{no_value}
 use Rattle.tc_close.proofs.certificate.cert_data.Goals as goal
 
 pub returns-in_default-clause-data : goal.returns-in_default-clause-data
@@ -26,3 +27,12 @@ returns-clause-data g c = λ x o.
     subst (λ (ls : List (List ℕ)). IsOrder ls c.deref.result.now) lines (subst (IsOrder c.in-Some.lines) (sym c.deref.ensures.value) c.in_ok-numbers.ensures) in
     least_certificate x s g.K.Over.is_of o c.output_count-outputs.ensures.known c.shape-shape.result (c.shape-shape.ensures.stands x o) c.shape-shape.ensures.fits c.requires.closed c.requires.derive c.requires.whole c.requires.trees c.requires.hedges
     c.deref.result.now order c.in_ok-data.data (c.in_ok-data.ensures.made x o)
+
+pub returns-in_err-lines-clause-data : goal.returns-in_err-lines-clause-data
+returns-in_err-lines-clause-data g c = no_value c.from_residual.result _ _ c.from_residual.ensures.1
+
+pub returns-in_err-numbers-clause-data : goal.returns-in_err-numbers-clause-data
+returns-in_err-numbers-clause-data g c = no_value c.from_residual-in_err-numbers.result _ _ c.from_residual-in_err-numbers.ensures.1
+
+pub returns-in_err-data-clause-data : goal.returns-in_err-data-clause-data
+returns-in_err-data-clause-data g c = no_value c.from_residual-in_err-data.result _ _ c.from_residual-in_err-data.ensures.1

@@ -6,6 +6,7 @@ use Rattle.tc_model.specs.CertificateLines.{pairs_line}
 use Rattle.tc_close.specs.Lines.{output_lines, AreTreesInOrder, AreHedgesInOrder}
 use Rattle.tc_close.specs.RowState.{RowState}
 use Rattle.tc_close.proofs.Pushed.{below_count}
+use Rattle.tc_close.proofs.HandedOn.{no_value}
 use Rattle.tc_close.proofs.certificate.data_by.Goals as goal
 
 pub ranks_of-requires-clause-within : goal.ranks_of-requires-clause-within
@@ -42,3 +43,15 @@ returns-clause-made g c = λ x o. record {
       subst (λ (s : RowState). AreHedgesInOrder x s c.in_ok-ranks.ranks.items c.in_ok-hedges.hedges) c.in_ok-trees.ensures.same
       (subst (λ (rs : List ℕ). AreHedgesInOrder x c.trees_in_order.new.rows rs c.in_ok-hedges.hedges) c.deref-2.ensures.value (c.in_ok-hedges.ensures.hedges x o));
 }
+
+pub returns-in_err-ranks-clause-made : goal.returns-in_err-ranks-clause-made
+returns-in_err-ranks-clause-made g c = no_value c.from_residual.result _ _ c.from_residual.ensures.1
+
+pub returns-in_err-outputs-clause-made : goal.returns-in_err-outputs-clause-made
+returns-in_err-outputs-clause-made g c = no_value c.from_residual-in_err-outputs.result _ _ c.from_residual-in_err-outputs.ensures.1
+
+pub returns-in_err-trees-clause-made : goal.returns-in_err-trees-clause-made
+returns-in_err-trees-clause-made g c = no_value c.from_residual-in_err-trees.result _ _ c.from_residual-in_err-trees.ensures.1
+
+pub returns-in_err-hedges-clause-made : goal.returns-in_err-hedges-clause-made
+returns-in_err-hedges-clause-made g c = no_value c.from_residual-in_err-hedges.result _ _ c.from_residual-in_err-hedges.ensures.1

@@ -4,6 +4,7 @@ use Rattle.tc_model.specs.Numbered.{numbers_below}
 use Rattle.tc_close.specs.Lines.{hedge_ranked}
 use Rattle.tc_close.specs.RowState.{RowState}
 use Rattle.tc_close.proofs.Pushed.{pushed_below}
+use Rattle.tc_close.proofs.HandedOn.{no_value}
 use Rattle.tc_close.proofs.certificate.hedge_lines.Goals as goal
 
 pub push-requires : goal.push-requires
@@ -28,3 +29,15 @@ returns-clause-lines g c = λ x o.
 
 pub returns-clause-count : goal.returns-clause-count
 returns-clause-count g c = let e = c.loop-place.invariant.2 in omega (arith, e, c.loop-place-test.false, c.hedge_count-place-end.ensures)
+
+pub returns-in_err-line-clause-lines : goal.returns-in_err-line-clause-lines
+returns-in_err-line-clause-lines g c = no_value c.from_residual.result _ _ c.from_residual.ensures.1
+
+pub returns-in_err-line-clause-count : goal.returns-in_err-line-clause-count
+returns-in_err-line-clause-count g c = no_value c.from_residual.result _ _ c.from_residual.ensures.1
+
+pub returns-in_err-push-clause-lines : goal.returns-in_err-push-clause-lines
+returns-in_err-push-clause-lines g c = no_value c.from_residual-in_err-push.result _ _ c.from_residual-in_err-push.ensures.1
+
+pub returns-in_err-push-clause-count : goal.returns-in_err-push-clause-count
+returns-in_err-push-clause-count g c = no_value c.from_residual-in_err-push.result _ _ c.from_residual-in_err-push.ensures.1

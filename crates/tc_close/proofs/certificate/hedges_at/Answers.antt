@@ -3,6 +3,7 @@ use Rattle.std.proofs.lemmas.Option.{slice_get-get_or}
 use Rattle.tc_close.specs.Lines.{hedge_ranked}
 use Rattle.tc_close.specs.RowState.{RowState}
 use Rattle.tc_close.proofs.Pushed.{pushed_taken}
+use Rattle.tc_close.proofs.HandedOn.{no_value}
 use Rattle.tc_close.proofs.certificate.hedges_at.Goals as goal
 
 pub push-requires : goal.push-requires
@@ -16,3 +17,9 @@ loop-place-preserved g c = (
       (c.in_ok-line.ensures.line x o ∙ ap (λ (s : RowState). hedge_ranked x s c.args.ranks.now (get_or c.args.numbers.now c.loop-place.place 0)) c.loop-place.invariant.0),
   (let a = ap length c.in_ok-push.ensures.ok in let b = length-append c.loop-place.hedges (c.in_ok-line.line ∷ []) in let e = c.loop-place.invariant.2 in omega (arith, a, b, e)),
 )
+
+pub returns-in_err-line-clause-hedges : goal.returns-in_err-line-clause-hedges
+returns-in_err-line-clause-hedges g c = no_value c.from_residual.result _ _ c.from_residual.ensures.1
+
+pub returns-in_err-push-clause-hedges : goal.returns-in_err-push-clause-hedges
+returns-in_err-push-clause-hedges g c = no_value c.from_residual-in_err-push.result _ _ c.from_residual-in_err-push.ensures.1

@@ -8,6 +8,7 @@ use Rattle.tc_beh.specs.Places.{pairs_of, no_matrix}
 use Rattle.tc_cert.specs.Texts.{output_text}
 use Rattle.tc_model.specs.CertificateLines.{pairs_line}
 use Rattle.tc_close.proofs.Pushed.{pushed_below, below_count, taken_length}
+use Rattle.tc_close.proofs.HandedOn.{no_value}
 use Rattle.tc_close.proofs.certificate.output_lines.Goals as goal
 
 pub returns-then-len-room : goal.returns-then-len-room
@@ -45,3 +46,9 @@ loop-number-preserved g c = (
       let bytes = c.loop-number.invariant.1 in
       omega (arith, more, long, line, bytes, c.if-len-room.false, c.len.ensures, c.len-in-loop-number.ensures)),
 )
+
+pub returns-in_err-line : goal.returns-in_err-line
+returns-in_err-line g c = no_value c.from_residual.result _ _ c.from_residual.ensures.1
+
+pub returns-in_err-push : goal.returns-in_err-push
+returns-in_err-push g c = no_value c.from_residual-in_err-push.result _ _ c.from_residual-in_err-push.ensures.1

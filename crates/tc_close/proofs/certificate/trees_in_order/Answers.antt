@@ -4,6 +4,7 @@ use Rattle.std.proofs.lemmas.Result.{IfOk-weaker}
 use Rattle.tc_close.specs.Lines.{tree_ranked}
 use Rattle.tc_close.specs.Orders.{IsOrder}
 use Rattle.tc_close.specs.RowState.{RowState}
+use Rattle.tc_close.proofs.HandedOn.{no_value}
 use Rattle.tc_close.proofs.certificate.trees_in_order.Goals as goal
 
 pub trees_at-requires-clause-within : goal.trees_at-requires-clause-within
@@ -30,3 +31,9 @@ returns-clause-trees g c =
       order = subst (λ (lines : List (List ℕ)). IsOrder lines numbers) (c.in_ok-lines.ensures.lines x o) c.in_ok-numbers.ensures;
       all = made x o ∙ (ap (λ (s : RowState). map (tree_ranked x s ranks) c.deref.result.now) c.tree_lines.ensures.same ∙ ap (map (tree_ranked x old ranks)) c.deref.ensures.value);
     }) c.trees_at.ensures.trees
+
+pub returns-in_err-lines-clause-trees : goal.returns-in_err-lines-clause-trees
+returns-in_err-lines-clause-trees g c = no_value c.from_residual.result _ _ c.from_residual.ensures.1
+
+pub returns-in_err-numbers-clause-trees : goal.returns-in_err-numbers-clause-trees
+returns-in_err-numbers-clause-trees g c = no_value c.from_residual-in_err-numbers.result _ _ c.from_residual-in_err-numbers.ensures.1

@@ -2,6 +2,7 @@ use Rattle.std.proofs.Common.{◌≡◌, ◌++◌, ◌∷◌, [], inr, Some, sli
 use Rattle.std.specs.List.{Contains}
 use Rattle.std.proofs.lemmas.List.{length-map}
 use Rattle.tc_close.proofs.Keys.{last_at, grown}
+use Rattle.tc_close.proofs.HandedOn.{no_value}
 use Rattle.tc_close.proofs.lists.Lists.keep.Goals as goal
 
 -- the lists with the one that came last
@@ -25,3 +26,15 @@ pub returns-clause-grows : goal.returns-clause-grows
 returns-clause-grows c =
     let k : c.len-place.result ≡ length c.args.self.now = c.len-place.ensures.len ∙ (sym (length-map c.self.inside.keys.keys (λ v. v.items)) ∙ ap length c.self.view_is) in
     inr (k, last c)
+
+pub returns-in_err-copy-clause-place : goal.returns-in_err-copy-clause-place
+returns-in_err-copy-clause-place c = no_value c.from_residual.result _ _ c.from_residual.ensures.1
+
+pub returns-in_err-copy-clause-grows : goal.returns-in_err-copy-clause-grows
+returns-in_err-copy-clause-grows c = no_value c.from_residual.result _ _ c.from_residual.ensures.1
+
+pub returns-in_err-insert-clause-place : goal.returns-in_err-insert-clause-place
+returns-in_err-insert-clause-place c = no_value c.from_residual-in_err-insert.result _ _ c.from_residual-in_err-insert.ensures.1
+
+pub returns-in_err-insert-clause-grows : goal.returns-in_err-insert-clause-grows
+returns-in_err-insert-clause-grows c = no_value c.from_residual-in_err-insert.result _ _ c.from_residual-in_err-insert.ensures.1

@@ -1,4 +1,4 @@
-use Rattle.std.proofs.Common.{◌<◌, ◌∙◌, Some, ap, length, sym, subst, MatchOption}
+use Rattle.std.proofs.Common.{◌<◌, ◌∙◌, Some, ap, length, sym, subst}
 use Rattle.tc_close.specs.RowState.{RowState, held_of}
 use Rattle.tc_close.specs.Once.{IsWrapTold}
 use Rattle.tc_close.proofs.OnceLaws.{once_more, told_of_first}

@@ -1,4 +1,4 @@
-use Rattle.std.proofs.Common.{◌≡◌, ◌<◌, ◌∙◌, sym, subst, ap, length, MatchOption}
+use Rattle.std.proofs.Common.{◌<◌, ◌∙◌, sym, subst, ap, length, MatchOption}
 use Rattle.tc_settle.specs.Held.{Grows, IsHeldAs, IsUnchanged, IsWrapAt}
 use Rattle.tc_close.specs.RowState.{RowState, held_of}
 use Rattle.tc_close.proofs.Growing.{grows_self}
