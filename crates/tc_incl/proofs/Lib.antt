@@ -17,3 +17,4 @@ pub mod AllLaws
 pub mod Derived
 pub mod Counting
 pub mod Decided
+pub mod HandedOn

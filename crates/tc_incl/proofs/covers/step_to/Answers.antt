@@ -2,6 +2,7 @@ use Rattle.std.proofs.Common.{◌≡◌, ◌<◌, ap, sym, subst, ◌∙◌, len
 use Rattle.std.proofs.lemmas.Option.{slice_get-get_or}
 use Rattle.tc_incl.specs.Stepped.{AreStepped}
 use Rattle.tc_incl.proofs.Stepped.{stepped_more}
+use Rattle.tc_incl.proofs.HandedOn.{not_done}
 use Rattle.tc_incl.proofs.covers.step_to.Goals as goal
 
 pub returns-in_err-push-clause-stepped : goal.returns-in_err-push-clause-stepped
@@ -16,3 +17,9 @@ loop-place-preserved c =
           (subst (λ n. slice_get hs n ≡ Some c.index-hedges-place.result) c.loop-place.invariant.1 at) c.in_ok-more.ensures,
       omega (arith, c.in_ok-push.ensures.len, c.loop-place.invariant.1),
     )
+
+pub returns-in_err-more-clause-there : goal.returns-in_err-more-clause-there
+returns-in_err-more-clause-there c = not_done c.from_residual.result _ _ c.from_residual.ensures.1
+
+pub returns-in_err-push-clause-there : goal.returns-in_err-push-clause-there
+returns-in_err-push-clause-there c = not_done c.from_residual-in_err-push.result _ _ c.from_residual-in_err-push.ensures.1

@@ -2,6 +2,7 @@ use Rattle.std.proofs.Common.{◌≡◌, ◌≤◌, ◌⊎◌, ◌<◌, ◌+◌,
 use Rattle.tc_incl.specs.declared.rows.Row.{Row}
 use Rattle.tc_incl.specs.Alike.{IsCopyAt}
 use Rattle.tc_incl.proofs.Alike.{are_kinds, rows_more}
+use Rattle.tc_incl.proofs.HandedOn.{no_value}
 use Rattle.tc_incl.proofs.kinds.kinds_of.Goals as goal
 
 one_more : (old new : List Row) (r : Row) (u n : ℕ) → length old ≤ n → ((u < length old) × (new ≡ old)) ⊎ ((u ≡ length old) × (new ≡ old ++ r ∷ [])) → length new ≤ n + 1
@@ -23,3 +24,15 @@ loop-symbol-preserved c =
 
 pub returns-clause-kinds : goal.returns-clause-kinds
 returns-clause-kinds c = are_kinds c.args.first.now.allowed.items c.args.second.now.allowed.items c.loop-symbol.held.keys c.loop-symbol.kinds.items c.loop-symbol.invariant.2
+
+pub returns-in_err-kind-clause-count : goal.returns-in_err-kind-clause-count
+returns-in_err-kind-clause-count c = no_value c.from_residual.result _ _ c.from_residual.ensures.1
+
+pub returns-in_err-kind-clause-kinds : goal.returns-in_err-kind-clause-kinds
+returns-in_err-kind-clause-kinds c = no_value c.from_residual.result _ _ c.from_residual.ensures.1
+
+pub returns-in_err-push-clause-count : goal.returns-in_err-push-clause-count
+returns-in_err-push-clause-count c = no_value c.from_residual-in_err-push.result _ _ c.from_residual-in_err-push.ensures.1
+
+pub returns-in_err-push-clause-kinds : goal.returns-in_err-push-clause-kinds
+returns-in_err-push-clause-kinds c = no_value c.from_residual-in_err-push.result _ _ c.from_residual-in_err-push.ensures.1

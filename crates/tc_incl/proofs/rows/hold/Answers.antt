@@ -1,6 +1,7 @@
 use Rattle.std.proofs.Common.{◌≡◌, ◌∙◌, inl, inr, sym, ap, subst, Some, length, slice_get, List, ◌<◌}
 use Rattle.tc_incl.specs.declared.rows.Row.{Row}
 use Rattle.tc_incl.proofs.Keys.{same_row, row_exact, row_itself, different, kept_or_last, last_at}
+use Rattle.tc_incl.proofs.HandedOn.{no_value, not_done}
 use Rattle.tc_incl.proofs.rows.hold.Goals as goal
 
 held_at : (c : goal.In_ok-place) → slice_get c.insert_full.new.self.keys c.in_ok-place.place ≡ Some c.args.row
@@ -22,3 +23,12 @@ returns-clause-kept c = elim (kept_or_last same_row row_exact row_itself c.args.
         keys,
       )
 ]
+
+pub returns-in_err-place-clause-held : goal.returns-in_err-place-clause-held
+returns-in_err-place-clause-held c = no_value c.from_residual.result _ _ c.from_residual.ensures.1
+
+pub returns-in_err-place-clause-kept : goal.returns-in_err-place-clause-kept
+returns-in_err-place-clause-kept c = no_value c.from_residual.result _ _ c.from_residual.ensures.1
+
+pub returns-in_err-place-clause-different : goal.returns-in_err-place-clause-different
+returns-in_err-place-clause-different c = not_done c.from_residual.result _ _ c.from_residual.ensures.1

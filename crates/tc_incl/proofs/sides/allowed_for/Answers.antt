@@ -8,6 +8,7 @@ use Rattle.tc_incl.specs.Sides.{IsAllowed}
 use Rattle.tc_incl.proofs.Found.{found_none, found_more, found_same, found_all}
 use Rattle.tc_incl.proofs.Taken.{no_pattern_of_none, some_pattern_of, allowed_low}
 use Rattle.tc_incl.proofs.sides.allowed_for.Goals.{then-allows, else-allows}
+use Rattle.tc_incl.proofs.HandedOn.{no_value}
 use Rattle.tc_incl.proofs.sides.allowed_for.Goals as goal
 
 pub loop-before-init : goal.loop-before-init
@@ -39,3 +40,9 @@ pub returns-clause-numbers : goal.returns-clause-numbers
 returns-clause-numbers c = λ x st.
     found_all (IsAllowed x (see.name c.args.name.now)) c.loop-before.before c.loop-before.allowed (c.loop-before.invariant.1 x st)
     (λ k (e, at, inside). allowed_low x c.args.automaton.now st c.loop-before.before (omega (arith, c.loop-before-test.false, c.patterns-before-end.ensures.here)) k e at)
+
+pub returns-in_err-allowed-clause-size : goal.returns-in_err-allowed-clause-size
+returns-in_err-allowed-clause-size c = no_value c.from_residual.result _ _ c.from_residual.ensures.1
+
+pub returns-in_err-allowed-clause-numbers : goal.returns-in_err-allowed-clause-numbers
+returns-in_err-allowed-clause-numbers c = no_value c.from_residual.result _ _ c.from_residual.ensures.1

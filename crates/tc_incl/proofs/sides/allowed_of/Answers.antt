@@ -5,6 +5,7 @@ use Rattle.tc_model.specs.Symbols.{fresh_name}
 use Rattle.tc_sets.specs.Numbers.{Numbers, Has}
 use Rattle.tc_incl.specs.Sides.{IsAllowed}
 use Rattle.tc_incl.proofs.Taken.{allowed_more}
+use Rattle.tc_incl.proofs.HandedOn.{no_value}
 use Rattle.tc_incl.proofs.sides.allowed_of.Goals as goal
 
 pub loop-symbol-init : goal.loop-symbol-init
@@ -25,3 +26,30 @@ loop-symbol-preserved c = (
       allowed_more x c.args.alphabet.now c.loop-symbol.allowed.items c.push.new.self.items c.in_ok-numbers.numbers c.in_ok-push.ensures.items (c.loop-symbol.invariant.2 x st)
       (λ k. subst (λ n. Has c.in_ok-numbers.numbers k ↔ IsAllowed x (fresh_name c.args.alphabet.now n) k) place (subst (λ n. Has c.in_ok-numbers.numbers k ↔ IsAllowed x n k) c.in_ok-name.ensures.name (c.in_ok-numbers.ensures.numbers x st k))),
 )
+
+pub returns-in_err-name-clause-count : goal.returns-in_err-name-clause-count
+returns-in_err-name-clause-count c = no_value c.from_residual.result _ _ c.from_residual.ensures.1
+
+pub returns-in_err-name-clause-sizes : goal.returns-in_err-name-clause-sizes
+returns-in_err-name-clause-sizes c = no_value c.from_residual.result _ _ c.from_residual.ensures.1
+
+pub returns-in_err-name-clause-allowed : goal.returns-in_err-name-clause-allowed
+returns-in_err-name-clause-allowed c = no_value c.from_residual.result _ _ c.from_residual.ensures.1
+
+pub returns-in_err-numbers-clause-count : goal.returns-in_err-numbers-clause-count
+returns-in_err-numbers-clause-count c = no_value c.from_residual-in_err-numbers.result _ _ c.from_residual-in_err-numbers.ensures.1
+
+pub returns-in_err-numbers-clause-sizes : goal.returns-in_err-numbers-clause-sizes
+returns-in_err-numbers-clause-sizes c = no_value c.from_residual-in_err-numbers.result _ _ c.from_residual-in_err-numbers.ensures.1
+
+pub returns-in_err-numbers-clause-allowed : goal.returns-in_err-numbers-clause-allowed
+returns-in_err-numbers-clause-allowed c = no_value c.from_residual-in_err-numbers.result _ _ c.from_residual-in_err-numbers.ensures.1
+
+pub returns-in_err-push-clause-count : goal.returns-in_err-push-clause-count
+returns-in_err-push-clause-count c = no_value c.from_residual-in_err-push.result _ _ c.from_residual-in_err-push.ensures.1
+
+pub returns-in_err-push-clause-sizes : goal.returns-in_err-push-clause-sizes
+returns-in_err-push-clause-sizes c = no_value c.from_residual-in_err-push.result _ _ c.from_residual-in_err-push.ensures.1
+
+pub returns-in_err-push-clause-allowed : goal.returns-in_err-push-clause-allowed
+returns-in_err-push-clause-allowed c = no_value c.from_residual-in_err-push.result _ _ c.from_residual-in_err-push.ensures.1

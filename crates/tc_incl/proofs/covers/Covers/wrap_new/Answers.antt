@@ -11,6 +11,7 @@ use Rattle.tc_incl.specs.Wraps.{AreKnown}
 use Rattle.tc_incl.proofs.Alike.{known_on}
 use Rattle.tc_incl.proofs.Holding.{as_tree, hedge_fit_at, hedge_low, more_trees, no_wrap_at, same_trees, tree_grows, tree_held, wrap_at}
 use Rattle.tc_incl.proofs.Stepped.{stepped_at}
+use Rattle.tc_incl.proofs.HandedOn.{no_value}
 use Rattle.tc_incl.proofs.covers.Covers.wrap_new.Goals as goal
 
 on_err : {T E X : Type 0} (r : Result T E) → X → OnErr r X
@@ -196,3 +197,12 @@ wrapped-requires-clause-symbol g c =
 pub hold-requires : goal.hold-requires
 hold-requires g c =
     record { room = subst (λ n. n < 4294967295) (length-map c.self.inside.trees.keys tree_row) (subst (λ (s : State). length s.trees < 4294967295) (sym c.self.view_is) c.requires.room) }
+
+pub returns-in_err-step_to-clause-made : goal.returns-in_err-step_to-clause-made
+returns-in_err-step_to-clause-made g c = no_value c.from_residual.result _ _ c.from_residual.ensures.1
+
+pub returns-in_err-made-clause-made : goal.returns-in_err-made-clause-made
+returns-in_err-made-clause-made g c = no_value c.from_residual-in_err-made.result _ _ c.from_residual-in_err-made.ensures.1
+
+pub returns-in_err-number-clause-made : goal.returns-in_err-number-clause-made
+returns-in_err-number-clause-made g c = no_value c.from_residual-in_err-number.result _ _ c.from_residual-in_err-number.ensures.1

@@ -6,6 +6,7 @@ use Rattle.tc_incl.specs.Sides.{IsTaken}
 use Rattle.tc_incl.proofs.Found.{found_none, found_more, found_same, found_all}
 use Rattle.tc_incl.proofs.Taken.{no_pattern_of_none, allowed_low}
 use Rattle.tc_incl.proofs.sides.Side.accepting_patterns.Goals.{then-is_taken, else-is_taken}
+use Rattle.tc_incl.proofs.HandedOn.{no_value}
 use Rattle.tc_incl.proofs.sides.Side.accepting_patterns.Goals as goal
 
 pub loop-before-init : goal.loop-before-init
@@ -38,3 +39,12 @@ pub returns-clause-numbers : goal.returns-clause-numbers
 returns-clause-numbers c = λ x st.
     found_all (IsTaken x c.args.states.now) c.loop-before.before c.loop-before.taken (c.loop-before.invariant.2 x st)
     (λ k (e, at, inside). allowed_low x c.args.self.now.auto.now st c.loop-before.before (omega (arith, c.loop-before-test.false, c.patterns-before-end.ensures.here)) k e at)
+
+pub returns-in_err-taken-clause-size : goal.returns-in_err-taken-clause-size
+returns-in_err-taken-clause-size c = no_value c.from_residual.result _ _ c.from_residual.ensures.1
+
+pub returns-in_err-taken-clause-from_one : goal.returns-in_err-taken-clause-from_one
+returns-in_err-taken-clause-from_one c = no_value c.from_residual.result _ _ c.from_residual.ensures.1
+
+pub returns-in_err-taken-clause-numbers : goal.returns-in_err-taken-clause-numbers
+returns-in_err-taken-clause-numbers c = no_value c.from_residual.result _ _ c.from_residual.ensures.1

@@ -1,6 +1,7 @@
 use Rattle.std.proofs.Common.{◌+◌, ◌∙◌, sym, ap, subst}
 use Rattle.tc_incl.specs.Sides.{AreOfSize}
 use Rattle.tc_incl.proofs.Stepped.{put_after}
+use Rattle.tc_incl.proofs.HandedOn.{no_value}
 use Rattle.tc_incl.proofs.sides.Side.after.Goals as goal
 
 pub put_steps-requires-clause-count : goal.put_steps-requires-clause-count
@@ -19,3 +20,12 @@ returns-clause-numbers c = λ x states st are.
 
 pub returns-clause-set : goal.returns-clause-set
 returns-clause-set c = c.size-size.ensures.set
+
+pub returns-in_err-next-clause-set : goal.returns-in_err-next-clause-set
+returns-in_err-next-clause-set c = no_value c.from_residual.result _ _ c.from_residual.ensures.1
+
+pub returns-in_err-next-clause-size : goal.returns-in_err-next-clause-size
+returns-in_err-next-clause-size c = no_value c.from_residual.result _ _ c.from_residual.ensures.1
+
+pub returns-in_err-next-clause-numbers : goal.returns-in_err-next-clause-numbers
+returns-in_err-next-clause-numbers c = no_value c.from_residual.result _ _ c.from_residual.ensures.1

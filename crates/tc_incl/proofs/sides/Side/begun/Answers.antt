@@ -3,6 +3,7 @@ use Rattle.tc_model.specs.States.{input}
 use Rattle.tc_sets.specs.Numbers.{Has}
 use Rattle.tc_incl.specs.Sides.{IsBegun}
 use Rattle.tc_incl.proofs.Found.{begun_more}
+use Rattle.tc_incl.proofs.HandedOn.{no_value}
 use Rattle.tc_incl.proofs.sides.Side.begun.Goals as goal
 
 pub loop-before-preserved : goal.loop-before-preserved
@@ -18,3 +19,12 @@ returns-clause-numbers c = λ x st j.
 
 pub returns-clause-set : goal.returns-clause-set
 returns-clause-set c = c.size-size.ensures.set
+
+pub returns-in_err-states-clause-set : goal.returns-in_err-states-clause-set
+returns-in_err-states-clause-set c = no_value c.from_residual.result _ _ c.from_residual.ensures.1
+
+pub returns-in_err-states-clause-size : goal.returns-in_err-states-clause-size
+returns-in_err-states-clause-size c = no_value c.from_residual.result _ _ c.from_residual.ensures.1
+
+pub returns-in_err-states-clause-numbers : goal.returns-in_err-states-clause-numbers
+returns-in_err-states-clause-numbers c = no_value c.from_residual.result _ _ c.from_residual.ensures.1

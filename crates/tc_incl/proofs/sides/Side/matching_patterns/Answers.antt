@@ -1,6 +1,7 @@
 use Rattle.tc_model.specs.Symbols.{fresh_name}
 use Rattle.tc_incl.specs.Sides.{IsAllowed, IsTaken}
 use Rattle.tc_incl.proofs.Stepped.{allowed_and_taken, some_at}
+use Rattle.tc_incl.proofs.HandedOn.{no_value}
 use Rattle.tc_incl.proofs.sides.Side.matching_patterns.Goals as goal
 
 pub returns-clause-numbers : goal.returns-clause-numbers
@@ -16,3 +17,15 @@ returns-clause-from_one c = let are = c.requires.steps.1 in λ h. are.from_one (
 
 pub returns-clause-set : goal.returns-clause-set
 returns-clause-set c = c.size-size.ensures.set
+
+pub returns-in_err-around-clause-set : goal.returns-in_err-around-clause-set
+returns-in_err-around-clause-set c = no_value c.from_residual.result _ _ c.from_residual.ensures.1
+
+pub returns-in_err-around-clause-size : goal.returns-in_err-around-clause-size
+returns-in_err-around-clause-size c = no_value c.from_residual.result _ _ c.from_residual.ensures.1
+
+pub returns-in_err-around-clause-from_one : goal.returns-in_err-around-clause-from_one
+returns-in_err-around-clause-from_one c = no_value c.from_residual.result _ _ c.from_residual.ensures.1
+
+pub returns-in_err-around-clause-numbers : goal.returns-in_err-around-clause-numbers
+returns-in_err-around-clause-numbers c = no_value c.from_residual.result _ _ c.from_residual.ensures.1

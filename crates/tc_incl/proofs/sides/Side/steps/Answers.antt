@@ -1,4 +1,5 @@
 use Rattle.std.proofs.Common.{◌∙◌}
+use Rattle.tc_incl.proofs.HandedOn.{no_value}
 use Rattle.tc_incl.proofs.sides.Side.steps.Goals as goal
 
 pub returns : goal.returns
@@ -12,3 +13,12 @@ returns c = record {
   from_one = c.in_ok-taken.ensures.from_one;
   taken = c.in_ok-taken.ensures.numbers;
 }
+
+pub returns-in_err-text : goal.returns-in_err-text
+returns-in_err-text c = no_value c.from_residual.result _ _ c.from_residual.ensures.1
+
+pub returns-in_err-elements : goal.returns-in_err-elements
+returns-in_err-elements c = no_value c.from_residual-in_err-elements.result _ _ c.from_residual-in_err-elements.ensures.1
+
+pub returns-in_err-taken : goal.returns-in_err-taken
+returns-in_err-taken c = no_value c.from_residual-in_err-taken.result _ _ c.from_residual-in_err-taken.ensures.1
