@@ -1,5 +1,5 @@
 -- What all rows tell: the counts, inclusion, and least differences.
-use Rattle.std.proofs.Common.{◌≡◌, ◌<◌, ◌≤◌, ◌⊎◌, inl, inr, ◌+◌, ℕ, length, ap, ◌∙◌, sym, subst, arith}
+use Rattle.std.proofs.Common.{◌≡◌, ◌<◌, ◌≤◌, ◌⊎◌, inl, inr, ℕ, length, ap, ◌∙◌, sym, subst, arith}
 use Rattle.tc_model.specs.Trees.{Trees, node_count}
 use Rattle.tc_model.specs.TreesApart.{alone}
 use Rattle.tc_rows.specs.Counts.{Counts, Pass}
@@ -131,17 +131,6 @@ module _ (x : Schemas) (s : State) (IsOf : Schemas → Type 0) (is : IsOf x) (kn
 
         pub is_far : (most : ℕ) → length s.trees ≤ most → length s.hedges ≤ most → cost k ≡ 2001 → IsFarDifferent x most
         is_far most t h e = record { keeps = keeps most t h; some = some_difference; far = far (omega (arith, e)) }
-
--- one tree more that passes
-pub pass_more : (s : Held) (n : ℕ) → PassBefore s n → s.passes n → PassBefore s (n + 1)
-pass_more s n before here t low = by t (most t n low)
-  where
-    most : (t n : ℕ) → t < n + 1 → (t < n) ⊎ (t ≡ n)
-    most t n l = grind arith
-
-    by : (t : ℕ) → (t < n) ⊎ (t ≡ n) → s.passes t
-    by t (inl l) = before t l
-    by t (inr e) = subst s.passes (sym e) here
 
 -- all rows that are kept are derived
 pub all_derive : (s : Held) (c : Closed) → IsClosure s c → AllDerive s

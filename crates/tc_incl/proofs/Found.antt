@@ -94,9 +94,6 @@ module _ (arrows : List Arrow) (states start : Numbers) where
   abbrev pub IsEnded : List Arrow → Numbers → Type 0
   IsEnded some s = (j : ℕ) → Has s j ↔ (Has start j ⊎ ((i : ℕ) × Has states i × Contains some (record { from = i; to = j })))
 
-  pub ended_none : IsEnded [] start
-  ended_none j = (λ h. inl h, λ e. elim e [ inl h ↦ h | inr (i, there, c) ↦ absurd (has_from_contains {X = Arrow} [] (record { from = i; to = j }) c) ])
-
   module _ (k : ℕ) (d : Arrow) (low : k < length arrows) where
     taken : take (k + 1) arrows ≡ take k arrows ++ (get_or arrows k d ∷ [])
     taken = ap (λ n. take n arrows) (add-one k) ∙ take-suc arrows k d low

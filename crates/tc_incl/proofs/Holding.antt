@@ -10,8 +10,8 @@ use Rattle.tc_incl.specs.declared.rows.Row.{Row}
 use Rattle.tc_incl.specs.declared.both.Both.{Both}
 use Rattle.tc_incl.specs.Schemas.{Schemas}
 use Rattle.tc_incl.specs.Rows.{HedgeRow, TreeRow}
-use Rattle.tc_incl.specs.Arithmetic.{IsEmptyRow, IsTextRow, IsTextLive, IsAppend, IsLiveAppend, IsWrap, IsLiveWrap, IsFailing}
-use Rattle.tc_incl.specs.Held.{hedge_row, tree_row, IsHedgeFit, IsTreeFit, IsNone, IsText, NoText, IsAppended, NoAppended, IsWrapped, NoWrapped, Fails, Passes}
+use Rattle.tc_incl.specs.Arithmetic.{IsEmptyRow, IsTextRow, IsAppend, IsLiveAppend, IsWrap, IsLiveWrap, IsFailing}
+use Rattle.tc_incl.specs.Held.{hedge_row, tree_row, IsHedgeFit, IsTreeFit, IsNone, IsText, IsAppended, NoAppended, IsWrapped, NoWrapped, Fails, Passes}
 use Rattle.tc_incl.specs.Covers.{State, no_hedge, no_tree, hedge_at, tree_at, held_of, Known, state_of, AreHeld}
 use Rattle.tc_incl.proofs.Listed.{members_one}
 use Rattle.tc_incl.proofs.Linked.{grows}
@@ -181,9 +181,6 @@ module _ (IsOf : Schemas → Type 0) (b : Both) (hs ts : List Row) (held : AreHe
   -- nothing comes on
   pub same_grows : Grows (held_of IsOf before) (held_of IsOf before)
   same_grows = grows before before refl [] (sym (append-nil (map hedge_row hs))) [] (sym (append-nil (map tree_row ts))) IsOf
-
-  pub no_text_at : NoText b → (x : Schemas) → IsOf x → ¬ IsTextLive x
-  no_text_at dead x is = dead x (held.told x is)
 
   pub no_append_at : (h t : ℕ) (p q : Row) → slice_get hs h ≡ Some p → slice_get ts t ≡ Some q → NoAppended b p q → (x : Schemas) → IsOf x → ¬ IsLiveAppend x (hedge_at before h) (tree_at before t)
   no_append_at h t p q a c dead x is =

@@ -31,10 +31,6 @@ told_member xs j = told_as (contains_from_has xs j) (has_from_contains xs j) (by
     by [] = inr (λ h. h)
     by (k ∷ ys) = told_or (told_nat k j) (by ys)
 
-pub none_states : (g : Grammar) → AreStates g []
-unfolding IsStrictlySortedBy
-none_states g = record { ascend = tt; within = λ k d l. absurd (omega (arith, l)) }
-
 pub none_patterns : (g : Grammar) → ArePatterns g []
 unfolding IsStrictlySortedBy
 none_patterns g = record { ascend = tt; within = λ k d l. absurd (omega (arith, l)) }

@@ -23,9 +23,6 @@ module _ (sets : List Numbers) (places start : Numbers) where
   abbrev pub IsPutTo : ℕ → Numbers → Type 0
   IsPutTo n s = (j : ℕ) → Has s j ↔ (Has start j ⊎ IsAtSome sets places n j)
 
-  pub put_none : IsPutTo 0 start
-  put_none j = (λ h. inl h, λ e. elim e [ inl h ↦ h | inr (k, s, low, there, at, h) ↦ absurd (omega (arith, low)) ])
-
   less_or_last : (k n : ℕ) → k < n + 1 → (k < n) ⊎ (k ≡ n)
   less_or_last k n l = grind arith
 
@@ -138,9 +135,6 @@ front (x ∷ xs) ys (suc i) q e = front xs ys i q e
 
 -- rows that were stepped stay so
 module _ (b : Both) (hedges : List Row) where
-  pub stepped_none : AreStepped b hedges []
-  stepped_none i t at = absurd (cc)
-
   pub stepped_more : (steps more : List BothSteps) (t : BothSteps) (h : Row) → more ≡ steps ++ t ∷ [] → AreStepped b hedges steps → slice_get hedges (length steps) ≡ Some h → AreBothSteps b h t → AreStepped b hedges more
   stepped_more steps more t h same before there are i u at = by (pushed_at steps t i u (subst (λ w. slice_get w i ≡ Some u) same at))
     where
