@@ -106,9 +106,6 @@ module _ (x : Triple) (k : NodeKind) (w : Below) (order : List ℕ) (first : Are
       by m bef (inr (inl l)) = let other : m ≢ n = λ e. omega (arith, e, l) in keep_called m old new (others m other) (ready m (is_before i n m at other bef))
       by m bef (inr (inr l)) = let other : m ≢ n = λ e. omega (arith, e, l) in keep_called m old new (others m other) (ready m (is_before i n m at other bef))
 
-  pub none_ready : (sets : List Matrix) → Ready 0 sets
-  none_ready sets n (j, low, at) = absurd (omega (arith, low))
-
   pub all_ready : (i : ℕ) (sets : List Matrix) → length order ≤ i → Ready i sets → (n : ℕ) → IsCalled x k w (called_from sets) n
   all_ready i sets past ready n = λ b p is u.
       let (j, at) = first.all n (slice_get_within (sheet x).named n b is) in

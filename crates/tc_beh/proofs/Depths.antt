@@ -4,9 +4,7 @@ use Rattle.tc_model.specs.Sheets.{Body, no_instruction, put_text, put_element, c
 use Rattle.tc_model.specs.Views as see
 use Rattle.tc_model.specs.declared.sheet.Instr.{Instr}
 use Rattle.tc_model.proofs.ViewsBody.{body_then, instruction_then, left_instruction}
-use Rattle.tc_mat.specs.Matrix.{Matrix}
 use Rattle.tc_beh.specs.Heights.{depth_in}
-use Rattle.tc_beh.specs.Places.{AreSpare}
 
 depth_then : (a b : Body) → depth_in (body_then a b) ≡ max (depth_in a) (depth_in b)
 depth_then no_instruction b = omega arith
@@ -30,10 +28,6 @@ pub depth_next : (is : List Instr) (k : ℕ) (i : Instr) → k < length is → i
 depth_next is k i h e =
     let all : depth_in (see.body (drop k is)) ≡ max (depth_in (see.instruction i no_instruction)) (depth_in (see.body (drop (k + 1) is))) = ap depth_in (left_instruction is k i h e) ∙ depth_first i (see.body (drop (k + 1) is)) in
     (omega (arith, all), omega (arith, all))
-
--- less room is enough for less
-pub spare_less : (size n m : ℕ) (ms : List Matrix) → n ≤ m → AreSpare size m ms → AreSpare size n ms
-spare_less size n m ms l s = let e = s.enough in record { sizes = s.sizes; enough = omega (arith, l, e) }
 
 -- the room of an element, of which the first is taken
 pub inner_depth : (d n : ℕ) → min (d + 1) 8001 + 2 ≤ n → n ≤ 8002 → d + 3 ≤ n

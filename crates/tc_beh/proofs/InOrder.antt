@@ -8,7 +8,7 @@ use Rattle.std.proofs.lemmas.Bool.{cases_lt}
 use Rattle.std.proofs.lemmas.Option.{get_or_from_slice_get}
 use Rattle.std.proofs.Math.Seq.{take-suc}
 use Rattle.tc_model.specs.Numbered.{numbers_below}
-use Rattle.tc_mat.specs.Matrix.{Matrix, HasPair, HasNone, Gains}
+use Rattle.tc_mat.specs.Matrix.{Matrix, HasPair, Gains}
 use Rattle.tc_mat.specs.Held.{Held, IsHeld}
 use Rattle.tc_rows.specs.PairSets.{IsPairs, listed}
 use Rattle.tc_rows.proofs.PairLaws.{same_back, same_on}
@@ -64,9 +64,6 @@ IsAmong pairs n p = (k : ℕ) × (k < n) × (k < length pairs) × (get_or pairs 
 abbrev pub HasFirst : Matrix → List (ℕ × ℕ) → ℕ → Type 0
 HasFirst m pairs n = (i j : ℕ) → HasPair m i j ↔ IsAmong pairs n (i, j)
 
-pub has_none : (m : Matrix) (pairs : List (ℕ × ℕ)) → HasNone m → HasFirst m pairs 0
-has_none m pairs none i j = (λ h. absurd (none i j h), λ (k, l, low, at). absurd (omega (arith, l)))
-
 pub has_one_more : (old new : Matrix) (pairs : List (ℕ × ℕ)) (n : ℕ) (p : ℕ × ℕ) → slice_get pairs n ≡ Some p → Gains old p.0 p.1 new → HasFirst old pairs n → HasFirst new pairs (n + 1)
 has_one_more old new pairs n p at gains is i j = (forth, back)
   where
@@ -92,12 +89,6 @@ has_one_more old new pairs n p at gains is i j = (forth, back)
           let q : p ≡ (i, j) = sym (here (i, j)) ∙ (ap (λ w. get_or pairs w (i, j)) (let s : n ≡ k = omega (arith, l, b) in s) ∙ e) in
           (gains i j).1 (inr (ap (λ (w : ℕ × ℕ). w.0) (sym q), ap (λ (w : ℕ × ℕ). w.1) (sym q)))
     ]
-
-pub has_all : (m : Matrix) (pairs : List (ℕ × ℕ)) (n : ℕ) → length pairs ≤ n → HasFirst m pairs n → HasPairs m pairs
-has_all m pairs n all is i j = (
-  λ h. (let (k, l, low, e) = (is i j).0 h in (k, low, e)),
-  λ (k, low, e). (is i j).1 (k, omega (arith, low, all), low, e),
-)
 
 -- a matrix of the pairs of a list is listed as these
 pub listed_as : (m : Matrix) (size : ℕ) (pairs : List (ℕ × ℕ)) → m.size ≡ size → IsPairs size pairs → HasPairs m pairs → pairs_of m ≡ pairs

@@ -39,10 +39,6 @@ fresh_symbol x e a low =
 pub flat_low : (q n k m : ℕ) → q < n → k < m → q * m + k < n * m
 flat_low q n k m l h = grind arith
 
-at_or_past : (b c : Bool) → b ≡ false → (r s : PairSet) → HaveSamePairs (chosen b r s) s
-at_or_past true c e r s = cc
-at_or_past false c e r s = same_self s
-
 at_here : (b : Bool) → b ≡ true → (r s : PairSet) → HaveSamePairs (chosen b r s) r
 at_here true e r s = same_self r
 at_here false e r s = cc
