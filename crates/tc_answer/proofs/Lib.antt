@@ -8,3 +8,5 @@ pub mod ReadsOnce
 pub mod SchemaWordsLaws
 pub mod Options
 pub mod NoCommand
+pub mod OperandWords
+pub mod Marked

@@ -1,5 +1,6 @@
 -- Operands that are read one after the other, up to the first whose read isn't Ok.
-use Rattle.std.proofs.Common.{◌≡◌, ◌∷◌, [], ◌++◌, refl, sym, ap, subst, ℕ, List, Ok, Err}
+use Rattle.std.proofs.Common.{◌≡◌, ◌∷◌, [], ◌++◌, refl, sym, ap, subst, ℕ, List, Result, Ok, Err, IfOk}
+use Rattle.std.specs.Result.{IsErrAnd}
 use Rattle.tc_io.specs.Store.{Read}
 use Rattle.tc_io.specs.declared.StoreFault.{StoreFault}
 use Rattle.tc_answer.specs.AnswersSeen.{IsUnread, IsFirstUnread}
@@ -7,6 +8,11 @@ use Rattle.tc_answer.specs.Reading.{StopsAt, at_first, past_first}
 use Rattle.tc_answer.specs.Words.{Source}
 use Rattle.tc_answer.specs.declared.read.Unread.{Unread}
 use Rattle.tc_answer.specs.declared.read.Unread.TheVariants as u
+
+-- nothing is said of the value of what was not read
+pub no_value : {T E : Type 0} (r : Result T E) (P : T → Type 0) (Q : E → Type 0) → IsErrAnd r Q → IfOk r P
+no_value (Ok v) P Q h = absurd h
+no_value (Err e) P Q h = tt
 
 -- the first operand is the one whose read isn't Ok
 pub unread_first : (first : Source) (rest : List Source) (fault : StoreFault) (unread : Unread) → IsUnread first.word fault unread → IsFirstUnread (first ∷ rest) ((first.file, Err fault) ∷ []) unread

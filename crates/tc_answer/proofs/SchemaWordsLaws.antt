@@ -82,3 +82,11 @@ lawful_file word rest root file empty e p q name is =
     let parts = lawful_parts word rest root file e p q in
     let some = nonempty file empty is in
     ((λ t. parts.0 (name, some.0 t)), (λ h. some.1 (parts.1 h).1))
+
+pub unlawful_name : (word rest root file : List ℕ) (named : Bool) → behind_dtd word ≡ Some rest → root ≡ before_first is_colon rest → file ≡ after_first is_colon rest → IsTrue named ↔ IsNcName root → named ≡ false
+    → IsTrue named ↔ IsSchemaWord word
+unlawful_name word rest root file named e p q says denied = ((λ t. absurd (true≢false (sym t ∙ denied))), (λ h. says.1 ((lawful_parts word rest root file e p q).1 h).0))
+
+-- and any other word
+pub lawful_none : (word : List ℕ) → behind_dtd word ≡ None → IsTrue true ↔ IsSchemaWord word
+lawful_none word e = ((λ t. subst (IsLawful word) (sym e) tt), (λ h. refl))

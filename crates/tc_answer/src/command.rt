@@ -33,7 +33,7 @@ pub enum Command<'w> {
     ValidInPieces(u32, &'w str, &'w str),
     /// Check an example of this size.
     Demo(u32),
-    /// Write the certificate of this name as it is written today.
+    /// Write the certificate of this name in version 2, whichever version it is in.
     Upgrade(&'w str),
     /// Tell whether each document that is valid for the first schema is valid for the second.
     Include(&'w str, &'w str),
