@@ -5,6 +5,7 @@ use Rattle.tc_model.specs.SheetText.{SheetFails, undefined, call_loop}
 use Rattle.tc_sheet.specs.Changes.{mended, flattened, Changed}
 use Rattle.tc_sheet.specs.Faults.{IsUnsupported, IsTooDeep, IsUndefinedAt, IsLoopAt, NamesAgain, IsMalformedAt}
 use Rattle.tc_sheet.proofs.LawfulSheets.{lawful_sheet}
+use Rattle.tc_sheet.proofs.Passed.{no_value}
 use Rattle.tc_read.proofs.Exits.{err_is}
 use Rattle.tc_read.proofs.RefusedTexts.{refused_text, refused_tree}
 use Rattle.tc_read.proofs.TextFaults.{only_memory, tree_fault, of_tree}
@@ -65,3 +66,36 @@ pub returns-in_err-sheet-clause-again : goal.returns-in_err-sheet-clause-again
 returns-in_err-sheet-clause-again c = λ raw p text f.
     err_is c.from_residual-in_err-sheet.result _ _ c.from_residual-in_err-sheet.ensures.1
     (tree_fault (IsMalformedAt p) c.in_err-sheet.field-0.0 (c.in_err-sheet.ensures.again p (of_tree (λ (h : RawTrees). NamesAgain h p) text c.in_ok-raw.ensures.ok f)))
+
+pub returns-in_err-raw-clause-ok : goal.returns-in_err-raw-clause-ok
+returns-in_err-raw-clause-ok c = no_value c.from_residual.result _ _ c.from_residual.ensures.1
+
+pub returns-in_err-raw-clause-well_formed : goal.returns-in_err-raw-clause-well_formed
+returns-in_err-raw-clause-well_formed c = no_value c.from_residual.result _ _ c.from_residual.ensures.1
+
+pub returns-in_err-sheet-clause-ok : goal.returns-in_err-sheet-clause-ok
+returns-in_err-sheet-clause-ok c = no_value c.from_residual-in_err-sheet.result _ _ c.from_residual-in_err-sheet.ensures.1
+
+pub returns-in_err-sheet-clause-well_formed : goal.returns-in_err-sheet-clause-well_formed
+returns-in_err-sheet-clause-well_formed c = no_value c.from_residual-in_err-sheet.result _ _ c.from_residual-in_err-sheet.ensures.1
+
+pub returns-clause-no : goal.returns-clause-no
+returns-clause-no c = tt
+
+pub returns-clause-unsupported : goal.returns-clause-unsupported
+returns-clause-unsupported c = λ raw changed s text k t. tt
+
+pub returns-clause-deep : goal.returns-clause-deep
+returns-clause-deep c = λ raw changed s text k t. tt
+
+pub returns-clause-no_template : goal.returns-clause-no_template
+returns-clause-no_template c = λ raw p text f. tt
+
+pub returns-clause-loops : goal.returns-clause-loops
+returns-clause-loops c = λ raw p text f. tt
+
+pub returns-clause-again : goal.returns-clause-again
+returns-clause-again c = λ raw p text f. tt
+
+pub returns-clause-ok : goal.returns-clause-ok
+returns-clause-ok c = record { raw = raw_tree c.in_ok-raw.raw; text = c.in_ok-raw.ensures.ok; means = c.in_ok-sheet.ensures.ok }
