@@ -1,12 +1,9 @@
--- What is proved is accepted, what is accepted is safe, and what a certificate is it is accepted as.
-use Rattle.std.proofs.Common.{◌≡◌, ◌↔◌, ◌⊎◌, inl, inr, ℕ, List, refl, sym, subst, length, ◌≤◌}
+-- What is proved is accepted, and what is accepted is safe.
+use Rattle.std.proofs.Common.{◌≡◌, ◌⊎◌, inl, inr, ℕ, List, refl}
 use Rattle.tc_answer.specs.Answers.{Answer, certificate, accepted, rejected}
 use Rattle.tc_answer.specs.Lines.{Rejection, form_fails}
-use Rattle.tc_base.specs.declared.limits.TheConstants.{LONGEST_FILE}
-use Rattle.tc_cert.specs.Texts.{text, by_changes, CertificateText}
-use Rattle.tc_cert.proofs.Fronts.{no_fault}
+use Rattle.tc_cert.specs.Texts.{text, by_changes}
 use Rattle.tc_close.proofs.LeastHolds.{least_holds}
-use Rattle.tc_close.specs.Triples.{IsTripleOf}
 use Rattle.tc_model.specs.Grammars.{Grammar}
 use Rattle.tc_model.specs.Safety.{IsSafe}
 use Rattle.tc_model.specs.Sheets.{Sheet}
@@ -14,11 +11,10 @@ use Rattle.tc_model.specs.declared.lists.CertData.{CertData}
 use Rattle.tc_read.specs.Sheets.{IsSheetOf}
 use Rattle.tc_rows.proofs.Derived.{certificate_is_safe}
 use Rattle.tc_top.specs.Causes.{OfTexts, all_three}
-use Rattle.tc_top.specs.Certifying.{IsCertificateOf, IsLeastOf, Certifies, as_checked, certifies, overlong, Accepts, stops_before_rows, accepts, no_text, no_certificate}
+use Rattle.tc_top.specs.Certifying.{IsCertificateOf, IsLeastOf, Certifies, as_checked, certifies, Accepts, stops_before_rows, accepts, no_text, no_certificate}
 use Rattle.tc_top.specs.Checking.{IsWithinTripleLimits}
 use Rattle.tc_top.specs.SchemaTexts.{SchemaText}
 use Rattle.tc_top.proofs.Checked.{of_triple, to_triple}
-use Rattle.tc_top.proofs.OneCertifying.{accepted_rejected}
 use Rattle.tc_top.proofs.OneCheck.{decided_of, over_triple}
 
 module _ {i o : Grammar} {s : Sheet} where
@@ -38,16 +34,7 @@ module _ {i o : Grammar} {s : Sheet} where
   safe_accepted : {bytes : List ℕ} → Accepts i o s bytes accepted → IsSafe i o s
   safe_accepted (accepts {d} w t c) = safe_certified d c
 
-  -- within the limits it is accepted exactly where the bytes are the text of a certificate, and else rejected
-  pub accepted_where : {bytes : List ℕ} {answer : Answer} → length bytes ≤ LONGEST_FILE → IsWithinTripleLimits i o s → Accepts i o s bytes answer → (d : CertData) → CertificateText bytes d → IsCertificateOf i o s d → answer ≡ accepted
-  accepted_where h w (stops_before_rows p) d t c = absurd (over_triple p w)
-  accepted_where h w (accepts v u e) d t c = refl
-  accepted_where {bytes} h w (no_text {line} v f) d t c = absurd (no_fault bytes d line t f)
-  accepted_where {bytes} h w (no_certificate {d = e} {why} v u r) d t c = absurd (accepted_rejected bytes h d e why t u c r)
-
-  pub certified_where : {bytes : List ℕ} → Accepts i o s bytes accepted → (d : CertData) × CertificateText bytes d × IsCertificateOf i o s d
-  certified_where (accepts {d} w t c) = (d, t, c)
-
+  -- within the limits bytes are accepted or rejected
   pub yes_or_no : {bytes : List ℕ} {answer : Answer} → IsWithinTripleLimits i o s → Accepts i o s bytes answer → (answer ≡ accepted) ⊎ ((why : Rejection) × (answer ≡ rejected why))
   yes_or_no w (stops_before_rows p) = absurd (over_triple p w)
   yes_or_no w (accepts v u e) = inl refl

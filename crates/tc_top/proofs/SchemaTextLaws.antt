@@ -1,6 +1,5 @@
 -- What texts of schemas mean is one grammar, a well-formed one, and none where they are refused.
 use Rattle.std.proofs.Common.{◌≡◌, ◌⊎◌, inl, inr, ◌∙◌, ℕ, List, Some, None, refl, sym, ap, subst}
-use Rattle.tc_base.specs.declared.Place.{Place}
 use Rattle.tc_dtd.specs.DtdGrammar.{IsGrammarOfDtd}
 use Rattle.tc_dtd.specs.DtdTextLaws.{IsMalformed, IsRefusal}
 use Rattle.tc_dtd.specs.Faults.{IsFaultOf}
@@ -14,8 +13,6 @@ use Rattle.tc_model.specs.SimplifiesLaws.{IsStart}
 use Rattle.tc_model.proofs.SimplifiesLawful.{lawful_grammar}
 use Rattle.tc_model.proofs.SimplifiesUnique.{lawful_start, one_rnc_text}
 use Rattle.tc_read.specs.Faults.{IsUnaccepted}
-use Rattle.tc_read.specs.Refusals.{IsRefusedSchema}
-use Rattle.tc_read.specs.Schemas.{IsSchemaOf}
 use Rattle.tc_read.specs.declared.faults.Reason.{Reason}
 use Rattle.tc_read.specs.declared.faults.TextFault.{TextFault}
 use Rattle.tc_read.specs.declared.faults.TextFault.TheVariants.{Refused, NoMemory}
@@ -139,16 +136,8 @@ pub read_as_text : (word root bytes : List ℕ) (s : Schema) → root_of word �
 read_as_text word root bytes (Small x) e h = (declares e h.0, h.1)
 read_as_text word root bytes (TooLarge kind number) e h = (h.0, declares e h.1, h.2)
 
-pub read_as_compact : (word bytes : List ℕ) (s : Schema) → root_of word ≡ None → IsSchemaOf bytes s → IsSchemaOfText word bytes s
-read_as_compact word bytes (Small x) e h = (compact e h.0, h.1)
-read_as_compact word bytes (TooLarge kind number) e h = (h.0, compact e h.1, h.2)
-
 -- and so is why there is none
 
 pub refused_as_text : (word root bytes : List ℕ) (e : TextFault) → root_of word ≡ Some root → IsUnaccepted (IsRefusedDtd bytes) e → IsUnaccepted (IsRefusedText word bytes) e
 refused_as_text word root bytes (Refused why p) f h = refuses_declarations f h
 refused_as_text word root bytes NoMemory f h = tt
-
-pub refused_as_compact : (word bytes : List ℕ) (e : TextFault) → root_of word ≡ None → IsUnaccepted (IsRefusedSchema bytes) e → IsUnaccepted (IsRefusedText word bytes) e
-refused_as_compact word bytes (Refused why p) f h = refuses_compact f h
-refused_as_compact word bytes NoMemory f h = tt
