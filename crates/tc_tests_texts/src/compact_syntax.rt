@@ -312,7 +312,7 @@ inline = mixed { element em { text }* }
 /// Two schemas of articles, and a chain.
 #[test]
 fn definitions_are_counted(rt: HostRuntime) -> Result<(), Fail> {
-    let chain = chain(rt.alloc(), "element x{empty}")?;
+    let chain = chain(rt.alloc(), &("start = a1", 100000, "", "element x{empty}"))?;
     for (text, count) in [(INPUT, 9), (OUTPUT, 3), (chain.as_str(), 100001)] {
         assert!(rt; definitions(rt.alloc(), text.as_bytes()) == Ok(count));
     }

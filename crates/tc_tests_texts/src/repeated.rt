@@ -27,13 +27,18 @@ pub(crate) fn nested(alloc: Global, parts: &Parts, times: usize) -> Result<Strin
     Ok(text)
 }
 
-/// A schema of a chain of 100,000 definitions, of which the last is given.
-pub(crate) fn chain(alloc: Global, last: &str) -> Result<String, Fail> {
-    let mut text = String::from_str(alloc, "start = a1\n")?;
-    for i in 1..100000u32 {
-        write!(text, "a{i} = a{}\n", i + 1)?;
+/// A schema of a chain of definitions: its start, how many there are, what stands behind each reference to the next one,
+/// and what the last one is.
+pub(crate) type Chain = (&'static str, u32, &'static str, &'static str);
+
+/// The text of a chain.
+pub(crate) fn chain(alloc: Global, parts: &Chain) -> Result<String, Fail> {
+    let (start, count, behind, last) = *parts;
+    let mut text = String::from_str(alloc, start)?;
+    for i in 1..count {
+        write!(text, "\na{i} = a{}{behind}", i + 1)?;
     }
-    write!(text, "a100000 = {last}\n")?;
+    write!(text, "\na{count} = {last}\n")?;
     Ok(text)
 }
 

@@ -1,6 +1,6 @@
 //! Grammars of schemas, by hand.
 
-use crate::repeated::{Parts, chain, nested};
+use crate::repeated::{Chain, Parts, chain, nested};
 use bumpalo::Bump;
 use std::alloc::Global;
 use std::test::Fail;
@@ -122,17 +122,30 @@ fn nodes_and_elements_are_counted(rt: HostRuntime) -> Result<(), Fail> {
     Ok(())
 }
 
-/// The last definitions of chains, and the same of each chain.
-static CHAINS: [(&str, Result<usize, SimpleFault>); 2] = [
-    ("element x{empty}", Ok(1)),
-    ("a1", Err(SimpleFault::Loop(Place(16)))),
+/// Chains, and the same of each.
+static CHAINS: [(Chain, Result<usize, SimpleFault>); 4] = [
+    (("start = a1", 100000, "", "element x{empty}"), Ok(1)),
+    (
+        ("start = a1", 100000, "", "a1"),
+        Err(SimpleFault::Loop(Place(16))),
+    ),
+    // A pattern nests as deep as what its definitions come to.
+    (("start = element x{a1}", 2000, "+", "text"), Ok(1)),
+    (
+        ("start = element x{a1}", 2001, "+", "text"),
+        Err(SimpleFault::TooNested),
+    ),
 ];
 
 #[test]
 fn chains_are_followed(rt: HostRuntime) -> Result<(), Fail> {
-    for (last, wanted) in &CHAINS {
-        let text = chain(rt.alloc(), last)?;
-        assert!(rt; elements(rt.alloc(), text.as_str()) == *wanted, "{last}");
+    for (parts, wanted) in &CHAINS {
+        let text = chain(rt.alloc(), parts)?;
+        assert!(rt;
+            elements(rt.alloc(), text.as_str()) == *wanted,
+            "{}",
+            parts.1
+        );
     }
     Ok(())
 }

@@ -1,11 +1,16 @@
 //! Machines of two schemas' texts and a stylesheet's, for the tests of what stands on machines.
 #![tactic(auto)]
 
-ghost use Rattle.std.specs.Prelude.{◌≤◌, length, IfOk};
+ghost use Rattle.std.specs.Prelude.{◌≡◌, ◌≤◌, ◌⊎◌, length, IfOk};
+ghost use Rattle.tc_model.specs.Grammars as g;
 ghost use Rattle.tc_model.specs.Grammars.{IsGrammar};
+ghost use Rattle.tc_model.specs.Sheets as sh;
 ghost use Rattle.tc_model.specs.SimplifiesLaws.{IsStart};
+ghost use Rattle.tc_model.specs.States as side;
+ghost use Rattle.tc_model.specs.Symbols.{symbols_of};
 ghost use Rattle.tc_model.specs.Views as see;
 ghost use Rattle.tc_model.specs.WellFormed.{IsSheet};
+ghost use Rattle.tc_hedge.specs.Stands.{Stands};
 ghost use Rattle.tc_beh.specs.Machines.{IsMachine};
 
 use bumpalo::Bump;
@@ -65,6 +70,40 @@ fn sheet_of<'b>(arena: &'b Bump, text: &str) -> Result<Sheet<'b>, NoMachine>
     }
 }
 
+/// The automaton of the contents of an input schema.
+fn inner_of<'b>(
+    alloc: Global,
+    input: &Grammar<'b>,
+    alphabet: &Alphabet,
+) -> Result<Hedge<'b>, NoMachine>
+    ensures { IfOk result (λ h. (i o : g.Grammar) (s : sh.Sheet) → alphabet.now ≡ symbols_of i o s → (see.grammar input.now ≡ i) ⊎ (see.grammar input.now ≡ o) → Stands side.input (see.grammar input.now) alphabet.now h) }
+{
+    let Ok(contents) = Auto::contents(alloc, input, 512) else {
+        return Err(NoMachine::NotRead);
+    };
+    match Hedge::of(alloc, contents, alphabet) {
+        Ok(inner) => Ok(inner),
+        Err(_) => Err(NoMachine::NotRead),
+    }
+}
+
+/// The automaton of an output schema.
+fn outer_of<'b>(
+    alloc: Global,
+    output: &Grammar<'b>,
+    alphabet: &Alphabet,
+) -> Result<Hedge<'b>, NoMachine>
+    ensures { IfOk result (λ h. (i o : g.Grammar) (s : sh.Sheet) → alphabet.now ≡ symbols_of i o s → (see.grammar output.now ≡ i) ⊎ (see.grammar output.now ≡ o) → Stands side.output (see.grammar output.now) alphabet.now h) }
+{
+    let Ok(states) = Auto::of(alloc, output, 256) else {
+        return Err(NoMachine::NotRead);
+    };
+    match Hedge::of(alloc, states, alphabet) {
+        Ok(outer) => Ok(outer),
+        Err(_) => Err(NoMachine::NotRead),
+    }
+}
+
 /// The machine of two schemas and a stylesheet.
 fn machine_of<'b>(
     alloc: Global,
@@ -81,19 +120,9 @@ fn machine_of<'b>(
     let Ok(alphabet) = Alphabet::of(alloc, input, output, sheet) else {
         return Err(NoMachine::NotRead);
     };
-    let Ok(contents) = Auto::contents(alloc, input, 512) else {
-        return Err(NoMachine::NotRead);
-    };
-    let Ok(states) = Auto::of(alloc, output, 256) else {
-        return Err(NoMachine::NotRead);
-    };
+    let inner = inner_of(alloc, input, &alphabet)?;
+    let outer = outer_of(alloc, output, &alphabet)?;
     let Ok(rules) = Rules::of(alloc, sheet, &alphabet) else {
-        return Err(NoMachine::NotRead);
-    };
-    let Ok(inner) = Hedge::of(alloc, contents, &alphabet) else {
-        return Err(NoMachine::NotRead);
-    };
-    let Ok(outer) = Hedge::of(alloc, states, &alphabet) else {
         return Err(NoMachine::NotRead);
     };
     match Machine::of(alloc, inner, outer, rules, alphabet) {
