@@ -1,5 +1,5 @@
 -- Words that begin with a mark, and those that don't.
-use Rattle.std.proofs.Common.{◌≡◌, ◌∷◌, [], ◌∙◌, sym, ap, subst, ℕ, List, Bool, true, false, refl, not, bytes_eq, Decides}
+use Rattle.std.proofs.Common.{◌≡◌, ◌∷◌, ◌∙◌, sym, ap, subst, ℕ, List, Bool, true, false, refl, not, bytes_eq, Decides}
 use Rattle.std.specs.Prelude.{Option, Some, None, ◌&&◌}
 use Rattle.std.specs.List.{list_all}
 use Rattle.std.proofs.lemmas.Slice.Eq.{bytes_eq-Decides}

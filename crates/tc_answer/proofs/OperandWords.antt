@@ -1,5 +1,5 @@
 -- How many operands there are, and which words they are.
-use Rattle.std.proofs.Common.{◌≡◌, ◌↔◌, ◌==◌, ◌∷◌, [], ◌∙◌, refl, sym, ap, subst, ℕ, List, length, get_or, Bool, true, false, String, string_bytes, arith}
+use Rattle.std.proofs.Common.{◌≡◌, ◌↔◌, ◌==◌, ◌∷◌, [], ◌∙◌, sym, ap, subst, ℕ, List, length, get_or, Bool, false, String, string_bytes, arith}
 use Rattle.std.specs.Prelude.{IsTrue, MatchOption, Option, Some, None}
 use Rattle.std.proofs.lemmas.List.{length-map}
 use Rattle.tc_answer.specs.SchemaWords.{IsSchemaWord}

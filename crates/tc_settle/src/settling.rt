@@ -72,7 +72,7 @@ fn first_starts(alloc: Global) -> Result<Vec<u32>, NoMemory>
     Ok(starts)
 }
 
-/// Goes on from there, cost by cost.
+/// Finds the rows of one cost after another, from what is begun.
 fn settle<R: NumberedRows>(
     alloc: Global,
     rows: &mut R,

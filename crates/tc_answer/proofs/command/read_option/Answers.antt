@@ -1,4 +1,4 @@
-use Rattle.std.proofs.Common.{◌≡◌, ◌∷◌, [], ◌∙◌, refl, sym, ap, subst}
+use Rattle.std.proofs.Common.{◌≡◌, ◌∷◌, ◌∙◌, refl, sym, ap, subst}
 use Rattle.tc_scan.proofs.NamesLaws.{at_none}
 use Rattle.tc_answer.specs.WordsSeen.{texts}
 use Rattle.tc_answer.specs.Words.{IsNumeral}
