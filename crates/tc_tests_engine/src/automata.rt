@@ -239,39 +239,47 @@ fn states_of(
     Ok(auto.states())
 }
 
-/// An element pattern of one name, without a namespace.
-fn one<'b>(local: &'b str, content: Pat<'b>) -> ElemPat<'b> {
-    let names = NameClass::Name(Name { uri: "", local });
-    ElemPat { names, content }
-}
+/// `element a { element b { empty }, .. }`, of 260 references.
+static LARGE: Grammar<'static> = Grammar {
+    start: Pat::Ref(1),
+    elements: &LARGE_ELEMENTS,
+};
 
-/// How many states a schema has whose content of `r` is 260 of `x`, up to so many, or its contents alone.
-fn states_of_large(alloc: Global, most: u32, has_start: bool) -> Result<u32, AutoFault> {
-    let members = [Pat::Ref(2); 260];
-    let elements = [one("r", Pat::Group(&members)), one("x", Pat::Empty)];
-    let start = Pat::Ref(1);
-    let elements = &elements;
-    states_of(alloc, &Grammar { start, elements }, most, has_start)
-}
+const LARGE_ELEMENTS: [ElemPat<'static>; 2] = [
+    ElemPat {
+        names: NameClass::Name(A),
+        content: Pat::Group(&LARGE_MEMBERS),
+    },
+    ElemPat {
+        names: NameClass::Name(B),
+        content: Pat::Empty,
+    },
+];
 
-/// The same of a schema whose content of `m` is 70 of it in any order.
-fn states_of_wide(alloc: Global, most: u32) -> Result<u32, AutoFault> {
-    let members = [Pat::Ref(1); 70];
-    let elements = [one("m", Pat::Interleave(&members))];
-    let start = Pat::Ref(1);
-    let elements = &elements;
-    states_of(alloc, &Grammar { start, elements }, most, true)
-}
+const LARGE_MEMBERS: [Pat<'static>; 260] = [Pat::Ref(2); 260];
 
-/// Two states of the start, 261 of the content of `r` and one of that of `x`.
+/// `element a { a & .. }`, of 70 references to itself.
+static WIDE: Grammar<'static> = Grammar {
+    start: Pat::Ref(1),
+    elements: &WIDE_ELEMENTS,
+};
+
+const WIDE_ELEMENTS: [ElemPat<'static>; 1] = [ElemPat {
+    names: NameClass::Name(A),
+    content: Pat::Interleave(&WIDE_MEMBERS),
+}];
+
+const WIDE_MEMBERS: [Pat<'static>; 70] = [Pat::Ref(1); 70];
+
+/// Two states of the start, 261 of the content of `a` and one of that of `b`.
 #[test]
 fn counts_states_before_it_builds(rt: HostRuntime) {
     let alloc = rt.alloc();
     let refused = Err(AutoFault::TooManyStates);
-    assert!(rt; states_of_large(alloc, 263, true) == refused);
-    assert!(rt; states_of_large(alloc, 264, true) == Ok(264));
-    assert!(rt; states_of_large(alloc, 262, false) == Ok(262));
-    assert!(rt; states_of_wide(alloc, 4_294_967_295) == refused);
+    assert!(rt; states_of(alloc, &LARGE, 263, true) == refused);
+    assert!(rt; states_of(alloc, &LARGE, 264, true) == Ok(264));
+    assert!(rt; states_of(alloc, &LARGE, 262, false) == Ok(262));
+    assert!(rt; states_of(alloc, &WIDE, 4_294_967_295, true) == refused);
 }
 
 const A_OF_U: Name<'static> = Name {
