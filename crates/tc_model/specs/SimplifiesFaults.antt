@@ -1,6 +1,6 @@
 -- Why a schema that is written well has no grammar, and where: the restrictions of the RELAX NG Specification (OASIS 2001), 4.16 to 4.19 and
 -- 7.1, on elements and text. That 4.18 is tried on all definitions, 4.19 on those that are reached, and 7.1.5 on the schema as it is written,
--- before 4.20 and 4.21 take `empty` and `notAllowed` away, is this project's choice, and so are the places and the order of the faults; those
+-- before 4.20 and 4.21 take `notAllowed` and `empty` away, is this project's choice, and so are the places and the order of the faults; those
 -- of attributes aren't looked at.
 use Rattle.std.specs.Prelude.{◌≡◌, ◌≤◌, ℕ, Bool, true, false, ◌&&◌, List, [], ◌∷◌, ◌++◌, Option, None, Some, ◌⊎◌, IsFalse, bytes_eq, if◌then◌else◌}
 use Rattle.std.specs.List.{list_any}

@@ -448,7 +448,8 @@ impl<'a, 'b> Source<'a, 'b> {
         Ok(endings)
     }
 
-    /// The states, where each of them leads, and what may have been taken at each.
+    /// The states, of which there are at most so many, and for each where it leads and the alternatives of which all
+    /// steps but the last may have been taken.
     fn led(
         &self,
         path: &[&[Step<'_>]],
@@ -516,7 +517,8 @@ struct Kinds {
     kinds: IndexSet<Row>,
 }
 
-/// The states of a path, where each of them leads, and the alternatives of which all steps but the last may have been taken.
+/// The states of a path, and for each where it leads and the alternatives of which all steps but the last may have been
+/// taken.
 #[derive(Drop)]
 struct Led {
     states: IndexSet<Row>,

@@ -34,7 +34,7 @@ use crate::gather::{
 };
 use crate::graph::{Counts, Graph, GraphFault, Source, as_u32};
 use crate::once::{number_of_move, number_of_path};
-use crate::walk::{Job, Move, Usage, add_look};
+use crate::walk::{Job, Move, Usage};
 use bumpalo::Bump;
 use std::alloc::Global;
 use tc_alpha::{Alphabet, Sym};
@@ -139,7 +139,7 @@ impl<'b> Rules<'b> {
         Rules::over(sheet, &used, source)
     }
 
-    /// The same, its usages being given, and what the states of its paths are made of.
+    /// The rules of a stylesheet of at most 6 predicates, over its usages and what the states of its paths are made of.
     fn over(
         sheet: &Sheet<'b>,
         used: &[Usage<'b>],
@@ -612,15 +612,13 @@ fn select_paths<'b>(
 {
     let mut paths = Vec::new(alloc);
     for found in moves {
-        add_look(&mut paths, found.path)?;
+        paths.push(found.path)?;
     }
-    for path in looks {
-        add_look(&mut paths, path)?;
-    }
+    paths.extend_from_slice(looks)?;
     Ok(paths)
 }
 
-/// The graphs of the select states.
+/// The graphs of the select states: those of the paths of moves, and then of looks.
 fn select_graphs(
     source: &Source<'_, '_>,
     moves: &[Move<'_>],

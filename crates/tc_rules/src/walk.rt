@@ -212,10 +212,7 @@ fn looks_in_tests<'b>(found: &mut Vec<&'b Path<'b>>, tests: &'b [Test<'b>]) -> R
 }
 
 /// One look more.
-pub(crate) fn add_look<'b>(
-    found: &mut Vec<&'b Path<'b>>,
-    path: &'b Path<'b>,
-) -> Result<(), NoMemory>
+fn add_look<'b>(found: &mut Vec<&'b Path<'b>>, path: &'b Path<'b>) -> Result<(), NoMemory>
     ensures { OnOk result (looks found.new.items ≡ looks found.old.items ++ see.path path.now ∷ []) }
 {
     found.push(path)?;

@@ -72,7 +72,7 @@ fn first_starts(alloc: Global) -> Result<Vec<u32>, NoMemory>
     Ok(starts)
 }
 
-/// Finds the rows of one cost after another, from what is begun.
+/// Finds all that is derived from the list of no tree and the text, by one cost after another, at most so many rows of each kind.
 fn settle<R: NumberedRows>(
     alloc: Global,
     rows: &mut R,

@@ -70,7 +70,7 @@ fn sheet_of<'b>(arena: &'b Bump, text: &str) -> Result<Sheet<'b>, NoMachine>
     }
 }
 
-/// The automaton of the contents of an input schema.
+/// The automaton of the contents of an input schema, with the symbols that its name classes hold.
 fn inner_of<'b>(
     alloc: Global,
     input: &Grammar<'b>,
@@ -87,7 +87,7 @@ fn inner_of<'b>(
     }
 }
 
-/// The automaton of an output schema.
+/// The automaton of an output schema, with the symbols that its name classes hold.
 fn outer_of<'b>(
     alloc: Global,
     output: &Grammar<'b>,

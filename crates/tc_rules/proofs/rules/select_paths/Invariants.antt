@@ -4,7 +4,4 @@ use Rattle.tc_rules.specs.Views.{looks}
 use Rattle.tc_rules.proofs.rules.select_paths.Given as goal
 
 abbrev pub invariant-loop-found : goal.invariant-loop-found
-invariant-loop-found l = map (λ m. see.path m.path.now) l.moves ≡ looks l.paths.items ++ map (λ m. see.path m.path.now) (drop l.found-index l.moves)
-
-abbrev pub invariant-loop-path : goal.invariant-loop-path
-invariant-loop-path l = map (λ m. see.path m.path.now) l.moves ++ looks l.looks ≡ looks l.paths.items ++ looks (drop l.path-index l.looks)
+invariant-loop-found l = looks l.paths.items ++ map (λ m. see.path m.path.now) (drop l.found-index l.moves) ≡ map (λ m. see.path m.path.now) l.moves
