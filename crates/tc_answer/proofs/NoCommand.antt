@@ -1,6 +1,7 @@
 -- Words that are no command, by what doesn't stand behind the first one.
-use Rattle.std.proofs.Common.{◌≡◌, ◌∷◌, [], ◌∙◌, sym, ap, subst, ℕ, zero, suc, List, Option, codes}
+use Rattle.std.proofs.Common.{◌≡◌, ◌∷◌, [], ◌∙◌, sym, ap, subst, refl, ℕ, zero, suc, List, Option, Bool, true, false, if◌then◌else◌, codes}
 use Rattle.tc_answer.specs.Words.{Command, Words, checks, proves, verifies, runs, validates, validates_in_pieces, shows, upgrades, includes, compares, Limits, IsNumeral, AreOperands, AreSchemas, IsNoCommand}
+use Rattle.tc_answer.proofs.Marked.{tails}
 use Rattle.tc_answer.proofs.OneCommand.{kind}
 
 -- no operands of this kind of command stand behind its name
@@ -29,3 +30,15 @@ lacked {words} k e none (compares {first = a} {second = b} p o s) = subst (λ n.
 
 pub lacking : (k : ℕ) {words : List (List ℕ)} → kind words ≡ k → Lacks k words → IsNoCommand words
 lacking k e none command given = lacked k e none given
+
+-- neither a check nor a proof, and neither an inclusion nor an equality
+pub no_check : {rest : List (List ℕ)} (proved : Bool)
+    → ((limit : Option ℕ) (a b c : List ℕ) → Limits rest limit (a ∷ b ∷ c ∷ []) → AreOperands (a ∷ b ∷ c ∷ []) → AreSchemas (a ∷ b ∷ []) → ⊥)
+    → IsNoCommand ((if proved then codes "prove" else codes "check") ∷ rest)
+no_check true none = lacking 1 refl (λ behind limit a b c p l o s. none limit a b c (subst (λ w. Limits w limit (a ∷ b ∷ c ∷ [])) (tails (sym p)) l) o s)
+no_check false none = lacking 0 refl (λ behind limit a b c p l o s. none limit a b c (subst (λ w. Limits w limit (a ∷ b ∷ c ∷ [])) (tails (sym p)) l) o s)
+
+pub no_inclusion : {rest : List (List ℕ)} (both_ways : Bool) → ((a b : List ℕ) → rest ≡ a ∷ b ∷ [] → AreOperands rest → AreSchemas (a ∷ b ∷ []) → ⊥)
+    → IsNoCommand ((if both_ways then codes "same" else codes "include") ∷ rest)
+no_inclusion true none = lacking 8 refl (λ a b p o s. let same = tails p in none a b same (subst AreOperands (sym same) o) s)
+no_inclusion false none = lacking 7 refl (λ a b p o s. let same = tails p in none a b same (subst AreOperands (sym same) o) s)

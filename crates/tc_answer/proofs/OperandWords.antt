@@ -1,6 +1,6 @@
 -- How many operands there are, and which words they are.
 use Rattle.std.proofs.Common.{◌≡◌, ◌↔◌, ◌==◌, ◌∷◌, [], ◌∙◌, sym, ap, subst, ℕ, List, length, get_or, Bool, false, String, string_bytes, arith}
-use Rattle.std.specs.Prelude.{IsTrue, MatchOption, Option, Some, None}
+use Rattle.std.specs.Prelude.{IsTrue}
 use Rattle.std.proofs.lemmas.List.{length-map}
 use Rattle.tc_answer.specs.SchemaWords.{IsSchemaWord}
 use Rattle.tc_answer.specs.Words.{AreOperands, AreSchemas, IsNumeral}
@@ -55,8 +55,7 @@ pub more_texts : {Z : Type 0} (words rest : List (String Z)) (word : String Z) (
 more_texts words [] word empty a parts shown is e = absurd (cc)
 more_texts words (other ∷ rest) word empty a parts shown is e = let h = sym e ∙ ap texts parts in absurd (cc)
 
--- one word that is a numeral, or isn't
-pub only_number : (words : List (List ℕ)) (most : ℕ) (numeral : List ℕ) (result : Option ℕ) → words ≡ numeral ∷ [] → MatchOption result ((number : ℕ) → IsNumeral most numeral number → ⊥) (IsNumeral most numeral)
-    → MatchOption result ((spelled : List ℕ) (number : ℕ) → words ≡ spelled ∷ [] → IsNumeral most spelled number → ⊥) (λ number. (spelled : List ℕ) × (words ≡ spelled ∷ []) × IsNumeral most spelled number)
-only_number words most numeral None same says = λ spelled number e h. says number (subst (λ w. IsNumeral most w number) (let whole = sym e ∙ same in cc) h)
-only_number words most numeral (Some number) same says = (numeral, same, says)
+-- one word that is no numeral
+pub no_number : (words : List (List ℕ)) (most : ℕ) (numeral : List ℕ) → words ≡ numeral ∷ [] → ((number : ℕ) → IsNumeral most numeral number → ⊥)
+    → (spelled : List ℕ) (number : ℕ) → words ≡ spelled ∷ [] → IsNumeral most spelled number → ⊥
+no_number words most numeral same none spelled number e h = none number (subst (λ w. IsNumeral most w number) (let whole = sym e ∙ same in cc) h)

@@ -1,7 +1,7 @@
 // The commands, and how the words of a command line give them.
-ghost use Rattle.std.specs.Prelude.{◌≡◌, ◌≤◌, ◌↔◌, ℕ, List, [], ◌∷◌, Option, false, length, IsTrue, MatchOption, codes};
+ghost use Rattle.std.specs.Prelude.{◌≡◌, ◌≤◌, ◌↔◌, ℕ, List, [], ◌∷◌, Option, false, length, IsTrue, MatchOption, codes, if◌then◌else◌};
 ghost use Rattle.std.specs.List.{list_all};
-ghost use Rattle.tc_answer.specs.Words.{Limits, IsNumeral, Words, AreOperands, AreSchemas, IsNoCommand, is_operand};
+ghost use Rattle.tc_answer.specs.Words.{IsNumeral, Words, AreOperands, AreSchemas, IsNoCommand, is_operand};
 ghost use Rattle.tc_answer.specs.Numbered.{Numbered};
 ghost use Rattle.tc_answer.specs.WordsSeen.{texts, command};
 
@@ -56,59 +56,46 @@ pub fn read_words(words: &[String]) -> Option<Command<'_>>
 {
     let (name, rest) = words.split_first()?;
     match name.as_str() {
-        "check" => {
-            let (limit, triple) = read_limited(rest)?;
-            Some(Command::Check(limit, triple))
-        }
-        "prove" => {
-            let (limit, triple) = read_limited(rest)?;
-            Some(Command::Prove(limit, triple))
-        }
-        "verify" => {
-            let (triple, certificate) = read_verified(rest)?;
-            Some(Command::Verify(triple, certificate))
-        }
+        "check" => read_check(rest, false),
+        "prove" => read_check(rest, true),
+        "verify" => read_verify(rest),
         "run" => {
             let (sheet, document) = read_pair(rest)?;
             Some(Command::Run(sheet, document))
         }
         "valid" => read_valid(rest),
-        "demo" => Some(Command::Demo(read_size(rest)?)),
-        "upgrade" => Some(Command::Upgrade(read_one(rest)?)),
-        "include" => {
-            let (first, second) = read_schemas(rest)?;
-            Some(Command::Include(first, second))
-        }
-        "same" => {
-            let (first, second) = read_schemas(rest)?;
-            Some(Command::Same(first, second))
-        }
+        "demo" => read_demo(rest),
+        "upgrade" => read_upgrade(rest),
+        "include" => read_inclusion(rest, false),
+        "same" => read_inclusion(rest, true),
         _ => None,
     }
 }
 
-/// The limit of a check, and its operands.
-fn read_limited(words: &[String]) -> Option<(Option<u32>, Triple<'_>)>
-    ensures { MatchOption result
-        ((limit : Option ℕ) (a b c : List ℕ) → Limits (texts words.now) limit (a ∷ b ∷ c ∷ []) → AreOperands (a ∷ b ∷ c ∷ []) → AreSchemas (a ∷ b ∷ []) → ⊥)
-        (λ read. Limits (texts words.now) read.0 (read.1.input.now ∷ read.1.output.now ∷ read.1.sheet.now ∷ [])
-        × AreOperands (read.1.input.now ∷ read.1.output.now ∷ read.1.sheet.now ∷ []) × AreSchemas (read.1.input.now ∷ read.1.output.now ∷ [])) }
+/// A check, or, where it `proves`, the same with a certificate: the limit, and the operands.
+fn read_check(words: &[String], proves: bool) -> Option<Command<'_>>
+    ensures { MatchOption result (IsNoCommand ((if proves then codes "prove" else codes "check") ∷ texts words.now))
+        (λ c. Words ((if proves then codes "prove" else codes "check") ∷ texts words.now) (command c)) }
 {
     let (limit, operands) = read_option(words, "--limit", MOST_LIMIT)?;
-    Some((limit, read_triple(operands)?))
+    let triple = read_triple(operands)?;
+    if proves {
+        Some(Command::Prove(limit, triple))
+    } else {
+        Some(Command::Check(limit, triple))
+    }
 }
 
-/// The size of a demonstration.
-fn read_size(words: &[String]) -> Option<u32>
-    ensures { MatchOption result
-        ((numeral : List ℕ) (size : ℕ) → texts words.now ≡ numeral ∷ [] → IsNumeral 40 numeral size → ⊥)
-        (λ size. (numeral : List ℕ) × (texts words.now ≡ numeral ∷ []) × IsNumeral 40 numeral size) }
+/// A demonstration: its size, and nothing else.
+fn read_demo(words: &[String]) -> Option<Command<'_>>
+    ensures { MatchOption result (IsNoCommand (codes "demo" ∷ texts words.now)) (λ c. Words (codes "demo" ∷ texts words.now) (command c)) }
 {
     let (numeral, rest) = words.split_first()?;
     if !rest.is_empty() {
         return None;
     }
-    read_number(numeral.as_str(), MOST_DEMO)
+    let size = read_number(numeral.as_str(), MOST_DEMO)?;
+    Some(Command::Demo(size))
 }
 
 /// A validation: of a document that comes in pieces, where their size stands before the operands, or of a whole one.
@@ -165,12 +152,9 @@ fn read_triple(words: &[String]) -> Option<Triple<'_>>
     })
 }
 
-/// Three operands, the first two schemas, and then the name of a certificate.
-fn read_verified(words: &[String]) -> Option<(Triple<'_>, &str)>
-    ensures { MatchOption result
-        ((a b c d : List ℕ) → texts words.now ≡ a ∷ b ∷ c ∷ d ∷ [] → AreOperands (texts words.now) → AreSchemas (a ∷ b ∷ []) → ⊥)
-        (λ p. (texts words.now ≡ p.0.input.now ∷ p.0.output.now ∷ p.0.sheet.now ∷ p.1.now ∷ []) × AreOperands (texts words.now)
-        × AreSchemas (p.0.input.now ∷ p.0.output.now ∷ [])) }
+/// A verification: three operands, the first two schemas, and then the name of a certificate.
+fn read_verify(words: &[String]) -> Option<Command<'_>>
+    ensures { MatchOption result (IsNoCommand (codes "verify" ∷ texts words.now)) (λ c. Words (codes "verify" ∷ texts words.now) (command c)) }
 {
     if !are_operands(words, 4) {
         return None;
@@ -181,19 +165,17 @@ fn read_verified(words: &[String]) -> Option<(Triple<'_>, &str)>
         output,
         sheet: words[2].as_str(),
     };
-    Some((triple, words[3].as_str()))
+    Some(Command::Verify(triple, words[3].as_str()))
 }
 
-/// One operand.
-fn read_one(words: &[String]) -> Option<&str>
-    ensures { MatchOption result
-        ((a : List ℕ) → texts words.now ≡ a ∷ [] → AreOperands (texts words.now) → ⊥)
-        (λ name. (texts words.now ≡ name.now ∷ []) × AreOperands (texts words.now)) }
+/// An upgrade: the name of a certificate.
+fn read_upgrade(words: &[String]) -> Option<Command<'_>>
+    ensures { MatchOption result (IsNoCommand (codes "upgrade" ∷ texts words.now)) (λ c. Words (codes "upgrade" ∷ texts words.now) (command c)) }
 {
     if !are_operands(words, 1) {
         return None;
     }
-    Some(words[0].as_str())
+    Some(Command::Upgrade(words[0].as_str()))
 }
 
 /// Two operands.
@@ -221,14 +203,18 @@ fn read_validation(words: &[String]) -> Option<(&str, &str)>
     Some((schema, document))
 }
 
-/// Two schemas.
-fn read_schemas(words: &[String]) -> Option<(&str, &str)>
-    ensures { MatchOption result
-        ((a b : List ℕ) → texts words.now ≡ a ∷ b ∷ [] → AreOperands (texts words.now) → AreSchemas (a ∷ b ∷ []) → ⊥)
-        (λ p. (texts words.now ≡ p.0.now ∷ p.1.now ∷ []) × AreOperands (texts words.now) × AreSchemas (p.0.now ∷ p.1.now ∷ [])) }
+/// An inclusion, or, where it goes both ways, an equality: two schemas.
+fn read_inclusion(words: &[String], both_ways: bool) -> Option<Command<'_>>
+    ensures { MatchOption result (IsNoCommand ((if both_ways then codes "same" else codes "include") ∷ texts words.now))
+        (λ c. Words ((if both_ways then codes "same" else codes "include") ∷ texts words.now) (command c)) }
 {
     let (first, second) = read_pair(words)?;
-    schemas(first, second)
+    let (first, second) = schemas(first, second)?;
+    if both_ways {
+        Some(Command::Same(first, second))
+    } else {
+        Some(Command::Include(first, second))
+    }
 }
 
 /// Two words, where both may stand in a schema's place.
