@@ -46,6 +46,10 @@ not_schemas (w ∷ v ∷ words) one two a b others s t none e x =
     let second : string_bytes v ≡ b = cc in
     none (subst IsSchemaWord (sym first ∙ first_shown w (v ∷ words) one s) x.0, (subst IsSchemaWord (sym second ∙ first_shown v words two t) x.1.0, tt))
 
+-- what a test denies
+pub denied : (P : Type 0) (result : Bool) → (IsTrue result ↔ P) → result ≡ false → P → ⊥
+denied P result says is_false holds = let said = says.1 holds in absurd (cc)
+
 -- no word, and more than one
 pub no_text : {Z : Type 0} (words : List (String Z)) (a : List ℕ) (others : List (List ℕ)) → length words ≡ 0 → texts words ≡ a ∷ others → ⊥
 no_text [] a others n e = absurd (cc)

@@ -103,7 +103,10 @@ fn read_valid(words: &[String]) -> Option<Command<'_>>
     ensures { MatchOption result (IsNoCommand (codes "valid" ∷ texts words.now)) (λ c. Words (codes "valid" ∷ texts words.now) (command c)) }
 {
     let (size, operands) = read_option(words, "--stream", LARGEST_PIECE)?;
-    let (schema, document) = read_validation(operands)?;
+    let (schema, document) = read_pair(operands)?;
+    if !is_schema_word(schema) {
+        return None;
+    }
     match size {
         Some(size) => Some(Command::ValidInPieces(size, schema, document)),
         None => Some(Command::Valid(schema, document)),
@@ -144,7 +147,11 @@ fn read_triple(words: &[String]) -> Option<Triple<'_>>
     if !are_operands(words, 3) {
         return None;
     }
-    let (input, output) = schemas(words[0].as_str(), words[1].as_str())?;
+    let input = words[0].as_str();
+    let output = words[1].as_str();
+    if !are_schemas(input, output) {
+        return None;
+    }
     Some(Triple {
         input,
         output,
@@ -159,7 +166,11 @@ fn read_verify(words: &[String]) -> Option<Command<'_>>
     if !are_operands(words, 4) {
         return None;
     }
-    let (input, output) = schemas(words[0].as_str(), words[1].as_str())?;
+    let input = words[0].as_str();
+    let output = words[1].as_str();
+    if !are_schemas(input, output) {
+        return None;
+    }
     let triple = Triple {
         input,
         output,
@@ -190,26 +201,15 @@ fn read_pair(words: &[String]) -> Option<(&str, &str)>
     Some((words[0].as_str(), words[1].as_str()))
 }
 
-/// A schema, and then another operand.
-fn read_validation(words: &[String]) -> Option<(&str, &str)>
-    ensures { MatchOption result
-        ((a b : List ℕ) → texts words.now ≡ a ∷ b ∷ [] → AreOperands (texts words.now) → AreSchemas (a ∷ []) → ⊥)
-        (λ p. (texts words.now ≡ p.0.now ∷ p.1.now ∷ []) × AreOperands (texts words.now) × AreSchemas (p.0.now ∷ [])) }
-{
-    let (schema, document) = read_pair(words)?;
-    if !is_schema_word(schema) {
-        return None;
-    }
-    Some((schema, document))
-}
-
 /// An inclusion, or, where it goes both ways, an equality: two schemas.
 fn read_inclusion(words: &[String], both_ways: bool) -> Option<Command<'_>>
     ensures { MatchOption result (IsNoCommand ((if both_ways then codes "same" else codes "include") ∷ texts words.now))
         (λ c. Words ((if both_ways then codes "same" else codes "include") ∷ texts words.now) (command c)) }
 {
     let (first, second) = read_pair(words)?;
-    let (first, second) = schemas(first, second)?;
+    if !are_schemas(first, second) {
+        return None;
+    }
     if both_ways {
         Some(Command::Same(first, second))
     } else {
@@ -217,16 +217,11 @@ fn read_inclusion(words: &[String], both_ways: bool) -> Option<Command<'_>>
     }
 }
 
-/// Two words, where both may stand in a schema's place.
-fn schemas<'w>(first: &'w str, second: &'w str) -> Option<(&'w str, &'w str)>
-    ensures { MatchOption result (AreSchemas (first.now ∷ second.now ∷ []) → ⊥)
-        (λ p. (p.0.now ≡ first.now) × (p.1.now ≡ second.now) × AreSchemas (first.now ∷ second.now ∷ [])) }
+/// Whether both words may stand in a schema's place.
+fn are_schemas(first: &str, second: &str) -> bool
+    ensures { IsTrue result ↔ AreSchemas (first.now ∷ second.now ∷ []) }
 {
-    if is_schema_word(first) && is_schema_word(second) {
-        Some((first, second))
-    } else {
-        None
-    }
+    is_schema_word(first) && is_schema_word(second)
 }
 
 /// Whether the words are so many operands.

@@ -1,24 +1,20 @@
-use Rattle.std.proofs.Common.{◌∷◌, [], ◌∙◌, refl, sym, subst}
-use Rattle.tc_scan.proofs.NamesLaws.{at_none}
-use Rattle.tc_answer.specs.SchemaWords.{IsSchemaWord}
-use Rattle.tc_answer.proofs.OperandWords.{not_operands, not_schemas, three_texts}
+use Rattle.std.proofs.Common.{◌∷◌, [], refl}
+use Rattle.tc_answer.proofs.OperandWords.{not_operands, not_schemas, denied, three_texts}
 use Rattle.tc_answer.proofs.command.read_triple.Goals as goal
 
 pub returns-then-not-are_operands : goal.returns-then-not-are_operands
 returns-then-not-are_operands c = λ a b d same are schemas. not_operands c.args.words.now 3 (a ∷ b ∷ d ∷ []) c.are_operands.result c.are_operands.ensures c.if-not-are_operands.true same refl are
 
-pub returns-in_err-input : goal.returns-in_err-input
-returns-in_err-input c =
-    at_none _ c.from_residual.ensures (λ a b d same are schemas.
-    not_schemas c.args.words.now c.as_str.result.now c.as_str-2.result.now a b (d ∷ []) (c.index-words-0.result, c.index-words-0.is, c.as_str.ensures.value)
-    (c.index-words-1.result, c.index-words-1.is, c.as_str-2.ensures.value) c.in_err-input.ensures same schemas)
+pub returns-then-not-are_schemas : goal.returns-then-not-are_schemas
+returns-then-not-are_schemas c = λ a b d same are schemas.
+    not_schemas c.args.words.now c.as_str-input.result.now c.as_str-output.result.now a b (d ∷ []) (c.index-words-0.result, c.index-words-0.is, c.as_str-input.ensures.value)
+    (c.index-words-1.result, c.index-words-1.is, c.as_str-output.ensures.value) (denied _ c.are_schemas.result c.are_schemas.ensures c.if-not-are_schemas.true) same schemas
 
 pub returns : goal.returns
 returns c =
-    let both = c.are_operands.ensures.0 c.if-not-are_operands.false in
-    let read = c.in_ok-input.ensures in (
-      three_texts c.args.words.now c.in_ok-input.input.now c.in_ok-input.output.now c.as_str-3.result.now both.0 (c.index-words-0.result, c.index-words-0.is, read.0 ∙ c.as_str.ensures.value)
-          (c.index-words-1.result, c.index-words-1.is, read.1 ∙ c.as_str-2.ensures.value) (c.index-words-2.result, c.index-words-2.is, c.as_str-3.ensures.value),
+    let both = c.are_operands.ensures.0 c.if-not-are_operands.false in (
+      three_texts c.args.words.now c.as_str-input.result.now c.as_str-output.result.now c.as_str.result.now both.0 (c.index-words-0.result, c.index-words-0.is, c.as_str-input.ensures.value)
+          (c.index-words-1.result, c.index-words-1.is, c.as_str-output.ensures.value) (c.index-words-2.result, c.index-words-2.is, c.as_str.ensures.value),
       both.1,
-      (subst IsSchemaWord (sym read.0) read.2.0, (subst IsSchemaWord (sym read.1) read.2.1.0, tt)),
+      c.are_schemas.ensures.0 c.if-not-are_schemas.false,
     )

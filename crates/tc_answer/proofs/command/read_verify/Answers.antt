@@ -1,10 +1,8 @@
-use Rattle.std.proofs.Common.{◌∷◌, [], ◌∙◌, refl, sym, ap, subst, codes}
-use Rattle.tc_scan.proofs.NamesLaws.{at_none}
-use Rattle.tc_answer.specs.SchemaWords.{IsSchemaWord}
+use Rattle.std.proofs.Common.{◌∷◌, [], refl, sym, ap, subst, codes}
 use Rattle.tc_answer.specs.Words.{AreOperands, verifies}
 use Rattle.tc_answer.proofs.Marked.{tails}
 use Rattle.tc_answer.proofs.NoCommand.{lacking}
-use Rattle.tc_answer.proofs.OperandWords.{not_operands, not_schemas, four_texts}
+use Rattle.tc_answer.proofs.OperandWords.{not_operands, not_schemas, denied, four_texts}
 use Rattle.tc_answer.proofs.command.read_verify.Goals as goal
 
 pub returns-then-not-are_operands : goal.returns-then-not-are_operands
@@ -13,18 +11,17 @@ returns-then-not-are_operands c =
     let same = tails p in
     not_operands c.args.words.now 4 (a ∷ b ∷ d ∷ e ∷ []) c.are_operands.result c.are_operands.ensures c.if-not-are_operands.true same refl (subst AreOperands (sym same) o))
 
-pub returns-in_err-input : goal.returns-in_err-input
-returns-in_err-input c =
-    at_none _ c.from_residual.ensures (lacking 2 refl (λ a b d e p o x.
-    not_schemas c.args.words.now c.as_str.result.now c.as_str-2.result.now a b (d ∷ e ∷ []) (c.index-words-0.result, c.index-words-0.is, c.as_str.ensures.value)
-    (c.index-words-1.result, c.index-words-1.is, c.as_str-2.ensures.value) c.in_err-input.ensures (tails p) x))
+pub returns-then-not-are_schemas : goal.returns-then-not-are_schemas
+returns-then-not-are_schemas c =
+    lacking 2 refl (λ a b d e p o x.
+    not_schemas c.args.words.now c.as_str-input.result.now c.as_str-output.result.now a b (d ∷ e ∷ []) (c.index-words-0.result, c.index-words-0.is, c.as_str-input.ensures.value)
+    (c.index-words-1.result, c.index-words-1.is, c.as_str-output.ensures.value) (denied _ c.are_schemas.result c.are_schemas.ensures c.if-not-are_schemas.true) (tails p) x)
 
 pub returns : goal.returns
 returns c =
     let both = c.are_operands.ensures.0 c.if-not-are_operands.false in
-    let read = c.in_ok-input.ensures in
     let same =
-    four_texts c.args.words.now c.in_ok-input.input.now c.in_ok-input.output.now c.as_str-3.result.now c.as_str-4.result.now both.0 (c.index-words-0.result, c.index-words-0.is, read.0 ∙ c.as_str.ensures.value)
-    (c.index-words-1.result, c.index-words-1.is, read.1 ∙ c.as_str-2.ensures.value) (c.index-words-2.result, c.index-words-2.is, c.as_str-3.ensures.value)
-    (c.index-words-3.result, c.index-words-3.is, c.as_str-4.ensures.value) in
-    verifies (ap (λ w. codes "verify" ∷ w) same) (subst AreOperands same both.1) (subst IsSchemaWord (sym read.0) read.2.0, (subst IsSchemaWord (sym read.1) read.2.1.0, tt))
+    four_texts c.args.words.now c.as_str-input.result.now c.as_str-output.result.now c.as_str.result.now c.as_str-2.result.now both.0 (c.index-words-0.result, c.index-words-0.is, c.as_str-input.ensures.value)
+    (c.index-words-1.result, c.index-words-1.is, c.as_str-output.ensures.value) (c.index-words-2.result, c.index-words-2.is, c.as_str.ensures.value)
+    (c.index-words-3.result, c.index-words-3.is, c.as_str-2.ensures.value) in
+    verifies (ap (λ w. codes "verify" ∷ w) same) (subst AreOperands same both.1) (c.are_schemas.ensures.0 c.if-not-are_schemas.false)
