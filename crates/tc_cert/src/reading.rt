@@ -80,15 +80,11 @@ fn last_output(outputs: &PairLists) -> Option<&Pairs>
     Some(outputs.get(outputs.len() - 1))
 }
 
-/// Reads so many lines of outputs.
-fn read_output_lines(
-    alloc: Global,
-    reader: &mut Reader<'_>,
-    count: u32,
-) -> Result<PairLists, CertFault>
-    requires { count ≤ 65536 }
-    ensures { (v : Version) (bytes : List ℕ) → Stands v bytes (in_outputs v count []) reader.old → MatchResult result (λ os. (length os ≡ count) × Stands v bytes (in_outputs v count os) reader.new) (IsUnread bytes) }
+/// Reads the lines of outputs, and how many they are.
+fn read_outputs(alloc: Global, reader: &mut Reader<'_>) -> Result<PairLists, CertFault>
+    ensures { (v : Version) (bytes : List ℕ) → Stands v bytes (begun v) reader.old → MatchResult result (λ os. Stands v bytes (in_outputs v (length os) os) reader.new) (IsUnread bytes) }
 {
+    let count = reader.count(b"outputs", 65536)?;
     let mut outputs = PairLists::new(alloc);
     while outputs.len() < count {
         let pairs = reader.output(alloc, last_output(&outputs))?;
@@ -97,23 +93,11 @@ fn read_output_lines(
     Ok(outputs)
 }
 
-/// Reads the lines of outputs, and how many they are.
-fn read_outputs(alloc: Global, reader: &mut Reader<'_>) -> Result<PairLists, CertFault>
-    ensures { (v : Version) (bytes : List ℕ) → Stands v bytes (begun v) reader.old → MatchResult result (λ os. Stands v bytes (in_outputs v (length os) os) reader.new) (IsUnread bytes) }
+/// Reads the rows of trees, and how many they are.
+fn read_trees(alloc: Global, reader: &mut Reader<'_>) -> Result<TreeLines, CertFault>
+    ensures { (v : Version) (bytes : List ℕ) (os : List (List (ℕ × ℕ))) → Stands v bytes (in_outputs v (length os) os) reader.old → MatchResult result (λ ts. Stands v bytes (in_trees v os (length ts) ts) reader.new) (IsUnread bytes) }
 {
-    let count = reader.count(b"outputs", 65536)?;
-    read_output_lines(alloc, reader, count)
-}
-
-/// Reads so many rows of trees.
-fn read_tree_lines(
-    alloc: Global,
-    reader: &mut Reader<'_>,
-    count: u32,
-) -> Result<TreeLines, CertFault>
-    requires { count ≤ 4000 }
-    ensures { (v : Version) (bytes : List ℕ) (os : List (List (ℕ × ℕ))) → Stands v bytes (in_trees v os count []) reader.old → MatchResult result (λ ts. (length ts ≡ count) × Stands v bytes (in_trees v os count ts) reader.new) (IsUnread bytes) }
-{
+    let count = reader.count(b"trees", 4000)?;
     let mut trees = TreeLines::new(alloc);
     let mut before = None;
     while trees.len() < count {
@@ -124,23 +108,11 @@ fn read_tree_lines(
     Ok(trees)
 }
 
-/// Reads the rows of trees, and how many they are.
-fn read_trees(alloc: Global, reader: &mut Reader<'_>) -> Result<TreeLines, CertFault>
-    ensures { (v : Version) (bytes : List ℕ) (os : List (List (ℕ × ℕ))) → Stands v bytes (in_outputs v (length os) os) reader.old → MatchResult result (λ ts. Stands v bytes (in_trees v os (length ts) ts) reader.new) (IsUnread bytes) }
+/// Reads the rows of lists of trees, and how many they are.
+fn read_hedges(alloc: Global, reader: &mut Reader<'_>) -> Result<HedgeLines, CertFault>
+    ensures { (v : Version) (bytes : List ℕ) (os : List (List (ℕ × ℕ))) (ts : List TreeLine) → Stands v bytes (in_trees v os (length ts) ts) reader.old → MatchResult result (λ hs. Stands v bytes (in_hedges v os ts (length hs) hs) reader.new) (IsUnread bytes) }
 {
-    let count = reader.count(b"trees", 4000)?;
-    read_tree_lines(alloc, reader, count)
-}
-
-/// Reads so many rows of lists of trees.
-fn read_hedge_lines(
-    alloc: Global,
-    reader: &mut Reader<'_>,
-    count: u32,
-) -> Result<HedgeLines, CertFault>
-    requires { count ≤ 4000 }
-    ensures { (v : Version) (bytes : List ℕ) (os : List (List (ℕ × ℕ))) (ts : List TreeLine) → Stands v bytes (in_hedges v os ts count []) reader.old → MatchResult result (λ hs. (length hs ≡ count) × Stands v bytes (in_hedges v os ts count hs) reader.new) (IsUnread bytes) }
-{
+    let count = reader.count(b"hedges", 4000)?;
     let mut hedges = HedgeLines::new(alloc);
     let mut before = None;
     while hedges.len() < count {
@@ -149,14 +121,6 @@ fn read_hedge_lines(
         before = Some(row);
     }
     Ok(hedges)
-}
-
-/// Reads the rows of lists of trees, and how many they are.
-fn read_hedges(alloc: Global, reader: &mut Reader<'_>) -> Result<HedgeLines, CertFault>
-    ensures { (v : Version) (bytes : List ℕ) (os : List (List (ℕ × ℕ))) (ts : List TreeLine) → Stands v bytes (in_trees v os (length ts) ts) reader.old → MatchResult result (λ hs. Stands v bytes (in_hedges v os ts (length hs) hs) reader.new) (IsUnread bytes) }
-{
-    let count = reader.count(b"hedges", 4000)?;
-    read_hedge_lines(alloc, reader, count)
 }
 
 /// Reads a certificate's text, of either version.

@@ -1,17 +1,17 @@
-use Rattle.std.proofs.Common.{◌≡◌, ◌≤◌, ◌-◌, ℕ, List, [], length, IfSome}
+use Rattle.std.proofs.Common.{◌≡◌, ◌≤◌, ◌-◌, ℕ, List, length, IfSome}
 use Rattle.std.specs.Option.{option_map}
 use Rattle.tc_model.specs.declared.lists.TreeLine.{TreeLine}
 use Rattle.tc_cert.specs.Fields.{fields_of, last_of, IsFormedRow}
-use Rattle.tc_cert.specs.Fronts.{in_hedges}
+use Rattle.tc_cert.specs.Fronts.{in_trees, in_hedges}
 use Rattle.tc_cert.specs.NextRows.{IsShort}
 use Rattle.tc_cert.specs.Standing.{Stands}
 use Rattle.tc_cert.specs.Texts.{Version}
 use Rattle.tc_cert.proofs.RowLines.{of_hedge}
-use Rattle.tc_cert.proofs.reading.read_hedge_lines.Given as goal
+use Rattle.tc_cert.proofs.reading.read_hedges.Given as goal
 
 abbrev pub invariant-loop-alloc : goal.invariant-loop-alloc
 invariant-loop-alloc l = record {
-  stands : (v : Version) (bytes : List ℕ) (os : List (List (ℕ × ℕ))) (ts : List TreeLine) → Stands v bytes (in_hedges v os ts l.count []) l.fn.reader → Stands v bytes (in_hedges v os ts l.count l.hedges) l.reader;
+  stands : (v : Version) (bytes : List ℕ) (os : List (List (ℕ × ℕ))) (ts : List TreeLine) → Stands v bytes (in_trees v os (length ts) ts) l.fn.reader → Stands v bytes (in_hedges v os ts l.count l.hedges) l.reader;
   few : length l.hedges ≤ l.count;
   last : option_map fields_of l.before ≡ option_map of_hedge (last_of l.hedges);
   good : IfSome l.before (λ b. IsFormedRow (fields_of b) × IsShort (fields_of b));
