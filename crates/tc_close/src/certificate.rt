@@ -154,42 +154,44 @@ fn hedge_bytes<K: Over>(
     hedge_line(alloc, &line)
 }
 
-/// The lines of the rows of trees, by their numbers.
-fn tree_lines<K: Over>(
+/// The numbers of the rows of trees, in the order of their lines.
+fn tree_order<K: Over>(
     alloc: Global,
     rows: &mut HeldRows<'_, '_, K>,
     ranks: &[u32],
-) -> Result<PlacedLines, NoMemory>
+) -> Result<Vec<u32>, NoMemory>
     requires { length ranks.now ≡ length rows.old.outputs.matrices }
     ensures same { rows.new ≡ rows.old }
-    ensures lines { IfOk result (λ all. (x : Triple) → K.is_of x → all ≡ held.tree_lines x rows.old ranks.now) }
-    ensures count { IfOk result (λ all. length all ≡ length rows.old.trees) }
+    ensures order { IfOk result (λ numbers. (x : Triple) → K.is_of x → IsOrder (held.tree_lines x rows.old ranks.now) numbers.items) }
+    ensures within { IfOk result (λ numbers. All (λ n. n < length rows.old.trees) numbers.items) }
+    ensures few { IfOk result (λ numbers. length numbers.items ≤ 4294967295) }
 {
     let mut all = PlacedLines::new(alloc);
     for place in 0..rows.tree_count() {
         let line = tree_bytes(alloc, rows, ranks, place)?;
         all.push(line)?;
     }
-    Ok(all)
+    all.order()
 }
 
-/// The lines of the rows of lists of trees, by their numbers.
-fn hedge_lines<K: Over>(
+/// The numbers of the rows of lists of trees, in the order of their lines.
+fn hedge_order<K: Over>(
     alloc: Global,
     rows: &mut HeldRows<'_, '_, K>,
     ranks: &[u32],
-) -> Result<PlacedLines, NoMemory>
+) -> Result<Vec<u32>, NoMemory>
     requires { length ranks.now ≡ length rows.old.outputs.matrices }
     ensures same { rows.new ≡ rows.old }
-    ensures lines { IfOk result (λ all. (x : Triple) → K.is_of x → all ≡ held.hedge_lines x rows.old ranks.now) }
-    ensures count { IfOk result (λ all. length all ≡ length rows.old.hedges) }
+    ensures order { IfOk result (λ numbers. (x : Triple) → K.is_of x → IsOrder (held.hedge_lines x rows.old ranks.now) numbers.items) }
+    ensures within { IfOk result (λ numbers. All (λ n. n < length rows.old.hedges) numbers.items) }
+    ensures few { IfOk result (λ numbers. length numbers.items ≤ 4294967295) }
 {
     let mut all = PlacedLines::new(alloc);
     for place in 0..rows.hedge_count() {
         let line = hedge_bytes(alloc, rows, ranks, place)?;
         all.push(line)?;
     }
-    Ok(all)
+    all.order()
 }
 
 /// The rows of trees of these numbers.
@@ -244,8 +246,7 @@ fn trees_in_order<K: Over>(
     ensures same { rows.new ≡ rows.old }
     ensures trees { IfOk result (λ trees. (x : Triple) → K.is_of x → AreTreesInOrder x rows.old ranks.now trees) }
 {
-    let lines = tree_lines(alloc, rows, ranks)?;
-    let numbers = lines.order()?;
+    let numbers = tree_order(alloc, rows, ranks)?;
     trees_at(alloc, rows, ranks, &numbers)
 }
 
@@ -259,8 +260,7 @@ fn hedges_in_order<K: Over>(
     ensures same { rows.new ≡ rows.old }
     ensures hedges { IfOk result (λ hedges. (x : Triple) → K.is_of x → AreHedgesInOrder x rows.old ranks.now hedges) }
 {
-    let lines = hedge_lines(alloc, rows, ranks)?;
-    let numbers = lines.order()?;
+    let numbers = hedge_order(alloc, rows, ranks)?;
     hedges_at(alloc, rows, ranks, &numbers)
 }
 

@@ -1,25 +1,25 @@
-use Rattle.std.proofs.Common.{◌<◌, ◌∙◌, ℕ, List, All, length, map, subst, sym, ap, arith}
+use Rattle.std.proofs.Common.{◌<◌, ◌≤◌, ◌∙◌, ℕ, List, All, length, map, subst, sym, ap, arith}
 use Rattle.std.proofs.lemmas.List.Elements.{All-weaker}
 use Rattle.std.proofs.lemmas.Result.{IfOk-weaker}
 use Rattle.tc_close.specs.Lines.{hedge_ranked}
-use Rattle.tc_close.specs.Orders.{IsOrder}
 use Rattle.tc_close.specs.RowState.{RowState}
 use Rattle.tc_close.proofs.HandedOn.{no_value}
 use Rattle.tc_close.proofs.certificate.hedges_in_order.Goals as goal
 
 pub hedges_at-requires-clause-within : goal.hedges_at-requires-clause-within
 hedges_at-requires-clause-within g c =
-    let count = c.in_ok-lines.ensures.count in
-    let same = ap (λ (s : RowState). length s.hedges) c.hedge_lines.ensures.same in
-    let order = c.in_ok-numbers.ensures in
-    subst (λ (ns : List ℕ). All (λ n. n < length c.hedge_lines.new.rows.hedges) ns) (sym c.deref.ensures.value)
-    (All-weaker (λ p. p < length c.in_ok-lines.lines) (λ p. p < length c.hedge_lines.new.rows.hedges) (λ p l. omega (arith, l, count, same)) c.in_ok-numbers.numbers.items order.within)
+    let same = ap (λ (s : RowState). length s.hedges) c.hedge_order.ensures.same in
+    subst (λ (ns : List ℕ). All (λ n. n < length c.hedge_order.new.rows.hedges) ns) (sym c.deref.ensures.value)
+    (All-weaker (λ p. p < length c.args.rows.now.hedges) (λ p. p < length c.hedge_order.new.rows.hedges) (λ p l. omega (arith, l, same)) c.in_ok-numbers.numbers.items c.in_ok-numbers.ensures.within)
+
+pub hedges_at-requires-clause-few : goal.hedges_at-requires-clause-few
+hedges_at-requires-clause-few g c = subst (λ (ns : List ℕ). length ns ≤ 4294967295) (sym c.deref.ensures.value) c.in_ok-numbers.ensures.few
 
 pub hedges_at-requires-clause-ranks : goal.hedges_at-requires-clause-ranks
-hedges_at-requires-clause-ranks g c = c.requires ∙ sym (ap (λ (s : RowState). length s.outputs.matrices) c.hedge_lines.ensures.same)
+hedges_at-requires-clause-ranks g c = c.requires ∙ sym (ap (λ (s : RowState). length s.outputs.matrices) c.hedge_order.ensures.same)
 
 pub returns-clause-same : goal.returns-clause-same
-returns-clause-same g c = c.hedges_at.ensures.same ∙ c.hedge_lines.ensures.same
+returns-clause-same g c = c.hedges_at.ensures.same ∙ c.hedge_order.ensures.same
 
 pub returns-clause-hedges : goal.returns-clause-hedges
 returns-clause-hedges g c =
@@ -28,12 +28,9 @@ returns-clause-hedges g c =
     let numbers : List ℕ = c.in_ok-numbers.numbers.items in
     IfOk-weaker c.hedges_at.result _ _ (λ hedges made x o. record {
       numbers = numbers;
-      order = subst (λ (lines : List (List ℕ)). IsOrder lines numbers) (c.in_ok-lines.ensures.lines x o) c.in_ok-numbers.ensures;
-      all = made x o ∙ (ap (λ (s : RowState). map (hedge_ranked x s ranks) c.deref.result.now) c.hedge_lines.ensures.same ∙ ap (map (hedge_ranked x old ranks)) c.deref.ensures.value);
+      order = c.in_ok-numbers.ensures.order x o;
+      all = made x o ∙ (ap (λ (s : RowState). map (hedge_ranked x s ranks) c.deref.result.now) c.hedge_order.ensures.same ∙ ap (map (hedge_ranked x old ranks)) c.deref.ensures.value);
     }) c.hedges_at.ensures.hedges
 
-pub returns-in_err-lines-clause-hedges : goal.returns-in_err-lines-clause-hedges
-returns-in_err-lines-clause-hedges g c = no_value c.from_residual.result _ _ c.from_residual.ensures.1
-
 pub returns-in_err-numbers-clause-hedges : goal.returns-in_err-numbers-clause-hedges
-returns-in_err-numbers-clause-hedges g c = no_value c.from_residual-in_err-numbers.result _ _ c.from_residual-in_err-numbers.ensures.1
+returns-in_err-numbers-clause-hedges g c = no_value c.from_residual.result _ _ c.from_residual.ensures.1

@@ -1,25 +1,25 @@
-use Rattle.std.proofs.Common.{◌<◌, ◌∙◌, ℕ, List, All, length, map, subst, sym, ap, arith}
+use Rattle.std.proofs.Common.{◌<◌, ◌≤◌, ◌∙◌, ℕ, List, All, length, map, subst, sym, ap, arith}
 use Rattle.std.proofs.lemmas.List.Elements.{All-weaker}
 use Rattle.std.proofs.lemmas.Result.{IfOk-weaker}
 use Rattle.tc_close.specs.Lines.{tree_ranked}
-use Rattle.tc_close.specs.Orders.{IsOrder}
 use Rattle.tc_close.specs.RowState.{RowState}
 use Rattle.tc_close.proofs.HandedOn.{no_value}
 use Rattle.tc_close.proofs.certificate.trees_in_order.Goals as goal
 
 pub trees_at-requires-clause-within : goal.trees_at-requires-clause-within
 trees_at-requires-clause-within g c =
-    let count = c.in_ok-lines.ensures.count in
-    let same = ap (λ (s : RowState). length s.trees) c.tree_lines.ensures.same in
-    let order = c.in_ok-numbers.ensures in
-    subst (λ (ns : List ℕ). All (λ n. n < length c.tree_lines.new.rows.trees) ns) (sym c.deref.ensures.value)
-    (All-weaker (λ p. p < length c.in_ok-lines.lines) (λ p. p < length c.tree_lines.new.rows.trees) (λ p l. omega (arith, l, count, same)) c.in_ok-numbers.numbers.items order.within)
+    let same = ap (λ (s : RowState). length s.trees) c.tree_order.ensures.same in
+    subst (λ (ns : List ℕ). All (λ n. n < length c.tree_order.new.rows.trees) ns) (sym c.deref.ensures.value)
+    (All-weaker (λ p. p < length c.args.rows.now.trees) (λ p. p < length c.tree_order.new.rows.trees) (λ p l. omega (arith, l, same)) c.in_ok-numbers.numbers.items c.in_ok-numbers.ensures.within)
+
+pub trees_at-requires-clause-few : goal.trees_at-requires-clause-few
+trees_at-requires-clause-few g c = subst (λ (ns : List ℕ). length ns ≤ 4294967295) (sym c.deref.ensures.value) c.in_ok-numbers.ensures.few
 
 pub trees_at-requires-clause-ranks : goal.trees_at-requires-clause-ranks
-trees_at-requires-clause-ranks g c = c.requires ∙ sym (ap (λ (s : RowState). length s.outputs.matrices) c.tree_lines.ensures.same)
+trees_at-requires-clause-ranks g c = c.requires ∙ sym (ap (λ (s : RowState). length s.outputs.matrices) c.tree_order.ensures.same)
 
 pub returns-clause-same : goal.returns-clause-same
-returns-clause-same g c = c.trees_at.ensures.same ∙ c.tree_lines.ensures.same
+returns-clause-same g c = c.trees_at.ensures.same ∙ c.tree_order.ensures.same
 
 pub returns-clause-trees : goal.returns-clause-trees
 returns-clause-trees g c =
@@ -28,12 +28,9 @@ returns-clause-trees g c =
     let numbers : List ℕ = c.in_ok-numbers.numbers.items in
     IfOk-weaker c.trees_at.result _ _ (λ trees made x o. record {
       numbers = numbers;
-      order = subst (λ (lines : List (List ℕ)). IsOrder lines numbers) (c.in_ok-lines.ensures.lines x o) c.in_ok-numbers.ensures;
-      all = made x o ∙ (ap (λ (s : RowState). map (tree_ranked x s ranks) c.deref.result.now) c.tree_lines.ensures.same ∙ ap (map (tree_ranked x old ranks)) c.deref.ensures.value);
+      order = c.in_ok-numbers.ensures.order x o;
+      all = made x o ∙ (ap (λ (s : RowState). map (tree_ranked x s ranks) c.deref.result.now) c.tree_order.ensures.same ∙ ap (map (tree_ranked x old ranks)) c.deref.ensures.value);
     }) c.trees_at.ensures.trees
 
-pub returns-in_err-lines-clause-trees : goal.returns-in_err-lines-clause-trees
-returns-in_err-lines-clause-trees g c = no_value c.from_residual.result _ _ c.from_residual.ensures.1
-
 pub returns-in_err-numbers-clause-trees : goal.returns-in_err-numbers-clause-trees
-returns-in_err-numbers-clause-trees g c = no_value c.from_residual-in_err-numbers.result _ _ c.from_residual-in_err-numbers.ensures.1
+returns-in_err-numbers-clause-trees g c = no_value c.from_residual.result _ _ c.from_residual.ensures.1

@@ -3,7 +3,7 @@ use Rattle.tc_model.specs.CertificateLines.{hedge_line}
 use Rattle.tc_model.specs.Numbered.{numbers_below}
 use Rattle.tc_rows.specs.Triples.{Triple}
 use Rattle.tc_close.specs.Lines.{hedge_ranked}
-use Rattle.tc_close.proofs.certificate.hedge_lines.Given as goal
+use Rattle.tc_close.proofs.certificate.hedge_order.Given as goal
 
 abbrev pub invariant-loop-place : goal.invariant-loop-place
 invariant-loop-place g l =

@@ -3,7 +3,7 @@ use Rattle.tc_model.specs.CertificateLines.{tree_line}
 use Rattle.tc_model.specs.Numbered.{numbers_below}
 use Rattle.tc_rows.specs.Triples.{Triple}
 use Rattle.tc_close.specs.Lines.{tree_ranked}
-use Rattle.tc_close.proofs.certificate.tree_lines.Given as goal
+use Rattle.tc_close.proofs.certificate.tree_order.Given as goal
 
 abbrev pub invariant-loop-place : goal.invariant-loop-place
 invariant-loop-place g l =

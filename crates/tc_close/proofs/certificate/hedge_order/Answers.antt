@@ -1,0 +1,63 @@
+use Rattle.std.proofs.Common.{◌≡◌, ◌<◌, ◌≤◌, ◌∷◌, [], ℕ, List, length, map, refl, ap, ◌∙◌, subst, arith, length-append}
+use Rattle.std.proofs.lemmas.List.Elements.{All-weaker}
+use Rattle.std.proofs.lemmas.Result.{IfOk-weaker}
+use Rattle.tc_model.specs.CertificateLines.{hedge_line}
+use Rattle.tc_model.specs.Numbered.{numbers_below}
+use Rattle.tc_close.specs.Lines.{hedge_ranked}
+use Rattle.tc_close.specs.Orders.{IsOrder}
+use Rattle.tc_close.specs.RowState.{RowState}
+use Rattle.tc_close.proofs.Pushed.{pushed_below}
+use Rattle.tc_close.proofs.HandedOn.{no_value}
+use Rattle.tc_close.proofs.certificate.hedge_order.Goals as goal
+
+pub push-requires : goal.push-requires
+push-requires g c = let e = c.loop-place.invariant.2 in omega (arith, e, c.loop-place-test.true, c.hedge_count-place-end.type_inv)
+
+pub loop-place-preserved : goal.loop-place-preserved
+loop-place-preserved g c = (
+  c.hedge_bytes.ensures.same ∙ c.loop-place.invariant.0,
+  λ x o. pushed_below (λ p. hedge_line (hedge_ranked x c.args.rows.now c.args.ranks.now p)) c.loop-place.place c.loop-place.all c.push.new.self c.in_ok-line.line.items (c.loop-place.invariant.1 x o) c.in_ok-push.ensures
+      (c.in_ok-line.ensures.line x o ∙ ap (λ (s : RowState). hedge_line (hedge_ranked x s c.args.ranks.now c.loop-place.place)) c.loop-place.invariant.0),
+  (let a = ap length c.in_ok-push.ensures in let b = length-append c.loop-place.all (c.in_ok-line.line.items ∷ []) in let e = c.loop-place.invariant.2 in omega (arith, a, b, e)),
+)
+
+pub loop-place-init : goal.loop-place-init
+loop-place-init g c = (refl, λ x o. c.new-all.ensures, ap length c.new-all.ensures)
+
+pub returns-clause-order : goal.returns-clause-order
+returns-clause-order g c =
+    IfOk-weaker c.order.result _ _ (λ numbers order x o.
+    let f = λ (p : ℕ). hedge_line (hedge_ranked x c.args.rows.now c.args.ranks.now p) in
+    let all : c.loop-place.place ≡ length c.args.rows.now.hedges = omega (arith, c.loop-place-test.false, c.hedge_count-place-end.ensures) in
+    subst (λ (lines : List (List ℕ)). IsOrder lines numbers.items) (c.loop-place.invariant.1 x o ∙ ap (λ n. map f (numbers_below n)) all) order) c.order.ensures
+
+pub returns-clause-within : goal.returns-clause-within
+returns-clause-within g c =
+    let e = c.loop-place.invariant.2 in
+    let count : length c.loop-place.all ≡ length c.args.rows.now.hedges = omega (arith, e, c.loop-place-test.false, c.hedge_count-place-end.ensures) in
+    IfOk-weaker c.order.result _ _ (λ numbers order.
+    All-weaker (λ p. p < length c.loop-place.all) (λ p. p < length c.args.rows.now.hedges) (λ p l. omega (arith, l, count)) numbers.items order.within) c.order.ensures
+
+pub returns-clause-few : goal.returns-clause-few
+returns-clause-few g c =
+    let e = c.loop-place.invariant.2 in
+    let count : length c.loop-place.all ≤ 4294967295 = omega (arith, e, c.loop-place-test.false, c.loop-place.auto.place-end, c.hedge_count-place-end.type_inv) in
+    IfOk-weaker c.order.result _ _ (λ numbers order. let h = order.count in omega (arith, h, count)) c.order.ensures
+
+pub returns-in_err-line-clause-order : goal.returns-in_err-line-clause-order
+returns-in_err-line-clause-order g c = no_value c.from_residual.result _ _ c.from_residual.ensures.1
+
+pub returns-in_err-line-clause-within : goal.returns-in_err-line-clause-within
+returns-in_err-line-clause-within g c = no_value c.from_residual.result _ _ c.from_residual.ensures.1
+
+pub returns-in_err-push-clause-order : goal.returns-in_err-push-clause-order
+returns-in_err-push-clause-order g c = no_value c.from_residual-in_err-push.result _ _ c.from_residual-in_err-push.ensures.1
+
+pub returns-in_err-push-clause-within : goal.returns-in_err-push-clause-within
+returns-in_err-push-clause-within g c = no_value c.from_residual-in_err-push.result _ _ c.from_residual-in_err-push.ensures.1
+
+pub returns-in_err-line-clause-few : goal.returns-in_err-line-clause-few
+returns-in_err-line-clause-few g c = no_value c.from_residual.result _ _ c.from_residual.ensures.1
+
+pub returns-in_err-push-clause-few : goal.returns-in_err-push-clause-few
+returns-in_err-push-clause-few g c = no_value c.from_residual-in_err-push.result _ _ c.from_residual-in_err-push.ensures.1
