@@ -15,15 +15,6 @@ pub(crate) fn flag(holds: bool) -> u8
     if holds { b'1' } else { b'0' }
 }
 
-/// Puts a number behind a comma.
-fn put_next(text: &mut Text, number: u32) -> Result<(), CertWriteFault>
-    ensures ok { OnOk result (IsPut text.old text.new (codes "," ++ decimal number)) }
-    ensures cause { IfErr result (IsCause text.old (codes "," ++ decimal number)) }
-{
-    text.put(b",")?;
-    text.put_number(number)
-}
-
 /// Puts numbers with commas between them, or a dash.
 fn put_numbers(text: &mut Text, numbers: &Numbers) -> Result<(), CertWriteFault>
     ensures ok { OnOk result (IsPut text.old text.new (lines.numbers numbers.now)) }
@@ -34,7 +25,9 @@ fn put_numbers(text: &mut Text, numbers: &Numbers) -> Result<(), CertWriteFault>
     }
     text.put_number(*numbers.get(0))?;
     for i in 1..numbers.len() {
-        put_next(text, *numbers.get(i))?;
+        let number = numbers.get(i);
+        text.put(b",")?;
+        text.put_number(*number)?;
     }
     Ok(())
 }

@@ -47,15 +47,6 @@ fn put_change(text: &mut Text, change: (u32, u32)) -> Result<(), CertWriteFault>
     text.put_number(change.1)
 }
 
-/// Puts a change behind a comma.
-fn put_next_change(text: &mut Text, change: (u32, u32)) -> Result<(), CertWriteFault>
-    ensures ok { OnOk result (IsPut text.old text.new (codes "," ++ lines.change change)) }
-    ensures cause { IfErr result (IsCause text.old (codes "," ++ lines.change change)) }
-{
-    text.put(b",")?;
-    put_change(text, change)
-}
-
 /// Puts changes with commas between them, or a dash.
 fn put_changes(text: &mut Text, changes: &Pairs) -> Result<(), CertWriteFault>
     ensures ok { OnOk result (IsPut text.old text.new (lines.listed lines.change changes.now)) }
@@ -66,7 +57,9 @@ fn put_changes(text: &mut Text, changes: &Pairs) -> Result<(), CertWriteFault>
     }
     put_change(text, *changes.get(0))?;
     for i in 1..changes.len() {
-        put_next_change(text, *changes.get(i))?;
+        let change = changes.get(i);
+        text.put(b",")?;
+        put_change(text, *change)?;
     }
     Ok(())
 }
@@ -189,31 +182,14 @@ fn put_hedge_behind(
     }
 }
 
-/// Puts a line that tells how many lines of a kind follow, but for its line feed.
-fn put_counted(text: &mut Text, kind: &[u8], count: u32) -> Result<(), CertWriteFault>
-    ensures ok { OnOk result (IsPut text.old text.new (texts.counted kind.now count)) }
-    ensures cause { IfErr result (IsCause text.old (texts.counted kind.now count)) }
-{
-    text.put(kind)?;
-    text.put(b" ")?;
-    text.put_number(count)
-}
-
 /// Puts a line that tells how many lines of a kind follow.
 fn put_count(text: &mut Text, kind: &[u8], count: u32) -> Result<(), CertWriteFault>
     ensures ok { OnOk result (IsPut text.old text.new (texts.ended (texts.counted kind.now count))) }
     ensures cause { IfErr result (IsCause text.old (texts.ended (texts.counted kind.now count))) }
 {
-    put_counted(text, kind, count)?;
-    text.put(b"\n")
-}
-
-/// Puts the line of an output, and its line feed.
-fn put_output(text: &mut Text, pairs: &Pairs) -> Result<(), CertWriteFault>
-    ensures ok { OnOk result (IsPut text.old text.new (texts.output_text pairs.now)) }
-    ensures cause { IfErr result (IsCause text.old (texts.output_text pairs.now)) }
-{
-    put_pairs_line(text, pairs)?;
+    text.put(kind)?;
+    text.put(b" ")?;
+    text.put_number(count)?;
     text.put(b"\n")
 }
 
@@ -224,32 +200,10 @@ fn put_outputs(text: &mut Text, outputs: &PairLists) -> Result<(), CertWriteFaul
 {
     put_count(text, b"outputs", outputs.len())?;
     for i in 0..outputs.len() {
-        put_output(text, outputs.get(i))?;
+        put_pairs_line(text, outputs.get(i))?;
+        text.put(b"\n")?;
     }
     Ok(())
-}
-
-/// Puts a tree's row by itself, and its line feed.
-fn put_first_tree(text: &mut Text, line: &TreeLine) -> Result<(), CertWriteFault>
-    ensures ok { OnOk result (IsPut text.old text.new (texts.ended (lines.tree_line line.now))) }
-    ensures cause { IfErr result (IsCause text.old (texts.ended (lines.tree_line line.now))) }
-{
-    put_tree_line(text, line)?;
-    text.put(b"\n")
-}
-
-/// Puts a tree's row behind another, and its line feed.
-fn put_next_tree(
-    alloc: Global,
-    text: &mut Text,
-    before: &TreeLine,
-    line: &TreeLine,
-) -> Result<(), CertWriteFault>
-    ensures ok { OnOk result (IsPut text.old text.new (texts.ended (lines.tree_behind before.now line.now))) }
-    ensures cause { IfErr result (IsCause text.old (texts.ended (lines.tree_behind before.now line.now))) }
-{
-    put_tree_behind(alloc, text, before, line)?;
-    text.put(b"\n")
 }
 
 /// Puts the rows of trees, of which there are some.
@@ -259,11 +213,13 @@ fn put_tree_rows(alloc: Global, text: &mut Text, trees: &TreeLines) -> Result<()
     ensures cause { IfErr result (IsCause text.old (texts.rows_in lines.tree_line lines.tree_behind trees.now)) }
 {
     let first = trees.get(0);
-    put_first_tree(text, first)?;
+    put_tree_line(text, first)?;
+    text.put(b"\n")?;
     for i in 1..trees.len() {
         let before = trees.get(i - 1);
         let line = trees.get(i);
-        put_next_tree(alloc, text, before, line)?;
+        put_tree_behind(alloc, text, before, line)?;
+        text.put(b"\n")?;
     }
     Ok(())
 }
@@ -280,29 +236,6 @@ fn put_trees(alloc: Global, text: &mut Text, trees: &TreeLines) -> Result<(), Ce
     put_tree_rows(alloc, text, trees)
 }
 
-/// Puts the row of a list of trees by itself, and its line feed.
-fn put_first_hedge(text: &mut Text, line: &HedgeLine) -> Result<(), CertWriteFault>
-    ensures ok { OnOk result (IsPut text.old text.new (texts.ended (lines.hedge_line line.now))) }
-    ensures cause { IfErr result (IsCause text.old (texts.ended (lines.hedge_line line.now))) }
-{
-    put_hedge_line(text, line)?;
-    text.put(b"\n")
-}
-
-/// Puts the row of a list of trees behind another, and its line feed.
-fn put_next_hedge(
-    alloc: Global,
-    text: &mut Text,
-    before: &HedgeLine,
-    line: &HedgeLine,
-) -> Result<(), CertWriteFault>
-    ensures ok { OnOk result (IsPut text.old text.new (texts.ended (lines.hedge_behind before.now line.now))) }
-    ensures cause { IfErr result (IsCause text.old (texts.ended (lines.hedge_behind before.now line.now))) }
-{
-    put_hedge_behind(alloc, text, before, line)?;
-    text.put(b"\n")
-}
-
 /// Puts the rows of lists of trees, of which there are some.
 fn put_hedge_rows(alloc: Global, text: &mut Text, hedges: &HedgeLines) -> Result<(), CertWriteFault>
     requires { 0 < length hedges.now }
@@ -310,11 +243,13 @@ fn put_hedge_rows(alloc: Global, text: &mut Text, hedges: &HedgeLines) -> Result
     ensures cause { IfErr result (IsCause text.old (texts.rows_in lines.hedge_line lines.hedge_behind hedges.now)) }
 {
     let first = hedges.get(0);
-    put_first_hedge(text, first)?;
+    put_hedge_line(text, first)?;
+    text.put(b"\n")?;
     for i in 1..hedges.len() {
         let before = hedges.get(i - 1);
         let line = hedges.get(i);
-        put_next_hedge(alloc, text, before, line)?;
+        put_hedge_behind(alloc, text, before, line)?;
+        text.put(b"\n")?;
     }
     Ok(())
 }

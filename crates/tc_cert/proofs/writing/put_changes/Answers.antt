@@ -2,23 +2,31 @@ use Rattle.std.proofs.Common.{◌++◌, codes, arith}
 use Rattle.tc_model.specs.CertificateLines as lines
 use Rattle.tc_cert.specs.Puts.{IsCause}
 use Rattle.tc_cert.proofs.Steps.{piece_step, piece_cause, same_error, not_done, listed_begun, listed_cause}
-use Rattle.tc_cert.proofs.Puts.{ended}
+use Rattle.tc_cert.proofs.Puts.{both, at_first, at_second, ended}
 use Rattle.tc_cert.proofs.Loops.{no_piece}
 use Rattle.tc_cert.proofs.writing.put_changes.Goals as goal
 
-pub returns-in_err-put_next_change-clause-cause : goal.returns-in_err-put_next_change-clause-cause
-returns-in_err-put_next_change-clause-cause c =
-    same_error (IsCause c.args.text.now (lines.listed lines.change c.args.changes.now)) c.from_residual-in_err-put_next_change.result c.in_err-put_next_change.field-0.0 c.from_residual-in_err-put_next_change.ensures.1
-    (piece_cause (λ n. codes "," ++ lines.change n) c.args.changes.now c.loop-i.i c.get-in-loop-i.result.now c.get-in-loop-i.ensures c.loop-i.invariant c.in_err-put_next_change.ensures.cause)
+pub returns-in_err-put-clause-cause : goal.returns-in_err-put-clause-cause
+returns-in_err-put-clause-cause c =
+    same_error (IsCause c.args.text.now (lines.listed lines.change c.args.changes.now)) c.from_residual-in_err-put.result c.in_err-put.field-0.0 c.from_residual-in_err-put.ensures.1
+    (piece_cause (λ n. codes "," ++ lines.change n) c.args.changes.now c.loop-i.i c.get-change.result.now c.get-change.ensures c.loop-i.invariant (at_first _ c.in_err-put.ensures.cause))
+
+pub returns-in_err-put_change-2-clause-cause : goal.returns-in_err-put_change-2-clause-cause
+returns-in_err-put_change-2-clause-cause c =
+    same_error (IsCause c.args.text.now (lines.listed lines.change c.args.changes.now)) c.from_residual-in_err-put_change-2.result c.in_err-put_change-2.field-0.0 c.from_residual-in_err-put_change-2.ensures.1
+    (piece_cause (λ n. codes "," ++ lines.change n) c.args.changes.now c.loop-i.i c.get-change.result.now c.get-change.ensures c.loop-i.invariant (at_second c.in_ok-put.ensures.ok c.in_err-put_change-2.ensures.cause))
 
 pub loop-i-preserved : goal.loop-i-preserved
-loop-i-preserved c = piece_step (λ n. codes "," ++ lines.change n) c.args.changes.now c.loop-i.i c.get-in-loop-i.result.now c.get-in-loop-i.ensures c.loop-i.invariant c.in_ok-put_next_change.ensures.ok
+loop-i-preserved c = piece_step (λ n. codes "," ++ lines.change n) c.args.changes.now c.loop-i.i c.get-change.result.now c.get-change.ensures c.loop-i.invariant (both c.in_ok-put.ensures.ok c.in_ok-put_change-2.ensures.ok)
 
 pub returns-in_err-put_change-clause-ok : goal.returns-in_err-put_change-clause-ok
 returns-in_err-put_change-clause-ok c = not_done c.from_residual.result _ _ c.from_residual.ensures.1
 
-pub returns-in_err-put_next_change-clause-ok : goal.returns-in_err-put_next_change-clause-ok
-returns-in_err-put_next_change-clause-ok c = not_done c.from_residual-in_err-put_next_change.result _ _ c.from_residual-in_err-put_next_change.ensures.1
+pub returns-in_err-put-clause-ok : goal.returns-in_err-put-clause-ok
+returns-in_err-put-clause-ok c = not_done c.from_residual-in_err-put.result _ _ c.from_residual-in_err-put.ensures.1
+
+pub returns-in_err-put_change-2-clause-ok : goal.returns-in_err-put_change-2-clause-ok
+returns-in_err-put_change-2-clause-ok c = not_done c.from_residual-in_err-put_change-2.result _ _ c.from_residual-in_err-put_change-2.ensures.1
 
 pub returns-in_err-put_change-clause-cause : goal.returns-in_err-put_change-clause-cause
 returns-in_err-put_change-clause-cause c =
