@@ -354,10 +354,6 @@ pub fault_as : (lines : ℕ) (A B : Type 0) (e : CertFault) → (B → A) → Is
 fault_as lines A B (cert.Form line) f h = (h.0, λ b. h.1 (f b))
 fault_as lines A B cert.NoMemory f h = tt
 
-pub map_ok : {T E : Type 0} (P S : T → Type 0) (Q : E → Type 0) (r : Result T E) → ((x : T) → P x → S x) → MatchResult r P Q → MatchResult r S Q
-map_ok P S Q (Ok x) f h = f x h
-map_ok P S Q (Err e) f h = h
-
 pub formed_before : (os : List (List (ℕ × ℕ))) (r : Option (Bor (List (ℕ × ℕ)))) → MatchOption r (last_of os ≡ None) (λ b. last_of os ≡ Some b.now) → IfSome (last_of os) ArePairs → IfSome r (λ b. ArePairs b.now)
 formed_before os None e h = tt
 formed_before os (Some b) e h = subst (λ o. IfSome o ArePairs) e h
