@@ -97,16 +97,26 @@ fn put_changed_lists(
     put_changed(alloc, text, old_looks, looks)
 }
 
-/// Puts a tree's row as changes of another.
-fn put_tree_changes(
+/// Whether two rows have as many outputs and as many looks.
+fn are_alike(outs: &Numbers, looks: &Numbers, other_outs: &Numbers, other_looks: &Numbers) -> bool
+    ensures { result ≡ lines.are_alike outs.now looks.now other_outs.now other_looks.now }
+{
+    outs.len() == other_outs.len() && looks.len() == other_looks.len()
+}
+
+/// Puts a tree's row behind another: as changes of it, where both have as many outputs and as many looks.
+fn put_tree_behind(
     alloc: Global,
     text: &mut Text,
     before: &TreeLine,
     line: &TreeLine,
 ) -> Result<(), CertWriteFault>
-    ensures ok { OnOk result (IsPut text.old text.new (lines.tree_changes before.now line.now)) }
-    ensures cause { IfErr result (IsCause text.old (lines.tree_changes before.now line.now)) }
+    ensures ok { OnOk result (IsPut text.old text.new (lines.tree_behind before.now line.now)) }
+    ensures cause { IfErr result (IsCause text.old (lines.tree_behind before.now line.now)) }
 {
+    if !are_alike(&before.outs, &before.looks, &line.outs, &line.looks) {
+        return put_tree_line(text, line);
+    }
     put_front(text, b'T', line.text, line.bears)?;
     put_changed_lists(
         alloc,
@@ -119,16 +129,19 @@ fn put_tree_changes(
     )
 }
 
-/// Puts the row of a list of trees as changes of another.
-fn put_hedge_changes(
+/// Puts the row of a list of trees behind another: as changes of it, where both have as many outputs and as many looks.
+fn put_hedge_behind(
     alloc: Global,
     text: &mut Text,
     before: &HedgeLine,
     line: &HedgeLine,
 ) -> Result<(), CertWriteFault>
-    ensures ok { OnOk result (IsPut text.old text.new (lines.hedge_changes before.now line.now)) }
-    ensures cause { IfErr result (IsCause text.old (lines.hedge_changes before.now line.now)) }
+    ensures ok { OnOk result (IsPut text.old text.new (lines.hedge_behind before.now line.now)) }
+    ensures cause { IfErr result (IsCause text.old (lines.hedge_behind before.now line.now)) }
 {
+    if !are_alike(&before.outs, &before.looks, &line.outs, &line.looks) {
+        return put_hedge_line(text, line);
+    }
     put_front(text, b'H', line.ends, line.bears)?;
     put_changed_lists(
         alloc,
@@ -139,47 +152,6 @@ fn put_hedge_changes(
         &before.looks,
         &line.looks,
     )
-}
-
-/// Whether two rows have as many outputs and as many looks.
-fn are_alike(outs: &Numbers, looks: &Numbers, other_outs: &Numbers, other_looks: &Numbers) -> bool
-    ensures { result ≡ lines.are_alike outs.now looks.now other_outs.now other_looks.now }
-{
-    outs.len() == other_outs.len() && looks.len() == other_looks.len()
-}
-
-/// Puts a tree's row behind another.
-fn put_tree_behind(
-    alloc: Global,
-    text: &mut Text,
-    before: &TreeLine,
-    line: &TreeLine,
-) -> Result<(), CertWriteFault>
-    ensures ok { OnOk result (IsPut text.old text.new (lines.tree_behind before.now line.now)) }
-    ensures cause { IfErr result (IsCause text.old (lines.tree_behind before.now line.now)) }
-{
-    if are_alike(&before.outs, &before.looks, &line.outs, &line.looks) {
-        put_tree_changes(alloc, text, before, line)
-    } else {
-        put_tree_line(text, line)
-    }
-}
-
-/// Puts the row of a list of trees behind another.
-fn put_hedge_behind(
-    alloc: Global,
-    text: &mut Text,
-    before: &HedgeLine,
-    line: &HedgeLine,
-) -> Result<(), CertWriteFault>
-    ensures ok { OnOk result (IsPut text.old text.new (lines.hedge_behind before.now line.now)) }
-    ensures cause { IfErr result (IsCause text.old (lines.hedge_behind before.now line.now)) }
-{
-    if are_alike(&before.outs, &before.looks, &line.outs, &line.looks) {
-        put_hedge_changes(alloc, text, before, line)
-    } else {
-        put_hedge_line(text, line)
-    }
 }
 
 /// Puts a line that tells how many lines of a kind follow.
