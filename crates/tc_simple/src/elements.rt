@@ -76,9 +76,10 @@ fn add_marked<'b>(
     ensures { OnOk result (map see_element found.new.items ≡ map see_element found.old.items ++ marked_elements table.now marks.now (see.definition def.now)) }
 {
     if is_marked(table, marks, def.name) {
-        add_elements(&def.body, found)?;
+        add_elements(&def.body, found)
+    } else {
+        Ok(())
     }
-    Ok(())
 }
 
 /// The elements of the definitions that are marked, in the order of the text.

@@ -32,9 +32,10 @@ fn add_links<'b>(
         }
         SPat::Element(_, _, p) => {
             if within {
-                add_links(table, p, within, found)?;
+                add_links(table, p, within, found)
+            } else {
+                Ok(())
             }
-            Ok(())
         }
         SPat::Mixed(p) | SPat::Optional(p) | SPat::ZeroOrMore(p) | SPat::OneOrMore(p) => {
             add_links(table, p, within, found)

@@ -148,9 +148,10 @@ fn add_marked<'b>(
     ensures { OnOk result (map see_place found.new.items ≡ map see_place found.old.items ++ marked_loops table.now walk.now.states.items marks.now number) }
 {
     if marks[number] {
-        add_loops(table, walk, number, &table.patterns[number], found)?;
+        add_loops(table, walk, number, &table.patterns[number], found)
+    } else {
+        Ok(())
     }
-    Ok(())
 }
 
 /// The first reference that reaches itself without passing an element, in the definitions that are marked.

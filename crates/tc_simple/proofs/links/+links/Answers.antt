@@ -33,9 +33,9 @@ pub add_links-returns-in_default : goal.add_links-returns-in_default
 add_links-returns-in_default t c =
     sym (ap (λ z. c.args.found.now.items ++ z) (target_seen c.args.pattern.now c.in-Ref.name c.in-Ref.field-1 c.in-Ref.is c.args.table.now c.args.within ∙ ap (λ o. cons_option o []) (sym c.number.ensures ∙ c.in_default.is)) ∙ append-nil c.args.found.now.items)
 
-pub add_links-returns-in_ok-add_links-in-Element : goal.add_links-returns-in_ok-add_links-in-Element
-add_links-returns-in_ok-add_links-in-Element t c =
-    c.in_ok-add_links-in-Element.ensures ∙ ap (λ z. c.args.found.now.items ++ z) (sym (targets_within c.args.table.now c.args.within true c.args.pattern.now c.in-Element.field-0 c.in-Element.field-1 c.in-Element.p c.in-Element.is c.if-within.true))
+pub add_links-returns-then-within : goal.add_links-returns-then-within
+add_links-returns-then-within t c =
+    on_ok c.add_links.result (λ e. e ∙ ap (λ z. c.args.found.now.items ++ z) (sym (targets_within c.args.table.now c.args.within true c.args.pattern.now c.in-Element.field-0 c.in-Element.field-1 c.in-Element.p c.in-Element.is c.if-within.true))) c.add_links.ensures
 
 pub add_links-returns-else-within : goal.add_links-returns-else-within
 add_links-returns-else-within t c =
@@ -61,6 +61,3 @@ add_all_links-returns t c = found_all (target c.args.table.now) c.args.within c.
 
 pub add_links-returns-in_err-push-in-Ref : goal.add_links-returns-in_err-push-in-Ref
 add_links-returns-in_err-push-in-Ref t c = failed_on c.from_residual.result _ _ c.from_residual.ensures.1
-
-pub add_links-returns-in_err-add_links-in-Element : goal.add_links-returns-in_err-add_links-in-Element
-add_links-returns-in_err-add_links-in-Element t c = failed_on c.from_residual-in_err-add_links-in-Element.result _ _ c.from_residual-in_err-add_links-in-Element.ensures.1

@@ -1,5 +1,4 @@
 use Rattle.std.proofs.Common.{arith}
-use Rattle.tc_simple.proofs.Answered.{failed_on}
 use Rattle.tc_simple.proofs.loops.add_marked.Goals as goal
 
 pub bounds-marks-number : goal.bounds-marks-number
@@ -10,9 +9,6 @@ add_loops-requires-clause-within c = omega (arith, c.requires.within, c.requires
 
 pub add_loops-requires-clause-numbers : goal.add_loops-requires-clause-numbers
 add_loops-requires-clause-numbers c = c.requires.numbers
-
-pub returns-in_err-add_loops : goal.returns-in_err-add_loops
-returns-in_err-add_loops c = failed_on c.from_residual.result _ _ c.from_residual.ensures.1
 
 pub index-requires : goal.index-requires
 index-requires c = omega (arith, c.requires.within, c.args.table.now.patterns.ok.0)
