@@ -53,3 +53,4 @@ pub mod AskedTests
 pub mod KeyLists
 pub mod AlikeLaws
 pub mod FirstAlike
+pub mod Refusing

@@ -9,6 +9,7 @@ use Rattle.tc_beh.specs.Rooms.{output_at}
 use Rattle.tc_beh.proofs.Holding.{extends_self, extends_then, on_err}
 use Rattle.tc_beh.proofs.Coming.{grounds_kept, read_kept, comes_none, comes_same, next_row}
 use Rattle.tc_beh.proofs.Steps.{not_done}
+use Rattle.tc_beh.proofs.Refusing.{no_error, same_error}
 use Rattle.tc_beh.proofs.entries.put_entries.Goals as goal
 
 pub loop-ancestor-init : goal.loop-ancestor-init
@@ -119,3 +120,39 @@ put_row-requires-clause-room c =
 
 pub returns-in_err-put_row-clause-comes : goal.returns-in_err-put_row-clause-comes
 returns-in_err-put_row-clause-comes c = not_done c.from_residual.result _ _ c.from_residual.ensures.1
+
+pub returns-clause-work : goal.returns-clause-work
+returns-clause-work c = c.loop-ancestor.invariant.work
+
+pub returns-clause-beside : goal.returns-clause-beside
+returns-clause-beside c = c.loop-ancestor.invariant.beside
+
+pub returns-clause-others : goal.returns-clause-others
+returns-clause-others c = c.loop-ancestor.invariant.others
+
+pub returns-clause-held : goal.returns-clause-held
+returns-clause-held c = c.loop-ancestor.invariant.held
+
+pub returns-clause-fixed : goal.returns-clause-fixed
+returns-clause-fixed c = c.loop-ancestor.invariant.fixed
+
+pub returns-clause-partly : goal.returns-clause-partly
+returns-clause-partly c = tt
+
+pub returns-clause-full : goal.returns-clause-full
+returns-clause-full c = λ e. no_error _ _ e
+
+pub returns-clause-fresh : goal.returns-clause-fresh
+returns-clause-fresh c = λ e. no_error _ _ e
+
+pub returns-clause-memory : goal.returns-clause-memory
+returns-clause-memory c = λ e. no_error _ _ e
+
+pub returns-in_err-put_row-clause-full : goal.returns-in_err-put_row-clause-full
+returns-in_err-put_row-clause-full c = λ e. c.put_row.ensures.full (same_error c.from_residual.result c.put_row.result _ _ c.from_residual.ensures.1 c.in_err-put_row.was e)
+
+pub returns-in_err-put_row-clause-fresh : goal.returns-in_err-put_row-clause-fresh
+returns-in_err-put_row-clause-fresh c = λ e. c.put_row.ensures.fresh (same_error c.from_residual.result c.put_row.result _ _ c.from_residual.ensures.1 c.in_err-put_row.was e)
+
+pub returns-in_err-put_row-clause-memory : goal.returns-in_err-put_row-clause-memory
+returns-in_err-put_row-clause-memory c = λ e. c.put_row.ensures.memory (same_error c.from_residual.result c.put_row.result _ _ c.from_residual.ensures.1 c.in_err-put_row.was e)

@@ -1,4 +1,5 @@
 use Rattle.std.proofs.Common.{◌≡◌, ◌<◌, ◌+◌, ◌*◌, inl, inr, ℕ, List, length, get_or, subst, sym, ap, ◌∙◌, refl, arith}
+use Rattle.tc_mat.specs.Held.{Held}
 use Rattle.tc_mat.specs.Matrix.{Matrix}
 use Rattle.tc_rules.specs.Kept.{told}
 use Rattle.tc_rules.specs.RulesView.{RulesView, move_count}
@@ -11,6 +12,7 @@ use Rattle.tc_beh.proofs.Looking.{moves_told}
 use Rattle.tc_beh.proofs.Holding.{extends_self, extends_then, on_err}
 use Rattle.tc_beh.proofs.Coming.{grounds_kept, read_kept, called_kept, row_within, comes_step, comes_partly, comes_same}
 use Rattle.tc_beh.proofs.Steps.{not_done}
+use Rattle.tc_beh.proofs.Refusing.{no_error, same_error}
 use Rattle.tc_beh.proofs.entries.put_row.Goals as goal
 
 pub loop-state-init : goal.loop-state-init
@@ -127,3 +129,50 @@ set_output-requires c =
 
 pub returns-in_err-number-clause-comes : goal.returns-in_err-number-clause-comes
 returns-in_err-number-clause-comes c = not_done c.from_residual.result _ _ c.from_residual.ensures.1
+
+pub returns-clause-work : goal.returns-clause-work
+returns-clause-work c = c.loop-state.invariant.work
+
+pub returns-clause-beside : goal.returns-clause-beside
+returns-clause-beside c = c.loop-state.invariant.beside
+
+pub returns-clause-others : goal.returns-clause-others
+returns-clause-others c = c.loop-state.invariant.others
+
+pub returns-clause-held : goal.returns-clause-held
+returns-clause-held c = c.loop-state.invariant.held
+
+pub returns-clause-fixed : goal.returns-clause-fixed
+returns-clause-fixed c = c.loop-state.invariant.fixed
+
+pub returns-in_err-number-clause-beside : goal.returns-in_err-number-clause-beside
+returns-in_err-number-clause-beside c = c.loop-state.invariant.beside
+
+pub returns-in_err-number-clause-others : goal.returns-in_err-number-clause-others
+returns-in_err-number-clause-others c = c.loop-state.invariant.others
+
+pub returns-clause-partly : goal.returns-clause-partly
+returns-clause-partly c = tt
+
+pub returns-in_err-number-clause-fixed : goal.returns-in_err-number-clause-fixed
+returns-in_err-number-clause-fixed c = λ e. c.keep_entry.ensures.fixed e ∙ c.loop-state.invariant.fixed e
+
+pub returns-clause-full : goal.returns-clause-full
+returns-clause-full c = λ e. no_error _ _ e
+
+pub returns-clause-fresh : goal.returns-clause-fresh
+returns-clause-fresh c = λ e. no_error _ _ e
+
+pub returns-clause-memory : goal.returns-clause-memory
+returns-clause-memory c = λ e. no_error _ _ e
+
+pub returns-in_err-number-clause-full : goal.returns-in_err-number-clause-full
+returns-in_err-number-clause-full c = λ e.
+    let (grows, many) = c.keep_entry.ensures.full (same_error c.from_residual.result c.keep_entry.result _ _ c.from_residual.ensures.1 c.in_err-number.was e) in
+    (grows, ap (λ (h : Held). length h.matrices) c.in_err-number.ensures.err.0 ∙ many)
+
+pub returns-in_err-number-clause-fresh : goal.returns-in_err-number-clause-fresh
+returns-in_err-number-clause-fresh c = λ e. c.keep_entry.ensures.fresh (same_error c.from_residual.result c.keep_entry.result _ _ c.from_residual.ensures.1 c.in_err-number.was e)
+
+pub returns-in_err-number-clause-memory : goal.returns-in_err-number-clause-memory
+returns-in_err-number-clause-memory c = λ e. c.keep_entry.ensures.memory (same_error c.from_residual.result c.keep_entry.result _ _ c.from_residual.ensures.1 c.in_err-number.was e)

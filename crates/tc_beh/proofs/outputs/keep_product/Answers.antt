@@ -1,12 +1,13 @@
-use Rattle.std.proofs.Common.{◌≡◌, ◌∙◌, ◌⊎◌, ◌<◌, ◌+◌, length, Ok, Err, sym, subst}
+use Rattle.std.proofs.Common.{◌≡◌, ◌∙◌, ◌⊎◌, ◌<◌, ◌+◌, length, Ok, Err, sym, subst, refl}
 use Rattle.std.proofs.lemmas.Option.{get_or_from_slice_get}
 use Rattle.tc_mat.specs.Held.{Held}
 use Rattle.tc_mat.specs.Matrix.{IsComposition}
 use Rattle.tc_beh.specs.Places.{no_matrix}
 use Rattle.tc_beh.specs.Held.{Extends, set_at}
-use Rattle.tc_beh.proofs.Holding.{extends_kept, set_kept, grows_kept, on_err, pairs_kept, new_kept}
+use Rattle.tc_beh.proofs.Holding.{extends_kept, set_kept, grows_kept, on_err, pairs_kept, new_kept, extends_self}
 use Rattle.tc_beh.proofs.Remembering.{product_of}
 use Rattle.tc_beh.proofs.Steps.{no_value}
+use Rattle.tc_beh.proofs.Refusing.{no_error, same_error}
 use Rattle.tc_beh.proofs.outputs.keep_product.Goals as goal
 
 pub remember-requires : goal.remember-requires
@@ -57,3 +58,45 @@ returns-in_err-number-clause-pairs c = no_value c.from_residual.result _ _ c.fro
 
 pub returns-in_err-number-clause-grows : goal.returns-in_err-number-clause-grows
 returns-in_err-number-clause-grows c = no_value c.from_residual.result _ _ c.from_residual.ensures.1
+
+pub returns-in-Some-clause-err : goal.returns-in-Some-clause-err
+returns-in-Some-clause-err c = tt
+
+pub returns-clause-err : goal.returns-clause-err
+returns-clause-err c = tt
+
+pub returns-in-Some-clause-set : goal.returns-in-Some-clause-set
+returns-in-Some-clause-set c = refl
+
+pub returns-in-Some-clause-held : goal.returns-in-Some-clause-held
+returns-in-Some-clause-held c = extends_self c.args.outputs.now
+
+pub returns-in-Some-clause-fixed : goal.returns-in-Some-clause-fixed
+returns-in-Some-clause-fixed c = λ e. refl
+
+pub returns-in-Some-clause-full : goal.returns-in-Some-clause-full
+returns-in-Some-clause-full c = λ e. no_error _ _ e
+
+pub returns-in-Some-clause-fresh : goal.returns-in-Some-clause-fresh
+returns-in-Some-clause-fresh c = λ e. no_error _ _ e
+
+pub returns-in-Some-clause-memory : goal.returns-in-Some-clause-memory
+returns-in-Some-clause-memory c = λ e. no_error _ _ e
+
+pub returns-clause-full : goal.returns-clause-full
+returns-clause-full c = λ e. no_error _ _ e
+
+pub returns-clause-fresh : goal.returns-clause-fresh
+returns-clause-fresh c = λ e. no_error _ _ e
+
+pub returns-clause-memory : goal.returns-clause-memory
+returns-clause-memory c = λ e. no_error _ _ e
+
+pub returns-in_err-number-clause-full : goal.returns-in_err-number-clause-full
+returns-in_err-number-clause-full c = λ e. c.keep.ensures.full (same_error c.from_residual.result c.keep.result _ _ c.from_residual.ensures.1 c.in_err-number.was e)
+
+pub returns-in_err-number-clause-fresh : goal.returns-in_err-number-clause-fresh
+returns-in_err-number-clause-fresh c = λ e. c.keep.ensures.fresh (same_error c.from_residual.result c.keep.result _ _ c.from_residual.ensures.1 c.in_err-number.was e)
+
+pub returns-in_err-number-clause-memory : goal.returns-in_err-number-clause-memory
+returns-in_err-number-clause-memory c = λ e. c.keep.ensures.memory (same_error c.from_residual.result c.keep.result _ _ c.from_residual.ensures.1 c.in_err-number.was e)

@@ -4,6 +4,7 @@ use Rattle.tc_beh.specs.Rooms.{output_at}
 use Rattle.tc_beh.specs.Held.{set_at, IsNew, AreProducts}
 use Rattle.tc_beh.proofs.Holding.{extends_count, grows_step, on_err, new_before, pairs_step, products_found}
 use Rattle.tc_beh.proofs.Steps.{not_done}
+use Rattle.tc_beh.proofs.Refusing.{no_error, same_error}
 use Rattle.tc_beh.proofs.outputs.put_products.Goals as goal
 
 pub returns-in_err-number-clause-err : goal.returns-in_err-number-clause-err
@@ -84,3 +85,24 @@ returns-in_err-number-clause-grows c = not_done c.from_residual.result _ _ c.fro
 
 pub returns-in_err-number-clause-pairs : goal.returns-in_err-number-clause-pairs
 returns-in_err-number-clause-pairs c = not_done c.from_residual.result _ _ c.from_residual.ensures.1
+
+pub returns-clause-partly : goal.returns-clause-partly
+returns-clause-partly c = tt
+
+pub returns-clause-err : goal.returns-clause-err
+returns-clause-err c = tt
+
+pub returns-clause-full : goal.returns-clause-full
+returns-clause-full c = λ e. no_error _ _ e
+
+pub returns-clause-fresh : goal.returns-clause-fresh
+returns-clause-fresh c = λ e. no_error _ _ e
+
+pub returns-clause-memory : goal.returns-clause-memory
+returns-clause-memory c = λ e. no_error _ _ e
+
+pub returns-in_err-number-clause-fresh : goal.returns-in_err-number-clause-fresh
+returns-in_err-number-clause-fresh c = λ e. c.keep_product.ensures.fresh (same_error c.from_residual.result c.keep_product.result _ _ c.from_residual.ensures.1 c.in_err-number.was e)
+
+pub returns-in_err-number-clause-memory : goal.returns-in_err-number-clause-memory
+returns-in_err-number-clause-memory c = λ e. c.keep_product.ensures.memory (same_error c.from_residual.result c.keep_product.result _ _ c.from_residual.ensures.1 c.in_err-number.was e)

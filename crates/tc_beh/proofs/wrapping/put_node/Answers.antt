@@ -1,7 +1,9 @@
-use Rattle.std.proofs.Common.{◌≡◌, ◌-◌, ◌*◌, inl, length, ap, ◌∙◌, sym, arith}
+use Rattle.std.proofs.Common.{◌≡◌, ◌-◌, ◌*◌, inl, length, ap, ◌∙◌, sym, subst, arith}
 use Rattle.tc_rules.specs.Kept.{told}
 use Rattle.tc_rules.specs.RulesView.{RulesView, move_count, select_count}
 use Rattle.tc_rows.specs.Triples.{looks, moves, ancestors}
+use Rattle.tc_beh.specs.Held.{Grows}
+use Rattle.tc_beh.specs.Rooms.{output_at}
 use Rattle.tc_beh.proofs.Together.{on_ok_map}
 use Rattle.tc_beh.proofs.Wrapped.{node_row}
 use Rattle.tc_beh.proofs.WrapRows.{beside_then}
@@ -70,3 +72,12 @@ returns-clause-memory c = c.put_entries-put.ensures.memory
 
 pub returns-clause-sets : goal.returns-clause-sets
 returns-clause-sets c = c.len-held.ensures.matrices
+
+pub returns-clause-grows : goal.returns-clause-grows
+returns-clause-grows c = on_ok_map c.put_entries-put.result _ _ (λ comes.
+    let (x, ok) = c.requires.grounds in
+    let old = c.args.outputs.now in
+    let new = c.put_entries-put.new.outputs in
+    let us = c.put_entries-put.new.out.numbers.items in
+    let beside = c.put_looks.ensures.beside in
+    subst (λ n. Grows old new (output_at c.args.out.now.flags us) n) beside.entries (subst (λ f. Grows old new (output_at f us) c.put_looks.new.out.entries) beside.flags (comes x ok).grows)) c.put_entries-put.ensures.comes

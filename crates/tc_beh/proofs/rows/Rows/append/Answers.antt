@@ -5,9 +5,10 @@ use Rattle.tc_auto.specs.declared.auto.Auto.{Auto}
 use Rattle.tc_hedge.proofs.Bounds.{patterns_of}
 use Rattle.tc_beh.specs.Held.{Grows}
 use Rattle.tc_beh.specs.Rooms.{output_at}
-use Rattle.tc_beh.proofs.Holding.{on_err}
+use Rattle.tc_beh.proofs.Holding.{extends_self, on_err}
 use Rattle.tc_beh.proofs.Appends.{is_live, isnt_live, appended, refused}
 use Rattle.tc_beh.proofs.WrapRows.{beside_then, rows_after}
+use Rattle.tc_beh.proofs.Refusing.{not_true, not_false, no_error, same_error}
 use Rattle.tc_beh.proofs.Steps.{no_value}
 use Rattle.tc_beh.proofs.rows.Rows.append.Goals as goal
 
@@ -163,3 +164,84 @@ returns-in_err-put_append-clause-row c = no_value c.from_residual.result _ _ c.f
 
 pub returns-in_err-put_append-clause-grows : goal.returns-in_err-put_append-clause-grows
 returns-in_err-put_append-clause-grows c = no_value c.from_residual.result _ _ c.from_residual.ensures.1
+
+pub returns-then-not-put_kind-clause-same : goal.returns-then-not-put_kind-clause-same
+returns-then-not-put_kind-clause-same c = record { machine = refl; is_fixed = refl }
+
+pub returns-in_err-put_append-clause-same : goal.returns-in_err-put_append-clause-same
+returns-in_err-put_append-clause-same c = record { machine = refl; is_fixed = refl }
+
+pub returns-clause-same : goal.returns-clause-same
+returns-clause-same c = record { machine = refl; is_fixed = refl }
+
+pub returns-then-not-put_kind-clause-held : goal.returns-then-not-put_kind-clause-held
+returns-then-not-put_kind-clause-held c = extends_self c.args.self.now.outputs
+
+pub returns-in_err-put_append-clause-held : goal.returns-in_err-put_append-clause-held
+returns-in_err-put_append-clause-held c = c.put_append.ensures.held
+
+pub returns-clause-held : goal.returns-clause-held
+returns-clause-held c = c.put_append.ensures.held
+
+pub returns-then-not-put_kind-clause-rows : goal.returns-then-not-put_kind-clause-rows
+returns-then-not-put_kind-clause-rows c = λ x rows. rows
+
+pub returns-then-not-put_kind-clause-fixed : goal.returns-then-not-put_kind-clause-fixed
+returns-then-not-put_kind-clause-fixed c = λ e. refl
+
+pub returns-in_err-put_append-clause-fixed : goal.returns-in_err-put_append-clause-fixed
+returns-in_err-put_append-clause-fixed c = c.put_append.ensures.fixed
+
+pub returns-clause-fixed : goal.returns-clause-fixed
+returns-clause-fixed c = c.put_append.ensures.fixed
+
+pub returns-then-not-put_kind-clause-full : goal.returns-then-not-put_kind-clause-full
+returns-then-not-put_kind-clause-full c = λ e. no_error _ _ e
+
+pub returns-clause-full : goal.returns-clause-full
+returns-clause-full c = λ e. no_error _ _ e
+
+pub returns-in_err-put_append-clause-full : goal.returns-in_err-put_append-clause-full
+returns-in_err-put_append-clause-full c = λ e. c.put_append.ensures.full (same_error c.from_residual.result c.put_append.result _ _ c.from_residual.ensures.1 c.in_err-put_append.was e)
+
+pub returns-then-not-put_kind-clause-fresh : goal.returns-then-not-put_kind-clause-fresh
+returns-then-not-put_kind-clause-fresh c = λ e. no_error _ _ e
+
+pub returns-clause-fresh : goal.returns-clause-fresh
+returns-clause-fresh c = λ e. no_error _ _ e
+
+pub returns-in_err-put_append-clause-fresh : goal.returns-in_err-put_append-clause-fresh
+returns-in_err-put_append-clause-fresh c = λ e. c.put_append.ensures.fresh (same_error c.from_residual.result c.put_append.result _ _ c.from_residual.ensures.1 c.in_err-put_append.was e)
+
+pub returns-then-not-put_kind-clause-memory : goal.returns-then-not-put_kind-clause-memory
+returns-then-not-put_kind-clause-memory c = λ e. no_error _ _ e
+
+pub returns-clause-memory : goal.returns-clause-memory
+returns-clause-memory c = λ e. no_error _ _ e
+
+pub returns-in_err-put_append-clause-memory : goal.returns-in_err-put_append-clause-memory
+returns-in_err-put_append-clause-memory c = λ e. c.put_append.ensures.memory (same_error c.from_residual.result c.put_append.result _ _ c.from_residual.ensures.1 c.in_err-put_append.was e)
+
+pub returns-then-not-put_kind-clause-live : goal.returns-then-not-put_kind-clause-live
+returns-then-not-put_kind-clause-live c = λ e. not_true e
+
+pub returns-then-not-put_kind-clause-row : goal.returns-then-not-put_kind-clause-row
+returns-then-not-put_kind-clause-row c = λ e. not_true e
+
+pub returns-then-not-put_kind-clause-grows : goal.returns-then-not-put_kind-clause-grows
+returns-then-not-put_kind-clause-grows c = λ e. not_true e
+
+pub returns-then-not-put_kind-clause-err : goal.returns-then-not-put_kind-clause-err
+returns-then-not-put_kind-clause-err c = tt
+
+pub returns-then-not-put_kind-clause-partly : goal.returns-then-not-put_kind-clause-partly
+returns-then-not-put_kind-clause-partly c = tt
+
+pub returns-clause-dead : goal.returns-clause-dead
+returns-clause-dead c = λ e. not_false e
+
+pub returns-clause-err : goal.returns-clause-err
+returns-clause-err c = tt
+
+pub returns-clause-partly : goal.returns-clause-partly
+returns-clause-partly c = tt

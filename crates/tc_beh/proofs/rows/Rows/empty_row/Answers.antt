@@ -1,10 +1,12 @@
-use Rattle.std.proofs.Common.{◌∙◌, sym, subst, arith}
+use Rattle.std.proofs.Common.{◌∙◌, sym, subst, refl, arith}
 use Rattle.tc_model.specs.States.{input}
 use Rattle.tc_auto.specs.Stands.{Stands}
 use Rattle.tc_auto.specs.declared.auto.Auto.{Auto}
 use Rattle.tc_mat.specs.Held.{Held}
+use Rattle.tc_beh.specs.Held.{Grows}
 use Rattle.tc_beh.specs.Outs.{GrowsBy}
-use Rattle.tc_beh.proofs.Together.{on_ok_both, on_err_map}
+use Rattle.tc_beh.specs.Rooms.{output_at}
+use Rattle.tc_beh.proofs.Together.{on_ok_both, on_ok_map, on_err_map}
 use Rattle.tc_beh.proofs.Emptied.{emptied, none_came, left_out_of_empty}
 use Rattle.tc_beh.proofs.rows.Rows.empty_row.Goals as goal
 
@@ -37,3 +39,44 @@ returns-clause-partly c =
       left_out_of_empty x r row c.put_empty.new.outputs put.matrices (put.held.size ∙ is.size) (omega (arith, some, out)) fresh,
     ))
     c.put_empty.ensures.err
+
+pub returns-clause-same : goal.returns-clause-same
+returns-clause-same c = record { machine = refl; is_fixed = refl }
+
+pub returns-clause-room : goal.returns-clause-room
+returns-clause-room c = c.put_empty.ensures.beside
+
+pub returns-clause-held : goal.returns-clause-held
+returns-clause-held c = c.put_empty.ensures.held
+
+pub returns-clause-rows : goal.returns-clause-rows
+returns-clause-rows c = λ x is.
+    let work = is.work in
+    let put = c.put_empty.ensures in
+    record {
+      machine = is.machine;
+      size = put.held.size ∙ is.size;
+      work = record { text = work.text; text_size = work.text_size; set = put.set ∙ work.set; named_count = work.named_count; named = work.named; spare = work.spare; few = work.few; known = work.known };
+    }
+
+pub returns-clause-grows : goal.returns-clause-grows
+returns-clause-grows c =
+    let old = c.args.self.now.outputs in
+    let new = c.put_empty.new.outputs in
+    let us = c.put_empty.new.out.numbers.items in
+    let beside = c.put_empty.ensures.beside in
+    on_ok_map c.put_empty.result _ _
+    (λ grows. subst (λ n. Grows old new (output_at c.put_empty.new.out.flags us) n) (sym beside.entries) (subst (λ f. Grows old new (output_at f us) c.args.out.now.room.entries) (sym beside.flags) grows))
+    c.put_empty.ensures.grows
+
+pub returns-clause-fixed : goal.returns-clause-fixed
+returns-clause-fixed c = c.put_empty.ensures.fixed
+
+pub returns-clause-full : goal.returns-clause-full
+returns-clause-full c = c.put_empty.ensures.full
+
+pub returns-clause-fresh : goal.returns-clause-fresh
+returns-clause-fresh c = c.put_empty.ensures.fresh
+
+pub returns-clause-memory : goal.returns-clause-memory
+returns-clause-memory c = c.put_empty.ensures.memory

@@ -1,4 +1,4 @@
-use Rattle.std.proofs.Common.{sym, subst}
+use Rattle.std.proofs.Common.{◌∙◌, sym, subst, refl}
 use Rattle.tc_auto.specs.Stands.{Stands}
 use Rattle.tc_auto.specs.declared.auto.Auto.{Auto}
 use Rattle.tc_model.specs.States.{output}
@@ -17,3 +17,18 @@ returns-clause-passing c = λ x are.
       λ h. (let (j, pair, accepts) = leads.0 h in (j, (same 0 j).0 pair, accepts)),
       λ (j, pair, accepts). leads.1 (j, (same 0 j).1 pair, accepts),
     )
+
+pub returns-clause-same : goal.returns-clause-same
+returns-clause-same c = record { machine = refl; is_fixed = refl }
+
+pub returns-clause-outputs : goal.returns-clause-outputs
+returns-clause-outputs c = refl
+
+pub put_root-requires : goal.put_root-requires
+put_root-requires c = let (x, are) = c.requires.rows in (x, is_root x c.args.self.now c.args.t.now are (c.requires.tree x are))
+
+pub leads_to_end-requires : goal.leads_to_end-requires
+leads_to_end-requires c =
+    let (x, are) = c.requires.rows in
+    let stands : Stands output x.output c.auto.result.now = subst (λ (a : Auto). Stands output x.output a) (sym c.auto.ensures) are.machine.parts.states.auto in
+    (c.put_root.ensures.work x (is_root x c.args.self.now c.args.t.now are (c.requires.tree x are))).set ∙ sym stands.built.counted

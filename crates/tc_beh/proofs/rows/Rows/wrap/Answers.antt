@@ -5,9 +5,10 @@ use Rattle.tc_beh.specs.Around.{PutsPatterns}
 use Rattle.tc_beh.specs.Above.{letter_of}
 use Rattle.tc_beh.specs.Held.{Grows}
 use Rattle.tc_beh.specs.Rooms.{tree_layout, output_at}
-use Rattle.tc_beh.proofs.Holding.{on_err}
+use Rattle.tc_beh.proofs.Holding.{extends_self, on_err}
 use Rattle.tc_beh.proofs.Led.{leads_back, leads_kept}
 use Rattle.tc_beh.proofs.WrapRows.{wrap_letter, wrap_grounds, wrap_few, wrap_left_out, wrap_room, is_wrap, live_wrap, dead_wrap, patterns_kept, room_after, beside_then, rows_after}
+use Rattle.tc_beh.proofs.Refusing.{not_true, not_false, no_error, same_error}
 use Rattle.tc_beh.proofs.Steps.{no_value}
 use Rattle.tc_beh.proofs.rows.Rows.wrap.Goals as goal
 
@@ -153,3 +154,84 @@ returns-in_err-put_node-clause-row c = no_value c.from_residual.result _ _ c.fro
 
 pub returns-in_err-put_node-clause-grows : goal.returns-in_err-put_node-clause-grows
 returns-in_err-put_node-clause-grows c = no_value c.from_residual.result _ _ c.from_residual.ensures.1
+
+pub returns-then-not-put_patterns-clause-same : goal.returns-then-not-put_patterns-clause-same
+returns-then-not-put_patterns-clause-same c = record { machine = refl; is_fixed = refl }
+
+pub returns-in_err-put_node-clause-same : goal.returns-in_err-put_node-clause-same
+returns-in_err-put_node-clause-same c = record { machine = refl; is_fixed = refl }
+
+pub returns-clause-same : goal.returns-clause-same
+returns-clause-same c = record { machine = refl; is_fixed = refl }
+
+pub returns-then-not-put_patterns-clause-held : goal.returns-then-not-put_patterns-clause-held
+returns-then-not-put_patterns-clause-held c = extends_self c.args.self.now.outputs
+
+pub returns-in_err-put_node-clause-held : goal.returns-in_err-put_node-clause-held
+returns-in_err-put_node-clause-held c = c.put_node.ensures.held
+
+pub returns-clause-held : goal.returns-clause-held
+returns-clause-held c = c.put_node.ensures.held
+
+pub returns-then-not-put_patterns-clause-rows : goal.returns-then-not-put_patterns-clause-rows
+returns-then-not-put_patterns-clause-rows c = λ x rows. rows
+
+pub returns-then-not-put_patterns-clause-fixed : goal.returns-then-not-put_patterns-clause-fixed
+returns-then-not-put_patterns-clause-fixed c = λ e. refl
+
+pub returns-in_err-put_node-clause-fixed : goal.returns-in_err-put_node-clause-fixed
+returns-in_err-put_node-clause-fixed c = c.put_node.ensures.fixed
+
+pub returns-clause-fixed : goal.returns-clause-fixed
+returns-clause-fixed c = c.put_node.ensures.fixed
+
+pub returns-then-not-put_patterns-clause-full : goal.returns-then-not-put_patterns-clause-full
+returns-then-not-put_patterns-clause-full c = λ e. no_error _ _ e
+
+pub returns-clause-full : goal.returns-clause-full
+returns-clause-full c = λ e. no_error _ _ e
+
+pub returns-in_err-put_node-clause-full : goal.returns-in_err-put_node-clause-full
+returns-in_err-put_node-clause-full c = λ e. c.put_node.ensures.full (same_error c.from_residual.result c.put_node.result _ _ c.from_residual.ensures.1 c.in_err-put_node.was e)
+
+pub returns-then-not-put_patterns-clause-fresh : goal.returns-then-not-put_patterns-clause-fresh
+returns-then-not-put_patterns-clause-fresh c = λ e. no_error _ _ e
+
+pub returns-clause-fresh : goal.returns-clause-fresh
+returns-clause-fresh c = λ e. no_error _ _ e
+
+pub returns-in_err-put_node-clause-fresh : goal.returns-in_err-put_node-clause-fresh
+returns-in_err-put_node-clause-fresh c = λ e. c.put_node.ensures.fresh (same_error c.from_residual.result c.put_node.result _ _ c.from_residual.ensures.1 c.in_err-put_node.was e)
+
+pub returns-then-not-put_patterns-clause-memory : goal.returns-then-not-put_patterns-clause-memory
+returns-then-not-put_patterns-clause-memory c = λ e. no_error _ _ e
+
+pub returns-clause-memory : goal.returns-clause-memory
+returns-clause-memory c = λ e. no_error _ _ e
+
+pub returns-in_err-put_node-clause-memory : goal.returns-in_err-put_node-clause-memory
+returns-in_err-put_node-clause-memory c = λ e. c.put_node.ensures.memory (same_error c.from_residual.result c.put_node.result _ _ c.from_residual.ensures.1 c.in_err-put_node.was e)
+
+pub returns-then-not-put_patterns-clause-live : goal.returns-then-not-put_patterns-clause-live
+returns-then-not-put_patterns-clause-live c = λ e. not_true e
+
+pub returns-then-not-put_patterns-clause-row : goal.returns-then-not-put_patterns-clause-row
+returns-then-not-put_patterns-clause-row c = λ e. not_true e
+
+pub returns-then-not-put_patterns-clause-grows : goal.returns-then-not-put_patterns-clause-grows
+returns-then-not-put_patterns-clause-grows c = λ e. not_true e
+
+pub returns-then-not-put_patterns-clause-err : goal.returns-then-not-put_patterns-clause-err
+returns-then-not-put_patterns-clause-err c = tt
+
+pub returns-then-not-put_patterns-clause-partly : goal.returns-then-not-put_patterns-clause-partly
+returns-then-not-put_patterns-clause-partly c = tt
+
+pub returns-clause-dead : goal.returns-clause-dead
+returns-clause-dead c = λ e. not_false e
+
+pub returns-clause-err : goal.returns-clause-err
+returns-clause-err c = tt
+
+pub returns-clause-partly : goal.returns-clause-partly
+returns-clause-partly c = tt
