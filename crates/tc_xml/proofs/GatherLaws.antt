@@ -1,5 +1,6 @@
 -- What runs of characters and trees add to what was gathered.
-use Rattle.std.proofs.Common.{◌≡◌, ◌≢◌, ℕ, List, [], ◌∷◌, ◌++◌, refl, ap, ◌∙◌, sym, Bor, append_assoc, append-nil}
+use Rattle.std.proofs.Common.{◌≡◌, ◌≢◌, ℕ, List, [], ◌∷◌, ◌++◌, refl, ap, ◌∙◌, sym, Bor, append_assoc, append-nil, Result, Ok, Err}
+use Rattle.std.specs.Prelude.{OnOk}
 use Rattle.tc_base.specs.declared.Place.{Place}
 use Rattle.tc_model.specs.RawTrees.{RawTrees, none, text, element, beside}
 use Rattle.tc_model.specs.Views.{place, raw_trees, raw_element}
@@ -60,3 +61,8 @@ element_gathered old mid new e h f kept same g =
     ∙ (ap (λ ts. beside (raw_trees ts) h) g
     ∙ (element_added mid.trees.items e h
     ∙ (ap (λ r. beside (raw_trees mid.trees.items) (run_before r (raw_element e h))) (sym f) ∙ kept (raw_element e h) tt)))
+
+-- what follows where a call succeeds
+pub on_ok : {T E P Q : Type 0} (r : Result T E) → (P → Q) → OnOk r P → OnOk r Q
+on_ok (Ok x) f h = f h
+on_ok (Err e) f h = h

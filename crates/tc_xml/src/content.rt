@@ -300,8 +300,7 @@ fn gather_element<'b>(
         place: first,
         kids,
     };
-    push_tree(&mut gathered.trees, Raw::Elem(element))?;
-    Ok(())
+    push_tree(&mut gathered.trees, Raw::Elem(element))
 }
 
 /// Reads the reference or the character data at the front, and gives what follows.
