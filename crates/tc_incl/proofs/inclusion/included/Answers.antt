@@ -1,0 +1,10 @@
+use Rattle.tc_incl.proofs.inclusion.included.Goals as goal
+
+pub returns-clause-answer : goal.returns-clause-answer
+returns-clause-answer c = c.included_over.ensures.answer
+
+pub returns-clause-cause : goal.returns-clause-cause
+returns-clause-cause c = c.included_over.ensures.cause
+
+pub included_over-requires-clause-some : goal.included_over-requires-clause-some
+included_over-requires-clause-some c = c.requires.schemas
