@@ -3,6 +3,7 @@ ghost use Rattle.std.specs.Prelude.{◌<◌};
 
 use bumpalo::Bump;
 use std::alloc::Global;
+use std::process::Abort;
 use std::test::Fail;
 use tc_alpha::Alphabet;
 use tc_auto::Auto;
@@ -91,6 +92,21 @@ fn alphabet_of(alloc: Global, grammar: &Grammar<'_>) -> Result<Alphabet, Fail> {
     }
 }
 
+/// The answer of a text in pieces, by the automaton and the symbols of a schema.
+fn answer_by(
+    alloc: Global,
+    auto: &Auto<'_>,
+    alphabet: &Alphabet,
+    text: &[u8],
+    size: usize,
+) -> Result<Answer, Fail> {
+    if size == 0 || auto.states() > 512 {
+        return Err(Fail::from("a piece and states"));
+    }
+    let stream = Stream::new(alloc, auto, alphabet)?;
+    Ok(told(stream, text, size))
+}
+
 /// The answer of a text in pieces.
 pub(crate) fn in_pieces(
     alloc: Global,
@@ -101,12 +117,49 @@ pub(crate) fn in_pieces(
     let Ok(auto) = Auto::contents(alloc, grammar, 512) else {
         return Err(Fail::from("states"));
     };
-    if size == 0 || auto.states() > 512 {
-        return Err(Fail::from("a piece and states"));
-    }
     let alphabet = alphabet_of(alloc, grammar)?;
-    let stream = Stream::new(alloc, &auto, &alphabet)?;
-    Ok(told(stream, text, size))
+    answer_by(alloc, &auto, &alphabet, text, size)
+}
+
+/// Asserts that a text has this answer for a schema in pieces of each of these sizes.
+pub(crate) fn assert_answer(
+    rt: &impl Abort,
+    alloc: Global,
+    grammar: &Grammar<'_>,
+    text: &[u8],
+    sizes: &[usize],
+    answer: Answer,
+) -> Result<(), Fail> {
+    let start = &text[..text.len().min(200)];
+    for size in sizes {
+        let found = in_pieces(alloc, grammar, text, *size)?;
+        assert_eq!(rt; found, answer, "{size} {} {start:?}", text.len());
+    }
+    Ok(())
+}
+
+/// The answer of a whole text with this root, for a schema of `a` with anything in it.
+fn answer_of_root(root: &Raw<'_>) -> Result<Answer, Fail> {
+    match root {
+        Raw::Elem(root) => Ok(if root.name.uri == "" && root.name.local == "a" {
+            Answer::Valid
+        } else {
+            Answer::Invalid
+        }),
+        Raw::Text(_, _) => Err(Fail::from("an element")),
+    }
+}
+
+/// The answer of a whole text that is none.
+fn answer_of_fault(fault: XmlFault) -> Result<Answer, Fail> {
+    match fault {
+        XmlFault::Malformed(place) => Ok(Answer::Fault(StreamFault::Malformed(place))),
+        XmlFault::Unsupported(place, why) => {
+            Ok(Answer::Fault(StreamFault::Unsupported(place, why)))
+        }
+        XmlFault::TooDeep(place) => Ok(Answer::Fault(StreamFault::TooDeep(place))),
+        XmlFault::NoMemory => Err(Fail::from("memory")),
+    }
 }
 
 /// The answer of a whole text, for a schema of `a` with anything in it.
@@ -116,18 +169,8 @@ pub(crate) fn whole(alloc: Global, text: &[u8]) -> Result<Answer, Fail> {
     }
     let arena = Bump::new(alloc);
     match read_raw(&arena, text) {
-        Ok(Raw::Elem(root)) => Ok(if root.name.uri == "" && root.name.local == "a" {
-            Answer::Valid
-        } else {
-            Answer::Invalid
-        }),
-        Ok(Raw::Text(_, _)) => Err(Fail::from("an element")),
-        Err(XmlFault::Malformed(place)) => Ok(Answer::Fault(StreamFault::Malformed(place))),
-        Err(XmlFault::Unsupported(place, why)) => {
-            Ok(Answer::Fault(StreamFault::Unsupported(place, why)))
-        }
-        Err(XmlFault::TooDeep(place)) => Ok(Answer::Fault(StreamFault::TooDeep(place))),
-        Err(XmlFault::NoMemory) => Err(Fail::from("memory")),
+        Ok(root) => answer_of_root(&root),
+        Err(fault) => answer_of_fault(fault),
     }
 }
 
@@ -145,4 +188,16 @@ pub(crate) fn repeated(
     }
     text.push_str(back)?;
     Ok(text)
+}
+
+/// A text inside so many nested elements.
+pub(crate) fn nested(
+    alloc: Global,
+    begin: &str,
+    inside: &str,
+    end: &str,
+    depth: u32,
+) -> Result<String, Fail> {
+    let front = repeated(alloc, "", begin, depth, inside)?;
+    repeated(alloc, front.as_str(), end, depth, "")
 }

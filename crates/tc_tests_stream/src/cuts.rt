@@ -1,40 +1,28 @@
 // Documents that are cut anywhere.
 
-use crate::answers::{Answer, in_pieces, repeated, whole};
+use crate::answers::{Answer, assert_answer, in_pieces, nested, whole};
 use crate::schemas::{ANYTHING, BOTH, NESTED};
-use crate::texts::TEXTS;
+use crate::texts::texts;
 use std::alloc::Global;
 use std::process::Abort;
 use std::test::Fail;
 use tc_base::{Place, Why};
 use tc_stream::StreamFault;
 
-/// Asserts that a text has this answer in pieces of each of these sizes, for a schema of `a` with anything in it.
-fn assert_anything(
-    rt: &impl Abort,
-    alloc: Global,
-    text: &[u8],
-    sizes: &[usize],
-    answer: Answer,
-) -> Result<(), Fail> {
-    for size in sizes {
-        let found = in_pieces(alloc, &ANYTHING, text, *size)?;
-        assert_eq!(rt; found, answer, "{size} {text:?}");
-    }
-    Ok(())
+/// The sizes of pieces.
+static SIZES: [usize; 6] = [1, 2, 3, 5, 7, 4096];
+
+/// Asserts that a text has the answer of the whole one in pieces of each of these sizes, for a schema of `a` with anything
+/// in it.
+fn assert_whole(rt: &impl Abort, alloc: Global, text: &[u8], sizes: &[usize]) -> Result<(), Fail> {
+    let answer = whole(alloc, text)?;
+    assert_answer(rt, alloc, &ANYTHING, text, sizes, answer)
 }
 
 #[test]
 fn answers_are_those_of_whole_texts(rt: HostRuntime) -> Result<(), Fail> {
-    for text in &TEXTS {
-        let answer = whole(rt.alloc(), text.as_bytes())?;
-        assert_anything(
-            &rt,
-            rt.alloc(),
-            text.as_bytes(),
-            &[1, 2, 3, 5, 7, 4096],
-            answer,
-        )?;
+    for text in texts() {
+        assert_whole(&rt, rt.alloc(), text.as_bytes(), &SIZES)?;
     }
     Ok(())
 }
@@ -65,20 +53,18 @@ fn assert_broken(rt: &impl Abort, alloc: Global, front: &str) -> Result<(), Fail
         text.clear();
         text.extend_from_slice(front.as_bytes())?;
         text.extend_from_slice(bytes)?;
-        let answer = whole(alloc, &text)?;
-        assert_anything(rt, alloc, &text, &[1, 3, 4096], answer)?;
+        assert_whole(rt, alloc, &text, &[1, 3, 4096])?;
     }
     Ok(())
 }
 
 #[test]
 fn bytes_that_are_no_characters(rt: HostRuntime) -> Result<(), Fail> {
-    for front in &TEXTS {
+    for front in texts() {
         assert_broken(&rt, rt.alloc(), front)?;
     }
     for text in &MIXED {
-        let answer = whole(rt.alloc(), text)?;
-        assert_anything(&rt, rt.alloc(), text, &[1, 3, 4096], answer)?;
+        assert_whole(&rt, rt.alloc(), text, &[1, 3, 4096])?;
     }
     Ok(())
 }
@@ -100,14 +86,14 @@ fn assert_fronts(rt: &impl Abort, alloc: Global, text: &[u8]) -> Result<(), Fail
         let front = &text[..end];
         let found = in_pieces(alloc, &ANYTHING, front, 4096)?;
         assert!(rt; are_alike(found, whole(alloc, front)?), "{front:?}");
-        assert_anything(rt, alloc, front, &[1], found)?;
+        assert_answer(rt, alloc, &ANYTHING, front, &[1], found)?;
     }
     Ok(())
 }
 
 #[test]
 fn fronts_of_texts(rt: HostRuntime) -> Result<(), Fail> {
-    for text in &TEXTS {
+    for text in texts() {
         assert_fronts(&rt, rt.alloc(), text.as_bytes())?;
     }
     Ok(())
@@ -149,33 +135,22 @@ static ROWS: [Row<'static>; 13] = [
     ),
 ];
 
-/// Asserts what a document is in pieces of each of these sizes.
+/// Asserts what a document is for both schemas.
 fn assert_row(
     rt: &impl Abort,
     alloc: Global,
     text: &[u8],
     both: Answer,
-    nested: Answer,
+    one: Answer,
 ) -> Result<(), Fail> {
-    for size in [1, 2, 3, 5, 7, 4096] {
-        assert_eq!(rt;
-            in_pieces(alloc, &BOTH, text, size)?,
-            both,
-            "{size} {text:?}"
-        );
-        assert_eq!(rt;
-            in_pieces(alloc, &NESTED, text, size)?,
-            nested,
-            "{size} {text:?}"
-        );
-    }
-    Ok(())
+    assert_answer(rt, alloc, &BOTH, text, &SIZES, both)?;
+    assert_answer(rt, alloc, &NESTED, text, &SIZES, one)
 }
 
 #[test]
 fn documents_of_the_table(rt: HostRuntime) -> Result<(), Fail> {
-    for (text, both, nested) in &ROWS {
-        assert_row(&rt, rt.alloc(), text.as_bytes(), *both, *nested)?;
+    for (text, both, one) in &ROWS {
+        assert_row(&rt, rt.alloc(), text.as_bytes(), *both, *one)?;
     }
     Ok(())
 }
@@ -192,10 +167,9 @@ static DEPTHS: [(u32, Answer, Answer); 2] = [
 
 #[test]
 fn elements_nest_two_thousand_deep(rt: HostRuntime) -> Result<(), Fail> {
-    for (depth, both, nested) in &DEPTHS {
-        let front = repeated(rt.alloc(), "", "<a>", *depth, "")?;
-        let text = repeated(rt.alloc(), front.as_str(), "</a>", *depth, "")?;
-        assert_row(&rt, rt.alloc(), text.as_bytes(), *both, *nested)?;
+    for (depth, both, one) in &DEPTHS {
+        let text = nested(rt.alloc(), "<a>", "", "</a>", *depth)?;
+        assert_row(&rt, rt.alloc(), text.as_bytes(), *both, *one)?;
     }
     Ok(())
 }

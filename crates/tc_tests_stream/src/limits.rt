@@ -1,6 +1,6 @@
 // Documents at the limits.
 
-use crate::answers::{Answer, in_pieces, repeated};
+use crate::answers::{Answer, assert_answer, nested, repeated};
 use crate::schemas::{EMPTY, NAMED};
 use std::alloc::Global;
 use std::process::Abort;
@@ -25,10 +25,7 @@ fn assert_rows(
 ) -> Result<(), Fail> {
     for (front, middle, times, back, answer) in rows {
         let text = repeated(alloc, front, middle, *times, back)?;
-        for size in sizes {
-            let found = in_pieces(alloc, &EMPTY, text.as_bytes(), *size)?;
-            assert_eq!(rt; found, *answer, "{front} {middle} {times} {size}");
-        }
+        assert_answer(rt, alloc, &EMPTY, text.as_bytes(), sizes, *answer)?;
     }
     Ok(())
 }
@@ -141,20 +138,33 @@ fn what_is_no_tag_has_no_longest(rt: HostRuntime) -> Result<(), Fail> {
     assert_rows(&rt, rt.alloc(), &NO_TAGS, &[1, 3, 4096, 1_000_000])
 }
 
-/// What so many nested elements with names of 700 letters are around a text, which is cut into pieces of 4,096 bytes.
-fn around(alloc: Global, depth: u32, inside: &str) -> Result<Answer, Fail> {
-    let name = repeated(alloc, "", "n", 700, "")?;
-    let begin = format!(in alloc; "<{name}>")?;
-    let end = format!(in alloc; "</{name}>")?;
-    let front = repeated(alloc, "", begin.as_str(), depth, inside)?;
-    let text = repeated(alloc, front.as_str(), end.as_str(), depth, "")?;
-    in_pieces(alloc, &NAMED, text.as_bytes(), 4096)
+/// Asserts what so many nested elements with names of 700 letters are around a text, in pieces of 4,096 bytes.
+fn assert_around(
+    rt: &impl Abort,
+    alloc: Global,
+    depth: u32,
+    inside: &str,
+    answer: Answer,
+) -> Result<(), Fail> {
+    let text = around(alloc, depth, inside)?;
+    assert_answer(rt, alloc, &NAMED, text.as_bytes(), &[4096], answer)
 }
+
+/// A text inside so many nested elements with names of 700 letters.
+fn around(alloc: Global, depth: u32, inside: &str) -> Result<String, Fail> {
+    let begin = repeated(alloc, "<", "n", 700, ">")?;
+    let end = repeated(alloc, "</", "n", 700, ">")?;
+    nested(alloc, begin.as_str(), inside, end.as_str(), depth)
+}
+
+/// How deep they are nested, and what that is.
+static NESTED_NAMES: [(u32, Answer); 2] = [(93, Answer::Valid), (94, MANY)];
 
 #[test]
 fn names_have_a_most(rt: HostRuntime) -> Result<(), Fail> {
-    assert_eq!(rt; around(rt.alloc(), 93, "")?, Answer::Valid);
-    assert_eq!(rt; around(rt.alloc(), 94, "")?, MANY);
+    for (depth, answer) in &NESTED_NAMES {
+        assert_around(&rt, rt.alloc(), *depth, "", *answer)?;
+    }
     Ok(())
 }
 
@@ -173,11 +183,7 @@ static DECLARED: [(&str, u32, &str, Answer); 5] = [
 fn declarations_count_among_names(rt: HostRuntime) -> Result<(), Fail> {
     for (front, times, back, answer) in &DECLARED {
         let inside = repeated(rt.alloc(), front, "u", *times, back)?;
-        assert_eq!(rt;
-            around(rt.alloc(), 93, inside.as_str())?,
-            *answer,
-            "{front} {times}"
-        );
+        assert_around(&rt, rt.alloc(), 93, inside.as_str(), *answer)?;
     }
     Ok(())
 }
@@ -191,7 +197,12 @@ fn what_was_closed_counts_no_more(rt: HostRuntime) -> Result<(), Fail> {
         9000,
         "</r>",
     )?;
-    let found = in_pieces(rt.alloc(), &NAMED, text.as_bytes(), 4096)?;
-    assert_eq!(rt; found, Answer::Invalid);
-    Ok(())
+    assert_answer(
+        &rt,
+        rt.alloc(),
+        &NAMED,
+        text.as_bytes(),
+        &[4096],
+        Answer::Invalid,
+    )
 }

@@ -1,8 +1,12 @@
 // Documents, and texts that are none.
 
 /// Texts of all kinds.
+pub(crate) fn texts() -> &'static [&'static str] {
+    &TEXTS
+}
+
 #[rattlefmt::skip]
-pub(crate) static TEXTS: [&str; 214] = [
+static TEXTS: [&str; 214] = [
     "<a/>",
     "<a></a>",
     "<a ></a >",
