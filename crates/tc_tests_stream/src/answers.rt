@@ -51,42 +51,33 @@ fn feed_all(stream: &mut Stream<'_>, text: &[u8], size: usize) -> Result<(), Str
     Ok(())
 }
 
-/// What a stream tells of a text in pieces. It has to count the bytes, and to stay with a fault.
-fn told(begun: Stream<'_>, text: &[u8], size: usize) -> Answer
+/// Whether a stream to which a text is fed in pieces counts the bytes, or stays with a fault.
+fn stays(stream: &mut Stream<'_>, text: &[u8], size: usize) -> bool
     requires { 0 < size }
 {
-    let mut stream = begun;
-    match feed_all(&mut stream, text, size) {
-        Ok(()) => {
-            if stream.fed() as usize == text.len() {
-                answer_of(stream.finish())
-            } else {
-                Answer::Broken
-            }
-        }
-        Err(fault) => {
-            if feed(&mut stream, b"<") == Err(fault) {
-                answer_of(stream.finish())
-            } else {
-                Answer::Broken
-            }
-        }
+    match feed_all(stream, text, size) {
+        Ok(()) => stream.fed() as usize == text.len(),
+        Err(fault) => feed(stream, b"<") == Err(fault),
     }
 }
 
+/// No schema.
+static NO_GRAMMAR: Grammar<'static> = Grammar {
+    start: Pat::NotAllowed,
+    elements: &[],
+};
+
+/// No stylesheet.
+static NO_SHEET: Sheet<'static> = Sheet {
+    modes: 1,
+    eaches: 0,
+    rules: &[],
+    named: &[],
+};
+
 /// The symbols of a schema alone.
 fn alphabet_of(alloc: Global, grammar: &Grammar<'_>) -> Result<Alphabet, Fail> {
-    let nothing = Grammar {
-        start: Pat::NotAllowed,
-        elements: &[],
-    };
-    let sheet = Sheet {
-        modes: 1,
-        eaches: 0,
-        rules: &[],
-        named: &[],
-    };
-    match Alphabet::of(alloc, grammar, &nothing, &sheet) {
+    match Alphabet::of(alloc, grammar, &NO_GRAMMAR, &NO_SHEET) {
         Ok(alphabet) => Ok(alphabet),
         Err(_) => Err(Fail::from("symbols")),
     }
@@ -103,8 +94,10 @@ fn answer_by(
     if size == 0 || auto.states() > 512 {
         return Err(Fail::from("a piece and states"));
     }
-    let stream = Stream::new(alloc, auto, alphabet)?;
-    Ok(told(stream, text, size))
+    let mut stream = Stream::new(alloc, auto, alphabet)?;
+    let is_right = stays(&mut stream, text, size);
+    let answer = answer_of(stream.finish());
+    Ok(if is_right { answer } else { Answer::Broken })
 }
 
 /// The answer of a text in pieces.
