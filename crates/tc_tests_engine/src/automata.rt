@@ -1,9 +1,6 @@
 //! States, edges and runs of small schemas, by hand.
-ghost use Rattle.std.specs.Prelude.{◌≤◌};
-ghost use Rattle.tc_auto.specs.Stands.{patterns};
 
 use std::alloc::Global;
-use std::process::Abort;
 use std::test::Fail;
 use tc_auto::{Auto, AutoFault, Edge, Leaf};
 use tc_model::{ElemPat, Grammar, Name, NameClass, Pat};
@@ -23,25 +20,40 @@ const C: Name<'static> = Name {
     local: "c",
 };
 
-/// The states to which an item leads some states.
-fn after(alloc: Global, auto: &Auto<'_>, states: &[u32], item: Leaf) -> Result<Vec<u32>, Fail> {
-    let mut next = Vec::new(alloc);
-    for state in states {
-        if *state < auto.states() {
-            for edge in auto.follow(*state) {
-                if edge.leaf == item {
-                    next.push(edge.to)?;
+const A_OF_U: Name<'static> = Name {
+    uri: "u",
+    local: "a",
+};
+
+const B_OF_U: Name<'static> = Name {
+    uri: "u",
+    local: "b",
+};
+
+const A_OF_V: Name<'static> = Name {
+    uri: "v",
+    local: "a",
+};
+
+/// The states to which an item leads some states. A set of states is a number that has their bits, since there are few.
+fn after(auto: &Auto<'_>, states: u64, item: Leaf) -> u64 {
+    let mut next = 0;
+    for state in 0..auto.states().min(64) {
+        if (states >> state) % 2 == 1 {
+            for edge in auto.follow(state) {
+                if edge.leaf == item && edge.to < 64 {
+                    next |= 1 << edge.to;
                 }
             }
         }
     }
-    Ok(next)
+    next
 }
 
 /// Whether one of some states accepts.
-fn is_one_accepting(auto: &Auto<'_>, states: &[u32]) -> bool {
-    for state in states {
-        if *state < auto.states() && auto.accepts(*state) {
+fn is_one_accepting(auto: &Auto<'_>, states: u64) -> bool {
+    for state in 0..auto.states().min(64) {
+        if (states >> state) % 2 == 1 && auto.accepts(state) {
             return true;
         }
     }
@@ -49,19 +61,79 @@ fn is_one_accepting(auto: &Auto<'_>, states: &[u32]) -> bool {
 }
 
 /// Whether the items lead from the first state of a part to an accepting one.
-fn runs(alloc: Global, auto: &Auto<'_>, part: u32, items: &[Leaf]) -> Result<bool, Fail> {
-    let mut states: Vec<u32> = Vec::new(alloc);
-    if part <= auto.patterns() {
-        states.push(auto.first(part))?;
+fn runs(auto: &Auto<'_>, part: u32, items: &[Leaf]) -> bool {
+    if part > auto.patterns() {
+        return false;
     }
+    let first = auto.first(part);
+    if first >= 64 {
+        return false;
+    }
+    let mut states = 1 << first;
     for item in items {
-        states = after(alloc, auto, &states, *item)?;
+        states = after(auto, states, *item);
     }
-    Ok(is_one_accepting(auto, &states))
+    is_one_accepting(auto, states)
+}
+
+/// Which of three names an element pattern allows, if there is such a pattern.
+fn allowed(auto: &Auto<'_>, number: u32) -> Option<[bool; 3]> {
+    if number < 1 || number > auto.patterns() {
+        return None;
+    }
+    Some([
+        auto.allows(number, &A_OF_U),
+        auto.allows(number, &B_OF_U),
+        auto.allows(number, &A_OF_V),
+    ])
+}
+
+/// What is told of an automaton.
+enum Told {
+    /// How many states there are, and how many element patterns.
+    Counts(u32, u32),
+    /// The first state of a part.
+    First(u32, u32),
+    /// Whether a state accepts, and its first edge.
+    State(u32, bool, Option<Edge>),
+    /// Whether the items lead from the first state of a part to an accepting one.
+    Run(u32, &'static [Leaf], bool),
+    /// Which of three names an element pattern allows.
+    Allowed(u32, [bool; 3]),
+    /// Whether an element pattern is an alternative of the start.
+    Start(u32, bool),
+}
+
+/// Whether it is so.
+fn is_so(auto: &Auto<'_>, told: &Told) -> bool {
+    match told {
+        Told::Counts(states, patterns) => {
+            auto.states() == *states && auto.patterns() == *patterns
+        }
+        Told::First(part, state) => *part <= auto.patterns() && auto.first(*part) == *state,
+        Told::State(state, is_accepting, edge) => {
+            *state < auto.states()
+                && auto.accepts(*state) == *is_accepting
+                && auto.follow(*state).first().copied() == *edge
+        }
+        Told::Run(part, items, is_led) => runs(auto, *part, items) == *is_led,
+        Told::Allowed(number, names) => allowed(auto, *number) == Some(*names),
+        Told::Start(number, is_start) => auto.starts(*number) == *is_start,
+    }
+}
+
+/// The name of the first row of which it isn't so, or an empty one.
+fn first_wrong(auto: &Auto<'_>, all: &[(&'static str, Told)]) -> &'static str {
+    for (name, told) in all {
+        if !is_so(auto, told) {
+            return name;
+        }
+    }
+    ""
 }
 
 /// `element a { a, text }`.
-static GROUP: Grammar<'static> = Grammar {
+const GROUP: Grammar<'static> = Grammar {
     start: Pat::Ref(1),
     elements: &GROUP_ELEMENTS,
 };
@@ -87,46 +159,6 @@ const TO_4: Edge = Edge {
     to: 4,
     leaf: Leaf::Text,
 };
-
-/// The states by their numbers, whether they accept, and the first edge of each.
-static GROUP_STATES: [(u32, bool, Option<Edge>); 5] = [
-    (0, false, Some(TO_1)),
-    (1, true, None),
-    (2, false, Some(TO_3)),
-    (3, true, Some(TO_4)),
-    (4, true, Some(TO_4)),
-];
-
-/// Asserts whether a state accepts, and its first edge.
-fn assert_state(
-    rt: &impl Abort,
-    auto: &Auto<'_>,
-    state: u32,
-    is_accepting: bool,
-    edge: Option<Edge>,
-) {
-    assert!(rt; state < auto.states(), "{state}");
-    assert!(rt; auto.accepts(state) == is_accepting, "{state}");
-    assert!(rt; auto.follow(state).first().copied() == edge, "{state}");
-}
-
-/// Asserts how many states and parts there are, and from which states the parts begin.
-fn assert_parts(rt: &impl Abort, auto: &Auto<'_>) {
-    assert!(rt; auto.states() == 5);
-    assert!(rt; auto.patterns() == 1);
-    assert!(rt; auto.first(0) == 0 && auto.first(1) == 2);
-}
-
-/// The edges of one state after another, and which states accept.
-#[test]
-fn numbers_the_states_of_a_group(rt: HostRuntime) -> Result<(), Fail> {
-    let auto = Auto::of(rt.alloc(), &GROUP, 5)?;
-    assert_parts(&rt, &auto);
-    for (state, is_accepting, edge) in &GROUP_STATES {
-        assert_state(&rt, &auto, *state, *is_accepting, *edge);
-    }
-    Ok(())
-}
 
 /// `element a { element b { empty } & element c { empty } }`.
 const INTERLEAVED: Grammar<'static> = Grammar {
@@ -172,71 +204,132 @@ const PAIR: [Pat<'static>; 2] = [Pat::Ref(1), Pat::Ref(1)];
 
 const TO_ITSELF: Leaf = Leaf::Ref(1);
 
-/// Items as they are told, their part, the items, and whether they lead from its first state to an accepting one.
-type Run = (&'static str, u32, &'static [Leaf], bool);
+/// `(element a of u or b of v | notAllowed) | element u:* - u:a`, with an element of all names but `a` of `u` beside.
+const NAMED: Grammar<'static> = Grammar {
+    start: Pat::Choice(&NAMED_START),
+    elements: &NAMED_ELEMENTS,
+};
 
-/// Schemas, how many states their contents have, and what leads from the first state of a content to an accepting one.
-static CONTENTS: [(&Grammar<'static>, u32, &[Run]); 2] = [
-    // An interleave takes both in any order, and neither alone.
-    (
-        &INTERLEAVED,
-        6,
-        &[
-            ("b, c in a", 1, &[TO_B, TO_C], true),
-            ("c, b in a", 1, &[TO_C, TO_B], true),
-            ("b in a", 1, &[TO_B], false),
-            ("b, b in a", 1, &[TO_B, TO_B], false),
-            ("nothing in b", 2, &[], true),
-        ],
-    ),
-    // Pairs again and again are an even number.
-    (
-        &PAIRS,
-        3,
-        &[
-            ("no b", 1, &[], true),
-            ("one b", 1, &[TO_ITSELF; 1], false),
-            ("two b", 1, &[TO_ITSELF; 2], true),
-            ("three b", 1, &[TO_ITSELF; 3], false),
-            ("four b", 1, &[TO_ITSELF; 4], true),
-            ("five b", 1, &[TO_ITSELF; 5], false),
-            ("six b", 1, &[TO_ITSELF; 6], true),
-        ],
-    ),
+const NAMED_START: [Pat<'static>; 2] = [Pat::Choice(&NAMED_INNER), Pat::Ref(1)];
+
+const NAMED_INNER: [Pat<'static>; 2] = [Pat::Ref(3), Pat::NotAllowed];
+
+const NAMED_ELEMENTS: [ElemPat<'static>; 3] = [
+    ElemPat {
+        names: NameClass::Ns("u", &EXCEPTED),
+        content: Pat::Empty,
+    },
+    ElemPat {
+        names: NameClass::Any(&EXCEPTED),
+        content: Pat::Empty,
+    },
+    ElemPat {
+        names: NameClass::Choice(&EITHER),
+        content: Pat::Empty,
+    },
 ];
 
-/// Asserts of items of parts whether they lead so.
-fn assert_runs(rt: &impl Abort, alloc: Global, auto: &Auto<'_>, all: &[Run]) -> Result<(), Fail> {
-    for (name, part, items, is_led) in all {
-        let found = runs(alloc, auto, *part, items)?;
-        assert!(rt; found == *is_led, "{name}");
+const EXCEPTED: [NameClass<'static>; 1] = [NameClass::Name(A_OF_U)];
+
+const EITHER: [NameClass<'static>; 2] = [NameClass::Name(B_OF_U), NameClass::Name(A_OF_V)];
+
+/// A schema, how many states its automaton may have, whether the start is in it, and what is told of it.
+struct Schema {
+    grammar: &'static Grammar<'static>,
+    most: u32,
+    has_start: bool,
+    told: &'static [(&'static str, Told)],
+}
+
+static SCHEMAS: [Schema; 4] = [
+    // The edges of one state after another, and which states accept.
+    Schema {
+        grammar: &GROUP,
+        most: 5,
+        has_start: true,
+        told: &[
+            ("a group: counts", Told::Counts(5, 1)),
+            ("a group: the start", Told::First(0, 0)),
+            ("a group: a", Told::First(1, 2)),
+            ("a group: state 0", Told::State(0, false, Some(TO_1))),
+            ("a group: state 1", Told::State(1, true, None)),
+            ("a group: state 2", Told::State(2, false, Some(TO_3))),
+            ("a group: state 3", Told::State(3, true, Some(TO_4))),
+            ("a group: state 4", Told::State(4, true, Some(TO_4))),
+        ],
+    },
+    // An interleave takes both in any order, and neither alone.
+    Schema {
+        grammar: &INTERLEAVED,
+        most: 6,
+        has_start: false,
+        told: &[
+            ("an interleave: counts", Told::Counts(6, 3)),
+            ("b, c in a", Told::Run(1, &[TO_B, TO_C], true)),
+            ("c, b in a", Told::Run(1, &[TO_C, TO_B], true)),
+            ("b in a", Told::Run(1, &[TO_B], false)),
+            ("b, b in a", Told::Run(1, &[TO_B, TO_B], false)),
+            ("nothing in b", Told::Run(2, &[], true)),
+        ],
+    },
+    // Pairs again and again are an even number.
+    Schema {
+        grammar: &PAIRS,
+        most: 3,
+        has_start: false,
+        told: &[
+            ("pairs: counts", Told::Counts(3, 1)),
+            ("no b", Told::Run(1, &[], true)),
+            ("one b", Told::Run(1, &[TO_ITSELF; 1], false)),
+            ("two b", Told::Run(1, &[TO_ITSELF; 2], true)),
+            ("three b", Told::Run(1, &[TO_ITSELF; 3], false)),
+            ("four b", Told::Run(1, &[TO_ITSELF; 4], true)),
+            ("five b", Told::Run(1, &[TO_ITSELF; 5], false)),
+            ("six b", Told::Run(1, &[TO_ITSELF; 6], true)),
+        ],
+    },
+    // Wildcards with exceptions, and alternatives of the start in a choice within a choice.
+    Schema {
+        grammar: &NAMED,
+        most: 3,
+        has_start: false,
+        told: &[
+            ("names: counts", Told::Counts(3, 3)),
+            ("u:* - u:a", Told::Allowed(1, [false, true, false])),
+            ("* - u:a", Told::Allowed(2, [false, true, true])),
+            ("u:b | v:a", Told::Allowed(3, [false, true, true])),
+            ("u:* - u:a is a start", Told::Start(1, true)),
+            ("* - u:a is none", Told::Start(2, false)),
+            ("u:b | v:a is a start", Told::Start(3, true)),
+        ],
+    },
+];
+
+/// The automaton of a schema, of up to so many states, or of the contents of its element patterns alone.
+fn automaton_of<'b>(
+    alloc: Global,
+    grammar: &Grammar<'b>,
+    most: u32,
+    has_start: bool,
+) -> Result<Auto<'b>, AutoFault> {
+    if has_start {
+        Auto::of(alloc, grammar, most)
+    } else {
+        Auto::contents(alloc, grammar, most)
     }
-    Ok(())
+}
+
+/// The name of the first row of a schema of which it isn't so, or an empty one.
+fn first_wrong_of(alloc: Global, schema: &Schema) -> Result<&'static str, AutoFault> {
+    let auto = automaton_of(alloc, schema.grammar, schema.most, schema.has_start)?;
+    Ok(first_wrong(&auto, schema.told))
 }
 
 #[test]
-fn contents_take_what_is_told(rt: HostRuntime) -> Result<(), Fail> {
-    for (grammar, states, all) in &CONTENTS {
-        let auto = Auto::contents(rt.alloc(), grammar, *states)?;
-        assert!(rt; auto.states() == *states);
-        assert_runs(&rt, rt.alloc(), &auto, all)?;
+fn automata_are_as_told(rt: HostRuntime) {
+    for schema in &SCHEMAS {
+        assert_eq!(rt; first_wrong_of(rt.alloc(), schema), Ok(""));
     }
-    Ok(())
-}
-
-/// How many states a schema has, up to so many, or the contents of its element patterns alone.
-fn states_of(
-    alloc: Global,
-    grammar: &Grammar<'_>,
-    most: u32,
-    has_start: bool,
-) -> Result<u32, AutoFault> {
-    let auto = if has_start {
-        Auto::of(alloc, grammar, most)?
-    } else {
-        Auto::contents(alloc, grammar, most)?
-    };
-    Ok(auto.states())
 }
 
 /// `element a { element b { empty }, .. }`, of 260 references.
@@ -271,89 +364,32 @@ const WIDE_ELEMENTS: [ElemPat<'static>; 1] = [ElemPat {
 
 const WIDE_MEMBERS: [Pat<'static>; 70] = [Pat::Ref(1); 70];
 
-/// Two states of the start, 261 of the content of `a` and one of that of `b`.
-#[test]
-fn counts_states_before_it_builds(rt: HostRuntime) {
-    let alloc = rt.alloc();
-    let refused = Err(AutoFault::TooManyStates);
-    assert!(rt; states_of(alloc, &LARGE, 263, true) == refused);
-    assert!(rt; states_of(alloc, &LARGE, 264, true) == Ok(264));
-    assert!(rt; states_of(alloc, &LARGE, 262, false) == Ok(262));
-    assert!(rt; states_of(alloc, &WIDE, 4_294_967_295, true) == refused);
+/// How many states a schema has, up to so many, or the contents of its element patterns alone.
+fn states_of(
+    alloc: Global,
+    grammar: &Grammar<'_>,
+    most: u32,
+    has_start: bool,
+) -> Result<u32, AutoFault> {
+    let auto = automaton_of(alloc, grammar, most, has_start)?;
+    Ok(auto.states())
 }
 
-const A_OF_U: Name<'static> = Name {
-    uri: "u",
-    local: "a",
-};
-
-const B_OF_U: Name<'static> = Name {
-    uri: "u",
-    local: "b",
-};
-
-const A_OF_V: Name<'static> = Name {
-    uri: "v",
-    local: "a",
-};
-
-/// `(element a of u or b of v | notAllowed) | element u:* - u:a`, with an element of all names but `a` of `u` beside.
-static NAMED: Grammar<'static> = Grammar {
-    start: Pat::Choice(&NAMED_START),
-    elements: &NAMED_ELEMENTS,
-};
-
-const NAMED_START: [Pat<'static>; 2] = [Pat::Choice(&NAMED_INNER), Pat::Ref(1)];
-
-const NAMED_INNER: [Pat<'static>; 2] = [Pat::Ref(3), Pat::NotAllowed];
-
-const NAMED_ELEMENTS: [ElemPat<'static>; 3] = [
-    ElemPat {
-        names: NameClass::Ns("u", &EXCEPTED),
-        content: Pat::Empty,
-    },
-    ElemPat {
-        names: NameClass::Any(&EXCEPTED),
-        content: Pat::Empty,
-    },
-    ElemPat {
-        names: NameClass::Choice(&EITHER),
-        content: Pat::Empty,
-    },
+/// How many states are allowed, whether the start is among them, and what is told: two states of the start, 261 of the content of
+/// `a` and one of that of `b`.
+static LARGE_COUNTS: [(u32, bool, Result<u32, AutoFault>); 3] = [
+    (263, true, Err(AutoFault::TooManyStates)),
+    (264, true, Ok(264)),
+    (262, false, Ok(262)),
 ];
 
-const EXCEPTED: [NameClass<'static>; 1] = [NameClass::Name(A_OF_U)];
-
-const EITHER: [NameClass<'static>; 2] = [NameClass::Name(B_OF_U), NameClass::Name(A_OF_V)];
-
-/// Which of three names each element pattern allows.
-static NAMED_ALLOWED: [(u32, [bool; 3]); 3] = [
-    (1, [false, true, false]),
-    (2, [false, true, true]),
-    (3, [false, true, true]),
-];
-
-/// Which of them an element pattern allows.
-fn allowed(auto: &Auto<'_>, number: u32) -> [bool; 3]
-    requires from_one { 1 ≤ number }
-    requires within { number ≤ patterns auto.now }
-{
-    [
-        auto.allows(number, &A_OF_U),
-        auto.allows(number, &B_OF_U),
-        auto.allows(number, &A_OF_V),
-    ]
-}
-
-/// Wildcards with exceptions, and alternatives of the start in a choice within a choice.
+/// States are counted before they are built.
 #[test]
-fn tells_names_and_alternatives(rt: HostRuntime) -> Result<(), Fail> {
-    let auto = Auto::contents(rt.alloc(), &NAMED, 3)?;
-    assert!(rt; auto.patterns() == 3);
-    for (number, expected) in &NAMED_ALLOWED {
-        assert!(rt; 1 <= *number && *number <= auto.patterns(), "{number}");
-        assert!(rt; allowed(&auto, *number) == *expected, "{number}");
+fn large_schemas_have_so_many_states(rt: HostRuntime) {
+    for (most, has_start, states) in &LARGE_COUNTS {
+        let found = states_of(rt.alloc(), &LARGE, *most, *has_start);
+        assert!(rt; found == *states, "{most}");
     }
-    assert!(rt; auto.starts(1) && !auto.starts(2) && auto.starts(3));
-    Ok(())
+    let found = states_of(rt.alloc(), &WIDE, 4_294_967_295, true);
+    assert!(rt; found == Err(AutoFault::TooManyStates));
 }

@@ -1,4 +1,4 @@
-//! The tests of symbols, automata, matrices and sets, validity, path states, runs, rows and their closure, by public calls alone.
+//! The tests of symbols, automata, matrices and sets, validity, path states, rows and their closure, by public calls alone.
 #![tactic(auto)]
 
 #[cfg(test)]
@@ -13,8 +13,6 @@ mod random_rows;
 mod random_triples;
 #[cfg(test)]
 mod rows;
-#[cfg(test)]
-mod runs;
 #[cfg(test)]
 mod sets;
 #[cfg(test)]

@@ -5,15 +5,13 @@ ghost use Rattle.tc_model.specs.WellFormed.{IsSheet};
 ghost use Rattle.tc_rules.specs.Kept.{IsRulesOf, told};
 
 use std::alloc::Global;
-use std::process::Abort;
-use std::test::Fail;
 use tc_alpha::{Alphabet, Sym};
 use tc_base::NoMemory;
 use tc_model::{Grammar, Pat, Sheet};
 use tc_rules::{Found, Job, Kind, Marks, Rules};
 
 /// A stylesheet of one mode without rules.
-pub(crate) fn no_rules<'b>() -> Sheet<'b>
+fn no_rules<'b>() -> Sheet<'b>
     ensures sheet { IsSheet (see.sheet result) }
     ensures modes { (see.sheet result).modes ≡ 1 }
 {
@@ -44,43 +42,41 @@ fn rules_of<'b>(alloc: Global, sheet: &Sheet<'b>) -> Result<Rules<'b>, NoMemory>
     Ok(rules)
 }
 
-/// Asserts which rules and which ancestor states there are.
-fn assert_found(rt: &impl Abort, rules: &Rules<'_>)
+/// Whether there are the rules and the ancestor states that are told.
+fn are_found(rules: &Rules<'_>) -> bool
     requires modes { (told rules.now).sheet.modes ≡ 1 }
     requires rules { (symbols : List Mention) × IsRulesOf symbols rules.now }
 {
-    assert!(rt; rules.sheet().modes == 1 && rules.predicates() == 0);
-    let ancestors = rules.ancestors();
-    assert!(rt; ancestors == 1);
+    if rules.ancestors() != 1 || rules.sheet().modes != 1 || rules.predicates() != 0 {
+        return false;
+    }
     let root = rules.root_rule(0);
     let rule = rules.rule_for(0, 0, Kind::Text, Marks(0));
-    assert!(rt; root == Found::BuiltIn && rule == Found::BuiltIn);
     let below = rules.anc_step(0, Sym(0), Marks(0));
-    assert!(rt; below == 0);
+    root == Found::BuiltIn && rule == Found::BuiltIn && below == 0
 }
 
-/// Asserts which select states there are, and what follows from them.
-fn assert_selected(rt: &impl Abort, rules: &Rules<'_>)
+/// Whether there are the select states that are told, and what follows from them.
+fn are_selected(rules: &Rules<'_>) -> bool
     requires modes { (told rules.now).sheet.modes ≡ 1 }
     requires rules { (symbols : List Mention) × IsRulesOf symbols rules.now }
 {
-    let looks = rules.looks();
-    assert!(rt; looks == 0);
-    let moves = rules.moves();
-    assert!(rt; moves == 1);
+    if rules.looks() != 0 || rules.moves() != 1 {
+        return false;
+    }
     let next = rules.sel_step(0, Sym(0), Marks(0));
-    let hit = rules.sel_hits(0, Kind::Text, Marks(0));
-    assert!(rt; next.is_none() && hit);
+    let is_hit = rules.sel_hits(0, Kind::Text, Marks(0));
     let job = rules.mode_of(0);
-    assert!(rt; job == Job::Mode(0));
+    next.is_none() && is_hit && job == Job::Mode(0)
 }
 
 /// Built-in rules alone: one ancestor state, without items, and one select state, of the move to all children.
 #[test]
-fn built_in_rules(rt: HostRuntime) -> Result<(), Fail> {
+fn built_in_rules(rt: HostRuntime) {
     let sheet = no_rules();
-    let rules = rules_of(rt.alloc(), &sheet)?;
-    assert_found(&rt, &rules);
-    assert_selected(&rt, &rules);
-    Ok(())
+    let are_told = match rules_of(rt.alloc(), &sheet) {
+        Ok(rules) => are_found(&rules) && are_selected(&rules),
+        Err(_) => false,
+    };
+    assert!(rt; are_told);
 }

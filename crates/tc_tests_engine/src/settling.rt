@@ -3,10 +3,10 @@ ghost use Rattle.std.specs.Prelude.{◌≡◌, ◌<◌, ◌≤◌, ℕ};
 ghost use Rattle.tc_tests_engine.specs.Samples.{lists_up_to};
 
 use bumpalo::Bump;
-use std::test::Fail;
+use std::alloc::Global;
 use tc_alpha::Alphabet;
 use tc_model::{Grammar, Name, Node, Pat, Sheet};
-use tc_settle::{CloseFault, HoldFault, NumberedRows, build, close, first_failing};
+use tc_settle::{CloseFault, Closed, HoldFault, NumberedRows, build, close, first_failing};
 
 /// Lists of elements around no tree, up to a longest one; all rows fail.
 #[derive(Drop)]
@@ -75,66 +75,109 @@ fn no_row_yet(longest: u32) -> Lists
     }
 }
 
+/// The costs of lists of up to three trees.
+static HEDGE_COSTS: [u32; 4] = [0, 1, 2, 3];
+
+/// The cost of the tree.
+static TREE_COSTS: [u32; 1] = [1];
+
+/// Whether rows have these costs.
+fn are_costs(closed: &Closed) -> bool {
+    closed.hedge_costs.as_slice() == HEDGE_COSTS.as_slice()
+        && closed.tree_costs.as_slice() == TREE_COSTS.as_slice()
+}
+
 #[test]
-fn rows_come_in_order_of_cost(rt: HostRuntime) -> Result<(), Fail> {
+fn rows_come_in_order_of_cost(rt: HostRuntime) {
     let mut rows = no_row_yet(3);
-    let closed = close(rt.alloc(), &mut rows, 4)?;
-    assert_eq!(rt; closed.hedge_costs.as_slice(), [0, 1, 2, 3].as_slice());
-    assert_eq!(rt; closed.tree_costs.as_slice(), [1].as_slice());
-    assert_eq!(rt; first_failing(&mut rows, &closed), Some(0));
-    Ok(())
+    let are_told = match close(rt.alloc(), &mut rows, 4) {
+        Ok(closed) => are_costs(&closed) && first_failing(&mut rows, &closed) == Some(0),
+        Err(_) => false,
+    };
+    assert!(rt; are_told);
 }
 
 #[test]
-fn a_limit_is_passed(rt: HostRuntime) -> Result<(), Fail> {
-    let refused = close(rt.alloc(), &mut no_row_yet(3), 3);
-    assert_eq!(rt; refused.err(), Some(CloseFault::TooManyHedges));
-    Ok(())
+fn a_limit_is_passed(rt: HostRuntime) {
+    let fault = close(rt.alloc(), &mut no_row_yet(3), 3).err();
+    assert!(rt; fault == Some(CloseFault::TooManyHedges));
+}
+
+/// Lists of trees, by how many trees they have, and their costs, if there are such lists.
+static LONG: [(usize, Option<u32>); 4] = [
+    (2_000, Some(2_000)),
+    (2_001, Some(2_001)),
+    (2_003, Some(2_001)),
+    (2_004, None),
+];
+
+/// Whether these are the costs of such lists.
+fn are_costs_of_long(costs: &[u32]) -> bool {
+    for (trees, cost) in &LONG {
+        if costs.get(*trees).copied() != *cost {
+            return false;
+        }
+    }
+    true
 }
 
 #[test]
-fn costs_past_2000_are_one(rt: HostRuntime) -> Result<(), Fail> {
-    let closed = close(rt.alloc(), &mut no_row_yet(2_003), 4_000)?;
-    assert_eq!(rt; closed.hedge_costs.len(), 2_004);
-    assert_eq!(rt; closed.hedge_costs.get(2_000), Some(&2_000));
-    assert_eq!(rt; closed.hedge_costs.get(2_001), Some(&2_001));
-    assert_eq!(rt; closed.hedge_costs.get(2_003), Some(&2_001));
-    Ok(())
+fn costs_past_2000_are_one(rt: HostRuntime) {
+    let are_told = match close(rt.alloc(), &mut no_row_yet(2_003), 4_000) {
+        Ok(closed) => are_costs_of_long(closed.hedge_costs.as_slice()),
+        Err(_) => false,
+    };
+    assert!(rt; are_told);
 }
 
 /// A schema that has no element.
-const NOTHING: Grammar<'static> = Grammar {
+static NOTHING: Grammar<'static> = Grammar {
     start: Pat::NotAllowed,
     elements: &[],
 };
 
 /// A stylesheet without rules.
-const NO_RULES: Sheet<'static> = Sheet {
+static NO_RULES: Sheet<'static> = Sheet {
     modes: 1,
     eaches: 0,
     rules: &[],
     named: &[],
 };
 
-#[test]
-fn a_tree_is_built(rt: HostRuntime) -> Result<(), Fail> {
-    let mut rows = no_row_yet(0);
-    let closed = close(rt.alloc(), &mut rows, 1)?;
-    let alphabet = Alphabet::of(rt.alloc(), &NOTHING, &NOTHING, &NO_RULES)?;
-    let arena = Bump::new(rt.alloc());
-    assert!(rt; closed.tree_count() > 0);
-    match build(&arena, &alphabet, &rows, &closed, 0)? {
-        Node::Elem(name, kids) => {
-            assert_eq!(rt;
-                name,
-                Name {
-                    uri: "urn:n",
-                    local: "n"
-                }
-            );
-            assert_eq!(rt; kids.len(), 0);
-        }
-        Node::Text(_) => assert!(rt; false),
+/// The name of an element of a symbol that nothing mentions.
+static FRESH: Name<'static> = Name {
+    uri: "urn:n",
+    local: "n",
+};
+
+/// Whether a tree is an element of that name without children.
+fn is_fresh(node: &Node<'_>) -> bool {
+    match node {
+        Node::Elem(name, kids) => *name == FRESH && kids.len() == 0,
+        Node::Text(_) => false,
     }
-    Ok(())
+}
+
+/// Whether such a tree is built of the only row of a tree.
+fn is_built(alloc: Global) -> bool {
+    let mut rows = no_row_yet(0);
+    let Ok(closed) = close(alloc, &mut rows, 1) else {
+        return false;
+    };
+    let Ok(alphabet) = Alphabet::of(alloc, &NOTHING, &NOTHING, &NO_RULES) else {
+        return false;
+    };
+    if closed.tree_count() == 0 {
+        return false;
+    }
+    let arena = Bump::new(alloc);
+    match build(&arena, &alphabet, &rows, &closed, 0) {
+        Ok(node) => is_fresh(&node),
+        Err(_) => false,
+    }
+}
+
+#[test]
+fn a_tree_is_built(rt: HostRuntime) {
+    assert!(rt; is_built(rt.alloc()));
 }

@@ -2,10 +2,9 @@
 
 use bumpalo::Bump;
 use std::alloc::Global;
-use std::process::Abort;
-use std::test::Fail;
 use tc_alpha::{Alphabet, Sym};
 use tc_auto::Auto;
+use tc_base::NoMemory;
 use tc_hedge::Hedge;
 use tc_mat::Mat;
 use tc_model::{ElemPat, Grammar, Name, NameClass, Node, Pat, Sheet};
@@ -77,59 +76,62 @@ type Document<'n> = (&'n str, Node<'n>, bool);
 type Hedges<'n> = (&'n str, &'n [Node<'n>], bool);
 
 /// The symbols of one schema and no stylesheet.
-fn symbols_of(alloc: Global, grammar: &Grammar<'_>) -> Result<Alphabet, Fail> {
-    let alphabet = Alphabet::of(alloc, grammar, &NOTHING, &NO_RULES)?;
-    Ok(alphabet)
+fn symbols_of(alloc: Global, grammar: &Grammar<'_>) -> Result<Alphabet, NoMemory> {
+    Alphabet::of(alloc, grammar, &NOTHING, &NO_RULES).or(Err(NoMemory))
 }
 
 /// The hedge of an output schema.
-fn hedge_of<'b>(alloc: Global, grammar: &Grammar<'b>) -> Result<Hedge<'b>, Fail> {
-    let alphabet = symbols_of(alloc, grammar)?;
-    let auto = Auto::of(alloc, grammar, 512)?;
-    let hedge = Hedge::of(alloc, auto, &alphabet)?;
-    Ok(hedge)
+fn hedge_of<'b>(alloc: Global, grammar: &Grammar<'b>) -> Result<Hedge<'b>, NoMemory> {
+    let Ok(alphabet) = symbols_of(alloc, grammar) else {
+        return Err(NoMemory);
+    };
+    let Ok(auto) = Auto::of(alloc, grammar, 512) else {
+        return Err(NoMemory);
+    };
+    Hedge::of(alloc, auto, &alphabet)
 }
 
-/// Whether trees lead state 0 to an accepting state of the start.
-fn leads(hedge: &Hedge<'_>, nodes: &[Node<'_>]) -> Result<bool, Fail> {
-    let led = hedge.matrix_of(nodes)?;
+/// Whether pairs lead state 0 to an accepting state of the start.
+fn is_accepted(hedge: &Hedge<'_>, pairs: &Mat) -> bool {
     let states = hedge.auto().states();
-    if hedge.auto().patterns() == 0 || led.size() != states {
-        return Ok(false);
+    if hedge.auto().patterns() == 0 || pairs.size() != states {
+        return false;
     }
     let end = hedge.auto().first(1);
     for state in 0..end {
-        if state < states && led.has(0, state) && hedge.auto().accepts(state) {
-            return Ok(true);
+        if state < states && pairs.has(0, state) && hedge.auto().accepts(state) {
+            return true;
         }
     }
-    Ok(false)
+    false
 }
 
-/// Asserts of each tree whether it is a valid document of a schema.
-fn assert_documents(
-    rt: &impl Abort,
-    hedge: &Hedge<'_>,
-    name: &str,
-    documents: &[Document<'_>],
-) -> Result<(), Fail> {
+/// Whether trees lead state 0 to an accepting state of the start.
+fn leads(hedge: &Hedge<'_>, nodes: &[Node<'_>]) -> Result<bool, NoMemory> {
+    match hedge.matrix_of(nodes) {
+        Ok(pairs) => Ok(is_accepted(hedge, &pairs)),
+        Err(fault) => Err(fault),
+    }
+}
+
+/// The first tree that isn't told rightly whether it is a valid document of a schema, or an empty text.
+fn first_wrong_document<'n>(hedge: &Hedge<'_>, documents: &[Document<'n>]) -> &'n str {
     for (text, node, is_valid) in documents {
-        assert!(rt; hedge.valid(node)? == *is_valid, "{name}: {text}");
+        if hedge.valid(node) != Ok(*is_valid) {
+            return text;
+        }
     }
-    Ok(())
+    ""
 }
 
-/// Asserts of each of some trees whether they lead so.
-fn assert_hedges(
-    rt: &impl Abort,
-    hedge: &Hedge<'_>,
-    name: &str,
-    hedges: &[Hedges<'_>],
-) -> Result<(), Fail> {
+/// The first trees that aren't told rightly whether they lead so, or an empty text.
+fn first_wrong_hedge<'n>(hedge: &Hedge<'_>, hedges: &[Hedges<'n>]) -> &'n str {
     for (text, nodes, is_led) in hedges {
-        assert!(rt; leads(hedge, nodes)? == *is_led, "{name}: {text}");
+        if leads(hedge, nodes) != Ok(*is_led) {
+            return text;
+        }
     }
-    Ok(())
+    ""
 }
 
 /// `element a { element b { empty } & element c { empty } }`.
@@ -382,64 +384,42 @@ static TEXTS_DOCUMENTS: [Document<'static>; 8] = [
     ),
 ];
 
-/// Asserts of trees whether they are valid, and whether they lead so.
-fn assert_trees(
-    rt: &impl Abort,
-    hedge: &Hedge<'_>,
-    name: &str,
-    documents: &[Document<'_>],
-    hedges: &[Hedges<'_>],
-) -> Result<(), Fail> {
-    assert_documents(rt, hedge, name, documents)?;
-    assert_hedges(rt, hedge, name, hedges)
-}
-
-/// Asserts it of the trees of a schema.
-fn assert_schema(
-    rt: &impl Abort,
+/// The first trees of a schema that aren't told rightly, or an empty text.
+fn first_wrong<'n>(
     alloc: Global,
     grammar: &Grammar<'_>,
-    name: &str,
-    documents: &[Document<'_>],
-    hedges: &[Hedges<'_>],
-) -> Result<(), Fail> {
-    let hedge = hedge_of(alloc, grammar)?;
-    assert_trees(rt, &hedge, name, documents, hedges)
+    documents: &[Document<'n>],
+    hedges: &[Hedges<'n>],
+) -> &'n str {
+    let Ok(hedge) = hedge_of(alloc, grammar) else {
+        return "no memory";
+    };
+    let wrong = first_wrong_document(&hedge, documents);
+    if wrong.is_empty() {
+        first_wrong_hedge(&hedge, hedges)
+    } else {
+        wrong
+    }
+}
+
+/// The same of each schema: of any order, of groups and repeats, of mixed content, of wildcards, and of texts alone.
+fn wrong_of_each(alloc: Global) -> [&'static str; 5] {
+    [
+        first_wrong(alloc, &INTERLEAVED, &INTERLEAVED_DOCUMENTS, &[]),
+        first_wrong(alloc, &GROUPED, &GROUPED_DOCUMENTS, &[]),
+        first_wrong(alloc, &MIXED, &MIXED_DOCUMENTS, &MIXED_HEDGES),
+        first_wrong(alloc, &WILD, &WILD_DOCUMENTS, &[]),
+        first_wrong(alloc, &TEXTS, &TEXTS_DOCUMENTS, &[]),
+    ]
 }
 
 #[test]
-fn trees_of_each_schema_are_valid_as_told(rt: HostRuntime) -> Result<(), Fail> {
-    let alloc = rt.alloc();
-    assert_schema(
-        &rt,
-        alloc,
-        &INTERLEAVED,
-        "any order",
-        &INTERLEAVED_DOCUMENTS,
-        &[],
-    )?;
-    assert_schema(
-        &rt,
-        alloc,
-        &GROUPED,
-        "groups, repeats",
-        &GROUPED_DOCUMENTS,
-        &[],
-    )?;
-    assert_schema(
-        &rt,
-        alloc,
-        &MIXED,
-        "mixed content",
-        &MIXED_DOCUMENTS,
-        &MIXED_HEDGES,
-    )?;
-    assert_schema(&rt, alloc, &WILD, "wildcards", &WILD_DOCUMENTS, &[])?;
-    assert_schema(&rt, alloc, &TEXTS, "no document", &TEXTS_DOCUMENTS, &[])
+fn trees_of_each_schema_are_valid_as_told(rt: HostRuntime) {
+    assert_eq!(rt; wrong_of_each(rt.alloc()), [""; 5]);
 }
 
 /// So many elements `a` within one another.
-fn nested<'b>(arena: &'b Bump, depth: u32) -> Result<Node<'b>, Fail> {
+fn nested<'b>(arena: &'b Bump, depth: u32) -> Result<Node<'b>, NoMemory> {
     let mut node = LEAF_A;
     for _ in 1..depth {
         node = Node::Elem(A, arena.try_alloc_slice_copy(&[node])?);
@@ -458,21 +438,21 @@ const NESTED_ELEMENTS: [ElemPat<'static>; 1] = [ElemPat {
     content: Pat::Choice(&[Pat::Ref(1), Pat::Empty]),
 }];
 
+/// Whether so many elements are a valid document, and lead so.
+fn are_valid(alloc: Global, depth: u32) -> bool {
+    let arena = Bump::new(alloc);
+    let Ok(node) = nested(&arena, depth) else {
+        return false;
+    };
+    let Ok(hedge) = hedge_of(alloc, &NESTED) else {
+        return false;
+    };
+    hedge.valid(&node) == Ok(true) && leads(&hedge, &[node]) == Ok(true)
+}
+
 #[test]
-fn goes_down_two_thousand_levels(rt: HostRuntime) -> Result<(), Fail> {
-    let arena = Bump::new(rt.alloc());
-    let node = nested(&arena, 2000)?;
-    let nodes = [node];
-    let documents = [("a document", node, true)];
-    let hedges: [Hedges<'_>; 1] = [("a tree", &nodes, true)];
-    assert_schema(
-        &rt,
-        rt.alloc(),
-        &NESTED,
-        "2,000 levels",
-        &documents,
-        &hedges,
-    )
+fn goes_down_two_thousand_levels(rt: HostRuntime) {
+    assert!(rt; are_valid(rt.alloc(), 2000));
 }
 
 /// `element a { element * { empty }, text }`.
@@ -494,10 +474,20 @@ const AROUND_ELEMENTS: [ElemPat<'static>; 2] = [
 
 static KIDS: [Node<'static>; 2] = [Node::Elem(B, &[]), X];
 
-/// The symbol of a name without a namespace and stylesheet, over one schema.
-fn symbol_of(alloc: Global, grammar: &Grammar<'_>, name: &Name<'_>) -> Result<Sym, Fail> {
-    let alphabet = symbols_of(alloc, grammar)?;
-    Ok(alphabet.sym_of(name))
+/// The symbol of a name without a stylesheet, over one schema.
+fn symbol_of(alloc: Global, grammar: &Grammar<'_>, name: &Name<'_>) -> Result<Sym, NoMemory> {
+    match symbols_of(alloc, grammar) {
+        Ok(alphabet) => Ok(alphabet.sym_of(name)),
+        Err(fault) => Err(fault),
+    }
+}
+
+/// Puts the pairs of an element of a symbol around trees into a matrix.
+fn put_around(hedge: &Hedge<'_>, sym: Sym, inner: &Mat, around: &mut Mat) {
+    let states = hedge.auto().states();
+    if sym.0 < hedge.symbols() && inner.size() == states && around.size() == states {
+        hedge.element_into(sym, inner, around);
+    }
 }
 
 /// The pairs of an element of a symbol around trees.
@@ -506,52 +496,57 @@ fn pairs_around(
     hedge: &Hedge<'_>,
     sym: Sym,
     kids: &[Node<'_>],
-) -> Result<Mat, Fail> {
-    let states = hedge.auto().states();
-    let inner = hedge.matrix_of(kids)?;
-    let mut around = Mat::zero(alloc, states)?;
-    if sym.0 < hedge.symbols() && inner.size() == states {
-        hedge.element_into(sym, &inner, &mut around);
-    }
+) -> Result<Mat, NoMemory> {
+    let Ok(mut around) = Mat::zero(alloc, hedge.auto().states()) else {
+        return Err(NoMemory);
+    };
+    let Ok(inner) = hedge.matrix_of(kids) else {
+        return Err(NoMemory);
+    };
+    put_around(hedge, sym, &inner, &mut around);
     Ok(around)
 }
 
-/// Asserts that these are the pairs of some trees.
-fn assert_pairs(
-    rt: &impl Abort,
-    hedge: &Hedge<'_>,
-    pairs: &Mat,
-    nodes: &[Node<'_>],
-) -> Result<(), Fail> {
-    let led = hedge.matrix_of(nodes)?;
-    assert!(rt; pairs.words() == led.words());
-    Ok(())
+/// Whether these are the pairs of some trees.
+fn are_pairs(hedge: &Hedge<'_>, pairs: &Mat, nodes: &[Node<'_>]) -> bool {
+    match hedge.matrix_of(nodes) {
+        Ok(led) => pairs.words() == led.words(),
+        Err(_) => false,
+    }
 }
 
-/// Asserts that the pairs of an element of the symbol of `a` are those of the element of that name.
-fn assert_pairs_around(rt: &impl Abort, alloc: Global, hedge: &Hedge<'_>) -> Result<(), Fail> {
-    let sym = symbol_of(alloc, &AROUND, &A)?;
-    let around = pairs_around(alloc, hedge, sym, &KIDS)?;
-    assert_pairs(rt, hedge, &around, &[Node::Elem(A, &KIDS)])
+/// Whether the pairs of an element of the symbol of `a` are those of the element of that name.
+fn are_pairs_around(alloc: Global, hedge: &Hedge<'_>) -> bool {
+    let Ok(sym) = symbol_of(alloc, &AROUND, &A) else {
+        return false;
+    };
+    match pairs_around(alloc, hedge, sym, &KIDS) {
+        Ok(around) => are_pairs(hedge, &around, &[Node::Elem(A, &KIDS)]),
+        Err(_) => false,
+    }
 }
 
+/// Whether the pairs of a text are those of its tree.
+fn are_pairs_of_text(alloc: Global, hedge: &Hedge<'_>) -> bool {
+    match Mat::identity(alloc, hedge.auto().states()) {
+        Ok(mut pairs) => {
+            hedge.text_into(&mut pairs);
+            are_pairs(hedge, &pairs, &ONE_TEXT)
+        }
+        Err(_) => false,
+    }
+}
+
+/// There are three symbols: `a`, other names without a namespace, others. An element is known by its own, and so is a text.
 #[test]
-fn knows_elements_by_their_symbols(rt: HostRuntime) -> Result<(), Fail> {
-    let hedge = hedge_of(rt.alloc(), &AROUND)?;
-    let symbols = hedge.symbols();
-    assert!(rt; symbols == 3, "a, other names without a namespace, others");
-    assert_pairs_around(&rt, rt.alloc(), &hedge)
-}
-
-/// Asserts what the pairs of a text are.
-fn assert_pairs_of_text(rt: &impl Abort, alloc: Global, hedge: &Hedge<'_>) -> Result<(), Fail> {
-    let mut pairs = Mat::identity(alloc, hedge.auto().states())?;
-    hedge.text_into(&mut pairs);
-    assert_pairs(rt, hedge, &pairs, &ONE_TEXT)
-}
-
-#[test]
-fn knows_texts(rt: HostRuntime) -> Result<(), Fail> {
-    let hedge = hedge_of(rt.alloc(), &AROUND)?;
-    assert_pairs_of_text(&rt, rt.alloc(), &hedge)
+fn knows_elements_by_their_symbols_and_texts(rt: HostRuntime) {
+    let told = match hedge_of(rt.alloc(), &AROUND) {
+        Ok(hedge) => [
+            hedge.symbols() == 3,
+            are_pairs_around(rt.alloc(), &hedge),
+            are_pairs_of_text(rt.alloc(), &hedge),
+        ],
+        Err(_) => [false; 3],
+    };
+    assert_eq!(rt; told, [true; 3]);
 }
