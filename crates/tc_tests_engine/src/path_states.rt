@@ -70,13 +70,25 @@ fn are_selected(rules: &Rules<'_>) -> bool
     next.is_none() && is_hit && job == Job::Mode(0)
 }
 
+/// Whether there is what is told of rules.
+fn are_told(rules: &Rules<'_>) -> bool
+    requires modes { (told rules.now).sheet.modes ≡ 1 }
+    requires rules { (symbols : List Mention) × IsRulesOf symbols rules.now }
+{
+    are_found(rules) && are_selected(rules)
+}
+
+/// Whether it is so of the rules of a stylesheet that has none.
+fn are_built_in(alloc: Global) -> bool {
+    let sheet = no_rules();
+    match rules_of(alloc, &sheet) {
+        Ok(rules) => are_told(&rules),
+        Err(_) => false,
+    }
+}
+
 /// Built-in rules alone: one ancestor state, without items, and one select state, of the move to all children.
 #[test]
 fn built_in_rules(rt: HostRuntime) {
-    let sheet = no_rules();
-    let are_told = match rules_of(rt.alloc(), &sheet) {
-        Ok(rules) => are_found(&rules) && are_selected(&rules),
-        Err(_) => false,
-    };
-    assert!(rt; are_told);
+    assert!(rt; are_built_in(rt.alloc()));
 }

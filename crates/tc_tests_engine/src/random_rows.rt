@@ -8,6 +8,7 @@ ghost use Rattle.tc_tests_engine.specs.Kept.{AreKept};
 
 use crate::random_triples::{Dice, TripleTexts, random_texts};
 use crate::rows::{Step, is_fine, keep};
+use crate::triples::{LONGEST, machine_of_texts, schema_of};
 use bumpalo::Bump;
 use std::alloc::Global;
 use std::test::Fail;
@@ -17,13 +18,15 @@ use tc_hedge::is_valid;
 use tc_model::Node;
 use tc_read::read_document;
 use tc_run::run;
-use tc_tests_triples::{LONGEST, machine_of_texts, schema_of};
 
 /// How many triples a test makes.
 const TRIPLES: u32 = 50;
 
 /// How many steps are tried over each of them.
 const STEPS: u32 = 24;
+
+/// The names of elements that steps make.
+static NAMES: [&str; 2] = ["a", "b"];
 
 /// What is told of a tree.
 #[derive(Clone, Copy, PartialEq, Eq)]
@@ -61,11 +64,14 @@ impl Tally {
         }
     }
 
-    /// Counts what a row tells of a tree beside what is so.
-    fn count(&mut self, by_row: Told, by_definition: Told) {
-        if by_row != by_definition {
+    /// Counts what a row tells of a tree beside what is so. Where this can't be told, something is wrong.
+    fn count(&mut self, by_row: Told, by_definition: Option<Told>) {
+        if by_definition != Some(by_row) {
             self.wrong = self.wrong.saturating_add(1);
         }
+        let Some(by_definition) = by_definition else {
+            return;
+        };
         match by_definition {
             Told::Dead => self.dead = self.dead.saturating_add(1),
             Told::Live {
@@ -154,26 +160,6 @@ fn told_by_row(
     Ok(Told::Live { is_valid, is_fit })
 }
 
-/// What is told of an element around trees, by its row; and its text.
-fn wrap_some(
-    alloc: Global,
-    dice: &mut Dice,
-    rows: &mut Rows<'_, '_>,
-    hedges: &mut Vec<HRow>,
-    trees: &mut Vec<TRow>,
-    texts: &Texts,
-) -> Result<(Told, String), Fail>
-    requires { AreKept rows.old hedges.old.items trees.old.items }
-    ensures { AreKept rows.new hedges.new.items trees.new.items }
-{
-    let hedge = dice.roll(texts.hedges.len().max(1));
-    let name = dice.pick(&["a", "b"]);
-    let told = told_by_row(alloc, rows, hedges, trees, Step::Wrap(name, hedge))?;
-    let inner = text_at(&texts.hedges, hedge);
-    let text = format!(in alloc; "<{name}>{inner}</{name}>")?;
-    Ok((told, text))
-}
-
 /// What decides validity by the schemas alone.
 #[derive(Drop)]
 struct Schemas<'b> {
@@ -182,77 +168,87 @@ struct Schemas<'b> {
     output: Auto<'b>,
 }
 
-/// The automaton of a schema's text.
-fn automaton_of<'b>(alloc: Global, arena: &'b Bump, text: &str) -> Result<Auto<'b>, Fail> {
-    let grammar = schema_of(arena, text)?;
-    match Auto::of(alloc, &grammar, 256) {
-        Ok(automaton) => Ok(automaton),
-        Err(_) => Err(Fail::from("the schema is small")),
+/// The automaton of a schema's text, if there is one.
+fn automaton_of<'b>(alloc: Global, arena: &'b Bump, text: &str) -> Option<Auto<'b>> {
+    match schema_of(arena, text) {
+        Ok(grammar) => Auto::of(alloc, &grammar, 256).ok(),
+        Err(_) => None,
     }
 }
 
-/// Those of a triple.
-fn schemas_of<'b>(
-    alloc: Global,
-    arena: &'b Bump,
-    texts: &TripleTexts,
-) -> Result<Schemas<'b>, Fail> {
-    let input = automaton_of(alloc, arena, texts.input.as_str())?;
-    let anywhere = automaton_of(alloc, arena, texts.anywhere.as_str())?;
-    let output = automaton_of(alloc, arena, texts.output.as_str())?;
-    Ok(Schemas {
+/// Those of a triple, if there are some.
+fn schemas_of<'b>(alloc: Global, arena: &'b Bump, triple: &TripleTexts) -> Option<Schemas<'b>> {
+    let input = automaton_of(alloc, arena, triple.input.as_str())?;
+    let anywhere = automaton_of(alloc, arena, triple.anywhere.as_str())?;
+    let output = automaton_of(alloc, arena, triple.output.as_str())?;
+    Some(Schemas {
         input,
         anywhere,
         output,
     })
 }
 
-/// Whether the result of a document is a valid output.
+/// Whether the result of a document is a valid output, if it runs.
 fn is_fit<'b>(
     alloc: Global,
     arena: &'b Bump,
     machine: &Machine<'b>,
     output: &Auto<'_>,
     document: &Node<'b>,
-) -> Result<bool, Fail>
+) -> Option<bool>
     requires machine { IsMachine machine.now }
     requires document { IsDocument (before document.now none) }
 {
     let Ok(result) = run(arena, machine.rules(), machine.alphabet(), document) else {
-        return Err(Fail::from("the run is short"));
+        return None;
     };
     match result {
-        [node] => Ok(is_valid(alloc, output, node)?),
-        _ => Ok(false),
+        [node] => is_valid(alloc, output, node).ok(),
+        _ => Some(false),
     }
 }
 
-/// What is so of a tree that is written down.
+/// What is so of a document, if it can be told.
+fn told_of_document<'b>(
+    alloc: Global,
+    arena: &'b Bump,
+    machine: &Machine<'b>,
+    schemas: &Schemas<'_>,
+    document: &Node<'b>,
+) -> Option<Told>
+    requires machine { IsMachine machine.now }
+    requires document { IsDocument (before document.now none) }
+{
+    let is_live = is_valid(alloc, &schemas.anywhere, document).ok()?;
+    if !is_live {
+        return Some(Told::Dead);
+    }
+    let is_valid = is_valid(alloc, &schemas.input, document).ok()?;
+    let is_fit = is_fit(alloc, arena, machine, &schemas.output, document)?;
+    Some(Told::Live { is_valid, is_fit })
+}
+
+/// What is so of a tree that is written down, if it can be told.
 fn told_by_definition<'b>(
     alloc: Global,
     arena: &'b Bump,
     machine: &Machine<'b>,
     schemas: &Schemas<'_>,
     text: &str,
-) -> Result<Told, Fail>
+) -> Option<Told>
     requires { IsMachine machine.now }
 {
     if text.len() > LONGEST {
-        return Err(Fail::from("the text is short"));
+        return None;
     }
-    let Ok(document) = read_document(arena, text.as_bytes()) else {
-        return Err(Fail::from("the text is a document's"));
-    };
-    if !is_valid(alloc, &schemas.anywhere, &document)? {
-        return Ok(Told::Dead);
+    match read_document(arena, text.as_bytes()) {
+        Ok(document) => told_of_document(alloc, arena, machine, schemas, &document),
+        Err(_) => None,
     }
-    let is_valid = is_valid(alloc, &schemas.input, &document)?;
-    let is_fit = is_fit(alloc, arena, machine, &schemas.output, &document)?;
-    Ok(Told::Live { is_valid, is_fit })
 }
 
-/// Does a random step. Of an element that it makes, what is told by its row and by definition.
-fn told_of_step<'b>(
+/// Puts an element around trees, keeps what is live, and counts what is told of it by its row and by definition.
+fn wrap_some<'b>(
     alloc: Global,
     arena: &'b Bump,
     dice: &mut Dice,
@@ -262,24 +258,51 @@ fn told_of_step<'b>(
     hedges: &mut Vec<HRow>,
     trees: &mut Vec<TRow>,
     texts: &mut Texts,
-) -> Result<Option<(Told, Told)>, Fail>
+    tally: &mut Tally,
+) -> Result<(), Fail>
+    requires machine { IsMachine machine.now }
+    requires kept { AreKept rows.old hedges.old.items trees.old.items }
+    ensures { AreKept rows.new hedges.new.items trees.new.items }
+{
+    let hedge = dice.roll(texts.hedges.len().max(1));
+    let name = dice.pick(&NAMES);
+    let by_row = told_by_row(alloc, rows, hedges, trees, Step::Wrap(name, hedge))?;
+    let inner = text_at(&texts.hedges, hedge);
+    let text = format!(in alloc; "<{name}>{inner}</{name}>")?;
+    let by_definition = told_by_definition(alloc, arena, machine, schemas, text.as_str());
+    tally.count(by_row, by_definition);
+    if by_row != Told::Dead {
+        texts.trees.push(text)?;
+    }
+    Ok(())
+}
+
+/// Does a random step, and counts what is told of an element that it makes.
+fn tell_of_step<'b>(
+    alloc: Global,
+    arena: &'b Bump,
+    dice: &mut Dice,
+    machine: &Machine<'b>,
+    schemas: &Schemas<'_>,
+    rows: &mut Rows<'_, '_>,
+    hedges: &mut Vec<HRow>,
+    trees: &mut Vec<TRow>,
+    texts: &mut Texts,
+    tally: &mut Tally,
+) -> Result<(), Fail>
     requires machine { IsMachine machine.now }
     requires kept { AreKept rows.old hedges.old.items trees.old.items }
     ensures { AreKept rows.new hedges.new.items trees.new.items }
 {
     if dice.roll(3) > 0 {
-        append_some(alloc, dice, rows, hedges, trees, texts)?;
-        return Ok(None);
+        return append_some(alloc, dice, rows, hedges, trees, texts);
     }
-    let (by_row, text) = wrap_some(alloc, dice, rows, hedges, trees, texts)?;
-    let by_definition = told_by_definition(alloc, arena, machine, schemas, text.as_str())?;
-    if by_row != Told::Dead {
-        texts.trees.push(text)?;
-    }
-    Ok(Some((by_row, by_definition)))
+    wrap_some(
+        alloc, arena, dice, machine, schemas, rows, hedges, trees, texts, tally,
+    )
 }
 
-/// Keeps the first rows, does random steps, and counts what is told of the elements that they make.
+/// Keeps the first rows, and does random steps.
 fn tell_of_steps<'b>(
     alloc: Global,
     arena: &'b Bump,
@@ -297,12 +320,9 @@ fn tell_of_steps<'b>(
 {
     keep_first(alloc, rows, hedges, trees, texts)?;
     for _ in 0..STEPS {
-        let told = told_of_step(
-            alloc, arena, dice, machine, schemas, rows, hedges, trees, texts,
+        tell_of_step(
+            alloc, arena, dice, machine, schemas, rows, hedges, trees, texts, tally,
         )?;
-        if let Some((by_row, by_definition)) = told {
-            tally.count(by_row, by_definition);
-        }
     }
     Ok(())
 }
@@ -339,33 +359,45 @@ fn tell_over<'b>(
     )
 }
 
-/// The same beside the schemas of the triple's texts.
+/// The same over the machine of a triple.
 fn tell_by_schemas<'b>(
     alloc: Global,
     arena: &'b Bump,
     dice: &mut Dice,
-    machine: &Machine<'b>,
-    texts: &TripleTexts,
+    schemas: &Schemas<'_>,
+    triple: &TripleTexts,
     tally: &mut Tally,
-) -> Result<(), Fail>
-    requires { IsMachine machine.now }
-{
-    let schemas = schemas_of(alloc, arena, texts)?;
-    tell_over(alloc, arena, dice, machine, &schemas, tally)
+) -> Result<(), Fail> {
+    let (input, output) = (triple.input.as_str(), triple.output.as_str());
+    let machine = machine_of_texts(alloc, arena, input, output, triple.sheet.as_str())?;
+    tell_over(alloc, arena, dice, &machine, schemas, tally)
 }
 
-/// The same over the machine of three texts.
+/// The same beside the automata of its schemas.
 fn tell_of_texts(
     alloc: Global,
     dice: &mut Dice,
-    texts: &TripleTexts,
+    triple: &TripleTexts,
     tally: &mut Tally,
 ) -> Result<(), Fail> {
     let arena = Bump::new(alloc);
-    let input = texts.input.as_str();
-    let output = texts.output.as_str();
-    let machine = machine_of_texts(alloc, &arena, input, output, texts.sheet.as_str())?;
-    tell_by_schemas(alloc, &arena, dice, &machine, texts, tally)
+    match schemas_of(alloc, &arena, triple) {
+        Some(schemas) => tell_by_schemas(alloc, &arena, dice, &schemas, triple, tally),
+        None => Err(Fail::from("the schemas are small")),
+    }
+}
+
+/// The same over a random triple, and whether it is safe as far as is seen.
+fn tell_of_one(alloc: Global, dice: &mut Dice, tally: &mut Tally) -> Result<(), Fail> {
+    let (fit, unfit) = (tally.fit, tally.unfit);
+    let triple = random_texts(alloc, dice)?;
+    tell_of_texts(alloc, dice, &triple, tally)?;
+    if tally.unfit > unfit {
+        tally.not_safe = tally.not_safe.saturating_add(1);
+    } else if tally.fit > fit {
+        tally.safe = tally.safe.saturating_add(1);
+    }
+    Ok(())
 }
 
 /// The same over many random triples.
@@ -373,14 +405,7 @@ fn told_of_many(alloc: Global, seed: u32) -> Result<Tally, Fail> {
     let mut dice = Dice::new(seed);
     let mut tally = Tally::new();
     for _ in 0..TRIPLES {
-        let (fit, unfit) = (tally.fit, tally.unfit);
-        let texts = random_texts(alloc, &mut dice)?;
-        tell_of_texts(alloc, &mut dice, &texts, &mut tally)?;
-        if tally.unfit > unfit {
-            tally.not_safe = tally.not_safe.saturating_add(1);
-        } else if tally.fit > fit {
-            tally.safe = tally.safe.saturating_add(1);
-        }
+        tell_of_one(alloc, &mut dice, &mut tally)?;
     }
     Ok(tally)
 }
@@ -395,12 +420,18 @@ fn are_many(tally: Tally) -> bool {
         && tally.not_safe > 10
 }
 
+/// Numbers with which dice begin.
+static SEEDS: [u32; 3] = [1, 2, 3];
+
 #[test]
 fn rows_of_random_triples_tell_what_is_so(rt: HostRuntime) -> Result<(), Fail> {
-    for seed in [1, 2, 3] {
-        let tally = told_of_many(rt.alloc(), seed)?;
-        assert!(rt; tally.wrong == 0, "{seed}");
-        assert!(rt; are_many(tally), "{seed}");
+    for seed in &SEEDS {
+        let tally = told_of_many(rt.alloc(), *seed)?;
+        assert!(rt;
+            tally.wrong == 0 && are_many(tally),
+            "{seed}: {} wrong",
+            tally.wrong
+        );
     }
     Ok(())
 }

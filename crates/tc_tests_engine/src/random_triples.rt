@@ -1,9 +1,9 @@
 //! Two schemas and a stylesheet by chance, always the same ones.
 ghost use Rattle.std.specs.Prelude.{◌<◌, length};
 
-use std::alloc::Global;
-use std::test::Fail;
-use tc_tests_triples::sheet_text;
+use crate::triples::sheet_text;
+use std::alloc::{AllocError, Global};
+use tc_base::NoMemory;
 
 /// Contents of the elements `a` and `b` of an input.
 static CONTENTS: [&str; 8] = [
@@ -101,68 +101,88 @@ pub(crate) struct TripleTexts {
     pub(crate) sheet: String,
 }
 
-/// A schema of two elements of these names and contents, with this start.
-fn schema_text(
-    alloc: Global,
+/// Puts a schema of two elements of these names and contents, with this start.
+fn put_schema(
+    text: &mut String,
     start: &str,
     names: [&str; 2],
     contents: [&str; 2],
-) -> Result<String, Fail> {
+) -> Result<(), AllocError> {
     let [name, other] = names;
     let [content, inside] = contents;
-    let text = format!(in alloc;
+    write!(
+        text,
         "start = {start} {name} = element {name}{{{content}}} {other} = element {other}{{{inside}}}"
-    )?;
-    Ok(text)
+    )
 }
 
-/// A rule of a pattern in a mode, which is an attribute's text or none. Its body is an element of this name.
+/// Puts a rule of a pattern in a mode, which is an attribute's text or none. Its body is an element of this name.
 fn put_rule(
     rules: &mut String,
     dice: &mut Dice,
     pattern: &str,
     mode: &str,
     name: &str,
-) -> Result<(), Fail> {
+) -> Result<(), AllocError> {
     let one = dice.pick(&PARTS);
     let other = dice.pick(&PARTS);
     write!(
         rules,
         "<xsl:template match=\"{pattern}\"{mode}><{name}>{one}{other}</{name}></xsl:template>"
+    )
+}
+
+/// The modes of rules, as attributes.
+static MODES: [&str; 4] = ["", "", "", " mode=\"m\""];
+
+/// The names of the elements that rules put out.
+static NAMES: [&str; 3] = ["x", "x", "r"];
+
+/// Puts a named template, a rule of the root, and four others.
+fn put_rules(rules: &mut String, dice: &mut Dice) -> Result<(), AllocError> {
+    rules.push_str(
+        "<xsl:template name=\"n\"><x/><xsl:apply-templates select=\"b\"/></xsl:template>",
     )?;
+    put_rule(rules, dice, "/", "", "r")?;
+    for mode in &MODES {
+        let pattern = dice.pick(&MATCHES);
+        let name = dice.pick(&NAMES);
+        put_rule(rules, dice, pattern, mode, name)?;
+    }
     Ok(())
 }
 
-/// A rule of the root, four others, and a named template.
-fn random_sheet(alloc: Global, dice: &mut Dice) -> Result<String, Fail> {
-    let mut rules = String::from_str(
-        alloc,
-        "<xsl:template name=\"n\"><x/><xsl:apply-templates select=\"b\"/></xsl:template>",
-    )?;
-    put_rule(&mut rules, dice, "/", "", "r")?;
-    for mode in ["", "", "", " mode=\"m\""] {
-        let pattern = dice.pick(&MATCHES);
-        let name = dice.pick(&["x", "x", "r"]);
-        put_rule(&mut rules, dice, pattern, mode, name)?;
-    }
-    Ok(sheet_text(alloc, rules.as_str())?)
+/// A stylesheet of such rules.
+fn random_sheet(alloc: Global, dice: &mut Dice) -> Result<String, NoMemory> {
+    let mut rules = String::new(alloc);
+    put_rules(&mut rules, dice)?;
+    sheet_text(alloc, rules.as_str())
+}
+
+/// Puts the schemas of a triple, of these contents of an input's elements and of an output's.
+fn put_schemas(
+    texts: &mut TripleTexts,
+    contents: [&str; 2],
+    results: [&str; 2],
+) -> Result<(), AllocError> {
+    let [content, _] = contents;
+    let all = if content.contains('b') { "a|b" } else { "a" };
+    put_schema(&mut texts.input, "a", ["a", "b"], contents)?;
+    put_schema(&mut texts.anywhere, all, ["a", "b"], contents)?;
+    put_schema(&mut texts.output, "r", ["r", "x"], results)
 }
 
 /// The texts of a triple.
-pub(crate) fn random_texts(alloc: Global, dice: &mut Dice) -> Result<TripleTexts, Fail> {
-    let content = dice.pick(&CONTENTS);
-    let inside = dice.pick(&CONTENTS);
-    let result = dice.pick(&RESULTS);
-    let part = dice.pick(&RESULTS);
-    let all = if content.contains('b') { "a|b" } else { "a" };
-    let input = schema_text(alloc, "a", ["a", "b"], [content, inside])?;
-    let anywhere = schema_text(alloc, all, ["a", "b"], [content, inside])?;
-    let output = schema_text(alloc, "r", ["r", "x"], [result, part])?;
+pub(crate) fn random_texts(alloc: Global, dice: &mut Dice) -> Result<TripleTexts, NoMemory> {
+    let contents = [dice.pick(&CONTENTS), dice.pick(&CONTENTS)];
+    let results = [dice.pick(&RESULTS), dice.pick(&RESULTS)];
     let sheet = random_sheet(alloc, dice)?;
-    Ok(TripleTexts {
-        input,
-        anywhere,
-        output,
+    let mut texts = TripleTexts {
+        input: String::new(alloc),
+        anywhere: String::new(alloc),
+        output: String::new(alloc),
         sheet,
-    })
+    };
+    put_schemas(&mut texts, contents, results)?;
+    Ok(texts)
 }

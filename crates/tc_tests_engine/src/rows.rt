@@ -1,16 +1,16 @@
 //! Rows of small triples, by hand. A row is told by its numbers: two flags of the whole, a flag for each state of the input's
 //! contents or for each of its element patterns, the numbers of the outputs, the looks.
-ghost use Rattle.std.specs.Prelude.{◌≡◌, ◌≤◌, length, IfOk};
+ghost use Rattle.std.specs.Prelude.{◌≡◌, ◌≤◌, length, IfSome};
 ghost use Rattle.tc_beh.specs.Machines.{IsMachine};
 ghost use Rattle.tc_tests_engine.specs.Kept.{AreKept};
 
+use crate::triples::{NoMachine, machine_of_texts, sheet_text};
 use bumpalo::Bump;
-use std::alloc::Global;
-use std::process::Abort;
+use std::alloc::{AllocError, Global};
 use std::test::Fail;
+use tc_base::NoMemory;
 use tc_beh::{HRow, Machine, MachineFault, Rows, TRow};
 use tc_model::{Name, PairLists};
-use tc_tests_triples::{NoMachine, machine_of_texts, sheet_text};
 
 /// Keeps the row of no tree.
 fn keep_empty(
@@ -244,54 +244,50 @@ fn is_so(
     }
 }
 
-/// Asserts what is told of kept rows.
-fn assert_told(
-    rt: &impl Abort,
+/// The name of the first of what is told of kept rows that isn't so, or an empty one.
+fn first_wrong(
     alloc: Global,
     rows: &mut Rows<'_, '_>,
     hedges: &Vec<HRow>,
     trees: &Vec<TRow>,
-    title: &str,
-    all: &[(&str, Told)],
-) -> Result<(), Fail>
+    all: &[(&'static str, Told)],
+) -> Result<&'static str, Fail>
     requires { AreKept rows.old hedges.now.items trees.now.items }
 {
     for (name, told) in all {
         let is_so = is_so(alloc, rows, hedges, trees, *told)?;
-        assert!(rt; is_so, "{title}: {name}");
+        if !is_so {
+            return Ok(name);
+        }
     }
-    Ok(())
+    Ok("")
 }
 
-/// Asserts of a triple's steps which of their rows are live, and what is told of those that are kept.
-fn assert_steps(
-    rt: &impl Abort,
+/// The first of what is told of a triple's steps that isn't so: which of their rows are live, and what those that are kept are.
+fn wrong_of_steps(
     alloc: Global,
     rows: &mut Rows<'_, '_>,
     hedges: &mut Vec<HRow>,
     trees: &mut Vec<TRow>,
     triple: &Triple,
-) -> Result<(), Fail>
+) -> Result<&'static str, Fail>
     requires { AreKept rows.old hedges.old.items trees.old.items }
 {
     let are_live = keep_all(alloc, rows, hedges, trees, triple.steps)?;
-    assert!(rt; are_live, "{}: steps", triple.title);
-    assert_told(rt, alloc, rows, hedges, trees, triple.title, triple.told)
+    if !are_live {
+        return Ok("steps");
+    }
+    first_wrong(alloc, rows, hedges, trees, triple.told)
 }
 
 /// The same over its machine.
-fn assert_rows(
-    rt: &impl Abort,
-    alloc: Global,
-    machine: &Machine<'_>,
-    triple: &Triple,
-) -> Result<(), Fail>
+fn wrong_over(alloc: Global, machine: &Machine<'_>, triple: &Triple) -> Result<&'static str, Fail>
     requires { IsMachine machine.now }
 {
     let mut rows = Rows::new(alloc, machine)?;
     let mut hedges = Vec::new(alloc);
     let mut trees = Vec::new(alloc);
-    assert_steps(rt, alloc, &mut rows, &mut hedges, &mut trees, triple)
+    wrong_of_steps(alloc, &mut rows, &mut hedges, &mut trees, triple)
 }
 
 /// The texts of two schemas and the rules of a stylesheet; steps over their machine, whether the row of each is live, and what is
@@ -375,59 +371,78 @@ static TRIPLES: [Triple; 4] = [
     },
 ];
 
-/// The machine of such texts.
-fn machine_with<'b>(alloc: Global, arena: &'b Bump, triple: &Triple) -> Result<Machine<'b>, Fail>
-    ensures { IfOk result (λ m. IsMachine m) }
+/// The machine of the texts of two schemas and of the rules of a stylesheet, if there is one.
+pub(crate) fn machine_with<'b>(
+    alloc: Global,
+    arena: &'b Bump,
+    input: &str,
+    output: &str,
+    rules: &str,
+) -> Option<Machine<'b>>
+    ensures { IfSome result (λ m. IsMachine m) }
 {
-    let sheet = sheet_text(alloc, triple.rules)?;
-    let (input, output) = (triple.input, triple.output);
-    let machine = machine_of_texts(alloc, arena, input, output, sheet.as_str())?;
-    Ok(machine)
+    let Ok(sheet) = sheet_text(alloc, rules) else {
+        return None;
+    };
+    match machine_of_texts(alloc, arena, input, output, sheet.as_str()) {
+        Ok(machine) => Some(machine),
+        Err(_) => None,
+    }
 }
 
-/// The same of a triple.
-fn assert_rows_of(rt: &impl Abort, alloc: Global, triple: &Triple) -> Result<(), Fail> {
+/// The first of what is told of a triple that isn't so, or an empty text.
+fn wrong_of(alloc: Global, triple: &Triple) -> Result<&'static str, Fail> {
     let arena = Bump::new(alloc);
-    let machine = machine_with(alloc, &arena, triple)?;
-    assert_rows(rt, alloc, &machine, triple)
+    match machine_with(alloc, &arena, triple.input, triple.output, triple.rules) {
+        Some(machine) => wrong_over(alloc, &machine, triple),
+        None => Ok("no machine"),
+    }
 }
 
 #[test]
 fn rows_of_each_triple_are_as_told(rt: HostRuntime) -> Result<(), Fail> {
     for triple in &TRIPLES {
-        assert_rows_of(&rt, rt.alloc(), triple)?;
+        let wrong = wrong_of(rt.alloc(), triple)?;
+        assert!(rt; wrong.is_empty(), "{}: {wrong}", triple.title);
     }
     Ok(())
 }
 
-/// A stylesheet of 64 ancestor states and 128 states of moves, whose root has the value of a path put out.
-fn sheet_of_entries(alloc: Global, value: &str) -> Result<String, Fail> {
-    let mut rules = String::new(alloc);
-    for (part, count) in [
-        ("<xsl:template match=\"", 1),
-        ("/a", 63),
-        (
-            "\"/><xsl:template match=\"/\"><r><xsl:apply-templates select=\"a",
-            1,
-        ),
-        ("/a", 126),
-        ("\"/><xsl:value-of select=\"", 1),
-        (value, 1),
-        ("\"/></r></xsl:template>", 1),
-    ] {
-        for _ in 0..count {
+/// Parts of the rules of such a stylesheet, and how often each is written.
+static ENTRIES: [(&str, u32); 5] = [
+    ("<xsl:template match=\"", 1),
+    ("/a", 63),
+    (
+        "\"/><xsl:template match=\"/\"><r><xsl:apply-templates select=\"a",
+        1,
+    ),
+    ("/a", 126),
+    ("\"/>", 1),
+];
+
+/// Puts rules of 64 ancestor states and 128 states of moves, of which that of the root has the value of a path put out.
+fn put_entries(rules: &mut String, value: &str) -> Result<(), AllocError> {
+    for (part, count) in &ENTRIES {
+        for _ in 0..*count {
             rules.push_str(part)?;
         }
     }
-    Ok(sheet_text(alloc, rules.as_str())?)
+    write!(
+        rules,
+        "<xsl:value-of select=\"{value}\"/></r></xsl:template>"
+    )
 }
 
-/// A stylesheet whose root calls the first of so many named bodies, each of which calls the next one.
-fn sheet_of_calls(alloc: Global, count: u32) -> Result<String, Fail> {
-    let mut rules = String::from_str(
-        alloc,
-        "<xsl:template match=\"/\"><xsl:call-template name=\"n1\"/></xsl:template>",
-    )?;
+/// A stylesheet of such rules.
+fn sheet_of_entries(alloc: Global, value: &str) -> Result<String, NoMemory> {
+    let mut rules = String::new(alloc);
+    put_entries(&mut rules, value)?;
+    sheet_text(alloc, rules.as_str())
+}
+
+/// Puts a rule whose root calls the first of so many named bodies, each of which calls the next one.
+fn put_calls(rules: &mut String, count: u32) -> Result<(), AllocError> {
+    rules.push_str("<xsl:template match=\"/\"><xsl:call-template name=\"n1\"/></xsl:template>")?;
     for number in 1..count {
         let next = number + 1;
         write!(
@@ -435,40 +450,55 @@ fn sheet_of_calls(alloc: Global, count: u32) -> Result<String, Fail> {
             "<xsl:template name=\"n{number}\"><xsl:call-template name=\"n{next}\"/></xsl:template>"
         )?;
     }
-    write!(rules, "<xsl:template name=\"n{count}\"><r/></xsl:template>")?;
-    Ok(sheet_text(alloc, rules.as_str())?)
+    write!(rules, "<xsl:template name=\"n{count}\"><r/></xsl:template>")
+}
+
+/// A stylesheet of such rules.
+fn sheet_of_calls(alloc: Global, count: u32) -> Result<String, NoMemory> {
+    let mut rules = String::new(alloc);
+    put_calls(&mut rules, count)?;
+    sheet_text(alloc, rules.as_str())
 }
 
 /// Why there is no machine of a stylesheet over small schemas.
-fn fault_of(alloc: Global, sheet: &str) -> Option<NoMachine> {
+fn fault_over(alloc: Global, sheet: &str) -> Option<NoMachine> {
     let arena = Bump::new(alloc);
     machine_of_texts(alloc, &arena, "element a{empty}", "element r{empty}", sheet).err()
 }
 
-/// Ancestor states times states of moves, and one look more than 8,192.
-#[test]
-fn entries_and_looks_are_limited(rt: HostRuntime) -> Result<(), Fail> {
-    let alloc = rt.alloc();
-    for (value, fault) in [
-        (".", None),
-        ("a", Some(NoMachine::Fault(MachineFault::TooManyEntries))),
-    ] {
-        let sheet = sheet_of_entries(alloc, value)?;
-        assert!(rt; fault_of(alloc, sheet.as_str()) == fault, "{value}");
+/// The same of a stylesheet that there may be no memory for.
+fn fault_of(alloc: Global, sheet: Result<String, NoMemory>) -> Option<NoMachine> {
+    match sheet {
+        Ok(sheet) => fault_over(alloc, sheet.as_str()),
+        Err(_) => Some(NoMachine::NotRead),
     }
-    Ok(())
 }
 
-/// Calls of the root and of named bodies, and the element in the last of these: 8,000 and 8,001 within one another.
+/// Paths whose values are put out, and faults: ancestor states times states of moves, and one look more than 8,192.
+static ENTRY_FAULTS: [(&str, Option<NoMachine>); 2] = [
+    (".", None),
+    ("a", Some(NoMachine::Fault(MachineFault::TooManyEntries))),
+];
+
 #[test]
-fn calls_within_one_another_are_limited(rt: HostRuntime) -> Result<(), Fail> {
-    let alloc = rt.alloc();
-    for (count, fault) in [
-        (7999, None),
-        (8000, Some(NoMachine::Fault(MachineFault::TooManyCalls))),
-    ] {
-        let sheet = sheet_of_calls(alloc, count)?;
-        assert!(rt; fault_of(alloc, sheet.as_str()) == fault, "{count}");
+fn entries_and_looks_are_limited(rt: HostRuntime) {
+    for (value, fault) in &ENTRY_FAULTS {
+        let found = fault_of(rt.alloc(), sheet_of_entries(rt.alloc(), value));
+        assert!(rt; found == *fault, "{value}");
     }
-    Ok(())
+}
+
+/// Numbers of named bodies, and faults: the calls of the root and of these, and the element in the last one, are 8,000 and 8,001
+/// within one another.
+static CALL_FAULTS: [(u32, Option<NoMachine>); 2] = [
+    (7999, None),
+    (8000, Some(NoMachine::Fault(MachineFault::TooManyCalls))),
+];
+
+#[test]
+fn calls_within_one_another_are_limited(rt: HostRuntime) {
+    for (count, fault) in &CALL_FAULTS {
+        let found = fault_of(rt.alloc(), sheet_of_calls(rt.alloc(), *count));
+        assert!(rt; found == *fault, "{count}");
+    }
 }

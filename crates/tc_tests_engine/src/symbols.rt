@@ -153,15 +153,25 @@ fn names_in_predicates_of_bodies_that_are_never_called(rt: HostRuntime) {
     assert!(rt; are_told);
 }
 
-/// A schema of one element pattern, of so many names without a namespace.
-fn schema_of_names<'b>(arena: &'b Bump, count: u32) -> Result<Grammar<'b>, NoMemory> {
+/// The class of the name of a number, without a namespace.
+fn class_of<'b>(arena: &'b Bump, number: u32) -> Result<NameClass<'b>, NoMemory> {
+    let local = into_bump_str(format!(in arena; "n{number}")?);
+    Ok(NameClass::Name(Name { uri: "", local }))
+}
+
+/// The classes of so many names.
+fn classes_of<'b>(arena: &'b Bump, count: u32) -> Result<&'b [NameClass<'b>], NoMemory> {
     let mut classes = Vec::new(arena);
     for number in 0..count {
-        let local = into_bump_str(format!(in arena; "n{number}")?);
-        classes.push(NameClass::Name(Name { uri: "", local }))?;
+        classes.push(class_of(arena, number)?)?;
     }
+    Ok(into_bump_slice(classes))
+}
+
+/// A schema of one element pattern, of so many names.
+fn schema_of_names<'b>(arena: &'b Bump, count: u32) -> Result<Grammar<'b>, NoMemory> {
     let element = ElemPat {
-        names: NameClass::Choice(into_bump_slice(classes)),
+        names: NameClass::Choice(classes_of(arena, count)?),
         content: Pat::Empty,
     };
     Ok(Grammar {

@@ -4,7 +4,7 @@ use Rattle.tc_model.proofs.SimplifiesUnique.{lawful_start}
 use Rattle.tc_model.specs.Views as see
 use Rattle.tc_read.specs.declared.schemas.Schema.{Schema}
 use Rattle.tc_read.specs.Schemas.{IsSchemaOf}
-use Rattle.tc_tests_triples.proofs.schema_of.Goals as goal
+use Rattle.tc_tests_engine.proofs.triples.schema_of.Goals as goal
 
 pub returns-in-Small-clause-grammar : goal.returns-in-Small-clause-grammar
 returns-in-Small-clause-grammar c =

@@ -1,6 +1,6 @@
 use Rattle.tc_model.specs.States as side
 use Rattle.tc_model.specs.Views as see
-use Rattle.tc_tests_triples.proofs.inner_of.Goals as goal
+use Rattle.tc_tests_engine.proofs.triples.inner_of.Goals as goal
 
 pub returns-in-Ok-of : goal.returns-in-Ok-of
 returns-in-Ok-of c = c.in-Ok-of.ensures.stands side.input (see.grammar c.args.input.now) c.in-Ok.ensures.stands

@@ -1,8 +1,7 @@
 //! Rows of the format, by hand: the certificate of a small triple in both versions, and changes of it.
 
 use std::alloc::Global;
-use std::process::Abort;
-use std::test::Fail;
+use tc_base::NoMemory;
 use tc_cert::{CertFault, Ranges, UpgradeFault, first_unfit, read_cert, upgrade, write_cert};
 use tc_model::CertData;
 
@@ -51,11 +50,10 @@ fn ranges() -> Ranges {
 /// The longest text that is tried.
 const LONGEST: usize = 67_108_864;
 
-/// The text with another piece in place of one that stands in it once.
-fn with(alloc: Global, text: &str, old: &str, new: &str) -> Result<String, Fail> {
-    let (front, behind) = text.split_once(old).ok_or("the piece stands there")?;
-    let changed = format!(in alloc; "{front}{new}{behind}")?;
-    Ok(changed)
+/// The text with another piece in place of one that stands in it once, if it does.
+fn with(alloc: Global, text: &str, old: &str, new: &str) -> Option<String> {
+    let (front, behind) = text.split_once(old)?;
+    format!(in alloc; "{front}{new}{behind}").ok()
 }
 
 /// The line that is told of the form of what is fitted, or 0 where the bytes are a certificate's text.
@@ -150,12 +148,9 @@ fn data_of(alloc: Global, text: &str) -> Option<([u32; 3], bool)> {
 #[test]
 fn both_versions_are_read_and_written_as_version_2(rt: HostRuntime) {
     for text in &VERSIONS {
-        assert_eq!(rt; line_of_fit(rt.alloc(), text.as_bytes()), Some(0), "{text}");
-        assert_eq!(rt;
-            data_of(rt.alloc(), text),
-            Some(([2, 3, 2], true)),
-            "{text}"
-        );
+        let fit = line_of_fit(rt.alloc(), text.as_bytes());
+        let data = data_of(rt.alloc(), text);
+        assert!(rt; fit == Some(0) && data == Some(([2, 3, 2], true)), "{text}");
     }
 }
 
@@ -180,65 +175,54 @@ fn both_versions_are_upgraded_to_version_2(rt: HostRuntime) {
     }
 }
 
-/// Asserts of each front of a text that it lacks its next line.
-fn assert_fronts(rt: &impl Abort, alloc: Global, text: &[u8]) {
+/// How many bytes the first front of a text has of which it isn't told that it lacks its next line.
+fn first_wrong_front(alloc: Global, text: &[u8]) -> Option<usize> {
     let mut line = 1;
     for i in 0..text.len() {
-        let wanted = Some(line);
-        assert_eq!(rt;
-            lines_of_form(alloc, &text[..i]),
-            [wanted, wanted, wanted],
-            "{i} bytes"
-        );
+        if lines_of_form(alloc, &text[..i]) != [Some(line); 3] {
+            return Some(i);
+        }
         if text[i] == b'\n' && line < 1000 {
             line += 1;
         }
     }
+    None
 }
 
 #[test]
 fn each_front_lacks_its_next_line(rt: HostRuntime) {
     for text in &VERSIONS {
-        assert_fronts(&rt, rt.alloc(), text.as_bytes());
+        assert_eq!(rt; first_wrong_front(rt.alloc(), text.as_bytes()), None);
     }
 }
 
 /// A piece of a text, what stands in its place, and the line that is told.
 type Change<'t> = (&'t str, &'t str, u32);
 
-/// The lines that are told of the form of a text with another piece in place of one.
-fn lines_of_form_with(
-    alloc: Global,
-    text: &str,
-    old: &str,
-    new: &str,
-) -> Result<[Option<u32>; 3], Fail> {
-    let changed = with(alloc, text, old, new)?;
-    Ok(lines_of_form(alloc, changed.as_bytes()))
+/// The lines that are told of the form of a text with another piece in place of one, if that stands there.
+fn lines_of_form_with(alloc: Global, text: &str, old: &str, new: &str) -> Option<[Option<u32>; 3]> {
+    match with(alloc, text, old, new) {
+        Some(changed) => Some(lines_of_form(alloc, changed.as_bytes())),
+        None => None,
+    }
 }
 
 /// The line that is told of what doesn't fit in the first version with another piece in place of one.
-fn line_of_fit_with(alloc: Global, old: &str, new: &str) -> Result<Option<u32>, Fail> {
-    let changed = with(alloc, FIRST, old, new)?;
-    Ok(line_of_fit(alloc, changed.as_bytes()))
+fn line_of_fit_with(alloc: Global, old: &str, new: &str) -> Option<u32> {
+    match with(alloc, FIRST, old, new) {
+        Some(changed) => line_of_fit(alloc, changed.as_bytes()),
+        None => None,
+    }
 }
 
-/// Asserts of each change of a text which line is told of its form.
-fn assert_forms(
-    rt: &impl Abort,
-    alloc: Global,
-    text: &str,
-    changes: &[Change<'_>],
-) -> Result<(), Fail> {
+/// What the first change of a text puts there of which another line is told.
+fn first_wrong_form<'t>(alloc: Global, text: &str, changes: &[Change<'t>]) -> Option<&'t str> {
     for (old, new, line) in changes {
-        let wanted = Some(*line);
-        assert_eq!(rt;
-            lines_of_form_with(alloc, text, old, new)?,
-            [wanted, wanted, wanted],
-            "{new}"
-        );
+        if lines_of_form_with(alloc, text, old, new) != Some([Some(*line); 3]) {
+            return Some(new);
+        }
     }
-    Ok(())
+    None
 }
 
 const OUTPUTS: &str = "m 0>0 1>1 2>2 3>3 4>4\nm 2>3 3>3";
@@ -321,13 +305,13 @@ static ORDERED: [Change<'static>; 19] = [
 ];
 
 #[test]
-fn a_changed_line_of_version_1_is_told(rt: HostRuntime) -> Result<(), Fail> {
-    assert_forms(&rt, rt.alloc(), FIRST, &CHANGED_1)
+fn a_changed_line_of_version_1_is_told(rt: HostRuntime) {
+    assert_eq!(rt; first_wrong_form(rt.alloc(), FIRST, &CHANGED_1), None);
 }
 
 #[test]
-fn lines_of_version_1_ascend(rt: HostRuntime) -> Result<(), Fail> {
-    assert_forms(&rt, rt.alloc(), FIRST, &ORDERED)
+fn lines_of_version_1_ascend(rt: HostRuntime) {
+    assert_eq!(rt; first_wrong_form(rt.alloc(), FIRST, &ORDERED), None);
 }
 
 /// The same of the second version.
@@ -349,8 +333,8 @@ static CHANGED_2: [Change<'static>; 14] = [
 ];
 
 #[test]
-fn a_changed_line_of_version_2_is_told(rt: HostRuntime) -> Result<(), Fail> {
-    assert_forms(&rt, rt.alloc(), SECOND, &CHANGED_2)
+fn a_changed_line_of_version_2_is_told(rt: HostRuntime) {
+    assert_eq!(rt; first_wrong_form(rt.alloc(), SECOND, &CHANGED_2), None);
 }
 
 /// Changes of the first version, and the first lines that don't fit, or 0.
@@ -369,41 +353,42 @@ static UNFIT: [Change<'static>; 11] = [
 ];
 
 #[test]
-fn the_first_line_that_does_not_fit_is_told(rt: HostRuntime) -> Result<(), Fail> {
+fn the_first_line_that_does_not_fit_is_told(rt: HostRuntime) {
     for (old, new, line) in &UNFIT {
-        assert_eq!(rt;
-            line_of_fit_with(rt.alloc(), old, new)?,
-            Some(*line),
+        assert!(rt;
+            line_of_fit_with(rt.alloc(), old, new) == Some(*line),
             "{new}"
         );
     }
-    Ok(())
 }
 
-/// A row of a million outputs.
-fn million_outputs(alloc: Global) -> Result<String, Fail> {
-    let head = "xslt-typecheck certificate 2\noutputs 0\ntrees 4000\nt 0 0 10000 0";
-    let mut text = String::from_str(alloc, head)?;
+/// Puts a row of a million outputs, and 3,999 that repeat it.
+fn put_rows(text: &mut String) -> Result<(), NoMemory> {
+    text.push_str("t 0 0 10000 0")?;
     for _ in 1..1000000 {
         text.push_str(",0")?;
     }
-    Ok(text)
-}
-
-/// A text of version 2 that unfolds: such a row, and 3,999 that repeat it.
-fn text_that_unfolds(alloc: Global) -> Result<String, Fail> {
-    let mut text = million_outputs(alloc)?;
     text.push_str(" -\n")?;
     for number in 10001..14000 {
         write!(text, "T 0 0 {number} - -\n")?;
     }
+    Ok(())
+}
+
+/// A text of version 2 that unfolds: one of such rows.
+fn text_that_unfolds(alloc: Global) -> Result<String, NoMemory> {
+    let mut text = String::new(alloc);
+    text.push_str("xslt-typecheck certificate 2\noutputs 0\ntrees 4000\n")?;
+    put_rows(&mut text)?;
     text.push_str("hedges 0\nend\n")?;
     Ok(text)
 }
 
 #[test]
-fn a_text_that_unfolds_is_told_in_its_own_size(rt: HostRuntime) -> Result<(), Fail> {
-    let text = text_that_unfolds(rt.alloc())?;
-    assert_eq!(rt; line_of_fit(rt.alloc(), text.as_bytes()), Some(4));
-    Ok(())
+fn a_text_that_unfolds_is_told_in_its_own_size(rt: HostRuntime) {
+    let line = match text_that_unfolds(rt.alloc()) {
+        Ok(text) => line_of_fit(rt.alloc(), text.as_bytes()),
+        Err(_) => None,
+    };
+    assert!(rt; line == Some(4));
 }

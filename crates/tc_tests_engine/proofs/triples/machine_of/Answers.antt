@@ -1,7 +1,7 @@
 use Rattle.std.proofs.Common.{inl, inr, refl}
 use Rattle.tc_model.specs.Views as see
-use Rattle.tc_tests_triples.proofs.Parts.{are_parts}
-use Rattle.tc_tests_triples.proofs.machine_of.Goals as goal
+use Rattle.tc_tests_engine.proofs.Parts.{are_parts}
+use Rattle.tc_tests_engine.proofs.triples.machine_of.Goals as goal
 
 pub of-requires-3 : goal.of-requires-3
 of-requires-3 c =

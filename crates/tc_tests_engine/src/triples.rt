@@ -1,6 +1,4 @@
 //! Machines of two schemas' texts and a stylesheet's, for the tests of what stands on machines.
-#![tactic(auto)]
-
 ghost use Rattle.std.specs.Prelude.{◌≡◌, ◌≤◌, ◌⊎◌, length, IfOk};
 ghost use Rattle.tc_model.specs.Grammars as g;
 ghost use Rattle.tc_model.specs.Grammars.{IsGrammar};
@@ -25,11 +23,11 @@ use tc_read::{Schema, read_schema, read_sheet};
 use tc_rules::Rules;
 
 /// The most bytes of a text that is read.
-pub const LONGEST: usize = 1_000_000;
+pub(crate) const LONGEST: usize = 1_000_000;
 
 /// Why there is no machine of some texts.
 #[derive(Clone, Copy, Debug, PartialEq, Eq)]
-pub enum NoMachine {
+pub(crate) enum NoMachine {
     /// A text is too long or refused, a part of the machine passes a limit, or memory was refused.
     NotRead,
     /// There is no machine of the parts.
@@ -37,11 +35,7 @@ pub enum NoMachine {
 }
 
 /// The schema of a text.
-///
-/// # Errors
-///
-/// The text is too long or refused, or its schema is too large.
-pub fn schema_of<'b>(arena: &'b Bump, text: &str) -> Result<Grammar<'b>, NoMachine>
+pub(crate) fn schema_of<'b>(arena: &'b Bump, text: &str) -> Result<Grammar<'b>, NoMachine>
     ensures grammar { IfOk result (λ x. IsGrammar (see.grammar x)) }
     ensures start { IfOk result (λ x. IsStart (see.grammar x).start) }
 {
@@ -132,11 +126,7 @@ fn machine_of<'b>(
 }
 
 /// The machine of the texts of two schemas and of a stylesheet.
-///
-/// # Errors
-///
-/// A text is too long or refused, the machine passes a limit, or memory was refused.
-pub fn machine_of_texts<'b>(
+pub(crate) fn machine_of_texts<'b>(
     alloc: Global,
     arena: &'b Bump,
     input: &str,
@@ -152,11 +142,7 @@ pub fn machine_of_texts<'b>(
 }
 
 /// The text of a stylesheet with these rules.
-///
-/// # Errors
-///
-/// Memory was refused.
-pub fn sheet_text(alloc: Global, rules: &str) -> Result<String, NoMemory> {
+pub(crate) fn sheet_text(alloc: Global, rules: &str) -> Result<String, NoMemory> {
     let mut text = String::from_str(
         alloc,
         "<xsl:stylesheet version=\"1.0\" xmlns:xsl=\"http://www.w3.org/1999/XSL/Transform\">",

@@ -1,5 +1,0 @@
-use Rattle.tc_tests_engine.specs.Kept.{AreKept}
-use Rattle.tc_tests_engine.proofs.rows.assert_told.Given as goal
-
-abbrev pub invariant-loop-name : goal.invariant-loop-name
-invariant-loop-name g l = AreKept l.rows l.hedges.items l.trees.items
