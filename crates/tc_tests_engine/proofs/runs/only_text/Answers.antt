@@ -1,4 +1,4 @@
-use Rattle.std.proofs.Common.{List, sym, ap, subst, ◌∙◌}
+use Rattle.std.proofs.Common.{List, sym, subst, ◌∙◌}
 use Rattle.tc_model.specs.Symbols.{Mention}
 use Rattle.tc_rules.specs.Kept.{IsRulesOf}
 use Rattle.tc_rules.specs.declared.rules.Rules.{Rules}
