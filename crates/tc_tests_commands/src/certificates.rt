@@ -429,11 +429,6 @@ static FILES: [Case<'static>; 9] = [
     },
 ];
 
-#[test]
-fn files_are_asked_for_what_certificates_say(rt: HostRuntime) -> Result<(), Fail> {
-    assert_cases(&rt, rt.alloc(), &FILES)
-}
-
 /// Two megabytes whose rows, written whole, would take eight gigabytes: a row of a million zeros, and rows of trees of version 2,
 /// each but for one number like the one before.
 const UNFOLDING: Text<'static> = &[
@@ -484,7 +479,8 @@ static LARGE: [Case<'static>; 3] = [
 ];
 
 #[test]
-fn rows_are_limited_and_not_unfolded(rt: HostRuntime) -> Result<(), Fail> {
+fn files_are_asked_and_rows_are_limited_and_not_unfolded(rt: HostRuntime) -> Result<(), Fail> {
+    assert_cases(&rt, rt.alloc(), &FILES)?;
     assert_cases(&rt, rt.alloc(), &LARGE)
 }
 

@@ -397,11 +397,6 @@ static LIMITS: [Case<'static>; 5] = [
     },
 ];
 
-#[test]
-fn limits_are_told(rt: HostRuntime) -> Result<(), Fail> {
-    assert_cases(&rt, rt.alloc(), &LIMITS)
-}
-
 /// Results that are told to be too large, after the document that has them.
 static TOO_LARGE: [Case<'static>; 2] = [
     Case {
@@ -466,7 +461,8 @@ static TOO_LARGE: [Case<'static>; 2] = [
 ];
 
 #[test]
-fn large_results_are_not_shown(rt: HostRuntime) -> Result<(), Fail> {
+fn limits_are_told_and_large_results_are_not_shown(rt: HostRuntime) -> Result<(), Fail> {
+    assert_cases(&rt, rt.alloc(), &LIMITS)?;
     assert_cases(&rt, rt.alloc(), &TOO_LARGE)
 }
 

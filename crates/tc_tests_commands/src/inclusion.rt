@@ -524,17 +524,9 @@ fn assert_large(rt: &impl Abort, alloc: Global, all: &[Large<'_>]) -> Result<(),
 }
 
 #[test]
-fn documents_have_two_thousand_nodes_at_most(rt: HostRuntime) -> Result<(), Fail> {
-    assert_large(&rt, rt.alloc(), &NODES)
-}
-
-#[test]
-fn there_are_two_thousand_rows_at_most(rt: HostRuntime) -> Result<(), Fail> {
-    assert_large(&rt, rt.alloc(), &ROWS)
-}
-
-#[test]
-fn states_elements_and_symbols_are_limited(rt: HostRuntime) -> Result<(), Fail> {
+fn nodes_rows_states_elements_and_symbols_are_limited(rt: HostRuntime) -> Result<(), Fail> {
+    assert_large(&rt, rt.alloc(), &NODES)?;
+    assert_large(&rt, rt.alloc(), &ROWS)?;
     assert_large(&rt, rt.alloc(), &SCHEMAS)
 }
 

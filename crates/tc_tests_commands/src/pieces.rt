@@ -238,11 +238,6 @@ static TAGS: [Made<'static>; 9] = [
     ),
 ];
 
-#[test]
-fn tags_in_pieces_are_limited(rt: HostRuntime) -> Result<(), Fail> {
-    assert_made(&rt, rt.alloc(), &TAGS)
-}
-
 /// How deep elements nest, whole and in pieces.
 static DEEP: [Made<'static>; 4] = [
     (
@@ -272,7 +267,8 @@ static DEEP: [Made<'static>; 4] = [
 ];
 
 #[test]
-fn elements_in_pieces_nest_two_thousand_deep(rt: HostRuntime) -> Result<(), Fail> {
+fn tags_and_depth_in_pieces_are_limited(rt: HostRuntime) -> Result<(), Fail> {
+    assert_made(&rt, rt.alloc(), &TAGS)?;
     assert_made(&rt, rt.alloc(), &DEEP)
 }
 

@@ -380,11 +380,6 @@ static WORK: [Case<'static>; 2] = [
     },
 ];
 
-#[test]
-fn work_is_limited(rt: HostRuntime) -> Result<(), Fail> {
-    assert_cases(&rt, rt.alloc(), &WORK)
-}
-
 const OPENING: &str =
     "<xsl:template match='a'><x><x><x><xsl:apply-templates/></x></x></x></xsl:template>";
 
@@ -475,6 +470,7 @@ static OPEN: [Case<'static>; 5] = [
 ];
 
 #[test]
-fn open_bodies_and_elements_are_limited(rt: HostRuntime) -> Result<(), Fail> {
+fn work_and_open_bodies_and_elements_are_limited(rt: HostRuntime) -> Result<(), Fail> {
+    assert_cases(&rt, rt.alloc(), &WORK)?;
     assert_cases(&rt, rt.alloc(), &OPEN)
 }
