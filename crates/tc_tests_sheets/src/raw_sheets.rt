@@ -1,7 +1,10 @@
 //! Stylesheets, by hand.
+
 use crate::constructs::UNSUPPORTED;
 use bumpalo::Bump;
 use bumpalo::collections::{into_bump_slice, into_bump_str};
+use std::alloc::Global;
+use std::process::Abort;
 use std::test::Fail;
 use tc_base::{Place, Why};
 use tc_model::{Binding, Instr, Name, Pattern, Raw, RawAttr, RawElem, Sheet};
@@ -9,7 +12,8 @@ use tc_sheet::{SheetFault, read_sheet};
 
 const XSL: &str = "http://www.w3.org/1999/XSL/Transform";
 
-const SCOPE: &[Binding<'static>] = &[
+/// The prefixes that are in scope everywhere.
+const SCOPE: [Binding<'static>; 3] = [
     Binding {
         prefix: "xml",
         uri: "http://www.w3.org/XML/1998/namespace",
@@ -23,6 +27,9 @@ const SCOPE: &[Binding<'static>] = &[
         uri: "urn:default",
     },
 ];
+
+/// The same, for elements that are put together by functions.
+static IN_SCOPE: [Binding<'static>; 3] = SCOPE;
 
 /// An attribute without a namespace, at a place.
 macro_rules! plain {
@@ -52,40 +59,26 @@ macro_rules! of_xslt {
     };
 }
 
-/// An element at a place, with these attributes and children.
-macro_rules! element {
-    ($place:expr, $uri:expr, $local:expr, $attributes:expr, $kids:expr) => {
+/// An element of XSLT at a place, with these attributes and children.
+macro_rules! xsl {
+    ($place:expr, $local:expr, $attributes:expr, $kids:expr) => {
         Raw::Elem(RawElem {
             name: Name {
-                uri: $uri,
+                uri: XSL,
                 local: $local,
             },
             attrs: $attributes,
-            scope: SCOPE,
+            scope: &SCOPE,
             place: Place($place),
             kids: $kids,
         })
     };
 }
 
-/// An element of XSLT.
-macro_rules! xsl {
-    ($place:expr, $local:expr, $attributes:expr, $kids:expr) => {
-        element!($place, XSL, $local, $attributes, $kids)
-    };
-}
-
-/// A literal element without a namespace.
-macro_rules! literal {
-    ($place:expr, $local:expr, $attributes:expr, $kids:expr) => {
-        element!($place, "", $local, $attributes, $kids)
-    };
-}
-
 /// A stylesheet of version 1.0 at place 0.
 macro_rules! stylesheet {
     ($kids:expr) => {
-        xsl!(0, "stylesheet", VERSION, $kids)
+        xsl!(0, "stylesheet", &VERSION, $kids)
     };
 }
 
@@ -101,42 +94,88 @@ macro_rules! of_undefined {
     };
 }
 
-const VERSION: &[RawAttr<'static>] = &[plain!(1, "version", "1.0")];
+const VERSION: [RawAttr<'static>; 1] = [plain!(1, "version", "1.0")];
 
-const FOR_ROOT: &[RawAttr<'static>] = &[plain!(11, "match", "/")];
+/// The same, for stylesheets that are put together by functions.
+static OF_VERSION: [RawAttr<'static>; 1] = VERSION;
 
-/// What a stylesheet gives.
-fn read<'b>(arena: &'b Bump, raw: &Raw<'b>) -> Option<Result<Sheet<'b>, SheetFault>> {
+static FOR_ROOT: [RawAttr<'static>; 1] = [plain!(11, "match", "/")];
+
+/// A name of XSLT.
+fn xslt(local: &str) -> Name<'_> {
+    Name { uri: XSL, local }
+}
+
+/// A name without a namespace.
+fn bare(local: &str) -> Name<'_> {
+    Name { uri: "", local }
+}
+
+/// An element at a place, with these attributes and children.
+fn element<'b>(
+    place: u32,
+    name: Name<'b>,
+    attrs: &'b [RawAttr<'b>],
+    kids: &'b [Raw<'b>],
+) -> Raw<'b> {
+    Raw::Elem(RawElem {
+        name,
+        attrs,
+        scope: &IN_SCOPE,
+        place: Place(place),
+        kids,
+    })
+}
+
+/// The sheet of a raw tree, if it is one.
+fn sheet_of<'b>(arena: &'b Bump, raw: &Raw<'b>) -> Option<Sheet<'b>> {
     match raw {
-        Raw::Elem(_) => Some(read_sheet(arena, raw)),
+        Raw::Elem(_) => read_sheet(arena, raw).ok(),
         Raw::Text(_, _) => None,
     }
 }
 
 /// The fault of a stylesheet, if it has one.
 fn fault<'b>(arena: &'b Bump, raw: &Raw<'b>) -> Option<SheetFault> {
-    match read(arena, raw)? {
-        Ok(_) => None,
-        Err(fault) => Some(fault),
+    match raw {
+        Raw::Elem(_) => read_sheet(arena, raw).err(),
+        Raw::Text(_, _) => None,
     }
 }
 
+/// The fault of a root with these attributes and children.
+fn fault_of_root<'b>(
+    alloc: Global,
+    name: Name<'b>,
+    attributes: &'b [RawAttr<'b>],
+    kids: &'b [Raw<'b>],
+) -> Option<SheetFault> {
+    let arena = Bump::new(alloc);
+    let root = element(0, name, attributes, kids);
+    fault(&arena, &root)
+}
+
 /// The fault of a stylesheet that holds this.
-fn fault_at_top<'b>(arena: &'b Bump, kids: &'b [Raw<'b>]) -> Option<SheetFault> {
-    fault(arena, &stylesheet!(kids))
+fn fault_at_top<'b>(alloc: Global, kids: &'b [Raw<'b>]) -> Option<SheetFault> {
+    fault_of_root(alloc, xslt("stylesheet"), &OF_VERSION, kids)
 }
 
 /// The fault of a stylesheet with one template, for `/`, that holds this.
-fn fault_in_body<'b>(arena: &'b Bump, inner: &'b [Raw<'b>]) -> Option<SheetFault> {
-    let template = [xsl!(10, "template", FOR_ROOT, inner)];
-    fault_at_top(arena, &template)
+fn fault_in_body<'b>(alloc: Global, inner: &'b [Raw<'b>]) -> Option<SheetFault> {
+    let template = [element(10, xslt("template"), &FOR_ROOT, inner)];
+    fault_at_top(alloc, &template)
 }
 
-/// The sheet of a raw tree that is one.
-fn sheet_of<'b>(arena: &'b Bump, raw: &Raw<'b>) -> Result<Sheet<'b>, Fail> {
-    let read = read(arena, raw).ok_or("an element")?;
-    let sheet = read.ok().ok_or("a stylesheet")?;
-    Ok(sheet)
+/// The fault of an element in a template for `/`, with these attributes and children.
+fn fault_within<'b>(
+    alloc: Global,
+    place: u32,
+    name: Name<'b>,
+    attributes: &'b [RawAttr<'b>],
+    inner: &'b [Raw<'b>],
+) -> Option<SheetFault> {
+    let kids = [element(place, name, attributes, inner)];
+    fault_in_body(alloc, &kids)
 }
 
 /// The stylesheet that copies all.
@@ -182,12 +221,13 @@ fn copied(sheet: &Sheet<'_>) -> Option<(i64, [usize; 5], [u32; 4])> {
 }
 
 #[test]
-fn copies_all(rt: HostRuntime) -> Result<(), Fail> {
+fn copies_all(rt: HostRuntime) {
     let arena = Bump::new(rt.alloc());
-    let sheet = sheet_of(&arena, &COPYING)?;
+    let Some(sheet) = sheet_of(&arena, &COPYING) else {
+        panic!(rt; "a stylesheet");
+    };
     let wanted = Some((-5000, [0, 1, 1, 1, 1], [1, 0, 0, 0]));
-    assert_eq!(rt; copied(&sheet), wanted);
-    Ok(())
+    assert!(rt; copied(&sheet) == wanted);
 }
 
 /// A stylesheet of modes, a name and for-eaches: a named template with a for-each, and then a rule for two alternatives with two
@@ -281,91 +321,73 @@ fn is_for_root(sheet: &Sheet<'_>) -> bool {
     }
 }
 
-#[test]
-fn numbers_modes_names_and_for_eaches(rt: HostRuntime) -> Result<(), Fail> {
-    let arena = Bump::new(rt.alloc());
-    let sheet = sheet_of(&arena, &NUMBERED)?;
+/// Asserts what is numbered in that stylesheet.
+fn assert_numbered(rt: &impl Abort, sheet: &Sheet<'_>) {
     let wanted = Some(([1, 3], [3, 3, 1, 2], [12500, 12500, 0]));
-    assert_eq!(rt; numbers(&sheet), wanted);
-    assert_eq!(rt; numbers_of_body(&sheet), Some(([3, 1], [0, 1, 2, 0])));
-    assert_eq!(rt; number_of_named(&sheet), Some((1, 2)));
-    assert!(rt; is_for_root(&sheet));
-    Ok(())
+    assert!(rt; numbers(sheet) == wanted);
+    assert!(rt; numbers_of_body(sheet) == Some(([3, 1], [0, 1, 2, 0])));
+    assert!(rt; number_of_named(sheet) == Some((1, 2)));
+    assert!(rt; is_for_root(sheet));
 }
 
-/// The fault of this within an `xsl:apply-templates`.
-fn fault_in_apply<'b>(arena: &'b Bump, inner: &'b [Raw<'b>]) -> Option<SheetFault> {
-    let kids = [xsl!(15, "apply-templates", &[], inner)];
-    fault_in_body(arena, &kids)
+#[test]
+fn numbers_modes_names_and_for_eaches(rt: HostRuntime) {
+    let arena = Bump::new(rt.alloc());
+    match sheet_of(&arena, &NUMBERED) {
+        Some(sheet) => assert_numbered(&rt, &sheet),
+        None => panic!(rt; "a stylesheet"),
+    }
 }
 
-/// The faults of an element in a body, at the top, and within an instruction.
-fn faults_of<'b>(arena: &'b Bump, local: &'b str) -> [Option<SheetFault>; 3] {
-    let kids = [xsl!(20, local, &[], &[])];
+/// The faults of an element in a body, at the top, and within an `xsl:apply-templates`.
+fn faults_of(alloc: Global, local: &str) -> [Option<SheetFault>; 3] {
+    let kids = [element(20, xslt(local), &[], &[])];
     [
-        fault_in_body(arena, &kids),
-        fault_at_top(arena, &kids),
-        fault_in_apply(arena, &kids),
+        fault_in_body(alloc, &kids),
+        fault_at_top(alloc, &kids),
+        fault_within(alloc, 15, xslt("apply-templates"), &[], &kids),
     ]
 }
 
 #[test]
-fn unsupported_elements(rt: HostRuntime) -> Result<(), Fail> {
-    let arena = Bump::new(rt.alloc());
+fn unsupported_elements(rt: HostRuntime) {
     for (local, why) in &UNSUPPORTED {
         let wanted = Some(SheetFault::Unsupported(Place(20), *why));
-        assert_eq!(rt;
-            faults_of(&arena, local),
-            [wanted, wanted, wanted],
+        assert!(rt;
+            faults_of(rt.alloc(), local) == [wanted, wanted, wanted],
             "{local} in a body, at the top, within apply-templates"
         );
     }
-    Ok(())
 }
 
-const TEST: &[RawAttr<'static>] = &[plain!(16, "test", "a = b")];
+static TEST: [RawAttr<'static>; 1] = [plain!(16, "test", "a = b")];
 
-const METHOD: &[RawAttr<'static>] = &[plain!(16, "method", "a = b")];
-
-/// The fault of this within an `xsl:attribute`, which isn't read.
-fn fault_in_attribute<'b>(arena: &'b Bump, inner: &'b [Raw<'b>]) -> Option<SheetFault> {
-    let kids = [xsl!(15, "attribute", TEST, inner)];
-    fault_in_body(arena, &kids)
-}
+static METHOD: [RawAttr<'static>; 1] = [plain!(16, "method", "a = b")];
 
 /// The fault of this within an output.
-fn fault_in_output<'b>(arena: &'b Bump, inner: &'b [Raw<'b>]) -> Option<SheetFault> {
-    let kids = [xsl!(15, "output", METHOD, inner)];
-    fault_at_top(arena, &kids)
+fn fault_in_output<'b>(alloc: Global, inner: &'b [Raw<'b>]) -> Option<SheetFault> {
+    let kids = [element(15, xslt("output"), &METHOD, inner)];
+    fault_at_top(alloc, &kids)
 }
 
-/// The fault of a literal element.
-fn fault_of_literal<'b>(arena: &'b Bump, local: &'b str) -> Option<SheetFault> {
-    let kids = [literal!(20, local, &[], &[])];
-    fault_in_body(arena, &kids)
-}
-
-/// The faults of an element where it isn't looked at, within an attribute and an output, and of a literal one.
-fn faults_of_unseen<'b>(arena: &'b Bump, local: &'b str) -> [Option<SheetFault>; 3] {
-    let kids = [xsl!(20, local, &[], &[])];
+/// The faults of an element where it isn't looked at, within an attribute, which isn't read, and an output, and of a literal one.
+fn faults_of_unseen(alloc: Global, local: &str) -> [Option<SheetFault>; 3] {
+    let kids = [element(20, xslt(local), &[], &[])];
     [
-        fault_in_attribute(arena, &kids),
-        fault_in_output(arena, &kids),
-        fault_of_literal(arena, local),
+        fault_within(alloc, 15, xslt("attribute"), &TEST, &kids),
+        fault_in_output(alloc, &kids),
+        fault_within(alloc, 20, bare(local), &[], &[]),
     ]
 }
 
 #[test]
-fn elements_that_are_not_looked_at(rt: HostRuntime) -> Result<(), Fail> {
-    let arena = Bump::new(rt.alloc());
+fn elements_that_are_not_looked_at(rt: HostRuntime) {
     for (local, _) in &UNSUPPORTED {
-        assert_eq!(rt;
-            faults_of_unseen(&arena, local),
-            [None, None, None],
+        assert!(rt;
+            faults_of_unseen(rt.alloc(), local) == [None, None, None],
             "{local} within an attribute, within an output, a literal one"
         );
     }
-    Ok(())
 }
 
 /// The place of an attribute.
@@ -467,43 +489,27 @@ static INSTRUCTIONS: [Row<'static>; 23] = [
 ];
 
 /// The fault of an instruction with one attribute without a namespace.
-fn fault_of<'b>(
-    arena: &'b Bump,
-    local: &'b str,
-    name: &'b str,
-    value: &'b str,
-) -> Option<SheetFault> {
+fn fault_of(alloc: Global, local: &str, name: &str, value: &str) -> Option<SheetFault> {
     let attributes = [plain!(21, name, value)];
-    let inner = [xsl!(20, local, &attributes, &[])];
-    fault_in_body(arena, &inner)
-}
-
-/// The fault of an `xsl:value-of` with an attribute of XSLT.
-fn fault_of_xslt<'b>(arena: &'b Bump, name: &'b str) -> Option<SheetFault> {
-    let attributes = [of_xslt!(21, name, "1.0")];
-    let inner = [xsl!(20, "value-of", &attributes, &[])];
-    fault_in_body(arena, &inner)
+    fault_within(alloc, 20, xslt(local), &attributes, &[])
 }
 
 #[test]
-fn attributes_of_xslt_must_not_be_there(rt: HostRuntime) -> Result<(), Fail> {
-    let arena = Bump::new(rt.alloc());
-    let wanted = Some(SheetFault::Malformed(Place(20)));
-    assert_eq!(rt; fault_of_xslt(&arena, "version"), wanted);
-    Ok(())
-}
-
-#[test]
-fn attributes_of_instructions(rt: HostRuntime) -> Result<(), Fail> {
-    let arena = Bump::new(rt.alloc());
+fn attributes_of_instructions(rt: HostRuntime) {
     for (local, name, value, wanted) in &INSTRUCTIONS {
-        assert_eq!(rt;
-            fault_of(&arena, local, name, value),
-            *wanted,
+        assert!(rt;
+            fault_of(rt.alloc(), local, name, value) == *wanted,
             "{local} {name} {value}"
         );
     }
-    Ok(())
+}
+
+static VERSION_OF_XSLT: [RawAttr<'static>; 1] = [of_xslt!(21, "version", "1.0")];
+
+#[test]
+fn attributes_of_xslt_must_not_be_there(rt: HostRuntime) {
+    let found = fault_within(rt.alloc(), 20, xslt("value-of"), &VERSION_OF_XSLT, &[]);
+    assert!(rt; found == Some(SheetFault::Malformed(Place(20))));
 }
 
 /// An attribute of literal elements, and why they are refused.
@@ -527,19 +533,12 @@ static LITERALS: [(&str, &[RawAttr<'static>], Option<SheetFault>); 5] = [
     ),
 ];
 
-/// The fault of a literal element with these attributes.
-fn fault_of_attributes<'b>(arena: &'b Bump, attributes: &'b [RawAttr<'b>]) -> Option<SheetFault> {
-    let inner = [literal!(20, "a", attributes, &[])];
-    fault_in_body(arena, &inner)
-}
-
 #[test]
-fn attributes_of_literal_elements(rt: HostRuntime) -> Result<(), Fail> {
-    let arena = Bump::new(rt.alloc());
+fn attributes_of_literal_elements(rt: HostRuntime) {
     for (name, attributes, wanted) in &LITERALS {
-        assert_eq!(rt; fault_of_attributes(&arena, attributes), *wanted, "{name}");
+        let found = fault_within(rt.alloc(), 20, bare("a"), attributes, &[]);
+        assert!(rt; found == *wanted, "{name}");
     }
-    Ok(())
 }
 
 /// The fault of a root.
@@ -569,26 +568,12 @@ static ROOTS: [(&str, &[RawAttr<'static>], Option<SheetFault>); 5] = [
     ("variable", &[], AT_ROOT),
 ];
 
-/// The fault of a root of XSLT with these attributes, which holds nothing.
-fn fault_of_root<'b>(
-    arena: &'b Bump,
-    local: &'b str,
-    attributes: &'b [RawAttr<'b>],
-) -> Option<SheetFault> {
-    fault(arena, &xsl!(0, local, attributes, &[]))
-}
-
 #[test]
-fn roots(rt: HostRuntime) -> Result<(), Fail> {
-    let arena = Bump::new(rt.alloc());
+fn roots(rt: HostRuntime) {
     for (local, attributes, wanted) in &ROOTS {
-        assert_eq!(rt;
-            fault_of_root(&arena, local, attributes),
-            *wanted,
-            "{local}"
-        );
+        let found = fault_of_root(rt.alloc(), xslt(local), attributes, &[]);
+        assert!(rt; found == *wanted, "{local}");
     }
-    Ok(())
 }
 
 /// The attribute of a literal root, and the fault of it.
@@ -607,22 +592,12 @@ static LITERAL_ROOTS: [(&str, &[RawAttr<'static>], Option<SheetFault>); 4] = [
     ("xsl:other", &[of_xslt!(1, "other", "1.0")], AT_ROOT),
 ];
 
-/// The fault of a literal root with these attributes.
-fn fault_of_literal_root<'b>(arena: &'b Bump, attributes: &'b [RawAttr<'b>]) -> Option<SheetFault> {
-    fault(arena, &literal!(0, "html", attributes, &[]))
-}
-
 #[test]
-fn literal_roots(rt: HostRuntime) -> Result<(), Fail> {
-    let arena = Bump::new(rt.alloc());
+fn literal_roots(rt: HostRuntime) {
     for (name, attributes, wanted) in &LITERAL_ROOTS {
-        assert_eq!(rt;
-            fault_of_literal_root(&arena, attributes),
-            *wanted,
-            "{name}"
-        );
+        let found = fault_of_root(rt.alloc(), bare("html"), attributes, &[]);
+        assert!(rt; found == *wanted, "{name}");
     }
-    Ok(())
 }
 
 /// The attributes of a template, and whether its head is good.
@@ -651,18 +626,16 @@ static HEADS: [(&[RawAttr<'static>], bool); 8] = [
 ];
 
 /// The fault of a stylesheet with one template, of these attributes.
-fn fault_of_head<'b>(arena: &'b Bump, attributes: &'b [RawAttr<'b>]) -> Option<SheetFault> {
-    let template = [xsl!(10, "template", attributes, &[])];
-    fault_at_top(arena, &template)
+fn fault_of_head<'b>(alloc: Global, attributes: &'b [RawAttr<'b>]) -> Option<SheetFault> {
+    let template = [element(10, xslt("template"), attributes, &[])];
+    fault_at_top(alloc, &template)
 }
 
 #[test]
-fn heads_of_templates(rt: HostRuntime) -> Result<(), Fail> {
-    let arena = Bump::new(rt.alloc());
+fn heads_of_templates(rt: HostRuntime) {
     for (attributes, good) in &HEADS {
-        assert_eq!(rt; fault_of_head(&arena, attributes).is_none(), *good);
+        assert!(rt; fault_of_head(rt.alloc(), attributes).is_none() == *good);
     }
-    Ok(())
 }
 
 const CALLS_C: Raw<'static> = xsl!(
@@ -715,26 +688,22 @@ static TEMPLATES: [(&str, &[Raw<'static>], Option<SheetFault>); 4] = [
 ];
 
 #[test]
-fn names_and_calls_of_templates(rt: HostRuntime) -> Result<(), Fail> {
-    let arena = Bump::new(rt.alloc());
+fn names_and_calls_of_templates(rt: HostRuntime) {
     for (what, templates, wanted) in &TEMPLATES {
-        assert_eq!(rt; fault_at_top(&arena, templates), *wanted, "{what}");
+        assert!(rt; fault_at_top(rt.alloc(), templates) == *wanted, "{what}");
     }
-    Ok(())
 }
 
 /// One tree, by itself.
 fn only<'b>(arena: &'b Bump, raw: Raw<'b>) -> Result<&'b [Raw<'b>], Fail> {
-    let mut kids = Vec::new(arena);
-    kids.push(raw)?;
-    Ok(into_bump_slice(kids))
+    Ok(arena.try_alloc_slice_copy(&[raw])?)
 }
 
 /// This many elements within one another, all of this name.
 fn nested<'b>(arena: &'b Bump, depth: u32) -> Result<&'b [Raw<'b>], Fail> {
-    let mut inner = only(arena, literal!(20, "a", &[], &[]))?;
+    let mut inner = only(arena, element(20, bare("a"), &[], &[]))?;
     for _ in 1..depth {
-        inner = only(arena, literal!(20, "a", &[], inner))?;
+        inner = only(arena, element(20, bare("a"), &[], inner))?;
     }
     Ok(inner)
 }
@@ -743,7 +712,7 @@ fn nested<'b>(arena: &'b Bump, depth: u32) -> Result<&'b [Raw<'b>], Fail> {
 fn elements_nest_two_thousand_deep(rt: HostRuntime) -> Result<(), Fail> {
     let arena = Bump::new(rt.alloc());
     let inner = nested(&arena, 2000)?;
-    assert_eq!(rt; fault_in_body(&arena, inner), None);
+    assert!(rt; fault_in_body(rt.alloc(), inner).is_none());
     Ok(())
 }
 
@@ -760,25 +729,31 @@ fn name_of<'b>(arena: &'b Bump, number: u32) -> Result<&'b str, Fail> {
 
 /// An attribute `name`, by itself.
 fn name_attribute<'b>(arena: &'b Bump, name: &'b str) -> Result<&'b [RawAttr<'b>], Fail> {
-    let mut attributes = Vec::new(arena);
-    attributes.push(plain!(2, "name", name))?;
-    Ok(into_bump_slice(attributes))
+    Ok(arena.try_alloc_slice_copy(&[plain!(2, "name", name)])?)
 }
 
 /// A template of this name, which calls another one.
 fn calling<'b>(arena: &'b Bump, name: &'b str, callee: &'b str) -> Result<Raw<'b>, Fail> {
-    let call = xsl!(1, "call-template", name_attribute(arena, callee)?, &[]);
+    let call = element(
+        1,
+        xslt("call-template"),
+        name_attribute(arena, callee)?,
+        &[],
+    );
     let kids = only(arena, call)?;
     let attributes = name_attribute(arena, name)?;
-    Ok(xsl!(1, "template", attributes, kids))
+    Ok(element(1, xslt("template"), attributes, kids))
 }
 
 /// The first template of a chain.
-const FIRST: Raw<'static> = xsl!(1, "template", &[plain!(2, "name", "first")], &[]);
+static FIRST: Raw<'static> = xsl!(1, "template", &[plain!(2, "name", "first")], &[]);
 
-/// So many named templates, each of which calls the one before it.
-fn chain<'b>(arena: &'b Bump, count: u32) -> Result<Raw<'b>, Fail> {
-    let mut templates = Vec::new(arena);
+/// Writes so many named templates, each of which calls the one before it.
+fn put_chain<'b>(
+    templates: &mut Vec<Raw<'b>, &'b Bump>,
+    arena: &'b Bump,
+    count: u32,
+) -> Result<(), Fail> {
     templates.push(FIRST)?;
     let mut before = "first";
     for number in 0..count {
@@ -786,14 +761,24 @@ fn chain<'b>(arena: &'b Bump, count: u32) -> Result<Raw<'b>, Fail> {
         templates.push(calling(arena, name, before)?)?;
         before = name;
     }
-    Ok(stylesheet!(into_bump_slice(templates)))
+    Ok(())
+}
+
+/// The stylesheet of so many named templates, each of which calls the one before it.
+fn chain<'b>(arena: &'b Bump, count: u32) -> Result<Raw<'b>, Fail> {
+    let mut templates = Vec::new(arena);
+    put_chain(&mut templates, arena, count)?;
+    let templates = into_bump_slice(templates);
+    Ok(element(0, xslt("stylesheet"), &OF_VERSION, templates))
 }
 
 #[test]
 fn calls_lead_a_hundred_thousand_far(rt: HostRuntime) -> Result<(), Fail> {
     let arena = Bump::new(rt.alloc());
     let raw = chain(&arena, 100000)?;
-    let sheet = sheet_of(&arena, &raw)?;
-    assert_eq!(rt; sheet.named.len(), 100001);
+    match sheet_of(&arena, &raw) {
+        Some(sheet) => assert!(rt; sheet.named.len() == 100001),
+        None => panic!(rt; "a stylesheet"),
+    }
     Ok(())
 }
