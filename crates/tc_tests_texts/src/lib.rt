@@ -1,11 +1,17 @@
-//! The tests of what texts are read to, by public calls alone: characters, fronts of texts, documents, schemas, paths, what is
-//! printed, the normal form, and the stores and sinks that they are read from and written to.
+//! The tests of what texts are read to, by public calls alone: characters, fronts of texts, documents, schemas, declarations of
+//! elements, stylesheets, paths, what is printed, the normal form, and the stores and sinks that they are read from and written to.
 #![tactic(auto)]
 
 #[cfg(test)]
 mod characters;
 #[cfg(test)]
 mod compact_syntax;
+#[cfg(test)]
+mod constructs;
+#[cfg(test)]
+mod dtd_schemas;
+#[cfg(test)]
+mod dtd_texts;
 #[cfg(test)]
 mod fronts;
 #[cfg(test)]
@@ -17,7 +23,11 @@ mod paths;
 #[cfg(test)]
 mod printed;
 #[cfg(test)]
+mod raw_sheets;
+#[cfg(test)]
 mod repeated;
+#[cfg(test)]
+mod sheet_texts;
 #[cfg(test)]
 mod simplified;
 #[cfg(test)]

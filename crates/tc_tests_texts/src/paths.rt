@@ -115,14 +115,15 @@ fn put_alternatives(out: &mut String, alternatives: &[Alt<'_>]) -> Result<(), Fa
     Ok(())
 }
 
-/// What stands for a fault in a row.
-fn word_of(fault: PathFault) -> &'static str {
-    match fault {
+/// Writes what stands for a fault in a row.
+fn put_fault(out: &mut String, fault: PathFault) -> Result<(), Fail> {
+    let word = match fault {
         PathFault::Malformed => "malformed",
         PathFault::Unsupported(why) => why.word(),
         PathFault::TooDeep => "too-deep",
         PathFault::NoMemory => "no-memory",
-    }
+    };
+    put_texts(out, &[word])
 }
 
 /// What a text is read as.
@@ -144,34 +145,47 @@ fn name_of(form: Form) -> &'static str {
     }
 }
 
-/// What a text is read to.
-#[derive(Clone, Copy)]
-enum Meaning<'b> {
-    Path(Path<'b>),
-    Value(Instr<'b>),
-    Test(Test<'b>),
-    Pattern(&'b [Alt<'b>]),
+/// Writes what a select is read to, or what stands for its fault.
+fn put_select(out: &mut String, arena: &Bump, text: &str) -> Result<(), Fail> {
+    match read_select(arena, text, &SCOPE) {
+        Ok(path) => put_path(out, &path),
+        Err(fault) => put_fault(out, fault),
+    }
 }
 
-/// Reads a text of a form.
-fn read<'b>(arena: &'b Bump, form: Form, text: &str) -> Result<Meaning<'b>, PathFault> {
-    Ok(match form {
-        Form::Select => Meaning::Path(read_select(arena, text, &SCOPE)?),
-        Form::Value => Meaning::Value(read_value(arena, text, &SCOPE)?),
-        Form::Test => Meaning::Test(read_test(arena, text, &SCOPE)?),
-        Form::Pattern => Meaning::Pattern(read_pattern(arena, text, &SCOPE)?),
-    })
+/// The same of the select of an `xsl:value-of`.
+fn put_value(out: &mut String, arena: &Bump, text: &str) -> Result<(), Fail> {
+    match read_value(arena, text, &SCOPE) {
+        Ok(Instr::ValueOf(path)) => put_path(out, &path),
+        Ok(Instr::ValueOfSelf) => put_texts(out, &["."]),
+        Ok(_) => put_texts(out, &["?"]),
+        Err(fault) => put_fault(out, fault),
+    }
 }
 
-/// What a text is read to, or the word of its fault.
-fn put_read(out: &mut String, read: &Result<Meaning<'_>, PathFault>) -> Result<(), Fail> {
-    match read {
-        Ok(Meaning::Path(path) | Meaning::Value(Instr::ValueOf(path))) => put_path(out, path),
-        Ok(Meaning::Value(Instr::ValueOfSelf)) => put_texts(out, &["."]),
-        Ok(Meaning::Value(_)) => put_texts(out, &["?"]),
-        Ok(Meaning::Test(test)) => put_test(out, test),
-        Ok(Meaning::Pattern(alternatives)) => put_alternatives(out, alternatives),
-        Err(fault) => put_texts(out, &[word_of(*fault)]),
+/// The same of a test.
+fn put_condition(out: &mut String, arena: &Bump, text: &str) -> Result<(), Fail> {
+    match read_test(arena, text, &SCOPE) {
+        Ok(test) => put_test(out, &test),
+        Err(fault) => put_fault(out, fault),
+    }
+}
+
+/// The same of a pattern.
+fn put_pattern(out: &mut String, arena: &Bump, text: &str) -> Result<(), Fail> {
+    match read_pattern(arena, text, &SCOPE) {
+        Ok(alternatives) => put_alternatives(out, alternatives),
+        Err(fault) => put_fault(out, fault),
+    }
+}
+
+/// The same of a text of a form.
+fn put_read(out: &mut String, arena: &Bump, form: Form, text: &str) -> Result<(), Fail> {
+    match form {
+        Form::Select => put_select(out, arena, text),
+        Form::Value => put_value(out, arena, text),
+        Form::Test => put_condition(out, arena, text),
+        Form::Pattern => put_pattern(out, arena, text),
     }
 }
 
@@ -185,7 +199,7 @@ fn assert_read(
 ) -> Result<(), Fail> {
     let arena = Bump::new(alloc);
     let mut out = String::new(alloc);
-    put_read(&mut out, &read(&arena, form, text))?;
+    put_read(&mut out, &arena, form, text)?;
     assert!(rt; out.as_str() == expected, "{} {text}", name_of(form));
     Ok(())
 }

@@ -12,15 +12,21 @@ pub(crate) type Parts = [&'static str; 5];
 /// The text of some parts, the second and the fourth so many times.
 pub(crate) fn nested(alloc: Global, parts: &Parts, times: usize) -> Result<String, Fail> {
     let [first, opening, middle, closing, last] = *parts;
-    let mut text = String::new(alloc);
-    for (part, count) in [
+    let parts = [
         (first, 1),
         (opening, times),
         (middle, 1),
         (closing, times),
         (last, 1),
-    ] {
-        for _ in 0..count {
+    ];
+    joined(alloc, &parts)
+}
+
+/// The text of some parts, each so many times.
+pub(crate) fn joined(alloc: Global, parts: &[(&str, usize)]) -> Result<String, Fail> {
+    let mut text = String::new(alloc);
+    for (part, times) in parts {
+        for _ in 0..*times {
             text.push_str(part)?;
         }
     }

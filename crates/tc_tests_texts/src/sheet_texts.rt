@@ -1,5 +1,6 @@
 //! Texts of stylesheets, by hand.
 
+use crate::repeated::joined;
 use bumpalo::Bump;
 use std::alloc::Global;
 use std::process::Abort;
@@ -169,17 +170,6 @@ static NESTED: [Row; 4] = [
         Err(Refused(Reason::TooDeep, Place(124))),
     ),
 ];
-
-/// The text of some parts.
-fn joined(alloc: Global, parts: Parts) -> Result<String, Fail> {
-    let mut text = String::new(alloc);
-    for (part, times) in parts {
-        for _ in 0..*times {
-            text.push_str(part)?;
-        }
-    }
-    Ok(text)
-}
 
 /// How many rules a text's stylesheet has, or why there is none.
 fn rules(alloc: Global, text: &str) -> Result<usize, TextFault> {

@@ -1,5 +1,6 @@
 //! Texts of declarations, by hand.
 
+use crate::repeated::{Parts, nested};
 use bumpalo::Bump;
 use std::alloc::Global;
 use std::process::Abort;
@@ -229,22 +230,8 @@ fn texts_are_read_or_have_their_faults(rt: HostRuntime) {
     assert_faults(&rt, rt.alloc(), &DECLARED_TWICE);
 }
 
-/// A name within so many parentheses.
-fn nested(alloc: Global, depth: usize) -> Result<String, Fail> {
-    let mut text = String::new(alloc);
-    for (part, count) in [
-        ("<!ELEMENT a ", 1),
-        ("(", depth),
-        ("b", 1),
-        (")", depth),
-        (">", 1),
-    ] {
-        for _ in 0..count {
-            text.push_str(part)?;
-        }
-    }
-    Ok(text)
-}
+/// A name within parentheses.
+const PARENTHESES: Parts = ["<!ELEMENT a ", "(", "b", ")", ">"];
 
 /// How deep parentheses nest, and why the text is refused, if it is.
 static NESTED: [(usize, Option<DtdFault>); 2] = [(2000, None), (2001, Some(TooDeep(Place(2012))))];
@@ -252,7 +239,7 @@ static NESTED: [(usize, Option<DtdFault>); 2] = [(2000, None), (2001, Some(TooDe
 #[test]
 fn parentheses_nest_2000_deep(rt: HostRuntime) -> Result<(), Fail> {
     for (depth, wanted) in &NESTED {
-        let text = nested(rt.alloc(), *depth)?;
+        let text = nested(rt.alloc(), &PARENTHESES, *depth)?;
         assert!(rt; fault(rt.alloc(), text.as_bytes()) == *wanted, "{depth}");
     }
     Ok(())
