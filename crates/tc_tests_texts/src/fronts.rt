@@ -1,11 +1,22 @@
 use tc_scan::{after_mark, after_some_white, plain_len, plain_len_within, qname, up_to};
 
+/// Texts, and what stands behind a mark in front of each, if it begins with that.
+static MARKED: [(&str, &str, Option<&str>); 2] = [
+    ("<!--a-->", "<!--", Some("a-->")),
+    ("<!-a-->", "<!--", None),
+];
+
+/// The same of white space.
+static WHITE: [(&str, Option<&str>); 2] = [(" \t\r\nb", Some("b")), ("b", None)];
+
 #[test]
 fn the_front_of_a_text_is_found(rt: HostRuntime) {
-    assert!(rt; after_mark("<!--a-->", "<!--") == Some("a-->"));
-    assert!(rt; after_mark("<!-a-->", "<!--").is_none());
-    assert!(rt; after_some_white(" \t\r\nb") == Some("b"));
-    assert!(rt; after_some_white("b").is_none());
+    for (text, mark, after) in &MARKED {
+        assert!(rt; after_mark(text, mark) == *after, "{text}");
+    }
+    for (text, after) in &WHITE {
+        assert!(rt; after_some_white(text) == *after, "{text}");
+    }
 }
 
 #[test]

@@ -1,11 +1,11 @@
 //! Texts of trees, by hand, and what a fault leaves of them.
 
 use crate::repeated::{nested, nested_tree};
+use crate::stores::sink_of;
 use bumpalo::Bump;
 use std::alloc::Global;
 use std::process::Abort;
 use std::test::Fail;
-use tc_io::MemSink;
 use tc_model::{Name, Node};
 use tc_print::print;
 
@@ -83,15 +83,6 @@ static PRINTED: [(Node<'static>, &str); 6] = [
         "<a xmlns=\"&lt;>&amp;&#10;&#13;&quot;&#9;'\u{e9}\"/>",
     ),
 ];
-
-/// A sink of so much room, whose write of a number fails if one is given.
-fn sink_of(alloc: Global, room: usize, failing: Option<u64>) -> Result<MemSink, Fail> {
-    let mut sink = MemSink::new(alloc, room)?;
-    if let Some(number) = failing {
-        sink.fail_at(number)?;
-    }
-    Ok(sink)
-}
 
 /// Asserts what is printed of trees into such a sink: their whole text, or the front of it that a fault leaves.
 fn assert_printed(

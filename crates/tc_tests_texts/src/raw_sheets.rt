@@ -7,7 +7,7 @@ use std::alloc::Global;
 use std::process::Abort;
 use std::test::Fail;
 use tc_base::{Place, Why};
-use tc_model::{Binding, Instr, Name, Pattern, Raw, RawAttr, RawElem, Sheet};
+use tc_model::{Binding, Instr, Name, Pattern, Raw, RawAttr, RawElem, Rule, Sheet};
 use tc_sheet::{SheetFault, read_sheet};
 
 const XSL: &str = "http://www.w3.org/1999/XSL/Transform";
@@ -202,32 +202,44 @@ static COPYING: Raw<'static> = stylesheet!(&[
     ),
 ]);
 
-/// Of a stylesheet whose first rule copies and applies: the priority; how many named bodies, rules, instructions of the rule and
-/// of the copy, and alternatives there are; how many modes and for-eaches, and the modes of the rule and of the apply.
-fn copied(sheet: &Sheet<'_>) -> Option<(i64, [usize; 5], [u32; 4])> {
-    let rule = sheet.rules.first()?;
-    let Some(Instr::Copy(inner)) = rule.body.first() else {
-        return None;
-    };
-    let Some(Instr::Apply(path, mode)) = inner.first() else {
-        return None;
-    };
-    let (named, rules, body) = (sheet.named.len(), sheet.rules.len(), rule.body.len());
-    Some((
-        rule.priority,
-        [named, rules, body, inner.len(), path.alts.len()],
-        [sheet.modes, sheet.eaches, rule.mode, *mode],
-    ))
+/// Whether a body applies templates of the first mode to the nodes of one path, and no more.
+fn is_apply(body: &[Instr<'_>]) -> bool {
+    match body.first() {
+        Some(Instr::Apply(path, mode)) => body.len() == 1 && path.alts.len() == 1 && *mode == 0,
+        _ => false,
+    }
+}
+
+/// Whether a body copies, and does no more than that within.
+fn is_copy(body: &[Instr<'_>]) -> bool {
+    match body.first() {
+        Some(Instr::Copy(inner)) => body.len() == 1 && is_apply(inner),
+        _ => false,
+    }
+}
+
+/// Whether that stylesheet is read as it should be.
+fn is_copying(sheet: &Sheet<'_>) -> bool {
+    match sheet.rules {
+        [rule] => {
+            sheet.named.is_empty()
+                && sheet.modes == 1
+                && sheet.eaches == 0
+                && rule.priority == -5000
+                && rule.mode == 0
+                && is_copy(rule.body)
+        }
+        _ => false,
+    }
 }
 
 #[test]
 fn copies_all(rt: HostRuntime) {
     let arena = Bump::new(rt.alloc());
-    let Some(sheet) = sheet_of(&arena, &COPYING) else {
-        panic!(rt; "a stylesheet");
-    };
-    let wanted = Some((-5000, [0, 1, 1, 1, 1], [1, 0, 0, 0]));
-    assert!(rt; copied(&sheet) == wanted);
+    match sheet_of(&arena, &COPYING) {
+        Some(sheet) => assert!(rt; is_copying(&sheet)),
+        None => panic!(rt; "a stylesheet"),
+    }
 }
 
 /// A stylesheet of modes, a name and for-eaches: a named template with a for-each, and then a rule for two alternatives with two
@@ -273,68 +285,68 @@ static NUMBERED: Raw<'static> = stylesheet!(&[
     ),
 ]);
 
-/// The numbers of named bodies and of rules; of modes, of for-eaches, and the modes of the first rule and the third; the
-/// priorities of three rules.
-fn numbers(sheet: &Sheet<'_>) -> Option<([usize; 2], [u32; 4], [i64; 3])> {
-    let (first, second, third) = (
-        sheet.rules.first()?,
-        sheet.rules.get(1)?,
-        sheet.rules.get(2)?,
-    );
-    Some((
-        [sheet.named.len(), sheet.rules.len()],
-        [sheet.modes, sheet.eaches, first.mode, third.mode],
-        [first.priority, second.priority, third.priority],
-    ))
+/// Whether three rules have their modes and priorities, and the second one is for the root.
+fn are_heads_numbered(rules: &[Rule<'_>]) -> bool {
+    match rules {
+        [first, second, third] => {
+            first.mode == 1
+                && third.mode == 2
+                && first.priority == 12500
+                && second.priority == 12500
+                && third.priority == 0
+                && matches!(second.pattern, Pattern::Root)
+        }
+        _ => false,
+    }
 }
 
-/// Of the first rule's body: how many instructions it has and its for-each has; the numbers of its for-each, of the one within it,
-/// of the mode of its apply, and of what it calls.
-fn numbers_of_body(sheet: &Sheet<'_>) -> Option<([usize; 2], [u32; 4])> {
-    let body = sheet.rules.first()?.body;
-    let Some(Instr::ForEach(outer, _, inside)) = body.first() else {
-        return None;
-    };
-    let Some(Instr::ForEach(inner, _, _)) = inside.first() else {
-        return None;
-    };
-    let (Some(Instr::Apply(_, mode)), Some(Instr::Call(callee))) = (body.get(1), body.get(2)) else {
-        return None;
-    };
-    Some(([body.len(), inside.len()], [*outer, *inner, *mode, *callee]))
-}
-
-/// How many instructions the first named body has, and the number of its for-each.
-fn number_of_named(sheet: &Sheet<'_>) -> Option<(usize, u32)> {
-    let named = sheet.named.first()?;
-    match named.first() {
-        Some(Instr::ForEach(number, _, _)) => Some((named.len(), *number)),
+/// How many instructions a body has, and the number of its for-each.
+fn number_of_each(body: &[Instr<'_>]) -> Option<(usize, u32)> {
+    match body.first() {
+        Some(Instr::ForEach(number, _, _)) => Some((body.len(), *number)),
         _ => None,
     }
 }
 
-/// Whether the second rule is for the root.
-fn is_for_root(sheet: &Sheet<'_>) -> bool {
-    match sheet.rules.get(1) {
-        Some(rule) => matches!(rule.pattern, Pattern::Root),
-        None => false,
+/// Whether the first rule's body has the numbers of its for-each, of the one within it, of the mode of its apply, and of what it
+/// calls.
+fn is_body_numbered(body: &[Instr<'_>]) -> bool {
+    let Some(Instr::ForEach(outer, _, inside)) = body.first() else {
+        return false;
+    };
+    let (Some(Instr::Apply(_, mode)), Some(Instr::Call(callee))) = (body.get(1), body.get(2)) else {
+        return false;
+    };
+    body.len() == 3
+        && *outer == 0
+        && *mode == 2
+        && *callee == 0
+        && number_of_each(inside) == Some((1, 1))
+}
+
+/// Whether the one named body has the number of its for-each, and the first rule its own.
+fn are_bodies_numbered(sheet: &Sheet<'_>) -> bool {
+    match (sheet.named, sheet.rules) {
+        ([named], [first, ..]) => {
+            number_of_each(named) == Some((1, 2)) && is_body_numbered(first.body)
+        }
+        _ => false,
     }
 }
 
-/// Asserts what is numbered in that stylesheet.
-fn assert_numbered(rt: &impl Abort, sheet: &Sheet<'_>) {
-    let wanted = Some(([1, 3], [3, 3, 1, 2], [12500, 12500, 0]));
-    assert!(rt; numbers(sheet) == wanted);
-    assert!(rt; numbers_of_body(sheet) == Some(([3, 1], [0, 1, 2, 0])));
-    assert!(rt; number_of_named(sheet) == Some((1, 2)));
-    assert!(rt; is_for_root(sheet));
+/// Whether that stylesheet is read as it should be.
+fn is_numbered(sheet: &Sheet<'_>) -> bool {
+    sheet.modes == 3
+        && sheet.eaches == 3
+        && are_heads_numbered(sheet.rules)
+        && are_bodies_numbered(sheet)
 }
 
 #[test]
 fn numbers_modes_names_and_for_eaches(rt: HostRuntime) {
     let arena = Bump::new(rt.alloc());
     match sheet_of(&arena, &NUMBERED) {
-        Some(sheet) => assert_numbered(&rt, &sheet),
+        Some(sheet) => assert!(rt; is_numbered(&sheet)),
         None => panic!(rt; "a stylesheet"),
     }
 }
@@ -488,6 +500,16 @@ static INSTRUCTIONS: [Row<'static>; 23] = [
     ),
 ];
 
+/// Asserts the fault of a row, of which such words tell.
+fn assert_fault(
+    rt: &impl Abort,
+    row: &[&str],
+    found: Option<SheetFault>,
+    wanted: Option<SheetFault>,
+) {
+    assert!(rt; found == wanted, "{row:?}");
+}
+
 /// The fault of an instruction with one attribute without a namespace.
 fn fault_of(alloc: Global, local: &str, name: &str, value: &str) -> Option<SheetFault> {
     let attributes = [plain!(21, name, value)];
@@ -497,10 +519,8 @@ fn fault_of(alloc: Global, local: &str, name: &str, value: &str) -> Option<Sheet
 #[test]
 fn attributes_of_instructions(rt: HostRuntime) {
     for (local, name, value, wanted) in &INSTRUCTIONS {
-        assert!(rt;
-            fault_of(rt.alloc(), local, name, value) == *wanted,
-            "{local} {name} {value}"
-        );
+        let found = fault_of(rt.alloc(), local, name, value);
+        assert_fault(&rt, &[*local, *name, *value], found, *wanted);
     }
 }
 
@@ -537,7 +557,7 @@ static LITERALS: [(&str, &[RawAttr<'static>], Option<SheetFault>); 5] = [
 fn attributes_of_literal_elements(rt: HostRuntime) {
     for (name, attributes, wanted) in &LITERALS {
         let found = fault_within(rt.alloc(), 20, bare("a"), attributes, &[]);
-        assert!(rt; found == *wanted, "{name}");
+        assert_fault(&rt, &[*name], found, *wanted);
     }
 }
 
@@ -572,7 +592,7 @@ static ROOTS: [(&str, &[RawAttr<'static>], Option<SheetFault>); 5] = [
 fn roots(rt: HostRuntime) {
     for (local, attributes, wanted) in &ROOTS {
         let found = fault_of_root(rt.alloc(), xslt(local), attributes, &[]);
-        assert!(rt; found == *wanted, "{local}");
+        assert_fault(&rt, &[*local], found, *wanted);
     }
 }
 
@@ -596,7 +616,7 @@ static LITERAL_ROOTS: [(&str, &[RawAttr<'static>], Option<SheetFault>); 4] = [
 fn literal_roots(rt: HostRuntime) {
     for (name, attributes, wanted) in &LITERAL_ROOTS {
         let found = fault_of_root(rt.alloc(), bare("html"), attributes, &[]);
-        assert!(rt; found == *wanted, "{name}");
+        assert_fault(&rt, &[*name], found, *wanted);
     }
 }
 
@@ -690,20 +710,22 @@ static TEMPLATES: [(&str, &[Raw<'static>], Option<SheetFault>); 4] = [
 #[test]
 fn names_and_calls_of_templates(rt: HostRuntime) {
     for (what, templates, wanted) in &TEMPLATES {
-        assert!(rt; fault_at_top(rt.alloc(), templates) == *wanted, "{what}");
+        let found = fault_at_top(rt.alloc(), templates);
+        assert_fault(&rt, &[*what], found, *wanted);
     }
 }
 
-/// One tree, by itself.
-fn only<'b>(arena: &'b Bump, raw: Raw<'b>) -> Result<&'b [Raw<'b>], Fail> {
-    Ok(arena.try_alloc_slice_copy(&[raw])?)
+/// An element, by itself, around this.
+fn around<'b>(arena: &'b Bump, inner: &'b [Raw<'b>]) -> Result<&'b [Raw<'b>], Fail> {
+    let tree = element(20, bare("a"), &[], inner);
+    Ok(arena.try_alloc_slice_copy(&[tree])?)
 }
 
-/// This many elements within one another, all of this name.
+/// This many elements within one another.
 fn nested<'b>(arena: &'b Bump, depth: u32) -> Result<&'b [Raw<'b>], Fail> {
-    let mut inner = only(arena, element(20, bare("a"), &[], &[]))?;
+    let mut inner = around(arena, &[])?;
     for _ in 1..depth {
-        inner = only(arena, element(20, bare("a"), &[], inner))?;
+        inner = around(arena, inner)?;
     }
     Ok(inner)
 }
@@ -727,26 +749,26 @@ fn name_of<'b>(arena: &'b Bump, number: u32) -> Result<&'b str, Fail> {
     Ok(into_bump_str(name))
 }
 
-/// An attribute `name`, by itself.
-fn name_attribute<'b>(arena: &'b Bump, name: &'b str) -> Result<&'b [RawAttr<'b>], Fail> {
-    Ok(arena.try_alloc_slice_copy(&[plain!(2, "name", name)])?)
+/// An element of XSLT, by itself, with an attribute `name` and these children.
+fn named<'b>(
+    arena: &'b Bump,
+    local: &'b str,
+    name: &'b str,
+    kids: &'b [Raw<'b>],
+) -> Result<&'b [Raw<'b>], Fail> {
+    let attributes = arena.try_alloc_slice_copy(&[plain!(2, "name", name)])?;
+    let tree = element(1, xslt(local), attributes, kids);
+    Ok(arena.try_alloc_slice_copy(&[tree])?)
 }
 
-/// A template of this name, which calls another one.
-fn calling<'b>(arena: &'b Bump, name: &'b str, callee: &'b str) -> Result<Raw<'b>, Fail> {
-    let call = element(
-        1,
-        xslt("call-template"),
-        name_attribute(arena, callee)?,
-        &[],
-    );
-    let kids = only(arena, call)?;
-    let attributes = name_attribute(arena, name)?;
-    Ok(element(1, xslt("template"), attributes, kids))
+/// A template of this name, by itself, which calls another one.
+fn calling<'b>(arena: &'b Bump, name: &'b str, callee: &'b str) -> Result<&'b [Raw<'b>], Fail> {
+    let call = named(arena, "call-template", callee, &[])?;
+    named(arena, "template", name, call)
 }
 
 /// The first template of a chain.
-static FIRST: Raw<'static> = xsl!(1, "template", &[plain!(2, "name", "first")], &[]);
+static FIRST: [Raw<'static>; 1] = [xsl!(1, "template", &[plain!(2, "name", "first")], &[])];
 
 /// Writes so many named templates, each of which calls the one before it.
 fn put_chain<'b>(
@@ -754,31 +776,34 @@ fn put_chain<'b>(
     arena: &'b Bump,
     count: u32,
 ) -> Result<(), Fail> {
-    templates.push(FIRST)?;
+    templates.extend_from_slice(&FIRST)?;
     let mut before = "first";
     for number in 0..count {
         let name = name_of(arena, number)?;
-        templates.push(calling(arena, name, before)?)?;
+        templates.extend_from_slice(calling(arena, name, before)?)?;
         before = name;
     }
     Ok(())
 }
 
-/// The stylesheet of so many named templates, each of which calls the one before it.
-fn chain<'b>(arena: &'b Bump, count: u32) -> Result<Raw<'b>, Fail> {
+/// So many named templates, each of which calls the one before it.
+fn chain<'b>(arena: &'b Bump, count: u32) -> Result<&'b [Raw<'b>], Fail> {
     let mut templates = Vec::new(arena);
     put_chain(&mut templates, arena, count)?;
-    let templates = into_bump_slice(templates);
-    Ok(element(0, xslt("stylesheet"), &OF_VERSION, templates))
+    Ok(into_bump_slice(templates))
+}
+
+/// How many named bodies the stylesheet of these templates has.
+fn count_of_named<'b>(arena: &'b Bump, templates: &'b [Raw<'b>]) -> Option<usize> {
+    let root = element(0, xslt("stylesheet"), &OF_VERSION, templates);
+    let sheet = sheet_of(arena, &root)?;
+    Some(sheet.named.len())
 }
 
 #[test]
 fn calls_lead_a_hundred_thousand_far(rt: HostRuntime) -> Result<(), Fail> {
     let arena = Bump::new(rt.alloc());
-    let raw = chain(&arena, 100000)?;
-    match sheet_of(&arena, &raw) {
-        Some(sheet) => assert!(rt; sheet.named.len() == 100001),
-        None => panic!(rt; "a stylesheet"),
-    }
+    let templates = chain(&arena, 100000)?;
+    assert!(rt; count_of_named(&arena, templates) == Some(100001));
     Ok(())
 }

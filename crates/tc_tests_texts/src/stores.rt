@@ -75,6 +75,15 @@ fn a_store_holds_what_was_put_and_fails_where_it_is_told_to(rt: HostRuntime) -> 
     Ok(())
 }
 
+/// A sink of so much room, whose write of a number fails if one is given.
+pub(crate) fn sink_of(alloc: Global, room: usize, failing: Option<u64>) -> Result<MemSink, Fail> {
+    let mut sink = MemSink::new(alloc, room)?;
+    if let Some(number) = failing {
+        sink.fail_at(number)?;
+    }
+    Ok(sink)
+}
+
 /// What is written into a sink for seven bytes whose second write fails, whether it is taken, and what the sink has then.
 static WRITES: [(&[u8], bool, &[u8]); 4] = [
     (b"abc", true, b"abc"),
@@ -83,13 +92,16 @@ static WRITES: [(&[u8], bool, &[u8]); 4] = [
     (b"", true, b"abcdefg"),
 ];
 
+/// Whether bytes are taken by a sink or not, which has these then.
+fn is_written(sink: &mut MemSink, bytes: &[u8], is_taken: bool, taken: &[u8]) -> bool {
+    sink.write(bytes).is_ok() == is_taken && sink.bytes() == taken
+}
+
 #[test]
 fn a_sink_takes_what_fits(rt: HostRuntime) -> Result<(), Fail> {
-    let mut sink = MemSink::new(rt.alloc(), 7)?;
-    sink.fail_at(2)?;
+    let mut sink = sink_of(rt.alloc(), 7, Some(2))?;
     for (bytes, is_taken, taken) in &WRITES {
-        assert!(rt; sink.write(bytes).is_ok() == *is_taken, "{bytes:?}");
-        assert!(rt; sink.bytes() == *taken, "{bytes:?}");
+        assert!(rt; is_written(&mut sink, bytes, *is_taken, taken), "{bytes:?}");
     }
     Ok(())
 }
