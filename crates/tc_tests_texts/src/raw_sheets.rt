@@ -1,6 +1,6 @@
 //! Stylesheets, by hand.
 
-use crate::constructs::UNSUPPORTED;
+use crate::constructs::{HERE, INSTRUCTIONS, UNSUPPORTED};
 use bumpalo::Bump;
 use bumpalo::collections::{into_bump_slice, into_bump_str};
 use std::alloc::Global;
@@ -401,104 +401,6 @@ fn elements_that_are_not_looked_at(rt: HostRuntime) {
         );
     }
 }
-
-/// The place of an attribute.
-const HERE: Place = Place(21);
-
-const MALFORMED: Option<SheetFault> = Some(SheetFault::Malformed(HERE));
-
-/// An instruction, its one attribute with its value, and the fault of it.
-type Row<'r> = (&'r str, &'r str, &'r str, Option<SheetFault>);
-
-/// Instructions with one attribute.
-static INSTRUCTIONS: [Row<'static>; 23] = [
-    // attributes that must not be there
-    ("value-of", "version", "1.0", MALFORMED),
-    (
-        "text",
-        "disable-output-escaping",
-        "yes",
-        Some(SheetFault::Unsupported(HERE, Why::DisableOutputEscaping)),
-    ),
-    (
-        "copy",
-        "use-attribute-sets",
-        "a",
-        Some(SheetFault::Unsupported(HERE, Why::UseAttributeSets)),
-    ),
-    ("copy", "select", "a", MALFORMED),
-    (
-        "element",
-        "namespace",
-        "a",
-        Some(SheetFault::Unsupported(HERE, Why::ComputedName)),
-    ),
-    // attributes that are names
-    ("element", "name", "a", None),
-    (
-        "element",
-        "name",
-        "a{b}",
-        Some(SheetFault::Unsupported(HERE, Why::ComputedName)),
-    ),
-    ("element", "name", "q:a", MALFORMED),
-    ("apply-templates", "mode", "xsl:m", None),
-    ("apply-templates", "mode", "q:m", MALFORMED),
-    (
-        "call-template",
-        "name",
-        "a",
-        Some(SheetFault::Undefined(Place(20))),
-    ),
-    // attributes of XPath
-    ("value-of", "select", "a", None),
-    ("value-of", "select", ".", None),
-    (
-        "value-of",
-        "select",
-        "@a",
-        Some(SheetFault::Unsupported(HERE, Why::AttributeStep)),
-    ),
-    ("if", "test", "not(a)", None),
-    (
-        "if",
-        "test",
-        "a = b",
-        Some(SheetFault::Unsupported(HERE, Why::Comparison)),
-    ),
-    (
-        "for-each",
-        "select",
-        "a[1]",
-        Some(SheetFault::Unsupported(HERE, Why::Arithmetic)),
-    ),
-    (
-        "apply-templates",
-        "select",
-        ".",
-        Some(SheetFault::Unsupported(HERE, Why::Dot)),
-    ),
-    ("copy-of", "select", "a/@b|.//@*", None),
-    (
-        "copy-of",
-        "select",
-        "@a|comment()",
-        Some(SheetFault::Unsupported(HERE, Why::XslCopyOf)),
-    ),
-    (
-        "copy-of",
-        "select",
-        "a",
-        Some(SheetFault::Unsupported(HERE, Why::XslCopyOf)),
-    ),
-    ("copy-of", "select", "a)", MALFORMED),
-    (
-        "copy-of",
-        "select",
-        "a(",
-        Some(SheetFault::Unsupported(HERE, Why::FunctionCall)),
-    ),
-];
 
 /// Asserts the fault of a row, of which such words tell.
 fn assert_fault(
