@@ -1,19 +1,18 @@
 -- Why name classes are read, or not, where their parts are.
-use Rattle.std.proofs.Common.{◌≡◌, ◌≢◌, ℕ, zero, suc, ◌-◌, ◌<◌, ◌≤◌, List, [], ◌∷◌, ◌++◌, refl, ap, ◌∙◌, sym, subst, length, arith, None, Some}
+use Rattle.std.proofs.Common.{◌≡◌, ◌≢◌, ℕ, zero, suc, ◌-◌, ◌<◌, ◌≤◌, List, [], ◌∷◌, ◌++◌, refl, ap, ◌∙◌, sym, subst, length, arith, Some}
 use Rattle.tc_model.specs.Names.{ExpandedName}
 use Rattle.tc_model.specs.RawTrees.{Bound}
-use Rattle.tc_model.specs.XmlTextScopes.{uri_of}
-use Rattle.tc_model.specs.CompactSyntaxTrees.{SyntaxClass, of_name, of_namespace, any_name, one_of, SyntaxClasses, no_class, class}
-use Rattle.tc_model.specs.CompactSyntaxTokens.{all_of, Token}
-use Rattle.tc_model.specs.CompactSyntaxNames.{IsMark, name_in, LacksMark, ClassAt, several, ClassesAt, last, more, SimpleAt, name, whole_namespace, any, parentheses, ExceptAt, except}
+use Rattle.tc_model.specs.CompactSyntaxTrees.{SyntaxClass, of_name, one_of, SyntaxClasses, no_class, class}
+use Rattle.tc_model.specs.CompactSyntaxTokens.{Token}
+use Rattle.tc_model.specs.CompactSyntaxNames.{IsMark, name_in, LacksMark, ClassAt, several, ClassesAt, last, more, SimpleAt, name, parentheses, ExceptAt, except}
 use Rattle.tc_model.specs.CompactSyntaxUnread.{Refusal, too_deep, End, Unexpected}
 use Rattle.tc_model.specs.CompactSyntaxStops as st
 use Rattle.tc_model.specs.CompactSyntaxStops.{ClassStops, SimpleStops, BeginsNoClass}
 use Rattle.tc_model.proofs.CompactSyntaxBehind.{behind_shorter, simple_behind}
-use Rattle.tc_model.proofs.CompactSyntaxClassesUnique.{same_all_of, lacks_no, simple_word}
+use Rattle.tc_model.proofs.CompactSyntaxClassesUnique.{lacks_no}
 use Rattle.tc_rnc.specs.Readings.{BeginsWith, ClosedClassAt, closed_class}
 use Rattle.tc_rnc.specs.Stops as parts
-use Rattle.tc_rnc.specs.Stops.{ClosedClassStops, ExceptStops}
+use Rattle.tc_rnc.specs.Stops.{ClosedClassStops}
 use Rattle.tc_rnc.specs.Views as seen
 use Rattle.tc_rnc.specs.declared.syntax.SClass.{SClass}
 
@@ -92,15 +91,7 @@ simple_closed scope (suc n) ts inside after c p (t, is, k) m =
     by : {t : Token} → IsMark 0x28 t → ClosedClassAt scope n inside c after → SimpleAt scope (suc n) (t ∷ inside) c after
     by k (closed_class m e) = parentheses k m e
 
--- wildcards
-pub simple_any : (scope : List Bound) (n : ℕ) (t : Token) (ts rest after : List Token) (x : SyntaxClasses) → ts ≡ t ∷ rest → IsMark 0x2A t → ExceptAt scope n rest x after
-    → SimpleAt scope n ts (any_name t.place x) after
-simple_any scope n t ts rest after x is k m = subst (λ z. SimpleAt scope n z (any_name t.place x) after) (sym is) (any k m)
-
-pub simple_whole : (scope : List Bound) (n : ℕ) (t : Token) (ts rest after : List Token) (prefix uri : List ℕ) (x : SyntaxClasses) → ts ≡ t ∷ rest → t.word ≡ all_of prefix → uri_of scope prefix ≡ Some uri
-    → ExceptAt scope n rest x after → SimpleAt scope n ts (of_namespace t.place uri x) after
-simple_whole scope n t ts rest after prefix uri x is k u m = subst (λ z. SimpleAt scope n z (of_namespace t.place uri x) after) (sym is) (whole_namespace k u m)
-
+-- a name
 pub simple_name : (scope : List Bound) (n : ℕ) (t : Token) (ts rest : List Token) (m : ExpandedName) → ts ≡ t ∷ rest → name_in scope t.word ≡ Some m → SimpleAt scope n ts (of_name m) rest
 simple_name scope n t ts rest m is e = subst (λ z. SimpleAt scope n z (of_name m) rest) (sym is) (name e)
 
@@ -128,38 +119,8 @@ pub deep_class : {end : End} {scope : List Bound} {n : ℕ} {t : Token} {ts rest
 deep_class {end} {scope} {n} {t} {ts} is k e =
     subst (λ z. SimpleStops end scope z ts (too_deep t.place)) (sym e) (subst (λ z. SimpleStops end scope 0 z (too_deep t.place)) (sym is) (st.deep k))
 
-pub any_stops : {end : End} {scope : List Bound} {n : ℕ} {t : Token} {ts rest : List Token} {r : Refusal} → ts ≡ t ∷ rest → IsMark 0x2A t → ExceptStops end scope n rest r → SimpleStops end scope n ts r
-any_stops {end} {scope} {n} {t} {r = r} is k y = subst (λ z. SimpleStops end scope n z r) (sym is) (by y)
-  where
-    by : {rest : List Token} → ExceptStops end scope n rest r → SimpleStops end scope n (t ∷ rest) r
-    by (parts.except l y) = st.any_except k l y
-
-pub whole_stops : {end : End} {scope : List Bound} {n : ℕ} {t : Token} {ts rest : List Token} {prefix uri : List ℕ} {r : Refusal} → ts ≡ t ∷ rest → t.word ≡ all_of prefix → uri_of scope prefix ≡ Some uri
-    → ExceptStops end scope n rest r → SimpleStops end scope n ts r
-whole_stops {end} {scope} {n} {t} {r = r} is k u y = subst (λ z. SimpleStops end scope n z r) (sym is) (by y)
-  where
-    by : {rest : List Token} → ExceptStops end scope n rest r → SimpleStops end scope n (t ∷ rest) r
-    by (parts.except l y) = st.namespace_except k u l y
-
-pub except_stops : {end : End} {scope : List Bound} {n : ℕ} {ts rest : List Token} {r : Refusal} → BeginsWith 0x2D ts rest → SimpleStops end scope n rest r → ExceptStops end scope n ts r
-except_stops {end} {scope} {n} {r = r} (t, is, k) y = subst (λ z. ExceptStops end scope n z r) (sym is) (parts.except k y)
-
 pub nothing_stops : {end : End} {scope : List Bound} {n : ℕ} {t : Token} {ts rest : List Token} {r : Refusal} → ts ≡ t ∷ rest → BeginsNoClass scope t.word → Unexpected end ts r → SimpleStops end scope n ts r
 nothing_stops {end} {scope} {n} {r = r} is b y = subst (λ z. SimpleStops end scope n z r) (sym is) (st.no_class b (subst (λ z. Unexpected end z r) is y))
 
 pub no_token_stops : {end : End} {scope : List Bound} {n : ℕ} {ts : List Token} {r : Refusal} → ts ≡ [] → Unexpected end ts r → SimpleStops end scope n ts r
 no_token_stops {end} {scope} {n} {r = r} is y = subst (λ z. SimpleStops end scope n z r) (sym is) (st.no_token (subst (λ z. Unexpected end z r) is y))
-
--- `p:*` where the prefix isn't bound
-pub unbound : (scope : List Bound) (t : Token) (prefix : List ℕ) → t.word ≡ all_of prefix → uri_of scope prefix ≡ None → BeginsNoClass scope t.word
-unfolding simple_word
-unbound scope t prefix k u = record {
-  no_name = ap (name_in scope) k;
-  no_namespace = λ q a. ap (uri_of scope) (same_all_of a k) ∙ u;
-  no_asterisk = λ a. omega (arith, ap simple_word (sym a ∙ k));
-  no_parenthesis = λ a. omega (arith, ap simple_word (sym a ∙ k));
-}
-
--- where neither a name, nor a wildcard, nor a parenthesis stands
-pub no_simple : (scope : List Bound) (t : Token) → (IsMark 0x28 t → ⊥) → (IsMark 0x2A t → ⊥) → ((q : List ℕ) → t.word ≡ all_of q → ⊥) → name_in scope t.word ≡ None → BeginsNoClass scope t.word
-no_simple scope t h k l e = record { no_name = e; no_namespace = λ q a. absurd (l q a); no_asterisk = k; no_parenthesis = h }

@@ -9,6 +9,7 @@ pub mod RefusalLaws
 pub mod UnreadLaws
 pub mod ScopeLaws
 pub mod ClassLaws
+pub mod WildcardLaws
 pub mod DefinitionLaws
 pub mod PatternLaws
 pub mod ItemLaws

@@ -5,6 +5,7 @@ pub mod Fronts
 pub mod Lexed
 pub mod Refusals
 pub mod Readings
+pub mod Wildcards
 pub mod Blocks
 pub mod Bindings
 pub mod Scopes

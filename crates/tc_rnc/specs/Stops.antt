@@ -6,7 +6,7 @@ use Rattle.tc_model.specs.CompactSyntaxTokens.{Token}
 use Rattle.tc_model.specs.CompactSyntaxNames.{IsMark, LacksMark, ClassAt}
 use Rattle.tc_model.specs.CompactSyntax.{OperatorAt}
 use Rattle.tc_model.specs.CompactSyntaxUnread.{Refusal, malformed, too_deep, End, Unexpected}
-use Rattle.tc_model.specs.CompactSyntaxStops.{ClassStops, SimpleStops, BalancedStops, BracedTextStops, PatternStops, EnclosedStops}
+use Rattle.tc_model.specs.CompactSyntaxStops.{ClassStops, BalancedStops, BracedTextStops, PatternStops, EnclosedStops}
 
 -- the mark that opens something
 pub data OpeningStops (end : End) (c : ℕ) : ℕ → List Token → Refusal → Type 0 where
@@ -18,10 +18,6 @@ pub data ClosedClassStops (end : End) (scope : List Bound) : ℕ → List Token 
   within : {deepest : ℕ} {tokens : List Token} {r : Refusal} → ClassStops end scope deepest tokens r → ClosedClassStops end scope deepest tokens r
   unclosed : {deepest : ℕ} {tokens rest : List Token} {c : SyntaxClass} {r : Refusal} → ClassAt scope deepest tokens c rest → LacksMark 0x29 rest → Unexpected end rest r
       → ClosedClassStops end scope deepest tokens r
-
--- a minus sign and what is excepted
-pub data ExceptStops (end : End) (scope : List Bound) : ℕ → List Token → Refusal → Type 0 where
-  except : {deepest : ℕ} {t : Token} {tokens : List Token} {r : Refusal} → IsMark 0x2D t → SimpleStops end scope deepest tokens r → ExceptStops end scope deepest (t ∷ tokens) r
 
 -- a part of balanced text that doesn't close it
 pub data BalancedPartStops (end : End) : ℕ → List Token → Refusal → Type 0 where

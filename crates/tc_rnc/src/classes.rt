@@ -1,7 +1,6 @@
 // Name classes.
 ghost use Rattle.std.specs.Prelude.{◌≡◌, [], ℕ, List, None, Some, IfOk, IfErr, MatchOption};
 ghost use Rattle.tc_model.specs.CompactSyntaxNames as names;
-ghost use Rattle.tc_model.specs.CompactSyntaxTokens as model;
 ghost use Rattle.tc_model.specs.CompactSyntaxTrees as trees;
 ghost use Rattle.tc_model.specs.Views.{name};
 ghost use Rattle.tc_model.specs.XmlTextScopes as xml;
@@ -11,6 +10,7 @@ ghost use Rattle.tc_rnc.specs.Refusals.{Refuses};
 ghost use Rattle.tc_rnc.specs.Stops as parts;
 ghost use Rattle.tc_rnc.specs.Scopes.{scope_of};
 ghost use Rattle.tc_rnc.specs.Views as seen;
+ghost use Rattle.tc_rnc.specs.Wildcards.{ExceptsNothing};
 ghost use Rattle.tc_rnc.specs.declared.faults.RncFault.TheVariants.{NoMemory};
 
 use crate::faults::{RncFault, first_of, unexpected};
@@ -19,6 +19,7 @@ use crate::parser::Parser;
 use crate::scopes::Scope;
 use crate::syntax::SClass;
 use crate::tokens::{Token, Word};
+use crate::wildcards::{all_excepting, wildcard_at, within_wildcards};
 use bumpalo::collections::into_bump_slice;
 use tc_model::Name;
 
@@ -41,16 +42,6 @@ fn default_of<'b>(scope: &Scope<'b>) -> &'b str
     match scope.uri_of("") {
         Some(uri) => uri,
         None => "",
-    }
-}
-
-/// The prefix of all names of its namespace.
-fn prefix_of_all<'t>(word: Word<'t>) -> Option<&'t str>
-    ensures { MatchOption result ((p : List ℕ) → seen.word word.entry ≡ model.all_of p → ⊥) (λ p. seen.word word.entry ≡ model.all_of p.now) }
-{
-    match word {
-        Word::AllOf(prefix) => Some(prefix),
-        _ => None,
     }
 }
 
@@ -119,6 +110,26 @@ impl<'b> Parser<'b> {
         ensures ok { IfOk result (λ r. names.SimpleAt (scope_of self.now.scope) deepest (seen.tokens tokens.now) (seen.class r.0) (seen.tokens r.1.now)) }
         ensures no { IfErr result (Refuses (stops.SimpleStops (seen.end self.now.end) (scope_of self.now.scope) deepest (seen.tokens tokens.now))) }
     {
+        let (wildcards, rest) = all_excepting(self.arena, &self.scope, tokens)?;
+        let (excepted, after) = self.innermost_name_class(rest, deepest)?;
+        let class = within_wildcards(self.arena, wildcards, excepted)?;
+        Ok((class, after))
+    }
+
+    /// The same where no wildcard with a minus sign behind it stands first.
+    #[cycle(name_class)]
+    fn innermost_name_class<'s, 't>(
+        &self,
+        tokens: &'s [Token<'t>],
+        deepest: u32,
+    ) -> Result<(SClass<'b>, &'s [Token<'t>]), RncFault>
+        requires { ExceptsNothing (scope_of self.now.scope) (seen.tokens tokens.now) }
+        ensures ok { IfOk result (λ r. names.SimpleAt (scope_of self.now.scope) deepest (seen.tokens tokens.now) (seen.class r.0) (seen.tokens r.1.now)) }
+        ensures no { IfErr result (Refuses (stops.SimpleStops (seen.end self.now.end) (scope_of self.now.scope) deepest (seen.tokens tokens.now))) }
+    {
+        if let Some((wildcard, rest)) = wildcard_at(&self.scope, tokens) {
+            return Ok((wildcard.without(&[]), rest));
+        }
         let Some((first, rest)) = first_of(tokens) else {
             return Err(unexpected(tokens, self.end));
         };
@@ -127,17 +138,6 @@ impl<'b> Parser<'b> {
                 return Err(RncFault::TooDeep(first.place));
             }
             return self.closed_name_class(rest, deepest - 1);
-        }
-        if first.is_mark('*') {
-            let (excepted, after) = self.except_name_class(rest, deepest)?;
-            return Ok((SClass::Any(first.place, excepted), after));
-        }
-        if let Some(prefix) = prefix_of_all(first.word) {
-            let Some(uri) = self.scope.uri_of(prefix) else {
-                return Err(unexpected(tokens, self.end));
-            };
-            let (excepted, after) = self.except_name_class(rest, deepest)?;
-            return Ok((SClass::Ns(first.place, uri, excepted), after));
         }
         match self.name(first.word)? {
             Some(name) => Ok((SClass::Name(name), rest)),
@@ -160,23 +160,5 @@ impl<'b> Parser<'b> {
             return Err(unexpected(closing, self.end));
         };
         Ok((inner, after))
-    }
-
-    /// A minus sign and the one class that is excepted, or nothing, and what follows.
-    #[cycle(name_class)]
-    fn except_name_class<'s, 't>(
-        &self,
-        tokens: &'s [Token<'t>],
-        deepest: u32,
-    ) -> Result<(&'b [SClass<'b>], &'s [Token<'t>]), RncFault>
-        ensures ok { IfOk result (λ r. names.ExceptAt (scope_of self.now.scope) deepest (seen.tokens tokens.now) (seen.classes r.0.now) (seen.tokens r.1.now)) }
-        ensures no { IfErr result (Refuses (parts.ExceptStops (seen.end self.now.end) (scope_of self.now.scope) deepest (seen.tokens tokens.now))) }
-    {
-        let Some(behind) = after_mark(tokens, '-') else {
-            return Ok((&[], tokens));
-        };
-        let (class, after) = self.simple_name_class(behind, deepest)?;
-        let classes: &'b [SClass<'b>] = self.arena.try_alloc_slice_copy(&[class])?;
-        Ok((classes, after))
     }
 }

@@ -21,6 +21,7 @@ mod schema;
 mod scopes;
 mod syntax;
 mod tokens;
+mod wildcards;
 mod words;
 
 pub use faults::RncFault;

@@ -244,7 +244,7 @@ fn texts_are_read_or_have_their_faults(rt: HostRuntime) {
 }
 
 /// Texts of parts that are repeated so many times, and why each is refused, if it is.
-static REPEATED: [(Parts, usize, Option<RncFault>); 13] = [
+static REPEATED: [(Parts, usize, Option<RncFault>); 14] = [
     // Braces and parentheses stand 2,000 deep.
     (PARENTHESES, 2000, None),
     (PARENTHESES, 2001, Some(TooDeep(Place(2000)))),
@@ -259,6 +259,8 @@ static REPEATED: [(Parts, usize, Option<RncFault>); 13] = [
     // In the text of an attribute braces alone count.
     (IN_ATTRIBUTE, 1999, None),
     (IN_ATTRIBUTE, 2000, Some(TooDeep(Place(2013)))),
+    // No limit is set to excepts.
+    (EXCEPTS, 100000, None),
     // A definition may be referred to often.
     (
         ["a = text start = element b { a", " | a", "}", "", ""],
@@ -276,6 +278,8 @@ const MIXED: Parts = ["", "mixed{", "(text)", "}", ""];
 const DIVISIONS: Parts = ["", "div {", "", "}", ""];
 
 const AROUND_ATTRIBUTE: Parts = ["", "(", "element (a) { attribute b { ( } }", ")", ""];
+
+const EXCEPTS: Parts = ["element ", "*-", "a{empty}", "", ""];
 
 const IN_ATTRIBUTE: Parts = ["attribute a { ", "{", "((((", "}", " }"];
 

@@ -88,13 +88,16 @@ fn faults_have_their_places(rt: HostRuntime) {
 }
 
 /// Texts of parts that are repeated so many times, and the same of each.
-static REPEATED: [(Parts, usize, Result<usize, SimpleFault>); 5] = [
+static REPEATED: [(Parts, usize, Result<usize, SimpleFault>); 7] = [
     // Nodes are counted, whatever becomes of them.
     (MANY_NODES, 65533, Ok(1)),
     (MANY_NODES, 65534, Err(SimpleFault::TooManyNodes)),
     // So are element patterns.
     (MANY_ELEMENTS, 255, Ok(256)),
     (MANY_ELEMENTS, 256, Err(SimpleFault::TooManyElements)),
+    // The second of many excepts is refused, but not in the name class of an attribute.
+    (EXCEPTS, 100000, Err(SimpleFault::BadExcept(Place(10)))),
+    (EXCEPTS_OF_ATTRIBUTE, 100000, Ok(1)),
     // A definition that is referred to often is one element pattern.
     (
         [
@@ -110,6 +113,10 @@ static REPEATED: [(Parts, usize, Result<usize, SimpleFault>); 5] = [
 ];
 
 const MANY_NODES: Parts = ["element a { empty", "|empty", "}", "", ""];
+
+const EXCEPTS: Parts = ["element ", "*-", "a{empty}", "", ""];
+
+const EXCEPTS_OF_ATTRIBUTE: Parts = ["element b{attribute ", "*-", "a{}}", "", ""];
 
 const MANY_ELEMENTS: Parts = ["element a{empty}", "|element a{empty}", "", "", ""];
 

@@ -1,5 +1,5 @@
 use Rattle.std.proofs.Common.{ap, ◌∙◌, sym, subst, length, arith}
-use Rattle.tc_model.specs.CompactSyntaxNames.{alone, nothing, ClassAt, SimpleAt, ExceptAt}
+use Rattle.tc_model.specs.CompactSyntaxNames.{alone, ClassAt, SimpleAt}
 use Rattle.tc_model.specs.CompactSyntaxStops as st
 use Rattle.tc_model.specs.CompactSyntaxTrees.{one_of}
 use Rattle.tc_model.specs.Views.{name}
@@ -11,7 +11,8 @@ use Rattle.tc_rnc.specs.Views as seen
 use Rattle.tc_rnc.proofs.RefusalLaws.{refuses_map, passed, passes, unmade, unmade_by, map_ok, at_some, at_none}
 use Rattle.tc_rnc.proofs.UnreadLaws.{unread_ok}
 use Rattle.tc_rnc.proofs.ClassLaws as l
-use Rattle.tc_rnc.proofs.Views.{see_name, see_ns, see_any, see_one_of}
+use Rattle.tc_rnc.proofs.WildcardLaws as w
+use Rattle.tc_rnc.proofs.Views.{see_name, see_one_of}
 use Rattle.tc_rnc.proofs.parser.Parser.+name_class.Goals as goal
 
 pub name_class-returns-in_err-first-clause-no : goal.name_class-returns-in_err-first-clause-no
@@ -75,87 +76,6 @@ pub closed_name_class-returns-clause-ok : goal.closed_name_class-returns-clause-
 closed_name_class-returns-clause-ok t c =
     l.a_closed_class (scope_of c.args.self.now.scope) c.args.deepest (seen.tokens c.args.tokens.now) (seen.tokens c.in_ok-inner.closing.now) (seen.tokens c.in-Some.after.now) (seen.class c.in_ok-inner.inner) c.in_ok-inner.ensures.ok c.in-Some.ensures
 
-pub except_name_class-returns-in_default-clause-ok : goal.except_name_class-returns-in_default-clause-ok
-except_name_class-returns-in_default-clause-ok t c = nothing c.in_default.ensures
-
-pub except_name_class-simple_name_class-requires : goal.except_name_class-simple_name_class-requires
-except_name_class-simple_name_class-requires t c = (omega (arith, c.decreases, l.begins_shorter c.in-Some.ensures), tt)
-
-pub except_name_class-returns-in_err-class-clause-no : goal.except_name_class-returns-in_err-class-clause-no
-except_name_class-returns-in_err-class-clause-no t c =
-    passed _ _ c.from_residual.ensures.1 c.in_err-class.ensures.no (λ v y. l.except_stops c.in-Some.ensures y)
-
-pub except_name_class-returns-in_err-classes-clause-no : goal.except_name_class-returns-in_err-classes-clause-no
-except_name_class-returns-in_err-classes-clause-no t c =
-    unmade _ _ c.from_residual-in_err-classes.ensures.1
-
-pub except_name_class-returns-clause-ok : goal.except_name_class-returns-clause-ok
-except_name_class-returns-clause-ok t c =
-    subst (λ z. ExceptAt (scope_of c.args.self.now.scope) c.args.deepest (seen.tokens c.args.tokens.now) (seen.classes z) (seen.tokens c.in_ok-class.after.now))
-    (sym c.in_ok-classes.ensures)
-    (l.one_except (scope_of c.args.self.now.scope) c.args.deepest (seen.tokens c.args.tokens.now) (seen.tokens c.in-Some.behind.now) (seen.tokens c.in_ok-class.after.now) (seen.class c.in_ok-class.class) c.in-Some.ensures c.in_ok-class.ensures.ok)
-
-pub simple_name_class-returns-in_default-clause-no : goal.simple_name_class-returns-in_default-clause-no
-simple_name_class-returns-in_default-clause-no t c =
-    refuses_map c.unexpected.ensures (λ v y. l.no_token_stops c.in_default.ensures y)
-
-pub simple_name_class-returns-then-deepest-eq0-clause-no : goal.simple_name_class-returns-then-deepest-eq0-clause-no
-simple_name_class-returns-then-deepest-eq0-clause-no t c =
-    too_deep (l.deep_class c.in-Some.ensures c.if-is_mark.ensures c.if-deepest-eq0.true)
-
-pub simple_name_class-closed_name_class-requires : goal.simple_name_class-closed_name_class-requires
-simple_name_class-closed_name_class-requires t c = (omega (arith, c.decreases, ap length c.in-Some.ensures), tt)
-
-pub simple_name_class-returns-then-is_mark-clause-ok : goal.simple_name_class-returns-then-is_mark-clause-ok
-simple_name_class-returns-then-is_mark-clause-ok t c =
-    map_ok _ _ c.closed_name_class.result
-    (λ r m. l.simple_closed (scope_of c.args.self.now.scope) c.args.deepest (seen.tokens c.args.tokens.now) (seen.tokens c.in-Some.rest.now) (seen.tokens r.1.now) (seen.class r.0) c.if-deepest-eq0.false ((seen.token c.in-Some.first.now), c.in-Some.ensures, c.if-is_mark.ensures) m) c.closed_name_class.ensures.ok
-
-pub simple_name_class-returns-then-is_mark-clause-no : goal.simple_name_class-returns-then-is_mark-clause-no
-simple_name_class-returns-then-is_mark-clause-no t c =
-    passes c.closed_name_class.result c.closed_name_class.ensures.no (λ v y. l.closed_stops c.args.deepest c.if-deepest-eq0.false (seen.token c.in-Some.first.now, c.in-Some.ensures, c.if-is_mark.ensures) y)
-
-pub simple_name_class-except_name_class-requires : goal.simple_name_class-except_name_class-requires
-simple_name_class-except_name_class-requires t c = (omega (arith, c.decreases, ap length c.in-Some.ensures), tt)
-
-pub simple_name_class-returns-in_err-excepted-clause-no : goal.simple_name_class-returns-in_err-excepted-clause-no
-simple_name_class-returns-in_err-excepted-clause-no t c =
-    passed _ _ c.from_residual.ensures.1 c.in_err-excepted.ensures.no (λ v y. l.any_stops c.in-Some.ensures c.if-is_mark-2.ensures y)
-
-pub simple_name_class-returns-then-is_mark-2-clause-ok : goal.simple_name_class-returns-then-is_mark-2-clause-ok
-simple_name_class-returns-then-is_mark-2-clause-ok t c =
-    subst (λ z. SimpleAt (scope_of c.args.self.now.scope) c.args.deepest (seen.tokens c.args.tokens.now) z (seen.tokens c.in_ok-excepted.after.now)) (sym (see_any c.in-Some.first.now.place c.in_ok-excepted.excepted))
-    (l.simple_any (scope_of c.args.self.now.scope) c.args.deepest (seen.token c.in-Some.first.now) (seen.tokens c.args.tokens.now) (seen.tokens c.in-Some.rest.now) (seen.tokens c.in_ok-excepted.after.now) (seen.classes c.in_ok-excepted.excepted.now) c.in-Some.ensures c.if-is_mark-2.ensures c.in_ok-excepted.ensures.ok)
-
-pub simple_name_class-returns-in_default-uri_of-clause-no : goal.simple_name_class-returns-in_default-uri_of-clause-no
-simple_name_class-returns-in_default-uri_of-clause-no t c =
-    refuses_map c.unexpected-in_default-uri_of.ensures (λ v y. l.nothing_stops c.in-Some.ensures (l.unbound (scope_of c.args.self.now.scope) (seen.token c.in-Some.first.now) c.in-Some-prefix_of_all.prefix.now c.in-Some-prefix_of_all.ensures c.in_default-uri_of.ensures) y)
-
-pub simple_name_class-except_name_class-requires-in-Some-prefix_of_all : goal.simple_name_class-except_name_class-requires-in-Some-prefix_of_all
-simple_name_class-except_name_class-requires-in-Some-prefix_of_all t c = (omega (arith, c.decreases, ap length c.in-Some.ensures), tt)
-
-pub simple_name_class-returns-in_err-excepted-2-clause-no : goal.simple_name_class-returns-in_err-excepted-2-clause-no
-simple_name_class-returns-in_err-excepted-2-clause-no t c =
-    passed _ _ c.from_residual-in_err-excepted-2.ensures.1 c.in_err-excepted-2.ensures.no (λ v y. l.whole_stops c.in-Some.ensures c.in-Some-prefix_of_all.ensures c.in-Some-uri_of.ensures y)
-
-pub simple_name_class-returns-in-Some-prefix_of_all-clause-ok : goal.simple_name_class-returns-in-Some-prefix_of_all-clause-ok
-simple_name_class-returns-in-Some-prefix_of_all-clause-ok t c =
-    subst (λ z. SimpleAt (scope_of c.args.self.now.scope) c.args.deepest (seen.tokens c.args.tokens.now) z (seen.tokens c.in_ok-excepted-2.after.now)) (sym (see_ns c.in-Some.first.now.place c.in-Some-uri_of.uri c.in_ok-excepted-2.excepted))
-    (l.simple_whole (scope_of c.args.self.now.scope) c.args.deepest (seen.token c.in-Some.first.now) (seen.tokens c.args.tokens.now) (seen.tokens c.in-Some.rest.now) (seen.tokens c.in_ok-excepted-2.after.now) c.in-Some-prefix_of_all.prefix.now c.in-Some-uri_of.uri.now (seen.classes c.in_ok-excepted-2.excepted.now) c.in-Some.ensures c.in-Some-prefix_of_all.ensures c.in-Some-uri_of.ensures c.in_ok-excepted-2.ensures.ok)
-
-pub simple_name_class-returns-in_err-name-clause-no : goal.simple_name_class-returns-in_err-name-clause-no
-simple_name_class-returns-in_err-name-clause-no t c =
-    unmade_by _ _ _ c.from_residual-in_err-name.ensures.1 c.in_err-name.ensures.no
-
-pub simple_name_class-returns-in-Some-2-clause-ok : goal.simple_name_class-returns-in-Some-2-clause-ok
-simple_name_class-returns-in-Some-2-clause-ok t c =
-    subst (λ z. SimpleAt (scope_of c.args.self.now.scope) c.args.deepest (seen.tokens c.args.tokens.now) z (seen.tokens c.in-Some.rest.now)) (sym (see_name c.in-Some-2.name))
-    (l.simple_name (scope_of c.args.self.now.scope) c.args.deepest (seen.token c.in-Some.first.now) (seen.tokens c.args.tokens.now) (seen.tokens c.in-Some.rest.now) (name c.in-Some-2.name) c.in-Some.ensures (at_some _ _ c.in_ok-name.field-0 c.in-Some-2.name c.in-Some-2.is c.in_ok-name.ensures.ok))
-
-pub simple_name_class-returns-in-None-clause-no : goal.simple_name_class-returns-in-None-clause-no
-simple_name_class-returns-in-None-clause-no t c =
-    refuses_map c.unexpected-in-None.ensures (λ v y. l.nothing_stops c.in-Some.ensures (l.no_simple (scope_of c.args.self.now.scope) (seen.token c.in-Some.first.now) c.if-is_mark.ensures c.if-is_mark-2.ensures c.in_default-prefix_of_all.ensures (at_none _ _ c.in_ok-name.field-0 c.in-None.is c.in_ok-name.ensures.ok)) y)
-
 pub name_classes-returns-in_err-push-clause-no : goal.name_classes-returns-in_err-push-clause-no
 name_classes-returns-in_err-push-clause-no t c =
     unmade _ _ c.from_residual-in_err-push.ensures.1
@@ -175,21 +95,6 @@ name_classes-returns-in_err-next-clause-ok t c = unread_ok _ _ _ c.from_residual
 pub closed_name_class-returns-in_err-inner-clause-ok : goal.closed_name_class-returns-in_err-inner-clause-ok
 closed_name_class-returns-in_err-inner-clause-ok t c = unread_ok _ _ _ c.from_residual.ensures.1
 
-pub except_name_class-returns-in_err-class-clause-ok : goal.except_name_class-returns-in_err-class-clause-ok
-except_name_class-returns-in_err-class-clause-ok t c = unread_ok _ _ _ c.from_residual.ensures.1
-
-pub except_name_class-returns-in_err-classes-clause-ok : goal.except_name_class-returns-in_err-classes-clause-ok
-except_name_class-returns-in_err-classes-clause-ok t c = unread_ok _ _ _ c.from_residual-in_err-classes.ensures.1
-
-pub simple_name_class-returns-in_err-excepted-clause-ok : goal.simple_name_class-returns-in_err-excepted-clause-ok
-simple_name_class-returns-in_err-excepted-clause-ok t c = unread_ok _ _ _ c.from_residual.ensures.1
-
-pub simple_name_class-returns-in_err-excepted-2-clause-ok : goal.simple_name_class-returns-in_err-excepted-2-clause-ok
-simple_name_class-returns-in_err-excepted-2-clause-ok t c = unread_ok _ _ _ c.from_residual-in_err-excepted-2.ensures.1
-
-pub simple_name_class-returns-in_err-name-clause-ok : goal.simple_name_class-returns-in_err-name-clause-ok
-simple_name_class-returns-in_err-name-clause-ok t c = unread_ok _ _ _ c.from_residual-in_err-name.ensures.1
-
 pub name_classes-returns-in_err-push-clause-ok : goal.name_classes-returns-in_err-push-clause-ok
 name_classes-returns-in_err-push-clause-ok t c = unread_ok _ _ _ c.from_residual-in_err-push.ensures.1
 
@@ -198,3 +103,77 @@ name_class-simple_name_class-requires t c = (omega (arith, c.decreases), tt)
 
 pub closed_name_class-name_class-requires : goal.closed_name_class-name_class-requires
 closed_name_class-name_class-requires t c = (omega (arith, c.decreases), tt)
+
+pub simple_name_class-returns-in_err-wildcards-clause-ok : goal.simple_name_class-returns-in_err-wildcards-clause-ok
+simple_name_class-returns-in_err-wildcards-clause-ok t c = unread_ok _ _ _ c.from_residual.ensures.1
+
+pub simple_name_class-returns-in_err-excepted-clause-ok : goal.simple_name_class-returns-in_err-excepted-clause-ok
+simple_name_class-returns-in_err-excepted-clause-ok t c = unread_ok _ _ _ c.from_residual-in_err-excepted.ensures.1
+
+pub simple_name_class-returns-in_err-class-clause-ok : goal.simple_name_class-returns-in_err-class-clause-ok
+simple_name_class-returns-in_err-class-clause-ok t c = unread_ok _ _ _ c.from_residual-in_err-class.ensures.1
+
+pub simple_name_class-returns-in_err-wildcards-clause-no : goal.simple_name_class-returns-in_err-wildcards-clause-no
+simple_name_class-returns-in_err-wildcards-clause-no t c =
+    unmade_by _ _ _ c.from_residual.ensures.1 c.in_err-wildcards.ensures.no
+
+pub simple_name_class-innermost_name_class-requires : goal.simple_name_class-innermost_name_class-requires
+simple_name_class-innermost_name_class-requires t c = (omega (arith, c.decreases, w.excepts_shorter c.in_ok-wildcards.ensures.ok), c.in_ok-wildcards.ensures.ends)
+
+pub simple_name_class-returns-in_err-excepted-clause-no : goal.simple_name_class-returns-in_err-excepted-clause-no
+simple_name_class-returns-in_err-excepted-clause-no t c =
+    passed _ _ c.from_residual-in_err-excepted.ensures.1 c.in_err-excepted.ensures.no (λ v y. w.excepts_stop c.in_ok-wildcards.ensures.ok y)
+
+pub simple_name_class-returns-in_err-class-clause-no : goal.simple_name_class-returns-in_err-class-clause-no
+simple_name_class-returns-in_err-class-clause-no t c =
+    unmade_by _ _ _ c.from_residual-in_err-class.ensures.1 c.in_err-class.ensures.no
+
+pub simple_name_class-returns-clause-ok : goal.simple_name_class-returns-clause-ok
+simple_name_class-returns-clause-ok t c =
+    subst (λ z. SimpleAt (scope_of c.args.self.now.scope) c.args.deepest (seen.tokens c.args.tokens.now) z (seen.tokens c.in_ok-excepted.after.now)) (sym c.in_ok-class.ensures.ok)
+    (w.excepts_class c.in_ok-wildcards.ensures.ok c.in_ok-excepted.ensures.ok)
+
+pub innermost_name_class-returns-in-Some-clause-ok : goal.innermost_name_class-returns-in-Some-clause-ok
+innermost_name_class-returns-in-Some-clause-ok t c =
+    subst (λ z. SimpleAt (scope_of c.args.self.now.scope) c.args.deepest (seen.tokens c.args.tokens.now) z (seen.tokens c.in-Some.rest.now)) (sym c.without.ensures)
+    (w.plain_wildcard c.requires c.in-Some.ensures)
+
+pub innermost_name_class-returns-in_default-first_of-clause-no : goal.innermost_name_class-returns-in_default-first_of-clause-no
+innermost_name_class-returns-in_default-first_of-clause-no t c =
+    refuses_map c.unexpected.ensures (λ v y. l.no_token_stops c.in_default-first_of.ensures y)
+
+pub innermost_name_class-returns-then-deepest-eq0-clause-no : goal.innermost_name_class-returns-then-deepest-eq0-clause-no
+innermost_name_class-returns-then-deepest-eq0-clause-no t c =
+    too_deep (l.deep_class c.in-Some-first_of.ensures c.if-is_mark.ensures c.if-deepest-eq0.true)
+
+pub innermost_name_class-returns-then-is_mark-clause-ok : goal.innermost_name_class-returns-then-is_mark-clause-ok
+innermost_name_class-returns-then-is_mark-clause-ok t c =
+    map_ok _ _ c.closed_name_class.result
+    (λ r m. l.simple_closed (scope_of c.args.self.now.scope) c.args.deepest (seen.tokens c.args.tokens.now) (seen.tokens c.in-Some-first_of.rest.now) (seen.tokens r.1.now) (seen.class r.0) c.if-deepest-eq0.false
+    (seen.token c.in-Some-first_of.first.now, c.in-Some-first_of.ensures, c.if-is_mark.ensures) m) c.closed_name_class.ensures.ok
+
+pub innermost_name_class-returns-then-is_mark-clause-no : goal.innermost_name_class-returns-then-is_mark-clause-no
+innermost_name_class-returns-then-is_mark-clause-no t c =
+    passes c.closed_name_class.result c.closed_name_class.ensures.no
+    (λ v y. l.closed_stops c.args.deepest c.if-deepest-eq0.false (seen.token c.in-Some-first_of.first.now, c.in-Some-first_of.ensures, c.if-is_mark.ensures) y)
+
+pub innermost_name_class-closed_name_class-requires : goal.innermost_name_class-closed_name_class-requires
+innermost_name_class-closed_name_class-requires t c = (omega (arith, c.decreases, ap length c.in-Some-first_of.ensures), tt)
+
+pub innermost_name_class-returns-in_err-name-clause-ok : goal.innermost_name_class-returns-in_err-name-clause-ok
+innermost_name_class-returns-in_err-name-clause-ok t c = unread_ok _ _ _ c.from_residual.ensures.1
+
+pub innermost_name_class-returns-in_err-name-clause-no : goal.innermost_name_class-returns-in_err-name-clause-no
+innermost_name_class-returns-in_err-name-clause-no t c =
+    unmade_by _ _ _ c.from_residual.ensures.1 c.in_err-name.ensures.no
+
+pub innermost_name_class-returns-in-Some-2-clause-ok : goal.innermost_name_class-returns-in-Some-2-clause-ok
+innermost_name_class-returns-in-Some-2-clause-ok t c =
+    subst (λ z. SimpleAt (scope_of c.args.self.now.scope) c.args.deepest (seen.tokens c.args.tokens.now) z (seen.tokens c.in-Some-first_of.rest.now)) (sym (see_name c.in-Some-2.name))
+    (l.simple_name (scope_of c.args.self.now.scope) c.args.deepest (seen.token c.in-Some-first_of.first.now) (seen.tokens c.args.tokens.now) (seen.tokens c.in-Some-first_of.rest.now) (name c.in-Some-2.name)
+    c.in-Some-first_of.ensures (at_some _ _ c.in_ok-name.field-0 c.in-Some-2.name c.in-Some-2.is c.in_ok-name.ensures.ok))
+
+pub innermost_name_class-returns-in-None-clause-no : goal.innermost_name_class-returns-in-None-clause-no
+innermost_name_class-returns-in-None-clause-no t c =
+    refuses_map c.unexpected-in-None.ensures
+    (λ v y. l.nothing_stops c.in-Some-first_of.ensures (w.no_simple c.in-Some-first_of.ensures c.in_default.ensures c.if-is_mark.ensures (at_none _ _ c.in_ok-name.field-0 c.in-None.is c.in_ok-name.ensures.ok)) y)

@@ -16,8 +16,8 @@ decreases-closed_name_class l = 4 * length (seen.tokens l.tokens.now) + 3
 abbrev pub decreases-simple_name_class : goal.decreases-simple_name_class
 decreases-simple_name_class l = 4 * length (seen.tokens l.tokens.now) + 1
 
-abbrev pub decreases-except_name_class : goal.decreases-except_name_class
-decreases-except_name_class l = 4 * length (seen.tokens l.tokens.now)
+abbrev pub decreases-innermost_name_class : goal.decreases-innermost_name_class
+decreases-innermost_name_class l = 4 * length (seen.tokens l.tokens.now)
 
 abbrev pub invariant-name_classes-loop-all : goal.invariant-name_classes-loop-all
 invariant-name_classes-loop-all l = ClassesSoFar (seen.end l.self.end) (scope_of l.self.scope) l.deepest (seen.tokens l.tokens) (seen.tokens l.rest) l.first l.all.items
