@@ -57,7 +57,7 @@ same_extent : (w : code.Word) → extent w ≡ word_extent (seen.word w)
 unfolding word_extent
 same_extent (words.Name n) = refl
 same_extent (words.Escaped n) = refl
-same_extent (words.Prefixed p n) = refl
+same_extent (words.Prefixed q) = refl
 same_extent (words.AllOf p) = refl
 same_extent (words.Literal s) = refl
 same_extent (words.LongLiteral s) = refl

@@ -1,14 +1,16 @@
 -- Which word stands at the front of a text.
-use Rattle.std.proofs.Common.{◌≡◌, ℕ, Option, None, Some, MatchOption, false, List, [], ◌∷◌, ◌++◌, refl, ap, ◌∙◌, sym, subst, length, take, drop, inl, inr, IsTrue, arith, length-append}
+use Rattle.std.proofs.Common.{◌≡◌, ℕ, Option, None, Some, MatchOption, Bool, true, false, not, cond, ◌&&◌, ◌==◌, suc, ◌+◌, ◌-◌, ◌<◌, get_or, List, [], ◌∷◌, ◌++◌, refl, ap, ◌∙◌, sym, subst, length, take, drop, inl, inr, IsTrue, arith, length-append, append_assoc}
 use Rattle.std.specs.Prelude.{encode_utf8, codes}
 use Rattle.std.specs.List.{list_all}
-use Rattle.std.proofs.Math.Seq.{take-length, drop-length, drop-nil}
-use Rattle.std.proofs.lemmas.Bool.{true≢false}
-use Rattle.std.proofs.lemmas.Str.{encode_same, length-encode, len_utf8_bounds}
+use Rattle.std.specs.Str.{NoCharPasses, NonePass}
+use Rattle.std.proofs.Math.Seq.{take-length, drop-length, drop-nil, take-append_seam, drop-append_seam}
+use Rattle.std.proofs.lemmas.Bool.{true≢false, eqb-true, and_parts}
+use Rattle.std.proofs.lemmas.Str.{encode_same, length-encode, len_utf8_bounds, NoCharPasses-byte}
+use Rattle.tc_model.specs.Names.{IsNcName, is_ncname_char}
 use Rattle.tc_model.specs.XmlTextBytes.{IsQuote, length_before, UpTo, LiteralAt}
 use Rattle.tc_model.specs.XmlTextNames.{NcNameAt}
 use Rattle.tc_model.specs.CompactSyntaxTokens.{Word, a_name, prefixed, all_of, mark, LongLiteralAt, EscapedAt, is_mark, WordAt, plain_name, prefixed_name, namespace_name, escaped_name, quoted, quoted_long, backslash, other}
-use Rattle.tc_model.proofs.XmlTextPhrases.{same_others, ncname_unique}
+use Rattle.tc_model.proofs.XmlTextPhrases.{same_others, ncname_unique, start_is_char}
 use Rattle.tc_rnc.specs.Fronts.{IsNoMark, is_in_line}
 use Rattle.tc_rnc.proofs.Escapes.{lacks_mark}
 
@@ -48,6 +50,41 @@ name_with_asterisk {bs} {name} e f a = namespace_name (subst (λ w. NcNameAt bs 
 
 pub name_with_local : {bs name after behind local rest : List ℕ} → after ≡ 0x3A ∷ behind → NcNameAt behind local rest → NcNameAt bs name after → WordAt bs (prefixed name local) rest
 name_with_local {bs} {name} e b a = prefixed_name (subst (λ w. NcNameAt bs name w) e a) b
+
+-- a name lacks colons
+none_is_colon : (cs : List ℕ) → IsTrue (list_all is_ncname_char cs) → NonePass (λ c. not (is_ncname_char c)) cs
+none_is_colon [] h = tt
+none_is_colon (c ∷ cs) h = let both = and_parts (is_ncname_char c) (list_all is_ncname_char cs) h in (ap not both.0, none_is_colon cs both.1)
+
+name_lacks_colon : (name : List ℕ) → IsNcName name → (i : ℕ) → i < length name → get_or name i 0 ≡ 0x3A → ⊥
+name_lacks_colon name (c, cs, is, s, k) i l e =
+    let none : NoCharPasses (λ c. not (is_ncname_char c)) name = (c ∷ cs, is, (ap not (start_is_char c s), none_is_colon cs k)) in
+    let passes : not (is_ncname_char (get_or name i 0)) ≡ false = NoCharPasses-byte (λ c. not (is_ncname_char c)) name i none l (omega arith) in
+    true≢false (subst (λ b. not (is_ncname_char b) ≡ false) e passes)
+
+before_colon : (name local : List ℕ) → ((i : ℕ) → i < length name → get_or name i 0 ≡ 0x3A → ⊥) → length_before (0x3A ∷ []) (name ++ 0x3A ∷ local) ≡ length name
+before_colon [] local h = refl
+before_colon (b ∷ bs) local h = by (0x3A == b) refl (before_colon bs local (λ i l e. h (suc i) (omega (arith, l)) e))
+  where
+    by : (x : Bool) → (0x3A == b) ≡ x → length_before (0x3A ∷ []) (bs ++ 0x3A ∷ local) ≡ length bs → length_before (0x3A ∷ []) (b ∷ bs ++ 0x3A ∷ local) ≡ suc (length bs)
+    by true e there = absurd (h 0 (omega arith) (sym (eqb-true 0x3A b e)))
+    by false e there = ap (λ z. cond (z && true) 0 (1 + length_before (0x3A ∷ []) (bs ++ 0x3A ∷ local))) e ∙ omega (arith, there)
+
+pub cut_front : (text rest q front : List ℕ) → q ≡ take (length text - length rest) text → text ≡ front ++ rest → q ≡ front
+cut_front text rest q front e is =
+    e ∙ (ap (λ n. take n text) (omega (arith, ap length is, length-append front rest)) ∙ (ap (take (length front)) is ∙ take-append_seam front rest))
+
+pub qualified_parts : {text name rest behind local after : List ℕ} → NcNameAt text name rest → rest ≡ 0x3A ∷ behind → NcNameAt behind local after → text ≡ (name ++ 0x3A ∷ local) ++ after
+qualified_parts {name = name} {local = local} {after = after} a e b =
+    a.parts ∙ (ap (λ w. name ++ w) (e ∙ ap (λ w. 0x3A ∷ w) b.parts) ∙ sym (append_assoc name (0x3A ∷ local) after))
+
+pub qualified_word : {text name rest behind local after q : List ℕ} → NcNameAt text name rest → rest ≡ 0x3A ∷ behind → NcNameAt behind local after → q ≡ name ++ 0x3A ∷ local
+    → WordAt text (prefixed (take (length_before (0x3A ∷ []) q) q) (drop 1 (drop (length_before (0x3A ∷ []) q) q))) after
+qualified_word {text} {name} {local = local} {after = after} a e b is =
+    subst (λ q. WordAt text (prefixed (take (length_before (0x3A ∷ []) q) q) (drop 1 (drop (length_before (0x3A ∷ []) q) q))) after) (sym is)
+    (subst (λ n. WordAt text (prefixed (take n (name ++ 0x3A ∷ local)) (drop 1 (drop n (name ++ 0x3A ∷ local)))) after) (sym (before_colon name local (name_lacks_colon name a.lawful)))
+    (subst (λ w. WordAt text (prefixed w (drop 1 (drop (length name) (name ++ 0x3A ∷ local)))) after) (sym (take-append_seam name (0x3A ∷ local)))
+    (subst (λ w. WordAt text (prefixed name (drop 1 w)) after) (sym (drop-append_seam name (0x3A ∷ local))) (name_with_local e b a))))
 
 pub backslash_word : {text rest : List ℕ} → text ≡ 0x5C ∷ rest → ((n r : List ℕ) → EscapedAt text n r → ⊥) → WordAt text (mark 0x5C) rest
 backslash_word {text} {rest} e h =

@@ -1,6 +1,7 @@
 -- What contracts see of tokens and of syntax trees in an arena: the same data without addresses.
-use Rattle.std.specs.Prelude.{List, [], ◌∷◌, map}
+use Rattle.std.specs.Prelude.{List, [], ◌∷◌, map, take, drop}
 use Rattle.tc_model.specs.Views.{name, place}
+use Rattle.tc_model.specs.XmlTextBytes.{length_before}
 use Rattle.tc_model.specs.CompactSyntaxTokens as m
 use Rattle.tc_model.specs.CompactSyntaxTrees as t
 use Rattle.std.specs.Option.{option_map}
@@ -23,7 +24,7 @@ use Rattle.tc_rnc.specs.declared.syntax.Syntax.{Syntax}
 abbrev pub word : Word → m.Word
 word (words.Name n) = m.a_name n.now
 word (words.Escaped n) = m.escaped n.now
-word (words.Prefixed p n) = m.prefixed p.now n.now
+word (words.Prefixed q) = m.prefixed (take (length_before (0x3A ∷ []) q.now) q.now) (drop 1 (drop (length_before (0x3A ∷ []) q.now) q.now))
 word (words.AllOf p) = m.all_of p.now
 word (words.Literal s) = m.literal s.now
 word (words.LongLiteral s) = m.long_literal s.now

@@ -20,6 +20,7 @@ use crate::scopes::Scope;
 use crate::syntax::SClass;
 use crate::tokens::{Token, Word};
 use crate::wildcards::{all_excepting, wildcard_at, within_wildcards};
+use crate::words::up_to_or_all;
 use bumpalo::collections::into_bump_slice;
 use tc_model::Name;
 
@@ -30,7 +31,10 @@ fn parts_of<'b, 't>(scope: &Scope<'b>, word: Word<'t>) -> Option<(&'b str, &'t s
 {
     match word {
         Word::Name(n) | Word::Escaped(n) => Some((default_of(scope), n)),
-        Word::Prefixed(p, n) => Some((scope.uri_of(p)?, n)),
+        Word::Prefixed(name) => {
+            let (prefix, local) = up_to_or_all(name, ":");
+            Some((scope.uri_of(prefix)?, local))
+        }
         _ => None,
     }
 }

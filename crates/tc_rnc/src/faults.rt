@@ -166,7 +166,7 @@ fn unread_pattern(token: &Token<'_>) -> Option<Why>
 {
     match token.word {
         Word::Name(name) => unread_keyword(name),
-        Word::Prefixed(_, _) => Some(Why::DataPattern),
+        Word::Prefixed(_) => Some(Why::DataPattern),
         _ => None,
     }
 }

@@ -13,7 +13,7 @@ use crate::front::{after_space, line};
 use crate::tokens::{End, Token, Word};
 use crate::words::word_at;
 use bumpalo::Bump;
-use std::alloc::AllocFailed;
+use std::alloc::AllocError;
 use tc_base::Place;
 use tc_scan::{after_mark, characters, quote};
 
@@ -64,12 +64,13 @@ fn tokens_at<'t, 'b>(
     arena: &'b Bump,
     text: &'t str,
     total: usize,
-) -> Result<(Vec<Token<'t>, &'b Bump>, &'t str), AllocFailed<Token<'t>>>
+) -> Result<(Vec<Token<'t>, &'b Bump>, &'t str), AllocError>
     requires within { length text.now ≤ total }
     requires bounded { total ≤ 67108864 }
     ensures { IfOk result (λ r. ReadsAllTokens total text.now (seen.tokens r.0.items) r.1.now) }
 {
-    let mut list = Vec::new(arena);
+    // A token has at least one byte.
+    let mut list = Vec::with_capacity(arena, text.len())?;
     let mut rest = after_space(text);
     while let Some((token, after)) = token_at(total, rest) {
         list.push(token)?;
@@ -86,10 +87,7 @@ fn is_whole(rest: &str, text: &str, bytes: &[u8]) -> bool
 }
 
 /// All tokens of a text.
-pub fn tokens_of<'t, 'b>(
-    arena: &'b Bump,
-    bytes: &'t [u8],
-) -> Result<Tokens<'t, 'b>, AllocFailed<Token<'t>>>
+pub fn tokens_of<'t, 'b>(arena: &'b Bump, bytes: &'t [u8]) -> Result<Tokens<'t, 'b>, AllocError>
     requires { length bytes.now ≤ 67108864 }
     ensures { IfOk result (λ r. Lexed bytes.now (seen.tokens r.list.items) r.end r.whole) }
 {

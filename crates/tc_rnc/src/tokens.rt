@@ -12,8 +12,8 @@ pub enum Word<'t> {
     Name(&'t str),
     /// A backslash and an NCName, which then is no keyword.
     Escaped(&'t str),
-    /// A prefix and a local name.
-    Prefixed(&'t str, &'t str),
+    /// A prefix and a local name, with a colon between.
+    Prefixed(&'t str),
     /// A prefix, with `:*` after it.
     AllOf(&'t str),
     /// A literal in single quotes.

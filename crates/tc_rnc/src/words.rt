@@ -1,5 +1,5 @@
 // The word at the front of a text.
-ghost use Rattle.std.specs.Prelude.{◌≡◌, ◌+◌, ◌<◌, ◌≤◌, ℕ, List, length, take, drop, slice_index, IsTrue, MatchOption};
+ghost use Rattle.std.specs.Prelude.{◌≡◌, ◌+◌, ◌++◌, ◌<◌, ◌≤◌, ℕ, List, length, take, drop, slice_index, IsTrue, MatchOption};
 ghost use Rattle.std.specs.List.{list_all};
 ghost use Rattle.tc_model.specs.CompactSyntaxTokens as model;
 ghost use Rattle.tc_model.specs.XmlTextBytes as xml;
@@ -44,7 +44,7 @@ fn quoted(text: &str) -> Option<(&str, &str)>
 }
 
 /// What stands before a mark, and what follows it: all and nothing, where there is no such mark.
-fn up_to_or_all<'t>(text: &'t str, mark: &str) -> (&'t str, &'t str)
+pub fn up_to_or_all<'t>(text: &'t str, mark: &str) -> (&'t str, &'t str)
     requires some { 0 < length mark.now }
     requires ascii { slice_index mark.now 0 < 128 }
     ensures front { result.0.now ≡ take (xml.length_before mark.now text.now) text.now }
@@ -80,9 +80,18 @@ fn escaped(text: &str) -> Option<(&str, &str)>
     }
 }
 
-/// The word that begins with this name, which this follows, and what follows the word.
-fn named<'t>(name: &'t str, rest: &'t str) -> (Word<'t>, &'t str)
-    ensures { (bs : List ℕ) → xml_names.NcNameAt bs name.now rest.now → model.WordAt bs (seen.word result.0) result.1.now }
+/// What stands before the end of a text.
+fn before<'t>(text: &'t str, end: &str) -> &'t str
+    requires { (front : List ℕ) × (text.now ≡ front ++ end.now) }
+    ensures { (front : List ℕ) → text.now ≡ front ++ end.now → result.now ≡ front }
+{
+    &text[..text.len() - end.len()]
+}
+
+/// The word of a text that begins with this name, which this follows, and what follows the word.
+fn named<'t>(text: &'t str, name: &'t str, rest: &'t str) -> (Word<'t>, &'t str)
+    requires { xml_names.NcNameAt text.now name.now rest.now }
+    ensures { model.WordAt text.now (seen.word result.0) result.1.now }
 {
     let Some(behind) = after_byte(rest, b':') else {
         return (Word::Name(name), rest);
@@ -91,7 +100,7 @@ fn named<'t>(name: &'t str, rest: &'t str) -> (Word<'t>, &'t str)
         return (Word::AllOf(name), after);
     }
     match ncname(behind) {
-        Some((local, after)) => (Word::Prefixed(name, local), after),
+        Some((_, after)) => (Word::Prefixed(before(text, after)), after),
         None => (Word::Name(name), rest),
     }
 }
@@ -129,7 +138,7 @@ pub fn word_at(text: &str) -> Option<(Word<'_>, &str)>
     ensures { MatchOption result ((word : model.Word) (after : List ℕ) → model.WordAt text.now word after → ⊥) (λ r. model.WordAt text.now (seen.word r.0) r.1.now) }
 {
     if let Some((name, rest)) = ncname(text) {
-        return Some(named(name, rest));
+        return Some(named(text, name, rest));
     }
     if let Some((value, after)) = long_literal(text) {
         return Some((Word::LongLiteral(value), after));

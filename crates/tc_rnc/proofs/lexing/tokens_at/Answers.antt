@@ -10,7 +10,7 @@ pub loop-token-init : goal.loop-token-init
 loop-token-init c =
     let space = c.after_space-rest in
     record {
-      reads = subst (λ z. ReadsTokens c.args.total c.args.text.now (seen.tokens z) space.result.now) (sym c.new-list.ensures.items)
+      reads = subst (λ z. ReadsTokens c.args.total c.args.text.now (seen.tokens z) space.result.now) (sym c.in_ok-list.ensures.items)
           (none_yet_read c.args.total c.args.text.now space.result.now c.requires.within space.ensures.skips space.ensures.stops);
       text = space.utf8;
     }
