@@ -36,7 +36,8 @@ impl<'b> Wildcard<'b> {
 
 /// The prefix of all names of its namespace.
 fn prefix_of_all<'t>(word: Word<'t>) -> Option<&'t str>
-    ensures { MatchOption result ((p : List ℕ) → seen.word word.entry ≡ model.all_of p → ⊥) (λ p. seen.word word.entry ≡ model.all_of p.now) }
+    ensures { MatchOption result ((p : List ℕ) → seen.word word.entry ≡ model.all_of p → ⊥)
+        (λ p. seen.word word.entry ≡ model.all_of p.now) }
 {
     match word {
         Word::AllOf(prefix) => Some(prefix),
@@ -67,20 +68,22 @@ fn excepting_at<'b, 's, 't>(
     tokens: &'s [Token<'t>],
 ) -> Option<(Wildcard<'b>, &'s [Token<'t>])>
     ensures { MatchOption result (ExceptsNothing (scope_of scope.now) (seen.tokens tokens.now))
-        (λ r. ExceptingAt (scope_of scope.now) (seen.tokens tokens.now) r.0 (seen.tokens r.1.now)) }
+        (λ r. ExceptingAt (scope_of scope.now) (seen.tokens tokens.now) r.0
+        (seen.tokens r.1.now)) }
 {
     let (wildcard, rest) = wildcard_at(scope, tokens)?;
     let behind = after_mark(rest, '-')?;
     Some((wildcard, behind))
 }
 
-/// All wildcards at the front that have a minus sign behind them, and what follows the last of these signs.
+/// All wildcards at the front that have a minus sign behind them, and what follows the last sign.
 pub fn all_excepting<'b, 's, 't>(
     arena: &'b Bump,
     scope: &Scope<'b>,
     tokens: &'s [Token<'t>],
 ) -> Result<(&'b [Wildcard<'b>], &'s [Token<'t>]), RncFault>
-    ensures ok { IfOk result (λ r. ExceptsAt (scope_of scope.now) (seen.tokens tokens.now) r.0.now (seen.tokens r.1.now)) }
+    ensures ok { IfOk result (λ r. ExceptsAt (scope_of scope.now) (seen.tokens tokens.now) r.0.now
+        (seen.tokens r.1.now)) }
     ensures ends { IfOk result (λ r. ExceptsNothing (scope_of scope.now) (seen.tokens r.1.now)) }
     ensures no { IfErr result (λ e. e ≡ NoMemory) }
 {
@@ -99,7 +102,8 @@ pub fn within_wildcards<'b>(
     wildcards: &[Wildcard<'b>],
     excepted: SClass<'b>,
 ) -> Result<SClass<'b>, RncFault>
-    ensures ok { IfOk result (λ c. seen.class c ≡ around wildcards.now (seen.class excepted.entry)) }
+    ensures ok { IfOk result (λ c.
+        seen.class c ≡ around wildcards.now (seen.class excepted.entry)) }
     ensures no { IfErr result (λ e. e ≡ NoMemory) }
 {
     let mut class = excepted;
