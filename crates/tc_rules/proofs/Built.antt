@@ -17,7 +17,7 @@ use Rattle.tc_model.specs.Numberings.{Move, moves_of, looks_of, predicates_of, l
 use Rattle.tc_model.specs.PathStates.{first_state, next_state, path_of_rules}
 use Rattle.tc_model.specs.WellFormed.{IsSheet, ForEach, eaches_of}
 use Rattle.tc_rules.specs.Classes.{IsSourceOf}
-use Rattle.tc_rules.specs.Faults.{IsCause}
+use Rattle.tc_rules.specs.Faults.{IsCause, IsPredicatesCause}
 use Rattle.tc_rules.specs.Gathered.{numbers}
 use Rattle.tc_rules.specs.Graphs.{Graph, IsGraphOf}
 use Rattle.tc_rules.specs.Jobs.{AreJobs}
@@ -111,6 +111,13 @@ module _ (symbols : List Mention) (x : s.Sheet) where
           (many.0, subst (λ k. 4096 < k) (sym (count_blocks many.0)) many.1),
         )
     select_cause g a l ps f NoMemory k = tt
+
+-- where there are too many predicates
+pub predicates_cause : (symbols : List Mention) (x : s.Sheet) (e : RulesFault) → IsPredicatesCause (predicates_of x) e → IsCause symbols x e
+predicates_cause symbols x TooManyPredicates k = k
+predicates_cause symbols x TooManyAncestorStates k = absurd k
+predicates_cause symbols x TooManySelectStates k = absurd k
+predicates_cause symbols x NoMemory k = tt
 
 -- where one more path has too many states, all paths have
 pub next_cause : (y : Source) (ps : List Path) (i : ℕ) (p : Path) (gs : List Graph) (left : ℕ) → i < length ps → p ≡ get_or ps i p → left + count_states gs ≡ 4096

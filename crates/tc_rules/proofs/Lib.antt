@@ -2,6 +2,7 @@ pub mod Passed
 pub mod Searched
 pub mod Exact
 pub mod Sameness
+pub mod Distinct
 pub mod Covered
 pub mod Best
 pub mod Chosen

@@ -1,6 +1,6 @@
 -- Why there are no rules of a stylesheet: of the limits that it passes, the first (predicates, ancestor states, select states).
-use Rattle.std.specs.Prelude.{List}
-use Rattle.tc_model.specs.Sheets.{Sheet}
+use Rattle.std.specs.Prelude.{◌<◌, List, length}
+use Rattle.tc_model.specs.Sheets.{Sheet, Test}
 use Rattle.tc_model.specs.Symbols.{Mention}
 use Rattle.tc_model.specs.StateCounts.{PassPredicates, PassAncestors, PassSelects}
 use Rattle.tc_rules.specs.declared.rules.RulesFault.{RulesFault}
@@ -11,3 +11,10 @@ IsCause symbols s TooManyPredicates = PassPredicates symbols s
 IsCause symbols s TooManyAncestorStates = ¬ PassPredicates symbols s × PassAncestors symbols s
 IsCause symbols s TooManySelectStates = ¬ PassPredicates symbols s × ¬ PassAncestors symbols s × PassSelects symbols s
 IsCause symbols s NoMemory = Unit {0}
+
+-- why different predicates aren't kept
+abbrev pub IsPredicatesCause : List Test → RulesFault → Type 0
+IsPredicatesCause tests TooManyPredicates = 6 < length tests
+IsPredicatesCause tests TooManyAncestorStates = ⊥
+IsPredicatesCause tests TooManySelectStates = ⊥
+IsPredicatesCause tests NoMemory = Unit {0}

@@ -1,5 +1,5 @@
 // What a stylesheet has, each in its order: predicates, moves, looks, for-eaches, and the rules of each mode.
-ghost use Rattle.std.specs.Prelude.{◌≡◌, ◌≢◌, ◌<◌, ◌++◌, ◌∷◌, ℕ, [], Some, length, map, flat_map, get_or, slice_get, Contains, IfOk, OnOk};
+ghost use Rattle.std.specs.Prelude.{◌≡◌, ◌≢◌, ◌<◌, ◌++◌, ◌∷◌, ℕ, [], Some, length, map, flat_map, get_or, slice_get, Contains, IfOk, OnOk, IfErr, ◌≤◌};
 ghost use Rattle.std.specs.List.{AllByRecursion};
 ghost use Rattle.tc_model.specs.Meaning.{all_children};
 ghost use Rattle.tc_model.specs.Numbered.{numbers_below};
@@ -9,6 +9,7 @@ ghost use Rattle.tc_model.specs.Views as see;
 ghost use Rattle.tc_model.specs.Sheets as s;
 ghost use Rattle.tc_model.specs.Symbols.{fresh_name, symbol_count};
 ghost use Rattle.tc_model.specs.WellFormed.{IsSheet, ForEach, eaches_of};
+ghost use Rattle.tc_rules.specs.Faults.{IsPredicatesCause};
 ghost use Rattle.tc_rules.specs.Gathered.{bodies_with, built_in_moves, numbers, bodies as see_bodies};
 ghost use Rattle.tc_rules.specs.Jobs.{AreJobs};
 ghost use Rattle.tc_rules.specs.Kept.{numbers_in_mode};
@@ -16,6 +17,7 @@ ghost use Rattle.tc_rules.specs.Usages.{usages_in, usages_of, usages_of_rules, p
 ghost use Rattle.tc_rules.specs.Views.{predicates, looks, moves, usage as see_usage, usages};
 
 use crate::once::{looks_once, moves_once, predicates_once};
+use crate::rules::RulesFault;
 use crate::walk::{
     Job, Move, Usage, add_usage, looks_in_test, looks_in_usage, moves_in_usage,
     predicates_in_usage, usages_in_body,
@@ -74,12 +76,14 @@ pub(crate) fn all_usages<'b>(alloc: Global, sheet: &Sheet<'b>) -> Result<Vec<Usa
     Ok(found)
 }
 
-/// The predicates, each once, in their order.
+/// The predicates, each once, in their order, of which there are at most 6.
 pub(crate) fn all_predicates<'b>(
     alloc: Global,
     used: &[Usage<'b>],
-) -> Result<Vec<&'b Test<'b>>, NoMemory>
-    ensures { IfOk result (λ v. (x : s.Sheet) → usages used.now ≡ usages_of x → predicates v.items ≡ n.predicates_of x) }
+) -> Result<Vec<&'b Test<'b>>, RulesFault>
+    ensures predicates { IfOk result (λ v. (x : s.Sheet) → usages used.now ≡ usages_of x → predicates v.items ≡ n.predicates_of x) }
+    ensures few { IfOk result (λ v. length v.items ≤ 6) }
+    ensures cause { IfErr result (λ e. (x : s.Sheet) → usages used.now ≡ usages_of x → IsPredicatesCause (n.predicates_of x) e) }
 {
     let mut found = Vec::new(alloc);
     for usage in used {

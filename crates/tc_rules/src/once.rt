@@ -1,33 +1,64 @@
 // Predicates, looks and moves, each once.
-ghost use Rattle.std.specs.Prelude.{◌≡◌, ◌≤◌, ℕ, length, IfOk};
+ghost use Rattle.std.specs.Prelude.{◌≡◌, ◌≤◌, ◌++◌, ◌∷◌, [], ℕ, length, IfOk, OnOk, IfErr};
 ghost use Rattle.tc_model.specs.Numbered.{each_once, number_of};
 ghost use Rattle.tc_model.specs.Numberings.{same_move};
 ghost use Rattle.tc_model.specs.SameTests as same;
 ghost use Rattle.tc_model.specs.Views as see;
 ghost use Rattle.tc_model.specs.Sheets as s;
+ghost use Rattle.tc_rules.specs.Faults.{IsPredicatesCause};
 ghost use Rattle.tc_rules.specs.Jobs.{AreJobs};
+ghost use Rattle.tc_rules.specs.Once.{put_once};
 ghost use Rattle.tc_rules.specs.Views.{predicates, looks, moves, move as see_move, mode_of};
 
+use crate::rules::RulesFault;
 use crate::same::{same_path, same_test};
 use crate::walk::{Job, Move};
 use std::alloc::Global;
 use tc_base::NoMemory;
 use tc_model::{Path, Test};
 
-/// The different predicates, in their order.
+/// The most predicates.
+const MOST_PREDICATES: usize = 6;
+
+/// The different predicates, in their order, of which there are at most 6: the seventh ends the search.
 pub(crate) fn predicates_once<'b>(
     alloc: Global,
     found: &[&'b Test<'b>],
-) -> Result<Vec<&'b Test<'b>>, NoMemory>
-    ensures { IfOk result (λ v. predicates v.items ≡ each_once same.same_test (predicates found.now)) }
+) -> Result<Vec<&'b Test<'b>>, RulesFault>
+    ensures kept { IfOk result (λ v. predicates v.items ≡ each_once same.same_test (predicates found.now)) }
+    ensures few { IfOk result (λ v. length v.items ≤ 6) }
+    ensures cause { IfErr result (λ e. IsPredicatesCause (each_once same.same_test (predicates found.now)) e) }
 {
     let mut kept = Vec::new(alloc);
     for test in found {
-        if number_of_test(&kept, test) >= kept.len() {
-            kept.push(*test)?;
-        }
+        keep_predicate(&mut kept, *test)?;
     }
     Ok(kept)
+}
+
+/// One more predicate, unless one of those kept is the same.
+fn keep_predicate<'b>(kept: &mut Vec<&'b Test<'b>>, test: &'b Test<'b>) -> Result<(), RulesFault>
+    requires few { length kept.old.items ≤ 6 }
+    ensures kept { OnOk result (predicates kept.new.items ≡ put_once same.same_test (predicates kept.old.items) (see.test test.now)) }
+    ensures few { OnOk result (length kept.new.items ≤ 6) }
+    ensures cause { IfErr result (λ e. IsPredicatesCause (put_once same.same_test (predicates kept.old.items) (see.test test.now)) e) }
+{
+    let count = kept.len();
+    if number_of_test(kept, test) < count {
+        return Ok(());
+    }
+    if count == MOST_PREDICATES {
+        return Err(RulesFault::TooManyPredicates);
+    }
+    put_predicate(kept, test)?;
+    Ok(())
+}
+
+fn put_predicate<'b>(kept: &mut Vec<&'b Test<'b>>, test: &'b Test<'b>) -> Result<(), NoMemory>
+    ensures { OnOk result (kept.new.items ≡ kept.old.items ++ test.entry ∷ []) }
+{
+    kept.push(test)?;
+    Ok(())
 }
 
 /// How many predicates stand before the first that is the same.

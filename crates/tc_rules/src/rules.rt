@@ -41,9 +41,7 @@ use tc_alpha::{Alphabet, Sym};
 use tc_base::NoMemory;
 use tc_model::{Instr, Path, Pattern, Rule, Sheet, Test};
 
-/// The most predicates, ancestor states and select states.
-const MOST_PREDICATES: usize = 6;
-
+/// The most ancestor states and select states.
 const MOST_ANCESTORS: usize = 64;
 
 const MOST_SELECTS: usize = 4096;
@@ -461,9 +459,6 @@ fn source_of<'a, 'b>(
     ensures cause { IfErr result (λ e. (x : s.Sheet) → usages used.now ≡ usages_of x → IsCause alphabet.now x e) }
 {
     let predicates = all_predicates(alloc, used)?;
-    if predicates.len() > MOST_PREDICATES {
-        return Err(RulesFault::TooManyPredicates);
-    }
     let names = names_of(alloc, arena, alphabet)?;
     let sets = sets_of(predicates.len());
     Ok(Source {
