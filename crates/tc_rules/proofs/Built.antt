@@ -22,6 +22,7 @@ use Rattle.tc_rules.specs.Gathered.{numbers}
 use Rattle.tc_rules.specs.Graphs.{Graph, IsGraphOf}
 use Rattle.tc_rules.specs.Jobs.{AreJobs}
 use Rattle.tc_rules.specs.Kept.{told, IsRulesOf, numbers_in_mode}
+use Rattle.tc_rules.specs.MoveTables.{IsPathsCause}
 use Rattle.tc_rules.specs.Rows.{graph, graphs, AllKeepEndings}
 use Rattle.tc_rules.specs.Views as seen
 use Rattle.tc_rules.specs.Selects.{paths_of, selects_from, starts_from, AreGraphs, states_by, count_by, all_states_by, IsAncestorCause, IsNextCause, IsSelectCause}
@@ -111,6 +112,13 @@ module _ (symbols : List Mention) (x : s.Sheet) where
           (many.0, subst (λ k. 4096 < k) (sym (count_blocks many.0)) many.1),
         )
     select_cause g a l ps f NoMemory k = tt
+
+-- where so many different paths have a first state that the limit is passed, it is passed by these states alone
+pub asked_cause : (y : Source) (ps : List Path) (e : RulesFault) → IsPathsCause ps e → IsSelectCause y ps e
+asked_cause y ps TooManyPredicates k = k
+asked_cause y ps TooManyAncestorStates k = k
+asked_cause y ps TooManySelectStates k = λ symbols h. (0, k)
+asked_cause y ps NoMemory k = k
 
 -- where there are too many predicates
 pub predicates_cause : (symbols : List Mention) (x : s.Sheet) (e : RulesFault) → IsPredicatesCause (predicates_of x) e → IsCause symbols x e

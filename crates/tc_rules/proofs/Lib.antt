@@ -3,6 +3,8 @@ pub mod Searched
 pub mod Exact
 pub mod Sameness
 pub mod Distinct
+pub mod MoveTables
+pub mod MixedMoves
 pub mod Covered
 pub mod Best
 pub mod Chosen

@@ -3,6 +3,8 @@ pub mod States
 pub mod Views
 pub mod RulesView
 pub mod Once
+pub mod Mixed
+pub mod MoveTables
 pub mod Graphs
 pub mod Rows
 pub mod Faults

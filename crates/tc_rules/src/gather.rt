@@ -13,10 +13,12 @@ ghost use Rattle.tc_rules.specs.Faults.{IsPredicatesCause};
 ghost use Rattle.tc_rules.specs.Gathered.{bodies_with, built_in_moves, numbers, bodies as see_bodies};
 ghost use Rattle.tc_rules.specs.Jobs.{AreJobs};
 ghost use Rattle.tc_rules.specs.Kept.{numbers_in_mode};
+ghost use Rattle.tc_rules.specs.MoveTables.{IsPathsCause, paths};
 ghost use Rattle.tc_rules.specs.Usages.{usages_in, usages_of, usages_of_rules, predicates_in_usage, looks_in_usage, moves_in_usage, eaches_in_usage};
 ghost use Rattle.tc_rules.specs.Views.{predicates, looks, moves, usage as see_usage, usages};
 
-use crate::once::{looks_once, moves_once, predicates_once};
+use crate::move_table::{looks_once, moves_once};
+use crate::once::predicates_once;
 use crate::rules::RulesFault;
 use crate::walk::{
     Job, Move, Usage, add_usage, looks_in_test, looks_in_usage, moves_in_usage,
@@ -113,21 +115,24 @@ fn moves_of_usages<'b>(found: &mut Vec<Move<'b>>, used: &[Usage<'b>]) -> Result<
     Ok(())
 }
 
-/// The moves, each once, in their order: those of the built-in rules, of all rules, and of the named bodies.
+/// The moves, each once, in their order: those of the built-in rules, of all rules, and of the named bodies. The predicates are
+/// given.
 pub(crate) fn all_moves<'b>(
     alloc: Global,
     sheet: &Sheet<'b>,
     used: &[Usage<'b>],
-) -> Result<Vec<Move<'b>>, NoMemory>
+    numbered: &[&Test<'_>],
+) -> Result<Vec<Move<'b>>, RulesFault>
     requires sheet { IsSheet (see.sheet sheet.now) }
     requires used { usages used.now ≡ usages_of (see.sheet sheet.now) }
     ensures moves { IfOk result (λ v. moves sheet.now.modes v.items ≡ n.moves_of (see.sheet sheet.now)) }
     ensures jobs { IfOk result (λ v. AreJobs (see.sheet sheet.now) v.items) }
+    ensures cause { IfErr result (λ e. IsPathsCause (paths (n.moves_of (see.sheet sheet.now))) e) }
 {
     let mut found = Vec::new(alloc);
     built_in_moves(&mut found, sheet.modes)?;
     moves_of_usages(&mut found, used)?;
-    moves_once(alloc, sheet.modes, &found)
+    moves_once(alloc, numbered, sheet.modes, &found)
 }
 
 fn looks_of_usages<'b>(found: &mut Vec<&'b Path<'b>>, used: &[Usage<'b>]) -> Result<(), NoMemory>
@@ -156,13 +161,14 @@ pub(crate) fn all_looks<'b>(
     alloc: Global,
     used: &[Usage<'b>],
     numbered: &[&'b Test<'b>],
-) -> Result<Vec<&'b Path<'b>>, NoMemory>
-    ensures { IfOk result (λ v. (x : s.Sheet) → usages used.now ≡ usages_of x → predicates numbered.now ≡ n.predicates_of x → looks v.items ≡ n.looks_of x) }
+) -> Result<Vec<&'b Path<'b>>, RulesFault>
+    ensures looks { IfOk result (λ v. (x : s.Sheet) → usages used.now ≡ usages_of x → predicates numbered.now ≡ n.predicates_of x → looks v.items ≡ n.looks_of x) }
+    ensures cause { IfErr result (λ e. (x : s.Sheet) → usages used.now ≡ usages_of x → predicates numbered.now ≡ n.predicates_of x → IsPathsCause (n.looks_of x) e) }
 {
     let mut found = Vec::new(alloc);
     looks_of_usages(&mut found, used)?;
     looks_of_tests(&mut found, numbered)?;
-    looks_once(alloc, &found)
+    looks_once(alloc, numbered, &found)
 }
 
 /// The steps of all rules' patterns; `/` has none.
@@ -207,7 +213,7 @@ pub(crate) fn names_of<'a>(
 }
 
 /// An empty list for each mode.
-fn no_numbers(alloc: Global, modes: u32) -> Result<Vec<Vec<u32>>, NoMemory>
+pub(crate) fn no_numbers(alloc: Global, modes: u32) -> Result<Vec<Vec<u32>>, NoMemory>
     ensures count { IfOk result (λ v. length v.items ≡ modes) }
     ensures none { IfOk result (λ v. (m : ℕ) → get_or (numbers v.items) m [] ≡ []) }
 {
@@ -219,7 +225,11 @@ fn no_numbers(alloc: Global, modes: u32) -> Result<Vec<Vec<u32>>, NoMemory>
 }
 
 /// One more rule of a mode. There is no memory for more of them than a number can count.
-fn add_number(lists: &mut Vec<Vec<u32>>, mode: u32, number: usize) -> Result<(), NoMemory>
+pub(crate) fn add_number(
+    lists: &mut Vec<Vec<u32>>,
+    mode: u32,
+    number: usize,
+) -> Result<(), NoMemory>
     requires { mode < length lists.old.items }
     ensures count { OnOk result (length lists.new.items ≡ length lists.old.items) }
     ensures added { OnOk result (get_or (numbers lists.new.items) mode [] ≡ get_or (numbers lists.old.items) mode [] ++ number ∷ []) }

@@ -9,6 +9,8 @@ mod gather;
 mod graph;
 mod known_rules;
 pub mod laws;
+mod mixed;
+mod move_table;
 mod once;
 mod rows;
 mod rules;

@@ -4,9 +4,7 @@ ghost use Rattle.tc_model.specs.Numbered.{each_once, number_of};
 ghost use Rattle.tc_model.specs.Numberings.{same_move};
 ghost use Rattle.tc_model.specs.SameTests as same;
 ghost use Rattle.tc_model.specs.Views as see;
-ghost use Rattle.tc_model.specs.Sheets as s;
 ghost use Rattle.tc_rules.specs.Faults.{IsPredicatesCause};
-ghost use Rattle.tc_rules.specs.Jobs.{AreJobs};
 ghost use Rattle.tc_rules.specs.Once.{put_once};
 ghost use Rattle.tc_rules.specs.Views.{predicates, looks, moves, move as see_move, mode_of};
 
@@ -74,22 +72,6 @@ pub(crate) fn number_of_test(numbered: &[&Test<'_>], test: &Test<'_>) -> usize
     numbered.len()
 }
 
-/// The different looks, in their order.
-pub(crate) fn looks_once<'b>(
-    alloc: Global,
-    found: &[&'b Path<'b>],
-) -> Result<Vec<&'b Path<'b>>, NoMemory>
-    ensures { IfOk result (λ v. looks v.items ≡ each_once same.same_path (looks found.now)) }
-{
-    let mut kept = Vec::new(alloc);
-    for path in found {
-        if number_of_path(&kept, path) >= kept.len() {
-            kept.push(*path)?;
-        }
-    }
-    Ok(kept)
-}
-
 /// How many looks stand before the first that is the same.
 pub(crate) fn number_of_path(numbered: &[&Path<'_>], path: &Path<'_>) -> usize
     ensures number { result ≡ number_of same.same_path (see.path path.now) (looks numbered.now) }
@@ -104,7 +86,7 @@ pub(crate) fn number_of_path(numbered: &[&Path<'_>], path: &Path<'_>) -> usize
 }
 
 /// The mode of a job as a number: a for-each has one of its own, counted on from the modes.
-fn mode_number(modes: u32, job: Job) -> u64
+pub(crate) fn mode_number(modes: u32, job: Job) -> u64
     ensures { result ≡ mode_of modes job }
 {
     match job {
@@ -114,30 +96,12 @@ fn mode_number(modes: u32, job: Job) -> u64
 }
 
 /// Whether two moves are the same, where there are so many modes.
-fn same_job(modes: u32, a: &Move<'_>, b: &Move<'_>) -> bool
+pub(crate) fn same_job(modes: u32, a: &Move<'_>, b: &Move<'_>) -> bool
     ensures { result ≡ same_move (see_move modes a.now) (see_move modes b.now) }
 {
     let mode = mode_number(modes, a.job);
     let other = mode_number(modes, b.job);
     mode == other && same_path(a.path, b.path)
-}
-
-/// The different moves, in their order.
-pub(crate) fn moves_once<'b>(
-    alloc: Global,
-    modes: u32,
-    found: &[Move<'b>],
-) -> Result<Vec<Move<'b>>, NoMemory>
-    ensures kept { IfOk result (λ v. moves modes v.items ≡ each_once same_move (moves modes found.now)) }
-    ensures jobs { IfOk result (λ v. (x : s.Sheet) → AreJobs x found.now → AreJobs x v.items) }
-{
-    let mut kept = Vec::new(alloc);
-    for other in found {
-        if number_of_move(modes, &kept, other) >= kept.len() {
-            kept.push(*other)?;
-        }
-    }
-    Ok(kept)
 }
 
 /// How many moves stand before the first that is the same.

@@ -22,6 +22,7 @@ ghost use Rattle.tc_rules.specs.Faults.{IsCause};
 ghost use Rattle.tc_model.specs.StateCounts.{PassNone};
 ghost use Rattle.tc_rules.specs.Gathered.{bodies as see_bodies, numbers};
 ghost use Rattle.tc_rules.specs.Jobs.{AreJobs, IsJob};
+ghost use Rattle.tc_rules.specs.MoveTables.{IsPathsCause};
 ghost use Rattle.tc_rules.specs.Kept.{IsRulesOf, numbers_in_mode, told};
 ghost use Rattle.tc_rules.specs.Usages.{usages_of};
 ghost use Rattle.tc_rules.specs.Views.{mode_of, predicates, looks as see_paths, moves as see_moves, usages};
@@ -153,8 +154,9 @@ impl<'b> Rules<'b> {
         ensures within { (symbols : List Mention) → IsSourceOf symbols source.entry → OnOk result (PassNone symbols (see.sheet sheet.now)) }
         ensures cause { (symbols : List Mention) → IsSourceOf symbols source.entry → IfErr result (λ e. IsCause symbols (see.sheet sheet.now) e) }
     {
+        let above = ancestors_of(&source, sheet)?;
         let asked = asked_of(source.alloc, sheet, used, &source.predicates)?;
-        let states = states_of(&source, sheet, &asked.moves, &asked.looks)?;
+        let selected = selected_of(&source, &asked.moves, &asked.looks)?;
         Ok(Rules {
             sheet: *sheet,
             predicates: source.predicates,
@@ -162,10 +164,10 @@ impl<'b> Rules<'b> {
             looks: asked.looks,
             eaches: asked.eaches,
             modes: asked.modes,
-            above: states.above,
-            graphs: states.graphs,
-            selects: states.selects,
-            starts: states.starts,
+            above,
+            graphs: selected.graphs,
+            selects: selected.selects,
+            starts: selected.starts,
         })
     }
 
@@ -483,7 +485,7 @@ fn asked_of<'b>(
     sheet: &Sheet<'b>,
     used: &[Usage<'b>],
     numbered: &[&'b Test<'b>],
-) -> Result<Asked<'b>, NoMemory>
+) -> Result<Asked<'b>, RulesFault>
     requires sheet { IsSheet (see.sheet sheet.now) }
     requires used { usages used.now ≡ usages_of (see.sheet sheet.now) }
     requires numbered { predicates numbered.now ≡ n.predicates_of (see.sheet sheet.now) }
@@ -494,8 +496,9 @@ fn asked_of<'b>(
     ensures bodies { IfOk result (λ a. (f : ForEach) → Contains (eaches_of (see.sheet sheet.now)) f → slice_get (see_bodies a.eaches.items) f.number ≡ Some f.body) }
     ensures modes { IfOk result (λ a. length a.modes.items ≡ sheet.now.modes) }
     ensures numbers { IfOk result (λ a. (m : ℕ) → m < sheet.now.modes → get_or (numbers a.modes.items) m [] ≡ numbers_in_mode m 0 (map see.rule sheet.now.rules.now)) }
+    ensures cause { IfErr result (λ e. IsPathsCause (paths_of (see.sheet sheet.now)) e) }
 {
-    let moves = all_moves(alloc, sheet, used)?;
+    let moves = all_moves(alloc, sheet, used, numbered)?;
     let looks = all_looks(alloc, used, numbered)?;
     let eaches = all_eaches(alloc, sheet, used)?;
     let modes = modes_of_rules(alloc, sheet)?;
@@ -504,42 +507,6 @@ fn asked_of<'b>(
         looks,
         eaches,
         modes,
-    })
-}
-
-/// The ancestor states and the select states.
-#[derive(Drop)]
-struct States {
-    above: Graph,
-    graphs: Vec<Graph>,
-    selects: Vec<Select>,
-    starts: Vec<u32>,
-}
-
-fn states_of(
-    source: &Source<'_, '_>,
-    sheet: &Sheet<'_>,
-    moves: &[Move<'_>],
-    looks: &[&Path<'_>],
-) -> Result<States, RulesFault>
-    requires { source.now.sets ≡ 2 ^ length source.now.predicates.items }
-    ensures above { IfOk result (λ t. (symbols : List Mention) → IsSourceOf symbols source.now → IsGraphOf symbols (predicates source.now.predicates.items) all_count (path_of_rules (see.sheet sheet.now).rules) (see_graph t.above)) }
-    ensures few_above { IfOk result (λ t. length (see_graph t.above).states ≤ 64) }
-    ensures graphs { IfOk result (λ t. (symbols : List Mention) → IsSourceOf symbols source.now → AreGraphs symbols (predicates source.now.predicates.items) (map (λ m. see.path m.path.now) moves.now ++ see_paths looks.now) (see_graphs t.graphs.items)) }
-    ensures few { IfOk result (λ t. count_states (see_graphs t.graphs.items) ≤ 4096) }
-    ensures ending { IfOk result (λ t. AllKeepEndings t.graphs.items) }
-    ensures selects { IfOk result (λ t. t.selects.items ≡ selects_from 0 (see_graphs t.graphs.items)) }
-    ensures starts { IfOk result (λ t. t.starts.items ≡ starts_from 0 (see_graphs t.graphs.items)) }
-    ensures cause { IfErr result (λ e. (symbols : List Mention) → IsSourceOf symbols source.now → predicates source.now.predicates.items ≡ n.predicates_of (see.sheet sheet.now) → length (n.predicates_of (see.sheet sheet.now)) ≤ 6 →
-        map (λ m. see.path m.path.now) moves.now ++ see_paths looks.now ≡ paths_of (see.sheet sheet.now) → IsCause symbols (see.sheet sheet.now) e) }
-{
-    let above = ancestors_of(source, sheet)?;
-    let selected = selected_of(source, moves, looks)?;
-    Ok(States {
-        above,
-        graphs: selected.graphs,
-        selects: selected.selects,
-        starts: selected.starts,
     })
 }
 
@@ -598,7 +565,7 @@ fn ancestors_of(source: &Source<'_, '_>, sheet: &Sheet<'_>) -> Result<Graph, Rul
 }
 
 /// The paths of moves and then of looks.
-fn select_paths<'b>(
+pub(crate) fn select_paths<'b>(
     alloc: Global,
     moves: &[Move<'b>],
     looks: &[&'b Path<'b>],

@@ -1,9 +1,18 @@
+use Rattle.std.proofs.Common.{◌≡◌}
 use Rattle.std.proofs.lemmas.Result.{IfOk-from_err}
+use Rattle.tc_model.specs.Numberings.{looks_of, moves_of, predicates_of}
+use Rattle.tc_model.specs.Sheets.{Sheet}
 use Rattle.tc_model.specs.Views as see
+use Rattle.tc_rules.specs.MoveTables.{IsPathsCause, paths}
+use Rattle.tc_rules.specs.Selects.{paths_of}
+use Rattle.tc_rules.specs.Usages.{usages_of}
+use Rattle.tc_rules.specs.Views.{predicates, usages}
+use Rattle.tc_rules.proofs.Built.{handed_on}
+use Rattle.tc_rules.proofs.MoveTables.{passed_before, passed_behind}
 use Rattle.tc_rules.proofs.rules.asked_of.Goals as goal
 
 pub returns-clause-looks : goal.returns-clause-looks
-returns-clause-looks c = c.in_ok-looks.ensures (see.sheet c.args.sheet.now) c.requires.used c.requires.numbered
+returns-clause-looks c = c.in_ok-looks.ensures.looks (see.sheet c.args.sheet.now) c.requires.used c.requires.numbered
 
 pub returns-clause-moves : goal.returns-clause-moves
 returns-clause-moves c = c.in_ok-moves.ensures.moves
@@ -22,6 +31,18 @@ returns-clause-modes c = c.in_ok-modes.ensures.count
 
 pub returns-clause-numbers : goal.returns-clause-numbers
 returns-clause-numbers c = c.in_ok-modes.ensures.numbers
+
+pub returns-in_err-moves-clause-cause : goal.returns-in_err-moves-clause-cause
+returns-in_err-moves-clause-cause c =
+    let x = see.sheet c.args.sheet.now in
+    handed_on c.from_residual.result c.in_err-moves.field-0.0 _ _ c.from_residual.ensures.1 (passed_before (paths (moves_of x)) (looks_of x)) c.in_err-moves.ensures.cause
+
+pub returns-in_err-looks-clause-cause : goal.returns-in_err-looks-clause-cause
+returns-in_err-looks-clause-cause c =
+    let x = see.sheet c.args.sheet.now in
+    handed_on c.from_residual-in_err-looks.result c.in_err-looks.field-0.0
+    (λ e. (y : Sheet) → usages c.args.used.now ≡ usages_of y → predicates c.args.numbered.now ≡ predicates_of y → IsPathsCause (looks_of y) e) (IsPathsCause (paths_of x)) c.from_residual-in_err-looks.ensures.1
+    (λ e k. passed_behind (paths (moves_of x)) (looks_of x) e (k x c.requires.used c.requires.numbered)) c.in_err-looks.ensures.cause
 
 pub returns-in_err-moves-clause-moves : goal.returns-in_err-moves-clause-moves
 returns-in_err-moves-clause-moves c = IfOk-from_err c.from_residual.result _ c.from_residual.ensures.0
