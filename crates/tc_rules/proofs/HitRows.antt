@@ -11,23 +11,18 @@ use Rattle.tc_rules.specs.declared.graph.Graph.{Graph}
 use Rattle.tc_rules.specs.declared.rows.Row.{Row}
 use Rattle.tc_rules.proofs.GraphRows.{left_one}
 use Rattle.tc_rules.proofs.Pieces.{mapped_at}
-use Rattle.tc_rules.proofs.RowSteps.{one_more, map_push, no_end, state_at}
-
-abbrev bits : Vec Bool → List Bool
-bits v = v.items
+use Rattle.tc_rules.proofs.RowSteps.{one_more, map_push, no_end}
 
 -- one alternative more that may end, or none
-module _ (all old now : List ℕ) (xs ys : List (Vec Bool)) (same : ys ≡ xs) (i : ℕ) (h : i < length ys) where
-  pub ending_goes : (x : Vec Bool) (items : List Bool) → x ≡ get_or ys i x → items ≡ x.items → now ≡ old ++ (if ends_true items then i ∷ [] else [])
-      → all ≡ old ++ ending_alternatives i (drop i (map bits xs)) → all ≡ now ++ ending_alternatives (i + 1) (drop (i + 1) (map bits xs))
-  ending_goes x items e of_x put k =
-      let rest : List (List Bool) = drop (i + 1) (map bits xs) in
-      let one : List ℕ = if ends_true items then i ∷ [] else [] in
-      let left : drop i (map bits xs) ≡ x.items ∷ rest = state_at xs i x (subst (λ (l : List (Vec Bool)). i < length l) same h) (e ∙ ap (λ (l : List (Vec Bool)). get_or l i x) same) in
-      k ∙ (ap (λ w. old ++ ending_alternatives i w) left
-      ∙ (ap (λ w. old ++ ((if ends_true w then i ∷ [] else []) ++ ending_alternatives (suc i) rest)) (sym of_x)
-      ∙ (ap (λ n. old ++ (one ++ ending_alternatives n rest)) (sym (add-one i))
-      ∙ (sym (append_assoc old one (ending_alternatives (i + 1) rest)) ∙ ap (λ w. w ++ ending_alternatives (i + 1) rest) (sym put)))))
+pub ending_goes : (all old now : List ℕ) (row : State) (i : ℕ) (items : List Bool) → i < length row → items ≡ get_or row i [] → now ≡ old ++ (if ends_true items then i ∷ [] else [])
+    → all ≡ old ++ ending_alternatives i (drop i row) → all ≡ now ++ ending_alternatives (i + 1) (drop (i + 1) row)
+ending_goes all old now row i items h of_row put k =
+    let rest : State = drop (i + 1) row in
+    let one : List ℕ = if ends_true items then i ∷ [] else [] in
+    let left : drop i row ≡ items ∷ rest = drop_more row i [] h ∙ ap (λ w. w ∷ rest) (sym of_row) in
+    k ∙ (ap (λ w. old ++ ending_alternatives i w) left
+    ∙ (ap (λ n. old ++ (one ++ ending_alternatives n rest)) (sym (add-one i))
+    ∙ (sym (append_assoc old one (ending_alternatives (i + 1) rest)) ∙ ap (λ w. w ++ ending_alternatives (i + 1) rest) (sym put))))
 
 -- some alternative ends where one of those that may does
 one_or_none : (P : ℕ → Bool) (b : Bool) (i : ℕ) (rest : List ℕ) → list_any P ((if b then i ∷ [] else []) ++ rest) ≡ ((b && P i) || list_any P rest)

@@ -11,6 +11,7 @@ pub mod Chosen
 pub mod States
 pub mod Compared
 pub mod Steps
+pub mod Cuts
 pub mod RowSteps
 pub mod Fits
 pub mod Queries

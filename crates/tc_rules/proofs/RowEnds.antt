@@ -1,11 +1,10 @@
 -- Where rows end, and where no item is left.
-use Rattle.std.proofs.Common.{◌≡◌, ℕ, zero, suc, ◌+◌, ◌-◌, ◌<◌, List, [], ◌∷◌, Bool, true, false, ◌&&◌, not, refl, ap, sym, ◌∙◌, subst, map, length, get_or, drop, Some, None, slice_get, arith}
+use Rattle.std.proofs.Common.{◌≡◌, ℕ, zero, suc, ◌+◌, ◌-◌, ◌<◌, List, [], ◌∷◌, Bool, true, false, ◌&&◌, not, refl, ap, sym, ◌∙◌, length, get_or, drop, Some, None, slice_get, arith}
 use Rattle.std.specs.List.{list_any}
-use Rattle.std.specs.Global.{Vec}
+use Rattle.std.proofs.lemmas.List.{drop_more}
 use Rattle.std.proofs.lemmas.Option.{get_or_from_slice_get}
 use Rattle.tc_model.specs.PathStates.{State, is_empty_state}
 use Rattle.tc_rules.specs.Steps.{ends_true, ends_at}
-use Rattle.tc_rules.proofs.RowSteps.{empty_alternative}
 
 pub last_is : (bits : List Bool) (b : Bool) → Some b ≡ slice_get bits (length bits - 1) → b ≡ ends_true bits
 last_is [] b e = absurd (cc)
@@ -14,7 +13,7 @@ last_is (a ∷ (c ∷ bs)) b e =
     let less : suc (suc (length bs)) - 1 ≡ suc (suc (length bs) - 1) = omega arith in
     last_is (c ∷ bs) b (e ∙ ap (slice_get (a ∷ (c ∷ bs))) less)
 
-none_or : {X : Type 0} (xs : List X) (i : ℕ) (d : X) → slice_get xs i ≡ None → get_or xs i d ≡ d
+pub none_or : {X : Type 0} (xs : List X) (i : ℕ) (d : X) → slice_get xs i ≡ None → get_or xs i d ≡ d
 none_or [] i d e = refl
 none_or (x ∷ xs) zero d e = absurd (cc)
 none_or (x ∷ xs) (suc i) d e = none_or xs i d e
@@ -39,15 +38,12 @@ end_first row fits i items fit r a b e f = f ∙ (ap (λ c. c && ends_true fit) 
 pub end_none : (row fits : State) (i : ℕ) (items fit : List Bool) (r : Bool) → slice_get row i ≡ Some items → slice_get fits i ≡ Some fit → r ≡ false → r ≡ ends_true items → r ≡ ends_at row fits i
 end_none row fits i items fit r a b e f = e ∙ (ap (λ c. c && ends_true fit) (sym e ∙ f) ∙ ends_by row fits i items fit a b)
 
-module _ (xs ys : List (Vec Bool)) (bits : List Bool) (i : ℕ) (x : Vec Bool) (same : ys ≡ xs) (h : i < length ys) (e : x ≡ get_or ys i x) (of_x : bits ≡ x.items)
-    (so_far : is_empty_state (map (λ (v : Vec Bool). v.items) xs) ≡ is_empty_state (drop i (map (λ (v : Vec Bool). v.items) xs))) where
-  here : is_empty_state (map (λ (v : Vec Bool). v.items) xs) ≡ (not (list_any (λ b. b) bits) && is_empty_state (drop (i + 1) (map (λ (v : Vec Bool). v.items) xs)))
-  here =
-      so_far ∙ (empty_alternative xs i x (subst (λ (w : List (Vec Bool)). i < length w) same h) (e ∙ ap (λ (w : List (Vec Bool)). get_or w i x) same)
-      ∙ ap (λ w. not (list_any (λ b. b) w) && is_empty_state (drop (i + 1) (map (λ (v : Vec Bool). v.items) xs))) (sym of_x))
+module _ (row : State) (i : ℕ) (bits : List Bool) (h : i < length row) (of_row : bits ≡ get_or row i []) (so_far : is_empty_state row ≡ is_empty_state (drop i row)) where
+  here : is_empty_state row ≡ (not (list_any (λ b. b) bits) && is_empty_state (drop (i + 1) row))
+  here = so_far ∙ ap is_empty_state (drop_more row i [] h ∙ ap (λ w. w ∷ drop (i + 1) row) (sym of_row))
 
-  pub item_left : true ≡ list_any (λ b. b) bits → false ≡ is_empty_state (map (λ (v : Vec Bool). v.items) xs)
-  item_left a = sym (here ∙ ap (λ b. not b && is_empty_state (drop (i + 1) (map (λ (v : Vec Bool). v.items) xs))) (sym a))
+  pub item_left : true ≡ list_any (λ b. b) bits → false ≡ is_empty_state row
+  item_left a = sym (here ∙ ap (λ b. not b && is_empty_state (drop (i + 1) row)) (sym a))
 
-  pub no_item_here : false ≡ list_any (λ b. b) bits → is_empty_state (map (λ (v : Vec Bool). v.items) xs) ≡ is_empty_state (drop (i + 1) (map (λ (v : Vec Bool). v.items) xs))
-  no_item_here a = here ∙ ap (λ b. not b && is_empty_state (drop (i + 1) (map (λ (v : Vec Bool). v.items) xs))) (sym a)
+  pub no_item_here : false ≡ list_any (λ b. b) bits → is_empty_state row ≡ is_empty_state (drop (i + 1) row)
+  no_item_here a = here ∙ ap (λ b. not b && is_empty_state (drop (i + 1) row)) (sym a)

@@ -1,6 +1,5 @@
 -- What loops over rows keep, where no name is given to what stands at a place.
 use Rattle.std.proofs.Common.{◌≡◌, ℕ, ◌+◌, ◌<◌, ◌≤◌, min, refl, inl, inr, arith, List, [], ◌∷◌, ◌++◌, Bool, false, ap, sym, ◌∙◌, subst, map, Bor, length, get_or, drop, filter, Option, Some, slice_get}
-use Rattle.std.specs.Global.{Vec}
 use Rattle.std.proofs.lemmas.Bool.{cases_lt}
 use Rattle.std.proofs.lemmas.List.{drop_all, get_or_default}
 use Rattle.std.proofs.lemmas.List.Elements.{filter-append}
@@ -26,22 +25,21 @@ pub first_goes : (first : Bool) (all old now : List Bool) (xs : List Step) (i : 
 first_goes first all old now xs i h put k = let x = element xs i h in first_step first all old now xs i x.0 h x.1 put k
 
 module _ (all fits row : State) (xs : List (Bor (List Step))) (i : ℕ) (h : i < length xs) where
-  pub next_goes : (d : Bor (List Step)) (f items : List Bool) (old now : List (Vec Bool)) (w : Vec Bool) → f ≡ get_or fits i [] → slice_get row i ≡ Some items
-      → w.items ≡ v.further (see.steps (get_or xs i d).now) f false items → now ≡ old ++ w ∷ []
-      → all ≡ map (λ (w : Vec Bool). w.items) old ++ next_state (see.alternatives (drop i xs)) (drop i fits) (drop i row)
-      → all ≡ map (λ (w : Vec Bool). w.items) now ++ next_state (see.alternatives (drop (i + 1) xs)) (drop (i + 1) fits) (drop (i + 1) row)
-  next_goes d f items old now w a b is put k =
+  pub next_goes : (d : Bor (List Step)) (f items w : List Bool) (old now : State) → f ≡ get_or fits i [] → slice_get row i ≡ Some items
+      → w ≡ v.further (see.steps (get_or xs i d).now) f false items → now ≡ old ++ w ∷ []
+      → all ≡ old ++ next_state (see.alternatives (drop i xs)) (drop i fits) (drop i row)
+      → all ≡ now ++ next_state (see.alternatives (drop (i + 1) xs)) (drop (i + 1) fits) (drop (i + 1) row)
+  next_goes d f items w old now a b is put k =
       let x = get_or xs i d in
-      subst (λ (l : List (Vec Bool)). all ≡ map (λ (w : Vec Bool). w.items) l ++ next_state (see.alternatives (drop (i + 1) xs)) (drop (i + 1) fits) (drop (i + 1) row)) (sym put)
-      (next_alternative all fits row items old w xs i x h (get_or_default xs i d x h) b (is ∙ ap (λ g. v.further (see.steps x.now) g false items) a) k)
+      next_alternative all fits row items old now w xs i x h (get_or_default xs i d x h) b (is ∙ ap (λ g. v.further (see.steps x.now) g false items) a) put k
 
 next_none : (p : Path) (fits : State) → next_state p fits [] ≡ []
 next_none no_alternative fits = refl
 next_none (alternative ss p) fits = refl
 
-pub next_over : (all fits row : State) (old : List (Vec Bool)) (xs : List (Bor (List Step))) (i : ℕ) → min (length xs) (length row) ≤ i
-    → all ≡ map (λ (w : Vec Bool). w.items) old ++ next_state (see.alternatives (drop i xs)) (drop i fits) (drop i row) → map (λ (w : Vec Bool). w.items) old ≡ all
-next_over all fits row old xs i over k = ended all (map (λ (w : Vec Bool). w.items) old) (next_state (see.alternatives (drop i xs)) (drop i fits) (drop i row)) none k
+pub next_over : (all fits row old : State) (xs : List (Bor (List Step))) (i : ℕ) → min (length xs) (length row) ≤ i
+    → all ≡ old ++ next_state (see.alternatives (drop i xs)) (drop i fits) (drop i row) → old ≡ all
+next_over all fits row old xs i over k = ended all old (next_state (see.alternatives (drop i xs)) (drop i fits) (drop i row)) none k
   where
     none : next_state (see.alternatives (drop i xs)) (drop i fits) (drop i row) ≡ []
     none =
@@ -68,9 +66,6 @@ kept_more counts start old new rows r put k =
     ∙ ap (put_all same_state start) (sym (filter-append counts (states rows) (state r ∷ [])) ∙ ap (filter counts) (sym (map_push state rows r)))))
 
 -- one step more, and one alternative more
-abbrev bits : Vec Bool → List Bool
-bits w = w.items
-
 module _ (numbered : List (Bor Test)) (sought : Sought) where
   pub step_had : (all old now : List Bool) (has : Bool) (xs : List Step) (i : ℕ) (d : Step) → i < length xs → has ≡ v.step_has numbered (see.node_test (get_or xs i d).test) (see.test (get_or xs i d).when) sought → now ≡ old ++ has ∷ []
       → all ≡ old ++ v.steps_having numbered (see.steps (drop i xs)) sought → all ≡ now ++ v.steps_having numbered (see.steps (drop (i + 1) xs)) sought
@@ -79,20 +74,16 @@ module _ (numbered : List (Bor Test)) (sought : Sought) where
   pub steps_had : (all old : List Bool) (xs : List Step) (i : ℕ) → length xs ≤ i → all ≡ old ++ v.steps_having numbered (see.steps (drop i xs)) sought → old ≡ all
   steps_had all old xs i h k = ended all old (v.steps_having numbered (see.steps (drop i xs)) sought) (ap (λ ys. v.steps_having numbered (see.steps ys) sought) (drop_all i xs h)) k
 
-  pub alternative_had : (all : State) (old now : List (Vec Bool)) (w : Vec Bool) (xs : List (Bor (List Step))) (i : ℕ) (d : Bor (List Step)) → i < length xs → w.items ≡ v.steps_having numbered (see.steps (get_or xs i d).now) sought → now ≡ old ++ w ∷ []
-      → all ≡ map bits old ++ v.path_having numbered (see.alternatives (drop i xs)) sought → all ≡ map bits now ++ v.path_having numbered (see.alternatives (drop (i + 1) xs)) sought
-  alternative_had all old now w xs i d h is put k =
-      subst (λ (l : List (Vec Bool)). all ≡ map bits l ++ v.path_having numbered (see.alternatives (drop (i + 1) xs)) sought) (sym put)
-      (one_alternative_having numbered sought all old w xs i (get_or xs i d) h (get_or_default xs i d (get_or xs i d) h) is k)
+  pub alternative_had : (all old now : State) (w : List Bool) (xs : List (Bor (List Step))) (i : ℕ) (d : Bor (List Step)) → i < length xs → w ≡ v.steps_having numbered (see.steps (get_or xs i d).now) sought → now ≡ old ++ w ∷ []
+      → all ≡ old ++ v.path_having numbered (see.alternatives (drop i xs)) sought → all ≡ now ++ v.path_having numbered (see.alternatives (drop (i + 1) xs)) sought
+  alternative_had all old now w xs i d h is put k = one_alternative_having numbered sought all old now w xs i (get_or xs i d) h (get_or_default xs i d (get_or xs i d) h) is put k
 
-  pub alternatives_had : (all : State) (old : List (Vec Bool)) (xs : List (Bor (List Step))) (i : ℕ) → length xs ≤ i → all ≡ map bits old ++ v.path_having numbered (see.alternatives (drop i xs)) sought → map bits old ≡ all
-  alternatives_had all old xs i h k = ended all (map bits old) (v.path_having numbered (see.alternatives (drop i xs)) sought) (ap (λ ys. v.path_having numbered (see.alternatives ys) sought) (drop_all i xs h)) k
+  pub alternatives_had : (all old : State) (xs : List (Bor (List Step))) (i : ℕ) → length xs ≤ i → all ≡ old ++ v.path_having numbered (see.alternatives (drop i xs)) sought → old ≡ all
+  alternatives_had all old xs i h k = ended all old (v.path_having numbered (see.alternatives (drop i xs)) sought) (ap (λ ys. v.path_having numbered (see.alternatives ys) sought) (drop_all i xs h)) k
 
-pub first_more : (all : State) (old now : List (Vec Bool)) (w : Vec Bool) (xs : List (Bor (List Step))) (i : ℕ) (d : Bor (List Step)) → i < length xs → w.items ≡ first_items (see.steps (get_or xs i d).now) → now ≡ old ++ w ∷ []
-    → all ≡ map bits old ++ first_state (see.alternatives (drop i xs)) → all ≡ map bits now ++ first_state (see.alternatives (drop (i + 1) xs))
-first_more all old now w xs i d h is put k =
-    subst (λ (l : List (Vec Bool)). all ≡ map bits l ++ first_state (see.alternatives (drop (i + 1) xs))) (sym put)
-    (first_alternative all old w xs i (get_or xs i d) h (get_or_default xs i d (get_or xs i d) h) is k)
+pub first_more : (all old now : State) (w : List Bool) (xs : List (Bor (List Step))) (i : ℕ) (d : Bor (List Step)) → i < length xs → w ≡ first_items (see.steps (get_or xs i d).now) → now ≡ old ++ w ∷ []
+    → all ≡ old ++ first_state (see.alternatives (drop i xs)) → all ≡ now ++ first_state (see.alternatives (drop (i + 1) xs))
+first_more all old now w xs i d h is put k = first_alternative all old now w xs i (get_or xs i d) h (get_or_default xs i d (get_or xs i d) h) is put k
 
-pub first_all : (all : State) (old : List (Vec Bool)) (xs : List (Bor (List Step))) (i : ℕ) → length xs ≤ i → all ≡ map bits old ++ first_state (see.alternatives (drop i xs)) → map bits old ≡ all
-first_all all old xs i h k = ended all (map bits old) (first_state (see.alternatives (drop i xs))) (ap (λ ys. first_state (see.alternatives ys)) (drop_all i xs h)) k
+pub first_all : (all old : State) (xs : List (Bor (List Step))) (i : ℕ) → length xs ≤ i → all ≡ old ++ first_state (see.alternatives (drop i xs)) → old ≡ all
+first_all all old xs i h k = ended all old (first_state (see.alternatives (drop i xs))) (ap (λ ys. first_state (see.alternatives ys)) (drop_all i xs h)) k

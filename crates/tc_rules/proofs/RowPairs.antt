@@ -1,7 +1,7 @@
 -- Rows of what two rows have, and where no item moves on.
-use Rattle.std.proofs.Common.{◌≡◌, ℕ, zero, suc, ◌+◌, ◌-◌, ◌<◌, ◌≤◌, List, [], ◌∷◌, ◌++◌, Bool, true, false, ◌&&◌, ◌||◌, refl, ap, sym, ◌∙◌, map, length, get_or, drop, add-one, subst, Option, Some, None, option_map, slice_get, Bor, arith}
+use Rattle.std.proofs.Common.{◌≡◌, ℕ, zero, suc, ◌+◌, ◌-◌, ◌<◌, ◌≤◌, List, [], ◌∷◌, ◌++◌, Bool, true, false, ◌&&◌, ◌||◌, refl, ap, sym, ◌∙◌, map, length, get_or, drop, Option, Some, None, option_map, slice_get, Bor, arith}
 use Rattle.std.specs.Global.{Vec}
-use Rattle.std.proofs.lemmas.List.{get_or_default, drop_more, drop_all, length-map}
+use Rattle.std.proofs.lemmas.List.{get_or_default, drop_more, drop_all}
 use Rattle.std.proofs.lemmas.Option.{get_or_from_slice_get, slice_get-get_or}
 use Rattle.tc_model.specs.declared.sheet.Step.{Step}
 use Rattle.tc_model.specs.Views as see
@@ -15,7 +15,7 @@ use Rattle.tc_rules.specs.declared.graph.Leads.{Leads}
 use Rattle.tc_rules.specs.declared.rows.Row.{Row}
 use Rattle.tc_rules.proofs.Pieces.{mapped_at, unmapped_at}
 use Rattle.tc_rules.specs.Steps.{first_or_false, after_first, further, first_or_none, after_alternative, next_state, has_step, item_moves, some_item_moves, item_waits, some_item_waits, both_items, both_states, ends_true}
-use Rattle.tc_rules.proofs.RowSteps.{element, one_more, ended, map_push, first_at, after_at, first_alternative_at, after_alternative_at}
+use Rattle.tc_rules.proofs.RowSteps.{element, one_more, ended, first_at, after_at, first_alternative_at, after_alternative_at}
 
 -- the parts of what both have
 pub first_of_both : (a b : Items) → first_or_false (both_items a b) ≡ (first_or_false a && first_or_false b)
@@ -82,30 +82,18 @@ both_item all old now items others i h put k =
     ∙ ap (λ w. (get_or items i false && get_or others i false) ∷ both_items (drop (i + 1) items) w) (after_at others i)))
     k
 
-abbrev bits : Vec Bool → List Bool
-bits v = v.items
-
-module _ (all other : State) (old now xs ys : List (Vec Bool)) (same : ys ≡ xs) (i : ℕ) (h : i < length ys) where
-  here : (zs : List (Vec Bool)) (j : ℕ) (z : Vec Bool) → j < length zs → z ≡ get_or zs j z → drop j (map bits zs) ≡ z.items ∷ drop (suc j) (map bits zs)
-  here [] j z l f = absurd (omega arith)
-  here (w ∷ zs) zero z l f = ap (λ (v : Vec Bool). v.items ∷ map bits zs) (sym f)
-  here (w ∷ zs) (suc j) z l f = here zs j z (omega arith) f
-
-  -- the same of alternatives
-  pub both_alternative : (x w : Vec Bool) (items others : List Bool) → x ≡ get_or ys i x → items ≡ x.items → others ≡ get_or other i []
-      → w.items ≡ both_items items others → now ≡ old ++ w ∷ []
-      → all ≡ map bits old ++ both_states (drop i (map bits xs)) (drop i other)
-      → all ≡ map bits now ++ both_states (drop (i + 1) (map bits xs)) (drop (i + 1) other)
-  both_alternative x w items others e of_x of_other is put k =
-      let left : drop i (map bits xs) ≡ x.items ∷ drop (i + 1) (map bits xs) =
-      rw add-one (here xs i x (subst (λ (l : List (Vec Bool)). i < length l) same h) (e ∙ ap (λ (l : List (Vec Bool)). get_or l i x) same)) in
-      one_more all (map bits old) (map bits now) _ _ w.items (ap (map bits) put ∙ map_push bits old w)
-      (ap (λ a. both_states a (drop i other)) left
-      ∙ (ap (λ a. both_items x.items a ∷ both_states (drop (i + 1) (map bits xs)) (after_alternative (drop i other))) (first_alternative_at other i ∙ sym of_other)
-      ∙ (ap (λ a. both_items a others ∷ both_states (drop (i + 1) (map bits xs)) (after_alternative (drop i other))) (sym of_x)
-      ∙ (ap (λ a. a ∷ both_states (drop (i + 1) (map bits xs)) (after_alternative (drop i other))) (sym is)
-      ∙ ap (λ a. w.items ∷ both_states (drop (i + 1) (map bits xs)) a) (after_alternative_at other i)))))
-      k
+-- the same of alternatives
+pub both_alternative : (all self other old now : State) (w items others : List Bool) (i : ℕ) → i < length self → items ≡ get_or self i [] → others ≡ get_or other i []
+    → w ≡ both_items items others → now ≡ old ++ w ∷ [] → all ≡ old ++ both_states (drop i self) (drop i other) → all ≡ now ++ both_states (drop (i + 1) self) (drop (i + 1) other)
+both_alternative all self other old now w items others i h of_self of_other is put k =
+    let rest = drop (i + 1) self in
+    let left : drop i self ≡ items ∷ rest = drop_more self i [] h ∙ ap (λ a. a ∷ rest) (sym of_self) in
+    one_more all old now _ _ w put
+    (ap (λ a. both_states a (drop i other)) left
+    ∙ (ap (λ a. both_items items a ∷ both_states rest (after_alternative (drop i other))) (first_alternative_at other i ∙ sym of_other)
+    ∙ (ap (λ a. a ∷ both_states rest (after_alternative (drop i other))) (sym is)
+    ∙ ap (λ a. w ∷ both_states rest a) (after_alternative_at other i))))
+    k
 
 pub none_some : {X : Type 0} (x : X) → None ≡ Some x → ⊥
 none_some x e = cc
@@ -120,10 +108,8 @@ both_put all old now items others i a b has h of_a of_b is put k =
 pub both_over : (all old items others : List Bool) (i : ℕ) → length items ≤ i → all ≡ old ++ both_items (drop i items) (drop i others) → old ≡ all
 both_over all old items others i h k = ended all old _ (ap (λ w. both_items w (drop i others)) (drop_all i items h)) k
 
-pub alternatives_over : (all other : State) (old xs ys : List (Vec Bool)) (i : ℕ) → ys ≡ xs → length ys ≤ i → all ≡ map bits old ++ both_states (drop i (map bits xs)) (drop i other) → map bits old ≡ all
-alternatives_over all other old xs ys i same h k =
-    let over : length (map bits xs) ≤ i = omega (arith, h, length-map xs bits, ap length same) in
-    ended all (map bits old) _ (ap (λ w. both_states w (drop i other)) (drop_all i (map bits xs) over)) k
+pub alternatives_over : (all self other old : State) (i : ℕ) → length self ≤ i → all ≡ old ++ both_states (drop i self) (drop i other) → old ≡ all
+alternatives_over all self other old i h k = ended all old _ (ap (λ w. both_states w (drop i other)) (drop_all i self h)) k
 
 -- what both have at a place
 pub both_there : (x y : State) (i : ℕ) (items : Items) → slice_get x i ≡ Some items → slice_get (both_states x y) i ≡ Some (both_items items (get_or y i []))

@@ -1,8 +1,6 @@
 -- Rows are written and read one by one.
-use Rattle.std.proofs.Common.{◌≡◌, ℕ, zero, suc, ◌+◌, ◌<◌, ◌≤◌, List, [], ◌∷◌, ◌++◌, Bool, true, false, ◌&&◌, ◌||◌, not, refl, ap, sym, ◌∙◌, map, Bor, length, get_or, drop, append_assoc, add-one, Some, slice_get, arith}
-use Rattle.std.specs.List.{list_any}
+use Rattle.std.proofs.Common.{◌≡◌, ℕ, zero, suc, ◌+◌, ◌<◌, ◌≤◌, List, [], ◌∷◌, ◌++◌, Bool, true, false, ◌&&◌, ◌||◌, refl, ap, sym, ◌∙◌, map, Bor, length, get_or, drop, append_assoc, add-one, Some, slice_get, arith}
 use Rattle.std.proofs.lemmas.List.{drop_all, get_or_default}
-use Rattle.std.specs.Global.{Vec}
 use Rattle.tc_model.specs.declared.sheet.Step.{Step}
 use Rattle.tc_model.specs.declared.sheet.Test.{Test}
 use Rattle.tc_model.specs.Views as see
@@ -47,20 +45,17 @@ element [] i h = absurd (omega arith)
 element (x ∷ xs) zero h = (x, refl)
 element (x ∷ xs) (suc i) h = element xs i (omega arith)
 
-abbrev items_of : Vec Bool → List Bool
-items_of w = w.items
-
 pub one_step_having : (numbered : List (Bor Test)) (sought : Sought) (all old now : List Bool) (xs : List Step) (i : ℕ) (x : Step) → i < length xs → x ≡ get_or xs i x
     → now ≡ old ++ v.step_has numbered (see.node_test x.test) (see.test x.when) sought ∷ []
     → all ≡ old ++ v.steps_having numbered (see.steps (drop i xs)) sought → all ≡ now ++ v.steps_having numbered (see.steps (drop (i + 1) xs)) sought
 one_step_having numbered sought all old now xs i x h e put k =
     one_more all old now _ _ _ put (ap (λ w. v.steps_having numbered w sought) (left_step xs i x h e)) k
 
-pub one_alternative_having : (numbered : List (Bor Test)) (sought : Sought) (all : List (List Bool)) (old : List (Vec Bool)) (w : Vec Bool) (xs : List (Bor (List Step))) (i : ℕ) (x : Bor (List Step)) → i < length xs → x ≡ get_or xs i x
-    → w.items ≡ v.steps_having numbered (see.steps x.now) sought
-    → all ≡ map items_of old ++ v.path_having numbered (see.alternatives (drop i xs)) sought → all ≡ map items_of (old ++ w ∷ []) ++ v.path_having numbered (see.alternatives (drop (i + 1) xs)) sought
-one_alternative_having numbered sought all old w xs i x h e is k =
-    one_more all (map items_of old) _ _ _ (w.items) (map_push items_of old w)
+pub one_alternative_having : (numbered : List (Bor Test)) (sought : Sought) (all old now : List (List Bool)) (w : List Bool) (xs : List (Bor (List Step))) (i : ℕ) (x : Bor (List Step)) → i < length xs → x ≡ get_or xs i x
+    → w ≡ v.steps_having numbered (see.steps x.now) sought → now ≡ old ++ w ∷ []
+    → all ≡ old ++ v.path_having numbered (see.alternatives (drop i xs)) sought → all ≡ now ++ v.path_having numbered (see.alternatives (drop (i + 1) xs)) sought
+one_alternative_having numbered sought all old now w xs i x h e is put k =
+    one_more all old now _ _ w put
     (ap (λ a. v.path_having numbered a sought) (left_alternative xs i x h e) ∙ ap (λ r. r ∷ v.path_having numbered (see.alternatives (drop (i + 1) xs)) sought) (sym is)) k
 
 pub first_step : (first : Bool) (all old now : List Bool) (xs : List Step) (i : ℕ) (x : Step) → i < length xs → x ≡ get_or xs i x → now ≡ old ++ first ∷ []
@@ -68,11 +63,11 @@ pub first_step : (first : Bool) (all old now : List Bool) (xs : List Step) (i : 
 first_step true all old now xs i x h e put k = one_more all old now _ _ true put (ap p.first_items (left_step xs i x h e)) k
 first_step false all old now xs i x h e put k = one_more all old now _ _ false put (ap p.no_items (left_step xs i x h e)) k
 
-pub first_alternative : (all : List (List Bool)) (old : List (Vec Bool)) (w : Vec Bool) (xs : List (Bor (List Step))) (i : ℕ) (x : Bor (List Step)) → i < length xs → x ≡ get_or xs i x
-    → w.items ≡ p.first_items (see.steps x.now)
-    → all ≡ map items_of old ++ p.first_state (see.alternatives (drop i xs)) → all ≡ map items_of (old ++ w ∷ []) ++ p.first_state (see.alternatives (drop (i + 1) xs))
-first_alternative all old w xs i x h e is k =
-    one_more all (map items_of old) _ _ _ (w.items) (map_push items_of old w)
+pub first_alternative : (all old now : List (List Bool)) (w : List Bool) (xs : List (Bor (List Step))) (i : ℕ) (x : Bor (List Step)) → i < length xs → x ≡ get_or xs i x
+    → w ≡ p.first_items (see.steps x.now) → now ≡ old ++ w ∷ []
+    → all ≡ old ++ p.first_state (see.alternatives (drop i xs)) → all ≡ now ++ p.first_state (see.alternatives (drop (i + 1) xs))
+first_alternative all old now w xs i x h e is put k =
+    one_more all old now _ _ w put
     (ap p.first_state (left_alternative xs i x h e) ∙ ap (λ r. r ∷ p.first_state (see.alternatives (drop (i + 1) xs))) (sym is)) k
 
 pub first_at : (bs : List Bool) (i : ℕ) → v.first_or_false (drop i bs) ≡ get_or bs i false
@@ -139,31 +134,19 @@ alternatives_here (items ∷ x) (suc i) = alternatives_here x i
 pub after_alternative_at : (x : List (List Bool)) (i : ℕ) → v.after_alternative (drop i x) ≡ drop (i + 1) x
 after_alternative_at x i = rw add-one (alternatives_here x i)
 
-pub next_alternative : (all fits row : List (List Bool)) (items : List Bool) (old : List (Vec Bool)) (w : Vec Bool) (xs : List (Bor (List Step))) (i : ℕ) (x : Bor (List Step)) → i < length xs → x ≡ get_or xs i x
-    → slice_get row i ≡ Some items → w.items ≡ v.further (see.steps x.now) (get_or fits i []) false items
-    → all ≡ map items_of old ++ v.next_state (see.alternatives (drop i xs)) (drop i fits) (drop i row)
-    → all ≡ map items_of (old ++ w ∷ []) ++ v.next_state (see.alternatives (drop (i + 1) xs)) (drop (i + 1) fits) (drop (i + 1) row)
-next_alternative all fits row items old w xs i x h e b is k =
+pub next_alternative : (all fits row : List (List Bool)) (items : List Bool) (old now : List (List Bool)) (w : List Bool) (xs : List (Bor (List Step))) (i : ℕ) (x : Bor (List Step)) → i < length xs → x ≡ get_or xs i x
+    → slice_get row i ≡ Some items → w ≡ v.further (see.steps x.now) (get_or fits i []) false items → now ≡ old ++ w ∷ []
+    → all ≡ old ++ v.next_state (see.alternatives (drop i xs)) (drop i fits) (drop i row)
+    → all ≡ now ++ v.next_state (see.alternatives (drop (i + 1) xs)) (drop (i + 1) fits) (drop (i + 1) row)
+next_alternative all fits row items old now w xs i x h e b is put k =
     let rest = see.alternatives (drop (i + 1) xs) in
-    one_more all (map items_of old) _ _ _ (w.items) (map_push items_of old w)
+    one_more all old now _ _ w put
     (ap (λ t. v.next_state t (drop i fits) (drop i row)) (left_alternative xs i x h e)
     ∙ (ap (λ t. v.next_state (s.alternative (see.steps x.now) rest) (drop i fits) t) (drop_at row i items b)
     ∙ (ap (λ f. v.further (see.steps x.now) f false items ∷ v.next_state rest (v.after_alternative (drop i fits)) (drop (i + 1) row)) (first_here fits i)
     ∙ (ap (λ r. r ∷ v.next_state rest (v.after_alternative (drop i fits)) (drop (i + 1) row)) (sym is)
-    ∙ ap (λ t. w.items ∷ v.next_state rest t (drop (i + 1) row)) (after_alternative_at fits i)))))
+    ∙ ap (λ t. w ∷ v.next_state rest t (drop (i + 1) row)) (after_alternative_at fits i)))))
     k
-
-state_here : (xs : List (Vec Bool)) (i : ℕ) (x : Vec Bool) → i < length xs → x ≡ get_or xs i x → drop i (map items_of xs) ≡ x.items ∷ drop (suc i) (map items_of xs)
-state_here [] i x h e = absurd (omega arith)
-state_here (y ∷ ys) zero x h e = ap (λ (w : Vec Bool). w.items ∷ map items_of ys) (sym e)
-state_here (y ∷ ys) (suc i) x h e = state_here ys i x (omega arith) e
-
-pub state_at : (xs : List (Vec Bool)) (i : ℕ) (x : Vec Bool) → i < length xs → x ≡ get_or xs i x → drop i (map items_of xs) ≡ x.items ∷ drop (i + 1) (map items_of xs)
-state_at xs i x h e = rw add-one (state_here xs i x h e)
-
-pub empty_alternative : (xs : List (Vec Bool)) (i : ℕ) (x : Vec Bool) → i < length xs → x ≡ get_or xs i x
-    → p.is_empty_state (drop i (map items_of xs)) ≡ (not (list_any (λ b. b) x.items) && p.is_empty_state (drop (i + 1) (map items_of xs)))
-empty_alternative xs i x h e = ap p.is_empty_state (state_at xs i x h e)
 
 pub no_end : (row : List (List Bool)) → v.some_ends row [] ≡ false
 no_end [] = refl

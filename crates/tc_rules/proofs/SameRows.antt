@@ -1,11 +1,9 @@
 -- Rows are the same where their truth values are, and a set of rows is a list of states of which each stands once.
-use Rattle.std.proofs.Common.{◌≡◌, ℕ, zero, suc, ◌+◌, List, [], ◌∷◌, ◌++◌, Bool, true, false, ◌&&◌, ◌||◌, not, cond, refl, ap, sym, ◌∙◌, length, Some, None, slice_get, nat_lt, if◌then◌else◌, arith}
+use Rattle.std.proofs.Common.{◌≡◌, ℕ, zero, suc, ◌+◌, ◌<◌, ◌≤◌, List, [], ◌∷◌, ◌++◌, Bool, true, false, ◌&&◌, ◌||◌, not, cond, refl, ap, sym, ◌∙◌, length, get_or, drop, Some, None, slice_get, nat_lt, if◌then◌else◌, arith}
 use Rattle.std.specs.List.{list_any, position, position_or_len}
-use Rattle.std.specs.Global.{Vec}
 use Rattle.std.specs.Cmp.Lexicographic.{pointwise}
-use Rattle.std.specs.Cmp.Derive.Mapped.{pointwise-map}
 use Rattle.std.proofs.Math.Bool.{beq}
-use Rattle.std.proofs.lemmas.List.{length-map}
+use Rattle.std.proofs.lemmas.List.{length-map, drop_more, drop_all}
 use Rattle.tc_model.specs.SameTests.{same_truth}
 use Rattle.tc_model.specs.PathStates.{State, same_state}
 use Rattle.tc_rules.specs.Once.{put_once}
@@ -28,12 +26,10 @@ module _ {X : Type 0} (E F : X → X → Bool) (same : (x y : X) → E x y ≡ F
 
 -- how the code compares rows
 abbrev pub same_row : Row → Row → Bool
-same_row a b = pointwise (λ (v w : Vec Bool). pointwise beq v.items w.items) a.alternatives.items b.alternatives.items
+same_row a b = pointwise (pointwise beq) (state a) (state b)
 
 pub row_is : (a b : Row) → same_row a b ≡ same_state (state a) (state b)
-row_is a b =
-    pointwise_as (λ (v w : Vec Bool). pointwise beq v.items w.items) (λ (v w : Vec Bool). pointwise same_truth v.items w.items) (λ v w. pointwise_as beq same_truth truth_is v.items w.items) a.alternatives.items b.alternatives.items
-    ∙ sym (pointwise-map (λ (v : Vec Bool). v.items) (pointwise same_truth) a.alternatives.items b.alternatives.items)
+row_is a b = pointwise_as (pointwise beq) (pointwise same_truth) (pointwise_as beq same_truth truth_is) (state a) (state b)
 
 -- a row is there where its state is
 pub any_row : (r : Row) (xs : List Row) → list_any (same_row r) xs ≡ list_any (same_state (state r)) (states xs)
@@ -117,3 +113,35 @@ absent_place r (x ∷ xs) e = by (same_row r x) e (absent_place r xs)
 -- and a new one stands last
 pub row_last : (r : Row) (xs : List Row) (i : ℕ) → i ≡ position_or_len (same_row r) xs → list_any (same_state (state r)) (states xs) ≡ false → i ≡ length (states xs)
 row_last r xs i f g = f ∙ (absent_place r xs (any_row r xs ∙ g) ∙ sym (length-map xs state))
+
+-- rows are compared one alternative after another
+lengths_same : {X : Type 0} (E : X → X → Bool) (xs ys : List X) → pointwise E xs ys ≡ true → length xs ≡ length ys
+lengths_same E [] [] e = refl
+lengths_same E [] (y ∷ ys) e = absurd (cc)
+lengths_same E (x ∷ xs) [] e = absurd (cc)
+lengths_same E (x ∷ xs) (y ∷ ys) e =
+    let parts = and_parts (E x y) (pointwise E xs ys) e in
+    ap suc (lengths_same E xs ys parts.1)
+
+pub lengths_differ : (x y : State) → (length x ≡ length y → ⊥) → false ≡ pointwise (pointwise beq) x y
+lengths_differ x y apart = by (pointwise (pointwise beq) x y) (lengths_same (pointwise beq) x y)
+  where
+    by : (b : Bool) → (b ≡ true → length x ≡ length y) → false ≡ b
+    by true k = absurd (apart (k refl))
+    by false k = refl
+
+not_false : (b : Bool) → false ≡ not b → b ≡ true
+not_false true e = refl
+not_false false e = absurd (cc)
+
+pub alike_so_far : (x y : State) (i : ℕ) (a b : List Bool) (all : Bool) → i < length x → i < length y → a ≡ get_or x i [] → b ≡ get_or y i [] → false ≡ not (pointwise beq a b)
+    → all ≡ pointwise (pointwise beq) (drop i x) (drop i y) → all ≡ pointwise (pointwise beq) (drop (i + 1) x) (drop (i + 1) y)
+alike_so_far x y i a b all l m e f same k =
+    k
+    ∙ (ap (λ w. pointwise (pointwise beq) w (drop i y)) (drop_more x i [] l ∙ ap (λ w. w ∷ drop (i + 1) x) (sym e))
+    ∙ (ap (λ w. pointwise (pointwise beq) (a ∷ drop (i + 1) x) w) (drop_more y i [] m ∙ ap (λ w. w ∷ drop (i + 1) y) (sym f))
+    ∙ ap (λ c. c && pointwise (pointwise beq) (drop (i + 1) x) (drop (i + 1) y)) (not_false (pointwise beq a b) same)))
+
+pub alike_all : (x y : State) (i : ℕ) (all : Bool) → length x ≤ i → length y ≤ i → all ≡ pointwise (pointwise beq) (drop i x) (drop i y) → true ≡ all
+alike_all x y i all l m k =
+    sym (k ∙ (ap (λ w. pointwise (pointwise beq) w (drop i y)) (drop_all i x l) ∙ ap (λ w. pointwise (pointwise beq) [] w) (drop_all i y m)))

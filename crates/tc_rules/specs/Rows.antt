@@ -1,7 +1,8 @@
 -- What contracts see of rows and graphs: the same data without addresses.
-use Rattle.std.specs.Prelude.{◌≡◌, ℕ, List, map, Option}
+use Rattle.std.specs.Prelude.{◌≡◌, ℕ, List, length, map, Option}
 use Rattle.std.specs.Global.{Vec}
 use Rattle.tc_model.specs.PathStates.{State}
+use Rattle.tc_rules.specs.Cuts.{cut, AreEnds}
 use Rattle.tc_rules.specs.Graphs as g
 use Rattle.tc_rules.specs.Steps.{both_states, ending_alternatives}
 use Rattle.tc_rules.specs.declared.rows.Row.{Row}
@@ -11,7 +12,11 @@ use Rattle.tc_rules.specs.declared.graph.Leads.TheVariants.{Alike, BySet}
 use Rattle.tc_rules.specs.declared.graph.Letters.{Letters}
 
 abbrev pub state : Row → State
-state r = map (λ v. v.items) r.alternatives.items
+state r = cut r.values.items 0 r.ends.items
+
+-- a row as it is made
+abbrev pub IsMade : Row → Type 0
+IsMade r = AreEnds 0 r.ends.items (length r.values.items)
 
 abbrev pub states : List Row → List State
 states rs = map state rs

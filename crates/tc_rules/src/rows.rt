@@ -5,19 +5,74 @@ ghost use Rattle.tc_model.specs.Letters as l;
 ghost use Rattle.tc_model.specs.PathStates as p;
 ghost use Rattle.tc_model.specs.SameTests.{same_truth};
 ghost use Rattle.tc_model.specs.Views as see;
-ghost use Rattle.tc_rules.specs.Rows.{state, states};
+ghost use Rattle.tc_rules.specs.Cuts.{between};
+ghost use Rattle.tc_rules.specs.Rows.{state, states, IsMade};
 ghost use Rattle.tc_rules.specs.Steps as v;
 ghost use Rattle.tc_rules.specs.Views.{predicates};
 
 use crate::once::number_of_test;
 use std::alloc::Global;
+use std::hash::{Hash, Hasher};
 use tc_base::NoMemory;
 use tc_model::{Name, NodeTest, Step, Test};
 
-/// For each alternative of a path a truth value for each of its steps: a path state, or which steps fit a letter.
-#[derive(PartialEq, Eq, Hash, Drop)]
+/// For each alternative of a path a truth value for each of its steps, one alternative behind the other: a path state, or which
+/// steps fit a letter.
+#[derive(Drop)]
 pub(crate) struct Row {
-    pub(crate) alternatives: Vec<Vec<bool>>,
+    /// Where each alternative ends.
+    ends: Vec<u32>,
+    values: Vec<bool>,
+}
+
+impl PartialEq for Row {
+    ghost use Rattle.std.proofs.Common.{rules};
+    ghost use Rattle.std.proofs.Math.Bool.{beq};
+    ghost use Rattle.std.specs.Cmp.Lexicographic.{pointwise};
+    ghost use Rattle.std.specs.Cmp.Rules.{comparing};
+    ghost use Rattle.std.specs.Ordering.{on};
+    ghost use Rattle.tc_rules.specs.Cuts.{cut};
+
+    ghost eq = { on (λ r. cut r.values.items 0 r.ends.items) (pointwise (pointwise beq)) };
+
+    ghost laws = { Prim.search (comparing, rules) };
+
+    fn eq(&self, other: &Row) -> bool {
+        let count = self.ends.len();
+        if count != other.ends.len() {
+            return false;
+        }
+        for i in 0..count {
+            if self.items_or_none(i) != other.items_or_none(i) {
+                return false;
+            }
+        }
+        true
+    }
+}
+
+impl Eq for Row {
+    ghost use Rattle.std.proofs.Common.{rules};
+    ghost use Rattle.std.specs.Cmp.Rules.{comparing};
+
+    ghost laws = { Prim.search (comparing, rules) };
+}
+
+impl Hash for Row {
+    ghost use Rattle.std.specs.Hash as fed;
+    ghost use Rattle.tc_rules.specs.Cuts.{cut, lists_alike};
+
+    ghost hash_input = { λ r. fed.slice (fed.slice fed.bool) (cut r.values.items 0 r.ends.items) };
+
+    ghost respects_eq = { (fed.on_Alike (λ r. cut r.values.items 0 r.ends.items) lists_alike).fed };
+
+    fn hash<H: Hasher>(&self, state: &mut H) {
+        let count = self.ends.len();
+        state.write_usize(count);
+        for i in 0..count {
+            self.items_or_none(i).hash(state);
+        }
+    }
 }
 
 /// What is asked of each step: whether an element of this name, or a text, passes its node test, or whether its predicate is in
@@ -94,12 +149,12 @@ pub(crate) fn row_having(
 ) -> Result<Row, NoMemory>
     ensures { IfOk result (λ r. state r ≡ v.path_having numbered.now (see.alternatives path.now) sought.now) }
 {
-    let mut alternatives = Vec::new(alloc);
+    let mut row = Row::new(alloc, path.len())?;
     for steps in path {
         let found = steps_having(alloc, numbered, steps, sought)?;
-        alternatives.push(found)?;
+        row.push(&found)?;
     }
-    Ok(Row { alternatives })
+    Ok(row)
 }
 
 /// A row of no alternative: no step fits.
@@ -107,7 +162,8 @@ pub(crate) fn no_fits(alloc: Global) -> Row
     ensures { state result ≡ [] }
 {
     Row {
-        alternatives: Vec::new(alloc),
+        ends: Vec::new(alloc),
+        values: Vec::new(alloc),
     }
 }
 
@@ -128,12 +184,12 @@ fn first_items(alloc: Global, steps: &[Step<'_>]) -> Result<Vec<bool>, NoMemory>
 pub(crate) fn first_row(alloc: Global, path: &[&[Step<'_>]]) -> Result<Row, NoMemory>
     ensures { IfOk result (λ r. state r ≡ p.first_state (see.alternatives path.now)) }
 {
-    let mut alternatives = Vec::new(alloc);
+    let mut row = Row::new(alloc, path.len())?;
     for steps in path {
         let items = first_items(alloc, steps)?;
-        alternatives.push(items)?;
+        row.push(&items)?;
     }
-    Ok(Row { alternatives })
+    Ok(row)
 }
 
 /// The truth value at a place, and none where there is no such place.
@@ -144,6 +200,14 @@ fn bit(bits: &[bool], at: usize) -> bool
         Some(value) => *value,
         None => false,
     }
+}
+
+/// What stands from one place to another.
+fn between(values: &[bool], start: usize, end: usize) -> &[bool]
+    ensures { result.now ≡ between start end values.now }
+{
+    let rest = &values[start.min(values.len())..];
+    &rest[..end.saturating_sub(start).min(rest.len())]
 }
 
 /// Whether the last is true.
@@ -199,12 +263,12 @@ pub(crate) fn next_row(
 ) -> Result<Row, NoMemory>
     ensures { IfOk result (λ r. state r ≡ v.next_state (see.alternatives path.now) (state fits.now) (state row.now)) }
 {
-    let mut alternatives = Vec::new(alloc);
-    for i in 0..path.len().min(row.alternatives.len()) {
+    let mut further = Row::new(alloc, path.len())?;
+    for i in 0..path.len().min(row.ends.len()) {
         let next = next_items(alloc, path[i], fits.items_or_none(i), row.items_or_none(i))?;
-        alternatives.push(next)?;
+        further.push(&next)?;
     }
-    Ok(Row { alternatives })
+    Ok(further)
 }
 
 /// Whether the item of a step moves on to the next one, where these steps fit.
@@ -378,22 +442,60 @@ fn has_item(items: &[bool]) -> bool
 }
 
 impl Row {
+    /// A row without alternatives, with room for so many.
+    fn new(alloc: Global, alternatives: usize) -> Result<Row, NoMemory>
+        ensures made { IfOk result (λ r. IsMade r) }
+        ensures state { IfOk result (λ r. state r ≡ []) }
+    {
+        let ends = Vec::with_capacity(alloc, alternatives)?;
+        let values = Vec::with_capacity(alloc, alternatives)?;
+        Ok(Row { ends, values })
+    }
+
+    /// One more alternative.
+    fn push(&mut self, items: &[bool]) -> Result<(), NoMemory>
+        requires { IsMade self.old }
+        ensures made { OnOk result (IsMade self.new) }
+        ensures state { OnOk result (state self.new ≡ state self.old ++ items.now ∷ []) }
+    {
+        self.values.extend_from_slice(items)?;
+        let Ok(end) = u32::try_from(self.values.len()) else {
+            return Err(NoMemory);
+        };
+        self.ends.push(end)?;
+        Ok(())
+    }
+
+    /// Where an alternative begins.
+    fn start(&self, alternative: usize) -> usize
+        ensures { result ≡ get_or (0 ∷ self.now.ends.items) alternative 0 }
+    {
+        if alternative == 0 {
+            return 0;
+        }
+        match self.ends.get(alternative - 1) {
+            Some(end) => *end as usize,
+            None => 0,
+        }
+    }
+
     /// The values of an alternative.
     fn items_at(&self, alternative: usize) -> Option<&[bool]>
         ensures { MatchOption result (slice_get (state self.now) alternative ≡ None) (λ s. slice_get (state self.now) alternative ≡ Some s.now) }
     {
-        match self.alternatives.get(alternative) {
-            Some(items) => Some(items.as_slice()),
-            None => None,
-        }
+        let Some(end) = self.ends.get(alternative) else {
+            return None;
+        };
+        let start = self.start(alternative);
+        Some(between(&self.values, start, *end as usize))
     }
 
     /// The values of an alternative, and none where there is no such alternative.
     fn items_or_none(&self, alternative: usize) -> &[bool]
         ensures { result.now ≡ get_or (state self.now) alternative [] }
     {
-        match self.alternatives.get(alternative) {
-            Some(items) => items.as_slice(),
+        match self.items_at(alternative) {
+            Some(items) => items,
             None => &[],
         }
     }
@@ -409,21 +511,20 @@ impl Row {
     pub(crate) fn both(&self, alloc: Global, other: &Row) -> Result<Row, NoMemory>
         ensures { IfOk result (λ r. state r ≡ v.both_states (state self.now) (state other.now)) }
     {
-        let mut alternatives = Vec::new(alloc);
-        for (i, items) in self.alternatives.iter().enumerate() {
-            let both = both_items(alloc, items, other.items_or_none(i))?;
-            alternatives.push(both)?;
+        let mut row = Row::new(alloc, self.ends.len())?;
+        for i in 0..self.ends.len() {
+            let both = both_items(alloc, self.items_or_none(i), other.items_or_none(i))?;
+            row.push(&both)?;
         }
-        Ok(Row { alternatives })
+        Ok(row)
     }
 
     /// Whether no item is left.
-    #[tactic(auto, using(crate::proofs::RowSteps::empty_alternative))]
     pub(crate) fn is_empty(&self) -> bool
         ensures { result ≡ p.is_empty_state (state self.now) }
     {
-        for items in &self.alternatives {
-            if has_item(items) {
+        for i in 0..self.ends.len() {
+            if has_item(self.items_or_none(i)) {
                 return false;
             }
         }
@@ -448,8 +549,8 @@ impl Row {
         ensures { IfOk result (λ w. w.items ≡ v.ending_alternatives 0 (state self.now)) }
     {
         let mut ending = Vec::new(alloc);
-        for (i, items) in self.alternatives.iter().enumerate() {
-            add_ending(&mut ending, items, i)?;
+        for i in 0..self.ends.len() {
+            add_ending(&mut ending, self.items_or_none(i), i)?;
         }
         Ok(ending)
     }
