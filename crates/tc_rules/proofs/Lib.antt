@@ -30,6 +30,7 @@ pub mod OfGraph
 pub mod RowEnds
 pub mod RowPairs
 pub mod Staying
+pub mod Spread
 pub mod RowLoops
 pub mod SelectStates
 pub mod EmptyStates

@@ -184,6 +184,20 @@ module _ (counts : State → Bool) (lead : State → List State) where
             ∙ (sym (put_joined same_state now (filter counts (lead x)) (leads_of counts lead rest)) ∙ (ap (put_all same_state now) (sym split) ∙ k.so_far));
       }
 
+  -- where a state leads to too many, all of them do
+  pub expanding_many : (old now : List State) (from number most : ℕ) → number < length old → ((x : State) → slice_get now number ≡ Some x → most < length (put_all same_state now (filter counts (lead x))))
+      → IsExpanding old from number now → most < length (put_all same_state old (leads_of counts lead (drop from old)))
+  expanding_many old now from number most h says k =
+      let x = get_or old number [] in
+      let at : slice_get now number ≡ Some x = ap (λ w. slice_get w number) k.grown ∙ get_front old k.more number x (slice_get-get_or old number [] h) in
+      let here = filter counts (lead x) in
+      let rest = leads_of counts lead (drop (number + 1) old) in
+      let split : leads_of counts lead (drop number old) ≡ here ++ rest =
+      ap (leads_of counts lead) (drop_more old number [] h) ∙ filter-append counts (lead x) (flat_map lead (drop (number + 1) old)) in
+      let all : put_all same_state old (leads_of counts lead (drop from old)) ≡ put_all same_state (put_all same_state now here) rest = sym k.so_far ∙ (ap (put_all same_state now) split ∙ put_joined same_state now here rest) in
+      let more = each_once_after same_state (put_all same_state now here) rest in
+      omega (arith, says x at, ap length (all ∙ put_is same_state (put_all same_state now here) rest), length-append (put_all same_state now here) more)
+
   pub expanding_all : (old now : List State) (from number : ℕ) → length old ≤ number → IsExpanding old from number now → now ≡ put_all same_state old (leads_of counts lead (drop from old))
   expanding_all old now from number h k = ap (λ w. put_all same_state now (leads_of counts lead w)) (sym (drop_all number old h)) ∙ k.so_far
 

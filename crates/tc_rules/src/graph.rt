@@ -213,43 +213,53 @@ impl<'a, 'b> Source<'a, 'b> {
         next_row(self.alloc, path, &fits, state)
     }
 
-    /// The states to which a state leads, class by class and set by set, but not again that to which it leads where no item moves
-    /// on.
-    fn leads_of(
+    /// The states to which a state leads by the letters of a class with these marks.
+    fn leads_of_class(
         &self,
         path: &[&[Step<'_>]],
-        letters: &Letters,
+        kind: &Row,
+        marked: &[Row],
         state: &Row,
     ) -> Result<Vec<Row>, NoMemory>
-        ensures { IfOk result (λ w. AreAlike (seen.states w.items) (leads_by (see.alternatives path.now) (seen.fits letters.now) (seen.state state.now))) }
+        ensures { IfOk result (λ w. AreAlike (seen.states w.items) (leads_by_class (see.alternatives path.now) (seen.state kind.now) (seen.states marked.now) (seen.state state.now))) }
     {
-        let waits = some_item_waits(path, state);
         let mut found = Vec::new(self.alloc);
-        let mut stays = false;
-        for kind in letters.kinds.as_slice() {
-            let moves = waiting_item_moves(waits, path, kind, state);
-            let marked = worth_looking_at(&letters.marked, moves, stays);
-            self.add_leads(&mut found, path, kind, marked, state)?;
-            stays = has_stayed(stays, moves);
-        }
+        self.add_leads(&mut found, path, kind, marked, state)?;
         Ok(found)
     }
 
-    /// One more state for each letter to which one of them leads, unless it is there.
+    /// One more state for each letter to which one of them leads, unless it is there, class by class and set by set, but not again
+    /// for that to which it leads where no item moves on. There are at most so many.
     fn expand(
         &self,
         states: &mut IndexSet<Row>,
         path: &[&[Step<'_>]],
         letters: &Letters,
         counts: Counts,
+        most: usize,
         number: usize,
-    ) -> Result<(), NoMemory>
-        requires { number < length states.old.keys }
-        ensures { OnOk result ((x : State) → slice_get (seen.states states.old.keys) number ≡ Some x → seen.states states.new.keys ≡ put_all same_state (seen.states states.old.keys) (filter (counted counts) (leads_by (see.alternatives path.now) (seen.fits letters.now) x))) }
+    ) -> Result<(), GraphFault>
+        requires number { number < length states.old.keys }
+        requires few { length states.old.keys ≤ most }
+        ensures states { OnOk result ((x : State) → slice_get (seen.states states.old.keys) number ≡ Some x → seen.states states.new.keys ≡ put_all same_state (seen.states states.old.keys) (filter (counted counts) (leads_by (see.alternatives path.now) (seen.fits letters.now) x))) }
+        ensures few { OnOk result (length states.new.keys ≤ most) }
+        ensures many { IsErrOf result GraphFault.TooManyStates → (x : State) → slice_get (seen.states states.old.keys) number ≡ Some x → most < length (put_all same_state (seen.states states.old.keys) (filter (counted counts) (leads_by (see.alternatives path.now) (seen.fits letters.now) x))) }
     {
-        let state = &states.as_slice()[number];
-        let found = self.leads_of(path, letters, state)?;
-        keep_rows(states, found, counts)
+        let waits = some_item_waits(path, &states.as_slice()[number]);
+        let mut stays = false;
+        for kind in letters.kinds.as_slice() {
+            let state = &states.as_slice()[number];
+            let moves = waiting_item_moves(waits, path, kind, state);
+            let marked = worth_looking_at(&letters.marked, moves, stays);
+            let found = self.leads_of_class(path, kind, marked, state)?;
+            keep_rows(states, found, counts)?;
+            let count = states.len();
+            if count > most {
+                return Err(GraphFault::TooManyStates);
+            }
+            stays = has_stayed(stays, moves);
+        }
+        Ok(())
     }
 
     /// The same for all states from a number on.
@@ -259,14 +269,18 @@ impl<'a, 'b> Source<'a, 'b> {
         path: &[&[Step<'_>]],
         letters: &Letters,
         counts: Counts,
+        most: usize,
         from: usize,
-    ) -> Result<(), NoMemory>
-        requires { from ≤ length states.old.keys }
-        ensures { OnOk result (seen.states states.new.keys ≡ put_all same_state (seen.states states.old.keys) (leads_of (counted counts) (leads_by (see.alternatives path.now) (seen.fits letters.now)) (drop from (seen.states states.old.keys)))) }
+    ) -> Result<(), GraphFault>
+        requires from { from ≤ length states.old.keys }
+        requires few { length states.old.keys ≤ most }
+        ensures states { OnOk result (seen.states states.new.keys ≡ put_all same_state (seen.states states.old.keys) (leads_of (counted counts) (leads_by (see.alternatives path.now) (seen.fits letters.now)) (drop from (seen.states states.old.keys)))) }
+        ensures few { OnOk result (length states.new.keys ≤ most) }
+        ensures many { IsErrOf result GraphFault.TooManyStates → most < length (put_all same_state (seen.states states.old.keys) (leads_of (counted counts) (leads_by (see.alternatives path.now) (seen.fits letters.now)) (drop from (seen.states states.old.keys)))) }
     {
         let end = states.len();
         for number in from..end {
-            self.expand(states, path, letters, counts, number)?;
+            self.expand(states, path, letters, counts, most, number)?;
         }
         Ok(())
     }
@@ -294,13 +308,14 @@ impl<'a, 'b> Source<'a, 'b> {
         ensures many { IsErrOf result GraphFault.TooManyStates → (m : ℕ) × (most < length (rounds (counted counts) (leads_by (see.alternatives path.now) (seen.fits letters.now)) m (filter (counted counts) (first_state (see.alternatives path.now) ∷ [])))) }
     {
         let mut states = self.first_states(path, counts)?;
+        let count = states.len();
+        if count > most {
+            return Err(GraphFault::TooManyStates);
+        }
         let mut from = 0;
         while from < states.len() {
             let end = states.len();
-            if end > most {
-                return Err(GraphFault::TooManyStates);
-            }
-            self.expand_from(&mut states, path, letters, counts, from)?;
+            self.expand_from(&mut states, path, letters, counts, most, from)?;
             from = end;
         }
         Ok(states)

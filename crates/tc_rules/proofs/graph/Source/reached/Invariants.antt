@@ -9,7 +9,7 @@ use Rattle.tc_rules.proofs.graph.Source.reached.Given as goal
 abbrev pub invariant-loop-from : goal.invariant-loop-from
 invariant-loop-from l = record {
   so_far : IsSoFar (counted l.counts) (leads_by (see.alternatives l.path) (seen.fits l.letters)) (first_state (see.alternatives l.path)) (seen.states l.states.keys) l.from;
-  few : l.from ≤ l.most;
+  few : length l.states.keys ≤ l.most;
   within : l.from ≤ length l.states.keys;
 }
 
