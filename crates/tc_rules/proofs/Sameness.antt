@@ -3,7 +3,7 @@ use Rattle.std.proofs.Common.{◌≡◌, ℕ, List, [], ◌∷◌, ◌++◌, ref
 use Rattle.std.specs.List.{list_any}
 use Rattle.std.proofs.lemmas.Bool.{true≢false, eqb-true, eq-eqb}
 use Rattle.std.proofs.lemmas.Slice.Eq.{bytes_eq-Decides}
-use Rattle.std.proofs.lemmas.List.{append-nil, drop_more, drop_all, get_or_default, length-map, map-append}
+use Rattle.std.proofs.lemmas.List.{append-nil, drop_more, drop_all, length-map, map-append}
 use Rattle.tc_model.specs.Names.{ExpandedName, same_name}
 use Rattle.tc_model.specs.Sheets.{NodeTest, of_name, of_namespace, any_element, any_text, any_node, Steps, no_step, step, Path, no_alternative, alternative, Test, always, never, has, negated, all_of, any_of, Tests, no_test, test}
 use Rattle.tc_model.specs.Numbered.{each_once, each_once_after, number_of}
@@ -317,21 +317,6 @@ module _ {X : Type 0} (same : X → X → Bool) where
   put_last f kept now y k e l put =
       let outside : length (map f kept) ≤ number_of same (f y) (map f kept) = omega (arith, e, l, length-map kept f) in
       ap (map f) put ∙ (map-append f kept (y ∷ []) ∙ sym (ap (λ b. if b then map f kept else (map f kept ++ f y ∷ [])) (numbered_new (f y) (map f kept) outside)))
-
-  -- the next one is there, or is put last
-  pub stays_at : {Y : Type 0} (f : Y → X) (all : List X) (kept seen now ys : List Y) (i k : ℕ) (d : Y) → seen ≡ kept → now ≡ kept → k ≡ number_of same (f (get_or ys i d)) (map f seen) → k < length kept → i < length ys
-      → all ≡ map f kept ++ each_once_after same (map f kept) (map f (drop i ys)) → all ≡ map f now ++ each_once_after same (map f now) (map f (drop (i + 1) ys))
-  stays_at {Y = Y} f all kept seen now ys i k d e same_now n l inside h =
-      let y = get_or ys i d in
-      let known = n ∙ ap (λ (w : List Y). number_of same (f y) (map f w)) e in
-      looked f all (map f kept) (map f now) ys i y inside (get_or_default ys i d y inside) (ap (map f) same_now ∙ stays_there f kept (f y) k known l) h
-
-  pub put_at : {Y : Type 0} (f : Y → X) (all : List X) (kept seen now ys : List Y) (i k : ℕ) (d : Y) → seen ≡ kept → now ≡ kept ++ get_or ys i d ∷ [] → k ≡ number_of same (f (get_or ys i d)) (map f seen) → length kept ≤ k → i < length ys
-      → all ≡ map f kept ++ each_once_after same (map f kept) (map f (drop i ys)) → all ≡ map f now ++ each_once_after same (map f now) (map f (drop (i + 1) ys))
-  put_at {Y = Y} f all kept seen now ys i k d e put n l inside h =
-      let y = get_or ys i d in
-      let known = n ∙ ap (λ (w : List Y). number_of same (f y) (map f w)) e in
-      looked f all (map f kept) (map f now) ys i y inside (get_or_default ys i d y inside) (put_last f kept now y k known l put) h
 
   -- nothing is looked at yet, and all are
   pub once_begun : {Y : Type 0} (f : Y → X) (all : List X) (old : List Y) → old ≡ [] → each_once same all ≡ map f old ++ each_once_after same (map f old) all
