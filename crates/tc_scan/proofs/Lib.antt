@@ -2,5 +2,6 @@ pub mod FrontLaws
 pub mod NamesLaws
 pub mod CharsLaws
 pub mod CharsFront
+pub mod PlainBlocks
 pub mod ReferenceLaws
 mod Prefixes

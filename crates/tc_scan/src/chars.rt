@@ -1,5 +1,5 @@
 // Characters of a document (XML 1.0, 2.2).
-ghost use Rattle.std.specs.Prelude.{◌≡◌, ◌↔◌, IsTrue, MatchBool};
+ghost use Rattle.std.specs.Prelude.{◌≡◌, ◌<◌, ◌≤◌, ◌↔◌, IsTrue, MatchBool, length, take};
 ghost use Rattle.std.specs.List.{list_all};
 ghost use Rattle.tc_model.specs.Names.{IsChars};
 ghost use Rattle.tc_model.specs.XmlTextBytes.{FrontOf};
@@ -7,7 +7,12 @@ ghost use Rattle.tc_scan.specs.Chars.{IsPastChars, IsUtf8Front, is_start_of_char
 
 use crate::names::first_char;
 use simdutf8::compat::from_utf8;
+use std::simd::prelude::*;
+use std::str::from_utf8_unchecked;
 use tc_base::is_char;
+
+/// How many bytes are looked at at once.
+const BLOCK: usize = 64;
 
 /// Whether no character that XML lacks begins with this byte: U+FFFE and U+FFFF begin with 0xEF.
 fn starts_chars_only(byte: u8) -> bool
@@ -16,8 +21,8 @@ fn starts_chars_only(byte: u8) -> bool
     byte == b'\t' || byte == b'\n' || byte == b'\r' || byte >= b' ' && byte != 0xEF
 }
 
-/// Whether none begins with any of these bytes.
-fn start_chars_only(bytes: &[u8]) -> bool
+/// Whether none begins with any of these bytes, each looked at.
+fn each_starts_chars_only(bytes: &[u8]) -> bool
     ensures { result ≡ list_all is_start_of_chars_only bytes.now }
 {
     let mut plain = true;
@@ -25,6 +30,40 @@ fn start_chars_only(bytes: &[u8]) -> bool
         plain &= starts_chars_only(*byte);
     }
     plain
+}
+
+/// Whether a block shows that none begins with any of its bytes.
+#[inline(always)]
+fn is_start_block(block: u8x64) -> bool
+    ensures { IsTrue result → IsTrue (list_all is_start_of_chars_only block) }
+{
+    let others = block.simd_lt(u8x64::splat(b' ')) | block.simd_eq(u8x64::splat(0xEF));
+    let tabs = block.simd_eq(u8x64::splat(b'\t'));
+    let line_ends = block.simd_eq(u8x64::splat(b'\n')) | block.simd_eq(u8x64::splat(b'\r'));
+    (others ^ (tabs | line_ends)).to_bitmask() == 0
+}
+
+/// How many bytes stand in blocks at the front that show it.
+fn start_blocks_len(bytes: &[u8]) -> usize
+    ensures within { result ≤ length bytes.now }
+    ensures only { IsTrue (list_all is_start_of_chars_only (take result bytes.now)) }
+{
+    let mut at = 0;
+    while bytes.len() - at >= BLOCK {
+        if !is_start_block(u8x64::from_slice(&bytes[at..])) {
+            break;
+        }
+        at += BLOCK;
+    }
+    at
+}
+
+/// Whether none begins with any of these bytes.
+fn start_chars_only(bytes: &[u8]) -> bool
+    ensures { result ≡ list_all is_start_of_chars_only bytes.now }
+{
+    let blocks = start_blocks_len(bytes);
+    each_starts_chars_only(&bytes[blocks..])
 }
 
 /// Whether a document may hold all characters of a text, each by itself.
@@ -79,11 +118,93 @@ fn after_characters(text: &str) -> &str
     past_characters(text)
 }
 
-/// The characters at the front of the bytes, as many as there are (XML 1.0, 2.2).
-pub fn characters(bytes: &[u8]) -> &str
+/// The characters at the front of the bytes, as many as there are, read as a text first.
+fn first_characters(bytes: &[u8]) -> &str
     ensures { FrontOf bytes.now result.now }
 {
     let text = utf8_front(bytes);
     let rest = after_characters(text);
     &text[..text.len() - rest.len()]
+}
+
+/// Whether a block is ASCII, of characters that XML has.
+#[inline(always)]
+fn is_plain(block: u8x64) -> bool
+    ensures { IsTrue result → IsChars block }
+{
+    let unprinted = block.simd_lt(u8x64::splat(b' ')) | block.simd_ge(u8x64::splat(0x80));
+    let tabs = block.simd_eq(u8x64::splat(b'\t'));
+    let line_ends = block.simd_eq(u8x64::splat(b'\n')) | block.simd_eq(u8x64::splat(b'\r'));
+    (unprinted ^ (tabs | line_ends)).to_bitmask() == 0
+}
+
+/// Where the plain blocks end that stand from this place on.
+#[inline(always)]
+fn plain_end(bytes: &[u8], from: usize) -> usize
+    requires { from ≤ length bytes.now }
+    ensures forth { from ≤ result }
+    ensures within { result ≤ length bytes.now }
+    ensures characters { IsChars (take from bytes.now) → IsChars (take result bytes.now) }
+{
+    let mut at = from;
+    while bytes.len() - at >= BLOCK {
+        if !is_plain(u8x64::from_slice(&bytes[at..])) {
+            break;
+        }
+        at += BLOCK;
+    }
+    at
+}
+
+/// Where the next plain block begins behind the one at this place, or the end.
+fn next_plain(bytes: &[u8], from: usize) -> usize
+    requires { from ≤ length bytes.now }
+    ensures forth { from < length bytes.now → from < result }
+    ensures within { (from ≤ result) × (result ≤ length bytes.now) }
+{
+    let mut at = from;
+    while bytes.len() - at > BLOCK {
+        at += BLOCK;
+        if bytes.len() - at >= BLOCK && is_plain(u8x64::from_slice(&bytes[at..])) {
+            return at;
+        }
+    }
+    bytes.len()
+}
+
+/// Whether the bytes are characters of XML alone.
+fn are_characters(bytes: &[u8]) -> bool
+    ensures { IsTrue result → IsChars bytes.now }
+{
+    match from_utf8(bytes) {
+        Ok(text) => are_chars(text),
+        Err(_) => false,
+    }
+}
+
+/// How many bytes at the front are characters of XML, by runs of plain blocks and what stands between them: all, or all
+/// before a run that isn't.
+fn runs_len(bytes: &[u8]) -> usize
+    ensures within { result ≤ length bytes.now }
+    ensures characters { IsChars (take result bytes.now) }
+{
+    let mut at = 0;
+    while at < bytes.len() {
+        let plain = plain_end(bytes, at);
+        let end = next_plain(bytes, plain);
+        if !are_characters(&bytes[plain..end]) {
+            return plain;
+        }
+        at = end;
+    }
+    at
+}
+
+/// The characters at the front of the bytes, as many as there are (XML 1.0, 2.2).
+pub fn characters(bytes: &[u8]) -> &str
+    ensures { FrontOf bytes.now result.now }
+{
+    let runs = runs_len(bytes);
+    let count = runs + first_characters(&bytes[runs..]).len();
+    unsafe { from_utf8_unchecked(&bytes[..count]) }
 }

@@ -1,14 +1,15 @@
-use Rattle.std.proofs.Common.{◌∙◌, refl}
-use Rattle.tc_scan.proofs.FrontLaws.{same_range}
-use Rattle.tc_scan.proofs.CharsFront.{cut_at_rest, front_of}
+use Rattle.std.proofs.Common.{refl, subst, sym}
+use Rattle.tc_model.specs.XmlTextBytes.{FrontOf}
+use Rattle.tc_model.proofs.XmlTextChars.{chars_utf8}
+use Rattle.tc_scan.proofs.PlainBlocks.{front_behind}
 use Rattle.tc_scan.proofs.chars.characters.Goals as goal
 
-pub range-requires-clause-end_boundary : goal.range-requires-clause-end_boundary
-range-requires-clause-end_boundary c =
-    let past = c.after_characters-rest in
-    cut_at_rest c.utf8_front-text.result.now past.ensures.front past.result.now _ past.ensures.parts past.utf8 refl
+pub from_utf8_unchecked-requires : goal.from_utf8_unchecked-requires
+from_utf8_unchecked-requires c =
+    let is = front_behind c.args.bytes.now c.first_characters.result.now c.runs_len-runs.result _ c.runs_len-runs.ensures.within c.runs_len-runs.ensures.characters c.first_characters.ensures refl in
+    chars_utf8 _ is.characters
 
 pub returns : goal.returns
 returns c =
-    front_of c.args.bytes.now c.utf8_front-text.result.now c.after_characters-rest.result.now c.range.result.now _ c.utf8_front-text.ensures c.after_characters-rest.ensures refl
-    (c.range.ensures.value ∙ same_range _ c.utf8_front-text.result.now)
+    let is = front_behind c.args.bytes.now c.first_characters.result.now c.runs_len-runs.result _ c.runs_len-runs.ensures.within c.runs_len-runs.ensures.characters c.first_characters.ensures refl in
+    subst (FrontOf c.args.bytes.now) (sym c.from_utf8_unchecked.ensures) is
