@@ -1,6 +1,7 @@
 // Elements and their content (XML 1.0, 3 and 3.1). What the recursion over elements calls is kept out of line, so that its
 // frames stay small: elements nest 2,000 deep.
-ghost use Rattle.std.specs.Prelude.{◌≡◌, ◌<◌, ◌≤◌, ◌∷◌, ◌++◌, [], ℕ, List, true, false, map, IfOk, IfErr, OnOk, IsTrue, MatchBool, MatchOption, encode_utf8, codes, string_bytes};
+ghost use Rattle.std.specs.Prelude.{◌≡◌, ◌<◌, ◌≤◌, ◌∷◌, ◌++◌, [], ℕ, List, true, false, map, take, IfOk, IfErr, IfSome, OnOk, IsTrue, MatchBool, MatchOption, encode_utf8, codes, string_bytes};
+ghost use Rattle.std.specs.List.{prefix_len};
 ghost use Rattle.tc_base.specs.declared.reasons.Why.{Why};
 ghost use Rattle.tc_base.specs.declared.reasons.Why.TheVariants.{EntityReference};
 ghost use Rattle.tc_model.specs.Names.{ExpandedName};
@@ -27,7 +28,7 @@ use crate::scopes::Scope;
 use crate::tags::{Meaning, Written, first_scope, meaning_of};
 use bumpalo::Bump;
 use bumpalo::collections::{into_bump_slice, into_bump_str};
-use memchr::memchr;
+use memchr::memchr3;
 use std::mem;
 use tc_base::{NoMemory, Place, Why};
 use tc_model::{Raw, RawElem};
@@ -324,18 +325,23 @@ fn characters<'t>(gathered: &mut Gathered<'_>, total: usize, text: &'t str) -> R
     Ok(rest)
 }
 
-/// Whether no `]` stands here, and so no `]]>`.
-fn lacks_bracket(run: &str) -> bool
-    ensures { IsTrue result → bytes.Lacks (codes "]]>") run.now }
+/// How many bytes stand before the first `<` or `&`, or before the end, where no `]` stands among them.
+fn clear_len(text: &str) -> Option<usize>
+    ensures { IfSome result (λ count. (count ≡ prefix_len references.is_plain text.now) × bytes.Lacks (codes "]]>") (take count text.now)) }
 {
-    match memchr(b']', run.as_bytes()) {
-        Some(_) => false,
-        None => true,
+    let bytes = text.as_bytes();
+    let Some(count) = memchr3(b'<', b'&', b']', bytes) else {
+        return Some(bytes.len());
+    };
+    if bytes[count] == b']' {
+        return None;
     }
+    Some(count)
 }
 
-/// The character data at the front, and what follows it (XML 1.0, 2.4).
-pub(crate) fn character_data(text: &str) -> Option<(&str, &str)>
+/// The character data at the front, which may have a `]`, and what follows it.
+#[inline(never)]
+fn guarded_data(text: &str) -> Option<(&str, &str)>
     ensures { MatchOption result
         ((run after : List ℕ) → references.CharacterDataAt text.now run after → ⊥)
         (λ r. references.CharacterDataAt text.now r.0.now r.1.now) }
@@ -345,13 +351,25 @@ pub(crate) fn character_data(text: &str) -> Option<(&str, &str)>
         return None;
     }
     let (run, rest) = text.split_at(count);
-    if lacks_bracket(run) {
-        return Some((run, rest));
-    }
     match up_to(run, "]]>") {
         Some(_) => None,
         None => Some((run, rest)),
     }
+}
+
+/// The character data at the front, and what follows it (XML 1.0, 2.4).
+pub(crate) fn character_data(text: &str) -> Option<(&str, &str)>
+    ensures { MatchOption result
+        ((run after : List ℕ) → references.CharacterDataAt text.now run after → ⊥)
+        (λ r. references.CharacterDataAt text.now r.0.now r.1.now) }
+{
+    let Some(count) = clear_len(text) else {
+        return guarded_data(text);
+    };
+    if count == 0 {
+        return None;
+    }
+    Some(text.split_at(count))
 }
 
 /// Reads the comment or the CDATA section at the front, and gives what follows.
