@@ -20,4 +20,5 @@ pub mod StripLaws
 pub mod PlainTagLaws
 pub mod OpenLaws
 pub mod TakingLaws
+pub mod EndTagLaws
 pub mod BuildingLaws

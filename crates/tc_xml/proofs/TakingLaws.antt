@@ -9,7 +9,7 @@ use Rattle.tc_model.specs.Trees.{Trees, is_white_space_only, joined_to, joined, 
 use Rattle.tc_model.specs.XmlText.{Reads, after_mark}
 use Rattle.tc_model.specs.XmlTextBytes.{place_of, FrontOf}
 use Rattle.tc_model.specs.XmlTextMisc.{DeclarationAt, MiscAt, DoctypeAt}
-use Rattle.tc_model.specs.XmlTextNames.{QualifiedName}
+use Rattle.tc_model.specs.XmlTextNames.{QualifiedName, QNameAt}
 use Rattle.tc_model.specs.XmlTextContent.{Piece, whole, characters_before, piece_before, TagAt, ContentAt, at_end_tag, item, ItemAt, child, ElementAt, empty_tag, with_content}
 use Rattle.tc_model.specs.XmlTextContent as c
 use Rattle.tc_model.specs.XmlTextScopes.{first_scope}
@@ -283,6 +283,16 @@ goes_out one total deepest root at after run left begun old flushed new levels f
           subst (λ d. After one total deepest root begun es e.outer d after new left) (sym h.0.deep)
               (go_out one total deepest levels.depth root at after run left begun old flushed new e es s.scope st (subst (λ w. EndTagAt w at after) h.0.named a) f g empty),
         )
+
+-- the innermost element's tag has its name
+pub open_named : {S : Type 0} (one : S → Event → S → Type 0) (total deepest : ℕ) (root at run : List ℕ) (begun old : S) (levels : Levels) (front : List Open) (o : Open)
+    → StandsAt one total deepest root begun levels at old run → levels.open.items ≡ front ++ o ∷ [] → (bs : List ℕ) × (past : List ℕ) × QNameAt bs (written_name o.written) past
+open_named one total deepest root at run begun old levels front o s e = by s.started (last_open (hidden levels.bindings) (now_bound levels.bindings) levels.open.items front o s.started e s.shows.opens) s.stands
+  where
+    by : (es : List Started) → AreOpen (hidden levels.bindings) (now_bound levels.bindings) (o ∷ reverse front) es → Standing one total deepest root begun es s.scope levels.depth at old run
+        → (bs : List ℕ) × (past : List ℕ) × QNameAt bs (written_name o.written) past
+    by [] h st = absurd h
+    by (e ∷ es) h (within t i) = (i.tag.rest, i.tag.past_name, subst (λ w. QNameAt i.tag.rest w i.tag.past_name) (sym h.0.named) i.tag.names)
 
 -- before the root element
 pub begin_at : {S : Type 0} (one : S → Event → S → Type 0) (total deepest : ℕ) (root run : List ℕ) (begun : S) (levels : Levels) → levels.open.items ≡ [] → now_bound levels.bindings ≡ first_scope → levels.depth ≡ deepest

@@ -10,11 +10,12 @@ ghost use Rattle.tc_model.specs.XmlText.{XmlText, deepest_element};
 ghost use Rattle.tc_model.specs.XmlTextMisc as misc;
 ghost use Rattle.tc_model.specs.XmlTextBytes as bytes;
 ghost use Rattle.tc_model.specs.XmlTextContent as xml;
+ghost use Rattle.tc_model.specs.XmlTextNames.{QNameAt};
 ghost use Rattle.tc_model.specs.XmlTextScopes.{first_scope};
 ghost use Rattle.tc_scan.specs.Views.{written_name};
 ghost use Rattle.tc_xml.specs.Bindings.{TakesBack, now_bound};
 ghost use Rattle.tc_xml.specs.PlainTags.{TagRead};
-ghost use Rattle.tc_xml.specs.Reading.{SmallItemAt};
+ghost use Rattle.tc_xml.specs.Reading.{EndTagAt, SmallItemAt};
 ghost use Rattle.tc_xml.specs.Taking.{Took, StandsAt, StandsAfter, Finished, IsWithin, waiting};
 
 use crate::bindings::Bindings;
@@ -29,7 +30,7 @@ use std::mem;
 use tc_base::NoMemory;
 use tc_model::normal::{Run, extended, text_of};
 use tc_model::{Name, TakesTrees, is_white_space_only};
-use tc_scan::{QualifiedName, after_byte, after_mark, begins as begins_mark, characters};
+use tc_scan::{QualifiedName, after_byte, after_mark, characters};
 
 /// What takes a document's trees, and the run of characters that isn't handed on yet.
 #[derive(Drop)]
@@ -260,6 +261,38 @@ fn enter<'b>(levels: &mut Levels<'b>, written: QualifiedName<'b>, count: usize) 
     Some(())
 }
 
+/// What follows the bytes of a name.
+fn after_name<'t>(text: &'t str, name: &QualifiedName<'_>) -> Option<&'t str>
+    ensures names { IfSome result (λ r. (bs past after : List ℕ) → QNameAt bs (written_name name.now) past → r.now ≡ 0x3E ∷ after → QNameAt text.now (written_name name.now) r.now) }
+    ensures within { IfSome result (λ r. length r.now ≤ length text.now) }
+{
+    if name.prefix.is_empty() {
+        return after_mark(text, name.local);
+    }
+    let local = after_byte(after_mark(text, name.prefix)?, b':')?;
+    after_mark(local, name.local)
+}
+
+/// What follows the end tag that is the bytes of a name and no white space.
+fn after_plain_end_tag<'t>(text: &'t str, name: &QualifiedName<'_>) -> Option<&'t str>
+    ensures ends { IfSome result (λ r. (bs past : List ℕ) → QNameAt bs (written_name name.now) past → EndTagAt (written_name name.now) text.now r.now) }
+    ensures shorter { IfSome result (λ r. length r.now < length text.now) }
+{
+    let end = after_byte(after_byte(text, b'<')?, b'/')?;
+    after_byte(after_name(end, name)?, b'>')
+}
+
+/// What follows the end tag with the name of an element that has started, where one is at the front.
+fn after_end_of<'t>(text: &'t str, name: &QualifiedName<'_>) -> Option<&'t str>
+    ensures ends { IfSome result (λ r. (bs past : List ℕ) → QNameAt bs (written_name name.now) past → EndTagAt (written_name name.now) text.now r.now) }
+    ensures shorter { IfSome result (λ r. length r.now < length text.now) }
+{
+    match after_plain_end_tag(text, name) {
+        Some(rest) => Some(rest),
+        None => after_end_tag(text, name),
+    }
+}
+
 /// Takes the end tag at the front, which ends the innermost element that has started, and gives what follows it.
 fn end_tag<'b, T: TakesTrees<'b>>(
     reader: &mut Reader<'b, T>,
@@ -272,7 +305,7 @@ fn end_tag<'b, T: TakesTrees<'b>>(
     ensures shorter { IfSome result (λ rest. length rest.now < length text.now) }
 {
     let open = levels.open.pop()?;
-    let rest = after_end_tag(text, &open.written)?;
+    let rest = after_end_of(text, &open.written)?;
     end_run(reader)?;
     leave(reader, levels, open.count)?;
     levels.depth = open.depth;
@@ -291,12 +324,12 @@ fn step<'b, T: TakesTrees<'b>>(
     ensures steps { IfSome result (λ rest. (deepest : ℕ) (root : List ℕ) (begun : T) → StandsAt T.takes total deepest root begun levels.old text.now reader.old.taker (run_text reader.old.run) → StandsAfter T.takes total deepest root begun levels.new rest.now reader.new.taker (run_text reader.new.run)) }
     ensures shorter { IfSome result (λ rest. length rest.now < length text.now) }
 {
-    if begins_mark(text, "</") {
-        return end_tag(reader, levels, total, text);
-    }
     let Some(markup) = after_byte(text, b'<') else {
         return text_item(reader, total, text);
     };
+    if begins(markup, b'/') {
+        return end_tag(reader, levels, total, text);
+    }
     if begins(markup, b'!') {
         return marked_item(reader, total, text);
     }
