@@ -1,12 +1,13 @@
 -- Names at the front of a text, from their characters.
-use Rattle.std.proofs.Common.{◌≡◌, ℕ, zero, suc, ◌+◌, ◌-◌, ◌<◌, Bool, true, false, cond, not, ◌&&◌, ◌||◌, ◌==◌, List, [], ◌∷◌, ◌++◌, refl, ap, ◌∙◌, sym, subst, length, take, drop, arith, Option, None, MatchOption, IsTrue, IsUtf8, IsCharBoundary, append_assoc, length-append, zero-add, zero-le, append-nil}
+use Rattle.std.proofs.Common.{◌≡◌, ◌≢◌, ◌≤◌, ℕ, zero, suc, ◌+◌, ◌-◌, ◌<◌, Bool, true, false, cond, not, ◌&&◌, ◌||◌, ◌==◌, List, [], ◌∷◌, ◌++◌, refl, ap, ◌∙◌, sym, subst, length, take, drop, get_or, get_or-drop, length-drop, arith, Option, None, MatchOption, IsTrue, IsUtf8, IsCharBoundary, append_assoc, length-append, zero-add, zero-le, append-nil}
 use Rattle.std.specs.Prelude.{encode_utf8, encode_utf8_all}
 use Rattle.std.specs.Char.{len_utf8}
 use Rattle.std.specs.List.{list_all, prefix_len}
 use Rattle.std.proofs.lemmas.Bool.{true≢false, eqb-true, and_parts, and_from}
-use Rattle.std.proofs.lemmas.Str.{encode_same, length-encode, len_utf8_bounds, IsCharBoundary-past_char, IsCharBoundary-at_seam, encodes-append, encode_ascii}
+use Rattle.std.proofs.lemmas.Str.{encode_same, length-encode, len_utf8_bounds, IsCharBoundary-past_char, IsCharBoundary-at_seam, encodes-append, encode_ascii, char_from_byte}
 use Rattle.std.proofs.lemmas.Bool.Decides.{nat_tests}
 use Rattle.std.proofs.lemmas.List.Folds.{list_all-append}
+use Rattle.std.proofs.lemmas.List.Sums.{prefix_len_stops}
 use Rattle.tc_model.specs.Names.{is_ncname_start, is_ncname_char}
 use Rattle.tc_model.specs.XmlTextNames.{NcNameAt, QualifiedName, QNameAt, unprefixed, prefixed}
 use Rattle.tc_model.proofs.XmlTextPhrases.{same_others, ncname_unique}
@@ -141,3 +142,37 @@ goes_further bs mid rest (cs, e, h) (ds, f, k) = (
 
 pub shortens : (bs mid rest : List ℕ) (c : ℕ) → bs ≡ encode_utf8 c ++ mid → GoesOn mid rest → length rest < length bs
 shortens bs mid rest c e (cs, f, h) = omega (arith, shorter bs mid c e, ap length f, length-append (encode_utf8_all cs) rest)
+
+-- a byte of ASCII that is none of those ends a name
+other_byte : (b : ℕ) → b < 128 → is_ascii_name_byte b ≡ false → is_ncname_char b ≡ false
+other_byte b small h = by (is_ncname_char b) (ap (λ x. x || not (is_ncname_char b)) (sym h) ∙ passes_at (λ c. is_ascii_name_byte c || not (is_ncname_char c)) 128 b refl small)
+  where
+    by : (x : Bool) → not x ≡ true → x ≡ false
+    by true e = sym e
+    by false e = refl
+
+ends_here : (text rest : List ℕ) (n : ℕ) → n ≡ prefix_len is_ascii_name_byte text → n < length text → get_or text n 0 < 128 → rest ≡ drop n text
+    → (d : ℕ) (r : List ℕ) → rest ≡ encode_utf8 d ++ r → IsTrue (is_ncname_char d) → ⊥
+ends_here text rest n e l a g d r is h =
+    let first : get_or rest 0 0 ≡ get_or text n 0 = ap (λ w. get_or w 0 0) g ∙ (get_or-drop n text 0 0 ∙ ap (λ k. get_or text k 0) (omega arith)) in
+    let same : d ≡ get_or rest 0 0 = char_from_byte rest r d is (omega (arith, first)) (omega (arith, ap length g, length-drop n text)) in
+    let other : is_ascii_name_byte (get_or text n 0) ≡ false = ap (λ k. is_ascii_name_byte (get_or text k 0)) e ∙ prefix_len_stops is_ascii_name_byte text 0 (omega (arith, e)) in
+    true≢false (sym h ∙ (ap is_ncname_char (same ∙ first) ∙ other_byte (get_or text n 0) a other))
+
+pub ascii_named : (text name rest : List ℕ) (n : ℕ) → n ≡ prefix_len is_ascii_name_byte text → n ≢ 0 → n < length text → get_or text n 0 < 128 → is_ncname_start (get_or text 0 0) ≡ true
+    → name ≡ take n text → rest ≡ drop n text → NcNameAt text name rest
+ascii_named [] name rest n e some l a s f g = absurd (omega arith)
+ascii_named (x ∷ xs) name rest n e some l a s f g = by (is_ascii_name_byte x) refl
+  where
+    by : (t : Bool) → is_ascii_name_byte x ≡ t → NcNameAt (x ∷ xs) name rest
+    by false h = absurd (some (e ∙ ap (λ t. cond t (1 + prefix_len is_ascii_name_byte xs) 0) h))
+    by true h =
+        let (small, lawful) = name_byte x h in
+        let (cs, whole, k) = front_goes_on xs in
+        let len : n ≡ suc (prefix_len is_ascii_name_byte xs) = e ∙ (ap (λ t. cond t (1 + prefix_len is_ascii_name_byte xs) 0) h ∙ omega arith) in
+        let behind : rest ≡ drop (prefix_len is_ascii_name_byte xs) xs = g ∙ ap (λ m. drop m (x ∷ xs)) len in
+        named (x ∷ xs) xs rest name x cs n (ap (λ w. w ++ xs) (sym (encode_ascii x small))) s (whole ∙ ap (λ w. encode_utf8_all cs ++ w) (sym behind)) k
+        (ends_here (x ∷ xs) rest n e l a g) (omega (arith, ap length g, length-drop n (x ∷ xs), l)) f
+
+pub cut_before : (text : List ℕ) (n : ℕ) → n < length text → get_or text n 0 < 128 → (n ≤ length text) × (n < length text → 128 ≤ get_or text n 0 → 192 ≤ get_or text n 0)
+cut_before text n l a = (omega arith, λ _ h. absurd (omega arith))

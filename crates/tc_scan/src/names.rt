@@ -1,5 +1,5 @@
 // Names (Namespaces in XML 1.0, 3 and 4).
-ghost use Rattle.std.specs.Prelude.{◌≡◌, ◌≤◌, ◌++◌, [], ℕ, List, length, MatchOption, encode_utf8};
+ghost use Rattle.std.specs.Prelude.{◌≡◌, ◌≤◌, ◌++◌, [], ℕ, List, length, IfSome, MatchOption, encode_utf8};
 ghost use Rattle.std.specs.Char.{IsScalar};
 ghost use Rattle.std.specs.List.{prefix_len};
 ghost use Rattle.tc_model.specs.Names as names;
@@ -91,8 +91,24 @@ fn after_ascii(text: &str) -> &str
     &text[count..]
 }
 
-/// An NCName at the front, as long as it goes, and what follows it (Namespaces in XML 1.0, 3, [4]).
-pub fn ncname(text: &str) -> Option<(&str, &str)>
+/// An NCName in ASCII at the front, before ASCII that ends it, and what follows it.
+fn ascii_name(text: &str) -> Option<(&str, &str)>
+    ensures { IfSome result (λ r. xml.NcNameAt text.now r.0.now r.1.now) }
+{
+    let bytes = text.as_bytes();
+    let count = ascii_len(text);
+    if count == 0 || count >= bytes.len() {
+        return None;
+    }
+    if bytes[count] >= 128 || !is_ncname_start(char::from(bytes[0])) {
+        return None;
+    }
+    Some(text.split_at(count))
+}
+
+/// An NCName at the front, as long as it goes, and what follows it.
+#[inline(never)]
+fn any_name(text: &str) -> Option<(&str, &str)>
     ensures { MatchOption result ((name after : List ℕ) → xml.NcNameAt text.now name after → ⊥) (λ r. xml.NcNameAt text.now r.0.now r.1.now) }
 {
     let (first, after) = first_char(text)?;
@@ -107,6 +123,16 @@ pub fn ncname(text: &str) -> Option<(&str, &str)>
         rest = after_ascii(after);
     }
     Some((&text[..text.len() - rest.len()], rest))
+}
+
+/// An NCName at the front, as long as it goes, and what follows it (Namespaces in XML 1.0, 3, [4]).
+pub fn ncname(text: &str) -> Option<(&str, &str)>
+    ensures { MatchOption result ((name after : List ℕ) → xml.NcNameAt text.now name after → ⊥) (λ r. xml.NcNameAt text.now r.0.now r.1.now) }
+{
+    match ascii_name(text) {
+        Some(found) => Some(found),
+        None => any_name(text),
+    }
 }
 
 /// A QName at the front, and what follows it (Namespaces in XML 1.0, 4, [7] to [11]).

@@ -1,6 +1,6 @@
 use Rattle.std.proofs.Common.{IsUtf8, length}
 use Rattle.tc_scan.specs.Names.{GoesOn}
-use Rattle.tc_scan.proofs.names.ncname.Given as goal
+use Rattle.tc_scan.proofs.names.any_name.Given as goal
 
 -- the name so far
 abbrev pub invariant-loop-next : goal.invariant-loop-next

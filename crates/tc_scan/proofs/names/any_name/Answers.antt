@@ -3,8 +3,8 @@ use Rattle.std.specs.Prelude.{encode_utf8}
 use Rattle.tc_model.specs.Names.{is_ncname_char}
 use Rattle.tc_scan.proofs.FrontLaws.{same_range}
 use Rattle.tc_scan.proofs.NamesLaws.{at_none, none_at_end, none_at, cut_name, one_more, named, ended_by, ended_by_end, goes_further, shortens}
-use Rattle.tc_scan.proofs.names.ncname.Goals as goal
-use Rattle.tc_scan.proofs.names.ncname.Goals.{in-Some+then-not-is_ncname_char, in_default}
+use Rattle.tc_scan.proofs.names.any_name.Goals as goal
+use Rattle.tc_scan.proofs.names.any_name.Goals.{in-Some+then-not-is_ncname_char, in_default}
 
 pub returns-in_err-first : goal.returns-in_err-first
 returns-in_err-first c = at_none _ c.from_residual.ensures (none_at_end c.args.text.now c.in_err-first.ensures)
