@@ -1,15 +1,17 @@
 -- References, runs of digits and line ends.
-use Rattle.std.proofs.Common.{◌≡◌, ℕ, zero, suc, ◌+◌, ◌*◌, ◌^◌, ◌<◌, ◌≤◌, Bool, true, false, cond, List, [], ◌∷◌, ◌++◌, refl, ap, ◌∙◌, sym, subst, length, take, drop, get_or, arith, Option, None, Some, IsTrue, IsUtf8, IsCharBoundary, bytes_eq}
-use Rattle.std.specs.Prelude.{encode_utf8, codes}
+use Rattle.std.proofs.Common.{◌≡◌, ℕ, zero, suc, ltb, ◌+◌, ◌*◌, ◌^◌, ◌<◌, ◌≤◌, Bool, true, false, cond, List, [], ◌∷◌, ◌++◌, refl, ap, ◌∙◌, sym, subst, length, take, drop, get_or, arith, Option, None, Some, IsTrue, IsUtf8, IsCharBoundary, bytes_eq}
+use Rattle.std.specs.Prelude.{encode_utf8, encode_utf8_all, codes}
 use Rattle.std.specs.Char.{digit_value}
-use Rattle.std.specs.List.{prefix_len}
+use Rattle.std.specs.List.{list_all, prefix_len}
 use Rattle.std.specs.Str.Parse.{digits_value, digits_value_after, AllDigits}
 use Rattle.std.proofs.Math.Nat.{le-mul_of_pos_right, mul-le-mul}
+use Rattle.std.proofs.lemmas.Bool.{true≢false, and_parts}
 use Rattle.std.proofs.lemmas.Bool.Decides.{nat_tests}
 use Rattle.std.proofs.lemmas.List.{drop_more, drop_all}
 use Rattle.std.proofs.lemmas.List.Sums.{prefix_len_passes, prefix_len-le-length}
-use Rattle.std.proofs.lemmas.Str.{IsCharBoundary-after_ascii, IsCharBoundary-start, encode_ascii}
+use Rattle.std.proofs.lemmas.Str.{IsCharBoundary-after_ascii, IsCharBoundary-start, encode_ascii, char_from_byte}
 use Rattle.tc_base.specs.Characters.{is_char}
+use Rattle.tc_model.specs.Names.{IsNcName, is_ncname_char}
 use Rattle.tc_model.specs.XmlTextBytes.{RunAt}
 use Rattle.tc_model.specs.XmlTextNames.{NcNameAt}
 use Rattle.tc_model.specs.XmlTextReferences.{is_digit, predefined, EntityAt, ReferenceAt, decimal, hexadecimal, entity, other}
@@ -180,3 +182,29 @@ pub number_too_large : (base number d i : ℕ) (digits items : List ℕ) → (2 
     → digits_value_after base number (drop i digits) ≡ digits_value base digits → 0x10FFFF < number * base + d → IsTrue (is_char (digits_value base digits)) → ⊥
 number_too_large base number d i digits items b l same is v h =
     too_large base (number * base + d) (drop (i + 1) digits) digits (omega arith) (number_goes_on base number d i digits items l same is v) h
+
+-- the three that texts have
+encodes_ascii : (bs : List ℕ) → list_all (λ b. ltb b 128) bs ≡ true → encode_utf8_all bs ≡ bs
+encodes_ascii [] e = refl
+encodes_ascii (b ∷ bs) e =
+    let (x, y) = and_parts (ltb b 128) (list_all (λ b. ltb b 128) bs) e in
+    ap (λ w. w ++ encode_utf8_all bs) (encode_ascii b (ltb-true b 128 x)) ∙ ap (λ w. b ∷ w) (encodes_ascii bs y)
+
+semicolon : (after : List ℕ) (c : ℕ) (r : List ℕ) → 0x3B ∷ after ≡ encode_utf8 c ++ r → IsTrue (is_ncname_char c) → ⊥
+semicolon after c r e h =
+    let same : c ≡ 0x3B = char_from_byte (0x3B ∷ after) r c e (omega arith) (omega arith) in
+    true≢false (sym h ∙ ap is_ncname_char same)
+
+common : (c first : ℕ) (name text after : List ℕ) → c < 128 → IsNcName (first ∷ name) → predefined (first ∷ name) ≡ Some c → text ≡ 0x26 ∷ first ∷ name ++ 0x3B ∷ after → ReferenceAt false text (encode_utf8 c) after
+common c first name text after l lawful is e =
+    subst (λ s. ReferenceAt false text s after) (sym (encode_ascii c l))
+    (entity (record { rest = first ∷ name ++ 0x3B ∷ after; opens = e; names = record { lawful = lawful; parts = refl; longest = semicolon after } }) is)
+
+pub amp_at : (text after : List ℕ) → text ≡ codes "&amp;" ++ after → ReferenceAt false text (encode_utf8 38) after
+amp_at text after e = common 38 0x61 (codes "mp") text after (omega arith) (0x61, codes "mp", encodes_ascii (codes "amp") refl, refl, refl) refl e
+
+pub lt_at : (text after : List ℕ) → text ≡ codes "&lt;" ++ after → ReferenceAt false text (encode_utf8 60) after
+lt_at text after e = common 60 0x6C (codes "t") text after (omega arith) (0x6C, codes "t", encodes_ascii (codes "lt") refl, refl, refl) refl e
+
+pub gt_at : (text after : List ℕ) → text ≡ codes "&gt;" ++ after → ReferenceAt false text (encode_utf8 62) after
+gt_at text after e = common 62 0x67 (codes "t") text after (omega arith) (0x67, codes "t", encodes_ascii (codes "gt") refl, refl, refl) refl e

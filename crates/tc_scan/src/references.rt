@@ -1,5 +1,5 @@
 // References, an equals sign and a quote (XML 1.0, 2.3, 2.8, 4.1).
-ghost use Rattle.std.specs.Prelude.{◌≡◌, ◌≤◌, ◌∷◌, ℕ, List, false, length, encode_utf8, IfOk, IfErr, IsTrue, MatchOption};
+ghost use Rattle.std.specs.Prelude.{◌≡◌, ◌≤◌, ◌∷◌, ℕ, List, false, length, encode_utf8, IfOk, IfErr, IfSome, IsTrue, MatchOption};
 ghost use Rattle.std.specs.List.{prefix_len};
 ghost use Rattle.std.specs.Str.Parse.{digits_value, AllDigits};
 ghost use Rattle.tc_base.specs.Characters as class;
@@ -84,12 +84,22 @@ fn by_number(text: &str, base: u32) -> Option<(char, &str)>
     Some((numbered(digits, base)?, after))
 }
 
-/// The character for which the reference at the front stands, and what follows it.
-///
-/// # Errors
-///
-/// None is there, or one to an entity that isn't predefined.
-pub fn reference(text: &str) -> Result<(char, &str), NoReference>
+/// The character for which `&amp;`, `&lt;` or `&gt;` at the front stands, and what follows it.
+fn common_reference(text: &str) -> Option<(char, &str)>
+    ensures { IfSome result (λ r. xml.ReferenceAt false text.now (encode_utf8 r.0) r.1.now) }
+{
+    if let Some(rest) = after_mark(text, "&amp;") {
+        return Some(('&', rest));
+    }
+    if let Some(rest) = after_mark(text, "&lt;") {
+        return Some(('<', rest));
+    }
+    Some(('>', after_mark(text, "&gt;")?))
+}
+
+/// The character for which any reference at the front stands, and what follows it.
+#[inline(never)]
+fn any_reference(text: &str) -> Result<(char, &str), NoReference>
     ensures ok { IfOk result (λ r. xml.ReferenceAt false text.now (encode_utf8 r.0) r.1.now) }
     ensures no { IfErr result (λ e. Lacks e text.now) }
 {
@@ -117,6 +127,21 @@ pub fn reference(text: &str) -> Result<(char, &str), NoReference>
     match predefined(name) {
         Some(c) => Ok((c, after)),
         None => Err(NoReference::OtherEntity),
+    }
+}
+
+/// The character for which the reference at the front stands, and what follows it.
+///
+/// # Errors
+///
+/// None is there, or one to an entity that isn't predefined.
+pub fn reference(text: &str) -> Result<(char, &str), NoReference>
+    ensures ok { IfOk result (λ r. xml.ReferenceAt false text.now (encode_utf8 r.0) r.1.now) }
+    ensures no { IfErr result (λ e. Lacks e text.now) }
+{
+    match common_reference(text) {
+        Some(found) => Ok(found),
+        None => any_reference(text),
     }
 }
 

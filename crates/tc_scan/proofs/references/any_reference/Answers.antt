@@ -1,6 +1,6 @@
 use Rattle.std.proofs.Common.{sym}
 use Rattle.tc_scan.proofs.ReferenceLaws.{no_hexadecimal, no_decimal, no_semicolon, is_hexadecimal, is_decimal, is_entity, other_entity}
-use Rattle.tc_scan.proofs.references.reference.Goals as goal
+use Rattle.tc_scan.proofs.references.any_reference.Goals as goal
 
 pub returns-in-Some-by_number-clause-ok : goal.returns-in-Some-by_number-clause-ok
 returns-in-Some-by_number-clause-ok c =
