@@ -1,6 +1,6 @@
 // A document, handed on piece by piece in normal form (XML 1.0, 3 and 3.1; XSLT 1.0, 3.4). Where anything is
 // unusual this gives up, and what it gives is what the text means.
-ghost use Rattle.std.specs.Prelude.{◌≡◌, ◌≢◌, ◌<◌, ◌≤◌, ◌∷◌, ◌++◌, [], ℕ, List, length, IfSome, string_bytes, encode_utf8, IsTrue};
+ghost use Rattle.std.specs.Prelude.{◌≡◌, ◌≢◌, ◌<◌, ◌≤◌, ◌∷◌, ◌++◌, [], ℕ, List, length, IfSome, string_bytes, encode_utf8, codes, IsTrue};
 ghost use Rattle.tc_model.specs.Events.{Takes, start as started, end as ended, events};
 ghost use Rattle.tc_model.specs.RawTrees.{RawTrees, none};
 ghost use Rattle.tc_model.specs.Runs.{run_text};
@@ -221,6 +221,13 @@ fn leave<'b, T: TakesTrees<'b>>(
     levels.bindings.take_back(count)
 }
 
+/// What follows the end of an empty-element tag.
+fn after_empty_end(text: &str) -> Option<&str>
+    ensures { IfSome result (λ rest. text.now ≡ codes "/>" ++ rest.now) }
+{
+    after_byte(after_byte(text, b'/')?, b'>')
+}
+
 /// Takes the start tag or the empty-element tag at the front, and gives what follows it.
 fn start_tag<'b, T: TakesTrees<'b>>(
     reader: &mut Reader<'b, T>,
@@ -235,7 +242,7 @@ fn start_tag<'b, T: TakesTrees<'b>>(
     let outer_count = levels.bindings.count();
     let tag = levels.read_tag(reader.arena, text)?;
     start_element(reader, tag.name)?;
-    if let Some(rest) = after_mark(tag.rest, "/>") {
+    if let Some(rest) = after_empty_end(tag.rest) {
         leave(reader, levels, outer_count)?;
         return Some(rest);
     }
