@@ -1,5 +1,5 @@
 -- Blocks of ASCII, and what stands behind them.
-use Rattle.std.proofs.Common.{◌≡◌, ℕ, zero, suc, ◌+◌, ◌-◌, ◌*◌, ◌%◌, ◌^◌, ◌<◌, ◌≤◌, Bool, true, false, cond, eqb, ltb, leb, List, [], ◌∷◌, ◌++◌, map, length, take, drop, get_or, replicate, bit_or, bit_xor, refl, ap, ◌∙◌, sym, subst, arith, IsUtf8, take-append-drop, append_assoc, ◌&&◌}
+use Rattle.std.proofs.Common.{◌≡◌, ℕ, zero, suc, ◌+◌, ◌-◌, ◌%◌, ◌^◌, ◌<◌, ◌≤◌, Bool, true, false, cond, eqb, ltb, leb, List, [], ◌∷◌, ◌++◌, map, length, take, drop, get_or, replicate, bit_or, bit_xor, refl, ap, ◌∙◌, sym, subst, arith, take-append-drop, append_assoc, ◌&&◌}
 use Rattle.std.specs.List.{list_all}
 use Rattle.std.proofs.Math.Seq.{take-append_seam, take-add}
 use Rattle.std.proofs.lemmas.Bool.{eqb-true, eqb-false, leb-false, ltb-false, and_from}
@@ -11,7 +11,7 @@ use Rattle.std.proofs.lemmas.Str.{IsUtf8-from_ascii}
 use lib.Lanes.{zip2, mask_l, top}
 use Rattle.tc_model.specs.Names.{IsChars}
 use Rattle.tc_model.specs.XmlTextBytes.{FrontOf}
-use Rattle.tc_model.proofs.XmlTextChars.{join_chars, chars_utf8}
+use Rattle.tc_model.proofs.XmlTextChars.{join_chars}
 use Rattle.tc_scan.specs.Chars.{is_start_of_chars_only}
 use Rattle.tc_scan.proofs.CharsLaws.{plain_text}
 use Rattle.tc_scan.proofs.FrontLaws.{same_rest}
