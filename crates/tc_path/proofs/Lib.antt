@@ -10,3 +10,5 @@ pub mod Refusals
 pub mod PriorityLaws
 pub mod AttributeLoops
 pub mod ReasonLaws
+pub mod KnownLaws
+pub mod WholeLaws

@@ -4,3 +4,5 @@ pub mod Faults
 pub mod NameTokens
 pub mod Phrases
 pub mod Contexts
+pub mod Known
+pub mod Scopes

@@ -1,9 +1,10 @@
 // Selects of attributes alone (XSLT 1.0, 11.3).
-ghost use Rattle.std.specs.Prelude.{◌≡◌, ◌<◌, ◌&&◌, false, [], IfOk, IfErr, Bool, List, length, map, MatchBool};
+ghost use Rattle.std.specs.Prelude.{◌≡◌, ◌<◌, ◌&&◌, false, [], IfOk, IfErr, Bool, List, length, MatchBool};
 ghost use Rattle.tc_model.specs.PathTextTokens as path;
 ghost use Rattle.tc_model.specs.PathTextPhrases as p;
 ghost use Rattle.tc_model.specs.Sheets as sheets;
 ghost use Rattle.tc_model.specs.Views as seen;
+ghost use Rattle.tc_path.specs.Scopes.{in_scope};
 ghost use Rattle.tc_path.specs.Views.{form, tokens_of};
 ghost use Rattle.tc_path.specs.Phrases.{EndsIn};
 ghost use Rattle.tc_path.specs.Faults.{OrNoMemory};
@@ -12,9 +13,9 @@ use crate::PathFault;
 use crate::joined::Form;
 use crate::node_tests::after_other_node;
 use crate::phrases::alternative;
+use crate::scopes::Scope;
 use crate::token::{Mark, Token, after_mark};
 use bumpalo::Bump;
-use tc_model::Binding;
 
 /// Whether steps of this form end in an attribute step, where they are no other nodes.
 fn ends_so(written: Form, other: bool) -> bool
@@ -37,13 +38,13 @@ fn is_other_node(tokens: &[Token<'_>]) -> bool
 }
 
 /// Whether the alternative of a select at the front ends in an attribute step, and what follows it.
-fn ends_in_attribute<'a, 't>(
-    arena: &Bump,
-    scope: &[Binding<'_>],
+fn ends_in_attribute<'a, 'b, 't>(
+    arena: &'b Bump,
+    scope: &Scope<'_, 'b>,
     tokens: &'a [Token<'t>],
 ) -> Result<(bool, &'a [Token<'t>]), PathFault>
-    ensures ok { IfOk result (λ r. EndsIn (map seen.bound scope.now) (tokens_of tokens.now) r.0 (tokens_of r.1.now)) }
-    ensures no { IfErr result (λ e. OrNoMemory e ((ss : sheets.Steps) (f : p.Form) (after : List path.Token) → p.AlternativeAt (map seen.bound scope.now) (tokens_of tokens.now) ss f after → ⊥)) }
+    ensures ok { IfOk result (λ r. EndsIn (in_scope scope.now) (tokens_of tokens.now) r.0 (tokens_of r.1.now)) }
+    ensures no { IfErr result (λ e. OrNoMemory e ((ss : sheets.Steps) (f : p.Form) (after : List path.Token) → p.AlternativeAt (in_scope scope.now) (tokens_of tokens.now) ss f after → ⊥)) }
     ensures shorter { IfOk result (λ r. length r.1.now < length tokens.now) }
 {
     let other = is_other_node(tokens);
@@ -59,14 +60,14 @@ fn both(first: bool, second: bool) -> bool
 }
 
 /// Whether each alternative of a select, which takes all of the tokens, ends in an attribute step.
-pub(crate) fn are_attributes(
-    arena: &Bump,
-    scope: &[Binding<'_>],
+pub(crate) fn are_attributes<'b>(
+    arena: &'b Bump,
+    scope: &Scope<'_, 'b>,
     tokens: &[Token<'_>],
 ) -> Result<bool, PathFault>
-    ensures ok { IfOk result (λ all. MatchBool all (p.AttributesAt (map seen.bound scope.now) (tokens_of tokens.now) []) (p.AttributesAt (map seen.bound scope.now) (tokens_of tokens.now) [] → ⊥)) }
-    ensures select { IfOk result (λ _. (q : sheets.Path) × (drops : Bool) × p.SelectAt (map seen.bound scope.now) (tokens_of tokens.now) q drops []) }
-    ensures no { IfErr result (λ e. OrNoMemory e ((q : sheets.Path) (drops : Bool) → p.SelectAt (map seen.bound scope.now) (tokens_of tokens.now) q drops [] → ⊥)) }
+    ensures ok { IfOk result (λ all. MatchBool all (p.AttributesAt (in_scope scope.now) (tokens_of tokens.now) []) (p.AttributesAt (in_scope scope.now) (tokens_of tokens.now) [] → ⊥)) }
+    ensures select { IfOk result (λ _. (q : sheets.Path) × (drops : Bool) × p.SelectAt (in_scope scope.now) (tokens_of tokens.now) q drops []) }
+    ensures no { IfErr result (λ e. OrNoMemory e ((q : sheets.Path) (drops : Bool) → p.SelectAt (in_scope scope.now) (tokens_of tokens.now) q drops [] → ⊥)) }
 {
     let (first, mut rest) = ends_in_attribute(arena, scope, tokens)?;
     let mut all = first;

@@ -13,16 +13,17 @@ ghost use Rattle.tc_path.specs.Faults.{OrNoMemory, IsCause, FormsOnceRenamed, Is
 mod attributes;
 mod front;
 mod joined;
+mod known;
 mod nesting;
 mod node_tests;
 mod patterns;
 mod phrases;
 mod priority;
 mod reasons;
+mod scopes;
 mod token;
 mod whole;
 
-use attributes::are_attributes;
 use bumpalo::Bump;
 use nesting::shallow_tokens;
 pub use priority::read_priority;
@@ -30,7 +31,7 @@ use reasons::Context;
 use std::alloc::{AllocError, AllocFailed};
 use tc_base::Why;
 use tc_model::{Alt, Binding, Instr, Path, Test};
-use whole::{refusal, whole_select, whole_test, whole_value};
+use whole::{refusal, whole_attributes, whole_pattern, whole_select, whole_test, whole_value};
 
 /// Why a text is not read.
 #[derive(Clone, Copy, Debug, PartialEq, Eq)]
@@ -97,7 +98,7 @@ pub fn selects_attributes(
     ensures renamed { (v : sheets.Path) → FormsOnceRenamed (texts.IsSelect (map seen.bound scope.now) v) text.now → IfErr result IsUnsupported }
 {
     let tokens = shallow_tokens(arena, text)?;
-    match are_attributes(arena, scope, tokens) {
+    match whole_attributes(arena, scope, tokens) {
         Ok(all) => Ok(all),
         Err(fault) => Err(refusal(Context::Select, tokens, fault)),
     }
@@ -133,7 +134,7 @@ pub fn read_pattern<'b>(
     ensures renamed { (v : List p.Alternative) → FormsOnceRenamed (texts.IsPattern (map seen.bound scope.now) v) text.now → IfErr result IsUnsupported }
 {
     let tokens = shallow_tokens(arena, text)?;
-    match patterns::pattern(arena, scope, tokens) {
+    match whole_pattern(arena, scope, tokens) {
         Ok(alternatives) => Ok(alternatives),
         Err(fault) => Err(refusal(Context::Pattern, tokens, fault)),
     }

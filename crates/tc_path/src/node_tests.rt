@@ -1,42 +1,31 @@
 // Node tests and attribute steps (XPath 1.0, 2.1, 2.3, 2.5).
-ghost use Rattle.std.specs.Prelude.{◌≡◌, ◌<◌, [], ◌∷◌, None, Some, ℕ, List, length, map, codes, MatchOption, MatchResult, MatchBool};
+ghost use Rattle.std.specs.Prelude.{◌≡◌, ◌<◌, [], ◌∷◌, None, Some, ℕ, List, length, codes, MatchOption, MatchResult, MatchBool};
 ghost use Rattle.tc_model.specs.Names.{ExpandedName};
 ghost use Rattle.tc_model.specs.PathTextTokens as path;
 ghost use Rattle.tc_model.specs.PathTextPhrases as p;
 ghost use Rattle.tc_model.specs.Sheets as sheets;
 ghost use Rattle.tc_model.specs.Views as seen;
-ghost use Rattle.tc_model.specs.XmlTextScopes.{uri_of};
+ghost use Rattle.tc_path.specs.Scopes.{in_scope};
 ghost use Rattle.tc_path.specs.Views.{tokens_of};
 ghost use Rattle.tc_scan.specs.Views.{written_name};
 ghost use Rattle.tc_path.specs.Faults.{OrNoMemory};
 
 use crate::PathFault;
 use crate::joined::after_open_call;
+use crate::scopes::Scope;
 use crate::token::{Mark, Token, after_mark, after_word, begins_with};
 use bumpalo::Bump;
-use tc_model::{Binding, Name, NodeTest};
+use tc_model::{Name, NodeTest};
 use tc_scan::QualifiedName;
 
-/// The namespace name to which a prefix is bound.
-fn namespace_of<'b>(scope: &[Binding<'b>], prefix: &str) -> Option<&'b str>
-    ensures { MatchOption result (uri_of (map seen.bound scope.now) prefix.now ≡ None) (λ uri. uri_of (map seen.bound scope.now) prefix.now ≡ Some uri.now) }
-{
-    for binding in scope {
-        if binding.prefix == prefix {
-            return Some(binding.uri);
-        }
-    }
-    None
-}
-
 /// The namespace name of a name test: none without a prefix.
-fn namespace_of_name<'b>(scope: &[Binding<'b>], name: &QualifiedName<'_>) -> Option<&'b str>
-    ensures { MatchOption result ((m : ExpandedName) → p.NameMeans (map seen.bound scope.now) (written_name name.now) m → ⊥) (λ uri. p.NameMeans (map seen.bound scope.now) (written_name name.now) (record { uri = uri.now; local = (written_name name.now).local })) }
+fn namespace_of_name<'b>(scope: &Scope<'_, 'b>, name: &QualifiedName<'_>) -> Option<&'b str>
+    ensures { MatchOption result ((m : ExpandedName) → p.NameMeans (in_scope scope.now) (written_name name.now) m → ⊥) (λ uri. p.NameMeans (in_scope scope.now) (written_name name.now) (record { uri = uri.now; local = (written_name name.now).local })) }
 {
     if name.prefix.is_empty() {
         Some("")
     } else {
-        namespace_of(scope, name.prefix)
+        scope.uri_of(name.prefix)
     }
 }
 
@@ -70,12 +59,12 @@ fn ends_name_test(tokens: &[Token<'_>]) -> bool
 /// The node test at the front that is a name, `p:*` or `*`, and what follows it.
 fn name_test<'a, 'b, 't>(
     arena: &'b Bump,
-    scope: &[Binding<'b>],
+    scope: &Scope<'_, 'b>,
     tokens: &'a [Token<'t>],
 ) -> Result<(NodeTest<'b>, &'a [Token<'t>]), PathFault>
     requires no_text { (r : List path.Token) → (tokens_of tokens.now) ≡ p.word (codes "text") ∷ path.mark path.open_parenthesis ∷ path.mark path.close_parenthesis ∷ r → ⊥ }
     requires no_node { (r : List path.Token) → (tokens_of tokens.now) ≡ p.word (codes "node") ∷ path.mark path.open_parenthesis ∷ path.mark path.close_parenthesis ∷ r → ⊥ }
-    ensures { MatchResult result (λ r. p.NodeTestAt (map seen.bound scope.now) (tokens_of tokens.now) (seen.node_test r.0) (tokens_of r.1.now) × (length r.1.now < length tokens.now)) (λ e. OrNoMemory e ((t : sheets.NodeTest) (after : List path.Token) → p.NodeTestAt (map seen.bound scope.now) (tokens_of tokens.now) t after → ⊥)) }
+    ensures { MatchResult result (λ r. p.NodeTestAt (in_scope scope.now) (tokens_of tokens.now) (seen.node_test r.0) (tokens_of r.1.now) × (length r.1.now < length tokens.now)) (λ e. OrNoMemory e ((t : sheets.NodeTest) (after : List path.Token) → p.NodeTestAt (in_scope scope.now) (tokens_of tokens.now) t after → ⊥)) }
 {
     if let Some(rest) = after_mark(tokens, Mark::Star) {
         return Ok((NodeTest::Any, rest));
@@ -84,7 +73,7 @@ fn name_test<'a, 'b, 't>(
         return Err(PathFault::Malformed);
     };
     match first {
-        Token::AllOfPrefix(prefix) => match namespace_of(scope, prefix) {
+        Token::AllOfPrefix(prefix) => match scope.uri_of(prefix) {
             Some(uri) => Ok((NodeTest::Ns(uri), rest)),
             None => Err(PathFault::Malformed),
         },
@@ -102,10 +91,10 @@ fn name_test<'a, 'b, 't>(
 /// The node test at the front, and what follows it (XPath 1.0, 2.3).
 fn node_test_at<'a, 'b, 't>(
     arena: &'b Bump,
-    scope: &[Binding<'b>],
+    scope: &Scope<'_, 'b>,
     tokens: &'a [Token<'t>],
 ) -> Result<(NodeTest<'b>, &'a [Token<'t>]), PathFault>
-    ensures { MatchResult result (λ r. p.NodeTestAt (map seen.bound scope.now) (tokens_of tokens.now) (seen.node_test r.0) (tokens_of r.1.now) × (length r.1.now < length tokens.now)) (λ e. OrNoMemory e ((t : sheets.NodeTest) (after : List path.Token) → p.NodeTestAt (map seen.bound scope.now) (tokens_of tokens.now) t after → ⊥)) }
+    ensures { MatchResult result (λ r. p.NodeTestAt (in_scope scope.now) (tokens_of tokens.now) (seen.node_test r.0) (tokens_of r.1.now) × (length r.1.now < length tokens.now)) (λ e. OrNoMemory e ((t : sheets.NodeTest) (after : List path.Token) → p.NodeTestAt (in_scope scope.now) (tokens_of tokens.now) t after → ⊥)) }
 {
     if let Some(rest) = after_call(tokens, "text") {
         return Ok((NodeTest::Text, rest));
@@ -119,10 +108,10 @@ fn node_test_at<'a, 'b, 't>(
 /// The node test of the child axis at the front, and what follows it.
 pub(crate) fn child_test<'a, 'b, 't>(
     arena: &'b Bump,
-    scope: &[Binding<'b>],
+    scope: &Scope<'_, 'b>,
     tokens: &'a [Token<'t>],
 ) -> Result<(NodeTest<'b>, &'a [Token<'t>]), PathFault>
-    ensures { MatchResult result (λ r. p.ChildAt (map seen.bound scope.now) (tokens_of tokens.now) (seen.node_test r.0) (tokens_of r.1.now) × (length r.1.now < length tokens.now)) (λ e. OrNoMemory e ((t : sheets.NodeTest) (after : List path.Token) → p.ChildAt (map seen.bound scope.now) (tokens_of tokens.now) t after → ⊥)) }
+    ensures { MatchResult result (λ r. p.ChildAt (in_scope scope.now) (tokens_of tokens.now) (seen.node_test r.0) (tokens_of r.1.now) × (length r.1.now < length tokens.now)) (λ e. OrNoMemory e ((t : sheets.NodeTest) (after : List path.Token) → p.ChildAt (in_scope scope.now) (tokens_of tokens.now) t after → ⊥)) }
 {
     match after_axis(tokens, "child") {
         Some(rest) => node_test_at(arena, scope, rest),
@@ -132,10 +121,10 @@ pub(crate) fn child_test<'a, 'b, 't>(
 
 /// What follows the name, `p:*` or `*` of an attribute step.
 fn after_attribute_test<'a, 't>(
-    scope: &[Binding<'_>],
+    scope: &Scope<'_, '_>,
     tokens: &'a [Token<'t>],
 ) -> Option<&'a [Token<'t>]>
-    ensures { MatchOption result ((r : List path.Token) → p.AttributeTestAt (map seen.bound scope.now) (tokens_of tokens.now) r → ⊥) (λ rest. p.AttributeTestAt (map seen.bound scope.now) (tokens_of tokens.now) (tokens_of rest.now)) }
+    ensures { MatchOption result ((r : List path.Token) → p.AttributeTestAt (in_scope scope.now) (tokens_of tokens.now) r → ⊥) (λ rest. p.AttributeTestAt (in_scope scope.now) (tokens_of tokens.now) (tokens_of rest.now)) }
 {
     if let Some(rest) = after_mark(tokens, Mark::Star) {
         return Some(rest);
@@ -143,7 +132,7 @@ fn after_attribute_test<'a, 't>(
     let (first, rest) = tokens.split_first()?;
     match first {
         Token::AllOfPrefix(prefix) => {
-            match namespace_of(scope, prefix) {
+            match scope.uri_of(prefix) {
                 Some(_) => Some(rest),
                 None => None,
             }
@@ -160,10 +149,10 @@ fn after_attribute_test<'a, 't>(
 
 /// What follows the attribute step at the front.
 pub(crate) fn after_attribute<'a, 't>(
-    scope: &[Binding<'_>],
+    scope: &Scope<'_, '_>,
     tokens: &'a [Token<'t>],
 ) -> Option<&'a [Token<'t>]>
-    ensures { MatchOption result ((r : List path.Token) → p.AttributeAt (map seen.bound scope.now) (tokens_of tokens.now) r → ⊥) (λ rest. p.AttributeAt (map seen.bound scope.now) (tokens_of tokens.now) (tokens_of rest.now)) }
+    ensures { MatchOption result ((r : List path.Token) → p.AttributeAt (in_scope scope.now) (tokens_of tokens.now) r → ⊥) (λ rest. p.AttributeAt (in_scope scope.now) (tokens_of tokens.now) (tokens_of rest.now)) }
 {
     if let Some(rest) = after_mark(tokens, Mark::At) {
         return after_attribute_test(scope, rest);

@@ -3,6 +3,7 @@ ghost use Rattle.std.specs.Prelude.{◌≡◌, ◌<◌, ◌++◌, [], ◌∷◌,
 ghost use Rattle.tc_model.specs.PathTextTokens as path;
 ghost use Rattle.tc_model.specs.PathTextPhrases as p;
 ghost use Rattle.tc_model.specs.Views as seen;
+ghost use Rattle.tc_path.specs.Scopes.{in_scope};
 ghost use Rattle.tc_path.specs.Views as see;
 ghost use Rattle.tc_path.specs.Views.{form, tokens_of, kept_alternative};
 ghost use Rattle.tc_path.specs.Phrases.{StartsAt, priority_from};
@@ -12,10 +13,11 @@ use crate::PathFault;
 use crate::joined::Form;
 use crate::node_tests::after_other_node;
 use crate::phrases::steps;
+use crate::scopes::Scope;
 use crate::token::{Mark, Token, after_mark, begins_with};
 use bumpalo::Bump;
 use bumpalo::collections::into_bump_slice;
-use tc_model::{Alt, Binding, NodeTest, Pattern, Step};
+use tc_model::{Alt, NodeTest, Pattern, Step};
 
 /// The default priority of a pattern that isn't a node test alone, in ten-thousandths.
 const OTHERWISE: i64 = 5000;
@@ -95,10 +97,10 @@ fn start<'a, 't>(tokens: &'a [Token<'t>]) -> (bool, bool, &'a [Token<'t>])
 /// The alternative of a pattern at the front, none where it is dropped, and what follows it.
 fn alternative<'a, 'b, 't>(
     arena: &'b Bump,
-    scope: &[Binding<'b>],
+    scope: &Scope<'_, 'b>,
     tokens: &'a [Token<'t>],
 ) -> Result<(Option<Alt<'b>>, &'a [Token<'t>]), PathFault>
-    ensures { MatchResult result (λ r. p.PatternAlternativeAt (map seen.bound scope.now) (tokens_of tokens.now) (kept_alternative r.0) (tokens_of r.1.now) × (length r.1.now < length tokens.now)) (λ e. OrNoMemory e ((xs : List p.Alternative) (after : List path.Token) → p.PatternAlternativeAt (map seen.bound scope.now) (tokens_of tokens.now) xs after → ⊥)) }
+    ensures { MatchResult result (λ r. p.PatternAlternativeAt (in_scope scope.now) (tokens_of tokens.now) (kept_alternative r.0) (tokens_of r.1.now) × (length r.1.now < length tokens.now)) (λ e. OrNoMemory e ((xs : List p.Alternative) (after : List path.Token) → p.PatternAlternativeAt (in_scope scope.now) (tokens_of tokens.now) xs after → ⊥)) }
 {
     if let Some(rest) = after_other_node(tokens) {
         return Ok((None, rest));
@@ -134,11 +136,11 @@ fn keep<'b>(
 /// The alternatives of a pattern, which takes all of the tokens.
 pub(crate) fn pattern<'b>(
     arena: &'b Bump,
-    scope: &[Binding<'b>],
+    scope: &Scope<'_, 'b>,
     tokens: &[Token<'_>],
 ) -> Result<&'b [Alt<'b>], PathFault>
-    ensures ok { IfOk result (λ r. p.PatternAt (map seen.bound scope.now) (tokens_of tokens.now) (map see.alternative r.now)) }
-    ensures no { IfErr result (λ e. OrNoMemory e ((xs : List p.Alternative) → p.PatternAt (map seen.bound scope.now) (tokens_of tokens.now) xs → ⊥)) }
+    ensures ok { IfOk result (λ r. p.PatternAt (in_scope scope.now) (tokens_of tokens.now) (map see.alternative r.now)) }
+    ensures no { IfErr result (λ e. OrNoMemory e ((xs : List p.Alternative) → p.PatternAt (in_scope scope.now) (tokens_of tokens.now) xs → ⊥)) }
 {
     let mut found = Vec::new(arena);
     let mut rest = tokens.split_at(0).1;

@@ -1,11 +1,12 @@
 // Selects and tests (XPath 1.0, 2 and 3).
 #![tactic(none)]
 
-ghost use Rattle.std.specs.Prelude.{◌<◌, [], ◌∷◌, MatchResult, Bool, List, length, map};
+ghost use Rattle.std.specs.Prelude.{◌<◌, [], ◌∷◌, MatchResult, Bool, List, length};
 ghost use Rattle.tc_model.specs.PathTextTokens as path;
 ghost use Rattle.tc_model.specs.PathTextPhrases as p;
 ghost use Rattle.tc_model.specs.Sheets as sheets;
 ghost use Rattle.tc_model.specs.Views as seen;
+ghost use Rattle.tc_path.specs.Scopes.{in_scope};
 ghost use Rattle.tc_path.specs.Views.{mark, form, tokens_of};
 ghost use Rattle.tc_path.specs.Phrases.{IsStepAt, ClosedAt};
 ghost use Rattle.tc_path.specs.Faults.{OrNoMemory};
@@ -15,21 +16,22 @@ use crate::joined::{
     Form, after_open_call, after_separator, conjunction, disjunction, form_of, keep,
 };
 use crate::node_tests::{after_attribute, after_call, after_other_node, child_test};
+use crate::scopes::Scope;
 use crate::token::{Mark, Token, after_mark, after_word};
 use bumpalo::Bump;
 use bumpalo::collections::into_bump_slice;
-use tc_model::{Binding, Path, Step, Test};
+use tc_model::{Path, Step, Test};
 
 /// The step at the front with its predicates, whether it is a node test alone, and what follows it (XPath
 /// 1.0, 2.1, 2.4).
 #[cycle(phrases)]
 fn step<'a, 'b, 't>(
     arena: &'b Bump,
-    scope: &[Binding<'b>],
+    scope: &Scope<'_, 'b>,
     tokens: &'a [Token<'t>],
     deep: bool,
 ) -> Result<(Step<'b>, bool, &'a [Token<'t>]), PathFault>
-    ensures { MatchResult result (λ r. IsStepAt (map seen.bound scope.now) deep (tokens_of tokens.now) (seen.steps (r.0 ∷ [])) r.1 (tokens_of r.2.now) × (length r.2.now < length tokens.now)) (λ e. OrNoMemory e ((ss : sheets.Steps) (lone : Bool) (after : List path.Token) → IsStepAt (map seen.bound scope.now) deep (tokens_of tokens.now) ss lone after → ⊥)) }
+    ensures { MatchResult result (λ r. IsStepAt (in_scope scope.now) deep (tokens_of tokens.now) (seen.steps (r.0 ∷ [])) r.1 (tokens_of r.2.now) × (length r.2.now < length tokens.now)) (λ e. OrNoMemory e ((ss : sheets.Steps) (lone : Bool) (after : List path.Token) → IsStepAt (in_scope scope.now) deep (tokens_of tokens.now) ss lone after → ⊥)) }
 {
     let (test, mut rest) = child_test(arena, scope, tokens)?;
     let mut found = Vec::new(arena);
@@ -51,11 +53,11 @@ fn step<'a, 'b, 't>(
 #[cycle(phrases)]
 pub(crate) fn steps<'a, 'b, 't>(
     arena: &'b Bump,
-    scope: &[Binding<'b>],
+    scope: &Scope<'_, 'b>,
     tokens: &'a [Token<'t>],
     is_deep: bool,
 ) -> Result<(&'b [Step<'b>], Form, &'a [Token<'t>]), PathFault>
-    ensures { MatchResult result (λ r. p.StepsAt (map seen.bound scope.now) is_deep (tokens_of tokens.now) (seen.steps r.0.now) (form r.1) (tokens_of r.2.now) × (length r.2.now < length tokens.now)) (λ e. OrNoMemory e ((ss : sheets.Steps) (f : p.Form) (after : List path.Token) → p.StepsAt (map seen.bound scope.now) is_deep (tokens_of tokens.now) ss f after → ⊥)) }
+    ensures { MatchResult result (λ r. p.StepsAt (in_scope scope.now) is_deep (tokens_of tokens.now) (seen.steps r.0.now) (form r.1) (tokens_of r.2.now) × (length r.2.now < length tokens.now)) (λ e. OrNoMemory e ((ss : sheets.Steps) (f : p.Form) (after : List path.Token) → p.StepsAt (in_scope scope.now) is_deep (tokens_of tokens.now) ss f after → ⊥)) }
 {
     let mut found = Vec::new(arena);
     let mut longer = false;
@@ -80,10 +82,10 @@ pub(crate) fn steps<'a, 'b, 't>(
 #[cycle(phrases)]
 pub(crate) fn alternative<'a, 'b, 't>(
     arena: &'b Bump,
-    scope: &[Binding<'b>],
+    scope: &Scope<'_, 'b>,
     tokens: &'a [Token<'t>],
 ) -> Result<(&'b [Step<'b>], Form, &'a [Token<'t>]), PathFault>
-    ensures { MatchResult result (λ r. p.AlternativeAt (map seen.bound scope.now) (tokens_of tokens.now) (seen.steps r.0.now) (form r.1) (tokens_of r.2.now) × (length r.2.now < length tokens.now)) (λ e. OrNoMemory e ((ss : sheets.Steps) (f : p.Form) (after : List path.Token) → p.AlternativeAt (map seen.bound scope.now) (tokens_of tokens.now) ss f after → ⊥)) }
+    ensures { MatchResult result (λ r. p.AlternativeAt (in_scope scope.now) (tokens_of tokens.now) (seen.steps r.0.now) (form r.1) (tokens_of r.2.now) × (length r.2.now < length tokens.now)) (λ e. OrNoMemory e ((ss : sheets.Steps) (f : p.Form) (after : List path.Token) → p.AlternativeAt (in_scope scope.now) (tokens_of tokens.now) ss f after → ⊥)) }
 {
     if let Some(rest) = after_other_node(tokens) {
         return Ok((&[], Form::Dropped, rest));
@@ -101,10 +103,10 @@ pub(crate) fn alternative<'a, 'b, 't>(
 #[cycle(phrases)]
 pub(crate) fn select<'a, 'b, 't>(
     arena: &'b Bump,
-    scope: &[Binding<'b>],
+    scope: &Scope<'_, 'b>,
     tokens: &'a [Token<'t>],
 ) -> Result<(Path<'b>, bool, &'a [Token<'t>]), PathFault>
-    ensures { MatchResult result (λ r. p.SelectAt (map seen.bound scope.now) (tokens_of tokens.now) (seen.path r.0) r.1 (tokens_of r.2.now) × (length r.2.now < length tokens.now)) (λ e. OrNoMemory e ((q : sheets.Path) (drops : Bool) (after : List path.Token) → p.SelectAt (map seen.bound scope.now) (tokens_of tokens.now) q drops after → ⊥)) }
+    ensures { MatchResult result (λ r. p.SelectAt (in_scope scope.now) (tokens_of tokens.now) (seen.path r.0) r.1 (tokens_of r.2.now) × (length r.2.now < length tokens.now)) (λ e. OrNoMemory e ((q : sheets.Path) (drops : Bool) (after : List path.Token) → p.SelectAt (in_scope scope.now) (tokens_of tokens.now) q drops after → ⊥)) }
 {
     let mut found = Vec::new(arena);
     let mut drops = false;
@@ -124,10 +126,10 @@ pub(crate) fn select<'a, 'b, 't>(
 #[cycle(phrases)]
 fn primary<'a, 'b, 't>(
     arena: &'b Bump,
-    scope: &[Binding<'b>],
+    scope: &Scope<'_, 'b>,
     tokens: &'a [Token<'t>],
 ) -> Result<(Test<'b>, &'a [Token<'t>]), PathFault>
-    ensures { MatchResult result (λ r. p.PrimaryAt (map seen.bound scope.now) (tokens_of tokens.now) (seen.test r.0) (tokens_of r.1.now) × (length r.1.now < length tokens.now)) (λ e. OrNoMemory e ((t : sheets.Test) (after : List path.Token) → p.PrimaryAt (map seen.bound scope.now) (tokens_of tokens.now) t after → ⊥)) }
+    ensures { MatchResult result (λ r. p.PrimaryAt (in_scope scope.now) (tokens_of tokens.now) (seen.test r.0) (tokens_of r.1.now) × (length r.1.now < length tokens.now)) (λ e. OrNoMemory e ((t : sheets.Test) (after : List path.Token) → p.PrimaryAt (in_scope scope.now) (tokens_of tokens.now) t after → ⊥)) }
 {
     if let Some(rest) = after_call(tokens, "true") {
         return Ok((Test::True, rest));
@@ -153,11 +155,11 @@ fn primary<'a, 'b, 't>(
 #[cycle(phrases)]
 fn closed_test<'a, 'b, 't>(
     arena: &'b Bump,
-    scope: &[Binding<'b>],
+    scope: &Scope<'_, 'b>,
     tokens: &'a [Token<'t>],
     close: Mark,
 ) -> Result<(Test<'b>, &'a [Token<'t>]), PathFault>
-    ensures { MatchResult result (λ r. ClosedAt (map seen.bound scope.now) (tokens_of tokens.now) (mark close) (seen.test r.0) (tokens_of r.1.now) × (length r.1.now < length tokens.now)) (λ e. OrNoMemory e ((t : sheets.Test) (after : List path.Token) → ClosedAt (map seen.bound scope.now) (tokens_of tokens.now) (mark close) t after → ⊥)) }
+    ensures { MatchResult result (λ r. ClosedAt (in_scope scope.now) (tokens_of tokens.now) (mark close) (seen.test r.0) (tokens_of r.1.now) × (length r.1.now < length tokens.now)) (λ e. OrNoMemory e ((t : sheets.Test) (after : List path.Token) → ClosedAt (in_scope scope.now) (tokens_of tokens.now) (mark close) t after → ⊥)) }
 {
     let (tests, after) = any_tests(arena, scope, tokens)?;
     let Some(rest) = after_mark(after, close) else {
@@ -170,10 +172,10 @@ fn closed_test<'a, 'b, 't>(
 #[cycle(phrases)]
 fn all_tests<'a, 'b, 't>(
     arena: &'b Bump,
-    scope: &[Binding<'b>],
+    scope: &Scope<'_, 'b>,
     tokens: &'a [Token<'t>],
 ) -> Result<(&'b [Test<'b>], &'a [Token<'t>]), PathFault>
-    ensures { MatchResult result (λ r. p.AndAt (map seen.bound scope.now) (tokens_of tokens.now) (seen.tests r.0.now) (tokens_of r.1.now) × (length r.1.now < length tokens.now)) (λ e. OrNoMemory e ((us : sheets.Tests) (after : List path.Token) → p.AndAt (map seen.bound scope.now) (tokens_of tokens.now) us after → ⊥)) }
+    ensures { MatchResult result (λ r. p.AndAt (in_scope scope.now) (tokens_of tokens.now) (seen.tests r.0.now) (tokens_of r.1.now) × (length r.1.now < length tokens.now)) (λ e. OrNoMemory e ((us : sheets.Tests) (after : List path.Token) → p.AndAt (in_scope scope.now) (tokens_of tokens.now) us after → ⊥)) }
 {
     let mut found = Vec::new(arena);
     let mut rest = tokens.split_at(0).1;
@@ -191,10 +193,10 @@ fn all_tests<'a, 'b, 't>(
 #[cycle(phrases)]
 pub(crate) fn any_tests<'a, 'b, 't>(
     arena: &'b Bump,
-    scope: &[Binding<'b>],
+    scope: &Scope<'_, 'b>,
     tokens: &'a [Token<'t>],
 ) -> Result<(&'b [Test<'b>], &'a [Token<'t>]), PathFault>
-    ensures { MatchResult result (λ r. p.OrAt (map seen.bound scope.now) (tokens_of tokens.now) (seen.tests r.0.now) (tokens_of r.1.now) × (length r.1.now < length tokens.now)) (λ e. OrNoMemory e ((us : sheets.Tests) (after : List path.Token) → p.OrAt (map seen.bound scope.now) (tokens_of tokens.now) us after → ⊥)) }
+    ensures { MatchResult result (λ r. p.OrAt (in_scope scope.now) (tokens_of tokens.now) (seen.tests r.0.now) (tokens_of r.1.now) × (length r.1.now < length tokens.now)) (λ e. OrNoMemory e ((us : sheets.Tests) (after : List path.Token) → p.OrAt (in_scope scope.now) (tokens_of tokens.now) us after → ⊥)) }
 {
     let mut found = Vec::new(arena);
     let mut rest = tokens.split_at(0).1;

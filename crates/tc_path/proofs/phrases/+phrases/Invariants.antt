@@ -1,5 +1,6 @@
-use Rattle.std.proofs.Common.{◌*◌, ◌+◌, ◌<◌, ◌≤◌, length, map}
-use Rattle.tc_model.specs.Views.{bound, steps, alternatives, tests}
+use Rattle.std.proofs.Common.{◌*◌, ◌+◌, ◌<◌, ◌≤◌, length}
+use Rattle.tc_model.specs.Views.{steps, alternatives, tests}
+use Rattle.tc_path.specs.Scopes.{in_scope}
 use Rattle.tc_path.specs.Views.{tokens_of}
 use Rattle.tc_path.proofs.Loops.{AndsSoFar, OrsSoFar, PredicatesSoFar}
 use Rattle.tc_path.proofs.StepLoops.{StepsSoFar, SelectsSoFar}
@@ -31,7 +32,7 @@ decreases-step l = 8 * length l.tokens.now + 0
 
 abbrev pub invariant-all_tests-loop-found : goal.invariant-all_tests-loop-found
 invariant-all_tests-loop-found l = record {
-  read : AndsSoFar (map bound l.scope) (tokens_of l.tokens) (tests l.found.items) (tokens_of l.rest);
+  read : AndsSoFar (in_scope l.scope) (tokens_of l.tokens) (tests l.found.items) (tokens_of l.rest);
   within : length l.rest ≤ length l.tokens;
 }
 
@@ -40,7 +41,7 @@ decreases-all_tests-loop-found l = length l.rest
 
 abbrev pub invariant-any_tests-loop-found : goal.invariant-any_tests-loop-found
 invariant-any_tests-loop-found l = record {
-  read : OrsSoFar (map bound l.scope) (tokens_of l.tokens) (tests l.found.items) (tokens_of l.rest);
+  read : OrsSoFar (in_scope l.scope) (tokens_of l.tokens) (tests l.found.items) (tokens_of l.rest);
   within : length l.rest ≤ length l.tokens;
 }
 
@@ -49,7 +50,7 @@ decreases-any_tests-loop-found l = length l.rest
 
 abbrev pub invariant-select-loop-found : goal.invariant-select-loop-found
 invariant-select-loop-found l = record {
-  read : SelectsSoFar (map bound l.scope) (tokens_of l.tokens) (alternatives l.found.items) l.drops (tokens_of l.rest);
+  read : SelectsSoFar (in_scope l.scope) (tokens_of l.tokens) (alternatives l.found.items) l.drops (tokens_of l.rest);
   within : length l.rest ≤ length l.tokens;
 }
 
@@ -58,7 +59,7 @@ decreases-select-loop-found l = length l.rest
 
 abbrev pub invariant-step-loop-inside : goal.invariant-step-loop-inside
 invariant-step-loop-inside l = record {
-  read : PredicatesSoFar (map bound l.scope) (tokens_of l.initial.rest) (tests l.found.items) (tokens_of l.rest);
+  read : PredicatesSoFar (in_scope l.scope) (tokens_of l.initial.rest) (tests l.found.items) (tokens_of l.rest);
   shorter : length l.rest < length l.tokens;
 }
 
@@ -67,7 +68,7 @@ decreases-step-loop-inside l = length l.rest
 
 abbrev pub invariant-steps-loop-after : goal.invariant-steps-loop-after
 invariant-steps-loop-after l = record {
-  read : StepsSoFar (map bound l.scope) l.is_deep (tokens_of l.tokens) l.longer (steps l.found.items) l.deep (tokens_of l.rest);
+  read : StepsSoFar (in_scope l.scope) l.is_deep (tokens_of l.tokens) l.longer (steps l.found.items) l.deep (tokens_of l.rest);
   within : length l.rest ≤ length l.tokens;
 }
 

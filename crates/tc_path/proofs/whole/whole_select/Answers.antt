@@ -1,12 +1,24 @@
-use Rattle.std.proofs.Common.{map, sym, ◌∙◌}
-use Rattle.tc_model.specs.Views.{bound}
-use Rattle.tc_model.proofs.PathTextUnique.{select_unique}
-use Rattle.tc_path.proofs.PatternLoops.{some_tokens}
+use Rattle.std.proofs.Common.{sym, ◌∙◌}
+use Rattle.tc_path.proofs.PatternLoops.{no_tokens, some_tokens}
+use Rattle.tc_path.proofs.PhraseLaws.{handed_on}
 use Rattle.tc_path.proofs.Refusals.{failed_ok}
+use Rattle.tc_path.proofs.WholeLaws.{memory_on, select_ends, select_goes_on, no_select}
 use Rattle.tc_path.proofs.whole.whole_select.Goals as goal
 
+pub returns-then-is_empty-clause-ok : goal.returns-then-is_empty-clause-ok
+returns-then-is_empty-clause-ok c = select_ends c.in_ok-known.ensures.ok (no_tokens c.in_ok-path.rest.now (sym c.is_empty.ensures ∙ c.if-is_empty.true)) c.in_ok-path.ensures.0
+
 pub returns-else-is_empty-clause-no : goal.returns-else-is_empty-clause-no
-returns-else-is_empty-clause-no c = λ q drops a. some_tokens c.in_ok-path.rest.now (sym c.is_empty.ensures ∙ c.if-is_empty.false) (select_unique (map bound c.args.scope.now) c.in_ok-path.ensures.0 a).2
+returns-else-is_empty-clause-no c = select_goes_on c.in_ok-known.ensures.ok (some_tokens c.in_ok-path.rest.now (sym c.is_empty.ensures ∙ c.if-is_empty.false)) c.in_ok-path.ensures.0
+
+pub returns-in_err-known-clause-ok : goal.returns-in_err-known-clause-ok
+returns-in_err-known-clause-ok c = failed_ok c.from_residual.result _ _ c.from_residual.ensures.1
+
+pub returns-in_err-known-clause-no : goal.returns-in_err-known-clause-no
+returns-in_err-known-clause-no c = memory_on _ c.from_residual.result _ c.from_residual.ensures.1 c.in_err-known.ensures.no
 
 pub returns-in_err-path-clause-ok : goal.returns-in_err-path-clause-ok
-returns-in_err-path-clause-ok c = failed_ok c.from_residual.result _ _ c.from_residual.ensures.1
+returns-in_err-path-clause-ok c = failed_ok c.from_residual-in_err-path.result _ _ c.from_residual-in_err-path.ensures.1
+
+pub returns-in_err-path-clause-no : goal.returns-in_err-path-clause-no
+returns-in_err-path-clause-no c = handed_on c.from_residual-in_err-path.result _ c.from_residual-in_err-path.ensures.1 (no_select c.in_ok-known.ensures.ok) c.in_err-path.ensures

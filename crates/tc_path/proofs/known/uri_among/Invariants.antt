@@ -1,7 +1,7 @@
 use Rattle.std.proofs.Common.{◌≡◌, map, drop}
 use Rattle.tc_model.specs.Views.{bound}
 use Rattle.tc_model.specs.XmlTextScopes.{uri_of}
-use Rattle.tc_path.proofs.node_tests.namespace_of.Given as goal
+use Rattle.tc_path.proofs.known.uri_among.Given as goal
 
 abbrev pub invariant-loop-binding : goal.invariant-loop-binding
-invariant-loop-binding l = uri_of (map bound (drop l.binding-index l.scope)) l.prefix ≡ uri_of (map bound l.scope) l.prefix
+invariant-loop-binding l = uri_of (map bound (drop l.binding-index l.bindings)) l.prefix ≡ uri_of (map bound l.bindings) l.prefix
