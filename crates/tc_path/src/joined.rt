@@ -1,5 +1,5 @@
 // The parts of paths and tests that are read without recursion.
-ghost use Rattle.std.specs.Prelude.{◌≡◌, ◌||◌, ◌++◌, [], ◌∷◌, IfOk, IfErr, List, MatchOption, if◌then◌else◌};
+ghost use Rattle.std.specs.Prelude.{◌≡◌, ◌||◌, ◌++◌, [], ◌∷◌, IfOk, IfErr, OnOk, List, MatchOption, if◌then◌else◌};
 ghost use Rattle.tc_model.specs.PathTextTokens as path;
 ghost use Rattle.tc_model.specs.PathTextPhrases as p;
 ghost use Rattle.tc_model.specs.Views as seen;
@@ -7,6 +7,7 @@ ghost use Rattle.tc_path.specs.Views.{form, tokens_of};
 ghost use Rattle.tc_path.specs.Phrases.{form_of_one};
 
 use crate::PathFault;
+use crate::rooms::make_room;
 use crate::token::{Mark, Token, after_mark, after_word};
 use bumpalo::Bump;
 use tc_model::{Step, Test};
@@ -85,13 +86,28 @@ pub(crate) fn after_open_call<'a, 't>(
     }
 }
 
+/// Puts a step behind the others. The first makes room for those that are seen ahead in the tokens.
+pub(crate) fn put_step<'b>(
+    steps: &mut Vec<Step<'b>, &'b Bump>,
+    step: Step<'b>,
+    tokens: &[Token<'_>],
+) -> Result<(), PathFault>
+    ensures put { OnOk result (steps.new.items ≡ steps.old.items ++ step.entry ∷ []) }
+    ensures memory { IfErr result (λ e. e ≡ PathFault.NoMemory) }
+{
+    make_room(steps, tokens, Mark::Slash, Mark::Slashes)?;
+    steps.push(step)?;
+    Ok(())
+}
+
 /// Puts these steps behind the alternatives, unless they are dropped, and says whether they or others
-/// are.
+/// are. The first make room for those that are seen ahead in the tokens.
 pub(crate) fn keep<'b>(
     alternatives: &mut Vec<&'b [Step<'b>], &'b Bump>,
     steps: &'b [Step<'b>],
     written: Form,
     drops: bool,
+    tokens: &[Token<'_>],
 ) -> Result<bool, PathFault>
     ensures kept { IfOk result (λ _. alternatives.new.items ≡ alternatives.old.items ++ (if p.is_dropped (form written) then [] else steps.entry ∷ [])) }
     ensures drops { IfOk result (λ dropped. dropped ≡ p.is_dropped (form written) || drops) }
@@ -100,6 +116,7 @@ pub(crate) fn keep<'b>(
     match written {
         Form::Dropped => Ok(true),
         Form::Lone | Form::Longer => {
+            make_room(alternatives, tokens, Mark::Bar, Mark::Bar)?;
             alternatives.push(steps)?;
             Ok(drops)
         }

@@ -20,6 +20,7 @@ mod patterns;
 mod phrases;
 mod priority;
 mod reasons;
+mod rooms;
 mod scopes;
 mod token;
 mod whole;

@@ -13,6 +13,7 @@ use crate::PathFault;
 use crate::joined::Form;
 use crate::node_tests::after_other_node;
 use crate::phrases::steps;
+use crate::rooms::make_room;
 use crate::scopes::Scope;
 use crate::token::{Mark, Token, after_mark, begins_with};
 use bumpalo::Bump;
@@ -119,17 +120,21 @@ fn alternative<'a, 'b, 't>(
     Ok((kept(from_root, steps, form), after))
 }
 
-/// Puts an alternative behind the others, if there is one.
+/// Puts an alternative behind the others, if there is one. The first makes room for those that are seen ahead
+/// in the tokens.
 fn keep<'b>(
     alternatives: &mut Vec<Alt<'b>, &'b Bump>,
     alternative: Option<Alt<'b>>,
+    tokens: &[Token<'_>],
 ) -> Result<(), PathFault>
     ensures kept { IfOk result (λ _. map see.alternative alternatives.new.items ≡ map see.alternative alternatives.old.items ++ kept_alternative alternative.entry) }
     ensures memory { IfErr result (λ e. e ≡ PathFault.NoMemory) }
 {
-    if let Some(alternative) = alternative {
-        alternatives.push(alternative)?;
-    }
+    let Some(alternative) = alternative else {
+        return Ok(());
+    };
+    make_room(alternatives, tokens, Mark::Bar, Mark::Bar)?;
+    alternatives.push(alternative)?;
     Ok(())
 }
 
@@ -146,7 +151,7 @@ pub(crate) fn pattern<'b>(
     let mut rest = tokens.split_at(0).1;
     loop {
         let (more, after) = alternative(arena, scope, rest)?;
-        keep(&mut found, more)?;
+        keep(&mut found, more, tokens)?;
         if after.is_empty() {
             return Ok(into_bump_slice(found));
         }

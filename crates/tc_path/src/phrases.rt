@@ -13,7 +13,7 @@ ghost use Rattle.tc_path.specs.Faults.{OrNoMemory};
 
 use crate::PathFault;
 use crate::joined::{
-    Form, after_open_call, after_separator, conjunction, disjunction, form_of, keep,
+    Form, after_open_call, after_separator, conjunction, disjunction, form_of, keep, put_step,
 };
 use crate::node_tests::{after_attribute, after_call, after_other_node, child_test};
 use crate::scopes::Scope;
@@ -68,7 +68,7 @@ pub(crate) fn steps<'a, 'b, 't>(
             return Ok((into_bump_slice(found), Form::Dropped, after));
         }
         let (next, lone, after) = step(arena, scope, rest, deep)?;
-        found.push(next)?;
+        put_step(&mut found, next, tokens)?;
         let Some((below, behind)) = after_separator(after) else {
             return Ok((into_bump_slice(found), form_of(longer, lone), after));
         };
@@ -113,7 +113,7 @@ pub(crate) fn select<'a, 'b, 't>(
     let mut rest = tokens.split_at(0).1;
     loop {
         let (steps, form, after) = alternative(arena, scope, rest)?;
-        drops = keep(&mut found, steps, form, drops)?;
+        drops = keep(&mut found, steps, form, drops, tokens)?;
         let Some(next) = after_mark(after, Mark::Bar) else {
             let alts = into_bump_slice(found);
             return Ok((Path { alts }, drops, after));

@@ -1,5 +1,5 @@
 // The tokens of paths, patterns and tests (XPath 1.0, 3.7).
-ghost use Rattle.std.specs.Prelude.{◌≡◌, ◌<◌, [], ◌∷◌, IfOk, IfErr, None, Some, ℕ, List, IsTrue, IsFalse, length, MatchOption, MatchBool};
+ghost use Rattle.std.specs.Prelude.{◌≡◌, ◌<◌, ◌≤◌, [], ◌∷◌, IfOk, IfErr, None, Some, ℕ, List, IsTrue, IsFalse, length, MatchOption, MatchBool};
 ghost use Rattle.tc_model.specs.PathTextTokens as path;
 ghost use Rattle.tc_path.specs.Views.{mark, token, tokens_of};
 ghost use Rattle.tc_path.specs.Faults.{OrNoMemory};
@@ -194,12 +194,25 @@ fn token_at(text: &str) -> Option<(Token<'_>, &str)>
     name_token(text)
 }
 
-/// The tokens of a text.
+/// How many tokens stand one behind another at the front of a text.
+fn token_count(text: &str) -> usize
+    ensures { result ≤ length text.now }
+{
+    let mut count = 0;
+    let mut rest = text;
+    while let Some((_, after)) = token_at(after_white(rest)) {
+        count += 1;
+        rest = after;
+    }
+    count
+}
+
+/// The tokens of a text, in as much room as they take.
 pub(crate) fn tokens<'t>(arena: &'t Bump, text: &'t str) -> Result<&'t [Token<'t>], PathFault>
     ensures ok { IfOk result (λ r. path.Tokens text.now (tokens_of r.now)) }
     ensures no { IfErr result (λ e. OrNoMemory e ((e ≡ PathFault.Malformed) × ((ts : List path.Token) → path.Tokens text.now ts → ⊥))) }
 {
-    let mut found = Vec::new(arena);
+    let mut found = Vec::with_capacity(arena, token_count(text))?;
     let mut rest = text;
     loop {
         let front = after_white(rest);

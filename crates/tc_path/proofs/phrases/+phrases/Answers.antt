@@ -126,7 +126,7 @@ pub steps-loop-after-preserved : goal.steps-loop-after-preserved
 steps-loop-after-preserved t c = record {
   read =
       steps_next (in_scope c.args.scope.now) c.in-Some-after_separator.below c.loop-after.invariant.read c.in_ok-next.ensures.0 c.in-Some-after_separator.ensures
-      (steps_pushed c.loop-after.found.items c.push.new.self.items c.in_ok-next.next c.in_ok-push.ensures.items);
+      (steps_pushed c.loop-after.found.items c.put_step.new.steps.items c.in_ok-next.next c.in_ok-put_step.ensures.put);
   within = omega (arith, shorter_by c.in_ok-next.after.now c.in-Some-after_separator.behind.now c.in-Some-after_separator.ensures, c.in_ok-next.ensures.1, c.loop-after.invariant.within);
 }
 
@@ -146,15 +146,15 @@ steps-returns-in-Some t c = (
 pub steps-returns-in_default-after_separator : goal.steps-returns-in_default-after_separator
 steps-returns-in_default-after_separator t c = (
   subst (λ w. p.StepsAt (in_scope c.args.scope.now) c.args.is_deep (tokens_of c.args.tokens.now) (steps w) (form c.form_of.result) (tokens_of c.in_ok-next.after.now)) (sym c.into_bump_slice-in_default-after_separator.ensures)
-      (steps_end (in_scope c.args.scope.now) c.loop-after.invariant.read c.in_ok-next.ensures.0 (steps_pushed c.loop-after.found.items c.push.new.self.items c.in_ok-next.next c.in_ok-push.ensures.items) c.form_of.ensures c.in_default-after_separator.ensures),
+      (steps_end (in_scope c.args.scope.now) c.loop-after.invariant.read c.in_ok-next.ensures.0 (steps_pushed c.loop-after.found.items c.put_step.new.steps.items c.in_ok-next.next c.in_ok-put_step.ensures.put) c.form_of.ensures c.in_default-after_separator.ensures),
   omega (arith, c.in_ok-next.ensures.1, c.loop-after.invariant.within),
 )
 
 pub steps-returns-in_err-next : goal.steps-returns-in_err-next
 steps-returns-in_err-next t c = passed_on _ c.from_residual.result c.in_err-next.field-0.0 c.from_residual.ensures.1 (steps_fail (in_scope c.args.scope.now) c.loop-after.invariant.read c.in_default.ensures) c.in_err-next.ensures
 
-pub steps-returns-in_err-push : goal.steps-returns-in_err-push
-steps-returns-in_err-push t c = out_of_memory _ _ c.from_residual-in_err-push.result c.from_residual-in_err-push.ensures.1
+pub steps-returns-in_err-put_step : goal.steps-returns-in_err-put_step
+steps-returns-in_err-put_step t c = memory_passed_on _ _ c.from_residual-in_err-put_step.result c.in_err-put_step.field-0.0 c.from_residual-in_err-put_step.ensures.1 c.in_err-put_step.ensures.memory
 
 pub closed_test-returns : goal.closed_test-returns
 closed_test-returns t c = (

@@ -7,7 +7,7 @@ use Rattle.tc_path.proofs.Refusals.{failed_ok}
 use Rattle.tc_path.proofs.token.tokens.Goals as goal
 
 pub loop-front-init : goal.loop-front-init
-loop-front-init c = record { text = c.utf8.text; so_far = no_tokens_yet c.args.text.now c.new-found.result.items c.new-found.ensures.items }
+loop-front-init c = record { text = c.utf8.text; so_far = no_tokens_yet c.args.text.now c.in_ok-found.found.items c.in_ok-found.ensures.items }
 
 pub loop-front-smaller : goal.loop-front-smaller
 loop-front-smaller c = omega (arith, token_shorter c.in-Some.ensures, white_shorter c.loop-front.rest.now, ap length c.after_white-front.ensures)
@@ -34,4 +34,7 @@ returns-in_default-clause-no c = (
 )
 
 pub returns-in_err-push-clause-ok : goal.returns-in_err-push-clause-ok
-returns-in_err-push-clause-ok c = failed_ok c.from_residual.result _ _ c.from_residual.ensures.1
+returns-in_err-push-clause-ok c = failed_ok c.from_residual-in_err-push.result _ _ c.from_residual-in_err-push.ensures.1
+
+pub returns-in_err-found-clause-ok : goal.returns-in_err-found-clause-ok
+returns-in_err-found-clause-ok c = failed_ok c.from_residual.result _ _ c.from_residual.ensures.1
