@@ -1,6 +1,6 @@
 #!/usr/bin/env bash
 # Checks safe triples of two schemas and a stylesheet, and `demo 40`: the answer, the time and the peak memory of each. The
-# article and the first three families of make_triple.py are like real ones; the others are costly within the limits. Each
+# article and the first four families of make_triple.py are like real ones; the others are costly within the limits. Each
 # run is stopped after some seconds. It wants python3 and the Debian package time. Words: the number of runs (3), the
 # seconds (30).
 set -eu

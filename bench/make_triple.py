@@ -7,6 +7,7 @@ Like real ones:
   report 12 3 8     a report of sections, parts and inlines, to a page with a table of contents and an index
   above 6 2 3       the same with a rule for each part in each section, so with many ancestor states
   copies 60         a copy of a schema whose element patterns refer to three others each
+  page 4 3          a file of kinds of records with fields, to a page like XHTML: many output states, many literal elements
 Costly ones, within the limits:
   dense 9 44        contents that overlap: many kinds of rows, many edges
   wide 5 3 240      many entries: ancestor states by move states
@@ -90,6 +91,85 @@ def copies(count):
     return schema, schema, rule("*", f"<xsl:copy>{APPLY}</xsl:copy>")
 
 
+INLINES = ["em", "strong", "code", "b", "span"]
+HEADINGS = ["h1", "h2"]
+PAGE = {
+    "html": "head, body",
+    "head": "(meta | link | style)*, title, (meta | link | style)*",
+    "title": "text",
+    "meta": "empty",
+    "link": "empty",
+    "style": "text",
+    "body": "block*",
+    "p": "inline*",
+    "division": "flow*",
+    "pre": "(text | a | br | em | strong | code | span)*",
+    "hr": "empty",
+    "br": "empty",
+    "blockquote": "block*",
+    "a": f"(text | br | {choice(INLINES)})*",
+    "ul": "li+",
+    "li": "flow*",
+    "table": "caption?, col*, thead?, (tbody+ | tr+)",
+    "caption": "inline*",
+    "col": "empty",
+    "thead": "tr+",
+    "tbody": "tr+",
+    "tr": "(th | td)+",
+    "th": "flow*",
+    "td": "flow*",
+} | {name: "inline*" for name in INLINES + HEADINGS}
+
+
+def page_schema():
+    blocks = choice(["p", "division", "ul", "pre", "hr", "blockquote", "table", *HEADINGS])
+    schema = f"start = html\ninline = text | a | br | {choice(INLINES)}\nblock = {blocks}\nflow = inline | block\n"
+    return schema + "".join(
+        f"{name} = element {'div' if name == 'division' else name} {{ {content} }}\n" for name, content in PAGE.items()
+    )
+
+
+def page(records, fields):
+    kinds = fields + 3
+    source = (
+        f"start = settings\nsettings = element settings {{ title?, note*, ({choice(f'r{r}' for r in range(records))})* }}\n"
+        "title = element title { text }\nnote = element note { (text | b | l)* }\n"
+        "b = element b { text }\nl = element l { text }\n"
+    )
+    for r in range(records):
+        parts = [f"f{r}.{f}" + ["", "?", "*", "+"][(r + f) % 4] for f in range(fields)]
+        note = ", note?" if r % 2 else ""
+        source += f"r{r} = element r{r} {{ title, {', '.join(parts)}{note} }}\n"
+        for f in range(fields):
+            content = "text" if f % 3 else "(text | b)*" if f % 2 else "note*"
+            source += f"f{r}.{f} = element k{(r * fields + f) % kinds} {{ {content} }}\n"
+    head = "<tr><th>kind</th><th>name</th><th>value</th></tr>"
+    sheet = rule(
+        "/settings",
+        '<html><head><title><xsl:value-of select="title"/></title></head><body><h1><xsl:value-of select="title"/></h1>'
+        f'<xsl:apply-templates select="note"/><div><table><thead>{head}</thead>'
+        "<tbody><tr><td>all</td><td/><td/></tr></tbody></table></div>"
+        f'<xsl:apply-templates select="{"|".join(f"r{r}" for r in range(records))}"/></body></html>',
+    )
+    sheet += rule("note", f"<p>{APPLY}</p>") + rule("b", f"<strong>{APPLY}</strong>") + rule("l", f"<code>{APPLY}</code>")
+    for r in range(records):
+        here = sorted({(r * fields + f) % kinds for f in range(fields)})
+        rows = "".join(
+            f'<tr><th>{k}</th><td><span><b><xsl:value-of select="k{k}"/></b></span></td>'
+            f'<td><xsl:if test="k{k}/b"><em>marked</em></xsl:if></td></tr>'
+            for k in here
+        )
+        fields_of = "".join(f'<xsl:apply-templates select="k{k}" mode="m{r % 3}"/>' for k in here)
+        sheet += rule(
+            f"r{r}",
+            f'<div><h2><xsl:value-of select="title"/></h2><table><tbody>{rows}</tbody></table>'
+            f'<xsl:if test="note"><blockquote><xsl:apply-templates select="note"/></blockquote></xsl:if>{fields_of}</div>',
+        )
+    field = '<div><p><xsl:apply-templates select="b"/></p><xsl:apply-templates select="note"/></div>'
+    sheet += "".join(rule(f"k{k}", field, f"m{m}") for m in range(min(3, records)) for k in range(kinds))
+    return source, page_schema(), sheet
+
+
 def nested(count):
     return f"start = d\nd = element d {{ x* }}\nx = element ({choice(names(count))}) {{ x* }}\n"
 
@@ -156,7 +236,7 @@ def sets(count, modes):
     return source, target, sheet + rule("q", "".join(f'<xsl:apply-templates mode="m{mode}"/>' for mode in range(modes)))
 
 
-FAMILIES = (report, above, copies, dense, wide, wraps, paths, bodies, sets)
+FAMILIES = (report, above, copies, page, dense, wide, wraps, paths, bodies, sets)
 
 
 def main():

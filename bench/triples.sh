@@ -5,7 +5,8 @@
 like_real="article: safe trees 16 hedges 27 outputs 10
 report 12 3 8: safe trees 74 hedges 1507 outputs 17
 above 20 1 4: safe trees 103 hedges 691 outputs 14
-copies 60: safe trees 60 hedges 239 outputs 239"
+copies 60: safe trees 60 hedges 239 outputs 239
+page 4 3"
 costly="bodies 10 20000
 dense 9 44
 wide 5 3 240
