@@ -1,10 +1,12 @@
 -- How deep elements stand in a body, part by part.
 use Rattle.std.proofs.Common.{◌≡◌, ◌<◌, ◌≤◌, ◌+◌, ℕ, max, min, List, length, get_or, drop, sym, ap, ◌∙◌, arith}
-use Rattle.tc_model.specs.Sheets.{Body, no_instruction, put_text, put_element, copy, apply, call, for_each, value, value_of_self, choose}
+use Rattle.tc_model.specs.Sheets.{Body, no_instruction, put_text, put_element, copy, apply, call, for_each, value, value_of_self, choose, Branches}
 use Rattle.tc_model.specs.Views as see
 use Rattle.tc_model.specs.declared.sheet.Instr.{Instr}
 use Rattle.tc_model.proofs.ViewsBody.{body_then, instruction_then, left_instruction}
-use Rattle.tc_beh.specs.Heights.{depth_in}
+use Rattle.tc_beh.specs.Heights.{depth_in, depth_in_branches}
+use Rattle.tc_beh.specs.Opening.{Open, IsOpenAt}
+use Rattle.tc_beh.specs.declared.bodies.Place.{Place}
 
 depth_then : (a b : Body) → depth_in (body_then a b) ≡ max (depth_in a) (depth_in b)
 depth_then no_instruction b = omega arith
@@ -29,6 +31,15 @@ depth_next is k i h e =
     let all : depth_in (see.body (drop k is)) ≡ max (depth_in (see.instruction i no_instruction)) (depth_in (see.body (drop (k + 1) is))) = ap depth_in (left_instruction is k i h e) ∙ depth_first i (see.body (drop (k + 1) is)) in
     (omega (arith, all), omega (arith, all))
 
--- the room of an element, of which the first is taken
-pub inner_depth : (d n : ℕ) → min (d + 1) 8001 + 2 ≤ n → n ≤ 8002 → d + 3 ≤ n
-inner_depth d n h l = omega arith
+-- a set may be opened for an element or a copy
+pub open_inside : (p : Place) (d : ℕ) (o : Open) → IsOpenAt p (max (min (d + 1) 8001) 0) o → IsOpenAt p (d + 1) o
+open_inside p d o is =
+    let room = is.room in
+    let few = is.few in
+    record { size = is.size; text = is.text; remembers = is.remembers; room = omega (arith, room, few); few = few }
+
+-- the branches of a choice
+pub open_chosen : (p : Place) (y : Branches) (o : Open) → IsOpenAt p (depth_in (choose y no_instruction)) o → IsOpenAt p (depth_in_branches y) o
+open_chosen p y o is =
+    let room = is.room in
+    record { size = is.size; text = is.text; remembers = is.remembers; room = omega (arith, room); few = is.few }

@@ -1,6 +1,7 @@
 pub mod Steps
 pub mod Orders
 pub mod PutLaws
+pub mod OpenLaws
 pub mod Looking
 pub mod Marking
 pub mod Heights
@@ -10,7 +11,6 @@ pub mod Placed
 pub mod Depths
 pub mod Limits
 pub mod Instructed
-pub mod Alone
 pub mod Called
 pub mod Meant
 pub mod Sizes

@@ -24,7 +24,9 @@ use Rattle.tc_beh.specs.Above.{letter_of, node_of, pairs_at}
 use Rattle.tc_beh.specs.Entries.{AreGrounds, below_node, AreCalledOn, IsUnder, IsMadeOf, IsEntryAt}
 use Rattle.tc_beh.specs.Grounds.{IsGroundIn, called_from}
 use Rattle.tc_rules.specs.KnownRules.{AreKnown}
-use Rattle.tc_beh.specs.Places.{IsPlaceIn, AreSpare, kind_of, below_at, below_of, entries_by}
+use Rattle.tc_beh.specs.Machines.{IsMachineOf}
+use Rattle.tc_beh.specs.Opening.{Open, IsOpenAt, IsBeside, Remembers}
+use Rattle.tc_beh.specs.Places.{IsPlaceIn, kind_of, below_at, below_of, entries_by}
 use Rattle.tc_beh.specs.Putting.{has, Extends as Puts, IsCalled}
 use Rattle.tc_beh.specs.RowsOf.{IsWork}
 use Rattle.tc_beh.specs.Stands.{IsRulesIn}
@@ -129,38 +131,68 @@ module _ (x : Triple) (bears : Bool) (es : List (List (ℕ × ℕ))) (vs : List 
   under_same (of_symbol a) other e = ap (λ u. pairs_at x bears es vs q u mode g marks (of_symbol a)) (e a refl)
   under_same of_text other e = refl
 
--- room that was lent, and comes back of the same lengths
-module _ (x : Triple) (depth : ℕ) (w : Work) (is : IsWork x depth w) (set : Matrix) (set_size : set.size ≡ outputs x) (spare : List Matrix) (all : length spare ≡ length w.spare.items) (spare_sizes : All (λ (s : Matrix). s.size ≡ outputs x) spare) where
-  spare_back : (with_items w.spare spare).items ≡ spare
-  spare_back = with_items_is w.spare spare (let n = w.spare.ok.0 in omega (arith, all, n))
+-- what stands open may be put to, and comes back
+module _ (x : Triple) (m : Machine) (w : Work) (is : IsWork x m w) where
+  pub open_for : IsMachineOf x m → (o : Open) → IsBeside m.output w.sets o → (p : Place) → p.text.now ≡ w.text → p.output.now ≡ m.output → (d : ℕ) → d ≤ m.depth → IsOpenAt p d o
+  open_for machine o same p text outer d low =
+      let shallow = machine.shallow in
+      let room = same.room in
+      let free = is.open_room in
+      record {
+        size = same.size ∙ (is.open_size ∙ sym (ap (λ (t : Matrix). t.size) text ∙ is.text_size));
+        text = same.text ∙ (is.open_text ∙ sym text);
+        remembers = subst (λ (g : Hedge). Remembers g o.met) (sym outer) (same.remembers is.remembers);
+        room = omega (arith, low, room, free);
+        few = omega (arith, shallow, room, free);
+      }
 
-  spare_room : AreSpare (outputs x) (depth + 2) (with_items w.spare spare).items
-  spare_room = record {
-    sizes = subst (λ (ms : List Matrix). All (λ (s : Matrix). s.size ≡ outputs x) ms) (sym spare_back) spare_sizes;
-    enough = let e = is.spare.enough in subst (λ (ms : List Matrix). depth + 2 ≤ length ms) (sym spare_back) (omega (arith, e, all));
-  }
-
-  spare_few : length (with_items w.spare spare).items ≤ 8002
-  spare_few = let f = is.few in subst (λ (ms : List Matrix). length ms ≤ 8002) (sym spare_back) (omega (arith, f, all))
-
-  pub work_kept : (rules : KnownRules) → AreKnown x.symbols x.rules rules → IsWork x depth (record { text = w.text; set = set; named = w.named; spare = with_items w.spare spare; known = rules })
-  work_kept rules known = record { text = is.text; text_size = is.text_size; set = set_size; named_count = is.named_count; named = is.named; spare = spare_room; few = spare_few; known = known }
-
-  module _ (named : List Matrix) (count : length named ≡ length w.named.items) (named_sizes : All (λ (s : Matrix). s.size ≡ outputs x) named) where
-    pub named_back : (with_items w.named named).items ≡ named
-    named_back = with_items_is w.named named (let n = w.named.ok.0 in omega (arith, count, n))
-
-    pub work_filled : IsWork x depth (record { text = w.text; set = set; named = with_items w.named named; spare = with_items w.spare spare; known = w.known })
-    work_filled = record {
+  module _ (o : Open) (same : IsBeside m.output w.sets o) where
+    pub work_kept : (rules : KnownRules) → AreKnown x.symbols x.rules rules → IsWork x m (record { text = w.text; set = w.set; named = w.named; sets = o; known = rules })
+    work_kept rules known = record {
       text = is.text;
       text_size = is.text_size;
-      set = set_size;
-      named_count = ap (λ (ms : List Matrix). length ms) named_back ∙ (count ∙ is.named_count);
-      named = subst (λ (ms : List Matrix). All (λ (s : Matrix). s.size ≡ outputs x) ms) (sym named_back) named_sizes;
-      spare = spare_room;
-      few = spare_few;
-      known = is.known;
+      set = is.set;
+      named_count = is.named_count;
+      named = is.named;
+      open_size = same.size ∙ is.open_size;
+      open_room = same.room ∙ is.open_room;
+      open_text = same.text ∙ is.open_text;
+      remembers = same.remembers is.remembers;
+      known = known;
     }
+
+    module _ (named : List Matrix) (count : length named ≡ length w.named.items) (named_sizes : All (λ (s : Matrix). s.size ≡ outputs x) named) where
+      pub named_back : (with_items w.named named).items ≡ named
+      named_back = with_items_is w.named named (let n = w.named.ok.0 in omega (arith, count, n))
+
+      pub work_filled : IsWork x m (record { text = w.text; set = w.set; named = with_items w.named named; sets = o; known = w.known })
+      work_filled = record {
+        text = is.text;
+        text_size = is.text_size;
+        set = is.set;
+        named_count = ap (λ (ms : List Matrix). length ms) named_back ∙ (count ∙ is.named_count);
+        named = subst (λ (ms : List Matrix). All (λ (s : Matrix). s.size ≡ outputs x) ms) (sym named_back) named_sizes;
+        open_size = same.size ∙ is.open_size;
+        open_room = same.room ∙ is.open_room;
+        open_text = same.text ∙ is.open_text;
+        remembers = same.remembers is.remembers;
+        known = is.known;
+      }
+
+  -- room for what is worked out was taken by another
+  pub work_set : (set : Matrix) → set.size ≡ w.set.size → IsWork x m (record w { set = set })
+  work_set set size = record {
+    text = is.text;
+    text_size = is.text_size;
+    set = size ∙ is.set;
+    named_count = is.named_count;
+    named = is.named;
+    open_size = is.open_size;
+    open_room = is.open_room;
+    open_text = is.open_text;
+    remembers = is.remembers;
+    known = is.known;
+  }
 
 -- where an entry stands tells its numbers
 rises : (q a m : ℕ) → q < a → q * m + m ≤ a * m

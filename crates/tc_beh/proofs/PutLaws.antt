@@ -34,6 +34,13 @@ identity_first a b is e = λ i j. (
   λ (k, here, h). subst (λ n. HasPair b n j) (sym ((is i k).0 here).1) h,
 )
 
+-- and before it
+pub identity_last : (a b : Matrix) → IsIdentity b → a.size ≡ b.size → IsComposition a b a
+identity_last a b is e = λ i j. (
+  λ h. let low = has_low a i j h in (j, h, (is j j).1 (subst (λ k. j < k) e low.1, refl)),
+  λ (k, h, here). subst (λ n. HasPair a i n) ((is k j).0 here).1 h,
+)
+
 -- nothing is put
 pub put_nothing : (m : Matrix) (n : ℕ) → m.size ≡ n → HaveSamePairs (has m) (product (has m) (identity n))
 put_nothing m n e = λ i j. (

@@ -1,5 +1,5 @@
 -- The root of a document as a place, and what is put out on it.
-use Rattle.std.proofs.Common.{◌≡◌, ◌<◌, ◌+◌, ◌==◌, [], ℕ, max, List, length, get_or, Bool, Option, option_map, All, subst, sym, ap, ap₂, ◌∙◌, refl, arith}
+use Rattle.std.proofs.Common.{◌≤◌, ◌≡◌, ◌<◌, ◌+◌, ◌==◌, [], ℕ, max, List, length, get_or, Bool, Option, option_map, All, subst, sym, ap, ap₂, ◌∙◌, refl, arith}
 use Rattle.std.proofs.lemmas.List.{get_or_default}
 use Rattle.tc_model.specs.States.{output, automaton, IsPart, the_start, first_state, IsAccepting}
 use Rattle.tc_model.specs.Chains.{top}
@@ -27,7 +27,7 @@ use Rattle.tc_rows.proofs.PairLaws.{same_self, same_on, product_same}
 use Rattle.tc_rows.proofs.States.{some_ancestor}
 use Rattle.tc_beh.specs.Grounds.{IsGroundIn, AreNamedSets}
 use Rattle.tc_beh.specs.Heights.{deepest, deepest_rule}
-use Rattle.tc_beh.specs.Places.{AreSpare, IsPlaceIn, kind_of, below_at, below_of, entries_by}
+use Rattle.tc_beh.specs.Places.{IsPlaceIn, kind_of, below_at, below_of, entries_by}
 use Rattle.tc_beh.specs.Putting.{has, Extends}
 use Rattle.tc_beh.specs.Rooms.{tree_layout, tree_row, outputs_in, looks_in, output_at}
 use Rattle.tc_beh.specs.Roots.{IsRootIn, root_pairs}
@@ -144,13 +144,11 @@ module _ (x : Triple) (m : Machine) (held : Held) (w : Work) (t : Room) (is : Is
       (same_on (product (has old) r) (product (identity n) r) r (product_same (has old) (identity n) r r (identity_begun old n size nothing) (same_self r)) (stay_first n r begins)) in
       seen_as_root x m held w t is here refl refl bears_is entries_are looks_are refl (λ k v. HaveSamePairs (has new) (body_pairs x body_here k v)) one
 
--- the room is enough for what is put out on the root
-pub spare_for_root : (x : Triple) (m : Machine) (held : Held) (w : Work) (t : Room) → IsRootIn x m held w t → (n : ℕ) (ms : List Matrix) → n ≡ outputs x → All (λ (e : Matrix). e.size ≡ outputs x) ms → length ms ≡ length w.spare.items
-    → AreSpare n (max (deepest_rule (told m.rules).sheet.rules) (deepest (told m.rules).sheet.named) + 2) ms
-spare_for_root x m held w t is n ms same sizes count =
+-- no template of the root is deeper than the machine's
+pub root_depth : (x : Triple) (m : Machine) (held : Held) (w : Work) (t : Room) → IsRootIn x m held w t → max (deepest_rule (told m.rules).sheet.rules) (deepest (told m.rules).sheet.named) ≤ m.depth
+root_depth x m held w t is =
     let deepest_told : max (deepest_rule (told m.rules).sheet.rules) (deepest (told m.rules).sheet.named) ≡ m.depth = ap (λ (v : RulesView). max (deepest_rule v.sheet.rules) (deepest v.sheet.named)) is.machine.parts.are_rules.told ∙ sym is.machine.depth in
-    let enough = is.work.spare.enough in
-    record { sizes = λ k d l. sizes k d l ∙ sym same; enough = omega (arith, enough, deepest_told, count) }
+    omega (arith, deepest_told)
 
 -- what the rule of the root means on it
 pub root_meant : (x : Triple) (r : Rules) → IsRulesIn x r → (o : Option ℕ) (w : Template) (k : NodeKind) → k ≡ on_root

@@ -10,7 +10,6 @@ use Rattle.tc_rows.specs.Triples.{Triple, outputs}
 use Rattle.tc_rows.specs.PairSets.{HaveSamePairs}
 use Rattle.tc_rules.specs.KnownRules.{AreKnown}
 use Rattle.tc_beh.specs.Machines.{IsMachineOf}
-use Rattle.tc_beh.specs.Places.{AreSpare}
 use Rattle.tc_beh.specs.Putting.{has}
 use Rattle.tc_beh.specs.RowsOf.{IsWork, AreRowsOf, AreSameRows}
 use Rattle.tc_beh.specs.declared.machine.Machine.{Machine}
@@ -35,15 +34,17 @@ module _ (m : Machine) (x y : Triple) (ox : IsMachineOf x m) (oy : IsMachineOf y
   same_outputs = ap (λ g. state_count g output) same_output
 
   -- room for the one is room for the other
-  pub same_work : (depth : ℕ) (w : Work) → IsWork x depth w → IsWork y depth w
-  same_work depth w is = record {
+  pub same_work : (w : Work) → IsWork x m w → IsWork y m w
+  same_work w is = record {
     text = subst (λ g. HaveSamePairs (has w.text) (text_of g)) same_output is.text;
     text_size = is.text_size ∙ same_outputs;
     set = is.set ∙ same_outputs;
     named_count = is.named_count ∙ ap (λ (t : RulesView). length t.sheet.named) same_rules;
     named = λ k d l. is.named k d l ∙ same_outputs;
-    spare = subst (λ n. AreSpare n (depth + 2) w.spare.items) same_outputs is.spare;
-    few = is.few;
+    open_size = is.open_size ∙ same_outputs;
+    open_room = is.open_room;
+    open_text = is.open_text;
+    remembers = is.remembers;
     known = subst (λ (v : RulesView). AreKnown y.symbols v w.known) same_rules (subst (λ (symbols : List Mention). AreKnown symbols x.rules w.known) same_symbols is.known);
   }
     where
@@ -57,5 +58,5 @@ rows_before x old new (y, are) same now =
     record {
       machine = here;
       size = are.size ∙ sym (same_outputs old.machine.now x y here are.machine);
-      work = same_work old.machine.now y x are.machine here old.machine.now.depth old.work are.work;
+      work = same_work old.machine.now y x are.machine here old.work are.work;
     }

@@ -25,3 +25,4 @@ pub mod Listing
 pub mod Lines
 pub mod Remembered
 pub mod AlikeSymbols
+pub mod Opening

@@ -1,5 +1,5 @@
 -- What is known of a node whose body is instantiated, and what its parts stand for.
-use Rattle.std.specs.Prelude.{◌≡◌, ◌<◌, ◌≤◌, ◌/◌, ◌%◌, ◌==◌, ℕ, List, [], length, map, filter, flat_map, get_or, Bool, true, All}
+use Rattle.std.specs.Prelude.{◌≡◌, ◌<◌, ◌/◌, ◌%◌, ◌==◌, ℕ, List, [], length, map, filter, flat_map, get_or, Bool, true, All}
 use Rattle.tc_model.specs.Numbered.{numbers_below}
 use Rattle.tc_model.specs.States.{output}
 use Rattle.tc_model.specs.Symbols.{symbol_count}
@@ -73,8 +73,3 @@ pub record IsPlaceIn (x : Triple) (p : Place) : Type 0 where
 
 abbrev pub IsPlace : Place → Type 0
 IsPlace p = (x : Triple) × IsPlaceIn x p
-
--- room for so many sets of a size
-pub record AreSpare (size count : ℕ) (ms : List Matrix) : Type 0 where
-  pub sizes : All (λ m. m.size ≡ size) ms
-  pub enough : count ≤ length ms

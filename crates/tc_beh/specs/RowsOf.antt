@@ -1,5 +1,5 @@
 -- What rows over a machine hold, and the rooms that stand for rows over them.
-use Rattle.std.specs.Prelude.{◌≡◌, ◌≤◌, ◌+◌, ℕ, length, All}
+use Rattle.std.specs.Prelude.{◌≡◌, length, All}
 use Rattle.tc_mat.specs.Matrix.{Matrix}
 use Rattle.tc_rows.specs.Triples.{Triple, sheet, outputs}
 use Rattle.tc_rows.specs.PairSets.{HaveSamePairs}
@@ -7,30 +7,33 @@ use Rattle.tc_rows.specs.Bodies.{text_edges}
 use Rattle.tc_rows.specs.Rows.{HedgeRow, TreeRow}
 use Rattle.tc_rules.specs.KnownRules.{AreKnown}
 use Rattle.tc_beh.specs.Putting.{has}
-use Rattle.tc_beh.specs.Places.{AreSpare}
 use Rattle.tc_beh.specs.Machines.{IsMachineOf}
+use Rattle.tc_beh.specs.Opening.{Remembers}
 use Rattle.tc_beh.specs.Rooms.{hedge_layout, tree_layout, IsRoom, hedge_row, tree_row}
 use Rattle.tc_beh.specs.RoomsOf.{IsRoomOf}
 use Rattle.tc_beh.specs.declared.rows.Rows.{Rows}
+use Rattle.tc_beh.specs.declared.machine.Machine.{Machine}
 use Rattle.tc_beh.specs.declared.rows.Work.{Work}
 use Rattle.tc_beh.specs.declared.rooms.HRow.{HRow}
 use Rattle.tc_beh.specs.declared.rooms.TRow.{TRow}
 
--- the room is that of a triple, and the rules that are remembered were found for it
-pub record IsWork (x : Triple) (depth : ℕ) (w : Work) : Type 0 where
+-- the room is that of a triple and a machine, and the rules that are remembered were found for it
+pub record IsWork (x : Triple) (m : Machine) (w : Work) : Type 0 where
   pub text : HaveSamePairs (has w.text) (text_edges x)
   pub text_size : w.text.size ≡ outputs x
   pub set : w.set.size ≡ outputs x
   pub named_count : length w.named.items ≡ length (sheet x).named
-  pub named : All (λ (m : Matrix). m.size ≡ outputs x) w.named.items
-  pub spare : AreSpare (outputs x) (depth + 2) w.spare.items
-  pub few : length w.spare.items ≤ 8002
+  pub named : All (λ (n : Matrix). n.size ≡ outputs x) w.named.items
+  pub open_size : w.sets.out.size ≡ outputs x
+  pub open_room : w.sets.room ≡ m.depth
+  pub open_text : w.sets.met.text ≡ w.text
+  pub remembers : Remembers m.output w.sets.met
   pub known : AreKnown x.symbols x.rules w.known
 
 pub record AreRowsOf (x : Triple) (r : Rows) : Type 0 where
   pub machine : IsMachineOf x r.machine.now
   pub size : r.outputs.size ≡ outputs x
-  pub work : IsWork x r.machine.now.depth r.work
+  pub work : IsWork x r.machine.now r.work
 
 abbrev pub AreRows : Rows → Type 0
 AreRows r = (x : Triple) × AreRowsOf x r

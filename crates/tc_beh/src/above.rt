@@ -1,6 +1,5 @@
 // What a state of a move above a node puts out on the node and below it.
 ghost use Rattle.std.specs.Prelude.{◌≡◌, ◌≤◌, ◌<◌, ◌+◌, ℕ, length, All};
-ghost use Rattle.tc_mat.specs.Matrix.{IsIdentity};
 ghost use Rattle.tc_model.specs.Letters as letters;
 ghost use Rattle.tc_model.specs.Letters.{of_symbol};
 ghost use Rattle.tc_rules.specs.Asked as asked;
@@ -11,14 +10,15 @@ ghost use Rattle.tc_rules.specs.Tasks.{IsMoveAt};
 ghost use Rattle.tc_rows.specs.Triples.{Triple, predicates, number_below, moving};
 ghost use Rattle.tc_rows.specs.Arithmetic.{hit_pairs, pairs_from, step};
 ghost use Rattle.tc_beh.specs.Above.{letter_of, node_of, pairs_at};
-ghost use Rattle.tc_beh.specs.Places.{IsPlace, IsPlaceIn, AreSpare, kind_of, below_of, size_at, entries_by};
+ghost use Rattle.tc_beh.specs.Opening.{IsOpenAt, IsBeside};
+ghost use Rattle.tc_beh.specs.Places.{IsPlace, IsPlaceIn, kind_of, below_of, entries_by};
 ghost use Rattle.tc_beh.specs.Putting.{Extends};
 ghost use Rattle.tc_beh.specs.Templates.{IsMeantAt, IsPartTemplate, depth_of, depth_of_sheet, AreCalled};
 
 use crate::bodies::{Place, put_entry};
+use crate::open_sets::OpenSets;
 use crate::templates::{Template, put_template};
 use tc_alpha::Sym;
-use tc_mat::Mat;
 use tc_rules::{Kind, Marks};
 
 /// The letter of a node that isn't the root: what it is, and the predicates that hold on it.
@@ -34,8 +34,7 @@ fn put_hit(
     letter: Letter,
     template: Template<'_>,
     state: u32,
-    out: &mut Mat,
-    spare: &mut [Mat],
+    sets: &mut OpenSets,
 )
     requires place { IsPlace place.now }
     requires node { kind_of place.now.node ≡ node_of (letter_of letter).kind }
@@ -43,44 +42,31 @@ fn put_hit(
     requires part { IsPartTemplate (told place.now.rules.now).sheet template }
     requires depth { depth_of template ≤ depth_of_sheet (told place.now.rules.now).sheet }
     requires state { state < move_count (told place.now.rules.now) }
-    requires out { out.old.size ≡ size_at place.now }
-    requires spare { AreSpare out.old.size (depth_of_sheet (told place.now.rules.now).sheet + 2) spare.old }
-    requires few { length spare.old ≤ 8002 }
-    requires untouched { IsIdentity out.old }
-    ensures size { out.new.size ≡ out.old.size }
-    ensures spare { All (λ m. m.size ≡ out.old.size) spare.new }
+    requires sets { IsOpenAt place.now (depth_of_sheet (told place.now.rules.now).sheet) sets.old }
+    ensures same { IsBeside place.now.output.now sets.old sets.new }
     ensures pairs { (x : Triple) (g : Going) (q : ℕ) → IsPlaceIn x place.now → AreCalled x place.now → letters.IsLetter x.symbols (predicates x) (letter_of letter) → IsMoveAt x.rules state g
-        → IsMeantAt x g q (letter_of letter) template.entry → Extends out.old out.new (hit_pairs x g q (letter_of letter) (kind_of place.now.node) (below_of x place.now)) }
+        → IsMeantAt x g q (letter_of letter) template.entry → Extends sets.old.out sets.new.out (hit_pairs x g q (letter_of letter) (kind_of place.now.node) (below_of x place.now)) }
 {
     if !place.rules.sel_hits(state, letter.kind, letter.marks) {
         return;
     }
-    put_template(place, template, out, spare)
+    put_template(place, template, sets)
 }
 
 /// Puts what a state of a move above an element puts out below it.
-fn put_further(
-    place: &Place<'_, '_>,
-    sym: Sym,
-    marks: Marks,
-    state: u32,
-    out: &mut Mat,
-    spare: &mut [Mat],
-)
+fn put_further(place: &Place<'_, '_>, sym: Sym, marks: Marks, state: u32, sets: &mut OpenSets)
     requires place { IsPlace place.now }
     requires node { kind_of place.now.node ≡ node_of (of_symbol sym.0) }
     requires letter { (x : Triple) × IsPlaceIn x place.now × letters.IsLetter x.symbols (predicates x) (asked.letter (Kind.Elem sym) marks) }
     requires state { state < move_count (told place.now.rules.now) }
-    requires out { out.old.size ≡ size_at place.now }
-    requires spare { AreSpare out.old.size 1 spare.old }
-    ensures size { out.new.size ≡ out.old.size }
-    ensures spare { All (λ m. m.size ≡ out.old.size) spare.new }
+    requires sets { IsOpenAt place.now 0 sets.old }
+    ensures same { IsBeside place.now.output.now sets.old sets.new }
     ensures pairs { (x : Triple) (g : Going) (at : IsMoveAt x.rules state g) → IsPlaceIn x place.now → letters.IsLetter x.symbols (predicates x) (asked.letter (Kind.Elem sym) marks)
-        → Extends out.old out.new (pairs_from x (entries_by place.now.outputs.now.matrices place.now.entries.now) place.now.above (moving at.mode g.path (step x g.path g.state (asked.letter (Kind.Elem sym) marks)))) }
+        → Extends sets.old.out sets.new.out (pairs_from x (entries_by place.now.outputs.now.matrices place.now.entries.now) place.now.above (moving at.mode g.path (step x g.path g.state (asked.letter (Kind.Elem sym) marks)))) }
 {
     match place.rules.sel_step(state, sym, marks) {
         None => {}
-        Some(next) => put_entry(place, next, out, spare),
+        Some(next) => put_entry(place, next, sets),
     }
 }
 
@@ -90,8 +76,7 @@ pub(crate) fn put_entry_above(
     letter: Letter,
     template: Template<'_>,
     state: u32,
-    out: &mut Mat,
-    spare: &mut [Mat],
+    sets: &mut OpenSets,
 )
     requires place { IsPlace place.now }
     requires node { kind_of place.now.node ≡ node_of (letter_of letter).kind }
@@ -99,19 +84,15 @@ pub(crate) fn put_entry_above(
     requires part { IsPartTemplate (told place.now.rules.now).sheet template }
     requires depth { depth_of template ≤ depth_of_sheet (told place.now.rules.now).sheet }
     requires state { state < move_count (told place.now.rules.now) }
-    requires out { out.old.size ≡ size_at place.now }
-    requires spare { AreSpare out.old.size (depth_of_sheet (told place.now.rules.now).sheet + 2) spare.old }
-    requires few { length spare.old ≤ 8002 }
-    requires untouched { IsIdentity out.old }
-    ensures size { out.new.size ≡ out.old.size }
-    ensures spare { All (λ m. m.size ≡ out.old.size) spare.new }
+    requires sets { IsOpenAt place.now (depth_of_sheet (told place.now.rules.now).sheet) sets.old }
+    ensures same { IsBeside place.now.output.now sets.old sets.new }
     ensures pairs { (x : Triple) (g : Going) (q : ℕ) (at : IsMoveAt x.rules state g) → IsPlaceIn x place.now → AreCalled x place.now → letters.IsLetter x.symbols (predicates x) (letter_of letter)
         → IsMeantAt x g q (letter_of letter) template.entry
-        → Extends out.old out.new (pairs_at x place.now.bears (entries_by place.now.outputs.now.matrices place.now.entries.now) place.now.looks.now q place.now.above at.mode g letter.marks.0 (letter_of letter).kind) }
+        → Extends sets.old.out sets.new.out (pairs_at x place.now.bears (entries_by place.now.outputs.now.matrices place.now.entries.now) place.now.looks.now q place.now.above at.mode g letter.marks.0 (letter_of letter).kind) }
 {
-    put_hit(place, letter, template, state, out, spare);
+    put_hit(place, letter, template, state, sets);
     match letter.kind {
-        Kind::Elem(sym) => put_further(place, sym, letter.marks, state, out, spare),
+        Kind::Elem(sym) => put_further(place, sym, letter.marks, state, sets),
         Kind::Text => {}
     }
 }

@@ -113,7 +113,7 @@ fn put_named_on(
 )
     requires grounds { AreSomeGrounds machine.now outputs.now work.old node }
     requires above { above < length (told machine.now.rules).ancestors.states }
-    ensures work { (x : Triple) → AreGrounds x machine.now outputs.now work.old node.entry → IsWork x machine.now.depth work.new }
+    ensures work { (x : Triple) → AreGrounds x machine.now outputs.now work.old node.entry → IsWork x machine.now work.new }
     ensures called { (x : Triple) → AreGrounds x machine.now outputs.now work.old node.entry → AreCalledOn x outputs.now node.entry above work.new.named.items }
 {
     let place = place_of(machine, outputs, &work.text, &[], node, above);
@@ -121,8 +121,7 @@ fn put_named_on(
         &place,
         machine.order.as_slice(),
         work.named.as_mut_slice(),
-        &mut work.set,
-        work.spare.as_mut_slice(),
+        &mut work.sets,
     );
 }
 
@@ -138,11 +137,11 @@ fn put_entry_of(
     requires ancestor { spot.ancestor < length (told machine.now.rules).ancestors.states }
     requires state { spot.state < move_count (told machine.now.rules) }
     requires above { spot.above < length (told machine.now.rules).ancestors.states }
-    ensures work { (x : Triple) → AreGrounds x machine.now outputs.now work.old node.entry → IsWork x machine.now.depth work.new }
+    ensures work { (x : Triple) → AreGrounds x machine.now outputs.now work.old node.entry → IsWork x machine.now work.new }
     ensures named { work.new.named.items ≡ work.old.named.items }
-    ensures matrix { IsMatrix work.new.set }
+    ensures matrix { IsMatrix work.new.sets.out }
     ensures entry { (x : Triple) → AreGrounds x machine.now outputs.now work.old node.entry → IsUnder x (letter_of node.entry.letter) spot.ancestor spot.above → AreCalledOn x outputs.now node.entry spot.above work.old.named.items
-        → IsEntryAt x (entries_by outputs.now.matrices node.entry.entries.now) node.entry (spot.ancestor * moves_of x + spot.state) work.new.set }
+        → IsEntryAt x (entries_by outputs.now.matrices node.entry.entries.now) node.entry (spot.ancestor * moves_of x + spot.state) work.new.sets.out }
 {
     let rules = &machine.rules;
     let template = template_at(
@@ -152,19 +151,11 @@ fn put_entry_of(
         spot.ancestor,
         spot.state,
     );
-    put_identity(&mut work.set);
+    work.sets.restart();
     let named = work.named.as_slice();
     let place = place_of(machine, outputs, &work.text, named, node, spot.above);
-    let spare = work.spare.as_mut_slice();
-    put_entry_above(
-        &place,
-        node.letter,
-        template,
-        spot.state,
-        &mut work.set,
-        spare,
-    );
-    let _size = work.set.size();
+    put_entry_above(&place, node.letter, template, spot.state, &mut work.sets);
+    let _out = work.sets.out();
 }
 
 /// The number of an entry of an element that its state doesn't hit: that of the state to which the element leads it, below the
@@ -263,7 +254,7 @@ fn keep_entry(
     requires above { spot.above < length (told machine.now.rules).ancestors.states }
     requires known { IsNothing outputs.old nothing.old }
     ensures known { IsNothing outputs.new nothing.new }
-    ensures work { (x : Triple) → AreGrounds x machine.now outputs.old work.old node.entry → IsWork x machine.now.depth work.new }
+    ensures work { (x : Triple) → AreGrounds x machine.now outputs.old work.old node.entry → IsWork x machine.now work.new }
     ensures named { work.new.named.items ≡ work.old.named.items }
     ensures held { Extends outputs.old outputs.new }
     ensures low { IfOk result (λ k. k < length outputs.new.matrices) }
@@ -284,7 +275,7 @@ fn keep_entry(
         Some(number) => Ok(number),
         None => {
             put_entry_of(machine, outputs, work, node, spot);
-            keep(outputs, is_fixed, &work.set)
+            keep(outputs, is_fixed, work.sets.out())
         }
     }
 }
@@ -302,7 +293,7 @@ fn put_row(
     requires grounds { AreSomeGrounds machine.now outputs.old work.old node }
     requires ancestor { ancestor < length (told machine.now.rules).ancestors.states }
     requires room { (ancestor + 1) * move_count (told machine.now.rules) ≤ out.old.entries }
-    ensures work { (x : Triple) → AreGrounds x machine.now outputs.old work.old node.entry → IsWork x machine.now.depth work.new }
+    ensures work { (x : Triple) → AreGrounds x machine.now outputs.old work.old node.entry → IsWork x machine.now work.new }
     ensures beside { IsRoomBeside out.old out.new }
     ensures others { (k : ℕ) → (k < 2 + out.old.flags) ⊎ (2 + out.old.flags + out.old.entries ≤ k) → get_or out.new.numbers.items k 0 ≡ get_or out.old.numbers.items k 0 }
     ensures held { Extends outputs.old outputs.new }
@@ -344,7 +335,7 @@ pub(crate) fn put_entries(
 ) -> Result<(), RowFault>
     requires grounds { AreSomeGrounds machine.now outputs.old work.old node }
     requires room { length (told machine.now.rules).ancestors.states * move_count (told machine.now.rules) ≡ out.old.entries }
-    ensures work { (x : Triple) → AreGrounds x machine.now outputs.old work.old node.entry → IsWork x machine.now.depth work.new }
+    ensures work { (x : Triple) → AreGrounds x machine.now outputs.old work.old node.entry → IsWork x machine.now work.new }
     ensures beside { IsRoomBeside out.old out.new }
     ensures others { (k : ℕ) → (k < 2 + out.old.flags) ⊎ (2 + out.old.flags + out.old.entries ≤ k) → get_or out.new.numbers.items k 0 ≡ get_or out.old.numbers.items k 0 }
     ensures held { Extends outputs.old outputs.new }

@@ -1,17 +1,15 @@
 // The sets of pairs that stand in rows, each held once, with some of their products.
-ghost use Rattle.std.specs.Prelude.{◌≡◌, ◌<◌, ◌≤◌, ◌++◌, ◌∷◌, [], Some, slice_get, length, IfOk, IfSome, OnErr, MatchOption};
+ghost use Rattle.std.specs.Prelude.{◌≡◌, ◌<◌, ◌≤◌, ◌++◌, ◌∷◌, [], Some, slice_get, length, IfOk, IfSome, OnErr, MatchOption, true};
 ghost use Rattle.std.specs.Result.{IsErrOf};
 ghost use Rattle.tc_mat.specs.Held.{AreDifferent, AreMatrices, IsHeld};
 ghost use Rattle.tc_beh.specs.Remembered.{IsProduct};
 
 use crate::guesses::Guesses;
+use crate::places::{PLACES, place_of};
 use std::alloc::Global;
 use std::marker::Model;
 use tc_base::NoMemory;
 use tc_mat::{Mat, MatId, Pool, PoolFault};
-
-/// How many products are remembered.
-const REMEMBERED: usize = 4096;
 
 /// Two held sets, and the one that leads by the first and then by the second, by their numbers.
 #[derive(Clone, Copy)]
@@ -42,13 +40,6 @@ impl Model for HeldSets {
     ghost invariant = { λ s. (length s.products.items ≡ 4096) × AreRemembered s.pool s.products.items };
 }
 
-/// Where the product of two sets is remembered.
-fn place_of(first: u32, second: u32) -> usize
-    ensures { result < 4096 }
-{
-    (first as usize * 64 + second as usize) % REMEMBERED
-}
-
 impl HeldSets {
     /// The sets of a pool, of which no products are known.
     ///
@@ -58,7 +49,7 @@ impl HeldSets {
     pub(crate) fn of(alloc: Global, pool: Pool) -> Result<HeldSets, NoMemory>
         ensures { IfOk result (λ s. s ≡ pool) }
     {
-        let products = vec![in alloc; None; REMEMBERED]?;
+        let products = vec![in alloc; None; PLACES]?;
         let guesses = Guesses::of(alloc, &pool)?;
         Ok(HeldSets {
             pool,
@@ -77,13 +68,20 @@ impl HeldSets {
         self.pool.len()
     }
 
+    /// True only where a set is held under a number.
+    pub(crate) fn is_at(&self, number: u32, set: &Mat) -> bool
+        ensures { result ≡ true → slice_get self.now.matrices number ≡ Some set.now }
+    {
+        number < self.pool.len() && self.pool.get(MatId(number)) == set
+    }
+
     /// The number of a set, if it is held.
     pub(crate) fn find(&self, set: &Mat) -> Option<MatId>
         ensures { MatchOption result (¬ IsHeld self.now set.now)
             (λ id. slice_get self.now.matrices id.0 ≡ Some set.now) }
     {
         let guess = self.guesses.number_of(set);
-        if guess < self.pool.len() && self.pool.get(MatId(guess)) == set {
+        if self.is_at(guess, set) {
             return Some(MatId(guess));
         }
         self.pool.find(set)

@@ -9,12 +9,12 @@ ghost use Rattle.tc_rows.specs.Bodies.{stay};
 ghost use Rattle.tc_beh.specs.Callees.{AreCalleesFirst};
 ghost use Rattle.tc_beh.specs.Heights.{deepest};
 ghost use Rattle.tc_beh.specs.Putting.{IsCalled, has, put_pairs};
-ghost use Rattle.tc_beh.specs.Places.{AreSpare, kind_of, below_of, size_at, no_matrix};
+ghost use Rattle.tc_beh.specs.Opening.{IsOpenAt, IsBeside};
+ghost use Rattle.tc_beh.specs.Places.{kind_of, below_of, no_matrix};
 ghost use Rattle.tc_beh.specs.Grounds.{IsGround, IsGroundIn, AreNamedSets, called_from};
 
 use crate::bodies::{Place, put_body};
-use crate::sets::put_identity;
-use std::mem;
+use crate::open_sets::OpenSets;
 use tc_mat::Mat;
 
 /// Works out the sets of the bodies of named templates on a node. The place's own are not read.
@@ -22,48 +22,35 @@ pub(crate) fn put_named(
     place: &Place<'_, '_>,
     order: &[usize],
     named: &mut [Mat],
-    set: &mut Mat,
-    spare: &mut [Mat],
+    sets: &mut OpenSets,
 )
     requires place { IsGround place.now }
     requires order { AreCalleesFirst (told place.now.rules.now).sheet.named order.now }
     requires named { AreNamedSets place.now named.old }
-    requires set { set.old.size ≡ size_at place.now }
-    requires spare { AreSpare (size_at place.now) (deepest (told place.now.rules.now).sheet.named + 2) spare.old }
-    requires few { length spare.old ≤ 8002 }
+    requires sets { IsOpenAt place.now (deepest (told place.now.rules.now).sheet.named) sets.old }
     ensures named { AreNamedSets place.now named.new }
-    ensures set { set.new.size ≡ size_at place.now }
-    ensures spare { All (λ m. m.size ≡ size_at place.now) spare.new }
+    ensures same { IsBeside place.now.output.now sets.old sets.new }
     ensures called { (x : Triple) (n : ℕ) → IsGroundIn x place.now → IsCalled x (kind_of place.now.node) (below_of x place.now) (called_from named.new) n }
 {
     for number in order {
-        put_one_named(place, *number, named, set, spare);
+        put_one_named(place, *number, named, sets);
     }
 }
 
 /// The same of one of them, once those that it calls are worked out.
-fn put_one_named(
-    place: &Place<'_, '_>,
-    number: usize,
-    named: &mut [Mat],
-    set: &mut Mat,
-    spare: &mut [Mat],
-)
+fn put_one_named(place: &Place<'_, '_>, number: usize, named: &mut [Mat], sets: &mut OpenSets)
     requires place { IsGround place.now }
     requires number { number < length (told place.now.rules.now).sheet.named }
     requires named { AreNamedSets place.now named.old }
-    requires set { set.old.size ≡ size_at place.now }
-    requires spare { AreSpare (size_at place.now) (deepest (told place.now.rules.now).sheet.named + 2) spare.old }
-    requires few { length spare.old ≤ 8002 }
+    requires sets { IsOpenAt place.now (deepest (told place.now.rules.now).sheet.named) sets.old }
     ensures named { AreNamedSets place.now named.new }
-    ensures set { set.new.size ≡ size_at place.now }
-    ensures spare { All (λ m. m.size ≡ size_at place.now) spare.new }
+    ensures same { IsBeside place.now.output.now sets.old sets.new }
     ensures others { (n : ℕ) → n ≢ number → get_or named.new n no_matrix ≡ get_or named.old n no_matrix }
     ensures called { (x : Triple) → IsGroundIn x place.now →
         HaveSamePairs (has (get_or named.new number no_matrix)) (product (stay x) (put_pairs x (kind_of place.now.node) (below_of x place.now) (called_from named.old) (get_or (told place.now.rules.now).sheet.named number no_instruction))) }
 {
     let body = place.rules.sheet().named[number];
-    put_identity(set);
+    sets.restart();
     let here = Place {
         rules: place.rules,
         output: place.output,
@@ -77,6 +64,6 @@ fn put_one_named(
         looks: place.looks,
         above: place.above,
     };
-    put_body(&here, body, true, set, spare);
-    mem::swap(set, &mut named[number]);
+    put_body(&here, body, sets);
+    sets.leave(&mut named[number]);
 }

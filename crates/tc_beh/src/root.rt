@@ -12,7 +12,8 @@ ghost use Rattle.tc_rows.specs.Triples.{Triple, sheet, predicates};
 ghost use Rattle.tc_rows.specs.PairSets.{HaveSamePairs};
 ghost use Rattle.tc_rows.specs.Bodies.{on_root, body_pairs};
 ghost use Rattle.tc_beh.specs.Machines.{IsMachine};
-ghost use Rattle.tc_beh.specs.Places.{IsPlace, IsPlaceIn, AreSpare, kind_of, below_of, size_at};
+ghost use Rattle.tc_beh.specs.Opening.{IsOpenAt, IsBeside};
+ghost use Rattle.tc_beh.specs.Places.{IsPlace, IsPlaceIn, kind_of, below_of};
 ghost use Rattle.tc_beh.specs.Putting.{has, Extends};
 ghost use Rattle.tc_beh.specs.Rooms.{flagged, tree_row};
 ghost use Rattle.tc_beh.specs.Roots.{IsRootIn, root_pairs};
@@ -24,9 +25,9 @@ use crate::bodies::{At, Place};
 use crate::held_sets::HeldSets;
 use crate::machine::Machine;
 use crate::named::put_named;
+use crate::open_sets::OpenSets;
 use crate::rooms::{Room, TRow};
 use crate::rows::{Rows, Work};
-use crate::sets::put_identity;
 use crate::templates::{put_template, template_of};
 use tc_auto::Auto;
 use tc_mat::Mat;
@@ -58,28 +59,24 @@ fn leads_to_end(auto: &Auto<'_>, set: &Mat) -> bool
 }
 
 /// Puts what is put out on the root of a document.
-fn put_on_root(place: &Place<'_, '_>, out: &mut Mat, spare: &mut [Mat])
+fn put_on_root(place: &Place<'_, '_>, sets: &mut OpenSets)
     requires place { IsPlace place.now }
     requires root { kind_of place.now.node ≡ on_root }
-    requires out { out.old.size ≡ size_at place.now }
-    requires spare { AreSpare out.old.size (depth_of_sheet (told place.now.rules.now).sheet + 2) spare.old }
-    requires few { length spare.old ≤ 8002 }
-    requires untouched { IsIdentity out.old }
-    ensures size { out.new.size ≡ out.old.size }
-    ensures spare { All (λ m. m.size ≡ out.old.size) spare.new }
+    requires sets { IsOpenAt place.now (depth_of_sheet (told place.now.rules.now).sheet) sets.old }
+    ensures same { IsBeside place.now.output.now sets.old sets.new }
     ensures pairs { (x : Triple) → IsPlaceIn x place.now → AreCalled x place.now
-        → Extends out.old out.new (body_pairs x (body_of_root x.symbols (predicates x) (sheet x).rules x.bodies (in_mode 0)) (kind_of place.now.node) (below_of x place.now)) }
+        → Extends sets.old.out sets.new.out (body_pairs x (body_of_root x.symbols (predicates x) (sheet x).rules x.bodies (in_mode 0)) (kind_of place.now.node) (below_of x place.now)) }
 {
     let found = place.rules.root_rule(0);
     let template = template_of(place.rules, 0, found);
-    put_template(place, template, out, spare)
+    put_template(place, template, sets)
 }
 
 /// Leaves, in the set that is worked out, where what is put out on the root of a document leads the output.
 fn put_root(machine: &Machine<'_>, outputs: &HeldSets, work: &mut Work, tree: &Room)
     requires { (x : Triple) × IsRootIn x machine.now outputs.now work.old tree.now }
-    ensures work { (x : Triple) → IsRootIn x machine.now outputs.now work.old tree.now → IsWork x machine.now.depth work.new }
-    ensures pairs { (x : Triple) → IsRootIn x machine.now outputs.now work.old tree.now → HaveSamePairs (has work.new.set) (root_pairs x (tree_row x outputs.now.matrices tree.now.numbers.items)) }
+    ensures work { (x : Triple) → IsRootIn x machine.now outputs.now work.old tree.now → IsWork x machine.now work.new }
+    ensures pairs { (x : Triple) → IsRootIn x machine.now outputs.now work.old tree.now → HaveSamePairs (has work.new.sets.out) (root_pairs x (tree_row x outputs.now.matrices tree.now.numbers.items)) }
 {
     let _held = outputs.len();
     let ground = Place {
@@ -99,15 +96,14 @@ fn put_root(machine: &Machine<'_>, outputs: &HeldSets, work: &mut Work, tree: &R
         &ground,
         machine.order.as_slice(),
         work.named.as_mut_slice(),
-        &mut work.set,
-        work.spare.as_mut_slice(),
+        &mut work.sets,
     );
-    put_identity(&mut work.set);
+    work.sets.restart();
     let place = Place {
         named: work.named.as_slice(),
         ..ground
     };
-    put_on_root(&place, &mut work.set, work.spare.as_mut_slice());
+    put_on_root(&place, &mut work.sets);
 }
 
 impl<'m, 'b> Rows<'m, 'b> {
@@ -125,7 +121,7 @@ impl<'m, 'b> Rows<'m, 'b> {
         has_start(self.machine.input.auto(), t.room.flags())
     }
 
-    /// Whether the result of a document of this row is valid for the output schema. It takes no memory.
+    /// Whether the result of a document of this row is valid for the output schema. It is refused no memory.
     pub fn root_ok(&mut self, t: &TRow) -> bool
         requires rows { AreRows self.old }
         requires tree { (x : Triple) → AreRowsOf x self.old → StandsForTree x self.old t.now }
@@ -136,6 +132,6 @@ impl<'m, 'b> Rows<'m, 'b> {
     {
         let machine = self.machine;
         put_root(machine, &self.outputs, &mut self.work, &t.room);
-        leads_to_end(machine.output.auto(), &self.work.set)
+        leads_to_end(machine.output.auto(), self.work.sets.out())
     }
 }

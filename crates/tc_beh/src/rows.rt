@@ -11,6 +11,7 @@ use crate::held_sets::HeldSets;
 use crate::leads::{Lead, NOWHERE};
 use crate::lists::{pairs_of, pool_of};
 use crate::machine::Machine;
+use crate::open_sets::OpenSets;
 use crate::outputs::RowFault;
 use crate::rooms::{HRow, TRow};
 use std::alloc::Global;
@@ -39,8 +40,8 @@ pub(crate) struct Work {
     pub(crate) set: Mat,
     /// The sets of the bodies of named templates.
     pub(crate) named: Vec<Mat>,
-    /// A set for each element that stands open in a body, and two more.
-    pub(crate) spare: Vec<Mat>,
+    /// The sets that stand open in a body.
+    pub(crate) sets: OpenSets,
     /// Some of the rules that were found for letters of nodes.
     pub(crate) known: KnownRules,
 }
@@ -62,20 +63,20 @@ impl Work {
 
     fn new(alloc: Global, machine: &Machine<'_>) -> Result<Work, NoMemory>
         requires { IsMachine machine.now }
-        ensures { IfOk result (λ w. (x : Triple) → IsMachineOf x machine.now → IsWork x machine.now.depth w) }
+        ensures { IfOk result (λ w. (x : Triple) → IsMachineOf x machine.now → IsWork x machine.now w) }
     {
         let size = machine.output.auto().states();
         let mut text = Mat::zero(alloc, size)?;
         machine.output.text_into(&mut text);
         let set = Mat::zero(alloc, size)?;
         let named = empty_sets(alloc, machine.rules.sheet().named.len(), size)?;
-        let spare = empty_sets(alloc, machine.depth as usize + 2, size)?;
+        let sets = OpenSets::of(alloc, &text, machine.depth)?;
         let known = KnownRules::new(&machine.rules)?;
         Ok(Work {
             text,
             set,
             named,
-            spare,
+            sets,
             known,
         })
     }

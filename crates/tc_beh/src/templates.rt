@@ -1,6 +1,5 @@
 // What is to be instantiated on a node (XSLT 1.0, 5), and what it puts out.
 ghost use Rattle.std.specs.Prelude.{◌≡◌, ◌≤◌, ◌<◌, ◌+◌, ℕ, List, length, All, option_map, Option, IfSome};
-ghost use Rattle.tc_mat.specs.Matrix.{Matrix, IsIdentity};
 ghost use Rattle.tc_model.specs.Letters as letters;
 ghost use Rattle.tc_model.specs.Sheets.{CallFreeBody};
 ghost use Rattle.tc_rules.specs.Asked.{found as found_of};
@@ -14,13 +13,14 @@ ghost use Rattle.tc_rows.specs.Bodies.{body_pairs};
 ghost use Rattle.tc_beh.specs.Above.{letter_of};
 ghost use Rattle.tc_beh.specs.Heights.{depth_in};
 ghost use Rattle.tc_beh.specs.Putting.{Extends};
-ghost use Rattle.tc_beh.specs.Places.{IsPlace, IsPlaceIn, AreSpare, kind_of, below_of, called_by, size_at};
+ghost use Rattle.tc_beh.specs.Opening.{IsOpenAt, IsBeside};
+ghost use Rattle.tc_beh.specs.Places.{IsPlace, IsPlaceIn, kind_of, below_of, called_by};
 ghost use Rattle.tc_beh.specs.Stands.{IsRulesIn, AreRules};
 ghost use Rattle.tc_beh.specs.Templates.{IsMeantAt, IsTemplate, IsPartTemplate, depth_of, depth_of_sheet, built_in_on, AreCalled};
 
 use crate::above::Letter;
 use crate::bodies::{At, Place, all_children, put_body, put_selected, put_text_if};
-use tc_mat::Mat;
+use crate::open_sets::OpenSets;
 use tc_model::Instr;
 use tc_rules::{Found, Job, KnownRules, Rules};
 
@@ -73,44 +73,33 @@ pub(crate) fn template_at<'b>(
     }
 }
 
-/// Puts the pairs of a template behind those of each state with itself.
-pub(crate) fn put_template(
-    place: &Place<'_, '_>,
-    template: Template<'_>,
-    out: &mut Mat,
-    spare: &mut [Mat],
-)
+/// Puts the pairs of a template.
+pub(crate) fn put_template(place: &Place<'_, '_>, template: Template<'_>, sets: &mut OpenSets)
     requires place { IsPlace place.now }
     requires part { IsPartTemplate (told place.now.rules.now).sheet template }
-    requires out { out.old.size ≡ size_at place.now }
-    requires spare { AreSpare out.old.size (depth_of template + 2) spare.old }
-    requires few { length spare.old ≤ 8002 }
-    requires untouched { IsIdentity out.old }
-    ensures size { out.new.size ≡ out.old.size }
-    ensures spare { All (λ m. m.size ≡ out.old.size) spare.new }
+    requires sets { IsOpenAt place.now (depth_of template) sets.old }
+    ensures same { IsBeside place.now.output.now sets.old sets.new }
     ensures pairs { (x : Triple) (p : CallFreeBody) → IsPlaceIn x place.now → AreCalled x place.now → IsTemplate (sheet x).named (built_in_on (kind_of place.now.node)) template.entry p
-        → Extends out.old out.new (body_pairs x p (kind_of place.now.node) (below_of x place.now)) }
+        → Extends sets.old.out sets.new.out (body_pairs x p (kind_of place.now.node) (below_of x place.now)) }
 {
     match template {
-        Template::Body(inner) => put_body(place, inner, true, out, spare),
-        Template::BuiltIn(mode) => put_built_in(place, mode, out, spare),
+        Template::Body(inner) => put_body(place, inner, sets),
+        Template::BuiltIn(mode) => put_built_in(place, mode, sets),
     }
 }
 
 /// Puts the pairs of the built-in rules: the children of the root and of elements in the same mode; a text is copied
 /// (XSLT 1.0, 5.8).
-fn put_built_in(place: &Place<'_, '_>, mode: u32, out: &mut Mat, spare: &mut [Mat])
+fn put_built_in(place: &Place<'_, '_>, mode: u32, sets: &mut OpenSets)
     requires place { IsPlace place.now }
     requires mode { mode < (told place.now.rules.now).sheet.modes }
-    requires out { out.old.size ≡ size_at place.now }
-    requires spare { AreSpare out.old.size 1 spare.old }
-    ensures size { out.new.size ≡ out.old.size }
-    ensures spare { All (λ m. m.size ≡ out.old.size) spare.new }
-    ensures pairs { (x : Triple) → IsPlaceIn x place.now → Extends out.old out.new (body_pairs x (built_in_on (kind_of place.now.node) mode) (kind_of place.now.node) (below_of x place.now)) }
+    requires sets { IsOpenAt place.now 0 sets.old }
+    ensures same { IsBeside place.now.output.now sets.old sets.new }
+    ensures pairs { (x : Triple) → IsPlaceIn x place.now → Extends sets.old.out sets.new.out (body_pairs x (built_in_on (kind_of place.now.node) mode) (kind_of place.now.node) (below_of x place.now)) }
 {
     match place.node {
-        At::Text => put_text_if(place, true, out, spare),
-        At::Root => put_selected(place, all_children(), Job::Mode(mode), out, spare),
-        At::Elem(_) => put_selected(place, all_children(), Job::Mode(mode), out, spare),
+        At::Text => put_text_if(place, true, sets),
+        At::Root => put_selected(place, all_children(), Job::Mode(mode), sets),
+        At::Elem(_) => put_selected(place, all_children(), Job::Mode(mode), sets),
     }
 }

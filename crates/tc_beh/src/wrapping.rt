@@ -39,7 +39,7 @@ fn put_node(
     requires grounds { AreSomeGrounds machine.now outputs.old work.old node }
     requires few { (i : ℕ) → get_or node.looks.now i 0 ≤ 2 }
     requires room { (x : Triple) × AreGrounds x machine.now outputs.old work.old node × IsRoomOf (tree_layout x) out.old }
-    ensures work { (x : Triple) → AreGrounds x machine.now outputs.old work.old node.entry → IsWork x machine.now.depth work.new }
+    ensures work { (x : Triple) → AreGrounds x machine.now outputs.old work.old node.entry → IsWork x machine.now work.new }
     ensures beside { IsRoomBeside out.old out.new }
     ensures others { (k : ℕ) → k < 2 + out.old.flags → get_or out.new.numbers.items k 0 ≡ get_or out.old.numbers.items k 0 }
     ensures held { Extends outputs.old outputs.new }
@@ -137,7 +137,7 @@ impl<'m, 'b> Rows<'m, 'b> {
     ghost use Rattle.tc_beh.specs.RowsOf.{AreRows, AreRowsOf, AreSameRows, StandsForHedge, StandsForTree, hedge_of, tree_of};
 
     /// The row of a text that isn't white space alone. Tells whether a text may stand in the input; where not, nothing is held
-    /// that wasn't before. Over fixed rows it takes no memory.
+    /// that wasn't before. Over fixed rows it is refused no memory.
     ///
     /// # Errors
     ///
@@ -182,7 +182,7 @@ impl<'m, 'b> Rows<'m, 'b> {
     }
 
     /// The row of an element of a symbol around a list of trees. Tells whether it may stand in the input; where not, nothing is
-    /// held that wasn't before. Over fixed rows it takes no memory.
+    /// held that wasn't before. Over fixed rows it is refused no memory.
     ///
     /// # Errors
     ///

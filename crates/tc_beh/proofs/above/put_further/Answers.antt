@@ -13,6 +13,7 @@ use Rattle.tc_rows.specs.Bodies.{stay}
 use Rattle.tc_rows.specs.Arithmetic.{pairs_from, step}
 use Rattle.tc_beh.specs.Places.{entries_by}
 use Rattle.tc_beh.proofs.Hitting.{of_move, select_low, some_move, state_told, step_told, lettered, pairs_none, pairs_some}
+use Rattle.tc_beh.proofs.OpenLaws.{beside_self}
 use Rattle.tc_beh.proofs.PutLaws.{put_same, put_nothing}
 use Rattle.tc_beh.proofs.above.put_further.Goals as goal
 
@@ -37,9 +38,9 @@ returns-in-None-clause-pairs c = λ x g at is lx.
     let l = letter (Elem c.args.sym) c.args.marks in
     let there = c.in-None.ensures x.symbols b g.state is.rules.rules (lettered x r is.rules l lx) (state_told x r is.rules c.args.state b g.state at.state) in
     let empty = subst (λ (s : State). is_empty_state s ≡ true) (step_told x r is.rules b g.state l) there in
-    let out = c.args.out.now in
+    let out = c.args.sets.now.out in
     put_same out out (stay x) (pairs_from x (entries_by p.outputs.now.matrices p.entries.now) p.above (moving at.mode g.path (step x g.path g.state l)))
-    (pairs_none x p is at.mode g.path (step x g.path g.state l) empty) (put_nothing out (outputs x) (c.requires.out ∙ is.size))
+    (pairs_none x p is at.mode g.path (step x g.path g.state l) empty) (put_nothing out (outputs x) (c.requires.sets.size ∙ is.size))
 
 pub returns-in-Some-clause-pairs : goal.returns-in-Some-clause-pairs
 returns-in-Some-clause-pairs c = λ x g at is lx.
@@ -49,5 +50,11 @@ returns-in-Some-clause-pairs c = λ x g at is lx.
     let l = letter (Elem c.args.sym) c.args.marks in
     let there = c.in-Some.ensures x.symbols b g.state is.rules.rules (lettered x r is.rules l lx) (state_told x r is.rules c.args.state b g.state at.state) in
     let stepped = subst (λ (s : State). IsStateOf (told r) c.in-Some.next b s) (step_told x r is.rules b g.state l) there in
-    put_same c.args.out.now c.put_entry.new.out (listed (entry x (entries_by p.outputs.now.matrices p.entries.now) p.above c.in-Some.next)) (pairs_from x (entries_by p.outputs.now.matrices p.entries.now) p.above (moving at.mode g.path (step x g.path g.state l)))
+    put_same c.args.sets.now.out c.put_entry.new.sets.out (listed (entry x (entries_by p.outputs.now.matrices p.entries.now) p.above c.in-Some.next)) (pairs_from x (entries_by p.outputs.now.matrices p.entries.now) p.above (moving at.mode g.path (step x g.path g.state l)))
     (pairs_some x p is at.mode c.in-Some.next g.path (step x g.path g.state l) stepped) (c.put_entry.ensures.pairs x is)
+
+pub returns-in-None-clause-same : goal.returns-in-None-clause-same
+returns-in-None-clause-same c = beside_self c.args.place.now.output.now c.args.sets.now
+
+pub returns-in-Some-clause-same : goal.returns-in-Some-clause-same
+returns-in-Some-clause-same c = c.put_entry.ensures.same

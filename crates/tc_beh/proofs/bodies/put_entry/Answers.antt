@@ -1,11 +1,53 @@
+use Rattle.std.proofs.Common.{◌≡◌, ◌+◌, ◌*◌, ◌<◌, length, get_or, sym, ap, ◌∙◌, subst}
+use Rattle.std.proofs.lemmas.Option.{slice_get-get_or, same_Some}
+use Rattle.std.proofs.lemmas.List.{get_or_default}
+use Rattle.tc_rows.specs.Triples.{moves}
 use Rattle.tc_rows.specs.PairSets.{listed}
 use Rattle.tc_rows.specs.Rows.{entry}
-use Rattle.tc_beh.specs.Places.{entries_by}
+use Rattle.tc_beh.specs.Places.{entries_by, no_matrix}
 use Rattle.tc_beh.specs.Putting.{has}
+use Rattle.tc_beh.proofs.Looking.{moves_told}
 use Rattle.tc_beh.proofs.PutLaws.{put_same}
+use Rattle.tc_beh.proofs.Placed.{entry_is, entry_low, output_low}
 use Rattle.tc_beh.proofs.bodies.put_entry.Goals as goal
+
+pub returns-clause-same : goal.returns-clause-same
+returns-clause-same c = c.put_held.ensures.same c.args.place.now.output.now
+
+pub put_held-requires : goal.put_held-requires
+put_held-requires c = let (x, is) = c.requires.place in c.get.ensures.size ∙ (is.held ∙ sym (c.requires.sets.size ∙ is.size))
 
 pub returns-clause-pairs : goal.returns-clause-pairs
 returns-clause-pairs c = λ x is.
     let p = c.args.place.now in
-    put_same c.args.out.now c.put_set.new.out (has c.entry_of.result.now) (listed (entry x (entries_by p.outputs.now.matrices p.entries.now) p.above c.args.state)) (c.entry_of.ensures.pairs x is) c.put_set.ensures.pairs
+    let i = c.entry_place-number.result in
+    let k = c.args.state in
+    let ms = p.outputs.now.matrices in
+    let v = get_or p.entries.now i 0 in
+    let count = moves_told x p.rules.now is.rules c.moves.result (c.moves.ensures x.symbols is.rules.rules) in
+    let place : i ≡ p.above * moves x + k = c.entry_place-number.ensures ∙ ap (λ n. p.above * n + k) count in
+    let low : i < length p.entries.now = subst (λ n. n < length p.entries.now) (sym place) (entry_low x p is c.requires.node k c.requires.state) in
+    let got : c.get.result.now ≡ get_or ms v no_matrix = same_Some _ _ (sym c.get.ensures.matrix ∙ slice_get-get_or ms v no_matrix (output_low x p is i 0 low)) in
+    put_same c.args.sets.now.out c.put_held.new.self.out (has c.get.result.now) (listed (entry x (entries_by ms p.entries.now) p.above k))
+    (entry_is x p is k i v c.get.result.now place low (get_or_default p.entries.now i 0 v low) got) c.put_held.ensures.pairs
+
+pub get-requires : goal.get-requires
+get-requires c =
+    let (x, is) = c.requires.place in
+    let p = c.args.place.now in
+    let i = c.entry_place-number.result in
+    let k = c.args.state in
+    let count = moves_told x p.rules.now is.rules c.moves.result (c.moves.ensures x.symbols is.rules.rules) in
+    let place : i ≡ p.above * moves x + k = c.entry_place-number.ensures ∙ ap (λ n. p.above * n + k) count in
+    let low : i < length p.entries.now = subst (λ n. n < length p.entries.now) (sym place) (entry_low x p is c.requires.node k c.requires.state) in
+    output_low x p is i 0 low
+
+pub bounds-place-number : goal.bounds-place-number
+bounds-place-number c =
+    let (x, is) = c.requires.place in
+    let p = c.args.place.now in
+    let i = c.entry_place-number.result in
+    let k = c.args.state in
+    let count = moves_told x p.rules.now is.rules c.moves.result (c.moves.ensures x.symbols is.rules.rules) in
+    let place : i ≡ p.above * moves x + k = c.entry_place-number.ensures ∙ ap (λ n. p.above * n + k) count in
+    subst (λ n. n < length p.entries.now) (sym place) (entry_low x p is c.requires.node k c.requires.state)

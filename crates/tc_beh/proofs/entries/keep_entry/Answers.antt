@@ -1,9 +1,11 @@
-use Rattle.std.proofs.Common.{◌<◌, ◌+◌, ◌*◌, length, inl, refl, sym, ◌∙◌, subst}
+use Rattle.std.proofs.Common.{◌<◌, ◌+◌, ◌*◌, length, inl, refl, sym, ap, ◌∙◌, subst}
+use Rattle.tc_mat.specs.Matrix.{Matrix, IsMatrix}
 use Rattle.tc_rows.specs.Triples.{moves}
 use Rattle.tc_beh.specs.Entries.{IsEntryAt}
 use Rattle.tc_beh.specs.Held.{set_at}
 use Rattle.tc_beh.specs.Places.{entries_by}
 use Rattle.tc_beh.proofs.Holding.{extends_kept, extends_self, set_kept, grows_kept}
+use Rattle.tc_beh.proofs.Nodes.{work_set}
 use Rattle.tc_beh.proofs.Nowhere.{nothing_kept}
 use Rattle.tc_beh.proofs.Passing.{if_ok_map}
 use Rattle.tc_beh.proofs.Together.{on_err_map}
@@ -27,32 +29,38 @@ returns-then-puts_nothing-clause-err c = on_err_map c.keep_nothing.result _ _ (�
 )) c.keep_nothing.ensures.err
 
 pub keep-requires : goal.keep-requires
-keep-requires c = let (x, ok) = c.requires.grounds in (c.put_entry_of.ensures.work x ok).set ∙ sym ok.size
+keep-requires c = let (x, ok) = c.requires.grounds in ap (λ (m : Matrix). m.size) c.out.ensures.out ∙ ((c.put_entry_of.ensures.work x ok).open_size ∙ sym ok.size)
 
 pub returns-in-None-clause-known : goal.returns-in-None-clause-known
 returns-in-None-clause-known c =
-    nothing_kept c.args.outputs.now c.keep.new.outputs (extends_kept c.args.outputs.now c.keep.new.outputs c.put_entry_of.new.work.set c.keep.result c.keep.ensures.grows c.keep.ensures.err) c.args.nothing.now c.requires.known
+    nothing_kept c.args.outputs.now c.keep.new.outputs (extends_kept c.args.outputs.now c.keep.new.outputs c.out.result.now c.keep.result c.keep.ensures.grows c.keep.ensures.err) c.args.nothing.now c.requires.known
 
 pub returns-in-None-clause-held : goal.returns-in-None-clause-held
-returns-in-None-clause-held c = extends_kept c.args.outputs.now c.keep.new.outputs c.put_entry_of.new.work.set c.keep.result c.keep.ensures.grows c.keep.ensures.err
+returns-in-None-clause-held c = extends_kept c.args.outputs.now c.keep.new.outputs c.out.result.now c.keep.result c.keep.ensures.grows c.keep.ensures.err
 
 pub returns-in-None-clause-low : goal.returns-in-None-clause-low
 returns-in-None-clause-low c =
-    if_ok_map c.keep.result _ (λ k. k < length c.keep.new.outputs.matrices) (λ k h. h.0) (set_kept c.args.outputs.now c.keep.new.outputs c.put_entry_of.new.work.set c.keep.result c.keep.ensures.number)
+    if_ok_map c.keep.result _ (λ k. k < length c.keep.new.outputs.matrices) (λ k h. h.0) (set_kept c.args.outputs.now c.keep.new.outputs c.out.result.now c.keep.result c.keep.ensures.number)
 
 pub returns-in-None-clause-grows : goal.returns-in-None-clause-grows
-returns-in-None-clause-grows c = grows_kept c.args.outputs.now c.keep.new.outputs c.put_entry_of.new.work.set c.keep.result c.keep.ensures.number c.keep.ensures.grows
+returns-in-None-clause-grows c = grows_kept c.args.outputs.now c.keep.new.outputs c.out.result.now c.keep.result c.keep.ensures.number c.keep.ensures.grows
 
 pub returns-in-None-clause-entry : goal.returns-in-None-clause-entry
 returns-in-None-clause-entry c =
     if_ok_map c.keep.result _ _ (λ k h x ok under called.
-    subst (IsEntryAt x (entries_by c.args.outputs.now.matrices c.args.node.entries.now) c.args.node (c.args.spot.ancestor * moves x + c.args.spot.state)) (sym h.1) (c.put_entry_of.ensures.entry x ok under called))
-    (set_kept c.args.outputs.now c.keep.new.outputs c.put_entry_of.new.work.set c.keep.result c.keep.ensures.number)
+    subst (IsEntryAt x (entries_by c.args.outputs.now.matrices c.args.node.entries.now) c.args.node (c.args.spot.ancestor * moves x + c.args.spot.state)) (sym (h.1 ∙ c.out.ensures.out)) (c.put_entry_of.ensures.entry x ok under called))
+    (set_kept c.args.outputs.now c.keep.new.outputs c.out.result.now c.keep.result c.keep.ensures.number)
 
 pub returns-in-None-clause-err : goal.returns-in-None-clause-err
 returns-in-None-clause-err c = on_err_map c.keep.result _ _ (λ err. (
   err.0,
-  λ x ok under called. (c.put_entry_of.new.work.set, c.put_entry_of.ensures.entry x ok under called, (c.put_entry_of.ensures.work x ok).set ∙ sym ok.size, c.put_entry_of.ensures.matrix, err.1),
+  λ x ok under called. (
+    c.out.result.now,
+    subst (IsEntryAt x (entries_by c.args.outputs.now.matrices c.args.node.entries.now) c.args.node (c.args.spot.ancestor * moves x + c.args.spot.state)) (sym c.out.ensures.out) (c.put_entry_of.ensures.entry x ok under called),
+    ap (λ (m : Matrix). m.size) c.out.ensures.out ∙ ((c.put_entry_of.ensures.work x ok).open_size ∙ sym ok.size),
+    subst IsMatrix (sym c.out.ensures.out) c.out.ensures.matrix,
+    err.1,
+  ),
 )) c.keep.ensures.err
 
 pub puts_nothing-requires-clause-node : goal.puts_nothing-requires-clause-node
@@ -74,16 +82,7 @@ pub returns-then-puts_nothing-clause-known : goal.returns-then-puts_nothing-clau
 returns-then-puts_nothing-clause-known c = c.keep_nothing.ensures.known
 
 pub returns-then-puts_nothing-clause-work : goal.returns-then-puts_nothing-clause-work
-returns-then-puts_nothing-clause-work c = λ x ok. record {
-  text = ok.work.text;
-  text_size = ok.work.text_size;
-  set = c.keep_nothing.ensures.set ∙ ok.work.set;
-  named_count = ok.work.named_count;
-  named = ok.work.named;
-  spare = ok.work.spare;
-  few = ok.work.few;
-  known = ok.work.known;
-}
+returns-then-puts_nothing-clause-work c = λ x ok. work_set x c.args.machine.now c.args.work.now ok.work c.keep_nothing.new.set c.keep_nothing.ensures.set
 
 pub returns-then-puts_nothing-clause-named : goal.returns-then-puts_nothing-clause-named
 returns-then-puts_nothing-clause-named c = refl

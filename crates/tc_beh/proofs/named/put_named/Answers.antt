@@ -9,6 +9,9 @@ use Rattle.tc_beh.specs.Callees.{AreCalleesFirst}
 use Rattle.tc_beh.specs.Putting.{has, put_pairs}
 use Rattle.tc_beh.specs.Places.{kind_of, below_of, no_matrix}
 use Rattle.tc_beh.specs.Grounds.{called_from}
+use Rattle.tc_rules.specs.Kept.{told}
+use Rattle.tc_beh.specs.Heights.{deepest}
+use Rattle.tc_beh.proofs.OpenLaws.{beside_then, open_on}
 use Rattle.tc_beh.proofs.Deepening.{one_more_ready, all_ready}
 use Rattle.tc_beh.proofs.Starts.{below_starts}
 use Rattle.tc_beh.proofs.named.put_named.Goals as goal
@@ -21,13 +24,10 @@ loop-number-preserved c =
     let n = get_or order i 0 in
     let old = c.loop-number.named in
     let new = c.put_one_named.new.named in
-    let enough = c.loop-number.invariant.spare.enough in
-    let count = c.put_one_named.auto.spare in
     let at : slice_get order i ≡ Some n = slice_get-get_or order i 0 c.loop-number-test.true in
     record {
       named = c.put_one_named.ensures.named;
-      set = c.put_one_named.ensures.set;
-      spare = record { sizes = c.put_one_named.ensures.spare; enough = omega (arith, enough, count) };
+      same = beside_then c.args.place.now.output.now c.args.sets.now c.loop-number.sets c.put_one_named.new.sets c.loop-number.invariant.same c.put_one_named.ensures.same;
       ready = λ x first ok.
           one_more_ready x (kind_of p.node) (below_of x p) order first (below_starts x p ok) i n old new at (c.loop-number.invariant.ready x first ok) c.put_one_named.ensures.others
           (subst (λ (v : RulesView). HaveSamePairs (has (get_or new n no_matrix)) (product (stay x) (put_pairs x (kind_of p.node) (below_of x p) (called_from old) (get_or v.sheet.named n no_instruction)))) ok.rules.told
@@ -47,3 +47,11 @@ pub put_one_named-requires-clause-number : goal.put_one_named-requires-clause-nu
 put_one_named-requires-clause-number c =
     let i = c.loop-number.number-index in
     c.requires.order.within i (get_or c.args.order.now i 0) (slice_get-get_or c.args.order.now i 0 c.loop-number-test.true)
+
+pub put_one_named-requires-clause-sets : goal.put_one_named-requires-clause-sets
+put_one_named-requires-clause-sets c =
+    let d = deepest (told c.args.place.now.rules.now).sheet.named in
+    open_on c.args.place.now d d c.args.sets.now c.loop-number.sets c.requires.sets c.loop-number.invariant.same (omega arith)
+
+pub returns-clause-same : goal.returns-clause-same
+returns-clause-same c = c.loop-number.invariant.same

@@ -8,6 +8,8 @@ use Rattle.tc_rules.specs.Kept.{told}
 use Rattle.tc_rules.specs.States.{body_of_root}
 use Rattle.tc_rows.specs.Triples.{sheet, predicates}
 use Rattle.tc_beh.specs.Places.{kind_of}
+use Rattle.tc_beh.specs.Templates.{depth_of, depth_of_sheet}
+use Rattle.tc_beh.proofs.OpenLaws.{open_less}
 use Rattle.tc_beh.proofs.Meant.{rule_low}
 use Rattle.tc_beh.proofs.Rooted.{root_meant}
 use Rattle.tc_beh.proofs.root.put_on_root.Goals as goal
@@ -30,3 +32,7 @@ returns-clause-pairs c = λ x is called.
     c.put_template.ensures.pairs x (body_of_root x.symbols (predicates x) (sheet x).rules x.bodies (in_mode 0)) is called
     (root_meant x r is.rules (found c.root_rule-found.result) c.template_of-template.result (kind_of c.args.place.now.node) c.requires.root (c.root_rule-found.ensures x.symbols is.rules.rules)
     (λ own y e. c.template_of-template.ensures.meant x own y is.rules e))
+
+pub put_template-requires-clause-sets : goal.put_template-requires-clause-sets
+put_template-requires-clause-sets c =
+    open_less c.args.place.now (depth_of c.template_of-template.result) (depth_of_sheet (told c.args.place.now.rules.now).sheet) c.args.sets.now c.requires.sets c.template_of-template.ensures.depth

@@ -1,5 +1,4 @@
 use Rattle.std.proofs.Common.{◌≡◌, ℕ, List, length, All, ap, ◌∙◌, sym, subst, refl, arith}
-use Rattle.std.specs.Vec.{with_items}
 use Rattle.std.proofs.lemmas.List.{with_items_is}
 use Rattle.tc_mat.specs.Matrix.{Matrix}
 use Rattle.tc_model.specs.Sheets.{Body}
@@ -13,7 +12,9 @@ use Rattle.tc_rows.specs.Arithmetic.{below}
 use Rattle.tc_beh.specs.Grounds.{called_from}
 use Rattle.tc_beh.specs.Places.{entries_by}
 use Rattle.tc_beh.specs.Putting.{IsCalled}
-use Rattle.tc_beh.proofs.Rooted.{is_ground, is_placed, spare_for_root, root_put}
+use Rattle.tc_beh.proofs.Nodes.{open_for, work_filled}
+use Rattle.tc_beh.proofs.OpenLaws.{beside_self, beside_then}
+use Rattle.tc_beh.proofs.Rooted.{is_ground, is_placed, root_depth, root_put}
 use Rattle.tc_beh.proofs.root.put_root.Goals as goal
 
 abbrev count_of : List Matrix → ℕ
@@ -38,43 +39,21 @@ put_on_root-requires-clause-place c =
           },
     )
 
-pub put_on_root-requires-clause-spare : goal.put_on_root-requires-clause-spare
-put_on_root-requires-clause-spare c =
+pub put_on_root-requires-clause-sets : goal.put_on_root-requires-clause-sets
+put_on_root-requires-clause-sets c =
     let (x, is) = c.requires in
+    let m = c.args.machine.now in
     let w = c.args.work.now in
-    let first = c.put_named.auto.spare ∙ ap count_of c.as_mut_slice-2.ensures.value in
-    let value = c.as_mut_slice-3.ensures.value ∙ with_items_is w.spare c.put_named.new.spare (first ∙ sym w.spare.ok.0) in
-    let size = is.work.text_size in
-    spare_for_root x c.args.machine.now c.args.outputs.now w c.args.tree.now is c.put_identity.new.out.size c.as_mut_slice-3.result.now (c.put_identity.ensures.size ∙ (c.put_named.ensures.set ∙ size))
-    (subst (λ (l : List Matrix). All (λ (e : Matrix). e.size ≡ outputs x) l) (sym value) (λ k d l. c.put_named.ensures.spare k d l ∙ size)) (ap count_of value ∙ first)
+    let same = beside_then m.output w.sets c.put_named.new.sets c.restart.new.self c.put_named.ensures.same (c.restart.ensures.same m.output) in
+    open_for x m w is.work is.machine c.restart.new.self same _ refl refl _ (root_depth x m c.args.outputs.now w c.args.tree.now is)
 
 pub returns-clause-work : goal.returns-clause-work
 returns-clause-work c = λ x is.
     let w = c.args.work.now in
-    let n = c.args.machine.now.depth in
-    let size = c.put_identity.ensures.size ∙ (c.put_named.ensures.set ∙ is.work.text_size) in
-    let named_count = c.put_named.auto.named ∙ (ap count_of c.as_mut_slice.ensures.value ∙ sym w.named.ok.0) in
-    let named = with_items_is w.named c.put_named.new.named named_count in
-    let first = c.put_named.auto.spare ∙ ap count_of c.as_mut_slice-2.ensures.value in
-    let value = c.as_mut_slice-3.ensures.value ∙ with_items_is w.spare c.put_named.new.spare (first ∙ sym w.spare.ok.0) in
-    let second : length c.put_on_root.new.spare ≡ length w.spare.items = c.put_on_root.auto.spare ∙ (ap count_of value ∙ first) in
-    let spare = with_items_is (with_items w.spare c.put_named.new.spare) c.put_on_root.new.spare (second ∙ sym w.spare.ok.0) in
-    let enough = is.work.spare.enough in
-    let few = is.work.few in
-    let all = ap count_of spare in
-    record {
-      text = is.work.text;
-      text_size = is.work.text_size;
-      set = c.put_on_root.ensures.size ∙ size;
-      named_count = ap count_of named ∙ (c.put_named.ensures.named.count ∙ ap (λ (v : RulesView). length v.sheet.named) is.machine.parts.are_rules.told);
-      named = subst (λ (l : List Matrix). All (λ (e : Matrix). e.size ≡ outputs x) l) (sym named) (λ k d l. c.put_named.ensures.named.sizes k d l ∙ is.work.text_size);
-      spare = record {
-        sizes = subst (λ (l : List Matrix). All (λ (e : Matrix). e.size ≡ outputs x) l) (sym spare) (λ k d l. c.put_on_root.ensures.spare k d l ∙ size);
-        enough = omega (arith, enough, second, all);
-      };
-      few = omega (arith, few, second, all);
-      known = is.work.known;
-    }
+    let put = c.put_named.ensures in
+    let outer = c.args.machine.now.output in
+    let same = beside_then outer w.sets c.put_named.new.sets c.put_on_root.new.sets put.same (beside_then outer c.put_named.new.sets c.restart.new.self c.put_on_root.new.sets (c.restart.ensures.same outer) c.put_on_root.ensures.same) in
+    work_filled x c.args.machine.now w is.work c.put_on_root.new.sets same c.put_named.new.named (c.put_named.auto.named ∙ ap count_of c.as_mut_slice.ensures.value) (λ k d l. put.named.sizes k d l ∙ is.work.text_size)
 
 pub returns-clause-pairs : goal.returns-clause-pairs
 returns-clause-pairs c = λ x is.
@@ -95,8 +74,8 @@ returns-clause-pairs c = λ x is.
     })
     (λ n. subst (λ (l : List Matrix). IsCalled x on_root down (called_from l) n) (sym value)
     (c.put_named.ensures.called x n (is_ground x m held w c.args.tree.now is _ refl refl c.bears.ensures c.outputs.ensures.value c.looks.ensures.value refl all refl refl refl refl))) in
-    root_put x m held w c.args.tree.now is all c.bears.result os vs c.bears.ensures c.outputs.ensures.value c.looks.ensures.value c.put_identity.new.out c.put_on_root.new.out
-    (c.put_identity.ensures.size ∙ (c.put_named.ensures.set ∙ is.work.text_size)) c.put_identity.ensures.pairs put
+    root_put x m held w c.args.tree.now is all c.bears.result os vs c.bears.ensures c.outputs.ensures.value c.looks.ensures.value c.restart.new.self.out c.put_on_root.new.sets.out
+    ((c.restart.ensures.same m.output).size ∙ (c.put_named.ensures.same.size ∙ is.work.open_size)) c.restart.ensures.out put
 
 pub put_named-requires-clause-order : goal.put_named-requires-clause-order
 put_named-requires-clause-order c =
@@ -114,28 +93,12 @@ put_named-requires-clause-named c =
       sizes = subst (λ (l : List Matrix). All (λ (e : Matrix). e.size ≡ n) l) (sym c.as_mut_slice.ensures.value) (λ k d l. is.work.named k d l ∙ sym is.work.text_size);
     }
 
-pub put_named-requires-clause-set : goal.put_named-requires-clause-set
-put_named-requires-clause-set c =
+pub put_named-requires-clause-sets : goal.put_named-requires-clause-sets
+put_named-requires-clause-sets c =
     let (x, is) = c.requires in
-    is.work.set ∙ sym is.work.text_size
-
-pub put_named-requires-clause-spare : goal.put_named-requires-clause-spare
-put_named-requires-clause-spare c =
-    let (x, is) = c.requires in
-    let names : (told c.args.machine.now.rules).sheet.named ≡ (sheet x).named = ap (λ (v : RulesView). v.sheet.named) is.machine.parts.are_rules.told in
-    let n = c.args.work.now.text.size in
+    let m = c.args.machine.now in
+    let w = c.args.work.now in
+    let names : (told m.rules).sheet.named ≡ (sheet x).named = ap (λ (v : RulesView). v.sheet.named) is.machine.parts.are_rules.told in
     let deep = ap deepest names in
     let depth = is.machine.depth in
-    let enough = is.work.spare.enough in
-    let count = ap count_of c.as_mut_slice-2.ensures.value in
-    record {
-      sizes = subst (λ (l : List Matrix). All (λ (e : Matrix). e.size ≡ n) l) (sym c.as_mut_slice-2.ensures.value) (λ k d l. is.work.spare.sizes k d l ∙ sym is.work.text_size);
-      enough = omega (arith, deep, depth, enough, count);
-    }
-
-pub put_named-requires-clause-few : goal.put_named-requires-clause-few
-put_named-requires-clause-few c =
-    let (x, is) = c.requires in
-    let few = is.work.few in
-    let count = ap count_of c.as_mut_slice-2.ensures.value in
-    omega (arith, few, count)
+    open_for x m w is.work is.machine w.sets (beside_self m.output w.sets) _ refl refl (deepest (told m.rules).sheet.named) (omega (arith, deep, depth))

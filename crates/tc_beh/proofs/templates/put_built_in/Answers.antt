@@ -23,22 +23,22 @@ put_selected-requires-in-Elem-clause-path c =
 pub returns-in-Text-clause-pairs : goal.returns-in-Text-clause-pairs
 returns-in-Text-clause-pairs c = λ x is.
     let p = c.args.place.now in
-    let new = c.put_text_if.new.out in
-    subst (λ k. Extends c.args.out.now new (body_pairs x (built_in_on k c.args.mode) k (below_of x p))) (sym (ap kind_of c.in-Text.is))
-    (put_done x c.args.out.now new (value_pairs x true) (c.put_text_if.ensures.size ∙ (c.requires.out ∙ is.size)) (c.put_text_if.ensures.pairs x is))
+    let new = c.put_text_if.new.sets.out in
+    subst (λ k. Extends c.args.sets.now.out new (body_pairs x (built_in_on k c.args.mode) k (below_of x p))) (sym (ap kind_of c.in-Text.is))
+    (put_done x c.args.sets.now.out new (value_pairs x true) (c.put_text_if.ensures.same.size ∙ (c.requires.sets.size ∙ is.size)) (c.put_text_if.ensures.pairs x is))
 
 pub returns-in-Root-clause-pairs : goal.returns-in-Root-clause-pairs
 returns-in-Root-clause-pairs c = λ x is.
     let p = c.args.place.now in
-    let new = c.put_selected.new.out in
-    subst (λ k. Extends c.args.out.now new (body_pairs x (built_in_on k c.args.mode) k (below_of x p))) (sym (ap kind_of c.in-Root.is))
-    (put_done x c.args.out.now new ((below_of x p).pairs c.args.mode all_children) (c.put_selected.ensures.size ∙ (c.requires.out ∙ is.size))
-    (subst (λ q. Extends c.args.out.now new ((below_of x p).pairs c.args.mode q)) c.all_children.ensures (c.put_selected.ensures.pairs x is)))
+    let new = c.put_selected.new.sets.out in
+    subst (λ k. Extends c.args.sets.now.out new (body_pairs x (built_in_on k c.args.mode) k (below_of x p))) (sym (ap kind_of c.in-Root.is))
+    (put_done x c.args.sets.now.out new ((below_of x p).pairs c.args.mode all_children) (c.put_selected.ensures.same.size ∙ (c.requires.sets.size ∙ is.size))
+    (subst (λ q. Extends c.args.sets.now.out new ((below_of x p).pairs c.args.mode q)) c.all_children.ensures (c.put_selected.ensures.pairs x is)))
 
 pub returns-in-Elem-clause-pairs : goal.returns-in-Elem-clause-pairs
 returns-in-Elem-clause-pairs c = λ x is.
     let p = c.args.place.now in
-    let new = c.put_selected-in-Elem.new.out in
-    subst (λ k. Extends c.args.out.now new (body_pairs x (built_in_on k c.args.mode) k (below_of x p))) (sym (ap kind_of c.in-Elem.is))
-    (put_done x c.args.out.now new ((below_of x p).pairs c.args.mode all_children) (c.put_selected-in-Elem.ensures.size ∙ (c.requires.out ∙ is.size))
-    (subst (λ q. Extends c.args.out.now new ((below_of x p).pairs c.args.mode q)) c.all_children-in-Elem.ensures (c.put_selected-in-Elem.ensures.pairs x is)))
+    let new = c.put_selected-in-Elem.new.sets.out in
+    subst (λ k. Extends c.args.sets.now.out new (body_pairs x (built_in_on k c.args.mode) k (below_of x p))) (sym (ap kind_of c.in-Elem.is))
+    (put_done x c.args.sets.now.out new ((below_of x p).pairs c.args.mode all_children) (c.put_selected-in-Elem.ensures.same.size ∙ (c.requires.sets.size ∙ is.size))
+    (subst (λ q. Extends c.args.sets.now.out new ((below_of x p).pairs c.args.mode q)) c.all_children-in-Elem.ensures (c.put_selected-in-Elem.ensures.pairs x is)))

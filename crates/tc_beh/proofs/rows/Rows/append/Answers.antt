@@ -5,6 +5,7 @@ use Rattle.tc_auto.specs.declared.auto.Auto.{Auto}
 use Rattle.tc_hedge.proofs.Bounds.{patterns_of}
 use Rattle.tc_beh.specs.Held.{Grows}
 use Rattle.tc_beh.specs.Rooms.{output_at}
+use Rattle.tc_beh.proofs.Nodes.{work_set}
 use Rattle.tc_beh.proofs.Holding.{extends_self, on_err}
 use Rattle.tc_beh.proofs.Appends.{is_live, isnt_live, appended, refused}
 use Rattle.tc_beh.proofs.WrapRows.{beside_then, rows_after}
@@ -132,12 +133,12 @@ returns-in_err-put_append-clause-partly c =
 pub returns-clause-rows : goal.returns-clause-rows
 returns-clause-rows c = λ x is.
     rows_after x c.args.self.now is c.put_append.new.outputs c.put_append.ensures.held (record c.args.self.now.work { set = c.put_append.new.set })
-    (record { text = is.work.text; text_size = is.work.text_size; set = c.put_append.ensures.set ∙ is.work.set; named_count = is.work.named_count; named = is.work.named; spare = is.work.spare; few = is.work.few; known = is.work.known }) _ refl refl refl
+    (work_set x c.args.self.now.machine.now c.args.self.now.work is.work c.put_append.new.set c.put_append.ensures.set) _ refl refl refl
 
 pub returns-in_err-put_append-clause-rows : goal.returns-in_err-put_append-clause-rows
 returns-in_err-put_append-clause-rows c = λ x is.
     rows_after x c.args.self.now is c.put_append.new.outputs c.put_append.ensures.held (record c.args.self.now.work { set = c.put_append.new.set })
-    (record { text = is.work.text; text_size = is.work.text_size; set = c.put_append.ensures.set ∙ is.work.set; named_count = is.work.named_count; named = is.work.named; spare = is.work.spare; few = is.work.few; known = is.work.known }) _ refl refl refl
+    (work_set x c.args.self.now.machine.now c.args.self.now.work is.work c.put_append.new.set c.put_append.ensures.set) _ refl refl refl
 
 pub returns-clause-room : goal.returns-clause-room
 returns-clause-room c = beside_then c.args.out.now.room c.put_kind.new.out c.put_append.new.out c.put_kind.ensures.beside c.put_append.ensures.beside

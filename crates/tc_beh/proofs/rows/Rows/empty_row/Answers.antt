@@ -6,6 +6,7 @@ use Rattle.tc_mat.specs.Held.{Held}
 use Rattle.tc_beh.specs.Held.{Grows}
 use Rattle.tc_beh.specs.Outs.{GrowsBy}
 use Rattle.tc_beh.specs.Rooms.{output_at}
+use Rattle.tc_beh.proofs.Nodes.{work_set}
 use Rattle.tc_beh.proofs.Together.{on_ok_both, on_ok_map, on_err_map}
 use Rattle.tc_beh.proofs.Emptied.{emptied, none_came, left_out_of_empty}
 use Rattle.tc_beh.proofs.rows.Rows.empty_row.Goals as goal
@@ -51,12 +52,11 @@ returns-clause-held c = c.put_empty.ensures.held
 
 pub returns-clause-rows : goal.returns-clause-rows
 returns-clause-rows c = λ x is.
-    let work = is.work in
     let put = c.put_empty.ensures in
     record {
       machine = is.machine;
       size = put.held.size ∙ is.size;
-      work = record { text = work.text; text_size = work.text_size; set = put.set ∙ work.set; named_count = work.named_count; named = work.named; spare = work.spare; few = work.few; known = work.known };
+      work = work_set x c.args.self.now.machine.now c.args.self.now.work is.work c.put_empty.new.set put.set;
     }
 
 pub returns-clause-grows : goal.returns-clause-grows

@@ -1,4 +1,4 @@
-use Rattle.std.proofs.Common.{◌≡◌, ◌∙◌, sym, ap, subst, arith, length}
+use Rattle.std.proofs.Common.{◌≡◌, ◌∙◌, sym, ap, subst, length}
 use Rattle.std.proofs.lemmas.List.{length-map}
 use Rattle.tc_model.specs.States.{output}
 use Rattle.tc_model.specs.Sheets.{Sheet}
@@ -19,16 +19,16 @@ returns c = λ x is.
     let sh = c.sheet.result.now in
     let same : see.sheet sh ≡ sheet x = sheet_is x m.rules sh is.parts.are_rules c.sheet.ensures in
     let named : length sh.named.now ≡ length (sheet x).named = sym (length-map sh.named.now (λ b. see.body b.now)) ∙ ap (λ (s : Sheet). length s.named) same in
-    let depth = is.shallow in
-    let count = c.in_ok-spare.ensures.count in
     record {
       text = c.text_into.ensures.pairs output x.output is.parts.states.auto;
       text_size = c.text_into.ensures.size ∙ (c.in_ok-text.ensures.size ∙ size);
       set = c.in_ok-set.ensures.size ∙ size;
       named_count = c.in_ok-named.ensures.count ∙ named;
       named = λ k d l. c.in_ok-named.ensures.sizes k d l ∙ size;
-      spare = record { sizes = λ k d l. c.in_ok-spare.ensures.sizes k d l ∙ size; enough = omega (arith, count) };
-      few = omega (arith, count, depth);
+      open_size = c.in_ok-sets.ensures.size ∙ (c.text_into.ensures.size ∙ (c.in_ok-text.ensures.size ∙ size));
+      open_room = c.in_ok-sets.ensures.room;
+      open_text = c.in_ok-sets.ensures.text;
+      remembers = c.in_ok-sets.ensures.remembers m.output;
       known = c.in_ok-known.ensures x.symbols x.rules;
     }
 
@@ -41,8 +41,8 @@ returns-in_err-set c = no_value c.from_residual-in_err-set.result _ _ c.from_res
 pub returns-in_err-named : goal.returns-in_err-named
 returns-in_err-named c = no_value c.from_residual-in_err-named.result _ _ c.from_residual-in_err-named.ensures.1
 
-pub returns-in_err-spare : goal.returns-in_err-spare
-returns-in_err-spare c = no_value c.from_residual-in_err-spare.result _ _ c.from_residual-in_err-spare.ensures.1
+pub returns-in_err-sets : goal.returns-in_err-sets
+returns-in_err-sets c = no_value c.from_residual-in_err-sets.result _ _ c.from_residual-in_err-sets.ensures.1
 
 pub returns-in_err-known : goal.returns-in_err-known
 returns-in_err-known c = no_value c.from_residual-in_err-known.result _ _ c.from_residual-in_err-known.ensures.1
