@@ -1,6 +1,7 @@
 #!/usr/bin/env python3
 """Tests of docs/definitions.py on small made-up files, and of docs/trust.py on the repository: `python3 docs/test_trust.py`."""
 import os
+import re
 import tempfile
 import unittest
 from pathlib import Path
@@ -200,6 +201,11 @@ class Repository(unittest.TestCase):
     def test_headline(self):
         self.assertLess({"tc_rows.Derivations.ArePlain", "tc_model.TreesApart.is_text"}, self.titles("headline"))
         self.assertFalse({"tc_rows.Derivations.HedgeFrom", "tc_rows.Derivations.AreExact"} & self.titles("headline"))
+
+    def test_the_pieces_of_safe_are_the_clause(self):
+        rows = re.findall(r"^\| `(.*?)` \| ", trust.PAGE.read_text().split("| `safe` | in words |")[1].split("\n\n")[0], re.M)
+        clause = re.search(r"    ensures safe \{(.*?)\}\n", Path(trust.CODE[0]).read_text(), re.S)[1]
+        self.assertEqual(" → ".join(rows), " ".join(clause.split()))
 
     def test_the_page_is_as_it_is_written(self):
         self.assertEqual(trust.page(trust.PAGE.read_text(), self.found), trust.PAGE.read_text())

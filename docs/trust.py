@@ -130,9 +130,7 @@ def table(head, rows):
 
 def first_table(safe):
     modules = by_module(safe)
-    named = {module: ", ".join(f"`{one.title}`" for one in modules[module] if one.kind != "module") for module in FIRST}
-    return table(["module", "what it says", "lines", "what `safe` rests on"], [
-        [f"[`{module.replace('.specs.', '.')}`](../{file_of(module)})", subject(module), line_count(modules[module]), named[module]] for module in FIRST])
+    return table(["module", "what it says", "lines"], [[f"[`{module.replace('.specs.', '.')}`](../{file_of(module)})", subject(module), line_count(modules[module])] for module in FIRST])
 
 
 def clause_table(found):
