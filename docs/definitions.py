@@ -1,4 +1,4 @@
-"""Reads definitions in `specs/`: which names each defines, on which lines, and which other definitions its words mean."""
+"""Reads definitions in `specs/`: which names each defines, on which lines, and which definitions its words mean."""
 import re
 from dataclasses import dataclass, field
 from functools import cache
@@ -7,7 +7,12 @@ from pathlib import Path
 CRATES = Path("crates")
 USE = re.compile(r"^(?:ghost |pub )?use Rattle\.([\w.]+?)(?: as (\w+)|\.\{(.*)\});?$", re.M)
 COMMENT = re.compile(r'("(?:[^"\\]|\\.)*")|(?<!\S)--.*')
-TOKEN = re.compile(r'"(?:[^"\\]|\\.)*"|(?<=[)}\]])(?:\.\w+)+|[^\s(){}.;,"]+(?:\.[^\s(){}.;,"]+)*|[(){};,.]')
+TOKEN = re.compile(
+    r"""(?P<quoted>"(?:[^"\\]|\\.)*")
+    |(?P<part>(?<=[)}\]])(?:\.\w+)+)
+    |(?P<word>[^\s(){}.;,"]+(?:\.[^\s(){}.;,"]+)*|[(){};,.])""",
+    re.VERBOSE,
+)
 BLOCK = re.compile(r"\s*(?:abbrev )?mutual$")
 PARAMETERS = re.compile(r"\s*module _ ")
 HEAD = re.compile(r"\s*((?:(?:unfoldable|abbrev|pub|data|record) )*)(\S+)")
@@ -31,13 +36,22 @@ class Definition:
         return self.lines[0][0]
 
 
+@dataclass(frozen=True)
+class Outside:
+    """A name of the standard library, or of the code: of a constant, of a type or of one of its variants."""
+
+    module: str
+    name: str
+
+
 def file_of(module):
     crate, _, name = module.partition(".specs.")
     return Path(CRATES, crate, "specs", name.replace(".", "/") + ".antt")
 
 
 def uses(text):
-    """What each word of a file means by its `use` lines: a module, or a module and a name of it. A part of an operator means the operator."""
+    """What each word of a file means by its `use` lines: a module, or a module and a name of it. A part of an operator
+    means the operator."""
     names = {}
     for module, alias, listed in USE.findall(text):
         for item in listed.split(", ") if listed else []:
@@ -51,7 +65,7 @@ def uses(text):
 
 def code_lines(text):
     """The lines that hold more than a comment, with their numbers, without comments."""
-    plain = [COMMENT.sub(lambda match: match[1] or "", line).rstrip() for line in text.split("\n")]
+    plain = (COMMENT.sub(lambda match: match[1] or "", line).rstrip() for line in text.split("\n"))
     return [(number, line) for number, line in enumerate(plain, 1) if line]
 
 
@@ -93,14 +107,14 @@ def definitions(module, lines, inside=()):
 def tree(lines):
     """The words of lines, brackets as lists that begin with the opening one."""
     stack = [[]]
-    for token in TOKEN.findall("\n".join(line for _, line in lines)):
+    for token in (match["word"] for match in TOKEN.finditer("\n".join(line for _, line in lines)) if match["word"]):
         if token in CLOSING:
             stack.append([token])
         elif token in CLOSING.values():
             inner = stack.pop()
             assert CLOSING[inner[0]] == token, lines
             stack[-1].append(inner)
-        elif not token.startswith('"') and not re.match(r"\.\w", token):
+        else:
             stack[-1].append(token)
     assert len(stack) == 1, lines
     return stack[0]
@@ -121,8 +135,12 @@ def split_once(parts, mark):
     return parts[:at], parts[at + 1:]
 
 
+def without_marks(parts):
+    return [part for part in parts if part not in MARKS]
+
+
 class Reader:
-    """Collects in `found` what the words of a definition mean, but for those that a binder binds where they stand."""
+    """Collects in `found` what words mean, but for those that a binder binds where they stand."""
 
     def __init__(self, scope):
         self.scope, self.found = scope, []
@@ -139,7 +157,7 @@ class Reader:
             if part == "λ":
                 binders, parts = split_once(parts, ".")
                 for binder in binders:
-                    bound |= self.bracket(binder, bound) if ":" in binder else self.pattern([binder], plain=isinstance(binder, str))
+                    bound |= self.binder(binder, bound)
             elif part == "let":
                 (name, *value), parts = split_once(parts, "in")
                 self.phrase(value, set(bound))
@@ -148,6 +166,12 @@ class Reader:
                 bound |= self.bracket(part, bound)
             else:
                 self.word(part, bound)
+
+    def binder(self, binder, bound):
+        """Reads one binder of a `λ`, and returns what it binds: a plain name itself, whatever it means elsewhere."""
+        if isinstance(binder, str):
+            return {binder}
+        return self.bracket(binder, bound) if ":" in binder else self.pattern(binder[1:])
 
     def bracket(self, part, bound):
         """Reads what stands in brackets, and returns what it binds behind them."""
@@ -166,8 +190,8 @@ class Reader:
                 self.phrase(one[label_ends:], set(bound))
         return set()
 
-    def pattern(self, parts, plain=False):
-        """Reads a pattern, and returns what it binds: all names but those of constructors; where it is a `plain` binder, those too."""
+    def pattern(self, parts):
+        """Reads a pattern, and returns what it binds: all names but those of constructors."""
         names = set()
         for part in parts:
             if isinstance(part, list):
@@ -175,7 +199,7 @@ class Reader:
                 names |= self.pattern(inner[inner.index("=") + 1 if "=" in inner else 0:])
             elif part in (",", ";", "_") or re.match(r"\d", part):
                 continue
-            elif not plain and self.scope.is_constructor(part):
+            elif self.scope.is_constructor(part):
                 self.word(part, set())
             else:
                 names.add(part)
@@ -186,7 +210,7 @@ class Reader:
         ends = [number for number, (_, line) in enumerate(lines) if line.strip() == "where"]
         local = items(lines[ends[0] + 1:]) if ends else []
         inner = bound | {HEAD.match(item[0][1])[2] for item in local}
-        parts = [part for part in tree(lines[:ends[0]] if ends else lines) if part not in MARKS][1:]
+        parts = without_marks(tree(lines[:ends[0]] if ends else lines))[1:]
         if "=" in parts and (":" not in parts or parts.index("=") < parts.index(":")):
             pattern, parts = split_once(parts, "=")
             self.phrase(parts, inner | self.pattern(pattern))
@@ -201,11 +225,11 @@ class Reader:
             self.phrase(tree(module.lines)[2:], bound)
         if definition.kind in ("data", "record"):
             head, body = head_and_body(definition.lines)
-            (_, *parameters), kind = split_once([part for part in tree(head) if part not in MARKS], ":")
+            (_, *parameters), kind = split_once(without_marks(tree(head)), ":")
             self.phrase(parameters, bound)
             self.phrase(kind, set(bound))
             for item in items(body):
-                names, kind = split_once([part for part in tree(item) if part != "pub"], ":")
+                names, kind = split_once(without_marks(tree(item)), ":")
                 self.phrase(kind, set(bound))
                 bound |= set(names) if definition.kind == "record" else set()
         elif definition.kind != "module":
@@ -214,7 +238,7 @@ class Reader:
 
 
 class Scope:
-    """The names that the `use` lines of a file bring in. Of a file of code, whose other names are the code's own."""
+    """What the words of a file mean by its `use` lines; all other words of a file of code are the code's own."""
 
     def __init__(self, text):
         self.text, self.uses = text, uses(text)
@@ -226,9 +250,9 @@ class Scope:
         return at and (at, name or rest.split(".")[0])
 
     def meaning(self, word):
-        """The definition that a word means, or the name of the library or of the code; nothing where it's a name of this file of code."""
+        """The definition, or what is outside, that a word means; nothing where it is the code's own."""
         at, name = self.imported(word) or (None, None)
-        return at and (module_of(at).meaning(name) if file_of(at).exists() else f"{at}.{name}")
+        return at and (module_of(at).meaning(name) if file_of(at).exists() else Outside(at, name))
 
     def is_constructor(self, word):
         at, name = self.imported(word) or (None, None)
@@ -282,7 +306,7 @@ def cited_by_clause(clause, scope):
 
 
 def reach(words):
-    """All definitions, and names of the library and of the code, on which these rest, in the order in which they are met."""
+    """All definitions, and all outside, on which these rest, in the order in which they are met."""
     seen, left = {}, list(words)[::-1]
     while left:
         one = left.pop()

@@ -1,5 +1,5 @@
 #!/usr/bin/env python3
-"""Tests of docs/definitions.py on small made-up files, and of docs/trust.py on the repository: `python3 docs/test_trust.py`."""
+"""Tests of docs/definitions.py on small made-up files, and of docs/trust.py on the repository."""
 import os
 import re
 import tempfile
@@ -116,9 +116,9 @@ class MadeUp(unittest.TestCase):
             self.addCleanup(cached.cache_clear)
 
     def rests_on(self, module, word):
-        """The titles of the definitions that a word rests on, without its own, and the names of library and code."""
+        """The titles of the definitions on which a word rests, but for its own, and the names of library and code."""
         found = definitions.reach([definitions.module_of(module).meaning(word)])[1:]
-        return {one.title if isinstance(one, definitions.Definition) else one.split(".")[-1] for one in found}
+        return {one.title if isinstance(one, definitions.Definition) else one.name for one in found}
 
     def lines(self, module, word):
         return len(definitions.module_of(module).meaning(word).lines)
@@ -185,13 +185,13 @@ class Repository(unittest.TestCase):
         cls.found = trust.clauses()
 
     def titles(self, clause):
-        return {f"{one.module.replace('.specs.', '.')}.{one.title}" for one in self.found[clause] if isinstance(one, definitions.Definition)}
+        return {f"{one.module.replace('.specs.', '.')}.{one.title}" for one in self.found[clause].definitions}
 
     def test_every_definition_is_read(self):
         for file in Path("crates").glob("*/specs/**/*.antt"):
             if file.name != "Lib.antt":
-                module = definitions.module_of(".".join([file.parts[1], *file.with_suffix("").parts[2:]]))
-                for definition in module.definitions:
+                name = ".".join([file.parts[1], *file.with_suffix("").parts[2:]])
+                for definition in definitions.module_of(name).definitions:
                     definitions.cited(definition)
 
     def test_safe(self):
@@ -203,9 +203,9 @@ class Repository(unittest.TestCase):
         self.assertFalse({"tc_rows.Derivations.HedgeFrom", "tc_rows.Derivations.AreExact"} & self.titles("headline"))
 
     def test_the_pieces_of_safe_are_the_clause(self):
-        rows = re.findall(r"^\| `(.*?)` \| ", trust.PAGE.read_text().split("| `safe` | in words |")[1].split("\n\n")[0], re.M)
+        rows = trust.PAGE.read_text().split("| `safe` | in words |")[1].split("\n\n")[0]
         clause = re.search(r"    ensures safe \{(.*?)\}\n", Path(trust.CODE[0]).read_text(), re.S)[1]
-        self.assertEqual(" → ".join(rows), " ".join(clause.split()))
+        self.assertEqual(" → ".join(re.findall(r"^\| `(.*?)` \| ", rows, re.M)), " ".join(clause.split()))
 
     def test_the_page_is_as_it_is_written(self):
         self.assertEqual(trust.page(trust.PAGE.read_text(), self.found), trust.PAGE.read_text())

@@ -1,20 +1,69 @@
 #!/usr/bin/env python3
-"""Tells on which definitions a clause of the theorem rests. Run it at the top: `docs/trust.py CLAUSE` prints them in their reading order, each
-with its file, its line and its number of lines; `docs/trust.py CLAUSE text` prints what they say too; and `docs/trust.py` alone writes the tables
-of docs/TRUST.md and the sums in README.md. docs/definitions.py reads the definitions."""
+"""Tells on which definitions a clause of the theorem rests. Run it at the top.
+
+trust.py CLAUSE        prints them in their reading order, each with its file, its line and its number of lines
+trust.py CLAUSE text   prints what they say, too
+trust.py               writes the tables of docs/TRUST.md and the sums in README.md
+
+docs/definitions.py reads the definitions.
+"""
 import re
 import sys
 from pathlib import Path
 
-from definitions import Definition, Scope, cited_by_clause, file_of, module_of, reach
+from definitions import Definition, Outside, Scope, cited_by_clause, file_of, module_of, reach
 
 CODE = ("crates/tc_top/src/lib.rt", "crates/tc_top/src/program.rt", "crates/tc_top/src/laws.rt")
 PAGE, README = Path("docs/TRUST.md"), Path("README.md")
 FUNCTION = re.compile(r"^pub fn (\w+).*?\n\{", re.M | re.S)
 CLAUSE = re.compile(r"    ensures (\w*) ?\{(.*?)\}\n", re.S)
-CONSTANT = re.compile(r"(\w+)\.specs\.declared\.([\w.]+)\.TheConstants\.(\w+)")
-FIRST = [f"tc_model.specs.{name}" for name in "Safety Validity Matching Grammars Trees Names Sheets Chains Paths Outcomes Meaning".split()]
-FIRST.insert(0, "tc_top.specs.Headline")
+MODEL = "Safety Validity Matching Grammars Trees Names Sheets Chains Paths Outcomes Meaning"
+FIRST = ["tc_top.specs.Headline", *(f"tc_model.specs.{name}" for name in MODEL.split())]
+
+
+class Reached:
+    """All on which a clause rests."""
+
+    def __init__(self, words):
+        found = reach(words)
+        outside = [one for one in found if isinstance(one, Outside)]
+        self.definitions = [one for one in found if isinstance(one, Definition)]
+        self.constants = sorted(map(constant, (one for one in outside if one.module.endswith(".TheConstants"))))
+        self.types = sorted({type_of(one) for one in outside if ".declared." in one.module} - {None})
+        self.library = sorted({one.name for one in outside if ".declared." not in one.module})
+
+    def modules(self):
+        """The modules in the order in which they are met."""
+        return list(dict.fromkeys(one.module for one in self.definitions))
+
+    def within(self, module):
+        return sorted((one for one in self.definitions if one.module == module), key=lambda one: one.place)
+
+    def count(self):
+        """How many definitions there are; a constant is one."""
+        return sum(one.kind != "module" for one in self.definitions) + len(self.constants)
+
+    def lines(self):
+        """How many lines they have, and the parameters of their modules; a constant has one."""
+        return line_count(self.definitions) + len(self.constants)
+
+
+def constant(outside):
+    """The file, the line and the name of a constant of the code."""
+    crate, _, rest = outside.module.partition(".specs.declared.")
+    file = Path("crates", crate, "src", rest.removesuffix(".TheConstants").replace(".", "/") + ".rt")
+    lines = enumerate(file.read_text().split("\n"), 1)
+    return file, next(number for number, line in lines if line.startswith(f"pub const {outside.name}:")), outside.name
+
+
+def type_of(outside):
+    """The type of the code that a name means, or whose variant it is."""
+    name = outside.module.removesuffix(".TheVariants").replace(".specs.declared.", ".")
+    return None if name.endswith(".TheConstants") else name
+
+
+def line_count(definitions):
+    return sum(len(one.lines) for one in definitions)
 
 
 def clauses():
@@ -24,45 +73,8 @@ def clauses():
         for function in FUNCTION.finditer(text):
             for clause, body in CLAUSE.findall(function[0]):
                 name = ".".join(filter(None, (function[1], clause))).removeprefix("typecheck.")
-                found[name] = reach(cited_by_clause(body, Scope(text)))
+                found[name] = Reached(cited_by_clause(body, Scope(text)))
     return found
-
-
-def by_module(reached):
-    """The definitions that are reached, in the order of their lines, by module."""
-    found = {}
-    for definition in reached:
-        if isinstance(definition, Definition):
-            found.setdefault(definition.module, []).append(definition)
-    return {module: sorted(listed, key=lambda definition: definition.place) for module, listed in found.items()}
-
-
-def line_count(listed):
-    return sum(len(definition.lines) for definition in listed)
-
-
-def constants(reached):
-    """The constants of the code that are reached: file, line and name of each."""
-    found = []
-    for crate, module, name in sorted(match.groups() for match in map(CONSTANT.match, filter(lambda one: isinstance(one, str), reached)) if match):
-        file = Path("crates", crate, "src", module.replace(".", "/") + ".rt")
-        line = next(number for number, text in enumerate(file.read_text().split("\n"), 1) if re.match(rf"pub const {name}\b", text))
-        found.append((file, line, name))
-    return found
-
-
-def outside(reached):
-    """The names of the standard library, and of types of the code, that are reached."""
-    names = {one for one in reached if isinstance(one, str) and not CONSTANT.match(one)}
-    types = {name for name in names if ".declared." in name}
-    library = {name.split(".specs.")[1].rpartition(".")[2] for name in names - types}
-    return sorted(library), sorted({re.sub(r"(\.TheVariants)?\.\w+$", "", name).replace(".specs.declared", "") for name in types})
-
-
-def size(reached):
-    """How many definitions, and how many lines they and the parameters of their modules have; a constant is a definition of one line."""
-    listed, numbers = [one for one in reached if isinstance(one, Definition)], len(constants(reached))
-    return sum(one.kind != "module" for one in listed) + numbers, line_count(listed) + numbers
 
 
 def in_order(modules):
@@ -84,9 +96,14 @@ def in_order(modules):
 
 def reading_order(found):
     """The one reading order of all modules, in three parts."""
-    texts = [module for module in by_module(found["safe"]) if module not in FIRST]
-    others = [module for module in by_module(sum(found.values(), [])) if module not in [*FIRST, *texts]]
-    return {"Read these first": FIRST, "What texts and words mean": in_order(texts), "What clauses other than `safe` add": in_order(others)}
+    texts = [module for module in found["safe"].modules() if module not in FIRST]
+    whole = dict.fromkeys(module for reached in found.values() for module in reached.modules())
+    others = [module for module in whole if module not in [*FIRST, *texts]]
+    return {
+        "Read these first": FIRST,
+        "What texts and words mean": in_order(texts),
+        "What clauses other than `safe` add": in_order(others),
+    }
 
 
 def subject(module):
@@ -105,49 +122,57 @@ def written(definition):
     return "\n".join(lines[first - 1:last])
 
 
-def print_clause(clause, reached, order, whole):
-    print(f"{clause}: {size(reached)[0]} definitions, {size(reached)[1]} lines")
-    modules = by_module(reached)
-    for part, listed in order.items():
-        here = [module for module in listed if module in modules]
-        print(f"\n# {part}" if here else "")
+def print_module(module, definitions, with_texts):
+    print(f"\n{subject(module)} ({line_count(definitions)})")
+    for one in definitions:
+        print(f"{file_of(module)}:{one.place}: {one.title}, {len(one.lines)}")
+        if with_texts:
+            print(f"\n{written(one)}\n")
+
+
+def print_clause(clause, reached, order, with_texts):
+    print(f"{clause}: {reached.count()} definitions, {reached.lines()} lines")
+    for part, modules in order.items():
+        here = [module for module in modules if module in reached.modules()]
+        if here:
+            print(f"\n# {part}")
         for module in here:
-            print(f"\n{subject(module)} ({line_count(modules[module])})")
-            for definition in modules[module]:
-                print(f"{file_of(module)}:{definition.place}: {definition.title}, {len(definition.lines)}")
-                print(f"\n{written(definition)}\n" if whole else "", end="")
-    library, types = outside(reached)
+            print_module(module, reached.within(module), with_texts)
     print("\n# Taken from the code and from the standard library\n")
-    print(*(f"{file}:{line}: {name}, 1" for file, line, name in constants(reached)), sep="\n")
-    print(f"types of the code: {' '.join(types)}\nwords of the library: {' '.join(library)}")
+    for file, line, name in reached.constants:
+        print(f"{file}:{line}: {name}, 1")
+    print("types of the code:", *reached.types)
+    print("words of the library:", *reached.library)
 
 
 def table(head, rows):
     """A table, whose columns of numbers stand to the right."""
-    marks = ["---:" if all(isinstance(row[column], int) for row in rows) else "---" for column in range(len(head))]
-    return "\n".join("| " + " | ".join(map(str, row)) + " |" for row in [head, marks, *rows])
+    marks = ["---:" if isinstance(cell, int) else "---" for cell in rows[0]]
+    return "".join("| " + " | ".join(map(str, row)) + " |\n" for row in [head, marks, *rows])
 
 
 def first_table(safe):
-    modules = by_module(safe)
-    return table(["module", "what it says", "lines"], [[f"[`{module.replace('.specs.', '.')}`](../{file_of(module)})", subject(module), line_count(modules[module])] for module in FIRST])
+    links = {module: f"[`{module.replace('.specs.', '.')}`](../{file_of(module)})" for module in FIRST}
+    rows = [[links[module], subject(module), line_count(safe.within(module))] for module in FIRST]
+    return table(["module", "what it says", "lines"], rows)
 
 
 def clause_table(found):
-    return table(["clause", "modules", "definitions", "lines"], [[f"`{name}`", len(by_module(reached)), *size(reached)] for name, reached in found.items()])
+    rows = [[f"`{name}`", len(one.modules()), one.count(), one.lines()] for name, one in found.items()]
+    return table(["clause", "modules", "definitions", "lines"], rows)
 
 
 def page(text, found):
-    """The page with its tables as they are now: each stands behind a comment that names it, up to the next empty line."""
-    for name, lines in (("first", first_table(found["safe"])), ("clauses", clause_table(found))):
-        text = re.sub(rf"(<!-- {name} -->\n\n)(?:\|.*\n)*", lambda match: match[1] + lines + "\n", text)
+    """The page with its tables as they are now: each stands behind a comment that names it."""
+    for name, rows in (("first", first_table(found["safe"])), ("clauses", clause_table(found))):
+        text = re.sub(rf"(<!-- {name} -->\n\n)(?:\|.*\n)*", lambda match: match[1] + rows, text)
     return text
 
 
 def readme(text, found):
     """README with its sums as they are now: modules and lines behind the name of a clause."""
-    for name, reached in found.items():
-        text = re.sub(rf"(`{name}` )\d+, \d+", rf"\g<1>{len(by_module(reached))}, {size(reached)[1]}", text)
+    for name, one in found.items():
+        text = re.sub(rf"(`{name}` )\d+, \d+", rf"\g<1>{len(one.modules())}, {one.lines()}", text)
     return text
 
 
