@@ -1,0 +1,119 @@
+#!/usr/bin/env python3
+"""Tries the program with texts at random: grown from the grammars, and real ones changed, each judged by another command.
+
+  fuzz.py [--from N] [--share P] [--keep FOLDER] [--texts FOLDER] PROGRAM SEED COUNT [KIND..]
+
+COUNT cases of each kind (all kinds): document, schema, declarations, sheet, certificate, triple, include. The same seed
+gives the same cases, from number N (1) on. Of each call it is asked that its status and lines are those of README and
+PROFILE, that it ends within 10 seconds and 1 GB on a stack of 8 MB, and that the same comes again; and
+
+- documents: read where `xmllint` and expat read them, to the tree of expat, and as `valid --stream` says;
+- schemas and declarations: `valid` as the plain states of verifier/ say, as `jing` or `xmllint --dtdvalid`, in pieces too;
+- stylesheets: the result of `xsltproc`;
+- triples: what `check` shows is valid, and its output is that of `run` and isn't valid; what it says is safe has a
+  certificate that `verify` accepts, and grown documents have valid results;
+- `include` and `same`: the documents shown, and grown ones, by `valid`; each by the other;
+- certificates, changed: `verify` and `upgrade` as verifier/ says.
+
+P is the share (0.05) of schemas that `jing` tries and of safe triples from which 200 documents are grown and not 4. Each
+difference is printed with its smallest texts, which are put into the folder. It wants the Debian packages jing,
+libxml2-utils and xsltproc.
+"""
+import os
+import random
+import resource
+import sys
+import tempfile
+import time
+from argparse import ArgumentParser
+from pathlib import Path
+
+TOP = Path(__file__).resolve().parent.parent
+sys.path[:0] = [str(TOP / "bench" / "fuzzing"), str(TOP / "bench" / "verifier")]
+
+from calls import STACK, Caller  # noqa: E402
+from cases import KINDS, Cases, real_texts  # noqa: E402
+from judge import Judges  # noqa: E402
+from shrink import shrunk  # noqa: E402
+
+SHOWN = 3
+
+
+class Campaign:
+    """Tries cases, and keeps what differs."""
+
+    def __init__(self, words, caller, cases, judges):
+        self.words, self.caller, self.cases, self.judges = words, caller, cases, judges
+        self.found = {}
+
+    def judged(self, kind, texts):
+        try:
+            return self.judges.judge(kind, texts)
+        except RecursionError:
+            return None
+
+    def attempt(self, kind, number):
+        """Tries one case, and tells what differs."""
+        texts = self.cases.make(kind, random.Random(f"{self.words.seed} {kind} {number}"))
+        differs = self.judged(kind, texts)
+        if differs is None:
+            return
+        self.found.setdefault((kind, differs), []).append(number)
+        if len(self.found[kind, differs]) > SHOWN:
+            return
+        print(f"{kind} {number}: {differs}", flush=True)
+        self.caller.every = 1
+        smallest = shrunk(texts, lambda other: self.judged(kind, other) == differs)
+        self.caller.every = 4
+        folder = self.words.keep / f"{kind}-{self.words.seed}-{number}"
+        folder.mkdir(parents=True, exist_ok=True)
+        (folder / "differs").write_text(differs + "\n")
+        for name, text in smallest.items():
+            (folder / name).write_bytes(text)
+            print(f"  {name}: {text[:600]!r}", flush=True)
+
+    def run(self, kind):
+        begun, calls = time.monotonic(), self.caller.calls
+        for number in range(self.words.first, self.words.first + self.words.count):
+            self.attempt(kind, number)
+        taken = time.monotonic() - begun
+        print(f"{kind}: {self.words.count} cases, {self.caller.calls - calls} calls, {taken:.0f} s", flush=True)
+
+    def summary(self):
+        for what, count in self.judges.told.items():
+            print(f"{count:9} {what}")
+        for (kind, differs), numbers in self.found.items():
+            print(f"DIFFERENCE, {len(numbers)} times, {kind}: {differs} ({', '.join(map(str, numbers[:5]))})")
+        return 1 if self.found else 0
+
+
+def read_words():
+    parser = ArgumentParser()
+    parser.add_argument("--from", dest="first", type=int, default=1)
+    parser.add_argument("--share", type=float, default=0.05)
+    parser.add_argument("--keep", type=Path, default=None)
+    parser.add_argument("--texts", type=Path, action="append", default=[])
+    parser.add_argument("program", type=Path)
+    parser.add_argument("seed")
+    parser.add_argument("count", type=int)
+    parser.add_argument("kinds", nargs="*", default=KINDS)
+    return parser.parse_args()
+
+
+def main():
+    words = read_words()
+    sys.setrecursionlimit(20000)
+    resource.setrlimit(resource.RLIMIT_STACK, (STACK, resource.RLIM_INFINITY))
+    work = Path(tempfile.mkdtemp(dir="/dev/shm" if os.access("/dev/shm", os.W_OK) else None))
+    words.keep = (words.keep or work / "differences").resolve()
+    caller = Caller(str(words.program.resolve()))
+    folders = [folder.resolve() for folder in words.texts]
+    os.chdir(work)
+    campaign = Campaign(words, caller, Cases(caller, real_texts(TOP, folders)), Judges(caller, words.share))
+    print(f"seed {words.seed}, cases {words.first} to {words.first + words.count - 1}, in {work}", flush=True)
+    for kind in words.kinds or KINDS:
+        campaign.run(kind)
+    sys.exit(campaign.summary())
+
+
+main()

@@ -1,0 +1,193 @@
+"""Calls of a program, each within bounds of time and memory, and the form that its answers have.
+
+The bounds are those of README and PROFILE: a text of some 100 kB takes at most 10 seconds and 1 GB.
+"""
+import os
+import re
+import signal
+from typing import NamedTuple
+
+SECONDS = 10
+PATIENCE = 300
+KILOBYTES = 1 << 20
+STACK = 8 << 20
+
+LIMITS = {
+    "file": "67108864", "pattern": "65536", "depth": "2000", "elements": "256", "states": "(512|256)", "symbols": "1024",
+    "predicates": "6", "ancestors": "64", "selects": "4096", "calls": "8000", "entries": "8192", "trees": "[0-9]+",
+    "hedges": "[0-9]+", "outputs": "65536", "counterexample": "2000", "certificate": "67108864", "tag": "65536",
+    "names": "65536", "work": "4000000", "open": "8000",
+}  # fmt: skip
+OF_SCHEMA = ["pattern", "depth", "elements", "states", "symbols"]
+OF_SHEET = ["symbols", "predicates", "ancestors", "selects"]
+OF_ALL = [*OF_SCHEMA, *OF_SHEET, "calls", "entries"]
+ROWS = ["trees", "hedges", "outputs", "counterexample"]
+LIMITS_OF = {
+    "check": [*OF_ALL, *ROWS],
+    "prove": [*OF_ALL, *ROWS, "certificate"],
+    "verify": OF_ALL,
+    "upgrade": ["certificate"],
+    "run": [*OF_SHEET, "work", "open"],
+    "valid": [*OF_SCHEMA, "tag", "names"],
+    "include": [*OF_SCHEMA, "trees", "hedges", "counterexample"],
+    "same": [*OF_SCHEMA, "trees", "hedges", "counterexample"],
+}
+DOCUMENT = ["doctype-subset", "entity", "encoding", "xml-space", "xml-version"]
+SCHEMA = (
+    "data value list external include grammar parent inherit annotation escape triple-quote concatenation"
+).split()
+DECLARATIONS = ["parameter-entity", "conditional-section", "qualified-name", "encoding", "xml-version"]
+SHEET = (
+    "variable param with-param import xsl-include sort number key message comment processing-instruction apply-imports "
+    "attribute-set namespace-alias decimal-format fallback preserve-space extension simplified disable-output-escaping "
+    "computed-name copy-of use-attribute-sets version unknown-xslt axis dot absolute function comparison arithmetic predicate "
+    "attribute variable-reference string"
+).split()
+# The reasons for which an operand of a kind is refused.
+REASONS = {
+    "document": ["malformed", "too-deep", *(f"unsupported {word}" for word in DOCUMENT)],
+    "schema": ["malformed", "too-deep", "twice", "undefined", "loop", "bad-except", "bad-start", *(f"unsupported {word}" for word in SCHEMA)],
+    "declarations": ["malformed", "too-deep", "twice", *(f"unsupported {word}" for word in DECLARATIONS)],
+    "sheet": ["malformed", "too-deep", "undefined", "call-loop", *(f"unsupported {word}" for word in DOCUMENT + SHEET)],
+}
+# The kinds of the operands of each command.
+OPERANDS = {
+    "check": ["schema", "schema", "sheet"],
+    "prove": ["schema", "schema", "sheet"],
+    "verify": ["schema", "schema", "sheet", None],
+    "upgrade": [None],
+    "run": ["sheet", "document"],
+    "valid": ["schema", "document"],
+    "include": ["schema", "schema"],
+    "same": ["schema", "schema"],
+}
+UNSAFE = rb"unsafe\ndocument [^\n]*\n(output [^\n]*|output-too-large)\n"
+CERTIFICATE = rb"xslt-typecheck certificate 2\n.*\nend\n"
+REJECTED = rb"rejected [0-9]+ (form|fit|empty|text|append [0-9]+|wrap [^\n]*|root)\n"
+ANSWERS = {
+    "check": [rb"safe trees [0-9]+ hedges [0-9]+ outputs [0-9]+\n", UNSAFE],
+    "prove": [CERTIFICATE, UNSAFE],
+    "verify": [rb"accepted\n", REJECTED],
+    "upgrade": [CERTIFICATE, REJECTED],
+    "run": [rb".*\n", rb"(?!)"],
+    "valid": [rb"valid\n", rb"invalid\n"],
+    "include": [rb"included trees [0-9]+ hedges [0-9]+\n", rb"not-included\ndocument [^\n]*\n"],
+    "same": [rb"same\n", rb"different\n(first|second)-only [^\n]*\n"],
+}
+
+
+class Answer(NamedTuple):
+    """The status of a call, negative where a signal ended it and None where it was stopped, what it wrote to both outputs, its
+    kilobytes, and its seconds on a processor."""
+
+    status: int
+    told: bytes
+    complaint: bytes
+    kilobytes: int
+    seconds: float
+
+
+class TookLong(Exception):
+    pass
+
+
+def stop(*_):
+    raise TookLong
+
+
+def within(seconds, work):
+    """What a function gives, or `TookLong`."""
+    signal.setitimer(signal.ITIMER_REAL, seconds)
+    try:
+        return work()
+    finally:
+        signal.setitimer(signal.ITIMER_REAL, 0)
+
+
+class Caller:
+    """Calls a program in the current directory, which it fills with files; each so many answers are asked for twice."""
+
+    def __init__(self, program):
+        self.program = program
+        self.calls = self.answers = 0
+        self.every = 4
+        self.sizes = {}
+        signal.signal(signal.SIGALRM, stop)
+
+    def put(self, name, text):
+        """Makes a file."""
+        with open(name, "wb") as file:
+            file.write(text)
+        self.sizes[name] = len(text)
+
+    def call(self, *words, program=None, settings=()):
+        """What a program answers to words."""
+        self.calls += 1
+        program = program or self.program
+        actions = [
+            (os.POSIX_SPAWN_OPEN, 0, "/dev/null", os.O_RDONLY, 0),
+            (os.POSIX_SPAWN_OPEN, 1, "told", os.O_WRONLY | os.O_CREAT | os.O_TRUNC, 0o600),
+            (os.POSIX_SPAWN_OPEN, 2, "complaint", os.O_WRONLY | os.O_CREAT | os.O_TRUNC, 0o600),
+        ]
+        child = os.posix_spawn(program, [program, *words], {**os.environ, **dict(settings)}, file_actions=actions)
+        try:
+            _, status, usage = within(PATIENCE, lambda: os.wait4(child, 0))
+            ended = os.waitstatus_to_exitcode(status)
+        except TookLong:
+            os.kill(child, signal.SIGKILL)
+            _, _, usage = os.wait4(child, 0)
+            ended = None
+        return Answer(ended, contents("told"), contents("complaint"), usage.ru_maxrss, usage.ru_utime + usage.ru_stime)
+
+    def answer(self, *words):
+        """An answer, and what is wrong with it, or None: its form, its bounds, or, of each fourth one, that another one comes
+        the second time, when the memory that is given out is filled with another byte."""
+        found = self.call(*words)
+        wrong = self.wrong(found, words)
+        self.answers += 1
+        if wrong is None and self.answers % self.every == 0:
+            again = self.call(*words, settings=[("MALLOC_PERTURB_", "165")])
+            if again[:3] != found[:3]:
+                wrong = f"{words[0]} answers otherwise the second time"
+        return found, wrong
+
+    def wrong(self, answer, words):
+        """What is wrong with the form of an answer, or with its bounds, or None."""
+        command, status, told = words[0], answer.status, answer.told
+        if status is None or answer.seconds > SECONDS:
+            return f"{command} takes over {SECONDS} seconds"
+        if status < 0:
+            return f"{command} is ended by signal {-status}"
+        if answer.complaint:
+            return f"{command} writes to the standard error"
+        if answer.kilobytes > KILOBYTES or status == 7:
+            return f"{command} takes over 1 GB"
+        if status in (0, 1):
+            fits = re.fullmatch(ANSWERS[command][status], told, re.DOTALL if told.startswith(b"xslt-typecheck") or command == "run" else 0)
+            return None if fits else f"{command} has no line of status {status}"
+        if status == 3:
+            return self.wrong_refusal(command, words, told)
+        if status == 4:
+            limits = "|".join(f"{kind} {LIMITS[kind]}" for kind in LIMITS_OF[command])
+            return None if re.fullmatch(f"limit ({limits})\n", told.decode()) else f"{command} tells no limit of its own"
+        return f"{command} has status {status}"
+
+    def wrong_refusal(self, command, words, told):
+        """What is wrong with the line of a refusal, or None."""
+        match = re.fullmatch(r"refused (\S+) (.+) at ([0-9]+)\n", told.decode("utf-8", "replace"))
+        operands = words[-len(OPERANDS[command]) :]
+        if match is None or match.group(1) not in operands:
+            return f"{command} has no line of status 3"
+        name, reason, place = match.groups()
+        kinds = [kind for kind, word in zip(OPERANDS[command], operands) if word == name and kind]
+        kinds = ["declarations" if kind == "schema" and name.startswith("dtd:") else kind for kind in kinds]
+        if not any(reason in REASONS[kind] for kind in kinds):
+            return f"{command} refuses a {kinds[:1]} as {reason}"
+        if int(place) > self.sizes[name.rpartition(":")[2]]:
+            return f"{command} refuses at a place behind the end"
+        return None
+
+
+def contents(name):
+    with open(name, "rb") as file:
+        return file.read()
