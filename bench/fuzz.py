@@ -16,7 +16,7 @@ PROFILE, that it ends within 10 seconds and 1 GB on a stack of 8 MB, and that th
 - certificates, changed: `verify` and `upgrade` as verifier/ says.
 
 P is the share (0.05) of schemas that `jing` tries and of safe triples from which 200 documents are grown and not 4. Each
-difference is printed with its smallest texts, which are put into the folder. It wants the Debian packages jing,
+difference is printed with its smallest texts, which are put into the folder (differences). It wants the Debian packages jing,
 libxml2-utils and xsltproc.
 """
 import os
@@ -91,7 +91,7 @@ def read_words():
     parser = ArgumentParser()
     parser.add_argument("--from", dest="first", type=int, default=1)
     parser.add_argument("--share", type=float, default=0.05)
-    parser.add_argument("--keep", type=Path, default=None)
+    parser.add_argument("--keep", type=Path, default=Path("differences"))
     parser.add_argument("--texts", type=Path, action="append", default=[])
     parser.add_argument("program", type=Path)
     parser.add_argument("seed")
@@ -104,15 +104,15 @@ def main():
     words = read_words()
     sys.setrecursionlimit(20000)
     resource.setrlimit(resource.RLIMIT_STACK, (STACK, resource.RLIM_INFINITY))
-    work = Path(tempfile.mkdtemp(dir="/dev/shm" if os.access("/dev/shm", os.W_OK) else None))
-    words.keep = (words.keep or work / "differences").resolve()
+    words.keep = words.keep.resolve()
     caller = Caller(str(words.program.resolve()))
     folders = [folder.resolve() for folder in words.texts]
-    os.chdir(work)
-    campaign = Campaign(words, caller, Cases(caller, real_texts(TOP, folders)), Judges(caller, words.share))
-    print(f"seed {words.seed}, cases {words.first} to {words.first + words.count - 1}, in {work}", flush=True)
-    for kind in words.kinds or KINDS:
-        campaign.run(kind)
+    with tempfile.TemporaryDirectory(dir="/dev/shm" if os.access("/dev/shm", os.W_OK) else None) as work:
+        os.chdir(work)
+        campaign = Campaign(words, caller, Cases(caller, real_texts(TOP, folders)), Judges(caller, words.share))
+        print(f"seed {words.seed}, cases {words.first} to {words.first + words.count - 1}", flush=True)
+        for kind in words.kinds:
+            campaign.run(kind)
     sys.exit(campaign.summary())
 
 
