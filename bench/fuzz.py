@@ -1,7 +1,7 @@
 #!/usr/bin/env python3
 """Tries the program with texts at random: grown from the grammars, and real ones changed, each judged by another command.
 
-  fuzz.py [--from N] [--share P] [--keep FOLDER] [--texts FOLDER] PROGRAM SEED COUNT [KIND..]
+  fuzz.py [--from N] [--share P] [--keep FOLDER] [--triples FOLDER] PROGRAM SEED COUNT [KIND..]
 
 COUNT cases of each kind (all kinds): document, schema, declarations, sheet, certificate, triple, include. The same seed
 gives the same cases, from number N (1) on. Of each call it is asked that its status and lines are those of README and
@@ -15,9 +15,9 @@ PROFILE, that it ends within 10 seconds and 1 GB on a stack of 8 MB, and that th
 - `include` and `same`: the documents shown, and grown ones, by `valid`; each by the other;
 - certificates, changed: `verify` and `upgrade` as verifier/ says.
 
-P is the share (0.05) of schemas that `jing` tries and of safe triples from which 200 documents are grown and not 4. Each
-difference is printed with its smallest texts, which are put into the folder (differences). It wants the Debian packages jing,
-libxml2-utils and xsltproc.
+A folder of --triples has files I, O and S of a further one. P is the share (0.05) of schemas that `jing` tries and of safe
+triples from which 200 documents are grown and not 4. Each difference is printed with its smallest texts, which are put into
+the folder of --keep (differences). It wants the Debian packages jing, libxml2-utils and xsltproc.
 """
 import os
 import random
@@ -32,7 +32,7 @@ TOP = Path(__file__).resolve().parent.parent
 sys.path[:0] = [str(TOP / "bench" / "fuzzing"), str(TOP / "bench" / "verifier")]
 
 from calls import STACK, Caller  # noqa: E402
-from cases import KINDS, Cases, real_texts  # noqa: E402
+from cases import KINDS, Cases  # noqa: E402
 from judge import Judges  # noqa: E402
 from shrink import shrunk  # noqa: E402
 
@@ -92,7 +92,7 @@ def read_words():
     parser.add_argument("--from", dest="first", type=int, default=1)
     parser.add_argument("--share", type=float, default=0.05)
     parser.add_argument("--keep", type=Path, default=Path("differences"))
-    parser.add_argument("--texts", type=Path, action="append", default=[])
+    parser.add_argument("--triples", type=Path, action="append", default=[])
     parser.add_argument("program", type=Path)
     parser.add_argument("seed")
     parser.add_argument("count", type=int)
@@ -106,10 +106,10 @@ def main():
     resource.setrlimit(resource.RLIMIT_STACK, (STACK, resource.RLIM_INFINITY))
     words.keep = words.keep.resolve()
     caller = Caller(str(words.program.resolve()))
-    folders = [folder.resolve() for folder in words.texts]
+    folders = [folder.resolve() for folder in words.triples]
     with tempfile.TemporaryDirectory(dir="/dev/shm" if os.access("/dev/shm", os.W_OK) else None) as work:
         os.chdir(work)
-        campaign = Campaign(words, caller, Cases(caller, real_texts(TOP, folders)), Judges(caller, words.share))
+        campaign = Campaign(words, caller, Cases(caller, TOP, folders), Judges(caller, words.share))
         print(f"seed {words.seed}, cases {words.first} to {words.first + words.count - 1}", flush=True)
         for kind in words.kinds:
             campaign.run(kind)

@@ -12,29 +12,38 @@ FAMILIES = ["report 3 2 2", "above 2 1 1", "copies 4", "dense 3 5", "wide 2 1 4"
 KINDS = ["document", "schema", "declarations", "sheet", "certificate", "triple", "include"]
 
 
-def real_texts(top, folders):
-    """The real texts, by their suffixes: those of examples/ and bench/, of small triples, and of further folders."""
-    files = [file for folder in ("examples/first", "examples/article", "bench", *folders) for file in sorted((top / folder).iterdir())]
-    found = {suffix: [file.read_bytes() for file in files if file.suffix == suffix] for suffix in (".rnc", ".dtd", ".xml", ".xsl", ".cert")}
+def triple_in(folder):
+    return tuple((folder / name).read_bytes() for name in "IOS")
+
+
+def real_triples(top, folders):
+    """Small triples of each family of make_triple.py, the article's, and those of further folders with files I, O and S."""
     for family in FAMILIES:
         name, *numbers = family.split(" ")
         subprocess.run([sys.executable, top / "bench" / "make_triple.py", name, "made", *numbers], check=True, stdout=subprocess.DEVNULL)
-        for file, suffix in (("I", ".rnc"), ("O", ".rnc"), ("S", ".xsl")):
-            found[suffix].append(Path("made", file).read_bytes())
+        yield triple_in(Path("made"))
+    article = top / "examples" / "article"
+    for sheet in ("page.xsl", "mended.xsl"):
+        yield tuple((article / name).read_bytes() for name in ("article.rnc", "page.rnc", sheet))
+    yield from map(triple_in, folders)
+
+
+def real_texts(top, triples):
+    """The real texts, by their suffixes: those of examples/ and bench/, and of triples."""
+    files = [file for folder in ("examples/first", "examples/article", "bench") for file in sorted((top / folder).iterdir())]
+    found = {suffix: [file.read_bytes() for file in files if file.suffix == suffix] for suffix in (".rnc", ".dtd", ".xml", ".xsl", ".cert")}
+    for source, target, sheet in triples:
+        found[".rnc"] += [source, target]
+        found[".xsl"].append(sheet)
     return found
-
-
-def triples_of(real):
-    """The real triples: those of make_triple.py, and the article's."""
-    schemas, sheets = real[".rnc"][-2 * len(FAMILIES) :], real[".xsl"][-len(FAMILIES) :]
-    return [(schemas[2 * place], schemas[2 * place + 1], sheet) for place, sheet in enumerate(sheets)]
 
 
 class Cases:
     """Makes the texts of cases."""
 
-    def __init__(self, caller, real):
-        self.caller, self.real, self.triples = caller, real, triples_of(real)
+    def __init__(self, caller, top, folders):
+        self.caller, self.triples = caller, list(real_triples(top, folders))
+        self.real = real_texts(top, self.triples)
 
     def make(self, kind, chance):
         return getattr(self, kind)(Grower(chance))

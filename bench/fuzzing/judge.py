@@ -143,7 +143,7 @@ class Judges:
         if re.search(rb"<[^>]*=", texts["D"]) or b"<!DOCTYPE" in texts["D"] or b"<!ATTLIST" in texts["T"] or b"\n" in texts["D"]:
             return None
         lint = self.caller.call("--noout", "--nonet", "--dtdvalid", "T", "D", program="/usr/bin/xmllint")
-        unread = rb"T:[0-9]+: |Could not parse|Could not build|not deterministic|already defined|Redefinition|parser error|declaration of"
+        unread = rb"T:[0-9]+: |Could not parse|Could not build|not determinist|already defined|Redefinition|parser error|declaration of"
         if lint.status not in (0, 3) or re.search(unread, lint.complaint):
             return None
         root = documents.tree_of(texts["D"])[0]
