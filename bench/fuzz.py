@@ -36,7 +36,7 @@ from cases import KINDS, Cases  # noqa: E402
 from judge import Judges  # noqa: E402
 from shrink import shrunk  # noqa: E402
 
-SHOWN = 3
+SHOWN = 2
 
 
 class Campaign:

@@ -4,7 +4,8 @@
 # `valid --stream 7` for two documents of 14,000 bytes, 2,000 nested elements and one tag of spaces, which has to ask as often
 # for both, since what a stream takes doesn't depend on its document. Then the commands with files of 64 MB under `ulimit -v`.
 # It prints a line for each; where one is otherwise it tells so, and the status is 1. It wants cc, python3 and the C library of
-# GNU, to which the program is linked as it starts. Word: `requests`, `stream` or `bounds` for one part alone.
+# GNU, to which the program is linked as it starts. Word: `requests`, `stream` or `bounds` for one
+# part alone; behind `requests` a part of the names of calls, for these alone.
 set -eu
 shopt -s extglob
 . "$(dirname "$0")/program.sh"
@@ -127,6 +128,7 @@ each_kind() {
   local name status line words
   python3 "$top/bench/make_answers.py" >calls
   while IFS=$'\t' read -r name status line words; do
+    [[ $name == *$1* ]] || continue
     # shellcheck disable=SC2086
     refuse_each "$name" "$status" "$line" $words
   done <calls
@@ -218,7 +220,7 @@ P
 
 for part in ${1:-requests stream bounds}; do
   case $part in
-    requests) each_kind ;;
+    requests) each_kind "${2:-}" ;;
     stream) in_pieces ;;
     bounds) large_files ;;
     *) echo "no part $part"; exit 2 ;;

@@ -258,7 +258,7 @@ class SheetGrower(PathGrower):
             templates.append(f'<xsl:template match="/"><r>{self.body(2, names)}<xsl:apply-templates/></r></xsl:template>')
         self.chance.shuffle(templates)
         if self.likely(0.1):
-            templates.insert(0, self.one('<xsl:output method="xml"/>', '<xsl:strip-space elements="*"/>', "<p:top>x</p:top>", "<!-- c -->"))
+            templates.insert(0, self.one('<xsl:output indent="no"/>', '<xsl:strip-space elements="*"/>', "<p:top>x</p:top>", "<!-- c -->"))
         if self.faulty():
             templates.append(self.one(*REFUSED_TOPS))
         word = self.one("stylesheet", "stylesheet", "transform")

@@ -158,7 +158,7 @@ class Judges:
     def transformed(self, texts, answer):
         """`run` by `xsltproc`, of a document without attributes, comments and texts of white space."""
         tree = documents.plainly(lambda: documents.tree_of(texts["D"]))
-        if tree is None:
+        if tree is None or b"method" in texts["S"]:
             return None
         self.caller.put("plain.xml", documents.printed(tree).encode())
         other = self.caller.call("--nonet", "--maxdepth", "10000", "S", "plain.xml", program="/usr/bin/xsltproc")

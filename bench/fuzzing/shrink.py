@@ -1,26 +1,24 @@
 """The smallest texts found that still show a difference."""
 
 
-def without(text, size):
-    """The text without each run of so many bytes in turn, the last ones first."""
-    for begin in range((len(text) - 1) // size * size, -1, -size):
-        yield text[:begin] + text[begin + size :]
+def sizes(text):
+    """The sizes of what is cut out of a text: its own, a half of it, and so on down to one byte."""
+    size = len(text)
+    while size:
+        yield size
+        size //= 2
 
 
-def shrunk(texts, differs, tries=400):
+def shrunk(texts, differs, tries=300):
     """Texts by their names, each cut down as long as `differs` holds of them; it is asked so many times at most."""
     texts = dict(texts)
-    size = max((len(text) for text in texts.values()), default=0)
-    while size and tries:
-        smaller = False
-        for name in texts:
-            for text in list(without(texts[name], size)) if size <= len(texts[name]) else []:
+    for name in sorted(texts, key=lambda name: -len(texts[name])):
+        for size in sizes(texts[name]):
+            for begin in range((len(texts[name]) - 1) // size * size, -1, -size):
+                smaller = {**texts, name: texts[name][:begin] + texts[name][begin + size :]}
                 if not tries:
-                    break
+                    return texts
                 tries -= 1
-                if len(text) < len(texts[name]) and differs({**texts, name: text}):
-                    texts[name], smaller = text, True
-                    break
-        if not smaller:
-            size //= 2
+                if smaller[name] != texts[name] and differs(smaller):
+                    texts = smaller
     return texts
