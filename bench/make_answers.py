@@ -210,19 +210,23 @@ def schema_limits(calls, o, s, d):
         calls.limit(f"{command}: states 256", "states 256", command, calls.file(SOURCE), output, s)
 
 
+def moves(count):
+    """So many selects of nine states."""
+    return "".join(f'<xsl:apply-templates select="a/a/a/a/a/a/a/a/a" mode="m{number}"/>' for number in range(count))
+
+
 def sheet_limits(calls, i, o, d):
     """The limits of stylesheets."""
     chain = "".join(named(number, f"<a>{call(number + 1)}</a>") for number in range(4100)) + named(4100, "")
-    moves = "".join(f'<xsl:apply-templates select="a/a/a/a/a/a/a/a/a" mode="m{number}"/>' for number in range(460))
     sheets = {
         "symbols 1024": sheet("".join(rule(name, "<r/>") for name in names(1025))),
         "predicates 6": sheet("".join(rule(f"a[{name}]", "<r/>") for name in names(7))),
         "ancestors 64": sheet("".join(rule(f"{name}/y", "<r/>") for name in names(70))),
-        "selects 4096": sheet(rule("a", moves)),
+        "selects 4096": sheet(rule("a", moves(460))),
     }
     of_check = {
         "calls 8000": sheet(rule("/", call(0)) + chain),
-        "entries 8192": sheet("".join(rule(f"{name}/y", "<r/>") for name in names(60)) + rule("a", moves[: moves.index("<", 1500)])),
+        "entries 8192": sheet("".join(rule(f"{name}/y", "<r/>") for name in names(9)) + rule("a", moves(115))),
     }
     for told, text in {**sheets, **of_check}.items():
         file = calls.file(text)
