@@ -4,8 +4,9 @@
   fuzz.py [--from N] [--share P] [--keep FOLDER] [--triples FOLDER] PROGRAM SEED COUNT [KIND..]
 
 COUNT cases of each kind (all kinds): document, schema, declarations, sheet, certificate, triple, include. The same seed
-gives the same cases, from number N (1) on. Of each call it is asked that its status and lines are those of README and
-PROFILE, that it ends within 10 seconds and 1 GB on a stack of 8 MB, and that the same comes again; and
+gives the same cases, from number N (1) on; a run that is ended by SIGINT or SIGTERM tells what it tried. Of each call it is
+asked that its status and lines are those of README and PROFILE, that it ends within 10 seconds and 1 GB on a stack of 8 MB,
+and that the same comes again; and
 
 - documents: read where `xmllint` and expat read them, to the tree of expat, and as `valid --stream` says;
 - schemas and declarations: `valid` as the plain states of verifier/ say, as `jing` or `xmllint --dtdvalid`, in pieces too;
@@ -22,6 +23,7 @@ the folder of --keep (differences). It wants the Debian packages jing, libxml2-u
 import os
 import random
 import resource
+import signal
 import sys
 import tempfile
 import time
@@ -76,6 +78,7 @@ class Campaign:
         begun, calls = time.monotonic(), self.caller.calls
         for number in range(self.words.first, self.words.first + self.words.count):
             self.attempt(kind, number)
+            self.judges.count(f"cases of the kind {kind}")
         taken = time.monotonic() - begun
         print(f"{kind}: {self.words.count} cases, {self.caller.calls - calls} calls, {taken:.0f} s", flush=True)
 
@@ -103,6 +106,7 @@ def read_words():
 def main():
     words = read_words()
     sys.setrecursionlimit(20000)
+    signal.signal(signal.SIGTERM, signal.default_int_handler)
     resource.setrlimit(resource.RLIMIT_STACK, (STACK, resource.RLIM_INFINITY))
     words.keep = words.keep.resolve()
     caller = Caller(str(words.program.resolve()))
@@ -111,8 +115,11 @@ def main():
         os.chdir(work)
         campaign = Campaign(words, caller, Cases(caller, TOP, folders), Judges(caller, words.share))
         print(f"seed {words.seed}, cases {words.first} to {words.first + words.count - 1}", flush=True)
-        for kind in words.kinds:
-            campaign.run(kind)
+        try:
+            for kind in words.kinds:
+                campaign.run(kind)
+        except KeyboardInterrupt:
+            print("ended from outside")
     sys.exit(campaign.summary())
 
 
