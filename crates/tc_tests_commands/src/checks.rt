@@ -488,8 +488,43 @@ fn shown_levels(alloc: Global) -> Result<String, Fail> {
     )
 }
 
+/// Copies around a test in 2,000 parentheses, as deep as elements of a stylesheet may stand.
+static DEEP: [Case<'static>; 1] = [Case {
+    what: "1,996 copies around a test in 2,000 parentheses",
+    words: PLAIN,
+    files: &[
+        ("I", &[Once("element a{element d{empty}}")]),
+        ("O", R),
+        (
+            "S",
+            &[
+                FRONT,
+                Once("<xsl:template match=\"a\">"),
+                Times("<xsl:copy>", 1_996),
+                Once("<xsl:if test=\""),
+                Times("c or d and not(", 2_000),
+                Once("d"),
+                Times(")", 2_000),
+                Once("\"><x/></xsl:if>"),
+                Times("</xsl:copy>", 1_996),
+                Once("</xsl:template>"),
+                BACK,
+            ],
+        ),
+    ],
+    status: Status::No,
+    text: &[
+        Once("unsafe\ndocument <a><d/></a>\noutput "),
+        Times("<a>", 1_996),
+        Once("<x/>"),
+        Times("</a>", 1_996),
+        Once("\n"),
+    ],
+}];
+
 #[test]
 fn counterexamples_are_shown(rt: HostRuntime) -> Result<(), Fail> {
+    assert_cases(&rt, rt.alloc(), &DEEP)?;
     let text = shown_levels(rt.alloc())?;
     assert!(rt; case_writes(rt.alloc(), &LEVELS, text.as_str())?);
     Ok(())

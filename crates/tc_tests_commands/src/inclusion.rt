@@ -1,8 +1,8 @@
 // Tests of `include` and `same`.
 use crate::commands::Part::{Each, Once, Times};
 use crate::commands::{
-    OF_ELEVEN_LEVELS, OF_TEN_LEVELS, Text, command_answers, joined, status_of, store_of,
-    ten_levels, text_of, written,
+    Case, OF_ELEVEN_LEVELS, OF_TEN_LEVELS, Text, assert_cases, command_answers, joined, status_of,
+    store_of, ten_levels, text_of, written,
 };
 use std::alloc::Global;
 use std::process::Abort;
@@ -530,8 +530,39 @@ fn nodes_rows_states_elements_and_symbols_are_limited(rt: HostRuntime) -> Result
     assert_large(&rt, rt.alloc(), &SCHEMAS)
 }
 
+/// Elements within one another, and those of them whose number isn't a multiple of 3, of 5, of 7 or of 19.
+static DEEP: [Case<'static>; 1] = [Case {
+    what: "a document of 1,995 elements within one another",
+    words: INCLUDE,
+    files: &[
+        ("A", &[Once("start = e e = element a{e?}")]),
+        (
+            "B",
+            &[
+                Once("start = p1|q1|r1|s1"),
+                Each("\np# = element a{p~?}", 1, 2),
+                Each("\nq# = element a{q~?}", 1, 4),
+                Each("\nr# = element a{r~?}", 1, 6),
+                Each("\ns# = element a{s~?}", 1, 18),
+                Once(
+                    "\np3 = element a{p1} q5 = element a{q1} r7 = element a{r1} s19 = element a{s1}",
+                ),
+            ],
+        ),
+    ],
+    status: Status::No,
+    text: &[
+        Once("not-included\ndocument "),
+        Times("<a>", 1_994),
+        Once("<a/>"),
+        Times("</a>", 1_994),
+        Once("\n"),
+    ],
+}];
+
 #[test]
 fn a_document_of_many_nodes_is_shown(rt: HostRuntime) -> Result<(), Fail> {
+    assert_cases(&rt, rt.alloc(), &DEEP)?;
     let schema = text_of(rt.alloc(), OF_TEN_LEVELS)?;
     let document = ten_levels(rt.alloc())?;
     let nothing = "start = notAllowed";

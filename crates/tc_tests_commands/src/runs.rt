@@ -469,8 +469,109 @@ static OPEN: [Case<'static>; 5] = [
     },
 ];
 
+const D_IN_A: Text<'static> = &[Once("<a><d/></a>")];
+
+/// Tests, predicates and instructions as deep as they may stand, which are asked and run, and a result whose every level has
+/// texts that are joined.
+static DEEP: [Case<'static>; 4] = [
+    Case {
+        what: "a test in 2,000 parentheses holds",
+        words: RUN,
+        files: &[
+            (
+                "S",
+                &[
+                    FRONT,
+                    Once("<xsl:template match='a'><xsl:if test='"),
+                    Times("c or d and not(", 2_000),
+                    Once("d"),
+                    Times(")", 2_000),
+                    Once("'><x/></xsl:if></xsl:template>"),
+                    BACK,
+                ],
+            ),
+            ("D", D_IN_A),
+        ],
+        status: Status::Yes,
+        text: &[Once("<x/>\n")],
+    },
+    Case {
+        what: "a predicate in 1,999 parentheses holds",
+        words: RUN,
+        files: &[
+            (
+                "S",
+                &[
+                    FRONT,
+                    Once("<xsl:template match='a["),
+                    Times("c or d and not(", 1_999),
+                    Once("c"),
+                    Times(")", 1_999),
+                    Once("]'><x/></xsl:template>"),
+                    BACK,
+                ],
+            ),
+            ("D", D_IN_A),
+        ],
+        status: Status::Yes,
+        text: &[Once("<x/>\n")],
+    },
+    Case {
+        what: "1,996 copies around such a test",
+        words: RUN,
+        files: &[
+            (
+                "S",
+                &[
+                    FRONT,
+                    Once("<xsl:template match='a'>"),
+                    Times("<xsl:copy>", 1_996),
+                    Once("<xsl:if test='"),
+                    Times("c or d and not(", 2_000),
+                    Once("d"),
+                    Times(")", 2_000),
+                    Once("'><x/></xsl:if>"),
+                    Times("</xsl:copy>", 1_996),
+                    Once("</xsl:template>"),
+                    BACK,
+                ],
+            ),
+            ("D", D_IN_A),
+        ],
+        status: Status::Yes,
+        text: &[
+            Times("<a>", 1_996),
+            Once("<x/>"),
+            Times("</a>", 1_996),
+            Once("\n"),
+        ],
+    },
+    Case {
+        what: "many elements of a result are open, each with texts that are joined",
+        words: RUN,
+        files: &[
+            (
+                "S",
+                &[
+                    FRONT,
+                    Once("<xsl:template match='a'>"),
+                    Times("<x>s<xsl:text>t</xsl:text>", 1_990),
+                    Once("<xsl:apply-templates/>"),
+                    Times("</x>", 1_990),
+                    Once("</xsl:template>"),
+                    BACK,
+                ],
+            ),
+            ("D", &[Times("<a>", 4), Times("</a>", 4)]),
+        ],
+        status: Status::Yes,
+        text: &[Times("<x>st", 7_960), Times("</x>", 7_960), Once("\n")],
+    },
+];
+
 #[test]
 fn work_and_open_bodies_and_elements_are_limited(rt: HostRuntime) -> Result<(), Fail> {
     assert_cases(&rt, rt.alloc(), &WORK)?;
-    assert_cases(&rt, rt.alloc(), &OPEN)
+    assert_cases(&rt, rt.alloc(), &OPEN)?;
+    assert_cases(&rt, rt.alloc(), &DEEP)
 }

@@ -213,7 +213,112 @@ static LIMITS: [Made<'static>; 10] = [
     ),
 ];
 
+const A: Text<'static> = &[Once("<a/>")];
+
+/// Schemas whose braces and parentheses stand as deep as they may, and once more.
+static DEEP: [Made<'static>; 8] = [
+    // elements with a connector and a suffix at each
+    (
+        WHOLE,
+        &[
+            Once("start = element a{"),
+            Times("empty,element a{", 1_999),
+            Once("empty"),
+            Times("}?", 1_999),
+            Once("}"),
+        ],
+        A,
+        "limit elements 256\n",
+    ),
+    // parentheses of patterns, whose depth is told before they are made
+    (
+        WHOLE,
+        &[
+            Once("start = element a{"),
+            Times("(empty,", 1_999),
+            Once("text"),
+            Times(")", 1_999),
+            Once("}"),
+        ],
+        A,
+        "valid\n",
+    ),
+    (
+        WHOLE,
+        &[
+            Once("start = element a{"),
+            Times("(empty,", 2_000),
+            Once("text"),
+            Times(")", 2_000),
+            Once("}"),
+        ],
+        A,
+        "refused O too-deep at 14011\n",
+    ),
+    (
+        WHOLE,
+        &[
+            Once("start = element a{"),
+            Times("(empty,", 1_999),
+            Once("text"),
+            Times(")?", 1_999),
+            Once("}"),
+        ],
+        A,
+        "limit depth 2000\n",
+    ),
+    // choices below the start
+    (
+        WHOLE,
+        &[
+            Once("start = "),
+            Times("(notAllowed|", 1_999),
+            Once("element a{empty}"),
+            Times(")", 1_999),
+        ],
+        A,
+        "valid\n",
+    ),
+    // parentheses of a name class
+    (
+        WHOLE,
+        &[
+            Once("start = element "),
+            Times("(b|", 2_000),
+            Once("a"),
+            Times(")", 2_000),
+            Once("{empty}"),
+        ],
+        A,
+        "valid\n",
+    ),
+    (
+        WHOLE,
+        &[
+            Once("start = element "),
+            Times("(b|", 2_001),
+            Once("a"),
+            Times(")", 2_001),
+            Once("{empty}"),
+        ],
+        A,
+        "refused O too-deep at 6016\n",
+    ),
+    // definitions in repetitions
+    (
+        WHOLE,
+        &[
+            Once("start = element a{a0}"),
+            Each("\na# = a~+", 0, 1_998),
+            Once("\na1999 = text"),
+        ],
+        A,
+        "valid\n",
+    ),
+];
+
 #[test]
 fn depth_states_nodes_and_symbols_are_limited(rt: HostRuntime) -> Result<(), Fail> {
-    assert_made(&rt, rt.alloc(), &LIMITS)
+    assert_made(&rt, rt.alloc(), &LIMITS)?;
+    assert_made(&rt, rt.alloc(), &DEEP)
 }

@@ -1,0 +1,208 @@
+#!/usr/bin/env bash
+# Runs the program on the texts of make_hostile.py, under limits on memory, stack (8 MB) and time: each row's words, the bytes
+# of its files, the status and the first line of the answer, the seconds and the peak memory. Files of at most 100,000 bytes may
+# take 10 seconds and 1 GB, others 60 seconds and 40 times their bytes, but 1 GB in any case. It fails where a call ends by a
+# signal, is stopped, or answers otherwise than stands here, which is derived from the definitions. Words: the number by which the
+# seconds are multiplied (1), and what the words of a row have to hold, if not all rows are meant. With the word `stack` in place
+# of both, the smallest stack that each of the deepest texts takes. It wants python3, the Debian package time, and some 3 GB.
+set -eu
+. "$(dirname "$0")/program.sh"
+times=${1:-1}
+only=${2:-}
+files=$work/files
+failed=0
+
+# The files of some words of make_hostile.py.
+make() {
+  local words
+  read -ra words <<<"$1"
+  rm -rf "$files"
+  python3 "$top/bench/make_hostile.py" "$files" "${words[@]}"
+}
+
+# The program on these files within so many seconds and kilobytes of memory and stack: what it writes, the seconds and the memory.
+run() {
+  local seconds=$1 memory=$2 stack=$3
+  shift 3
+  (
+    cd "$files"
+    ulimit -v "$memory"
+    ulimit -s "$stack"
+    exec /usr/bin/time -q -o "$work/taken" -f '%e %M' timeout "$seconds" "$program" "$@"
+  ) >"$work/answer" 2>"$work/errors"
+}
+
+# A row: what the status and the first line have to match at their front, the words of the texts, and those of the program.
+row() {
+  local expected=$1 words=$2 status=0 bytes seconds=10 memory=1000000 answer verdict=
+  shift 2
+  [[ "$words $*" == *"$only"* ]] || return 0
+  make "$words"
+  bytes=$(cat "$files"/* | wc -c)
+  if ((bytes > 100000)); then
+    seconds=60
+    memory=$((bytes / 25 > memory ? bytes / 25 : memory))
+  fi
+  run "$((seconds * times))" "$memory" 8192 "$@" || status=$?
+  answer="$status $(head -c 60 "$work/answer" | head -1)"
+  [[ "$answer" =~ ^($expected) ]] || verdict="  NOT: $expected"
+  printf '%-30s %-22s %9d  %-62s %s\n' "$words" "$*" "$bytes" "$answer" "$(tail -1 "$work/taken")$verdict"
+  [ -z "$verdict" ] || failed=1
+}
+
+# The smallest stack, in kilobytes, with which the program answers and ends by no signal.
+stack() {
+  local words=$1 least=16 most=65536 middle status
+  shift
+  make "$words"
+  while ((most - least > 16)); do
+    middle=$(((least + most) / 2))
+    status=0
+    run 600 8000000 "$middle" "$@" || status=$?
+    if ((status < 120)); then most=$middle; else least=$middle; fi
+  done
+  printf '%-30s %-22s %6d kB\n' "$words" "$*" "$most"
+}
+
+if [ "$times" = stack ]; then
+  stack 'elements 2000' valid I D
+  stack 'elements 2000' run S D
+  stack 'groups 2000' valid I D
+  stack 'suffixed 1999' valid I D
+  stack 'empties 1999' valid I D
+  stack 'starts 1999' valid I D
+  stack 'classes 2000' valid I D
+  stack 'excepts 100000' valid I D
+  stack 'balanced 1998' valid I D
+  stack 'divisions 1999' valid I D
+  stack 'particles 2000' valid dtd:a:T D
+  stack 'tests 2000' run S D
+  stack 'predicate 2000' run S D
+  stack 'nested 1 1999' run S D
+  stack 'copies 1995 2000' run S D
+  stack 'copies 1995 2000' check I O S
+  stack 'branches 498 2000' check I O S
+  stack 'open 5 1597' run S D
+  stack 'applies 1999 2' run S D
+  stack 'levels 1 1999' run S D
+  stack 'repeated_definitions 1999' valid I D
+  stack 'residues 3 5 7 19' check I O S
+  stack 'residues 3 5 7 19' include I A
+  exit
+fi
+
+# What stands within one another, as deep as may be, and once more.
+row '0 valid' 'elements 2000' valid I D
+row '0 valid' 'elements 2000' valid --stream 7 I D
+row '0 <a><a>' 'elements 2000' run S D
+row '3 refused D too-deep at 6000' 'elements 2001' valid I D
+row '3 refused D too-deep at 6000' 'elements 2001' valid --stream 7 I D
+row '3 refused D too-deep at 6000' 'elements 2001' run S D
+row '4 limit elements 256' 'braces 2000' valid I D
+row '3 refused I too-deep at 20017' 'braces 2001' valid I D
+row '4 limit elements 256' 'groups 2000' valid I D
+row '3 refused I too-deep at 32017' 'groups 2001' valid I D
+row '0 valid' 'pluses 1999' valid I D
+row '3 refused I too-deep at 2017' 'pluses 2000' valid I D
+row '0 valid' 'empties 1999' valid I D
+row '3 refused I too-deep at 14011' 'empties 2000' valid I D
+row '0 valid' 'suffixed 999' valid I D
+row '4 limit depth 2000' 'suffixed 1000' valid I D
+row '4 limit depth 2000' 'suffixed 1999' valid I D
+row '3 refused I too-deep at 14011' 'suffixed 2000' valid I D
+row '0 valid' 'starts 1999' valid I D
+row '3 refused I too-deep at 24017' 'starts 2000' valid I D
+row '0 valid' 'classes 2000' valid I D
+row '3 refused I too-deep at 6016' 'classes 2001' valid I D
+row '3 refused I bad-except at 10' 'excepts 20000' valid I D
+row '3 refused I bad-except at 10' 'excepts 3000000' valid I D
+row '0 valid' 'excepts_attribute 3000000' valid I D
+row '0 valid' 'divisions 1999' valid I D
+row '3 refused I too-deep at 8018' 'divisions 2000' valid I D
+row '3 refused I too-deep at 8003' 'divisions 2001' valid I D
+row '0 valid' 'balanced 1998' valid I D
+row '3 refused I too-deep at 2028' 'balanced 1999' valid I D
+row '0 valid' 'particles 999' valid dtd:a:T D
+row '4 limit depth 2000' 'particles 1000' valid dtd:a:T D
+row '4 limit depth 2000' 'particles 2000' valid dtd:a:T D
+row '3 refused dtd:a:T too-deep at 8012' 'particles 2001' valid dtd:a:T D
+row '0 <x/>' 'tests 2000' run S D
+row '3 refused S too-deep at 111' 'tests 2001' run S D
+row '0 <x/>' 'predicate 2000' run S D
+row '3 refused S too-deep at 93' 'predicate 2001' run S D
+row '0 $' 'brackets 6' run S D
+row '4 limit predicates 6' 'brackets 2000' run S D
+row '3 refused S too-deep at 124' 'brackets 2001' run S D
+row '0 <r><a><a>' 'copies 1995 2000' run S D
+row '0 safe ' 'copies 1995 2000' check I O S
+row '3 refused S too-deep at 52083' 'copies 1996 2000' run S D
+row '0 <r><x><x>' 'branches 498 2000' run S D
+row '0 safe ' 'branches 498 2000' check I O S
+row '3 refused S too-deep at ' 'branches 499 2000' run S D
+row '0 <b>st<b>st' 'open 5 1597' run S D
+row '4 limit open 8000' 'open 5 1598' run S D
+row '0 <a><a>' 'applies 1999 2' run S D
+row '4 limit open 8000' 'applies 2000 2' run S D
+row '1 unsafe' 'residues 3 5 7 19' check I O S
+row '1 unsafe' 'residues 3 5 7 19' prove I O S
+row '1 not-included' 'residues 3 5 7 19' include I A
+
+# What is long, in rows.
+row '0 valid' 'definitions 100000' valid I D
+row '0 valid' 'repeated_definitions 1999' valid I D
+row '4 limit depth 2000' 'repeated_definitions 2000' valid I D
+row '4 limit pattern 65536' 'repeated_definitions 100000' valid I D
+row '0 <r/>' 'calls 3999' run S D
+row '4 limit open 8000' 'calls 4000' run S D
+row '4 limit open 8000' 'calls 100000' run S D
+row '4 limit calls 8000' 'calls 100000' check I O S
+row '4 limit selects 4096' 'modes 100000' run S D
+row '4 limit work 4000000' 'twice 23 0' run S D
+row '4 limit predicates 6' 'nested 1 1999' run S D
+row '4 limit predicates 6' 'nested 16 1999' run S D
+row '4 limit selects 4096' 'selects 100000' run S D
+row '0 <y/>' 'alternatives 20000 900' run S D
+row '4 limit ancestors 64' 'pairs 20000 900' run S D
+row '0 $' 'levels 1000 1999' run S D
+row '(0 <e/><e/>|7 $)' 'scopes 20000' run S D
+row '0 $' 'prefixes 20000 1000000' run S D
+row '0 valid' 'schema_prefixes 20000 1000000' valid I D
+row '0 valid' 'optionals 510' valid I D
+row '4 limit states 512' 'optionals 511' valid I D
+row '4 limit states 512' 'interleaves 70' valid I D
+row '4 limit pattern 65536' 'doubled 100' valid I D
+row '0 valid' 'stars 500 990' valid I D
+row '4 limit symbols 1024' 'names 1000000' valid I D
+row '0 valid' 'subsets 250 2000000' valid I D
+row '0 valid' 'long_namespace 40000 500000' valid I D
+row '0 valid' 'references 1000000' valid I D
+row '3 refused D malformed at ' 'declarations 20000 40000' valid I D
+row '3 refused D malformed at ' 'declarations 20000 40000' valid --stream 65536 I D
+row '0 valid' 'attributes 8000000' valid I D
+row '0 valid' 'chains 500' valid --stream 65536 I D
+row '0 valid' 'others 500' valid --stream 65536 I D
+
+# As long as a file may be, of one part.
+for part in text white comment cdata instruction value name brackets characters spaces empty references sections comments; do
+  row '0 valid' "one $part 67108864" valid I D
+done
+for part in text empty; do
+  row '0 valid' "one $part 67108864" valid --stream 65536 I D
+done
+for part in value name; do
+  row '4 limit tag 65536' "one $part 67108864" valid --stream 65536 I D
+done
+for part in literal identifier note lines; do
+  row '1 invalid' "one $part 67108864" valid I D
+done
+row '3 refused I too-deep at 2000' 'marks ( 67108864' valid I D
+row '3 refused P too-deep at 124' 'marks ( 67108864' run P D
+for unit in '{' '*|'; do
+  row '3 refused P malformed at 124' "marks $unit 67108864" run P D
+done
+for unit in '{' '*|' '<' '&' ']]' '-'; do
+  row '3 refused I malformed at 0' "marks $unit 67108864" valid I D
+  row '3 refused S malformed at ' "marks $unit 67108864" run S D
+done
+row '3 refused I ' 'marks " 67108864' valid I D
+exit "$failed"
