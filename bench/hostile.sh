@@ -4,7 +4,8 @@
 # take 10 seconds and 1 GB, others 60 seconds and 40 times their bytes, but 1 GB in any case. It fails where a call ends by a
 # signal, is stopped, or answers otherwise than stands here, which is derived from the definitions. Words: the number by which the
 # seconds are multiplied (1), and what the words of a row have to hold, if not all rows are meant. With the word `stack` in place
-# of both, the smallest stack that each of the deepest texts takes. It wants python3, the Debian package time, and some 3 GB.
+# of both, the smallest stack that each of the deepest texts takes; with the word `twice`, how many times the processor time twice
+# the text takes, which fails past 2.2. It wants python3, the Debian package time, and some 3 GB.
 set -eu
 . "$(dirname "$0")/program.sh"
 times=${1:-1}
@@ -28,7 +29,7 @@ run() {
     cd "$files"
     ulimit -v "$memory"
     ulimit -s "$stack"
-    exec /usr/bin/time -q -o "$work/taken" -f '%e %M' timeout "$seconds" "$program" "$@"
+    exec /usr/bin/time -q -o "$work/taken" -f '%e %M %U' timeout "$seconds" "$program" "$@"
   ) >"$work/answer" 2>"$work/errors"
 }
 
@@ -46,7 +47,7 @@ row() {
   run "$((seconds * times))" "$memory" 8192 "$@" || status=$?
   answer="$status $(head -c 60 "$work/answer" | head -1)"
   [[ "$answer" =~ ^($expected) ]] || verdict="  NOT: $expected"
-  printf '%-30s %-22s %9d  %-62s %s\n' "$words" "$*" "$bytes" "$answer" "$(tail -1 "$work/taken")$verdict"
+  printf '%-30s %-22s %9d  %-62s %s\n' "$words" "$*" "$bytes" "$answer" "$(tail -1 "$work/taken" | cut -d' ' -f1,2)$verdict"
   [ -z "$verdict" ] || failed=1
 }
 
@@ -63,6 +64,48 @@ stack() {
   done
   printf '%-30s %-22s %6d kB\n' "$words" "$*" "$most"
 }
+
+# The processor time of the program on the files of some words.
+processor() {
+  local words=$1
+  shift
+  make "$words"
+  run 600 8000000 8192 "$@" || true
+  tail -1 "$work/taken" | cut -d' ' -f3
+}
+
+# How many times the processor time of the first words' files that of the second ones' is, which have twice the text.
+twice() {
+  local first=$1 second=$2 one two verdict=
+  shift 2
+  one=$(processor "$first" "$@")
+  two=$(processor "$second" "$@")
+  awk "BEGIN { exit !($two > 1 && $two > 2.2 * $one) }" && verdict='  MORE THAN TWICE' && failed=1
+  printf '%-30s %-22s %8s s %8s s%s\n' "$second" "$*" "$one" "$two" "$verdict"
+}
+
+if [ "$times" = twice ]; then
+  twice 'excepts 1500000' 'excepts 3000000' valid I D
+  twice 'definitions 50000' 'definitions 100000' valid I D
+  twice 'calls 50000' 'calls 100000' run S D
+  twice 'modes 50000' 'modes 100000' run S D
+  twice 'nested 8 1999' 'nested 16 1999' run S D
+  twice 'selects 50000' 'selects 100000' run S D
+  twice 'alternatives 10000 900' 'alternatives 20000 900' run S D
+  twice 'prefixes 10000 500000' 'prefixes 20000 1000000' run S D
+  twice 'schema_prefixes 10000 500000' 'schema_prefixes 20000 1000000' valid I D
+  twice 'names 500000' 'names 1000000' valid I D
+  twice 'attributes 4000000' 'attributes 8000000' valid I D
+  twice 'chains 250' 'chains 500' valid --stream 65536 I D
+  twice 'others 500' 'chains 500' valid --stream 65536 I D
+  for part in text white comment cdata value name empty references sections comments; do
+    twice "one $part 33554432" "one $part 67108864" valid I D
+  done
+  for part in literal identifier note lines; do
+    twice "one $part 33554432" "one $part 67108864" valid I D
+  done
+  exit "$failed"
+fi
 
 if [ "$times" = stack ]; then
   stack 'elements 2000' valid I D
@@ -157,7 +200,7 @@ row '4 limit open 8000' 'calls 4000' run S D
 row '4 limit open 8000' 'calls 100000' run S D
 row '4 limit calls 8000' 'calls 100000' check I O S
 row '4 limit selects 4096' 'modes 100000' run S D
-row '4 limit work 4000000' 'twice 23 0' run S D
+row '4 limit work 4000000' 'twice 22 0' run S D
 row '4 limit predicates 6' 'nested 1 1999' run S D
 row '4 limit predicates 6' 'nested 16 1999' run S D
 row '4 limit selects 4096' 'selects 100000' run S D
