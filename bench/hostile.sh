@@ -1,11 +1,11 @@
 #!/usr/bin/env bash
 # Runs the program on the texts of make_hostile.py, under limits on memory, stack (8 MB) and time: each row's words, the bytes
-# of its files, the status and the first line of the answer, the seconds and the peak memory. Files of at most 100,000 bytes may
-# take 10 seconds and 1 GB, others 60 seconds and 40 times their bytes, but 1 GB in any case. It fails where a call ends by a
-# signal, is stopped, or answers otherwise than stands here, which is derived from the definitions. Words: the number by which the
-# seconds are multiplied (1), and what the words of a row have to hold, if not all rows are meant. With the word `stack` in place
-# of both, the smallest stack that each of the deepest texts takes; with the word `twice`, how many times the processor time twice
-# the text takes, which fails past 2.2. It wants python3, the Debian package time, and some 3 GB.
+# of its files, the status and the first line of the answer, the seconds and the kilobytes of memory. Files of at most 100,000
+# bytes may take 10 seconds and 1 GB, others 60 seconds and 40 times their bytes, but 1 GB in any case. It fails where a call
+# ends by a signal, is stopped, or answers otherwise than stands here, which is derived from the definitions. Words: the number
+# by which the seconds are multiplied (1), and what a row's words have to hold, if not all rows are meant. With the word `stack`
+# in place of both, the smallest stack that each of the deepest texts takes; with the word `twice`, how the processor time grows
+# with twice the text, which fails past 2.2. It wants python3, the Debian package time, and some 3 GB.
 set -eu
 . "$(dirname "$0")/program.sh"
 times=${1:-1}
